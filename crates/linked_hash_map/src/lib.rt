@@ -1,13 +1,13 @@
-// A library with one function.
+//! A hash map that keeps its pairs in insertion order.
+//!
+//! A new key goes to the back. Inserting a key that is present replaces its value, keeps the stored key and moves the
+//! pair to the back. Capacity is exact: a map holds `capacity` pairs without taking memory, and only a new key at full
+//! capacity can be refused, with its key and value handed back and the map unchanged.
 #![tactic(auto)]
 
-ghost use Rattle.std.specs.Prelude.{◌≡◌};
-ghost use Rattle.linked_hash_map.specs.Echo.{echo_of};
+mod map;
+pub mod replay;
+#[cfg(test)]
+mod tests;
 
-// The `ensures` clause is the contract: what `echo` returns is `echo_of` of its argument, a definition
-// in `specs/Echo.antt`, which a caller's clause can cite too.
-pub fn echo(x: usize) -> usize
-    ensures { result ≡ echo_of x }
-{
-    x
-}
+pub use map::{Iter, LIMIT, LinkedHashMap, Refused};

@@ -1,0 +1,60 @@
+-- Which words say which command.
+use Rattle.std.specs.Prelude.{ℕ, ◌≡◌, ◌≢◌, ◌+◌, ◌⊎◌, List, [], ◌∷◌, ◌++◌, Bool, true, false, All, codes, filter, length, map}
+use Rattle.std.specs.List.{AllZip}
+use Rattle.linked_hash_map.specs.declared.replay.Command.{Command}
+use Rattle.linked_hash_map.specs.declared.replay.Command.TheVariants.{Insert, Remove}
+use Rattle.lhm.specs.Grammar.{words_of, SpellsNumber}
+
+-- the words spell the numbers, one each, in order
+abbrev pub SpellNumbers : List (List ℕ) → List ℕ → Type 0
+SpellNumbers words ns = AllZip SpellsNumber words ns
+
+-- the first word spells the number n, and the others follow it
+abbrev pub StartWithNumber : List (List ℕ) → ℕ → List (List ℕ) → Type 0
+StartWithNumber [] n others = ⊥
+StartWithNumber (word ∷ words) n others = SpellsNumber word n × (words ≡ others)
+
+-- the words are a name, and then spell the numbers
+abbrev pub AreNamed : List ℕ → List ℕ → List (List ℕ) → Type 0
+AreNamed name ns [] = ⊥
+AreNamed name ns (word ∷ words) = (word ≡ name) × SpellNumbers words ns
+
+-- the form of a command: its name, and the numbers after it
+abbrev pub form : Command ℕ ℕ → List ℕ × List ℕ
+form (Insert k v) = (codes "insert", k ∷ v ∷ [])
+form (Remove k) = (codes "remove", k ∷ [])
+
+-- the command is said by the words
+abbrev pub IsSaidBy : Command ℕ ℕ → List (List ℕ) → Type 0
+IsSaidBy command words = AreNamed (form command).0 (form command).1 words
+
+-- the words say no command
+abbrev pub SayNoCommand : List (List ℕ) → Type 0
+SayNoCommand words = (command : Command ℕ ℕ) → ¬ IsSaidBy command words
+
+-- there is a word
+abbrev pub has_word : List (List ℕ) → Bool
+has_word [] = false
+has_word (word ∷ words) = true
+
+-- the lines that have words say the commands, one each, in order
+abbrev pub AreCommandsOf : List (List ℕ) → List (Command ℕ ℕ) → Type 0
+AreCommandsOf lines commands = AllZip IsSaidBy commands (filter has_word (map words_of lines))
+
+-- a line is blank, or says a command
+abbrev pub IsValid : List ℕ → Type 0
+IsValid line = (words_of line ≡ []) ⊎ ((command : Command ℕ ℕ) × IsSaidBy command (words_of line))
+
+-- a line has words, and they say no command
+abbrev pub IsInvalid : List ℕ → Type 0
+IsInvalid line = (words_of line ≢ []) × SayNoCommand (words_of line)
+
+-- line n, counted from 1, is the first invalid one
+pub record IsFirstInvalid (lines : List (List ℕ)) (n : ℕ) : Type 0 where
+  pub before : List (List ℕ)
+  pub line : List ℕ
+  pub after : List (List ℕ)
+  pub parts : lines ≡ before ++ line ∷ after
+  pub number : n ≡ length before + 1
+  pub valid : All IsValid before
+  pub invalid : IsInvalid line

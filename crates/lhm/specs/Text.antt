@@ -1,0 +1,28 @@
+-- The text of the output.
+use Rattle.std.specs.Prelude.{ℕ, List, [], ◌∷◌, ◌++◌, codes, decimal, flat_map}
+use Rattle.linked_hash_map.specs.declared.replay.Answer.{Answer}
+use Rattle.linked_hash_map.specs.declared.replay.Answer.TheVariants.{New, Old, Missing, Refused}
+use Rattle.linked_hash_map.specs.declared.replay.Reply.{Reply}
+
+-- a word, a key and a value
+abbrev pub keyed_text : List ℕ → ℕ → ℕ → List ℕ
+keyed_text word k v = word ++ codes " " ++ decimal k ++ codes " " ++ decimal v
+
+-- an answer
+abbrev pub answer_text : Answer ℕ ℕ → List ℕ
+answer_text New = codes "new"
+answer_text (Old v) = codes "old " ++ decimal v
+answer_text Missing = codes "missing"
+answer_text (Refused k v) = keyed_text (codes "refused") k v
+
+-- the line of a reply
+abbrev pub reply_text : Reply ℕ ℕ → List ℕ
+reply_text reply = answer_text reply.answer ++ codes " len=" ++ decimal reply.len ++ codes " cap=" ++ decimal reply.capacity ++ 10 ∷ []
+
+-- one pair of a list
+abbrev pub pair_text : (ℕ × ℕ) → List ℕ
+pair_text pair = codes " " ++ decimal pair.0 ++ codes ":" ++ decimal pair.1
+
+-- the line of the final list
+abbrev pub list_text : List (ℕ × ℕ) → List ℕ
+list_text pairs = codes "list" ++ flat_map pair_text pairs ++ 10 ∷ []

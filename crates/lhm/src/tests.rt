@@ -1,0 +1,312 @@
+//! Runs over memory: worked examples, and readers and writers that fail.
+use super::run;
+use std::alloc::Global;
+use std::io;
+use std::io::{ErrorKind, Read, Write};
+use std::process::Abort;
+
+/// The call at which a reader or a writer that works fails.
+const NEVER: usize = 0;
+
+/// A reader over bytes that gives at most `most` of them at once and fails at call `fails_at`.
+#[derive(Drop)]
+struct Source<'a> {
+    left: &'a [u8],
+    most: usize,
+    calls: usize,
+    fails_at: usize,
+    kind: ErrorKind,
+}
+
+impl<'a> Source<'a> {
+    fn new(bytes: &'a [u8]) -> Source<'a> {
+        Source {
+            left: bytes,
+            most: 5,
+            calls: 0,
+            fails_at: NEVER,
+            kind: ErrorKind::Other,
+        }
+    }
+}
+
+impl Read for Source<'_> {
+    fn read(&mut self, buf: &mut [u8]) -> io::Result<usize> {
+        self.calls = self.calls.saturating_add(1);
+        if self.calls == self.fails_at {
+            return Err(io::Error::new(self.kind, "refused"));
+        }
+        let n = self.left.len().min(buf.len()).min(self.most);
+        buf[..n].copy_from_slice(&self.left[..n]);
+        self.left = &self.left[n..];
+        Ok(n)
+    }
+}
+
+/// A writer into a fixed buffer that takes at most `most` bytes at once and fails at call `fails_at`.
+#[derive(Drop)]
+struct Sink {
+    buffer: [u8; 256],
+    len: usize,
+    most: usize,
+    calls: usize,
+    fails_at: usize,
+}
+
+impl Sink {
+    fn new() -> Sink {
+        Sink {
+            buffer: [0; 256],
+            len: 0,
+            most: 7,
+            calls: 0,
+            fails_at: NEVER,
+        }
+    }
+
+    fn text(&self) -> &[u8] {
+        if self.len <= self.buffer.len() {
+            &self.buffer[..self.len]
+        } else {
+            &[]
+        }
+    }
+}
+
+impl Write for Sink {
+    fn write(&mut self, buf: &[u8]) -> io::Result<usize> {
+        self.calls = self.calls.saturating_add(1);
+        if self.calls == self.fails_at || self.len > self.buffer.len() {
+            return Err(io::Error::other("refused"));
+        }
+        let n = (self.buffer.len() - self.len).min(buf.len()).min(self.most);
+        self.buffer[self.len..self.len + n].copy_from_slice(&buf[..n]);
+        self.len += n;
+        Ok(n)
+    }
+
+    fn flush(&mut self) -> io::Result<()> {
+        Ok(())
+    }
+}
+
+/// Checks one run over memory against its status, its output and its faults.
+fn check_run(rt: &impl Abort, alloc: Global, input: &[u8], status: u8, output: &str, faults: &str) {
+    let mut reader = Source::new(input);
+    let mut writer = Sink::new();
+    let mut told = Sink::new();
+    let answered = run(alloc, &mut reader, &mut writer, &mut told);
+    assert_eq!(rt; answered, status, "status at {output:?} {faults:?}");
+    assert!(rt; writer.text() == output.as_bytes(), "output at {output:?}");
+    assert!(rt; told.text() == faults.as_bytes(), "faults at {faults:?}");
+}
+
+#[test]
+fn runs_done(rt: HostRuntime) {
+    let rows: [(&str, &str); 8] = [
+        ("", "list\n"),
+        (
+            "insert 2 20\ninsert 1 10\ninsert 3 30\n",
+            "new len=1 cap=1\nnew len=2 cap=2\nnew len=3 cap=3\nlist 2:20 1:10 3:30\n",
+        ),
+        (
+            "insert 1 10\ninsert 2 20\ninsert 1 11\n",
+            "new len=1 cap=1\nnew len=2 cap=2\nold 10 len=2 cap=2\nlist 2:20 1:11\n",
+        ),
+        (
+            "insert 1 1\ninsert 2 2\ninsert 3 3\nremove 2\ninsert 4 4\n",
+            "new len=1 cap=1\nnew len=2 cap=2\nnew len=3 cap=3\nold 2 len=2 cap=3\nnew len=3 cap=3\nlist 1:1 3:3 4:4\n",
+        ),
+        (
+            "insert 2 20\ninsert 1 10\n",
+            "new len=1 cap=1\nnew len=2 cap=2\nlist 2:20 1:10\n",
+        ),
+        (
+            "remove 1\ninsert 01 5\nremove 1\nremove 1\n",
+            "missing len=0 cap=0\nnew len=1 cap=1\nold 5 len=0 cap=1\nmissing len=0 cap=1\nlist\n",
+        ),
+        // Any of the three separators stands between words and at the ends, lines may be blank, and the last line may
+        // lack its newline.
+        (
+            "\n \t\r\n\tinsert\r1 \t10\r\n  remove 1",
+            "new len=1 cap=1\nold 10 len=0 cap=1\nlist\n",
+        ),
+        // The largest number, with a leading zero.
+        (
+            "insert 018446744073709551615 18446744073709551615\n",
+            "new len=1 cap=1\nlist 18446744073709551615:18446744073709551615\n",
+        ),
+    ];
+    for (input, output) in rows {
+        check_run(&rt, rt.alloc(), input.as_bytes(), 0, output, "");
+    }
+}
+
+#[test]
+fn lines_that_are_no_command(rt: HostRuntime) {
+    let rows: [(&[u8], &str); 16] = [
+        (
+            b"insert 18446744073709551615 1\n\ninsert 18446744073709551616 1\ninsert 5\n",
+            "line 3: not a command\n",
+        ),
+        (b"popfront\n", "line 1: not a command\n"),
+        (b"insert\n", "line 1: not a command\n"),
+        (b"insert 1", "line 1: not a command\n"),
+        (b"insert 1 2 3\n", "line 1: not a command\n"),
+        (b"remove\n", "line 1: not a command\n"),
+        (b"remove 1 2\n", "line 1: not a command\n"),
+        (b"Insert 1 2\n", "line 1: not a command\n"),
+        (b"inserts 1 2\n", "line 1: not a command\n"),
+        (b"insert +1 2\n", "line 1: not a command\n"),
+        (b"insert 1 -2\n", "line 1: not a command\n"),
+        (b"insert 1,2\n", "line 1: not a command\n"),
+        // A vertical tab separates nothing.
+        (b"remove\x0b1\n", "line 1: not a command\n"),
+        // Bytes that are not UTF-8, in a name and in a number.
+        (b"\n\xff\xfe 1\n", "line 2: not a command\n"),
+        (b"insert 1 2\nremove \xc3\n", "line 2: not a command\n"),
+        (b"\r\n\n \nx", "line 4: not a command\n"),
+    ];
+    for (input, faults) in rows {
+        check_run(&rt, rt.alloc(), input, 2, "", faults);
+    }
+}
+
+#[test]
+fn reads_that_fail(rt: HostRuntime) {
+    // 12 bytes, 5 at a time: three reads give bytes, and the fourth finds the end.
+    for fails_at in 1..=5usize {
+        let mut reader = Source::new(b"insert 1 10\n");
+        reader.fails_at = fails_at;
+        let mut output = Sink::new();
+        let mut faults = Sink::new();
+        let status = run(rt.alloc(), &mut reader, &mut output, &mut faults);
+        if fails_at <= 4 {
+            assert_eq!(rt; status, 4, "at read {fails_at}");
+            assert_eq!(rt; output.calls, 0, "at read {fails_at}");
+            assert!(rt;
+                faults.text() == b"input failed\n".as_slice(),
+                "at read {fails_at}"
+            );
+        } else {
+            assert_eq!(rt; status, 0, "at read {fails_at}");
+        }
+    }
+}
+
+#[test]
+fn interrupted_reads_are_tried_again(rt: HostRuntime) {
+    for fails_at in 1..=5usize {
+        let mut reader = Source::new(b"insert 1 10\n");
+        reader.fails_at = fails_at;
+        reader.kind = ErrorKind::Interrupted;
+        let mut output = Sink::new();
+        let mut faults = Sink::new();
+        let status = run(rt.alloc(), &mut reader, &mut output, &mut faults);
+        assert_eq!(rt; status, 0, "at read {fails_at}");
+        assert!(rt;
+            output.text() == b"new len=1 cap=1\nlist 1:10\n".as_slice(),
+            "at read {fails_at}"
+        );
+    }
+}
+
+#[test]
+fn writes_that_fail(rt: HostRuntime) {
+    // 26 bytes, 7 at a time: four writes.
+    for fails_at in 1..=5usize {
+        let mut reader = Source::new(b"insert 1 10\n");
+        let mut output = Sink::new();
+        output.fails_at = fails_at;
+        let mut faults = Sink::new();
+        let status = run(rt.alloc(), &mut reader, &mut output, &mut faults);
+        if fails_at <= 4 {
+            assert_eq!(rt; status, 4, "at write {fails_at}");
+            assert!(rt;
+                faults.text() == b"output failed\n".as_slice(),
+                "at write {fails_at}"
+            );
+        } else {
+            assert_eq!(rt; status, 0, "at write {fails_at}");
+        }
+    }
+}
+
+#[test]
+fn faults_that_fail_change_no_status(rt: HostRuntime) {
+    for fails_at in 1..=4usize {
+        let mut reader = Source::new(b"remove\n");
+        let mut output = Sink::new();
+        let mut faults = Sink::new();
+        faults.fails_at = fails_at;
+        let status = run(rt.alloc(), &mut reader, &mut output, &mut faults);
+        assert_eq!(rt; status, 2, "at write {fails_at}");
+        assert_eq!(rt; output.calls, 0, "at write {fails_at}");
+    }
+}
+
+/// A way for a run to end: its status, its output and its faults.
+#[derive(Clone, Copy)]
+struct Way(u8, &'static str, &'static str);
+
+const OUT_OF_MEMORY: Way = Way(3, "", "out of memory\n");
+
+/// Checks that one run over memory ends in one of the ways.
+///
+/// The tests named `refused_` are for `rt try --test --fail-alloc N`, which refuses the Nth growth of each.
+fn check_ways(rt: &impl Abort, alloc: Global, input: &[u8], ways: &[Way]) {
+    let mut reader = Source::new(input);
+    let mut output = Sink::new();
+    let mut faults = Sink::new();
+    let status = run(alloc, &mut reader, &mut output, &mut faults);
+    let mut found = false;
+    for way in ways {
+        if status == way.0
+            && output.text() == way.1.as_bytes()
+            && faults.text() == way.2.as_bytes()
+        {
+            found = true;
+        }
+    }
+    assert!(rt;
+        found,
+        "a run ended with status {status} in no way that is allowed"
+    );
+}
+
+#[test]
+fn refused_growth_of_an_empty_run(rt: HostRuntime) {
+    let ways = [OUT_OF_MEMORY, Way(0, "list\n", "")];
+    check_ways(&rt, rt.alloc(), b"", &ways);
+}
+
+#[test]
+fn refused_growth_before_a_line_that_is_no_command(rt: HostRuntime) {
+    let ways = [OUT_OF_MEMORY, Way(2, "", "line 2: not a command\n")];
+    check_ways(&rt, rt.alloc(), b"insert 1 10\nremove\n", &ways);
+}
+
+#[test]
+fn refused_growth_of_a_run(rt: HostRuntime) {
+    let ways = [
+        OUT_OF_MEMORY,
+        // The map's own growth is refused at the first insertion, or at the second, or nothing is refused.
+        Way(
+            0,
+            "refused 1 10 len=0 cap=0\nnew len=1 cap=1\nnew len=2 cap=2\nold 11 len=1 cap=2\nold 20 len=1 cap=2\nlist 2:21\n",
+            "",
+        ),
+        Way(
+            0,
+            "new len=1 cap=1\nrefused 2 20 len=1 cap=1\nold 10 len=1 cap=1\nold 11 len=0 cap=1\nnew len=1 cap=1\nlist 2:21\n",
+            "",
+        ),
+        Way(
+            0,
+            "new len=1 cap=1\nnew len=2 cap=2\nold 10 len=2 cap=2\nold 11 len=1 cap=2\nold 20 len=1 cap=2\nlist 2:21\n",
+            "",
+        ),
+    ];
+    let input = b"insert 1 10\ninsert 2 20\ninsert 1 11\nremove 1\ninsert 2 21\n";
+    check_ways(&rt, rt.alloc(), input, &ways);
+}

@@ -1,0 +1,12 @@
+mod Examples
+pub mod Lists
+pub mod Standing
+pub mod Keys
+pub mod Bridge
+pub mod Distinct
+pub mod Marks
+pub mod Columns
+pub mod Pairs
+pub mod ColumnCalls
+pub mod Effects
+pub mod Runs

@@ -1,0 +1,75 @@
+-- Runs that go on by one command, and the log that a map begins with.
+use Rattle.std.proofs.Common.{◌≡◌, ℕ, ◌+◌, ◌≤◌, max, Bool, false, List, [], ◌∷◌, ◌++◌, length, refl, sym, ap, ap₂, ◌∙◌, subst, arith, length-append}
+use Rattle.std.specs.List.{list_any, IsDistinct}
+use Rattle.std.specs.Map.{keys_of}
+use Rattle.std.specs.Cmp.{IsEquivalence}
+use Rattle.std.proofs.lemmas.List.{map-append}
+use Rattle.linked_hash_map.specs.Log.{Log, Put, put_each, pairs, size, high, standing, standing_in, Defines}
+use Rattle.linked_hash_map.specs.Pairs.{key_or, find, without, to_back}
+use Rattle.linked_hash_map.specs.Run.{log_after, first_log, last_log, IsReply, IsRun}
+use Rattle.linked_hash_map.specs.declared.replay.Command.{Command}
+use Rattle.linked_hash_map.specs.declared.replay.Reply.{Reply}
+use Rattle.linked_hash_map.proofs.Lists.{by_last}
+use Rattle.linked_hash_map.proofs.Columns.{distinct_last}
+use Rattle.linked_hash_map.proofs.Pairs.{lookup_entry-none, filter-none}
+use Rattle.linked_hash_map.proofs.Bridge.{pairs-put}
+use Rattle.linked_hash_map.proofs.Marks.{size-pairs, high-put}
+
+module _ {K V : Type 0} (eq : K → K → Bool) (start : ℕ) (command : Command K V) (reply : Reply K V) where
+  -- a run and one more reply are a run
+  pub IsRun-snoc : (log : Log K V) (commands : List (Command K V)) (replies : List (Reply K V)) → IsRun eq start log commands replies → IsReply eq start (last_log eq log commands replies) command reply → IsRun eq start log (commands ++ command ∷ []) (replies ++ reply ∷ [])
+  IsRun-snoc log [] [] run next = (next, tt)
+  IsRun-snoc log [] (other ∷ replies) run next = absurd run
+  IsRun-snoc log (first ∷ commands) [] run next = absurd run
+  IsRun-snoc log (first ∷ commands) (other ∷ replies) run next = (run.0, IsRun-snoc (log_after eq log first other.answer) commands replies run.1 next)
+
+  pub last_log-snoc : (log : Log K V) (commands : List (Command K V)) (replies : List (Reply K V)) → IsRun eq start log commands replies → last_log eq log (commands ++ command ∷ []) (replies ++ reply ∷ []) ≡ log_after eq (last_log eq log commands replies) command reply.answer
+  last_log-snoc log [] [] run = refl
+  last_log-snoc log [] (other ∷ replies) run = absurd run
+  last_log-snoc log (first ∷ commands) [] run = absurd run
+  last_log-snoc log (first ∷ commands) (other ∷ replies) run = last_log-snoc (log_after eq log first other.answer) commands replies run.1
+
+pairs-nil : {K : Type 0} (V : Type 0) (eq : K → K → Bool) → pairs {V = V} eq [] ≡ []
+unfolding pairs standing standing_in
+pairs-nil V eq = refl
+
+high-nil : {K : Type 0} (V : Type 0) (eq : K → K → Bool) (start : ℕ) → high {V = V} eq start [] ≡ max start 0
+unfolding high size standing standing_in
+high-nil V eq start = omega arith
+
+module _ {K V : Type 0} {eq : K → K → Bool} (laws : IsEquivalence eq) where
+  put_last : (es : List (K × V)) (e : K × V) → list_any (eq e.0) (keys_of es) ≡ false → to_back eq es e.0 e.1 ≡ es ++ e ∷ []
+  put_last es e apart =
+      let none = lookup_entry-none (eq e.0) es apart in
+      ap₂ (λ xs o. xs ++ (key_or e.0 o, e.1) ∷ []) (filter-none (eq e.0) es none) none
+
+  put_each-snoc : (es : List (K × V)) (e : K × V) → put_each (es ++ e ∷ []) ≡ put_each es ++ Put e.0 e.1 ∷ []
+  put_each-snoc es e = map-append (λ x. Put x.0 x.1) es (e ∷ [])
+
+  last_differs : (es : List (K × V)) (e : K × V) → IsDistinct eq (keys_of (es ++ e ∷ [])) → IsDistinct eq (keys_of es) × (list_any (eq e.0) (keys_of es) ≡ false)
+  last_differs es e distinct = distinct_last laws (keys_of es) e.0 (subst (IsDistinct eq) (map-append (λ (x : K × V). x.0) es (e ∷ [])) distinct)
+
+  -- the first log of a map defines its pairs
+  pub pairs-first_log : (es : List (K × V)) → IsDistinct eq (keys_of es) → pairs eq (first_log es) ≡ es
+  pairs-first_log = by_last (λ es. IsDistinct eq (keys_of es) → pairs eq (first_log es) ≡ es)
+      (λ es e rest distinct. let apart = last_differs es e distinct in
+      ap (pairs eq) (put_each-snoc es e) ∙ pairs-put laws (first_log es) e.0 e.1 ∙ ap (λ xs. to_back eq xs e.0 e.1) (rest apart.0) ∙ put_last es e apart.1)
+      (λ distinct. pairs-nil V eq)
+
+  -- and its mark is the larger of the start capacity and their number
+  pub high-first_log : (start : ℕ) (es : List (K × V)) → IsDistinct eq (keys_of es) → high eq start (first_log es) ≡ max start (length es)
+  high-first_log start = by_last (λ es. IsDistinct eq (keys_of es) → high eq start (first_log es) ≡ max start (length es))
+      (λ es e rest distinct. let apart = last_differs es e distinct in
+      let more = high-put laws (first_log es) start e.0 e.1 in
+      let held : size eq (first_log es ++ Put e.0 e.1 ∷ []) ≡ length (es ++ e ∷ []) = ap (size eq) (sym (put_each-snoc es e)) ∙ size-pairs eq (first_log (es ++ e ∷ [])) ∙ ap length (pairs-first_log (es ++ e ∷ []) distinct) in
+      let before = rest apart.0 in
+      let longer = length-append es (e ∷ []) in
+      ap (high eq start) (put_each-snoc es e) ∙ omega arith)
+      (λ distinct. high-nil V eq start)
+
+  -- the first log of a map defines the map
+  pub Defines-first_log : (es : List (K × V)) (capacity : ℕ) → IsDistinct eq (keys_of es) → length es ≤ capacity → Defines eq capacity (first_log es) es capacity
+  Defines-first_log es capacity distinct within = record {
+    same_pairs = pairs-first_log es distinct;
+    same_capacity = let h = high-first_log capacity es distinct in omega arith;
+  }

@@ -1,0 +1,32 @@
+use Rattle.std.proofs.Common.{◌≡◌, refl, ◌∷◌, [], sym, ◌∙◌, ap, arith, length-append}
+use Rattle.linked_hash_map.specs.Run.{first_log, last_log}
+use Rattle.linked_hash_map.proofs.Runs.{IsRun-snoc, last_log-snoc, Defines-first_log}
+use Rattle.linked_hash_map.proofs.replay.replay.Goals as goal
+
+pub loop-command-init : goal.loop-command-init
+loop-command-init g c = record {
+  run = rw c.in-Ok.ensures.items tt;
+  defines = Defines-first_log g.met.K.Eq.laws c.args.map.now.pairs c.args.map.now.capacity c.allocator.ensures.distinct c.allocator.ensures.within;
+  hasher = refl;
+  count = c.in-Ok.ensures.len;
+  room = let exact = c.in-Ok.ensures.exact in let len = c.len.ensures in let of_commands = c.args.commands.ok.0 in omega arith;
+}
+
+pub loop-command-preserved : goal.loop-command-preserved
+loop-command-preserved g c =
+    let eq = g.K.PartialEq.eq in
+    let start = c.args.map.now.capacity in
+    let first = first_log c.args.map.now.pairs in
+    let i = c.loop-command.invariant in
+    let command = c.in-Some.command in
+    let reply = c.reply_to.result in
+    let replies = c.loop-command.replies.items in
+    let log = last_log eq first c.loop-command.yielded replies in
+    let last = last_log-snoc eq start command reply first c.loop-command.yielded replies i.run in
+    record {
+      run = rw c.push_reserved.ensures.items (IsRun-snoc eq start command reply first c.loop-command.yielded replies i.run (c.reply_to.ensures.reply start log i.defines));
+      defines = rw (c.push_reserved.ensures.items, last) (c.reply_to.ensures.defines start log i.defines);
+      hasher = c.reply_to.ensures.hasher ∙ i.hasher;
+      count = let l = length-append c.loop-command.yielded (command ∷ []) in let n = c.push_reserved.ensures.len in let k = i.count in omega arith;
+      room = rw c.push_reserved.ensures.capacity i.room;
+    }
