@@ -2,7 +2,9 @@
 use Rattle.std.specs.Prelude.{ℕ, ◌≡◌, ◌≢◌, ◌+◌, ◌⊎◌, List, [], ◌∷◌, ◌++◌, Bool, true, false, All, codes, filter, length, map}
 use Rattle.std.specs.List.{AllZip}
 use Rattle.linked_hash_map.specs.declared.replay.Command.{Command}
-use Rattle.linked_hash_map.specs.declared.replay.Command.TheVariants.{Insert, Remove}
+use Rattle.linked_hash_map.specs.declared.replay.Command.TheVariants.{Insert, Write, Refresh, Remove, PopFront, PopBack, Clear, Reserve, Shrink}
+use Rattle.lhm.specs.declared.parser.Name.{Name}
+use Rattle.lhm.specs.declared.parser.Name.TheVariants as name
 use Rattle.lhm.specs.Grammar.{words_of, SpellsNumber}
 
 -- the words spell the numbers, one each, in order
@@ -19,14 +21,45 @@ abbrev pub AreNamed : List ℕ → List ℕ → List (List ℕ) → Type 0
 AreNamed name ns [] = ⊥
 AreNamed name ns (word ∷ words) = (word ≡ name) × SpellNumbers words ns
 
--- the form of a command: its name, and the numbers after it
-abbrev pub form : Command ℕ ℕ → List ℕ × List ℕ
-form (Insert k v) = (codes "insert", k ∷ v ∷ [])
-form (Remove k) = (codes "remove", k ∷ [])
+-- the name of a command
+abbrev pub command_name : Command ℕ ℕ → Name
+command_name (Insert k v) = name.Insert
+command_name (Write k v) = name.Write
+command_name (Refresh k) = name.Refresh
+command_name (Remove k) = name.Remove
+command_name PopFront = name.PopFront
+command_name PopBack = name.PopBack
+command_name Clear = name.Clear
+command_name (Reserve n) = name.Reserve
+command_name Shrink = name.Shrink
+
+-- the numbers after it
+abbrev pub command_numbers : Command ℕ ℕ → List ℕ
+command_numbers (Insert k v) = k ∷ v ∷ []
+command_numbers (Write k v) = k ∷ v ∷ []
+command_numbers (Refresh k) = k ∷ []
+command_numbers (Remove k) = k ∷ []
+command_numbers PopFront = []
+command_numbers PopBack = []
+command_numbers Clear = []
+command_numbers (Reserve n) = n ∷ []
+command_numbers Shrink = []
+
+-- the word that is a name
+abbrev pub name_text : Name → List ℕ
+name_text name.Insert = codes "insert"
+name_text name.Write = codes "write"
+name_text name.Refresh = codes "refresh"
+name_text name.Remove = codes "remove"
+name_text name.PopFront = codes "popfront"
+name_text name.PopBack = codes "popback"
+name_text name.Clear = codes "clear"
+name_text name.Reserve = codes "reserve"
+name_text name.Shrink = codes "shrink"
 
 -- the command is said by the words
 abbrev pub IsSaidBy : Command ℕ ℕ → List (List ℕ) → Type 0
-IsSaidBy command words = AreNamed (form command).0 (form command).1 words
+IsSaidBy command words = AreNamed (name_text (command_name command)) (command_numbers command) words
 
 -- the words say no command
 abbrev pub SayNoCommand : List (List ℕ) → Type 0

@@ -1,7 +1,7 @@
 -- The text of the output.
 use Rattle.std.specs.Prelude.{ℕ, List, [], ◌∷◌, ◌++◌, codes, decimal, flat_map}
 use Rattle.linked_hash_map.specs.declared.replay.Answer.{Answer}
-use Rattle.linked_hash_map.specs.declared.replay.Answer.TheVariants.{New, Old, Missing, Refused}
+use Rattle.linked_hash_map.specs.declared.replay.Answer.TheVariants.{New, Old, Found, Missing, Absent, Refused, Pair, Empty, Done, TooLarge, NoRoom}
 use Rattle.linked_hash_map.specs.declared.replay.Reply.{Reply}
 
 -- a word, a key and a value
@@ -12,8 +12,15 @@ keyed_text word k v = word ++ codes " " ++ decimal k ++ codes " " ++ decimal v
 abbrev pub answer_text : Answer ℕ ℕ → List ℕ
 answer_text New = codes "new"
 answer_text (Old v) = codes "old " ++ decimal v
+answer_text Found = codes "found"
 answer_text Missing = codes "missing"
+answer_text (Absent k v) = keyed_text (codes "absent") k v
 answer_text (Refused k v) = keyed_text (codes "refused") k v
+answer_text (Pair k v) = keyed_text (codes "pair") k v
+answer_text Empty = codes "empty"
+answer_text Done = codes "done"
+answer_text TooLarge = codes "toolarge"
+answer_text NoRoom = codes "noroom"
 
 -- the line of a reply
 abbrev pub reply_text : Reply ℕ ℕ → List ℕ

@@ -1,7 +1,7 @@
 //! Commands from the words of lines.
-ghost use Rattle.std.specs.Prelude.{ℕ, ◌≡◌, ◌≢◌, ◌∷◌, List, [], IfOk, IfErr, OnOk, OnErr, MatchOption};
+ghost use Rattle.std.specs.Prelude.{ℕ, ◌≡◌, ◌≢◌, ◌∷◌, List, [], IfSome, IfNone, IfOk, IfErr, OnOk, OnErr, MatchOption};
 ghost use Rattle.lhm.specs.Grammar.{words_of, lines_of};
-ghost use Rattle.lhm.specs.Commands.{SpellNumbers, StartWithNumber, IsSaidBy, SayNoCommand, AreCommandsOf, IsInvalid};
+ghost use Rattle.lhm.specs.Commands.{SpellNumbers, StartWithNumber, name_text, command_name, command_numbers, IsSaidBy, AreCommandsOf, IsInvalid};
 ghost use Rattle.lhm.specs.Stop.{StopsLines};
 
 use super::grammar::{number, split_line, split_word};
@@ -14,9 +14,9 @@ use std::alloc::Global;
 struct NotACommand;
 
 /// Checks that there is no word.
-fn expect_end(rest: &[u8]) -> Result<(), NotACommand>
-    ensures ok { OnOk result (words_of rest.now ≡ []) }
-    ensures err { OnErr result (words_of rest.now ≢ []) }
+fn no_number(rest: &[u8]) -> Result<(), NotACommand>
+    ensures ok { OnOk result (SpellNumbers (words_of rest.now) []) }
+    ensures err { OnErr result (¬ SpellNumbers (words_of rest.now) []) }
 {
     match split_word(rest) {
         None => Ok(()),
@@ -46,7 +46,7 @@ fn one_number(rest: &[u8]) -> Result<u64, NotACommand>
     ensures err { OnErr result ((n : ℕ) → ¬ SpellNumbers (words_of rest.now) (n ∷ [])) }
 {
     let (n, after) = split_number(rest)?;
-    expect_end(after)?;
+    no_number(after)?;
     Ok(n)
 }
 
@@ -60,18 +60,74 @@ fn two_numbers(rest: &[u8]) -> Result<(u64, u64), NotACommand>
     Ok((k, v))
 }
 
-/// Returns the command that a name and the words after it say.
-fn named(name: &[u8], rest: &[u8]) -> Result<Command<u64, u64>, NotACommand>
-    ensures ok { IfOk result (λ command. IsSaidBy command (name.now ∷ words_of rest.now)) }
-    ensures err { OnErr result (SayNoCommand (name.now ∷ words_of rest.now)) }
+/// The name of a command.
+#[derive(Clone, Copy)]
+enum Name {
+    Insert,
+    Write,
+    Refresh,
+    Remove,
+    PopFront,
+    PopBack,
+    Clear,
+    Reserve,
+    Shrink,
+}
+
+/// Returns the name that a word is.
+fn name_of(word: &[u8]) -> Option<Name>
+    ensures known { IfSome result (λ name. word.now ≡ name_text name) }
+    ensures unknown { IfNone result ((name : Name) → word.now ≢ name_text name) }
+{
+    match word {
+        b"insert" => Some(Name::Insert),
+        b"write" => Some(Name::Write),
+        b"refresh" => Some(Name::Refresh),
+        b"remove" => Some(Name::Remove),
+        b"popfront" => Some(Name::PopFront),
+        b"popback" => Some(Name::PopBack),
+        b"clear" => Some(Name::Clear),
+        b"reserve" => Some(Name::Reserve),
+        b"shrink" => Some(Name::Shrink),
+        _ => None,
+    }
+}
+
+/// Returns the command of a name that the words after it say.
+fn named(name: Name, rest: &[u8]) -> Result<Command<u64, u64>, NotACommand>
+    ensures name { IfOk result (λ command. command_name command ≡ name) }
+    ensures numbers { IfOk result (λ command. SpellNumbers (words_of rest.now) (command_numbers command)) }
+    ensures err { OnErr result ((command : Command ℕ ℕ) → command_name command ≡ name
+        → ¬ SpellNumbers (words_of rest.now) (command_numbers command)) }
 {
     match name {
-        b"insert" => {
+        Name::Insert => {
             let (k, v) = two_numbers(rest)?;
             Ok(Command::Insert(k, v))
         }
-        b"remove" => Ok(Command::Remove(one_number(rest)?)),
-        _ => Err(NotACommand),
+        Name::Write => {
+            let (k, v) = two_numbers(rest)?;
+            Ok(Command::Write(k, v))
+        }
+        Name::Refresh => Ok(Command::Refresh(one_number(rest)?)),
+        Name::Remove => Ok(Command::Remove(one_number(rest)?)),
+        Name::PopFront => {
+            no_number(rest)?;
+            Ok(Command::PopFront)
+        }
+        Name::PopBack => {
+            no_number(rest)?;
+            Ok(Command::PopBack)
+        }
+        Name::Clear => {
+            no_number(rest)?;
+            Ok(Command::Clear)
+        }
+        Name::Reserve => Ok(Command::Reserve(one_number(rest)? as usize)),
+        Name::Shrink => {
+            no_number(rest)?;
+            Ok(Command::Shrink)
+        }
     }
 }
 
@@ -81,9 +137,12 @@ fn command(line: &[u8]) -> Result<Option<Command<u64, u64>>, NotACommand>
         (λ command. IsSaidBy command (words_of line.now))) }
     ensures err { OnErr result (IsInvalid line.now) }
 {
-    match split_word(line) {
-        None => Ok(None),
-        Some((name, rest)) => Ok(Some(named(name, rest)?)),
+    let Some((word, rest)) = split_word(line) else {
+        return Ok(None);
+    };
+    match name_of(word) {
+        Some(name) => Ok(Some(named(name, rest)?)),
+        None => Err(NotACommand),
     }
 }
 

@@ -103,7 +103,7 @@ fn check_run(rt: &impl Abort, alloc: Global, input: &[u8], status: u8, output: &
 
 #[test]
 fn runs_done(rt: HostRuntime) {
-    let rows: [(&str, &str); 8] = [
+    let rows: [(&str, &str); 16] = [
         ("", "list\n"),
         (
             "insert 2 20\ninsert 1 10\ninsert 3 30\n",
@@ -125,6 +125,36 @@ fn runs_done(rt: HostRuntime) {
             "remove 1\ninsert 01 5\nremove 1\nremove 1\n",
             "missing len=0 cap=0\nnew len=1 cap=1\nold 5 len=0 cap=1\nmissing len=0 cap=1\nlist\n",
         ),
+        (
+            "insert 1 1\ninsert 2 2\ninsert 3 3\nrefresh 2\nrefresh 9\n",
+            "new len=1 cap=1\nnew len=2 cap=2\nnew len=3 cap=3\nfound len=3 cap=3\nmissing len=3 cap=3\nlist 1:1 3:3 2:2\n",
+        ),
+        (
+            "insert 7 70\npopback\npopfront\n",
+            "new len=1 cap=1\npair 7 70 len=0 cap=1\nempty len=0 cap=1\nlist\n",
+        ),
+        (
+            "insert 1 1\ninsert 2 2\npopback\nclear\ninsert 3 3\n",
+            "new len=1 cap=1\nnew len=2 cap=2\npair 2 2 len=1 cap=2\ndone len=0 cap=2\nnew len=1 cap=2\nlist 3:3\n",
+        ),
+        (
+            "insert 1 10\nwrite 1 5\nwrite 9 0\n",
+            "new len=1 cap=1\nold 10 len=1 cap=1\nabsent 9 0 len=1 cap=1\nlist 1:5\n",
+        ),
+        (
+            "reserve 3\ninsert 1 1\nreserve 18446744073709551615\nshrink\n",
+            "done len=0 cap=3\nnew len=1 cap=3\ntoolarge len=1 cap=3\ndone len=1 cap=1\nlist 1:1\n",
+        ),
+        (
+            "reserve 2\nreserve 1\ninsert 1 1\ninsert 2 2\nreserve 1\nremove 1\nshrink\nremove 2\nshrink\n",
+            "done len=0 cap=2\ndone len=0 cap=2\nnew len=1 cap=2\nnew len=2 cap=2\ndone len=2 cap=3\nold 1 len=1 cap=3\ndone len=1 cap=1\nold 2 len=0 cap=1\ndone len=0 cap=0\nlist\n",
+        ),
+        (
+            "reserve 0\nshrink\nreserve 576460752303423489\ninsert 1 1\nreserve 576460752303423488\n",
+            "done len=0 cap=0\ndone len=0 cap=0\ntoolarge len=0 cap=0\nnew len=1 cap=1\ntoolarge len=1 cap=1\nlist 1:1\n",
+        ),
+        // A growth that no allocator gives.
+        ("reserve 576460752303423488\n", "noroom len=0 cap=0\nlist\n"),
         // Any of the three separators stands between words and at the ends, lines may be blank, and the last line may
         // lack its newline.
         (
@@ -144,12 +174,18 @@ fn runs_done(rt: HostRuntime) {
 
 #[test]
 fn lines_that_are_no_command(rt: HostRuntime) {
-    let rows: [(&[u8], &str); 16] = [
+    let rows: [(&[u8], &str); 22] = [
         (
             b"insert 18446744073709551615 1\n\ninsert 18446744073709551616 1\ninsert 5\n",
             "line 3: not a command\n",
         ),
-        (b"popfront\n", "line 1: not a command\n"),
+        (b"drain\n", "line 1: not a command\n"),
+        (b"popfront 1\n", "line 1: not a command\n"),
+        (b"clear all\n", "line 1: not a command\n"),
+        (b"write 1\n", "line 1: not a command\n"),
+        (b"refresh\n", "line 1: not a command\n"),
+        (b"reserve\n", "line 1: not a command\n"),
+        (b"shrink 1\n", "line 1: not a command\n"),
         (b"insert\n", "line 1: not a command\n"),
         (b"insert 1", "line 1: not a command\n"),
         (b"insert 1 2 3\n", "line 1: not a command\n"),

@@ -13,8 +13,15 @@ fn push_answer(text: &mut String, answer: &Answer<u64, u64>) -> Result<(), Alloc
     match answer {
         Answer::New => write!(text, "new"),
         Answer::Old(value) => write!(text, "old {value}"),
+        Answer::Found => write!(text, "found"),
         Answer::Missing => write!(text, "missing"),
+        Answer::Absent(key, value) => write!(text, "absent {key} {value}"),
         Answer::Refused(key, value) => write!(text, "refused {key} {value}"),
+        Answer::Pair(key, value) => write!(text, "pair {key} {value}"),
+        Answer::Empty => write!(text, "empty"),
+        Answer::Done => write!(text, "done"),
+        Answer::TooLarge => write!(text, "toolarge"),
+        Answer::NoRoom => write!(text, "noroom"),
     }
 }
 

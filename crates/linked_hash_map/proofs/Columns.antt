@@ -1,12 +1,18 @@
--- The list of pairs that two vectors make, at the place of a key.
-use Rattle.std.proofs.Common.{◌≡◌, ℕ, suc, zero, ◌+◌, ◌<◌, ◌≤◌, Bool, true, false, cond, not, ◌||◌, List, [], ◌∷◌, ◌++◌, length, take, get_or, position, remove, Some, None, zip, map, set, filter, slice_get, ◌-◌, nat_lt, refl, sym, ap, ap₂, ◌∙◌, true≢false, arith, one-add, ltb-true, ltb-false, length-append}
-use Rattle.std.specs.List.{list_any, IsDistinct, AllByRecursion, position_or_len}
-use Rattle.std.specs.Map.{lookup_entry}
+-- Two vectors as a list of pairs.
+use Rattle.std.proofs.Common.{◌≡◌, ℕ, zero, suc, ◌+◌, ◌<◌, ◌≤◌, Bool, true, false, cond, not, ◌||◌, List, [], ◌∷◌, ◌++◌, length, get_or, set, position, remove, Option, Some, None, IfSome, IfNone, option_map, zip, slice_get, nat_lt, refl, sym, ap, ap₂, ◌∙◌, subst, true≢false, arith, ltb-true, ltb-false, length-append}
+use Rattle.std.specs.List.{list_any, IsDistinct, position_or_len}
+use Rattle.std.specs.Map.{keys_of}
 use Rattle.std.specs.Cmp.{IsEquivalence}
+use Rattle.std.proofs.lemmas.List.{get_or_default}
 use Rattle.std.proofs.lemmas.List.Sums.{passes_at_first}
-use Rattle.std.proofs.Math.Seq.{take-append_seam}
-use Rattle.std.proofs.lemmas.Map.Keys.{IsDistinct-head, IsDistinct-tail}
-use Rattle.linked_hash_map.specs.Pairs.{without}
+use Rattle.std.proofs.lemmas.Map.Keys.{IsDistinct-push}
+use Rattle.linked_hash_map.specs.LinkedMap.{LinkedMap, linked_map}
+use Rattle.linked_hash_map.specs.Pairs.{find}
+use Rattle.linked_hash_map.specs.Places.{IsPlace, set_value_at}
+use Rattle.linked_hash_map.specs.Columns.{AreColumns}
+use Rattle.linked_hash_map.specs.declared.map.TheConstants.{LIMIT}
+use Rattle.linked_hash_map.proofs.DistinctLists.{distinct_removed}
+use Rattle.linked_hash_map.proofs.Pairs.{lookup_entry-none, list_any-none}
 
 -- a position is the first place that passes, which lies within
 pub at_first : {X : Type 0} (p : X → Bool) (xs : List X) (i : ℕ) → position p xs ≡ Some i → (position_or_len p xs ≡ i) × (position_or_len p xs < length xs)
@@ -34,123 +40,166 @@ none_first p (x ∷ xs) h = at (none_first p xs) (p x) refl h
 pub none_same : {X : Type 0} (p : X → Bool) (xs : List X) → position p xs ≡ None → list_any p xs ≡ false
 none_same p xs h = none_first p xs (no_first p xs h)
 
-pub length-zip : {K V : Type 0} (ks : List K) (vs : List V) → length vs ≡ length ks → length (zip ks vs) ≡ length ks
-length-zip [] vs h = refl
-length-zip (k ∷ ks) [] h = absurd (omega arith)
-length-zip (k ∷ ks) (v ∷ vs) h = ap suc (length-zip ks vs (omega arith))
+module _ {K V : Type 0} where
+  pub length-zip : (keys : List K) (values : List V) → length values ≡ length keys → length (zip keys values) ≡ length keys
+  length-zip [] values h = refl
+  length-zip (k ∷ keys) [] h = absurd (omega arith)
+  length-zip (k ∷ keys) (v ∷ values) h = ap suc (length-zip keys values (omega arith))
 
-pub zip-push : {K V : Type 0} (ks : List K) (vs : List V) (k : K) (v : V) → length vs ≡ length ks → zip (ks ++ k ∷ []) (vs ++ v ∷ []) ≡ zip ks vs ++ (k, v) ∷ []
-zip-push [] [] k v h = refl
-zip-push [] (w ∷ vs) k v h = absurd (omega arith)
-zip-push (q ∷ ks) [] k v h = absurd (omega arith)
-zip-push (q ∷ ks) (w ∷ vs) k v h = ap (λ es. (q, w) ∷ es) (zip-push ks vs k v (omega arith))
+  pub keys_of-zip : (keys : List K) (values : List V) → length values ≡ length keys → keys_of (zip keys values) ≡ keys
+  keys_of-zip [] values h = refl
+  keys_of-zip (k ∷ keys) [] h = absurd (omega arith)
+  keys_of-zip (k ∷ keys) (v ∷ values) h = ap (λ ks. k ∷ ks) (keys_of-zip keys values (omega arith))
 
--- a list of which no key passes
-module _ {K V : Type 0} (test : K → Bool) where
-  pub find-none : (ks : List K) (vs : List V) → list_any test ks ≡ false → lookup_entry test (zip ks vs) ≡ None
-  find-none [] vs h = refl
-  find-none (k ∷ ks) [] h = refl
-  find-none (k ∷ ks) (v ∷ vs) h = at (find-none ks vs) (test k) h
-    where
-      at : (list_any test ks ≡ false → lookup_entry test (zip ks vs) ≡ None) → (b : Bool) → (b || list_any test ks) ≡ false → cond b (Some (k, v)) (lookup_entry test (zip ks vs)) ≡ None
-      at f true h = absurd (true≢false h)
-      at f false h = f h
+  pub zip-push : (keys : List K) (values : List V) (k : K) (v : V) → length values ≡ length keys → zip (keys ++ k ∷ []) (values ++ v ∷ []) ≡ zip keys values ++ (k, v) ∷ []
+  zip-push [] [] k v h = refl
+  zip-push [] (w ∷ values) k v h = absurd (omega arith)
+  zip-push (q ∷ keys) [] k v h = absurd (omega arith)
+  zip-push (q ∷ keys) (w ∷ values) k v h = ap (λ pairs. (q, w) ∷ pairs) (zip-push keys values k v (omega arith))
 
-  pub without-none : (ks : List K) (vs : List V) → list_any test ks ≡ false → filter (λ e. not (test e.0)) (zip ks vs) ≡ zip ks vs
-  without-none [] vs h = refl
-  without-none (k ∷ ks) [] h = refl
-  without-none (k ∷ ks) (v ∷ vs) h = at (without-none ks vs) (test k) h
-    where
-      at : (list_any test ks ≡ false → filter (λ e. not (test e.0)) (zip ks vs) ≡ zip ks vs) → (b : Bool) → (b || list_any test ks) ≡ false → cond (not b) ((k, v) ∷ filter (λ e. not (test e.0)) (zip ks vs)) (filter (λ e. not (test e.0)) (zip ks vs)) ≡ (k, v) ∷ zip ks vs
-      at f true h = absurd (true≢false h)
-      at f false h = ap (λ es. (k, v) ∷ es) (f h)
+  pub zip-remove : (keys : List K) (values : List V) (i : ℕ) → length values ≡ length keys → zip (remove keys i) (remove values i) ≡ remove (zip keys values) i
+  zip-remove [] [] zero h = refl
+  zip-remove [] [] (suc i) h = refl
+  zip-remove [] (v ∷ values) i h = absurd (omega arith)
+  zip-remove (k ∷ keys) [] i h = absurd (omega arith)
+  zip-remove (k ∷ keys) (v ∷ values) zero h = refl
+  zip-remove (k ∷ keys) (v ∷ values) (suc i) h = ap (λ pairs. (k, v) ∷ pairs) (zip-remove keys values i (omega arith))
 
--- keys of which all differ from one differ from what is the same as it
-pub none_from_all : {K : Type 0} (test : K → Bool) (ks : List K) → AllByRecursion (λ y. test y ≡ false) ks → list_any test ks ≡ false
-none_from_all test [] h = refl
-none_from_all test (k ∷ ks) h = ap (λ b. b || list_any test ks) h.0 ∙ none_from_all test ks h.1
+  pub zip-set : (keys : List K) (values : List V) (i : ℕ) (v : V) → zip keys (set values i v) ≡ set_value_at (zip keys values) i v
+  zip-set [] values i v = refl
+  zip-set (k ∷ keys) [] i v = refl
+  zip-set (k ∷ keys) (w ∷ values) zero v = refl
+  zip-set (k ∷ keys) (w ∷ values) (suc i) v = ap (λ pairs. (k, w) ∷ pairs) (zip-set keys values i v)
 
-all_removed : {K : Type 0} (P : K → Type 0) (ks : List K) (i : ℕ) → AllByRecursion P ks → AllByRecursion P (remove ks i)
-all_removed P [] zero h = tt
-all_removed P [] (suc i) h = tt
-all_removed P (k ∷ ks) zero h = h.1
-all_removed P (k ∷ ks) (suc i) h = (h.0, all_removed P ks i h.1)
+  pub slice_get-zip : (keys : List K) (values : List V) (i : ℕ) (k : K) (v : V) → length values ≡ length keys → i < length keys → k ≡ get_or keys i k → v ≡ get_or values i v → slice_get (zip keys values) i ≡ Some (k, v)
+  slice_get-zip [] values i k v h within of_key of_value = absurd (omega arith)
+  slice_get-zip (q ∷ keys) [] i k v h within of_key of_value = absurd (omega arith)
+  slice_get-zip (q ∷ keys) (w ∷ values) zero k v h within of_key of_value = ap₂ (λ x y. Some (x, y)) (sym of_key) (sym of_value)
+  slice_get-zip (q ∷ keys) (w ∷ values) (suc i) k v h within of_key of_value = slice_get-zip keys values i k v (omega arith) (omega arith) of_key of_value
 
--- keys that differ still do when one goes
-pub distinct_removed : {K : Type 0} (eq : K → K → Bool) (ks : List K) (i : ℕ) → IsDistinct eq ks → IsDistinct eq (remove ks i)
-unfolding IsDistinct
-distinct_removed eq [] zero h = h
-distinct_removed eq [] (suc i) h = h
-distinct_removed eq (k ∷ ks) zero h = h.1
-distinct_removed eq (k ∷ ks) (suc i) h = (all_removed (λ y. eq k y ≡ false) ks i h.0, distinct_removed eq ks i h.1)
+pub slice_get_value-zip : {K V : Type 0} (keys : List K) (values : List V) (i : ℕ) (v : V) → length values ≡ length keys → i < length keys → v ≡ get_or values i v → option_map (λ pair. pair.1) (slice_get (zip keys values) i) ≡ Some v
+slice_get_value-zip [] values i v h within of_value = absurd (omega arith)
+slice_get_value-zip (q ∷ keys) [] i v h within of_value = absurd (omega arith)
+slice_get_value-zip (q ∷ keys) (w ∷ values) zero v h within of_value = ap Some (sym of_value)
+slice_get_value-zip (q ∷ keys) (w ∷ values) (suc i) v h within of_value = slice_get_value-zip keys values i v (omega arith) (omega arith) of_value
 
-pub length-removed : {K : Type 0} (ks : List K) (i : ℕ) → i < length ks → length (remove ks i) + 1 ≡ length ks
+length-removed : {X : Type 0} (xs : List X) (i : ℕ) → i < length xs → length (remove xs i) + 1 ≡ length xs
 length-removed [] i h = absurd (omega arith)
-length-removed (k ∷ ks) zero h = omega arith
-length-removed (k ∷ ks) (suc i) h = let r = length-removed ks i (omega arith) in omega arith
+length-removed (x ∷ xs) zero h = omega arith
+length-removed (x ∷ xs) (suc i) h = let rest = length-removed xs i (omega arith) in omega arith
 
-module _ {K V : Type 0} (test : K → Bool) where
-  find_step : (q : K) (ks : List K) (v : V) (vs : List V) (b : Bool) (s : K) (w : V) → cond (not b) (1 + position_or_len test ks) 0 < suc (length ks) → s ≡ get_or (q ∷ ks) (cond (not b) (1 + position_or_len test ks) 0) s → w ≡ get_or (v ∷ vs) (cond (not b) (1 + position_or_len test ks) 0) w → (position_or_len test ks < length ks → s ≡ get_or ks (position_or_len test ks) s → w ≡ get_or vs (position_or_len test ks) w → lookup_entry test (zip ks vs) ≡ Some (s, w)) → cond b (Some (q, v)) (lookup_entry test (zip ks vs)) ≡ Some (s, w)
-  find_step q ks v vs true s w n a b f = ap₂ (λ x y. Some (x, y)) (sym a) (sym b)
-  find_step q ks v vs false s w n a b f = f (omega arith) (rw one-add at a) (rw one-add at b)
+length-set : {X : Type 0} (xs : List X) (i : ℕ) (x : X) → length (set xs i x) ≡ length xs
+length-set [] i x = refl
+length-set (y ∷ xs) zero x = refl
+length-set (y ∷ xs) (suc i) x = ap suc (length-set xs i x)
 
-  find_at_first : (ks : List K) (vs : List V) (s : K) (w : V) → length vs ≡ length ks → position_or_len test ks < length ks → s ≡ get_or ks (position_or_len test ks) s → w ≡ get_or vs (position_or_len test ks) w → lookup_entry test (zip ks vs) ≡ Some (s, w)
-  find_at_first [] vs s w l n a b = absurd (omega arith)
-  find_at_first (q ∷ ks) [] s w l n a b = absurd (omega arith)
-  find_at_first (q ∷ ks) (v ∷ vs) s w l n a b = find_step q ks v vs (test q) s w n a b (find_at_first ks vs s w (omega arith))
-
-  -- the pair at the first place of a key
-  pub find-at : (ks : List K) (vs : List V) (i : ℕ) (s : K) (w : V) → length vs ≡ length ks → position test ks ≡ Some i → s ≡ get_or ks i s → w ≡ get_or vs i w → lookup_entry test (zip ks vs) ≡ Some (s, w)
-  find-at ks vs i s w l h a b =
-      let f = at_first test ks i h in
-      find_at_first ks vs s w l f.1 (rw f.0 a) (rw f.0 b)
-
-rest_differs : {K : Type 0} {eq : K → K → Bool} → IsEquivalence eq → (k q : K) (ks : List K) → eq k q ≡ true → IsDistinct eq (q ∷ ks) → list_any (eq k) ks ≡ false
-rest_differs {K} {eq} laws k q ks h d = ap (λ t. list_any t ks) (λ i z. laws.congr k q z h i) ∙ none_from_all (eq q) ks (IsDistinct-head eq q ks d)
-
-any_step : {K : Type 0} {eq : K → K → Bool} → IsEquivalence eq → (k q : K) (ks : List K) (b : Bool) → eq k q ≡ b → IsDistinct eq (q ∷ ks) → cond (not b) (1 + position_or_len (eq k) ks) 0 < suc (length ks) → (position_or_len (eq k) ks < length ks → list_any (eq k) (remove ks (position_or_len (eq k) ks)) ≡ false) → list_any (eq k) (remove (q ∷ ks) (cond (not b) (1 + position_or_len (eq k) ks) 0)) ≡ false
-any_step laws k q ks true e d n f = rest_differs laws k q ks e d
-any_step {K} {eq} laws k q ks false e d n f = rw one-add (ap (λ b. b || list_any (eq k) (remove ks (position_or_len (eq k) ks))) e ∙ f (omega arith))
-
--- no other key is the same
-others_differ : {K : Type 0} {eq : K → K → Bool} → IsEquivalence eq → (k : K) (ks : List K) → IsDistinct eq ks → position_or_len (eq k) ks < length ks → list_any (eq k) (remove ks (position_or_len (eq k) ks)) ≡ false
-others_differ laws k [] d n = absurd (omega arith)
-others_differ {K} {eq} laws k (q ∷ ks) d n = any_step laws k q ks (eq k q) refl d n (others_differ laws k ks (IsDistinct-tail eq q ks d))
-
-pub others-differ : {K : Type 0} {eq : K → K → Bool} → IsEquivalence eq → (k : K) (ks : List K) (i : ℕ) (s : K) → IsDistinct eq ks → position (eq k) ks ≡ Some i → s ≡ get_or ks i s → list_any (eq s) (remove ks i) ≡ false
-others-differ {K} {eq} laws k ks i s d h a =
-    let f = at_first (eq k) ks i h in
-    let p = passes_at_first (eq k) ks s f.1 in
-    let same : eq k s ≡ true = ap (eq k) (a ∙ ap (λ j. get_or ks j s) (sym f.0)) ∙ p in
-    sym (ap (λ t. list_any t (remove ks i)) (λ j z. laws.congr k s z same j))
-    ∙ ap (λ j. list_any (eq k) (remove ks j)) (sym f.0)
-    ∙ others_differ laws k ks d f.1
-
-module _ {K V : Type 0} {eq : K → K → Bool} (laws : IsEquivalence eq) (k : K) where
-  without_step : (q : K) (ks : List K) (v : V) (vs : List V) (b : Bool) → eq k q ≡ b → IsDistinct eq (q ∷ ks) → cond (not b) (1 + position_or_len (eq k) ks) 0 < suc (length ks) → (position_or_len (eq k) ks < length ks → without eq (zip ks vs) k ≡ zip (remove ks (position_or_len (eq k) ks)) (remove vs (position_or_len (eq k) ks))) → cond (not b) ((q, v) ∷ without eq (zip ks vs) k) (without eq (zip ks vs) k) ≡ zip (remove (q ∷ ks) (cond (not b) (1 + position_or_len (eq k) ks) 0)) (remove (v ∷ vs) (cond (not b) (1 + position_or_len (eq k) ks) 0))
-  without_step q ks v vs true e d n f = without-none (eq k) ks vs (rest_differs laws k q ks e d)
-  without_step q ks v vs false e d n f = rw one-add (ap (λ es. (q, v) ∷ es) (f (omega arith)))
-
-  without_at_first : (ks : List K) (vs : List V) → length vs ≡ length ks → IsDistinct eq ks → position_or_len (eq k) ks < length ks → without eq (zip ks vs) k ≡ zip (remove ks (position_or_len (eq k) ks)) (remove vs (position_or_len (eq k) ks))
-  without_at_first [] vs l d n = absurd (omega arith)
-  without_at_first (q ∷ ks) [] l d n = absurd (omega arith)
-  without_at_first (q ∷ ks) (v ∷ vs) l d n = without_step q ks v vs (eq k q) refl d n (without_at_first ks vs (omega arith) (IsDistinct-tail eq q ks d))
-
-  -- the pairs without that of a key
-  pub without-at : (ks : List K) (vs : List V) (i : ℕ) → length vs ≡ length ks → IsDistinct eq ks → position (eq k) ks ≡ Some i → without eq (zip ks vs) k ≡ zip (remove ks i) (remove vs i)
-  without-at ks vs i l d h =
-      let f = at_first (eq k) ks i h in
-      without_at_first ks vs l d f.1 ∙ ap (λ j. zip (remove ks j) (remove vs j)) f.0
-
-all_init : {K : Type 0} (P : K → Type 0) (ks : List K) (k : K) → AllByRecursion P (ks ++ k ∷ []) → AllByRecursion P ks × P k
-all_init P [] k h = (tt, h.0)
-all_init P (q ∷ ks) k h = let r = all_init P ks k h.1 in ((h.0, r.0), r.1)
-
--- keys that differ, one of them last
-pub distinct_last : {K : Type 0} {eq : K → K → Bool} → IsEquivalence eq → (ks : List K) (k : K) → IsDistinct eq (ks ++ k ∷ []) → IsDistinct eq ks × (list_any (eq k) ks ≡ false)
+pub AreColumns-nil : {K V : Type 0} (eq : K → K → Bool) {c a b : ℕ} → c ≤ a → c ≤ b → c ≤ LIMIT → AreColumns {V = V} eq [] [] c a b
 unfolding IsDistinct
-distinct_last laws [] k h = (tt, refl)
-distinct_last {K} {eq} laws (q ∷ ks) k h =
-    let a = all_init (λ y. eq q y ≡ false) ks k h.0 in
-    let r = distinct_last laws ks k h.1 in
-    ((a.0, r.0), ap (λ b. b || list_any (eq k) ks) (laws.symm k q ∙ a.1) ∙ r.1)
+AreColumns-nil eq room_of_keys room_of_values limit =
+    record { distinct = tt; paired = refl; within = omega arith; room_of_keys = room_of_keys; room_of_values = room_of_values; limit = limit }
+
+module _ {K V : Type 0} {eq : K → K → Bool} {keys : List K} {values : List V} {c a b : ℕ} (columns : AreColumns eq keys values c a b) where
+  pub length-columns : length (zip keys values) ≡ length keys
+  length-columns = length-zip keys values columns.paired
+
+  -- a map that these columns are
+  module _ {S : Type 0} {room : ℕ} {hasher : S} {m : LinkedMap K V S} (view : linked_map (zip keys values) room hasher ≡ m) where
+    pub pairs-view : zip keys values ≡ m.pairs
+    pairs-view = ap (λ v. v.pairs) view
+
+    pub capacity-view : room ≡ m.capacity
+    capacity-view = ap (λ v. v.capacity) view
+
+    pub length-view : length m.pairs ≡ length keys
+    length-view = sym (ap length pairs-view) ∙ length-columns
+
+  pub within-columns : length (zip keys values) ≤ c
+  within-columns = rw length-columns columns.within
+
+  pub distinct-columns : IsDistinct eq (keys_of (zip keys values))
+  distinct-columns = rw (keys_of-zip keys values columns.paired) columns.distinct
+
+  -- the place of a key, or none
+  pub IsPlace-position : (k : K) (i : ℕ) → position (eq k) keys ≡ Some i → IsPlace eq (zip keys values) k i
+  IsPlace-position k i at_place =
+      let first = at_first (eq k) keys i at_place in
+      let within : i < length keys = omega arith in
+      let in_values : i < length values = omega (arith, columns.paired) in
+      by_values values in_values columns.paired
+    where
+      by_values : (ws : List V) → i < length ws → length ws ≡ length keys → IsPlace eq (zip keys ws) k i
+      by_values [] h paired = absurd (omega arith)
+      by_values (w ∷ ws) h paired =
+          let first = at_first (eq k) keys i at_place in
+          let within : i < length keys = omega arith in
+          let stored = get_or keys i k in
+          let v = get_or (w ∷ ws) i w in
+          record {
+            pair = (stored, v);
+            there = slice_get-zip keys (w ∷ ws) i stored v paired within (get_or_default keys i k stored within) (get_or_default (w ∷ ws) i w v h);
+            same = ap (λ j. eq k (get_or keys j k)) (sym first.0) ∙ passes_at_first (eq k) keys k first.1;
+          }
+
+  pub find-position : (k : K) → position (eq k) keys ≡ None → find eq (zip keys values) k ≡ None
+  find-position k no_place =
+      lookup_entry-none (eq k) (zip keys values) (ap (list_any (eq k)) (keys_of-zip keys values columns.paired) ∙ none_same (eq k) keys no_place)
+
+  -- what a search answers
+  pub found-position : (k : K) (o : Option ℕ) → o ≡ position (eq k) keys → IfSome o (IsPlace eq (zip keys values) k)
+  found-position k None h = tt
+  found-position k (Some i) h = IsPlace-position k i (sym h)
+
+  pub absent-position : (k : K) (o : Option ℕ) → o ≡ position (eq k) keys → IfNone o (find eq (zip keys values) k ≡ None)
+  absent-position k None h = find-position k (sym h)
+  absent-position k (Some i) h = tt
+
+  -- without the key and the value at a place
+  pub AreColumns-remove : (i : ℕ) → i < length keys → AreColumns eq (remove keys i) (remove values i) c a b
+  AreColumns-remove i within =
+      let in_values : i < length values = omega (arith, columns.paired) in
+      let of_keys = length-removed keys i within in
+      let of_values = length-removed values i in_values in
+      record {
+        distinct = distinct_removed eq keys i columns.distinct;
+        paired = omega (arith, columns.paired);
+        within = omega (arith, columns.within);
+        room_of_keys = columns.room_of_keys;
+        room_of_values = columns.room_of_values;
+        limit = columns.limit;
+      }
+
+  -- with one more key, which is absent, and its value
+  pub AreColumns-push : IsEquivalence eq → (k : K) (v : V) → find eq (zip keys values) k ≡ None → length keys < c → AreColumns eq (keys ++ k ∷ []) (values ++ v ∷ []) c a b
+  AreColumns-push laws k v absent room =
+      let of_keys = length-append keys (k ∷ []) in
+      let of_values = length-append values (v ∷ []) in
+      record {
+        distinct = IsDistinct-push laws keys k columns.distinct (ap (list_any (eq k)) (sym (keys_of-zip keys values columns.paired)) ∙ list_any-none (eq k) (zip keys values) absent);
+        paired = omega (arith, columns.paired);
+        within = omega arith;
+        room_of_keys = columns.room_of_keys;
+        room_of_values = columns.room_of_values;
+        limit = columns.limit;
+      }
+
+  -- with another value at a place
+  pub AreColumns-set : (i : ℕ) (v : V) → AreColumns eq keys (set values i v) c a b
+  AreColumns-set i v = record {
+    distinct = columns.distinct;
+    paired = length-set values i v ∙ columns.paired;
+    within = columns.within;
+    room_of_keys = columns.room_of_keys;
+    room_of_values = columns.room_of_values;
+    limit = columns.limit;
+  }
+
+  -- with another capacity, for which there is room
+  pub AreColumns-room : {d m n : ℕ} → length keys ≤ d → d ≤ m → d ≤ n → d ≤ LIMIT → AreColumns eq keys values d m n
+  AreColumns-room within room_of_keys room_of_values limit = record {
+    distinct = columns.distinct;
+    paired = columns.paired;
+    within = within;
+    room_of_keys = room_of_keys;
+    room_of_values = room_of_values;
+    limit = limit;
+  }

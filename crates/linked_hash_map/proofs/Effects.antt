@@ -1,18 +1,41 @@
 -- What the map's calls answer and leave, on a log that defines the map.
-use Rattle.std.proofs.Common.{◌≡◌, ℕ, ◌+◌, ◌≤◌, max, Bool, List, [], ◌∷◌, ◌++◌, length, Option, Some, None, is_some, option_map, refl, sym, ap, ap₂, ◌∙◌, true≢false, append-nil}
+use Rattle.std.proofs.Common.{◌≡◌, ℕ, zero, suc, ◌+◌, ◌-◌, ◌<◌, ◌≤◌, max, Bool, take, drop, remove, slice_get, subst, arith, drop_of_length-le, List, [], ◌∷◌, ◌++◌, length, Option, Some, None, is_some, option_map, refl, sym, ap, ap₂, ◌∙◌, true≢false, append-nil}
+use Rattle.std.specs.List.{IsDistinct}
+use Rattle.std.specs.Map.{keys_of}
 use Rattle.std.specs.Cmp.{IsEquivalence}
-use Rattle.linked_hash_map.specs.Log.{Log, Put, Remove, live, stored, value, both, pair_of, pairs, size, high, IsFull, Defines}
-use Rattle.linked_hash_map.specs.Pairs.{find, value_at, without, to_back}
+use Rattle.linked_hash_map.specs.Log.{Log, Put, Write, Refresh, Remove, RemoveAll, Need, Fit, live, stored, value, both, pair_of, pairs, size, high, IsFull, Defines}
+use Rattle.linked_hash_map.specs.Pairs.{find, value_at, without, to_back, set_value}
 use Rattle.linked_hash_map.specs.Requests.{IsAbsent, HasValue}
 use Rattle.linked_hash_map.proofs.Keys.{pair_of-live, none_is}
 use Rattle.linked_hash_map.proofs.Pairs.{is_some-value_at}
-use Rattle.linked_hash_map.proofs.Bridge.{find-pairs, pairs-put, pairs-remove}
-use Rattle.linked_hash_map.proofs.Marks.{size-pairs, high-put, high-remove}
+use Rattle.linked_hash_map.proofs.Bridge.{find-pairs, pairs-put, pairs-write, pairs-refresh, pairs-remove, pairs-remove_all, pairs-need, pairs-fit}
+use Rattle.linked_hash_map.proofs.Marks.{size-pairs, high-put, high-write, high-refresh, high-remove, high-remove_all, high-need, high-fit}
+use Rattle.linked_hash_map.proofs.Distinct.{distinct-pairs}
+use Rattle.linked_hash_map.proofs.Places.{without-own}
 
 value_of_both : {K V : Type 0} (s : Option K) (w : Option V) (v : V) → option_map (λ pair. pair.1) (both s w) ≡ Some v → w ≡ Some v
 value_of_both None w v h = absurd (true≢false (sym (ap is_some h)))
 value_of_both (Some s) None v h = absurd (true≢false (sym (ap is_some h)))
 value_of_both (Some s) (Some w) v h = h
+
+remove-last : {X : Type 0} (xs : List X) → remove xs (length xs - 1) ≡ take (length xs - 1) xs
+remove-last {X} xs =
+    let past : length xs ≤ suc (length xs - 1) = omega arith in
+    let none : drop (suc (length xs - 1)) xs ≡ [] = drop_of_length-le xs past in
+    ap (λ (ys : List X). take (length xs - 1) xs ++ ys) none ∙ append-nil (take (length xs - 1) xs)
+
+pub no_first_is_nil : {X : Type 0} (xs : List X) → None ≡ slice_get xs 0 → xs ≡ []
+no_first_is_nil [] h = refl
+no_first_is_nil (x ∷ xs) h = absurd (true≢false (sym (ap is_some h)))
+
+pub no_last_is_nil : {X : Type 0} (xs : List X) → None ≡ slice_get xs (length xs - 1) → xs ≡ []
+no_last_is_nil [] h = refl
+no_last_is_nil (x ∷ xs) h = absurd (some_last x xs (length (x ∷ xs) - 1) (omega arith) h)
+  where
+    some_last : {Y : Type 0} (y : Y) (ys : List Y) (i : ℕ) → i < length (y ∷ ys) → None ≡ slice_get (y ∷ ys) i → ⊥
+    some_last y ys zero l n = true≢false (sym (ap is_some n))
+    some_last y [] (suc i) l n = absurd (omega arith)
+    some_last y (z ∷ ys) (suc i) l n = some_last z ys i (omega arith) n
 
 module _ {K V : Type 0} {eq : K → K → Bool} (laws : IsEquivalence eq) {start : ℕ} {log : Log K V} {held : List (K × V)} {capacity : ℕ} (defines : Defines eq start log held capacity) where
   pub size-held : size eq log ≡ length held
@@ -70,3 +93,78 @@ module _ {K V : Type 0} {eq : K → K → Bool} (laws : IsEquivalence eq) {start
       same_pairs = pairs-remove laws log k ∙ ap (λ es. without eq es k) defines.same_pairs ∙ sym h;
       same_capacity = high-remove laws log start k ∙ defines.same_capacity ∙ sym m;
     }
+
+    -- after a write
+    pub Defines-write : (v : V) {later : List (K × V)} {capacity' : ℕ} → later ≡ set_value eq held k v → capacity' ≡ capacity → Defines eq start (log ++ Write k v ∷ []) later capacity'
+    Defines-write v h m = record {
+      same_pairs = pairs-write laws log k v ∙ ap (λ es. set_value eq es k v) defines.same_pairs ∙ sym h;
+      same_capacity = high-write laws log start k v ∙ defines.same_capacity ∙ sym m;
+    }
+
+    -- after a refresh of a key with a value
+    pub Defines-refresh : (v : V) {later : List (K × V)} {capacity' : ℕ} → Some v ≡ value_at eq held k → later ≡ to_back eq held k v → capacity' ≡ capacity → Defines eq start (log ++ Refresh k ∷ []) later capacity'
+    Defines-refresh v {later} {capacity'} found h m = by_pair (pair_of (eq k) log) refl (found ∙ ap (option_map (λ pair. pair.1)) the_pair)
+      where
+        by_pair : (o : Option (K × V)) → pair_of (eq k) log ≡ o → Some v ≡ option_map (λ pair. pair.1) o → Defines eq start (log ++ Refresh k ∷ []) later capacity'
+        by_pair None is same = absurd (true≢false (ap is_some same))
+        by_pair (Some pair) is same =
+            let v-is : v ≡ pair.1 = cc in
+            record {
+              same_pairs =
+                  pairs-refresh laws log k pair is
+                  ∙ ap₂ (λ es w. to_back eq es k w) defines.same_pairs (sym v-is)
+                  ∙ sym h;
+              same_capacity = high-refresh laws log start k ∙ defines.same_capacity ∙ sym m;
+            }
+
+  -- after all pairs are dropped
+  pub Defines-remove_all : {later : List (K × V)} {capacity' : ℕ} → later ≡ [] → capacity' ≡ capacity → Defines eq start (log ++ RemoveAll ∷ []) later capacity'
+  Defines-remove_all h m = record {
+    same_pairs = pairs-remove_all laws log ∙ sym h;
+    same_capacity = high-remove_all laws log start ∙ defines.same_capacity ∙ sym m;
+  }
+
+  -- after room is reserved
+  pub Defines-reserve : (additional : ℕ) {later : List (K × V)} {capacity' : ℕ} → later ≡ held → capacity' ≡ max capacity (length held + additional) → Defines eq start (log ++ Need (size eq log + additional) ∷ []) later capacity'
+  Defines-reserve additional h m = record {
+    same_pairs = pairs-need laws log (size eq log + additional) ∙ defines.same_pairs ∙ sym h;
+    same_capacity =
+        high-need laws start log (size eq log + additional)
+        ∙ ap₂ (λ room n. max room (n + additional)) defines.same_capacity size-held
+        ∙ sym m;
+  }
+
+  -- after the capacity is lowered to the number of pairs
+  pub Defines-shrink : {later : List (K × V)} {capacity' : ℕ} → later ≡ held → capacity' ≡ length held → Defines eq start (log ++ Fit ∷ []) later capacity'
+  Defines-shrink h m = record {
+    same_pairs = pairs-fit laws log ∙ defines.same_pairs ∙ sym h;
+    same_capacity = high-fit laws start log ∙ size-held ∙ sym m;
+  }
+
+  -- the keys that a log defines are different
+  distinct-held : IsDistinct eq (keys_of held)
+  distinct-held = subst (λ es. IsDistinct eq (keys_of es)) defines.same_pairs (distinct-pairs laws log)
+
+  -- after the pair at a place is taken out
+  Defines-take_out : (i : ℕ) (pair : K × V) {later : List (K × V)} {capacity' : ℕ} → slice_get held i ≡ Some pair → later ≡ remove held i → capacity' ≡ capacity → Defines eq start (log ++ Remove pair.0 ∷ []) later capacity'
+  Defines-take_out i pair there h m = Defines-remove pair.0 (h ∙ sym (without-own laws held distinct-held i pair there)) m
+
+  pub Defines-pop_front : (k : K) (v : V) {later : List (K × V)} {capacity' : ℕ} → Some (k, v) ≡ slice_get held 0 → later ≡ drop 1 held → capacity' ≡ capacity → Defines eq start (log ++ Remove k ∷ []) later capacity'
+  Defines-pop_front k v there h m = Defines-take_out 0 (k, v) (sym there) h m
+
+  pub Defines-pop_back : (k : K) (v : V) {later : List (K × V)} {capacity' : ℕ} → Some (k, v) ≡ slice_get held (length held - 1) → later ≡ take (length held - 1) held → capacity' ≡ capacity → Defines eq start (log ++ Remove k ∷ []) later capacity'
+  Defines-pop_back k v there h m = Defines-take_out (length held - 1) (k, v) (sym there) (h ∙ sym (remove-last held)) m
+
+  -- the pair at a place of the map is that of the log
+  pub slice_get-held : (i : ℕ) {o : Option (K × V)} → o ≡ slice_get held i → slice_get (pairs eq log) i ≡ o
+  slice_get-held i h = ap (λ es. slice_get es i) defines.same_pairs ∙ sym h
+
+  pub slice_get_last-held : {o : Option (K × V)} → o ≡ slice_get held (length held - 1) → slice_get (pairs eq log) (length (pairs eq log) - 1) ≡ o
+  slice_get_last-held h = ap (λ es. slice_get es (length es - 1)) defines.same_pairs ∙ sym h
+
+  -- where nothing is first or last, the log has no pairs
+  pub pairs-no_first : None ≡ slice_get held 0 → pairs eq log ≡ []
+  pairs-no_first h = defines.same_pairs ∙ no_first_is_nil held h
+
+  pub pairs-no_last : None ≡ slice_get held (length held - 1) → pairs eq log ≡ []
+  pairs-no_last h = defines.same_pairs ∙ no_last_is_nil held h

@@ -6,7 +6,8 @@ pub mod Bridge
 pub mod Distinct
 pub mod Marks
 pub mod Columns
+pub mod DistinctLists
 pub mod Pairs
-pub mod ColumnCalls
 pub mod Effects
 pub mod Runs
+pub mod Places

@@ -6,7 +6,7 @@ use Rattle.std.specs.Cmp.{IsEquivalence}
 use Rattle.std.proofs.lemmas.Map.Keys.{IsDistinct-head, IsDistinct-tail}
 use Rattle.linked_hash_map.specs.Pairs.{key_or, find, value_at, without, to_back}
 use Rattle.linked_hash_map.proofs.Keys.{same_test, none_is}
-use Rattle.linked_hash_map.proofs.Columns.{none_from_all}
+use Rattle.linked_hash_map.proofs.DistinctLists.{none_from_all}
 
 -- a test that no key passes finds nothing
 pub lookup_entry-none : {K V : Type 0} (test : K → Bool) (pairs : List (K × V)) → list_any test (keys_of pairs) ≡ false → lookup_entry test pairs ≡ None

@@ -10,7 +10,7 @@ use Rattle.linked_hash_map.specs.Run.{log_after, first_log, last_log, IsReply, I
 use Rattle.linked_hash_map.specs.declared.replay.Command.{Command}
 use Rattle.linked_hash_map.specs.declared.replay.Reply.{Reply}
 use Rattle.linked_hash_map.proofs.Lists.{by_last}
-use Rattle.linked_hash_map.proofs.Columns.{distinct_last}
+use Rattle.linked_hash_map.proofs.DistinctLists.{distinct_last}
 use Rattle.linked_hash_map.proofs.Pairs.{lookup_entry-none, filter-none}
 use Rattle.linked_hash_map.proofs.Bridge.{pairs-put}
 use Rattle.linked_hash_map.proofs.Marks.{size-pairs, high-put}

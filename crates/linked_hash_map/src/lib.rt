@@ -10,4 +10,4 @@ pub mod replay;
 #[cfg(test)]
 mod tests;
 
-pub use map::{Iter, LIMIT, LinkedHashMap, Refused};
+pub use map::{Iter, LIMIT, LinkedHashMap, NoRoom, Refused, ReserveError};

@@ -1,17 +1,21 @@
 //! The map.
-ghost use Rattle.std.specs.Prelude.{◌≡◌, ◌+◌, ◌<◌, ◌≤◌, [], length, max, position, option_copied, None, IsSome, IsOk, IsTrue, IsFalse, OnOk, OnErr, IfOk, IfErr, IfSome, vec_len, vec_capacity};
+ghost use Rattle.std.specs.Prelude.{◌≡◌, ◌==◌, ◌+◌, ◌-◌, ◌<◌, ◌≤◌, ◌++◌, ◌∷◌, [], length, max, position, remove, drop, take, slice_get, option_copied, option_map, is_some, None, Some, IsSome, IsTrue, IsFalse, IsErrOf, ◌↔◌, OnOk, OnErr, IfOk, IfErr, IfSome, IfNone};
 ghost use Rattle.std.specs.List.{IsDistinct};
 ghost use Rattle.std.specs.Map.{keys_of};
 ghost use Rattle.std.specs.Map.Iter.{TakesFirst, deref_pair};
 ghost use Rattle.std.specs.Iterator.{at_most, UpTo};
 ghost use Rattle.std.specs.Iterator.SizeHint.{IsWithinCount};
+ghost use Rattle.std.specs.Borrow.{sem};
+ghost use Rattle.std.specs.Option.{option_copied_mut};
 ghost use Rattle.linked_hash_map.specs.Pairs.{find, value_at, without, to_back};
+ghost use Rattle.linked_hash_map.specs.Places.{IsPlace};
 
 use std::alloc::Global;
 use std::hash::{BuildHasher, BuildHasherDefault, FoldHasher, Hash};
 use std::iter::FusedIterator;
 use std::marker::Model;
-use std::slice;
+use std::ops::{Index, IndexMut};
+use std::{mem, slice};
 
 /// The most pairs that a map can have room for: 2^59.
 pub const LIMIT: usize = 576460752303423488;
@@ -27,6 +31,19 @@ pub struct Refused<K, V> {
     /// The value that was handed in.
     pub value: V,
 }
+
+/// The error of a call that reserves room.
+#[derive(Debug, PartialEq, Drop)]
+pub enum ReserveError {
+    /// The capacity would be above [`LIMIT`].
+    TooLarge = 1,
+    /// A growth was refused.
+    NoRoom = 2,
+}
+
+/// The error of a call whose growth was refused.
+#[derive(Debug, PartialEq, Drop)]
+pub struct NoRoom;
 
 /// A hash map that keeps its pairs in insertion order.
 #[derive(Drop)]
@@ -51,37 +68,11 @@ impl<K: Eq + Hash, V, S: BuildHasher> Model for LinkedHashMap<K, V, S> {
     ghost invariant = { λ m. AreColumns K.eq m.keys.items m.values.items m.capacity (vec_capacity m.keys) (vec_capacity m.values) };
 }
 
-/// The place of a key, if it is there.
+/// Returns the place of a key.
 fn place_of<K: Eq>(keys: &[K], key: &K) -> Option<usize>
     ensures { result ≡ position (K.eq key.now) keys.now }
 {
     keys.iter().position(|stored| key == stored)
-}
-
-/// Makes room for one more key and value: at full capacity by raising it by one, if there is memory.
-fn make_room<K, V>(keys: &mut Vec<K>, values: &mut Vec<V>, capacity: &mut usize) -> bool
-    requires paired { vec_len values.old ≡ vec_len keys.old }
-    requires within { vec_len keys.old ≤ capacity.old }
-    requires room_of_keys { capacity.old ≤ vec_capacity keys.old }
-    requires room_of_values { capacity.old ≤ vec_capacity values.old }
-    requires limit { capacity.old ≤ LIMIT }
-    ensures keys { keys.new.items ≡ keys.old.items }
-    ensures values { values.new.items ≡ values.old.items }
-    ensures made { IsTrue result → capacity.new ≡ max capacity.old (vec_len keys.old + 1) }
-    ensures refused { IsFalse result → capacity.new ≡ capacity.old }
-    ensures full { IsFalse result → vec_len keys.old ≡ capacity.old }
-    ensures room_of_keys { capacity.new ≤ vec_capacity keys.new }
-    ensures room_of_values { capacity.new ≤ vec_capacity values.new }
-    ensures limit { capacity.new ≤ LIMIT }
-{
-    if keys.len() < *capacity {
-        return true;
-    }
-    if *capacity == LIMIT || keys.reserve_exact(1).is_err() || values.reserve_exact(1).is_err() {
-        return false;
-    }
-    *capacity += 1;
-    true
 }
 
 impl<K: Eq + Hash, V> LinkedHashMap<K, V> {
@@ -92,16 +83,137 @@ impl<K: Eq + Hash, V> LinkedHashMap<K, V> {
         ensures pairs { result.pairs ≡ [] }
         ensures capacity { result.capacity ≡ 0 }
     {
-        LinkedHashMap {
-            keys: Vec::new(alloc),
-            values: Vec::new(alloc),
-            capacity: 0,
-            hasher: BuildHasherDefault::new(),
-        }
+        Self::with_hasher(alloc, BuildHasherDefault::new())
+    }
+
+    /// Makes an empty map of exactly the given capacity with the default hasher, whose seed is fixed.
+    ///
+    /// It takes memory for the whole capacity, and none for capacity 0. It is refused as `TooLarge` exactly where the
+    /// capacity is above [`LIMIT`], and as `NoRoom` where a growth is refused.
+    pub fn with_capacity(alloc: Global, capacity: usize) -> Result<Self, ReserveError>
+        ensures pairs { IfOk result (λ map. map.pairs ≡ []) }
+        ensures capacity { IfOk result (λ map. map.capacity ≡ capacity) }
+        ensures within { OnOk result (capacity ≤ LIMIT) }
+        ensures too_large { IsErrOf result ReserveError.TooLarge ↔ (LIMIT < capacity) }
+        ensures no_room { IsErrOf result ReserveError.NoRoom → 0 < capacity }
+        ensures no_room_within { IsErrOf result ReserveError.NoRoom → capacity ≤ LIMIT }
+    {
+        Self::with_capacity_and_hasher(alloc, capacity, BuildHasherDefault::new())
     }
 }
 
 impl<K: Eq + Hash, V, S: BuildHasher> LinkedHashMap<K, V, S> {
+    ghost use Rattle.linked_hash_map.specs.Lends.{lends_value, lends_refreshed};
+
+    /// Makes an empty map of capacity 0 with the given hasher.
+    ///
+    /// It takes no memory. Later growths are asked of `alloc`.
+    pub fn with_hasher(alloc: Global, hasher: S) -> Self
+        ensures pairs { result.pairs ≡ [] }
+        ensures capacity { result.capacity ≡ 0 }
+        ensures hasher { result.hasher ≡ hasher }
+    {
+        LinkedHashMap {
+            keys: Vec::new(alloc),
+            values: Vec::new(alloc),
+            capacity: 0,
+            hasher,
+        }
+    }
+
+    /// Makes an empty map of exactly the given capacity with the given hasher.
+    ///
+    /// It takes memory for the whole capacity, and none for capacity 0. It is refused as `TooLarge` exactly where the
+    /// capacity is above [`LIMIT`], and as `NoRoom` where a growth is refused; the hasher is dropped then.
+    pub fn with_capacity_and_hasher(
+        alloc: Global,
+        capacity: usize,
+        hasher: S,
+    ) -> Result<Self, ReserveError>
+    where
+        S: Drop,
+        ensures pairs { IfOk result (λ map. map.pairs ≡ []) }
+        ensures capacity { IfOk result (λ map. map.capacity ≡ capacity) }
+        ensures hasher { IfOk result (λ map. map.hasher ≡ hasher) }
+        ensures within { OnOk result (capacity ≤ LIMIT) }
+        ensures too_large { IsErrOf result ReserveError.TooLarge ↔ (LIMIT < capacity) }
+        ensures no_room { IsErrOf result ReserveError.NoRoom → 0 < capacity }
+        ensures no_room_within { IsErrOf result ReserveError.NoRoom → capacity ≤ LIMIT }
+    {
+        if capacity > LIMIT {
+            return Err(ReserveError::TooLarge);
+        }
+        let Ok(keys) = Vec::with_capacity(alloc, capacity) else {
+            return Err(ReserveError::NoRoom);
+        };
+        let Ok(values) = Vec::with_capacity(alloc, capacity) else {
+            keys.destroy_empty();
+            return Err(ReserveError::NoRoom);
+        };
+        Ok(LinkedHashMap {
+            keys,
+            values,
+            capacity,
+            hasher,
+        })
+    }
+
+    /// Makes room for at least `additional` more pairs: the capacity becomes exactly the larger of what it is and the
+    /// number of pairs and `additional` together.
+    ///
+    /// Within the capacity it takes no memory and is never refused. It is refused as `TooLarge` exactly where that sum,
+    /// as a whole number, is above [`LIMIT`], and as `NoRoom` where a growth is refused; then nothing is changed.
+    pub fn reserve(&mut self, additional: usize) -> Result<(), ReserveError>
+        ensures pairs { self.new.pairs ≡ self.old.pairs }
+        ensures hasher { self.new.hasher ≡ self.old.hasher }
+        ensures capacity { OnOk result
+            (self.new.capacity ≡ max self.old.capacity (length self.old.pairs + additional)) }
+        ensures within { OnOk result (length self.old.pairs + additional ≤ LIMIT) }
+
+        ensures unchanged { OnErr result (self.new ≡ self.old) }
+        ensures too_large { IsErrOf result ReserveError.TooLarge ↔ (LIMIT < length self.old.pairs + additional) }
+        ensures no_room { IsErrOf result ReserveError.NoRoom →
+            self.old.capacity < length self.old.pairs + additional }
+        ensures no_room_within { IsErrOf result ReserveError.NoRoom →
+            length self.old.pairs + additional ≤ LIMIT }
+    {
+        let len = self.keys.len();
+        if additional > LIMIT - len {
+            return Err(ReserveError::TooLarge);
+        }
+        if len + additional <= self.capacity {
+            return Ok(());
+        }
+        if self.keys.reserve_exact(additional).is_err()
+            || self.values.reserve_exact(additional).is_err()
+        {
+            return Err(ReserveError::NoRoom);
+        }
+        self.capacity = len + additional;
+        Ok(())
+    }
+
+    /// Lowers the capacity to exactly the number of pairs.
+    ///
+    /// On an empty map, and where the capacity is the number of pairs already, it takes no memory and is never refused;
+    /// an empty map gives all its memory back. A refusal changes nothing. It leaves every place.
+    pub fn shrink_to_fit(&mut self) -> Result<(), NoRoom>
+        ensures pairs { self.new.pairs ≡ self.old.pairs }
+        ensures hasher { self.new.hasher ≡ self.old.hasher }
+        ensures capacity { OnOk result (self.new.capacity ≡ length self.old.pairs) }
+
+        ensures unchanged { OnErr result (self.new ≡ self.old) }
+        ensures some { OnErr result (0 < length self.old.pairs) }
+        ensures spare { OnErr result (length self.old.pairs < self.old.capacity) }
+    {
+        if self.keys.len() < self.capacity {
+            self.keys.shrink_to_fit();
+            self.values.shrink_to_fit();
+            self.capacity = self.keys.len();
+        }
+        Ok(())
+    }
+
     /// Puts a pair at the back.
     ///
     /// A key that is present keeps its stored key and gets the new value, its pair moves to the back, `key` is dropped
@@ -122,23 +234,29 @@ impl<K: Eq + Hash, V, S: BuildHasher> LinkedHashMap<K, V, S> {
         ensures absent { OnErr result (find K.eq self.old.pairs key ≡ None) }
         ensures full { OnErr result (length self.old.pairs ≡ self.old.capacity) }
     {
-        match place_of(&self.keys, &key) {
+        match self.find(&key) {
             Some(place) => {
-                let stored = self.keys.remove(place);
-                let old = self.values.remove(place);
-                self.keys.push_reserved(stored);
-                self.values.push_reserved(value);
+                let (stored, old) = self.take_out(place);
+                self.push_back(stored, value);
                 Ok(Some(old))
             }
             None => {
-                if !make_room(&mut self.keys, &mut self.values, &mut self.capacity) {
+                if !self.make_room() {
                     return Err(Refused { key, value });
                 }
-                self.keys.push_reserved(key);
-                self.values.push_reserved(value);
+                self.push_back(key, value);
                 Ok(None)
             }
         }
+    }
+
+    /// Tells whether a key is present.
+    ///
+    /// It takes no memory and leaves every place.
+    pub fn contains_key(&self, key: &K) -> bool
+        ensures { result ≡ is_some (find K.eq self.now.pairs key.now) }
+    {
+        self.find(key).is_some()
     }
 
     /// Returns the value of a key, or `None` where the key is absent.
@@ -147,8 +265,40 @@ impl<K: Eq + Hash, V, S: BuildHasher> LinkedHashMap<K, V, S> {
     pub fn get(&self, key: &K) -> Option<&V>
         ensures { option_copied result ≡ value_at K.eq self.now.pairs key.now }
     {
-        match place_of(&self.keys, key) {
-            Some(place) => Some(&self.values[place]),
+        match self.find(key) {
+            Some(place) => Some(self.pair_at(place).1),
+            None => None,
+        }
+    }
+
+    /// Lends the value of a key for writing, or returns `None` where the key is absent.
+    ///
+    /// What is written becomes the value of that pair. It takes no memory and leaves every place.
+    pub fn get_mut(&mut self, key: &K) -> Option<&mut V>
+        ensures* writes_back { sem 𝓛 (lends_value K.row V.row S.row S.Hasher.row K.Hash S.BuildHasher S.Hasher.Hasher self.entry key.now result) }
+        ensures value { option_copied_mut result ≡ value_at K.eq self.old.pairs key.now }
+    {
+        match self.find(key) {
+            Some(place) => Some(self.value_mut_at(place)),
+            None => None,
+        }
+    }
+
+    /// Moves the pair of a key to the back and lends its value for writing, or returns `None` where the key is absent
+    /// and changes nothing.
+    ///
+    /// It takes no memory.
+    pub fn get_refresh(&mut self, key: &K) -> Option<&mut V>
+        ensures* writes_back { sem 𝓛 (lends_refreshed K.row V.row S.row S.Hasher.row K.Hash S.BuildHasher S.Hasher.Hasher self.entry key.now result) }
+        ensures value { option_copied_mut result ≡ value_at K.eq self.old.pairs key.now }
+    {
+        match self.find(key) {
+            Some(place) => {
+                let (stored, value) = self.take_out(place);
+                let last = self.len();
+                self.push_back(stored, value);
+                Some(self.value_mut_at(last))
+            }
             None => None,
         }
     }
@@ -165,13 +315,77 @@ impl<K: Eq + Hash, V, S: BuildHasher> LinkedHashMap<K, V, S> {
         ensures capacity { self.new.capacity ≡ self.old.capacity }
         ensures hasher { self.new.hasher ≡ self.old.hasher }
     {
-        match place_of(&self.keys, key) {
+        match self.find(key) {
             Some(place) => {
-                let _stored = self.keys.remove(place);
-                Some(self.values.remove(place))
+                let (_stored, value) = self.take_out(place);
+                Some(value)
             }
             None => None,
         }
+    }
+
+    /// Returns the number of pairs that the map has room for: up to it, an insertion takes no memory and is never
+    /// refused.
+    pub fn capacity(&self) -> usize
+        ensures capacity { result ≡ self.now.capacity }
+        ensures limit { self.now.capacity ≤ LIMIT }
+    {
+        self.capacity
+    }
+
+    /// Takes out the pair at the oldest place, or returns `None` on an empty map.
+    ///
+    /// The key is the stored one. It takes no memory, and the capacity stays.
+    pub fn pop_front(&mut self) -> Option<(K, V)>
+        ensures pair { result ≡ slice_get self.old.pairs 0 }
+        ensures pairs { self.new.pairs ≡ drop 1 self.old.pairs }
+        ensures capacity { self.new.capacity ≡ self.old.capacity }
+        ensures hasher { self.new.hasher ≡ self.old.hasher }
+    {
+        if self.is_empty() {
+            return None;
+        }
+        Some(self.take_out(0))
+    }
+
+    /// Lends the pair at the oldest place, or returns `None` on an empty map.
+    ///
+    /// The key is the stored one. It takes no memory.
+    pub fn front(&self) -> Option<(&K, &V)>
+        ensures { option_map deref_pair result ≡ slice_get self.now.pairs 0 }
+    {
+        if self.is_empty() {
+            return None;
+        }
+        Some(self.pair_at(0))
+    }
+
+    /// Takes out the pair at the newest place, or returns `None` on an empty map.
+    ///
+    /// The key is the stored one. It takes no memory, and the capacity stays.
+    pub fn pop_back(&mut self) -> Option<(K, V)>
+        ensures pair { result ≡ slice_get self.old.pairs (length self.old.pairs - 1) }
+        ensures pairs { self.new.pairs ≡ take (length self.old.pairs - 1) self.old.pairs }
+        ensures capacity { self.new.capacity ≡ self.old.capacity }
+        ensures hasher { self.new.hasher ≡ self.old.hasher }
+    {
+        if self.is_empty() {
+            return None;
+        }
+        let last = self.len() - 1;
+        Some(self.take_out(last))
+    }
+
+    /// Lends the pair at the newest place, or returns `None` on an empty map.
+    ///
+    /// The key is the stored one. It takes no memory.
+    pub fn back(&self) -> Option<(&K, &V)>
+        ensures { option_map deref_pair result ≡ slice_get self.now.pairs (length self.now.pairs - 1) }
+    {
+        if self.is_empty() {
+            return None;
+        }
+        Some(self.pair_at(self.len() - 1))
     }
 
     /// Returns the number of pairs.
@@ -183,13 +397,33 @@ impl<K: Eq + Hash, V, S: BuildHasher> LinkedHashMap<K, V, S> {
         self.keys.len()
     }
 
-    /// Returns the number of pairs that the map has room for: up to it, an insertion takes no memory and is never
-    /// refused.
-    pub fn capacity(&self) -> usize
-        ensures capacity { result ≡ self.now.capacity }
-        ensures limit { self.now.capacity ≤ LIMIT }
+    /// Tells whether the map has no pairs.
+    pub fn is_empty(&self) -> bool
+        ensures { result ≡ (length self.now.pairs == 0) }
     {
-        self.capacity
+        self.len() == 0
+    }
+
+    /// Lends the hasher.
+    pub fn hasher(&self) -> &S
+        ensures { result.now ≡ self.now.hasher }
+    {
+        &self.hasher
+    }
+
+    /// Drops all pairs and keeps the capacity.
+    ///
+    /// It takes no memory.
+    pub fn clear(&mut self)
+    where
+        K: Drop,
+        V: Drop,
+        ensures pairs { self.new.pairs ≡ [] }
+        ensures capacity { self.new.capacity ≡ self.old.capacity }
+        ensures hasher { self.new.hasher ≡ self.old.hasher }
+    {
+        self.keys.clear();
+        self.values.clear();
     }
 
     /// Returns an iterator over the pairs, from the oldest place to the newest.
@@ -211,6 +445,114 @@ impl<K: Eq + Hash, V, S: BuildHasher> LinkedHashMap<K, V, S> {
         ensures distinct { IsDistinct K.eq (keys_of self.now.pairs) }
     {
         *self.keys.allocator()
+    }
+}
+
+// The functions that know how the pairs are kept. All others call these.
+impl<K: Eq + Hash, V, S: BuildHasher> LinkedHashMap<K, V, S> {
+    ghost use Rattle.linked_hash_map.specs.Lends.{lends_at};
+
+    /// Returns the place of the pair of a key.
+    fn find(&self, key: &K) -> Option<usize>
+        ensures found { IfSome result (IsPlace K.eq self.now.pairs key.now) }
+        ensures absent { IfNone result (find K.eq self.now.pairs key.now ≡ None) }
+        ensures within { length self.now.pairs ≤ self.now.capacity }
+        ensures distinct { IsDistinct K.eq (keys_of self.now.pairs) }
+    {
+        place_of(&self.keys, key)
+    }
+
+    /// Lends the pair at a place.
+    fn pair_at(&self, place: usize) -> (&K, &V)
+        requires { place < length self.now.pairs }
+        ensures { slice_get self.now.pairs place ≡ Some (result.0.now, result.1.now) }
+    {
+        (&self.keys[place], &self.values[place])
+    }
+
+    /// Lends the value at a place for writing.
+    fn value_mut_at(&mut self, place: usize) -> &mut V
+        requires { place < length self.old.pairs }
+        ensures* writes_back { sem 𝓛 (lends_at K.row V.row S.row S.Hasher.row K.Hash S.BuildHasher S.Hasher.Hasher self.entry place result) }
+        ensures value { option_map (λ pair. pair.1) (slice_get self.old.pairs place) ≡ Some result.now }
+    {
+        &mut self.values[place]
+    }
+
+    /// Takes out the pair at a place.
+    fn take_out(&mut self, place: usize) -> (K, V)
+        requires { place < length self.old.pairs }
+        ensures pair { slice_get self.old.pairs place ≡ Some result }
+        ensures pairs { self.new.pairs ≡ remove self.old.pairs place }
+        ensures capacity { self.new.capacity ≡ self.old.capacity }
+        ensures hasher { self.new.hasher ≡ self.old.hasher }
+        ensures within { length self.old.pairs ≤ self.old.capacity }
+        ensures distinct { IsDistinct K.eq (keys_of self.old.pairs) }
+    {
+        let key = self.keys.remove(place);
+        (key, self.values.remove(place))
+    }
+
+    /// Puts a pair at the back, for which there is room. Its key is absent.
+    fn push_back(&mut self, key: K, value: V)
+        requires room { length self.old.pairs < self.old.capacity }
+        requires absent { find K.eq self.old.pairs key ≡ None }
+        ensures pairs { self.new.pairs ≡ self.old.pairs ++ (key, value) ∷ [] }
+        ensures capacity { self.new.capacity ≡ self.old.capacity }
+        ensures hasher { self.new.hasher ≡ self.old.hasher }
+    {
+        self.keys.push_reserved(key);
+        self.values.push_reserved(value);
+    }
+
+    /// Makes room for one more pair: at full capacity by raising it by one, if there is memory.
+    fn make_room(&mut self) -> bool
+        ensures pairs { self.new.pairs ≡ self.old.pairs }
+        ensures hasher { self.new.hasher ≡ self.old.hasher }
+        ensures made { IsTrue result → self.new.capacity ≡ max self.old.capacity (length self.old.pairs + 1) }
+        ensures refused { IsFalse result → self.new ≡ self.old }
+        ensures full { IsFalse result → length self.old.pairs ≡ self.old.capacity }
+    {
+        if self.keys.len() < self.capacity {
+            return true;
+        }
+        if self.capacity == LIMIT
+            || self.keys.reserve_exact(1).is_err()
+            || self.values.reserve_exact(1).is_err()
+        {
+            return false;
+        }
+        self.capacity += 1;
+        true
+    }
+}
+
+/// `map[&key]`, for a key that is present. Presence is the caller's condition; `get` is the test.
+impl<'q, K: Eq + Hash, V, S: BuildHasher> Index<&'q K> for LinkedHashMap<K, V, S> {
+    type Output = V;
+
+    ghost can_index = { λ m key. IsSome (find K.eq m.pairs key.now) };
+
+    ghost index_gives = { λ m key value. value_at K.eq m.pairs key.now ≡ Some value };
+
+    fn index(&self, key: &'q K) -> &V {
+        self.get(key).unwrap()
+    }
+}
+
+/// `map[&key] = value`, for a key that is present. Presence is the caller's condition; `get_mut` is the test.
+impl<'q, K: Eq + Hash, V, S: BuildHasher> IndexMut<&'q K> for LinkedHashMap<K, V, S> {
+    ghost use Rattle.linked_hash_map.specs.Lends.{lends_present};
+
+    fn index_mut(&mut self, key: &'q K) -> &mut V
+        requires { IsSome (find K.eq self.old.pairs key.now) }
+        ensures* writes_back { sem 𝓛 (lends_present K.row V.row S.row S.Hasher.row K.Hash S.BuildHasher S.Hasher.Hasher self.entry key.now result) }
+        ensures value { value_at K.eq self.old.pairs key.now ≡ Some result.now }
+    {
+        match self.find(key) {
+            Some(place) => self.value_mut_at(place),
+            None => unreachable!(),
+        }
     }
 }
 

@@ -5,19 +5,33 @@
 //! of each key's last insertion or refresh.
 ghost use Rattle.std.specs.Prelude.{◌≡◌, ℕ, [], IfOk, IfErr, OnErr, IsOk};
 ghost use Rattle.linked_hash_map.specs.Log.{Log, pairs, high, Defines};
-ghost use Rattle.linked_hash_map.specs.Requests.{Answers};
-ghost use Rattle.linked_hash_map.specs.Run.{request_of, response_of, log_after, first_log, last_log, IsReply, IsRun};
+ghost use Rattle.linked_hash_map.specs.Run.{log_after, first_log, last_log, Serves, IsReply, IsRun};
 
-use crate::map::LinkedHashMap;
+use crate::map::{LinkedHashMap, NoRoom, ReserveError};
 use std::hash::{BuildHasher, Hash};
+use std::mem;
 
 /// What a map is asked in a run.
 #[derive(Debug, PartialEq, Drop)]
 pub enum Command<K, V> {
-    /// Puts a pair at the back, as `insert` does.
+    /// Puts a pair at the back, as `insert` does: `New`, `Old` or `Refused`.
     Insert(K, V),
-    /// Takes out the pair of a key, as `remove` does.
+    /// Writes the value of a key in its place, as through `get_mut`: `Old` or `Absent`.
+    Write(K, V),
+    /// Moves the pair of a key to the back, as `get_refresh` does: `Found` or `Missing`.
+    Refresh(K),
+    /// Takes out the pair of a key, as `remove` does: `Old` or `Missing`.
     Remove(K),
+    /// Takes out the pair at the oldest place, as `pop_front` does: `Pair` or `Empty`.
+    PopFront,
+    /// Takes out the pair at the newest place, as `pop_back` does: `Pair` or `Empty`.
+    PopBack,
+    /// Drops all pairs, as `clear` does: `Done`.
+    Clear,
+    /// Makes room for more pairs, as `reserve` does: `Done`, `TooLarge` or `NoRoom`.
+    Reserve(usize),
+    /// Lowers the capacity to the number of pairs, as `shrink_to_fit` does: `Done` or `NoRoom`.
+    Shrink,
 }
 
 /// What a map answers to a command.
@@ -27,10 +41,24 @@ pub enum Answer<K, V> {
     New,
     /// The key was present, with this value.
     Old(V),
+    /// The key was present.
+    Found,
     /// The key is absent, and nothing changed.
     Missing,
-    /// The key was absent and found no room; this is the pair handed in, and nothing changed.
+    /// The key is absent, and nothing changed; this is the pair handed in.
+    Absent(K, V),
+    /// The key was absent and found no room, and nothing changed; this is the pair handed in.
     Refused(K, V),
+    /// The pair that was taken out, with its stored key.
+    Pair(K, V),
+    /// The map is empty, and nothing changed.
+    Empty,
+    /// The command was carried out.
+    Done,
+    /// The capacity would be above `LIMIT`, and nothing changed.
+    TooLarge,
+    /// A growth was refused, and nothing changed.
+    NoRoom,
 }
 
 /// An answer, and the length and the capacity of the map after it.
@@ -44,29 +72,138 @@ pub struct Reply<K, V> {
     pub capacity: usize,
 }
 
+/// Answers `Insert`.
+fn insert<K: Eq + Hash + Drop, V: Drop, S: BuildHasher>(
+    map: &mut LinkedHashMap<K, V, S>,
+    key: K,
+    value: V,
+) -> Answer<K, V>
+    ensures { Serves K.eq map.old map.new (Command.Insert key value) result }
+{
+    match map.insert(key, value) {
+        Ok(None) => Answer::New,
+        Ok(Some(old)) => Answer::Old(old),
+        Err(refused) => Answer::Refused(refused.key, refused.value),
+    }
+}
+
+/// Answers `Write`.
+fn write<K: Eq + Hash + Drop, V: Drop, S: BuildHasher>(
+    map: &mut LinkedHashMap<K, V, S>,
+    key: K,
+    value: V,
+) -> Answer<K, V>
+    ensures { Serves K.eq map.old map.new (Command.Write key value) result }
+{
+    match map.get_mut(&key) {
+        Some(old) => Answer::Old(mem::replace(old, value)),
+        None => Answer::Absent(key, value),
+    }
+}
+
+/// Answers `Refresh`.
+fn refresh<K: Eq + Hash + Drop, V: Drop, S: BuildHasher>(
+    map: &mut LinkedHashMap<K, V, S>,
+    key: K,
+) -> Answer<K, V>
+    ensures { Serves K.eq map.old map.new (Command.Refresh key) result }
+{
+    match map.get_refresh(&key) {
+        Some(_) => Answer::Found,
+        None => Answer::Missing,
+    }
+}
+
+/// Answers `Remove`.
+fn remove<K: Eq + Hash + Drop, V: Drop, S: BuildHasher>(
+    map: &mut LinkedHashMap<K, V, S>,
+    key: K,
+) -> Answer<K, V>
+    ensures { Serves K.eq map.old map.new (Command.Remove key) result }
+{
+    match map.remove(&key) {
+        Some(old) => Answer::Old(old),
+        None => Answer::Missing,
+    }
+}
+
+/// Answers `PopFront`.
+fn pop_front<K: Eq + Hash + Drop, V: Drop, S: BuildHasher>(
+    map: &mut LinkedHashMap<K, V, S>,
+) -> Answer<K, V>
+    ensures { Serves K.eq map.old map.new Command.PopFront result }
+{
+    match map.pop_front() {
+        Some((key, value)) => Answer::Pair(key, value),
+        None => Answer::Empty,
+    }
+}
+
+/// Answers `PopBack`.
+fn pop_back<K: Eq + Hash + Drop, V: Drop, S: BuildHasher>(
+    map: &mut LinkedHashMap<K, V, S>,
+) -> Answer<K, V>
+    ensures { Serves K.eq map.old map.new Command.PopBack result }
+{
+    match map.pop_back() {
+        Some((key, value)) => Answer::Pair(key, value),
+        None => Answer::Empty,
+    }
+}
+
+/// Answers `Clear`.
+fn clear<K: Eq + Hash + Drop, V: Drop, S: BuildHasher>(
+    map: &mut LinkedHashMap<K, V, S>,
+) -> Answer<K, V>
+    ensures { Serves K.eq map.old map.new Command.Clear result }
+{
+    map.clear();
+    Answer::Done
+}
+
+/// Answers `Reserve`.
+fn reserve<K: Eq + Hash + Drop, V: Drop, S: BuildHasher>(
+    map: &mut LinkedHashMap<K, V, S>,
+    additional: usize,
+) -> Answer<K, V>
+    ensures { Serves K.eq map.old map.new (Command.Reserve additional) result }
+{
+    match map.reserve(additional) {
+        Ok(()) => Answer::Done,
+        Err(ReserveError::TooLarge) => Answer::TooLarge,
+        Err(ReserveError::NoRoom) => Answer::NoRoom,
+    }
+}
+
+/// Answers `Shrink`.
+fn shrink<K: Eq + Hash + Drop, V: Drop, S: BuildHasher>(
+    map: &mut LinkedHashMap<K, V, S>,
+) -> Answer<K, V>
+    ensures { Serves K.eq map.old map.new Command.Shrink result }
+{
+    match map.shrink_to_fit() {
+        Ok(()) => Answer::Done,
+        Err(NoRoom) => Answer::NoRoom,
+    }
+}
+
 /// Runs one command.
 fn answer_to<K: Eq + Hash + Drop, V: Drop, S: BuildHasher>(
     map: &mut LinkedHashMap<K, V, S>,
     command: Command<K, V>,
 ) -> Answer<K, V>
-    // On every log that defines the map, the answer is one that the command has there, and its effects define the map
-    // after it.
-    ensures answers { (start : ℕ) (log : Log K V) → Defines K.eq start log map.old.pairs map.old.capacity →
-        Answers K.eq start log (request_of command) (response_of result) }
-    ensures defines { (start : ℕ) (log : Log K V) → Defines K.eq start log map.old.pairs map.old.capacity →
-        Defines K.eq start (log_after K.eq log command result) map.new.pairs map.new.capacity }
-    ensures hasher { map.new.hasher ≡ map.old.hasher }
+    ensures { Serves K.eq map.old map.new command result }
 {
     match command {
-        Command::Insert(key, value) => match map.insert(key, value) {
-            Ok(None) => Answer::New,
-            Ok(Some(old)) => Answer::Old(old),
-            Err(refused) => Answer::Refused(refused.key, refused.value),
-        },
-        Command::Remove(key) => match map.remove(&key) {
-            Some(old) => Answer::Old(old),
-            None => Answer::Missing,
-        },
+        Command::Insert(key, value) => insert(map, key, value),
+        Command::Write(key, value) => write(map, key, value),
+        Command::Refresh(key) => refresh(map, key),
+        Command::Remove(key) => remove(map, key),
+        Command::PopFront => pop_front(map),
+        Command::PopBack => pop_back(map),
+        Command::Clear => clear(map),
+        Command::Reserve(additional) => reserve(map, additional),
+        Command::Shrink => shrink(map),
     }
 }
 

@@ -2,7 +2,7 @@ use Rattle.std.proofs.Common.{ℕ, [], ◌∷◌}
 use Rattle.std.proofs.lemmas.Result.{err_from_is_err_and}
 use Rattle.lhm.specs.Grammar.{words_of}
 use Rattle.lhm.specs.Commands.{SpellNumbers}
-use Rattle.lhm.proofs.Words.{SpellNumbers-cons, SpellNumbers-rest, SpellNumbers-nil, StartWithNumber-first}
+use Rattle.lhm.proofs.Words.{SpellNumbers-cons, SpellNumbers-rest, StartWithNumber-first}
 use Rattle.lhm.proofs.parser.one_number.Goals as goal
 
 pub returns-in_err-n-clause-err : goal.returns-in_err-n-clause-err
@@ -12,11 +12,11 @@ returns-in_err-n-clause-err c =
     let first = StartWithNumber-first _ n [] spell in
     c.in_err-n.ensures.err n first.0 first.1)
 
-pub returns-in_err-expect_end-clause-err : goal.returns-in_err-expect_end-clause-err
-returns-in_err-expect_end-clause-err c =
-    let p = err_from_is_err_and c.from_residual-in_err-expect_end.result c.from_residual-in_err-expect_end.ensures.1 in
+pub returns-in_err-no_number-clause-err : goal.returns-in_err-no_number-clause-err
+returns-in_err-no_number-clause-err c =
+    let p = err_from_is_err_and c.from_residual-in_err-no_number.result c.from_residual-in_err-no_number.ensures.1 in
     rw p.1 (λ (n : ℕ) (spell : SpellNumbers (words_of c.args.rest.now) (n ∷ [])).
-    c.in_err-expect_end.ensures.err (SpellNumbers-nil _ (SpellNumbers-rest _ _ _ n [] c.in_ok-n.ensures.ok spell)))
+    c.in_err-no_number.ensures.err (SpellNumbers-rest _ _ _ n [] c.in_ok-n.ensures.ok spell))
 
 pub returns-clause-ok : goal.returns-clause-ok
-returns-clause-ok c = SpellNumbers-cons _ _ _ [] c.in_ok-n.ensures.ok (rw c.in_ok-expect_end.ensures.ok tt)
+returns-clause-ok c = SpellNumbers-cons _ _ _ [] c.in_ok-n.ensures.ok c.in_ok-no_number.ensures.ok

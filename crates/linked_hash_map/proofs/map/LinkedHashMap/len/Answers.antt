@@ -1,18 +1,13 @@
 use Rattle.std.proofs.Common.{sym, ◌∙◌}
-use Rattle.linked_hash_map.proofs.ColumnCalls.{keys_of-zip, length-columns}
+use Rattle.linked_hash_map.proofs.Columns.{length-columns, within-columns, distinct-columns}
 use Rattle.linked_hash_map.proofs.map.LinkedHashMap.len.Goals as goal
 
 pub returns-clause-len : goal.returns-clause-len
 returns-clause-len g c =
-    let m = c.self.inside in
-    rw (← c.self.view_is) (c.len.ensures ∙ m.keys.ok.0 ∙ sym (length-columns m.keys.items m.values.items c.self.invariant))
+    rw (← c.self.view_is) (c.len.ensures ∙ c.self.inside.keys.ok.0 ∙ sym (length-columns c.self.invariant))
 
 pub returns-clause-within : goal.returns-clause-within
-returns-clause-within g c =
-    let m = c.self.inside in
-    rw (← c.self.view_is, length-columns m.keys.items m.values.items c.self.invariant) c.self.invariant.within
+returns-clause-within g c = rw (← c.self.view_is) (within-columns c.self.invariant)
 
 pub returns-clause-distinct : goal.returns-clause-distinct
-returns-clause-distinct g c =
-    let m = c.self.inside in
-    rw (← c.self.view_is, keys_of-zip m.keys.items m.values.items c.self.invariant.paired) c.self.invariant.distinct
+returns-clause-distinct g c = rw (← c.self.view_is) (distinct-columns c.self.invariant)

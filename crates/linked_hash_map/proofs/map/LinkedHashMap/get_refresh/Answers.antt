@@ -1,0 +1,32 @@
+use Rattle.std.proofs.Common.{◌≡◌, inl, sym, ap, ◌∙◌, ◌++◌, ◌∷◌, [], Some, option_map, slice_get, length}
+use Rattle.linked_hash_map.specs.LinkedMap.{linked_map}
+use Rattle.linked_hash_map.specs.Pairs.{find, to_back}
+use Rattle.linked_hash_map.specs.Places.{set_value_at}
+use Rattle.linked_hash_map.proofs.Places.{find-remove, value_at-place, to_back-place, set_value_at-pushed, slice_get-pushed}
+use Rattle.linked_hash_map.proofs.map.LinkedHashMap.get_refresh.Goals as goal
+
+pub push_back-requires-clause-absent : goal.push_back-requires-clause-absent
+push_back-requires-clause-absent g c =
+    let taken = c.take_out-stored in
+    ap (λ pairs. find g.K.PartialEq.eq pairs taken.result.0) taken.ensures.pairs
+    ∙ find-remove g.met.K.Eq.laws c.args.self.now.pairs taken.ensures.distinct c.in-Some.place taken.result taken.ensures.pair
+
+pub returns-in-Some : goal.returns-in-Some
+returns-in-Some g c =
+    let found = c.in-Some.ensures in
+    let taken = c.take_out-stored in
+    let pushed = c.push_back in
+    let moved = λ (w : g.row.V.Denot).
+    set_value_at-pushed taken.new.self.pairs pushed.new.self.pairs (taken.result.0, taken.result.1) c.len-last.result pushed.ensures.pairs c.len-last.ensures.len w
+    ∙ ap (λ pairs. pairs ++ (taken.result.0, w) ∷ []) taken.ensures.pairs
+    ∙ sym (to_back-place g.met.K.Eq.laws found.distinct found.found taken.ensures.pair w) in
+    let lent = slice_get-pushed taken.new.self.pairs pushed.new.self.pairs (taken.result.0, taken.result.1) c.len-last.result pushed.ensures.pairs c.len-last.ensures.len in (
+      (λ i. inl (c.value_mut_at.result.ghost_name, λ w. linked_map (moved w i) ((pushed.ensures.capacity ∙ taken.ensures.capacity) i) ((pushed.ensures.hasher ∙ taken.ensures.hasher) i))),
+      record {
+        writes_back = tt;
+        value =
+            sym c.value_mut_at.ensures.value
+            ∙ ap (option_map (λ pair. pair.1)) lent
+            ∙ value_at-place g.met.K.Eq.laws found.distinct found.found taken.ensures.pair;
+      },
+    )

@@ -1,0 +1,32 @@
+use Rattle.std.proofs.Common.{sym, ap, ◌∙◌}
+use Rattle.linked_hash_map.proofs.Effects.{IsFull-held, IsAbsent-found, IsAbsent-value, HasValue-value, Defines-put, Defines-nothing}
+use Rattle.linked_hash_map.proofs.replay.insert.Goals as goal
+
+pub returns-in-Ok-None : goal.returns-in-Ok-None
+returns-in-Ok-None g c =
+    let done = c.in-Ok-None.ensures in
+    record {
+      answers = λ start log defines. IsAbsent-value g.met.K.Eq.laws defines c.args.key (sym done.old ∙ c.in-Ok-None.field-0-is);
+      defines = λ start log defines. Defines-put g.met.K.Eq.laws defines c.args.key c.args.value done.pairs done.capacity;
+      hasher = done.hasher;
+    }
+
+pub returns-in-Ok-Some : goal.returns-in-Ok-Some
+returns-in-Ok-Some g c =
+    let done = c.in-Ok-Some.ensures in
+    record {
+      answers = λ start log defines. HasValue-value g.met.K.Eq.laws defines c.args.key (sym done.old ∙ c.in-Ok-Some.field-0-is);
+      defines = λ start log defines. Defines-put g.met.K.Eq.laws defines c.args.key c.args.value done.pairs done.capacity;
+      hasher = done.hasher;
+    }
+
+pub returns-in-Err : goal.returns-in-Err
+returns-in-Err g c =
+    let refused = c.in-Err.ensures in
+    record {
+      answers = λ start log defines.
+          ((IsAbsent-found g.met.K.Eq.laws defines c.args.key refused.absent, IsFull-held g.met.K.Eq.laws defines refused.full), refused.key_back, refused.value_back);
+      defines = λ start log defines.
+          Defines-nothing g.met.K.Eq.laws defines (ap (λ m. m.pairs) refused.unchanged) (ap (λ m. m.capacity) refused.unchanged);
+      hasher = ap (λ m. m.hasher) refused.unchanged;
+    }

@@ -1,0 +1,11 @@
+use Rattle.linked_hash_map.proofs.Effects.{Defines-pop_front, slice_get-held}
+use Rattle.linked_hash_map.proofs.replay.pop_front.Goals as goal
+
+pub returns-in-Some : goal.returns-in-Some
+returns-in-Some g c =
+    let done = c.in-Some.ensures in
+    record {
+      answers = λ start log defines. slice_get-held g.met.K.Eq.laws defines 0 done.pair;
+      defines = λ start log defines. Defines-pop_front g.met.K.Eq.laws defines c.in-Some.key c.in-Some.value done.pair done.pairs done.capacity;
+      hasher = done.hasher;
+    }

@@ -1,0 +1,22 @@
+use Rattle.std.proofs.Common.{sym, ◌∙◌}
+use Rattle.linked_hash_map.proofs.Pairs.{without-absent}
+use Rattle.linked_hash_map.proofs.Effects.{IsAbsent-value, HasValue-value, Defines-remove, Defines-nothing}
+use Rattle.linked_hash_map.proofs.replay.remove.Goals as goal
+
+pub returns-in-Some : goal.returns-in-Some
+returns-in-Some g c =
+    let done = c.in-Some.ensures in
+    record {
+      answers = λ start log defines. HasValue-value g.met.K.Eq.laws defines c.args.key (sym done.value);
+      defines = λ start log defines. Defines-remove g.met.K.Eq.laws defines c.args.key done.pairs done.capacity;
+      hasher = done.hasher;
+    }
+
+pub returns : goal.returns
+returns g c =
+    let done = c.in-None.ensures in
+    record {
+      answers = λ start log defines. IsAbsent-value g.met.K.Eq.laws defines c.args.key (sym done.value);
+      defines = λ start log defines. Defines-nothing g.met.K.Eq.laws defines (done.pairs ∙ without-absent g.K.PartialEq.eq c.args.map.now.pairs c.args.key (sym done.value)) done.capacity;
+      hasher = done.hasher;
+    }

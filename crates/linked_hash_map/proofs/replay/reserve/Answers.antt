@@ -1,0 +1,41 @@
+use Rattle.std.proofs.Common.{◌≡◌, Err, ap, refl, arith}
+use Rattle.linked_hash_map.proofs.Effects.{size-held, Defines-reserve, Defines-nothing}
+use Rattle.linked_hash_map.proofs.replay.reserve.Goals as goal
+
+pub returns-in-Ok : goal.returns-in-Ok
+returns-in-Ok g c =
+    let done = c.in-Ok.ensures in
+    record {
+      answers = λ start log defines. let size_is = size-held g.met.K.Eq.laws defines in let within = done.within in omega arith;
+      defines = λ start log defines. Defines-reserve g.met.K.Eq.laws defines c.args.additional done.pairs done.capacity;
+      hasher = done.hasher;
+    }
+
+pub returns-in-Err-TooLarge : goal.returns-in-Err-TooLarge
+returns-in-Err-TooLarge g c =
+    let refused = c.in-Err-TooLarge.ensures in
+    record {
+      answers = λ start log defines.
+          let size_is = size-held g.met.K.Eq.laws defines in
+          let over = refused.too_large.0 (ap Err c.in-Err-TooLarge.field-0-is) in
+          omega arith;
+      defines = λ start log defines.
+          Defines-nothing g.met.K.Eq.laws defines (ap (λ m. m.pairs) refused.unchanged) (ap (λ m. m.capacity) refused.unchanged);
+      hasher = refused.hasher;
+    }
+
+pub returns-in-Err-NoRoom : goal.returns-in-Err-NoRoom
+returns-in-Err-NoRoom g c =
+    let refused = c.in-Err-NoRoom.ensures in
+    let told = ap Err c.in-Err-NoRoom.field-0-is in
+    record {
+      answers = λ start log defines.
+          let size_is = size-held g.met.K.Eq.laws defines in
+          let mark = defines.same_capacity in
+          let over = refused.no_room told in
+          let within = refused.no_room_within told in
+          (omega arith, omega arith);
+      defines = λ start log defines.
+          Defines-nothing g.met.K.Eq.laws defines (ap (λ m. m.pairs) refused.unchanged) (ap (λ m. m.capacity) refused.unchanged);
+      hasher = refused.hasher;
+    }

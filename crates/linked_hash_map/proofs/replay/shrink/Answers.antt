@@ -1,0 +1,27 @@
+use Rattle.std.proofs.Common.{◌≡◌, ap, arith}
+use Rattle.linked_hash_map.proofs.Effects.{size-held, Defines-shrink, Defines-nothing}
+use Rattle.linked_hash_map.proofs.replay.shrink.Goals as goal
+
+pub returns-in-Ok : goal.returns-in-Ok
+returns-in-Ok g c =
+    let done = c.in-Ok.ensures in
+    record {
+      answers = λ start log defines. tt;
+      defines = λ start log defines. Defines-shrink g.met.K.Eq.laws defines done.pairs done.capacity;
+      hasher = done.hasher;
+    }
+
+pub returns-in-Err : goal.returns-in-Err
+returns-in-Err g c =
+    let refused = c.in-Err.ensures in
+    record {
+      answers = λ start log defines.
+          let size_is = size-held g.met.K.Eq.laws defines in
+          let mark = defines.same_capacity in
+          let some = refused.some in
+          let spare = refused.spare in
+          (omega arith, omega arith);
+      defines = λ start log defines.
+          Defines-nothing g.met.K.Eq.laws defines (ap (λ m. m.pairs) refused.unchanged) (ap (λ m. m.capacity) refused.unchanged);
+      hasher = refused.hasher;
+    }

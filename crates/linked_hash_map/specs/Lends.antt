@@ -1,0 +1,32 @@
+-- What a map is once a reference into it has ended.
+use Rattle.std.specs.Prelude.{ℕ, Option}
+use Rattle.std.specs.Borrow.{Fml, RattleType, MutBor, Lends, LendsIf}
+use Rattle.std.specs.HashMap.Lent.{HashMembers}
+use Rattle.std.specs.declared.hash.Hasher as hasher
+use Rattle.std.specs.declared.hash.BuildHasher as builder
+use Rattle.linked_hash_map.specs.LinkedMap.{LinkedMap}
+use Rattle.linked_hash_map.specs.Pairs.{to_back, set_value}
+use Rattle.linked_hash_map.specs.Places.{set_value_at}
+use Rattle.linked_hash_map.specs.contracts.map.LinkedHashMap.{the_row}
+
+module _ (K V S H : RattleType) (key : HashMembers K.Denot) (build : builder.Ghosts S.Denot H.Denot) (hash : hasher.Ghosts H.Denot) where
+  -- the map's type, as the logic holds it
+  abbrev pub map_row : RattleType
+  map_row = the_row K V S H (record { eq = key.eq }) (record { hash_input = key.hash_input }) build hash
+
+  module _ (m : MutBor (LinkedMap K.Denot V.Denot S.Denot)) where
+    -- the value at the place is the last one written through the reference
+    abbrev pub lends_at : ℕ → MutBor V.Denot → Fml
+    lends_at place r = Lends map_row V m r (λ v. record m.now { pairs = set_value_at m.now.pairs place v })
+
+    -- the value of k, which is present, is the last one written through the reference
+    abbrev pub lends_present : K.Denot → MutBor V.Denot → Fml
+    lends_present k r = Lends map_row V m r (λ v. record m.now { pairs = set_value key.eq m.now.pairs k v })
+
+    -- the value of k is the last one written through the reference, and with no reference the map is as it was
+    abbrev pub lends_value : K.Denot → Option (MutBor V.Denot) → Fml
+    lends_value k r = LendsIf map_row V m r (λ v. record m.now { pairs = set_value key.eq m.now.pairs k v }) m.now
+
+    -- the same, with the pair of k at the back
+    abbrev pub lends_refreshed : K.Denot → Option (MutBor V.Denot) → Fml
+    lends_refreshed k r = LendsIf map_row V m r (λ v. record m.now { pairs = to_back key.eq m.now.pairs k v }) m.now
