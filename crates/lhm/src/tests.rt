@@ -287,27 +287,30 @@ struct Way(u8, &'static str, &'static str);
 
 const OUT_OF_MEMORY: Way = Way(3, "", "out of memory\n");
 
-/// Checks that one run over memory ends in one of the ways.
+/// Checks that one run over memory ends in one of the ways, and says so where it is the last, in which no growth is
+/// refused.
 ///
-/// The tests named `refused_` are for `rt try --test --fail-alloc N`, which refuses the Nth growth of each.
-fn check_ways(rt: &impl Abort, alloc: Global, input: &[u8], ways: &[Way]) {
+/// The tests named `refused_` run with the Nth growth refused, for each N, until all of them say so.
+fn check_ways(rt: &(impl Abort + Print), alloc: Global, input: &[u8], ways: &[Way]) {
     let mut reader = Source::new(input);
     let mut output = Sink::new();
     let mut faults = Sink::new();
     let status = run(alloc, &mut reader, &mut output, &mut faults);
     let mut found = false;
+    let mut is_last = false;
     for way in ways {
-        if status == way.0
+        is_last = status == way.0
             && output.text() == way.1.as_bytes()
-            && faults.text() == way.2.as_bytes()
-        {
-            found = true;
-        }
+            && faults.text() == way.2.as_bytes();
+        found = found || is_last;
     }
     assert!(rt;
         found,
         "a run ended with status {status} in no way that is allowed"
     );
+    if is_last {
+        let _ = println!(rt; "every growth was given");
+    }
 }
 
 #[test]

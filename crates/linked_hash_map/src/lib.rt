@@ -3,6 +3,9 @@
 //! A new key goes to the back. Inserting a key that is present replaces its value, keeps the stored key and moves the
 //! pair to the back. Capacity is exact: a map holds `capacity` pairs without taking memory, and only a new key at full
 //! capacity can be refused, with its key and value handed back and the map unchanged.
+//!
+//! This is a port of the Rust crate linked-hash-map 0.5.6, "the original" in what follows. Where a call differs from it, its
+//! documentation says so.
 #![tactic(auto)]
 
 mod map;

@@ -15,7 +15,7 @@ use std::hash::{BuildHasher, BuildHasherDefault, FoldHasher, Hash};
 use std::iter::FusedIterator;
 use std::marker::Model;
 use std::ops::{Index, IndexMut};
-use std::{mem, slice};
+use std::slice;
 
 /// The most pairs that a map can have room for: 2^59.
 pub const LIMIT: usize = 576460752303423488;
@@ -46,6 +46,10 @@ pub enum ReserveError {
 pub struct NoRoom;
 
 /// A hash map that keeps its pairs in insertion order.
+///
+/// The keys and the values stand in two vectors, and a key is looked for from the oldest place on. So a call that looks a
+/// key up or takes a pair out costs a step for each pair, and every other call a constant number of steps, but for a growth,
+/// which may move all pairs.
 #[derive(Drop)]
 pub struct LinkedHashMap<K: Eq + Hash, V, S: BuildHasher = DefaultHasher> {
     keys: Vec<K>,
@@ -78,7 +82,7 @@ fn place_of<K: Eq>(keys: &[K], key: &K) -> Option<usize>
 impl<K: Eq + Hash, V> LinkedHashMap<K, V> {
     /// Makes an empty map of capacity 0 with the default hasher, whose seed is fixed.
     ///
-    /// It takes no memory. Later growths are asked of `alloc`.
+    /// It takes no memory. Later growths are asked of `alloc`. The original takes no allocator, and its seed is random.
     pub fn new(alloc: Global) -> Self
         ensures pairs { result.pairs ≡ [] }
         ensures capacity { result.capacity ≡ 0 }
@@ -89,7 +93,8 @@ impl<K: Eq + Hash, V> LinkedHashMap<K, V> {
     /// Makes an empty map of exactly the given capacity with the default hasher, whose seed is fixed.
     ///
     /// It takes memory for the whole capacity, and none for capacity 0. It is refused as `TooLarge` exactly where the
-    /// capacity is above [`LIMIT`], and as `NoRoom` where a growth is refused.
+    /// capacity is above [`LIMIT`], and as `NoRoom` where a growth is refused. The original gives at least this capacity,
+    /// and ends the program where memory is refused.
     pub fn with_capacity(alloc: Global, capacity: usize) -> Result<Self, ReserveError>
         ensures pairs { IfOk result (λ map. map.pairs ≡ []) }
         ensures capacity { IfOk result (λ map. map.capacity ≡ capacity) }
@@ -107,7 +112,7 @@ impl<K: Eq + Hash, V, S: BuildHasher> LinkedHashMap<K, V, S> {
 
     /// Makes an empty map of capacity 0 with the given hasher.
     ///
-    /// It takes no memory. Later growths are asked of `alloc`.
+    /// It takes no memory. Later growths are asked of `alloc`, which the original does not take.
     pub fn with_hasher(alloc: Global, hasher: S) -> Self
         ensures pairs { result.pairs ≡ [] }
         ensures capacity { result.capacity ≡ 0 }
@@ -124,7 +129,8 @@ impl<K: Eq + Hash, V, S: BuildHasher> LinkedHashMap<K, V, S> {
     /// Makes an empty map of exactly the given capacity with the given hasher.
     ///
     /// It takes memory for the whole capacity, and none for capacity 0. It is refused as `TooLarge` exactly where the
-    /// capacity is above [`LIMIT`], and as `NoRoom` where a growth is refused; the hasher is dropped then.
+    /// capacity is above [`LIMIT`], and as `NoRoom` where a growth is refused; the hasher is dropped then. The original gives
+    /// at least this capacity, and ends the program where memory is refused.
     pub fn with_capacity_and_hasher(
         alloc: Global,
         capacity: usize,
@@ -162,7 +168,8 @@ impl<K: Eq + Hash, V, S: BuildHasher> LinkedHashMap<K, V, S> {
     /// number of pairs and `additional` together.
     ///
     /// Within the capacity it takes no memory and is never refused. It is refused as `TooLarge` exactly where that sum,
-    /// as a whole number, is above [`LIMIT`], and as `NoRoom` where a growth is refused; then nothing is changed.
+    /// as a whole number, is above [`LIMIT`], and as `NoRoom` where a growth is refused; then nothing is changed. No place
+    /// changes. The original may reserve more, and panics where the sum overflows.
     pub fn reserve(&mut self, additional: usize) -> Result<(), ReserveError>
         ensures pairs { self.new.pairs ≡ self.old.pairs }
         ensures hasher { self.new.hasher ≡ self.old.hasher }
@@ -196,7 +203,7 @@ impl<K: Eq + Hash, V, S: BuildHasher> LinkedHashMap<K, V, S> {
     /// Lowers the capacity to exactly the number of pairs.
     ///
     /// On an empty map, and where the capacity is the number of pairs already, it takes no memory and is never refused;
-    /// an empty map gives all its memory back. A refusal changes nothing. It leaves every place.
+    /// an empty map gives all its memory back. A refusal changes nothing. No place changes. The original may leave some space.
     pub fn shrink_to_fit(&mut self) -> Result<(), NoRoom>
         ensures pairs { self.new.pairs ≡ self.old.pairs }
         ensures hasher { self.new.hasher ≡ self.old.hasher }
@@ -219,7 +226,8 @@ impl<K: Eq + Hash, V, S: BuildHasher> LinkedHashMap<K, V, S> {
     /// A key that is present keeps its stored key and gets the new value, its pair moves to the back, `key` is dropped
     /// and the old value is returned; this takes no memory and is never refused. A new key below capacity takes no
     /// memory and is never refused either. A new key at full capacity raises the capacity by exactly one, or is
-    /// refused: then the error has this key and this value, and the map is unchanged.
+    /// refused: then the error has this key and this value, and the map is unchanged. The original answers no error, and may
+    /// take memory below its capacity.
     pub fn insert(&mut self, key: K, value: V) -> Result<Option<V>, Refused<K, V>>
     where
         K: Drop,
@@ -252,7 +260,7 @@ impl<K: Eq + Hash, V, S: BuildHasher> LinkedHashMap<K, V, S> {
 
     /// Tells whether a key is present.
     ///
-    /// It takes no memory and leaves every place.
+    /// It takes no memory and leaves every place. The original takes any borrowed form of the key.
     pub fn contains_key(&self, key: &K) -> bool
         ensures { result ≡ is_some (find K.eq self.now.pairs key.now) }
     {
@@ -261,7 +269,7 @@ impl<K: Eq + Hash, V, S: BuildHasher> LinkedHashMap<K, V, S> {
 
     /// Returns the value of a key, or `None` where the key is absent.
     ///
-    /// It takes no memory and leaves every place.
+    /// It takes no memory and leaves every place. The original takes any borrowed form of the key.
     pub fn get(&self, key: &K) -> Option<&V>
         ensures { option_copied result ≡ value_at K.eq self.now.pairs key.now }
     {
@@ -273,7 +281,8 @@ impl<K: Eq + Hash, V, S: BuildHasher> LinkedHashMap<K, V, S> {
 
     /// Lends the value of a key for writing, or returns `None` where the key is absent.
     ///
-    /// What is written becomes the value of that pair. It takes no memory and leaves every place.
+    /// What is written becomes the value of that pair. It takes no memory and leaves every place. The original takes any
+    /// borrowed form of the key.
     pub fn get_mut(&mut self, key: &K) -> Option<&mut V>
         ensures* writes_back { sem 𝓛 (lends_value K.row V.row S.row S.Hasher.row K.Hash S.BuildHasher S.Hasher.Hasher self.entry key.now result) }
         ensures value { option_copied_mut result ≡ value_at K.eq self.old.pairs key.now }
@@ -287,7 +296,7 @@ impl<K: Eq + Hash, V, S: BuildHasher> LinkedHashMap<K, V, S> {
     /// Moves the pair of a key to the back and lends its value for writing, or returns `None` where the key is absent
     /// and changes nothing.
     ///
-    /// It takes no memory.
+    /// It takes no memory. The original takes any borrowed form of the key.
     pub fn get_refresh(&mut self, key: &K) -> Option<&mut V>
         ensures* writes_back { sem 𝓛 (lends_refreshed K.row V.row S.row S.Hasher.row K.Hash S.BuildHasher S.Hasher.Hasher self.entry key.now result) }
         ensures value { option_copied_mut result ≡ value_at K.eq self.old.pairs key.now }
@@ -306,7 +315,8 @@ impl<K: Eq + Hash, V, S: BuildHasher> LinkedHashMap<K, V, S> {
     /// Takes out the pair of a key, drops the stored key and returns the value, or returns `None` where the key is
     /// absent.
     ///
-    /// All other pairs keep their order. It takes no memory, and the capacity stays.
+    /// All other pairs keep their order. It takes no memory, and the capacity stays. The original takes any borrowed form of
+    /// the key.
     pub fn remove(&mut self, key: &K) -> Option<V>
     where
         K: Drop,
@@ -335,7 +345,8 @@ impl<K: Eq + Hash, V, S: BuildHasher> LinkedHashMap<K, V, S> {
 
     /// Takes out the pair at the oldest place, or returns `None` on an empty map.
     ///
-    /// The key is the stored one. It takes no memory, and the capacity stays.
+    /// The key is the stored one, and all other pairs keep their order. It takes no memory, and the capacity stays, for which
+    /// the original gives memory back.
     pub fn pop_front(&mut self) -> Option<(K, V)>
         ensures pair { result ≡ slice_get self.old.pairs 0 }
         ensures pairs { self.new.pairs ≡ drop 1 self.old.pairs }
@@ -350,7 +361,7 @@ impl<K: Eq + Hash, V, S: BuildHasher> LinkedHashMap<K, V, S> {
 
     /// Lends the pair at the oldest place, or returns `None` on an empty map.
     ///
-    /// The key is the stored one. It takes no memory.
+    /// The key is the stored one. It takes no memory and leaves every place.
     pub fn front(&self) -> Option<(&K, &V)>
         ensures { option_map deref_pair result ≡ slice_get self.now.pairs 0 }
     {
@@ -362,7 +373,8 @@ impl<K: Eq + Hash, V, S: BuildHasher> LinkedHashMap<K, V, S> {
 
     /// Takes out the pair at the newest place, or returns `None` on an empty map.
     ///
-    /// The key is the stored one. It takes no memory, and the capacity stays.
+    /// The key is the stored one, and all other pairs keep their order. It takes no memory, and the capacity stays, for which
+    /// the original gives memory back.
     pub fn pop_back(&mut self) -> Option<(K, V)>
         ensures pair { result ≡ slice_get self.old.pairs (length self.old.pairs - 1) }
         ensures pairs { self.new.pairs ≡ take (length self.old.pairs - 1) self.old.pairs }
@@ -378,7 +390,7 @@ impl<K: Eq + Hash, V, S: BuildHasher> LinkedHashMap<K, V, S> {
 
     /// Lends the pair at the newest place, or returns `None` on an empty map.
     ///
-    /// The key is the stored one. It takes no memory.
+    /// The key is the stored one. It takes no memory and leaves every place.
     pub fn back(&self) -> Option<(&K, &V)>
         ensures { option_map deref_pair result ≡ slice_get self.now.pairs (length self.now.pairs - 1) }
     {
@@ -411,7 +423,7 @@ impl<K: Eq + Hash, V, S: BuildHasher> LinkedHashMap<K, V, S> {
         &self.hasher
     }
 
-    /// Drops all pairs and keeps the capacity.
+    /// Drops all pairs and keeps the capacity, for which the original gives memory back.
     ///
     /// It takes no memory.
     pub fn clear(&mut self)
@@ -428,7 +440,7 @@ impl<K: Eq + Hash, V, S: BuildHasher> LinkedHashMap<K, V, S> {
 
     /// Returns an iterator over the pairs, from the oldest place to the newest.
     ///
-    /// Neither the call nor a step of the iterator takes memory.
+    /// Neither the call nor a step of the iterator takes memory. It goes forwards only, unlike the original's.
     pub fn iter(&self) -> Iter<'_, K, V>
         ensures pairs { result ≡ self.now.pairs }
         ensures distinct { IsDistinct K.eq (keys_of self.now.pairs) }
@@ -527,7 +539,7 @@ impl<K: Eq + Hash, V, S: BuildHasher> LinkedHashMap<K, V, S> {
     }
 }
 
-/// `map[&key]`, for a key that is present. Presence is the caller's condition; `get` is the test.
+/// `map[&key]`, for a key that is present. Presence is the caller's condition, where the original panics; `get` is the test.
 impl<'q, K: Eq + Hash, V, S: BuildHasher> Index<&'q K> for LinkedHashMap<K, V, S> {
     type Output = V;
 
@@ -540,7 +552,8 @@ impl<'q, K: Eq + Hash, V, S: BuildHasher> Index<&'q K> for LinkedHashMap<K, V, S
     }
 }
 
-/// `map[&key] = value`, for a key that is present. Presence is the caller's condition; `get_mut` is the test.
+/// `map[&key] = value`, for a key that is present. Presence is the caller's condition, where the original panics; `get_mut`
+/// is the test.
 impl<'q, K: Eq + Hash, V, S: BuildHasher> IndexMut<&'q K> for LinkedHashMap<K, V, S> {
     ghost use Rattle.linked_hash_map.specs.Lends.{lends_present};
 
