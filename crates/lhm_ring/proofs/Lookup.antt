@@ -1,0 +1,75 @@
+-- A node that is found at a place cuts the list in two there.
+use Rattle.std.proofs.Common.{◌≡◌, true, false, cond, List, [], ◌∷◌, ◌++◌, Option, Some, None, refl, sym, ap, ◌∙◌}
+use denote.RawPtr.{Ptr}
+use Rattle.lhm_ring.specs.Cells.{Cell, IsApart, same_ptr, places, cell_at, links_of, body_of, links_at, body_at, change, without}
+use Rattle.std.specs.List.{IsDistinct}
+use Rattle.lhm_ring.proofs.Apart.{same_ptr_eq, IsFresh}
+
+pub none_some : {X : Type 0} (x : X) → None ≡ Some x → ⊥
+none_some x e = cc
+
+module _ {L B : Type 0} where
+  -- where the list is cut, and what a change or a removal there does
+  pub record Cut (cs : List (Cell L B)) (p : Ptr) : Type 0 where
+    pub before : List (Cell L B)
+    pub found : Cell L B
+    pub after : List (Cell L B)
+    pub whole : cs ≡ before ++ found ∷ after
+    pub at : found.at ≡ p
+    pub here : cell_at cs p ≡ Some found
+    pub changed : (f : Cell L B → Cell L B) → change p f cs ≡ before ++ f found ∷ after
+    pub taken : without p cs ≡ before ++ after
+
+  pub cut : (cs : List (Cell L B)) (p : Ptr) (l : L) → links_at cs p ≡ Some l → Cut cs p
+  unfolding cell_at change without
+  cut [] p l e = absurd (none_some l e)
+  cut (c ∷ cs) p l e =
+      (elim (same_ptr c.at p) as (λ y. same_ptr c.at p ≡ y → Cut (c ∷ cs) p) [
+        | true ↦ λ t. record {
+          before = [];
+          found = c;
+          after = cs;
+          whole = refl;
+          at = same_ptr_eq c.at p t;
+          here = ap (λ y. cond y (Some c) (cell_at cs p)) t;
+          changed = λ f. ap (λ y. cond y (f c ∷ cs) (c ∷ change p f cs)) t;
+          taken = ap (λ y. cond y cs (c ∷ without p cs)) t;
+        }
+        | false ↦ λ t. let on = cut cs p l (sym (ap (λ y. links_of (cond y (Some c) (cell_at cs p))) t) ∙ e) in record {
+          before = c ∷ on.before;
+          found = on.found;
+          after = on.after;
+          whole = ap (λ xs. c ∷ xs) on.whole;
+          at = on.at;
+          here = ap (λ y. cond y (Some c) (cell_at cs p)) t ∙ on.here;
+          changed = λ f. ap (λ y. cond y (f c ∷ cs) (c ∷ change p f cs)) t ∙ ap (λ xs. c ∷ xs) (on.changed f);
+          taken = ap (λ y. cond y cs (c ∷ without p cs)) t ∙ ap (λ xs. c ∷ xs) on.taken;
+        }
+      ]) refl
+
+  holds_at : (o : Option (Cell L B)) (b : B) → body_of o ≡ Some b → (c : Cell L B) × (o ≡ Some c)
+  holds_at None b e = absurd (none_some b e)
+  holds_at (Some c) b e = (c, refl)
+
+  -- where something is held
+  pub cut_held : (cs : List (Cell L B)) (p : Ptr) (b : B) → body_at cs p ≡ Some b → (k : Cut cs p) × (k.found.body ≡ Some b)
+  cut_held cs p b e =
+      let h = holds_at (cell_at cs p) b e in let k = cut cs p h.0.links (ap links_of h.1) in (k, sym (ap body_of k.here) ∙ e)
+
+  fresh_without : (q p : Ptr) (cs : List (Cell L B)) → IsFresh q (places cs) → IsFresh q (places (without p cs))
+  unfolding without
+  fresh_without q p [] h = tt
+  fresh_without q p (c ∷ cs) h =
+      elim (same_ptr c.at p) as (λ y. IsFresh q (places (cond y cs (c ∷ without p cs)))) [
+        | true ↦ h.1
+        | false ↦ (h.0, fresh_without q p cs h.1)
+      ]
+
+  pub apart_without : (p : Ptr) (cs : List (Cell L B)) → IsApart (places cs) → IsApart (places (without p cs))
+  unfolding without IsDistinct
+  apart_without p [] d = d
+  apart_without p (c ∷ cs) d =
+      elim (same_ptr c.at p) as (λ y. IsApart (places (cond y cs (c ∷ without p cs)))) [
+        | true ↦ d.1
+        | false ↦ (fresh_without c.at p cs d.0, apart_without p cs d.1)
+      ]

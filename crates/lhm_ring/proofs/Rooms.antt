@@ -1,0 +1,86 @@
+-- An empty block by value, and a place. Assumes `Logic`.
+use Rattle.std.proofs.Common.{◌≡◌, ℕ, ◌+◌, ◌<◌, true, false, List, [], ◌∷◌, ◌++◌, refl, ◌∙◌, subst, arith, T}
+use seplogic.Ra.Ura.{Ura}
+use base.Fraction.{full_share}
+use mir.Val.{Val, vstruct, vcons, vnil, of_list, has_ty, WT}
+use mir.Syntax.{ty_ptr, ty_struct, tcons, tnil}
+use mir.Raw.{raw as bare}
+use base.Logic.{SProp, ent, sep, emp, via, never, never_e, fst∗}
+use base.Fml.{Fml, fat, froom}
+use prog.Memory.{size}
+use prog.Model.{Model}
+use types.Logic.{Logic, sem}
+use contract.Monad.{fact, fact_i, fact_use}
+use types.Kit.{Item, Goal, Seq, mean, prop, ‵, raw, some, given, ◌⊛◌, ◌$◌, ◌∵◌, !, qed, by, move, keep, drop, use1, use2, pick, learn, split, fsplit, fpick, feq_l, done}
+use denote.RattleType.{RattleType}
+use denote.Memory.{part_at}
+use denote.Param.{layout}
+use denote.RawPtr.{Ptr, block_ptr, null_ptr, ptr_val, lies_at, room_for}
+use denote.Shadow.{makes_shadow}
+use denote.Struct.Struct.{Struct}
+use denote.Struct.Owning.{shape}
+use Rattle.std.specs.declared.alloc.Allocator.{Ghosts}
+use Rattle.std.proofs.RcSteps.{Good, word}
+use Rattle.lhm_ring.specs.Cells.{same_ptr, places}
+use Rattle.lhm_ring.specs.Ownership.{links_of, block_owns}
+use Rattle.lhm_ring.specs.contracts.block.Room as R-type
+use Rattle.lhm_ring.proofs.Apart.{same_ptr_eq, IsFresh}
+use Rattle.lhm_ring.proofs.Memory.{Three, RL, RK, RV, lo, Node, Pl, Cells, value_out}
+
+abbrev pub room_val : Ptr → Val
+room_val p = vstruct (vcons (ptr_val p) (vcons (vstruct vnil) vnil))
+
+pub room_Good : (p : Ptr) → T (has_ty (ty_struct [] (tcons ty_ptr (tcons (ty_struct [] tnil) tnil))) (room_val p)) × WT (room_val p)
+room_Good (block_ptr b o) = (tt, (tt, (tt, tt)))
+room_Good null_ptr = (tt, (record { fits = omega arith }, (tt, tt)))
+
+pub place_made : {M : Type 1} {𝓤 : Ura M} (𝓛 : Logic 𝓤) (p : Ptr) → ent 𝓤 (emp 𝓤) (sem 𝓛 (Pl.own_val (record { ptr = p }) (word p ∷ [])))
+place_made 𝓛 p = makes_shadow 𝓛 (Pl.own_val (record { ptr = p }) (word p ∷ [])) (λ vss. (tt, (tt, tt))) ((ptr_val p ∷ [], tt), (refl, (refl, tt)))
+
+module _ (R S W Z : RattleType) (g : Ghosts Z.Denot) where
+  abbrev pub Rm : RattleType
+  Rm = R-type.the_row R S W Z g
+
+  abbrev pub RmFields : RattleType
+  RmFields = Struct (shape (R-type.the_type R S W Z g))
+
+  pub room_made : {M : Type 1} {𝓤 : Ura M} (𝓛 : Logic 𝓤) (p : Ptr) → ent 𝓤 (emp 𝓤) (sem 𝓛 (RmFields.own_val (p, (record {}, tt)) (room_val p ∷ [])))
+  room_made 𝓛 p = makes_shadow 𝓛 (RmFields.own_val (p, (record {}, tt)) (room_val p ∷ [])) (λ vss. (tt, (tt, ((λ uss. (tt, tt)), tt))))
+      ((ptr_val p ∷ [], (vstruct vnil ∷ [], tt)), (refl, (refl, ((tt, (refl, tt)), tt))))
+
+  module _ {M : Type 1} {𝓤 : Ura M} {𝓛 : Logic 𝓤} {K : Type 0} {Γ : List (Item 𝓤)} {G : Goal 𝓤 𝓛.H} where
+    pub room_had : K → (r : Rm.Denot) (vs : List Val) → (vs ≡ room_val r.ptr ∷ [] → Seq K 𝓛 (‵ (block_owns R S W (g.dealloc_token r.alloc) r.ptr) ∷ Γ) G) → Seq K 𝓛 (‵ (Rm.own_val r vs) ∷ Γ) G
+    room_had t r vs k = fsplit t $ fpick t (λ vss. fsplit t $ feq_l t (λ ev. fsplit t $ feq_l t (λ ep. fsplit t $ fpick t (λ uss. fsplit t $ feq_l t (λ em. drop t $ drop t $
+        k (ev ∙ (λ i. vstruct (of_list (ep i ++ (em i ++ []))) ∷ [])))))))
+
+module _ {M : Type 1} {𝓤 : Ura M} {𝓛 : Logic 𝓤} {K : Type 0} {Γ : List (Item 𝓤)} {G : Goal 𝓤 𝓛.H} where
+  -- a fact that two entries show is learned, and they stay
+  pub knows : K → {i j : Item 𝓤} (φ : Type 0) → ent 𝓤 (sep 𝓤 (mean 𝓛 i) (mean 𝓛 j)) (fact 𝓤 φ) → (φ → Seq K 𝓛 (i ∷ j ∷ Γ) G) → Seq K 𝓛 (i ∷ j ∷ Γ) G
+  knows t {i} {j} φ h k =
+      let shown : Seq K 𝓛 (i ∷ j ∷ Γ) (prop (fact 𝓤 φ)) = use2 𝓛 (raw (fact 𝓤 φ)) h $ keep t (0 ∷ []) $ done t in
+      record { prf = fact_use 𝓤 φ shown.prf (λ x. (k x).prf) }
+
+-- room for links that take space lies apart from every node
+module _ {M : Type 1} {𝓤 : Ura M} (𝓛 : Logic 𝓤) (𝓜 : Model 𝓤 𝓛.H) (E : Three) (sized : 0 < size (layout E.links)) where
+  abbrev New : Ptr → Fml
+  New p = room_for (bare (layout E.links)) (links_of (RL E) (RK E) (RV E) p)
+
+  clash : (p : Ptr) (x : E.links.Denot) → ent 𝓤 (sep 𝓤 (sem 𝓛 (New p)) (sem 𝓛 (lies_at (RL E) full_share (links_of (RL E) (RK E) (RV E) p) x))) (never 𝓤)
+  clash (block_ptr b o) x = let at : ℕ = o + lo E in
+      qed 𝓛 (‵ (froom (bare (layout E.links)) b at) ∷ ‵ (part_at (RL E) full_share x b at) ∷ []) ∵ use1 𝓛 (‵ (froom (layout E.links) b at)) (𝓛.laws.raw-room (layout E.links) b at) $ move ! (1 ∷ []) $
+      use1 𝓛 (some (λ (v : Val). given (Good (layout E.links) v) (‵ (fat full_share (layout E.links) b at v) ⊛ ‵ (E.links.own_val x (v ∷ []))))) (value_out 0 E.links E.links_laws 𝓛 x b at) $ pick ! (λ v. learn ! (λ _. split ! $
+      keep ! (2 ∷ 0 ∷ []) $ by ! (𝓜.room_at (layout E.links) (layout E.links) b at at at full_share v (omega arith, omega arith) (omega arith, omega arith))))
+  clash null_ptr x = fst∗ 𝓤 (never 𝓤) (never 𝓤)
+
+  -- what cannot be owned at one pointer shows two
+  differ : (p q : Ptr) (F : Ptr → SProp 𝓤) → ent 𝓤 (F p) (never 𝓤) → ent 𝓤 (F q) (fact 𝓤 (same_ptr p q ≡ false))
+  differ p q F h = (elim (same_ptr p q) as (λ y. same_ptr p q ≡ y → ent 𝓤 (F q) (fact 𝓤 (same_ptr p q ≡ false))) [
+    | true ↦ λ e. via 𝓤 (never 𝓤) (subst (λ r. ent 𝓤 (F r) (never 𝓤)) (same_ptr_eq p q e) h) (never_e 𝓤 _)
+    | false ↦ λ e. fact_i 𝓤 (same_ptr p q ≡ false) (F q) e
+  ]) refl
+
+  pub fresh : (p : Ptr) (cs : List (Node E)) → ent 𝓤 (sep 𝓤 (sem 𝓛 (New p)) (sem 𝓛 (Cells E cs))) (fact 𝓤 (IsFresh p (places cs)))
+  fresh p [] = fact_i 𝓤 (IsFresh p []) _ tt
+  fresh p (c ∷ cs) = qed 𝓛 (‵ (New p) ∷ ‵ (Cells E (c ∷ cs)) ∷ []) ∵ move ! (1 ∷ []) $ fsplit ! $ fsplit ! $ move ! (3 ∷ 0 ∷ []) $
+      knows ! (same_ptr p c.at ≡ false) (differ p c.at (λ r. sep 𝓤 (sem 𝓛 (New p)) (sem 𝓛 (lies_at (RL E) full_share (links_of (RL E) (RK E) (RV E) r) c.links))) (clash p c.links)) (λ here.
+      move ! (0 ∷ 3 ∷ []) $ knows ! (IsFresh p (places cs)) (fresh p cs) (λ rest. by ! (fact_i 𝓤 (IsFresh p (c.at ∷ places cs)) _ (here, rest))))

@@ -1,0 +1,124 @@
+-- What a write of links changes, and what it leaves.
+use Rattle.std.proofs.Common.{◌≡◌, suc, Bool, true, false, cond, List, [], ◌∷◌, length, Option, Some, None, refl, sym, ap, ◌∙◌, subst}
+use denote.RawPtr.{Ptr}
+use Rattle.lhm_ring.specs.declared.block.Place.{Place}
+use Rattle.lhm_ring.specs.declared.links.Links.{Links}
+use Rattle.lhm_ring.specs.Cells.{Cell, cell, same_ptr, cell_at, links_of, body_of, links_at, body_at, IsAt, change, with_links}
+use Rattle.lhm_ring.specs.Rings.{next_had, prev_had, link_had, guard_had, there_had, is_there, content_had, content_at, IsJoined}
+use Rattle.lhm_ring.proofs.Apart.{same_ptr_eq}
+use Rattle.lhm_ring.proofs.Lookup.{none_some}
+
+pub cond-ap : {X Y : Type 0} (f : X → Y) (y : Bool) (u v : X) → f (cond y u v) ≡ cond y (f u) (f v)
+cond-ap f true u v = refl
+cond-ap f false u v = refl
+
+pub cond_same : {X : Type 0} (y : Bool) (u v : X) → (y ≡ true → u ≡ v) → cond y u v ≡ v
+cond_same true u v h = h refl
+cond_same false u v h = refl
+
+some_eq : {X : Type 0} (x y : X) → Some x ≡ Some y → x ≡ y
+some_eq x y e = cc
+
+-- two links that show the same of what a node holds
+abbrev pub ShowsSame : Links → Links → Type 0
+ShowsSame l la = (l.number ≡ la.number) × (l.guard ≡ la.guard) × (link_had (Some l) ≡ link_had (Some la))
+
+pub shown_same : {B : Type 0} (q : Ptr) (l la : Links) → ShowsSame l la → (b : Option B) → content_had q (Some l) b ≡ content_had q (Some la) b
+shown_same q l la h None = refl
+shown_same q l la h (Some x) = λ i. cond (h.1 i) None (Some (record { at = q; number = h.0 i; link = h.2 i; pair = x }))
+
+true_false : {X : Type 0} (y : Bool) → y ≡ true → y ≡ false → X
+true_false true e f = absurd cc
+true_false false e f = absurd cc
+
+module _ {L B : Type 0} (p : Ptr) (f : Cell L B → Cell L B) (same : (c : Cell L B) → (f c).at ≡ c.at) where
+  pub at_changed : (cs : List (Cell L B)) (c : Cell L B) → cell_at cs p ≡ Some c → cell_at (change p f cs) p ≡ Some (f c)
+  unfolding cell_at change
+  at_changed [] c e = absurd (none_some c e)
+  at_changed (d ∷ cs) c e =
+      (elim (same_ptr d.at p) as (λ y. same_ptr d.at p ≡ y → cond y (Some d) (cell_at cs p) ≡ Some c → cell_at (cond y (f d ∷ cs) (d ∷ change p f cs)) p ≡ Some (f c)) [
+        | true ↦ λ t h. ap (λ y. cond y (Some (f d)) (cell_at cs p)) (ap (λ q. same_ptr q p) (same d) ∙ t) ∙ ap (λ (z : Cell L B). Some (f z)) (some_eq d c h)
+        | false ↦ λ t h. ap (λ y. cond y (Some d) (cell_at (change p f cs) p)) t ∙ at_changed cs c h
+      ]) refl e
+
+  pub at_other : (q : Ptr) → same_ptr p q ≡ false → (cs : List (Cell L B)) → cell_at (change p f cs) q ≡ cell_at cs q
+  unfolding cell_at change
+  at_other q n [] = refl
+  at_other q n (d ∷ cs) =
+      (elim (same_ptr d.at p) as (λ y. same_ptr d.at p ≡ y → cell_at (cond y (f d ∷ cs) (d ∷ change p f cs)) q ≡ cond (same_ptr d.at q) (Some d) (cell_at cs q)) [
+        | true ↦ λ t. let far : same_ptr d.at q ≡ false = ap (λ r. same_ptr r q) (same_ptr_eq d.at p t) ∙ n in
+            ap (λ y. cond y (Some (f d)) (cell_at cs q)) (ap (λ r. same_ptr r q) (same d) ∙ far) ∙ sym (ap (λ y. cond y (Some d) (cell_at cs q)) far)
+        | false ↦ λ t. ap (λ o. cond (same_ptr d.at q) (Some d) o) (at_other q n cs)
+      ]) refl
+
+pub length-change : {L B : Type 0} (p : Ptr) (f : Cell L B → Cell L B) (cs : List (Cell L B)) → length (change p f cs) ≡ length cs
+unfolding change
+length-change p f [] = refl
+length-change p f (d ∷ cs) = elim (same_ptr d.at p) as (λ y. length (cond y (f d ∷ cs) (d ∷ change p f cs)) ≡ length (d ∷ cs)) [
+  | true ↦ refl
+  | false ↦ ap (λ n. suc n) (length-change p f cs)
+]
+
+module _ {B : Type 0} (p : Ptr) (l : Links) where
+  written : Cell Links B → Cell Links B
+  written c = cell c.at l c.body
+
+  pub links_seen : (o : Option (Cell Links B)) (la : Links) → links_of o ≡ Some la → (c : Cell Links B) × (o ≡ Some c)
+  links_seen None la e = absurd (none_some la e)
+  links_seen (Some c) la e = (c, refl)
+
+  pub links_set : (cs : List (Cell Links B)) (la : Links) → links_at cs p ≡ Some la → (q : Ptr) → links_at (with_links p l cs) q ≡ cond (same_ptr p q) (Some l) (links_at cs q)
+  links_set cs la e q =
+      let c = links_seen (cell_at cs p) la e in
+      (elim (same_ptr p q) as (λ y. same_ptr p q ≡ y → links_at (with_links p l cs) q ≡ cond y (Some l) (links_at cs q)) [
+        | true ↦ λ t. subst (λ r. links_at (with_links p l cs) r ≡ Some l) (same_ptr_eq p q t) (ap links_of (at_changed p (λ c. cell c.at l c.body) (λ c. refl) cs c.0 c.1))
+        | false ↦ λ n. ap links_of (at_other p (λ c. cell c.at l c.body) (λ c. refl) q n cs)
+      ]) refl
+
+  pub body_kept : (cs : List (Cell Links B)) (la : Links) → links_at cs p ≡ Some la → (q : Ptr) → body_at (with_links p l cs) q ≡ body_at cs q
+  body_kept cs la e q =
+      let c = links_seen (cell_at cs p) la e in
+      (elim (same_ptr p q) as (λ y. same_ptr p q ≡ y → body_at (with_links p l cs) q ≡ body_at cs q) [
+        | true ↦ λ t. subst (λ r. body_at (with_links p l cs) r ≡ body_at cs r) (same_ptr_eq p q t) (ap body_of (at_changed p (λ c. cell c.at l c.body) (λ c. refl) cs c.0 c.1) ∙ sym (ap body_of c.1))
+        | false ↦ λ n. ap body_of (at_other p (λ c. cell c.at l c.body) (λ c. refl) q n cs)
+      ]) refl
+
+  -- a reader of links
+  pub read_set : {X : Type 0} (f : Option Links → X) (cs : List (Cell Links B)) (la : Links) → links_at cs p ≡ Some la → (q : Ptr) → f (links_at (with_links p l cs) q) ≡ cond (same_ptr p q) (f (Some l)) (f (links_at cs q))
+  read_set f cs la e q = ap f (links_set cs la e q) ∙ cond-ap f (same_ptr p q) (Some l) (links_at cs q)
+
+  pub read_kept : {X : Type 0} (f : Option Links → X) (cs : List (Cell Links B)) (la : Links) → links_at cs p ≡ Some la → f (Some l) ≡ f (Some la) → (q : Ptr) → f (links_at (with_links p l cs) q) ≡ f (links_at cs q)
+  read_kept f cs la e h q = read_set f cs la e q ∙ cond_same (same_ptr p q) (f (Some l)) (f (links_at cs q)) (λ t. h ∙ sym (ap f e) ∙ ap (λ r. f (links_at cs r)) (same_ptr_eq p q t))
+
+  pub content_kept : (cs : List (Cell Links B)) (la : Links) → links_at cs p ≡ Some la → ShowsSame l la → (q : Ptr) → content_at (with_links p l cs) q ≡ content_at cs q
+  content_kept cs la e h q =
+      ap (λ b. content_had q (links_at (with_links p l cs) q) b) (body_kept cs la e q) ∙ read_kept (λ o. content_had q o (body_at cs q)) cs la e (shown_same q l la h (body_at cs q)) q
+
+there_is : (o : Option Links) → there_had o ≡ true → (l : Links) × (o ≡ Some l)
+there_is None e = absurd cc
+there_is (Some l) e = (l, refl)
+
+module _ {B : Type 0} where
+  pub is_at : (cs : List (Cell Links B)) (p : Ptr) → is_there cs p ≡ true → IsAt cs p
+  is_at cs p e = there_is (links_at cs p) e
+
+  pub is_still_at : (cs ds : List (Cell Links B)) (p : Ptr) (l la : Links) (q : Ptr) → links_at cs p ≡ Some la → ds ≡ with_links p l cs → is_there cs q ≡ true → IsAt ds q
+  is_still_at cs ds p l la q e d t = is_at ds q (ap (λ es. is_there es q) d ∙ read_kept p l there_had cs la e refl q ∙ t)
+
+  pub joined : (cs es ds : List (Cell Links B)) (a b : Place) (la lb : Links)
+      → links_at cs a.ptr ≡ Some la → es ≡ with_links a.ptr (record la { next = b }) cs
+      → links_at es b.ptr ≡ Some lb → ds ≡ with_links b.ptr (record lb { prev = a }) es → IsJoined cs ds a.ptr b.ptr
+  joined cs es ds a b la lb ea e1 eb e2 =
+      let l : Links = record la { next = b } in let m : Links = record lb { prev = a } in
+      let fs : List (Cell Links B) = with_links a.ptr l cs in
+      let ef : links_at fs b.ptr ≡ Some lb = sym (ap (λ zs. links_at zs b.ptr) e1) ∙ eb in
+      let made : IsJoined cs (with_links b.ptr m fs) a.ptr b.ptr = record {
+        next = λ q. read_kept b.ptr m next_had fs lb ef refl q ∙ read_set a.ptr l next_had cs la ea q;
+        prev = λ q. read_set b.ptr m prev_had fs lb ef q ∙ ap (λ r. cond (same_ptr b.ptr q) a.ptr r) (read_kept a.ptr l prev_had cs la ea refl q);
+        link = λ q. read_kept b.ptr m link_had fs lb ef refl q ∙ read_kept a.ptr l link_had cs la ea refl q;
+        guard = λ q. read_kept b.ptr m guard_had fs lb ef refl q ∙ read_kept a.ptr l guard_had cs la ea refl q;
+        content = λ q. content_kept b.ptr m fs lb ef (refl, refl, refl) q ∙ content_kept a.ptr l cs la ea (refl, refl, refl) q;
+        there = λ q. read_kept b.ptr m there_had fs lb ef refl q ∙ read_kept a.ptr l there_had cs la ea refl q;
+        count = length-change b.ptr (λ c. cell c.at m c.body) fs ∙ length-change a.ptr (λ c. cell c.at l c.body) cs;
+      } in
+      subst (λ zs. IsJoined cs zs a.ptr b.ptr) (sym (e2 ∙ ap (λ zs. with_links b.ptr m zs) e1)) made

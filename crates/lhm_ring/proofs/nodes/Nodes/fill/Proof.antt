@@ -1,0 +1,75 @@
+-- `fill` writes over what one node holds, or over the room for it. Assumes `Logic`.
+use Rattle.std.proofs.Common.{◌≡◌, ℕ, ◌+◌, List, [], ◌∷◌, ◌++◌, refl, sym, ap, ◌∙◌, subst, Some}
+use base.Fraction.{full_share}
+use mir.Val.{Val, vptr, vunit}
+use mir.MapTy.{inst_fn}
+use base.Logic.{SProp, ent, emp, never, id⊢}
+use base.Fml.{Fml, ftrue, fsep, froom, flft}
+use prog.Wp.{WpFn}
+use types.Kit.{◌∵◌, ‵, raw, ◌⊛◌, at_ret, ◌$◌, !, qed, by, move, keep, use0, use1, use2, split, join, fsplit, fsplit3, fjoin, fjoin3, suffices, rewrite, feq_i}
+use types.Run.{stop, fld, init, addr, unit_lit, of_opd, assigns, assigns_last, first, blocks, exec, returns, enter}
+use types.ByLocal.{alloc_all, pass_all, free_all, look_at, get, get_in, through, sets, is, env}
+use types.Part.{sub, whole}
+use contract.Running.{tables}
+use contract.Monad.{fact, fact_i}
+use denote.Exit.{yes, no}
+use denote.RattleType.{owns}
+use denote.Memory.{part_at}
+use denote.Param.{layout}
+use denote.Param.Laws.{param_laws}
+use denote.Signature.{types_at, plain}
+use denote.RawPtr.{Ptr, ptr_val, lies_at, in_a_block}
+use denote.Steps.{nothing, heard, opens, closes}
+use denote.Triple.Walked.{Stays, stay_dropped, stay_ref, walk_of, Goes-dropped, Goes-ref}
+use Rattle.std.proofs.VecSteps.Shapes.{after}
+use Rattle.std.proofs.RcSteps.{word, word-Good}
+use Rattle.std.proofs.raw_atomic.Walks.{proved_at, leaves}
+use Rattle.lhm_ring.specs.Cells.{cell, IsApart, IsAt, change, with_body, places-change}
+use Rattle.lhm_ring.specs.Ownership.{links_of, body_owns}
+use Rattle.lhm_ring.proofs.Lookup.{Cut, cut}
+use Rattle.lhm_ring.proofs.Memory.{Three, args, RL, RK, RV, ko, vo, Node, Nr, Pl, One, Cells, place_told, alone, body_room, cells_cut, cells_glue, value_in}
+use Rattle.lhm_ring.specs.contracts.nodes.Nodes.fill.{ended, clauses}
+use Rattle.lhm_ring.specs.contracts.nodes.Nodes.fill.Key.{name as #self}
+use Rattle.lhm_ring.proofs.nodes.Nodes.fill.Statement.{statement}
+use Rattle.lhm_ring.proofs.nodes.Nodes.fill.Code as code
+
+pub fill_spec : {M : Type 1} → statement M
+fill_spec 𝓤 𝓛 𝓜 𝓡 wired L K V LL LK LV =
+    let H = 𝓛.H in let 𝓣 = tables 𝓤 H 𝓜 𝓡 𝓡.env in let E : Three = record { links = L; links_laws = LL; key = K; key_laws = LK; value = V; value_laws = LV } in let N = Nr E in let R = RL E in let S = RK E in let W = RV E in
+    let En = ended L K V in let c = clauses L K V 𝓛 𝓜.mem 𝓡.returns in let fn = inst_fn (args E) code.function in
+    let hs : Stays En.signature.params En.kept = (stay_ref (0 ∷ []) tt (plain (λ _. N)), (stay_dropped (plain (λ _. Pl)) yes, (stay_dropped (plain (λ _. S)) no, (stay_dropped (plain (λ _. W)) no, tt)))) in
+    proved_at 𝓛 En hs c 𝓜 𝓡 (Goes-ref 𝓛 4 0 tt (plain (λ _. N)), (Goes-dropped 𝓛 4 (plain (λ _. Pl)) yes (λ κs x f. refl), (Goes-dropped 𝓛 4 (plain (λ _. S)) no (λ κs x f. refl), (Goes-dropped 𝓛 4 (plain (λ _. W)) no (λ κs x f. refl), tt))))
+    (#self (args E)) fn (code.unfolded 𝓤 H 𝓜 𝓡 wired (L, (K, (V, tt)))) (λ y are.
+    let κs = y.0.0 in let qs = y.0.1 in let a = y.0.3 in let vss = y.0.4 in let Post : Val → SProp 𝓤 = (walk_of 𝓛 En hs c).post y in
+    let rb : ℕ = a.0.ref_ptr.0 in let ro : ℕ = a.0.ref_ptr.1 in let h : N.Denot = a.0.now in let p : Ptr = a.1.0.ptr in
+    let others : Fml = fsep (flft κs.1.0 qs.1.0) (fsep (flft κs.1.1.0 qs.1.1.0) (fsep (flft κs.1.1.1.0 qs.1.1.1.0) ftrue)) in
+    let new : K.Denot = a.1.1.0 in let got = alone (layout K) vss.1.1.0 (((param_laws 1 K LK).lawful 𝓛).typed new vss.1.1.0 are.1.1.0) in let v : Val = got.0 in
+    let val : V.Denot = a.1.1.1.0 in let had = alone (layout V) vss.1.1.1.0 (((param_laws 2 V LV).lawful 𝓛).typed val vss.1.1.1.0 are.1.1.1.0) in let w : Val = had.0 in
+    let Asked : Type 0 = IsAt h.cells p in
+    qed 𝓛 (((‵ (flft κs.0 qs.0) ⊛ ‵ others) ⊛ ‵ (owns (types_at En.signature.params κs) a vss)) ∷ raw (fact 𝓤 _) ∷ raw (fact 𝓤 _) ∷ raw (fact 𝓤 _) ∷ raw (fact 𝓤 Asked) ∷ []) ∵
+    keep ! (4 ∷ 0 ∷ []) $ heard ! Asked (λ asked. split ! $ split ! $ move ! (2 ∷ []) $ fsplit3 ! $ fsplit3 ! $ move ! (4 ∷ []) $ fsplit3 ! $ keep ! (4 ∷ 5 ∷ 7 ∷ 0 ∷ 1 ∷ 8 ∷ []) $
+    rewrite ! 3 (λ (ws : List Val). ‵ (S.own_val new ws)) got.1.0 refl $ rewrite ! 4 (λ (ws : List Val). ‵ (W.own_val val ws)) had.1.0 refl $
+    let us : List Val = vptr rb ro ∷ word p ∷ v ∷ w ∷ [] in let Run : List Val → SProp 𝓤 = λ ws. WpFn 𝓤 H 𝓣.C 𝓣.Λ fn ws Post in
+    suffices ! (Run us) (subst (λ (ws : List Val). ent 𝓤 (Run us) (Run ws)) (sym (λ i. are.0.0 i ++ (place_told a.1.0 vss.1.0 are.1.0 i ++ (got.1.0 i ++ (had.1.0 i ++ []))))) (id⊢ 𝓤 (Run us))) $
+    enter ! 𝓣.C 𝓣.Λ fn us Post $ alloc_all ! (λ l. pass_all ! refl ((tt, tt), (word-Good [] p, (got.1.1, (had.1.1, tt)))) $ let Ev = env fn.locals l in
+    let k : Cut h.cells p = cut h.cells p asked.0 asked.1 in let f : Node E = k.found in let f' : Node E = cell f.at f.links (Some (new, val)) in
+    opens ! tt N {h = h} rb ro (λ vs. move ! (1 ∷ []) $ fsplit ! $ rewrite ! 1 (λ (cs : List (Node E)). ‵ (Cells E cs)) k.whole refl $ move ! (1 ∷ []) $
+    use1 𝓛 (‵ (One E f) ⊛ ‵ (Cells E (k.before ++ k.after))) (cells_cut 𝓛 E k.before f k.after) $ split ! $ fsplit ! $
+    in_a_block ! f.at (λ q. lies_at R full_share (links_of R S W q) f.links) (id⊢ 𝓤 (never 𝓤)) (λ pb po e.
+    rewrite ! 0 (λ (q : Ptr). ‵ (lies_at R full_share (links_of R S W q) f.links)) (sym e) refl $ move ! (1 ∷ []) $ fsplit ! $
+    rewrite ! 0 (λ (q : Ptr). ‵ (body_owns R S W q f.body)) e refl $ use1 𝓛 (‵ (froom (layout K) pb (po + ko E)) ⊛ ‵ (froom (layout V) pb (po + vo E))) (body_room 𝓛 E pb po f.body) $ split ! $
+    -- [room for the key; for the value; the deed; the links; the other nodes; the mark; its cell; the open borrow, in three; the new key; the new value; the other tokens]
+    sets ! (is ! (of_opd ! (get_in ! (fld ! refl (stop !)) (sub ! 0 refl (whole !)))) (ap ptr_val (sym k.at ∙ e))) refl (tt, tt) $ first ! $ blocks ! $
+    sets ! (addr ! (through ! refl (fld ! refl (stop !)))) refl (tt, tt) $ sets ! (of_opd ! (get ! refl)) refl got.1.1 $ assigns ! (of_opd ! (get ! refl)) (through ! refl (stop !)) (init ! 0 refl got.1.1) $ move ! (1 ∷ []) $
+    sets ! (addr ! (through ! refl (fld ! refl (stop !)))) refl (tt, tt) $ sets ! (of_opd ! (get ! refl)) refl had.1.1 $ assigns_last ! (of_opd ! (get ! refl)) (through ! refl (stop !)) (init ! 0 refl had.1.1) $
+    exec ! 𝓣.C 𝓣.Λ Ev (after 2 fn.body) (at_ret Ev Post) $ sets ! (of_opd ! (unit_lit !)) refl (tt, tt) $
+    move ! (0 ∷ 11 ∷ []) $ use2 𝓛 (‵ (part_at W full_share val pb (po + vo E))) (value_in 2 V LV 𝓛 val pb (po + vo E) w) $
+    move ! (1 ∷ 10 ∷ []) $ use2 𝓛 (‵ (part_at S full_share new pb (po + ko E))) (value_in 1 K LK 𝓛 new pb (po + ko E) v) $ fjoin ! $
+    rewrite ! 0 (λ (q : Ptr). ‵ (body_owns R S W q (Some (new, val)))) (sym e) refl $ fjoin ! $ move ! (1 ∷ 0 ∷ []) $ fjoin ! $
+    use2 𝓛 (‵ (Cells E (k.before ++ f' ∷ k.after))) (cells_glue 𝓛 E k.before f' k.after) $ rewrite ! 0 (λ (cs : List (Node E)). ‵ (Cells E cs)) (sym (k.changed (λ c. cell c.at c.links (Some (new, val))))) refl $
+    let h' : N.Denot = record { mark = h.mark; cells = change p (λ c. cell c.at c.links (Some (new, val))) h.cells; apart = subst IsApart (sym (places-change p (λ c. cell c.at c.links (Some (new, val))) (λ c. refl) h.cells)) h.apart } in
+    move ! (1 ∷ 0 ∷ []) $ fjoin ! $ move ! (1 ∷ 0 ∷ []) $ closes ! tt N h' vs rb ro $
+    feq_i ! (List Val) vss.0 (vptr rb ro ∷ []) are.0.0 $ fjoin3 ! $ nothing ! $ nothing ! $ fjoin ! $ nothing ! $ fjoin ! $ nothing ! $ fjoin ! $ move ! (1 ∷ 0 ∷ []) $ fjoin ! $ move ! (1 ∷ 2 ∷ []) $ join ! $
+    let Told : Type 0 = with_body p (Some (new, val)) h.cells ≡ with_body p (Some (new, val)) h.cells in
+    use0 𝓛 (raw (fact 𝓤 Told)) (fact_i 𝓤 Told (emp 𝓤) refl) $ feq_i ! (List Val) (vunit ∷ []) (vunit ∷ []) refl $
+    returns ! (look_at ! 0 refl) $ free_all ! refl $ keep ! (2 ∷ 3 ∷ 0 ∷ 1 ∷ []) $ by ! (leaves 𝓛 En hs c y vunit tt (h', (tt, (tt, (tt, tt)))) (tt, (tt, (tt, (tt, tt))))))))))

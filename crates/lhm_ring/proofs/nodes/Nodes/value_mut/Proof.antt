@@ -1,0 +1,100 @@
+-- `value_mut` lends the value that one node holds, and the nodes follow it. Assumes `Logic`.
+use Rattle.std.proofs.Common.{◌≡◌, ℕ, ◌+◌, List, [], ◌∷◌, ◌++◌, refl, sym, ap, ◌∙◌, subst, Some, Option}
+use base.Fraction.{full_share}
+use mir.Val.{Val, vptr}
+use mir.Syntax.{named}
+use mir.MapTy.{inst_fn}
+use base.Logic.{SProp, ent, emp, never, id⊢}
+use base.Fml.{Fml, Lft, ftrue, fsep, flft}
+use prog.Wp.{WpFn}
+use types.Logic.{sem}
+use types.Kit.{◌∵◌, ‵, raw, ◌⊛◌, some, later, at_ret, ◌$◌, !, qed, by, move, keep, use0, use1, use2, pick, await, group, split, split3, join, fsplit, fsplit3, fjoin, fjoin3, fpack, suffices, rewrite}
+use types.Run.{stop, fld, addr, of_opd, first, blocks, exec, returns, enter}
+use types.ByLocal.{alloc_all, pass_all, free_all, look_at, get, get_in, through, sets, sets_last, is, env}
+use types.Part.{sub, whole}
+use contract.Running.{tables}
+use seplogic.Ra.Ura.{Ura}
+use base.Logic.{sep}
+use types.Logic.{Logic}
+use types.Kit.{done}
+use denote.Memory.{mem, part_of, cell_at}
+use denote.Ref.{MutRef}
+use denote.Follow.{follows, Part, lends_Part}
+use denote.Signature.{mut_ref_to}
+use denote.Triple.Walked.{Goes-spent_ref}
+use Rattle.lhm_ring.specs.Lends.{holding, value_set}
+use contract.Monad.{fact, fact_i}
+use denote.Exit.{yes, no}
+use denote.RattleType.{owns}
+use denote.Memory.{part_at}
+use denote.Signature.{types_at, plain}
+use denote.RawPtr.{Ptr, block_ptr, ptr_val, lies_at, in_a_block}
+use denote.Ref.{MutBor}
+use denote.Steps.{nothing, heard, opens}
+use denote.Triple.Walked.{Stays, stay_dropped, walk_of, Goes-dropped}
+use Rattle.std.proofs.VecSteps.Shapes.{after}
+use Rattle.std.proofs.RcSteps.{word, word-Good}
+use Rattle.std.proofs.raw_atomic.Walks.{proved_at, leaves}
+use Rattle.lhm_ring.specs.Cells.{cell, Holds, IsValue, body_at}
+use Rattle.lhm_ring.specs.Ownership.{links_of, key_of, value_of, body_owns, deed_owns, chunk_token}
+use Rattle.lhm_ring.proofs.Lookup.{Cut, cut_held}
+use Rattle.lhm_ring.proofs.Memory.{Three, args, RL, RK, RV, vo, Node, Nr, Mark, Pl, One, Cells, place_told, cells_cut, cells_glue}
+use Rattle.lhm_ring.specs.contracts.nodes.Nodes.value_mut.{ended, clauses}
+use Rattle.lhm_ring.specs.contracts.nodes.Nodes.value_mut.Key.{name as #self}
+use Rattle.lhm_ring.proofs.nodes.Nodes.value_mut.Statement.{statement}
+use Rattle.lhm_ring.proofs.nodes.Nodes.value_mut.Code as code
+
+module _ (E : Three) {M : Type 1} {𝓤 : Ura M} (𝓛 : Logic 𝓤) (h : (Nr E).Denot) (p : Ptr) (k : Cut h.cells p) (x : E.key.Denot × E.value.Denot) (vs : List Val) (rb ro pb po : ℕ) where
+  -- all but the value
+  abbrev Rest : Fml
+  Rest = fsep (lies_at (RL E) full_share (links_of (RL E) (RK E) (RV E) k.found.at) k.found.links) (fsep (lies_at (RK E) full_share (key_of (RL E) (RK E) (RV E) k.found.at) x.0) (fsep (deed_owns (RL E) (RK E) (RV E) chunk_token k.found.at)
+      (fsep (Cells E (k.before ++ k.after)) (fsep ((Mark E).own_val (tt, tt) vs) (cell_at full_share (Nr E).mir vs rb ro)))))
+
+  back : k.found.at ≡ block_ptr pb po → body_at h.cells p ≡ Some x → (w : E.value.Denot) → ent 𝓤 (sep 𝓤 (sem 𝓛 ((mem (RV E)).own_at w pb (po + vo E))) (sem 𝓛 Rest)) (sem 𝓛 ((mem (Nr E)).own_at (holding h p w) rb ro))
+  unfolding part_of
+  back e is w =
+      let f : Node E = k.found in let f' : Node E = cell f.at f.links (value_set w (body_at h.cells p)) in
+      qed 𝓛 (‵ (part_at (RV E) full_share w pb (po + vo E)) ∷ ‵ Rest ∷ []) ∵ rewrite ! 0 (λ (q : Ptr). ‵ (lies_at (RV E) full_share (value_of (RL E) (RK E) (RV E) q) w)) (sym e) refl $
+      move ! (1 ∷ []) $ fsplit3 ! $ move ! (2 ∷ []) $ fsplit3 ! $ move ! (2 ∷ []) $ fsplit ! $
+      -- [the mark; its cell; the deed; the other nodes; the links; the key; the value]
+      move ! (5 ∷ 6 ∷ []) $ fjoin ! $ rewrite ! 0 (λ (o : Option (E.key.Denot × E.value.Denot)). ‵ (body_owns (RL E) (RK E) (RV E) f.at (value_set w o))) (sym is) refl $ move ! (0 ∷ 3 ∷ []) $ fjoin ! $ move ! (4 ∷ 0 ∷ []) $ fjoin ! $ move ! (0 ∷ 3 ∷ []) $
+      use2 𝓛 (‵ (Cells E (k.before ++ f' ∷ k.after))) (cells_glue 𝓛 E k.before f' k.after) $ rewrite ! 0 (λ (cs : List (Node E)). ‵ (Cells E cs)) (sym (k.changed (λ c. cell c.at c.links (value_set w (body_at h.cells p))))) refl $
+      move ! (1 ∷ 0 ∷ []) $ fjoin ! $ move ! (1 ∷ 0 ∷ []) $ fjoin ! $ fpack ! (List Val) (λ us. fsep (cell_at full_share (Nr E).mir us rb ro) ((Nr E).own_val (holding h p w) us)) vs $ done !
+
+pub value_mut_spec : {M : Type 1} → statement M
+value_mut_spec 𝓤 𝓛 𝓜 𝓡 wired L K V LL LK LV =
+    let H = 𝓛.H in let 𝓣 = tables 𝓤 H 𝓜 𝓡 𝓡.env in let E : Three = record { links = L; links_laws = LL; key = K; key_laws = LK; value = V; value_laws = LV } in let N = Nr E in let R = RL E in let S = RK E in let W = RV E in
+    let En = ended L K V in let c = clauses L K V 𝓛 𝓜.mem 𝓡.returns in let fn = inst_fn (args E) code.function in
+    let Self = mut_ref_to (0 ∷ []) tt (plain (λ _. N)) in
+    let hs : Stays En.signature.params En.kept = (stay_dropped Self no, (stay_dropped (plain (λ _. Pl)) yes, tt)) in
+    proved_at 𝓛 En hs c 𝓜 𝓡 (Goes-spent_ref 𝓛 4 (0 ∷ []) tt (plain (λ _. N)), (Goes-dropped 𝓛 4 (plain (λ _. Pl)) yes (λ κs x f. refl), tt))
+    (#self (args E)) fn (code.unfolded 𝓤 H 𝓜 𝓡 wired (L, (K, (V, tt)))) (λ y are.
+    let κs = y.0.0 in let qs = y.0.1 in let a = y.0.3 in let vss = y.0.4 in let Post : Val → SProp 𝓤 = (walk_of 𝓛 En hs c).post y in
+    let rb : ℕ = a.0.ref_ptr.0 in let ro : ℕ = a.0.ref_ptr.1 in let h : N.Denot = a.0.now in let p : Ptr = a.1.0.ptr in
+    let others : Fml = fsep (flft κs.1.0 qs.1.0) (fsep (flft κs.1.1.0 qs.1.1.0) (fsep (flft κs.1.1.1.0 qs.1.1.1.0) ftrue)) in
+    let κ : Lft = κs.0 in let q = qs.0 in let γ = a.0.ghost_name in let hcode = N.coded.code h in
+    let Asked : Type 0 = Holds h.cells p in
+    qed 𝓛 (((‵ (flft κs.0 qs.0) ⊛ ‵ others) ⊛ ‵ (owns (types_at En.signature.params κs) a vss)) ∷ raw (fact 𝓤 _) ∷ raw (fact 𝓤 _) ∷ raw (fact 𝓤 _) ∷ raw (fact 𝓤 Asked) ∷ []) ∵
+    keep ! (4 ∷ 0 ∷ []) $ heard ! Asked (λ asked. split ! $ split ! $ move ! (2 ∷ []) $ fsplit ! $ fsplit3 ! $ keep ! (1 ∷ 2 ∷ 4 ∷ 5 ∷ []) $
+    let us : List Val = vptr rb ro ∷ word p ∷ [] in let Run : List Val → SProp 𝓤 = λ ws. WpFn 𝓤 H 𝓣.C 𝓣.Λ fn ws Post in
+    suffices ! (Run us) (subst (λ (ws : List Val). ent 𝓤 (Run us) (Run ws)) (sym (λ i. are.0.0 i ++ (place_told a.1.0 vss.1.0 are.1.0 i ++ []))) (id⊢ 𝓤 (Run us))) $
+    enter ! 𝓣.C 𝓣.Λ fn us Post $ alloc_all ! (λ l. pass_all ! refl ((tt, tt), (word-Good [] p, tt)) $ let Ev = env fn.locals l in
+    let x = asked.0 in let kh = cut_held h.cells p x asked.1 in let k : Cut h.cells p = kh.0 in let f : Node E = k.found in
+    opens ! tt N {h = h} rb ro (λ vs. move ! (1 ∷ []) $ fsplit ! $ rewrite ! 1 (λ (cs : List (Node E)). ‵ (Cells E cs)) k.whole refl $ move ! (1 ∷ []) $
+    use1 𝓛 (‵ (One E f) ⊛ ‵ (Cells E (k.before ++ k.after))) (cells_cut 𝓛 E k.before f k.after) $ split ! $ fsplit ! $
+    in_a_block ! f.at (λ q. lies_at R full_share (links_of R S W q) f.links) (id⊢ 𝓤 (never 𝓤)) (λ pb po e.
+    rewrite ! 0 (λ (q : Ptr). ‵ (lies_at R full_share (links_of R S W q) f.links)) (sym e) refl $ move ! (1 ∷ []) $ fsplit ! $
+    rewrite ! 0 (λ (z : Option (K.Denot × V.Denot)). ‵ (body_owns R S W f.at z)) kh.1 refl $ fsplit ! $ move ! (1 ∷ []) $
+    rewrite ! 0 (λ (q : Ptr). ‵ (lies_at W full_share (value_of R S W q) x.1)) e refl $
+    -- [the value; the key; the deed; the links; the other nodes; the mark; its cell; the open borrow, in three; the other tokens]
+    sets ! (is ! (of_opd ! (get_in ! (fld ! refl (stop !)) (sub ! 0 refl (whole !)))) (ap ptr_val (sym k.at ∙ e))) refl (tt, tt) $ first ! $ blocks ! $
+    sets_last ! (addr ! (through ! refl (fld ! refl (stop !)))) refl (tt, tt) $ exec ! 𝓣.C 𝓣.Λ Ev (after 2 fn.body) (at_ret Ev Post) $ sets ! (of_opd ! (get ! refl)) refl (tt, tt) $
+    move ! (4 ∷ 5 ∷ 6 ∷ []) $ fjoin3 ! $ move ! (3 ∷ 0 ∷ []) $ fjoin ! $ move ! (3 ∷ 2 ∷ 0 ∷ []) $ fjoin3 ! $ move ! (2 ∷ 3 ∷ 4 ∷ 1 ∷ 0 ∷ []) $ group ! 5 $
+    let O = sem 𝓛 (Rest E 𝓛 h p k x vs rb ro pb po) in let way = back E 𝓛 h p k x vs rb ro pb po e asked.1 in
+    use1 𝓛 (later (some (λ (δ : ℕ). raw (Part 𝓛 N W (holding h p) (named 0) κ q rb ro pb (po + vo E) γ O way x.1 δ))))
+    (lends_Part 𝓛 N W (holding h p) (named 0) κ q rb ro pb (po + vo E) γ O way hcode hcode x.1) $ await ! tt $ pick ! (λ δ.
+    let r : Val = vptr pb (po + vo E) in let out : MutBor V.Denot = record { ref_ptr = (pb, po + vo E); ghost_name = δ; now = x.1 } in
+    use1 𝓛 (‵ ((MutRef (named 0) κ W).own_val out (r ∷ [])) ⊛ ‵ (flft κ q) ⊛ ‵ (follows N W γ δ (holding h p))) (id⊢ 𝓤 _) $ split3 ! $
+    let Told : Type 0 = IsValue x.1 (body_at h.cells p) in use0 𝓛 (raw (fact 𝓤 Told)) (fact_i 𝓤 Told (emp 𝓤) (x.0, asked.1)) $ move ! (3 ∷ 0 ∷ []) $ join ! $ move ! (2 ∷ 3 ∷ []) $ join ! $
+    nothing ! $ nothing ! $ fjoin ! $ nothing ! $ fjoin ! $
+    returns ! (look_at ! 0 refl) $ free_all ! refl $ keep ! (1 ∷ 0 ∷ 3 ∷ 2 ∷ []) $ by ! (leaves 𝓛 En hs c y r out (tt, (tt, tt)) (tt, (tt, tt)))))))))

@@ -1,0 +1,90 @@
+-- The nodes that a ring owns, as the proofs see them: a list in no order of its own.
+use Rattle.std.specs.Prelude.{◌≡◌, Bool, true, false, ◌&&◌, ◌==◌, cond, List, [], ◌∷◌, map, Option, Some, None}
+use Rattle.std.specs.List.{IsDistinct, IsDistinct-prop}
+use denote.RawPtr.{Ptr, block_ptr, null_ptr}
+
+-- a node: where it lies, its links, and what it holds
+pub record Cell (L B : Type 0) : Type 0 where
+  pub at : Ptr
+  pub links : L
+  pub body : Option B
+
+-- whether two pointers are the same
+abbrev pub same_ptr : Ptr → Ptr → Bool
+same_ptr (block_ptr b o) (block_ptr c p) = (b == c) && (o == p)
+same_ptr (block_ptr b o) null_ptr = false
+same_ptr null_ptr (block_ptr c p) = false
+same_ptr null_ptr null_ptr = true
+
+-- no pointer comes twice
+abbrev pub IsApart : List Ptr → Type 0
+IsApart = IsDistinct same_ptr
+
+pub IsApart-prop : (ps : List Ptr) → IsProp (IsApart ps)
+IsApart-prop = IsDistinct-prop same_ptr
+
+-- o has the key k, or the value v
+abbrev pub IsKey : {K V : Type 0} → K → Option (K × V) → Type 0
+IsKey {V = V} k o = (v : V) × (o ≡ Some (k, v))
+
+abbrev pub IsValue : {K V : Type 0} → V → Option (K × V) → Type 0
+IsValue {K = K} v o = (k : K) × (o ≡ Some (k, v))
+
+module _ {L B : Type 0} where
+  abbrev pub cell : Ptr → L → Option B → Cell L B
+  cell p l b = record { at = p; links = l; body = b }
+
+  abbrev pub places : List (Cell L B) → List Ptr
+  places = map (λ c. c.at)
+
+  -- the node at p
+  unfoldable pub cell_at : List (Cell L B) → Ptr → Option (Cell L B)
+  cell_at [] p = None
+  cell_at (c ∷ cs) p = cond (same_ptr c.at p) (Some c) (cell_at cs p)
+
+  abbrev pub links_of : Option (Cell L B) → Option L
+  links_of None = None
+  links_of (Some c) = Some c.links
+
+  abbrev pub body_of : Option (Cell L B) → Option B
+  body_of None = None
+  body_of (Some c) = c.body
+
+  abbrev pub links_at : List (Cell L B) → Ptr → Option L
+  links_at cs p = links_of (cell_at cs p)
+
+  abbrev pub body_at : List (Cell L B) → Ptr → Option B
+  body_at cs p = body_of (cell_at cs p)
+
+  -- a node lies at p
+  abbrev pub IsAt : List (Cell L B) → Ptr → Type 0
+  IsAt cs p = (l : L) × (links_at cs p ≡ Some l)
+
+  -- a node lies at p and holds something
+  abbrev pub Holds : List (Cell L B) → Ptr → Type 0
+  Holds cs p = (b : B) × (body_at cs p ≡ Some b)
+
+  -- the nodes, with the one at p changed
+  unfoldable pub change : Ptr → (Cell L B → Cell L B) → List (Cell L B) → List (Cell L B)
+  change p f [] = []
+  change p f (c ∷ cs) = cond (same_ptr c.at p) (f c ∷ cs) (c ∷ change p f cs)
+
+  abbrev pub with_links : Ptr → L → List (Cell L B) → List (Cell L B)
+  with_links p l = change p (λ c. cell c.at l c.body)
+
+  abbrev pub with_body : Ptr → Option B → List (Cell L B) → List (Cell L B)
+  with_body p b = change p (λ c. cell c.at c.links b)
+
+  -- the nodes but the one at p
+  unfoldable pub without : Ptr → List (Cell L B) → List (Cell L B)
+  without p [] = []
+  without p (c ∷ cs) = cond (same_ptr c.at p) cs (c ∷ without p cs)
+
+  pub places-change : (p : Ptr) (f : Cell L B → Cell L B) → ((c : Cell L B) → (f c).at ≡ c.at) → (cs : List (Cell L B)) → places (change p f cs) ≡ places cs
+  unfolding change
+  places-change p f same [] = λ i. []
+  places-change p f same (c ∷ cs) =
+      elim (same_ptr c.at p) as (λ y. places (cond y (f c ∷ cs) (c ∷ change p f cs)) ≡ c.at ∷ places cs) [
+        | true ↦ λ i. same c i ∷ places cs
+        | false ↦ λ i. c.at ∷ places-change p f same cs i
+      ]

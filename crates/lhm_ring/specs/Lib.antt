@@ -1,0 +1,13 @@
+pub mod Cells
+pub mod Drains
+pub mod Lends
+pub mod Loans
+pub mod Ownership
+pub mod Positions
+pub mod Refills
+pub mod RingLends
+pub mod RingState
+pub mod Rings
+pub mod Splices
+pub mod Stacks
+pub mod Stretches

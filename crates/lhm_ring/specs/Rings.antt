@@ -1,0 +1,169 @@
+-- A ring of nodes: how the links lead, and when the fields of a `Ring` are right.
+use Rattle.std.specs.Prelude.{◌≡◌, ℕ, suc, zero, ◌+◌, ◌≤◌, ◌^◌, Bool, true, false, cond, List, [], ◌∷◌, ◌++◌, length, Option, Some, None}
+use Rattle.std.specs.List.{AllByRecursion}
+use denote.RawPtr.{Ptr, null_ptr}
+use Rattle.lhm_ring.specs.Cells.{Cell, same_ptr, links_at, body_at, IsApart}
+use Rattle.lhm_ring.specs.RingState.{Held, triples}
+use Rattle.lhm_ring.specs.declared.block.Place.{Place}
+use Rattle.lhm_ring.specs.declared.links.Links.{Links}
+
+-- where a place is, if it is one
+abbrev pub spot : Option Place → Option Ptr
+spot None = None
+spot (Some q) = Some q.ptr
+
+-- the links, of which the further one leads to o
+abbrev pub relinked : Option Place → Links → Links
+relinked None l = record l { linked = false }
+relinked (Some q) l = record l { link = q; linked = true }
+
+-- the links of a spare node, which no one reads but for the further one
+abbrev pub links : Place → Option Place → Links
+links g o = relinked o (record { prev = g; next = g; link = g; number = 0; linked = false; guard = false })
+
+-- what links say of their node: where it leads, and whether it is there at all
+abbrev pub next_had : Option Links → Ptr
+next_had None = null_ptr
+next_had (Some l) = l.next.ptr
+
+abbrev pub prev_had : Option Links → Ptr
+prev_had None = null_ptr
+prev_had (Some l) = l.prev.ptr
+
+abbrev pub link_had : Option Links → Option Ptr
+link_had None = None
+link_had (Some l) = cond l.linked (Some l.link.ptr) None
+
+abbrev pub guard_had : Option Links → Bool
+guard_had None = false
+guard_had (Some l) = l.guard
+
+abbrev pub there_had : Option Links → Bool
+there_had None = false
+there_had (Some l) = true
+
+module _ {B : Type 0} where
+  abbrev pub next_at : List (Cell Links B) → Ptr → Ptr
+  next_at cs p = next_had (links_at cs p)
+
+  abbrev pub prev_at : List (Cell Links B) → Ptr → Ptr
+  prev_at cs p = prev_had (links_at cs p)
+
+  -- where the further link of the node at p leads
+  abbrev pub link_at : List (Cell Links B) → Ptr → Option Ptr
+  link_at cs p = link_had (links_at cs p)
+
+  abbrev pub is_guard : List (Cell Links B) → Ptr → Bool
+  is_guard cs p = guard_had (links_at cs p)
+
+  abbrev pub is_there : List (Cell Links B) → Ptr → Bool
+  is_there cs p = there_had (links_at cs p)
+
+  -- the number, the link, the key and the value at p: none at a guard
+  abbrev pub content_had : Ptr → Option Links → Option B → Option (Held B)
+  content_had p None b = None
+  content_had p (Some l) None = None
+  content_had p (Some l) (Some b) = cond l.guard None (Some (record { at = p; number = l.number; link = link_had (Some l); pair = b }))
+
+  abbrev pub content_at : List (Cell Links B) → Ptr → Option (Held B)
+  content_at cs p = content_had p (links_at cs p) (body_at cs p)
+
+  -- b comes right after a
+  abbrev pub Edge : List (Cell Links B) → Ptr → Ptr → Type 0
+  Edge cs a b = (next_at cs a ≡ b) × (prev_at cs b ≡ a)
+
+  -- each comes right after the one before
+  abbrev pub Linked : List (Cell Links B) → List Ptr → Type 0
+  Linked cs [] = Unit {0}
+  Linked cs (x ∷ []) = Unit {0}
+  Linked cs (x ∷ y ∷ r) = Edge cs x y × Linked cs (y ∷ r)
+
+  -- the spare nodes, from the first on
+  abbrev pub Chained : List (Cell Links B) → Option Ptr → List Ptr → Type 0
+  Chained cs h [] = h ≡ None
+  Chained cs h (p ∷ ps) = (h ≡ Some p) × Chained cs (link_at cs p) ps
+
+  abbrev pub HasContent : List (Cell Links B) → Ptr → Type 0
+  HasContent cs p = (x : Held B) × (content_at cs p ≡ Some x)
+
+  -- the nodes: the guard g, the held ones ps in order, and the spare ones ss
+  pub record IsRing (cs : List (Cell Links B)) (g : Ptr) (ps : List Ptr) (spare : Option Ptr) (ss : List Ptr) : Type 0 where
+    pub linked : Linked cs (g ∷ (ps ++ g ∷ []))
+    pub chained : Chained cs spare ss
+    pub held : AllByRecursion (HasContent cs) ps
+    pub there : AllByRecursion (λ p. is_there cs p ≡ true) (g ∷ (ps ++ ss))
+    pub apart : IsApart (g ∷ (ps ++ ss))
+    pub count : length cs ≡ suc (length ps + length ss)
+    pub guard : is_guard cs g ≡ true
+
+  -- the n places after p
+  unfoldable pub follow : List (Cell Links B) → ℕ → Ptr → List Ptr
+  follow cs zero p = []
+  follow cs (suc n) p = next_at cs p ∷ follow cs n (next_at cs p)
+
+  abbrev pub one_of : Option (Held B) → List (Held B)
+  one_of None = []
+  one_of (Some x) = x ∷ []
+
+  -- what the nodes at ps hold
+  unfoldable pub listed : List (Cell Links B) → List Ptr → List (Held B)
+  listed cs [] = []
+  listed cs (p ∷ ps) = one_of (content_at cs p) ++ listed cs ps
+
+  -- the same nodes, but that b comes right after a
+  pub record IsJoined (cs ds : List (Cell Links B)) (a b : Ptr) : Type 0 where
+    pub next : (q : Ptr) → next_at ds q ≡ cond (same_ptr a q) b (next_at cs q)
+    pub prev : (q : Ptr) → prev_at ds q ≡ cond (same_ptr b q) a (prev_at cs q)
+    pub link : (q : Ptr) → link_at ds q ≡ link_at cs q
+    pub guard : (q : Ptr) → is_guard ds q ≡ is_guard cs q
+    pub content : (q : Ptr) → content_at ds q ≡ content_at cs q
+    pub there : (q : Ptr) → is_there ds q ≡ is_there cs q
+    pub count : length ds ≡ length cs
+
+abbrev pub last_place : Ptr → List Ptr → Ptr
+last_place p [] = p
+last_place p (q ∷ qs) = last_place q qs
+
+-- ps begins with f and ends with b
+abbrev pub HasEnds : List Ptr → Ptr → Ptr → Type 0
+HasEnds [] f b = Unit {0}
+HasEnds (p ∷ ps) f b = (p ≡ f) × (last_place p ps ≡ b)
+
+-- what is held and the spare nodes, without what was spliced
+pub record HeldAndSpares (B : Type 0) : Type 0 where
+  pub held : List (Held B)
+  pub spares : ℕ
+
+module _ {B : Type 0} where
+  abbrev pub held_and_spares : List (Held B) → ℕ → HeldAndSpares B
+  held_and_spares hs n = record { held = hs; spares = n }
+
+  -- the n places from p on
+  unfoldable pub places_from : List (Cell Links B) → ℕ → Ptr → List Ptr
+  places_from cs zero p = []
+  places_from cs (suc n) p = p ∷ places_from cs n (next_at cs p)
+
+  -- what the n nodes from p on hold
+  abbrev pub spliced_list : List (Cell Links B) → ℕ → Ptr → List (ℕ × B)
+  spliced_list cs n p = triples (listed cs (places_from cs n p))
+
+  -- what n nodes hold from the guard on
+  abbrev pub ring_list : List (Cell Links B) → Option Place → ℕ → List (Held B)
+  ring_list cs None n = []
+  ring_list cs (Some g) n = listed cs (follow cs n g.ptr)
+
+  -- the nodes are a ring of n held and m spare ones, or there is no node and no guard
+  abbrev pub RingOk : List (Cell Links B) → Option Place → Option Place → ℕ → ℕ → Type 0
+  RingOk cs None spare n m = (cs ≡ []) × (spare ≡ None) × (n ≡ 0) × (m ≡ 0)
+  RingOk cs (Some g) spare n m = (ps : List Ptr) × (ss : List Ptr) × IsRing cs g.ptr ps (spot spare) ss × (length ps ≡ n) × (length ss ≡ m) × (n + m ≤ 2 ^ 57)
+
+  -- the places of what a ring holds
+  abbrev pub ring_places : List (Cell Links B) → Option Place → ℕ → List Ptr
+  ring_places cs None n = []
+  ring_places cs (Some g) n = follow cs n g.ptr
+
+  -- k nodes that hold something, from f to b, none of them in the ring
+  abbrev pub SplicedOk : List (Cell Links B) → Option Place → ℕ → Ptr → Ptr → ℕ → Type 0
+  SplicedOk cs guard n f b k =
+      (rs : List Ptr) × (length rs ≡ k) × Linked cs rs × HasEnds rs f b × AllByRecursion (HasContent cs) rs × IsApart rs
+      × AllByRecursion (λ r. AllByRecursion (λ q. same_ptr r q ≡ false) (ring_places cs guard n)) rs

@@ -1,0 +1,58 @@
+-- The held nodes of a ring become spare ones all at once.
+use Rattle.std.specs.Prelude.{◌≡◌, ℕ, true, List, [], ◌∷◌, ◌++◌, length, Option, Some, None}
+use Rattle.std.specs.List.{AllByRecursion}
+use denote.RawPtr.{Ptr}
+use Rattle.lhm_ring.specs.Cells.{Cell, IsApart}
+use Rattle.lhm_ring.specs.Rings.{Linked, Chained, next_at, prev_at, is_there, is_guard, content_at}
+use Rattle.lhm_ring.specs.RingState.{Held}
+use Rattle.lhm_ring.specs.declared.links.Links.{Links}
+
+-- the places ps, the last first, and then ss
+abbrev pub onto : List Ptr → List Ptr → List Ptr
+onto [] ss = ss
+onto (p ∷ ps) ss = onto ps (p ∷ ss)
+
+abbrev pub StartsAt : List Ptr → Ptr → Type 0
+StartsAt [] f = Unit {0}
+StartsAt (p ∷ ps) f = p ≡ f
+
+module _ {B : Type 0} where
+  abbrev pub triple_of : Option (Held B) → Option (ℕ × B)
+  triple_of None = None
+  triple_of (Some t) = Some (t.number, t.pair)
+
+  -- the same nodes, but for their further links
+  pub record SameButLinks (cs ds : List (Cell Links B)) : Type 0 where
+    pub next : (q : Ptr) → next_at ds q ≡ next_at cs q
+    pub prev : (q : Ptr) → prev_at ds q ≡ prev_at cs q
+    pub there : (q : Ptr) → is_there ds q ≡ is_there cs q
+    pub guard : (q : Ptr) → is_guard ds q ≡ is_guard cs q
+    pub triple : (q : Ptr) → triple_of (content_at ds q) ≡ triple_of (content_at cs q)
+    pub count : length ds ≡ length cs
+
+  -- the n nodes ps from f on, and apart from them the spare nodes ss
+  pub record IsRow (cs : List (Cell Links B)) (f : Ptr) (n : ℕ) (spare : Option Ptr) (ps ss : List Ptr) : Type 0 where
+    pub long : length ps ≡ n
+    pub linked : Linked cs ps
+    pub starts : StartsAt ps f
+    pub there : AllByRecursion (λ p. is_there cs p ≡ true) ps
+    pub apart : IsApart (ps ++ ss)
+    pub chained : Chained cs spare ss
+
+  abbrev pub HasRow : List (Cell Links B) → Ptr → ℕ → Option Ptr → Type 0
+  HasRow cs f n spare = (ps : List Ptr) × (ss : List Ptr) × IsRow cs f n spare ps ss
+
+  -- in ds the nodes of the row are spare too, and s is the first spare one
+  abbrev pub SparesRow : List (Cell Links B) → Ptr → ℕ → Option Ptr → List (Cell Links B) → Option Ptr → Type 0
+  SparesRow cs f n spare ds s = (ps ss : List Ptr) → IsRow cs f n spare ps ss → SameButLinks cs ds × Chained ds s (onto ps ss)
+
+module _ {K V : Type 0} where
+  -- r is the first of xs and the others are ys, or there is none
+  abbrev pub HandsOutFirst : List (ℕ × (K × V)) → Option (ℕ × K × V) → List (ℕ × (K × V)) → Type 0
+  HandsOutFirst xs None ys = (xs ≡ []) × (ys ≡ [])
+  HandsOutFirst xs (Some r) ys = xs ≡ (r.0, (r.1, r.2)) ∷ ys
+
+  -- r is the last of xs and the others are ys, or there is none
+  abbrev pub HandsOutLast : List (ℕ × (K × V)) → Option (ℕ × K × V) → List (ℕ × (K × V)) → Type 0
+  HandsOutLast xs None ys = (xs ≡ []) × (ys ≡ [])
+  HandsOutLast xs (Some r) ys = xs ≡ ys ++ (r.0, (r.1, r.2)) ∷ []

@@ -1,0 +1,169 @@
+//! Nodes are made, all or none, and spare ones are freed.
+ghost use Rattle.std.specs.Prelude.{◌≡◌, ◌+◌, ◌-◌, ◌<◌, [], ◌∷◌, None, OnOk, OnErr, MatchResult};
+ghost use Rattle.lhm_ring.specs.Cells.{cell};
+ghost use Rattle.lhm_ring.specs.Rings.{IsRing, links};
+ghost use Rattle.lhm_ring.specs.Stacks.{IsStacked, HasStack, Unstacks, HasGuard};
+
+use crate::block::{Place, allocate, deallocate};
+use crate::links::Links;
+use crate::nodes::Nodes;
+use crate::ring::{Ring, join, nowhere};
+use std::alloc::{AllocError, Global};
+
+/// No address space has room for more nodes.
+const MOST_NODES: usize = 1 << 57;
+
+/// The guard of an empty ring, which leads to itself.
+fn make_guard<K, V>(nodes: &mut Nodes<Links, K, V>, alloc: &Global) -> Result<Place, AllocError>
+    requires { nodes.old.cells ≡ [] }
+    ensures { MatchResult result (λ g. IsRing nodes.new.cells g.ptr [] None []) (λ _. nodes.new.cells ≡ []) }
+{
+    let room = allocate(alloc)?;
+    let links = Links {
+        prev: nowhere(),
+        next: nowhere(),
+        link: nowhere(),
+        number: 0,
+        linked: false,
+        guard: true,
+    };
+    let at = nodes.add(room, links);
+    join(nodes, at, at);
+    Ok(at)
+}
+
+/// One more node, with nothing in it.
+fn make_spare<K, V>(
+    nodes: &mut Nodes<Links, K, V>,
+    alloc: &Global,
+    guard: Place,
+    spare: Option<Place>,
+) -> Result<Place, AllocError>
+    ensures { MatchResult result (λ p. nodes.new.cells ≡ cell p.ptr (links guard spare) None ∷ nodes.old.cells) (λ _. nodes.new.cells ≡ nodes.old.cells) }
+{
+    let room = allocate(alloc)?;
+    let links = Links {
+        prev: guard,
+        next: guard,
+        link: guard,
+        number: 0,
+        linked: false,
+        guard: false,
+    };
+    Ok(nodes.add(room, links.with_link(spare)))
+}
+
+/// The guard, which is made where there is none yet.
+fn guard_or_new<K, V>(
+    nodes: &mut Nodes<Links, K, V>,
+    alloc: &Global,
+    guard: Option<Place>,
+) -> Result<Place, AllocError>
+    requires { guard ≡ None → nodes.old.cells ≡ [] }
+    ensures { MatchResult result (HasGuard guard nodes.old.cells nodes.new.cells) (λ _. nodes.new.cells ≡ nodes.old.cells) }
+{
+    match guard {
+        Some(guard) => Ok(guard),
+        None => make_guard(nodes, alloc),
+    }
+}
+
+/// Frees the `count` nodes from `first` on, each of which leads to the next by its further link.
+fn free_stacked<K, V>(
+    nodes: &mut Nodes<Links, K, V>,
+    alloc: &Global,
+    first: Option<Place>,
+    count: usize,
+)
+    requires { HasStack count nodes.old.cells first }
+    ensures { Unstacks count nodes.old.cells first nodes.new.cells }
+{
+    let mut first = first;
+    let mut left = count;
+    'each: while 0 < left {
+        let at = first.unwrap();
+        let next = nodes.links(at).link();
+        let room = nodes.remove(at);
+        deallocate(alloc, room);
+        first = next;
+        left -= 1;
+    }
+}
+
+/// Makes `count` nodes on top of the spare ones, and answers the first of them. Where one is refused, those
+/// that were made are freed again.
+fn make_spares<K, V>(
+    nodes: &mut Nodes<Links, K, V>,
+    alloc: &Global,
+    guard: Place,
+    spare: Option<Place>,
+    count: usize,
+) -> Result<Option<Place>, AllocError>
+    ensures { MatchResult result (λ first. IsStacked nodes.old.cells guard spare count nodes.new.cells first) (λ _. nodes.new.cells ≡ nodes.old.cells) }
+{
+    let mut first = spare;
+    let mut made = 0;
+    'more: while made < count {
+        match make_spare(nodes, alloc, guard, first) {
+            Ok(at) => {
+                first = Some(at);
+                made += 1;
+            }
+            Err(refused) => {
+                free_stacked(nodes, alloc, first, made);
+                return Err(refused);
+            }
+        }
+    }
+    Ok(first)
+}
+
+impl<K, V> Ring<K, V> {
+    /// Makes `count` spare nodes more, and the guard where there was none.
+    ///
+    /// Refused where the allocator gives too little, or where there would be more nodes than any memory has
+    /// room for. All is then as before. The cost is linear in `count`. The order stays as it is.
+    pub fn grow(&mut self, count: usize) -> Result<(), AllocError>
+        ensures held { OnOk result (self.new.held ≡ self.old.held) }
+        ensures spares { OnOk result (self.new.spares ≡ self.old.spares + count) }
+        ensures refused { OnErr result (self.new ≡ self.old) }
+    {
+        if MOST_NODES - self.len - self.spares < count {
+            return Err(AllocError);
+        }
+        let guard = guard_or_new(&mut self.nodes, &self.alloc, self.guard)?;
+        self.guard = Some(guard);
+        let spare = make_spares(&mut self.nodes, &self.alloc, guard, self.spare, count)?;
+        self.spare = spare;
+        self.spares += count;
+        self.spliced = 0;
+        Ok(())
+    }
+
+    /// Frees the first spare node.
+    fn drop_spare(&mut self)
+        requires { 0 < self.old.spares }
+        ensures held { self.new.held ≡ self.old.held }
+        ensures spares { self.new.spares ≡ self.old.spares - 1 }
+        ensures none_spliced { self.new.spliced ≡ [] }
+    {
+        let _guard = self.guard.unwrap();
+        let at = self.spare.unwrap();
+        let next_spare = self.nodes.links(at).link();
+        let room = self.nodes.remove(at);
+        deallocate(&self.alloc, room);
+        self.spare = next_spare;
+        self.spares -= 1;
+        self.spliced = 0;
+    }
+
+    /// Frees the spare nodes. What is held stays as it is.
+    pub fn free_spares(&mut self)
+        ensures held { self.new.held ≡ self.old.held }
+        ensures no_spares { self.new.spares ≡ 0 }
+    {
+        'spares: while 0 < self.spares() {
+            self.drop_spare();
+        }
+    }
+}

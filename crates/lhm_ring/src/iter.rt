@@ -1,0 +1,243 @@
+//! Walks over a ring, from both ends.
+ghost use Rattle.std.specs.Prelude.{◌≡◌, Some, IfSome, length};
+ghost use Rattle.std.specs.Iterator.{at_most, UpTo};
+ghost use Rattle.std.specs.Iterator.SizeHint.{IsWithinCount};
+ghost use Rattle.lhm_ring.specs.Stretches.{IsFirstStep, IsLastStep, LendsFirstStep, LendsLastStep, ShowsFirstStep, ShowsLastStep, rest_of};
+
+use crate::block::Place;
+use crate::links::Links;
+use crate::loan::{Hole, Loan};
+use crate::nodes::Nodes;
+use crate::ring::{Ring, nowhere};
+use std::iter::{DoubleEndedIterator, ExactSizeIterator, Iterator};
+use std::marker::Model;
+
+/// Shows the triples that are left, each once, from both ends. It is made by `Ring::iter`.
+///
+/// They are in the `left` nodes between the one at `before` and the one at `after`.
+#[derive(Drop)]
+pub struct Iter<'a, K, V> {
+    pub(crate) nodes: &'a Nodes<Links, K, V>,
+    pub(crate) before: Place,
+    pub(crate) after: Place,
+    pub(crate) left: usize,
+}
+
+impl<'a, K, V> Model for Iter<'a, K, V> {
+    ghost use Rattle.std.specs.Prelude.{List};
+    ghost use Rattle.lhm_ring.specs.Rings.{listed, follow};
+    ghost use Rattle.lhm_ring.specs.RingState.{Held};
+    ghost use Rattle.lhm_ring.specs.Stretches.{Stretch};
+
+    ghost Value = { List (Held (K × V)) };
+
+    ghost view = { λ w. listed w.nodes.now.cells (follow w.nodes.now.cells w.left w.before.ptr) };
+
+    ghost invariant = { λ w. Stretch w.nodes.now.cells w.before.ptr w.after.ptr w.left };
+}
+
+impl<'a, K, V> Iter<'a, K, V> {
+    /// The first of what is left.
+    pub(crate) fn step(&mut self) -> Option<(Place, u64, &'a K, &'a V)>
+        ensures { IsFirstStep self.old result self.new }
+    {
+        if self.left == 0 {
+            return None;
+        }
+        let nodes = self.nodes;
+        let at = nodes.links(self.before).next;
+        self.before = at;
+        self.left -= 1;
+        Some((at, nodes.links(at).number, nodes.key(at), nodes.value(at)))
+    }
+
+    /// The last of what is left.
+    pub(crate) fn step_back(&mut self) -> Option<(Place, u64, &'a K, &'a V)>
+        ensures { IsLastStep self.old result self.new }
+    {
+        if self.left == 0 {
+            return None;
+        }
+        let nodes = self.nodes;
+        let at = nodes.links(self.after).prev;
+        self.after = at;
+        self.left -= 1;
+        Some((at, nodes.links(at).number, nodes.key(at), nodes.value(at)))
+    }
+}
+
+impl<'a, K, V> Iterator for Iter<'a, K, V> {
+    type Item = (u64, &'a K, &'a V);
+
+    ghost next_gives = { ShowsFirstStep };
+
+    ghost remaining = { λ s. at_most (length s) };
+
+    fn next(&mut self) -> Option<(u64, &'a K, &'a V)> {
+        match self.step() {
+            Some((_, number, key, value)) => Some((number, key, value)),
+            None => None,
+        }
+    }
+
+    fn size_hint(&self) -> (usize, Option<usize>)
+        ensures lower { IsWithinCount result.0 (at_most (length self.now)) }
+        ensures upper { IfSome result.1 (UpTo (at_most (length self.now))) }
+        ensures exact { result ≡ (length self.now, Some (length self.now)) }
+    {
+        (self.len(), Some(self.len()))
+    }
+}
+
+impl<'a, K, V> ExactSizeIterator for Iter<'a, K, V> {
+    fn len(&self) -> usize {
+        self.left
+    }
+}
+
+impl<'a, K, V> DoubleEndedIterator for Iter<'a, K, V> {
+    ghost next_back_gives = { ShowsLastStep };
+
+    fn next_back(&mut self) -> Option<(u64, &'a K, &'a V)> {
+        match self.step_back() {
+            Some((_, number, key, value)) => Some((number, key, value)),
+            None => None,
+        }
+    }
+}
+
+/// Lends the triples that are left, each once, from both ends, the value for writing. It is made by
+/// `Ring::iter_mut`.
+///
+/// The links and the keys are shared, and each value is taken out of a loan.
+#[derive(Drop)]
+pub struct IterMut<'a, K, V> {
+    holes: Iter<'a, K, Hole<V>>,
+    loan: Loan<'a, Links, K, V>,
+}
+
+impl<'a, K, V> Model for IterMut<'a, K, V> {
+    ghost use Rattle.std.specs.Prelude.{List};
+    ghost use base.Fml.{GName};
+    ghost use Rattle.lhm_ring.specs.RingState.{Held};
+    ghost use Rattle.lhm_ring.specs.Stretches.{AreLent};
+
+    ghost Value = { List (Held (K × V)) × GName };
+
+    ghost view = { λ a. (a.holes, a.loan.tie) };
+
+    ghost invariant = { λ a. AreLent a.loan.run a.holes };
+}
+
+impl<'a, K, V> IterMut<'a, K, V> {
+    /// The first of what is left.
+    fn step(&mut self) -> Option<(u64, &'a K, &'a mut V)>
+        ensures { LendsFirstStep (rest_of self.old) result (rest_of self.new) }
+    {
+        match self.holes.step() {
+            Some((at, number, key, _)) => Some((number, key, self.loan.pull(at))),
+            None => None,
+        }
+    }
+
+    /// The last of what is left.
+    fn step_back(&mut self) -> Option<(u64, &'a K, &'a mut V)>
+        ensures { LendsLastStep (rest_of self.old) result (rest_of self.new) }
+    {
+        match self.holes.step_back() {
+            Some((at, number, key, _)) => Some((number, key, self.loan.pull(at))),
+            None => None,
+        }
+    }
+}
+
+impl<'a, K, V> Iterator for IterMut<'a, K, V> {
+    type Item = (u64, &'a K, &'a mut V);
+
+    ghost next_gives = { λ s r t. LendsFirstStep (rest_of s) r (rest_of t) };
+
+    ghost remaining = { λ s. at_most (length (rest_of s)) };
+
+    fn next(&mut self) -> Option<(u64, &'a K, &'a mut V)> {
+        self.step()
+    }
+
+    fn size_hint(&self) -> (usize, Option<usize>)
+        ensures lower { IsWithinCount result.0 (at_most (length (rest_of self.now))) }
+        ensures upper { IfSome result.1 (UpTo (at_most (length (rest_of self.now)))) }
+        ensures exact { result ≡ (length (rest_of self.now), Some (length (rest_of self.now))) }
+    {
+        let len = self.len();
+        (len, Some(len))
+    }
+}
+
+impl<'a, K, V> ExactSizeIterator for IterMut<'a, K, V> {
+    fn len(&self) -> usize {
+        self.holes.len()
+    }
+}
+
+impl<'a, K, V> DoubleEndedIterator for IterMut<'a, K, V> {
+    ghost next_back_gives = { λ s r t. LendsLastStep (rest_of s) r (rest_of t) };
+
+    fn next_back(&mut self) -> Option<(u64, &'a K, &'a mut V)> {
+        self.step_back()
+    }
+}
+
+impl<K, V> Ring<K, V> {
+    /// What is held, in order, from both ends. It takes no memory.
+    pub fn iter(&self) -> Iter<'_, K, V>
+        ensures { result ≡ self.now.held }
+    {
+        match self.guard {
+            Some(guard) => Iter {
+                nodes: &self.nodes,
+                before: guard,
+                after: guard,
+                left: self.len,
+            },
+            None => Iter {
+                nodes: &self.nodes,
+                before: nowhere(),
+                after: nowhere(),
+                left: 0,
+            },
+        }
+    }
+
+    /// What is held, in order, from both ends, each value for writing. It takes no memory. Numbers, keys,
+    /// positions, links and the order stand.
+    pub fn iter_mut(&mut self) -> IterMut<'_, K, V>
+        ensures { rest_of result ≡ self.old.held }
+    {
+        match self.guard {
+            Some(guard) => {
+                let left = self.len;
+                let (nodes, loan) = self.nodes.lend();
+                IterMut {
+                    holes: Iter {
+                        nodes,
+                        before: guard,
+                        after: guard,
+                        left,
+                    },
+                    loan,
+                }
+            }
+            None => {
+                let (nodes, loan) = self.nodes.lend();
+                IterMut {
+                    holes: Iter {
+                        nodes,
+                        before: nowhere(),
+                        after: nowhere(),
+                        left: 0,
+                    },
+                    loan,
+                }
+            }
+        }
+    }
+}

@@ -1,0 +1,17 @@
+//! Raw nodes in a ring, for a hash map in insertion order: see `ring::Ring`.
+#![tactic(auto)]
+
+pub(crate) mod access;
+pub(crate) mod block;
+pub(crate) mod drain;
+pub(crate) mod grow;
+pub(crate) mod iter;
+pub(crate) mod links;
+pub(crate) mod loan;
+pub(crate) mod nodes;
+pub(crate) mod order;
+pub(crate) mod position;
+pub mod ring;
+pub(crate) mod splice;
+#[cfg(test)]
+mod tests;

@@ -1,0 +1,82 @@
+//! The calls that change the order: a triple comes last, or goes out.
+ghost use Rattle.std.specs.Prelude.{◌≡◌, ◌+◌, ◌-◌, ◌<◌, [], ◌∷◌, ◌++◌, None};
+ghost use Rattle.lhm_ring.specs.RingState.{held, IsHeld, AtHeld};
+
+use crate::links::Links;
+use crate::position::Position;
+use crate::ring::{Ring, join};
+
+impl<K, V> Ring<K, V> {
+    ghost use Rattle.lhm_ring.specs.Positions.{place_of};
+    ghost use Rattle.lhm_ring.specs.RingLends.{pair};
+
+    /// Moves the triple at `at` behind all others, which stay in order. It writes links alone, whatever
+    /// the length, and takes no memory. Positions stand.
+    pub fn move_to_back(&mut self, at: Position<K, V>)
+        requires { IsHeld self.old.held (place_of at) }
+        ensures last { AtHeld self.old.held (place_of at) (λ xs t ys. self.new.held ≡ (xs ++ ys) ++ t ∷ []) }
+        ensures spares { self.new.spares ≡ self.old.spares }
+        ensures none_spliced { self.new.spliced ≡ [] }
+    {
+        let guard = self.guard.unwrap();
+        let links = *self.nodes.links(at.place);
+        join(&mut self.nodes, links.prev, links.next);
+        let last = self.nodes.links(guard).prev;
+        join(&mut self.nodes, last, at.place);
+        join(&mut self.nodes, at.place, guard);
+        self.spliced = 0;
+    }
+
+    /// Puts a triple behind all others, into a spare node, and answers where. Its link leads nowhere.
+    /// The cost is the same whatever the length, and it takes no memory.
+    pub fn put_back(&mut self, number: u64, key: K, value: V) -> Position<K, V>
+        requires { 0 < self.old.spares }
+        ensures last { self.new.held ≡ self.old.held ++ held (place_of result) number None (pair key value) ∷ [] }
+        ensures spares { self.new.spares ≡ self.old.spares - 1 }
+        ensures none_spliced { self.new.spliced ≡ [] }
+    {
+        let guard = self.guard.unwrap();
+        let at = self.spare.unwrap();
+        let next_spare = self.nodes.links(at).link();
+        let previous = self.nodes.links(guard).prev;
+        let fresh = Links {
+            prev: previous,
+            next: guard,
+            link: at,
+            number,
+            linked: false,
+            guard: false,
+        };
+        self.nodes.set_links(at, fresh);
+        self.nodes.fill(at, key, value);
+        join(&mut self.nodes, previous, at);
+        join(&mut self.nodes, at, guard);
+        self.spare = next_spare;
+        self.spares -= 1;
+        self.len += 1;
+        self.spliced = 0;
+        Position::new(at)
+    }
+
+    /// Takes the triple at `at` out and hands it over. The others stay in order, and its node is spare.
+    /// The cost is the same whatever the length, and it takes no memory.
+    pub fn unlink(&mut self, at: Position<K, V>) -> (u64, K, V)
+        requires { IsHeld self.old.held (place_of at) }
+        ensures others { AtHeld self.old.held (place_of at) (λ xs t ys. self.new.held ≡ xs ++ ys) }
+        ensures triple { AtHeld self.old.held (place_of at) (λ xs t ys. result ≡ (t.number, t.pair.0, t.pair.1)) }
+        ensures spares { self.new.spares ≡ self.old.spares + 1 }
+        ensures none_spliced { self.new.spliced ≡ [] }
+    {
+        let guard = self.guard.unwrap();
+        let at = at.place;
+        let old = *self.nodes.links(at);
+        join(&mut self.nodes, old.prev, old.next);
+        let (key, value) = self.nodes.take(at);
+        self.nodes.set_links(at, old.with_link(self.spare));
+        self.spare = Some(at);
+        self.len -= 1;
+        self.spares += 1;
+        self.spliced = 0;
+        (old.number, key, value)
+    }
+}

@@ -1,0 +1,60 @@
+//! Where a triple of a ring is, for callers.
+ghost use Rattle.std.specs.Prelude.{◌≡◌, ⊤};
+ghost use Rattle.lhm_ring.specs.Positions.{place_of_some};
+ghost use Rattle.lhm_ring.specs.Rings.{spot};
+
+use crate::block::Place;
+use std::alloc::AllocError;
+use std::marker::PhantomData;
+
+/// Where a triple of a `Ring` is.
+///
+/// It stays the position of its triple until that triple leaves the ring, whatever happens to the others.
+/// It owns nothing, costs nothing to copy, and gives no access without the ring.
+pub struct Position<K, V> {
+    pub(crate) place: Place,
+    mark: PhantomData<*mut (K, V)>,
+}
+
+impl<K, V> Position<K, V> {
+    pub(crate) fn new(place: Place) -> Position<K, V>
+        ensures { result.place ≡ place }
+    {
+        Position {
+            place,
+            mark: PhantomData,
+        }
+    }
+}
+
+/// The position at a place, if there is one.
+pub(crate) fn position_at<K, V>(place: Option<Place>) -> Option<Position<K, V>>
+    ensures { place_of_some result ≡ spot place }
+{
+    match place {
+        Some(place) => Some(Position::new(place)),
+        None => None,
+    }
+}
+
+/// The place of a position, if there is one.
+pub(crate) fn place_at<K, V>(position: Option<Position<K, V>>) -> Option<Place>
+    ensures { spot result ≡ place_of_some position }
+{
+    match position {
+        Some(position) => Some(position.place),
+        None => None,
+    }
+}
+
+impl<K, V> Clone for Position<K, V> {
+    ghost is_clone = { λ x y. y ≡ x };
+
+    ghost is_infallible = { λ _. ⊤ };
+
+    fn clone(&self) -> Result<Position<K, V>, AllocError> {
+        Ok(*self)
+    }
+}
+
+impl<K, V> Copy for Position<K, V> {}

@@ -1,0 +1,122 @@
+//! The ring: a guard, the held nodes in order, and the spare ones.
+ghost use Rattle.std.specs.Prelude.{◌≡◌, ◌+◌, ◌≤◌, ◌^◌, [], true, length};
+ghost use Rattle.lhm_ring.specs.Rings.{IsJoined, is_there};
+
+use crate::block::{Place, deallocate};
+pub use crate::drain::Drain;
+pub use crate::iter::{Iter, IterMut};
+use crate::links::Links;
+use crate::nodes::Nodes;
+pub use crate::position::Position;
+use std::alloc::Global;
+use std::marker::Model;
+
+/// Triples of a number, a key and a value, in order, each at a position that stays until it leaves, and
+/// spare nodes for more.
+///
+/// A new triple comes last. Each triple takes one block of memory, and only `grow` takes any.
+pub struct Ring<K, V> {
+    pub(crate) nodes: Nodes<Links, K, V>,
+    pub(crate) alloc: Global,
+    pub(crate) guard: Option<Place>,
+    pub(crate) spare: Option<Place>,
+    pub(crate) len: usize,
+    pub(crate) spares: usize,
+    pub(crate) first_spliced: Place,
+    pub(crate) last_spliced: Place,
+    pub(crate) spliced: usize,
+}
+
+impl<K, V> Model for Ring<K, V> {
+    ghost use Rattle.lhm_ring.specs.Rings.{ring_list, spliced_list, RingOk, SplicedOk};
+    ghost use Rattle.lhm_ring.specs.RingState.{State, state};
+
+    ghost Value = { State (K × V) };
+
+    ghost view = { λ r. state (ring_list r.nodes.cells r.guard r.len) r.spares (spliced_list r.nodes.cells r.spliced r.first_spliced.ptr) };
+
+    ghost invariant = { λ r. RingOk r.nodes.cells r.guard r.spare r.len r.spares × SplicedOk r.nodes.cells r.guard r.len r.first_spliced.ptr r.last_spliced.ptr r.spliced };
+}
+
+impl<K, V> Ring<K, V> {
+    /// An empty ring with no spare nodes. It takes no memory: there is no guard yet.
+    pub fn new(alloc: Global) -> Ring<K, V>
+        ensures empty { result.held ≡ [] }
+        ensures no_spares { result.spares ≡ 0 }
+        ensures none_spliced { result.spliced ≡ [] }
+    {
+        Ring {
+            nodes: Nodes::new(),
+            alloc,
+            guard: None,
+            spare: None,
+            len: 0,
+            spares: 0,
+            first_spliced: nowhere(),
+            last_spliced: nowhere(),
+            spliced: 0,
+        }
+    }
+
+    /// How many triples are held.
+    pub fn len(&self) -> usize
+        ensures { result ≡ length self.now.held }
+    {
+        self.len
+    }
+
+    /// How many spare nodes there are. With the held ones they are at most 2^57.
+    pub fn spares(&self) -> usize
+        ensures value { result ≡ self.now.spares }
+        ensures bounded { length self.now.held + self.now.spares ≤ 2 ^ 57 }
+    {
+        self.spares
+    }
+}
+
+/// Makes `b` the node right after `a`.
+pub(crate) fn join<K, V>(nodes: &mut Nodes<Links, K, V>, a: Place, b: Place)
+    requires { (is_there nodes.old.cells a.ptr ≡ true) × (is_there nodes.old.cells b.ptr ≡ true) }
+    ensures { IsJoined nodes.old.cells nodes.new.cells a.ptr b.ptr }
+{
+    let mut links = *nodes.links(a);
+    links.next = b;
+    nodes.set_links(a, links);
+    let mut links = *nodes.links(b);
+    links.prev = a;
+    nodes.set_links(b, links);
+}
+
+/// No place at all, for links that lead nowhere yet.
+pub(crate) fn nowhere() -> Place {
+    Place {
+        ptr: std::ptr::null(),
+    }
+}
+
+impl<K: Drop, V: Drop> Drop for Ring<K, V> {
+    fn drop(mut self) {
+        'held: while let Some(at) = self.first() {
+            let (_, key, value) = self.unlink(at);
+            drop(key);
+            drop(value);
+        }
+        self.free_spares();
+        let Ring {
+            mut nodes,
+            alloc,
+            guard,
+            spare: _,
+            len: _,
+            spares: _,
+            first_spliced: _,
+            last_spliced: _,
+            spliced: _,
+        } = self;
+        if let Some(guard) = guard {
+            let room = nodes.remove(guard);
+            deallocate(&alloc, room);
+        }
+        nodes.end();
+    }
+}
