@@ -127,6 +127,15 @@ fn writes_through_a_loan(rt: HostRuntime) -> Result<(), Fail> {
     assert!(rt; set(&mut map, 2, 5));
     assert!(rt; !set(&mut map, 3, 5));
     assert_pairs(&rt, &map, &[(2, 5), (1, 9)]);
+    let mut letters = LinkedHashMap::new(rt.alloc());
+    letters.insert(1, "a")?;
+    letters.insert(2, "b")?;
+    if let Some(letter) = letters.get_mut(&1) {
+        *letter = "c";
+    }
+    assert_eq!(rt; letters.get(&1), Some(&"c"));
+    assert_eq!(rt; letters.pop_front(), Some((1, "c")));
+    assert_eq!(rt; letters.pop_front(), Some((2, "b")));
     Ok(())
 }
 
@@ -143,6 +152,17 @@ fn indexes_a_present_key(rt: HostRuntime) -> Result<(), Fail> {
             assert_eq!(rt; map.get(&key).copied(), Some(value + 1));
         }
     }
+    let mut map = map_of(rt.alloc(), &[(1, 1), (2, 2)])?;
+    if map.contains_key(&1) {
+        set_present(&mut map, 1, 7);
+    }
+    assert_pairs(&rt, &map, &[(1, 7), (2, 2)]);
+    let mut letters = LinkedHashMap::new(rt.alloc());
+    letters.insert(1, "a")?;
+    letters.insert(2, "b")?;
+    for (key, letter) in [(1, "a"), (2, "b")] {
+        assert!(rt; letters.contains_key(&key) && letters[&key] == letter);
+    }
     Ok(())
 }
 
@@ -156,6 +176,7 @@ fn refreshes(rt: HostRuntime) -> Result<(), Fail> {
     assert_eq!(rt; map.back(), Some((&2, &"b")));
     assert_eq!(rt; map.pop_front(), Some((1, "a")));
     assert_eq!(rt; map.pop_front(), Some((3, "d")));
+    assert_eq!(rt; map.pop_front(), Some((2, "b")));
     Ok(())
 }
 
@@ -172,6 +193,9 @@ fn takes_from_both_ends(rt: HostRuntime) -> Result<(), Fail> {
     assert_eq!(rt; map.pop_front(), None);
     assert_eq!(rt; (map.front(), map.back()), (None, None));
     assert!(rt; map.is_empty());
+    let mut map = map_of(rt.alloc(), &[(1, 10), (2, 20)])?;
+    assert_eq!(rt; map.pop_back(), Some((2, 20)));
+    assert_eq!(rt; (map.get(&1), map.get(&2)), (Some(&10), None));
     Ok(())
 }
 
