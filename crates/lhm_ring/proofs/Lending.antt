@@ -1,182 +1,295 @@
--- The nodes are cut into their values and the rest, and made of them again. Assumes `Logic`.
-use Rattle.std.proofs.Common.{◌≡◌, ℕ, List, [], ◌∷◌, map, length, suc, Option, Some, None, refl, sym, ap, ◌∙◌, arith}
+-- A ring is cut into its values and the rest, and made of them again. Assumes `Logic`.
+--     entries are what the ring holds, each with its place (`Refilling.antt`'s `lent`)
+--     nodes_cut, nodes_mend      the values of the nodes that pass the test are taken out, and others are put in their places
+--     Thin      the nodes but for those values, as a type: what a `&` to nodes of holes shows is what a `&` to it shows
+--     ring_cut, ring_mend      the same of a whole ring in memory
+use Rattle.std.proofs.Common.{◌≡◌, ℕ, Bool, true, false, List, [], ◌∷◌, ◌++◌, map, length, suc, Option, Some, None, refl, sym, ap, ◌∙◌, subst}
 use seplogic.Ra.Ura.{Ura}
 use base.Fraction.{full_share}
-use base.Logic.{ent, sep, emp, via, never, never_e, id⊢, fst∗}
-use base.Fml.{Fml, Lft, Incl, ftrue, fsep}
-use types.Logic.{Logic, sem}
-use contract.Monad.{fact, fact_i, fact_use}
-use denote.Memory.{mem, part_of, part_at, cell_at}
-use base.Fml.{fseps}
-use mir.Val.{Val}
-use Rattle.lhm_ring.proofs.Memory.{Nr, Mark}
-use Rattle.lhm_ring.specs.Loans.{Spread}
+use base.Logic.{ent, sep, emp, via, never_e, id⊢, fst∗}
+use base.Fml.{Fml, Lft, Incl, Incl-trans, ftrue, fsep, fseps}
+use contract.BorrowLft.{meet_⊑_left, meet_⊑_right}
+use types.Logic.{Logic, sem, lfts}
 use types.SemTy.{SemTy}
-use types.Kit.{‵, raw, ◌⊛◌, given, ◌$◌, ◌∵◌, !, qed, by, move, keep, drop, use1, use2, learn, split, fsplit, fsplit3, fjoin, fpick, fpack, rewrite, done}
-use denote.RattleType.{RattleType}
-use denote.Sharing.{nothing, beside}
-use denote.RawPtr.{Ptr, block_ptr, null_ptr, lies_at}
-use denote.Shares.{Shares-less}
-use denote.Param.Laws.{param_laws}
-use denote.Struct.Lending.{Lends, lent_at, Lends-lies, Lends-first, Lends-both, Lends-nothing}
+use types.Kit.{‵, raw, ◌⊛◌, later, given, ◌$◌, ◌∵◌, !, qed, by, move, keep, drop, use1, use2, learn, split, fsplit, fsplit3, fjoin, fpick, fpack, rewrite, updating, await, now, done}
+use contract.Monad.{fact, fact_i, fact_use}
+use mir.Val.{Val, vstruct, vnil}
 use lib.ListN.{length-map}
-use denote.Steps.{nothing as empty}
-use Rattle.lhm_ring.specs.Cells.{Cell, cell}
-use Rattle.lhm_ring.specs.Ownership.{links_of, key_of, value_of, body_owns, deed_owns, chunk_token, cell_lent, cells_lent}
-use Rattle.lhm_ring.specs.Loans.{values, value_then, spread}
-use Rattle.lhm_ring.specs.Refills.{refill, refill_one, refilled, vals_of}
-use Rattle.lhm_ring.specs.contracts.loan.Hole as H-type
-use Rattle.lhm_ring.specs.contracts.loan.Loan as L-type
+use denote.RattleType.{RattleType, Denots, Valss}
+use denote.Memory.{mem, part_of, part_at, cell_raw, raw_all}
+use denote.Model.Fields.{view_owns, view_made, Plain-in}
+use denote.Param.Laws.{Laws}
+use denote.Param.Shared.{Sharable, copy_shared}
+use denote.RawPtr.{Ptr, RawPtr, block_ptr, null_ptr, lies_at}
 use denote.Ref.{NamedLft}
 use denote.Shadow.{makes_shadow}
-use denote.Struct.Struct.{Struct}
-use denote.Struct.Owning.{shape}
-use mir.Val.{vstruct, vnil}
+use denote.Shares.{Shares-less}
+use denote.Sharing.{nothing, beside}
+use denote.Steps.{nothing as empty}
+use denote.Struct.Declared as declared
+use denote.Struct.Field.{Field, rows}
+use denote.Struct.Laws.{field_copy}
+use denote.Struct.Lending.{Lends, lent_at, Lends-lies, Lends-first, Lends-both, Lends-nothing, of_Lends, lending_shared}
+use denote.Struct.Owning as owning
+use denote.Struct.Struct.{Shape, Struct, within}
+use denote.Struct.Values.{intos}
+use Rattle.std.specs.contracts.marker.PhantomData as marker
+use Rattle.lhm_ring.specs.Cells.{Cell, cell, IsApart}
+use Rattle.lhm_ring.specs.Loans.{Spread, spread}
+use Rattle.lhm_ring.specs.Ownership.{links_of, key_of, value_of, body_owns, deed_owns, chunk_token, cells_own, cell_lent, cells_lent}
+use Rattle.lhm_ring.specs.RingState.{State, Held, state}
+use Rattle.lhm_ring.specs.RingLends.{revalued_by, with_values}
+use Rattle.lhm_ring.specs.Rings.{ring_places}
+use Rattle.lhm_ring.specs.contracts.links.Links as links
+use Rattle.lhm_ring.specs.contracts.loan.Hole as H-type
+use Rattle.lhm_ring.specs.contracts.loan.Loan as L-type
+use Rattle.lhm_ring.specs.contracts.nodes.Nodes as C
+use Rattle.lhm_ring.specs.contracts.ring.Ring as R-type
+use Rattle.lhm_ring.specs.contracts.ring.Ring.TheInside as I-type
+use Rattle.lhm_ring.specs.declared.ring.Ring.TheInside as D-type
 use Rattle.lhm_ring.proofs.Memory.{mark}
-use Rattle.lhm_ring.proofs.Memory.{Three, RL, RK, RV, Node, Cells}
+use Rattle.lhm_ring.proofs.Refilling.{lent_then, lent, written_body, written, taken, listing, run_of, places_written, taken_listing, apart_lent, among, held_entries, still_ring, list_written, spliced_stands}
+use Rattle.lhm_ring.proofs.Sharing.{cells_lent_laws}
 
-module _ {L K V : Type 0} where
-  kept_one : (p : Ptr) (l : L) (b : Option (K × V)) (ws : List V) (cs : List (Cell L (K × V))) → ((us : List V) → length us ≡ length (values cs) → map (λ c. c.1) (values (refill cs us)) ≡ us)
-      → length ws ≡ length (value_then p b (values cs)) → map (λ c. c.1) (values (refill_one p l b ws (refill cs))) ≡ ws
-  kept_one p l None ws cs h e = h ws e
-  kept_one p l (Some x) [] cs h e = absurd (omega arith)
-  kept_one p l (Some x) (w ∷ ws) cs h e = ap (λ us. w ∷ us) (h ws (omega arith))
+module _ (R S W : RattleType) where
+  abbrev pub Node : Type 0
+  Node = Cell R.Denot (S.Denot × W.Denot)
 
-  pub kept : (cs : List (Cell L (K × V))) (ws : List V) → length ws ≡ length (values cs) → map (λ c. c.1) (values (refill cs ws)) ≡ ws
-  unfolding refill
-  kept [] [] e = refl
-  kept [] (w ∷ ws) e = absurd (omega arith)
-  kept (c ∷ cs) ws e = kept_one c.at c.links c.body ws cs (kept cs) e
+  abbrev pub at_places : List (Ptr × (S.Denot × W.Denot)) → List Ptr
+  at_places r = map (λ c. value_of R S W c.0) (run_of r)
 
-module _ (E : Three) where
-  abbrev Pair : Type 0
-  Pair = E.key.Denot × E.value.Denot
+  abbrev pub vals : List (Ptr × (S.Denot × W.Denot)) → List W.Denot
+  vals r = map (λ c. c.1) (run_of r)
 
-  abbrev pub at_places : List (Ptr × E.value.Denot) → List Ptr
-  at_places = map (λ c. value_of (RL E) (RK E) (RV E) c.0)
+  -- what a node holds but for the value that is lent
+  abbrev pub body_frame : Bool → Ptr → Option (S.Denot × W.Denot) → Fml
+  body_frame false p b = body_owns R S W p b
+  body_frame true p None = body_owns R S W p None
+  body_frame true p (Some x) = lies_at S full_share (key_of R S W p) x.0
 
-  abbrev pub vals : List (Ptr × E.value.Denot) → List E.value.Denot
-  vals = map (λ c. c.1)
+  abbrev pub frame : (Ptr → Bool) → Node → Fml
+  frame keep c = fsep (lies_at R full_share (links_of R S W c.at) c.links) (fsep (body_frame (keep c.at) c.at c.body) (deed_owns R S W chunk_token c.at))
 
-  abbrev pub body_frame : Ptr → Option Pair → Fml
-  body_frame p None = body_owns (RL E) (RK E) (RV E) p None
-  body_frame p (Some x) = lies_at (RK E) full_share (key_of (RL E) (RK E) (RV E) p) x.0
+  abbrev pub frames : (Ptr → Bool) → List Node → Fml
+  frames keep [] = ftrue
+  frames keep (c ∷ cs) = fsep (frame keep c) (frames keep cs)
 
-  -- the nodes but for their values
-  abbrev pub frame : Node E → Fml
-  frame c = fsep (lies_at (RL E) full_share (links_of (RL E) (RK E) (RV E) c.at) c.links) (fsep (body_frame c.at c.body) (deed_owns (RL E) (RK E) (RV E) chunk_token c.at))
-
-  abbrev pub frames : List (Node E) → Fml
-  frames [] = ftrue
-  frames (c ∷ cs) = fsep (frame c) (frames cs)
-
-  abbrev pub key_lent : Ptr → Option Pair → Lft → Fml
+  abbrev pub key_lent : Ptr → Option (S.Denot × W.Denot) → Lft → Fml
   key_lent p None = nothing
-  key_lent p (Some x) = lent_at (RK E) (key_of (RL E) (RK E) (RV E) p) x.0
+  key_lent p (Some x) = lent_at S (key_of R S W p) x.0
 
-  abbrev pub frames_lent : List (Node E) → Lft → Fml
+  abbrev pub frames_lent : List Node → Lft → Fml
   frames_lent [] = nothing
-  frames_lent (c ∷ cs) = beside (beside (lent_at (RL E) (links_of (RL E) (RK E) (RV E) c.at) c.links) (key_lent c.at c.body)) (frames_lent cs)
+  frames_lent (c ∷ cs) = beside (beside (lent_at R (links_of R S W c.at) c.links) (key_lent c.at c.body)) (frames_lent cs)
 
   abbrev pub Hr : RattleType
-  Hr = H-type.the_row (RV E)
+  Hr = H-type.the_row W
 
-module _ (E : Three) {M : Type 1} {𝓤 : Ura M} (𝓛 : Logic 𝓤) where
-  abbrev Spr : List (Ptr × E.value.Denot) → List E.value.Denot → Fml
-  Spr r ws = spread (RV E) (at_places E r) ws
+module _ (R S W : RattleType) {M : Type 1} {𝓤 : Ura M} (𝓛 : Logic 𝓤) where
+  abbrev Entries : Type 0
+  Entries = List (Ptr × (S.Denot × W.Denot))
 
-  cut_body : (p : Ptr) (b : Option (E.key.Denot × E.value.Denot)) (r : List (Ptr × E.value.Denot)) → ent 𝓤 (sep 𝓤 (sem 𝓛 (body_owns (RL E) (RK E) (RV E) p b)) (sem 𝓛 (Spr r (vals E r)))) (sep 𝓤 (sem 𝓛 (Spr (value_then p b r) (vals E (value_then p b r)))) (sem 𝓛 (body_frame E p b)))
-  cut_body p None r = qed 𝓛 (‵ (body_owns (RL E) (RK E) (RV E) p None) ∷ ‵ (Spr r (vals E r)) ∷ []) ∵ move ! (1 ∷ []) $ done !
-  cut_body p (Some x) r = qed 𝓛 (‵ (body_owns (RL E) (RK E) (RV E) p (Some x)) ∷ ‵ (Spr r (vals E r)) ∷ []) ∵ fsplit ! $ move ! (1 ∷ 2 ∷ []) $ fjoin ! $ done !
+  abbrev Spr : Entries → List W.Denot → Fml
+  Spr r ws = spread W (at_places R S W r) ws
 
-  pub nodes_cut : (cs : List (Node E)) → ent 𝓤 (sem 𝓛 (Cells E cs)) (sep 𝓤 (sem 𝓛 (Spr (values cs) (vals E (values cs)))) (sem 𝓛 (frames E cs)))
-  nodes_cut [] = qed 𝓛 (‵ ftrue ∷ []) ∵ empty ! $ done !
-  nodes_cut (c ∷ cs) = qed 𝓛 (‵ (Cells E (c ∷ cs)) ∷ []) ∵ fsplit ! $ fsplit3 ! $ move ! (3 ∷ []) $
-      use1 𝓛 (‵ (Spr (values cs) (vals E (values cs))) ⊛ ‵ (frames E cs)) (nodes_cut cs) $ split ! $ move ! (3 ∷ 0 ∷ []) $
-      use2 𝓛 (‵ (Spr (value_then c.at c.body (values cs)) (vals E (value_then c.at c.body (values cs)))) ⊛ ‵ (body_frame E c.at c.body)) (cut_body c.at c.body (values cs)) $ split ! $
+  abbrev Cells : List (Node R S W) → Fml
+  Cells = cells_own R S W
+
+  cut_body : (k : Bool) (p : Ptr) (b : Option (S.Denot × W.Denot)) (r : Entries) → ent 𝓤 (sep 𝓤 (sem 𝓛 (body_owns R S W p b)) (sem 𝓛 (Spr r (vals R S W r)))) (sep 𝓤 (sem 𝓛 (Spr (lent_then k p b r) (vals R S W (lent_then k p b r)))) (sem 𝓛 (body_frame R S W k p b)))
+  cut_body false p b r = qed 𝓛 (‵ (body_owns R S W p b) ∷ ‵ (Spr r (vals R S W r)) ∷ []) ∵ move ! (1 ∷ []) $ done !
+  cut_body true p None r = qed 𝓛 (‵ (body_owns R S W p None) ∷ ‵ (Spr r (vals R S W r)) ∷ []) ∵ move ! (1 ∷ []) $ done !
+  cut_body true p (Some x) r = qed 𝓛 (‵ (body_owns R S W p (Some x)) ∷ ‵ (Spr r (vals R S W r)) ∷ []) ∵ fsplit ! $ move ! (1 ∷ 2 ∷ []) $ fjoin ! $ done !
+
+  pub nodes_cut : (keep : Ptr → Bool) (cs : List (Node R S W)) → ent 𝓤 (sem 𝓛 (Cells cs)) (sep 𝓤 (sem 𝓛 (Spr (lent keep cs) (vals R S W (lent keep cs)))) (sem 𝓛 (frames R S W keep cs)))
+  nodes_cut keep [] = qed 𝓛 (‵ ftrue ∷ []) ∵ empty ! $ done !
+  nodes_cut keep (c ∷ cs) = let r = lent keep cs in let k = keep c.at in qed 𝓛 (‵ (Cells (c ∷ cs)) ∷ []) ∵ fsplit ! $ fsplit3 ! $ move ! (3 ∷ []) $
+      use1 𝓛 (‵ (Spr r (vals R S W r)) ⊛ ‵ (frames R S W keep cs)) (nodes_cut keep cs) $ split ! $ move ! (3 ∷ 0 ∷ []) $
+      use2 𝓛 (‵ (Spr (lent_then k c.at c.body r) (vals R S W (lent_then k c.at c.body r))) ⊛ ‵ (body_frame R S W k c.at c.body)) (cut_body k c.at c.body r) $ split ! $
       -- [the values; the body's frame; the other frames; the links; the deed]
       move ! (1 ∷ 4 ∷ []) $ fjoin ! $ move ! (3 ∷ 0 ∷ []) $ fjoin ! $ move ! (0 ∷ 2 ∷ []) $ fjoin ! $ move ! (1 ∷ 0 ∷ []) $ done !
 
-  mend_one : (p : Ptr) (l : E.links.Denot) (b : Option (E.key.Denot × E.value.Denot)) (r : List (Ptr × E.value.Denot)) (ws : List E.value.Denot) (cs : List (Node E))
-      → ((us : List E.value.Denot) → ent 𝓤 (sep 𝓤 (sem 𝓛 (Spr r us)) (sem 𝓛 (frames E cs))) (sem 𝓛 (Cells E (refill cs us))))
-      → ent 𝓤 (sep 𝓤 (sem 𝓛 (Spr (value_then p b r) ws)) (sem 𝓛 (frames E (cell p l b ∷ cs)))) (sem 𝓛 (Cells E (refill_one p l b ws (refill cs))))
-  mend_one p l None r ws cs h = qed 𝓛 (‵ (Spr r ws) ∷ ‵ (frames E (cell p l None ∷ cs)) ∷ []) ∵ move ! (1 ∷ []) $ fsplit ! $ move ! (2 ∷ 1 ∷ []) $
-      use2 𝓛 (‵ (Cells E (refill cs ws))) (h ws) $ move ! (1 ∷ []) $ fjoin ! $ done !
-  mend_one p l (Some x) r [] cs h = via 𝓤 _ (fst∗ 𝓤 (never 𝓤) (sem 𝓛 (frames E (cell p l (Some x) ∷ cs)))) (never_e 𝓤 _)
-  mend_one p l (Some x) r (w ∷ ws) cs h = qed 𝓛 (‵ (Spr (value_then p (Some x) r) (w ∷ ws)) ∷ ‵ (frames E (cell p l (Some x) ∷ cs)) ∷ []) ∵ fsplit ! $ move ! (2 ∷ []) $ fsplit ! $ move ! (3 ∷ 1 ∷ []) $
-      use2 𝓛 (‵ (Cells E (refill cs ws))) (h ws) $ move ! (1 ∷ []) $ fsplit3 ! $ move ! (1 ∷ 4 ∷ []) $ fjoin ! $ move ! (0 ∷ 2 ∷ []) $ fjoin ! $ move ! (1 ∷ []) $ fjoin ! $ fjoin ! $ done !
+  module _ (keep : Ptr → Bool) (hs : List (Held (S.Denot × W.Denot))) where
+    mend_body : (k : Bool) (p : Ptr) (b : Option (S.Denot × W.Denot)) (r : Entries) → ent 𝓤 (sep 𝓤 (sem 𝓛 (Spr (lent_then k p b r) (taken hs (lent_then k p b r)))) (sem 𝓛 (body_frame R S W k p b))) (sep 𝓤 (sem 𝓛 (Spr r (taken hs r))) (sem 𝓛 (body_owns R S W p (written_body k hs p b))))
+    mend_body false p b r = id⊢ 𝓤 _
+    mend_body true p None r = id⊢ 𝓤 _
+    mend_body true p (Some x) r = qed 𝓛 (‵ (Spr ((p, x) ∷ r) (taken hs ((p, x) ∷ r))) ∷ ‵ (body_frame R S W true p (Some x)) ∷ []) ∵ fsplit ! $ move ! (2 ∷ 0 ∷ []) $ fjoin ! $ move ! (1 ∷ 0 ∷ []) $ done !
 
-  pub nodes_mend : (cs : List (Node E)) (ws : List E.value.Denot) → ent 𝓤 (sep 𝓤 (sem 𝓛 (Spr (values cs) ws)) (sem 𝓛 (frames E cs))) (sem 𝓛 (Cells E (refill cs ws)))
-  unfolding refill
-  nodes_mend [] [] = qed 𝓛 (‵ ftrue ∷ ‵ ftrue ∷ []) ∵ drop ! $ done !
-  nodes_mend [] (w ∷ ws) = qed 𝓛 (‵ (Spr [] (w ∷ ws)) ∷ ‵ ftrue ∷ []) ∵ drop ! $ done !
-  nodes_mend (c ∷ cs) ws = mend_one c.at c.links c.body (values cs) ws cs (nodes_mend cs)
+    pub nodes_mend : (cs : List (Node R S W)) → ent 𝓤 (sep 𝓤 (sem 𝓛 (Spr (lent keep cs) (taken hs (lent keep cs)))) (sem 𝓛 (frames R S W keep cs))) (sem 𝓛 (Cells (written keep hs cs)))
+    nodes_mend [] = qed 𝓛 (‵ ftrue ∷ ‵ ftrue ∷ []) ∵ drop ! $ done !
+    nodes_mend (c ∷ cs) = let r = lent keep cs in let k = keep c.at in qed 𝓛 (‵ (Spr (lent_then k c.at c.body r) (taken hs (lent_then k c.at c.body r))) ∷ ‵ (frames R S W keep (c ∷ cs)) ∷ []) ∵
+        move ! (1 ∷ []) $ fsplit ! $ fsplit3 ! $
+        -- [the links; the body's frame; the deed; the other frames; the values]
+        move ! (4 ∷ 1 ∷ []) $ use2 𝓛 (‵ (Spr r (taken hs r)) ⊛ ‵ (body_owns R S W c.at (written_body k hs c.at c.body))) (mend_body k c.at c.body r) $ split ! $
+        -- [the values; the body; the links; the deed; the other frames]
+        move ! (0 ∷ 4 ∷ []) $ use2 𝓛 (‵ (Cells (written keep hs cs))) (nodes_mend cs) $ move ! (1 ∷ 3 ∷ []) $ fjoin ! $ move ! (2 ∷ 0 ∷ []) $ fjoin ! $ move ! (0 ∷ 1 ∷ []) $ fjoin ! $ done !
 
-  seen_one : (κ : Lft) (p : Ptr) (l : E.links.Denot) (b : Option (E.key.Denot × E.value.Denot)) → ent 𝓤 (sem 𝓛 (beside (lent_at (RL E) (links_of (RL E) (RK E) (RV E) p) l) (key_lent E p b) κ)) (sem 𝓛 (cell_lent (RL E) (RK E) (Hr E) (cell p l b) κ))
+  seen_one : (κ : Lft) (p : Ptr) (l : R.Denot) (b : Option (S.Denot × W.Denot)) → ent 𝓤 (sem 𝓛 (beside (lent_at R (links_of R S W p) l) (key_lent R S W p b) κ)) (sem 𝓛 (cell_lent R S (Hr R S W) (cell p l b) κ))
   seen_one κ p l None = id⊢ 𝓤 _
-  seen_one κ null_ptr l (Some x) = qed 𝓛 (‵ (beside (lent_at (RL E) (links_of (RL E) (RK E) (RV E) null_ptr) l) (key_lent E null_ptr (Some x)) κ) ∷ []) ∵ fsplit ! $ fsplit ! $ keep ! (0 ∷ []) $ by ! (never_e 𝓤 _)
-  seen_one κ (block_ptr b o) l (Some x) = qed 𝓛 (‵ (beside (lent_at (RL E) (links_of (RL E) (RK E) (RV E) (block_ptr b o)) l) (key_lent E (block_ptr b o) (Some x)) κ) ∷ []) ∵ fsplit ! $
+  seen_one κ null_ptr l (Some x) = qed 𝓛 (‵ (beside (lent_at R (links_of R S W null_ptr) l) (key_lent R S W null_ptr (Some x)) κ) ∷ []) ∵ fsplit ! $ fsplit ! $ keep ! (0 ∷ []) $ by ! (never_e 𝓤 _)
+  seen_one κ (block_ptr b o) l (Some x) = qed 𝓛 (‵ (beside (lent_at R (links_of R S W (block_ptr b o)) l) (key_lent R S W (block_ptr b o) (Some x)) κ) ∷ []) ∵ fsplit ! $
       empty ! $ empty ! $ fjoin ! $ move ! (2 ∷ 0 ∷ []) $ fjoin ! $ move ! (1 ∷ 0 ∷ []) $ fjoin ! $ done !
 
-  pub nodes_seen : (κ : Lft) (cs : List (Node E)) → ent 𝓤 (sem 𝓛 (frames_lent E cs κ)) (sem 𝓛 (cells_lent (RL E) (RK E) (Hr E) cs κ))
+  nodes_seen : (κ : Lft) (cs : List (Node R S W)) → ent 𝓤 (sem 𝓛 (frames_lent R S W cs κ)) (sem 𝓛 (cells_lent R S (Hr R S W) cs κ))
   nodes_seen κ [] = id⊢ 𝓤 _
-  nodes_seen κ (c ∷ cs) = qed 𝓛 (‵ (frames_lent E (c ∷ cs) κ) ∷ []) ∵ fsplit ! $ use1 𝓛 (‵ (cell_lent (RL E) (RK E) (Hr E) c κ)) (seen_one κ c.at c.links c.body) $ move ! (1 ∷ []) $
-      use1 𝓛 (‵ (cells_lent (RL E) (RK E) (Hr E) cs κ)) (nodes_seen κ cs) $ move ! (1 ∷ 0 ∷ []) $ fjoin ! $ done !
+  nodes_seen κ (c ∷ cs) = qed 𝓛 (‵ (frames_lent R S W (c ∷ cs) κ) ∷ []) ∵ fsplit ! $ use1 𝓛 (‵ (cell_lent R S (Hr R S W) c κ)) (seen_one κ c.at c.links c.body) $ move ! (1 ∷ []) $
+      use1 𝓛 (‵ (cells_lent R S (Hr R S W) cs κ)) (nodes_seen κ cs) $ move ! (1 ∷ 0 ∷ []) $ fjoin ! $ done !
 
-module _ (E : Three) {M : Type 1} {𝓤 : Ura M} (𝓛 : Logic 𝓤) (l : Lft) (incL : Incl l E.links.lives) (incK : Incl l E.key.lives) where
-  Lends-body : (p : Ptr) (b : Option (E.key.Denot × E.value.Denot)) → Lends 𝓛 (body_frame E p b) (key_lent E p b) l
-  Lends-body p None = Lends-nothing 𝓛 (body_frame E p None) l
-  Lends-body p (Some x) = Lends-lies 𝓛 (RK E) l (key_of (RL E) (RK E) (RV E) p) x.0 (Shares-less 𝓛 (RK E) (RK E).lives l incK ((param_laws 1 E.key E.key_laws).shares 𝓛) x.0)
+  module _ (LR : Laws R) (LS : Laws S) (l : Lft) (incR : Incl l R.lives) (incS : Incl l S.lives) where
+    Lends-key : (p : Ptr) (x : S.Denot) → Lends 𝓛 (lies_at S full_share (key_of R S W p) x) (lent_at S (key_of R S W p) x) l
+    Lends-key p x = Lends-lies 𝓛 S l (key_of R S W p) x (Shares-less 𝓛 S S.lives l incS (LS.shares 𝓛) x)
 
-  pub Lends-frames : (cs : List (Node E)) → Lends 𝓛 (frames E cs) (frames_lent E cs) l
-  Lends-frames [] = Lends-nothing 𝓛 ftrue l
-  Lends-frames (c ∷ cs) = Lends-both 𝓛 (frame E c) (frames E cs) (beside (lent_at (RL E) (links_of (RL E) (RK E) (RV E) c.at) c.links) (key_lent E c.at c.body)) (frames_lent E cs) l
-      (Lends-both 𝓛 (lies_at (RL E) full_share (links_of (RL E) (RK E) (RV E) c.at) c.links) (fsep (body_frame E c.at c.body) (deed_owns (RL E) (RK E) (RV E) chunk_token c.at)) (lent_at (RL E) (links_of (RL E) (RK E) (RV E) c.at) c.links) (key_lent E c.at c.body) l
-      (Lends-lies 𝓛 (RL E) l (links_of (RL E) (RK E) (RV E) c.at) c.links (Shares-less 𝓛 (RL E) (RL E).lives l incL ((param_laws 0 E.links E.links_laws).shares 𝓛) c.links))
-      (Lends-first 𝓛 (body_frame E c.at c.body) (deed_owns (RL E) (RK E) (RV E) chunk_token c.at) (key_lent E c.at c.body) l (Lends-body c.at c.body)))
-      (Lends-frames cs)
+    Lends-body : (k : Bool) (p : Ptr) (b : Option (S.Denot × W.Denot)) → Lends 𝓛 (body_frame R S W k p b) (key_lent R S W p b) l
+    Lends-body false p None = Lends-nothing 𝓛 (body_owns R S W p None) l
+    Lends-body false p (Some x) = Lends-first 𝓛 (lies_at S full_share (key_of R S W p) x.0) (lies_at W full_share (value_of R S W p) x.1) (lent_at S (key_of R S W p) x.0) l (Lends-key p x.0)
+    Lends-body true p None = Lends-nothing 𝓛 (body_owns R S W p None) l
+    Lends-body true p (Some x) = Lends-key p x.0
 
--- how the loan of the values of the nodes h is named, first by the nodes and then by the values
-module _ (E : Three) {M : Type 1} {𝓤 : Ura M} (𝓛 : Logic 𝓤) (h : (Nr E).Denot) (rb ro : ℕ) where
-  abbrev pub run : List (Ptr × E.value.Denot)
-  run = values h.cells
+    Lends-frames : (keep : Ptr → Bool) (cs : List (Node R S W)) → Lends 𝓛 (frames R S W keep cs) (frames_lent R S W cs) l
+    Lends-frames keep [] = Lends-nothing 𝓛 ftrue l
+    Lends-frames keep (c ∷ cs) = Lends-both 𝓛 (frame R S W keep c) (frames R S W keep cs) (beside (lent_at R (links_of R S W c.at) c.links) (key_lent R S W c.at c.body)) (frames_lent R S W cs) l
+        (Lends-both 𝓛 (lies_at R full_share (links_of R S W c.at) c.links) (fsep (body_frame R S W (keep c.at) c.at c.body) (deed_owns R S W chunk_token c.at)) (lent_at R (links_of R S W c.at) c.links) (key_lent R S W c.at c.body) l
+        (Lends-lies 𝓛 R l (links_of R S W c.at) c.links (Shares-less 𝓛 R R.lives l incR (LR.shares 𝓛) c.links))
+        (Lends-first 𝓛 (body_frame R S W (keep c.at) c.at c.body) (deed_owns R S W chunk_token c.at) (key_lent R S W c.at c.body) l (Lends-body (keep c.at) c.at c.body)))
+        (Lends-frames keep cs)
 
-  abbrev pub As : SemTy
-  As = record { rep = (Nr E).Denot; coded = (Nr E).coded; size = 0; own_at = λ m _ _. spread (RV E) (at_places E run) (vals_of m) }
+    pub Lends-nodes : (keep : Ptr → Bool) (cs : List (Node R S W)) → Lends 𝓛 (frames R S W keep cs) (cells_lent R S (Hr R S W) cs) l
+    Lends-nodes keep cs κ ts inc sp = qed 𝓛 (‵ (base.Fml.fbor κ (frames R S W keep cs)) ∷ raw (lfts 𝓛 ts) ∷ []) {P = 𝓛.H.⇛ (sep 𝓤 (sem 𝓛 (cells_lent R S (Hr R S W) cs κ)) (lfts 𝓛 ts))} (
+        updating ! $ use2 𝓛 (later (‵ (frames_lent R S W cs κ) ⊛ raw (lfts 𝓛 ts))) (Lends-frames keep cs κ ts inc sp) $ await ! tt $ split ! $
+        use1 𝓛 (‵ (cells_lent R S (Hr R S W) cs κ)) (nodes_seen κ cs) $ now ! $ done !)
 
-  abbrev pub Vals : SemTy
-  Vals = Spread (RV E) (at_places E run)
+-- the nodes but for the values that are lent, as a type that is shared as nodes of holes are
+module _ (R S W : RattleType) (keep : Ptr → Bool) where
+  abbrev pub Thin : owning.Owning
+  Thin = owning.lending (C.struct R S (Hr R S W)) (C.the_codes R.Denot S.Denot W.Denot R.coded S.coded W.coded (marker.the_row RawPtr).coded) (λ n. frames R S W keep n.cells) (C.the_lent R S (Hr R S W))
 
-  abbrev pub Fields : Fml
-  Fields = part_at (Mark E) full_share (tt, tt) rb ro
+  pub thin_shared : (LR : Laws R) (LS : Laws S) (LH : Laws (Hr R S W)) → Sharable (owning.field Thin)
+  thin_shared LR LS LH = let T = R.lives ++ (S.lives ++ ((Hr R S W).lives ++ [])) in
+      lending_shared Thin (of_Lends (C.struct R S (Hr R S W)) (C.the_codes R.Denot S.Denot W.Denot R.coded S.coded W.coded (marker.the_row RawPtr).coded) (λ n. frames R S W keep n.cells) (C.the_lent R S (Hr R S W))
+      (λ d p. cells_lent_laws R S (Hr R S W) LR.shr_laws LS.shr_laws LH.shr_laws d.cells) (copy_shared (marker.the_field RawPtr) (field_copy (marker.the_type RawPtr) tt), tt)
+      (λ M 𝓤 𝓛 d p. Lends-nodes R S W 𝓛 LR LS (owning.row Thin).lives (Incl-trans (meet_⊑_left T _) (meet_⊑_left R.lives (S.lives ++ ((Hr R S W).lives ++ []))))
+      (Incl-trans (meet_⊑_left T _) (Incl-trans (meet_⊑_right R.lives (S.lives ++ ((Hr R S W).lives ++ []))) (meet_⊑_left S.lives ((Hr R S W).lives ++ [])))) keep d.cells))
 
-  abbrev pub Thin : Fml
-  Thin = frames E h.cells
+abbrev behind : List Field → List Field
+behind [] = []
+behind (F ∷ Fs) = Fs
 
-  spread-length : (ps : List Ptr) (ws : List E.value.Denot) → ent 𝓤 (sem 𝓛 (spread (RV E) ps ws)) (fact 𝓤 (length ws ≡ length ps))
-  spread-length [] [] = fact_i 𝓤 _ (emp 𝓤) refl
-  spread-length [] (w ∷ ws) = never_e 𝓤 _
-  spread-length (p ∷ ps) [] = never_e 𝓤 _
-  spread-length (p ∷ ps) (w ∷ ws) = qed 𝓛 (‵ (lies_at (RV E) full_share p w) ∷ ‵ (spread (RV E) ps ws) ∷ []) ∵ drop ! $
-      use1 𝓛 (given (length ws ≡ length ps) (‵ ftrue)) (spread-length ps ws) $ learn ! (λ e. by ! (fact_i 𝓤 (suc (length ws) ≡ suc (length ps)) (emp 𝓤) (ap suc e)))
+-- a whole ring, whose nodes are thin
+module _ (S W : RattleType) where
+  abbrev pub R : RattleType
+  R = links.the_row
 
-  pub fields_in : (vs : List Val) → ent 𝓤 (sep 𝓤 (sem 𝓛 (cell_at full_share (Nr E).mir vs rb ro)) (sem 𝓛 ((Mark E).own_val (tt, tt) vs))) (sem 𝓛 Fields)
-  unfolding part_of
-  fields_in vs = qed 𝓛 (‵ (cell_at full_share (Nr E).mir vs rb ro) ∷ ‵ ((Mark E).own_val (tt, tt) vs) ∷ []) ∵ fjoin ! $ fpack ! (List Val) (λ us. fsep (cell_at full_share (Nr E).mir us rb ro) ((Mark E).own_val (tt, tt) us)) vs $ done !
+  abbrev pub Inside : Type 0
+  Inside = D-type.Inside S.Denot W.Denot
 
-  pub back : (m : (Nr E).Denot) → ent 𝓤 (sep 𝓤 (sem 𝓛 (spread (RV E) (at_places E run) (vals_of m))) (sep 𝓤 (sem 𝓛 (fseps (Fields ∷ Thin ∷ []))) (emp 𝓤))) (sem 𝓛 ((mem (Nr E)).own_at (refilled h (vals_of m)) rb ro))
-  unfolding part_of fseps
-  back m = qed 𝓛 (‵ (spread (RV E) (at_places E run) (vals_of m)) ∷ ‵ (fsep Fields (fsep Thin ftrue)) ∷ raw (emp 𝓤) ∷ []) ∵ move ! (1 ∷ []) $ fsplit3 ! $ move ! (3 ∷ 1 ∷ []) $
-      use2 𝓛 (‵ (Cells E (refill h.cells (vals_of m)))) (nodes_mend E 𝓛 h.cells (vals_of m)) $ move ! (1 ∷ []) $ fpick ! (λ vs. fsplit ! $ move ! (1 ∷ 2 ∷ []) $ fjoin ! $ move ! (1 ∷ 0 ∷ []) $ fjoin ! $
-      fpack ! (List Val) (λ us. fsep (cell_at full_share (Nr E).mir us rb ro) ((Nr E).own_val (refilled h (vals_of m)) us)) vs $ keep ! (0 ∷ []) $ done !)
+  abbrev pub Full : RattleType
+  Full = I-type.the_row S W
 
-  pub named_back : (ws : List E.value.Denot) → ent 𝓤 (sep 𝓤 (sem 𝓛 (spread (RV E) (at_places E run) ws)) (emp 𝓤)) (sem 𝓛 (spread (RV E) (at_places E run) (vals_of (refilled h ws))))
-  named_back ws = fact_use 𝓤 (length ws ≡ length (at_places E run)) (via 𝓤 _ (fst∗ 𝓤 (sem 𝓛 (spread (RV E) (at_places E run) ws)) (emp 𝓤)) (spread-length (at_places E run) ws)) (λ long.
-      qed 𝓛 (‵ (spread (RV E) (at_places E run) ws) ∷ raw (emp 𝓤) ∷ []) ∵ rewrite ! 0 (λ (l : List E.value.Denot). ‵ (spread (RV E) (at_places E run) l)) (sym (kept h.cells ws (long ∙ length-map run _))) refl $ keep ! (0 ∷ []) $ done !)
+  abbrev pub values_of : Inside → Denots (rows (I-type.struct S W).parts)
+  values_of a = intos (I-type.struct S W).parts ((I-type.struct S W).as_values a)
+
+  module _ (keep : Ptr → Bool) where
+    abbrev pub parts : List Field
+    parts = owning.field (Thin R S W keep) ∷ behind (I-type.struct S (Hr R S W)).parts
+
+    abbrev pub thin_shape : Shape
+    thin_shape = record { name = (I-type.struct S W).name; args = []; types = S ∷ Hr R S W ∷ []; fields = rows parts }
+
+    abbrev pub Thinned : RattleType
+    Thinned = Struct thin_shape
+
+    abbrev pub thinned : Inside → Thinned.Denot
+    thinned a = (a.nodes, (values_of a).1)
+
+    module _ {M : Type 1} {𝓤 : Ura M} (𝓛 : Logic 𝓤) (a : Inside) (b o : ℕ) where
+      -- what the nodes that pass the test hold
+      abbrev passed : List (Ptr × (S.Denot × W.Denot))
+      passed = lent keep a.nodes.cells
+
+      pub ring_cut : ent 𝓤 (sem 𝓛 (part_at Full full_share a b o)) (sep 𝓤 (sem 𝓛 (spread W (at_places R S W passed) (vals R S W passed))) (sem 𝓛 (part_at Thinned full_share (thinned a) b o)))
+      unfolding part_of
+      ring_cut = qed 𝓛 (‵ (part_at Full full_share a b o) ∷ []) ∵ fpick ! (λ vs. fsplit ! $ move ! (1 ∷ []) $ fpick ! (λ vss. fsplit ! $ move ! (1 ∷ []) $ fsplit ! $ fsplit ! $
+          -- [the mark; the nodes; the other fields; the value; the cell]
+          move ! (1 ∷ []) $ use1 𝓛 (‵ (spread W (at_places R S W passed) (vals R S W passed)) ⊛ ‵ (frames R S W keep a.nodes.cells)) (nodes_cut R S W 𝓛 keep a.nodes.cells) $ split ! $
+          move ! (2 ∷ 1 ∷ []) $ fjoin ! $ move ! (0 ∷ 2 ∷ []) $ fjoin ! $ move ! (2 ∷ 0 ∷ []) $ fjoin ! $
+          fpack ! (Valss (rows parts)) (within thin_shape (thinned a) vs) vss $ move ! (2 ∷ 0 ∷ []) $ fjoin ! $
+          fpack ! (List Val) (λ us. fsep (cell_raw full_share (raw_all Thinned.mir) us b o) (Thinned.own_val (thinned a) us)) vs $ move ! (1 ∷ []) $ done !))
+
+      module _ (hs : List (Held (S.Denot × W.Denot))) where
+        abbrev pub mended : Inside
+        mended = record a { nodes = record { mark = a.nodes.mark; cells = written keep hs a.nodes.cells; apart = subst IsApart (sym (places_written keep hs a.nodes.cells)) a.nodes.apart } }
+
+        pub ring_mend : ent 𝓤 (sep 𝓤 (sem 𝓛 (spread W (at_places R S W passed) (taken hs passed))) (sem 𝓛 (part_at Thinned full_share (thinned a) b o))) (sem 𝓛 (part_at Full full_share mended b o))
+        unfolding part_of
+        ring_mend = qed 𝓛 (‵ (spread W (at_places R S W passed) (taken hs passed)) ∷ ‵ (part_at Thinned full_share (thinned a) b o) ∷ []) ∵
+            move ! (1 ∷ []) $ fpick ! (λ vs. fsplit ! $ move ! (1 ∷ []) $ fpick ! (λ vss. fsplit ! $ move ! (1 ∷ []) $ fsplit ! $ fsplit ! $
+            -- [the mark; the frames; the other fields; the value; the cell; the values]
+            move ! (5 ∷ 1 ∷ []) $ use2 𝓛 (‵ (cells_own R S W (written keep hs a.nodes.cells))) (nodes_mend R S W 𝓛 keep hs a.nodes.cells) $
+            move ! (1 ∷ 0 ∷ []) $ fjoin ! $ fjoin ! $ move ! (1 ∷ 0 ∷ []) $ fjoin ! $
+            fpack ! (Valss (rows (I-type.struct S W).parts)) (within (declared.shape (I-type.the_type S W)) (values_of mended) vs) vss $ move ! (1 ∷ 0 ∷ []) $ fjoin ! $
+            fpack ! (List Val) (λ us. fsep (cell_raw full_share (raw_all Full.mir) us b o) (Full.own_val mended us)) vs $ done !))
+
+-- how the loan of the values is named, first by the ring and then by the values
+module _ (S W : RattleType) where
+  abbrev pub Lr : RattleType
+  Lr = R-type.the_row S W
+
+  abbrev pub kept_by : Inside S W → Ptr → Bool
+  kept_by a = among (ring_places a.nodes.cells a.guard a.len)
+
+  abbrev pub entries : Inside S W → List (Ptr × (S.Denot × W.Denot))
+  entries a = held_entries a.nodes.cells a.guard a.len
+
+  abbrev pub As : Inside S W → SemTy
+  As a = record { rep = State (S.Denot × W.Denot); coded = Lr.coded; size = 0; own_at = λ m _ _. spread W (at_places links.the_row S W (entries a)) (taken m.held (entries a)) }
+
+  abbrev pub Vals : Inside S W → SemTy
+  Vals a = Spread W (at_places links.the_row S W (entries a))
+
+  -- the values ws, as a ring would list them
+  abbrev pub named : Inside S W → List W.Denot → State (S.Denot × W.Denot)
+  named a ws = state (listing (entries a) ws) 0 []
+
+  abbrev pub view : Inside S W → State (S.Denot × W.Denot)
+  view = R-type.the_view S W
+
+  abbrev pub good : Inside S W → Type 0
+  good = R-type.the_invariant S W
+
+  module _ {M : Type 1} {𝓤 : Ura M} (𝓛 : Logic 𝓤) (a : Inside S W) (d : State (S.Denot × W.Denot)) (seen : view a ≡ d) (ok : good a) (b o : ℕ) where
+    abbrev pub Fields : Fml
+    Fields = part_at (Thinned S W (kept_by a)) full_share (thinned S W (kept_by a) a) b o
+
+    spread-length : (ps : List Ptr) (ws : List W.Denot) → ent 𝓤 (sem 𝓛 (spread W ps ws)) (fact 𝓤 (length ws ≡ length ps))
+    spread-length [] [] = fact_i 𝓤 _ (emp 𝓤) refl
+    spread-length [] (w ∷ ws) = never_e 𝓤 _
+    spread-length (p ∷ ps) [] = never_e 𝓤 _
+    spread-length (p ∷ ps) (w ∷ ws) = qed 𝓛 (‵ (lies_at W full_share p w) ∷ ‵ (spread W ps ws) ∷ []) ∵ drop ! $
+        use1 𝓛 (given (length ws ≡ length ps) (‵ ftrue)) (spread-length ps ws) $ learn ! (λ e. by ! (fact_i 𝓤 (suc (length ws) ≡ suc (length ps)) (emp 𝓤) (ap suc e)))
+
+    again : (m : State (S.Denot × W.Denot)) → view (mended S W (kept_by a) 𝓛 a b o m.held) ≡ with_values d m
+    again m i = state ((list_written a.nodes.cells a.guard a.spare a.len a.spares a.first_spliced.ptr a.last_spliced.ptr a.spliced m.held ∙ ap (λ (s : State (S.Denot × W.Denot)). revalued_by m.held s.held) seen) i) (seen i).spares
+        ((spliced_stands a.nodes.cells a.guard a.spare a.len a.spares a.first_spliced.ptr a.last_spliced.ptr a.spliced m.held ok.1 ∙ ap (λ (s : State (S.Denot × W.Denot)). s.spliced) seen) i)
+
+    pub back : (m : State (S.Denot × W.Denot)) → ent 𝓤 (sep 𝓤 (sem 𝓛 (spread W (at_places links.the_row S W (entries a)) (taken m.held (entries a)))) (sep 𝓤 (sem 𝓛 (fseps (Fields ∷ []))) (emp 𝓤))) (sem 𝓛 ((mem Lr).own_at (with_values d m) b o))
+    unfolding fseps
+    back m = let a' = mended S W (kept_by a) 𝓛 a b o m.held in
+        qed 𝓛 (‵ (spread W (at_places links.the_row S W (entries a)) (taken m.held (entries a))) ∷ ‵ (fsep Fields ftrue) ∷ raw (emp 𝓤) ∷ []) ∵ move ! (1 ∷ []) $ fsplit ! $ move ! (2 ∷ 0 ∷ []) $
+        use2 𝓛 (‵ (part_at (Full S W) full_share a' b o)) (ring_mend S W (kept_by a) 𝓛 a b o m.held) $ keep ! (0 ∷ []) $
+        by ! (Plain-in Lr (Full S W) (view_owns (Full S W) (State (S.Denot × W.Denot)) Lr.coded view good) 𝓛 full_share (with_values d m) a'
+        (view_made (Full S W) (State (S.Denot × W.Denot)) Lr.coded view good 𝓛 (with_values d m) a'
+        (again m, still_ring a.nodes.cells a.guard a.spare a.len a.spares a.first_spliced.ptr a.last_spliced.ptr a.spliced m.held ok.0 ok.1)) b o)
+
+    pub taken_named : (ws : List W.Denot) → length ws ≡ length (entries a) → taken (named a ws).held (entries a) ≡ ws
+    taken_named ws = taken_listing (entries a) ws (apart_lent (kept_by a) a.nodes.cells a.nodes.apart)
+
+    pub named_back : (ws : List W.Denot) → ent 𝓤 (sep 𝓤 (sem 𝓛 (spread W (at_places links.the_row S W (entries a)) ws)) (emp 𝓤)) (sem 𝓛 (spread W (at_places links.the_row S W (entries a)) (taken (named a ws).held (entries a))))
+    named_back ws = let ps = at_places links.the_row S W (entries a) in
+        fact_use 𝓤 (length ws ≡ length ps) (via 𝓤 _ (fst∗ 𝓤 (sem 𝓛 (spread W ps ws)) (emp 𝓤)) (spread-length ps ws)) (λ long.
+        qed 𝓛 (‵ (spread W ps ws) ∷ raw (emp 𝓤) ∷ []) ∵ rewrite ! 0 (λ (l : List W.Denot). ‵ (spread W ps l)) (sym (taken_named ws (long ∙ length-map (run_of (entries a)) _ ∙ length-map (entries a) _))) refl $ keep ! (0 ∷ []) $ done !)
 
 -- the loan's field, which takes no bytes
 abbrev pub LoanMark : NamedLft → (R S W : RattleType) → RattleType
-LoanMark a R S W = Struct (shape (L-type.the_type a R S W))
+LoanMark a R S W = Struct (owning.shape (L-type.the_type a R S W))
 
 pub loan_made : (a : NamedLft) (R S W : RattleType) {M : Type 1} {𝓤 : Ura M} (𝓛 : Logic 𝓤) → ent 𝓤 (emp 𝓤) (sem 𝓛 ((LoanMark a R S W).own_val (tt, tt) (mark ∷ [])))
 loan_made a R S W 𝓛 = makes_shadow 𝓛 ((LoanMark a R S W).own_val (tt, tt) (mark ∷ [])) (λ vss. (tt, ((λ uss. (tt, tt)), tt))) ((vstruct vnil ∷ [], tt), (refl, ((tt, (refl, tt)), tt)))

@@ -4,7 +4,6 @@ pub mod Lends
 pub mod Loans
 pub mod Ownership
 pub mod Positions
-pub mod Refills
 pub mod RingLends
 pub mod RingState
 pub mod Rings

@@ -187,6 +187,9 @@ impl<'a, K, V> DoubleEndedIterator for IterMut<'a, K, V> {
 }
 
 impl<K, V> Ring<K, V> {
+    ghost use Rattle.std.specs.Borrow.{sem};
+    ghost use Rattle.lhm_ring.specs.RingLends.{lends_values, KeepsAllButValues};
+
     /// What is held, in order, from both ends. It takes no memory.
     pub fn iter(&self) -> Iter<'_, K, V>
         ensures { result ≡ self.now.held }
@@ -208,36 +211,16 @@ impl<K, V> Ring<K, V> {
     }
 
     /// What is held, in order, from both ends, each value for writing. It takes no memory. Numbers, keys,
-    /// positions, links and the order stand.
+    /// positions, links, the order and the spare nodes stand.
     pub fn iter_mut(&mut self) -> IterMut<'_, K, V>
-        ensures { rest_of result ≡ self.old.held }
+        ensures* writes_back { sem 𝓛 (lends_values K.row V.row self.entry result.1) }
+        ensures keeps { KeepsAllButValues self.old }
+        ensures rest { rest_of result ≡ self.old.held }
     {
-        match self.guard {
-            Some(guard) => {
-                let left = self.len;
-                let (nodes, loan) = self.nodes.lend();
-                IterMut {
-                    holes: Iter {
-                        nodes,
-                        before: guard,
-                        after: guard,
-                        left,
-                    },
-                    loan,
-                }
-            }
-            None => {
-                let (nodes, loan) = self.nodes.lend();
-                IterMut {
-                    holes: Iter {
-                        nodes,
-                        before: nowhere(),
-                        after: nowhere(),
-                        left: 0,
-                    },
-                    loan,
-                }
-            }
+        let (holes, loan) = self.lend();
+        IterMut {
+            holes: holes.iter(),
+            loan,
         }
     }
 }

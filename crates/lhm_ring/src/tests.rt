@@ -1,5 +1,11 @@
+ghost use Rattle.std.specs.Prelude.{◌≡◌, map};
+ghost use Rattle.lhm_ring.specs.RingState.{IsHeld, AtHeld};
+ghost use Rattle.lhm_ring.specs.RingLends.{unvalued};
+ghost use Rattle.lhm_ring.specs.Positions.{place_of};
+
 use crate::block::Node;
 use crate::links::Links;
+use crate::position::Position;
 use crate::ring::Ring;
 use std::alloc::AllocError;
 use std::iter::{DoubleEndedIterator, ExactSizeIterator, Iterator};
@@ -76,6 +82,31 @@ fn hands_out_from_both_ends(rt: HostRuntime) -> Result<(), Fail> {
     assert_eq!(rt; rest.next(), Some((1, 'a', 10)));
     assert_eq!(rt; rest.next_back(), Some((2, 'b', 2)));
     assert_eq!(rt; rest.next_back(), None);
+    Ok(())
+}
+
+/// Writes each value, and reads the number at `at`, which is where it was: no value is known, and all else stands.
+fn number_after_writing(ring: &mut Ring<char, u64>, at: Position<char, u64>) -> u64
+    requires { IsHeld ring.old.held (place_of at) }
+    ensures number { AtHeld ring.old.held (place_of at) (λ xs t ys. result ≡ t.number) }
+    ensures held { map unvalued ring.new.held ≡ map unvalued ring.old.held }
+    ensures spares { ring.new.spares ≡ ring.old.spares }
+    ensures spliced { ring.new.spliced ≡ ring.old.spliced }
+{
+    for (number, _, value) in ring.iter_mut() {
+        *value = number;
+    }
+    ring.number(at)
+}
+
+#[test]
+fn stands_but_for_values_after_writing(rt: HostRuntime) -> Result<(), Fail> {
+    let mut ring: Ring<char, u64> = Ring::new(rt.alloc());
+    ring.grow(3)?;
+    ring.put_back(7, 'a', 1);
+    let b = ring.put_back(9, 'b', 2);
+    assert_eq!(rt; number_after_writing(&mut ring, b), 9);
+    assert!(rt; is_ring(&ring, &[(7, 'a', 7), (9, 'b', 9)], 1));
     Ok(())
 }
 

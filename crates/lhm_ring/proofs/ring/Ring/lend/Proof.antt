@@ -1,0 +1,114 @@
+-- `lend` shares the ring as one of holes, and lends the values. Assumes `Logic`.
+use Rattle.std.proofs.Common.{◌≡◌, ℕ, List, [], ◌∷◌, ◌++◌, refl, sym, ◌∙◌, subst}
+use base.Fraction.{full_share}
+use mir.Syntax.{a_type, named}
+use mir.Val.{Val, vptr, vstruct, vcons, vnil}
+use mir.MapTy.{inst_fn}
+use base.Logic.{SProp, ent, emp, id⊢}
+use base.Fml.{Fml, Lft, Incl-trans, Incl-refl, ftrue, fsep, flft, fobs, fbor, fseps}
+use prog.Wp.{WpFn}
+use types.Kit.{◌∵◌, ‵, raw, ◌⊛◌, some, later, at_ret, ◌$◌, !, qed, by, move, keep, use0, use1, use2, pick, await, group, split, split3, join, fsplit, fsplit3, fjoin, suffices, rewrite, feq_i}
+use types.Run.{stop, addr, of_opd, no_more, and_then, first, blocks, exec, returns, enter}
+use types.ByLocal.{alloc_all, pass_all, free_all, look_at, get, through, sets, sets_last, env}
+use types.Part.{agg}
+use types.Follow.{takes_beside, takes_part, after as afterwards}
+use types.SemTy.{SemTy, Body as Borrowed}
+use types.Mut.{open_ref}
+use contract.Running.{tables}
+use contract.BorrowLft.{◌⊑◌}
+use contract.Monad.{fact, fact_i}
+use lib.ListN.{length-map}
+use denote.Exit.{no}
+use denote.Follow.{follows}
+use denote.Memory.{mem, part_at}
+use denote.Model.Fields.{view_owns, view-Hides, plain_out}
+use denote.Opens.{hide}
+use denote.Param.{param, layouts}
+use denote.Param.Laws.{param_laws}
+use denote.Param.Shared.{parts_share}
+use denote.RattleType.{RattleType, owns}
+use denote.RawPtr.{Ptr}
+use denote.Ref.{Bor, ShrRef}
+use denote.Signature.{types_at, plain, mut_ref_to, named_lft}
+use denote.Steps.{nothing, heard}
+use denote.Triple.Walked.{Stays, stay_dropped, walk_of, Goes-spent_ref}
+use Rattle.std.proofs.VecSteps.Shapes.{after}
+use Rattle.std.proofs.raw_atomic.Walks.{proved_at, leaves}
+use Rattle.lhm_ring.specs.Loans.{spread}
+use Rattle.lhm_ring.specs.RingState.{State}
+use Rattle.lhm_ring.specs.RingLends.{with_values}
+use Rattle.lhm_ring.specs.Stretches.{AreLent}
+use Rattle.lhm_ring.specs.declared.loan.Loan.{Loan}
+use Rattle.lhm_ring.specs.declared.links.Links.{Links}
+use Rattle.lhm_ring.specs.contracts.links.Links as links
+use Rattle.lhm_ring.specs.contracts.loan.Hole as H-type
+use Rattle.lhm_ring.specs.contracts.loan.Loan as L-type
+use Rattle.lhm_ring.specs.contracts.ring.Ring as R-type
+use Rattle.lhm_ring.specs.contracts.ring.Ring.TheInside as I-type
+use Rattle.lhm_ring.proofs.links.Links.TheLaws as links-laws
+use Rattle.lhm_ring.proofs.loan.Hole.TheLaws as H-laws
+use Rattle.lhm_ring.proofs.ring.Ring.TheInside.TheLaws as I-laws
+use Rattle.lhm_ring.proofs.Memory.{mark, two_made}
+use Rattle.lhm_ring.proofs.Refilling.{run_of, taken, all_lent}
+use Rattle.lhm_ring.proofs.Lending.{Inside, Full, parts, thin_shape, Thinned, thinned, thin_shared, at_places, vals, kept_by, entries, As, Vals, named as listed_as, view, good, Fields, ring_cut, back, taken_named, named_back, LoanMark, loan_made}
+use Rattle.lhm_ring.specs.contracts.ring.Ring.lend.{ended, clauses}
+use Rattle.lhm_ring.specs.contracts.ring.Ring.lend.Key.{name as #self}
+use Rattle.lhm_ring.proofs.ring.Ring.lend.Statement.{statement}
+use Rattle.lhm_ring.proofs.ring.Ring.lend.Code as code
+
+pub lend_spec : {M : Type 1} → statement M
+unfolding fseps
+lend_spec 𝓤 𝓛 𝓜 𝓡 wired K V LK LV =
+    let H = 𝓛.H in let 𝓣 = tables 𝓤 H 𝓜 𝓡 𝓡.env in let Q : RattleType = links.the_row in let S : RattleType = param 0 K in let W : RattleType = param 1 V in let Hr : RattleType = H-type.the_row W in
+    let R : RattleType = R-type.the_row S W in let En = ended K V in let c = clauses K V 𝓛 𝓜.mem 𝓡.returns in let args = layouts (a_type ∷ a_type ∷ []) (K, (V, tt)) in let fn = inst_fn args code.function in
+    let hs : Stays En.signature.params En.kept = (stay_dropped (mut_ref_to (0 ∷ []) tt (plain (λ _. R))) no, tt) in
+    proved_at 𝓛 En hs c 𝓜 𝓡 (Goes-spent_ref 𝓛 3 (0 ∷ []) tt (plain (λ _. R)), tt)
+    (#self args) fn (code.unfolded 𝓤 H 𝓜 𝓡 wired (K, (V, tt))) (λ y are.
+    let κs = y.0.0 in let qs = y.0.1 in let a = y.0.3 in let vss = y.0.4 in let Post : Val → SProp 𝓤 = (walk_of 𝓛 En hs c).post y in
+    let rb : ℕ = a.0.ref_ptr.0 in let ro : ℕ = a.0.ref_ptr.1 in let d : State (K.Denot × V.Denot) = a.0.now in
+    let others : Fml = fsep (flft κs.1.0 qs.1.0) (fsep (flft κs.1.1.0 qs.1.1.0) ftrue) in
+    let κ : Lft = κs.0 in let q = qs.0 in let γ = a.0.ghost_name in let dcode = R.coded.code d in let bounds = y.0.2 in
+    let It : RattleType = L-type.the_row (named_lft 3 0 tt κs) Q S W in let Holed : RattleType = R-type.the_row S Hr in let lm : RattleType = LoanMark (named_lft 3 0 tt κs) Q S W in
+    qed 𝓛 (((‵ (flft κs.0 qs.0) ⊛ ‵ others) ⊛ ‵ (owns (types_at En.signature.params κs) a vss)) ∷ raw (fact 𝓤 (κs.1.0 ⊑ K.lives)) ∷ raw (fact 𝓤 (κs.1.1.0 ⊑ V.lives)) ∷ raw (emp 𝓤) ∷ []) ∵
+    keep ! (1 ∷ 2 ∷ 0 ∷ []) $ heard ! (κs.1.0 ⊑ K.lives) (λ inK. heard ! (κs.1.1.0 ⊑ V.lives) (λ inV. split ! $ split ! $ move ! (2 ∷ []) $ fsplit ! $ fsplit3 ! $ keep ! (1 ∷ 2 ∷ 4 ∷ 5 ∷ []) $
+    let us : List Val = vptr rb ro ∷ [] in let Run : List Val → SProp 𝓤 = λ ws. WpFn 𝓤 H 𝓣.C 𝓣.Λ fn ws Post in
+    suffices ! (Run us) (subst (λ (ws : List Val). ent 𝓤 (Run us) (Run ws)) (sym (λ i. are.0.0 i ++ [])) (id⊢ 𝓤 (Run us))) $
+    enter ! 𝓣.C 𝓣.Λ fn us Post $ alloc_all ! (λ l. pass_all ! refl ((tt, tt), tt) $ let Ev = env fn.locals l in
+    open_ref ! tt (mem R) {x = d} {b = rb} {o = ro} $
+    use1 𝓛 (some (λ (x : (i : Inside S W) × ((view S W i ≡ d) × good S W i)). ‵ (part_at (Full S W) full_share x.0 rb ro)))
+    (plain_out R (Full S W) (view_owns (Full S W) (State (K.Denot × V.Denot)) R.coded (view S W) (good S W)) 𝓛 full_share d rb ro) $ pick ! (λ x.
+    let i : Inside S W = x.0 in let seen = x.1.0 in let ok = x.1.1 in let kb : Ptr → _ = kept_by S W i in let es = entries S W i in let ps : List Ptr = at_places Q S W es in let ws : List V.Denot = vals Q S W es in
+    let As' : SemTy = As S W i in let Vs : SemTy = Vals S W i in let Fs : Fml = Fields S W 𝓛 i d seen ok rb ro in let m : State (K.Denot × V.Denot) = listed_as S W i ws in
+    let is : taken m.held es ≡ ws = taken_named S W 𝓛 i d seen ok rb ro ws (length-map (run_of es) _ ∙ length-map es _) in let mcode = R.coded.code m in
+    use1 𝓛 (‵ (spread W ps ws) ⊛ ‵ Fs) (ring_cut S W kb 𝓛 i rb ro) $ split ! $
+    -- [the values; the fields; the open borrow, in three; the other tokens]
+    rewrite ! 0 (λ (l : List V.Denot). ‵ (spread W ps l)) (sym is) refl $ nothing ! $ move ! (2 ∷ 0 ∷ []) $ fjoin ! $ nothing ! $ move ! (3 ∷ 4 ∷ 5 ∷ 2 ∷ 1 ∷ 0 ∷ []) $ group ! 6 $
+    use1 𝓛 (later (some (λ (ν : ℕ). ‵ (fobs ν mcode) ⊛ ‵ (fbor κ (Borrowed As' 0 0 ν)) ⊛ ‵ (flft κ q) ⊛ ‵ (follows R R γ ν (with_values d)) ⊛ ‵ (fbor κ Fs) ⊛ ‵ ftrue)))
+    (takes_beside 𝓛 (mem R) As' (with_values d) κ q rb ro 0 0 γ (Fs ∷ []) (emp 𝓤) (back S W 𝓛 i d seen ok rb ro) dcode dcode m) $ await ! tt $ pick ! (λ ν. split3 ! $ move ! (2 ∷ []) $ split3 ! $ move ! (3 ∷ 4 ∷ 0 ∷ []) $
+    -- [the name; the borrow; its token; what follows; the shared parts; the other tokens]
+    open_ref ! tt As' {x = m} {b = 0} {o = 0} $ rewrite ! 0 (λ (l : List V.Denot). ‵ (spread W ps l)) is refl $ nothing ! $ move ! (2 ∷ 3 ∷ 4 ∷ 1 ∷ 0 ∷ []) $ group ! 5 $
+    use1 𝓛 (later (some (λ (δ : ℕ). ‵ (fobs δ (Vs.coded.code ws)) ⊛ ‵ (fbor κ (Borrowed Vs 0 0 δ)) ⊛ ‵ (flft κ q) ⊛ ‵ (afterwards As' Vs ν δ (listed_as S W i)))))
+    (takes_part 𝓛 As' Vs (listed_as S W i) κ q 0 0 0 0 ν (emp 𝓤) (named_back S W 𝓛 i d seen ok rb ro) mcode mcode ws) $ await ! tt $ pick ! (λ δ. split3 ! $ fjoin ! $
+    let lent : Loan Links K.Denot V.Denot = record { mark = record {}; name = δ; tie = ν; run = run_of es } in let top : Bor (State (K.Denot × V.Denot)) = record { ref_ptr = (rb, ro); now = d } in
+    use0 𝓛 (‵ (lm.own_val (tt, tt) (mark ∷ []))) (loan_made (named_lft 3 0 tt κs) Q S W 𝓛) $ fjoin ! $
+    -- [the loan; its token and the second name's; what follows; the shared parts; the other tokens]
+    move ! (1 ∷ []) $ split ! $ move ! (4 ∷ []) $ split ! $
+    -- [the fields; nothing; the token; the second name's; the loan; what follows; the other tokens]
+    move ! (0 ∷ 2 ∷ []) $ let LS = param_laws 0 K LK in let LH = H-laws.the_row_laws W (param_laws 1 V LV) in
+    use2 𝓛 (later (‵ ((Thinned S W kb).shr_at (thinned S W kb i) rb ro κ) ⊛ ‵ (flft κ q)))
+    (parts_share 𝓛 (parts S W kb) (thin_shape S W kb).name (thin_shape S W kb).args (thin_shape S W kb).types (thin_shared Q S W kb links-laws.the_row_laws LS LH, (I-laws.the_shared S Hr LS LH).1) (thinned S W kb i) κ ((κ, q) ∷ []) rb ro
+    (I-laws.the_within S Hr κ (Incl-trans bounds.0 inK) (H-laws.the_within W κ (Incl-trans bounds.1.0 inV))) (Incl-refl κ)) $ await ! tt $ split ! $
+    use1 𝓛 (‵ (Holed.shr_at d rb ro κ)) (view-Hides (I-type.the_row S Hr) (State (K.Denot × V.Denot)) Holed.coded (R-type.the_view S Hr) (R-type.the_invariant S Hr) _ 𝓤 𝓛 d i (seen, ok) rb ro κ) $
+    hide ! $ feq_i ! (List Val) (vptr rb ro ∷ []) (vptr rb ro ∷ []) refl $ fjoin ! $
+    -- [the ring, shared; the token; nothing; the second name's; the loan; what follows; the other tokens]
+    move ! (0 ∷ 4 ∷ []) $ two_made ! (ShrRef (named 0) κ Holed) It top lent (vptr rb ro) mark $
+    let out : Val = vstruct (vcons (vptr rb ro) (vcons mark vnil)) in
+    sets ! (addr ! (through ! refl (stop !))) refl (tt, tt) $ first ! $ blocks ! $ sets_last ! (addr ! (through ! refl (stop !))) refl (tt, tt) $
+    exec ! 𝓣.C 𝓣.Λ Ev (after 2 fn.body) (at_ret Ev Post) $ sets ! (of_opd ! (get ! refl)) refl (tt, tt) $ sets ! (agg ! (no_more !)) refl (tt, tt) $
+    sets ! (agg ! (and_then ! (get ! refl) (no_more !))) refl (tt, (tt, tt)) $ sets ! (agg ! (and_then ! (get ! refl) (and_then ! (get ! refl) (no_more !)))) refl (tt, (tt, ((tt, tt), tt))) $
+    -- [the pair; the token; nothing; the second name's; what follows; the other tokens]
+    let Same : Type 0 = d.held ≡ d.held in let Lent' : Type 0 = AreLent (run_of es) d.held in
+    use0 𝓛 (raw (fact 𝓤 Lent')) (fact_i 𝓤 Lent' (emp 𝓤) (subst (λ (s : State (K.Denot × V.Denot)). AreLent (run_of es) s.held) seen (all_lent i.nodes.cells i.guard i.spare i.len i.spares ok.0))) $
+    use0 𝓛 (raw (fact 𝓤 Same)) (fact_i 𝓤 Same (emp 𝓤) refl) $ join ! $ move ! (5 ∷ 0 ∷ []) $ join ! $ move ! (2 ∷ 5 ∷ []) $ join ! $
+    nothing ! $ nothing ! $ fjoin ! $
+    returns ! (look_at ! 0 refl) $ free_all ! refl $ keep ! (1 ∷ 0 ∷ 3 ∷ 2 ∷ []) $ by ! (leaves 𝓛 En hs c y out (top, lent) (tt, tt) (tt, tt)))))))))
