@@ -11,7 +11,7 @@ trap 'rm -f "$log"' EXIT
 
 refuse_each_growth() {
     crate=$1
-    tests=$(cat crates/"$crate"/src/*tests.rt | grep -c '^ *fn refused_')
+    tests=$(cat $(find crates/"$crate"/src -name '*.rt') | grep -c '^ *fn refused_')
     growth=1
     while :; do
         if ! (cd "crates/$crate" && rt try --test --fail-alloc "$growth" -- refused_) >"$log" 2>&1; then
@@ -30,7 +30,7 @@ refuse_each_growth() {
 }
 
 for crate in crates/*; do
-    if grep -q '^ *fn refused_' "$crate"/src/*tests.rt 2>/dev/null; then
+    if grep -rq '^ *fn refused_' "$crate"/src; then
         refuse_each_growth "$(basename "$crate")"
     fi
 done

@@ -1,6 +1,6 @@
 -- Words that spell numbers.
-use Rattle.std.proofs.Common.{ℕ, ◌≡◌, List, [], ◌∷◌, refl}
-use Rattle.lhm.specs.Commands.{SpellNumbers, StartWithNumber}
+use Rattle.std.proofs.Common.{ℕ, ◌≡◌, ◌≢◌, ◌<◌, List, [], ◌∷◌, ◌++◌, length, Bool, IsTrue, IsFalse, Option, Some, None, is_some, MatchOption, refl, sym, ap, ◌∙◌, arith, true≢false}
+use Rattle.lhm.specs.Commands.{SpellNumbers, StartWithNumber, numbers_of}
 
 -- one number more
 pub SpellNumbers-cons : (words others : List (List ℕ)) (n : ℕ) (ns : List ℕ) → StartWithNumber words n others → SpellNumbers others ns → SpellNumbers words (n ∷ ns)
@@ -21,3 +21,37 @@ SpellNumbers-nil (word ∷ words) spell = absurd spell
 pub StartWithNumber-first : (words : List (List ℕ)) (n : ℕ) (ns : List ℕ) → SpellNumbers words (n ∷ ns) → (others : List (List ℕ)) × StartWithNumber words n others
 StartWithNumber-first [] n ns spell = absurd spell
 StartWithNumber-first (word ∷ words) n ns spell = (words, (spell.0, refl))
+
+-- the pairs that words spell after the first two numbers of the words before them
+pub numbers_of-left : (words middle others : List (List ℕ)) (k v : ℕ) (pairs : List (ℕ × ℕ)) → words ≢ [] → StartWithNumber words k middle → StartWithNumber middle v others → SpellNumbers words (numbers_of pairs) → (left : List (ℕ × ℕ)) × SpellNumbers others (numbers_of left)
+numbers_of-left words middle others k v [] some first second spell = absurd (some (SpellNumbers-nil words spell))
+numbers_of-left words middle others k v (pair ∷ pairs) some first second spell =
+    (pairs, SpellNumbers-rest middle others v pair.1 (numbers_of pairs) second (SpellNumbers-rest words middle k pair.0 (pair.1 ∷ numbers_of pairs) first spell))
+
+-- words that spell pairs start with a number, if there are any
+pub StartWithNumber-pairs : (words : List (List ℕ)) (pairs : List (ℕ × ℕ)) → words ≢ [] → SpellNumbers words (numbers_of pairs) → (k : ℕ) × (others : List (List ℕ)) × StartWithNumber words k others
+StartWithNumber-pairs words [] some spell = absurd (some (SpellNumbers-nil words spell))
+StartWithNumber-pairs words (pair ∷ pairs) some spell =
+    let first = StartWithNumber-first words pair.0 (pair.1 ∷ numbers_of pairs) spell in
+    (pair.0, first.0, first.1)
+
+-- and with a second one
+pub StartWithNumber-second : (words middle : List (List ℕ)) (k : ℕ) (pairs : List (ℕ × ℕ)) → words ≢ [] → StartWithNumber words k middle → SpellNumbers words (numbers_of pairs) → (v : ℕ) × (others : List (List ℕ)) × StartWithNumber middle v others
+StartWithNumber-second words middle k [] some first spell = absurd (some (SpellNumbers-nil words spell))
+StartWithNumber-second words middle k (pair ∷ pairs) some first spell =
+    let second = StartWithNumber-first middle pair.1 (numbers_of pairs) (SpellNumbers-rest words middle k pair.0 (pair.1 ∷ numbers_of pairs) first spell) in
+    (pair.1, second.0, second.1)
+
+-- there are fewer words after a number
+pub length-after : (words others : List (List ℕ)) (n : ℕ) → StartWithNumber words n others → length others < length words
+length-after [] others n first = absurd first
+length-after (word ∷ words) others n first = let same = ap length first.1 in omega (arith, same)
+
+-- whether a text has words, by splitting one off
+pub words-some : {P : Type 0} (o : Option P) {words : List (List ℕ)} (first : P → List ℕ) (rest : P → List (List ℕ)) → IsTrue (is_some o) → MatchOption o (words ≡ []) (λ p. words ≡ first p ∷ rest p) → words ≢ []
+words-some None first rest some split = absurd (true≢false (sym some))
+words-some (Some p) first rest some split = λ none. let same = ap length (sym none ∙ split) in omega (arith, same)
+
+pub words-none : {P : Type 0} (o : Option P) {words : List (List ℕ)} (first : P → List ℕ) (rest : P → List (List ℕ)) → IsFalse (is_some o) → MatchOption o (words ≡ []) (λ p. words ≡ first p ∷ rest p) → words ≡ []
+words-none None first rest none split = split
+words-none (Some p) first rest none split = absurd (true≢false none)

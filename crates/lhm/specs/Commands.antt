@@ -2,7 +2,7 @@
 use Rattle.std.specs.Prelude.{ℕ, ◌≡◌, ◌≢◌, ◌+◌, ◌⊎◌, List, [], ◌∷◌, ◌++◌, Bool, true, false, All, codes, filter, length, map}
 use Rattle.std.specs.List.{AllZip}
 use Rattle.linked_hash_map.specs.declared.replay.Command.{Command}
-use Rattle.linked_hash_map.specs.declared.replay.Command.TheVariants.{Insert, Write, Refresh, Remove, PopFront, PopBack, Clear, Reserve, Shrink}
+use Rattle.linked_hash_map.specs.declared.replay.Command.TheVariants.{Insert, Write, Refresh, Remove, PopFront, PopBack, Clear, Drain, Extend, OrInsert, EntryInsert, EntryRemove, Reserve, Shrink}
 use Rattle.lhm.specs.declared.parser.Name.{Name}
 use Rattle.lhm.specs.declared.parser.Name.TheVariants as name
 use Rattle.lhm.specs.Grammar.{words_of, SpellsNumber}
@@ -30,8 +30,18 @@ command_name (Remove k) = name.Remove
 command_name PopFront = name.PopFront
 command_name PopBack = name.PopBack
 command_name Clear = name.Clear
+command_name Drain = name.Drain
+command_name (Extend pairs) = name.Extend
+command_name (OrInsert k v) = name.OrInsert
+command_name (EntryInsert k v) = name.EntryInsert
+command_name (EntryRemove k) = name.EntryRemove
 command_name (Reserve n) = name.Reserve
 command_name Shrink = name.Shrink
+
+-- the numbers of pairs, each key before its value
+abbrev pub numbers_of : List (ℕ × ℕ) → List ℕ
+numbers_of [] = []
+numbers_of (pair ∷ pairs) = pair.0 ∷ pair.1 ∷ numbers_of pairs
 
 -- the numbers after it
 abbrev pub command_numbers : Command ℕ ℕ → List ℕ
@@ -42,6 +52,11 @@ command_numbers (Remove k) = k ∷ []
 command_numbers PopFront = []
 command_numbers PopBack = []
 command_numbers Clear = []
+command_numbers Drain = []
+command_numbers (Extend pairs) = numbers_of pairs
+command_numbers (OrInsert k v) = k ∷ v ∷ []
+command_numbers (EntryInsert k v) = k ∷ v ∷ []
+command_numbers (EntryRemove k) = k ∷ []
 command_numbers (Reserve n) = n ∷ []
 command_numbers Shrink = []
 
@@ -54,6 +69,11 @@ name_text name.Remove = codes "remove"
 name_text name.PopFront = codes "popfront"
 name_text name.PopBack = codes "popback"
 name_text name.Clear = codes "clear"
+name_text name.Drain = codes "drain"
+name_text name.Extend = codes "extend"
+name_text name.OrInsert = codes "orinsert"
+name_text name.EntryInsert = codes "eput"
+name_text name.EntryRemove = codes "eremove"
 name_text name.Reserve = codes "reserve"
 name_text name.Shrink = codes "shrink"
 

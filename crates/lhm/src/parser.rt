@@ -1,17 +1,46 @@
 //! Commands from the words of lines.
-ghost use Rattle.std.specs.Prelude.{ℕ, ◌≡◌, ◌≢◌, ◌∷◌, List, [], IfSome, IfNone, IfOk, IfErr, OnOk, OnErr, MatchOption};
+ghost use Rattle.std.specs.Prelude.{ℕ, ◌≡◌, ◌≢◌, ◌∷◌, List, [], IfSome, IfNone, IfOk, IfErr, OnOk, OnErr, IsErrOf, MatchOption};
 ghost use Rattle.lhm.specs.Grammar.{words_of, lines_of};
-ghost use Rattle.lhm.specs.Commands.{SpellNumbers, StartWithNumber, name_text, command_name, command_numbers, IsSaidBy, AreCommandsOf, IsInvalid};
+ghost use Rattle.lhm.specs.Commands.{SpellNumbers, StartWithNumber, name_text, command_name, command_numbers, numbers_of, IsSaidBy, AreCommandsOf, IsInvalid};
 ghost use Rattle.lhm.specs.Stop.{StopsLines};
 
 use super::grammar::{number, split_line, split_word};
 use super::stop::Stop;
-use linked_hash_map::replay::Command;
-use std::alloc::Global;
+use linked_hash_map::replay::{Command, PairList};
+use std::alloc::{AllocError, AllocFailed, Global};
 
 /// The error of words that say no command.
 #[derive(Clone, Copy, Debug, PartialEq)]
 struct NotACommand;
+
+/// Why a line gives no command.
+#[derive(Clone, Copy, Debug, PartialEq)]
+enum LineError {
+    /// Its words say no command.
+    NotACommand,
+    /// Memory was refused for its pairs.
+    OutOfMemory,
+}
+
+impl From<NotACommand> for LineError {
+    ghost use Rattle.lhm.specs.declared.parser.LineError.{LineError};
+
+    ghost from_gives = { λ _ error. error ≡ LineError.NotACommand };
+
+    fn from(_error: NotACommand) -> LineError {
+        LineError::NotACommand
+    }
+}
+
+impl<T: Drop> From<AllocFailed<T>> for LineError {
+    ghost use Rattle.lhm.specs.declared.parser.LineError.{LineError};
+
+    ghost from_gives = { λ _ error. error ≡ LineError.OutOfMemory };
+
+    fn from(_error: AllocFailed<T>) -> LineError {
+        LineError::OutOfMemory
+    }
+}
 
 /// Checks that there is no word.
 fn no_number(rest: &[u8]) -> Result<(), NotACommand>
@@ -60,6 +89,23 @@ fn two_numbers(rest: &[u8]) -> Result<(u64, u64), NotACommand>
     Ok((k, v))
 }
 
+/// Returns the pairs that the words are, two numbers each.
+fn pairs(alloc: Global, rest: &[u8]) -> Result<Vec<(u64, u64)>, LineError>
+    ensures ok { IfOk result (λ pairs. SpellNumbers (words_of rest.now) (numbers_of pairs.items)) }
+    ensures err { IsErrOf result LineError.NotACommand
+        → (pairs : List (ℕ × ℕ)) → ¬ SpellNumbers (words_of rest.now) (numbers_of pairs) }
+{
+    let mut pairs = Vec::new(alloc);
+    let mut rest = rest;
+    while split_word(rest).is_some() {
+        let (k, after) = split_number(rest)?;
+        let (v, after) = split_number(after)?;
+        pairs.push((k, v))?;
+        rest = after;
+    }
+    Ok(pairs)
+}
+
 /// The name of a command.
 #[derive(Clone, Copy)]
 enum Name {
@@ -70,6 +116,11 @@ enum Name {
     PopFront,
     PopBack,
     Clear,
+    Drain,
+    Extend,
+    OrInsert,
+    EntryInsert,
+    EntryRemove,
     Reserve,
     Shrink,
 }
@@ -87,6 +138,11 @@ fn name_of(word: &[u8]) -> Option<Name>
         b"popfront" => Some(Name::PopFront),
         b"popback" => Some(Name::PopBack),
         b"clear" => Some(Name::Clear),
+        b"drain" => Some(Name::Drain),
+        b"extend" => Some(Name::Extend),
+        b"orinsert" => Some(Name::OrInsert),
+        b"eput" => Some(Name::EntryInsert),
+        b"eremove" => Some(Name::EntryRemove),
         b"reserve" => Some(Name::Reserve),
         b"shrink" => Some(Name::Shrink),
         _ => None,
@@ -94,10 +150,10 @@ fn name_of(word: &[u8]) -> Option<Name>
 }
 
 /// Returns the command of a name that the words after it say.
-fn named(name: Name, rest: &[u8]) -> Result<Command<u64, u64>, NotACommand>
+fn named(alloc: Global, name: Name, rest: &[u8]) -> Result<Command<u64, u64>, LineError>
     ensures name { IfOk result (λ command. command_name command ≡ name) }
     ensures numbers { IfOk result (λ command. SpellNumbers (words_of rest.now) (command_numbers command)) }
-    ensures err { OnErr result ((command : Command ℕ ℕ) → command_name command ≡ name
+    ensures err { IsErrOf result LineError.NotACommand → ((command : Command ℕ ℕ) → command_name command ≡ name
         → ¬ SpellNumbers (words_of rest.now) (command_numbers command)) }
 {
     match name {
@@ -123,6 +179,20 @@ fn named(name: Name, rest: &[u8]) -> Result<Command<u64, u64>, NotACommand>
             no_number(rest)?;
             Ok(Command::Clear)
         }
+        Name::Drain => {
+            no_number(rest)?;
+            Ok(Command::Drain)
+        }
+        Name::Extend => Ok(Command::Extend(PairList::from(pairs(alloc, rest)?))),
+        Name::OrInsert => {
+            let (k, v) = two_numbers(rest)?;
+            Ok(Command::OrInsert(k, v))
+        }
+        Name::EntryInsert => {
+            let (k, v) = two_numbers(rest)?;
+            Ok(Command::EntryInsert(k, v))
+        }
+        Name::EntryRemove => Ok(Command::EntryRemove(one_number(rest)?)),
         Name::Reserve => Ok(Command::Reserve(one_number(rest)? as usize)),
         Name::Shrink => {
             no_number(rest)?;
@@ -132,17 +202,17 @@ fn named(name: Name, rest: &[u8]) -> Result<Command<u64, u64>, NotACommand>
 }
 
 /// Returns the command that a line says, or `None` where the line is blank.
-fn command(line: &[u8]) -> Result<Option<Command<u64, u64>>, NotACommand>
+fn command(alloc: Global, line: &[u8]) -> Result<Option<Command<u64, u64>>, LineError>
     ensures ok { IfOk result (λ found. MatchOption found (words_of line.now ≡ [])
         (λ command. IsSaidBy command (words_of line.now))) }
-    ensures err { OnErr result (IsInvalid line.now) }
+    ensures err { IsErrOf result LineError.NotACommand → IsInvalid line.now }
 {
     let Some((word, rest)) = split_word(line) else {
         return Ok(None);
     };
     match name_of(word) {
-        Some(name) => Ok(Some(named(name, rest)?)),
-        None => Err(NotACommand),
+        Some(name) => Ok(Some(named(alloc, name, rest)?)),
+        None => Err(LineError::NotACommand),
     }
 }
 
@@ -159,10 +229,11 @@ pub fn commands(alloc: Global, bytes: &[u8]) -> Result<Vec<Command<u64, u64>>, S
     while !rest.is_empty() {
         let (line, after) = split_line(rest);
         line_number += 1;
-        match command(line) {
+        match command(alloc, line) {
             Ok(None) => {}
             Ok(Some(command)) => commands.push(command)?,
-            Err(NotACommand) => return Err(Stop::NotACommand(line_number)),
+            Err(LineError::NotACommand) => return Err(Stop::NotACommand(line_number)),
+            Err(LineError::OutOfMemory) => return Err(Stop::OutOfMemory),
         }
         rest = after;
     }

@@ -103,7 +103,7 @@ fn check_run(rt: &impl Abort, alloc: Global, input: &[u8], status: u8, output: &
 
 #[test]
 fn runs_done(rt: HostRuntime) {
-    let rows: [(&str, &str); 16] = [
+    let rows: [(&str, &str); 23] = [
         ("", "list\n"),
         (
             "insert 2 20\ninsert 1 10\ninsert 3 30\n",
@@ -138,8 +138,36 @@ fn runs_done(rt: HostRuntime) {
             "new len=1 cap=1\nnew len=2 cap=2\npair 2 2 len=1 cap=2\ndone len=0 cap=2\nnew len=1 cap=2\nlist 3:3\n",
         ),
         (
-            "insert 1 10\nwrite 1 5\nwrite 9 0\n",
-            "new len=1 cap=1\nold 10 len=1 cap=1\nabsent 9 0 len=1 cap=1\nlist 1:5\n",
+            "insert 1 10\ninsert 2 20\nwrite 1 5\nwrite 9 0\neput 1 6\n",
+            "new len=1 cap=1\nnew len=2 cap=2\nold 10 len=2 cap=2\nabsent 9 0 len=2 cap=2\nold 5 len=2 cap=2\nlist 2:20 1:6\n",
+        ),
+        (
+            "insert 1 10\ninsert 2 20\norinsert 1 5\n",
+            "new len=1 cap=1\nnew len=2 cap=2\nfound len=2 cap=2\nlist 1:10 2:20\n",
+        ),
+        (
+            "orinsert 1 5\neput 1 6\neput 2 7\neremove 1\neremove 1\n",
+            "new len=1 cap=1\nold 5 len=1 cap=1\nnew len=2 cap=2\nold 6 len=1 cap=2\nmissing len=1 cap=2\nlist 2:7\n",
+        ),
+        (
+            "insert 1 1\ninsert 2 2\ndrain\ninsert 3 3\n",
+            "new len=1 cap=1\nnew len=2 cap=2\npairs 1:1 2:2 len=0 cap=2\nnew len=1 cap=2\nlist 3:3\n",
+        ),
+        (
+            "drain\ninsert 1 1\ndrain\ndrain\n",
+            "pairs len=0 cap=0\nnew len=1 cap=1\npairs 1:1 len=0 cap=1\npairs len=0 cap=1\nlist\n",
+        ),
+        (
+            "extend 1 10 2 20 1 30\n",
+            "done len=2 cap=2\nlist 2:20 1:30\n",
+        ),
+        (
+            "insert 1 1\nextend 2 2 1 3\n",
+            "new len=1 cap=1\ndone len=2 cap=2\nlist 2:2 1:3\n",
+        ),
+        (
+            "\nextend\norinsert 5 50\neremove 5\neremove 5\npopback",
+            "done len=0 cap=0\nnew len=1 cap=1\nold 50 len=0 cap=1\nmissing len=0 cap=1\nempty len=0 cap=1\nlist\n",
         ),
         (
             "reserve 3\ninsert 1 1\nreserve 18446744073709551615\nshrink\n",
@@ -174,12 +202,18 @@ fn runs_done(rt: HostRuntime) {
 
 #[test]
 fn lines_that_are_no_command(rt: HostRuntime) {
-    let rows: [(&[u8], &str); 22] = [
+    let rows: [(&[u8], &str); 28] = [
         (
             b"insert 18446744073709551615 1\n\ninsert 18446744073709551616 1\ninsert 5\n",
             "line 3: not a command\n",
         ),
-        (b"drain\n", "line 1: not a command\n"),
+        (b"drain 1\n", "line 1: not a command\n"),
+        (b"extend 1\n", "line 1: not a command\n"),
+        (b"extend 1 2 3\n", "line 1: not a command\n"),
+        (b"extend 1 2 3 x\n", "line 1: not a command\n"),
+        (b"orinsert 1\n", "line 1: not a command\n"),
+        (b"eput\n", "line 1: not a command\n"),
+        (b"eremove 1 2\n", "line 1: not a command\n"),
         (b"popfront 1\n", "line 1: not a command\n"),
         (b"clear all\n", "line 1: not a command\n"),
         (b"write 1\n", "line 1: not a command\n"),
@@ -348,4 +382,26 @@ fn refused_growth_of_a_run(rt: HostRuntime) {
     ];
     let input = b"insert 1 10\ninsert 2 20\ninsert 1 11\nremove 1\ninsert 2 21\n";
     check_ways(&rt, rt.alloc(), input, &ways);
+}
+
+#[test]
+fn refused_growth_of_an_extension(rt: HostRuntime) {
+    let ways = [
+        OUT_OF_MEMORY,
+        Way(0, "stopped 0 1 10 len=0 cap=0\nlist\n", ""),
+        Way(0, "stopped 1 2 20 len=1 cap=1\nlist 1:10\n", ""),
+        Way(0, "done len=2 cap=2\nlist 1:10 2:20\n", ""),
+    ];
+    check_ways(&rt, rt.alloc(), b"extend 1 10 2 20\n", &ways);
+}
+
+#[test]
+fn refused_growth_of_a_draining(rt: HostRuntime) {
+    let ways = [
+        OUT_OF_MEMORY,
+        Way(0, "refused 1 1 len=0 cap=0\npairs len=0 cap=0\nlist\n", ""),
+        Way(0, "new len=1 cap=1\nnoroom len=1 cap=1\nlist 1:1\n", ""),
+        Way(0, "new len=1 cap=1\npairs 1:1 len=0 cap=1\nlist\n", ""),
+    ];
+    check_ways(&rt, rt.alloc(), b"insert 1 1\ndrain\n", &ways);
 }

@@ -1,10 +1,28 @@
 //! The text of replies and of the final list.
 ghost use Rattle.std.specs.Prelude.{◌≡◌, ◌++◌, OnOk, string_bytes, flat_map};
-ghost use Rattle.lhm.specs.Text.{answer_text, reply_text, list_text};
+ghost use Rattle.lhm.specs.Text.{pair_text, answer_text, reply_text, list_text};
 
 use linked_hash_map::Iter;
 use linked_hash_map::replay::{Answer, Reply};
 use std::alloc::AllocError;
+
+/// Appends a pair of a list.
+fn push_pair(text: &mut String, key: u64, value: u64) -> Result<(), AllocError>
+    ensures { OnOk result (string_bytes text.new ≡ string_bytes text.old ++ pair_text (key, value)) }
+{
+    write!(text, " {key}:{value}")
+}
+
+/// Appends a list of pairs.
+fn push_pairs(text: &mut String, pairs: &[(u64, u64)]) -> Result<(), AllocError>
+    ensures { OnOk result
+        (string_bytes text.new ≡ string_bytes text.old ++ flat_map pair_text pairs.now) }
+{
+    for (key, value) in pairs {
+        push_pair(text, *key, *value)?;
+    }
+    Ok(())
+}
 
 /// Appends an answer.
 fn push_answer(text: &mut String, answer: &Answer<u64, u64>) -> Result<(), AllocError>
@@ -19,6 +37,11 @@ fn push_answer(text: &mut String, answer: &Answer<u64, u64>) -> Result<(), Alloc
         Answer::Refused(key, value) => write!(text, "refused {key} {value}"),
         Answer::Pair(key, value) => write!(text, "pair {key} {value}"),
         Answer::Empty => write!(text, "empty"),
+        Answer::Pairs(pairs) => {
+            write!(text, "pairs")?;
+            push_pairs(text, pairs.as_slice())
+        }
+        Answer::Stopped(n, key, value) => write!(text, "stopped {n} {key} {value}"),
         Answer::Done => write!(text, "done"),
         Answer::TooLarge => write!(text, "toolarge"),
         Answer::NoRoom => write!(text, "noroom"),
@@ -52,7 +75,7 @@ pub fn push_list(text: &mut String, pairs: Iter<'_, u64, u64>) -> Result<(), All
 {
     write!(text, "list")?;
     for (key, value) in pairs {
-        write!(text, " {key}:{value}")?;
+        push_pair(text, *key, *value)?;
     }
     writeln!(text)
 }

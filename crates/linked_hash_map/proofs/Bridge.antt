@@ -10,7 +10,7 @@ use Rattle.linked_hash_map.specs.Pairs.{key_or, find, without, to_back, set_valu
 use Rattle.linked_hash_map.proofs.Lists.{option_or_none}
 use Rattle.linked_hash_map.proofs.Pairs.{filter-none}
 use Rattle.linked_hash_map.proofs.Standing.{live-snoc, stored-snoc, value-snoc, standing-snoc, keeps}
-use Rattle.linked_hash_map.proofs.Keys.{stored-live, pair_of-live, stored-same, pair_of-same, same_test, any-standing, none_is}
+use Rattle.linked_hash_map.proofs.LiveKeys.{stored-live, pair_of-live, stored-same, pair_of-same, same_test, any-standing, none_is}
 
 -- a look-up in what g gives of keys, where g tells the same of one key whatever its name
 module _ {K V : Type 0} (same : K → Bool) (g : K → Option (K × V)) (mine : Option (K × V)) (one : (q : K) → same q ≡ true → g q ≡ mine) (keyed : (q : K) (y : K × V) → g q ≡ Some y → same y.0 ≡ same q) where

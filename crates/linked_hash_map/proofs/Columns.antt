@@ -1,5 +1,5 @@
 -- Two vectors as a list of pairs.
-use Rattle.std.proofs.Common.{◌≡◌, ℕ, zero, suc, ◌+◌, ◌<◌, ◌≤◌, Bool, true, false, cond, not, ◌||◌, List, [], ◌∷◌, ◌++◌, length, get_or, set, position, remove, Option, Some, None, IfSome, IfNone, option_map, zip, slice_get, nat_lt, refl, sym, ap, ap₂, ◌∙◌, subst, true≢false, arith, ltb-true, ltb-false, length-append}
+use Rattle.std.proofs.Common.{◌≡◌, ℕ, zero, suc, ◌+◌, ◌<◌, ◌≤◌, Bool, true, false, cond, not, ◌||◌, List, [], ◌∷◌, ◌++◌, length, get_or, set, position, remove, Option, Some, None, IfSome, IfNone, option_map, zip, slice_get, nat_lt, refl, sym, ap, ap₂, ◌∙◌, arith, ltb-true, ltb-false, length-append}
 use Rattle.std.specs.List.{list_any, IsDistinct, position_or_len}
 use Rattle.std.specs.Map.{keys_of}
 use Rattle.std.specs.Cmp.{IsEquivalence}
@@ -93,17 +93,17 @@ length-set [] i x = refl
 length-set (y ∷ xs) zero x = refl
 length-set (y ∷ xs) (suc i) x = ap suc (length-set xs i x)
 
-pub AreColumns-nil : {K V : Type 0} (eq : K → K → Bool) {c a b : ℕ} → c ≤ a → c ≤ b → c ≤ LIMIT → AreColumns {V = V} eq [] [] c a b
+pub AreColumns-nil : {K V : Type 0} (eq : K → K → Bool) {c a b : ℕ} → c ≤ a → c ≤ b → c ≤ LIMIT → AreColumns {V = V} eq [] [] c a b 0 0
 unfolding IsDistinct
 AreColumns-nil eq room_of_keys room_of_values limit =
-    record { distinct = tt; paired = refl; within = omega arith; room_of_keys = room_of_keys; room_of_values = room_of_values; limit = limit }
+    record { distinct = tt; paired = refl; within = omega arith; room_of_keys = room_of_keys; room_of_values = room_of_values; limit = limit; in_reach = omega arith }
 
-module _ {K V : Type 0} {eq : K → K → Bool} {keys : List K} {values : List V} {c a b : ℕ} (columns : AreColumns eq keys values c a b) where
+module _ {K V : Type 0} {eq : K → K → Bool} {keys : List K} {values : List V} {c a b bookmark unvisited : ℕ} (columns : AreColumns eq keys values c a b bookmark unvisited) where
   pub length-columns : length (zip keys values) ≡ length keys
   length-columns = length-zip keys values columns.paired
 
   -- a map that these columns are
-  module _ {S : Type 0} {room : ℕ} {hasher : S} {m : LinkedMap K V S} (view : linked_map (zip keys values) room hasher ≡ m) where
+  module _ {S : Type 0} {room : ℕ} {hasher : S} {m : LinkedMap K V S} (view : linked_map (zip keys values) room hasher bookmark unvisited ≡ m) where
     pub pairs-view : zip keys values ≡ m.pairs
     pairs-view = ap (λ v. v.pairs) view
 
@@ -115,6 +115,10 @@ module _ {K V : Type 0} {eq : K → K → Bool} {keys : List K} {values : List V
 
   pub within-columns : length (zip keys values) ≤ c
   within-columns = rw length-columns columns.within
+
+  -- as many as a cursor has still to visit are there
+  pub in_reach-columns : bookmark + unvisited ≤ length (zip keys values)
+  in_reach-columns = rw length-columns columns.in_reach
 
   pub distinct-columns : IsDistinct eq (keys_of (zip keys values))
   distinct-columns = rw (keys_of-zip keys values columns.paired) columns.distinct
@@ -154,8 +158,8 @@ module _ {K V : Type 0} {eq : K → K → Bool} {keys : List K} {values : List V
   absent-position k (Some i) h = tt
 
   -- without the key and the value at a place
-  pub AreColumns-remove : (i : ℕ) → i < length keys → AreColumns eq (remove keys i) (remove values i) c a b
-  AreColumns-remove i within =
+  pub AreColumns-remove : (i : ℕ) → i < length keys → {mark rest : ℕ} → mark + rest < length keys → AreColumns eq (remove keys i) (remove values i) c a b mark rest
+  AreColumns-remove i within in_reach =
       let in_values : i < length values = omega (arith, columns.paired) in
       let of_keys = length-removed keys i within in
       let of_values = length-removed values i in_values in
@@ -166,10 +170,11 @@ module _ {K V : Type 0} {eq : K → K → Bool} {keys : List K} {values : List V
         room_of_keys = columns.room_of_keys;
         room_of_values = columns.room_of_values;
         limit = columns.limit;
+        in_reach = omega arith;
       }
 
   -- with one more key, which is absent, and its value
-  pub AreColumns-push : IsEquivalence eq → (k : K) (v : V) → find eq (zip keys values) k ≡ None → length keys < c → AreColumns eq (keys ++ k ∷ []) (values ++ v ∷ []) c a b
+  pub AreColumns-push : IsEquivalence eq → (k : K) (v : V) → find eq (zip keys values) k ≡ None → length keys < c → AreColumns eq (keys ++ k ∷ []) (values ++ v ∷ []) c a b bookmark unvisited
   AreColumns-push laws k v absent room =
       let of_keys = length-append keys (k ∷ []) in
       let of_values = length-append values (v ∷ []) in
@@ -180,10 +185,11 @@ module _ {K V : Type 0} {eq : K → K → Bool} {keys : List K} {values : List V
         room_of_keys = columns.room_of_keys;
         room_of_values = columns.room_of_values;
         limit = columns.limit;
+        in_reach = omega (arith, columns.in_reach);
       }
 
   -- with another value at a place
-  pub AreColumns-set : (i : ℕ) (v : V) → AreColumns eq keys (set values i v) c a b
+  pub AreColumns-set : (i : ℕ) (v : V) → AreColumns eq keys (set values i v) c a b bookmark unvisited
   AreColumns-set i v = record {
     distinct = columns.distinct;
     paired = length-set values i v ∙ columns.paired;
@@ -191,10 +197,11 @@ module _ {K V : Type 0} {eq : K → K → Bool} {keys : List K} {values : List V
     room_of_keys = columns.room_of_keys;
     room_of_values = columns.room_of_values;
     limit = columns.limit;
+    in_reach = columns.in_reach;
   }
 
   -- with another capacity, for which there is room
-  pub AreColumns-room : {d m n : ℕ} → length keys ≤ d → d ≤ m → d ≤ n → d ≤ LIMIT → AreColumns eq keys values d m n
+  pub AreColumns-room : {d m n : ℕ} → length keys ≤ d → d ≤ m → d ≤ n → d ≤ LIMIT → AreColumns eq keys values d m n bookmark unvisited
   AreColumns-room within room_of_keys room_of_values limit = record {
     distinct = columns.distinct;
     paired = columns.paired;
@@ -202,4 +209,5 @@ module _ {K V : Type 0} {eq : K → K → Bool} {keys : List K} {values : List V
     room_of_keys = room_of_keys;
     room_of_values = room_of_values;
     limit = limit;
+    in_reach = columns.in_reach;
   }

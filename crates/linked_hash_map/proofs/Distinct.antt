@@ -1,15 +1,13 @@
 -- The keys of a log's pairs differ, whatever the log.
-use Rattle.std.proofs.Common.{◌≡◌, ◌-◌, Bool, true, false, cond, not, ◌&&◌, List, [], ◌∷◌, ◌++◌, length, take, drop, slice_get, Option, Some, None, is_some, filter, filter_map, refl, sym, ap, ap₂, ◌∙◌, subst, true≢false, append-nil}
+use Rattle.std.proofs.Common.{◌≡◌, Bool, true, false, cond, not, ◌&&◌, List, [], ◌∷◌, ◌++◌, Option, Some, None, filter, filter_map, refl, sym, ap, ◌∙◌, subst, append-nil}
 use Rattle.std.specs.List.{list_any, IsDistinct, AllByRecursion, cons_option}
 use Rattle.std.specs.Map.{keys_of}
 use Rattle.std.specs.Cmp.{IsEquivalence}
-use Rattle.std.proofs.lemmas.List.{map-append}
-use Rattle.std.proofs.lemmas.List.Elements.{filter-append}
 use Rattle.std.proofs.lemmas.Map.Keys.{IsDistinct-push, IsDistinct-head, IsDistinct-tail, IsDistinct-cons}
 use Rattle.linked_hash_map.specs.Log.{Log, Event, Put, Write, Refresh, Remove, RemoveAll, Need, Fit, touched, live, pair_of, pairs, stands, standing, standing_in}
 use Rattle.linked_hash_map.proofs.Lists.{by_last}
 use Rattle.linked_hash_map.proofs.Standing.{standing-snoc, keeps}
-use Rattle.linked_hash_map.proofs.Keys.{pair_of-same, keeps_same, any-filter}
+use Rattle.linked_hash_map.proofs.LiveKeys.{pair_of-same, keeps_same, any-filter}
 
 all_filter : {K : Type 0} (P : K → Type 0) (p : K → Bool) (ks : List K) → AllByRecursion P ks → AllByRecursion P (filter p ks)
 all_filter P p [] h = tt

@@ -1,12 +1,13 @@
 -- What the map's calls answer and leave, on a log that defines the map.
-use Rattle.std.proofs.Common.{◌≡◌, ℕ, zero, suc, ◌+◌, ◌-◌, ◌<◌, ◌≤◌, max, Bool, take, drop, remove, slice_get, subst, arith, drop_of_length-le, List, [], ◌∷◌, ◌++◌, length, Option, Some, None, is_some, option_map, refl, sym, ap, ap₂, ◌∙◌, true≢false, append-nil}
+use Rattle.std.proofs.Common.{◌≡◌, ℕ, zero, suc, ◌+◌, ◌-◌, ◌<◌, ◌≤◌, max, Bool, take, drop, remove, slice_get, subst, arith, drop_of_length-le, List, [], ◌∷◌, ◌++◌, length, Option, Some, None, is_some, option_map, refl, sym, ap, ap₂, ◌∙◌, true≢false, append-nil, append_assoc}
 use Rattle.std.specs.List.{IsDistinct}
+use Rattle.std.proofs.lemmas.List.{map-append}
 use Rattle.std.specs.Map.{keys_of}
 use Rattle.std.specs.Cmp.{IsEquivalence}
-use Rattle.linked_hash_map.specs.Log.{Log, Put, Write, Refresh, Remove, RemoveAll, Need, Fit, live, stored, value, both, pair_of, pairs, size, high, IsFull, Defines}
+use Rattle.linked_hash_map.specs.Log.{Log, Put, Write, Refresh, Remove, RemoveAll, Need, Fit, put_each, live, stored, value, both, pair_of, pairs, size, high, IsFull, Defines}
 use Rattle.linked_hash_map.specs.Pairs.{find, value_at, without, to_back, set_value}
 use Rattle.linked_hash_map.specs.Requests.{IsAbsent, HasValue}
-use Rattle.linked_hash_map.proofs.Keys.{pair_of-live, none_is}
+use Rattle.linked_hash_map.proofs.LiveKeys.{pair_of-live}
 use Rattle.linked_hash_map.proofs.Pairs.{is_some-value_at}
 use Rattle.linked_hash_map.proofs.Bridge.{find-pairs, pairs-put, pairs-write, pairs-refresh, pairs-remove, pairs-remove_all, pairs-need, pairs-fit}
 use Rattle.linked_hash_map.proofs.Marks.{size-pairs, high-put, high-write, high-refresh, high-remove, high-remove_all, high-need, high-fit}
@@ -86,6 +87,13 @@ module _ {K V : Type 0} {eq : K → K → Bool} (laws : IsEquivalence eq) {start
               ∙ ap₂ max defines.same_capacity (size-pairs eq (log ++ Put k v ∷ []) ∙ ap length same)
               ∙ sym m;
         }
+
+    -- the map after one more of many insertions
+    pub Defines-put_last : (v : V) (earlier : Log K V) (items : List (K × V)) {later : List (K × V)} {capacity' : ℕ} → log ≡ earlier ++ put_each items → later ≡ to_back eq held k v → capacity' ≡ max capacity (length later) → Defines eq start (earlier ++ put_each (items ++ (k, v) ∷ [])) later capacity'
+    Defines-put_last v earlier items {later} {capacity'} is h m =
+        let longer : log ++ Put k v ∷ [] ≡ earlier ++ put_each (items ++ (k, v) ∷ []) =
+        ap (λ events. events ++ Put k v ∷ []) is ∙ append_assoc earlier (put_each items) (Put k v ∷ []) ∙ ap (λ events. earlier ++ events) (sym (map-append (λ (pair : K × V). Put pair.0 pair.1) items ((k, v) ∷ []))) in
+        subst (λ events. Defines eq start events later capacity') longer (Defines-put v h m)
 
     -- the map after a removal
     pub Defines-remove : {later : List (K × V)} {capacity' : ℕ} → later ≡ without eq held k → capacity' ≡ capacity → Defines eq start (log ++ Remove k ∷ []) later capacity'

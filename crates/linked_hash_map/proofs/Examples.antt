@@ -1,7 +1,6 @@
 -- The definitions, computed on short logs.
-use Rattle.std.proofs.Common.{◌≡◌, ℕ, ◌%◌, Bool, true, false, List, [], ◌∷◌, Some, None, nat_eq, refl, ◌≤◌, arith}
-use Rattle.std.specs.List.{list_any, after_last}
-use Rattle.linked_hash_map.specs.Log.{Log, Put, Write, Refresh, Remove, RemoveAll, Need, Fit, put_each, live, stored, value, pair_of, standing_in, standing, pairs, size, high, beginnings, fitted}
+use Rattle.std.proofs.Common.{◌≡◌, ℕ, ◌%◌, Bool, false, List, [], ◌∷◌, Some, None, nat_eq, refl, arith}
+use Rattle.linked_hash_map.specs.Log.{Log, Put, Write, Refresh, Remove, RemoveAll, Need, Fit, live, stored, value, pair_of, standing_in, standing, pairs, size, high}
 use Rattle.linked_hash_map.specs.Pairs.{find, value_at, without, to_back, set_value}
 use Rattle.linked_hash_map.specs.Requests.{Request, Response, effects, next_log, IsLive, IsAbsent, HasValue, HasNoRoom, Answers, IsAllowed}
 use Rattle.linked_hash_map.specs.Requests as spec

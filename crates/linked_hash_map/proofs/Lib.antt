@@ -1,13 +1,23 @@
-mod Examples
-pub mod Lists
-pub mod Standing
-pub mod Keys
 pub mod Bridge
-pub mod Distinct
-pub mod Marks
+pub mod Callers
+pub mod Clones
 pub mod Columns
+pub mod Distinct
 pub mod DistinctLists
-pub mod Pairs
+mod Drained
+mod Draining
 pub mod Effects
-pub mod Runs
+pub mod EntryFacts
+mod Examples
+pub mod Extends
+pub mod Inserts
+pub mod Lists
+pub mod LiveKeys
+pub mod Marks
+pub mod Pairs
 pub mod Places
+pub mod Runs
+pub mod Standing
+pub mod Stretches
+pub mod Visits
+mod Walks

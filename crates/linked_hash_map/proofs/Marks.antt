@@ -8,7 +8,7 @@ use Rattle.std.proofs.lemmas.List.Folds.{list_any-append, list_all-append}
 use Rattle.std.proofs.lemmas.List.Sums.{sum_by-append}
 use Rattle.linked_hash_map.specs.Log.{Event, Put, Write, Refresh, Remove, RemoveAll, Need, Fit, Log, is_fit, needed, touched, touches, live, pair_of, stands, standing_in, standing, pairs, size, largest, beginnings, fitted, high}
 use Rattle.linked_hash_map.proofs.Lists.{by_last, after_last-more, after_last-snoc, largest-append, beginnings-snoc}
-use Rattle.linked_hash_map.proofs.Keys.{pair_of-live}
+use Rattle.linked_hash_map.proofs.LiveKeys.{pair_of-live}
 use Rattle.linked_hash_map.specs.Pairs.{find, without, to_back, set_value}
 use Rattle.linked_hash_map.proofs.Bridge.{find-pairs, pairs-put, pairs-write, pairs-refresh, pairs-refresh_absent, pairs-remove, pairs-remove_all, pairs-fit, pairs-need}
 use Rattle.linked_hash_map.proofs.Pairs.{length-without, length-to_back}

@@ -1,11 +1,11 @@
 -- Calls on a list of pairs.
-use Rattle.std.proofs.Common.{◌≡◌, ℕ, suc, ◌+◌, ◌≤◌, Bool, true, false, cond, not, ◌||◌, List, [], ◌∷◌, ◌++◌, length, filter, Option, Some, None, is_some, option_map, refl, sym, ap, ap₂, ◌∙◌, true≢false, arith, length-append}
+use Rattle.std.proofs.Common.{◌≡◌, suc, ◌+◌, Bool, true, false, cond, not, ◌||◌, List, [], ◌∷◌, ◌++◌, length, filter, Option, Some, None, is_some, option_map, refl, sym, ap, ap₂, ◌∙◌, true≢false, arith, length-append}
 use Rattle.std.specs.List.{list_any, IsDistinct}
 use Rattle.std.specs.Map.{lookup_entry, keys_of}
 use Rattle.std.specs.Cmp.{IsEquivalence}
 use Rattle.std.proofs.lemmas.Map.Keys.{IsDistinct-head, IsDistinct-tail}
-use Rattle.linked_hash_map.specs.Pairs.{key_or, find, value_at, without, to_back}
-use Rattle.linked_hash_map.proofs.Keys.{same_test, none_is}
+use Rattle.linked_hash_map.specs.Pairs.{key_or, find, value_at, without, to_back, set_value}
+use Rattle.linked_hash_map.proofs.LiveKeys.{same_test, none_is}
 use Rattle.linked_hash_map.proofs.DistinctLists.{none_from_all}
 
 -- a test that no key passes finds nothing
@@ -35,6 +35,15 @@ filter-none test (pair ∷ pairs) h = by_test (filter-none test pairs) (test pai
     by_test rest true h = absurd (true≢false (ap is_some h))
     by_test rest false h = ap (λ ps. pair ∷ ps) (rest h)
 
+-- the pairs, with another value for one that is not there
+pub set_value-none : {K V : Type 0} (eq : K → K → Bool) (pairs : List (K × V)) (k : K) (v : V) → find eq pairs k ≡ None → set_value eq pairs k v ≡ pairs
+set_value-none eq [] k v h = refl
+set_value-none eq (first ∷ pairs) k v h = by_test (set_value-none eq pairs k v) (eq k first.0) h
+  where
+    by_test : (find eq pairs k ≡ None → set_value eq pairs k v ≡ pairs) → (b : Bool) → cond b (Some first) (find eq pairs k) ≡ None → cond b (first.0, v) first ∷ set_value eq pairs k v ≡ first ∷ pairs
+    by_test rest true h = absurd (true≢false (ap is_some h))
+    by_test rest false h = ap (λ ps. first ∷ ps) (rest h)
+
 -- a key has a pair exactly where it has a value
 pub is_some-value_at : {K V : Type 0} (eq : K → K → Bool) (pairs : List (K × V)) (k : K) → is_some (value_at eq pairs k) ≡ is_some (find eq pairs k)
 is_some-value_at {K} {V} eq pairs k = by_pair (find eq pairs k)
@@ -46,6 +55,10 @@ is_some-value_at {K} {V} eq pairs k = by_pair (find eq pairs k)
 -- the pairs but for that of a key that has no value
 pub without-absent : {K V : Type 0} (eq : K → K → Bool) (pairs : List (K × V)) (k : K) → value_at eq pairs k ≡ None → without eq pairs k ≡ pairs
 without-absent eq pairs k h = filter-none (eq k) pairs (none_is (find eq pairs k) (sym (is_some-value_at eq pairs k) ∙ ap is_some h))
+
+-- an absent key goes to the back with its pair
+pub to_back-absent : {K V : Type 0} (eq : K → K → Bool) (pairs : List (K × V)) (k : K) (v : V) → find eq pairs k ≡ None → pairs ++ (k, v) ∷ [] ≡ to_back eq pairs k v
+to_back-absent eq pairs k v none = sym (ap₂ (λ ps o. ps ++ (key_or k o, v) ∷ []) (filter-none (eq k) pairs none) none)
 
 module _ {K V : Type 0} {eq : K → K → Bool} (laws : IsEquivalence eq) where
   -- the pairs but for that of a key, one fewer where the key has a pair

@@ -1,13 +1,15 @@
 -- Runs that go on by one command, and the log that a map begins with.
-use Rattle.std.proofs.Common.{◌≡◌, ℕ, ◌+◌, ◌≤◌, max, Bool, false, List, [], ◌∷◌, ◌++◌, length, refl, sym, ap, ap₂, ◌∙◌, subst, arith, length-append}
+use Rattle.std.proofs.Common.{◌≡◌, ℕ, ◌≤◌, max, Bool, false, List, [], ◌∷◌, ◌++◌, length, refl, sym, ap, ap₂, ◌∙◌, subst, arith, length-append}
 use Rattle.std.specs.List.{list_any, IsDistinct}
 use Rattle.std.specs.Map.{keys_of}
 use Rattle.std.specs.Cmp.{IsEquivalence}
 use Rattle.std.proofs.lemmas.List.{map-append}
 use Rattle.linked_hash_map.specs.Log.{Log, Put, put_each, pairs, size, high, standing, standing_in, Defines}
-use Rattle.linked_hash_map.specs.Pairs.{key_or, find, without, to_back}
-use Rattle.linked_hash_map.specs.Run.{log_after, first_log, last_log, IsReply, IsRun}
+use Rattle.linked_hash_map.specs.Pairs.{key_or, to_back}
+use Rattle.linked_hash_map.specs.Run.{log_after, first_log, last_log, Serves, IsReply, IsRun}
+use Rattle.linked_hash_map.specs.LinkedMap.{LinkedMap}
 use Rattle.linked_hash_map.specs.declared.replay.Command.{Command}
+use Rattle.linked_hash_map.specs.declared.replay.Answer.{Answer}
 use Rattle.linked_hash_map.specs.declared.replay.Reply.{Reply}
 use Rattle.linked_hash_map.proofs.Lists.{by_last}
 use Rattle.linked_hash_map.proofs.DistinctLists.{distinct_last}
@@ -29,6 +31,10 @@ module _ {K V : Type 0} (eq : K → K → Bool) (start : ℕ) (command : Command
   last_log-snoc log (first ∷ commands) [] run = absurd run
   last_log-snoc log (first ∷ commands) (other ∷ replies) run = last_log-snoc (log_after eq log first other.answer) commands replies run.1
 
+-- a command that takes a map to another takes it to any that is the same
+pub Serves-same : {K V S : Type 0} {eq : K → K → Bool} {old new : LinkedMap K V S} {command : Command K V} {answer : Answer K V} (left : LinkedMap K V S) → new ≡ left → Serves eq old left command answer → Serves eq old new command answer
+Serves-same {eq = eq} {old = old} {command = command} {answer = answer} left same serves = subst (λ m. Serves eq old m command answer) (sym same) serves
+
 pairs-nil : {K : Type 0} (V : Type 0) (eq : K → K → Bool) → pairs {V = V} eq [] ≡ []
 unfolding pairs standing standing_in
 pairs-nil V eq = refl
@@ -38,7 +44,7 @@ unfolding high size standing standing_in
 high-nil V eq start = omega arith
 
 module _ {K V : Type 0} {eq : K → K → Bool} (laws : IsEquivalence eq) where
-  put_last : (es : List (K × V)) (e : K × V) → list_any (eq e.0) (keys_of es) ≡ false → to_back eq es e.0 e.1 ≡ es ++ e ∷ []
+  pub put_last : (es : List (K × V)) (e : K × V) → list_any (eq e.0) (keys_of es) ≡ false → to_back eq es e.0 e.1 ≡ es ++ e ∷ []
   put_last es e apart =
       let none = lookup_entry-none (eq e.0) es apart in
       ap₂ (λ xs o. xs ++ (key_or e.0 o, e.1) ∷ []) (filter-none (eq e.0) es none) none
@@ -46,7 +52,7 @@ module _ {K V : Type 0} {eq : K → K → Bool} (laws : IsEquivalence eq) where
   put_each-snoc : (es : List (K × V)) (e : K × V) → put_each (es ++ e ∷ []) ≡ put_each es ++ Put e.0 e.1 ∷ []
   put_each-snoc es e = map-append (λ x. Put x.0 x.1) es (e ∷ [])
 
-  last_differs : (es : List (K × V)) (e : K × V) → IsDistinct eq (keys_of (es ++ e ∷ [])) → IsDistinct eq (keys_of es) × (list_any (eq e.0) (keys_of es) ≡ false)
+  pub last_differs : (es : List (K × V)) (e : K × V) → IsDistinct eq (keys_of (es ++ e ∷ [])) → IsDistinct eq (keys_of es) × (list_any (eq e.0) (keys_of es) ≡ false)
   last_differs es e distinct = distinct_last laws (keys_of es) e.0 (subst (IsDistinct eq) (map-append (λ (x : K × V). x.0) es (e ∷ [])) distinct)
 
   -- the first log of a map defines its pairs

@@ -1,11 +1,12 @@
 -- What a map is once a reference into it has ended.
 use Rattle.std.specs.Prelude.{ℕ, Option}
-use Rattle.std.specs.Borrow.{Fml, RattleType, MutBor, Lends, LendsIf}
+use Rattle.std.specs.Borrow.{Fml, GName, RattleType, MutBor, Array, Lends, LendsIf, follows}
 use Rattle.std.specs.HashMap.Lent.{HashMembers}
 use Rattle.std.specs.declared.hash.Hasher as hasher
 use Rattle.std.specs.declared.hash.BuildHasher as builder
 use Rattle.linked_hash_map.specs.LinkedMap.{LinkedMap}
-use Rattle.linked_hash_map.specs.Pairs.{to_back, set_value}
+use Rattle.linked_hash_map.specs.Cursor.{without_cursor}
+use Rattle.linked_hash_map.specs.Pairs.{to_back, set_value, set_values}
 use Rattle.linked_hash_map.specs.Places.{set_value_at}
 use Rattle.linked_hash_map.specs.contracts.map.LinkedHashMap.{the_row}
 
@@ -27,6 +28,10 @@ module _ (K V S H : RattleType) (key : HashMembers K.Denot) (build : builder.Gho
     abbrev pub lends_value : K.Denot → Option (MutBor V.Denot) → Fml
     lends_value k r = LendsIf map_row V m r (λ v. record m.now { pairs = set_value key.eq m.now.pairs k v }) m.now
 
-    -- the same, with the pair of k at the back
+    -- the same, with the pair of k at the back and nothing left to visit
     abbrev pub lends_refreshed : K.Denot → Option (MutBor V.Denot) → Fml
-    lends_refreshed k r = LendsIf map_row V m r (λ v. record m.now { pairs = to_back key.eq m.now.pairs k v }) m.now
+    lends_refreshed k r = LendsIf map_row V m r (λ v. record (without_cursor m.now) { pairs = to_back key.eq m.now.pairs k v }) m.now
+
+    -- the values are the last ones written through the loan with this name
+    abbrev pub lends_values : GName → Fml
+    lends_values name = follows map_row (Array V 0) m.ghost_name name (λ vs. record m.now { pairs = set_values m.now.pairs vs })

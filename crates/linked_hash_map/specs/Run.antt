@@ -5,9 +5,9 @@ use Rattle.linked_hash_map.specs.Log.{Log, put_each, size, high, Defines}
 use Rattle.linked_hash_map.specs.Requests.{Request, Response, next_log, Answers, IsAllowed}
 use Rattle.linked_hash_map.specs.Requests as spec
 use Rattle.linked_hash_map.specs.declared.replay.Command.{Command}
-use Rattle.linked_hash_map.specs.declared.replay.Command.TheVariants.{Insert, Write, Refresh, Remove, PopFront, PopBack, Clear, Reserve, Shrink}
+use Rattle.linked_hash_map.specs.declared.replay.Command.TheVariants.{Insert, Write, Refresh, Remove, PopFront, PopBack, Clear, Drain, Extend, OrInsert, EntryInsert, EntryRemove, Reserve, Shrink}
 use Rattle.linked_hash_map.specs.declared.replay.Answer.{Answer}
-use Rattle.linked_hash_map.specs.declared.replay.Answer.TheVariants.{New, Old, Found, Missing, Absent, Refused, Pair, Empty, Done, TooLarge, NoRoom}
+use Rattle.linked_hash_map.specs.declared.replay.Answer.TheVariants.{New, Old, Found, Missing, Absent, Refused, Pair, Empty, Pairs, Stopped, Done, TooLarge, NoRoom}
 use Rattle.linked_hash_map.specs.declared.replay.Reply.{Reply}
 
 -- a command as a request
@@ -19,6 +19,11 @@ request_of (Remove k) = spec.Remove k
 request_of PopFront = spec.PopFront
 request_of PopBack = spec.PopBack
 request_of Clear = spec.Clear
+request_of Drain = spec.Drain
+request_of (Extend pairs) = spec.Extend pairs
+request_of (OrInsert k v) = spec.OrInsert k v
+request_of (EntryInsert k v) = spec.EntryInsert k v
+request_of (EntryRemove k) = spec.EntryRemove k
 request_of (Reserve additional) = spec.Reserve additional
 request_of Shrink = spec.Shrink
 
@@ -32,6 +37,8 @@ response_of (Absent k v) = spec.Absent k v
 response_of (Refused k v) = spec.Refused k v
 response_of (Pair k v) = spec.Pair k v
 response_of Empty = spec.Empty
+response_of (Pairs list) = spec.Pairs list
+response_of (Stopped n k v) = spec.Stopped n k v
 response_of Done = spec.Done
 response_of TooLarge = spec.TooLarge
 response_of NoRoom = spec.NoRoom

@@ -8,9 +8,18 @@
 //! documentation says so.
 #![tactic(auto)]
 
+mod clone;
+mod collect;
+mod compare;
+mod drain;
+mod entry;
+mod iter;
 mod map;
 pub mod replay;
 #[cfg(test)]
 mod tests;
 
-pub use map::{Iter, LIMIT, LinkedHashMap, NoRoom, Refused, ReserveError};
+pub use drain::Drain;
+pub use entry::{Entries, Entry, OccupiedEntry, VacantEntry};
+pub use iter::{IntoIter, Iter, IterMut, Keys, Values};
+pub use map::{LIMIT, LinkedHashMap, NoRoom, Refused, ReserveError};

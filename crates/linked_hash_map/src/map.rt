@@ -1,21 +1,20 @@
 //! The map.
-ghost use Rattle.std.specs.Prelude.{◌≡◌, ◌==◌, ◌+◌, ◌-◌, ◌<◌, ◌≤◌, ◌++◌, ◌∷◌, [], length, max, position, remove, drop, take, slice_get, option_copied, option_map, is_some, None, Some, IsSome, IsTrue, IsFalse, IsErrOf, ◌↔◌, OnOk, OnErr, IfOk, IfErr, IfSome, IfNone};
+ghost use Rattle.std.specs.Prelude.{◌≡◌, ◌==◌, ◌+◌, ◌-◌, ◌<◌, ◌≤◌, ◌++◌, ◌∷◌, [], length, max, position, remove, reverse, drop, take, slice_get, option_copied, option_map, is_some, None, Some, IsSome, IsTrue, IsFalse, IsErrOf, ◌↔◌, OnOk, OnErr, IfOk, IfErr, IfSome, IfNone};
 ghost use Rattle.std.specs.List.{IsDistinct};
-ghost use Rattle.std.specs.Map.{keys_of};
-ghost use Rattle.std.specs.Map.Iter.{TakesFirst, deref_pair};
-ghost use Rattle.std.specs.Iterator.{at_most, UpTo};
-ghost use Rattle.std.specs.Iterator.SizeHint.{IsWithinCount};
+ghost use Rattle.std.specs.Map.{keys_of, values_of};
+ghost use Rattle.std.specs.Map.Iter.{deref, deref_pair, ShowsInOrder, ShowsInReverse, LendsValuesInOrder, LendsValuesInReverse};
 ghost use Rattle.std.specs.Borrow.{sem};
 ghost use Rattle.std.specs.Option.{option_copied_mut};
-ghost use Rattle.linked_hash_map.specs.Pairs.{find, value_at, without, to_back};
+ghost use Rattle.linked_hash_map.specs.Pairs.{find, value_at, without, to_back, KeysStand};
 ghost use Rattle.linked_hash_map.specs.Places.{IsPlace};
+ghost use Rattle.linked_hash_map.specs.Cursor.{to_visit, without_cursor, IsOutside};
 
+use crate::drain::Drain;
+use crate::iter::{IntoIter, Iter, IterMut, Keys, Values};
 use std::alloc::Global;
 use std::hash::{BuildHasher, BuildHasherDefault, FoldHasher, Hash};
-use std::iter::FusedIterator;
 use std::marker::Model;
 use std::ops::{Index, IndexMut};
-use std::slice;
 
 /// The most pairs that a map can have room for: 2^59.
 pub const LIMIT: usize = 576460752303423488;
@@ -56,6 +55,10 @@ pub struct LinkedHashMap<K: Eq + Hash, V, S: BuildHasher = DefaultHasher> {
     values: Vec<V>,
     capacity: usize,
     hasher: S,
+    // The place of the next pair that a cursor visits.
+    bookmark: usize,
+    // How many pairs from there on it has still to visit: none where there is no cursor.
+    unvisited: usize,
 }
 
 impl<K: Eq + Hash, V, S: BuildHasher> Model for LinkedHashMap<K, V, S> {
@@ -67,9 +70,9 @@ impl<K: Eq + Hash, V, S: BuildHasher> Model for LinkedHashMap<K, V, S> {
 
     ghost coded = { linked_map_code K.code V.code S.code };
 
-    ghost view = { λ m. linked_map (zip m.keys.items m.values.items) m.capacity m.hasher };
+    ghost view = { λ m. linked_map (zip m.keys.items m.values.items) m.capacity m.hasher m.bookmark m.unvisited };
 
-    ghost invariant = { λ m. AreColumns K.eq m.keys.items m.values.items m.capacity (vec_capacity m.keys) (vec_capacity m.values) };
+    ghost invariant = { λ m. AreColumns K.eq m.keys.items m.values.items m.capacity (vec_capacity m.keys) (vec_capacity m.values) m.bookmark m.unvisited };
 }
 
 /// Returns the place of a key.
@@ -77,6 +80,22 @@ fn place_of<K: Eq>(keys: &[K], key: &K) -> Option<usize>
     ensures { result ≡ position (K.eq key.now) keys.now }
 {
     keys.iter().position(|stored| key == stored)
+}
+
+/// Returns the bookmark, and how many pairs are unvisited from it on, once the pair at a place is out: a pair before the
+/// bookmark lowers it by one, and one that is still to be visited ends the visit.
+fn visit_without(place: usize, bookmark: usize, unvisited: usize) -> (usize, usize)
+    ensures before { place < bookmark → result ≡ (bookmark - 1, unvisited) }
+    ensures inside { bookmark ≤ place → place < bookmark + unvisited → result ≡ (0, 0) }
+    ensures behind { bookmark + unvisited ≤ place → result ≡ (bookmark, unvisited) }
+{
+    if place < bookmark {
+        (bookmark - 1, unvisited)
+    } else if place - bookmark < unvisited {
+        (0, 0)
+    } else {
+        (bookmark, unvisited)
+    }
 }
 
 impl<K: Eq + Hash, V> LinkedHashMap<K, V> {
@@ -108,7 +127,10 @@ impl<K: Eq + Hash, V> LinkedHashMap<K, V> {
 }
 
 impl<K: Eq + Hash, V, S: BuildHasher> LinkedHashMap<K, V, S> {
-    ghost use Rattle.linked_hash_map.specs.Lends.{lends_value, lends_refreshed};
+    ghost use Rattle.linked_hash_map.specs.Drains.{drain_map, drain_rest, drain_lender, DrainSteps, DrainStepsBack, DrainKeepsAlong};
+    ghost use Rattle.std.specs.Iterator.Runs.{YieldsInOrder, YieldsInReverse};
+    ghost use Rattle.linked_hash_map.specs.Lends.{lends_value, lends_refreshed, lends_values};
+    ghost use Rattle.linked_hash_map.specs.ValueWalks.{pairs_left, loan_name};
 
     /// Makes an empty map of capacity 0 with the given hasher.
     ///
@@ -123,6 +145,8 @@ impl<K: Eq + Hash, V, S: BuildHasher> LinkedHashMap<K, V, S> {
             values: Vec::new(alloc),
             capacity: 0,
             hasher,
+            bookmark: 0,
+            unvisited: 0,
         }
     }
 
@@ -161,6 +185,8 @@ impl<K: Eq + Hash, V, S: BuildHasher> LinkedHashMap<K, V, S> {
             values,
             capacity,
             hasher,
+            bookmark: 0,
+            unvisited: 0,
         })
     }
 
@@ -306,6 +332,7 @@ impl<K: Eq + Hash, V, S: BuildHasher> LinkedHashMap<K, V, S> {
                 let (stored, value) = self.take_out(place);
                 let last = self.len();
                 self.push_back(stored, value);
+                self.end_visit();
                 Some(self.value_mut_at(last))
             }
             None => None,
@@ -436,19 +463,97 @@ impl<K: Eq + Hash, V, S: BuildHasher> LinkedHashMap<K, V, S> {
     {
         self.keys.clear();
         self.values.clear();
+        self.bookmark = 0;
+        self.unvisited = 0;
     }
 
-    /// Returns an iterator over the pairs, from the oldest place to the newest.
+    /// Returns an iterator over the pairs, from the oldest place to the newest, from both ends.
     ///
-    /// Neither the call nor a step of the iterator takes memory. It goes forwards only, unlike the original's.
+    /// Neither the call nor a step of the iterator takes memory.
     pub fn iter(&self) -> Iter<'_, K, V>
         ensures pairs { result ≡ self.now.pairs }
         ensures distinct { IsDistinct K.eq (keys_of self.now.pairs) }
+        ensures runs { ShowsInOrder (deref_pair {K = K} {X = V}) }
+        ensures runs_back { ShowsInReverse (deref_pair {K = K} {X = V}) }
     {
-        Iter {
-            keys: self.keys.iter(),
-            values: self.values.iter(),
-        }
+        Iter::new(&self.keys, &self.values)
+    }
+
+    /// Returns an iterator over the pairs, from the oldest place to the newest, from both ends, that lends each value for
+    /// writing.
+    ///
+    /// What is written becomes the value of that pair. Keys and places stand. Neither the call nor a step of the iterator
+    /// takes memory.
+    pub fn iter_mut(&mut self) -> IterMut<'_, K, V>
+        ensures* writes_back { sem 𝓛 (lends_values K.row V.row S.row S.Hasher.row K.Hash S.BuildHasher S.Hasher.Hasher self.entry (loan_name result)) }
+        ensures keeps { KeysStand self.old.pairs }
+        ensures rest { pairs_left result ≡ self.old.pairs }
+        ensures distinct { IsDistinct K.eq (keys_of self.old.pairs) }
+        ensures runs { LendsValuesInOrder (pairs_left {K = K} {V = V}) }
+        ensures runs_back { LendsValuesInReverse (pairs_left {K = K} {V = V}) }
+    {
+        IterMut::new(&self.keys, &mut self.values)
+    }
+
+    /// Returns an iterator over the keys, in the order of their pairs, from both ends.
+    ///
+    /// Neither the call nor a step of the iterator takes memory.
+    pub fn keys(&self) -> Keys<'_, K, V>
+        ensures keys { result ≡ keys_of self.now.pairs }
+        ensures distinct { IsDistinct K.eq (keys_of self.now.pairs) }
+        ensures runs { ShowsInOrder (deref {X = K}) }
+        ensures runs_back { ShowsInReverse (deref {X = K}) }
+    {
+        Keys::new(self.iter())
+    }
+
+    /// Returns an iterator over the values, in the order of their pairs, from both ends.
+    ///
+    /// Neither the call nor a step of the iterator takes memory.
+    pub fn values(&self) -> Values<'_, K, V>
+        ensures values { result ≡ values_of self.now.pairs }
+        ensures runs { ShowsInOrder (deref {X = V}) }
+        ensures runs_back { ShowsInReverse (deref {X = V}) }
+    {
+        Values::new(self.iter())
+    }
+
+    /// Returns an iterator that takes all pairs out and hands them out, from the oldest place to the newest, from both ends.
+    ///
+    /// Once it is let go, the map is empty and has the capacity that it had. Neither the call nor a step of the iterator takes
+    /// memory.
+    pub fn drain(&mut self) -> Drain<'_, K, V, S>
+    where
+        K: Drop,
+        V: Drop,
+        ensures same_map { drain_lender result ≡ self.entry.ghost_name }
+        ensures rest { drain_rest result ≡ self.old.pairs }
+        ensures capacity { (drain_map result).capacity ≡ self.old.capacity }
+        ensures hasher { (drain_map result).hasher ≡ self.old.hasher }
+        ensures runs { YieldsInOrder (DrainSteps {K = K} {V = V} {S = S} {H = S.Hasher}) drain_rest }
+        ensures runs_back { YieldsInReverse (DrainStepsBack {K = K} {V = V} {S = S} {H = S.Hasher}) drain_rest }
+        ensures stays { DrainKeepsAlong DrainSteps result }
+        ensures stays_back { DrainKeepsAlong DrainStepsBack result }
+    {
+        Drain::new(self)
+    }
+
+    /// Takes the map apart into an iterator that hands out its pairs, and drops the hasher.
+    pub(crate) fn into_pairs(self) -> IntoIter<K, V>
+    where
+        S: Drop,
+        ensures pairs { result ≡ self.pairs }
+        ensures distinct { IsDistinct K.eq (keys_of self.pairs) }
+    {
+        let LinkedHashMap {
+            keys,
+            values,
+            capacity: _,
+            hasher: _,
+            bookmark: _,
+            unvisited: _,
+        } = self;
+        IntoIter::new(keys, values)
     }
 
     /// Returns the allocator that the map was made with.
@@ -465,7 +570,7 @@ impl<K: Eq + Hash, V, S: BuildHasher> LinkedHashMap<K, V, S> {
     ghost use Rattle.linked_hash_map.specs.Lends.{lends_at};
 
     /// Returns the place of the pair of a key.
-    fn find(&self, key: &K) -> Option<usize>
+    pub(crate) fn find(&self, key: &K) -> Option<usize>
         ensures found { IfSome result (IsPlace K.eq self.now.pairs key.now) }
         ensures absent { IfNone result (find K.eq self.now.pairs key.now ≡ None) }
         ensures within { length self.now.pairs ≤ self.now.capacity }
@@ -475,7 +580,7 @@ impl<K: Eq + Hash, V, S: BuildHasher> LinkedHashMap<K, V, S> {
     }
 
     /// Lends the pair at a place.
-    fn pair_at(&self, place: usize) -> (&K, &V)
+    pub(crate) fn pair_at(&self, place: usize) -> (&K, &V)
         requires { place < length self.now.pairs }
         ensures { slice_get self.now.pairs place ≡ Some (result.0.now, result.1.now) }
     {
@@ -483,16 +588,18 @@ impl<K: Eq + Hash, V, S: BuildHasher> LinkedHashMap<K, V, S> {
     }
 
     /// Lends the value at a place for writing.
-    fn value_mut_at(&mut self, place: usize) -> &mut V
+    pub(crate) fn value_mut_at(&mut self, place: usize) -> &mut V
         requires { place < length self.old.pairs }
         ensures* writes_back { sem 𝓛 (lends_at K.row V.row S.row S.Hasher.row K.Hash S.BuildHasher S.Hasher.Hasher self.entry place result) }
         ensures value { option_map (λ pair. pair.1) (slice_get self.old.pairs place) ≡ Some result.now }
+        ensures within { length self.old.pairs ≤ self.old.capacity }
+        ensures distinct { IsDistinct K.eq (keys_of self.old.pairs) }
     {
         &mut self.values[place]
     }
 
     /// Takes out the pair at a place.
-    fn take_out(&mut self, place: usize) -> (K, V)
+    pub(crate) fn take_out(&mut self, place: usize) -> (K, V)
         requires { place < length self.old.pairs }
         ensures pair { slice_get self.old.pairs place ≡ Some result }
         ensures pairs { self.new.pairs ≡ remove self.old.pairs place }
@@ -500,27 +607,94 @@ impl<K: Eq + Hash, V, S: BuildHasher> LinkedHashMap<K, V, S> {
         ensures hasher { self.new.hasher ≡ self.old.hasher }
         ensures within { length self.old.pairs ≤ self.old.capacity }
         ensures distinct { IsDistinct K.eq (keys_of self.old.pairs) }
+        ensures to_visit { IsOutside place self.old → to_visit self.new ≡ to_visit self.old }
+        ensures in_reach { self.new.bookmark + self.new.unvisited ≤ length self.new.pairs }
     {
+        let (bookmark, unvisited) = visit_without(place, self.bookmark, self.unvisited);
+        self.bookmark = bookmark;
+        self.unvisited = unvisited;
         let key = self.keys.remove(place);
         (key, self.values.remove(place))
     }
 
+    /// Begins the visit of a cursor: every pair is unvisited, and the next one is that at the oldest place.
+    pub(crate) fn begin_visit(&mut self)
+        ensures to_visit { to_visit self.new ≡ keys_of self.old.pairs }
+        ensures pairs { self.new.pairs ≡ self.old.pairs }
+        ensures capacity { self.new.capacity ≡ self.old.capacity }
+        ensures hasher { self.new.hasher ≡ self.old.hasher }
+    {
+        self.bookmark = 0;
+        self.unvisited = self.keys.len();
+    }
+
+    /// Returns the place of the next unvisited pair and moves the bookmark past it, or returns `None` where none is left.
+    pub(crate) fn visit_next(&mut self) -> Option<usize>
+        ensures key { IfSome result (λ place. (key : K) → slice_get (keys_of self.old.pairs) place ≡ Some key →
+            to_visit self.old ≡ key ∷ to_visit self.new) }
+        ensures within { IfSome result (λ place. place < length self.new.pairs) }
+        ensures outside { IfSome result (λ place. IsOutside place self.new) }
+        ensures pairs { self.new.pairs ≡ self.old.pairs }
+        ensures capacity { self.new.capacity ≡ self.old.capacity }
+        ensures hasher { self.new.hasher ≡ self.old.hasher }
+
+        ensures none { IfNone result (to_visit self.old ≡ []) }
+        ensures unchanged { IfNone result (self.new ≡ self.old) }
+    {
+        if self.unvisited == 0 {
+            return None;
+        }
+        let place = self.bookmark;
+        self.bookmark += 1;
+        self.unvisited -= 1;
+        Some(place)
+    }
+
+    /// Returns how many pairs are unvisited.
+    pub(crate) fn unvisited(&self) -> usize
+        ensures { result ≡ length (to_visit self.now) }
+    {
+        self.unvisited
+    }
+
+    /// Ends the visit of a cursor: no pair is unvisited.
+    pub(crate) fn end_visit(&mut self)
+        ensures { self.new ≡ without_cursor self.old }
+    {
+        self.bookmark = 0;
+        self.unvisited = 0;
+    }
+
     /// Puts a pair at the back, for which there is room. Its key is absent.
-    fn push_back(&mut self, key: K, value: V)
+    pub(crate) fn push_back(&mut self, key: K, value: V)
         requires room { length self.old.pairs < self.old.capacity }
         requires absent { find K.eq self.old.pairs key ≡ None }
         ensures pairs { self.new.pairs ≡ self.old.pairs ++ (key, value) ∷ [] }
         ensures capacity { self.new.capacity ≡ self.old.capacity }
         ensures hasher { self.new.hasher ≡ self.old.hasher }
+        ensures bookmark { self.new.bookmark ≡ self.old.bookmark }
+        ensures unvisited { self.new.unvisited ≡ self.old.unvisited }
     {
         self.keys.push_reserved(key);
         self.values.push_reserved(value);
     }
 
+    /// Turns the pairs round.
+    pub(crate) fn reverse(&mut self)
+        ensures pairs { self.new.pairs ≡ reverse self.old.pairs }
+        ensures capacity { self.new.capacity ≡ self.old.capacity }
+        ensures hasher { self.new.hasher ≡ self.old.hasher }
+    {
+        self.keys.reverse();
+        self.values.reverse();
+    }
+
     /// Makes room for one more pair: at full capacity by raising it by one, if there is memory.
-    fn make_room(&mut self) -> bool
+    pub(crate) fn make_room(&mut self) -> bool
         ensures pairs { self.new.pairs ≡ self.old.pairs }
         ensures hasher { self.new.hasher ≡ self.old.hasher }
+        ensures bookmark { self.new.bookmark ≡ self.old.bookmark }
+        ensures unvisited { self.new.unvisited ≡ self.old.unvisited }
         ensures made { IsTrue result → self.new.capacity ≡ max self.old.capacity (length self.old.pairs + 1) }
         ensures refused { IsFalse result → self.new ≡ self.old }
         ensures full { IsFalse result → length self.old.pairs ≡ self.old.capacity }
@@ -568,51 +742,3 @@ impl<'q, K: Eq + Hash, V, S: BuildHasher> IndexMut<&'q K> for LinkedHashMap<K, V
         }
     }
 }
-
-/// An iterator over the pairs of a map, from the oldest place to the newest.
-#[derive(Drop)]
-pub struct Iter<'a, K, V> {
-    keys: slice::Iter<'a, K>,
-    values: slice::Iter<'a, V>,
-}
-
-impl<'a, K, V> Model for Iter<'a, K, V> {
-    ghost use Rattle.std.specs.Prelude.{◌≡◌, List, length, zip};
-    ghost use Rattle.std.specs.Slice.Iter.{iter_rest};
-
-    ghost Value = { List (K × V) };
-
-    ghost view = { λ a. zip (iter_rest a.keys) (iter_rest a.values) };
-
-    ghost invariant = { λ a. length (iter_rest a.values) ≡ length (iter_rest a.keys) };
-}
-
-impl<'a, K, V> Iterator for Iter<'a, K, V> {
-    type Item = (&'a K, &'a V);
-
-    ghost next_gives = { TakesFirst deref_pair };
-
-    ghost remaining = { λ s. at_most (length s) };
-
-    fn next(&mut self) -> Option<(&'a K, &'a V)> {
-        let key = self.keys.next()?;
-        Some((key, self.values.next().unwrap()))
-    }
-
-    fn size_hint(&self) -> (usize, Option<usize>)
-        ensures lower { IsWithinCount result.0 (at_most (length self.now)) }
-        ensures upper { IfSome result.1 (UpTo (at_most (length self.now))) }
-        ensures exact { result ≡ (length self.now, Some (length self.now)) }
-    {
-        let len = self.len();
-        (len, Some(len))
-    }
-}
-
-impl<'a, K, V> ExactSizeIterator for Iter<'a, K, V> {
-    fn len(&self) -> usize {
-        self.values.len()
-    }
-}
-
-impl<'a, K, V> FusedIterator for Iter<'a, K, V> {}

@@ -7,9 +7,14 @@ ghost use Rattle.std.specs.Prelude.{◌≡◌, ℕ, [], IfOk, IfErr, OnErr, IsOk
 ghost use Rattle.linked_hash_map.specs.Log.{Log, pairs, high, Defines};
 ghost use Rattle.linked_hash_map.specs.Run.{log_after, first_log, last_log, Serves, IsReply, IsRun};
 
+use crate::entry::Entry;
 use crate::map::{LinkedHashMap, NoRoom, ReserveError};
 use std::hash::{BuildHasher, Hash};
 use std::mem;
+
+mod pair_list;
+
+pub use pair_list::PairList;
 
 /// What a map is asked in a run.
 #[derive(Debug, PartialEq, Drop)]
@@ -28,6 +33,17 @@ pub enum Command<K, V> {
     PopBack,
     /// Drops all pairs, as `clear` does: `Done`.
     Clear,
+    /// Takes out all pairs, as `drain` does: `Pairs` or `NoRoom`. Room for the answer's list is reserved first, none on an
+    /// empty map.
+    Drain,
+    /// Inserts the pairs one by one, as `insert` does, up to the first that is refused: `Done` or `Stopped`.
+    Extend(PairList<K, V>),
+    /// Puts a pair at the back unless the key is present, as `entry` and `or_insert` do: `New`, `Found` or `Refused`.
+    OrInsert(K, V),
+    /// Puts a pair at the back, as `entry` and then `insert` of either kind of entry do: `New`, `Old` or `Refused`.
+    EntryInsert(K, V),
+    /// Takes out the pair of a key, as `entry` and `OccupiedEntry::remove` do: `Old` or `Missing`.
+    EntryRemove(K),
     /// Makes room for more pairs, as `reserve` does: `Done`, `TooLarge` or `NoRoom`.
     Reserve(usize),
     /// Lowers the capacity to the number of pairs, as `shrink_to_fit` does: `Done` or `NoRoom`.
@@ -53,6 +69,10 @@ pub enum Answer<K, V> {
     Pair(K, V),
     /// The map is empty, and nothing changed.
     Empty,
+    /// The pairs that were taken out, with their stored keys, from the oldest place to the newest.
+    Pairs(PairList<K, V>),
+    /// This many pairs went in, and the next, which this is, was absent and found no room. The later ones are dropped.
+    Stopped(usize, K, V),
     /// The command was carried out.
     Done,
     /// The capacity would be above `LIMIT`, and nothing changed.
@@ -161,6 +181,84 @@ fn clear<K: Eq + Hash + Drop, V: Drop, S: BuildHasher>(
     Answer::Done
 }
 
+/// Answers `Drain`.
+fn drain<K: Eq + Hash + Drop, V: Drop, S: BuildHasher>(
+    map: &mut LinkedHashMap<K, V, S>,
+) -> Answer<K, V>
+    ensures { Serves K.eq map.old map.new Command.Drain result }
+{
+    let Ok(mut pairs) = Vec::with_capacity(map.allocator(), map.len()) else {
+        return Answer::NoRoom;
+    };
+    for pair in map.drain() {
+        pairs.push_reserved(pair);
+    }
+    Answer::Pairs(PairList::from_vec(pairs))
+}
+
+/// Answers `Extend`.
+fn extend<K: Eq + Hash + Drop, V: Drop, S: BuildHasher>(
+    map: &mut LinkedHashMap<K, V, S>,
+    pairs: PairList<K, V>,
+) -> Answer<K, V>
+    ensures { Serves K.eq map.old map.new (Command.Extend pairs) result }
+{
+    let mut inserted = 0;
+    for (key, value) in pairs.into_vec() {
+        match map.insert(key, value) {
+            Ok(_old) => inserted += 1,
+            Err(refused) => return Answer::Stopped(inserted, refused.key, refused.value),
+        }
+    }
+    Answer::Done
+}
+
+/// Answers `OrInsert`.
+fn or_insert<K: Eq + Hash + Drop, V: Drop, S: BuildHasher>(
+    map: &mut LinkedHashMap<K, V, S>,
+    key: K,
+    value: V,
+) -> Answer<K, V>
+    ensures { Serves K.eq map.old map.new (Command.OrInsert key value) result }
+{
+    let entry = map.entry(key);
+    let present = matches!(&entry, Entry::Occupied(_));
+    match entry.or_insert(value) {
+        Ok(_lent) => { if present { Answer::Found } else { Answer::New } }
+        Err(refused) => Answer::Refused(refused.key, refused.value),
+    }
+}
+
+/// Answers `EntryInsert`.
+fn entry_insert<K: Eq + Hash + Drop, V: Drop, S: BuildHasher>(
+    map: &mut LinkedHashMap<K, V, S>,
+    key: K,
+    value: V,
+) -> Answer<K, V>
+    ensures { Serves K.eq map.old map.new (Command.EntryInsert key value) result }
+{
+    match map.entry(key) {
+        Entry::Occupied(mut entry) => Answer::Old(entry.insert(value)),
+        Entry::Vacant(entry) => match entry.insert(value) {
+            Ok(_lent) => Answer::New,
+            Err(refused) => Answer::Refused(refused.key, refused.value),
+        },
+    }
+}
+
+/// Answers `EntryRemove`.
+fn entry_remove<K: Eq + Hash + Drop, V: Drop, S: BuildHasher>(
+    map: &mut LinkedHashMap<K, V, S>,
+    key: K,
+) -> Answer<K, V>
+    ensures { Serves K.eq map.old map.new (Command.EntryRemove key) result }
+{
+    match map.entry(key) {
+        Entry::Occupied(entry) => Answer::Old(entry.remove()),
+        Entry::Vacant(_entry) => Answer::Missing,
+    }
+}
+
 /// Answers `Reserve`.
 fn reserve<K: Eq + Hash + Drop, V: Drop, S: BuildHasher>(
     map: &mut LinkedHashMap<K, V, S>,
@@ -202,6 +300,11 @@ fn answer_to<K: Eq + Hash + Drop, V: Drop, S: BuildHasher>(
         Command::PopFront => pop_front(map),
         Command::PopBack => pop_back(map),
         Command::Clear => clear(map),
+        Command::Drain => drain(map),
+        Command::Extend(pairs) => extend(map, pairs),
+        Command::OrInsert(key, value) => or_insert(map, key, value),
+        Command::EntryInsert(key, value) => entry_insert(map, key, value),
+        Command::EntryRemove(key) => entry_remove(map, key),
         Command::Reserve(additional) => reserve(map, additional),
         Command::Shrink => shrink(map),
     }

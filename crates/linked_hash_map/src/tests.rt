@@ -1,5 +1,12 @@
+mod collect;
+mod compare;
+mod cursor;
+mod entries;
 mod hasher;
+mod lists;
 mod name;
+mod walks;
+mod written;
 
 ghost use Rattle.std.specs.Prelude.{◌≡◌, ◌∷◌, [], nat_eq, IsTrue, IsFalse, IsSome};
 ghost use Rattle.linked_hash_map.specs.Pairs.{find, to_back, set_value};
@@ -402,4 +409,52 @@ fn refused_reservation_changes_nothing(rt: HostRuntime) {
     assert_eq!(rt; map.reserve(0), Ok(()));
     assert_eq!(rt; map.shrink_to_fit(), Ok(()));
     assert_eq!(rt; map.capacity(), 1);
+}
+
+#[test]
+fn refused_drain_keeps_the_pairs(rt: HostRuntime) {
+    let Ok(mut map) = map_of(rt.alloc(), &[(1, 10), (2, 20)]) else {
+        return;
+    };
+    let Ok(commands) = Vec::from_array(rt.alloc(), [Command::Drain]) else {
+        return;
+    };
+    let Ok(replies) = replay(&mut map, commands) else {
+        assert_pairs(&rt, &map, &[(1, 10), (2, 20)]);
+        return;
+    };
+    let Some(reply) = replies.first() else {
+        panic!(rt; "no reply");
+    };
+    assert_eq!(rt; (reply.len, reply.capacity), (map.len(), map.capacity()));
+    assert_eq!(rt; map.capacity(), 2);
+    match &reply.answer {
+        Answer::Pairs(list) => {
+            assert_eq!(rt; list.as_slice(), [(1, 10), (2, 20)].as_slice());
+            assert!(rt; map.is_empty());
+            say_given(&rt);
+        }
+        answer => {
+            assert_eq!(rt; answer, &Answer::NoRoom);
+            assert_pairs(&rt, &map, &[(1, 10), (2, 20)]);
+        }
+    }
+}
+
+#[test]
+fn refused_clone_leaves_the_walk(rt: HostRuntime) {
+    let Ok(map) = map_of(rt.alloc(), &[(1, 10), (2, 20)]) else {
+        return;
+    };
+    let mut pairs = map.into_iter();
+    assert_eq!(rt; pairs.next(), Some((1, 10)));
+    if let Ok(mut left) = pairs.clone() {
+        assert_eq!(rt; (left.next(), left.next()), (Some((2, 20)), None));
+        say_given(&rt);
+    }
+    assert_eq!(rt; (pairs.next(), pairs.next()), (Some((2, 20)), None));
+    let Ok(mut none) = pairs.clone() else {
+        panic!(rt; "no memory is asked for");
+    };
+    assert_eq!(rt; none.next(), None);
 }

@@ -1,4 +1,4 @@
-use Rattle.std.proofs.Common.{ℕ, ◌≡◌, ◌+◌, List, [], ◌∷◌, rules, arith, append_assoc, add_assoc, inl, inr}
+use Rattle.std.proofs.Common.{ℕ, ◌≡◌, ◌+◌, List, [], ◌∷◌, rules, arith, append_assoc, add_assoc, ap, Err, inl, inr}
 use Rattle.std.proofs.lemmas.List.{append-nil, nil_from_length}
 use Rattle.linked_hash_map.specs.declared.replay.Command.{Command}
 use Rattle.lhm.specs.Grammar.{lines_of, words_of}
@@ -6,9 +6,9 @@ use Rattle.lhm.specs.Commands.{IsSaidBy, AreCommandsOf, IsFirstInvalid}
 use Rattle.lhm.proofs.Lines.{AreCommandsOf-blank, AreCommandsOf-said, IsFirstInvalid-one, IsFirstInvalid-add}
 use Rattle.lhm.proofs.parser.commands.Goals as goal
 
-pub returns-in-Err-clause-err : goal.returns-in-Err-clause-err
-returns-in-Err-clause-err c =
-    c.loop-rest.invariant.first_invalid 1 (rw c.split_line.ensures.lines (IsFirstInvalid-one _ _ c.in-Err.ensures.err))
+pub returns-in-Err-NotACommand-clause-err : goal.returns-in-Err-NotACommand-clause-err
+returns-in-Err-NotACommand-clause-err c =
+    c.loop-rest.invariant.first_invalid 1 (rw c.split_line.ensures.lines (IsFirstInvalid-one _ _ (c.in-Err-NotACommand.ensures.err (ap Err c.in-Err-NotACommand.field-0-is))))
 
 pub loop-rest-preserved-in-Ok-None : goal.loop-rest-preserved-in-Ok-None
 loop-rest-preserved-in-Ok-None c =

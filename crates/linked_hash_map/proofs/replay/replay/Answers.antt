@@ -1,4 +1,4 @@
-use Rattle.std.proofs.Common.{◌≡◌, refl, ◌∷◌, [], sym, ◌∙◌, ap, arith, length-append}
+use Rattle.std.proofs.Common.{refl, ◌∷◌, [], ◌∙◌, arith, length-append}
 use Rattle.linked_hash_map.specs.Run.{first_log, last_log}
 use Rattle.linked_hash_map.proofs.Runs.{IsRun-snoc, last_log-snoc, Defines-first_log}
 use Rattle.linked_hash_map.proofs.replay.replay.Goals as goal

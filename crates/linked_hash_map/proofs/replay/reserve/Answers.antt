@@ -1,4 +1,4 @@
-use Rattle.std.proofs.Common.{◌≡◌, Err, ap, refl, arith}
+use Rattle.std.proofs.Common.{Err, ap, arith}
 use Rattle.linked_hash_map.proofs.Effects.{size-held, Defines-reserve, Defines-nothing}
 use Rattle.linked_hash_map.proofs.replay.reserve.Goals as goal
 

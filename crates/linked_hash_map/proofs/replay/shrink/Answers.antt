@@ -1,4 +1,4 @@
-use Rattle.std.proofs.Common.{◌≡◌, ap, arith}
+use Rattle.std.proofs.Common.{ap, arith}
 use Rattle.linked_hash_map.proofs.Effects.{size-held, Defines-shrink, Defines-nothing}
 use Rattle.linked_hash_map.proofs.replay.shrink.Goals as goal
 

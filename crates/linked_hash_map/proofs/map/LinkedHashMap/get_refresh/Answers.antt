@@ -1,6 +1,6 @@
-use Rattle.std.proofs.Common.{◌≡◌, inl, sym, ap, ◌∙◌, ◌++◌, ◌∷◌, [], Some, option_map, slice_get, length}
+use Rattle.std.proofs.Common.{inl, sym, ap, ◌∙◌, ◌++◌, ◌∷◌, [], option_map, slice_get}
 use Rattle.linked_hash_map.specs.LinkedMap.{linked_map}
-use Rattle.linked_hash_map.specs.Pairs.{find, to_back}
+use Rattle.linked_hash_map.specs.Pairs.{find}
 use Rattle.linked_hash_map.specs.Places.{set_value_at}
 use Rattle.linked_hash_map.proofs.Places.{find-remove, value_at-place, to_back-place, set_value_at-pushed, slice_get-pushed}
 use Rattle.linked_hash_map.proofs.map.LinkedHashMap.get_refresh.Goals as goal
@@ -16,12 +16,20 @@ returns-in-Some g c =
     let found = c.in-Some.ensures in
     let taken = c.take_out-stored in
     let pushed = c.push_back in
+    let ended = c.end_visit in
     let moved = λ (w : g.row.V.Denot).
-    set_value_at-pushed taken.new.self.pairs pushed.new.self.pairs (taken.result.0, taken.result.1) c.len-last.result pushed.ensures.pairs c.len-last.ensures.len w
+    ap (λ m. set_value_at m.pairs c.len-last.result w) ended.ensures
+    ∙ set_value_at-pushed taken.new.self.pairs pushed.new.self.pairs (taken.result.0, taken.result.1) c.len-last.result pushed.ensures.pairs c.len-last.ensures.len w
     ∙ ap (λ pairs. pairs ++ (taken.result.0, w) ∷ []) taken.ensures.pairs
     ∙ sym (to_back-place g.met.K.Eq.laws found.distinct found.found taken.ensures.pair w) in
-    let lent = slice_get-pushed taken.new.self.pairs pushed.new.self.pairs (taken.result.0, taken.result.1) c.len-last.result pushed.ensures.pairs c.len-last.ensures.len in (
-      (λ i. inl (c.value_mut_at.result.ghost_name, λ w. linked_map (moved w i) ((pushed.ensures.capacity ∙ taken.ensures.capacity) i) ((pushed.ensures.hasher ∙ taken.ensures.hasher) i))),
+    let lent = ap (λ m. slice_get m.pairs c.len-last.result) ended.ensures ∙ slice_get-pushed taken.new.self.pairs pushed.new.self.pairs (taken.result.0, taken.result.1) c.len-last.result pushed.ensures.pairs c.len-last.ensures.len in (
+      (λ i. inl (
+        c.value_mut_at.result.ghost_name,
+        λ w. linked_map (moved w i)
+            ((ap (λ m. m.capacity) ended.ensures ∙ pushed.ensures.capacity ∙ taken.ensures.capacity) i)
+            ((ap (λ m. m.hasher) ended.ensures ∙ pushed.ensures.hasher ∙ taken.ensures.hasher) i)
+            (ap (λ m. m.bookmark) ended.ensures i) (ap (λ m. m.unvisited) ended.ensures i),
+      )),
       record {
         writes_back = tt;
         value =

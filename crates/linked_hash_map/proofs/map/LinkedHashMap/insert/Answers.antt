@@ -1,4 +1,4 @@
-use Rattle.std.proofs.Common.{◌≡◌, ◌++◌, ◌∷◌, [], length, None, sym, ap, ap₂, ◌∙◌, arith}
+use Rattle.std.proofs.Common.{◌≡◌, ◌++◌, ◌∷◌, [], length, sym, ap, ap₂, ◌∙◌, arith}
 use Rattle.linked_hash_map.specs.Pairs.{key_or, find}
 use Rattle.linked_hash_map.proofs.Pairs.{filter-none}
 use Rattle.linked_hash_map.proofs.Places.{length-moved, find-remove, value_at-place, to_back-place}

@@ -1,5 +1,13 @@
+use Rattle.std.specs.Map.Iter.{deref_pair}
 use Rattle.linked_hash_map.proofs.Columns.{distinct-columns}
+use Rattle.linked_hash_map.proofs.Walks.{shows_in_order, shows_in_reverse}
 use Rattle.linked_hash_map.proofs.map.LinkedHashMap.iter.Goals as goal
 
 pub returns-clause-distinct : goal.returns-clause-distinct
 returns-clause-distinct g c = rw (← c.self.view_is) (distinct-columns c.self.invariant)
+
+pub returns-clause-runs : goal.returns-clause-runs
+returns-clause-runs g c = shows_in_order deref_pair
+
+pub returns-clause-runs_back : goal.returns-clause-runs_back
+returns-clause-runs_back g c = shows_in_reverse deref_pair

@@ -1,4 +1,4 @@
-use Rattle.std.proofs.Common.{◌≡◌, ◌<◌, length, None, ap, ◌∙◌, arith}
+use Rattle.std.proofs.Common.{◌<◌, length, ap, ◌∙◌, arith}
 use Rattle.linked_hash_map.specs.Pairs.{find}
 use Rattle.linked_hash_map.proofs.Columns.{pairs-view, capacity-view, length-view, zip-push, AreColumns-push}
 use Rattle.linked_hash_map.proofs.map.LinkedHashMap.push_back.Goals as goal

@@ -1,5 +1,8 @@
-use Rattle.std.proofs.Common.{◌<◌, length, arith}
-use Rattle.linked_hash_map.proofs.Columns.{length-view, within-columns, distinct-columns, slice_get-zip, zip-remove, AreColumns-remove}
+use Rattle.std.proofs.Common.{◌<◌, length, take, drop, zip, ap, ◌∙◌, arith}
+use Rattle.std.specs.Map.{keys_of}
+use Rattle.linked_hash_map.specs.LinkedMap.{linked_map}
+use Rattle.linked_hash_map.proofs.Columns.{length-view, within-columns, distinct-columns, slice_get-zip, zip-remove, in_reach-columns, AreColumns-remove}
+use Rattle.linked_hash_map.proofs.Visits.{in_reach-removed, to_visit-removed}
 use Rattle.linked_hash_map.proofs.map.LinkedHashMap.take_out.Goals as goal
 
 pub remove-key-requires : goal.remove-key-requires
@@ -12,8 +15,10 @@ pub invariant_of-self : goal.invariant_of-self
 invariant_of-self g c =
     let of_pairs = length-view c.self.invariant c.self.view_is in
     let within : c.args.place < length c.self.inside.keys.items = omega arith in
+    let visit = c.visit_without-bookmark in
+    let reached = in_reach-removed visit.result within c.self.invariant.in_reach visit.ensures.before visit.ensures.inside visit.ensures.behind in
     rw (c.remove-key.ensures.items, c.remove.ensures.items, c.remove-key.ensures.capacity, c.remove.ensures.capacity)
-    (AreColumns-remove c.self.invariant c.args.place within)
+    (AreColumns-remove c.self.invariant c.args.place within reached)
 
 pub returns-clause-pair : goal.returns-clause-pair
 returns-clause-pair g c =
@@ -32,3 +37,22 @@ returns-clause-within g c = rw (← c.self.view_is) (within-columns c.self.invar
 
 pub returns-clause-distinct : goal.returns-clause-distinct
 returns-clause-distinct g c = rw (← c.self.view_is) (distinct-columns c.self.invariant)
+
+pub returns-clause-to_visit : goal.returns-clause-to_visit
+returns-clause-to_visit g c =
+    let m = c.self.inside in
+    let visit = c.visit_without-bookmark in
+    let seen = linked_map (zip m.keys.items m.values.items) m.capacity m.hasher m.bookmark m.unvisited in
+    rw (← c.self.view_is, c.remove-key.ensures.items, c.remove.ensures.items)
+    (λ outside.
+    ap (λ pairs. take visit.result.1 (drop visit.result.0 (keys_of pairs))) (zip-remove m.keys.items m.values.items c.args.place c.self.invariant.paired)
+    ∙ to_visit-removed seen c.args.place visit.result visit.ensures.before visit.ensures.behind outside)
+
+pub returns-clause-in_reach : goal.returns-clause-in_reach
+returns-clause-in_reach g c =
+    let m = c.self.inside in
+    let of_pairs = length-view c.self.invariant c.self.view_is in
+    let within : c.args.place < length m.keys.items = omega arith in
+    let visit = c.visit_without-bookmark in
+    let reached = in_reach-removed visit.result within c.self.invariant.in_reach visit.ensures.before visit.ensures.inside visit.ensures.behind in
+    rw (c.remove-key.ensures.items, c.remove.ensures.items) (in_reach-columns (AreColumns-remove c.self.invariant c.args.place within reached))

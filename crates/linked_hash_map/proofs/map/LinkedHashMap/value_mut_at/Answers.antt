@@ -1,6 +1,6 @@
 use Rattle.std.proofs.Common.{◌<◌, length, refl, ap, arith}
 use Rattle.linked_hash_map.specs.LinkedMap.{linked_map}
-use Rattle.linked_hash_map.proofs.Columns.{length-view, zip-set, slice_get_value-zip}
+use Rattle.linked_hash_map.proofs.Columns.{length-view, within-columns, distinct-columns, zip-set, slice_get_value-zip}
 use Rattle.linked_hash_map.proofs.map.LinkedHashMap.value_mut_at.Goals as goal
 
 pub index_mut-requires : goal.index_mut-requires
@@ -15,9 +15,11 @@ returns g c =
     let of_pairs = length-view c.self.invariant c.self.view_is in
     let within : c.args.place < length m.keys.items = omega arith in
     rw (← c.self.view_is) (
-      (refl, λ w. ap (λ pairs. linked_map pairs m.capacity m.hasher) (zip-set m.keys.items m.values.items c.args.place w)),
+      (refl, λ w. ap (λ pairs. linked_map pairs m.capacity m.hasher m.bookmark m.unvisited) (zip-set m.keys.items m.values.items c.args.place w)),
       record {
         writes_back = tt;
         value = slice_get_value-zip m.keys.items m.values.items c.args.place c.index_mut.result.now c.self.invariant.paired within c.index_mut.ensures.value;
+        within = within-columns c.self.invariant;
+        distinct = distinct-columns c.self.invariant;
       },
     )

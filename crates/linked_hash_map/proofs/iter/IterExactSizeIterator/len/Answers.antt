@@ -1,7 +1,7 @@
 use Rattle.std.proofs.Common.{sym, ◌∙◌}
 use Rattle.std.specs.Slice.Iter.{iter_rest}
 use Rattle.linked_hash_map.proofs.Columns.{length-zip}
-use Rattle.linked_hash_map.proofs.map.IterExactSizeIterator.len.Goals as goal
+use Rattle.linked_hash_map.proofs.iter.IterExactSizeIterator.len.Goals as goal
 
 pub returns-clause-value : goal.returns-clause-value
 returns-clause-value g c =

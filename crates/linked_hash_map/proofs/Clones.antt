@@ -1,0 +1,112 @@
+-- Clones of pairs, inserted one after another.
+use Rattle.std.proofs.Common.{◌≡◌, ◌+◌, ◌≤◌, Bool, true, false, cond, not, IsTrue, List, [], ◌∷◌, ◌++◌, length, filter, append_assoc, append-nil, max, refl, sym, ap, ◌∙◌, subst, arith, length-append}
+use Rattle.std.specs.List.{AllZip, AllByRecursion, IsDistinct}
+use Rattle.std.specs.Map.{keys_of}
+use Rattle.std.specs.Cmp.{IsEquivalence}
+use Rattle.linked_hash_map.specs.LinkedMap.{LinkedMap}
+use Rattle.linked_hash_map.specs.Pairs.{key_or, find, without, to_back}
+use Rattle.linked_hash_map.specs.Inserts.{insert_each}
+use Rattle.linked_hash_map.specs.Clones.{AreClones, IsClone}
+use Rattle.linked_hash_map.proofs.Inserts.{insert_each-last, insert_each-distinct}
+
+AllZip-last : {A B : Type 0} (R : A → B → Type 0) (xs : List A) (ys : List B) (x : A) (y : B) → AllZip R xs ys → R x y → AllZip R (xs ++ x ∷ []) (ys ++ y ∷ [])
+AllZip-last R [] [] x y all last = (last, tt)
+AllZip-last R [] (y' ∷ ys) x y all last = absurd all
+AllZip-last R (x' ∷ xs) [] x y all last = absurd all
+AllZip-last R (x' ∷ xs) (y' ∷ ys) x y all last = (all.0, AllZip-last R xs ys x y all.1 last)
+
+length-AllZip : {A B : Type 0} (R : A → B → Type 0) (xs : List A) (ys : List B) → AllZip R xs ys → length ys ≡ length xs
+length-AllZip R [] [] all = refl
+length-AllZip R [] (y ∷ ys) all = absurd all
+length-AllZip R (x ∷ xs) [] all = absurd all
+length-AllZip R (x ∷ xs) (y ∷ ys) all = let rest = length-AllZip R xs ys all.1 in omega arith
+
+length-filter : {A : Type 0} (test : A → Bool) (xs : List A) → length (filter test xs) ≤ length xs
+length-filter test [] = omega arith
+length-filter test (x ∷ xs) = by_test (test x) (length-filter test xs)
+  where
+    by_test : (b : Bool) → length (filter test xs) ≤ length xs → length (cond b (x ∷ filter test xs) (filter test xs)) ≤ length (x ∷ xs)
+    by_test true rest = omega arith
+    by_test false rest = omega arith
+
+-- an insertion adds one pair at most
+length-to_back : {K V : Type 0} (eq : K → K → Bool) (pairs : List (K × V)) (k : K) (v : V) → length (to_back eq pairs k v) ≤ length pairs + 1
+length-to_back eq pairs k v =
+    let rest = length-filter (λ pair. not (eq k pair.0)) pairs in
+    let appended = length-append (without eq pairs k) ((key_or k (find eq pairs k), v) ∷ []) in
+    omega arith
+
+length-insert_each : {K V : Type 0} (eq : K → K → Bool) (pairs items : List (K × V)) → length (insert_each eq pairs items) ≤ length pairs + length items
+length-insert_each eq pairs [] = omega arith
+length-insert_each eq pairs (item ∷ items) =
+    let one = length-to_back eq pairs item.0 item.1 in
+    let rest = length-insert_each eq (to_back eq pairs item.0 item.1) items in
+    omega arith
+
+-- clones of the first pairs of a map m are inserted into a map n with room for all, and the others are to come
+pub record HasCloned {K V S : Type 0} (eq : K → K → Bool) (IsKeyClone : K → K → Type 0) (IsValueClone : V → V → Type 0) (IsHasherClone : S → S → Type 0) (m : LinkedMap K V S) (others : List (K × V)) (n : LinkedMap K V S) : Type 0 where
+  pub first : List (K × V)
+  pub clones : List (K × V)
+  pub split : first ++ others ≡ m.pairs
+  pub each : AreClones IsKeyClone IsValueClone first clones
+  pub inserted : n.pairs ≡ insert_each eq [] clones
+  pub capacity : n.capacity ≡ length m.pairs
+  pub hasher : IsHasherClone m.hasher n.hasher
+
+module _ {K V S : Type 0} {eq : K → K → Bool} {IsKeyClone : K → K → Type 0} {IsValueClone : V → V → Type 0} {IsHasherClone : S → S → Type 0} where
+  -- at first all pairs are to come
+  pub HasCloned-none : {m n : LinkedMap K V S} {others : List (K × V)} → others ≡ m.pairs → n.pairs ≡ [] → n.capacity ≡ length m.pairs → IsHasherClone m.hasher n.hasher → HasCloned eq IsKeyClone IsValueClone IsHasherClone m others n
+  HasCloned-none all empty room of_hasher = record { first = []; clones = []; split = all; each = tt; inserted = empty; capacity = room; hasher = of_hasher }
+
+  -- one more clone is inserted; there are then no more pairs than are cloned
+  pub HasCloned-put : {m before after : LinkedMap K V S} {these others : List (K × V)} → HasCloned eq IsKeyClone IsValueClone IsHasherClone m these before → (pair : K × V) → these ≡ pair ∷ others → (k : K) (v : V) → IsKeyClone pair.0 k → IsValueClone pair.1 v → after.pairs ≡ to_back eq before.pairs k v → after.capacity ≡ max before.capacity (length after.pairs) → after.hasher ≡ before.hasher → HasCloned eq IsKeyClone IsValueClone IsHasherClone m others after
+  HasCloned-put {m} {before} {after} {these} {others} so_far pair next k v of_key of_value put raised same =
+      let inserted_is = ap length so_far.inserted in
+      let bound = length-insert_each eq [] so_far.clones in
+      let as_many = length-AllZip (λ p q. IsKeyClone p.0 q.0 × IsValueClone p.1 q.1) so_far.first so_far.clones so_far.each in
+      let one = length-to_back eq before.pairs k v in
+      let after_is = ap length put in
+      let whole = ap length so_far.split in
+      let parts = length-append so_far.first these in
+      let tail = ap length next in
+      let as_before = so_far.capacity in
+      record {
+        first = so_far.first ++ pair ∷ [];
+        clones = so_far.clones ++ (k, v) ∷ [];
+        split = append_assoc so_far.first (pair ∷ []) others ∙ ap (λ es. so_far.first ++ es) (sym next) ∙ so_far.split;
+        each = AllZip-last (λ p q. IsKeyClone p.0 q.0 × IsValueClone p.1 q.1) so_far.first so_far.clones pair (k, v) so_far.each (of_key, of_value);
+        inserted = put ∙ ap (λ es. to_back eq es k v) so_far.inserted ∙ sym (insert_each-last eq [] so_far.clones (k, v));
+        capacity = omega arith;
+        hasher = subst (IsHasherClone m.hasher) (sym same) so_far.hasher;
+      }
+
+module _ {K V : Type 0} {eq : K → K → Bool} (laws : IsEquivalence eq) {IsKeyClone : K → K → Type 0} (IsValueClone : V → V → Type 0) (same : (k clone : K) → IsKeyClone k clone → IsTrue (eq k clone)) where
+  -- a clone of a key differs from the clones of those that differ from the key
+  apart : (k key : K) → eq k key ≡ true → (pairs clones : List (K × V)) → AreClones IsKeyClone IsValueClone pairs clones → AllByRecursion (λ y. eq k y ≡ false) (keys_of pairs) → AllByRecursion (λ y. eq key y ≡ false) (keys_of clones)
+  apart k key is [] [] each differ = tt
+  apart k key is [] (clone ∷ clones) each differ = absurd each
+  apart k key is (pair ∷ pairs) [] each differ = absurd each
+  apart k key is (pair ∷ pairs) (clone ∷ clones) each differ = (
+    sym (laws.congr k key clone.0 is) ∙ laws.symm k clone.0 ∙ sym (laws.congr pair.0 clone.0 k (same pair.0 clone.0 each.0.0)) ∙ laws.symm pair.0 k ∙ differ.0,
+    apart k key is pairs clones each.1 differ.1,
+  )
+
+  clones_differ : (pairs clones : List (K × V)) → AreClones IsKeyClone IsValueClone pairs clones → IsDistinct eq (keys_of pairs) → IsDistinct eq (keys_of clones)
+  unfolding IsDistinct
+  clones_differ [] [] each distinct = tt
+  clones_differ [] (clone ∷ clones) each distinct = absurd each
+  clones_differ (pair ∷ pairs) [] each distinct = absurd each
+  clones_differ (pair ∷ pairs) (clone ∷ clones) each distinct = (apart pair.0 clone.0 (same pair.0 clone.0 each.0.0) pairs clones each.1 distinct.0, clones_differ pairs clones each.1 distinct.1)
+
+module _ {K V S : Type 0} {eq : K → K → Bool} (laws : IsEquivalence eq) {IsKeyClone : K → K → Type 0} {IsValueClone : V → V → Type 0} {IsHasherClone : S → S → Type 0} where
+  -- with clones of all pairs inserted, it is a clone
+  pub IsClone-all : {m n : LinkedMap K V S} {others : List (K × V)} → IsDistinct eq (keys_of m.pairs) → HasCloned eq IsKeyClone IsValueClone IsHasherClone m others n → others ≡ [] → IsClone eq IsKeyClone IsValueClone IsHasherClone m n
+  IsClone-all {m} {n} distinct all none =
+      let whole : all.first ≡ m.pairs = sym (append-nil all.first) ∙ ap (λ es. all.first ++ es) (sym none) ∙ all.split in
+      let each = subst (λ es. AreClones IsKeyClone IsValueClone es all.clones) whole all.each in
+      record {
+        pairs = (all.clones, each, all.inserted);
+        capacity = all.capacity;
+        hasher = all.hasher;
+        in_order = λ same. subst (AreClones IsKeyClone IsValueClone m.pairs) (sym (all.inserted ∙ insert_each-distinct laws all.clones (clones_differ laws IsValueClone same m.pairs all.clones each distinct))) each;
+      }

@@ -1,0 +1,134 @@
+-- The pair that an occupied entry stands for, and the calls by its key.
+use Rattle.std.proofs.Common.{◌≡◌, ℕ, zero, suc, ◌+◌, ◌<◌, ◌≤◌, max, Bool, true, false, cond, not, filter, List, [], ◌∷◌, ◌++◌, length, slice_get, Option, Some, None, Result, Ok, Err, OnErr, is_some, map, option_map, refl, sym, ap, ap₂, ◌∙◌, true≢false, arith, length-append, unwrap_or}
+use Rattle.std.proofs.Math.Bridge.{le_prop}
+use Rattle.std.proofs.Math.Nat.{le_of_suc-le-suc}
+use Rattle.std.specs.Cmp.{IsEquivalence}
+use Rattle.std.specs.Map.{keys_of, lookup_entry}
+use Rattle.std.specs.declared.cmp.PartialEq as eq
+use Rattle.std.specs.declared.hash.Hash as hash
+use Rattle.std.specs.declared.hash.Hasher as hasher
+use Rattle.std.specs.declared.hash.BuildHasher as builder
+use Rattle.linked_hash_map.specs.Pairs.{key_or, find, set_value, set_or_push, set_if_some, ActsAs}
+use Rattle.linked_hash_map.specs.Places.{IsPlace, pair_at, set_value_at}
+use Rattle.linked_hash_map.specs.Cursor.{IsOutside, IsOutside-prop}
+use Rattle.linked_hash_map.specs.Entry.{occupied_pair, occupied_key, with_occupied_value}
+use Rattle.linked_hash_map.specs.declared.entry.OccupiedEntry.{OccupiedEntry}
+use Rattle.linked_hash_map.proofs.LiveKeys.{same_test}
+
+pub some_injective : {X : Type 0} {x y : X} → Some x ≡ Some y → x ≡ y
+some_injective h = cc
+
+pub on_err : {A E P : Type 0} (r : Result A E) → P → OnErr r P
+on_err (Ok x) p = tt
+on_err (Err y) p = p
+
+pub some_unwrapped : {X : Type 0} (o : Option X) (x y : X) → is_some o ≡ true → y ≡ unwrap_or o x → o ≡ Some y
+some_unwrapped None x y some same = absurd (true≢false (sym some))
+some_unwrapped (Some z) x y some same = ap Some (sym same)
+
+module _ {K V : Type 0} where
+  slice_get-pair_at : (pairs : List (K × V)) (place : ℕ) (within : place < length pairs) → slice_get pairs place ≡ Some (pair_at pairs place within)
+  slice_get-pair_at [] place within = absurd (omega arith)
+  slice_get-pair_at (pair ∷ pairs) zero within = refl
+  slice_get-pair_at (pair ∷ pairs) (suc place) within = slice_get-pair_at pairs place (le_of_suc-le-suc within)
+
+  slice_get-set_value_at : (pairs : List (K × V)) (place : ℕ) (v : V) (pair : K × V) → slice_get pairs place ≡ Some pair → slice_get (set_value_at pairs place v) place ≡ Some (pair.0, v)
+  slice_get-set_value_at [] place v pair there = absurd (true≢false (sym (ap is_some there)))
+  slice_get-set_value_at (first ∷ pairs) zero v pair there = ap (λ p. Some (p.0, v)) (some_injective there)
+  slice_get-set_value_at (first ∷ pairs) (suc place) v pair there = slice_get-set_value_at pairs place v pair there
+
+  -- a value that is set changes no key, and not how many there are
+  pub keys_of-set_value_at : (pairs : List (K × V)) (place : ℕ) (v : V) → keys_of (set_value_at pairs place v) ≡ keys_of pairs
+  keys_of-set_value_at [] place v = refl
+  keys_of-set_value_at (pair ∷ pairs) zero v = refl
+  keys_of-set_value_at (pair ∷ pairs) (suc place) v = ap (λ ks. pair.0 ∷ ks) (keys_of-set_value_at pairs place v)
+
+  pub length-set_value : (eq : K → K → Bool) (pairs : List (K × V)) (k : K) (v : V) → length (set_value eq pairs k v) ≡ length pairs
+  length-set_value eq [] k v = refl
+  length-set_value eq (pair ∷ pairs) k v = ap suc (length-set_value eq pairs k v)
+
+  -- a key that is at a place is found
+  found_at : (eq : K → K → Bool) (pairs : List (K × V)) (place : ℕ) (k : K) (pair : K × V) → slice_get pairs place ≡ Some pair → eq k pair.0 ≡ true → is_some (find eq pairs k) ≡ true
+  found_at eq [] place k pair there same = absurd (true≢false (sym (ap is_some there)))
+  found_at eq (first ∷ pairs) zero k pair there same = ap (λ b. is_some (cond b (Some first) (find eq pairs k))) (ap (λ p. eq k p.0) (some_injective there) ∙ same)
+  found_at eq (first ∷ pairs) (suc place) k pair there same = by_test (found_at eq pairs place k pair there same) (eq k first.0)
+    where
+      by_test : is_some (find eq pairs k) ≡ true → (b : Bool) → is_some (cond b (Some first) (find eq pairs k)) ≡ true
+      by_test rest true = refl
+      by_test rest false = rest
+
+  key_or-some : (q k : K) (o : Option (K × V)) → is_some o ≡ true → key_or q o ≡ key_or k o
+  key_or-some q k None h = absurd (true≢false (sym h))
+  key_or-some q k (Some pair) h = refl
+
+  module _ (eq : K → K → Bool) (pairs : List (K × V)) (k : K) (v : V) where
+    -- the value of a key that is present is set in its place
+    pub set_or_push-present : is_some (find eq pairs k) ≡ true → set_value eq pairs k v ≡ set_or_push eq pairs k v
+    set_or_push-present there = sym (ap (λ b. cond b (set_value eq pairs k v) (pairs ++ (k, v) ∷ [])) there)
+
+    -- that of an absent one is pushed
+    pub set_or_push-absent : find eq pairs k ≡ None → pairs ++ (k, v) ∷ [] ≡ set_or_push eq pairs k v
+    set_or_push-absent none = sym (ap (λ o. cond (is_some o) (set_value eq pairs k v) (pairs ++ (k, v) ∷ [])) none)
+
+    -- the room that this takes
+    pub room-present : (capacity : ℕ) → is_some (find eq pairs k) ≡ true → length pairs ≤ capacity → capacity ≡ max capacity (length (set_or_push eq pairs k v))
+    room-present capacity there within =
+        let kept : length (set_or_push eq pairs k v) ≡ length pairs = ap length (sym (set_or_push-present there)) ∙ length-set_value eq pairs k v in
+        omega arith
+
+    pub room-absent : (capacity : ℕ) → find eq pairs k ≡ None → max capacity (length pairs + 1) ≡ max capacity (length (set_or_push eq pairs k v))
+    room-absent capacity none =
+        let pushed : length (set_or_push eq pairs k v) ≡ length (pairs ++ (k, v) ∷ []) = ap length (sym (set_or_push-absent none)) in
+        let longer = length-append pairs ((k, v) ∷ []) in
+        omega arith
+
+  -- a key that is the same as one that is present does what that one does
+  pub ActsAs-same : {eq : K → K → Bool} → IsEquivalence eq → (pairs : List (K × V)) (q k : K) → eq k q ≡ true → is_some (find eq pairs k) ≡ true → ActsAs eq pairs q k
+  ActsAs-same {eq} laws pairs q k same there =
+      let test : eq q ≡ eq k = sym (same_test laws k q same) in
+      let finds : find eq pairs q ≡ find eq pairs k = ap (λ t. lookup_entry t pairs) test in
+      let sets : (v : V) → set_value eq pairs q v ≡ set_value eq pairs k v = λ v. ap (λ (t : K → Bool). map (λ pair. cond (t pair.0) (pair.0, v) pair) pairs) test in
+      record {
+        finds = finds;
+        removes = ap (λ (t : K → Bool). filter (λ pair. not (t pair.0)) pairs) test;
+        moves = λ v. ap₂ (λ ps key. ps ++ (key, v) ∷ []) (ap (λ (t : K → Bool). filter (λ pair. not (t pair.0)) pairs) test) (ap (key_or q) finds ∙ key_or-some q k (find eq pairs k) there);
+        sets = sets;
+        sets_or_pushes = λ v. sym (set_or_push-present eq pairs q v (ap is_some finds ∙ there)) ∙ sets v ∙ set_or_push-present eq pairs k v there;
+        sets_if_some = by_value sets;
+      }
+    where
+      by_value : ((v : V) → set_value eq pairs q v ≡ set_value eq pairs k v) → (o : Option V) → set_if_some eq pairs q o ≡ set_if_some eq pairs k o
+      by_value sets None = refl
+      by_value sets (Some v) = sets v
+
+module _ {K V S H : Type 0} {g : eq.Ghosts K} {h : hash.Ghosts K} {b : builder.Ghosts S H} {w : hasher.Ghosts H} (o : OccupiedEntry K V S H g h b w) where
+  pub slice_get-occupied : slice_get o.map.now.pairs o.place ≡ Some (occupied_pair o)
+  unfolding occupied_pair
+  slice_get-occupied = slice_get-pair_at o.map.now.pairs o.place o.within
+
+  -- the pair at the place
+  pub occupied_pair-is : (pair : K × V) → slice_get o.map.now.pairs o.place ≡ Some pair → pair ≡ occupied_pair o
+  occupied_pair-is pair there = some_injective (sym there ∙ slice_get-occupied)
+
+  pub occupied_value-is : (v : V) → option_map (λ pair. pair.1) (slice_get o.map.now.pairs o.place) ≡ Some v → v ≡ (occupied_pair o).1
+  occupied_value-is v there = some_injective (sym there ∙ ap (option_map (λ pair. pair.1)) slice_get-occupied)
+
+  pub IsPlace-occupied : {eq : K → K → Bool} → IsEquivalence eq → IsPlace eq o.map.now.pairs (occupied_key o) o.place
+  IsPlace-occupied laws = record { pair = occupied_pair o; there = slice_get-occupied; same = laws.refl (occupied_key o) }
+
+  pub found-occupied : {eq : K → K → Bool} → IsEquivalence eq → is_some (find eq o.map.now.pairs (occupied_key o)) ≡ true
+  found-occupied {eq} laws = found_at eq o.map.now.pairs o.place (occupied_key o) (occupied_pair o) slice_get-occupied (laws.refl (occupied_key o))
+
+  -- once a value is written
+  pub occupied_pair-written : (v : V) → occupied_pair (with_occupied_value o v) ≡ (occupied_key o, v)
+  unfolding occupied_pair
+  occupied_pair-written v = some_injective
+      (sym (slice_get-pair_at (set_value_at o.map.now.pairs o.place v) o.place (with_occupied_value o v).within)
+      ∙ slice_get-set_value_at o.map.now.pairs o.place v (occupied_pair o) slice_get-occupied)
+
+  pub occupied_written : (v : V) (within : o.place < length (set_value_at o.map.now.pairs o.place v)) (outside : IsOutside o.place (with_occupied_value o v).map.now)
+      → record { map = (with_occupied_value o v).map; place = o.place; within = within; outside = outside } ≡ with_occupied_value o v
+  occupied_written v within outside i = record (with_occupied_value o v) {
+    within = le_prop within (with_occupied_value o v).within i;
+    outside = IsOutside-prop o.place (with_occupied_value o v).map.now outside o.outside i;
+  }

@@ -1,0 +1,64 @@
+-- Insertions one after another.
+use Rattle.std.proofs.Common.{◌≡◌, ◌+◌, ◌≤◌, max, Bool, true, false, cond, List, [], ◌∷◌, ◌++◌, length, is_some, refl, sym, ap, ◌∙◌, subst, arith}
+use Rattle.std.specs.List.{IsDistinct}
+use Rattle.std.specs.Map.{keys_of}
+use Rattle.std.specs.Cmp.{IsEquivalence}
+use Rattle.linked_hash_map.specs.LinkedMap.{LinkedMap}
+use Rattle.linked_hash_map.specs.Log.{Put}
+use Rattle.linked_hash_map.specs.Pairs.{find, to_back}
+use Rattle.linked_hash_map.specs.Run.{first_log}
+use Rattle.linked_hash_map.specs.Inserts.{insert_each}
+use Rattle.linked_hash_map.proofs.Bridge.{pairs-put}
+use Rattle.linked_hash_map.proofs.Distinct.{distinct-pairs}
+use Rattle.linked_hash_map.proofs.Lists.{by_last}
+use Rattle.linked_hash_map.proofs.Pairs.{length-to_back}
+use Rattle.linked_hash_map.proofs.Runs.{put_last, last_differs, pairs-first_log}
+
+-- one more item goes in last
+pub insert_each-last : {K V : Type 0} (eq : K → K → Bool) (pairs items : List (K × V)) (item : K × V) → insert_each eq pairs (items ++ item ∷ []) ≡ to_back eq (insert_each eq pairs items) item.0 item.1
+insert_each-last eq pairs [] item = refl
+insert_each-last eq pairs (first ∷ items) item = insert_each-last eq (to_back eq pairs first.0 first.1) items item
+
+-- the items went into one map, and left another
+pub record HasInserted {K V S : Type 0} (eq : K → K → Bool) (old : LinkedMap K V S) (items : List (K × V)) (new : LinkedMap K V S) : Type 0 where
+  pub pairs : new.pairs ≡ insert_each eq old.pairs items
+  pub capacity : new.capacity ≡ max old.capacity (length new.pairs)
+  pub hasher : new.hasher ≡ old.hasher
+
+module _ {K V : Type 0} {eq : K → K → Bool} (laws : IsEquivalence eq) where
+  -- keys that differ still do after an insertion
+  pub distinct-to_back : (pairs : List (K × V)) (k : K) (v : V) → IsDistinct eq (keys_of pairs) → IsDistinct eq (keys_of (to_back eq pairs k v))
+  distinct-to_back pairs k v distinct = subst (λ es. IsDistinct eq (keys_of es))
+      (pairs-put laws (first_log pairs) k v ∙ ap (λ es. to_back eq es k v) (pairs-first_log laws pairs distinct))
+      (distinct-pairs laws (first_log pairs ++ Put k v ∷ []))
+
+  pub distinct-insert_each : (pairs items : List (K × V)) → IsDistinct eq (keys_of pairs) → IsDistinct eq (keys_of (insert_each eq pairs items))
+  distinct-insert_each pairs [] distinct = distinct
+  distinct-insert_each pairs (item ∷ items) distinct = distinct-insert_each (to_back eq pairs item.0 item.1) items (distinct-to_back pairs item.0 item.1 distinct)
+
+  -- an insertion takes no pair away
+  pub length-grows : (pairs : List (K × V)) (k : K) (v : V) → IsDistinct eq (keys_of pairs) → length pairs ≤ length (to_back eq pairs k v)
+  length-grows pairs k v distinct = by_test (is_some (find eq pairs k)) (length-to_back laws pairs k v distinct)
+    where
+      by_test : (b : Bool) → length (to_back eq pairs k v) ≡ cond b (length pairs) (length pairs + 1) → length pairs ≤ length (to_back eq pairs k v)
+      by_test true h = omega arith
+      by_test false h = omega arith
+
+  -- one more insertion, after those of some items
+  pub HasInserted-put : {S : Type 0} (start : LinkedMap K V S) (items : List (K × V)) (k : K) (v : V) {before after : LinkedMap K V S} → IsDistinct eq (keys_of start.pairs) → HasInserted eq start items before → after.pairs ≡ to_back eq before.pairs k v → after.capacity ≡ max before.capacity (length after.pairs) → after.hasher ≡ before.hasher → HasInserted eq start (items ++ (k, v) ∷ []) after
+  HasInserted-put start items k v {before} {after} distinct so_far pairs_are raised same =
+      let grows = length-grows before.pairs k v (subst (λ es. IsDistinct eq (keys_of es)) (sym so_far.pairs) (distinct-insert_each start.pairs items distinct)) in
+      let longer : length before.pairs ≤ length after.pairs = subst (λ es. length before.pairs ≤ length es) (sym pairs_are) grows in
+      let capacity_before = so_far.capacity in
+      record {
+        pairs = pairs_are ∙ ap (λ es. to_back eq es k v) so_far.pairs ∙ sym (insert_each-last eq start.pairs items (k, v));
+        capacity = omega arith;
+        hasher = same ∙ so_far.hasher;
+      }
+
+  -- pairs with keys that differ stay as they are inserted
+  pub insert_each-distinct : (pairs : List (K × V)) → IsDistinct eq (keys_of pairs) → insert_each eq [] pairs ≡ pairs
+  insert_each-distinct = by_last (λ es. IsDistinct eq (keys_of es) → insert_each eq [] es ≡ es)
+      (λ es e rest distinct. let apart = last_differs laws es e distinct in
+      insert_each-last eq [] es e ∙ ap (λ xs. to_back eq xs e.0 e.1) (rest apart.0) ∙ put_last laws es e apart.1)
+      (λ distinct. refl)

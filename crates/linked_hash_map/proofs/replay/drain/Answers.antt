@@ -1,0 +1,61 @@
+use Rattle.std.proofs.Common.{rules, ◌≡◌, ◌<◌, ◌++◌, ◌∷◌, [], length, refl, sym, ap, ◌∙◌, true≢false, arith, length-append}
+use Rattle.std.proofs.lemmas.List.{append-nil, append_assoc}
+use Rattle.linked_hash_map.specs.Drains.{drain_lender, drain_map, drain_rest}
+use Rattle.linked_hash_map.proofs.Draining.{positive}
+use Rattle.linked_hash_map.proofs.Effects.{size-held, Defines-nothing, Defines-remove_all}
+use Rattle.linked_hash_map.proofs.replay.drain.Goals as goal
+
+pub returns-in_default : goal.returns-in_default
+returns-in_default g c = record {
+  answers = λ start log defines.
+      let some : 0 < c.len.result = positive c.len.result (λ none. true≢false (sym (c.in_default.ensures.succeeds none))) in
+      let held = size-held g.met.K.Eq.laws defines in
+      omega (arith, c.len.ensures.len);
+  defines = λ start log defines. Defines-nothing g.met.K.Eq.laws defines refl refl;
+  hasher = refl;
+}
+
+pub loop-pair-init : goal.loop-pair-init
+loop-pair-init g c = record {
+  pairs = rw c.in-Ok.ensures.items (ap drain_rest c.into_iter-pair-iterator.ensures.into_iter_gives ∙ c.drain-pair-items.ensures.rest);
+  keeps = record { lender = refl; capacity = refl; hasher = refl };
+  room = omega (arith, c.len.ensures.len, c.in-Ok.ensures.exact);
+}
+
+pub push_reserved-requires : goal.push_reserved-requires
+push_reserved-requires g c =
+    let i = c.loop-pair.invariant in
+    let so_far = c.loop-pair.pairs in
+    let to_come = drain_rest c.loop-pair.pair-iterator in
+    omega (arith, so_far.ok.0, ap length i.pairs, length-append so_far.items to_come, ap length c.in-Some.ensures.steps.0, i.room)
+
+pub loop-pair-preserved : goal.loop-pair-preserved
+loop-pair-preserved g c =
+    let i = c.loop-pair.invariant in
+    let so_far = c.loop-pair.pairs.items in
+    let step = c.in-Some.ensures.steps in
+    record {
+      pairs =
+          rw c.push_reserved.ensures.items
+          (append_assoc so_far (c.in-Some.pair ∷ []) (drain_rest c.next.new.self) ∙ ap (λ l. so_far ++ l) (sym step.0) ∙ i.pairs);
+      keeps = record { lender = step.1.lender ∙ i.keeps.lender; capacity = step.1.capacity ∙ i.keeps.capacity; hasher = step.1.hasher ∙ i.keeps.hasher };
+      room = rw c.push_reserved.ensures.capacity i.room;
+    }
+
+pub returns : goal.returns
+returns g c =
+    let all : c.loop-pair.pairs.items ≡ c.args.map.now.pairs =
+    sym (append-nil c.loop-pair.pairs.items) ∙ ap (λ l. c.loop-pair.pairs.items ++ l) (sym c.in-None.ensures.steps.0.0) ∙ c.loop-pair.invariant.pairs in
+    let dropped = c.drop-pair-iterator.ensures in
+    let last = c.in-None.ensures.steps.1 in
+    let before = c.loop-pair.invariant.keeps in
+    let begun = c.into_iter-pair-iterator.ensures.into_iter_gives in
+    let made = c.drain-pair-items.ensures in
+    let lender = last.lender ∙ before.lender ∙ ap drain_lender begun ∙ made.same_map in
+    let capacity = dropped.capacity ∙ last.capacity ∙ before.capacity ∙ ap (λ d. (drain_map d).capacity) begun ∙ made.capacity in
+    let hasher = dropped.hasher ∙ last.hasher ∙ before.hasher ∙ ap (λ d. (drain_map d).hasher) begun ∙ made.hasher in
+    record {
+      answers = λ start log defines. c.from_vec.ensures ∙ all ∙ sym defines.same_pairs;
+      defines = λ start log defines. Defines-remove_all g.met.K.Eq.laws defines (search (rules, lender)) (search (rules, lender, capacity));
+      hasher = search (rules, lender, hasher);
+    }

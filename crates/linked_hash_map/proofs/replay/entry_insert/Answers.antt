@@ -1,0 +1,72 @@
+use Rattle.std.proofs.Common.{rules, ◌≡◌, ◌+◌, ◌++◌, ◌∷◌, [], max, length, cond, refl, sym, ap, ◌∙◌, arith, length-append, Some}
+use Rattle.linked_hash_map.specs.LinkedMap.{linked_map}
+use Rattle.linked_hash_map.specs.Pairs.{key_or, find, to_back}
+use Rattle.linked_hash_map.specs.Entry.{occupied_key}
+use Rattle.linked_hash_map.proofs.LiveKeys.{none_is}
+use Rattle.linked_hash_map.proofs.Pairs.{length-to_back, to_back-absent}
+use Rattle.linked_hash_map.proofs.Effects.{IsFull-held, IsAbsent-found, HasValue-value, Defines-put, Defines-nothing}
+use Rattle.linked_hash_map.proofs.Runs.{Serves-same}
+use Rattle.linked_hash_map.proofs.replay.entry_insert.Goals as goal
+
+pub returns-in-Occupied : goal.returns-in-Occupied
+returns-in-Occupied g c =
+    let m = c.args.map.now in
+    let entry = c.in-Occupied.ensures in
+    let done = c.insert.ensures in
+    let left = c.insert.new.self.map.now in
+    let moved : left.pairs ≡ to_back g.K.PartialEq.eq m.pairs c.args.key c.args.value =
+    done.pairs
+    ∙ ap (λ pairs. to_back g.K.PartialEq.eq pairs (occupied_key c.in-Occupied.entry) c.args.value) entry.pairs
+    ∙ entry.acts.moves c.args.value in
+    let as_long : length left.pairs ≡ length m.pairs =
+    ap length moved
+    ∙ length-to_back g.met.K.Eq.laws m.pairs c.args.key c.args.value entry.distinct
+    ∙ ap (λ b. cond b (length m.pairs) (length m.pairs + 1)) (sym entry.occupied) in
+    let room : left.capacity ≡ max m.capacity (length left.pairs) = let same = done.capacity ∙ entry.capacity in omega (arith, entry.within) in
+    Serves-same left (search rules)
+    (record {
+      answers = λ start log defines. HasValue-value g.met.K.Eq.laws defines c.args.key (sym entry.value ∙ ap Some (sym done.old));
+      defines = λ start log defines. Defines-put g.met.K.Eq.laws defines c.args.key c.args.value moved room;
+      hasher = done.hasher ∙ entry.hasher;
+    })
+
+pub returns-in-Ok : goal.returns-in-Ok
+returns-in-Ok g c =
+    let eq = g.K.PartialEq.eq in
+    let m = c.args.map.now in
+    let entry = c.in-Vacant.ensures in
+    let held = c.in-Vacant.entry.map.now in
+    let key = c.in-Vacant.entry.key in
+    let value = c.in-Ok._lent.now in
+    let kept = entry.unchanged refl in
+    let absent = none_is (find eq m.pairs c.args.key) (sym entry.occupied) in
+    let same_key : key ≡ c.args.key = entry.key ∙ ap (key_or c.args.key) absent in
+    let left = linked_map (held.pairs ++ (key, value) ∷ []) (max held.capacity (length held.pairs + 1)) held.hasher held.bookmark held.unvisited in
+    let pushed : left.pairs ≡ to_back eq m.pairs c.args.key c.args.value =
+    (λ i. entry.pairs i ++ (same_key i, c.in-Ok.ensures.value i) ∷ []) ∙ to_back-absent eq m.pairs c.args.key c.args.value absent in
+    let room : left.capacity ≡ max m.capacity (length left.pairs) =
+    let longer = length-append held.pairs ((key, value) ∷ []) in let same = entry.capacity in omega arith in
+    Serves-same left (search rules)
+    (record {
+      answers = λ start log defines. IsAbsent-found g.met.K.Eq.laws defines c.args.key absent;
+      defines = λ start log defines. Defines-put g.met.K.Eq.laws defines c.args.key c.args.value pushed room;
+      hasher = entry.hasher;
+    })
+
+pub returns-in-Err : goal.returns-in-Err
+returns-in-Err g c =
+    let eq = g.K.PartialEq.eq in
+    let m = c.args.map.now in
+    let entry = c.in-Vacant.ensures in
+    let refused = c.in-Err.ensures in
+    let kept = entry.unchanged refl in
+    let absent = none_is (find eq m.pairs c.args.key) (sym entry.occupied) in
+    let same_key = entry.key ∙ ap (key_or c.args.key) absent in
+    let full : length m.pairs ≡ m.capacity = sym (ap (λ n. length n.pairs) kept) ∙ refused.full ∙ ap (λ n. n.capacity) kept in
+    Serves-same m (search rules)
+    (record {
+      answers = λ start log defines.
+          ((IsAbsent-found g.met.K.Eq.laws defines c.args.key absent, IsFull-held g.met.K.Eq.laws defines full), refused.key_back ∙ same_key, refused.value_back);
+      defines = λ start log defines. Defines-nothing g.met.K.Eq.laws defines refl refl;
+      hasher = refl;
+    })

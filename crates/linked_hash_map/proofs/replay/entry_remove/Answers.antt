@@ -1,0 +1,31 @@
+use Rattle.std.proofs.Common.{rules, refl, sym, ap, ◌∙◌, Some}
+use Rattle.linked_hash_map.specs.Pairs.{without}
+use Rattle.linked_hash_map.specs.Entry.{occupied_key}
+use Rattle.linked_hash_map.proofs.Effects.{IsAbsent-value, HasValue-value, Defines-remove, Defines-nothing}
+use Rattle.linked_hash_map.proofs.Runs.{Serves-same}
+use Rattle.linked_hash_map.proofs.replay.entry_remove.Goals as goal
+
+pub returns-in-Occupied : goal.returns-in-Occupied
+returns-in-Occupied g c =
+    let entry = c.in-Occupied.ensures in
+    let done = c.remove.ensures in
+    Serves-same c.remove.new.self.0 (search rules)
+    (record {
+      answers = λ start log defines. HasValue-value g.met.K.Eq.laws defines c.args.key (sym entry.value ∙ ap Some (sym done.value));
+      defines = λ start log defines.
+          Defines-remove g.met.K.Eq.laws defines c.args.key
+          (done.pairs ∙ ap (λ pairs. without g.K.PartialEq.eq pairs (occupied_key c.in-Occupied.entry)) entry.pairs ∙ entry.acts.removes)
+          (done.capacity ∙ entry.capacity);
+      hasher = done.hasher ∙ entry.hasher;
+    })
+
+pub returns-in-Vacant : goal.returns-in-Vacant
+returns-in-Vacant g c =
+    let entry = c.in-Vacant.ensures in
+    let kept = c.drop-entry.ensures ∙ entry.unchanged refl in
+    Serves-same c.drop-entry.new.self.0 (search rules)
+    (record {
+      answers = λ start log defines. IsAbsent-value g.met.K.Eq.laws defines c.args.key (sym entry.value);
+      defines = λ start log defines. Defines-nothing g.met.K.Eq.laws defines (ap (λ m. m.pairs) kept) (ap (λ m. m.capacity) kept);
+      hasher = ap (λ m. m.hasher) kept;
+    })

@@ -1,0 +1,87 @@
+use Rattle.std.proofs.Common.{rules, ◌≡◌, true, false, max, length, is_some, None, Some, option_map, sym, ap, ◌∙◌, arith, unwrap_or}
+use Rattle.linked_hash_map.specs.LinkedMap.{linked_map}
+use Rattle.linked_hash_map.specs.Pairs.{key_or, find, value_at, to_back, set_or_push}
+use Rattle.linked_hash_map.specs.Entry.{is_occupied, entry_map, entry_key}
+use Rattle.linked_hash_map.proofs.LiveKeys.{none_is}
+use Rattle.linked_hash_map.proofs.Pairs.{is_some-value_at, to_back-absent}
+use Rattle.linked_hash_map.proofs.Places.{set_value-own}
+use Rattle.linked_hash_map.proofs.EntryFacts.{some_unwrapped, set_or_push-present, set_or_push-absent}
+use Rattle.linked_hash_map.proofs.Effects.{IsFull-held, IsAbsent-found, IsAbsent-value, HasValue-value, Defines-put, Defines-nothing}
+use Rattle.linked_hash_map.proofs.Runs.{Serves-same}
+use Rattle.linked_hash_map.proofs.replay.or_insert.Goals as goal
+
+pub returns-then-present : goal.returns-then-present
+returns-then-present g c =
+    let eq = g.K.PartialEq.eq in
+    let m = c.args.map.now in
+    let k = c.args.key in
+    let entry = c.entry-entry.ensures in
+    let held = entry_map c.entry-entry.result in
+    let key = entry_key c.entry-entry.result in
+    let value = c.in-Ok._lent.now in
+    let occupied : is_occupied c.entry-entry.result ≡ true = search rules in
+    let there : is_some (find eq m.pairs k) ≡ true = sym entry.occupied ∙ occupied in
+    let own : value_at eq m.pairs k ≡ Some value =
+    some_unwrapped (value_at eq m.pairs k) c.args.value value (is_some-value_at eq m.pairs k ∙ there) (c.in-Ok.ensures.value ∙ ap (λ o. unwrap_or o c.args.value) entry.value) in
+    let pairs = set_or_push eq held.pairs key value in
+    let left = linked_map pairs (max held.capacity (length pairs)) held.hasher held.bookmark held.unvisited in
+    let kept : left.pairs ≡ m.pairs =
+    ap (λ ps. set_or_push eq ps key value) entry.pairs
+    ∙ entry.acts.sets_or_pushes value
+    ∙ sym (set_or_push-present eq m.pairs k value there)
+    ∙ set_value-own g.met.K.Eq.laws k m.pairs value entry.distinct own in
+    let room : left.capacity ≡ m.capacity = let as_long = ap length kept in let same = entry.capacity in omega (arith, entry.within) in
+    Serves-same left (search rules)
+    (record {
+      answers = λ start log defines. (HasValue-value g.met.K.Eq.laws defines k own).0;
+      defines = λ start log defines. Defines-nothing g.met.K.Eq.laws defines kept room;
+      hasher = entry.hasher;
+    })
+
+pub returns-else-present : goal.returns-else-present
+returns-else-present g c =
+    let eq = g.K.PartialEq.eq in
+    let m = c.args.map.now in
+    let k = c.args.key in
+    let entry = c.entry-entry.ensures in
+    let held = entry_map c.entry-entry.result in
+    let key = entry_key c.entry-entry.result in
+    let value = c.in-Ok._lent.now in
+    let vacant : is_occupied c.entry-entry.result ≡ false = search rules in
+    let absent = none_is (find eq m.pairs k) (sym entry.occupied ∙ vacant) in
+    let given : value ≡ c.args.value =
+    c.in-Ok.ensures.value ∙ ap (λ o. unwrap_or o c.args.value) (entry.value ∙ ap (option_map (λ pair. pair.1)) absent) in
+    let pairs = set_or_push eq held.pairs key value in
+    let left = linked_map pairs (max held.capacity (length pairs)) held.hasher held.bookmark held.unvisited in
+    let pushed : left.pairs ≡ to_back eq m.pairs k c.args.value =
+    ap (λ ps. set_or_push eq ps key value) entry.pairs
+    ∙ entry.acts.sets_or_pushes value
+    ∙ sym (set_or_push-absent eq m.pairs k value absent)
+    ∙ to_back-absent eq m.pairs k value absent
+    ∙ ap (to_back eq m.pairs k) given in
+    Serves-same left (search rules)
+    (record {
+      answers = λ start log defines. IsAbsent-found g.met.K.Eq.laws defines k absent;
+      defines = λ start log defines. Defines-put g.met.K.Eq.laws defines k c.args.value pushed (ap (λ n. max n (length left.pairs)) entry.capacity);
+      hasher = entry.hasher;
+    })
+
+pub returns-in-Err : goal.returns-in-Err
+returns-in-Err g c =
+    let eq = g.K.PartialEq.eq in
+    let m = c.args.map.now in
+    let k = c.args.key in
+    let entry = c.entry-entry.ensures in
+    let refused = c.in-Err.ensures in
+    let held = entry_map c.entry-entry.result in
+    let none : value_at eq m.pairs k ≡ None = sym entry.value ∙ refused.absent in
+    let absent = none_is (find eq m.pairs k) (sym (is_some-value_at eq m.pairs k) ∙ ap is_some none) in
+    let kept = entry.unchanged refused.absent in
+    let full : length m.pairs ≡ m.capacity = sym (ap (λ n. length n.pairs) kept) ∙ refused.full ∙ ap (λ n. n.capacity) kept in
+    Serves-same held (search rules)
+    (record {
+      answers = λ start log defines.
+          ((IsAbsent-value g.met.K.Eq.laws defines k none, IsFull-held g.met.K.Eq.laws defines full), refused.key_back ∙ entry.key ∙ ap (key_or k) absent, refused.value_back);
+      defines = λ start log defines. Defines-nothing g.met.K.Eq.laws defines (ap (λ n. n.pairs) kept) (ap (λ n. n.capacity) kept);
+      hasher = ap (λ n. n.hasher) kept;
+    })

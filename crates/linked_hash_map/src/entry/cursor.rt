@@ -1,0 +1,91 @@
+//! The cursor, which lends the entries of a map one after another.
+ghost use Rattle.std.specs.Prelude.{◌≡◌, [], ◌∷◌, length, IfSome, IfNone};
+ghost use Rattle.std.specs.Borrow.{sem};
+ghost use Rattle.std.specs.Map.{keys_of};
+ghost use Rattle.linked_hash_map.specs.Cursor.{to_visit};
+ghost use Rattle.linked_hash_map.specs.Entry.{occupied_map_ref, occupied_map, occupied_key};
+ghost use Rattle.linked_hash_map.specs.CursorLends.{cursor_map_ref, cursor_map, lends_map, lends_next_entry, lends_next};
+
+use super::OccupiedEntry;
+use crate::map::{DefaultHasher, LinkedHashMap};
+use std::hash::{BuildHasher, Hash};
+
+/// A cursor over the entries of a map, from the oldest place to the newest.
+///
+/// It visits the pairs that the map had when the cursor was made, in their order then, each once, whatever is done with their
+/// entries: one that is taken out, or that its entry moved to the back, is not visited again. A cursor that is let go leaves
+/// the map as it then is. The original's is an iterator, and its entries can be held side by side; this one lends one entry
+/// at a time.
+#[derive(Drop)]
+pub struct Entries<'a, K: Eq + Hash, V, S: BuildHasher = DefaultHasher> {
+    map: &'a mut LinkedHashMap<K, V, S>,
+}
+
+impl<K: Eq + Hash, V, S: BuildHasher> LinkedHashMap<K, V, S> {
+    /// Returns a cursor over the entries, to read, change or take out one pair after another.
+    ///
+    /// Every pair is to be visited, from the oldest place to the newest. It takes no memory, leaves every place, and costs a
+    /// constant number of steps.
+    pub fn entries(&mut self) -> Entries<'_, K, V, S>
+        ensures same_map { (cursor_map_ref result).ghost_name ≡ self.entry.ghost_name }
+        ensures to_visit { to_visit (cursor_map result) ≡ keys_of self.old.pairs }
+        ensures pairs { (cursor_map result).pairs ≡ self.old.pairs }
+        ensures capacity { (cursor_map result).capacity ≡ self.old.capacity }
+        ensures hasher { (cursor_map result).hasher ≡ self.old.hasher }
+    {
+        self.begin_visit();
+        Entries { map: self }
+    }
+
+    /// Lends the entry of the next unvisited pair and goes on behind it, or returns `None` where none is left.
+    pub(crate) fn next_entry(&mut self) -> Option<OccupiedEntry<'_, K, V, S>>
+        ensures* lends { sem 𝓛 (lends_next_entry K.row V.row S.row S.Hasher.row K.Hash S.BuildHasher S.Hasher.Hasher self.entry result) }
+        ensures same_map { IfSome result (λ entry. (occupied_map_ref entry).ghost_name ≡ self.entry.ghost_name) }
+        ensures visits { IfSome result (λ entry. to_visit self.old ≡ occupied_key entry ∷ to_visit (occupied_map entry)) }
+        ensures pairs { IfSome result (λ entry. (occupied_map entry).pairs ≡ self.old.pairs) }
+        ensures capacity { IfSome result (λ entry. (occupied_map entry).capacity ≡ self.old.capacity) }
+        ensures hasher { IfSome result (λ entry. (occupied_map entry).hasher ≡ self.old.hasher) }
+        ensures none { IfNone result (to_visit self.old ≡ []) }
+    {
+        match self.visit_next() {
+            Some(place) => Some(OccupiedEntry { map: self, place }),
+            None => None,
+        }
+    }
+}
+
+impl<'a, K: Eq + Hash, V, S: BuildHasher> Entries<'a, K, V, S> {
+    /// Lends the entry of the next pair until the cursor is used again, or returns `None` where every pair has been visited.
+    ///
+    /// It takes no memory, leaves every place, and costs a constant number of steps. The original's entries may outlive the
+    /// next call.
+    pub fn next(&mut self) -> Option<OccupiedEntry<'_, K, V, S>>
+        ensures* lends { sem 𝓛 (lends_next K.row V.row S.row S.Hasher.row K.Hash S.BuildHasher S.Hasher.Hasher self.entry result) }
+        ensures visits { IfSome result (λ entry. to_visit (cursor_map self.old) ≡ occupied_key entry ∷ to_visit (occupied_map entry)) }
+        ensures pairs { IfSome result (λ entry. (occupied_map entry).pairs ≡ (cursor_map self.old).pairs) }
+        ensures capacity { IfSome result (λ entry. (occupied_map entry).capacity ≡ (cursor_map self.old).capacity) }
+        ensures hasher { IfSome result (λ entry. (occupied_map entry).hasher ≡ (cursor_map self.old).hasher) }
+        ensures none { IfNone result (to_visit (cursor_map self.old) ≡ []) }
+    {
+        let map = self.as_map();
+        map.next_entry()
+    }
+
+    /// Returns the number of pairs that are still to be visited.
+    ///
+    /// It takes no memory, leaves every place, and costs a constant number of steps. It is the port's own: the original has a
+    /// size hint.
+    pub fn remaining(&self) -> usize
+        ensures { result ≡ length (to_visit (cursor_map self.now)) }
+    {
+        self.map.unvisited()
+    }
+
+    /// Lends the map.
+    fn as_map(&mut self) -> &mut LinkedHashMap<K, V, S>
+        ensures* lends { sem 𝓛 (lends_map K.row V.row S.row S.Hasher.row K.Hash S.BuildHasher S.Hasher.Hasher self.entry result) }
+        ensures now { result.now ≡ cursor_map self.old }
+    {
+        &mut *self.map
+    }
+}

@@ -1,0 +1,149 @@
+//! What makes an entry, and the methods of `Entry`.
+ghost use Rattle.std.specs.Prelude.{◌≡◌, ◌≤◌, length, is_some, Some, None, unwrap_or, IsTrue, IfOk, IfErr, OnErr};
+ghost use Rattle.std.specs.Borrow.{sem, MutBor};
+ghost use Rattle.std.specs.List.{IsDistinct};
+ghost use Rattle.std.specs.Map.{keys_of};
+ghost use Rattle.std.specs.Map.Calls.{ModifiesValue};
+ghost use Rattle.std.specs.Option.{UnwrapsOrElse};
+ghost use Rattle.linked_hash_map.specs.Pairs.{key_or, find, value_at, set_if_some, ActsAs};
+ghost use Rattle.linked_hash_map.specs.Cursor.{without_cursor};
+ghost use Rattle.linked_hash_map.specs.Entry.{entry_map_ref, entry_map, is_occupied, entry_key, entry_value, lends_entry};
+
+use super::{Entry, OccupiedEntry, VacantEntry};
+use crate::map::{LinkedHashMap, Refused};
+use std::hash::{BuildHasher, Hash};
+
+impl<K: Eq + Hash, V, S: BuildHasher> LinkedHashMap<K, V, S> {
+    /// Returns the entry of a key, to read, change, insert or remove its pair.
+    ///
+    /// A key that is present gives an occupied entry with the stored key, and `key` is dropped. One that is absent gives a
+    /// vacant entry, which owns `key`. It takes no memory and leaves every place.
+    pub fn entry(&mut self, key: K) -> Entry<'_, K, V, S>
+    where
+        K: Drop,
+        ensures same_map { (entry_map_ref result).ghost_name ≡ self.entry.ghost_name }
+        ensures occupied { is_occupied result ≡ is_some (find K.eq self.old.pairs key) }
+        ensures key { entry_key result ≡ key_or key (find K.eq self.old.pairs key) }
+        ensures acts { ActsAs K.eq self.old.pairs (entry_key result) key }
+        ensures value { entry_value result ≡ value_at K.eq self.old.pairs key }
+        ensures pairs { (entry_map result).pairs ≡ self.old.pairs }
+        ensures capacity { (entry_map result).capacity ≡ self.old.capacity }
+        ensures hasher { (entry_map result).hasher ≡ self.old.hasher }
+        ensures ends_visit { IsTrue (is_occupied result) → entry_map result ≡ without_cursor self.old }
+        ensures unchanged { entry_value result ≡ None → entry_map result ≡ self.old }
+        ensures within { length self.old.pairs ≤ self.old.capacity }
+        ensures distinct { IsDistinct K.eq (keys_of self.old.pairs) }
+    {
+        match self.find(&key) {
+            Some(place) => {
+                self.end_visit();
+                Entry::Occupied(OccupiedEntry { map: self, place })
+            }
+            None => Entry::Vacant(VacantEntry { map: self, key }),
+        }
+    }
+}
+
+impl<'a, K: Eq + Hash, V, S: BuildHasher> Entry<'a, K, V, S> {
+    /// Lends the stored key of an occupied entry, or the key of a vacant one.
+    ///
+    /// It takes no memory and leaves every place.
+    pub fn key(&self) -> &K
+        ensures { result.now ≡ entry_key self.now }
+    {
+        match self {
+            Entry::Occupied(entry) => entry.key(),
+            Entry::Vacant(entry) => entry.key(),
+        }
+    }
+
+    /// Calls `f` on the value of an occupied entry, and leaves a vacant one as it is.
+    ///
+    /// It takes no memory of its own and leaves every place.
+    pub fn and_modify<F: FnOnce(&mut V) + Drop>(self, f: F) -> Self
+        requires { (value : MutBor V) → entry_value self ≡ Some value.now → F.pre f value }
+        ensures same_map { (entry_map_ref result).ghost_name ≡ (entry_map_ref self.entry).ghost_name }
+        ensures occupied { is_occupied result ≡ is_occupied self.entry }
+        ensures key { entry_key result ≡ entry_key self.entry }
+        ensures called { ModifiesValue F.FnOnce f (entry_value self.entry) (entry_value result) }
+        ensures map { entry_map result ≡ record (entry_map self.entry) {
+          pairs = set_if_some K.eq (entry_map self.entry).pairs (entry_key self.entry) (entry_value result);
+        } }
+    {
+        match self {
+            Entry::Occupied(mut entry) => {
+                f(entry.get_mut());
+                Entry::Occupied(entry)
+            }
+            Entry::Vacant(entry) => Entry::Vacant(entry),
+        }
+    }
+
+    /// Lends the value for writing, after it has put the pair of the key and `value` at the back where the entry is vacant.
+    ///
+    /// What is written becomes the value of that pair. An occupied entry keeps its place, and `value` is dropped; that takes no
+    /// memory and is never refused, nor does or is a vacant one below capacity. At full capacity a vacant entry raises the
+    /// capacity by exactly one, or is refused: then the error has the key and this value, and the map is unchanged. The original
+    /// answers no error.
+    pub fn or_insert(self, value: V) -> Result<&'a mut V, Refused<K, V>>
+    where
+        V: Drop,
+        ensures* writes_back { sem 𝓛 (lends_entry K.row V.row S.row S.Hasher.row K.Hash S.BuildHasher S.Hasher.Hasher self.entry result) }
+        ensures value { IfOk result (λ lent. lent.now ≡ unwrap_or (entry_value self.entry) value) }
+
+        ensures key_back { IfErr result (λ refused. refused.key ≡ entry_key self.entry) }
+        ensures value_back { IfErr result (λ refused. refused.value ≡ value) }
+        ensures absent { OnErr result (entry_value self.entry ≡ None) }
+        ensures full { OnErr result (length (entry_map self.entry).pairs ≡ (entry_map self.entry).capacity) }
+    {
+        match self {
+            Entry::Occupied(entry) => Ok(entry.into_mut()),
+            Entry::Vacant(entry) => entry.insert(value),
+        }
+    }
+
+    /// Lends the value for writing, after it has put the pair of the key and what `f` returns at the back where the entry is
+    /// vacant.
+    ///
+    /// `f` is called once on a vacant entry, before any memory is asked for, and never on an occupied one. All else is as at
+    /// `or_insert`; a refusal has the key and the value that `f` made.
+    pub fn or_insert_with<F: FnOnce() -> V + Drop>(self, f: F) -> Result<&'a mut V, Refused<K, V>>
+        requires { entry_value self ≡ None → F.pre f }
+        ensures* writes_back { sem 𝓛 (lends_entry K.row V.row S.row S.Hasher.row K.Hash S.BuildHasher S.Hasher.Hasher self.entry result) }
+        ensures value { IfOk result (λ lent. UnwrapsOrElse (entry_value self.entry) (F.post f) lent.now) }
+
+        ensures key_back { IfErr result (λ refused. refused.key ≡ entry_key self.entry) }
+        ensures value_back { IfErr result (λ refused. F.post f refused.value) }
+        ensures absent { OnErr result (entry_value self.entry ≡ None) }
+        ensures full { OnErr result (length (entry_map self.entry).pairs ≡ (entry_map self.entry).capacity) }
+    {
+        let vacant = match self {
+            Entry::Occupied(occupied) => return Ok(occupied.into_mut()),
+            Entry::Vacant(vacant) => vacant,
+        };
+        let value = f();
+        vacant.insert(value)
+    }
+
+    /// Lends the value for writing, after it has put the pair of the key and the default value at the back where the entry is
+    /// vacant.
+    ///
+    /// The default is made on a vacant entry alone, before any memory is asked for. All else is as at `or_insert`; a refusal
+    /// has the key and the default.
+    pub fn or_default(self) -> Result<&'a mut V, Refused<K, V>>
+    where
+        V: Default,
+        ensures* writes_back { sem 𝓛 (lends_entry K.row V.row S.row S.Hasher.row K.Hash S.BuildHasher S.Hasher.Hasher self.entry result) }
+        ensures value { IfOk result (λ lent. UnwrapsOrElse (entry_value self.entry) V.is_default lent.now) }
+
+        ensures key_back { IfErr result (λ refused. refused.key ≡ entry_key self.entry) }
+        ensures value_back { IfErr result (λ refused. V.is_default refused.value) }
+        ensures absent { OnErr result (entry_value self.entry ≡ None) }
+        ensures full { OnErr result (length (entry_map self.entry).pairs ≡ (entry_map self.entry).capacity) }
+    {
+        match self {
+            Entry::Occupied(occupied) => Ok(occupied.into_mut()),
+            Entry::Vacant(vacant) => vacant.insert(V::default()),
+        }
+    }
+}

@@ -1,0 +1,95 @@
+//! The methods of `OccupiedEntry`.
+ghost use Rattle.std.specs.Prelude.{◌≡◌, ◌≤◌, length};
+ghost use Rattle.std.specs.Borrow.{sem};
+ghost use Rattle.linked_hash_map.specs.Pairs.{without, to_back, set_value};
+ghost use Rattle.linked_hash_map.specs.Cursor.{to_visit};
+ghost use Rattle.linked_hash_map.specs.Entry.{occupied_map_ref, occupied_map, occupied_key, occupied_value, with_occupied_value, lends_in_entry, lends_occupied};
+
+use super::OccupiedEntry;
+use std::hash::{BuildHasher, Hash};
+
+impl<'a, K: Eq + Hash, V, S: BuildHasher> OccupiedEntry<'a, K, V, S> {
+    /// Lends the stored key.
+    ///
+    /// It takes no memory and leaves every place.
+    pub fn key(&self) -> &K
+        ensures { result.now ≡ occupied_key self.now }
+    {
+        self.map.pair_at(self.place).0
+    }
+
+    /// Lends the value.
+    ///
+    /// It takes no memory and leaves every place.
+    pub fn get(&self) -> &V
+        ensures { result.now ≡ occupied_value self.now }
+    {
+        self.map.pair_at(self.place).1
+    }
+
+    /// Lends the value for writing.
+    ///
+    /// What is written becomes the value of the pair. It takes no memory and leaves every place.
+    pub fn get_mut(&mut self) -> &mut V
+        ensures* writes_back { sem 𝓛 (lends_in_entry K.row V.row S.row S.Hasher.row K.Hash S.BuildHasher S.Hasher.Hasher self.entry result) }
+        ensures value { result.now ≡ occupied_value self.old }
+
+        // The entry, once a value is written.
+        ensures key { (v : V) → occupied_key (with_occupied_value self.old v) ≡ occupied_key self.old }
+        ensures written { (v : V) → occupied_value (with_occupied_value self.old v) ≡ v }
+        ensures map { (v : V) → occupied_map (with_occupied_value self.old v)
+            ≡ record (occupied_map self.old) { pairs = set_value K.eq (occupied_map self.old).pairs (occupied_key self.old) v } }
+        ensures to_visit { (v : V) → to_visit (occupied_map (with_occupied_value self.old v)) ≡ to_visit (occupied_map self.old) }
+    {
+        let place = self.place;
+        self.map.value_mut_at(place)
+    }
+
+    /// Lends the value for writing, for as long as the map was lent.
+    ///
+    /// What is written becomes the value of the pair. It takes no memory and leaves every place.
+    pub fn into_mut(self) -> &'a mut V
+        ensures* writes_back { sem 𝓛 (lends_occupied K.row V.row S.row S.Hasher.row K.Hash S.BuildHasher S.Hasher.Hasher self.entry result) }
+        ensures value { result.now ≡ occupied_value self.entry }
+        ensures within { length (occupied_map self.entry).pairs ≤ (occupied_map self.entry).capacity }
+    {
+        let OccupiedEntry { map, place } = self;
+        map.value_mut_at(place)
+    }
+
+    /// Replaces the value, moves the pair to the back and returns the old value. The entry still stands for the pair.
+    ///
+    /// It takes no memory, and the capacity stays.
+    pub fn insert(&mut self, value: V) -> V
+        ensures same_map { (occupied_map_ref self.new).ghost_name ≡ (occupied_map_ref self.old).ghost_name }
+        ensures old { result ≡ occupied_value self.old }
+        ensures key { occupied_key self.new ≡ occupied_key self.old }
+        ensures value { occupied_value self.new ≡ value }
+        ensures pairs { (occupied_map self.new).pairs ≡ to_back K.eq (occupied_map self.old).pairs (occupied_key self.old) value }
+        ensures capacity { (occupied_map self.new).capacity ≡ (occupied_map self.old).capacity }
+        ensures hasher { (occupied_map self.new).hasher ≡ (occupied_map self.old).hasher }
+        ensures to_visit { to_visit (occupied_map self.new) ≡ to_visit (occupied_map self.old) }
+    {
+        let (key, old) = self.map.take_out(self.place);
+        self.place = self.map.len();
+        self.map.push_back(key, value);
+        old
+    }
+
+    /// Takes the pair out of the map, drops the stored key and returns the value.
+    ///
+    /// All other pairs keep their order. It takes no memory, and the capacity stays.
+    pub fn remove(self) -> V
+    where
+        K: Drop,
+        ensures value { result ≡ occupied_value self.entry }
+        ensures pairs { self.exit.0.now.pairs ≡ without K.eq (occupied_map self.entry).pairs (occupied_key self.entry) }
+        ensures capacity { self.exit.0.now.capacity ≡ (occupied_map self.entry).capacity }
+        ensures hasher { self.exit.0.now.hasher ≡ (occupied_map self.entry).hasher }
+        ensures to_visit { to_visit self.exit.0.now ≡ to_visit (occupied_map self.entry) }
+    {
+        let place = self.place;
+        let (_key, value) = self.map.take_out(place);
+        value
+    }
+}

@@ -1,0 +1,127 @@
+//! The walk that owns its pairs.
+ghost use Rattle.std.specs.Prelude.{◌≡◌, Some, IfSome, length, zip};
+ghost use Rattle.std.specs.Iterator.{at_most, UpTo};
+ghost use Rattle.std.specs.Iterator.SizeHint.{IsWithinCount};
+ghost use Rattle.std.specs.List.{AllZip};
+ghost use Rattle.std.specs.Map.Iter.{TakesFirst, TakesLast};
+
+use crate::map::LinkedHashMap;
+use std::alloc::AllocError;
+use std::collections::VecDeque;
+use std::hash::{BuildHasher, Hash};
+use std::iter::FusedIterator;
+use std::marker::Model;
+
+/// An iterator that hands out the pairs of a map by value, from both ends. It is made by `into_iter`, or by a loop over the map.
+///
+/// Letting it go drops the pairs that are left. A step costs a constant number of steps and takes no memory.
+#[derive(Drop)]
+pub struct IntoIter<K, V> {
+    keys: VecDeque<K>,
+    values: VecDeque<V>,
+}
+
+impl<K, V> Model for IntoIter<K, V> {
+    ghost use Rattle.std.specs.Prelude.{◌≡◌, List, length, zip};
+
+    ghost Value = { List (K × V) };
+
+    ghost view = { λ a. zip a.keys.items a.values.items };
+
+    ghost invariant = { λ a. length a.values.items ≡ length a.keys.items };
+}
+
+impl<K, V> IntoIter<K, V> {
+    /// Walks keys and values side by side. It takes no memory.
+    pub(crate) fn new(keys: Vec<K>, values: Vec<V>) -> Self
+        requires { length values.items ≡ length keys.items }
+        ensures { result ≡ zip keys.items values.items }
+    {
+        IntoIter {
+            keys: VecDeque::from_vec(keys),
+            values: VecDeque::from_vec(values),
+        }
+    }
+}
+
+impl<K: Drop, V: Drop> Iterator for IntoIter<K, V> {
+    type Item = (K, V);
+
+    ghost next_gives = { TakesFirst (λ pair. pair) };
+
+    ghost remaining = { λ s. at_most (length s) };
+
+    fn next(&mut self) -> Option<(K, V)> {
+        let key = self.keys.pop_front()?;
+        Some((key, self.values.pop_front().unwrap()))
+    }
+
+    fn size_hint(&self) -> (usize, Option<usize>)
+        ensures lower { IsWithinCount result.0 (at_most (length self.now)) }
+        ensures upper { IfSome result.1 (UpTo (at_most (length self.now))) }
+        ensures exact { result ≡ (length self.now, Some (length self.now)) }
+    {
+        let len = self.len();
+        (len, Some(len))
+    }
+}
+
+impl<K: Drop, V: Drop> DoubleEndedIterator for IntoIter<K, V> {
+    ghost next_back_gives = { TakesLast (λ pair. pair) };
+
+    fn next_back(&mut self) -> Option<(K, V)> {
+        let key = self.keys.pop_back()?;
+        Some((key, self.values.pop_back().unwrap()))
+    }
+}
+
+impl<K: Drop, V: Drop> ExactSizeIterator for IntoIter<K, V> {
+    fn len(&self) -> usize {
+        self.values.len()
+    }
+}
+
+impl<K: Drop, V: Drop> FusedIterator for IntoIter<K, V> {}
+
+/// Clones what is left, which takes memory for it and for the clones of the keys and values, in the source's allocator.
+///
+/// It is refused where a growth is, or the clone of a key or a value. What was cloned so far is dropped then, and the source
+/// stays as it was. With nothing left it takes no memory and is never refused. The original ends the program where memory is refused.
+impl<K: Clone, V: Clone> Clone for IntoIter<K, V> {
+    ghost use Rattle.std.specs.Prelude.{[]};
+
+    ghost is_clone = { AllZip (λ pair clone. K.is_clone pair.0 clone.0 × V.is_clone pair.1 clone.1) };
+
+    ghost is_infallible = { λ s. s ≡ [] };
+
+    fn clone(&self) -> Result<Self, AllocError> {
+        if self.keys.is_empty() {
+            let alloc = *self.keys.allocator();
+            return Ok(Self::new(Vec::new(alloc), Vec::new(alloc)));
+        }
+        let Ok(keys) = self.keys.clone() else {
+            return Err(AllocError);
+        };
+        let Ok(values) = self.values.clone() else {
+            return Err(AllocError);
+        };
+        Ok(IntoIter { keys, values })
+    }
+}
+
+/// A loop over the map itself, which drops the hasher. It takes no memory.
+impl<K: Eq + Hash + Drop, V: Drop, S: BuildHasher + Drop> IntoIterator for LinkedHashMap<K, V, S> {
+    ghost use Rattle.std.specs.List.{IsDistinct};
+    ghost use Rattle.std.specs.Map.{keys_of};
+    ghost use Rattle.std.specs.Map.Iter.{GivesInOrder, GivesInReverse};
+
+    type Item = (K, V);
+
+    type IntoIter = IntoIter<K, V>;
+
+    ghost into_iter_gives = { λ map walk. (walk ≡ map.pairs) × IsDistinct K.eq (keys_of map.pairs) × GivesInOrder (K × V) × GivesInReverse (K × V) };
+
+    fn into_iter(self) -> IntoIter<K, V> {
+        self.into_pairs()
+    }
+}

@@ -1,0 +1,105 @@
+//! The walk that lends the values for writing.
+ghost use Rattle.std.specs.Prelude.{◌≡◌, Some, IfSome, length, zip};
+ghost use Rattle.std.specs.Iterator.{at_most, UpTo};
+ghost use Rattle.std.specs.Iterator.SizeHint.{IsWithinCount};
+ghost use Rattle.std.specs.Map.Iter.{LendsFirst, LendsLast};
+ghost use Rattle.std.specs.Slice.Iter.{iter_rest, iter_mut_rest};
+
+use crate::map::LinkedHashMap;
+use std::hash::{BuildHasher, Hash};
+use std::iter::FusedIterator;
+use std::slice;
+
+/// An iterator over the pairs of a map, from both ends, that lends each value for writing. It is made by `iter_mut`, or by a
+/// loop over `&mut map`.
+///
+/// A step costs a constant number of steps and takes no memory.
+#[derive(Drop)]
+pub struct IterMut<'a, K, V> {
+    keys: slice::Iter<'a, K>,
+    values: slice::IterMut<'a, V>,
+    ghost paired: { length (iter_mut_rest values) ≡ length (iter_rest keys) },
+}
+
+impl<'a, K, V> IterMut<'a, K, V> {
+    ghost use Rattle.linked_hash_map.specs.ValueWalks.{pairs_left, loan_name};
+
+    /// Walks keys and values side by side.
+    pub(crate) fn new(keys: &'a [K], values: &'a mut [V]) -> Self
+        requires { length values.old ≡ length keys.now }
+        ensures rest { pairs_left result ≡ zip keys.now values.old }
+        ensures name { loan_name result ≡ values.entry.ghost_name }
+    {
+        IterMut {
+            keys: keys.iter(),
+            values: values.iter_mut(),
+        }
+    }
+}
+
+impl<'a, K, V> Iterator for IterMut<'a, K, V> {
+    ghost use Rattle.linked_hash_map.specs.ValueWalks.{pairs_left};
+
+    type Item = (&'a K, &'a mut V);
+
+    ghost next_gives = { LendsFirst pairs_left };
+
+    ghost remaining = { λ s. at_most (length (pairs_left s)) };
+
+    fn next(&mut self) -> Option<(&'a K, &'a mut V)> {
+        let key = self.keys.next()?;
+        Some((key, self.values.next().unwrap()))
+    }
+
+    fn size_hint(&self) -> (usize, Option<usize>)
+        ensures lower { IsWithinCount result.0 (at_most (length (pairs_left self.now))) }
+        ensures upper { IfSome result.1 (UpTo (at_most (length (pairs_left self.now)))) }
+        ensures exact { result ≡ (length (pairs_left self.now), Some (length (pairs_left self.now))) }
+    {
+        let len = self.len();
+        (len, Some(len))
+    }
+}
+
+impl<'a, K, V> DoubleEndedIterator for IterMut<'a, K, V> {
+    ghost use Rattle.linked_hash_map.specs.ValueWalks.{pairs_left};
+
+    ghost next_back_gives = { LendsLast pairs_left };
+
+    fn next_back(&mut self) -> Option<(&'a K, &'a mut V)> {
+        let key = self.keys.next_back()?;
+        Some((key, self.values.next_back().unwrap()))
+    }
+}
+
+impl<'a, K, V> ExactSizeIterator for IterMut<'a, K, V> {
+    fn len(&self) -> usize {
+        self.keys.len()
+    }
+}
+
+impl<'a, K, V> FusedIterator for IterMut<'a, K, V> {}
+
+/// A loop over `&mut map`, as over `iter_mut`. It takes no memory.
+impl<'a, K: Eq + Hash, V, S: BuildHasher> IntoIterator for &'a mut LinkedHashMap<K, V, S> {
+    ghost use Rattle.std.specs.Borrow.{sem};
+    ghost use Rattle.std.specs.List.{IsDistinct};
+    ghost use Rattle.std.specs.Map.{keys_of};
+    ghost use Rattle.linked_hash_map.specs.Lends.{lends_values};
+    ghost use Rattle.linked_hash_map.specs.Pairs.{KeysStand};
+    ghost use Rattle.linked_hash_map.specs.ValueWalks.{pairs_left, loan_name};
+
+    type Item = (&'a K, &'a mut V);
+
+    type IntoIter = IterMut<'a, K, V>;
+
+    ghost into_iter_gives = { λ map walk. (pairs_left walk ≡ map.now.pairs) × IsDistinct K.eq (keys_of map.now.pairs) };
+
+    fn into_iter(self) -> IterMut<'a, K, V>
+        ensures* writes_back { sem 𝓛 (lends_values K.row V.row S.row S.Hasher.row K.Hash S.BuildHasher S.Hasher.Hasher self.entry (loan_name result)) }
+        ensures keeps { KeysStand self.old.pairs }
+        ensures into_iter_gives { (pairs_left result ≡ self.old.pairs) × IsDistinct K.eq (keys_of self.old.pairs) }
+    {
+        self.iter_mut()
+    }
+}
