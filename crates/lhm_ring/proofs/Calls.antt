@@ -8,11 +8,12 @@ use Rattle.lhm_ring.specs.Cells.{Cell, links_at, body_at, IsAt, Holds, with_link
 use Rattle.lhm_ring.specs.Rings.{relinked, spot, next_had, prev_had, link_had, next_at, prev_at, link_at, is_there, content_had, content_at, Chained, IsRing, listed, IsJoined, HeldAndSpares, held_and_spares, ring_list, RingOk}
 use Rattle.lhm_ring.specs.RingState.{held, IsHeld, AtHeld}
 use Rattle.lhm_ring.proofs.Apart.{same_ptr_refl}
-use Rattle.lhm_ring.proofs.Lookup.{none_some}
+use Rattle.lhm_ring.proofs.Options.{none_some}
 use Rattle.lhm_ring.proofs.Writes.{links_set, is_at}
 use Rattle.lhm_ring.proofs.Rows.{all_left, all_last, all_right, cut_row}
 use Rattle.lhm_ring.proofs.Moves.{Spot, found_in, spot_in, spot_at, opened, ring_listed, out, p_there}
 use Rattle.lhm_ring.proofs.Only.{OnlyAt, links_kept, body_set, only_links, only_body, only_both, content_number, content_pair, content_holds, put, put_listed, gone, gone_listed}
+use Rattle.lhm_ring.proofs.Splicing.{link_relinked}
 
 spot_some : (o : Option Place) (p : Ptr) → spot o ≡ Some p → IsSome o
 spot_some None p e = absurd (none_some p e)
@@ -20,10 +21,6 @@ spot_some (Some q) p e = refl
 
 same_spot : (q : Place) (p : Ptr) → spot (Some q) ≡ Some p → q.ptr ≡ p
 same_spot q p e = cc
-
-pub link_relinked : (o : Option Place) (l : Links) → link_had (Some (relinked o l)) ≡ spot o
-link_relinked None l = refl
-link_relinked (Some q) l = refl
 
 -- the links of the node at p once they are written
 here_set : {B : Type 0} (p : Ptr) (l : Links) (cs : List (Cell Links B)) (la : Links) → links_at cs p ≡ Some la → links_at (with_links p l cs) p ≡ Some l

@@ -6,12 +6,9 @@ use Rattle.lhm_ring.specs.declared.links.Links.{Links}
 use Rattle.lhm_ring.specs.Cells.{Cell, without}
 use Rattle.lhm_ring.specs.Rings.{HeldAndSpares, held_and_spares, ring_list, RingOk}
 use Rattle.lhm_ring.specs.RingState.{Held, IsHeld, first_at}
-use Rattle.lhm_ring.proofs.Lookup.{none_some}
+use Rattle.lhm_ring.proofs.Options.{none_some, some_none}
 use Rattle.lhm_ring.proofs.Moves.{ring_length, opened}
 use Rattle.lhm_ring.proofs.Less.{shorter}
-
-some_none : {X : Type 0} (x : X) → Some x ≡ None → ⊥
-some_none x e = cc
 
 same_at : (p q : Ptr) → Some p ≡ Some q → q ≡ p
 same_at p q e = cc

@@ -12,6 +12,7 @@ pub mod More
 pub mod Moves
 pub mod Neighbours
 pub mod Only
+pub mod Options
 pub mod Pulling
 pub mod Refilling
 pub mod Rooms

@@ -4,9 +4,7 @@ use denote.RawPtr.{Ptr}
 use Rattle.lhm_ring.specs.Cells.{Cell, IsApart, same_ptr, places, cell_at, links_of, body_of, links_at, body_at, change, without}
 use Rattle.std.specs.List.{IsDistinct}
 use Rattle.lhm_ring.proofs.Apart.{same_ptr_eq, IsFresh}
-
-pub none_some : {X : Type 0} (x : X) → None ≡ Some x → ⊥
-none_some x e = cc
+use Rattle.lhm_ring.proofs.Options.{none_some}
 
 module _ {L B : Type 0} where
   -- where the list is cut, and what a change or a removal there does

@@ -12,9 +12,7 @@ use Rattle.lhm_ring.proofs.Apart.{IsFresh, same_ptr_eq, same_ptr_refl}
 use Rattle.lhm_ring.proofs.Rows.{all_both, all_left, all_right, all_from, apart_head, apart_in, edge_made}
 use Rattle.lhm_ring.proofs.Moves.{ring_listed, ring_length, opened}
 use Rattle.lhm_ring.proofs.Only.{row_other, chain_other, held_other, listed_other}
-
-some_none : {X : Type 0} (x : X) → Some x ≡ None → ⊥
-some_none x e = cc
+use Rattle.lhm_ring.proofs.Options.{some_none}
 
 false_true : false ≡ true → ⊥
 false_true e = cc

@@ -7,8 +7,8 @@ use Rattle.lhm_ring.specs.Cells.{Cell, cell, same_ptr, cell_at, links_of, body_o
 use Rattle.lhm_ring.specs.Rings.{next_had, prev_had, link_had, guard_had, there_had, prev_at, link_at, is_there, content_had, content_at, Linked, Chained, HasContent, IsRing, listed, one_of, IsJoined}
 use Rattle.lhm_ring.specs.RingState.{Held, held}
 use Rattle.lhm_ring.proofs.Apart.{IsFresh, same_ptr_eq}
-use Rattle.lhm_ring.proofs.Lookup.{none_some}
-use Rattle.lhm_ring.proofs.Writes.{at_changed, at_other, length-change, read_kept}
+use Rattle.lhm_ring.proofs.Options.{none_some}
+use Rattle.lhm_ring.proofs.Writes.{at_changed, at_other, length-change, read_kept, links_seen}
 use Rattle.lhm_ring.proofs.Rows.{not_guard, all_both, all_left, all_right, all_swap, apart_left, apart_at, apart_out, apart_in, chain_kept, held_kept, there_kept, listed_kept, listed-append, into_row}
 use Rattle.lhm_ring.proofs.Moves.{listed_one}
 
@@ -19,20 +19,16 @@ pub record OnlyAt {B : Type 0} (cs ds : List (Cell Links B)) (p : Ptr) : Type 0 
   pub count : length ds ≡ length cs
 
 module _ {B : Type 0} where
-  seen : (o : Option (Cell Links B)) (la : Links) → links_of o ≡ Some la → (c : Cell Links B) × (o ≡ Some c)
-  seen None la e = absurd (none_some la e)
-  seen (Some c) la e = (c, refl)
-
   pub links_kept : (p : Ptr) (b : Option B) (cs : List (Cell Links B)) (la : Links) → links_at cs p ≡ Some la → (q : Ptr) → links_at (with_body p b cs) q ≡ links_at cs q
   links_kept p b cs la e q =
-      let c = seen (cell_at cs p) la e in
+      let c = links_seen (cell_at cs p) la e in
       (elim (same_ptr p q) as (λ y. same_ptr p q ≡ y → links_at (with_body p b cs) q ≡ links_at cs q) [
         | true ↦ λ t. subst (λ r. links_at (with_body p b cs) r ≡ links_at cs r) (same_ptr_eq p q t) (ap links_of (at_changed p (λ c. cell c.at c.links b) (λ c. refl) cs c.0 c.1) ∙ sym (ap links_of c.1))
         | false ↦ λ n. ap links_of (at_other p (λ c. cell c.at c.links b) (λ c. refl) q n cs)
       ]) refl
 
   pub body_set : (p : Ptr) (b : Option B) (cs : List (Cell Links B)) (la : Links) → links_at cs p ≡ Some la → body_at (with_body p b cs) p ≡ b
-  body_set p b cs la e = let c = seen (cell_at cs p) la e in ap body_of (at_changed p (λ c. cell c.at c.links b) (λ c. refl) cs c.0 c.1)
+  body_set p b cs la e = let c = links_seen (cell_at cs p) la e in ap body_of (at_changed p (λ c. cell c.at c.links b) (λ c. refl) cs c.0 c.1)
 
   pub only_links : (p : Ptr) (l : Links) (cs : List (Cell Links B)) (la : Links) → links_at cs p ≡ Some la → OnlyAt cs (with_links p l cs) p
   only_links p l cs la e = record {

@@ -13,7 +13,7 @@ use denote.RawPtr.{Ptr, block_ptr, lies_at}
 use Rattle.lhm_ring.specs.Cells.{same_ptr}
 use Rattle.lhm_ring.specs.Loans.{value_at, without_value, spread}
 use Rattle.lhm_ring.proofs.Apart.{same_ptr_eq}
-use Rattle.lhm_ring.proofs.Lookup.{none_some}
+use Rattle.lhm_ring.proofs.Options.{none_some}
 
 module _ {V : Type 0} where
   pub record CutValue (cs : List (Ptr × V)) (p : Ptr) (v : V) : Type 0 where

@@ -12,7 +12,7 @@ use Rattle.lhm_ring.specs.RingState.{Held, held, triples, IsHeld, AtHeld}
 use Rattle.lhm_ring.specs.RingLends.{pair, value_in, revalued, revalued_by, unvalued}
 use Rattle.lhm_ring.specs.Stretches.{Stretch, AreLent}
 use Rattle.lhm_ring.proofs.Apart.{IsFresh, same_ptr_eq, same_ptr_refl, apart_none}
-use Rattle.lhm_ring.proofs.Lookup.{none_some}
+use Rattle.lhm_ring.proofs.Options.{none_some, some_same}
 use Rattle.lhm_ring.proofs.Rows.{all_from, content_place, follow_row, apart_left, apart_head, apart_tail, apart_cons}
 use Rattle.lhm_ring.proofs.Only.{content_holds, content_pair, content_guard}
 use Rattle.lhm_ring.proofs.Splicing.{spliced_places}
@@ -271,9 +271,6 @@ module _ {K V : Type 0} where
     spliced_stands s = spliced_list_by keeps hs cs guard n f b k s (all_from (λ r. IsFresh r (ring_places cs guard n)) (λ p. keeps p ≡ false) (among_none (ring_places cs guard n)) s.0 s.6)
 
 -- the values of what is held are all lent at first
-some_same : {X : Type 0} (x y : X) → Some x ≡ Some y → x ≡ y
-some_same x y e = cc
-
 module _ {K V : Type 0} where
   -- the values of the entries
   abbrev pub run_of : List (Ptr × (K × V)) → List (Ptr × V)

@@ -7,17 +7,17 @@ use Rattle.lhm_ring.specs.Cells.{Cell, same_ptr, links_at, body_at, IsApart}
 use Rattle.lhm_ring.specs.Rings.{link_had, next_at, prev_at, link_at, is_there, content_had, content_at, Edge, Linked, Chained, HasContent, follow, listed, one_of, IsJoined}
 use Rattle.lhm_ring.specs.RingState.{Held}
 use Rattle.lhm_ring.proofs.Apart.{IsFresh, same_ptr_refl, same_ptr_symm}
+use Rattle.lhm_ring.proofs.Options.{none_some, some_same}
 
-none_is_some : {X : Type 0} (x : X) → None ≡ Some x → ⊥
-none_is_some x e = cc
-
-some_is_some : {X : Type 0} (x y : X) → Some x ≡ Some y → x ≡ y
-some_is_some x y e = cc
+-- a list that is not empty has a last element
+pub snoc : {X : Type 0} (x : X) (xs : List X) → (zs : List X) × (z : X) × (x ∷ xs ≡ zs ++ z ∷ [])
+snoc x [] = ([], x, refl)
+snoc x (y ∷ ys) = let on = snoc y ys in (x ∷ on.0, on.1, ap (λ r. x ∷ r) on.2)
 
 -- what holds something is no guard
 pub not_guard : {X : Type 0} (y : Bool) (x t : X) → cond y None (Some x) ≡ Some t → (y ≡ false) × (x ≡ t)
-not_guard true x t e = absurd (none_is_some t e)
-not_guard false x t e = (refl, some_is_some x t e)
+not_guard true x t e = absurd (none_some t e)
+not_guard false x t e = (refl, some_same x t e)
 
 -- lists
 abbrev pub last_from : {X : Type 0} → X → List X → X

@@ -6,15 +6,11 @@ use Rattle.lhm_ring.specs.declared.links.Links.{Links}
 use Rattle.lhm_ring.specs.Cells.{Cell, links_at, body_at, IsAt, Holds}
 use Rattle.lhm_ring.specs.Rings.{link_had, content_had, content_at, HeldAndSpares, held_and_spares, ring_list, RingOk}
 use Rattle.lhm_ring.specs.RingState.{Held, IsHeld}
-use Rattle.lhm_ring.proofs.Lookup.{none_some}
 use Rattle.lhm_ring.proofs.Moves.{none_held, found}
 use Rattle.lhm_ring.proofs.Only.{content_number, content_link, content_pair, content_holds}
+use Rattle.lhm_ring.proofs.Writes.{content_links}
 
 module _ {B : Type 0} where
-  content_links : (p : Ptr) (o : Option Links) (b : Option B) (t : Held B) → content_had p o b ≡ Some t → (l : Links) × (o ≡ Some l)
-  content_links p None b t e = absurd (none_some t e)
-  content_links p (Some l) b t e = (l, refl)
-
   pub held_content : (cs : List (Cell Links B)) (guard spare : Option Place) (n m : ℕ) (v : HeldAndSpares B) → RingOk cs guard spare n m → held_and_spares (ring_list cs guard n) m ≡ v
       → (xs : List (Held B)) (t : Held B) (ys : List (Held B)) → v.held ≡ xs ++ t ∷ ys → content_at cs t.at ≡ Some t
   held_content cs None spare n m v ok w xs t ys e = absurd (none_held t.at (xs, t, ys, ap (λ (z : HeldAndSpares B). z.held) w ∙ e, refl))

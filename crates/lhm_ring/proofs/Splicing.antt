@@ -10,10 +10,11 @@ use Rattle.lhm_ring.specs.Rings.{relinked, spot, next_had, prev_had, link_had, t
 use Rattle.lhm_ring.specs.RingState.{Held, triples}
 use Rattle.lhm_ring.specs.Splices.{onto, StartsAt, triple_of, SameButLinks, IsRow, HasRow, SparesRow}
 use Rattle.lhm_ring.proofs.Apart.{IsFresh, apart_none, same_ptr_refl}
-use Rattle.lhm_ring.proofs.Writes.{at_other, length-change, read_kept, links_set, body_kept}
-use Rattle.lhm_ring.proofs.Rows.{last_from, all_left, all_right, all_from, apart_left, apart_head, apart_tail, apart_at, apart_out, apart_in, avoids_all, AvoidsSource, AvoidsTarget, cut_row, row_kept, chain_kept, edge_made, listed_kept, listed-append}
+use Rattle.lhm_ring.proofs.Writes.{at_other, length-change, read_kept, links_set, body_kept, content_links}
+use Rattle.lhm_ring.proofs.Rows.{last_from, all_left, all_right, all_from, apart_left, apart_head, apart_tail, apart_at, apart_out, apart_in, avoids_all, AvoidsSource, AvoidsTarget, cut_row, row_kept, chain_kept, edge_made, listed_kept, listed-append, snoc}
 use Rattle.lhm_ring.proofs.Moves.{ring_listed, length_listed}
 use Rattle.lhm_ring.proofs.Only.{links_kept, chain_other, held_other, listed_other, content_number, content_pair, content_holds}
+use Rattle.lhm_ring.proofs.Options.{none_some}
 
 module _ {B : Type 0} (cs : List (Cell Links B)) where
   -- nothing is left of it
@@ -184,12 +185,6 @@ module _ {B : Type 0} where
   pub row_done : (cs : List (Cell Links B)) (f : Ptr) (n : ℕ) (spare : Option Ptr) → n ≡ 0 → SparesRow cs f n spare cs spare
   row_done cs f n spare e ps ss r = none_more cs f n spare e ps ss r
 
-  no_held : (t : Held B) → None ≡ Some t → ⊥
-  no_held t e = cc
-
-  none_some : (x : ℕ × B) → None ≡ Some x → ⊥
-  none_some x e = cc
-
   some_still : (o : Option (Held B)) (t : Held B) → triple_of o ≡ Some (t.number, t.pair) → (u : Held B) × (o ≡ Some u)
   some_still None t e = absurd (none_some (t.number, t.pair) e)
   some_still (Some u) t e = (u, refl)
@@ -288,11 +283,6 @@ module _ {B : Type 0} (cs : List (Cell Links B)) (g : Place) (spare : Option Pla
       spliced_now v w =
           ap (λ qs. triples (listed es qs)) (spliced_places es (Some g) 0 lg.next.ptr lg.prev.ptr n spliced_row) ∙ ap triples (listed_kept ds es g.ptr g.ptr j o.0) ∙ triples_same o.0
           ∙ ap triples (sym (ring_listed cs g.ptr o.0 (spot spare) o.1 n o.2 o.3) ∙ ap (λ (z : HeldAndSpares B). z.held) w)
-
--- a list that is not empty ends somewhere
-snoc : {X : Type 0} (x : X) (xs : List X) → (zs : List X) × (z : X) × (x ∷ xs ≡ zs ++ z ∷ [])
-snoc x [] = ([], x, refl)
-snoc x (y ∷ ys) = let on = snoc y ys in (x ∷ on.0, on.1, ap (λ r. x ∷ r) on.2)
 
 -- the last of what was spliced, with those before it
 pub record LastCut {B : Type 0} (cs : List (Cell Links B)) (f b : Ptr) (rs : List Ptr) : Type 0 where
@@ -404,10 +394,6 @@ module _ {B : Type 0} where
   holds_here : (cs : List (Cell Links B)) (p : Ptr) → HasContent cs p → Holds cs p
   holds_here cs p h = content_holds p (links_at cs p) (body_at cs p) h.0 h.1
 
-  links_here : (p : Ptr) (o : Option Links) (b : Option B) (t : Held B) → content_had p o b ≡ Some t → (l : Links) × (o ≡ Some l)
-  links_here p None b t e = absurd (no_held t e)
-  links_here p (Some l) b t e = (l, refl)
-
 module _ {B : Type 0} (cs : List (Cell Links B)) (guard : Option Place) (n : ℕ) (f b : Ptr) (k : ℕ) (s : SplicedOk cs guard n f b k) (some : k ≡ 0 → ⊥) where
   first : FirstCut cs f b s.0
   first = first_cut cs f b s.0 (λ e. some (sym s.1 ∙ e)) s.2 s.3
@@ -416,7 +402,7 @@ module _ {B : Type 0} (cs : List (Cell Links B)) (guard : Option Place) (n : ℕ
   all_first = subst (AllByRecursion (HasContent cs)) first.whole s.4
 
   pub first_there : IsAt cs f
-  first_there = links_here f (links_at cs f) (body_at cs f) all_first.0.0 all_first.0.1
+  first_there = content_links f (links_at cs f) (body_at cs f) all_first.0.0 all_first.0.1
 
   pub first_holds : Holds cs f
   first_holds = holds_here cs f all_first.0
@@ -459,7 +445,7 @@ module _ {B : Type 0} (cs : List (Cell Links B)) (guard : Option Place) (n : ℕ
   mine = (all_right (HasContent cs) last.before (b ∷ []) all_last).0
 
   pub last_there : IsAt cs b
-  last_there = links_here b (links_at cs b) (body_at cs b) mine.0 mine.1
+  last_there = content_links b (links_at cs b) (body_at cs b) mine.0 mine.1
 
   pub last_holds : Holds cs b
   last_holds = holds_here cs b mine

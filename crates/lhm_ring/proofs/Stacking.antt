@@ -13,12 +13,7 @@ use Rattle.lhm_ring.proofs.Rows.{apart_tail}
 use Rattle.lhm_ring.proofs.Moves.{ring_listed}
 use Rattle.lhm_ring.proofs.More.{link_links, more, more_listed, Guarded, guard_made}
 use Rattle.lhm_ring.proofs.Splicing.{none_spliced, none_listed}
-
-some_same : {X : Type 0} (x y : X) → Some x ≡ Some y → x ≡ y
-some_same x y e = cc
-
-none_some : {X : Type 0} (x : X) → None ≡ Some x → ⊥
-none_some x e = cc
+use Rattle.lhm_ring.proofs.Options.{some_same, none_some}
 
 -- a place is known by its pointer
 same_place : (a b : Option Place) → spot a ≡ spot b → a ≡ b

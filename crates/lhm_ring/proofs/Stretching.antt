@@ -10,18 +10,15 @@ use Rattle.lhm_ring.specs.Rings.{next_had, prev_had, link_had, guard_had, there_
 use Rattle.lhm_ring.specs.RingState.{Held, held}
 use Rattle.lhm_ring.specs.Stretches.{Stretch, AreLent}
 use Rattle.lhm_ring.proofs.Apart.{IsFresh, same_ptr_symm, same_ptr_eq}
-use Rattle.lhm_ring.proofs.Lookup.{none_some}
-use Rattle.lhm_ring.proofs.Writes.{is_at}
-use Rattle.lhm_ring.proofs.Rows.{all_left, all_right, apart_left, apart_head, apart_tail, apart_across, cut_row, follow_row, last_push, listed-append}
+use Rattle.lhm_ring.proofs.Options.{some_same}
+use Rattle.lhm_ring.proofs.Writes.{is_at, content_links}
+use Rattle.lhm_ring.proofs.Rows.{all_left, all_right, apart_left, apart_head, apart_tail, apart_across, cut_row, follow_row, last_push, listed-append, snoc}
 use Rattle.lhm_ring.proofs.Moves.{length_listed}
 use Rattle.lhm_ring.proofs.Only.{content_holds, content_guard}
 
 pub positive : (n : ℕ) → (n ≡ 0 → ⊥) → 0 < n
 positive zero h = absurd (h refl)
 positive (suc n) h = omega arith
-
-some_same : {X : Type 0} (x y : X) → Some x ≡ Some y → x ≡ y
-some_same x y e = cc
 
 -- a key and a value that are read apart
 pub read_both : {K V : Type 0} (o : Option (K × V)) (k k' : K) (v v' : V) → o ≡ Some (k, v) → o ≡ Some (k', v') → o ≡ Some (k, v')
@@ -31,18 +28,9 @@ assoc : {X : Type 0} (xs : List X) (x : X) (ys : List X) → (xs ++ x ∷ []) ++
 assoc [] x ys = refl
 assoc (z ∷ zs) x ys = ap (λ r. z ∷ r) (assoc zs x ys)
 
--- a list that is not empty ends somewhere
-snoc : {X : Type 0} (x : X) (xs : List X) → (zs : List X) × (z : X) × (x ∷ xs ≡ zs ++ z ∷ [])
-snoc x [] = ([], x, refl)
-snoc x (y ∷ ys) = let on = snoc y ys in (x ∷ on.0, on.1, ap (λ r. x ∷ r) on.2)
-
 module _ {B : Type 0} (cs : List (Cell Links B)) where
-  links_had : (p : Ptr) (o : Option Links) (b : Option B) (t : Held B) → content_had p o b ≡ Some t → (l : Links) × (o ≡ Some l)
-  links_had p None b t e = absurd (none_some t e)
-  links_had p (Some l) b t e = (l, refl)
-
   there : (p : Ptr) → HasContent cs p → is_there cs p ≡ true
-  there p h = ap there_had (links_had p (links_at cs p) (body_at cs p) h.0 h.1).1
+  there p h = ap there_had (content_links p (links_at cs p) (body_at cs p) h.0 h.1).1
 
   holds : (p : Ptr) → HasContent cs p → Holds cs p
   holds p h = content_holds p (links_at cs p) (body_at cs p) h.0 h.1
@@ -86,7 +74,7 @@ module _ {B : Type 0} (cs : List (Cell Links B)) where
       subst (Front b a n) (sym k.0.0.0 ∙ e) (record {
         holds = holds p all.0;
         next = next;
-        there = links_had p (links_at cs p) (body_at cs p) all.0.0 all.0.1;
+        there = content_links p (links_at cs p) (body_at cs p) all.0.0 all.0.1;
         shown = λ l e x f. stretch_listed b a n (p ∷ ps) len (λ z. (row z).0) ∙ listed-append cs (p ∷ []) ps ∙ (λ i. one p all.0 l e x f i ++ sym (stretch_listed p a (n - 1) ps less (λ z. k.0.1)) i);
       })
 
@@ -109,7 +97,7 @@ module _ {B : Type 0} (cs : List (Cell Links B)) where
       subst (Back b a n) pq (record {
         holds = holds p mine;
         next = next;
-        there = links_had p (links_at cs p) (body_at cs p) mine.0 mine.1;
+        there = content_links p (links_at cs p) (body_at cs p) mine.0 mine.1;
         shown = λ l e x f. stretch_listed b a n (ps ++ p ∷ []) len (λ z. (row z).0) ∙ listed-append cs ps (p ∷ []) ∙ (λ i. sym (stretch_listed b p (n - 1) ps less (λ z. r.0)) i ++ one p mine l e x f i);
       })
 

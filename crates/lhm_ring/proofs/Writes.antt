@@ -5,8 +5,9 @@ use Rattle.lhm_ring.specs.declared.block.Place.{Place}
 use Rattle.lhm_ring.specs.declared.links.Links.{Links}
 use Rattle.lhm_ring.specs.Cells.{Cell, cell, same_ptr, cell_at, links_of, body_of, links_at, body_at, IsAt, change, with_links}
 use Rattle.lhm_ring.specs.Rings.{next_had, prev_had, link_had, guard_had, there_had, is_there, content_had, content_at, IsJoined}
+use Rattle.lhm_ring.specs.RingState.{Held}
 use Rattle.lhm_ring.proofs.Apart.{same_ptr_eq}
-use Rattle.lhm_ring.proofs.Lookup.{none_some}
+use Rattle.lhm_ring.proofs.Options.{none_some, some_same}
 
 pub cond-ap : {X Y : Type 0} (f : X → Y) (y : Bool) (u v : X) → f (cond y u v) ≡ cond y (f u) (f v)
 cond-ap f true u v = refl
@@ -15,9 +16,6 @@ cond-ap f false u v = refl
 pub cond_same : {X : Type 0} (y : Bool) (u v : X) → (y ≡ true → u ≡ v) → cond y u v ≡ v
 cond_same true u v h = h refl
 cond_same false u v h = refl
-
-some_eq : {X : Type 0} (x y : X) → Some x ≡ Some y → x ≡ y
-some_eq x y e = cc
 
 -- two links that show the same of what a node holds
 abbrev pub ShowsSame : Links → Links → Type 0
@@ -37,7 +35,7 @@ module _ {L B : Type 0} (p : Ptr) (f : Cell L B → Cell L B) (same : (c : Cell 
   at_changed [] c e = absurd (none_some c e)
   at_changed (d ∷ cs) c e =
       (elim (same_ptr d.at p) as (λ y. same_ptr d.at p ≡ y → cond y (Some d) (cell_at cs p) ≡ Some c → cell_at (cond y (f d ∷ cs) (d ∷ change p f cs)) p ≡ Some (f c)) [
-        | true ↦ λ t h. ap (λ y. cond y (Some (f d)) (cell_at cs p)) (ap (λ q. same_ptr q p) (same d) ∙ t) ∙ ap (λ (z : Cell L B). Some (f z)) (some_eq d c h)
+        | true ↦ λ t h. ap (λ y. cond y (Some (f d)) (cell_at cs p)) (ap (λ q. same_ptr q p) (same d) ∙ t) ∙ ap (λ (z : Cell L B). Some (f z)) (some_same d c h)
         | false ↦ λ t h. ap (λ y. cond y (Some d) (cell_at (change p f cs) p)) t ∙ at_changed cs c h
       ]) refl e
 
@@ -59,13 +57,18 @@ length-change p f (d ∷ cs) = elim (same_ptr d.at p) as (λ y. length (cond y (
   | false ↦ ap (λ n. suc n) (length-change p f cs)
 ]
 
-module _ {B : Type 0} (p : Ptr) (l : Links) where
-  written : Cell Links B → Cell Links B
-  written c = cell c.at l c.body
-
+module _ {B : Type 0} where
   pub links_seen : (o : Option (Cell Links B)) (la : Links) → links_of o ≡ Some la → (c : Cell Links B) × (o ≡ Some c)
   links_seen None la e = absurd (none_some la e)
   links_seen (Some c) la e = (c, refl)
+
+  pub content_links : (p : Ptr) (o : Option Links) (b : Option B) (t : Held B) → content_had p o b ≡ Some t → (l : Links) × (o ≡ Some l)
+  content_links p None b t e = absurd (none_some t e)
+  content_links p (Some l) b t e = (l, refl)
+
+module _ {B : Type 0} (p : Ptr) (l : Links) where
+  written : Cell Links B → Cell Links B
+  written c = cell c.at l c.body
 
   pub links_set : (cs : List (Cell Links B)) (la : Links) → links_at cs p ≡ Some la → (q : Ptr) → links_at (with_links p l cs) q ≡ cond (same_ptr p q) (Some l) (links_at cs q)
   links_set cs la e q =
