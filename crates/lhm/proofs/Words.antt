@@ -1,5 +1,5 @@
 -- Words that spell numbers.
-use Rattle.std.proofs.Common.{ℕ, ◌≡◌, ◌≢◌, ◌<◌, List, [], ◌∷◌, ◌++◌, length, Bool, IsTrue, IsFalse, Option, Some, None, is_some, MatchOption, refl, sym, ap, ◌∙◌, arith, true≢false}
+use Rattle.std.proofs.Common.{ℕ, ◌≡◌, ◌≢◌, ◌<◌, List, [], ◌∷◌, length, IsTrue, IsFalse, Option, Some, None, is_some, MatchOption, refl, sym, ap, ◌∙◌, arith, true≢false}
 use Rattle.lhm.specs.Commands.{SpellNumbers, StartWithNumber, numbers_of}
 
 -- one number more

@@ -149,6 +149,16 @@ fn name_of(word: &[u8]) -> Option<Name>
     }
 }
 
+/// Returns the command, after which there has to be no word.
+fn without_number(command: Command<u64, u64>, rest: &[u8]) -> Result<Command<u64, u64>, NotACommand>
+    ensures command { IfOk result (λ same. same ≡ command) }
+    ensures ok { OnOk result (SpellNumbers (words_of rest.now) []) }
+    ensures err { OnErr result (¬ SpellNumbers (words_of rest.now) []) }
+{
+    no_number(rest)?;
+    Ok(command)
+}
+
 /// Returns the command of a name that the words after it say.
 fn named(alloc: Global, name: Name, rest: &[u8]) -> Result<Command<u64, u64>, LineError>
     ensures name { IfOk result (λ command. command_name command ≡ name) }
@@ -167,22 +177,10 @@ fn named(alloc: Global, name: Name, rest: &[u8]) -> Result<Command<u64, u64>, Li
         }
         Name::Refresh => Ok(Command::Refresh(one_number(rest)?)),
         Name::Remove => Ok(Command::Remove(one_number(rest)?)),
-        Name::PopFront => {
-            no_number(rest)?;
-            Ok(Command::PopFront)
-        }
-        Name::PopBack => {
-            no_number(rest)?;
-            Ok(Command::PopBack)
-        }
-        Name::Clear => {
-            no_number(rest)?;
-            Ok(Command::Clear)
-        }
-        Name::Drain => {
-            no_number(rest)?;
-            Ok(Command::Drain)
-        }
+        Name::PopFront => Ok(without_number(Command::PopFront, rest)?),
+        Name::PopBack => Ok(without_number(Command::PopBack, rest)?),
+        Name::Clear => Ok(without_number(Command::Clear, rest)?),
+        Name::Drain => Ok(without_number(Command::Drain, rest)?),
         Name::Extend => Ok(Command::Extend(PairList::from(pairs(alloc, rest)?))),
         Name::OrInsert => {
             let (k, v) = two_numbers(rest)?;
@@ -194,10 +192,7 @@ fn named(alloc: Global, name: Name, rest: &[u8]) -> Result<Command<u64, u64>, Li
         }
         Name::EntryRemove => Ok(Command::EntryRemove(one_number(rest)?)),
         Name::Reserve => Ok(Command::Reserve(one_number(rest)? as usize)),
-        Name::Shrink => {
-            no_number(rest)?;
-            Ok(Command::Shrink)
-        }
+        Name::Shrink => Ok(without_number(Command::Shrink, rest)?),
     }
 }
 

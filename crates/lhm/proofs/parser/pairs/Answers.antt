@@ -1,6 +1,5 @@
 use Rattle.std.proofs.Common.{ℕ, ◌≡◌, ◌≢◌, List, [], ◌∷◌, sym, ◌∙◌, append_assoc, arith}
 use Rattle.std.proofs.lemmas.List.{append-nil}
-use Rattle.std.proofs.lemmas.Result.{err_from_is_err_and}
 use Rattle.lhm.specs.Grammar.{words_of}
 use Rattle.lhm.specs.Commands.{SpellNumbers, numbers_of}
 use Rattle.lhm.proofs.Words.{words-some, words-none, SpellNumbers-cons, numbers_of-left, StartWithNumber-pairs, StartWithNumber-second, length-after}
