@@ -1,8 +1,8 @@
 -- A node that is found at a place cuts the list in two there.
-use Rattle.std.proofs.Common.{◌≡◌, true, false, cond, List, [], ◌∷◌, ◌++◌, Option, Some, None, refl, sym, ap, ◌∙◌}
+use Rattle.std.proofs.Common.{◌≡◌, true, false, cond, List, [], ◌∷◌, ◌++◌, Option, Some, None, refl, sym, ap, ◌∙◌, subst}
 use denote.RawPtr.{Ptr}
 use Rattle.lhm_ring.specs.Cells.{Cell, IsApart, same_ptr, places, cell_at, links_of, body_of, links_at, body_at, change, without}
-use Rattle.std.specs.List.{IsDistinct}
+use Rattle.std.specs.List.{IsDistinct, AllByRecursion}
 use Rattle.lhm_ring.proofs.Apart.{same_ptr_eq, IsFresh}
 use Rattle.lhm_ring.proofs.Options.{none_some}
 
@@ -71,3 +71,22 @@ module _ {L B : Type 0} where
         | true ↦ d.1
         | false ↦ (fresh_without c.at p cs d.0, apart_without p cs d.1)
       ]
+
+  pub all_without : (P : Ptr → Type 0) (p : Ptr) (cs : List (Cell L B)) → AllByRecursion P (places cs) → AllByRecursion P (places (without p cs))
+  unfolding without
+  all_without P p [] h = tt
+  all_without P p (c ∷ cs) h =
+      elim (same_ptr c.at p) as (λ y. AllByRecursion P (places (cond y cs (c ∷ without p cs)))) [
+        | true ↦ h.1
+        | false ↦ (h.0, all_without P p cs h.1)
+      ]
+
+  -- what holds of all places holds where a node is found
+  pub all_at : (P : Ptr → Type 0) (cs : List (Cell L B)) (p : Ptr) (l : L) → AllByRecursion P (places cs) → links_at cs p ≡ Some l → P p
+  unfolding cell_at
+  all_at P [] p l h e = absurd (none_some l e)
+  all_at P (c ∷ cs) p l h e =
+      (elim (same_ptr c.at p) as (λ y. same_ptr c.at p ≡ y → links_of (cond y (Some c) (cell_at cs p)) ≡ Some l → P p) [
+        | true ↦ λ t _. subst P (same_ptr_eq c.at p t) h.0
+        | false ↦ λ n k. all_at P cs p l h.1 k
+      ]) refl e

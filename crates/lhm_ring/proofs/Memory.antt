@@ -1,6 +1,6 @@
 -- What the walks over the nodes share. Assumes `Logic`.
 --     Three, args          the rows of the links, of the keys and of the values, and what a call passes for them
---     word_had, word_made, mark_made, mark_had      a value of one pointer, and one of no bytes
+--     word_known, word_made, mark_made      a value of one pointer, and one of no bytes
 --     cells_cut, cells_glue, cell_seen      one node is taken out of the others, put back, and seen through a `&`
 use mathlib.Core.Path.{◌≡◌, refl, ap, ◌∙◌, subst}
 use Prim.Native.Nat.{ℕ, ◌+◌}
@@ -21,7 +21,7 @@ use denote.Memory.{part_at}
 use denote.RawPtr.{Ptr, block_ptr}
 use denote.Shadow.{makes_shadow}
 use denote.Steps.{nothing, peeks}
-use denote.Struct.Struct.{Struct, within}
+use denote.Struct.Struct.{Shape, Struct, within}
 use denote.Struct.Owning.{shape}
 use borrow.Table.OneValue.{part_in, part_out}
 use Rattle.std.specs.Prelude.{Option, Some, None}
@@ -87,8 +87,8 @@ pub mark_made : (E : Three) {M : Type 1} {𝓤 : Ura M} (𝓛 : Logic 𝓤) → 
 mark_made E 𝓛 = makes_shadow 𝓛 ((Mark E).own_val (tt, tt) (mark ∷ [])) (λ vss. (tt, ((λ uss. (tt, tt)), tt))) ((vstruct vnil ∷ [], tt), (refl, ((tt, (refl, tt)), tt)))
 
 module _ {M : Type 1} {𝓤 : Ura M} {𝓛 : Logic 𝓤} {K : Type 0} {Γ : List (Item 𝓤)} {G : Goal 𝓤 𝓛.H} where
-  pub word_had : K → (c : Ptr) (vs : List Val) → (vs ≡ word c ∷ [] → Seq K 𝓛 Γ G) → Seq K 𝓛 (‵ (Pl.own_val (record { ptr = c }) vs) ∷ Γ) G
-  word_had t c vs k = fpick t (λ vss. fsplit t $ feq_l t (λ ev. fsplit t $ feq_l t (λ e. drop t $ k (subst (λ (ws : List Val). vs ≡ vstruct (of_list (ws ++ [])) ∷ []) e ev))))
+  pub word_known : K → (c : Ptr) (vs : List Val) → (vs ≡ word c ∷ [] → Seq K 𝓛 Γ G) → Seq K 𝓛 (‵ (Pl.own_val (record { ptr = c }) vs) ∷ Γ) G
+  word_known t c vs k = fpick t (λ vss. fsplit t $ feq_l t (λ ev. fsplit t $ feq_l t (λ e. drop t $ k (subst (λ (ws : List Val). vs ≡ vstruct (of_list (ws ++ [])) ∷ []) e ev))))
 
 module _ {M : Type 1} {𝓤 : Ura M} (𝓛 : Logic 𝓤) (E : Three) where
   pub cells_cut : (xs : List (Node E)) (c : Node E) (ys : List (Node E)) → ent 𝓤 (sem 𝓛 (Cells E (xs ++ c ∷ ys))) (sep 𝓤 (sem 𝓛 (One E c)) (sem 𝓛 (Cells E (xs ++ ys))))
@@ -150,10 +150,15 @@ module _ {M : Type 1} {𝓤 : Ura M} (𝓛 : Logic 𝓤) (E : Three) (b o : ℕ)
       use1 𝓛 (‵ (froom (layout E.value) b (o + vo E))) (left_room 𝓛 b (o + vo E) 2 E.value E.value_laws x.1) $ move ! (1 ∷ 0 ∷ []) $ done !
 
 module _ {M : Type 1} {𝓤 : Ura M} {𝓛 : Logic 𝓤} {K : Type 0} {Γ : List (Item 𝓤)} {G : Goal 𝓤 𝓛.H} where
+  -- two values make a struct of two fields
+  pub struct_made : K → (shape : Shape) (R S : RattleType) (x : R.Denot) (y : S.Denot) (u v : Val)
+      → Step K 𝓛 (‵ ((Struct (record shape { fields = R ∷ S ∷ [] })).own_val (x, (y, tt)) (vstruct (vcons u (vcons v vnil)) ∷ [])) ∷ Γ) G (‵ (R.own_val x (u ∷ [])) ∷ ‵ (S.own_val y (v ∷ [])) ∷ Γ) G
+  struct_made t shape R S x y u v = step (λ s.
+      let w : Val = vstruct (vcons u (vcons v vnil)) in
+      nothing t $ move t (2 ∷ 0 ∷ []) $ fjoin t $ move t (1 ∷ 0 ∷ []) $ fjoin t $ feq_i t (List Val) (w ∷ []) (w ∷ []) refl $ fjoin t $
+      fpack t (Valss (R ∷ S ∷ [])) (within (record shape { fields = R ∷ S ∷ [] }) (x, (y, tt)) (w ∷ [])) (u ∷ [], (v ∷ [], tt)) $ s)
+
   -- two values make a pair
   pub two_made : K → (R S : RattleType) (x : R.Denot) (y : S.Denot) (u v : Val)
       → Step K 𝓛 (‵ ((Struct (record { name = []; args = []; types = []; fields = R ∷ S ∷ [] })).own_val (x, (y, tt)) (vstruct (vcons u (vcons v vnil)) ∷ [])) ∷ Γ) G (‵ (R.own_val x (u ∷ [])) ∷ ‵ (S.own_val y (v ∷ [])) ∷ Γ) G
-  two_made t R S x y u v = step (λ s.
-      let w : Val = vstruct (vcons u (vcons v vnil)) in
-      nothing t $ move t (2 ∷ 0 ∷ []) $ fjoin t $ move t (1 ∷ 0 ∷ []) $ fjoin t $ feq_i t (List Val) (w ∷ []) (w ∷ []) refl $ fjoin t $
-      fpack t (Valss (R ∷ S ∷ [])) (within (record { name = []; args = []; types = []; fields = R ∷ S ∷ [] }) (x, (y, tt)) (w ∷ [])) (u ∷ [], (v ∷ [], tt)) $ s)
+  two_made t = struct_made t (record { name = []; args = []; types = []; fields = [] })

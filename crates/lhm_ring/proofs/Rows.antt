@@ -4,7 +4,7 @@ use Rattle.std.specs.List.{AllByRecursion, IsDistinct}
 use denote.RawPtr.{Ptr}
 use Rattle.lhm_ring.specs.declared.links.Links.{Links}
 use Rattle.lhm_ring.specs.Cells.{Cell, same_ptr, links_at, body_at, IsApart}
-use Rattle.lhm_ring.specs.Rings.{link_had, next_at, prev_at, link_at, is_there, content_had, content_at, Edge, Linked, Chained, HasContent, follow, listed, one_of, IsJoined}
+use Rattle.lhm_ring.specs.Rings.{link_of, next_at, prev_at, link_at, is_there, content_of, content_at, Edge, Linked, Chained, HasContent, follow, listed, one_of, IsJoined}
 use Rattle.lhm_ring.specs.RingState.{Held}
 use Rattle.lhm_ring.proofs.Apart.{IsFresh, same_ptr_refl, same_ptr_symm}
 use Rattle.lhm_ring.proofs.Options.{none_some, some_same}
@@ -204,10 +204,10 @@ module _ {B : Type 0} where
       let second : Linked es (g ∷ (ps ++ p ∷ [])) = row_kept ds es p g k (g ∷ (ps ++ p ∷ [])) (avoids_but_last p g ps p free) (all_both P ps (p ∷ []) (apart_head g ps d) (flip p g free.0, tt)) first in
       glue_row es g (ps ++ p ∷ []) g [] second (subst (λ z. Edge es z g) (sym (last_push g ps p)) (edge_made ds es p g k)) tt
 
-  pub content_place : (p : Ptr) (o : Option Links) (b : Option B) (t : Held B) → content_had p o b ≡ Some t → t.at ≡ p
+  pub content_place : (p : Ptr) (o : Option Links) (b : Option B) (t : Held B) → content_of p o b ≡ Some t → t.at ≡ p
   content_place p None b t e = cc
   content_place p (Some l) None t e = cc
-  content_place p (Some l) (Some b) t e = ap (λ (z : Held B). z.at) (sym (not_guard l.guard (record { at = p; number = l.number; link = link_had (Some l); pair = b }) t e).1)
+  content_place p (Some l) (Some b) t e = ap (λ (z : Held B). z.at) (sym (not_guard l.guard (record { at = p; number = l.number; link = link_of (Some l); pair = b }) t e).1)
 
   -- where a ring is cut, if what it lists is
   pub record CutAt (cs : List (Cell Links B)) (ps : List Ptr) (us : List (Held B)) (t : Held B) (vs : List (Held B)) : Type 0 where

@@ -1,27 +1,23 @@
--- What was spliced, and is still to be handed out.
+-- All that a ring holds becomes spare, and what it held is taken out from both ends.
 use Rattle.std.proofs.Common.{◌≡◌, ℕ, ◌+◌, ◌-◌, ◌<◌, true, false, cond, List, [], ◌∷◌, ◌++◌, length, Option, Some, None, refl, sym, ap, ◌∙◌, subst, arith, length-append}
 use lib.ListN.{length-map}
 use Rattle.std.specs.List.{AllByRecursion}
 use denote.RawPtr.{Ptr}
 use Rattle.lhm_ring.specs.declared.block.Place.{Place}
 use Rattle.lhm_ring.specs.declared.links.Links.{Links}
-use Rattle.lhm_ring.specs.Cells.{Cell, cell, cell_at, same_ptr, links_at, body_at, IsApart, IsAt, Holds, change, with_links, with_body}
-use Rattle.lhm_ring.specs.Rings.{relinked, spot, next_had, prev_had, link_had, there_had, guard_had, next_at, prev_at, link_at, is_there, content_had, content_at, Linked, Chained, HasContent, IsRing, IsJoined, follow, listed, one_of, last_place, HasEnds, places_from, ring_places, spliced_list, SplicedOk, HeldAndSpares, held_and_spares, ring_list, RingOk}
+use Rattle.lhm_ring.specs.Cells.{Cell, cell, cell_at, same_ptr, links_at, body_at, IsApart, IsAt, Holds, with_links, with_body}
+use Rattle.lhm_ring.specs.Rings.{relinked, ptr_of_some, next_of, prev_of, link_of, has_links, guard_of, next_at, prev_at, link_at, is_there, content_of, content_at, Linked, Chained, HasContent, IsRing, IsJoined, listed, one_of, last_place, HasEnds, places_from, span_triples, IsSpan, ring_list, RingOk}
 use Rattle.lhm_ring.specs.RingState.{Held, triples}
 use Rattle.lhm_ring.specs.Splices.{onto, StartsAt, triple_of, SameButLinks, IsRow, HasRow, SparesRow}
 use Rattle.lhm_ring.proofs.Apart.{IsFresh, apart_none, same_ptr_refl}
 use Rattle.lhm_ring.proofs.Writes.{at_other, length-change, read_kept, links_set, body_kept, content_links}
 use Rattle.lhm_ring.proofs.Rows.{last_from, all_left, all_right, all_from, apart_left, apart_head, apart_tail, apart_at, apart_out, apart_in, avoids_all, AvoidsSource, AvoidsTarget, cut_row, row_kept, chain_kept, edge_made, listed_kept, listed-append, snoc}
 use Rattle.lhm_ring.proofs.Moves.{ring_listed, length_listed}
-use Rattle.lhm_ring.proofs.Only.{links_kept, chain_other, held_other, listed_other, content_number, content_pair, content_holds}
+use Rattle.lhm_ring.proofs.OneNodeChanged.{links_kept, chain_other, held_other, listed_other, content_number, content_pair, content_holds}
 use Rattle.lhm_ring.proofs.Options.{none_some}
 
 module _ {B : Type 0} (cs : List (Cell Links B)) where
-  -- nothing is left of it
-  pub none_spliced : (guard : Option Place) (n : ℕ) (f b : Ptr) → SplicedOk cs guard n f b 0
-  none_spliced guard n f b = ([], refl, tt, tt, tt, apart_none, tt)
-
-  pub none_listed : (f : Ptr) → spliced_list cs 0 f ≡ []
+  pub none_listed : (f : Ptr) → span_triples cs 0 f ≡ []
   unfolding places_from listed
   none_listed f = refl
 
@@ -32,12 +28,12 @@ module _ {B : Type 0} (cs : List (Cell Links B)) where
   from_row f b (r ∷ []) k e = ap (λ z. z ∷ []) (sym e.0)
   from_row f b (r ∷ s ∷ rs) k e = λ i. sym e.0 i ∷ (ap (λ z. places_from cs (length (s ∷ rs)) z) (ap (next_at cs) (sym e.0) ∙ k.0.0) ∙ from_row s b (s ∷ rs) k.1 (refl, e.1)) i
 
-  pub spliced_places : (guard : Option Place) (n : ℕ) (f b : Ptr) (k : ℕ) → (s : SplicedOk cs guard n f b k) → places_from cs k f ≡ s.0
-  spliced_places guard n f b k s = ap (λ z. places_from cs z f) (sym s.1) ∙ from_row f b s.0 s.2 s.3
+  pub span_places : (f b : Ptr) (k : ℕ) → (s : IsSpan cs f b k) → places_from cs k f ≡ s.0
+  span_places f b k s = ap (λ z. places_from cs z f) (sym s.1) ∙ from_row f b s.0 s.2 s.3
 
-  pub length_spliced : (guard : Option Place) (n : ℕ) (f b : Ptr) (k : ℕ) → SplicedOk cs guard n f b k → k ≡ length (spliced_list cs k f)
-  length_spliced guard n f b k s =
-      sym (length-map (listed cs (places_from cs k f)) (λ (t : Held B). (t.number, t.pair)) ∙ ap (λ ps. length (listed cs ps)) (spliced_places guard n f b k s) ∙ length_listed cs s.0 s.4 ∙ s.1)
+  pub length_span : (f b : Ptr) (k : ℕ) → IsSpan cs f b k → k ≡ length (span_triples cs k f)
+  length_span f b k s =
+      sym (length-map (listed cs (places_from cs k f)) (λ (t : Held B). (t.number, t.pair)) ∙ ap (λ ps. length (listed cs ps)) (span_places f b k s) ∙ length_listed cs s.0 s.4 ∙ s.1)
 
 -- the places of a row go onto others
 pub all_onto : (P : Ptr → Type 0) (ps ss : List Ptr) → AllByRecursion P ps → AllByRecursion P ss → AllByRecursion P (onto ps ss)
@@ -52,27 +48,23 @@ pub apart_onto : (g : Ptr) (ps ss : List Ptr) → IsApart (g ∷ (ps ++ ss)) →
 apart_onto g [] ss d = d
 apart_onto g (p ∷ ps) ss d = apart_onto g ps (p ∷ ss) (apart_in (g ∷ ps) p ss (apart_at (g ∷ []) p (ps ++ ss) d) (apart_out (g ∷ []) p (ps ++ ss) d))
 
-all_true : (P : Ptr → Type 0) → ((p : Ptr) → P p) → (ps : List Ptr) → AllByRecursion P ps
-all_true P h [] = tt
-all_true P h (p ∷ ps) = (h p, all_true P h ps)
-
 last_same : (p : Ptr) (ps : List Ptr) → last_place p ps ≡ last_from p ps
 last_same p [] = refl
 last_same p (q ∷ qs) = last_same q qs
 
-pub next_relinked : (o : Option Place) (l : Links) → next_had (Some (relinked o l)) ≡ next_had (Some l)
+pub next_relinked : (o : Option Place) (l : Links) → next_of (Some (relinked o l)) ≡ next_of (Some l)
 next_relinked None l = refl
 next_relinked (Some q) l = refl
 
-pub prev_relinked : (o : Option Place) (l : Links) → prev_had (Some (relinked o l)) ≡ prev_had (Some l)
+pub prev_relinked : (o : Option Place) (l : Links) → prev_of (Some (relinked o l)) ≡ prev_of (Some l)
 prev_relinked None l = refl
 prev_relinked (Some q) l = refl
 
-pub guard_relinked : (o : Option Place) (l : Links) → guard_had (Some (relinked o l)) ≡ guard_had (Some l)
+pub guard_relinked : (o : Option Place) (l : Links) → guard_of (Some (relinked o l)) ≡ guard_of (Some l)
 guard_relinked None l = refl
 guard_relinked (Some q) l = refl
 
-pub link_relinked : (o : Option Place) (l : Links) → link_had (Some (relinked o l)) ≡ spot o
+pub link_relinked : (o : Option Place) (l : Links) → link_of (Some (relinked o l)) ≡ ptr_of_some o
 link_relinked None l = refl
 link_relinked (Some q) l = refl
 
@@ -81,10 +73,10 @@ number_relinked None l = refl
 number_relinked (Some q) l = refl
 
 module _ {B : Type 0} where
-  triple_shown : (q : Ptr) (l : Links) (x : B) → triple_of (content_had q (Some l) (Some x)) ≡ cond l.guard None (Some (l.number, x))
-  triple_shown q l x = elim l.guard as (λ y. triple_of (cond y None (Some (record { at = q; number = l.number; link = link_had (Some l); pair = x }))) ≡ cond y None (Some (l.number, x))) [ true ↦ refl | false ↦ refl ]
+  triple_shown : (q : Ptr) (l : Links) (x : B) → triple_of (content_of q (Some l) (Some x)) ≡ cond l.guard None (Some (l.number, x))
+  triple_shown q l x = elim l.guard as (λ y. triple_of (cond y None (Some (record { at = q; number = l.number; link = link_of (Some l); pair = x }))) ≡ cond y None (Some (l.number, x))) [ true ↦ refl | false ↦ refl ]
 
-  triple_relinked : (q : Ptr) (o : Option Place) (l : Links) (b : Option B) → triple_of (content_had q (Some (relinked o l)) b) ≡ triple_of (content_had q (Some l) b)
+  triple_relinked : (q : Ptr) (o : Option Place) (l : Links) (b : Option B) → triple_of (content_of q (Some (relinked o l)) b) ≡ triple_of (content_of q (Some l) b)
   triple_relinked q o l None = refl
   triple_relinked q o l (Some x) = triple_shown q (relinked o l) x ∙ (λ i. cond (guard_relinked o l i) None (Some (number_relinked o l i, x))) ∙ sym (triple_shown q l x)
 
@@ -93,12 +85,12 @@ module _ {B : Type 0} where
   same_relinked cs p o la e =
       let l = relinked o la in
       record {
-        next = read_kept p l next_had cs la e (next_relinked o la);
-        prev = read_kept p l prev_had cs la e (prev_relinked o la);
-        there = read_kept p l there_had cs la e refl;
-        guard = read_kept p l guard_had cs la e (guard_relinked o la);
-        triple = λ q. ap (λ b. triple_of (content_had q (links_at (with_links p l cs) q) b)) (body_kept p l cs la e q)
-            ∙ read_kept p l (λ z. triple_of (content_had q z (body_at cs q))) cs la e (triple_relinked q o la (body_at cs q)) q;
+        next = read_kept p l next_of cs la e (next_relinked o la);
+        prev = read_kept p l prev_of cs la e (prev_relinked o la);
+        there = read_kept p l has_links cs la e refl;
+        guard = read_kept p l guard_of cs la e (guard_relinked o la);
+        triple = λ q. ap (λ b. triple_of (content_of q (links_at (with_links p l cs) q) b)) (body_kept p l cs la e q)
+            ∙ read_kept p l (λ z. triple_of (content_of q z (body_at cs q))) cs la e (triple_relinked q o la (body_at cs q)) q;
         count = length-change p (λ c. cell c.at l c.body) cs;
       }
 
@@ -131,10 +123,10 @@ module _ {B : Type 0} where
     abbrev after : List (Cell Links B)
     after = with_links at.ptr (relinked spare la) cs
 
-    link_now : link_at after at.ptr ≡ spot spare
-    link_now = ap link_had (links_set at.ptr (relinked spare la) cs la ea at.ptr ∙ ap (λ y. cond y (Some (relinked spare la)) (links_at cs at.ptr)) (same_ptr_refl at.ptr)) ∙ link_relinked spare la
+    link_now : link_at after at.ptr ≡ ptr_of_some spare
+    link_now = ap link_of (links_set at.ptr (relinked spare la) cs la ea at.ptr ∙ ap (λ y. cond y (Some (relinked spare la)) (links_at cs at.ptr)) (same_ptr_refl at.ptr)) ∙ link_relinked spare la
 
-    shorter_row : (p : Ptr) (rs ss : List Ptr) → p ≡ at.ptr → IsRow cs at.ptr n (spot spare) (p ∷ rs) ss → IsRow after la.next.ptr (n - 1) (Some at.ptr) rs (at.ptr ∷ ss)
+    shorter_row : (p : Ptr) (rs ss : List Ptr) → p ≡ at.ptr → IsRow cs at.ptr n (ptr_of_some spare) (p ∷ rs) ss → IsRow after la.next.ptr (n - 1) (Some at.ptr) rs (at.ptr ∷ ss)
     shorter_row p rs ss is r =
         let same = same_relinked cs at.ptr spare la ea in let long = r.long in
         let free = subst (λ q. IsFresh q (rs ++ ss)) is (apart_head p (rs ++ ss) r.apart) in
@@ -142,30 +134,30 @@ module _ {B : Type 0} where
         record {
           long = omega arith;
           linked = row_same cs after same.next same.prev rs (linked_tail cs at.ptr rs linked);
-          starts = subst (StartsAt rs) (ap next_had ea) (starts_next cs at.ptr rs linked);
+          starts = subst (StartsAt rs) (ap next_of ea) (starts_next cs at.ptr rs linked);
           there = all_from (λ q. is_there cs q ≡ true) (λ q. is_there after q ≡ true) (λ q h. same.there q ∙ h) rs r.there.1;
           apart = apart_in rs at.ptr ss free (apart_tail p (rs ++ ss) r.apart);
           chained = (
             refl,
             subst (λ h. Chained after h ss) (sym link_now)
-                (chain_other cs after at.ptr (λ q n. at_other at.ptr (λ c. cell c.at (relinked spare la) c.body) (λ c. refl) q n cs) (spot spare) ss (all_right (λ q. same_ptr at.ptr q ≡ false) rs ss free) r.chained),
+                (chain_other cs after at.ptr (λ q n. at_other at.ptr (λ c. cell c.at (relinked spare la) c.body) (λ c. refl) q n cs) (ptr_of_some spare) ss (all_right (λ q. same_ptr at.ptr q ≡ false) rs ss free) r.chained),
           );
         }
 
-    row_left : (ps ss : List Ptr) → 0 < n → IsRow cs at.ptr n (spot spare) ps ss → HasRow after la.next.ptr (n - 1) (Some at.ptr)
+    row_left : (ps ss : List Ptr) → 0 < n → IsRow cs at.ptr n (ptr_of_some spare) ps ss → HasRow after la.next.ptr (n - 1) (Some at.ptr)
     row_left [] ss h r = let long = r.long in absurd (omega arith)
     row_left (p ∷ rs) ss h r = (rs, at.ptr ∷ ss, shorter_row p rs ss r.starts r)
 
-    pub row_goes_on : 0 < n → HasRow cs at.ptr n (spot spare) → HasRow after la.next.ptr (n - 1) (Some at.ptr)
+    pub row_goes_on : 0 < n → HasRow cs at.ptr n (ptr_of_some spare) → HasRow after la.next.ptr (n - 1) (Some at.ptr)
     row_goes_on h r = row_left r.0 r.1 h r.2
 
-    then_all : (ds : List (Cell Links B)) (s : Option Ptr) → 0 < n → SparesRow after la.next.ptr (n - 1) (Some at.ptr) ds s → (ps ss : List Ptr) → IsRow cs at.ptr n (spot spare) ps ss → SameButLinks cs ds × Chained ds s (onto ps ss)
+    then_all : (ds : List (Cell Links B)) (s : Option Ptr) → 0 < n → SparesRow after la.next.ptr (n - 1) (Some at.ptr) ds s → (ps ss : List Ptr) → IsRow cs at.ptr n (ptr_of_some spare) ps ss → SameButLinks cs ds × Chained ds s (onto ps ss)
     then_all ds s h k [] ss r = let long = r.long in absurd (omega arith)
     then_all ds s h k (p ∷ rs) ss r =
         let on = k rs (at.ptr ∷ ss) (shorter_row p rs ss r.starts r) in
         (same_both cs after ds (same_relinked cs at.ptr spare la ea) on.0, subst (λ q. Chained ds s (onto rs (q ∷ ss))) (sym r.starts) on.1)
 
-    pub row_ends : (ds : List (Cell Links B)) (s : Option Ptr) → 0 < n → SparesRow after la.next.ptr (n - 1) (Some at.ptr) ds s → SparesRow cs at.ptr n (spot spare) ds s
+    pub row_ends : (ds : List (Cell Links B)) (s : Option Ptr) → 0 < n → SparesRow after la.next.ptr (n - 1) (Some at.ptr) ds s → SparesRow cs at.ptr n (ptr_of_some spare) ds s
     row_ends ds s h k ps ss r = then_all ds s h k ps ss r
 
   there_first : (cs : List (Cell Links B)) (at : Place) (n : ℕ) (spare : Option Ptr) (ps ss : List Ptr) → 0 < n → IsRow cs at.ptr n spare ps ss → is_there cs at.ptr ≡ true
@@ -203,24 +195,24 @@ module _ {B : Type 0} (cs : List (Cell Links B)) (g : Place) (spare : Option Pla
   cut : Linked cs (g.ptr ∷ o.0) × (prev_at cs g.ptr ≡ last_from g.ptr o.0)
   cut = let k = cut_row cs g.ptr o.0 g.ptr [] o.2.linked in (k.0, k.1.1)
 
-  whole_row : IsRow cs lg.next.ptr n (spot spare) o.0 o.1
+  whole_row : IsRow cs lg.next.ptr n (ptr_of_some spare) o.0 o.1
   whole_row = record {
     long = o.3;
     linked = linked_tail cs g.ptr o.0 cut.0;
-    starts = subst (StartsAt o.0) (ap next_had eg) (starts_next cs g.ptr o.0 cut.0);
+    starts = subst (StartsAt o.0) (ap next_of eg) (starts_next cs g.ptr o.0 cut.0);
     there = all_left (λ q. is_there cs q ≡ true) o.0 o.1 o.2.there.1;
     apart = apart_tail g.ptr (o.0 ++ o.1) o.2.apart;
     chained = o.2.chained;
   }
 
-  pub row_of_ring : HasRow cs lg.next.ptr n (spot spare)
+  pub row_of_ring : HasRow cs lg.next.ptr n (ptr_of_some spare)
   row_of_ring = (o.0, o.1, whole_row)
 
   ends_of : (rs : List Ptr) → Linked cs (g.ptr ∷ rs) → prev_at cs g.ptr ≡ last_from g.ptr rs → HasEnds rs lg.next.ptr lg.prev.ptr
   ends_of [] k e = tt
-  ends_of (r ∷ rs) k e = (sym k.0.0 ∙ ap next_had eg, last_same r rs ∙ sym e ∙ ap prev_had eg)
+  ends_of (r ∷ rs) k e = (sym k.0.0 ∙ ap next_of eg, last_same r rs ∙ sym e ∙ ap prev_of eg)
 
-  module _ (ds es : List (Cell Links B)) (h : Option Place) (s : SparesRow cs lg.next.ptr n (spot spare) ds (spot h)) where
+  module _ (ds es : List (Cell Links B)) (h : Option Place) (s : SparesRow cs lg.next.ptr n (ptr_of_some spare) ds (ptr_of_some h)) where
     same : SameButLinks cs ds
     same = (s o.0 o.1 whole_row).0
 
@@ -237,10 +229,10 @@ module _ {B : Type 0} (cs : List (Cell Links B)) (g : Place) (spare : Option Pla
           let on : (qs : List Ptr) → AllByRecursion (λ q. is_there cs q ≡ true) qs → AllByRecursion T qs = all_from (λ q. is_there cs q ≡ true) T (λ q k. j.there q ∙ same.there q ∙ k) in
           (j.there g.ptr ∙ still_there, all_onto T o.0 o.1 (on o.0 (all_left (λ q. is_there cs q ≡ true) o.0 o.1 o.2.there.1)) (on o.1 (all_right (λ q. is_there cs q ≡ true) o.0 o.1 o.2.there.1)))
 
-      empty_ring : IsRing es g.ptr [] (spot h) (onto o.0 o.1)
+      empty_ring : IsRing es g.ptr [] (ptr_of_some h) (onto o.0 o.1)
       empty_ring = record {
         linked = (edge_made ds es g.ptr g.ptr j, tt);
-        chained = chain_kept ds es g.ptr g.ptr j (spot h) (onto o.0 o.1) (s o.0 o.1 whole_row).1;
+        chained = chain_kept ds es g.ptr g.ptr j (ptr_of_some h) (onto o.0 o.1) (s o.0 o.1 whole_row).1;
         held = tt;
         there = all_there;
         apart = apart_onto g.ptr o.0 o.1 o.2.apart;
@@ -265,26 +257,33 @@ module _ {B : Type 0} (cs : List (Cell Links B)) (g : Place) (spare : Option Pla
       row_now : Linked es o.0
       row_now = row_kept ds es g.ptr g.ptr j o.0 (free_source o.0 free_row) (free_target o.0 free_row) (row_same cs ds same.next same.prev o.0 (linked_tail cs g.ptr o.0 cut.0))
 
-      away : (rs : List Ptr) → AllByRecursion (λ r. AllByRecursion (λ q. same_ptr r q ≡ false) (ring_places es (Some g) 0)) rs
-      unfolding follow
-      away rs = all_true (λ r. AllByRecursion (λ q. same_ptr r q ≡ false) []) (λ r. tt) rs
-
-      pub spliced_row : SplicedOk es (Some g) 0 lg.next.ptr lg.prev.ptr n
+      pub spliced_row : IsSpan es lg.next.ptr lg.prev.ptr n
       spliced_row =
-          (o.0, o.3, row_now, ends_of o.0 cut.0 cut.1, all_from (HasContent cs) (HasContent es) (λ q k. let d = has_still q k in (d.0, j.content q ∙ d.1)) o.0 o.2.held, apart_left o.0 o.1 (apart_tail g.ptr (o.0 ++ o.1) o.2.apart), away o.0)
+          (o.0, o.3, row_now, ends_of o.0 cut.0 cut.1, all_from (HasContent cs) (HasContent es) (λ q k. let d = has_still q k in (d.0, j.content q ∙ d.1)) o.0 o.2.held, apart_left o.0 o.1 (apart_tail g.ptr (o.0 ++ o.1) o.2.apart))
 
       triples_same : (rs : List Ptr) → triples (listed ds rs) ≡ triples (listed cs rs)
       unfolding listed
       triples_same [] = refl
       triples_same (r ∷ rs) = triples_first (content_at ds r) (listed ds rs) ∙ (λ i. one_triple (same.triple r i) ++ triples_same rs i) ∙ sym (triples_first (content_at cs r) (listed cs rs))
 
-      pub spliced_now : (v : HeldAndSpares B) → held_and_spares (ring_list cs (Some g) n) m ≡ v → spliced_list es n lg.next.ptr ≡ triples v.held
+      pub spliced_now : span_triples es n lg.next.ptr ≡ triples (ring_list cs (Some g) n)
       unfolding spliced_row
-      spliced_now v w =
-          ap (λ qs. triples (listed es qs)) (spliced_places es (Some g) 0 lg.next.ptr lg.prev.ptr n spliced_row) ∙ ap triples (listed_kept ds es g.ptr g.ptr j o.0) ∙ triples_same o.0
-          ∙ ap triples (sym (ring_listed cs g.ptr o.0 (spot spare) o.1 n o.2 o.3) ∙ ap (λ (z : HeldAndSpares B). z.held) w)
+      spliced_now =
+          ap (λ qs. triples (listed es qs)) (span_places es lg.next.ptr lg.prev.ptr n spliced_row) ∙ ap triples (listed_kept ds es g.ptr g.ptr j o.0) ∙ triples_same o.0
+          ∙ ap triples (sym (ring_listed cs g.ptr o.0 (ptr_of_some spare) o.1 n o.2 o.3))
 
--- the last of what was spliced, with those before it
+-- where there is no guard, nothing is held
+module _ {B : Type 0} (cs : List (Cell Links B)) where
+  pub none_spliced : (guard spare : Option Place) (n m : ℕ) (f b : Ptr) → guard ≡ None → RingOk cs guard spare n m → RingOk cs guard spare 0 (m + n) × IsSpan cs f b n × (span_triples cs n f ≡ triples (ring_list cs guard n))
+  none_spliced None spare n m f b e ok =
+      let none : n ≡ 0 = ok.2 in (
+        (ok.0, ok.1, refl, ap (λ k. m + k) none ∙ omega (arith, ok.3)),
+        subst (IsSpan cs f b) (sym none) ([], refl, tt, tt, tt, apart_none),
+        ap (λ k. span_triples cs k f) none ∙ none_listed cs f,
+      )
+  none_spliced (Some g) spare n m f b e ok = absurd (none_some g (sym e))
+
+-- the last of a row, with those before it
 pub record LastCut {B : Type 0} (cs : List (Cell Links B)) (f b : Ptr) (rs : List Ptr) : Type 0 where
   pub before : List Ptr
   pub whole : rs ≡ before ++ b ∷ []
@@ -318,7 +317,7 @@ module _ {B : Type 0} (cs : List (Cell Links B)) where
   last_cut f b [] n k h = absurd (n refl)
   last_cut f b (x ∷ xs) n k h = let s = snoc x xs in cut_at_last f b (x ∷ xs) s.0 s.1 s.2 k h
 
--- the first of what was spliced, with those behind it
+-- the first of a row, with those behind it
 pub record FirstCut {B : Type 0} (cs : List (Cell Links B)) (f b : Ptr) (rs : List Ptr) : Type 0 where
   pub behind : List Ptr
   pub whole : rs ≡ f ∷ behind
@@ -339,7 +338,7 @@ module _ {B : Type 0} (cs : List (Cell Links B)) where
     ends = subst (λ q. HasEnds xs (next_at cs q) b) h.0 (ends_behind x b xs k h.1);
   }
 
--- what the node p holds is taken out of it, while the ring holds nothing
+-- what the node p holds is taken out of it
 module _ {B : Type 0} (cs : List (Cell Links B)) (p : Ptr) (la : Links) (ea : links_at cs p ≡ Some la) where
   abbrev ds : List (Cell Links B)
   ds = with_body p None cs
@@ -350,40 +349,14 @@ module _ {B : Type 0} (cs : List (Cell Links B)) (p : Ptr) (la : Links) (ea : li
   other : (q : Ptr) → same_ptr p q ≡ false → cell_at ds q ≡ cell_at cs q
   other q n = at_other p (λ c. cell c.at c.links None) (λ c. refl) q n cs
 
-  chain_stays : (h : Option Ptr) (ss : List Ptr) → Chained cs h ss → Chained ds h ss
-  chain_stays h [] k = k
-  chain_stays h (y ∷ ys) k = (k.0, chain_stays (link_at ds y) ys (subst (λ z. Chained cs z ys) (sym (ap link_had (same_links y))) k.1))
-
   row_stays : (s : List Ptr) → Linked cs s → Linked ds s
-  row_stays = row_same cs ds (λ q. ap next_had (same_links q)) (λ q. ap prev_had (same_links q))
-
-  ring_stays : (g : Ptr) (spare : Option Ptr) (ps ss : List Ptr) → length ps ≡ 0 → IsRing cs g ps spare ss → IsRing ds g ps spare ss
-  ring_stays g spare [] ss e r = record {
-    linked = row_stays (g ∷ (g ∷ [])) r.linked;
-    chained = chain_stays spare ss r.chained;
-    held = tt;
-    there = all_from (λ q. is_there cs q ≡ true) (λ q. is_there ds q ≡ true) (λ q h. ap there_had (same_links q) ∙ h) (g ∷ ss) r.there;
-    apart = r.apart;
-    count = length-change p (λ c. cell c.at c.links None) cs ∙ r.count;
-    guard = ap guard_had (same_links g) ∙ r.guard;
-  }
-  ring_stays g spare (x ∷ xs) ss e r = absurd (omega arith)
-
-  pub taken_ring : (guard spare : Option Place) (n m : ℕ) → n ≡ 0 → RingOk cs guard spare n m → RingOk (with_body p None cs) guard spare n m
-  unfolding change
-  taken_ring None spare n m e ok = (ap (λ zs. with_body p None zs) ok.0, ok.1, ok.2, ok.3)
-  taken_ring (Some g) spare n m e ok = (ok.0, ok.1, ring_stays g.ptr (spot spare) ok.0 ok.1 (ok.3 ∙ e) ok.2, ok.3, ok.4, ok.5)
-
-  none_beside : (guard : Option Place) (n : ℕ) → n ≡ 0 → (rs : List Ptr) → AllByRecursion (λ r. AllByRecursion (λ q. same_ptr r q ≡ false) (ring_places ds guard n)) rs
-  unfolding follow
-  none_beside None n e rs = all_true (λ r. Unit {0}) (λ r. tt) rs
-  none_beside (Some g) n e rs = subst (λ k. AllByRecursion (λ r. AllByRecursion (λ q. same_ptr r q ≡ false) (follow ds k g.ptr)) rs) (sym e) (all_true (λ r. Unit {0}) (λ r. tt) rs)
+  row_stays = row_same cs ds (λ q. ap next_of (same_links q)) (λ q. ap prev_of (same_links q))
 
   one_listed : (x : B) → body_at cs p ≡ Some x → HasContent cs p → triples (listed cs (p ∷ [])) ≡ (la.number, x) ∷ []
   unfolding listed
   one_listed x ex h =
-      let number : h.0.number ≡ la.number = content_number p la (body_at cs p) h.0 (ap (λ o. content_had p o (body_at cs p)) (sym ea) ∙ h.1) in
-      let pair : h.0.pair ≡ x = content_pair p (links_at cs p) x h.0 (ap (λ o. content_had p (links_at cs p) o) (sym ex) ∙ h.1) in
+      let number : h.0.number ≡ la.number = content_number p la (body_at cs p) h.0 (ap (λ o. content_of p o (body_at cs p)) (sym ea) ∙ h.1) in
+      let pair : h.0.pair ≡ x = content_pair p (links_at cs p) x h.0 (ap (λ o. content_of p (links_at cs p) o) (sym ex) ∙ h.1) in
       ap (λ o. triples (one_of o ++ [])) h.1 ∙ (λ i. (number i, pair i) ∷ [])
 
 module _ {B : Type 0} where
@@ -394,7 +367,7 @@ module _ {B : Type 0} where
   holds_here : (cs : List (Cell Links B)) (p : Ptr) → HasContent cs p → Holds cs p
   holds_here cs p h = content_holds p (links_at cs p) (body_at cs p) h.0 h.1
 
-module _ {B : Type 0} (cs : List (Cell Links B)) (guard : Option Place) (n : ℕ) (f b : Ptr) (k : ℕ) (s : SplicedOk cs guard n f b k) (some : k ≡ 0 → ⊥) where
+module _ {B : Type 0} (cs : List (Cell Links B)) (f b : Ptr) (k : ℕ) (s : IsSpan cs f b k) (some : k ≡ 0 → ⊥) where
   first : FirstCut cs f b s.0
   first = first_cut cs f b s.0 (λ e. some (sym s.1 ∙ e)) s.2 s.3
 
@@ -413,27 +386,26 @@ module _ {B : Type 0} (cs : List (Cell Links B)) (guard : Option Place) (n : ℕ
   long_first : length first.behind ≡ k - 1
   long_first = let e = ap length (sym first.whole) ∙ s.1 in omega arith
 
-  module _ (none : n ≡ 0) (la : Links) (ea : links_at cs f ≡ Some la) where
+  module _ (la : Links) (ea : links_at cs f ≡ Some la) where
     free_first : IsFresh f first.behind
     free_first = apart_head f first.behind apart_first
 
-    pub rest_of_first : SplicedOk (with_body f None cs) guard n la.next.ptr b (k - 1)
+    pub rest_of_first : IsSpan (with_body f None cs) la.next.ptr b (k - 1)
     rest_of_first = (
       first.behind,
       long_first,
       row_stays cs f la ea first.behind first.linked,
-      subst (λ q. HasEnds first.behind q b) (ap next_had ea) first.ends,
+      subst (λ q. HasEnds first.behind q b) (ap next_of ea) first.ends,
       held_other cs (with_body f None cs) f (other cs f la ea) first.behind free_first all_first.1,
       apart_tail f first.behind apart_first,
-      none_beside cs f la ea guard n none first.behind,
     )
 
-    pub first_out : (x : B) → body_at cs f ≡ Some x → spliced_list cs k f ≡ (la.number, x) ∷ spliced_list (with_body f None cs) (k - 1) la.next.ptr
+    pub first_out : (x : B) → body_at cs f ≡ Some x → span_triples cs k f ≡ (la.number, x) ∷ span_triples (with_body f None cs) (k - 1) la.next.ptr
     unfolding first rest_of_first
     first_out x ex =
-        ap (λ ps. triples (listed cs ps)) (spliced_places cs guard n f b k s ∙ first.whole) ∙ ap triples (listed-append cs (f ∷ []) first.behind) ∙ triples-append (listed cs (f ∷ [])) (listed cs first.behind)
+        ap (λ ps. triples (listed cs ps)) (span_places cs f b k s ∙ first.whole) ∙ ap triples (listed-append cs (f ∷ []) first.behind) ∙ triples-append (listed cs (f ∷ [])) (listed cs first.behind)
         ∙ (λ i. one_listed cs f la ea x ex all_first.0 i ++ triples (sym (listed_other cs (with_body f None cs) f (other cs f la ea) first.behind free_first) i))
-        ∙ ap (λ ps. (la.number, x) ∷ triples (listed (with_body f None cs) ps)) (sym (spliced_places (with_body f None cs) guard n la.next.ptr b (k - 1) rest_of_first))
+        ∙ ap (λ ps. (la.number, x) ∷ triples (listed (with_body f None cs) ps)) (sym (span_places (with_body f None cs) la.next.ptr b (k - 1) rest_of_first))
 
   last : LastCut cs f b s.0
   last = last_cut cs f b s.0 (λ e. some (sym s.1 ∙ e)) s.2 s.3
@@ -453,24 +425,23 @@ module _ {B : Type 0} (cs : List (Cell Links B)) (guard : Option Place) (n : ℕ
   long_last : length last.before ≡ k - 1
   long_last = let e = ap length (sym last.whole) ∙ s.1 in omega (arith, length-append last.before (b ∷ []))
 
-  module _ (none : n ≡ 0) (la : Links) (ea : links_at cs b ≡ Some la) where
+  module _ (la : Links) (ea : links_at cs b ≡ Some la) where
     free_last : IsFresh b last.before
     free_last = all_left (λ q. same_ptr b q ≡ false) last.before [] (apart_at last.before b [] (subst IsApart last.whole s.5))
 
-    pub rest_of_last : SplicedOk (with_body b None cs) guard n f la.prev.ptr (k - 1)
+    pub rest_of_last : IsSpan (with_body b None cs) f la.prev.ptr (k - 1)
     rest_of_last = (
       last.before,
       long_last,
       row_stays cs b la ea last.before last.linked,
-      subst (λ q. HasEnds last.before f q) (ap prev_had ea) last.ends,
+      subst (λ q. HasEnds last.before f q) (ap prev_of ea) last.ends,
       held_other cs (with_body b None cs) b (other cs b la ea) last.before free_last (all_left (HasContent cs) last.before (b ∷ []) all_last),
       apart_left last.before (b ∷ []) (subst IsApart last.whole s.5),
-      none_beside cs b la ea guard n none last.before,
     )
 
-    pub last_out : (x : B) → body_at cs b ≡ Some x → spliced_list cs k f ≡ spliced_list (with_body b None cs) (k - 1) f ++ (la.number, x) ∷ []
+    pub last_out : (x : B) → body_at cs b ≡ Some x → span_triples cs k f ≡ span_triples (with_body b None cs) (k - 1) f ++ (la.number, x) ∷ []
     unfolding last rest_of_last
     last_out x ex =
-        ap (λ ps. triples (listed cs ps)) (spliced_places cs guard n f b k s ∙ last.whole) ∙ ap triples (listed-append cs last.before (b ∷ [])) ∙ triples-append (listed cs last.before) (listed cs (b ∷ []))
+        ap (λ ps. triples (listed cs ps)) (span_places cs f b k s ∙ last.whole) ∙ ap triples (listed-append cs last.before (b ∷ [])) ∙ triples-append (listed cs last.before) (listed cs (b ∷ []))
         ∙ (λ i. triples (sym (listed_other cs (with_body b None cs) b (other cs b la ea) last.before free_last) i) ++ one_listed cs b la ea x ex mine i)
-        ∙ ap (λ ps. triples (listed (with_body b None cs) ps) ++ (la.number, x) ∷ []) (sym (spliced_places (with_body b None cs) guard n f la.prev.ptr (k - 1) rest_of_last))
+        ∙ ap (λ ps. triples (listed (with_body b None cs) ps) ++ (la.number, x) ∷ []) (sym (span_places (with_body b None cs) f la.prev.ptr (k - 1) rest_of_last))

@@ -1,22 +1,21 @@
 -- Nodes are made on top of others, and taken off again.
-use Rattle.std.proofs.Common.{◌≡◌, ℕ, suc, zero, ◌+◌, ◌-◌, ◌<◌, ◌≤◌, ◌^◌, cond, List, [], ◌∷◌, length, Option, Some, None, refl, sym, ap, ◌∙◌, subst, arith}
-use Rattle.std.specs.List.{AllByRecursion}
+use Rattle.std.proofs.Common.{◌≡◌, ℕ, suc, zero, ◌+◌, ◌-◌, ◌<◌, ◌≤◌, ◌^◌, cond, List, ◌∷◌, length, Option, Some, None, refl, sym, ap, ◌∙◌, subst, arith}
 use Rattle.std.specs.Option.{IsSome}
 use denote.RawPtr.{Ptr}
 use Rattle.lhm_ring.specs.declared.block.Place.{Place}
 use Rattle.lhm_ring.specs.declared.links.Links.{Links}
 use Rattle.lhm_ring.specs.Cells.{Cell, cell, cell_at, places, links_of, links_at, without, IsApart, IsAt}
-use Rattle.lhm_ring.specs.Rings.{links, spot, link_had, IsRing, HasContent, listed, spliced_list, SplicedOk, HeldAndSpares, held_and_spares, ring_list, RingOk}
+use Rattle.lhm_ring.specs.Rings.{links, ptr_of_some, link_of, IsRing, listed, ring_list, RingOk}
+use Rattle.lhm_ring.specs.RingState.{State, state}
 use Rattle.lhm_ring.specs.Stacks.{IsStacked, HasStack, Unstacks, HasGuard}
 use Rattle.lhm_ring.proofs.Apart.{same_ptr_refl}
 use Rattle.lhm_ring.proofs.Rows.{apart_tail}
 use Rattle.lhm_ring.proofs.Moves.{ring_listed}
-use Rattle.lhm_ring.proofs.More.{link_links, more, more_listed, Guarded, guard_made}
-use Rattle.lhm_ring.proofs.Splicing.{none_spliced, none_listed}
+use Rattle.lhm_ring.proofs.NodeAdded.{link_links, more, more_listed, Guarded, guard_made}
 use Rattle.lhm_ring.proofs.Options.{some_same, none_some}
 
 -- a place is known by its pointer
-same_place : (a b : Option Place) → spot a ≡ spot b → a ≡ b
+same_place : (a b : Option Place) → ptr_of_some a ≡ ptr_of_some b → a ≡ b
 same_place None None e = refl
 same_place None (Some b) e = absurd (none_some b.ptr e)
 same_place (Some a) None e = absurd (none_some a.ptr (sym e))
@@ -59,60 +58,39 @@ module _ {B : Type 0} where
 
   -- the node on top is taken off
   pub off : (cs : List (Cell Links B)) (g : Place) (s : Option Place) (n : ℕ) (ds : List (Cell Links B)) (f : Option Place) → 0 < n → IsStacked cs g s n ds f
-      → (at : Place) → f ≡ Some at → (la : Links) → links_at ds at.ptr ≡ Some la → (next : Option Place) → spot next ≡ link_had (Some la) → (es : List (Cell Links B)) → es ≡ without at.ptr ds → IsStacked cs g s (n - 1) es next
+      → (at : Place) → f ≡ Some at → (la : Links) → links_at ds at.ptr ≡ Some la → (next : Option Place) → ptr_of_some next ≡ link_of (Some la) → (es : List (Cell Links B)) → es ≡ without at.ptr ds → IsStacked cs g s (n - 1) es next
   unfolding IsStacked
   off cs g s zero ds f h k at e la ea next en es ee = absurd (omega arith)
   off cs g s (suc n) ds f h k at e la ea next en es ee =
       let p = k.0 in let is : at ≡ p = some_same at p (sym e ∙ k.3) in let l = links g k.2 in
       let same : la ≡ l = some_same la l (sym ea ∙ (λ i. links_at (k.4 i) (is i).ptr) ∙ head_links p.ptr l k.1) in
-      let after : next ≡ k.2 = same_place next k.2 (en ∙ ap (λ z. link_had (Some z)) same ∙ link_links g k.2) in
+      let after : next ≡ k.2 = same_place next k.2 (en ∙ ap (λ z. link_of (Some z)) same ∙ link_links g k.2) in
       let left : es ≡ k.1 = ee ∙ (λ i. without (is i).ptr (k.4 i)) ∙ head_without p.ptr l k.1 in
       let less : n ≡ suc n - 1 = omega arith in
       subst (λ m. IsStacked cs g s m es next) less (subst (λ (z : List (Cell Links B) × Option Place). IsStacked cs g s n z.0 z.1) (λ i. (sym left i, sym after i)) k.5)
 
   -- a ring with spare nodes more
-  pub stacked : (n : ℕ) (cs : List (Cell Links B)) (g : Place) (s : Option Place) (ds : List (Cell Links B)) (f : Option Place) (ps ss : List Ptr) → IsStacked cs g s n ds f → IsApart (places ds) → IsRing cs g.ptr ps (spot s) ss
-      → (qs : List Ptr) × IsRing ds g.ptr ps (spot f) qs × (length qs ≡ n + length ss) × (listed ds ps ≡ listed cs ps)
+  pub stacked : (n : ℕ) (cs : List (Cell Links B)) (g : Place) (s : Option Place) (ds : List (Cell Links B)) (f : Option Place) (ps ss : List Ptr) → IsStacked cs g s n ds f → IsApart (places ds) → IsRing cs g.ptr ps (ptr_of_some s) ss
+      → (qs : List Ptr) × IsRing ds g.ptr ps (ptr_of_some f) qs × (length qs ≡ n + length ss) × (listed ds ps ≡ listed cs ps)
   unfolding IsStacked
-  stacked zero cs g s ds f ps ss k d r = (ss, subst (λ (z : List (Cell Links B) × Option Place). IsRing z.0 g.ptr ps (spot z.1) ss) (λ i. (sym k.0 i, sym k.1 i)) r, omega arith, ap (λ zs. listed zs ps) k.0)
+  stacked zero cs g s ds f ps ss k d r = (ss, subst (λ (z : List (Cell Links B) × Option Place). IsRing z.0 g.ptr ps (ptr_of_some z.1) ss) (λ i. (sym k.0 i, sym k.1 i)) r, omega arith, ap (λ zs. listed zs ps) k.0)
   stacked (suc n) cs g s ds f ps ss k d r =
       let p = k.0 in let es = k.1 in let h = k.2 in let l = links g h in
       let d' : IsApart (places (cell p.ptr l None ∷ es)) = subst (λ zs. IsApart (places zs)) k.4 d in
       let on = stacked n cs g s es h ps ss k.5 (apart_tail p.ptr (places es) d') r in
-      let ring : IsRing (cell p.ptr l None ∷ es) g.ptr ps (Some p.ptr) (p.ptr ∷ on.0) = more es p.ptr l d' g.ptr ps (spot h) on.0 on.1 (link_links g h) in
+      let ring : IsRing (cell p.ptr l None ∷ es) g.ptr ps (Some p.ptr) (p.ptr ∷ on.0) = more es p.ptr l d' g.ptr ps (ptr_of_some h) on.0 on.1 (link_links g h) in
       let long = on.2 in (
         p.ptr ∷ on.0,
-        subst (λ (z : List (Cell Links B) × Option Place). IsRing z.0 g.ptr ps (spot z.1) (p.ptr ∷ on.0)) (λ i. (sym k.4 i, sym k.3 i)) ring,
+        subst (λ (z : List (Cell Links B) × Option Place). IsRing z.0 g.ptr ps (ptr_of_some z.1) (p.ptr ∷ on.0)) (λ i. (sym k.4 i, sym k.3 i)) ring,
         omega arith,
-        ap (λ zs. listed zs ps) k.4 ∙ more_listed es p.ptr l d' g.ptr ps (spot h) on.0 on.1 (link_links g h) ∙ on.3,
+        ap (λ zs. listed zs ps) k.4 ∙ more_listed es p.ptr l d' g.ptr ps (ptr_of_some h) on.0 on.1 (link_links g h) ∙ on.3,
       )
 
-  pub guarded : (cs ds : List (Cell Links B)) (guard spare : Option Place) (n m : ℕ) (g : Place) (v : HeldAndSpares B) → HasGuard guard cs ds g → RingOk cs guard spare n m → held_and_spares (ring_list cs guard n) m ≡ v → Guarded ds (Some g) spare n m g v
+  pub guarded : (cs ds : List (Cell Links B)) (guard spare : Option Place) (n m : ℕ) (g : Place) (v : State B) → HasGuard guard cs ds g → RingOk cs guard spare n m → state (ring_list cs guard n) m ≡ v → Guarded ds (Some g) spare n m g v
   guarded cs ds None spare n m g v h ok w = guard_made cs ds None spare n m g v refl ok w h
   guarded cs ds (Some k) spare n m g v h ok w =
       let P : (List (Cell Links B) × Place) → Type 0 = λ z. Guarded z.0 (Some z.1) spare n m z.1 v in
       subst P (λ i. (sym h.0 i, sym h.1 i)) (record { is = refl; ok = ok; view = w })
-
-  -- no node, nothing held
-  no_content : (p : Ptr) → HasContent {B = B} [] p → ⊥
-  unfolding cell_at
-  no_content p h = none_some h.0 h.1
-
-  none_of : (cs : List (Cell Links B)) → cs ≡ [] → (rs : List Ptr) → AllByRecursion (HasContent cs) rs → length rs ≡ 0
-  none_of cs e [] a = refl
-  none_of cs e (r ∷ rs) a = absurd (no_content r (subst (λ zs. HasContent zs r) e a.0))
-
-  none_in : (cs : List (Cell Links B)) (guard : Option Place) (n : ℕ) (f b : Ptr) (k : ℕ) → cs ≡ [] → SplicedOk cs guard n f b k → k ≡ 0
-  none_in cs guard n f b k e s = sym s.1 ∙ none_of cs e s.0 s.4
-
-  pub spliced_guarded : (cs ds : List (Cell Links B)) (guard spare : Option Place) (n m : ℕ) (g : Place) (f b : Ptr) (k : ℕ) → HasGuard guard cs ds g → RingOk cs guard spare n m → SplicedOk cs guard n f b k → SplicedOk ds (Some g) n f b k
-  spliced_guarded cs ds None spare n m g f b k h ok s = subst (λ j. SplicedOk ds (Some g) n f b j) (sym (none_in cs None n f b k ok.0 s)) (none_spliced ds (Some g) n f b)
-  spliced_guarded cs ds (Some q) spare n m g f b k h ok s = subst (λ (z : List (Cell Links B) × Place). SplicedOk z.0 (Some z.1) n f b k) (λ i. (sym h.0 i, sym h.1 i)) s
-
-  pub list_guarded : (cs ds : List (Cell Links B)) (guard spare : Option Place) (n m : ℕ) (g : Place) (f b : Ptr) (k : ℕ) → HasGuard guard cs ds g → RingOk cs guard spare n m → SplicedOk cs guard n f b k → spliced_list ds k f ≡ spliced_list cs k f
-  list_guarded cs ds None spare n m g f b k h ok s =
-      let e = none_in cs None n f b k ok.0 s in ap (λ j. spliced_list ds j f) e ∙ none_listed ds f ∙ sym (ap (λ j. spliced_list cs j f) e ∙ none_listed cs f)
-  list_guarded cs ds (Some q) spare n m g f b k h ok s = ap (λ zs. spliced_list zs k f) h.0
 
   pub grown_ring : (cs ds : List (Cell Links B)) (g : Place) (spare f : Option Place) (n m k : ℕ) → RingOk cs (Some g) spare n m → IsStacked cs g spare k ds f → IsApart (places ds) → n + m + k ≤ 2 ^ 57 → RingOk ds (Some g) f n (m + k)
   grown_ring cs ds g spare f n m k ok s d small =
@@ -120,4 +98,4 @@ module _ {B : Type 0} where
 
   pub grown_list : (cs ds : List (Cell Links B)) (g : Place) (spare f : Option Place) (n m k : ℕ) → RingOk cs (Some g) spare n m → IsStacked cs g spare k ds f → IsApart (places ds) → ring_list ds (Some g) n ≡ ring_list cs (Some g) n
   grown_list cs ds g spare f n m k ok s d =
-      let t = stacked k cs g spare ds f ok.0 ok.1 s d ok.2 in ring_listed ds g.ptr ok.0 (spot f) t.0 n t.1 ok.3 ∙ t.3 ∙ sym (ring_listed cs g.ptr ok.0 (spot spare) ok.1 n ok.2 ok.3)
+      let t = stacked k cs g spare ds f ok.0 ok.1 s d ok.2 in ring_listed ds g.ptr ok.0 (ptr_of_some f) t.0 n t.1 ok.3 ∙ t.3 ∙ sym (ring_listed cs g.ptr ok.0 (ptr_of_some spare) ok.1 n ok.2 ok.3)

@@ -4,7 +4,7 @@ use denote.RawPtr.{Ptr}
 use Rattle.lhm_ring.specs.declared.block.Place.{Place}
 use Rattle.lhm_ring.specs.declared.links.Links.{Links}
 use Rattle.lhm_ring.specs.Cells.{Cell, cell, same_ptr, cell_at, links_of, body_of, links_at, body_at, IsAt, change, with_links}
-use Rattle.lhm_ring.specs.Rings.{next_had, prev_had, link_had, guard_had, there_had, is_there, content_had, content_at, IsJoined}
+use Rattle.lhm_ring.specs.Rings.{next_of, prev_of, link_of, guard_of, has_links, is_there, content_of, content_at, IsJoined}
 use Rattle.lhm_ring.specs.RingState.{Held}
 use Rattle.lhm_ring.proofs.Apart.{same_ptr_eq}
 use Rattle.lhm_ring.proofs.Options.{none_some, some_same}
@@ -19,9 +19,9 @@ cond_same false u v h = refl
 
 -- two links that show the same of what a node holds
 abbrev pub ShowsSame : Links → Links → Type 0
-ShowsSame l la = (l.number ≡ la.number) × (l.guard ≡ la.guard) × (link_had (Some l) ≡ link_had (Some la))
+ShowsSame l la = (l.number ≡ la.number) × (l.guard ≡ la.guard) × (link_of (Some l) ≡ link_of (Some la))
 
-pub shown_same : {B : Type 0} (q : Ptr) (l la : Links) → ShowsSame l la → (b : Option B) → content_had q (Some l) b ≡ content_had q (Some la) b
+pub shown_same : {B : Type 0} (q : Ptr) (l la : Links) → ShowsSame l la → (b : Option B) → content_of q (Some l) b ≡ content_of q (Some la) b
 shown_same q l la h None = refl
 shown_same q l la h (Some x) = λ i. cond (h.1 i) None (Some (record { at = q; number = h.0 i; link = h.2 i; pair = x }))
 
@@ -62,7 +62,7 @@ module _ {B : Type 0} where
   links_seen None la e = absurd (none_some la e)
   links_seen (Some c) la e = (c, refl)
 
-  pub content_links : (p : Ptr) (o : Option Links) (b : Option B) (t : Held B) → content_had p o b ≡ Some t → (l : Links) × (o ≡ Some l)
+  pub content_links : (p : Ptr) (o : Option Links) (b : Option B) (t : Held B) → content_of p o b ≡ Some t → (l : Links) × (o ≡ Some l)
   content_links p None b t e = absurd (none_some t e)
   content_links p (Some l) b t e = (l, refl)
 
@@ -95,9 +95,9 @@ module _ {B : Type 0} (p : Ptr) (l : Links) where
 
   pub content_kept : (cs : List (Cell Links B)) (la : Links) → links_at cs p ≡ Some la → ShowsSame l la → (q : Ptr) → content_at (with_links p l cs) q ≡ content_at cs q
   content_kept cs la e h q =
-      ap (λ b. content_had q (links_at (with_links p l cs) q) b) (body_kept cs la e q) ∙ read_kept (λ o. content_had q o (body_at cs q)) cs la e (shown_same q l la h (body_at cs q)) q
+      ap (λ b. content_of q (links_at (with_links p l cs) q) b) (body_kept cs la e q) ∙ read_kept (λ o. content_of q o (body_at cs q)) cs la e (shown_same q l la h (body_at cs q)) q
 
-there_is : (o : Option Links) → there_had o ≡ true → (l : Links) × (o ≡ Some l)
+there_is : (o : Option Links) → has_links o ≡ true → (l : Links) × (o ≡ Some l)
 there_is None e = absurd cc
 there_is (Some l) e = (l, refl)
 
@@ -106,7 +106,7 @@ module _ {B : Type 0} where
   is_at cs p e = there_is (links_at cs p) e
 
   pub is_still_at : (cs ds : List (Cell Links B)) (p : Ptr) (l la : Links) (q : Ptr) → links_at cs p ≡ Some la → ds ≡ with_links p l cs → is_there cs q ≡ true → IsAt ds q
-  is_still_at cs ds p l la q e d t = is_at ds q (ap (λ es. is_there es q) d ∙ read_kept p l there_had cs la e refl q ∙ t)
+  is_still_at cs ds p l la q e d t = is_at ds q (ap (λ es. is_there es q) d ∙ read_kept p l has_links cs la e refl q ∙ t)
 
   pub joined : (cs es ds : List (Cell Links B)) (a b : Place) (la lb : Links)
       → links_at cs a.ptr ≡ Some la → es ≡ with_links a.ptr (record la { next = b }) cs
@@ -116,12 +116,12 @@ module _ {B : Type 0} where
       let fs : List (Cell Links B) = with_links a.ptr l cs in
       let ef : links_at fs b.ptr ≡ Some lb = sym (ap (λ zs. links_at zs b.ptr) e1) ∙ eb in
       let made : IsJoined cs (with_links b.ptr m fs) a.ptr b.ptr = record {
-        next = λ q. read_kept b.ptr m next_had fs lb ef refl q ∙ read_set a.ptr l next_had cs la ea q;
-        prev = λ q. read_set b.ptr m prev_had fs lb ef q ∙ ap (λ r. cond (same_ptr b.ptr q) a.ptr r) (read_kept a.ptr l prev_had cs la ea refl q);
-        link = λ q. read_kept b.ptr m link_had fs lb ef refl q ∙ read_kept a.ptr l link_had cs la ea refl q;
-        guard = λ q. read_kept b.ptr m guard_had fs lb ef refl q ∙ read_kept a.ptr l guard_had cs la ea refl q;
+        next = λ q. read_kept b.ptr m next_of fs lb ef refl q ∙ read_set a.ptr l next_of cs la ea q;
+        prev = λ q. read_set b.ptr m prev_of fs lb ef q ∙ ap (λ r. cond (same_ptr b.ptr q) a.ptr r) (read_kept a.ptr l prev_of cs la ea refl q);
+        link = λ q. read_kept b.ptr m link_of fs lb ef refl q ∙ read_kept a.ptr l link_of cs la ea refl q;
+        guard = λ q. read_kept b.ptr m guard_of fs lb ef refl q ∙ read_kept a.ptr l guard_of cs la ea refl q;
         content = λ q. content_kept b.ptr m fs lb ef (refl, refl, refl) q ∙ content_kept a.ptr l cs la ea (refl, refl, refl) q;
-        there = λ q. read_kept b.ptr m there_had fs lb ef refl q ∙ read_kept a.ptr l there_had cs la ea refl q;
+        there = λ q. read_kept b.ptr m has_links fs lb ef refl q ∙ read_kept a.ptr l has_links cs la ea refl q;
         count = length-change b.ptr (λ c. cell c.at m c.body) fs ∙ length-change a.ptr (λ c. cell c.at l c.body) cs;
       } in
       subst (λ zs. IsJoined cs zs a.ptr b.ptr) (sym (e2 ∙ ap (λ zs. with_links b.ptr m zs) e1)) made

@@ -1,6 +1,7 @@
 -- The nodes that a ring owns, as the proofs see them: a list in no order of its own.
 use Rattle.std.specs.Prelude.{◌≡◌, Bool, true, false, ◌&&◌, ◌==◌, cond, List, [], ◌∷◌, map, Option, Some, None}
-use Rattle.std.specs.List.{IsDistinct, IsDistinct-prop}
+use Rattle.std.specs.List.{IsDistinct, IsDistinct-prop, AllByRecursion, AllByRecursion-prop}
+use mathlib.Core.Bool.{Bool-set}
 use denote.RawPtr.{Ptr, block_ptr, null_ptr}
 
 -- a node: where it lies, its links, and what it holds
@@ -22,6 +23,23 @@ IsApart = IsDistinct same_ptr
 
 pub IsApart-prop : (ps : List Ptr) → IsProp (IsApart ps)
 IsApart-prop = IsDistinct-prop same_ptr
+
+-- whether p is the start of a block of memory
+abbrev pub is_block : Ptr → Bool
+is_block (block_ptr b o) = o == 0
+is_block null_ptr = false
+
+-- the same, or null: p may be compared with null
+abbrev pub is_null_or_block : Ptr → Bool
+is_null_or_block (block_ptr b o) = o == 0
+is_null_or_block null_ptr = true
+
+-- all of them are the starts of blocks
+abbrev pub AreBlocks : List Ptr → Type 0
+AreBlocks = AllByRecursion (λ p. is_block p ≡ true)
+
+pub AreBlocks-prop : (ps : List Ptr) → IsProp (AreBlocks ps)
+AreBlocks-prop = AllByRecursion-prop _ (λ p. Bool-set _ _)
 
 -- o has the key k, or the value v
 abbrev pub IsKey : {K V : Type 0} → K → Option (K × V) → Type 0

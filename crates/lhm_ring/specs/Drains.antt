@@ -1,24 +1,20 @@
--- What was spliced is handed out, while its ring waits.
-use Rattle.std.specs.Prelude.{◌≡◌, ℕ, Option}
-use Rattle.std.specs.Borrow.{MutBor}
-use Rattle.lhm_ring.specs.RingState.{State}
+-- What a contract sees of a `Drain`.
+use Rattle.std.specs.Prelude.{◌≡◌, ℕ, List, Option}
+use Rattle.std.specs.Borrow.{GName}
 use Rattle.lhm_ring.specs.Splices.{HandsOutFirst, HandsOutLast}
 use Rattle.lhm_ring.specs.declared.drain.Drain.{Drain}
 
 module _ {K V : Type 0} where
-  -- the ring that was spliced, and as it is now
-  abbrev pub ring_ref : Drain K V → MutBor (State (K × V))
-  ring_ref d = d.ring
+  -- the name of the borrow that ends with it
+  abbrev pub drain_name : Drain K V → GName
+  drain_name d = d.anchor.ghost_name
 
-  abbrev pub ring_of : Drain K V → State (K × V)
-  ring_of d = d.ring.now
-
-  -- the same ring, with as many spare nodes
-  abbrev pub DrainKeeps : Drain K V → Drain K V → Type 0
-  DrainKeeps d e = ((ring_ref e).ghost_name ≡ (ring_ref d).ghost_name) × ((ring_of e).spares ≡ (ring_of d).spares)
+  -- what is still to be handed out
+  abbrev pub drain_rest : Drain K V → List (ℕ × (K × V))
+  drain_rest d = d.remaining
 
   abbrev pub DrainSteps : Drain K V → Option (ℕ × K × V) → Drain K V → Type 0
-  DrainSteps d r e = DrainKeeps d e × HandsOutFirst (ring_of d).spliced r (ring_of e).spliced
+  DrainSteps d r e = HandsOutFirst (drain_rest d) r (drain_rest e) × (drain_name e ≡ drain_name d)
 
   abbrev pub DrainStepsBack : Drain K V → Option (ℕ × K × V) → Drain K V → Type 0
-  DrainStepsBack d r e = DrainKeeps d e × HandsOutLast (ring_of d).spliced r (ring_of e).spliced
+  DrainStepsBack d r e = HandsOutLast (drain_rest d) r (drain_rest e) × (drain_name e ≡ drain_name d)

@@ -10,19 +10,17 @@ pub record Held (B : Type 0) : Type 0 where
   pub link : Option Ptr
   pub pair : B
 
--- what callers see of a ring: what it holds, in order, how many spare nodes it has, and what was spliced and is
--- still to be handed out
+-- what callers see of a ring: what it holds, in order, and how many spare nodes it has
 pub record State (B : Type 0) : Type 0 where
   pub held : List (Held B)
   pub spares : ℕ
-  pub spliced : List (ℕ × B)
 
 module _ {B : Type 0} where
   abbrev pub held : Ptr → ℕ → Option Ptr → B → Held B
   held p n l x = record { at = p; number = n; link = l; pair = x }
 
-  abbrev pub state : List (Held B) → ℕ → List (ℕ × B) → State B
-  state hs n xs = record { held = hs; spares = n; spliced = xs }
+  abbrev pub state : List (Held B) → ℕ → State B
+  state hs n = record { held = hs; spares = n }
 
   -- the numbers with the keys and values
   abbrev pub triples : List (Held B) → List (ℕ × B)

@@ -8,9 +8,9 @@ use Rattle.lhm_ring.specs.declared.block.Place.{Place}
 use Rattle.lhm_ring.specs.declared.links.Links.{Links}
 
 -- where a place is, if it is one
-abbrev pub spot : Option Place → Option Ptr
-spot None = None
-spot (Some q) = Some q.ptr
+abbrev pub ptr_of_some : Option Place → Option Ptr
+ptr_of_some None = None
+ptr_of_some (Some q) = Some q.ptr
 
 -- the links, of which the further one leads to o
 abbrev pub relinked : Option Place → Links → Links
@@ -22,51 +22,51 @@ abbrev pub links : Place → Option Place → Links
 links g o = relinked o (record { prev = g; next = g; link = g; number = 0; linked = false; guard = false })
 
 -- what links say of their node: where it leads, and whether it is there at all
-abbrev pub next_had : Option Links → Ptr
-next_had None = null_ptr
-next_had (Some l) = l.next.ptr
+abbrev pub next_of : Option Links → Ptr
+next_of None = null_ptr
+next_of (Some l) = l.next.ptr
 
-abbrev pub prev_had : Option Links → Ptr
-prev_had None = null_ptr
-prev_had (Some l) = l.prev.ptr
+abbrev pub prev_of : Option Links → Ptr
+prev_of None = null_ptr
+prev_of (Some l) = l.prev.ptr
 
-abbrev pub link_had : Option Links → Option Ptr
-link_had None = None
-link_had (Some l) = cond l.linked (Some l.link.ptr) None
+abbrev pub link_of : Option Links → Option Ptr
+link_of None = None
+link_of (Some l) = cond l.linked (Some l.link.ptr) None
 
-abbrev pub guard_had : Option Links → Bool
-guard_had None = false
-guard_had (Some l) = l.guard
+abbrev pub guard_of : Option Links → Bool
+guard_of None = false
+guard_of (Some l) = l.guard
 
-abbrev pub there_had : Option Links → Bool
-there_had None = false
-there_had (Some l) = true
+abbrev pub has_links : Option Links → Bool
+has_links None = false
+has_links (Some l) = true
 
 module _ {B : Type 0} where
   abbrev pub next_at : List (Cell Links B) → Ptr → Ptr
-  next_at cs p = next_had (links_at cs p)
+  next_at cs p = next_of (links_at cs p)
 
   abbrev pub prev_at : List (Cell Links B) → Ptr → Ptr
-  prev_at cs p = prev_had (links_at cs p)
+  prev_at cs p = prev_of (links_at cs p)
 
   -- where the further link of the node at p leads
   abbrev pub link_at : List (Cell Links B) → Ptr → Option Ptr
-  link_at cs p = link_had (links_at cs p)
+  link_at cs p = link_of (links_at cs p)
 
   abbrev pub is_guard : List (Cell Links B) → Ptr → Bool
-  is_guard cs p = guard_had (links_at cs p)
+  is_guard cs p = guard_of (links_at cs p)
 
   abbrev pub is_there : List (Cell Links B) → Ptr → Bool
-  is_there cs p = there_had (links_at cs p)
+  is_there cs p = has_links (links_at cs p)
 
   -- the number, the link, the key and the value at p: none at a guard
-  abbrev pub content_had : Ptr → Option Links → Option B → Option (Held B)
-  content_had p None b = None
-  content_had p (Some l) None = None
-  content_had p (Some l) (Some b) = cond l.guard None (Some (record { at = p; number = l.number; link = link_had (Some l); pair = b }))
+  abbrev pub content_of : Ptr → Option Links → Option B → Option (Held B)
+  content_of p None b = None
+  content_of p (Some l) None = None
+  content_of p (Some l) (Some b) = cond l.guard None (Some (record { at = p; number = l.number; link = link_of (Some l); pair = b }))
 
   abbrev pub content_at : List (Cell Links B) → Ptr → Option (Held B)
-  content_at cs p = content_had p (links_at cs p) (body_at cs p)
+  content_at cs p = content_of p (links_at cs p) (body_at cs p)
 
   -- b comes right after a
   abbrev pub Edge : List (Cell Links B) → Ptr → Ptr → Type 0
@@ -129,23 +129,15 @@ abbrev pub HasEnds : List Ptr → Ptr → Ptr → Type 0
 HasEnds [] f b = Unit {0}
 HasEnds (p ∷ ps) f b = (p ≡ f) × (last_place p ps ≡ b)
 
--- what is held and the spare nodes, without what was spliced
-pub record HeldAndSpares (B : Type 0) : Type 0 where
-  pub held : List (Held B)
-  pub spares : ℕ
-
 module _ {B : Type 0} where
-  abbrev pub held_and_spares : List (Held B) → ℕ → HeldAndSpares B
-  held_and_spares hs n = record { held = hs; spares = n }
-
   -- the n places from p on
   unfoldable pub places_from : List (Cell Links B) → ℕ → Ptr → List Ptr
   places_from cs zero p = []
   places_from cs (suc n) p = p ∷ places_from cs n (next_at cs p)
 
-  -- what the n nodes from p on hold
-  abbrev pub spliced_list : List (Cell Links B) → ℕ → Ptr → List (ℕ × B)
-  spliced_list cs n p = triples (listed cs (places_from cs n p))
+  -- the triples of the n nodes from p on
+  abbrev pub span_triples : List (Cell Links B) → ℕ → Ptr → List (ℕ × B)
+  span_triples cs n p = triples (listed cs (places_from cs n p))
 
   -- what n nodes hold from the guard on
   abbrev pub ring_list : List (Cell Links B) → Option Place → ℕ → List (Held B)
@@ -155,15 +147,13 @@ module _ {B : Type 0} where
   -- the nodes are a ring of n held and m spare ones, or there is no node and no guard
   abbrev pub RingOk : List (Cell Links B) → Option Place → Option Place → ℕ → ℕ → Type 0
   RingOk cs None spare n m = (cs ≡ []) × (spare ≡ None) × (n ≡ 0) × (m ≡ 0)
-  RingOk cs (Some g) spare n m = (ps : List Ptr) × (ss : List Ptr) × IsRing cs g.ptr ps (spot spare) ss × (length ps ≡ n) × (length ss ≡ m) × (n + m ≤ 2 ^ 57)
+  RingOk cs (Some g) spare n m = (ps : List Ptr) × (ss : List Ptr) × IsRing cs g.ptr ps (ptr_of_some spare) ss × (length ps ≡ n) × (length ss ≡ m) × (n + m ≤ 2 ^ 57)
 
   -- the places of what a ring holds
   abbrev pub ring_places : List (Cell Links B) → Option Place → ℕ → List Ptr
   ring_places cs None n = []
   ring_places cs (Some g) n = follow cs n g.ptr
 
-  -- k nodes that hold something, from f to b, none of them in the ring
-  abbrev pub SplicedOk : List (Cell Links B) → Option Place → ℕ → Ptr → Ptr → ℕ → Type 0
-  SplicedOk cs guard n f b k =
-      (rs : List Ptr) × (length rs ≡ k) × Linked cs rs × HasEnds rs f b × AllByRecursion (HasContent cs) rs × IsApart rs
-      × AllByRecursion (λ r. AllByRecursion (λ q. same_ptr r q ≡ false) (ring_places cs guard n)) rs
+  -- n nodes that hold something, each right after the one before, from f to b
+  abbrev pub IsSpan : List (Cell Links B) → Ptr → Ptr → ℕ → Type 0
+  IsSpan cs f b n = (rs : List Ptr) × (length rs ≡ n) × Linked cs rs × HasEnds rs f b × AllByRecursion (HasContent cs) rs × IsApart rs

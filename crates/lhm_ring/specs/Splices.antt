@@ -1,11 +1,13 @@
 -- The held nodes of a ring become spare ones all at once.
-use Rattle.std.specs.Prelude.{◌≡◌, ℕ, true, List, [], ◌∷◌, ◌++◌, length, Option, Some, None}
+use Rattle.std.specs.Prelude.{◌≡◌, ℕ, ◌+◌, true, List, [], ◌∷◌, ◌++◌, length, Option, Some, None}
 use Rattle.std.specs.List.{AllByRecursion}
 use denote.RawPtr.{Ptr}
 use Rattle.lhm_ring.specs.Cells.{Cell, IsApart}
-use Rattle.lhm_ring.specs.Rings.{Linked, Chained, next_at, prev_at, is_there, is_guard, content_at}
-use Rattle.lhm_ring.specs.RingState.{Held}
+use Rattle.lhm_ring.specs.Rings.{Linked, Chained, next_at, prev_at, is_there, is_guard, content_at, ring_list, RingOk, IsSpan, span_triples}
+use Rattle.lhm_ring.specs.RingState.{Held, triples}
+use Rattle.lhm_ring.specs.declared.block.Place.{Place}
 use Rattle.lhm_ring.specs.declared.links.Links.{Links}
+use Rattle.lhm_ring.specs.declared.splice.Spliced.{Spliced}
 
 -- the places ps, the last first, and then ss
 abbrev pub onto : List Ptr → List Ptr → List Ptr
@@ -45,6 +47,15 @@ module _ {B : Type 0} where
   -- in ds the nodes of the row are spare too, and s is the first spare one
   abbrev pub SparesRow : List (Cell Links B) → Ptr → ℕ → Option Ptr → List (Cell Links B) → Option Ptr → Type 0
   SparesRow cs f n spare ds s = (ps ss : List Ptr) → IsRow cs f n spare ps ss → SameButLinks cs ds × Chained ds s (onto ps ss)
+
+  -- the nodes are a ring of n held ones
+  abbrev pub HasRing : List (Cell Links B) → Option Place → Option Place → ℕ → Type 0
+  HasRing cs guard spare n = (m : ℕ) × RingOk cs guard spare n m
+
+  -- in ds all nodes of the ring are spare, and s says between which lies what it held
+  abbrev pub SplicesRing : List (Cell Links B) → Option Place → Option Place → ℕ → List (Cell Links B) → Spliced → Type 0
+  SplicesRing cs guard spare n ds s =
+      (m : ℕ) → RingOk cs guard spare n m → RingOk ds guard s.spare 0 (m + n) × IsSpan ds s.first.ptr s.last.ptr n × (span_triples ds n s.first.ptr ≡ triples (ring_list cs guard n))
 
 module _ {K V : Type 0} where
   -- r is the first of xs and the others are ys, or there is none

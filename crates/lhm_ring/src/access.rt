@@ -1,5 +1,6 @@
-//! What is at a position, and which positions come beside it.
-ghost use Rattle.std.specs.Prelude.{◌≡◌, ◌∷◌, ◌++◌};
+//! What is at a position, and which positions come beside it. Each call costs a constant number of steps and takes no memory.
+ghost use Rattle.std.specs.Prelude.{◌≡◌, ◌∷◌, ◌++◌, map};
+ghost use Rattle.lhm_ring.specs.Cells.{IsApart, AreBlocks};
 ghost use Rattle.std.specs.Borrow.{sem};
 ghost use Rattle.lhm_ring.specs.RingState.{IsHeld, AtHeld, ChangesOnly, linked_to, first_at, last_at};
 
@@ -8,9 +9,9 @@ use crate::ring::Ring;
 
 impl<K, V> Ring<K, V> {
     ghost use Rattle.lhm_ring.specs.Positions.{place_of, place_of_some};
-    ghost use Rattle.lhm_ring.specs.RingLends.{lends_value};
+    ghost use Rattle.lhm_ring.specs.RingAfterLoan.{lends_value};
 
-    /// The number at `at`.
+    /// Returns the number at a position.
     pub fn number(&self, at: Position<K, V>) -> u64
         requires { IsHeld self.now.held (place_of at) }
         ensures { AtHeld self.now.held (place_of at) (λ xs t ys. result ≡ t.number) }
@@ -18,7 +19,7 @@ impl<K, V> Ring<K, V> {
         self.nodes.links(at.place).number
     }
 
-    /// The key at `at`.
+    /// Returns the key at a position.
     pub fn key(&self, at: Position<K, V>) -> &K
         requires { IsHeld self.now.held (place_of at) }
         ensures { AtHeld self.now.held (place_of at) (λ xs t ys. result.now ≡ t.pair.0) }
@@ -26,7 +27,7 @@ impl<K, V> Ring<K, V> {
         self.nodes.key(at.place)
     }
 
-    /// The value at `at`.
+    /// Returns the value at a position.
     pub fn value(&self, at: Position<K, V>) -> &V
         requires { IsHeld self.now.held (place_of at) }
         ensures { AtHeld self.now.held (place_of at) (λ xs t ys. result.now ≡ t.pair.1) }
@@ -34,7 +35,7 @@ impl<K, V> Ring<K, V> {
         self.nodes.value(at.place)
     }
 
-    /// The value at `at`, for writing. All else stays as it is.
+    /// Lends the value at a position for writing. All else stays as it is.
     pub fn value_mut(&mut self, at: Position<K, V>) -> &mut V
         requires { IsHeld self.old.held (place_of at) }
         ensures* writes_back { sem 𝓛 (lends_value K.row V.row self.entry (place_of at) result) }
@@ -44,7 +45,7 @@ impl<K, V> Ring<K, V> {
         self.nodes.value_mut(at.place)
     }
 
-    /// Where the first triple is, or `None` where nothing is held.
+    /// Returns the position of the first triple, or `None` where nothing is held.
     pub fn first(&self) -> Option<Position<K, V>>
         ensures { place_of_some result ≡ first_at self.now.held }
     {
@@ -55,7 +56,7 @@ impl<K, V> Ring<K, V> {
         Some(Position::new(self.nodes.links(guard).next))
     }
 
-    /// Where the last triple is, or `None` where nothing is held.
+    /// Returns the position of the last triple, or `None` where nothing is held.
     pub fn last(&self) -> Option<Position<K, V>>
         ensures { place_of_some result ≡ last_at self.now.held }
     {
@@ -66,10 +67,11 @@ impl<K, V> Ring<K, V> {
         Some(Position::new(self.nodes.links(guard).prev))
     }
 
-    /// Where the triple right behind the one at `at` is, or `None` at the last.
+    /// Returns the position right behind one, or `None` at the last. No two triples are at one position.
     pub fn next(&self, at: Position<K, V>) -> Option<Position<K, V>>
         requires { IsHeld self.now.held (place_of at) }
-        ensures { AtHeld self.now.held (place_of at) (λ xs t ys. place_of_some result ≡ first_at ys) }
+        ensures next { AtHeld self.now.held (place_of at) (λ xs t ys. place_of_some result ≡ first_at ys) }
+        ensures apart { IsApart (map (λ t. t.at) self.now.held) }
     {
         let next = self.nodes.links(at.place).next;
         if self.nodes.links(next).guard {
@@ -78,7 +80,7 @@ impl<K, V> Ring<K, V> {
         Some(Position::new(next))
     }
 
-    /// Where the triple right before the one at `at` is, or `None` at the first.
+    /// Returns the position right before one, or `None` at the first.
     pub fn previous(&self, at: Position<K, V>) -> Option<Position<K, V>>
         requires { IsHeld self.now.held (place_of at) }
         ensures { AtHeld self.now.held (place_of at) (λ xs t ys. place_of_some result ≡ last_at xs) }
@@ -90,20 +92,21 @@ impl<K, V> Ring<K, V> {
         Some(Position::new(previous))
     }
 
-    /// The link at `at`, which is its caller's: where it leads, or `None`.
+    /// Returns where the link at a position leads, or `None`. The link is its caller's.
     pub fn link(&self, at: Position<K, V>) -> Option<Position<K, V>>
         requires { IsHeld self.now.held (place_of at) }
-        ensures { AtHeld self.now.held (place_of at) (λ xs t ys. place_of_some result ≡ t.link) }
+        ensures link { AtHeld self.now.held (place_of at) (λ xs t ys. place_of_some result ≡ t.link) }
+        ensures blocks { AreBlocks (map (λ t. t.at) self.now.held) }
     {
         position_at(self.nodes.links(at.place).link())
     }
 
-    /// Lets the link at `at` lead to `link`, which the ring never follows. All else stays as it is.
+    /// Lets the link at a position lead to `link`, which the ring never follows. All else stays as it is.
     pub fn set_link(&mut self, at: Position<K, V>, link: Option<Position<K, V>>)
         requires { IsHeld self.old.held (place_of at) }
         ensures held { AtHeld self.old.held (place_of at) (λ xs t ys. self.new.held ≡ xs ++ linked_to (place_of_some link) t ∷ ys) }
         ensures spares { self.new.spares ≡ self.old.spares }
-        ensures spliced { self.new.spliced ≡ self.old.spliced }
+        ensures blocks { AreBlocks (map (λ t. t.at) self.old.held) }
     {
         let place = place_at(link);
         let links = *self.nodes.links(at.place);

@@ -1,54 +1,157 @@
-//! The triples of a ring that were spliced.
-ghost use Rattle.std.specs.Prelude.{◌≡◌, ◌+◌, [], Some, IfSome, length};
+//! What a ring held is handed out, while its nodes are spare.
+ghost use Rattle.std.specs.Prelude.{◌≡◌, Some, IfSome, length};
+ghost use Rattle.std.specs.Borrow.{sem};
 ghost use Rattle.std.specs.Iterator.{at_most, UpTo};
 ghost use Rattle.std.specs.Iterator.SizeHint.{IsWithinCount};
 ghost use Rattle.lhm_ring.specs.RingState.{triples};
+ghost use Rattle.lhm_ring.specs.Splices.{HandsOutFirst, HandsOutLast};
 
+use crate::block::Place;
+use crate::content_loan::ContentLoan;
+use crate::links::Links;
+use crate::nodes::Nodes;
 use crate::ring::Ring;
+use crate::splice::{Spliced, splice};
+use crate::value_loan::Hole;
 use std::iter::{DoubleEndedIterator, ExactSizeIterator, Iterator};
+use std::marker::Model;
 
-/// Hands out the triples that a ring held, once each, from both ends.
-///
-/// Its ring holds nothing from the start, and all nodes are spare, also where this is forgotten. What was
-/// not handed out is dropped with it. Where it is forgotten, that is leaked.
-pub struct Drain<'a, K, V> {
-    ring: &'a mut Ring<K, V>,
-    ghost empty: { length ring.now.held ≡ 0 },
+/// What is still to be handed out, in the `left` nodes from `first` to `last`.
+struct Remaining<'a, K, V> {
+    nodes: &'a Nodes<Links, Hole<K>, Hole<V>>,
+    contents: ContentLoan<'a, Links, K, V>,
+    first: Place,
+    last: Place,
+    left: usize,
 }
 
-impl<K: Drop, V: Drop> Ring<K, V> {
-    ghost use Rattle.lhm_ring.specs.Drains.{ring_ref, ring_of};
+impl<'a, K, V> Model for Remaining<'a, K, V> {
+    ghost use Rattle.std.specs.Prelude.{List, ℕ};
+    ghost use Rattle.lhm_ring.specs.Rings.{IsSpan, span_triples};
+    ghost use Rattle.lhm_ring.specs.ContentLoan.{with_bodies};
 
-    /// Makes all nodes spare, and hands out what they held. The list is empty at once. The cost is linear in
-    /// the number of triples, and no memory is taken.
-    pub fn splice_all(&mut self) -> Drain<'_, K, V>
-        ensures same_ring { (ring_ref result).ghost_name ≡ self.entry.ghost_name }
-        ensures empty { (ring_of result).held ≡ [] }
-        ensures spares { (ring_of result).spares ≡ self.old.spares + length self.old.held }
-        ensures rest { (ring_of result).spliced ≡ triples self.old.held }
+    ghost Value = { List (ℕ × (K × V)) };
+
+    ghost view = { λ r. span_triples (with_bodies r.nodes.now.cells r.contents.run) r.left r.first.ptr };
+
+    ghost invariant = { λ r. IsSpan (with_bodies r.nodes.now.cells r.contents.run) r.first.ptr r.last.ptr r.left };
+}
+
+impl<'a, K, V> Remaining<'a, K, V> {
+    /// Takes the first out.
+    fn take_first(&mut self) -> Option<(u64, K, V)>
+        ensures { HandsOutFirst self.old result self.new }
     {
-        self.splice();
-        Drain { ring: self }
+        if self.left == 0 {
+            return None;
+        }
+        let at = self.first;
+        let links = *self.nodes.links(at);
+        let (key, value) = self.contents.take(at);
+        self.first = links.next;
+        self.left -= 1;
+        Some((links.number, key, value))
+    }
+
+    /// Takes the last out.
+    fn take_last(&mut self) -> Option<(u64, K, V)>
+        ensures { HandsOutLast self.old result self.new }
+    {
+        if self.left == 0 {
+            return None;
+        }
+        let at = self.last;
+        let links = *self.nodes.links(at);
+        let (key, value) = self.contents.take(at);
+        self.last = links.prev;
+        self.left -= 1;
+        Some((links.number, key, value))
+    }
+
+    fn len(&self) -> usize
+        ensures { result ≡ length self.now }
+    {
+        self.left
+    }
+}
+
+impl<K: Drop, V: Drop> Drop for Remaining<'_, K, V> {
+    fn drop(mut self) {
+        'rest: while let Some((_, key, value)) = self.take_first() {
+            drop(key);
+            drop(value);
+        }
+        let Remaining {
+            nodes: _,
+            contents: _,
+            first: _,
+            last: _,
+            left: _,
+        } = self;
+    }
+}
+
+/// An iterator that hands out the triples that a ring held, once each, from both ends. It is made by
+/// `Ring::splice_all`.
+///
+/// Its ring holds nothing, and all its nodes are spare, from that call on. Letting it go drops the triples that
+/// are left, at a step for each. Where it is forgotten, they are leaked, and nothing else is. No step takes
+/// memory, and each costs a constant number of steps.
+pub struct Drain<'a, K, V> {
+    // A borrow of no bytes, at whose end the ring is what it is then.
+    anchor: &'a mut [u8; 0],
+    remaining: Remaining<'a, K, V>,
+}
+
+impl<K, V> Ring<K, V> {
+    ghost use Rattle.lhm_ring.specs.RingAfterLoan.{lends_spliced};
+    ghost use Rattle.lhm_ring.specs.Drains.{drain_name, drain_rest};
+
+    /// Takes all triples out and hands them out in order, from both ends.
+    ///
+    /// The ring holds nothing, and all its nodes are spare, from the call on, also where the [`Drain`] is
+    /// forgotten. Positions of what it held lead nowhere then. It takes no memory and frees none. The call costs
+    /// a step for each triple.
+    pub fn splice_all(&mut self) -> Drain<'_, K, V>
+        ensures* writes_back { sem 𝓛 (lends_spliced K.row V.row self.entry (drain_name result)) }
+        ensures rest { drain_rest result ≡ triples self.old.held }
+    {
+        let left = self.len;
+        let Spliced { first, last, spare } = splice(&mut self.nodes, self.guard, self.spare, left);
+        self.spare = spare;
+        self.spares += left;
+        self.len = 0;
+        let (anchor, nodes, contents) = self.nodes.lend_bodies();
+        Drain {
+            anchor,
+            remaining: Remaining {
+                nodes,
+                contents,
+                first,
+                last,
+                left,
+            },
+        }
     }
 }
 
 impl<'a, K: Drop, V: Drop> Iterator for Drain<'a, K, V> {
-    ghost use Rattle.lhm_ring.specs.Drains.{ring_of, DrainSteps};
+    ghost use Rattle.lhm_ring.specs.Drains.{drain_rest, DrainSteps};
 
     type Item = (u64, K, V);
 
     ghost next_gives = { DrainSteps };
 
-    ghost remaining = { λ d. at_most (length (ring_of d).spliced) };
+    ghost remaining = { λ d. at_most (length (drain_rest d)) };
 
     fn next(&mut self) -> Option<(u64, K, V)> {
-        self.ring.take_first_spliced()
+        self.remaining.take_first()
     }
 
     fn size_hint(&self) -> (usize, Option<usize>)
-        ensures lower { IsWithinCount result.0 (at_most (length (ring_of self.now).spliced)) }
-        ensures upper { IfSome result.1 (UpTo (at_most (length (ring_of self.now).spliced))) }
-        ensures exact { result ≡ (length (ring_of self.now).spliced, Some (length (ring_of self.now).spliced)) }
+        ensures lower { IsWithinCount result.0 (at_most (length (drain_rest self.now))) }
+        ensures upper { IfSome result.1 (UpTo (at_most (length (drain_rest self.now)))) }
+        ensures exact { result ≡ (length (drain_rest self.now), Some (length (drain_rest self.now))) }
     {
         let len = self.len();
         (len, Some(len))
@@ -61,28 +164,22 @@ impl<'a, K: Drop, V: Drop> DoubleEndedIterator for Drain<'a, K, V> {
     ghost next_back_gives = { DrainStepsBack };
 
     fn next_back(&mut self) -> Option<(u64, K, V)> {
-        self.ring.take_last_spliced()
+        self.remaining.take_last()
     }
 }
 
 impl<'a, K: Drop, V: Drop> ExactSizeIterator for Drain<'a, K, V> {
     fn len(&self) -> usize {
-        self.ring.spliced()
+        self.remaining.len()
     }
 }
 
 impl<K: Drop, V: Drop> Drop for Drain<'_, K, V> {
-    ghost use Rattle.lhm_ring.specs.Drains.{ring_of};
-
-    fn drop(self)
-        ensures empty { self.exit.0.now.held ≡ [] }
-        ensures spares { self.exit.0.now.spares ≡ (ring_of self.entry).spares }
-        ensures none_spliced { self.exit.0.now.spliced ≡ [] }
-    {
-        let Drain { ring } = self;
-        'rest: while let Some((_, key, value)) = ring.take_first_spliced() {
-            drop(key);
-            drop(value);
-        }
+    fn drop(self) {
+        let Drain {
+            anchor: _,
+            remaining,
+        } = self;
+        drop(remaining);
     }
 }

@@ -10,7 +10,7 @@ use crate::nodes::Nodes;
 use crate::ring::{Ring, join, nowhere};
 use std::alloc::{AllocError, Global};
 
-/// No address space has room for more nodes.
+/// More nodes would take above 2^62 bytes, which no machine of today can address.
 const MOST_NODES: usize = 1 << 57;
 
 /// The guard of an empty ring, which leads to itself.
@@ -121,8 +121,8 @@ fn make_spares<K, V>(
 impl<K, V> Ring<K, V> {
     /// Makes `count` spare nodes more, and the guard where there was none.
     ///
-    /// Refused where the allocator gives too little, or where there would be more nodes than any memory has
-    /// room for. All is then as before. The cost is linear in `count`. The order stays as it is.
+    /// It takes a block of memory for each, at a step for each. It is refused where a block is, and where there would be more
+    /// than 2^57 nodes: all is then as before, and what it took is given back. The order stands, and so do positions.
     pub fn grow(&mut self, count: usize) -> Result<(), AllocError>
         ensures held { OnOk result (self.new.held ≡ self.old.held) }
         ensures spares { OnOk result (self.new.spares ≡ self.old.spares + count) }
@@ -136,7 +136,6 @@ impl<K, V> Ring<K, V> {
         let spare = make_spares(&mut self.nodes, &self.alloc, guard, self.spare, count)?;
         self.spare = spare;
         self.spares += count;
-        self.spliced = 0;
         Ok(())
     }
 
@@ -145,7 +144,6 @@ impl<K, V> Ring<K, V> {
         requires { 0 < self.old.spares }
         ensures held { self.new.held ≡ self.old.held }
         ensures spares { self.new.spares ≡ self.old.spares - 1 }
-        ensures none_spliced { self.new.spliced ≡ [] }
     {
         let _guard = self.guard.unwrap();
         let at = self.spare.unwrap();
@@ -154,10 +152,9 @@ impl<K, V> Ring<K, V> {
         deallocate(&self.alloc, room);
         self.spare = next_spare;
         self.spares -= 1;
-        self.spliced = 0;
     }
 
-    /// Frees the spare nodes. What is held stays as it is.
+    /// Frees the spare nodes, at a step for each. The guard stays, the order stands, and so do positions.
     pub fn free_spares(&mut self)
         ensures held { self.new.held ≡ self.old.held }
         ensures no_spares { self.new.spares ≡ 0 }

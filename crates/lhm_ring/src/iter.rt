@@ -2,21 +2,22 @@
 ghost use Rattle.std.specs.Prelude.{◌≡◌, Some, IfSome, length};
 ghost use Rattle.std.specs.Iterator.{at_most, UpTo};
 ghost use Rattle.std.specs.Iterator.SizeHint.{IsWithinCount};
-ghost use Rattle.lhm_ring.specs.Stretches.{IsFirstStep, IsLastStep, LendsFirstStep, LendsLastStep, ShowsFirstStep, ShowsLastStep, rest_of};
+ghost use Rattle.lhm_ring.specs.Walks.{IsFirstStep, IsLastStep, LendsFirstStep, LendsLastStep, ShowsFirstStep, ShowsLastStep, rest_of};
 
 use crate::block::Place;
 use crate::links::Links;
-use crate::loan::{Hole, Loan};
 use crate::nodes::Nodes;
 use crate::ring::{Ring, nowhere};
+use crate::value_loan::{Hole, LentValues, ValueLoan};
 use std::iter::{DoubleEndedIterator, ExactSizeIterator, Iterator};
 use std::marker::Model;
 
-/// Shows the triples that are left, each once, from both ends. It is made by `Ring::iter`.
+/// An iterator that shows the triples of a ring, each once, from both ends. It is made by `Ring::iter`.
 ///
-/// They are in the `left` nodes between the one at `before` and the one at `after`.
+/// A step costs a constant number of steps and takes no memory.
 #[derive(Drop)]
 pub struct Iter<'a, K, V> {
+    // What is left is in the `left` nodes between the one at `before` and the one at `after`.
     pub(crate) nodes: &'a Nodes<Links, K, V>,
     pub(crate) before: Place,
     pub(crate) after: Place,
@@ -27,13 +28,13 @@ impl<'a, K, V> Model for Iter<'a, K, V> {
     ghost use Rattle.std.specs.Prelude.{List};
     ghost use Rattle.lhm_ring.specs.Rings.{listed, follow};
     ghost use Rattle.lhm_ring.specs.RingState.{Held};
-    ghost use Rattle.lhm_ring.specs.Stretches.{Stretch};
+    ghost use Rattle.lhm_ring.specs.Walks.{IsBetween};
 
     ghost Value = { List (Held (K × V)) };
 
     ghost view = { λ w. listed w.nodes.now.cells (follow w.nodes.now.cells w.left w.before.ptr) };
 
-    ghost invariant = { λ w. Stretch w.nodes.now.cells w.before.ptr w.after.ptr w.left };
+    ghost invariant = { λ w. IsBetween w.nodes.now.cells w.before.ptr w.after.ptr w.left };
 }
 
 impl<'a, K, V> Iter<'a, K, V> {
@@ -106,21 +107,22 @@ impl<'a, K, V> DoubleEndedIterator for Iter<'a, K, V> {
     }
 }
 
-/// Lends the triples that are left, each once, from both ends, the value for writing. It is made by
+/// An iterator over the triples of a ring, each once, from both ends, that lends each value for writing. It is made by
 /// `Ring::iter_mut`.
 ///
-/// The links and the keys are shared, and each value is taken out of a loan.
+/// A step costs a constant number of steps and takes no memory.
 #[derive(Drop)]
 pub struct IterMut<'a, K, V> {
+    // The links and the keys are shared, and each value is taken out of a loan.
     holes: Iter<'a, K, Hole<V>>,
-    loan: Loan<'a, Links, K, V>,
+    loan: ValueLoan<'a, Links, K, V>,
 }
 
 impl<'a, K, V> Model for IterMut<'a, K, V> {
     ghost use Rattle.std.specs.Prelude.{List};
     ghost use base.Fml.{GName};
     ghost use Rattle.lhm_ring.specs.RingState.{Held};
-    ghost use Rattle.lhm_ring.specs.Stretches.{AreLent};
+    ghost use Rattle.lhm_ring.specs.Walks.{AreLent};
 
     ghost Value = { List (Held (K × V)) × GName };
 
@@ -130,12 +132,28 @@ impl<'a, K, V> Model for IterMut<'a, K, V> {
 }
 
 impl<'a, K, V> IterMut<'a, K, V> {
+    ghost use Rattle.lhm_ring.specs.LentRings.{lent_held, lent_name, IsLent};
+
+    /// Walks over what a ring holds whose values are lent, from both ends. It takes no memory, and costs a
+    /// constant number of steps.
+    pub fn of(lent: LentValues<'a, K, V>) -> IterMut<'a, K, V>
+        requires { IsLent lent }
+        ensures rest { rest_of result ≡ lent_held lent.entry }
+        ensures name { result.1 ≡ lent_name lent.entry }
+    {
+        let LentValues { ring, loan } = lent;
+        IterMut {
+            holes: ring.iter(),
+            loan,
+        }
+    }
+
     /// The first of what is left.
     fn step(&mut self) -> Option<(u64, &'a K, &'a mut V)>
         ensures { LendsFirstStep (rest_of self.old) result (rest_of self.new) }
     {
         match self.holes.step() {
-            Some((at, number, key, _)) => Some((number, key, self.loan.pull(at))),
+            Some((at, number, key, _)) => Some((number, key, self.loan.take(at))),
             None => None,
         }
     }
@@ -145,7 +163,7 @@ impl<'a, K, V> IterMut<'a, K, V> {
         ensures { LendsLastStep (rest_of self.old) result (rest_of self.new) }
     {
         match self.holes.step_back() {
-            Some((at, number, key, _)) => Some((number, key, self.loan.pull(at))),
+            Some((at, number, key, _)) => Some((number, key, self.loan.take(at))),
             None => None,
         }
     }
@@ -188,9 +206,9 @@ impl<'a, K, V> DoubleEndedIterator for IterMut<'a, K, V> {
 
 impl<K, V> Ring<K, V> {
     ghost use Rattle.std.specs.Borrow.{sem};
-    ghost use Rattle.lhm_ring.specs.RingLends.{lends_values, KeepsAllButValues};
+    ghost use Rattle.lhm_ring.specs.RingAfterLoan.{lends_values, KeepsAllButValues};
 
-    /// What is held, in order, from both ends. It takes no memory.
+    /// Returns an iterator over what is held, in order, from both ends. It takes no memory.
     pub fn iter(&self) -> Iter<'_, K, V>
         ensures { result ≡ self.now.held }
     {
@@ -210,17 +228,14 @@ impl<K, V> Ring<K, V> {
         }
     }
 
-    /// What is held, in order, from both ends, each value for writing. It takes no memory. Numbers, keys,
-    /// positions, links, the order and the spare nodes stand.
+    /// Returns an iterator over what is held, in order, from both ends, that lends each value for writing.
+    ///
+    /// It takes no memory. Numbers, keys, positions, links, the order and the spare nodes stand, whatever is written.
     pub fn iter_mut(&mut self) -> IterMut<'_, K, V>
         ensures* writes_back { sem 𝓛 (lends_values K.row V.row self.entry result.1) }
         ensures keeps { KeepsAllButValues self.old }
         ensures rest { rest_of result ≡ self.old.held }
     {
-        let (holes, loan) = self.lend();
-        IterMut {
-            holes: holes.iter(),
-            loan,
-        }
+        IterMut::of(self.lend())
     }
 }

@@ -1,13 +1,17 @@
-//! Raw nodes in a ring, for a hash map in insertion order: see `ring::Ring`.
+//! Raw nodes in a ring, for a hash map in insertion order: see `ring::Ring`, and `index::Index` for look-ups by key.
 #![tactic(auto)]
 
 pub(crate) mod access;
 pub(crate) mod block;
+pub(crate) mod content_loan;
 pub(crate) mod drain;
 pub(crate) mod grow;
+pub(crate) mod head;
+pub mod index;
+#[cfg(test)]
+mod index_tests;
 pub(crate) mod iter;
 pub(crate) mod links;
-pub(crate) mod loan;
 pub(crate) mod nodes;
 pub(crate) mod order;
 pub(crate) mod position;
@@ -15,3 +19,4 @@ pub mod ring;
 pub(crate) mod splice;
 #[cfg(test)]
 mod tests;
+pub(crate) mod value_loan;

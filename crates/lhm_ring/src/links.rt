@@ -1,6 +1,6 @@
 //! What a node of the ring has beside its key and its value.
 ghost use Rattle.std.specs.Prelude.{◌≡◌};
-ghost use Rattle.lhm_ring.specs.Rings.{link_had, spot, relinked};
+ghost use Rattle.lhm_ring.specs.Rings.{link_of, ptr_of_some, relinked};
 
 use crate::block::Place;
 
@@ -21,7 +21,7 @@ pub struct Links {
 impl Links {
     /// Where the further link leads.
     pub(crate) fn link(self) -> Option<Place>
-        ensures { spot result ≡ link_had (Some self) }
+        ensures { ptr_of_some result ≡ link_of (Some self) }
     {
         if self.linked { Some(self.link) } else { None }
     }

@@ -8,15 +8,15 @@ use crate::ring::{Ring, join};
 
 impl<K, V> Ring<K, V> {
     ghost use Rattle.lhm_ring.specs.Positions.{place_of};
-    ghost use Rattle.lhm_ring.specs.RingLends.{pair};
+    ghost use Rattle.lhm_ring.specs.RingAfterLoan.{pair};
 
-    /// Moves the triple at `at` behind all others, which stay in order. It writes links alone, whatever
-    /// the length, and takes no memory. Positions stand.
+    /// Moves the triple at a position behind all others, which stay in order.
+    ///
+    /// It writes links alone, in a constant number of steps, and takes no memory. Positions stand.
     pub fn move_to_back(&mut self, at: Position<K, V>)
         requires { IsHeld self.old.held (place_of at) }
         ensures last { AtHeld self.old.held (place_of at) (λ xs t ys. self.new.held ≡ (xs ++ ys) ++ t ∷ []) }
         ensures spares { self.new.spares ≡ self.old.spares }
-        ensures none_spliced { self.new.spliced ≡ [] }
     {
         let guard = self.guard.unwrap();
         let links = *self.nodes.links(at.place);
@@ -24,16 +24,15 @@ impl<K, V> Ring<K, V> {
         let last = self.nodes.links(guard).prev;
         join(&mut self.nodes, last, at.place);
         join(&mut self.nodes, at.place, guard);
-        self.spliced = 0;
     }
 
-    /// Puts a triple behind all others, into a spare node, and answers where. Its link leads nowhere.
-    /// The cost is the same whatever the length, and it takes no memory.
+    /// Puts a triple behind all others, into a spare node, and returns its position. Its link leads nowhere.
+    ///
+    /// It costs a constant number of steps, takes no memory, and drops nothing. The others stay in order.
     pub fn put_back(&mut self, number: u64, key: K, value: V) -> Position<K, V>
         requires { 0 < self.old.spares }
         ensures last { self.new.held ≡ self.old.held ++ held (place_of result) number None (pair key value) ∷ [] }
         ensures spares { self.new.spares ≡ self.old.spares - 1 }
-        ensures none_spliced { self.new.spliced ≡ [] }
     {
         let guard = self.guard.unwrap();
         let at = self.spare.unwrap();
@@ -54,18 +53,17 @@ impl<K, V> Ring<K, V> {
         self.spare = next_spare;
         self.spares -= 1;
         self.len += 1;
-        self.spliced = 0;
         Position::new(at)
     }
 
-    /// Takes the triple at `at` out and hands it over. The others stay in order, and its node is spare.
-    /// The cost is the same whatever the length, and it takes no memory.
+    /// Takes the triple at a position out and hands it over. Its node is spare, and the others stay in order.
+    ///
+    /// It costs a constant number of steps, and takes and frees no memory. The position leads nowhere then.
     pub fn unlink(&mut self, at: Position<K, V>) -> (u64, K, V)
         requires { IsHeld self.old.held (place_of at) }
         ensures others { AtHeld self.old.held (place_of at) (λ xs t ys. self.new.held ≡ xs ++ ys) }
         ensures triple { AtHeld self.old.held (place_of at) (λ xs t ys. result ≡ (t.number, t.pair.0, t.pair.1)) }
         ensures spares { self.new.spares ≡ self.old.spares + 1 }
-        ensures none_spliced { self.new.spliced ≡ [] }
     {
         let guard = self.guard.unwrap();
         let at = at.place;
@@ -76,7 +74,6 @@ impl<K, V> Ring<K, V> {
         self.spare = Some(at);
         self.len -= 1;
         self.spares += 1;
-        self.spliced = 0;
         (old.number, key, value)
     }
 }

@@ -1,7 +1,7 @@
 //! Where a triple of a ring is, for callers.
 ghost use Rattle.std.specs.Prelude.{◌≡◌, ⊤};
 ghost use Rattle.lhm_ring.specs.Positions.{place_of_some};
-ghost use Rattle.lhm_ring.specs.Rings.{spot};
+ghost use Rattle.lhm_ring.specs.Rings.{ptr_of_some};
 
 use crate::block::Place;
 use std::alloc::AllocError;
@@ -9,8 +9,8 @@ use std::marker::PhantomData;
 
 /// Where a triple of a `Ring` is.
 ///
-/// It stays the position of its triple until that triple leaves the ring, whatever happens to the others.
-/// It owns nothing, costs nothing to copy, and gives no access without the ring.
+/// It stays the position of its triple until that triple leaves the ring, whatever happens to the others. It owns nothing
+/// and gives no access without the ring. Two of them cannot be compared.
 pub struct Position<K, V> {
     pub(crate) place: Place,
     mark: PhantomData<*mut (K, V)>,
@@ -29,7 +29,7 @@ impl<K, V> Position<K, V> {
 
 /// The position at a place, if there is one.
 pub(crate) fn position_at<K, V>(place: Option<Place>) -> Option<Position<K, V>>
-    ensures { place_of_some result ≡ spot place }
+    ensures { place_of_some result ≡ ptr_of_some place }
 {
     match place {
         Some(place) => Some(Position::new(place)),
@@ -39,7 +39,7 @@ pub(crate) fn position_at<K, V>(place: Option<Place>) -> Option<Position<K, V>>
 
 /// The place of a position, if there is one.
 pub(crate) fn place_at<K, V>(position: Option<Position<K, V>>) -> Option<Place>
-    ensures { spot result ≡ place_of_some position }
+    ensures { ptr_of_some result ≡ place_of_some position }
 {
     match position {
         Some(position) => Some(position.place),

@@ -8,13 +8,16 @@ pub use crate::iter::{Iter, IterMut};
 use crate::links::Links;
 use crate::nodes::Nodes;
 pub use crate::position::Position;
+pub use crate::value_loan::{Hole, LentValues, ValueLoan};
 use std::alloc::Global;
 use std::marker::Model;
 
 /// Triples of a number, a key and a value, in order, each at a position that stays until it leaves, and
 /// spare nodes for more.
 ///
-/// A new triple comes last. Each triple takes one block of memory, and only `grow` takes any.
+/// A new triple comes last. Each triple and each spare node takes one block of memory, and one more is the guard's. Only
+/// `grow` takes any, and only `free_spares`, `destroy_empty` and letting the ring go free any. Letting it go drops the
+/// triples, at a step for each node.
 pub struct Ring<K, V> {
     pub(crate) nodes: Nodes<Links, K, V>,
     pub(crate) alloc: Global,
@@ -22,28 +25,26 @@ pub struct Ring<K, V> {
     pub(crate) spare: Option<Place>,
     pub(crate) len: usize,
     pub(crate) spares: usize,
-    pub(crate) first_spliced: Place,
-    pub(crate) last_spliced: Place,
-    pub(crate) spliced: usize,
 }
 
 impl<K, V> Model for Ring<K, V> {
-    ghost use Rattle.lhm_ring.specs.Rings.{ring_list, spliced_list, RingOk, SplicedOk};
+    ghost use Rattle.lhm_ring.specs.Rings.{ring_list, RingOk};
     ghost use Rattle.lhm_ring.specs.RingState.{State, state};
 
     ghost Value = { State (K × V) };
 
-    ghost view = { λ r. state (ring_list r.nodes.cells r.guard r.len) r.spares (spliced_list r.nodes.cells r.spliced r.first_spliced.ptr) };
+    ghost view = { λ r. state (ring_list r.nodes.cells r.guard r.len) r.spares };
 
-    ghost invariant = { λ r. RingOk r.nodes.cells r.guard r.spare r.len r.spares × SplicedOk r.nodes.cells r.guard r.len r.first_spliced.ptr r.last_spliced.ptr r.spliced };
+    ghost invariant = { λ r. RingOk r.nodes.cells r.guard r.spare r.len r.spares };
 }
 
 impl<K, V> Ring<K, V> {
-    /// An empty ring with no spare nodes. It takes no memory: there is no guard yet.
+    /// Makes an empty ring with no spare nodes.
+    ///
+    /// It takes no memory: there is no guard yet. Later growths are asked of `alloc`.
     pub fn new(alloc: Global) -> Ring<K, V>
         ensures empty { result.held ≡ [] }
         ensures no_spares { result.spares ≡ 0 }
-        ensures none_spliced { result.spliced ≡ [] }
     {
         Ring {
             nodes: Nodes::new(),
@@ -52,25 +53,50 @@ impl<K, V> Ring<K, V> {
             spare: None,
             len: 0,
             spares: 0,
-            first_spliced: nowhere(),
-            last_spliced: nowhere(),
-            spliced: 0,
         }
     }
 
-    /// How many triples are held.
+    /// Returns the allocator that the ring was made with. It takes no memory.
+    pub fn allocator(&self) -> Global {
+        self.alloc
+    }
+
+    /// Returns how many triples are held. With the spare nodes they are at most 2^57.
     pub fn len(&self) -> usize
-        ensures { result ≡ length self.now.held }
+        ensures value { result ≡ length self.now.held }
+        ensures bounded { length self.now.held + self.now.spares ≤ 2 ^ 57 }
     {
         self.len
     }
 
-    /// How many spare nodes there are. With the held ones they are at most 2^57.
+    /// Returns how many spare nodes there are. With the held ones they are at most 2^57.
     pub fn spares(&self) -> usize
         ensures value { result ≡ self.now.spares }
         ensures bounded { length self.now.held + self.now.spares ≤ 2 ^ 57 }
     {
         self.spares
+    }
+
+    /// Ends a ring that holds nothing, and frees its nodes, at a step for each.
+    ///
+    /// It asks no `Drop` of keys and values, which letting a ring go does.
+    pub fn destroy_empty(mut self)
+        requires { self.held ≡ [] }
+    {
+        self.free_spares();
+        let Ring {
+            mut nodes,
+            alloc,
+            guard,
+            spare: _,
+            len: _,
+            spares: _,
+        } = self;
+        if let Some(guard) = guard {
+            let room = nodes.remove(guard);
+            deallocate(&alloc, room);
+        }
+        nodes.end();
     }
 }
 
@@ -101,22 +127,6 @@ impl<K: Drop, V: Drop> Drop for Ring<K, V> {
             drop(key);
             drop(value);
         }
-        self.free_spares();
-        let Ring {
-            mut nodes,
-            alloc,
-            guard,
-            spare: _,
-            len: _,
-            spares: _,
-            first_spliced: _,
-            last_spliced: _,
-            spliced: _,
-        } = self;
-        if let Some(guard) = guard {
-            let room = nodes.remove(guard);
-            deallocate(&alloc, room);
-        }
-        nodes.end();
+        self.destroy_empty();
     }
 }

@@ -1,6 +1,6 @@
-ghost use Rattle.std.specs.Prelude.{◌≡◌, map};
-ghost use Rattle.lhm_ring.specs.RingState.{IsHeld, AtHeld};
-ghost use Rattle.lhm_ring.specs.RingLends.{unvalued};
+ghost use Rattle.std.specs.Prelude.{◌≡◌, ◌+◌, [], length, map, slice_get, Some, IfSome};
+ghost use Rattle.lhm_ring.specs.RingState.{IsHeld, AtHeld, triples};
+ghost use Rattle.lhm_ring.specs.RingAfterLoan.{unvalued};
 ghost use Rattle.lhm_ring.specs.Positions.{place_of};
 
 use crate::block::Node;
@@ -41,7 +41,7 @@ fn follows_the_worked_row(rt: HostRuntime) -> Result<(), Fail> {
     assert_eq!(rt; ring.unlink(c), (9, 'c', 3));
     assert!(rt; is_ring(&ring, &[(7, 'b', 2), (7, 'a', 1)], 1));
     let mut rest = ring.splice_all();
-    assert_eq!(rt; rest.len(), 2);
+    assert_eq!(rt; (rest.len(), rest.size_hint()), (2, (2, Some(2))));
     assert_eq!(rt; rest.next(), Some((7, 'b', 2)));
     assert_eq!(rt; rest.next(), Some((7, 'a', 1)));
     assert_eq!(rt; rest.next(), None);
@@ -91,12 +91,85 @@ fn number_after_writing(ring: &mut Ring<char, u64>, at: Position<char, u64>) -> 
     ensures number { AtHeld ring.old.held (place_of at) (λ xs t ys. result ≡ t.number) }
     ensures held { map unvalued ring.new.held ≡ map unvalued ring.old.held }
     ensures spares { ring.new.spares ≡ ring.old.spares }
-    ensures spliced { ring.new.spliced ≡ ring.old.spliced }
 {
     for (number, _, value) in ring.iter_mut() {
         *value = number;
     }
     ring.number(at)
+}
+
+/// Hands all triples out, and answers the last value.
+fn last_spliced(ring: &mut Ring<char, u64>) -> u64
+    ensures held { ring.new.held ≡ [] }
+    ensures spares { ring.new.spares ≡ ring.old.spares + length ring.old.held }
+{
+    let mut last = 0;
+    for (_, _, value) in ring.splice_all() {
+        last = value;
+    }
+    last
+}
+
+/// Hands the first triple out, and drops the others.
+fn first_spliced(ring: &mut Ring<char, u64>) -> Option<(u64, char, u64)>
+    ensures first { IfSome result (λ r. slice_get (triples ring.old.held) 0 ≡ Some (r.0, (r.1, r.2))) }
+    ensures held { ring.new.held ≡ [] }
+    ensures spares { ring.new.spares ≡ ring.old.spares + length ring.old.held }
+{
+    let mut rest = ring.splice_all();
+    rest.next()
+}
+
+/// Drops all triples, the last one first.
+fn drop_spliced<K: Drop, V: Drop>(ring: &mut Ring<K, V>)
+    ensures held { ring.new.held ≡ [] }
+    ensures spares { ring.new.spares ≡ ring.old.spares + length ring.old.held }
+{
+    let mut rest = ring.splice_all();
+    drop(rest.next_back());
+    drop(rest);
+}
+
+/// Forgets all triples, and answers how many are held then.
+fn len_when_forgotten(ring: &mut Ring<char, u64>) -> usize
+    ensures none { result ≡ 0 }
+    ensures held { ring.new.held ≡ [] }
+    ensures spares { ring.new.spares ≡ ring.old.spares + length ring.old.held }
+{
+    let rest = ring.splice_all();
+    forget(rest);
+    ring.len()
+}
+
+/// Two triples and one spare node.
+fn two_of(ring: &mut Ring<char, u64>) -> Result<(), AllocError> {
+    if ring.spares() == 0 {
+        ring.grow(3)?;
+    }
+    for number in 1..3 {
+        if 0 < ring.spares() {
+            ring.put_back(number, 'a', number * 10);
+        }
+    }
+    Ok(())
+}
+
+#[test]
+fn holds_nothing_however_a_drain_ends(rt: HostRuntime) -> Result<(), Fail> {
+    let mut ring: Ring<char, u64> = Ring::new(rt.alloc());
+    two_of(&mut ring)?;
+    assert_eq!(rt; last_spliced(&mut ring), 20);
+    assert!(rt; is_ring(&ring, &[], 3));
+    two_of(&mut ring)?;
+    assert_eq!(rt; first_spliced(&mut ring), Some((1, 'a', 10)));
+    assert!(rt; is_ring(&ring, &[], 3));
+    two_of(&mut ring)?;
+    drop_spliced(&mut ring);
+    assert!(rt; is_ring(&ring, &[], 3));
+    two_of(&mut ring)?;
+    assert_eq!(rt; len_when_forgotten(&mut ring), 0);
+    assert!(rt; is_ring(&ring, &[], 3));
+    Ok(())
 }
 
 #[test]
@@ -200,6 +273,9 @@ fn ends_with_nothing_held(rt: HostRuntime) -> Result<(), Fail> {
     let mut guard_only: Ring<char, u64> = Ring::new(rt.alloc());
     guard_only.grow(0)?;
     assert!(rt; is_ring(&guard_only, &[], 0));
+    let mut destroyed: Ring<char, u64> = Ring::new(guard_only.allocator());
+    destroyed.grow(2)?;
+    destroyed.destroy_empty();
     Ok(())
 }
 

@@ -15,7 +15,7 @@ use denote.Param.{param}
 use denote.Triple.Call.{calls_at_last}
 use denote.Triple.Table.{framed}
 use Rattle.std.proofs.alloc.Calls.{Al, Gives, at_gives, Gives-goes, Gives-Gives, Goes-blank}
-use Rattle.lhm_ring.proofs.Rooms.{room_val, room_Good, Rm, room_had}
+use Rattle.lhm_ring.proofs.Rooms.{room_val, room_Good, Rm, room_known}
 use Rattle.lhm_ring.proofs.Blocks.{written, block, block_args, block_glue}
 use Rattle.std.proofs.Common.{◌≡◌, ℕ, List, [], ◌∷◌, ◌++◌, refl, sym, ap, subst}
 use mir.Val.{Val, vptr, vunit}
@@ -59,7 +59,7 @@ deallocate_spec 𝓤 𝓛 𝓜 𝓡 wired L K V A LL LK LV LA g d dd met _ =
     qed 𝓛 (((‵ (flft κ q) ⊛ ‵ others) ⊛ ‵ (owns (types_at En.signature.params κs) a vss)) ∷ raw (fact 𝓤 _) ∷ raw (fact 𝓤 _) ∷ raw (fact 𝓤 _) ∷ raw (fact 𝓤 (κs.1.1.1.1.0 ⊑ A.lives)) ∷ raw (fact 𝓤 Asked) ∷ []) ∵
     keep ! (4 ∷ 5 ∷ 0 ∷ []) $ heard ! (κs.1.1.1.1.0 ⊑ A.lives) (λ inside. heard ! Asked (λ asked. split ! $ split ! $ move ! (2 ∷ []) $ fsplit3 ! $ fsplit ! $ keep ! (2 ∷ 1 ∷ 4 ∷ 5 ∷ []) $
     -- [the room; the handle; its token; the other tokens]
-    room_had R S W Z g ! room vss.1.0 (λ told.
+    room_known R S W Z g ! room vss.1.0 (λ told.
     let us : List Val = vptr hp.0 hp.1 ∷ room_val room.ptr ∷ [] in let Run : List Val → SProp 𝓤 = λ ws. WpFn 𝓤 H 𝓣.C 𝓣.Λ fn ws Post in
     suffices ! (Run us) (subst (λ (ws : List Val). ent 𝓤 (Run us) (Run ws)) (sym (λ i. are.0.0 i ++ (told i ++ []))) (id⊢ 𝓤 (Run us))) $
     enter ! 𝓣.C 𝓣.Λ fn us Post $ alloc_all ! (λ l. pass_all ! refl ((tt, tt), (room_Good room.ptr, tt)) $ let Ev = env fn.locals l in

@@ -1,5 +1,5 @@
 use Rattle.std.proofs.Common.{refl}
-use Rattle.lhm_ring.proofs.More.{first_there, first_guard}
+use Rattle.lhm_ring.proofs.NodeAdded.{first_there, first_guard}
 use Rattle.lhm_ring.proofs.grow.make_guard.Goals as goal
 
 pub join-requires : goal.join-requires

@@ -1,16 +1,16 @@
 use Rattle.std.proofs.Common.{[], ◌∷◌, ◌++◌, ◌∙◌, sym, ap, subst}
-use Rattle.lhm_ring.specs.Stretches.{AreLent}
-use Rattle.lhm_ring.proofs.Stretching.{last_lent, same_value}
+use Rattle.lhm_ring.specs.Walks.{AreLent}
+use Rattle.lhm_ring.proofs.WalkSteps.{last_lent, same_value}
 use Rattle.lhm_ring.proofs.iter.IterMut.step_back.Goals as goal
 
-pub pull-requires : goal.pull-requires
-pull-requires g c = let i = c.self.inside in let l = last_lent i.loan.run i.holes _ c.step_back.new.self c.in-Some.ensures.1 c.self.invariant in (_, l.0)
+pub take-requires : goal.take-requires
+take-requires g c = let i = c.self.inside in let l = last_lent i.loan.run i.holes _ c.step_back.new.self c.in-Some.ensures.1 c.self.invariant in (_, l.0)
 
 pub invariant_of-self : goal.invariant_of-self
-invariant_of-self g c = let i = c.self.inside in let l = last_lent i.loan.run i.holes _ c.step_back.new.self c.in-Some.ensures.1 c.self.invariant in subst (λ r. AreLent r c.step_back.new.self) (sym c.pull.ensures.run) l.1
+invariant_of-self g c = let i = c.self.inside in let l = last_lent i.loan.run i.holes _ c.step_back.new.self c.in-Some.ensures.1 c.self.invariant in subst (λ r. AreLent r c.step_back.new.self) (sym c.take.ensures.run) l.1
 
 pub returns-in-Some : goal.returns-in-Some
 returns-in-Some g c =
     let i = c.self.inside in let l = last_lent i.loan.run i.holes _ c.step_back.new.self c.in-Some.ensures.1 c.self.invariant in
-    let same = same_value _ _ _ l.0 c.pull.ensures.value in
+    let same = same_value _ _ _ l.0 c.take.ensures.value in
     (c.in-Some.at.ptr, c.in-Some.ensures.0, sym (ap (λ s. s.0) c.self.view_is) ∙ c.in-Some.ensures.1 ∙ ap (λ w. c.step_back.new.self ++ record { at = c.in-Some.at.ptr; number = c.in-Some.number; link = c.in-Some.ensures.0; pair = (c.in-Some.key.now, w) } ∷ []) same)

@@ -1,11 +1,11 @@
 -- `add` writes the links into an empty block, which lies apart from the nodes. Assumes `Logic`.
 use prog.Memory.{size}
-use Rattle.std.proofs.Common.{◌<◌}
+use Rattle.std.proofs.Common.{◌<◌, true}
 use Rattle.std.specs.contracts.alloc.Global as heap
 use Rattle.std.specs.contracts.impls.GlobalAllocator.TheImpl.{ghosts}
 use Rattle.lhm_ring.proofs.Apart.{IsFresh, apart_with}
-use Rattle.lhm_ring.proofs.Rooms.{room_val, room_Good, place_made, Rm, room_had, knows, fresh}
-use base.Logic.{sep}
+use Rattle.lhm_ring.proofs.Rooms.{room_val, room_Good, place_made, Rm, room_known, knows, fresh, block_starts}
+use base.Logic.{sep, fst∗}
 use Rattle.std.proofs.alloc.Calls.{Goes-blank}
 use Rattle.std.proofs.Common.{◌≡◌, ℕ, ◌+◌, List, [], ◌∷◌, ◌++◌, refl, sym, ap, subst, None}
 use base.Fraction.{full_share}
@@ -31,7 +31,7 @@ use denote.Triple.Walked.{Stays, stay_dropped, stay_ref, walk_of, Goes-dropped, 
 use Rattle.std.proofs.VecSteps.Shapes.{after}
 use Rattle.std.proofs.RcSteps.{word, word-Good}
 use Rattle.std.proofs.raw_atomic.Walks.{proved_at, leaves}
-use Rattle.lhm_ring.specs.Cells.{cell, places}
+use Rattle.lhm_ring.specs.Cells.{cell, is_block, places}
 use Rattle.lhm_ring.specs.Ownership.{links_of, deed_owns, chunk_token, room_owns}
 use Rattle.lhm_ring.proofs.Memory.{Three, args, RL, RK, RV, lo, Node, Nr, Pl, alone, value_in}
 use Rattle.std.proofs.RawLayout.{as_written}
@@ -55,10 +55,11 @@ add_spec 𝓤 𝓛 𝓜 𝓡 wired L K V LL LK LV =
     let Asked : Type 0 = 0 < size (layout L) in
     qed 𝓛 (((‵ (flft κs.0 qs.0) ⊛ ‵ others) ⊛ ‵ (owns (types_at En.signature.params κs) a vss)) ∷ raw (fact 𝓤 _) ∷ raw (fact 𝓤 _) ∷ raw (fact 𝓤 _) ∷ raw (fact 𝓤 Asked) ∷ []) ∵
     keep ! (4 ∷ 0 ∷ []) $ heard ! Asked (λ asked. split ! $ split ! $ move ! (2 ∷ []) $ fsplit3 ! $ fsplit3 ! $ move ! (4 ∷ []) $ fsplit ! $ keep ! (3 ∷ 4 ∷ 6 ∷ 0 ∷ 5 ∷ 7 ∷ []) $
-    rewrite ! 3 (λ (ws : List Val). ‵ (R.own_val new ws)) got.1.0 refl $ move ! (4 ∷ []) $ room_had R S W heap.the_row ghosts ! room vss.1.0 (λ told.
+    rewrite ! 3 (λ (ws : List Val). ‵ (R.own_val new ws)) got.1.0 refl $ move ! (4 ∷ []) $ room_known R S W heap.the_row ghosts ! room vss.1.0 (λ told.
     let us : List Val = vptr rb ro ∷ room_val room.ptr ∷ v ∷ [] in let Run : List Val → SProp 𝓤 = λ ws. WpFn 𝓤 H 𝓣.C 𝓣.Λ fn ws Post in
     suffices ! (Run us) (subst (λ (ws : List Val). ent 𝓤 (Run us) (Run ws)) (sym (λ i. are.0.0 i ++ (told i ++ (got.1.0 i ++ [])))) (id⊢ 𝓤 (Run us))) $
     fsplit ! $ in_a_block ! room.ptr (λ q. room_owns R S W q) (fst∗ 𝓤 (never 𝓤) (sep 𝓤 (never 𝓤) (never 𝓤))) (λ pb po e. fsplit ! $ rewrite ! 2 (λ (q : Ptr). ‵ (deed_owns R S W chunk_token q)) e refl $
+    move ! (2 ∷ []) $ knows ! (is_block (block_ptr pb po) ≡ true) (block_starts 𝓛 R S W pb po) (λ starts. move ! (1 ∷ 2 ∷ 0 ∷ []) $
     let p : Ptr = block_ptr pb po in let c' : Node E = cell p new None in
     enter ! 𝓣.C 𝓣.Λ fn us Post $ alloc_all ! (λ l. pass_all ! refl ((tt, tt), (room_Good room.ptr, (got.1.1, tt))) $ let Ev = env fn.locals l in
     move ! (3 ∷ 4 ∷ 5 ∷ []) $ opens ! tt N {h = h} rb ro (λ vs. move ! (1 ∷ []) $ fsplit ! $ move ! (6 ∷ 1 ∷ []) $
@@ -69,9 +70,9 @@ add_spec 𝓤 𝓛 𝓜 𝓡 wired L K V LL LK LV =
     exec ! 𝓣.C 𝓣.Λ Ev (after 2 fn.body) (at_ret Ev Post) $ sets ! (of_opd ! (get ! refl)) refl (tt, tt) $ sets ! (agg ! (and_then ! (get ! refl) (no_more !))) refl (word-Good [] p) $
     move ! (0 ∷ 9 ∷ []) $ use2 𝓛 (‵ (lies_at R full_share (links_of R S W p) new)) (value_in 0 L LL 𝓛 new pb (po + lo E) v) $
     move ! (7 ∷ 8 ∷ []) $ fjoin ! $ move ! (1 ∷ 0 ∷ []) $ fjoin ! $ fjoin ! $
-    let h' : N.Denot = record { mark = h.mark; cells = c' ∷ h.cells; apart = apart_with p (places h.cells) free h.apart } in
+    let h' : N.Denot = record { mark = h.mark; cells = c' ∷ h.cells; apart = apart_with p (places h.cells) free h.apart; blocks = (starts, h.blocks) } in
     move ! (1 ∷ 0 ∷ []) $ fjoin ! $ move ! (1 ∷ 0 ∷ []) $ closes ! tt N h' vs rb ro $
     feq_i ! (List Val) vss.0 (vptr rb ro ∷ []) are.0.0 $ fjoin3 ! $ nothing ! $ nothing ! $ fjoin ! $ nothing ! $ fjoin ! $ move ! (1 ∷ 0 ∷ []) $ fjoin ! $ move ! (1 ∷ 2 ∷ []) $ join ! $
     let Told : Type 0 = c' ∷ h.cells ≡ c' ∷ h.cells in
     use0 𝓛 (raw (fact 𝓤 Told)) (fact_i 𝓤 Told (emp 𝓤) refl) $ use0 𝓛 (‵ (Pl.own_val (record { ptr = p }) (word p ∷ []))) (place_made 𝓛 p) $
-    returns ! (look_at ! 0 refl) $ free_all ! refl $ keep ! (2 ∷ 3 ∷ 0 ∷ 1 ∷ []) $ by ! (leaves 𝓛 En hs c y (word p) (record { ptr = p }) (h', (tt, (tt, tt))) (tt, (tt, (tt, tt)))))))))))
+    returns ! (look_at ! 0 refl) $ free_all ! refl $ keep ! (2 ∷ 3 ∷ 0 ∷ 1 ∷ []) $ by ! (leaves 𝓛 En hs c y (word p) (record { ptr = p }) (h', (tt, (tt, tt))) (tt, (tt, (tt, tt))))))))))))

@@ -24,7 +24,7 @@ use denote.Triple.Walked.{Stays, stay_dropped, stay_ref, walk_of, Goes-dropped, 
 use Rattle.std.proofs.VecSteps.Shapes.{after}
 use Rattle.std.proofs.RcSteps.{word, word-Good}
 use Rattle.std.proofs.raw_atomic.Walks.{proved_at, leaves}
-use Rattle.lhm_ring.specs.Cells.{cell, IsApart, IsAt, change, with_body, places-change}
+use Rattle.lhm_ring.specs.Cells.{cell, IsApart, AreBlocks, IsAt, change, with_body, places-change}
 use Rattle.lhm_ring.specs.Ownership.{links_of, body_owns}
 use Rattle.lhm_ring.proofs.Lookup.{Cut, cut}
 use Rattle.lhm_ring.proofs.Memory.{Three, args, RL, RK, RV, ko, vo, Node, Nr, Pl, One, Cells, place_told, alone, body_room, cells_cut, cells_glue, value_in}
@@ -67,7 +67,7 @@ fill_spec 𝓤 𝓛 𝓜 𝓡 wired L K V LL LK LV =
     move ! (1 ∷ 10 ∷ []) $ use2 𝓛 (‵ (part_at S full_share new pb (po + ko E))) (value_in 1 K LK 𝓛 new pb (po + ko E) v) $ fjoin ! $
     rewrite ! 0 (λ (q : Ptr). ‵ (body_owns R S W q (Some (new, val)))) (sym e) refl $ fjoin ! $ move ! (1 ∷ 0 ∷ []) $ fjoin ! $
     use2 𝓛 (‵ (Cells E (k.before ++ f' ∷ k.after))) (cells_glue 𝓛 E k.before f' k.after) $ rewrite ! 0 (λ (cs : List (Node E)). ‵ (Cells E cs)) (sym (k.changed (λ c. cell c.at c.links (Some (new, val))))) refl $
-    let h' : N.Denot = record { mark = h.mark; cells = change p (λ c. cell c.at c.links (Some (new, val))) h.cells; apart = subst IsApart (sym (places-change p (λ c. cell c.at c.links (Some (new, val))) (λ c. refl) h.cells)) h.apart } in
+    let h' : N.Denot = record { mark = h.mark; cells = change p (λ c. cell c.at c.links (Some (new, val))) h.cells; apart = subst IsApart (sym (places-change p (λ c. cell c.at c.links (Some (new, val))) (λ c. refl) h.cells)) h.apart; blocks = subst AreBlocks (sym (places-change p (λ c. cell c.at c.links (Some (new, val))) (λ c. refl) h.cells)) h.blocks } in
     move ! (1 ∷ 0 ∷ []) $ fjoin ! $ move ! (1 ∷ 0 ∷ []) $ closes ! tt N h' vs rb ro $
     feq_i ! (List Val) vss.0 (vptr rb ro ∷ []) are.0.0 $ fjoin3 ! $ nothing ! $ nothing ! $ fjoin ! $ nothing ! $ fjoin ! $ nothing ! $ fjoin ! $ move ! (1 ∷ 0 ∷ []) $ fjoin ! $ move ! (1 ∷ 2 ∷ []) $ join ! $
     let Told : Type 0 = with_body p (Some (new, val)) h.cells ≡ with_body p (Some (new, val)) h.cells in

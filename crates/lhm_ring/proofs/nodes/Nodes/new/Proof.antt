@@ -28,7 +28,7 @@ new_spec 𝓤 𝓛 𝓜 𝓡 wired L K V LL LK LV =
     proved_at 𝓛 En hs c 𝓜 𝓡 tt (#self (args E)) fn (code.unfolded 𝓤 H 𝓜 𝓡 wired (L, (K, (V, tt)))) (λ y are.
     let κs = y.0.0 in let qs = y.0.1 in let Post : Val → SProp 𝓤 = (walk_of 𝓛 En hs c).post y in
     let toks = ‵ (flft κs.0 qs.0) ⊛ ‵ (flft κs.1.0 qs.1.0) ⊛ ‵ (flft κs.1.1.0 qs.1.1.0) ⊛ ‵ ftrue in
-    let out : N.Denot = record { mark = record {}; cells = []; apart = apart_none } in
+    let out : N.Denot = record { mark = record {}; cells = []; apart = apart_none; blocks = tt } in
     qed 𝓛 ((toks ⊛ ‵ ftrue) ∷ raw ((c κs y.0.3).requires y.1) ∷ []) ∵ split ! $ keep ! (0 ∷ []) $
     enter ! 𝓣.C 𝓣.Λ fn [] Post $ alloc_all ! (λ l. pass_all ! refl tt $
     sets ! (agg ! (no_more !)) refl (tt, tt) $ sets ! (agg ! (and_then ! (get ! refl) (no_more !))) refl (tt, (tt, tt)) $

@@ -1,9 +1,9 @@
 -- `remove` takes one node out of the others, as an empty block. Assumes `Logic`.
 use Rattle.std.specs.contracts.alloc.Global as heap
 use Rattle.std.specs.contracts.impls.GlobalAllocator.TheImpl.{ghosts}
-use Rattle.lhm_ring.proofs.Lookup.{apart_without}
+use Rattle.lhm_ring.proofs.Lookup.{all_without, apart_without}
 use Rattle.lhm_ring.proofs.Rooms.{room_val, room_Good, Rm, RmFields, room_made}
-use Rattle.std.proofs.Common.{◌≡◌, ℕ, ◌+◌, List, [], ◌∷◌, ◌++◌, refl, sym, ap, ◌∙◌, subst}
+use Rattle.std.proofs.Common.{◌≡◌, ℕ, true, ◌+◌, List, [], ◌∷◌, ◌++◌, refl, sym, ap, ◌∙◌, subst}
 use base.Fraction.{full_share}
 use mir.Val.{Val, vptr}
 use mir.MapTy.{inst_fn}
@@ -25,7 +25,7 @@ use denote.Steps.{nothing, heard, opens, closes}
 use denote.Triple.Walked.{Stays, stay_dropped, stay_ref, walk_of, Goes-dropped, Goes-ref}
 use Rattle.std.proofs.RcSteps.{Good, word, word-Good}
 use Rattle.std.proofs.raw_atomic.Walks.{proved_at, leaves}
-use Rattle.lhm_ring.specs.Cells.{IsAt, without}
+use Rattle.lhm_ring.specs.Cells.{IsAt, is_block, without}
 use Rattle.lhm_ring.specs.Ownership.{links_of, body_owns, deed_owns, chunk_token}
 use Rattle.lhm_ring.proofs.Lookup.{Cut, cut}
 use Rattle.lhm_ring.proofs.Memory.{Three, args, RL, RK, RV, lo, ko, vo, Node, Nr, Pl, One, Cells, place_told, body_room, cells_cut, value_out}
@@ -68,7 +68,7 @@ remove_spec 𝓤 𝓛 𝓜 𝓡 wired L K V LL LK LV =
     -- [the room; the other nodes; the mark; its cell; the open borrow, in three; the other tokens]
     sets ! (is ! (of_opd ! (get_in ! (fld ! refl (stop !)) (sub ! 0 refl (whole !)))) (ap ptr_val at)) refl (tt, tt) $
     sets ! (agg ! (no_more !)) refl (tt, tt) $ sets ! (agg ! (and_then ! (get ! refl) (and_then ! (get ! refl) (no_more !)))) refl (room_Good q) $
-    let h' : N.Denot = record { mark = h.mark; cells = without p h.cells; apart = apart_without p h.cells h.apart } in
+    let h' : N.Denot = record { mark = h.mark; cells = without p h.cells; apart = apart_without p h.cells h.apart; blocks = all_without (λ q. is_block q ≡ true) p h.cells h.blocks } in
     rewrite ! 1 (λ (cs : List (Node E)). ‵ (Cells E cs)) (sym k.taken) refl $ move ! (2 ∷ 1 ∷ []) $ fjoin ! $ move ! (2 ∷ 0 ∷ 3 ∷ 4 ∷ 5 ∷ []) $ closes ! tt N h' vs rb ro $
     feq_i ! (List Val) vss.0 (vptr rb ro ∷ []) are.0.0 $ fjoin3 ! $ nothing ! $ nothing ! $ fjoin ! $ move ! (1 ∷ 0 ∷ []) $ fjoin ! $ move ! (1 ∷ 3 ∷ []) $ join ! $
     let Told : Type 0 = without p h.cells ≡ without p h.cells in use0 𝓛 (raw (fact 𝓤 Told)) (fact_i 𝓤 Told (emp 𝓤) refl) $

@@ -24,7 +24,7 @@ use denote.Triple.Walked.{Stays, stay_dropped, stay_ref, walk_of, Goes-dropped, 
 use Rattle.std.proofs.VecSteps.Shapes.{after}
 use Rattle.std.proofs.RcSteps.{Good, word, word-Good}
 use Rattle.std.proofs.raw_atomic.Walks.{proved_at, leaves}
-use Rattle.lhm_ring.specs.Cells.{cell, IsApart, IsAt, change, with_links, places-change}
+use Rattle.lhm_ring.specs.Cells.{cell, IsApart, AreBlocks, IsAt, change, with_links, places-change}
 use Rattle.lhm_ring.specs.Ownership.{links_of}
 use Rattle.lhm_ring.proofs.Lookup.{Cut, cut}
 use Rattle.lhm_ring.proofs.Memory.{Three, args, RL, RK, RV, lo, Node, Nr, Pl, One, Cells, place_told, alone, cells_cut, cells_glue, value_out, value_in}
@@ -63,7 +63,7 @@ set_links_spec 𝓤 𝓛 𝓜 𝓡 wired L K V LL LK LV =
     move ! (0 ∷ 8 ∷ []) $ use2 𝓛 (‵ (part_at R full_share new pb (po + lo E))) (value_in 0 L LL 𝓛 new pb (po + lo E) v) $
     rewrite ! 0 (λ (q : Ptr). ‵ (lies_at R full_share (links_of R S W q) new)) (sym e) refl $ fjoin ! $
     use2 𝓛 (‵ (Cells E (k.before ++ f' ∷ k.after))) (cells_glue 𝓛 E k.before f' k.after) $ rewrite ! 0 (λ (cs : List (Node E)). ‵ (Cells E cs)) (sym (k.changed (λ c. cell c.at new c.body))) refl $
-    let h' : N.Denot = record { mark = h.mark; cells = change p (λ c. cell c.at new c.body) h.cells; apart = subst IsApart (sym (places-change p (λ c. cell c.at new c.body) (λ c. refl) h.cells)) h.apart } in
+    let h' : N.Denot = record { mark = h.mark; cells = change p (λ c. cell c.at new c.body) h.cells; apart = subst IsApart (sym (places-change p (λ c. cell c.at new c.body) (λ c. refl) h.cells)) h.apart; blocks = subst AreBlocks (sym (places-change p (λ c. cell c.at new c.body) (λ c. refl) h.cells)) h.blocks } in
     move ! (1 ∷ 0 ∷ []) $ fjoin ! $ move ! (1 ∷ 0 ∷ []) $ closes ! tt N h' vs rb ro $
     feq_i ! (List Val) vss.0 (vptr rb ro ∷ []) are.0.0 $ fjoin3 ! $ nothing ! $ nothing ! $ fjoin ! $ nothing ! $ fjoin ! $ move ! (1 ∷ 0 ∷ []) $ fjoin ! $ move ! (1 ∷ 2 ∷ []) $ join ! $
     let Told : Type 0 = with_links p new h.cells ≡ with_links p new h.cells in

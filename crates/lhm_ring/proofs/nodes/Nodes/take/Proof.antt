@@ -23,7 +23,7 @@ use denote.Triple.Walked.{Stays, stay_dropped, stay_ref, walk_of, Goes-dropped, 
 use Rattle.std.proofs.VecSteps.Shapes.{after}
 use Rattle.std.proofs.RcSteps.{Good, word, word-Good}
 use Rattle.std.proofs.raw_atomic.Walks.{proved_at, leaves}
-use Rattle.lhm_ring.specs.Cells.{cell, IsApart, Holds, change, body_at, with_body, places-change}
+use Rattle.lhm_ring.specs.Cells.{cell, IsApart, AreBlocks, Holds, change, body_at, with_body, places-change}
 use Rattle.lhm_ring.specs.Ownership.{links_of, body_owns}
 use Rattle.lhm_ring.proofs.Lookup.{Cut, cut_held}
 use Rattle.lhm_ring.proofs.Memory.{Three, args, RL, RK, RV, ko, vo, Node, Nr, Pl, One, Cells, place_told, two_made, cells_cut, cells_glue, value_out}
@@ -69,7 +69,7 @@ take_spec 𝓤 𝓛 𝓜 𝓡 wired L K V LL LK LV =
     -- [room for both; what the value owns; what the key owns; the deed; the links; ..]
     rewrite ! 0 (λ (q : Ptr). ‵ (body_owns R S W q None)) (sym e) refl $ move ! (0 ∷ 3 ∷ []) $ fjoin ! $ move ! (3 ∷ 0 ∷ []) $ fjoin ! $ move ! (0 ∷ 3 ∷ []) $
     use2 𝓛 (‵ (Cells E (k.before ++ f' ∷ k.after))) (cells_glue 𝓛 E k.before f' k.after) $ rewrite ! 0 (λ (cs : List (Node E)). ‵ (Cells E cs)) (sym (k.changed (λ c. cell c.at c.links None))) refl $
-    let h' : N.Denot = record { mark = h.mark; cells = change p (λ c. cell c.at c.links None) h.cells; apart = subst IsApart (sym (places-change p (λ c. cell c.at c.links None) (λ c. refl) h.cells)) h.apart } in
+    let h' : N.Denot = record { mark = h.mark; cells = change p (λ c. cell c.at c.links None) h.cells; apart = subst IsApart (sym (places-change p (λ c. cell c.at c.links None) (λ c. refl) h.cells)) h.apart; blocks = subst AreBlocks (sym (places-change p (λ c. cell c.at c.links None) (λ c. refl) h.cells)) h.blocks } in
     -- [the nodes; what the value owns; what the key owns; the mark; its cell; the open borrow, in three; the other tokens]
     move ! (3 ∷ 0 ∷ []) $ fjoin ! $ move ! (3 ∷ 0 ∷ 4 ∷ 5 ∷ 6 ∷ []) $ closes ! tt N h' vs rb ro $
     feq_i ! (List Val) vss.0 (vptr rb ro ∷ []) are.0.0 $ fjoin3 ! $ nothing ! $ nothing ! $ fjoin ! $ move ! (1 ∷ 0 ∷ []) $ fjoin ! $ move ! (1 ∷ 4 ∷ []) $ join ! $

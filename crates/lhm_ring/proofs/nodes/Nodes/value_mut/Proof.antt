@@ -22,7 +22,7 @@ use denote.Ref.{MutRef}
 use denote.Follow.{follows, Part, lends_Part}
 use denote.Signature.{mut_ref_to}
 use denote.Triple.Walked.{Goes-spent_ref}
-use Rattle.lhm_ring.specs.Lends.{holding, value_set}
+use Rattle.lhm_ring.specs.NodesAfterLoan.{holding, value_set}
 use contract.Monad.{fact, fact_i}
 use denote.Exit.{yes, no}
 use denote.RattleType.{owns}

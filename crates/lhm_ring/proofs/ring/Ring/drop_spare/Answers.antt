@@ -1,24 +1,22 @@
-use Rattle.lhm_ring.proofs.Moves.{in_short}
 use Rattle.std.proofs.Common.{ap}
-use Rattle.lhm_ring.proofs.Calls.{spare_there, first_at}
-use Rattle.lhm_ring.proofs.Less.{less_ring, less_list}
-use Rattle.lhm_ring.proofs.Splicing.{none_spliced, none_listed}
+use Rattle.lhm_ring.proofs.PutBackAndUnlink.{spare_there, first_at}
+use Rattle.lhm_ring.proofs.NodeRemoved.{less_ring, less_list}
 use Rattle.lhm_ring.proofs.ring.Ring.drop_spare.Goals as goal
 
 pub unwrap-at-requires : goal.unwrap-at-requires
-unwrap-at-requires g c = let i = c.self.inside in (spare_there i.nodes.cells i.guard i.spare i.len i.spares _ c.self.invariant.0 (in_short c.self.view_is) c.requires).1
+unwrap-at-requires g c = let i = c.self.inside in (spare_there i.nodes.cells i.guard i.spare i.len i.spares _ c.self.invariant c.self.view_is c.requires).1
 
 pub links-requires : goal.links-requires
-links-requires g c = let i = c.self.inside in first_at i.nodes.cells i.guard i.spare _ _ i.len i.spares _ c.unwrap-guard.ensures c.unwrap-at.ensures c.self.invariant.0 (in_short c.self.view_is) c.requires
+links-requires g c = let i = c.self.inside in first_at i.nodes.cells i.guard i.spare _ _ i.len i.spares _ c.unwrap-guard.ensures c.unwrap-at.ensures c.self.invariant c.self.view_is c.requires
 
 pub invariant_of-self : goal.invariant_of-self
-invariant_of-self g c = let i = c.self.inside in (less_ring i.nodes.cells i.guard i.spare _ _ i.len i.spares _ c.unwrap-guard.ensures c.unwrap-at.ensures c.self.invariant.0 (in_short c.self.view_is) c.requires _ c.links.ensures _ c.link-next_spare.ensures _ c.remove-room.ensures, none_spliced _ i.guard i.len i.first_spliced.ptr i.last_spliced.ptr)
+invariant_of-self g c = let i = c.self.inside in (less_ring i.nodes.cells i.guard i.spare _ _ i.len i.spares _ c.unwrap-guard.ensures c.unwrap-at.ensures c.self.invariant c.self.view_is c.requires _ c.links.ensures _ c.link-next_spare.ensures _ c.remove-room.ensures)
 
 pub returns : goal.returns
 returns g c =
     let i = c.self.inside in
-    let e = less_list i.nodes.cells i.guard i.spare _ _ i.len i.spares _ c.unwrap-guard.ensures c.unwrap-at.ensures c.self.invariant.0 (in_short c.self.view_is) c.requires _ c.links.ensures _ c.link-next_spare.ensures _ c.remove-room.ensures in
-    record { held = ap (λ z. z.held) e; spares = ap (λ z. z.spares) e; none_spliced = none_listed _ i.first_spliced.ptr }
+    let e = less_list i.nodes.cells i.guard i.spare _ _ i.len i.spares _ c.unwrap-guard.ensures c.unwrap-at.ensures c.self.invariant c.self.view_is c.requires _ c.links.ensures _ c.link-next_spare.ensures _ c.remove-room.ensures in
+    record { held = ap (λ z. z.held) e; spares = ap (λ z. z.spares) e }
 
 pub unwrap-guard-requires : goal.unwrap-guard-requires
-unwrap-guard-requires g c = let i = c.self.inside in (spare_there i.nodes.cells i.guard i.spare i.len i.spares _ c.self.invariant.0 (in_short c.self.view_is) c.requires).0
+unwrap-guard-requires g c = let i = c.self.inside in (spare_there i.nodes.cells i.guard i.spare i.len i.spares _ c.self.invariant c.self.view_is c.requires).0

@@ -1,18 +1,18 @@
 use Rattle.std.proofs.Common.{◌∙◌, sym, ap, Some}
 use Rattle.lhm_ring.specs.declared.block.Place.{Place}
 use Rattle.lhm_ring.specs.RingState.{last_at}
-use Rattle.lhm_ring.proofs.Ends.{none_held_at_zero, last_found}
-use Rattle.lhm_ring.proofs.Moves.{in_short, opened}
+use Rattle.lhm_ring.proofs.FirstAndLast.{none_held_at_zero, last_found}
+use Rattle.lhm_ring.proofs.Moves.{opened}
 use Rattle.lhm_ring.proofs.Writes.{is_at}
 use Rattle.lhm_ring.proofs.ring.Ring.last.Goals as goal
 
 pub returns-then-self-eq0 : goal.returns-then-self-eq0
 returns-then-self-eq0 g c =
     let i = c.self.inside in
-    sym (ap last_at (none_held_at_zero i.nodes.cells i.guard i.spare _ i.len i.spares _ c.in_ok-guard.was c.self.invariant.0 (in_short c.self.view_is) c.if-self-eq0.true))
+    sym (ap last_at (none_held_at_zero i.nodes.cells i.guard i.spare _ i.len i.spares _ c.in_ok-guard.was c.self.invariant c.self.view_is c.if-self-eq0.true))
 
 pub returns : goal.returns
-returns g c = let i = c.self.inside in ap (λ (z : Place). Some z.ptr) c.new.ensures ∙ last_found i.nodes.cells i.guard i.spare _ i.len i.spares _ c.in_ok-guard.was c.self.invariant.0 (in_short c.self.view_is) _ c.links.ensures c.if-self-eq0.false
+returns g c = let i = c.self.inside in ap (λ (z : Place). Some z.ptr) c.new.ensures ∙ last_found i.nodes.cells i.guard i.spare _ i.len i.spares _ c.in_ok-guard.was c.self.invariant c.self.view_is _ c.links.ensures c.if-self-eq0.false
 
 pub links-requires : goal.links-requires
-links-requires g c = let i = c.self.inside in is_at _ _ (opened i.nodes.cells i.guard i.spare _ i.len i.spares c.in_ok-guard.was c.self.invariant.0).2.there.0
+links-requires g c = let i = c.self.inside in is_at _ _ (opened i.nodes.cells i.guard i.spare _ i.len i.spares c.in_ok-guard.was c.self.invariant).2.there.0

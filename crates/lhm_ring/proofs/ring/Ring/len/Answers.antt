@@ -1,5 +1,9 @@
-use Rattle.lhm_ring.proofs.Moves.{in_short, ring_length}
+use Rattle.lhm_ring.proofs.Moves.{ring_length, ring_bounded}
 use Rattle.lhm_ring.proofs.ring.Ring.len.Goals as goal
 
 pub returns : goal.returns
-returns g c = let i = c.self.inside in ring_length i.nodes.cells i.guard i.spare i.len i.spares _ c.self.invariant.0 (in_short c.self.view_is)
+returns g c =
+    let i = c.self.inside in record {
+      value = ring_length i.nodes.cells i.guard i.spare i.len i.spares _ c.self.invariant c.self.view_is;
+      bounded = ring_bounded i.nodes.cells i.guard i.spare i.len i.spares _ c.self.invariant c.self.view_is;
+    }

@@ -1,5 +1,5 @@
 -- `lend` shares the ring as one of holes, and lends the values. Assumes `Logic`.
-use Rattle.std.proofs.Common.{◌≡◌, ℕ, List, [], ◌∷◌, ◌++◌, refl, sym, ◌∙◌, subst}
+use Rattle.std.proofs.Common.{◌≡◌, ℕ, List, [], ◌∷◌, ◌++◌, refl, sym, subst}
 use base.Fraction.{full_share}
 use mir.Syntax.{a_type, named}
 use mir.Val.{Val, vptr, vstruct, vcons, vnil}
@@ -17,7 +17,6 @@ use types.Mut.{open_ref}
 use contract.Running.{tables}
 use contract.BorrowLft.{◌⊑◌}
 use contract.Monad.{fact, fact_i}
-use lib.ListN.{length-map}
 use denote.Exit.{no}
 use denote.Follow.{follows}
 use denote.Memory.{mem, part_at}
@@ -31,26 +30,28 @@ use denote.RawPtr.{Ptr}
 use denote.Ref.{Bor, ShrRef}
 use denote.Signature.{types_at, plain, mut_ref_to, named_lft}
 use denote.Steps.{nothing, heard}
+use denote.Struct.Declared as declared
 use denote.Triple.Walked.{Stays, stay_dropped, walk_of, Goes-spent_ref}
 use Rattle.std.proofs.VecSteps.Shapes.{after}
 use Rattle.std.proofs.raw_atomic.Walks.{proved_at, leaves}
-use Rattle.lhm_ring.specs.Loans.{spread}
+use Rattle.lhm_ring.specs.ValueLoan.{spread}
 use Rattle.lhm_ring.specs.RingState.{State}
-use Rattle.lhm_ring.specs.RingLends.{with_values}
-use Rattle.lhm_ring.specs.Stretches.{AreLent}
-use Rattle.lhm_ring.specs.declared.loan.Loan.{Loan}
+use Rattle.lhm_ring.specs.RingAfterLoan.{held_values, with_values}
+use Rattle.lhm_ring.specs.Walks.{AreLent}
+use Rattle.lhm_ring.specs.declared.value_loan.ValueLoan.{ValueLoan}
 use Rattle.lhm_ring.specs.declared.links.Links.{Links}
 use Rattle.lhm_ring.specs.contracts.links.Links as links
-use Rattle.lhm_ring.specs.contracts.loan.Hole as H-type
-use Rattle.lhm_ring.specs.contracts.loan.Loan as L-type
+use Rattle.lhm_ring.specs.contracts.value_loan.Hole as H-type
+use Rattle.lhm_ring.specs.contracts.value_loan.LentValues as T-type
+use Rattle.lhm_ring.specs.contracts.value_loan.ValueLoan as L-type
 use Rattle.lhm_ring.specs.contracts.ring.Ring as R-type
 use Rattle.lhm_ring.specs.contracts.ring.Ring.TheInside as I-type
 use Rattle.lhm_ring.proofs.links.Links.TheLaws as links-laws
-use Rattle.lhm_ring.proofs.loan.Hole.TheLaws as H-laws
+use Rattle.lhm_ring.proofs.value_loan.Hole.TheLaws as H-laws
 use Rattle.lhm_ring.proofs.ring.Ring.TheInside.TheLaws as I-laws
-use Rattle.lhm_ring.proofs.Memory.{mark, two_made}
-use Rattle.lhm_ring.proofs.Refilling.{run_of, taken, all_lent}
-use Rattle.lhm_ring.proofs.Lending.{Inside, Full, parts, thin_shape, Thinned, thinned, thin_shared, at_places, vals, kept_by, entries, As, Vals, named as listed_as, view, good, Fields, ring_cut, back, taken_named, named_back, LoanMark, loan_made}
+use Rattle.lhm_ring.proofs.Memory.{mark, struct_made}
+use Rattle.lhm_ring.proofs.ValuesReplaced.{run_of}
+use Rattle.lhm_ring.proofs.ValuesSplitOff.{Inside, Full, parts, thin_shape, Thinned, thinned, thin_shared, at_places, vals, kept_by, entries, As, Vals, named as listed_as, view, good, Fields, ring_cut, back, placed, placed-own, ordered_back, lent_of, LoanMark, loan_made}
 use Rattle.lhm_ring.specs.contracts.ring.Ring.lend.{ended, clauses}
 use Rattle.lhm_ring.specs.contracts.ring.Ring.lend.Key.{name as #self}
 use Rattle.lhm_ring.proofs.ring.Ring.lend.Statement.{statement}
@@ -78,18 +79,17 @@ lend_spec 𝓤 𝓛 𝓜 𝓡 wired K V LK LV =
     use1 𝓛 (some (λ (x : (i : Inside S W) × ((view S W i ≡ d) × good S W i)). ‵ (part_at (Full S W) full_share x.0 rb ro)))
     (plain_out R (Full S W) (view_owns (Full S W) (State (K.Denot × V.Denot)) R.coded (view S W) (good S W)) 𝓛 full_share d rb ro) $ pick ! (λ x.
     let i : Inside S W = x.0 in let seen = x.1.0 in let ok = x.1.1 in let kb : Ptr → _ = kept_by S W i in let es = entries S W i in let ps : List Ptr = at_places Q S W es in let ws : List V.Denot = vals Q S W es in
-    let As' : SemTy = As S W i in let Vs : SemTy = Vals S W i in let Fs : Fml = Fields S W 𝓛 i d seen ok rb ro in let m : State (K.Denot × V.Denot) = listed_as S W i ws in
-    let is : taken m.held es ≡ ws = taken_named S W 𝓛 i d seen ok rb ro ws (length-map (run_of es) _ ∙ length-map es _) in let mcode = R.coded.code m in
+    let As' : SemTy = As S W 𝓛 i d seen ok rb ro in let Vs : SemTy = Vals S W i in let Fs : Fml = Fields S W 𝓛 i d seen ok rb ro in let is : placed S W 𝓛 i d seen ok rb ro (held_values d.held) ≡ ws = placed-own S W 𝓛 i d seen ok rb ro in
     use1 𝓛 (‵ (spread W ps ws) ⊛ ‵ Fs) (ring_cut S W kb 𝓛 i rb ro) $ split ! $
     -- [the values; the fields; the open borrow, in three; the other tokens]
     rewrite ! 0 (λ (l : List V.Denot). ‵ (spread W ps l)) (sym is) refl $ nothing ! $ move ! (2 ∷ 0 ∷ []) $ fjoin ! $ nothing ! $ move ! (3 ∷ 4 ∷ 5 ∷ 2 ∷ 1 ∷ 0 ∷ []) $ group ! 6 $
-    use1 𝓛 (later (some (λ (ν : ℕ). ‵ (fobs ν mcode) ⊛ ‵ (fbor κ (Borrowed As' 0 0 ν)) ⊛ ‵ (flft κ q) ⊛ ‵ (follows R R γ ν (with_values d)) ⊛ ‵ (fbor κ Fs) ⊛ ‵ ftrue)))
-    (takes_beside 𝓛 (mem R) As' (with_values d) κ q rb ro 0 0 γ (Fs ∷ []) (emp 𝓤) (back S W 𝓛 i d seen ok rb ro) dcode dcode m) $ await ! tt $ pick ! (λ ν. split3 ! $ move ! (2 ∷ []) $ split3 ! $ move ! (3 ∷ 4 ∷ 0 ∷ []) $
+    use1 𝓛 (later (some (λ (ν : ℕ). ‵ (fobs ν dcode) ⊛ ‵ (fbor κ (Borrowed As' 0 0 ν)) ⊛ ‵ (flft κ q) ⊛ ‵ (follows R R γ ν (with_values d)) ⊛ ‵ (fbor κ Fs) ⊛ ‵ ftrue)))
+    (takes_beside 𝓛 (mem R) As' (with_values d) κ q rb ro 0 0 γ (Fs ∷ []) (emp 𝓤) (λ m. back S W 𝓛 i d seen ok rb ro (held_values m.held)) dcode dcode d) $ await ! tt $ pick ! (λ ν. split3 ! $ move ! (2 ∷ []) $ split3 ! $ move ! (3 ∷ 4 ∷ 0 ∷ []) $
     -- [the name; the borrow; its token; what follows; the shared parts; the other tokens]
-    open_ref ! tt As' {x = m} {b = 0} {o = 0} $ rewrite ! 0 (λ (l : List V.Denot). ‵ (spread W ps l)) is refl $ nothing ! $ move ! (2 ∷ 3 ∷ 4 ∷ 1 ∷ 0 ∷ []) $ group ! 5 $
-    use1 𝓛 (later (some (λ (δ : ℕ). ‵ (fobs δ (Vs.coded.code ws)) ⊛ ‵ (fbor κ (Borrowed Vs 0 0 δ)) ⊛ ‵ (flft κ q) ⊛ ‵ (afterwards As' Vs ν δ (listed_as S W i)))))
-    (takes_part 𝓛 As' Vs (listed_as S W i) κ q 0 0 0 0 ν (emp 𝓤) (named_back S W 𝓛 i d seen ok rb ro) mcode mcode ws) $ await ! tt $ pick ! (λ δ. split3 ! $ fjoin ! $
-    let lent : Loan Links K.Denot V.Denot = record { mark = record {}; name = δ; tie = ν; run = run_of es } in let top : Bor (State (K.Denot × V.Denot)) = record { ref_ptr = (rb, ro); now = d } in
+    open_ref ! tt As' {x = d} {b = 0} {o = 0} $ rewrite ! 0 (λ (l : List V.Denot). ‵ (spread W ps l)) is refl $ nothing ! $ move ! (2 ∷ 3 ∷ 4 ∷ 1 ∷ 0 ∷ []) $ group ! 5 $
+    use1 𝓛 (later (some (λ (δ : ℕ). ‵ (fobs δ (Vs.coded.code ws)) ⊛ ‵ (fbor κ (Borrowed Vs 0 0 δ)) ⊛ ‵ (flft κ q) ⊛ ‵ (afterwards As' Vs ν δ (listed_as S W 𝓛 i d seen ok rb ro)))))
+    (takes_part 𝓛 As' Vs (listed_as S W 𝓛 i d seen ok rb ro) κ q 0 0 0 0 ν (emp 𝓤) (ordered_back S W 𝓛 i d seen ok rb ro) dcode dcode ws) $ await ! tt $ pick ! (λ δ. split3 ! $ fjoin ! $
+    let lent : ValueLoan Links K.Denot V.Denot = record { mark = record {}; name = δ; tie = ν; run = run_of es } in let top : Bor (State (K.Denot × V.Denot)) = record { ref_ptr = (rb, ro); now = d } in
     use0 𝓛 (‵ (lm.own_val (tt, tt) (mark ∷ []))) (loan_made (named_lft 3 0 tt κs) Q S W 𝓛) $ fjoin ! $
     -- [the loan; its token and the second name's; what follows; the shared parts; the other tokens]
     move ! (1 ∷ []) $ split ! $ move ! (4 ∷ []) $ split ! $
@@ -101,14 +101,14 @@ lend_spec 𝓤 𝓛 𝓜 𝓡 wired K V LK LV =
     use1 𝓛 (‵ (Holed.shr_at d rb ro κ)) (view-Hides (I-type.the_row S Hr) (State (K.Denot × V.Denot)) Holed.coded (R-type.the_view S Hr) (R-type.the_invariant S Hr) _ 𝓤 𝓛 d i (seen, ok) rb ro κ) $
     hide ! $ feq_i ! (List Val) (vptr rb ro ∷ []) (vptr rb ro ∷ []) refl $ fjoin ! $
     -- [the ring, shared; the token; nothing; the second name's; the loan; what follows; the other tokens]
-    move ! (0 ∷ 4 ∷ []) $ two_made ! (ShrRef (named 0) κ Holed) It top lent (vptr rb ro) mark $
+    move ! (0 ∷ 4 ∷ []) $ struct_made ! (declared.shape (T-type.the_type (named_lft 3 0 tt κs) S W)) (ShrRef (named 0) κ Holed) It top lent (vptr rb ro) mark $
     let out : Val = vstruct (vcons (vptr rb ro) (vcons mark vnil)) in
     sets ! (addr ! (through ! refl (stop !))) refl (tt, tt) $ first ! $ blocks ! $ sets_last ! (addr ! (through ! refl (stop !))) refl (tt, tt) $
     exec ! 𝓣.C 𝓣.Λ Ev (after 2 fn.body) (at_ret Ev Post) $ sets ! (of_opd ! (get ! refl)) refl (tt, tt) $ sets ! (agg ! (no_more !)) refl (tt, tt) $
     sets ! (agg ! (and_then ! (get ! refl) (no_more !))) refl (tt, (tt, tt)) $ sets ! (agg ! (and_then ! (get ! refl) (and_then ! (get ! refl) (no_more !)))) refl (tt, (tt, ((tt, tt), tt))) $
     -- [the pair; the token; nothing; the second name's; what follows; the other tokens]
     let Same : Type 0 = d.held ≡ d.held in let Lent' : Type 0 = AreLent (run_of es) d.held in
-    use0 𝓛 (raw (fact 𝓤 Lent')) (fact_i 𝓤 Lent' (emp 𝓤) (subst (λ (s : State (K.Denot × V.Denot)). AreLent (run_of es) s.held) seen (all_lent i.nodes.cells i.guard i.spare i.len i.spares ok.0))) $
+    use0 𝓛 (raw (fact 𝓤 Lent')) (fact_i 𝓤 Lent' (emp 𝓤) (lent_of S W 𝓛 i d seen ok rb ro)) $
     use0 𝓛 (raw (fact 𝓤 Same)) (fact_i 𝓤 Same (emp 𝓤) refl) $ join ! $ move ! (5 ∷ 0 ∷ []) $ join ! $ move ! (2 ∷ 5 ∷ []) $ join ! $
     nothing ! $ nothing ! $ fjoin ! $
-    returns ! (look_at ! 0 refl) $ free_all ! refl $ keep ! (1 ∷ 0 ∷ 3 ∷ 2 ∷ []) $ by ! (leaves 𝓛 En hs c y out (top, lent) (tt, tt) (tt, tt)))))))))
+    returns ! (look_at ! 0 refl) $ free_all ! refl $ keep ! (1 ∷ 0 ∷ 3 ∷ 2 ∷ []) $ by ! (leaves 𝓛 En hs c y out (record { ring = top; loan = lent }) (tt, tt) (tt, tt)))))))))

@@ -1,20 +1,27 @@
 use Rattle.std.proofs.Common.{◌∙◌, ap, Some, true, false}
 use Rattle.lhm_ring.specs.declared.block.Place.{Place}
-use Rattle.lhm_ring.proofs.Moves.{in_short}
-use Rattle.lhm_ring.proofs.Shown.{read_at}
+use Rattle.lhm_ring.proofs.ReadAtPosition.{read_at}
 use Rattle.lhm_ring.proofs.Neighbours.{next_held, next_at_is}
+use Rattle.lhm_ring.proofs.ValuesReplaced.{ring_apart}
 use Rattle.lhm_ring.proofs.ring.Ring.next.Goals as goal
 
 pub links-requires : goal.links-requires
-links-requires g c = let i = c.self.inside in read_at i.nodes.cells i.guard i.spare i.len i.spares _ c.self.invariant.0 (in_short c.self.view_is) c.args.at.place.ptr c.requires
+links-requires g c = let i = c.self.inside in read_at i.nodes.cells i.guard i.spare i.len i.spares _ c.self.invariant c.self.view_is c.args.at.place.ptr c.requires
 
 pub links-requires-2 : goal.links-requires-2
-links-requires-2 g c = let i = c.self.inside in next_held i.nodes.cells i.guard i.spare i.len i.spares _ c.self.invariant.0 (in_short c.self.view_is) c.args.at.place.ptr c.requires _ c.links.ensures
+links-requires-2 g c = let i = c.self.inside in next_held i.nodes.cells i.guard i.spare i.len i.spares _ c.self.invariant c.self.view_is c.args.at.place.ptr c.requires _ c.links.ensures
 
 pub returns-then-links : goal.returns-then-links
-returns-then-links g c = let i = c.self.inside in next_at_is i.nodes.cells i.guard i.spare i.len i.spares _ c.self.invariant.0 (in_short c.self.view_is) c.args.at.place.ptr _ _ c.links.ensures c.links-2.ensures true c.if-links.true
+returns-then-links g c =
+    let i = c.self.inside in record {
+      next = next_at_is i.nodes.cells i.guard i.spare i.len i.spares _ c.self.invariant c.self.view_is c.args.at.place.ptr _ _ c.links.ensures c.links-2.ensures true c.if-links.true;
+      apart = ring_apart i.nodes.cells i.guard i.spare i.len i.spares _ c.self.invariant c.self.view_is;
+    }
 
 pub returns : goal.returns
-returns g c xs t ys h at =
-    let i = c.self.inside in
-    ap (λ (z : Place). Some z.ptr) c.new.ensures ∙ next_at_is i.nodes.cells i.guard i.spare i.len i.spares _ c.self.invariant.0 (in_short c.self.view_is) c.args.at.place.ptr _ _ c.links.ensures c.links-2.ensures false c.if-links.false xs t ys h at
+returns g c =
+    let i = c.self.inside in record {
+      next = λ xs t ys h at.
+          ap (λ (z : Place). Some z.ptr) c.new.ensures ∙ next_at_is i.nodes.cells i.guard i.spare i.len i.spares _ c.self.invariant c.self.view_is c.args.at.place.ptr _ _ c.links.ensures c.links-2.ensures false c.if-links.false xs t ys h at;
+      apart = ring_apart i.nodes.cells i.guard i.spare i.len i.spares _ c.self.invariant c.self.view_is;
+    }

@@ -1,9 +1,8 @@
-use Rattle.lhm_ring.proofs.Moves.{in_short}
-use Rattle.lhm_ring.proofs.Shown.{read_at, read_number}
+use Rattle.lhm_ring.proofs.ReadAtPosition.{read_at, read_number}
 use Rattle.lhm_ring.proofs.ring.Ring.number.Goals as goal
 
 pub links-requires : goal.links-requires
-links-requires g c = let i = c.self.inside in read_at i.nodes.cells i.guard i.spare i.len i.spares _ c.self.invariant.0 (in_short c.self.view_is) c.args.at.place.ptr c.requires
+links-requires g c = let i = c.self.inside in read_at i.nodes.cells i.guard i.spare i.len i.spares _ c.self.invariant c.self.view_is c.args.at.place.ptr c.requires
 
 pub returns : goal.returns
-returns g c = let i = c.self.inside in read_number i.nodes.cells i.guard i.spare i.len i.spares _ c.self.invariant.0 (in_short c.self.view_is) c.args.at.place.ptr _ c.links.ensures
+returns g c = let i = c.self.inside in read_number i.nodes.cells i.guard i.spare i.len i.spares _ c.self.invariant c.self.view_is c.args.at.place.ptr _ c.links.ensures

@@ -1,10 +1,9 @@
-use Rattle.lhm_ring.proofs.Moves.{in_short}
 use Rattle.std.proofs.Common.{ap}
-use Rattle.lhm_ring.proofs.Shown.{read_held, read_pair}
+use Rattle.lhm_ring.proofs.ReadAtPosition.{read_held, read_pair}
 use Rattle.lhm_ring.proofs.ring.Ring.value.Goals as goal
 
 pub value-requires : goal.value-requires
-value-requires g c = let i = c.self.inside in read_held i.nodes.cells i.guard i.spare i.len i.spares _ c.self.invariant.0 (in_short c.self.view_is) c.args.at.place.ptr c.requires
+value-requires g c = let i = c.self.inside in read_held i.nodes.cells i.guard i.spare i.len i.spares _ c.self.invariant c.self.view_is c.args.at.place.ptr c.requires
 
 pub returns : goal.returns
-returns g c xs t ys h at = let i = c.self.inside in ap (λ (z : g.row.K.Denot × g.row.V.Denot). z.1) (read_pair i.nodes.cells i.guard i.spare i.len i.spares _ c.self.invariant.0 (in_short c.self.view_is) c.args.at.place.ptr _ c.value.ensures.1 xs t ys h at)
+returns g c xs t ys h at = let i = c.self.inside in ap (λ (z : g.row.K.Denot × g.row.V.Denot). z.1) (read_pair i.nodes.cells i.guard i.spare i.len i.spares _ c.self.invariant c.self.view_is c.args.at.place.ptr _ c.value.ensures.1 xs t ys h at)

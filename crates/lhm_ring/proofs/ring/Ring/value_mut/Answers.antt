@@ -1,42 +1,39 @@
 use Rattle.std.proofs.Common.{◌∙◌, ap, sym, subst, refl}
-use Rattle.lhm_ring.specs.Rings.{RingOk, SplicedOk, ring_list, spliced_list}
+use Rattle.lhm_ring.specs.Rings.{RingOk, ring_list}
 use Rattle.lhm_ring.specs.RingState.{Held, state, change_at}
-use Rattle.lhm_ring.specs.RingLends.{pair, revalued}
-use Rattle.lhm_ring.specs.Lends.{value_set}
+use Rattle.lhm_ring.specs.RingAfterLoan.{pair, revalued}
+use Rattle.lhm_ring.specs.NodesAfterLoan.{value_set}
 use Rattle.lhm_ring.specs.Cells.{with_body}
-use Rattle.lhm_ring.proofs.Moves.{in_short}
-use Rattle.lhm_ring.proofs.Shown.{content, read_held, read_links, read_pair, held_in}
-use Rattle.lhm_ring.proofs.Lent.{body_changes, ring_ok_same, ring_list_changed, changes_only, spliced_ok_same, spliced_list_same}
+use Rattle.lhm_ring.proofs.ReadAtPosition.{content, read_held, read_links, read_pair, held_in}
+use Rattle.lhm_ring.proofs.ContentChange.{body_changes, ring_ok_same, ring_list_changed, changes_only}
 use Rattle.lhm_ring.proofs.ring.Ring.value_mut.Goals as goal
 
 pub value_mut-requires : goal.value_mut-requires
-value_mut-requires g c = let i = c.self.inside in read_held i.nodes.cells i.guard i.spare i.len i.spares _ c.self.invariant.0 (in_short c.self.view_is) c.args.at.place.ptr c.requires
+value_mut-requires g c = let i = c.self.inside in read_held i.nodes.cells i.guard i.spare i.len i.spares _ c.self.invariant c.self.view_is c.args.at.place.ptr c.requires
 
 pub invariant_of-self-lent : goal.invariant_of-self-lent
 invariant_of-self-lent g c w =
     let i = c.self.inside in let h = c.requires in let p = c.args.at.place.ptr in let cs = i.nodes.cells in
-    let l = read_links cs i.guard i.spare i.len i.spares _ c.self.invariant.0 (in_short c.self.view_is) p h.0 h.1 h.2 h.3 h.4 in
-    let b = c.value_mut.ensures.value in let k = held_in cs i.guard i.spare i.len i.spares _ c.self.invariant.0 (in_short c.self.view_is) p h in
-    let j = body_changes cs p l.0 l.1 h.1 (content cs i.guard i.spare i.len i.spares _ c.self.invariant.0 (in_short c.self.view_is) p h.0 h.1 h.2 h.3 h.4) (pair b.0 w) in
-    subst (λ o. RingOk (with_body p (value_set w o) cs) i.guard i.spare i.len i.spares × SplicedOk (with_body p (value_set w o) cs) i.guard i.len i.first_spliced.ptr i.last_spliced.ptr i.spliced) (sym b.1)
-    (ring_ok_same cs _ p h.1 _ j i.guard i.spare i.len i.spares c.self.invariant.0 k, spliced_ok_same cs _ p h.1 _ j i.guard i.spare i.len i.spares c.self.invariant.0 k i.first_spliced.ptr i.last_spliced.ptr i.spliced c.self.invariant.1)
+    let l = read_links cs i.guard i.spare i.len i.spares _ c.self.invariant c.self.view_is p h.0 h.1 h.2 h.3 h.4 in
+    let b = c.value_mut.ensures.value in let k = held_in cs i.guard i.spare i.len i.spares _ c.self.invariant c.self.view_is p h in
+    let j = body_changes cs p l.0 l.1 h.1 (content cs i.guard i.spare i.len i.spares _ c.self.invariant c.self.view_is p h.0 h.1 h.2 h.3 h.4) (pair b.0 w) in
+    subst (λ o. RingOk (with_body p (value_set w o) cs) i.guard i.spare i.len i.spares) (sym b.1) (ring_ok_same cs _ p h.1 _ j i.guard i.spare i.len i.spares c.self.invariant k)
 
 pub returns : goal.returns
 returns g c =
     let i = c.self.inside in let h = c.requires in let p = c.args.at.place.ptr in let cs = i.nodes.cells in
-    let l = read_links cs i.guard i.spare i.len i.spares _ c.self.invariant.0 (in_short c.self.view_is) p h.0 h.1 h.2 h.3 h.4 in
-    let b = c.value_mut.ensures.value in let k = held_in cs i.guard i.spare i.len i.spares _ c.self.invariant.0 (in_short c.self.view_is) p h in
-    let is = read_pair cs i.guard i.spare i.len i.spares _ c.self.invariant.0 (in_short c.self.view_is) p _ b.1 in (
+    let l = read_links cs i.guard i.spare i.len i.spares _ c.self.invariant c.self.view_is p h.0 h.1 h.2 h.3 h.4 in
+    let b = c.value_mut.ensures.value in let k = held_in cs i.guard i.spare i.len i.spares _ c.self.invariant c.self.view_is p h in
+    let is = read_pair cs i.guard i.spare i.len i.spares _ c.self.invariant c.self.view_is p _ b.1 in (
       (
         refl,
         λ w.
-            let j = body_changes cs p l.0 l.1 h.1 (content cs i.guard i.spare i.len i.spares _ c.self.invariant.0 (in_short c.self.view_is) p h.0 h.1 h.2 h.3 h.4) (pair b.0 w) in
+            let j = body_changes cs p l.0 l.1 h.1 (content cs i.guard i.spare i.len i.spares _ c.self.invariant c.self.view_is p h.0 h.1 h.2 h.3 h.4) (pair b.0 w) in
             let f : Held (g.row.K.Denot × g.row.V.Denot) → Held (g.row.K.Denot × g.row.V.Denot) = revalued w in
             let same = ap (λ (z : g.row.K.Denot × g.row.V.Denot). record h.1 { pair = pair z.0 w }) (sym (is h.0 h.1 h.2 h.3 h.4)) in
             let q = ap (λ o. ring_list (with_body p (value_set w o) cs) i.guard i.len) b.1 ∙ ring_list_changed cs _ p h.1 _ j f same i.guard i.len in
-            let s = ap (λ o. spliced_list (with_body p (value_set w o) cs) i.spliced i.first_spliced.ptr) b.1 ∙ spliced_list_same cs _ p h.1 _ j i.guard i.spare i.len i.spares c.self.invariant.0 k i.first_spliced.ptr i.last_spliced.ptr i.spliced c.self.invariant.1 in
             let v = c.self.view_is in
-            λ x. state ((q ∙ ap (λ (z : _). change_at p f z.held) v) x) (v x).spares ((s ∙ ap (λ (z : _). z.spliced) v) x),
+            λ x. state ((q ∙ ap (λ (z : _). change_at p f z.held) v) x) (v x).spares,
       ),
-      record { writes_back = tt; alone = changes_only cs i.guard i.spare i.len i.spares _ c.self.invariant.0 (in_short c.self.view_is) p; value = λ xs t ys e at. ap (λ (z : g.row.K.Denot × g.row.V.Denot). z.1) (is xs t ys e at) },
+      record { writes_back = tt; alone = changes_only cs i.guard i.spare i.len i.spares _ c.self.invariant c.self.view_is p; value = λ xs t ys e at. ap (λ (z : g.row.K.Denot × g.row.V.Denot). z.1) (is xs t ys e at) },
     )

@@ -1,0 +1,187 @@
+-- A ring of which only what is held at one place changes.
+use Rattle.std.proofs.Common.{◌≡◌, ℕ, suc, zero, true, false, cond, List, [], ◌∷◌, ◌++◌, map, length, Option, Some, None, refl, sym, ap, ◌∙◌, subst, append_assoc}
+use Rattle.std.specs.List.{AllByRecursion}
+use denote.RawPtr.{Ptr}
+use Rattle.lhm_ring.specs.declared.block.Place.{Place}
+use Rattle.lhm_ring.specs.declared.links.Links.{Links}
+use Rattle.lhm_ring.specs.Cells.{Cell, cell, same_ptr, links_of, body_of, links_at, body_at, IsApart, with_links, with_body}
+use Rattle.lhm_ring.specs.Rings.{relinked, ptr_of_some, next_of, prev_of, link_of, has_links, guard_of, next_at, prev_at, link_at, is_there, is_guard, content_of, content_at, Linked, Chained, HasContent, IsRing, follow, listed, one_of, ring_places, ring_list, RingOk}
+use Rattle.lhm_ring.specs.RingState.{State, state, Held, held, IsHeld, ChangesOnly, change_at}
+use Rattle.lhm_ring.proofs.Apart.{IsFresh, apart_none, same_ptr_eq, same_ptr_refl, same_ptr_symm}
+use Rattle.lhm_ring.proofs.Writes.{at_other, length-change, read_kept, links_set, body_kept}
+use Rattle.lhm_ring.proofs.Rows.{all_from, all_right, content_place, apart_at, apart_head, apart_left, apart_tail, follow_row}
+use Rattle.lhm_ring.proofs.Moves.{ring_listed, none_held, found}
+use Rattle.lhm_ring.proofs.Splicing.{next_relinked, prev_relinked, guard_relinked, link_relinked, number_relinked}
+use Rattle.lhm_ring.proofs.OneNodeChanged.{links_kept, body_set, content_number, content_link, content_guard, content_pair, content_holds}
+
+-- the same nodes and the same order, but that p holds u in place of t
+pub record ChangesAt {B : Type 0} (cs ds : List (Cell Links B)) (p : Ptr) (t u : Held B) : Type 0 where
+  pub next : (q : Ptr) → next_at ds q ≡ next_at cs q
+  pub prev : (q : Ptr) → prev_at ds q ≡ prev_at cs q
+  pub there : (q : Ptr) → is_there ds q ≡ is_there cs q
+  pub guard : (q : Ptr) → is_guard ds q ≡ is_guard cs q
+  pub link : (q : Ptr) → same_ptr p q ≡ false → link_at ds q ≡ link_at cs q
+  pub content : (q : Ptr) → same_ptr p q ≡ false → content_at ds q ≡ content_at cs q
+  pub was : content_at cs p ≡ Some t
+  pub is : content_at ds p ≡ Some u
+  pub count : length ds ≡ length cs
+
+module _ {B : Type 0} (cs ds : List (Cell Links B)) (p : Ptr) (t u : Held B) (j : ChangesAt cs ds p t u) where
+  row_same : (s : List Ptr) → Linked cs s → Linked ds s
+  row_same [] k = tt
+  row_same (y ∷ []) k = tt
+  row_same (y ∷ z ∷ r) k = ((j.next y ∙ k.0.0, j.prev z ∙ k.0.1), row_same (z ∷ r) k.1)
+
+  chain_same : (h : Option Ptr) (ss : List Ptr) → IsFresh p ss → Chained cs h ss → Chained ds h ss
+  chain_same h [] f k = k
+  chain_same h (y ∷ ys) f k = (k.0, chain_same (link_at ds y) ys f.1 (subst (λ z. Chained cs z ys) (sym (j.link y f.0)) k.1))
+
+  pub follow_same : (n : ℕ) (q : Ptr) → follow ds n q ≡ follow cs n q
+  unfolding follow
+  follow_same zero q = refl
+  follow_same (suc n) q = (λ i. j.next q i ∷ follow ds n (j.next q i)) ∙ ap (λ r. next_at cs q ∷ r) (follow_same n (next_at cs q))
+
+  has_new : (q : Ptr) → HasContent cs q → HasContent ds q
+  has_new q h = (elim (same_ptr p q) as (λ y. same_ptr p q ≡ y → HasContent ds q) [
+    | true ↦ λ s. subst (HasContent ds) (same_ptr_eq p q s) (u, j.is)
+    | false ↦ λ n. (h.0, j.content q n ∙ h.1)
+  ]) refl
+
+  pub ring_same : (g : Ptr) (ps : List Ptr) (spare : Option Ptr) (ss : List Ptr) → IsFresh p ss → IsRing cs g ps spare ss → IsRing ds g ps spare ss
+  ring_same g ps spare ss f r = record {
+    linked = row_same (g ∷ (ps ++ g ∷ [])) r.linked;
+    chained = chain_same spare ss f r.chained;
+    held = all_from (HasContent cs) (HasContent ds) has_new ps r.held;
+    there = all_from (λ q. is_there cs q ≡ true) (λ q. is_there ds q ≡ true) (λ q h. j.there q ∙ h) (g ∷ (ps ++ ss)) r.there;
+    apart = r.apart;
+    count = j.count ∙ r.count;
+    guard = j.guard g ∙ r.guard;
+  }
+
+  -- where p stands in the ring
+  split_at : (guard spare : Option Place) (n m : ℕ) → RingOk cs guard spare n m → IsHeld (ring_list cs guard n) p → (us : List Ptr) × (vs : List Ptr) × (ring_places cs guard n ≡ us ++ p ∷ vs)
+  split_at None spare n m ok h = absurd (none_held p h)
+  split_at (Some g) spare n m ok h =
+      let f = found cs g spare n m ok h.0 h.1 h.2 h.3 in let s = f.place in
+      (s.before, s.after, ap (λ k. follow cs k g.ptr) (sym s.long) ∙ follow_row cs g.ptr (s.before ++ h.1.at ∷ s.after) g.ptr s.ring.linked ∙ ap (λ q. s.before ++ q ∷ s.after) h.4)
+
+  free_of : (g : Place) (spare : Option Place) (n m : ℕ) (ok : RingOk cs (Some g) spare n m) (us vs : List Ptr) → follow cs n g.ptr ≡ us ++ p ∷ vs → IsFresh p ok.1
+  free_of g spare n m ok us vs e =
+      let is : ok.0 ≡ us ++ p ∷ vs = sym (ap (λ k. follow cs k g.ptr) (sym ok.3) ∙ follow_row cs g.ptr ok.0 g.ptr ok.2.linked) ∙ e in
+      let d : IsApart ((g.ptr ∷ us) ++ p ∷ (vs ++ ok.1)) = subst (λ qs. IsApart (g.ptr ∷ qs)) (ap (λ qs. qs ++ ok.1) is ∙ append_assoc us (p ∷ vs) ok.1) ok.2.apart in
+      all_right (λ q. same_ptr p q ≡ false) vs ok.1 (all_right (λ q. same_ptr p q ≡ false) (g.ptr ∷ us) (vs ++ ok.1) (apart_at (g.ptr ∷ us) p (vs ++ ok.1) d))
+
+  pub ring_ok_same : (guard spare : Option Place) (n m : ℕ) → RingOk cs guard spare n m → IsHeld (ring_list cs guard n) p → RingOk ds guard spare n m
+  ring_ok_same None spare n m ok h = absurd (none_held p h)
+  ring_ok_same (Some g) spare n m ok h =
+      let s = split_at (Some g) spare n m ok h in
+      (ok.0, ok.1, ring_same g.ptr ok.0 (ptr_of_some spare) ok.1 (free_of g spare n m ok s.0 s.1 s.2) ok.2, ok.3, ok.4, ok.5)
+
+  module _ (f : Held B → Held B) (fx : f t ≡ u) where
+    place : t.at ≡ p
+    place = content_place p (links_at cs p) (body_at cs p) t j.was
+
+    changed : change_at p f (t ∷ []) ≡ u ∷ []
+    changed = ap (λ y. cond y (f t) t ∷ []) (ap (λ q. same_ptr q p) place ∙ same_ptr_refl p) ∙ ap (λ z. z ∷ []) fx
+
+    left : (q : Ptr) (o : Option (Held B)) → same_ptr p q ≡ false → ((z : Held B) → o ≡ Some z → z.at ≡ q) → change_at p f (one_of o) ≡ one_of o
+    left q None n h = refl
+    left q (Some z) n h = ap (λ y. cond y (f z) z ∷ []) (ap (λ r. same_ptr r p) (h z refl) ∙ same_ptr_symm q p ∙ n)
+
+    one_changed : (q : Ptr) → one_of (content_at ds q) ≡ change_at p f (one_of (content_at cs q))
+    one_changed q = (elim (same_ptr p q) as (λ y. same_ptr p q ≡ y → one_of (content_at ds q) ≡ change_at p f (one_of (content_at cs q))) [
+      | true ↦ λ s. subst (λ r. one_of (content_at ds r) ≡ change_at p f (one_of (content_at cs r))) (same_ptr_eq p q s)
+          (ap one_of j.is ∙ sym (ap (λ o. change_at p f (one_of o)) j.was ∙ changed))
+      | false ↦ λ n. ap one_of (j.content q n) ∙ sym (left q (content_at cs q) n (λ z h. content_place q (links_at cs q) (body_at cs q) z h))
+    ]) refl
+
+    change-append : (xs ys : List (Held B)) → change_at p f (xs ++ ys) ≡ change_at p f xs ++ change_at p f ys
+    change-append [] ys = refl
+    change-append (x ∷ xs) ys = ap (λ r. cond (same_ptr x.at p) (f x) x ∷ r) (change-append xs ys)
+
+    listed_changed : (qs : List Ptr) → listed ds qs ≡ change_at p f (listed cs qs)
+    unfolding listed
+    listed_changed [] = refl
+    listed_changed (q ∷ qs) = (λ i. one_changed q i ++ listed_changed qs i) ∙ sym (change-append (one_of (content_at cs q)) (listed cs qs))
+
+    pub ring_list_changed : (guard : Option Place) (n : ℕ) → ring_list ds guard n ≡ change_at p f (ring_list cs guard n)
+    ring_list_changed None n = refl
+    ring_list_changed (Some g) n = ap (listed ds) (follow_same n g.ptr) ∙ listed_changed (follow cs n g.ptr)
+
+-- the body of a node is written, or its further link
+module _ {B : Type 0} (cs : List (Cell Links B)) (p : Ptr) (l : Links) (e : links_at cs p ≡ Some l) (t : Held B) (c : content_at cs p ≡ Some t) where
+  open_guard : l.guard ≡ false
+  open_guard = sym (ap guard_of e) ∙ content_guard p (links_at cs p) (body_at cs p) t c
+
+  seen_content : (o : Option Links) (b : Option B) (k : Links) (x : B) → o ≡ Some k → b ≡ Some x → k.guard ≡ false → content_of p o b ≡ Some (held p k.number (link_of (Some k)) x)
+  seen_content o b k x eo eb f = (λ i. content_of p (eo i) (eb i)) ∙ ap (λ y. cond y None (Some (held p k.number (link_of (Some k)) x))) f
+
+  shown_links : content_of p (Some l) (body_at cs p) ≡ Some t
+  shown_links = ap (λ o. content_of p o (body_at cs p)) (sym e) ∙ c
+
+  pub body_changes : (x : B) → ChangesAt cs (with_body p (Some x) cs) p t (held t.at t.number t.link x)
+  body_changes x =
+      let same : (q : Ptr) → links_at (with_body p (Some x) cs) q ≡ links_at cs q = links_kept p (Some x) cs l e in
+      let place : t.at ≡ p = content_place p (links_at cs p) (body_at cs p) t c in
+      record {
+        next = λ q. ap next_of (same q);
+        prev = λ q. ap prev_of (same q);
+        there = λ q. ap has_links (same q);
+        guard = λ q. ap guard_of (same q);
+        link = λ q _. ap link_of (same q);
+        content = λ q n. ap (λ z. content_of q (links_of z) (body_of z)) (at_other p (λ c. cell c.at c.links (Some x)) (λ c. refl) q n cs);
+        was = c;
+        is = seen_content (links_at (with_body p (Some x) cs) p) (body_at (with_body p (Some x) cs) p) l x (same p ∙ e) (body_set p (Some x) cs l e) open_guard
+            ∙ ap (λ z. Some z) (λ i. held (sym place i) (sym (content_number p l (body_at cs p) t shown_links) i) (sym (content_link p l (body_at cs p) t shown_links) i) x);
+        count = length-change p (λ c. cell c.at c.links (Some x)) cs;
+      }
+
+  pub link_changes : (o : Option Place) → ChangesAt cs (with_links p (relinked o l) cs) p t (held t.at t.number (ptr_of_some o) t.pair)
+  link_changes o =
+      let k : Links = relinked o l in let e₂ : links_at (with_links p k cs) p ≡ Some k = links_set p k cs l e p ∙ ap (λ y. cond y (Some k) (links_at cs p)) (same_ptr_refl p) in
+      let place : t.at ≡ p = content_place p (links_at cs p) (body_at cs p) t c in let x = content_holds p (links_at cs p) (body_at cs p) t c in
+      let pair : t.pair ≡ x.0 = content_pair p (links_at cs p) x.0 t (ap (λ b. content_of p (links_at cs p) b) (sym x.1) ∙ c) in
+      record {
+        next = read_kept p k next_of cs l e (next_relinked o l);
+        prev = read_kept p k prev_of cs l e (prev_relinked o l);
+        there = read_kept p k has_links cs l e refl;
+        guard = read_kept p k guard_of cs l e (guard_relinked o l);
+        link = λ q n. ap (λ z. link_of (links_of z)) (at_other p (λ c. cell c.at k c.body) (λ c. refl) q n cs);
+        content = λ q n. ap (λ z. content_of q (links_of z) (body_of z)) (at_other p (λ c. cell c.at k c.body) (λ c. refl) q n cs);
+        was = c;
+        is = seen_content (links_at (with_links p k cs) p) (body_at (with_links p k cs) p) k x.0 e₂ (body_kept p k cs l e p ∙ x.1) (guard_relinked o l ∙ open_guard)
+            ∙ ap (λ z. Some z) (λ i. held (sym place i) ((number_relinked o l ∙ sym (content_number p l (body_at cs p) t shown_links)) i) (link_relinked o l i) (sym pair i));
+        count = length-change p (λ c. cell c.at k c.body) cs;
+      }
+
+-- what is held lies at places that are apart, so that a change of one is a change of no other
+module _ {B : Type 0} where
+  places_listed : (cs : List (Cell Links B)) (ps : List Ptr) → AllByRecursion (HasContent cs) ps → map (λ (t : Held B). t.at) (listed cs ps) ≡ ps
+  unfolding listed
+  places_listed cs [] a = refl
+  places_listed cs (p ∷ ps) a = ap (λ o. map (λ (t : Held B). t.at) (one_of o ++ listed cs ps)) a.0.1 ∙ (λ i. content_place p (links_at cs p) (body_at cs p) a.0.0 a.0.1 i ∷ places_listed cs ps a.1 i)
+
+  ring_apart : (cs : List (Cell Links B)) (guard spare : Option Place) (n m : ℕ) → RingOk cs guard spare n m → IsApart (map (λ (t : Held B). t.at) (ring_list cs guard n))
+  ring_apart cs None spare n m ok = apart_none
+  ring_apart cs (Some g) spare n m ok =
+      subst IsApart (sym (ap (map (λ (t : Held B). t.at)) (ring_listed cs g.ptr ok.0 (ptr_of_some spare) ok.1 n ok.2 ok.3) ∙ places_listed cs ok.0 ok.2.held)) (apart_left ok.0 ok.1 (apart_tail g.ptr (ok.0 ++ ok.1) ok.2.apart))
+
+  unchanged : (p : Ptr) (f : Held B → Held B) (ys : List (Held B)) → IsFresh p (map (λ (t : Held B). t.at) ys) → change_at p f ys ≡ ys
+  unchanged p f [] d = refl
+  unchanged p f (y ∷ ys) d = λ i. cond ((same_ptr_symm y.at p ∙ d.0) i) (f y) y ∷ unchanged p f ys d.1 i
+
+  fresh_of : (q p : Ptr) (xs : List (Held B)) (t : Held B) (ys : List (Held B)) → t.at ≡ p → IsFresh q (map (λ (t : Held B). t.at) (xs ++ t ∷ ys)) → same_ptr q p ≡ false
+  fresh_of q p [] t ys at d = ap (same_ptr q) (sym at) ∙ d.0
+  fresh_of q p (x ∷ xs) t ys at d = fresh_of q p xs t ys at d.1
+
+  changed_at : (p : Ptr) (f : Held B → Held B) (xs : List (Held B)) (t : Held B) (ys : List (Held B)) → t.at ≡ p → IsApart (map (λ (t : Held B). t.at) (xs ++ t ∷ ys)) → change_at p f (xs ++ t ∷ ys) ≡ xs ++ f t ∷ ys
+  changed_at p f [] t ys at d =
+      let free = subst (λ q. IsFresh q (map (λ (t : Held B). t.at) ys)) at (apart_head t.at (map (λ (t : Held B). t.at) ys) d) in
+      λ i. cond ((ap (λ q. same_ptr q p) at ∙ same_ptr_refl p) i) (f t) t ∷ unchanged p f ys free i
+  changed_at p f (x ∷ xs) t ys at d =
+      let far = apart_head x.at (map (λ (t : Held B). t.at) (xs ++ t ∷ ys)) d in
+      λ i. cond (fresh_of x.at p xs t ys at far i) (f x) x ∷ changed_at p f xs t ys at (apart_tail x.at (map (λ (t : Held B). t.at) (xs ++ t ∷ ys)) d) i
+
+  pub changes_only : (cs : List (Cell Links B)) (guard spare : Option Place) (n m : ℕ) (v : State B) → RingOk cs guard spare n m → state (ring_list cs guard n) m ≡ v → (p : Ptr) → ChangesOnly v.held p
+  changes_only cs guard spare n m v ok w p xs t ys e at f =
+      ap (change_at p f) e ∙ changed_at p f xs t ys at (subst (λ hs. IsApart (map (λ (t : Held B). t.at) hs)) (ap (λ (z : State B). z.held) w ∙ e) (ring_apart cs guard spare n m ok))

@@ -1,0 +1,69 @@
+-- What one node holds is taken out of what is lent. Assumes `Logic`.
+use Rattle.std.proofs.Common.{◌≡◌, true, false, cond, List, [], ◌∷◌, ◌++◌, Option, Some, None, refl, sym, ap, ◌∙◌}
+use seplogic.Ra.Ura.{Ura}
+use base.Logic.{ent, sep, id⊢}
+use base.Fml.{Fml}
+use types.Logic.{Logic, sem}
+use types.Kit.{‵, ◌⊛◌, ◌$◌, ◌∵◌, !, qed, move, use1, use2, split, fsplit, fjoin, done}
+use denote.RawPtr.{Ptr}
+use Rattle.lhm_ring.specs.Cells.{same_ptr}
+use Rattle.lhm_ring.specs.Ownership.{body_owns}
+use Rattle.lhm_ring.specs.ContentLoan.{body_in, without_body, bodies, firsts, seconds}
+use Rattle.lhm_ring.proofs.Apart.{same_ptr_eq}
+use Rattle.lhm_ring.proofs.Memory.{Three, RL, RK, RV}
+use Rattle.lhm_ring.proofs.Options.{none_some}
+
+module _ {B : Type 0} where
+  pub record CutBody (cs : List (Ptr × Option B)) (p : Ptr) (x : B) : Type 0 where
+    pub before : List (Ptr × Option B)
+    pub place : Ptr
+    pub after : List (Ptr × Option B)
+    pub whole : cs ≡ before ++ (place, Some x) ∷ after
+    pub at : place ≡ p
+    pub taken : without_body p cs ≡ before ++ (place, None) ∷ after
+
+  pub cut_body : (cs : List (Ptr × Option B)) (p : Ptr) (x : B) → body_in cs p ≡ Some x → CutBody cs p x
+  unfolding body_in without_body
+  cut_body [] p x e = absurd (none_some x e)
+  cut_body (c ∷ cs) p x e =
+      (elim (same_ptr c.0 p) as (λ y. same_ptr c.0 p ≡ y → CutBody (c ∷ cs) p x) [
+        | true ↦ λ t. record {
+          before = [];
+          place = c.0;
+          after = cs;
+          whole = ap (λ z. (c.0, z) ∷ cs) (sym (ap (λ y. cond y c.1 (body_in cs p)) t) ∙ e);
+          at = same_ptr_eq c.0 p t;
+          taken = ap (λ y. cond y ((c.0, None) ∷ cs) (c ∷ without_body p cs)) t;
+        }
+        | false ↦ λ t. let on = cut_body cs p x (sym (ap (λ y. cond y c.1 (body_in cs p)) t) ∙ e) in record {
+          before = c ∷ on.before;
+          place = on.place;
+          after = on.after;
+          whole = ap (λ xs. c ∷ xs) on.whole;
+          at = on.at;
+          taken = ap (λ y. cond y ((c.0, None) ∷ cs) (c ∷ without_body p cs)) t ∙ ap (λ xs. c ∷ xs) on.taken;
+        }
+      ]) refl
+
+  pub same_firsts : (xs : List (Ptr × Option B)) (p : Ptr) (o u : Option B) (ys : List (Ptr × Option B)) → firsts (xs ++ (p, o) ∷ ys) ≡ firsts (xs ++ (p, u) ∷ ys)
+  same_firsts [] p o u ys = refl
+  same_firsts (x ∷ xs) p o u ys = ap (λ ps. x.0 ∷ ps) (same_firsts xs p o u ys)
+
+module _ (E : Three) {M : Type 1} {𝓤 : Ura M} (𝓛 : Logic 𝓤) where
+  abbrev Body : Ptr → Option (E.key.Denot × E.value.Denot) → Fml
+  Body p o = body_owns (RL E) (RK E) (RV E) p o
+
+  abbrev pub Run : List (Ptr × Option (E.key.Denot × E.value.Denot)) → Fml
+  Run cs = bodies (RL E) (RK E) (RV E) (firsts cs) (seconds cs)
+
+  pub bodies_cut : (xs : List (Ptr × Option (E.key.Denot × E.value.Denot))) (p : Ptr) (o : Option (E.key.Denot × E.value.Denot)) (ys : List (Ptr × Option (E.key.Denot × E.value.Denot)))
+      → ent 𝓤 (sem 𝓛 (Run (xs ++ (p, o) ∷ ys))) (sep 𝓤 (sem 𝓛 (Body p o)) (sem 𝓛 (Run (xs ++ ys))))
+  bodies_cut [] p o ys = id⊢ 𝓤 _
+  bodies_cut (x ∷ xs) p o ys = qed 𝓛 (‵ (Run (x ∷ xs ++ (p, o) ∷ ys)) ∷ []) ∵ fsplit ! $ move ! (1 ∷ []) $
+      use1 𝓛 (‵ (Body p o) ⊛ ‵ (Run (xs ++ ys))) (bodies_cut xs p o ys) $ split ! $ move ! (2 ∷ 1 ∷ []) $ fjoin ! $ move ! (1 ∷ []) $ done !
+
+  pub bodies_glue : (xs : List (Ptr × Option (E.key.Denot × E.value.Denot))) (p : Ptr) (o : Option (E.key.Denot × E.value.Denot)) (ys : List (Ptr × Option (E.key.Denot × E.value.Denot)))
+      → ent 𝓤 (sep 𝓤 (sem 𝓛 (Body p o)) (sem 𝓛 (Run (xs ++ ys)))) (sem 𝓛 (Run (xs ++ (p, o) ∷ ys)))
+  bodies_glue [] p o ys = id⊢ 𝓤 _
+  bodies_glue (x ∷ xs) p o ys = qed 𝓛 (‵ (Body p o) ∷ ‵ (Run (x ∷ xs ++ ys)) ∷ []) ∵ move ! (1 ∷ []) $ fsplit ! $ move ! (2 ∷ 1 ∷ []) $
+      use2 𝓛 (‵ (Run (xs ++ (p, o) ∷ ys))) (bodies_glue xs p o ys) $ move ! (1 ∷ 0 ∷ []) $ fjoin ! $ done !

@@ -1,0 +1,62 @@
+-- The heads of the buckets, as positions and as places.
+use Rattle.std.proofs.Common.{◌≡◌, ℕ, zero, suc, ◌+◌, ◌%◌, ◌<◌, List, [], ◌∷◌, ◌++◌, map, refl, sym, ◌∙◌, ap, arith, length, get_or, set, Option, Some, None, true}
+use Rattle.std.specs.Prelude.{IsSome}
+use denote.RawPtr.{Ptr, block_ptr, null_ptr, Testable, InBlock}
+use Rattle.std.proofs.lemmas.Bool.{eqb-true}
+use Rattle.lhm_ring.specs.declared.head.Head.{Head}
+use Rattle.lhm_ring.specs.Cells.{is_null_or_block}
+use Rattle.lhm_ring.specs.Heads.{head_of, led_to}
+use Rattle.std.proofs.lemmas.List.{length-map, map-set}
+use Rattle.std.proofs.Math.Nat.{mod-lt}
+use Rattle.lhm_ring.specs.declared.position.Position.{Position}
+use Rattle.lhm_ring.specs.Positions.{place_of, place_of_some}
+use Rattle.lhm_ring.specs.RingState.{Held, AtHeld, linked_to}
+use Rattle.lhm_ring.specs.Search.{OfNodeAt, Chains}
+
+-- the place of a head is the head of the places
+pub head_place : (heads : List Head) (b : ℕ) (h : Head) → b < length heads → get_or (map head_of heads) b None ≡ head_of (get_or heads b h)
+head_place [] b h l = absurd (omega (arith, l))
+head_place (k ∷ heads) zero h l = refl
+head_place (k ∷ heads) (suc b) h l = head_place heads b h (omega (arith, l))
+
+-- a head that is there
+pub is_there : {K V : Type 0} (head : Option (Position K V)) (q : Ptr) → place_of_some head ≡ Some q → IsSome head
+is_there None q e = absurd (cc)
+is_there (Some p) q e = refl
+
+-- one more empty bucket
+pub none_more : (xs : List Head) (h : Head) → head_of h ≡ None → ((b : ℕ) → get_or (map head_of xs) b None ≡ None) → (b : ℕ) → get_or (map head_of (xs ++ h ∷ [])) b None ≡ None
+none_more [] h e a zero = e
+none_more [] h e a (suc b) = refl
+none_more (x ∷ xs) h e a zero = a 0
+none_more (x ∷ xs) h e a (suc b) = none_more xs h e (λ c. a (suc c)) b
+
+-- one more bucket is emptied
+pub cleared : (xs : List Head) (i : ℕ) (h : Head) → head_of h ≡ None → ((b : ℕ) → b < i → get_or (map head_of xs) b None ≡ None) → (b : ℕ) → b < i + 1 → get_or (map head_of (set xs i h)) b None ≡ None
+cleared [] i h e a b l = refl
+cleared (x ∷ xs) zero h e a zero l = e
+cleared (x ∷ xs) zero h e a (suc b) l = absurd (omega (arith, l))
+cleared (x ∷ xs) (suc i) h e a zero l = a 0 (omega arith)
+cleared (x ∷ xs) (suc i) h e a (suc b) l = cleared xs i h e (λ c m. a (suc c) (omega (arith, m))) b (omega (arith, l))
+
+-- the head of a bucket becomes a link, and the position the head
+pub chained : {K V : Type 0} (at : Position K V) (heads : List Head) (old_head new_head : Head) (link : Option (Position K V)) (count number bucket : ℕ) (old new : List (Held (K × V))) → count ≡ length heads → 0 < count → bucket ≡ number % count
+    → old_head ≡ get_or heads bucket old_head → place_of_some link ≡ head_of old_head → head_of new_head ≡ Some (place_of at)
+    → OfNodeAt old (place_of at) (λ x. number ≡ x.number) → AtHeld old (place_of at) (λ before x after. new ≡ before ++ linked_to (place_of_some link) x ∷ after) → Chains (place_of at) (map head_of heads) (map head_of (set heads bucket new_head)) old new
+chained {K} {V} at heads old_head new_head link count number bucket old new many some is head_is link_is new_is own sets = λ before x after e p.
+    let b : bucket ≡ x.number % length (map head_of heads) = is ∙ ap (λ n. n % count) (own before x after e p) ∙ ap (λ n. x.number % n) (many ∙ sym (length-map heads head_of)) in
+    let within : bucket < length heads = let l : number % count < count = mod-lt number some in omega (arith, l, is, many) in
+    let read : get_or (map head_of heads) bucket None ≡ place_of_some link = head_place heads bucket old_head within ∙ ap head_of (sym head_is) ∙ sym link_is in
+    record {
+      nodes_is = sets before x after e p ∙ ap (λ (l : Option Ptr). before ++ linked_to l x ∷ after) (sym read ∙ ap (λ n. get_or (map head_of heads) n None) b);
+      heads_is = map-set head_of heads bucket new_head ∙ (λ i. set (map head_of heads) (b i) (new_is i));
+    }
+
+-- what may be compared with null, and where it leads
+pub comparable : (p : Ptr) → is_null_or_block p ≡ true → Testable p
+comparable (block_ptr b o) e = let z : o ≡ 0 = eqb-true o 0 e in omega (arith, z)
+comparable null_ptr e = omega arith
+
+pub led_there : (p : Ptr) → InBlock p → led_to p ≡ Some p
+led_there (block_ptr b o) t = refl
+led_there null_ptr t = absurd t

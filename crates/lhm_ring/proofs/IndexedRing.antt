@@ -1,0 +1,67 @@
+-- A ring with its index, after the ring's own calls.
+use Rattle.std.proofs.Common.{◌≡◌, ◌+◌, ◌<◌, List, [], ◌∷◌, ◌++◌, refl, sym, ◌∙◌, ap, subst, arith, length, length-append, Option}
+use Rattle.std.proofs.lemmas.List.{length-map}
+use denote.RawPtr.{Ptr}
+use Rattle.lhm_ring.specs.RingState.{State, Held, IsHeld, AtHeld}
+use Rattle.lhm_ring.specs.RingAfterLoan.{held_values, with_value, with_values}
+use Rattle.lhm_ring.specs.Buckets.{buckets}
+use Rattle.lhm_ring.specs.Index.{spot, spots, Indexes}
+use Rattle.lhm_ring.specs.Search.{HasNoChain}
+use Rattle.lhm_ring.specs.IndexedRing.{IsIndexed}
+use Rattle.lhm_ring.proofs.BucketCounts.{buckets_zero, capacity_le}
+use Rattle.lhm_ring.proofs.Chains.{Indexes-none}
+use Rattle.lhm_ring.proofs.IndexMoves.{Indexes-to_back, spots-value, spots-values}
+
+-- nothing is held
+pub indexed_none : {K V : Type 0} (heads : List (Option Ptr)) (s : State (K × V)) → HasNoChain heads → s.held ≡ [] → length heads ≡ buckets s.spares → IsIndexed heads s
+indexed_none {K} {V} heads s h e n =
+    let zero_held : length s.held ≡ 0 = ap length e in
+    let all : length s.held + s.spares ≡ s.spares = omega (arith, zero_held) in
+    record {
+      chains = subst (λ (v : List (Held (K × V))). Indexes heads (spots v)) (sym e) (Indexes-none heads h);
+      count = n ∙ ap buckets (sym all);
+    }
+
+pub indexed_new : {K V : Type 0} (heads : List (Option Ptr)) (s : State (K × V)) → heads ≡ [] → s.held ≡ [] → s.spares ≡ 0 → IsIndexed heads s
+indexed_new {K} {V} heads s h e z =
+    indexed_none heads s (λ b l. absurd (let f : length heads ≡ 0 = ap length h in omega (arith, f, l))) e (ap length h ∙ sym (ap buckets z ∙ buckets_zero))
+
+-- everything that was held is spare
+pub indexed_spliced : {K V : Type 0} (heads heads' : List (Option Ptr)) (s t : State (K × V)) → IsIndexed heads s → HasNoChain heads' → length heads' ≡ length heads → t.held ≡ [] → t.spares ≡ s.spares + length s.held → IsIndexed heads' t
+indexed_spliced heads heads' s t i h n e m =
+    let all : length s.held + s.spares ≡ t.spares = omega (arith, m) in
+    indexed_none heads' t h e (n ∙ i.count ∙ ap buckets all)
+
+-- what the index reads is as before
+pub indexed_same : {K V : Type 0} (heads : List (Option Ptr)) (s t : State (K × V)) → IsIndexed heads s → spots t.held ≡ spots s.held → t.spares ≡ s.spares → IsIndexed heads t
+indexed_same heads s t i e m =
+    let a : length (spots t.held) ≡ length t.held = length-map t.held spot in
+    let b : length (spots s.held) ≡ length s.held = length-map s.held spot in
+    let c : length (spots t.held) ≡ length (spots s.held) = ap length e in
+    let all : length s.held + s.spares ≡ length t.held + t.spares = omega (arith, a, b, c, m) in
+    record { chains = subst (λ v. Indexes heads v) (sym e) i.chains; count = i.count ∙ ap buckets all }
+
+-- a value was written, or all of them
+pub indexed_value : {K V : Type 0} (heads : List (Option Ptr)) (s : State (K × V)) (p : Ptr) (w : V) → IsIndexed heads s → IsIndexed heads (with_value s p w)
+indexed_value heads s p w i = indexed_same heads s (with_value s p w) i (spots-value p w s.held) refl
+
+pub indexed_values : {K V : Type 0} (heads : List (Option Ptr)) (s w : State (K × V)) → IsIndexed heads s → IsIndexed heads (with_values s w)
+indexed_values heads s w i = indexed_same heads s (with_values s w) i (spots-values s.held (held_values w.held)) refl
+
+-- a triple was moved to the back
+pub indexed_to_back : {K V : Type 0} (heads : List (Option Ptr)) (s t : State (K × V)) (p : Ptr) → IsIndexed heads s → IsHeld s.held p → AtHeld s.held p (λ xs x ys. t.held ≡ (xs ++ ys) ++ x ∷ []) → t.spares ≡ s.spares → IsIndexed heads t
+indexed_to_back {K} {V} heads s t p i h last m =
+    let e : t.held ≡ (h.0 ++ h.2) ++ h.1 ∷ [] = last h.0 h.1 h.2 h.3 h.4 in
+    let c : Indexes heads (spots (h.0 ++ h.1 ∷ h.2)) = subst (λ (v : List (Held (K × V))). Indexes heads (spots v)) h.3 i.chains in
+    let d : Indexes heads (spots t.held) = subst (λ (v : List (Held (K × V))). Indexes heads (spots v)) (sym e) (Indexes-to_back heads h.0 h.1 h.2 c) in
+    let a : length t.held ≡ length ((h.0 ++ h.2) ++ h.1 ∷ []) = ap length e in
+    let b : length s.held ≡ length (h.0 ++ h.1 ∷ h.2) = ap length h.3 in
+    let f : length ((h.0 ++ h.2) ++ h.1 ∷ []) ≡ length (h.0 ++ h.2) + 1 = length-append (h.0 ++ h.2) (h.1 ∷ []) in
+    let g : length (h.0 ++ h.2) ≡ length h.0 + length h.2 = length-append h.0 h.2 in
+    let k : length (h.0 ++ h.1 ∷ h.2) ≡ length h.0 + length (h.1 ∷ h.2) = length-append h.0 (h.1 ∷ h.2) in
+    let all : length s.held + s.spares ≡ length t.held + t.spares = omega (arith, a, b, f, g, k, m) in
+    record { chains = d; count = i.count ∙ ap buckets all }
+
+-- where a node is there, so is a bucket
+pub indexed_some : {K V : Type 0} (heads : List (Option Ptr)) (s : State (K × V)) → IsIndexed heads s → 0 < s.spares → 0 < length heads
+indexed_some heads s i l = let c = capacity_le (length s.held + s.spares) in let n = i.count in omega (arith, c, n, l)

@@ -1,0 +1,154 @@
+-- A node more among the spare ones, and the guard of an empty ring.
+use Rattle.std.proofs.Common.{◌≡◌, ℕ, suc, ◌+◌, ◌<◌, ◌^◌, true, false, cond, List, [], ◌∷◌, ◌++◌, length, Option, Some, None, refl, sym, ap, ◌∙◌, subst, arith}
+use Rattle.std.specs.List.{AllByRecursion}
+use Rattle.std.specs.Prelude.{Result, Ok, Err, MatchResult, OnErr}
+use Rattle.std.specs.Result.{IsErr}
+use denote.RawPtr.{Ptr}
+use Rattle.lhm_ring.specs.declared.block.Place.{Place}
+use Rattle.lhm_ring.specs.declared.links.Links.{Links}
+use Rattle.lhm_ring.specs.Cells.{Cell, cell, cell_at, same_ptr, places, links_of, IsApart}
+use Rattle.lhm_ring.specs.Rings.{links, ptr_of_some, link_of, guard_of, has_links, is_guard, link_at, is_there, Chained, IsRing, IsJoined, listed, ring_list, RingOk}
+use Rattle.lhm_ring.specs.RingState.{State, state}
+use Rattle.lhm_ring.proofs.Apart.{IsFresh, same_ptr_eq, same_ptr_refl}
+use Rattle.lhm_ring.proofs.Rows.{all_both, all_left, all_right, all_from, apart_head, apart_in, edge_made}
+use Rattle.lhm_ring.proofs.Moves.{ring_listed, ring_length, opened}
+use Rattle.lhm_ring.proofs.OneNodeChanged.{row_other, chain_other, held_other, listed_other}
+use Rattle.lhm_ring.proofs.Options.{some_none}
+
+false_true : false ≡ true → ⊥
+false_true e = cc
+
+pub link_links : (g : Place) (o : Option Place) → link_of (Some (links g o)) ≡ ptr_of_some o
+link_links g None = refl
+link_links g (Some q) = refl
+
+module _ {B : Type 0} (cs : List (Cell Links B)) (p : Ptr) (l : Links) (d : IsApart (places (cell p l None ∷ cs))) where
+  abbrev ds : List (Cell Links B)
+  ds = cell p l None ∷ cs
+
+  pub other : (q : Ptr) → same_ptr p q ≡ false → cell_at ds q ≡ cell_at cs q
+  unfolding cell_at
+  other q n = ap (λ y. cond y (Some (cell p l None)) (cell_at cs q)) n
+
+  pub here : cell_at ds p ≡ Some (cell p l None)
+  unfolding cell_at
+  here = ap (λ y. cond y (Some (cell p l None)) (cell_at cs p)) (same_ptr_refl p)
+
+  nowhere_in : (zs : List (Cell Links B)) → IsFresh p (places zs) → (q : Ptr) → is_there zs q ≡ true → same_ptr p q ≡ false
+  unfolding cell_at
+  nowhere_in [] f q e = absurd (false_true e)
+  nowhere_in (z ∷ zs) f q e =
+      (elim (same_ptr z.at q) as (λ y. same_ptr z.at q ≡ y → has_links (links_of (cond y (Some z) (cell_at zs q))) ≡ true → same_ptr p q ≡ false) [
+        | true ↦ λ s h. subst (λ r. same_ptr p r ≡ false) (same_ptr_eq z.at q s) f.0
+        | false ↦ λ s h. nowhere_in zs f.1 q h
+      ]) refl e
+
+  pub fresh_all : (qs : List Ptr) → AllByRecursion (λ q. is_there cs q ≡ true) qs → IsFresh p qs
+  fresh_all = all_from (λ q. is_there cs q ≡ true) (λ q. same_ptr p q ≡ false) (nowhere_in cs (apart_head p (places cs) d))
+
+  there_more : (q : Ptr) → is_there cs q ≡ true → is_there ds q ≡ true
+  there_more q h = ap (λ z. has_links (links_of z)) (other q (nowhere_in cs (apart_head p (places cs) d) q h)) ∙ h
+
+  module _ (g : Ptr) (ps : List Ptr) (spare : Option Ptr) (ss : List Ptr) (r : IsRing cs g ps spare ss) (e : link_of (Some l) ≡ spare) where
+    abbrev T : Ptr → Type 0
+    T q = is_there cs q ≡ true
+
+    free : IsFresh p (g ∷ (ps ++ ss))
+    free = fresh_all (g ∷ (ps ++ ss)) r.there
+
+    abbrev P : Ptr → Type 0
+    P q = same_ptr p q ≡ false
+
+    spare_here : link_at ds p ≡ link_of (Some l)
+    spare_here = ap (λ z. link_of (links_of z)) here
+
+    pub more : IsRing ds g ps (Some p) (p ∷ ss)
+    more = record {
+      linked = row_other cs ds p other (g ∷ (ps ++ g ∷ [])) (free.0, all_both P ps (g ∷ []) (all_left P ps ss free.1) (free.0, tt)) r.linked;
+      chained = (refl, chain_other cs ds p other (link_at ds p) ss (all_right P ps ss free.1) (subst (λ z. Chained cs z ss) (sym (spare_here ∙ e)) r.chained));
+      held = held_other cs ds p other ps (all_left P ps ss free.1) r.held;
+      there = (
+        there_more g r.there.0,
+        all_both (λ q. is_there ds q ≡ true) ps (p ∷ ss) (all_from T (λ q. is_there ds q ≡ true) there_more ps (all_left T ps ss r.there.1))
+            (ap (λ z. has_links (links_of z)) here, all_from T (λ q. is_there ds q ≡ true) there_more ss (all_right T ps ss r.there.1)),
+      );
+      apart = apart_in (g ∷ ps) p ss free r.apart;
+      count = ap (λ n. suc n) r.count ∙ omega arith;
+      guard = ap (λ z. guard_of (links_of z)) (other g free.0) ∙ r.guard;
+    }
+
+    pub more_listed : listed ds ps ≡ listed cs ps
+    more_listed = listed_other cs ds p other ps (all_left P ps ss free.1)
+
+module _ {B : Type 0} (cs ds : List (Cell Links B)) (guard spare : Option Place) (g p : Place) (n m : ℕ) (e : guard ≡ Some g) (ok : RingOk cs guard spare n m) (small : n + m < 2 ^ 57)
+    (f : ds ≡ cell p.ptr (links g spare) None ∷ cs) (d : IsApart (places ds)) where
+  o : RingOk cs (Some g) spare n m
+  o = opened cs guard spare g n m e ok
+
+  abbrev l : Links
+  l = links g spare
+
+  d' : IsApart (places (cell p.ptr l None ∷ cs))
+  d' = subst (λ zs. IsApart (places zs)) f d
+
+  made : IsRing ds g.ptr o.0 (Some p.ptr) (p.ptr ∷ o.1)
+  made = subst (λ zs. IsRing zs g.ptr o.0 (Some p.ptr) (p.ptr ∷ o.1)) (sym f) (more cs p.ptr l d' g.ptr o.0 (ptr_of_some spare) o.1 o.2 (link_links g spare))
+
+  pub more_ring : RingOk ds guard (Some p) n (m + 1)
+  more_ring =
+      let a = o.4 in
+      subst (λ z. RingOk ds z (Some p) n (m + 1)) (sym e) (o.0, p.ptr ∷ o.1, made, o.3, omega arith, omega arith)
+
+  pub more_list : (v : State B) → state (ring_list cs guard n) m ≡ v → state (ring_list ds guard n) (m + 1) ≡ state v.held (v.spares + 1)
+  more_list v w =
+      let new : ring_list ds guard n ≡ v.held = ap (λ z. ring_list ds z n) e ∙ ring_listed ds g.ptr o.0 (Some p.ptr) (p.ptr ∷ o.1) n made o.3
+      ∙ ap (λ zs. listed zs o.0) f ∙ more_listed cs p.ptr l d' g.ptr o.0 (ptr_of_some spare) o.1 o.2 (link_links g spare)
+      ∙ sym (ring_listed cs g.ptr o.0 (ptr_of_some spare) o.1 n o.2 o.3) ∙ sym (ap (λ z. ring_list cs z n) e) ∙ ap (λ (z : State B). z.held) w in
+      λ i. state (new i) (ap (λ (z : State B). z.spares) w i + 1)
+
+-- a ring's fields, with its guard known
+pub record Guarded {B : Type 0} (cs : List (Cell Links B)) (guard spare : Option Place) (n m : ℕ) (g : Place) (v : State B) : Type 0 where
+  pub is : guard ≡ Some g
+  pub ok : RingOk cs guard spare n m
+  pub view : state (ring_list cs guard n) m ≡ v
+
+module _ {B : Type 0} where
+  pub guard_made : (cs ds : List (Cell Links B)) (guard spare : Option Place) (n m : ℕ) (g : Place) (v : State B) → guard ≡ None → RingOk cs guard spare n m → state (ring_list cs guard n) m ≡ v → IsRing ds g.ptr [] None []
+      → Guarded ds (Some g) spare n m g v
+  unfolding listed
+  guard_made cs ds None spare n m g v e ok w r = record {
+    is = refl;
+    ok = ([], [], subst (λ z. IsRing ds g.ptr [] (ptr_of_some z) []) (sym ok.1) r, sym ok.2, sym ok.3, let a = ok.2 in let b = ok.3 in omega arith);
+    view = ap (λ k. state k m) (ring_listed ds g.ptr [] None [] n r (sym ok.2)) ∙ w;
+  }
+  guard_made cs ds (Some h) spare n m g v e ok w r = absurd (some_none h e)
+
+  pub first_there : (cs es : List (Cell Links B)) (g : Place) (l : Links) → es ≡ cell g.ptr l None ∷ cs → IsApart (places es) → is_there es g.ptr ≡ true
+  first_there cs es g l f d = ap (λ zs. is_there zs g.ptr) f ∙ ap (λ z. has_links (links_of z)) (here cs g.ptr l (subst (λ zs. IsApart (places zs)) f d))
+
+  -- a node alone is a ring once it is joined to itself
+  pub first_guard : (cs es ds : List (Cell Links B)) (g : Place) (l : Links) → cs ≡ [] → es ≡ cell g.ptr l None ∷ cs → IsApart (places es) → l.guard ≡ true → IsJoined es ds g.ptr g.ptr → IsRing ds g.ptr [] None []
+  first_guard cs es ds g l e f d s j = record {
+    linked = (edge_made es ds g.ptr g.ptr j, tt);
+    chained = refl;
+    held = tt;
+    there = (j.there g.ptr ∙ first_there cs es g l f d, tt);
+    apart = subst (λ zs. IsApart (places zs)) (f ∙ ap (λ zs. cell g.ptr l None ∷ zs) e) d;
+    count = j.count ∙ ap length (f ∙ ap (λ zs. cell g.ptr l None ∷ zs) e);
+    guard = j.guard g.ptr ∙ ap (λ zs. is_guard zs g.ptr) f ∙ ap (λ z. guard_of (links_of z)) (here cs g.ptr l (subst (λ zs. IsApart (places zs)) f d)) ∙ s;
+  }
+
+module _ {B : Type 0} where
+  pub room_left : (cs : List (Cell Links B)) (guard spare : Option Place) (n m : ℕ) (g : Place) (v : State B) → Guarded cs guard spare n m g v → length v.held + v.spares < 2 ^ 57 → n + m < 2 ^ 57
+  room_left cs guard spare n m g v k h = subst (λ (z : ℕ × ℕ). z.0 + z.1 < 2 ^ 57) (λ i. (sym (ring_length cs guard spare n m v k.ok k.view) i, sym (ap (λ (z : State B). z.spares) k.view) i)) h
+
+not_err : {A : Type 0} (E : Type 0) (a : A) → (let r : Result A E = Ok a in IsErr r) → ⊥
+not_err E a h = cc
+
+pub err_case : {A E X : Type 0} (P : A → Type 0) (r : Result A E) → IsErr r → X → MatchResult r P (λ _. X)
+err_case {E = E} P (Ok a) h x = absurd (not_err E a h)
+err_case P (Err e) h x = x
+
+pub on_err : {A E X : Type 0} (r : Result A E) → X → OnErr r X
+on_err (Ok a) x = tt
+on_err (Err e) x = x

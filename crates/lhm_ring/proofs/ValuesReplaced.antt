@@ -1,0 +1,299 @@
+-- The values that a ring holds are lent, and the ring is one again with others in their place.
+use Rattle.std.proofs.Common.{◌≡◌, ℕ, suc, zero, Bool, true, false, cond, List, [], ◌∷◌, ◌++◌, map, length, Option, Some, None, refl, sym, ap, ◌∙◌, subst, arith}
+use Rattle.std.specs.List.{AllByRecursion}
+use denote.RawPtr.{Ptr}
+use Rattle.lhm_ring.specs.declared.block.Place.{Place}
+use Rattle.lhm_ring.specs.declared.links.Links.{Links}
+use Rattle.lhm_ring.specs.Cells.{Cell, cell, cell_at, same_ptr, IsApart, places, links_of, body_of, links_at, body_at}
+use Rattle.lhm_ring.specs.ValueLoan.{value_at}
+use Rattle.lhm_ring.specs.Rings.{ptr_of_some, one_of, next_of, prev_of, link_of, guard_of, has_links, link_at, is_there, content_of, content_at, Linked, Chained, HasContent, IsRing, follow, listed, ring_list, ring_places, RingOk}
+use Rattle.lhm_ring.specs.RingState.{State, state, Held, held}
+use Rattle.lhm_ring.specs.RingAfterLoan.{pair, revalued}
+use Rattle.lhm_ring.specs.Walks.{IsBetween, AreLent}
+use Rattle.lhm_ring.proofs.Apart.{IsFresh, same_ptr_eq, same_ptr_refl, apart_none}
+use Rattle.lhm_ring.proofs.Options.{none_some, some_same}
+use Rattle.lhm_ring.proofs.Rows.{all_from, content_place, follow_row, apart_left, apart_head, apart_tail, apart_cons}
+use Rattle.lhm_ring.proofs.OneNodeChanged.{content_holds, content_pair, content_guard}
+
+module _ {B : Type 0} where
+  pub whole_ring : (cs : List (Cell Links B)) (guard spare : Option Place) (g : Place) (n m : ℕ) → guard ≡ Some g → RingOk cs guard spare n m → IsBetween cs g.ptr g.ptr n
+  whole_ring cs guard spare g n m e ok =
+      let o : RingOk cs (Some g) spare n m = subst (λ z. RingOk cs z spare n m) e ok in
+      (o.0, o.3, o.2.held, apart_left o.0 o.1 (apart_tail g.ptr (o.0 ++ o.1) o.2.apart), λ z. (o.2.linked, o.2.there.0, o.2.there.0))
+
+  pub nothing_held : (cs : List (Cell Links B)) (guard : Option Place) (n m : ℕ) (v : State B) → guard ≡ None → state (ring_list cs guard n) m ≡ v → [] ≡ v.held
+  nothing_held cs guard n m v e w = ap (λ z. ring_list cs z n) (sym e) ∙ ap (λ (s : State B). s.held) w
+
+-- whether p is one of ps
+abbrev pub among : List Ptr → Ptr → Bool
+among [] p = false
+among (q ∷ ps) p = cond (same_ptr p q) true (among ps p)
+
+among_more : (q p : Ptr) (ps : List Ptr) → among ps p ≡ true → among (q ∷ ps) p ≡ true
+among_more q p ps h = elim (same_ptr p q) as (λ y. cond y true (among ps p) ≡ true) [ true ↦ refl | false ↦ h ]
+
+pub among_all : (ps : List Ptr) → AllByRecursion (λ p. among ps p ≡ true) ps
+among_all [] = tt
+among_all (q ∷ ps) = (ap (λ y. cond y true (among ps q)) (same_ptr_refl q), all_from (λ p. among ps p ≡ true) (λ p. among (q ∷ ps) p ≡ true) (λ p. among_more q p ps) ps (among_all ps))
+
+-- the value that hs has at p, and v where it has none there
+abbrev pub value_in : {K V : Type 0} → List (Held (K × V)) → Ptr → V → V
+value_in [] p v = v
+value_in (t ∷ hs) p v = cond (same_ptr t.at p) t.pair.1 (value_in hs p v)
+
+-- what is held, each with the value that hs has at its place
+abbrev pub revalued_by : {K V : Type 0} → List (Held (K × V)) → List (Held (K × V)) → List (Held (K × V))
+revalued_by hs = map (λ t. revalued (value_in hs t.at t.pair.1) t)
+
+module _ {K V : Type 0} where
+  abbrev pub lent_then : Bool → Ptr → Option (K × V) → List (Ptr × (K × V)) → List (Ptr × (K × V))
+  lent_then false p b r = r
+  lent_then true p None r = r
+  lent_then true p (Some x) r = (p, x) ∷ r
+
+  abbrev pub written_body : Bool → List (Held (K × V)) → Ptr → Option (K × V) → Option (K × V)
+  written_body false hs p b = b
+  written_body true hs p None = None
+  written_body true hs p (Some x) = Some (pair x.0 (value_in hs p x.1))
+
+  fresh_then : (q : Ptr) (k : Bool) (p : Ptr) (b : Option (K × V)) (r : List (Ptr × (K × V))) → same_ptr q p ≡ false → IsFresh q (map (λ c. c.0) r) → IsFresh q (map (λ c. c.0) (lent_then k p b r))
+  fresh_then q false p b r n f = f
+  fresh_then q true p None r n f = f
+  fresh_then q true p (Some x) r n f = (n, f)
+
+  apart_then : (k : Bool) (p : Ptr) (b : Option (K × V)) (r : List (Ptr × (K × V))) → IsFresh p (map (λ c. c.0) r) → IsApart (map (λ c. c.0) r) → IsApart (map (λ c. c.0) (lent_then k p b r))
+  apart_then false p b r f d = d
+  apart_then true p None r f d = d
+  apart_then true p (Some x) r f d = apart_cons p (map (λ c. c.0) r) f d
+
+  body_none : (k : Bool) (hs : List (Held (K × V))) (q : Ptr) → None ≡ written_body k hs q None
+  body_none false hs q = refl
+  body_none true hs q = refl
+
+module _ {L K V : Type 0} where
+  -- what the nodes hold whose places pass the test, each with its place
+  abbrev pub lent : (Ptr → Bool) → List (Cell L (K × V)) → List (Ptr × (K × V))
+  lent keep [] = []
+  lent keep (c ∷ cs) = lent_then (keep c.at) c.at c.body (lent keep cs)
+
+  -- the same nodes, of which those that pass the test have the values that hs has at their places
+  abbrev pub written : (Ptr → Bool) → List (Held (K × V)) → List (Cell L (K × V)) → List (Cell L (K × V))
+  written keep hs = map (λ c. cell c.at c.links (written_body (keep c.at) hs c.at c.body))
+
+  pub places_written : (keep : Ptr → Bool) (hs : List (Held (K × V))) (cs : List (Cell L (K × V))) → places (written keep hs cs) ≡ places cs
+  places_written keep hs [] = refl
+  places_written keep hs (c ∷ cs) = ap (λ ps. c.at ∷ ps) (places_written keep hs cs)
+
+  pub length_written : (keep : Ptr → Bool) (hs : List (Held (K × V))) (cs : List (Cell L (K × V))) → length (written keep hs cs) ≡ length cs
+  length_written keep hs [] = refl
+  length_written keep hs (c ∷ cs) = ap suc (length_written keep hs cs)
+
+  fresh_lent : (q : Ptr) (keep : Ptr → Bool) (cs : List (Cell L (K × V))) → IsFresh q (places cs) → IsFresh q (map (λ c. c.0) (lent keep cs))
+  fresh_lent q keep [] f = tt
+  fresh_lent q keep (c ∷ cs) f = fresh_then q (keep c.at) c.at c.body (lent keep cs) f.0 (fresh_lent q keep cs f.1)
+
+  pub apart_lent : (keep : Ptr → Bool) (cs : List (Cell L (K × V))) → IsApart (places cs) → IsApart (map (λ c. c.0) (lent keep cs))
+  apart_lent keep [] d = apart_none
+  apart_lent keep (c ∷ cs) d = apart_then (keep c.at) c.at c.body (lent keep cs) (fresh_lent c.at keep cs (apart_head c.at (places cs) d)) (apart_lent keep cs (apart_tail c.at (places cs) d))
+
+  links_written : (keep : Ptr → Bool) (hs : List (Held (K × V))) (cs : List (Cell L (K × V))) (q : Ptr) → links_at (written keep hs cs) q ≡ links_at cs q
+  unfolding cell_at
+  links_written keep hs [] q = refl
+  links_written keep hs (c ∷ cs) q =
+      elim (same_ptr c.at q) as (λ y. links_of (cond y (Some (cell c.at c.links (written_body (keep c.at) hs c.at c.body))) (cell_at (written keep hs cs) q)) ≡ links_of (cond y (Some c) (cell_at cs q))) [
+        | true ↦ refl
+        | false ↦ links_written keep hs cs q
+      ]
+
+  body_written : (keep : Ptr → Bool) (hs : List (Held (K × V))) (cs : List (Cell L (K × V))) (q : Ptr) → body_at (written keep hs cs) q ≡ written_body (keep q) hs q (body_at cs q)
+  unfolding cell_at
+  body_written keep hs [] q = body_none (keep q) hs q
+  body_written keep hs (c ∷ cs) q =
+      (elim (same_ptr c.at q) as (λ y. same_ptr c.at q ≡ y → body_of (cond y (Some (cell c.at c.links (written_body (keep c.at) hs c.at c.body))) (cell_at (written keep hs cs) q)) ≡ written_body (keep q) hs q (body_of (cond y (Some c) (cell_at cs q)))) [
+        | true ↦ λ t. ap (λ p. written_body (keep p) hs p c.body) (same_ptr_eq c.at q t)
+        | false ↦ λ n. body_written keep hs cs q
+      ]) refl
+
+module _ {K V : Type 0} where
+  -- the values at the places of r, as hs has them
+  abbrev pub taken : List (Held (K × V)) → List (Ptr × (K × V)) → List V
+  taken hs = map (λ c. value_in hs c.0 c.1.1)
+
+  -- the values ws at the places of r
+  abbrev pub listing : List (Ptr × (K × V)) → List V → List (Held (K × V))
+  listing [] ws = []
+  listing (c ∷ r) [] = []
+  listing (c ∷ r) (w ∷ ws) = held c.0 0 None (pair c.1.0 w) ∷ listing r ws
+
+  taken_skip : (t : Held (K × V)) (hs : List (Held (K × V))) (r : List (Ptr × (K × V))) → IsFresh t.at (map (λ c. c.0) r) → taken (t ∷ hs) r ≡ taken hs r
+  taken_skip t hs [] f = refl
+  taken_skip t hs (c ∷ r) f = λ i. cond (f.0 i) t.pair.1 (value_in hs c.0 c.1.1) ∷ taken_skip t hs r f.1 i
+
+  pub taken_listing : (r : List (Ptr × (K × V))) (ws : List V) → IsApart (map (λ c. c.0) r) → length ws ≡ length r → taken (listing r ws) r ≡ ws
+  taken_listing [] [] d e = refl
+  taken_listing [] (w ∷ ws) d e = absurd (omega arith)
+  taken_listing (c ∷ r) [] d e = absurd (omega arith)
+  taken_listing (c ∷ r) (w ∷ ws) d e =
+      let on = taken_skip (held c.0 0 None (pair c.1.0 w)) (listing r ws) r (apart_head c.0 (map (λ z. z.0) r) d) ∙ taken_listing r ws (apart_tail c.0 (map (λ z. z.0) r) d) (omega arith) in
+      λ i. cond (same_ptr_refl c.0 i) w (value_in (listing r ws) c.0 c.1.1) ∷ on i
+
+module _ {K V : Type 0} where
+  abbrev Full : Option (K × V) → Type 0
+  Full o = (y : K × V) × (o ≡ Some y)
+
+  full_written : (k : Bool) (hs : List (Held (K × V))) (q : Ptr) (b : Option (K × V)) → Full b → Full (written_body k hs q b)
+  full_written false hs q b f = f
+  full_written true hs q None f = absurd (none_some f.0 f.1)
+  full_written true hs q (Some x) f = (pair x.0 (value_in hs q x.1), refl)
+
+  some_links : (q : Ptr) (o : Option Links) (b : Option (K × V)) (t : Held (K × V)) → content_of q o b ≡ Some t → (l : Links) × (o ≡ Some l)
+  some_links q None b t e = absurd (none_some t e)
+  some_links q (Some l) b t e = (l, refl)
+
+  one_written : (hs : List (Held (K × V))) (p : Ptr) (o : Option Links) (b : Option (K × V)) (r s : List (Held (K × V))) → r ≡ revalued_by hs s
+      → one_of (content_of p o (written_body true hs p b)) ++ r ≡ revalued_by hs (one_of (content_of p o b) ++ s)
+  one_written hs p None b r s e = e
+  one_written hs p (Some l) None r s e = e
+  one_written hs p (Some l) (Some x) r s e =
+      elim l.guard as (λ y. one_of (cond y None (Some (held p l.number (link_of (Some l)) (pair x.0 (value_in hs p x.1))))) ++ r ≡ revalued_by hs (one_of (cond y None (Some (held p l.number (link_of (Some l)) x))) ++ s)) [
+        | true ↦ e
+        | false ↦ ap (λ us. held p l.number (link_of (Some l)) (pair x.0 (value_in hs p x.1)) ∷ us) e
+      ]
+
+  module _ (keep : Ptr → Bool) (hs : List (Held (K × V))) (cs : List (Cell Links (K × V))) where
+    abbrev ds : List (Cell Links (K × V))
+    ds = written keep hs cs
+
+    same : (q : Ptr) → links_at ds q ≡ links_at cs q
+    same = links_written keep hs cs
+
+    row_same : (s : List Ptr) → Linked cs s → Linked ds s
+    row_same [] k = tt
+    row_same (y ∷ []) k = tt
+    row_same (y ∷ z ∷ r) k = ((ap next_of (same y) ∙ k.0.0, ap prev_of (same z) ∙ k.0.1), row_same (z ∷ r) k.1)
+
+    chain_same : (h : Option Ptr) (ss : List Ptr) → Chained cs h ss → Chained ds h ss
+    chain_same h [] k = k
+    chain_same h (y ∷ ys) k = (k.0, chain_same (link_at ds y) ys (subst (λ z. Chained cs z ys) (sym (ap link_of (same y))) k.1))
+
+    has_same : (q : Ptr) → HasContent cs q → HasContent ds q
+    has_same q h =
+        let l = some_links q (links_at cs q) (body_at cs q) h.0 h.1 in let y = full_written (keep q) hs q (body_at cs q) (content_holds q (links_at cs q) (body_at cs q) h.0 h.1) in (
+          held q l.0.number (link_of (Some l.0)) y.0,
+          (λ i. content_of q ((same q ∙ l.1) i) ((body_written keep hs cs q ∙ y.1) i))
+              ∙ ap (λ z. cond z None (Some (held q l.0.number (link_of (Some l.0)) y.0))) (sym (ap guard_of l.1) ∙ content_guard q (links_at cs q) (body_at cs q) h.0 h.1),
+        )
+
+    ring_same : (g : Ptr) (ps : List Ptr) (spare : Option Ptr) (ss : List Ptr) → IsRing cs g ps spare ss → IsRing ds g ps spare ss
+    ring_same g ps spare ss r = record {
+      linked = row_same (g ∷ (ps ++ g ∷ [])) r.linked;
+      chained = chain_same spare ss r.chained;
+      held = all_from (HasContent cs) (HasContent ds) has_same ps r.held;
+      there = all_from (λ q. is_there cs q ≡ true) (λ q. is_there ds q ≡ true) (λ q h. ap has_links (same q) ∙ h) (g ∷ (ps ++ ss)) r.there;
+      apart = r.apart;
+      count = length_written keep hs cs ∙ r.count;
+      guard = ap guard_of (same g) ∙ r.guard;
+    }
+
+    follow_same : (n : ℕ) (q : Ptr) → follow ds n q ≡ follow cs n q
+    unfolding follow
+    follow_same zero q = refl
+    follow_same (suc n) q = (λ i. next_of (same q i) ∷ follow ds n (next_of (same q i))) ∙ ap (λ r. next_of (links_at cs q) ∷ r) (follow_same n (next_of (links_at cs q)))
+
+    content_is : (p : Ptr) → content_at ds p ≡ content_of p (links_at cs p) (written_body (keep p) hs p (body_at cs p))
+    content_is p = λ i. content_of p (same p i) (body_written keep hs cs p i)
+
+    listed_written : (ps : List Ptr) → AllByRecursion (λ p. keep p ≡ true) ps → listed ds ps ≡ revalued_by hs (listed cs ps)
+    unfolding listed
+    listed_written [] a = refl
+    listed_written (p ∷ ps) a =
+        ap (λ o. one_of o ++ listed ds ps) (content_is p ∙ ap (λ k. content_of p (links_at cs p) (written_body k hs p (body_at cs p))) a.0)
+        ∙ one_written hs p (links_at cs p) (body_at cs p) (listed ds ps) (listed cs ps) (listed_written ps a.1)
+
+    ring_ok_written : (guard spare : Option Place) (n m : ℕ) → RingOk cs guard spare n m → RingOk ds guard spare n m
+    ring_ok_written None spare n m ok = (ap (written keep hs) ok.0, ok.1, ok.2, ok.3)
+    ring_ok_written (Some g) spare n m ok = (ok.0, ok.1, ring_same g.ptr ok.0 (ptr_of_some spare) ok.1 ok.2, ok.3, ok.4, ok.5)
+
+    ring_list_by : (guard : Option Place) (n : ℕ) → AllByRecursion (λ p. keep p ≡ true) (ring_places cs guard n) → ring_list ds guard n ≡ revalued_by hs (ring_list cs guard n)
+    ring_list_by None n a = refl
+    ring_list_by (Some g) n a = ap (listed ds) (follow_same n g.ptr) ∙ listed_written (follow cs n g.ptr) a
+
+  -- the values that the ring holds, each with its place
+  abbrev pub held_entries : List (Cell Links (K × V)) → Option Place → ℕ → List (Ptr × (K × V))
+  held_entries cs guard n = lent (among (ring_places cs guard n)) cs
+
+  -- the nodes, where the ring holds the values that hs has at their places
+  abbrev pub held_written : List (Cell Links (K × V)) → Option Place → ℕ → List (Held (K × V)) → List (Cell Links (K × V))
+  held_written cs guard n hs = written (among (ring_places cs guard n)) hs cs
+
+  module _ (cs : List (Cell Links (K × V))) (guard spare : Option Place) (n m : ℕ) (hs : List (Held (K × V))) where
+    abbrev keeps : Ptr → Bool
+    keeps = among (ring_places cs guard n)
+
+    pub still_ring : RingOk cs guard spare n m → RingOk (held_written cs guard n hs) guard spare n m
+    still_ring = ring_ok_written keeps hs cs guard spare n m
+
+    pub list_written : ring_list (held_written cs guard n hs) guard n ≡ revalued_by hs (ring_list cs guard n)
+    list_written = ring_list_by keeps hs cs guard n (among_all (ring_places cs guard n))
+
+-- the values of what is held are all lent at first
+module _ {K V : Type 0} where
+  -- the values of the entries
+  abbrev pub run_of : List (Ptr × (K × V)) → List (Ptr × V)
+  run_of = map (λ c. (c.0, c.1.1))
+
+  past : (k : Bool) (p : Ptr) (b : Option (K × V)) (r : List (Ptr × (K × V))) (q : Ptr) → same_ptr p q ≡ false → value_at (run_of (lent_then k p b r)) q ≡ value_at (run_of r) q
+  unfolding value_at
+  past false p b r q n = refl
+  past true p None r q n = refl
+  past true p (Some x) r q n = ap (λ y. cond y (Some x.1) (value_at (run_of r) q)) n
+
+  here : (k : Bool) (p : Ptr) (b : Option (K × V)) (r : List (Ptr × (K × V))) (q : Ptr) (x : K × V) → k ≡ true → same_ptr p q ≡ true → b ≡ Some x → value_at (run_of (lent_then k p b r)) q ≡ Some x.1
+  unfolding value_at
+  here false p b r q x k t e = cc
+  here true p None r q x k t e = absurd (none_some x e)
+  here true p (Some z) r q x k t e = ap (λ y. cond y (Some z.1) (value_at (run_of r) q)) t ∙ ap (λ (u : K × V). Some u.1) (some_same z x e)
+
+  value_found : (keep : Ptr → Bool) (cs : List (Cell Links (K × V))) (q : Ptr) (x : K × V) → keep q ≡ true → body_at cs q ≡ Some x → value_at (run_of (lent keep cs)) q ≡ Some x.1
+  unfolding cell_at
+  value_found keep [] q x k e = absurd (none_some x e)
+  value_found keep (c ∷ cs) q x k e =
+      (elim (same_ptr c.at q) as (λ y. same_ptr c.at q ≡ y → body_of (cond y (Some c) (cell_at cs q)) ≡ Some x → value_at (run_of (lent keep (c ∷ cs))) q ≡ Some x.1) [
+        | true ↦ λ t z. here (keep c.at) c.at c.body (lent keep cs) q x (ap keep (same_ptr_eq c.at q t) ∙ k) t z
+        | false ↦ λ n z. past (keep c.at) c.at c.body (lent keep cs) q n ∙ value_found keep cs q x k z
+      ]) refl e
+
+  module _ (keep : Ptr → Bool) (cs : List (Cell Links (K × V))) where
+    one_lent : (p : Ptr) (h : HasContent cs p) → keep p ≡ true → value_at (run_of (lent keep cs)) h.0.at ≡ Some h.0.pair.1
+    one_lent p h k =
+        let x = content_holds p (links_at cs p) (body_at cs p) h.0 h.1 in
+        let same : h.0.pair ≡ x.0 = content_pair p (links_at cs p) x.0 h.0 (ap (λ o. content_of p (links_at cs p) o) (sym x.1) ∙ h.1) in
+        ap (value_at (run_of (lent keep cs))) (content_place p (links_at cs p) (body_at cs p) h.0 h.1) ∙ value_found keep cs p x.0 k x.1 ∙ ap (λ (u : K × V). Some u.1) (sym same)
+
+    each_lent : (ps : List Ptr) → AllByRecursion (HasContent cs) ps → AllByRecursion (λ p. keep p ≡ true) ps → AllByRecursion (λ t. value_at (run_of (lent keep cs)) t.at ≡ Some t.pair.1) (listed cs ps)
+    unfolding listed
+    each_lent [] a k = tt
+    each_lent (p ∷ ps) a k = subst (λ o. AllByRecursion (λ t. value_at (run_of (lent keep cs)) t.at ≡ Some t.pair.1) (one_of o ++ listed cs ps)) (sym a.0.1) (one_lent p a.0 k.0, each_lent ps a.1 k.1)
+
+  places_listed : (cs : List (Cell Links (K × V))) (ps : List Ptr) → AllByRecursion (HasContent cs) ps → map (λ (t : Held (K × V)). t.at) (listed cs ps) ≡ ps
+  unfolding listed
+  places_listed cs [] a = refl
+  places_listed cs (p ∷ ps) a = ap (λ o. map (λ (t : Held (K × V)). t.at) (one_of o ++ listed cs ps)) a.0.1 ∙ (λ i. content_place p (links_at cs p) (body_at cs p) a.0.0 a.0.1 i ∷ places_listed cs ps a.1 i)
+
+  pub all_lent : (cs : List (Cell Links (K × V))) (guard spare : Option Place) (n m : ℕ) → RingOk cs guard spare n m → AreLent (run_of (held_entries cs guard n)) (ring_list cs guard n)
+  all_lent cs None spare n m ok = (tt, apart_none)
+  all_lent cs (Some g) spare n m ok =
+      let is : ok.0 ≡ follow cs n g.ptr = sym (ap (λ k. follow cs k g.ptr) (sym ok.3) ∙ follow_row cs g.ptr ok.0 g.ptr ok.2.linked) in
+      let has : AllByRecursion (HasContent cs) (follow cs n g.ptr) = subst (AllByRecursion (HasContent cs)) is ok.2.held in (
+        each_lent (among (follow cs n g.ptr)) cs (follow cs n g.ptr) has (among_all (follow cs n g.ptr)),
+        subst IsApart (sym (places_listed cs (follow cs n g.ptr) has)) (subst IsApart is (apart_left ok.0 ok.1 (apart_tail g.ptr (ok.0 ++ ok.1) ok.2.apart))),
+      )
+
+  pub held_places : (cs : List (Cell Links (K × V))) (guard spare : Option Place) (n m : ℕ) → RingOk cs guard spare n m → map (λ (t : Held (K × V)). t.at) (ring_list cs guard n) ≡ ring_places cs guard n
+  held_places cs None spare n m ok = refl
+  held_places cs (Some g) spare n m ok =
+      let is : ok.0 ≡ follow cs n g.ptr = sym (ap (λ k. follow cs k g.ptr) (sym ok.3) ∙ follow_row cs g.ptr ok.0 g.ptr ok.2.linked) in
+      places_listed cs (follow cs n g.ptr) (subst (AllByRecursion (HasContent cs)) is ok.2.held)
+
+  pub ring_apart : (cs : List (Cell Links (K × V))) (guard spare : Option Place) (n m : ℕ) (v : State (K × V)) → RingOk cs guard spare n m → state (ring_list cs guard n) m ≡ v → IsApart (map (λ (t : Held (K × V)). t.at) v.held)
+  ring_apart cs guard spare n m v ok w = subst (λ (s : State (K × V)). IsApart (map (λ t. t.at) s.held)) w (all_lent cs guard spare n m ok).1

@@ -1,0 +1,94 @@
+-- `take` moves out what one node holds, of what is lent. Assumes `Logic`.
+use Rattle.std.proofs.Common.{◌≡◌, ℕ, ◌+◌, List, [], ◌∷◌, ◌++◌, refl, sym, ap, ◌∙◌, subst, Some, None, Option}
+use base.Fraction.{full_share}
+use mir.Val.{Val, vptr, vstruct, vcons, vnil}
+use mir.MapTy.{inst_fn}
+use base.Logic.{SProp, ent, emp, never, id⊢}
+use base.Fml.{Fml, Lft, ftrue, fsep, fat, fbor, froom, flft}
+use prog.Wp.{WpFn}
+use types.Kit.{◌∵◌, ‵, raw, ◌⊛◌, some, given, at_ret, ◌$◌, !, qed, by, move, keep, use0, use1, use2, pick, learn, split, join, fsplit, fsplit3, fjoin, fjoin3, suffices, rewrite, feq_i}
+use types.Run.{stop, fld, load, look, addr, of_opd, no_more, and_then, first, blocks, exec, returns, enter}
+use types.ByLocal.{alloc_all, pass_all, free_all, look_at, get, get_in, through, sets, sets_last, is, env}
+use types.Part.{sub, whole, agg}
+use types.Mut.{open_ref, close_ref}
+use types.SemTy.{SemTy, Body as Borrowed}
+use contract.Running.{tables}
+use contract.Monad.{fact, fact_i}
+use denote.Exit.{yes}
+use denote.RattleType.{RattleType, owns}
+use denote.Param.{layout}
+use denote.Signature.{types_at, plain, named_lft}
+use denote.RawPtr.{Ptr, ptr_val, lies_at, in_a_block}
+use denote.Steps.{nothing, heard, opens, closes}
+use denote.Triple.Walked.{Stays, stay_dropped, stay_ref, walk_of, Goes-dropped, Goes-ref}
+use Rattle.std.proofs.VecSteps.Shapes.{after}
+use Rattle.std.proofs.RcSteps.{Good, word, word-Good}
+use Rattle.std.proofs.RawLayout.{as_raw}
+use Rattle.std.proofs.raw_atomic.Walks.{proved_at, leaves}
+use denote.Struct.Struct.{as_fields}
+use Rattle.lhm_ring.specs.Ownership.{key_of, value_of, body_owns}
+use Rattle.lhm_ring.specs.ContentLoan.{Bodies, bodies, borrows_bodies, body_in, without_body, HasBody, firsts, seconds}
+use Rattle.lhm_ring.specs.declared.content_loan.ContentLoan.{ContentLoan}
+use Rattle.lhm_ring.specs.contracts.content_loan.ContentLoan as S-type
+use Rattle.lhm_ring.proofs.Memory.{Three, args, RL, RK, RV, ko, vo, Pl, place_told, two_made, value_out}
+use Rattle.lhm_ring.proofs.ContentTaken.{CutBody, cut_body, same_firsts, Run, bodies_cut, bodies_glue}
+use Rattle.lhm_ring.specs.contracts.content_loan.ContentLoan.take.{ended, clauses}
+use Rattle.lhm_ring.specs.contracts.content_loan.ContentLoan.take.Key.{name as #self}
+use Rattle.lhm_ring.proofs.content_loan.ContentLoan.take.Statement.{statement}
+use Rattle.lhm_ring.proofs.content_loan.ContentLoan.take.Code as code
+
+pub take_spec : {M : Type 1} → statement M
+take_spec 𝓤 𝓛 𝓜 𝓡 wired L K V LL LK LV =
+    let H = 𝓛.H in let 𝓣 = tables 𝓤 H 𝓜 𝓡 𝓡.env in let E : Three = record { links = L; links_laws = LL; key = K; key_laws = LK; value = V; value_laws = LV } in let R = RL E in let S = RK E in let W = RV E in
+    let En = ended L K V in let c = clauses L K V 𝓛 𝓜.mem 𝓡.returns in let fn = inst_fn (args E) code.function in
+    let hs : Stays En.signature.params En.kept = (stay_ref (0 ∷ []) tt (plain (λ κs. S-type.the_row (named_lft 5 1 tt κs) R S W)), (stay_dropped (plain (λ _. Pl)) yes, tt)) in
+    proved_at 𝓛 En hs c 𝓜 𝓡 (Goes-ref 𝓛 5 0 tt (plain (λ κs. S-type.the_row (named_lft 5 1 tt κs) R S W)), (Goes-dropped 𝓛 5 (plain (λ _. Pl)) yes (λ κs x f. refl), tt))
+    (#self (args E)) fn (code.unfolded 𝓤 H 𝓜 𝓡 wired (L, (K, (V, tt)))) (λ y are.
+    let κs = y.0.0 in let qs = y.0.1 in let a = y.0.3 in let vss = y.0.4 in let Post : Val → SProp 𝓤 = (walk_of 𝓛 En hs c).post y in
+    let rb : ℕ = a.0.ref_ptr.0 in let ro : ℕ = a.0.ref_ptr.1 in let d : ContentLoan L.Denot K.Denot V.Denot = a.0.now in let p : Ptr = a.1.0.ptr in
+    let rest : Fml = fsep (flft κs.1.1.0 qs.1.1.0) (fsep (flft κs.1.1.1.0 qs.1.1.1.0) (fsep (flft κs.1.1.1.1.0 qs.1.1.1.1.0) ftrue)) in let others : Fml = fsep (flft κs.1.0 qs.1.0) rest in
+    let It : RattleType = S-type.the_row (named_lft 5 1 tt κs) R S W in let κ : Lft = κs.1.0 in let q = qs.1.0 in
+    let Asked : Type 0 = HasBody d.run p in
+    qed 𝓛 (((‵ (flft κs.0 qs.0) ⊛ ‵ others) ⊛ ‵ (owns (types_at En.signature.params κs) a vss)) ∷ raw (fact 𝓤 _) ∷ raw (fact 𝓤 _) ∷ raw (fact 𝓤 _) ∷ raw (fact 𝓤 Asked) ∷ []) ∵
+    keep ! (4 ∷ 0 ∷ []) $ heard ! Asked (λ asked. split ! $ split ! $ move ! (2 ∷ []) $ fsplit ! $ fsplit3 ! $ keep ! (1 ∷ 2 ∷ 4 ∷ 5 ∷ []) $
+    let us : List Val = vptr rb ro ∷ word p ∷ [] in let Runs : List Val → SProp 𝓤 = λ ws. WpFn 𝓤 H 𝓣.C 𝓣.Λ fn ws Post in
+    suffices ! (Runs us) (subst (λ (ws : List Val). ent 𝓤 (Runs us) (Runs ws)) (sym (λ i. are.0.0 i ++ (place_told a.1.0 vss.1.0 are.1.0 i ++ []))) (id⊢ 𝓤 (Runs us))) $
+    enter ! 𝓣.C 𝓣.Λ fn us Post $ alloc_all ! (λ l. pass_all ! refl ((tt, tt), (word-Good [] p, tt)) $ let Ev = env fn.locals l in
+    let x = asked.0 in let k : CutBody d.run p x = cut_body d.run p x asked.1 in let xs = k.before in let ys = k.after in
+    let all : List (Ptr × Option (K.Denot × V.Denot)) = xs ++ (k.place, Some x) ∷ ys in let left : List (Ptr × Option (K.Denot × V.Denot)) = xs ++ (k.place, None) ∷ ys in
+    let same : firsts left ≡ firsts all = same_firsts xs k.place None (Some x) ys in let Bs : SemTy = Bodies R S W (firsts all) in
+    move ! (3 ∷ []) $ fsplit ! $ move ! (2 ∷ 3 ∷ 4 ∷ []) $
+    -- [self's name; its borrow; its token; the loan's token; the other tokens]
+    opens ! tt It {h = d} rb ro (λ vs. move ! (1 ∷ []) $ fsplit ! $ move ! (1 ∷ 6 ∷ []) $
+    rewrite ! 0 (λ (cs : List (Ptr × Option (K.Denot × V.Denot))). ‵ (borrows_bodies R S W κ d.name cs)) k.whole refl $ fsplit ! $
+    open_ref ! tt Bs {x = seconds all} {b = 0} {o = 0} $
+    use1 𝓛 (‵ (body_owns R S W k.place (Some x)) ⊛ ‵ (Run E 𝓛 (xs ++ ys))) (bodies_cut E 𝓛 xs k.place (Some x) ys) $ split ! $ fsplit ! $
+    in_a_block ! k.place (λ q. lies_at S full_share (key_of R S W q) x.0) (id⊢ 𝓤 (never 𝓤)) (λ pb po e.
+    move ! (1 ∷ []) $ rewrite ! 0 (λ (q : Ptr). ‵ (lies_at W full_share (value_of R S W q) x.1)) e refl $ move ! (1 ∷ []) $
+    use1 𝓛 (some (λ (u : Val). given (Good (layout K) u) (‵ (fat full_share (layout K) pb (po + ko E) u) ⊛ ‵ (K.own_val x.0 (u ∷ []))))) (value_out 1 K LK 𝓛 x.0 pb (po + ko E)) $ pick ! (λ u. learn ! (λ good. split ! $ move ! (2 ∷ []) $
+    use1 𝓛 (some (λ (u : Val). given (Good (layout V) u) (‵ (fat full_share (layout V) pb (po + vo E) u) ⊛ ‵ (V.own_val x.1 (u ∷ []))))) (value_out 2 V LV 𝓛 x.1 pb (po + vo E)) $ pick ! (λ w. learn ! (λ fine. split ! $
+    -- [the value's cell; what it owns; the key's cell; what it owns; the other bodies; their open borrow, in three; the mark; its cell; the open borrow, in three; the other tokens]
+    sets ! (is ! (of_opd ! (get_in ! (fld ! refl (stop !)) (sub ! 0 refl (whole !)))) (ap ptr_val (sym k.at ∙ e))) refl (tt, tt) $ first ! $ blocks ! $
+    sets ! (addr ! (through ! refl (fld ! refl (stop !)))) refl (tt, tt) $ sets_last ! (of_opd ! (load ! (through ! refl (stop !)) (look ! 2 refl))) refl good $ exec ! 𝓣.C 𝓣.Λ Ev (after 2 fn.body) (at_ret Ev Post) $ sets ! (of_opd ! (get ! refl)) refl good $ first ! $ blocks ! $
+    sets ! (addr ! (through ! refl (fld ! refl (stop !)))) refl (tt, tt) $ sets_last ! (of_opd ! (load ! (through ! refl (stop !)) (look ! 0 refl))) refl fine $ exec ! 𝓣.C 𝓣.Λ Ev (after 4 fn.body) (at_ret Ev Post) $ sets ! (of_opd ! (get ! refl)) refl fine $
+    let r : Val = vstruct (vcons u (vcons w vnil)) in
+    sets ! (of_opd ! (get ! refl)) refl good $ sets ! (of_opd ! (get ! refl)) refl fine $ sets ! (agg ! (and_then ! (get ! refl) (and_then ! (get ! refl) (no_more !)))) refl (as_fields (layout K ∷ layout V ∷ []) (u ∷ w ∷ []) (good, (fine, tt))) $
+    use1 𝓛 (‵ (froom (layout V) pb (po + vo E))) (𝓛.laws.at_room (layout V) pb (po + vo E) w) $ as_raw ! (layout V) pb (po + vo E) $ move ! (2 ∷ []) $
+    use1 𝓛 (‵ (froom (layout K) pb (po + ko E))) (𝓛.laws.at_room (layout K) pb (po + ko E) u) $ as_raw ! (layout K) pb (po + ko E) $ fjoin ! $
+    -- [room for both; what the value owns; what the key owns; the other bodies; their open borrow, in three; the mark; ..]
+    rewrite ! 0 (λ (q : Ptr). ‵ (body_owns R S W q None)) (sym e) refl $ move ! (0 ∷ 3 ∷ []) $ use2 𝓛 (‵ (Run E 𝓛 left)) (bodies_glue E 𝓛 xs k.place None ys) $
+    rewrite ! 0 (λ (ps : List Ptr). ‵ (bodies R S W ps (seconds left))) same refl $ move ! (0 ∷ 3 ∷ 4 ∷ 5 ∷ []) $ close_ref ! tt Bs (seconds left) {b = 0} {o = 0} $
+    -- [the bodies' name; their borrow; the loan's token; what the value owns; what the key owns; the mark; its cell; the open borrow, in three; the other tokens]
+    rewrite ! 1 (λ (ps : List Ptr). ‵ (fbor κ (Borrowed (Bodies R S W ps) 0 0 d.name))) (sym same) refl $ fjoin ! $
+    rewrite ! 0 (λ (cs : List (Ptr × Option (K.Denot × V.Denot))). ‵ (borrows_bodies R S W κ d.name cs)) (sym k.taken) refl $
+    let new : ContentLoan L.Denot K.Denot V.Denot = record { mark = d.mark; name = d.name; run = without_body p d.run } in
+    move ! (4 ∷ 0 ∷ []) $ fjoin ! $ move ! (4 ∷ 0 ∷ 5 ∷ 6 ∷ 7 ∷ []) $ closes ! tt It new vs rb ro $
+    -- [self's name; its borrow; its token; the loan's token; what the value owns; what the key owns; the other tokens]
+    feq_i ! (List Val) vss.0 (vptr rb ro ∷ []) are.0.0 $ fjoin3 ! $ nothing ! $ nothing ! $ fjoin ! $ move ! (1 ∷ 0 ∷ []) $ fjoin ! $
+    -- [self and the place; its token; the loan's token; the value's; the key's; the other tokens]
+    move ! (2 ∷ 5 ∷ []) $ join ! $ move ! (2 ∷ 0 ∷ []) $ join ! $
+    -- [the tokens; self and the place; the value's; the key's]
+    move ! (3 ∷ 2 ∷ []) $ two_made ! S W x.0 x.1 u w $
+    let Told : Type 0 = without_body p d.run ≡ without_body p d.run in let Got : Type 0 = body_in d.run p ≡ Some x in
+    use0 𝓛 (raw (fact 𝓤 Told)) (fact_i 𝓤 Told (emp 𝓤) refl) $ use0 𝓛 (raw (fact 𝓤 Got)) (fact_i 𝓤 Got (emp 𝓤) asked.1) $ join ! $
+    returns ! (look_at ! 0 refl) $ free_all ! refl $ keep ! (2 ∷ 3 ∷ 1 ∷ 0 ∷ []) $ by ! (leaves 𝓛 En hs c y r x (new, (tt, tt)) (tt, (tt, tt))))))))))))

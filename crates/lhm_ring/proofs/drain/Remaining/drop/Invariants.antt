@@ -1,0 +1,5 @@
+use Rattle.std.proofs.Common.{length}
+use Rattle.lhm_ring.proofs.drain.Remaining.drop.Given as goal
+
+abbrev pub decreases-rest : goal.decreases-rest
+decreases-rest g l = length l.self

@@ -1,0 +1,13 @@
+use Rattle.std.proofs.Common.{arith}
+use Rattle.lhm_ring.specs.Positions.{place_of}
+use Rattle.lhm_ring.proofs.Heads.{chained}
+use Rattle.lhm_ring.proofs.NodeBlocks.{block_at}
+use Rattle.lhm_ring.proofs.index.chain_one.Goals as goal
+
+pub of-requires : goal.of-requires
+of-requires g c = block_at c.args.ring.now.held (place_of c.args.at) c.set_link.ensures.blocks c.requires.held
+
+pub returns-clause-chained : goal.returns-clause-chained
+returns-clause-chained g c =
+    chained c.args.at c.args.heads.now.items c.index.result.now c.of.result c.get.result c.len.result c.number.result c.masked-bucket.result c.args.ring.now.held c.set_link.new.self.held (omega (arith, c.len.ensures, c.args.heads.now.ok)) (omega (arith, c.len.ensures, c.requires.some)) c.masked-bucket.ensures
+    c.index.ensures c.get.ensures c.of.ensures c.number.ensures c.set_link.ensures.held

@@ -1,0 +1,11 @@
+use Rattle.std.proofs.Common.{subst, sym, ◌≡◌, ℕ, ◌-◌, ◌%◌}
+use Rattle.std.specs.Prelude.{bit_and}
+use Rattle.std.proofs.lemmas.Nat.{and_mask}
+use Rattle.lhm_ring.proofs.BucketCounts.{power_of}
+use Rattle.lhm_ring.proofs.index.masked.Goals as goal
+
+pub returns : goal.returns
+returns c =
+    let p = power_of c.args.buckets c.requires.some c.requires.power in
+    let P : ℕ → Type 0 = λ n. bit_and c.args.number (n - 1) ≡ c.args.number % n in
+    subst P (sym p.1) (and_mask c.args.number p.0)

@@ -1,0 +1,16 @@
+-- A ring with an index: when they fit.
+use Rattle.std.specs.Prelude.{◌≡◌, ℕ, ◌+◌, List, [], ◌∷◌, length, Option}
+use denote.RawPtr.{Ptr}
+use Rattle.lhm_ring.specs.RingState.{State, Held}
+use Rattle.lhm_ring.specs.Index.{spots, Indexes}
+use Rattle.lhm_ring.specs.Buckets.{buckets}
+
+-- every held node is in the chain of its bucket and in no other, and there are as many buckets as the capacity asks for
+pub record IsIndexed {K V : Type 0} (heads : List (Option Ptr)) (s : State (K × V)) : Type 0 where
+  pub chains : Indexes heads (spots s.held)
+  pub count : length heads ≡ buckets (length s.held + s.spares)
+
+-- each stored number is the hash of the key
+abbrev pub AreHashed : {K V : Type 0} → (K → ℕ) → List (Held (K × V)) → Type 0
+AreHashed hash [] = Unit {0}
+AreHashed hash (x ∷ xs) = (x.number ≡ hash x.pair.0) × AreHashed hash xs

@@ -1,0 +1,423 @@
+//! Bucket chains through the nodes of a ring: which position has a key, by its number.
+//!
+//! A node's link leads to the next node of its chain. Whoever has an index over a ring lets nobody else set a link.
+ghost use Rattle.std.specs.Prelude.{◌≡◌, ◌+◌, ◌%◌, ◌<◌, ◌≤◌, ◌^◌, ◌∷◌, [], map, length, None, IfOk, IsOk, IfSome, IfNone, OnSome, slice_index_or, vec_len};
+ghost use Rattle.std.specs.Int.{IsNextPowerOfTwo};
+ghost use Rattle.lhm_ring.specs.RingState.{IsHeld};
+ghost use Rattle.lhm_ring.specs.Positions.{place_of, place_of_some};
+ghost use Rattle.lhm_ring.specs.Heads.{head_of};
+ghost use Rattle.lhm_ring.specs.Index.{spot, spots, Indexes, same};
+ghost use Rattle.lhm_ring.specs.Search.{OfNodeAt, entries, Compares, FindsKey, FindsNone, HasKey, IsAbsent, CountsSome, CountsAll, HoldsOthers, IsOnChain, Chains, HasNoChain};
+ghost use Rattle.lhm_ring.specs.Buckets.{buckets, rechained_raised, rechained_lowered, IsBucketCount};
+
+use crate::head::Head;
+use crate::position::Position;
+use crate::ring::Ring;
+use std::alloc::{AllocError, Global};
+use std::marker::{Model, PhantomData};
+
+/// What a look-up did.
+#[derive(Clone, Copy, Debug, PartialEq)]
+pub struct Probe {
+    /// How many nodes were reached along the chain.
+    pub visited: usize,
+    /// How many times keys were compared.
+    pub compared: usize,
+}
+
+/// The bucket chains of a ring, by their heads.
+///
+/// It does not hold the ring: each call is handed it. The bucket of a number is the number modulo the number of buckets,
+/// which is 0 or a power of two. A look-up costs a step for each node of the chain that it reaches.
+pub struct Index<K, V> {
+    heads: Vec<Head>,
+    mark: PhantomData<*mut (K, V)>,
+}
+
+impl<K, V> Model for Index<K, V> {
+    ghost use Rattle.std.specs.Prelude.{List, Option, map, length};
+    ghost use Rattle.lhm_ring.specs.Heads.{head_of};
+    ghost use Rattle.lhm_ring.specs.Buckets.{IsBucketCount};
+    ghost use denote.RawPtr.{Ptr};
+
+    ghost Value = { List (Option Ptr) };
+
+    ghost view = { λ i. map head_of i.heads.items };
+
+    ghost invariant = { λ i. IsBucketCount (length i.heads.items) };
+}
+
+impl<K, V> Drop for Index<K, V> {
+    fn drop(self) {
+        let Index { heads, mark: _ } = self;
+        drop(heads);
+    }
+}
+
+/// A node that a search found.
+#[derive(Drop)]
+struct Found<K, V> {
+    /// The one before it on its chain, or `None` where it is the first.
+    before: Option<Position<K, V>>,
+    at: Position<K, V>,
+}
+
+/// Counts a node that is reached, and tells whether it has the number and the key. The keys are compared only where the
+/// numbers agree.
+fn step<K: Eq, V>(
+    ring: &Ring<K, V>,
+    at: Position<K, V>,
+    number: u64,
+    key: &K,
+    probe: &mut Probe,
+) -> bool
+    requires held { IsHeld ring.now.held (place_of at) }
+    requires room { probe.old.visited + 1 < 2 ^ 64 }
+    requires order { probe.old.compared ≤ probe.old.visited }
+    ensures visited { probe.new.visited ≡ probe.old.visited + 1 }
+    ensures compared { OfNodeAt ring.now.held (place_of at) (λ x. probe.new.compared ≡ probe.old.compared + same (spot x ∷ []) number) }
+    ensures found { OfNodeAt ring.now.held (place_of at) (λ x. Compares K.eq number key.now x result) }
+{
+    probe.visited += 1;
+    if ring.number(at) != number {
+        return false;
+    }
+    probe.compared += 1;
+    key == ring.key(at)
+}
+
+impl<K, V> Index<K, V> {
+    /// Makes an index without buckets, for a ring that holds nothing. It takes no memory. Later growths are asked of `alloc`.
+    pub fn new(alloc: Global) -> Index<K, V>
+        ensures { result ≡ [] }
+    {
+        Index {
+            heads: Vec::new(alloc),
+            mark: PhantomData,
+        }
+    }
+
+    /// Makes an index of empty buckets for a capacity, at a step for each: all the memory that a resize takes.
+    ///
+    /// For capacity 0 it has no buckets, takes no memory, and is not refused.
+    pub fn with_buckets(alloc: Global, capacity: usize) -> Result<Index<K, V>, AllocError>
+        requires { capacity ≤ 2 ^ 59 }
+        ensures buckets { IfOk result (λ i. length i ≡ buckets capacity) }
+        ensures enough { IfOk result (λ i. capacity ≤ length i) }
+        ensures empty { IfOk result HasNoChain }
+        ensures succeeds { capacity ≡ 0 → IsOk result }
+    {
+        Ok(Index {
+            heads: empty_heads(alloc, buckets_for(capacity))?,
+            mark: PhantomData,
+        })
+    }
+
+    /// Returns the head of the chain of a number.
+    fn head(&self, number: u64) -> Option<Position<K, V>>
+        ensures { place_of_some result ≡ slice_index_or self.now (number % length self.now) None }
+    {
+        if self.heads.is_empty() {
+            return None;
+        }
+        self.heads[masked(number, self.heads.len())].get()
+    }
+
+    /// Puts the one node that the index lacks at the head of its chain.
+    ///
+    /// It costs a constant number of steps and takes no memory. Of the ring only that node's link changes.
+    pub fn put_in(&mut self, ring: &mut Ring<K, V>, at: Position<K, V>)
+        requires some { 0 < length self.old }
+        requires lacks { HoldsOthers self.old ring.old.held (place_of at) }
+        ensures indexed { Indexes self.new (spots ring.new.held) }
+        ensures held { entries ring.new.held ≡ entries ring.old.held }
+        ensures spares { ring.new.spares ≡ ring.old.spares }
+        ensures buckets { length self.new ≡ length self.old }
+    {
+        chain_one(&mut self.heads, ring, at);
+    }
+
+    /// Takes a node out of its chain.
+    fn unchain(&mut self, ring: &mut Ring<K, V>, number: u64, found: Found<K, V>)
+        requires indexed { Indexes self.old (spots ring.old.held) }
+        requires on_chain { IsOnChain self.old number (spots ring.old.held) (place_of_some found.before) (place_of found.at) }
+        ensures lacks { HoldsOthers self.new ring.new.held (place_of found.at) }
+        ensures held { entries ring.new.held ≡ entries ring.old.held }
+        ensures spares { ring.new.spares ≡ ring.old.spares }
+        ensures buckets { length self.new ≡ length self.old }
+    {
+        let link = ring.link(found.at);
+        match found.before {
+            Some(before) => ring.set_link(before, link),
+            None => {
+                let bucket = masked(number, self.heads.len());
+                self.heads[bucket] = Head::of(link);
+            }
+        }
+    }
+
+    /// Returns the position before the one at `at` on its chain, that of `number`, or `None` where it is the first.
+    ///
+    /// No two positions are compared, which a machine refuses for two blocks of memory: the chain is cut behind the node,
+    /// which is the last of it then, until it is found. All links are then as they were.
+    fn before(
+        &self,
+        ring: &mut Ring<K, V>,
+        number: u64,
+        at: Position<K, V>,
+    ) -> Option<Position<K, V>>
+        requires held { IsHeld ring.old.held (place_of at) }
+        requires number { OfNodeAt ring.old.held (place_of at) (λ x. number ≡ x.number) }
+        requires indexed { Indexes self.now (spots ring.old.held) }
+        requires small { length ring.old.held < 2 ^ 64 }
+        ensures on_chain { IsOnChain self.now number (spots ring.old.held) (place_of_some result) (place_of at) }
+        ensures ring { ring.new ≡ ring.old }
+    {
+        let link = ring.link(at);
+        ring.set_link(at, None);
+        let mut before = None;
+        let mut here = self.head(number).unwrap();
+        let mut passed: usize = 0;
+        'chain: while let Some(next) = ring.link(here) {
+            before = Some(here);
+            here = next;
+            passed += 1;
+        }
+        ring.set_link(at, link);
+        before
+    }
+
+    /// Takes the node at a position out of its chain. No key is compared.
+    ///
+    /// It costs a step for each node before it on the chain, and takes no memory. Of the ring only links change.
+    pub fn take_out_at(&mut self, ring: &mut Ring<K, V>, at: Position<K, V>)
+        requires held { IsHeld ring.old.held (place_of at) }
+        requires indexed { Indexes self.old (spots ring.old.held) }
+        requires small { length ring.old.held < 2 ^ 64 }
+        ensures lacks { HoldsOthers self.new ring.new.held (place_of at) }
+        ensures held { entries ring.new.held ≡ entries ring.old.held }
+        ensures spares { ring.new.spares ≡ ring.old.spares }
+        ensures buckets { length self.new ≡ length self.old }
+    {
+        let number = ring.number(at);
+        let before = self.before(ring, number, at);
+        self.unchain(ring, number, Found { before, at });
+    }
+
+    /// Puts fresh buckets in place of the old ones, chains all held nodes there, and returns how many.
+    ///
+    /// It costs a step for each, takes no memory, and frees the old buckets. Of the ring only links change.
+    pub fn take_over(&mut self, fresh: Index<K, V>, ring: &mut Ring<K, V>) -> usize
+        requires empty { HasNoChain fresh }
+        requires some { length fresh ≡ 0 → ring.old.held ≡ [] }
+        requires small { length ring.old.held < 2 ^ 64 }
+        ensures indexed { Indexes self.new (spots ring.new.held) }
+        ensures count { result ≡ length ring.old.held }
+        ensures held { entries ring.new.held ≡ entries ring.old.held }
+        ensures spares { ring.new.spares ≡ ring.old.spares }
+        ensures buckets { length self.new ≡ length fresh }
+    {
+        *self = fresh;
+        chain_all(&mut self.heads, ring)
+    }
+
+    /// Empties all chains, for a ring that holds nothing any more. It keeps the buckets, takes no memory, and costs a step
+    /// for each bucket.
+    pub fn forget_all(&mut self)
+        ensures empty { HasNoChain self.new }
+        ensures buckets { length self.new ≡ length self.old }
+    {
+        clear_heads(&mut self.heads);
+    }
+}
+
+impl<K: Eq, V> Index<K, V> {
+    /// Walks along the chain of the number to the node with the key, which every look-up does.
+    fn search(&self, ring: &Ring<K, V>, number: u64, key: &K) -> (Option<Found<K, V>>, Probe)
+        requires indexed { Indexes self.now (spots ring.now.held) }
+        requires small { length ring.now.held < 2 ^ 64 }
+        ensures found { IfSome result.0 (λ f. FindsKey K.eq number key.now self.now ring.now.held (place_of_some f.before) (place_of f.at) result.1.visited result.1.compared) }
+        ensures absent { IfNone result.0 (FindsNone K.eq number key.now self.now ring.now.held result.1.visited result.1.compared) }
+    {
+        let mut probe = Probe {
+            visited: 0,
+            compared: 0,
+        };
+        let mut before = None;
+        let mut place = self.head(number);
+        while let Some(at) = place {
+            if step(ring, at, number, key, &mut probe) {
+                return (Some(Found { before, at }), probe);
+            }
+            before = place;
+            place = ring.link(at);
+        }
+        (None, probe)
+    }
+
+    /// Returns the position of the node with this number and this key, and what the look-up did.
+    ///
+    /// For an absent key the counts are exact: each node of the chain is reached, and each with this number compared. It
+    /// takes no memory.
+    pub fn find(&self, ring: &Ring<K, V>, number: u64, key: &K) -> (Option<Position<K, V>>, Probe)
+        requires indexed { Indexes self.now (spots ring.now.held) }
+        requires small { length ring.now.held < 2 ^ 64 }
+        ensures found { IfSome result.0 (λ p. HasKey K.eq number key.now ring.now.held (place_of p)) }
+        ensures absent { IfNone result.0 (IsAbsent K.eq number key.now ring.now.held) }
+        ensures counts_found { OnSome result.0 (CountsSome (spots ring.now.held) (length self.now) number result.1.visited result.1.compared) }
+        ensures counts_absent { IfNone result.0 (CountsAll (spots ring.now.held) (length self.now) number result.1.visited result.1.compared) }
+    {
+        let (found, probe) = self.search(ring, number, key);
+        match found {
+            Some(found) => (Some(found.at), probe),
+            None => (None, probe),
+        }
+    }
+
+    /// Takes the node with this number and this key out of its chain, and returns its position. Of the ring only links change,
+    /// and nothing where the key is absent. It takes no memory.
+    pub fn take_out(
+        &mut self,
+        ring: &mut Ring<K, V>,
+        number: u64,
+        key: &K,
+    ) -> Option<Position<K, V>>
+        requires indexed { Indexes self.old (spots ring.old.held) }
+        requires small { length ring.old.held < 2 ^ 64 }
+        ensures found { IfSome result (λ p. HasKey K.eq number key.now ring.new.held (place_of p)) }
+        ensures lacks { IfSome result (λ p. HoldsOthers self.new ring.new.held (place_of p)) }
+        ensures absent { IfNone result (IsAbsent K.eq number key.now ring.old.held) }
+        ensures unchanged { IfNone result (self.new ≡ self.old) }
+        ensures ring_unchanged { IfNone result (ring.new ≡ ring.old) }
+        ensures held { entries ring.new.held ≡ entries ring.old.held }
+        ensures spares { ring.new.spares ≡ ring.old.spares }
+        ensures buckets { length self.new ≡ length self.old }
+    {
+        let (found, _) = self.search(ring, number, key);
+        match found {
+            Some(found) => {
+                let at = found.at;
+                self.unchain(ring, number, found);
+                Some(at)
+            }
+            None => None,
+        }
+    }
+}
+
+/// Returns how many buckets a capacity has: none for 0, and else the least power of two that is not below it.
+pub fn buckets_for(capacity: usize) -> usize
+    requires { capacity ≤ 2 ^ 59 }
+    ensures value { result ≡ buckets capacity }
+    ensures enough { capacity ≤ result }
+    ensures none { capacity ≡ 0 → result ≡ 0 }
+    ensures least { 0 < capacity → IsNextPowerOfTwo capacity result }
+{
+    if capacity == 0 {
+        0
+    } else {
+        capacity.next_power_of_two()
+    }
+}
+
+/// Returns how many nodes were chained again in all, once the capacity is raised from `capacity` to `higher` with `len`
+/// nodes held: those are more where the number of buckets changes.
+pub fn raised(rechained: usize, len: usize, capacity: usize, higher: usize) -> usize
+    requires bound { rechained ≤ buckets capacity }
+    requires held { len ≤ capacity }
+    requires up { capacity ≤ higher }
+    requires limit { higher ≤ 2 ^ 59 }
+    ensures value { result ≡ rechained_raised rechained len capacity higher }
+    ensures bound { result ≤ buckets higher }
+{
+    if buckets_for(capacity) == buckets_for(higher) {
+        rechained
+    } else {
+        rechained + len
+    }
+}
+
+/// Returns how many nodes were chained again once the capacity is lowered to `len`, the number of held nodes: that many where
+/// the number of buckets changes, and else none.
+pub fn lowered(len: usize, capacity: usize) -> usize
+    requires down { len ≤ capacity }
+    requires limit { capacity ≤ 2 ^ 59 }
+    ensures value { result ≡ rechained_lowered len capacity }
+    ensures bound { result ≤ buckets len }
+{
+    if buckets_for(capacity) == buckets_for(len) {
+        0
+    } else {
+        len
+    }
+}
+
+/// Puts a node at the head of the chain of its number.
+fn chain_one<K, V>(heads: &mut Vec<Head>, ring: &mut Ring<K, V>, at: Position<K, V>)
+    requires some { 0 < vec_len heads.old }
+    requires power { IsBucketCount (vec_len heads.old) }
+    requires held { IsHeld ring.old.held (place_of at) }
+    ensures chained { Chains (place_of at) (map head_of heads.old.items) (map head_of heads.new.items) ring.old.held ring.new.held }
+    ensures spares { ring.new.spares ≡ ring.old.spares }
+    ensures buckets { vec_len heads.new ≡ vec_len heads.old }
+{
+    let bucket = masked(ring.number(at), heads.len());
+    ring.set_link(at, heads[bucket].get());
+    heads[bucket] = Head::of(Some(at));
+}
+
+/// Chains all held nodes into empty buckets, and counts them.
+fn chain_all<K, V>(heads: &mut Vec<Head>, ring: &mut Ring<K, V>) -> usize
+    requires empty { HasNoChain (map head_of heads.old.items) }
+    requires power { IsBucketCount (vec_len heads.old) }
+    requires some { vec_len heads.old ≡ 0 → ring.old.held ≡ [] }
+    requires small { length ring.old.held < 2 ^ 64 }
+    ensures indexed { Indexes (map head_of heads.new.items) (spots ring.new.held) }
+    ensures count { result ≡ length ring.old.held }
+    ensures held { entries ring.new.held ≡ entries ring.old.held }
+    ensures spares { ring.new.spares ≡ ring.old.spares }
+    ensures buckets { vec_len heads.new ≡ vec_len heads.old }
+{
+    let mut count = 0;
+    let mut place = ring.first();
+    while let Some(at) = place {
+        chain_one(heads, ring, at);
+        count += 1;
+        place = ring.next(at);
+    }
+    count
+}
+
+/// Makes `count` empty buckets.
+fn empty_heads(alloc: Global, count: usize) -> Result<Vec<Head>, AllocError>
+    ensures empty { IfOk result (λ v. HasNoChain (map head_of v.items)) }
+    ensures len { IfOk result (λ v. vec_len v ≡ count) }
+    ensures succeeds { count ≡ 0 → IsOk result }
+{
+    let mut heads = Vec::with_capacity(alloc, count)?;
+    'heads: while heads.len() < count {
+        heads.push_reserved(Head::none());
+    }
+    Ok(heads)
+}
+
+/// Empties every bucket.
+fn clear_heads(heads: &mut Vec<Head>)
+    ensures empty { HasNoChain (map head_of heads.new.items) }
+    ensures buckets { vec_len heads.new ≡ vec_len heads.old }
+{
+    let mut next = 0;
+    'heads: while next < heads.len() {
+        heads[next] = Head::none();
+        next += 1;
+    }
+}
+
+/// Returns the bucket of a number, by a mask.
+fn masked(number: u64, buckets: usize) -> usize
+    requires some { 0 < buckets }
+    requires power { IsBucketCount buckets }
+    ensures { result ≡ number % buckets }
+{
+    (number & (buckets as u64 - 1)) as usize
+}

@@ -1,0 +1,160 @@
+ghost use Rattle.std.specs.Prelude.{◌≡◌, ◌+◌, ◌<◌, length, IfNone, OnOk, OnErr};
+ghost use Rattle.lhm_ring.specs.Search.{IsAbsent};
+
+use crate::head::Head;
+use crate::index::{Index, Probe, buckets_for};
+use crate::ring::Ring;
+use std::alloc::{AllocError, Global};
+use std::marker::Model;
+use std::mem::size_of;
+use std::test::*;
+
+/// A ring with its index, as a map keeps them.
+struct Table<K, V> {
+    ring: Ring<K, V>,
+    index: Index<K, V>,
+    alloc: Global,
+}
+
+impl<K, V> Model for Table<K, V> {
+    ghost use Rattle.lhm_ring.specs.RingState.{State};
+    ghost use Rattle.lhm_ring.specs.IndexedRing.{IsIndexed};
+
+    ghost Value = { State (K × V) };
+
+    ghost view = { λ t. t.ring };
+
+    ghost invariant = { λ t. IsIndexed t.index t.ring };
+}
+
+impl<K: Drop, V: Drop> Drop for Table<K, V> {
+    fn drop(self) {
+        let Table {
+            ring,
+            index,
+            alloc: _,
+        } = self;
+        drop(ring);
+        drop(index);
+    }
+}
+
+impl<K, V> Table<K, V> {
+    fn new(alloc: Global) -> Table<K, V> {
+        Table {
+            ring: Ring::new(alloc),
+            index: Index::new(alloc),
+            alloc,
+        }
+    }
+
+    fn spares(&self) -> usize
+        ensures { result ≡ self.now.spares }
+    {
+        self.ring.spares()
+    }
+
+    fn push(&mut self, number: u64, key: K, value: V)
+        requires { 0 < self.old.spares }
+    {
+        let at = self.ring.put_back(number, key, value);
+        self.index.put_in(&mut self.ring, at);
+    }
+
+    fn grow_one(&mut self) -> Result<(), AllocError>
+        ensures spares { OnOk result (self.new.spares ≡ self.old.spares + 1) }
+        ensures refused { OnErr result (self.new ≡ self.old) }
+    {
+        let capacity = self.ring.len() + self.ring.spares();
+        if buckets_for(capacity) == buckets_for(capacity + 1) {
+            return self.ring.grow(1);
+        }
+        let fresh = Index::with_buckets(self.alloc, capacity + 1)?;
+        self.ring.grow(1)?;
+        self.index.take_over(fresh, &mut self.ring);
+        Ok(())
+    }
+
+    fn pop_front(&mut self) -> Option<(u64, K, V)>
+        ensures none { IfNone result (self.new ≡ self.old) }
+    {
+        let _len = self.ring.len();
+        let at = self.ring.first()?;
+        self.index.take_out_at(&mut self.ring, at);
+        Some(self.ring.unlink(at))
+    }
+}
+
+impl<K: Eq, V> Table<K, V> {
+    fn probe(&self, number: u64, key: &K) -> (bool, Probe) {
+        let _len = self.ring.len();
+        let (found, probe) = self.index.find(&self.ring, number, key);
+        (found.is_some(), probe)
+    }
+
+    fn remove(&mut self, number: u64, key: &K) -> Option<(u64, K, V)>
+        ensures absent { IfNone result (IsAbsent K.eq number key.now self.old.held) }
+    {
+        let _len = self.ring.len();
+        let at = self.index.take_out(&mut self.ring, number, key)?;
+        Some(self.ring.unlink(at))
+    }
+}
+
+/// A table of this capacity that holds the keys, each with its number.
+fn filled(rt: &HostRuntime, capacity: u64, pairs: &[(u64, u64)]) -> Result<Table<u64, u64>, Fail> {
+    let mut table = Table::new(rt.alloc());
+    for _ in 0..capacity {
+        table.grow_one()?;
+    }
+    for pair in pairs {
+        let (number, key) = *pair;
+        if 0 < table.spares() {
+            table.push(number, key, 10 * (key % 100));
+        }
+    }
+    Ok(table)
+}
+
+fn counts(table: &Table<u64, u64>, number: u64, key: u64) -> (bool, usize, usize) {
+    let (found, probe) = table.probe(number, &key);
+    (found, probe.visited, probe.compared)
+}
+
+#[test]
+fn counts_along_one_chain(rt: HostRuntime) -> Result<(), Fail> {
+    let mut table = filled(&rt, 4, &[(1, 1), (2, 2), (3, 3), (4, 4)])?;
+    assert_eq!(rt; counts(&table, 9, 9), (false, 1, 0));
+    assert_eq!(rt; counts(&table, 1, 1), (true, 1, 1));
+    assert_eq!(rt; counts(&table, 1, 5), (false, 1, 1));
+    table.grow_one()?;
+    assert_eq!(rt; counts(&table, 13, 13), (false, 0, 0));
+    assert_eq!(rt; counts(&table, 12, 12), (false, 1, 0));
+    let empty: Table<u64, u64> = Table::new(rt.alloc());
+    assert_eq!(rt; counts(&empty, 1, 1), (false, 0, 0));
+    Ok(())
+}
+
+#[test]
+fn takes_from_anywhere_on_a_chain(rt: HostRuntime) -> Result<(), Fail> {
+    let mut table = filled(&rt, 5, &[(7, 0), (7, 1), (7, 2), (7, 3), (7, 4)])?;
+    assert_eq!(rt; counts(&table, 7, 9), (false, 5, 5));
+    assert_eq!(rt; counts(&table, 15, 9), (false, 5, 0));
+    assert_eq!(rt; table.pop_front(), Some((7, 0, 0)));
+    assert_eq!(rt; table.remove(7, &2), Some((7, 2, 20)));
+    assert_eq!(rt; table.remove(7, &4), Some((7, 4, 40)));
+    assert_eq!(rt; table.remove(7, &4), None);
+    assert_eq!(rt; counts(&table, 7, 9), (false, 2, 2));
+    assert_eq!(rt; table.pop_front(), Some((7, 1, 10)));
+    assert_eq!(rt; counts(&table, 7, 3), (true, 1, 1));
+    assert_eq!(rt; table.pop_front(), Some((7, 3, 30)));
+    assert_eq!(rt; table.pop_front(), None);
+    assert_eq!(rt; counts(&table, 7, 3), (false, 0, 0));
+    Ok(())
+}
+
+#[test]
+fn takes_8_bytes_a_bucket(rt: HostRuntime) -> Result<(), Fail> {
+    assert_eq!(rt; size_of::<Head>(), 8);
+    Ok(())
+}

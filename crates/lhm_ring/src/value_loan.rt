@@ -1,0 +1,89 @@
+//! The values of the nodes are lent one by one, while the links and the keys are shared.
+ghost use Rattle.std.specs.Prelude.{◌≡◌, List as Seq, Some};
+ghost use Rattle.std.specs.Borrow.{sem};
+ghost use base.Fml.{GName, ftrue, ffalse};
+ghost use denote.RawPtr.{Ptr};
+ghost use Rattle.lhm_ring.specs.ValueLoan.{borrowed, value_at, without_value, Lies};
+
+use crate::block::{Node, Place};
+use crate::links::Links;
+use crate::ring::Ring;
+use std::cell::UnsafeCell;
+use std::marker::{Model, Move, Owns, PhantomData};
+
+/// What stands for a value while it is lent. None is ever made, and a `&` to one shows nothing.
+pub struct Hole<V> {
+    cell: UnsafeCell<V>,
+}
+
+impl<V> Owns for Hole<V> {
+    ghost Value = { V };
+
+    ghost coded = { V.code };
+
+    ghost shr_at = { λ _ _ _. ftrue };
+}
+
+impl<V> Move for Hole<V> {
+    ghost own_val = { λ _ _. ffalse };
+}
+
+/// The right to write the values that are still to be taken, `run`, each with the place of its node.
+pub struct ValueLoan<'a, L, K, V> {
+    pub mark: PhantomData<&'a mut Node<L, K, V>>,
+    ghost name: { GName },
+    ghost tie: { GName },
+    ghost run: { Seq (Ptr × V) },
+}
+
+impl<'a, L, K, V> Model for ValueLoan<'a, L, K, V> {
+    ghost also_owns = { λ l. borrowed 'a L.row K.row V.row l.name l.run };
+
+    ghost also_shares = { λ _ _ _. ftrue };
+}
+
+impl<L, K, V> Drop for ValueLoan<'_, L, K, V> {
+    fn drop(self) {
+        let Self { mark: _ } = self;
+    }
+}
+
+impl<'a, L, K, V> ValueLoan<'a, L, K, V> {
+    /// The value of the node at `at`, for writing until the loan ends.
+    pub(crate) fn take(&mut self, at: Place) -> &'a mut V
+        requires { Lies self.old.run at.ptr }
+        ensures value { value_at self.old.run at.ptr ≡ Some result.now }
+        ensures run { self.new.run ≡ without_value at.ptr self.old.run }
+        ensures tie { self.new.tie ≡ self.old.tie }
+    {
+        let node = at.ptr.cast_mut() as *mut Node<L, K, V>;
+        unsafe { &mut (*node).value }
+    }
+}
+
+/// A ring whose values are lent: all else of it is shared, and the values are there to be written.
+///
+/// It is made by a type that keeps a ring in a field and lends the ring's values, and turned into an
+/// `IterMut` by `IterMut::of`. Whoever makes one proves that the loan is there.
+pub struct LentValues<'a, K, V> {
+    pub ring: &'a Ring<K, Hole<V>>,
+    pub loan: ValueLoan<'a, Links, K, V>,
+}
+
+impl<K, V> Ring<K, V> {
+    ghost use Rattle.lhm_ring.specs.RingAfterLoan.{lends_values};
+    ghost use Rattle.lhm_ring.specs.LentRings.{lent_held, lent_name, IsLent};
+
+    /// Shares the ring but for its values, and lends the values.
+    pub(crate) fn lend<'a>(&'a mut self) -> LentValues<'a, K, V>
+        ensures* writes_back { sem 𝓛 (lends_values K.row V.row self.entry (lent_name result)) }
+        ensures held { lent_held result ≡ self.old.held }
+        ensures lent { IsLent result }
+    {
+        let ring = &raw mut *self as *const Ring<K, Hole<V>>;
+        LentValues {
+            ring: unsafe { &*ring },
+            loan: ValueLoan { mark: PhantomData },
+        }
+    }
+}
