@@ -6,6 +6,7 @@ use Rattle.std.specs.Cmp.{IsEquivalence}
 use Rattle.linked_hash_map.specs.LinkedMap.{LinkedMap}
 use Rattle.linked_hash_map.specs.Pairs.{key_or, find, without, to_back}
 use Rattle.linked_hash_map.specs.Inserts.{insert_each}
+use Rattle.linked_hash_map.specs.Validity.{IsValid}
 use Rattle.linked_hash_map.specs.Clones.{AreClones, IsClone}
 use Rattle.linked_hash_map.proofs.Inserts.{insert_each-last, insert_each-distinct}
 
@@ -100,13 +101,14 @@ module _ {K V : Type 0} {eq : K → K → Bool} (laws : IsEquivalence eq) {IsKey
 
 module _ {K V S : Type 0} {eq : K → K → Bool} (laws : IsEquivalence eq) {IsKeyClone : K → K → Type 0} {IsValueClone : V → V → Type 0} {IsHasherClone : S → S → Type 0} where
   -- with clones of all pairs inserted, it is a clone
-  pub IsClone-all : {m n : LinkedMap K V S} {others : List (K × V)} → IsDistinct eq (keys_of m.pairs) → HasCloned eq IsKeyClone IsValueClone IsHasherClone m others n → others ≡ [] → IsClone eq IsKeyClone IsValueClone IsHasherClone m n
-  IsClone-all {m} {n} distinct all none =
+  pub IsClone-all : {m n : LinkedMap K V S} {others : List (K × V)} → IsDistinct eq (keys_of m.pairs) → IsValid eq n → HasCloned eq IsKeyClone IsValueClone IsHasherClone m others n → others ≡ [] → IsClone eq IsKeyClone IsValueClone IsHasherClone m n
+  IsClone-all {m} {n} distinct valid all none =
       let whole : all.first ≡ m.pairs = sym (append-nil all.first) ∙ ap (λ es. all.first ++ es) (sym none) ∙ all.split in
       let each = subst (λ es. AreClones IsKeyClone IsValueClone es all.clones) whole all.each in
       record {
         pairs = (all.clones, each, all.inserted);
         capacity = all.capacity;
         hasher = all.hasher;
+        valid = valid;
         in_order = λ same. subst (AreClones IsKeyClone IsValueClone m.pairs) (sym (all.inserted ∙ insert_each-distinct laws all.clones (clones_differ laws IsValueClone same m.pairs all.clones each distinct))) each;
       }

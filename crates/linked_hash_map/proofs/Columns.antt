@@ -1,5 +1,5 @@
 -- Two vectors as a list of pairs.
-use Rattle.std.proofs.Common.{◌≡◌, ℕ, zero, suc, ◌+◌, ◌<◌, ◌≤◌, Bool, true, false, cond, not, ◌||◌, List, [], ◌∷◌, ◌++◌, length, get_or, set, position, remove, Option, Some, None, IfSome, IfNone, option_map, zip, slice_get, nat_lt, refl, sym, ap, ap₂, ◌∙◌, arith, ltb-true, ltb-false, length-append}
+use Rattle.std.proofs.Common.{◌≡◌, ℕ, zero, suc, ◌+◌, ◌<◌, ◌≤◌, Bool, true, false, cond, not, ◌||◌, List, [], ◌∷◌, ◌++◌, length, get_or, set, position, remove, Option, Some, None, IfSome, IfNone, option_map, zip, slice_get, nat_lt, refl, sym, ap, ap₂, ◌∙◌, subst, arith, ltb-true, ltb-false, length-append}
 use Rattle.std.specs.List.{list_any, IsDistinct, position_or_len}
 use Rattle.std.specs.Map.{keys_of}
 use Rattle.std.specs.Cmp.{IsEquivalence}
@@ -8,13 +8,14 @@ use Rattle.std.proofs.lemmas.List.Sums.{passes_at_first}
 use Rattle.std.proofs.lemmas.Map.Keys.{IsDistinct-push}
 use Rattle.linked_hash_map.specs.LinkedMap.{LinkedMap, linked_map}
 use Rattle.linked_hash_map.specs.Pairs.{find}
-use Rattle.linked_hash_map.specs.Places.{IsPlace, set_value_at}
+use Rattle.linked_hash_map.specs.Indexes.{IsIndex, set_value_at}
 use Rattle.linked_hash_map.specs.Columns.{AreColumns}
+use Rattle.linked_hash_map.specs.Validity.{IsValid}
 use Rattle.linked_hash_map.specs.declared.map.TheConstants.{LIMIT}
 use Rattle.linked_hash_map.proofs.DistinctLists.{distinct_removed}
 use Rattle.linked_hash_map.proofs.Pairs.{lookup_entry-none, list_any-none}
 
--- a position is the first place that passes, which lies within
+-- a position is the first index that passes, which lies within
 pub at_first : {X : Type 0} (p : X → Bool) (xs : List X) (i : ℕ) → position p xs ≡ Some i → (position_or_len p xs ≡ i) × (position_or_len p xs < length xs)
 at_first p xs i h = at (nat_lt (position_or_len p xs) (length xs)) refl h
   where
@@ -93,6 +94,10 @@ length-set [] i x = refl
 length-set (y ∷ xs) zero x = refl
 length-set (y ∷ xs) (suc i) x = ap suc (length-set xs i x)
 
+-- the left side of an equation
+abbrev pub left_side : {X : Type 0} {x y : X} → x ≡ y → X
+left_side {X} {x} {y} same = x
+
 pub AreColumns-nil : {K V : Type 0} (eq : K → K → Bool) {c a b : ℕ} → c ≤ a → c ≤ b → c ≤ LIMIT → AreColumns {V = V} eq [] [] c a b 0 0
 unfolding IsDistinct
 AreColumns-nil eq room_of_keys room_of_values limit =
@@ -123,18 +128,18 @@ module _ {K V : Type 0} {eq : K → K → Bool} {keys : List K} {values : List V
   pub distinct-columns : IsDistinct eq (keys_of (zip keys values))
   distinct-columns = rw (keys_of-zip keys values columns.paired) columns.distinct
 
-  -- the place of a key, or none
-  pub IsPlace-position : (k : K) (i : ℕ) → position (eq k) keys ≡ Some i → IsPlace eq (zip keys values) k i
-  IsPlace-position k i at_place =
-      let first = at_first (eq k) keys i at_place in
+  -- the index of a key, or none
+  pub IsIndex-position : (k : K) (i : ℕ) → position (eq k) keys ≡ Some i → IsIndex eq (zip keys values) k i
+  IsIndex-position k i at_index =
+      let first = at_first (eq k) keys i at_index in
       let within : i < length keys = omega arith in
       let in_values : i < length values = omega (arith, columns.paired) in
       by_values values in_values columns.paired
     where
-      by_values : (ws : List V) → i < length ws → length ws ≡ length keys → IsPlace eq (zip keys ws) k i
+      by_values : (ws : List V) → i < length ws → length ws ≡ length keys → IsIndex eq (zip keys ws) k i
       by_values [] h paired = absurd (omega arith)
       by_values (w ∷ ws) h paired =
-          let first = at_first (eq k) keys i at_place in
+          let first = at_first (eq k) keys i at_index in
           let within : i < length keys = omega arith in
           let stored = get_or keys i k in
           let v = get_or (w ∷ ws) i w in
@@ -145,19 +150,19 @@ module _ {K V : Type 0} {eq : K → K → Bool} {keys : List K} {values : List V
           }
 
   pub find-position : (k : K) → position (eq k) keys ≡ None → find eq (zip keys values) k ≡ None
-  find-position k no_place =
-      lookup_entry-none (eq k) (zip keys values) (ap (list_any (eq k)) (keys_of-zip keys values columns.paired) ∙ none_same (eq k) keys no_place)
+  find-position k no_index =
+      lookup_entry-none (eq k) (zip keys values) (ap (list_any (eq k)) (keys_of-zip keys values columns.paired) ∙ none_same (eq k) keys no_index)
 
   -- what a search answers
-  pub found-position : (k : K) (o : Option ℕ) → o ≡ position (eq k) keys → IfSome o (IsPlace eq (zip keys values) k)
+  pub found-position : (k : K) (o : Option ℕ) → o ≡ position (eq k) keys → IfSome o (IsIndex eq (zip keys values) k)
   found-position k None h = tt
-  found-position k (Some i) h = IsPlace-position k i (sym h)
+  found-position k (Some i) h = IsIndex-position k i (sym h)
 
   pub absent-position : (k : K) (o : Option ℕ) → o ≡ position (eq k) keys → IfNone o (find eq (zip keys values) k ≡ None)
   absent-position k None h = find-position k (sym h)
   absent-position k (Some i) h = tt
 
-  -- without the key and the value at a place
+  -- without the key and the value at an index
   pub AreColumns-remove : (i : ℕ) → i < length keys → {mark rest : ℕ} → mark + rest < length keys → AreColumns eq (remove keys i) (remove values i) c a b mark rest
   AreColumns-remove i within in_reach =
       let in_values : i < length values = omega (arith, columns.paired) in
@@ -188,7 +193,7 @@ module _ {K V : Type 0} {eq : K → K → Bool} {keys : List K} {values : List V
         in_reach = omega (arith, columns.in_reach);
       }
 
-  -- with another value at a place
+  -- with another value at an index
   pub AreColumns-set : (i : ℕ) (v : V) → AreColumns eq keys (set values i v) c a b bookmark unvisited
   AreColumns-set i v = record {
     distinct = columns.distinct;
@@ -211,3 +216,7 @@ module _ {K V : Type 0} {eq : K → K → Bool} {keys : List K} {values : List V
     limit = limit;
     in_reach = columns.in_reach;
   }
+
+-- a map that these columns are is valid
+pub valid-view : {K V S : Type 0} {eq : K → K → Bool} {keys : List K} {values : List V} {c a b bookmark unvisited : ℕ} {hasher : S} {m : LinkedMap K V S} → AreColumns eq keys values c a b bookmark unvisited → linked_map (zip keys values) c hasher bookmark unvisited ≡ m → IsValid eq m
+valid-view {eq} columns view = subst (IsValid eq) view (record { distinct = distinct-columns columns; within = within-columns columns; limit = columns.limit })

@@ -12,14 +12,14 @@ use Rattle.linked_hash_map.proofs.Pairs.{is_some-value_at}
 use Rattle.linked_hash_map.proofs.Bridge.{find-pairs, pairs-put, pairs-write, pairs-refresh, pairs-remove, pairs-remove_all, pairs-need, pairs-fit}
 use Rattle.linked_hash_map.proofs.Marks.{size-pairs, high-put, high-write, high-refresh, high-remove, high-remove_all, high-need, high-fit}
 use Rattle.linked_hash_map.proofs.Distinct.{distinct-pairs}
-use Rattle.linked_hash_map.proofs.Places.{without-own}
+use Rattle.linked_hash_map.proofs.Indexes.{without-own}
 
 value_of_both : {K V : Type 0} (s : Option K) (w : Option V) (v : V) → option_map (λ pair. pair.1) (both s w) ≡ Some v → w ≡ Some v
 value_of_both None w v h = absurd (true≢false (sym (ap is_some h)))
 value_of_both (Some s) None v h = absurd (true≢false (sym (ap is_some h)))
 value_of_both (Some s) (Some w) v h = h
 
-remove-last : {X : Type 0} (xs : List X) → remove xs (length xs - 1) ≡ take (length xs - 1) xs
+pub remove-last : {X : Type 0} (xs : List X) → remove xs (length xs - 1) ≡ take (length xs - 1) xs
 remove-last {X} xs =
     let past : length xs ≤ suc (length xs - 1) = omega arith in
     let none : drop (suc (length xs - 1)) xs ≡ [] = drop_of_length-le xs past in
@@ -54,10 +54,10 @@ module _ {K V : Type 0} {eq : K → K → Bool} (laws : IsEquivalence eq) {start
   }
 
   module _ (k : K) where
-    the_pair : find eq held k ≡ pair_of (eq k) log
+    pub the_pair : find eq held k ≡ pair_of (eq k) log
     the_pair = ap (λ es. find eq es k) (sym defines.same_pairs) ∙ find-pairs laws log k
 
-    live-found : live (eq k) log ≡ is_some (find eq held k)
+    pub live-found : live (eq k) log ≡ is_some (find eq held k)
     live-found = sym (pair_of-live (eq k) log) ∙ ap is_some (sym the_pair)
 
     -- a key without a pair is not live
@@ -153,7 +153,7 @@ module _ {K V : Type 0} {eq : K → K → Bool} (laws : IsEquivalence eq) {start
   distinct-held : IsDistinct eq (keys_of held)
   distinct-held = subst (λ es. IsDistinct eq (keys_of es)) defines.same_pairs (distinct-pairs laws log)
 
-  -- after the pair at a place is taken out
+  -- after the pair at an index is taken out
   Defines-take_out : (i : ℕ) (pair : K × V) {later : List (K × V)} {capacity' : ℕ} → slice_get held i ≡ Some pair → later ≡ remove held i → capacity' ≡ capacity → Defines eq start (log ++ Remove pair.0 ∷ []) later capacity'
   Defines-take_out i pair there h m = Defines-remove pair.0 (h ∙ sym (without-own laws held distinct-held i pair there)) m
 
@@ -163,7 +163,7 @@ module _ {K V : Type 0} {eq : K → K → Bool} (laws : IsEquivalence eq) {start
   pub Defines-pop_back : (k : K) (v : V) {later : List (K × V)} {capacity' : ℕ} → Some (k, v) ≡ slice_get held (length held - 1) → later ≡ take (length held - 1) held → capacity' ≡ capacity → Defines eq start (log ++ Remove k ∷ []) later capacity'
   Defines-pop_back k v there h m = Defines-take_out (length held - 1) (k, v) (sym there) (h ∙ sym (remove-last held)) m
 
-  -- the pair at a place of the map is that of the log
+  -- the pair at an index of the map is that of the log
   pub slice_get-held : (i : ℕ) {o : Option (K × V)} → o ≡ slice_get held i → slice_get (pairs eq log) i ≡ o
   slice_get-held i h = ap (λ es. slice_get es i) defines.same_pairs ∙ sym h
 

@@ -8,8 +8,10 @@ use Rattle.std.specs.declared.cmp.PartialEq as eq
 use Rattle.std.specs.declared.hash.Hash as hash
 use Rattle.std.specs.declared.hash.Hasher as hasher
 use Rattle.std.specs.declared.hash.BuildHasher as builder
+use Rattle.linked_hash_map.specs.LinkedMap.{LinkedMap}
+use Rattle.linked_hash_map.specs.Changes.{pushed, set_or_pushed}
 use Rattle.linked_hash_map.specs.Pairs.{key_or, find, set_value, set_or_push, set_if_some, ActsAs}
-use Rattle.linked_hash_map.specs.Places.{IsPlace, pair_at, set_value_at}
+use Rattle.linked_hash_map.specs.Indexes.{IsIndex, pair_at, set_value_at}
 use Rattle.linked_hash_map.specs.Cursor.{IsOutside, IsOutside-prop}
 use Rattle.linked_hash_map.specs.Entry.{occupied_pair, occupied_key, with_occupied_value}
 use Rattle.linked_hash_map.specs.declared.entry.OccupiedEntry.{OccupiedEntry}
@@ -27,31 +29,31 @@ some_unwrapped None x y some same = absurd (true≢false (sym some))
 some_unwrapped (Some z) x y some same = ap Some (sym same)
 
 module _ {K V : Type 0} where
-  slice_get-pair_at : (pairs : List (K × V)) (place : ℕ) (within : place < length pairs) → slice_get pairs place ≡ Some (pair_at pairs place within)
-  slice_get-pair_at [] place within = absurd (omega arith)
+  slice_get-pair_at : (pairs : List (K × V)) (index : ℕ) (within : index < length pairs) → slice_get pairs index ≡ Some (pair_at pairs index within)
+  slice_get-pair_at [] index within = absurd (omega arith)
   slice_get-pair_at (pair ∷ pairs) zero within = refl
-  slice_get-pair_at (pair ∷ pairs) (suc place) within = slice_get-pair_at pairs place (le_of_suc-le-suc within)
+  slice_get-pair_at (pair ∷ pairs) (suc index) within = slice_get-pair_at pairs index (le_of_suc-le-suc within)
 
-  slice_get-set_value_at : (pairs : List (K × V)) (place : ℕ) (v : V) (pair : K × V) → slice_get pairs place ≡ Some pair → slice_get (set_value_at pairs place v) place ≡ Some (pair.0, v)
-  slice_get-set_value_at [] place v pair there = absurd (true≢false (sym (ap is_some there)))
+  slice_get-set_value_at : (pairs : List (K × V)) (index : ℕ) (v : V) (pair : K × V) → slice_get pairs index ≡ Some pair → slice_get (set_value_at pairs index v) index ≡ Some (pair.0, v)
+  slice_get-set_value_at [] index v pair there = absurd (true≢false (sym (ap is_some there)))
   slice_get-set_value_at (first ∷ pairs) zero v pair there = ap (λ p. Some (p.0, v)) (some_injective there)
-  slice_get-set_value_at (first ∷ pairs) (suc place) v pair there = slice_get-set_value_at pairs place v pair there
+  slice_get-set_value_at (first ∷ pairs) (suc index) v pair there = slice_get-set_value_at pairs index v pair there
 
   -- a value that is set changes no key, and not how many there are
-  pub keys_of-set_value_at : (pairs : List (K × V)) (place : ℕ) (v : V) → keys_of (set_value_at pairs place v) ≡ keys_of pairs
-  keys_of-set_value_at [] place v = refl
+  pub keys_of-set_value_at : (pairs : List (K × V)) (index : ℕ) (v : V) → keys_of (set_value_at pairs index v) ≡ keys_of pairs
+  keys_of-set_value_at [] index v = refl
   keys_of-set_value_at (pair ∷ pairs) zero v = refl
-  keys_of-set_value_at (pair ∷ pairs) (suc place) v = ap (λ ks. pair.0 ∷ ks) (keys_of-set_value_at pairs place v)
+  keys_of-set_value_at (pair ∷ pairs) (suc index) v = ap (λ ks. pair.0 ∷ ks) (keys_of-set_value_at pairs index v)
 
   pub length-set_value : (eq : K → K → Bool) (pairs : List (K × V)) (k : K) (v : V) → length (set_value eq pairs k v) ≡ length pairs
   length-set_value eq [] k v = refl
   length-set_value eq (pair ∷ pairs) k v = ap suc (length-set_value eq pairs k v)
 
-  -- a key that is at a place is found
-  found_at : (eq : K → K → Bool) (pairs : List (K × V)) (place : ℕ) (k : K) (pair : K × V) → slice_get pairs place ≡ Some pair → eq k pair.0 ≡ true → is_some (find eq pairs k) ≡ true
-  found_at eq [] place k pair there same = absurd (true≢false (sym (ap is_some there)))
+  -- a key that is at an index is found
+  found_at : (eq : K → K → Bool) (pairs : List (K × V)) (index : ℕ) (k : K) (pair : K × V) → slice_get pairs index ≡ Some pair → eq k pair.0 ≡ true → is_some (find eq pairs k) ≡ true
+  found_at eq [] index k pair there same = absurd (true≢false (sym (ap is_some there)))
   found_at eq (first ∷ pairs) zero k pair there same = ap (λ b. is_some (cond b (Some first) (find eq pairs k))) (ap (λ p. eq k p.0) (some_injective there) ∙ same)
-  found_at eq (first ∷ pairs) (suc place) k pair there same = by_test (found_at eq pairs place k pair there same) (eq k first.0)
+  found_at eq (first ∷ pairs) (suc index) k pair there same = by_test (found_at eq pairs index k pair there same) (eq k first.0)
     where
       by_test : is_some (find eq pairs k) ≡ true → (b : Bool) → is_some (cond b (Some first) (find eq pairs k)) ≡ true
       by_test rest true = refl
@@ -71,16 +73,30 @@ module _ {K V : Type 0} where
     set_or_push-absent none = sym (ap (λ o. cond (is_some o) (set_value eq pairs k v) (pairs ++ (k, v) ∷ [])) none)
 
     -- the room that this takes
-    pub room-present : (capacity : ℕ) → is_some (find eq pairs k) ≡ true → length pairs ≤ capacity → capacity ≡ max capacity (length (set_or_push eq pairs k v))
+    room-present : (capacity : ℕ) → is_some (find eq pairs k) ≡ true → length pairs ≤ capacity → capacity ≡ max capacity (length (set_or_push eq pairs k v))
     room-present capacity there within =
         let kept : length (set_or_push eq pairs k v) ≡ length pairs = ap length (sym (set_or_push-present there)) ∙ length-set_value eq pairs k v in
         omega arith
 
-    pub room-absent : (capacity : ℕ) → find eq pairs k ≡ None → max capacity (length pairs + 1) ≡ max capacity (length (set_or_push eq pairs k v))
+    room-absent : (capacity : ℕ) → find eq pairs k ≡ None → max capacity (length pairs + 1) ≡ max capacity (length (set_or_push eq pairs k v))
     room-absent capacity none =
         let pushed : length (set_or_push eq pairs k v) ≡ length (pairs ++ (k, v) ∷ []) = ap length (sym (set_or_push-absent none)) in
         let longer = length-append pairs ((k, v) ∷ []) in
         omega arith
+
+  -- what an entry makes of its map, once v is its value
+  module _ {S : Type 0} (eq : K → K → Bool) (m : LinkedMap K V S) (k : K) (v : V) where
+    pub set_or_pushed-present : is_some (find eq m.pairs k) ≡ true → length m.pairs ≤ m.capacity → record m { pairs = set_value eq m.pairs k v } ≡ set_or_pushed eq m k v
+    set_or_pushed-present there within = λ i. record m {
+      pairs = set_or_push-present eq m.pairs k v there i;
+      capacity = room-present eq m.pairs k v m.capacity there within i;
+    }
+
+    pub set_or_pushed-absent : find eq m.pairs k ≡ None → pushed m k v ≡ set_or_pushed eq m k v
+    set_or_pushed-absent none = λ i. record m {
+      pairs = set_or_push-absent eq m.pairs k v none i;
+      capacity = room-absent eq m.pairs k v m.capacity none i;
+    }
 
   -- a key that is the same as one that is present does what that one does
   pub ActsAs-same : {eq : K → K → Bool} → IsEquivalence eq → (pairs : List (K × V)) (q k : K) → eq k q ≡ true → is_some (find eq pairs k) ≡ true → ActsAs eq pairs q k
@@ -102,33 +118,33 @@ module _ {K V : Type 0} where
       by_value sets (Some v) = sets v
 
 module _ {K V S H : Type 0} {g : eq.Ghosts K} {h : hash.Ghosts K} {b : builder.Ghosts S H} {w : hasher.Ghosts H} (o : OccupiedEntry K V S H g h b w) where
-  pub slice_get-occupied : slice_get o.map.now.pairs o.place ≡ Some (occupied_pair o)
+  pub slice_get-occupied : slice_get o.map.now.pairs o.index ≡ Some (occupied_pair o)
   unfolding occupied_pair
-  slice_get-occupied = slice_get-pair_at o.map.now.pairs o.place o.within
+  slice_get-occupied = slice_get-pair_at o.map.now.pairs o.index o.within
 
-  -- the pair at the place
-  pub occupied_pair-is : (pair : K × V) → slice_get o.map.now.pairs o.place ≡ Some pair → pair ≡ occupied_pair o
+  -- the pair at the index
+  pub occupied_pair-is : (pair : K × V) → slice_get o.map.now.pairs o.index ≡ Some pair → pair ≡ occupied_pair o
   occupied_pair-is pair there = some_injective (sym there ∙ slice_get-occupied)
 
-  pub occupied_value-is : (v : V) → option_map (λ pair. pair.1) (slice_get o.map.now.pairs o.place) ≡ Some v → v ≡ (occupied_pair o).1
+  pub occupied_value-is : (v : V) → option_map (λ pair. pair.1) (slice_get o.map.now.pairs o.index) ≡ Some v → v ≡ (occupied_pair o).1
   occupied_value-is v there = some_injective (sym there ∙ ap (option_map (λ pair. pair.1)) slice_get-occupied)
 
-  pub IsPlace-occupied : {eq : K → K → Bool} → IsEquivalence eq → IsPlace eq o.map.now.pairs (occupied_key o) o.place
-  IsPlace-occupied laws = record { pair = occupied_pair o; there = slice_get-occupied; same = laws.refl (occupied_key o) }
+  pub IsIndex-occupied : {eq : K → K → Bool} → IsEquivalence eq → IsIndex eq o.map.now.pairs (occupied_key o) o.index
+  IsIndex-occupied laws = record { pair = occupied_pair o; there = slice_get-occupied; same = laws.refl (occupied_key o) }
 
   pub found-occupied : {eq : K → K → Bool} → IsEquivalence eq → is_some (find eq o.map.now.pairs (occupied_key o)) ≡ true
-  found-occupied {eq} laws = found_at eq o.map.now.pairs o.place (occupied_key o) (occupied_pair o) slice_get-occupied (laws.refl (occupied_key o))
+  found-occupied {eq} laws = found_at eq o.map.now.pairs o.index (occupied_key o) (occupied_pair o) slice_get-occupied (laws.refl (occupied_key o))
 
   -- once a value is written
   pub occupied_pair-written : (v : V) → occupied_pair (with_occupied_value o v) ≡ (occupied_key o, v)
   unfolding occupied_pair
   occupied_pair-written v = some_injective
-      (sym (slice_get-pair_at (set_value_at o.map.now.pairs o.place v) o.place (with_occupied_value o v).within)
-      ∙ slice_get-set_value_at o.map.now.pairs o.place v (occupied_pair o) slice_get-occupied)
+      (sym (slice_get-pair_at (set_value_at o.map.now.pairs o.index v) o.index (with_occupied_value o v).within)
+      ∙ slice_get-set_value_at o.map.now.pairs o.index v (occupied_pair o) slice_get-occupied)
 
-  pub occupied_written : (v : V) (within : o.place < length (set_value_at o.map.now.pairs o.place v)) (outside : IsOutside o.place (with_occupied_value o v).map.now)
-      → record { map = (with_occupied_value o v).map; place = o.place; within = within; outside = outside } ≡ with_occupied_value o v
+  pub occupied_written : (v : V) (within : o.index < length (set_value_at o.map.now.pairs o.index v)) (outside : IsOutside o.index (with_occupied_value o v).map.now)
+      → record { map = (with_occupied_value o v).map; index = o.index; within = within; outside = outside } ≡ with_occupied_value o v
   occupied_written v within outside i = record (with_occupied_value o v) {
     within = le_prop within (with_occupied_value o v).within i;
-    outside = IsOutside-prop o.place (with_occupied_value o v).map.now outside o.outside i;
+    outside = IsOutside-prop o.index (with_occupied_value o v).map.now outside o.outside i;
   }

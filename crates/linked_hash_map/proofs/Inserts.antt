@@ -1,8 +1,9 @@
 -- Insertions one after another.
-use Rattle.std.proofs.Common.{◌≡◌, ◌+◌, ◌≤◌, max, Bool, true, false, cond, List, [], ◌∷◌, ◌++◌, length, is_some, refl, sym, ap, ◌∙◌, subst, arith}
+use Rattle.std.proofs.Common.{◌≡◌, ◌+◌, ◌≤◌, max, Bool, true, false, cond, List, [], ◌∷◌, ◌++◌, length, map, is_some, refl, sym, ap, ◌∙◌, subst, arith}
 use Rattle.std.specs.List.{IsDistinct}
 use Rattle.std.specs.Map.{keys_of}
 use Rattle.std.specs.Cmp.{IsEquivalence}
+use Rattle.std.proofs.lemmas.List.{map-append}
 use Rattle.linked_hash_map.specs.LinkedMap.{LinkedMap}
 use Rattle.linked_hash_map.specs.Log.{Put}
 use Rattle.linked_hash_map.specs.Pairs.{find, to_back}
@@ -55,6 +56,12 @@ module _ {K V : Type 0} {eq : K → K → Bool} (laws : IsEquivalence eq) where
         capacity = omega arith;
         hasher = same ∙ so_far.hasher;
       }
+
+  -- the same, where the items are what others show
+  pub HasInserted-shown : {S X : Type 0} (shows : X → K × V) (start : LinkedMap K V S) (taken : List X) (item : X) {before after : LinkedMap K V S} → IsDistinct eq (keys_of start.pairs) → HasInserted eq start (map shows taken) before → after.pairs ≡ to_back eq before.pairs (shows item).0 (shows item).1 → after.capacity ≡ max before.capacity (length after.pairs) → after.hasher ≡ before.hasher → HasInserted eq start (map shows (taken ++ item ∷ [])) after
+  HasInserted-shown shows start taken item {before} {after} distinct so_far pairs_are raised same =
+      subst (λ items. HasInserted eq start items after) (sym (map-append shows taken (item ∷ [])))
+      (HasInserted-put start (map shows taken) (shows item).0 (shows item).1 distinct so_far pairs_are raised same)
 
   -- pairs with keys that differ stay as they are inserted
   pub insert_each-distinct : (pairs : List (K × V)) → IsDistinct eq (keys_of pairs) → insert_each eq [] pairs ≡ pairs

@@ -10,12 +10,13 @@ pub mod Effects
 pub mod EntryFacts
 mod Examples
 pub mod Extends
+pub mod Indexes
 pub mod Inserts
 pub mod Lists
 pub mod LiveKeys
 pub mod Marks
+pub mod Outcomes
 pub mod Pairs
-pub mod Places
 pub mod Runs
 pub mod Standing
 pub mod Stretches

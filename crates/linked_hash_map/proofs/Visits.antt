@@ -8,7 +8,7 @@ use Rattle.linked_hash_map.specs.LinkedMap.{LinkedMap}
 use Rattle.linked_hash_map.specs.Cursor.{to_visit, IsOutside}
 
 module _ {X : Type 0} where
-  -- what is behind a place, once an element before it is out
+  -- what is behind an index, once an element before it is out
   drop-removed : (xs : List X) (i b : ℕ) → i ≤ b → drop b (remove xs i) ≡ drop (suc b) xs
   drop-removed [] zero zero h = refl
   drop-removed [] zero (suc b) h = refl
@@ -44,27 +44,27 @@ keys_of-remove [] (suc i) = refl
 keys_of-remove (pair ∷ pairs) zero = refl
 keys_of-remove (pair ∷ pairs) (suc i) = ap (λ ks. pair.0 ∷ ks) (keys_of-remove pairs i)
 
--- where the bookmark stands once the pair at a place is out, there is what it needs
-pub in_reach-removed : {place bookmark unvisited len : ℕ} (numbers : ℕ × ℕ) → place < len → bookmark + unvisited ≤ len → (place < bookmark → numbers ≡ (bookmark - 1, unvisited)) → (bookmark ≤ place → place < bookmark + unvisited → numbers ≡ (0, 0)) → (bookmark + unvisited ≤ place → numbers ≡ (bookmark, unvisited)) → numbers.0 + numbers.1 < len
-in_reach-removed {place} {bookmark} {unvisited} numbers within in_reach before inside behind =
+-- where the bookmark stands once the pair at an index is out, there is what it needs
+pub in_reach-removed : {index bookmark unvisited len : ℕ} (numbers : ℕ × ℕ) → index < len → bookmark + unvisited ≤ len → (index < bookmark → numbers ≡ (bookmark - 1, unvisited)) → (bookmark ≤ index → index < bookmark + unvisited → numbers ≡ (0, 0)) → (bookmark + unvisited ≤ index → numbers ≡ (bookmark, unvisited)) → numbers.0 + numbers.1 < len
+in_reach-removed {index} {bookmark} {unvisited} numbers within in_reach before inside behind =
     ⊎_elim (λ low. let told = ap (λ (n : ℕ × ℕ). n.0 + n.1) (before low) in omega arith)
     (λ high. ⊎_elim
     (λ h. let told = ap (λ (n : ℕ × ℕ). n.0 + n.1) (inside high h) in omega arith)
     (λ h. let told = ap (λ (n : ℕ × ℕ). n.0 + n.1) (behind h) in omega arith)
-    (cases_lt place (bookmark + unvisited)))
-    (cases_lt place bookmark)
+    (cases_lt index (bookmark + unvisited)))
+    (cases_lt index bookmark)
 
-module _ {K V S : Type 0} (m : LinkedMap K V S) (place : ℕ) where
-  -- the pair at a place outside is taken out
-  pub to_visit-removed : (numbers : ℕ × ℕ) → (place < m.bookmark → numbers ≡ (m.bookmark - 1, m.unvisited)) → (m.bookmark + m.unvisited ≤ place → numbers ≡ (m.bookmark, m.unvisited)) → IsOutside place m → take numbers.1 (drop numbers.0 (keys_of (remove m.pairs place))) ≡ to_visit m
+module _ {K V S : Type 0} (m : LinkedMap K V S) (index : ℕ) where
+  -- the pair at an index outside is taken out
+  pub to_visit-removed : (numbers : ℕ × ℕ) → (index < m.bookmark → numbers ≡ (m.bookmark - 1, m.unvisited)) → (m.bookmark + m.unvisited ≤ index → numbers ≡ (m.bookmark, m.unvisited)) → IsOutside index m → take numbers.1 (drop numbers.0 (keys_of (remove m.pairs index))) ≡ to_visit m
   to_visit-removed numbers before behind (inl h) =
       let keys = keys_of m.pairs in
       let one : suc (m.bookmark - 1) ≡ m.bookmark = omega arith in
-      ap₂ (λ (ks : List K) (n : ℕ × ℕ). take n.1 (drop n.0 ks)) (keys_of-remove m.pairs place) (before h)
-      ∙ ap (take m.unvisited) (drop-removed keys place (m.bookmark - 1) (omega arith) ∙ ap (λ b. drop b keys) one)
+      ap₂ (λ (ks : List K) (n : ℕ × ℕ). take n.1 (drop n.0 ks)) (keys_of-remove m.pairs index) (before h)
+      ∙ ap (take m.unvisited) (drop-removed keys index (m.bookmark - 1) (omega arith) ∙ ap (λ b. drop b keys) one)
   to_visit-removed numbers before behind (inr h) =
-      ap₂ (λ (ks : List K) (n : ℕ × ℕ). take n.1 (drop n.0 ks)) (keys_of-remove m.pairs place) (behind h)
-      ∙ stretch-removed (keys_of m.pairs) place m.bookmark m.unvisited h
+      ap₂ (λ (ks : List K) (n : ℕ × ℕ). take n.1 (drop n.0 ks)) (keys_of-remove m.pairs index) (behind h)
+      ∙ stretch-removed (keys_of m.pairs) index m.bookmark m.unvisited h
 
 -- one more pair is put at the back
 pub to_visit-appended : {K V S : Type 0} (m new : LinkedMap K V S) (pair : K × V) → m.bookmark + m.unvisited ≤ length m.pairs → new.pairs ≡ m.pairs ++ pair ∷ [] → new.bookmark ≡ m.bookmark → new.unvisited ≡ m.unvisited → to_visit new ≡ to_visit m

@@ -3,6 +3,7 @@ use Rattle.std.specs.Prelude.{◌≡◌, Bool, IsTrue, List, [], length}
 use Rattle.std.specs.List.{AllZip}
 use Rattle.linked_hash_map.specs.LinkedMap.{LinkedMap}
 use Rattle.linked_hash_map.specs.Inserts.{insert_each}
+use Rattle.linked_hash_map.specs.Validity.{IsValid}
 
 -- these pairs are clones of those, in order
 abbrev pub AreClones : {K V : Type 0} → (K → K → Type 0) → (V → V → Type 0) → List (K × V) → List (K × V) → Type 0
@@ -13,5 +14,6 @@ pub record IsClone {K V S : Type 0} (eq : K → K → Bool) (IsKeyClone : K → 
   pub pairs : (clones : List (K × V)) × AreClones IsKeyClone IsValueClone m.pairs clones × (n.pairs ≡ insert_each eq [] clones)
   pub capacity : n.capacity ≡ length m.pairs
   pub hasher : IsHasherClone m.hasher n.hasher
+  pub valid : IsValid eq n
   -- where a clone of a key is the same key, its list is the clones in order
   pub in_order : ((k clone : K) → IsKeyClone k clone → IsTrue (eq k clone)) → AreClones IsKeyClone IsValueClone m.pairs n.pairs

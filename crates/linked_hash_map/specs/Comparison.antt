@@ -1,8 +1,17 @@
 -- Pairs compared and hashed, key before value.
-use Rattle.std.specs.Prelude.{Bool, ◌&&◌, ◌++◌, Option}
+use Rattle.std.specs.Prelude.{Bool, ◌&&◌, ◌++◌, List, Option}
+use Rattle.std.specs.Cmp.Lexicographic.{slice_cmp, slice_partial_cmp}
 use Rattle.std.specs.declared.cmp.Ordering.{Ordering}
 use Rattle.std.specs.Ordering.{ordering_then, partial_ordering_then}
 use Rattle.std.specs.Hash.{HashWrites}
+
+-- the lexicographic order of two lists, given that of their elements, and the same where there may be no order
+module _ {X : Type 0} where
+  abbrev pub lexicographic : (X → X → Ordering) → List X → List X → Ordering
+  lexicographic order xs ys = slice_cmp order xs ys
+
+  abbrev pub partial_lexicographic : (X → X → Option Ordering) → List X → List X → Option Ordering
+  partial_lexicographic order xs ys = slice_partial_cmp order xs ys
 
 module _ {K V : Type 0} where
   -- the keys are equal, and the values

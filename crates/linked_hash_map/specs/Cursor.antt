@@ -6,9 +6,9 @@ use Rattle.std.proofs.Math.Nat.{not-suc-le_self, le_trans, le-add_right}
 use Rattle.std.specs.Map.{keys_of}
 use Rattle.linked_hash_map.specs.LinkedMap.{LinkedMap}
 
--- no place is before a stretch and behind it
-not_before_and_behind : {place start : ℕ} (len : ℕ) → place < start → start + len ≤ place → ⊥
-not_before_and_behind {place} {start} len before behind = not-suc-le_self place (le_trans before (le_trans (le-add_right start len) behind))
+-- no index is before a stretch and behind it
+not_before_and_behind : {index start : ℕ} (len : ℕ) → index < start → start + len ≤ index → ⊥
+not_before_and_behind {index} {start} len before behind = not-suc-le_self index (le_trans before (le_trans (le-add_right start len) behind))
 
 module _ {K V S : Type 0} where
   -- the keys that a cursor has still to visit, in order
@@ -19,13 +19,13 @@ module _ {K V S : Type 0} where
   abbrev pub without_cursor : LinkedMap K V S → LinkedMap K V S
   without_cursor m = record m { bookmark = 0; unvisited = 0 }
 
-  -- the place is before the pairs that are still to be visited, or behind them
+  -- the index is before the pairs that are still to be visited, or behind them
   abbrev pub IsOutside : ℕ → LinkedMap K V S → Type 0
-  IsOutside place m = (place < m.bookmark) ⊎ (m.bookmark + m.unvisited ≤ place)
+  IsOutside index m = (index < m.bookmark) ⊎ (m.bookmark + m.unvisited ≤ index)
 
-  -- a place is so in one way
-  pub IsOutside-prop : (place : ℕ) (m : LinkedMap K V S) → IsProp (IsOutside place m)
-  IsOutside-prop place m (inl h) (inl k) = ap inl (le_prop h k)
-  IsOutside-prop place m (inl h) (inr k) = absurd (not_before_and_behind m.unvisited h k)
-  IsOutside-prop place m (inr h) (inl k) = absurd (not_before_and_behind m.unvisited k h)
-  IsOutside-prop place m (inr h) (inr k) = ap inr (le_prop h k)
+  -- an index is so in one way
+  pub IsOutside-prop : (index : ℕ) (m : LinkedMap K V S) → IsProp (IsOutside index m)
+  IsOutside-prop index m (inl h) (inl k) = ap inl (le_prop h k)
+  IsOutside-prop index m (inl h) (inr k) = absurd (not_before_and_behind m.unvisited h k)
+  IsOutside-prop index m (inr h) (inl k) = absurd (not_before_and_behind m.unvisited k h)
+  IsOutside-prop index m (inr h) (inr k) = ap inr (le_prop h k)

@@ -1,6 +1,6 @@
 -- What the contracts of entries cite.
 pub use Rattle.linked_hash_map.specs.declared.entry.Entry.TheVariants.{Occupied, Vacant}
-use Rattle.std.specs.Prelude.{◌+◌, Bool, true, false, max, [], ◌∷◌, ◌++◌, length, Option, Some, None, Result}
+use Rattle.std.specs.Prelude.{Bool, true, false, [], Option, Some, None, Result}
 use Rattle.std.specs.Borrow.{Fml, RattleType, MutBor, follows, follows_if, name_if_ok}
 use Rattle.std.specs.HashMap.Lent.{HashMembers}
 use Rattle.std.specs.declared.cmp.PartialEq as eq
@@ -10,8 +10,9 @@ use Rattle.std.specs.declared.hash.BuildHasher as builder
 use mir.Syntax.{named}
 use Rattle.linked_hash_map.specs.LinkedMap.{LinkedMap}
 use Rattle.linked_hash_map.specs.Lends.{map_row}
-use Rattle.linked_hash_map.specs.Pairs.{set_value, set_or_push}
-use Rattle.linked_hash_map.specs.Places.{pair_at, set_value_at, within-set_value_at}
+use Rattle.linked_hash_map.specs.Changes.{pushed, set_or_pushed}
+use Rattle.linked_hash_map.specs.Pairs.{set_value}
+use Rattle.linked_hash_map.specs.Indexes.{pair_at, set_value_at, within-set_value_at}
 use Rattle.linked_hash_map.specs.declared.entry.Entry.{Entry}
 use Rattle.linked_hash_map.specs.declared.entry.OccupiedEntry.{OccupiedEntry}
 use Rattle.linked_hash_map.specs.declared.entry.VacantEntry.{VacantEntry}
@@ -27,7 +28,7 @@ module _ {K V S H : Type 0} {g : eq.Ghosts K} {h : hash.Ghosts K} {b : builder.G
   occupied_map o = (occupied_map_ref o).now
 
   unfoldable pub occupied_pair : OccupiedEntry K V S H g h b w → K × V
-  occupied_pair o = pair_at o.map.now.pairs o.place o.within
+  occupied_pair o = pair_at o.map.now.pairs o.index o.within
 
   abbrev pub occupied_key : OccupiedEntry K V S H g h b w → K
   occupied_key o = (occupied_pair o).0
@@ -65,9 +66,9 @@ module _ {K V S H : Type 0} {g : eq.Ghosts K} {h : hash.Ghosts K} {b : builder.G
   -- an occupied entry, once v is its value
   abbrev pub with_occupied_value : OccupiedEntry K V S H g h b w → V → OccupiedEntry K V S H g h b w
   with_occupied_value o v = record {
-    map = record o.map { now = record o.map.now { pairs = set_value_at o.map.now.pairs o.place v } };
-    place = o.place;
-    within = within-set_value_at o.map.now.pairs o.place v o.within;
+    map = record o.map { now = record o.map.now { pairs = set_value_at o.map.now.pairs o.index v } };
+    index = o.index;
+    within = within-set_value_at o.map.now.pairs o.index v o.within;
     outside = o.outside;
   }
 
@@ -85,13 +86,12 @@ module _ (K V S H : RattleType) (key : HashMembers K.Denot) (build : builder.Gho
   -- for it; with no reference it is as it was
   abbrev pub lends_pushed : {E : Type 0} → VacantEntry K.Denot V.Denot S.Denot H.Denot g h b w → Result (MutBor V.Denot) E → Fml
   lends_pushed e r = follows_if (map_row K V S H key build hashing) V e.map.ghost_name (name_if_ok (λ lent. lent.ghost_name) r)
-      (λ v. record (vacant_map e) { pairs = (vacant_map e).pairs ++ (vacant_key e, v) ∷ []; capacity = max (vacant_map e).capacity (length (vacant_map e).pairs + 1) })
+      (pushed (vacant_map e) (vacant_key e))
       (vacant_map e)
 
   -- the map of an entry has the last value written through the reference as the value of its key, in its place or else at the
   -- back, and room for it; with no reference it is as it was
   abbrev pub lends_entry : {E : Type 0} → Entry K.Denot V.Denot S.Denot H.Denot g h b w → Result (MutBor V.Denot) E → Fml
   lends_entry e r = follows_if (map_row K V S H key build hashing) V (entry_map_ref e).ghost_name (name_if_ok (λ lent. lent.ghost_name) r)
-      (λ v. let pairs = set_or_push key.eq (entry_map e).pairs (entry_key e) v in
-      record (entry_map e) { pairs = pairs; capacity = max (entry_map e).capacity (length pairs) })
+      (set_or_pushed key.eq (entry_map e) (entry_key e))
       (entry_map e)

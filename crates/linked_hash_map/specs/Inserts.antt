@@ -1,8 +1,9 @@
 -- Insertions one after another, and what an iterator gives.
-use Rattle.std.specs.Prelude.{ℕ, Bool, List, [], ◌∷◌, Option, Some}
+use Rattle.std.specs.Prelude.{◌≡◌, ℕ, ◌≤◌, max, Bool, List, [], ◌∷◌, map, length, Option, Some}
 use Rattle.std.specs.Iterator.{Count, Drains, YieldsThen}
 use Rattle.std.specs.Iterator.SizeHint.{IsWithinCount}
 use Rattle.linked_hash_map.specs.Pairs.{to_back}
+use Rattle.linked_hash_map.specs.declared.map.TheConstants.{LIMIT}
 
 -- the pairs once the items went in one by one
 abbrev pub insert_each : {K V : Type 0} → (K → K → Bool) → List (K × V) → List (K × V) → List (K × V)
@@ -12,22 +13,50 @@ insert_each eq pairs (item ∷ items) = insert_each eq (to_back eq pairs item.0 
 -- given what becomes an iterator, and the steps of that iterator
 module _ {T I X : Type 0} (becomes : T → I → Type 0) (steps : I → Option X → I → Type 0) (source : T) where
   -- it gives these items, and no more
-  abbrev pub GivesAll : List X → Type 0
-  GivesAll given = (it : I) × becomes source it × Drains steps it given
+  pub record GivesAll (given : List X) : Type 0 where
+    pub iterator : I
+    pub made : becomes source iterator
+    pub gives : Drains steps iterator given
 
   -- it gives these items, and then this one
-  abbrev pub GivesThen : List X → X → Type 0
-  GivesThen given item = (it : I) × (rest : I) × becomes source it × YieldsThen steps it given (Some item) rest
+  pub record GivesThen (given : List X) (item : X) : Type 0 where
+    pub iterator : I
+    pub left : I
+    pub made : becomes source iterator
+    pub gives : YieldsThen steps iterator given (Some item) left
 
   -- it gives some item
-  abbrev pub GivesSome : Type 0
-  GivesSome = (given : List X) × (item : X) × GivesThen given item
+  pub record GivesSome : Type 0 where
+    pub given : List X
+    pub item : X
+    pub then : GivesThen given item
 
-  module _ (remaining : I → Count) where
-    -- it hints at this many items at least
-    abbrev pub HintsAt : ℕ → Type 0
-    HintsAt lower = (it : I) × becomes source it × IsWithinCount lower (remaining it)
+  -- given how many items an iterator has left at most: it hints at this many items at least
+  pub record HintsAt (remaining : I → Count) (lower : ℕ) : Type 0 where
+    pub iterator : I
+    pub made : becomes source iterator
+    pub hint : IsWithinCount lower (remaining iterator)
 
-    -- it hints at this many items at least, and gives these, and no more
-    abbrev pub HintsAndGives : ℕ → List X → Type 0
-    HintsAndGives lower given = (it : I) × becomes source it × IsWithinCount lower (remaining it) × Drains steps it given
+  -- and what pair an item shows
+  module _ {K V : Type 0} (eq : K → K → Bool) (shows : X → K × V) where
+    -- all items that it gives went in one by one
+    pub record InsertsAll (old new : List (K × V)) : Type 0 where
+      pub given : List X
+      pub gives : GivesAll given
+      pub pairs : new ≡ insert_each eq old (map shows given)
+
+    -- items that it gives went in one by one, up to one that shows this key and this value
+    pub record InsertsUntil (old new : List (K × V)) (key : K) (value : V) : Type 0 where
+      pub given : List X
+      pub item : X
+      pub gives : GivesThen given item
+      pub shown : shows item ≡ (key, value)
+      pub pairs : new ≡ insert_each eq old (map shows given)
+
+    -- all items that it gives went into an empty map, and the capacity is the larger of what it hints at and the number of pairs
+    pub record Collects (remaining : I → Count) (pairs : List (K × V)) (capacity : ℕ) : Type 0 where
+      pub lower : ℕ
+      pub hint : HintsAt remaining lower
+      pub limit : lower ≤ LIMIT
+      pub inserts : InsertsAll [] pairs
+      pub room : capacity ≡ max lower (length pairs)

@@ -5,9 +5,9 @@ use Rattle.std.specs.HashMap.Lent.{HashMembers}
 use Rattle.std.specs.declared.hash.Hasher as hasher
 use Rattle.std.specs.declared.hash.BuildHasher as builder
 use Rattle.linked_hash_map.specs.LinkedMap.{LinkedMap}
-use Rattle.linked_hash_map.specs.Cursor.{without_cursor}
-use Rattle.linked_hash_map.specs.Pairs.{to_back, set_value, set_values}
-use Rattle.linked_hash_map.specs.Places.{set_value_at}
+use Rattle.linked_hash_map.specs.Changes.{refreshed}
+use Rattle.linked_hash_map.specs.Pairs.{set_value, set_values}
+use Rattle.linked_hash_map.specs.Indexes.{set_value_at}
 use Rattle.linked_hash_map.specs.contracts.map.LinkedHashMap.{the_row}
 
 module _ (K V S H : RattleType) (key : HashMembers K.Denot) (build : builder.Ghosts S.Denot H.Denot) (hash : hasher.Ghosts H.Denot) where
@@ -16,9 +16,9 @@ module _ (K V S H : RattleType) (key : HashMembers K.Denot) (build : builder.Gho
   map_row = the_row K V S H (record { eq = key.eq }) (record { hash_input = key.hash_input }) build hash
 
   module _ (m : MutBor (LinkedMap K.Denot V.Denot S.Denot)) where
-    -- the value at the place is the last one written through the reference
+    -- the value at the index is the last one written through the reference
     abbrev pub lends_at : ℕ → MutBor V.Denot → Fml
-    lends_at place r = Lends map_row V m r (λ v. record m.now { pairs = set_value_at m.now.pairs place v })
+    lends_at index r = Lends map_row V m r (λ v. record m.now { pairs = set_value_at m.now.pairs index v })
 
     -- the value of k, which is present, is the last one written through the reference
     abbrev pub lends_present : K.Denot → MutBor V.Denot → Fml
@@ -28,9 +28,9 @@ module _ (K V S H : RattleType) (key : HashMembers K.Denot) (build : builder.Gho
     abbrev pub lends_value : K.Denot → Option (MutBor V.Denot) → Fml
     lends_value k r = LendsIf map_row V m r (λ v. record m.now { pairs = set_value key.eq m.now.pairs k v }) m.now
 
-    -- the same, with the pair of k at the back and nothing left to visit
+    -- the map is refreshed by k with the last value written through the reference, and with no reference it is as it was
     abbrev pub lends_refreshed : K.Denot → Option (MutBor V.Denot) → Fml
-    lends_refreshed k r = LendsIf map_row V m r (λ v. record (without_cursor m.now) { pairs = to_back key.eq m.now.pairs k v }) m.now
+    lends_refreshed k r = LendsIf map_row V m r (refreshed key.eq m.now k) m.now
 
     -- the values are the last ones written through the loan with this name
     abbrev pub lends_values : GName → Fml

@@ -1,12 +1,13 @@
 //! Maps that take in what an iterator gives.
-ghost use Rattle.std.specs.Prelude.{◌≡◌, ℕ, List, [], map, max, length, None, ◌<◌, ◌≤◌, ◌⊎◌, IfOk, IfErr, OnErr, OnOk, IsErrOf};
-ghost use Rattle.std.specs.Borrow.{Bor};
+ghost use Rattle.std.specs.Prelude.{◌≡◌, ℕ, max, length, None, ◌<◌, ◌≤◌, ◌⊎◌, IfOk, IfErr, OnErr, OnOk, IsErrOf};
 ghost use Rattle.std.specs.Iterator.{IsFiniteIterable};
 ghost use Rattle.std.specs.Map.Iter.{deref_pair};
 ghost use Rattle.linked_hash_map.specs.Pairs.{find};
-ghost use Rattle.linked_hash_map.specs.Inserts.{insert_each, GivesAll, GivesThen, GivesSome, HintsAt, HintsAndGives};
+ghost use Rattle.linked_hash_map.specs.Validity.{IsValid};
+ghost use Rattle.linked_hash_map.specs.Inserts.{GivesSome, HintsAt, InsertsAll, InsertsUntil, Collects};
 
-use crate::map::{LIMIT, LinkedHashMap, Refused, ReserveError};
+use crate::error::{Refused, ReserveError};
+use crate::map::{LIMIT, LinkedHashMap};
 use std::alloc::Global;
 use std::hash::{BuildHasher, Hash};
 
@@ -18,24 +19,32 @@ impl<K: Eq + Hash, V, S: BuildHasher> LinkedHashMap<K, V, S> {
     /// taken. Only a new key at full capacity takes memory, and the capacity then rises by exactly one. It costs an `insert`
     /// for each item. The original answers no error, and may take memory below its capacity. Here it is a call of the map,
     /// since the trait `Extend` of std has no error that hands a pair back.
+    ///
+    /// # Examples
+    ///
+    /// ```rust
+    /// let mut map = LinkedHashMap::new(rt.alloc());
+    /// map.extend([('x', 1), ('y', 2), ('x', 3)])?;
+    /// assert_eq!(rt; map.front(), Some((&'y', &2)));
+    /// assert_eq!(rt; map.back(), Some((&'x', &3)));
+    /// ```
     pub fn extend<I: IntoIterator<Item = (K, V)>>(&mut self, items: I) -> Result<(), Refused<K, V>>
     where
         K: Drop,
         V: Drop,
         I::IntoIter: Drop,
         requires ends { IsFiniteIterable I.into_iter_gives I.IntoIter.can_next I.IntoIter.remaining items }
-        ensures all { OnOk result ((taken : List (K × V)) × GivesAll I.into_iter_gives I.IntoIter.next_gives items taken
-            × (self.new.pairs ≡ insert_each K.eq self.old.pairs taken)) }
+        ensures all { OnOk result (InsertsAll I.into_iter_gives I.IntoIter.next_gives items K.eq (λ pair. pair) self.old.pairs self.new.pairs) }
         ensures capacity { self.new.capacity ≡ max self.old.capacity (length self.new.pairs) }
         ensures hasher { self.new.hasher ≡ self.old.hasher }
+        ensures valid { IsValid K.eq self.old }
+        ensures stays_valid { IsValid K.eq self.new }
 
-        ensures stopped { IfErr result (λ refused. (taken : List (K × V))
-            × GivesThen I.into_iter_gives I.IntoIter.next_gives items taken (refused.key, refused.value)
-            × (self.new.pairs ≡ insert_each K.eq self.old.pairs taken)) }
+        ensures stopped { IfErr result (λ refused. InsertsUntil I.into_iter_gives I.IntoIter.next_gives items K.eq (λ pair. pair) self.old.pairs self.new.pairs refused.key refused.value) }
         ensures absent { IfErr result (λ refused. find K.eq self.new.pairs refused.key ≡ None) }
         ensures full { OnErr result (length self.new.pairs ≡ self.new.capacity) }
     {
-        // Tells that the keys differ and have room, where no item comes.
+        // Tells that the map is valid, where no item comes.
         let _len = self.len();
         for (key, value) in items {
             match self.insert(key, value) {
@@ -48,8 +57,17 @@ impl<K: Eq + Hash, V, S: BuildHasher> LinkedHashMap<K, V, S> {
 
     /// Inserts copies of the pairs lent, one by one, as `extend` does.
     ///
-    /// It stops at the first refused insertion, with copies of that key and that value as the error. The original answers no
-    /// error, and may take memory below its capacity. Here it is a call of its own, since a method has one type of items.
+    /// It stops at the first refused insertion, with copies of that key and that value as the error; the pairs before it
+    /// stay. It takes memory as `extend` does, and costs an `insert` for each item. The original answers no error, and may
+    /// take memory below its capacity. Here it is a call of its own, since a method has one type of items.
+    ///
+    /// # Examples
+    ///
+    /// ```rust
+    /// let mut map = LinkedHashMap::new(rt.alloc());
+    /// map.extend_refs([(&'x', &1), (&'y', &2)])?;
+    /// assert_eq!(rt; map.back(), Some((&'y', &2)));
+    /// ```
     pub fn extend_refs<'a, I: IntoIterator<Item = (&'a K, &'a V)>>(
         &mut self,
         items: I,
@@ -59,19 +77,17 @@ impl<K: Eq + Hash, V, S: BuildHasher> LinkedHashMap<K, V, S> {
         V: Copy + 'a,
         I::IntoIter: Drop,
         requires ends { IsFiniteIterable I.into_iter_gives I.IntoIter.can_next I.IntoIter.remaining items }
-        ensures all { OnOk result ((taken : List (Bor K × Bor V)) × GivesAll I.into_iter_gives I.IntoIter.next_gives items taken
-            × (self.new.pairs ≡ insert_each K.eq self.old.pairs (map deref_pair taken))) }
+        ensures all { OnOk result (InsertsAll I.into_iter_gives I.IntoIter.next_gives items K.eq deref_pair self.old.pairs self.new.pairs) }
         ensures capacity { self.new.capacity ≡ max self.old.capacity (length self.new.pairs) }
         ensures hasher { self.new.hasher ≡ self.old.hasher }
+        ensures valid { IsValid K.eq self.old }
+        ensures stays_valid { IsValid K.eq self.new }
 
-        ensures stopped { IfErr result (λ refused. (taken : List (Bor K × Bor V)) × (key : Bor K) × (value : Bor V)
-            × GivesThen I.into_iter_gives I.IntoIter.next_gives items taken (key, value)
-            × (refused.key ≡ key.now) × (refused.value ≡ value.now)
-            × (self.new.pairs ≡ insert_each K.eq self.old.pairs (map deref_pair taken))) }
+        ensures stopped { IfErr result (λ refused. InsertsUntil I.into_iter_gives I.IntoIter.next_gives items K.eq deref_pair self.old.pairs self.new.pairs refused.key refused.value) }
         ensures absent { IfErr result (λ refused. find K.eq self.new.pairs refused.key ≡ None) }
         ensures full { OnErr result (length self.new.pairs ≡ self.new.capacity) }
     {
-        // Tells that the keys differ and have room, where no item comes.
+        // Tells that the map is valid, where no item comes.
         let _len = self.len();
         for (key, value) in items {
             match self.insert(*key, *value) {
@@ -86,10 +102,18 @@ impl<K: Eq + Hash, V, S: BuildHasher> LinkedHashMap<K, V, S> {
     /// inserts the items one by one.
     ///
     /// A repeated key keeps its first stored key, and has its last value and the place of its last occurrence. The capacity
-    /// is the larger of the lower bound that the iterator's `size_hint` answers and the number of pairs. It is refused as
-    /// `TooLarge` exactly where that bound is above [`LIMIT`], before an item is taken, and as `NoRoom` where a growth is
+    /// is the larger of the lower bound that the iterator's `size_hint` answers and the number of pairs. Where the keys of the
+    /// items differ and no more items are announced than come, it is the number of items, whatever that bound. It is refused
+    /// as `TooLarge` exactly where the bound is above [`LIMIT`], before an item is taken, and as `NoRoom` where a growth is
     /// refused; then all items taken are dropped. It takes no memory where the bound is 0 and no item comes. It costs an
     /// `insert` for each item. The original takes no allocator, may reserve more, and answers no error.
+    ///
+    /// # Examples
+    ///
+    /// ```rust
+    /// let map: LinkedHashMap<char, u64> = LinkedHashMap::from_iter(rt.alloc(), [('x', 1), ('y', 2)])?;
+    /// assert_eq!(rt; (map.len(), map.capacity()), (2, 2));
+    /// ```
     pub fn from_iter<I: IntoIterator<Item = (K, V)>>(
         alloc: Global,
         items: I,
@@ -100,10 +124,9 @@ impl<K: Eq + Hash, V, S: BuildHasher> LinkedHashMap<K, V, S> {
         S: Default + Drop,
         I::IntoIter: Drop,
         requires ends { IsFiniteIterable I.into_iter_gives I.IntoIter.can_next I.IntoIter.remaining items }
-        ensures all { IfOk result (λ map. (lower : ℕ) × (taken : List (K × V))
-            × HintsAndGives I.into_iter_gives I.IntoIter.next_gives items I.IntoIter.remaining lower taken × (lower ≤ LIMIT)
-            × (map.pairs ≡ insert_each K.eq [] taken) × (map.capacity ≡ max lower (length map.pairs))) }
+        ensures all { IfOk result (λ map. Collects I.into_iter_gives I.IntoIter.next_gives items K.eq (λ pair. pair) I.IntoIter.remaining map.pairs map.capacity) }
         ensures hasher { IfOk result (λ map. S.is_default map.hasher) }
+        ensures valid { IfOk result (IsValid K.eq) }
 
         ensures too_large { IsErrOf result ReserveError.TooLarge → (lower : ℕ)
             × HintsAt I.into_iter_gives I.IntoIter.next_gives items I.IntoIter.remaining lower × (LIMIT < lower) }

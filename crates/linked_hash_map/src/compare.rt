@@ -1,11 +1,11 @@
 //! Equality, order, hash and debug text of maps, which are those of their pairs in order.
 ghost use Rattle.std.specs.Prelude.{◌≡◌, drop};
 ghost use Rattle.std.specs.List.{flat_map};
-ghost use Rattle.std.specs.Cmp.Lexicographic.{pointwise, slice_cmp, slice_partial_cmp, lists_equiv, lists_agrees, lists_total, lists_ties, lists_per, lists_po};
+ghost use Rattle.std.specs.Cmp.Lexicographic.{pointwise, lists_equiv, lists_agrees, lists_total, lists_ties, lists_per, lists_po};
 ghost use Rattle.std.specs.Cmp.{on_equiv, and_equiv, then_agrees, on_total, then_total, both_tied, on_per, and_per, on_po, then_po};
 ghost use Rattle.std.specs.Hash.{on_Alike, and-Alike, items_Alike};
 ghost use Rattle.std.specs.Map.Iter.{deref_pair};
-ghost use Rattle.linked_hash_map.specs.Comparison.{same_pair, pair_order, partial_pair_order, pair_writes};
+ghost use Rattle.linked_hash_map.specs.Comparison.{same_pair, pair_order, partial_pair_order, lexicographic, partial_lexicographic, pair_writes};
 ghost use Rattle.std.proofs.Common.{ap};
 
 use crate::map::LinkedHashMap;
@@ -15,7 +15,21 @@ use std::hash::{BuildHasher, Hash, Hasher};
 
 /// Two maps are equal where they have equal pairs in the same order. Their hashers and capacities are not compared.
 ///
-/// It costs a step for each pair at most, and takes no memory.
+/// It costs at most a step for each pair, and takes no memory.
+///
+/// # Examples
+///
+/// ```rust
+/// let mut map = LinkedHashMap::new(rt.alloc());
+/// map.insert('x', 1)?;
+/// map.insert('y', 2)?;
+/// let mut other = LinkedHashMap::new(rt.alloc());
+/// other.insert('y', 2)?;
+/// other.insert('x', 1)?;
+/// assert!(rt; map != other);
+/// other.insert('y', 2)?; // moves the pair to the back
+/// assert!(rt; map == other);
+/// ```
 impl<K: Eq + Hash, V: PartialEq, S: BuildHasher> PartialEq for LinkedHashMap<K, V, S> {
     ghost eq = { λ m n. pointwise (same_pair K.eq V.eq) m.pairs n.pairs };
 
@@ -38,17 +52,31 @@ impl<K: Eq + Hash, V: PartialEq, S: BuildHasher> PartialEq for LinkedHashMap<K, 
     }
 }
 
+/// The equality of maps is an equivalence where that of the values is, since that of the keys is one. `PartialEq` has an
+/// example.
 impl<K: Eq + Hash, V: Eq, S: BuildHasher> Eq for LinkedHashMap<K, V, S> {
     ghost laws = { on_equiv (λ m. m.pairs) (lists_equiv (and_equiv (on_equiv (λ pair. pair.0) K.Eq.laws) (on_equiv (λ pair. pair.1) V.Eq.laws))) };
 }
 
-/// The order of two maps is the lexicographic one of their pairs, key before value. There is none where the first part
-/// that is not equal has none.
+/// The order of two maps is the lexicographic one of their pairs, key before value. There is none where the first keys or
+/// values that are not equal have none.
 ///
-/// It costs a step for each pair at most, and takes no memory.
+/// It costs at most a step for each pair, and takes no memory.
+///
+/// # Examples
+///
+/// ```rust
+/// let mut map = LinkedHashMap::new(rt.alloc());
+/// map.insert('x', 1)?;
+/// map.insert('y', 2)?;
+/// let mut other = LinkedHashMap::new(rt.alloc());
+/// other.insert('y', 2)?;
+/// other.insert('x', 1)?;
+/// assert!(rt; map < other);
+/// ```
 impl<K: Eq + Hash + PartialOrd, V: PartialOrd, S: BuildHasher> PartialOrd
     for LinkedHashMap<K, V, S> {
-    ghost partial_cmp = { λ m n. slice_partial_cmp (partial_pair_order K.partial_cmp V.partial_cmp) m.pairs n.pairs };
+    ghost partial_cmp = { λ m n. partial_lexicographic (partial_pair_order K.partial_cmp V.partial_cmp) m.pairs n.pairs };
 
     ghost laws = { on_po (λ m. m.pairs) (lists_po (then_po (on_po (λ pair. pair.0) K.PartialOrd.laws) (on_po (λ pair. pair.1) V.PartialOrd.laws))) };
 
@@ -74,9 +102,23 @@ impl<K: Eq + Hash + PartialOrd, V: PartialOrd, S: BuildHasher> PartialOrd
 
 /// The order of two maps is the lexicographic one of their pairs, key before value.
 ///
-/// It costs a step for each pair at most, and takes no memory.
+/// It costs at most a step for each pair, and takes no memory.
+///
+/// # Examples
+///
+/// ```rust
+/// use std::cmp::Ordering;
+///
+/// let mut map = LinkedHashMap::new(rt.alloc());
+/// map.insert('x', 1)?;
+/// map.insert('y', 2)?;
+/// let mut other = LinkedHashMap::new(rt.alloc());
+/// other.insert('y', 2)?;
+/// other.insert('x', 1)?;
+/// assert_eq!(rt; map.cmp(&other), Ordering::Less);
+/// ```
 impl<K: Ord + Hash, V: Ord, S: BuildHasher> Ord for LinkedHashMap<K, V, S> {
-    ghost cmp = { λ m n. slice_cmp (pair_order K.cmp V.cmp) m.pairs n.pairs };
+    ghost cmp = { λ m n. lexicographic (pair_order K.cmp V.cmp) m.pairs n.pairs };
 
     ghost total = { on_total (λ m. m.pairs) (lists_total (then_total (on_total (λ pair. pair.0) K.total) (on_total (λ pair. pair.1) V.total))) };
 
@@ -108,7 +150,20 @@ impl<K: Ord + Hash, V: Ord, S: BuildHasher> Ord for LinkedHashMap<K, V, S> {
 
 /// A map feeds a hasher each pair in order, key then value, and nothing else: no length, which the original leaves out too.
 ///
-/// It takes no memory.
+/// So equal maps hash alike. It costs a step for each pair, and takes no memory.
+///
+/// # Examples
+///
+/// ```rust
+/// use linked_hash_map::{DefaultHashBuilder, LinkedHashMap};
+/// use std::hash::BuildHasher;
+///
+/// let mut map = LinkedHashMap::with_capacity(rt.alloc(), 5)?;
+/// map.insert('x', 1)?;
+/// let clone = map.clone()?;
+/// let builder = DefaultHashBuilder::new();
+/// assert_eq!(rt; builder.hash_one(clone), builder.hash_one(map));
+/// ```
 impl<K: Eq + Hash, V: Hash, S: BuildHasher> Hash for LinkedHashMap<K, V, S> {
     ghost hash_input = { λ m. flat_map (pair_writes K.hash_input V.hash_input) m.pairs };
 
@@ -123,6 +178,17 @@ impl<K: Eq + Hash, V: Hash, S: BuildHasher> Hash for LinkedHashMap<K, V, S> {
 }
 
 /// The debug text is that of the maps of std, with the pairs in order.
+///
+/// It costs a step for each pair, and takes no memory of its own.
+///
+/// # Examples
+///
+/// ```rust
+/// let mut map = LinkedHashMap::with_capacity(rt.alloc(), 5)?;
+/// map.insert('x', 1)?;
+/// let text = format!(in rt.alloc(); "{map:?}")?;
+/// assert_eq!(rt; text.as_str(), "{'x': 1}");
+/// ```
 impl<K: Eq + Hash + fmt::Debug, V: fmt::Debug, S: BuildHasher> fmt::Debug
     for LinkedHashMap<K, V, S> {
     fn fmt<W: fmt::Write>(&self, f: &mut fmt::Formatter<W>) -> fmt::Result {

@@ -3,17 +3,30 @@ ghost use Rattle.std.specs.Prelude.{◌≡◌, [], Some, IfSome, length};
 ghost use Rattle.std.specs.Iterator.{at_most, UpTo};
 ghost use Rattle.std.specs.Iterator.SizeHint.{IsWithinCount};
 
-use crate::map::{DefaultHasher, LinkedHashMap};
+use crate::map::{DefaultHashBuilder, LinkedHashMap};
 use std::hash::{BuildHasher, Hash};
 use std::iter::FusedIterator;
 
 /// An iterator that takes the pairs out of a map and hands them out, from both ends. It is made by `drain`.
 ///
-/// Letting it go drops the pairs that are left, so that the map is empty and has the capacity that it had. Where it is
-/// forgotten, they stay in the map. No step takes memory. A step costs a constant number of steps where the one before it was at
-/// the same end, and else a step for each pair that is left, as does the first from the front. Unlike the original's it
-/// names the hasher's type.
-pub struct Drain<'a, K: Eq + Hash, V, S: BuildHasher = DefaultHasher> {
+/// Letting it go drops the pairs that are left, a step for each, so that the map is empty and has the capacity that it had.
+/// Where it is forgotten, they stay in the map. No call takes memory. `next` and `next_back` cost at most a step for each pair
+/// that is left, and a constant number of steps where the last pair was taken from the same end. Unlike the original's it
+/// names the hasher's type and asks for `K: Eq + Hash` and `S: BuildHasher`; its calls ask for `K: Drop` and `V: Drop`.
+///
+/// # Examples
+///
+/// ```rust
+/// let mut map = LinkedHashMap::new(rt.alloc());
+/// map.insert('x', 1)?;
+/// map.insert('y', 2)?;
+/// let mut pairs = map.drain();
+/// assert_eq!(rt; pairs.next(), Some(('x', 1)));
+/// assert_eq!(rt; pairs.len(), 1);
+/// drop(pairs);
+/// assert_eq!(rt; (map.len(), map.capacity()), (0, 2));
+/// ```
+pub struct Drain<'a, K: Eq + Hash, V, S: BuildHasher = DefaultHashBuilder> {
     map: &'a mut LinkedHashMap<K, V, S>,
     reversed: bool,
 }
@@ -33,7 +46,7 @@ impl<'a, K: Eq + Hash, V, S: BuildHasher> Drain<'a, K, V, S> {
         }
     }
 
-    /// Turns what is left round where it does not lie so yet.
+    /// Turns the pairs that are left round, where they do not lie in this direction yet.
     fn lay(&mut self, reversed: bool)
         ensures laid { self.new.reversed ≡ reversed }
         ensures rest { drain_rest self.new ≡ drain_rest self.old }
@@ -46,6 +59,7 @@ impl<'a, K: Eq + Hash, V, S: BuildHasher> Drain<'a, K, V, S> {
     }
 }
 
+/// Drops the pairs that are left, and leaves the map empty, with its capacity and its hasher.
 impl<'a, K: Eq + Hash + Drop, V: Drop, S: BuildHasher> Drop for Drain<'a, K, V, S> {
     ghost use Rattle.linked_hash_map.specs.Drains.{drain_map};
 
@@ -59,6 +73,7 @@ impl<'a, K: Eq + Hash + Drop, V: Drop, S: BuildHasher> Drop for Drain<'a, K, V, 
     }
 }
 
+/// `next` hands out the pair at the oldest place that is left; the size hint is exact.
 impl<'a, K: Eq + Hash + Drop, V: Drop, S: BuildHasher> Iterator for Drain<'a, K, V, S> {
     ghost use Rattle.linked_hash_map.specs.Drains.{drain_rest, DrainSteps};
 
@@ -83,6 +98,7 @@ impl<'a, K: Eq + Hash + Drop, V: Drop, S: BuildHasher> Iterator for Drain<'a, K,
     }
 }
 
+/// `next_back` hands out the pair at the newest place that is left.
 impl<'a, K: Eq + Hash + Drop, V: Drop, S: BuildHasher> DoubleEndedIterator for Drain<'a, K, V, S> {
     ghost use Rattle.linked_hash_map.specs.Drains.{DrainStepsBack};
 
@@ -94,10 +110,12 @@ impl<'a, K: Eq + Hash + Drop, V: Drop, S: BuildHasher> DoubleEndedIterator for D
     }
 }
 
+/// `len` is the number of pairs that are left.
 impl<'a, K: Eq + Hash + Drop, V: Drop, S: BuildHasher> ExactSizeIterator for Drain<'a, K, V, S> {
     fn len(&self) -> usize {
         self.map.len()
     }
 }
 
+/// Once no pair is left, `next` and `next_back` answer `None` for good.
 impl<'a, K: Eq + Hash + Drop, V: Drop, S: BuildHasher> FusedIterator for Drain<'a, K, V, S> {}

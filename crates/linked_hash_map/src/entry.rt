@@ -1,4 +1,7 @@
-//! The entry of a key: the pair that a map has for it, or the place at the back where its pair would go.
+//! The entry of a key: the pair that a map has for it, or the key alone, whose pair would go to the back.
+//!
+//! An entry is made by `entry` of the map, for any key, or lent by a cursor (`entries`), for one present key after another.
+//! Through it the pair is read, changed, put in or taken out without a second look-up.
 ghost use Rattle.std.specs.Prelude.{◌≡◌, ◌<◌, None, length};
 ghost use Rattle.linked_hash_map.specs.Pairs.{find};
 ghost use Rattle.linked_hash_map.specs.Cursor.{IsOutside, IsOutside-prop};
@@ -8,15 +11,29 @@ mod methods;
 mod occupied;
 mod vacant;
 
-use crate::map::{DefaultHasher, LinkedHashMap};
+use crate::map::{DefaultHashBuilder, LinkedHashMap};
 pub use cursor::Entries;
 use std::hash::{BuildHasher, Hash};
 
-/// The entry of a key, which a map has or lacks.
+/// The entry of a key, which a map has or lacks. It is made by `entry`.
 ///
-/// An entry that is let go leaves the pairs and their places as they were.
+/// An entry that is let go leaves the pairs and their order as they were.
+///
+/// # Examples
+///
+/// ```rust
+/// use linked_hash_map::{Entry, LinkedHashMap};
+///
+/// let mut map = LinkedHashMap::new(rt.alloc());
+/// map.insert('x', 1)?;
+/// match map.entry('x') {
+///     Entry::Occupied(mut entry) => assert_eq!(rt; entry.insert(2), 1),
+///     Entry::Vacant(entry) => assert_eq!(rt; *entry.insert(3)?, 3),
+/// }
+/// assert_eq!(rt; map.get(&'x'), Some(&2));
+/// ```
 #[derive(Drop)]
-pub enum Entry<'a, K: Eq + Hash, V, S: BuildHasher = DefaultHasher> {
+pub enum Entry<'a, K: Eq + Hash, V, S: BuildHasher = DefaultHashBuilder> {
     /// The key is present.
     Occupied(OccupiedEntry<'a, K, V, S>),
     /// The key is absent.
@@ -26,16 +43,45 @@ pub enum Entry<'a, K: Eq + Hash, V, S: BuildHasher = DefaultHasher> {
 /// The entry of a key that is present: it stands for one pair of a map.
 ///
 /// Nothing that it does takes memory, and nothing that it does ends the visit of a cursor.
+///
+/// # Examples
+///
+/// ```rust
+/// use linked_hash_map::{Entry, LinkedHashMap};
+///
+/// let mut map = LinkedHashMap::new(rt.alloc());
+/// map.insert('x', 1)?;
+/// if let Entry::Occupied(mut entry) = map.entry('x') {
+///     assert_eq!(rt; (*entry.key(), *entry.get()), ('x', 1));
+///     *entry.get_mut() = 2;
+///     assert_eq!(rt; entry.remove(), 2);
+/// }
+/// assert!(rt; map.is_empty());
+/// ```
 #[derive(Drop)]
-pub struct OccupiedEntry<'a, K: Eq + Hash, V, S: BuildHasher = DefaultHasher> {
+pub struct OccupiedEntry<'a, K: Eq + Hash, V, S: BuildHasher = DefaultHashBuilder> {
     map: &'a mut LinkedHashMap<K, V, S>,
-    place: usize,
-    ghost within: { place < length map.now.pairs },
-    ghost outside: { IsOutside place map.now } by { IsOutside-prop place map.now },
+    index: usize,
+    ghost within: { index < length map.now.pairs },
+    ghost outside: { IsOutside index map.now } by { IsOutside-prop index map.now },
 }
 
-/// The entry of a key that is absent: it owns the key.
-pub struct VacantEntry<'a, K: Eq + Hash, V, S: BuildHasher = DefaultHasher> {
+/// The entry of a key that is absent: it owns the key, which is dropped with it.
+///
+/// # Examples
+///
+/// ```rust
+/// use linked_hash_map::{Entry, LinkedHashMap};
+///
+/// let mut map = LinkedHashMap::new(rt.alloc());
+/// if let Entry::Vacant(entry) = map.entry('x') {
+///     assert_eq!(rt; *entry.key(), 'x');
+///     let lent = entry.insert(1)?;
+///     *lent = 2;
+/// }
+/// assert_eq!(rt; map.get(&'x'), Some(&2));
+/// ```
+pub struct VacantEntry<'a, K: Eq + Hash, V, S: BuildHasher = DefaultHashBuilder> {
     map: &'a mut LinkedHashMap<K, V, S>,
     key: K,
     ghost absent: { find K.eq map.now.pairs key ≡ None },

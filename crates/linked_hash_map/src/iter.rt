@@ -1,7 +1,7 @@
-//! The walks over a map: its iterators, each from both ends.
+//! The iterators over a map, each from both ends.
 //!
-//! An iterator is seen as the list of what it has left, so any mixture of `next` and `next_back` hands out each item once,
-//! from the two ends, and then `None` for good. No step takes memory.
+//! A contract sees an iterator as the list of what it has left: any mixture of `next` and `next_back` hands out each item once,
+//! from the two ends, and then answers `None` for good. No call takes memory but the clone of an [`IntoIter`].
 ghost use Rattle.std.specs.Prelude.{◌≡◌, Some, IfSome, length, zip, ⊤};
 ghost use Rattle.std.specs.Iterator.{at_most, UpTo};
 ghost use Rattle.std.specs.Iterator.SizeHint.{IsWithinCount};
@@ -26,13 +26,27 @@ pub use values::Values;
 
 /// An iterator over the pairs of a map, from both ends. It is made by `iter`, or by a loop over `&map`.
 ///
-/// A step costs a constant number of steps. A clone takes no memory and has the same pairs left.
+/// Each of its calls costs a constant number of steps and takes no memory. A clone has the same pairs left.
+///
+/// # Examples
+///
+/// ```rust
+/// let mut map = LinkedHashMap::new(rt.alloc());
+/// map.insert('x', 1)?;
+/// map.insert('y', 2)?;
+/// let mut pairs = map.iter();
+/// assert_eq!(rt; pairs.next(), Some((&'x', &1)));
+/// let mut rest = pairs.clone()?;
+/// assert_eq!(rt; rest.next_back(), Some((&'y', &2)));
+/// assert_eq!(rt; (pairs.len(), rest.len()), (1, 0));
+/// ```
 #[derive(Drop)]
 pub struct Iter<'a, K, V> {
     keys: slice::Iter<'a, K>,
     values: slice::Iter<'a, V>,
 }
 
+/// A contract sees the pairs that are left, in their order.
 impl<'a, K, V> Model for Iter<'a, K, V> {
     ghost use Rattle.std.specs.Prelude.{◌≡◌, List, length, zip};
     ghost use Rattle.std.specs.Slice.Iter.{iter_rest};
@@ -57,6 +71,7 @@ impl<'a, K, V> Iter<'a, K, V> {
     }
 }
 
+/// `next` hands out the pair at the oldest place that is left; the size hint is exact.
 impl<'a, K, V> Iterator for Iter<'a, K, V> {
     type Item = (&'a K, &'a V);
 
@@ -79,6 +94,7 @@ impl<'a, K, V> Iterator for Iter<'a, K, V> {
     }
 }
 
+/// `next_back` hands out the pair at the newest place that is left.
 impl<'a, K, V> DoubleEndedIterator for Iter<'a, K, V> {
     ghost next_back_gives = { TakesLast deref_pair };
 
@@ -88,14 +104,17 @@ impl<'a, K, V> DoubleEndedIterator for Iter<'a, K, V> {
     }
 }
 
+/// `len` is the number of pairs that are left.
 impl<'a, K, V> ExactSizeIterator for Iter<'a, K, V> {
     fn len(&self) -> usize {
         self.values.len()
     }
 }
 
+/// Once no pair is left, `next` and `next_back` answer `None` for good.
 impl<'a, K, V> FusedIterator for Iter<'a, K, V> {}
 
+/// A clone has the same pairs left. It takes no memory and is never refused.
 impl<'a, K, V> Clone for Iter<'a, K, V> {
     ghost is_clone = { λ s t. t ≡ s };
 
@@ -109,17 +128,29 @@ impl<'a, K, V> Clone for Iter<'a, K, V> {
     }
 }
 
-/// A loop over `&map`, as over `iter`. It takes no memory.
+/// A loop over `&map`, as over `iter`. It takes no memory and leaves the order.
+///
+/// # Examples
+///
+/// ```rust
+/// let mut map = LinkedHashMap::new(rt.alloc());
+/// map.insert('x', 1)?;
+/// map.insert('y', 2)?;
+/// let mut last = None;
+/// for (key, value) in &map {
+///     last = Some((*key, *value));
+/// }
+/// assert_eq!(rt; last, Some(('y', 2)));
+/// ```
 impl<'a, K: Eq + Hash, V, S: BuildHasher> IntoIterator for &'a LinkedHashMap<K, V, S> {
-    ghost use Rattle.std.specs.List.{IsDistinct};
-    ghost use Rattle.std.specs.Map.{keys_of};
     ghost use Rattle.std.specs.Map.Iter.{ShowsInOrder};
+    ghost use Rattle.linked_hash_map.specs.Validity.{IsValid};
 
     type Item = (&'a K, &'a V);
 
     type IntoIter = Iter<'a, K, V>;
 
-    ghost into_iter_gives = { λ map walk. (walk ≡ map.now.pairs) × IsDistinct K.eq (keys_of map.now.pairs) × ShowsInOrder (deref_pair {K = K} {X = V}) };
+    ghost into_iter_gives = { λ map walk. (walk ≡ map.now.pairs) × IsValid K.eq map.now × ShowsInOrder (deref_pair {K = K} {X = V}) };
 
     fn into_iter(self) -> Iter<'a, K, V> {
         self.iter()

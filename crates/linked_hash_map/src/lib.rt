@@ -6,6 +6,41 @@
 //!
 //! This is a port of the Rust crate linked-hash-map 0.5.6, "the original" in what follows. Where a call differs from it, its
 //! documentation says so.
+//!
+//! # Examples
+//!
+//! ```rust
+//! use linked_hash_map::LinkedHashMap;
+//!
+//! let mut colours = LinkedHashMap::new(rt.alloc());
+//! colours.insert(7, "red")?;
+//! colours.insert(5, "green")?;
+//!
+//! // A present key gets the new value, and its pair moves to the back.
+//! colours.insert(7, "blue")?;
+//! assert_eq!(rt; colours.front(), Some((&5, &"green")));
+//!
+//! // A look-up leaves the order. A refresh moves the pair to the back.
+//! assert_eq!(rt; colours.get(&5), Some(&"green"));
+//! assert_eq!(rt; colours.back(), Some((&7, &"blue")));
+//! assert_eq!(rt; colours.get_refresh(&5).copied(), Some("green"));
+//! assert_eq!(rt; colours.back(), Some((&5, &"green")));
+//!
+//! // Where memory for a new key is refused, the pair comes back and the map is as it was.
+//! match colours.insert(8, "grey") {
+//!     Ok(old) => assert_eq!(rt; old, None),
+//!     Err(refused) => assert_eq!(rt; (refused.key, refused.value), (8, "grey")),
+//! }
+//! ```
+//!
+//! The examples of this documentation are statements of a function that is given `rt: HostRuntime` and hands errors on by
+//! `?`. Each of them is run.
+//!
+//! # What is proved
+//!
+//! Each call is proved to do what its contract says to the list of pairs: which pairs there are afterwards, in which order,
+//! and what stays where the call is refused. The contract of [`replay::replay`] says the same of any run of commands.
+//! `README.md` lists the promises, and `docs/CALLING.md` shows how a caller uses them in a proof of its own.
 #![tactic(auto)]
 
 mod clone;
@@ -13,6 +48,7 @@ mod collect;
 mod compare;
 mod drain;
 mod entry;
+mod error;
 mod iter;
 mod map;
 pub mod replay;
@@ -21,5 +57,6 @@ mod tests;
 
 pub use drain::Drain;
 pub use entry::{Entries, Entry, OccupiedEntry, VacantEntry};
+pub use error::{NoRoom, Refused, ReserveError};
 pub use iter::{IntoIter, Iter, IterMut, Keys, Values};
-pub use map::{LIMIT, LinkedHashMap, NoRoom, Refused, ReserveError};
+pub use map::{DefaultHashBuilder, LIMIT, LinkedHashMap};

@@ -1,66 +1,98 @@
-//! The map.
-ghost use Rattle.std.specs.Prelude.{◌≡◌, ◌==◌, ◌+◌, ◌-◌, ◌<◌, ◌≤◌, ◌++◌, ◌∷◌, [], length, max, position, remove, reverse, drop, take, slice_get, option_copied, option_map, is_some, None, Some, IsSome, IsTrue, IsFalse, IsErrOf, ◌↔◌, OnOk, OnErr, IfOk, IfErr, IfSome, IfNone};
-ghost use Rattle.std.specs.List.{IsDistinct};
+//! The map: its type, and the calls that make one, look keys up, put pairs in, take them out and go over them.
+//!
+//! A map is a list of pairs with pairwise different keys, from the oldest place to the newest, with a capacity and a hasher.
+//! The contract of each call says what it does to that list. How the pairs are kept concerns few functions: those of
+//! `storage`, and the ones here that name the fields.
+ghost use Rattle.std.specs.Prelude.{◌≡◌, ◌==◌, ◌+◌, ◌<◌, ◌≤◌, [], length, max, option_copied, option_map, is_some, None, IsErrOf, ◌↔◌, OnOk, OnErr, IfOk, IfErr};
 ghost use Rattle.std.specs.Map.{keys_of, values_of};
 ghost use Rattle.std.specs.Map.Iter.{deref, deref_pair, ShowsInOrder, ShowsInReverse, LendsValuesInOrder, LendsValuesInReverse};
 ghost use Rattle.std.specs.Borrow.{sem};
 ghost use Rattle.std.specs.Option.{option_copied_mut};
-ghost use Rattle.linked_hash_map.specs.Pairs.{find, value_at, without, to_back, KeysStand};
-ghost use Rattle.linked_hash_map.specs.Places.{IsPlace};
-ghost use Rattle.linked_hash_map.specs.Cursor.{to_visit, without_cursor, IsOutside};
+ghost use Rattle.linked_hash_map.specs.Pairs.{find, value_at, without, to_back, first, last, without_first, without_last, KeysStand};
+ghost use Rattle.linked_hash_map.specs.Validity.{IsValid};
+ghost use Rattle.linked_hash_map.specs.Hashers.{IsDefaultHashBuilder};
+
+mod index;
+mod storage;
 
 use crate::drain::Drain;
-use crate::iter::{IntoIter, Iter, IterMut, Keys, Values};
+use crate::error::{NoRoom, Refused, ReserveError};
+use crate::iter::{Iter, IterMut, Keys, Values};
 use std::alloc::Global;
 use std::hash::{BuildHasher, BuildHasherDefault, FoldHasher, Hash};
 use std::marker::Model;
-use std::ops::{Index, IndexMut};
 
 /// The most pairs that a map can have room for: 2^59.
+///
+/// A call that would need more is refused without asking for memory. The original has no such limit.
+///
+/// # Examples
+///
+/// ```rust
+/// use linked_hash_map::{LIMIT, LinkedHashMap, ReserveError};
+///
+/// let mut map: LinkedHashMap<char, u64> = LinkedHashMap::new(rt.alloc());
+/// assert_eq!(rt; map.reserve(LIMIT + 1), Err(ReserveError::TooLarge));
+/// ```
 pub const LIMIT: usize = 576460752303423488;
 
-/// The build hasher of std's `HashMap`, with a fixed seed.
-pub type DefaultHasher = BuildHasherDefault<FoldHasher>;
-
-/// The error of an insertion that found no room: the key and the value that were to go in.
-#[derive(Debug, PartialEq, Drop)]
-pub struct Refused<K, V> {
-    /// The key that was handed in.
-    pub key: K,
-    /// The value that was handed in.
-    pub value: V,
-}
-
-/// The error of a call that reserves room.
-#[derive(Debug, PartialEq, Drop)]
-pub enum ReserveError {
-    /// The capacity would be above [`LIMIT`].
-    TooLarge = 1,
-    /// A growth was refused.
-    NoRoom = 2,
-}
-
-/// The error of a call whose growth was refused.
-#[derive(Debug, PartialEq, Drop)]
-pub struct NoRoom;
+/// The build hasher of maps that are handed none: that of std's `HashMap`, with a fixed seed.
+///
+/// Whoever chooses the keys of a map can make them collide under a fixed seed: hand in a build hasher with a random one, as
+/// `RandomState`, where strangers do. The original's default has a random seed.
+///
+/// # Examples
+///
+/// ```rust
+/// use linked_hash_map::{DefaultHashBuilder, LinkedHashMap};
+///
+/// let builder = DefaultHashBuilder::new();
+/// let mut map = LinkedHashMap::with_capacity_and_hasher(rt.alloc(), 2, builder)?;
+/// map.insert('x', 1)?;
+/// assert_eq!(rt; (map.len(), map.capacity()), (1, 2));
+/// ```
+pub type DefaultHashBuilder = BuildHasherDefault<FoldHasher>;
 
 /// A hash map that keeps its pairs in insertion order.
 ///
-/// The keys and the values stand in two vectors, and a key is looked for from the oldest place on. So a call that looks a
-/// key up or takes a pair out costs a step for each pair, and every other call a constant number of steps, but for a growth,
-/// which may move all pairs.
+/// A new key goes to the back; inserting a key that is present moves its pair to the back. Every call keeps the map valid:
+/// its keys are pairwise different, and its length is within its capacity, which is within [`LIMIT`].
+///
+/// Costs are named in steps, each of which compares, hashes, moves or drops one pair. A look-up costs at most a step for
+/// each pair, and so do an insertion and a removal. Where no cost is named at a call, it costs a constant number of steps.
+/// Dropping a map drops its pairs, a step for each. The keys and the values stand in two vectors, and a key is looked for
+/// from the oldest place on: so for now a look-up costs a step for each pair up to the one that it finds, and the hasher is
+/// not asked.
+///
+/// Unlike the original's, the type asks for `K: Eq + Hash` and `S: BuildHasher` wherever it is named, and is made with an
+/// allocator that is handed in.
+///
+/// # Examples
+///
+/// ```rust
+/// use linked_hash_map::LinkedHashMap;
+///
+/// let mut map = LinkedHashMap::new(rt.alloc());
+/// assert_eq!(rt; map.insert('x', 1)?, None);
+/// assert_eq!(rt; map.insert('y', 2)?, None);
+/// assert_eq!(rt; map.insert('x', 3)?, Some(1));
+/// assert_eq!(rt; map.front(), Some((&'y', &2)));
+/// assert_eq!(rt; map.back(), Some((&'x', &3)));
+/// ```
 #[derive(Drop)]
-pub struct LinkedHashMap<K: Eq + Hash, V, S: BuildHasher = DefaultHasher> {
+pub struct LinkedHashMap<K: Eq + Hash, V, S: BuildHasher = DefaultHashBuilder> {
     keys: Vec<K>,
     values: Vec<V>,
     capacity: usize,
     hasher: S,
-    // The place of the next pair that a cursor visits.
+    // The index of the next pair that a cursor visits.
     bookmark: usize,
     // How many pairs from there on it has still to visit: none where there is no cursor.
     unvisited: usize,
 }
 
+/// A contract sees a map as its pairs from the oldest place to the newest, its capacity, its hasher, and what a cursor has
+/// still to visit.
 impl<K: Eq + Hash, V, S: BuildHasher> Model for LinkedHashMap<K, V, S> {
     ghost use Rattle.std.specs.Prelude.{vec_capacity, zip};
     ghost use Rattle.linked_hash_map.specs.LinkedMap.{LinkedMap, linked_map, linked_map_code};
@@ -75,36 +107,22 @@ impl<K: Eq + Hash, V, S: BuildHasher> Model for LinkedHashMap<K, V, S> {
     ghost invariant = { λ m. AreColumns K.eq m.keys.items m.values.items m.capacity (vec_capacity m.keys) (vec_capacity m.values) m.bookmark m.unvisited };
 }
 
-/// Returns the place of a key.
-fn place_of<K: Eq>(keys: &[K], key: &K) -> Option<usize>
-    ensures { result ≡ position (K.eq key.now) keys.now }
-{
-    keys.iter().position(|stored| key == stored)
-}
-
-/// Returns the bookmark, and how many pairs are unvisited from it on, once the pair at a place is out: a pair before the
-/// bookmark lowers it by one, and one that is still to be visited ends the visit.
-fn visit_without(place: usize, bookmark: usize, unvisited: usize) -> (usize, usize)
-    ensures before { place < bookmark → result ≡ (bookmark - 1, unvisited) }
-    ensures inside { bookmark ≤ place → place < bookmark + unvisited → result ≡ (0, 0) }
-    ensures behind { bookmark + unvisited ≤ place → result ≡ (bookmark, unvisited) }
-{
-    if place < bookmark {
-        (bookmark - 1, unvisited)
-    } else if place - bookmark < unvisited {
-        (0, 0)
-    } else {
-        (bookmark, unvisited)
-    }
-}
-
 impl<K: Eq + Hash, V> LinkedHashMap<K, V> {
     /// Makes an empty map of capacity 0 with the default hasher, whose seed is fixed.
     ///
     /// It takes no memory. Later growths are asked of `alloc`. The original takes no allocator, and its seed is random.
+    ///
+    /// # Examples
+    ///
+    /// ```rust
+    /// let map: LinkedHashMap<char, u64> = LinkedHashMap::new(rt.alloc());
+    /// assert_eq!(rt; (map.len(), map.capacity()), (0, 0));
+    /// ```
     pub fn new(alloc: Global) -> Self
         ensures pairs { result.pairs ≡ [] }
         ensures capacity { result.capacity ≡ 0 }
+        ensures hasher { IsDefaultHashBuilder result.hasher }
+        ensures valid { IsValid K.eq result }
     {
         Self::with_hasher(alloc, BuildHasherDefault::new())
     }
@@ -112,12 +130,21 @@ impl<K: Eq + Hash, V> LinkedHashMap<K, V> {
     /// Makes an empty map of exactly the given capacity with the default hasher, whose seed is fixed.
     ///
     /// It takes memory for the whole capacity, and none for capacity 0. It is refused as `TooLarge` exactly where the
-    /// capacity is above [`LIMIT`], and as `NoRoom` where a growth is refused. The original gives at least this capacity,
-    /// and ends the program where memory is refused.
+    /// capacity is above [`LIMIT`], and as `NoRoom` where a growth is refused. It costs at most a step for each pair of the
+    /// capacity. The original gives at least this capacity, and ends the program where memory is refused.
+    ///
+    /// # Examples
+    ///
+    /// ```rust
+    /// let map: LinkedHashMap<char, u64> = LinkedHashMap::with_capacity(rt.alloc(), 5)?;
+    /// assert_eq!(rt; (map.len(), map.capacity()), (0, 5));
+    /// ```
     pub fn with_capacity(alloc: Global, capacity: usize) -> Result<Self, ReserveError>
         ensures pairs { IfOk result (λ map. map.pairs ≡ []) }
         ensures capacity { IfOk result (λ map. map.capacity ≡ capacity) }
-        ensures within { OnOk result (capacity ≤ LIMIT) }
+        ensures hasher { IfOk result (λ map. IsDefaultHashBuilder map.hasher) }
+        ensures valid { IfOk result (IsValid K.eq) }
+
         ensures too_large { IsErrOf result ReserveError.TooLarge ↔ (LIMIT < capacity) }
         ensures no_room { IsErrOf result ReserveError.NoRoom → 0 < capacity }
         ensures no_room_within { IsErrOf result ReserveError.NoRoom → capacity ≤ LIMIT }
@@ -132,13 +159,25 @@ impl<K: Eq + Hash, V, S: BuildHasher> LinkedHashMap<K, V, S> {
     ghost use Rattle.linked_hash_map.specs.Lends.{lends_value, lends_refreshed, lends_values};
     ghost use Rattle.linked_hash_map.specs.ValueWalks.{pairs_left, loan_name};
 
-    /// Makes an empty map of capacity 0 with the given hasher.
+    /// Makes an empty map of capacity 0 with the given build hasher.
     ///
     /// It takes no memory. Later growths are asked of `alloc`, which the original does not take.
+    ///
+    /// # Examples
+    ///
+    /// ```rust
+    /// use std::hash::RandomState;
+    ///
+    /// let builder = RandomState::new(&rt)?;
+    /// let mut map = LinkedHashMap::with_hasher(rt.alloc(), builder);
+    /// map.insert('x', 1)?;
+    /// assert_eq!(rt; map.get(&'x'), Some(&1));
+    /// ```
     pub fn with_hasher(alloc: Global, hasher: S) -> Self
         ensures pairs { result.pairs ≡ [] }
         ensures capacity { result.capacity ≡ 0 }
         ensures hasher { result.hasher ≡ hasher }
+        ensures valid { IsValid K.eq result }
     {
         LinkedHashMap {
             keys: Vec::new(alloc),
@@ -150,11 +189,23 @@ impl<K: Eq + Hash, V, S: BuildHasher> LinkedHashMap<K, V, S> {
         }
     }
 
-    /// Makes an empty map of exactly the given capacity with the given hasher.
+    /// Makes an empty map of exactly the given capacity with the given build hasher.
     ///
     /// It takes memory for the whole capacity, and none for capacity 0. It is refused as `TooLarge` exactly where the
-    /// capacity is above [`LIMIT`], and as `NoRoom` where a growth is refused; the hasher is dropped then. The original gives
-    /// at least this capacity, and ends the program where memory is refused.
+    /// capacity is above [`LIMIT`], and as `NoRoom` where a growth is refused; the hasher is dropped then. It costs at most a
+    /// step for each pair of the capacity. The original gives at least this capacity, and ends the program where memory is
+    /// refused.
+    ///
+    /// # Examples
+    ///
+    /// ```rust
+    /// use linked_hash_map::{DefaultHashBuilder, LinkedHashMap};
+    ///
+    /// let builder = DefaultHashBuilder::new();
+    /// let mut map = LinkedHashMap::with_capacity_and_hasher(rt.alloc(), 2, builder)?;
+    /// map.insert('x', 1)?;
+    /// assert_eq!(rt; (map.len(), map.capacity()), (1, 2));
+    /// ```
     pub fn with_capacity_and_hasher(
         alloc: Global,
         capacity: usize,
@@ -165,7 +216,8 @@ impl<K: Eq + Hash, V, S: BuildHasher> LinkedHashMap<K, V, S> {
         ensures pairs { IfOk result (λ map. map.pairs ≡ []) }
         ensures capacity { IfOk result (λ map. map.capacity ≡ capacity) }
         ensures hasher { IfOk result (λ map. map.hasher ≡ hasher) }
-        ensures within { OnOk result (capacity ≤ LIMIT) }
+        ensures valid { IfOk result (IsValid K.eq) }
+
         ensures too_large { IsErrOf result ReserveError.TooLarge ↔ (LIMIT < capacity) }
         ensures no_room { IsErrOf result ReserveError.NoRoom → 0 < capacity }
         ensures no_room_within { IsErrOf result ReserveError.NoRoom → capacity ≤ LIMIT }
@@ -194,14 +246,25 @@ impl<K: Eq + Hash, V, S: BuildHasher> LinkedHashMap<K, V, S> {
     /// number of pairs and `additional` together.
     ///
     /// Within the capacity it takes no memory and is never refused. It is refused as `TooLarge` exactly where that sum,
-    /// as a whole number, is above [`LIMIT`], and as `NoRoom` where a growth is refused; then nothing is changed. No place
-    /// changes. The original may reserve more, and panics where the sum overflows.
+    /// as a whole number, is above [`LIMIT`], and as `NoRoom` where a growth is refused; then nothing is changed. The order
+    /// stays. It costs at most a step for each pair of the new capacity. The original may reserve more, and panics where the
+    /// sum overflows.
+    ///
+    /// # Examples
+    ///
+    /// ```rust
+    /// let mut map = LinkedHashMap::new(rt.alloc());
+    /// map.insert('x', 1)?;
+    /// map.reserve(4)?;
+    /// assert_eq!(rt; map.capacity(), 5);
+    /// ```
     pub fn reserve(&mut self, additional: usize) -> Result<(), ReserveError>
         ensures pairs { self.new.pairs ≡ self.old.pairs }
         ensures hasher { self.new.hasher ≡ self.old.hasher }
         ensures capacity { OnOk result
             (self.new.capacity ≡ max self.old.capacity (length self.old.pairs + additional)) }
-        ensures within { OnOk result (length self.old.pairs + additional ≤ LIMIT) }
+        ensures valid { IsValid K.eq self.old }
+        ensures stays_valid { IsValid K.eq self.new }
 
         ensures unchanged { OnErr result (self.new ≡ self.old) }
         ensures too_large { IsErrOf result ReserveError.TooLarge ↔ (LIMIT < length self.old.pairs + additional) }
@@ -229,20 +292,38 @@ impl<K: Eq + Hash, V, S: BuildHasher> LinkedHashMap<K, V, S> {
     /// Lowers the capacity to exactly the number of pairs.
     ///
     /// On an empty map, and where the capacity is the number of pairs already, it takes no memory and is never refused;
-    /// an empty map gives all its memory back. A refusal changes nothing. No place changes. The original may leave some space.
+    /// an empty map gives all its memory back. Otherwise it may ask for smaller blocks, and a refusal changes nothing. The
+    /// order stays. It costs at most a step for each pair of the old capacity. The original may leave some space.
+    ///
+    /// # Examples
+    ///
+    /// ```rust
+    /// use linked_hash_map::NoRoom;
+    ///
+    /// let mut map = LinkedHashMap::new(rt.alloc());
+    /// map.insert('x', 1)?;
+    /// map.reserve(4)?;
+    /// let shrunk: Result<(), NoRoom> = map.shrink_to_fit();
+    /// assert_eq!(rt; shrunk, Ok(()));
+    /// assert_eq!(rt; map.capacity(), 1);
+    /// ```
     pub fn shrink_to_fit(&mut self) -> Result<(), NoRoom>
         ensures pairs { self.new.pairs ≡ self.old.pairs }
         ensures hasher { self.new.hasher ≡ self.old.hasher }
         ensures capacity { OnOk result (self.new.capacity ≡ length self.old.pairs) }
+        ensures valid { IsValid K.eq self.old }
+        ensures stays_valid { IsValid K.eq self.new }
 
         ensures unchanged { OnErr result (self.new ≡ self.old) }
         ensures some { OnErr result (0 < length self.old.pairs) }
         ensures spare { OnErr result (length self.old.pairs < self.old.capacity) }
     {
-        if self.keys.len() < self.capacity {
+        let len = self.keys.len();
+        // A refused growth may have left room in one of the vectors of an empty map.
+        if len == 0 || len < self.capacity {
             self.keys.shrink_to_fit();
             self.values.shrink_to_fit();
-            self.capacity = self.keys.len();
+            self.capacity = len;
         }
         Ok(())
     }
@@ -252,8 +333,18 @@ impl<K: Eq + Hash, V, S: BuildHasher> LinkedHashMap<K, V, S> {
     /// A key that is present keeps its stored key and gets the new value, its pair moves to the back, `key` is dropped
     /// and the old value is returned; this takes no memory and is never refused. A new key below capacity takes no
     /// memory and is never refused either. A new key at full capacity raises the capacity by exactly one, or is
-    /// refused: then the error has this key and this value, and the map is unchanged. The original answers no error, and may
-    /// take memory below its capacity.
+    /// refused: then the error has this key and this value, and the map is unchanged. It costs at most a step for each pair.
+    /// The original answers no error, and may take memory below its capacity.
+    ///
+    /// # Examples
+    ///
+    /// ```rust
+    /// let mut map = LinkedHashMap::new(rt.alloc());
+    /// assert_eq!(rt; map.insert('x', 1)?, None);
+    /// assert_eq!(rt; map.insert('y', 2)?, None);
+    /// assert_eq!(rt; map.insert('x', 3)?, Some(1));
+    /// assert_eq!(rt; map.back(), Some((&'x', &3)));
+    /// ```
     pub fn insert(&mut self, key: K, value: V) -> Result<Option<V>, Refused<K, V>>
     where
         K: Drop,
@@ -261,6 +352,8 @@ impl<K: Eq + Hash, V, S: BuildHasher> LinkedHashMap<K, V, S> {
         ensures pairs { OnOk result (self.new.pairs ≡ to_back K.eq self.old.pairs key value) }
         ensures capacity { OnOk result (self.new.capacity ≡ max self.old.capacity (length self.new.pairs)) }
         ensures hasher { OnOk result (self.new.hasher ≡ self.old.hasher) }
+        ensures valid { IsValid K.eq self.old }
+        ensures stays_valid { IsValid K.eq self.new }
 
         ensures key_back { IfErr result (λ refused. refused.key ≡ key) }
         ensures value_back { IfErr result (λ refused. refused.value ≡ value) }
@@ -269,8 +362,8 @@ impl<K: Eq + Hash, V, S: BuildHasher> LinkedHashMap<K, V, S> {
         ensures full { OnErr result (length self.old.pairs ≡ self.old.capacity) }
     {
         match self.find(&key) {
-            Some(place) => {
-                let (stored, old) = self.take_out(place);
+            Some(index) => {
+                let (stored, old) = self.take_out(index);
                 self.push_back(stored, value);
                 Ok(Some(old))
             }
@@ -286,7 +379,17 @@ impl<K: Eq + Hash, V, S: BuildHasher> LinkedHashMap<K, V, S> {
 
     /// Tells whether a key is present.
     ///
-    /// It takes no memory and leaves every place. The original takes any borrowed form of the key.
+    /// It takes no memory, leaves the order and costs at most a step for each pair. The original takes any borrowed form of the
+    /// key.
+    ///
+    /// # Examples
+    ///
+    /// ```rust
+    /// let mut map = LinkedHashMap::new(rt.alloc());
+    /// map.insert('x', 1)?;
+    /// assert!(rt; map.contains_key(&'x'));
+    /// assert!(rt; !map.contains_key(&'y'));
+    /// ```
     pub fn contains_key(&self, key: &K) -> bool
         ensures { result ≡ is_some (find K.eq self.now.pairs key.now) }
     {
@@ -295,26 +398,48 @@ impl<K: Eq + Hash, V, S: BuildHasher> LinkedHashMap<K, V, S> {
 
     /// Returns the value of a key, or `None` where the key is absent.
     ///
-    /// It takes no memory and leaves every place. The original takes any borrowed form of the key.
+    /// It takes no memory, leaves the order and costs at most a step for each pair. The original takes any borrowed form of the
+    /// key.
+    ///
+    /// # Examples
+    ///
+    /// ```rust
+    /// let mut map = LinkedHashMap::new(rt.alloc());
+    /// map.insert('x', 1)?;
+    /// assert_eq!(rt; map.get(&'x'), Some(&1));
+    /// assert_eq!(rt; map.get(&'y'), None);
+    /// ```
     pub fn get(&self, key: &K) -> Option<&V>
         ensures { option_copied result ≡ value_at K.eq self.now.pairs key.now }
     {
         match self.find(key) {
-            Some(place) => Some(self.pair_at(place).1),
+            Some(index) => Some(self.pair_at(index).1),
             None => None,
         }
     }
 
     /// Lends the value of a key for writing, or returns `None` where the key is absent.
     ///
-    /// What is written becomes the value of that pair. It takes no memory and leaves every place. The original takes any
-    /// borrowed form of the key.
+    /// What is written becomes the value of that pair. It takes no memory, leaves the order and costs at most a step for each
+    /// pair. The original takes any borrowed form of the key.
+    ///
+    /// # Examples
+    ///
+    /// ```rust
+    /// let mut map = LinkedHashMap::new(rt.alloc());
+    /// map.insert('x', 1)?;
+    /// if let Some(value) = map.get_mut(&'x') {
+    ///     *value = 3;
+    /// }
+    /// assert_eq!(rt; map.get(&'x'), Some(&3));
+    /// ```
     pub fn get_mut(&mut self, key: &K) -> Option<&mut V>
         ensures* writes_back { sem 𝓛 (lends_value K.row V.row S.row S.Hasher.row K.Hash S.BuildHasher S.Hasher.Hasher self.entry key.now result) }
         ensures value { option_copied_mut result ≡ value_at K.eq self.old.pairs key.now }
+        ensures valid { IsValid K.eq self.old }
     {
         match self.find(key) {
-            Some(place) => Some(self.value_mut_at(place)),
+            Some(index) => Some(self.value_mut_at(index)),
             None => None,
         }
     }
@@ -322,14 +447,28 @@ impl<K: Eq + Hash, V, S: BuildHasher> LinkedHashMap<K, V, S> {
     /// Moves the pair of a key to the back and lends its value for writing, or returns `None` where the key is absent
     /// and changes nothing.
     ///
-    /// It takes no memory. The original takes any borrowed form of the key.
+    /// What is written becomes the value of that pair. All other pairs keep their order. It takes no memory and costs at most a
+    /// step for each pair. The original takes any borrowed form of the key.
+    ///
+    /// # Examples
+    ///
+    /// ```rust
+    /// let mut map = LinkedHashMap::new(rt.alloc());
+    /// map.insert('x', 1)?;
+    /// map.insert('y', 2)?;
+    /// if let Some(value) = map.get_refresh(&'x') {
+    ///     *value = 3;
+    /// }
+    /// assert_eq!(rt; map.back(), Some((&'x', &3)));
+    /// ```
     pub fn get_refresh(&mut self, key: &K) -> Option<&mut V>
         ensures* writes_back { sem 𝓛 (lends_refreshed K.row V.row S.row S.Hasher.row K.Hash S.BuildHasher S.Hasher.Hasher self.entry key.now result) }
         ensures value { option_copied_mut result ≡ value_at K.eq self.old.pairs key.now }
+        ensures valid { IsValid K.eq self.old }
     {
         match self.find(key) {
-            Some(place) => {
-                let (stored, value) = self.take_out(place);
+            Some(index) => {
+                let (stored, value) = self.take_out(index);
                 let last = self.len();
                 self.push_back(stored, value);
                 self.end_visit();
@@ -342,8 +481,19 @@ impl<K: Eq + Hash, V, S: BuildHasher> LinkedHashMap<K, V, S> {
     /// Takes out the pair of a key, drops the stored key and returns the value, or returns `None` where the key is
     /// absent.
     ///
-    /// All other pairs keep their order. It takes no memory, and the capacity stays. The original takes any borrowed form of
-    /// the key.
+    /// All other pairs keep their order. It takes no memory, and the capacity stays. It costs at most a step for each pair. The
+    /// original takes any borrowed form of the key.
+    ///
+    /// # Examples
+    ///
+    /// ```rust
+    /// let mut map = LinkedHashMap::new(rt.alloc());
+    /// map.insert('x', 1)?;
+    /// map.insert('y', 2)?;
+    /// assert_eq!(rt; map.remove(&'x'), Some(1));
+    /// assert_eq!(rt; map.remove(&'x'), None);
+    /// assert_eq!(rt; (map.len(), map.capacity()), (1, 2));
+    /// ```
     pub fn remove(&mut self, key: &K) -> Option<V>
     where
         K: Drop,
@@ -351,10 +501,12 @@ impl<K: Eq + Hash, V, S: BuildHasher> LinkedHashMap<K, V, S> {
         ensures pairs { self.new.pairs ≡ without K.eq self.old.pairs key.now }
         ensures capacity { self.new.capacity ≡ self.old.capacity }
         ensures hasher { self.new.hasher ≡ self.old.hasher }
+        ensures valid { IsValid K.eq self.old }
+        ensures stays_valid { IsValid K.eq self.new }
     {
         match self.find(key) {
-            Some(place) => {
-                let (_stored, value) = self.take_out(place);
+            Some(index) => {
+                let (_stored, value) = self.take_out(index);
                 Some(value)
             }
             None => None,
@@ -363,9 +515,21 @@ impl<K: Eq + Hash, V, S: BuildHasher> LinkedHashMap<K, V, S> {
 
     /// Returns the number of pairs that the map has room for: up to it, an insertion takes no memory and is never
     /// refused.
+    ///
+    /// It takes no memory. The original may take memory below its capacity, and raises it by more than one.
+    ///
+    /// # Examples
+    ///
+    /// ```rust
+    /// let mut map = LinkedHashMap::new(rt.alloc());
+    /// map.insert('x', 1)?;
+    /// assert_eq!(rt; map.capacity(), 1);
+    /// map.reserve(4)?;
+    /// assert_eq!(rt; map.capacity(), 5);
+    /// ```
     pub fn capacity(&self) -> usize
         ensures capacity { result ≡ self.now.capacity }
-        ensures limit { self.now.capacity ≤ LIMIT }
+        ensures valid { IsValid K.eq self.now }
     {
         self.capacity
     }
@@ -373,12 +537,24 @@ impl<K: Eq + Hash, V, S: BuildHasher> LinkedHashMap<K, V, S> {
     /// Takes out the pair at the oldest place, or returns `None` on an empty map.
     ///
     /// The key is the stored one, and all other pairs keep their order. It takes no memory, and the capacity stays, for which
-    /// the original gives memory back.
+    /// the original gives memory back. It costs at most a step for each pair.
+    ///
+    /// # Examples
+    ///
+    /// ```rust
+    /// let mut map = LinkedHashMap::new(rt.alloc());
+    /// map.insert('x', 1)?;
+    /// map.insert('y', 2)?;
+    /// assert_eq!(rt; map.pop_front(), Some(('x', 1)));
+    /// assert_eq!(rt; map.front(), Some((&'y', &2)));
+    /// ```
     pub fn pop_front(&mut self) -> Option<(K, V)>
-        ensures pair { result ≡ slice_get self.old.pairs 0 }
-        ensures pairs { self.new.pairs ≡ drop 1 self.old.pairs }
+        ensures pair { result ≡ first self.old.pairs }
+        ensures pairs { self.new.pairs ≡ without_first self.old.pairs }
         ensures capacity { self.new.capacity ≡ self.old.capacity }
         ensures hasher { self.new.hasher ≡ self.old.hasher }
+        ensures valid { IsValid K.eq self.old }
+        ensures stays_valid { IsValid K.eq self.new }
     {
         if self.is_empty() {
             return None;
@@ -388,9 +564,18 @@ impl<K: Eq + Hash, V, S: BuildHasher> LinkedHashMap<K, V, S> {
 
     /// Lends the pair at the oldest place, or returns `None` on an empty map.
     ///
-    /// The key is the stored one. It takes no memory and leaves every place.
+    /// The key is the stored one. It takes no memory and leaves the order.
+    ///
+    /// # Examples
+    ///
+    /// ```rust
+    /// let mut map = LinkedHashMap::new(rt.alloc());
+    /// map.insert('x', 1)?;
+    /// map.insert('y', 2)?;
+    /// assert_eq!(rt; map.front(), Some((&'x', &1)));
+    /// ```
     pub fn front(&self) -> Option<(&K, &V)>
-        ensures { option_map deref_pair result ≡ slice_get self.now.pairs 0 }
+        ensures { option_map deref_pair result ≡ first self.now.pairs }
     {
         if self.is_empty() {
             return None;
@@ -402,11 +587,23 @@ impl<K: Eq + Hash, V, S: BuildHasher> LinkedHashMap<K, V, S> {
     ///
     /// The key is the stored one, and all other pairs keep their order. It takes no memory, and the capacity stays, for which
     /// the original gives memory back.
+    ///
+    /// # Examples
+    ///
+    /// ```rust
+    /// let mut map = LinkedHashMap::new(rt.alloc());
+    /// map.insert('x', 1)?;
+    /// map.insert('y', 2)?;
+    /// assert_eq!(rt; map.pop_back(), Some(('y', 2)));
+    /// assert_eq!(rt; map.back(), Some((&'x', &1)));
+    /// ```
     pub fn pop_back(&mut self) -> Option<(K, V)>
-        ensures pair { result ≡ slice_get self.old.pairs (length self.old.pairs - 1) }
-        ensures pairs { self.new.pairs ≡ take (length self.old.pairs - 1) self.old.pairs }
+        ensures pair { result ≡ last self.old.pairs }
+        ensures pairs { self.new.pairs ≡ without_last self.old.pairs }
         ensures capacity { self.new.capacity ≡ self.old.capacity }
         ensures hasher { self.new.hasher ≡ self.old.hasher }
+        ensures valid { IsValid K.eq self.old }
+        ensures stays_valid { IsValid K.eq self.new }
     {
         if self.is_empty() {
             return None;
@@ -417,9 +614,18 @@ impl<K: Eq + Hash, V, S: BuildHasher> LinkedHashMap<K, V, S> {
 
     /// Lends the pair at the newest place, or returns `None` on an empty map.
     ///
-    /// The key is the stored one. It takes no memory and leaves every place.
+    /// The key is the stored one. It takes no memory and leaves the order.
+    ///
+    /// # Examples
+    ///
+    /// ```rust
+    /// let mut map = LinkedHashMap::new(rt.alloc());
+    /// map.insert('x', 1)?;
+    /// map.insert('y', 2)?;
+    /// assert_eq!(rt; map.back(), Some((&'y', &2)));
+    /// ```
     pub fn back(&self) -> Option<(&K, &V)>
-        ensures { option_map deref_pair result ≡ slice_get self.now.pairs (length self.now.pairs - 1) }
+        ensures { option_map deref_pair result ≡ last self.now.pairs }
     {
         if self.is_empty() {
             return None;
@@ -427,23 +633,51 @@ impl<K: Eq + Hash, V, S: BuildHasher> LinkedHashMap<K, V, S> {
         Some(self.pair_at(self.len() - 1))
     }
 
-    /// Returns the number of pairs.
+    /// Returns the number of pairs. It takes no memory.
+    ///
+    /// # Examples
+    ///
+    /// ```rust
+    /// let mut map = LinkedHashMap::new(rt.alloc());
+    /// map.insert('x', 1)?;
+    /// assert_eq!(rt; map.len(), 1);
+    /// ```
     pub fn len(&self) -> usize
         ensures len { result ≡ length self.now.pairs }
-        ensures within { length self.now.pairs ≤ self.now.capacity }
-        ensures distinct { IsDistinct K.eq (keys_of self.now.pairs) }
+        ensures valid { IsValid K.eq self.now }
     {
         self.keys.len()
     }
 
-    /// Tells whether the map has no pairs.
+    /// Tells whether the map has no pairs. It takes no memory.
+    ///
+    /// # Examples
+    ///
+    /// ```rust
+    /// let mut map = LinkedHashMap::new(rt.alloc());
+    /// assert!(rt; map.is_empty());
+    /// map.insert('x', 1)?;
+    /// assert!(rt; !map.is_empty());
+    /// ```
     pub fn is_empty(&self) -> bool
-        ensures { result ≡ (length self.now.pairs == 0) }
+        ensures empty { result ≡ (length self.now.pairs == 0) }
+        ensures valid { IsValid K.eq self.now }
     {
         self.len() == 0
     }
 
-    /// Lends the hasher.
+    /// Lends the build hasher. It takes no memory.
+    ///
+    /// # Examples
+    ///
+    /// ```rust
+    /// use std::hash::{BuildHasher, RandomState};
+    ///
+    /// let builder = RandomState::new(&rt)?;
+    /// let mut map = LinkedHashMap::with_hasher(rt.alloc(), builder);
+    /// map.insert('x', 1)?;
+    /// assert_eq!(rt; map.hasher().hash_one('x'), builder.hash_one('x'));
+    /// ```
     pub fn hasher(&self) -> &S
         ensures { result.now ≡ self.now.hasher }
     {
@@ -452,7 +686,16 @@ impl<K: Eq + Hash, V, S: BuildHasher> LinkedHashMap<K, V, S> {
 
     /// Drops all pairs and keeps the capacity, for which the original gives memory back.
     ///
-    /// It takes no memory.
+    /// It takes no memory and costs a step for each pair.
+    ///
+    /// # Examples
+    ///
+    /// ```rust
+    /// let mut map = LinkedHashMap::new(rt.alloc());
+    /// map.insert('x', 1)?;
+    /// map.clear();
+    /// assert_eq!(rt; (map.len(), map.capacity()), (0, 1));
+    /// ```
     pub fn clear(&mut self)
     where
         K: Drop,
@@ -460,6 +703,8 @@ impl<K: Eq + Hash, V, S: BuildHasher> LinkedHashMap<K, V, S> {
         ensures pairs { self.new.pairs ≡ [] }
         ensures capacity { self.new.capacity ≡ self.old.capacity }
         ensures hasher { self.new.hasher ≡ self.old.hasher }
+        ensures valid { IsValid K.eq self.old }
+        ensures stays_valid { IsValid K.eq self.new }
     {
         self.keys.clear();
         self.values.clear();
@@ -469,10 +714,23 @@ impl<K: Eq + Hash, V, S: BuildHasher> LinkedHashMap<K, V, S> {
 
     /// Returns an iterator over the pairs, from the oldest place to the newest, from both ends.
     ///
-    /// Neither the call nor a step of the iterator takes memory.
+    /// Neither the call nor a step of the iterator takes memory, and the order stays.
+    ///
+    /// # Examples
+    ///
+    /// ```rust
+    /// let mut map = LinkedHashMap::new(rt.alloc());
+    /// map.insert('x', 1)?;
+    /// map.insert('y', 2)?;
+    /// let mut pairs = map.iter();
+    /// assert_eq!(rt; pairs.next(), Some((&'x', &1)));
+    /// let mut rest = pairs.clone()?;
+    /// assert_eq!(rt; rest.next_back(), Some((&'y', &2)));
+    /// assert_eq!(rt; (pairs.len(), rest.len()), (1, 0));
+    /// ```
     pub fn iter(&self) -> Iter<'_, K, V>
         ensures pairs { result ≡ self.now.pairs }
-        ensures distinct { IsDistinct K.eq (keys_of self.now.pairs) }
+        ensures valid { IsValid K.eq self.now }
         ensures runs { ShowsInOrder (deref_pair {K = K} {X = V}) }
         ensures runs_back { ShowsInReverse (deref_pair {K = K} {X = V}) }
     {
@@ -482,13 +740,25 @@ impl<K: Eq + Hash, V, S: BuildHasher> LinkedHashMap<K, V, S> {
     /// Returns an iterator over the pairs, from the oldest place to the newest, from both ends, that lends each value for
     /// writing.
     ///
-    /// What is written becomes the value of that pair. Keys and places stand. Neither the call nor a step of the iterator
+    /// What is written becomes the value of that pair. The keys and the order stay. Neither the call nor a step of the iterator
     /// takes memory.
+    ///
+    /// # Examples
+    ///
+    /// ```rust
+    /// let mut map = LinkedHashMap::new(rt.alloc());
+    /// map.insert('x', 1)?;
+    /// let mut pairs = map.iter_mut();
+    /// if let Some((_key, value)) = pairs.next() {
+    ///     *value = 3;
+    /// }
+    /// assert_eq!(rt; map.get(&'x'), Some(&3));
+    /// ```
     pub fn iter_mut(&mut self) -> IterMut<'_, K, V>
         ensures* writes_back { sem 𝓛 (lends_values K.row V.row S.row S.Hasher.row K.Hash S.BuildHasher S.Hasher.Hasher self.entry (loan_name result)) }
         ensures keeps { KeysStand self.old.pairs }
         ensures rest { pairs_left result ≡ self.old.pairs }
-        ensures distinct { IsDistinct K.eq (keys_of self.old.pairs) }
+        ensures valid { IsValid K.eq self.old }
         ensures runs { LendsValuesInOrder (pairs_left {K = K} {V = V}) }
         ensures runs_back { LendsValuesInReverse (pairs_left {K = K} {V = V}) }
     {
@@ -497,10 +767,22 @@ impl<K: Eq + Hash, V, S: BuildHasher> LinkedHashMap<K, V, S> {
 
     /// Returns an iterator over the keys, in the order of their pairs, from both ends.
     ///
-    /// Neither the call nor a step of the iterator takes memory.
+    /// Neither the call nor a step of the iterator takes memory, and the order stays.
+    ///
+    /// # Examples
+    ///
+    /// ```rust
+    /// let mut map = LinkedHashMap::new(rt.alloc());
+    /// map.insert('x', 1)?;
+    /// map.insert('y', 2)?;
+    /// let mut keys = map.keys();
+    /// assert_eq!(rt; keys.next(), Some(&'x'));
+    /// assert_eq!(rt; keys.next(), Some(&'y'));
+    /// assert_eq!(rt; keys.next(), None);
+    /// ```
     pub fn keys(&self) -> Keys<'_, K, V>
         ensures keys { result ≡ keys_of self.now.pairs }
-        ensures distinct { IsDistinct K.eq (keys_of self.now.pairs) }
+        ensures valid { IsValid K.eq self.now }
         ensures runs { ShowsInOrder (deref {X = K}) }
         ensures runs_back { ShowsInReverse (deref {X = K}) }
     {
@@ -509,9 +791,22 @@ impl<K: Eq + Hash, V, S: BuildHasher> LinkedHashMap<K, V, S> {
 
     /// Returns an iterator over the values, in the order of their pairs, from both ends.
     ///
-    /// Neither the call nor a step of the iterator takes memory.
+    /// Neither the call nor a step of the iterator takes memory, and the order stays.
+    ///
+    /// # Examples
+    ///
+    /// ```rust
+    /// let mut map = LinkedHashMap::new(rt.alloc());
+    /// map.insert('x', 1)?;
+    /// map.insert('y', 2)?;
+    /// let mut values = map.values();
+    /// assert_eq!(rt; values.next_back(), Some(&2));
+    /// assert_eq!(rt; values.next_back(), Some(&1));
+    /// assert_eq!(rt; values.next_back(), None);
+    /// ```
     pub fn values(&self) -> Values<'_, K, V>
         ensures values { result ≡ values_of self.now.pairs }
+        ensures valid { IsValid K.eq self.now }
         ensures runs { ShowsInOrder (deref {X = V}) }
         ensures runs_back { ShowsInReverse (deref {X = V}) }
     {
@@ -520,8 +815,22 @@ impl<K: Eq + Hash, V, S: BuildHasher> LinkedHashMap<K, V, S> {
 
     /// Returns an iterator that takes all pairs out and hands them out, from the oldest place to the newest, from both ends.
     ///
-    /// Once it is let go, the map is empty and has the capacity that it had. Neither the call nor a step of the iterator takes
-    /// memory.
+    /// Once it is let go, early or not, the map is empty and has the capacity that it had. Neither the call nor a step of the
+    /// iterator takes memory; what a step costs is said at [`Drain`]. The original empties the map at the call, also where the
+    /// iterator is forgotten; here the pairs that a forgotten one had not handed out stay in the map.
+    ///
+    /// # Examples
+    ///
+    /// ```rust
+    /// let mut map = LinkedHashMap::new(rt.alloc());
+    /// map.insert('x', 1)?;
+    /// map.insert('y', 2)?;
+    /// let mut pairs = map.drain();
+    /// assert_eq!(rt; pairs.next(), Some(('x', 1)));
+    /// assert_eq!(rt; pairs.len(), 1);
+    /// drop(pairs);
+    /// assert_eq!(rt; (map.len(), map.capacity()), (0, 2));
+    /// ```
     pub fn drain(&mut self) -> Drain<'_, K, V, S>
     where
         K: Drop,
@@ -530,215 +839,13 @@ impl<K: Eq + Hash, V, S: BuildHasher> LinkedHashMap<K, V, S> {
         ensures rest { drain_rest result ≡ self.old.pairs }
         ensures capacity { (drain_map result).capacity ≡ self.old.capacity }
         ensures hasher { (drain_map result).hasher ≡ self.old.hasher }
+        ensures valid { IsValid K.eq self.old }
         ensures runs { YieldsInOrder (DrainSteps {K = K} {V = V} {S = S} {H = S.Hasher}) drain_rest }
         ensures runs_back { YieldsInReverse (DrainStepsBack {K = K} {V = V} {S = S} {H = S.Hasher}) drain_rest }
         ensures stays { DrainKeepsAlong DrainSteps result }
         ensures stays_back { DrainKeepsAlong DrainStepsBack result }
     {
+        self.end_visit();
         Drain::new(self)
-    }
-
-    /// Takes the map apart into an iterator that hands out its pairs, and drops the hasher.
-    pub(crate) fn into_pairs(self) -> IntoIter<K, V>
-    where
-        S: Drop,
-        ensures pairs { result ≡ self.pairs }
-        ensures distinct { IsDistinct K.eq (keys_of self.pairs) }
-    {
-        let LinkedHashMap {
-            keys,
-            values,
-            capacity: _,
-            hasher: _,
-            bookmark: _,
-            unvisited: _,
-        } = self;
-        IntoIter::new(keys, values)
-    }
-
-    /// Returns the allocator that the map was made with.
-    pub(crate) fn allocator(&self) -> Global
-        ensures within { length self.now.pairs ≤ self.now.capacity }
-        ensures distinct { IsDistinct K.eq (keys_of self.now.pairs) }
-    {
-        *self.keys.allocator()
-    }
-}
-
-// The functions that know how the pairs are kept. All others call these.
-impl<K: Eq + Hash, V, S: BuildHasher> LinkedHashMap<K, V, S> {
-    ghost use Rattle.linked_hash_map.specs.Lends.{lends_at};
-
-    /// Returns the place of the pair of a key.
-    pub(crate) fn find(&self, key: &K) -> Option<usize>
-        ensures found { IfSome result (IsPlace K.eq self.now.pairs key.now) }
-        ensures absent { IfNone result (find K.eq self.now.pairs key.now ≡ None) }
-        ensures within { length self.now.pairs ≤ self.now.capacity }
-        ensures distinct { IsDistinct K.eq (keys_of self.now.pairs) }
-    {
-        place_of(&self.keys, key)
-    }
-
-    /// Lends the pair at a place.
-    pub(crate) fn pair_at(&self, place: usize) -> (&K, &V)
-        requires { place < length self.now.pairs }
-        ensures { slice_get self.now.pairs place ≡ Some (result.0.now, result.1.now) }
-    {
-        (&self.keys[place], &self.values[place])
-    }
-
-    /// Lends the value at a place for writing.
-    pub(crate) fn value_mut_at(&mut self, place: usize) -> &mut V
-        requires { place < length self.old.pairs }
-        ensures* writes_back { sem 𝓛 (lends_at K.row V.row S.row S.Hasher.row K.Hash S.BuildHasher S.Hasher.Hasher self.entry place result) }
-        ensures value { option_map (λ pair. pair.1) (slice_get self.old.pairs place) ≡ Some result.now }
-        ensures within { length self.old.pairs ≤ self.old.capacity }
-        ensures distinct { IsDistinct K.eq (keys_of self.old.pairs) }
-    {
-        &mut self.values[place]
-    }
-
-    /// Takes out the pair at a place.
-    pub(crate) fn take_out(&mut self, place: usize) -> (K, V)
-        requires { place < length self.old.pairs }
-        ensures pair { slice_get self.old.pairs place ≡ Some result }
-        ensures pairs { self.new.pairs ≡ remove self.old.pairs place }
-        ensures capacity { self.new.capacity ≡ self.old.capacity }
-        ensures hasher { self.new.hasher ≡ self.old.hasher }
-        ensures within { length self.old.pairs ≤ self.old.capacity }
-        ensures distinct { IsDistinct K.eq (keys_of self.old.pairs) }
-        ensures to_visit { IsOutside place self.old → to_visit self.new ≡ to_visit self.old }
-        ensures in_reach { self.new.bookmark + self.new.unvisited ≤ length self.new.pairs }
-    {
-        let (bookmark, unvisited) = visit_without(place, self.bookmark, self.unvisited);
-        self.bookmark = bookmark;
-        self.unvisited = unvisited;
-        let key = self.keys.remove(place);
-        (key, self.values.remove(place))
-    }
-
-    /// Begins the visit of a cursor: every pair is unvisited, and the next one is that at the oldest place.
-    pub(crate) fn begin_visit(&mut self)
-        ensures to_visit { to_visit self.new ≡ keys_of self.old.pairs }
-        ensures pairs { self.new.pairs ≡ self.old.pairs }
-        ensures capacity { self.new.capacity ≡ self.old.capacity }
-        ensures hasher { self.new.hasher ≡ self.old.hasher }
-    {
-        self.bookmark = 0;
-        self.unvisited = self.keys.len();
-    }
-
-    /// Returns the place of the next unvisited pair and moves the bookmark past it, or returns `None` where none is left.
-    pub(crate) fn visit_next(&mut self) -> Option<usize>
-        ensures key { IfSome result (λ place. (key : K) → slice_get (keys_of self.old.pairs) place ≡ Some key →
-            to_visit self.old ≡ key ∷ to_visit self.new) }
-        ensures within { IfSome result (λ place. place < length self.new.pairs) }
-        ensures outside { IfSome result (λ place. IsOutside place self.new) }
-        ensures pairs { self.new.pairs ≡ self.old.pairs }
-        ensures capacity { self.new.capacity ≡ self.old.capacity }
-        ensures hasher { self.new.hasher ≡ self.old.hasher }
-
-        ensures none { IfNone result (to_visit self.old ≡ []) }
-        ensures unchanged { IfNone result (self.new ≡ self.old) }
-    {
-        if self.unvisited == 0 {
-            return None;
-        }
-        let place = self.bookmark;
-        self.bookmark += 1;
-        self.unvisited -= 1;
-        Some(place)
-    }
-
-    /// Returns how many pairs are unvisited.
-    pub(crate) fn unvisited(&self) -> usize
-        ensures { result ≡ length (to_visit self.now) }
-    {
-        self.unvisited
-    }
-
-    /// Ends the visit of a cursor: no pair is unvisited.
-    pub(crate) fn end_visit(&mut self)
-        ensures { self.new ≡ without_cursor self.old }
-    {
-        self.bookmark = 0;
-        self.unvisited = 0;
-    }
-
-    /// Puts a pair at the back, for which there is room. Its key is absent.
-    pub(crate) fn push_back(&mut self, key: K, value: V)
-        requires room { length self.old.pairs < self.old.capacity }
-        requires absent { find K.eq self.old.pairs key ≡ None }
-        ensures pairs { self.new.pairs ≡ self.old.pairs ++ (key, value) ∷ [] }
-        ensures capacity { self.new.capacity ≡ self.old.capacity }
-        ensures hasher { self.new.hasher ≡ self.old.hasher }
-        ensures bookmark { self.new.bookmark ≡ self.old.bookmark }
-        ensures unvisited { self.new.unvisited ≡ self.old.unvisited }
-    {
-        self.keys.push_reserved(key);
-        self.values.push_reserved(value);
-    }
-
-    /// Turns the pairs round.
-    pub(crate) fn reverse(&mut self)
-        ensures pairs { self.new.pairs ≡ reverse self.old.pairs }
-        ensures capacity { self.new.capacity ≡ self.old.capacity }
-        ensures hasher { self.new.hasher ≡ self.old.hasher }
-    {
-        self.keys.reverse();
-        self.values.reverse();
-    }
-
-    /// Makes room for one more pair: at full capacity by raising it by one, if there is memory.
-    pub(crate) fn make_room(&mut self) -> bool
-        ensures pairs { self.new.pairs ≡ self.old.pairs }
-        ensures hasher { self.new.hasher ≡ self.old.hasher }
-        ensures bookmark { self.new.bookmark ≡ self.old.bookmark }
-        ensures unvisited { self.new.unvisited ≡ self.old.unvisited }
-        ensures made { IsTrue result → self.new.capacity ≡ max self.old.capacity (length self.old.pairs + 1) }
-        ensures refused { IsFalse result → self.new ≡ self.old }
-        ensures full { IsFalse result → length self.old.pairs ≡ self.old.capacity }
-    {
-        if self.keys.len() < self.capacity {
-            return true;
-        }
-        if self.capacity == LIMIT
-            || self.keys.reserve_exact(1).is_err()
-            || self.values.reserve_exact(1).is_err()
-        {
-            return false;
-        }
-        self.capacity += 1;
-        true
-    }
-}
-
-/// `map[&key]`, for a key that is present. Presence is the caller's condition, where the original panics; `get` is the test.
-impl<'q, K: Eq + Hash, V, S: BuildHasher> Index<&'q K> for LinkedHashMap<K, V, S> {
-    type Output = V;
-
-    ghost can_index = { λ m key. IsSome (find K.eq m.pairs key.now) };
-
-    ghost index_gives = { λ m key value. value_at K.eq m.pairs key.now ≡ Some value };
-
-    fn index(&self, key: &'q K) -> &V {
-        self.get(key).unwrap()
-    }
-}
-
-/// `map[&key] = value`, for a key that is present. Presence is the caller's condition, where the original panics; `get_mut`
-/// is the test.
-impl<'q, K: Eq + Hash, V, S: BuildHasher> IndexMut<&'q K> for LinkedHashMap<K, V, S> {
-    ghost use Rattle.linked_hash_map.specs.Lends.{lends_present};
-
-    fn index_mut(&mut self, key: &'q K) -> &mut V
-        requires { IsSome (find K.eq self.old.pairs key.now) }
-        ensures* writes_back { sem 𝓛 (lends_present K.row V.row S.row S.Hasher.row K.Hash S.BuildHasher S.Hasher.Hasher self.entry key.now result) }
-        ensures value { value_at K.eq self.old.pairs key.now ≡ Some result.now }
-    {
-        match self.find(key) {
-            Some(place) => self.value_mut_at(place),
-            None => unreachable!(),
-        }
     }
 }

@@ -1,14 +1,34 @@
 //! Runs of commands, and the theorem about them.
 //!
-//! [`replay`] runs commands on a map and answers each. Its contract says what the map and the answers are after any
+//! A [`Command`] asks a map for one of its calls. [`replay`] runs a list of commands on a map and gives a [`Reply`] for each:
+//! the [`Answer`], and the length and the capacity after it. Its contract says what the map and the answers are after any
 //! run, by a log of events: the map has exactly the pairs that the log of the answers' effects defines, in the order
-//! of each key's last insertion or refresh.
+//! of each key's last insertion or refresh. The events, and what a log defines, are in `specs/Log.antt`; the effects and
+//! the allowed answers are in `specs/Requests.antt`.
+//!
+//! The original has no such module.
+//!
+//! # Examples
+//!
+//! ```rust
+//! use linked_hash_map::LinkedHashMap;
+//! use linked_hash_map::replay::{Answer, Command, replay};
+//!
+//! let mut map = LinkedHashMap::new(rt.alloc());
+//! let commands = Vec::from_array(rt.alloc(), [Command::Insert('x', 1), Command::PopFront])?;
+//! let mut replies = replay(&mut map, commands)?.into_iter();
+//! assert_eq!(rt; replies.next().map(|reply| reply.answer), Some(Answer::New));
+//! assert_eq!(rt; replies.next().map(|reply| reply.answer), Some(Answer::Pair('x', 1)));
+//! assert_eq!(rt; (map.len(), map.capacity()), (0, 1));
+//! ```
 ghost use Rattle.std.specs.Prelude.{◌≡◌, ℕ, [], IfOk, IfErr, OnErr, IsOk};
 ghost use Rattle.linked_hash_map.specs.Log.{Log, pairs, high, Defines};
+ghost use Rattle.linked_hash_map.specs.Validity.{IsValid};
 ghost use Rattle.linked_hash_map.specs.Run.{log_after, first_log, last_log, Serves, IsReply, IsRun};
 
 use crate::entry::Entry;
-use crate::map::{LinkedHashMap, NoRoom, ReserveError};
+use crate::error::{NoRoom, ReserveError};
+use crate::map::LinkedHashMap;
 use std::hash::{BuildHasher, Hash};
 use std::mem;
 
@@ -16,7 +36,19 @@ mod pair_list;
 
 pub use pair_list::PairList;
 
-/// What a map is asked in a run.
+/// What a map is asked in a run. A command costs what the calls that it names cost.
+///
+/// # Examples
+///
+/// ```rust
+/// use linked_hash_map::LinkedHashMap;
+/// use linked_hash_map::replay::{Answer, Command, replay};
+///
+/// let mut map = LinkedHashMap::new(rt.alloc());
+/// let commands = Vec::from_array(rt.alloc(), [Command::Insert('x', 1), Command::PopFront])?;
+/// let mut replies = replay(&mut map, commands)?.into_iter();
+/// assert_eq!(rt; replies.next().map(|reply| reply.answer), Some(Answer::New));
+/// ```
 #[derive(Debug, PartialEq, Drop)]
 pub enum Command<K, V> {
     /// Puts a pair at the back, as `insert` does: `New`, `Old` or `Refused`.
@@ -51,6 +83,19 @@ pub enum Command<K, V> {
 }
 
 /// What a map answers to a command.
+///
+/// # Examples
+///
+/// ```rust
+/// use linked_hash_map::LinkedHashMap;
+/// use linked_hash_map::replay::{Answer, Command, replay};
+///
+/// let mut map = LinkedHashMap::new(rt.alloc());
+/// let commands = Vec::from_array(rt.alloc(), [Command::Insert('x', 1), Command::PopFront])?;
+/// let mut replies = replay(&mut map, commands)?.into_iter();
+/// assert_eq!(rt; replies.next().map(|reply| reply.answer), Some(Answer::New));
+/// assert_eq!(rt; replies.next().map(|reply| reply.answer), Some(Answer::Pair('x', 1)));
+/// ```
 #[derive(Debug, PartialEq, Drop)]
 pub enum Answer<K, V> {
     /// The key was absent, and its pair went in.
@@ -71,7 +116,7 @@ pub enum Answer<K, V> {
     Empty,
     /// The pairs that were taken out, with their stored keys, from the oldest place to the newest.
     Pairs(PairList<K, V>),
-    /// This many pairs went in, and the next, which this is, was absent and found no room. The later ones are dropped.
+    /// This many pairs went in. The next one, which is this, has an absent key and found no room. The later ones are dropped.
     Stopped(usize, K, V),
     /// The command was carried out.
     Done,
@@ -82,6 +127,20 @@ pub enum Answer<K, V> {
 }
 
 /// An answer, and the length and the capacity of the map after it.
+///
+/// # Examples
+///
+/// ```rust
+/// use linked_hash_map::LinkedHashMap;
+/// use linked_hash_map::replay::{Answer, Command, replay};
+///
+/// let mut map: LinkedHashMap<char, u64> = LinkedHashMap::new(rt.alloc());
+/// let commands = Vec::from_array(rt.alloc(), [Command::Reserve(4)])?;
+/// for reply in replay(&mut map, commands)? {
+///     assert_eq!(rt; reply.answer, Answer::Done);
+///     assert_eq!(rt; (reply.len, reply.capacity), (0, 4));
+/// }
+/// ```
 #[derive(Debug, PartialEq, Drop)]
 pub struct Reply<K, V> {
     /// The answer.
@@ -320,6 +379,7 @@ fn reply_to<K: Eq + Hash + Drop, V: Drop, S: BuildHasher>(
     ensures defines { (start : ℕ) (log : Log K V) → Defines K.eq start log map.old.pairs map.old.capacity →
         Defines K.eq start (log_after K.eq log command result.answer) map.new.pairs map.new.capacity }
     ensures hasher { map.new.hasher ≡ map.old.hasher }
+    ensures stays_valid { IsValid K.eq map.new }
 {
     let answer = answer_to(map, command);
     Reply {
@@ -331,8 +391,24 @@ fn reply_to<K: Eq + Hash + Drop, V: Drop, S: BuildHasher>(
 
 /// Runs the commands in order and returns one reply for each.
 ///
-/// A refused command changes nothing and does not stop the run. The room of the replies is reserved first; where that
-/// is refused, nothing runs and the error is the commands as they were given. No commands are never refused.
+/// A refused command changes nothing and does not stop the run; an extension keeps the pairs that went in before the
+/// refused one. Room for one reply for each command is reserved first; where that is refused, nothing runs and the error is
+/// the commands as they were given. An empty list of commands is never refused. Besides that room, each command takes the
+/// memory and costs the steps of its call. The original has no such call.
+///
+/// # Examples
+///
+/// ```rust
+/// use linked_hash_map::LinkedHashMap;
+/// use linked_hash_map::replay::{Answer, Command, replay};
+///
+/// let mut map = LinkedHashMap::new(rt.alloc());
+/// let commands = Vec::from_array(rt.alloc(), [Command::Insert('x', 1), Command::PopFront])?;
+/// let mut replies = replay(&mut map, commands)?.into_iter();
+/// assert_eq!(rt; replies.next().map(|reply| reply.answer), Some(Answer::New));
+/// assert_eq!(rt; replies.next().map(|reply| reply.answer), Some(Answer::Pair('x', 1)));
+/// assert_eq!(rt; (map.len(), map.capacity()), (0, 1));
+/// ```
 pub fn replay<K: Eq + Hash + Drop, V: Drop, S: BuildHasher>(
     map: &mut LinkedHashMap<K, V, S>,
     commands: Vec<Command<K, V>>,
@@ -349,6 +425,8 @@ pub fn replay<K: Eq + Hash + Drop, V: Drop, S: BuildHasher>(
         let last = last_log K.eq (first_log map.old.pairs) commands.items replies.items in
         map.new.capacity ≡ high K.eq map.old.capacity last) }
     ensures hasher { map.new.hasher ≡ map.old.hasher }
+    ensures valid { IsValid K.eq map.old }
+    ensures stays_valid { IsValid K.eq map.new }
 
     ensures handed_back { IfErr result (λ refused. refused ≡ commands) }
     ensures unchanged { OnErr result (map.new ≡ map.old) }

@@ -5,6 +5,7 @@ mod entries;
 mod hasher;
 mod lists;
 mod name;
+mod readme;
 mod walks;
 mod written;
 
@@ -346,7 +347,10 @@ fn refused_insertion_leaves_the_pop(rt: HostRuntime) {
     if map.insert(1, 10).is_err() {
         return;
     }
-    if map.insert(2, 20).is_err() {
+    assert_eq!(rt; (map.len(), map.capacity()), (1, 1));
+    let second = map.insert(2, 20);
+    if second.is_err() {
+        assert_eq!(rt; second, Err(Refused { key: 2, value: 20 }));
         assert_pairs(&rt, &map, &[(1, 10)]);
         assert_eq!(rt; map.insert(1, 11), Ok(Some(10)));
         assert_eq!(rt; map.pop_front(), Some((1, 11)));
@@ -373,7 +377,14 @@ fn refused_replay_hands_the_commands_back(rt: HostRuntime) {
             }
         }
         Err(commands) => {
-            assert_eq!(rt; commands.len(), 5);
+            let expected = [
+                Command::Insert(1, 10),
+                Command::Insert(2, 20),
+                Command::Insert(1, 11),
+                Command::Remove(3),
+                Command::Remove(2),
+            ];
+            assert_eq!(rt; commands.as_slice(), expected.as_slice());
             assert_eq!(rt; (map.len(), map.capacity()), (0, 0));
         }
     }

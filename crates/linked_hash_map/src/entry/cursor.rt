@@ -3,35 +3,69 @@ ghost use Rattle.std.specs.Prelude.{◌≡◌, [], ◌∷◌, length, IfSome, If
 ghost use Rattle.std.specs.Borrow.{sem};
 ghost use Rattle.std.specs.Map.{keys_of};
 ghost use Rattle.linked_hash_map.specs.Cursor.{to_visit};
+ghost use Rattle.linked_hash_map.specs.Validity.{IsValid};
 ghost use Rattle.linked_hash_map.specs.Entry.{occupied_map_ref, occupied_map, occupied_key};
 ghost use Rattle.linked_hash_map.specs.CursorLends.{cursor_map_ref, cursor_map, lends_map, lends_next_entry, lends_next};
 
 use super::OccupiedEntry;
-use crate::map::{DefaultHasher, LinkedHashMap};
+use crate::map::{DefaultHashBuilder, LinkedHashMap};
 use std::hash::{BuildHasher, Hash};
 
-/// A cursor over the entries of a map, from the oldest place to the newest.
+/// A cursor over the entries of a map, from the oldest place to the newest. It is made by `entries`.
 ///
 /// It visits the pairs that the map had when the cursor was made, in their order then, each once, whatever is done with their
 /// entries: one that is taken out, or that its entry moved to the back, is not visited again. A cursor that is let go leaves
 /// the map as it then is. The original's is an iterator, and its entries can be held side by side; this one lends one entry
 /// at a time.
+///
+/// # Examples
+///
+/// ```rust
+/// let mut map = LinkedHashMap::new(rt.alloc());
+/// map.insert('x', 1)?;
+/// map.insert('y', 2)?;
+/// let mut cursor = map.entries();
+/// if let Some(mut entry) = cursor.next() {
+///     assert_eq!(rt; entry.insert(3), 1);
+/// }
+/// assert_eq!(rt; cursor.remaining(), 1);
+/// assert_eq!(rt; map.back(), Some((&'x', &3)));
+/// ```
 #[derive(Drop)]
-pub struct Entries<'a, K: Eq + Hash, V, S: BuildHasher = DefaultHasher> {
+pub struct Entries<'a, K: Eq + Hash, V, S: BuildHasher = DefaultHashBuilder> {
     map: &'a mut LinkedHashMap<K, V, S>,
 }
 
 impl<K: Eq + Hash, V, S: BuildHasher> LinkedHashMap<K, V, S> {
     /// Returns a cursor over the entries, to read, change or take out one pair after another.
     ///
-    /// Every pair is to be visited, from the oldest place to the newest. It takes no memory, leaves every place, and costs a
-    /// constant number of steps.
+    /// Every pair is to be visited, from the oldest place to the newest. It takes no memory, leaves the order, and costs a
+    /// constant number of steps. A loop over all entries counts them by [`remaining`](Entries::remaining), by which it is known
+    /// to end. The original's is an iterator.
+    ///
+    /// # Examples
+    ///
+    /// ```rust
+    /// let mut map = LinkedHashMap::new(rt.alloc());
+    /// map.insert('x', 1)?;
+    /// map.insert('y', 0)?;
+    /// let mut cursor = map.entries();
+    /// for _ in 0..cursor.remaining() {
+    ///     if let Some(entry) = cursor.next() {
+    ///         if *entry.get() == 0 {
+    ///             entry.remove();
+    ///         }
+    ///     }
+    /// }
+    /// assert_eq!(rt; (map.len(), map.get(&'x')), (1, Some(&1)));
+    /// ```
     pub fn entries(&mut self) -> Entries<'_, K, V, S>
         ensures same_map { (cursor_map_ref result).ghost_name ≡ self.entry.ghost_name }
         ensures to_visit { to_visit (cursor_map result) ≡ keys_of self.old.pairs }
         ensures pairs { (cursor_map result).pairs ≡ self.old.pairs }
         ensures capacity { (cursor_map result).capacity ≡ self.old.capacity }
         ensures hasher { (cursor_map result).hasher ≡ self.old.hasher }
+        ensures valid { IsValid K.eq self.old }
     {
         self.begin_visit();
         Entries { map: self }
@@ -45,10 +79,11 @@ impl<K: Eq + Hash, V, S: BuildHasher> LinkedHashMap<K, V, S> {
         ensures pairs { IfSome result (λ entry. (occupied_map entry).pairs ≡ self.old.pairs) }
         ensures capacity { IfSome result (λ entry. (occupied_map entry).capacity ≡ self.old.capacity) }
         ensures hasher { IfSome result (λ entry. (occupied_map entry).hasher ≡ self.old.hasher) }
+        ensures valid { IsValid K.eq self.old }
         ensures none { IfNone result (to_visit self.old ≡ []) }
     {
         match self.visit_next() {
-            Some(place) => Some(OccupiedEntry { map: self, place }),
+            Some(index) => Some(OccupiedEntry { map: self, index }),
             None => None,
         }
     }
@@ -57,14 +92,27 @@ impl<K: Eq + Hash, V, S: BuildHasher> LinkedHashMap<K, V, S> {
 impl<'a, K: Eq + Hash, V, S: BuildHasher> Entries<'a, K, V, S> {
     /// Lends the entry of the next pair until the cursor is used again, or returns `None` where every pair has been visited.
     ///
-    /// It takes no memory, leaves every place, and costs a constant number of steps. The original's entries may outlive the
+    /// It takes no memory, leaves the order, and costs a constant number of steps. The original's entries may outlive the
     /// next call.
+    ///
+    /// # Examples
+    ///
+    /// ```rust
+    /// let mut map = LinkedHashMap::new(rt.alloc());
+    /// map.insert('x', 1)?;
+    /// map.insert('y', 2)?;
+    /// let mut cursor = map.entries();
+    /// if let Some(mut entry) = cursor.next() {
+    ///     assert_eq!(rt; entry.insert(3), 1);
+    /// }
+    /// ```
     pub fn next(&mut self) -> Option<OccupiedEntry<'_, K, V, S>>
         ensures* lends { sem 𝓛 (lends_next K.row V.row S.row S.Hasher.row K.Hash S.BuildHasher S.Hasher.Hasher self.entry result) }
         ensures visits { IfSome result (λ entry. to_visit (cursor_map self.old) ≡ occupied_key entry ∷ to_visit (occupied_map entry)) }
         ensures pairs { IfSome result (λ entry. (occupied_map entry).pairs ≡ (cursor_map self.old).pairs) }
         ensures capacity { IfSome result (λ entry. (occupied_map entry).capacity ≡ (cursor_map self.old).capacity) }
         ensures hasher { IfSome result (λ entry. (occupied_map entry).hasher ≡ (cursor_map self.old).hasher) }
+        ensures valid { IsValid K.eq (cursor_map self.old) }
         ensures none { IfNone result (to_visit (cursor_map self.old) ≡ []) }
     {
         let map = self.as_map();
@@ -73,8 +121,21 @@ impl<'a, K: Eq + Hash, V, S: BuildHasher> Entries<'a, K, V, S> {
 
     /// Returns the number of pairs that are still to be visited.
     ///
-    /// It takes no memory, leaves every place, and costs a constant number of steps. It is the port's own: the original has a
+    /// It takes no memory, leaves the order, and costs a constant number of steps. It is the port's own: the original has a
     /// size hint.
+    ///
+    /// # Examples
+    ///
+    /// ```rust
+    /// let mut map = LinkedHashMap::new(rt.alloc());
+    /// map.insert('x', 1)?;
+    /// map.insert('y', 2)?;
+    /// let mut cursor = map.entries();
+    /// if let Some(mut entry) = cursor.next() {
+    ///     assert_eq!(rt; entry.insert(3), 1);
+    /// }
+    /// assert_eq!(rt; cursor.remaining(), 1);
+    /// ```
     pub fn remaining(&self) -> usize
         ensures { result ≡ length (to_visit (cursor_map self.now)) }
     {

@@ -1,23 +1,34 @@
 //! What makes an entry, and the methods of `Entry`.
-ghost use Rattle.std.specs.Prelude.{◌≡◌, ◌≤◌, length, is_some, Some, None, unwrap_or, IsTrue, IfOk, IfErr, OnErr};
+ghost use Rattle.std.specs.Prelude.{◌≡◌, length, is_some, Some, None, unwrap_or, IsTrue, IfOk, IfErr, OnErr};
 ghost use Rattle.std.specs.Borrow.{sem, MutBor};
-ghost use Rattle.std.specs.List.{IsDistinct};
-ghost use Rattle.std.specs.Map.{keys_of};
 ghost use Rattle.std.specs.Map.Calls.{ModifiesValue};
 ghost use Rattle.std.specs.Option.{UnwrapsOrElse};
 ghost use Rattle.linked_hash_map.specs.Pairs.{key_or, find, value_at, set_if_some, ActsAs};
 ghost use Rattle.linked_hash_map.specs.Cursor.{without_cursor};
+ghost use Rattle.linked_hash_map.specs.Validity.{IsValid};
 ghost use Rattle.linked_hash_map.specs.Entry.{entry_map_ref, entry_map, is_occupied, entry_key, entry_value, lends_entry};
 
 use super::{Entry, OccupiedEntry, VacantEntry};
-use crate::map::{LinkedHashMap, Refused};
+use crate::error::Refused;
+use crate::map::LinkedHashMap;
 use std::hash::{BuildHasher, Hash};
 
 impl<K: Eq + Hash, V, S: BuildHasher> LinkedHashMap<K, V, S> {
     /// Returns the entry of a key, to read, change, insert or remove its pair.
     ///
     /// A key that is present gives an occupied entry with the stored key, and `key` is dropped. One that is absent gives a
-    /// vacant entry, which owns `key`. It takes no memory and leaves every place.
+    /// vacant entry, which owns `key`. It takes no memory, leaves the order and costs at most a step for each pair.
+    ///
+    /// # Examples
+    ///
+    /// ```rust
+    /// use linked_hash_map::{Entry, LinkedHashMap};
+    ///
+    /// let mut map = LinkedHashMap::new(rt.alloc());
+    /// map.insert('x', 1)?;
+    /// assert!(rt; matches!(&map.entry('x'), Entry::Occupied(_)));
+    /// assert!(rt; matches!(&map.entry('y'), Entry::Vacant(_)));
+    /// ```
     pub fn entry(&mut self, key: K) -> Entry<'_, K, V, S>
     where
         K: Drop,
@@ -31,13 +42,12 @@ impl<K: Eq + Hash, V, S: BuildHasher> LinkedHashMap<K, V, S> {
         ensures hasher { (entry_map result).hasher ≡ self.old.hasher }
         ensures ends_visit { IsTrue (is_occupied result) → entry_map result ≡ without_cursor self.old }
         ensures unchanged { entry_value result ≡ None → entry_map result ≡ self.old }
-        ensures within { length self.old.pairs ≤ self.old.capacity }
-        ensures distinct { IsDistinct K.eq (keys_of self.old.pairs) }
+        ensures valid { IsValid K.eq self.old }
     {
         match self.find(&key) {
-            Some(place) => {
+            Some(index) => {
                 self.end_visit();
-                Entry::Occupied(OccupiedEntry { map: self, place })
+                Entry::Occupied(OccupiedEntry { map: self, index })
             }
             None => Entry::Vacant(VacantEntry { map: self, key }),
         }
@@ -47,7 +57,15 @@ impl<K: Eq + Hash, V, S: BuildHasher> LinkedHashMap<K, V, S> {
 impl<'a, K: Eq + Hash, V, S: BuildHasher> Entry<'a, K, V, S> {
     /// Lends the stored key of an occupied entry, or the key of a vacant one.
     ///
-    /// It takes no memory and leaves every place.
+    /// It takes no memory and leaves the order.
+    ///
+    /// # Examples
+    ///
+    /// ```rust
+    /// let mut map = LinkedHashMap::new(rt.alloc());
+    /// map.insert('x', 1)?;
+    /// assert_eq!(rt; *map.entry('x').key(), 'x');
+    /// ```
     pub fn key(&self) -> &K
         ensures { result.now ≡ entry_key self.now }
     {
@@ -59,7 +77,16 @@ impl<'a, K: Eq + Hash, V, S: BuildHasher> Entry<'a, K, V, S> {
 
     /// Calls `f` on the value of an occupied entry, and leaves a vacant one as it is.
     ///
-    /// It takes no memory of its own and leaves every place.
+    /// It takes no memory of its own, leaves the order, and costs a constant number of steps besides the call of `f`.
+    ///
+    /// # Examples
+    ///
+    /// ```rust
+    /// let mut map = LinkedHashMap::new(rt.alloc());
+    /// map.insert('x', 1)?;
+    /// let lent = map.entry('x').and_modify(|value| *value = 2).or_insert(3)?;
+    /// assert_eq!(rt; *lent, 2);
+    /// ```
     pub fn and_modify<F: FnOnce(&mut V) + Drop>(self, f: F) -> Self
         requires { (value : MutBor V) → entry_value self ≡ Some value.now → F.pre f value }
         ensures same_map { (entry_map_ref result).ghost_name ≡ (entry_map_ref self.entry).ghost_name }
@@ -69,22 +96,37 @@ impl<'a, K: Eq + Hash, V, S: BuildHasher> Entry<'a, K, V, S> {
         ensures map { entry_map result ≡ record (entry_map self.entry) {
           pairs = set_if_some K.eq (entry_map self.entry).pairs (entry_key self.entry) (entry_value result);
         } }
+        ensures valid { IsValid K.eq (entry_map self.entry) }
     {
         match self {
             Entry::Occupied(mut entry) => {
                 f(entry.get_mut());
                 Entry::Occupied(entry)
             }
-            Entry::Vacant(entry) => Entry::Vacant(entry),
+            Entry::Vacant(entry) => {
+                // Tells that the map is valid.
+                let _len = entry.map.len();
+                Entry::Vacant(entry)
+            }
         }
     }
 
     /// Lends the value for writing, after it has put the pair of the key and `value` at the back where the entry is vacant.
     ///
-    /// What is written becomes the value of that pair. An occupied entry keeps its place, and `value` is dropped; that takes no
-    /// memory and is never refused, nor does or is a vacant one below capacity. At full capacity a vacant entry raises the
-    /// capacity by exactly one, or is refused: then the error has the key and this value, and the map is unchanged. The original
+    /// What is written becomes the value of that pair. The pair of an occupied entry keeps its place, and `value` is dropped.
+    /// On an occupied entry, and on a vacant one below capacity, it takes no memory and is never refused. A vacant entry at
+    /// full capacity raises the capacity by exactly one, or is refused: then the error has the key and this value, and the
+    /// map is unchanged. A growth costs at most a step for each pair, and all else a constant number of steps. The original
     /// answers no error.
+    ///
+    /// # Examples
+    ///
+    /// ```rust
+    /// let mut map = LinkedHashMap::new(rt.alloc());
+    /// let lent = map.entry('x').or_insert(1)?;
+    /// *lent = 2;
+    /// assert_eq!(rt; map.get(&'x'), Some(&2));
+    /// ```
     pub fn or_insert(self, value: V) -> Result<&'a mut V, Refused<K, V>>
     where
         V: Drop,
@@ -95,6 +137,7 @@ impl<'a, K: Eq + Hash, V, S: BuildHasher> Entry<'a, K, V, S> {
         ensures value_back { IfErr result (λ refused. refused.value ≡ value) }
         ensures absent { OnErr result (entry_value self.entry ≡ None) }
         ensures full { OnErr result (length (entry_map self.entry).pairs ≡ (entry_map self.entry).capacity) }
+        ensures valid { IsValid K.eq (entry_map self.entry) }
     {
         match self {
             Entry::Occupied(entry) => Ok(entry.into_mut()),
@@ -105,8 +148,16 @@ impl<'a, K: Eq + Hash, V, S: BuildHasher> Entry<'a, K, V, S> {
     /// Lends the value for writing, after it has put the pair of the key and what `f` returns at the back where the entry is
     /// vacant.
     ///
-    /// `f` is called once on a vacant entry, before any memory is asked for, and never on an occupied one. All else is as at
-    /// `or_insert`; a refusal has the key and the value that `f` made.
+    /// `f` is called once on a vacant entry, before any memory is asked for, and never on an occupied one. A refusal has the
+    /// key and the value that `f` made. All else is as at `or_insert`, and so is the cost besides that of `f`.
+    ///
+    /// # Examples
+    ///
+    /// ```rust
+    /// let mut map = LinkedHashMap::new(rt.alloc());
+    /// let lent = map.entry('x').or_insert_with(|| 1)?;
+    /// assert_eq!(rt; *lent, 1);
+    /// ```
     pub fn or_insert_with<F: FnOnce() -> V + Drop>(self, f: F) -> Result<&'a mut V, Refused<K, V>>
         requires { entry_value self ≡ None → F.pre f }
         ensures* writes_back { sem 𝓛 (lends_entry K.row V.row S.row S.Hasher.row K.Hash S.BuildHasher S.Hasher.Hasher self.entry result) }
@@ -116,6 +167,7 @@ impl<'a, K: Eq + Hash, V, S: BuildHasher> Entry<'a, K, V, S> {
         ensures value_back { IfErr result (λ refused. F.post f refused.value) }
         ensures absent { OnErr result (entry_value self.entry ≡ None) }
         ensures full { OnErr result (length (entry_map self.entry).pairs ≡ (entry_map self.entry).capacity) }
+        ensures valid { IsValid K.eq (entry_map self.entry) }
     {
         let vacant = match self {
             Entry::Occupied(occupied) => return Ok(occupied.into_mut()),
@@ -128,8 +180,16 @@ impl<'a, K: Eq + Hash, V, S: BuildHasher> Entry<'a, K, V, S> {
     /// Lends the value for writing, after it has put the pair of the key and the default value at the back where the entry is
     /// vacant.
     ///
-    /// The default is made on a vacant entry alone, before any memory is asked for. All else is as at `or_insert`; a refusal
-    /// has the key and the default.
+    /// The default is made on a vacant entry alone, before any memory is asked for. A refusal has the key and the default. All
+    /// else is as at `or_insert`, and so is the cost besides that of the default.
+    ///
+    /// # Examples
+    ///
+    /// ```rust
+    /// let mut map: LinkedHashMap<char, u64> = LinkedHashMap::new(rt.alloc());
+    /// let lent = map.entry('x').or_default()?;
+    /// assert_eq!(rt; *lent, 0);
+    /// ```
     pub fn or_default(self) -> Result<&'a mut V, Refused<K, V>>
     where
         V: Default,
@@ -140,6 +200,7 @@ impl<'a, K: Eq + Hash, V, S: BuildHasher> Entry<'a, K, V, S> {
         ensures value_back { IfErr result (λ refused. V.is_default refused.value) }
         ensures absent { OnErr result (entry_value self.entry ≡ None) }
         ensures full { OnErr result (length (entry_map self.entry).pairs ≡ (entry_map self.entry).capacity) }
+        ensures valid { IsValid K.eq (entry_map self.entry) }
     {
         match self {
             Entry::Occupied(occupied) => Ok(occupied.into_mut()),

@@ -1,8 +1,9 @@
 //! The methods of `OccupiedEntry`.
-ghost use Rattle.std.specs.Prelude.{◌≡◌, ◌≤◌, length};
+ghost use Rattle.std.specs.Prelude.{◌≡◌};
 ghost use Rattle.std.specs.Borrow.{sem};
 ghost use Rattle.linked_hash_map.specs.Pairs.{without, to_back, set_value};
 ghost use Rattle.linked_hash_map.specs.Cursor.{to_visit};
+ghost use Rattle.linked_hash_map.specs.Validity.{IsValid};
 ghost use Rattle.linked_hash_map.specs.Entry.{occupied_map_ref, occupied_map, occupied_key, occupied_value, with_occupied_value, lends_in_entry, lends_occupied};
 
 use super::OccupiedEntry;
@@ -11,28 +12,68 @@ use std::hash::{BuildHasher, Hash};
 impl<'a, K: Eq + Hash, V, S: BuildHasher> OccupiedEntry<'a, K, V, S> {
     /// Lends the stored key.
     ///
-    /// It takes no memory and leaves every place.
+    /// It takes no memory and leaves the order.
+    ///
+    /// # Examples
+    ///
+    /// ```rust
+    /// let mut map = LinkedHashMap::new(rt.alloc());
+    /// map.insert('x', 1)?;
+    /// if let Entry::Occupied(mut entry) = map.entry('x') {
+    ///     assert_eq!(rt; (*entry.key(), *entry.get()), ('x', 1));
+    ///     *entry.get_mut() = 2;
+    ///     assert_eq!(rt; entry.remove(), 2);
+    /// }
+    /// assert!(rt; map.is_empty());
+    /// ```
     pub fn key(&self) -> &K
         ensures { result.now ≡ occupied_key self.now }
     {
-        self.map.pair_at(self.place).0
+        self.map.pair_at(self.index).0
     }
 
     /// Lends the value.
     ///
-    /// It takes no memory and leaves every place.
+    /// It takes no memory and leaves the order.
+    ///
+    /// # Examples
+    ///
+    /// ```rust
+    /// let mut map = LinkedHashMap::new(rt.alloc());
+    /// map.insert('x', 1)?;
+    /// if let Entry::Occupied(mut entry) = map.entry('x') {
+    ///     assert_eq!(rt; (*entry.key(), *entry.get()), ('x', 1));
+    ///     *entry.get_mut() = 2;
+    ///     assert_eq!(rt; entry.remove(), 2);
+    /// }
+    /// assert!(rt; map.is_empty());
+    /// ```
     pub fn get(&self) -> &V
         ensures { result.now ≡ occupied_value self.now }
     {
-        self.map.pair_at(self.place).1
+        self.map.pair_at(self.index).1
     }
 
     /// Lends the value for writing.
     ///
-    /// What is written becomes the value of the pair. It takes no memory and leaves every place.
+    /// What is written becomes the value of the pair. It takes no memory and leaves the order.
+    ///
+    /// # Examples
+    ///
+    /// ```rust
+    /// let mut map = LinkedHashMap::new(rt.alloc());
+    /// map.insert('x', 1)?;
+    /// if let Entry::Occupied(mut entry) = map.entry('x') {
+    ///     assert_eq!(rt; (*entry.key(), *entry.get()), ('x', 1));
+    ///     *entry.get_mut() = 2;
+    ///     assert_eq!(rt; entry.remove(), 2);
+    /// }
+    /// assert!(rt; map.is_empty());
+    /// ```
     pub fn get_mut(&mut self) -> &mut V
         ensures* writes_back { sem 𝓛 (lends_in_entry K.row V.row S.row S.Hasher.row K.Hash S.BuildHasher S.Hasher.Hasher self.entry result) }
         ensures value { result.now ≡ occupied_value self.old }
+        ensures valid { IsValid K.eq (occupied_map self.old) }
 
         // The entry, once a value is written.
         ensures key { (v : V) → occupied_key (with_occupied_value self.old v) ≡ occupied_key self.old }
@@ -41,25 +82,49 @@ impl<'a, K: Eq + Hash, V, S: BuildHasher> OccupiedEntry<'a, K, V, S> {
             ≡ record (occupied_map self.old) { pairs = set_value K.eq (occupied_map self.old).pairs (occupied_key self.old) v } }
         ensures to_visit { (v : V) → to_visit (occupied_map (with_occupied_value self.old v)) ≡ to_visit (occupied_map self.old) }
     {
-        let place = self.place;
-        self.map.value_mut_at(place)
+        let index = self.index;
+        self.map.value_mut_at(index)
     }
 
     /// Lends the value for writing, for as long as the map was lent.
     ///
-    /// What is written becomes the value of the pair. It takes no memory and leaves every place.
+    /// What is written becomes the value of the pair. It takes no memory and leaves the order.
+    ///
+    /// # Examples
+    ///
+    /// ```rust
+    /// let mut map = LinkedHashMap::new(rt.alloc());
+    /// map.insert('x', 1)?;
+    /// if let Entry::Occupied(entry) = map.entry('x') {
+    ///     *entry.into_mut() = 2;
+    /// }
+    /// assert_eq!(rt; map.get(&'x'), Some(&2));
+    /// ```
     pub fn into_mut(self) -> &'a mut V
         ensures* writes_back { sem 𝓛 (lends_occupied K.row V.row S.row S.Hasher.row K.Hash S.BuildHasher S.Hasher.Hasher self.entry result) }
         ensures value { result.now ≡ occupied_value self.entry }
-        ensures within { length (occupied_map self.entry).pairs ≤ (occupied_map self.entry).capacity }
+        ensures valid { IsValid K.eq (occupied_map self.entry) }
     {
-        let OccupiedEntry { map, place } = self;
-        map.value_mut_at(place)
+        let OccupiedEntry { map, index } = self;
+        map.value_mut_at(index)
     }
 
     /// Replaces the value, moves the pair to the back and returns the old value. The entry still stands for the pair.
     ///
-    /// It takes no memory, and the capacity stays.
+    /// All other pairs keep their order. It takes no memory, and the capacity stays. It costs at most a step for each pair. The
+    /// documentation of the original says only that the value is set; its code moves the pair too.
+    ///
+    /// # Examples
+    ///
+    /// ```rust
+    /// let mut map = LinkedHashMap::new(rt.alloc());
+    /// map.insert('x', 1)?;
+    /// map.insert('y', 2)?;
+    /// if let Entry::Occupied(mut entry) = map.entry('x') {
+    ///     assert_eq!(rt; entry.insert(3), 1);
+    /// }
+    /// assert_eq!(rt; map.back(), Some((&'x', &3)));
+    /// ```
     pub fn insert(&mut self, value: V) -> V
         ensures same_map { (occupied_map_ref self.new).ghost_name ≡ (occupied_map_ref self.old).ghost_name }
         ensures old { result ≡ occupied_value self.old }
@@ -69,16 +134,31 @@ impl<'a, K: Eq + Hash, V, S: BuildHasher> OccupiedEntry<'a, K, V, S> {
         ensures capacity { (occupied_map self.new).capacity ≡ (occupied_map self.old).capacity }
         ensures hasher { (occupied_map self.new).hasher ≡ (occupied_map self.old).hasher }
         ensures to_visit { to_visit (occupied_map self.new) ≡ to_visit (occupied_map self.old) }
+        ensures valid { IsValid K.eq (occupied_map self.old) }
+        ensures stays_valid { IsValid K.eq (occupied_map self.new) }
     {
-        let (key, old) = self.map.take_out(self.place);
-        self.place = self.map.len();
+        let (key, old) = self.map.take_out(self.index);
+        self.index = self.map.len();
         self.map.push_back(key, value);
         old
     }
 
     /// Takes the pair out of the map, drops the stored key and returns the value.
     ///
-    /// All other pairs keep their order. It takes no memory, and the capacity stays.
+    /// All other pairs keep their order. It takes no memory, and the capacity stays. It costs at most a step for each pair.
+    ///
+    /// # Examples
+    ///
+    /// ```rust
+    /// let mut map = LinkedHashMap::new(rt.alloc());
+    /// map.insert('x', 1)?;
+    /// if let Entry::Occupied(mut entry) = map.entry('x') {
+    ///     assert_eq!(rt; (*entry.key(), *entry.get()), ('x', 1));
+    ///     *entry.get_mut() = 2;
+    ///     assert_eq!(rt; entry.remove(), 2);
+    /// }
+    /// assert!(rt; map.is_empty());
+    /// ```
     pub fn remove(self) -> V
     where
         K: Drop,
@@ -87,9 +167,11 @@ impl<'a, K: Eq + Hash, V, S: BuildHasher> OccupiedEntry<'a, K, V, S> {
         ensures capacity { self.exit.0.now.capacity ≡ (occupied_map self.entry).capacity }
         ensures hasher { self.exit.0.now.hasher ≡ (occupied_map self.entry).hasher }
         ensures to_visit { to_visit self.exit.0.now ≡ to_visit (occupied_map self.entry) }
+        ensures valid { IsValid K.eq (occupied_map self.entry) }
+        ensures stays_valid { IsValid K.eq self.exit.0.now }
     {
-        let place = self.place;
-        let (_key, value) = self.map.take_out(place);
+        let index = self.index;
+        let (_key, value) = self.map.take_out(index);
         value
     }
 }

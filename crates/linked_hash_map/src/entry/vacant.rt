@@ -1,16 +1,29 @@
 //! The methods of `VacantEntry`.
-ghost use Rattle.std.specs.Prelude.{◌≡◌, length, IfOk, IfErr, OnErr};
+ghost use Rattle.std.specs.Prelude.{◌≡◌, length, None, IfOk, IfErr, OnErr};
 ghost use Rattle.std.specs.Borrow.{sem};
+ghost use Rattle.linked_hash_map.specs.Pairs.{find};
+ghost use Rattle.linked_hash_map.specs.Validity.{IsValid};
 ghost use Rattle.linked_hash_map.specs.Entry.{vacant_map, vacant_key, lends_pushed};
 
 use super::VacantEntry;
-use crate::map::Refused;
+use crate::error::Refused;
 use std::hash::{BuildHasher, Hash};
 
 impl<'a, K: Eq + Hash, V, S: BuildHasher> VacantEntry<'a, K, V, S> {
     /// Lends the key.
     ///
-    /// It takes no memory.
+    /// It takes no memory and leaves the order.
+    ///
+    /// # Examples
+    ///
+    /// ```rust
+    /// let mut map = LinkedHashMap::new(rt.alloc());
+    /// if let Entry::Vacant(entry) = map.entry('x') {
+    ///     assert_eq!(rt; *entry.key(), 'x');
+    ///     let lent = entry.insert(1)?;
+    ///     *lent = 2;
+    /// }
+    /// ```
     pub fn key(&self) -> &K
         ensures { result.now ≡ vacant_key self.now }
     {
@@ -19,16 +32,30 @@ impl<'a, K: Eq + Hash, V, S: BuildHasher> VacantEntry<'a, K, V, S> {
 
     /// Puts the pair of the key and the value at the back, and lends the value for writing.
     ///
-    /// What is written becomes the value of that pair. Below capacity it takes no memory and is never refused. At full
-    /// capacity it raises the capacity by exactly one, or is refused: then the error has the key and this value, and the map is
-    /// unchanged. The original answers no error.
+    /// What is written becomes the value of that pair. Below capacity it takes no memory and is never refused, and costs a
+    /// constant number of steps. At full capacity it raises the capacity by exactly one, which costs at most a step for each
+    /// pair, or is refused: then the error has the key and this value, and the map is unchanged. The original answers no error.
+    ///
+    /// # Examples
+    ///
+    /// ```rust
+    /// let mut map = LinkedHashMap::new(rt.alloc());
+    /// if let Entry::Vacant(entry) = map.entry('x') {
+    ///     assert_eq!(rt; *entry.key(), 'x');
+    ///     let lent = entry.insert(1)?;
+    ///     *lent = 2;
+    /// }
+    /// assert_eq!(rt; map.get(&'x'), Some(&2));
+    /// ```
     pub fn insert(self, value: V) -> Result<&'a mut V, Refused<K, V>>
         ensures* writes_back { sem 𝓛 (lends_pushed K.row V.row S.row S.Hasher.row K.Hash S.BuildHasher S.Hasher.Hasher self.entry result) }
         ensures value { IfOk result (λ lent. lent.now ≡ value) }
 
         ensures key_back { IfErr result (λ refused. refused.key ≡ vacant_key self.entry) }
         ensures value_back { IfErr result (λ refused. refused.value ≡ value) }
+        ensures absent { OnErr result (find K.eq (vacant_map self.entry).pairs (vacant_key self.entry) ≡ None) }
         ensures full { OnErr result (length (vacant_map self.entry).pairs ≡ (vacant_map self.entry).capacity) }
+        ensures valid { IsValid K.eq (vacant_map self.entry) }
     {
         let VacantEntry { map, key } = self;
         if !map.make_room() {

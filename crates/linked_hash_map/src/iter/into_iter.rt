@@ -1,4 +1,4 @@
-//! The walk that owns its pairs.
+//! The iterator that owns its pairs.
 ghost use Rattle.std.specs.Prelude.{◌≡◌, Some, IfSome, length, zip};
 ghost use Rattle.std.specs.Iterator.{at_most, UpTo};
 ghost use Rattle.std.specs.Iterator.SizeHint.{IsWithinCount};
@@ -12,15 +12,31 @@ use std::hash::{BuildHasher, Hash};
 use std::iter::FusedIterator;
 use std::marker::Model;
 
-/// An iterator that hands out the pairs of a map by value, from both ends. It is made by `into_iter`, or by a loop over the map.
+/// An iterator that hands out the pairs of a map by value, from both ends. It is made by `into_iter`, or by a loop over the
+/// map.
 ///
-/// Letting it go drops the pairs that are left. A step costs a constant number of steps and takes no memory.
+/// `next`, `next_back`, `len` and `size_hint` cost a constant number of steps and take no memory. Letting it go drops the
+/// pairs that are left, a step for each. Its calls ask for `K: Drop` and `V: Drop`, which those of the original do not.
+///
+/// # Examples
+///
+/// ```rust
+/// let mut map = LinkedHashMap::new(rt.alloc());
+/// map.insert('x', 1)?;
+/// map.insert('y', 2)?;
+/// let mut pairs = map.into_iter();
+/// assert_eq!(rt; pairs.next_back(), Some(('y', 2)));
+/// let mut rest = pairs.clone()?;
+/// assert_eq!(rt; rest.next(), Some(('x', 1)));
+/// assert_eq!(rt; (pairs.len(), rest.len()), (1, 0));
+/// ```
 #[derive(Drop)]
 pub struct IntoIter<K, V> {
     keys: VecDeque<K>,
     values: VecDeque<V>,
 }
 
+/// A contract sees the pairs that are left, in their order.
 impl<K, V> Model for IntoIter<K, V> {
     ghost use Rattle.std.specs.Prelude.{◌≡◌, List, length, zip};
 
@@ -44,6 +60,7 @@ impl<K, V> IntoIter<K, V> {
     }
 }
 
+/// `next` hands out the pair at the oldest place that is left; the size hint is exact.
 impl<K: Drop, V: Drop> Iterator for IntoIter<K, V> {
     type Item = (K, V);
 
@@ -66,6 +83,7 @@ impl<K: Drop, V: Drop> Iterator for IntoIter<K, V> {
     }
 }
 
+/// `next_back` hands out the pair at the newest place that is left.
 impl<K: Drop, V: Drop> DoubleEndedIterator for IntoIter<K, V> {
     ghost next_back_gives = { TakesLast (λ pair. pair) };
 
@@ -75,18 +93,21 @@ impl<K: Drop, V: Drop> DoubleEndedIterator for IntoIter<K, V> {
     }
 }
 
+/// `len` is the number of pairs that are left.
 impl<K: Drop, V: Drop> ExactSizeIterator for IntoIter<K, V> {
     fn len(&self) -> usize {
         self.values.len()
     }
 }
 
+/// Once no pair is left, `next` and `next_back` answer `None` for good.
 impl<K: Drop, V: Drop> FusedIterator for IntoIter<K, V> {}
 
 /// Clones what is left, which takes memory for it and for the clones of the keys and values, in the source's allocator.
 ///
 /// It is refused where a growth is, or the clone of a key or a value. What was cloned so far is dropped then, and the source
-/// stays as it was. With nothing left it takes no memory and is never refused. The original ends the program where memory is refused.
+/// stays as it was. With nothing left it takes no memory and is never refused. It costs a clone of each pair that is left. The
+/// original ends the program where memory is refused.
 impl<K: Clone, V: Clone> Clone for IntoIter<K, V> {
     ghost use Rattle.std.specs.Prelude.{[]};
 
@@ -109,17 +130,29 @@ impl<K: Clone, V: Clone> Clone for IntoIter<K, V> {
     }
 }
 
-/// A loop over the map itself, which drops the hasher. It takes no memory.
+/// A loop over the map itself, which drops the hasher. It takes no memory and costs a constant number of steps.
+///
+/// # Examples
+///
+/// ```rust
+/// let mut map = LinkedHashMap::new(rt.alloc());
+/// map.insert('x', 1)?;
+/// map.insert('y', 2)?;
+/// let mut last = None;
+/// for pair in map {
+///     last = Some(pair);
+/// }
+/// assert_eq!(rt; last, Some(('y', 2)));
+/// ```
 impl<K: Eq + Hash + Drop, V: Drop, S: BuildHasher + Drop> IntoIterator for LinkedHashMap<K, V, S> {
-    ghost use Rattle.std.specs.List.{IsDistinct};
-    ghost use Rattle.std.specs.Map.{keys_of};
     ghost use Rattle.std.specs.Map.Iter.{GivesInOrder, GivesInReverse};
+    ghost use Rattle.linked_hash_map.specs.Validity.{IsValid};
 
     type Item = (K, V);
 
     type IntoIter = IntoIter<K, V>;
 
-    ghost into_iter_gives = { λ map walk. (walk ≡ map.pairs) × IsDistinct K.eq (keys_of map.pairs) × GivesInOrder (K × V) × GivesInReverse (K × V) };
+    ghost into_iter_gives = { λ map walk. (walk ≡ map.pairs) × IsValid K.eq map × GivesInOrder (K × V) × GivesInReverse (K × V) };
 
     fn into_iter(self) -> IntoIter<K, V> {
         self.into_pairs()

@@ -1,4 +1,4 @@
-//! The walk that lends the values for writing.
+//! The iterator that lends the values for writing.
 ghost use Rattle.std.specs.Prelude.{◌≡◌, Some, IfSome, length, zip};
 ghost use Rattle.std.specs.Iterator.{at_most, UpTo};
 ghost use Rattle.std.specs.Iterator.SizeHint.{IsWithinCount};
@@ -13,7 +13,19 @@ use std::slice;
 /// An iterator over the pairs of a map, from both ends, that lends each value for writing. It is made by `iter_mut`, or by a
 /// loop over `&mut map`.
 ///
-/// A step costs a constant number of steps and takes no memory.
+/// What is written becomes the value of that pair. Each of its calls costs a constant number of steps and takes no memory.
+///
+/// # Examples
+///
+/// ```rust
+/// let mut map = LinkedHashMap::new(rt.alloc());
+/// map.insert('x', 1)?;
+/// let mut pairs = map.iter_mut();
+/// if let Some((_key, value)) = pairs.next() {
+///     *value = 3;
+/// }
+/// assert_eq!(rt; map.get(&'x'), Some(&3));
+/// ```
 #[derive(Drop)]
 pub struct IterMut<'a, K, V> {
     keys: slice::Iter<'a, K>,
@@ -37,6 +49,7 @@ impl<'a, K, V> IterMut<'a, K, V> {
     }
 }
 
+/// `next` lends the pair at the oldest place that is left; the size hint is exact.
 impl<'a, K, V> Iterator for IterMut<'a, K, V> {
     ghost use Rattle.linked_hash_map.specs.ValueWalks.{pairs_left};
 
@@ -61,6 +74,7 @@ impl<'a, K, V> Iterator for IterMut<'a, K, V> {
     }
 }
 
+/// `next_back` lends the pair at the newest place that is left.
 impl<'a, K, V> DoubleEndedIterator for IterMut<'a, K, V> {
     ghost use Rattle.linked_hash_map.specs.ValueWalks.{pairs_left};
 
@@ -72,33 +86,45 @@ impl<'a, K, V> DoubleEndedIterator for IterMut<'a, K, V> {
     }
 }
 
+/// `len` is the number of pairs that are left.
 impl<'a, K, V> ExactSizeIterator for IterMut<'a, K, V> {
     fn len(&self) -> usize {
         self.keys.len()
     }
 }
 
+/// Once no pair is left, `next` and `next_back` answer `None` for good.
 impl<'a, K, V> FusedIterator for IterMut<'a, K, V> {}
 
-/// A loop over `&mut map`, as over `iter_mut`. It takes no memory.
+/// A loop over `&mut map`, as over `iter_mut`. It takes no memory and leaves the keys and the order.
+///
+/// # Examples
+///
+/// ```rust
+/// let mut map = LinkedHashMap::new(rt.alloc());
+/// map.insert('x', 1)?;
+/// for (_key, value) in &mut map {
+///     *value = 3;
+/// }
+/// assert_eq!(rt; map.get(&'x'), Some(&3));
+/// ```
 impl<'a, K: Eq + Hash, V, S: BuildHasher> IntoIterator for &'a mut LinkedHashMap<K, V, S> {
     ghost use Rattle.std.specs.Borrow.{sem};
-    ghost use Rattle.std.specs.List.{IsDistinct};
-    ghost use Rattle.std.specs.Map.{keys_of};
     ghost use Rattle.linked_hash_map.specs.Lends.{lends_values};
     ghost use Rattle.linked_hash_map.specs.Pairs.{KeysStand};
+    ghost use Rattle.linked_hash_map.specs.Validity.{IsValid};
     ghost use Rattle.linked_hash_map.specs.ValueWalks.{pairs_left, loan_name};
 
     type Item = (&'a K, &'a mut V);
 
     type IntoIter = IterMut<'a, K, V>;
 
-    ghost into_iter_gives = { λ map walk. (pairs_left walk ≡ map.now.pairs) × IsDistinct K.eq (keys_of map.now.pairs) };
+    ghost into_iter_gives = { λ map walk. (pairs_left walk ≡ map.now.pairs) × IsValid K.eq map.now };
 
     fn into_iter(self) -> IterMut<'a, K, V>
         ensures* writes_back { sem 𝓛 (lends_values K.row V.row S.row S.Hasher.row K.Hash S.BuildHasher S.Hasher.Hasher self.entry (loan_name result)) }
         ensures keeps { KeysStand self.old.pairs }
-        ensures into_iter_gives { (pairs_left result ≡ self.old.pairs) × IsDistinct K.eq (keys_of self.old.pairs) }
+        ensures into_iter_gives { (pairs_left result ≡ self.old.pairs) × IsValid K.eq self.old }
     {
         self.iter_mut()
     }

@@ -1,4 +1,4 @@
-//! The walk over the keys.
+//! The iterator over the keys.
 ghost use Rattle.std.specs.Prelude.{◌≡◌, Some, IfSome, length, ⊤};
 ghost use Rattle.std.specs.Iterator.{at_most, UpTo};
 ghost use Rattle.std.specs.Iterator.SizeHint.{IsWithinCount};
@@ -12,12 +12,25 @@ use std::marker::Model;
 
 /// An iterator over the keys of a map, from both ends, in the order of their pairs. It is made by `keys`.
 ///
-/// A step costs a constant number of steps. A clone takes no memory and has the same keys left.
+/// Each of its calls costs a constant number of steps and takes no memory. A clone has the same keys left.
+///
+/// # Examples
+///
+/// ```rust
+/// let mut map = LinkedHashMap::new(rt.alloc());
+/// map.insert('x', 1)?;
+/// map.insert('y', 2)?;
+/// let mut keys = map.keys();
+/// assert_eq!(rt; keys.next(), Some(&'x'));
+/// assert_eq!(rt; keys.next(), Some(&'y'));
+/// assert_eq!(rt; keys.next(), None);
+/// ```
 #[derive(Drop)]
 pub struct Keys<'a, K, V> {
     pairs: Iter<'a, K, V>,
 }
 
+/// A contract sees the keys that are left, in their order.
 impl<'a, K, V> Model for Keys<'a, K, V> {
     ghost use Rattle.std.specs.Prelude.{List};
     ghost use Rattle.std.specs.Map.{keys_of};
@@ -36,6 +49,7 @@ impl<'a, K, V> Keys<'a, K, V> {
     }
 }
 
+/// `next` lends the key at the oldest place that is left; the size hint is exact.
 impl<'a, K, V> Iterator for Keys<'a, K, V> {
     type Item = &'a K;
 
@@ -57,6 +71,7 @@ impl<'a, K, V> Iterator for Keys<'a, K, V> {
     }
 }
 
+/// `next_back` lends the key at the newest place that is left.
 impl<'a, K, V> DoubleEndedIterator for Keys<'a, K, V> {
     ghost next_back_gives = { TakesLast deref };
 
@@ -66,14 +81,17 @@ impl<'a, K, V> DoubleEndedIterator for Keys<'a, K, V> {
     }
 }
 
+/// `len` is the number of keys that are left.
 impl<'a, K, V> ExactSizeIterator for Keys<'a, K, V> {
     fn len(&self) -> usize {
         self.pairs.len()
     }
 }
 
+/// Once no key is left, `next` and `next_back` answer `None` for good.
 impl<'a, K, V> FusedIterator for Keys<'a, K, V> {}
 
+/// A clone has the same keys left. It takes no memory and is never refused.
 impl<'a, K, V> Clone for Keys<'a, K, V> {
     ghost is_clone = { λ s t. t ≡ s };
 

@@ -1,4 +1,4 @@
-//! The walk over the values.
+//! The iterator over the values.
 ghost use Rattle.std.specs.Prelude.{◌≡◌, Some, IfSome, length, ⊤};
 ghost use Rattle.std.specs.Iterator.{at_most, UpTo};
 ghost use Rattle.std.specs.Iterator.SizeHint.{IsWithinCount};
@@ -12,12 +12,25 @@ use std::marker::Model;
 
 /// An iterator over the values of a map, from both ends, in the order of their pairs. It is made by `values`.
 ///
-/// A step costs a constant number of steps. A clone takes no memory and has the same values left.
+/// Each of its calls costs a constant number of steps and takes no memory. A clone has the same values left.
+///
+/// # Examples
+///
+/// ```rust
+/// let mut map = LinkedHashMap::new(rt.alloc());
+/// map.insert('x', 1)?;
+/// map.insert('y', 2)?;
+/// let mut values = map.values();
+/// assert_eq!(rt; values.next_back(), Some(&2));
+/// assert_eq!(rt; values.next_back(), Some(&1));
+/// assert_eq!(rt; values.next_back(), None);
+/// ```
 #[derive(Drop)]
 pub struct Values<'a, K, V> {
     pairs: Iter<'a, K, V>,
 }
 
+/// A contract sees the values that are left, in their order.
 impl<'a, K, V> Model for Values<'a, K, V> {
     ghost use Rattle.std.specs.Prelude.{List};
     ghost use Rattle.std.specs.Map.{values_of};
@@ -36,6 +49,7 @@ impl<'a, K, V> Values<'a, K, V> {
     }
 }
 
+/// `next` lends the value at the oldest place that is left; the size hint is exact.
 impl<'a, K, V> Iterator for Values<'a, K, V> {
     type Item = &'a V;
 
@@ -57,6 +71,7 @@ impl<'a, K, V> Iterator for Values<'a, K, V> {
     }
 }
 
+/// `next_back` lends the value at the newest place that is left.
 impl<'a, K, V> DoubleEndedIterator for Values<'a, K, V> {
     ghost next_back_gives = { TakesLast deref };
 
@@ -66,14 +81,17 @@ impl<'a, K, V> DoubleEndedIterator for Values<'a, K, V> {
     }
 }
 
+/// `len` is the number of values that are left.
 impl<'a, K, V> ExactSizeIterator for Values<'a, K, V> {
     fn len(&self) -> usize {
         self.pairs.len()
     }
 }
 
+/// Once no value is left, `next` and `next_back` answer `None` for good.
 impl<'a, K, V> FusedIterator for Values<'a, K, V> {}
 
+/// A clone has the same values left. It takes no memory and is never refused.
 impl<'a, K, V> Clone for Values<'a, K, V> {
     ghost is_clone = { λ s t. t ≡ s };
 

@@ -164,11 +164,21 @@ fn leaves_off_early(rt: HostRuntime) -> Result<(), Fail> {
 
 #[test]
 fn writes_in_an_entry(rt: HostRuntime) -> Result<(), Fail> {
-    let mut map = map_of(rt.alloc(), &[(1, 10), (3, 30), (2, 20)])?;
+    let mut map = LinkedHashMap::new(rt.alloc());
+    map.insert("a", 10)?;
+    map.insert("c", 30)?;
+    map.insert("b", 20)?;
     let mut cursor = map.entries();
-    *next_of(&rt, &mut cursor, 1).get_mut() = 17;
-    assert_eq!(rt; map.get(&1), Some(&17));
-    assert_pairs(&rt, &map, &[(1, 17), (3, 30), (2, 20)]);
+    let Some(mut entry) = cursor.next() else {
+        panic!(rt; "no entry");
+    };
+    assert_eq!(rt; *entry.key(), "a");
+    *entry.get_mut() = 17;
+    assert_eq!(rt; map.get(&"a"), Some(&17));
+    let mut keys = map.keys();
+    for key in [Some(&"a"), Some(&"c"), Some(&"b"), None] {
+        assert_eq!(rt; keys.next(), key);
+    }
     Ok(())
 }
 

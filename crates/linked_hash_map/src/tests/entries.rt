@@ -159,6 +159,11 @@ fn shows_the_key(rt: HostRuntime) -> Result<(), Fail> {
     assert!(rt; matches!(&entry, Entry::Vacant(_)));
     drop(entry);
     assert!(rt; map.is_empty());
+    let entry = map.entry("foo");
+    assert_eq!(rt; *entry.key(), "foo");
+    assert!(rt; matches!(&entry, Entry::Vacant(_)));
+    drop(entry);
+    assert!(rt; map.is_empty());
     map.insert("foo", 1)?;
     let entry = map.entry("foo");
     assert_eq!(rt; *entry.key(), "foo");

@@ -6,6 +6,7 @@ use super::{assert_pairs, map_of};
 use crate::LinkedHashMap;
 use std::alloc::{AllocError, Global};
 use std::fmt::Debug;
+use std::mem::forget;
 use std::process::Abort;
 use std::test::Fail;
 
@@ -165,6 +166,44 @@ fn shows_keys_and_values(rt: HostRuntime) -> Result<(), Fail> {
 }
 
 #[test]
+fn walks_over_keys_of_text(rt: HostRuntime) -> Result<(), Fail> {
+    let mut map = LinkedHashMap::new(rt.alloc());
+    map.insert("a", 10)?;
+    map.insert("c", 30)?;
+    map.insert("b", 20)?;
+    let mut pairs = map.iter();
+    assert_eq!(rt; pairs.next(), Some((&"a", &10)));
+    assert_eq!(rt; pairs.next(), Some((&"c", &30)));
+    assert_eq!(rt; pairs.next(), Some((&"b", &20)));
+    assert_eq!(rt; pairs.next(), None);
+    let Some((key, value)) = map.iter_mut().next() else {
+        panic!(rt; "the pair is gone");
+    };
+    assert_eq!(rt; *key, "a");
+    *value = 17;
+    assert_eq!(rt; map.get(&"a"), Some(&17));
+    Ok(())
+}
+
+#[test]
+fn clones_keys_and_values_half_way(rt: HostRuntime) -> Result<(), Fail> {
+    let map = map_of(rt.alloc(), &[(1, 10), (2, 20), (3, 30)])?;
+    let mut keys = map.keys();
+    let mut values = map.values();
+    assert_eq!(rt; (keys.next(), values.next_back()), (Some(&1), Some(&30)));
+    let mut keys_left = keys.clone()?;
+    let mut values_left = values.clone()?;
+    assert_eq!(rt; (keys_left.len(), values_left.len()), (2, 2));
+    for (key, value) in [(Some(&2), Some(&10)), (Some(&3), Some(&20)), (None, None)] {
+        assert_eq!(rt; (keys_left.next(), values_left.next()), (key, value));
+    }
+    for (key, value) in [(Some(&2), Some(&10)), (Some(&3), Some(&20)), (None, None)] {
+        assert_eq!(rt; (keys.next(), values.next()), (key, value));
+    }
+    Ok(())
+}
+
+#[test]
 fn clones_what_is_left(rt: HostRuntime) -> Result<(), Fail> {
     let mut pairs = map_of(rt.alloc(), &[(1, 10), (2, 20)])?.into_iter();
     assert_eq!(rt; pairs.next(), Some((1, 10)));
@@ -182,6 +221,24 @@ fn drains_and_keeps_the_capacity(rt: HostRuntime) -> Result<(), Fail> {
     let mut map = map_of(rt.alloc(), &[(1, 10), (2, 20), (3, 30)])?;
     assert_eq!(rt; map.drain().next_back(), Some((3, 30)));
     assert_eq!(rt; (map.len(), map.capacity()), (0, 3));
+    Ok(())
+}
+
+#[test]
+fn keeps_what_a_forgotten_drain_had_left(rt: HostRuntime) -> Result<(), Fail> {
+    let mut map = map_of(rt.alloc(), &[(1, 10), (2, 20), (3, 30)])?;
+    let mut pairs = map.drain();
+    assert_eq!(rt; pairs.next(), Some((1, 10)));
+    forget(pairs);
+    assert_eq!(rt; (map.len(), map.capacity()), (2, 3));
+    assert_eq!(rt;
+        (map.get(&1), map.get(&2), map.get(&3)),
+        (None, Some(&20), Some(&30))
+    );
+    // The map is as good as any other.
+    assert_eq!(rt; map.insert(1, 11)?, None);
+    assert_eq!(rt; (map.len(), map.capacity()), (3, 3));
+    assert_eq!(rt; map.back(), Some((&1, &11)));
     Ok(())
 }
 

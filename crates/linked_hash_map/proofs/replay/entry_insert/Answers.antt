@@ -1,5 +1,5 @@
 use Rattle.std.proofs.Common.{rules, ◌≡◌, ◌+◌, ◌++◌, ◌∷◌, [], max, length, cond, refl, sym, ap, ◌∙◌, arith, length-append, Some}
-use Rattle.linked_hash_map.specs.LinkedMap.{linked_map}
+use Rattle.linked_hash_map.specs.Changes.{pushed}
 use Rattle.linked_hash_map.specs.Pairs.{key_or, find, to_back}
 use Rattle.linked_hash_map.specs.Entry.{occupied_key}
 use Rattle.linked_hash_map.proofs.LiveKeys.{none_is}
@@ -20,9 +20,9 @@ returns-in-Occupied g c =
     ∙ entry.acts.moves c.args.value in
     let as_long : length left.pairs ≡ length m.pairs =
     ap length moved
-    ∙ length-to_back g.met.K.Eq.laws m.pairs c.args.key c.args.value entry.distinct
+    ∙ length-to_back g.met.K.Eq.laws m.pairs c.args.key c.args.value entry.valid.distinct
     ∙ ap (λ b. cond b (length m.pairs) (length m.pairs + 1)) (sym entry.occupied) in
-    let room : left.capacity ≡ max m.capacity (length left.pairs) = let same = done.capacity ∙ entry.capacity in omega (arith, entry.within) in
+    let room : left.capacity ≡ max m.capacity (length left.pairs) = let same = done.capacity ∙ entry.capacity in omega (arith, entry.valid.within) in
     Serves-same left (search rules)
     (record {
       answers = λ start log defines. HasValue-value g.met.K.Eq.laws defines c.args.key (sym entry.value ∙ ap Some (sym done.old));
@@ -41,15 +41,15 @@ returns-in-Ok g c =
     let kept = entry.unchanged refl in
     let absent = none_is (find eq m.pairs c.args.key) (sym entry.occupied) in
     let same_key : key ≡ c.args.key = entry.key ∙ ap (key_or c.args.key) absent in
-    let left = linked_map (held.pairs ++ (key, value) ∷ []) (max held.capacity (length held.pairs + 1)) held.hasher held.bookmark held.unvisited in
-    let pushed : left.pairs ≡ to_back eq m.pairs c.args.key c.args.value =
+    let left = pushed held key value in
+    let at_back : left.pairs ≡ to_back eq m.pairs c.args.key c.args.value =
     (λ i. entry.pairs i ++ (same_key i, c.in-Ok.ensures.value i) ∷ []) ∙ to_back-absent eq m.pairs c.args.key c.args.value absent in
     let room : left.capacity ≡ max m.capacity (length left.pairs) =
     let longer = length-append held.pairs ((key, value) ∷ []) in let same = entry.capacity in omega arith in
     Serves-same left (search rules)
     (record {
       answers = λ start log defines. IsAbsent-found g.met.K.Eq.laws defines c.args.key absent;
-      defines = λ start log defines. Defines-put g.met.K.Eq.laws defines c.args.key c.args.value pushed room;
+      defines = λ start log defines. Defines-put g.met.K.Eq.laws defines c.args.key c.args.value at_back room;
       hasher = entry.hasher;
     })
 

@@ -1,10 +1,10 @@
 use Rattle.std.proofs.Common.{rules, ◌≡◌, true, false, max, length, is_some, None, Some, option_map, sym, ap, ◌∙◌, arith, unwrap_or}
-use Rattle.linked_hash_map.specs.LinkedMap.{linked_map}
+use Rattle.linked_hash_map.specs.Changes.{set_or_pushed}
 use Rattle.linked_hash_map.specs.Pairs.{key_or, find, value_at, to_back, set_or_push}
 use Rattle.linked_hash_map.specs.Entry.{is_occupied, entry_map, entry_key}
 use Rattle.linked_hash_map.proofs.LiveKeys.{none_is}
 use Rattle.linked_hash_map.proofs.Pairs.{is_some-value_at, to_back-absent}
-use Rattle.linked_hash_map.proofs.Places.{set_value-own}
+use Rattle.linked_hash_map.proofs.Indexes.{set_value-own}
 use Rattle.linked_hash_map.proofs.EntryFacts.{some_unwrapped, set_or_push-present, set_or_push-absent}
 use Rattle.linked_hash_map.proofs.Effects.{IsFull-held, IsAbsent-found, IsAbsent-value, HasValue-value, Defines-put, Defines-nothing}
 use Rattle.linked_hash_map.proofs.Runs.{Serves-same}
@@ -23,14 +23,13 @@ returns-then-present g c =
     let there : is_some (find eq m.pairs k) ≡ true = sym entry.occupied ∙ occupied in
     let own : value_at eq m.pairs k ≡ Some value =
     some_unwrapped (value_at eq m.pairs k) c.args.value value (is_some-value_at eq m.pairs k ∙ there) (c.in-Ok.ensures.value ∙ ap (λ o. unwrap_or o c.args.value) entry.value) in
-    let pairs = set_or_push eq held.pairs key value in
-    let left = linked_map pairs (max held.capacity (length pairs)) held.hasher held.bookmark held.unvisited in
+    let left = set_or_pushed eq held key value in
     let kept : left.pairs ≡ m.pairs =
     ap (λ ps. set_or_push eq ps key value) entry.pairs
     ∙ entry.acts.sets_or_pushes value
     ∙ sym (set_or_push-present eq m.pairs k value there)
-    ∙ set_value-own g.met.K.Eq.laws k m.pairs value entry.distinct own in
-    let room : left.capacity ≡ m.capacity = let as_long = ap length kept in let same = entry.capacity in omega (arith, entry.within) in
+    ∙ set_value-own g.met.K.Eq.laws k m.pairs value entry.valid.distinct own in
+    let room : left.capacity ≡ m.capacity = let as_long = ap length kept in let same = entry.capacity in omega (arith, entry.valid.within) in
     Serves-same left (search rules)
     (record {
       answers = λ start log defines. (HasValue-value g.met.K.Eq.laws defines k own).0;
@@ -51,8 +50,7 @@ returns-else-present g c =
     let absent = none_is (find eq m.pairs k) (sym entry.occupied ∙ vacant) in
     let given : value ≡ c.args.value =
     c.in-Ok.ensures.value ∙ ap (λ o. unwrap_or o c.args.value) (entry.value ∙ ap (option_map (λ pair. pair.1)) absent) in
-    let pairs = set_or_push eq held.pairs key value in
-    let left = linked_map pairs (max held.capacity (length pairs)) held.hasher held.bookmark held.unvisited in
+    let left = set_or_pushed eq held key value in
     let pushed : left.pairs ≡ to_back eq m.pairs k c.args.value =
     ap (λ ps. set_or_push eq ps key value) entry.pairs
     ∙ entry.acts.sets_or_pushes value

@@ -6,8 +6,9 @@ use Rattle.linked_hash_map.proofs.replay.replay.Goals as goal
 pub loop-command-init : goal.loop-command-init
 loop-command-init g c = record {
   run = rw c.in-Ok.ensures.items tt;
-  defines = Defines-first_log g.met.K.Eq.laws c.args.map.now.pairs c.args.map.now.capacity c.allocator.ensures.distinct c.allocator.ensures.within;
+  defines = Defines-first_log g.met.K.Eq.laws c.args.map.now.pairs c.args.map.now.capacity c.allocator.ensures.valid.distinct c.allocator.ensures.valid.within;
   hasher = refl;
+  valid = c.allocator.ensures.valid;
   count = c.in-Ok.ensures.len;
   room = let exact = c.in-Ok.ensures.exact in let len = c.len.ensures in let of_commands = c.args.commands.ok.0 in omega arith;
 }
@@ -27,6 +28,7 @@ loop-command-preserved g c =
       run = rw c.push_reserved.ensures.items (IsRun-snoc eq start command reply first c.loop-command.yielded replies i.run (c.reply_to.ensures.reply start log i.defines));
       defines = rw (c.push_reserved.ensures.items, last) (c.reply_to.ensures.defines start log i.defines);
       hasher = c.reply_to.ensures.hasher ∙ i.hasher;
+      valid = c.reply_to.ensures.stays_valid;
       count = let l = length-append c.loop-command.yielded (command ∷ []) in let n = c.push_reserved.ensures.len in let k = i.count in omega arith;
       room = rw c.push_reserved.ensures.capacity i.room;
     }

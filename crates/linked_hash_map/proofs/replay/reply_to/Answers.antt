@@ -9,7 +9,7 @@ returns-clause-reply g c start log defines =
     record {
       allowed = record {
         answers = c.answer_to-answer.ensures.answers start log defines;
-        limit = rw after.same_capacity c.capacity.ensures.limit;
+        limit = rw after.same_capacity c.capacity.ensures.valid.limit;
       };
       len = c.len.ensures.len ∙ ap length (sym after.same_pairs) ∙ sym (size-pairs g.K.PartialEq.eq (log_after g.K.PartialEq.eq log c.args.command c.answer_to-answer.result));
       capacity = c.capacity.ensures.capacity ∙ sym after.same_capacity;

@@ -6,7 +6,7 @@ pub returns-in-Ok : goal.returns-in-Ok
 returns-in-Ok g c =
     let done = c.in-Ok.ensures in
     record {
-      answers = λ start log defines. let size_is = size-held g.met.K.Eq.laws defines in let within = done.within in omega arith;
+      answers = λ start log defines. let size_is = size-held g.met.K.Eq.laws defines in let limit = done.stays_valid.limit in let room = done.capacity in omega arith;
       defines = λ start log defines. Defines-reserve g.met.K.Eq.laws defines c.args.additional done.pairs done.capacity;
       hasher = done.hasher;
     }

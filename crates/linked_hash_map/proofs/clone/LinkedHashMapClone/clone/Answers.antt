@@ -6,17 +6,26 @@ pub loop-key-init : goal.loop-key-init
 loop-key-init g c =
     let made = c.in-Ok.ensures in
     let of_hasher = subst (λ s. g.S.Clone.is_clone s c.in-Ok.map.hasher) c.hasher.ensures (subst (g.S.Clone.is_clone c.hasher.result.now) (sym made.hasher) c.in_ok-hasher.ensures.cases) in
-    HasCloned-none (c.into_iter-key-iterator.ensures.into_iter_gives ∙ c.iter-key-items.ensures.pairs) made.pairs (made.capacity ∙ c.len.ensures.len) of_hasher
+    record {
+      cloned = HasCloned-none (c.into_iter-key-iterator.ensures.into_iter_gives ∙ c.iter-key-items.ensures.pairs) made.pairs (made.capacity ∙ c.len.ensures.len) of_hasher;
+      valid = made.valid;
+    }
 
 pub loop-key-preserved-in-Ok-insert : goal.loop-key-preserved-in-Ok-insert
 loop-key-preserved-in-Ok-insert g c =
     let put = c.in-Ok-insert.ensures in
-    HasCloned-put c.loop-key.invariant (c.in-Some.key.now, c.in-Some.value.now) c.in-Some.ensures.steps _ _ c.in_ok-key.ensures.cases c.in_ok-clone.ensures.cases put.pairs put.capacity put.hasher
+    record {
+      cloned = HasCloned-put c.loop-key.invariant.cloned (c.in-Some.key.now, c.in-Some.value.now) c.in-Some.ensures.steps _ _ c.in_ok-key.ensures.cases c.in_ok-clone.ensures.cases put.pairs put.capacity put.hasher;
+      valid = put.stays_valid;
+    }
 
 pub loop-key-preserved : goal.loop-key-preserved
 loop-key-preserved g c =
     let put = c.in-Ok-insert.ensures in
-    HasCloned-put c.loop-key.invariant (c.in-Some.key.now, c.in-Some.value.now) c.in-Some.ensures.steps _ _ c.in_ok-key.ensures.cases c.in_ok-clone.ensures.cases put.pairs put.capacity put.hasher
+    record {
+      cloned = HasCloned-put c.loop-key.invariant.cloned (c.in-Some.key.now, c.in-Some.value.now) c.in-Some.ensures.steps _ _ c.in_ok-key.ensures.cases c.in_ok-clone.ensures.cases put.pairs put.capacity put.hasher;
+      valid = put.stays_valid;
+    }
 
 pub returns : goal.returns
-returns g c = record { cases = IsClone-all g.met.K.Eq.laws c.iter-key-items.ensures.distinct c.loop-key.invariant c.in-None.ensures.steps.0 }
+returns g c = record { cases = IsClone-all g.met.K.Eq.laws c.iter-key-items.ensures.valid.distinct c.loop-key.invariant.valid c.loop-key.invariant.cloned c.in-None.ensures.steps.0 }

@@ -1,28 +1,18 @@
-use Rattle.std.proofs.Common.{rules, ◌≤◌, length, inl, refl, sym, subst}
+use Rattle.std.proofs.Common.{rules, inl, refl, sym, subst}
 use borrow.Follows.Closed.{read_of}
 use Rattle.std.specs.Borrow.{name_if_ok}
 use Rattle.std.proofs.lemmas.Result.{IfOk-weaker, IfErr-weaker}
-use Rattle.linked_hash_map.specs.LinkedMap.{linked_map}
 use Rattle.linked_hash_map.specs.Entry.{occupied_key}
-use Rattle.linked_hash_map.proofs.EntryFacts.{found-occupied, set_or_push-present, set_or_push-absent, room-present, room-absent, on_err}
+use Rattle.linked_hash_map.proofs.EntryFacts.{found-occupied, set_or_pushed-present, set_or_pushed-absent, on_err}
 use Rattle.linked_hash_map.proofs.entry.Entry.or_insert_with.Goals as goal
 
 pub returns-in-Occupied : goal.returns-in-Occupied
 returns-in-Occupied g c =
     let eq = g.K.PartialEq.eq in
     let o = c.in-Occupied.occupied in
-    let m = o.map.now in
-    let there = found-occupied o g.met.K.Eq.laws in
-    let within : length m.pairs ≤ m.capacity = search rules in
     rw c.in-Occupied.is (
-      (λ i. inl (
-        c.into_mut.result.ghost_name,
-        λ v. linked_map
-            (set_or_push-present eq m.pairs (occupied_key o) v there i)
-            (room-present eq m.pairs (occupied_key o) v m.capacity there within i)
-            m.hasher m.bookmark m.unvisited,
-      )),
-      record { writes_back = tt; value = search rules; key_back = tt; value_back = tt; absent = tt; full = tt },
+      (λ i. inl (c.into_mut.result.ghost_name, λ v. set_or_pushed-present eq o.map.now (occupied_key o) v (found-occupied o g.met.K.Eq.laws) c.into_mut.ensures.valid.within i)),
+      record { writes_back = tt; value = search rules; key_back = tt; value_back = tt; absent = tt; full = tt; valid = c.into_mut.ensures.valid },
     )
 
 pub returns : goal.returns
@@ -32,10 +22,7 @@ returns g c =
     let m = e.map.now in
     let r = c.insert.result in
     rw c.in-Vacant.is (
-      (λ i. read_of (name_if_ok (λ lent. lent.ghost_name) r) (λ v. linked_map
-          (set_or_push-absent eq m.pairs e.key v e.absent i)
-          (room-absent eq m.pairs e.key v m.capacity e.absent i)
-          m.hasher m.bookmark m.unvisited) m),
+      (λ i. read_of (name_if_ok (λ lent. lent.ghost_name) r) (λ v. set_or_pushed-absent eq m e.key v e.absent i) m),
       record {
         writes_back = tt;
         value = IfOk-weaker r _ (λ lent. goal.F-post g c.args.f lent.now) (λ lent h. subst (goal.F-post g c.args.f) (sym h) c.f-value.ensures) c.insert.ensures.value;
@@ -43,5 +30,6 @@ returns g c =
         value_back = IfErr-weaker r _ (λ refused. goal.F-post g c.args.f refused.value) (λ refused h. subst (goal.F-post g c.args.f) (sym h) c.f-value.ensures) c.insert.ensures.value_back;
         absent = on_err r refl;
         full = c.insert.ensures.full;
+        valid = c.insert.ensures.valid;
       },
     )

@@ -1,7 +1,7 @@
 use Rattle.std.proofs.Common.{◌∷◌, [], ◌++◌, sym, ap, ◌∙◌}
 use Rattle.linked_hash_map.specs.Pairs.{find}
-use Rattle.linked_hash_map.proofs.Places.{find-remove, to_back-place, slice_get-pushed}
-use Rattle.linked_hash_map.proofs.EntryFacts.{occupied_pair-is, IsPlace-occupied}
+use Rattle.linked_hash_map.proofs.Indexes.{find-remove, to_back-index, slice_get-pushed}
+use Rattle.linked_hash_map.proofs.EntryFacts.{occupied_pair-is, IsIndex-occupied}
 use Rattle.linked_hash_map.proofs.entry.OccupiedEntry.insert.Goals as goal
 
 pub push_back-requires-clause-absent : goal.push_back-requires-clause-absent
@@ -9,7 +9,7 @@ push_back-requires-clause-absent g c =
     let o = c.args.self.now in
     let taken = c.take_out-key in
     ap (λ pairs. find g.K.PartialEq.eq pairs taken.result.0) taken.ensures.pairs
-    ∙ find-remove g.met.K.Eq.laws o.map.now.pairs taken.ensures.distinct o.place taken.result taken.ensures.pair
+    ∙ find-remove g.met.K.Eq.laws o.map.now.pairs taken.ensures.valid.distinct o.index taken.result taken.ensures.pair
 
 pub returns-clause-old : goal.returns-clause-old
 returns-clause-old g c = ap (λ pair. pair.1) (occupied_pair-is c.args.self.now c.take_out-key.result c.take_out-key.ensures.pair)
@@ -34,4 +34,4 @@ returns-clause-pairs g c =
     let taken = c.take_out-key in
     c.push_back.ensures.pairs
     ∙ ap (λ pairs. pairs ++ (taken.result.0, c.args.value) ∷ []) taken.ensures.pairs
-    ∙ sym (to_back-place g.met.K.Eq.laws taken.ensures.distinct (IsPlace-occupied c.args.self.now g.met.K.Eq.laws) taken.ensures.pair c.args.value)
+    ∙ sym (to_back-index g.met.K.Eq.laws taken.ensures.valid.distinct (IsIndex-occupied c.args.self.now g.met.K.Eq.laws) taken.ensures.pair c.args.value)

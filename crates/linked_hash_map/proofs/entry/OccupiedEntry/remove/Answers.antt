@@ -1,6 +1,6 @@
 use Rattle.std.proofs.Common.{sym, ap, ◌∙◌}
-use Rattle.linked_hash_map.proofs.Places.{without-place}
-use Rattle.linked_hash_map.proofs.EntryFacts.{occupied_pair-is, IsPlace-occupied}
+use Rattle.linked_hash_map.proofs.Indexes.{without-index}
+use Rattle.linked_hash_map.proofs.EntryFacts.{occupied_pair-is, IsIndex-occupied}
 use Rattle.linked_hash_map.proofs.entry.OccupiedEntry.remove.Goals as goal
 
 pub returns-clause-value : goal.returns-clause-value
@@ -9,4 +9,4 @@ returns-clause-value g c = ap (λ pair. pair.1) (occupied_pair-is c.args.self c.
 pub returns-clause-pairs : goal.returns-clause-pairs
 returns-clause-pairs g c =
     let taken = c.take_out-key in
-    taken.ensures.pairs ∙ sym (without-place g.met.K.Eq.laws taken.ensures.distinct (IsPlace-occupied c.args.self g.met.K.Eq.laws))
+    taken.ensures.pairs ∙ sym (without-index g.met.K.Eq.laws taken.ensures.valid.distinct (IsIndex-occupied c.args.self g.met.K.Eq.laws))

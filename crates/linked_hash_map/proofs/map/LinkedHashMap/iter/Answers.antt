@@ -1,10 +1,10 @@
 use Rattle.std.specs.Map.Iter.{deref_pair}
-use Rattle.linked_hash_map.proofs.Columns.{distinct-columns}
+use Rattle.linked_hash_map.proofs.Columns.{valid-view}
 use Rattle.linked_hash_map.proofs.Walks.{shows_in_order, shows_in_reverse}
 use Rattle.linked_hash_map.proofs.map.LinkedHashMap.iter.Goals as goal
 
-pub returns-clause-distinct : goal.returns-clause-distinct
-returns-clause-distinct g c = rw (← c.self.view_is) (distinct-columns c.self.invariant)
+pub returns-clause-valid : goal.returns-clause-valid
+returns-clause-valid g c = valid-view c.self.invariant c.self.view_is
 
 pub returns-clause-runs : goal.returns-clause-runs
 returns-clause-runs g c = shows_in_order deref_pair

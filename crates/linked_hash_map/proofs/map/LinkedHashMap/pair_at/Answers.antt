@@ -18,5 +18,5 @@ pub returns : goal.returns
 returns g c =
     let m = c.self.inside in
     let of_pairs = length-view c.self.invariant c.self.view_is in
-    let within : c.args.place < length m.keys.items = omega arith in
-    rw (← c.self.view_is) (slice_get-zip m.keys.items m.values.items c.args.place c.index.result.now c.index-2.result.now c.self.invariant.paired within c.index.ensures c.index-2.ensures)
+    let within : c.args.index < length m.keys.items = omega arith in
+    rw (← c.self.view_is) (slice_get-zip m.keys.items m.values.items c.args.index c.index.result.now c.index-2.result.now c.self.invariant.paired within c.index.ensures c.index-2.ensures)

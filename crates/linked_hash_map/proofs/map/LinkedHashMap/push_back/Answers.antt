@@ -1,6 +1,6 @@
-use Rattle.std.proofs.Common.{◌<◌, length, ap, ◌∙◌, arith}
+use Rattle.std.proofs.Common.{◌<◌, length, refl, ap, ◌∙◌, arith}
 use Rattle.linked_hash_map.specs.Pairs.{find}
-use Rattle.linked_hash_map.proofs.Columns.{pairs-view, capacity-view, length-view, zip-push, AreColumns-push}
+use Rattle.linked_hash_map.proofs.Columns.{pairs-view, capacity-view, length-view, valid-view, zip-push, AreColumns-push}
 use Rattle.linked_hash_map.proofs.map.LinkedHashMap.push_back.Goals as goal
 
 pub push_reserved-requires : goal.push_reserved-requires
@@ -30,3 +30,12 @@ pub returns-clause-pairs : goal.returns-clause-pairs
 returns-clause-pairs g c =
     let m = c.self.inside in
     rw (← c.self.view_is, c.push_reserved.ensures.items, c.push_reserved-2.ensures.items) (zip-push m.keys.items m.values.items c.args.key c.args.value c.self.invariant.paired)
+
+pub returns-clause-stays_valid : goal.returns-clause-stays_valid
+returns-clause-stays_valid g c =
+    let m = c.self.inside in
+    let of_pairs = length-view c.self.invariant c.self.view_is in
+    let of_capacity = capacity-view c.self.invariant c.self.view_is in
+    let room : length m.keys.items < m.capacity = omega (arith, c.requires.room) in
+    rw (c.push_reserved.ensures.items, c.push_reserved-2.ensures.items)
+    (valid-view (AreColumns-push c.self.invariant g.met.K.Eq.laws c.args.key c.args.value (ap (λ pairs. find g.K.PartialEq.eq pairs c.args.key) (pairs-view c.self.invariant c.self.view_is) ∙ c.requires.absent) room) refl)

@@ -7,3 +7,6 @@ returns-clause-runs g c = shows_in_order deref
 
 pub returns-clause-runs_back : goal.returns-clause-runs_back
 returns-clause-runs_back g c = shows_in_reverse deref
+
+pub returns-clause-valid : goal.returns-clause-valid
+returns-clause-valid g c = c.iter.ensures.valid

@@ -1,7 +1,7 @@
 use Rattle.std.proofs.Common.{rules, ◌≡◌, ℕ, cond, Option, Some, None, is_some, unwrap_or, option_map, nat_eq, refl, ap, ap₂, ◌∙◌}
 use Rattle.linked_hash_map.specs.Pairs.{find, value_at, set_or_push, set_if_some}
 use Rattle.linked_hash_map.specs.Entry.{entry_map, entry_key, entry_value}
-use Rattle.linked_hash_map.proofs.Callers.{set_or_push-set_if_some, modified}
+use Rattle.linked_hash_map.proofs.Callers.Writes.{set_or_push-set_if_some, modified}
 use Rattle.linked_hash_map.proofs.tests.entries.five_or_seven.Goals as goal
 
 five_if_some : (o : Option (ℕ × ℕ)) → ◌≡◌ {A = ℕ} (unwrap_or (option_map (λ (v : ℕ). 5) (option_map (λ pair. pair.1) o)) 7) (cond (is_some o) 5 7)

@@ -1,0 +1,242 @@
+-- For callers: what a map has at a key after each call.
+use Rattle.std.proofs.Common.{◌≡◌, ◌-◌, Bool, true, false, cond, not, List, [], ◌∷◌, ◌++◌, length, take, drop, remove, slice_get, filter, Option, Some, None, is_some, option_map, refl, sym, ap, ◌∙◌, true≢false}
+use Rattle.std.specs.List.{IsDistinct}
+use Rattle.std.specs.Option.{option_or, IsSome}
+use Rattle.std.specs.Map.{lookup_entry, keys_of}
+use Rattle.std.specs.Cmp.{IsEquivalence}
+use Rattle.linked_hash_map.specs.Pairs.{key_or, find, value_at, without, to_back, set_value, set_or_push, set_if_some}
+use Rattle.linked_hash_map.proofs.Lists.{option_or_none}
+use Rattle.linked_hash_map.proofs.LiveKeys.{same_test, none_is}
+use Rattle.linked_hash_map.proofs.Effects.{remove-last}
+use Rattle.linked_hash_map.proofs.Indexes.{find-own, without-own}
+-- a key has a value exactly where it has a pair
+pub use Rattle.linked_hash_map.proofs.Pairs.{is_some-value_at}
+
+cond-none : {X : Type 0} (b : Bool) (x : Option X) → cond (not b) x None ≡ cond b None x
+cond-none true x = refl
+cond-none false x = refl
+
+option_map-cond : {X Y : Type 0} (f : X → Y) (b : Bool) (x y : Option X) → option_map f (cond b x y) ≡ cond b (option_map f x) (option_map f y)
+option_map-cond f true x y = refl
+option_map-cond f false x y = refl
+
+-- a look-up in two lists, one after the other
+pub lookup_entry-append : {K V : Type 0} (test : K → Bool) (pairs others : List (K × V)) → lookup_entry test (pairs ++ others) ≡ option_or (lookup_entry test pairs) (lookup_entry test others)
+lookup_entry-append test [] others = refl
+lookup_entry-append test (pair ∷ pairs) others = by_test (test pair.0) (lookup_entry-append test pairs others)
+  where
+    by_test : (b : Bool) → lookup_entry test (pairs ++ others) ≡ option_or (lookup_entry test pairs) (lookup_entry test others) → cond b (Some pair) (lookup_entry test (pairs ++ others)) ≡ option_or (cond b (Some pair) (lookup_entry test pairs)) (lookup_entry test others)
+    by_test true rest = refl
+    by_test false rest = rest
+
+-- a look-up among the pairs of which a test holds that answers b at each key that the look-up may find
+lookup_entry-filter : {K V : Type 0} (test kept : K → Bool) (b : Bool) → ((k : K) → test k ≡ true → kept k ≡ b) → (pairs : List (K × V)) → lookup_entry test (filter (λ pair. kept pair.0) pairs) ≡ cond b (lookup_entry test pairs) None
+lookup_entry-filter test kept true alike [] = refl
+lookup_entry-filter test kept false alike [] = refl
+lookup_entry-filter test kept b alike (pair ∷ pairs) = by_test (kept pair.0) (test pair.0) refl refl (lookup_entry-filter test kept b alike pairs)
+  where
+    some_kept : (c : Bool) → c ≡ b → lookup_entry test (filter (λ p. kept p.0) pairs) ≡ cond b (lookup_entry test pairs) None → test pair.0 ≡ true → lookup_entry test (cond c (pair ∷ filter (λ p. kept p.0) pairs) (filter (λ p. kept p.0) pairs)) ≡ cond b (Some pair) None
+    some_kept true same rest passes = ap (λ t. cond t (Some pair) (lookup_entry test (filter (λ p. kept p.0) pairs))) passes ∙ ap (λ c. cond c (Some pair) None) same
+    some_kept false same rest passes = rest ∙ ap (λ c. cond c (lookup_entry test pairs) None) (sym same) ∙ ap (λ c. cond c (Some pair) None) same
+
+    by_test : (c t : Bool) → kept pair.0 ≡ c → test pair.0 ≡ t → lookup_entry test (filter (λ p. kept p.0) pairs) ≡ cond b (lookup_entry test pairs) None → lookup_entry test (cond c (pair ∷ filter (λ p. kept p.0) pairs) (filter (λ p. kept p.0) pairs)) ≡ cond b (cond t (Some pair) (lookup_entry test pairs)) None
+    by_test c true is passes rest = some_kept c (sym is ∙ alike pair.0 passes) rest passes
+    by_test true false is passes rest = ap (λ t. cond t (Some pair) (lookup_entry test (filter (λ p. kept p.0) pairs))) passes ∙ rest
+    by_test false false is passes rest = rest
+
+remove-first : {X : Type 0} (xs : List X) → drop 1 xs ≡ remove xs 0
+remove-first [] = refl
+remove-first (x ∷ xs) = refl
+
+-- what is the same as a key tells it from another as that key does
+alike : {K : Type 0} {eq : K → K → Bool} → IsEquivalence eq → (k q j : K) → eq q j ≡ true → eq k j ≡ eq k q
+alike laws k q j same = laws.symm k j ∙ sym (laws.congr q j k same) ∙ laws.symm q k
+
+module _ {K V : Type 0} {eq : K → K → Bool} (laws : IsEquivalence eq) where
+  -- two names of one key find one pair, and one value
+  pub find-same : (pairs : List (K × V)) (j k : K) → eq j k ≡ true → find eq pairs j ≡ find eq pairs k
+  find-same pairs j k same = ap (λ test. lookup_entry test pairs) (same_test laws j k same)
+
+  pub value_at-same : (pairs : List (K × V)) (j k : K) → eq j k ≡ true → value_at eq pairs j ≡ value_at eq pairs k
+  value_at-same pairs j k same = ap (option_map (λ pair. pair.1)) (find-same pairs j k same)
+
+  -- the key of the pair that is found is the key asked for
+  pub eq-find : (pairs : List (K × V)) (k : K) (pair : K × V) → find eq pairs k ≡ Some pair → eq k pair.0 ≡ true
+  eq-find [] k pair found = absurd (true≢false (sym (ap is_some found)))
+  eq-find (first ∷ pairs) k pair found = by_test (eq k first.0) refl found (eq-find pairs k pair)
+    where
+      by_test : (b : Bool) → eq k first.0 ≡ b → cond b (Some first) (find eq pairs k) ≡ Some pair → (find eq pairs k ≡ Some pair → eq k pair.0 ≡ true) → eq k pair.0 ≡ true
+      by_test true same found rest = let first_is : first ≡ pair = cc in ap (λ (p : K × V). eq k p.0) (sym first_is) ∙ same
+      by_test false same found rest = rest found
+
+  eq-key_or : (k : K) (o : Option (K × V)) → ((pair : K × V) → o ≡ Some pair → eq k pair.0 ≡ true) → eq k (key_or k o) ≡ true
+  eq-key_or k None found = laws.refl k
+  eq-key_or k (Some pair) found = found pair refl
+
+  -- the stored key that a key has, or gets, is the same key
+  pub eq-stored : (pairs : List (K × V)) (k : K) → eq k (key_or k (find eq pairs k)) ≡ true
+  eq-stored pairs k = eq-key_or k (find eq pairs k) (eq-find pairs k)
+
+  -- after `remove`
+  pub find-without : (pairs : List (K × V)) (k q : K) → find eq (without eq pairs k) q ≡ cond (eq k q) None (find eq pairs q)
+  find-without pairs k q =
+      lookup_entry-filter (eq q) (λ j. not (eq k j)) (not (eq k q)) (λ j same. ap not (alike laws k q j same)) pairs
+      ∙ cond-none (eq k q) (find eq pairs q)
+
+  pushed : (q key : K) (v : V) (b : Bool) (o : Option (K × V)) → eq q key ≡ b → option_or (cond b None o) (lookup_entry (eq q) ((key, v) ∷ [])) ≡ cond b (Some (key, v)) o
+  pushed q key v true o same = ap (λ b. cond b (Some (key, v)) None) same
+  pushed q key v false o same = ap (λ b. option_or o (cond b (Some (key, v)) None)) same ∙ option_or_none o
+
+  -- after `insert`
+  pub find-to_back : (pairs : List (K × V)) (k : K) (v : V) (q : K) → find eq (to_back eq pairs k v) q ≡ cond (eq k q) (Some (key_or k (find eq pairs k), v)) (find eq pairs q)
+  find-to_back pairs k v q =
+      let key = key_or k (find eq pairs k) in
+      lookup_entry-append (eq q) (without eq pairs k) ((key, v) ∷ [])
+      ∙ ap (λ o. option_or o (lookup_entry (eq q) ((key, v) ∷ []))) (find-without pairs k q)
+      ∙ pushed q key v (eq k q) (find eq pairs q) (laws.symm q key ∙ sym (laws.congr k key q (eq-stored pairs k)))
+
+  -- after a value is written, as through `get_mut`
+  pub find-set_value : (pairs : List (K × V)) (k : K) (v : V) (q : K) → find eq (set_value eq pairs k v) q ≡ cond (eq k q) (option_map (λ pair. (pair.0, v)) (find eq pairs q)) (find eq pairs q)
+  find-set_value [] k v q = elim (eq k q) as (λ b. None ≡ cond {A = Option (K × V)} b None None) [ true ↦ refl | false ↦ refl ]
+  find-set_value (pair ∷ pairs) k v q = by_test (eq k pair.0) (eq q pair.0) refl refl (find-set_value pairs k v q)
+    where
+      set : Option (K × V) → Option (K × V)
+      set o = option_map (λ p. (p.0, v)) o
+
+      by_test : (b c : Bool) → eq k pair.0 ≡ b → eq q pair.0 ≡ c → find eq (set_value eq pairs k v) q ≡ cond (eq k q) (option_map (λ p. (p.0, v)) (find eq pairs q)) (find eq pairs q) → lookup_entry (eq q) (cond b (pair.0, v) pair ∷ set_value eq pairs k v) ≡ cond (eq k q) (option_map (λ p. (p.0, v)) (cond c (Some pair) (find eq pairs q))) (cond c (Some pair) (find eq pairs q))
+      by_test true true is passes rest =
+          ap (λ c. cond c (Some (pair.0, v)) (find eq (set_value eq pairs k v) q)) passes
+          ∙ sym (ap (λ b. cond b (Some (pair.0, v)) (Some pair)) (sym (alike laws k q pair.0 passes) ∙ is))
+      by_test true false is passes rest = ap (λ c. cond c (Some (pair.0, v)) (find eq (set_value eq pairs k v) q)) passes ∙ rest
+      by_test false true is passes rest =
+          ap (λ c. cond c (Some pair) (find eq (set_value eq pairs k v) q)) passes
+          ∙ sym (ap (λ b. cond b (Some (pair.0, v)) (Some pair)) (sym (alike laws k q pair.0 passes) ∙ is))
+      by_test false false is passes rest = ap (λ c. cond c (Some pair) (find eq (set_value eq pairs k v) q)) passes ∙ rest
+
+  -- after a value is written through what `or_insert` lends
+  pub find-set_or_push : (pairs : List (K × V)) (k : K) (v : V) (q : K) → find eq (set_or_push eq pairs k v) q ≡ cond (eq k q) (Some (key_or k (find eq pairs k), v)) (find eq pairs q)
+  find-set_or_push pairs k v q = by_pair (find eq pairs k) refl
+    where
+      present : (b : Bool) (pair : K × V) → eq k q ≡ b → find eq pairs k ≡ Some pair → cond b (option_map (λ p. (p.0, v)) (find eq pairs q)) (find eq pairs q) ≡ cond b (Some (pair.0, v)) (find eq pairs q)
+      present true pair same found = ap (option_map (λ p. (p.0, v))) (sym (find-same pairs k q same) ∙ found)
+      present false pair same found = refl
+
+      absent : (b : Bool) → eq k q ≡ b → find eq pairs k ≡ None → find eq pairs q ≡ cond b None (find eq pairs q)
+      absent true same none = sym (find-same pairs k q same) ∙ none
+      absent false same none = refl
+
+      by_pair : (o : Option (K × V)) → find eq pairs k ≡ o → lookup_entry (eq q) (cond (is_some o) (set_value eq pairs k v) (pairs ++ (k, v) ∷ [])) ≡ cond (eq k q) (Some (key_or k o, v)) (find eq pairs q)
+      by_pair None none =
+          lookup_entry-append (eq q) pairs ((k, v) ∷ [])
+          ∙ ap (λ o. option_or o (lookup_entry (eq q) ((k, v) ∷ []))) (absent (eq k q) refl none)
+          ∙ pushed q k v (eq k q) (find eq pairs q) (laws.symm q k)
+      by_pair (Some pair) found = find-set_value pairs k v q ∙ present (eq k q) pair refl found
+
+  -- the value that a key has after each of these
+  pub value_at-without : (pairs : List (K × V)) (k q : K) → value_at eq (without eq pairs k) q ≡ cond (eq k q) None (value_at eq pairs q)
+  value_at-without pairs k q = ap (option_map (λ pair. pair.1)) (find-without pairs k q) ∙ option_map-cond (λ pair. pair.1) (eq k q) None (find eq pairs q)
+
+  pub value_at-to_back : (pairs : List (K × V)) (k : K) (v : V) (q : K) → value_at eq (to_back eq pairs k v) q ≡ cond (eq k q) (Some v) (value_at eq pairs q)
+  value_at-to_back pairs k v q =
+      ap (option_map (λ pair. pair.1)) (find-to_back pairs k v q)
+      ∙ option_map-cond (λ pair. pair.1) (eq k q) (Some (key_or k (find eq pairs k), v)) (find eq pairs q)
+
+  pub value_at-set_value : (pairs : List (K × V)) (k : K) (v : V) (q : K) → value_at eq (set_value eq pairs k v) q ≡ cond (eq k q) (option_map (λ w. v) (value_at eq pairs q)) (value_at eq pairs q)
+  value_at-set_value pairs k v q =
+      ap (option_map (λ (pair : K × V). pair.1)) (find-set_value pairs k v q)
+      ∙ option_map-cond (λ (pair : K × V). pair.1) (eq k q) (option_map (λ pair. (pair.0, v)) (find eq pairs q)) (find eq pairs q)
+      ∙ ap (λ o. cond (eq k q) o (value_at eq pairs q)) (by_pair (find eq pairs q))
+    where
+      by_pair : (o : Option (K × V)) → option_map (λ (pair : K × V). pair.1) (option_map (λ pair. (pair.0, v)) o) ≡ option_map (λ w. v) (option_map (λ (pair : K × V). pair.1) o)
+      by_pair None = refl
+      by_pair (Some pair) = refl
+
+  pub value_at-set_or_push : (pairs : List (K × V)) (k : K) (v : V) (q : K) → value_at eq (set_or_push eq pairs k v) q ≡ cond (eq k q) (Some v) (value_at eq pairs q)
+  value_at-set_or_push pairs k v q =
+      ap (option_map (λ pair. pair.1)) (find-set_or_push pairs k v q)
+      ∙ option_map-cond (λ pair. pair.1) (eq k q) (Some (key_or k (find eq pairs k), v)) (find eq pairs q)
+
+  -- at the key of the call
+  module _ (pairs : List (K × V)) (k : K) where
+    pub value_at-without_here : value_at eq (without eq pairs k) k ≡ None
+    value_at-without_here = value_at-without pairs k k ∙ ap (λ b. cond b None (value_at eq pairs k)) (laws.refl k)
+
+    pub find-without_here : find eq (without eq pairs k) k ≡ None
+    find-without_here = find-without pairs k k ∙ ap (λ b. cond b None (find eq pairs k)) (laws.refl k)
+
+    pub value_at-to_back_here : (v : V) → value_at eq (to_back eq pairs k v) k ≡ Some v
+    value_at-to_back_here v = value_at-to_back pairs k v k ∙ ap (λ b. cond b (Some v) (value_at eq pairs k)) (laws.refl k)
+
+    -- of a key that is present
+    pub value_at-set_value_here : (v : V) → IsSome (find eq pairs k) → value_at eq (set_value eq pairs k v) k ≡ Some v
+    value_at-set_value_here v found =
+        value_at-set_value pairs k v k
+        ∙ ap (λ b. cond b (option_map (λ w. v) (value_at eq pairs k)) (value_at eq pairs k)) (laws.refl k)
+        ∙ by_pair (find eq pairs k) found
+      where
+        by_pair : (o : Option (K × V)) → is_some o ≡ true → option_map (λ w. v) (option_map (λ pair. pair.1) o) ≡ Some v
+        by_pair None found = absurd (true≢false (sym found))
+        by_pair (Some pair) found = refl
+
+    pub value_at-set_or_push_here : (v : V) → value_at eq (set_or_push eq pairs k v) k ≡ Some v
+    value_at-set_or_push_here v = value_at-set_or_push pairs k v k ∙ ap (λ b. cond b (Some v) (value_at eq pairs k)) (laws.refl k)
+
+    -- where there is a value to set exactly if the key has one, as after `and_modify`
+    pub value_at-set_if_some_here : (o : Option V) → is_some o ≡ is_some (find eq pairs k) → value_at eq (set_if_some eq pairs k o) k ≡ o
+    value_at-set_if_some_here None same = ap (option_map (λ pair. pair.1)) (none_is (find eq pairs k) (sym same))
+    value_at-set_if_some_here (Some v) same = value_at-set_value_here v (sym same)
+
+  -- at another key
+  module _ (pairs : List (K × V)) (k q : K) (apart : eq k q ≡ false) where
+    pub value_at-without_apart : value_at eq (without eq pairs k) q ≡ value_at eq pairs q
+    value_at-without_apart = value_at-without pairs k q ∙ ap (λ b. cond b None (value_at eq pairs q)) apart
+
+    pub find-without_apart : find eq (without eq pairs k) q ≡ find eq pairs q
+    find-without_apart = find-without pairs k q ∙ ap (λ b. cond b None (find eq pairs q)) apart
+
+    pub value_at-to_back_apart : (v : V) → value_at eq (to_back eq pairs k v) q ≡ value_at eq pairs q
+    value_at-to_back_apart v = value_at-to_back pairs k v q ∙ ap (λ b. cond b (Some v) (value_at eq pairs q)) apart
+
+    pub find-to_back_apart : (v : V) → find eq (to_back eq pairs k v) q ≡ find eq pairs q
+    find-to_back_apart v = find-to_back pairs k v q ∙ ap (λ b. cond b (Some (key_or k (find eq pairs k), v)) (find eq pairs q)) apart
+
+    pub value_at-set_value_apart : (v : V) → value_at eq (set_value eq pairs k v) q ≡ value_at eq pairs q
+    value_at-set_value_apart v = value_at-set_value pairs k v q ∙ ap (λ b. cond b (option_map (λ w. v) (value_at eq pairs q)) (value_at eq pairs q)) apart
+
+    pub find-set_value_apart : (v : V) → find eq (set_value eq pairs k v) q ≡ find eq pairs q
+    find-set_value_apart v = find-set_value pairs k v q ∙ ap (λ b. cond b (option_map (λ pair. (pair.0, v)) (find eq pairs q)) (find eq pairs q)) apart
+
+    pub value_at-set_or_push_apart : (v : V) → value_at eq (set_or_push eq pairs k v) q ≡ value_at eq pairs q
+    value_at-set_or_push_apart v = value_at-set_or_push pairs k v q ∙ ap (λ b. cond b (Some v) (value_at eq pairs q)) apart
+
+    pub find-set_or_push_apart : (v : V) → find eq (set_or_push eq pairs k v) q ≡ find eq pairs q
+    find-set_or_push_apart v = find-set_or_push pairs k v q ∙ ap (λ b. cond b (Some (key_or k (find eq pairs k), v)) (find eq pairs q)) apart
+
+    pub value_at-set_if_some_apart : (o : Option V) → value_at eq (set_if_some eq pairs k o) q ≡ value_at eq pairs q
+    value_at-set_if_some_apart None = refl
+    value_at-set_if_some_apart (Some v) = value_at-set_value_apart v
+
+  -- where the keys differ, a pop takes out what the first or the last key has, as `remove` of that key does
+  module _ (pairs : List (K × V)) (distinct : IsDistinct eq (keys_of pairs)) (pair : K × V) where
+    pub drop-first : slice_get pairs 0 ≡ Some pair → drop 1 pairs ≡ without eq pairs pair.0
+    drop-first there = remove-first pairs ∙ sym (without-own laws pairs distinct 0 pair there)
+
+    pub take-but_last : slice_get pairs (length pairs - 1) ≡ Some pair → take (length pairs - 1) pairs ≡ without eq pairs pair.0
+    take-but_last there = sym (remove-last pairs) ∙ sym (without-own laws pairs distinct (length pairs - 1) pair there)
+
+    pub value_at-drop_first : slice_get pairs 0 ≡ Some pair → (q : K) → value_at eq (drop 1 pairs) q ≡ cond (eq pair.0 q) None (value_at eq pairs q)
+    value_at-drop_first there q = ap (λ ps. value_at eq ps q) (drop-first there) ∙ value_at-without pairs pair.0 q
+
+    pub value_at-take_but_last : slice_get pairs (length pairs - 1) ≡ Some pair → (q : K) → value_at eq (take (length pairs - 1) pairs) q ≡ cond (eq pair.0 q) None (value_at eq pairs q)
+    value_at-take_but_last there q = ap (λ ps. value_at eq ps q) (take-but_last there) ∙ value_at-without pairs pair.0 q
+
+    -- with a new key in place of the oldest
+    pub value_at-to_back_drop : slice_get pairs 0 ≡ Some pair → (k : K) (v : V) (q : K) → value_at eq (to_back eq (drop 1 pairs) k v) q ≡ cond (eq k q) (Some v) (cond (eq pair.0 q) None (value_at eq pairs q))
+    value_at-to_back_drop there k v q = value_at-to_back (drop 1 pairs) k v q ∙ ap (cond (eq k q) (Some v)) (value_at-drop_first there q)
+
+    -- the first pair and the last are what their keys have
+    pub value_at-first : slice_get pairs 0 ≡ Some pair → value_at eq pairs pair.0 ≡ Some pair.1
+    value_at-first there = ap (option_map (λ p. p.1)) (find-own laws pairs distinct 0 pair there)
+
+    pub value_at-last : slice_get pairs (length pairs - 1) ≡ Some pair → value_at eq pairs pair.0 ≡ Some pair.1
+    value_at-last there = ap (option_map (λ p. p.1)) (find-own laws pairs distinct (length pairs - 1) pair there)

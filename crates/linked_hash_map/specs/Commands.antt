@@ -1,0 +1,109 @@
+-- What commands answer and leave where nothing is refused, in the words of single calls.
+use Rattle.std.specs.Prelude.{◌≡◌, ℕ, ◌+◌, ◌-◌, max, Bool, true, false, cond, nat_lt, List, [], ◌∷◌, take, drop, length, slice_get, Option, Some, None, is_some}
+use Rattle.linked_hash_map.specs.declared.map.TheConstants.{LIMIT}
+use Rattle.linked_hash_map.specs.Pairs.{find, value_at, without, to_back, set_value}
+use Rattle.linked_hash_map.specs.Inserts.{insert_each}
+use Rattle.linked_hash_map.specs.declared.replay.Command.{Command}
+use Rattle.linked_hash_map.specs.declared.replay.Command.TheVariants.{Insert, Write, Refresh, Remove, PopFront, PopBack, Clear, Drain, Extend, OrInsert, EntryInsert, EntryRemove, Reserve, Shrink}
+use Rattle.linked_hash_map.specs.declared.replay.Answer.{Answer}
+use Rattle.linked_hash_map.specs.declared.replay.Answer.TheVariants.{New, Old, Found, Missing, Absent, Refused, Pair, Empty, Pairs, Stopped, Done, TooLarge, NoRoom}
+use Rattle.linked_hash_map.specs.declared.replay.Reply.{Reply}
+
+module _ {K V : Type 0} where
+  -- the answer is that something was refused for want of memory
+  abbrev pub is_refusal : Answer K V → Bool
+  is_refusal (Refused k v) = true
+  is_refusal (Stopped n k v) = true
+  is_refusal NoRoom = true
+  is_refusal _ = false
+
+  -- the old value where there is one, and the pair where there is one
+  abbrev pub old_or : Answer K V → Option V → Answer K V
+  old_or otherwise None = otherwise
+  old_or otherwise (Some v) = Old v
+
+  abbrev pub pair_or_empty : Option (K × V) → Answer K V
+  pair_or_empty None = Empty
+  pair_or_empty (Some pair) = Pair pair.0 pair.1
+
+-- a key is absent, and there is no room for it
+pub record FindsNoRoom {K V : Type 0} (eq : K → K → Bool) (pairs : List (K × V)) (capacity : ℕ) (k : K) : Type 0 where
+  pub absent : find eq pairs k ≡ None
+  pub full : length pairs ≡ capacity
+
+-- an extension stops: the first n items went in, and the next, of k and v, found no room
+pub record StopsAt {K V : Type 0} (eq : K → K → Bool) (pairs : List (K × V)) (capacity : ℕ) (items : List (K × V)) (n : ℕ) (k : K) (v : V) : Type 0 where
+  pub next : slice_get items n ≡ Some (k, v)
+  pub refused : FindsNoRoom eq (insert_each eq pairs (take n items)) (max capacity (length (insert_each eq pairs (take n items)))) k
+
+module _ {K V : Type 0} (eq : K → K → Bool) where
+  -- the pairs, with that of k at the back where there is a value for it
+  abbrev pub to_back_if_some : List (K × V) → K → Option V → List (K × V)
+  to_back_if_some pairs k None = pairs
+  to_back_if_some pairs k (Some v) = to_back eq pairs k v
+
+  -- what a command answers on these pairs
+  abbrev pub answer_to : List (K × V) → Command K V → Answer K V
+  answer_to pairs (Insert k v) = old_or New (value_at eq pairs k)
+  answer_to pairs (Write k v) = old_or (Absent k v) (value_at eq pairs k)
+  answer_to pairs (Refresh k) = cond (is_some (find eq pairs k)) Found Missing
+  answer_to pairs (Remove k) = old_or Missing (value_at eq pairs k)
+  answer_to pairs PopFront = pair_or_empty (slice_get pairs 0)
+  answer_to pairs PopBack = pair_or_empty (slice_get pairs (length pairs - 1))
+  answer_to pairs Clear = Done
+  answer_to pairs Drain = Pairs pairs
+  answer_to pairs (Extend items) = Done
+  answer_to pairs (OrInsert k v) = cond (is_some (find eq pairs k)) Found New
+  answer_to pairs (EntryInsert k v) = old_or New (value_at eq pairs k)
+  answer_to pairs (EntryRemove k) = old_or Missing (value_at eq pairs k)
+  answer_to pairs (Reserve additional) = cond (nat_lt LIMIT (length pairs + additional)) TooLarge Done
+  answer_to pairs Shrink = Done
+
+  -- the pairs after it
+  abbrev pub pairs_after : List (K × V) → Command K V → List (K × V)
+  pairs_after pairs (Insert k v) = to_back eq pairs k v
+  pairs_after pairs (Write k v) = set_value eq pairs k v
+  pairs_after pairs (Refresh k) = to_back_if_some pairs k (value_at eq pairs k)
+  pairs_after pairs (Remove k) = without eq pairs k
+  pairs_after pairs PopFront = drop 1 pairs
+  pairs_after pairs PopBack = take (length pairs - 1) pairs
+  pairs_after pairs Clear = []
+  pairs_after pairs Drain = []
+  pairs_after pairs (Extend items) = insert_each eq pairs items
+  pairs_after pairs (OrInsert k v) = cond (is_some (find eq pairs k)) pairs (to_back eq pairs k v)
+  pairs_after pairs (EntryInsert k v) = to_back eq pairs k v
+  pairs_after pairs (EntryRemove k) = without eq pairs k
+  pairs_after pairs (Reserve additional) = pairs
+  pairs_after pairs Shrink = pairs
+
+  -- and the capacity
+  abbrev pub capacity_after : ℕ → List (K × V) → Command K V → ℕ
+  capacity_after capacity pairs (Insert k v) = max capacity (length (to_back eq pairs k v))
+  capacity_after capacity pairs (Extend items) = max capacity (length (insert_each eq pairs items))
+  capacity_after capacity pairs (OrInsert k v) = max capacity (length (cond (is_some (find eq pairs k)) pairs (to_back eq pairs k v)))
+  capacity_after capacity pairs (EntryInsert k v) = max capacity (length (to_back eq pairs k v))
+  capacity_after capacity pairs (Reserve additional) = cond (nat_lt LIMIT (length pairs + additional)) capacity (max capacity (length pairs + additional))
+  capacity_after capacity pairs Shrink = length pairs
+  capacity_after capacity pairs _ = capacity
+
+  -- the reply to it
+  abbrev pub reply_to : ℕ → List (K × V) → Command K V → Reply K V
+  reply_to capacity pairs command = record {
+    answer = answer_to pairs command;
+    len = length (pairs_after pairs command);
+    capacity = capacity_after capacity pairs command;
+  }
+
+  -- after commands in turn: the replies, the pairs and the capacity
+  abbrev pub replies_to : ℕ → List (K × V) → List (Command K V) → List (Reply K V)
+  replies_to capacity pairs [] = []
+  replies_to capacity pairs (command ∷ commands) =
+      reply_to capacity pairs command ∷ replies_to (capacity_after capacity pairs command) (pairs_after pairs command) commands
+
+  abbrev pub pairs_after_all : List (K × V) → List (Command K V) → List (K × V)
+  pairs_after_all pairs [] = pairs
+  pairs_after_all pairs (command ∷ commands) = pairs_after_all (pairs_after pairs command) commands
+
+  abbrev pub capacity_after_all : ℕ → List (K × V) → List (Command K V) → ℕ
+  capacity_after_all capacity pairs [] = capacity
+  capacity_after_all capacity pairs (command ∷ commands) = capacity_after_all (capacity_after capacity pairs command) (pairs_after pairs command) commands

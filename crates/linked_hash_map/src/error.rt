@@ -1,0 +1,61 @@
+//! The errors of calls that take memory.
+
+/// The error of an insertion that found no room: the key and the value that were to go in.
+///
+/// The map is then as it was, so the pair can be put in later, or elsewhere. The original ends the program for want of
+/// memory.
+///
+/// # Examples
+///
+/// ```rust
+/// let mut map = LinkedHashMap::new(rt.alloc());
+/// if let Err(refused) = map.insert('x', 1) {
+///     assert_eq!(rt; (refused.key, refused.value), ('x', 1));
+///     assert!(rt; map.is_empty());
+/// }
+/// ```
+#[derive(Debug, PartialEq, Drop)]
+pub struct Refused<K, V> {
+    /// The key that was handed in.
+    pub key: K,
+    /// The value that was handed in, or that was made for it.
+    pub value: V,
+}
+
+/// The error of a call that reserves room.
+///
+/// The original panics or ends the program instead.
+///
+/// # Examples
+///
+/// ```rust
+/// use linked_hash_map::{LIMIT, LinkedHashMap, ReserveError};
+///
+/// let mut map: LinkedHashMap<char, u64> = LinkedHashMap::new(rt.alloc());
+/// assert_eq!(rt; map.reserve(LIMIT + 1), Err(ReserveError::TooLarge));
+/// assert_eq!(rt; map.reserve(LIMIT), Err(ReserveError::NoRoom));
+/// assert_eq!(rt; map.capacity(), 0);
+/// ```
+#[derive(Debug, PartialEq, Drop)]
+pub enum ReserveError {
+    /// The capacity would be above [`LIMIT`](crate::LIMIT).
+    TooLarge = 1,
+    /// A growth was refused.
+    NoRoom = 2,
+}
+
+/// The error of a call whose growth was refused. It is that of `shrink_to_fit`, which may need a smaller block.
+///
+/// # Examples
+///
+/// ```rust
+/// use linked_hash_map::NoRoom;
+///
+/// let mut map = LinkedHashMap::new(rt.alloc());
+/// map.insert('x', 1)?;
+/// map.reserve(4)?;
+/// let shrunk: Result<(), NoRoom> = map.shrink_to_fit();
+/// assert_eq!(rt; shrunk, Ok(()));
+/// ```
+#[derive(Debug, PartialEq, Drop)]
+pub struct NoRoom;
