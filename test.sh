@@ -1,38 +1,107 @@
 #!/bin/sh
-# Passes every proof and test of the repository.
+# Passes every proof and test of the repository, and says how many seconds each part took.
 #
-# First the tests whose names begin with refused_ run with the Nth request for memory refused, for N = 1, 2, .., each test
-# in a process of its own, until all of a crate's say that every growth was given. Then comes the gate, `rt ci`, whose last
-# line says how it ended.
+# First the README's example is compared with the one that the gate proves. Then the tests whose names begin with refused_
+# run with the Nth request for memory refused, for N = 1, 2, .., each test in a process of its own, until all of a crate's
+# say that every growth was given. Then comes the gate, `rt ci`. At last the program that it built runs on inputs that it
+# stops at, and what it tells on standard error is compared, which the gate does not do. The last line is that of the gate.
 set -u
 cd "$(dirname "$0")" || exit 2
-log=$(mktemp) || exit 2
-trap 'rm -f "$log"' EXIT
+work=$(mktemp -d) || exit 2
+trap 'rm -rf "$work"' EXIT
+processors=$(getconf _NPROCESSORS_ONLN) || processors=1
 
+# Prints what a part was, and the seconds since it began.
+say_time() {
+    echo "$1: $(($(date +%s) - $2)) s"
+}
+
+# Runs a crate's tests with the Nth growth refused, and keeps what they say and how they ended.
+refuse_growth() {
+    (cd "crates/$1" && rt try --test --fail-alloc "$2" -- refused_) >"$work/$2" 2>&1
+    echo $? >"$work/$2.status"
+}
+
+# Refuses each growth of a crate's tests in turn. Each number of a growth takes a build of its own, so as many run side by
+# side as there are processors.
 refuse_each_growth() {
     crate=$1
-    tests=$(cat $(find crates/"$crate"/src -name '*.rt') | grep -c '^ *fn refused_')
-    growth=1
-    while :; do
-        if ! (cd "crates/$crate" && rt try --test --fail-alloc "$growth" -- refused_) >"$log" 2>&1; then
-            cat "$log"
-            echo "$crate: a test failed with growth $growth refused"
-            exit 1
-        fi
-        [ "$(grep -c 'every growth was given' "$log")" -lt "$tests" ] || break
-        growth=$((growth + 1))
-        if [ "$growth" -gt 100 ]; then
-            echo "$crate: a test never says that every growth was given"
-            exit 1
-        fi
+    tests=$(find "crates/$crate/src" -name '*.rt' -exec cat {} + | grep -c '^ *fn refused_')
+    first=1
+    while [ "$first" -le 100 ]; do
+        last=$((first + processors - 1))
+        for growth in $(seq "$first" "$last"); do
+            refuse_growth "$crate" "$growth" &
+        done
+        wait
+        for growth in $(seq "$first" "$last"); do
+            if [ "$(cat "$work/$growth.status")" != 0 ]; then
+                cat "$work/$growth"
+                echo "$crate: a test failed with growth $growth refused"
+                exit 1
+            fi
+            if [ "$(grep -c 'every growth was given' "$work/$growth")" -ge "$tests" ]; then
+                echo "$crate: $tests tests hold with each of $((growth - 1)) growths refused"
+                return
+            fi
+        done
+        first=$((last + 1))
     done
-    echo "$crate: $tests tests hold with each of $((growth - 1)) growths refused"
+    echo "$crate: a test never says that every growth was given"
+    exit 1
 }
+
+# Compares a run of the program that stops with what is wanted: its status, no output, and one line on standard error.
+expect_stop() {
+    what=$1 wanted=$2 fault=$3 status=$4
+    if [ "$status" != "$wanted" ] || [ -s "$work/output" ] || [ "$(cat "$work/faults")" != "$fault" ]; then
+        echo "lhm, $what: status $status, $(wc -c <"$work/output") bytes of output, and this on standard error:"
+        cat "$work/faults"
+        echo "wanted: status $wanted, no output, and: $fault"
+        exit 1
+    fi
+}
+
+# Runs the built program where a line is no command, without memory for its input, and where reading and writing fail.
+run_the_program() {
+    program=crates/lhm/out/lhm
+    printf 'insert 1 10\n\ninsert 1\n' | "$program" >"$work/output" 2>"$work/faults"
+    expect_stop 'a line that is no command' 2 'line 3: not a command' $?
+    head -c 67108864 /dev/zero | tr '\0' '\n' | (ulimit -v 32768 && "$program") >"$work/output" 2>"$work/faults"
+    expect_stop 'more input than memory' 3 'out of memory' $?
+    "$program" <crates >"$work/output" 2>"$work/faults"
+    expect_stop 'an input that cannot be read' 4 'input failed' $?
+    : >"$work/output"
+    "$program" </dev/null >/dev/full 2>"$work/faults"
+    expect_stop 'an output that cannot be written' 4 'output failed' $?
+    echo "lhm: the built program stops as it should"
+}
+
+# Prints the function `example` of a file.
+example_of() {
+    sed -n '/^fn example(/,/^}/p' "$1"
+}
+
+if [ "$(example_of README.md)" != "$(example_of crates/linked_hash_map/src/tests/readme.rt)" ]; then
+    echo "the README's example is not the one in crates/linked_hash_map/src/tests/readme.rt"
+    exit 1
+fi
 
 for crate in crates/*; do
     if grep -rq '^ *fn refused_' "$crate"/src; then
+        began=$(date +%s)
         refuse_each_growth "$(basename "$crate")"
+        say_time "refused growths of $(basename "$crate")" "$began"
     fi
 done
 
-exec rt ci
+began=$(date +%s)
+{
+    rt ci
+    echo $? >"$work/gate.status"
+} | tee "$work/gate"
+say_time "the gate" "$began"
+
+[ "$(cat "$work/gate.status")" != 0 ] || run_the_program
+tail -n 1 "$work/gate"
+exit "$(cat "$work/gate.status")"

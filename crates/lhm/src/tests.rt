@@ -43,7 +43,8 @@ impl Read for Source<'_> {
     }
 }
 
-/// A writer into a fixed buffer that takes at most `most` bytes at once and fails at call `fails_at`.
+/// A writer into a fixed buffer that takes at most `most` bytes at once and fails at call `fails_at`, and at a flush where
+/// `flush_fails`.
 #[derive(Drop)]
 struct Sink {
     buffer: [u8; 256],
@@ -51,6 +52,7 @@ struct Sink {
     most: usize,
     calls: usize,
     fails_at: usize,
+    flush_fails: bool,
 }
 
 impl Sink {
@@ -61,6 +63,7 @@ impl Sink {
             most: 7,
             calls: 0,
             fails_at: NEVER,
+            flush_fails: false,
         }
     }
 
@@ -86,6 +89,9 @@ impl Write for Sink {
     }
 
     fn flush(&mut self) -> io::Result<()> {
+        if self.flush_fails {
+            return Err(io::Error::other("refused"));
+        }
         Ok(())
     }
 }
@@ -103,7 +109,7 @@ fn check_run(rt: &impl Abort, alloc: Global, input: &[u8], status: u8, output: &
 
 #[test]
 fn runs_done(rt: HostRuntime) {
-    let rows: [(&str, &str); 23] = [
+    let rows: [(&str, &str); 24] = [
         ("", "list\n"),
         (
             "insert 2 20\ninsert 1 10\ninsert 3 30\n",
@@ -136,6 +142,10 @@ fn runs_done(rt: HostRuntime) {
         (
             "insert 1 1\ninsert 2 2\npopback\nclear\ninsert 3 3\n",
             "new len=1 cap=1\nnew len=2 cap=2\npair 2 2 len=1 cap=2\ndone len=0 cap=2\nnew len=1 cap=2\nlist 3:3\n",
+        ),
+        (
+            "insert 1 1\ninsert 2 2\nclear\n",
+            "new len=1 cap=1\nnew len=2 cap=2\ndone len=0 cap=2\nlist\n",
         ),
         (
             "insert 1 10\ninsert 2 20\nwrite 1 5\nwrite 9 0\neput 1 6\n",
@@ -300,6 +310,18 @@ fn writes_that_fail(rt: HostRuntime) {
             assert_eq!(rt; status, 0, "at write {fails_at}");
         }
     }
+}
+
+#[test]
+fn a_flush_that_fails(rt: HostRuntime) {
+    let mut reader = Source::new(b"insert 1 10\n");
+    let mut output = Sink::new();
+    output.flush_fails = true;
+    let mut faults = Sink::new();
+    let status = run(rt.alloc(), &mut reader, &mut output, &mut faults);
+    assert_eq!(rt; status, 4);
+    assert!(rt; output.text() == b"new len=1 cap=1\nlist 1:10\n".as_slice());
+    assert!(rt; faults.text() == b"output failed\n".as_slice());
 }
 
 #[test]
