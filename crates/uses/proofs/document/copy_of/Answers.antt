@@ -1,0 +1,6 @@
+use Rattle.std.specs.Cmp.{nat_eq_equiv}
+use Rattle.linked_hash_map.proofs.Callers.Equality.{pairs-clone}
+use Rattle.uses.proofs.document.copy_of.Goals as goal
+
+pub returns : goal.returns
+returns c = pairs-clone nat_eq_equiv (λ k clone is. is) (λ v clone is. is) c.in_ok-fields.ensures.cases

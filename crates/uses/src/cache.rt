@@ -1,0 +1,86 @@
+//! A cache of a fixed size, which gives up the pair that was used least recently.
+ghost use Rattle.std.specs.Prelude.{◌≡◌, ◌==◌, ◌&&◌, ◌<◌, ◌≤◌, [], ◌∷◌, ◌++◌, Some, None, IsNone, not, length, is_some, IfOk, IfSome, IsSome, IsErrOf, ◌↔◌};
+ghost use Rattle.std.specs.Borrow.{sem};
+ghost use Rattle.std.specs.Option.{option_copied_mut};
+ghost use Rattle.linked_hash_map.specs.Pairs.{find, value_at, to_back, first, without_first};
+ghost use Rattle.linked_hash_map.specs.Validity.{IsValid};
+
+use linked_hash_map::{LIMIT, LinkedHashMap, ReserveError};
+use std::alloc::Global;
+use std::hash::Hash;
+
+/// A cache of a fixed size. Its pairs stand in the order of their last use, the one used least recently first.
+#[derive(Drop)]
+pub struct Cache<K: Eq + Hash, V> {
+    map: LinkedHashMap<K, V>,
+}
+
+impl<K: Eq + Hash, V> Cache<K, V> {
+    ghost use Rattle.uses.specs.Lending.{lends_recent};
+
+    /// Makes an empty cache for `size` pairs. All memory that it will ever have is taken here.
+    pub fn new(alloc: Global, size: usize) -> Result<Self, ReserveError>
+        ensures empty { IfOk result (λ cache. cache.map.pairs ≡ []) }
+        ensures size { IfOk result (λ cache. cache.map.capacity ≡ size) }
+        ensures too_large { IsErrOf result ReserveError.TooLarge ↔ (LIMIT < size) }
+    {
+        let map = LinkedHashMap::with_capacity(alloc, size)?;
+        Ok(Cache { map })
+    }
+
+    /// Returns the number of pairs.
+    pub fn len(&self) -> usize
+        ensures len { result ≡ length self.now.map.pairs }
+        ensures within { result ≤ self.now.map.capacity }
+    {
+        self.map.len()
+    }
+
+    /// Puts a pair in as the one used last. It never fails. Where the key is new and the cache is full, the pair used least
+    /// recently leaves, and is returned.
+    pub fn put(&mut self, key: K, value: V) -> Option<(K, V)>
+    where
+        K: Drop,
+        V: Drop,
+        requires room { 0 < self.old.map.capacity }
+        ensures stored { value_at K.eq self.new.map.pairs key ≡ Some value }
+        ensures size { self.new.map.capacity ≡ self.old.map.capacity }
+
+        ensures evicts { is_some result ≡ not (is_some (find K.eq self.old.map.pairs key)) && (length self.old.map.pairs == self.old.map.capacity) }
+        ensures evicted { IsSome result → result ≡ first self.old.map.pairs }
+        ensures others { IsSome result → self.new.map.pairs ≡ without_first self.old.map.pairs ++ (key, value) ∷ [] }
+        ensures all { IsNone result → self.new.map.pairs ≡ to_back K.eq self.old.map.pairs key value }
+    {
+        if self.map.len() < self.map.capacity() || self.map.contains_key(&key) {
+            self.store(key, value);
+            return None;
+        }
+        let evicted = self.map.pop_front();
+        self.store(key, value);
+        evicted
+    }
+
+    /// Puts a pair in as the one used last, where its key is present or there is room.
+    fn store(&mut self, key: K, value: V)
+    where
+        K: Drop,
+        V: Drop,
+        requires room { find K.eq self.old.map.pairs key ≡ None → length self.old.map.pairs < self.old.map.capacity }
+        ensures pairs { self.new.map.pairs ≡ to_back K.eq self.old.map.pairs key value }
+        ensures size { self.new.map.capacity ≡ self.old.map.capacity }
+    {
+        match self.map.insert(key, value) {
+            Ok(_old) => {}
+            Err(_refused) => unreachable!(),
+        }
+    }
+
+    /// Lends the value of a key for writing, and makes it the one used last, or returns `None` where the key is absent and
+    /// changes nothing.
+    pub fn get_mut(&mut self, key: &K) -> Option<&mut V>
+        ensures* writes_back { sem 𝓛 (lends_recent K.row V.row K.Hash self.entry key.now result) }
+        ensures value { option_copied_mut result ≡ value_at K.eq self.old.map.pairs key.now }
+    {
+        self.map.get_refresh(key)
+    }
+}

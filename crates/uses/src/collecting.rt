@@ -1,0 +1,33 @@
+//! Maps that take in what others have.
+ghost use Rattle.std.specs.Prelude.{◌≡◌, [], length, None, IfErr, OnOk, OnErr};
+ghost use Rattle.linked_hash_map.specs.Pairs.{find};
+ghost use Rattle.linked_hash_map.specs.Inserts.{insert_each};
+
+use linked_hash_map::{LinkedHashMap, Refused};
+use std::hash::{BuildHasher, Hash};
+
+/// Puts in the pairs of a list one by one. The first that finds no memory is handed back, and those before it stay.
+pub fn insert_all<K: Eq + Hash + Drop, V: Drop, S: BuildHasher>(
+    map: &mut LinkedHashMap<K, V, S>,
+    list: Vec<(K, V)>,
+) -> Result<(), Refused<K, V>>
+    ensures all { OnOk result (map.new.pairs ≡ insert_each K.eq map.old.pairs list.items) }
+    ensures absent { IfErr result (λ refused. find K.eq map.new.pairs refused.key ≡ None) }
+    ensures full { OnErr result (length map.new.pairs ≡ map.new.capacity) }
+{
+    map.extend(list)?;
+    Ok(())
+}
+
+/// Puts in the pairs of another map, as `insert_all` does.
+pub fn merge<K: Eq + Hash + Drop, V: Drop, S: BuildHasher, T: BuildHasher + Drop>(
+    map: &mut LinkedHashMap<K, V, S>,
+    others: LinkedHashMap<K, V, T>,
+) -> Result<(), Refused<K, V>>
+    ensures all { OnOk result (map.new.pairs ≡ insert_each K.eq map.old.pairs others.pairs) }
+    ensures absent { IfErr result (λ refused. find K.eq map.new.pairs refused.key ≡ None) }
+    ensures full { OnErr result (length map.new.pairs ≡ map.new.capacity) }
+{
+    map.extend(others)?;
+    Ok(())
+}

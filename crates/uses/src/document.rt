@@ -1,0 +1,116 @@
+//! A document: fields with names, in order.
+ghost use Rattle.std.specs.Prelude.{◌≡◌, [], Some, None, IsSome, IsTrue, IsFalse, length, option_copied, false, IfOk, OnOk, OnErr, IfErr};
+ghost use Rattle.std.specs.Bool.{Decides};
+ghost use Rattle.linked_hash_map.specs.Pairs.{find, value_at, without, to_back, set_value};
+
+use linked_hash_map::{LinkedHashMap, Refused};
+use std::alloc::{AllocError, Global};
+use std::hash::Hash;
+
+/// Fields with names, in the order in which they were first set.
+#[derive(Drop)]
+pub struct Document<K: Eq + Hash, V> {
+    fields: LinkedHashMap<K, V>,
+}
+
+impl<K: Eq + Hash, V> Document<K, V> {
+    /// Makes a document without fields.
+    pub fn new(alloc: Global) -> Self
+        ensures { result.fields.pairs ≡ [] }
+    {
+        Document {
+            fields: LinkedHashMap::new(alloc),
+        }
+    }
+
+    /// Returns the value of a field.
+    pub fn get(&self, name: &K) -> Option<&V>
+        ensures { option_copied result ≡ value_at K.eq self.now.fields.pairs name.now }
+    {
+        self.fields.get(name)
+    }
+
+    /// Returns the value of a field that is there.
+    pub fn value_of(&self, name: &K) -> &V
+        requires there { IsSome (find K.eq self.now.fields.pairs name.now) }
+        ensures { value_at K.eq self.now.fields.pairs name.now ≡ Some result.now }
+    {
+        &self.fields[name]
+    }
+
+    /// Replaces the value of a field that is there. All fields keep their places.
+    pub fn replace(&mut self, name: &K, value: V)
+    where
+        V: Drop,
+        requires there { IsSome (find K.eq self.old.fields.pairs name.now) }
+        ensures { self.new.fields.pairs ≡ set_value K.eq self.old.fields.pairs name.now value }
+    {
+        self.fields[name] = value;
+    }
+
+    /// Sets a field: one that is there keeps its place, and a new one goes to the end. Where there is no memory for a new one, it
+    /// is handed back and nothing changes.
+    pub fn set(&mut self, name: K, value: V) -> Result<(), Refused<K, V>>
+    where
+        K: Drop,
+        V: Drop,
+        ensures there { OnOk result (IsSome (find K.eq self.old.fields.pairs name) → self.new.fields.pairs ≡ set_value K.eq self.old.fields.pairs name value) }
+        ensures new { OnOk result (find K.eq self.old.fields.pairs name ≡ None → self.new.fields.pairs ≡ to_back K.eq self.old.fields.pairs name value) }
+
+        ensures handed_back { IfErr result (λ refused. refused.key ≡ name) }
+        ensures unchanged { OnErr result (self.new ≡ self.old) }
+    {
+        if let Some(field) = self.fields.get_mut(&name) {
+            *field = value;
+            return Ok(());
+        }
+        self.fields.insert(name, value)?;
+        Ok(())
+    }
+
+    /// Removes a field and returns its value. The others keep their order.
+    pub fn remove(&mut self, name: &K) -> Option<V>
+    where
+        K: Drop,
+        ensures value { result ≡ value_at K.eq self.old.fields.pairs name.now }
+        ensures gone { value_at K.eq self.new.fields.pairs name.now ≡ None }
+        ensures others { (other : K) → K.eq name.now other ≡ false → value_at K.eq self.new.fields.pairs other ≡ value_at K.eq self.old.fields.pairs other }
+    {
+        self.fields.remove(name)
+    }
+
+    /// Gives a field another name, at the end of the document. A field that has that name is replaced. It never fails: the place
+    /// of the old name is free for the new one.
+    pub fn rename(&mut self, from: &K, to: K) -> bool
+    where
+        K: Drop,
+        V: Drop,
+        ensures there { IsTrue result → value_at K.eq self.new.fields.pairs to ≡ value_at K.eq self.old.fields.pairs from.now }
+        ensures gone { IsTrue result → K.eq to from.now ≡ false → value_at K.eq self.new.fields.pairs from.now ≡ None }
+        ensures absent { IsFalse result → find K.eq self.old.fields.pairs from.now ≡ None }
+        ensures unchanged { IsFalse result → self.new.fields.pairs ≡ self.old.fields.pairs }
+    {
+        let Some(value) = self.fields.remove(from) else {
+            return false;
+        };
+        match self.fields.insert(to, value) {
+            Ok(_replaced) => true,
+            Err(_refused) => unreachable!(),
+        }
+    }
+}
+
+/// Tells whether two documents have the same fields in the same order.
+pub fn is_same(a: &Document<u64, u64>, b: &Document<u64, u64>) -> bool
+    ensures { Decides result (a.now.fields.pairs ≡ b.now.fields.pairs) }
+{
+    a.fields == b.fields
+}
+
+/// Copies a document. It is refused for want of memory, and the document stands.
+pub fn copy_of(document: &Document<u64, u64>) -> Result<Document<u64, u64>, AllocError>
+    ensures { IfOk result (λ copy. copy.fields.pairs ≡ document.now.fields.pairs) }
+{
+    let fields = document.fields.clone()?;
+    Ok(Document { fields })
+}

@@ -1,0 +1,20 @@
+//! Programs over the public calls of `linked_hash_map`, each proved from the contracts of those calls alone.
+#![tactic(auto)]
+
+pub mod cache;
+pub mod collecting;
+pub mod count;
+pub mod document;
+#[cfg(test)]
+mod examples;
+pub mod hasher;
+pub mod interner;
+pub mod loops;
+pub mod memory;
+pub mod queue;
+pub mod refusal;
+pub mod replaying;
+#[cfg(test)]
+mod tests;
+pub mod text;
+pub mod window;

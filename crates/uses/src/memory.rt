@@ -1,0 +1,35 @@
+//! Room made first, so that nothing fails later.
+ghost use Rattle.std.specs.Prelude.{◌≡◌, [], IfOk, OnOk, OnErr};
+ghost use Rattle.linked_hash_map.specs.Pairs.{value_at, to_back};
+
+use linked_hash_map::{LinkedHashMap, NoRoom, ReserveError};
+use std::hash::{BuildHasher, Hash};
+
+/// Makes room for one more pair and puts it in, which then never fails.
+pub fn reserve_and_insert<K: Eq + Hash + Drop, V: Drop, S: BuildHasher>(
+    map: &mut LinkedHashMap<K, V, S>,
+    key: K,
+    value: V,
+) -> Result<Option<V>, ReserveError>
+    ensures old { IfOk result (λ old. old ≡ value_at K.eq map.old.pairs key) }
+    ensures pairs { OnOk result (map.new.pairs ≡ to_back K.eq map.old.pairs key value) }
+    ensures unchanged { OnErr result (map.new ≡ map.old) }
+{
+    map.reserve(1)?;
+    match map.insert(key, value) {
+        Ok(old) => Ok(old),
+        Err(_refused) => unreachable!(),
+    }
+}
+
+/// Drops all pairs and gives all memory back, which never fails.
+pub fn empty_out<K: Eq + Hash + Drop, V: Drop, S: BuildHasher>(map: &mut LinkedHashMap<K, V, S>)
+    ensures pairs { map.new.pairs ≡ [] }
+    ensures capacity { map.new.capacity ≡ 0 }
+{
+    map.clear();
+    match map.shrink_to_fit() {
+        Ok(()) => {}
+        Err(NoRoom) => unreachable!(),
+    }
+}

@@ -1,0 +1,73 @@
+//! A queue of jobs, each of which waits once.
+ghost use Rattle.std.specs.Prelude.{◌≡◌, [], ◌∷◌, ◌++◌, not, is_some, IsSome, None, option_map, IfOk, IfErr, OnOk, OnErr};
+ghost use Rattle.std.specs.Map.{keys_of};
+ghost use Rattle.std.specs.Map.Iter.{deref};
+ghost use Rattle.linked_hash_map.specs.Pairs.{find, first, last, without, without_first, without_last};
+
+use linked_hash_map::{Entry, LinkedHashMap, Refused};
+use std::alloc::Global;
+use std::hash::Hash;
+
+/// Jobs that wait, the oldest first.
+#[derive(Drop)]
+pub struct Queue<J: Eq + Hash> {
+    jobs: LinkedHashMap<J, u64>,
+}
+
+impl<J: Eq + Hash> Queue<J> {
+    /// Makes a queue in which no job waits.
+    pub fn new(alloc: Global) -> Self
+        ensures { result.jobs.pairs ≡ [] }
+    {
+        Queue {
+            jobs: LinkedHashMap::new(alloc),
+        }
+    }
+
+    /// Lets a job wait, with its weight, and tells whether it is new. One that waits already keeps its place and its weight. Where
+    /// there is no memory for a new one, it is handed back and nothing changes.
+    pub fn add(&mut self, job: J, weight: u64) -> Result<bool, Refused<J, u64>>
+    where
+        J: Drop,
+        ensures new { IfOk result (λ new. new ≡ not (is_some (find J.eq self.old.jobs.pairs job))) }
+        ensures waits { OnOk result (find J.eq self.old.jobs.pairs job ≡ None → self.new.jobs.pairs ≡ self.old.jobs.pairs ++ (job, weight) ∷ []) }
+        ensures waited { OnOk result (IsSome (find J.eq self.old.jobs.pairs job) → self.new.jobs.pairs ≡ self.old.jobs.pairs) }
+
+        ensures handed_back { IfErr result (λ refused. refused.key ≡ job) }
+        ensures unchanged { OnErr result (self.new.jobs ≡ self.old.jobs) }
+    {
+        match self.jobs.entry(job) {
+            Entry::Occupied(_entry) => Ok(false),
+            Entry::Vacant(entry) => {
+                entry.insert(weight)?;
+                Ok(true)
+            }
+        }
+    }
+
+    /// Takes out the job that has waited longest.
+    pub fn next(&mut self) -> Option<(J, u64)>
+        ensures job { result ≡ first self.old.jobs.pairs }
+        ensures others { self.new.jobs.pairs ≡ without_first self.old.jobs.pairs }
+    {
+        self.jobs.pop_front()
+    }
+
+    /// Takes back the job that was added last.
+    pub fn undo(&mut self) -> Option<(J, u64)>
+        ensures job { result ≡ last self.old.jobs.pairs }
+        ensures others { self.new.jobs.pairs ≡ without_last self.old.jobs.pairs }
+    {
+        self.jobs.pop_back()
+    }
+
+    /// Shows the job that comes next.
+    pub fn peek(&self) -> Option<&J>
+        ensures { option_map deref result ≡ first (keys_of self.now.jobs.pairs) }
+    {
+        match self.jobs.front() {
+            Some((job, _weight)) => Some(job),
+            None => None,
+        }
+    }
+}
