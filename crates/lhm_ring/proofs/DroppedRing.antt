@@ -4,7 +4,7 @@ use denote.RawPtr.{Ptr}
 use Rattle.lhm_ring.specs.declared.block.Place.{Place}
 use Rattle.lhm_ring.specs.declared.links.Links.{Links}
 use Rattle.lhm_ring.specs.Cells.{Cell, without}
-use Rattle.lhm_ring.specs.Rings.{ring_list, RingOk}
+use Rattle.lhm_ring.specs.Rings.{IsRing, ring_list, RingOk}
 use Rattle.lhm_ring.specs.RingState.{State, state, Held, IsHeld, first_at}
 use Rattle.lhm_ring.proofs.Options.{none_some, some_none}
 use Rattle.lhm_ring.proofs.Moves.{ring_length, opened}
@@ -34,6 +34,10 @@ module _ {B : Type 0} where
       let o = opened cs guard spare g n m e ok in
       let n0 : n ≡ 0 = ring_length cs guard spare n m v ok w ∙ ap length h in let m0 : m ≡ 0 = ap (λ (z : State B). z.spares) w ∙ s in
       let a = shorter g.ptr cs o.2.there.0 in let b = o.2.count in let c = o.3 in let d = o.4 in none_left (without g.ptr cs) (omega arith)
+
+  -- a guard alone is gone once it is freed
+  pub without-guard : (cs : List (Cell Links B)) (g : Ptr) → IsRing cs g [] None [] → without g cs ≡ []
+  without-guard cs g r = let a = shorter g cs r.there.0 in none_left (without g cs) (omega (arith, a, r.count))
 
   pub never_any : (cs : List (Cell Links B)) (guard spare : Option Place) (n m : ℕ) → guard ≡ None → RingOk cs guard spare n m → cs ≡ []
   never_any cs None spare n m e ok = ok.0

@@ -1,5 +1,5 @@
 -- Nodes are made on top of others, and taken off again.
-use Rattle.std.proofs.Common.{◌≡◌, ℕ, suc, zero, ◌+◌, ◌-◌, ◌<◌, ◌≤◌, ◌^◌, cond, List, ◌∷◌, length, Option, Some, None, refl, sym, ap, ◌∙◌, subst, arith}
+use Rattle.std.proofs.Common.{◌≡◌, ℕ, suc, zero, ◌+◌, ◌-◌, ◌<◌, ◌≤◌, ◌^◌, cond, List, [], ◌∷◌, length, Option, Some, None, refl, sym, ap, ◌∙◌, subst, arith}
 use Rattle.std.specs.Option.{IsSome}
 use denote.RawPtr.{Ptr}
 use Rattle.lhm_ring.specs.declared.block.Place.{Place}
@@ -12,7 +12,7 @@ use Rattle.lhm_ring.proofs.Apart.{same_ptr_refl}
 use Rattle.lhm_ring.proofs.Rows.{apart_tail}
 use Rattle.lhm_ring.proofs.Moves.{ring_listed}
 use Rattle.lhm_ring.proofs.NodeAdded.{link_links, more, more_listed, Guarded, guard_made}
-use Rattle.lhm_ring.proofs.Options.{some_same, none_some}
+use Rattle.lhm_ring.proofs.Options.{some_same, none_some, some_none}
 
 -- a place is known by its pointer
 same_place : (a b : Option Place) → ptr_of_some a ≡ ptr_of_some b → a ≡ b
@@ -91,6 +91,16 @@ module _ {B : Type 0} where
   guarded cs ds (Some k) spare n m g v h ok w =
       let P : (List (Cell Links B) × Place) → Type 0 = λ z. Guarded z.0 (Some z.1) spare n m z.1 v in
       subst P (λ i. (sym h.0 i, sym h.1 i)) (record { is = refl; ok = ok; view = w })
+
+  -- a guard that was made is alone
+  pub guard_alone : (cs ds : List (Cell Links B)) (guard : Option Place) (g : Place) → HasGuard guard cs ds g → guard ≡ None → IsRing ds g.ptr [] None []
+  guard_alone cs ds None g h e = h
+  guard_alone cs ds (Some k) g h e = absurd (some_none k e)
+
+  -- the nodes are as before, once a guard that was made is freed
+  pub ungrown : (cs ds es : List (Cell Links B)) (guard spare : Option Place) (n m : ℕ) (g : Place) → HasGuard guard cs ds g → RingOk cs guard spare n m → (guard ≡ None → es ≡ []) → (IsSome guard → es ≡ ds) → es ≡ cs
+  ungrown cs ds es None spare n m g h ok none some = none refl ∙ sym ok.0
+  ungrown cs ds es (Some k) spare n m g h ok none some = some refl ∙ h.0
 
   pub grown_ring : (cs ds : List (Cell Links B)) (g : Place) (spare f : Option Place) (n m k : ℕ) → RingOk cs (Some g) spare n m → IsStacked cs g spare k ds f → IsApart (places ds) → n + m + k ≤ 2 ^ 57 → RingOk ds (Some g) f n (m + k)
   grown_ring cs ds g spare f n m k ok s d small =

@@ -1,5 +1,6 @@
 //! Nodes are made, all or none, and spare ones are freed.
 ghost use Rattle.std.specs.Prelude.{◌≡◌, ◌+◌, ◌-◌, ◌<◌, [], ◌∷◌, None, OnOk, OnErr, MatchResult};
+ghost use Rattle.std.specs.Option.{IsSome};
 ghost use Rattle.lhm_ring.specs.Cells.{cell};
 ghost use Rattle.lhm_ring.specs.Rings.{IsRing, links};
 ghost use Rattle.lhm_ring.specs.Stacks.{IsStacked, HasStack, Unstacks, HasGuard};
@@ -68,6 +69,26 @@ fn guard_or_new<K, V>(
     }
 }
 
+/// Frees the guard where there was none before, so that no node is left; else it changes nothing.
+fn undo_guard<K, V>(
+    nodes: &mut Nodes<Links, K, V>,
+    alloc: &Global,
+    before: Option<Place>,
+    guard: Place,
+)
+    requires { before ≡ None → IsRing nodes.old.cells guard.ptr [] None [] }
+    ensures none { before ≡ None → nodes.new.cells ≡ [] }
+    ensures some { IsSome before → nodes.new.cells ≡ nodes.old.cells }
+{
+    match before {
+        Some(_) => (),
+        None => {
+            let room = nodes.remove(guard);
+            deallocate(alloc, room);
+        }
+    }
+}
+
 /// Frees the `count` nodes from `first` on, each of which leads to the next by its further link.
 fn free_stacked<K, V>(
     nodes: &mut Nodes<Links, K, V>,
@@ -132,8 +153,11 @@ impl<K, V> Ring<K, V> {
             return Err(AllocError);
         }
         let guard = guard_or_new(&mut self.nodes, &self.alloc, self.guard)?;
+        let Ok(spare) = make_spares(&mut self.nodes, &self.alloc, guard, self.spare, count) else {
+            undo_guard(&mut self.nodes, &self.alloc, self.guard, guard);
+            return Err(AllocError);
+        };
         self.guard = Some(guard);
-        let spare = make_spares(&mut self.nodes, &self.alloc, guard, self.spare, count)?;
         self.spare = spare;
         self.spares += count;
         Ok(())

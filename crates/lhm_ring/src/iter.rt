@@ -9,6 +9,7 @@ use crate::links::Links;
 use crate::nodes::Nodes;
 use crate::ring::{Ring, nowhere};
 use crate::value_loan::{Hole, LentValues, ValueLoan};
+use std::alloc::AllocError;
 use std::iter::{DoubleEndedIterator, ExactSizeIterator, Iterator};
 use std::marker::Model;
 
@@ -104,6 +105,24 @@ impl<'a, K, V> DoubleEndedIterator for Iter<'a, K, V> {
             Some((_, number, key, value)) => Some((number, key, value)),
             None => None,
         }
+    }
+}
+
+/// A clone has the same triples left. It takes no memory and is never refused.
+impl<'a, K, V> Clone for Iter<'a, K, V> {
+    ghost use Rattle.std.specs.Prelude.{◌≡◌, ⊤};
+
+    ghost is_clone = { λ s t. t ≡ s };
+
+    ghost is_infallible = { λ _. ⊤ };
+
+    fn clone(&self) -> Result<Self, AllocError> {
+        Ok(Iter {
+            nodes: self.nodes,
+            before: self.before,
+            after: self.after,
+            left: self.left,
+        })
     }
 }
 

@@ -1,5 +1,6 @@
 //! The calls that change the order: a triple comes last, or goes out.
-ghost use Rattle.std.specs.Prelude.{◌≡◌, ◌+◌, ◌-◌, ◌<◌, [], ◌∷◌, ◌++◌, None};
+ghost use Rattle.std.specs.Prelude.{◌≡◌, ◌+◌, ◌-◌, ◌<◌, [], ◌∷◌, ◌++◌, None, map};
+ghost use Rattle.lhm_ring.specs.Cells.{IsApart};
 ghost use Rattle.lhm_ring.specs.RingState.{held, IsHeld, AtHeld};
 
 use crate::links::Links;
@@ -12,11 +13,13 @@ impl<K, V> Ring<K, V> {
 
     /// Moves the triple at a position behind all others, which stay in order.
     ///
-    /// It writes links alone, in a constant number of steps, and takes no memory. Positions stand.
+    /// It writes links alone, in a constant number of steps, and takes no memory. Positions stand. No two triples are at one
+    /// position.
     pub fn move_to_back(&mut self, at: Position<K, V>)
         requires { IsHeld self.old.held (place_of at) }
         ensures last { AtHeld self.old.held (place_of at) (λ xs t ys. self.new.held ≡ (xs ++ ys) ++ t ∷ []) }
         ensures spares { self.new.spares ≡ self.old.spares }
+        ensures apart { IsApart (map (λ t. t.at) self.old.held) }
     {
         let guard = self.guard.unwrap();
         let links = *self.nodes.links(at.place);

@@ -13,7 +13,7 @@ use std::marker::PhantomData;
 /// and gives no access without the ring. Two of them cannot be compared.
 pub struct Position<K, V> {
     pub(crate) place: Place,
-    mark: PhantomData<*mut (K, V)>,
+    mark: PhantomData<(K, V)>,
 }
 
 impl<K, V> Position<K, V> {

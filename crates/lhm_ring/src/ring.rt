@@ -1,5 +1,6 @@
 //! The ring: a guard, the held nodes in order, and the spare ones.
-ghost use Rattle.std.specs.Prelude.{◌≡◌, ◌+◌, ◌≤◌, ◌^◌, [], true, length};
+ghost use Rattle.std.specs.Prelude.{◌≡◌, ◌+◌, ◌≤◌, ◌^◌, [], true, length, map};
+ghost use Rattle.lhm_ring.specs.Cells.{IsApart};
 ghost use Rattle.lhm_ring.specs.Rings.{IsJoined, is_there};
 
 use crate::block::{Place, deallocate};
@@ -61,10 +62,11 @@ impl<K, V> Ring<K, V> {
         self.alloc
     }
 
-    /// Returns how many triples are held. With the spare nodes they are at most 2^57.
+    /// Returns how many triples are held. With the spare nodes they are at most 2^57, and no two are at one position.
     pub fn len(&self) -> usize
         ensures value { result ≡ length self.now.held }
         ensures bounded { length self.now.held + self.now.spares ≤ 2 ^ 57 }
+        ensures apart { IsApart (map (λ t. t.at) self.now.held) }
     {
         self.len
     }

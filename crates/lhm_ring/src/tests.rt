@@ -311,7 +311,7 @@ fn refused_growth_leaves_an_empty_ring(rt: HostRuntime) -> Result<(), Fail> {
             assert!(rt; is_ring(&ring, &[], 3));
             say_given(&rt);
         }
-        Err(_) => assert!(rt; is_ring(&ring, &[], 0)),
+        Err(_) => assert!(rt; ring.guard.is_none() && is_ring(&ring, &[], 0)),
     }
     Ok(())
 }

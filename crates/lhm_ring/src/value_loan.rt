@@ -29,6 +29,7 @@ impl<V> Move for Hole<V> {
 }
 
 /// The right to write the values that are still to be taken, `run`, each with the place of its node.
+#[derive(Drop)]
 pub struct ValueLoan<'a, L, K, V> {
     pub mark: PhantomData<&'a mut Node<L, K, V>>,
     ghost name: { GName },
@@ -40,12 +41,6 @@ impl<'a, L, K, V> Model for ValueLoan<'a, L, K, V> {
     ghost also_owns = { λ l. borrowed 'a L.row K.row V.row l.name l.run };
 
     ghost also_shares = { λ _ _ _. ftrue };
-}
-
-impl<L, K, V> Drop for ValueLoan<'_, L, K, V> {
-    fn drop(self) {
-        let Self { mark: _ } = self;
-    }
 }
 
 impl<'a, L, K, V> ValueLoan<'a, L, K, V> {

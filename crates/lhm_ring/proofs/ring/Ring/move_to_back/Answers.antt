@@ -2,6 +2,7 @@ use Rattle.std.proofs.Common.{◌≡◌, ◌∙◌, ap, subst, true}
 use Rattle.lhm_ring.specs.Rings.{next_of, prev_of, is_there}
 use Rattle.lhm_ring.proofs.Writes.{is_at}
 use Rattle.lhm_ring.proofs.Moves.{opened, guarded_in, node_in, p_there, prev_there, next_there, moving_there, moved_ring, moved_list}
+use Rattle.lhm_ring.proofs.ValuesReplaced.{ring_apart}
 use Rattle.lhm_ring.proofs.ring.Ring.move_to_back.Goals as goal
 
 pub unwrap-guard-requires : goal.unwrap-guard-requires
@@ -35,6 +36,7 @@ returns g c =
     record {
       last = λ xs t ys k at. ap (λ z. z.held) (e xs t ys k at);
       spares = ap (λ z. z.spares) (e h.0 h.1 h.2 h.3 h.4);
+      apart = ring_apart i.nodes.cells i.guard i.spare i.len i.spares _ c.self.invariant c.self.view_is;
     }
 
 pub links-requires : goal.links-requires
