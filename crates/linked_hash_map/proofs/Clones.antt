@@ -7,10 +7,12 @@ use Rattle.linked_hash_map.specs.LinkedMap.{LinkedMap}
 use Rattle.linked_hash_map.specs.Pairs.{key_or, find, without, to_back}
 use Rattle.linked_hash_map.specs.Inserts.{insert_each}
 use Rattle.linked_hash_map.specs.Validity.{IsValid}
+use Rattle.linked_hash_map.specs.Counts.{rechained_raised}
 use Rattle.linked_hash_map.specs.Clones.{AreClones, IsClone}
+use Rattle.linked_hash_map.proofs.Counts.{rechained_raised-same}
 use Rattle.linked_hash_map.proofs.Inserts.{insert_each-last, insert_each-distinct}
 
-AllZip-last : {A B : Type 0} (R : A → B → Type 0) (xs : List A) (ys : List B) (x : A) (y : B) → AllZip R xs ys → R x y → AllZip R (xs ++ x ∷ []) (ys ++ y ∷ [])
+pub AllZip-last : {A B : Type 0} (R : A → B → Type 0) (xs : List A) (ys : List B) (x : A) (y : B) → AllZip R xs ys → R x y → AllZip R (xs ++ x ∷ []) (ys ++ y ∷ [])
 AllZip-last R [] [] x y all last = (last, tt)
 AllZip-last R [] (y' ∷ ys) x y all last = absurd all
 AllZip-last R (x' ∷ xs) [] x y all last = absurd all
@@ -31,7 +33,7 @@ length-filter test (x ∷ xs) = by_test (test x) (length-filter test xs)
     by_test false rest = omega arith
 
 -- an insertion adds one pair at most
-length-to_back : {K V : Type 0} (eq : K → K → Bool) (pairs : List (K × V)) (k : K) (v : V) → length (to_back eq pairs k v) ≤ length pairs + 1
+pub length-to_back : {K V : Type 0} (eq : K → K → Bool) (pairs : List (K × V)) (k : K) (v : V) → length (to_back eq pairs k v) ≤ length pairs + 1
 length-to_back eq pairs k v =
     let rest = length-filter (λ pair. not (eq k pair.0)) pairs in
     let appended = length-append (without eq pairs k) ((key_or k (find eq pairs k), v) ∷ []) in
@@ -52,16 +54,17 @@ pub record HasCloned {K V S : Type 0} (eq : K → K → Bool) (IsKeyClone : K �
   pub each : AreClones IsKeyClone IsValueClone first clones
   pub inserted : n.pairs ≡ insert_each eq [] clones
   pub capacity : n.capacity ≡ length m.pairs
+  pub rechained : n.rechained ≡ 0
   pub hasher : IsHasherClone m.hasher n.hasher
 
 module _ {K V S : Type 0} {eq : K → K → Bool} {IsKeyClone : K → K → Type 0} {IsValueClone : V → V → Type 0} {IsHasherClone : S → S → Type 0} where
   -- at first all pairs are to come
-  pub HasCloned-none : {m n : LinkedMap K V S} {others : List (K × V)} → others ≡ m.pairs → n.pairs ≡ [] → n.capacity ≡ length m.pairs → IsHasherClone m.hasher n.hasher → HasCloned eq IsKeyClone IsValueClone IsHasherClone m others n
-  HasCloned-none all empty room of_hasher = record { first = []; clones = []; split = all; each = tt; inserted = empty; capacity = room; hasher = of_hasher }
+  pub HasCloned-none : {m n : LinkedMap K V S} {others : List (K × V)} → others ≡ m.pairs → n.pairs ≡ [] → n.capacity ≡ length m.pairs → n.rechained ≡ 0 → IsHasherClone m.hasher n.hasher → HasCloned eq IsKeyClone IsValueClone IsHasherClone m others n
+  HasCloned-none all empty room uncounted of_hasher = record { first = []; clones = []; split = all; each = tt; inserted = empty; capacity = room; rechained = uncounted; hasher = of_hasher }
 
   -- one more clone is inserted; there are then no more pairs than are cloned
-  pub HasCloned-put : {m before after : LinkedMap K V S} {these others : List (K × V)} → HasCloned eq IsKeyClone IsValueClone IsHasherClone m these before → (pair : K × V) → these ≡ pair ∷ others → (k : K) (v : V) → IsKeyClone pair.0 k → IsValueClone pair.1 v → after.pairs ≡ to_back eq before.pairs k v → after.capacity ≡ max before.capacity (length after.pairs) → after.hasher ≡ before.hasher → HasCloned eq IsKeyClone IsValueClone IsHasherClone m others after
-  HasCloned-put {m} {before} {after} {these} {others} so_far pair next k v of_key of_value put raised same =
+  pub HasCloned-put : {m before after : LinkedMap K V S} {these others : List (K × V)} → HasCloned eq IsKeyClone IsValueClone IsHasherClone m these before → (pair : K × V) → these ≡ pair ∷ others → (k : K) (v : V) → IsKeyClone pair.0 k → IsValueClone pair.1 v → after.pairs ≡ to_back eq before.pairs k v → after.capacity ≡ max before.capacity (length after.pairs) → after.rechained ≡ rechained_raised before.rechained (length before.pairs) before.capacity after.capacity → after.hasher ≡ before.hasher → HasCloned eq IsKeyClone IsValueClone IsHasherClone m others after
+  HasCloned-put {m} {before} {after} {these} {others} so_far pair next k v of_key of_value put raised counted same =
       let inserted_is = ap length so_far.inserted in
       let bound = length-insert_each eq [] so_far.clones in
       let as_many = length-AllZip (λ p q. IsKeyClone p.0 q.0 × IsValueClone p.1 q.1) so_far.first so_far.clones so_far.each in
@@ -71,13 +74,15 @@ module _ {K V S : Type 0} {eq : K → K → Bool} {IsKeyClone : K → K → Type
       let parts = length-append so_far.first these in
       let tail = ap length next in
       let as_before = so_far.capacity in
+      let room : after.capacity ≡ before.capacity = omega arith in
       record {
         first = so_far.first ++ pair ∷ [];
         clones = so_far.clones ++ (k, v) ∷ [];
         split = append_assoc so_far.first (pair ∷ []) others ∙ ap (λ es. so_far.first ++ es) (sym next) ∙ so_far.split;
         each = AllZip-last (λ p q. IsKeyClone p.0 q.0 × IsValueClone p.1 q.1) so_far.first so_far.clones pair (k, v) so_far.each (of_key, of_value);
         inserted = put ∙ ap (λ es. to_back eq es k v) so_far.inserted ∙ sym (insert_each-last eq [] so_far.clones (k, v));
-        capacity = omega arith;
+        capacity = room ∙ so_far.capacity;
+        rechained = counted ∙ ap (rechained_raised before.rechained (length before.pairs) before.capacity) room ∙ rechained_raised-same before.rechained (length before.pairs) before.capacity ∙ so_far.rechained;
         hasher = subst (IsHasherClone m.hasher) (sym same) so_far.hasher;
       }
 
@@ -108,6 +113,7 @@ module _ {K V S : Type 0} {eq : K → K → Bool} (laws : IsEquivalence eq) {IsK
       record {
         pairs = (all.clones, each, all.inserted);
         capacity = all.capacity;
+        rechained = all.rechained;
         hasher = all.hasher;
         valid = valid;
         in_order = λ same. subst (AreClones IsKeyClone IsValueClone m.pairs) (sym (all.inserted ∙ insert_each-distinct laws all.clones (clones_differ laws IsValueClone same m.pairs all.clones each distinct))) each;

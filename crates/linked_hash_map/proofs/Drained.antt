@@ -1,27 +1,86 @@
--- Runs of a `Drain`.
-use Rattle.std.proofs.Common.{[], ◌∷◌, length, Option, sym, ap, ◌∙◌}
+-- Runs of a `Drain`, and how a map is kept that one was made of.
+use Rattle.std.proofs.Common.{◌≡◌, ℕ, ◌+◌, ◌≤◌, Bool, List, [], ◌∷◌, map, length, Option, Some, None, refl, sym, ap, ◌∙◌, subst, arith}
+use Rattle.std.specs.List.{IsDistinct}
 use Rattle.std.specs.Iterator.Runs.{YieldsInOrder, YieldsInReverse}
 use Rattle.std.proofs.iter.runs.Sources.{from_front, from_back, as_is, as_is_back}
-use Rattle.linked_hash_map.specs.Drains.{drain_map, drain_rest, drain_lender, DrainKeeps, DrainSteps, DrainStepsBack, DrainKeepsAlong}
+use denote.RawPtr.{Ptr}
+use Rattle.lhm_ring.specs.RingState.{State, Held, state, triples}
+use Rattle.lhm_ring.specs.Search.{HasNoChain}
+use Rattle.lhm_ring.proofs.IndexedRing.{indexed_spliced}
+use Rattle.linked_hash_map.specs.Changes.{drained}
+use Rattle.linked_hash_map.specs.Cursor.{without_cursor}
+use Rattle.linked_hash_map.specs.Drains.{drain_rest, drain_name, DrainSteps, DrainStepsBack, DrainKeepsAlong}
+use Rattle.linked_hash_map.specs.LinkedMap.{LinkedMap, linked_map, nowhere}
+use Rattle.linked_hash_map.specs.Nodes.{pairs_of, IsKept, Lies, bare, bookmark_at, current_at}
 use Rattle.linked_hash_map.specs.declared.drain.Drain.{Drain}
+use Rattle.linked_hash_map.specs.declared.map.TheConstants.{LIMIT}
+use Rattle.linked_hash_map.proofs.Kept.{length-bare}
 
-module _ {K V S H : Type 0} where
-  pub drains_in_order : YieldsInOrder (DrainSteps {K = K} {V = V} {S = S} {H = H}) drain_rest
+module _ {K V : Type 0} where
+  pub drains_in_order : YieldsInOrder (DrainSteps {K = K} {V = V}) drain_rest
   drains_in_order p s = as_is p (drain_rest p.from) (from_front DrainSteps (λ pair. pair) drain_rest (λ s t h. ap length h.0.0) (λ s x t h. h.0) p s)
 
-  pub drains_in_reverse : YieldsInReverse (DrainStepsBack {K = K} {V = V} {S = S} {H = H}) drain_rest
+  pub drains_in_reverse : YieldsInReverse (DrainStepsBack {K = K} {V = V}) drain_rest
   drains_in_reverse p s = as_is_back p (drain_rest p.from) (from_back DrainStepsBack (λ pair. pair) drain_rest (λ s t h. ap length h.0.0) (λ s x t h. h.0) p s)
 
-  module _ (steps : Drain K V S H → Option (K × V) → Drain K V S H → Type 0) (keeps : (s t : Drain K V S H) (r : Option (K × V)) → steps s r t → DrainKeeps s t) where
-    along : (d : Drain K V S H) → DrainKeepsAlong steps d
-    along d [] t y = record { lender = ap drain_lender (sym y); capacity = ap (λ e. (drain_map e).capacity) (sym y); hasher = ap (λ e. (drain_map e).hasher) (sym y) }
-    along d (x ∷ xs) t y =
-        let one = keeps d y.0 _ y.1 in
-        let rest = along y.0 xs t y.2 in
-        record { lender = rest.lender ∙ one.lender; capacity = rest.capacity ∙ one.capacity; hasher = rest.hasher ∙ one.hasher }
+  module _ (steps : Drain K V → Option (K × V) → Drain K V → Type 0) (keeps : (s t : Drain K V) (r : Option (K × V)) → steps s r t → drain_name t ≡ drain_name s) where
+    along : (d : Drain K V) → DrainKeepsAlong steps d
+    along d [] t y = ap drain_name (sym y)
+    along d (x ∷ xs) t y = along y.0 xs t y.2 ∙ keeps d y.0 _ y.1
 
-  pub keeps_along : (d : Drain K V S H) → DrainKeepsAlong DrainSteps d
-  keeps_along = along DrainSteps (λ s t r h. h.1)
+  -- steps end the same borrow
+  pub stays : (d : Drain K V) → DrainKeepsAlong DrainSteps d
+  stays = along DrainSteps (λ s t r h. h.1)
 
-  pub keeps_along_back : (d : Drain K V S H) → DrainKeepsAlong DrainStepsBack d
-  keeps_along_back = along DrainStepsBack (λ s t r h. h.1)
+  pub stays_back : (d : Drain K V) → DrainKeepsAlong DrainStepsBack d
+  stays_back = along DrainStepsBack (λ s t r h. h.1)
+
+-- the pairs of what was handed out with its numbers
+pairs-triples : {K V : Type 0} (hs : List (Held (K × V))) → map (λ t. t.1) (triples hs) ≡ pairs_of hs
+pairs-triples [] = refl
+pairs-triples (t ∷ hs) = ap (λ ps. t.pair ∷ ps) (pairs-triples hs)
+
+-- the pair that lies within the limit is not nowhere
+current_none : {B : Type 0} (o : Option Ptr) (us : List (Held B)) → Lies o us → length us ≤ LIMIT → current_at o us ≡ nowhere → o ≡ None
+current_none None us lies small e = refl
+current_none (Some p) us lies small e = absurd (omega (arith, lies, small, e))
+
+-- a map with no cursor and no entry, of which all nodes are made spare and the index is emptied
+module _ {K V S : Type 0} {eq : K → K → Bool} {hash : K → ℕ} {heads : List (Option Ptr)} {s : State (K × V)} {mark : Option Ptr} {n : ℕ} {current : Option Ptr} {r : ℕ} (kept : IsKept eq hash heads s mark n current r) (hasher : S) (m x : LinkedMap K V S)
+    (view : linked_map (pairs_of s.held) (length s.held + s.spares) hasher (bookmark_at mark (bare s.held)) n (current_at current (bare s.held)) r ≡ x) (ends : x ≡ without_cursor m) where
+  seen : linked_map (pairs_of s.held) (length s.held + s.spares) hasher (bookmark_at mark (bare s.held)) n (current_at current (bare s.held)) r ≡ without_cursor m
+  seen = view ∙ ends
+
+  none : n ≡ 0
+  none = ap (λ (y : LinkedMap K V S). y.unvisited) seen
+
+  no_entry : current ≡ None
+  no_entry = current_none current (bare s.held) kept.nodes.current_lies (omega (arith, kept.nodes.limit)) (ap (λ (y : LinkedMap K V S). y.current) seen)
+
+  pub kept_spliced : (heads' : List (Option Ptr)) → HasNoChain heads' → length heads' ≡ length heads → IsKept {V = V} eq hash heads' (state [] (s.spares + length s.held)) mark n current r
+  unfolding IsDistinct
+  kept_spliced heads' empty same =
+      let gone = kept.nodes.ended none in
+      let of_bare = length-bare s.held in
+      record {
+        nodes = record {
+          distinct = tt;
+          hashed = tt;
+          limit = omega (arith, of_bare, kept.nodes.limit);
+          marked = λ _. none;
+          ended = λ _. gone;
+          in_reach = subst (λ (o : Option Ptr). bookmark_at {B = K} o [] + n ≤ 0) (sym gone) (omega (arith, none));
+          current_lies = subst (λ (o : Option Ptr). Lies {B = K} o []) (sym no_entry) tt;
+        };
+        indexed = indexed_spliced heads heads' s (state [] (s.spares + length s.held)) kept.indexed empty same refl refl;
+        few = omega (arith, same, kept.few);
+      }
+
+  pub view_spliced : linked_map [] (0 + (s.spares + length s.held)) hasher (bookmark_at {B = K} mark []) n (current_at {B = K} current []) r ≡ drained m
+  view_spliced =
+      let room : 0 + (s.spares + length s.held) ≡ length s.held + s.spares = omega arith in
+      (λ i. linked_map {K = K} {V = V} [] (room i) hasher (bookmark_at {B = K} (kept.nodes.ended none i) []) n (current_at {B = K} (no_entry i) []) r)
+      ∙ ap (λ (y : LinkedMap K V S). record y { pairs = []; bookmark = 0; current = nowhere }) seen
+
+  pub rest_spliced : (d : Drain K V) (ts : List (ℕ × (K × V))) → drain_rest d ≡ map (λ t. t.1) ts → ts ≡ triples s.held → drain_rest d ≡ m.pairs
+  rest_spliced d ts rest e = rest ∙ ap (map (λ t. t.1)) e ∙ pairs-triples s.held ∙ ap (λ (y : LinkedMap K V S). y.pairs) seen

@@ -3,18 +3,21 @@ use Rattle.std.proofs.Common.{◌≡◌, ℕ, zero, suc, ◌+◌, ◌<◌, ◌�
 use Rattle.std.proofs.Math.Bridge.{le_prop}
 use Rattle.std.proofs.Math.Nat.{le_of_suc-le-suc}
 use Rattle.std.specs.Cmp.{IsEquivalence}
-use Rattle.std.specs.Map.{keys_of, lookup_entry}
+use Rattle.std.specs.Map.{lookup_entry}
 use Rattle.std.specs.declared.cmp.PartialEq as eq
 use Rattle.std.specs.declared.hash.Hash as hash
 use Rattle.std.specs.declared.hash.Hasher as hasher
 use Rattle.std.specs.declared.hash.BuildHasher as builder
 use Rattle.linked_hash_map.specs.LinkedMap.{LinkedMap}
 use Rattle.linked_hash_map.specs.Changes.{pushed, set_or_pushed}
+use Rattle.linked_hash_map.specs.Counts.{rechained_raised}
 use Rattle.linked_hash_map.specs.Pairs.{key_or, find, set_value, set_or_push, set_if_some, ActsAs}
 use Rattle.linked_hash_map.specs.Indexes.{IsIndex, pair_at, set_value_at}
 use Rattle.linked_hash_map.specs.Cursor.{IsOutside, IsOutside-prop}
 use Rattle.linked_hash_map.specs.Entry.{occupied_pair, occupied_key, with_occupied_value}
+use Rattle.linked_hash_map.specs.Validity.{IsValid}
 use Rattle.linked_hash_map.specs.declared.entry.OccupiedEntry.{OccupiedEntry}
+use Rattle.linked_hash_map.proofs.Counts.{rechained_raised-same}
 use Rattle.linked_hash_map.proofs.LiveKeys.{same_test}
 
 pub some_injective : {X : Type 0} {x y : X} → Some x ≡ Some y → x ≡ y
@@ -39,12 +42,7 @@ module _ {K V : Type 0} where
   slice_get-set_value_at (first ∷ pairs) zero v pair there = ap (λ p. Some (p.0, v)) (some_injective there)
   slice_get-set_value_at (first ∷ pairs) (suc index) v pair there = slice_get-set_value_at pairs index v pair there
 
-  -- a value that is set changes no key, and not how many there are
-  pub keys_of-set_value_at : (pairs : List (K × V)) (index : ℕ) (v : V) → keys_of (set_value_at pairs index v) ≡ keys_of pairs
-  keys_of-set_value_at [] index v = refl
-  keys_of-set_value_at (pair ∷ pairs) zero v = refl
-  keys_of-set_value_at (pair ∷ pairs) (suc index) v = ap (λ ks. pair.0 ∷ ks) (keys_of-set_value_at pairs index v)
-
+  -- a value that is set changes not how many there are
   pub length-set_value : (eq : K → K → Bool) (pairs : List (K × V)) (k : K) (v : V) → length (set_value eq pairs k v) ≡ length pairs
   length-set_value eq [] k v = refl
   length-set_value eq (pair ∷ pairs) k v = ap suc (length-set_value eq pairs k v)
@@ -90,12 +88,14 @@ module _ {K V : Type 0} where
     set_or_pushed-present there within = λ i. record m {
       pairs = set_or_push-present eq m.pairs k v there i;
       capacity = room-present eq m.pairs k v m.capacity there within i;
+      rechained = (sym (rechained_raised-same m.rechained (length m.pairs) m.capacity) ∙ ap (rechained_raised m.rechained (length m.pairs) m.capacity) (room-present eq m.pairs k v m.capacity there within)) i;
     }
 
     pub set_or_pushed-absent : find eq m.pairs k ≡ None → pushed m k v ≡ set_or_pushed eq m k v
     set_or_pushed-absent none = λ i. record m {
       pairs = set_or_push-absent eq m.pairs k v none i;
       capacity = room-absent eq m.pairs k v m.capacity none i;
+      rechained = rechained_raised m.rechained (length m.pairs) m.capacity (room-absent eq m.pairs k v m.capacity none i);
     }
 
   -- a key that is the same as one that is present does what that one does
@@ -117,34 +117,38 @@ module _ {K V : Type 0} where
       by_value sets None = refl
       by_value sets (Some v) = sets v
 
+-- which pair an entry stands for is nothing to a map's validity
+pub IsValid-current : {K V S : Type 0} {eq : K → K → Bool} {m : LinkedMap K V S} (index : ℕ) → IsValid eq m → IsValid eq (record m { current = index })
+IsValid-current index valid = record { distinct = valid.distinct; within = valid.within; limit = valid.limit }
+
 module _ {K V S H : Type 0} {g : eq.Ghosts K} {h : hash.Ghosts K} {b : builder.Ghosts S H} {w : hasher.Ghosts H} (o : OccupiedEntry K V S H g h b w) where
-  pub slice_get-occupied : slice_get o.map.now.pairs o.index ≡ Some (occupied_pair o)
+  pub slice_get-occupied : slice_get o.map.now.pairs o.map.now.current ≡ Some (occupied_pair o)
   unfolding occupied_pair
-  slice_get-occupied = slice_get-pair_at o.map.now.pairs o.index o.within
+  slice_get-occupied = slice_get-pair_at o.map.now.pairs o.map.now.current o.within
 
   -- the pair at the index
-  pub occupied_pair-is : (pair : K × V) → slice_get o.map.now.pairs o.index ≡ Some pair → pair ≡ occupied_pair o
+  pub occupied_pair-is : (pair : K × V) → slice_get o.map.now.pairs o.map.now.current ≡ Some pair → pair ≡ occupied_pair o
   occupied_pair-is pair there = some_injective (sym there ∙ slice_get-occupied)
 
-  pub occupied_value-is : (v : V) → option_map (λ pair. pair.1) (slice_get o.map.now.pairs o.index) ≡ Some v → v ≡ (occupied_pair o).1
+  pub occupied_value-is : (v : V) → option_map (λ pair. pair.1) (slice_get o.map.now.pairs o.map.now.current) ≡ Some v → v ≡ (occupied_pair o).1
   occupied_value-is v there = some_injective (sym there ∙ ap (option_map (λ pair. pair.1)) slice_get-occupied)
 
-  pub IsIndex-occupied : {eq : K → K → Bool} → IsEquivalence eq → IsIndex eq o.map.now.pairs (occupied_key o) o.index
+  pub IsIndex-occupied : {eq : K → K → Bool} → IsEquivalence eq → IsIndex eq o.map.now.pairs (occupied_key o) o.map.now.current
   IsIndex-occupied laws = record { pair = occupied_pair o; there = slice_get-occupied; same = laws.refl (occupied_key o) }
 
   pub found-occupied : {eq : K → K → Bool} → IsEquivalence eq → is_some (find eq o.map.now.pairs (occupied_key o)) ≡ true
-  found-occupied {eq} laws = found_at eq o.map.now.pairs o.index (occupied_key o) (occupied_pair o) slice_get-occupied (laws.refl (occupied_key o))
+  found-occupied {eq} laws = found_at eq o.map.now.pairs o.map.now.current (occupied_key o) (occupied_pair o) slice_get-occupied (laws.refl (occupied_key o))
 
   -- once a value is written
   pub occupied_pair-written : (v : V) → occupied_pair (with_occupied_value o v) ≡ (occupied_key o, v)
   unfolding occupied_pair
   occupied_pair-written v = some_injective
-      (sym (slice_get-pair_at (set_value_at o.map.now.pairs o.index v) o.index (with_occupied_value o v).within)
-      ∙ slice_get-set_value_at o.map.now.pairs o.index v (occupied_pair o) slice_get-occupied)
+      (sym (slice_get-pair_at (set_value_at o.map.now.pairs o.map.now.current v) o.map.now.current (with_occupied_value o v).within)
+      ∙ slice_get-set_value_at o.map.now.pairs o.map.now.current v (occupied_pair o) slice_get-occupied)
 
-  pub occupied_written : (v : V) (within : o.index < length (set_value_at o.map.now.pairs o.index v)) (outside : IsOutside o.index (with_occupied_value o v).map.now)
-      → record { map = (with_occupied_value o v).map; index = o.index; within = within; outside = outside } ≡ with_occupied_value o v
+  pub occupied_written : (v : V) (within : o.map.now.current < length (set_value_at o.map.now.pairs o.map.now.current v)) (outside : IsOutside o.map.now.current (with_occupied_value o v).map.now)
+      → record { map = (with_occupied_value o v).map; within = within; outside = outside } ≡ with_occupied_value o v
   occupied_written v within outside i = record (with_occupied_value o v) {
     within = le_prop within (with_occupied_value o v).within i;
-    outside = IsOutside-prop o.index (with_occupied_value o v).map.now outside o.outside i;
+    outside = IsOutside-prop o.map.now.current (with_occupied_value o v).map.now outside o.outside i;
   }

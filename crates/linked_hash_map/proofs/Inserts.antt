@@ -1,15 +1,18 @@
 -- Insertions one after another.
-use Rattle.std.proofs.Common.{◌≡◌, ◌+◌, ◌≤◌, max, Bool, true, false, cond, List, [], ◌∷◌, ◌++◌, length, map, is_some, refl, sym, ap, ◌∙◌, subst, arith}
+use Rattle.std.proofs.Common.{◌≡◌, ◌+◌, ◌-◌, ◌≤◌, max, Bool, true, false, cond, List, [], ◌∷◌, ◌++◌, length, map, is_some, refl, sym, ap, ◌∙◌, subst, arith}
 use Rattle.std.specs.List.{IsDistinct}
 use Rattle.std.specs.Map.{keys_of}
 use Rattle.std.specs.Cmp.{IsEquivalence}
 use Rattle.std.proofs.lemmas.List.{map-append}
 use Rattle.linked_hash_map.specs.LinkedMap.{LinkedMap}
+use Rattle.linked_hash_map.specs.Counts.{rechained_raised, rechained_each}
 use Rattle.linked_hash_map.specs.Log.{Put}
 use Rattle.linked_hash_map.specs.Pairs.{find, to_back}
 use Rattle.linked_hash_map.specs.Run.{first_log}
 use Rattle.linked_hash_map.specs.Inserts.{insert_each}
+use Rattle.linked_hash_map.specs.Validity.{IsValid}
 use Rattle.linked_hash_map.proofs.Bridge.{pairs-put}
+use Rattle.linked_hash_map.proofs.Counts.{rechained_each-put}
 use Rattle.linked_hash_map.proofs.Distinct.{distinct-pairs}
 use Rattle.linked_hash_map.proofs.Lists.{by_last}
 use Rattle.linked_hash_map.proofs.Pairs.{length-to_back}
@@ -24,6 +27,7 @@ insert_each-last eq pairs (first ∷ items) item = insert_each-last eq (to_back 
 pub record HasInserted {K V S : Type 0} (eq : K → K → Bool) (old : LinkedMap K V S) (items : List (K × V)) (new : LinkedMap K V S) : Type 0 where
   pub pairs : new.pairs ≡ insert_each eq old.pairs items
   pub capacity : new.capacity ≡ max old.capacity (length new.pairs)
+  pub rechained : new.rechained ≡ rechained_each old.rechained old.capacity (new.capacity - old.capacity)
   pub hasher : new.hasher ≡ old.hasher
 
 module _ {K V : Type 0} {eq : K → K → Bool} (laws : IsEquivalence eq) where
@@ -45,23 +49,45 @@ module _ {K V : Type 0} {eq : K → K → Bool} (laws : IsEquivalence eq) where
       by_test true h = omega arith
       by_test false h = omega arith
 
+  -- and puts one in at most
+  length-put : (pairs : List (K × V)) (k : K) (v : V) → IsDistinct eq (keys_of pairs) → length (to_back eq pairs k v) ≤ length pairs + 1
+  length-put pairs k v distinct = by_test (is_some (find eq pairs k)) (length-to_back laws pairs k v distinct)
+    where
+      by_test : (b : Bool) → length (to_back eq pairs k v) ≡ cond b (length pairs) (length pairs + 1) → length (to_back eq pairs k v) ≤ length pairs + 1
+      by_test true h = omega arith
+      by_test false h = omega arith
+
+  -- none went in yet
+  pub HasInserted-none : {S : Type 0} (start : LinkedMap K V S) → IsValid eq start → HasInserted eq start [] start
+  HasInserted-none start valid =
+      let none : start.capacity - start.capacity ≡ 0 = omega arith in
+      record {
+        pairs = refl;
+        capacity = omega (arith, valid.within);
+        rechained = sym (ap (rechained_each start.rechained start.capacity) none);
+        hasher = refl;
+      }
+
   -- one more insertion, after those of some items
-  pub HasInserted-put : {S : Type 0} (start : LinkedMap K V S) (items : List (K × V)) (k : K) (v : V) {before after : LinkedMap K V S} → IsDistinct eq (keys_of start.pairs) → HasInserted eq start items before → after.pairs ≡ to_back eq before.pairs k v → after.capacity ≡ max before.capacity (length after.pairs) → after.hasher ≡ before.hasher → HasInserted eq start (items ++ (k, v) ∷ []) after
-  HasInserted-put start items k v {before} {after} distinct so_far pairs_are raised same =
-      let grows = length-grows before.pairs k v (subst (λ es. IsDistinct eq (keys_of es)) (sym so_far.pairs) (distinct-insert_each start.pairs items distinct)) in
+  pub HasInserted-put : {S : Type 0} (start : LinkedMap K V S) (items : List (K × V)) (k : K) (v : V) {before after : LinkedMap K V S} → IsDistinct eq (keys_of start.pairs) → HasInserted eq start items before → after.pairs ≡ to_back eq before.pairs k v → after.capacity ≡ max before.capacity (length after.pairs) → after.rechained ≡ rechained_raised before.rechained (length before.pairs) before.capacity after.capacity → after.hasher ≡ before.hasher → HasInserted eq start (items ++ (k, v) ∷ []) after
+  HasInserted-put start items k v {before} {after} distinct so_far pairs_are raised counted same =
+      let distinct_before = subst (λ es. IsDistinct eq (keys_of es)) (sym so_far.pairs) (distinct-insert_each start.pairs items distinct) in
+      let grows = length-grows before.pairs k v distinct_before in
+      let one : length after.pairs ≤ length before.pairs + 1 = subst (λ es. length es ≤ length before.pairs + 1) (sym pairs_are) (length-put before.pairs k v distinct_before) in
       let longer : length before.pairs ≤ length after.pairs = subst (λ es. length before.pairs ≤ length es) (sym pairs_are) grows in
       let capacity_before = so_far.capacity in
       record {
         pairs = pairs_are ∙ ap (λ es. to_back eq es k v) so_far.pairs ∙ sym (insert_each-last eq start.pairs items (k, v));
         capacity = omega arith;
+        rechained = rechained_each-put start.rechained start.capacity (omega arith) so_far.rechained (omega arith) one raised counted;
         hasher = same ∙ so_far.hasher;
       }
 
   -- the same, where the items are what others show
-  pub HasInserted-shown : {S X : Type 0} (shows : X → K × V) (start : LinkedMap K V S) (taken : List X) (item : X) {before after : LinkedMap K V S} → IsDistinct eq (keys_of start.pairs) → HasInserted eq start (map shows taken) before → after.pairs ≡ to_back eq before.pairs (shows item).0 (shows item).1 → after.capacity ≡ max before.capacity (length after.pairs) → after.hasher ≡ before.hasher → HasInserted eq start (map shows (taken ++ item ∷ [])) after
-  HasInserted-shown shows start taken item {before} {after} distinct so_far pairs_are raised same =
+  pub HasInserted-shown : {S X : Type 0} (shows : X → K × V) (start : LinkedMap K V S) (taken : List X) (item : X) {before after : LinkedMap K V S} → IsDistinct eq (keys_of start.pairs) → HasInserted eq start (map shows taken) before → after.pairs ≡ to_back eq before.pairs (shows item).0 (shows item).1 → after.capacity ≡ max before.capacity (length after.pairs) → after.rechained ≡ rechained_raised before.rechained (length before.pairs) before.capacity after.capacity → after.hasher ≡ before.hasher → HasInserted eq start (map shows (taken ++ item ∷ [])) after
+  HasInserted-shown shows start taken item {before} {after} distinct so_far pairs_are raised counted same =
       subst (λ items. HasInserted eq start items after) (sym (map-append shows taken (item ∷ [])))
-      (HasInserted-put start (map shows taken) (shows item).0 (shows item).1 distinct so_far pairs_are raised same)
+      (HasInserted-put start (map shows taken) (shows item).0 (shows item).1 distinct so_far pairs_are raised counted same)
 
   -- pairs with keys that differ stay as they are inserted
   pub insert_each-distinct : (pairs : List (K × V)) → IsDistinct eq (keys_of pairs) → insert_each eq [] pairs ≡ pairs

@@ -1,24 +1,31 @@
 pub mod Bridge
 pub mod Callers
 pub mod Clones
-pub mod Columns
+pub mod Counts
+pub mod Current
 pub mod Distinct
 pub mod DistinctLists
-mod Drained
-mod Draining
+pub mod Drained
 pub mod Effects
 pub mod EntryFacts
 mod Examples
 pub mod Extends
+pub mod FirstAndLast
+pub mod Growth
 pub mod Indexes
 pub mod Inserts
+pub mod Kept
+pub mod LendMap
 pub mod Lists
 pub mod LiveKeys
+pub mod MarkMoves
 pub mod Marks
+pub mod MovedNode
 pub mod Outcomes
+pub mod Outside
 pub mod Pairs
 pub mod Runs
 pub mod Standing
 pub mod Stretches
-pub mod Visits
+pub mod TakenNode
 mod Walks

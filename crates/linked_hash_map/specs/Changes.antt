@@ -1,5 +1,6 @@
 -- What calls make of a map: updates of what it was, so that they name what changes and nothing else.
 use Rattle.std.specs.Prelude.{◌+◌, Bool, max, [], ◌∷◌, ◌++◌, length}
+use Rattle.lhm_ring.specs.Buckets.{rechained_raised}
 use Rattle.linked_hash_map.specs.LinkedMap.{LinkedMap}
 use Rattle.linked_hash_map.specs.Cursor.{without_cursor}
 use Rattle.linked_hash_map.specs.Pairs.{to_back, set_or_push}
@@ -7,14 +8,21 @@ use Rattle.linked_hash_map.specs.Pairs.{to_back, set_or_push}
 module _ {K V S : Type 0} where
   -- with the pair of k and v at the back, and room for it: k is absent
   abbrev pub pushed : LinkedMap K V S → K → V → LinkedMap K V S
-  pushed m k v = record m { pairs = m.pairs ++ (k, v) ∷ []; capacity = max m.capacity (length m.pairs + 1) }
+  pushed m k v =
+      let capacity = max m.capacity (length m.pairs + 1) in
+      record m { pairs = m.pairs ++ (k, v) ∷ []; capacity = capacity; rechained = rechained_raised m.rechained (length m.pairs) m.capacity capacity }
 
   -- with v as the value of k, in the place of its pair, or else at the back, and room for it
   abbrev pub set_or_pushed : (K → K → Bool) → LinkedMap K V S → K → V → LinkedMap K V S
   set_or_pushed eq m k v =
       let pairs = set_or_push eq m.pairs k v in
-      record m { pairs = pairs; capacity = max m.capacity (length pairs) }
+      let capacity = max m.capacity (length pairs) in
+      record m { pairs = pairs; capacity = capacity; rechained = rechained_raised m.rechained (length m.pairs) m.capacity capacity }
 
   -- with the pair of k at the back, and v as its value; nothing is left for a cursor to visit
   abbrev pub refreshed : (K → K → Bool) → LinkedMap K V S → K → V → LinkedMap K V S
   refreshed eq m k v = record (without_cursor m) { pairs = to_back eq m.pairs k v }
+
+  -- with no pair; nothing is left for a cursor to visit
+  abbrev pub drained : LinkedMap K V S → LinkedMap K V S
+  drained m = record (without_cursor m) { pairs = [] }

@@ -13,6 +13,7 @@ AreClones IsKeyClone IsValueClone = AllZip (λ p q. IsKeyClone p.0 q.0 × IsValu
 pub record IsClone {K V S : Type 0} (eq : K → K → Bool) (IsKeyClone : K → K → Type 0) (IsValueClone : V → V → Type 0) (IsHasherClone : S → S → Type 0) (m n : LinkedMap K V S) : Type 0 where
   pub pairs : (clones : List (K × V)) × AreClones IsKeyClone IsValueClone m.pairs clones × (n.pairs ≡ insert_each eq [] clones)
   pub capacity : n.capacity ≡ length m.pairs
+  pub rechained : n.rechained ≡ 0
   pub hasher : IsHasherClone m.hasher n.hasher
   pub valid : IsValid eq n
   -- where a clone of a key is the same key, its list is the clones in order

@@ -4,7 +4,7 @@ use Rattle.std.proofs.Common.{inl, inr, ap}
 use Rattle.std.proofs.Math.Bridge.{le_prop}
 use Rattle.std.proofs.Math.Nat.{not-suc-le_self, le_trans, le-add_right}
 use Rattle.std.specs.Map.{keys_of}
-use Rattle.linked_hash_map.specs.LinkedMap.{LinkedMap}
+use Rattle.linked_hash_map.specs.LinkedMap.{LinkedMap, nowhere}
 
 -- no index is before a stretch and behind it
 not_before_and_behind : {index start : ℕ} (len : ℕ) → index < start → start + len ≤ index → ⊥
@@ -15,9 +15,9 @@ module _ {K V S : Type 0} where
   abbrev pub to_visit : LinkedMap K V S → List K
   to_visit m = take m.unvisited (drop m.bookmark (keys_of m.pairs))
 
-  -- the map with nothing left to visit
+  -- the map with nothing left to visit, and no entry
   abbrev pub without_cursor : LinkedMap K V S → LinkedMap K V S
-  without_cursor m = record m { bookmark = 0; unvisited = 0 }
+  without_cursor m = record m { bookmark = 0; unvisited = 0; current = nowhere }
 
   -- the index is before the pairs that are still to be visited, or behind them
   abbrev pub IsOutside : ℕ → LinkedMap K V S → Type 0

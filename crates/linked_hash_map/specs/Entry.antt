@@ -8,7 +8,7 @@ use Rattle.std.specs.declared.hash.Hash as hash
 use Rattle.std.specs.declared.hash.Hasher as hasher
 use Rattle.std.specs.declared.hash.BuildHasher as builder
 use mir.Syntax.{named}
-use Rattle.linked_hash_map.specs.LinkedMap.{LinkedMap}
+use Rattle.linked_hash_map.specs.LinkedMap.{LinkedMap, nowhere}
 use Rattle.linked_hash_map.specs.Lends.{map_row}
 use Rattle.linked_hash_map.specs.Changes.{pushed, set_or_pushed}
 use Rattle.linked_hash_map.specs.Pairs.{set_value}
@@ -19,16 +19,15 @@ use Rattle.linked_hash_map.specs.declared.entry.VacantEntry.{VacantEntry}
 use Rattle.linked_hash_map.specs.contracts.entry.OccupiedEntry as occupied
 
 module _ {K V S H : Type 0} {g : eq.Ghosts K} {h : hash.Ghosts K} {b : builder.Ghosts S H} {w : hasher.Ghosts H} where
-  -- of an occupied entry: the reference to the map; the map, as the entry holds it; the pair that it stands for; the stored key
-  -- and the value
+  -- of an occupied entry: the reference to the map; the map; the pair that it stands for; the stored key and the value
   abbrev pub occupied_map_ref : OccupiedEntry K V S H g h b w → MutBor (LinkedMap K V S)
   occupied_map_ref o = o.map
 
   abbrev pub occupied_map : OccupiedEntry K V S H g h b w → LinkedMap K V S
-  occupied_map o = (occupied_map_ref o).now
+  occupied_map o = record (occupied_map_ref o).now { current = nowhere }
 
   unfoldable pub occupied_pair : OccupiedEntry K V S H g h b w → K × V
-  occupied_pair o = pair_at o.map.now.pairs o.index o.within
+  occupied_pair o = pair_at o.map.now.pairs o.map.now.current o.within
 
   abbrev pub occupied_key : OccupiedEntry K V S H g h b w → K
   occupied_key o = (occupied_pair o).0
@@ -49,7 +48,8 @@ module _ {K V S H : Type 0} {g : eq.Ghosts K} {h : hash.Ghosts K} {b : builder.G
   entry_map_ref (Vacant e) = e.map
 
   abbrev pub entry_map : Entry K V S H g h b w → LinkedMap K V S
-  entry_map e = (entry_map_ref e).now
+  entry_map (Occupied o) = occupied_map o
+  entry_map (Vacant e) = vacant_map e
 
   abbrev pub is_occupied : Entry K V S H g h b w → Bool
   is_occupied (Occupied o) = true
@@ -66,9 +66,8 @@ module _ {K V S H : Type 0} {g : eq.Ghosts K} {h : hash.Ghosts K} {b : builder.G
   -- an occupied entry, once v is its value
   abbrev pub with_occupied_value : OccupiedEntry K V S H g h b w → V → OccupiedEntry K V S H g h b w
   with_occupied_value o v = record {
-    map = record o.map { now = record o.map.now { pairs = set_value_at o.map.now.pairs o.index v } };
-    index = o.index;
-    within = within-set_value_at o.map.now.pairs o.index v o.within;
+    map = record o.map { now = record o.map.now { pairs = set_value_at o.map.now.pairs o.map.now.current v } };
+    within = within-set_value_at o.map.now.pairs o.map.now.current v o.within;
     outside = o.outside;
   }
 

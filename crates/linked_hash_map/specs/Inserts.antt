@@ -1,7 +1,8 @@
 -- Insertions one after another, and what an iterator gives.
-use Rattle.std.specs.Prelude.{◌≡◌, ℕ, ◌≤◌, max, Bool, List, [], ◌∷◌, map, length, Option, Some}
+use Rattle.std.specs.Prelude.{◌≡◌, ℕ, ◌-◌, ◌≤◌, max, Bool, List, [], ◌∷◌, map, length, Option, Some}
 use Rattle.std.specs.Iterator.{Count, Drains, YieldsThen}
 use Rattle.std.specs.Iterator.SizeHint.{IsWithinCount}
+use Rattle.linked_hash_map.specs.Counts.{rechained_each}
 use Rattle.linked_hash_map.specs.Pairs.{to_back}
 use Rattle.linked_hash_map.specs.declared.map.TheConstants.{LIMIT}
 
@@ -36,6 +37,12 @@ module _ {T I X : Type 0} (becomes : T → I → Type 0) (steps : I → Option X
     pub iterator : I
     pub made : becomes source iterator
     pub hint : IsWithinCount lower (remaining iterator)
+
+  -- a map was made with the room that it hints at, and its capacity raised one by one from there
+  pub record RaisesFromHint (remaining : I → Count) (capacity rechained : ℕ) : Type 0 where
+    pub lower : ℕ
+    pub hint : HintsAt remaining lower
+    pub counted : rechained ≡ rechained_each 0 lower (capacity - lower)
 
   -- and what pair an item shows
   module _ {K V : Type 0} (eq : K → K → Bool) (shows : X → K × V) where

@@ -1,11 +1,12 @@
 -- What a map is once a reference into it has ended.
 use Rattle.std.specs.Prelude.{ℕ, Option}
-use Rattle.std.specs.Borrow.{Fml, GName, RattleType, MutBor, Array, Lends, LendsIf, follows}
+use Rattle.std.specs.Borrow.{Fml, GName, RattleType, MutBor, Array, u8, Lends, LendsIf, follows}
+use Rattle.std.specs.Map.{values_of}
 use Rattle.std.specs.HashMap.Lent.{HashMembers}
 use Rattle.std.specs.declared.hash.Hasher as hasher
 use Rattle.std.specs.declared.hash.BuildHasher as builder
-use Rattle.linked_hash_map.specs.LinkedMap.{LinkedMap}
-use Rattle.linked_hash_map.specs.Changes.{refreshed}
+use Rattle.linked_hash_map.specs.LinkedMap.{LinkedMap, nowhere}
+use Rattle.linked_hash_map.specs.Changes.{refreshed, drained}
 use Rattle.linked_hash_map.specs.Pairs.{set_value, set_values}
 use Rattle.linked_hash_map.specs.Indexes.{set_value_at}
 use Rattle.linked_hash_map.specs.contracts.map.LinkedHashMap.{the_row}
@@ -20,6 +21,10 @@ module _ (K V S H : RattleType) (key : HashMembers K.Denot) (build : builder.Gho
     abbrev pub lends_at : ℕ → MutBor V.Denot → Fml
     lends_at index r = Lends map_row V m r (λ v. record m.now { pairs = set_value_at m.now.pairs index v })
 
+    -- the value of the pair that an entry stood for is the last one written through the reference
+    abbrev pub lends_left : MutBor V.Denot → Fml
+    lends_left r = Lends map_row V m r (λ v. record m.now { pairs = set_value_at m.now.pairs m.now.current v; current = nowhere })
+
     -- the value of k, which is present, is the last one written through the reference
     abbrev pub lends_present : K.Denot → MutBor V.Denot → Fml
     lends_present k r = Lends map_row V m r (λ v. record m.now { pairs = set_value key.eq m.now.pairs k v })
@@ -32,6 +37,10 @@ module _ (K V S H : RattleType) (key : HashMembers K.Denot) (build : builder.Gho
     abbrev pub lends_refreshed : K.Denot → Option (MutBor V.Denot) → Fml
     lends_refreshed k r = LendsIf map_row V m r (refreshed key.eq m.now k) m.now
 
-    -- the values are the last ones written through the loan with this name
+    -- the values are those that the loan with this name ends at, in order
     abbrev pub lends_values : GName → Fml
-    lends_values name = follows map_row (Array V 0) m.ghost_name name (λ vs. record m.now { pairs = set_values m.now.pairs vs })
+    lends_values name = follows map_row map_row m.ghost_name name (λ n. record m.now { pairs = set_values m.now.pairs (values_of n.pairs) })
+
+    -- the map is empty once the borrow with this name ends, which is of no bytes
+    abbrev pub lends_drained : GName → Fml
+    lends_drained name = follows map_row (Array u8 0) m.ghost_name name (λ _. drained m.now)

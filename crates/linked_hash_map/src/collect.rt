@@ -1,10 +1,11 @@
 //! Maps that take in what an iterator gives.
-ghost use Rattle.std.specs.Prelude.{◌≡◌, ℕ, max, length, None, ◌<◌, ◌≤◌, ◌⊎◌, IfOk, IfErr, OnErr, OnOk, IsErrOf};
+ghost use Rattle.std.specs.Prelude.{◌≡◌, ℕ, ◌-◌, max, length, None, ◌<◌, ◌≤◌, ◌⊎◌, IfOk, IfErr, OnErr, OnOk, IsErrOf};
 ghost use Rattle.std.specs.Iterator.{IsFiniteIterable};
 ghost use Rattle.std.specs.Map.Iter.{deref_pair};
 ghost use Rattle.linked_hash_map.specs.Pairs.{find};
 ghost use Rattle.linked_hash_map.specs.Validity.{IsValid};
-ghost use Rattle.linked_hash_map.specs.Inserts.{GivesSome, HintsAt, InsertsAll, InsertsUntil, Collects};
+ghost use Rattle.linked_hash_map.specs.Counts.{rechained_each};
+ghost use Rattle.linked_hash_map.specs.Inserts.{GivesSome, HintsAt, InsertsAll, InsertsUntil, Collects, RaisesFromHint};
 
 use crate::error::{Refused, ReserveError};
 use crate::map::{LIMIT, LinkedHashMap};
@@ -36,6 +37,8 @@ impl<K: Eq + Hash, V, S: BuildHasher> LinkedHashMap<K, V, S> {
         requires ends { IsFiniteIterable I.into_iter_gives I.IntoIter.can_next I.IntoIter.remaining items }
         ensures all { OnOk result (InsertsAll I.into_iter_gives I.IntoIter.next_gives items K.eq (λ pair. pair) self.old.pairs self.new.pairs) }
         ensures capacity { self.new.capacity ≡ max self.old.capacity (length self.new.pairs) }
+        ensures rechained { self.new.rechained
+            ≡ rechained_each self.old.rechained self.old.capacity (self.new.capacity - self.old.capacity) }
         ensures hasher { self.new.hasher ≡ self.old.hasher }
         ensures valid { IsValid K.eq self.old }
         ensures stays_valid { IsValid K.eq self.new }
@@ -79,6 +82,8 @@ impl<K: Eq + Hash, V, S: BuildHasher> LinkedHashMap<K, V, S> {
         requires ends { IsFiniteIterable I.into_iter_gives I.IntoIter.can_next I.IntoIter.remaining items }
         ensures all { OnOk result (InsertsAll I.into_iter_gives I.IntoIter.next_gives items K.eq deref_pair self.old.pairs self.new.pairs) }
         ensures capacity { self.new.capacity ≡ max self.old.capacity (length self.new.pairs) }
+        ensures rechained { self.new.rechained
+            ≡ rechained_each self.old.rechained self.old.capacity (self.new.capacity - self.old.capacity) }
         ensures hasher { self.new.hasher ≡ self.old.hasher }
         ensures valid { IsValid K.eq self.old }
         ensures stays_valid { IsValid K.eq self.new }
@@ -125,6 +130,7 @@ impl<K: Eq + Hash, V, S: BuildHasher> LinkedHashMap<K, V, S> {
         I::IntoIter: Drop,
         requires ends { IsFiniteIterable I.into_iter_gives I.IntoIter.can_next I.IntoIter.remaining items }
         ensures all { IfOk result (λ map. Collects I.into_iter_gives I.IntoIter.next_gives items K.eq (λ pair. pair) I.IntoIter.remaining map.pairs map.capacity) }
+        ensures rechained { IfOk result (λ map. RaisesFromHint I.into_iter_gives I.IntoIter.next_gives items I.IntoIter.remaining map.capacity map.rechained) }
         ensures hasher { IfOk result (λ map. S.is_default map.hasher) }
         ensures valid { IfOk result (IsValid K.eq) }
 

@@ -1,18 +1,16 @@
 //! Draining a map.
-ghost use Rattle.std.specs.Prelude.{◌≡◌, [], Some, IfSome, length};
+ghost use Rattle.std.specs.Prelude.{◌≡◌, Some, IfSome, length, map};
 ghost use Rattle.std.specs.Iterator.{at_most, UpTo};
 ghost use Rattle.std.specs.Iterator.SizeHint.{IsWithinCount};
 
-use crate::map::{DefaultHashBuilder, LinkedHashMap};
-use std::hash::{BuildHasher, Hash};
+use lhm_ring::ring;
 use std::iter::FusedIterator;
 
-/// An iterator that takes the pairs out of a map and hands them out, from both ends. It is made by `drain`.
+/// An iterator that hands out the pairs that a map had, from both ends. It is made by `drain`.
 ///
-/// Letting it go drops the pairs that are left, a step for each, so that the map is empty and has the capacity that it had.
-/// Where it is forgotten, they stay in the map. No call takes memory. `next` and `next_back` cost at most a step for each pair
-/// that is left, and a constant number of steps where the last pair was taken from the same end. Unlike the original's it
-/// names the hasher's type and asks for `K: Eq + Hash` and `S: BuildHasher`; its calls ask for `K: Drop` and `V: Drop`.
+/// The map is empty and has the capacity that it had from that call on. Letting the iterator go drops the pairs that are left, a
+/// step for each; where it is forgotten, they are leaked, and nothing else is. No call takes memory. Its calls ask for `K: Drop`
+/// and `V: Drop`, which those of the original do not.
 ///
 /// # Examples
 ///
@@ -26,55 +24,33 @@ use std::iter::FusedIterator;
 /// drop(pairs);
 /// assert_eq!(rt; (map.len(), map.capacity()), (0, 2));
 /// ```
-pub struct Drain<'a, K: Eq + Hash, V, S: BuildHasher = DefaultHashBuilder> {
-    map: &'a mut LinkedHashMap<K, V, S>,
-    reversed: bool,
+pub struct Drain<'a, K, V> {
+    nodes: ring::Drain<'a, K, V>,
 }
 
-impl<'a, K: Eq + Hash, V, S: BuildHasher> Drain<'a, K, V, S> {
-    ghost use Rattle.linked_hash_map.specs.Drains.{drain_map, drain_rest, drain_lender, DrainKeeps};
+impl<'a, K, V> Drain<'a, K, V> {
+    ghost use Rattle.lhm_ring.specs.Drains as ring;
+    ghost use Rattle.linked_hash_map.specs.Drains.{drain_rest, drain_name};
 
-    /// Drains a map.
-    pub(crate) fn new(map: &'a mut LinkedHashMap<K, V, S>) -> Self
-        ensures lender { drain_lender result ≡ map.entry.ghost_name }
-        ensures map { drain_map result ≡ map.entry.now }
-        ensures rest { drain_rest result ≡ map.entry.now.pairs }
+    /// Hands out what a ring held.
+    pub(crate) fn new(nodes: ring::Drain<'a, K, V>) -> Self
+        ensures rest { drain_rest result ≡ map (λ t. t.1) (ring.drain_rest nodes.entry) }
+        ensures name { drain_name result ≡ ring.drain_name nodes.entry }
     {
-        Drain {
-            map,
-            reversed: false,
-        }
-    }
-
-    /// Turns the pairs that are left round, where they do not lie in this direction yet.
-    fn lay(&mut self, reversed: bool)
-        ensures laid { self.new.reversed ≡ reversed }
-        ensures rest { drain_rest self.new ≡ drain_rest self.old }
-        ensures keeps { DrainKeeps self.old self.new }
-    {
-        if self.reversed != reversed {
-            self.map.reverse();
-            self.reversed = reversed;
-        }
+        Drain { nodes }
     }
 }
 
-/// Drops the pairs that are left, and leaves the map empty, with its capacity and its hasher.
-impl<'a, K: Eq + Hash + Drop, V: Drop, S: BuildHasher> Drop for Drain<'a, K, V, S> {
-    ghost use Rattle.linked_hash_map.specs.Drains.{drain_map};
-
-    fn drop(self)
-        ensures empty { self.exit.0.now.pairs ≡ [] }
-        ensures capacity { self.exit.0.now.capacity ≡ (drain_map self.entry).capacity }
-        ensures hasher { self.exit.0.now.hasher ≡ (drain_map self.entry).hasher }
-    {
-        let Drain { map, reversed: _ } = self;
-        map.clear();
+/// Drops the pairs that are left.
+impl<'a, K: Drop, V: Drop> Drop for Drain<'a, K, V> {
+    fn drop(self) {
+        let Drain { nodes } = self;
+        drop(nodes);
     }
 }
 
 /// `next` hands out the pair at the oldest place that is left; the size hint is exact.
-impl<'a, K: Eq + Hash + Drop, V: Drop, S: BuildHasher> Iterator for Drain<'a, K, V, S> {
+impl<'a, K: Drop, V: Drop> Iterator for Drain<'a, K, V> {
     ghost use Rattle.linked_hash_map.specs.Drains.{drain_rest, DrainSteps};
 
     type Item = (K, V);
@@ -84,8 +60,10 @@ impl<'a, K: Eq + Hash + Drop, V: Drop, S: BuildHasher> Iterator for Drain<'a, K,
     ghost remaining = { λ d. at_most (length (drain_rest d)) };
 
     fn next(&mut self) -> Option<(K, V)> {
-        self.lay(true);
-        self.map.pop_back()
+        match self.nodes.next() {
+            Some((_, key, value)) => Some((key, value)),
+            None => None,
+        }
     }
 
     fn size_hint(&self) -> (usize, Option<usize>)
@@ -99,23 +77,25 @@ impl<'a, K: Eq + Hash + Drop, V: Drop, S: BuildHasher> Iterator for Drain<'a, K,
 }
 
 /// `next_back` hands out the pair at the newest place that is left.
-impl<'a, K: Eq + Hash + Drop, V: Drop, S: BuildHasher> DoubleEndedIterator for Drain<'a, K, V, S> {
+impl<'a, K: Drop, V: Drop> DoubleEndedIterator for Drain<'a, K, V> {
     ghost use Rattle.linked_hash_map.specs.Drains.{DrainStepsBack};
 
     ghost next_back_gives = { DrainStepsBack };
 
     fn next_back(&mut self) -> Option<(K, V)> {
-        self.lay(false);
-        self.map.pop_back()
+        match self.nodes.next_back() {
+            Some((_, key, value)) => Some((key, value)),
+            None => None,
+        }
     }
 }
 
 /// `len` is the number of pairs that are left.
-impl<'a, K: Eq + Hash + Drop, V: Drop, S: BuildHasher> ExactSizeIterator for Drain<'a, K, V, S> {
+impl<'a, K: Drop, V: Drop> ExactSizeIterator for Drain<'a, K, V> {
     fn len(&self) -> usize {
-        self.map.len()
+        self.nodes.len()
     }
 }
 
 /// Once no pair is left, `next` and `next_back` answer `None` for good.
-impl<'a, K: Eq + Hash + Drop, V: Drop, S: BuildHasher> FusedIterator for Drain<'a, K, V, S> {}
+impl<'a, K: Drop, V: Drop> FusedIterator for Drain<'a, K, V> {}

@@ -5,6 +5,7 @@
 ghost use Rattle.std.specs.Prelude.{◌≡◌, ◌<◌, None, length};
 ghost use Rattle.linked_hash_map.specs.Pairs.{find};
 ghost use Rattle.linked_hash_map.specs.Cursor.{IsOutside, IsOutside-prop};
+ghost use Rattle.linked_hash_map.specs.Hashers.{hash_by};
 
 mod cursor;
 mod methods;
@@ -60,10 +61,10 @@ pub enum Entry<'a, K: Eq + Hash, V, S: BuildHasher = DefaultHashBuilder> {
 /// ```
 #[derive(Drop)]
 pub struct OccupiedEntry<'a, K: Eq + Hash, V, S: BuildHasher = DefaultHashBuilder> {
+    // Its pair is the map's current one.
     map: &'a mut LinkedHashMap<K, V, S>,
-    index: usize,
-    ghost within: { index < length map.now.pairs },
-    ghost outside: { IsOutside index map.now } by { IsOutside-prop index map.now },
+    ghost within: { map.now.current < length map.now.pairs },
+    ghost outside: { IsOutside map.now.current map.now } by { IsOutside-prop map.now.current map.now },
 }
 
 /// The entry of a key that is absent: it owns the key, which is dropped with it.
@@ -84,7 +85,9 @@ pub struct OccupiedEntry<'a, K: Eq + Hash, V, S: BuildHasher = DefaultHashBuilde
 pub struct VacantEntry<'a, K: Eq + Hash, V, S: BuildHasher = DefaultHashBuilder> {
     map: &'a mut LinkedHashMap<K, V, S>,
     key: K,
+    number: u64,
     ghost absent: { find K.eq map.now.pairs key ≡ None },
+    ghost hashed: { number ≡ hash_by S.Hasher.finish S.Hasher.write S.build_hasher K.hash_input map.now.hasher key },
 }
 
 // By hand, so that callers know what an unused entry leaves.
@@ -94,6 +97,10 @@ impl<'a, K: Eq + Hash + Drop, V, S: BuildHasher> Drop for VacantEntry<'a, K, V, 
     fn drop(self)
         ensures { self.exit.0.now ≡ vacant_map self.entry }
     {
-        let VacantEntry { map: _, key: _ } = self;
+        let VacantEntry {
+            map: _,
+            key: _,
+            number: _,
+        } = self;
     }
 }

@@ -2,17 +2,18 @@
 //!
 //! A contract sees an iterator as the list of what it has left: any mixture of `next` and `next_back` hands out each item once,
 //! from the two ends, and then answers `None` for good. No call takes memory but the clone of an [`IntoIter`].
-ghost use Rattle.std.specs.Prelude.{◌≡◌, Some, IfSome, length, zip, ⊤};
+ghost use Rattle.std.specs.Prelude.{◌≡◌, Some, IfSome, length, ⊤};
 ghost use Rattle.std.specs.Iterator.{at_most, UpTo};
 ghost use Rattle.std.specs.Iterator.SizeHint.{IsWithinCount};
 ghost use Rattle.std.specs.Map.Iter.{TakesFirst, TakesLast, deref_pair};
 
 use crate::map::LinkedHashMap;
+use lhm_ring::ring;
+use lhm_ring::ring::Ring;
 use std::alloc::AllocError;
 use std::hash::{BuildHasher, Hash};
 use std::iter::FusedIterator;
 use std::marker::Model;
-use std::slice;
 
 mod into_iter;
 mod iter_mut;
@@ -42,32 +43,27 @@ pub use values::Values;
 /// ```
 #[derive(Drop)]
 pub struct Iter<'a, K, V> {
-    keys: slice::Iter<'a, K>,
-    values: slice::Iter<'a, V>,
+    nodes: ring::Iter<'a, K, V>,
 }
 
 /// A contract sees the pairs that are left, in their order.
 impl<'a, K, V> Model for Iter<'a, K, V> {
-    ghost use Rattle.std.specs.Prelude.{◌≡◌, List, length, zip};
-    ghost use Rattle.std.specs.Slice.Iter.{iter_rest};
+    ghost use Rattle.std.specs.Prelude.{List};
+    ghost use Rattle.linked_hash_map.specs.Nodes.{pairs_of};
 
     ghost Value = { List (K × V) };
 
-    ghost view = { λ a. zip (iter_rest a.keys) (iter_rest a.values) };
-
-    ghost invariant = { λ a. length (iter_rest a.values) ≡ length (iter_rest a.keys) };
+    ghost view = { λ a. pairs_of a.nodes };
 }
 
 impl<'a, K, V> Iter<'a, K, V> {
-    /// Walks keys and values side by side.
-    pub(crate) fn new(keys: &'a [K], values: &'a [V]) -> Self
-        requires { length values.now ≡ length keys.now }
-        ensures { result ≡ zip keys.now values.now }
+    ghost use Rattle.linked_hash_map.specs.Nodes.{pairs_of};
+
+    /// Walks over a ring.
+    pub(crate) fn new(ring: &'a Ring<K, V>) -> Self
+        ensures { result ≡ pairs_of ring.now.held }
     {
-        Iter {
-            keys: keys.iter(),
-            values: values.iter(),
-        }
+        Iter { nodes: ring.iter() }
     }
 }
 
@@ -80,8 +76,10 @@ impl<'a, K, V> Iterator for Iter<'a, K, V> {
     ghost remaining = { λ s. at_most (length s) };
 
     fn next(&mut self) -> Option<(&'a K, &'a V)> {
-        let key = self.keys.next()?;
-        Some((key, self.values.next().unwrap()))
+        match self.nodes.next() {
+            Some((_, key, value)) => Some((key, value)),
+            None => None,
+        }
     }
 
     fn size_hint(&self) -> (usize, Option<usize>)
@@ -99,15 +97,17 @@ impl<'a, K, V> DoubleEndedIterator for Iter<'a, K, V> {
     ghost next_back_gives = { TakesLast deref_pair };
 
     fn next_back(&mut self) -> Option<(&'a K, &'a V)> {
-        let key = self.keys.next_back()?;
-        Some((key, self.values.next_back().unwrap()))
+        match self.nodes.next_back() {
+            Some((_, key, value)) => Some((key, value)),
+            None => None,
+        }
     }
 }
 
 /// `len` is the number of pairs that are left.
 impl<'a, K, V> ExactSizeIterator for Iter<'a, K, V> {
     fn len(&self) -> usize {
-        self.values.len()
+        self.nodes.len()
     }
 }
 
@@ -122,8 +122,7 @@ impl<'a, K, V> Clone for Iter<'a, K, V> {
 
     fn clone(&self) -> Result<Self, AllocError> {
         Ok(Iter {
-            keys: self.keys.clone()?,
-            values: self.values.clone()?,
+            nodes: self.nodes.clone()?,
         })
     }
 }

@@ -3,7 +3,7 @@
 //! A map is a list of pairs with pairwise different keys, from the oldest place to the newest, with a capacity and a hasher.
 //! The contract of each call says what it does to that list. How the pairs are kept concerns few functions: those of
 //! `storage`, and the ones here that name the fields.
-ghost use Rattle.std.specs.Prelude.{◌≡◌, ◌==◌, ◌+◌, ◌<◌, ◌≤◌, [], length, max, option_copied, option_map, is_some, None, IsErrOf, ◌↔◌, OnOk, OnErr, IfOk, IfErr};
+ghost use Rattle.std.specs.Prelude.{◌≡◌, ◌==◌, ◌+◌, ◌<◌, ◌≤◌, [], length, max, option_copied, option_map, is_some, None, IsErrOf, ◌↔◌, OnOk, OnErr, IfOk, IfErr, IfNone, OnSome};
 ghost use Rattle.std.specs.Map.{keys_of, values_of};
 ghost use Rattle.std.specs.Map.Iter.{deref, deref_pair, ShowsInOrder, ShowsInReverse, LendsValuesInOrder, LendsValuesInReverse};
 ghost use Rattle.std.specs.Borrow.{sem};
@@ -11,13 +11,18 @@ ghost use Rattle.std.specs.Option.{option_copied_mut};
 ghost use Rattle.linked_hash_map.specs.Pairs.{find, value_at, without, to_back, first, last, without_first, without_last, KeysStand};
 ghost use Rattle.linked_hash_map.specs.Validity.{IsValid};
 ghost use Rattle.linked_hash_map.specs.Hashers.{IsDefaultHashBuilder};
+ghost use Rattle.linked_hash_map.specs.Hashers.{hash_by};
+ghost use Rattle.linked_hash_map.specs.Counts.{same, beside, buckets, rechained_raised, rechained_fitted};
 
 mod index;
 mod storage;
 
+use self::storage::ring_with_room;
 use crate::drain::Drain;
 use crate::error::{NoRoom, Refused, ReserveError};
 use crate::iter::{Iter, IterMut, Keys, Values};
+use lhm_ring::index::{Index, Probe};
+use lhm_ring::ring::{Position, Ring};
 use std::alloc::Global;
 use std::hash::{BuildHasher, BuildHasherDefault, FoldHasher, Hash};
 use std::marker::Model;
@@ -58,11 +63,11 @@ pub type DefaultHashBuilder = BuildHasherDefault<FoldHasher>;
 /// A new key goes to the back; inserting a key that is present moves its pair to the back. Every call keeps the map valid:
 /// its keys are pairwise different, and its length is within its capacity, which is within [`LIMIT`].
 ///
-/// Costs are named in steps, each of which compares, hashes, moves or drops one pair. A look-up costs at most a step for
-/// each pair, and so do an insertion and a removal. Where no cost is named at a call, it costs a constant number of steps.
-/// Dropping a map drops its pairs, a step for each. The keys and the values stand in two vectors, and a key is looked for
-/// from the oldest place on: so for now a look-up costs a step for each pair up to the one that it finds, and the hasher is
-/// not asked.
+/// Costs are named in steps, each of which reaches, moves or drops one pair. A look-up hashes its key once and goes along the
+/// chain of the key's bucket, a step for each pair that it reaches, and compares keys only where their numbers agree:
+/// [`get_counted`](LinkedHashMap::get_counted) says how many. There are at least as many buckets as places and fewer than twice
+/// as many. Taking a pair out costs a step for each that comes before it in its chain, and compares no key. Where no cost is
+/// named at a call, it costs a constant number of steps. Dropping a map drops its pairs, a step for each.
 ///
 /// Unlike the original's, the type asks for `K: Eq + Hash` and `S: BuildHasher` wherever it is named, and is made with an
 /// allocator that is handed in.
@@ -81,30 +86,37 @@ pub type DefaultHashBuilder = BuildHasherDefault<FoldHasher>;
 /// ```
 #[derive(Drop)]
 pub struct LinkedHashMap<K: Eq + Hash, V, S: BuildHasher = DefaultHashBuilder> {
-    keys: Vec<K>,
-    values: Vec<V>,
-    capacity: usize,
+    // The pairs in order, each with the number of its key, and a spare node for each pair more that there is room for.
+    ring: Ring<K, V>,
+    // Which node has a key, by its number.
+    index: Index<K, V>,
     hasher: S,
-    // The index of the next pair that a cursor visits.
-    bookmark: usize,
+    // Where the next pair is that a cursor visits.
+    mark: Option<Position<K, V>>,
     // How many pairs from there on it has still to visit: none where there is no cursor.
     unvisited: usize,
+    // Where the pair is that an occupied entry stands for.
+    current: Option<Position<K, V>>,
+    // How many nodes changes of the capacity have chained again.
+    rechained: usize,
 }
 
 /// A contract sees a map as its pairs from the oldest place to the newest, its capacity, its hasher, and what a cursor has
 /// still to visit.
 impl<K: Eq + Hash, V, S: BuildHasher> Model for LinkedHashMap<K, V, S> {
-    ghost use Rattle.std.specs.Prelude.{vec_capacity, zip};
+    ghost use Rattle.std.specs.Prelude.{◌+◌, length};
     ghost use Rattle.linked_hash_map.specs.LinkedMap.{LinkedMap, linked_map, linked_map_code};
-    ghost use Rattle.linked_hash_map.specs.Columns.{AreColumns};
+    ghost use Rattle.linked_hash_map.specs.Nodes.{IsKept, pairs_of, bare, bookmark_at, current_at};
+    ghost use Rattle.linked_hash_map.specs.Hashers.{hash_by};
+    ghost use Rattle.lhm_ring.specs.Positions.{place_of_some};
 
     ghost Value = { LinkedMap K V S };
 
     ghost coded = { linked_map_code K.code V.code S.code };
 
-    ghost view = { λ m. linked_map (zip m.keys.items m.values.items) m.capacity m.hasher m.bookmark m.unvisited };
+    ghost view = { λ m. linked_map (pairs_of m.ring.held) (length m.ring.held + m.ring.spares) m.hasher (bookmark_at (place_of_some m.mark) (bare m.ring.held)) m.unvisited (current_at (place_of_some m.current) (bare m.ring.held)) m.rechained };
 
-    ghost invariant = { λ m. AreColumns K.eq m.keys.items m.values.items m.capacity (vec_capacity m.keys) (vec_capacity m.values) m.bookmark m.unvisited };
+    ghost invariant = { λ m. IsKept K.eq (hash_by S.Hasher.finish S.Hasher.write S.build_hasher K.hash_input m.hasher) m.index m.ring (place_of_some m.mark) m.unvisited (place_of_some m.current) m.rechained };
 }
 
 impl<K: Eq + Hash, V> LinkedHashMap<K, V> {
@@ -123,6 +135,7 @@ impl<K: Eq + Hash, V> LinkedHashMap<K, V> {
         ensures capacity { result.capacity ≡ 0 }
         ensures hasher { IsDefaultHashBuilder result.hasher }
         ensures valid { IsValid K.eq result }
+        ensures rechained { result.rechained ≡ 0 }
     {
         Self::with_hasher(alloc, BuildHasherDefault::new())
     }
@@ -144,6 +157,7 @@ impl<K: Eq + Hash, V> LinkedHashMap<K, V> {
         ensures capacity { IfOk result (λ map. map.capacity ≡ capacity) }
         ensures hasher { IfOk result (λ map. IsDefaultHashBuilder map.hasher) }
         ensures valid { IfOk result (IsValid K.eq) }
+        ensures rechained { IfOk result (λ map. map.rechained ≡ 0) }
 
         ensures too_large { IsErrOf result ReserveError.TooLarge ↔ (LIMIT < capacity) }
         ensures no_room { IsErrOf result ReserveError.NoRoom → 0 < capacity }
@@ -154,9 +168,9 @@ impl<K: Eq + Hash, V> LinkedHashMap<K, V> {
 }
 
 impl<K: Eq + Hash, V, S: BuildHasher> LinkedHashMap<K, V, S> {
-    ghost use Rattle.linked_hash_map.specs.Drains.{drain_map, drain_rest, drain_lender, DrainSteps, DrainStepsBack, DrainKeepsAlong};
+    ghost use Rattle.linked_hash_map.specs.Drains.{drain_rest, drain_name, DrainSteps, DrainStepsBack, DrainKeepsAlong};
     ghost use Rattle.std.specs.Iterator.Runs.{YieldsInOrder, YieldsInReverse};
-    ghost use Rattle.linked_hash_map.specs.Lends.{lends_value, lends_refreshed, lends_values};
+    ghost use Rattle.linked_hash_map.specs.Lends.{lends_value, lends_refreshed, lends_values, lends_drained};
     ghost use Rattle.linked_hash_map.specs.ValueWalks.{pairs_left, loan_name};
 
     /// Makes an empty map of capacity 0 with the given build hasher.
@@ -178,14 +192,16 @@ impl<K: Eq + Hash, V, S: BuildHasher> LinkedHashMap<K, V, S> {
         ensures capacity { result.capacity ≡ 0 }
         ensures hasher { result.hasher ≡ hasher }
         ensures valid { IsValid K.eq result }
+        ensures rechained { result.rechained ≡ 0 }
     {
         LinkedHashMap {
-            keys: Vec::new(alloc),
-            values: Vec::new(alloc),
-            capacity: 0,
+            ring: Ring::new(alloc),
+            index: Index::new(alloc),
             hasher,
-            bookmark: 0,
+            mark: None,
             unvisited: 0,
+            current: None,
+            rechained: 0,
         }
     }
 
@@ -217,6 +233,7 @@ impl<K: Eq + Hash, V, S: BuildHasher> LinkedHashMap<K, V, S> {
         ensures capacity { IfOk result (λ map. map.capacity ≡ capacity) }
         ensures hasher { IfOk result (λ map. map.hasher ≡ hasher) }
         ensures valid { IfOk result (IsValid K.eq) }
+        ensures rechained { IfOk result (λ map. map.rechained ≡ 0) }
 
         ensures too_large { IsErrOf result ReserveError.TooLarge ↔ (LIMIT < capacity) }
         ensures no_room { IsErrOf result ReserveError.NoRoom → 0 < capacity }
@@ -225,20 +242,20 @@ impl<K: Eq + Hash, V, S: BuildHasher> LinkedHashMap<K, V, S> {
         if capacity > LIMIT {
             return Err(ReserveError::TooLarge);
         }
-        let Ok(keys) = Vec::with_capacity(alloc, capacity) else {
+        let Ok(index) = Index::with_buckets(alloc, capacity) else {
             return Err(ReserveError::NoRoom);
         };
-        let Ok(values) = Vec::with_capacity(alloc, capacity) else {
-            keys.destroy_empty();
+        let Ok(ring) = ring_with_room(alloc, capacity) else {
             return Err(ReserveError::NoRoom);
         };
         Ok(LinkedHashMap {
-            keys,
-            values,
-            capacity,
+            ring,
+            index,
             hasher,
-            bookmark: 0,
+            mark: None,
             unvisited: 0,
+            current: None,
+            rechained: 0,
         })
     }
 
@@ -263,6 +280,8 @@ impl<K: Eq + Hash, V, S: BuildHasher> LinkedHashMap<K, V, S> {
         ensures hasher { self.new.hasher ≡ self.old.hasher }
         ensures capacity { OnOk result
             (self.new.capacity ≡ max self.old.capacity (length self.old.pairs + additional)) }
+        ensures rechained { OnOk result (self.new.rechained
+            ≡ rechained_raised self.old.rechained (length self.old.pairs) self.old.capacity self.new.capacity) }
         ensures valid { IsValid K.eq self.old }
         ensures stays_valid { IsValid K.eq self.new }
 
@@ -273,27 +292,23 @@ impl<K: Eq + Hash, V, S: BuildHasher> LinkedHashMap<K, V, S> {
         ensures no_room_within { IsErrOf result ReserveError.NoRoom →
             length self.old.pairs + additional ≤ LIMIT }
     {
-        let len = self.keys.len();
+        let len = self.len();
         if additional > LIMIT - len {
             return Err(ReserveError::TooLarge);
         }
-        if len + additional <= self.capacity {
-            return Ok(());
+        if len + additional <= self.capacity() || self.raise(len + additional) {
+            Ok(())
+        } else {
+            Err(ReserveError::NoRoom)
         }
-        if self.keys.reserve_exact(additional).is_err()
-            || self.values.reserve_exact(additional).is_err()
-        {
-            return Err(ReserveError::NoRoom);
-        }
-        self.capacity = len + additional;
-        Ok(())
     }
 
     /// Lowers the capacity to exactly the number of pairs.
     ///
-    /// On an empty map, and where the capacity is the number of pairs already, it takes no memory and is never refused;
-    /// an empty map gives all its memory back. Otherwise it may ask for smaller blocks, and a refusal changes nothing. The
-    /// order stays. It costs at most a step for each pair of the old capacity. The original may leave some space.
+    /// On an empty map, and where the capacity is the number of pairs already, it takes no memory and is never refused; an empty
+    /// map gives all its memory back. Otherwise it asks for memory only where there are to be fewer buckets, and a refusal
+    /// changes nothing. The order stays. It costs at most a step for each pair of the old capacity. The original may leave some
+    /// space.
     ///
     /// # Examples
     ///
@@ -311,6 +326,8 @@ impl<K: Eq + Hash, V, S: BuildHasher> LinkedHashMap<K, V, S> {
         ensures pairs { self.new.pairs ≡ self.old.pairs }
         ensures hasher { self.new.hasher ≡ self.old.hasher }
         ensures capacity { OnOk result (self.new.capacity ≡ length self.old.pairs) }
+        ensures rechained { OnOk result (self.new.rechained
+            ≡ rechained_fitted self.old.rechained (length self.old.pairs) self.old.capacity) }
         ensures valid { IsValid K.eq self.old }
         ensures stays_valid { IsValid K.eq self.new }
 
@@ -318,23 +335,22 @@ impl<K: Eq + Hash, V, S: BuildHasher> LinkedHashMap<K, V, S> {
         ensures some { OnErr result (0 < length self.old.pairs) }
         ensures spare { OnErr result (length self.old.pairs < self.old.capacity) }
     {
-        let len = self.keys.len();
-        // A refused growth may have left room in one of the vectors of an empty map.
-        if len == 0 || len < self.capacity {
-            self.keys.shrink_to_fit();
-            self.values.shrink_to_fit();
-            self.capacity = len;
+        let len = self.len();
+        if len == 0 {
+            self.free();
+        } else if len < self.capacity() && !self.lower() {
+            return Err(NoRoom);
         }
         Ok(())
     }
 
     /// Puts a pair at the back.
     ///
-    /// A key that is present keeps its stored key and gets the new value, its pair moves to the back, `key` is dropped
-    /// and the old value is returned; this takes no memory and is never refused. A new key below capacity takes no
-    /// memory and is never refused either. A new key at full capacity raises the capacity by exactly one, or is
-    /// refused: then the error has this key and this value, and the map is unchanged. It costs at most a step for each pair.
-    /// The original answers no error, and may take memory below its capacity.
+    /// A key that is present keeps its stored key and gets the new value, its pair moves to the back, `key` is dropped and the
+    /// old value is returned; this takes no memory and is never refused. A new key below capacity takes no memory and is never
+    /// refused either. A new key at full capacity raises the capacity by exactly one, or is refused: then the error has this key
+    /// and this value, and the map is unchanged. It costs a look-up, and where a raise changes the number of buckets a step for
+    /// each pair. The original answers no error, and may take memory below its capacity.
     ///
     /// # Examples
     ///
@@ -351,6 +367,8 @@ impl<K: Eq + Hash, V, S: BuildHasher> LinkedHashMap<K, V, S> {
         ensures old { IfOk result (λ old. old ≡ value_at K.eq self.old.pairs key) }
         ensures pairs { OnOk result (self.new.pairs ≡ to_back K.eq self.old.pairs key value) }
         ensures capacity { OnOk result (self.new.capacity ≡ max self.old.capacity (length self.new.pairs)) }
+        ensures rechained { OnOk result (self.new.rechained
+            ≡ rechained_raised self.old.rechained (length self.old.pairs) self.old.capacity self.new.capacity) }
         ensures hasher { OnOk result (self.new.hasher ≡ self.old.hasher) }
         ensures valid { IsValid K.eq self.old }
         ensures stays_valid { IsValid K.eq self.new }
@@ -361,26 +379,20 @@ impl<K: Eq + Hash, V, S: BuildHasher> LinkedHashMap<K, V, S> {
         ensures absent { OnErr result (find K.eq self.old.pairs key ≡ None) }
         ensures full { OnErr result (length self.old.pairs ≡ self.old.capacity) }
     {
-        match self.find(&key) {
-            Some(index) => {
-                let (stored, old) = self.take_out(index);
-                self.push_back(stored, value);
-                Ok(Some(old))
-            }
-            None => {
-                if !self.make_room() {
-                    return Err(Refused { key, value });
-                }
-                self.push_back(key, value);
-                Ok(None)
-            }
+        let number = self.number_of(&key);
+        if self.seek(number, &key) {
+            return Ok(Some(self.insert_current(value)));
         }
+        if !self.make_room() {
+            return Err(Refused { key, value });
+        }
+        self.push_back(number, key, value);
+        Ok(None)
     }
 
     /// Tells whether a key is present.
     ///
-    /// It takes no memory, leaves the order and costs at most a step for each pair. The original takes any borrowed form of the
-    /// key.
+    /// It takes no memory, leaves the order and costs a look-up. The original takes any borrowed form of the key.
     ///
     /// # Examples
     ///
@@ -393,13 +405,12 @@ impl<K: Eq + Hash, V, S: BuildHasher> LinkedHashMap<K, V, S> {
     pub fn contains_key(&self, key: &K) -> bool
         ensures { result ≡ is_some (find K.eq self.now.pairs key.now) }
     {
-        self.find(key).is_some()
+        self.get(key).is_some()
     }
 
     /// Returns the value of a key, or `None` where the key is absent.
     ///
-    /// It takes no memory, leaves the order and costs at most a step for each pair. The original takes any borrowed form of the
-    /// key.
+    /// It takes no memory, leaves the order and costs a look-up. The original takes any borrowed form of the key.
     ///
     /// # Examples
     ///
@@ -412,16 +423,55 @@ impl<K: Eq + Hash, V, S: BuildHasher> LinkedHashMap<K, V, S> {
     pub fn get(&self, key: &K) -> Option<&V>
         ensures { option_copied result ≡ value_at K.eq self.now.pairs key.now }
     {
-        match self.find(key) {
-            Some(index) => Some(self.pair_at(index).1),
-            None => None,
+        self.get_counted(key).0
+    }
+
+    /// Lends the value of a key, or returns `None` where the key is absent, and says how many nodes were reached and how many keys
+    /// compared.
+    ///
+    /// A look-up goes along the chain of the key's bucket: the number of buckets is the least power of two that is not below the
+    /// capacity, and 0 at capacity 0. For an absent key it reaches each pair whose number is in that bucket, and compares each key
+    /// with the same number; for a present key it does no more. Every look-up of the map is this one. It takes no memory and leaves
+    /// the order. The original has no such call.
+    ///
+    /// # Examples
+    ///
+    /// ```rust
+    /// let mut map = LinkedHashMap::new(rt.alloc());
+    /// map.insert('x', 1)?;
+    /// let (value, probe) = map.get_counted(&'x');
+    /// assert_eq!(rt; (value, probe.visited, probe.compared), (Some(&1), 1, 1));
+    /// ```
+    pub fn get_counted(&self, key: &K) -> (Option<&V>, Probe)
+        ensures value { option_copied result.0 ≡ value_at K.eq self.now.pairs key.now }
+        ensures valid { IsValid K.eq self.now }
+
+        // Where the key is absent.
+        ensures compared { IfNone result.0 (result.1.compared
+            ≡ same (hash_by S.Hasher.finish S.Hasher.write S.build_hasher K.hash_input self.now.hasher) self.now.pairs key.now) }
+        ensures visited { IfNone result.0 (result.1.visited
+            ≡ beside (hash_by S.Hasher.finish S.Hasher.write S.build_hasher K.hash_input self.now.hasher) self.now.pairs self.now.capacity key.now) }
+
+        // Where it is present.
+        ensures compared_some { OnSome result.0 (1 ≤ result.1.compared) }
+        ensures compared_few { OnSome result.0 (result.1.compared
+            ≤ same (hash_by S.Hasher.finish S.Hasher.write S.build_hasher K.hash_input self.now.hasher) self.now.pairs key.now) }
+        ensures visited_all { OnSome result.0 (result.1.compared ≤ result.1.visited) }
+        ensures visited_few { OnSome result.0 (result.1.visited
+            ≤ beside (hash_by S.Hasher.finish S.Hasher.write S.build_hasher K.hash_input self.now.hasher) self.now.pairs self.now.capacity key.now) }
+    {
+        let number = self.hasher.hash_one(key);
+        let (found, probe) = self.index.find(&self.ring, number, key);
+        match found {
+            Some(at) => (Some(self.ring.value(at)), probe),
+            None => (None, probe),
         }
     }
 
     /// Lends the value of a key for writing, or returns `None` where the key is absent.
     ///
-    /// What is written becomes the value of that pair. It takes no memory, leaves the order and costs at most a step for each
-    /// pair. The original takes any borrowed form of the key.
+    /// What is written becomes the value of that pair. It takes no memory, leaves the order and costs a look-up. The original
+    /// takes any borrowed form of the key.
     ///
     /// # Examples
     ///
@@ -438,8 +488,9 @@ impl<K: Eq + Hash, V, S: BuildHasher> LinkedHashMap<K, V, S> {
         ensures value { option_copied_mut result ≡ value_at K.eq self.old.pairs key.now }
         ensures valid { IsValid K.eq self.old }
     {
-        match self.find(key) {
-            Some(index) => Some(self.value_mut_at(index)),
+        let number = self.hasher.hash_one(key);
+        match self.index.find(&self.ring, number, key).0 {
+            Some(at) => Some(self.ring.value_mut(at)),
             None => None,
         }
     }
@@ -447,8 +498,8 @@ impl<K: Eq + Hash, V, S: BuildHasher> LinkedHashMap<K, V, S> {
     /// Moves the pair of a key to the back and lends its value for writing, or returns `None` where the key is absent
     /// and changes nothing.
     ///
-    /// What is written becomes the value of that pair. All other pairs keep their order. It takes no memory and costs at most a
-    /// step for each pair. The original takes any borrowed form of the key.
+    /// What is written becomes the value of that pair. All other pairs keep their order. It takes no memory and costs a look-up.
+    /// The original takes any borrowed form of the key.
     ///
     /// # Examples
     ///
@@ -466,23 +517,19 @@ impl<K: Eq + Hash, V, S: BuildHasher> LinkedHashMap<K, V, S> {
         ensures value { option_copied_mut result ≡ value_at K.eq self.old.pairs key.now }
         ensures valid { IsValid K.eq self.old }
     {
-        match self.find(key) {
-            Some(index) => {
-                let (stored, value) = self.take_out(index);
-                let last = self.len();
-                self.push_back(stored, value);
-                self.end_visit();
-                Some(self.value_mut_at(last))
-            }
-            None => None,
+        let number = self.number_of(key);
+        if !self.seek(number, key) {
+            return None;
         }
+        self.move_current_to_back();
+        Some(self.leave_current())
     }
 
     /// Takes out the pair of a key, drops the stored key and returns the value, or returns `None` where the key is
     /// absent.
     ///
-    /// All other pairs keep their order. It takes no memory, and the capacity stays. It costs at most a step for each pair. The
-    /// original takes any borrowed form of the key.
+    /// All other pairs keep their order. It takes no memory, and the capacity stays. It costs a look-up. The original takes any
+    /// borrowed form of the key.
     ///
     /// # Examples
     ///
@@ -500,17 +547,17 @@ impl<K: Eq + Hash, V, S: BuildHasher> LinkedHashMap<K, V, S> {
         ensures value { result ≡ value_at K.eq self.old.pairs key.now }
         ensures pairs { self.new.pairs ≡ without K.eq self.old.pairs key.now }
         ensures capacity { self.new.capacity ≡ self.old.capacity }
+        ensures rechained { self.new.rechained ≡ self.old.rechained }
         ensures hasher { self.new.hasher ≡ self.old.hasher }
         ensures valid { IsValid K.eq self.old }
         ensures stays_valid { IsValid K.eq self.new }
     {
-        match self.find(key) {
-            Some(index) => {
-                let (_stored, value) = self.take_out(index);
-                Some(value)
-            }
-            None => None,
+        let number = self.number_of(key);
+        if !self.seek(number, key) {
+            return None;
         }
+        let (_stored, value) = self.take_current();
+        Some(value)
     }
 
     /// Returns the number of pairs that the map has room for: up to it, an insertion takes no memory and is never
@@ -531,13 +578,39 @@ impl<K: Eq + Hash, V, S: BuildHasher> LinkedHashMap<K, V, S> {
         ensures capacity { result ≡ self.now.capacity }
         ensures valid { IsValid K.eq self.now }
     {
-        self.capacity
+        self.ring.len() + self.ring.spares()
+    }
+
+    /// Returns how many nodes changes of the capacity have chained again since the last [`shrink_to_fit`] that lowered it, its own
+    /// included.
+    ///
+    /// A change chains all pairs again where it changes the number of buckets, which is the least power of two that is not below
+    /// the capacity, and none else. So the number is at most that of the buckets, below twice the capacity, whatever calls came
+    /// before. It takes no memory. The original has no such call.
+    ///
+    /// [`shrink_to_fit`]: LinkedHashMap::shrink_to_fit
+    ///
+    /// # Examples
+    ///
+    /// ```rust
+    /// let mut map = LinkedHashMap::new(rt.alloc());
+    /// for key in [1, 2, 3, 4, 5] {
+    ///     map.insert(key, 0)?;
+    /// }
+    /// assert_eq!(rt; map.rechained(), 7);
+    /// ```
+    pub fn rechained(&self) -> usize
+        ensures rechained { result ≡ self.now.rechained }
+        ensures few { self.now.rechained ≤ buckets self.now.capacity }
+        ensures valid { IsValid K.eq self.now }
+    {
+        self.rechained
     }
 
     /// Takes out the pair at the oldest place, or returns `None` on an empty map.
     ///
-    /// The key is the stored one, and all other pairs keep their order. It takes no memory, and the capacity stays, for which
-    /// the original gives memory back. It costs at most a step for each pair.
+    /// The key is the stored one, and all other pairs keep their order. It takes no memory, and the capacity stays, for which the
+    /// original gives memory back. It costs a step for each pair before it in its chain.
     ///
     /// # Examples
     ///
@@ -552,14 +625,15 @@ impl<K: Eq + Hash, V, S: BuildHasher> LinkedHashMap<K, V, S> {
         ensures pair { result ≡ first self.old.pairs }
         ensures pairs { self.new.pairs ≡ without_first self.old.pairs }
         ensures capacity { self.new.capacity ≡ self.old.capacity }
+        ensures rechained { self.new.rechained ≡ self.old.rechained }
         ensures hasher { self.new.hasher ≡ self.old.hasher }
         ensures valid { IsValid K.eq self.old }
         ensures stays_valid { IsValid K.eq self.new }
     {
-        if self.is_empty() {
+        if !self.seek_first() {
             return None;
         }
-        Some(self.take_out(0))
+        Some(self.take_current())
     }
 
     /// Lends the pair at the oldest place, or returns `None` on an empty map.
@@ -577,16 +651,14 @@ impl<K: Eq + Hash, V, S: BuildHasher> LinkedHashMap<K, V, S> {
     pub fn front(&self) -> Option<(&K, &V)>
         ensures { option_map deref_pair result ≡ first self.now.pairs }
     {
-        if self.is_empty() {
-            return None;
-        }
-        Some(self.pair_at(0))
+        let at = self.ring.first()?;
+        Some((self.ring.key(at), self.ring.value(at)))
     }
 
     /// Takes out the pair at the newest place, or returns `None` on an empty map.
     ///
-    /// The key is the stored one, and all other pairs keep their order. It takes no memory, and the capacity stays, for which
-    /// the original gives memory back.
+    /// The key is the stored one, and all other pairs keep their order. It takes no memory, and the capacity stays, for which the
+    /// original gives memory back. It costs a step for each pair before it in its chain.
     ///
     /// # Examples
     ///
@@ -601,15 +673,15 @@ impl<K: Eq + Hash, V, S: BuildHasher> LinkedHashMap<K, V, S> {
         ensures pair { result ≡ last self.old.pairs }
         ensures pairs { self.new.pairs ≡ without_last self.old.pairs }
         ensures capacity { self.new.capacity ≡ self.old.capacity }
+        ensures rechained { self.new.rechained ≡ self.old.rechained }
         ensures hasher { self.new.hasher ≡ self.old.hasher }
         ensures valid { IsValid K.eq self.old }
         ensures stays_valid { IsValid K.eq self.new }
     {
-        if self.is_empty() {
+        if !self.seek_last() {
             return None;
         }
-        let last = self.len() - 1;
-        Some(self.take_out(last))
+        Some(self.take_current())
     }
 
     /// Lends the pair at the newest place, or returns `None` on an empty map.
@@ -627,10 +699,8 @@ impl<K: Eq + Hash, V, S: BuildHasher> LinkedHashMap<K, V, S> {
     pub fn back(&self) -> Option<(&K, &V)>
         ensures { option_map deref_pair result ≡ last self.now.pairs }
     {
-        if self.is_empty() {
-            return None;
-        }
-        Some(self.pair_at(self.len() - 1))
+        let at = self.ring.last()?;
+        Some((self.ring.key(at), self.ring.value(at)))
     }
 
     /// Returns the number of pairs. It takes no memory.
@@ -646,7 +716,7 @@ impl<K: Eq + Hash, V, S: BuildHasher> LinkedHashMap<K, V, S> {
         ensures len { result ≡ length self.now.pairs }
         ensures valid { IsValid K.eq self.now }
     {
-        self.keys.len()
+        self.ring.len()
     }
 
     /// Tells whether the map has no pairs. It takes no memory.
@@ -686,7 +756,7 @@ impl<K: Eq + Hash, V, S: BuildHasher> LinkedHashMap<K, V, S> {
 
     /// Drops all pairs and keeps the capacity, for which the original gives memory back.
     ///
-    /// It takes no memory and costs a step for each pair.
+    /// It takes no memory and costs a step for each pair and each bucket.
     ///
     /// # Examples
     ///
@@ -702,14 +772,14 @@ impl<K: Eq + Hash, V, S: BuildHasher> LinkedHashMap<K, V, S> {
         V: Drop,
         ensures pairs { self.new.pairs ≡ [] }
         ensures capacity { self.new.capacity ≡ self.old.capacity }
+        ensures rechained { self.new.rechained ≡ self.old.rechained }
         ensures hasher { self.new.hasher ≡ self.old.hasher }
         ensures valid { IsValid K.eq self.old }
         ensures stays_valid { IsValid K.eq self.new }
     {
-        self.keys.clear();
-        self.values.clear();
-        self.bookmark = 0;
-        self.unvisited = 0;
+        self.end_visit();
+        self.index.forget_all();
+        drop(self.ring.splice_all());
     }
 
     /// Returns an iterator over the pairs, from the oldest place to the newest, from both ends.
@@ -734,7 +804,7 @@ impl<K: Eq + Hash, V, S: BuildHasher> LinkedHashMap<K, V, S> {
         ensures runs { ShowsInOrder (deref_pair {K = K} {X = V}) }
         ensures runs_back { ShowsInReverse (deref_pair {K = K} {X = V}) }
     {
-        Iter::new(&self.keys, &self.values)
+        Iter::new(&self.ring)
     }
 
     /// Returns an iterator over the pairs, from the oldest place to the newest, from both ends, that lends each value for
@@ -762,7 +832,7 @@ impl<K: Eq + Hash, V, S: BuildHasher> LinkedHashMap<K, V, S> {
         ensures runs { LendsValuesInOrder (pairs_left {K = K} {V = V}) }
         ensures runs_back { LendsValuesInReverse (pairs_left {K = K} {V = V}) }
     {
-        IterMut::new(&self.keys, &mut self.values)
+        IterMut::new(self.lend())
     }
 
     /// Returns an iterator over the keys, in the order of their pairs, from both ends.
@@ -815,9 +885,9 @@ impl<K: Eq + Hash, V, S: BuildHasher> LinkedHashMap<K, V, S> {
 
     /// Returns an iterator that takes all pairs out and hands them out, from the oldest place to the newest, from both ends.
     ///
-    /// Once it is let go, early or not, the map is empty and has the capacity that it had. Neither the call nor a step of the
-    /// iterator takes memory; what a step costs is said at [`Drain`]. The original empties the map at the call, also where the
-    /// iterator is forgotten; here the pairs that a forgotten one had not handed out stay in the map.
+    /// The map is empty and has the capacity that it had from the call on, also where the iterator is forgotten: then the pairs
+    /// that it had not handed out are leaked. The call costs a step for each pair and each bucket. Neither the call nor a step of
+    /// the iterator takes memory. The original gives memory back.
     ///
     /// # Examples
     ///
@@ -831,21 +901,17 @@ impl<K: Eq + Hash, V, S: BuildHasher> LinkedHashMap<K, V, S> {
     /// drop(pairs);
     /// assert_eq!(rt; (map.len(), map.capacity()), (0, 2));
     /// ```
-    pub fn drain(&mut self) -> Drain<'_, K, V, S>
-    where
-        K: Drop,
-        V: Drop,
-        ensures same_map { drain_lender result ≡ self.entry.ghost_name }
+    pub fn drain(&mut self) -> Drain<'_, K, V>
+        ensures* writes_back { sem 𝓛 (lends_drained K.row V.row S.row S.Hasher.row K.Hash S.BuildHasher S.Hasher.Hasher self.entry (drain_name result)) }
         ensures rest { drain_rest result ≡ self.old.pairs }
-        ensures capacity { (drain_map result).capacity ≡ self.old.capacity }
-        ensures hasher { (drain_map result).hasher ≡ self.old.hasher }
         ensures valid { IsValid K.eq self.old }
-        ensures runs { YieldsInOrder (DrainSteps {K = K} {V = V} {S = S} {H = S.Hasher}) drain_rest }
-        ensures runs_back { YieldsInReverse (DrainStepsBack {K = K} {V = V} {S = S} {H = S.Hasher}) drain_rest }
+        ensures runs { YieldsInOrder (DrainSteps {K = K} {V = V}) drain_rest }
+        ensures runs_back { YieldsInReverse (DrainStepsBack {K = K} {V = V}) drain_rest }
         ensures stays { DrainKeepsAlong DrainSteps result }
         ensures stays_back { DrainKeepsAlong DrainStepsBack result }
     {
         self.end_visit();
-        Drain::new(self)
+        self.index.forget_all();
+        Drain::new(self.ring.splice_all())
     }
 }

@@ -1,10 +1,17 @@
+mod borrowed;
 mod collect;
 mod compare;
+mod counting;
+mod counts;
 mod cursor;
+mod drains;
 mod entries;
+mod growths;
 mod hasher;
+mod hashers;
 mod lists;
 mod name;
+mod nodes;
 mod readme;
 mod walks;
 mod written;

@@ -64,6 +64,7 @@ impl<K: Eq + Hash, V, S: BuildHasher> LinkedHashMap<K, V, S> {
         ensures to_visit { to_visit (cursor_map result) ≡ keys_of self.old.pairs }
         ensures pairs { (cursor_map result).pairs ≡ self.old.pairs }
         ensures capacity { (cursor_map result).capacity ≡ self.old.capacity }
+        ensures rechained { (cursor_map result).rechained ≡ self.old.rechained }
         ensures hasher { (cursor_map result).hasher ≡ self.old.hasher }
         ensures valid { IsValid K.eq self.old }
     {
@@ -78,13 +79,15 @@ impl<K: Eq + Hash, V, S: BuildHasher> LinkedHashMap<K, V, S> {
         ensures visits { IfSome result (λ entry. to_visit self.old ≡ occupied_key entry ∷ to_visit (occupied_map entry)) }
         ensures pairs { IfSome result (λ entry. (occupied_map entry).pairs ≡ self.old.pairs) }
         ensures capacity { IfSome result (λ entry. (occupied_map entry).capacity ≡ self.old.capacity) }
+        ensures rechained { IfSome result (λ entry. (occupied_map entry).rechained ≡ self.old.rechained) }
         ensures hasher { IfSome result (λ entry. (occupied_map entry).hasher ≡ self.old.hasher) }
         ensures valid { IsValid K.eq self.old }
         ensures none { IfNone result (to_visit self.old ≡ []) }
     {
-        match self.visit_next() {
-            Some(index) => Some(OccupiedEntry { map: self, index }),
-            None => None,
+        if self.visit_next() {
+            Some(OccupiedEntry { map: self })
+        } else {
+            None
         }
     }
 }
@@ -111,6 +114,7 @@ impl<'a, K: Eq + Hash, V, S: BuildHasher> Entries<'a, K, V, S> {
         ensures visits { IfSome result (λ entry. to_visit (cursor_map self.old) ≡ occupied_key entry ∷ to_visit (occupied_map entry)) }
         ensures pairs { IfSome result (λ entry. (occupied_map entry).pairs ≡ (cursor_map self.old).pairs) }
         ensures capacity { IfSome result (λ entry. (occupied_map entry).capacity ≡ (cursor_map self.old).capacity) }
+        ensures rechained { IfSome result (λ entry. (occupied_map entry).rechained ≡ (cursor_map self.old).rechained) }
         ensures hasher { IfSome result (λ entry. (occupied_map entry).hasher ≡ (cursor_map self.old).hasher) }
         ensures valid { IsValid K.eq (cursor_map self.old) }
         ensures none { IfNone result (to_visit (cursor_map self.old) ≡ []) }

@@ -16,8 +16,8 @@ use std::hash::{BuildHasher, Hash};
 impl<K: Eq + Hash, V, S: BuildHasher> LinkedHashMap<K, V, S> {
     /// Returns the entry of a key, to read, change, insert or remove its pair.
     ///
-    /// A key that is present gives an occupied entry with the stored key, and `key` is dropped. One that is absent gives a
-    /// vacant entry, which owns `key`. It takes no memory, leaves the order and costs at most a step for each pair.
+    /// A key that is present gives an occupied entry with the stored key, and `key` is dropped. One that is absent gives a vacant
+    /// entry, which owns `key`. It takes no memory, leaves the order and costs a look-up.
     ///
     /// # Examples
     ///
@@ -39,17 +39,21 @@ impl<K: Eq + Hash, V, S: BuildHasher> LinkedHashMap<K, V, S> {
         ensures value { entry_value result ≡ value_at K.eq self.old.pairs key }
         ensures pairs { (entry_map result).pairs ≡ self.old.pairs }
         ensures capacity { (entry_map result).capacity ≡ self.old.capacity }
+        ensures rechained { (entry_map result).rechained ≡ self.old.rechained }
         ensures hasher { (entry_map result).hasher ≡ self.old.hasher }
         ensures ends_visit { IsTrue (is_occupied result) → entry_map result ≡ without_cursor self.old }
         ensures unchanged { entry_value result ≡ None → entry_map result ≡ self.old }
         ensures valid { IsValid K.eq self.old }
     {
-        match self.find(&key) {
-            Some(index) => {
-                self.end_visit();
-                Entry::Occupied(OccupiedEntry { map: self, index })
-            }
-            None => Entry::Vacant(VacantEntry { map: self, key }),
+        let number = self.number_of(&key);
+        if self.seek(number, &key) {
+            Entry::Occupied(OccupiedEntry { map: self })
+        } else {
+            Entry::Vacant(VacantEntry {
+                map: self,
+                key,
+                number,
+            })
         }
     }
 }
@@ -113,11 +117,11 @@ impl<'a, K: Eq + Hash, V, S: BuildHasher> Entry<'a, K, V, S> {
 
     /// Lends the value for writing, after it has put the pair of the key and `value` at the back where the entry is vacant.
     ///
-    /// What is written becomes the value of that pair. The pair of an occupied entry keeps its place, and `value` is dropped.
-    /// On an occupied entry, and on a vacant one below capacity, it takes no memory and is never refused. A vacant entry at
-    /// full capacity raises the capacity by exactly one, or is refused: then the error has the key and this value, and the
-    /// map is unchanged. A growth costs at most a step for each pair, and all else a constant number of steps. The original
-    /// answers no error.
+    /// What is written becomes the value of that pair. The pair of an occupied entry keeps its place, and `value` is dropped. On
+    /// an occupied entry, and on a vacant one below capacity, it takes no memory and is never refused. A vacant entry at full
+    /// capacity raises the capacity by exactly one, or is refused: then the error has the key and this value, and the map is
+    /// unchanged. A growth that changes the number of buckets costs a step for each pair, and all else a constant number of
+    /// steps. The original answers no error.
     ///
     /// # Examples
     ///

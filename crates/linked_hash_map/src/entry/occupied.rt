@@ -29,7 +29,7 @@ impl<'a, K: Eq + Hash, V, S: BuildHasher> OccupiedEntry<'a, K, V, S> {
     pub fn key(&self) -> &K
         ensures { result.now ≡ occupied_key self.now }
     {
-        self.map.pair_at(self.index).0
+        self.map.current_pair().0
     }
 
     /// Lends the value.
@@ -51,7 +51,7 @@ impl<'a, K: Eq + Hash, V, S: BuildHasher> OccupiedEntry<'a, K, V, S> {
     pub fn get(&self) -> &V
         ensures { result.now ≡ occupied_value self.now }
     {
-        self.map.pair_at(self.index).1
+        self.map.current_pair().1
     }
 
     /// Lends the value for writing.
@@ -82,8 +82,7 @@ impl<'a, K: Eq + Hash, V, S: BuildHasher> OccupiedEntry<'a, K, V, S> {
             ≡ record (occupied_map self.old) { pairs = set_value K.eq (occupied_map self.old).pairs (occupied_key self.old) v } }
         ensures to_visit { (v : V) → to_visit (occupied_map (with_occupied_value self.old v)) ≡ to_visit (occupied_map self.old) }
     {
-        let index = self.index;
-        self.map.value_mut_at(index)
+        self.map.current_value_mut()
     }
 
     /// Lends the value for writing, for as long as the map was lent.
@@ -105,13 +104,13 @@ impl<'a, K: Eq + Hash, V, S: BuildHasher> OccupiedEntry<'a, K, V, S> {
         ensures value { result.now ≡ occupied_value self.entry }
         ensures valid { IsValid K.eq (occupied_map self.entry) }
     {
-        let OccupiedEntry { map, index } = self;
-        map.value_mut_at(index)
+        let OccupiedEntry { map } = self;
+        map.leave_current()
     }
 
     /// Replaces the value, moves the pair to the back and returns the old value. The entry still stands for the pair.
     ///
-    /// All other pairs keep their order. It takes no memory, and the capacity stays. It costs at most a step for each pair. The
+    /// All other pairs keep their order. It takes no memory, and the capacity stays. It costs a constant number of steps. The
     /// documentation of the original says only that the value is set; its code moves the pair too.
     ///
     /// # Examples
@@ -132,20 +131,19 @@ impl<'a, K: Eq + Hash, V, S: BuildHasher> OccupiedEntry<'a, K, V, S> {
         ensures value { occupied_value self.new ≡ value }
         ensures pairs { (occupied_map self.new).pairs ≡ to_back K.eq (occupied_map self.old).pairs (occupied_key self.old) value }
         ensures capacity { (occupied_map self.new).capacity ≡ (occupied_map self.old).capacity }
+        ensures rechained { (occupied_map self.new).rechained ≡ (occupied_map self.old).rechained }
         ensures hasher { (occupied_map self.new).hasher ≡ (occupied_map self.old).hasher }
         ensures to_visit { to_visit (occupied_map self.new) ≡ to_visit (occupied_map self.old) }
         ensures valid { IsValid K.eq (occupied_map self.old) }
         ensures stays_valid { IsValid K.eq (occupied_map self.new) }
     {
-        let (key, old) = self.map.take_out(self.index);
-        self.index = self.map.len();
-        self.map.push_back(key, value);
-        old
+        self.map.insert_current(value)
     }
 
     /// Takes the pair out of the map, drops the stored key and returns the value.
     ///
-    /// All other pairs keep their order. It takes no memory, and the capacity stays. It costs at most a step for each pair.
+    /// All other pairs keep their order. It takes no memory, and the capacity stays. It costs a step for each pair before it in
+    /// its chain.
     ///
     /// # Examples
     ///
@@ -165,13 +163,13 @@ impl<'a, K: Eq + Hash, V, S: BuildHasher> OccupiedEntry<'a, K, V, S> {
         ensures value { result ≡ occupied_value self.entry }
         ensures pairs { self.exit.0.now.pairs ≡ without K.eq (occupied_map self.entry).pairs (occupied_key self.entry) }
         ensures capacity { self.exit.0.now.capacity ≡ (occupied_map self.entry).capacity }
+        ensures rechained { self.exit.0.now.rechained ≡ (occupied_map self.entry).rechained }
         ensures hasher { self.exit.0.now.hasher ≡ (occupied_map self.entry).hasher }
         ensures to_visit { to_visit self.exit.0.now ≡ to_visit (occupied_map self.entry) }
         ensures valid { IsValid K.eq (occupied_map self.entry) }
         ensures stays_valid { IsValid K.eq self.exit.0.now }
     {
-        let index = self.index;
-        let (_key, value) = self.map.take_out(index);
+        let (_key, value) = self.map.take_current();
         value
     }
 }

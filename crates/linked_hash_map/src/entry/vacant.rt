@@ -33,8 +33,9 @@ impl<'a, K: Eq + Hash, V, S: BuildHasher> VacantEntry<'a, K, V, S> {
     /// Puts the pair of the key and the value at the back, and lends the value for writing.
     ///
     /// What is written becomes the value of that pair. Below capacity it takes no memory and is never refused, and costs a
-    /// constant number of steps. At full capacity it raises the capacity by exactly one, which costs at most a step for each
-    /// pair, or is refused: then the error has the key and this value, and the map is unchanged. The original answers no error.
+    /// constant number of steps. At full capacity it raises the capacity by exactly one, which costs a step for each pair where
+    /// the number of buckets changes, or is refused: then the error has the key and this value, and the map is unchanged. The
+    /// original answers no error.
     ///
     /// # Examples
     ///
@@ -57,12 +58,11 @@ impl<'a, K: Eq + Hash, V, S: BuildHasher> VacantEntry<'a, K, V, S> {
         ensures full { OnErr result (length (vacant_map self.entry).pairs ≡ (vacant_map self.entry).capacity) }
         ensures valid { IsValid K.eq (vacant_map self.entry) }
     {
-        let VacantEntry { map, key } = self;
+        let VacantEntry { map, key, number } = self;
         if !map.make_room() {
             return Err(Refused { key, value });
         }
-        let last = map.len();
-        map.push_back(key, value);
-        Ok(map.value_mut_at(last))
+        map.push_back(number, key, value);
+        Ok(map.last_value_mut())
     }
 }

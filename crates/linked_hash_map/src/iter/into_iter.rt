@@ -1,13 +1,13 @@
 //! The iterator that owns its pairs.
-ghost use Rattle.std.specs.Prelude.{◌≡◌, Some, IfSome, length, zip};
+ghost use Rattle.std.specs.Prelude.{◌≡◌, Some, IfSome, length};
 ghost use Rattle.std.specs.Iterator.{at_most, UpTo};
 ghost use Rattle.std.specs.Iterator.SizeHint.{IsWithinCount};
 ghost use Rattle.std.specs.List.{AllZip};
 ghost use Rattle.std.specs.Map.Iter.{TakesFirst, TakesLast};
 
 use crate::map::LinkedHashMap;
+use lhm_ring::ring::Ring;
 use std::alloc::AllocError;
-use std::collections::VecDeque;
 use std::hash::{BuildHasher, Hash};
 use std::iter::FusedIterator;
 use std::marker::Model;
@@ -32,31 +32,27 @@ use std::marker::Model;
 /// ```
 #[derive(Drop)]
 pub struct IntoIter<K, V> {
-    keys: VecDeque<K>,
-    values: VecDeque<V>,
+    ring: Ring<K, V>,
 }
 
 /// A contract sees the pairs that are left, in their order.
 impl<K, V> Model for IntoIter<K, V> {
-    ghost use Rattle.std.specs.Prelude.{◌≡◌, List, length, zip};
+    ghost use Rattle.std.specs.Prelude.{List};
+    ghost use Rattle.linked_hash_map.specs.Nodes.{pairs_of};
 
     ghost Value = { List (K × V) };
 
-    ghost view = { λ a. zip a.keys.items a.values.items };
-
-    ghost invariant = { λ a. length a.values.items ≡ length a.keys.items };
+    ghost view = { λ a. pairs_of a.ring.held };
 }
 
 impl<K, V> IntoIter<K, V> {
-    /// Walks keys and values side by side. It takes no memory.
-    pub(crate) fn new(keys: Vec<K>, values: Vec<V>) -> Self
-        requires { length values.items ≡ length keys.items }
-        ensures { result ≡ zip keys.items values.items }
+    ghost use Rattle.linked_hash_map.specs.Nodes.{pairs_of};
+
+    /// Hands out what a ring holds. It takes no memory.
+    pub(crate) fn new(ring: Ring<K, V>) -> Self
+        ensures { result ≡ pairs_of ring.held }
     {
-        IntoIter {
-            keys: VecDeque::from_vec(keys),
-            values: VecDeque::from_vec(values),
-        }
+        IntoIter { ring }
     }
 }
 
@@ -69,8 +65,9 @@ impl<K: Drop, V: Drop> Iterator for IntoIter<K, V> {
     ghost remaining = { λ s. at_most (length s) };
 
     fn next(&mut self) -> Option<(K, V)> {
-        let key = self.keys.pop_front()?;
-        Some((key, self.values.pop_front().unwrap()))
+        let at = self.ring.first()?;
+        let (_, key, value) = self.ring.unlink(at);
+        Some((key, value))
     }
 
     fn size_hint(&self) -> (usize, Option<usize>)
@@ -88,15 +85,16 @@ impl<K: Drop, V: Drop> DoubleEndedIterator for IntoIter<K, V> {
     ghost next_back_gives = { TakesLast (λ pair. pair) };
 
     fn next_back(&mut self) -> Option<(K, V)> {
-        let key = self.keys.pop_back()?;
-        Some((key, self.values.pop_back().unwrap()))
+        let at = self.ring.last()?;
+        let (_, key, value) = self.ring.unlink(at);
+        Some((key, value))
     }
 }
 
 /// `len` is the number of pairs that are left.
 impl<K: Drop, V: Drop> ExactSizeIterator for IntoIter<K, V> {
     fn len(&self) -> usize {
-        self.values.len()
+        self.ring.len()
     }
 }
 
@@ -116,17 +114,15 @@ impl<K: Clone, V: Clone> Clone for IntoIter<K, V> {
     ghost is_infallible = { λ s. s ≡ [] };
 
     fn clone(&self) -> Result<Self, AllocError> {
-        if self.keys.is_empty() {
-            let alloc = *self.keys.allocator();
-            return Ok(Self::new(Vec::new(alloc), Vec::new(alloc)));
+        let mut ring = Ring::new(self.ring.allocator());
+        if self.ring.len() == 0 {
+            return Ok(Self::new(ring));
         }
-        let Ok(keys) = self.keys.clone() else {
-            return Err(AllocError);
-        };
-        let Ok(values) = self.values.clone() else {
-            return Err(AllocError);
-        };
-        Ok(IntoIter { keys, values })
+        ring.grow(self.ring.len())?;
+        for (number, key, value) in self.ring.iter() {
+            ring.put_back(number, key.clone()?, value.clone()?);
+        }
+        Ok(Self::new(ring))
     }
 }
 

@@ -1,14 +1,14 @@
 //! The iterator that lends the values for writing.
-ghost use Rattle.std.specs.Prelude.{◌≡◌, Some, IfSome, length, zip};
+ghost use Rattle.std.specs.Prelude.{◌≡◌, Some, IfSome, length};
 ghost use Rattle.std.specs.Iterator.{at_most, UpTo};
 ghost use Rattle.std.specs.Iterator.SizeHint.{IsWithinCount};
 ghost use Rattle.std.specs.Map.Iter.{LendsFirst, LendsLast};
-ghost use Rattle.std.specs.Slice.Iter.{iter_rest, iter_mut_rest};
 
 use crate::map::LinkedHashMap;
+use lhm_ring::ring;
+use lhm_ring::ring::LentValues;
 use std::hash::{BuildHasher, Hash};
 use std::iter::FusedIterator;
-use std::slice;
 
 /// An iterator over the pairs of a map, from both ends, that lends each value for writing. It is made by `iter_mut`, or by a
 /// loop over `&mut map`.
@@ -28,23 +28,22 @@ use std::slice;
 /// ```
 #[derive(Drop)]
 pub struct IterMut<'a, K, V> {
-    keys: slice::Iter<'a, K>,
-    values: slice::IterMut<'a, V>,
-    ghost paired: { length (iter_mut_rest values) ≡ length (iter_rest keys) },
+    nodes: ring::IterMut<'a, K, V>,
 }
 
 impl<'a, K, V> IterMut<'a, K, V> {
     ghost use Rattle.linked_hash_map.specs.ValueWalks.{pairs_left, loan_name};
+    ghost use Rattle.linked_hash_map.specs.Nodes.{pairs_of};
+    ghost use Rattle.lhm_ring.specs.LentRings.{lent_held, lent_name, IsLent};
 
-    /// Walks keys and values side by side.
-    pub(crate) fn new(keys: &'a [K], values: &'a mut [V]) -> Self
-        requires { length values.old ≡ length keys.now }
-        ensures rest { pairs_left result ≡ zip keys.now values.old }
-        ensures name { loan_name result ≡ values.entry.ghost_name }
+    /// Walks over a ring whose values are lent.
+    pub(crate) fn new(lent: LentValues<'a, K, V>) -> Self
+        requires { IsLent lent }
+        ensures rest { pairs_left result ≡ pairs_of (lent_held lent.entry) }
+        ensures name { loan_name result ≡ lent_name lent.entry }
     {
         IterMut {
-            keys: keys.iter(),
-            values: values.iter_mut(),
+            nodes: ring::IterMut::of(lent),
         }
     }
 }
@@ -60,8 +59,10 @@ impl<'a, K, V> Iterator for IterMut<'a, K, V> {
     ghost remaining = { λ s. at_most (length (pairs_left s)) };
 
     fn next(&mut self) -> Option<(&'a K, &'a mut V)> {
-        let key = self.keys.next()?;
-        Some((key, self.values.next().unwrap()))
+        match self.nodes.next() {
+            Some((_, key, value)) => Some((key, value)),
+            None => None,
+        }
     }
 
     fn size_hint(&self) -> (usize, Option<usize>)
@@ -81,15 +82,17 @@ impl<'a, K, V> DoubleEndedIterator for IterMut<'a, K, V> {
     ghost next_back_gives = { LendsLast pairs_left };
 
     fn next_back(&mut self) -> Option<(&'a K, &'a mut V)> {
-        let key = self.keys.next_back()?;
-        Some((key, self.values.next_back().unwrap()))
+        match self.nodes.next_back() {
+            Some((_, key, value)) => Some((key, value)),
+            None => None,
+        }
     }
 }
 
 /// `len` is the number of pairs that are left.
 impl<'a, K, V> ExactSizeIterator for IterMut<'a, K, V> {
     fn len(&self) -> usize {
-        self.keys.len()
+        self.nodes.len()
     }
 }
 

@@ -11,8 +11,7 @@ use std::ops::{Index, IndexMut};
 /// `map[&key]`, for a key that is present. Presence is the caller's condition, which has to be proved, where the original
 /// panics; `contains_key` and `get` are the tests.
 ///
-/// It takes no memory, leaves the order and costs at most a step for each pair. The original takes any borrowed form of the
-/// key.
+/// It takes no memory, leaves the order and costs a look-up. The original takes any borrowed form of the key.
 ///
 /// # Examples
 ///
@@ -38,8 +37,7 @@ impl<'q, K: Eq + Hash, V, S: BuildHasher> Index<&'q K> for LinkedHashMap<K, V, S
 /// `map[&key] = value`, for a key that is present. Presence is the caller's condition, which has to be proved, where the
 /// original panics; `contains_key` and `get_mut` are the tests.
 ///
-/// It takes no memory, leaves the order and costs at most a step for each pair. The original takes any borrowed form of the
-/// key.
+/// It takes no memory, leaves the order and costs a look-up. The original takes any borrowed form of the key.
 ///
 /// # Examples
 ///
@@ -60,8 +58,8 @@ impl<'q, K: Eq + Hash, V, S: BuildHasher> IndexMut<&'q K> for LinkedHashMap<K, V
         ensures value { value_at K.eq self.old.pairs key.now ≡ Some result.now }
         ensures valid { IsValid K.eq self.old }
     {
-        match self.find(key) {
-            Some(index) => self.value_mut_at(index),
+        match self.get_mut(key) {
+            Some(value) => value,
             None => unreachable!(),
         }
     }

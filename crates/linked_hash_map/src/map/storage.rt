@@ -1,44 +1,52 @@
 //! The functions that know how the pairs are kept. All others of the map call these.
 //!
-//! They speak of indexes into the list of pairs, which no public call does.
-ghost use Rattle.std.specs.Prelude.{◌≡◌, ◌+◌, ◌-◌, ◌<◌, ◌≤◌, ◌++◌, ◌∷◌, [], length, max, position, remove, reverse, slice_get, option_map, None, Some, IsTrue, IsFalse, IfSome, IfNone};
+//! They speak of indexes into the list of pairs, which no public call does. The index of a pair that a key is looked up for
+//! is kept by the map as its current one, so that what is done with the pair then needs no second look-up.
+ghost use Rattle.std.specs.Prelude.{◌≡◌, ◌+◌, ◌-◌, ◌<◌, ◌≤◌, ◌++◌, ◌∷◌, [], length, map, max, remove, slice_get, option_map, None, Some, IsTrue, IsFalse, IfOk, IsOk};
 ghost use Rattle.std.specs.Map.{keys_of};
 ghost use Rattle.std.specs.Borrow.{sem};
 ghost use Rattle.linked_hash_map.specs.Pairs.{find};
 ghost use Rattle.linked_hash_map.specs.Indexes.{IsIndex};
 ghost use Rattle.linked_hash_map.specs.Cursor.{to_visit, without_cursor, IsOutside};
+ghost use Rattle.linked_hash_map.specs.LinkedMap.{nowhere};
+ghost use Rattle.linked_hash_map.specs.Nodes.{pairs_of};
+ghost use Rattle.linked_hash_map.specs.Hashers.{hash_by};
+ghost use Rattle.linked_hash_map.specs.Counts.{rechained_raised, rechained_fitted};
 ghost use Rattle.linked_hash_map.specs.Validity.{IsValid};
+ghost use Rattle.lhm_ring.specs.Buckets.{rechained_lowered};
+ghost use Rattle.lhm_ring.specs.Cells.{IsApart};
+ghost use Rattle.lhm_ring.specs.Positions.{place_of, place_of_some};
+ghost use Rattle.lhm_ring.specs.RingState.{IsHeld, AtHeld, first_at};
+ghost use Rattle.lhm_ring.specs.LentRings.{lent_held, lent_name, IsLent};
 
 use super::{LIMIT, LinkedHashMap};
 use crate::iter::IntoIter;
-use std::alloc::Global;
+use lhm_ring::index::{Index, buckets_for};
+use lhm_ring::ring::{Hole, LentValues, Position, Ring, ValueLoan};
+use std::alloc::{AllocError, Global};
 use std::hash::{BuildHasher, Hash};
+use std::marker::PhantomData;
+use std::mem;
 
-/// Returns the index of a key.
-fn index_of<K: Eq>(keys: &[K], key: &K) -> Option<usize>
-    ensures { result ≡ position (K.eq key.now) keys.now }
+/// Returns where the next pair to visit is: the one behind this place, or `None` where none is left to visit.
+fn mark_behind<K, V>(
+    ring: &Ring<K, V>,
+    at: Position<K, V>,
+    unvisited: usize,
+) -> Option<Position<K, V>>
+    requires { IsHeld ring.now.held (place_of at) }
+    ensures none { unvisited ≡ 0 → result ≡ None }
+    ensures next { 0 < unvisited → AtHeld ring.now.held (place_of at) (λ xs t ys. place_of_some result ≡ first_at ys) }
+    ensures apart { 0 < unvisited → IsApart (map (λ t. t.at) ring.now.held) }
 {
-    keys.iter().position(|stored| key == stored)
-}
-
-/// Returns the bookmark, and how many pairs are unvisited from it on, once the pair at an index is out: a pair before the
-/// bookmark lowers it by one, and one that is still to be visited ends the visit.
-fn visit_without(index: usize, bookmark: usize, unvisited: usize) -> (usize, usize)
-    ensures before { index < bookmark → result ≡ (bookmark - 1, unvisited) }
-    ensures inside { bookmark ≤ index → index < bookmark + unvisited → result ≡ (0, 0) }
-    ensures behind { bookmark + unvisited ≤ index → result ≡ (bookmark, unvisited) }
-{
-    if index < bookmark {
-        (bookmark - 1, unvisited)
-    } else if index - bookmark < unvisited {
-        (0, 0)
-    } else {
-        (bookmark, unvisited)
+    if unvisited == 0 {
+        return None;
     }
+    ring.next(at)
 }
 
 impl<K: Eq + Hash, V, S: BuildHasher> LinkedHashMap<K, V, S> {
-    ghost use Rattle.linked_hash_map.specs.Lends.{lends_at};
+    ghost use Rattle.linked_hash_map.specs.Lends.{lends_at, lends_left, lends_values};
 
     /// Takes the map apart into an iterator that hands out its pairs, and drops the hasher.
     pub(crate) fn into_pairs(self) -> IntoIter<K, V>
@@ -48,67 +56,185 @@ impl<K: Eq + Hash, V, S: BuildHasher> LinkedHashMap<K, V, S> {
         ensures valid { IsValid K.eq self }
     {
         let LinkedHashMap {
-            keys,
-            values,
-            capacity: _,
+            ring,
+            index: _,
             hasher: _,
-            bookmark: _,
+            mark: _,
             unvisited: _,
+            current: _,
+            rechained: _,
         } = self;
-        IntoIter::new(keys, values)
+        IntoIter::new(ring)
     }
 
     /// Returns the allocator that the map was made with.
     pub(crate) fn allocator(&self) -> Global
         ensures valid { IsValid K.eq self.now }
     {
-        *self.keys.allocator()
+        self.ring.allocator()
     }
 
-    /// Returns the index of the pair of a key.
-    pub(crate) fn find(&self, key: &K) -> Option<usize>
-        ensures found { IfSome result (IsIndex K.eq self.now.pairs key.now) }
-        ensures absent { IfNone result (find K.eq self.now.pairs key.now ≡ None) }
-        ensures valid { IsValid K.eq self.now }
+    /// Returns the number of a key.
+    pub(crate) fn number_of(&self, key: &K) -> u64
+        ensures { result ≡ hash_by S.Hasher.finish S.Hasher.write S.build_hasher K.hash_input self.now.hasher key.now }
     {
-        index_of(&self.keys, key)
+        self.hasher.hash_one(key)
     }
 
-    /// Lends the pair at an index.
-    pub(crate) fn pair_at(&self, index: usize) -> (&K, &V)
-        requires { index < length self.now.pairs }
-        ensures { slice_get self.now.pairs index ≡ Some (result.0.now, result.1.now) }
-    {
-        (&self.keys[index], &self.values[index])
-    }
-
-    /// Lends the value at an index for writing.
-    pub(crate) fn value_mut_at(&mut self, index: usize) -> &mut V
-        requires { index < length self.old.pairs }
-        ensures* writes_back { sem 𝓛 (lends_at K.row V.row S.row S.Hasher.row K.Hash S.BuildHasher S.Hasher.Hasher self.entry index result) }
-        ensures value { option_map (λ pair. pair.1) (slice_get self.old.pairs index) ≡ Some result.now }
+    /// Makes the pair of a key the current one, which ends the visit of a cursor, and tells whether there is one.
+    pub(crate) fn seek(&mut self, number: u64, key: &K) -> bool
+        requires { number ≡ hash_by S.Hasher.finish S.Hasher.write S.build_hasher K.hash_input self.old.hasher key.now }
+        ensures found { IsTrue result → IsIndex K.eq self.old.pairs key.now self.new.current }
+        ensures ends_visit { IsTrue result → without_cursor self.new ≡ without_cursor self.old }
+        ensures visited { IsTrue result → self.new.unvisited ≡ 0 }
+        ensures bookmark { IsTrue result → self.new.bookmark ≡ 0 }
+        ensures outside { IsTrue result → IsOutside self.new.current self.new }
+        ensures absent { IsFalse result → find K.eq self.old.pairs key.now ≡ None }
+        ensures unchanged { IsFalse result → self.new ≡ self.old }
         ensures valid { IsValid K.eq self.old }
     {
-        &mut self.values[index]
+        match self.index.find(&self.ring, number, key).0 {
+            Some(at) => {
+                self.mark = None;
+                self.unvisited = 0;
+                self.current = Some(at);
+                true
+            }
+            None => false,
+        }
     }
 
-    /// Takes out the pair at an index.
-    pub(crate) fn take_out(&mut self, index: usize) -> (K, V)
-        requires { index < length self.old.pairs }
-        ensures pair { slice_get self.old.pairs index ≡ Some result }
-        ensures pairs { self.new.pairs ≡ remove self.old.pairs index }
+    /// Makes the pair at the oldest place the current one, which ends the visit of a cursor, and tells whether there is one.
+    pub(crate) fn seek_first(&mut self) -> bool
+        ensures first { IsTrue result → self.new.current ≡ 0 }
+        ensures some { IsTrue result → 0 < length self.old.pairs }
+        ensures outside { IsTrue result → IsOutside self.new.current self.new }
+        ensures ends_visit { without_cursor self.new ≡ without_cursor self.old }
+        ensures none { IsFalse result → self.old.pairs ≡ [] }
+        ensures valid { IsValid K.eq self.old }
+    {
+        self.end_visit();
+        self.current = self.ring.first();
+        self.current.is_some()
+    }
+
+    /// Makes the pair at the newest place the current one, which ends the visit of a cursor, and tells whether there is one.
+    pub(crate) fn seek_last(&mut self) -> bool
+        ensures last { IsTrue result → self.new.current ≡ length self.old.pairs - 1 }
+        ensures some { IsTrue result → 0 < length self.old.pairs }
+        ensures outside { IsTrue result → IsOutside self.new.current self.new }
+        ensures ends_visit { without_cursor self.new ≡ without_cursor self.old }
+        ensures none { IsFalse result → self.old.pairs ≡ [] }
+        ensures valid { IsValid K.eq self.old }
+    {
+        self.end_visit();
+        self.current = self.ring.last();
+        self.ring.len() > 0
+    }
+
+    /// Lends the current pair.
+    pub(crate) fn current_pair(&self) -> (&K, &V)
+        requires { self.now.current < length self.now.pairs }
+        ensures { slice_get self.now.pairs self.now.current ≡ Some (result.0.now, result.1.now) }
+    {
+        let at = self.current.unwrap();
+        (self.ring.key(at), self.ring.value(at))
+    }
+
+    /// Lends the value of the current pair for writing.
+    pub(crate) fn current_value_mut(&mut self) -> &mut V
+        requires { self.old.current < length self.old.pairs }
+        ensures* writes_back { sem 𝓛 (lends_at K.row V.row S.row S.Hasher.row K.Hash S.BuildHasher S.Hasher.Hasher self.entry self.old.current result) }
+        ensures value { option_map (λ pair. pair.1) (slice_get self.old.pairs self.old.current) ≡ Some result.now }
+        ensures valid { IsValid K.eq self.old }
+    {
+        let at = self.current.unwrap();
+        self.ring.value_mut(at)
+    }
+
+    /// Lends the value of the current pair for writing. No pair is the current one then.
+    pub(crate) fn leave_current(&mut self) -> &mut V
+        requires { self.old.current < length self.old.pairs }
+        ensures* writes_back { sem 𝓛 (lends_left K.row V.row S.row S.Hasher.row K.Hash S.BuildHasher S.Hasher.Hasher self.entry result) }
+        ensures value { option_map (λ pair. pair.1) (slice_get self.old.pairs self.old.current) ≡ Some result.now }
+        ensures valid { IsValid K.eq self.old }
+    {
+        let at = self.current.unwrap();
+        self.current = None;
+        self.ring.value_mut(at)
+    }
+
+    /// Lends the value of the pair at the newest place for writing.
+    pub(crate) fn last_value_mut(&mut self) -> &mut V
+        requires { 0 < length self.old.pairs }
+        ensures* writes_back { sem 𝓛 (lends_at K.row V.row S.row S.Hasher.row K.Hash S.BuildHasher S.Hasher.Hasher self.entry (length self.old.pairs - 1) result) }
+        ensures value { option_map (λ pair. pair.1) (slice_get self.old.pairs (length self.old.pairs - 1)) ≡ Some result.now }
+        ensures valid { IsValid K.eq self.old }
+    {
+        let at = self.ring.last().unwrap();
+        self.ring.value_mut(at)
+    }
+
+    /// Moves the current pair, which is none of those still to be visited, to the back. It stays the current one.
+    pub(crate) fn move_current_to_back(&mut self)
+        requires within { self.old.current < length self.old.pairs }
+        requires outside { IsOutside self.old.current self.old }
+        ensures pairs { (pair : K × V) → slice_get self.old.pairs self.old.current ≡ Some pair →
+            self.new.pairs ≡ remove self.old.pairs self.old.current ++ pair ∷ [] }
+        ensures current { self.new.current ≡ length self.old.pairs - 1 }
         ensures capacity { self.new.capacity ≡ self.old.capacity }
+        ensures rechained { self.new.rechained ≡ self.old.rechained }
         ensures hasher { self.new.hasher ≡ self.old.hasher }
-        ensures to_visit { IsOutside index self.old → to_visit self.new ≡ to_visit self.old }
-        ensures in_reach { self.new.bookmark + self.new.unvisited ≤ length self.new.pairs }
+        ensures to_visit { to_visit self.new ≡ to_visit self.old }
+        ensures outside { IsOutside self.new.current self.new }
+        ensures unvisited { self.new.unvisited ≡ self.old.unvisited }
+        ensures none_left { self.old.unvisited ≡ 0 → self.new.bookmark ≡ 0 }
         ensures valid { IsValid K.eq self.old }
         ensures stays_valid { IsValid K.eq self.new }
     {
-        let (bookmark, unvisited) = visit_without(index, self.bookmark, self.unvisited);
-        self.bookmark = bookmark;
-        self.unvisited = unvisited;
-        let key = self.keys.remove(index);
-        (key, self.values.remove(index))
+        let at = self.current.unwrap();
+        self.ring.move_to_back(at);
+    }
+
+    /// Puts a value in the place of that of the current pair, which is none of those still to be visited, moves the pair to the
+    /// back and returns the old value.
+    pub(crate) fn insert_current(&mut self, value: V) -> V
+        requires within { self.old.current < length self.old.pairs }
+        requires outside { IsOutside self.old.current self.old }
+        ensures pairs { (pair : K × V) → slice_get self.old.pairs self.old.current ≡ Some pair →
+            self.new.pairs ≡ remove self.old.pairs self.old.current ++ (pair.0, value) ∷ [] }
+        ensures old { option_map (λ pair. pair.1) (slice_get self.old.pairs self.old.current) ≡ Some result }
+        ensures current { self.new.current ≡ length self.old.pairs - 1 }
+        ensures capacity { self.new.capacity ≡ self.old.capacity }
+        ensures rechained { self.new.rechained ≡ self.old.rechained }
+        ensures hasher { self.new.hasher ≡ self.old.hasher }
+        ensures to_visit { to_visit self.new ≡ to_visit self.old }
+        ensures outside { IsOutside self.new.current self.new }
+        ensures valid { IsValid K.eq self.old }
+        ensures stays_valid { IsValid K.eq self.new }
+    {
+        self.move_current_to_back();
+        mem::replace(self.current_value_mut(), value)
+    }
+
+    /// Takes out the current pair, which is none of those still to be visited. No pair is the current one then.
+    pub(crate) fn take_current(&mut self) -> (K, V)
+        requires within { self.old.current < length self.old.pairs }
+        requires outside { IsOutside self.old.current self.old }
+        ensures pair { slice_get self.old.pairs self.old.current ≡ Some result }
+        ensures pairs { self.new.pairs ≡ remove self.old.pairs self.old.current }
+        ensures capacity { self.new.capacity ≡ self.old.capacity }
+        ensures rechained { self.new.rechained ≡ self.old.rechained }
+        ensures hasher { self.new.hasher ≡ self.old.hasher }
+        ensures to_visit { to_visit self.new ≡ to_visit self.old }
+        ensures valid { IsValid K.eq self.old }
+        ensures stays_valid { IsValid K.eq self.new }
+    {
+        let at = self.current.unwrap();
+        self.current = None;
+        self.index.take_out_at(&mut self.ring, at);
+        let (_, key, value) = self.ring.unlink(at);
+        (key, value)
     }
 
     /// Begins the visit of a cursor: every pair is unvisited, and the next one is that at the oldest place.
@@ -116,34 +242,36 @@ impl<K: Eq + Hash, V, S: BuildHasher> LinkedHashMap<K, V, S> {
         ensures to_visit { to_visit self.new ≡ keys_of self.old.pairs }
         ensures pairs { self.new.pairs ≡ self.old.pairs }
         ensures capacity { self.new.capacity ≡ self.old.capacity }
+        ensures rechained { self.new.rechained ≡ self.old.rechained }
         ensures hasher { self.new.hasher ≡ self.old.hasher }
         ensures valid { IsValid K.eq self.old }
     {
-        self.bookmark = 0;
-        self.unvisited = self.keys.len();
+        self.mark = self.ring.first();
+        self.unvisited = self.ring.len();
     }
 
-    /// Returns the index of the next unvisited pair and moves the bookmark past it, or returns `None` where none is left.
-    pub(crate) fn visit_next(&mut self) -> Option<usize>
-        ensures key { IfSome result (λ index. (key : K) → slice_get (keys_of self.old.pairs) index ≡ Some key →
-            to_visit self.old ≡ key ∷ to_visit self.new) }
-        ensures within { IfSome result (λ index. index < length self.new.pairs) }
-        ensures outside { IfSome result (λ index. IsOutside index self.new) }
+    /// Makes the next unvisited pair the current one and moves the mark past it, and tells whether one was left.
+    pub(crate) fn visit_next(&mut self) -> bool
+        ensures key { IsTrue result → (key : K) → slice_get (keys_of self.old.pairs) self.new.current ≡ Some key →
+            to_visit self.old ≡ key ∷ to_visit self.new }
+        ensures within { IsTrue result → self.new.current < length self.new.pairs }
+        ensures outside { IsTrue result → IsOutside self.new.current self.new }
         ensures pairs { self.new.pairs ≡ self.old.pairs }
         ensures capacity { self.new.capacity ≡ self.old.capacity }
+        ensures rechained { self.new.rechained ≡ self.old.rechained }
         ensures hasher { self.new.hasher ≡ self.old.hasher }
         ensures valid { IsValid K.eq self.old }
 
-        ensures none { IfNone result (to_visit self.old ≡ []) }
-        ensures unchanged { IfNone result (self.new ≡ self.old) }
+        ensures none { IsFalse result → to_visit self.old ≡ [] }
+        ensures unchanged { IsFalse result → self.new ≡ self.old }
     {
-        if self.unvisited == 0 {
-            return None;
-        }
-        let index = self.bookmark;
-        self.bookmark += 1;
+        let Some(at) = self.mark else {
+            return false;
+        };
+        self.current = Some(at);
         self.unvisited -= 1;
-        Some(index)
+        self.mark = mark_behind(&self.ring, at, self.unvisited);
+        true
     }
 
     /// Returns how many pairs are unvisited.
@@ -153,38 +281,61 @@ impl<K: Eq + Hash, V, S: BuildHasher> LinkedHashMap<K, V, S> {
         self.unvisited
     }
 
-    /// Ends the visit of a cursor: no pair is unvisited.
+    /// Ends the visit of a cursor: no pair is unvisited, and none is the current one.
     pub(crate) fn end_visit(&mut self)
         ensures ends { self.new ≡ without_cursor self.old }
         ensures valid { IsValid K.eq self.old }
     {
-        self.bookmark = 0;
+        self.mark = None;
         self.unvisited = 0;
+        self.current = None;
     }
 
-    /// Puts a pair at the back, for which there is room. Its key is absent.
-    pub(crate) fn push_back(&mut self, key: K, value: V)
+    /// Puts a pair at the back, for which there is room. Its key is absent and has this number.
+    pub(crate) fn push_back(&mut self, number: u64, key: K, value: V)
+        requires number { number ≡ hash_by S.Hasher.finish S.Hasher.write S.build_hasher K.hash_input self.old.hasher key }
         requires room { length self.old.pairs < self.old.capacity }
         requires absent { find K.eq self.old.pairs key ≡ None }
         ensures pairs { self.new.pairs ≡ self.old.pairs ++ (key, value) ∷ [] }
         ensures capacity { self.new.capacity ≡ self.old.capacity }
+        ensures rechained { self.new.rechained ≡ self.old.rechained }
         ensures hasher { self.new.hasher ≡ self.old.hasher }
         ensures bookmark { self.new.bookmark ≡ self.old.bookmark }
         ensures unvisited { self.new.unvisited ≡ self.old.unvisited }
+        ensures current { self.new.current ≡ self.old.current }
         ensures stays_valid { IsValid K.eq self.new }
     {
-        self.keys.push_reserved(key);
-        self.values.push_reserved(value);
+        let at = self.ring.put_back(number, key, value);
+        self.index.put_in(&mut self.ring, at);
     }
 
-    /// Turns the pairs round.
-    pub(crate) fn reverse(&mut self)
-        ensures pairs { self.new.pairs ≡ reverse self.old.pairs }
-        ensures capacity { self.new.capacity ≡ self.old.capacity }
+    /// Raises the capacity, if there is memory: first the buckets are made, then the nodes.
+    pub(crate) fn raise(&mut self, capacity: usize) -> bool
+        requires higher { self.old.capacity < capacity }
+        requires limit { capacity ≤ LIMIT }
+        ensures pairs { self.new.pairs ≡ self.old.pairs }
         ensures hasher { self.new.hasher ≡ self.old.hasher }
+        ensures bookmark { self.new.bookmark ≡ self.old.bookmark }
+        ensures unvisited { self.new.unvisited ≡ self.old.unvisited }
+        ensures current { self.new.current ≡ self.old.current }
+        ensures made { IsTrue result → self.new.capacity ≡ capacity }
+        ensures rechained { IsTrue result → self.new.rechained
+            ≡ rechained_raised self.old.rechained (length self.old.pairs) self.old.capacity capacity }
+        ensures refused { IsFalse result → self.new ≡ self.old }
+        ensures valid { IsValid K.eq self.old }
     {
-        self.keys.reverse();
-        self.values.reverse();
+        let additional = capacity - self.capacity();
+        if buckets_for(capacity) == buckets_for(self.capacity()) {
+            return self.ring.grow(additional).is_ok();
+        }
+        let Ok(fresh) = Index::with_buckets(self.ring.allocator(), capacity) else {
+            return false;
+        };
+        let Ok(()) = self.ring.grow(additional) else {
+            return false;
+        };
+        self.rechained += self.index.take_over(fresh, &mut self.ring);
+        true
     }
 
     /// Makes room for one more pair: at full capacity by raising it by one, if there is memory.
@@ -193,21 +344,93 @@ impl<K: Eq + Hash, V, S: BuildHasher> LinkedHashMap<K, V, S> {
         ensures hasher { self.new.hasher ≡ self.old.hasher }
         ensures bookmark { self.new.bookmark ≡ self.old.bookmark }
         ensures unvisited { self.new.unvisited ≡ self.old.unvisited }
+        ensures current { self.new.current ≡ self.old.current }
         ensures made { IsTrue result → self.new.capacity ≡ max self.old.capacity (length self.old.pairs + 1) }
+        ensures rechained { IsTrue result → self.new.rechained
+            ≡ rechained_raised self.old.rechained (length self.old.pairs) self.old.capacity self.new.capacity }
         ensures refused { IsFalse result → self.new ≡ self.old }
         ensures full { IsFalse result → length self.old.pairs ≡ self.old.capacity }
         ensures valid { IsValid K.eq self.old }
     {
-        if self.keys.len() < self.capacity {
+        let capacity = self.capacity();
+        if self.len() < capacity {
             return true;
         }
-        if self.capacity == LIMIT
-            || self.keys.reserve_exact(1).is_err()
-            || self.values.reserve_exact(1).is_err()
-        {
+        if capacity == LIMIT {
             return false;
         }
-        self.capacity += 1;
+        self.raise(capacity + 1)
+    }
+
+    /// Lowers the capacity to the number of pairs, if there is memory for fewer buckets where there are to be fewer.
+    pub(crate) fn lower(&mut self) -> bool
+        ensures pairs { self.new.pairs ≡ self.old.pairs }
+        ensures hasher { self.new.hasher ≡ self.old.hasher }
+        ensures lowered { IsTrue result → self.new.capacity ≡ length self.old.pairs }
+        ensures rechained { IsTrue result → self.new.rechained ≡ rechained_lowered (length self.old.pairs) self.old.capacity }
+        ensures refused { IsFalse result → self.new ≡ self.old }
+        ensures valid { IsValid K.eq self.old }
+    {
+        let len = self.len();
+        if buckets_for(len) == buckets_for(self.capacity()) {
+            self.ring.free_spares();
+            self.rechained = 0;
+            return true;
+        }
+        let Ok(fresh) = Index::with_buckets(self.ring.allocator(), len) else {
+            return false;
+        };
+        self.ring.free_spares();
+        self.rechained = self.index.take_over(fresh, &mut self.ring);
         true
+    }
+
+    /// Frees all memory of a map that is empty.
+    pub(crate) fn free(&mut self)
+        requires { self.old.pairs ≡ [] }
+        ensures pairs { self.new.pairs ≡ [] }
+        ensures capacity { self.new.capacity ≡ 0 }
+        ensures rechained { self.new.rechained ≡ rechained_fitted self.old.rechained 0 self.old.capacity }
+        ensures hasher { self.new.hasher ≡ self.old.hasher }
+        ensures valid { IsValid K.eq self.old }
+    {
+        let alloc = self.ring.allocator();
+        self.end_visit();
+        self.rechained = 0;
+        self.index = Index::new(alloc);
+        mem::replace(&mut self.ring, Ring::new(alloc)).destroy_empty();
+    }
+
+    /// Shares the ring but for its values, and lends the values.
+    pub(crate) fn lend<'a>(&'a mut self) -> LentValues<'a, K, V>
+        ensures* writes_back { sem 𝓛 (lends_values K.row V.row S.row S.Hasher.row K.Hash S.BuildHasher S.Hasher.Hasher self.entry (lent_name result)) }
+        ensures pairs { pairs_of (lent_held result) ≡ self.old.pairs }
+        ensures lent { IsLent result }
+        ensures valid { IsValid K.eq self.old }
+    {
+        let ring = &raw mut self.ring as *const Ring<K, Hole<V>>;
+        LentValues {
+            ring: unsafe { &*ring },
+            loan: ValueLoan { mark: PhantomData },
+        }
+    }
+}
+
+/// Makes a ring with nothing in it and this many spare nodes. For none it takes no memory and is not refused.
+pub(crate) fn ring_with_room<K, V>(alloc: Global, room: usize) -> Result<Ring<K, V>, AllocError>
+    ensures empty { IfOk result (λ ring. ring.held ≡ []) }
+    ensures spares { IfOk result (λ ring. ring.spares ≡ room) }
+    ensures succeeds { room ≡ 0 → IsOk result }
+{
+    let mut ring = Ring::new(alloc);
+    if room == 0 {
+        return Ok(ring);
+    }
+    match ring.grow(room) {
+        Ok(()) => Ok(ring),
+        Err(refused) => {
+            ring.destroy_empty();
+            Err(refused)
+        }
     }
 }

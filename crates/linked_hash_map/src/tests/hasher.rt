@@ -38,3 +38,35 @@ impl BuildHasher for BuildLastByte {
         LastByte(self.first)
     }
 }
+
+/// A hasher whose number is the same for every key.
+#[derive(Clone, Copy)]
+pub struct Same(u64);
+
+impl Hasher for Same {
+    ghost write = { λ state _. state };
+
+    ghost finish = { λ state. state.0 };
+
+    fn finish(&self) -> u64 {
+        self.0
+    }
+
+    fn write(&mut self, _bytes: &[u8]) {}
+}
+
+/// Makes hashers that all answer one number.
+#[derive(Clone, Copy, Debug, PartialEq)]
+pub struct BuildSame {
+    pub number: u64,
+}
+
+impl BuildHasher for BuildSame {
+    type Hasher = Same;
+
+    ghost build_hasher = { λ build. record { 0 = build.number } };
+
+    fn build_hasher(&self) -> Same {
+        Same(self.number)
+    }
+}

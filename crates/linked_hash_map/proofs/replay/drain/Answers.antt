@@ -1,7 +1,7 @@
-use Rattle.std.proofs.Common.{rules, ◌≡◌, ◌<◌, ◌++◌, ◌∷◌, [], length, refl, sym, ap, ◌∙◌, true≢false, arith, length-append}
+use Rattle.std.proofs.Common.{◌≡◌, ◌<◌, ◌++◌, ◌∷◌, [], length, refl, sym, ap, ◌∙◌, true≢false, arith, length-append}
 use Rattle.std.proofs.lemmas.List.{append-nil, append_assoc}
-use Rattle.linked_hash_map.specs.Drains.{drain_lender, drain_map, drain_rest}
-use Rattle.linked_hash_map.proofs.Draining.{positive}
+use Rattle.linked_hash_map.specs.Drains.{drain_rest}
+use Rattle.linked_hash_map.proofs.MarkMoves.{positive}
 use Rattle.linked_hash_map.proofs.Effects.{size-held, Defines-nothing, Defines-remove_all}
 use Rattle.linked_hash_map.proofs.replay.drain.Goals as goal
 
@@ -18,7 +18,6 @@ returns-in_default g c = record {
 pub loop-pair-init : goal.loop-pair-init
 loop-pair-init g c = record {
   pairs = rw c.in-Ok.ensures.items (ap drain_rest c.into_iter-pair-iterator.ensures.into_iter_gives ∙ c.drain-pair-items.ensures.rest);
-  keeps = record { lender = refl; capacity = refl; hasher = refl };
   room = omega (arith, c.len.ensures.len, c.in-Ok.ensures.exact);
 }
 
@@ -38,7 +37,6 @@ loop-pair-preserved g c =
       pairs =
           rw c.push_reserved.ensures.items
           (append_assoc so_far (c.in-Some.pair ∷ []) (drain_rest c.next.new.self) ∙ ap (λ l. so_far ++ l) (sym step.0) ∙ i.pairs);
-      keeps = record { lender = step.1.lender ∙ i.keeps.lender; capacity = step.1.capacity ∙ i.keeps.capacity; hasher = step.1.hasher ∙ i.keeps.hasher };
       room = rw c.push_reserved.ensures.capacity i.room;
     }
 
@@ -46,16 +44,8 @@ pub returns : goal.returns
 returns g c =
     let all : c.loop-pair.pairs.items ≡ c.args.map.now.pairs =
     sym (append-nil c.loop-pair.pairs.items) ∙ ap (λ l. c.loop-pair.pairs.items ++ l) (sym c.in-None.ensures.steps.0.0) ∙ c.loop-pair.invariant.pairs in
-    let dropped = c.drop-pair-iterator.ensures in
-    let last = c.in-None.ensures.steps.1 in
-    let before = c.loop-pair.invariant.keeps in
-    let begun = c.into_iter-pair-iterator.ensures.into_iter_gives in
-    let made = c.drain-pair-items.ensures in
-    let lender = last.lender ∙ before.lender ∙ ap drain_lender begun ∙ made.same_map in
-    let capacity = dropped.capacity ∙ last.capacity ∙ before.capacity ∙ ap (λ d. (drain_map d).capacity) begun ∙ made.capacity in
-    let hasher = dropped.hasher ∙ last.hasher ∙ before.hasher ∙ ap (λ d. (drain_map d).hasher) begun ∙ made.hasher in
     record {
       answers = λ start log defines. c.from_vec.ensures ∙ all ∙ sym defines.same_pairs;
-      defines = λ start log defines. Defines-remove_all g.met.K.Eq.laws defines (search (rules, lender)) (search (rules, lender, capacity));
-      hasher = search (rules, lender, hasher);
+      defines = λ start log defines. Defines-remove_all g.met.K.Eq.laws defines refl refl;
+      hasher = refl;
     }

@@ -2,7 +2,7 @@ use Rattle.std.proofs.Common.{rules, inl, refl, sym, subst}
 use borrow.Follows.Closed.{read_of}
 use Rattle.std.specs.Borrow.{name_if_ok}
 use Rattle.std.proofs.lemmas.Result.{IfOk-weaker, IfErr-weaker}
-use Rattle.linked_hash_map.specs.Entry.{occupied_key}
+use Rattle.linked_hash_map.specs.Entry.{occupied_map, occupied_key}
 use Rattle.linked_hash_map.proofs.EntryFacts.{found-occupied, set_or_pushed-present, set_or_pushed-absent, on_err}
 use Rattle.linked_hash_map.proofs.entry.Entry.or_insert_with.Goals as goal
 
@@ -11,7 +11,7 @@ returns-in-Occupied g c =
     let eq = g.K.PartialEq.eq in
     let o = c.in-Occupied.occupied in
     rw c.in-Occupied.is (
-      (λ i. inl (c.into_mut.result.ghost_name, λ v. set_or_pushed-present eq o.map.now (occupied_key o) v (found-occupied o g.met.K.Eq.laws) c.into_mut.ensures.valid.within i)),
+      (λ i. inl (c.into_mut.result.ghost_name, λ v. set_or_pushed-present eq (occupied_map o) (occupied_key o) v (found-occupied o g.met.K.Eq.laws) c.into_mut.ensures.valid.within i)),
       record { writes_back = tt; value = search rules; key_back = tt; value_back = tt; absent = tt; full = tt; valid = c.into_mut.ensures.valid },
     )
 

@@ -1,27 +1,28 @@
 use Rattle.std.proofs.Common.{refl, sym, ap, take, drop}
 use Rattle.linked_hash_map.specs.Indexes.{within-set_value_at}
-use Rattle.linked_hash_map.proofs.Indexes.{set_value-index}
-use Rattle.linked_hash_map.proofs.EntryFacts.{keys_of-set_value_at, occupied_value-is, IsIndex-occupied, occupied_pair-written, occupied_written}
+use Rattle.linked_hash_map.specs.LinkedMap.{nowhere}
+use Rattle.linked_hash_map.proofs.Indexes.{keys_of-set_value_at, set_value-index}
+use Rattle.linked_hash_map.proofs.EntryFacts.{occupied_value-is, IsIndex-occupied, IsValid-current, occupied_pair-written, occupied_written}
 use Rattle.linked_hash_map.proofs.entry.OccupiedEntry.get_mut.Goals as goal
 
 pub invariant_of-self-lent : goal.invariant_of-self-lent
 invariant_of-self-lent g c w =
     let o = c.args.self.now in
-    (within-set_value_at o.map.now.pairs o.index w o.within, (o.outside, tt))
+    (within-set_value_at o.map.now.pairs o.map.now.current w o.within, (o.outside, tt))
 
 pub returns : goal.returns
 returns g c =
     let o = c.args.self.now in
     let m = o.map.now in
-    let lent = c.value_mut_at.ensures in (
+    let lent = c.current_value_mut.ensures in (
       (refl, λ w. occupied_written o w _ _),
       record {
         writes_back = tt;
-        valid = lent.valid;
-        value = occupied_value-is o c.value_mut_at.result.now lent.value;
+        valid = IsValid-current nowhere lent.valid;
+        value = occupied_value-is o c.current_value_mut.result.now lent.value;
         key = λ v. ap (λ pair. pair.0) (occupied_pair-written o v);
         written = λ v. ap (λ pair. pair.1) (occupied_pair-written o v);
-        map = λ v. ap (λ pairs. record m { pairs = pairs }) (sym (set_value-index g.met.K.Eq.laws lent.valid.distinct (IsIndex-occupied o g.met.K.Eq.laws) v));
-        to_visit = λ v. ap (λ keys. take m.unvisited (drop m.bookmark keys)) (keys_of-set_value_at m.pairs o.index v);
+        map = λ v. ap (λ pairs. record m { pairs = pairs; current = nowhere }) (sym (set_value-index g.met.K.Eq.laws lent.valid.distinct (IsIndex-occupied o g.met.K.Eq.laws) v));
+        to_visit = λ v. ap (λ keys. take m.unvisited (drop m.bookmark keys)) (keys_of-set_value_at m.pairs m.current v);
       },
     )

@@ -3,4 +3,4 @@ use Rattle.linked_hash_map.proofs.EntryFacts.{occupied_pair-is}
 use Rattle.linked_hash_map.proofs.entry.OccupiedEntry.key.Goals as goal
 
 pub returns : goal.returns
-returns g c = ap (λ pair. pair.0) (occupied_pair-is c.args.self.now (c.pair_at.result.0.now, c.pair_at.result.1.now) c.pair_at.ensures)
+returns g c = ap (λ pair. pair.0) (occupied_pair-is c.args.self.now (c.current_pair.result.0.now, c.current_pair.result.1.now) c.current_pair.ensures)

@@ -1,4 +1,5 @@
-use Rattle.std.proofs.Common.{◌∷◌, [], ◌++◌, inl, sym, ap, ◌∙◌, option_map}
+use Rattle.std.proofs.Common.{◌≡◌, ◌-◌, ◌∷◌, [], ◌++◌, length, length-append, inl, sym, ap, ◌∙◌, option_map, arith}
+use Rattle.linked_hash_map.specs.Counts.{rechained_raised}
 use Rattle.linked_hash_map.proofs.Indexes.{set_value_at-pushed, slice_get-pushed}
 use Rattle.linked_hash_map.proofs.EntryFacts.{some_injective}
 use Rattle.linked_hash_map.proofs.entry.VacantEntry.insert.Goals as goal
@@ -6,25 +7,31 @@ use Rattle.linked_hash_map.proofs.entry.VacantEntry.insert.Goals as goal
 pub returns : goal.returns
 returns g c =
     let key = c.args.self.key in
+    let m = c.args.self.map.now in
     let room = c.make_room in
     let pushed = c.push_back in
+    let longer = ap length pushed.ensures.pairs in
+    let one = length-append room.new.self.pairs ((key, c.args.value) ∷ []) in
+    let at_end : length pushed.new.self.pairs - 1 ≡ length room.new.self.pairs = omega (arith, longer, one) in
     let pairs = λ (v : g.row.V.Denot).
-    set_value_at-pushed room.new.self.pairs pushed.new.self.pairs (key, c.args.value) c.len-last.result pushed.ensures.pairs c.len-last.ensures.len v
+    set_value_at-pushed room.new.self.pairs pushed.new.self.pairs (key, c.args.value) (length pushed.new.self.pairs - 1) pushed.ensures.pairs at_end v
     ∙ ap (λ pairs. pairs ++ (key, v) ∷ []) room.ensures.pairs in
-    let last = slice_get-pushed room.new.self.pairs pushed.new.self.pairs (key, c.args.value) c.len-last.result pushed.ensures.pairs c.len-last.ensures.len in (
+    let last = slice_get-pushed room.new.self.pairs pushed.new.self.pairs (key, c.args.value) (length pushed.new.self.pairs - 1) pushed.ensures.pairs at_end in (
       (λ i. inl (
-        c.value_mut_at.result.ghost_name,
-        λ v. record c.args.self.map.now {
+        c.last_value_mut.result.ghost_name,
+        λ v. record m {
           pairs = pairs v i;
           capacity = (pushed.ensures.capacity ∙ room.ensures.made c.if-not-make_room.false) i;
           hasher = (pushed.ensures.hasher ∙ room.ensures.hasher) i;
           bookmark = (pushed.ensures.bookmark ∙ room.ensures.bookmark) i;
           unvisited = (pushed.ensures.unvisited ∙ room.ensures.unvisited) i;
+          current = (pushed.ensures.current ∙ room.ensures.current) i;
+          rechained = (pushed.ensures.rechained ∙ room.ensures.rechained c.if-not-make_room.false ∙ ap (rechained_raised m.rechained (length m.pairs) m.capacity) (room.ensures.made c.if-not-make_room.false)) i;
         },
       )),
       record {
         writes_back = tt;
-        value = some_injective (sym c.value_mut_at.ensures.value ∙ ap (option_map (λ pair. pair.1)) last);
+        value = some_injective (sym c.last_value_mut.ensures.value ∙ ap (option_map (λ pair. pair.1)) last);
         key_back = tt;
         value_back = tt;
         absent = tt;

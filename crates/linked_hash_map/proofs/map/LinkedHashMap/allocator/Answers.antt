@@ -1,5 +1,5 @@
-use Rattle.linked_hash_map.proofs.Columns.{valid-view}
+use Rattle.linked_hash_map.proofs.Kept.{IsValid-view}
 use Rattle.linked_hash_map.proofs.map.LinkedHashMap.allocator.Goals as goal
 
 pub returns : goal.returns
-returns g c = record { valid = valid-view c.self.invariant c.self.view_is }
+returns g c = record { valid = rw (← c.self.view_is) (IsValid-view c.self.invariant _ _ _ _ _) }

@@ -1,6 +1,7 @@
-use Rattle.std.proofs.Common.{◌∙◌, ◌≤◌, ap, subst, sym, max, map, length, inr, Some, Err}
+use Rattle.std.proofs.Common.{◌∙◌, ◌-◌, ◌≤◌, ap, subst, sym, max, map, length, inr, Some, Err}
 use Rattle.std.specs.Iterator.{Drains, YieldsThen}
 use Rattle.std.proofs.lemmas.Result.{err_from_is_err_and}
+use Rattle.linked_hash_map.specs.Counts.{rechained_each}
 use Rattle.linked_hash_map.specs.Inserts.{insert_each}
 use Rattle.linked_hash_map.specs.declared.map.TheConstants.{LIMIT}
 use Rattle.linked_hash_map.proofs.map.LinkedHashMap.from_iter.Goals as goal
@@ -35,6 +36,15 @@ returns-in-Ok-clause-all g c =
         pairs = took.all.pairs ∙ ap (λ pairs. insert_each g.K.PartialEq.eq pairs (map (λ pair. pair) given)) made.pairs;
       };
       room = took.capacity ∙ ap (λ room. max room (length c.extend.new.self.pairs)) made.capacity;
+    }
+
+pub returns-in-Ok-clause-rechained : goal.returns-in-Ok-clause-rechained
+returns-in-Ok-clause-rechained g c =
+    let made = c.in_ok-map.ensures in
+    record {
+      lower = c.size_hint-lower.result.0;
+      hint = record { iterator = c.into_iter-items.result; made = c.into_iter-items.ensures.into_iter_gives; hint = c.size_hint-lower.ensures.lower };
+      counted = c.in-Ok.ensures.rechained ∙ (λ i. rechained_each (made.rechained i) (made.capacity i) (c.extend.new.self.capacity - made.capacity i));
     }
 
 pub returns-in-Err-clause-no_room : goal.returns-in-Err-clause-no_room

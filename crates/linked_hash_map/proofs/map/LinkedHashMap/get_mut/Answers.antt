@@ -1,11 +1,54 @@
-use Rattle.std.proofs.Common.{inl, sym, ◌∙◌}
-use Rattle.linked_hash_map.proofs.Indexes.{set_value-index, value_at-slice_get}
+use Rattle.std.proofs.Common.{◌+◌, Some, option_map, fold, refl, inl, ap, sym, ◌∙◌, subst}
+use Rattle.lhm_ring.specs.Positions.{place_of, place_of_some}
+use Rattle.lhm_ring.specs.Search.{HasKey, IsAbsent}
+use Rattle.lhm_ring.proofs.IndexedRing.{indexed_value}
+use Rattle.linked_hash_map.specs.LinkedMap.{linked_map}
+use Rattle.linked_hash_map.specs.Nodes.{AreKept, bookmark_at, current_at}
+use Rattle.linked_hash_map.specs.Hashers.{hash_by}
+use Rattle.linked_hash_map.proofs.Kept.{IsValid-view, of-Some, of-None, index_of-key, pair_there, node, front, back, pairs_set, bare-change, length-same, distinct_keys, absent_key}
+use Rattle.linked_hash_map.proofs.Indexes.{value_at-index, set_value-index}
 use Rattle.linked_hash_map.proofs.map.LinkedHashMap.get_mut.Goals as goal
+
+pub invariant_of-self-lent : goal.invariant_of-self-lent
+invariant_of-self-lent g c w =
+    let m = c.self.inside in
+    record {
+      nodes = subst (λ us. AreKept g.K.PartialEq.eq (hash_by g.S.Hasher.Hasher.finish g.S.Hasher.Hasher.write g.S.BuildHasher.build_hasher g.K.Hash.hash_input m.hasher) us m.ring.spares (place_of_some m.mark) m.unvisited (place_of_some m.current))
+          (sym (bare-change (place_of c.in-Some.at) w m.ring.held)) c.self.invariant.nodes;
+      indexed = indexed_value m.index m.ring (place_of c.in-Some.at) w c.self.invariant.indexed;
+      few = c.self.invariant.few;
+    }
 
 pub returns-in-Some : goal.returns-in-Some
 returns-in-Some g c =
-    let m = c.args.self.now in
-    let found = c.in-Some.ensures in (
-      (λ i. inl (c.value_mut_at.result.ghost_name, λ w. record m { pairs = sym (set_value-index g.met.K.Eq.laws found.valid.distinct found.found w) i })),
-      record { writes_back = tt; valid = found.valid; value = sym (value_at-slice_get g.met.K.Eq.laws found.valid.distinct found.found ∙ c.value_mut_at.ensures.value) },
+    let m = c.self.inside in
+    let at = place_of c.in-Some.at in
+    let h = of-Some (λ p. HasKey g.K.PartialEq.eq c.hash_one-number.result c.args.key.now m.ring.held (place_of p)) c.find.result.0 c.in-Some.at c.in-Some.is c.find.ensures.found in
+    let distinct = distinct_keys c.self.invariant in
+    rw (← c.self.view_is) (
+      (λ i. inl (
+        c.value_mut.result.ghost_name,
+        λ w. linked_map ((pairs_set h.held c.value_mut.ensures.alone w ∙ sym (set_value-index g.met.K.Eq.laws distinct (index_of-key h) w)) i)
+            (length-same _ m.ring.held (bare-change at w m.ring.held) i + m.ring.spares) m.hasher (bookmark_at (place_of_some m.mark) (bare-change at w m.ring.held i)) m.unvisited (current_at (place_of_some m.current) (bare-change at w m.ring.held i)) m.rechained,
+      )),
+      record {
+        writes_back = tt;
+        value = ap Some (c.value_mut.ensures.value (front h.held) (node h.held) (back h.held) h.held.3 h.held.4) ∙ value_at-index g.met.K.Eq.laws distinct (index_of-key h) (pair_there h.held);
+        valid = IsValid-view c.self.invariant _ _ _ _ _;
+      },
+    )
+
+pub returns-in-None : goal.returns-in-None
+returns-in-None g c =
+    let m = c.self.inside in
+    rw (← c.self.view_is) (
+      refl,
+      record {
+        writes_back = tt;
+        value = sym (ap (option_map (λ p. p.1)) (absent_key g.K.PartialEq.eq (hash_by g.S.Hasher.Hasher.finish g.S.Hasher.Hasher.write g.S.BuildHasher.build_hasher g.K.Hash.hash_input m.hasher)
+            (λ x y h. ap (λ ws. g.S.Hasher.Hasher.finish (fold g.S.Hasher.Hasher.write (g.S.BuildHasher.build_hasher m.hasher) ws)) (g.met.K.Hash.respects_eq x y h))
+            c.args.key.now c.hash_one-number.result c.hash_one-number.ensures m.ring.held c.self.invariant.nodes.hashed
+            (of-None (IsAbsent g.K.PartialEq.eq c.hash_one-number.result c.args.key.now m.ring.held) c.find.result.0 c.in-None.is c.find.ensures.absent)));
+        valid = IsValid-view c.self.invariant _ _ _ _ _;
+      },
     )

@@ -1,44 +1,49 @@
-use Rattle.std.proofs.Common.{inl, sym, ap, ◌∙◌, ◌++◌, ◌∷◌, [], option_map, slice_get}
-use Rattle.linked_hash_map.specs.Cursor.{without_cursor}
-use Rattle.linked_hash_map.specs.Pairs.{find}
-use Rattle.linked_hash_map.specs.Indexes.{set_value_at}
-use Rattle.linked_hash_map.proofs.Indexes.{find-remove, value_at-index, to_back-index, set_value_at-pushed, slice_get-pushed}
+use Rattle.std.proofs.Common.{◌<◌, ◌++◌, ◌∷◌, [], inl, length, remove, slice_get, option_map, refl, sym, ap, ◌∙◌, subst}
+use Rattle.linked_hash_map.specs.LinkedMap.{linked_map, nowhere}
+use Rattle.linked_hash_map.proofs.Indexes.{length-others, IsIndex-within, value_at-index, to_back-index, slice_get-within, set_value_at-pushed, slice_get-pushed}
 use Rattle.linked_hash_map.proofs.map.LinkedHashMap.get_refresh.Goals as goal
 
-pub push_back-requires-clause-absent : goal.push_back-requires-clause-absent
-push_back-requires-clause-absent g c =
-    let taken = c.take_out-stored in
-    ap (λ pairs. find g.K.PartialEq.eq pairs taken.result.0) taken.ensures.pairs
-    ∙ find-remove g.met.K.Eq.laws c.args.self.now.pairs taken.ensures.valid.distinct c.in-Some.index taken.result taken.ensures.pair
+pub move_current_to_back-requires-clause-within : goal.move_current_to_back-requires-clause-within
+move_current_to_back-requires-clause-within g c =
+    let sought = c.if-not-seek.ensures in
+    subst (λ n. c.seek.new.self.current < n) (sym (ap (λ m. length m.pairs) (sought.ends_visit refl))) (IsIndex-within g.met.K.Eq.laws sought.valid.distinct (sought.found refl))
 
-pub returns-in-Some : goal.returns-in-Some
-returns-in-Some g c =
-    let found = c.in-Some.ensures in
-    let taken = c.take_out-stored in
-    let pushed = c.push_back in
-    let ended = c.end_visit in
-    let moved = λ (w : g.row.V.Denot).
-    ap (λ m. set_value_at m.pairs c.len-last.result w) ended.ensures.ends
-    ∙ set_value_at-pushed taken.new.self.pairs pushed.new.self.pairs (taken.result.0, taken.result.1) c.len-last.result pushed.ensures.pairs c.len-last.ensures.len w
-    ∙ ap (λ pairs. pairs ++ (taken.result.0, w) ∷ []) taken.ensures.pairs
-    ∙ sym (to_back-index g.met.K.Eq.laws found.valid.distinct found.found taken.ensures.pair w) in
-    let lent = ap (λ m. slice_get m.pairs c.len-last.result) ended.ensures.ends ∙ slice_get-pushed taken.new.self.pairs pushed.new.self.pairs (taken.result.0, taken.result.1) c.len-last.result pushed.ensures.pairs c.len-last.ensures.len in (
+pub leave_current-requires : goal.leave_current-requires
+leave_current-requires g c =
+    let sought = c.if-not-seek.ensures in
+    let s = c.seek.new.self in
+    let moved = c.move_current_to_back in
+    let pair = (sought.found refl).pair in
+    let there = ap (λ m. slice_get m.pairs s.current) (sought.ends_visit refl) ∙ (sought.found refl).there in
+    slice_get-within moved.new.self.pairs moved.new.self.current pair
+    (slice_get-pushed (remove s.pairs s.current) moved.new.self.pairs pair moved.new.self.current (moved.ensures.pairs pair there) (moved.ensures.current ∙ length-others s.pairs s.current pair there))
+
+pub returns : goal.returns
+returns g c =
+    let sought = c.if-not-seek.ensures in
+    let s = c.seek.new.self in
+    let moved = c.move_current_to_back in
+    let pair = (sought.found refl).pair in
+    let there = ap (λ m. slice_get m.pairs s.current) (sought.ends_visit refl) ∙ (sought.found refl).there in
+    let at_end = moved.ensures.current ∙ length-others s.pairs s.current pair there in
+    let pushed = moved.ensures.pairs pair there in
+    let last = slice_get-pushed (remove s.pairs s.current) moved.new.self.pairs pair moved.new.self.current pushed at_end in
+    let refreshed = λ (w : g.row.V.Denot).
+    set_value_at-pushed (remove s.pairs s.current) moved.new.self.pairs pair moved.new.self.current pushed at_end w
+    ∙ ap (λ m. remove m.pairs s.current ++ (pair.0, w) ∷ []) (sought.ends_visit refl)
+    ∙ sym (to_back-index g.met.K.Eq.laws sought.valid.distinct (sought.found refl) (sought.found refl).there w) in (
       (λ i. inl (
-        c.value_mut_at.result.ghost_name,
-        λ w. record (without_cursor c.args.self.now) {
-          pairs = moved w i;
-          capacity = (ap (λ m. m.capacity) ended.ensures.ends ∙ pushed.ensures.capacity ∙ taken.ensures.capacity) i;
-          hasher = (ap (λ m. m.hasher) ended.ensures.ends ∙ pushed.ensures.hasher ∙ taken.ensures.hasher) i;
-          bookmark = ap (λ m. m.bookmark) ended.ensures.ends i;
-          unvisited = ap (λ m. m.unvisited) ended.ensures.ends i;
-        },
+        c.leave_current.result.ghost_name,
+        λ w. linked_map (refreshed w i)
+            ((moved.ensures.capacity ∙ ap (λ m. m.capacity) (sought.ends_visit refl)) i)
+            ((moved.ensures.hasher ∙ ap (λ m. m.hasher) (sought.ends_visit refl)) i)
+            (moved.ensures.none_left (sought.visited refl) i)
+            ((moved.ensures.unvisited ∙ (sought.visited refl)) i) nowhere
+            ((moved.ensures.rechained ∙ ap (λ m. m.rechained) (sought.ends_visit refl)) i),
       )),
       record {
         writes_back = tt;
-        valid = found.valid;
-        value =
-            sym c.value_mut_at.ensures.value
-            ∙ ap (option_map (λ pair. pair.1)) lent
-            ∙ value_at-index g.met.K.Eq.laws found.valid.distinct found.found taken.ensures.pair;
+        valid = sought.valid;
+        value = sym c.leave_current.ensures.value ∙ ap (option_map (λ pair. pair.1)) last ∙ value_at-index g.met.K.Eq.laws sought.valid.distinct (sought.found refl) (sought.found refl).there;
       },
     )

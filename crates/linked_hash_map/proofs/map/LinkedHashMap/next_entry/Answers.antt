@@ -1,26 +1,20 @@
-use Rattle.std.proofs.Common.{slice_get, option_map, refl, sym, ap, ◌∙◌}
-use Rattle.std.proofs.lemmas.Option.{slice_get-map}
+use Rattle.std.proofs.Common.{slice_get, refl, sym, ap, ◌∙◌}
 use Rattle.std.specs.Map.{keys_of}
-use Rattle.linked_hash_map.proofs.EntryFacts.{slice_get-occupied}
+use Rattle.linked_hash_map.proofs.MarkMoves.{occupied_key_there}
 use Rattle.linked_hash_map.proofs.map.LinkedHashMap.next_entry.Goals as goal
 
-pub returns-in-Some : goal.returns-in-Some
-returns-in-Some g c =
-    let found = c.in-Some.ensures in
-    let index = c.in-Some.index in (
-      refl,
-      record {
-        lends = tt;
-        same_map = refl;
-        visits =
-            found.key _
-            (ap (λ pairs. slice_get (keys_of pairs) index) (sym found.pairs)
-            ∙ slice_get-map (λ pair. pair.0) c.visit_next.new.self.pairs index
-            ∙ ap (option_map (λ pair. pair.0)) (slice_get-occupied _));
-        pairs = found.pairs;
-        capacity = found.capacity;
-        hasher = found.hasher;
-        valid = found.valid;
-        none = tt;
-      },
-    )
+pub returns-then-visit_next : goal.returns-then-visit_next
+returns-then-visit_next g c = (
+  refl,
+  record {
+    lends = tt;
+    same_map = refl;
+    visits = c.if-visit_next.ensures.key refl _ (ap (λ ps. slice_get (keys_of ps) c.visit_next.new.self.current) (sym c.if-visit_next.ensures.pairs) ∙ occupied_key_there _);
+    pairs = c.if-visit_next.ensures.pairs;
+    capacity = c.if-visit_next.ensures.capacity;
+    rechained = c.if-visit_next.ensures.rechained;
+    hasher = c.if-visit_next.ensures.hasher;
+    valid = c.if-visit_next.ensures.valid;
+    none = tt;
+  },
+)

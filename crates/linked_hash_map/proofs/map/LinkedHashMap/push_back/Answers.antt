@@ -1,41 +1,41 @@
-use Rattle.std.proofs.Common.{◌<◌, length, refl, ap, ◌∙◌, arith}
+use Rattle.std.proofs.Common.{◌≡◌, ◌+◌, ◌<◌, None, length, ◌∙◌, ap, sym, subst, arith}
+use Rattle.lhm_ring.specs.Positions.{place_of}
+use Rattle.lhm_ring.specs.Search.{entries}
+use Rattle.lhm_ring.proofs.IndexedRing.{indexed_some}
+use Rattle.linked_hash_map.specs.LinkedMap.{LinkedMap}
+use Rattle.linked_hash_map.specs.Nodes.{pairs_of}
+use Rattle.linked_hash_map.specs.Hashers.{hash_by}
 use Rattle.linked_hash_map.specs.Pairs.{find}
-use Rattle.linked_hash_map.proofs.Columns.{pairs-view, capacity-view, length-view, valid-view, zip-push, AreColumns-push}
+use Rattle.linked_hash_map.proofs.Growth.{IsKept-push, pairs_of-push, bookmark_at-push, current_at-push}
+use Rattle.linked_hash_map.proofs.Kept.{IsValid-view, length-pairs_of}
 use Rattle.linked_hash_map.proofs.map.LinkedHashMap.push_back.Goals as goal
 
-pub push_reserved-requires : goal.push_reserved-requires
-push_reserved-requires g c =
-    let of_pairs = length-view c.self.invariant c.self.view_is in
-    let of_capacity = capacity-view c.self.invariant c.self.view_is in
-    let of_keys = c.self.inside.keys.ok.0 in
-    omega (arith, c.self.invariant.room_of_keys, c.requires.room)
-
-pub push_reserved-requires-2 : goal.push_reserved-requires-2
-push_reserved-requires-2 g c =
-    let of_pairs = length-view c.self.invariant c.self.view_is in
-    let of_capacity = capacity-view c.self.invariant c.self.view_is in
-    let of_values = c.self.inside.values.ok.0 in
-    omega (arith, c.self.invariant.paired, c.self.invariant.room_of_values, c.requires.room)
+pub put_in-requires-clause-some : goal.put_in-requires-clause-some
+put_in-requires-clause-some g c =
+    let m = c.self.inside in
+    let room : length (pairs_of m.ring.held) < length m.ring.held + m.ring.spares = subst (λ (z : LinkedMap g.row.K.Denot g.row.V.Denot g.row.S.Denot). length z.pairs < z.capacity) (sym c.self.view_is) c.requires.room in
+    let of_pairs = length-pairs_of m.ring.held in
+    indexed_some m.index m.ring c.self.invariant.indexed (omega (arith, room, of_pairs))
 
 pub invariant_of-self : goal.invariant_of-self
 invariant_of-self g c =
     let m = c.self.inside in
-    let of_pairs = length-view c.self.invariant c.self.view_is in
-    let of_capacity = capacity-view c.self.invariant c.self.view_is in
-    let room : length m.keys.items < m.capacity = omega (arith, c.requires.room) in
-    rw (c.push_reserved.ensures.items, c.push_reserved-2.ensures.items, c.push_reserved.ensures.capacity, c.push_reserved-2.ensures.capacity)
-    (AreColumns-push c.self.invariant g.met.K.Eq.laws c.args.key c.args.value (ap (λ pairs. find g.K.PartialEq.eq pairs c.args.key) (pairs-view c.self.invariant c.self.view_is) ∙ c.requires.absent) room)
+    let room : length (pairs_of m.ring.held) < length m.ring.held + m.ring.spares = subst (λ (z : LinkedMap g.row.K.Denot g.row.V.Denot g.row.S.Denot). length z.pairs < z.capacity) (sym c.self.view_is) c.requires.room in
+    let of_pairs = length-pairs_of m.ring.held in
+    let absent : find g.K.PartialEq.eq (pairs_of m.ring.held) c.args.key ≡ None = subst (λ (z : LinkedMap g.row.K.Denot g.row.V.Denot g.row.S.Denot). find g.K.PartialEq.eq z.pairs c.args.key ≡ None) (sym c.self.view_is) c.requires.absent in
+    let hash = hash_by g.S.Hasher.Hasher.finish g.S.Hasher.Hasher.write g.S.BuildHasher.build_hasher g.K.Hash.hash_input in
+    let numbered : c.args.number ≡ hash m.hasher c.args.key = subst (λ (z : LinkedMap g.row.K.Denot g.row.V.Denot g.row.S.Denot). c.args.number ≡ hash z.hasher c.args.key) (sym c.self.view_is) c.requires.number in
+    IsKept-push c.self.invariant (place_of c.put_back-at.result) c.args.number c.args.key c.args.value c.put_in.new.ring (c.put_in.ensures.held ∙ ap entries c.put_back-at.ensures.last)
+    g.met.K.Eq.laws numbered absent (omega (arith, room, of_pairs)) (c.put_in.ensures.spares ∙ c.put_back-at.ensures.spares) c.put_in.ensures.indexed c.put_in.ensures.buckets
 
 pub returns-clause-pairs : goal.returns-clause-pairs
-returns-clause-pairs g c =
-    let m = c.self.inside in
-    rw (← c.self.view_is, c.push_reserved.ensures.items, c.push_reserved-2.ensures.items) (zip-push m.keys.items m.values.items c.args.key c.args.value c.self.invariant.paired)
+returns-clause-pairs g c = rw (← c.self.view_is) (pairs_of-push c.self.inside.ring (place_of c.put_back-at.result) c.args.number c.args.key c.args.value c.put_in.new.ring (c.put_in.ensures.held ∙ ap entries c.put_back-at.ensures.last))
+
+pub returns-clause-bookmark : goal.returns-clause-bookmark
+returns-clause-bookmark g c = rw (← c.self.view_is) (bookmark_at-push c.self.invariant (place_of c.put_back-at.result) c.args.number c.args.key c.args.value c.put_in.new.ring (c.put_in.ensures.held ∙ ap entries c.put_back-at.ensures.last))
+
+pub returns-clause-current : goal.returns-clause-current
+returns-clause-current g c = rw (← c.self.view_is) (current_at-push c.self.invariant (place_of c.put_back-at.result) c.args.number c.args.key c.args.value c.put_in.new.ring (c.put_in.ensures.held ∙ ap entries c.put_back-at.ensures.last))
 
 pub returns-clause-stays_valid : goal.returns-clause-stays_valid
-returns-clause-stays_valid g c =
-    let m = c.self.inside in
-    let of_pairs = length-view c.self.invariant c.self.view_is in
-    let of_capacity = capacity-view c.self.invariant c.self.view_is in
-    let room : length m.keys.items < m.capacity = omega (arith, c.requires.room) in
-    rw (c.push_reserved.ensures.items, c.push_reserved-2.ensures.items)
-    (valid-view (AreColumns-push c.self.invariant g.met.K.Eq.laws c.args.key c.args.value (ap (λ pairs. find g.K.PartialEq.eq pairs c.args.key) (pairs-view c.self.invariant c.self.view_is) ∙ c.requires.absent) room) refl)
+returns-clause-stays_valid g c = IsValid-view (invariant_of-self g c) _ _ _ _ _

@@ -1,13 +1,11 @@
-use Rattle.std.proofs.Common.{[], refl, arith}
-use Rattle.linked_hash_map.specs.Columns.{AreColumns}
-use Rattle.linked_hash_map.proofs.Columns.{AreColumns-nil, valid-view}
+use Rattle.std.proofs.Common.{arith}
+use Rattle.lhm_ring.proofs.IndexedRing.{indexed_new}
+use Rattle.linked_hash_map.proofs.Growth.{IsKept-none}
+use Rattle.linked_hash_map.proofs.Kept.{IsValid-view}
 use Rattle.linked_hash_map.proofs.map.LinkedHashMap.with_hasher.Goals as goal
 
 pub invariant_of-result : goal.invariant_of-result
-invariant_of-result g c =
-    rw (c.new.ensures.items, c.new-2.ensures.items) (AreColumns-nil g.K.PartialEq.eq (omega arith) (omega arith) (omega arith))
+invariant_of-result g c = IsKept-none c.new.ensures.empty (omega (arith, c.new.ensures.no_spares)) (indexed_new _ c.new.result c.new-2.ensures c.new.ensures.empty c.new.ensures.no_spares)
 
 pub returns-clause-valid : goal.returns-clause-valid
-returns-clause-valid g c =
-    let columns : AreColumns {K = g.row.K.Denot} {V = g.row.V.Denot} g.K.PartialEq.eq [] [] 0 0 0 0 0 = AreColumns-nil g.K.PartialEq.eq (omega arith) (omega arith) (omega arith) in
-    rw c.new.ensures.items (valid-view columns refl)
+returns-clause-valid g c = IsValid-view (invariant_of-result g c) _ _ _ _ _

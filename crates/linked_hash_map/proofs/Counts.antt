@@ -1,0 +1,80 @@
+-- The counts of nodes chained again, by the capacities before and after.
+use Rattle.std.proofs.Common.{◌≡◌, ℕ, zero, suc, ◌+◌, ◌-◌, ◌%◌, ◌<◌, ◌≤◌, max, Bool, List, [], ◌∷◌, ⊎_elim, true, false, cond, refl, sym, ap, ◌∙◌, eqb, arith}
+use Rattle.std.proofs.lemmas.Bool.{eq-eqb, ne_eqb, cases_lt}
+use Rattle.std.specs.Prelude.{count_by}
+use Rattle.std.specs.List.{AllByRecursion}
+use Rattle.lhm_ring.specs.Buckets.{buckets, rechained_raised, rechained_lowered}
+use Rattle.lhm_ring.specs.Index as index
+use Rattle.lhm_ring.specs.Index.{spots}
+use Rattle.lhm_ring.specs.IndexedRing.{AreHashed}
+use Rattle.lhm_ring.specs.RingState.{Held}
+use Rattle.lhm_ring.proofs.Chains.{count-cons}
+use Rattle.lhm_ring.proofs.Hashed.{same_hashed, beside_hashed}
+use Rattle.linked_hash_map.specs.Counts.{same, beside, rechained_each, rechained_fitted}
+use Rattle.linked_hash_map.specs.Nodes.{pairs_of, bare}
+
+-- a capacity that stays counts nothing
+pub rechained_raised-same : (rechained len c : ℕ) → rechained_raised rechained len c c ≡ rechained
+rechained_raised-same rechained len c = ap (λ b. cond b rechained (rechained + len)) (eq-eqb (buckets c) (buckets c) refl)
+
+pub rechained_fitted-same : (rechained len c : ℕ) → c ≡ len → rechained_fitted rechained len c ≡ rechained
+rechained_fitted-same rechained len c same = ap (λ b. cond b rechained (rechained_lowered len c)) (eq-eqb c len same)
+
+-- one that is lowered counts anew
+pub rechained_fitted-lower : (rechained len c : ℕ) → len < c → rechained_fitted rechained len c ≡ rechained_lowered len c
+rechained_fitted-lower rechained len c less = ap (λ b. cond b rechained (rechained_lowered len c)) (ne_eqb c len (λ e. omega (arith, less, e)))
+
+-- with no pair nothing is chained
+pub rechained_fitted-none : (rechained c : ℕ) → (c ≡ 0 → rechained ≡ 0) → rechained_fitted rechained 0 c ≡ 0
+rechained_fitted-none rechained zero none = rechained_fitted-same rechained 0 0 refl ∙ none refl
+rechained_fitted-none rechained (suc c) none =
+    rechained_fitted-lower rechained 0 (suc c) (omega arith)
+    ∙ (elim (eqb (buckets (suc c)) (buckets 0)) as (λ b. cond {A = ℕ} b 0 0 ≡ 0) [ true ↦ refl | false ↦ refl ])
+
+-- one raise more, after n of them
+pub rechained_each-more : (rechained c n : ℕ) → rechained_each rechained c (suc n) ≡ rechained_raised (rechained_each rechained c n) (c + n) (c + n) (c + n + 1)
+rechained_each-more rechained c zero = let here : c ≡ c + 0 = omega arith in ap (λ k. rechained_raised rechained k k (k + 1)) here
+rechained_each-more rechained c (suc n) =
+    let further : c + 1 + n ≡ c + suc n = omega arith in
+    rechained_each-more (rechained_raised rechained c c (c + 1)) (c + 1) n
+    ∙ ap (λ k. rechained_raised (rechained_each rechained c (suc n)) k k (k + 1)) further
+
+-- one insertion more, of which the pairs were len and are then longer by one at most
+pub rechained_each-put : (rechained start : ℕ) {capacity len longer capacity' so_far then : ℕ} → start ≤ capacity → so_far ≡ rechained_each rechained start (capacity - start) → len ≤ capacity → longer ≤ len + 1 → capacity' ≡ max capacity longer → then ≡ rechained_raised so_far len capacity capacity'
+    → then ≡ rechained_each rechained start (capacity' - start)
+rechained_each-put rechained start {capacity} {len} {longer} {capacity'} {so_far} {then} above before within one room counted =
+    ⊎_elim (λ full.
+    let all : len ≡ capacity = omega (arith, full, one, within) in
+    let higher : capacity' ≡ capacity + 1 = omega (arith, full, one, within, room) in
+    let n : start + (capacity - start) ≡ capacity = omega (arith, above) in
+    let steps : capacity' - start ≡ suc (capacity - start) = omega (arith, higher, above) in
+    counted ∙ (λ i. rechained_raised (before i) (all i) capacity (higher i))
+    ∙ ap (λ k. rechained_raised (rechained_each rechained start (capacity - start)) k k (k + 1)) (sym n)
+    ∙ sym (rechained_each-more rechained start (capacity - start)) ∙ ap (rechained_each rechained start) (sym steps))
+    (λ room_left.
+    let same : capacity' ≡ capacity = omega (arith, room_left, room) in
+    counted ∙ ap (rechained_raised so_far len capacity) same ∙ rechained_raised-same so_far len capacity ∙ before ∙ ap (λ k. rechained_each rechained start (k - start)) (sym same))
+    (cases_lt capacity longer)
+
+-- what the index counts, by the pairs
+module _ {K V : Type 0} (hash : K → ℕ) where
+  count-pairs : (test : K × V → Bool) (hs : List (Held (K × V))) → count_by (λ x. test x.pair) hs ≡ count_by test (pairs_of hs)
+  count-pairs test [] = refl
+  count-pairs test (t ∷ hs) =
+      let rest = count-pairs test hs in
+      let left : count_by (λ (x : Held (K × V)). test x.pair) (t ∷ hs) ≡ cond (test t.pair) 1 0 + count_by (λ (x : Held (K × V)). test x.pair) hs = count-cons (λ (x : Held (K × V)). test x.pair) t hs in
+      let right : count_by test (t.pair ∷ pairs_of hs) ≡ cond (test t.pair) 1 0 + count_by test (pairs_of hs) = count-cons test t.pair (pairs_of hs) in
+      omega (arith, rest, left, right)
+
+  hashed_bare : (hs : List (Held (K × V))) → AllByRecursion (λ u. u.number ≡ hash u.pair) (bare hs) → AreHashed hash hs
+  hashed_bare [] h = tt
+  hashed_bare (t ∷ hs) h = (h.0, hashed_bare hs h.1)
+
+  pub same-pairs : (hs : List (Held (K × V))) (k : K) (number : ℕ) → number ≡ hash k → AllByRecursion (λ u. u.number ≡ hash u.pair) (bare hs) → index.same (spots hs) number ≡ same hash (pairs_of hs) k
+  same-pairs hs k number its h =
+      ap (index.same (spots hs)) its ∙ same_hashed hash hs (hash k) (hashed_bare hs h) ∙ count-pairs (λ pair. eqb (hash pair.0) (hash k)) hs
+
+  pub beside-pairs : (hs : List (Held (K × V))) (k : K) (number n capacity : ℕ) → number ≡ hash k → n ≡ buckets capacity → AllByRecursion (λ u. u.number ≡ hash u.pair) (bare hs) → index.beside (spots hs) n number ≡ beside hash (pairs_of hs) capacity k
+  beside-pairs hs k number n capacity its wide h =
+      (λ i. index.beside (spots hs) (wide i) (its i)) ∙ beside_hashed hash hs (buckets capacity) (hash k) (hashed_bare hs h)
+      ∙ count-pairs (λ pair. eqb (hash pair.0 % buckets capacity) (hash k % buckets capacity)) hs

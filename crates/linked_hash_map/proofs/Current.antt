@@ -1,0 +1,122 @@
+-- The pair at the current index.
+use Rattle.std.proofs.Common.{◌≡◌, ℕ, suc, ◌+◌, ◌-◌, ◌<◌, ◌≤◌, ◌⊎◌, Bool, false, cond, List, [], ◌∷◌, map, length, slice_get, Option, Some, None, refl, sym, ap, ◌∙◌, subst, arith}
+use denote.RawPtr.{Ptr}
+use Rattle.lhm_ring.specs.Positions.{place_of, place_of_some}
+use Rattle.lhm_ring.specs.Cells.{same_ptr, IsApart}
+use Rattle.lhm_ring.specs.RingState.{Held, State, last_of, last_at}
+use Rattle.lhm_ring.specs.RingAfterLoan.{with_value}
+use Rattle.lhm_ring.specs.Search.{HasKey}
+use Rattle.lhm_ring.proofs.Apart.{IsFresh, same_ptr_refl}
+use Rattle.lhm_ring.proofs.IndexedRing.{indexed_value}
+use Rattle.lhm_ring.proofs.Rows.{apart_head, apart_tail}
+use Rattle.lhm_ring.specs.declared.position.Position.{Position}
+use Rattle.linked_hash_map.specs.LinkedMap.{LinkedMap, linked_map}
+use Rattle.linked_hash_map.specs.Cursor.{IsOutside}
+use Rattle.linked_hash_map.specs.Indexes.{IsIndex}
+use Rattle.linked_hash_map.specs.Nodes.{pairs_of, bare, before, bookmark_at, current_at, Lies, AreKept, IsKept}
+use Rattle.linked_hash_map.proofs.Kept.{CutAt, cut_before, bare-change, length-bare, before-bare, pair_there}
+use Rattle.linked_hash_map.proofs.Outside.{IsElsewhere, before_held}
+
+-- the index is the number of nodes before the place
+pub current_at-Some : {K V : Type 0} {o : Option (Position K V)} {p : Position K V} → o ≡ Some p → (hs : List (Held (K × V))) → current_at (place_of_some o) (bare hs) ≡ before (place_of p) hs
+current_at-Some {p = p} is hs = ap (λ z. current_at (place_of_some z) (bare hs)) is ∙ before-bare (place_of p) hs
+
+module _ {K V : Type 0} {eq : K → K → Bool} {hash : K → ℕ} {heads : List (Option Ptr)} {s : State (K × V)} {mark : Option Ptr} {n : ℕ} {o : Option (Position K V)} {r : ℕ} (kept : IsKept eq hash heads s mark n (place_of_some o) r) {p : Position K V} (is : o ≡ Some p) where
+  -- a node lies there
+  pub current_lies : before (place_of p) s.held < length s.held
+  current_lies =
+      let lies : before (place_of p) (bare s.held) < length (bare s.held) = subst (λ z. Lies (place_of_some z) (bare s.held)) is kept.nodes.current_lies in
+      let of_before = before-bare (place_of p) s.held in
+      let of_bare = length-bare s.held in
+      omega (arith, lies, of_before, of_bare)
+
+  pub current_cut : CutAt (place_of p) s.held
+  current_cut = cut_before (place_of p) s.held current_lies
+
+  pub current_nodes : AreKept eq hash (bare s.held) s.spares mark n (Some (place_of p))
+  current_nodes = subst (λ z. AreKept eq hash (bare s.held) s.spares mark n (place_of_some z)) is kept.nodes
+
+  -- where the index is outside the pairs to visit, the node is
+  pub current_elsewhere : {S : Type 0} {m : LinkedMap K V S} {capacity : ℕ} {hasher : S} → linked_map (pairs_of s.held) capacity hasher (bookmark_at mark (bare s.held)) n (current_at (place_of_some o) (bare s.held)) r ≡ m → IsOutside m.current m → IsElsewhere (place_of p) s.held mark n
+  current_elsewhere {S} {m} view outside =
+      subst (λ k. (k < bookmark_at mark (bare s.held)) ⊎ (bookmark_at mark (bare s.held) + n ≤ k)) (current_at-Some is s.held)
+      (subst (λ (x : LinkedMap K V S). IsOutside x.current x) (sym view) outside)
+
+-- another pair becomes the current one, or a value is written
+module _ {K V : Type 0} {eq : K → K → Bool} {hash : K → ℕ} {heads : List (Option Ptr)} {s : State (K × V)} {mark current : Option Ptr} {n r : ℕ} (kept : IsKept eq hash heads s mark n current r) where
+  pub IsKept-current : (o : Option Ptr) → Lies o (bare s.held) → IsKept eq hash heads s mark n o r
+  IsKept-current o lies =
+      let k = kept.nodes in
+      record {
+        nodes = record { distinct = k.distinct; hashed = k.hashed; limit = k.limit; marked = k.marked; ended = k.ended; in_reach = k.in_reach; current_lies = lies };
+        indexed = kept.indexed;
+        few = kept.few;
+      }
+
+  -- and nothing is to be visited
+  pub IsKept-visited : (o : Option Ptr) → Lies o (bare s.held) → IsKept eq hash heads s None 0 o r
+  IsKept-visited o lies =
+      let k = kept.nodes in
+      record {
+        nodes = record { distinct = k.distinct; hashed = k.hashed; limit = k.limit; marked = λ _. refl; ended = λ _. refl; in_reach = omega arith; current_lies = lies };
+        indexed = kept.indexed;
+        few = kept.few;
+      }
+
+  pub IsKept-with_value : (p : Ptr) (w : V) → IsKept eq hash heads (with_value s p w) mark n current r
+  IsKept-with_value p w =
+      record {
+        nodes = subst (λ us. AreKept eq hash us s.spares mark n current) (sym (bare-change p w s.held)) kept.nodes;
+        indexed = indexed_value heads s p w kept.indexed;
+        few = kept.few;
+      }
+
+-- a key that was looked for is at the index of its place
+module _ {K V : Type 0} {eq : K → K → Bool} {number : ℕ} {k : K} {hs : List (Held (K × V))} {p : Ptr} (h : HasKey eq number k hs p) where
+  key_lies : before p hs < length hs
+  key_lies = let at = h.held in subst (λ (ks : List (Held (K × V))). before p ks < length ks) (sym at.3) (before_held p at.0 at.1 at.2 at.4)
+
+  pub found_lies : before p (bare hs) < length (bare hs)
+  found_lies =
+      let lies = key_lies in
+      let of_before = before-bare p hs in
+      let of_bare = length-bare hs in
+      omega (arith, lies, of_before, of_bare)
+
+  pub found_index : IsIndex eq (pairs_of hs) k (before p (bare hs))
+  found_index =
+      let cut = cut_before p hs key_lies in
+      let at = cut.held in
+      record {
+        pair = at.1.pair;
+        there = ap (slice_get (pairs_of hs)) (before-bare p hs ∙ sym cut.long) ∙ pair_there at;
+        same = h.key_is at.0 at.1 at.2 at.3 at.4;
+      }
+
+-- the last node has the last index
+fresh-last_of : {B : Type 0} (q : Ptr) (t : Held B) (hs : List (Held B)) → IsFresh q (map (λ u. u.at) (t ∷ hs)) → same_ptr q (last_of t hs) ≡ false
+fresh-last_of q t [] f = f.0
+fresh-last_of q t (u ∷ hs) f = fresh-last_of q u hs f.1
+
+before-last_of : {B : Type 0} (t : Held B) (hs : List (Held B)) → IsApart (map (λ u. u.at) (t ∷ hs)) → before (last_of t hs) (t ∷ hs) ≡ length hs
+before-last_of t [] d = ap (λ y. cond y 0 1) (same_ptr_refl t.at)
+before-last_of t (u ∷ hs) d =
+    let on = before-last_of u hs (apart_tail t.at (map (λ u. u.at) (u ∷ hs)) d) in
+    let one : before (last_of u hs) (u ∷ hs) + 1 ≡ suc (length hs) = omega (arith, on) in
+    ap (λ y. cond y 0 (before (last_of u hs) (u ∷ hs) + 1)) (fresh-last_of t.at u hs (apart_head t.at (map (λ u. u.at) (u ∷ hs)) d)) ∙ one
+
+module _ {K V : Type 0} where
+  pub last_lies : (hs : List (Held (K × V))) → IsApart (map (λ t. t.at) hs) → Lies (last_at hs) (bare hs)
+  last_lies [] d = tt
+  last_lies (t ∷ hs) d =
+      let index = before-last_of t hs d in
+      let of_before = before-bare (last_of t hs) (t ∷ hs) in
+      let of_bare = length-bare (t ∷ hs) in
+      omega (arith, index, of_before, of_bare)
+
+  pub last_index : (hs : List (Held (K × V))) → IsApart (map (λ t. t.at) hs) → 0 < length hs → current_at (last_at hs) (bare hs) ≡ length hs - 1
+  last_index [] d some = absurd (omega (arith, some))
+  last_index (t ∷ hs) d some = before-bare (last_of t hs) (t ∷ hs) ∙ before-last_of t hs d ∙ one hs
+    where
+      one : (ks : List (Held (K × V))) → length ks ≡ suc (length ks) - 1
+      one ks = omega arith

@@ -1,0 +1,186 @@
+-- A map lends the values of its ring: the map as one of fields, and the way back of the loan. Assumes `Logic`.
+use Rattle.std.proofs.Common.{◌≡◌, ℕ, ◌+◌, List, [], ◌∷◌, refl, sym, ap, ◌∙◌, subst}
+use seplogic.Ra.Ura.{Ura}
+use base.Fraction.{full_share}
+use base.Logic.{SProp, ent, sep, emp, id⊢}
+use base.Fml.{Fml, fseps}
+use prog.Memory.{align, up}
+use types.Logic.{Logic, sem}
+use types.SemTy.{SemTy}
+use types.Kit.{‵, raw, ◌$◌, ◌∵◌, !, qed, by, move, use0, use2, use3}
+use denote.RattleType.{RattleType}
+use denote.Builtin.{usize}
+use denote.Memory.{mem, part_of, part_at, lone}
+use denote.Model.Fields.{view_owns, view_made, Plain-in}
+use denote.Param.{param}
+use denote.Param.Laws.{Laws, param_laws}
+use denote.RawPtr.{Ptr}
+use denote.Struct.Laws.{usize-laws}
+use denote.Struct.Members.{Member}
+use denote.Struct.Parts.{PartsBack}
+use denote.Struct.Pick.{rest_at, field_out, field_back}
+use Rattle.std.specs.Map.{values_of}
+use Rattle.std.specs.contracts.option.Option as option
+use Rattle.std.proofs.option.Option.TheLaws.{the_row_laws as option_laws}
+use Rattle.std.specs.declared.cmp.PartialEq as eq
+use Rattle.std.specs.declared.hash.Hash as hash
+use Rattle.std.specs.declared.hash.Hasher as hasher
+use Rattle.std.specs.declared.hash.BuildHasher as builder
+use Rattle.lhm_ring.specs.ValueLoan.{spread}
+use Rattle.lhm_ring.specs.Positions.{place_of_some}
+use Rattle.lhm_ring.specs.RingState.{State, Held}
+use Rattle.lhm_ring.specs.RingAfterLoan.{held_values, set_held_values}
+use Rattle.lhm_ring.specs.contracts.index.Index as N-type
+use Rattle.lhm_ring.specs.contracts.links.Links as links
+use Rattle.lhm_ring.specs.contracts.position.Position as P-type
+use Rattle.lhm_ring.specs.contracts.ring.Ring as R-type
+use Rattle.lhm_ring.proofs.IndexMoves.{spots-values}
+use Rattle.lhm_ring.proofs.IndexedRing.{indexed_same}
+use Rattle.lhm_ring.proofs.index.Index.TheLaws as N-laws
+use Rattle.lhm_ring.proofs.position.Position.TheLaws as P-laws
+use Rattle.lhm_ring.proofs.ring.Ring.TheLaws as R-laws
+use Rattle.lhm_ring.proofs.ValuesSplitOff as ring
+use Rattle.linked_hash_map.specs.LinkedMap.{LinkedMap, linked_map}
+use Rattle.linked_hash_map.specs.Nodes.{pairs_of, bare, AreKept, bookmark_at, current_at}
+use Rattle.linked_hash_map.specs.Hashers.{hash_by}
+use Rattle.linked_hash_map.specs.Pairs.{set_values}
+use Rattle.linked_hash_map.specs.Validity.{IsValid}
+use Rattle.linked_hash_map.specs.contracts.map.LinkedHashMap as M-type
+use Rattle.linked_hash_map.specs.contracts.map.LinkedHashMap.TheInside as I-type
+use Rattle.linked_hash_map.proofs.Kept.{IsValid-view, bare-values, length-same}
+
+-- the pairs of nodes, and their values
+module _ {K V : Type 0} where
+  pub values-pairs_of : (hs : List (Held (K × V))) → values_of (pairs_of hs) ≡ held_values hs
+  values-pairs_of [] = refl
+  values-pairs_of (t ∷ hs) = ap (λ vs. t.pair.1 ∷ vs) (values-pairs_of hs)
+
+  pub pairs_of-set_held_values : (hs : List (Held (K × V))) (vs : List V) → pairs_of (set_held_values hs vs) ≡ set_values (pairs_of hs) vs
+  pairs_of-set_held_values [] vs = refl
+  pairs_of-set_held_values (t ∷ hs) [] = refl
+  pairs_of-set_held_values (t ∷ hs) (v ∷ vs) = ap (λ ps. (t.pair.0, v) ∷ ps) (pairs_of-set_held_values hs vs)
+
+module _ (K₀ V₀ S₀ H₀ : RattleType) (g : eq.Ghosts K₀.Denot) (h : hash.Ghosts K₀.Denot) (b : builder.Ghosts S₀.Denot H₀.Denot) (w : hasher.Ghosts H₀.Denot) where
+  abbrev pub K : RattleType
+  K = param 0 K₀
+
+  abbrev pub V : RattleType
+  V = param 1 V₀
+
+  abbrev pub S : RattleType
+  S = param 2 S₀
+
+  abbrev pub H : RattleType
+  H = param 3 H₀
+
+  abbrev pub Map : RattleType
+  Map = M-type.the_row K V S H g h b w
+
+  abbrev pub Whole : RattleType
+  Whole = I-type.the_row K V S H g h b w
+
+  abbrev pub Rg : RattleType
+  Rg = R-type.the_row K V
+
+  abbrev pub Index : RattleType
+  Index = N-type.the_row K V
+
+  abbrev pub Mark : RattleType
+  Mark = option.the_row (P-type.the_row K V)
+
+  abbrev pub ms : List Member
+  ms = record { row = Rg; ty = lone Rg.mir } ∷ record { row = Index; ty = lone Index.mir } ∷ record { row = S; ty = lone S.mir } ∷ record { row = Mark; ty = lone Mark.mir } ∷ record { row = usize; ty = lone usize.mir } ∷ record { row = Mark; ty = lone Mark.mir } ∷ record { row = usize; ty = lone usize.mir } ∷ []
+
+  abbrev pub Seen : Type 0
+  Seen = LinkedMap K.Denot V.Denot S.Denot
+
+  abbrev pub view : Whole.Denot → Seen
+  view = M-type.the_view K V S H g h b w
+
+  abbrev pub good : Whole.Denot → Type 0
+  good = M-type.the_invariant K V S H g h b w
+
+  -- where the ring lies in a map
+  abbrev pub field_at : ℕ → ℕ
+  field_at o = o + up (align (lone Rg.mir)) 0
+
+  module _ {M : Type 1} {𝓤 : Ura M} (𝓛 : Logic 𝓤) (i : Whole.Denot) (rb ro : ℕ) where
+    abbrev pub Rest : SProp 𝓤
+    Rest = sep 𝓤 (sem 𝓛 (rest_at full_share ms 0 (i.ring, (i.index, (i.hasher, (i.mark, (i.unvisited, (i.current, (i.rechained, tt))))))) rb ro 0)) (PartsBack 𝓛 full_share [] ms rb ro)
+
+    pub field_of : Laws K₀ → Laws V₀ → Laws S₀ → ent 𝓤 (sem 𝓛 (part_at Whole full_share i rb ro)) (sep 𝓤 (sem 𝓛 (part_at Rg full_share i.ring rb (field_at ro))) Rest)
+    unfolding part_of
+    field_of KL VL SL = let LK = param_laws 0 K₀ KL in let LV = param_laws 1 V₀ VL in let LS = param_laws 2 S₀ SL in let LM = option_laws (P-type.the_row K V) (P-laws.the_row_laws K V LK LV) in
+        field_out 𝓛 full_share [] ms ((R-laws.the_row_laws K V LK LV).lawful 𝓛, ((N-laws.the_row_laws K V LK LV).lawful 𝓛, (LS.lawful 𝓛, (LM.lawful 𝓛, (usize-laws.lawful 𝓛, (LM.lawful 𝓛, (usize-laws.lawful 𝓛, tt)))))))
+        (i.ring, (i.index, (i.hasher, (i.mark, (i.unvisited, (i.current, (i.rechained, tt))))))) rb ro 0
+
+    of_field : (d : State (K.Denot × V.Denot)) → ent 𝓤 (sep 𝓤 (sem 𝓛 (part_at Rg full_share d rb (field_at ro))) Rest) (sem 𝓛 (part_at Whole full_share (record i { ring = d }) rb ro))
+    unfolding part_of
+    of_field d = field_back 𝓛 full_share [] ms (d, (i.index, (i.hasher, (i.mark, (i.unvisited, (i.current, (i.rechained, tt))))))) rb ro 0
+
+    module _ (dm : Seen) (seen : view i ≡ dm) (ok : good i) (a : ring.Inside K V) (rseen : ring.view K V a ≡ i.ring) (rok : ring.good K V a) where
+      abbrev pub hs : List (Held (K.Denot × V.Denot))
+      hs = i.ring.held
+
+      abbrev pub ps : List Ptr
+      ps = ring.at_places links.the_row K V (ring.entries K V a)
+
+      abbrev pub Fields : Fml
+      Fields = ring.Fields K V 𝓛 a i.ring rseen rok rb (field_at ro)
+
+      -- the values vs, in the order of the ring, at the places of the entries
+      abbrev pub placed : List V.Denot → List V.Denot
+      placed = ring.placed K V 𝓛 a i.ring rseen rok rb (field_at ro)
+
+      -- the values, as the map names them
+      abbrev pub As : SemTy
+      As = record { rep = Seen; coded = Map.coded; size = 0; own_at = λ n _ _. spread V ps (placed (values_of n.pairs)) }
+
+      abbrev pub new : Seen → Seen
+      new n = record dm { pairs = set_values dm.pairs (values_of n.pairs) }
+
+      -- the values that the map has
+      pub placed-own : placed (values_of dm.pairs) ≡ ring.vals links.the_row K V (ring.entries K V a)
+      placed-own = ap placed (ap (λ (m : Seen). values_of m.pairs) (sym seen) ∙ values-pairs_of hs) ∙ ring.placed-own K V 𝓛 a i.ring rseen rok rb (field_at ro)
+
+      module _ (vs : List V.Denot) where
+        abbrev after : State (K.Denot × V.Denot)
+        after = record i.ring { held = set_held_values hs vs }
+
+        same_bare : bare after.held ≡ bare hs
+        same_bare = bare-values hs vs
+
+        viewed : view (record i { ring = after }) ≡ record dm { pairs = set_values dm.pairs vs }
+        viewed =
+            (λ j. linked_map (pairs_of-set_held_values hs vs j) (length-same after.held hs same_bare j + i.ring.spares) i.hasher (bookmark_at (place_of_some i.mark) (same_bare j)) i.unvisited (current_at (place_of_some i.current) (same_bare j)) i.rechained)
+            ∙ ap (λ (m : Seen). record m { pairs = set_values m.pairs vs }) seen
+
+        still_good : good (record i { ring = after })
+        still_good = record {
+          nodes = subst (λ us. AreKept g.eq (hash_by w.finish w.write b.build_hasher h.hash_input i.hasher) us i.ring.spares (place_of_some i.mark) i.unvisited (place_of_some i.current)) (sym same_bare) ok.nodes;
+          indexed = indexed_same i.index i.ring after ok.indexed (spots-values hs vs) refl;
+          few = ok.few;
+        }
+
+      pub back : (n : Seen) → ent 𝓤 (sep 𝓤 (sem 𝓛 (spread V ps (placed (values_of n.pairs)))) (sep 𝓤 (sem 𝓛 (fseps (Fields ∷ []))) Rest)) (sem 𝓛 ((mem Map).own_at (new n) rb ro))
+      back n = let vs = values_of n.pairs in
+          qed 𝓛 (‵ (spread V ps (placed vs)) ∷ ‵ (fseps (Fields ∷ [])) ∷ raw Rest ∷ []) ∵
+          use0 𝓛 (raw (emp 𝓤)) (id⊢ 𝓤 (emp 𝓤)) $ move ! (1 ∷ 2 ∷ 0 ∷ []) $
+          use3 𝓛 (‵ (part_at Rg full_share (after vs) rb (field_at ro))) (ring.back K V 𝓛 a i.ring rseen rok rb (field_at ro) vs) $
+          use2 𝓛 (‵ (part_at Whole full_share (record i { ring = after vs }) rb ro)) (of_field (after vs)) $
+          by ! (Plain-in Map Whole (view_owns Whole Seen Map.coded view good) 𝓛 full_share (new n) (record i { ring = after vs })
+          (view_made Whole Seen Map.coded view good 𝓛 (new n) (record i { ring = after vs }) (viewed vs, still_good vs)) rb ro)
+
+      -- the values ws of the entries, as a map would list them
+      abbrev pub named : List V.Denot → Seen
+      named ws = linked_map (pairs_of (ring.ordered K V 𝓛 a i.ring rseen rok rb (field_at ro) ws)) 0 i.hasher 0 0 0 0
+
+      pub named_back : (ws : List V.Denot) → ent 𝓤 (sep 𝓤 (sem 𝓛 (spread V ps ws)) (emp 𝓤)) (sem 𝓛 (spread V ps (placed (values_of (named ws).pairs))))
+      named_back ws = subst (λ vs. ent 𝓤 (sep 𝓤 (sem 𝓛 (spread V ps ws)) (emp 𝓤)) (sem 𝓛 (spread V ps (placed vs)))) (sym (values-pairs_of (ring.ordered K V 𝓛 a i.ring rseen rok rb (field_at ro) ws)))
+          (ring.ordered_back K V 𝓛 a i.ring rseen rok rb (field_at ro) ws)
+
+      pub pairs_are : pairs_of hs ≡ dm.pairs
+      pairs_are = ap (λ (m : Seen). m.pairs) seen
+
+      pub valid : IsValid g.eq dm
+      valid = subst (IsValid g.eq) seen (IsValid-view ok i.hasher (bookmark_at (place_of_some i.mark) (bare hs)) i.unvisited (current_at (place_of_some i.current) (bare hs)) i.rechained)

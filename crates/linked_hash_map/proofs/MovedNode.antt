@@ -1,0 +1,153 @@
+-- A node that is moved behind the others.
+use Rattle.std.proofs.Common.{◌≡◌, ℕ, suc, ◌+◌, ◌-◌, ◌<◌, ◌≤◌, Bool, true, false, ◌||◌, cond, List, [], ◌∷◌, ◌++◌, map, length, take, drop, slice_get, remove, Option, Some, sym, ap, ap₂, ◌∙◌, subst, arith, length-append}
+use Rattle.std.specs.List.{list_any, IsDistinct}
+use Rattle.std.specs.Map.{keys_of}
+use Rattle.std.specs.Cmp.{IsEquivalence}
+use Rattle.std.proofs.lemmas.List.{map-append, length-map}
+use Rattle.std.proofs.lemmas.Map.Keys.{IsDistinct-head, IsDistinct-tail, IsDistinct-push}
+use denote.RawPtr.{Ptr}
+use Rattle.lhm_ring.specs.Cells.{same_ptr, IsApart}
+use Rattle.lhm_ring.specs.RingState.{Held, AtHeld}
+use Rattle.lhm_ring.proofs.Apart.{IsFresh, same_ptr_refl, same_ptr_symm}
+use Rattle.lhm_ring.proofs.Rows.{all_right, all_both, all_swap, apart_at}
+use Rattle.linked_hash_map.specs.Nodes.{pairs_of, bare, bare_node, before, bookmark_at, AreKept}
+use Rattle.linked_hash_map.proofs.DistinctLists.{none_from_all}
+use Rattle.linked_hash_map.proofs.Kept.{CutAt, cut_before, keys-bare, pairs_of-append, pair_there, pairs_removed}
+use Rattle.linked_hash_map.proofs.Outside.{IsClear, IsElsewhere, clear-elsewhere, before_held, stretch-front, in_reach-out, to_visit-out, bookmark-moved}
+use Rattle.linked_hash_map.proofs.TakenNode.{distinct_keys-out}
+
+-- among keys that differ, one differs from the others
+list_any-others : {K : Type 0} {eq : K → K → Bool} → IsEquivalence eq → (xs : List K) (x : K) (ys : List K) → IsDistinct eq (xs ++ x ∷ ys) → list_any (eq x) (xs ++ ys) ≡ false
+list_any-others {K} {eq} laws [] x ys h = none_from_all (eq x) ys (IsDistinct-head eq x ys h)
+list_any-others {K} {eq} laws (q ∷ xs) x ys h =
+    let at = all_right (λ y. eq q y ≡ false) xs (x ∷ ys) (IsDistinct-head eq q (xs ++ x ∷ ys) h) in
+    ap (λ b. b || list_any (eq x) (xs ++ ys)) (laws.symm x q ∙ at.0) ∙ list_any-others laws xs x ys (IsDistinct-tail eq q (xs ++ x ∷ ys) h)
+
+-- before a place that one node has, the last, come all others
+before-last : {B : Type 0} (p : Ptr) (hs : List (Held B)) (t : Held B) → t.at ≡ p → IsFresh p (map (λ u. u.at) hs) → before p (hs ++ t ∷ []) ≡ length hs
+before-last p [] t at fresh = ap (λ y. cond y 0 1) (subst (λ q. same_ptr t.at q ≡ true) at (same_ptr_refl t.at))
+before-last p (x ∷ hs) t at fresh =
+    let on = before-last p hs t at fresh.1 in
+    let one : before p (hs ++ t ∷ []) + 1 ≡ suc (length hs) = omega (arith, on) in
+    ap (λ y. cond y 0 (before p (hs ++ t ∷ []) + 1)) (same_ptr_symm x.at p ∙ fresh.0) ∙ one
+
+-- the nodes with one that is not to be visited moved behind the others
+module _ {K : Type 0} {eq : K → K → Bool} (laws : IsEquivalence eq) {hash : K → ℕ} (front : List (Held K)) (u : Held K) (back : List (Held K)) {spares n : ℕ} {mark : Option Ptr} {p : Ptr} (kept : AreKept eq hash (front ++ u ∷ back) spares mark n (Some p)) (clear : IsClear front u back mark n) where
+  AreKept-to_back : u.at ≡ p → AreKept eq hash ((front ++ back) ++ u ∷ []) spares mark n (Some p)
+  AreKept-to_back at =
+      let of_all = length-append front (u ∷ back) in
+      let of_rest = length-append front back in
+      let of_moved = length-append (front ++ back) (u ∷ []) in
+      let P : Held K → Type 0 = λ t. t.number ≡ hash t.pair in
+      let keys : List (Held K) → List K = map (λ t. t.pair) in
+      let cut = map-append (λ (t : Held K). t.pair) front (u ∷ back) in
+      let joined = map-append (λ (t : Held K). t.pair) front back in
+      let differs : list_any (eq u.pair) (keys (front ++ back)) ≡ false = ap (list_any (eq u.pair)) joined ∙ list_any-others laws (keys front) u.pair (keys back) (subst (IsDistinct eq) cut kept.distinct) in
+      let reach = in_reach-out front u back mark n kept.marked kept.ended kept.in_reach clear in
+      let bookmark = bookmark-moved front u back mark n kept.ended reach in
+      record {
+        distinct = subst (IsDistinct eq) (sym (map-append (λ (t : Held K). t.pair) (front ++ back) (u ∷ []))) (IsDistinct-push laws (keys (front ++ back)) u.pair (distinct_keys-out front u back kept clear) differs);
+        hashed = all_both P (front ++ back) (u ∷ []) (all_swap P front u back kept.hashed) ((all_right P front (u ∷ back) kept.hashed).0, tt);
+        limit = omega (arith, of_all, of_rest, of_moved, kept.limit);
+        marked = kept.marked;
+        ended = kept.ended;
+        in_reach = omega (arith, reach, bookmark, of_moved);
+        current_lies = before_held p (front ++ back) u [] at;
+      }
+
+  -- the bookmark and what is to be visited stay out of its way
+  behind-back : bookmark_at mark ((front ++ back) ++ u ∷ []) + n ≤ length (front ++ back)
+  behind-back =
+      let reach = in_reach-out front u back mark n kept.marked kept.ended kept.in_reach clear in
+      let bookmark = bookmark-moved front u back mark n kept.ended reach in
+      omega (arith, reach, bookmark)
+
+  to_visit-back : take n (drop (bookmark_at mark ((front ++ back) ++ u ∷ [])) (map (λ t. t.pair) ((front ++ back) ++ u ∷ []))) ≡ take n (drop (bookmark_at mark (front ++ u ∷ back)) (map (λ t. t.pair) (front ++ u ∷ back)))
+  to_visit-back =
+      let reach = in_reach-out front u back mark n kept.marked kept.ended kept.in_reach clear in
+      let of_keys = length-map (front ++ back) (λ t. t.pair) in
+      ap₂ (λ b ks. take n (drop b ks)) (bookmark-moved front u back mark n kept.ended reach) (map-append (λ (t : Held K). t.pair) (front ++ back) (u ∷ []))
+      ∙ stretch-front (map (λ t. t.pair) (front ++ back)) (u.pair ∷ []) (bookmark_at mark (front ++ back)) n (omega (arith, reach, of_keys))
+      ∙ to_visit-out front u back mark n kept.marked clear
+
+-- hs are the nodes before, and ks those where the one at p is behind the others
+module _ {K V : Type 0} (hs ks : List (Held (K × V))) {p : Ptr} (last : AtHeld hs p (λ xs x ys. ks ≡ (xs ++ ys) ++ x ∷ [])) (lies : before p hs < length hs) where
+  cut_moved : CutAt p hs
+  cut_moved = cut_before p hs lies
+
+  moved : ks ≡ (cut_moved.held.0 ++ cut_moved.held.2) ++ cut_moved.held.1 ∷ []
+  moved = let h = cut_moved.held in last h.0 h.1 h.2 h.3 h.4
+
+  pub pairs-moved : (pair : K × V) → slice_get (pairs_of hs) (before p hs) ≡ Some pair → pairs_of ks ≡ remove (pairs_of hs) (before p hs) ++ pair ∷ []
+  pairs-moved pair there =
+      let h = cut_moved.held in
+      let same : h.1.pair ≡ pair = let a = sym (pair_there h) ∙ ap (slice_get (pairs_of hs)) cut_moved.long ∙ there in cc in
+      ap pairs_of moved ∙ pairs_of-append (h.0 ++ h.2) (h.1 ∷ [])
+      ∙ ap₂ (λ ps q. ps ++ q ∷ []) (pairs_removed h ∙ ap (remove (pairs_of hs)) cut_moved.long) same
+
+  pub length-to_back : length ks ≡ length hs
+  length-to_back =
+      let h = cut_moved.held in
+      let of_ks = ap length moved in
+      let of_moved = length-append (h.0 ++ h.2) (h.1 ∷ []) in
+      let of_rest = length-append h.0 h.2 in
+      let of_hs = ap length h.3 in
+      let of_cut = length-append h.0 (h.1 ∷ h.2) in
+      omega (arith, of_ks, of_moved, of_rest, of_hs, of_cut)
+
+  before-moved : IsApart (map (λ t. t.at) hs) → before p ks ≡ length (cut_moved.held.0 ++ cut_moved.held.2)
+  before-moved apart =
+      let h = cut_moved.held in
+      let places : List (Held (K × V)) → List Ptr = map (λ t. t.at) in
+      let cut = subst IsApart (ap places h.3 ∙ map-append (λ (t : Held (K × V)). t.at) h.0 (h.1 ∷ h.2)) apart in
+      let fresh = subst (λ q. IsFresh q (places h.0 ++ places h.2)) h.4 (apart_at (places h.0) h.1.at (places h.2) cut) in
+      ap (before p) moved ∙ before-last p (h.0 ++ h.2) h.1 h.4 (subst (IsFresh p) (sym (map-append (λ (t : Held (K × V)). t.at) h.0 h.2)) fresh)
+
+  pub before-at_back : IsApart (map (λ t. t.at) hs) → before p ks ≡ length hs - 1
+  before-at_back apart =
+      let h = cut_moved.held in
+      let index = before-moved apart in
+      let of_ks = ap length moved in
+      let of_moved = length-append (h.0 ++ h.2) (h.1 ∷ []) in
+      let same = length-to_back in
+      omega (arith, index, of_ks, of_moved, same)
+
+  bare_cut : bare hs ≡ bare cut_moved.held.0 ++ bare_node cut_moved.held.1 ∷ bare cut_moved.held.2
+  bare_cut = let h = cut_moved.held in ap bare h.3 ∙ map-append bare_node h.0 (h.1 ∷ h.2)
+
+  bare_moved : bare ks ≡ (bare cut_moved.held.0 ++ bare cut_moved.held.2) ++ bare_node cut_moved.held.1 ∷ []
+  bare_moved = let h = cut_moved.held in ap bare moved ∙ map-append bare_node (h.0 ++ h.2) (h.1 ∷ []) ∙ ap (λ us. us ++ bare_node h.1 ∷ []) (map-append bare_node h.0 h.2)
+
+  -- the node is none of those that are still to be visited
+  module _ {eq : K → K → Bool} (laws : IsEquivalence eq) {hash : K → ℕ} {spares : ℕ} {mark : Option Ptr} {n : ℕ} (kept : AreKept eq hash (bare hs) spares mark n (Some p)) (elsewhere : IsElsewhere p hs mark n) where
+    kept_cut : AreKept eq hash (bare cut_moved.held.0 ++ bare_node cut_moved.held.1 ∷ bare cut_moved.held.2) spares mark n (Some p)
+    kept_cut = subst (λ us. AreKept eq hash us spares mark n (Some p)) bare_cut kept
+
+    clear : IsClear (bare cut_moved.held.0) (bare_node cut_moved.held.1) (bare cut_moved.held.2) mark n
+    clear = clear-elsewhere p hs mark n cut_moved.held.0 cut_moved.held.1 cut_moved.held.2 bare_cut cut_moved.long elsewhere
+
+    pub AreKept-moved : AreKept eq hash (bare ks) spares mark n (Some p)
+    AreKept-moved =
+        let h = cut_moved.held in
+        subst (λ us. AreKept eq hash us spares mark n (Some p)) (sym bare_moved) (AreKept-to_back laws (bare h.0) (bare_node h.1) (bare h.2) kept_cut clear h.4)
+
+    pub to_visit-moved : take n (drop (bookmark_at mark (bare ks)) (keys_of (pairs_of ks))) ≡ take n (drop (bookmark_at mark (bare hs)) (keys_of (pairs_of hs)))
+    to_visit-moved =
+        let h = cut_moved.held in
+        ap (λ ys. take n (drop (bookmark_at mark (bare ks)) ys)) (sym (keys-bare ks))
+        ∙ ap (λ us. take n (drop (bookmark_at mark us) (map (λ u. u.pair) us))) bare_moved
+        ∙ to_visit-back laws (bare h.0) (bare_node h.1) (bare h.2) kept_cut clear
+        ∙ ap (λ us. take n (drop (bookmark_at mark us) (map (λ u. u.pair) us))) (sym bare_cut)
+        ∙ ap (λ ys. take n (drop (bookmark_at mark (bare hs)) ys)) (keys-bare hs)
+
+    pub behind-moved : IsApart (map (λ t. t.at) hs) → bookmark_at mark (bare ks) + n ≤ before p ks
+    behind-moved apart =
+        let h = cut_moved.held in
+        let index = before-moved apart in
+        let of_rest = length-append h.0 h.2 in
+        let of_bare = length-append (bare h.0) (bare h.2) in
+        let of_front = length-map h.0 bare_node in
+        let of_back = length-map h.2 bare_node in
+        let bookmark = ap (bookmark_at mark) bare_moved in
+        let behind = behind-back laws (bare h.0) (bare_node h.1) (bare h.2) kept_cut clear in
+        omega (arith, index, of_rest, of_bare, of_front, of_back, bookmark, behind)

@@ -1,0 +1,59 @@
+use Rattle.std.proofs.Common.{Some, None, ◌+◌, slice_get, remove, sym, ap, ◌∙◌, subst, arith}
+use Rattle.lhm_ring.specs.Positions.{place_of_some}
+use Rattle.linked_hash_map.specs.Nodes.{pairs_of, bare, AreKept}
+use Rattle.linked_hash_map.specs.Hashers.{hash_by}
+use Rattle.linked_hash_map.proofs.Kept.{IsValid-view}
+use Rattle.linked_hash_map.proofs.Current.{current_lies, current_cut, current_at-Some, current_elsewhere}
+use Rattle.linked_hash_map.proofs.TakenNode.{pair-taken, pairs-taken, cut_unchained, to_visit-taken, AreKept-taken, IsIndexed-taken}
+use Rattle.linked_hash_map.proofs.map.LinkedHashMap.take_current.Goals as goal
+
+pub take_out_at-requires-clause-held : goal.take_out_at-requires-clause-held
+take_out_at-requires-clause-held g c = (current_cut c.self.invariant c.unwrap-at.ensures).held
+
+pub invariant_of-self : goal.invariant_of-self
+invariant_of-self g c =
+    let m = c.self.inside in
+    let taken = c.take_out_at.ensures in
+    let unlinked = c.unlink-key.ensures in
+    let elsewhere = current_elsewhere c.self.invariant c.unwrap-at.ensures c.self.view_is c.requires.outside in
+    record {
+      nodes = subst (λ k. AreKept g.K.PartialEq.eq (hash_by g.S.Hasher.Hasher.finish g.S.Hasher.Hasher.write g.S.BuildHasher.build_hasher g.K.Hash.hash_input m.hasher) (bare c.unlink-key.new.self.held) k (place_of_some m.mark) m.unvisited None)
+          (sym (unlinked.spares ∙ ap (λ k. k + 1) taken.spares))
+          (AreKept-taken m.ring.held c.take_out_at.new.ring.held c.unlink-key.new.self.held taken.held unlinked.others (current_lies c.self.invariant c.unwrap-at.ensures) (place_of_some m.mark) m.unvisited elsewhere c.self.invariant.nodes);
+      indexed = IsIndexed-taken c.self.invariant.indexed taken.held taken.spares taken.lacks taken.buckets unlinked.others unlinked.spares;
+      few = omega (arith, taken.buckets, c.self.invariant.few);
+    }
+
+pub returns-clause-pair : goal.returns-clause-pair
+returns-clause-pair g c =
+    let m = c.self.inside in
+    let taken = c.take_out_at.ensures in
+    let unlinked = c.unlink-key.ensures in
+    let lies = current_lies c.self.invariant c.unwrap-at.ensures in
+    let cut = cut_unchained m.ring.held c.take_out_at.new.ring.held c.unlink-key.new.self.held taken.held unlinked.others lies in
+    let triple = unlinked.triple cut.held.0 cut.held.1 cut.held.2 cut.held.3 cut.held.4 in
+    rw (← c.self.view_is) (
+    ap (slice_get (pairs_of m.ring.held)) (current_at-Some c.unwrap-at.ensures m.ring.held)
+    ∙ pair-taken m.ring.held c.take_out_at.new.ring.held c.unlink-key.new.self.held taken.held unlinked.others lies
+    ∙ (λ j. Some ((sym triple j).1, (sym triple j).2))
+    )
+
+pub returns-clause-pairs : goal.returns-clause-pairs
+returns-clause-pairs g c =
+    let m = c.self.inside in
+    rw (← c.self.view_is) (
+    pairs-taken m.ring.held c.take_out_at.new.ring.held c.unlink-key.new.self.held c.take_out_at.ensures.held c.unlink-key.ensures.others (current_lies c.self.invariant c.unwrap-at.ensures)
+    ∙ ap (remove (pairs_of m.ring.held)) (sym (current_at-Some c.unwrap-at.ensures m.ring.held))
+    )
+
+pub returns-clause-to_visit : goal.returns-clause-to_visit
+returns-clause-to_visit g c =
+    let m = c.self.inside in
+    let elsewhere = current_elsewhere c.self.invariant c.unwrap-at.ensures c.self.view_is c.requires.outside in
+    rw (← c.self.view_is) (to_visit-taken m.ring.held c.take_out_at.new.ring.held c.unlink-key.new.self.held c.take_out_at.ensures.held c.unlink-key.ensures.others (current_lies c.self.invariant c.unwrap-at.ensures) (place_of_some m.mark) m.unvisited elsewhere c.self.invariant.nodes.marked)
+
+pub returns-clause-valid : goal.returns-clause-valid
+returns-clause-valid g c = rw (← c.self.view_is) (IsValid-view c.self.invariant _ _ _ _ _)
+
+pub returns-clause-stays_valid : goal.returns-clause-stays_valid
+returns-clause-stays_valid g c = IsValid-view (invariant_of-self g c) _ _ _ _ _

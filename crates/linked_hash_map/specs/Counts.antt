@@ -1,0 +1,23 @@
+-- What look-ups and changes of the capacity count.
+pub use Rattle.lhm_ring.specs.Buckets.{buckets, rechained_raised}
+use Rattle.std.specs.Prelude.{ℕ, zero, suc, ◌+◌, ◌%◌, ◌==◌, if◌then◌else◌, List, count_by}
+use Rattle.lhm_ring.specs.Buckets.{rechained_lowered}
+
+-- given the number of each key
+module _ {K V : Type 0} (number : K → ℕ) where
+  -- how many pairs have the number of k
+  abbrev pub same : List (K × V) → K → ℕ
+  same pairs k = count_by (λ pair. number pair.0 == number k) pairs
+
+  -- how many have a number in the bucket of that of k, at this capacity
+  abbrev pub beside : List (K × V) → ℕ → K → ℕ
+  beside pairs capacity k = count_by (λ pair. (number pair.0 % buckets capacity) == (number k % buckets capacity)) pairs
+
+-- the nodes chained again, once the capacity was raised n times by one, from c on, each time with every place taken
+abbrev pub rechained_each : ℕ → ℕ → ℕ → ℕ
+rechained_each rechained c zero = rechained
+rechained_each rechained c (suc n) = rechained_each (rechained_raised rechained c c (c + 1)) (c + 1) n
+
+-- the same, once the capacity c was brought to the number of pairs: a change alone counts
+abbrev pub rechained_fitted : ℕ → ℕ → ℕ → ℕ
+rechained_fitted rechained len c = if c == len then rechained else rechained_lowered len c

@@ -1,0 +1,59 @@
+-- How a map keeps its pairs: in the nodes of a ring, with an index of their numbers.
+use Rattle.std.specs.Prelude.{◌≡◌, ℕ, ◌+◌, ◌<◌, ◌≤◌, Bool, cond, List, [], ◌∷◌, map, length, Option, Some, None, ⊤}
+use Rattle.std.specs.List.{IsDistinct, AllByRecursion}
+use denote.RawPtr.{Ptr}
+use Rattle.lhm_ring.specs.Cells.{same_ptr}
+use Rattle.lhm_ring.specs.RingState.{Held, State, held}
+use Rattle.lhm_ring.specs.IndexedRing.{IsIndexed}
+use Rattle.linked_hash_map.specs.LinkedMap.{nowhere}
+use Rattle.linked_hash_map.specs.declared.map.TheConstants.{LIMIT}
+
+module _ {B : Type 0} where
+  -- how many nodes come before the one at p: all, where none lies there
+  abbrev pub before : Ptr → List (Held B) → ℕ
+  before p [] = 0
+  before p (t ∷ hs) = cond (same_ptr t.at p) 0 (before p hs + 1)
+
+  -- the index of the next pair to visit, and 0 where there is none
+  abbrev pub bookmark_at : Option Ptr → List (Held B) → ℕ
+  bookmark_at None hs = 0
+  bookmark_at (Some p) hs = before p hs
+
+  -- the index of the pair that an entry stands for
+  abbrev pub current_at : Option Ptr → List (Held B) → ℕ
+  current_at None hs = nowhere
+  current_at (Some p) hs = before p hs
+
+  -- where there is a place, a node lies there
+  abbrev pub Lies : Option Ptr → List (Held B) → Type 0
+  Lies None hs = ⊤
+  Lies (Some p) hs = before p hs < length hs
+
+module _ {K V : Type 0} where
+  -- the pairs in the nodes, in order
+  abbrev pub pairs_of : List (Held (K × V)) → List (K × V)
+  pairs_of = map (λ t. t.pair)
+
+  -- a node without its link and its value
+  abbrev pub bare_node : Held (K × V) → Held K
+  bare_node t = held t.at t.number None t.pair.0
+
+  abbrev pub bare : List (Held (K × V)) → List (Held K)
+  bare = map bare_node
+
+-- no two keys are the same, each stands with its number, and there are no more nodes than the limit; a mark is there as long as
+-- pairs are unvisited, and these are there from it on; the pair that an entry stands for is there
+pub record AreKept {K : Type 0} (eq : K → K → Bool) (hash : K → ℕ) (us : List (Held K)) (spares : ℕ) (mark : Option Ptr) (unvisited : ℕ) (current : Option Ptr) : Type 0 where
+  pub distinct : IsDistinct eq (map (λ u. u.pair) us)
+  pub hashed : AllByRecursion (λ u. u.number ≡ hash u.pair) us
+  pub limit : length us + spares ≤ LIMIT
+  pub marked : mark ≡ None → unvisited ≡ 0
+  pub ended : unvisited ≡ 0 → mark ≡ None
+  pub in_reach : bookmark_at mark us + unvisited ≤ length us
+  pub current_lies : Lies current us
+
+-- the nodes are kept so, each is in the chain of its bucket and in no other, and no more were chained again than there are buckets
+pub record IsKept {K V : Type 0} (eq : K → K → Bool) (hash : K → ℕ) (heads : List (Option Ptr)) (s : State (K × V)) (mark : Option Ptr) (unvisited : ℕ) (current : Option Ptr) (rechained : ℕ) : Type 0 where
+  pub nodes : AreKept eq hash (bare s.held) s.spares mark unvisited current
+  pub indexed : IsIndexed heads s
+  pub few : rechained ≤ length heads
