@@ -20,7 +20,7 @@ ghost use Rattle.std.specs.Prelude.{◌≡◌, ◌∷◌, [], nat_eq, IsTrue, Is
 ghost use Rattle.linked_hash_map.specs.Pairs.{find, to_back, set_value};
 
 use crate::replay::{Answer, Command, Reply, replay};
-use crate::{LIMIT, LinkedHashMap, Refused, ReserveError};
+use crate::{LIMIT, LinkedHashMap, NoRoom, Refused, ReserveError};
 use hasher::BuildLastByte;
 use name::Name;
 use std::alloc::{AllocError, Global};
@@ -416,17 +416,25 @@ fn refused_reservation_changes_nothing(rt: HostRuntime) {
         return;
     }
     let reserved = map.reserve(4);
-    if reserved.is_ok() {
-        assert_eq!(rt; map.capacity(), 5);
-        say_given(&rt);
-    } else {
+    if reserved.is_err() {
         assert_eq!(rt; reserved, Err(ReserveError::NoRoom));
         assert_eq!(rt; map.capacity(), 1);
+        assert_pairs(&rt, &map, &[(1, 10)]);
+        assert_eq!(rt; map.reserve(0), Ok(()));
+        return;
     }
+    assert_eq!(rt; map.capacity(), 5);
     assert_pairs(&rt, &map, &[(1, 10)]);
     assert_eq!(rt; map.reserve(0), Ok(()));
-    assert_eq!(rt; map.shrink_to_fit(), Ok(()));
-    assert_eq!(rt; map.capacity(), 1);
+    let shrunk = map.shrink_to_fit();
+    if shrunk.is_ok() {
+        assert_eq!(rt; map.capacity(), 1);
+        say_given(&rt);
+    } else {
+        assert_eq!(rt; shrunk, Err(NoRoom));
+        assert_eq!(rt; map.capacity(), 5);
+    }
+    assert_pairs(&rt, &map, &[(1, 10)]);
 }
 
 #[test]
