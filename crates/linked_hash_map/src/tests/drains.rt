@@ -1,8 +1,9 @@
 //! Callers that drain a map, in each way that its iterator can go: the map is empty then, and has its capacity and its hasher.
-ghost use Rattle.std.specs.Prelude.{◌≡◌, [], slice_get};
+ghost use Rattle.std.specs.Prelude.{◌≡◌, [], slice_get, IfOk};
 
 use super::{assert_pairs, map_of};
 use crate::LinkedHashMap;
+use std::alloc::{AllocError, Global};
 use std::hash::{BuildHasher, Hash};
 use std::mem::forget;
 use std::test::Fail;
@@ -45,6 +46,19 @@ fn drain_last<K: Eq + Hash + Drop, V: Drop, S: BuildHasher>(map: &mut LinkedHash
     drop(pairs);
 }
 
+// All pairs, collected.
+fn drain_into_a_vector<K: Eq + Hash + Drop, V: Drop, S: BuildHasher>(
+    alloc: Global,
+    map: &mut LinkedHashMap<K, V, S>,
+) -> Result<Vec<(K, V)>, AllocError>
+    ensures list { IfOk result (λ list. list.items ≡ map.old.pairs) }
+    ensures pairs { map.new.pairs ≡ [] }
+    ensures capacity { map.new.capacity ≡ map.old.capacity }
+    ensures hasher { map.new.hasher ≡ map.old.hasher }
+{
+    map.drain().collect(alloc)
+}
+
 // A step, after which the iterator is forgotten.
 fn drain_and_forget(map: &mut LinkedHashMap<u64, u64>) -> usize
     ensures none { result ≡ 0 }
@@ -69,6 +83,10 @@ fn empties_the_map(rt: HostRuntime) -> Result<(), Fail> {
     assert_eq!(rt; (map.len(), map.capacity()), (0, 3));
     let mut map = map_of(rt.alloc(), &three)?;
     drain_last(&mut map);
+    assert_eq!(rt; (map.len(), map.capacity()), (0, 3));
+    let mut map = map_of(rt.alloc(), &three)?;
+    let list = drain_into_a_vector(rt.alloc(), &mut map)?;
+    assert_eq!(rt; list.as_slice(), three.as_slice());
     assert_eq!(rt; (map.len(), map.capacity()), (0, 3));
     Ok(())
 }
