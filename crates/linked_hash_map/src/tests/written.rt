@@ -11,6 +11,7 @@ pub struct Written {
 }
 
 impl Written {
+    /// Makes one to which nothing was written. It takes no memory.
     pub fn new() -> Self {
         Written {
             bytes: [0; 32],
