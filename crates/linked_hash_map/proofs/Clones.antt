@@ -1,16 +1,16 @@
 -- Clones of pairs, inserted one after another.
-use Rattle.std.proofs.Common.{◌≡◌, ◌+◌, ◌≤◌, Bool, true, false, cond, not, IsTrue, List, [], ◌∷◌, ◌++◌, length, filter, append_assoc, append-nil, max, refl, sym, ap, ◌∙◌, subst, arith, length-append}
+use Rattle.std.proofs.Common.{◌≡◌, ◌+◌, ◌≤◌, Bool, true, false, IsTrue, List, [], ◌∷◌, ◌++◌, length, append_assoc, append-nil, max, refl, sym, ap, ◌∙◌, subst, arith, length-append}
 use Rattle.std.specs.List.{AllZip, AllByRecursion, IsDistinct}
 use Rattle.std.specs.Map.{keys_of}
 use Rattle.std.specs.Cmp.{IsEquivalence}
 use Rattle.linked_hash_map.specs.LinkedMap.{LinkedMap}
-use Rattle.linked_hash_map.specs.Pairs.{key_or, find, without, to_back}
+use Rattle.linked_hash_map.specs.Pairs.{to_back}
 use Rattle.linked_hash_map.specs.Inserts.{insert_each}
 use Rattle.linked_hash_map.specs.Validity.{IsValid}
 use Rattle.linked_hash_map.specs.Counts.{rechained_raised}
 use Rattle.linked_hash_map.specs.Clones.{AreClones, IsClone}
 use Rattle.linked_hash_map.proofs.Counts.{rechained_raised-same}
-use Rattle.linked_hash_map.proofs.Inserts.{insert_each-last, insert_each-distinct}
+use Rattle.linked_hash_map.proofs.Inserts.{insert_each-last, insert_each-distinct, length-put}
 
 pub AllZip-last : {A B : Type 0} (R : A → B → Type 0) (xs : List A) (ys : List B) (x : A) (y : B) → AllZip R xs ys → R x y → AllZip R (xs ++ x ∷ []) (ys ++ y ∷ [])
 AllZip-last R [] [] x y all last = (last, tt)
@@ -24,25 +24,10 @@ length-AllZip R [] (y ∷ ys) all = absurd all
 length-AllZip R (x ∷ xs) [] all = absurd all
 length-AllZip R (x ∷ xs) (y ∷ ys) all = let rest = length-AllZip R xs ys all.1 in omega arith
 
-length-filter : {A : Type 0} (test : A → Bool) (xs : List A) → length (filter test xs) ≤ length xs
-length-filter test [] = omega arith
-length-filter test (x ∷ xs) = by_test (test x) (length-filter test xs)
-  where
-    by_test : (b : Bool) → length (filter test xs) ≤ length xs → length (cond b (x ∷ filter test xs) (filter test xs)) ≤ length (x ∷ xs)
-    by_test true rest = omega arith
-    by_test false rest = omega arith
-
--- an insertion adds one pair at most
-pub length-to_back : {K V : Type 0} (eq : K → K → Bool) (pairs : List (K × V)) (k : K) (v : V) → length (to_back eq pairs k v) ≤ length pairs + 1
-length-to_back eq pairs k v =
-    let rest = length-filter (λ pair. not (eq k pair.0)) pairs in
-    let appended = length-append (without eq pairs k) ((key_or k (find eq pairs k), v) ∷ []) in
-    omega arith
-
 length-insert_each : {K V : Type 0} (eq : K → K → Bool) (pairs items : List (K × V)) → length (insert_each eq pairs items) ≤ length pairs + length items
 length-insert_each eq pairs [] = omega arith
 length-insert_each eq pairs (item ∷ items) =
-    let one = length-to_back eq pairs item.0 item.1 in
+    let one = length-put eq pairs item.0 item.1 in
     let rest = length-insert_each eq (to_back eq pairs item.0 item.1) items in
     omega arith
 
@@ -68,7 +53,7 @@ module _ {K V S : Type 0} {eq : K → K → Bool} {IsKeyClone : K → K → Type
       let inserted_is = ap length so_far.inserted in
       let bound = length-insert_each eq [] so_far.clones in
       let as_many = length-AllZip (λ p q. IsKeyClone p.0 q.0 × IsValueClone p.1 q.1) so_far.first so_far.clones so_far.each in
-      let one = length-to_back eq before.pairs k v in
+      let one = length-put eq before.pairs k v in
       let after_is = ap length put in
       let whole = ap length so_far.split in
       let parts = length-append so_far.first these in

@@ -1,5 +1,5 @@
 -- Insertions one after another.
-use Rattle.std.proofs.Common.{◌≡◌, ◌+◌, ◌-◌, ◌≤◌, max, Bool, true, false, cond, List, [], ◌∷◌, ◌++◌, length, map, is_some, refl, sym, ap, ◌∙◌, subst, arith}
+use Rattle.std.proofs.Common.{◌≡◌, ◌+◌, ◌-◌, ◌≤◌, max, Bool, true, false, cond, not, filter, List, [], ◌∷◌, ◌++◌, length, map, is_some, refl, sym, ap, ◌∙◌, subst, arith, length-append}
 use Rattle.std.specs.List.{IsDistinct}
 use Rattle.std.specs.Map.{keys_of}
 use Rattle.std.specs.Cmp.{IsEquivalence}
@@ -7,7 +7,7 @@ use Rattle.std.proofs.lemmas.List.{map-append}
 use Rattle.linked_hash_map.specs.LinkedMap.{LinkedMap}
 use Rattle.linked_hash_map.specs.Counts.{rechained_raised, rechained_each}
 use Rattle.linked_hash_map.specs.Log.{Put}
-use Rattle.linked_hash_map.specs.Pairs.{find, to_back}
+use Rattle.linked_hash_map.specs.Pairs.{key_or, find, without, to_back}
 use Rattle.linked_hash_map.specs.Run.{first_log}
 use Rattle.linked_hash_map.specs.Inserts.{insert_each}
 use Rattle.linked_hash_map.specs.Validity.{IsValid}
@@ -17,6 +17,21 @@ use Rattle.linked_hash_map.proofs.Distinct.{distinct-pairs}
 use Rattle.linked_hash_map.proofs.Lists.{by_last}
 use Rattle.linked_hash_map.proofs.Pairs.{length-to_back}
 use Rattle.linked_hash_map.proofs.Runs.{put_last, last_differs, pairs-first_log}
+
+length-filter : {A : Type 0} (test : A → Bool) (xs : List A) → length (filter test xs) ≤ length xs
+length-filter test [] = omega arith
+length-filter test (x ∷ xs) = by_test (test x) (length-filter test xs)
+  where
+    by_test : (b : Bool) → length (filter test xs) ≤ length xs → length (cond b (x ∷ filter test xs) (filter test xs)) ≤ length (x ∷ xs)
+    by_test true rest = omega arith
+    by_test false rest = omega arith
+
+-- an insertion adds one pair at most
+pub length-put : {K V : Type 0} (eq : K → K → Bool) (pairs : List (K × V)) (k : K) (v : V) → length (to_back eq pairs k v) ≤ length pairs + 1
+length-put eq pairs k v =
+    let rest = length-filter (λ pair. not (eq k pair.0)) pairs in
+    let appended = length-append (without eq pairs k) ((key_or k (find eq pairs k), v) ∷ []) in
+    omega arith
 
 -- one more item goes in last
 pub insert_each-last : {K V : Type 0} (eq : K → K → Bool) (pairs items : List (K × V)) (item : K × V) → insert_each eq pairs (items ++ item ∷ []) ≡ to_back eq (insert_each eq pairs items) item.0 item.1
@@ -49,14 +64,6 @@ module _ {K V : Type 0} {eq : K → K → Bool} (laws : IsEquivalence eq) where
       by_test true h = omega arith
       by_test false h = omega arith
 
-  -- and puts one in at most
-  length-put : (pairs : List (K × V)) (k : K) (v : V) → IsDistinct eq (keys_of pairs) → length (to_back eq pairs k v) ≤ length pairs + 1
-  length-put pairs k v distinct = by_test (is_some (find eq pairs k)) (length-to_back laws pairs k v distinct)
-    where
-      by_test : (b : Bool) → length (to_back eq pairs k v) ≡ cond b (length pairs) (length pairs + 1) → length (to_back eq pairs k v) ≤ length pairs + 1
-      by_test true h = omega arith
-      by_test false h = omega arith
-
   -- none went in yet
   pub HasInserted-none : {S : Type 0} (start : LinkedMap K V S) → IsValid eq start → HasInserted eq start [] start
   HasInserted-none start valid =
@@ -73,7 +80,7 @@ module _ {K V : Type 0} {eq : K → K → Bool} (laws : IsEquivalence eq) where
   HasInserted-put start items k v {before} {after} distinct so_far pairs_are raised counted same =
       let distinct_before = subst (λ es. IsDistinct eq (keys_of es)) (sym so_far.pairs) (distinct-insert_each start.pairs items distinct) in
       let grows = length-grows before.pairs k v distinct_before in
-      let one : length after.pairs ≤ length before.pairs + 1 = subst (λ es. length es ≤ length before.pairs + 1) (sym pairs_are) (length-put before.pairs k v distinct_before) in
+      let one : length after.pairs ≤ length before.pairs + 1 = subst (λ es. length es ≤ length before.pairs + 1) (sym pairs_are) (length-put eq before.pairs k v) in
       let longer : length before.pairs ≤ length after.pairs = subst (λ es. length before.pairs ≤ length es) (sym pairs_are) grows in
       let capacity_before = so_far.capacity in
       record {
