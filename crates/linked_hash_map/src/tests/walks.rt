@@ -119,12 +119,10 @@ fn meets_in_the_middle(rt: HostRuntime) -> Result<(), Fail> {
 #[test]
 fn writes_along_a_walk(rt: HostRuntime) -> Result<(), Fail> {
     let mut map = map_of(rt.alloc(), &[(1, 10), (2, 20), (3, 30)])?;
-    {
-        let mut pairs = map.iter_mut();
-        assert_eq!(rt; (pairs.len(), pairs.size_hint()), (3, (3, Some(3))));
-        if let Some((_, value)) = pairs.next() {
-            *value = 17;
-        }
+    let mut pairs = map.iter_mut();
+    assert_eq!(rt; (pairs.len(), pairs.size_hint()), (3, (3, Some(3))));
+    if let Some((_, value)) = pairs.next() {
+        *value = 17;
     }
     assert_pairs(&rt, &map, &[(1, 17), (2, 20), (3, 30)]);
     {
