@@ -1,14 +1,16 @@
 -- How the pairs that a log defines change with one more event: single calls on a list of pairs.
-use Rattle.std.proofs.Common.{◌≡◌, ℕ, Bool, true, false, cond, not, ◌||◌, List, [], ◌∷◌, ◌++◌, map, Option, Some, None, is_some, option_map, filter, filter_map, refl, sym, ap, ◌∙◌, true≢false, append-nil}
+use Rattle.std.proofs.Common.{◌≡◌, ℕ, Bool, true, false, cond, not, ◌&&◌, ◌||◌, List, [], ◌∷◌, ◌++◌, map, Option, Some, None, is_some, option_map, filter, filter_map, refl, sym, ap, ◌∙◌, true≢false, append-nil}
 use Rattle.std.specs.List.{list_any, cons_option}
 use Rattle.std.specs.Option.{option_or}
 use Rattle.std.specs.Map.{lookup_entry}
 use Rattle.std.specs.Cmp.{IsEquivalence}
 use Rattle.std.proofs.lemmas.List.Elements.{filter_map-append}
-use Rattle.linked_hash_map.specs.Log.{Event, Put, Write, Refresh, Remove, RemoveAll, Need, Fit, Log, touched, put_key, ends, written, live, stored, value, both, pair_of, stands, standing, pairs}
-use Rattle.linked_hash_map.specs.Pairs.{key_or, find, without, to_back, set_value}
+use Rattle.linked_hash_map.specs.declared.map.Mode.{Mode}
+use Rattle.linked_hash_map.specs.declared.map.Mode.TheVariants.{Touch, Keep}
+use Rattle.linked_hash_map.specs.Log.{Event, Put, Write, Refresh, Remove, RemoveAll, Need, Fit, SetMode, Log, moves, mode, touched, put_key, ends, written, live, stored, value, both, pair_of, stands, standing, pairs}
+use Rattle.linked_hash_map.specs.Pairs.{key_or, find, without, to_back, set_value, put}
 use Rattle.linked_hash_map.proofs.Lists.{option_or_none}
-use Rattle.linked_hash_map.proofs.Pairs.{filter-none}
+use Rattle.linked_hash_map.proofs.Pairs.{filter-none, to_back-absent, put-absent, put-present}
 use Rattle.linked_hash_map.proofs.Standing.{live-snoc, stored-snoc, value-snoc, standing-snoc, keeps}
 use Rattle.linked_hash_map.proofs.LiveKeys.{stored-live, pair_of-live, stored-same, pair_of-same, same_test, any-standing, none_is}
 
@@ -44,6 +46,25 @@ filter_false : {X : Type 0} (xs : List X) → filter (λ _. false) xs ≡ []
 filter_false [] = refl
 filter_false (x ∷ xs) = filter_false xs
 
+moved_only : (b m : Bool) → (b ≡ true → m ≡ true) → not (b && m) ≡ not b
+moved_only true m f = ap not (f refl)
+moved_only false m f = refl
+
+stays : (b m : Bool) → (b ≡ true → m ≡ false) → not (b && m) ≡ true
+stays true m f = ap not (f refl)
+stays false m f = refl
+
+-- a Put that moves nothing names a live key
+moves-live : (m : Mode) (l : Bool) → moves m l ≡ false → l ≡ true
+moves-live Touch l h = absurd (true≢false h)
+moves-live Keep true h = refl
+moves-live Keep false h = absurd (true≢false h)
+
+stored_stays : {K : Type 0} (k : K) (s : Option K) (b : Bool) → (b ≡ true → is_some s ≡ true) → option_or s (cond b (Some k) None) ≡ s
+stored_stays k (Some s) b f = refl
+stored_stays k None true f = absurd (true≢false (sym (f refl)))
+stored_stays k None false f = refl
+
 not_not : (b : Bool) → not b ≡ true → b ≡ false
 not_not true h = sym h
 not_not false h = refl
@@ -66,13 +87,13 @@ module _ {K V : Type 0} {eq : K → K → Bool} (laws : IsEquivalence eq) where
       ∙ elim (live (eq k) log) as (λ b. live (eq k) log ≡ b → cond b (pair_of (eq k) log) None ≡ pair_of (eq k) log) [ true ↦ λ _. refl | false ↦ λ e. sym (none_is (pair_of (eq k) log) (pair_of-live (eq k) log ∙ e)) ] refl
 
   -- the pairs of which a test of the keys holds
-  kept_pairs : (log : Log K V) (e : Event K V) (r : K × V → Bool) → ((q : K) → keeps eq e q ≡ true → pair_of (eq q) (log ++ e ∷ []) ≡ pair_of (eq q) log) → ((q : K) (y : K × V) → eq q y.0 ≡ true → r y ≡ keeps eq e q) → pairs eq (log ++ e ∷ []) ≡ filter r (pairs eq log) ++ filter_map (λ q. pair_of (eq q) (log ++ e ∷ [])) (stands {V = V} eq (λ k. live (eq k) (log ++ e ∷ [])) [] (touched e))
+  kept_pairs : (log : Log K V) (e : Event K V) (r : K × V → Bool) → ((q : K) → keeps eq log e q ≡ true → pair_of (eq q) (log ++ e ∷ []) ≡ pair_of (eq q) log) → ((q : K) (y : K × V) → eq q y.0 ≡ true → r y ≡ keeps eq log e q) → pairs eq (log ++ e ∷ []) ≡ filter r (pairs eq log) ++ filter_map (λ q. pair_of (eq q) (log ++ e ∷ [])) (stands {V = V} eq (λ k. live (eq k) (log ++ e ∷ [])) [] (touched eq (log, e)))
   unfolding pairs
   kept_pairs log e r alike passes =
       ap (filter_map (λ q. pair_of (eq q) (log ++ e ∷ []))) (standing-snoc eq log e)
-      ∙ filter_map-append (λ q. pair_of (eq q) (log ++ e ∷ [])) (filter (keeps eq e) (standing eq log)) (stands {V = V} eq (λ k. live (eq k) (log ++ e ∷ [])) [] (touched e))
-      ∙ ap (λ es. es ++ filter_map (λ q. pair_of (eq q) (log ++ e ∷ [])) (stands {V = V} eq (λ k. live (eq k) (log ++ e ∷ [])) [] (touched e)))
-      (filter_map-filter (λ q. pair_of (eq q) (log ++ e ∷ [])) (λ q. pair_of (eq q) log) (keeps eq e) r alike (λ q y h. passes q y (pair_of-same (eq q) log y h)) (standing eq log))
+      ∙ filter_map-append (λ q. pair_of (eq q) (log ++ e ∷ [])) (filter (keeps eq log e) (standing eq log)) (stands {V = V} eq (λ k. live (eq k) (log ++ e ∷ [])) [] (touched eq (log, e)))
+      ∙ ap (λ es. es ++ filter_map (λ q. pair_of (eq q) (log ++ e ∷ [])) (stands {V = V} eq (λ k. live (eq k) (log ++ e ∷ [])) [] (touched eq (log, e))))
+      (filter_map-filter (λ q. pair_of (eq q) (log ++ e ∷ [])) (λ q. pair_of (eq q) log) (keeps eq log e) r alike (λ q y h. passes q y (pair_of-same (eq q) log y h)) (standing eq log))
 
   -- what an event leaves of a pair whose key it does not name
   same_pair : (log : Log K V) (e : Event K V) (q : K) → ends (eq q) e ≡ false → put_key (eq q) e ≡ None → written (eq q) e ≡ None → pair_of (eq q) (log ++ e ∷ []) ≡ pair_of (eq q) log
@@ -87,13 +108,23 @@ module _ {K V : Type 0} {eq : K → K → Bool} (laws : IsEquivalence eq) where
   put_pair log k v =
       rw (stored-snoc (eq k) log (Put k v), value-snoc (eq k) log (Put k v), laws.refl k) (pair_at k (stored (eq k) log) (value (eq k) log) v (stored-live (eq k) log ∙ sym (pair_of-live (eq k) log)))
 
-  pub pairs-put : (log : Log K V) (k : K) (v : V) → pairs eq (log ++ Put k v ∷ []) ≡ to_back eq (pairs eq log) k v
-  pairs-put log k v =
-      kept_pairs log (Put k v) (λ y. not (eq k y.0)) (λ q h. let no : eq q k ≡ false = not_not (eq q k) h in same_pair log (Put k v) q refl (rw no refl) (rw no refl)) (other_key k)
+  -- whatever its name, a key that a Put moves is moved
+  moves_same : (log : Log K V) (k q : K) (b : Bool) → moves (mode log) (live (eq k) log) ≡ b → eq q k ≡ true → moves (mode log) (live (eq q) log) ≡ b
+  moves_same log k q b h same = ap (λ t. moves (mode log) (live t log)) (same_test laws q k same) ∙ h
+
+  -- a Put that moves its key
+  pairs-put_moved : (log : Log K V) (k : K) (v : V) → moves (mode log) (live (eq k) log) ≡ true → pairs eq (log ++ Put k v ∷ []) ≡ to_back eq (pairs eq log) k v
+  pairs-put_moved log k v moved =
+      kept_pairs log (Put k v) (λ y. not (eq k y.0))
+      (λ q h. let no : eq q k ≡ false = not_not (eq q k) (sym (others q) ∙ h) in same_pair log (Put k v) q refl (rw no refl) (rw no refl))
+      (λ q y h. other_key k q y h ∙ sym (others q))
       ∙ ap (λ es. without eq (pairs eq log) k ++ es) last_pair
     where
-      last_pair : filter_map (λ q. pair_of (eq q) (log ++ Put k v ∷ [])) (stands {V = V} eq (λ q. live (eq q) (log ++ Put k v ∷ [])) [] (Some k)) ≡ (key_or k (find eq (pairs eq log) k), v) ∷ []
-      last_pair = rw (live-snoc (eq k) log (Put k v), laws.refl k) (ap (λ o. cons_option o []) (put_pair log k v) ∙ ap (λ o. (key_or k o, v) ∷ []) (sym (find-pairs log k)))
+      others : (q : K) → keeps eq log (Put k v) q ≡ not (eq q k)
+      others q = moved_only (eq q k) (moves (mode log) (live (eq q) log)) (moves_same log k q true moved)
+
+      last_pair : filter_map (λ q. pair_of (eq q) (log ++ Put k v ∷ [])) (stands {V = V} eq (λ q. live (eq q) (log ++ Put k v ∷ [])) [] (touched eq (log, Put k v))) ≡ (key_or k (find eq (pairs eq log) k), v) ∷ []
+      last_pair = rw (moved, live-snoc (eq k) log (Put k v), laws.refl k) (ap (λ o. cons_option o []) (put_pair log k v) ∙ ap (λ o. (key_or k o, v) ∷ []) (sym (find-pairs log k)))
 
   pub pairs-remove : (log : Log K V) (k : K) → pairs eq (log ++ Remove k ∷ []) ≡ without eq (pairs eq log) k
   pairs-remove log k =
@@ -113,6 +144,11 @@ module _ {K V : Type 0} {eq : K → K → Bool} (laws : IsEquivalence eq) where
   pub pairs-fit : (log : Log K V) → pairs eq (log ++ Fit ∷ []) ≡ pairs eq log
   pairs-fit log =
       kept_pairs log Fit (λ y. true) (λ q h. same_pair log Fit q refl refl refl) (λ q y h. refl)
+      ∙ append-nil (filter (λ y. true) (pairs eq log)) ∙ filter_true (pairs eq log)
+
+  pub pairs-set_mode : (log : Log K V) (m : Mode) → pairs eq (log ++ SetMode m ∷ []) ≡ pairs eq log
+  pairs-set_mode log m =
+      kept_pairs log (SetMode m) (λ y. true) (λ q h. same_pair log (SetMode m) q refl refl refl) (λ q y h. refl)
       ∙ append-nil (filter (λ y. true) (pairs eq log)) ∙ filter_true (pairs eq log)
 
   refresh_pair : (log : Log K V) (k q : K) → pair_of (eq q) (log ++ Refresh k ∷ []) ≡ pair_of (eq q) log
@@ -172,3 +208,46 @@ module _ {K V : Type 0} {eq : K → K → Bool} (laws : IsEquivalence eq) where
   pairs-write log k v =
       ap (filter_map (λ q. pair_of (eq q) (log ++ Write k v ∷ []))) (standing-snoc eq log (Write k v) ∙ append-nil (filter (λ _. true) (standing eq log)) ∙ filter_true (standing eq log))
       ∙ map-filter_map (λ q. pair_of (eq q) (log ++ Write k v ∷ [])) (λ q. pair_of (eq q) log) (λ e. cond (eq k e.0) (e.0, v) e) (write_pair log k v) (standing eq log)
+
+  stored_live : (log : Log K V) (k q : K) → live (eq k) log ≡ true → eq q k ≡ true → is_some (stored (eq q) log) ≡ true
+  stored_live log k q is_live same = stored-live (eq q) log ∙ ap (λ t. live t log) (same_test laws q k same) ∙ is_live
+
+  kept_pair : (log : Log K V) (k : K) (v : V) (q : K) → live (eq k) log ≡ true → pair_of (eq q) (log ++ Put k v ∷ []) ≡ option_map (λ e. cond (eq k e.0) (e.0, v) e) (pair_of (eq q) log)
+  unfolding pair_of
+  kept_pair log k v q is_live =
+      rw (stored-snoc (eq q) log (Put k v), value-snoc (eq q) log (Put k v), stored_stays k (stored (eq q) log) (eq q k) (stored_live log k q is_live))
+      (write_both k q v (eq q k) (stored (eq q) log) (value (eq q) log) refl (pair_of-live (eq q) log ∙ sym (stored-live (eq q) log)) (stored-same (eq q) log))
+
+  -- a Put that moves nothing is a Write
+  pairs-put_kept : (log : Log K V) (k : K) (v : V) → moves (mode log) (live (eq k) log) ≡ false → pairs eq (log ++ Put k v ∷ []) ≡ set_value eq (pairs eq log) k v
+  unfolding pairs
+  pairs-put_kept log k v unmoved =
+      ap (filter_map (λ q. pair_of (eq q) (log ++ Put k v ∷ []))) same_places
+      ∙ map-filter_map (λ q. pair_of (eq q) (log ++ Put k v ∷ [])) (λ q. pair_of (eq q) log) (λ e. cond (eq k e.0) (e.0, v) e) (λ q. kept_pair log k v q (moves-live (mode log) (live (eq k) log) unmoved)) (standing eq log)
+    where
+      nothing_new : stands {V = V} eq (λ q. live (eq q) (log ++ Put k v ∷ [])) [] (touched eq (log, Put k v)) ≡ []
+      nothing_new = rw unmoved refl
+
+      same_places : standing eq (log ++ Put k v ∷ []) ≡ standing eq log
+      same_places =
+          standing-snoc eq log (Put k v)
+          ∙ ap (λ ks. filter (keeps eq log (Put k v)) (standing eq log) ++ ks) nothing_new
+          ∙ append-nil (filter (keeps eq log (Put k v)) (standing eq log))
+          ∙ ap (λ (t : K → Bool). filter t (standing eq log)) (λ i q. stays (eq q k) (moves (mode log) (live (eq q) log)) (moves_same laws log k q false unmoved) i)
+          ∙ filter_true (standing eq log)
+
+  -- a Put is an insertion in the mode of the log
+  pub pairs-put : (log : Log K V) (k : K) (v : V) → pairs eq (log ++ Put k v ∷ []) ≡ put eq (mode log) (pairs eq log) k v
+  pairs-put log k v = by_mode (mode log) (live (eq k) log) refl refl
+    where
+      there : is_some (find eq (pairs eq log) k) ≡ live (eq k) log
+      there = ap is_some (find-pairs laws log k) ∙ pair_of-live (eq k) log
+
+      by_mode : (m : Mode) (l : Bool) → mode log ≡ m → live (eq k) log ≡ l → pairs eq (log ++ Put k v ∷ []) ≡ put eq m (pairs eq log) k v
+      by_mode Touch l is at_k = pairs-put_moved laws log k v (ap (λ m. moves m (live (eq k) log)) is)
+      by_mode Keep true is at_k =
+          pairs-put_kept log k v (rw (is, at_k) refl) ∙ put-present eq (pairs eq log) k v (there ∙ at_k)
+      by_mode Keep false is at_k =
+          let absent = none_is (find eq (pairs eq log) k) (there ∙ at_k) in
+          pairs-put_moved laws log k v (rw (is, at_k) refl)
+          ∙ sym (to_back-absent eq (pairs eq log) k v absent) ∙ put-absent eq Keep (pairs eq log) k v absent

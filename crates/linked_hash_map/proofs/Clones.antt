@@ -3,14 +3,15 @@ use Rattle.std.proofs.Common.{◌≡◌, ◌+◌, ◌≤◌, Bool, true, false, 
 use Rattle.std.specs.List.{AllZip, AllByRecursion, IsDistinct}
 use Rattle.std.specs.Map.{keys_of}
 use Rattle.std.specs.Cmp.{IsEquivalence}
+use Rattle.linked_hash_map.specs.declared.map.Mode.TheVariants.{Touch}
 use Rattle.linked_hash_map.specs.LinkedMap.{LinkedMap}
-use Rattle.linked_hash_map.specs.Pairs.{to_back}
+use Rattle.linked_hash_map.specs.Pairs.{to_back, put}
 use Rattle.linked_hash_map.specs.Inserts.{insert_each}
 use Rattle.linked_hash_map.specs.Validity.{IsValid}
 use Rattle.linked_hash_map.specs.Counts.{rechained_raised}
 use Rattle.linked_hash_map.specs.Clones.{AreClones, IsClone}
 use Rattle.linked_hash_map.proofs.Counts.{rechained_raised-same}
-use Rattle.linked_hash_map.proofs.Inserts.{insert_each-last, insert_each-distinct, length-put}
+use Rattle.linked_hash_map.proofs.Inserts.{insert_each-last, insert_each-distinct, length-put_most}
 
 pub AllZip-last : {A B : Type 0} (R : A → B → Type 0) (xs : List A) (ys : List B) (x : A) (y : B) → AllZip R xs ys → R x y → AllZip R (xs ++ x ∷ []) (ys ++ y ∷ [])
 AllZip-last R [] [] x y all last = (last, tt)
@@ -24,10 +25,10 @@ length-AllZip R [] (y ∷ ys) all = absurd all
 length-AllZip R (x ∷ xs) [] all = absurd all
 length-AllZip R (x ∷ xs) (y ∷ ys) all = let rest = length-AllZip R xs ys all.1 in omega arith
 
-length-insert_each : {K V : Type 0} (eq : K → K → Bool) (pairs items : List (K × V)) → length (insert_each eq pairs items) ≤ length pairs + length items
+length-insert_each : {K V : Type 0} (eq : K → K → Bool) (pairs items : List (K × V)) → length (insert_each eq Touch pairs items) ≤ length pairs + length items
 length-insert_each eq pairs [] = omega arith
 length-insert_each eq pairs (item ∷ items) =
-    let one = length-put eq pairs item.0 item.1 in
+    let one = length-put_most eq Touch pairs item.0 item.1 in
     let rest = length-insert_each eq (to_back eq pairs item.0 item.1) items in
     omega arith
 
@@ -37,23 +38,25 @@ pub record HasCloned {K V S : Type 0} (eq : K → K → Bool) (IsKeyClone : K �
   pub clones : List (K × V)
   pub split : first ++ others ≡ m.pairs
   pub each : AreClones IsKeyClone IsValueClone first clones
-  pub inserted : n.pairs ≡ insert_each eq [] clones
+  pub inserted : n.pairs ≡ insert_each eq Touch [] clones
   pub capacity : n.capacity ≡ length m.pairs
   pub rechained : n.rechained ≡ 0
   pub hasher : IsHasherClone m.hasher n.hasher
+  pub mode : n.mode ≡ Touch
 
 module _ {K V S : Type 0} {eq : K → K → Bool} {IsKeyClone : K → K → Type 0} {IsValueClone : V → V → Type 0} {IsHasherClone : S → S → Type 0} where
   -- at first all pairs are to come
-  pub HasCloned-none : {m n : LinkedMap K V S} {others : List (K × V)} → others ≡ m.pairs → n.pairs ≡ [] → n.capacity ≡ length m.pairs → n.rechained ≡ 0 → IsHasherClone m.hasher n.hasher → HasCloned eq IsKeyClone IsValueClone IsHasherClone m others n
-  HasCloned-none all empty room uncounted of_hasher = record { first = []; clones = []; split = all; each = tt; inserted = empty; capacity = room; rechained = uncounted; hasher = of_hasher }
+  pub HasCloned-none : {m n : LinkedMap K V S} {others : List (K × V)} → others ≡ m.pairs → n.pairs ≡ [] → n.capacity ≡ length m.pairs → n.rechained ≡ 0 → IsHasherClone m.hasher n.hasher → n.mode ≡ Touch → HasCloned eq IsKeyClone IsValueClone IsHasherClone m others n
+  HasCloned-none all empty room uncounted of_hasher touch = record { first = []; clones = []; split = all; each = tt; inserted = empty; capacity = room; rechained = uncounted; hasher = of_hasher; mode = touch }
 
   -- one more clone is inserted; there are then no more pairs than are cloned
-  pub HasCloned-put : {m before after : LinkedMap K V S} {these others : List (K × V)} → HasCloned eq IsKeyClone IsValueClone IsHasherClone m these before → (pair : K × V) → these ≡ pair ∷ others → (k : K) (v : V) → IsKeyClone pair.0 k → IsValueClone pair.1 v → after.pairs ≡ to_back eq before.pairs k v → after.capacity ≡ max before.capacity (length after.pairs) → after.rechained ≡ rechained_raised before.rechained (length before.pairs) before.capacity after.capacity → after.hasher ≡ before.hasher → HasCloned eq IsKeyClone IsValueClone IsHasherClone m others after
-  HasCloned-put {m} {before} {after} {these} {others} so_far pair next k v of_key of_value put raised counted same =
+  pub HasCloned-put : {m before after : LinkedMap K V S} {these others : List (K × V)} → HasCloned eq IsKeyClone IsValueClone IsHasherClone m these before → (pair : K × V) → these ≡ pair ∷ others → (k : K) (v : V) → IsKeyClone pair.0 k → IsValueClone pair.1 v → after.pairs ≡ put eq before.mode before.pairs k v → after.capacity ≡ max before.capacity (length after.pairs) → after.rechained ≡ rechained_raised before.rechained (length before.pairs) before.capacity after.capacity → after.hasher ≡ before.hasher → after.mode ≡ before.mode → HasCloned eq IsKeyClone IsValueClone IsHasherClone m others after
+  HasCloned-put {m} {before} {after} {these} {others} so_far pair next k v of_key of_value went_in raised counted same same_mode =
+      let put = went_in ∙ ap (λ mode. put eq mode before.pairs k v) so_far.mode in
       let inserted_is = ap length so_far.inserted in
       let bound = length-insert_each eq [] so_far.clones in
       let as_many = length-AllZip (λ p q. IsKeyClone p.0 q.0 × IsValueClone p.1 q.1) so_far.first so_far.clones so_far.each in
-      let one = length-put eq before.pairs k v in
+      let one = length-put_most eq Touch before.pairs k v in
       let after_is = ap length put in
       let whole = ap length so_far.split in
       let parts = length-append so_far.first these in
@@ -65,10 +68,11 @@ module _ {K V S : Type 0} {eq : K → K → Bool} {IsKeyClone : K → K → Type
         clones = so_far.clones ++ (k, v) ∷ [];
         split = append_assoc so_far.first (pair ∷ []) others ∙ ap (λ es. so_far.first ++ es) (sym next) ∙ so_far.split;
         each = AllZip-last (λ p q. IsKeyClone p.0 q.0 × IsValueClone p.1 q.1) so_far.first so_far.clones pair (k, v) so_far.each (of_key, of_value);
-        inserted = put ∙ ap (λ es. to_back eq es k v) so_far.inserted ∙ sym (insert_each-last eq [] so_far.clones (k, v));
+        inserted = put ∙ ap (λ es. to_back eq es k v) so_far.inserted ∙ sym (insert_each-last eq Touch [] so_far.clones (k, v));
         capacity = room ∙ so_far.capacity;
         rechained = counted ∙ ap (rechained_raised before.rechained (length before.pairs) before.capacity) room ∙ rechained_raised-same before.rechained (length before.pairs) before.capacity ∙ so_far.rechained;
         hasher = subst (IsHasherClone m.hasher) (sym same) so_far.hasher;
+        mode = same_mode ∙ so_far.mode;
       }
 
 module _ {K V : Type 0} {eq : K → K → Bool} (laws : IsEquivalence eq) {IsKeyClone : K → K → Type 0} (IsValueClone : V → V → Type 0) (same : (k clone : K) → IsKeyClone k clone → IsTrue (eq k clone)) where
@@ -91,15 +95,16 @@ module _ {K V : Type 0} {eq : K → K → Bool} (laws : IsEquivalence eq) {IsKey
 
 module _ {K V S : Type 0} {eq : K → K → Bool} (laws : IsEquivalence eq) {IsKeyClone : K → K → Type 0} {IsValueClone : V → V → Type 0} {IsHasherClone : S → S → Type 0} where
   -- with clones of all pairs inserted, it is a clone
-  pub IsClone-all : {m n : LinkedMap K V S} {others : List (K × V)} → IsDistinct eq (keys_of m.pairs) → IsValid eq n → HasCloned eq IsKeyClone IsValueClone IsHasherClone m others n → others ≡ [] → IsClone eq IsKeyClone IsValueClone IsHasherClone m n
-  IsClone-all {m} {n} distinct valid all none =
+  pub IsClone-all : {m n : LinkedMap K V S} {others : List (K × V)} → IsDistinct eq (keys_of m.pairs) → {left : LinkedMap K V S} → IsValid eq left → HasCloned eq IsKeyClone IsValueClone IsHasherClone m others n → others ≡ [] → left ≡ record n { mode = m.mode } → IsClone eq IsKeyClone IsValueClone IsHasherClone m left
+  IsClone-all {m} {n} distinct {left} valid all none set =
       let whole : all.first ≡ m.pairs = sym (append-nil all.first) ∙ ap (λ es. all.first ++ es) (sym none) ∙ all.split in
       let each = subst (λ es. AreClones IsKeyClone IsValueClone es all.clones) whole all.each in
       record {
-        pairs = (all.clones, each, all.inserted);
-        capacity = all.capacity;
-        rechained = all.rechained;
-        hasher = all.hasher;
+        pairs = (all.clones, each, ap (λ l. l.pairs) set ∙ all.inserted);
+        capacity = ap (λ l. l.capacity) set ∙ all.capacity;
+        rechained = ap (λ l. l.rechained) set ∙ all.rechained;
+        hasher = subst (IsHasherClone m.hasher) (sym (ap (λ l. l.hasher) set)) all.hasher;
+        mode = ap (λ l. l.mode) set;
         valid = valid;
-        in_order = λ same. subst (AreClones IsKeyClone IsValueClone m.pairs) (sym (all.inserted ∙ insert_each-distinct laws all.clones (clones_differ laws IsValueClone same m.pairs all.clones each distinct))) each;
+        in_order = λ same. subst (AreClones IsKeyClone IsValueClone m.pairs) (sym (ap (λ l. l.pairs) set ∙ all.inserted ∙ insert_each-distinct laws Touch all.clones (clones_differ laws IsValueClone same m.pairs all.clones each distinct))) each;
       }

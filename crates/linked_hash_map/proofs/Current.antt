@@ -10,6 +10,7 @@ use Rattle.lhm_ring.proofs.Apart.{IsFresh, same_ptr_refl}
 use Rattle.lhm_ring.proofs.IndexedRing.{indexed_value}
 use Rattle.lhm_ring.proofs.Rows.{apart_head, apart_tail}
 use Rattle.lhm_ring.specs.declared.position.Position.{Position}
+use Rattle.linked_hash_map.specs.declared.map.Mode.{Mode}
 use Rattle.linked_hash_map.specs.LinkedMap.{LinkedMap, linked_map}
 use Rattle.linked_hash_map.specs.Cursor.{IsOutside}
 use Rattle.linked_hash_map.specs.Indexes.{IsIndex}
@@ -37,7 +38,7 @@ module _ {K V : Type 0} {eq : K → K → Bool} {hash : K → ℕ} {heads : List
   current_nodes = subst (λ z. AreKept eq hash (bare s.held) s.spares mark n (place_of_some z)) is kept.nodes
 
   -- where the index is outside the pairs to visit, the node is
-  pub current_elsewhere : {S : Type 0} {m : LinkedMap K V S} {capacity : ℕ} {hasher : S} → linked_map (pairs_of s.held) capacity hasher (bookmark_at mark (bare s.held)) n (current_at (place_of_some o) (bare s.held)) r ≡ m → IsOutside m.current m → IsElsewhere (place_of p) s.held mark n
+  pub current_elsewhere : {S : Type 0} {m : LinkedMap K V S} {capacity : ℕ} {hasher : S} {mode : Mode} → linked_map (pairs_of s.held) capacity hasher (bookmark_at mark (bare s.held)) n (current_at (place_of_some o) (bare s.held)) r mode ≡ m → IsOutside m.current m → IsElsewhere (place_of p) s.held mark n
   current_elsewhere {S} {m} view outside =
       subst (λ k. (k < bookmark_at mark (bare s.held)) ⊎ (bookmark_at mark (bare s.held) + n ≤ k)) (current_at-Some is s.held)
       (subst (λ (x : LinkedMap K V S). IsOutside x.current x) (sym view) outside)

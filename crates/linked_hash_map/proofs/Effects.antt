@@ -4,13 +4,15 @@ use Rattle.std.specs.List.{IsDistinct}
 use Rattle.std.proofs.lemmas.List.{map-append}
 use Rattle.std.specs.Map.{keys_of}
 use Rattle.std.specs.Cmp.{IsEquivalence}
-use Rattle.linked_hash_map.specs.Log.{Log, Put, Write, Refresh, Remove, RemoveAll, Need, Fit, put_each, live, stored, value, both, pair_of, pairs, size, high, IsFull, Defines}
-use Rattle.linked_hash_map.specs.Pairs.{find, value_at, without, to_back, set_value}
+use Rattle.linked_hash_map.specs.declared.map.Mode.{Mode}
+use Rattle.linked_hash_map.specs.Log.{Log, Put, Write, Refresh, Remove, RemoveAll, Need, Fit, SetMode, put_each, mode, live, stored, value, both, pair_of, pairs, size, high, IsFull, Defines}
+use Rattle.linked_hash_map.specs.Pairs.{find, value_at, without, to_back, set_value, put}
 use Rattle.linked_hash_map.specs.Requests.{IsAbsent, HasValue}
 use Rattle.linked_hash_map.proofs.LiveKeys.{pair_of-live}
 use Rattle.linked_hash_map.proofs.Pairs.{is_some-value_at}
-use Rattle.linked_hash_map.proofs.Bridge.{find-pairs, pairs-put, pairs-write, pairs-refresh, pairs-remove, pairs-remove_all, pairs-need, pairs-fit}
-use Rattle.linked_hash_map.proofs.Marks.{size-pairs, high-put, high-write, high-refresh, high-remove, high-remove_all, high-need, high-fit}
+use Rattle.linked_hash_map.proofs.Bridge.{find-pairs, pairs-put, pairs-write, pairs-refresh, pairs-remove, pairs-remove_all, pairs-need, pairs-fit, pairs-set_mode}
+use Rattle.linked_hash_map.proofs.Marks.{size-pairs, high-put, high-write, high-refresh, high-remove, high-remove_all, high-need, high-fit, high-set_mode}
+use Rattle.linked_hash_map.proofs.Standing.{mode-snoc}
 use Rattle.linked_hash_map.proofs.Distinct.{distinct-pairs}
 use Rattle.linked_hash_map.proofs.Indexes.{without-own}
 
@@ -38,7 +40,7 @@ no_last_is_nil (x ∷ xs) h = absurd (some_last x xs (length (x ∷ xs) - 1) (om
     some_last y [] (suc i) l n = absurd (omega arith)
     some_last y (z ∷ ys) (suc i) l n = some_last z ys i (omega arith) n
 
-module _ {K V : Type 0} {eq : K → K → Bool} (laws : IsEquivalence eq) {start : ℕ} {log : Log K V} {held : List (K × V)} {capacity : ℕ} (defines : Defines eq start log held capacity) where
+module _ {K V : Type 0} {eq : K → K → Bool} (laws : IsEquivalence eq) {start : ℕ} {log : Log K V} {held : List (K × V)} {capacity : ℕ} {m : Mode} (defines : Defines eq start log held capacity m) where
   pub size-held : size eq log ≡ length held
   size-held = size-pairs eq log ∙ ap length defines.same_pairs
 
@@ -47,10 +49,11 @@ module _ {K V : Type 0} {eq : K → K → Bool} (laws : IsEquivalence eq) {start
   IsFull-held h = size-held ∙ h ∙ sym defines.same_capacity
 
   -- the map as it was
-  pub Defines-nothing : {later : List (K × V)} {capacity' : ℕ} → later ≡ held → capacity' ≡ capacity → Defines eq start (log ++ []) later capacity'
-  Defines-nothing h m = record {
+  pub Defines-nothing : {later : List (K × V)} {capacity' : ℕ} {m' : Mode} → later ≡ held → capacity' ≡ capacity → m' ≡ m → Defines eq start (log ++ []) later capacity' m'
+  Defines-nothing h m o = record {
     same_pairs = ap (pairs eq) (append-nil log) ∙ defines.same_pairs ∙ sym h;
     same_capacity = ap (high eq start) (append-nil log) ∙ defines.same_capacity ∙ sym m;
+    same_mode = ap mode (append-nil log) ∙ defines.same_mode ∙ sym o;
   }
 
   module _ (k : K) where
@@ -77,43 +80,46 @@ module _ {K V : Type 0} {eq : K → K → Bool} (laws : IsEquivalence eq) {start
     )
 
     -- the map after an insertion
-    pub Defines-put : (v : V) {later : List (K × V)} {capacity' : ℕ} → later ≡ to_back eq held k v → capacity' ≡ max capacity (length later) → Defines eq start (log ++ Put k v ∷ []) later capacity'
-    Defines-put v {later} h m =
-        let same : pairs eq (log ++ Put k v ∷ []) ≡ later = pairs-put laws log k v ∙ ap (λ es. to_back eq es k v) defines.same_pairs ∙ sym h in
+    pub Defines-put : (v : V) {later : List (K × V)} {capacity' : ℕ} {m' : Mode} → later ≡ put eq m held k v → capacity' ≡ max capacity (length later) → m' ≡ m → Defines eq start (log ++ Put k v ∷ []) later capacity' m'
+    Defines-put v {later} h m o =
+        let same : pairs eq (log ++ Put k v ∷ []) ≡ later = pairs-put laws log k v ∙ (λ i. put eq (defines.same_mode i) (defines.same_pairs i) k v) ∙ sym h in
         record {
           same_pairs = same;
           same_capacity =
               high-put laws log start k v
               ∙ ap₂ max defines.same_capacity (size-pairs eq (log ++ Put k v ∷ []) ∙ ap length same)
               ∙ sym m;
+          same_mode = mode-snoc log (Put k v) ∙ defines.same_mode ∙ sym o;
         }
 
     -- the map after one more of many insertions
-    pub Defines-put_last : (v : V) (earlier : Log K V) (items : List (K × V)) {later : List (K × V)} {capacity' : ℕ} → log ≡ earlier ++ put_each items → later ≡ to_back eq held k v → capacity' ≡ max capacity (length later) → Defines eq start (earlier ++ put_each (items ++ (k, v) ∷ [])) later capacity'
-    Defines-put_last v earlier items {later} {capacity'} is h m =
+    pub Defines-put_last : (v : V) (earlier : Log K V) (items : List (K × V)) {later : List (K × V)} {capacity' : ℕ} {m' : Mode} → log ≡ earlier ++ put_each items → later ≡ put eq m held k v → capacity' ≡ max capacity (length later) → m' ≡ m → Defines eq start (earlier ++ put_each (items ++ (k, v) ∷ [])) later capacity' m'
+    Defines-put_last v earlier items {later} {capacity'} {m'} is h m o =
         let longer : log ++ Put k v ∷ [] ≡ earlier ++ put_each (items ++ (k, v) ∷ []) =
         ap (λ events. events ++ Put k v ∷ []) is ∙ append_assoc earlier (put_each items) (Put k v ∷ []) ∙ ap (λ events. earlier ++ events) (sym (map-append (λ (pair : K × V). Put pair.0 pair.1) items ((k, v) ∷ []))) in
-        subst (λ events. Defines eq start events later capacity') longer (Defines-put v h m)
+        subst (λ events. Defines eq start events later capacity' m') longer (Defines-put v h m o)
 
     -- the map after a removal
-    pub Defines-remove : {later : List (K × V)} {capacity' : ℕ} → later ≡ without eq held k → capacity' ≡ capacity → Defines eq start (log ++ Remove k ∷ []) later capacity'
-    Defines-remove h m = record {
+    pub Defines-remove : {later : List (K × V)} {capacity' : ℕ} {m' : Mode} → later ≡ without eq held k → capacity' ≡ capacity → m' ≡ m → Defines eq start (log ++ Remove k ∷ []) later capacity' m'
+    Defines-remove h m o = record {
       same_pairs = pairs-remove laws log k ∙ ap (λ es. without eq es k) defines.same_pairs ∙ sym h;
       same_capacity = high-remove laws log start k ∙ defines.same_capacity ∙ sym m;
+      same_mode = mode-snoc log (Remove k) ∙ defines.same_mode ∙ sym o;
     }
 
     -- after a write
-    pub Defines-write : (v : V) {later : List (K × V)} {capacity' : ℕ} → later ≡ set_value eq held k v → capacity' ≡ capacity → Defines eq start (log ++ Write k v ∷ []) later capacity'
-    Defines-write v h m = record {
+    pub Defines-write : (v : V) {later : List (K × V)} {capacity' : ℕ} {m' : Mode} → later ≡ set_value eq held k v → capacity' ≡ capacity → m' ≡ m → Defines eq start (log ++ Write k v ∷ []) later capacity' m'
+    Defines-write v h m o = record {
       same_pairs = pairs-write laws log k v ∙ ap (λ es. set_value eq es k v) defines.same_pairs ∙ sym h;
       same_capacity = high-write laws log start k v ∙ defines.same_capacity ∙ sym m;
+      same_mode = mode-snoc log (Write k v) ∙ defines.same_mode ∙ sym o;
     }
 
     -- after a refresh of a key with a value
-    pub Defines-refresh : (v : V) {later : List (K × V)} {capacity' : ℕ} → Some v ≡ value_at eq held k → later ≡ to_back eq held k v → capacity' ≡ capacity → Defines eq start (log ++ Refresh k ∷ []) later capacity'
-    Defines-refresh v {later} {capacity'} found h m = by_pair (pair_of (eq k) log) refl (found ∙ ap (option_map (λ pair. pair.1)) the_pair)
+    pub Defines-refresh : (v : V) {later : List (K × V)} {capacity' : ℕ} {m' : Mode} → Some v ≡ value_at eq held k → later ≡ to_back eq held k v → capacity' ≡ capacity → m' ≡ m → Defines eq start (log ++ Refresh k ∷ []) later capacity' m'
+    Defines-refresh v {later} {capacity'} {m'} found h m o = by_pair (pair_of (eq k) log) refl (found ∙ ap (option_map (λ pair. pair.1)) the_pair)
       where
-        by_pair : (o : Option (K × V)) → pair_of (eq k) log ≡ o → Some v ≡ option_map (λ pair. pair.1) o → Defines eq start (log ++ Refresh k ∷ []) later capacity'
+        by_pair : (o : Option (K × V)) → pair_of (eq k) log ≡ o → Some v ≡ option_map (λ pair. pair.1) o → Defines eq start (log ++ Refresh k ∷ []) later capacity' m'
         by_pair None is same = absurd (true≢false (ap is_some same))
         by_pair (Some pair) is same =
             let v-is : v ≡ pair.1 = cc in
@@ -123,45 +129,57 @@ module _ {K V : Type 0} {eq : K → K → Bool} (laws : IsEquivalence eq) {start
                   ∙ ap₂ (λ es w. to_back eq es k w) defines.same_pairs (sym v-is)
                   ∙ sym h;
               same_capacity = high-refresh laws log start k ∙ defines.same_capacity ∙ sym m;
+              same_mode = mode-snoc log (Refresh k) ∙ defines.same_mode ∙ sym o;
             }
 
   -- after all pairs are dropped
-  pub Defines-remove_all : {later : List (K × V)} {capacity' : ℕ} → later ≡ [] → capacity' ≡ capacity → Defines eq start (log ++ RemoveAll ∷ []) later capacity'
-  Defines-remove_all h m = record {
+  pub Defines-remove_all : {later : List (K × V)} {capacity' : ℕ} {m' : Mode} → later ≡ [] → capacity' ≡ capacity → m' ≡ m → Defines eq start (log ++ RemoveAll ∷ []) later capacity' m'
+  Defines-remove_all h m o = record {
     same_pairs = pairs-remove_all laws log ∙ sym h;
     same_capacity = high-remove_all laws log start ∙ defines.same_capacity ∙ sym m;
+    same_mode = mode-snoc log RemoveAll ∙ defines.same_mode ∙ sym o;
   }
 
   -- after room is reserved
-  pub Defines-reserve : (additional : ℕ) {later : List (K × V)} {capacity' : ℕ} → later ≡ held → capacity' ≡ max capacity (length held + additional) → Defines eq start (log ++ Need (size eq log + additional) ∷ []) later capacity'
-  Defines-reserve additional h m = record {
+  pub Defines-reserve : (additional : ℕ) {later : List (K × V)} {capacity' : ℕ} {m' : Mode} → later ≡ held → capacity' ≡ max capacity (length held + additional) → m' ≡ m → Defines eq start (log ++ Need (size eq log + additional) ∷ []) later capacity' m'
+  Defines-reserve additional h m o = record {
     same_pairs = pairs-need laws log (size eq log + additional) ∙ defines.same_pairs ∙ sym h;
     same_capacity =
         high-need laws start log (size eq log + additional)
         ∙ ap₂ (λ room n. max room (n + additional)) defines.same_capacity size-held
         ∙ sym m;
+    same_mode = mode-snoc log (Need (size eq log + additional)) ∙ defines.same_mode ∙ sym o;
   }
 
   -- after the capacity is lowered to the number of pairs
-  pub Defines-shrink : {later : List (K × V)} {capacity' : ℕ} → later ≡ held → capacity' ≡ length held → Defines eq start (log ++ Fit ∷ []) later capacity'
-  Defines-shrink h m = record {
+  pub Defines-shrink : {later : List (K × V)} {capacity' : ℕ} {m' : Mode} → later ≡ held → capacity' ≡ length held → m' ≡ m → Defines eq start (log ++ Fit ∷ []) later capacity' m'
+  Defines-shrink h m o = record {
     same_pairs = pairs-fit laws log ∙ defines.same_pairs ∙ sym h;
     same_capacity = high-fit laws start log ∙ size-held ∙ sym m;
+    same_mode = mode-snoc log Fit ∙ defines.same_mode ∙ sym o;
+  }
+
+  -- after a mode is set
+  pub Defines-set_mode : (set : Mode) {later : List (K × V)} {capacity' : ℕ} {m' : Mode} → later ≡ held → capacity' ≡ capacity → m' ≡ set → Defines eq start (log ++ SetMode set ∷ []) later capacity' m'
+  Defines-set_mode set h m o = record {
+    same_pairs = pairs-set_mode laws log set ∙ defines.same_pairs ∙ sym h;
+    same_capacity = high-set_mode laws log start set ∙ defines.same_capacity ∙ sym m;
+    same_mode = mode-snoc log (SetMode set) ∙ sym o;
   }
 
   -- the keys that a log defines are different
   distinct-held : IsDistinct eq (keys_of held)
   distinct-held = subst (λ es. IsDistinct eq (keys_of es)) defines.same_pairs (distinct-pairs laws log)
 
-  -- after the pair at an index is taken out
-  Defines-take_out : (i : ℕ) (pair : K × V) {later : List (K × V)} {capacity' : ℕ} → slice_get held i ≡ Some pair → later ≡ remove held i → capacity' ≡ capacity → Defines eq start (log ++ Remove pair.0 ∷ []) later capacity'
-  Defines-take_out i pair there h m = Defines-remove pair.0 (h ∙ sym (without-own laws held distinct-held i pair there)) m
+  -- after the pair at a place is taken out
+  Defines-take_out : (i : ℕ) (pair : K × V) {later : List (K × V)} {capacity' : ℕ} {m' : Mode} → slice_get held i ≡ Some pair → later ≡ remove held i → capacity' ≡ capacity → m' ≡ m → Defines eq start (log ++ Remove pair.0 ∷ []) later capacity' m'
+  Defines-take_out i pair there h m o = Defines-remove pair.0 (h ∙ sym (without-own laws held distinct-held i pair there)) m o
 
-  pub Defines-pop_front : (k : K) (v : V) {later : List (K × V)} {capacity' : ℕ} → Some (k, v) ≡ slice_get held 0 → later ≡ drop 1 held → capacity' ≡ capacity → Defines eq start (log ++ Remove k ∷ []) later capacity'
-  Defines-pop_front k v there h m = Defines-take_out 0 (k, v) (sym there) h m
+  pub Defines-pop_front : (k : K) (v : V) {later : List (K × V)} {capacity' : ℕ} {m' : Mode} → Some (k, v) ≡ slice_get held 0 → later ≡ drop 1 held → capacity' ≡ capacity → m' ≡ m → Defines eq start (log ++ Remove k ∷ []) later capacity' m'
+  Defines-pop_front k v there h m o = Defines-take_out 0 (k, v) (sym there) h m o
 
-  pub Defines-pop_back : (k : K) (v : V) {later : List (K × V)} {capacity' : ℕ} → Some (k, v) ≡ slice_get held (length held - 1) → later ≡ take (length held - 1) held → capacity' ≡ capacity → Defines eq start (log ++ Remove k ∷ []) later capacity'
-  Defines-pop_back k v there h m = Defines-take_out (length held - 1) (k, v) (sym there) (h ∙ sym (remove-last held)) m
+  pub Defines-pop_back : (k : K) (v : V) {later : List (K × V)} {capacity' : ℕ} {m' : Mode} → Some (k, v) ≡ slice_get held (length held - 1) → later ≡ take (length held - 1) held → capacity' ≡ capacity → m' ≡ m → Defines eq start (log ++ Remove k ∷ []) later capacity' m'
+  Defines-pop_back k v there h m o = Defines-take_out (length held - 1) (k, v) (sym there) (h ∙ sym (remove-last held)) m o
 
   -- the pair at an index of the map is that of the log
   pub slice_get-held : (i : ℕ) {o : Option (K × V)} → o ≡ slice_get held i → slice_get (pairs eq log) i ≡ o

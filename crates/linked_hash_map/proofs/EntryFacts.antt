@@ -11,8 +11,10 @@ use Rattle.std.specs.declared.hash.BuildHasher as builder
 use Rattle.linked_hash_map.specs.LinkedMap.{LinkedMap}
 use Rattle.linked_hash_map.specs.Changes.{pushed, set_or_pushed}
 use Rattle.linked_hash_map.specs.Counts.{rechained_raised}
-use Rattle.linked_hash_map.specs.Pairs.{key_or, find, set_value, set_or_push, set_if_some, ActsAs}
+use Rattle.linked_hash_map.specs.Pairs.{key_or, find, set_value, set_or_push, set_if_some, ActsAs, put}
 use Rattle.linked_hash_map.specs.Indexes.{IsIndex, pair_at, set_value_at}
+use Rattle.linked_hash_map.specs.declared.map.Mode.{Mode}
+use Rattle.linked_hash_map.specs.declared.map.Mode.TheVariants.{Touch, Keep}
 use Rattle.linked_hash_map.specs.Cursor.{IsOutside, IsOutside-prop}
 use Rattle.linked_hash_map.specs.Entry.{occupied_pair, occupied_key, with_occupied_value}
 use Rattle.linked_hash_map.specs.Validity.{IsValid}
@@ -37,7 +39,7 @@ module _ {K V : Type 0} where
   slice_get-pair_at (pair ∷ pairs) zero within = refl
   slice_get-pair_at (pair ∷ pairs) (suc index) within = slice_get-pair_at pairs index (le_of_suc-le-suc within)
 
-  slice_get-set_value_at : (pairs : List (K × V)) (index : ℕ) (v : V) (pair : K × V) → slice_get pairs index ≡ Some pair → slice_get (set_value_at pairs index v) index ≡ Some (pair.0, v)
+  pub slice_get-set_value_at : (pairs : List (K × V)) (index : ℕ) (v : V) (pair : K × V) → slice_get pairs index ≡ Some pair → slice_get (set_value_at pairs index v) index ≡ Some (pair.0, v)
   slice_get-set_value_at [] index v pair there = absurd (true≢false (sym (ap is_some there)))
   slice_get-set_value_at (first ∷ pairs) zero v pair there = ap (λ p. Some (p.0, v)) (some_injective there)
   slice_get-set_value_at (first ∷ pairs) (suc index) v pair there = slice_get-set_value_at pairs index v pair there
@@ -97,6 +99,11 @@ module _ {K V : Type 0} where
       capacity = room-absent eq m.pairs k v m.capacity none i;
       rechained = rechained_raised m.rechained (length m.pairs) m.capacity (room-absent eq m.pairs k v m.capacity none i);
     }
+
+  -- it is inserted alike, in either mode
+  pub acts_put : {eq : K → K → Bool} {pairs : List (K × V)} {q k : K} → ActsAs eq pairs q k → (mode : Mode) (v : V) → put eq mode pairs q v ≡ put eq mode pairs k v
+  acts_put acts Touch v = acts.moves v
+  acts_put acts Keep v = acts.sets_or_pushes v
 
   -- a key that is the same as one that is present does what that one does
   pub ActsAs-same : {eq : K → K → Bool} → IsEquivalence eq → (pairs : List (K × V)) (q k : K) → eq k q ≡ true → is_some (find eq pairs k) ≡ true → ActsAs eq pairs q k

@@ -1,6 +1,6 @@
 -- The definitions, computed on short logs.
 use Rattle.std.proofs.Common.{◌≡◌, ℕ, ◌%◌, Bool, false, List, [], ◌∷◌, Some, None, nat_eq, refl, arith}
-use Rattle.linked_hash_map.specs.Log.{Log, Put, Write, Refresh, Remove, RemoveAll, Need, Fit, live, stored, value, pair_of, standing_in, standing, pairs, size, high}
+use Rattle.linked_hash_map.specs.Log.{Log, Put, Write, Refresh, Remove, RemoveAll, Need, Fit, mode, live, stored, value, pair_of, standing_in, standing, pairs, size, high}
 use Rattle.linked_hash_map.specs.Pairs.{find, value_at, without, to_back, set_value}
 use Rattle.linked_hash_map.specs.Requests.{Request, Response, effects, next_log, IsLive, IsAbsent, HasValue, HasNoRoom, Answers, IsAllowed}
 use Rattle.linked_hash_map.specs.Requests as spec
@@ -20,15 +20,15 @@ again : Log ℕ ℕ
 again = Put 1 10 ∷ Put 2 20 ∷ Put 1 11 ∷ []
 
 again-standing : standing nat_eq again ≡ 2 ∷ 1 ∷ []
-unfolding again live standing_in standing
+unfolding again mode live standing_in standing
 again-standing = refl
 
 again-pairs : pairs nat_eq again ≡ (2, 20) ∷ (1, 11) ∷ []
-unfolding again live stored value standing_in standing pair_of pairs
+unfolding again mode live stored value standing_in standing pair_of pairs
 again-pairs = refl
 
 again-size : size nat_eq again ≡ 2
-unfolding again live standing_in standing size
+unfolding again mode live standing_in standing size
 again-size = refl
 
 -- insert 1 1, insert 2 2, insert 3 3, remove 2, insert 4 4
@@ -36,15 +36,15 @@ removed : Log ℕ ℕ
 removed = Put 1 1 ∷ Put 2 2 ∷ Put 3 3 ∷ Remove 2 ∷ Put 4 4 ∷ []
 
 removed-live : live (nat_eq 2) removed ≡ false
-unfolding removed live
+unfolding removed mode live
 removed-live = refl
 
 removed-pairs : pairs nat_eq removed ≡ (1, 1) ∷ (3, 3) ∷ (4, 4) ∷ []
-unfolding removed live stored value standing_in standing pair_of pairs
+unfolding removed mode live stored value standing_in standing pair_of pairs
 removed-pairs = refl
 
 removed-high : high nat_eq 0 removed ≡ 3
-unfolding removed live standing_in standing size high
+unfolding removed mode live standing_in standing size high
 removed-high = refl
 
 -- the stored key is that of the first Put, the value that of the last, and a removal ends both
@@ -57,33 +57,33 @@ unfolding same_digit value
 value-last = refl
 
 stored-after_removal : pairs {V = ℕ} same_digit (Put 1 1 ∷ Put 11 2 ∷ Remove 21 ∷ Put 11 3 ∷ []) ≡ (11, 3) ∷ []
-unfolding same_digit live stored value standing_in standing pair_of pairs
+unfolding same_digit mode live stored value standing_in standing pair_of pairs
 stored-after_removal = refl
 
 -- a Write keeps the place, a Refresh moves the pair to the back, a removal of all ends each key
 written-pairs : pairs {V = ℕ} nat_eq (Put 1 10 ∷ Put 2 20 ∷ Write 1 5 ∷ []) ≡ (1, 5) ∷ (2, 20) ∷ []
-unfolding live stored value standing_in standing pair_of pairs
+unfolding mode live stored value standing_in standing pair_of pairs
 written-pairs = refl
 
 refreshed-pairs : pairs {V = ℕ} nat_eq (Put 1 1 ∷ Put 2 2 ∷ Put 3 3 ∷ Refresh 2 ∷ []) ≡ (1, 1) ∷ (3, 3) ∷ (2, 2) ∷ []
-unfolding live stored value standing_in standing pair_of pairs
+unfolding mode live stored value standing_in standing pair_of pairs
 refreshed-pairs = refl
 
 cleared-pairs : pairs {V = ℕ} nat_eq (Put 1 1 ∷ Put 2 2 ∷ RemoveAll ∷ Put 3 3 ∷ []) ≡ (3, 3) ∷ []
-unfolding live stored value standing_in standing pair_of pairs
+unfolding mode live stored value standing_in standing pair_of pairs
 cleared-pairs = refl
 
 -- a Need raises the mark, a Fit brings it down to the size
 needed-high : high {V = ℕ} nat_eq 0 (Need 2 ∷ Put 1 1 ∷ Put 2 2 ∷ Need 3 ∷ Remove 1 ∷ []) ≡ 3
-unfolding live standing_in standing size high
+unfolding mode live standing_in standing size high
 needed-high = refl
 
 fitted-high : high {V = ℕ} nat_eq 9 (Put 1 1 ∷ Put 2 2 ∷ Need 7 ∷ Remove 1 ∷ Fit ∷ []) ≡ 1
-unfolding live standing_in standing size high
+unfolding mode live standing_in standing size high
 fitted-high = refl
 
 after_fit-high : high {V = ℕ} nat_eq 9 (Put 1 1 ∷ Fit ∷ Put 2 2 ∷ Put 3 3 ∷ Remove 3 ∷ []) ≡ 3
-unfolding live standing_in standing size high
+unfolding mode live standing_in standing size high
 after_fit-high = refl
 
 -- single calls on [(1, 10), (2, 20)]
@@ -125,19 +125,19 @@ refused-effects = refl
 
 -- what a log allows: the second pair of an extension at capacity 1 is refused
 stopped-allowed : IsAllowed {V = ℕ} nat_eq 1 [] (spec.Extend ((1, 10) ∷ (1, 11) ∷ (2, 20) ∷ [])) (spec.Stopped 2 2 20)
-unfolding live standing_in standing size high
+unfolding mode live standing_in standing size high
 stopped-allowed = record { answers = (refl, (refl, refl)); limit = omega arith }
 
 drained-allowed : IsAllowed {V = ℕ} nat_eq 0 (Put 1 1 ∷ Put 2 2 ∷ []) spec.Drain (spec.Pairs ((1, 1) ∷ (2, 2) ∷ []))
-unfolding live stored value standing_in standing pair_of pairs size high
+unfolding mode live stored value standing_in standing pair_of pairs size high
 drained-allowed = record { answers = refl; limit = omega arith }
 
 popped-allowed : IsAllowed {V = ℕ} nat_eq 0 (Put 1 1 ∷ Put 2 2 ∷ []) spec.PopBack (spec.Pair 2 2)
-unfolding live stored value standing_in standing pair_of pairs size high
+unfolding mode live stored value standing_in standing pair_of pairs size high
 popped-allowed = record { answers = refl; limit = omega arith }
 
 written_absent-allowed : IsAllowed {V = ℕ} nat_eq 0 [] (spec.Write 9 0) (spec.Absent 9 0)
-unfolding live standing_in standing size high
+unfolding mode live standing_in standing size high
 written_absent-allowed = record { answers = (refl, refl, refl); limit = omega arith }
 
 -- remove 1, insert 1 5, remove 1: the replies and the last log
@@ -152,7 +152,7 @@ replies =
     ∷ []
 
 commands-run : IsRun nat_eq 0 [] commands replies
-unfolding commands replies live value standing_in standing size high
+unfolding commands replies mode live value standing_in standing size high
 commands-run = (
   record { allowed = record { answers = refl; limit = omega arith }; len = refl; capacity = refl },
   (
@@ -162,5 +162,5 @@ commands-run = (
 )
 
 commands-last_log : last_log nat_eq [] commands replies ≡ Put 1 5 ∷ Remove 1 ∷ []
-unfolding commands replies live standing_in standing size
+unfolding commands replies mode live standing_in standing size
 commands-last_log = refl

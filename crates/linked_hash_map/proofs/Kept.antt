@@ -11,6 +11,7 @@ use Rattle.lhm_ring.specs.RingAfterLoan.{revalued, set_held_values}
 use Rattle.lhm_ring.specs.Search.{entries, HasKey, IsAbsent}
 use Rattle.lhm_ring.proofs.Apart.{IsFresh, same_ptr_eq, same_ptr_refl}
 use Rattle.lhm_ring.proofs.Rows.{apart_head, apart_tail}
+use Rattle.linked_hash_map.specs.declared.map.Mode.{Mode}
 use Rattle.linked_hash_map.specs.LinkedMap.{linked_map}
 use Rattle.linked_hash_map.specs.Nodes.{pairs_of, bare, bare_node, before, IsKept}
 use Rattle.linked_hash_map.specs.Indexes.{IsIndex, set_value_at}
@@ -84,8 +85,8 @@ module _ {K V : Type 0} {eq : K → K → Bool} {hash : K → ℕ} {heads : List
   pub distinct_keys : IsDistinct eq (keys_of (pairs_of s.held))
   distinct_keys = subst (IsDistinct eq) (keys-bare s.held) kept.nodes.distinct
 
-  pub IsValid-view : {S : Type 0} (hasher : S) (bookmark unvisited index count : ℕ) → IsValid eq (linked_map (pairs_of s.held) (length s.held + s.spares) hasher bookmark unvisited index count)
-  IsValid-view hasher bookmark unvisited index count =
+  pub IsValid-view : {S : Type 0} (hasher : S) (bookmark unvisited index count : ℕ) (mode : Mode) → IsValid eq (linked_map (pairs_of s.held) (length s.held + s.spares) hasher bookmark unvisited index count mode)
+  IsValid-view hasher bookmark unvisited index count mode =
       let of_bare = length-bare s.held in
       let of_pairs = length-pairs_of s.held in
       record { distinct = distinct_keys; within = omega (arith, of_pairs); limit = omega (arith, of_bare, kept.nodes.limit) }

@@ -46,8 +46,10 @@ use Rattle.linked_hash_map.specs.Hashers.{hash_by}
 use Rattle.linked_hash_map.specs.Pairs.{set_values}
 use Rattle.linked_hash_map.specs.Validity.{IsValid}
 use Rattle.linked_hash_map.specs.contracts.map.LinkedHashMap as M-type
+use Rattle.linked_hash_map.specs.contracts.map.Mode as O-type
 use Rattle.linked_hash_map.specs.contracts.map.LinkedHashMap.TheInside as I-type
 use Rattle.linked_hash_map.proofs.Kept.{IsValid-view, bare-values, length-same}
+use Rattle.linked_hash_map.proofs.map.Mode.TheLaws as O-laws
 
 -- the pairs of nodes, and their values
 module _ {K V : Type 0} where
@@ -88,8 +90,11 @@ module _ (K₀ V₀ S₀ H₀ : RattleType) (g : eq.Ghosts K₀.Denot) (h : hash
   abbrev pub Mark : RattleType
   Mark = option.the_row (P-type.the_row K V)
 
+  abbrev pub Setting : RattleType
+  Setting = O-type.the_row
+
   abbrev pub ms : List Member
-  ms = record { row = Rg; ty = lone Rg.mir } ∷ record { row = Index; ty = lone Index.mir } ∷ record { row = S; ty = lone S.mir } ∷ record { row = Mark; ty = lone Mark.mir } ∷ record { row = usize; ty = lone usize.mir } ∷ record { row = Mark; ty = lone Mark.mir } ∷ record { row = usize; ty = lone usize.mir } ∷ []
+  ms = record { row = Rg; ty = lone Rg.mir } ∷ record { row = Index; ty = lone Index.mir } ∷ record { row = S; ty = lone S.mir } ∷ record { row = Mark; ty = lone Mark.mir } ∷ record { row = usize; ty = lone usize.mir } ∷ record { row = Mark; ty = lone Mark.mir } ∷ record { row = usize; ty = lone usize.mir } ∷ record { row = Setting; ty = lone Setting.mir } ∷ []
 
   abbrev pub Seen : Type 0
   Seen = LinkedMap K.Denot V.Denot S.Denot
@@ -106,17 +111,17 @@ module _ (K₀ V₀ S₀ H₀ : RattleType) (g : eq.Ghosts K₀.Denot) (h : hash
 
   module _ {M : Type 1} {𝓤 : Ura M} (𝓛 : Logic 𝓤) (i : Whole.Denot) (rb ro : ℕ) where
     abbrev pub Rest : SProp 𝓤
-    Rest = sep 𝓤 (sem 𝓛 (rest_at full_share ms 0 (i.ring, (i.index, (i.hasher, (i.mark, (i.unvisited, (i.current, (i.rechained, tt))))))) rb ro 0)) (PartsBack 𝓛 full_share [] ms rb ro)
+    Rest = sep 𝓤 (sem 𝓛 (rest_at full_share ms 0 (i.ring, (i.index, (i.hasher, (i.mark, (i.unvisited, (i.current, (i.rechained, (i.mode, tt)))))))) rb ro 0)) (PartsBack 𝓛 full_share [] ms rb ro)
 
     pub field_of : Laws K₀ → Laws V₀ → Laws S₀ → ent 𝓤 (sem 𝓛 (part_at Whole full_share i rb ro)) (sep 𝓤 (sem 𝓛 (part_at Rg full_share i.ring rb (field_at ro))) Rest)
     unfolding part_of
     field_of KL VL SL = let LK = param_laws 0 K₀ KL in let LV = param_laws 1 V₀ VL in let LS = param_laws 2 S₀ SL in let LM = option_laws (P-type.the_row K V) (P-laws.the_row_laws K V LK LV) in
-        field_out 𝓛 full_share [] ms ((R-laws.the_row_laws K V LK LV).lawful 𝓛, ((N-laws.the_row_laws K V LK LV).lawful 𝓛, (LS.lawful 𝓛, (LM.lawful 𝓛, (usize-laws.lawful 𝓛, (LM.lawful 𝓛, (usize-laws.lawful 𝓛, tt)))))))
-        (i.ring, (i.index, (i.hasher, (i.mark, (i.unvisited, (i.current, (i.rechained, tt))))))) rb ro 0
+        field_out 𝓛 full_share [] ms ((R-laws.the_row_laws K V LK LV).lawful 𝓛, ((N-laws.the_row_laws K V LK LV).lawful 𝓛, (LS.lawful 𝓛, (LM.lawful 𝓛, (usize-laws.lawful 𝓛, (LM.lawful 𝓛, (usize-laws.lawful 𝓛, (O-laws.the_row_laws.lawful 𝓛, tt))))))))
+        (i.ring, (i.index, (i.hasher, (i.mark, (i.unvisited, (i.current, (i.rechained, (i.mode, tt)))))))) rb ro 0
 
     of_field : (d : State (K.Denot × V.Denot)) → ent 𝓤 (sep 𝓤 (sem 𝓛 (part_at Rg full_share d rb (field_at ro))) Rest) (sem 𝓛 (part_at Whole full_share (record i { ring = d }) rb ro))
     unfolding part_of
-    of_field d = field_back 𝓛 full_share [] ms (d, (i.index, (i.hasher, (i.mark, (i.unvisited, (i.current, (i.rechained, tt))))))) rb ro 0
+    of_field d = field_back 𝓛 full_share [] ms (d, (i.index, (i.hasher, (i.mark, (i.unvisited, (i.current, (i.rechained, (i.mode, tt)))))))) rb ro 0
 
     module _ (dm : Seen) (seen : view i ≡ dm) (ok : good i) (a : ring.Inside K V) (rseen : ring.view K V a ≡ i.ring) (rok : ring.good K V a) where
       abbrev pub hs : List (Held (K.Denot × V.Denot))
@@ -152,7 +157,7 @@ module _ (K₀ V₀ S₀ H₀ : RattleType) (g : eq.Ghosts K₀.Denot) (h : hash
 
         viewed : view (record i { ring = after }) ≡ record dm { pairs = set_values dm.pairs vs }
         viewed =
-            (λ j. linked_map (pairs_of-set_held_values hs vs j) (length-same after.held hs same_bare j + i.ring.spares) i.hasher (bookmark_at (place_of_some i.mark) (same_bare j)) i.unvisited (current_at (place_of_some i.current) (same_bare j)) i.rechained)
+            (λ j. linked_map (pairs_of-set_held_values hs vs j) (length-same after.held hs same_bare j + i.ring.spares) i.hasher (bookmark_at (place_of_some i.mark) (same_bare j)) i.unvisited (current_at (place_of_some i.current) (same_bare j)) i.rechained i.mode)
             ∙ ap (λ (m : Seen). record m { pairs = set_values m.pairs vs }) seen
 
         still_good : good (record i { ring = after })
@@ -173,7 +178,7 @@ module _ (K₀ V₀ S₀ H₀ : RattleType) (g : eq.Ghosts K₀.Denot) (h : hash
 
       -- the values ws of the entries, as a map would list them
       abbrev pub named : List V.Denot → Seen
-      named ws = linked_map (pairs_of (ring.ordered K V 𝓛 a i.ring rseen rok rb (field_at ro) ws)) 0 i.hasher 0 0 0 0
+      named ws = linked_map (pairs_of (ring.ordered K V 𝓛 a i.ring rseen rok rb (field_at ro) ws)) 0 i.hasher 0 0 0 0 i.mode
 
       pub named_back : (ws : List V.Denot) → ent 𝓤 (sep 𝓤 (sem 𝓛 (spread V ps ws)) (emp 𝓤)) (sem 𝓛 (spread V ps (placed (values_of (named ws).pairs))))
       named_back ws = subst (λ vs. ent 𝓤 (sep 𝓤 (sem 𝓛 (spread V ps ws)) (emp 𝓤)) (sem 𝓛 (spread V ps (placed vs)))) (sym (values-pairs_of (ring.ordered K V 𝓛 a i.ring rseen rok rb (field_at ro) ws)))
@@ -183,4 +188,4 @@ module _ (K₀ V₀ S₀ H₀ : RattleType) (g : eq.Ghosts K₀.Denot) (h : hash
       pairs_are = ap (λ (m : Seen). m.pairs) seen
 
       pub valid : IsValid g.eq dm
-      valid = subst (IsValid g.eq) seen (IsValid-view ok i.hasher (bookmark_at (place_of_some i.mark) (bare hs)) i.unvisited (current_at (place_of_some i.current) (bare hs)) i.rechained)
+      valid = subst (IsValid g.eq) seen (IsValid-view ok i.hasher (bookmark_at (place_of_some i.mark) (bare hs)) i.unvisited (current_at (place_of_some i.current) (bare hs)) i.rechained i.mode)

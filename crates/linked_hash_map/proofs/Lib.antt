@@ -29,3 +29,4 @@ pub mod Standing
 pub mod Stretches
 pub mod TakenNode
 mod Walks
+mod WithoutModes

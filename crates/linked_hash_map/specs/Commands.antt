@@ -1,10 +1,11 @@
 -- What commands answer and leave where nothing is refused, in the words of single calls.
 use Rattle.std.specs.Prelude.{◌≡◌, ℕ, ◌+◌, ◌-◌, max, Bool, true, false, cond, nat_lt, List, [], ◌∷◌, take, drop, length, slice_get, Option, Some, None, is_some}
 use Rattle.linked_hash_map.specs.declared.map.TheConstants.{LIMIT}
-use Rattle.linked_hash_map.specs.Pairs.{find, value_at, without, to_back, set_value}
+use Rattle.linked_hash_map.specs.declared.map.Mode.{Mode}
+use Rattle.linked_hash_map.specs.Pairs.{find, value_at, without, to_back, set_value, put}
 use Rattle.linked_hash_map.specs.Inserts.{insert_each}
 use Rattle.linked_hash_map.specs.declared.replay.Command.{Command}
-use Rattle.linked_hash_map.specs.declared.replay.Command.TheVariants.{Insert, Write, Refresh, Remove, PopFront, PopBack, Clear, Drain, Extend, OrInsert, EntryInsert, EntryRemove, Reserve, Shrink}
+use Rattle.linked_hash_map.specs.declared.replay.Command.TheVariants.{Insert, Write, Refresh, Remove, PopFront, PopBack, Clear, Drain, Extend, OrInsert, EntryInsert, EntryRemove, Reserve, Shrink, SetMode}
 use Rattle.linked_hash_map.specs.declared.replay.Answer.{Answer}
 use Rattle.linked_hash_map.specs.declared.replay.Answer.TheVariants.{New, Old, Found, Missing, Absent, Refused, Pair, Empty, Pairs, Stopped, Done, TooLarge, NoRoom}
 use Rattle.linked_hash_map.specs.declared.replay.Reply.{Reply}
@@ -16,6 +17,15 @@ module _ {K V : Type 0} where
   is_refusal (Stopped n k v) = true
   is_refusal NoRoom = true
   is_refusal _ = false
+
+  -- the mode after a command, and after commands in turn
+  abbrev pub mode_after : Mode → Command K V → Mode
+  mode_after mode (SetMode m) = m
+  mode_after mode _ = mode
+
+  abbrev pub mode_after_all : Mode → List (Command K V) → Mode
+  mode_after_all mode [] = mode
+  mode_after_all mode (command ∷ commands) = mode_after_all (mode_after mode command) commands
 
   -- the old value where there is one, and the pair where there is one
   abbrev pub old_or : Answer K V → Option V → Answer K V
@@ -31,10 +41,10 @@ pub record FindsNoRoom {K V : Type 0} (eq : K → K → Bool) (pairs : List (K �
   pub absent : find eq pairs k ≡ None
   pub full : length pairs ≡ capacity
 
--- an extension stops: the first n items went in, and the next, of k and v, found no room
-pub record StopsAt {K V : Type 0} (eq : K → K → Bool) (pairs : List (K × V)) (capacity : ℕ) (items : List (K × V)) (n : ℕ) (k : K) (v : V) : Type 0 where
+-- an extension in a mode stops: the first n items went in, and the next, of k and v, found no room
+pub record StopsAt {K V : Type 0} (eq : K → K → Bool) (mode : Mode) (pairs : List (K × V)) (capacity : ℕ) (items : List (K × V)) (n : ℕ) (k : K) (v : V) : Type 0 where
   pub next : slice_get items n ≡ Some (k, v)
-  pub refused : FindsNoRoom eq (insert_each eq pairs (take n items)) (max capacity (length (insert_each eq pairs (take n items)))) k
+  pub refused : FindsNoRoom eq (insert_each eq mode pairs (take n items)) (max capacity (length (insert_each eq mode pairs (take n items)))) k
 
 module _ {K V : Type 0} (eq : K → K → Bool) where
   -- the pairs, with that of k at the back where there is a value for it
@@ -58,52 +68,55 @@ module _ {K V : Type 0} (eq : K → K → Bool) where
   answer_to pairs (EntryRemove k) = old_or Missing (value_at eq pairs k)
   answer_to pairs (Reserve additional) = cond (nat_lt LIMIT (length pairs + additional)) TooLarge Done
   answer_to pairs Shrink = Done
+  answer_to pairs (SetMode m) = Done
 
-  -- the pairs after it
-  abbrev pub pairs_after : List (K × V) → Command K V → List (K × V)
-  pairs_after pairs (Insert k v) = to_back eq pairs k v
-  pairs_after pairs (Write k v) = set_value eq pairs k v
-  pairs_after pairs (Refresh k) = to_back_if_some pairs k (value_at eq pairs k)
-  pairs_after pairs (Remove k) = without eq pairs k
-  pairs_after pairs PopFront = drop 1 pairs
-  pairs_after pairs PopBack = take (length pairs - 1) pairs
-  pairs_after pairs Clear = []
-  pairs_after pairs Drain = []
-  pairs_after pairs (Extend items) = insert_each eq pairs items
-  pairs_after pairs (OrInsert k v) = cond (is_some (find eq pairs k)) pairs (to_back eq pairs k v)
-  pairs_after pairs (EntryInsert k v) = to_back eq pairs k v
-  pairs_after pairs (EntryRemove k) = without eq pairs k
-  pairs_after pairs (Reserve additional) = pairs
-  pairs_after pairs Shrink = pairs
+  -- the pairs after it, in a mode
+  abbrev pub pairs_after : Mode → List (K × V) → Command K V → List (K × V)
+  pairs_after mode pairs (Insert k v) = put eq mode pairs k v
+  pairs_after mode pairs (Write k v) = set_value eq pairs k v
+  pairs_after mode pairs (Refresh k) = to_back_if_some pairs k (value_at eq pairs k)
+  pairs_after mode pairs (Remove k) = without eq pairs k
+  pairs_after mode pairs PopFront = drop 1 pairs
+  pairs_after mode pairs PopBack = take (length pairs - 1) pairs
+  pairs_after mode pairs Clear = []
+  pairs_after mode pairs Drain = []
+  pairs_after mode pairs (Extend items) = insert_each eq mode pairs items
+  pairs_after mode pairs (OrInsert k v) = cond (is_some (find eq pairs k)) pairs (to_back eq pairs k v)
+  pairs_after mode pairs (EntryInsert k v) = put eq mode pairs k v
+  pairs_after mode pairs (EntryRemove k) = without eq pairs k
+  pairs_after mode pairs (Reserve additional) = pairs
+  pairs_after mode pairs Shrink = pairs
+  pairs_after mode pairs (SetMode m) = pairs
 
   -- and the capacity
-  abbrev pub capacity_after : ℕ → List (K × V) → Command K V → ℕ
-  capacity_after capacity pairs (Insert k v) = max capacity (length (to_back eq pairs k v))
-  capacity_after capacity pairs (Extend items) = max capacity (length (insert_each eq pairs items))
-  capacity_after capacity pairs (OrInsert k v) = max capacity (length (cond (is_some (find eq pairs k)) pairs (to_back eq pairs k v)))
-  capacity_after capacity pairs (EntryInsert k v) = max capacity (length (to_back eq pairs k v))
-  capacity_after capacity pairs (Reserve additional) = cond (nat_lt LIMIT (length pairs + additional)) capacity (max capacity (length pairs + additional))
-  capacity_after capacity pairs Shrink = length pairs
-  capacity_after capacity pairs _ = capacity
+  abbrev pub capacity_after : Mode → ℕ → List (K × V) → Command K V → ℕ
+  capacity_after mode capacity pairs (Insert k v) = max capacity (length (put eq mode pairs k v))
+  capacity_after mode capacity pairs (Extend items) = max capacity (length (insert_each eq mode pairs items))
+  capacity_after mode capacity pairs (OrInsert k v) = max capacity (length (cond (is_some (find eq pairs k)) pairs (to_back eq pairs k v)))
+  capacity_after mode capacity pairs (EntryInsert k v) = max capacity (length (put eq mode pairs k v))
+  capacity_after mode capacity pairs (Reserve additional) = cond (nat_lt LIMIT (length pairs + additional)) capacity (max capacity (length pairs + additional))
+  capacity_after mode capacity pairs Shrink = length pairs
+  capacity_after mode capacity pairs _ = capacity
 
   -- the reply to it
-  abbrev pub reply_to : ℕ → List (K × V) → Command K V → Reply K V
-  reply_to capacity pairs command = record {
+  abbrev pub reply_to : Mode → ℕ → List (K × V) → Command K V → Reply K V
+  reply_to mode capacity pairs command = record {
     answer = answer_to pairs command;
-    len = length (pairs_after pairs command);
-    capacity = capacity_after capacity pairs command;
+    len = length (pairs_after mode pairs command);
+    capacity = capacity_after mode capacity pairs command;
   }
 
   -- after commands in turn: the replies, the pairs and the capacity
-  abbrev pub replies_to : ℕ → List (K × V) → List (Command K V) → List (Reply K V)
-  replies_to capacity pairs [] = []
-  replies_to capacity pairs (command ∷ commands) =
-      reply_to capacity pairs command ∷ replies_to (capacity_after capacity pairs command) (pairs_after pairs command) commands
+  abbrev pub replies_to : Mode → ℕ → List (K × V) → List (Command K V) → List (Reply K V)
+  replies_to mode capacity pairs [] = []
+  replies_to mode capacity pairs (command ∷ commands) =
+      reply_to mode capacity pairs command ∷ replies_to (mode_after mode command) (capacity_after mode capacity pairs command) (pairs_after mode pairs command) commands
 
-  abbrev pub pairs_after_all : List (K × V) → List (Command K V) → List (K × V)
-  pairs_after_all pairs [] = pairs
-  pairs_after_all pairs (command ∷ commands) = pairs_after_all (pairs_after pairs command) commands
+  abbrev pub pairs_after_all : Mode → List (K × V) → List (Command K V) → List (K × V)
+  pairs_after_all mode pairs [] = pairs
+  pairs_after_all mode pairs (command ∷ commands) = pairs_after_all (mode_after mode command) (pairs_after mode pairs command) commands
 
-  abbrev pub capacity_after_all : ℕ → List (K × V) → List (Command K V) → ℕ
-  capacity_after_all capacity pairs [] = capacity
-  capacity_after_all capacity pairs (command ∷ commands) = capacity_after_all (capacity_after capacity pairs command) (pairs_after pairs command) commands
+  abbrev pub capacity_after_all : Mode → ℕ → List (K × V) → List (Command K V) → ℕ
+  capacity_after_all mode capacity pairs [] = capacity
+  capacity_after_all mode capacity pairs (command ∷ commands) =
+      capacity_after_all (mode_after mode command) (capacity_after mode capacity pairs command) (pairs_after mode pairs command) commands

@@ -22,7 +22,7 @@ pair_at (pair ∷ pairs) zero within = pair
 pair_at (pair ∷ pairs) (suc index) within = pair_at pairs index (le_of_suc-le-suc within)
 
 -- an index within stays so once a value is set
-length-set_value_at : {K V : Type 0} (pairs : List (K × V)) (index : ℕ) (v : V) → length (set_value_at pairs index v) ≡ length pairs
+pub length-set_value_at : {K V : Type 0} (pairs : List (K × V)) (index : ℕ) (v : V) → length (set_value_at pairs index v) ≡ length pairs
 length-set_value_at [] index v = refl
 length-set_value_at (pair ∷ pairs) zero v = refl
 length-set_value_at (pair ∷ pairs) (suc index) v = ap suc (length-set_value_at pairs index v)

@@ -3,13 +3,15 @@ use Rattle.std.specs.Prelude.{◌≡◌, ℕ, ◌-◌, ◌≤◌, max, Bool, Lis
 use Rattle.std.specs.Iterator.{Count, Drains, YieldsThen}
 use Rattle.std.specs.Iterator.SizeHint.{IsWithinCount}
 use Rattle.linked_hash_map.specs.Counts.{rechained_each}
-use Rattle.linked_hash_map.specs.Pairs.{to_back}
 use Rattle.linked_hash_map.specs.declared.map.TheConstants.{LIMIT}
+use Rattle.linked_hash_map.specs.Pairs.{put}
+use Rattle.linked_hash_map.specs.declared.map.Mode.{Mode}
+use Rattle.linked_hash_map.specs.declared.map.Mode.TheVariants.{Touch}
 
--- the pairs once the items went in one by one
-abbrev pub insert_each : {K V : Type 0} → (K → K → Bool) → List (K × V) → List (K × V) → List (K × V)
-insert_each eq pairs [] = pairs
-insert_each eq pairs (item ∷ items) = insert_each eq (to_back eq pairs item.0 item.1) items
+-- the pairs once the items went in one by one, in a mode
+abbrev pub insert_each : {K V : Type 0} → (K → K → Bool) → Mode → List (K × V) → List (K × V) → List (K × V)
+insert_each eq mode pairs [] = pairs
+insert_each eq mode pairs (item ∷ items) = insert_each eq mode (put eq mode pairs item.0 item.1) items
 
 -- given what becomes an iterator, and the steps of that iterator
 module _ {T I X : Type 0} (becomes : T → I → Type 0) (steps : I → Option X → I → Type 0) (source : T) where
@@ -46,24 +48,24 @@ module _ {T I X : Type 0} (becomes : T → I → Type 0) (steps : I → Option X
 
   -- and what pair an item shows
   module _ {K V : Type 0} (eq : K → K → Bool) (shows : X → K × V) where
-    -- all items that it gives went in one by one
-    pub record InsertsAll (old new : List (K × V)) : Type 0 where
+    -- all items that it gives went in one by one, in a mode
+    pub record InsertsAll (mode : Mode) (old new : List (K × V)) : Type 0 where
       pub given : List X
       pub gives : GivesAll given
-      pub pairs : new ≡ insert_each eq old (map shows given)
+      pub pairs : new ≡ insert_each eq mode old (map shows given)
 
-    -- items that it gives went in one by one, up to one that shows this key and this value
-    pub record InsertsUntil (old new : List (K × V)) (key : K) (value : V) : Type 0 where
+    -- items that it gives went in one by one, in a mode, up to one that shows this key and this value
+    pub record InsertsUntil (mode : Mode) (old new : List (K × V)) (key : K) (value : V) : Type 0 where
       pub given : List X
       pub item : X
       pub gives : GivesThen given item
       pub shown : shows item ≡ (key, value)
-      pub pairs : new ≡ insert_each eq old (map shows given)
+      pub pairs : new ≡ insert_each eq mode old (map shows given)
 
     -- all items that it gives went into an empty map, and the capacity is the larger of what it hints at and the number of pairs
     pub record Collects (remaining : I → Count) (pairs : List (K × V)) (capacity : ℕ) : Type 0 where
       pub lower : ℕ
       pub hint : HintsAt remaining lower
       pub limit : lower ≤ LIMIT
-      pub inserts : InsertsAll [] pairs
+      pub inserts : InsertsAll Touch [] pairs
       pub room : capacity ≡ max lower (length pairs)

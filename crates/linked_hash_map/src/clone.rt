@@ -43,6 +43,7 @@ impl<K: Eq + Hash + Clone, V: Clone, S: BuildHasher + Clone> Clone for LinkedHas
                 return Err(AllocError);
             };
         }
+        map.set_mode(self.mode());
         Ok(map)
     }
 }

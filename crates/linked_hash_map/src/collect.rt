@@ -8,7 +8,7 @@ ghost use Rattle.linked_hash_map.specs.Counts.{rechained_each};
 ghost use Rattle.linked_hash_map.specs.Inserts.{GivesSome, HintsAt, InsertsAll, InsertsUntil, Collects, RaisesFromHint};
 
 use crate::error::{Refused, ReserveError};
-use crate::map::{LIMIT, LinkedHashMap};
+use crate::map::{LIMIT, LinkedHashMap, Mode};
 use std::alloc::Global;
 use std::hash::{BuildHasher, Hash};
 
@@ -35,15 +35,16 @@ impl<K: Eq + Hash, V, S: BuildHasher> LinkedHashMap<K, V, S> {
         V: Drop,
         I::IntoIter: Drop,
         requires ends { IsFiniteIterable I.into_iter_gives I.IntoIter.can_next I.IntoIter.remaining items }
-        ensures all { OnOk result (InsertsAll I.into_iter_gives I.IntoIter.next_gives items K.eq (λ pair. pair) self.old.pairs self.new.pairs) }
+        ensures all { OnOk result (InsertsAll I.into_iter_gives I.IntoIter.next_gives items K.eq (λ pair. pair) self.old.mode self.old.pairs self.new.pairs) }
         ensures capacity { self.new.capacity ≡ max self.old.capacity (length self.new.pairs) }
         ensures rechained { self.new.rechained
             ≡ rechained_each self.old.rechained self.old.capacity (self.new.capacity - self.old.capacity) }
         ensures hasher { self.new.hasher ≡ self.old.hasher }
+        ensures mode { self.new.mode ≡ self.old.mode }
         ensures valid { IsValid K.eq self.old }
         ensures stays_valid { IsValid K.eq self.new }
 
-        ensures stopped { IfErr result (λ refused. InsertsUntil I.into_iter_gives I.IntoIter.next_gives items K.eq (λ pair. pair) self.old.pairs self.new.pairs refused.key refused.value) }
+        ensures stopped { IfErr result (λ refused. InsertsUntil I.into_iter_gives I.IntoIter.next_gives items K.eq (λ pair. pair) self.old.mode self.old.pairs self.new.pairs refused.key refused.value) }
         ensures absent { IfErr result (λ refused. find K.eq self.new.pairs refused.key ≡ None) }
         ensures full { OnErr result (length self.new.pairs ≡ self.new.capacity) }
     {
@@ -80,15 +81,16 @@ impl<K: Eq + Hash, V, S: BuildHasher> LinkedHashMap<K, V, S> {
         V: Copy + 'a,
         I::IntoIter: Drop,
         requires ends { IsFiniteIterable I.into_iter_gives I.IntoIter.can_next I.IntoIter.remaining items }
-        ensures all { OnOk result (InsertsAll I.into_iter_gives I.IntoIter.next_gives items K.eq deref_pair self.old.pairs self.new.pairs) }
+        ensures all { OnOk result (InsertsAll I.into_iter_gives I.IntoIter.next_gives items K.eq deref_pair self.old.mode self.old.pairs self.new.pairs) }
         ensures capacity { self.new.capacity ≡ max self.old.capacity (length self.new.pairs) }
         ensures rechained { self.new.rechained
             ≡ rechained_each self.old.rechained self.old.capacity (self.new.capacity - self.old.capacity) }
         ensures hasher { self.new.hasher ≡ self.old.hasher }
+        ensures mode { self.new.mode ≡ self.old.mode }
         ensures valid { IsValid K.eq self.old }
         ensures stays_valid { IsValid K.eq self.new }
 
-        ensures stopped { IfErr result (λ refused. InsertsUntil I.into_iter_gives I.IntoIter.next_gives items K.eq deref_pair self.old.pairs self.new.pairs refused.key refused.value) }
+        ensures stopped { IfErr result (λ refused. InsertsUntil I.into_iter_gives I.IntoIter.next_gives items K.eq deref_pair self.old.mode self.old.pairs self.new.pairs refused.key refused.value) }
         ensures absent { IfErr result (λ refused. find K.eq self.new.pairs refused.key ≡ None) }
         ensures full { OnErr result (length self.new.pairs ≡ self.new.capacity) }
     {
@@ -132,6 +134,7 @@ impl<K: Eq + Hash, V, S: BuildHasher> LinkedHashMap<K, V, S> {
         ensures all { IfOk result (λ map. Collects I.into_iter_gives I.IntoIter.next_gives items K.eq (λ pair. pair) I.IntoIter.remaining map.pairs map.capacity) }
         ensures rechained { IfOk result (λ map. RaisesFromHint I.into_iter_gives I.IntoIter.next_gives items I.IntoIter.remaining map.capacity map.rechained) }
         ensures hasher { IfOk result (λ map. S.is_default map.hasher) }
+        ensures mode { IfOk result (λ map. map.mode ≡ Mode.Touch) }
         ensures valid { IfOk result (IsValid K.eq) }
 
         ensures too_large { IsErrOf result ReserveError.TooLarge → (lower : ℕ)

@@ -60,4 +60,4 @@ pub use entry::{Entries, Entry, OccupiedEntry, VacantEntry};
 pub use error::{NoRoom, Refused, ReserveError};
 pub use iter::{IntoIter, Iter, IterMut, Keys, Values};
 pub use lhm_ring::index::Probe;
-pub use map::{DefaultHashBuilder, LIMIT, LinkedHashMap};
+pub use map::{DefaultHashBuilder, LIMIT, LinkedHashMap, Mode};

@@ -8,7 +8,7 @@ ghost use Rattle.std.specs.Map.{keys_of, values_of};
 ghost use Rattle.std.specs.Map.Iter.{deref, deref_pair, ShowsInOrder, ShowsInReverse, LendsValuesInOrder, LendsValuesInReverse};
 ghost use Rattle.std.specs.Borrow.{sem};
 ghost use Rattle.std.specs.Option.{option_copied_mut};
-ghost use Rattle.linked_hash_map.specs.Pairs.{find, value_at, without, to_back, first, last, without_first, without_last, KeysStand};
+ghost use Rattle.linked_hash_map.specs.Pairs.{find, value_at, without, put, first, last, without_first, without_last, KeysStand};
 ghost use Rattle.linked_hash_map.specs.Validity.{IsValid};
 ghost use Rattle.linked_hash_map.specs.Hashers.{IsDefaultHashBuilder};
 ghost use Rattle.linked_hash_map.specs.Hashers.{hash_by};
@@ -58,10 +58,37 @@ pub const LIMIT: usize = 576460752303423488;
 /// ```
 pub type DefaultHashBuilder = BuildHasherDefault<FoldHasher>;
 
+/// What an insertion does to the place of a pair whose key is present.
+///
+/// [`LinkedHashMap::set_mode`] sets the mode of a map and [`LinkedHashMap::mode`] tells it. Every map starts in `Touch`, but a clone
+/// has the mode of its source. The original has no modes: its maps do what those in `Touch` do.
+///
+/// # Examples
+///
+/// ```rust
+/// use linked_hash_map::{LinkedHashMap, Mode};
+///
+/// let mut map = LinkedHashMap::new(rt.alloc());
+/// map.insert('x', 1)?;
+/// map.insert('y', 2)?;
+/// assert_eq!(rt; map.mode(), Mode::Touch);
+/// map.set_mode(Mode::Keep);
+/// assert_eq!(rt; map.insert('x', 3)?, Some(1));
+/// assert_eq!(rt; map.front(), Some((&'x', &3)));
+/// ```
+#[derive(Clone, Copy, Debug, PartialEq)]
+pub enum Mode {
+    /// It moves the pair to the back.
+    Touch,
+    /// It leaves the pair in its place.
+    Keep,
+}
+
 /// A hash map that keeps its pairs in insertion order.
 ///
-/// A new key goes to the back; inserting a key that is present moves its pair to the back. Every call keeps the map valid:
-/// its keys are pairwise different, and its length is within its capacity, which is within [`LIMIT`].
+/// A new key goes to the back; inserting a key that is present moves its pair to the back, but in [`Mode::Keep`] leaves it in its
+/// place. Every call keeps the map valid: its keys are pairwise different, and its length is within its capacity, which is within
+/// [`LIMIT`].
 ///
 /// Costs are named in steps, each of which reaches, moves or drops one pair. A look-up hashes its key once and goes along the
 /// chain of the key's bucket, a step for each pair that it reaches, and compares keys only where their numbers agree:
@@ -99,10 +126,12 @@ pub struct LinkedHashMap<K: Eq + Hash, V, S: BuildHasher = DefaultHashBuilder> {
     current: Option<Position<K, V>>,
     // How many nodes changes of the capacity have chained again.
     rechained: usize,
+    // What an insertion of a present key does to the place of its pair.
+    mode: Mode,
 }
 
-/// A contract sees a map as its pairs from the oldest place to the newest, its capacity, its hasher, and what a cursor has
-/// still to visit.
+/// A contract sees a map as its pairs from the oldest place to the newest, its capacity, its hasher, its mode, and what a cursor
+/// has still to visit.
 impl<K: Eq + Hash, V, S: BuildHasher> Model for LinkedHashMap<K, V, S> {
     ghost use Rattle.std.specs.Prelude.{◌+◌, length};
     ghost use Rattle.linked_hash_map.specs.LinkedMap.{LinkedMap, linked_map, linked_map_code};
@@ -114,7 +143,7 @@ impl<K: Eq + Hash, V, S: BuildHasher> Model for LinkedHashMap<K, V, S> {
 
     ghost coded = { linked_map_code K.code V.code S.code };
 
-    ghost view = { λ m. linked_map (pairs_of m.ring.held) (length m.ring.held + m.ring.spares) m.hasher (bookmark_at (place_of_some m.mark) (bare m.ring.held)) m.unvisited (current_at (place_of_some m.current) (bare m.ring.held)) m.rechained };
+    ghost view = { λ m. linked_map (pairs_of m.ring.held) (length m.ring.held + m.ring.spares) m.hasher (bookmark_at (place_of_some m.mark) (bare m.ring.held)) m.unvisited (current_at (place_of_some m.current) (bare m.ring.held)) m.rechained m.mode };
 
     ghost invariant = { λ m. IsKept K.eq (hash_by S.Hasher.finish S.Hasher.write S.build_hasher K.hash_input m.hasher) m.index m.ring (place_of_some m.mark) m.unvisited (place_of_some m.current) m.rechained };
 }
@@ -134,6 +163,7 @@ impl<K: Eq + Hash, V> LinkedHashMap<K, V> {
         ensures pairs { result.pairs ≡ [] }
         ensures capacity { result.capacity ≡ 0 }
         ensures hasher { IsDefaultHashBuilder result.hasher }
+        ensures mode { result.mode ≡ Mode.Touch }
         ensures valid { IsValid K.eq result }
         ensures rechained { result.rechained ≡ 0 }
     {
@@ -156,6 +186,7 @@ impl<K: Eq + Hash, V> LinkedHashMap<K, V> {
         ensures pairs { IfOk result (λ map. map.pairs ≡ []) }
         ensures capacity { IfOk result (λ map. map.capacity ≡ capacity) }
         ensures hasher { IfOk result (λ map. IsDefaultHashBuilder map.hasher) }
+        ensures mode { IfOk result (λ map. map.mode ≡ Mode.Touch) }
         ensures valid { IfOk result (IsValid K.eq) }
         ensures rechained { IfOk result (λ map. map.rechained ≡ 0) }
 
@@ -191,6 +222,7 @@ impl<K: Eq + Hash, V, S: BuildHasher> LinkedHashMap<K, V, S> {
         ensures pairs { result.pairs ≡ [] }
         ensures capacity { result.capacity ≡ 0 }
         ensures hasher { result.hasher ≡ hasher }
+        ensures mode { result.mode ≡ Mode.Touch }
         ensures valid { IsValid K.eq result }
         ensures rechained { result.rechained ≡ 0 }
     {
@@ -202,6 +234,7 @@ impl<K: Eq + Hash, V, S: BuildHasher> LinkedHashMap<K, V, S> {
             unvisited: 0,
             current: None,
             rechained: 0,
+            mode: Mode::Touch,
         }
     }
 
@@ -232,6 +265,7 @@ impl<K: Eq + Hash, V, S: BuildHasher> LinkedHashMap<K, V, S> {
         ensures pairs { IfOk result (λ map. map.pairs ≡ []) }
         ensures capacity { IfOk result (λ map. map.capacity ≡ capacity) }
         ensures hasher { IfOk result (λ map. map.hasher ≡ hasher) }
+        ensures mode { IfOk result (λ map. map.mode ≡ Mode.Touch) }
         ensures valid { IfOk result (IsValid K.eq) }
         ensures rechained { IfOk result (λ map. map.rechained ≡ 0) }
 
@@ -256,6 +290,7 @@ impl<K: Eq + Hash, V, S: BuildHasher> LinkedHashMap<K, V, S> {
             unvisited: 0,
             current: None,
             rechained: 0,
+            mode: Mode::Touch,
         })
     }
 
@@ -278,6 +313,7 @@ impl<K: Eq + Hash, V, S: BuildHasher> LinkedHashMap<K, V, S> {
     pub fn reserve(&mut self, additional: usize) -> Result<(), ReserveError>
         ensures pairs { self.new.pairs ≡ self.old.pairs }
         ensures hasher { self.new.hasher ≡ self.old.hasher }
+        ensures mode { self.new.mode ≡ self.old.mode }
         ensures capacity { OnOk result
             (self.new.capacity ≡ max self.old.capacity (length self.old.pairs + additional)) }
         ensures rechained { OnOk result (self.new.rechained
@@ -325,6 +361,7 @@ impl<K: Eq + Hash, V, S: BuildHasher> LinkedHashMap<K, V, S> {
     pub fn shrink_to_fit(&mut self) -> Result<(), NoRoom>
         ensures pairs { self.new.pairs ≡ self.old.pairs }
         ensures hasher { self.new.hasher ≡ self.old.hasher }
+        ensures mode { self.new.mode ≡ self.old.mode }
         ensures capacity { OnOk result (self.new.capacity ≡ length self.old.pairs) }
         ensures rechained { OnOk result (self.new.rechained
             ≡ rechained_fitted self.old.rechained (length self.old.pairs) self.old.capacity) }
@@ -346,8 +383,9 @@ impl<K: Eq + Hash, V, S: BuildHasher> LinkedHashMap<K, V, S> {
 
     /// Puts a pair at the back.
     ///
-    /// A key that is present keeps its stored key and gets the new value, its pair moves to the back, `key` is dropped and the
-    /// old value is returned; this takes no memory and is never refused. A new key below capacity takes no memory and is never
+    /// A key that is present keeps its stored key and gets the new value, its pair moves to the back, or in [`Mode::Keep`] stays in
+    /// its place, `key` is dropped and the old value is returned; this takes no memory and is never refused. A new key goes to the
+    /// back in both modes. Below capacity it takes no memory and is never
     /// refused either. A new key at full capacity raises the capacity by exactly one, or is refused: then the error has this key
     /// and this value, and the map is unchanged. It costs a look-up, and where a raise changes the number of buckets a step for
     /// each pair. The original answers no error, and may take memory below its capacity.
@@ -365,11 +403,12 @@ impl<K: Eq + Hash, V, S: BuildHasher> LinkedHashMap<K, V, S> {
     where
         K: Drop,
         ensures old { IfOk result (λ old. old ≡ value_at K.eq self.old.pairs key) }
-        ensures pairs { OnOk result (self.new.pairs ≡ to_back K.eq self.old.pairs key value) }
+        ensures pairs { OnOk result (self.new.pairs ≡ put K.eq self.old.mode self.old.pairs key value) }
         ensures capacity { OnOk result (self.new.capacity ≡ max self.old.capacity (length self.new.pairs)) }
         ensures rechained { OnOk result (self.new.rechained
             ≡ rechained_raised self.old.rechained (length self.old.pairs) self.old.capacity self.new.capacity) }
         ensures hasher { OnOk result (self.new.hasher ≡ self.old.hasher) }
+        ensures mode { OnOk result (self.new.mode ≡ self.old.mode) }
         ensures valid { IsValid K.eq self.old }
         ensures stays_valid { IsValid K.eq self.new }
 
@@ -549,6 +588,7 @@ impl<K: Eq + Hash, V, S: BuildHasher> LinkedHashMap<K, V, S> {
         ensures capacity { self.new.capacity ≡ self.old.capacity }
         ensures rechained { self.new.rechained ≡ self.old.rechained }
         ensures hasher { self.new.hasher ≡ self.old.hasher }
+        ensures mode { self.new.mode ≡ self.old.mode }
         ensures valid { IsValid K.eq self.old }
         ensures stays_valid { IsValid K.eq self.new }
     {
@@ -627,6 +667,7 @@ impl<K: Eq + Hash, V, S: BuildHasher> LinkedHashMap<K, V, S> {
         ensures capacity { self.new.capacity ≡ self.old.capacity }
         ensures rechained { self.new.rechained ≡ self.old.rechained }
         ensures hasher { self.new.hasher ≡ self.old.hasher }
+        ensures mode { self.new.mode ≡ self.old.mode }
         ensures valid { IsValid K.eq self.old }
         ensures stays_valid { IsValid K.eq self.new }
     {
@@ -675,6 +716,7 @@ impl<K: Eq + Hash, V, S: BuildHasher> LinkedHashMap<K, V, S> {
         ensures capacity { self.new.capacity ≡ self.old.capacity }
         ensures rechained { self.new.rechained ≡ self.old.rechained }
         ensures hasher { self.new.hasher ≡ self.old.hasher }
+        ensures mode { self.new.mode ≡ self.old.mode }
         ensures valid { IsValid K.eq self.old }
         ensures stays_valid { IsValid K.eq self.new }
     {
@@ -736,6 +778,51 @@ impl<K: Eq + Hash, V, S: BuildHasher> LinkedHashMap<K, V, S> {
         self.len() == 0
     }
 
+    /// Sets the mode: what an insertion of a present key does to the place of its pair.
+    ///
+    /// Nothing else is changed. It takes no memory. The original has no such call.
+    ///
+    /// # Examples
+    ///
+    /// ```rust
+    /// use linked_hash_map::Mode;
+    ///
+    /// let mut map = LinkedHashMap::new(rt.alloc());
+    /// map.insert('x', 1)?;
+    /// map.insert('y', 2)?;
+    /// map.set_mode(Mode::Keep);
+    /// map.insert('x', 3)?;
+    /// assert_eq!(rt; map.back(), Some((&'y', &2)));
+    /// map.set_mode(Mode::Touch);
+    /// map.insert('x', 4)?;
+    /// assert_eq!(rt; map.back(), Some((&'x', &4)));
+    /// ```
+    pub fn set_mode(&mut self, mode: Mode)
+        ensures sets { self.new ≡ record self.old { mode = mode } }
+        ensures valid { IsValid K.eq self.old }
+        ensures stays_valid { IsValid K.eq self.new }
+    {
+        self.mode = mode;
+    }
+
+    /// Tells the mode. It takes no memory. The original has no such call.
+    ///
+    /// # Examples
+    ///
+    /// ```rust
+    /// use linked_hash_map::Mode;
+    ///
+    /// let mut map: LinkedHashMap<char, u64> = LinkedHashMap::new(rt.alloc());
+    /// map.set_mode(Mode::Keep);
+    /// assert_eq!(rt; map.mode(), Mode::Keep);
+    /// ```
+    pub fn mode(&self) -> Mode
+        ensures mode { result ≡ self.now.mode }
+        ensures valid { IsValid K.eq self.now }
+    {
+        self.mode
+    }
+
     /// Lends the build hasher. It takes no memory.
     ///
     /// # Examples
@@ -774,6 +861,7 @@ impl<K: Eq + Hash, V, S: BuildHasher> LinkedHashMap<K, V, S> {
         ensures capacity { self.new.capacity ≡ self.old.capacity }
         ensures rechained { self.new.rechained ≡ self.old.rechained }
         ensures hasher { self.new.hasher ≡ self.old.hasher }
+        ensures mode { self.new.mode ≡ self.old.mode }
         ensures valid { IsValid K.eq self.old }
         ensures stays_valid { IsValid K.eq self.new }
     {

@@ -22,13 +22,13 @@
 //! assert_eq!(rt; (map.len(), map.capacity()), (0, 1));
 //! ```
 ghost use Rattle.std.specs.Prelude.{◌≡◌, ℕ, [], IfOk, IfErr, OnErr, IsOk};
-ghost use Rattle.linked_hash_map.specs.Log.{Log, pairs, high, Defines};
+ghost use Rattle.linked_hash_map.specs.Log.{Log, mode, pairs, high, Defines};
 ghost use Rattle.linked_hash_map.specs.Validity.{IsValid};
 ghost use Rattle.linked_hash_map.specs.Run.{log_after, first_log, last_log, Serves, IsReply, IsRun};
 
 use crate::entry::Entry;
 use crate::error::{NoRoom, ReserveError};
-use crate::map::LinkedHashMap;
+use crate::map::{LinkedHashMap, Mode};
 use std::hash::{BuildHasher, Hash};
 use std::mem;
 
@@ -80,6 +80,8 @@ pub enum Command<K, V> {
     Reserve(usize),
     /// Lowers the capacity to the number of pairs, as `shrink_to_fit` does: `Done` or `NoRoom`.
     Shrink,
+    /// Sets the mode, as `set_mode` does: `Done`.
+    SetMode(Mode),
 }
 
 /// What a map answers to a command.
@@ -344,6 +346,17 @@ fn shrink<K: Eq + Hash + Drop, V: Drop, S: BuildHasher>(
     }
 }
 
+/// Answers `SetMode`.
+fn set_mode<K: Eq + Hash + Drop, V: Drop, S: BuildHasher>(
+    map: &mut LinkedHashMap<K, V, S>,
+    mode: Mode,
+) -> Answer<K, V>
+    ensures { Serves K.eq map.old map.new (Command.SetMode mode) result }
+{
+    map.set_mode(mode);
+    Answer::Done
+}
+
 /// Runs one command.
 fn answer_to<K: Eq + Hash + Drop, V: Drop, S: BuildHasher>(
     map: &mut LinkedHashMap<K, V, S>,
@@ -366,6 +379,7 @@ fn answer_to<K: Eq + Hash + Drop, V: Drop, S: BuildHasher>(
         Command::EntryRemove(key) => entry_remove(map, key),
         Command::Reserve(additional) => reserve(map, additional),
         Command::Shrink => shrink(map),
+        Command::SetMode(mode) => set_mode(map, mode),
     }
 }
 
@@ -374,10 +388,10 @@ fn reply_to<K: Eq + Hash + Drop, V: Drop, S: BuildHasher>(
     map: &mut LinkedHashMap<K, V, S>,
     command: Command<K, V>,
 ) -> Reply<K, V>
-    ensures reply { (start : ℕ) (log : Log K V) → Defines K.eq start log map.old.pairs map.old.capacity →
+    ensures reply { (start : ℕ) (log : Log K V) → Defines K.eq start log map.old.pairs map.old.capacity map.old.mode →
         IsReply K.eq start log command result }
-    ensures defines { (start : ℕ) (log : Log K V) → Defines K.eq start log map.old.pairs map.old.capacity →
-        Defines K.eq start (log_after K.eq log command result.answer) map.new.pairs map.new.capacity }
+    ensures defines { (start : ℕ) (log : Log K V) → Defines K.eq start log map.old.pairs map.old.capacity map.old.mode →
+        Defines K.eq start (log_after K.eq log command result.answer) map.new.pairs map.new.capacity map.new.mode }
     ensures hasher { map.new.hasher ≡ map.old.hasher }
     ensures stays_valid { IsValid K.eq map.new }
 {
@@ -415,15 +429,18 @@ pub fn replay<K: Eq + Hash + Drop, V: Drop, S: BuildHasher>(
 ) -> Result<Vec<Reply<K, V>>, Vec<Command<K, V>>>
     // One reply for each command, each read off the log that those before it left.
     ensures run { IfOk result (λ replies.
-        IsRun K.eq map.old.capacity (first_log map.old.pairs) commands.items replies.items) }
+        IsRun K.eq map.old.capacity (first_log map.old.mode map.old.pairs) commands.items replies.items) }
 
     // What the map is at the end, by the last log.
     ensures pairs { IfOk result (λ replies.
-        let last = last_log K.eq (first_log map.old.pairs) commands.items replies.items in
+        let last = last_log K.eq (first_log map.old.mode map.old.pairs) commands.items replies.items in
         map.new.pairs ≡ pairs K.eq last) }
     ensures capacity { IfOk result (λ replies.
-        let last = last_log K.eq (first_log map.old.pairs) commands.items replies.items in
+        let last = last_log K.eq (first_log map.old.mode map.old.pairs) commands.items replies.items in
         map.new.capacity ≡ high K.eq map.old.capacity last) }
+    ensures mode { IfOk result (λ replies.
+        let last = last_log K.eq (first_log map.old.mode map.old.pairs) commands.items replies.items in
+        map.new.mode ≡ mode last) }
     ensures hasher { map.new.hasher ≡ map.old.hasher }
     ensures valid { IsValid K.eq map.old }
     ensures stays_valid { IsValid K.eq map.new }

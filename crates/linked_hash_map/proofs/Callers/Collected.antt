@@ -5,13 +5,13 @@ use Rattle.std.specs.List.{IsDistinct}
 use Rattle.std.specs.Map.{keys_of}
 use Rattle.std.proofs.lemmas.List.{reverse-append}
 use Rattle.std.specs.Cmp.{IsEquivalence}
-use Rattle.linked_hash_map.specs.Pairs.{key_or, find, value_at, to_back}
+use Rattle.linked_hash_map.specs.declared.map.Mode.{Mode}
+use Rattle.linked_hash_map.specs.Pairs.{key_or, find, value_at, put}
 use Rattle.linked_hash_map.specs.Inserts.{insert_each}
 use Rattle.linked_hash_map.proofs.Lists.{by_last}
-use Rattle.linked_hash_map.proofs.Inserts.{insert_each-last, length-grows, distinct-to_back}
+use Rattle.linked_hash_map.proofs.Inserts.{insert_each-last, length-grows, length-put_most, distinct-put}
 use Rattle.linked_hash_map.proofs.Runs.{put_last, last_differs}
-use Rattle.linked_hash_map.proofs.Callers.Keys.{length-to_back_most}
-use Rattle.linked_hash_map.proofs.Callers.Lookups.{lookup_entry-append, find-same, value_at-to_back, find-to_back}
+use Rattle.linked_hash_map.proofs.Callers.Lookups.{lookup_entry-append, find-same, value_at-put, find-put}
 -- keys that differ still do, and items with keys that differ, inserted into nothing, are the pairs
 pub use Rattle.linked_hash_map.proofs.Inserts.{distinct-insert_each, insert_each-distinct}
 
@@ -28,24 +28,24 @@ or-false true = refl
 or-false false = refl
 
 module _ {K V : Type 0} (eq : K → K → Bool) where
-  pub insert_each-nil : (pairs : List (K × V)) → insert_each eq pairs [] ≡ pairs
-  insert_each-nil pairs = refl
+  pub insert_each-nil : (mode : Mode) (pairs : List (K × V)) → insert_each eq mode pairs [] ≡ pairs
+  insert_each-nil mode pairs = refl
 
   -- one more item goes in last
-  pub insert_each-snoc : (pairs items : List (K × V)) (item : K × V) → insert_each eq pairs (items ++ item ∷ []) ≡ to_back eq (insert_each eq pairs items) item.0 item.1
-  insert_each-snoc pairs items item = insert_each-last eq pairs items item
+  pub insert_each-snoc : (mode : Mode) (pairs items : List (K × V)) (item : K × V) → insert_each eq mode pairs (items ++ item ∷ []) ≡ put eq mode (insert_each eq mode pairs items) item.0 item.1
+  insert_each-snoc mode pairs items item = insert_each-last eq mode pairs items item
 
-  pub insert_each-append : (pairs items others : List (K × V)) → insert_each eq pairs (items ++ others) ≡ insert_each eq (insert_each eq pairs items) others
-  insert_each-append pairs [] others = refl
-  insert_each-append pairs (item ∷ items) others = insert_each-append (to_back eq pairs item.0 item.1) items others
+  pub insert_each-append : (mode : Mode) (pairs items others : List (K × V)) → insert_each eq mode pairs (items ++ others) ≡ insert_each eq mode (insert_each eq mode pairs items) others
+  insert_each-append mode pairs [] others = refl
+  insert_each-append mode pairs (item ∷ items) others = insert_each-append mode (put eq mode pairs item.0 item.1) items others
 
 module _ {K V : Type 0} {eq : K → K → Bool} (laws : IsEquivalence eq) where
   -- a key has the last value that came with it, or what it had
-  pub value_at-insert_each : (pairs items : List (K × V)) (q : K) → value_at eq (insert_each eq pairs items) q ≡ option_or (value_at eq (reverse items) q) (value_at eq pairs q)
-  value_at-insert_each pairs items q = by_last (λ items. value_at eq (insert_each eq pairs items) q ≡ option_or (value_at eq (reverse items) q) (value_at eq pairs q))
+  pub value_at-insert_each : (mode : Mode) (pairs items : List (K × V)) (q : K) → value_at eq (insert_each eq mode pairs items) q ≡ option_or (value_at eq (reverse items) q) (value_at eq pairs q)
+  value_at-insert_each mode pairs items q = by_last (λ items. value_at eq (insert_each eq mode pairs items) q ≡ option_or (value_at eq (reverse items) q) (value_at eq pairs q))
       (λ items item rest.
-      ap (λ es. value_at eq es q) (insert_each-last eq pairs items item)
-      ∙ value_at-to_back laws (insert_each eq pairs items) item.0 item.1 q
+      ap (λ es. value_at eq es q) (insert_each-last eq mode pairs items item)
+      ∙ value_at-put laws mode (insert_each eq mode pairs items) item.0 item.1 q
       ∙ ap (cond (eq item.0 q) (Some item.1)) rest
       ∙ last_first (eq q item.0) item (find eq (reverse items) q) (value_at eq pairs q) (laws.symm item.0 q)
       ∙ ap (λ es. option_or (value_at eq es q) (value_at eq pairs q)) (sym (reverse-append items (item ∷ []))))
@@ -56,11 +56,11 @@ module _ {K V : Type 0} {eq : K → K → Bool} (laws : IsEquivalence eq) where
       last_first false item o held same = ap (λ b. cond b (Some item.1) (option_or (option_map (λ (pair : K × V). pair.1) o) held)) same
 
   -- a key is present if it was, or came with some item
-  pub is_some-insert_each : (pairs items : List (K × V)) (q : K) → is_some (find eq (insert_each eq pairs items) q) ≡ (is_some (find eq pairs q) || is_some (find eq items q))
-  is_some-insert_each pairs [] q = or-false (is_some (find eq pairs q))
-  is_some-insert_each pairs (item ∷ items) q =
-      is_some-insert_each (to_back eq pairs item.0 item.1) items q
-      ∙ ap (λ o. is_some o || is_some (find eq items q)) (find-to_back laws pairs item.0 item.1 q)
+  pub is_some-insert_each : (mode : Mode) (pairs items : List (K × V)) (q : K) → is_some (find eq (insert_each eq mode pairs items) q) ≡ (is_some (find eq pairs q) || is_some (find eq items q))
+  is_some-insert_each mode pairs [] q = or-false (is_some (find eq pairs q))
+  is_some-insert_each mode pairs (item ∷ items) q =
+      is_some-insert_each mode (put eq mode pairs item.0 item.1) items q
+      ∙ ap (λ o. is_some o || is_some (find eq items q)) (find-put laws mode pairs item.0 item.1 q)
       ∙ by_test (eq q item.0) (laws.symm item.0 q) (is_some (find eq pairs q)) refl
     where
       by_test : (b : Bool) → eq item.0 q ≡ b → (h : Bool) → is_some (find eq pairs q) ≡ h → (is_some (cond (eq item.0 q) (Some (key_or item.0 (find eq pairs item.0), item.1)) (find eq pairs q)) || is_some (find eq items q)) ≡ (is_some (find eq pairs q) || is_some (cond b (Some item) (find eq items q)))
@@ -69,35 +69,35 @@ module _ {K V : Type 0} {eq : K → K → Bool} (laws : IsEquivalence eq) where
       by_test false same h held = ap (λ b. is_some (cond b (Some (key_or item.0 (find eq pairs item.0), item.1)) (find eq pairs q)) || is_some (find eq items q)) same
 
   -- no pair goes, and one for each item comes at most
-  pub length-insert_each_least : (pairs items : List (K × V)) → IsDistinct eq (keys_of pairs) → length pairs ≤ length (insert_each eq pairs items)
-  length-insert_each_least pairs [] distinct = omega arith
-  length-insert_each_least pairs (item ∷ items) distinct =
-      let rest = length-insert_each_least (to_back eq pairs item.0 item.1) items (distinct-to_back laws pairs item.0 item.1 distinct) in
-      let grows = length-grows laws pairs item.0 item.1 distinct in
+  pub length-insert_each_least : (mode : Mode) (pairs items : List (K × V)) → IsDistinct eq (keys_of pairs) → length pairs ≤ length (insert_each eq mode pairs items)
+  length-insert_each_least mode pairs [] distinct = omega arith
+  length-insert_each_least mode pairs (item ∷ items) distinct =
+      let rest = length-insert_each_least mode (put eq mode pairs item.0 item.1) items (distinct-put laws mode pairs item.0 item.1 distinct) in
+      let grows = length-grows laws mode pairs item.0 item.1 distinct in
       omega arith
 
-  pub length-insert_each_most : (pairs items : List (K × V)) → IsDistinct eq (keys_of pairs) → length (insert_each eq pairs items) ≤ length pairs + length items
-  length-insert_each_most pairs [] distinct = omega arith
-  length-insert_each_most pairs (item ∷ items) distinct =
-      let rest = length-insert_each_most (to_back eq pairs item.0 item.1) items (distinct-to_back laws pairs item.0 item.1 distinct) in
-      let most = length-to_back_most laws pairs item.0 item.1 distinct in
+  pub length-insert_each_most : (mode : Mode) (pairs items : List (K × V)) → IsDistinct eq (keys_of pairs) → length (insert_each eq mode pairs items) ≤ length pairs + length items
+  length-insert_each_most mode pairs [] distinct = omega arith
+  length-insert_each_most mode pairs (item ∷ items) distinct =
+      let rest = length-insert_each_most mode (put eq mode pairs item.0 item.1) items (distinct-put laws mode pairs item.0 item.1 distinct) in
+      let most = length-put_most eq mode pairs item.0 item.1 in
       omega arith
 
   -- new keys that differ go in behind the others, in order
-  pub insert_each-new : (pairs items : List (K × V)) → IsDistinct eq (keys_of (pairs ++ items)) → insert_each eq pairs items ≡ pairs ++ items
-  insert_each-new pairs = by_last (λ items. IsDistinct eq (keys_of (pairs ++ items)) → insert_each eq pairs items ≡ pairs ++ items)
+  pub insert_each-new : (mode : Mode) (pairs items : List (K × V)) → IsDistinct eq (keys_of (pairs ++ items)) → insert_each eq mode pairs items ≡ pairs ++ items
+  insert_each-new mode pairs = by_last (λ items. IsDistinct eq (keys_of (pairs ++ items)) → insert_each eq mode pairs items ≡ pairs ++ items)
       (λ items item rest distinct.
       let apart = last_differs laws (pairs ++ items) item (subst (λ es. IsDistinct eq (keys_of es)) (sym (append_assoc pairs items (item ∷ []))) distinct) in
-      insert_each-last eq pairs items item ∙ ap (λ es. to_back eq es item.0 item.1) (rest apart.0) ∙ put_last laws (pairs ++ items) item apart.1 ∙ append_assoc pairs items (item ∷ []))
+      insert_each-last eq mode pairs items item ∙ ap (λ es. put eq mode es item.0 item.1) (rest apart.0) ∙ put_last laws mode (pairs ++ items) item apart.1 ∙ append_assoc pairs items (item ∷ []))
       (λ distinct. sym (append-nil pairs))
 
   -- a key keeps its first stored key, be it that of a pair or of an item
-  pub stored-insert_each : (pairs items : List (K × V)) (q : K) → option_map (λ (pair : K × V). pair.0) (find eq (insert_each eq pairs items) q) ≡ option_map (λ (pair : K × V). pair.0) (find eq (pairs ++ items) q)
-  stored-insert_each pairs items q = by_last (λ items. option_map (λ (pair : K × V). pair.0) (find eq (insert_each eq pairs items) q) ≡ option_map (λ (pair : K × V). pair.0) (find eq (pairs ++ items) q))
+  pub stored-insert_each : (mode : Mode) (pairs items : List (K × V)) (q : K) → option_map (λ (pair : K × V). pair.0) (find eq (insert_each eq mode pairs items) q) ≡ option_map (λ (pair : K × V). pair.0) (find eq (pairs ++ items) q)
+  stored-insert_each mode pairs items q = by_last (λ items. option_map (λ (pair : K × V). pair.0) (find eq (insert_each eq mode pairs items) q) ≡ option_map (λ (pair : K × V). pair.0) (find eq (pairs ++ items) q))
       (λ items item rest.
-      let before = insert_each eq pairs items in
-      ap (λ es. option_map (λ (pair : K × V). pair.0) (find eq es q)) (insert_each-last eq pairs items item)
-      ∙ ap (option_map (λ (pair : K × V). pair.0)) (find-to_back laws before item.0 item.1 q ∙ by_test before item (eq item.0 q) refl)
+      let before = insert_each eq mode pairs items in
+      ap (λ es. option_map (λ (pair : K × V). pair.0) (find eq es q)) (insert_each-last eq mode pairs items item)
+      ∙ ap (option_map (λ (pair : K × V). pair.0)) (find-put laws mode before item.0 item.1 q ∙ by_test before item (eq item.0 q) refl)
       ∙ stored_last (eq item.0 q) item (find eq before q) (find eq (pairs ++ items) q) rest
       ∙ ap (λ b. option_map (λ (pair : K × V). pair.0) (option_or (find eq (pairs ++ items) q) (cond b (Some item) None))) (laws.symm item.0 q)
       ∙ ap (option_map (λ (pair : K × V). pair.0)) (sym (lookup_entry-append (eq q) (pairs ++ items) (item ∷ [])))

@@ -10,31 +10,33 @@ use Rattle.std.specs.Vec.Iter.{into_iter_items, into_iter_len, into_iter_steps}
 use Rattle.std.proofs.lemmas.Iterator.{YieldsList}
 use Rattle.std.proofs.lemmas.Iterator.Consumers.{YieldsList-end, YieldsList-so_far, YieldsList-from_rest, nth_from_yields_List}
 use Rattle.std.proofs.lemmas.Iterator.Adapters.{YieldsList-from_vec}
+use Rattle.linked_hash_map.specs.declared.map.Mode.{Mode}
+use Rattle.linked_hash_map.specs.declared.map.Mode.TheVariants.{Touch}
 use Rattle.linked_hash_map.specs.Inserts.{insert_each, InsertsAll, InsertsUntil, Collects}
 use Rattle.linked_hash_map.proofs.Callers.Keys.{distinct-nil}
 use Rattle.linked_hash_map.proofs.Callers.Collected.{insert_each-distinct, length-insert_each_most}
 
 module _ {T I X K V : Type 0} {becomes : T → I → Type 0} {steps : I → Option X → I → Type 0} {source : T} {eq : K → K → Bool} {shows : X → K × V} {all : List (K × V)} where
   -- `extend` of any source whose items are known
-  pub pairs-InsertsAll : {old new : List (K × V)} → InsertsAll becomes steps source eq shows old new → ((it : I) → becomes source it → YieldsList steps shows it all) → new ≡ insert_each eq old all
-  pairs-InsertsAll {old} inserts each =
+  pub pairs-InsertsAll : {mode : Mode} {old new : List (K × V)} → InsertsAll becomes steps source eq shows mode old new → ((it : I) → becomes source it → YieldsList steps shows it all) → new ≡ insert_each eq mode old all
+  pairs-InsertsAll {mode} {old} inserts each =
       let gives = inserts.gives in
       let drains = gives.gives.1 in
-      inserts.pairs ∙ ap (insert_each eq old) (YieldsList-end (each gives.iterator gives.made) inserts.given drains.0 drains.1 None gives.gives.0 refl drains.2).0
+      inserts.pairs ∙ ap (insert_each eq mode old) (YieldsList-end (each gives.iterator gives.made) inserts.given drains.0 drains.1 None gives.gives.0 refl drains.2).0
 
   -- and where it was refused: the first items went in, and the next is the one that came back
-  pub pairs-InsertsUntil : {old new : List (K × V)} {key : K} {value : V} (inserts : InsertsUntil becomes steps source eq shows old new key value) → ((it : I) → becomes source it → YieldsList steps shows it all) → (new ≡ insert_each eq old (take (length inserts.given) all)) × (slice_get all (length inserts.given) ≡ Some (key, value))
-  pairs-InsertsUntil {old} inserts each =
+  pub pairs-InsertsUntil : {mode : Mode} {old new : List (K × V)} {key : K} {value : V} (inserts : InsertsUntil becomes steps source eq shows mode old new key value) → ((it : I) → becomes source it → YieldsList steps shows it all) → (new ≡ insert_each eq mode old (take (length inserts.given) all)) × (slice_get all (length inserts.given) ≡ Some (key, value))
+  pairs-InsertsUntil {mode} {old} inserts each =
       let gives = inserts.gives in
       let yields = gives.gives in
       let road = each gives.iterator gives.made in (
-        inserts.pairs ∙ ap (insert_each eq old) (YieldsList-so_far road inserts.given yields.0 yields.1),
+        inserts.pairs ∙ ap (insert_each eq mode old) (YieldsList-so_far road inserts.given yields.0 yields.1),
         sym (nth_from_yields_List (Some inserts.item) gives.left (length inserts.given) (inserts.given, (yields.0, yields.1, yields.2), refl) road) ∙ ap Some inserts.shown,
       )
 
   module _ (laws : IsEquivalence eq) {remaining : I → Count} {pairs : List (K × V)} {capacity : ℕ} (collects : Collects becomes steps source eq shows remaining pairs capacity) where
     -- `from_iter` of any source whose items are known
-    pub pairs-Collects : ((it : I) → becomes source it → YieldsList steps shows it all) → pairs ≡ insert_each eq [] all
+    pub pairs-Collects : ((it : I) → becomes source it → YieldsList steps shows it all) → pairs ≡ insert_each eq Touch [] all
     pairs-Collects each = pairs-InsertsAll collects.inserts each
 
     -- where no more items are left to come than come, the capacity is no more than the number of items
@@ -43,14 +45,14 @@ module _ {T I X K V : Type 0} {becomes : T → I → Type 0} {steps : I → Opti
         let hint = collects.hint in
         let bound = left hint.iterator hint.made in
         let lower = hint.hint bound.0 in
-        let most = length-insert_each_most laws [] all (distinct-nil V eq) in
+        let most = length-insert_each_most laws Touch [] all (distinct-nil V eq) in
         let held = ap length (pairs-Collects each) in
         let room = collects.room in
         (omega arith, omega arith)
 
     -- and where their keys differ, it is that number, and the pairs are the items
     pub pairs-Collects_distinct : IsDistinct eq (keys_of all) → ((it : I) → becomes source it → YieldsList steps shows it all) → pairs ≡ all
-    pairs-Collects_distinct distinct each = pairs-Collects each ∙ insert_each-distinct laws all distinct
+    pairs-Collects_distinct distinct each = pairs-Collects each ∙ insert_each-distinct laws Touch all distinct
 
     pub capacity-Collects_distinct : IsDistinct eq (keys_of all) → ((it : I) → becomes source it → YieldsList steps shows it all) → ((it : I) → becomes source it → UpTo (remaining it) (length all)) → capacity ≡ length all
     capacity-Collects_distinct distinct each left =
@@ -59,13 +61,13 @@ module _ {T I X K V : Type 0} {becomes : T → I → Type 0} {steps : I → Opti
         omega arith
 
 -- where there is room for each item, as after `with_capacity` of their number, `extend` leaves the capacity
-pub capacity-insert_each : {K V : Type 0} {eq : K → K → Bool} → IsEquivalence eq → (pairs items : List (K × V)) (capacity : ℕ) → IsDistinct eq (keys_of pairs) → length pairs + length items ≤ capacity → max capacity (length (insert_each eq pairs items)) ≡ capacity
-capacity-insert_each laws pairs items capacity distinct enough = let most = length-insert_each_most laws pairs items distinct in omega arith
+pub capacity-insert_each : {K V : Type 0} {eq : K → K → Bool} → IsEquivalence eq → (mode : Mode) (pairs items : List (K × V)) (capacity : ℕ) → IsDistinct eq (keys_of pairs) → length pairs + length items ≤ capacity → max capacity (length (insert_each eq mode pairs items)) ≡ capacity
+capacity-insert_each laws mode pairs items capacity distinct enough = let most = length-insert_each_most laws mode pairs items distinct in omega arith
 
 -- `extend` of a map by value, or by reference: of any source that becomes a list which shows what is left
-pub pairs-InsertsAll_list : {T X K V : Type 0} {becomes : T → List (K × V) → Type 0} {source : T} {eq : K → K → Bool} {shows : X → K × V} {old new : List (K × V)} (all : List (K × V)) → InsertsAll becomes (TakesFirst shows) source eq shows old new → ((it : List (K × V)) → becomes source it → it ≡ all) → new ≡ insert_each eq old all
+pub pairs-InsertsAll_list : {T X K V : Type 0} {becomes : T → List (K × V) → Type 0} {source : T} {eq : K → K → Bool} {shows : X → K × V} {mode : Mode} {old new : List (K × V)} (all : List (K × V)) → InsertsAll becomes (TakesFirst shows) source eq shows mode old new → ((it : List (K × V)) → becomes source it → it ≡ all) → new ≡ insert_each eq mode old all
 pairs-InsertsAll_list all inserts is = pairs-InsertsAll inserts (λ it made. YieldsList-from_rest all (is it made))
 
 -- `extend` of a vector
-pub pairs-InsertsAll_vec : {T Z K V : Type 0} {becomes : T → _ → Type 0} {source : T} {eq : K → K → Bool} {old new : List (K × V)} (all : List (K × V)) → InsertsAll becomes (into_iter_steps {X = K × V} {Z = Z}) source eq (λ pair. pair) old new → ((it : _) → becomes source it → (into_iter_items it ≡ all) × (into_iter_len it ≡ length all)) → new ≡ insert_each eq old all
+pub pairs-InsertsAll_vec : {T Z K V : Type 0} {becomes : T → _ → Type 0} {source : T} {eq : K → K → Bool} {mode : Mode} {old new : List (K × V)} (all : List (K × V)) → InsertsAll becomes (into_iter_steps {X = K × V} {Z = Z}) source eq (λ pair. pair) mode old new → ((it : _) → becomes source it → (into_iter_items it ≡ all) × (into_iter_len it ≡ length all)) → new ≡ insert_each eq mode old all
 pairs-InsertsAll_vec all inserts is = pairs-InsertsAll inserts (λ it made. let told = is it made in YieldsList-from_vec {s = it} all told.0 told.1)

@@ -6,14 +6,16 @@ use Rattle.std.specs.Map.{lookup_entry, keys_of}
 use Rattle.std.specs.Cmp.{IsEquivalence}
 use Rattle.std.proofs.lemmas.List.{map-append}
 use Rattle.std.proofs.lemmas.Map.Made.{IsDistinct-keys_filter}
-use Rattle.linked_hash_map.specs.Pairs.{key_or, find, value_at, without, to_back, set_value, set_or_push, set_if_some, set_values}
+use Rattle.linked_hash_map.specs.declared.map.Mode.{Mode}
+use Rattle.linked_hash_map.specs.declared.map.Mode.TheVariants.{Touch, Keep}
+use Rattle.linked_hash_map.specs.Pairs.{key_or, find, value_at, without, to_back, set_value, set_or_push, set_if_some, set_values, put}
 use Rattle.linked_hash_map.proofs.LiveKeys.{none_is}
 use Rattle.linked_hash_map.proofs.Pairs.{is_some-value_at, filter-none}
 use Rattle.linked_hash_map.proofs.Indexes.{slice_get-last}
 -- one pair fewer exactly where the key has one; one more exactly where it has none
-pub use Rattle.linked_hash_map.proofs.Pairs.{length-without, length-to_back}
+pub use Rattle.linked_hash_map.proofs.Pairs.{length-without, length-to_back, length-put}
 -- keys that differ still do after an insertion
-pub use Rattle.linked_hash_map.proofs.Inserts.{distinct-to_back}
+pub use Rattle.linked_hash_map.proofs.Inserts.{distinct-to_back, distinct-put, length-put_most}
 
 module _ {K V : Type 0} (eq : K → K → Bool) (pairs : List (K × V)) (k : K) where
   -- a key that has no value has no pair, and so on
@@ -32,6 +34,10 @@ module _ {K V : Type 0} (eq : K → K → Bool) (pairs : List (K × V)) (k : K) 
 
   pub to_back-absent : (v : V) → find eq pairs k ≡ None → to_back eq pairs k v ≡ pairs ++ (k, v) ∷ []
   to_back-absent v none = ap₂ (λ ps o. ps ++ (key_or k o, v) ∷ []) (without-absent none) none
+
+  pub put-absent : (mode : Mode) (v : V) → find eq pairs k ≡ None → put eq mode pairs k v ≡ pairs ++ (k, v) ∷ []
+  put-absent Touch v none = to_back-absent v none
+  put-absent Keep v none = ap (λ o. cond (is_some o) (set_value eq pairs k v) (pairs ++ (k, v) ∷ [])) none
 
   pub set_or_push-absent : (v : V) → find eq pairs k ≡ None → set_or_push eq pairs k v ≡ pairs ++ (k, v) ∷ []
   set_or_push-absent v none = ap (λ o. cond (is_some o) (set_value eq pairs k v) (pairs ++ (k, v) ∷ [])) none
@@ -131,6 +137,13 @@ module _ {K V : Type 0} (eq : K → K → Bool) where
       let longer = length-append pairs ((k, v) ∷ []) in
       omega arith
 
+  -- in either mode
+  pub length-put_absent : (mode : Mode) (pairs : List (K × V)) (k : K) (v : V) → find eq pairs k ≡ None → length (put eq mode pairs k v) ≡ length pairs + 1
+  length-put_absent mode pairs k v none =
+      let pushed = ap length (put-absent eq pairs k mode v none) in
+      let longer = length-append pairs ((k, v) ∷ []) in
+      omega arith
+
 pub length-set_values : {K V : Type 0} (pairs : List (K × V)) (vs : List V) → length (set_values pairs vs) ≡ length pairs
 length-set_values [] vs = refl
 length-set_values (pair ∷ pairs) [] = refl
@@ -142,6 +155,9 @@ module _ {K V : Type 0} {eq : K → K → Bool} (laws : IsEquivalence eq) (pairs
 
   pub length-to_back_present : (v : V) → length (to_back eq pairs k v) ≡ length pairs
   length-to_back_present v = length-to_back laws pairs k v distinct ∙ ap (λ b. cond b (length pairs) (length pairs + 1)) found
+
+  pub length-put_present : (mode : Mode) (v : V) → length (put eq mode pairs k v) ≡ length pairs
+  length-put_present mode v = length-put laws mode pairs k v distinct ∙ ap (λ b. cond b (length pairs) (length pairs + 1)) found
 
 -- one more pair at most
 most : (b : Bool) (n length_after : ℕ) → length_after ≡ cond b n (n + 1) → length_after ≤ n + 1

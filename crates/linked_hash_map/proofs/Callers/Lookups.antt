@@ -4,7 +4,9 @@ use Rattle.std.specs.List.{IsDistinct}
 use Rattle.std.specs.Option.{option_or, IsSome}
 use Rattle.std.specs.Map.{lookup_entry, keys_of}
 use Rattle.std.specs.Cmp.{IsEquivalence}
-use Rattle.linked_hash_map.specs.Pairs.{key_or, find, value_at, without, to_back, set_value, set_or_push, set_if_some}
+use Rattle.linked_hash_map.specs.declared.map.Mode.{Mode}
+use Rattle.linked_hash_map.specs.declared.map.Mode.TheVariants.{Touch, Keep}
+use Rattle.linked_hash_map.specs.Pairs.{key_or, find, value_at, without, to_back, set_value, set_or_push, set_if_some, put}
 use Rattle.linked_hash_map.proofs.Lists.{option_or_none}
 use Rattle.linked_hash_map.proofs.LiveKeys.{same_test, none_is}
 use Rattle.linked_hash_map.proofs.Effects.{remove-last}
@@ -132,6 +134,11 @@ module _ {K V : Type 0} {eq : K → K → Bool} (laws : IsEquivalence eq) where
           ∙ pushed q k v (eq k q) (find eq pairs q) (laws.symm q k)
       by_pair (Some pair) found = find-set_value pairs k v q ∙ present (eq k q) pair refl found
 
+  -- after `insert` in either mode
+  pub find-put : (mode : Mode) (pairs : List (K × V)) (k : K) (v : V) (q : K) → find eq (put eq mode pairs k v) q ≡ cond (eq k q) (Some (key_or k (find eq pairs k), v)) (find eq pairs q)
+  find-put Touch = find-to_back
+  find-put Keep = find-set_or_push
+
   -- the value that a key has after each of these
   pub value_at-without : (pairs : List (K × V)) (k q : K) → value_at eq (without eq pairs k) q ≡ cond (eq k q) None (value_at eq pairs q)
   value_at-without pairs k q = ap (option_map (λ pair. pair.1)) (find-without pairs k q) ∙ option_map-cond (λ pair. pair.1) (eq k q) None (find eq pairs q)
@@ -155,6 +162,10 @@ module _ {K V : Type 0} {eq : K → K → Bool} (laws : IsEquivalence eq) where
   value_at-set_or_push pairs k v q =
       ap (option_map (λ pair. pair.1)) (find-set_or_push pairs k v q)
       ∙ option_map-cond (λ pair. pair.1) (eq k q) (Some (key_or k (find eq pairs k), v)) (find eq pairs q)
+
+  pub value_at-put : (mode : Mode) (pairs : List (K × V)) (k : K) (v : V) (q : K) → value_at eq (put eq mode pairs k v) q ≡ cond (eq k q) (Some v) (value_at eq pairs q)
+  value_at-put Touch = value_at-to_back
+  value_at-put Keep = value_at-set_or_push
 
   -- at the key of the call
   module _ (pairs : List (K × V)) (k : K) where
@@ -180,6 +191,10 @@ module _ {K V : Type 0} {eq : K → K → Bool} (laws : IsEquivalence eq) where
 
     pub value_at-set_or_push_here : (v : V) → value_at eq (set_or_push eq pairs k v) k ≡ Some v
     value_at-set_or_push_here v = value_at-set_or_push pairs k v k ∙ ap (λ b. cond b (Some v) (value_at eq pairs k)) (laws.refl k)
+
+    pub value_at-put_here : (mode : Mode) (v : V) → value_at eq (put eq mode pairs k v) k ≡ Some v
+    value_at-put_here Touch v = value_at-to_back_here v
+    value_at-put_here Keep v = value_at-set_or_push_here v
 
     -- where there is a value to set exactly if the key has one, as after `and_modify`
     pub value_at-set_if_some_here : (o : Option V) → is_some o ≡ is_some (find eq pairs k) → value_at eq (set_if_some eq pairs k o) k ≡ o
@@ -211,6 +226,14 @@ module _ {K V : Type 0} {eq : K → K → Bool} (laws : IsEquivalence eq) where
 
     pub find-set_or_push_apart : (v : V) → find eq (set_or_push eq pairs k v) q ≡ find eq pairs q
     find-set_or_push_apart v = find-set_or_push pairs k v q ∙ ap (λ b. cond b (Some (key_or k (find eq pairs k), v)) (find eq pairs q)) apart
+
+    pub value_at-put_apart : (mode : Mode) (v : V) → value_at eq (put eq mode pairs k v) q ≡ value_at eq pairs q
+    value_at-put_apart Touch v = value_at-to_back_apart v
+    value_at-put_apart Keep v = value_at-set_or_push_apart v
+
+    pub find-put_apart : (mode : Mode) (v : V) → find eq (put eq mode pairs k v) q ≡ find eq pairs q
+    find-put_apart Touch v = find-to_back_apart v
+    find-put_apart Keep v = find-set_or_push_apart v
 
     pub value_at-set_if_some_apart : (o : Option V) → value_at eq (set_if_some eq pairs k o) q ≡ value_at eq pairs q
     value_at-set_if_some_apart None = refl

@@ -8,10 +8,12 @@ use Rattle.std.specs.Cmp.{IsEquivalence}
 use Rattle.linked_hash_map.specs.LinkedMap.{LinkedMap}
 use Rattle.linked_hash_map.specs.declared.map.TheConstants.{LIMIT}
 use Rattle.linked_hash_map.specs.Validity.{IsValid}
-use Rattle.linked_hash_map.specs.Pairs.{find, without, to_back, set_value, set_or_push, set_if_some, set_values}
+use Rattle.linked_hash_map.specs.declared.map.Mode.{Mode}
+use Rattle.linked_hash_map.specs.declared.map.Mode.TheVariants.{Touch}
+use Rattle.linked_hash_map.specs.Pairs.{find, without, to_back, set_value, set_or_push, set_if_some, set_values, put}
 use Rattle.linked_hash_map.specs.Inserts.{insert_each}
 use Rattle.linked_hash_map.specs.Clones.{AreClones, IsClone}
-use Rattle.linked_hash_map.proofs.Callers.Keys.{distinct-nil, distinct-without, distinct-to_back, distinct-set_value, distinct-set_if_some, distinct-set_values, distinct-set_or_push, distinct-take, distinct-drop, length-without, length-set_value, length-set_if_some, length-set_values, length-set_or_push, length-to_back_present, length-to_back_most, length-set_or_push_most}
+use Rattle.linked_hash_map.proofs.Callers.Keys.{distinct-nil, distinct-without, distinct-to_back, distinct-put, distinct-set_value, distinct-set_if_some, distinct-set_values, distinct-set_or_push, distinct-take, distinct-drop, length-without, length-set_value, length-set_if_some, length-set_values, length-set_or_push, length-to_back_present, length-to_back_most, length-set_or_push_most, length-put_present, length-put_most}
 use Rattle.linked_hash_map.proofs.Callers.Collected.{distinct-insert_each, length-insert_each_most}
 
 -- a map without pairs
@@ -103,6 +105,25 @@ module _ {K V S : Type 0} {eq : K → K → Bool} {m : LinkedMap K V S} (valid :
         let limit = valid.limit in
         IsValid-to_back k v changed more (omega arith)
 
+    -- and in either mode
+    pub IsValid-put : (mode : Mode) (k : K) (v : V) → n.pairs ≡ put eq mode m.pairs k v → n.capacity ≡ max m.capacity (length n.pairs) → length n.pairs ≤ LIMIT → IsValid eq n
+    IsValid-put mode k v = raised (distinct-put laws mode m.pairs k v valid.distinct)
+
+    pub IsValid-put_present : (mode : Mode) (k : K) (v : V) → IsSome (find eq m.pairs k) → n.pairs ≡ put eq mode m.pairs k v → n.capacity ≡ max m.capacity (length n.pairs) → IsValid eq n
+    IsValid-put_present mode k v found changed more =
+        let same = length-put_present laws m.pairs k valid.distinct found mode v in
+        let held : length n.pairs ≡ length (put eq mode m.pairs k v) = ap length changed in
+        let within = valid.within in
+        let limit = valid.limit in
+        IsValid-put mode k v changed more (omega arith)
+
+    pub IsValid-put_below : (mode : Mode) (k : K) (v : V) → length m.pairs < m.capacity → n.pairs ≡ put eq mode m.pairs k v → n.capacity ≡ max m.capacity (length n.pairs) → IsValid eq n
+    IsValid-put_below mode k v below changed more =
+        let most = length-put_most eq mode m.pairs k v in
+        let held : length n.pairs ≡ length (put eq mode m.pairs k v) = ap length changed in
+        let limit = valid.limit in
+        IsValid-put mode k v changed more (omega arith)
+
     -- after `or_insert`
     pub IsValid-set_or_push : (k : K) (v : V) → n.pairs ≡ set_or_push eq m.pairs k v → n.capacity ≡ max m.capacity (length n.pairs) → length n.pairs ≤ LIMIT → IsValid eq n
     IsValid-set_or_push k v = raised (distinct-set_or_push laws m.pairs k v valid.distinct)
@@ -123,16 +144,16 @@ module _ {K V S : Type 0} {eq : K → K → Bool} {m : LinkedMap K V S} (valid :
         IsValid-set_or_push k v changed more (omega arith)
 
     -- after `extend`
-    pub IsValid-insert_each : (items : List (K × V)) → n.pairs ≡ insert_each eq m.pairs items → n.capacity ≡ max m.capacity (length n.pairs) → length n.pairs ≤ LIMIT → IsValid eq n
-    IsValid-insert_each items = raised (distinct-insert_each laws m.pairs items valid.distinct)
+    pub IsValid-insert_each : (mode : Mode) (items : List (K × V)) → n.pairs ≡ insert_each eq mode m.pairs items → n.capacity ≡ max m.capacity (length n.pairs) → length n.pairs ≤ LIMIT → IsValid eq n
+    IsValid-insert_each mode items = raised (distinct-insert_each laws mode m.pairs items valid.distinct)
 
     -- where there is room for one more pair for each item
-    pub IsValid-insert_each_below : (items : List (K × V)) → length m.pairs + length items ≤ m.capacity → n.pairs ≡ insert_each eq m.pairs items → n.capacity ≡ max m.capacity (length n.pairs) → IsValid eq n
-    IsValid-insert_each_below items room changed more =
-        let most = length-insert_each_most laws m.pairs items valid.distinct in
-        let held : length n.pairs ≡ length (insert_each eq m.pairs items) = ap length changed in
+    pub IsValid-insert_each_below : (mode : Mode) (items : List (K × V)) → length m.pairs + length items ≤ m.capacity → n.pairs ≡ insert_each eq mode m.pairs items → n.capacity ≡ max m.capacity (length n.pairs) → IsValid eq n
+    IsValid-insert_each_below mode items room changed more =
+        let most = length-insert_each_most laws mode m.pairs items valid.distinct in
+        let held : length n.pairs ≡ length (insert_each eq mode m.pairs items) = ap length changed in
         let limit = valid.limit in
-        IsValid-insert_each items changed more (omega arith)
+        IsValid-insert_each mode items changed more (omega arith)
 
 length-clones : {K V : Type 0} (IsKeyClone : K → K → Type 0) (IsValueClone : V → V → Type 0) (pairs clones : List (K × V)) → AreClones IsKeyClone IsValueClone pairs clones → length clones ≡ length pairs
 length-clones IsKeyClone IsValueClone [] [] each = refl
@@ -146,13 +167,13 @@ IsValid-clone {K} {V} {S} {eq} laws {IsKeyClone} {IsValueClone} {IsHasherClone} 
     let clones = cloned.pairs.0 in
     let same = cloned.pairs.2 in
     let as_many = length-clones IsKeyClone IsValueClone m.pairs clones cloned.pairs.1 in
-    let most = length-insert_each_most laws [] clones (distinct-nil V eq) in
-    let held : length n.pairs ≡ length (insert_each eq [] clones) = ap length same in
+    let most = length-insert_each_most laws Touch [] clones (distinct-nil V eq) in
+    let held : length n.pairs ≡ length (insert_each eq Touch [] clones) = ap length same in
     let room = cloned.capacity in
     let within = valid.within in
     let limit = valid.limit in
     record {
-      distinct = subst (λ ps. IsDistinct eq (keys_of ps)) (sym same) (distinct-insert_each laws [] clones (distinct-nil V eq));
+      distinct = subst (λ ps. IsDistinct eq (keys_of ps)) (sym same) (distinct-insert_each laws Touch [] clones (distinct-nil V eq));
       within = omega arith;
       limit = omega arith;
     }

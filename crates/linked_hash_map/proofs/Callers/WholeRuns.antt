@@ -3,11 +3,12 @@
 use Rattle.std.proofs.Common.{◌≡◌, ℕ, Bool, true, false, Result, Ok, Err, IfOk, ◌||◌, IsFalse, List, [], ◌∷◌, map, refl, sym, ap, ap₂, ◌∙◌, true≢false}
 use Rattle.std.specs.List.{list_any}
 use Rattle.std.specs.Cmp.{IsEquivalence}
+use Rattle.linked_hash_map.specs.declared.map.Mode.{Mode}
 use Rattle.linked_hash_map.specs.LinkedMap.{LinkedMap}
 use Rattle.linked_hash_map.specs.Validity.{IsValid}
-use Rattle.linked_hash_map.specs.Log.{Log, pairs, high, Defines}
+use Rattle.linked_hash_map.specs.Log.{Log, mode, pairs, high, Defines}
 use Rattle.linked_hash_map.specs.Run.{first_log, log_after, last_log, IsRun}
-use Rattle.linked_hash_map.specs.Commands.{is_refusal, pairs_after, capacity_after, reply_to, replies_to, pairs_after_all, capacity_after_all}
+use Rattle.linked_hash_map.specs.Commands.{is_refusal, pairs_after, capacity_after, mode_after, mode_after_all, reply_to, replies_to, pairs_after_all, capacity_after_all}
 use Rattle.linked_hash_map.specs.declared.replay.Command.{Command}
 use Rattle.linked_hash_map.specs.declared.replay.Reply.{Reply}
 use Rattle.linked_hash_map.proofs.Callers.Replay.{Replied-given, Defines-first}
@@ -15,18 +16,20 @@ use Rattle.linked_hash_map.proofs.Callers.Replay.{Replied-given, Defines-first}
 -- what `replay` says where it returns replies: each is allowed on the log that those before it left, and the last log defines
 -- the map
 pub record Replayed {K V S : Type 0} (eq : K → K → Bool) (old : LinkedMap K V S) (commands : List (Command K V)) (replies : List (Reply K V)) (new : LinkedMap K V S) : Type 0 where
-  pub run : IsRun eq old.capacity (first_log old.pairs) commands replies
-  pub pairs : new.pairs ≡ pairs eq (last_log eq (first_log old.pairs) commands replies)
-  pub capacity : new.capacity ≡ high eq old.capacity (last_log eq (first_log old.pairs) commands replies)
+  pub run : IsRun eq old.capacity (first_log old.mode old.pairs) commands replies
+  pub pairs : new.pairs ≡ pairs eq (last_log eq (first_log old.mode old.pairs) commands replies)
+  pub capacity : new.capacity ≡ high eq old.capacity (last_log eq (first_log old.mode old.pairs) commands replies)
+  pub mode : new.mode ≡ mode (last_log eq (first_log old.mode old.pairs) commands replies)
 
--- it is what the three clauses of `replay` say together
+-- it is what the four clauses of `replay` say together
 pub Replayed-replay : {K V S R E : Type 0} (eq : K → K → Bool) (old new : LinkedMap K V S) (commands : List (Command K V)) (items : R → List (Reply K V)) (r : Result R E)
-    → IfOk r (λ replies. IsRun eq old.capacity (first_log old.pairs) commands (items replies))
-    → IfOk r (λ replies. new.pairs ≡ pairs eq (last_log eq (first_log old.pairs) commands (items replies)))
-    → IfOk r (λ replies. new.capacity ≡ high eq old.capacity (last_log eq (first_log old.pairs) commands (items replies)))
+    → IfOk r (λ replies. IsRun eq old.capacity (first_log old.mode old.pairs) commands (items replies))
+    → IfOk r (λ replies. new.pairs ≡ pairs eq (last_log eq (first_log old.mode old.pairs) commands (items replies)))
+    → IfOk r (λ replies. new.capacity ≡ high eq old.capacity (last_log eq (first_log old.mode old.pairs) commands (items replies)))
+    → IfOk r (λ replies. new.mode ≡ mode (last_log eq (first_log old.mode old.pairs) commands (items replies)))
     → IfOk r (λ replies. Replayed eq old commands (items replies) new)
-Replayed-replay eq old new commands items (Ok replies) run same_pairs same_capacity = record { run = run; pairs = same_pairs; capacity = same_capacity }
-Replayed-replay eq old new commands items (Err refused) run same_pairs same_capacity = tt
+Replayed-replay eq old new commands items (Ok replies) run same_pairs same_capacity same_mode = record { run = run; pairs = same_pairs; capacity = same_capacity; mode = same_mode }
+Replayed-replay eq old new commands items (Err refused) run same_pairs same_capacity same_mode = tt
 
 -- no reply says that something was refused for want of memory
 abbrev pub NoneRefused : {K V : Type 0} → List (Reply K V) → Type 0
@@ -42,74 +45,79 @@ others_given false b h = h
 
 module _ {K V : Type 0} {eq : K → K → Bool} (laws : IsEquivalence eq) (start : ℕ) where
   -- a run on a log that defines these pairs and this capacity
-  pub replies-given : (commands : List (Command K V)) (replies : List (Reply K V)) (log : Log K V) (held : List (K × V)) (room : ℕ) → Defines eq start log held room → IsRun eq start log commands replies → NoneRefused replies → replies ≡ replies_to eq room held commands
-  replies-given [] [] log held room defines run given = refl
-  replies-given [] (reply ∷ replies) log held room defines run given = absurd run
-  replies-given (command ∷ commands) [] log held room defines run given = absurd run
-  replies-given (command ∷ commands) (reply ∷ replies) log held room defines run given =
+  pub replies-given : (commands : List (Command K V)) (replies : List (Reply K V)) (log : Log K V) (held : List (K × V)) (room : ℕ) (mode : Mode) → Defines eq start log held room mode → IsRun eq start log commands replies → NoneRefused replies → replies ≡ replies_to eq mode room held commands
+  replies-given [] [] log held room mode defines run given = refl
+  replies-given [] (reply ∷ replies) log held room mode defines run given = absurd run
+  replies-given (command ∷ commands) [] log held room mode defines run given = absurd run
+  replies-given (command ∷ commands) (reply ∷ replies) log held room mode defines run given =
       let refused = is_refusal reply.answer in
       let later = list_any (λ (r : Reply K V). is_refusal r.answer) replies in
       let replied = Replied-given laws defines command reply run.0 (first_given refused later given) in
       ap₂ (λ r rs. r ∷ rs)
       (λ i. record { answer = replied.answer_is i; len = replied.len_is i; capacity = replied.capacity_is i })
-      (replies-given commands replies (log_after eq log command reply.answer) (pairs_after eq held command) (capacity_after eq room held command) replied.defines run.1 (others_given refused later given))
+      (replies-given commands replies (log_after eq log command reply.answer) (pairs_after eq mode held command) (capacity_after eq mode room held command) (mode_after mode command) replied.defines run.1 (others_given refused later given))
 
-  pub Defines-given : (commands : List (Command K V)) (replies : List (Reply K V)) (log : Log K V) (held : List (K × V)) (room : ℕ) → Defines eq start log held room → IsRun eq start log commands replies → NoneRefused replies → Defines eq start (last_log eq log commands replies) (pairs_after_all eq held commands) (capacity_after_all eq room held commands)
-  Defines-given [] [] log held room defines run given = defines
-  Defines-given [] (reply ∷ replies) log held room defines run given = absurd run
-  Defines-given (command ∷ commands) [] log held room defines run given = absurd run
-  Defines-given (command ∷ commands) (reply ∷ replies) log held room defines run given =
+  pub Defines-given : (commands : List (Command K V)) (replies : List (Reply K V)) (log : Log K V) (held : List (K × V)) (room : ℕ) (mode : Mode) → Defines eq start log held room mode → IsRun eq start log commands replies → NoneRefused replies → Defines eq start (last_log eq log commands replies) (pairs_after_all eq mode held commands) (capacity_after_all eq mode room held commands) (mode_after_all mode commands)
+  Defines-given [] [] log held room mode defines run given = defines
+  Defines-given [] (reply ∷ replies) log held room mode defines run given = absurd run
+  Defines-given (command ∷ commands) [] log held room mode defines run given = absurd run
+  Defines-given (command ∷ commands) (reply ∷ replies) log held room mode defines run given =
       let refused = is_refusal reply.answer in
       let later = list_any (λ (r : Reply K V). is_refusal r.answer) replies in
       let replied = Replied-given laws defines command reply run.0 (first_given refused later given) in
-      Defines-given commands replies (log_after eq log command reply.answer) (pairs_after eq held command) (capacity_after eq room held command) replied.defines run.1 (others_given refused later given)
+      Defines-given commands replies (log_after eq log command reply.answer) (pairs_after eq mode held command) (capacity_after eq mode room held command) (mode_after mode command) replied.defines run.1 (others_given refused later given)
 
 module _ {K V S : Type 0} {eq : K → K → Bool} (laws : IsEquivalence eq) {old new : LinkedMap K V S} {commands : List (Command K V)} {replies : List (Reply K V)} (valid : IsValid eq old) (replayed : Replayed eq old commands replies new) where
   -- of a whole run: what `replay` answered, and what the map holds
-  pub replies-replayed : NoneRefused replies → replies ≡ replies_to eq old.capacity old.pairs commands
-  replies-replayed given = replies-given laws old.capacity commands replies (first_log old.pairs) old.pairs old.capacity (Defines-first laws valid) replayed.run given
+  pub replies-replayed : NoneRefused replies → replies ≡ replies_to eq old.mode old.capacity old.pairs commands
+  replies-replayed given = replies-given laws old.capacity commands replies (first_log old.mode old.pairs) old.pairs old.capacity old.mode (Defines-first laws valid) replayed.run given
 
-  pub pairs-replayed : NoneRefused replies → new.pairs ≡ pairs_after_all eq old.pairs commands
+  pub pairs-replayed : NoneRefused replies → new.pairs ≡ pairs_after_all eq old.mode old.pairs commands
   pairs-replayed given =
       replayed.pairs
-      ∙ (Defines-given laws old.capacity commands replies (first_log old.pairs) old.pairs old.capacity (Defines-first laws valid) replayed.run given).same_pairs
+      ∙ (Defines-given laws old.capacity commands replies (first_log old.mode old.pairs) old.pairs old.capacity old.mode (Defines-first laws valid) replayed.run given).same_pairs
 
-  pub capacity-replayed : NoneRefused replies → new.capacity ≡ capacity_after_all eq old.capacity old.pairs commands
+  pub capacity-replayed : NoneRefused replies → new.capacity ≡ capacity_after_all eq old.mode old.capacity old.pairs commands
   capacity-replayed given =
       replayed.capacity
-      ∙ (Defines-given laws old.capacity commands replies (first_log old.pairs) old.pairs old.capacity (Defines-first laws valid) replayed.run given).same_capacity
+      ∙ (Defines-given laws old.capacity commands replies (first_log old.mode old.pairs) old.pairs old.capacity old.mode (Defines-first laws valid) replayed.run given).same_capacity
+
+  pub mode-replayed : NoneRefused replies → new.mode ≡ mode_after_all old.mode commands
+  mode-replayed given =
+      replayed.mode
+      ∙ (Defines-given laws old.capacity commands replies (first_log old.mode old.pairs) old.pairs old.capacity old.mode (Defines-first laws valid) replayed.run given).same_mode
 
 -- the answers do not rest on the capacity
-answers-replies_to : {K V : Type 0} (eq : K → K → Bool) (commands : List (Command K V)) (held : List (K × V)) (room other : ℕ) → map (λ reply. reply.answer) (replies_to eq room held commands) ≡ map (λ reply. reply.answer) (replies_to eq other held commands)
-answers-replies_to eq [] held room other = refl
-answers-replies_to eq (command ∷ commands) held room other =
-    ap (λ answers. (reply_to eq room held command).answer ∷ answers)
-    (answers-replies_to eq commands (pairs_after eq held command) (capacity_after eq room held command) (capacity_after eq other held command))
+answers-replies_to : {K V : Type 0} (eq : K → K → Bool) (commands : List (Command K V)) (held : List (K × V)) (room other : ℕ) (mode : Mode) → map (λ reply. reply.answer) (replies_to eq mode room held commands) ≡ map (λ reply. reply.answer) (replies_to eq mode other held commands)
+answers-replies_to eq [] held room other mode = refl
+answers-replies_to eq (command ∷ commands) held room other mode =
+    ap (λ answers. (reply_to eq mode room held command).answer ∷ answers)
+    (answers-replies_to eq commands (pairs_after eq mode held command) (capacity_after eq mode room held command) (capacity_after eq mode other held command) (mode_after mode command))
 
-module _ {K V S T : Type 0} {eq : K → K → Bool} (laws : IsEquivalence eq) {old new : LinkedMap K V S} {old' new' : LinkedMap K V T} {commands : List (Command K V)} {replies replies' : List (Reply K V)} (valid : IsValid eq old) (valid' : IsValid eq old') (replayed : Replayed eq old commands replies new) (replayed' : Replayed eq old' commands replies' new') (same : old.pairs ≡ old'.pairs) (given : NoneRefused replies) (given' : NoneRefused replies') where
-  -- two runs of the same commands on maps with the same pairs, whatever their hashers, have the same answers and leave the same pairs
+module _ {K V S T : Type 0} {eq : K → K → Bool} (laws : IsEquivalence eq) {old new : LinkedMap K V S} {old' new' : LinkedMap K V T} {commands : List (Command K V)} {replies replies' : List (Reply K V)} (valid : IsValid eq old) (valid' : IsValid eq old') (replayed : Replayed eq old commands replies new) (replayed' : Replayed eq old' commands replies' new') (same : old.pairs ≡ old'.pairs) (alike : old.mode ≡ old'.mode) (given : NoneRefused replies) (given' : NoneRefused replies') where
+  -- two runs of the same commands on maps with the same pairs and the same mode, whatever their hashers, have the same answers and leave the same pairs
   pub answers-same_run : map (λ reply. reply.answer) replies ≡ map (λ reply. reply.answer) replies'
   answers-same_run =
       ap (map (λ (reply : Reply K V). reply.answer)) (replies-replayed laws valid replayed given)
-      ∙ answers-replies_to eq commands old.pairs old.capacity old'.capacity
-      ∙ ap (λ held. map (λ (reply : Reply K V). reply.answer) (replies_to eq old'.capacity held commands)) same
+      ∙ answers-replies_to eq commands old.pairs old.capacity old'.capacity old.mode
+      ∙ ap₂ (λ mode held. map (λ (reply : Reply K V). reply.answer) (replies_to eq mode old'.capacity held commands)) alike same
       ∙ sym (ap (map (λ (reply : Reply K V). reply.answer)) (replies-replayed laws valid' replayed' given'))
 
   pub pairs-same_run : new.pairs ≡ new'.pairs
   pairs-same_run =
       pairs-replayed laws valid replayed given
-      ∙ ap (λ held. pairs_after_all eq held commands) same
+      ∙ ap₂ (λ mode held. pairs_after_all eq mode held commands) alike same
       ∙ sym (pairs-replayed laws valid' replayed' given')
 
   -- and where their capacities were the same, the same replies and capacities
   pub replies-same_run : old.capacity ≡ old'.capacity → replies ≡ replies'
   replies-same_run as_much =
       replies-replayed laws valid replayed given
-      ∙ ap₂ (λ room held. replies_to eq room held commands) as_much same
+      ∙ (λ i. replies_to eq (alike i) (as_much i) (same i) commands)
       ∙ sym (replies-replayed laws valid' replayed' given')
 
   pub capacity-same_run : old.capacity ≡ old'.capacity → new.capacity ≡ new'.capacity
   capacity-same_run as_much =
       capacity-replayed laws valid replayed given
-      ∙ ap₂ (λ room held. capacity_after_all eq room held commands) as_much same
+      ∙ (λ i. capacity_after_all eq (alike i) (as_much i) (same i) commands)
       ∙ sym (capacity-replayed laws valid' replayed' given')

@@ -66,6 +66,7 @@ impl<K: Eq + Hash, V, S: BuildHasher> LinkedHashMap<K, V, S> {
         ensures capacity { (cursor_map result).capacity ≡ self.old.capacity }
         ensures rechained { (cursor_map result).rechained ≡ self.old.rechained }
         ensures hasher { (cursor_map result).hasher ≡ self.old.hasher }
+        ensures mode { (cursor_map result).mode ≡ self.old.mode }
         ensures valid { IsValid K.eq self.old }
     {
         self.begin_visit();
@@ -81,6 +82,7 @@ impl<K: Eq + Hash, V, S: BuildHasher> LinkedHashMap<K, V, S> {
         ensures capacity { IfSome result (λ entry. (occupied_map entry).capacity ≡ self.old.capacity) }
         ensures rechained { IfSome result (λ entry. (occupied_map entry).rechained ≡ self.old.rechained) }
         ensures hasher { IfSome result (λ entry. (occupied_map entry).hasher ≡ self.old.hasher) }
+        ensures mode { IfSome result (λ entry. (occupied_map entry).mode ≡ self.old.mode) }
         ensures valid { IsValid K.eq self.old }
         ensures none { IfNone result (to_visit self.old ≡ []) }
     {
@@ -116,6 +118,7 @@ impl<'a, K: Eq + Hash, V, S: BuildHasher> Entries<'a, K, V, S> {
         ensures capacity { IfSome result (λ entry. (occupied_map entry).capacity ≡ (cursor_map self.old).capacity) }
         ensures rechained { IfSome result (λ entry. (occupied_map entry).rechained ≡ (cursor_map self.old).rechained) }
         ensures hasher { IfSome result (λ entry. (occupied_map entry).hasher ≡ (cursor_map self.old).hasher) }
+        ensures mode { IfSome result (λ entry. (occupied_map entry).mode ≡ (cursor_map self.old).mode) }
         ensures valid { IsValid K.eq (cursor_map self.old) }
         ensures none { IfNone result (to_visit (cursor_map self.old) ≡ []) }
     {

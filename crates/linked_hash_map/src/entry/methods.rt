@@ -41,6 +41,7 @@ impl<K: Eq + Hash, V, S: BuildHasher> LinkedHashMap<K, V, S> {
         ensures capacity { (entry_map result).capacity ≡ self.old.capacity }
         ensures rechained { (entry_map result).rechained ≡ self.old.rechained }
         ensures hasher { (entry_map result).hasher ≡ self.old.hasher }
+        ensures mode { (entry_map result).mode ≡ self.old.mode }
         ensures ends_visit { IsTrue (is_occupied result) → entry_map result ≡ without_cursor self.old }
         ensures unchanged { entry_value result ≡ None → entry_map result ≡ self.old }
         ensures valid { IsValid K.eq self.old }

@@ -5,7 +5,7 @@
 ghost use Rattle.std.specs.Prelude.{◌≡◌, ◌+◌, ◌-◌, ◌<◌, ◌≤◌, ◌++◌, ◌∷◌, [], length, map, max, remove, slice_get, option_map, None, Some, IsTrue, IsFalse, IfOk, IsOk};
 ghost use Rattle.std.specs.Map.{keys_of};
 ghost use Rattle.std.specs.Borrow.{sem};
-ghost use Rattle.linked_hash_map.specs.Pairs.{find};
+ghost use Rattle.linked_hash_map.specs.Pairs.{find, put};
 ghost use Rattle.linked_hash_map.specs.Indexes.{IsIndex};
 ghost use Rattle.linked_hash_map.specs.Cursor.{to_visit, without_cursor, IsOutside};
 ghost use Rattle.linked_hash_map.specs.LinkedMap.{nowhere};
@@ -19,7 +19,7 @@ ghost use Rattle.lhm_ring.specs.Positions.{place_of, place_of_some};
 ghost use Rattle.lhm_ring.specs.RingState.{IsHeld, AtHeld, first_at};
 ghost use Rattle.lhm_ring.specs.LentRings.{lent_held, lent_name, IsLent};
 
-use super::{LIMIT, LinkedHashMap};
+use super::{LIMIT, LinkedHashMap, Mode};
 use crate::iter::IntoIter;
 use lhm_ring::index::{Index, buckets_for};
 use lhm_ring::ring::{Hole, LentValues, Position, Ring, ValueLoan};
@@ -63,6 +63,7 @@ impl<K: Eq + Hash, V, S: BuildHasher> LinkedHashMap<K, V, S> {
             unvisited: _,
             current: _,
             rechained: _,
+            mode: _,
         } = self;
         IntoIter::new(ring)
     }
@@ -185,6 +186,7 @@ impl<K: Eq + Hash, V, S: BuildHasher> LinkedHashMap<K, V, S> {
         ensures capacity { self.new.capacity ≡ self.old.capacity }
         ensures rechained { self.new.rechained ≡ self.old.rechained }
         ensures hasher { self.new.hasher ≡ self.old.hasher }
+        ensures mode { self.new.mode ≡ self.old.mode }
         ensures to_visit { to_visit self.new ≡ to_visit self.old }
         ensures outside { IsOutside self.new.current self.new }
         ensures unvisited { self.new.unvisited ≡ self.old.unvisited }
@@ -196,25 +198,33 @@ impl<K: Eq + Hash, V, S: BuildHasher> LinkedHashMap<K, V, S> {
         self.ring.move_to_back(at);
     }
 
-    /// Puts a value in the place of that of the current pair, which is none of those still to be visited, moves the pair to the
-    /// back and returns the old value.
+    /// Puts a value in the place of that of the current pair, which is none of those still to be visited, and returns the old
+    /// value. The pair moves to the back, or in `Keep` stays in its place; it stays the current one.
     pub(crate) fn insert_current(&mut self, value: V) -> V
         requires within { self.old.current < length self.old.pairs }
         requires outside { IsOutside self.old.current self.old }
-        ensures pairs { (pair : K × V) → slice_get self.old.pairs self.old.current ≡ Some pair →
-            self.new.pairs ≡ remove self.old.pairs self.old.current ++ (pair.0, value) ∷ [] }
+        ensures pairs { (key : K) → IsIndex K.eq self.old.pairs key self.old.current →
+            self.new.pairs ≡ put K.eq self.old.mode self.old.pairs key value }
+        ensures pair { (pair : K × V) → slice_get self.old.pairs self.old.current ≡ Some pair →
+            slice_get self.new.pairs self.new.current ≡ Some (pair.0, value) }
         ensures old { option_map (λ pair. pair.1) (slice_get self.old.pairs self.old.current) ≡ Some result }
-        ensures current { self.new.current ≡ length self.old.pairs - 1 }
+        ensures len { length self.new.pairs ≡ length self.old.pairs }
         ensures capacity { self.new.capacity ≡ self.old.capacity }
         ensures rechained { self.new.rechained ≡ self.old.rechained }
         ensures hasher { self.new.hasher ≡ self.old.hasher }
+        ensures mode { self.new.mode ≡ self.old.mode }
         ensures to_visit { to_visit self.new ≡ to_visit self.old }
         ensures outside { IsOutside self.new.current self.new }
         ensures valid { IsValid K.eq self.old }
         ensures stays_valid { IsValid K.eq self.new }
     {
-        self.move_current_to_back();
-        mem::replace(self.current_value_mut(), value)
+        match self.mode {
+            Mode::Touch => {
+                self.move_current_to_back();
+                mem::replace(self.current_value_mut(), value)
+            }
+            Mode::Keep => mem::replace(self.current_value_mut(), value),
+        }
     }
 
     /// Takes out the current pair, which is none of those still to be visited. No pair is the current one then.
@@ -226,6 +236,7 @@ impl<K: Eq + Hash, V, S: BuildHasher> LinkedHashMap<K, V, S> {
         ensures capacity { self.new.capacity ≡ self.old.capacity }
         ensures rechained { self.new.rechained ≡ self.old.rechained }
         ensures hasher { self.new.hasher ≡ self.old.hasher }
+        ensures mode { self.new.mode ≡ self.old.mode }
         ensures to_visit { to_visit self.new ≡ to_visit self.old }
         ensures valid { IsValid K.eq self.old }
         ensures stays_valid { IsValid K.eq self.new }
@@ -244,6 +255,7 @@ impl<K: Eq + Hash, V, S: BuildHasher> LinkedHashMap<K, V, S> {
         ensures capacity { self.new.capacity ≡ self.old.capacity }
         ensures rechained { self.new.rechained ≡ self.old.rechained }
         ensures hasher { self.new.hasher ≡ self.old.hasher }
+        ensures mode { self.new.mode ≡ self.old.mode }
         ensures valid { IsValid K.eq self.old }
     {
         self.mark = self.ring.first();
@@ -260,6 +272,7 @@ impl<K: Eq + Hash, V, S: BuildHasher> LinkedHashMap<K, V, S> {
         ensures capacity { self.new.capacity ≡ self.old.capacity }
         ensures rechained { self.new.rechained ≡ self.old.rechained }
         ensures hasher { self.new.hasher ≡ self.old.hasher }
+        ensures mode { self.new.mode ≡ self.old.mode }
         ensures valid { IsValid K.eq self.old }
 
         ensures none { IsFalse result → to_visit self.old ≡ [] }
@@ -300,6 +313,7 @@ impl<K: Eq + Hash, V, S: BuildHasher> LinkedHashMap<K, V, S> {
         ensures capacity { self.new.capacity ≡ self.old.capacity }
         ensures rechained { self.new.rechained ≡ self.old.rechained }
         ensures hasher { self.new.hasher ≡ self.old.hasher }
+        ensures mode { self.new.mode ≡ self.old.mode }
         ensures bookmark { self.new.bookmark ≡ self.old.bookmark }
         ensures unvisited { self.new.unvisited ≡ self.old.unvisited }
         ensures current { self.new.current ≡ self.old.current }
@@ -315,6 +329,7 @@ impl<K: Eq + Hash, V, S: BuildHasher> LinkedHashMap<K, V, S> {
         requires limit { capacity ≤ LIMIT }
         ensures pairs { self.new.pairs ≡ self.old.pairs }
         ensures hasher { self.new.hasher ≡ self.old.hasher }
+        ensures mode { self.new.mode ≡ self.old.mode }
         ensures bookmark { self.new.bookmark ≡ self.old.bookmark }
         ensures unvisited { self.new.unvisited ≡ self.old.unvisited }
         ensures current { self.new.current ≡ self.old.current }
@@ -342,6 +357,7 @@ impl<K: Eq + Hash, V, S: BuildHasher> LinkedHashMap<K, V, S> {
     pub(crate) fn make_room(&mut self) -> bool
         ensures pairs { self.new.pairs ≡ self.old.pairs }
         ensures hasher { self.new.hasher ≡ self.old.hasher }
+        ensures mode { self.new.mode ≡ self.old.mode }
         ensures bookmark { self.new.bookmark ≡ self.old.bookmark }
         ensures unvisited { self.new.unvisited ≡ self.old.unvisited }
         ensures current { self.new.current ≡ self.old.current }
@@ -366,6 +382,7 @@ impl<K: Eq + Hash, V, S: BuildHasher> LinkedHashMap<K, V, S> {
     pub(crate) fn lower(&mut self) -> bool
         ensures pairs { self.new.pairs ≡ self.old.pairs }
         ensures hasher { self.new.hasher ≡ self.old.hasher }
+        ensures mode { self.new.mode ≡ self.old.mode }
         ensures lowered { IsTrue result → self.new.capacity ≡ length self.old.pairs }
         ensures rechained { IsTrue result → self.new.rechained ≡ rechained_lowered (length self.old.pairs) self.old.capacity }
         ensures refused { IsFalse result → self.new ≡ self.old }
@@ -392,6 +409,7 @@ impl<K: Eq + Hash, V, S: BuildHasher> LinkedHashMap<K, V, S> {
         ensures capacity { self.new.capacity ≡ 0 }
         ensures rechained { self.new.rechained ≡ rechained_fitted self.old.rechained 0 self.old.capacity }
         ensures hasher { self.new.hasher ≡ self.old.hasher }
+        ensures mode { self.new.mode ≡ self.old.mode }
         ensures valid { IsValid K.eq self.old }
     {
         let alloc = self.ring.allocator();

@@ -11,7 +11,7 @@ returns-in_default g c = record {
       let some : 0 < c.len.result = positive c.len.result (λ none. true≢false (sym (c.in_default.ensures.succeeds none))) in
       let held = size-held g.met.K.Eq.laws defines in
       omega (arith, c.len.ensures.len);
-  defines = λ start log defines. Defines-nothing g.met.K.Eq.laws defines refl refl;
+  defines = λ start log defines. Defines-nothing g.met.K.Eq.laws defines refl refl refl;
   hasher = refl;
 }
 
@@ -46,6 +46,6 @@ returns g c =
     sym (append-nil c.loop-pair.pairs.items) ∙ ap (λ l. c.loop-pair.pairs.items ++ l) (sym c.in-None.ensures.steps.0.0) ∙ c.loop-pair.invariant.pairs in
     record {
       answers = λ start log defines. c.from_vec.ensures ∙ all ∙ sym defines.same_pairs;
-      defines = λ start log defines. Defines-remove_all g.met.K.Eq.laws defines refl refl;
+      defines = λ start log defines. Defines-remove_all g.met.K.Eq.laws defines refl refl refl;
       hasher = refl;
     }

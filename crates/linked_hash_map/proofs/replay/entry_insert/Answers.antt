@@ -1,9 +1,10 @@
 use Rattle.std.proofs.Common.{rules, ◌≡◌, ◌+◌, ◌++◌, ◌∷◌, [], max, length, cond, refl, sym, ap, ◌∙◌, arith, length-append, Some}
 use Rattle.linked_hash_map.specs.Changes.{pushed}
-use Rattle.linked_hash_map.specs.Pairs.{key_or, find, to_back}
+use Rattle.linked_hash_map.specs.Pairs.{key_or, find, put}
 use Rattle.linked_hash_map.specs.Entry.{occupied_key}
 use Rattle.linked_hash_map.proofs.LiveKeys.{none_is}
-use Rattle.linked_hash_map.proofs.Pairs.{length-to_back, to_back-absent}
+use Rattle.linked_hash_map.proofs.Pairs.{length-put, put-absent}
+use Rattle.linked_hash_map.proofs.EntryFacts.{acts_put}
 use Rattle.linked_hash_map.proofs.Effects.{IsFull-held, IsAbsent-found, HasValue-value, Defines-put, Defines-nothing}
 use Rattle.linked_hash_map.proofs.Runs.{Serves-same}
 use Rattle.linked_hash_map.proofs.replay.entry_insert.Goals as goal
@@ -14,19 +15,19 @@ returns-in-Occupied g c =
     let entry = c.in-Occupied.ensures in
     let done = c.insert.ensures in
     let left = c.insert.new.self.map.now in
-    let moved : left.pairs ≡ to_back g.K.PartialEq.eq m.pairs c.args.key c.args.value =
+    let moved : left.pairs ≡ put g.K.PartialEq.eq m.mode m.pairs c.args.key c.args.value =
     done.pairs
-    ∙ ap (λ pairs. to_back g.K.PartialEq.eq pairs (occupied_key c.in-Occupied.entry) c.args.value) entry.pairs
-    ∙ entry.acts.moves c.args.value in
+    ∙ (λ i. put g.K.PartialEq.eq (entry.mode i) (entry.pairs i) (occupied_key c.in-Occupied.entry) c.args.value)
+    ∙ acts_put entry.acts m.mode c.args.value in
     let as_long : length left.pairs ≡ length m.pairs =
     ap length moved
-    ∙ length-to_back g.met.K.Eq.laws m.pairs c.args.key c.args.value entry.valid.distinct
+    ∙ length-put g.met.K.Eq.laws m.mode m.pairs c.args.key c.args.value entry.valid.distinct
     ∙ ap (λ b. cond b (length m.pairs) (length m.pairs + 1)) (sym entry.occupied) in
     let room : left.capacity ≡ max m.capacity (length left.pairs) = let same = done.capacity ∙ entry.capacity in omega (arith, entry.valid.within) in
     Serves-same left (search rules)
     (record {
       answers = λ start log defines. HasValue-value g.met.K.Eq.laws defines c.args.key (sym entry.value ∙ ap Some (sym done.old));
-      defines = λ start log defines. Defines-put g.met.K.Eq.laws defines c.args.key c.args.value moved room;
+      defines = λ start log defines. Defines-put g.met.K.Eq.laws defines c.args.key c.args.value moved room (done.mode ∙ entry.mode);
       hasher = done.hasher ∙ entry.hasher;
     })
 
@@ -42,14 +43,14 @@ returns-in-Ok g c =
     let absent = none_is (find eq m.pairs c.args.key) (sym entry.occupied) in
     let same_key : key ≡ c.args.key = entry.key ∙ ap (key_or c.args.key) absent in
     let left = pushed held key value in
-    let at_back : left.pairs ≡ to_back eq m.pairs c.args.key c.args.value =
-    (λ i. entry.pairs i ++ (same_key i, c.in-Ok.ensures.value i) ∷ []) ∙ to_back-absent eq m.pairs c.args.key c.args.value absent in
+    let went_in : left.pairs ≡ put eq m.mode m.pairs c.args.key c.args.value =
+    (λ i. entry.pairs i ++ (same_key i, c.in-Ok.ensures.value i) ∷ []) ∙ put-absent eq m.mode m.pairs c.args.key c.args.value absent in
     let room : left.capacity ≡ max m.capacity (length left.pairs) =
     let longer = length-append held.pairs ((key, value) ∷ []) in let same = entry.capacity in omega arith in
     Serves-same left (search rules)
     (record {
       answers = λ start log defines. IsAbsent-found g.met.K.Eq.laws defines c.args.key absent;
-      defines = λ start log defines. Defines-put g.met.K.Eq.laws defines c.args.key c.args.value at_back room;
+      defines = λ start log defines. Defines-put g.met.K.Eq.laws defines c.args.key c.args.value went_in room entry.mode;
       hasher = entry.hasher;
     })
 
@@ -67,6 +68,6 @@ returns-in-Err g c =
     (record {
       answers = λ start log defines.
           ((IsAbsent-found g.met.K.Eq.laws defines c.args.key absent, IsFull-held g.met.K.Eq.laws defines full), refused.key_back ∙ same_key, refused.value_back);
-      defines = λ start log defines. Defines-nothing g.met.K.Eq.laws defines refl refl;
+      defines = λ start log defines. Defines-nothing g.met.K.Eq.laws defines refl refl refl;
       hasher = refl;
     })

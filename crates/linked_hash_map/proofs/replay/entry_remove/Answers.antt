@@ -15,7 +15,7 @@ returns-in-Occupied g c =
       defines = λ start log defines.
           Defines-remove g.met.K.Eq.laws defines c.args.key
           (done.pairs ∙ ap (λ pairs. without g.K.PartialEq.eq pairs (occupied_key c.in-Occupied.entry)) entry.pairs ∙ entry.acts.removes)
-          (done.capacity ∙ entry.capacity);
+          (done.capacity ∙ entry.capacity) (done.mode ∙ entry.mode);
       hasher = done.hasher ∙ entry.hasher;
     })
 
@@ -26,6 +26,6 @@ returns-in-Vacant g c =
     Serves-same c.drop-entry.new.self.0 (search rules)
     (record {
       answers = λ start log defines. IsAbsent-value g.met.K.Eq.laws defines c.args.key (sym entry.value);
-      defines = λ start log defines. Defines-nothing g.met.K.Eq.laws defines (ap (λ m. m.pairs) kept) (ap (λ m. m.capacity) kept);
+      defines = λ start log defines. Defines-nothing g.met.K.Eq.laws defines (ap (λ m. m.pairs) kept) (ap (λ m. m.capacity) kept) (ap (λ m. m.mode) kept);
       hasher = ap (λ m. m.hasher) kept;
     })

@@ -7,7 +7,7 @@ returns-in-Ok-None g c =
     let done = c.in-Ok-None.ensures in
     record {
       answers = λ start log defines. IsAbsent-value g.met.K.Eq.laws defines c.args.key (sym done.old ∙ c.in-Ok-None.field-0-is);
-      defines = λ start log defines. Defines-put g.met.K.Eq.laws defines c.args.key c.args.value done.pairs done.capacity;
+      defines = λ start log defines. Defines-put g.met.K.Eq.laws defines c.args.key c.args.value done.pairs done.capacity done.mode;
       hasher = done.hasher;
     }
 
@@ -16,7 +16,7 @@ returns-in-Ok-Some g c =
     let done = c.in-Ok-Some.ensures in
     record {
       answers = λ start log defines. HasValue-value g.met.K.Eq.laws defines c.args.key (sym done.old ∙ c.in-Ok-Some.field-0-is);
-      defines = λ start log defines. Defines-put g.met.K.Eq.laws defines c.args.key c.args.value done.pairs done.capacity;
+      defines = λ start log defines. Defines-put g.met.K.Eq.laws defines c.args.key c.args.value done.pairs done.capacity done.mode;
       hasher = done.hasher;
     }
 
@@ -27,6 +27,6 @@ returns-in-Err g c =
       answers = λ start log defines.
           ((IsAbsent-found g.met.K.Eq.laws defines c.args.key refused.absent, IsFull-held g.met.K.Eq.laws defines refused.full), refused.key_back, refused.value_back);
       defines = λ start log defines.
-          Defines-nothing g.met.K.Eq.laws defines (ap (λ m. m.pairs) refused.unchanged) (ap (λ m. m.capacity) refused.unchanged);
+          Defines-nothing g.met.K.Eq.laws defines (ap (λ m. m.pairs) refused.unchanged) (ap (λ m. m.capacity) refused.unchanged) (ap (λ m. m.mode) refused.unchanged);
       hasher = ap (λ m. m.hasher) refused.unchanged;
     }

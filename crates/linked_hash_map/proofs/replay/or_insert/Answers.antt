@@ -1,9 +1,9 @@
 use Rattle.std.proofs.Common.{rules, ◌≡◌, true, false, max, length, is_some, None, Some, option_map, sym, ap, ◌∙◌, arith, unwrap_or}
 use Rattle.linked_hash_map.specs.Changes.{set_or_pushed}
-use Rattle.linked_hash_map.specs.Pairs.{key_or, find, value_at, to_back, set_or_push}
+use Rattle.linked_hash_map.specs.Pairs.{key_or, find, value_at, put, set_or_push}
 use Rattle.linked_hash_map.specs.Entry.{is_occupied, entry_map, entry_key}
 use Rattle.linked_hash_map.proofs.LiveKeys.{none_is}
-use Rattle.linked_hash_map.proofs.Pairs.{is_some-value_at, to_back-absent}
+use Rattle.linked_hash_map.proofs.Pairs.{is_some-value_at, put-absent}
 use Rattle.linked_hash_map.proofs.Indexes.{set_value-own}
 use Rattle.linked_hash_map.proofs.EntryFacts.{some_unwrapped, set_or_push-present, set_or_push-absent}
 use Rattle.linked_hash_map.proofs.Effects.{IsFull-held, IsAbsent-found, IsAbsent-value, HasValue-value, Defines-put, Defines-nothing}
@@ -33,7 +33,7 @@ returns-then-present g c =
     Serves-same left (search rules)
     (record {
       answers = λ start log defines. (HasValue-value g.met.K.Eq.laws defines k own).0;
-      defines = λ start log defines. Defines-nothing g.met.K.Eq.laws defines kept room;
+      defines = λ start log defines. Defines-nothing g.met.K.Eq.laws defines kept room entry.mode;
       hasher = entry.hasher;
     })
 
@@ -51,16 +51,16 @@ returns-else-present g c =
     let given : value ≡ c.args.value =
     c.in-Ok.ensures.value ∙ ap (λ o. unwrap_or o c.args.value) (entry.value ∙ ap (option_map (λ pair. pair.1)) absent) in
     let left = set_or_pushed eq held key value in
-    let pushed : left.pairs ≡ to_back eq m.pairs k c.args.value =
+    let pushed : left.pairs ≡ put eq m.mode m.pairs k c.args.value =
     ap (λ ps. set_or_push eq ps key value) entry.pairs
     ∙ entry.acts.sets_or_pushes value
     ∙ sym (set_or_push-absent eq m.pairs k value absent)
-    ∙ to_back-absent eq m.pairs k value absent
-    ∙ ap (to_back eq m.pairs k) given in
+    ∙ put-absent eq m.mode m.pairs k value absent
+    ∙ ap (put eq m.mode m.pairs k) given in
     Serves-same left (search rules)
     (record {
       answers = λ start log defines. IsAbsent-found g.met.K.Eq.laws defines k absent;
-      defines = λ start log defines. Defines-put g.met.K.Eq.laws defines k c.args.value pushed (ap (λ n. max n (length left.pairs)) entry.capacity);
+      defines = λ start log defines. Defines-put g.met.K.Eq.laws defines k c.args.value pushed (ap (λ n. max n (length left.pairs)) entry.capacity) entry.mode;
       hasher = entry.hasher;
     })
 
@@ -80,6 +80,6 @@ returns-in-Err g c =
     (record {
       answers = λ start log defines.
           ((IsAbsent-value g.met.K.Eq.laws defines k none, IsFull-held g.met.K.Eq.laws defines full), refused.key_back ∙ entry.key ∙ ap (key_or k) absent, refused.value_back);
-      defines = λ start log defines. Defines-nothing g.met.K.Eq.laws defines (ap (λ n. n.pairs) kept) (ap (λ n. n.capacity) kept);
+      defines = λ start log defines. Defines-nothing g.met.K.Eq.laws defines (ap (λ n. n.pairs) kept) (ap (λ n. n.capacity) kept) (ap (λ n. n.mode) kept);
       hasher = ap (λ n. n.hasher) kept;
     })

@@ -7,13 +7,13 @@ returns-in-Some g c =
     let found = c.in-Some.ensures.value in
     record {
       answers = λ start log defines. (HasValue-value g.met.K.Eq.laws defines c.args.key (sym found)).0;
-      defines = λ start log defines. Defines-refresh g.met.K.Eq.laws defines c.args.key c.in-Some.field-0.now found refl refl;
+      defines = λ start log defines. Defines-refresh g.met.K.Eq.laws defines c.args.key c.in-Some.field-0.now found refl refl refl;
       hasher = refl;
     }
 
 pub returns : goal.returns
 returns g c = record {
   answers = λ start log defines. IsAbsent-value g.met.K.Eq.laws defines c.args.key (sym c.in-None.ensures.value);
-  defines = λ start log defines. Defines-nothing g.met.K.Eq.laws defines refl refl;
+  defines = λ start log defines. Defines-nothing g.met.K.Eq.laws defines refl refl refl;
   hasher = refl;
 }

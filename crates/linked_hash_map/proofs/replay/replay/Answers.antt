@@ -6,7 +6,7 @@ use Rattle.linked_hash_map.proofs.replay.replay.Goals as goal
 pub loop-command-init : goal.loop-command-init
 loop-command-init g c = record {
   run = rw c.in-Ok.ensures.items tt;
-  defines = Defines-first_log g.met.K.Eq.laws c.args.map.now.pairs c.args.map.now.capacity c.allocator.ensures.valid.distinct c.allocator.ensures.valid.within;
+  defines = Defines-first_log g.met.K.Eq.laws c.args.map.now.mode c.args.map.now.pairs c.args.map.now.capacity c.allocator.ensures.valid.distinct c.allocator.ensures.valid.within;
   hasher = refl;
   valid = c.allocator.ensures.valid;
   count = c.in-Ok.ensures.len;
@@ -17,7 +17,7 @@ pub loop-command-preserved : goal.loop-command-preserved
 loop-command-preserved g c =
     let eq = g.K.PartialEq.eq in
     let start = c.args.map.now.capacity in
-    let first = first_log c.args.map.now.pairs in
+    let first = first_log c.args.map.now.mode c.args.map.now.pairs in
     let i = c.loop-command.invariant in
     let command = c.in-Some.command in
     let reply = c.reply_to.result in

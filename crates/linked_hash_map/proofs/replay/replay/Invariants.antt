@@ -8,10 +8,10 @@ use Rattle.linked_hash_map.proofs.replay.replay.Given as goal
 abbrev pub invariant-loop-command : goal.invariant-loop-command
 invariant-loop-command g l =
     let eq = g.K.PartialEq.eq in
-    let first = first_log l.fn.map.pairs in
+    let first = first_log l.fn.map.mode l.fn.map.pairs in
     record {
       run : IsRun eq l.fn.map.capacity first l.yielded l.replies.items;
-      defines : Defines eq l.fn.map.capacity (last_log eq first l.yielded l.replies.items) l.map.pairs l.map.capacity;
+      defines : Defines eq l.fn.map.capacity (last_log eq first l.yielded l.replies.items) l.map.pairs l.map.capacity l.map.mode;
       hasher : l.map.hasher ≡ l.fn.map.hasher;
       valid : IsValid eq l.map;
       count : vec_len l.replies ≡ length l.yielded;

@@ -8,13 +8,13 @@ returns-in-Some g c = record {
   answers = λ start log defines.
       HasValue-value g.met.K.Eq.laws defines c.args.key (sym (ap Some c.replace.ensures.value ∙ c.in-Some.ensures.value));
   defines = λ start log defines.
-      Defines-write g.met.K.Eq.laws defines c.args.key c.args.value (ap (set_value g.K.PartialEq.eq c.args.map.now.pairs c.args.key) c.replace.ensures.after) refl;
+      Defines-write g.met.K.Eq.laws defines c.args.key c.args.value (ap (set_value g.K.PartialEq.eq c.args.map.now.pairs c.args.key) c.replace.ensures.after) refl refl;
   hasher = refl;
 }
 
 pub returns-in-None : goal.returns-in-None
 returns-in-None g c = record {
   answers = λ start log defines. (IsAbsent-value g.met.K.Eq.laws defines c.args.key (sym c.in-None.ensures.value), refl, refl);
-  defines = λ start log defines. Defines-nothing g.met.K.Eq.laws defines refl refl;
+  defines = λ start log defines. Defines-nothing g.met.K.Eq.laws defines refl refl refl;
   hasher = refl;
 }

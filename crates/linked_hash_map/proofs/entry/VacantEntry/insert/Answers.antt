@@ -27,6 +27,7 @@ returns g c =
           unvisited = (pushed.ensures.unvisited ∙ room.ensures.unvisited) i;
           current = (pushed.ensures.current ∙ room.ensures.current) i;
           rechained = (pushed.ensures.rechained ∙ room.ensures.rechained c.if-not-make_room.false ∙ ap (rechained_raised m.rechained (length m.pairs) m.capacity) (room.ensures.made c.if-not-make_room.false)) i;
+          mode = (pushed.ensures.mode ∙ room.ensures.mode) i;
         },
       )),
       record {

@@ -6,7 +6,7 @@ use Rattle.linked_hash_map.proofs.map.LinkedHashMap.extend_refs.Goals as goal
 pub loop-key-preserved : goal.loop-key-preserved
 loop-key-preserved g c =
     let put = c.in-Ok.ensures in
-    record { inserted = HasInserted-shown g.met.K.Eq.laws deref_pair c.args.self.now c.loop-key.yielded (c.in-Some.key, c.in-Some.value) c.len-len.ensures.valid.distinct c.loop-key.invariant.inserted put.pairs put.capacity put.rechained put.hasher; valid = put.stays_valid }
+    record { inserted = HasInserted-shown g.met.K.Eq.laws deref_pair c.args.self.now c.loop-key.yielded (c.in-Some.key, c.in-Some.value) c.len-len.ensures.valid.distinct c.loop-key.invariant.inserted put.pairs put.capacity put.rechained put.hasher put.mode; valid = put.stays_valid }
 
 pub loop-key-init : goal.loop-key-init
 loop-key-init g c = record { inserted = HasInserted-none g.met.K.Eq.laws c.args.self.now c.len-len.ensures.valid; valid = c.len-len.ensures.valid }

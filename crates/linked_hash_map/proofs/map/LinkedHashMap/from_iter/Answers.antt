@@ -33,7 +33,7 @@ returns-in-Ok-clause-all g c =
           made = c.into_iter-items.ensures.into_iter_gives;
           gives = subst (λ it. Drains g.I.IntoIter.Iterator.next_gives it given) gives.made gives.gives;
         };
-        pairs = took.all.pairs ∙ ap (λ pairs. insert_each g.K.PartialEq.eq pairs (map (λ pair. pair) given)) made.pairs;
+        pairs = took.all.pairs ∙ (λ i. insert_each g.K.PartialEq.eq (made.mode i) (made.pairs i) (map (λ pair. pair) given));
       };
       room = took.capacity ∙ ap (λ room. max room (length c.extend.new.self.pairs)) made.capacity;
     }

@@ -29,12 +29,12 @@ returns-in-Some g c =
       (λ i. inl (
         c.value_mut.result.ghost_name,
         λ w. linked_map ((pairs_set h.held c.value_mut.ensures.alone w ∙ sym (set_value-index g.met.K.Eq.laws distinct (index_of-key h) w)) i)
-            (length-same _ m.ring.held (bare-change at w m.ring.held) i + m.ring.spares) m.hasher (bookmark_at (place_of_some m.mark) (bare-change at w m.ring.held i)) m.unvisited (current_at (place_of_some m.current) (bare-change at w m.ring.held i)) m.rechained,
+            (length-same _ m.ring.held (bare-change at w m.ring.held) i + m.ring.spares) m.hasher (bookmark_at (place_of_some m.mark) (bare-change at w m.ring.held i)) m.unvisited (current_at (place_of_some m.current) (bare-change at w m.ring.held i)) m.rechained m.mode,
       )),
       record {
         writes_back = tt;
         value = ap Some (c.value_mut.ensures.value (front h.held) (node h.held) (back h.held) h.held.3 h.held.4) ∙ value_at-index g.met.K.Eq.laws distinct (index_of-key h) (pair_there h.held);
-        valid = IsValid-view c.self.invariant _ _ _ _ _;
+        valid = IsValid-view c.self.invariant _ _ _ _ _ _;
       },
     )
 
@@ -49,6 +49,6 @@ returns-in-None g c =
             (λ x y h. ap (λ ws. g.S.Hasher.Hasher.finish (fold g.S.Hasher.Hasher.write (g.S.BuildHasher.build_hasher m.hasher) ws)) (g.met.K.Hash.respects_eq x y h))
             c.args.key.now c.hash_one-number.result c.hash_one-number.ensures m.ring.held c.self.invariant.nodes.hashed
             (of-None (IsAbsent g.K.PartialEq.eq c.hash_one-number.result c.args.key.now m.ring.held) c.find.result.0 c.in-None.is c.find.ensures.absent)));
-        valid = IsValid-view c.self.invariant _ _ _ _ _;
+        valid = IsValid-view c.self.invariant _ _ _ _ _ _;
       },
     )

@@ -39,7 +39,8 @@ returns g c =
             ((moved.ensures.hasher ∙ ap (λ m. m.hasher) (sought.ends_visit refl)) i)
             (moved.ensures.none_left (sought.visited refl) i)
             ((moved.ensures.unvisited ∙ (sought.visited refl)) i) nowhere
-            ((moved.ensures.rechained ∙ ap (λ m. m.rechained) (sought.ends_visit refl)) i),
+            ((moved.ensures.rechained ∙ ap (λ m. m.rechained) (sought.ends_visit refl)) i)
+            ((moved.ensures.mode ∙ ap (λ m. m.mode) (sought.ends_visit refl)) i),
       )),
       record {
         writes_back = tt;

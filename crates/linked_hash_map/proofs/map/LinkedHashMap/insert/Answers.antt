@@ -1,7 +1,7 @@
-use Rattle.std.proofs.Common.{◌<◌, ◌++◌, ◌∷◌, [], length, remove, slice_get, option_map, refl, sym, ap, ap₂, ◌∙◌, subst, arith}
-use Rattle.linked_hash_map.specs.Pairs.{key_or}
-use Rattle.linked_hash_map.proofs.Pairs.{filter-none}
-use Rattle.linked_hash_map.proofs.Indexes.{length-moved, IsIndex-within, value_at-slice_get, to_back-index}
+use Rattle.std.proofs.Common.{◌<◌, ◌++◌, ◌∷◌, [], length, slice_get, option_map, refl, sym, ap, ◌∙◌, subst, arith}
+use Rattle.linked_hash_map.specs.Pairs.{put}
+use Rattle.linked_hash_map.proofs.Pairs.{put-absent}
+use Rattle.linked_hash_map.proofs.Indexes.{IsIndex-within, value_at-slice_get}
 use Rattle.linked_hash_map.proofs.map.LinkedHashMap.insert.Goals as goal
 
 pub insert_current-requires-clause-within : goal.insert_current-requires-clause-within
@@ -18,18 +18,15 @@ returns-then-seek-clause-old g c =
 pub returns-then-seek-clause-pairs : goal.returns-then-seek-clause-pairs
 returns-then-seek-clause-pairs g c =
     let sought = c.if-seek.ensures in
-    let pair = (sought.found refl).pair in
-    let there = ap (λ m. slice_get m.pairs c.seek.new.self.current) (sought.ends_visit refl) ∙ (sought.found refl).there in
-    c.insert_current.ensures.pairs pair there
-    ∙ ap (λ m. remove m.pairs c.seek.new.self.current ++ (pair.0, c.args.value) ∷ []) (sought.ends_visit refl)
-    ∙ sym (to_back-index g.met.K.Eq.laws sought.valid.distinct (sought.found refl) (sought.found refl).there c.args.value)
+    let found = sought.found refl in
+    let same = sought.ends_visit refl in
+    c.insert_current.ensures.pairs c.args.key (record { pair = found.pair; there = ap (λ m. slice_get m.pairs c.seek.new.self.current) same ∙ found.there; same = found.same })
+    ∙ ap (λ m. put g.K.PartialEq.eq m.mode m.pairs c.args.key c.args.value) same
 
 pub returns-then-seek-clause-capacity : goal.returns-then-seek-clause-capacity
 returns-then-seek-clause-capacity g c =
     let sought = c.if-seek.ensures in
-    let pair = (sought.found refl).pair in
-    let there = ap (λ m. slice_get m.pairs c.seek.new.self.current) (sought.ends_visit refl) ∙ (sought.found refl).there in
-    let length_is = ap length (c.insert_current.ensures.pairs pair there) ∙ length-moved c.seek.new.self.pairs c.seek.new.self.current pair (pair.0, c.args.value) there ∙ ap (λ m. length m.pairs) (sought.ends_visit refl) in
+    let length_is = c.insert_current.ensures.len ∙ ap (λ m. length m.pairs) (sought.ends_visit refl) in
     let kept = c.insert_current.ensures.capacity ∙ ap (λ m. m.capacity) (sought.ends_visit refl) in
     omega (arith, length_is, kept, sought.valid.within)
 
@@ -38,4 +35,4 @@ returns-clause-pairs g c =
     let sought = c.if-seek.ensures in
     c.push_back.ensures.pairs
     ∙ ap (λ pairs. pairs ++ (c.args.key, c.args.value) ∷ []) (c.make_room.ensures.pairs ∙ ap (λ m. m.pairs) (sought.unchanged refl))
-    ∙ sym (ap₂ (λ pairs o. pairs ++ (key_or c.args.key o, c.args.value) ∷ []) (filter-none (g.K.PartialEq.eq c.args.key) c.args.self.now.pairs (sought.absent refl)) (sought.absent refl))
+    ∙ put-absent g.K.PartialEq.eq c.args.self.now.mode c.args.self.now.pairs c.args.key c.args.value (sought.absent refl)

@@ -40,11 +40,11 @@ returns g c =
       (
         refl,
         λ w i. linked_map ((pairs_set held c.value_mut.ensures.alone w ∙ ap (λ n. set_value_at (pairs_of m.ring.held) n w) index) i)
-            (length-same _ m.ring.held (bare-change at w m.ring.held) i + m.ring.spares) m.hasher (bookmark_at (place_of_some m.mark) (bare-change at w m.ring.held i)) m.unvisited (current_at (place_of_some m.current) (bare-change at w m.ring.held i)) m.rechained,
+            (length-same _ m.ring.held (bare-change at w m.ring.held) i + m.ring.spares) m.hasher (bookmark_at (place_of_some m.mark) (bare-change at w m.ring.held i)) m.unvisited (current_at (place_of_some m.current) (bare-change at w m.ring.held i)) m.rechained m.mode,
       ),
       record {
         writes_back = tt;
         value = ap (option_map (λ p. p.1)) (last-pairs last) ∙ ap Some (sym (c.value_mut.ensures.value last.rest last.node [] last.is last.at));
-        valid = IsValid-view c.self.invariant _ _ _ _ _;
+        valid = IsValid-view c.self.invariant _ _ _ _ _ _;
       },
     )

@@ -25,11 +25,11 @@ returns g c =
       (
         refl,
         λ w i. linked_map ((pairs_set h c.value_mut.ensures.alone w ∙ ap (λ k. set_value_at (pairs_of hs) k w) (sym index)) i)
-            (length-same _ hs (bare-change p w hs) i + m.ring.spares) m.hasher (bookmark_at (place_of_some m.mark) (bare-change p w hs i)) m.unvisited nowhere m.rechained,
+            (length-same _ hs (bare-change p w hs) i + m.ring.spares) m.hasher (bookmark_at (place_of_some m.mark) (bare-change p w hs i)) m.unvisited nowhere m.rechained m.mode,
       ),
       record {
         writes_back = tt;
         value = ap (λ k. option_map (λ pair. pair.1) (slice_get (pairs_of hs) k)) index ∙ ap (option_map (λ pair. pair.1)) (pair_there h) ∙ ap Some (sym (c.value_mut.ensures.value h.0 h.1 h.2 h.3 h.4));
-        valid = IsValid-view c.self.invariant _ _ _ _ _;
+        valid = IsValid-view c.self.invariant _ _ _ _ _ _;
       },
     )

@@ -14,6 +14,7 @@ returns-then-visit_next g c = (
     capacity = c.if-visit_next.ensures.capacity;
     rechained = c.if-visit_next.ensures.rechained;
     hasher = c.if-visit_next.ensures.hasher;
+    mode = c.if-visit_next.ensures.mode;
     valid = c.if-visit_next.ensures.valid;
     none = tt;
   },

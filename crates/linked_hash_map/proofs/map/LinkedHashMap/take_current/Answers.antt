@@ -53,7 +53,7 @@ returns-clause-to_visit g c =
     rw (← c.self.view_is) (to_visit-taken m.ring.held c.take_out_at.new.ring.held c.unlink-key.new.self.held c.take_out_at.ensures.held c.unlink-key.ensures.others (current_lies c.self.invariant c.unwrap-at.ensures) (place_of_some m.mark) m.unvisited elsewhere c.self.invariant.nodes.marked)
 
 pub returns-clause-valid : goal.returns-clause-valid
-returns-clause-valid g c = rw (← c.self.view_is) (IsValid-view c.self.invariant _ _ _ _ _)
+returns-clause-valid g c = rw (← c.self.view_is) (IsValid-view c.self.invariant _ _ _ _ _ _)
 
 pub returns-clause-stays_valid : goal.returns-clause-stays_valid
-returns-clause-stays_valid g c = IsValid-view (invariant_of-self g c) _ _ _ _ _
+returns-clause-stays_valid g c = IsValid-view (invariant_of-self g c) _ _ _ _ _ _

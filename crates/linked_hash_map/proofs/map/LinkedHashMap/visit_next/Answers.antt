@@ -7,7 +7,7 @@ use Rattle.linked_hash_map.proofs.MarkMoves.{marked_held, goes, kept_on, to_visi
 use Rattle.linked_hash_map.proofs.map.LinkedHashMap.visit_next.Goals as goal
 
 pub returns-in_default-clause-valid : goal.returns-in_default-clause-valid
-returns-in_default-clause-valid g c = rw (← c.self.view_is) (IsValid-view c.self.invariant _ _ _ _ _)
+returns-in_default-clause-valid g c = rw (← c.self.view_is) (IsValid-view c.self.invariant _ _ _ _ _ _)
 
 pub mark_behind-self-inside-requires : goal.mark_behind-self-inside-requires
 mark_behind-self-inside-requires g c = marked_held c.self.invariant (place_of c.in-Some.at) (ap place_of_some c.in-Some.is)
@@ -29,4 +29,4 @@ returns-clause-outside g c =
     λ _. (goes c.self.invariant (place_of c.in-Some.at) (ap place_of_some c.in-Some.is) (place_of_some m.result) (λ z. ap place_of_some (m.ensures.none z)) m.ensures.next m.ensures.apart).outside
 
 pub returns-clause-valid : goal.returns-clause-valid
-returns-clause-valid g c = rw (← c.self.view_is) (IsValid-view c.self.invariant _ _ _ _ _)
+returns-clause-valid g c = rw (← c.self.view_is) (IsValid-view c.self.invariant _ _ _ _ _ _)

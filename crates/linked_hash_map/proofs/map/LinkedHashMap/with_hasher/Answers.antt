@@ -8,4 +8,4 @@ pub invariant_of-result : goal.invariant_of-result
 invariant_of-result g c = IsKept-none c.new.ensures.empty (omega (arith, c.new.ensures.no_spares)) (indexed_new _ c.new.result c.new-2.ensures c.new.ensures.empty c.new.ensures.no_spares)
 
 pub returns-clause-valid : goal.returns-clause-valid
-returns-clause-valid g c = IsValid-view (invariant_of-result g c) _ _ _ _ _
+returns-clause-valid g c = IsValid-view (invariant_of-result g c) _ _ _ _ _ _

@@ -92,6 +92,9 @@ module _ {K V S H : Type 0} {g : eq.Ghosts K} {h : hash.Ghosts K} {b : builder.G
     abbrev SameHasher : Type 0
     SameHasher = IfSome e (λ o. (occupied_map o).hasher ≡ m.hasher)
 
+    abbrev SameMode : Type 0
+    SameMode = IfSome e (λ o. (occupied_map o).mode ≡ m.mode)
+
     abbrev NoneLeft : Type 0
     NoneLeft = IfNone e (to_visit m ≡ [])
 
@@ -194,9 +197,9 @@ next_spec 𝓤 𝓛 𝓜 𝓡 wired K V S H LK LV LS LH b₀ d₀ b₁ d₁ b₂
     use1 𝓛 (later (some (λ (e : Given.Denot).
     ((‵ (flft κs.0 qs.0) ⊛ ‵ (flft κs.1.1.0 qs.1.1.0) ⊛ ‵ (flft κs.1.1.1.0 qs.1.1.1.0) ⊛ ‵ (flft κs.1.1.1.1.0 qs.1.1.1.1.0) ⊛ ‵ (flft κs.1.1.1.1.1.0 qs.1.1.1.1.1.0) ⊛ ‵ ftrue) ⊛ ‵ (Given.own_val e (w ∷ []))) ⊛
     some (λ (ws : Lasts (entry-ended K V S H B) u.0.0 u.0.3). ‵ (lasts (entry-ended K V S H B) u.0.0 u.0.3 ws) ⊛ (‵ (LendsNext K V S H B r e) ⊛ raw (fact 𝓤 (Named e r.ghost_name))
-    ⊛ raw (fact 𝓤 (Visits e r.now)) ⊛ raw (fact 𝓤 (SamePairs e r.now)) ⊛ raw (fact 𝓤 (SameCapacity e r.now)) ⊛ raw (fact 𝓤 (SameRechained e r.now)) ⊛ raw (fact 𝓤 (SameHasher e r.now)) ⊛ raw (fact 𝓤 (IsValid b₁.eq r.now)) ⊛ raw (fact 𝓤 (NoneLeft e r.now))))))) (id⊢ 𝓤 _) $
+    ⊛ raw (fact 𝓤 (Visits e r.now)) ⊛ raw (fact 𝓤 (SamePairs e r.now)) ⊛ raw (fact 𝓤 (SameCapacity e r.now)) ⊛ raw (fact 𝓤 (SameRechained e r.now)) ⊛ raw (fact 𝓤 (SameHasher e r.now)) ⊛ raw (fact 𝓤 (SameMode e r.now)) ⊛ raw (fact 𝓤 (IsValid b₁.eq r.now)) ⊛ raw (fact 𝓤 (NoneLeft e r.now))))))) (id⊢ 𝓤 _) $
     await ! tt $ pick ! (λ e. split ! $ split ! $ split ! $ move ! (3 ∷ []) $ pick ! (λ ws'. split ! $ drop ! $ split ! $ move ! (1 ∷ []) $
-    split ! $ heard ! _ (λ name. split ! $ heard ! _ (λ visits. split ! $ heard ! _ (λ pairs. split ! $ heard ! _ (λ capacity. split ! $ heard ! _ (λ rechained. split ! $ heard ! _ (λ hasher. split ! $ heard ! _ (λ valid. heard ! _ (λ none.
+    split ! $ heard ! _ (λ name. split ! $ heard ! _ (λ visits. split ! $ heard ! _ (λ pairs. split ! $ heard ! _ (λ capacity. split ! $ heard ! _ (λ rechained. split ! $ heard ! _ (λ hasher. split ! $ heard ! _ (λ mode. split ! $ heard ! _ (λ valid. heard ! _ (λ none.
     -- [where it rests; the token of κs.0; the tokens of the parameters; the result; the token of κs.1; what follows]
     move ! (3 ∷ []) $ peeks ! Given (Is Given) (shows 𝓛 Given) e (w ∷ []) (λ it.
     let laws = entry-laws.the_row_laws (record { mir = named 0; lft = κs.0 }) (param 0 K) (param 1 V) (param 2 S) (param 3 H) b₁ b₂ b₃ b₄ (param_laws 0 K LK) (param_laws 1 V LV) (param_laws 2 S LS) (param_laws 3 H LH) in
@@ -213,4 +216,5 @@ next_spec 𝓤 𝓛 𝓜 𝓡 wired K V S H LK LV LS LH b₀ d₀ b₁ d₁ b₂
     use0 𝓛 (raw (fact 𝓤 (SameCapacity e held.map.now))) (fact_i 𝓤 _ (emp 𝓤) (subst (SameCapacity e) as_held capacity)) $ frame ! $
     use0 𝓛 (raw (fact 𝓤 (SameRechained e held.map.now))) (fact_i 𝓤 _ (emp 𝓤) (subst (SameRechained e) as_held rechained)) $ frame ! $
     use0 𝓛 (raw (fact 𝓤 (SameHasher e held.map.now))) (fact_i 𝓤 _ (emp 𝓤) (subst (SameHasher e) as_held hasher)) $ frame ! $
-    says ! (subst (NoneLeft e) as_held none) $ by ! (fact_i 𝓤 _ _ (subst (IsValid b₁.eq) as_held valid)))))))))))))))))))))))))
+    use0 𝓛 (raw (fact 𝓤 (SameMode e held.map.now))) (fact_i 𝓤 _ (emp 𝓤) (subst (SameMode e) as_held mode)) $ frame ! $
+    says ! (subst (NoneLeft e) as_held none) $ by ! (fact_i 𝓤 _ _ (subst (IsValid b₁.eq) as_held valid))))))))))))))))))))))))))
