@@ -2,7 +2,9 @@
 use Rattle.std.specs.Prelude.{ℕ, ◌≡◌, ◌≢◌, ◌+◌, ◌⊎◌, List, [], ◌∷◌, ◌++◌, Bool, true, false, All, codes, filter, length, map}
 use Rattle.std.specs.List.{AllZip}
 use Rattle.linked_hash_map.specs.declared.replay.Command.{Command}
-use Rattle.linked_hash_map.specs.declared.replay.Command.TheVariants.{Insert, Write, Refresh, Remove, PopFront, PopBack, Clear, Drain, Extend, OrInsert, EntryInsert, EntryRemove, Reserve, Shrink}
+use Rattle.linked_hash_map.specs.declared.replay.Command.TheVariants.{Insert, Write, Refresh, Remove, PopFront, PopBack, Clear, Drain, Extend, OrInsert, EntryInsert, EntryRemove, Reserve, Shrink, SetMode}
+use Rattle.linked_hash_map.specs.declared.map.Mode.{Mode}
+use Rattle.linked_hash_map.specs.declared.map.Mode.TheVariants.{Touch, Keep}
 use Rattle.lhm.specs.declared.parser.Name.{Name}
 use Rattle.lhm.specs.declared.parser.Name.TheVariants as name
 use Rattle.lhm.specs.Grammar.{words_of, SpellsNumber}
@@ -15,11 +17,6 @@ SpellNumbers words ns = AllZip SpellsNumber words ns
 abbrev pub StartWithNumber : List (List ℕ) → ℕ → List (List ℕ) → Type 0
 StartWithNumber [] n others = ⊥
 StartWithNumber (word ∷ words) n others = SpellsNumber word n × (words ≡ others)
-
--- the words are a name, and then spell the numbers
-abbrev pub AreNamed : List ℕ → List ℕ → List (List ℕ) → Type 0
-AreNamed name ns [] = ⊥
-AreNamed name ns (word ∷ words) = (word ≡ name) × SpellNumbers words ns
 
 -- the name of a command
 abbrev pub command_name : Command ℕ ℕ → Name
@@ -37,6 +34,7 @@ command_name (EntryInsert k v) = name.EntryInsert
 command_name (EntryRemove k) = name.EntryRemove
 command_name (Reserve n) = name.Reserve
 command_name Shrink = name.Shrink
+command_name (SetMode mode) = name.SetMode
 
 -- the numbers of pairs, each key before its value
 abbrev pub numbers_of : List (ℕ × ℕ) → List ℕ
@@ -59,6 +57,7 @@ command_numbers (EntryInsert k v) = k ∷ v ∷ []
 command_numbers (EntryRemove k) = k ∷ []
 command_numbers (Reserve n) = n ∷ []
 command_numbers Shrink = []
+command_numbers (SetMode mode) = []
 
 -- the word that is a name
 abbrev pub name_text : Name → List ℕ
@@ -76,10 +75,22 @@ name_text name.EntryInsert = codes "eput"
 name_text name.EntryRemove = codes "eremove"
 name_text name.Reserve = codes "reserve"
 name_text name.Shrink = codes "shrink"
+name_text name.SetMode = codes "mode"
 
--- the command is said by the words
+-- the word that is a mode
+abbrev pub mode_text : Mode → List ℕ
+mode_text Touch = codes "touch"
+mode_text Keep = codes "keep"
+
+-- the words say what comes after the name of a command: a mode, or else its numbers
+abbrev pub SayRest : Command ℕ ℕ → List (List ℕ) → Type 0
+SayRest (SetMode mode) words = words ≡ mode_text mode ∷ []
+SayRest command words = SpellNumbers words (command_numbers command)
+
+-- the command is said by the words: by its name, and then by what comes after it
 abbrev pub IsSaidBy : Command ℕ ℕ → List (List ℕ) → Type 0
-IsSaidBy command words = AreNamed (name_text (command_name command)) (command_numbers command) words
+IsSaidBy command [] = ⊥
+IsSaidBy command (word ∷ words) = (word ≡ name_text (command_name command)) × SayRest command words
 
 -- the words say no command
 abbrev pub SayNoCommand : List (List ℕ) → Type 0

@@ -1,11 +1,12 @@
 //! Commands from the words of lines.
 ghost use Rattle.std.specs.Prelude.{ℕ, ◌≡◌, ◌≢◌, ◌∷◌, List, [], IfSome, IfNone, IfOk, IfErr, OnOk, OnErr, IsErrOf, MatchOption};
 ghost use Rattle.lhm.specs.Grammar.{words_of, lines_of};
-ghost use Rattle.lhm.specs.Commands.{SpellNumbers, StartWithNumber, name_text, command_name, command_numbers, numbers_of, IsSaidBy, AreCommandsOf, IsInvalid};
+ghost use Rattle.lhm.specs.Commands.{SpellNumbers, StartWithNumber, name_text, mode_text, command_name, numbers_of, SayRest, IsSaidBy, AreCommandsOf, IsInvalid};
 ghost use Rattle.lhm.specs.Stop.{StopsLines};
 
 use super::grammar::{number, split_line, split_word};
 use super::stop::Stop;
+use linked_hash_map::Mode;
 use linked_hash_map::replay::{Command, PairList};
 use std::alloc::{AllocError, AllocFailed, Global};
 
@@ -106,6 +107,33 @@ fn pairs(alloc: Global, rest: &[u8]) -> Result<Vec<(u64, u64)>, LineError>
     Ok(pairs)
 }
 
+/// Returns the mode that a word is.
+fn mode_of(word: &[u8]) -> Option<Mode>
+    ensures known { IfSome result (λ mode. word.now ≡ mode_text mode) }
+    ensures unknown { IfNone result ((mode : Mode) → word.now ≢ mode_text mode) }
+{
+    match word {
+        b"touch" => Some(Mode::Touch),
+        b"keep" => Some(Mode::Keep),
+        _ => None,
+    }
+}
+
+/// Returns the mode that the only word is.
+fn mode(rest: &[u8]) -> Result<Mode, NotACommand>
+    ensures ok { IfOk result (λ mode. words_of rest.now ≡ mode_text mode ∷ []) }
+    ensures err { OnErr result ((mode : Mode) → words_of rest.now ≢ mode_text mode ∷ []) }
+{
+    let Some((word, after)) = split_word(rest) else {
+        return Err(NotACommand);
+    };
+    no_number(after)?;
+    match mode_of(word) {
+        Some(mode) => Ok(mode),
+        None => Err(NotACommand),
+    }
+}
+
 /// The name of a command.
 #[derive(Clone, Copy)]
 enum Name {
@@ -123,6 +151,7 @@ enum Name {
     EntryRemove,
     Reserve,
     Shrink,
+    SetMode,
 }
 
 /// Returns the name that a word is.
@@ -145,6 +174,7 @@ fn name_of(word: &[u8]) -> Option<Name>
         b"eremove" => Some(Name::EntryRemove),
         b"reserve" => Some(Name::Reserve),
         b"shrink" => Some(Name::Shrink),
+        b"mode" => Some(Name::SetMode),
         _ => None,
     }
 }
@@ -162,9 +192,9 @@ fn without_number(command: Command<u64, u64>, rest: &[u8]) -> Result<Command<u64
 /// Returns the command of a name that the words after it say.
 fn named(alloc: Global, name: Name, rest: &[u8]) -> Result<Command<u64, u64>, LineError>
     ensures name { IfOk result (λ command. command_name command ≡ name) }
-    ensures numbers { IfOk result (λ command. SpellNumbers (words_of rest.now) (command_numbers command)) }
+    ensures rest { IfOk result (λ command. SayRest command (words_of rest.now)) }
     ensures err { IsErrOf result LineError.NotACommand → ((command : Command ℕ ℕ) → command_name command ≡ name
-        → ¬ SpellNumbers (words_of rest.now) (command_numbers command)) }
+        → ¬ SayRest command (words_of rest.now)) }
 {
     match name {
         Name::Insert => {
@@ -193,6 +223,7 @@ fn named(alloc: Global, name: Name, rest: &[u8]) -> Result<Command<u64, u64>, Li
         Name::EntryRemove => Ok(Command::EntryRemove(one_number(rest)?)),
         Name::Reserve => Ok(Command::Reserve(one_number(rest)? as usize)),
         Name::Shrink => Ok(without_number(Command::Shrink, rest)?),
+        Name::SetMode => Ok(Command::SetMode(mode(rest)?)),
     }
 }
 

@@ -109,7 +109,7 @@ fn check_run(rt: &impl Abort, alloc: Global, input: &[u8], status: u8, output: &
 
 #[test]
 fn runs_done(rt: HostRuntime) {
-    let rows: [(&str, &str); 24] = [
+    let rows: [(&str, &str); 28] = [
         ("", "list\n"),
         (
             "insert 2 20\ninsert 1 10\ninsert 3 30\n",
@@ -193,6 +193,23 @@ fn runs_done(rt: HostRuntime) {
         ),
         // A growth that no allocator gives.
         ("reserve 576460752303423488\n", "noroom len=0 cap=0\nlist\n"),
+        // In mode keep an insertion leaves the place of a pair that is there, and a refresh moves it.
+        (
+            "mode keep\ninsert 1 10\ninsert 2 20\ninsert 1 11\n",
+            "done len=0 cap=0\nnew len=1 cap=1\nnew len=2 cap=2\nold 10 len=2 cap=2\nlist 1:11 2:20\n",
+        ),
+        (
+            "mode keep\ninsert 1 10\ninsert 2 20\ninsert 1 11\nrefresh 1\n",
+            "done len=0 cap=0\nnew len=1 cap=1\nnew len=2 cap=2\nold 10 len=2 cap=2\nfound len=2 cap=2\nlist 2:20 1:11\n",
+        ),
+        (
+            "insert 1 1\ninsert 2 2\nmode keep\neput 1 5\nextend 2 9 3 3\nmode touch\ninsert 1 6\n",
+            "new len=1 cap=1\nnew len=2 cap=2\ndone len=2 cap=2\nold 1 len=2 cap=2\ndone len=3 cap=3\ndone len=3 cap=3\nold 5 len=3 cap=3\nlist 2:9 3:3 1:6\n",
+        ),
+        (
+            "mode keep\ninsert 1 1\ninsert 2 2\nremove 1\ninsert 1 3\n",
+            "done len=0 cap=0\nnew len=1 cap=1\nnew len=2 cap=2\nold 1 len=1 cap=2\nnew len=2 cap=2\nlist 2:2 1:3\n",
+        ),
         // Any of the three separators stands between words and at the ends, lines may be blank, and the last line may
         // lack its newline.
         (
@@ -212,7 +229,7 @@ fn runs_done(rt: HostRuntime) {
 
 #[test]
 fn lines_that_are_no_command(rt: HostRuntime) {
-    let rows: [(&[u8], &str); 28] = [
+    let rows: [(&[u8], &str); 31] = [
         (
             b"insert 18446744073709551615 1\n\ninsert 18446744073709551616 1\ninsert 5\n",
             "line 3: not a command\n",
@@ -240,6 +257,9 @@ fn lines_that_are_no_command(rt: HostRuntime) {
         (b"insert +1 2\n", "line 1: not a command\n"),
         (b"insert 1 -2\n", "line 1: not a command\n"),
         (b"insert 1,2\n", "line 1: not a command\n"),
+        (b"mode\n", "line 1: not a command\n"),
+        (b"mode fast\n", "line 1: not a command\n"),
+        (b"mode touch keep\n", "line 1: not a command\n"),
         // A vertical tab separates nothing.
         (b"remove\x0b1\n", "line 1: not a command\n"),
         // Bytes that are not UTF-8, in a name and in a number.

@@ -3,8 +3,9 @@ use Rattle.std.proofs.Common.{◌≡◌, ℕ, ◌<◌, ◌≤◌, max, Bool, fal
 use Rattle.std.specs.Cmp.{IsEquivalence}
 use Rattle.std.specs.List.{IsDistinct}
 use Rattle.std.specs.Map.{keys_of}
-use Rattle.linked_hash_map.specs.Pairs.{key_or, find, to_back, first, without_first}
-use Rattle.linked_hash_map.proofs.Callers.Keys.{keys_of-to_back, length-to_back_absent, length-to_back_present}
+use Rattle.linked_hash_map.specs.declared.map.Mode.{Mode}
+use Rattle.linked_hash_map.specs.Pairs.{key_or, find, to_back, put, first, without_first}
+use Rattle.linked_hash_map.proofs.Callers.Keys.{keys_of-to_back, length-put_absent, length-put_present}
 use Rattle.linked_hash_map.proofs.Callers.Lookups.{eq-stored}
 
 -- an option without a value is none
@@ -19,12 +20,12 @@ cons-without_first (y ∷ xs) x h = let same : y ≡ x = cc in ap (λ z. z ∷ x
 
 module _ {K V : Type 0} {eq : K → K → Bool} (laws : IsEquivalence eq) (pairs : List (K × V)) (k : K) where
   -- where the key is present or there is room, an insertion leaves the capacity
-  pub max-length-to_back : (v : V) (capacity : ℕ) → IsDistinct eq (keys_of pairs) → length pairs ≤ capacity → (find eq pairs k ≡ None → length pairs < capacity) → max capacity (length (to_back eq pairs k v)) ≡ capacity
-  max-length-to_back v capacity distinct within room = by_find (find eq pairs k) refl
+  pub max-length-put : (mode : Mode) (v : V) (capacity : ℕ) → IsDistinct eq (keys_of pairs) → length pairs ≤ capacity → (find eq pairs k ≡ None → length pairs < capacity) → max capacity (length (put eq mode pairs k v)) ≡ capacity
+  max-length-put mode v capacity distinct within room = by_find (find eq pairs k) refl
     where
-      by_find : (o : Option (K × V)) → find eq pairs k ≡ o → max capacity (length (to_back eq pairs k v)) ≡ capacity
-      by_find None none = let more = length-to_back_absent eq pairs k v none in let below = room none in omega arith
-      by_find (Some pair) found = let same = length-to_back_present laws pairs k distinct (ap is_some found) v in omega arith
+      by_find : (o : Option (K × V)) → find eq pairs k ≡ o → max capacity (length (put eq mode pairs k v)) ≡ capacity
+      by_find None none = let more = length-put_absent eq mode pairs k v none in let below = room none in omega arith
+      by_find (Some pair) found = let same = length-put_present laws pairs k distinct (ap is_some found) mode v in omega arith
 
   -- where equality decides `≡`, the key that goes to the back is the key of the call
   pub keys_of-to_back_own : ((a b : K) → IsTrue (eq a b) → a ≡ b) → (v : V) → keys_of (to_back eq pairs k v) ≡ filter (λ j. not (eq k j)) (keys_of pairs) ++ k ∷ []

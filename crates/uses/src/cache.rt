@@ -2,10 +2,10 @@
 ghost use Rattle.std.specs.Prelude.{◌≡◌, ◌==◌, ◌&&◌, ◌<◌, ◌≤◌, [], ◌∷◌, ◌++◌, Some, None, IsNone, not, length, is_some, IfOk, IfSome, IsSome, IsErrOf, ◌↔◌};
 ghost use Rattle.std.specs.Borrow.{sem};
 ghost use Rattle.std.specs.Option.{option_copied_mut};
-ghost use Rattle.linked_hash_map.specs.Pairs.{find, value_at, to_back, first, without_first};
+ghost use Rattle.linked_hash_map.specs.Pairs.{find, value_at, put, first, without_first};
 ghost use Rattle.linked_hash_map.specs.Validity.{IsValid};
 
-use linked_hash_map::{LIMIT, LinkedHashMap, ReserveError};
+use linked_hash_map::{LIMIT, LinkedHashMap, Mode, ReserveError};
 use std::alloc::Global;
 use std::hash::Hash;
 
@@ -22,6 +22,7 @@ impl<K: Eq + Hash, V> Cache<K, V> {
     pub fn new(alloc: Global, size: usize) -> Result<Self, ReserveError>
         ensures empty { IfOk result (λ cache. cache.map.pairs ≡ []) }
         ensures size { IfOk result (λ cache. cache.map.capacity ≡ size) }
+        ensures mode { IfOk result (λ cache. cache.map.mode ≡ Mode.Touch) }
         ensures too_large { IsErrOf result ReserveError.TooLarge ↔ (LIMIT < size) }
     {
         let map = LinkedHashMap::with_capacity(alloc, size)?;
@@ -49,7 +50,8 @@ impl<K: Eq + Hash, V> Cache<K, V> {
         ensures evicts { is_some result ≡ not (is_some (find K.eq self.old.map.pairs key)) && (length self.old.map.pairs == self.old.map.capacity) }
         ensures evicted { IsSome result → result ≡ first self.old.map.pairs }
         ensures others { IsSome result → self.new.map.pairs ≡ without_first self.old.map.pairs ++ (key, value) ∷ [] }
-        ensures all { IsNone result → self.new.map.pairs ≡ to_back K.eq self.old.map.pairs key value }
+        ensures all { IsNone result → self.new.map.pairs ≡ put K.eq self.old.map.mode self.old.map.pairs key value }
+        ensures mode { self.new.map.mode ≡ self.old.map.mode }
     {
         if self.map.len() < self.map.capacity() || self.map.contains_key(&key) {
             self.store(key, value);
@@ -66,8 +68,9 @@ impl<K: Eq + Hash, V> Cache<K, V> {
         K: Drop,
         V: Drop,
         requires room { find K.eq self.old.map.pairs key ≡ None → length self.old.map.pairs < self.old.map.capacity }
-        ensures pairs { self.new.map.pairs ≡ to_back K.eq self.old.map.pairs key value }
+        ensures pairs { self.new.map.pairs ≡ put K.eq self.old.map.mode self.old.map.pairs key value }
         ensures size { self.new.map.capacity ≡ self.old.map.capacity }
+        ensures mode { self.new.map.mode ≡ self.old.map.mode }
     {
         match self.map.insert(key, value) {
             Ok(_old) => {}

@@ -11,7 +11,7 @@ pub fn insert_all<K: Eq + Hash + Drop, V: Drop, S: BuildHasher>(
     map: &mut LinkedHashMap<K, V, S>,
     list: Vec<(K, V)>,
 ) -> Result<(), Refused<K, V>>
-    ensures all { OnOk result (map.new.pairs ≡ insert_each K.eq map.old.pairs list.items) }
+    ensures all { OnOk result (map.new.pairs ≡ insert_each K.eq map.old.mode map.old.pairs list.items) }
     ensures absent { IfErr result (λ refused. find K.eq map.new.pairs refused.key ≡ None) }
     ensures full { OnErr result (length map.new.pairs ≡ map.new.capacity) }
 {
@@ -24,7 +24,7 @@ pub fn merge<K: Eq + Hash + Drop, V: Drop, S: BuildHasher, T: BuildHasher + Drop
     map: &mut LinkedHashMap<K, V, S>,
     others: LinkedHashMap<K, V, T>,
 ) -> Result<(), Refused<K, V>>
-    ensures all { OnOk result (map.new.pairs ≡ insert_each K.eq map.old.pairs others.pairs) }
+    ensures all { OnOk result (map.new.pairs ≡ insert_each K.eq map.old.mode map.old.pairs others.pairs) }
     ensures absent { IfErr result (λ refused. find K.eq map.new.pairs refused.key ≡ None) }
     ensures full { OnErr result (length map.new.pairs ≡ map.new.capacity) }
 {

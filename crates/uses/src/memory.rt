@@ -1,6 +1,6 @@
 //! Room made first, so that nothing fails later.
 ghost use Rattle.std.specs.Prelude.{◌≡◌, [], IfOk, OnOk, OnErr};
-ghost use Rattle.linked_hash_map.specs.Pairs.{value_at, to_back};
+ghost use Rattle.linked_hash_map.specs.Pairs.{value_at, put};
 
 use linked_hash_map::{LinkedHashMap, NoRoom, ReserveError};
 use std::hash::{BuildHasher, Hash};
@@ -12,7 +12,7 @@ pub fn reserve_and_insert<K: Eq + Hash + Drop, V: Drop, S: BuildHasher>(
     value: V,
 ) -> Result<Option<V>, ReserveError>
     ensures old { IfOk result (λ old. old ≡ value_at K.eq map.old.pairs key) }
-    ensures pairs { OnOk result (map.new.pairs ≡ to_back K.eq map.old.pairs key value) }
+    ensures pairs { OnOk result (map.new.pairs ≡ put K.eq map.old.mode map.old.pairs key value) }
     ensures unchanged { OnErr result (map.new ≡ map.old) }
 {
     map.reserve(1)?;

@@ -1,11 +1,11 @@
 //! Calls that are refused for want of memory, and what a caller does then.
 ghost use Rattle.std.specs.Prelude.{◌≡◌, ◌<◌, [], ◌∷◌, ◌++◌, max, length, IsSome, IsNone};
-ghost use Rattle.linked_hash_map.specs.Pairs.{to_back, first, without_first};
+ghost use Rattle.linked_hash_map.specs.Pairs.{put, first, without_first};
 
 use linked_hash_map::{LinkedHashMap, Refused};
 use std::hash::{BuildHasher, Hash};
 
-/// Puts a pair at the back. Where memory for it is refused, the pair comes back, and the one at the oldest place, which is
+/// Puts a pair in, at the back where its key is new. Where memory for it is refused, the pair comes back, and the one at the oldest place, which is
 /// returned, leaves for it: this never fails.
 pub fn insert_anyway<K: Eq + Hash + Drop, V: Drop, S: BuildHasher>(
     map: &mut LinkedHashMap<K, V, S>,
@@ -13,7 +13,7 @@ pub fn insert_anyway<K: Eq + Hash + Drop, V: Drop, S: BuildHasher>(
     value: V,
 ) -> Option<(K, V)>
     requires some { 0 < length map.old.pairs }
-    ensures given { IsNone result → map.new.pairs ≡ to_back K.eq map.old.pairs key value }
+    ensures given { IsNone result → map.new.pairs ≡ put K.eq map.old.mode map.old.pairs key value }
     ensures instead { IsSome result → map.new.pairs ≡ without_first map.old.pairs ++ (key, value) ∷ [] }
     ensures oldest { IsSome result → result ≡ first map.old.pairs }
     ensures capacity { IsSome result → map.new.capacity ≡ map.old.capacity }

@@ -1,6 +1,6 @@
 //! What a map holds after commands that were replayed.
 ghost use Rattle.std.specs.Prelude.{◌≡◌, ◌<◌, length, OnOk, OnErr};
-ghost use Rattle.linked_hash_map.specs.Pairs.{without, to_back};
+ghost use Rattle.linked_hash_map.specs.Pairs.{without, put};
 
 use linked_hash_map::LinkedHashMap;
 use linked_hash_map::replay::{Command, replay};
@@ -17,7 +17,7 @@ pub fn insert_and_remove<K: Eq + Hash + Drop, V: Drop, S: BuildHasher>(
     gone: K,
 ) -> Result<(), AllocError>
     requires room { length map.old.pairs < map.old.capacity }
-    ensures pairs { OnOk result (map.new.pairs ≡ without K.eq (to_back K.eq map.old.pairs key value) gone) }
+    ensures pairs { OnOk result (map.new.pairs ≡ without K.eq (put K.eq map.old.mode map.old.pairs key value) gone) }
     ensures unchanged { OnErr result (map.new ≡ map.old) }
 {
     let mut commands = Vec::with_capacity(alloc, 2)?;

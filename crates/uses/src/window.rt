@@ -2,6 +2,7 @@
 ghost use Rattle.std.specs.Prelude.{◌≡◌, ◌==◌, ◌<◌, ◌≤◌, ◌∷◌, [], ◌++◌, length, filter, not, nat_eq, IfOk, IfSome, IsNone};
 ghost use Rattle.std.specs.Map.{keys_of};
 ghost use Rattle.std.specs.List.{IsDistinct};
+ghost use Rattle.linked_hash_map.specs.declared.map.Mode.{Mode};
 
 use linked_hash_map::{LinkedHashMap, ReserveError};
 use std::alloc::Global;
@@ -13,6 +14,7 @@ pub struct Window {
     size: usize,
     ghost room: { size < seen.capacity },
     ghost within: { length seen.pairs ≤ size },
+    ghost touch: { seen.mode ≡ Mode.Touch },
 }
 
 impl Window {

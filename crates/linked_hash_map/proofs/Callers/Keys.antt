@@ -240,3 +240,12 @@ module _ {K V : Type 0} (eq : K → K → Bool) (pairs : List (K × V)) (k : K) 
       let pushed = length-to_back_absent eq (drop 1 pairs) k v (find-drop 1) in
       let fewer = length-drop 1 pairs in
       omega arith
+
+  pub put-drop : (mode : Mode) (n : ℕ) (v : V) → put eq mode (drop n pairs) k v ≡ drop n pairs ++ (k, v) ∷ []
+  put-drop mode n v = put-absent eq (drop n pairs) k mode v (find-drop n)
+
+  pub length-put_drop : (mode : Mode) (v : V) → 0 < length pairs → length (put eq mode (drop 1 pairs) k v) ≡ length pairs
+  length-put_drop mode v some =
+      let pushed = length-put_absent eq mode (drop 1 pairs) k v (find-drop 1) in
+      let fewer = length-drop 1 pairs in
+      omega arith

@@ -1,7 +1,7 @@
 use Rattle.std.proofs.Common.{ap, sym, ◌∙◌, arith, length}
 use Rattle.linked_hash_map.specs.Pairs.{value_at}
 use Rattle.linked_hash_map.proofs.Callers.Keys.{without-absent, find-none, IsSome-find, length-without_present}
-use Rattle.linked_hash_map.proofs.Callers.Lookups.{value_at-to_back_here, value_at-to_back_apart, value_at-without_here}
+use Rattle.linked_hash_map.proofs.Callers.Lookups.{value_at-put_here, value_at-put_apart, value_at-without_here}
 use Rattle.uses.proofs.document.Document.rename.Goals as goal
 
 pub returns-in_default-clause-unchanged : goal.returns-in_default-clause-unchanged
@@ -21,12 +21,12 @@ unreachable-requires g c =
 
 pub returns-clause-there : goal.returns-clause-there
 returns-clause-there g c = λ there.
-    rw c.in-Ok.ensures.pairs (value_at-to_back_here g.met.K.Eq.laws _ _ _ ∙ sym c.in-Some.is ∙ c.remove.ensures.value)
+    rw c.in-Ok.ensures.pairs (value_at-put_here g.met.K.Eq.laws _ _ _ _ ∙ sym c.in-Some.is ∙ c.remove.ensures.value)
 
 pub returns-clause-gone : goal.returns-clause-gone
 returns-clause-gone g c = λ there apart.
     rw c.in-Ok.ensures.pairs (
-    value_at-to_back_apart g.met.K.Eq.laws _ _ _ apart _
+    value_at-put_apart g.met.K.Eq.laws _ _ _ apart _ _
     ∙ ap (λ ps. value_at g.K.PartialEq.eq ps c.args.from.now) c.remove.ensures.pairs
     ∙ value_at-without_here g.met.K.Eq.laws _ _
     )
