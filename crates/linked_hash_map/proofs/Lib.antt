@@ -15,6 +15,7 @@ pub mod Growth
 pub mod Indexes
 pub mod Inserts
 pub mod Kept
+pub mod LeavingSessions
 pub mod LendMap
 pub mod Lists
 pub mod LiveKeys
@@ -25,6 +26,9 @@ pub mod Outcomes
 pub mod Outside
 pub mod Pairs
 pub mod Runs
+pub mod SessionLists
+pub mod SessionPairs
+pub mod SessionPuts
 pub mod Standing
 pub mod Stretches
 pub mod TakenNode

@@ -52,6 +52,7 @@ mod error;
 mod iter;
 mod map;
 pub mod replay;
+pub mod sessions;
 #[cfg(test)]
 mod tests;
 

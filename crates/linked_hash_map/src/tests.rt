@@ -13,6 +13,7 @@ mod lists;
 mod name;
 mod nodes;
 mod readme;
+mod sessions;
 mod walks;
 mod written;
 

@@ -1,0 +1,5 @@
+use Rattle.linked_hash_map.proofs.SessionPairs.{IsValidTable-kept}
+use Rattle.linked_hash_map.proofs.sessions.Sessions.len.Goals as goal
+
+pub returns-clause-valid : goal.returns-clause-valid
+returns-clause-valid g c = rw (← c.self.view_is) (IsValidTable-kept c.self.invariant)

@@ -1,0 +1,31 @@
+use Rattle.std.proofs.Common.{option_map, refl, sym, ap, ◌∙◌}
+use Rattle.linked_hash_map.specs.SessionTables.{session_table}
+use Rattle.linked_hash_map.proofs.SessionPairs.{IsValidTable-kept, IsKeptWithin-refreshed, sessions_of-refreshed, lends_alike, payload_of-sessions_of}
+use Rattle.linked_hash_map.proofs.sessions.Sessions.touch.Goals as goal
+
+pub invariant_of-self-lent : goal.invariant_of-self-lent
+invariant_of-self-lent g c = IsKeptWithin-refreshed c.self.inside.map c.args.id (sym c.in-Some.ensures.value) c.self.invariant
+
+pub returns-in-Some : goal.returns-in-Some
+returns-in-Some g c =
+    let m = c.self.inside in
+    rw (← c.self.view_is) (
+      lends_alike (λ payload. ap (λ sessions. session_table sessions m.limit) (sessions_of-refreshed m.map c.args.id (sym c.in-Some.ensures.value) payload)),
+      record {
+        writes_back = tt;
+        payload = ap (option_map (λ held. held.payload)) c.in-Some.ensures.value ∙ sym (payload_of-sessions_of m.map.pairs c.args.id);
+        valid = IsValidTable-kept c.self.invariant;
+      },
+    )
+
+pub returns-in-None : goal.returns-in-None
+returns-in-None g c =
+    let m = c.self.inside in
+    rw (← c.self.view_is) (
+      refl,
+      record {
+        writes_back = tt;
+        payload = ap (option_map (λ held. held.payload)) c.in-None.ensures.value ∙ sym (payload_of-sessions_of m.map.pairs c.args.id);
+        valid = IsValidTable-kept c.self.invariant;
+      },
+    )

@@ -1,0 +1,287 @@
+//! A table of sessions with a limit on the sum of their weights, on the map's public calls alone.
+//!
+//! A session has an id, a weight and a payload. The table keeps its sessions in the order of their last put or touch, and a put
+//! sends the oldest ones away until the weights sum to at most the limit: what stays is the longest end of the order that fits.
+//! Nothing is lost on the way: those that go are handed out, and so is a payload that was replaced or refused.
+//!
+//! The original has no such module.
+//!
+//! # Examples
+//!
+//! A cache of pages whose weights are their lengths. The page that was asked for least recently goes first:
+//!
+//! ```rust
+//! use linked_hash_map::sessions::Sessions;
+//!
+//! let mut pages = Sessions::new(rt.alloc(), 30);
+//! for (id, text) in [(1, "a page of 18 bytes"), (2, "nine more")] {
+//!     let put = pages.put(id, text.len() as u64, text)?;
+//!     assert!(rt; put.gone.is_empty());
+//! }
+//! assert_eq!(rt; (pages.len(), pages.total()), (2, 27));
+//!
+//! // Page 1 is asked for, so page 2 is now the oldest, and goes where the next one needs its room.
+//! assert_eq!(rt; pages.touch(1).copied(), Some("a page of 18 bytes"));
+//! let put = pages.put(3, 7, "a third")?;
+//! assert_eq!(rt; put.gone.as_slice(), [(2, 9, "nine more")].as_slice());
+//! assert_eq!(rt; pages.total(), 25);
+//!
+//! // A new text for page 1 takes the place of the old one, which is handed back.
+//! let put = pages.put(1, 8, "page one")?;
+//! assert_eq!(rt; put.old, Some("a page of 18 bytes"));
+//! let mut kept = pages.iter();
+//! assert_eq!(rt; kept.next(), Some((3, 7, &"a third")));
+//! assert_eq!(rt; kept.next(), Some((1, 8, &"page one")));
+//! assert_eq!(rt; kept.next(), None);
+//! ```
+ghost use Rattle.std.specs.Prelude.{◌≡◌, ◌≤◌, ◌<◌, ◌+◌, ◌∷◌, ◌++◌, ◌↔◌, [], length, nat_eq, vec_capacity, IfOk, IfErr, OnOk, OnErr, IsOk, IsSome, IsErrAnd};
+ghost use Rattle.std.specs.Borrow.{sem};
+ghost use Rattle.std.specs.Map.Iter.{ShowsInOrder};
+ghost use Rattle.std.specs.Option.{option_copied_mut};
+ghost use Rattle.linked_hash_map.specs.SessionTables.{session_of, payload_of, total_weight, without, with_last, to_end, fit, deref_session, IsLongestEnd, IsValidTable};
+
+mod iter;
+mod outcome;
+mod storage;
+
+use self::storage::{
+    Held, find_leaving, make_room, put_back, take_oldest, take_payload, weight_at,
+};
+use crate::map::LinkedHashMap;
+pub use iter::SessionIter;
+pub use outcome::{Put, PutReason, PutRefused};
+use std::alloc::Global;
+use std::marker::Model;
+
+/// A table of sessions with a limit on the sum of their weights.
+///
+/// No two sessions have one id. Each stands where its last put or touch left it, the oldest first. A call costs look-ups of the id in
+/// a map, and a constant number of steps where it names no other cost; the default hasher's seed is fixed. Dropping a table drops its payloads, a step for
+/// each.
+///
+/// # Examples
+///
+/// ```rust
+/// let mut table = Sessions::new(rt.alloc(), 10);
+/// table.put(1, 4, "a")?;
+/// table.put(2, 4, "b")?;
+/// let put = table.put(3, 4, "c")?;
+/// assert_eq!(rt; put.gone.as_slice(), [(1, 4, "a")].as_slice());
+/// assert_eq!(rt; (table.len(), table.total()), (2, 8));
+/// ```
+#[derive(Drop)]
+pub struct Sessions<T> {
+    // The sessions by their ids, in order.
+    map: LinkedHashMap<u64, Held<T>>,
+    limit: u64,
+    // The sum of the weights.
+    total: u64,
+    alloc: Global,
+}
+
+/// A contract sees the sessions, in the order of their last put or touch, and the limit.
+impl<T> Model for Sessions<T> {
+    ghost use Rattle.linked_hash_map.specs.SessionTables.{SessionTable, session_table, session_table_code};
+    ghost use Rattle.linked_hash_map.specs.SessionsKept.{sessions_of, IsKeptWithin};
+
+    ghost Value = { SessionTable T };
+
+    ghost coded = { session_table_code T.code };
+
+    ghost view = { λ s. session_table (sessions_of s.map.pairs) s.limit };
+
+    ghost invariant = { λ s. IsKeptWithin s.map s.total s.limit };
+}
+
+impl<T> Sessions<T> {
+    ghost use Rattle.linked_hash_map.specs.SessionLends.{lends_payload};
+
+    /// Makes an empty table with a limit on the sum of the weights.
+    ///
+    /// It takes no memory. Later growths are asked of `alloc`.
+    ///
+    /// # Examples
+    ///
+    /// ```rust
+    /// let table: Sessions<char> = Sessions::new(rt.alloc(), 10);
+    /// assert_eq!(rt; (table.len(), table.total()), (0, 0));
+    /// ```
+    pub fn new(alloc: Global, limit: u64) -> Self
+        ensures sessions { result.sessions ≡ [] }
+        ensures limit { result.limit ≡ limit }
+        ensures valid { IsValidTable result }
+    {
+        Sessions {
+            map: LinkedHashMap::new(alloc),
+            limit,
+            total: 0,
+            alloc,
+        }
+    }
+
+    /// Puts a session at the end, in place of the one with its id if there is one, and sends away the oldest others until the
+    /// weights sum to at most the limit.
+    ///
+    /// The answer has the payload that the id had, and the sessions that went, the oldest first. The weight of the replaced session
+    /// does not count. The new one always stays.
+    ///
+    /// It is refused as `TooHeavy` exactly where the weight is above the limit, also where the id is held, and else as `NoRoom` where a
+    /// growth is refused or a map can hold no more; then the payload comes back and nothing is changed. It asks for memory once
+    /// at most: for the vector of those that go, of exactly their number, or where none goes for room for a new id. So a put
+    /// of a held id that sends none away is never refused. It costs a step for each session that goes.
+    ///
+    /// # Examples
+    ///
+    /// ```rust
+    /// let mut table = Sessions::new(rt.alloc(), 10);
+    /// table.put(1, 4, "a")?;
+    /// table.put(2, 4, "b")?;
+    /// let put = table.put(1, 6, "c")?;
+    /// assert_eq!(rt; (put.old, put.gone.len()), (Some("a"), 0));
+    /// let refused = table.put(3, 11, "d");
+    /// assert_eq!(rt; refused, Err(PutRefused { reason: PutReason::TooHeavy, payload: "d" }));
+    /// assert_eq!(rt; table.total(), 10);
+    /// ```
+    pub fn put(&mut self, id: u64, weight: u64, payload: T) -> Result<Put<T>, PutRefused<T>>
+        ensures stay { OnOk result (self.new.sessions ≡ fit self.old.limit (with_last self.old.sessions id weight payload)) }
+        ensures longest { OnOk result (IsLongestEnd self.old.limit (with_last self.old.sessions id weight payload) self.new.sessions) }
+        ensures gone { IfOk result (λ put. put.gone.items ++ self.new.sessions ≡ with_last self.old.sessions id weight payload) }
+        ensures exact { IfOk result (λ put. vec_capacity put.gone ≡ length put.gone.items) }
+        ensures old { IfOk result (λ put. put.old ≡ payload_of self.old.sessions id) }
+        ensures limit { self.new.limit ≡ self.old.limit }
+        ensures valid { IsValidTable self.old }
+        ensures stays_valid { IsValidTable self.new }
+
+        ensures payload_back { IfErr result (λ refused. refused.payload ≡ payload) }
+        ensures unchanged { OnErr result (self.new ≡ self.old) }
+        ensures too_heavy { IsErrAnd result (λ refused. refused.reason ≡ PutReason.TooHeavy) ↔ (self.old.limit < weight) }
+        ensures succeeds { IsSome (session_of self.old.sessions id) → total_weight (without self.old.sessions id) + weight ≤ self.old.limit → IsOk result }
+    {
+        if weight > self.limit {
+            return Err(PutRefused {
+                reason: PutReason::TooHeavy,
+                payload,
+            });
+        }
+        // No sum can overflow: the weight is taken from the limit, and not added to the total.
+        let others = self.total - weight_at(&self.map, id);
+        let leaving = find_leaving(&self.map, id, others, self.limit - weight);
+        let Ok(mut gone) = make_room(&mut self.map, self.alloc, id, leaving.count) else {
+            return Err(PutRefused {
+                reason: PutReason::NoRoom,
+                payload,
+            });
+        };
+        let old = take_payload(&mut self.map, id);
+        take_oldest(&mut self.map, leaving.count, &mut gone);
+        put_back(&mut self.map, id, weight, payload);
+        self.total = leaving.staying + weight;
+        Ok(Put { old, gone })
+    }
+
+    /// Moves the session with an id to the end and lends its payload for writing, or returns `None` where there is none and changes
+    /// nothing.
+    ///
+    /// What is written becomes the payload. The weight stays, and all other sessions keep their order. It takes no memory.
+    ///
+    /// # Examples
+    ///
+    /// ```rust
+    /// let mut table = Sessions::new(rt.alloc(), 10);
+    /// table.put(1, 4, "a")?;
+    /// table.put(2, 4, "b")?;
+    /// if let Some(payload) = table.touch(1) {
+    ///     *payload = "c";
+    /// }
+    /// assert_eq!(rt; table.iter().next(), Some((2, 4, &"b")));
+    /// assert_eq!(rt; table.remove(1), Some("c"));
+    /// ```
+    pub fn touch(&mut self, id: u64) -> Option<&mut T>
+        ensures* writes_back { sem 𝓛 (lends_payload T.row self.entry id result) }
+        ensures payload { option_copied_mut result ≡ payload_of self.old.sessions id }
+        ensures valid { IsValidTable self.old }
+    {
+        match self.map.get_refresh(&id) {
+            Some(held) => Some(&mut held.payload),
+            None => None,
+        }
+    }
+
+    /// Takes out the session with an id and returns its payload, or returns `None` where there is none.
+    ///
+    /// All other sessions keep their order. It takes no memory.
+    ///
+    /// # Examples
+    ///
+    /// ```rust
+    /// let mut table = Sessions::new(rt.alloc(), 10);
+    /// table.put(1, 4, "a")?;
+    /// assert_eq!(rt; (table.remove(1), table.remove(1)), (Some("a"), None));
+    /// assert_eq!(rt; (table.len(), table.total()), (0, 0));
+    /// ```
+    pub fn remove(&mut self, id: u64) -> Option<T>
+        ensures payload { result ≡ payload_of self.old.sessions id }
+        ensures sessions { self.new.sessions ≡ without self.old.sessions id }
+        ensures limit { self.new.limit ≡ self.old.limit }
+        ensures valid { IsValidTable self.old }
+        ensures stays_valid { IsValidTable self.new }
+    {
+        self.total -= weight_at(&self.map, id);
+        take_payload(&mut self.map, id)
+    }
+
+    /// Returns the sum of the weights, which is at most the limit. It takes no memory.
+    ///
+    /// # Examples
+    ///
+    /// ```rust
+    /// let mut table = Sessions::new(rt.alloc(), 10);
+    /// table.put(1, 4, "a")?;
+    /// assert_eq!(rt; (table.len(), table.total()), (1, 4));
+    /// ```
+    pub fn total(&self) -> u64
+        ensures total { result ≡ total_weight self.now.sessions }
+        ensures within { result ≤ self.now.limit }
+        ensures valid { IsValidTable self.now }
+    {
+        self.total
+    }
+
+    /// Returns the number of sessions. It takes no memory.
+    ///
+    /// # Examples
+    ///
+    /// ```rust
+    /// let mut table = Sessions::new(rt.alloc(), 10);
+    /// table.put(1, 4, "a")?;
+    /// assert_eq!(rt; (table.len(), table.total()), (1, 4));
+    /// ```
+    pub fn len(&self) -> usize
+        ensures len { result ≡ length self.now.sessions }
+        ensures valid { IsValidTable self.now }
+    {
+        self.map.len()
+    }
+
+    /// Returns an iterator over the sessions, each as its id, its weight and its payload, the oldest first.
+    ///
+    /// Neither the call nor a step of the iterator takes memory, and the order stays.
+    ///
+    /// # Examples
+    ///
+    /// ```rust
+    /// let mut table = Sessions::new(rt.alloc(), 10);
+    /// table.put(1, 4, "a")?;
+    /// table.put(2, 4, "b")?;
+    /// let mut sessions = table.iter();
+    /// assert_eq!(rt; sessions.next(), Some((1, 4, &"a")));
+    /// assert_eq!(rt; sessions.len(), 1);
+    /// ```
+    pub fn iter(&self) -> SessionIter<'_, T>
+        ensures sessions { result ≡ self.now.sessions }
+        ensures valid { IsValidTable self.now }
+        ensures runs { ShowsInOrder (deref_session {T = T}) }
+    {
+        SessionIter::new(self.map.iter())
+    }
+}

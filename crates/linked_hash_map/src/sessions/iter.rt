@@ -1,0 +1,85 @@
+//! The iterator over the sessions of a table.
+ghost use Rattle.std.specs.Prelude.{◌≡◌, Some, IfSome, length};
+ghost use Rattle.std.specs.Iterator.{at_most, UpTo};
+ghost use Rattle.std.specs.Iterator.SizeHint.{IsWithinCount};
+ghost use Rattle.std.specs.Map.Iter.{TakesFirst};
+ghost use Rattle.linked_hash_map.specs.SessionTables.{deref_session};
+
+use super::storage::Held;
+use crate::iter::Iter;
+use std::iter::FusedIterator;
+use std::marker::Model;
+
+/// An iterator over the sessions of a table, each as its id, its weight and its payload, the oldest first. It is made by
+/// `Sessions::iter`.
+///
+/// Each of its calls costs a constant number of steps and takes no memory.
+///
+/// # Examples
+///
+/// ```rust
+/// let mut table = Sessions::new(rt.alloc(), 10);
+/// table.put(1, 4, "a")?;
+/// table.put(2, 4, "b")?;
+/// let mut sessions = table.iter();
+/// assert_eq!(rt; sessions.next(), Some((1, 4, &"a")));
+/// assert_eq!(rt; sessions.len(), 1);
+/// ```
+#[derive(Drop)]
+pub struct SessionIter<'a, T> {
+    pairs: Iter<'a, u64, Held<T>>,
+}
+
+/// A contract sees the sessions that are left, in their order.
+impl<'a, T> Model for SessionIter<'a, T> {
+    ghost use Rattle.std.specs.Prelude.{List};
+    ghost use Rattle.linked_hash_map.specs.SessionTables.{Session};
+    ghost use Rattle.linked_hash_map.specs.SessionsKept.{sessions_of};
+
+    ghost Value = { List (Session T) };
+
+    ghost view = { λ a. sessions_of a.pairs };
+}
+
+impl<'a, T> SessionIter<'a, T> {
+    ghost use Rattle.linked_hash_map.specs.SessionsKept.{sessions_of};
+
+    /// Goes over the sessions of the pairs.
+    pub(super) fn new(pairs: Iter<'a, u64, Held<T>>) -> Self
+        ensures { result ≡ sessions_of pairs.entry }
+    {
+        SessionIter { pairs }
+    }
+}
+
+/// `next` lends the oldest session that is left; the size hint is exact.
+impl<'a, T> Iterator for SessionIter<'a, T> {
+    type Item = (u64, u64, &'a T);
+
+    ghost next_gives = { TakesFirst deref_session };
+
+    ghost remaining = { λ s. at_most (length s) };
+
+    fn next(&mut self) -> Option<(u64, u64, &'a T)> {
+        let (id, held) = self.pairs.next()?;
+        Some((*id, held.weight, &held.payload))
+    }
+
+    fn size_hint(&self) -> (usize, Option<usize>)
+        ensures lower { IsWithinCount result.0 (at_most (length self.now)) }
+        ensures upper { IfSome result.1 (UpTo (at_most (length self.now))) }
+        ensures exact { result ≡ (length self.now, Some (length self.now)) }
+    {
+        self.pairs.size_hint()
+    }
+}
+
+/// `len` is the number of sessions that are left.
+impl<'a, T> ExactSizeIterator for SessionIter<'a, T> {
+    fn len(&self) -> usize {
+        self.pairs.len()
+    }
+}
+
+/// Once no session is left, `next` answers `None` for good.
+impl<'a, T> FusedIterator for SessionIter<'a, T> {}

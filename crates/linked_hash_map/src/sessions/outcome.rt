@@ -1,0 +1,53 @@
+//! What a put of a session answers.
+
+/// What a put brought about: a payload that was replaced, and the sessions that went.
+///
+/// # Examples
+///
+/// ```rust
+/// let mut table = Sessions::new(rt.alloc(), 10);
+/// table.put(1, 4, "a")?;
+/// let put = table.put(1, 6, "b")?;
+/// assert_eq!(rt; (put.old, put.gone.len()), (Some("a"), 0));
+/// ```
+#[derive(Debug, PartialEq, Drop)]
+pub struct Put<T> {
+    /// The payload that the id had, or `None` where the id was new.
+    pub old: Option<T>,
+    /// The sessions that went, each as its id, its weight and its payload, the oldest first.
+    pub gone: Vec<(u64, u64, T)>,
+}
+
+/// The error of a put: why it was refused, and the payload that was handed in. The table is as it was.
+///
+/// # Examples
+///
+/// ```rust
+/// let mut table = Sessions::new(rt.alloc(), 10);
+/// let refused = table.put(3, 11, "d");
+/// assert_eq!(rt; refused, Err(PutRefused { reason: PutReason::TooHeavy, payload: "d" }));
+/// ```
+#[derive(Debug, PartialEq, Drop)]
+pub struct PutRefused<T> {
+    /// Why the session was refused.
+    pub reason: PutReason,
+    /// The payload that was handed in.
+    pub payload: T,
+}
+
+/// Why a put was refused.
+///
+/// # Examples
+///
+/// ```rust
+/// let mut table = Sessions::new(rt.alloc(), 10);
+/// let refused = table.put(3, 11, "d");
+/// assert_eq!(rt; refused, Err(PutRefused { reason: PutReason::TooHeavy, payload: "d" }));
+/// ```
+#[derive(Debug, PartialEq, Drop)]
+pub enum PutReason {
+    /// The weight is above the limit.
+    TooHeavy = 1,
+    /// A growth was refused, or there are as many sessions as a map can hold.
+    NoRoom = 2,
+}
