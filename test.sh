@@ -3,8 +3,10 @@
 #
 # First the README's example is compared with the one that the gate proves. Then the tests whose names begin with refused_
 # run with the Nth request for memory refused, for N = 1, 2, .., each test in a process of its own, until all of a crate's
-# say that every growth was given. Then comes the gate, `rt ci`. At last the program that it built runs on inputs that it
-# stops at, and what it tells on standard error is compared, which the gate does not do. The last line is that of the gate.
+# say that every growth was given. One that says how many growths it asks for in all has to say so exactly where a later one
+# was refused: so a growth is found whose refusal a call ignores. Then comes the gate, `rt ci`. At last the program that it
+# built runs on inputs that it stops at, and what it tells on standard error is compared, which the gate does not do. The last
+# line is that of the gate.
 set -u
 cd "$(dirname "$0")" || exit 2
 work=$(mktemp -d) || exit 2
@@ -20,6 +22,21 @@ say_time() {
 refuse_growth() {
     (cd "crates/$1" && rt try --test --fail-alloc "$2" -- refused_) >"$work/$2" 2>&1
     echo $? >"$work/$2.status"
+}
+
+# Finds the tests that said wrongly how many growths they ask for in all, among the runs with the first growths refused, as
+# many as are named.
+find_miscounts() {
+    awk '
+        FNR == 1 { refused++ }
+        /^test / { test = $2 }
+        /every growth was given, [0-9]+ in all$/ { said[test, refused] = 1; growths[test] = $(NF - 2) }
+        END {
+            for (test in growths)
+                for (growth = 1; growth <= refused; growth++)
+                    if (((test, growth) in said) != (growth > growths[test]))
+                        print test ": not " growths[test] " growths, by the run with growth " growth " refused"
+        }' $(seq -f "$work/%.0f" 1 "$1")
 }
 
 # Refuses each growth of a crate's tests in turn. Each number of a growth takes a build of its own, so as many run side by
@@ -41,6 +58,11 @@ refuse_each_growth() {
                 exit 1
             fi
             if [ "$(grep -c 'every growth was given' "$work/$growth")" -ge "$tests" ]; then
+                miscounts=$(find_miscounts "$growth")
+                if [ -n "$miscounts" ]; then
+                    echo "$miscounts"
+                    exit 1
+                fi
                 echo "$crate: $tests tests hold with each of $((growth - 1)) growths refused"
                 return
             fi
@@ -62,7 +84,26 @@ expect_stop() {
     fi
 }
 
-# Runs the built program where a line is no command, without memory for its input, and where reading and writing fail.
+# Runs the built program on reservations that are each given back by a shrinking: any two of them fit into the memory that
+# it is allowed, and all of them do not.
+shrink_the_map() {
+    {
+        echo 'insert 1 1'
+        yes "$(printf 'reserve 300000\nshrink')" | head -n 40
+    } | (ulimit -v 65536 && "$program") >"$work/output" 2>"$work/faults"
+    {
+        echo 'new len=1 cap=1'
+        yes "$(printf 'done len=1 cap=300001\ndone len=1 cap=1')" | head -n 40
+        echo 'list 1:1'
+    } >"$work/wanted"
+    if ! cmp "$work/wanted" "$work/output"; then
+        echo "lhm: what a shrinking gives back is not there for the next reservation"
+        exit 1
+    fi
+}
+
+# Runs the built program where a line is no command, without memory for its input, and where reading and writing fail, and
+# where memory is given back.
 run_the_program() {
     program=crates/lhm/out/lhm
     printf 'insert 1 10\n\ninsert 1\n' | "$program" >"$work/output" 2>"$work/faults"
@@ -74,7 +115,8 @@ run_the_program() {
     : >"$work/output"
     "$program" </dev/null >/dev/full 2>"$work/faults"
     expect_stop 'an output that cannot be written' 4 'output failed' $?
-    echo "lhm: the built program stops as it should"
+    shrink_the_map
+    echo "lhm: the built program stops as it should, and gives memory back"
 }
 
 # Prints the function `example` of a file.

@@ -1,7 +1,7 @@
 //! Clones, extension and collection, and the command for them.
-use super::{assert_pairs, map_of, say_given};
+use super::assert_pairs;
 use crate::replay::{Answer, Command, PairList, Reply, replay};
-use crate::{LIMIT, LinkedHashMap, Refused, ReserveError};
+use crate::{LIMIT, LinkedHashMap, ReserveError};
 use std::alloc::{AllocError, Global};
 use std::iter::repeat;
 use std::test::Fail;
@@ -66,103 +66,4 @@ fn replays_an_extension(rt: HostRuntime) -> Result<(), Fail> {
     assert_eq!(rt; replies.as_slice(), expected.as_slice());
     assert_pairs(&rt, &map, &[(1, 11), (2, 20), (3, 30)]);
     Ok(())
-}
-
-// The tests below run with the Nth growth refused, for each N, until all of them say that every growth was given.
-
-#[test]
-fn refused_extension_keeps_what_went_in(rt: HostRuntime) {
-    let Ok(mut map) = LinkedHashMap::with_capacity(rt.alloc(), 1) else {
-        return;
-    };
-    let mut items = [(1, 10), (1, 11), (2, 20), (3, 30)].into_iter();
-    match map.extend(items.by_ref()) {
-        Ok(()) => {
-            assert_pairs(&rt, &map, &[(1, 11), (2, 20), (3, 30)]);
-            say_given(&rt);
-        }
-        Err(Refused { key: 2, value: 20 }) => {
-            assert_pairs(&rt, &map, &[(1, 11)]);
-            assert_eq!(rt; (map.capacity(), items.len()), (1, 1));
-        }
-        Err(refused) => {
-            assert_eq!(rt; refused, Refused { key: 3, value: 30 });
-            assert_pairs(&rt, &map, &[(1, 11), (2, 20)]);
-            assert_eq!(rt; (map.capacity(), items.len()), (2, 0));
-        }
-    }
-}
-
-#[test]
-fn refused_extension_by_references_keeps_what_went_in(rt: HostRuntime) {
-    let Ok(mut map) = LinkedHashMap::with_capacity(rt.alloc(), 1) else {
-        return;
-    };
-    let mut items = [(&1, &10), (&1, &11), (&2, &20)].into_iter();
-    match map.extend_refs(items.by_ref()) {
-        Ok(()) => {
-            assert_pairs(&rt, &map, &[(1, 11), (2, 20)]);
-            say_given(&rt);
-        }
-        Err(refused) => {
-            assert_eq!(rt; refused, Refused { key: 2, value: 20 });
-            assert_pairs(&rt, &map, &[(1, 11)]);
-        }
-    }
-}
-
-#[test]
-fn refused_replay_stops_an_extension(rt: HostRuntime) {
-    let Ok(mut map) = LinkedHashMap::with_capacity(rt.alloc(), 1) else {
-        return;
-    };
-    let Ok(commands) = extension(rt.alloc()) else {
-        return;
-    };
-    let Ok(replies) = replay(&mut map, commands) else {
-        assert_eq!(rt; (map.len(), map.capacity()), (0, 1));
-        return;
-    };
-    let (answer, pairs): (_, &[(u64, u64)]) = match map.len() {
-        1 => (Answer::Stopped(2, 2, 20), &[(1, 11)]),
-        2 => (Answer::Stopped(3, 3, 30), &[(1, 11), (2, 20)]),
-        _ => (Answer::Done, &[(1, 11), (2, 20), (3, 30)]),
-    };
-    if map.len() == 3 {
-        say_given(&rt);
-    }
-    let expected = [Reply {
-        answer,
-        len: map.len(),
-        capacity: map.len(),
-    }];
-    assert_eq!(rt; replies.as_slice(), expected.as_slice());
-    assert_pairs(&rt, &map, pairs);
-}
-
-#[test]
-fn refused_clone_leaves_the_map(rt: HostRuntime) {
-    let Ok(map) = map_of(rt.alloc(), &[(1, 10), (2, 20)]) else {
-        return;
-    };
-    if let Ok(clone) = map.clone() {
-        assert!(rt; clone == map);
-        say_given(&rt);
-    }
-    assert_pairs(&rt, &map, &[(1, 10), (2, 20)]);
-}
-
-#[test]
-fn refused_collection_gives_no_map(rt: HostRuntime) {
-    let made: Result<LinkedHashMap<u64, u64>, _> = LinkedHashMap::from_iter(
-        rt.alloc(),
-        [(1, 10), (2, 20)],
-    );
-    match made {
-        Ok(map) => {
-            assert_pairs(&rt, &map, &[(1, 10), (2, 20)]);
-            say_given(&rt);
-        }
-        Err(error) => assert_eq!(rt; error, ReserveError::NoRoom),
-    }
 }

@@ -1,9 +1,8 @@
 ghost use Rattle.std.specs.Prelude.{◌≡◌, ◌++◌, ◌∷◌, [], cond, is_some, nat_eq, IsTrue, IsFalse, OnOk, OnErr};
 ghost use Rattle.linked_hash_map.specs.Pairs.{find, set_value, set_or_push};
 
-use super::{assert_pairs, map_of, say_given};
+use super::{assert_pairs, map_of};
 use crate::{Entry, LinkedHashMap, Refused};
-use std::process::Abort;
 use std::test::Fail;
 
 // Callers that write through an entry, and know what the list is then.
@@ -192,43 +191,4 @@ fn takes_entries_apart(rt: HostRuntime) -> Result<(), Fail> {
     assert_eq!(rt; entry.remove(), 20);
     assert_pairs(&rt, &map, &[(1, 5), (3, 30)]);
     Ok(())
-}
-
-// The tests below run with the Nth growth refused, as those of the map do.
-
-#[test]
-fn refused_entry_hands_the_made_value_back(rt: HostRuntime) {
-    let mut map = LinkedHashMap::new(rt.alloc());
-    if map.insert(1, 10).is_err() {
-        return;
-    }
-    let mut called = false;
-    let made = or_seven(&mut map, 2, &mut called);
-    assert!(rt; called);
-    if made == Ok(7) {
-        say_given(&rt);
-        return;
-    }
-    assert_eq!(rt; made, Err(Refused { key: 2, value: 7 }));
-    called = false;
-    assert_eq!(rt; or_seven(&mut map, 1, &mut called), Ok(10));
-    assert!(rt; !called);
-    assert_pairs(&rt, &map, &[(1, 10)]);
-    assert_eq!(rt; map.capacity(), 1);
-}
-
-#[test]
-fn refused_entry_hands_the_default_back(rt: HostRuntime) {
-    let mut map = LinkedHashMap::new(rt.alloc());
-    if map.insert(1, 10).is_err() {
-        return;
-    }
-    let made = or_zero(&mut map, 2);
-    if made == Ok(0) {
-        say_given(&rt);
-        return;
-    }
-    assert_eq!(rt; made, Err(Refused { key: 2, value: 0 }));
-    assert_pairs(&rt, &map, &[(1, 10)]);
-    assert_eq!(rt; map.capacity(), 1);
 }

@@ -1,6 +1,6 @@
 //! What becomes of the nodes, and of the keys and values in them.
 
-use super::{assert_pairs, say_given};
+use super::assert_pairs;
 use crate::LinkedHashMap;
 use crate::replay::{Answer, Command, replay};
 use std::alloc::{AllocError, Global};
@@ -42,30 +42,6 @@ fn keeps_nodes_for_later_pairs(rt: HostRuntime) -> Result<(), Fail> {
     assert_eq!(rt; last.answer, Answer::Pair(999, 999));
     assert_eq!(rt; (last.len, last.capacity), (0, 2));
     assert_pairs(&rt, &map, &[]);
-    Ok(())
-}
-
-#[test]
-fn refused_growth_is_not_asked_for_below_the_capacity(rt: HostRuntime) -> Result<(), Fail> {
-    let Ok(mut map) = LinkedHashMap::with_capacity(rt.alloc(), 3) else {
-        return Ok(());
-    };
-    for key in [1, 2, 3] {
-        assert!(rt; map.insert(key, key).is_ok());
-    }
-    drop(map.drain());
-    for key in [4, 5] {
-        assert!(rt; map.insert(key, key).is_ok());
-    }
-    map.clear();
-    assert!(rt; map.insert(6, 6).is_ok());
-    assert_eq!(rt; map.get_refresh(&6).copied(), Some(6));
-    for key in [7, 8] {
-        assert!(rt; map.insert(key, key).is_ok());
-    }
-    assert_pairs(&rt, &map, &[(6, 6), (7, 7), (8, 8)]);
-    assert_eq!(rt; map.capacity(), 3);
-    say_given(&rt);
     Ok(())
 }
 

@@ -1,0 +1,4 @@
+//! The tests, one module a subject.
+
+mod large;
+mod refused;

@@ -1,0 +1,75 @@
+//! Each growth refused in turn.
+//!
+//! The tests whose names begin with `refused_` hold whichever one of their growths is refused. Where none was, a test says so, and how
+//! many it asks for. That number is counted by hand, from what the calls promise: a map asks for one growth for its buckets where their
+//! number changes to another than 0, one for the guard of its nodes where it has none, and one for each further node. So a growth whose
+//! refusal a call ignores is seen too, as one more or one fewer than the test says.
+
+mod capacities;
+mod clones;
+mod collections;
+mod extensions;
+mod hasher;
+mod insertions;
+mod keys;
+mod replays;
+mod without_memory;
+
+use hasher::BuildLastByte;
+use linked_hash_map::{LinkedHashMap, ReserveError};
+use std::alloc::Global;
+use std::process::Abort;
+
+/// A map whose hasher gives each key its own number.
+type Map = LinkedHashMap<u8, u64, BuildLastByte>;
+
+/// The hasher that the maps are made with.
+const BUILDER: BuildLastByte = BuildLastByte { first: 7 };
+
+/// A key that no map of these tests has.
+const ABSENT: u8 = 200;
+
+/// Says that none of a test's growths was refused, and how many there are.
+fn say_given(rt: &impl Print, growths: u64) {
+    let _ = println!(rt; "every growth was given, {growths} in all");
+}
+
+/// Asks for one growth, and tells whether it was given.
+fn is_given(alloc: Global) -> bool {
+    Box::new(alloc, 0).is_ok()
+}
+
+/// Makes a map of this capacity, for which it asks for two growths more.
+fn with_room(alloc: Global, capacity: usize) -> Result<Map, ReserveError> {
+    LinkedHashMap::with_capacity_and_hasher(alloc, capacity, BUILDER)
+}
+
+/// Makes a map that is full of these pairs, as `with_room` does.
+fn full_of(rt: &impl Abort, alloc: Global, pairs: &[(u8, u64)]) -> Result<Map, ReserveError> {
+    let mut map = with_room(alloc, pairs.len())?;
+    for (key, value) in pairs {
+        assert_eq!(rt; map.insert(*key, *value), Ok(None));
+    }
+    Ok(map)
+}
+
+/// Checks a map's pairs from both ends, its capacity and its count, and that its hasher is the one that it was made with and finds each key.
+fn assert_map(rt: &impl Abort, map: &Map, pairs: &[(u8, u64)], capacity: usize, rechained: usize) {
+    assert_eq!(rt;
+        (map.len(), map.capacity(), map.rechained()),
+        (pairs.len(), capacity, rechained)
+    );
+    assert_eq!(rt; *map.hasher(), BUILDER);
+    let mut forward = map.iter();
+    for (key, value) in pairs {
+        assert_eq!(rt; forward.next(), Some((key, value)));
+        let (found, probe) = map.get_counted(key);
+        assert_eq!(rt; (found, probe.compared), (Some(value), 1));
+    }
+    let mut backward = map.iter();
+    for (key, value) in pairs.iter().rev() {
+        assert_eq!(rt; backward.next_back(), Some((key, value)));
+    }
+    let (found, probe) = map.get_counted(&ABSENT);
+    assert_eq!(rt; (found, probe.compared), (None, 0));
+}
