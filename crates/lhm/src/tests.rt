@@ -1,9 +1,10 @@
 //! Runs over memory: worked examples, and readers and writers that fail.
 use super::run;
-use std::alloc::Global;
+use std::alloc::{AllocError, Global};
 use std::io;
 use std::io::{ErrorKind, Read, Write};
 use std::process::Abort;
+use std::test::Fail;
 
 /// The call at which a reader or a writer that works fails.
 const NEVER: usize = 0;
@@ -43,16 +44,11 @@ impl Read for Source<'_> {
     }
 }
 
-/// A writer into a fixed buffer that takes at most `most` bytes at once and fails at call `fails_at`, and at a flush where
-/// `flush_fails`.
+/// A writer into a fixed buffer that takes at most 7 bytes at once.
 #[derive(Drop)]
 struct Sink {
     buffer: [u8; 256],
     len: usize,
-    most: usize,
-    calls: usize,
-    fails_at: usize,
-    flush_fails: bool,
 }
 
 impl Sink {
@@ -60,10 +56,6 @@ impl Sink {
         Sink {
             buffer: [0; 256],
             len: 0,
-            most: 7,
-            calls: 0,
-            fails_at: NEVER,
-            flush_fails: false,
         }
     }
 
@@ -78,21 +70,60 @@ impl Sink {
 
 impl Write for Sink {
     fn write(&mut self, buf: &[u8]) -> io::Result<usize> {
-        self.calls = self.calls.saturating_add(1);
-        if self.calls == self.fails_at || self.len > self.buffer.len() {
+        if self.len > self.buffer.len() {
             return Err(io::Error::other("refused"));
         }
-        let n = (self.buffer.len() - self.len).min(buf.len()).min(self.most);
+        let n = (self.buffer.len() - self.len).min(buf.len()).min(7);
         self.buffer[self.len..self.len + n].copy_from_slice(&buf[..n]);
         self.len += n;
         Ok(n)
     }
 
     fn flush(&mut self) -> io::Result<()> {
-        if self.flush_fails {
+        Ok(())
+    }
+}
+
+/// A writer into a vector that takes at most `most` bytes at once and fails at call `fails_at`, where a flush is a call too.
+#[derive(Drop)]
+struct Output {
+    bytes: Vec<u8>,
+    most: usize,
+    calls: usize,
+    fails_at: usize,
+}
+
+impl Output {
+    fn new(alloc: Global, most: usize, fails_at: usize) -> Output {
+        Output {
+            bytes: Vec::new(alloc),
+            most,
+            calls: 0,
+            fails_at,
+        }
+    }
+
+    fn count_call(&mut self) -> io::Result<()> {
+        self.calls = self.calls.saturating_add(1);
+        if self.calls == self.fails_at {
             return Err(io::Error::other("refused"));
         }
         Ok(())
+    }
+}
+
+impl Write for Output {
+    fn write(&mut self, buf: &[u8]) -> io::Result<usize> {
+        self.count_call()?;
+        let n = buf.len().min(self.most);
+        if self.bytes.extend_from_slice(&buf[..n]).is_err() {
+            return Err(io::Error::other("no memory"));
+        }
+        Ok(n)
+    }
+
+    fn flush(&mut self) -> io::Result<()> {
+        self.count_call()
     }
 }
 
@@ -272,26 +303,42 @@ fn lines_that_are_no_command(rt: HostRuntime) {
     }
 }
 
+/// An input that fills the buffer of a read several times, and the output of its run.
+fn long_run(alloc: Global) -> Result<(Vec<u8>, Vec<u8>), AllocError> {
+    let mut input = Vec::new(alloc);
+    let mut output = Vec::new(alloc);
+    for _ in 0..1200 {
+        input.extend_from_slice(b"insert 7 70\nremove 7\n")?;
+        output.extend_from_slice(b"new len=1 cap=1\nold 70 len=0 cap=1\n")?;
+    }
+    output.extend_from_slice(b"list\n")?;
+    Ok((input, output))
+}
+
 #[test]
-fn reads_that_fail(rt: HostRuntime) {
-    // 12 bytes, 5 at a time: three reads give bytes, and the fourth finds the end.
-    for fails_at in 1..=5usize {
-        let mut reader = Source::new(b"insert 1 10\n");
+fn reads_that_fail(rt: HostRuntime) -> Result<(), Fail> {
+    let (input, output) = long_run(rt.alloc())?;
+    // 25,200 bytes: three reads fill the buffer of 8,192, the fourth gives the rest, and the fifth finds the end.
+    for fails_at in 1..=6usize {
+        let mut reader = Source::new(input.as_slice());
+        reader.most = usize::MAX;
         reader.fails_at = fails_at;
-        let mut output = Sink::new();
+        let mut writer = Output::new(rt.alloc(), usize::MAX, NEVER);
         let mut faults = Sink::new();
-        let status = run(rt.alloc(), &mut reader, &mut output, &mut faults);
-        if fails_at <= 4 {
-            assert_eq!(rt; status, 4, "at read {fails_at}");
-            assert_eq!(rt; output.calls, 0, "at read {fails_at}");
+        let status = run(rt.alloc(), &mut reader, &mut writer, &mut faults);
+        if fails_at <= 5 {
+            assert_eq!(rt; (status, writer.calls), (4, 0), "at read {fails_at}");
             assert!(rt;
                 faults.text() == b"input failed\n".as_slice(),
                 "at read {fails_at}"
             );
         } else {
-            assert_eq!(rt; status, 0, "at read {fails_at}");
+            assert_eq!(rt; (status, reader.calls), (0, 5));
+            assert!(rt; writer.bytes.as_slice() == output.as_slice());
+            assert!(rt; faults.text().is_empty());
         }
     }
+    Ok(())
 }
 
 #[test]
@@ -312,48 +359,77 @@ fn interrupted_reads_are_tried_again(rt: HostRuntime) {
 }
 
 #[test]
-fn writes_that_fail(rt: HostRuntime) {
-    // 26 bytes, 7 at a time: four writes.
-    for fails_at in 1..=5usize {
-        let mut reader = Source::new(b"insert 1 10\n");
-        let mut output = Sink::new();
-        output.fails_at = fails_at;
+fn writes_that_fail(rt: HostRuntime) -> Result<(), Fail> {
+    let (input, output) = long_run(rt.alloc())?;
+    // 42,005 bytes, 10,000 at a time: five writes, and a flush. What went out before a failure is a beginning of the text.
+    let rows = [
+        (1, 0),
+        (2, 10_000),
+        (3, 20_000),
+        (4, 30_000),
+        (5, 40_000),
+        (6, 42_005),
+        (7, 42_005),
+    ];
+    for (fails_at, written) in rows {
+        let mut reader = Source::new(input.as_slice());
+        let mut writer = Output::new(rt.alloc(), 10_000, fails_at);
         let mut faults = Sink::new();
-        let status = run(rt.alloc(), &mut reader, &mut output, &mut faults);
-        if fails_at <= 4 {
-            assert_eq!(rt; status, 4, "at write {fails_at}");
-            assert!(rt;
-                faults.text() == b"output failed\n".as_slice(),
-                "at write {fails_at}"
-            );
+        let status = run(rt.alloc(), &mut reader, &mut writer, &mut faults);
+        assert_eq!(rt; writer.bytes.len(), written, "at write {fails_at}");
+        assert!(rt;
+            output.as_slice().starts_with(writer.bytes.as_slice()),
+            "at write {fails_at}"
+        );
+        let (wanted, text): (u8, &str) = if fails_at == 7 {
+            (0, "")
         } else {
-            assert_eq!(rt; status, 0, "at write {fails_at}");
-        }
+            (4, "output failed\n")
+        };
+        assert_eq!(rt; status, wanted, "at write {fails_at}");
+        assert!(rt; faults.text() == text.as_bytes(), "at write {fails_at}");
     }
+    Ok(())
 }
 
-#[test]
-fn a_flush_that_fails(rt: HostRuntime) {
-    let mut reader = Source::new(b"insert 1 10\n");
-    let mut output = Sink::new();
-    output.flush_fails = true;
-    let mut faults = Sink::new();
-    let status = run(rt.alloc(), &mut reader, &mut output, &mut faults);
-    assert_eq!(rt; status, 4);
-    assert!(rt; output.text() == b"new len=1 cap=1\nlist 1:10\n".as_slice());
-    assert!(rt; faults.text() == b"output failed\n".as_slice());
+/// A run that stops: its input, the calls at which reading and writing fail, its status and its faults.
+#[derive(Clone, Copy)]
+struct Stopped(&'static str, usize, usize, u8, &'static str);
+
+/// Checks that a run stops with its status and writes no output, also where its faults cannot be written. Returns how many calls of
+/// their writer it made.
+fn check_stopped(rt: &impl Abort, alloc: Global, stopped: Stopped, fails_at: usize) -> usize {
+    let mut reader = Source::new(stopped.0.as_bytes());
+    reader.fails_at = stopped.1;
+    let mut writer = Output::new(alloc, usize::MAX, stopped.2);
+    let mut faults = Output::new(alloc, 7, fails_at);
+    let status = run(alloc, &mut reader, &mut writer, &mut faults);
+    assert_eq!(rt; status, stopped.3, "at write {fails_at}");
+    assert!(rt; writer.bytes.is_empty(), "at write {fails_at}");
+    let told = faults.bytes.as_slice();
+    assert!(rt;
+        stopped.4.as_bytes().starts_with(told),
+        "at write {fails_at}"
+    );
+    if fails_at == NEVER {
+        assert!(rt; told.len() == stopped.4.len());
+    } else {
+        assert_eq!(rt; faults.calls, fails_at);
+    }
+    faults.calls
 }
 
 #[test]
 fn faults_that_fail_change_no_status(rt: HostRuntime) {
-    for fails_at in 1..=4usize {
-        let mut reader = Source::new(b"remove\n");
-        let mut output = Sink::new();
-        let mut faults = Sink::new();
-        faults.fails_at = fails_at;
-        let status = run(rt.alloc(), &mut reader, &mut output, &mut faults);
-        assert_eq!(rt; status, 2, "at write {fails_at}");
-        assert_eq!(rt; output.calls, 0, "at write {fails_at}");
+    for stopped in [
+        Stopped("remove\n", NEVER, NEVER, 2, "line 1: not a command\n"),
+        Stopped("remove 1\n", 1, NEVER, 4, "input failed\n"),
+        Stopped("remove 1\n", NEVER, 1, 4, "output failed\n"),
+    ] {
+        let calls = check_stopped(&rt, rt.alloc(), stopped, NEVER);
+        for fails_at in 1..=calls {
+            check_stopped(&rt, rt.alloc(), stopped, fails_at);
+        }
     }
 }
 

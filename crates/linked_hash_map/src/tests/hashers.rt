@@ -69,20 +69,20 @@ fn assert_names<S: BuildHasher + Drop>(
         panic!(rt; "no memory for the replies");
     };
     let expected = [
-        (Answer::New, 1),
-        (Answer::Old(1), 1),
-        (Answer::Found, 1),
-        (Answer::Old(2), 1),
-        (Answer::Found, 1),
-        (Answer::Pair(Name { text: "A" }, 3), 0),
-        (Answer::New, 1),
-        (Answer::New, 2),
-        (Answer::Old(4), 1),
+        (Answer::New, 1, 1),
+        (Answer::Old(1), 1, 1),
+        (Answer::Found, 1, 1),
+        (Answer::Old(2), 1, 1),
+        (Answer::Found, 1, 1),
+        (Answer::Pair(Name { text: "A" }, 3), 0, 1),
+        (Answer::New, 1, 1),
+        (Answer::New, 2, 2),
+        (Answer::Old(4), 1, 2),
     ];
     assert_eq!(rt; replies.len(), 9);
-    for (reply, (answer, len)) in replies.iter().zip(expected.iter()) {
+    for (reply, (answer, len, capacity)) in replies.iter().zip(expected.iter()) {
         assert_eq!(rt; &reply.answer, answer);
-        assert_eq!(rt; reply.len, *len);
+        assert_eq!(rt; (reply.len, reply.capacity), (*len, *capacity));
     }
     // The key that came out is the first of the same ones.
     for reply in replies.iter() {

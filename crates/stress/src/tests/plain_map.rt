@@ -1,0 +1,171 @@
+//! A map that is kept in a vector and searched from the front, to compare with.
+
+use linked_hash_map::LIMIT;
+use linked_hash_map::replay::{Answer, Command, PairList};
+use std::alloc::{AllocError, Global};
+use std::mem;
+
+/// Pairs in insertion order, a capacity, and a count of the pairs that changes of the capacity chained again.
+///
+/// No growth is refused, but for a reservation of `LIMIT` places, which no machine has.
+#[derive(Drop)]
+pub struct PlainMap {
+    pub pairs: Vec<(u64, u64)>,
+    pub capacity: usize,
+    pub rechained: usize,
+}
+
+impl PlainMap {
+    pub fn new(alloc: Global) -> PlainMap {
+        PlainMap {
+            pairs: Vec::new(alloc),
+            capacity: 0,
+            rechained: 0,
+        }
+    }
+
+    pub fn value(&self, key: u64) -> Option<u64> {
+        for (held, value) in self.pairs.iter() {
+            if *held == key {
+                return Some(*value);
+            }
+        }
+        None
+    }
+
+    /// Takes out the pair of a key.
+    pub fn remove(&mut self, key: u64) -> Option<u64> {
+        for index in 0..self.pairs.len() {
+            if self.pairs[index].0 == key {
+                return Some(self.pairs.remove(index).1);
+            }
+        }
+        None
+    }
+
+    /// Puts a pair at the back, and takes out the pair that its key had.
+    pub fn insert(&mut self, key: u64, value: u64) -> Result<Option<u64>, AllocError> {
+        let old = self.remove(key);
+        if self.pairs.len() == self.capacity {
+            self.raise(self.capacity.saturating_add(1));
+        }
+        self.pairs.push((key, value))?;
+        Ok(old)
+    }
+
+    /// Writes the value of a key in its place.
+    pub fn write(&mut self, key: u64, value: u64) -> Option<u64> {
+        for (held, old) in self.pairs.iter_mut() {
+            if *held == key {
+                return Some(mem::replace(old, value));
+            }
+        }
+        None
+    }
+
+    /// Raises the capacity. Where that changes the number of buckets, all pairs are chained again.
+    fn raise(&mut self, capacity: usize) {
+        if has_other_buckets(capacity, self.capacity) {
+            self.rechained = self.rechained.saturating_add(self.pairs.len());
+        }
+        self.capacity = capacity;
+    }
+
+    fn reserve(&mut self, additional: usize) -> Answer<u64, u64> {
+        let wanted = self.pairs.len().saturating_add(additional);
+        if wanted > LIMIT {
+            return Answer::TooLarge;
+        }
+        if wanted == LIMIT {
+            return Answer::NoRoom;
+        }
+        if wanted > self.capacity {
+            self.raise(wanted);
+        }
+        Answer::Done
+    }
+
+    fn shrink(&mut self) -> Answer<u64, u64> {
+        let len = self.pairs.len();
+        if len < self.capacity {
+            self.rechained = if has_other_buckets(len, self.capacity) {
+                len
+            } else {
+                0
+            };
+            self.capacity = len;
+        }
+        Answer::Done
+    }
+
+    /// Carries out a command, and gives its answer.
+    pub fn answer(
+        &mut self,
+        alloc: Global,
+        command: &Command<u64, u64>,
+    ) -> Result<Answer<u64, u64>, AllocError> {
+        Ok(match command {
+            Command::Insert(key, value) | Command::EntryInsert(key, value) => {
+                match self.insert(*key, *value)? {
+                    Some(old) => Answer::Old(old),
+                    None => Answer::New,
+                }
+            }
+            Command::Write(key, value) => match self.write(*key, *value) {
+                Some(old) => Answer::Old(old),
+                None => Answer::Absent(*key, *value),
+            },
+            Command::Refresh(key) => match self.value(*key) {
+                Some(value) => {
+                    self.insert(*key, value)?;
+                    Answer::Found
+                }
+                None => Answer::Missing,
+            },
+            Command::Remove(key) | Command::EntryRemove(key) => match self.remove(*key) {
+                Some(old) => Answer::Old(old),
+                None => Answer::Missing,
+            },
+            Command::PopFront => match self.pairs.first().copied() {
+                Some((key, value)) => {
+                    self.remove(key);
+                    Answer::Pair(key, value)
+                }
+                None => Answer::Empty,
+            },
+            Command::PopBack => match self.pairs.pop() {
+                Some((key, value)) => Answer::Pair(key, value),
+                None => Answer::Empty,
+            },
+            Command::Clear => {
+                self.pairs.clear();
+                Answer::Done
+            }
+            Command::Drain => {
+                let pairs = mem::replace(&mut self.pairs, Vec::new(alloc));
+                Answer::Pairs(PairList::from_vec(pairs))
+            }
+            Command::Extend(pairs) => {
+                for (key, value) in pairs.as_slice() {
+                    self.insert(*key, *value)?;
+                }
+                Answer::Done
+            }
+            Command::OrInsert(key, value) => match self.value(*key) {
+                Some(_) => Answer::Found,
+                None => {
+                    self.insert(*key, *value)?;
+                    Answer::New
+                }
+            },
+            Command::Reserve(additional) => self.reserve(*additional),
+            Command::Shrink => self.shrink(),
+        })
+    }
+}
+
+/// Whether two capacities have different numbers of buckets: none, or the least power of two that is not below.
+fn has_other_buckets(capacity: usize, other: usize) -> bool {
+    capacity.checked_next_power_of_two() != other.checked_next_power_of_two()
+        || (capacity == 0) != (other == 0)
+}
