@@ -1,11 +1,11 @@
 //! A map that is kept in a vector and searched from the front, to compare with.
 
-use linked_hash_map::LIMIT;
 use linked_hash_map::replay::{Answer, Command, PairList};
+use linked_hash_map::{LIMIT, Mode};
 use std::alloc::{AllocError, Global};
 use std::mem;
 
-/// Pairs in insertion order, a capacity, and a count of the pairs that changes of the capacity chained again.
+/// Pairs in insertion order, a capacity, a count of the pairs that changes of the capacity chained again, and a mode.
 ///
 /// No growth is refused, but for a reservation of `LIMIT` places, which no machine has.
 #[derive(Drop)]
@@ -13,6 +13,7 @@ pub struct PlainMap {
     pub pairs: Vec<(u64, u64)>,
     pub capacity: usize,
     pub rechained: usize,
+    pub mode: Mode,
 }
 
 impl PlainMap {
@@ -21,6 +22,7 @@ impl PlainMap {
             pairs: Vec::new(alloc),
             capacity: 0,
             rechained: 0,
+            mode: Mode::Touch,
         }
     }
 
@@ -51,6 +53,17 @@ impl PlainMap {
         }
         self.pairs.push((key, value))?;
         Ok(old)
+    }
+
+    /// Inserts as the mode says: a key that is there keeps its place in `Keep`.
+    pub fn put(&mut self, key: u64, value: u64) -> Result<Option<u64>, AllocError> {
+        match self.mode {
+            Mode::Touch => self.insert(key, value),
+            Mode::Keep => match self.write(key, value) {
+                Some(old) => Ok(Some(old)),
+                None => self.insert(key, value),
+            },
+        }
     }
 
     /// Writes the value of a key in its place.
@@ -106,7 +119,7 @@ impl PlainMap {
     ) -> Result<Answer<u64, u64>, AllocError> {
         Ok(match command {
             Command::Insert(key, value) | Command::EntryInsert(key, value) => {
-                match self.insert(*key, *value)? {
+                match self.put(*key, *value)? {
                     Some(old) => Answer::Old(old),
                     None => Answer::New,
                 }
@@ -147,7 +160,7 @@ impl PlainMap {
             }
             Command::Extend(pairs) => {
                 for (key, value) in pairs.as_slice() {
-                    self.insert(*key, *value)?;
+                    self.put(*key, *value)?;
                 }
                 Answer::Done
             }
@@ -160,6 +173,10 @@ impl PlainMap {
             },
             Command::Reserve(additional) => self.reserve(*additional),
             Command::Shrink => self.shrink(),
+            Command::SetMode(mode) => {
+                self.mode = *mode;
+                Answer::Done
+            }
         })
     }
 }

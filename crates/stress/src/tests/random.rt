@@ -3,7 +3,7 @@
 use super::hashers::PARITY;
 use super::plain_map::PlainMap;
 use linked_hash_map::replay::{Answer, Command, PairList, Reply, replay};
-use linked_hash_map::{LIMIT, LinkedHashMap};
+use linked_hash_map::{LIMIT, LinkedHashMap, Mode};
 use std::alloc::{AllocError, Global};
 use std::hash::BuildHasher;
 use std::process::Abort;
@@ -52,6 +52,13 @@ impl Generator {
         }
     }
 
+    fn mode(&mut self) -> Mode {
+        match self.draw(1) {
+            0 => Mode::Touch,
+            _ => Mode::Keep,
+        }
+    }
+
     /// Draws a command for a map of `len` pairs.
     fn command(&mut self, alloc: Global, len: usize) -> Result<Command<u64, u64>, AllocError> {
         let key = self.key();
@@ -67,8 +74,9 @@ impl Generator {
             38..=43 => Command::EntryInsert(key, value),
             44..=48 => Command::EntryRemove(key),
             49..=52 => Command::Extend(self.pairs(alloc)?),
-            53..=57 => Command::Reserve(self.additional(len)),
-            58..=61 => Command::Shrink,
+            53..=56 => Command::Reserve(self.additional(len)),
+            57..=60 => Command::Shrink,
+            61 => Command::SetMode(self.mode()),
             62 => Command::Clear,
             _ => Command::Drain,
         })
@@ -104,6 +112,7 @@ fn assert_same<S: BuildHasher>(
     assert_eq!(rt; map.len(), plain.pairs.len(), "at {step}");
     assert_eq!(rt; map.capacity(), plain.capacity, "at {step}");
     assert_eq!(rt; map.rechained(), plain.rechained, "at {step}");
+    assert_eq!(rt; map.mode(), plain.mode, "at {step}");
     for ((key, value), pair) in map.iter().zip(plain.pairs.iter()) {
         assert_eq!(rt; (*key, *value), *pair, "at {step}");
     }
