@@ -23,80 +23,123 @@ fn assert_sessions(
     assert_eq!(rt; (sessions.next(), sessions.len()), (None, 0));
 }
 
-/// Puts a session, and checks that the table has none with its id and that these go.
-fn put_new(
+/// A put, the payload that the id had, the sessions that go, those that there are then, and what these weigh together.
+type Step<'a> = (
+    Session,
+    Option<&'static str>,
+    &'a [Session],
+    &'a [Session],
+    u64,
+);
+
+/// Runs puts, and checks each.
+fn run(
     rt: &impl Abort,
     table: &mut Sessions<&'static str>,
-    (id, weight, payload): Session,
-    gone: &[Session],
+    steps: &[Step<'_>],
 ) -> Result<(), PutRefused<&'static str>> {
-    let put = table.put(id, weight, payload)?;
-    assert_eq!(rt; (put.old, put.gone.as_slice()), (None, gone));
+    for (session, old, gone, left, total) in steps {
+        let (id, weight, payload) = *session;
+        let put = table.put(id, weight, payload)?;
+        assert_eq!(rt; put.old, *old);
+        assert_eq!(rt; put.gone.as_slice(), *gone);
+        assert_sessions(rt, table, left, *total);
+    }
     Ok(())
 }
 
-fn too_heavy<T>(payload: T) -> Result<Put<T>, PutRefused<T>> {
-    Err(PutRefused {
-        reason: PutReason::TooHeavy,
-        payload,
-    })
+/// Checks that a put was refused, why, and that its payload came back.
+fn assert_refused(
+    rt: &impl Abort,
+    put: Result<Put<&'static str>, PutRefused<&'static str>>,
+    reason: PutReason,
+    payload: &'static str,
+) {
+    assert_eq!(rt; put, Err(PutRefused { reason, payload }));
 }
 
 #[test]
 fn sends_the_oldest_sessions_away(rt: HostRuntime) -> Result<(), Fail> {
     let mut table = Sessions::new(rt.alloc(), 10);
-    put_new(&rt, &mut table, (1, 4, "a"), &[])?;
-    put_new(&rt, &mut table, (2, 4, "b"), &[])?;
-    assert_sessions(&rt, &table, &[(1, 4, "a"), (2, 4, "b")], 8);
-    put_new(&rt, &mut table, (3, 4, "c"), &[(1, 4, "a")])?;
-    assert_sessions(&rt, &table, &[(2, 4, "b"), (3, 4, "c")], 8);
-    let put = table.put(2, 7, "d")?;
-    assert_eq!(rt;
-        (put.old, put.gone.as_slice()),
-        (Some("b"), [(3, 4, "c")].as_slice())
-    );
-    assert_eq!(rt; table.put(9, 11, "e"), too_heavy("e"));
-    assert_eq!(rt; table.put(2, 11, "e"), too_heavy("e"));
-    assert_sessions(&rt, &table, &[(2, 7, "d")], 7);
-    let mut table = Sessions::new(rt.alloc(), 5);
-    put_new(&rt, &mut table, (1, 5, "a"), &[])?;
-    put_new(&rt, &mut table, (2, 0, "b"), &[])?;
-    put_new(&rt, &mut table, (3, 5, "c"), &[(1, 5, "a")])?;
-    assert_sessions(&rt, &table, &[(2, 0, "b"), (3, 5, "c")], 5);
-    let mut table = Sessions::new(rt.alloc(), 5);
-    put_new(&rt, &mut table, (1, 0, "a"), &[])?;
-    put_new(&rt, &mut table, (2, 5, "b"), &[])?;
-    put_new(&rt, &mut table, (3, 5, "c"), &[(1, 0, "a"), (2, 5, "b")])?;
-    assert_sessions(&rt, &table, &[(3, 5, "c")], 5);
+    let steps: [Step<'_>; 4] = [
+        ((1, 4, "a"), None, &[], &[(1, 4, "a")], 4),
+        ((2, 4, "b"), None, &[], &[(1, 4, "a"), (2, 4, "b")], 8),
+        (
+            (3, 4, "c"),
+            None,
+            &[(1, 4, "a")],
+            &[(2, 4, "b"), (3, 4, "c")],
+            8,
+        ),
+        ((2, 7, "d"), Some("b"), &[(3, 4, "c")], &[(2, 7, "d")], 7),
+    ];
+    run(&rt, &mut table, &steps)?;
+    for id in [9, 2] {
+        assert_refused(&rt, table.put(id, 11, "e"), PutReason::TooHeavy, "e");
+        assert_sessions(&rt, &table, &[(2, 7, "d")], 7);
+    }
     Ok(())
 }
 
 #[test]
-fn keeps_within_the_smallest_and_the_largest_limit(rt: HostRuntime) -> Result<(), Fail> {
+fn sends_away_no_more_than_have_to_go(rt: HostRuntime) -> Result<(), Fail> {
+    let steps: [Step<'_>; 3] = [
+        ((1, 5, "a"), None, &[], &[(1, 5, "a")], 5),
+        ((2, 0, "b"), None, &[], &[(1, 5, "a"), (2, 0, "b")], 5),
+        (
+            (3, 5, "c"),
+            None,
+            &[(1, 5, "a")],
+            &[(2, 0, "b"), (3, 5, "c")],
+            5,
+        ),
+    ];
+    run(&rt, &mut Sessions::new(rt.alloc(), 5), &steps)?;
+    let steps: [Step<'_>; 3] = [
+        ((1, 0, "a"), None, &[], &[(1, 0, "a")], 0),
+        ((2, 5, "b"), None, &[], &[(1, 0, "a"), (2, 5, "b")], 5),
+        (
+            (3, 5, "c"),
+            None,
+            &[(1, 0, "a"), (2, 5, "b")],
+            &[(3, 5, "c")],
+            5,
+        ),
+    ];
+    run(&rt, &mut Sessions::new(rt.alloc(), 5), &steps)?;
+    let most = u64::MAX;
+    let steps: [Step<'_>; 2] = [
+        ((1, most, "a"), None, &[], &[(1, most, "a")], most),
+        ((2, 1, "b"), None, &[(1, most, "a")], &[(2, 1, "b")], 1),
+    ];
+    run(&rt, &mut Sessions::new(rt.alloc(), most), &steps)?;
     let mut table = Sessions::new(rt.alloc(), 0);
-    put_new(&rt, &mut table, (1, 0, "a"), &[])?;
-    assert_eq!(rt; table.put(2, 1, "b"), too_heavy("b"));
+    let steps: [Step<'_>; 1] = [((1, 0, "a"), None, &[], &[(1, 0, "a")], 0)];
+    run(&rt, &mut table, &steps)?;
+    assert_refused(&rt, table.put(2, 1, "b"), PutReason::TooHeavy, "b");
     assert_sessions(&rt, &table, &[(1, 0, "a")], 0);
-    let mut table = Sessions::new(rt.alloc(), u64::MAX);
-    put_new(&rt, &mut table, (1, u64::MAX, "a"), &[])?;
-    assert_eq!(rt; table.total(), u64::MAX);
-    put_new(&rt, &mut table, (2, 1, "b"), &[(1, u64::MAX, "a")])?;
-    assert_sessions(&rt, &table, &[(2, 1, "b")], 1);
     Ok(())
 }
 
 #[test]
 fn touches_and_removes_sessions(rt: HostRuntime) -> Result<(), Fail> {
     let mut table = Sessions::new(rt.alloc(), 10);
-    put_new(&rt, &mut table, (1, 4, "a"), &[])?;
-    put_new(&rt, &mut table, (2, 4, "b"), &[])?;
-    let put = table.put(1, 6, "c")?;
-    assert_eq!(rt; (put.old, put.gone.len()), (Some("a"), 0));
-    assert_sessions(&rt, &table, &[(2, 4, "b"), (1, 6, "c")], 10);
+    let steps: [Step<'_>; 3] = [
+        ((1, 4, "a"), None, &[], &[(1, 4, "a")], 4),
+        ((2, 4, "b"), None, &[], &[(1, 4, "a"), (2, 4, "b")], 8),
+        ((1, 6, "c"), Some("a"), &[], &[(2, 4, "b"), (1, 6, "c")], 10),
+    ];
+    run(&rt, &mut table, &steps)?;
     assert_eq!(rt; table.touch(2).copied(), Some("b"));
     assert_sessions(&rt, &table, &[(1, 6, "c"), (2, 4, "b")], 10);
-    put_new(&rt, &mut table, (3, 4, "d"), &[(1, 6, "c")])?;
-    assert_sessions(&rt, &table, &[(2, 4, "b"), (3, 4, "d")], 8);
+    let steps: [Step<'_>; 1] = [(
+        (3, 4, "d"),
+        None,
+        &[(1, 6, "c")],
+        &[(2, 4, "b"), (3, 4, "d")],
+        8,
+    )];
+    run(&rt, &mut table, &steps)?;
     assert_eq!(rt; (table.touch(1).copied(), table.remove(1)), (None, None));
     if let Some(payload) = table.touch(2) {
         *payload = "e";
@@ -126,6 +169,11 @@ fn keeps_pages_within_their_length(rt: HostRuntime) -> Result<(), Fail> {
     assert_eq!(rt; kept.next(), Some((3, 7, &"a third")));
     assert_eq!(rt; kept.next(), Some((1, 8, &"page one")));
     assert_eq!(rt; kept.next(), None);
+    Ok(())
+}
+
+#[test]
+fn puts_and_refuses_sessions(rt: HostRuntime) -> Result<(), Fail> {
     // `new`
     let table: Sessions<char> = Sessions::new(rt.alloc(), 10);
     assert_eq!(rt; (table.len(), table.total()), (0, 0));
@@ -154,28 +202,18 @@ fn keeps_pages_within_their_length(rt: HostRuntime) -> Result<(), Fail> {
     Ok(())
 }
 
-/// Checks that a put was refused for want of memory, with its payload back.
-fn assert_no_room(
-    rt: &impl Abort,
-    put: Result<Put<&'static str>, PutRefused<&'static str>>,
-    payload: &'static str,
-) {
-    let reason = PutReason::NoRoom;
-    assert_eq!(rt; put, Err(PutRefused { reason, payload }));
-}
-
 #[test]
 fn refused_put_changes_nothing(rt: HostRuntime) {
     let mut table = Sessions::new(rt.alloc(), 10);
     let first = table.put(1, 4, "a");
     if first.is_err() {
-        assert_no_room(&rt, first, "a");
+        assert_refused(&rt, first, PutReason::NoRoom, "a");
         assert_sessions(&rt, &table, &[], 0);
         return;
     }
     let second = table.put(2, 4, "b");
     if second.is_err() {
-        assert_no_room(&rt, second, "b");
+        assert_refused(&rt, second, PutReason::NoRoom, "b");
         assert_sessions(&rt, &table, &[(1, 4, "a")], 4);
         return;
     }
@@ -187,7 +225,7 @@ fn refused_put_changes_nothing(rt: HostRuntime) {
     // The growth: the vector for the session that goes.
     let third = table.put(3, 4, "d");
     if third.is_err() {
-        assert_no_room(&rt, third, "d");
+        assert_refused(&rt, third, PutReason::NoRoom, "d");
         assert_sessions(&rt, &table, &[(1, 4, "a"), (2, 4, "c")], 8);
         // There is memory again.
         let Ok(put) = table.put(3, 4, "e") else {
