@@ -6,7 +6,7 @@ use crate::map::LinkedHashMap;
 use std::alloc::AllocError;
 use std::hash::{BuildHasher, Hash};
 
-/// A clone of a map has a clone of its hasher, its length as capacity, and clones of its pairs, inserted in order.
+/// A clone of a map has a clone of its hasher, its mode, its length as capacity, and clones of its pairs, inserted in order.
 ///
 /// Where a clone of a key is the same key, its list is the clones in order; else two of them may be the same, and the later
 /// then replaces the earlier. It takes memory for as many pairs as there are, and what the clones take. It is refused where

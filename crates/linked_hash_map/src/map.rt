@@ -381,12 +381,11 @@ impl<K: Eq + Hash, V, S: BuildHasher> LinkedHashMap<K, V, S> {
         Ok(())
     }
 
-    /// Puts a pair at the back.
+    /// Puts a pair at the back, or in [`Mode::Keep`] in the place that its key has.
     ///
     /// A key that is present keeps its stored key and gets the new value, its pair moves to the back, or in [`Mode::Keep`] stays in
     /// its place, `key` is dropped and the old value is returned; this takes no memory and is never refused. A new key goes to the
-    /// back in both modes. Below capacity it takes no memory and is never
-    /// refused either. A new key at full capacity raises the capacity by exactly one, or is refused: then the error has this key
+    /// back in both modes. Below capacity it takes no memory and is never refused either. A new key at full capacity raises the capacity by exactly one, or is refused: then the error has this key
     /// and this value, and the map is unchanged. It costs a look-up, and where a raise changes the number of buckets a step for
     /// each pair. The original answers no error, and may take memory below its capacity.
     ///
@@ -534,8 +533,8 @@ impl<K: Eq + Hash, V, S: BuildHasher> LinkedHashMap<K, V, S> {
         }
     }
 
-    /// Moves the pair of a key to the back and lends its value for writing, or returns `None` where the key is absent
-    /// and changes nothing.
+    /// Moves the pair of a key to the back, in both modes, and lends its value for writing, or returns `None` where the key is
+    /// absent and changes nothing.
     ///
     /// What is written becomes the value of that pair. All other pairs keep their order. It takes no memory and costs a look-up.
     /// The original takes any borrowed form of the key.

@@ -3,8 +3,8 @@
 //! A [`Command`] asks a map for one of its calls. [`replay`] runs a list of commands on a map and gives a [`Reply`] for each:
 //! the [`Answer`], and the length and the capacity after it. Its contract says what the map and the answers are after any
 //! run, by a log of events: the map has exactly the pairs that the log of the answers' effects defines, in the order
-//! of each key's last insertion or refresh. The events, and what a log defines, are in `specs/Log.antt`; the effects and
-//! the allowed answers are in `specs/Requests.antt`.
+//! of each key's last touch: a refresh, or an insertion that moves the pair. The events, and what a log defines, are in
+//! `specs/Log.antt`; the effects and the allowed answers are in `specs/Requests.antt`.
 //!
 //! The original has no such module.
 //!
@@ -51,7 +51,7 @@ pub use pair_list::PairList;
 /// ```
 #[derive(Debug, PartialEq, Drop)]
 pub enum Command<K, V> {
-    /// Puts a pair at the back, as `insert` does: `New`, `Old` or `Refused`.
+    /// Puts a pair in, as `insert` does in the mode of the map: `New`, `Old` or `Refused`.
     Insert(K, V),
     /// Writes the value of a key in its place, as through `get_mut`: `Old` or `Absent`.
     Write(K, V),
@@ -72,7 +72,7 @@ pub enum Command<K, V> {
     Extend(PairList<K, V>),
     /// Puts a pair at the back unless the key is present, as `entry` and `or_insert` do: `New`, `Found` or `Refused`.
     OrInsert(K, V),
-    /// Puts a pair at the back, as `entry` and then `insert` of either kind of entry do: `New`, `Old` or `Refused`.
+    /// Puts a pair in, as `entry` and then `insert` of either kind of entry do in the mode of the map: `New`, `Old` or `Refused`.
     EntryInsert(K, V),
     /// Takes out the pair of a key, as `entry` and `OccupiedEntry::remove` do: `Old` or `Missing`.
     EntryRemove(K),

@@ -10,6 +10,7 @@ mod growths;
 mod hasher;
 mod hashers;
 mod lists;
+mod modes;
 mod name;
 mod nodes;
 mod readme;

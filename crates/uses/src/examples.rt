@@ -3,7 +3,9 @@
 //! Each example stands here word for word, below the names of the items that show it. Those that begin alike share their
 //! first lines, and calls that only read may stand between.
 use linked_hash_map::replay::{Answer, Command, PairList, replay};
-use linked_hash_map::{DefaultHashBuilder, Entry, LIMIT, LinkedHashMap, NoRoom, ReserveError};
+use linked_hash_map::{
+    DefaultHashBuilder, Entry, LIMIT, LinkedHashMap, Mode, NoRoom, ReserveError,
+};
 use std::cmp::Ordering;
 use std::hash::{BuildHasher, RandomState};
 use std::test::Fail;
@@ -117,6 +119,28 @@ fn inserts_and_refreshes(rt: HostRuntime) -> Result<(), Fail> {
         *value = 3;
     }
     assert_eq!(rt; map.back(), Some((&'x', &3)));
+    // `Mode`
+    let mut map = LinkedHashMap::new(rt.alloc());
+    map.insert('x', 1)?;
+    map.insert('y', 2)?;
+    assert_eq!(rt; map.mode(), Mode::Touch);
+    map.set_mode(Mode::Keep);
+    assert_eq!(rt; map.insert('x', 3)?, Some(1));
+    assert_eq!(rt; map.front(), Some((&'x', &3)));
+    // `set_mode`
+    let mut map = LinkedHashMap::new(rt.alloc());
+    map.insert('x', 1)?;
+    map.insert('y', 2)?;
+    map.set_mode(Mode::Keep);
+    map.insert('x', 3)?;
+    assert_eq!(rt; map.back(), Some((&'y', &2)));
+    map.set_mode(Mode::Touch);
+    map.insert('x', 4)?;
+    assert_eq!(rt; map.back(), Some((&'x', &4)));
+    // `mode`
+    let mut map: LinkedHashMap<char, u64> = LinkedHashMap::new(rt.alloc());
+    map.set_mode(Mode::Keep);
+    assert_eq!(rt; map.mode(), Mode::Keep);
     Ok(())
 }
 

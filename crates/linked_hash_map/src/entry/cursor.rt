@@ -14,9 +14,9 @@ use std::hash::{BuildHasher, Hash};
 /// A cursor over the entries of a map, from the oldest place to the newest. It is made by `entries`.
 ///
 /// It visits the pairs that the map had when the cursor was made, in their order then, each once, whatever is done with their
-/// entries: one that is taken out, or that its entry moved to the back, is not visited again. A cursor that is let go leaves
-/// the map as it then is. The original's is an iterator, and its entries can be held side by side; this one lends one entry
-/// at a time.
+/// entries: one that is taken out, or that its entry moved to the back or left in its place, is not visited again. A cursor that
+/// is let go leaves the map as it then is. The original's is an iterator, and its entries can be held side by side; this one lends
+/// one entry at a time.
 ///
 /// # Examples
 ///

@@ -108,7 +108,8 @@ impl<'a, K: Eq + Hash, V, S: BuildHasher> OccupiedEntry<'a, K, V, S> {
         map.leave_current()
     }
 
-    /// Replaces the value, moves the pair to the back and returns the old value. The entry still stands for the pair.
+    /// Replaces the value, moves the pair to the back, but in [`Mode::Keep`](crate::Mode::Keep) leaves it in its place, and returns the
+    /// old value. The entry still stands for the pair.
     ///
     /// All other pairs keep their order. It takes no memory, and the capacity stays. It costs a constant number of steps. The
     /// documentation of the original says only that the value is set; its code moves the pair too.

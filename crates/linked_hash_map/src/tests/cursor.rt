@@ -3,7 +3,7 @@ ghost use Rattle.std.specs.Prelude.{◌≡◌, ◌∷◌, [], IsTrue, IfOk, slic
 ghost use Rattle.std.specs.Map.{keys_of};
 
 use super::{assert_pairs, map_of};
-use crate::{Entries, LinkedHashMap, OccupiedEntry};
+use crate::{Entries, LinkedHashMap, Mode, OccupiedEntry};
 use std::alloc::{AllocError, Global};
 use std::process::Abort;
 use std::test::Fail;
@@ -11,7 +11,8 @@ use std::test::Fail;
 // Callers of the step that `Entries::next` hands on, which know what the list is in the end.
 
 fn visit_three(map: &mut LinkedHashMap<u64, u64>) -> bool
-    requires { map.old.pairs ≡ (1, 10) ∷ (2, 20) ∷ (3, 30) ∷ [] }
+    requires pairs { map.old.pairs ≡ (1, 10) ∷ (2, 20) ∷ (3, 30) ∷ [] }
+    requires mode { map.old.mode ≡ Mode.Touch }
     ensures visited { IsTrue result }
     ensures pairs { map.new.pairs ≡ (3, 30) ∷ (2, 0) ∷ [] }
 {
@@ -31,7 +32,8 @@ fn visit_three(map: &mut LinkedHashMap<u64, u64>) -> bool
 }
 
 fn visit_four(map: &mut LinkedHashMap<u64, u64>) -> bool
-    requires { map.old.pairs ≡ (1, 1) ∷ (2, 2) ∷ (3, 3) ∷ (4, 4) ∷ [] }
+    requires pairs { map.old.pairs ≡ (1, 1) ∷ (2, 2) ∷ (3, 3) ∷ (4, 4) ∷ [] }
+    requires mode { map.old.mode ≡ Mode.Touch }
     ensures visited { IsTrue result }
     ensures pairs { map.new.pairs ≡ (3, 30) ∷ (1, 10) ∷ (4, 40) ∷ [] }
 {
@@ -56,7 +58,8 @@ fn visit_four(map: &mut LinkedHashMap<u64, u64>) -> bool
 }
 
 fn visit_two_of_four(map: &mut LinkedHashMap<u64, u64>) -> bool
-    requires { map.old.pairs ≡ (1, 1) ∷ (2, 2) ∷ (3, 3) ∷ (4, 4) ∷ [] }
+    requires pairs { map.old.pairs ≡ (1, 1) ∷ (2, 2) ∷ (3, 3) ∷ (4, 4) ∷ [] }
+    requires mode { map.old.mode ≡ Mode.Touch }
     ensures visited { IsTrue result }
     ensures pairs { map.new.pairs ≡ (3, 3) ∷ (4, 4) ∷ (1, 10) ∷ [] }
 {
@@ -70,6 +73,29 @@ fn visit_two_of_four(map: &mut LinkedHashMap<u64, u64>) -> bool
     };
     second.remove();
     map.unvisited() == 2
+}
+
+// In `Keep` the pair of an entry stays in its place, and those to visit stand.
+fn visit_three_in_place(map: &mut LinkedHashMap<u64, u64>) -> bool
+    requires pairs { map.old.pairs ≡ (1, 10) ∷ (2, 20) ∷ (3, 30) ∷ [] }
+    requires mode { map.old.mode ≡ Mode.Keep }
+    ensures visited { IsTrue result }
+    ensures pairs { map.new.pairs ≡ (1, 0) ∷ (3, 0) ∷ [] }
+{
+    map.begin_visit();
+    let Some(mut first) = map.next_entry() else {
+        return false;
+    };
+    first.insert(0);
+    let Some(second) = map.next_entry() else {
+        return false;
+    };
+    second.remove();
+    let Some(mut third) = map.next_entry() else {
+        return false;
+    };
+    third.insert(0);
+    map.unvisited() == 0
 }
 
 // A whole visit, whatever is done with the entries: it comes to each key once, in the order at the start.
