@@ -14,7 +14,6 @@ mod modes;
 mod name;
 mod nodes;
 mod readme;
-mod sessions;
 mod walks;
 mod written;
 

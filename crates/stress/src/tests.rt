@@ -9,4 +9,5 @@ mod look_ups;
 mod plain_map;
 mod random;
 mod refused;
+mod sessions;
 mod tally;

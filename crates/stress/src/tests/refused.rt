@@ -16,7 +16,7 @@ mod replays;
 mod without_memory;
 
 use hasher::BuildLastByte;
-use linked_hash_map::{LinkedHashMap, ReserveError};
+use linked_hash_map::{LinkedHashMap, Mode, ReserveError};
 use std::alloc::Global;
 use std::process::Abort;
 
@@ -30,7 +30,7 @@ const BUILDER: BuildLastByte = BuildLastByte { first: 7 };
 const ABSENT: u8 = 200;
 
 /// Says that none of a test's growths was refused, and how many there are.
-fn say_given(rt: &impl Print, growths: u64) {
+pub(super) fn say_given(rt: &impl Print, growths: u64) {
     let _ = println!(rt; "every growth was given, {growths} in all");
 }
 
@@ -53,13 +53,14 @@ fn full_of(rt: &impl Abort, alloc: Global, pairs: &[(u8, u64)]) -> Result<Map, R
     Ok(map)
 }
 
-/// Checks a map's pairs from both ends, its capacity and its count, and that its hasher is the one that it was made with and finds each key.
+/// Checks a map's pairs from both ends, its capacity and its count, that its hasher is the one that it was made with and finds each
+/// key, and that it is in `Touch`.
 fn assert_map(rt: &impl Abort, map: &Map, pairs: &[(u8, u64)], capacity: usize, rechained: usize) {
     assert_eq!(rt;
         (map.len(), map.capacity(), map.rechained()),
         (pairs.len(), capacity, rechained)
     );
-    assert_eq!(rt; *map.hasher(), BUILDER);
+    assert_eq!(rt; (*map.hasher(), map.mode()), (BUILDER, Mode::Touch));
     let mut forward = map.iter();
     for (key, value) in pairs {
         assert_eq!(rt; forward.next(), Some((key, value)));

@@ -5,7 +5,7 @@
 
 use super::{BUILDER, Map, assert_map, full_of, is_given, say_given, with_room};
 use linked_hash_map::replay::replay;
-use linked_hash_map::{Entry, LinkedHashMap};
+use linked_hash_map::{Entry, LinkedHashMap, Mode};
 use std::cmp::Ordering;
 use std::hash::{BuildHasher, Hash, Hasher};
 use std::process::Abort;
@@ -106,6 +106,9 @@ fn write(rt: &impl Abort, map: &mut Map) {
         (map.insert(3, 33), map.insert(1, 12)),
         (Ok(Some(22)), Ok(Some(11)))
     );
+    map.set_mode(Mode::Keep);
+    assert_eq!(rt; (map.mode(), map.insert(2, 22)), (Mode::Keep, Ok(Some(22))));
+    map.set_mode(Mode::Touch);
     assert!(rt; map.get_mut(&4).is_none());
     assert!(rt; map.get_refresh(&4).is_none());
     assert_map(rt, map, &[(2, 22), (3, 33), (1, 12)], 3, 0);

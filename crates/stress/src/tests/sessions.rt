@@ -1,7 +1,7 @@
 //! Tables of sessions.
 
-use super::say_given;
-use crate::sessions::{Put, PutReason, PutRefused, Sessions};
+use super::refused::say_given;
+use linked_hash_map::sessions::{Put, PutReason, PutRefused, Sessions};
 use std::process::Abort;
 use std::test::Fail;
 
@@ -205,12 +205,14 @@ fn puts_and_refuses_sessions(rt: HostRuntime) -> Result<(), Fail> {
 #[test]
 fn refused_put_changes_nothing(rt: HostRuntime) {
     let mut table = Sessions::new(rt.alloc(), 10);
+    // The growths: a bucket, the guard and a node.
     let first = table.put(1, 4, "a");
     if first.is_err() {
         assert_refused(&rt, first, PutReason::NoRoom, "a");
         assert_sessions(&rt, &table, &[], 0);
         return;
     }
+    // The growths: two buckets and a node.
     let second = table.put(2, 4, "b");
     if second.is_err() {
         assert_refused(&rt, second, PutReason::NoRoom, "b");
@@ -236,5 +238,5 @@ fn refused_put_changes_nothing(rt: HostRuntime) {
         return;
     }
     assert_sessions(&rt, &table, &[(2, 4, "c"), (3, 4, "d")], 8);
-    say_given(&rt);
+    say_given(&rt, 6);
 }
