@@ -55,9 +55,9 @@ use std::marker::Model;
 
 /// A table of sessions with a limit on the sum of their weights.
 ///
-/// No two sessions have one id. Each stands where its last put or touch left it, the oldest first. A call costs look-ups of the id in
-/// a map, and a constant number of steps where it names no other cost; the default hasher's seed is fixed. Dropping a table drops its payloads, a step for
-/// each.
+/// No two sessions have one id. Each stands where its last put or touch left it, the oldest first. A call that is given an id costs
+/// look-ups of it in a map whose hasher has a fixed seed, and beyond that a constant number of steps where it names no other cost.
+/// Dropping a table drops its payloads, a step for each.
 ///
 /// # Examples
 ///

@@ -23,28 +23,21 @@ fn assert_sessions(
     assert_eq!(rt; (sessions.next(), sessions.len()), (None, 0));
 }
 
-/// A put, the payload that the id had, the sessions that go, those that there are then, and what these weigh together.
-type Step<'a> = (
-    Session,
-    Option<&'static str>,
-    &'a [Session],
-    &'a [Session],
-    u64,
-);
-
-/// Runs puts, and checks each.
-fn run(
+/// Puts a session, and checks the payload that its id had, which sessions go, which there are then, and what these weigh
+/// together.
+fn check_put(
     rt: &impl Abort,
     table: &mut Sessions<&'static str>,
-    steps: &[Step<'_>],
+    (id, weight, payload): Session,
+    old: Option<&'static str>,
+    gone: &[Session],
+    left: &[Session],
+    total: u64,
 ) -> Result<(), PutRefused<&'static str>> {
-    for (session, old, gone, left, total) in steps {
-        let (id, weight, payload) = *session;
-        let put = table.put(id, weight, payload)?;
-        assert_eq!(rt; put.old, *old);
-        assert_eq!(rt; put.gone.as_slice(), *gone);
-        assert_sessions(rt, table, left, *total);
-    }
+    let put = table.put(id, weight, payload)?;
+    assert_eq!(rt; put.old, old);
+    assert_eq!(rt; put.gone.as_slice(), gone);
+    assert_sessions(rt, table, left, total);
     Ok(())
 }
 
@@ -61,19 +54,34 @@ fn assert_refused(
 #[test]
 fn sends_the_oldest_sessions_away(rt: HostRuntime) -> Result<(), Fail> {
     let mut table = Sessions::new(rt.alloc(), 10);
-    let steps: [Step<'_>; 4] = [
-        ((1, 4, "a"), None, &[], &[(1, 4, "a")], 4),
-        ((2, 4, "b"), None, &[], &[(1, 4, "a"), (2, 4, "b")], 8),
-        (
-            (3, 4, "c"),
-            None,
-            &[(1, 4, "a")],
-            &[(2, 4, "b"), (3, 4, "c")],
-            8,
-        ),
-        ((2, 7, "d"), Some("b"), &[(3, 4, "c")], &[(2, 7, "d")], 7),
-    ];
-    run(&rt, &mut table, &steps)?;
+    check_put(&rt, &mut table, (1, 4, "a"), None, &[], &[(1, 4, "a")], 4)?;
+    check_put(
+        &rt,
+        &mut table,
+        (2, 4, "b"),
+        None,
+        &[],
+        &[(1, 4, "a"), (2, 4, "b")],
+        8,
+    )?;
+    check_put(
+        &rt,
+        &mut table,
+        (3, 4, "c"),
+        None,
+        &[(1, 4, "a")],
+        &[(2, 4, "b"), (3, 4, "c")],
+        8,
+    )?;
+    check_put(
+        &rt,
+        &mut table,
+        (2, 7, "d"),
+        Some("b"),
+        &[(3, 4, "c")],
+        &[(2, 7, "d")],
+        7,
+    )?;
     for id in [9, 2] {
         assert_refused(&rt, table.put(id, 11, "e"), PutReason::TooHeavy, "e");
         assert_sessions(&rt, &table, &[(2, 7, "d")], 7);
@@ -83,39 +91,73 @@ fn sends_the_oldest_sessions_away(rt: HostRuntime) -> Result<(), Fail> {
 
 #[test]
 fn sends_away_no_more_than_have_to_go(rt: HostRuntime) -> Result<(), Fail> {
-    let steps: [Step<'_>; 3] = [
-        ((1, 5, "a"), None, &[], &[(1, 5, "a")], 5),
-        ((2, 0, "b"), None, &[], &[(1, 5, "a"), (2, 0, "b")], 5),
-        (
-            (3, 5, "c"),
-            None,
-            &[(1, 5, "a")],
-            &[(2, 0, "b"), (3, 5, "c")],
-            5,
-        ),
-    ];
-    run(&rt, &mut Sessions::new(rt.alloc(), 5), &steps)?;
-    let steps: [Step<'_>; 3] = [
-        ((1, 0, "a"), None, &[], &[(1, 0, "a")], 0),
-        ((2, 5, "b"), None, &[], &[(1, 0, "a"), (2, 5, "b")], 5),
-        (
-            (3, 5, "c"),
-            None,
-            &[(1, 0, "a"), (2, 5, "b")],
-            &[(3, 5, "c")],
-            5,
-        ),
-    ];
-    run(&rt, &mut Sessions::new(rt.alloc(), 5), &steps)?;
+    let mut table = Sessions::new(rt.alloc(), 5);
+    check_put(&rt, &mut table, (1, 5, "a"), None, &[], &[(1, 5, "a")], 5)?;
+    check_put(
+        &rt,
+        &mut table,
+        (2, 0, "b"),
+        None,
+        &[],
+        &[(1, 5, "a"), (2, 0, "b")],
+        5,
+    )?;
+    check_put(
+        &rt,
+        &mut table,
+        (3, 5, "c"),
+        None,
+        &[(1, 5, "a")],
+        &[(2, 0, "b"), (3, 5, "c")],
+        5,
+    )?;
+    let mut table = Sessions::new(rt.alloc(), 5);
+    check_put(&rt, &mut table, (1, 0, "a"), None, &[], &[(1, 0, "a")], 0)?;
+    check_put(
+        &rt,
+        &mut table,
+        (2, 5, "b"),
+        None,
+        &[],
+        &[(1, 0, "a"), (2, 5, "b")],
+        5,
+    )?;
+    check_put(
+        &rt,
+        &mut table,
+        (3, 5, "c"),
+        None,
+        &[(1, 0, "a"), (2, 5, "b")],
+        &[(3, 5, "c")],
+        5,
+    )?;
+    Ok(())
+}
+
+#[test]
+fn keeps_within_the_smallest_and_the_largest_limit(rt: HostRuntime) -> Result<(), Fail> {
     let most = u64::MAX;
-    let steps: [Step<'_>; 2] = [
-        ((1, most, "a"), None, &[], &[(1, most, "a")], most),
-        ((2, 1, "b"), None, &[(1, most, "a")], &[(2, 1, "b")], 1),
-    ];
-    run(&rt, &mut Sessions::new(rt.alloc(), most), &steps)?;
+    let mut table = Sessions::new(rt.alloc(), most);
+    check_put(
+        &rt,
+        &mut table,
+        (1, most, "a"),
+        None,
+        &[],
+        &[(1, most, "a")],
+        most,
+    )?;
+    check_put(
+        &rt,
+        &mut table,
+        (2, 1, "b"),
+        None,
+        &[(1, most, "a")],
+        &[(2, 1, "b")],
+        1,
+    )?;
     let mut table = Sessions::new(rt.alloc(), 0);
-    let steps: [Step<'_>; 1] = [((1, 0, "a"), None, &[], &[(1, 0, "a")], 0)];
-    run(&rt, &mut table, &steps)?;
+    check_put(&rt, &mut table, (1, 0, "a"), None, &[], &[(1, 0, "a")], 0)?;
     assert_refused(&rt, table.put(2, 1, "b"), PutReason::TooHeavy, "b");
     assert_sessions(&rt, &table, &[(1, 0, "a")], 0);
     Ok(())
@@ -124,22 +166,36 @@ fn sends_away_no_more_than_have_to_go(rt: HostRuntime) -> Result<(), Fail> {
 #[test]
 fn touches_and_removes_sessions(rt: HostRuntime) -> Result<(), Fail> {
     let mut table = Sessions::new(rt.alloc(), 10);
-    let steps: [Step<'_>; 3] = [
-        ((1, 4, "a"), None, &[], &[(1, 4, "a")], 4),
-        ((2, 4, "b"), None, &[], &[(1, 4, "a"), (2, 4, "b")], 8),
-        ((1, 6, "c"), Some("a"), &[], &[(2, 4, "b"), (1, 6, "c")], 10),
-    ];
-    run(&rt, &mut table, &steps)?;
+    check_put(&rt, &mut table, (1, 4, "a"), None, &[], &[(1, 4, "a")], 4)?;
+    check_put(
+        &rt,
+        &mut table,
+        (2, 4, "b"),
+        None,
+        &[],
+        &[(1, 4, "a"), (2, 4, "b")],
+        8,
+    )?;
+    check_put(
+        &rt,
+        &mut table,
+        (1, 6, "c"),
+        Some("a"),
+        &[],
+        &[(2, 4, "b"), (1, 6, "c")],
+        10,
+    )?;
     assert_eq!(rt; table.touch(2).copied(), Some("b"));
     assert_sessions(&rt, &table, &[(1, 6, "c"), (2, 4, "b")], 10);
-    let steps: [Step<'_>; 1] = [(
+    check_put(
+        &rt,
+        &mut table,
         (3, 4, "d"),
         None,
         &[(1, 6, "c")],
         &[(2, 4, "b"), (3, 4, "d")],
         8,
-    )];
-    run(&rt, &mut table, &steps)?;
+    )?;
     assert_eq!(rt; (table.touch(1).copied(), table.remove(1)), (None, None));
     if let Some(payload) = table.touch(2) {
         *payload = "e";
@@ -205,14 +261,12 @@ fn puts_and_refuses_sessions(rt: HostRuntime) -> Result<(), Fail> {
 #[test]
 fn refused_put_changes_nothing(rt: HostRuntime) {
     let mut table = Sessions::new(rt.alloc(), 10);
-    // The growths: a bucket, the guard and a node.
     let first = table.put(1, 4, "a");
     if first.is_err() {
         assert_refused(&rt, first, PutReason::NoRoom, "a");
         assert_sessions(&rt, &table, &[], 0);
         return;
     }
-    // The growths: two buckets and a node.
     let second = table.put(2, 4, "b");
     if second.is_err() {
         assert_refused(&rt, second, PutReason::NoRoom, "b");
