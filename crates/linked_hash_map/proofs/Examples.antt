@@ -1,6 +1,7 @@
 -- The definitions, computed on short logs.
 use Rattle.std.proofs.Common.{◌≡◌, ℕ, ◌%◌, Bool, false, List, [], ◌∷◌, Some, None, nat_eq, refl, arith}
-use Rattle.linked_hash_map.specs.Log.{Log, Put, Write, Refresh, Remove, RemoveAll, Need, Fit, mode, live, stored, value, pair_of, standing_in, standing, pairs, size, high}
+use Rattle.linked_hash_map.specs.declared.map.Mode.TheVariants.{Touch, Keep}
+use Rattle.linked_hash_map.specs.Log.{Log, Put, Write, Refresh, Remove, RemoveAll, Need, Fit, SetMode, mode, live, stored, value, pair_of, standing_in, standing, pairs, size, high}
 use Rattle.linked_hash_map.specs.Pairs.{find, value_at, without, to_back, set_value}
 use Rattle.linked_hash_map.specs.Requests.{Request, Response, effects, next_log, IsLive, IsAbsent, HasValue, HasNoRoom, Answers, IsAllowed}
 use Rattle.linked_hash_map.specs.Requests as spec
@@ -164,3 +165,26 @@ commands-run = (
 commands-last_log : last_log nat_eq [] commands replies ≡ Put 1 5 ∷ Remove 1 ∷ []
 unfolding commands replies mode live standing_in standing size
 commands-last_log = refl
+
+-- mode keep, insert 1 10, insert 2 20, insert 1 11: the pair of 1 stays in its place
+kept : Log ℕ ℕ
+kept = SetMode Keep ∷ Put 1 10 ∷ Put 2 20 ∷ Put 1 11 ∷ []
+
+kept-pairs : pairs nat_eq kept ≡ (1, 11) ∷ (2, 20) ∷ []
+unfolding kept mode live stored value standing_in standing pair_of pairs
+kept-pairs = refl
+
+-- and then refresh 1: it moves
+kept-refreshed : pairs {V = ℕ} nat_eq (SetMode Keep ∷ Put 1 10 ∷ Put 2 20 ∷ Put 1 11 ∷ Refresh 1 ∷ []) ≡ (2, 20) ∷ (1, 11) ∷ []
+unfolding mode live stored value standing_in standing pair_of pairs
+kept-refreshed = refl
+
+-- a key that was removed goes to the back in Keep too
+kept-removed : pairs {V = ℕ} nat_eq (SetMode Keep ∷ Put 1 1 ∷ Put 2 2 ∷ Remove 1 ∷ Put 1 3 ∷ []) ≡ (2, 2) ∷ (1, 3) ∷ []
+unfolding mode live stored value standing_in standing pair_of pairs
+kept-removed = refl
+
+-- each place has the mode of the last SetMode before it
+kept-touched : pairs {V = ℕ} nat_eq (Put 1 1 ∷ Put 2 2 ∷ SetMode Keep ∷ Put 1 5 ∷ Put 2 9 ∷ Put 3 3 ∷ SetMode Touch ∷ Put 1 6 ∷ []) ≡ (2, 9) ∷ (3, 3) ∷ (1, 6) ∷ []
+unfolding mode live stored value standing_in standing pair_of pairs
+kept-touched = refl
