@@ -1,0 +1,30 @@
+//! The arguments: numbers above 0.
+ghost use Rattle.std.specs.Prelude.{◌≡◌, IfNone, IfSome};
+ghost use Rattle.bench.specs.Arguments.{IsNumber, IsNoNumber, number_of};
+
+use std::alloc::{AllocError, Global};
+
+/// Reads a number above 0, or returns `None` where the word is none.
+fn number(word: &str) -> Option<u64>
+    ensures some { IfSome result (λ n. IsNumber word.now) }
+    ensures number { IfSome result (λ n. n ≡ number_of word.now) }
+    ensures none { IfNone result (IsNoNumber word.now) }
+{
+    match word.parse::<u64>() {
+        Ok(0) => None,
+        Ok(number) => Some(number),
+        Err(_) => None,
+    }
+}
+
+/// Reads all of the words, or returns `None` where one of them is no number above 0.
+pub fn numbers(alloc: Global, words: &[String]) -> Result<Option<Vec<u64>>, AllocError> {
+    let mut numbers = Vec::new(alloc);
+    for word in words {
+        let Some(number) = number(word.as_str()) else {
+            return Ok(None);
+        };
+        numbers.push(number)?;
+    }
+    Ok(Some(numbers))
+}
