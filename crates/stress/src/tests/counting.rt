@@ -18,6 +18,7 @@ pub struct Counting {
 }
 
 impl Counting {
+    /// Makes a key that counts its comparisons in this cell.
     pub fn new(number: u64, compared: &Rc<Cell<usize>>) -> Result<Counting, AllocError> {
         Ok(Counting {
             number,

@@ -17,6 +17,7 @@ pub struct PlainMap {
 }
 
 impl PlainMap {
+    /// Makes one with no pairs, capacity 0, in `Touch`.
     pub fn new(alloc: Global) -> PlainMap {
         PlainMap {
             pairs: Vec::new(alloc),
@@ -26,6 +27,7 @@ impl PlainMap {
         }
     }
 
+    /// Returns the value of a key, searched from the front.
     pub fn value(&self, key: u64) -> Option<u64> {
         for (held, value) in self.pairs.iter() {
             if *held == key {

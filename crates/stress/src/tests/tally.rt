@@ -16,6 +16,7 @@ pub struct Tally {
 }
 
 impl Tally {
+    /// Makes one that has seen no drop.
     pub fn new() -> Tally {
         Tally {
             dropped: Cell::new(0),
