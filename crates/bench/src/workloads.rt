@@ -92,6 +92,7 @@ fn scattered(i: u64, n: u64) -> u64
 }
 
 /// Inserts a pair, and answers the old value of its key.
+#[inline(always)]
 fn insert(map: &mut Map, key: u64, value: u64) -> Result<Option<u64>, AllocError> {
     match map.insert(key, value) {
         Ok(old) => Ok(old),

@@ -1,12 +1,15 @@
 -- A ring of which only what is held at one place changes.
 use Rattle.std.proofs.Common.{◌≡◌, ℕ, suc, zero, true, false, cond, List, [], ◌∷◌, ◌++◌, map, length, Option, Some, None, refl, sym, ap, ◌∙◌, subst, append_assoc}
+use Rattle.std.specs.Prelude.{◌==◌}
 use Rattle.std.specs.List.{AllByRecursion}
 use denote.RawPtr.{Ptr}
 use Rattle.lhm_ring.specs.declared.block.Place.{Place}
 use Rattle.lhm_ring.specs.declared.links.Links.{Links}
 use Rattle.lhm_ring.specs.Cells.{Cell, cell, same_ptr, links_of, body_of, links_at, body_at, IsApart, with_links, with_body}
-use Rattle.lhm_ring.specs.Rings.{relinked, ptr_of_some, next_of, prev_of, link_of, has_links, guard_of, next_at, prev_at, link_at, is_there, is_guard, content_of, content_at, Linked, Chained, HasContent, IsRing, follow, listed, one_of, ring_places, ring_list, RingOk}
+use Rattle.lhm_ring.specs.Rings.{relinked, next_of, prev_of, link_of, has_links, guard_of, next_at, prev_at, link_at, is_there, is_guard, content_of, content_at, Linked, Chained, HasContent, IsRing, follow, listed, one_of, ring_places, ring_list, RingOk}
 use Rattle.lhm_ring.specs.RingState.{State, state, Held, held, IsHeld, ChangesOnly, change_at}
+use Rattle.lhm_ring.specs.Targets.{target}
+use Rattle.lhm_ring.specs.declared.link.Link.{Link}
 use Rattle.lhm_ring.proofs.Apart.{IsFresh, apart_none, same_ptr_eq, same_ptr_refl, same_ptr_symm}
 use Rattle.lhm_ring.proofs.Writes.{at_other, length-change, read_kept, links_set, body_kept}
 use Rattle.lhm_ring.proofs.Rows.{all_from, all_right, content_place, apart_at, apart_head, apart_left, apart_tail, follow_row}
@@ -56,26 +59,27 @@ module _ {B : Type 0} (cs ds : List (Cell Links B)) (p : Ptr) (t u : Held B) (j 
     apart = r.apart;
     count = j.count ∙ r.count;
     guard = j.guard g ∙ r.guard;
+    plain = all_from (λ q. is_guard cs q ≡ false) (λ q. is_guard ds q ≡ false) (λ q h. j.guard q ∙ h) ss r.plain;
   }
 
   -- where p stands in the ring
-  split_at : (guard spare : Option Place) (n m : ℕ) → RingOk cs guard spare n m → IsHeld (ring_list cs guard n) p → (us : List Ptr) × (vs : List Ptr) × (ring_places cs guard n ≡ us ++ p ∷ vs)
+  split_at : (guard : Option Place) (spare : Link) (n m : ℕ) → RingOk cs guard spare n m → IsHeld (ring_list cs guard n) p → (us : List Ptr) × (vs : List Ptr) × (ring_places cs guard n ≡ us ++ p ∷ vs)
   split_at None spare n m ok h = absurd (none_held p h)
   split_at (Some g) spare n m ok h =
       let f = found cs g spare n m ok h.0 h.1 h.2 h.3 in let s = f.place in
       (s.before, s.after, ap (λ k. follow cs k g.ptr) (sym s.long) ∙ follow_row cs g.ptr (s.before ++ h.1.at ∷ s.after) g.ptr s.ring.linked ∙ ap (λ q. s.before ++ q ∷ s.after) h.4)
 
-  free_of : (g : Place) (spare : Option Place) (n m : ℕ) (ok : RingOk cs (Some g) spare n m) (us vs : List Ptr) → follow cs n g.ptr ≡ us ++ p ∷ vs → IsFresh p ok.1
+  free_of : (g : Place) (spare : Link) (n m : ℕ) (ok : RingOk cs (Some g) spare n m) (us vs : List Ptr) → follow cs n g.ptr ≡ us ++ p ∷ vs → IsFresh p ok.1
   free_of g spare n m ok us vs e =
       let is : ok.0 ≡ us ++ p ∷ vs = sym (ap (λ k. follow cs k g.ptr) (sym ok.3) ∙ follow_row cs g.ptr ok.0 g.ptr ok.2.linked) ∙ e in
       let d : IsApart ((g.ptr ∷ us) ++ p ∷ (vs ++ ok.1)) = subst (λ qs. IsApart (g.ptr ∷ qs)) (ap (λ qs. qs ++ ok.1) is ∙ append_assoc us (p ∷ vs) ok.1) ok.2.apart in
       all_right (λ q. same_ptr p q ≡ false) vs ok.1 (all_right (λ q. same_ptr p q ≡ false) (g.ptr ∷ us) (vs ++ ok.1) (apart_at (g.ptr ∷ us) p (vs ++ ok.1) d))
 
-  pub ring_ok_same : (guard spare : Option Place) (n m : ℕ) → RingOk cs guard spare n m → IsHeld (ring_list cs guard n) p → RingOk ds guard spare n m
+  pub ring_ok_same : (guard : Option Place) (spare : Link) (n m : ℕ) → RingOk cs guard spare n m → IsHeld (ring_list cs guard n) p → RingOk ds guard spare n m
   ring_ok_same None spare n m ok h = absurd (none_held p h)
   ring_ok_same (Some g) spare n m ok h =
       let s = split_at (Some g) spare n m ok h in
-      (ok.0, ok.1, ring_same g.ptr ok.0 (ptr_of_some spare) ok.1 (free_of g spare n m ok s.0 s.1 s.2) ok.2, ok.3, ok.4, ok.5)
+      (ok.0, ok.1, ring_same g.ptr ok.0 (target spare) ok.1 (free_of g spare n m ok s.0 s.1 s.2) ok.2, ok.3, ok.4, ok.5)
 
   module _ (f : Held B → Held B) (fx : f t ≡ u) where
     place : t.at ≡ p
@@ -110,10 +114,10 @@ module _ {B : Type 0} (cs ds : List (Cell Links B)) (p : Ptr) (t u : Held B) (j 
 
 -- the body of a node is written, or its further link
 module _ {B : Type 0} (cs : List (Cell Links B)) (p : Ptr) (l : Links) (e : links_at cs p ≡ Some l) (t : Held B) (c : content_at cs p ≡ Some t) where
-  open_guard : l.guard ≡ false
+  open_guard : (l.guard == 1) ≡ false
   open_guard = sym (ap guard_of e) ∙ content_guard p (links_at cs p) (body_at cs p) t c
 
-  seen_content : (o : Option Links) (b : Option B) (k : Links) (x : B) → o ≡ Some k → b ≡ Some x → k.guard ≡ false → content_of p o b ≡ Some (held p k.number (link_of (Some k)) x)
+  seen_content : (o : Option Links) (b : Option B) (k : Links) (x : B) → o ≡ Some k → b ≡ Some x → (k.guard == 1) ≡ false → content_of p o b ≡ Some (held p k.number (link_of (Some k)) x)
   seen_content o b k x eo eb f = (λ i. content_of p (eo i) (eb i)) ∙ ap (λ y. cond y None (Some (held p k.number (link_of (Some k)) x))) f
 
   shown_links : content_of p (Some l) (body_at cs p) ≡ Some t
@@ -136,7 +140,7 @@ module _ {B : Type 0} (cs : List (Cell Links B)) (p : Ptr) (l : Links) (e : link
         count = length-change p (λ c. cell c.at c.links (Some x)) cs;
       }
 
-  pub link_changes : (o : Option Place) → ChangesAt cs (with_links p (relinked o l) cs) p t (held t.at t.number (ptr_of_some o) t.pair)
+  pub link_changes : (o : Link) → ChangesAt cs (with_links p (relinked o l) cs) p t (held t.at t.number (target o) t.pair)
   link_changes o =
       let k : Links = relinked o l in let e₂ : links_at (with_links p k cs) p ≡ Some k = links_set p k cs l e p ∙ ap (λ y. cond y (Some k) (links_at cs p)) (same_ptr_refl p) in
       let place : t.at ≡ p = content_place p (links_at cs p) (body_at cs p) t c in let x = content_holds p (links_at cs p) (body_at cs p) t c in
@@ -161,10 +165,10 @@ module _ {B : Type 0} where
   places_listed cs [] a = refl
   places_listed cs (p ∷ ps) a = ap (λ o. map (λ (t : Held B). t.at) (one_of o ++ listed cs ps)) a.0.1 ∙ (λ i. content_place p (links_at cs p) (body_at cs p) a.0.0 a.0.1 i ∷ places_listed cs ps a.1 i)
 
-  ring_apart : (cs : List (Cell Links B)) (guard spare : Option Place) (n m : ℕ) → RingOk cs guard spare n m → IsApart (map (λ (t : Held B). t.at) (ring_list cs guard n))
+  ring_apart : (cs : List (Cell Links B)) (guard : Option Place) (spare : Link) (n m : ℕ) → RingOk cs guard spare n m → IsApart (map (λ (t : Held B). t.at) (ring_list cs guard n))
   ring_apart cs None spare n m ok = apart_none
   ring_apart cs (Some g) spare n m ok =
-      subst IsApart (sym (ap (map (λ (t : Held B). t.at)) (ring_listed cs g.ptr ok.0 (ptr_of_some spare) ok.1 n ok.2 ok.3) ∙ places_listed cs ok.0 ok.2.held)) (apart_left ok.0 ok.1 (apart_tail g.ptr (ok.0 ++ ok.1) ok.2.apart))
+      subst IsApart (sym (ap (map (λ (t : Held B). t.at)) (ring_listed cs g.ptr ok.0 (target spare) ok.1 n ok.2 ok.3) ∙ places_listed cs ok.0 ok.2.held)) (apart_left ok.0 ok.1 (apart_tail g.ptr (ok.0 ++ ok.1) ok.2.apart))
 
   unchanged : (p : Ptr) (f : Held B → Held B) (ys : List (Held B)) → IsFresh p (map (λ (t : Held B). t.at) ys) → change_at p f ys ≡ ys
   unchanged p f [] d = refl
@@ -182,6 +186,6 @@ module _ {B : Type 0} where
       let far = apart_head x.at (map (λ (t : Held B). t.at) (xs ++ t ∷ ys)) d in
       λ i. cond (fresh_of x.at p xs t ys at far i) (f x) x ∷ changed_at p f xs t ys at (apart_tail x.at (map (λ (t : Held B). t.at) (xs ++ t ∷ ys)) d) i
 
-  pub changes_only : (cs : List (Cell Links B)) (guard spare : Option Place) (n m : ℕ) (v : State B) → RingOk cs guard spare n m → state (ring_list cs guard n) m ≡ v → (p : Ptr) → ChangesOnly v.held p
+  pub changes_only : (cs : List (Cell Links B)) (guard : Option Place) (spare : Link) (n m : ℕ) (v : State B) → RingOk cs guard spare n m → state (ring_list cs guard n) m ≡ v → (p : Ptr) → ChangesOnly v.held p
   changes_only cs guard spare n m v ok w p xs t ys e at f =
       ap (change_at p f) e ∙ changed_at p f xs t ys at (subst (λ hs. IsApart (map (λ (t : Held B). t.at) hs)) (ap (λ (z : State B). z.held) w ∙ e) (ring_apart cs guard spare n m ok))

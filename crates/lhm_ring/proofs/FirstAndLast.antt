@@ -5,8 +5,10 @@ use denote.RawPtr.{Ptr}
 use Rattle.lhm_ring.specs.declared.block.Place.{Place}
 use Rattle.lhm_ring.specs.declared.links.Links.{Links}
 use Rattle.lhm_ring.specs.Cells.{Cell, links_at, body_at}
-use Rattle.lhm_ring.specs.Rings.{ptr_of_some, next_of, prev_of, next_at, prev_at, content_at, Linked, HasContent, follow, listed, one_of, ring_list, RingOk}
+use Rattle.lhm_ring.specs.Rings.{next_of, prev_of, next_at, prev_at, content_at, Linked, HasContent, follow, listed, one_of, ring_list, RingOk}
 use Rattle.lhm_ring.specs.RingState.{State, state, Held, first_at, last_at, last_of}
+use Rattle.lhm_ring.specs.Targets.{target}
+use Rattle.lhm_ring.specs.declared.link.Link.{Link}
 use Rattle.lhm_ring.proofs.Rows.{content_place, cut_row, last_from}
 use Rattle.lhm_ring.proofs.Moves.{ring_listed, opened}
 
@@ -30,12 +32,12 @@ module _ {B : Type 0} (cs : List (Cell Links B)) where
   last_is g a [] c l h = absurd (h refl)
   last_is g a (p ∷ ps) c l h = ap (λ z. last_at (one_of z ++ listed cs ps)) c.0.1 ∙ ap (λ q. Some q) (last_listed p c.0 ps c.1 ∙ sym (cut_row cs g (p ∷ ps) a [] l).1.1)
 
-module _ {B : Type 0} (cs : List (Cell Links B)) (guard spare : Option Place) (g : Place) (n m : ℕ) (v : State B) (e : guard ≡ Some g) (ok : RingOk cs guard spare n m) (w : state (ring_list cs guard n) m ≡ v) where
+module _ {B : Type 0} (cs : List (Cell Links B)) (guard : Option Place) (spare : Link) (g : Place) (n m : ℕ) (v : State B) (e : guard ≡ Some g) (ok : RingOk cs guard spare n m) (w : state (ring_list cs guard n) m ≡ v) where
   o : RingOk cs (Some g) spare n m
   o = opened cs guard spare g n m e ok
 
   shown : listed cs o.0 ≡ v.held
-  shown = sym (ring_listed cs g.ptr o.0 (ptr_of_some spare) o.1 n o.2 o.3) ∙ sym (ap (λ z. ring_list cs z n) e) ∙ ap (λ (z : State B). z.held) w
+  shown = sym (ring_listed cs g.ptr o.0 (target spare) o.1 n o.2 o.3) ∙ sym (ap (λ z. ring_list cs z n) e) ∙ ap (λ (z : State B). z.held) w
 
   empty : (ps : List Ptr) → length ps ≡ 0 → listed cs ps ≡ []
   unfolding listed

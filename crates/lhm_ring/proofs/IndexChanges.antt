@@ -1,17 +1,13 @@
 -- What a put, a take and a rebuild leave.
-use Rattle.std.proofs.Common.{◌≡◌, ℕ, ◌+◌, ◌%◌, ◌<◌, ◌≤◌, List, [], ◌∷◌, ◌++◌, inl, inr, refl, sym, ◌∙◌, ap, subst, Bool, true, length, get_or, set, arith, Option, Some, None, append_assoc, length-append, append-nil, map}
-use Rattle.std.specs.Prelude.{filter, IfSome}
+use Rattle.std.proofs.Common.{◌≡◌, ℕ, ◌+◌, ◌%◌, ◌<◌, ◌≤◌, List, [], ◌∷◌, ◌++◌, inl, inr, refl, sym, ◌∙◌, ap, subst, Bool, true, length, get_or, set, arith, Option, Some, None, append_assoc, length-append, append-nil}
+use Rattle.std.specs.Prelude.{filter}
 use Rattle.std.proofs.lemmas.Bool.{cases_lt}
 use Rattle.std.proofs.lemmas.List.{length-map, length-set}
 use Rattle.std.proofs.Math.Nat.{mod-lt}
 use denote.RawPtr.{Ptr}
-use Rattle.lhm_ring.specs.Cells.{is_block, AreBlocks}
-use Rattle.lhm_ring.specs.declared.position.Position.{Position}
-use Rattle.lhm_ring.specs.Positions.{place_of, place_of_some}
 use Rattle.lhm_ring.specs.RingState.{Held, IsHeld, AtHeld, linked_to, first_at}
 use Rattle.lhm_ring.specs.Index.{Spot, spot, spots, PutsIn, IsRearranged, IsChain, is_in, Indexes}
 use Rattle.lhm_ring.specs.Search.{OfNodeAt, entries, HasKey, IsLast, IsOnChain, HoldsOthers, HasNoChain, IsChained, Chains, IsRechained}
-use Rattle.lhm_ring.proofs.NodeBlocks.{block_at}
 use Rattle.lhm_ring.proofs.Rearranged.{PutsIn-middle, IsRearranged-less}
 use Rattle.lhm_ring.proofs.Chains.{NodeOf, node_of_spot, later, IsRearranged-member, PutsIn-unfilter, PutsIn-filter_in, PutsIn-spots, Indexes-put, Indexes-take_first, Indexes-take_next, Indexes-none}
 
@@ -111,22 +107,6 @@ chain_at h (d ∷ done) s rest c = chain_at d.link done s rest c.1
 first_of : (rest : List Spot) (l : Option Ptr) (q : Ptr) → IsChain l rest → l ≡ Some q → (r : Spot) × (rs : List Spot) × (rest ≡ r ∷ rs) × (r.at ≡ q)
 first_of [] l q c e = absurd cc
 first_of (r ∷ rs) l q c e = let first : l ≡ Some r.at = c.0 in let same : r.at ≡ q = cc in (r, rs, refl, same)
-
-next_on_held : {K V : Type 0} {heads : List (Option Ptr)} {number : ℕ} {nodes : List (Held (K × V))} {before : Option Ptr} {p : Ptr} (link : Option Ptr) (q : Ptr)
-    → IsOnChain heads number (spots nodes) before p → AtHeld nodes p (λ xs t ys. link ≡ t.link) → link ≡ Some q → IsHeld nodes q
-next_on_held {K} {V} {heads} {number} {nodes} {before} {p} link q w a e =
-    let n : ℕ = length heads in let b : ℕ = number % n in
-    let o : OnNode n b w.done w.here w.rest nodes = on_node n b w.done w.here w.rest nodes w.holds in
-    let is : link ≡ w.here.link = a o.of.before o.of.node o.of.after o.of.is (ap (λ v. v.at) o.of.spot_is ∙ w.at_is) ∙ ap (λ v. v.link) o.of.spot_is in
-    let k = first_of w.rest w.here.link q (chain_at _ w.done w.here w.rest w.linked) (sym is ∙ e) in
-    let m : OnNode n b (w.done ++ w.here ∷ []) k.0 k.1 nodes = on_node n b (w.done ++ w.here ∷ []) k.0 k.1 nodes
-    (subst (λ v. IsRearranged v (filter (is_in n b) (spots nodes))) (ap (λ zs. w.done ++ w.here ∷ zs) k.2 ∙ sym (append_assoc w.done (w.here ∷ []) (k.0 ∷ k.1))) w.holds) in
-    (m.of.before, m.of.node, m.of.after, m.of.is, ap (λ v. v.at) m.of.spot_is ∙ k.3)
-
-pub link_block : {K V : Type 0} {heads : List (Option Ptr)} {number : ℕ} {nodes : List (Held (K × V))} {before : Option Ptr} {p : Ptr} (link : Option (Position K V)) → AreBlocks (map (λ t. t.at) nodes)
-    → IsOnChain heads number (spots nodes) before p → AtHeld nodes p (λ xs t ys. place_of_some link ≡ t.link) → IfSome link (λ at. is_block (place_of at) ≡ true)
-link_block None all w a = tt
-link_block {nodes = nodes} (Some at) all w a = block_at nodes (place_of at) all (next_on_held (Some (place_of at)) (place_of at) w a refl)
 
 PutsIn-some : {X : Type 0} (x : X) (xs : List X) → PutsIn x xs [] → ⊥
 PutsIn-some x xs h = h

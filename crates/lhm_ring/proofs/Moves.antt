@@ -1,15 +1,17 @@
 -- What the calls of a ring make of it.
-use Rattle.std.proofs.Common.{◌≡◌, ℕ, suc, ◌+◌, ◌≤◌, ◌^◌, true, List, [], ◌∷◌, ◌++◌, length, Option, Some, None, refl, sym, ap, ◌∙◌, subst, append_assoc, arith, length-append}
+use Rattle.std.proofs.Common.{◌≡◌, ℕ, suc, ◌+◌, ◌≤◌, ◌^◌, true, false, List, [], ◌∷◌, ◌++◌, length, Option, Some, None, refl, sym, ap, ◌∙◌, subst, append_assoc, arith, length-append}
 use Rattle.std.specs.List.{AllByRecursion}
 use Rattle.std.specs.Option.{IsSome}
 use denote.RawPtr.{Ptr}
 use Rattle.lhm_ring.specs.declared.block.Place.{Place}
 use Rattle.lhm_ring.specs.declared.links.Links.{Links}
 use Rattle.lhm_ring.specs.Cells.{Cell, IsApart, links_at}
-use Rattle.lhm_ring.specs.Rings.{ptr_of_some, next_of, prev_of, next_at, prev_at, is_there, content_at, Linked, Chained, HasContent, IsRing, follow, listed, one_of, IsJoined, ring_list, RingOk}
+use Rattle.lhm_ring.specs.Rings.{next_of, prev_of, next_at, prev_at, is_there, is_guard, content_at, Linked, Chained, HasContent, IsRing, follow, listed, one_of, IsJoined, ring_list, RingOk}
 use Rattle.lhm_ring.specs.RingState.{state, Held, State, IsHeld, AtHeld}
+use Rattle.lhm_ring.specs.Targets.{target}
+use Rattle.lhm_ring.specs.declared.link.Link.{Link}
 use Rattle.lhm_ring.proofs.Apart.{IsFresh}
-use Rattle.lhm_ring.proofs.Rows.{all_both, all_left, all_right, all_swap, all_last, apart_left, apart_at, apart_out, apart_in, cut_row, follow_row, chain_kept, held_kept, there_kept, listed_kept, listed-append, out_of_row, into_row, cut_listed}
+use Rattle.lhm_ring.proofs.Rows.{all_both, all_left, all_right, all_swap, all_last, apart_left, apart_at, apart_out, apart_in, cut_row, follow_row, chain_kept, held_kept, there_kept, listed_kept, listed-append, out_of_row, into_row, cut_listed, all_from}
 
 module _ {B : Type 0} where
   pub listed_one : (cs : List (Cell Links B)) (p : Ptr) (t : Held B) → content_at cs p ≡ Some t → listed cs (p ∷ []) ≡ t ∷ []
@@ -85,6 +87,7 @@ module _ {B : Type 0} (cs : List (Cell Links B)) (g : Ptr) (spare : Option Ptr) 
         apart = apart_back;
         count = l.count ∙ k.count ∙ j.count ∙ r.count ∙ ap (λ n. suc (n + length ss)) length_back;
         guard = l.guard g ∙ k.guard g ∙ j.guard g ∙ r.guard;
+        plain = all_from (λ q. is_guard cs q ≡ false) (λ q. is_guard fs q ≡ false) (λ q h. l.guard q ∙ k.guard q ∙ j.guard q ∙ h) ss r.plain;
       }
 
       pub listed_back : (t : Held B) → content_at cs p ≡ Some t → listed fs ((us ++ vs) ++ p ∷ []) ≡ (listed cs us ++ listed cs vs) ++ t ∷ []
@@ -102,37 +105,37 @@ module _ {B : Type 0} where
   none_held p ([], t, ys, e, at) = cc
   none_held p ((x ∷ xs), t, ys, e, at) = cc
 
-  pub guarded : (cs : List (Cell Links B)) (guard spare : Option Place) (n m : ℕ) (p : Ptr) → IsHeld (ring_list cs guard n) p → IsSome guard
+  pub guarded : (cs : List (Cell Links B)) (guard : Option Place) (spare : Link) (n m : ℕ) (p : Ptr) → IsHeld (ring_list cs guard n) p → IsSome guard
   guarded cs None spare n m p h = absurd (none_held p h)
   guarded cs (Some g) spare n m p h = refl
 
 -- a held node at p, with those before it and after it
-pub record NodeAt {B : Type 0} (cs : List (Cell Links B)) (g : Place) (spare : Option Place) (n m : ℕ) (p : Ptr) : Type 0 where
+pub record NodeAt {B : Type 0} (cs : List (Cell Links B)) (g : Place) (spare : Link) (n m : ℕ) (p : Ptr) : Type 0 where
   pub before : List Ptr
   pub after : List Ptr
   pub others : List Ptr
-  pub ring : IsRing cs g.ptr (before ++ p ∷ after) (ptr_of_some spare) others
+  pub ring : IsRing cs g.ptr (before ++ p ∷ after) (target spare) others
   pub long : length (before ++ p ∷ after) ≡ n
   pub wide : length others ≡ m
   pub small : n + m ≤ 2 ^ 57
 
 module _ {B : Type 0} where
-  pub record Found (cs : List (Cell Links B)) (g : Place) (spare : Option Place) (n m : ℕ) (xs : List (Held B)) (t : Held B) (ys : List (Held B)) : Type 0 where
+  pub record Found (cs : List (Cell Links B)) (g : Place) (spare : Link) (n m : ℕ) (xs : List (Held B)) (t : Held B) (ys : List (Held B)) : Type 0 where
     pub place : NodeAt cs g spare n m t.at
     pub here : content_at cs t.at ≡ Some t
     pub listed_before : listed cs place.before ≡ xs
     pub listed_after : listed cs place.after ≡ ys
 
-  pub found : (cs : List (Cell Links B)) (g : Place) (spare : Option Place) (n m : ℕ) → RingOk cs (Some g) spare n m → (xs : List (Held B)) (t : Held B) (ys : List (Held B))
+  pub found : (cs : List (Cell Links B)) (g : Place) (spare : Link) (n m : ℕ) → RingOk cs (Some g) spare n m → (xs : List (Held B)) (t : Held B) (ys : List (Held B))
       → ring_list cs (Some g) n ≡ xs ++ t ∷ ys → Found cs g spare n m xs t ys
   found cs g spare n m ok xs t ys e =
-      let k = cut_listed cs ok.0 ok.2.held xs t ys (sym (ring_listed cs g.ptr ok.0 (ptr_of_some spare) ok.1 n ok.2 ok.3) ∙ e) in
+      let k = cut_listed cs ok.0 ok.2.held xs t ys (sym (ring_listed cs g.ptr ok.0 (target spare) ok.1 n ok.2 ok.3) ∙ e) in
       record {
         place = record {
           before = k.before;
           after = k.after;
           others = ok.1;
-          ring = subst (λ qs. IsRing cs g.ptr qs (ptr_of_some spare) ok.1) k.whole ok.2;
+          ring = subst (λ qs. IsRing cs g.ptr qs (target spare) ok.1) k.whole ok.2;
           long = sym (ap length k.whole) ∙ ok.3;
           wide = ok.4;
           small = ok.5;
@@ -142,19 +145,19 @@ module _ {B : Type 0} where
         listed_after = k.listed_after;
       }
 
-  pub opened : (cs : List (Cell Links B)) (guard spare : Option Place) (g : Place) (n m : ℕ) → guard ≡ Some g → RingOk cs guard spare n m → RingOk cs (Some g) spare n m
+  pub opened : (cs : List (Cell Links B)) (guard : Option Place) (spare : Link) (g : Place) (n m : ℕ) → guard ≡ Some g → RingOk cs guard spare n m → RingOk cs (Some g) spare n m
   opened cs guard spare g n m e ok = subst (λ o. RingOk cs o spare n m) e ok
 
-  pub found_in : (cs : List (Cell Links B)) (guard spare : Option Place) (g : Place) (n m : ℕ) (v : State B) → guard ≡ Some g → RingOk cs guard spare n m → state (ring_list cs guard n) m ≡ v
+  pub found_in : (cs : List (Cell Links B)) (guard : Option Place) (spare : Link) (g : Place) (n m : ℕ) (v : State B) → guard ≡ Some g → RingOk cs guard spare n m → state (ring_list cs guard n) m ≡ v
       → (xs : List (Held B)) (t : Held B) (ys : List (Held B)) → v.held ≡ xs ++ t ∷ ys → Found cs g spare n m xs t ys
   found_in cs guard spare g n m v e ok w xs t ys h =
       found cs g spare n m (opened cs guard spare g n m e ok) xs t ys (sym (ap (λ o. ring_list cs o n) e) ∙ ap (λ (z : State B). z.held) w ∙ h)
 
-  pub node_in : (cs : List (Cell Links B)) (guard spare : Option Place) (g : Place) (n m : ℕ) (v : State B) (p : Ptr) → guard ≡ Some g → RingOk cs guard spare n m → state (ring_list cs guard n) m ≡ v
+  pub node_in : (cs : List (Cell Links B)) (guard : Option Place) (spare : Link) (g : Place) (n m : ℕ) (v : State B) (p : Ptr) → guard ≡ Some g → RingOk cs guard spare n m → state (ring_list cs guard n) m ≡ v
       → IsHeld v.held p → NodeAt cs g spare n m p
   node_in cs guard spare g n m v p e ok w h = subst (NodeAt cs g spare n m) h.4 (found_in cs guard spare g n m v e ok w h.0 h.1 h.2 h.3).place
 
-  pub guarded_in : (cs : List (Cell Links B)) (guard spare : Option Place) (n m : ℕ) (v : State B) (p : Ptr) → state (ring_list cs guard n) m ≡ v → IsHeld v.held p → IsSome guard
+  pub guarded_in : (cs : List (Cell Links B)) (guard : Option Place) (spare : Link) (n m : ℕ) (v : State B) (p : Ptr) → state (ring_list cs guard n) m ≡ v → IsHeld v.held p → IsSome guard
   guarded_in cs guard spare n m v p w h = guarded cs guard spare n m p (subst (λ hs. IsHeld hs p) (sym (ap (λ (z : State B). z.held) w)) h)
 
   pub length_listed : (cs : List (Cell Links B)) (ps : List Ptr) → AllByRecursion (HasContent cs) ps → length (listed cs ps) ≡ length ps
@@ -162,16 +165,16 @@ module _ {B : Type 0} where
   length_listed cs [] h = refl
   length_listed cs (p ∷ ps) h = ap (λ o. length (one_of o ++ listed cs ps)) h.0.1 ∙ ap (λ n. suc n) (length_listed cs ps h.1)
 
-  pub ring_length : (cs : List (Cell Links B)) (guard spare : Option Place) (n m : ℕ) (v : State B) → RingOk cs guard spare n m → state (ring_list cs guard n) m ≡ v → n ≡ length v.held
+  pub ring_length : (cs : List (Cell Links B)) (guard : Option Place) (spare : Link) (n m : ℕ) (v : State B) → RingOk cs guard spare n m → state (ring_list cs guard n) m ≡ v → n ≡ length v.held
   ring_length cs None spare n m v ok w = ok.2 ∙ ap (λ (z : State B). length z.held) w
   ring_length cs (Some g) spare n m v ok w =
-      sym ok.3 ∙ sym (length_listed cs ok.0 ok.2.held) ∙ sym (ap length (ring_listed cs g.ptr ok.0 (ptr_of_some spare) ok.1 n ok.2 ok.3)) ∙ ap (λ (z : State B). length z.held) w
+      sym ok.3 ∙ sym (length_listed cs ok.0 ok.2.held) ∙ sym (ap length (ring_listed cs g.ptr ok.0 (target spare) ok.1 n ok.2 ok.3)) ∙ ap (λ (z : State B). length z.held) w
 
-  small_of : (cs : List (Cell Links B)) (guard spare : Option Place) (n m : ℕ) → RingOk cs guard spare n m → n + m ≤ 2 ^ 57
+  small_of : (cs : List (Cell Links B)) (guard : Option Place) (spare : Link) (n m : ℕ) → RingOk cs guard spare n m → n + m ≤ 2 ^ 57
   small_of cs None spare n m ok = let a = ok.2 in let b = ok.3 in omega arith
   small_of cs (Some g) spare n m ok = ok.5
 
-  pub ring_bounded : (cs : List (Cell Links B)) (guard spare : Option Place) (n m : ℕ) (v : State B) → RingOk cs guard spare n m → state (ring_list cs guard n) m ≡ v → length v.held + v.spares ≤ 2 ^ 57
+  pub ring_bounded : (cs : List (Cell Links B)) (guard : Option Place) (spare : Link) (n m : ℕ) (v : State B) → RingOk cs guard spare n m → state (ring_list cs guard n) m ≡ v → length v.held + v.spares ≤ 2 ^ 57
   ring_bounded cs guard spare n m v ok w =
       let a = ring_length cs guard spare n m v ok w in let b = ap (λ (z : State B). z.spares) w in let c = small_of cs guard spare n m ok in omega arith
 
@@ -179,13 +182,13 @@ module _ {B : Type 0} where
   there_where cs p l e q f h = f (ap prev_of e ∙ h)
 
 -- the same, where the place is known by another name
-pub node_at : {B : Type 0} {cs : List (Cell Links B)} {g : Place} {spare : Option Place} {n m : ℕ} {xs : List (Held B)} {t : Held B} {ys : List (Held B)} (p : Ptr) → Found cs g spare n m xs t ys → t.at ≡ p
+pub node_at : {B : Type 0} {cs : List (Cell Links B)} {g : Place} {spare : Link} {n m : ℕ} {xs : List (Held B)} {t : Held B} {ys : List (Held B)} (p : Ptr) → Found cs g spare n m xs t ys → t.at ≡ p
     → (s : NodeAt cs g spare n m p) × (listed cs s.before ≡ xs) × (listed cs s.after ≡ ys)
 node_at {cs = cs} {g = g} {spare = spare} {n = n} {m = m} {xs = xs} {ys = ys} p f at =
     subst (λ q. (s : NodeAt cs g spare n m q) × (listed cs s.before ≡ xs) × (listed cs s.after ≡ ys)) at (f.place, f.listed_before, f.listed_after)
 
 -- a node that is moved to the end: those beside it are joined, the last with it, and it with the guard
-module _ {B : Type 0} (cs : List (Cell Links B)) (guard spare : Option Place) (g : Place) (n m : ℕ) (v : State B) (e : guard ≡ Some g) (ok : RingOk cs guard spare n m) (w : state (ring_list cs guard n) m ≡ v)
+module _ {B : Type 0} (cs : List (Cell Links B)) (guard : Option Place) (spare : Link) (g : Place) (n m : ℕ) (v : State B) (e : guard ≡ Some g) (ok : RingOk cs guard spare n m) (w : state (ring_list cs guard n) m ≡ v)
     (p : Ptr) (lp : Links) (ep : links_at cs p ≡ Some lp) (ds : List (Cell Links B)) (j : IsJoined cs ds lp.prev.ptr lp.next.ptr) where
   j' : IsJoined cs ds (prev_at cs p) (next_at cs p)
   j' = subst (λ (z : Ptr × Ptr). IsJoined cs ds z.0 z.1) (λ i. (sym (ap prev_of ep) i, sym (ap next_of ep) i)) j
@@ -193,17 +196,17 @@ module _ {B : Type 0} (cs : List (Cell Links B)) (guard spare : Option Place) (g
   pub moving_there : IsHeld v.held p → (lg : Links) → links_at ds g.ptr ≡ Some lg → (is_there ds lg.prev.ptr ≡ true) × (is_there ds p ≡ true)
   moving_there h lg eg =
       let s = node_in cs guard spare g n m v p e ok w h in
-      (subst (λ q. is_there ds q ≡ true) (ap prev_of eg) (last_there cs g.ptr (ptr_of_some spare) s.others s.before p s.after s.ring ds j'), j'.there p ∙ p_there cs g.ptr (ptr_of_some spare) s.others s.before p s.after s.ring)
+      (subst (λ q. is_there ds q ≡ true) (ap prev_of eg) (last_there cs g.ptr (target spare) s.others s.before p s.after s.ring ds j'), j'.there p ∙ p_there cs g.ptr (target spare) s.others s.before p s.after s.ring)
 
   module _ (lg : Links) (eg : links_at ds g.ptr ≡ Some lg) (es fs : List (Cell Links B)) (k : IsJoined ds es lg.prev.ptr p) (l : IsJoined es fs p g.ptr) where
     k' : IsJoined ds es (prev_at ds g.ptr) p
     k' = subst (λ z. IsJoined ds es z p) (sym (ap prev_of eg)) k
 
-    moved_to : (s : NodeAt cs g spare n m p) → IsRing fs g.ptr ((s.before ++ s.after) ++ p ∷ []) (ptr_of_some spare) s.others
-    moved_to s = back cs g.ptr (ptr_of_some spare) s.others s.before p s.after s.ring ds j' es fs k' l
+    moved_to : (s : NodeAt cs g spare n m p) → IsRing fs g.ptr ((s.before ++ s.after) ++ p ∷ []) (target spare) s.others
+    moved_to s = back cs g.ptr (target spare) s.others s.before p s.after s.ring ds j' es fs k' l
 
     long_to : (s : NodeAt cs g spare n m p) → length ((s.before ++ s.after) ++ p ∷ []) ≡ n
-    long_to s = sym (length_back cs g.ptr (ptr_of_some spare) s.others s.before p s.after s.ring ds j' es fs k' l) ∙ s.long
+    long_to s = sym (length_back cs g.ptr (target spare) s.others s.before p s.after s.ring ds j' es fs k' l) ∙ s.long
 
     pub moved_ring : IsHeld v.held p → RingOk fs guard spare n m
     moved_ring h =
@@ -212,7 +215,7 @@ module _ {B : Type 0} (cs : List (Cell Links B)) (guard spare : Option Place) (g
 
     list_at : (t : Held B) → content_at cs p ≡ Some t → (s : NodeAt cs g spare n m p) → ring_list fs (Some g) n ≡ (listed cs s.before ++ listed cs s.after) ++ t ∷ []
     list_at t here s =
-        ring_listed fs g.ptr ((s.before ++ s.after) ++ p ∷ []) (ptr_of_some spare) s.others n (moved_to s) (long_to s) ∙ listed_back cs g.ptr (ptr_of_some spare) s.others s.before p s.after s.ring ds j' es fs k' l t here
+        ring_listed fs g.ptr ((s.before ++ s.after) ++ p ∷ []) (target spare) s.others n (moved_to s) (long_to s) ∙ listed_back cs g.ptr (target spare) s.others s.before p s.after s.ring ds j' es fs k' l t here
 
     pub moved_list : AtHeld v.held p (λ xs t ys. state (ring_list fs guard n) m ≡ state ((xs ++ ys) ++ t ∷ []) v.spares)
     moved_list xs t ys h at =

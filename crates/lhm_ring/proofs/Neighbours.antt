@@ -1,12 +1,15 @@
 -- What comes right behind a held node, and right before it: the guard or another held node.
 use Rattle.std.proofs.Common.{◌≡◌, ℕ, Bool, true, false, cond, List, [], ◌∷◌, ◌++◌, Option, Some, None, refl, sym, ap, ◌∙◌, subst, append_assoc, arith}
+use Rattle.std.specs.Prelude.{◌==◌}
 use Rattle.std.specs.List.{AllByRecursion}
 use denote.RawPtr.{Ptr}
 use Rattle.lhm_ring.specs.declared.block.Place.{Place}
 use Rattle.lhm_ring.specs.declared.links.Links.{Links}
 use Rattle.lhm_ring.specs.Cells.{Cell, IsAt, links_at, body_at}
-use Rattle.lhm_ring.specs.Rings.{ptr_of_some, next_of, prev_of, guard_of, next_at, prev_at, is_there, is_guard, Linked, HasContent, IsRing, listed, ring_list, RingOk}
+use Rattle.lhm_ring.specs.Rings.{next_of, prev_of, guard_of, next_at, prev_at, is_there, is_guard, Linked, HasContent, IsRing, listed, ring_list, RingOk}
 use Rattle.lhm_ring.specs.RingState.{State, state, IsHeld, AtHeld, first_at, last_at}
+use Rattle.lhm_ring.specs.Targets.{target}
+use Rattle.lhm_ring.specs.declared.link.Link.{Link}
 use Rattle.lhm_ring.proofs.Writes.{is_at}
 use Rattle.lhm_ring.proofs.Rows.{all_left, all_right, all_last, cut_row, glue_row, last_from}
 use Rattle.lhm_ring.proofs.Moves.{none_held, found_in, node_in, node_at, prev_there, next_there}
@@ -53,27 +56,27 @@ module _ {B : Type 0} where
   some_guard cs None n m v p w h = absurd (none_held p (subst (λ hs. IsHeld hs p) (sym (ap (λ (z : State B). z.held) w)) h))
   some_guard cs (Some g) n m v p w h = (g, refl)
 
-module _ {B : Type 0} (cs : List (Cell Links B)) (guard spare : Option Place) (n m : ℕ) (v : State B) (ok : RingOk cs guard spare n m) (w : state (ring_list cs guard n) m ≡ v) (p : Ptr) where
+module _ {B : Type 0} (cs : List (Cell Links B)) (guard : Option Place) (spare : Link) (n m : ℕ) (v : State B) (ok : RingOk cs guard spare n m) (w : state (ring_list cs guard n) m ≡ v) (p : Ptr) where
   pub next_held : IsHeld v.held p → (l : Links) → links_at cs p ≡ Some l → IsAt cs l.next.ptr
   next_held h l e =
       let g = some_guard cs guard n m v p w h in let s = node_in cs guard spare g.0 n m v p g.1 ok w h in
-      is_at cs l.next.ptr (subst (λ q. is_there cs q ≡ true) (ap next_of e) (next_there cs g.0.ptr (ptr_of_some spare) s.others s.before p s.after s.ring))
+      is_at cs l.next.ptr (subst (λ q. is_there cs q ≡ true) (ap next_of e) (next_there cs g.0.ptr (target spare) s.others s.before p s.after s.ring))
 
   pub previous_held : IsHeld v.held p → (l : Links) → links_at cs p ≡ Some l → IsAt cs l.prev.ptr
   previous_held h l e =
       let g = some_guard cs guard n m v p w h in let s = node_in cs guard spare g.0 n m v p g.1 ok w h in
-      is_at cs l.prev.ptr (subst (λ q. is_there cs q ≡ true) (ap prev_of e) (prev_there cs g.0.ptr (ptr_of_some spare) s.others s.before p s.after s.ring))
+      is_at cs l.prev.ptr (subst (λ q. is_there cs q ≡ true) (ap prev_of e) (prev_there cs g.0.ptr (target spare) s.others s.before p s.after s.ring))
 
-  pub next_at_is : (l k : Links) → links_at cs p ≡ Some l → links_at cs l.next.ptr ≡ Some k → (y : Bool) → k.guard ≡ y → AtHeld v.held p (λ xs t ys. cond y None (Some l.next.ptr) ≡ first_at ys)
+  pub next_at_is : (l k : Links) → links_at cs p ≡ Some l → links_at cs l.next.ptr ≡ Some k → (y : Bool) → (k.guard == 1) ≡ y → AtHeld v.held p (λ xs t ys. cond y None (Some l.next.ptr) ≡ first_at ys)
   next_at_is l k el ek y f xs t ys h at =
       let g = some_guard cs guard n m v p w (xs, t, ys, h, at) in
       let q = node_at p (found_in cs guard spare g.0 n m v g.1 ok w xs t ys h) at in let s = q.0 in
       let e : next_at cs p ≡ l.next.ptr = ap next_of el in
-      sym (ap first_at (sym q.2) ∙ next_is cs g.0.ptr (ptr_of_some spare) s.others s.before p s.after s.ring y (ap (is_guard cs) e ∙ ap guard_of ek ∙ f) ∙ ap (λ z. cond y None (Some z)) e)
+      sym (ap first_at (sym q.2) ∙ next_is cs g.0.ptr (target spare) s.others s.before p s.after s.ring y (ap (is_guard cs) e ∙ ap guard_of ek ∙ f) ∙ ap (λ z. cond y None (Some z)) e)
 
-  pub previous_at_is : (l k : Links) → links_at cs p ≡ Some l → links_at cs l.prev.ptr ≡ Some k → (y : Bool) → k.guard ≡ y → AtHeld v.held p (λ xs t ys. cond y None (Some l.prev.ptr) ≡ last_at xs)
+  pub previous_at_is : (l k : Links) → links_at cs p ≡ Some l → links_at cs l.prev.ptr ≡ Some k → (y : Bool) → (k.guard == 1) ≡ y → AtHeld v.held p (λ xs t ys. cond y None (Some l.prev.ptr) ≡ last_at xs)
   previous_at_is l k el ek y f xs t ys h at =
       let g = some_guard cs guard n m v p w (xs, t, ys, h, at) in
       let q = node_at p (found_in cs guard spare g.0 n m v g.1 ok w xs t ys h) at in let s = q.0 in
       let e : prev_at cs p ≡ l.prev.ptr = ap prev_of el in
-      sym (ap last_at (sym q.1) ∙ previous_is cs g.0.ptr (ptr_of_some spare) s.others s.before p s.after s.ring y (ap (is_guard cs) e ∙ ap guard_of ek ∙ f) ∙ ap (λ z. cond y None (Some z)) e)
+      sym (ap last_at (sym q.1) ∙ previous_is cs g.0.ptr (target spare) s.others s.before p s.after s.ring y (ap (is_guard cs) e ∙ ap guard_of ek ∙ f) ∙ ap (λ z. cond y None (Some z)) e)

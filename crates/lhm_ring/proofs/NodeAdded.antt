@@ -1,26 +1,26 @@
 -- A node more among the spare ones, and the guard of an empty ring.
-use Rattle.std.proofs.Common.{◌≡◌, ℕ, suc, ◌+◌, ◌<◌, ◌^◌, true, false, cond, List, [], ◌∷◌, ◌++◌, length, Option, Some, None, refl, sym, ap, ◌∙◌, subst, arith}
+use Rattle.std.proofs.Common.{◌≡◌, ℕ, suc, true, false, cond, List, [], ◌∷◌, ◌++◌, length, Option, Some, None, refl, sym, ap, ◌∙◌, subst, arith}
 use Rattle.std.specs.List.{AllByRecursion}
-use Rattle.std.specs.Prelude.{Result, Ok, Err, MatchResult, OnErr}
-use Rattle.std.specs.Result.{IsErr}
+use Rattle.std.specs.Prelude.{◌==◌}
 use denote.RawPtr.{Ptr}
 use Rattle.lhm_ring.specs.declared.block.Place.{Place}
 use Rattle.lhm_ring.specs.declared.links.Links.{Links}
 use Rattle.lhm_ring.specs.Cells.{Cell, cell, cell_at, same_ptr, places, links_of, IsApart}
-use Rattle.lhm_ring.specs.Rings.{links, ptr_of_some, link_of, guard_of, has_links, is_guard, link_at, is_there, Chained, IsRing, IsJoined, listed, ring_list, RingOk}
+use Rattle.lhm_ring.specs.Rings.{links, link_of, guard_of, has_links, is_guard, link_at, is_there, Chained, IsRing, IsJoined, listed, ring_list, RingOk}
 use Rattle.lhm_ring.specs.RingState.{State, state}
+use Rattle.lhm_ring.specs.Targets.{target}
+use Rattle.lhm_ring.specs.declared.link.Link.{Link}
 use Rattle.lhm_ring.proofs.Apart.{IsFresh, same_ptr_eq, same_ptr_refl}
-use Rattle.lhm_ring.proofs.Rows.{all_both, all_left, all_right, all_from, apart_head, apart_in, edge_made}
-use Rattle.lhm_ring.proofs.Moves.{ring_listed, ring_length, opened}
+use Rattle.lhm_ring.proofs.Rows.{all_two, all_both, all_left, all_right, all_from, apart_head, apart_in, edge_made}
+use Rattle.lhm_ring.proofs.Moves.{ring_listed}
 use Rattle.lhm_ring.proofs.OneNodeChanged.{row_other, chain_other, held_other, listed_other}
 use Rattle.lhm_ring.proofs.Options.{some_none}
 
 false_true : false ≡ true → ⊥
 false_true e = cc
 
-pub link_links : (g : Place) (o : Option Place) → link_of (Some (links g o)) ≡ ptr_of_some o
-link_links g None = refl
-link_links g (Some q) = refl
+pub link_links : (g : Place) (o : Link) → link_of (Some (links g o)) ≡ target o
+link_links g o = refl
 
 module _ {B : Type 0} (cs : List (Cell Links B)) (p : Ptr) (l : Links) (d : IsApart (places (cell p l None ∷ cs))) where
   abbrev ds : List (Cell Links B)
@@ -49,7 +49,7 @@ module _ {B : Type 0} (cs : List (Cell Links B)) (p : Ptr) (l : Links) (d : IsAp
   there_more : (q : Ptr) → is_there cs q ≡ true → is_there ds q ≡ true
   there_more q h = ap (λ z. has_links (links_of z)) (other q (nowhere_in cs (apart_head p (places cs) d) q h)) ∙ h
 
-  module _ (g : Ptr) (ps : List Ptr) (spare : Option Ptr) (ss : List Ptr) (r : IsRing cs g ps spare ss) (e : link_of (Some l) ≡ spare) where
+  module _ (g : Ptr) (ps : List Ptr) (spare : Option Ptr) (ss : List Ptr) (r : IsRing cs g ps spare ss) (e : link_of (Some l) ≡ spare) (own : guard_of (Some l) ≡ false) where
     abbrev T : Ptr → Type 0
     T q = is_there cs q ≡ true
 
@@ -75,50 +75,28 @@ module _ {B : Type 0} (cs : List (Cell Links B)) (p : Ptr) (l : Links) (d : IsAp
       apart = apart_in (g ∷ ps) p ss free r.apart;
       count = ap (λ n. suc n) r.count ∙ omega arith;
       guard = ap (λ z. guard_of (links_of z)) (other g free.0) ∙ r.guard;
+      plain = (
+        ap (λ z. guard_of (links_of z)) here ∙ own,
+        all_two P (λ q. is_guard cs q ≡ false) (λ q. is_guard ds q ≡ false) (λ q n h. ap (λ z. guard_of (links_of z)) (other q n) ∙ h) ss (all_right P ps ss free.1) r.plain,
+      );
     }
 
     pub more_listed : listed ds ps ≡ listed cs ps
     more_listed = listed_other cs ds p other ps (all_left P ps ss free.1)
 
-module _ {B : Type 0} (cs ds : List (Cell Links B)) (guard spare : Option Place) (g p : Place) (n m : ℕ) (e : guard ≡ Some g) (ok : RingOk cs guard spare n m) (small : n + m < 2 ^ 57)
-    (f : ds ≡ cell p.ptr (links g spare) None ∷ cs) (d : IsApart (places ds)) where
-  o : RingOk cs (Some g) spare n m
-  o = opened cs guard spare g n m e ok
-
-  abbrev l : Links
-  l = links g spare
-
-  d' : IsApart (places (cell p.ptr l None ∷ cs))
-  d' = subst (λ zs. IsApart (places zs)) f d
-
-  made : IsRing ds g.ptr o.0 (Some p.ptr) (p.ptr ∷ o.1)
-  made = subst (λ zs. IsRing zs g.ptr o.0 (Some p.ptr) (p.ptr ∷ o.1)) (sym f) (more cs p.ptr l d' g.ptr o.0 (ptr_of_some spare) o.1 o.2 (link_links g spare))
-
-  pub more_ring : RingOk ds guard (Some p) n (m + 1)
-  more_ring =
-      let a = o.4 in
-      subst (λ z. RingOk ds z (Some p) n (m + 1)) (sym e) (o.0, p.ptr ∷ o.1, made, o.3, omega arith, omega arith)
-
-  pub more_list : (v : State B) → state (ring_list cs guard n) m ≡ v → state (ring_list ds guard n) (m + 1) ≡ state v.held (v.spares + 1)
-  more_list v w =
-      let new : ring_list ds guard n ≡ v.held = ap (λ z. ring_list ds z n) e ∙ ring_listed ds g.ptr o.0 (Some p.ptr) (p.ptr ∷ o.1) n made o.3
-      ∙ ap (λ zs. listed zs o.0) f ∙ more_listed cs p.ptr l d' g.ptr o.0 (ptr_of_some spare) o.1 o.2 (link_links g spare)
-      ∙ sym (ring_listed cs g.ptr o.0 (ptr_of_some spare) o.1 n o.2 o.3) ∙ sym (ap (λ z. ring_list cs z n) e) ∙ ap (λ (z : State B). z.held) w in
-      λ i. state (new i) (ap (λ (z : State B). z.spares) w i + 1)
-
 -- a ring's fields, with its guard known
-pub record Guarded {B : Type 0} (cs : List (Cell Links B)) (guard spare : Option Place) (n m : ℕ) (g : Place) (v : State B) : Type 0 where
+pub record Guarded {B : Type 0} (cs : List (Cell Links B)) (guard : Option Place) (spare : Link) (n m : ℕ) (g : Place) (v : State B) : Type 0 where
   pub is : guard ≡ Some g
   pub ok : RingOk cs guard spare n m
   pub view : state (ring_list cs guard n) m ≡ v
 
 module _ {B : Type 0} where
-  pub guard_made : (cs ds : List (Cell Links B)) (guard spare : Option Place) (n m : ℕ) (g : Place) (v : State B) → guard ≡ None → RingOk cs guard spare n m → state (ring_list cs guard n) m ≡ v → IsRing ds g.ptr [] None []
+  pub guard_made : (cs ds : List (Cell Links B)) (guard : Option Place) (spare : Link) (n m : ℕ) (g : Place) (v : State B) → guard ≡ None → RingOk cs guard spare n m → state (ring_list cs guard n) m ≡ v → IsRing ds g.ptr [] None []
       → Guarded ds (Some g) spare n m g v
   unfolding listed
   guard_made cs ds None spare n m g v e ok w r = record {
     is = refl;
-    ok = ([], [], subst (λ z. IsRing ds g.ptr [] (ptr_of_some z) []) (sym ok.1) r, sym ok.2, sym ok.3, let a = ok.2 in let b = ok.3 in omega arith);
+    ok = ([], [], subst (λ z. IsRing ds g.ptr [] z []) (sym ok.1) r, sym ok.2, sym ok.3, let a = ok.2 in let b = ok.3 in omega arith);
     view = ap (λ k. state k m) (ring_listed ds g.ptr [] None [] n r (sym ok.2)) ∙ w;
   }
   guard_made cs ds (Some h) spare n m g v e ok w r = absurd (some_none h e)
@@ -127,7 +105,7 @@ module _ {B : Type 0} where
   first_there cs es g l f d = ap (λ zs. is_there zs g.ptr) f ∙ ap (λ z. has_links (links_of z)) (here cs g.ptr l (subst (λ zs. IsApart (places zs)) f d))
 
   -- a node alone is a ring once it is joined to itself
-  pub first_guard : (cs es ds : List (Cell Links B)) (g : Place) (l : Links) → cs ≡ [] → es ≡ cell g.ptr l None ∷ cs → IsApart (places es) → l.guard ≡ true → IsJoined es ds g.ptr g.ptr → IsRing ds g.ptr [] None []
+  pub first_guard : (cs es ds : List (Cell Links B)) (g : Place) (l : Links) → cs ≡ [] → es ≡ cell g.ptr l None ∷ cs → IsApart (places es) → (l.guard == 1) ≡ true → IsJoined es ds g.ptr g.ptr → IsRing ds g.ptr [] None []
   first_guard cs es ds g l e f d s j = record {
     linked = (edge_made es ds g.ptr g.ptr j, tt);
     chained = refl;
@@ -136,19 +114,5 @@ module _ {B : Type 0} where
     apart = subst (λ zs. IsApart (places zs)) (f ∙ ap (λ zs. cell g.ptr l None ∷ zs) e) d;
     count = j.count ∙ ap length (f ∙ ap (λ zs. cell g.ptr l None ∷ zs) e);
     guard = j.guard g.ptr ∙ ap (λ zs. is_guard zs g.ptr) f ∙ ap (λ z. guard_of (links_of z)) (here cs g.ptr l (subst (λ zs. IsApart (places zs)) f d)) ∙ s;
+    plain = tt;
   }
-
-module _ {B : Type 0} where
-  pub room_left : (cs : List (Cell Links B)) (guard spare : Option Place) (n m : ℕ) (g : Place) (v : State B) → Guarded cs guard spare n m g v → length v.held + v.spares < 2 ^ 57 → n + m < 2 ^ 57
-  room_left cs guard spare n m g v k h = subst (λ (z : ℕ × ℕ). z.0 + z.1 < 2 ^ 57) (λ i. (sym (ring_length cs guard spare n m v k.ok k.view) i, sym (ap (λ (z : State B). z.spares) k.view) i)) h
-
-not_err : {A : Type 0} (E : Type 0) (a : A) → (let r : Result A E = Ok a in IsErr r) → ⊥
-not_err E a h = cc
-
-pub err_case : {A E X : Type 0} (P : A → Type 0) (r : Result A E) → IsErr r → X → MatchResult r P (λ _. X)
-err_case {E = E} P (Ok a) h x = absurd (not_err E a h)
-err_case P (Err e) h x = x
-
-pub on_err : {A E X : Type 0} (r : Result A E) → X → OnErr r X
-on_err (Ok a) x = tt
-on_err (Err e) x = x

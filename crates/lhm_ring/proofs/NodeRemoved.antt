@@ -5,17 +5,15 @@ use denote.RawPtr.{Ptr}
 use Rattle.lhm_ring.specs.declared.block.Place.{Place}
 use Rattle.lhm_ring.specs.declared.links.Links.{Links}
 use Rattle.lhm_ring.specs.Cells.{Cell, cell_at, same_ptr, links_of, links_at, without}
-use Rattle.lhm_ring.specs.Rings.{ptr_of_some, has_links, link_of, guard_of, link_at, is_there, IsRing, listed, ring_list, RingOk}
+use Rattle.lhm_ring.specs.Rings.{has_links, link_of, guard_of, link_at, is_there, is_guard, IsRing, listed, ring_list, RingOk}
 use Rattle.lhm_ring.specs.RingState.{State, state}
+use Rattle.lhm_ring.specs.Targets.{target}
+use Rattle.lhm_ring.specs.declared.link.Link.{Link}
 use Rattle.lhm_ring.proofs.Apart.{IsFresh, same_ptr_eq}
-use Rattle.lhm_ring.proofs.Rows.{all_both, all_left, all_right, apart_at, apart_out}
+use Rattle.lhm_ring.proofs.Rows.{all_two, all_both, all_left, all_right, apart_at, apart_out}
 use Rattle.lhm_ring.proofs.Moves.{ring_listed}
 use Rattle.lhm_ring.proofs.OneNodeChanged.{row_other, chain_other, held_other, listed_other}
 use Rattle.lhm_ring.proofs.PutBackAndUnlink.{Ready, ready}
-
-all_two : {X : Type 0} (P Q R : X → Type 0) → ((x : X) → P x → Q x → R x) → (xs : List X) → AllByRecursion P xs → AllByRecursion Q xs → AllByRecursion R xs
-all_two P Q R f [] a b = tt
-all_two P Q R f (x ∷ xs) a b = (f x a.0 b.0, all_two P Q R f xs a.1 b.1)
 
 false_true : false ≡ true → ⊥
 false_true e = cc
@@ -64,25 +62,26 @@ module _ {B : Type 0} (cs : List (Cell Links B)) (g : Ptr) (ps : List Ptr) (p : 
     apart = apart_out (g ∷ ps) p ss r.apart;
     count = let a = shorter p cs (all_right T ps (p ∷ ss) r.there.1).0 in let b = r.count in omega arith;
     guard = ap (λ z. guard_of (links_of z)) (other p cs g free.0) ∙ r.guard;
+    plain = all_two P (λ q. is_guard cs q ≡ false) (λ q. is_guard ds q ≡ false) (λ q n h. ap (λ z. guard_of (links_of z)) (other p cs q n) ∙ h) ss (all_right P ps ss free.1) r.plain.1;
   }
 
   pub less_listed : listed ds ps ≡ listed cs ps
   less_listed = listed_other cs ds p (other p cs) ps (all_left P ps ss free.1)
 
-module _ {B : Type 0} (cs : List (Cell Links B)) (guard spare : Option Place) (g at : Place) (n m : ℕ) (v : State B) (e : guard ≡ Some g) (f : spare ≡ Some at) (ok : RingOk cs guard spare n m) (w : state (ring_list cs guard n) m ≡ v)
-    (pos : 0 < v.spares) (la : Links) (ea : links_at cs at.ptr ≡ Some la) (after : Option Place) (ef : ptr_of_some after ≡ link_of (Some la)) (ds : List (Cell Links B)) (d : ds ≡ without at.ptr cs) where
+module _ {B : Type 0} (cs : List (Cell Links B)) (guard : Option Place) (spare : Link) (g at : Place) (n m : ℕ) (v : State B) (e : guard ≡ Some g) (f : target spare ≡ Some at.ptr) (ok : RingOk cs guard spare n m) (w : state (ring_list cs guard n) m ≡ v)
+    (pos : 0 < v.spares) (la : Links) (ea : links_at cs at.ptr ≡ Some la) (ds : List (Cell Links B)) (d : ds ≡ without at.ptr cs) where
   r : Ready cs g at n m
   r = ready cs guard spare g at n m v e f ok w pos
 
-  made : IsRing ds g.ptr r.row (ptr_of_some after) r.others
-  made = subst (λ z. IsRing ds g.ptr r.row z r.others) (ap link_of ea ∙ sym ef) (subst (λ zs. IsRing zs g.ptr r.row (link_at cs at.ptr) r.others) (sym d) (less cs g.ptr r.row at.ptr r.others r.ring))
+  made : IsRing ds g.ptr r.row (target la.link) r.others
+  made = subst (λ z. IsRing ds g.ptr r.row z r.others) (ap link_of ea) (subst (λ zs. IsRing zs g.ptr r.row (link_at cs at.ptr) r.others) (sym d) (less cs g.ptr r.row at.ptr r.others r.ring))
 
-  pub less_ring : RingOk ds guard after n (m - 1)
-  less_ring = let a = r.wide in let b = r.small in subst (λ z. RingOk ds z after n (m - 1)) (sym e) (r.row, r.others, made, r.long, omega arith, omega arith)
+  pub less_ring : RingOk ds guard la.link n (m - 1)
+  less_ring = let a = r.wide in let b = r.small in subst (λ z. RingOk ds z la.link n (m - 1)) (sym e) (r.row, r.others, made, r.long, omega arith, omega arith)
 
   pub less_list : state (ring_list ds guard n) (m - 1) ≡ state v.held (v.spares - 1)
   less_list =
-      let new : ring_list ds guard n ≡ v.held = ap (λ z. ring_list ds z n) e ∙ ring_listed ds g.ptr r.row (ptr_of_some after) r.others n made r.long
+      let new : ring_list ds guard n ≡ v.held = ap (λ z. ring_list ds z n) e ∙ ring_listed ds g.ptr r.row (target la.link) r.others n made r.long
       ∙ ap (λ zs. listed zs r.row) d ∙ less_listed cs g.ptr r.row at.ptr r.others r.ring
       ∙ sym (ring_listed cs g.ptr r.row (Some at.ptr) (at.ptr ∷ r.others) n r.ring r.long) ∙ sym (ap (λ z. ring_list cs z n) e) ∙ ap (λ (z : State B). z.held) w in
       λ i. state (new i) (ap (λ (z : State B). z.spares) w i - 1)

@@ -4,8 +4,10 @@ use denote.RawPtr.{Ptr}
 use Rattle.lhm_ring.specs.declared.block.Place.{Place}
 use Rattle.lhm_ring.specs.declared.links.Links.{Links}
 use Rattle.lhm_ring.specs.Cells.{Cell, cell, cell_at, same_ptr, IsApart, places, links_of, body_of, links_at, body_at, change, with_body}
-use Rattle.lhm_ring.specs.Rings.{ptr_of_some, next_of, prev_of, link_of, guard_of, has_links, link_at, is_there, Linked, Chained, IsRing, ring_list, listed, follow, RingOk}
+use Rattle.lhm_ring.specs.Rings.{next_of, prev_of, link_of, guard_of, has_links, link_at, is_there, is_guard, Linked, Chained, IsRing, ring_list, listed, follow, RingOk}
 use Rattle.lhm_ring.specs.ContentLoan.{body_in, without_body, bodies_of, with_bodies, cleared}
+use Rattle.lhm_ring.specs.Targets.{target}
+use Rattle.lhm_ring.specs.declared.link.Link.{Link}
 use Rattle.lhm_ring.proofs.Apart.{IsFresh, same_ptr_eq, same_ptr_refl, same_ptr_symm}
 use Rattle.lhm_ring.proofs.Options.{none_some}
 use Rattle.lhm_ring.proofs.Rows.{all_from, apart_head, apart_tail}
@@ -108,11 +110,12 @@ module _ {B : Type 0} (cs : List (Cell Links B)) where
     apart = r.apart;
     count = length_cleared cs ∙ r.count;
     guard = ap guard_of (links_cleared cs g) ∙ r.guard;
+    plain = all_from (λ q. is_guard cs q ≡ false) (λ q. is_guard (cleared cs) q ≡ false) (λ q h. ap guard_of (links_cleared cs q) ∙ h) ss r.plain;
   }
 
-  pub ring_ok_cleared : (guard spare : Option Place) (n m : ℕ) → n ≡ 0 → RingOk cs guard spare n m → RingOk (cleared cs) guard spare n m
+  pub ring_ok_cleared : (guard : Option Place) (spare : Link) (n m : ℕ) → n ≡ 0 → RingOk cs guard spare n m → RingOk (cleared cs) guard spare n m
   ring_ok_cleared None spare n m e ok = (ap cleared ok.0, ok.1, ok.2, ok.3)
-  ring_ok_cleared (Some g) spare n m e ok = (ok.0, ok.1, ring_cleared g.ptr ok.0 (ptr_of_some spare) ok.1 (ok.3 ∙ e) ok.2, ok.3, ok.4, ok.5)
+  ring_ok_cleared (Some g) spare n m e ok = (ok.0, ok.1, ring_cleared g.ptr ok.0 (target spare) ok.1 (ok.3 ∙ e) ok.2, ok.3, ok.4, ok.5)
 
   pub none_cleared : (guard : Option Place) (n : ℕ) → n ≡ 0 → ring_list (cleared cs) guard n ≡ []
   unfolding listed follow

@@ -1,15 +1,16 @@
 -- A change of one node alone, and the calls that take a node out and put one in.
 use Rattle.std.proofs.Common.{◌≡◌, suc, true, false, List, [], ◌∷◌, ◌++◌, length, Option, Some, None, refl, sym, ap, ◌∙◌, subst, append_assoc, arith, length-append}
+use Rattle.std.specs.Prelude.{◌==◌}
 use Rattle.std.specs.List.{AllByRecursion}
 use denote.RawPtr.{Ptr}
 use Rattle.lhm_ring.specs.declared.links.Links.{Links}
 use Rattle.lhm_ring.specs.Cells.{Cell, cell, same_ptr, cell_at, links_of, body_of, links_at, body_at, IsApart, with_links, with_body}
-use Rattle.lhm_ring.specs.Rings.{next_of, prev_of, link_of, guard_of, has_links, prev_at, link_at, is_there, content_of, content_at, Linked, Chained, HasContent, IsRing, listed, one_of, IsJoined}
+use Rattle.lhm_ring.specs.Rings.{next_of, prev_of, link_of, guard_of, has_links, prev_at, link_at, is_there, is_guard, content_of, content_at, Linked, Chained, HasContent, IsRing, listed, one_of, IsJoined}
 use Rattle.lhm_ring.specs.RingState.{Held, held}
 use Rattle.lhm_ring.proofs.Apart.{IsFresh, same_ptr_eq}
 use Rattle.lhm_ring.proofs.Options.{none_some}
 use Rattle.lhm_ring.proofs.Writes.{at_changed, at_other, length-change, read_kept, links_seen}
-use Rattle.lhm_ring.proofs.Rows.{not_guard, all_both, all_left, all_right, all_swap, apart_left, apart_at, apart_out, apart_in, chain_kept, held_kept, there_kept, listed_kept, listed-append, into_row}
+use Rattle.lhm_ring.proofs.Rows.{all_two, not_guard, all_both, all_left, all_right, all_swap, apart_left, apart_at, apart_out, apart_in, chain_kept, held_kept, there_kept, listed_kept, listed-append, into_row}
 use Rattle.lhm_ring.proofs.Moves.{listed_one}
 
 -- every node but the one at p is as it was
@@ -76,20 +77,20 @@ module _ {B : Type 0} where
 
   pub content_number : (p : Ptr) (l : Links) (b : Option B) (t : Held B) → content_of p (Some l) b ≡ Some t → t.number ≡ l.number
   content_number p l None t e = absurd (none_some t e)
-  content_number p l (Some x) t e = ap (λ (z : Held B). z.number) (sym (not_guard l.guard (held p l.number (link_of (Some l)) x) t e).1)
+  content_number p l (Some x) t e = ap (λ (z : Held B). z.number) (sym (not_guard (l.guard == 1) (held p l.number (link_of (Some l)) x) t e).1)
 
   pub content_link : (p : Ptr) (l : Links) (b : Option B) (t : Held B) → content_of p (Some l) b ≡ Some t → t.link ≡ link_of (Some l)
   content_link p l None t e = absurd (none_some t e)
-  content_link p l (Some x) t e = ap (λ (z : Held B). z.link) (sym (not_guard l.guard (held p l.number (link_of (Some l)) x) t e).1)
+  content_link p l (Some x) t e = ap (λ (z : Held B). z.link) (sym (not_guard (l.guard == 1) (held p l.number (link_of (Some l)) x) t e).1)
 
   pub content_guard : (p : Ptr) (o : Option Links) (b : Option B) (t : Held B) → content_of p o b ≡ Some t → guard_of o ≡ false
   content_guard p None b t e = refl
   content_guard p (Some l) None t e = absurd (none_some t e)
-  content_guard p (Some l) (Some x) t e = (not_guard l.guard (held p l.number (link_of (Some l)) x) t e).0
+  content_guard p (Some l) (Some x) t e = (not_guard (l.guard == 1) (held p l.number (link_of (Some l)) x) t e).0
 
   pub content_pair : (p : Ptr) (o : Option Links) (x : B) (t : Held B) → content_of p o (Some x) ≡ Some t → t.pair ≡ x
   content_pair p None x t e = absurd (none_some t e)
-  content_pair p (Some l) x t e = ap (λ (z : Held B). z.pair) (sym (not_guard l.guard (held p l.number (link_of (Some l)) x) t e).1)
+  content_pair p (Some l) x t e = ap (λ (z : Held B). z.pair) (sym (not_guard (l.guard == 1) (held p l.number (link_of (Some l)) x) t e).1)
 
   pub content_holds : (p : Ptr) (o : Option Links) (b : Option B) (t : Held B) → content_of p o b ≡ Some t → (x : B) × (b ≡ Some x)
   content_holds p None b t e = absurd (none_some t e)
@@ -135,6 +136,7 @@ module _ {B : Type 0} (cs ds es fs : List (Cell Links B)) (g : Ptr) (ps : List P
     apart = put_apart;
     count = l.count ∙ k₁.count ∙ o.count ∙ r.count ∙ ap (λ n. suc n) (omega (arith, length-append ps (p ∷ [])));
     guard = l.guard g ∙ k₁.guard g ∙ ap (λ z. guard_of (links_of z)) (o.other g free_row.0) ∙ r.guard;
+    plain = all_two (λ q. same_ptr p q ≡ false) (λ q. is_guard cs q ≡ false) (λ q. is_guard fs q ≡ false) (λ q n h. l.guard q ∙ k₁.guard q ∙ ap (λ z. guard_of (links_of z)) (o.other q n) ∙ h) ss free_chain r.plain.1;
   }
 
   pub put_listed : listed fs (ps ++ p ∷ []) ≡ listed cs ps ++ t ∷ []
@@ -143,7 +145,7 @@ module _ {B : Type 0} (cs ds es fs : List (Cell Links B)) (g : Ptr) (ps : List P
 
 -- a held node p comes out, and is the first spare one
 module _ {B : Type 0} (cs ds es : List (Cell Links B)) (g : Ptr) (spare : Option Ptr) (ss us : List Ptr) (p : Ptr) (vs : List Ptr) (r : IsRing cs g (us ++ p ∷ vs) spare ss) (a b : Ptr)
-    (j : IsJoined cs ds a b) (out : Linked ds (g ∷ ((us ++ vs) ++ g ∷ []))) (o : OnlyAt ds es p) (h : link_at es p ≡ spare) where
+    (j : IsJoined cs ds a b) (out : Linked ds (g ∷ ((us ++ vs) ++ g ∷ []))) (o : OnlyAt ds es p) (h : link_at es p ≡ spare) (own : is_guard es p ≡ false) where
   abbrev T₂ : Ptr → Type 0
   T₂ q = is_there cs q ≡ true
 
@@ -176,6 +178,10 @@ module _ {B : Type 0} (cs ds es : List (Cell Links B)) (g : Ptr) (spare : Option
     apart = gone_apart;
     count = o.count ∙ j.count ∙ r.count ∙ ap (λ n. suc n) (omega (arith, length-append us (p ∷ vs), length-append us vs));
     guard = ap (λ z. guard_of (links_of z)) (o.other g free.0) ∙ j.guard g ∙ r.guard;
+    plain = (
+      own,
+      all_two (λ q. same_ptr p q ≡ false) (λ q. is_guard cs q ≡ false) (λ q. is_guard es q ≡ false) (λ q n h. ap (λ z. guard_of (links_of z)) (o.other q n) ∙ j.guard q ∙ h) ss (all_right (λ q. same_ptr p q ≡ false) (us ++ vs) ss free.1) r.plain,
+    );
   }
 
   pub gone_listed : listed es (us ++ vs) ≡ listed cs us ++ listed cs vs

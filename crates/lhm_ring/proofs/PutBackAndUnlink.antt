@@ -1,37 +1,32 @@
 -- `put_back` and `unlink`, from what their steps ensure.
 use Rattle.std.proofs.Common.{◌≡◌, ℕ, suc, ◌+◌, ◌-◌, ◌<◌, ◌≤◌, ◌^◌, true, false, cond, List, [], ◌∷◌, ◌++◌, length, Option, Some, None, refl, sym, ap, ◌∙◌, subst, arith, length-append}
+use Rattle.std.specs.Prelude.{◌==◌}
 use Rattle.std.specs.Option.{IsSome}
 use denote.RawPtr.{Ptr}
 use Rattle.lhm_ring.specs.declared.block.Place.{Place}
 use Rattle.lhm_ring.specs.declared.links.Links.{Links}
 use Rattle.lhm_ring.specs.Cells.{Cell, links_at, body_at, IsAt, Holds, with_links, with_body}
-use Rattle.lhm_ring.specs.Rings.{relinked, ptr_of_some, next_of, prev_of, link_of, next_at, prev_at, link_at, is_there, content_of, content_at, Chained, IsRing, listed, IsJoined, ring_list, RingOk}
+use Rattle.lhm_ring.specs.Rings.{relinked, Relinks, next_of, prev_of, link_of, guard_of, next_at, prev_at, link_at, is_there, is_guard, content_of, content_at, Chained, IsRing, listed, IsJoined, ring_list, RingOk}
 use Rattle.lhm_ring.specs.RingState.{State, state, held, IsHeld, AtHeld}
+use Rattle.lhm_ring.specs.Targets.{target}
+use Rattle.lhm_ring.specs.declared.link.Link.{Link}
 use Rattle.lhm_ring.proofs.Apart.{same_ptr_refl}
-use Rattle.lhm_ring.proofs.Options.{none_some}
+use Rattle.lhm_ring.proofs.Options.{some_same}
 use Rattle.lhm_ring.proofs.Writes.{links_set, is_at}
 use Rattle.lhm_ring.proofs.Rows.{all_left, all_last, all_right, cut_row}
 use Rattle.lhm_ring.proofs.Moves.{NodeAt, found_in, node_in, node_at, opened, ring_listed, out, p_there}
-use Rattle.lhm_ring.proofs.OneNodeChanged.{OnlyAt, links_kept, body_set, only_links, only_body, only_both, content_number, content_pair, content_holds, put, put_listed, gone, gone_listed}
-use Rattle.lhm_ring.proofs.Splicing.{link_relinked}
-
-spot_some : (o : Option Place) (p : Ptr) → ptr_of_some o ≡ Some p → IsSome o
-spot_some None p e = absurd (none_some p e)
-spot_some (Some q) p e = refl
-
-same_spot : (q : Place) (p : Ptr) → ptr_of_some (Some q) ≡ Some p → q.ptr ≡ p
-same_spot q p e = cc
+use Rattle.lhm_ring.proofs.OneNodeChanged.{OnlyAt, links_kept, body_set, only_links, only_body, only_both, content_number, content_guard, content_pair, content_holds, put, put_listed, gone, gone_listed}
 
 -- the links of the node at p once they are written
 here_set : {B : Type 0} (p : Ptr) (l : Links) (cs : List (Cell Links B)) (la : Links) → links_at cs p ≡ Some la → links_at (with_links p l cs) p ≡ Some l
 here_set p l cs la e = links_set p l cs la e p ∙ ap (λ y. cond y (Some l) (links_at cs p)) (same_ptr_refl p)
 
 module _ {B : Type 0} where
-  first : (cs : List (Cell Links B)) (spare : Option Place) (m : ℕ) (ss : List Ptr) → 0 < m → length ss ≡ m → Chained cs (ptr_of_some spare) ss → IsSome spare
+  first : (cs : List (Cell Links B)) (spare : Link) (m : ℕ) (ss : List Ptr) → 0 < m → length ss ≡ m → Chained cs (target spare) ss → IsSome (target spare)
   first cs spare m [] h e c = absurd (omega arith)
-  first cs spare m (p ∷ ss) h e c = spot_some spare p c.0
+  first cs spare m (p ∷ ss) h e c = subst IsSome (sym c.0) refl
 
-  pub spare_there : (cs : List (Cell Links B)) (guard spare : Option Place) (n m : ℕ) (v : State B) → RingOk cs guard spare n m → state (ring_list cs guard n) m ≡ v → 0 < v.spares → IsSome guard × IsSome spare
+  pub spare_there : (cs : List (Cell Links B)) (guard : Option Place) (spare : Link) (n m : ℕ) (v : State B) → RingOk cs guard spare n m → state (ring_list cs guard n) m ≡ v → 0 < v.spares → IsSome guard × IsSome (target spare)
   spare_there cs None spare n m v ok w h = let e = ok.3 in let f : m ≡ v.spares = ap (λ (z : State B). z.spares) w in absurd (omega arith)
   spare_there cs (Some g) spare n m v ok w h = (refl, first cs spare m ok.1 (subst (λ k. 0 < k) (sym (ap (λ (z : State B). z.spares) w)) h) ok.4 ok.2.chained)
 
@@ -45,17 +40,17 @@ pub record Ready {B : Type 0} (cs : List (Cell Links B)) (g at : Place) (n m : �
   pub small : n + m ≤ 2 ^ 57
 
 module _ {B : Type 0} (cs : List (Cell Links B)) where
-  ready_at : (g at : Place) (n m : ℕ) (ps ss : List Ptr) → IsRing cs g.ptr ps (ptr_of_some (Some at)) ss → length ps ≡ n → length ss ≡ m → n + m ≤ 2 ^ 57 → 0 < m → Ready cs g at n m
+  ready_at : (g at : Place) (n m : ℕ) (ps ss : List Ptr) → IsRing cs g.ptr ps (Some at.ptr) ss → length ps ≡ n → length ss ≡ m → n + m ≤ 2 ^ 57 → 0 < m → Ready cs g at n m
   ready_at g at n m ps [] r a b c h = absurd (omega arith)
   ready_at g at n m ps (p ∷ rest) r a b c h =
-      record { row = ps; others = rest; ring = subst (λ q. IsRing cs g.ptr ps (Some at.ptr) (q ∷ rest)) (sym (same_spot at p r.chained.0)) r; long = a; wide = b; small = c }
+      record { row = ps; others = rest; ring = subst (λ q. IsRing cs g.ptr ps (Some at.ptr) (q ∷ rest)) (sym (some_same at.ptr p r.chained.0)) r; long = a; wide = b; small = c }
 
-  pub ready : (guard spare : Option Place) (g at : Place) (n m : ℕ) (v : State B) → guard ≡ Some g → spare ≡ Some at → RingOk cs guard spare n m → state (ring_list cs guard n) m ≡ v → 0 < v.spares → Ready cs g at n m
+  pub ready : (guard : Option Place) (spare : Link) (g at : Place) (n m : ℕ) (v : State B) → guard ≡ Some g → target spare ≡ Some at.ptr → RingOk cs guard spare n m → state (ring_list cs guard n) m ≡ v → 0 < v.spares → Ready cs g at n m
   ready guard spare g at n m v e f ok w h =
-      let o : RingOk cs (Some g) (Some at) n m = subst (λ z. RingOk cs (Some g) z n m) f (opened cs guard spare g n m e ok) in
-      ready_at g at n m o.0 o.1 o.2 o.3 o.4 o.5 (subst (λ k. 0 < k) (sym (ap (λ (z : State B). z.spares) w)) h)
+      let o = opened cs guard spare g n m e ok in
+      ready_at g at n m o.0 o.1 (subst (λ z. IsRing cs g.ptr o.0 z o.1) f o.2) o.3 o.4 o.5 (subst (λ k. 0 < k) (sym (ap (λ (z : State B). z.spares) w)) h)
 
-module _ {B : Type 0} (cs : List (Cell Links B)) (guard spare : Option Place) (g at : Place) (n m : ℕ) (v : State B) (e : guard ≡ Some g) (f : spare ≡ Some at) (ok : RingOk cs guard spare n m) (w : state (ring_list cs guard n) m ≡ v)
+module _ {B : Type 0} (cs : List (Cell Links B)) (guard : Option Place) (spare : Link) (g at : Place) (n m : ℕ) (v : State B) (e : guard ≡ Some g) (f : target spare ≡ Some at.ptr) (ok : RingOk cs guard spare n m) (w : state (ring_list cs guard n) m ≡ v)
     (pos : 0 < v.spares) where
   r : Ready cs g at n m
   r = ready cs guard spare g at n m v e f ok w pos
@@ -63,10 +58,10 @@ module _ {B : Type 0} (cs : List (Cell Links B)) (guard spare : Option Place) (g
   pub first_at : IsAt cs at.ptr
   first_at = is_at cs at.ptr (all_right (λ q. is_there cs q ≡ true) r.row (at.ptr ∷ r.others) r.ring.there.1).0
 
-  module _ (la lg : Links) (ea : links_at cs at.ptr ≡ Some la) (after : Option Place) (ef : ptr_of_some after ≡ link_of (Some la)) (eg : links_at cs g.ptr ≡ Some lg) (number : ℕ) (x : B) (c₁ c₂ : List (Cell Links B))
-      (e₁ : c₁ ≡ with_links at.ptr (record { prev = lg.prev; next = g; link = at; number = number; linked = false; guard = false }) cs) (e₂ : c₂ ≡ with_body at.ptr (Some x) c₁) where
+  module _ (la lg : Links) (ea : links_at cs at.ptr ≡ Some la) (eg : links_at cs g.ptr ≡ Some lg) (number : ℕ) (x : B) (unlinked : Link) (en : target unlinked ≡ None) (c₁ c₂ : List (Cell Links B))
+      (e₁ : c₁ ≡ with_links at.ptr (record la { link = unlinked; number = number }) cs) (e₂ : c₂ ≡ with_body at.ptr (Some x) c₁) where
     abbrev l : Links
-    l = record { prev = lg.prev; next = g; link = at; number = number; linked = false; guard = false }
+    l = record la { link = unlinked; number = number }
 
     pub still : links_at c₁ at.ptr ≡ Some l
     still = ap (λ z. links_at z at.ptr) e₁ ∙ here_set at.ptr l cs la ea
@@ -88,7 +83,8 @@ module _ {B : Type 0} (cs : List (Cell Links B)) (guard spare : Option Place) (g
         let p = at.ptr in
         let k : links_at c₂ p ≡ Some l = ap (λ z. links_at z p) e₂ ∙ links_kept p (Some x) c₁ l still p ∙ still in
         let b : body_at c₂ p ≡ Some x = ap (λ z. body_at z p) e₂ ∙ body_set p (Some x) c₁ l still in
-        λ i. content_of p (k i) (b i)
+        let own : (la.guard == 1) ≡ false = sym (ap guard_of ea) ∙ r.ring.plain.0 in
+        (λ i. content_of p (k i) (b i)) ∙ ap (λ y. cond y None (Some (held p number (target unlinked) x))) own ∙ ap (λ o. Some (held p number o x)) en
 
     module _ (c₃ c₄ : List (Cell Links B)) (j : IsJoined c₂ c₃ lg.prev.ptr at.ptr) (k : IsJoined c₃ c₄ at.ptr g.ptr) where
       j₁ : IsJoined c₂ c₃ (prev_at cs g.ptr) at.ptr
@@ -100,10 +96,10 @@ module _ {B : Type 0} (cs : List (Cell Links B)) (guard spare : Option Place) (g
       longer : length (r.row ++ at.ptr ∷ []) ≡ n + 1
       longer = let a = r.long in omega (arith, length-append r.row (at.ptr ∷ []))
 
-      pub put_ring : RingOk c₄ guard after (n + 1) (m - 1)
+      pub put_ring : RingOk c₄ guard la.link (n + 1) (m - 1)
       put_ring =
           let a = r.wide in let b = r.small in
-          subst (λ o. RingOk c₄ o after (n + 1) (m - 1)) (sym e) (r.row ++ at.ptr ∷ [], r.others, subst (λ z. IsRing c₄ g.ptr (r.row ++ at.ptr ∷ []) z r.others) (ap link_of ea ∙ sym ef) made, longer, omega arith, omega arith)
+          subst (λ o. RingOk c₄ o la.link (n + 1) (m - 1)) (sym e) (r.row ++ at.ptr ∷ [], r.others, subst (λ z. IsRing c₄ g.ptr (r.row ++ at.ptr ∷ []) z r.others) (ap link_of ea) made, longer, omega arith, omega arith)
 
       pub put_list : state (ring_list c₄ guard (n + 1)) (m - 1) ≡ state (v.held ++ held at.ptr number None x ∷ []) (v.spares - 1)
       put_list =
@@ -114,7 +110,7 @@ module _ {B : Type 0} (cs : List (Cell Links B)) (guard spare : Option Place) (g
           λ i. state (new i) ((ap (λ (z : State B). z.spares) w i) - 1)
 
 -- the node at `at` is joined past, gives its body up, and is the first spare one
-module _ {B : Type 0} (cs : List (Cell Links B)) (guard spare : Option Place) (g : Place) (n m : ℕ) (v : State B) (e : guard ≡ Some g) (ok : RingOk cs guard spare n m) (w : state (ring_list cs guard n) m ≡ v)
+module _ {B : Type 0} (cs : List (Cell Links B)) (guard : Option Place) (spare : Link) (g : Place) (n m : ℕ) (v : State B) (e : guard ≡ Some g) (ok : RingOk cs guard spare n m) (w : state (ring_list cs guard n) m ≡ v)
     (at : Place) (la : Links) (ea : links_at cs at.ptr ≡ Some la) (ds : List (Cell Links B)) (j : IsJoined cs ds la.prev.ptr la.next.ptr) where
   j₂ : IsJoined cs ds (prev_at cs at.ptr) (next_at cs at.ptr)
   j₂ = subst (λ (z : Ptr × Ptr). IsJoined cs ds z.0 z.1) (λ i. (sym (ap prev_of ea) i, sym (ap next_of ea) i)) j
@@ -130,33 +126,39 @@ module _ {B : Type 0} (cs : List (Cell Links B)) (guard spare : Option Place) (g
 
   module _ (x : B) (ex : body_at ds at.ptr ≡ Some x) (c₁ c₂ : List (Cell Links B)) (e₁ : c₁ ≡ with_body at.ptr None ds) where
     there : IsHeld v.held at.ptr → IsAt ds at.ptr
-    there h = let s = node_in cs guard spare g n m v at.ptr e ok w h in is_at ds at.ptr (j.there at.ptr ∙ p_there cs g.ptr (ptr_of_some spare) s.others s.before at.ptr s.after s.ring)
+    there h = let s = node_in cs guard spare g n m v at.ptr e ok w h in is_at ds at.ptr (j.there at.ptr ∙ p_there cs g.ptr (target spare) s.others s.before at.ptr s.after s.ring)
 
     pub taken_at : IsHeld v.held at.ptr → IsAt c₁ at.ptr
     taken_at h = let a = there h in (a.0, ap (λ z. links_at z at.ptr) e₁ ∙ links_kept at.ptr None ds a.0 a.1 at.ptr ∙ a.1)
 
-    abbrev spent : Links
-    spent = relinked spare la
+    module _ (k : Relinks c₁ at.ptr spare c₂) where
+      e₂ : (h : IsHeld v.held at.ptr) → c₂ ≡ with_links at.ptr (relinked spare (taken_at h).0) c₁
+      e₂ h = k (taken_at h).0 (taken_at h).1
 
-    module _ (e₂ : c₂ ≡ with_links at.ptr spent c₁) where
       only₂ : IsHeld v.held at.ptr → OnlyAt ds c₂ at.ptr
       only₂ h =
           let a = there h in let b = taken_at h in
-          only_both ds c₁ c₂ at.ptr (subst (λ z. OnlyAt ds z at.ptr) (sym e₁) (only_body at.ptr None ds a.0 a.1)) (subst (λ z. OnlyAt c₁ z at.ptr) (sym e₂) (only_links at.ptr spent c₁ b.0 b.1))
+          only_both ds c₁ c₂ at.ptr (subst (λ z. OnlyAt ds z at.ptr) (sym e₁) (only_body at.ptr None ds a.0 a.1)) (subst (λ z. OnlyAt c₁ z at.ptr) (sym (e₂ h)) (only_links at.ptr (relinked spare b.0) c₁ b.0 b.1))
 
-      spare₂ : IsHeld v.held at.ptr → link_at c₂ at.ptr ≡ ptr_of_some spare
-      spare₂ h = let b = taken_at h in ap (λ z. link_of (links_at z at.ptr)) e₂ ∙ ap link_of (here_set at.ptr spent c₁ b.0 b.1) ∙ link_relinked spare la
+      spare₂ : IsHeld v.held at.ptr → link_at c₂ at.ptr ≡ target spare
+      spare₂ h = let b = taken_at h in ap (λ z. link_of (links_at z at.ptr)) (e₂ h) ∙ ap link_of (here_set at.ptr (relinked spare b.0) c₁ b.0 b.1)
+
+      plain₂ : IsHeld v.held at.ptr → is_guard c₂ at.ptr ≡ false
+      plain₂ h =
+          let a = there h in let b = taken_at h in let f = found_in cs guard spare g n m v e ok w h.0 h.1 h.2 h.3 in
+          ap (λ z. guard_of (links_at z at.ptr)) (e₂ h) ∙ ap guard_of (here_set at.ptr (relinked spare b.0) c₁ b.0 b.1) ∙ sym (ap guard_of b.1) ∙ ap (λ z. guard_of (links_at z at.ptr)) e₁
+          ∙ ap guard_of (links_kept at.ptr None ds a.0 a.1 at.ptr) ∙ j.guard at.ptr ∙ content_guard at.ptr (links_at cs at.ptr) (body_at cs at.ptr) h.1 (ap (content_at cs) (sym h.4) ∙ f.here)
 
       left : IsHeld v.held at.ptr → (s : NodeAt cs g spare n m at.ptr) → IsRing c₂ g.ptr (s.before ++ s.after) (Some at.ptr) (at.ptr ∷ s.others)
-      left h s = gone cs ds c₂ g.ptr (ptr_of_some spare) s.others s.before at.ptr s.after s.ring _ _ j₂ (out cs g.ptr (ptr_of_some spare) s.others s.before at.ptr s.after s.ring ds j₂) (only₂ h) (spare₂ h)
+      left h s = gone cs ds c₂ g.ptr (target spare) s.others s.before at.ptr s.after s.ring _ _ j₂ (out cs g.ptr (target spare) s.others s.before at.ptr s.after s.ring ds j₂) (only₂ h) (spare₂ h) (plain₂ h)
 
       shorter : (s : NodeAt cs g spare n m at.ptr) → length (s.before ++ s.after) ≡ n - 1
       shorter s = let a = s.long in omega (arith, length-append s.before (at.ptr ∷ s.after), length-append s.before s.after)
 
-      pub taken_ring : IsHeld v.held at.ptr → RingOk c₂ guard (Some at) (n - 1) (m + 1)
-      taken_ring h =
+      pub taken_ring : (top : Link) → target top ≡ Some at.ptr → IsHeld v.held at.ptr → RingOk c₂ guard top (n - 1) (m + 1)
+      taken_ring top et h =
           let s = node_in cs guard spare g n m v at.ptr e ok w h in let a = s.wide in let b = s.small in let some : 1 ≤ n = some_held h in
-          subst (λ o. RingOk c₂ o (Some at) (n - 1) (m + 1)) (sym e) (s.before ++ s.after, at.ptr ∷ s.others, left h s, shorter s, omega arith, omega arith)
+          subst (λ o. RingOk c₂ o top (n - 1) (m + 1)) (sym e) (s.before ++ s.after, at.ptr ∷ s.others, subst (λ z. IsRing c₂ g.ptr (s.before ++ s.after) z (at.ptr ∷ s.others)) (sym et) (left h s), shorter s, omega arith, omega arith)
 
       pub taken_list : AtHeld v.held at.ptr (λ xs t ys. (state (ring_list c₂ guard (n - 1)) (m + 1) ≡ state (xs ++ ys) (v.spares + 1)) × (la.number ≡ t.number) × (x ≡ t.pair))
       taken_list xs t ys k here =
@@ -165,7 +167,7 @@ module _ {B : Type 0} (cs : List (Cell Links B)) (guard spare : Option Place) (g
           let q = node_at at.ptr f here in let s = q.0 in
           let list : ring_list c₂ guard (n - 1) ≡ xs ++ ys = ap (λ o. ring_list c₂ o (n - 1)) e
           ∙ ring_listed c₂ g.ptr (s.before ++ s.after) (Some at.ptr) (at.ptr ∷ s.others) (n - 1) (left h s) (shorter s)
-          ∙ gone_listed cs ds c₂ g.ptr (ptr_of_some spare) s.others s.before at.ptr s.after s.ring _ _ j₂ (out cs g.ptr (ptr_of_some spare) s.others s.before at.ptr s.after s.ring ds j₂) (only₂ h) (spare₂ h)
+          ∙ gone_listed cs ds c₂ g.ptr (target spare) s.others s.before at.ptr s.after s.ring _ _ j₂ (out cs g.ptr (target spare) s.others s.before at.ptr s.after s.ring ds j₂) (only₂ h) (spare₂ h) (plain₂ h)
           ∙ (λ i. q.1 i ++ q.2 i) in
           let number : t.number ≡ la.number = content_number at.ptr la (body_at cs at.ptr) t (ap (λ o. content_of at.ptr o (body_at cs at.ptr)) (sym ea) ∙ c) in
           let pair : t.pair ≡ x = content_pair at.ptr (links_at ds at.ptr) x t (ap (λ b. content_of at.ptr (links_at ds at.ptr) b) (sym ex) ∙ j.content at.ptr ∙ c) in

@@ -1,5 +1,6 @@
 -- How a join changes a row of links, and what a ring lists.
 use Rattle.std.proofs.Common.{◌≡◌, Bool, true, false, cond, List, [], ◌∷◌, ◌++◌, length, Option, Some, None, refl, sym, ap, ◌∙◌, subst, append_assoc}
+use Rattle.std.specs.Prelude.{◌==◌}
 use Rattle.std.specs.List.{AllByRecursion, IsDistinct}
 use denote.RawPtr.{Ptr}
 use Rattle.lhm_ring.specs.declared.links.Links.{Links}
@@ -50,6 +51,10 @@ all_last P x (y ∷ ys) h a = all_last P y ys a.0 a.1
 pub all_from : {X : Type 0} (P Q : X → Type 0) → ((x : X) → P x → Q x) → (xs : List X) → AllByRecursion P xs → AllByRecursion Q xs
 all_from P Q f [] a = tt
 all_from P Q f (x ∷ xs) a = (f x a.0, all_from P Q f xs a.1)
+
+pub all_two : {X : Type 0} (P Q R : X → Type 0) → ((x : X) → P x → Q x → R x) → (xs : List X) → AllByRecursion P xs → AllByRecursion Q xs → AllByRecursion R xs
+all_two P Q R f [] a b = tt
+all_two P Q R f (x ∷ xs) a b = (f x a.0 b.0, all_two P Q R f xs a.1 b.1)
 
 -- a fresh pointer, either way round
 flip : (p q : Ptr) → same_ptr p q ≡ false → same_ptr q p ≡ false
@@ -207,7 +212,7 @@ module _ {B : Type 0} where
   pub content_place : (p : Ptr) (o : Option Links) (b : Option B) (t : Held B) → content_of p o b ≡ Some t → t.at ≡ p
   content_place p None b t e = cc
   content_place p (Some l) None t e = cc
-  content_place p (Some l) (Some b) t e = ap (λ (z : Held B). z.at) (sym (not_guard l.guard (record { at = p; number = l.number; link = link_of (Some l); pair = b }) t e).1)
+  content_place p (Some l) (Some b) t e = ap (λ (z : Held B). z.at) (sym (not_guard (l.guard == 1) (record { at = p; number = l.number; link = link_of (Some l); pair = b }) t e).1)
 
   -- where a ring is cut, if what it lists is
   pub record CutAt (cs : List (Cell Links B)) (ps : List Ptr) (us : List (Held B)) (t : Held B) (vs : List (Held B)) : Type 0 where

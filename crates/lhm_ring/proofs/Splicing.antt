@@ -1,19 +1,22 @@
 -- All that a ring holds becomes spare, and what it held is taken out from both ends.
 use Rattle.std.proofs.Common.{◌≡◌, ℕ, ◌+◌, ◌-◌, ◌<◌, true, false, cond, List, [], ◌∷◌, ◌++◌, length, Option, Some, None, refl, sym, ap, ◌∙◌, subst, arith, length-append}
+use Rattle.std.specs.Prelude.{◌==◌}
 use lib.ListN.{length-map}
 use Rattle.std.specs.List.{AllByRecursion}
 use denote.RawPtr.{Ptr}
 use Rattle.lhm_ring.specs.declared.block.Place.{Place}
 use Rattle.lhm_ring.specs.declared.links.Links.{Links}
 use Rattle.lhm_ring.specs.Cells.{Cell, cell, cell_at, same_ptr, links_at, body_at, IsApart, IsAt, Holds, with_links, with_body}
-use Rattle.lhm_ring.specs.Rings.{relinked, ptr_of_some, next_of, prev_of, link_of, has_links, guard_of, next_at, prev_at, link_at, is_there, content_of, content_at, Linked, Chained, HasContent, IsRing, IsJoined, listed, one_of, last_place, HasEnds, places_from, span_triples, IsSpan, ring_list, RingOk}
+use Rattle.lhm_ring.specs.Rings.{relinked, next_of, prev_of, link_of, has_links, guard_of, next_at, prev_at, link_at, is_there, content_of, content_at, Linked, Chained, HasContent, IsRing, IsJoined, listed, one_of, last_place, HasEnds, places_from, span_triples, IsSpan, ring_list, RingOk, is_guard}
 use Rattle.lhm_ring.specs.RingState.{Held, triples}
 use Rattle.lhm_ring.specs.Splices.{onto, StartsAt, triple_of, SameButLinks, IsRow, HasRow, SparesRow}
+use Rattle.lhm_ring.specs.Targets.{target}
+use Rattle.lhm_ring.specs.declared.link.Link.{Link}
 use Rattle.lhm_ring.proofs.Apart.{IsFresh, apart_none, same_ptr_refl}
 use Rattle.lhm_ring.proofs.Writes.{at_other, length-change, read_kept, links_set, body_kept, content_links}
 use Rattle.lhm_ring.proofs.Rows.{last_from, all_left, all_right, all_from, apart_left, apart_head, apart_tail, apart_at, apart_out, apart_in, avoids_all, AvoidsSource, AvoidsTarget, cut_row, row_kept, chain_kept, edge_made, listed_kept, listed-append, snoc}
 use Rattle.lhm_ring.proofs.Moves.{ring_listed, length_listed}
-use Rattle.lhm_ring.proofs.OneNodeChanged.{links_kept, chain_other, held_other, listed_other, content_number, content_pair, content_holds}
+use Rattle.lhm_ring.proofs.OneNodeChanged.{links_kept, chain_other, held_other, listed_other, content_number, content_pair, content_holds, content_guard}
 use Rattle.lhm_ring.proofs.Options.{none_some}
 
 module _ {B : Type 0} (cs : List (Cell Links B)) where
@@ -52,36 +55,31 @@ last_same : (p : Ptr) (ps : List Ptr) → last_place p ps ≡ last_from p ps
 last_same p [] = refl
 last_same p (q ∷ qs) = last_same q qs
 
-pub next_relinked : (o : Option Place) (l : Links) → next_of (Some (relinked o l)) ≡ next_of (Some l)
-next_relinked None l = refl
-next_relinked (Some q) l = refl
+pub next_relinked : (o : Link) (l : Links) → next_of (Some (relinked o l)) ≡ next_of (Some l)
+next_relinked o l = refl
 
-pub prev_relinked : (o : Option Place) (l : Links) → prev_of (Some (relinked o l)) ≡ prev_of (Some l)
-prev_relinked None l = refl
-prev_relinked (Some q) l = refl
+pub prev_relinked : (o : Link) (l : Links) → prev_of (Some (relinked o l)) ≡ prev_of (Some l)
+prev_relinked o l = refl
 
-pub guard_relinked : (o : Option Place) (l : Links) → guard_of (Some (relinked o l)) ≡ guard_of (Some l)
-guard_relinked None l = refl
-guard_relinked (Some q) l = refl
+pub guard_relinked : (o : Link) (l : Links) → guard_of (Some (relinked o l)) ≡ guard_of (Some l)
+guard_relinked o l = refl
 
-pub link_relinked : (o : Option Place) (l : Links) → link_of (Some (relinked o l)) ≡ ptr_of_some o
-link_relinked None l = refl
-link_relinked (Some q) l = refl
+pub link_relinked : (o : Link) (l : Links) → link_of (Some (relinked o l)) ≡ target o
+link_relinked o l = refl
 
-pub number_relinked : (o : Option Place) (l : Links) → (relinked o l).number ≡ l.number
-number_relinked None l = refl
-number_relinked (Some q) l = refl
+pub number_relinked : (o : Link) (l : Links) → (relinked o l).number ≡ l.number
+number_relinked o l = refl
 
 module _ {B : Type 0} where
-  triple_shown : (q : Ptr) (l : Links) (x : B) → triple_of (content_of q (Some l) (Some x)) ≡ cond l.guard None (Some (l.number, x))
-  triple_shown q l x = elim l.guard as (λ y. triple_of (cond y None (Some (record { at = q; number = l.number; link = link_of (Some l); pair = x }))) ≡ cond y None (Some (l.number, x))) [ true ↦ refl | false ↦ refl ]
+  triple_shown : (q : Ptr) (l : Links) (x : B) → triple_of (content_of q (Some l) (Some x)) ≡ cond (l.guard == 1) None (Some (l.number, x))
+  triple_shown q l x = elim (l.guard == 1) as (λ y. triple_of (cond y None (Some (record { at = q; number = l.number; link = link_of (Some l); pair = x }))) ≡ cond y None (Some (l.number, x))) [ true ↦ refl | false ↦ refl ]
 
-  triple_relinked : (q : Ptr) (o : Option Place) (l : Links) (b : Option B) → triple_of (content_of q (Some (relinked o l)) b) ≡ triple_of (content_of q (Some l) b)
+  triple_relinked : (q : Ptr) (o : Link) (l : Links) (b : Option B) → triple_of (content_of q (Some (relinked o l)) b) ≡ triple_of (content_of q (Some l) b)
   triple_relinked q o l None = refl
   triple_relinked q o l (Some x) = triple_shown q (relinked o l) x ∙ (λ i. cond (guard_relinked o l i) None (Some (number_relinked o l i, x))) ∙ sym (triple_shown q l x)
 
   -- what the write of a further link keeps
-  same_relinked : (cs : List (Cell Links B)) (p : Ptr) (o : Option Place) (la : Links) → links_at cs p ≡ Some la → SameButLinks cs (with_links p (relinked o la) cs)
+  same_relinked : (cs : List (Cell Links B)) (p : Ptr) (o : Link) (la : Links) → links_at cs p ≡ Some la → SameButLinks cs (with_links p (relinked o la) cs)
   same_relinked cs p o la e =
       let l = relinked o la in
       record {
@@ -119,14 +117,14 @@ module _ {B : Type 0} where
   starts_next cs x (y ∷ ys) k = sym k.0.0
 
   -- the first node of a row becomes the first spare one
-  module _ (cs : List (Cell Links B)) (at : Place) (n : ℕ) (spare : Option Place) (la : Links) (ea : links_at cs at.ptr ≡ Some la) where
+  module _ (cs : List (Cell Links B)) (at : Place) (n : ℕ) (spare : Link) (la : Links) (ea : links_at cs at.ptr ≡ Some la) where
     abbrev after : List (Cell Links B)
     after = with_links at.ptr (relinked spare la) cs
 
-    link_now : link_at after at.ptr ≡ ptr_of_some spare
+    link_now : link_at after at.ptr ≡ target spare
     link_now = ap link_of (links_set at.ptr (relinked spare la) cs la ea at.ptr ∙ ap (λ y. cond y (Some (relinked spare la)) (links_at cs at.ptr)) (same_ptr_refl at.ptr)) ∙ link_relinked spare la
 
-    shorter_row : (p : Ptr) (rs ss : List Ptr) → p ≡ at.ptr → IsRow cs at.ptr n (ptr_of_some spare) (p ∷ rs) ss → IsRow after la.next.ptr (n - 1) (Some at.ptr) rs (at.ptr ∷ ss)
+    shorter_row : (p : Ptr) (rs ss : List Ptr) → p ≡ at.ptr → IsRow cs at.ptr n (target spare) (p ∷ rs) ss → IsRow after la.next.ptr (n - 1) (Some at.ptr) rs (at.ptr ∷ ss)
     shorter_row p rs ss is r =
         let same = same_relinked cs at.ptr spare la ea in let long = r.long in
         let free = subst (λ q. IsFresh q (rs ++ ss)) is (apart_head p (rs ++ ss) r.apart) in
@@ -140,24 +138,24 @@ module _ {B : Type 0} where
           chained = (
             refl,
             subst (λ h. Chained after h ss) (sym link_now)
-                (chain_other cs after at.ptr (λ q n. at_other at.ptr (λ c. cell c.at (relinked spare la) c.body) (λ c. refl) q n cs) (ptr_of_some spare) ss (all_right (λ q. same_ptr at.ptr q ≡ false) rs ss free) r.chained),
+                (chain_other cs after at.ptr (λ q n. at_other at.ptr (λ c. cell c.at (relinked spare la) c.body) (λ c. refl) q n cs) (target spare) ss (all_right (λ q. same_ptr at.ptr q ≡ false) rs ss free) r.chained),
           );
         }
 
-    row_left : (ps ss : List Ptr) → 0 < n → IsRow cs at.ptr n (ptr_of_some spare) ps ss → HasRow after la.next.ptr (n - 1) (Some at.ptr)
+    row_left : (ps ss : List Ptr) → 0 < n → IsRow cs at.ptr n (target spare) ps ss → HasRow after la.next.ptr (n - 1) (Some at.ptr)
     row_left [] ss h r = let long = r.long in absurd (omega arith)
     row_left (p ∷ rs) ss h r = (rs, at.ptr ∷ ss, shorter_row p rs ss r.starts r)
 
-    pub row_goes_on : 0 < n → HasRow cs at.ptr n (ptr_of_some spare) → HasRow after la.next.ptr (n - 1) (Some at.ptr)
+    pub row_goes_on : 0 < n → HasRow cs at.ptr n (target spare) → HasRow after la.next.ptr (n - 1) (Some at.ptr)
     row_goes_on h r = row_left r.0 r.1 h r.2
 
-    then_all : (ds : List (Cell Links B)) (s : Option Ptr) → 0 < n → SparesRow after la.next.ptr (n - 1) (Some at.ptr) ds s → (ps ss : List Ptr) → IsRow cs at.ptr n (ptr_of_some spare) ps ss → SameButLinks cs ds × Chained ds s (onto ps ss)
+    then_all : (ds : List (Cell Links B)) (s : Option Ptr) → 0 < n → SparesRow after la.next.ptr (n - 1) (Some at.ptr) ds s → (ps ss : List Ptr) → IsRow cs at.ptr n (target spare) ps ss → SameButLinks cs ds × Chained ds s (onto ps ss)
     then_all ds s h k [] ss r = let long = r.long in absurd (omega arith)
     then_all ds s h k (p ∷ rs) ss r =
         let on = k rs (at.ptr ∷ ss) (shorter_row p rs ss r.starts r) in
         (same_both cs after ds (same_relinked cs at.ptr spare la ea) on.0, subst (λ q. Chained ds s (onto rs (q ∷ ss))) (sym r.starts) on.1)
 
-    pub row_ends : (ds : List (Cell Links B)) (s : Option Ptr) → 0 < n → SparesRow after la.next.ptr (n - 1) (Some at.ptr) ds s → SparesRow cs at.ptr n (ptr_of_some spare) ds s
+    pub row_ends : (ds : List (Cell Links B)) (s : Option Ptr) → 0 < n → SparesRow after la.next.ptr (n - 1) (Some at.ptr) ds s → SparesRow cs at.ptr n (target spare) ds s
     row_ends ds s h k ps ss r = then_all ds s h k ps ss r
 
   there_first : (cs : List (Cell Links B)) (at : Place) (n : ℕ) (spare : Option Ptr) (ps ss : List Ptr) → 0 < n → IsRow cs at.ptr n spare ps ss → is_there cs at.ptr ≡ true
@@ -191,11 +189,11 @@ module _ {B : Type 0} where
   triples_first (Some t) hs = refl
 
 -- all that a ring holds becomes spare
-module _ {B : Type 0} (cs : List (Cell Links B)) (g : Place) (spare : Option Place) (n m : ℕ) (o : RingOk cs (Some g) spare n m) (lg : Links) (eg : links_at cs g.ptr ≡ Some lg) where
+module _ {B : Type 0} (cs : List (Cell Links B)) (g : Place) (spare : Link) (n m : ℕ) (o : RingOk cs (Some g) spare n m) (lg : Links) (eg : links_at cs g.ptr ≡ Some lg) where
   cut : Linked cs (g.ptr ∷ o.0) × (prev_at cs g.ptr ≡ last_from g.ptr o.0)
   cut = let k = cut_row cs g.ptr o.0 g.ptr [] o.2.linked in (k.0, k.1.1)
 
-  whole_row : IsRow cs lg.next.ptr n (ptr_of_some spare) o.0 o.1
+  whole_row : IsRow cs lg.next.ptr n (target spare) o.0 o.1
   whole_row = record {
     long = o.3;
     linked = linked_tail cs g.ptr o.0 cut.0;
@@ -205,14 +203,14 @@ module _ {B : Type 0} (cs : List (Cell Links B)) (g : Place) (spare : Option Pla
     chained = o.2.chained;
   }
 
-  pub row_of_ring : HasRow cs lg.next.ptr n (ptr_of_some spare)
+  pub row_of_ring : HasRow cs lg.next.ptr n (target spare)
   row_of_ring = (o.0, o.1, whole_row)
 
   ends_of : (rs : List Ptr) → Linked cs (g.ptr ∷ rs) → prev_at cs g.ptr ≡ last_from g.ptr rs → HasEnds rs lg.next.ptr lg.prev.ptr
   ends_of [] k e = tt
   ends_of (r ∷ rs) k e = (sym k.0.0 ∙ ap next_of eg, last_same r rs ∙ sym e ∙ ap prev_of eg)
 
-  module _ (ds es : List (Cell Links B)) (h : Option Place) (s : SparesRow cs lg.next.ptr n (ptr_of_some spare) ds (ptr_of_some h)) where
+  module _ (ds es : List (Cell Links B)) (h : Link) (s : SparesRow cs lg.next.ptr n (target spare) ds (target h)) where
     same : SameButLinks cs ds
     same = (s o.0 o.1 whole_row).0
 
@@ -229,15 +227,20 @@ module _ {B : Type 0} (cs : List (Cell Links B)) (g : Place) (spare : Option Pla
           let on : (qs : List Ptr) → AllByRecursion (λ q. is_there cs q ≡ true) qs → AllByRecursion T qs = all_from (λ q. is_there cs q ≡ true) T (λ q k. j.there q ∙ same.there q ∙ k) in
           (j.there g.ptr ∙ still_there, all_onto T o.0 o.1 (on o.0 (all_left (λ q. is_there cs q ≡ true) o.0 o.1 o.2.there.1)) (on o.1 (all_right (λ q. is_there cs q ≡ true) o.0 o.1 o.2.there.1)))
 
-      empty_ring : IsRing es g.ptr [] (ptr_of_some h) (onto o.0 o.1)
+      now : (q : Ptr) → is_guard cs q ≡ false → is_guard es q ≡ false
+      now q h = j.guard q ∙ same.guard q ∙ h
+
+      empty_ring : IsRing es g.ptr [] (target h) (onto o.0 o.1)
       empty_ring = record {
         linked = (edge_made ds es g.ptr g.ptr j, tt);
-        chained = chain_kept ds es g.ptr g.ptr j (ptr_of_some h) (onto o.0 o.1) (s o.0 o.1 whole_row).1;
+        chained = chain_kept ds es g.ptr g.ptr j (target h) (onto o.0 o.1) (s o.0 o.1 whole_row).1;
         held = tt;
         there = all_there;
         apart = apart_onto g.ptr o.0 o.1 o.2.apart;
         count = let e = length_onto o.0 o.1 in let f = j.count ∙ same.count ∙ o.2.count in omega arith;
         guard = j.guard g.ptr ∙ same.guard g.ptr ∙ o.2.guard;
+        plain = all_onto (λ q. is_guard es q ≡ false) o.0 o.1 (all_from (HasContent cs) (λ q. is_guard es q ≡ false) (λ q k. now q (content_guard q (links_at cs q) (body_at cs q) k.0 k.1)) o.0 o.2.held)
+            (all_from (λ q. is_guard cs q ≡ false) (λ q. is_guard es q ≡ false) now o.1 o.2.plain);
       }
 
       pub spliced_ring : RingOk es (Some g) h 0 (m + n)
@@ -270,11 +273,11 @@ module _ {B : Type 0} (cs : List (Cell Links B)) (g : Place) (spare : Option Pla
       unfolding spliced_row
       spliced_now =
           ap (λ qs. triples (listed es qs)) (span_places es lg.next.ptr lg.prev.ptr n spliced_row) ∙ ap triples (listed_kept ds es g.ptr g.ptr j o.0) ∙ triples_same o.0
-          ∙ ap triples (sym (ring_listed cs g.ptr o.0 (ptr_of_some spare) o.1 n o.2 o.3))
+          ∙ ap triples (sym (ring_listed cs g.ptr o.0 (target spare) o.1 n o.2 o.3))
 
 -- where there is no guard, nothing is held
 module _ {B : Type 0} (cs : List (Cell Links B)) where
-  pub none_spliced : (guard spare : Option Place) (n m : ℕ) (f b : Ptr) → guard ≡ None → RingOk cs guard spare n m → RingOk cs guard spare 0 (m + n) × IsSpan cs f b n × (span_triples cs n f ≡ triples (ring_list cs guard n))
+  pub none_spliced : (guard : Option Place) (spare : Link) (n m : ℕ) (f b : Ptr) → guard ≡ None → RingOk cs guard spare n m → RingOk cs guard spare 0 (m + n) × IsSpan cs f b n × (span_triples cs n f ≡ triples (ring_list cs guard n))
   none_spliced None spare n m f b e ok =
       let none : n ≡ 0 = ok.2 in (
         (ok.0, ok.1, refl, ap (λ k. m + k) none ∙ omega (arith, ok.3)),

@@ -1,22 +1,25 @@
 -- The values that a ring holds are lent, and the ring is one again with others in their place.
 use Rattle.std.proofs.Common.{◌≡◌, ℕ, suc, zero, Bool, true, false, cond, List, [], ◌∷◌, ◌++◌, map, length, Option, Some, None, refl, sym, ap, ◌∙◌, subst, arith}
+use Rattle.std.specs.Prelude.{◌==◌}
 use Rattle.std.specs.List.{AllByRecursion}
 use denote.RawPtr.{Ptr}
 use Rattle.lhm_ring.specs.declared.block.Place.{Place}
 use Rattle.lhm_ring.specs.declared.links.Links.{Links}
 use Rattle.lhm_ring.specs.Cells.{Cell, cell, cell_at, same_ptr, IsApart, places, links_of, body_of, links_at, body_at}
 use Rattle.lhm_ring.specs.ValueLoan.{value_at}
-use Rattle.lhm_ring.specs.Rings.{ptr_of_some, one_of, next_of, prev_of, link_of, guard_of, has_links, link_at, is_there, content_of, content_at, Linked, Chained, HasContent, IsRing, follow, listed, ring_list, ring_places, RingOk}
+use Rattle.lhm_ring.specs.Rings.{one_of, next_of, prev_of, link_of, guard_of, has_links, link_at, is_there, content_of, content_at, Linked, Chained, HasContent, IsRing, follow, listed, ring_list, ring_places, RingOk, is_guard}
 use Rattle.lhm_ring.specs.RingState.{State, state, Held, held}
 use Rattle.lhm_ring.specs.RingAfterLoan.{pair, revalued}
 use Rattle.lhm_ring.specs.Walks.{IsBetween, AreLent}
+use Rattle.lhm_ring.specs.Targets.{target}
+use Rattle.lhm_ring.specs.declared.link.Link.{Link}
 use Rattle.lhm_ring.proofs.Apart.{IsFresh, same_ptr_eq, same_ptr_refl, apart_none}
 use Rattle.lhm_ring.proofs.Options.{none_some, some_same}
 use Rattle.lhm_ring.proofs.Rows.{all_from, content_place, follow_row, apart_left, apart_head, apart_tail, apart_cons}
 use Rattle.lhm_ring.proofs.OneNodeChanged.{content_holds, content_pair, content_guard}
 
 module _ {B : Type 0} where
-  pub whole_ring : (cs : List (Cell Links B)) (guard spare : Option Place) (g : Place) (n m : ℕ) → guard ≡ Some g → RingOk cs guard spare n m → IsBetween cs g.ptr g.ptr n
+  pub whole_ring : (cs : List (Cell Links B)) (guard : Option Place) (spare : Link) (g : Place) (n m : ℕ) → guard ≡ Some g → RingOk cs guard spare n m → IsBetween cs g.ptr g.ptr n
   whole_ring cs guard spare g n m e ok =
       let o : RingOk cs (Some g) spare n m = subst (λ z. RingOk cs z spare n m) e ok in
       (o.0, o.3, o.2.held, apart_left o.0 o.1 (apart_tail g.ptr (o.0 ++ o.1) o.2.apart), λ z. (o.2.linked, o.2.there.0, o.2.there.0))
@@ -155,7 +158,7 @@ module _ {K V : Type 0} where
   one_written hs p None b r s e = e
   one_written hs p (Some l) None r s e = e
   one_written hs p (Some l) (Some x) r s e =
-      elim l.guard as (λ y. one_of (cond y None (Some (held p l.number (link_of (Some l)) (pair x.0 (value_in hs p x.1))))) ++ r ≡ revalued_by hs (one_of (cond y None (Some (held p l.number (link_of (Some l)) x))) ++ s)) [
+      elim (l.guard == 1) as (λ y. one_of (cond y None (Some (held p l.number (link_of (Some l)) (pair x.0 (value_in hs p x.1))))) ++ r ≡ revalued_by hs (one_of (cond y None (Some (held p l.number (link_of (Some l)) x))) ++ s)) [
         | true ↦ e
         | false ↦ ap (λ us. held p l.number (link_of (Some l)) (pair x.0 (value_in hs p x.1)) ∷ us) e
       ]
@@ -193,6 +196,7 @@ module _ {K V : Type 0} where
       apart = r.apart;
       count = length_written keep hs cs ∙ r.count;
       guard = ap guard_of (same g) ∙ r.guard;
+      plain = all_from (λ q. is_guard cs q ≡ false) (λ q. is_guard ds q ≡ false) (λ q h. ap guard_of (same q) ∙ h) ss r.plain;
     }
 
     follow_same : (n : ℕ) (q : Ptr) → follow ds n q ≡ follow cs n q
@@ -210,9 +214,9 @@ module _ {K V : Type 0} where
         ap (λ o. one_of o ++ listed ds ps) (content_is p ∙ ap (λ k. content_of p (links_at cs p) (written_body k hs p (body_at cs p))) a.0)
         ∙ one_written hs p (links_at cs p) (body_at cs p) (listed ds ps) (listed cs ps) (listed_written ps a.1)
 
-    ring_ok_written : (guard spare : Option Place) (n m : ℕ) → RingOk cs guard spare n m → RingOk ds guard spare n m
+    ring_ok_written : (guard : Option Place) (spare : Link) (n m : ℕ) → RingOk cs guard spare n m → RingOk ds guard spare n m
     ring_ok_written None spare n m ok = (ap (written keep hs) ok.0, ok.1, ok.2, ok.3)
-    ring_ok_written (Some g) spare n m ok = (ok.0, ok.1, ring_same g.ptr ok.0 (ptr_of_some spare) ok.1 ok.2, ok.3, ok.4, ok.5)
+    ring_ok_written (Some g) spare n m ok = (ok.0, ok.1, ring_same g.ptr ok.0 (target spare) ok.1 ok.2, ok.3, ok.4, ok.5)
 
     ring_list_by : (guard : Option Place) (n : ℕ) → AllByRecursion (λ p. keep p ≡ true) (ring_places cs guard n) → ring_list ds guard n ≡ revalued_by hs (ring_list cs guard n)
     ring_list_by None n a = refl
@@ -226,7 +230,7 @@ module _ {K V : Type 0} where
   abbrev pub held_written : List (Cell Links (K × V)) → Option Place → ℕ → List (Held (K × V)) → List (Cell Links (K × V))
   held_written cs guard n hs = written (among (ring_places cs guard n)) hs cs
 
-  module _ (cs : List (Cell Links (K × V))) (guard spare : Option Place) (n m : ℕ) (hs : List (Held (K × V))) where
+  module _ (cs : List (Cell Links (K × V))) (guard : Option Place) (spare : Link) (n m : ℕ) (hs : List (Held (K × V))) where
     abbrev keeps : Ptr → Bool
     keeps = among (ring_places cs guard n)
 
@@ -280,7 +284,7 @@ module _ {K V : Type 0} where
   places_listed cs [] a = refl
   places_listed cs (p ∷ ps) a = ap (λ o. map (λ (t : Held (K × V)). t.at) (one_of o ++ listed cs ps)) a.0.1 ∙ (λ i. content_place p (links_at cs p) (body_at cs p) a.0.0 a.0.1 i ∷ places_listed cs ps a.1 i)
 
-  pub all_lent : (cs : List (Cell Links (K × V))) (guard spare : Option Place) (n m : ℕ) → RingOk cs guard spare n m → AreLent (run_of (held_entries cs guard n)) (ring_list cs guard n)
+  pub all_lent : (cs : List (Cell Links (K × V))) (guard : Option Place) (spare : Link) (n m : ℕ) → RingOk cs guard spare n m → AreLent (run_of (held_entries cs guard n)) (ring_list cs guard n)
   all_lent cs None spare n m ok = (tt, apart_none)
   all_lent cs (Some g) spare n m ok =
       let is : ok.0 ≡ follow cs n g.ptr = sym (ap (λ k. follow cs k g.ptr) (sym ok.3) ∙ follow_row cs g.ptr ok.0 g.ptr ok.2.linked) in
@@ -289,11 +293,11 @@ module _ {K V : Type 0} where
         subst IsApart (sym (places_listed cs (follow cs n g.ptr) has)) (subst IsApart is (apart_left ok.0 ok.1 (apart_tail g.ptr (ok.0 ++ ok.1) ok.2.apart))),
       )
 
-  pub held_places : (cs : List (Cell Links (K × V))) (guard spare : Option Place) (n m : ℕ) → RingOk cs guard spare n m → map (λ (t : Held (K × V)). t.at) (ring_list cs guard n) ≡ ring_places cs guard n
+  pub held_places : (cs : List (Cell Links (K × V))) (guard : Option Place) (spare : Link) (n m : ℕ) → RingOk cs guard spare n m → map (λ (t : Held (K × V)). t.at) (ring_list cs guard n) ≡ ring_places cs guard n
   held_places cs None spare n m ok = refl
   held_places cs (Some g) spare n m ok =
       let is : ok.0 ≡ follow cs n g.ptr = sym (ap (λ k. follow cs k g.ptr) (sym ok.3) ∙ follow_row cs g.ptr ok.0 g.ptr ok.2.linked) in
       places_listed cs (follow cs n g.ptr) (subst (AllByRecursion (HasContent cs)) is ok.2.held)
 
-  pub ring_apart : (cs : List (Cell Links (K × V))) (guard spare : Option Place) (n m : ℕ) (v : State (K × V)) → RingOk cs guard spare n m → state (ring_list cs guard n) m ≡ v → IsApart (map (λ (t : Held (K × V)). t.at) v.held)
+  pub ring_apart : (cs : List (Cell Links (K × V))) (guard : Option Place) (spare : Link) (n m : ℕ) (v : State (K × V)) → RingOk cs guard spare n m → state (ring_list cs guard n) m ≡ v → IsApart (map (λ (t : Held (K × V)). t.at) v.held)
   ring_apart cs guard spare n m v ok w = subst (λ (s : State (K × V)). IsApart (map (λ t. t.at) s.held)) w (all_lent cs guard spare n m ok).1

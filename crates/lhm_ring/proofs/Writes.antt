@@ -1,5 +1,6 @@
 -- What a write of links changes, and what it leaves.
 use Rattle.std.proofs.Common.{◌≡◌, suc, Bool, true, false, cond, List, [], ◌∷◌, length, Option, Some, None, refl, sym, ap, ◌∙◌, subst}
+use Rattle.std.specs.Prelude.{◌==◌}
 use denote.RawPtr.{Ptr}
 use Rattle.lhm_ring.specs.declared.block.Place.{Place}
 use Rattle.lhm_ring.specs.declared.links.Links.{Links}
@@ -23,7 +24,7 @@ ShowsSame l la = (l.number ≡ la.number) × (l.guard ≡ la.guard) × (link_of 
 
 pub shown_same : {B : Type 0} (q : Ptr) (l la : Links) → ShowsSame l la → (b : Option B) → content_of q (Some l) b ≡ content_of q (Some la) b
 shown_same q l la h None = refl
-shown_same q l la h (Some x) = λ i. cond (h.1 i) None (Some (record { at = q; number = h.0 i; link = h.2 i; pair = x }))
+shown_same q l la h (Some x) = λ i. cond (h.1 i == 1) None (Some (record { at = q; number = h.0 i; link = h.2 i; pair = x }))
 
 true_false : {X : Type 0} (y : Bool) → y ≡ true → y ≡ false → X
 true_false true e f = absurd cc

@@ -2,7 +2,6 @@ pub mod Buckets
 pub mod Cells
 pub mod ContentLoan
 pub mod Drains
-pub mod Heads
 pub mod Index
 pub mod IndexedRing
 pub mod LentRings
@@ -15,5 +14,6 @@ pub mod Rings
 pub mod Search
 pub mod Splices
 pub mod Stacks
+pub mod Targets
 pub mod ValueLoan
 pub mod Walks

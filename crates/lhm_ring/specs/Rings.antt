@@ -1,25 +1,21 @@
 -- A ring of nodes: how the links lead, and when the fields of a `Ring` are right.
-use Rattle.std.specs.Prelude.{◌≡◌, ℕ, suc, zero, ◌+◌, ◌≤◌, ◌^◌, Bool, true, false, cond, List, [], ◌∷◌, ◌++◌, length, Option, Some, None}
+use Rattle.std.specs.Prelude.{◌≡◌, ℕ, suc, zero, ◌+◌, ◌≤◌, ◌^◌, ◌==◌, Bool, true, false, cond, List, [], ◌∷◌, ◌++◌, length, Option, Some, None}
 use Rattle.std.specs.List.{AllByRecursion}
 use denote.RawPtr.{Ptr, null_ptr}
-use Rattle.lhm_ring.specs.Cells.{Cell, same_ptr, links_at, body_at, IsApart}
+use Rattle.lhm_ring.specs.Cells.{Cell, same_ptr, links_at, body_at, with_links, IsApart}
 use Rattle.lhm_ring.specs.RingState.{Held, triples}
 use Rattle.lhm_ring.specs.declared.block.Place.{Place}
+use Rattle.lhm_ring.specs.declared.link.Link.{Link}
 use Rattle.lhm_ring.specs.declared.links.Links.{Links}
+use Rattle.lhm_ring.specs.Targets.{target}
 
--- where a place is, if it is one
-abbrev pub ptr_of_some : Option Place → Option Ptr
-ptr_of_some None = None
-ptr_of_some (Some q) = Some q.ptr
-
--- the links, of which the further one leads to o
-abbrev pub relinked : Option Place → Links → Links
-relinked None l = record l { linked = false }
-relinked (Some q) l = record l { link = q; linked = true }
+-- the links, of which the further one is o
+abbrev pub relinked : Link → Links → Links
+relinked o l = record l { link = o }
 
 -- the links of a spare node, which no one reads but for the further one
-abbrev pub links : Place → Option Place → Links
-links g o = relinked o (record { prev = g; next = g; link = g; number = 0; linked = false; guard = false })
+abbrev pub links : Place → Link → Links
+links g o = record { prev = g; next = g; link = o; number = 0; guard = 0 }
 
 -- what links say of their node: where it leads, and whether it is there at all
 abbrev pub next_of : Option Links → Ptr
@@ -32,11 +28,11 @@ prev_of (Some l) = l.prev.ptr
 
 abbrev pub link_of : Option Links → Option Ptr
 link_of None = None
-link_of (Some l) = cond l.linked (Some l.link.ptr) None
+link_of (Some l) = target l.link
 
 abbrev pub guard_of : Option Links → Bool
 guard_of None = false
-guard_of (Some l) = l.guard
+guard_of (Some l) = l.guard == 1
 
 abbrev pub has_links : Option Links → Bool
 has_links None = false
@@ -63,10 +59,14 @@ module _ {B : Type 0} where
   abbrev pub content_of : Ptr → Option Links → Option B → Option (Held B)
   content_of p None b = None
   content_of p (Some l) None = None
-  content_of p (Some l) (Some b) = cond l.guard None (Some (record { at = p; number = l.number; link = link_of (Some l); pair = b }))
+  content_of p (Some l) (Some b) = cond (l.guard == 1) None (Some (record { at = p; number = l.number; link = link_of (Some l); pair = b }))
 
   abbrev pub content_at : List (Cell Links B) → Ptr → Option (Held B)
   content_at cs p = content_of p (links_at cs p) (body_at cs p)
+
+  -- in ds the further link of the node at p is o, and all else stands
+  abbrev pub Relinks : List (Cell Links B) → Ptr → Link → List (Cell Links B) → Type 0
+  Relinks cs p o ds = (l : Links) → links_at cs p ≡ Some l → ds ≡ with_links p (relinked o l) cs
 
   -- b comes right after a
   abbrev pub Edge : List (Cell Links B) → Ptr → Ptr → Type 0
@@ -95,6 +95,7 @@ module _ {B : Type 0} where
     pub apart : IsApart (g ∷ (ps ++ ss))
     pub count : length cs ≡ suc (length ps + length ss)
     pub guard : is_guard cs g ≡ true
+    pub plain : AllByRecursion (λ p. is_guard cs p ≡ false) ss
 
   -- the n places after p
   unfoldable pub follow : List (Cell Links B) → ℕ → Ptr → List Ptr
@@ -145,9 +146,9 @@ module _ {B : Type 0} where
   ring_list cs (Some g) n = listed cs (follow cs n g.ptr)
 
   -- the nodes are a ring of n held and m spare ones, or there is no node and no guard
-  abbrev pub RingOk : List (Cell Links B) → Option Place → Option Place → ℕ → ℕ → Type 0
-  RingOk cs None spare n m = (cs ≡ []) × (spare ≡ None) × (n ≡ 0) × (m ≡ 0)
-  RingOk cs (Some g) spare n m = (ps : List Ptr) × (ss : List Ptr) × IsRing cs g.ptr ps (ptr_of_some spare) ss × (length ps ≡ n) × (length ss ≡ m) × (n + m ≤ 2 ^ 57)
+  abbrev pub RingOk : List (Cell Links B) → Option Place → Link → ℕ → ℕ → Type 0
+  RingOk cs None spare n m = (cs ≡ []) × (target spare ≡ None) × (n ≡ 0) × (m ≡ 0)
+  RingOk cs (Some g) spare n m = (ps : List Ptr) × (ss : List Ptr) × IsRing cs g.ptr ps (target spare) ss × (length ps ≡ n) × (length ss ≡ m) × (n + m ≤ 2 ^ 57)
 
   -- the places of what a ring holds
   abbrev pub ring_places : List (Cell Links B) → Option Place → ℕ → List Ptr

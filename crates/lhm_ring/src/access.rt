@@ -4,8 +4,9 @@ ghost use Rattle.lhm_ring.specs.Cells.{IsApart, AreBlocks};
 ghost use Rattle.std.specs.Borrow.{sem};
 ghost use Rattle.lhm_ring.specs.RingState.{IsHeld, AtHeld, ChangesOnly, linked_to, first_at, last_at};
 
-use crate::position::{Position, place_at, position_at};
-use crate::ring::Ring;
+use crate::link::Link;
+use crate::position::Position;
+use crate::ring::{Ring, relink};
 
 impl<K, V> Ring<K, V> {
     ghost use Rattle.lhm_ring.specs.Positions.{place_of, place_of_some};
@@ -74,7 +75,7 @@ impl<K, V> Ring<K, V> {
         ensures apart { IsApart (map (λ t. t.at) self.now.held) }
     {
         let next = self.nodes.links(at.place).next;
-        if self.nodes.links(next).guard {
+        if self.nodes.links(next).guard == 1 {
             return None;
         }
         Some(Position::new(next))
@@ -86,7 +87,7 @@ impl<K, V> Ring<K, V> {
         ensures { AtHeld self.now.held (place_of at) (λ xs t ys. place_of_some result ≡ last_at xs) }
     {
         let previous = self.nodes.links(at.place).prev;
-        if self.nodes.links(previous).guard {
+        if self.nodes.links(previous).guard == 1 {
             return None;
         }
         Some(Position::new(previous))
@@ -98,7 +99,7 @@ impl<K, V> Ring<K, V> {
         ensures link { AtHeld self.now.held (place_of at) (λ xs t ys. place_of_some result ≡ t.link) }
         ensures blocks { AreBlocks (map (λ t. t.at) self.now.held) }
     {
-        position_at(self.nodes.links(at.place).link())
+        self.nodes.links(at.place).link.get()
     }
 
     /// Lets the link at a position lead to `link`, which the ring never follows. All else stays as it is.
@@ -108,8 +109,6 @@ impl<K, V> Ring<K, V> {
         ensures spares { self.new.spares ≡ self.old.spares }
         ensures blocks { AreBlocks (map (λ t. t.at) self.old.held) }
     {
-        let place = place_at(link);
-        let links = *self.nodes.links(at.place);
-        self.nodes.set_links(at.place, links.with_link(place));
+        relink(&mut self.nodes, at.place, Link::of(link));
     }
 }

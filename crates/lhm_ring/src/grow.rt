@@ -1,11 +1,12 @@
 //! Nodes are made, all or none, and spare ones are freed.
-ghost use Rattle.std.specs.Prelude.{◌≡◌, ◌+◌, ◌-◌, ◌<◌, [], ◌∷◌, None, OnOk, OnErr, MatchResult};
+ghost use Rattle.std.specs.Prelude.{◌≡◌, ◌+◌, ◌-◌, ◌<◌, [], ◌∷◌, None, Some, IfSome, OnOk, OnErr, MatchResult};
 ghost use Rattle.std.specs.Option.{IsSome};
 ghost use Rattle.lhm_ring.specs.Cells.{cell};
 ghost use Rattle.lhm_ring.specs.Rings.{IsRing, links};
 ghost use Rattle.lhm_ring.specs.Stacks.{IsStacked, HasStack, Unstacks, HasGuard};
 
 use crate::block::{Place, allocate, deallocate};
+use crate::link::Link;
 use crate::links::Links;
 use crate::nodes::Nodes;
 use crate::ring::{Ring, join, nowhere};
@@ -23,10 +24,9 @@ fn make_guard<K, V>(nodes: &mut Nodes<Links, K, V>, alloc: &Global) -> Result<Pl
     let links = Links {
         prev: nowhere(),
         next: nowhere(),
-        link: nowhere(),
+        link: Link::none(),
         number: 0,
-        linked: false,
-        guard: true,
+        guard: 1,
     };
     let at = nodes.add(room, links);
     join(nodes, at, at);
@@ -38,7 +38,7 @@ fn make_spare<K, V>(
     nodes: &mut Nodes<Links, K, V>,
     alloc: &Global,
     guard: Place,
-    spare: Option<Place>,
+    spare: Link,
 ) -> Result<Place, AllocError>
     ensures { MatchResult result (λ p. nodes.new.cells ≡ cell p.ptr (links guard spare) None ∷ nodes.old.cells) (λ _. nodes.new.cells ≡ nodes.old.cells) }
 {
@@ -46,12 +46,11 @@ fn make_spare<K, V>(
     let links = Links {
         prev: guard,
         next: guard,
-        link: guard,
+        link: spare,
         number: 0,
-        linked: false,
-        guard: false,
+        guard: 0,
     };
-    Ok(nodes.add(room, links.with_link(spare)))
+    Ok(nodes.add(room, links))
 }
 
 /// The guard, which is made where there is none yet.
@@ -66,6 +65,17 @@ fn guard_or_new<K, V>(
     match guard {
         Some(guard) => Ok(guard),
         None => make_guard(nodes, alloc),
+    }
+}
+
+/// Notes the guard where there was none before. Else nothing is written.
+fn note_guard(slot: &mut Option<Place>, guard: Place)
+    requires { IfSome slot.old (λ g. g ≡ guard) }
+    ensures { slot.new ≡ Some guard }
+{
+    match *slot {
+        Some(_) => (),
+        None => *slot = Some(guard),
     }
 }
 
@@ -90,20 +100,15 @@ fn undo_guard<K, V>(
 }
 
 /// Frees the `count` nodes from `first` on, each of which leads to the next by its further link.
-fn free_stacked<K, V>(
-    nodes: &mut Nodes<Links, K, V>,
-    alloc: &Global,
-    first: Option<Place>,
-    count: usize,
-)
+fn free_stacked<K, V>(nodes: &mut Nodes<Links, K, V>, alloc: &Global, first: Link, count: usize)
     requires { HasStack count nodes.old.cells first }
     ensures { Unstacks count nodes.old.cells first nodes.new.cells }
 {
     let mut first = first;
     let mut left = count;
     'each: while 0 < left {
-        let at = first.unwrap();
-        let next = nodes.links(at).link();
+        let at = first.place();
+        let next = nodes.links(at).link;
         let room = nodes.remove(at);
         deallocate(alloc, room);
         first = next;
@@ -117,9 +122,9 @@ fn make_spares<K, V>(
     nodes: &mut Nodes<Links, K, V>,
     alloc: &Global,
     guard: Place,
-    spare: Option<Place>,
+    spare: Link,
     count: usize,
-) -> Result<Option<Place>, AllocError>
+) -> Result<Link, AllocError>
     ensures { MatchResult result (λ first. IsStacked nodes.old.cells guard spare count nodes.new.cells first) (λ _. nodes.new.cells ≡ nodes.old.cells) }
 {
     let mut first = spare;
@@ -127,7 +132,7 @@ fn make_spares<K, V>(
     'more: while made < count {
         match make_spare(nodes, alloc, guard, first) {
             Ok(at) => {
-                first = Some(at);
+                first = Link::to(at);
                 made += 1;
             }
             Err(refused) => {
@@ -157,21 +162,21 @@ impl<K, V> Ring<K, V> {
             undo_guard(&mut self.nodes, &self.alloc, self.guard, guard);
             return Err(AllocError);
         };
-        self.guard = Some(guard);
+        note_guard(&mut self.guard, guard);
         self.spare = spare;
         self.spares += count;
         Ok(())
     }
 
     /// Frees the first spare node.
-    fn drop_spare(&mut self)
+    pub(crate) fn drop_spare(&mut self)
         requires { 0 < self.old.spares }
         ensures held { self.new.held ≡ self.old.held }
         ensures spares { self.new.spares ≡ self.old.spares - 1 }
     {
         let _guard = self.guard.unwrap();
-        let at = self.spare.unwrap();
-        let next_spare = self.nodes.links(at).link();
+        let at = self.spare.place();
+        let next_spare = self.nodes.links(at).link;
         let room = self.nodes.remove(at);
         deallocate(&self.alloc, room);
         self.spare = next_spare;

@@ -5,12 +5,12 @@ ghost use Rattle.std.specs.Prelude.{◌≡◌, ◌+◌, ◌%◌, ◌<◌, ◌≤
 ghost use Rattle.std.specs.Int.{IsNextPowerOfTwo};
 ghost use Rattle.lhm_ring.specs.RingState.{IsHeld};
 ghost use Rattle.lhm_ring.specs.Positions.{place_of, place_of_some};
-ghost use Rattle.lhm_ring.specs.Heads.{head_of};
+ghost use Rattle.lhm_ring.specs.Targets.{target};
 ghost use Rattle.lhm_ring.specs.Index.{spot, spots, Indexes, same};
 ghost use Rattle.lhm_ring.specs.Search.{OfNodeAt, entries, Compares, FindsKey, FindsNone, HasKey, IsAbsent, CountsSome, CountsAll, HoldsOthers, IsOnChain, Chains, HasNoChain};
 ghost use Rattle.lhm_ring.specs.Buckets.{buckets, rechained_raised, rechained_lowered, IsBucketCount};
 
-use crate::head::Head;
+use crate::link::Link;
 use crate::position::Position;
 use crate::ring::Ring;
 use std::alloc::{AllocError, Global};
@@ -30,19 +30,19 @@ pub struct Probe {
 /// It does not hold the ring: each call is handed it. The bucket of a number is the number modulo the number of buckets,
 /// which is 0 or a power of two. A look-up costs a step for each node of the chain that it reaches.
 pub struct Index<K, V> {
-    heads: Vec<Head>,
+    heads: Vec<Link>,
     mark: PhantomData<*mut (K, V)>,
 }
 
 impl<K, V> Model for Index<K, V> {
     ghost use Rattle.std.specs.Prelude.{List, Option, map, length};
-    ghost use Rattle.lhm_ring.specs.Heads.{head_of};
+    ghost use Rattle.lhm_ring.specs.Targets.{target};
     ghost use Rattle.lhm_ring.specs.Buckets.{IsBucketCount};
     ghost use denote.RawPtr.{Ptr};
 
     ghost Value = { List (Option Ptr) };
 
-    ghost view = { λ i. map head_of i.heads.items };
+    ghost view = { λ i. map target i.heads.items };
 
     ghost invariant = { λ i. IsBucketCount (length i.heads.items) };
 }
@@ -113,6 +113,13 @@ impl<K, V> Index<K, V> {
         })
     }
 
+    /// Returns the number of buckets. It takes no memory.
+    pub fn buckets(&self) -> usize
+        ensures { result ≡ length self.now }
+    {
+        self.heads.len()
+    }
+
     /// Returns the head of the chain of a number.
     fn head(&self, number: u64) -> Option<Position<K, V>>
         ensures { place_of_some result ≡ slice_index_or self.now (number % length self.now) None }
@@ -151,7 +158,7 @@ impl<K, V> Index<K, V> {
             Some(before) => ring.set_link(before, link),
             None => {
                 let bucket = masked(number, self.heads.len());
-                self.heads[bucket] = Head::of(link);
+                self.heads[bucket] = Link::of(link);
             }
         }
     }
@@ -353,26 +360,26 @@ pub fn lowered(len: usize, capacity: usize) -> usize
 }
 
 /// Puts a node at the head of the chain of its number.
-fn chain_one<K, V>(heads: &mut Vec<Head>, ring: &mut Ring<K, V>, at: Position<K, V>)
+fn chain_one<K, V>(heads: &mut Vec<Link>, ring: &mut Ring<K, V>, at: Position<K, V>)
     requires some { 0 < vec_len heads.old }
     requires power { IsBucketCount (vec_len heads.old) }
     requires held { IsHeld ring.old.held (place_of at) }
-    ensures chained { Chains (place_of at) (map head_of heads.old.items) (map head_of heads.new.items) ring.old.held ring.new.held }
+    ensures chained { Chains (place_of at) (map target heads.old.items) (map target heads.new.items) ring.old.held ring.new.held }
     ensures spares { ring.new.spares ≡ ring.old.spares }
     ensures buckets { vec_len heads.new ≡ vec_len heads.old }
 {
     let bucket = masked(ring.number(at), heads.len());
     ring.set_link(at, heads[bucket].get());
-    heads[bucket] = Head::of(Some(at));
+    heads[bucket] = Link::of(Some(at));
 }
 
 /// Chains all held nodes into empty buckets, and counts them.
-fn chain_all<K, V>(heads: &mut Vec<Head>, ring: &mut Ring<K, V>) -> usize
-    requires empty { HasNoChain (map head_of heads.old.items) }
+fn chain_all<K, V>(heads: &mut Vec<Link>, ring: &mut Ring<K, V>) -> usize
+    requires empty { HasNoChain (map target heads.old.items) }
     requires power { IsBucketCount (vec_len heads.old) }
     requires some { vec_len heads.old ≡ 0 → ring.old.held ≡ [] }
     requires small { length ring.old.held < 2 ^ 64 }
-    ensures indexed { Indexes (map head_of heads.new.items) (spots ring.new.held) }
+    ensures indexed { Indexes (map target heads.new.items) (spots ring.new.held) }
     ensures count { result ≡ length ring.old.held }
     ensures held { entries ring.new.held ≡ entries ring.old.held }
     ensures spares { ring.new.spares ≡ ring.old.spares }
@@ -389,26 +396,26 @@ fn chain_all<K, V>(heads: &mut Vec<Head>, ring: &mut Ring<K, V>) -> usize
 }
 
 /// Makes `count` empty buckets.
-fn empty_heads(alloc: Global, count: usize) -> Result<Vec<Head>, AllocError>
-    ensures empty { IfOk result (λ v. HasNoChain (map head_of v.items)) }
+fn empty_heads(alloc: Global, count: usize) -> Result<Vec<Link>, AllocError>
+    ensures empty { IfOk result (λ v. HasNoChain (map target v.items)) }
     ensures len { IfOk result (λ v. vec_len v ≡ count) }
     ensures succeeds { count ≡ 0 → IsOk result }
 {
     let mut heads = Vec::with_capacity(alloc, count)?;
     'heads: while heads.len() < count {
-        heads.push_reserved(Head::none());
+        heads.push_reserved(Link::none());
     }
     Ok(heads)
 }
 
 /// Empties every bucket.
-fn clear_heads(heads: &mut Vec<Head>)
-    ensures empty { HasNoChain (map head_of heads.new.items) }
+fn clear_heads(heads: &mut Vec<Link>)
+    ensures empty { HasNoChain (map target heads.new.items) }
     ensures buckets { vec_len heads.new ≡ vec_len heads.old }
 {
     let mut next = 0;
     'heads: while next < heads.len() {
-        heads[next] = Head::none();
+        heads[next] = Link::none();
         next += 1;
     }
 }

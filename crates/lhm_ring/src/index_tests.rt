@@ -1,8 +1,8 @@
 ghost use Rattle.std.specs.Prelude.{◌≡◌, ◌+◌, ◌<◌, length, IfNone, OnOk, OnErr};
 ghost use Rattle.lhm_ring.specs.Search.{IsAbsent};
 
-use crate::head::Head;
 use crate::index::{Index, Probe, buckets_for};
+use crate::link::Link;
 use crate::ring::Ring;
 use std::alloc::{AllocError, Global};
 use std::marker::Model;
@@ -155,6 +155,6 @@ fn takes_from_anywhere_on_a_chain(rt: HostRuntime) -> Result<(), Fail> {
 
 #[test]
 fn takes_8_bytes_a_bucket(rt: HostRuntime) -> Result<(), Fail> {
-    assert_eq!(rt; size_of::<Head>(), 8);
+    assert_eq!(rt; size_of::<Link>(), 8);
     Ok(())
 }

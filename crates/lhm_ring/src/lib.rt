@@ -6,11 +6,11 @@ pub(crate) mod block;
 pub(crate) mod content_loan;
 pub(crate) mod drain;
 pub(crate) mod grow;
-pub(crate) mod head;
 pub mod index;
 #[cfg(test)]
 mod index_tests;
 pub(crate) mod iter;
+pub(crate) mod link;
 pub(crate) mod links;
 pub(crate) mod nodes;
 pub(crate) mod order;

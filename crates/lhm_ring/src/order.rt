@@ -3,9 +3,10 @@ ghost use Rattle.std.specs.Prelude.{◌≡◌, ◌+◌, ◌-◌, ◌<◌, [], �
 ghost use Rattle.lhm_ring.specs.Cells.{IsApart};
 ghost use Rattle.lhm_ring.specs.RingState.{held, IsHeld, AtHeld};
 
+use crate::link::Link;
 use crate::links::Links;
 use crate::position::Position;
-use crate::ring::{Ring, join};
+use crate::ring::{Ring, join, relink};
 
 impl<K, V> Ring<K, V> {
     ghost use Rattle.lhm_ring.specs.Positions.{place_of};
@@ -38,22 +39,20 @@ impl<K, V> Ring<K, V> {
         ensures spares { self.new.spares ≡ self.old.spares - 1 }
     {
         let guard = self.guard.unwrap();
-        let at = self.spare.unwrap();
-        let next_spare = self.nodes.links(at).link();
+        let at = self.spare.place();
+        let old = *self.nodes.links(at);
         let previous = self.nodes.links(guard).prev;
+        // A spare node is no guard, and its other two links are written where it is joined.
         let fresh = Links {
-            prev: previous,
-            next: guard,
-            link: at,
+            link: Link::none(),
             number,
-            linked: false,
-            guard: false,
+            ..old
         };
         self.nodes.set_links(at, fresh);
         self.nodes.fill(at, key, value);
         join(&mut self.nodes, previous, at);
         join(&mut self.nodes, at, guard);
-        self.spare = next_spare;
+        self.spare = old.link;
         self.spares -= 1;
         self.len += 1;
         Position::new(at)
@@ -73,8 +72,8 @@ impl<K, V> Ring<K, V> {
         let old = *self.nodes.links(at);
         join(&mut self.nodes, old.prev, old.next);
         let (key, value) = self.nodes.take(at);
-        self.nodes.set_links(at, old.with_link(self.spare));
-        self.spare = Some(at);
+        relink(&mut self.nodes, at, self.spare);
+        self.spare = Link::to(at);
         self.len -= 1;
         self.spares += 1;
         (old.number, key, value)

@@ -1,7 +1,7 @@
 //! Where a triple of a ring is, for callers.
-ghost use Rattle.std.specs.Prelude.{◌≡◌, ⊤};
-ghost use Rattle.lhm_ring.specs.Positions.{place_of_some};
-ghost use Rattle.lhm_ring.specs.Rings.{ptr_of_some};
+ghost use Rattle.std.specs.Prelude.{◌≡◌, ⊤, true};
+ghost use mathlib.Core.Bool.{Bool-set};
+ghost use Rattle.lhm_ring.specs.Cells.{is_block};
 
 use crate::block::Place;
 use std::alloc::AllocError;
@@ -14,36 +14,18 @@ use std::marker::PhantomData;
 pub struct Position<K, V> {
     pub(crate) place: Place,
     mark: PhantomData<(K, V)>,
+    ghost block: { is_block place.ptr ≡ true } by { Bool-set _ _ },
 }
 
 impl<K, V> Position<K, V> {
     pub(crate) fn new(place: Place) -> Position<K, V>
+        requires { is_block place.ptr ≡ true }
         ensures { result.place ≡ place }
     {
         Position {
             place,
             mark: PhantomData,
         }
-    }
-}
-
-/// The position at a place, if there is one.
-pub(crate) fn position_at<K, V>(place: Option<Place>) -> Option<Position<K, V>>
-    ensures { place_of_some result ≡ ptr_of_some place }
-{
-    match place {
-        Some(place) => Some(Position::new(place)),
-        None => None,
-    }
-}
-
-/// The place of a position, if there is one.
-pub(crate) fn place_at<K, V>(position: Option<Position<K, V>>) -> Option<Place>
-    ensures { ptr_of_some result ≡ place_of_some position }
-{
-    match position {
-        Some(position) => Some(position.place),
-        None => None,
     }
 }
 

@@ -1,11 +1,12 @@
 //! The ring: a guard, the held nodes in order, and the spare ones.
 ghost use Rattle.std.specs.Prelude.{◌≡◌, ◌+◌, ◌≤◌, ◌^◌, [], true, length, map};
-ghost use Rattle.lhm_ring.specs.Cells.{IsApart};
-ghost use Rattle.lhm_ring.specs.Rings.{IsJoined, is_there};
+ghost use Rattle.lhm_ring.specs.Cells.{IsApart, IsAt};
+ghost use Rattle.lhm_ring.specs.Rings.{IsJoined, Relinks, is_there};
 
 use crate::block::{Place, deallocate};
 pub use crate::drain::Drain;
 pub use crate::iter::{Iter, IterMut};
+use crate::link::Link;
 use crate::links::Links;
 use crate::nodes::Nodes;
 pub use crate::position::Position;
@@ -23,7 +24,7 @@ pub struct Ring<K, V> {
     pub(crate) nodes: Nodes<Links, K, V>,
     pub(crate) alloc: Global,
     pub(crate) guard: Option<Place>,
-    pub(crate) spare: Option<Place>,
+    pub(crate) spare: Link,
     pub(crate) len: usize,
     pub(crate) spares: usize,
 }
@@ -51,7 +52,7 @@ impl<K, V> Ring<K, V> {
             nodes: Nodes::new(),
             alloc,
             guard: None,
-            spare: None,
+            spare: Link::none(),
             len: 0,
             spares: 0,
         }
@@ -115,6 +116,16 @@ pub(crate) fn join<K, V>(nodes: &mut Nodes<Links, K, V>, a: Place, b: Place)
     nodes.set_links(b, links);
 }
 
+/// Lets the further link of the node at `at` be `link`. All else stays.
+pub(crate) fn relink<K, V>(nodes: &mut Nodes<Links, K, V>, at: Place, link: Link)
+    requires { IsAt nodes.old.cells at.ptr }
+    ensures { Relinks nodes.old.cells at.ptr link nodes.new.cells }
+{
+    let mut links = *nodes.links(at);
+    links.link = link;
+    nodes.set_links(at, links);
+}
+
 /// No place at all, for links that lead nowhere yet.
 pub(crate) fn nowhere() -> Place {
     Place {
@@ -128,6 +139,7 @@ impl<K: Drop, V: Drop> Drop for Ring<K, V> {
             let (_, key, value) = self.unlink(at);
             drop(key);
             drop(value);
+            self.drop_spare();
         }
         self.destroy_empty();
     }

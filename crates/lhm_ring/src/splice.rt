@@ -1,38 +1,34 @@
 //! All held nodes become spare at once.
-ghost use Rattle.lhm_ring.specs.Rings.{ptr_of_some};
 ghost use Rattle.lhm_ring.specs.Splices.{HasRow, SparesRow, HasRing, SplicesRing};
+ghost use Rattle.lhm_ring.specs.Targets.{target};
 
 use crate::block::Place;
+use crate::link::Link;
 use crate::links::Links;
 use crate::nodes::Nodes;
-use crate::ring::{join, nowhere};
+use crate::ring::{join, nowhere, relink};
 
 /// The nodes that a ring held, from `first` to `last`, and the first spare node once they are spare too.
 pub(crate) struct Spliced {
     pub(crate) first: Place,
     pub(crate) last: Place,
-    pub(crate) spare: Option<Place>,
+    pub(crate) spare: Link,
 }
 
 /// Makes spare nodes of the `count` nodes from `first` on, and answers the first spare one. The last of them
 /// comes first. What they hold stays in them, and so do their links for the order.
-fn spare_row<K, V>(
-    nodes: &mut Nodes<Links, K, V>,
-    first: Place,
-    count: usize,
-    spare: Option<Place>,
-) -> Option<Place>
-    requires { HasRow nodes.old.cells first.ptr count (ptr_of_some spare) }
-    ensures { SparesRow nodes.old.cells first.ptr count (ptr_of_some spare) nodes.new.cells (ptr_of_some result) }
+fn spare_row<K, V>(nodes: &mut Nodes<Links, K, V>, first: Place, count: usize, spare: Link) -> Link
+    requires { HasRow nodes.old.cells first.ptr count (target spare) }
+    ensures { SparesRow nodes.old.cells first.ptr count (target spare) nodes.new.cells (target result) }
 {
     let mut at = first;
     let mut spare = spare;
     let mut left = count;
     'row: while 0 < left {
-        let links = *nodes.links(at);
-        nodes.set_links(at, links.with_link(spare));
-        spare = Some(at);
-        at = links.next;
+        let next = nodes.links(at).next;
+        relink(nodes, at, spare);
+        spare = Link::to(at);
+        at = next;
         left -= 1;
     }
     spare
@@ -42,7 +38,7 @@ fn spare_row<K, V>(
 pub(crate) fn splice<K, V>(
     nodes: &mut Nodes<Links, K, V>,
     guard: Option<Place>,
-    spare: Option<Place>,
+    spare: Link,
     count: usize,
 ) -> Spliced
     requires { HasRing nodes.old.cells guard spare count }

@@ -1,9 +1,9 @@
 -- The pair at the current index.
-use Rattle.std.proofs.Common.{◌≡◌, ℕ, suc, ◌+◌, ◌-◌, ◌<◌, ◌≤◌, ◌⊎◌, Bool, false, cond, List, [], ◌∷◌, map, length, slice_get, Option, Some, None, refl, sym, ap, ◌∙◌, subst, arith}
+use Rattle.std.proofs.Common.{◌≡◌, ℕ, suc, ◌+◌, ◌-◌, ◌<◌, ◌≤◌, ◌⊎◌, Bool, true, false, cond, List, [], ◌∷◌, map, length, slice_get, Option, Some, None, refl, sym, ap, ◌∙◌, subst, arith}
 use denote.RawPtr.{Ptr}
 use Rattle.lhm_ring.specs.Positions.{place_of, place_of_some}
 use Rattle.lhm_ring.specs.Cells.{same_ptr, IsApart}
-use Rattle.lhm_ring.specs.RingState.{Held, State, last_of, last_at}
+use Rattle.lhm_ring.specs.RingState.{Held, State, first_at, last_of, last_at}
 use Rattle.lhm_ring.specs.RingAfterLoan.{with_value}
 use Rattle.lhm_ring.specs.Search.{HasKey}
 use Rattle.lhm_ring.proofs.Apart.{IsFresh, same_ptr_refl}
@@ -64,6 +64,10 @@ module _ {K V : Type 0} {eq : K → K → Bool} {hash : K → ℕ} {heads : List
         few = kept.few;
       }
 
+  pub IsKept-cleared : {m : Option (Position K V)} {k : ℕ} → m ≡ None → k ≡ 0 → (o : Option Ptr) → Lies o (bare s.held) → IsKept eq hash heads s (place_of_some m) k o r
+  IsKept-cleared {k = k} no_mark none_left o lies =
+      subst (λ m. IsKept eq hash heads s (place_of_some m) k o r) (sym no_mark) (subst (λ k. IsKept eq hash heads s None k o r) (sym none_left) (IsKept-visited o lies))
+
   pub IsKept-with_value : (p : Ptr) (w : V) → IsKept eq hash heads (with_value s p w) mark n current r
   IsKept-with_value p w =
       record {
@@ -74,7 +78,7 @@ module _ {K V : Type 0} {eq : K → K → Bool} {hash : K → ℕ} {heads : List
 
 -- a key that was looked for is at the index of its place
 module _ {K V : Type 0} {eq : K → K → Bool} {number : ℕ} {k : K} {hs : List (Held (K × V))} {p : Ptr} (h : HasKey eq number k hs p) where
-  key_lies : before p hs < length hs
+  pub key_lies : before p hs < length hs
   key_lies = let at = h.held in subst (λ (ks : List (Held (K × V))). before p ks < length ks) (sym at.3) (before_held p at.0 at.1 at.2 at.4)
 
   pub found_lies : before p (bare hs) < length (bare hs)
@@ -84,15 +88,29 @@ module _ {K V : Type 0} {eq : K → K → Bool} {number : ℕ} {k : K} {hs : Lis
       let of_bare = length-bare hs in
       omega (arith, lies, of_before, of_bare)
 
-  pub found_index : IsIndex eq (pairs_of hs) k (before p (bare hs))
-  found_index =
+  pub key_index : IsIndex eq (pairs_of hs) k (before p hs)
+  key_index =
       let cut = cut_before p hs key_lies in
       let at = cut.held in
       record {
         pair = at.1.pair;
-        there = ap (slice_get (pairs_of hs)) (before-bare p hs ∙ sym cut.long) ∙ pair_there at;
+        there = ap (slice_get (pairs_of hs)) (sym cut.long) ∙ pair_there at;
         same = h.key_is at.0 at.1 at.2 at.3 at.4;
       }
+
+  pub found_index : IsIndex eq (pairs_of hs) k (before p (bare hs))
+  found_index = subst (IsIndex eq (pairs_of hs) k) (sym (before-bare p hs)) key_index
+
+-- the first node has the first index
+pub first_index : {B : Type 0} {p : Ptr} (hs : List (Held B)) → Some p ≡ first_at hs → before p hs ≡ 0
+first_index {B} {p} [] is = absurd (let no : None ≡ Some p = sym is in cc)
+first_index {B} {p} (t ∷ hs) is =
+    let at : t.at ≡ p = cc in
+    ap (λ y. cond y 0 (before p hs + 1)) (subst (λ q. same_ptr t.at q ≡ true) at (same_ptr_refl t.at))
+
+pub first_lies : {B : Type 0} {p : Ptr} (hs : List (Held B)) → Some p ≡ first_at hs → before p hs < length hs
+first_lies {B} {p} [] is = absurd (let no : None ≡ Some p = sym is in cc)
+first_lies {B} {p} (t ∷ hs) is = let index = first_index (t ∷ hs) is in omega (arith, index)
 
 -- the last node has the last index
 fresh-last_of : {B : Type 0} (q : Ptr) (t : Held B) (hs : List (Held B)) → IsFresh q (map (λ u. u.at) (t ∷ hs)) → same_ptr q (last_of t hs) ≡ false
@@ -107,17 +125,13 @@ before-last_of t (u ∷ hs) d =
     ap (λ y. cond y 0 (before (last_of u hs) (u ∷ hs) + 1)) (fresh-last_of t.at u hs (apart_head t.at (map (λ u. u.at) (u ∷ hs)) d)) ∙ one
 
 module _ {K V : Type 0} where
-  pub last_lies : (hs : List (Held (K × V))) → IsApart (map (λ t. t.at) hs) → Lies (last_at hs) (bare hs)
-  last_lies [] d = tt
-  last_lies (t ∷ hs) d =
-      let index = before-last_of t hs d in
-      let of_before = before-bare (last_of t hs) (t ∷ hs) in
-      let of_bare = length-bare (t ∷ hs) in
-      omega (arith, index, of_before, of_bare)
+  pub last_index : {p : Ptr} (hs : List (Held (K × V))) → IsApart (map (λ t. t.at) hs) → Some p ≡ last_at hs → before p hs ≡ length hs - 1
+  last_index {p} [] d is = absurd (let no : None ≡ Some p = sym is in cc)
+  last_index {p} (t ∷ hs) d is =
+      let at : last_of t hs ≡ p = cc in
+      let one : length hs ≡ length (t ∷ hs) - 1 = omega arith in
+      subst (λ q. before q (t ∷ hs) ≡ length (t ∷ hs) - 1) at (before-last_of t hs d ∙ one)
 
-  pub last_index : (hs : List (Held (K × V))) → IsApart (map (λ t. t.at) hs) → 0 < length hs → current_at (last_at hs) (bare hs) ≡ length hs - 1
-  last_index [] d some = absurd (omega (arith, some))
-  last_index (t ∷ hs) d some = before-bare (last_of t hs) (t ∷ hs) ∙ before-last_of t hs d ∙ one hs
-    where
-      one : (ks : List (Held (K × V))) → length ks ≡ suc (length ks) - 1
-      one ks = omega arith
+  pub last_lies : {p : Ptr} (hs : List (Held (K × V))) → IsApart (map (λ t. t.at) hs) → Some p ≡ last_at hs → before p hs < length hs
+  last_lies {p} [] d is = absurd (let no : None ≡ Some p = sym is in cc)
+  last_lies {p} (t ∷ hs) d is = let index = last_index (t ∷ hs) d is in omega (arith, index)

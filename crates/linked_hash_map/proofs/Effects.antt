@@ -21,6 +21,10 @@ value_of_both None w v h = absurd (true≢false (sym (ap is_some h)))
 value_of_both (Some s) None v h = absurd (true≢false (sym (ap is_some h)))
 value_of_both (Some s) (Some w) v h = h
 
+pub remove-first : {X : Type 0} (xs : List X) → remove xs 0 ≡ drop 1 xs
+remove-first [] = refl
+remove-first (x ∷ xs) = refl
+
 pub remove-last : {X : Type 0} (xs : List X) → remove xs (length xs - 1) ≡ take (length xs - 1) xs
 remove-last {X} xs =
     let past : length xs ≤ suc (length xs - 1) = omega arith in

@@ -25,6 +25,7 @@ pub mod MovedNode
 pub mod Outcomes
 pub mod Outside
 pub mod Pairs
+pub mod PutPair
 pub mod Runs
 pub mod SessionLists
 pub mod SessionPairs

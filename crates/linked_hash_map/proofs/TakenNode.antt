@@ -1,5 +1,5 @@
 -- A node that is taken out: out of its chain first, and then out of the ring.
-use Rattle.std.proofs.Common.{◌≡◌, ℕ, ◌+◌, ◌<◌, Bool, List, ◌∷◌, ◌++◌, map, length, take, drop, slice_get, remove, Option, Some, None, sym, ap, ◌∙◌, subst, arith, length-append}
+use Rattle.std.proofs.Common.{◌≡◌, ℕ, ◌+◌, ◌<◌, inr, Bool, List, ◌∷◌, ◌++◌, map, length, take, drop, slice_get, remove, Option, Some, None, sym, ap, ◌∙◌, subst, arith, length-append}
 use Rattle.std.specs.List.{IsDistinct}
 use Rattle.std.specs.Map.{keys_of}
 use Rattle.std.proofs.lemmas.List.{map-append}
@@ -10,9 +10,12 @@ use Rattle.lhm_ring.specs.Index.{spots, Indexes}
 use Rattle.lhm_ring.specs.IndexedRing.{IsIndexed}
 use Rattle.lhm_ring.specs.Search.{entries, HoldsOthers}
 use Rattle.lhm_ring.proofs.Rows.{all_swap}
-use Rattle.linked_hash_map.specs.Nodes.{pairs_of, bare, bare_node, before, bookmark_at, AreKept}
+use Rattle.linked_hash_map.specs.Nodes.{pairs_of, bare, bare_node, before, bookmark_at, Lies, AreKept, IsKept}
 use Rattle.linked_hash_map.proofs.DistinctLists.{distinct_removed}
 use Rattle.linked_hash_map.proofs.Kept.{CutAt, cut_before, bare-entries, pairs_of-entries, length-same, keys-bare, before-bare, remove-cut, pair_there, pairs_removed}
+use Rattle.lhm_ring.specs.Positions.{place_of_some}
+use Rattle.lhm_ring.specs.declared.position.Position.{Position}
+use Rattle.linked_hash_map.proofs.Current.{IsKept-visited, IsKept-cleared}
 use Rattle.linked_hash_map.proofs.Outside.{IsClear, IsElsewhere, clear-elsewhere, in_reach-out, to_visit-out}
 
 -- keys that differ still do when one in the midst goes
@@ -54,8 +57,25 @@ module _ {K V : Type 0} (hs ks ws : List (Held (K × V))) {p : Ptr} (same : entr
   pub pair-taken : slice_get (pairs_of hs) (before p hs) ≡ Some cut_unchained.held.1.pair
   pair-taken = (λ i. slice_get (sym (pairs_of-entries ks hs same) i) (sym long i)) ∙ pair_there cut_unchained.held
 
+  -- what was taken out is the pair that was there
+  pub pair-unlinked : {number : ℕ} {key : K} {value : V} → AtHeld ks p (λ xs x ys. ◌≡◌ {A = ℕ × K × V} (number, key, value) (x.number, x.pair.0, x.pair.1)) → slice_get (pairs_of hs) (before p hs) ≡ Some (key, value)
+  pair-unlinked triple =
+      let h = cut_unchained.held in
+      let out = triple h.0 h.1 h.2 h.3 h.4 in
+      pair-taken ∙ (λ j. Some ((sym out j).1, (sym out j).2))
+
   rest : ws ≡ cut_unchained.held.0 ++ cut_unchained.held.2
   rest = let h = cut_unchained.held in others h.0 h.1 h.2 h.3 h.4
+
+  pub length-taken : length ws + 1 ≡ length hs
+  length-taken =
+      let h = cut_unchained.held in
+      let of_rest = ap length rest in
+      let of_parts = length-append h.0 h.2 in
+      let of_all = ap length h.3 in
+      let of_cut = length-append h.0 (h.1 ∷ h.2) in
+      let of_same = length-same ks hs (bare-entries ks hs same) in
+      omega (arith, of_rest, of_parts, of_all, of_cut, of_same)
 
   pub pairs-taken : pairs_of ws ≡ remove (pairs_of hs) (before p hs)
   pairs-taken = ap pairs_of rest ∙ pairs_removed cut_unchained.held ∙ (λ i. remove (pairs_of-entries ks hs same i) (long i))
@@ -96,3 +116,14 @@ IsIndexed-taken {K} {V} {heads} {chains} {s} {t} {w} indexed same spares lacks s
     let of_same = length-same t.held s.held (bare-entries t.held s.held same) in
     let room : length s.held + s.spares ≡ length w.held + w.spares = omega (arith, of_out, of_rest, of_held, of_all, of_same, spares, more) in
     record { chains = subst (λ (hs : List (Held (K × V))). Indexes chains (spots hs)) (sym out) lacks.others; count = same_count ∙ indexed.count ∙ ap buckets room }
+
+-- and no pair is to be visited, nor is there a current one
+module _ {K V : Type 0} {eq : K → K → Bool} {hash : K → ℕ} {heads chains : List (Option Ptr)} {s t w : State (K × V)} {mark current : Option Ptr} {n r : ℕ} {p : Ptr} (kept : IsKept eq hash heads s mark n current r) (lies : before p s.held < length s.held) where
+  pub IsKept-taken : entries t.held ≡ entries s.held → t.spares ≡ s.spares → HoldsOthers chains t.held p → length chains ≡ length heads → AtHeld t.held p (λ xs x ys. w.held ≡ xs ++ ys) → w.spares ≡ t.spares + 1 → {m c : Option (Position K V)} {k : ℕ} → m ≡ None → k ≡ 0 → c ≡ None → IsKept eq hash chains w (place_of_some m) k (place_of_some c) r
+  IsKept-taken same spares lacks count others more {m} {c} {k} no_mark none_left no_current =
+      let cleared = (IsKept-visited kept None tt).nodes in
+      let nodes : AreKept eq hash (bare w.held) w.spares None 0 None =
+      subst (λ k. AreKept eq hash (bare w.held) k None 0 None) (sym (more ∙ ap (λ k. k + 1) spares)) (AreKept-taken s.held t.held w.held same others lies None 0 (inr (omega arith)) cleared) in
+      let few = kept.few in
+      let out : IsKept eq hash chains w None 0 None r = record { nodes = nodes; indexed = IsIndexed-taken kept.indexed same spares lacks count others more; few = omega (arith, few, count) } in
+      subst (λ o. IsKept eq hash chains w (place_of_some m) k (place_of_some o) r) (sym no_current) (IsKept-cleared out no_mark none_left None tt)

@@ -17,7 +17,7 @@ ghost use Rattle.linked_hash_map.specs.Counts.{same, beside, buckets, rechained_
 mod index;
 mod storage;
 
-use self::storage::ring_with_room;
+use self::storage::{clear, clear_mark, ring_with_room};
 use crate::drain::Drain;
 use crate::error::{NoRoom, Refused, ReserveError};
 use crate::iter::{Iter, IterMut, Keys, Values};
@@ -398,6 +398,7 @@ impl<K: Eq + Hash, V, S: BuildHasher> LinkedHashMap<K, V, S> {
     /// assert_eq!(rt; map.insert('x', 3)?, Some(1));
     /// assert_eq!(rt; map.back(), Some((&'x', &3)));
     /// ```
+    #[inline(always)]
     pub fn insert(&mut self, key: K, value: V) -> Result<Option<V>, Refused<K, V>>
     where
         K: Drop,
@@ -418,9 +419,10 @@ impl<K: Eq + Hash, V, S: BuildHasher> LinkedHashMap<K, V, S> {
         ensures full { OnErr result (length self.old.pairs ≡ self.old.capacity) }
     {
         let number = self.number_of(&key);
-        if self.seek(number, &key) {
-            return Ok(Some(self.insert_current(value)));
-        }
+        let value = match self.insert_present(number, &key, value) {
+            Ok(old) => return Ok(Some(old)),
+            Err(value) => value,
+        };
         if !self.make_room() {
             return Err(Refused { key, value });
         }
@@ -592,10 +594,7 @@ impl<K: Eq + Hash, V, S: BuildHasher> LinkedHashMap<K, V, S> {
         ensures stays_valid { IsValid K.eq self.new }
     {
         let number = self.number_of(key);
-        if !self.seek(number, key) {
-            return None;
-        }
-        let (_stored, value) = self.take_current();
+        let (_stored, value) = self.take_out(number, key)?;
         Some(value)
     }
 
@@ -670,10 +669,12 @@ impl<K: Eq + Hash, V, S: BuildHasher> LinkedHashMap<K, V, S> {
         ensures valid { IsValid K.eq self.old }
         ensures stays_valid { IsValid K.eq self.new }
     {
-        if !self.seek_first() {
-            return None;
-        }
-        Some(self.take_current())
+        let oldest = self.ring.first()?;
+        clear_mark(&mut self.mark, &mut self.unvisited);
+        clear(&mut self.current);
+        self.index.take_out_at(&mut self.ring, oldest);
+        let (_, key, value) = self.ring.unlink(oldest);
+        Some((key, value))
     }
 
     /// Lends the pair at the oldest place, or returns `None` on an empty map.
@@ -719,10 +720,15 @@ impl<K: Eq + Hash, V, S: BuildHasher> LinkedHashMap<K, V, S> {
         ensures valid { IsValid K.eq self.old }
         ensures stays_valid { IsValid K.eq self.new }
     {
-        if !self.seek_last() {
+        if self.ring.len() == 0 {
             return None;
         }
-        Some(self.take_current())
+        let newest = self.ring.last()?;
+        clear_mark(&mut self.mark, &mut self.unvisited);
+        clear(&mut self.current);
+        self.index.take_out_at(&mut self.ring, newest);
+        let (_, key, value) = self.ring.unlink(newest);
+        Some((key, value))
     }
 
     /// Lends the pair at the newest place, or returns `None` on an empty map.

@@ -2,10 +2,10 @@
 //!
 //! They speak of indexes into the list of pairs, which no public call does. The index of a pair that a key is looked up for
 //! is kept by the map as its current one, so that what is done with the pair then needs no second look-up.
-ghost use Rattle.std.specs.Prelude.{◌≡◌, ◌+◌, ◌-◌, ◌<◌, ◌≤◌, ◌++◌, ◌∷◌, [], length, map, max, remove, slice_get, option_map, None, Some, IsTrue, IsFalse, IfOk, IsOk};
+ghost use Rattle.std.specs.Prelude.{◌≡◌, ◌+◌, ◌-◌, ◌<◌, ◌≤◌, ◌++◌, ◌∷◌, [], length, map, max, remove, slice_get, option_map, None, Some, IsTrue, IsFalse, IfOk, IfErr, OnOk, OnErr, IsOk};
 ghost use Rattle.std.specs.Map.{keys_of};
 ghost use Rattle.std.specs.Borrow.{sem};
-ghost use Rattle.linked_hash_map.specs.Pairs.{find, put};
+ghost use Rattle.linked_hash_map.specs.Pairs.{find, value_at, put, without};
 ghost use Rattle.linked_hash_map.specs.Indexes.{IsIndex};
 ghost use Rattle.linked_hash_map.specs.Cursor.{to_visit, without_cursor, IsOutside};
 ghost use Rattle.linked_hash_map.specs.LinkedMap.{nowhere};
@@ -43,6 +43,27 @@ fn mark_behind<K, V>(
         return None;
     }
     ring.next(at)
+}
+
+/// Empties a place. Most often it is empty, and then nothing is written.
+pub(super) fn clear<K, V>(place: &mut Option<Position<K, V>>)
+    ensures { place.new ≡ None }
+{
+    if place.is_some() {
+        *place = None;
+    }
+}
+
+/// Ends the visit of a cursor. Most often there is none, and then nothing is written.
+pub(super) fn clear_mark<K, V>(mark: &mut Option<Position<K, V>>, unvisited: &mut usize)
+    requires { mark.old ≡ None → unvisited.old ≡ 0 }
+    ensures mark { mark.new ≡ None }
+    ensures unvisited { unvisited.new ≡ 0 }
+{
+    if mark.is_some() {
+        *mark = None;
+        *unvisited = 0;
+    }
 }
 
 impl<K: Eq + Hash, V, S: BuildHasher> LinkedHashMap<K, V, S> {
@@ -83,6 +104,7 @@ impl<K: Eq + Hash, V, S: BuildHasher> LinkedHashMap<K, V, S> {
     }
 
     /// Makes the pair of a key the current one, which ends the visit of a cursor, and tells whether there is one.
+    #[inline]
     pub(crate) fn seek(&mut self, number: u64, key: &K) -> bool
         requires { number ≡ hash_by S.Hasher.finish S.Hasher.write S.build_hasher K.hash_input self.old.hasher key.now }
         ensures found { IsTrue result → IsIndex K.eq self.old.pairs key.now self.new.current }
@@ -96,41 +118,12 @@ impl<K: Eq + Hash, V, S: BuildHasher> LinkedHashMap<K, V, S> {
     {
         match self.index.find(&self.ring, number, key).0 {
             Some(at) => {
-                self.mark = None;
-                self.unvisited = 0;
+                clear_mark(&mut self.mark, &mut self.unvisited);
                 self.current = Some(at);
                 true
             }
             None => false,
         }
-    }
-
-    /// Makes the pair at the oldest place the current one, which ends the visit of a cursor, and tells whether there is one.
-    pub(crate) fn seek_first(&mut self) -> bool
-        ensures first { IsTrue result → self.new.current ≡ 0 }
-        ensures some { IsTrue result → 0 < length self.old.pairs }
-        ensures outside { IsTrue result → IsOutside self.new.current self.new }
-        ensures ends_visit { without_cursor self.new ≡ without_cursor self.old }
-        ensures none { IsFalse result → self.old.pairs ≡ [] }
-        ensures valid { IsValid K.eq self.old }
-    {
-        self.end_visit();
-        self.current = self.ring.first();
-        self.current.is_some()
-    }
-
-    /// Makes the pair at the newest place the current one, which ends the visit of a cursor, and tells whether there is one.
-    pub(crate) fn seek_last(&mut self) -> bool
-        ensures last { IsTrue result → self.new.current ≡ length self.old.pairs - 1 }
-        ensures some { IsTrue result → 0 < length self.old.pairs }
-        ensures outside { IsTrue result → IsOutside self.new.current self.new }
-        ensures ends_visit { without_cursor self.new ≡ without_cursor self.old }
-        ensures none { IsFalse result → self.old.pairs ≡ [] }
-        ensures valid { IsValid K.eq self.old }
-    {
-        self.end_visit();
-        self.current = self.ring.last();
-        self.ring.len() > 0
     }
 
     /// Lends the current pair.
@@ -200,6 +193,7 @@ impl<K: Eq + Hash, V, S: BuildHasher> LinkedHashMap<K, V, S> {
 
     /// Puts a value in the place of that of the current pair, which is none of those still to be visited, and returns the old
     /// value. The pair moves to the back, or in `Keep` stays in its place; it stays the current one.
+    #[inline]
     pub(crate) fn insert_current(&mut self, value: V) -> V
         requires within { self.old.current < length self.old.pairs }
         requires outside { IsOutside self.old.current self.old }
@@ -227,7 +221,41 @@ impl<K: Eq + Hash, V, S: BuildHasher> LinkedHashMap<K, V, S> {
         }
     }
 
+    /// Puts a value in the place of that of a present key, which ends the visit of a cursor, and returns the old value. The pair
+    /// moves to the back, or in `Keep` stays in its place. Where the key is absent, the value is handed back.
+    #[inline]
+    pub(crate) fn insert_present(&mut self, number: u64, key: &K, value: V) -> Result<V, V>
+        requires { number ≡ hash_by S.Hasher.finish S.Hasher.write S.build_hasher K.hash_input self.old.hasher key.now }
+        ensures old { IfOk result (λ old. Some old ≡ value_at K.eq self.old.pairs key.now) }
+        ensures pairs { OnOk result (self.new.pairs ≡ put K.eq self.old.mode self.old.pairs key.now value) }
+        ensures len { OnOk result (length self.new.pairs ≡ length self.old.pairs) }
+        ensures capacity { self.new.capacity ≡ self.old.capacity }
+        ensures rechained { self.new.rechained ≡ self.old.rechained }
+        ensures hasher { self.new.hasher ≡ self.old.hasher }
+        ensures mode { self.new.mode ≡ self.old.mode }
+        ensures valid { IsValid K.eq self.old }
+        ensures stays_valid { IsValid K.eq self.new }
+
+        ensures value_back { IfErr result (λ back. back ≡ value) }
+        ensures unchanged { OnErr result (self.new ≡ self.old) }
+        ensures absent { OnErr result (find K.eq self.old.pairs key.now ≡ None) }
+    {
+        let Some(found) = self.index.find(&self.ring, number, key).0 else {
+            return Err(value);
+        };
+        clear_mark(&mut self.mark, &mut self.unvisited);
+        clear(&mut self.current);
+        match self.mode {
+            Mode::Touch => {
+                self.ring.move_to_back(found);
+                Ok(mem::replace(self.ring.value_mut(found), value))
+            }
+            Mode::Keep => Ok(mem::replace(self.ring.value_mut(found), value)),
+        }
+    }
+
     /// Takes out the current pair, which is none of those still to be visited. No pair is the current one then.
+    #[inline]
     pub(crate) fn take_current(&mut self) -> (K, V)
         requires within { self.old.current < length self.old.pairs }
         requires outside { IsOutside self.old.current self.old }
@@ -246,6 +274,26 @@ impl<K: Eq + Hash, V, S: BuildHasher> LinkedHashMap<K, V, S> {
         self.index.take_out_at(&mut self.ring, at);
         let (_, key, value) = self.ring.unlink(at);
         (key, value)
+    }
+
+    /// Takes out the pair of a key, which ends the visit of a cursor, or returns `None` where the key is absent.
+    #[inline]
+    pub(crate) fn take_out(&mut self, number: u64, key: &K) -> Option<(K, V)>
+        requires { number ≡ hash_by S.Hasher.finish S.Hasher.write S.build_hasher K.hash_input self.old.hasher key.now }
+        ensures value { option_map (λ pair. pair.1) result ≡ value_at K.eq self.old.pairs key.now }
+        ensures pairs { self.new.pairs ≡ without K.eq self.old.pairs key.now }
+        ensures capacity { self.new.capacity ≡ self.old.capacity }
+        ensures rechained { self.new.rechained ≡ self.old.rechained }
+        ensures hasher { self.new.hasher ≡ self.old.hasher }
+        ensures mode { self.new.mode ≡ self.old.mode }
+        ensures valid { IsValid K.eq self.old }
+        ensures stays_valid { IsValid K.eq self.new }
+    {
+        let at = self.index.take_out(&mut self.ring, number, key)?;
+        clear_mark(&mut self.mark, &mut self.unvisited);
+        clear(&mut self.current);
+        let (_, key, value) = self.ring.unlink(at);
+        Some((key, value))
     }
 
     /// Begins the visit of a cursor: every pair is unvisited, and the next one is that at the oldest place.
@@ -299,12 +347,12 @@ impl<K: Eq + Hash, V, S: BuildHasher> LinkedHashMap<K, V, S> {
         ensures ends { self.new ≡ without_cursor self.old }
         ensures valid { IsValid K.eq self.old }
     {
-        self.mark = None;
-        self.unvisited = 0;
-        self.current = None;
+        clear_mark(&mut self.mark, &mut self.unvisited);
+        clear(&mut self.current);
     }
 
     /// Puts a pair at the back, for which there is room. Its key is absent and has this number.
+    #[inline(never)]
     pub(crate) fn push_back(&mut self, number: u64, key: K, value: V)
         requires number { number ≡ hash_by S.Hasher.finish S.Hasher.write S.build_hasher K.hash_input self.old.hasher key }
         requires room { length self.old.pairs < self.old.capacity }
@@ -324,6 +372,8 @@ impl<K: Eq + Hash, V, S: BuildHasher> LinkedHashMap<K, V, S> {
     }
 
     /// Raises the capacity, if there is memory: first the buckets are made, then the nodes.
+    #[cold]
+    #[inline(never)]
     pub(crate) fn raise(&mut self, capacity: usize) -> bool
         requires higher { self.old.capacity < capacity }
         requires limit { capacity ≤ LIMIT }
@@ -340,7 +390,7 @@ impl<K: Eq + Hash, V, S: BuildHasher> LinkedHashMap<K, V, S> {
         ensures valid { IsValid K.eq self.old }
     {
         let additional = capacity - self.capacity();
-        if buckets_for(capacity) == buckets_for(self.capacity()) {
+        if buckets_for(capacity) == self.index.buckets() {
             return self.ring.grow(additional).is_ok();
         }
         let Ok(fresh) = Index::with_buckets(self.ring.allocator(), capacity) else {
@@ -354,6 +404,7 @@ impl<K: Eq + Hash, V, S: BuildHasher> LinkedHashMap<K, V, S> {
     }
 
     /// Makes room for one more pair: at full capacity by raising it by one, if there is memory.
+    #[inline]
     pub(crate) fn make_room(&mut self) -> bool
         ensures pairs { self.new.pairs ≡ self.old.pairs }
         ensures hasher { self.new.hasher ≡ self.old.hasher }

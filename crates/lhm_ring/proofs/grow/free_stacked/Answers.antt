@@ -1,21 +1,22 @@
-use Rattle.std.proofs.Common.{◌-◌, List, Option, arith}
+use Rattle.std.proofs.Common.{◌-◌, List, arith}
 use Rattle.lhm_ring.specs.declared.block.Place.{Place}
 use Rattle.lhm_ring.specs.declared.links.Links.{Links}
 use Rattle.lhm_ring.specs.Cells.{Cell}
 use Rattle.lhm_ring.specs.Stacks.{IsStacked}
+use Rattle.lhm_ring.specs.declared.link.Link.{Link}
 use Rattle.lhm_ring.proofs.Stacking.{off, none_left, top_some, top_at}
 use Rattle.lhm_ring.proofs.grow.free_stacked.Goals as goal
 
-pub unwrap-at-requires : goal.unwrap-at-requires
-unwrap-at-requires g c = top_some c.each.left c.each.nodes.cells c.each.first c.each-test.true c.each.invariant.stack
+pub place-at-requires : goal.place-at-requires
+place-at-requires g c = top_some c.each.left c.each.nodes.cells c.each.first c.each-test.true c.each.invariant.stack
 
 pub links-requires : goal.links-requires
-links-requires g c = top_at c.each.left c.each.nodes.cells c.each.first c.unwrap-at.result c.each-test.true c.each.invariant.stack c.unwrap-at.ensures
+links-requires g c = top_at c.each.left c.each.nodes.cells c.each.first c.place-at.result c.each-test.true c.each.invariant.stack c.place-at.ensures.place
 
 pub each-preserved : goal.each-preserved
 each-preserved g c =
     let k = c.each.invariant.stack in
-    let less : (cs : List (Cell Links (g.row.K.Denot × g.row.V.Denot))) (b : Place) (s : Option Place) → IsStacked cs b s c.each.left c.each.nodes.cells c.each.first → IsStacked cs b s (c.each.left - 1) c.remove-room.new.self.cells c.link-next.result = λ cs b s k. off cs b s c.each.left c.each.nodes.cells c.each.first c.each-test.true k c.unwrap-at.result c.unwrap-at.ensures _ c.links.ensures c.link-next.result c.link-next.ensures _ c.remove-room.ensures in
+    let less : (cs : List (Cell Links (g.row.K.Denot × g.row.V.Denot))) (b : Place) (s : Link) → IsStacked cs b s c.each.left c.each.nodes.cells c.each.first → IsStacked cs b s (c.each.left - 1) c.remove-room.new.self.cells c.links.result.now.link = λ cs b s k. off cs b s c.each.left c.each.nodes.cells c.each.first c.each-test.true k c.place-at.result c.place-at.ensures.place _ c.links.ensures _ c.remove-room.ensures in
     record {
       stack = (k.0, k.1, k.2, less k.0 k.1 k.2 k.3);
       ends = λ es h. c.each.invariant.ends es (λ cs b s j. h cs b s (less cs b s j));

@@ -1,4 +1,6 @@
-use Rattle.std.proofs.Common.{arith}
+use Rattle.std.proofs.Common.{arith, subst, sym}
+use Rattle.lhm_ring.specs.Cells.{places, AreBlocks}
+use Rattle.lhm_ring.specs.Stacks.{IsStacked}
 use Rattle.lhm_ring.proofs.Stacking.{nothing_stacked, stacked_one}
 use Rattle.lhm_ring.proofs.grow.make_spares.Goals as goal
 
@@ -7,6 +9,13 @@ more-init g c = record { stacked = nothing_stacked _ _ _; few = omega arith }
 
 pub more-preserved : goal.more-preserved
 more-preserved g c = record {
-  stacked = stacked_one c.args.nodes.now.cells c.args.guard c.args.spare c.more.made c.more.nodes.cells c.more.first c.in-Ok.at c.make_spare.new.nodes.cells c.more.invariant.stacked c.in-Ok.ensures;
+  stacked = stacked_one c.args.nodes.now.cells c.args.guard c.args.spare c.more.made c.more.nodes.cells c.more.first c.in-Ok.at c.make_spare.new.nodes.cells c.to-first.result c.more.invariant.stacked c.in-Ok.ensures c.to-first.ensures;
   few = omega arith;
 }
+
+pub to-first-requires : goal.to-first-requires
+to-first-requires g c = (subst (λ zs. AreBlocks (places zs)) c.in-Ok.ensures c.make_spare.new.nodes.blocks).0
+
+pub free_stacked-requires : goal.free_stacked-requires
+free_stacked-requires g c =
+    (_, _, _, subst (λ zs. IsStacked c.args.nodes.now.cells c.args.guard c.args.spare c.more.made zs c.more.first) (sym c.in-Err.ensures) c.more.invariant.stacked)

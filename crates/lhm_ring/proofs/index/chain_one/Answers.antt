@@ -1,11 +1,6 @@
 use Rattle.std.proofs.Common.{arith}
-use Rattle.lhm_ring.specs.Positions.{place_of}
 use Rattle.lhm_ring.proofs.Heads.{chained}
-use Rattle.lhm_ring.proofs.NodeBlocks.{block_at}
 use Rattle.lhm_ring.proofs.index.chain_one.Goals as goal
-
-pub of-requires : goal.of-requires
-of-requires g c = block_at c.args.ring.now.held (place_of c.args.at) c.set_link.ensures.blocks c.requires.held
 
 pub returns-clause-chained : goal.returns-clause-chained
 returns-clause-chained g c =

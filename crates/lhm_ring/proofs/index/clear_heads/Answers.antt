@@ -1,6 +1,6 @@
 use Rattle.std.proofs.Common.{arith}
 use Rattle.std.proofs.lemmas.List.{length-map}
-use Rattle.lhm_ring.specs.Heads.{head_of}
+use Rattle.lhm_ring.specs.Targets.{target}
 use Rattle.lhm_ring.proofs.Heads.{cleared}
 use Rattle.lhm_ring.proofs.index.clear_heads.Goals as goal
 
@@ -8,4 +8,4 @@ pub heads-preserved : goal.heads-preserved
 heads-preserved c = (cleared c.heads.heads.items c.heads.next c.none.result c.none.ensures c.heads.invariant.0, c.heads.invariant.1)
 
 pub returns-clause-empty : goal.returns-clause-empty
-returns-clause-empty c = λ b l. c.heads.invariant.0 b (omega (arith, l, c.heads.heads.ok, length-map c.heads.heads.items head_of))
+returns-clause-empty c = λ b l. c.heads.invariant.0 b (omega (arith, l, c.heads.heads.ok, length-map c.heads.heads.items target))

@@ -1,19 +1,27 @@
-use Rattle.std.proofs.Common.{◌∙◌, ◌-◌, Some, ap, sym, subst, arith}
-use Rattle.lhm_ring.specs.Cells.{with_links}
+use Rattle.std.proofs.Common.{◌-◌, Some, sym, subst, arith}
 use Rattle.lhm_ring.specs.Splices.{HasRow, SparesRow}
+use Rattle.lhm_ring.proofs.NodeBlocks.{at_block}
 use Rattle.lhm_ring.proofs.Writes.{is_at}
 use Rattle.lhm_ring.proofs.Splicing.{row_there, row_goes_on, row_ends, row_done}
 use Rattle.lhm_ring.proofs.splice.spare_row.Goals as goal
 
-pub links-links-requires : goal.links-links-requires
-links-links-requires g c = is_at _ _ (row_there c.row.nodes.cells c.row.at c.row.left _ c.row-test.true c.row.invariant.row)
+pub links-requires : goal.links-requires
+links-requires g c = is_at _ _ (row_there c.row.nodes.cells c.row.at c.row.left _ c.row-test.true c.row.invariant.row)
+
+pub relink-requires : goal.relink-requires
+relink-requires g c = is_at _ _ (row_there c.row.nodes.cells c.row.at c.row.left _ c.row-test.true c.row.invariant.row)
+
+pub to-spare-requires : goal.to-spare-requires
+to-spare-requires g c = at_block c.row.nodes.cells c.row.nodes.blocks c.row.at.ptr _ c.links.ensures
 
 pub row-preserved : goal.row-preserved
 row-preserved g c =
-    let e = c.links-links.ensures in let w = c.set_links.ensures ∙ ap (λ l. with_links c.row.at.ptr l c.row.nodes.cells) c.with_link.ensures in
+    let e = c.links.ensures in let w = c.relink.ensures _ e in let next = c.links.result.now.next.ptr in let zs = c.relink.new.nodes.cells in
     record {
-      row = subst (λ zs. HasRow zs c.links-links.result.now.next.ptr (c.row.left - 1) (Some c.row.at.ptr)) (sym w) (row_goes_on c.row.nodes.cells c.row.at c.row.left c.row.spare _ e c.row-test.true c.row.invariant.row);
-      ends = λ ds s h. c.row.invariant.ends ds s (row_ends c.row.nodes.cells c.row.at c.row.left c.row.spare _ e ds s c.row-test.true (subst (λ zs. SparesRow zs c.links-links.result.now.next.ptr (c.row.left - 1) (Some c.row.at.ptr) ds s) w h));
+      row = subst (λ o. HasRow zs next (c.row.left - 1) o) (sym c.to-spare.ensures) (subst (λ zs. HasRow zs next (c.row.left - 1) (Some c.row.at.ptr)) (sym w) (row_goes_on c.row.nodes.cells c.row.at c.row.left c.row.spare _ e c.row-test.true c.row.invariant.row));
+      ends = λ ds s h. c.row.invariant.ends ds s
+          (row_ends c.row.nodes.cells c.row.at c.row.left c.row.spare _ e ds s c.row-test.true
+          (subst (λ zs. SparesRow zs next (c.row.left - 1) (Some c.row.at.ptr) ds s) w (subst (λ o. SparesRow zs next (c.row.left - 1) o ds s) c.to-spare.ensures h)));
     }
 
 pub returns : goal.returns

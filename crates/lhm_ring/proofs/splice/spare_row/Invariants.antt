@@ -2,14 +2,14 @@ use Rattle.std.proofs.Common.{List, Option}
 use denote.RawPtr.{Ptr}
 use Rattle.lhm_ring.specs.declared.links.Links.{Links}
 use Rattle.lhm_ring.specs.Cells.{Cell}
-use Rattle.lhm_ring.specs.Rings.{ptr_of_some}
 use Rattle.lhm_ring.specs.Splices.{HasRow, SparesRow}
+use Rattle.lhm_ring.specs.Targets.{target}
 use Rattle.lhm_ring.proofs.splice.spare_row.Given as goal
 
 abbrev pub invariant-row : goal.invariant-row
 invariant-row g l = record {
-  row : HasRow l.nodes.cells l.at.ptr l.left (ptr_of_some l.spare);
-  ends : (ds : List (Cell Links (g.row.K.Denot × g.row.V.Denot))) (s : Option Ptr) → SparesRow l.nodes.cells l.at.ptr l.left (ptr_of_some l.spare) ds s → SparesRow l.fn.nodes.cells l.fn.first.ptr l.fn.count (ptr_of_some l.fn.spare) ds s;
+  row : HasRow l.nodes.cells l.at.ptr l.left (target l.spare);
+  ends : (ds : List (Cell Links (g.row.K.Denot × g.row.V.Denot))) (s : Option Ptr) → SparesRow l.nodes.cells l.at.ptr l.left (target l.spare) ds s → SparesRow l.fn.nodes.cells l.fn.first.ptr l.fn.count (target l.fn.spare) ds s;
 }
 
 abbrev pub decreases-row : goal.decreases-row

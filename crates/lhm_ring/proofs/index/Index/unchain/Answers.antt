@@ -1,9 +1,9 @@
 use Rattle.std.proofs.Common.{arith, ap, sym, subst, map, set, ◌∙◌}
 use Rattle.std.proofs.lemmas.List.{length-map, map-set}
-use Rattle.lhm_ring.specs.Heads.{head_of}
+use Rattle.lhm_ring.specs.Targets.{target}
 use Rattle.lhm_ring.specs.Positions.{place_of, place_of_some}
 use Rattle.lhm_ring.specs.Search.{HoldsOthers}
-use Rattle.lhm_ring.proofs.IndexChanges.{on_held, on_before_held, link_block, take_first_at, take_next, kept_by_link}
+use Rattle.lhm_ring.proofs.IndexChanges.{on_held, on_before_held, take_first_at, take_next, kept_by_link}
 use Rattle.lhm_ring.proofs.index.Index.unchain.Goals as goal
 
 pub link-link-requires : goal.link-link-requires
@@ -20,8 +20,5 @@ returns-in-Some-clause-held g c = kept_by_link c.args.ring.now.held c.set_link.n
 
 pub returns-in-None-clause-lacks : goal.returns-in-None-clause-lacks
 returns-in-None-clause-lacks g c =
-    subst (λ h. HoldsOthers h c.args.ring.now.held (place_of c.args.found.at)) (sym (map-set head_of c.self.inside.heads.items c.masked-bucket.result c.of.result ∙ ap (set (map head_of c.self.inside.heads.items) c.masked-bucket.result) c.of.ensures))
-    (rw c.masked-bucket.ensures (take_first_at (map head_of c.self.inside.heads.items) c.len.result (place_of_some c.link-link.result) c.self.view_is (omega (arith, c.len.ensures, c.self.inside.heads.ok, length-map c.self.inside.heads.items head_of)) (ap place_of_some c.in-None.is) c.requires.indexed c.requires.on_chain c.link-link.ensures.link))
-
-pub of-requires : goal.of-requires
-of-requires g c = link_block c.link-link.result c.link-link.ensures.blocks c.requires.on_chain c.link-link.ensures.link
+    subst (λ h. HoldsOthers h c.args.ring.now.held (place_of c.args.found.at)) (sym (map-set target c.self.inside.heads.items c.masked-bucket.result c.of.result ∙ ap (set (map target c.self.inside.heads.items) c.masked-bucket.result) c.of.ensures))
+    (rw c.masked-bucket.ensures (take_first_at (map target c.self.inside.heads.items) c.len.result (place_of_some c.link-link.result) c.self.view_is (omega (arith, c.len.ensures, c.self.inside.heads.ok, length-map c.self.inside.heads.items target)) (ap place_of_some c.in-None.is) c.requires.indexed c.requires.on_chain c.link-link.ensures.link))

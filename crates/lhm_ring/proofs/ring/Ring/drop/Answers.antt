@@ -1,3 +1,4 @@
+use Rattle.std.proofs.Common.{◌∙◌, arith}
 use Rattle.lhm_ring.proofs.DroppedRing.{first_held, no_first, smaller}
 use Rattle.lhm_ring.proofs.ring.Ring.drop.Goals as goal
 
@@ -8,7 +9,10 @@ pub held-smaller : goal.held-smaller
 held-smaller g c =
     let h = first_held c.held.self.held c.in-Some.at.place.ptr c.in-Some.ensures in
     let u = c.unlink-key.ensures.others h.0 h.1 h.2 h.3 h.4 in
-    smaller c.held.self.held c.unlink-key.new.self.held h.0 h.1 h.2 h.3 u
+    smaller c.held.self.held c.drop_spare.new.self.held h.0 h.1 h.2 h.3 (c.drop_spare.ensures.held ∙ u)
 
 pub destroy_empty-requires : goal.destroy_empty-requires
 destroy_empty-requires g c = no_first c.held.self.held c.in_default.ensures
+
+pub drop_spare-requires : goal.drop_spare-requires
+drop_spare-requires g c = omega (arith, c.unlink-key.ensures.spares)

@@ -1,5 +1,4 @@
-use Rattle.lhm_ring.specs.Cells.{with_links}
-use Rattle.std.proofs.Common.{◌≡◌, ◌∙◌, ap, subst, true}
+use Rattle.std.proofs.Common.{◌≡◌, ap, subst, true}
 use Rattle.lhm_ring.specs.Rings.{next_of, prev_of, is_there}
 use Rattle.lhm_ring.proofs.Writes.{is_at}
 use Rattle.lhm_ring.proofs.Moves.{guarded_in, node_in, p_there, prev_there, next_there}
@@ -25,8 +24,8 @@ take-key-requires g c =
     let i = c.self.inside in
     taken_holds i.nodes.cells i.guard i.spare _ i.len i.spares _ c.unwrap-guard.ensures c.self.invariant c.self.view_is c.args.at.place _ c.links-old.ensures _ c.join.ensures c.requires
 
-pub set_links-requires : goal.set_links-requires
-set_links-requires g c =
+pub relink-requires : goal.relink-requires
+relink-requires g c =
     let i = c.self.inside in
     taken_at i.nodes.cells i.guard i.spare _ i.len i.spares _ c.unwrap-guard.ensures c.self.invariant c.self.view_is c.args.at.place _ c.links-old.ensures _ c.join.ensures _ c.take-key.ensures.body _ c.take-key.new.self.cells c.take-key.ensures.cells c.requires
 
@@ -38,14 +37,17 @@ overflow_sub-self g c =
 pub invariant_of-self : goal.invariant_of-self
 invariant_of-self g c =
     let i = c.self.inside in
-    (taken_ring i.nodes.cells i.guard i.spare _ i.len i.spares _ c.unwrap-guard.ensures c.self.invariant c.self.view_is c.args.at.place _ c.links-old.ensures _ c.join.ensures _ c.take-key.ensures.body _ _ c.take-key.ensures.cells (c.set_links.ensures ∙ ap (λ l. with_links c.args.at.place.ptr l c.take-key.new.self.cells) c.with_link.ensures) c.requires)
+    (taken_ring i.nodes.cells i.guard i.spare _ i.len i.spares _ c.unwrap-guard.ensures c.self.invariant c.self.view_is c.args.at.place _ c.links-old.ensures _ c.join.ensures _ c.take-key.ensures.body _ _ c.take-key.ensures.cells c.relink.ensures _ c.to-self-inside.ensures c.requires)
 
 pub returns : goal.returns
 returns g c =
     let i = c.self.inside in let h = c.requires in
-    let e = taken_list i.nodes.cells i.guard i.spare _ i.len i.spares _ c.unwrap-guard.ensures c.self.invariant c.self.view_is c.args.at.place _ c.links-old.ensures _ c.join.ensures _ c.take-key.ensures.body _ _ c.take-key.ensures.cells (c.set_links.ensures ∙ ap (λ l. with_links c.args.at.place.ptr l c.take-key.new.self.cells) c.with_link.ensures) in
+    let e = taken_list i.nodes.cells i.guard i.spare _ i.len i.spares _ c.unwrap-guard.ensures c.self.invariant c.self.view_is c.args.at.place _ c.links-old.ensures _ c.join.ensures _ c.take-key.ensures.body _ _ c.take-key.ensures.cells c.relink.ensures in
     record {
       others = λ xs t ys k at. ap (λ z. z.held) (e xs t ys k at).0;
       triple = λ xs t ys k at. let q = e xs t ys k at in λ z. (q.1 z, (q.2 z).0, (q.2 z).1);
       spares = ap (λ z. z.spares) (e h.0 h.1 h.2 h.3 h.4).0;
     }
+
+pub to-self-inside-requires : goal.to-self-inside-requires
+to-self-inside-requires g c = c.args.at.block

@@ -13,10 +13,9 @@ invariant_of-self-2 g c =
     let m = c.self.inside in
     let capacity_is : c.capacity.result ≡ length m.ring.held + m.ring.spares = c.capacity.ensures.capacity ∙ ap (λ (z : LinkedMap g.row.K.Denot g.row.V.Denot g.row.S.Denot). z.capacity) (sym c.self.view_is) in
     let all : c.args.capacity ≡ length m.ring.held + c.take_over.new.ring.spares = omega (arith, c.in-Ok-grow.ensures.spares, capacity_is, c.take_over.ensures.spares, c.requires.higher, c.capacity.ensures.capacity) in
-    let before : c.capacity-2.result ≡ length m.ring.held + m.ring.spares = c.capacity-2.ensures.capacity ∙ ap (λ (z : LinkedMap g.row.K.Denot g.row.V.Denot g.row.S.Denot). z.capacity) (sym c.self.view_is) in
     let kept = c.self.invariant in
     let more = raised_more m.rechained (length m.ring.held) (length m.ring.held + m.ring.spares) c.args.capacity (omega (arith, kept.few, kept.indexed.count)) (omega arith) (omega (arith, capacity_is, c.capacity.ensures.capacity, c.requires.higher))
-    (λ e. c.if-buckets_for.false (c.buckets_for.ensures.value ∙ sym e ∙ ap buckets (sym before) ∙ sym c.buckets_for-2.ensures.value)) in
+    (λ e. c.if-buckets_for-buckets.false (c.buckets_for.ensures.value ∙ sym e ∙ sym kept.indexed.count ∙ sym c.buckets.ensures)) in
     let count : c.take_over.result ≡ length m.ring.held = c.take_over.ensures.count ∙ ap length c.in-Ok-grow.ensures.held in
     let wide : length c.take_over.new.self ≡ buckets c.args.capacity = c.take_over.ensures.buckets ∙ c.in-Ok.ensures.buckets in
     IsKept-rechained kept {t = c.take_over.new.ring} (c.take_over.ensures.held ∙ ap entries c.in-Ok-grow.ensures.held) (omega (arith, all, c.requires.limit)) c.take_over.ensures.indexed (c.take_over.ensures.buckets ∙ c.in-Ok.ensures.buckets ∙ ap buckets all) (omega (arith, more, count, wide))
@@ -35,3 +34,13 @@ pub returns-clause-current : goal.returns-clause-current
 returns-clause-current g c =
     let m = c.self.inside in
     rw (← c.self.view_is) (ap (current_at _) (bare-entries c.take_over.new.ring.held m.ring.held (c.take_over.ensures.held ∙ ap entries c.in-Ok-grow.ensures.held)))
+
+pub overflow_add-self : goal.overflow_add-self
+overflow_add-self g c =
+    let m = c.self.inside in
+    let kept = c.self.invariant in
+    let capacity_is : c.capacity.result ≡ length m.ring.held + m.ring.spares = c.capacity.ensures.capacity ∙ ap (λ (z : LinkedMap g.row.K.Denot g.row.V.Denot g.row.S.Denot). z.capacity) (sym c.self.view_is) in
+    let more = raised_more m.rechained (length m.ring.held) (length m.ring.held + m.ring.spares) c.args.capacity (omega (arith, kept.few, kept.indexed.count)) (omega arith) (omega (arith, capacity_is, c.capacity.ensures.capacity, c.requires.higher))
+    (λ e. c.if-buckets_for-buckets.false (c.buckets_for.ensures.value ∙ sym e ∙ sym kept.indexed.count ∙ sym c.buckets.ensures)) in
+    let count : c.take_over.result ≡ length m.ring.held = c.take_over.ensures.count ∙ ap length c.in-Ok-grow.ensures.held in
+    omega (arith, more, count, c.buckets_for.ensures.value, c.buckets_for.type_inv)

@@ -4,7 +4,7 @@ use Rattle.linked_hash_map.specs.Nodes.{pairs_of, bare, AreKept}
 use Rattle.linked_hash_map.specs.Hashers.{hash_by}
 use Rattle.linked_hash_map.proofs.Kept.{IsValid-view}
 use Rattle.linked_hash_map.proofs.Current.{current_lies, current_cut, current_at-Some, current_elsewhere}
-use Rattle.linked_hash_map.proofs.TakenNode.{pair-taken, pairs-taken, cut_unchained, to_visit-taken, AreKept-taken, IsIndexed-taken}
+use Rattle.linked_hash_map.proofs.TakenNode.{pair-unlinked, pairs-taken, to_visit-taken, AreKept-taken, IsIndexed-taken}
 use Rattle.linked_hash_map.proofs.map.LinkedHashMap.take_current.Goals as goal
 
 pub take_out_at-requires-clause-held : goal.take_out_at-requires-clause-held
@@ -27,15 +27,9 @@ invariant_of-self g c =
 pub returns-clause-pair : goal.returns-clause-pair
 returns-clause-pair g c =
     let m = c.self.inside in
-    let taken = c.take_out_at.ensures in
-    let unlinked = c.unlink-key.ensures in
-    let lies = current_lies c.self.invariant c.unwrap-at.ensures in
-    let cut = cut_unchained m.ring.held c.take_out_at.new.ring.held c.unlink-key.new.self.held taken.held unlinked.others lies in
-    let triple = unlinked.triple cut.held.0 cut.held.1 cut.held.2 cut.held.3 cut.held.4 in
     rw (← c.self.view_is) (
     ap (slice_get (pairs_of m.ring.held)) (current_at-Some c.unwrap-at.ensures m.ring.held)
-    ∙ pair-taken m.ring.held c.take_out_at.new.ring.held c.unlink-key.new.self.held taken.held unlinked.others lies
-    ∙ (λ j. Some ((sym triple j).1, (sym triple j).2))
+    ∙ pair-unlinked m.ring.held c.take_out_at.new.ring.held c.unlink-key.new.self.held c.take_out_at.ensures.held c.unlink-key.ensures.others (current_lies c.self.invariant c.unwrap-at.ensures) c.unlink-key.ensures.triple
     )
 
 pub returns-clause-pairs : goal.returns-clause-pairs
