@@ -1,5 +1,5 @@
 -- The pair of a present key, once its value is written: in its place, or moved to the back.
-use Rattle.std.proofs.Common.{◌≡◌, ℕ, ◌-◌, ◌<◌, inr, Bool, List, [], ◌∷◌, ◌++◌, map, length, slice_get, remove, Option, Some, None, option_map, sym, ap, ◌∙◌, subst, arith}
+use Rattle.std.proofs.Common.{◌≡◌, ℕ, ◌-◌, inr, Bool, List, [], ◌∷◌, ◌++◌, map, length, slice_get, remove, Option, Some, None, option_map, sym, ap, ◌∙◌, subst, arith}
 use Rattle.std.specs.List.{IsDistinct}
 use Rattle.std.specs.Map.{keys_of}
 use Rattle.std.specs.Cmp.{IsEquivalence}
@@ -18,7 +18,7 @@ use Rattle.linked_hash_map.specs.Indexes.{IsIndex, set_value_at}
 use Rattle.linked_hash_map.proofs.Pairs.{put-present}
 use Rattle.linked_hash_map.proofs.Indexes.{length-others, set_value_at-pushed, slice_get-pushed, set_value-index, is_some-index, to_back-index, value_at-index}
 use Rattle.linked_hash_map.proofs.Kept.{CutAt, cut_before, length-pairs_of, pair_there, pairs_set}
-use Rattle.linked_hash_map.proofs.Current.{key_lies, key_index, found_lies, IsKept-visited, IsKept-current, IsKept-cleared, IsKept-with_value}
+use Rattle.linked_hash_map.proofs.Current.{key_lies, key_index, found_lies, IsKept-visited, IsKept-cleared, IsKept-with_value}
 use Rattle.linked_hash_map.proofs.MovedNode.{pairs-moved, length-to_back, before-at_back, AreKept-moved}
 
 module _ {K V : Type 0} {eq : K → K → Bool} (laws : IsEquivalence eq) {number : ℕ} {k : K} {hs : List (Held (K × V))} {p : Ptr} (has : HasKey eq number k hs p) (distinct : IsDistinct eq (keys_of (pairs_of hs))) where

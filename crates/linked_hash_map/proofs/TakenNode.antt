@@ -10,7 +10,7 @@ use Rattle.lhm_ring.specs.Index.{spots, Indexes}
 use Rattle.lhm_ring.specs.IndexedRing.{IsIndexed}
 use Rattle.lhm_ring.specs.Search.{entries, HoldsOthers}
 use Rattle.lhm_ring.proofs.Rows.{all_swap}
-use Rattle.linked_hash_map.specs.Nodes.{pairs_of, bare, bare_node, before, bookmark_at, Lies, AreKept, IsKept}
+use Rattle.linked_hash_map.specs.Nodes.{pairs_of, bare, bare_node, before, bookmark_at, AreKept, IsKept}
 use Rattle.linked_hash_map.proofs.DistinctLists.{distinct_removed}
 use Rattle.linked_hash_map.proofs.Kept.{CutAt, cut_before, bare-entries, pairs_of-entries, length-same, keys-bare, before-bare, remove-cut, pair_there, pairs_removed}
 use Rattle.lhm_ring.specs.Positions.{place_of_some}

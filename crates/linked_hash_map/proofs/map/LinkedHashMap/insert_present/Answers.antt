@@ -1,4 +1,4 @@
-use Rattle.std.proofs.Common.{◌≡◌, ◌+◌, Some, None, length, sym, ap, ◌∙◌, subst, fold, arith}
+use Rattle.std.proofs.Common.{◌≡◌, ◌+◌, Some, sym, ap, ◌∙◌, subst, fold}
 use Rattle.lhm_ring.specs.Positions.{place_of}
 use Rattle.lhm_ring.specs.Search.{HasKey, IsAbsent}
 use Rattle.linked_hash_map.specs.LinkedMap.{LinkedMap}

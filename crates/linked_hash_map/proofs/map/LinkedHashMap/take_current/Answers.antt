@@ -1,4 +1,4 @@
-use Rattle.std.proofs.Common.{Some, None, ◌+◌, slice_get, remove, sym, ap, ◌∙◌, subst, arith}
+use Rattle.std.proofs.Common.{None, ◌+◌, slice_get, remove, sym, ap, ◌∙◌, subst, arith}
 use Rattle.lhm_ring.specs.Positions.{place_of_some}
 use Rattle.linked_hash_map.specs.Nodes.{pairs_of, bare, AreKept}
 use Rattle.linked_hash_map.specs.Hashers.{hash_by}
