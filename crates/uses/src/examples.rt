@@ -1,8 +1,9 @@
-//! The examples in the documentation of the map's public items, run.
+//! The examples in the documentation of the library's public items, run.
 //!
 //! Each example stands here word for word, below the names of the items that show it. Those that begin alike share their
 //! first lines, and calls that only read may stand between.
 use linked_hash_map::replay::{Answer, Command, PairList, replay};
+use linked_hash_map::sessions::Sessions;
 use linked_hash_map::{
     DefaultHashBuilder, Entry, LIMIT, LinkedHashMap, Mode, NoRoom, ReserveError,
 };
@@ -430,5 +431,37 @@ fn replays(rt: HostRuntime) -> Result<(), Fail> {
     assert_eq!(rt; list.as_slice(), [('x', 1), ('y', 2)].as_slice());
     assert!(rt; list == PairList::from(Vec::from_array(rt.alloc(), [('x', 1), ('y', 2)])?));
     assert_eq!(rt; list.into_vec().as_slice(), [('x', 1), ('y', 2)].as_slice());
+    Ok(())
+}
+
+#[test]
+fn keeps_sessions(rt: HostRuntime) -> Result<(), Fail> {
+    // `touch`
+    let mut table = Sessions::new(rt.alloc(), 10);
+    table.put(1, 4, "a")?;
+    table.put(2, 4, "b")?;
+    if let Some(payload) = table.touch(1) {
+        *payload = "c";
+    }
+    assert_eq!(rt; table.iter().next(), Some((2, 4, &"b")));
+    assert_eq!(rt; table.remove(1), Some("c"));
+    // `total`, `len`, `remove`
+    let mut table = Sessions::new(rt.alloc(), 10);
+    table.put(1, 4, "a")?;
+    assert_eq!(rt; (table.len(), table.total()), (1, 4));
+    assert_eq!(rt; (table.remove(1), table.remove(1)), (Some("a"), None));
+    assert_eq!(rt; (table.len(), table.total()), (0, 0));
+    // `iter`, `SessionIter`
+    let mut table = Sessions::new(rt.alloc(), 10);
+    table.put(1, 4, "a")?;
+    table.put(2, 4, "b")?;
+    let mut sessions = table.iter();
+    assert_eq!(rt; sessions.next(), Some((1, 4, &"a")));
+    assert_eq!(rt; sessions.len(), 1);
+    // `Put`
+    let mut table = Sessions::new(rt.alloc(), 10);
+    table.put(1, 4, "a")?;
+    let put = table.put(1, 6, "b")?;
+    assert_eq!(rt; (put.old, put.gone.len()), (Some("a"), 0));
     Ok(())
 }
