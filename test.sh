@@ -1,12 +1,12 @@
 #!/bin/sh
 # Passes every proof and test of the repository, and says how many seconds each part took.
 #
-# First the README's example is compared with the one that the gate proves. Then the tests whose names begin with refused_
-# run with the Nth request for memory refused, for N = 1, 2, .., each test in a process of its own, until all of a crate's
-# say that every growth was given. One that says how many growths it asks for in all has to say so exactly where a later one
-# was refused: so a growth is found whose refusal a call ignores. Then comes the gate, `rt ci`. At last the program that it
-# built runs on inputs that it stops at, and what it tells on standard error is compared, which the gate does not do. The last
-# line is that of the gate.
+# First the README's example is compared with the one that the gate proves. Then comes the gate, `rt ci`, and beside it, on a
+# copy and where a processor is idle, the tests whose names begin with refused_ run with the Nth request for memory refused, for
+# N = 1, 2, .., each test in a process of its own, until all of a crate's say that every growth was given. One that says how many
+# growths it asks for in all has to say so exactly where a later one was refused: so a growth is found whose refusal a call
+# ignores. At last the program that the gate built runs on inputs that it stops at, and what it tells on standard error is
+# compared, which the gate does not do. The last line is that of the gate, or says what failed beside it.
 set -u
 cd "$(dirname "$0")" || exit 2
 work=$(mktemp -d) || exit 2
@@ -18,9 +18,9 @@ say_time() {
     echo "$1: $(($(date +%s) - $2)) s"
 }
 
-# Runs a crate's tests with the Nth growth refused, and keeps what they say and how they ended.
+# Runs a crate's tests with the Nth growth refused, where a processor is idle, and keeps what they say and how they ended.
 refuse_growth() {
-    (cd "crates/$1" && rt try --test --fail-alloc "$2" -- refused_) >"$work/$2" 2>&1
+    (cd "crates/$1" && nice -n 19 rt try --test --fail-alloc "$2" -- refused_) >"$work/$2" 2>&1
     echo $? >"$work/$2.status"
 }
 
@@ -71,6 +71,17 @@ refuse_each_growth() {
     done
     echo "$crate: a test never says that every growth was given"
     exit 1
+}
+
+# Refuses the growths of each crate that has tests of them, in this folder.
+refuse_all_growths() {
+    for crate in crates/*; do
+        if grep -rq '^ *fn refused_' "$crate"/src; then
+            began=$(date +%s)
+            refuse_each_growth "$(basename "$crate")"
+            say_time "refused growths of $(basename "$crate")" "$began"
+        fi
+    done
 }
 
 # Compares a run of the program that stops with what is wanted: its status, no output, and one line on standard error.
@@ -124,18 +135,15 @@ example_of() {
     sed -n '/^fn example(/,/^}/p' "$1"
 }
 
-if [ "$(example_of README.md)" != "$(example_of crates/linked_hash_map/src/tests/readme.rt)" ]; then
-    echo "the README's example is not the one in crates/linked_hash_map/src/tests/readme.rt"
+if [ "$(example_of README.md)" != "$(example_of crates/integration/src/tests/readme.rt)" ]; then
+    echo "the README's example is not the one in crates/integration/src/tests/readme.rt"
     exit 1
 fi
 
-for crate in crates/*; do
-    if grep -rq '^ *fn refused_' "$crate"/src; then
-        began=$(date +%s)
-        refuse_each_growth "$(basename "$crate")"
-        say_time "refused growths of $(basename "$crate")" "$began"
-    fi
-done
+mkdir "$work/copy"
+tar -c --exclude=out crates crates.txt HANDLES | tar -x -C "$work/copy"
+(cd "$work/copy" && refuse_all_growths) >"$work/growths" 2>&1 &
+growths=$!
 
 began=$(date +%s)
 {
@@ -144,6 +152,10 @@ began=$(date +%s)
 } | tee "$work/gate"
 say_time "the gate" "$began"
 
+wait "$growths"
+growths_status=$?
+cat "$work/growths"
+[ "$growths_status" = 0 ] || exit 1
 [ "$(cat "$work/gate.status")" != 0 ] || run_the_program
 tail -n 1 "$work/gate"
 exit "$(cat "$work/gate.status")"
