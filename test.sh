@@ -1,26 +1,28 @@
 #!/bin/sh
 # Passes every proof and test of the repository, and says how many seconds each part took.
 #
-# First the README's example is compared with the one that the gate proves. Then comes the gate, `rt ci`, and beside it, on a
-# copy and where a processor is idle, the tests whose names begin with refused_ run with the Nth request for memory refused, for
-# N = 1, 2, .., each test in a process of its own, until all of a crate's say that every growth was given. One that says how many
-# growths it asks for in all has to say so exactly where a later one was refused: so a growth is found whose refusal a call
-# ignores. At last the program that the gate built runs on inputs that it stops at, and what it tells on standard error is
-# compared, which the gate does not do. The last line is that of the gate, or says what failed beside it.
+# First the README's example is compared with the one that the gate proves. Then comes the gate, `rt ci`. Once it has proved all
+# tests and only tries wrong bodies, one after another, the tests whose names begin with refused_ run beside it on a copy, with the
+# Nth request for memory refused, for N = 1, 2, .., each test in a process of its own, until all of a crate's say that every
+# growth was given. One that says how many growths it asks for in all has to say so exactly where a later one was refused: so a
+# growth is found whose refusal a call ignores. At last the program that the gate built runs on inputs that it stops at, and what it
+# tells on standard error is compared, which the gate does not do. The last line is that of the gate, or says what failed beside it.
 set -u
 cd "$(dirname "$0")" || exit 2
 work=$(mktemp -d) || exit 2
 trap 'rm -rf "$work"' EXIT
-processors=$(getconf _NPROCESSORS_ONLN) || processors=1
+processors=$(getconf _NPROCESSORS_ONLN) || processors=2
+# How many growths are refused side by side: one processor is left to the gate.
+beside=$((processors > 1 ? processors - 1 : 1))
 
 # Prints what a part was, and the seconds since it began.
 say_time() {
     echo "$1: $(($(date +%s) - $2)) s"
 }
 
-# Runs a crate's tests with the Nth growth refused, where a processor is idle, and keeps what they say and how they ended.
+# Runs a crate's tests with the Nth growth refused, and keeps what they say and how they ended.
 refuse_growth() {
-    (cd "crates/$1" && nice -n 19 rt try --test --fail-alloc "$2" -- refused_) >"$work/$2" 2>&1
+    (cd "crates/$1" && rt try --test --fail-alloc "$2" -- refused_) >"$work/$2" 2>&1
     echo $? >"$work/$2.status"
 }
 
@@ -39,14 +41,13 @@ find_miscounts() {
         }' $(seq -f "$work/%.0f" 1 "$1")
 }
 
-# Refuses each growth of a crate's tests in turn. Each number of a growth takes a build of its own, so as many run side by
-# side as there are processors.
+# Refuses each growth of a crate's tests in turn. Each number of a growth takes a build of its own, so several run side by side.
 refuse_each_growth() {
     crate=$1
     tests=$(find "crates/$crate/src" -name '*.rt' -exec cat {} + | grep -c '^ *fn refused_')
     first=1
     while [ "$first" -le 100 ]; do
-        last=$((first + processors - 1))
+        last=$((first + beside - 1))
         for growth in $(seq "$first" "$last"); do
             refuse_growth "$crate" "$growth" &
         done
@@ -71,6 +72,14 @@ refuse_each_growth() {
     done
     echo "$crate: a test never says that every growth was given"
     exit 1
+}
+
+# Waits until the gate has proved the tests of every crate, or has ended.
+await_proofs() {
+    crates=$(find crates -mindepth 1 -maxdepth 1 | wc -l)
+    until [ -e "$work/gate.status" ] || [ "$(grep -c ': its tests are proved$' "$work/gate")" -ge "$crates" ]; do
+        sleep 5
+    done
 }
 
 # Refuses the growths of each crate that has tests of them, in this folder.
@@ -142,7 +151,8 @@ fi
 
 mkdir "$work/copy"
 tar -c --exclude=out crates crates.txt HANDLES | tar -x -C "$work/copy"
-(cd "$work/copy" && refuse_all_growths) >"$work/growths" 2>&1 &
+: >"$work/gate"
+(cd "$work/copy" && await_proofs && refuse_all_growths) >"$work/growths" 2>&1 &
 growths=$!
 
 began=$(date +%s)

@@ -72,9 +72,13 @@ fn bench<C: CpuClock, W: Write>(
 ) -> io::Result<()>
     requires { 0 < n }
 {
-    let mut map = fill(alloc, n)?;
+    let mut map = Map::new(alloc);
     for workload in Workload::ALL {
         let timed = best_of(clock, alloc, workload, &mut map, rounds, n)?;
+        // The others' map is filled only now, so that its nodes lie in memory that was used before.
+        if workload == Workload::InsertNew {
+            map = fill(alloc, n)?;
+        }
         let time = hundredths(timed.nanoseconds, n);
         let name = workload.name();
         writeln!(
