@@ -1,3 +1,5 @@
+//! What each call answers and leaves; the further modules have a subject each.
+
 mod borrowed;
 mod collect;
 mod compare;
