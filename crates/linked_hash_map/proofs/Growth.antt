@@ -1,8 +1,9 @@
 -- A map when its room grows or shrinks, when a pair is put at the back, and when it holds nothing.
-use Rattle.std.proofs.Common.{◌≡◌, ℕ, zero, suc, ◌+◌, ◌-◌, ◌<◌, ◌≤◌, Bool, true, false, cond, List, [], ◌∷◌, ◌++◌, map, length, Option, Some, None, refl, sym, ap, ◌∙◌, subst, arith, length-append, true≢false}
-use Rattle.std.specs.Prelude.{is_some}
+use Rattle.std.proofs.Common.{◌≡◌, ℕ, zero, suc, ◌+◌, ◌-◌, ◌<◌, ◌≤◌, Bool, true, false, cond, List, [], ◌∷◌, ◌++◌, map, length, Option, Some, None, ◌≢◌, refl, sym, ap, ◌∙◌, subst, inl, inr, arith, length-append, true≢false}
+use Rattle.std.specs.Prelude.{is_some, Result, Ok, Err, OnOk, OnErr}
 use Rattle.std.specs.List.{list_any, IsDistinct}
 use Rattle.std.specs.Cmp.{IsEquivalence}
+use Rattle.std.proofs.lemmas.Bool.{eq-eqb}
 use Rattle.std.proofs.lemmas.List.{map-append}
 use Rattle.std.proofs.lemmas.Map.Keys.{IsDistinct-push}
 use denote.RawPtr.{Ptr}
@@ -11,8 +12,9 @@ use Rattle.lhm_ring.specs.RingState.{Held, State, held}
 use Rattle.lhm_ring.specs.RingAfterLoan.{pair}
 use Rattle.lhm_ring.specs.Index.{spots, Indexes}
 use Rattle.lhm_ring.specs.Search.{entries}
-use Rattle.lhm_ring.specs.Buckets.{buckets}
+use Rattle.lhm_ring.specs.Buckets.{buckets, rechained_raised}
 use Rattle.lhm_ring.specs.IndexedRing.{IsIndexed}
+use Rattle.lhm_ring.proofs.BucketCounts.{buckets_raised, buckets_lt, capacity_le, raised_more}
 use Rattle.lhm_ring.proofs.Rows.{all_both}
 use Rattle.linked_hash_map.specs.Nodes.{AreKept, IsKept, Lies, pairs_of, bare, bare_node, before, bookmark_at, current_at}
 use Rattle.linked_hash_map.specs.LinkedMap.{nowhere}
@@ -20,6 +22,18 @@ use Rattle.linked_hash_map.specs.Pairs.{find}
 use Rattle.linked_hash_map.specs.declared.map.TheConstants.{LIMIT}
 use Rattle.linked_hash_map.proofs.Kept.{bare-entries, length-bare, length-same, keys-bare, pairs_of-entries, pairs_of-append}
 use Rattle.linked_hash_map.proofs.Pairs.{list_any-none}
+
+-- as many buckets do for a higher capacity that is not above their number
+buckets-stay : (c d : ℕ) → c < d → d ≤ buckets c → buckets c ≡ buckets d
+buckets-stay c d up enough =
+    elim (buckets_raised c d (omega (arith, up))) [
+      | inl e ↦ sym e
+      | inr twice ↦ let below = buckets_lt d (omega (arith, up)) in absurd (omega (arith, twice, below, enough))
+    ]
+
+-- and more are needed above it
+buckets-differ : (c d : ℕ) → buckets c < d → buckets c ≢ buckets d
+buckets-differ c d few e = let fits = capacity_le d in absurd (omega (arith, few, e, fits))
 
 -- what lies among the first nodes is where it was
 module _ {B : Type 0} where
@@ -118,6 +132,26 @@ module _ {K V : Type 0} {eq : K → K → Bool} {hash : K → ℕ} where
           indexed = record { chains = chains; count = count ∙ ap (λ l. buckets (l + t.spares)) (sym long) };
           few = few;
         }
+
+    -- the capacity rises, and the buckets do for it: no node is chained again, and there are more spare nodes or the same
+    module _ (d : ℕ) (up : length s.held + s.spares < d) (enough : d ≤ length heads) where
+      same_buckets : buckets (length s.held + s.spares) ≡ buckets d
+      same_buckets = buckets-stay (length s.held + s.spares) d up (omega (arith, enough, kept.indexed.count))
+
+      pub rechained-stays : (len : ℕ) → r ≡ rechained_raised r len (length s.held + s.spares) d
+      rechained-stays len = sym (ap (λ b. cond b r (r + len)) (eq-eqb (buckets (length s.held + s.spares)) (buckets d) same_buckets))
+
+      pub IsKept-grown : {E : Type 0} {t : State (K × V)} (result : Result (Unit {0}) E) (more : ℕ) → OnOk result (t.held ≡ s.held) → OnOk result (t.spares ≡ s.spares + more) → OnErr result (t ≡ s) → d ≡ length s.held + s.spares + more → d ≤ LIMIT → IsKept eq hash heads t mark n current r
+      IsKept-grown {t = t} (Ok _) more stays spares _ all within =
+          let sum : length s.held + t.spares ≡ d = omega (arith, spares, all) in
+          IsKept-rechained (ap entries stays) (omega (arith, sum, within)) (subst (λ hs. Indexes heads (spots hs)) (sym stays) kept.indexed.chains) (kept.indexed.count ∙ same_buckets ∙ ap buckets (sym sum)) kept.few
+      IsKept-grown (Err _) more _ _ unchanged _ _ = subst (λ u. IsKept eq hash heads u mark n current r) (sym unchanged) kept
+
+    -- it rises above the number of buckets: each pair can be chained again
+    pub rechained-fits : (d : ℕ) → length s.held + s.spares < d → length heads < d → r + length s.held ≤ buckets d
+    rechained-fits d up few =
+        let count : length heads ≡ buckets (length s.held + s.spares) = kept.indexed.count in
+        raised_more r (length s.held) (length s.held + s.spares) d (omega (arith, kept.few, count)) (omega arith) (omega (arith, up)) (buckets-differ (length s.held + s.spares) d (omega (arith, few, count)))
 
     module _ (p : Ptr) (number : ℕ) (key : K) (value : V) (t : State (K × V)) (same : entries t.held ≡ entries (s.held ++ held p number None (pair key value) ∷ [])) where
       bare_is : bare t.held ≡ bare s.held ++ held p number None key ∷ []

@@ -17,7 +17,8 @@ ghost use Rattle.linked_hash_map.specs.Counts.{same, beside, buckets, rechained_
 mod index;
 mod storage;
 
-use self::storage::{clear, clear_mark, ring_with_room};
+pub(crate) use self::storage::ring_with_room;
+use self::storage::{clear, clear_mark};
 use crate::drain::Drain;
 use crate::error::{NoRoom, Refused, ReserveError};
 use crate::iter::{Iter, IterMut, Keys, Values};

@@ -5,7 +5,7 @@ ghost use Rattle.std.specs.Iterator.SizeHint.{IsWithinCount};
 ghost use Rattle.std.specs.List.{AllZip};
 ghost use Rattle.std.specs.Map.Iter.{TakesFirst, TakesLast};
 
-use crate::map::LinkedHashMap;
+use crate::map::{LinkedHashMap, ring_with_room};
 use lhm_ring::ring::Ring;
 use std::alloc::AllocError;
 use std::hash::{BuildHasher, Hash};
@@ -114,11 +114,7 @@ impl<K: Clone, V: Clone> Clone for IntoIter<K, V> {
     ghost is_infallible = { λ s. s ≡ [] };
 
     fn clone(&self) -> Result<Self, AllocError> {
-        let mut ring = Ring::new(self.ring.allocator());
-        if self.ring.len() == 0 {
-            return Ok(Self::new(ring));
-        }
-        ring.grow(self.ring.len())?;
+        let mut ring = ring_with_room(self.ring.allocator(), self.ring.len())?;
         for (number, key, value) in self.ring.iter() {
             ring.put_back(number, key.clone()?, value.clone()?);
         }

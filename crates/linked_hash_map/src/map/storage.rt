@@ -390,7 +390,7 @@ impl<K: Eq + Hash, V, S: BuildHasher> LinkedHashMap<K, V, S> {
         ensures valid { IsValid K.eq self.old }
     {
         let additional = capacity - self.capacity();
-        if buckets_for(capacity) == self.index.buckets() {
+        if capacity <= self.index.buckets() {
             return self.ring.grow(additional).is_ok();
         }
         let Ok(fresh) = Index::with_buckets(self.ring.allocator(), capacity) else {

@@ -25,6 +25,6 @@ returns g c =
     let inv = c.loop-number.invariant in
     let all = inv.split ∙ ap (λ hs. inv.first ++ pairs_of hs) c.in-None.ensures.steps.0 ∙ append-nil inv.first in
     record {
-      cases = subst (AreClones g.K.Clone.is_clone g.V.Clone.is_clone c.args.self.now) (sym c.new-2.ensures)
+      cases = subst (AreClones g.K.Clone.is_clone g.V.Clone.is_clone c.args.self.now) (sym c.new.ensures)
           (subst (λ ps. AreClones g.K.Clone.is_clone g.V.Clone.is_clone ps (pairs_of c.loop-number.ring.held)) (sym all) inv.each);
     }
