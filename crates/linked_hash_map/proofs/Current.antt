@@ -64,10 +64,6 @@ module _ {K V : Type 0} {eq : K → K → Bool} {hash : K → ℕ} {heads : List
         few = kept.few;
       }
 
-  pub IsKept-cleared : {m : Option (Position K V)} {k : ℕ} → m ≡ None → k ≡ 0 → (o : Option Ptr) → Lies o (bare s.held) → IsKept eq hash heads s (place_of_some m) k o r
-  IsKept-cleared {k = k} no_mark none_left o lies =
-      subst (λ m. IsKept eq hash heads s (place_of_some m) k o r) (sym no_mark) (subst (λ k. IsKept eq hash heads s None k o r) (sym none_left) (IsKept-visited o lies))
-
   pub IsKept-with_value : (p : Ptr) (w : V) → IsKept eq hash heads (with_value s p w) mark n current r
   IsKept-with_value p w =
       record {

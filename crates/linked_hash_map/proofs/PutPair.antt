@@ -8,8 +8,6 @@ use Rattle.lhm_ring.specs.Cells.{IsApart}
 use Rattle.lhm_ring.specs.RingState.{Held, State, IsHeld, AtHeld, ChangesOnly, change_at}
 use Rattle.lhm_ring.specs.RingAfterLoan.{revalued, with_value}
 use Rattle.lhm_ring.specs.Search.{HasKey}
-use Rattle.lhm_ring.specs.Positions.{place_of_some}
-use Rattle.lhm_ring.specs.declared.position.Position.{Position}
 use Rattle.lhm_ring.proofs.IndexedRing.{indexed_to_back}
 use Rattle.linked_hash_map.specs.declared.map.Mode.TheVariants.{Touch, Keep}
 use Rattle.linked_hash_map.specs.Nodes.{pairs_of, bare, before, AreKept, IsKept}
@@ -18,7 +16,7 @@ use Rattle.linked_hash_map.specs.Indexes.{IsIndex, set_value_at}
 use Rattle.linked_hash_map.proofs.Pairs.{put-present}
 use Rattle.linked_hash_map.proofs.Indexes.{length-others, set_value_at-pushed, slice_get-pushed, set_value-index, is_some-index, to_back-index, value_at-index}
 use Rattle.linked_hash_map.proofs.Kept.{CutAt, cut_before, length-pairs_of, pair_there, pairs_set}
-use Rattle.linked_hash_map.proofs.Current.{key_lies, key_index, found_lies, IsKept-visited, IsKept-cleared, IsKept-with_value}
+use Rattle.linked_hash_map.proofs.Current.{key_lies, key_index, found_lies, IsKept-visited, IsKept-with_value}
 use Rattle.linked_hash_map.proofs.MovedNode.{pairs-moved, length-to_back, before-at_back, AreKept-moved}
 
 module _ {K V : Type 0} {eq : K → K → Bool} (laws : IsEquivalence eq) {number : ℕ} {k : K} {hs : List (Held (K × V))} {p : Ptr} (has : HasKey eq number k hs p) (distinct : IsDistinct eq (keys_of (pairs_of hs))) where
@@ -71,17 +69,17 @@ module _ {K V : Type 0} {eq : K → K → Bool} (laws : IsEquivalence eq) {numbe
         ap Some (there h.0 h.1 h.2 h.3 h.4) ∙ ap (λ o. option_map (λ pair. pair.1) o) same ∙ value_at-index laws distinct index index.there
 
 -- a map whose pair was touched or kept, with no pair to visit and no current one
-module _ {K V : Type 0} {eq : K → K → Bool} {hash : K → ℕ} {heads : List (Option Ptr)} {s : State (K × V)} {mark current : Option Ptr} {n r : ℕ} (kept : IsKept eq hash heads s mark n current r) {m c : Option (Position K V)} {j : ℕ} (no_mark : m ≡ None) (none_left : j ≡ 0) (no_current : c ≡ None) where
-  pub IsKept-kept : (p : Ptr) (w : V) → IsKept eq hash heads (with_value s p w) (place_of_some m) j (place_of_some c) r
-  IsKept-kept p w =
-      subst (λ o. IsKept eq hash heads (with_value s p w) (place_of_some m) j (place_of_some o) r) (sym no_current)
-      (IsKept-with_value (IsKept-cleared kept no_mark none_left None tt) p w)
+module _ {K V : Type 0} {eq : K → K → Bool} {hash : K → ℕ} {heads : List (Option Ptr)} {s : State (K × V)} {mark current : Option Ptr} {n r : ℕ} (kept : IsKept eq hash heads s mark n current r) where
+  pub IsKept-kept : (p : Ptr) (w : V) → IsKept eq hash heads (with_value s p w) None 0 None r
+  IsKept-kept p w = IsKept-with_value (IsKept-visited kept None tt) p w
 
-  pub IsKept-touched : IsEquivalence eq → {number : ℕ} {k : K} {p : Ptr} → HasKey eq number k s.held p → {t : State (K × V)} → AtHeld s.held p (λ xs x ys. t.held ≡ (xs ++ ys) ++ x ∷ []) → t.spares ≡ s.spares → (w : V) → IsKept eq hash heads (with_value t p w) (place_of_some m) j (place_of_some c) r
-  IsKept-touched laws {p = p} has {t} last spares w =
+  pub IsKept-refreshed : IsEquivalence eq → {number : ℕ} {k : K} {p : Ptr} → HasKey eq number k s.held p → {t : State (K × V)} → AtHeld s.held p (λ xs x ys. t.held ≡ (xs ++ ys) ++ x ∷ []) → t.spares ≡ s.spares → IsKept eq hash heads t None 0 None r
+  IsKept-refreshed laws {p = p} has {t} last spares =
       let visited = IsKept-visited kept (Some p) (found_lies has) in
       let nodes : AreKept eq hash (bare t.held) t.spares None 0 (Some p) =
       subst (λ i. AreKept eq hash (bare t.held) i None 0 (Some p)) (sym spares) (AreKept-moved s.held t.held last (key_lies has) laws visited.nodes (inr (omega arith))) in
       let moved : IsKept eq hash heads t None 0 (Some p) r = record { nodes = nodes; indexed = indexed_to_back heads s t p kept.indexed has.held last spares; few = kept.few } in
-      subst (λ o. IsKept eq hash heads (with_value t p w) (place_of_some m) j (place_of_some o) r) (sym no_current)
-      (IsKept-with_value (IsKept-cleared moved no_mark none_left None tt) p w)
+      IsKept-visited moved None tt
+
+  pub IsKept-touched : IsEquivalence eq → {number : ℕ} {k : K} {p : Ptr} → HasKey eq number k s.held p → {t : State (K × V)} → AtHeld s.held p (λ xs x ys. t.held ≡ (xs ++ ys) ++ x ∷ []) → t.spares ≡ s.spares → (w : V) → IsKept eq hash heads (with_value t p w) None 0 None r
+  IsKept-touched laws {p = p} has last spares w = IsKept-with_value (IsKept-refreshed laws has last spares) p w

@@ -13,9 +13,7 @@ use Rattle.lhm_ring.proofs.Rows.{all_swap}
 use Rattle.linked_hash_map.specs.Nodes.{pairs_of, bare, bare_node, before, bookmark_at, AreKept, IsKept}
 use Rattle.linked_hash_map.proofs.DistinctLists.{distinct_removed}
 use Rattle.linked_hash_map.proofs.Kept.{CutAt, cut_before, bare-entries, pairs_of-entries, length-same, keys-bare, before-bare, remove-cut, pair_there, pairs_removed}
-use Rattle.lhm_ring.specs.Positions.{place_of_some}
-use Rattle.lhm_ring.specs.declared.position.Position.{Position}
-use Rattle.linked_hash_map.proofs.Current.{IsKept-visited, IsKept-cleared}
+use Rattle.linked_hash_map.proofs.Current.{IsKept-visited}
 use Rattle.linked_hash_map.proofs.Outside.{IsClear, IsElsewhere, clear-elsewhere, in_reach-out, to_visit-out}
 
 -- keys that differ still do when one in the midst goes
@@ -119,11 +117,10 @@ IsIndexed-taken {K} {V} {heads} {chains} {s} {t} {w} indexed same spares lacks s
 
 -- and no pair is to be visited, nor is there a current one
 module _ {K V : Type 0} {eq : K → K → Bool} {hash : K → ℕ} {heads chains : List (Option Ptr)} {s t w : State (K × V)} {mark current : Option Ptr} {n r : ℕ} {p : Ptr} (kept : IsKept eq hash heads s mark n current r) (lies : before p s.held < length s.held) where
-  pub IsKept-taken : entries t.held ≡ entries s.held → t.spares ≡ s.spares → HoldsOthers chains t.held p → length chains ≡ length heads → AtHeld t.held p (λ xs x ys. w.held ≡ xs ++ ys) → w.spares ≡ t.spares + 1 → {m c : Option (Position K V)} {k : ℕ} → m ≡ None → k ≡ 0 → c ≡ None → IsKept eq hash chains w (place_of_some m) k (place_of_some c) r
-  IsKept-taken same spares lacks count others more {m} {c} {k} no_mark none_left no_current =
+  pub IsKept-taken : entries t.held ≡ entries s.held → t.spares ≡ s.spares → HoldsOthers chains t.held p → length chains ≡ length heads → AtHeld t.held p (λ xs x ys. w.held ≡ xs ++ ys) → w.spares ≡ t.spares + 1 → IsKept eq hash chains w None 0 None r
+  IsKept-taken same spares lacks count others more =
       let cleared = (IsKept-visited kept None tt).nodes in
       let nodes : AreKept eq hash (bare w.held) w.spares None 0 None =
       subst (λ k. AreKept eq hash (bare w.held) k None 0 None) (sym (more ∙ ap (λ k. k + 1) spares)) (AreKept-taken s.held t.held w.held same others lies None 0 (inr (omega arith)) cleared) in
       let few = kept.few in
-      let out : IsKept eq hash chains w None 0 None r = record { nodes = nodes; indexed = IsIndexed-taken kept.indexed same spares lacks count others more; few = omega (arith, few, count) } in
-      subst (λ o. IsKept eq hash chains w (place_of_some m) k (place_of_some o) r) (sym no_current) (IsKept-cleared out no_mark none_left None tt)
+      record { nodes = nodes; indexed = IsIndexed-taken kept.indexed same spares lacks count others more; few = omega (arith, few, count) }

@@ -18,7 +18,6 @@ mod index;
 mod storage;
 
 pub(crate) use self::storage::ring_with_room;
-use self::storage::{clear, clear_mark};
 use crate::drain::Drain;
 use crate::error::{NoRoom, Refused, ReserveError};
 use crate::iter::{Iter, IterMut, Keys, Values};
@@ -671,8 +670,9 @@ impl<K: Eq + Hash, V, S: BuildHasher> LinkedHashMap<K, V, S> {
         ensures stays_valid { IsValid K.eq self.new }
     {
         let oldest = self.ring.first()?;
-        clear_mark(&mut self.mark, &mut self.unvisited);
-        clear(&mut self.current);
+        self.mark = None;
+        self.unvisited = 0;
+        self.current = None;
         self.index.take_out_at(&mut self.ring, oldest);
         let (_, key, value) = self.ring.unlink(oldest);
         Some((key, value))
@@ -725,8 +725,9 @@ impl<K: Eq + Hash, V, S: BuildHasher> LinkedHashMap<K, V, S> {
             return None;
         }
         let newest = self.ring.last()?;
-        clear_mark(&mut self.mark, &mut self.unvisited);
-        clear(&mut self.current);
+        self.mark = None;
+        self.unvisited = 0;
+        self.current = None;
         self.index.take_out_at(&mut self.ring, newest);
         let (_, key, value) = self.ring.unlink(newest);
         Some((key, value))

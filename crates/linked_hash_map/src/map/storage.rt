@@ -45,27 +45,6 @@ fn mark_behind<K, V>(
     ring.next(at)
 }
 
-/// Empties a place. Most often it is empty, and then nothing is written.
-pub(super) fn clear<K, V>(place: &mut Option<Position<K, V>>)
-    ensures { place.new ≡ None }
-{
-    if place.is_some() {
-        *place = None;
-    }
-}
-
-/// Ends the visit of a cursor. Most often there is none, and then nothing is written.
-pub(super) fn clear_mark<K, V>(mark: &mut Option<Position<K, V>>, unvisited: &mut usize)
-    requires { mark.old ≡ None → unvisited.old ≡ 0 }
-    ensures mark { mark.new ≡ None }
-    ensures unvisited { unvisited.new ≡ 0 }
-{
-    if mark.is_some() {
-        *mark = None;
-        *unvisited = 0;
-    }
-}
-
 impl<K: Eq + Hash, V, S: BuildHasher> LinkedHashMap<K, V, S> {
     ghost use Rattle.linked_hash_map.specs.Lends.{lends_at, lends_left, lends_values};
 
@@ -118,7 +97,8 @@ impl<K: Eq + Hash, V, S: BuildHasher> LinkedHashMap<K, V, S> {
     {
         match self.index.find(&self.ring, number, key).0 {
             Some(at) => {
-                clear_mark(&mut self.mark, &mut self.unvisited);
+                self.mark = None;
+                self.unvisited = 0;
                 self.current = Some(at);
                 true
             }
@@ -243,8 +223,9 @@ impl<K: Eq + Hash, V, S: BuildHasher> LinkedHashMap<K, V, S> {
         let Some(found) = self.index.find(&self.ring, number, key).0 else {
             return Err(value);
         };
-        clear_mark(&mut self.mark, &mut self.unvisited);
-        clear(&mut self.current);
+        self.mark = None;
+        self.unvisited = 0;
+        self.current = None;
         match self.mode {
             Mode::Touch => {
                 self.ring.move_to_back(found);
@@ -290,8 +271,9 @@ impl<K: Eq + Hash, V, S: BuildHasher> LinkedHashMap<K, V, S> {
         ensures stays_valid { IsValid K.eq self.new }
     {
         let at = self.index.take_out(&mut self.ring, number, key)?;
-        clear_mark(&mut self.mark, &mut self.unvisited);
-        clear(&mut self.current);
+        self.mark = None;
+        self.unvisited = 0;
+        self.current = None;
         let (_, key, value) = self.ring.unlink(at);
         Some((key, value))
     }
@@ -347,8 +329,9 @@ impl<K: Eq + Hash, V, S: BuildHasher> LinkedHashMap<K, V, S> {
         ensures ends { self.new ≡ without_cursor self.old }
         ensures valid { IsValid K.eq self.old }
     {
-        clear_mark(&mut self.mark, &mut self.unvisited);
-        clear(&mut self.current);
+        self.mark = None;
+        self.unvisited = 0;
+        self.current = None;
     }
 
     /// Puts a pair at the back, for which there is room. Its key is absent and has this number.

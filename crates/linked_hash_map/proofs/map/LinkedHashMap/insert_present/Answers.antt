@@ -31,10 +31,10 @@ value_mut-requires g c = held-touched g.met.K.Eq.laws (of-Some (λ p. HasKey g.K
 pub invariant_of-self : goal.invariant_of-self
 invariant_of-self g c =
     let moved = c.move_to_back.ensures in
-    IsKept-touched c.self.invariant c.clear_mark.ensures.mark c.clear_mark.ensures.unvisited c.clear.ensures g.met.K.Eq.laws (of-Some (λ p. HasKey g.K.PartialEq.eq c.args.number c.args.key.now c.self.inside.ring.held (place_of p)) c.find.result.0 c.in-Some.found c.in-Some.is c.find.ensures.found) moved.last moved.spares c.replace.new.dest
+    IsKept-touched c.self.invariant g.met.K.Eq.laws (of-Some (λ p. HasKey g.K.PartialEq.eq c.args.number c.args.key.now c.self.inside.ring.held (place_of p)) c.find.result.0 c.in-Some.found c.in-Some.is c.find.ensures.found) moved.last moved.spares c.replace.new.dest
 
 pub invariant_of-self-in-Keep : goal.invariant_of-self-in-Keep
-invariant_of-self-in-Keep g c = IsKept-kept c.self.invariant c.clear_mark.ensures.mark c.clear_mark.ensures.unvisited c.clear.ensures (place_of c.in-Some.found) c.replace-in-Keep.new.dest
+invariant_of-self-in-Keep g c = IsKept-kept c.self.invariant (place_of c.in-Some.found) c.replace-in-Keep.new.dest
 
 pub returns-in-Touch-clause-old : goal.returns-in-Touch-clause-old
 returns-in-Touch-clause-old g c =

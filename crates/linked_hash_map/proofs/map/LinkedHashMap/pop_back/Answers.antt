@@ -14,7 +14,7 @@ pub invariant_of-self : goal.invariant_of-self
 invariant_of-self g c =
     let taken = c.take_out_at.ensures in
     let unlinked = c.unlink-key.ensures in
-    IsKept-taken c.self.invariant (last_lies c.self.inside.ring.held c.len.ensures.apart c.in_ok-newest.ensures) taken.held taken.spares taken.lacks taken.buckets unlinked.others unlinked.spares c.clear_mark.ensures.mark c.clear_mark.ensures.unvisited c.clear.ensures
+    IsKept-taken c.self.invariant (last_lies c.self.inside.ring.held c.len.ensures.apart c.in_ok-newest.ensures) taken.held taken.spares taken.lacks taken.buckets unlinked.others unlinked.spares
 
 pub returns-clause-pair : goal.returns-clause-pair
 returns-clause-pair g c =

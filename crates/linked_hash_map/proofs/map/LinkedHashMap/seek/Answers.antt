@@ -4,14 +4,14 @@ use Rattle.lhm_ring.specs.Search.{HasKey, IsAbsent}
 use Rattle.linked_hash_map.specs.LinkedMap.{LinkedMap}
 use Rattle.linked_hash_map.specs.Hashers.{hash_by}
 use Rattle.linked_hash_map.proofs.Kept.{of-Some, of-None, absent_key, IsValid-view}
-use Rattle.linked_hash_map.proofs.Current.{IsKept-cleared, found_lies, found_index}
+use Rattle.linked_hash_map.proofs.Current.{IsKept-visited, found_lies, found_index}
 use Rattle.linked_hash_map.proofs.map.LinkedHashMap.seek.Goals as goal
 
 pub invariant_of-self : goal.invariant_of-self
 invariant_of-self g c =
     let m = c.self.inside in
     let h = of-Some (λ p. HasKey g.K.PartialEq.eq c.args.number c.args.key.now m.ring.held (place_of p)) c.find.result.0 c.in-Some.at c.in-Some.is c.find.ensures.found in
-    IsKept-cleared c.self.invariant c.clear_mark.ensures.mark c.clear_mark.ensures.unvisited (Some (place_of c.in-Some.at)) (found_lies h)
+    IsKept-visited c.self.invariant (Some (place_of c.in-Some.at)) (found_lies h)
 
 pub returns-in-Some-clause-found : goal.returns-in-Some-clause-found
 returns-in-Some-clause-found g c found =

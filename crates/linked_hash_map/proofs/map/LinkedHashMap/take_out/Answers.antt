@@ -48,7 +48,7 @@ invariant_of-self-2 g c =
     let taken = c.in_ok-at.ensures in
     let unlinked = c.unlink-key.ensures in
     let has = HasKey-kept g.K.PartialEq.eq c.args.number c.args.key.now c.take_out.new.ring.held c.self.inside.ring.held (place_of c.in_ok-at.at) (sym taken.held) taken.found in
-    IsKept-taken c.self.invariant (key_lies has) taken.held taken.spares taken.lacks taken.buckets unlinked.others unlinked.spares c.clear_mark.ensures.mark c.clear_mark.ensures.unvisited c.clear.ensures
+    IsKept-taken c.self.invariant (key_lies has) taken.held taken.spares taken.lacks taken.buckets unlinked.others unlinked.spares
 
 pub returns-clause-value : goal.returns-clause-value
 returns-clause-value g c =
