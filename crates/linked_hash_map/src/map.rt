@@ -557,12 +557,17 @@ impl<K: Eq + Hash, V, S: BuildHasher> LinkedHashMap<K, V, S> {
         ensures value { option_copied_mut result ≡ value_at K.eq self.old.pairs key.now }
         ensures valid { IsValid K.eq self.old }
     {
-        let number = self.number_of(key);
-        if !self.seek(number, key) {
-            return None;
+        let number = self.hasher.hash_one(key);
+        match self.index.find(&self.ring, number, key).0 {
+            Some(at) => {
+                self.mark = None;
+                self.unvisited = 0;
+                self.current = None;
+                self.ring.move_to_back(at);
+                Some(self.ring.value_mut(at))
+            }
+            None => None,
         }
-        self.move_current_to_back();
-        Some(self.leave_current())
     }
 
     /// Takes out the pair of a key, drops the stored key and returns the value, or returns `None` where the key is

@@ -1,50 +1,55 @@
-use Rattle.std.proofs.Common.{◌<◌, ◌++◌, ◌∷◌, [], inl, length, remove, slice_get, option_map, refl, sym, ap, ◌∙◌, subst}
+use Rattle.std.proofs.Common.{◌+◌, Some, option_map, fold, refl, inl, ap, sym, ◌∙◌}
+use Rattle.lhm_ring.specs.Positions.{place_of}
+use Rattle.lhm_ring.specs.Search.{HasKey, IsAbsent}
 use Rattle.linked_hash_map.specs.LinkedMap.{linked_map, nowhere}
-use Rattle.linked_hash_map.proofs.Indexes.{length-others, IsIndex-within, value_at-index, to_back-index, slice_get-within, set_value_at-pushed, slice_get-pushed}
+use Rattle.linked_hash_map.specs.Hashers.{hash_by}
+use Rattle.linked_hash_map.proofs.Kept.{IsValid-view, of-Some, of-None, absent_key, bare-change, length-same, distinct_keys}
+use Rattle.linked_hash_map.proofs.Current.{key_lies}
+use Rattle.linked_hash_map.proofs.MovedNode.{length-to_back}
+use Rattle.linked_hash_map.proofs.PutPair.{held-touched, pairs-touched, value-touched, IsKept-touched}
 use Rattle.linked_hash_map.proofs.map.LinkedHashMap.get_refresh.Goals as goal
 
-pub move_current_to_back-requires-clause-within : goal.move_current_to_back-requires-clause-within
-move_current_to_back-requires-clause-within g c =
-    let sought = c.if-not-seek.ensures in
-    subst (λ n. c.seek.new.self.current < n) (sym (ap (λ m. length m.pairs) (sought.ends_visit refl))) (IsIndex-within g.met.K.Eq.laws sought.valid.distinct (sought.found refl))
+pub value_mut-requires : goal.value_mut-requires
+value_mut-requires g c = held-touched g.met.K.Eq.laws (of-Some (λ p. HasKey g.K.PartialEq.eq c.hash_one-number.result c.args.key.now c.self.inside.ring.held (place_of p)) c.find.result.0 c.in-Some.at c.in-Some.is c.find.ensures.found) (distinct_keys c.self.invariant) c.move_to_back.ensures.last c.move_to_back.ensures.apart
 
-pub leave_current-requires : goal.leave_current-requires
-leave_current-requires g c =
-    let sought = c.if-not-seek.ensures in
-    let s = c.seek.new.self in
-    let moved = c.move_current_to_back in
-    let pair = (sought.found refl).pair in
-    let there = ap (λ m. slice_get m.pairs s.current) (sought.ends_visit refl) ∙ (sought.found refl).there in
-    slice_get-within moved.new.self.pairs moved.new.self.current pair
-    (slice_get-pushed (remove s.pairs s.current) moved.new.self.pairs pair moved.new.self.current (moved.ensures.pairs pair there) (moved.ensures.current ∙ length-others s.pairs s.current pair there))
+pub invariant_of-self-lent : goal.invariant_of-self-lent
+invariant_of-self-lent g c w =
+    let moved = c.move_to_back.ensures in
+    IsKept-touched c.self.invariant g.met.K.Eq.laws (of-Some (λ p. HasKey g.K.PartialEq.eq c.hash_one-number.result c.args.key.now c.self.inside.ring.held (place_of p)) c.find.result.0 c.in-Some.at c.in-Some.is c.find.ensures.found) moved.last moved.spares w
 
-pub returns : goal.returns
-returns g c =
-    let sought = c.if-not-seek.ensures in
-    let s = c.seek.new.self in
-    let moved = c.move_current_to_back in
-    let pair = (sought.found refl).pair in
-    let there = ap (λ m. slice_get m.pairs s.current) (sought.ends_visit refl) ∙ (sought.found refl).there in
-    let at_end = moved.ensures.current ∙ length-others s.pairs s.current pair there in
-    let pushed = moved.ensures.pairs pair there in
-    let last = slice_get-pushed (remove s.pairs s.current) moved.new.self.pairs pair moved.new.self.current pushed at_end in
-    let refreshed = λ (w : g.row.V.Denot).
-    set_value_at-pushed (remove s.pairs s.current) moved.new.self.pairs pair moved.new.self.current pushed at_end w
-    ∙ ap (λ m. remove m.pairs s.current ++ (pair.0, w) ∷ []) (sought.ends_visit refl)
-    ∙ sym (to_back-index g.met.K.Eq.laws sought.valid.distinct (sought.found refl) (sought.found refl).there w) in (
+pub returns-in-Some : goal.returns-in-Some
+returns-in-Some g c =
+    let m = c.self.inside in
+    let at = place_of c.in-Some.at in
+    let moved = c.move_to_back.ensures in
+    let ks = c.move_to_back.new.self.held in
+    let has = of-Some (λ p. HasKey g.K.PartialEq.eq c.hash_one-number.result c.args.key.now m.ring.held (place_of p)) c.find.result.0 c.in-Some.at c.in-Some.is c.find.ensures.found in
+    let distinct = distinct_keys c.self.invariant in
+    let long = λ (w : g.row.V.Denot). length-same _ ks (bare-change at w ks) ∙ length-to_back m.ring.held ks moved.last (key_lies has) in
+    rw (← c.self.view_is) (
       (λ i. inl (
-        c.leave_current.result.ghost_name,
-        λ w. linked_map (refreshed w i)
-            ((moved.ensures.capacity ∙ ap (λ m. m.capacity) (sought.ends_visit refl)) i)
-            ((moved.ensures.hasher ∙ ap (λ m. m.hasher) (sought.ends_visit refl)) i)
-            (moved.ensures.none_left (sought.visited refl) i)
-            ((moved.ensures.unvisited ∙ (sought.visited refl)) i) nowhere
-            ((moved.ensures.rechained ∙ ap (λ m. m.rechained) (sought.ends_visit refl)) i)
-            ((moved.ensures.mode ∙ ap (λ m. m.mode) (sought.ends_visit refl)) i),
+        c.value_mut.result.ghost_name,
+        λ w. linked_map (pairs-touched g.met.K.Eq.laws has distinct moved.last moved.apart c.value_mut.ensures.alone w i)
+            (long w i + moved.spares i) m.hasher 0 0 nowhere m.rechained m.mode,
       )),
       record {
         writes_back = tt;
-        valid = sought.valid;
-        value = sym c.leave_current.ensures.value ∙ ap (option_map (λ pair. pair.1)) last ∙ value_at-index g.met.K.Eq.laws sought.valid.distinct (sought.found refl) (sought.found refl).there;
+        value = value-touched g.met.K.Eq.laws has distinct moved.last moved.apart c.value_mut.ensures.value;
+        valid = IsValid-view c.self.invariant _ _ _ _ _ _;
+      },
+    )
+
+pub returns-in-None : goal.returns-in-None
+returns-in-None g c =
+    let m = c.self.inside in
+    rw (← c.self.view_is) (
+      refl,
+      record {
+        writes_back = tt;
+        value = sym (ap (option_map (λ p. p.1)) (absent_key g.K.PartialEq.eq (hash_by g.S.Hasher.Hasher.finish g.S.Hasher.Hasher.write g.S.BuildHasher.build_hasher g.K.Hash.hash_input m.hasher)
+            (λ x y h. ap (λ ws. g.S.Hasher.Hasher.finish (fold g.S.Hasher.Hasher.write (g.S.BuildHasher.build_hasher m.hasher) ws)) (g.met.K.Hash.respects_eq x y h))
+            c.args.key.now c.hash_one-number.result c.hash_one-number.ensures m.ring.held c.self.invariant.nodes.hashed
+            (of-None (IsAbsent g.K.PartialEq.eq c.hash_one-number.result c.args.key.now m.ring.held) c.find.result.0 c.in-None.is c.find.ensures.absent)));
+        valid = IsValid-view c.self.invariant _ _ _ _ _ _;
       },
     )
