@@ -162,8 +162,6 @@ impl<K: Eq + Hash, V, S: BuildHasher> LinkedHashMap<K, V, S> {
         ensures mode { self.new.mode ≡ self.old.mode }
         ensures to_visit { to_visit self.new ≡ to_visit self.old }
         ensures outside { IsOutside self.new.current self.new }
-        ensures unvisited { self.new.unvisited ≡ self.old.unvisited }
-        ensures none_left { self.old.unvisited ≡ 0 → self.new.bookmark ≡ 0 }
         ensures valid { IsValid K.eq self.old }
         ensures stays_valid { IsValid K.eq self.new }
     {
