@@ -1,5 +1,7 @@
-use Rattle.std.proofs.Common.{refl, ◌∷◌, [], ◌∙◌, arith, length-append}
-use Rattle.linked_hash_map.specs.Run.{first_log, last_log}
+use Rattle.std.proofs.Common.{refl, ◌∷◌, [], ◌∙◌, sym, subst, map-id, arith, length-append}
+use Rattle.std.proofs.lemmas.Iterator.Adapters.{YieldsList-from_vec}
+use Rattle.std.proofs.lemmas.Iterator.Consumers.{YieldsList-end}
+use Rattle.linked_hash_map.specs.Run.{IsRun, first_log, last_log}
 use Rattle.linked_hash_map.proofs.Runs.{IsRun-snoc, last_log-snoc, Defines-first_log}
 use Rattle.linked_hash_map.proofs.replay.replay.Goals as goal
 
@@ -32,3 +34,10 @@ loop-command-preserved g c =
       count = let l = length-append c.loop-command.yielded (command ∷ []) in let n = c.push_reserved.ensures.len in let k = i.count in omega arith;
       room = rw c.push_reserved.ensures.capacity i.room;
     }
+
+pub returns-clause-run : goal.returns-clause-run
+returns-clause-run g c =
+    let gives = c.into_iter-command-iterator.ensures.into_iter_gives in
+    let end = YieldsList-end (YieldsList-from_vec c.args.commands.items gives.0 (gives.1 ∙ c.args.commands.ok.0)) c.loop-command.yielded c.loop-command.command-iterator c.loop-command.yielded_by c.next.result c.next.new.self c.in-None.is c.next.ensures.steps in
+    let first = first_log c.args.map.now.mode c.args.map.now.pairs in
+    subst (λ cs. IsRun g.K.PartialEq.eq c.args.map.now.capacity first cs c.loop-command.replies.items) (sym (map-id c.loop-command.yielded) ∙ end.0) c.loop-command.invariant.run
