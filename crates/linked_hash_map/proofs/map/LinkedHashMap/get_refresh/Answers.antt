@@ -1,4 +1,4 @@
-use Rattle.std.proofs.Common.{◌+◌, Some, option_map, fold, refl, inl, ap, sym, ◌∙◌}
+use Rattle.std.proofs.Common.{◌+◌, option_map, fold, refl, inl, ap, sym, ◌∙◌}
 use Rattle.lhm_ring.specs.Positions.{place_of}
 use Rattle.lhm_ring.specs.Search.{HasKey, IsAbsent}
 use Rattle.linked_hash_map.specs.LinkedMap.{linked_map, nowhere}
