@@ -19,26 +19,34 @@ use Rattle.linked_hash_map.proofs.Kept.{CutAt, cut_before, bare-change, length-b
 use Rattle.linked_hash_map.proofs.Outside.{IsElsewhere, before_held}
 
 -- the index is the number of nodes before the place
-pub current_at-Some : {K V : Type 0} {o : Option (Position K V)} {p : Position K V} → o ≡ Some p → (hs : List (Held (K × V))) → current_at (place_of_some o) (bare hs) ≡ before (place_of p) hs
-current_at-Some {p = p} is hs = ap (λ z. current_at (place_of_some z) (bare hs)) is ∙ before-bare (place_of p) hs
+pub current_at-Some : {K V : Type 0} {o : Option Ptr} {p : Ptr} → o ≡ Some p → (hs : List (Held (K × V))) → current_at o (bare hs) ≡ before p hs
+current_at-Some {p = p} is hs = ap (λ z. current_at z (bare hs)) is ∙ before-bare p hs
 
-module _ {K V : Type 0} {eq : K → K → Bool} {hash : K → ℕ} {heads : List (Option Ptr)} {s : State (K × V)} {mark : Option Ptr} {n : ℕ} {o : Option (Position K V)} {r : ℕ} (kept : IsKept eq hash heads s mark n (place_of_some o) r) {p : Position K V} (is : o ≡ Some p) where
+pub cond-None : {X : Type 0} (b : Bool) → cond {A = Option X} b None None ≡ None
+cond-None true = refl
+cond-None false = refl
+
+-- where an entry stands
+pub current_of-Some : {K V : Type 0} {current : Option Ptr} {o : Option (Position K V)} {p : Position K V} → place_of_some o ≡ current → o ≡ Some p → current ≡ Some (place_of p)
+current_of-Some of is = sym of ∙ ap place_of_some is
+
+module _ {K V : Type 0} {eq : K → K → Bool} {hash : K → ℕ} {heads : List (Option Ptr)} {s : State (K × V)} {mark : Option Ptr} {n : ℕ} {o : Option Ptr} {r : ℕ} (kept : IsKept eq hash heads s mark n o r) {p : Ptr} (is : o ≡ Some p) where
   -- a node lies there
-  pub current_lies : before (place_of p) s.held < length s.held
+  pub current_lies : before p s.held < length s.held
   current_lies =
-      let lies : before (place_of p) (bare s.held) < length (bare s.held) = subst (λ z. Lies (place_of_some z) (bare s.held)) is kept.nodes.current_lies in
-      let of_before = before-bare (place_of p) s.held in
+      let lies : before p (bare s.held) < length (bare s.held) = subst (λ z. Lies z (bare s.held)) is kept.nodes.current_lies in
+      let of_before = before-bare p s.held in
       let of_bare = length-bare s.held in
       omega (arith, lies, of_before, of_bare)
 
-  pub current_cut : CutAt (place_of p) s.held
-  current_cut = cut_before (place_of p) s.held current_lies
+  pub current_cut : CutAt p s.held
+  current_cut = cut_before p s.held current_lies
 
-  pub current_nodes : AreKept eq hash (bare s.held) s.spares mark n (Some (place_of p))
-  current_nodes = subst (λ z. AreKept eq hash (bare s.held) s.spares mark n (place_of_some z)) is kept.nodes
+  pub current_nodes : AreKept eq hash (bare s.held) s.spares mark n (Some p)
+  current_nodes = subst (λ z. AreKept eq hash (bare s.held) s.spares mark n z) is kept.nodes
 
   -- where the index is outside the pairs to visit, the node is
-  pub current_elsewhere : {S : Type 0} {m : LinkedMap K V S} {capacity : ℕ} {hasher : S} {mode : Mode} → linked_map (pairs_of s.held) capacity hasher (bookmark_at mark (bare s.held)) n (current_at (place_of_some o) (bare s.held)) r mode ≡ m → IsOutside m.current m → IsElsewhere (place_of p) s.held mark n
+  pub current_elsewhere : {S : Type 0} {m : LinkedMap K V S} {capacity : ℕ} {hasher : S} {mode : Mode} → linked_map (pairs_of s.held) capacity hasher (bookmark_at mark (bare s.held)) n (current_at o (bare s.held)) r mode ≡ m → IsOutside m.current m → IsElsewhere p s.held mark n
   current_elsewhere {S} {m} view outside =
       subst (λ k. (k < bookmark_at mark (bare s.held)) ⊎ (bookmark_at mark (bare s.held) + n ≤ k)) (current_at-Some is s.held)
       (subst (λ (x : LinkedMap K V S). IsOutside x.current x) (sym view) outside)
@@ -63,6 +71,14 @@ module _ {K V : Type 0} {eq : K → K → Bool} {hash : K → ℕ} {heads : List
         indexed = kept.indexed;
         few = kept.few;
       }
+
+  -- an entry is done with
+  pub IsKept-left : (is_on : Bool) → IsKept eq hash heads s mark n (cond is_on None None) r
+  IsKept-left true = IsKept-current None tt
+  IsKept-left false = IsKept-current None tt
+
+  pub IsKept-count : {k : ℕ} → k ≡ n → IsKept eq hash heads s mark k current r
+  IsKept-count is = subst (λ (k : ℕ). IsKept eq hash heads s mark k current r) (sym is) kept
 
   pub IsKept-with_value : (p : Ptr) (w : V) → IsKept eq hash heads (with_value s p w) mark n current r
   IsKept-with_value p w =

@@ -20,36 +20,33 @@ use denote.Struct.Members.{Member}
 use denote.Struct.Parts.{PartsBack}
 use denote.Struct.Pick.{rest_at, field_out, field_back}
 use Rattle.std.specs.Map.{values_of}
-use Rattle.std.specs.contracts.option.Option as option
-use Rattle.std.proofs.option.Option.TheLaws.{the_row_laws as option_laws}
 use Rattle.std.specs.declared.cmp.PartialEq as eq
 use Rattle.std.specs.declared.hash.Hash as hash
 use Rattle.std.specs.declared.hash.Hasher as hasher
 use Rattle.std.specs.declared.hash.BuildHasher as builder
 use Rattle.lhm_ring.specs.ValueLoan.{spread}
-use Rattle.lhm_ring.specs.Positions.{place_of_some}
 use Rattle.lhm_ring.specs.RingState.{State, Held}
 use Rattle.lhm_ring.specs.RingAfterLoan.{held_values, set_held_values}
 use Rattle.lhm_ring.specs.contracts.index.Index as N-type
 use Rattle.lhm_ring.specs.contracts.links.Links as links
-use Rattle.lhm_ring.specs.contracts.position.Position as P-type
 use Rattle.lhm_ring.specs.contracts.ring.Ring as R-type
 use Rattle.lhm_ring.proofs.IndexMoves.{spots-values}
 use Rattle.lhm_ring.proofs.IndexedRing.{indexed_same}
 use Rattle.lhm_ring.proofs.index.Index.TheLaws as N-laws
-use Rattle.lhm_ring.proofs.position.Position.TheLaws as P-laws
 use Rattle.lhm_ring.proofs.ring.Ring.TheLaws as R-laws
 use Rattle.lhm_ring.proofs.ValuesSplitOff as ring
 use Rattle.linked_hash_map.specs.LinkedMap.{LinkedMap, linked_map}
-use Rattle.linked_hash_map.specs.Nodes.{pairs_of, bare, AreKept, bookmark_at, current_at}
+use Rattle.linked_hash_map.specs.Nodes.{pairs_of, bare, AreKept, bookmark_at, current_at, mark_of, unvisited_of, current_of}
 use Rattle.linked_hash_map.specs.Hashers.{hash_by}
 use Rattle.linked_hash_map.specs.Pairs.{set_values}
 use Rattle.linked_hash_map.specs.Validity.{IsValid}
 use Rattle.linked_hash_map.specs.contracts.map.LinkedHashMap as M-type
 use Rattle.linked_hash_map.specs.contracts.map.Mode as O-type
+use Rattle.linked_hash_map.specs.contracts.map.visit.Visit as V-type
 use Rattle.linked_hash_map.specs.contracts.map.LinkedHashMap.TheInside as I-type
 use Rattle.linked_hash_map.proofs.Kept.{IsValid-view, bare-values, length-same}
 use Rattle.linked_hash_map.proofs.map.Mode.TheLaws as O-laws
+use Rattle.linked_hash_map.proofs.map.visit.Visit.TheLaws as V-laws
 
 -- the pairs of nodes, and their values
 module _ {K V : Type 0} where
@@ -87,14 +84,14 @@ module _ (K₀ V₀ S₀ H₀ : RattleType) (g : eq.Ghosts K₀.Denot) (h : hash
   abbrev pub Index : RattleType
   Index = N-type.the_row K V
 
-  abbrev pub Mark : RattleType
-  Mark = option.the_row (P-type.the_row K V)
+  abbrev pub Visited : RattleType
+  Visited = V-type.the_row K V
 
   abbrev pub Setting : RattleType
   Setting = O-type.the_row
 
   abbrev pub ms : List Member
-  ms = record { row = Rg; ty = lone Rg.mir } ∷ record { row = Index; ty = lone Index.mir } ∷ record { row = S; ty = lone S.mir } ∷ record { row = Mark; ty = lone Mark.mir } ∷ record { row = usize; ty = lone usize.mir } ∷ record { row = Mark; ty = lone Mark.mir } ∷ record { row = usize; ty = lone usize.mir } ∷ record { row = Setting; ty = lone Setting.mir } ∷ []
+  ms = record { row = Rg; ty = lone Rg.mir } ∷ record { row = Index; ty = lone Index.mir } ∷ record { row = S; ty = lone S.mir } ∷ record { row = Visited; ty = lone Visited.mir } ∷ record { row = usize; ty = lone usize.mir } ∷ record { row = Setting; ty = lone Setting.mir } ∷ []
 
   abbrev pub Seen : Type 0
   Seen = LinkedMap K.Denot V.Denot S.Denot
@@ -111,17 +108,17 @@ module _ (K₀ V₀ S₀ H₀ : RattleType) (g : eq.Ghosts K₀.Denot) (h : hash
 
   module _ {M : Type 1} {𝓤 : Ura M} (𝓛 : Logic 𝓤) (i : Whole.Denot) (rb ro : ℕ) where
     abbrev pub Rest : SProp 𝓤
-    Rest = sep 𝓤 (sem 𝓛 (rest_at full_share ms 0 (i.ring, (i.index, (i.hasher, (i.mark, (i.unvisited, (i.current, (i.rechained, (i.mode, tt)))))))) rb ro 0)) (PartsBack 𝓛 full_share [] ms rb ro)
+    Rest = sep 𝓤 (sem 𝓛 (rest_at full_share ms 0 (i.ring, (i.index, (i.hasher, (i.visit, (i.rechained, (i.mode, tt)))))) rb ro 0)) (PartsBack 𝓛 full_share [] ms rb ro)
 
     pub field_of : Laws K₀ → Laws V₀ → Laws S₀ → ent 𝓤 (sem 𝓛 (part_at Whole full_share i rb ro)) (sep 𝓤 (sem 𝓛 (part_at Rg full_share i.ring rb (field_at ro))) Rest)
     unfolding part_of
-    field_of KL VL SL = let LK = param_laws 0 K₀ KL in let LV = param_laws 1 V₀ VL in let LS = param_laws 2 S₀ SL in let LM = option_laws (P-type.the_row K V) (P-laws.the_row_laws K V LK LV) in
-        field_out 𝓛 full_share [] ms ((R-laws.the_row_laws K V LK LV).lawful 𝓛, ((N-laws.the_row_laws K V LK LV).lawful 𝓛, (LS.lawful 𝓛, (LM.lawful 𝓛, (usize-laws.lawful 𝓛, (LM.lawful 𝓛, (usize-laws.lawful 𝓛, (O-laws.the_row_laws.lawful 𝓛, tt))))))))
-        (i.ring, (i.index, (i.hasher, (i.mark, (i.unvisited, (i.current, (i.rechained, (i.mode, tt)))))))) rb ro 0
+    field_of KL VL SL = let LK = param_laws 0 K₀ KL in let LV = param_laws 1 V₀ VL in let LS = param_laws 2 S₀ SL in let LO = V-laws.the_row_laws K V LK LV in
+        field_out 𝓛 full_share [] ms ((R-laws.the_row_laws K V LK LV).lawful 𝓛, ((N-laws.the_row_laws K V LK LV).lawful 𝓛, (LS.lawful 𝓛, (LO.lawful 𝓛, (usize-laws.lawful 𝓛, (O-laws.the_row_laws.lawful 𝓛, tt))))))
+        (i.ring, (i.index, (i.hasher, (i.visit, (i.rechained, (i.mode, tt)))))) rb ro 0
 
     of_field : (d : State (K.Denot × V.Denot)) → ent 𝓤 (sep 𝓤 (sem 𝓛 (part_at Rg full_share d rb (field_at ro))) Rest) (sem 𝓛 (part_at Whole full_share (record i { ring = d }) rb ro))
     unfolding part_of
-    of_field d = field_back 𝓛 full_share [] ms (d, (i.index, (i.hasher, (i.mark, (i.unvisited, (i.current, (i.rechained, (i.mode, tt)))))))) rb ro 0
+    of_field d = field_back 𝓛 full_share [] ms (d, (i.index, (i.hasher, (i.visit, (i.rechained, (i.mode, tt)))))) rb ro 0
 
     module _ (dm : Seen) (seen : view i ≡ dm) (ok : good i) (a : ring.Inside K V) (rseen : ring.view K V a ≡ i.ring) (rok : ring.good K V a) where
       abbrev pub hs : List (Held (K.Denot × V.Denot))
@@ -157,12 +154,12 @@ module _ (K₀ V₀ S₀ H₀ : RattleType) (g : eq.Ghosts K₀.Denot) (h : hash
 
         viewed : view (record i { ring = after }) ≡ record dm { pairs = set_values dm.pairs vs }
         viewed =
-            (λ j. linked_map (pairs_of-set_held_values hs vs j) (length-same after.held hs same_bare j + i.ring.spares) i.hasher (bookmark_at (place_of_some i.mark) (same_bare j)) i.unvisited (current_at (place_of_some i.current) (same_bare j)) i.rechained i.mode)
+            (λ j. linked_map (pairs_of-set_held_values hs vs j) (length-same after.held hs same_bare j + i.ring.spares) i.hasher (bookmark_at (mark_of i.visit) (same_bare j)) (unvisited_of i.visit) (current_at (current_of i.visit) (same_bare j)) i.rechained i.mode)
             ∙ ap (λ (m : Seen). record m { pairs = set_values m.pairs vs }) seen
 
         still_good : good (record i { ring = after })
         still_good = record {
-          nodes = subst (λ us. AreKept g.eq (hash_by w.finish w.write b.build_hasher h.hash_input i.hasher) us i.ring.spares (place_of_some i.mark) i.unvisited (place_of_some i.current)) (sym same_bare) ok.nodes;
+          nodes = subst (λ us. AreKept g.eq (hash_by w.finish w.write b.build_hasher h.hash_input i.hasher) us i.ring.spares (mark_of i.visit) (unvisited_of i.visit) (current_of i.visit)) (sym same_bare) ok.nodes;
           indexed = indexed_same i.index i.ring after ok.indexed (spots-values hs vs) refl;
           few = ok.few;
         }
@@ -188,4 +185,4 @@ module _ (K₀ V₀ S₀ H₀ : RattleType) (g : eq.Ghosts K₀.Denot) (h : hash
       pairs_are = ap (λ (m : Seen). m.pairs) seen
 
       pub valid : IsValid g.eq dm
-      valid = subst (IsValid g.eq) seen (IsValid-view ok i.hasher (bookmark_at (place_of_some i.mark) (bare hs)) i.unvisited (current_at (place_of_some i.current) (bare hs)) i.rechained i.mode)
+      valid = subst (IsValid g.eq) seen (IsValid-view ok i.hasher (bookmark_at (mark_of i.visit) (bare hs)) (unvisited_of i.visit) (current_at (current_of i.visit) (bare hs)) i.rechained i.mode)

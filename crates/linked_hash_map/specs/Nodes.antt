@@ -3,10 +3,12 @@ use Rattle.std.specs.Prelude.{◌≡◌, ℕ, ◌+◌, ◌<◌, ◌≤◌, Bool,
 use Rattle.std.specs.List.{IsDistinct, AllByRecursion}
 use denote.RawPtr.{Ptr}
 use Rattle.lhm_ring.specs.Cells.{same_ptr}
+use Rattle.lhm_ring.specs.Positions.{place_of_some}
 use Rattle.lhm_ring.specs.RingState.{Held, State, held}
 use Rattle.lhm_ring.specs.IndexedRing.{IsIndexed}
 use Rattle.linked_hash_map.specs.LinkedMap.{nowhere}
 use Rattle.linked_hash_map.specs.declared.map.TheConstants.{LIMIT}
+use Rattle.linked_hash_map.specs.declared.map.visit.Visit.{Visit}
 
 module _ {B : Type 0} where
   -- how many nodes come before the one at p: all, where none lies there
@@ -28,6 +30,17 @@ module _ {B : Type 0} where
   abbrev pub Lies : Option Ptr → List (Held B) → Type 0
   Lies None hs = ⊤
   Lies (Some p) hs = before p hs < length hs
+
+-- where a cursor or an entry stands: nowhere, and with nothing to visit, where there is neither
+module _ {K V : Type 0} where
+  abbrev pub mark_of : Visit K V → Option Ptr
+  mark_of visit = cond visit.is_on (place_of_some visit.mark) None
+
+  abbrev pub unvisited_of : Visit K V → ℕ
+  unvisited_of visit = cond visit.is_on visit.unvisited 0
+
+  abbrev pub current_of : Visit K V → Option Ptr
+  current_of visit = cond visit.is_on (place_of_some visit.current) None
 
 module _ {K V : Type 0} where
   -- the pairs in the nodes, in order

@@ -16,13 +16,15 @@ ghost use Rattle.linked_hash_map.specs.Counts.{same, beside, buckets, rechained_
 
 mod index;
 mod storage;
+mod visit;
 
 pub(crate) use self::storage::ring_with_room;
+use self::visit::Visit;
 use crate::drain::Drain;
 use crate::error::{NoRoom, Refused, ReserveError};
 use crate::iter::{Iter, IterMut, Keys, Values};
 use lhm_ring::index::{Index, Probe};
-use lhm_ring::ring::{Position, Ring};
+use lhm_ring::ring::Ring;
 use std::alloc::Global;
 use std::hash::{BuildHasher, BuildHasherDefault, FoldHasher, Hash};
 use std::marker::Model;
@@ -118,12 +120,8 @@ pub struct LinkedHashMap<K: Eq + Hash, V, S: BuildHasher = DefaultHashBuilder> {
     // Which node has a key, by its number.
     index: Index<K, V>,
     hasher: S,
-    // Where the next pair is that a cursor visits.
-    mark: Option<Position<K, V>>,
-    // How many pairs from there on it has still to visit: none where there is no cursor.
-    unvisited: usize,
-    // Where the pair is that an occupied entry stands for.
-    current: Option<Position<K, V>>,
+    // Where a cursor or an entry stands.
+    visit: Visit<K, V>,
     // How many nodes changes of the capacity have chained again.
     rechained: usize,
     // What an insertion of a present key does to the place of its pair.
@@ -135,17 +133,16 @@ pub struct LinkedHashMap<K: Eq + Hash, V, S: BuildHasher = DefaultHashBuilder> {
 impl<K: Eq + Hash, V, S: BuildHasher> Model for LinkedHashMap<K, V, S> {
     ghost use Rattle.std.specs.Prelude.{◌+◌, length};
     ghost use Rattle.linked_hash_map.specs.LinkedMap.{LinkedMap, linked_map, linked_map_code};
-    ghost use Rattle.linked_hash_map.specs.Nodes.{IsKept, pairs_of, bare, bookmark_at, current_at};
+    ghost use Rattle.linked_hash_map.specs.Nodes.{IsKept, pairs_of, bare, bookmark_at, current_at, mark_of, unvisited_of, current_of};
     ghost use Rattle.linked_hash_map.specs.Hashers.{hash_by};
-    ghost use Rattle.lhm_ring.specs.Positions.{place_of_some};
 
     ghost Value = { LinkedMap K V S };
 
     ghost coded = { linked_map_code K.code V.code S.code };
 
-    ghost view = { λ m. linked_map (pairs_of m.ring.held) (length m.ring.held + m.ring.spares) m.hasher (bookmark_at (place_of_some m.mark) (bare m.ring.held)) m.unvisited (current_at (place_of_some m.current) (bare m.ring.held)) m.rechained m.mode };
+    ghost view = { λ m. linked_map (pairs_of m.ring.held) (length m.ring.held + m.ring.spares) m.hasher (bookmark_at (mark_of m.visit) (bare m.ring.held)) (unvisited_of m.visit) (current_at (current_of m.visit) (bare m.ring.held)) m.rechained m.mode };
 
-    ghost invariant = { λ m. IsKept K.eq (hash_by S.Hasher.finish S.Hasher.write S.build_hasher K.hash_input m.hasher) m.index m.ring (place_of_some m.mark) m.unvisited (place_of_some m.current) m.rechained };
+    ghost invariant = { λ m. IsKept K.eq (hash_by S.Hasher.finish S.Hasher.write S.build_hasher K.hash_input m.hasher) m.index m.ring (mark_of m.visit) (unvisited_of m.visit) (current_of m.visit) m.rechained };
 }
 
 impl<K: Eq + Hash, V> LinkedHashMap<K, V> {
@@ -230,9 +227,12 @@ impl<K: Eq + Hash, V, S: BuildHasher> LinkedHashMap<K, V, S> {
             ring: Ring::new(alloc),
             index: Index::new(alloc),
             hasher,
-            mark: None,
-            unvisited: 0,
-            current: None,
+            visit: Visit {
+                is_on: false,
+                mark: None,
+                unvisited: 0,
+                current: None,
+            },
             rechained: 0,
             mode: Mode::Touch,
         }
@@ -286,9 +286,12 @@ impl<K: Eq + Hash, V, S: BuildHasher> LinkedHashMap<K, V, S> {
             ring,
             index,
             hasher,
-            mark: None,
-            unvisited: 0,
-            current: None,
+            visit: Visit {
+                is_on: false,
+                mark: None,
+                unvisited: 0,
+                current: None,
+            },
             rechained: 0,
             mode: Mode::Touch,
         })
@@ -560,9 +563,7 @@ impl<K: Eq + Hash, V, S: BuildHasher> LinkedHashMap<K, V, S> {
         let number = self.hasher.hash_one(key);
         match self.index.find(&self.ring, number, key).0 {
             Some(at) => {
-                self.mark = None;
-                self.unvisited = 0;
-                self.current = None;
+                self.visit.is_on = false;
                 self.ring.move_to_back(at);
                 Some(self.ring.value_mut(at))
             }
@@ -675,9 +676,7 @@ impl<K: Eq + Hash, V, S: BuildHasher> LinkedHashMap<K, V, S> {
         ensures stays_valid { IsValid K.eq self.new }
     {
         let oldest = self.ring.first()?;
-        self.mark = None;
-        self.unvisited = 0;
-        self.current = None;
+        self.visit.is_on = false;
         self.index.take_out_at(&mut self.ring, oldest);
         let (_, key, value) = self.ring.unlink(oldest);
         Some((key, value))
@@ -730,9 +729,7 @@ impl<K: Eq + Hash, V, S: BuildHasher> LinkedHashMap<K, V, S> {
             return None;
         }
         let newest = self.ring.last()?;
-        self.mark = None;
-        self.unvisited = 0;
-        self.current = None;
+        self.visit.is_on = false;
         self.index.take_out_at(&mut self.ring, newest);
         let (_, key, value) = self.ring.unlink(newest);
         Some((key, value))

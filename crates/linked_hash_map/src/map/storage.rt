@@ -19,6 +19,7 @@ ghost use Rattle.lhm_ring.specs.Positions.{place_of, place_of_some};
 ghost use Rattle.lhm_ring.specs.RingState.{IsHeld, AtHeld, first_at};
 ghost use Rattle.lhm_ring.specs.LentRings.{lent_held, lent_name, IsLent};
 
+use super::visit::Visit;
 use super::{LIMIT, LinkedHashMap, Mode};
 use crate::iter::IntoIter;
 use lhm_ring::index::{Index, buckets_for};
@@ -59,9 +60,7 @@ impl<K: Eq + Hash, V, S: BuildHasher> LinkedHashMap<K, V, S> {
             ring,
             index: _,
             hasher: _,
-            mark: _,
-            unvisited: _,
-            current: _,
+            visit: _,
             rechained: _,
             mode: _,
         } = self;
@@ -97,9 +96,12 @@ impl<K: Eq + Hash, V, S: BuildHasher> LinkedHashMap<K, V, S> {
     {
         match self.index.find(&self.ring, number, key).0 {
             Some(at) => {
-                self.mark = None;
-                self.unvisited = 0;
-                self.current = Some(at);
+                self.visit = Visit {
+                    is_on: true,
+                    mark: None,
+                    unvisited: 0,
+                    current: Some(at),
+                };
                 true
             }
             None => false,
@@ -111,7 +113,7 @@ impl<K: Eq + Hash, V, S: BuildHasher> LinkedHashMap<K, V, S> {
         requires { self.now.current < length self.now.pairs }
         ensures { slice_get self.now.pairs self.now.current ≡ Some (result.0.now, result.1.now) }
     {
-        let at = self.current.unwrap();
+        let at = self.visit.current().unwrap();
         (self.ring.key(at), self.ring.value(at))
     }
 
@@ -122,7 +124,7 @@ impl<K: Eq + Hash, V, S: BuildHasher> LinkedHashMap<K, V, S> {
         ensures value { option_map (λ pair. pair.1) (slice_get self.old.pairs self.old.current) ≡ Some result.now }
         ensures valid { IsValid K.eq self.old }
     {
-        let at = self.current.unwrap();
+        let at = self.visit.current().unwrap();
         self.ring.value_mut(at)
     }
 
@@ -133,8 +135,8 @@ impl<K: Eq + Hash, V, S: BuildHasher> LinkedHashMap<K, V, S> {
         ensures value { option_map (λ pair. pair.1) (slice_get self.old.pairs self.old.current) ≡ Some result.now }
         ensures valid { IsValid K.eq self.old }
     {
-        let at = self.current.unwrap();
-        self.current = None;
+        let at = self.visit.current().unwrap();
+        self.visit.current = None;
         self.ring.value_mut(at)
     }
 
@@ -165,7 +167,7 @@ impl<K: Eq + Hash, V, S: BuildHasher> LinkedHashMap<K, V, S> {
         ensures valid { IsValid K.eq self.old }
         ensures stays_valid { IsValid K.eq self.new }
     {
-        let at = self.current.unwrap();
+        let at = self.visit.current().unwrap();
         self.ring.move_to_back(at);
     }
 
@@ -221,9 +223,7 @@ impl<K: Eq + Hash, V, S: BuildHasher> LinkedHashMap<K, V, S> {
         let Some(found) = self.index.find(&self.ring, number, key).0 else {
             return Err(value);
         };
-        self.mark = None;
-        self.unvisited = 0;
-        self.current = None;
+        self.visit.is_on = false;
         match self.mode {
             Mode::Touch => {
                 self.ring.move_to_back(found);
@@ -248,8 +248,8 @@ impl<K: Eq + Hash, V, S: BuildHasher> LinkedHashMap<K, V, S> {
         ensures valid { IsValid K.eq self.old }
         ensures stays_valid { IsValid K.eq self.new }
     {
-        let at = self.current.unwrap();
-        self.current = None;
+        let at = self.visit.current().unwrap();
+        self.visit.current = None;
         self.index.take_out_at(&mut self.ring, at);
         let (_, key, value) = self.ring.unlink(at);
         (key, value)
@@ -269,9 +269,7 @@ impl<K: Eq + Hash, V, S: BuildHasher> LinkedHashMap<K, V, S> {
         ensures stays_valid { IsValid K.eq self.new }
     {
         let at = self.index.take_out(&mut self.ring, number, key)?;
-        self.mark = None;
-        self.unvisited = 0;
-        self.current = None;
+        self.visit.is_on = false;
         let (_, key, value) = self.ring.unlink(at);
         Some((key, value))
     }
@@ -286,8 +284,12 @@ impl<K: Eq + Hash, V, S: BuildHasher> LinkedHashMap<K, V, S> {
         ensures mode { self.new.mode ≡ self.old.mode }
         ensures valid { IsValid K.eq self.old }
     {
-        self.mark = self.ring.first();
-        self.unvisited = self.ring.len();
+        self.visit = Visit {
+            is_on: true,
+            mark: self.ring.first(),
+            unvisited: self.ring.len(),
+            current: None,
+        };
     }
 
     /// Makes the next unvisited pair the current one and moves the mark past it, and tells whether one was left.
@@ -306,12 +308,16 @@ impl<K: Eq + Hash, V, S: BuildHasher> LinkedHashMap<K, V, S> {
         ensures none { IsFalse result → to_visit self.old ≡ [] }
         ensures unchanged { IsFalse result → self.new ≡ self.old }
     {
-        let Some(at) = self.mark else {
+        let Some(at) = self.visit.mark() else {
             return false;
         };
-        self.current = Some(at);
-        self.unvisited -= 1;
-        self.mark = mark_behind(&self.ring, at, self.unvisited);
+        let unvisited = self.visit.unvisited() - 1;
+        self.visit = Visit {
+            is_on: true,
+            mark: mark_behind(&self.ring, at, unvisited),
+            unvisited,
+            current: Some(at),
+        };
         true
     }
 
@@ -319,7 +325,7 @@ impl<K: Eq + Hash, V, S: BuildHasher> LinkedHashMap<K, V, S> {
     pub(crate) fn unvisited(&self) -> usize
         ensures { result ≡ length (to_visit self.now) }
     {
-        self.unvisited
+        self.visit.unvisited()
     }
 
     /// Ends the visit of a cursor: no pair is unvisited, and none is the current one.
@@ -327,9 +333,7 @@ impl<K: Eq + Hash, V, S: BuildHasher> LinkedHashMap<K, V, S> {
         ensures ends { self.new ≡ without_cursor self.old }
         ensures valid { IsValid K.eq self.old }
     {
-        self.mark = None;
-        self.unvisited = 0;
-        self.current = None;
+        self.visit.is_on = false;
     }
 
     /// Puts a pair at the back, for which there is room. Its key is absent and has this number.

@@ -1,23 +1,23 @@
 use Rattle.std.proofs.Common.{Some, slice_get, sym, ap, ◌∙◌}
 use Rattle.linked_hash_map.specs.Nodes.{pairs_of}
 use Rattle.linked_hash_map.proofs.Kept.{pair_there}
-use Rattle.linked_hash_map.proofs.Current.{current_at-Some, current_cut}
+use Rattle.linked_hash_map.proofs.Current.{current_of-Some, current_at-Some, current_cut}
 use Rattle.linked_hash_map.proofs.map.LinkedHashMap.current_pair.Goals as goal
 
 pub key-requires : goal.key-requires
-key-requires g c = (current_cut c.self.invariant c.unwrap-at.ensures).held
+key-requires g c = (current_cut c.self.invariant (current_of-Some c.current.ensures c.unwrap-at.ensures)).held
 
 pub value-requires : goal.value-requires
-value-requires g c = (current_cut c.self.invariant c.unwrap-at.ensures).held
+value-requires g c = (current_cut c.self.invariant (current_of-Some c.current.ensures c.unwrap-at.ensures)).held
 
 pub returns : goal.returns
 returns g c =
     let m = c.self.inside in
-    let cut = current_cut c.self.invariant c.unwrap-at.ensures in
+    let cut = current_cut c.self.invariant (current_of-Some c.current.ensures c.unwrap-at.ensures) in
     let h = cut.held in
     let key = c.key.ensures h.0 h.1 h.2 h.3 h.4 in
     let value = c.value.ensures h.0 h.1 h.2 h.3 h.4 in
     rw (← c.self.view_is) (
-    ap (slice_get (pairs_of m.ring.held)) (current_at-Some c.unwrap-at.ensures m.ring.held ∙ sym cut.long)
+    ap (slice_get (pairs_of m.ring.held)) (current_at-Some (current_of-Some c.current.ensures c.unwrap-at.ensures) m.ring.held ∙ sym cut.long)
     ∙ pair_there h ∙ (λ i. Some (sym key i, sym value i))
     )

@@ -1,14 +1,14 @@
 use Rattle.std.proofs.Common.{Some, ◌+◌, slice_get, option_map, refl, sym, ap, ◌∙◌}
-use Rattle.lhm_ring.specs.Positions.{place_of, place_of_some}
+use Rattle.lhm_ring.specs.Positions.{place_of}
 use Rattle.linked_hash_map.specs.LinkedMap.{linked_map}
 use Rattle.linked_hash_map.specs.Indexes.{set_value_at}
-use Rattle.linked_hash_map.specs.Nodes.{pairs_of, bookmark_at, current_at}
+use Rattle.linked_hash_map.specs.Nodes.{pairs_of, bookmark_at, current_at, mark_of, unvisited_of, current_of}
 use Rattle.linked_hash_map.proofs.Kept.{IsValid-view, bare-change, length-same, pair_there, pairs_set}
-use Rattle.linked_hash_map.proofs.Current.{current_at-Some, current_cut, IsKept-with_value}
+use Rattle.linked_hash_map.proofs.Current.{current_of-Some, current_at-Some, current_cut, IsKept-with_value}
 use Rattle.linked_hash_map.proofs.map.LinkedHashMap.current_value_mut.Goals as goal
 
 pub value_mut-requires : goal.value_mut-requires
-value_mut-requires g c = (current_cut c.self.invariant c.unwrap-at.ensures).held
+value_mut-requires g c = (current_cut c.self.invariant (current_of-Some c.current.ensures c.unwrap-at.ensures)).held
 
 pub invariant_of-self-lent : goal.invariant_of-self-lent
 invariant_of-self-lent g c w = IsKept-with_value c.self.invariant (place_of c.unwrap-at.result) w
@@ -18,14 +18,14 @@ returns g c =
     let m = c.self.inside in
     let hs = m.ring.held in
     let p = place_of c.unwrap-at.result in
-    let cut = current_cut c.self.invariant c.unwrap-at.ensures in
+    let cut = current_cut c.self.invariant (current_of-Some c.current.ensures c.unwrap-at.ensures) in
     let h = cut.held in
-    let index = current_at-Some c.unwrap-at.ensures hs ∙ sym cut.long in
+    let index = current_at-Some (current_of-Some c.current.ensures c.unwrap-at.ensures) hs ∙ sym cut.long in
     rw (← c.self.view_is) (
       (
         refl,
         λ w i. linked_map ((pairs_set h c.value_mut.ensures.alone w ∙ ap (λ k. set_value_at (pairs_of hs) k w) (sym index)) i)
-            (length-same _ hs (bare-change p w hs) i + m.ring.spares) m.hasher (bookmark_at (place_of_some m.mark) (bare-change p w hs i)) m.unvisited (current_at (place_of_some m.current) (bare-change p w hs i)) m.rechained m.mode,
+            (length-same _ hs (bare-change p w hs) i + m.ring.spares) m.hasher (bookmark_at (mark_of m.visit) (bare-change p w hs i)) (unvisited_of m.visit) (current_at (current_of m.visit) (bare-change p w hs i)) m.rechained m.mode,
       ),
       record {
         writes_back = tt;

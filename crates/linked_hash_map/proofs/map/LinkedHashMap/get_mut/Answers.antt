@@ -1,9 +1,9 @@
 use Rattle.std.proofs.Common.{◌+◌, Some, option_map, fold, refl, inl, ap, sym, ◌∙◌, subst}
-use Rattle.lhm_ring.specs.Positions.{place_of, place_of_some}
+use Rattle.lhm_ring.specs.Positions.{place_of}
 use Rattle.lhm_ring.specs.Search.{HasKey, IsAbsent}
 use Rattle.lhm_ring.proofs.IndexedRing.{indexed_value}
 use Rattle.linked_hash_map.specs.LinkedMap.{linked_map}
-use Rattle.linked_hash_map.specs.Nodes.{AreKept, bookmark_at, current_at}
+use Rattle.linked_hash_map.specs.Nodes.{AreKept, bookmark_at, current_at, mark_of, unvisited_of, current_of}
 use Rattle.linked_hash_map.specs.Hashers.{hash_by}
 use Rattle.linked_hash_map.proofs.Kept.{IsValid-view, of-Some, of-None, index_of-key, pair_there, node, front, back, pairs_set, bare-change, length-same, distinct_keys, absent_key}
 use Rattle.linked_hash_map.proofs.Indexes.{value_at-index, set_value-index}
@@ -13,7 +13,7 @@ pub invariant_of-self-lent : goal.invariant_of-self-lent
 invariant_of-self-lent g c w =
     let m = c.self.inside in
     record {
-      nodes = subst (λ us. AreKept g.K.PartialEq.eq (hash_by g.S.Hasher.Hasher.finish g.S.Hasher.Hasher.write g.S.BuildHasher.build_hasher g.K.Hash.hash_input m.hasher) us m.ring.spares (place_of_some m.mark) m.unvisited (place_of_some m.current))
+      nodes = subst (λ us. AreKept g.K.PartialEq.eq (hash_by g.S.Hasher.Hasher.finish g.S.Hasher.Hasher.write g.S.BuildHasher.build_hasher g.K.Hash.hash_input m.hasher) us m.ring.spares (mark_of m.visit) (unvisited_of m.visit) (current_of m.visit))
           (sym (bare-change (place_of c.in-Some.at) w m.ring.held)) c.self.invariant.nodes;
       indexed = indexed_value m.index m.ring (place_of c.in-Some.at) w c.self.invariant.indexed;
       few = c.self.invariant.few;
@@ -29,7 +29,7 @@ returns-in-Some g c =
       (λ i. inl (
         c.value_mut.result.ghost_name,
         λ w. linked_map ((pairs_set h.held c.value_mut.ensures.alone w ∙ sym (set_value-index g.met.K.Eq.laws distinct (index_of-key h) w)) i)
-            (length-same _ m.ring.held (bare-change at w m.ring.held) i + m.ring.spares) m.hasher (bookmark_at (place_of_some m.mark) (bare-change at w m.ring.held i)) m.unvisited (current_at (place_of_some m.current) (bare-change at w m.ring.held i)) m.rechained m.mode,
+            (length-same _ m.ring.held (bare-change at w m.ring.held) i + m.ring.spares) m.hasher (bookmark_at (mark_of m.visit) (bare-change at w m.ring.held i)) (unvisited_of m.visit) (current_at (current_of m.visit) (bare-change at w m.ring.held i)) m.rechained m.mode,
       )),
       record {
         writes_back = tt;

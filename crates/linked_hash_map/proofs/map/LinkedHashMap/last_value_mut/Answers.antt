@@ -4,7 +4,7 @@ use Rattle.lhm_ring.specs.RingState.{IsHeld}
 use Rattle.lhm_ring.proofs.IndexedRing.{indexed_value}
 use Rattle.linked_hash_map.specs.Indexes.{set_value_at}
 use Rattle.linked_hash_map.specs.LinkedMap.{linked_map}
-use Rattle.linked_hash_map.specs.Nodes.{AreKept, bookmark_at, current_at, pairs_of}
+use Rattle.linked_hash_map.specs.Nodes.{AreKept, bookmark_at, current_at, pairs_of, mark_of, unvisited_of, current_of}
 use Rattle.linked_hash_map.specs.Hashers.{hash_by}
 use Rattle.linked_hash_map.proofs.FirstAndLast.{last_node, last-pairs}
 use Rattle.linked_hash_map.proofs.Kept.{IsValid-view, bare-change, length-pairs_of, length-same, pairs_set}
@@ -20,7 +20,7 @@ pub invariant_of-self-lent : goal.invariant_of-self-lent
 invariant_of-self-lent g c w =
     let m = c.self.inside in
     record {
-      nodes = subst (λ us. AreKept g.K.PartialEq.eq (hash_by g.S.Hasher.Hasher.finish g.S.Hasher.Hasher.write g.S.BuildHasher.build_hasher g.K.Hash.hash_input m.hasher) us m.ring.spares (place_of_some m.mark) m.unvisited (place_of_some m.current))
+      nodes = subst (λ us. AreKept g.K.PartialEq.eq (hash_by g.S.Hasher.Hasher.finish g.S.Hasher.Hasher.write g.S.BuildHasher.build_hasher g.K.Hash.hash_input m.hasher) us m.ring.spares (mark_of m.visit) (unvisited_of m.visit) (current_of m.visit))
           (sym (bare-change (place_of c.unwrap-at.result) w m.ring.held)) c.self.invariant.nodes;
       indexed = indexed_value m.index m.ring (place_of c.unwrap-at.result) w c.self.invariant.indexed;
       few = c.self.invariant.few;
@@ -40,7 +40,7 @@ returns g c =
       (
         refl,
         λ w i. linked_map ((pairs_set held c.value_mut.ensures.alone w ∙ ap (λ n. set_value_at (pairs_of m.ring.held) n w) index) i)
-            (length-same _ m.ring.held (bare-change at w m.ring.held) i + m.ring.spares) m.hasher (bookmark_at (place_of_some m.mark) (bare-change at w m.ring.held i)) m.unvisited (current_at (place_of_some m.current) (bare-change at w m.ring.held i)) m.rechained m.mode,
+            (length-same _ m.ring.held (bare-change at w m.ring.held) i + m.ring.spares) m.hasher (bookmark_at (mark_of m.visit) (bare-change at w m.ring.held i)) (unvisited_of m.visit) (current_at (current_of m.visit) (bare-change at w m.ring.held i)) m.rechained m.mode,
       ),
       record {
         writes_back = tt;

@@ -1,26 +1,26 @@
 use Rattle.std.proofs.Common.{Some, ◌+◌, ◌-◌, ◌≤◌, ◌++◌, ◌∷◌, [], inr, slice_get, remove, sym, ap, ◌∙◌, subst}
-use Rattle.lhm_ring.specs.Positions.{place_of, place_of_some}
+use Rattle.lhm_ring.specs.Positions.{place_of}
 use Rattle.lhm_ring.proofs.IndexedRing.{indexed_to_back}
-use Rattle.linked_hash_map.specs.Nodes.{pairs_of, bare, bookmark_at, AreKept}
+use Rattle.linked_hash_map.specs.Nodes.{pairs_of, bare, bookmark_at, AreKept, mark_of, unvisited_of}
 use Rattle.linked_hash_map.specs.Hashers.{hash_by}
 use Rattle.linked_hash_map.proofs.Kept.{IsValid-view, length-pairs_of}
-use Rattle.linked_hash_map.proofs.Current.{current_at-Some, current_lies, current_cut, current_nodes, current_elsewhere}
+use Rattle.linked_hash_map.proofs.Current.{current_of-Some, current_at-Some, current_lies, current_cut, current_nodes, current_elsewhere}
 use Rattle.linked_hash_map.proofs.MovedNode.{pairs-moved, length-to_back, before-at_back, AreKept-moved, to_visit-moved, behind-moved}
 use Rattle.linked_hash_map.proofs.map.LinkedHashMap.move_current_to_back.Goals as goal
 
 pub move_to_back-requires : goal.move_to_back-requires
-move_to_back-requires g c = (current_cut c.self.invariant c.unwrap-at.ensures).held
+move_to_back-requires g c = (current_cut c.self.invariant (current_of-Some c.current.ensures c.unwrap-at.ensures)).held
 
 pub invariant_of-self : goal.invariant_of-self
 invariant_of-self g c =
     let m = c.self.inside in
     let kept = c.self.invariant in
-    let is = c.unwrap-at.ensures in
+    let is = current_of-Some c.current.ensures c.unwrap-at.ensures in
     let moved = c.move_to_back.ensures in
     let hash = hash_by g.S.Hasher.Hasher.finish g.S.Hasher.Hasher.write g.S.BuildHasher.build_hasher g.K.Hash.hash_input m.hasher in
     record {
-      nodes = subst (λ o. AreKept g.K.PartialEq.eq hash (bare c.move_to_back.new.self.held) c.move_to_back.new.self.spares (place_of_some m.mark) m.unvisited (place_of_some o)) (sym is)
-          (subst (λ k. AreKept g.K.PartialEq.eq hash (bare c.move_to_back.new.self.held) k (place_of_some m.mark) m.unvisited (Some (place_of c.unwrap-at.result))) (sym moved.spares)
+      nodes = subst (λ o. AreKept g.K.PartialEq.eq hash (bare c.move_to_back.new.self.held) c.move_to_back.new.self.spares (mark_of m.visit) (unvisited_of m.visit) o) (sym is)
+          (subst (λ k. AreKept g.K.PartialEq.eq hash (bare c.move_to_back.new.self.held) k (mark_of m.visit) (unvisited_of m.visit) (Some (place_of c.unwrap-at.result))) (sym moved.spares)
           (AreKept-moved m.ring.held c.move_to_back.new.self.held moved.last (current_lies kept is) g.met.K.Eq.laws (current_nodes kept is) (current_elsewhere kept is c.self.view_is c.requires.outside)));
       indexed = indexed_to_back m.index m.ring c.move_to_back.new.self (place_of c.unwrap-at.result) kept.indexed (current_cut kept is).held moved.last moved.spares;
       few = kept.few;
@@ -29,7 +29,7 @@ invariant_of-self g c =
 pub returns-clause-pairs : goal.returns-clause-pairs
 returns-clause-pairs g c =
     let m = c.self.inside in
-    let is = c.unwrap-at.ensures in
+    let is = current_of-Some c.current.ensures c.unwrap-at.ensures in
     let index = current_at-Some is m.ring.held in
     rw (← c.self.view_is) (λ pair there.
     pairs-moved m.ring.held c.move_to_back.new.self.held c.move_to_back.ensures.last (current_lies c.self.invariant is) pair (ap (slice_get (pairs_of m.ring.held)) (sym index) ∙ there)
@@ -38,7 +38,7 @@ returns-clause-pairs g c =
 pub returns-clause-current : goal.returns-clause-current
 returns-clause-current g c =
     let m = c.self.inside in
-    let is = c.unwrap-at.ensures in
+    let is = current_of-Some c.current.ensures c.unwrap-at.ensures in
     rw (← c.self.view_is) (
     current_at-Some is c.move_to_back.new.self.held
     ∙ before-at_back m.ring.held c.move_to_back.new.self.held c.move_to_back.ensures.last (current_lies c.self.invariant is) c.move_to_back.ensures.apart
@@ -48,22 +48,22 @@ returns-clause-current g c =
 pub returns-clause-capacity : goal.returns-clause-capacity
 returns-clause-capacity g c =
     let m = c.self.inside in
-    let same = length-to_back m.ring.held c.move_to_back.new.self.held c.move_to_back.ensures.last (current_lies c.self.invariant c.unwrap-at.ensures) in
+    let same = length-to_back m.ring.held c.move_to_back.new.self.held c.move_to_back.ensures.last (current_lies c.self.invariant (current_of-Some c.current.ensures c.unwrap-at.ensures)) in
     rw (← c.self.view_is) (λ i. same i + c.move_to_back.ensures.spares i)
 
 pub returns-clause-to_visit : goal.returns-clause-to_visit
 returns-clause-to_visit g c =
     let m = c.self.inside in
     let kept = c.self.invariant in
-    let is = c.unwrap-at.ensures in
+    let is = current_of-Some c.current.ensures c.unwrap-at.ensures in
     rw (← c.self.view_is) (to_visit-moved m.ring.held c.move_to_back.new.self.held c.move_to_back.ensures.last (current_lies kept is) g.met.K.Eq.laws (current_nodes kept is) (current_elsewhere kept is c.self.view_is c.requires.outside))
 
 pub returns-clause-outside : goal.returns-clause-outside
 returns-clause-outside g c =
     let m = c.self.inside in
     let kept = c.self.invariant in
-    let is = c.unwrap-at.ensures in
-    inr (subst (λ k. bookmark_at (place_of_some m.mark) (bare c.move_to_back.new.self.held) + m.unvisited ≤ k) (sym (current_at-Some is c.move_to_back.new.self.held))
+    let is = current_of-Some c.current.ensures c.unwrap-at.ensures in
+    inr (subst (λ k. bookmark_at (mark_of m.visit) (bare c.move_to_back.new.self.held) + unvisited_of m.visit ≤ k) (sym (current_at-Some is c.move_to_back.new.self.held))
     (behind-moved m.ring.held c.move_to_back.new.self.held c.move_to_back.ensures.last (current_lies kept is) g.met.K.Eq.laws (current_nodes kept is) (current_elsewhere kept is c.self.view_is c.requires.outside) c.move_to_back.ensures.apart))
 
 pub returns-clause-valid : goal.returns-clause-valid

@@ -1,9 +1,9 @@
 use Rattle.std.proofs.Common.{◌≡◌, ◌+◌, None, length, option_map, sym, ap, ◌∙◌, subst, fold, arith}
-use Rattle.lhm_ring.specs.Positions.{place_of, place_of_some}
+use Rattle.lhm_ring.specs.Positions.{place_of}
 use Rattle.lhm_ring.specs.RingState.{State}
 use Rattle.lhm_ring.proofs.IndexChanges.{HasKey-kept}
 use Rattle.linked_hash_map.specs.LinkedMap.{LinkedMap, linked_map}
-use Rattle.linked_hash_map.specs.Nodes.{pairs_of, bare, bookmark_at, current_at}
+use Rattle.linked_hash_map.specs.Nodes.{pairs_of, bare, bookmark_at, current_at, mark_of, unvisited_of, current_of}
 use Rattle.linked_hash_map.specs.Pairs.{find}
 use Rattle.linked_hash_map.specs.Validity.{IsValid}
 use Rattle.linked_hash_map.specs.Hashers.{hash_by}
@@ -40,7 +40,7 @@ returns-in_err-at-clause-valid g c = rw (← c.self.view_is) (IsValid-view c.sel
 pub returns-in_err-at-clause-stays_valid : goal.returns-in_err-at-clause-stays_valid
 returns-in_err-at-clause-stays_valid g c =
     let m = c.self.inside in
-    subst (λ (s : State _). IsValid g.K.PartialEq.eq (linked_map (pairs_of s.held) (length s.held + s.spares) m.hasher (bookmark_at (place_of_some m.mark) (bare s.held)) m.unvisited (current_at (place_of_some m.current) (bare s.held)) m.rechained m.mode))
+    subst (λ (s : State _). IsValid g.K.PartialEq.eq (linked_map (pairs_of s.held) (length s.held + s.spares) m.hasher (bookmark_at (mark_of m.visit) (bare s.held)) (unvisited_of m.visit) (current_at (current_of m.visit) (bare s.held)) m.rechained m.mode))
     (sym c.in_err-at.ensures.ring_unchanged) (IsValid-view c.self.invariant _ _ _ _ _ _)
 
 pub invariant_of-self-2 : goal.invariant_of-self-2
