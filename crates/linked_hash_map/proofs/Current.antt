@@ -73,7 +73,7 @@ module _ {K V : Type 0} {eq : K → K → Bool} {hash : K → ℕ} {heads : List
       }
 
   -- an entry is done with
-  pub IsKept-left : (is_on : Bool) → IsKept eq hash heads s mark n (cond is_on None None) r
+  pub IsKept-left : (active : Bool) → IsKept eq hash heads s mark n (cond active None None) r
   IsKept-left true = IsKept-current None tt
   IsKept-left false = IsKept-current None tt
 

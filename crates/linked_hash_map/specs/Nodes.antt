@@ -34,13 +34,13 @@ module _ {B : Type 0} where
 -- where a cursor or an entry stands: nowhere, and with nothing to visit, where there is neither
 module _ {K V : Type 0} where
   abbrev pub mark_of : Visit K V → Option Ptr
-  mark_of visit = cond visit.is_on (place_of_some visit.mark) None
+  mark_of visit = cond visit.active (place_of_some visit.mark) None
 
   abbrev pub unvisited_of : Visit K V → ℕ
-  unvisited_of visit = cond visit.is_on visit.unvisited 0
+  unvisited_of visit = cond visit.active visit.unvisited 0
 
   abbrev pub current_of : Visit K V → Option Ptr
-  current_of visit = cond visit.is_on (place_of_some visit.current) None
+  current_of visit = cond visit.active (place_of_some visit.current) None
 
 module _ {K V : Type 0} where
   -- the pairs in the nodes, in order

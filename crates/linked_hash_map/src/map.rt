@@ -228,7 +228,7 @@ impl<K: Eq + Hash, V, S: BuildHasher> LinkedHashMap<K, V, S> {
             index: Index::new(alloc),
             hasher,
             visit: Visit {
-                is_on: false,
+                active: false,
                 mark: None,
                 unvisited: 0,
                 current: None,
@@ -287,7 +287,7 @@ impl<K: Eq + Hash, V, S: BuildHasher> LinkedHashMap<K, V, S> {
             index,
             hasher,
             visit: Visit {
-                is_on: false,
+                active: false,
                 mark: None,
                 unvisited: 0,
                 current: None,
@@ -563,7 +563,7 @@ impl<K: Eq + Hash, V, S: BuildHasher> LinkedHashMap<K, V, S> {
         let number = self.hasher.hash_one(key);
         match self.index.find(&self.ring, number, key).0 {
             Some(at) => {
-                self.visit.is_on = false;
+                self.visit.active = false;
                 self.ring.move_to_back(at);
                 Some(self.ring.value_mut(at))
             }
@@ -676,7 +676,7 @@ impl<K: Eq + Hash, V, S: BuildHasher> LinkedHashMap<K, V, S> {
         ensures stays_valid { IsValid K.eq self.new }
     {
         let oldest = self.ring.first()?;
-        self.visit.is_on = false;
+        self.visit.active = false;
         self.index.take_out_at(&mut self.ring, oldest);
         let (_, key, value) = self.ring.unlink(oldest);
         Some((key, value))
@@ -729,7 +729,7 @@ impl<K: Eq + Hash, V, S: BuildHasher> LinkedHashMap<K, V, S> {
             return None;
         }
         let newest = self.ring.last()?;
-        self.visit.is_on = false;
+        self.visit.active = false;
         self.index.take_out_at(&mut self.ring, newest);
         let (_, key, value) = self.ring.unlink(newest);
         Some((key, value))

@@ -97,7 +97,7 @@ impl<K: Eq + Hash, V, S: BuildHasher> LinkedHashMap<K, V, S> {
         match self.index.find(&self.ring, number, key).0 {
             Some(at) => {
                 self.visit = Visit {
-                    is_on: true,
+                    active: true,
                     mark: None,
                     unvisited: 0,
                     current: Some(at),
@@ -223,7 +223,7 @@ impl<K: Eq + Hash, V, S: BuildHasher> LinkedHashMap<K, V, S> {
         let Some(found) = self.index.find(&self.ring, number, key).0 else {
             return Err(value);
         };
-        self.visit.is_on = false;
+        self.visit.active = false;
         match self.mode {
             Mode::Touch => {
                 self.ring.move_to_back(found);
@@ -269,7 +269,7 @@ impl<K: Eq + Hash, V, S: BuildHasher> LinkedHashMap<K, V, S> {
         ensures stays_valid { IsValid K.eq self.new }
     {
         let at = self.index.take_out(&mut self.ring, number, key)?;
-        self.visit.is_on = false;
+        self.visit.active = false;
         let (_, key, value) = self.ring.unlink(at);
         Some((key, value))
     }
@@ -285,7 +285,7 @@ impl<K: Eq + Hash, V, S: BuildHasher> LinkedHashMap<K, V, S> {
         ensures valid { IsValid K.eq self.old }
     {
         self.visit = Visit {
-            is_on: true,
+            active: true,
             mark: self.ring.first(),
             unvisited: self.ring.len(),
             current: None,
@@ -313,7 +313,7 @@ impl<K: Eq + Hash, V, S: BuildHasher> LinkedHashMap<K, V, S> {
         };
         let unvisited = self.visit.unvisited() - 1;
         self.visit = Visit {
-            is_on: true,
+            active: true,
             mark: mark_behind(&self.ring, at, unvisited),
             unvisited,
             current: Some(at),
@@ -333,7 +333,7 @@ impl<K: Eq + Hash, V, S: BuildHasher> LinkedHashMap<K, V, S> {
         ensures ends { self.new ≡ without_cursor self.old }
         ensures valid { IsValid K.eq self.old }
     {
-        self.visit.is_on = false;
+        self.visit.active = false;
     }
 
     /// Puts a pair at the back, for which there is room. Its key is absent and has this number.

@@ -10,7 +10,7 @@ use std::alloc::AllocError;
 /// visit by one write.
 pub(super) struct Visit<K, V> {
     /// Whether there is a cursor or an entry: where there is none, the other fields mean nothing.
-    pub(super) is_on: bool,
+    pub(super) active: bool,
     /// Where the next pair is that the cursor visits.
     pub(super) mark: Option<Position<K, V>>,
     /// How many pairs from there on it has still to visit.
@@ -32,20 +32,20 @@ impl<K, V> Visit<K, V> {
     pub(super) fn mark(&self) -> Option<Position<K, V>>
         ensures { place_of_some result ≡ mark_of self.now }
     {
-        if self.is_on { self.mark } else { None }
+        if self.active { self.mark } else { None }
     }
 
     /// Returns how many pairs a cursor has still to visit.
     pub(super) fn unvisited(&self) -> usize
         ensures { result ≡ unvisited_of self.now }
     {
-        if self.is_on { self.unvisited } else { 0 }
+        if self.active { self.unvisited } else { 0 }
     }
 
     /// Returns where the pair is that an occupied entry stands for.
     pub(super) fn current(&self) -> Option<Position<K, V>>
         ensures { place_of_some result ≡ current_of self.now }
     {
-        if self.is_on { self.current } else { None }
+        if self.active { self.current } else { None }
     }
 }

@@ -11,7 +11,7 @@ pub value_mut-requires : goal.value_mut-requires
 value_mut-requires g c = (current_cut c.self.invariant (current_of-Some c.current.ensures c.unwrap-at.ensures)).held
 
 pub invariant_of-self-lent : goal.invariant_of-self-lent
-invariant_of-self-lent g c w = IsKept-left (IsKept-with_value c.self.invariant (place_of c.unwrap-at.result) w) c.self.inside.visit.is_on
+invariant_of-self-lent g c w = IsKept-left (IsKept-with_value c.self.invariant (place_of c.unwrap-at.result) w) c.self.inside.visit.active
 
 pub returns : goal.returns
 returns g c =
@@ -25,7 +25,7 @@ returns g c =
       (
         refl,
         λ w i. linked_map ((pairs_set h c.value_mut.ensures.alone w ∙ ap (λ k. set_value_at (pairs_of hs) k w) (sym index)) i)
-            (length-same _ hs (bare-change p w hs) i + m.ring.spares) m.hasher (bookmark_at (mark_of m.visit) (bare-change p w hs i)) (unvisited_of m.visit) (current_at (cond-None m.visit.is_on i) (bare-change p w hs i)) m.rechained m.mode,
+            (length-same _ hs (bare-change p w hs) i + m.ring.spares) m.hasher (bookmark_at (mark_of m.visit) (bare-change p w hs i)) (unvisited_of m.visit) (current_at (cond-None m.visit.active i) (bare-change p w hs i)) m.rechained m.mode,
       ),
       record {
         writes_back = tt;

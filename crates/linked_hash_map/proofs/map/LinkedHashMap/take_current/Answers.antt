@@ -23,7 +23,7 @@ invariant_of-self g c =
       indexed = IsIndexed-taken c.self.invariant.indexed taken.held taken.spares taken.lacks taken.buckets unlinked.others unlinked.spares;
       few = omega (arith, taken.buckets, c.self.invariant.few);
     }
-    ) m.visit.is_on
+    ) m.visit.active
 
 pub returns-clause-pair : goal.returns-clause-pair
 returns-clause-pair g c =
