@@ -2,11 +2,11 @@
 # Passes every proof and test of the repository, and says how many seconds each part took.
 #
 # First the README's example is compared with the one that the gate proves. Then comes the gate, `rt ci`. Once it has proved all
-# tests and only tries wrong bodies, one after another, the tests whose names begin with refused_ run beside it on a copy, with the
-# Nth request for memory refused, for N = 1, 2, .., each test in a process of its own, until all of a crate's say that every
-# growth was given. One that says how many growths it asks for in all has to say so exactly where a later one was refused: so a
-# growth is found whose refusal a call ignores. At last the program that the gate built runs on inputs that it stops at, and what it
-# tells on standard error is compared, which the gate does not do. The last line is that of the gate, or says what failed beside it.
+# tests and only tries wrong bodies, the tests whose names begin with refused_ run beside it on a copy, with the Nth request for
+# memory refused, for N = 1, 2, .., each test in a process of its own, until all of a crate's say that every growth was given. One
+# that says how many growths it asks for in all has to say so exactly where a later one was refused: so a growth is found whose
+# refusal a call ignores. At last the program that the gate built runs on inputs that it stops at, and what it tells on standard
+# error is compared, which the gate does not do. The last line is that of the gate, or says what failed beside it.
 set -u
 cd "$(dirname "$0")" || exit 2
 work=$(mktemp -d) || exit 2
