@@ -12,6 +12,11 @@ cd "$(dirname "$0")" || exit 2
 work=$(mktemp -d) || exit 2
 trap 'rm -rf "$work"' EXIT
 processors=$(getconf _NPROCESSORS_ONLN) || processors=2
+# How many checks the gate makes side by side: one a processor, where each has 4 GB. Left to itself it reckons with more memory than the
+# checks of these crates take, and leaves processors idle.
+lanes=$(awk '/^MemAvailable:/ { print int($2 / 4000000) }' /proc/meminfo)
+lanes=$((lanes < processors ? lanes : processors))
+lanes=$((lanes > 1 ? lanes : 1))
 # How many growths are refused side by side: one processor is left to the gate.
 beside=$((processors > 1 ? processors - 1 : 1))
 
@@ -157,7 +162,7 @@ growths=$!
 
 began=$(date +%s)
 {
-    rt ci
+    RT_JOBS=${RT_JOBS:-$lanes} rt ci
     echo $? >"$work/gate.status"
 } | tee "$work/gate"
 say_time "the gate" "$began"
