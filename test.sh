@@ -12,8 +12,8 @@ cd "$(dirname "$0")" || exit 2
 work=$(mktemp -d) || exit 2
 trap 'rm -rf "$work"' EXIT
 processors=$(getconf _NPROCESSORS_ONLN) || processors=2
-# How many checks the gate makes side by side: one a processor, where each has 4 GB. Left to itself it reckons with more memory than the
-# checks of these crates take, and leaves processors idle.
+# How many checks the gate makes side by side: one a processor, where there are 4 GB for each. Left to itself it reckons with more
+# memory than a check of linked_hash_map takes, and leaves processors idle.
 lanes=$(awk '/^MemAvailable:/ { print int($2 / 4000000) }' /proc/meminfo)
 lanes=$((lanes < processors ? lanes : processors))
 lanes=$((lanes > 1 ? lanes : 1))
