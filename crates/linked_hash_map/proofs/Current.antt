@@ -11,10 +11,10 @@ use Rattle.lhm_ring.proofs.IndexedRing.{indexed_value}
 use Rattle.lhm_ring.proofs.Rows.{apart_head, apart_tail}
 use Rattle.lhm_ring.specs.declared.position.Position.{Position}
 use Rattle.linked_hash_map.specs.declared.map.Mode.{Mode}
-use Rattle.linked_hash_map.specs.LinkedMap.{LinkedMap, linked_map}
+use Rattle.linked_hash_map.specs.LinkedMap.{LinkedMap}
 use Rattle.linked_hash_map.specs.Cursor.{IsOutside}
 use Rattle.linked_hash_map.specs.Indexes.{IsIndex}
-use Rattle.linked_hash_map.specs.Nodes.{pairs_of, bare, before, bookmark_at, current_at, Lies, AreKept, IsKept}
+use Rattle.linked_hash_map.specs.Nodes.{pairs_of, bare, before, bookmark_at, current_at, map_of, Lies, AreKept, IsKept}
 use Rattle.linked_hash_map.proofs.Kept.{CutAt, cut_before, bare-change, length-bare, before-bare, pair_there}
 use Rattle.linked_hash_map.proofs.Outside.{IsElsewhere, before_held}
 
@@ -46,7 +46,7 @@ module _ {K V : Type 0} {eq : K → K → Bool} {hash : K → ℕ} {heads : List
   current_nodes = subst (λ z. AreKept eq hash (bare s.held) s.spares mark n z) is kept.nodes
 
   -- where the index is outside the pairs to visit, the node is
-  pub current_elsewhere : {S : Type 0} {m : LinkedMap K V S} {capacity : ℕ} {hasher : S} {mode : Mode} → linked_map (pairs_of s.held) capacity hasher (bookmark_at mark (bare s.held)) n (current_at o (bare s.held)) r mode ≡ m → IsOutside m.current m → IsElsewhere p s.held mark n
+  pub current_elsewhere : {S : Type 0} {m : LinkedMap K V S} {hasher : S} {mode : Mode} → map_of s hasher mark n o r mode ≡ m → IsOutside m.current m → IsElsewhere p s.held mark n
   current_elsewhere {S} {m} view outside =
       subst (λ k. (k < bookmark_at mark (bare s.held)) ⊎ (bookmark_at mark (bare s.held) + n ≤ k)) (current_at-Some is s.held)
       (subst (λ (x : LinkedMap K V S). IsOutside x.current x) (sym view) outside)

@@ -11,8 +11,8 @@ use Rattle.linked_hash_map.specs.Changes.{drained}
 use Rattle.linked_hash_map.specs.Cursor.{without_cursor}
 use Rattle.linked_hash_map.specs.Drains.{drain_rest, drain_name, DrainSteps, DrainStepsBack, DrainKeepsAlong}
 use Rattle.linked_hash_map.specs.declared.map.Mode.{Mode}
-use Rattle.linked_hash_map.specs.LinkedMap.{LinkedMap, linked_map, nowhere}
-use Rattle.linked_hash_map.specs.Nodes.{pairs_of, IsKept, Lies, bare, bookmark_at, current_at}
+use Rattle.linked_hash_map.specs.LinkedMap.{LinkedMap, nowhere}
+use Rattle.linked_hash_map.specs.Nodes.{pairs_of, map_of, IsKept, Lies, bare, bookmark_at, current_at}
 use Rattle.linked_hash_map.specs.declared.drain.Drain.{Drain}
 use Rattle.linked_hash_map.specs.declared.map.TheConstants.{LIMIT}
 use Rattle.linked_hash_map.proofs.Kept.{length-bare}
@@ -48,8 +48,8 @@ current_none (Some p) us lies small e = absurd (omega (arith, lies, small, e))
 
 -- a map with no cursor and no entry, of which all nodes are made spare and the index is emptied
 module _ {K V S : Type 0} {eq : K → K → Bool} {hash : K → ℕ} {heads : List (Option Ptr)} {s : State (K × V)} {mark : Option Ptr} {n : ℕ} {current : Option Ptr} {r : ℕ} (kept : IsKept eq hash heads s mark n current r) (hasher : S) {o : Mode} (m x : LinkedMap K V S)
-    (view : linked_map (pairs_of s.held) (length s.held + s.spares) hasher (bookmark_at mark (bare s.held)) n (current_at current (bare s.held)) r o ≡ x) (ends : x ≡ without_cursor m) where
-  seen : linked_map (pairs_of s.held) (length s.held + s.spares) hasher (bookmark_at mark (bare s.held)) n (current_at current (bare s.held)) r o ≡ without_cursor m
+    (view : map_of s hasher mark n current r o ≡ x) (ends : x ≡ without_cursor m) where
+  seen : map_of s hasher mark n current r o ≡ without_cursor m
   seen = view ∙ ends
 
   none : n ≡ 0
@@ -77,10 +77,10 @@ module _ {K V S : Type 0} {eq : K → K → Bool} {hash : K → ℕ} {heads : Li
         few = omega (arith, same, kept.few);
       }
 
-  pub view_spliced : linked_map [] (0 + (s.spares + length s.held)) hasher (bookmark_at {B = K} mark []) n (current_at {B = K} current []) r o ≡ drained m
+  pub view_spliced : map_of (state [] (s.spares + length s.held)) hasher mark n current r o ≡ drained m
   view_spliced =
       let room : 0 + (s.spares + length s.held) ≡ length s.held + s.spares = omega arith in
-      (λ i. linked_map {K = K} {V = V} [] (room i) hasher (bookmark_at {B = K} (kept.nodes.ended none i) []) n (current_at {B = K} (no_entry i) []) r o)
+      (λ i. record (map_of {V = V} (state [] (s.spares + length s.held)) hasher mark n current r o) { capacity = room i; bookmark = bookmark_at {B = K} (kept.nodes.ended none i) []; current = current_at {B = K} (no_entry i) [] })
       ∙ ap (λ (y : LinkedMap K V S). record y { pairs = []; bookmark = 0; current = nowhere }) seen
 
   pub rest_spliced : (d : Drain K V) (ts : List (ℕ × (K × V))) → drain_rest d ≡ map (λ t. t.1) ts → ts ≡ triples s.held → drain_rest d ≡ m.pairs

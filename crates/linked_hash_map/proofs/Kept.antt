@@ -12,8 +12,8 @@ use Rattle.lhm_ring.specs.Search.{entries, HasKey, IsAbsent}
 use Rattle.lhm_ring.proofs.Apart.{IsFresh, same_ptr_eq, same_ptr_refl}
 use Rattle.lhm_ring.proofs.Rows.{apart_head, apart_tail}
 use Rattle.linked_hash_map.specs.declared.map.Mode.{Mode}
-use Rattle.linked_hash_map.specs.LinkedMap.{linked_map}
-use Rattle.linked_hash_map.specs.Nodes.{pairs_of, bare, bare_node, before, IsKept}
+use Rattle.linked_hash_map.specs.LinkedMap.{LinkedMap}
+use Rattle.linked_hash_map.specs.Nodes.{pairs_of, bare, bare_node, before, bookmark_at, current_at, map_of, IsKept}
 use Rattle.linked_hash_map.specs.Indexes.{IsIndex, set_value_at}
 use Rattle.linked_hash_map.specs.Pairs.{find}
 use Rattle.linked_hash_map.specs.Validity.{IsValid}
@@ -85,11 +85,25 @@ module _ {K V : Type 0} {eq : K → K → Bool} {hash : K → ℕ} {heads : List
   pub distinct_keys : IsDistinct eq (keys_of (pairs_of s.held))
   distinct_keys = subst (IsDistinct eq) (keys-bare s.held) kept.nodes.distinct
 
-  pub IsValid-view : {S : Type 0} (hasher : S) (bookmark unvisited index count : ℕ) (mode : Mode) → IsValid eq (linked_map (pairs_of s.held) (length s.held + s.spares) hasher bookmark unvisited index count mode)
-  IsValid-view hasher bookmark unvisited index count mode =
+  pub IsValid-view : {S : Type 0} {m : LinkedMap K V S} → m.pairs ≡ pairs_of s.held → m.capacity ≡ length s.held + s.spares → IsValid eq m
+  IsValid-view pairs capacity =
       let of_bare = length-bare s.held in
       let of_pairs = length-pairs_of s.held in
-      record { distinct = distinct_keys; within = omega (arith, of_pairs); limit = omega (arith, of_bare, kept.nodes.limit) }
+      let len = ap length pairs in
+      record {
+        distinct = subst (λ ps. IsDistinct eq (keys_of ps)) (sym pairs) distinct_keys;
+        within = omega (arith, len, capacity, of_pairs);
+        limit = omega (arith, capacity, of_bare, kept.nodes.limit);
+      }
+
+-- with other values in the same nodes, other pairs are seen, and nothing else
+pub map_of-revalued : {K V S : Type 0} (s t : State (K × V)) (hasher : S) (mark : Option Ptr) (n : ℕ) (current : Option Ptr) (r : ℕ) (mode : Mode) → bare t.held ≡ bare s.held → t.spares ≡ s.spares → {ps : List (K × V)} → pairs_of t.held ≡ ps → map_of t hasher mark n current r mode ≡ record (map_of s hasher mark n current r mode) { pairs = ps }
+map_of-revalued s t hasher mark n current r mode same spares pairs = λ i. record (map_of s hasher mark n current r mode) {
+      pairs = pairs i;
+      capacity = length-same t.held s.held same i + spares i;
+      bookmark = bookmark_at mark (same i);
+      current = current_at current (same i);
+    }
 
 -- a list with one element in the midst
 module _ {X : Type 0} where

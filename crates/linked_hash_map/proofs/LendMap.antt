@@ -35,8 +35,8 @@ use Rattle.lhm_ring.proofs.IndexedRing.{indexed_same}
 use Rattle.lhm_ring.proofs.index.Index.TheLaws as N-laws
 use Rattle.lhm_ring.proofs.ring.Ring.TheLaws as R-laws
 use Rattle.lhm_ring.proofs.ValuesSplitOff as ring
-use Rattle.linked_hash_map.specs.LinkedMap.{LinkedMap, linked_map}
-use Rattle.linked_hash_map.specs.Nodes.{pairs_of, bare, AreKept, bookmark_at, current_at, mark_of, unvisited_of, current_of}
+use Rattle.linked_hash_map.specs.LinkedMap.{LinkedMap}
+use Rattle.linked_hash_map.specs.Nodes.{pairs_of, bare, AreKept, mark_of, unvisited_of, current_of}
 use Rattle.linked_hash_map.specs.Hashers.{hash_by}
 use Rattle.linked_hash_map.specs.Pairs.{set_values}
 use Rattle.linked_hash_map.specs.Validity.{IsValid}
@@ -44,7 +44,7 @@ use Rattle.linked_hash_map.specs.contracts.map.LinkedHashMap as M-type
 use Rattle.linked_hash_map.specs.contracts.map.Mode as O-type
 use Rattle.linked_hash_map.specs.contracts.map.visit.Visit as V-type
 use Rattle.linked_hash_map.specs.contracts.map.LinkedHashMap.TheInside as I-type
-use Rattle.linked_hash_map.proofs.Kept.{IsValid-view, bare-values, length-same}
+use Rattle.linked_hash_map.proofs.Kept.{IsValid-view, map_of-revalued, bare-values}
 use Rattle.linked_hash_map.proofs.map.Mode.TheLaws as O-laws
 use Rattle.linked_hash_map.proofs.map.visit.Visit.TheLaws as V-laws
 
@@ -154,7 +154,7 @@ module _ (K₀ V₀ S₀ H₀ : RattleType) (g : eq.Ghosts K₀.Denot) (h : hash
 
         viewed : view (record i { ring = after }) ≡ record dm { pairs = set_values dm.pairs vs }
         viewed =
-            (λ j. linked_map (pairs_of-set_held_values hs vs j) (length-same after.held hs same_bare j + i.ring.spares) i.hasher (bookmark_at (mark_of i.visit) (same_bare j)) (unvisited_of i.visit) (current_at (current_of i.visit) (same_bare j)) i.rechained i.mode)
+            map_of-revalued i.ring after i.hasher (mark_of i.visit) (unvisited_of i.visit) (current_of i.visit) i.rechained i.mode same_bare refl (pairs_of-set_held_values hs vs)
             ∙ ap (λ (m : Seen). record m { pairs = set_values m.pairs vs }) seen
 
         still_good : good (record i { ring = after })
@@ -175,7 +175,7 @@ module _ (K₀ V₀ S₀ H₀ : RattleType) (g : eq.Ghosts K₀.Denot) (h : hash
 
       -- the values ws of the entries, as a map would list them
       abbrev pub named : List V.Denot → Seen
-      named ws = linked_map (pairs_of (ring.ordered K V 𝓛 a i.ring rseen rok rb (field_at ro) ws)) 0 i.hasher 0 0 0 0 i.mode
+      named ws = record dm { pairs = pairs_of (ring.ordered K V 𝓛 a i.ring rseen rok rb (field_at ro) ws) }
 
       pub named_back : (ws : List V.Denot) → ent 𝓤 (sep 𝓤 (sem 𝓛 (spread V ps ws)) (emp 𝓤)) (sem 𝓛 (spread V ps (placed (values_of (named ws).pairs))))
       named_back ws = subst (λ vs. ent 𝓤 (sep 𝓤 (sem 𝓛 (spread V ps ws)) (emp 𝓤)) (sem 𝓛 (spread V ps (placed vs)))) (sym (values-pairs_of (ring.ordered K V 𝓛 a i.ring rseen rok rb (field_at ro) ws)))
@@ -185,4 +185,4 @@ module _ (K₀ V₀ S₀ H₀ : RattleType) (g : eq.Ghosts K₀.Denot) (h : hash
       pairs_are = ap (λ (m : Seen). m.pairs) seen
 
       pub valid : IsValid g.eq dm
-      valid = subst (IsValid g.eq) seen (IsValid-view ok i.hasher (bookmark_at (mark_of i.visit) (bare hs)) (unvisited_of i.visit) (current_at (current_of i.visit) (bare hs)) i.rechained i.mode)
+      valid = subst (IsValid g.eq) seen (IsValid-view ok refl refl)

@@ -6,7 +6,8 @@ use Rattle.lhm_ring.specs.Cells.{same_ptr}
 use Rattle.lhm_ring.specs.Positions.{place_of_some}
 use Rattle.lhm_ring.specs.RingState.{Held, State, held}
 use Rattle.lhm_ring.specs.IndexedRing.{IsIndexed}
-use Rattle.linked_hash_map.specs.LinkedMap.{nowhere}
+use Rattle.linked_hash_map.specs.LinkedMap.{LinkedMap, linked_map, nowhere}
+use Rattle.linked_hash_map.specs.declared.map.Mode.{Mode}
 use Rattle.linked_hash_map.specs.declared.map.TheConstants.{LIMIT}
 use Rattle.linked_hash_map.specs.declared.map.visit.Visit.{Visit}
 
@@ -53,6 +54,11 @@ module _ {K V : Type 0} where
 
   abbrev pub bare : List (Held (K × V)) → List (Held K)
   bare = map bare_node
+
+  -- what a contract sees of a map that keeps its pairs in these nodes
+  abbrev pub map_of : {S : Type 0} → State (K × V) → S → Option Ptr → ℕ → Option Ptr → ℕ → Mode → LinkedMap K V S
+  map_of s hasher mark unvisited current rechained mode =
+      linked_map (pairs_of s.held) (length s.held + s.spares) hasher (bookmark_at mark (bare s.held)) unvisited (current_at current (bare s.held)) rechained mode
 
 -- no two keys are the same, each stands with its number, and there are no more nodes than the limit; a mark is there as long as
 -- pairs are unvisited, and these are there from it on; the pair that an entry stands for is there

@@ -131,16 +131,15 @@ pub struct LinkedHashMap<K: Eq + Hash, V, S: BuildHasher = DefaultHashBuilder> {
 /// A contract sees a map as its pairs from the oldest place to the newest, its capacity, its hasher, its mode, and what a cursor
 /// has still to visit.
 impl<K: Eq + Hash, V, S: BuildHasher> Model for LinkedHashMap<K, V, S> {
-    ghost use Rattle.std.specs.Prelude.{◌+◌, length};
-    ghost use Rattle.linked_hash_map.specs.LinkedMap.{LinkedMap, linked_map, linked_map_code};
-    ghost use Rattle.linked_hash_map.specs.Nodes.{IsKept, pairs_of, bare, bookmark_at, current_at, mark_of, unvisited_of, current_of};
+    ghost use Rattle.linked_hash_map.specs.LinkedMap.{LinkedMap, linked_map_code};
+    ghost use Rattle.linked_hash_map.specs.Nodes.{IsKept, map_of, mark_of, unvisited_of, current_of};
     ghost use Rattle.linked_hash_map.specs.Hashers.{hash_by};
 
     ghost Value = { LinkedMap K V S };
 
     ghost coded = { linked_map_code K.code V.code S.code };
 
-    ghost view = { λ m. linked_map (pairs_of m.ring.held) (length m.ring.held + m.ring.spares) m.hasher (bookmark_at (mark_of m.visit) (bare m.ring.held)) (unvisited_of m.visit) (current_at (current_of m.visit) (bare m.ring.held)) m.rechained m.mode };
+    ghost view = { λ m. map_of m.ring m.hasher (mark_of m.visit) (unvisited_of m.visit) (current_of m.visit) m.rechained m.mode };
 
     ghost invariant = { λ m. IsKept K.eq (hash_by S.Hasher.finish S.Hasher.write S.build_hasher K.hash_input m.hasher) m.index m.ring (mark_of m.visit) (unvisited_of m.visit) (current_of m.visit) m.rechained };
 }

@@ -15,4 +15,4 @@ invariant_of-self g c =
     refl (omega (arith, of_bare, c.self.invariant.nodes.limit)) (indexed_spliced m.index c.forget_all.new.self m.ring (all_spare m.ring) c.self.invariant.indexed c.forget_all.ensures.empty c.forget_all.ensures.buckets refl refl) (omega (arith, c.forget_all.ensures.buckets, c.self.invariant.few))
 
 pub returns-clause-stays_valid : goal.returns-clause-stays_valid
-returns-clause-stays_valid g c = IsValid-view (invariant_of-self g c) _ _ _ _ _ _
+returns-clause-stays_valid g c = IsValid-view (invariant_of-self g c) refl refl

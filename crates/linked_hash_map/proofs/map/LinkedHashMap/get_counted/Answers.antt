@@ -1,4 +1,4 @@
-use Rattle.std.proofs.Common.{◌≤◌, Some, length, option_map, fold, sym, ap, ◌∙◌, subst}
+use Rattle.std.proofs.Common.{◌≤◌, Some, length, option_map, refl, fold, sym, ap, ◌∙◌, subst}
 use Rattle.lhm_ring.specs.Index.{spots}
 use Rattle.lhm_ring.specs.Positions.{place_of}
 use Rattle.lhm_ring.specs.Search.{HasKey, IsAbsent, CountsSome, CountsAll}
@@ -18,7 +18,7 @@ returns-in-Some-clause-value g c =
     )
 
 pub returns-in-Some-clause-valid : goal.returns-in-Some-clause-valid
-returns-in-Some-clause-valid g c = rw (← c.self.view_is) (IsValid-view c.self.invariant _ _ _ _ _ _)
+returns-in-Some-clause-valid g c = rw (← c.self.view_is) (IsValid-view c.self.invariant refl refl)
 
 pub returns-in-Some-clause-compared_few : goal.returns-in-Some-clause-compared_few
 returns-in-Some-clause-compared_few g c =
@@ -45,7 +45,7 @@ returns-in-None-clause-value g c =
     (of-None (IsAbsent g.K.PartialEq.eq c.hash_one-number.result c.args.key.now m.ring.held) c.find-found.result.0 c.in-None.is c.find-found.ensures.absent))))
 
 pub returns-in-None-clause-valid : goal.returns-in-None-clause-valid
-returns-in-None-clause-valid g c = rw (← c.self.view_is) (IsValid-view c.self.invariant _ _ _ _ _ _)
+returns-in-None-clause-valid g c = rw (← c.self.view_is) (IsValid-view c.self.invariant refl refl)
 
 pub returns-in-None-clause-compared : goal.returns-in-None-clause-compared
 returns-in-None-clause-compared g c =

@@ -1,11 +1,11 @@
-use Rattle.std.proofs.Common.{◌+◌, Some, option_map, fold, refl, inl, ap, sym, ◌∙◌, subst}
+use Rattle.std.proofs.Common.{Some, option_map, fold, refl, inl, ap, sym, ◌∙◌, subst}
 use Rattle.lhm_ring.specs.Positions.{place_of}
+use Rattle.lhm_ring.specs.RingAfterLoan.{with_value}
 use Rattle.lhm_ring.specs.Search.{HasKey, IsAbsent}
 use Rattle.lhm_ring.proofs.IndexedRing.{indexed_value}
-use Rattle.linked_hash_map.specs.LinkedMap.{linked_map}
-use Rattle.linked_hash_map.specs.Nodes.{AreKept, bookmark_at, current_at, mark_of, unvisited_of, current_of}
+use Rattle.linked_hash_map.specs.Nodes.{AreKept, mark_of, unvisited_of, current_of}
 use Rattle.linked_hash_map.specs.Hashers.{hash_by}
-use Rattle.linked_hash_map.proofs.Kept.{IsValid-view, of-Some, of-None, index_of-key, pair_there, node, front, back, pairs_set, bare-change, length-same, distinct_keys, absent_key}
+use Rattle.linked_hash_map.proofs.Kept.{IsValid-view, of-Some, of-None, index_of-key, pair_there, node, front, back, pairs_set, map_of-revalued, bare-change, distinct_keys, absent_key}
 use Rattle.linked_hash_map.proofs.Indexes.{value_at-index, set_value-index}
 use Rattle.linked_hash_map.proofs.map.LinkedHashMap.get_mut.Goals as goal
 
@@ -28,13 +28,13 @@ returns-in-Some g c =
     rw (← c.self.view_is) (
       (λ i. inl (
         c.value_mut.result.ghost_name,
-        λ w. linked_map ((pairs_set h.held c.value_mut.ensures.alone w ∙ sym (set_value-index g.met.K.Eq.laws distinct (index_of-key h) w)) i)
-            (length-same _ m.ring.held (bare-change at w m.ring.held) i + m.ring.spares) m.hasher (bookmark_at (mark_of m.visit) (bare-change at w m.ring.held i)) (unvisited_of m.visit) (current_at (current_of m.visit) (bare-change at w m.ring.held i)) m.rechained m.mode,
+        λ w. map_of-revalued m.ring (with_value m.ring at w) m.hasher (mark_of m.visit) (unvisited_of m.visit) (current_of m.visit) m.rechained m.mode (bare-change at w m.ring.held) refl
+            (pairs_set h.held c.value_mut.ensures.alone w ∙ sym (set_value-index g.met.K.Eq.laws distinct (index_of-key h) w)) i,
       )),
       record {
         writes_back = tt;
         value = ap Some (c.value_mut.ensures.value (front h.held) (node h.held) (back h.held) h.held.3 h.held.4) ∙ value_at-index g.met.K.Eq.laws distinct (index_of-key h) (pair_there h.held);
-        valid = IsValid-view c.self.invariant _ _ _ _ _ _;
+        valid = IsValid-view c.self.invariant refl refl;
       },
     )
 
@@ -49,6 +49,6 @@ returns-in-None g c =
             (λ x y h. ap (λ ws. g.S.Hasher.Hasher.finish (fold g.S.Hasher.Hasher.write (g.S.BuildHasher.build_hasher m.hasher) ws)) (g.met.K.Hash.respects_eq x y h))
             c.args.key.now c.hash_one-number.result c.hash_one-number.ensures m.ring.held c.self.invariant.nodes.hashed
             (of-None (IsAbsent g.K.PartialEq.eq c.hash_one-number.result c.args.key.now m.ring.held) c.find.result.0 c.in-None.is c.find.ensures.absent)));
-        valid = IsValid-view c.self.invariant _ _ _ _ _ _;
+        valid = IsValid-view c.self.invariant refl refl;
       },
     )

@@ -1,7 +1,7 @@
-use Rattle.std.proofs.Common.{◌+◌, option_map, fold, refl, inl, ap, sym, ◌∙◌}
+use Rattle.std.proofs.Common.{◌+◌, None, option_map, fold, refl, inl, ap, sym, ◌∙◌}
 use Rattle.lhm_ring.specs.Positions.{place_of}
 use Rattle.lhm_ring.specs.Search.{HasKey, IsAbsent}
-use Rattle.linked_hash_map.specs.LinkedMap.{linked_map, nowhere}
+use Rattle.linked_hash_map.specs.Nodes.{map_of}
 use Rattle.linked_hash_map.specs.Hashers.{hash_by}
 use Rattle.linked_hash_map.proofs.Kept.{IsValid-view, of-Some, of-None, absent_key, bare-change, length-same, distinct_keys}
 use Rattle.linked_hash_map.proofs.Current.{key_lies}
@@ -29,13 +29,15 @@ returns-in-Some g c =
     rw (← c.self.view_is) (
       (λ i. inl (
         c.value_mut.result.ghost_name,
-        λ w. linked_map (pairs-touched g.met.K.Eq.laws has distinct moved.last moved.apart c.value_mut.ensures.alone w i)
-            (long w i + moved.spares i) m.hasher 0 0 nowhere m.rechained m.mode,
+        λ w. record (map_of m.ring m.hasher None 0 None m.rechained m.mode) {
+          pairs = pairs-touched g.met.K.Eq.laws has distinct moved.last moved.apart c.value_mut.ensures.alone w i;
+          capacity = long w i + moved.spares i;
+        },
       )),
       record {
         writes_back = tt;
         value = value-touched g.met.K.Eq.laws has distinct moved.last moved.apart c.value_mut.ensures.value;
-        valid = IsValid-view c.self.invariant _ _ _ _ _ _;
+        valid = IsValid-view c.self.invariant refl refl;
       },
     )
 
@@ -50,6 +52,6 @@ returns-in-None g c =
             (λ x y h. ap (λ ws. g.S.Hasher.Hasher.finish (fold g.S.Hasher.Hasher.write (g.S.BuildHasher.build_hasher m.hasher) ws)) (g.met.K.Hash.respects_eq x y h))
             c.args.key.now c.hash_one-number.result c.hash_one-number.ensures m.ring.held c.self.invariant.nodes.hashed
             (of-None (IsAbsent g.K.PartialEq.eq c.hash_one-number.result c.args.key.now m.ring.held) c.find.result.0 c.in-None.is c.find.ensures.absent)));
-        valid = IsValid-view c.self.invariant _ _ _ _ _ _;
+        valid = IsValid-view c.self.invariant refl refl;
       },
     )

@@ -1,4 +1,4 @@
-use Rattle.std.proofs.Common.{◌≡◌, ◌+◌, Some, sym, ap, ◌∙◌, subst, fold}
+use Rattle.std.proofs.Common.{◌≡◌, ◌+◌, Some, refl, sym, ap, ◌∙◌, subst, fold}
 use Rattle.lhm_ring.specs.Positions.{place_of}
 use Rattle.lhm_ring.specs.Search.{HasKey, IsAbsent}
 use Rattle.linked_hash_map.specs.LinkedMap.{LinkedMap}
@@ -12,10 +12,10 @@ use Rattle.linked_hash_map.proofs.PutPair.{pairs-kept, value-kept, held-touched,
 use Rattle.linked_hash_map.proofs.map.LinkedHashMap.insert_present.Goals as goal
 
 pub returns-in_default-clause-valid : goal.returns-in_default-clause-valid
-returns-in_default-clause-valid g c = rw (← c.self.view_is) (IsValid-view c.self.invariant _ _ _ _ _ _)
+returns-in_default-clause-valid g c = rw (← c.self.view_is) (IsValid-view c.self.invariant refl refl)
 
 pub returns-in_default-clause-stays_valid : goal.returns-in_default-clause-stays_valid
-returns-in_default-clause-stays_valid g c = rw (← c.self.view_is) (IsValid-view c.self.invariant _ _ _ _ _ _)
+returns-in_default-clause-stays_valid g c = rw (← c.self.view_is) (IsValid-view c.self.invariant refl refl)
 
 pub returns-in_default-clause-absent : goal.returns-in_default-clause-absent
 returns-in_default-clause-absent g c =
@@ -69,10 +69,10 @@ returns-in-Touch-clause-capacity g c =
     rw (← c.self.view_is) (λ i. long i + c.move_to_back.ensures.spares i)
 
 pub returns-in-Touch-clause-valid : goal.returns-in-Touch-clause-valid
-returns-in-Touch-clause-valid g c = rw (← c.self.view_is) (IsValid-view c.self.invariant _ _ _ _ _ _)
+returns-in-Touch-clause-valid g c = rw (← c.self.view_is) (IsValid-view c.self.invariant refl refl)
 
 pub returns-in-Touch-clause-stays_valid : goal.returns-in-Touch-clause-stays_valid
-returns-in-Touch-clause-stays_valid g c = IsValid-view (invariant_of-self g c) _ _ _ _ _ _
+returns-in-Touch-clause-stays_valid g c = IsValid-view (invariant_of-self g c) refl refl
 
 pub returns-in-Keep-clause-old : goal.returns-in-Keep-clause-old
 returns-in-Keep-clause-old g c =
@@ -101,7 +101,7 @@ returns-in-Keep-clause-capacity g c =
     rw (← c.self.view_is) (ap (λ n. n + m.ring.spares) (length-same _ m.ring.held (bare-change (place_of c.in-Some.found) c.replace-in-Keep.new.dest m.ring.held)))
 
 pub returns-in-Keep-clause-valid : goal.returns-in-Keep-clause-valid
-returns-in-Keep-clause-valid g c = rw (← c.self.view_is) (IsValid-view c.self.invariant _ _ _ _ _ _)
+returns-in-Keep-clause-valid g c = rw (← c.self.view_is) (IsValid-view c.self.invariant refl refl)
 
 pub returns-in-Keep-clause-stays_valid : goal.returns-in-Keep-clause-stays_valid
-returns-in-Keep-clause-stays_valid g c = IsValid-view (invariant_of-self-in-Keep g c) _ _ _ _ _ _
+returns-in-Keep-clause-stays_valid g c = IsValid-view (invariant_of-self-in-Keep g c) refl refl

@@ -1,13 +1,13 @@
-use Rattle.std.proofs.Common.{◌≡◌, ◌+◌, ◌-◌, ◌∙◌, [], ◌∷◌, length, option_map, Some, refl, ap, sym, subst, arith, length-append}
+use Rattle.std.proofs.Common.{◌≡◌, ◌-◌, ◌∙◌, [], ◌∷◌, length, option_map, Some, refl, ap, sym, subst, arith, length-append}
 use Rattle.lhm_ring.specs.Positions.{place_of, place_of_some}
+use Rattle.lhm_ring.specs.RingAfterLoan.{with_value}
 use Rattle.lhm_ring.specs.RingState.{IsHeld}
 use Rattle.lhm_ring.proofs.IndexedRing.{indexed_value}
 use Rattle.linked_hash_map.specs.Indexes.{set_value_at}
-use Rattle.linked_hash_map.specs.LinkedMap.{linked_map}
-use Rattle.linked_hash_map.specs.Nodes.{AreKept, bookmark_at, current_at, pairs_of, mark_of, unvisited_of, current_of}
+use Rattle.linked_hash_map.specs.Nodes.{AreKept, pairs_of, mark_of, unvisited_of, current_of}
 use Rattle.linked_hash_map.specs.Hashers.{hash_by}
 use Rattle.linked_hash_map.proofs.FirstAndLast.{last_node, last-pairs}
-use Rattle.linked_hash_map.proofs.Kept.{IsValid-view, bare-change, length-pairs_of, length-same, pairs_set}
+use Rattle.linked_hash_map.proofs.Kept.{IsValid-view, map_of-revalued, bare-change, length-pairs_of, pairs_set}
 use Rattle.linked_hash_map.proofs.map.LinkedHashMap.last_value_mut.Goals as goal
 
 pub value_mut-requires : goal.value_mut-requires
@@ -39,12 +39,12 @@ returns g c =
     rw (← c.self.view_is) (
       (
         refl,
-        λ w i. linked_map ((pairs_set held c.value_mut.ensures.alone w ∙ ap (λ n. set_value_at (pairs_of m.ring.held) n w) index) i)
-            (length-same _ m.ring.held (bare-change at w m.ring.held) i + m.ring.spares) m.hasher (bookmark_at (mark_of m.visit) (bare-change at w m.ring.held i)) (unvisited_of m.visit) (current_at (current_of m.visit) (bare-change at w m.ring.held i)) m.rechained m.mode,
+        λ w. map_of-revalued m.ring (with_value m.ring at w) m.hasher (mark_of m.visit) (unvisited_of m.visit) (current_of m.visit) m.rechained m.mode (bare-change at w m.ring.held) refl
+            (pairs_set held c.value_mut.ensures.alone w ∙ ap (λ n. set_value_at (pairs_of m.ring.held) n w) index),
       ),
       record {
         writes_back = tt;
         value = ap (option_map (λ p. p.1)) (last-pairs last) ∙ ap Some (sym (c.value_mut.ensures.value last.rest last.node [] last.is last.at));
-        valid = IsValid-view c.self.invariant _ _ _ _ _ _;
+        valid = IsValid-view c.self.invariant refl refl;
       },
     )

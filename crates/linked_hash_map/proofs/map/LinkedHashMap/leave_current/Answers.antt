@@ -1,9 +1,9 @@
-use Rattle.std.proofs.Common.{Some, ◌+◌, slice_get, option_map, refl, sym, ap, ◌∙◌}
+use Rattle.std.proofs.Common.{Some, None, slice_get, option_map, refl, sym, ap, ◌∙◌}
 use Rattle.lhm_ring.specs.Positions.{place_of}
-use Rattle.linked_hash_map.specs.LinkedMap.{linked_map}
+use Rattle.lhm_ring.specs.RingAfterLoan.{with_value}
 use Rattle.linked_hash_map.specs.Indexes.{set_value_at}
-use Rattle.linked_hash_map.specs.Nodes.{pairs_of, bookmark_at, current_at, mark_of, unvisited_of}
-use Rattle.linked_hash_map.proofs.Kept.{IsValid-view, bare-change, length-same, pair_there, pairs_set}
+use Rattle.linked_hash_map.specs.Nodes.{pairs_of, map_of, mark_of, unvisited_of}
+use Rattle.linked_hash_map.proofs.Kept.{IsValid-view, map_of-revalued, bare-change, pair_there, pairs_set}
 use Rattle.linked_hash_map.proofs.Current.{cond-None, current_of-Some, current_at-Some, current_cut, IsKept-with_value, IsKept-left}
 use Rattle.linked_hash_map.proofs.map.LinkedHashMap.leave_current.Goals as goal
 
@@ -24,12 +24,13 @@ returns g c =
     rw (← c.self.view_is) (
       (
         refl,
-        λ w i. linked_map ((pairs_set h c.value_mut.ensures.alone w ∙ ap (λ k. set_value_at (pairs_of hs) k w) (sym index)) i)
-            (length-same _ hs (bare-change p w hs) i + m.ring.spares) m.hasher (bookmark_at (mark_of m.visit) (bare-change p w hs i)) (unvisited_of m.visit) (current_at (cond-None m.visit.active i) (bare-change p w hs i)) m.rechained m.mode,
+        λ w. ap (λ o. map_of (with_value m.ring p w) m.hasher (mark_of m.visit) (unvisited_of m.visit) o m.rechained m.mode) (cond-None m.visit.active)
+            ∙ map_of-revalued m.ring (with_value m.ring p w) m.hasher (mark_of m.visit) (unvisited_of m.visit) None m.rechained m.mode (bare-change p w hs) refl
+            (pairs_set h c.value_mut.ensures.alone w ∙ ap (λ k. set_value_at (pairs_of hs) k w) (sym index)),
       ),
       record {
         writes_back = tt;
         value = ap (λ k. option_map (λ pair. pair.1) (slice_get (pairs_of hs) k)) index ∙ ap (option_map (λ pair. pair.1)) (pair_there h) ∙ ap Some (sym (c.value_mut.ensures.value h.0 h.1 h.2 h.3 h.4));
-        valid = IsValid-view c.self.invariant _ _ _ _ _ _;
+        valid = IsValid-view c.self.invariant refl refl;
       },
     )

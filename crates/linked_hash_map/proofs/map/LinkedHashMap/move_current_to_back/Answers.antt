@@ -1,4 +1,4 @@
-use Rattle.std.proofs.Common.{Some, ◌+◌, ◌-◌, ◌≤◌, ◌++◌, ◌∷◌, [], inr, slice_get, remove, sym, ap, ◌∙◌, subst}
+use Rattle.std.proofs.Common.{Some, ◌+◌, ◌-◌, ◌≤◌, ◌++◌, ◌∷◌, [], inr, slice_get, remove, refl, sym, ap, ◌∙◌, subst}
 use Rattle.lhm_ring.specs.Positions.{place_of}
 use Rattle.lhm_ring.proofs.IndexedRing.{indexed_to_back}
 use Rattle.linked_hash_map.specs.Nodes.{pairs_of, bare, bookmark_at, AreKept, mark_of, unvisited_of}
@@ -67,7 +67,7 @@ returns-clause-outside g c =
     (behind-moved m.ring.held c.move_to_back.new.self.held c.move_to_back.ensures.last (current_lies kept is) g.met.K.Eq.laws (current_nodes kept is) (current_elsewhere kept is c.self.view_is c.requires.outside) c.move_to_back.ensures.apart))
 
 pub returns-clause-valid : goal.returns-clause-valid
-returns-clause-valid g c = rw (← c.self.view_is) (IsValid-view c.self.invariant _ _ _ _ _ _)
+returns-clause-valid g c = rw (← c.self.view_is) (IsValid-view c.self.invariant refl refl)
 
 pub returns-clause-stays_valid : goal.returns-clause-stays_valid
-returns-clause-stays_valid g c = IsValid-view (invariant_of-self g c) _ _ _ _ _ _
+returns-clause-stays_valid g c = IsValid-view (invariant_of-self g c) refl refl

@@ -1,4 +1,4 @@
-use Rattle.std.proofs.Common.{remove, slice_get, sym, ap, ◌∙◌}
+use Rattle.std.proofs.Common.{remove, slice_get, refl, sym, ap, ◌∙◌}
 use Rattle.lhm_ring.proofs.DroppedRing.{first_held}
 use Rattle.linked_hash_map.specs.Nodes.{pairs_of}
 use Rattle.linked_hash_map.proofs.Kept.{IsValid-view}
@@ -34,7 +34,7 @@ returns-clause-pairs g c =
     )
 
 pub returns-clause-valid : goal.returns-clause-valid
-returns-clause-valid g c = rw (← c.self.view_is) (IsValid-view c.self.invariant _ _ _ _ _ _)
+returns-clause-valid g c = rw (← c.self.view_is) (IsValid-view c.self.invariant refl refl)
 
 pub returns-clause-stays_valid : goal.returns-clause-stays_valid
-returns-clause-stays_valid g c = IsValid-view (invariant_of-self g c) _ _ _ _ _ _
+returns-clause-stays_valid g c = IsValid-view (invariant_of-self g c) refl refl

@@ -1,4 +1,4 @@
-use Rattle.std.proofs.Common.{◌≡◌, ◌+◌, ◌<◌, None, length, ◌∙◌, ap, sym, subst, arith}
+use Rattle.std.proofs.Common.{◌≡◌, ◌+◌, ◌<◌, None, length, refl, ◌∙◌, ap, sym, subst, arith}
 use Rattle.lhm_ring.specs.Positions.{place_of}
 use Rattle.lhm_ring.specs.Search.{entries}
 use Rattle.lhm_ring.proofs.IndexedRing.{indexed_some}
@@ -38,4 +38,4 @@ pub returns-clause-current : goal.returns-clause-current
 returns-clause-current g c = rw (← c.self.view_is) (current_at-push c.self.invariant (place_of c.put_back-at.result) c.args.number c.args.key c.args.value c.put_in.new.ring (c.put_in.ensures.held ∙ ap entries c.put_back-at.ensures.last))
 
 pub returns-clause-stays_valid : goal.returns-clause-stays_valid
-returns-clause-stays_valid g c = IsValid-view (invariant_of-self g c) _ _ _ _ _ _
+returns-clause-stays_valid g c = IsValid-view (invariant_of-self g c) refl refl

@@ -1,4 +1,4 @@
-use Rattle.std.proofs.Common.{◌≡◌, Some, sym, ap, subst, fold}
+use Rattle.std.proofs.Common.{◌≡◌, Some, refl, sym, ap, subst, fold}
 use Rattle.lhm_ring.specs.Positions.{place_of}
 use Rattle.lhm_ring.specs.Search.{HasKey, IsAbsent}
 use Rattle.linked_hash_map.specs.LinkedMap.{LinkedMap}
@@ -20,7 +20,7 @@ returns-in-Some-clause-found g c found =
     rw (← c.self.view_is) (found_index h)
 
 pub returns-in-Some-clause-valid : goal.returns-in-Some-clause-valid
-returns-in-Some-clause-valid g c = rw (← c.self.view_is) (IsValid-view c.self.invariant _ _ _ _ _ _)
+returns-in-Some-clause-valid g c = rw (← c.self.view_is) (IsValid-view c.self.invariant refl refl)
 
 pub returns-in-None-clause-absent : goal.returns-in-None-clause-absent
 returns-in-None-clause-absent g c none =
@@ -31,4 +31,4 @@ returns-in-None-clause-absent g c none =
     (of-None (IsAbsent g.K.PartialEq.eq c.args.number c.args.key.now m.ring.held) c.find.result.0 c.in-None.is c.find.ensures.absent))
 
 pub returns-in-None-clause-valid : goal.returns-in-None-clause-valid
-returns-in-None-clause-valid g c = rw (← c.self.view_is) (IsValid-view c.self.invariant _ _ _ _ _ _)
+returns-in-None-clause-valid g c = rw (← c.self.view_is) (IsValid-view c.self.invariant refl refl)

@@ -1,4 +1,4 @@
-use Rattle.std.proofs.Common.{None, ◌+◌, slice_get, remove, sym, ap, ◌∙◌, subst, arith}
+use Rattle.std.proofs.Common.{None, ◌+◌, slice_get, remove, refl, sym, ap, ◌∙◌, subst, arith}
 use Rattle.linked_hash_map.specs.Nodes.{pairs_of, bare, AreKept, mark_of, unvisited_of}
 use Rattle.linked_hash_map.specs.Hashers.{hash_by}
 use Rattle.linked_hash_map.proofs.Kept.{IsValid-view}
@@ -48,7 +48,7 @@ returns-clause-to_visit g c =
     rw (← c.self.view_is) (to_visit-taken m.ring.held c.take_out_at.new.ring.held c.unlink-key.new.self.held c.take_out_at.ensures.held c.unlink-key.ensures.others (current_lies c.self.invariant (current_of-Some c.current.ensures c.unwrap-at.ensures)) (mark_of m.visit) (unvisited_of m.visit) elsewhere c.self.invariant.nodes.marked)
 
 pub returns-clause-valid : goal.returns-clause-valid
-returns-clause-valid g c = rw (← c.self.view_is) (IsValid-view c.self.invariant _ _ _ _ _ _)
+returns-clause-valid g c = rw (← c.self.view_is) (IsValid-view c.self.invariant refl refl)
 
 pub returns-clause-stays_valid : goal.returns-clause-stays_valid
-returns-clause-stays_valid g c = IsValid-view (invariant_of-self g c) _ _ _ _ _ _
+returns-clause-stays_valid g c = IsValid-view (invariant_of-self g c) refl refl

@@ -1,9 +1,9 @@
-use Rattle.std.proofs.Common.{◌≡◌, ◌+◌, None, length, option_map, sym, ap, ◌∙◌, subst, fold, arith}
+use Rattle.std.proofs.Common.{◌≡◌, ◌+◌, None, length, option_map, refl, sym, ap, ◌∙◌, subst, fold, arith}
 use Rattle.lhm_ring.specs.Positions.{place_of}
 use Rattle.lhm_ring.specs.RingState.{State}
 use Rattle.lhm_ring.proofs.IndexChanges.{HasKey-kept}
-use Rattle.linked_hash_map.specs.LinkedMap.{LinkedMap, linked_map}
-use Rattle.linked_hash_map.specs.Nodes.{pairs_of, bare, bookmark_at, current_at, mark_of, unvisited_of, current_of}
+use Rattle.linked_hash_map.specs.LinkedMap.{LinkedMap}
+use Rattle.linked_hash_map.specs.Nodes.{pairs_of, map_of, mark_of, unvisited_of, current_of}
 use Rattle.linked_hash_map.specs.Pairs.{find}
 use Rattle.linked_hash_map.specs.Validity.{IsValid}
 use Rattle.linked_hash_map.specs.Hashers.{hash_by}
@@ -35,13 +35,13 @@ returns-in_err-at-clause-pairs g c =
     )
 
 pub returns-in_err-at-clause-valid : goal.returns-in_err-at-clause-valid
-returns-in_err-at-clause-valid g c = rw (← c.self.view_is) (IsValid-view c.self.invariant _ _ _ _ _ _)
+returns-in_err-at-clause-valid g c = rw (← c.self.view_is) (IsValid-view c.self.invariant refl refl)
 
 pub returns-in_err-at-clause-stays_valid : goal.returns-in_err-at-clause-stays_valid
 returns-in_err-at-clause-stays_valid g c =
     let m = c.self.inside in
-    subst (λ (s : State _). IsValid g.K.PartialEq.eq (linked_map (pairs_of s.held) (length s.held + s.spares) m.hasher (bookmark_at (mark_of m.visit) (bare s.held)) (unvisited_of m.visit) (current_at (current_of m.visit) (bare s.held)) m.rechained m.mode))
-    (sym c.in_err-at.ensures.ring_unchanged) (IsValid-view c.self.invariant _ _ _ _ _ _)
+    subst (λ (s : State _). IsValid g.K.PartialEq.eq (map_of s m.hasher (mark_of m.visit) (unvisited_of m.visit) (current_of m.visit) m.rechained m.mode))
+    (sym c.in_err-at.ensures.ring_unchanged) (IsValid-view c.self.invariant refl refl)
 
 pub invariant_of-self-2 : goal.invariant_of-self-2
 invariant_of-self-2 g c =
@@ -80,7 +80,7 @@ returns-clause-capacity g c =
     rw (← c.self.view_is) (omega (arith, shorter, unlinked.spares, taken.spares))
 
 pub returns-clause-valid : goal.returns-clause-valid
-returns-clause-valid g c = rw (← c.self.view_is) (IsValid-view c.self.invariant _ _ _ _ _ _)
+returns-clause-valid g c = rw (← c.self.view_is) (IsValid-view c.self.invariant refl refl)
 
 pub returns-clause-stays_valid : goal.returns-clause-stays_valid
-returns-clause-stays_valid g c = IsValid-view (invariant_of-self-2 g c) _ _ _ _ _ _
+returns-clause-stays_valid g c = IsValid-view (invariant_of-self-2 g c) refl refl

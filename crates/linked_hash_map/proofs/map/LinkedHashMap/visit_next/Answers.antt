@@ -1,4 +1,4 @@
-use Rattle.std.proofs.Common.{take, drop, sym, ap, ◌∙◌}
+use Rattle.std.proofs.Common.{take, drop, refl, sym, ap, ◌∙◌}
 use Rattle.std.specs.Map.{keys_of}
 use Rattle.lhm_ring.specs.Positions.{place_of, place_of_some}
 use Rattle.linked_hash_map.specs.Nodes.{mark_of, pairs_of, bare, bookmark_at}
@@ -8,7 +8,7 @@ use Rattle.linked_hash_map.proofs.MarkMoves.{marked_held, goes, kept_on, to_visi
 use Rattle.linked_hash_map.proofs.map.LinkedHashMap.visit_next.Goals as goal
 
 pub returns-in_default-clause-valid : goal.returns-in_default-clause-valid
-returns-in_default-clause-valid g c = rw (← c.self.view_is) (IsValid-view c.self.invariant _ _ _ _ _ _)
+returns-in_default-clause-valid g c = rw (← c.self.view_is) (IsValid-view c.self.invariant refl refl)
 
 pub mark_behind-requires : goal.mark_behind-requires
 mark_behind-requires g c = marked_held c.self.invariant (place_of c.in-Some.at) (sym c.mark.ensures ∙ ap place_of_some c.in-Some.is)
@@ -32,4 +32,4 @@ returns-clause-outside g c =
     λ _. (goes (IsKept-count c.self.invariant c.unvisited-unvisited.ensures) (place_of c.in-Some.at) (sym c.mark.ensures ∙ ap place_of_some c.in-Some.is) (place_of_some m.result) (λ z. ap place_of_some (m.ensures.none z)) m.ensures.next m.ensures.apart).outside
 
 pub returns-clause-valid : goal.returns-clause-valid
-returns-clause-valid g c = rw (← c.self.view_is) (IsValid-view c.self.invariant _ _ _ _ _ _)
+returns-clause-valid g c = rw (← c.self.view_is) (IsValid-view c.self.invariant refl refl)

@@ -1,4 +1,4 @@
-use Rattle.std.proofs.Common.{◌∙◌, ap, sym, arith}
+use Rattle.std.proofs.Common.{refl, ◌∙◌, ap, sym, arith}
 use Rattle.lhm_ring.specs.Buckets.{buckets}
 use Rattle.lhm_ring.proofs.IndexedRing.{indexed_none}
 use Rattle.linked_hash_map.proofs.Growth.{IsKept-none}
@@ -12,4 +12,4 @@ invariant_of-result g c =
     (indexed_none c.in-Ok.index c.in-Ok-ring_with_room.ring c.in-Ok.ensures.empty room.empty (c.in-Ok.ensures.buckets ∙ ap buckets (sym room.spares)))
 
 pub returns-clause-valid : goal.returns-clause-valid
-returns-clause-valid g c = IsValid-view (invariant_of-result g c) _ _ _ _ _ _
+returns-clause-valid g c = IsValid-view (invariant_of-result g c) refl refl
