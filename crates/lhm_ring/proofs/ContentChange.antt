@@ -1,23 +1,23 @@
--- A ring of which only what is held at one place changes.
+-- A ring of which only what is held at one pointer changes.
 use Rattle.std.proofs.Common.{◌≡◌, ℕ, suc, zero, true, false, cond, List, [], ◌∷◌, ◌++◌, map, length, Option, Some, None, refl, sym, ap, ◌∙◌, subst, append_assoc}
 use Rattle.std.specs.Prelude.{◌==◌}
 use Rattle.std.specs.List.{AllByRecursion}
 use denote.RawPtr.{Ptr}
-use Rattle.lhm_ring.specs.declared.block.Place.{Place}
+use Rattle.lhm_ring.specs.declared.block.NodePointer.{NodePointer}
 use Rattle.lhm_ring.specs.declared.links.Links.{Links}
 use Rattle.lhm_ring.specs.Cells.{Cell, cell, same_ptr, links_of, body_of, links_at, body_at, IsApart, with_links, with_body}
-use Rattle.lhm_ring.specs.Rings.{relinked, next_of, prev_of, link_of, has_links, guard_of, next_at, prev_at, link_at, is_there, is_guard, content_of, content_at, Linked, Chained, HasContent, IsRing, follow, listed, one_of, ring_places, ring_list, RingOk}
+use Rattle.lhm_ring.specs.Rings.{relinked, next_of, prev_of, link_of, has_links, guard_of, next_at, prev_at, link_at, is_there, is_guard, content_of, content_at, Linked, Chained, HasContent, IsRing, follow, listed, one_of, ring_pointers, ring_list, RingOk}
 use Rattle.lhm_ring.specs.RingState.{State, state, Held, held, IsHeld, ChangesOnly, change_at}
 use Rattle.lhm_ring.specs.Targets.{target}
 use Rattle.lhm_ring.specs.declared.link.Link.{Link}
 use Rattle.lhm_ring.proofs.Apart.{IsFresh, apart_none, same_ptr_eq, same_ptr_refl, same_ptr_symm}
 use Rattle.lhm_ring.proofs.Writes.{at_other, length-change, read_kept, links_set, body_kept}
-use Rattle.lhm_ring.proofs.Rows.{all_from, all_right, content_place, apart_at, apart_head, apart_left, apart_tail, follow_row}
+use Rattle.lhm_ring.proofs.Rows.{all_from, all_right, content_pointer, apart_at, apart_head, apart_left, apart_tail, follow_row}
 use Rattle.lhm_ring.proofs.Moves.{ring_listed, none_held, found}
 use Rattle.lhm_ring.proofs.Splicing.{next_relinked, prev_relinked, guard_relinked, link_relinked, number_relinked}
 use Rattle.lhm_ring.proofs.OneNodeChanged.{links_kept, body_set, content_number, content_link, content_guard, content_pair, content_holds}
 
--- the same nodes and the same order, but that p holds u in place of t
+-- the same nodes and the same order, but that p holds u in pointer of t
 pub record ChangesAt {B : Type 0} (cs ds : List (Cell Links B)) (p : Ptr) (t u : Held B) : Type 0 where
   pub next : (q : Ptr) → next_at ds q ≡ next_at cs q
   pub prev : (q : Ptr) → prev_at ds q ≡ prev_at cs q
@@ -63,30 +63,30 @@ module _ {B : Type 0} (cs ds : List (Cell Links B)) (p : Ptr) (t u : Held B) (j 
   }
 
   -- where p stands in the ring
-  split_at : (guard : Option Place) (spare : Link) (n m : ℕ) → RingOk cs guard spare n m → IsHeld (ring_list cs guard n) p → (us : List Ptr) × (vs : List Ptr) × (ring_places cs guard n ≡ us ++ p ∷ vs)
+  split_at : (guard : Option NodePointer) (spare : Link) (n m : ℕ) → RingOk cs guard spare n m → IsHeld (ring_list cs guard n) p → (us : List Ptr) × (vs : List Ptr) × (ring_pointers cs guard n ≡ us ++ p ∷ vs)
   split_at None spare n m ok h = absurd (none_held p h)
   split_at (Some g) spare n m ok h =
-      let f = found cs g spare n m ok h.0 h.1 h.2 h.3 in let s = f.place in
+      let f = found cs g spare n m ok h.0 h.1 h.2 h.3 in let s = f.pointer in
       (s.before, s.after, ap (λ k. follow cs k g.ptr) (sym s.long) ∙ follow_row cs g.ptr (s.before ++ h.1.at ∷ s.after) g.ptr s.ring.linked ∙ ap (λ q. s.before ++ q ∷ s.after) h.4)
 
-  free_of : (g : Place) (spare : Link) (n m : ℕ) (ok : RingOk cs (Some g) spare n m) (us vs : List Ptr) → follow cs n g.ptr ≡ us ++ p ∷ vs → IsFresh p ok.1
+  free_of : (g : NodePointer) (spare : Link) (n m : ℕ) (ok : RingOk cs (Some g) spare n m) (us vs : List Ptr) → follow cs n g.ptr ≡ us ++ p ∷ vs → IsFresh p ok.1
   free_of g spare n m ok us vs e =
       let is : ok.0 ≡ us ++ p ∷ vs = sym (ap (λ k. follow cs k g.ptr) (sym ok.3) ∙ follow_row cs g.ptr ok.0 g.ptr ok.2.linked) ∙ e in
       let d : IsApart ((g.ptr ∷ us) ++ p ∷ (vs ++ ok.1)) = subst (λ qs. IsApart (g.ptr ∷ qs)) (ap (λ qs. qs ++ ok.1) is ∙ append_assoc us (p ∷ vs) ok.1) ok.2.apart in
       all_right (λ q. same_ptr p q ≡ false) vs ok.1 (all_right (λ q. same_ptr p q ≡ false) (g.ptr ∷ us) (vs ++ ok.1) (apart_at (g.ptr ∷ us) p (vs ++ ok.1) d))
 
-  pub ring_ok_same : (guard : Option Place) (spare : Link) (n m : ℕ) → RingOk cs guard spare n m → IsHeld (ring_list cs guard n) p → RingOk ds guard spare n m
+  pub ring_ok_same : (guard : Option NodePointer) (spare : Link) (n m : ℕ) → RingOk cs guard spare n m → IsHeld (ring_list cs guard n) p → RingOk ds guard spare n m
   ring_ok_same None spare n m ok h = absurd (none_held p h)
   ring_ok_same (Some g) spare n m ok h =
       let s = split_at (Some g) spare n m ok h in
       (ok.0, ok.1, ring_same g.ptr ok.0 (target spare) ok.1 (free_of g spare n m ok s.0 s.1 s.2) ok.2, ok.3, ok.4, ok.5)
 
   module _ (f : Held B → Held B) (fx : f t ≡ u) where
-    place : t.at ≡ p
-    place = content_place p (links_at cs p) (body_at cs p) t j.was
+    pointer : t.at ≡ p
+    pointer = content_pointer p (links_at cs p) (body_at cs p) t j.was
 
     changed : change_at p f (t ∷ []) ≡ u ∷ []
-    changed = ap (λ y. cond y (f t) t ∷ []) (ap (λ q. same_ptr q p) place ∙ same_ptr_refl p) ∙ ap (λ z. z ∷ []) fx
+    changed = ap (λ y. cond y (f t) t ∷ []) (ap (λ q. same_ptr q p) pointer ∙ same_ptr_refl p) ∙ ap (λ z. z ∷ []) fx
 
     left : (q : Ptr) (o : Option (Held B)) → same_ptr p q ≡ false → ((z : Held B) → o ≡ Some z → z.at ≡ q) → change_at p f (one_of o) ≡ one_of o
     left q None n h = refl
@@ -96,7 +96,7 @@ module _ {B : Type 0} (cs ds : List (Cell Links B)) (p : Ptr) (t u : Held B) (j 
     one_changed q = (elim (same_ptr p q) as (λ y. same_ptr p q ≡ y → one_of (content_at ds q) ≡ change_at p f (one_of (content_at cs q))) [
       | true ↦ λ s. subst (λ r. one_of (content_at ds r) ≡ change_at p f (one_of (content_at cs r))) (same_ptr_eq p q s)
           (ap one_of j.is ∙ sym (ap (λ o. change_at p f (one_of o)) j.was ∙ changed))
-      | false ↦ λ n. ap one_of (j.content q n) ∙ sym (left q (content_at cs q) n (λ z h. content_place q (links_at cs q) (body_at cs q) z h))
+      | false ↦ λ n. ap one_of (j.content q n) ∙ sym (left q (content_at cs q) n (λ z h. content_pointer q (links_at cs q) (body_at cs q) z h))
     ]) refl
 
     change-append : (xs ys : List (Held B)) → change_at p f (xs ++ ys) ≡ change_at p f xs ++ change_at p f ys
@@ -108,7 +108,7 @@ module _ {B : Type 0} (cs ds : List (Cell Links B)) (p : Ptr) (t u : Held B) (j 
     listed_changed [] = refl
     listed_changed (q ∷ qs) = (λ i. one_changed q i ++ listed_changed qs i) ∙ sym (change-append (one_of (content_at cs q)) (listed cs qs))
 
-    pub ring_list_changed : (guard : Option Place) (n : ℕ) → ring_list ds guard n ≡ change_at p f (ring_list cs guard n)
+    pub ring_list_changed : (guard : Option NodePointer) (n : ℕ) → ring_list ds guard n ≡ change_at p f (ring_list cs guard n)
     ring_list_changed None n = refl
     ring_list_changed (Some g) n = ap (listed ds) (follow_same n g.ptr) ∙ listed_changed (follow cs n g.ptr)
 
@@ -126,7 +126,7 @@ module _ {B : Type 0} (cs : List (Cell Links B)) (p : Ptr) (l : Links) (e : link
   pub body_changes : (x : B) → ChangesAt cs (with_body p (Some x) cs) p t (held t.at t.number t.link x)
   body_changes x =
       let same : (q : Ptr) → links_at (with_body p (Some x) cs) q ≡ links_at cs q = links_kept p (Some x) cs l e in
-      let place : t.at ≡ p = content_place p (links_at cs p) (body_at cs p) t c in
+      let pointer : t.at ≡ p = content_pointer p (links_at cs p) (body_at cs p) t c in
       record {
         next = λ q. ap next_of (same q);
         prev = λ q. ap prev_of (same q);
@@ -136,14 +136,14 @@ module _ {B : Type 0} (cs : List (Cell Links B)) (p : Ptr) (l : Links) (e : link
         content = λ q n. ap (λ z. content_of q (links_of z) (body_of z)) (at_other p (λ c. cell c.at c.links (Some x)) (λ c. refl) q n cs);
         was = c;
         is = seen_content (links_at (with_body p (Some x) cs) p) (body_at (with_body p (Some x) cs) p) l x (same p ∙ e) (body_set p (Some x) cs l e) open_guard
-            ∙ ap (λ z. Some z) (λ i. held (sym place i) (sym (content_number p l (body_at cs p) t shown_links) i) (sym (content_link p l (body_at cs p) t shown_links) i) x);
+            ∙ ap (λ z. Some z) (λ i. held (sym pointer i) (sym (content_number p l (body_at cs p) t shown_links) i) (sym (content_link p l (body_at cs p) t shown_links) i) x);
         count = length-change p (λ c. cell c.at c.links (Some x)) cs;
       }
 
   pub link_changes : (o : Link) → ChangesAt cs (with_links p (relinked o l) cs) p t (held t.at t.number (target o) t.pair)
   link_changes o =
       let k : Links = relinked o l in let e₂ : links_at (with_links p k cs) p ≡ Some k = links_set p k cs l e p ∙ ap (λ y. cond y (Some k) (links_at cs p)) (same_ptr_refl p) in
-      let place : t.at ≡ p = content_place p (links_at cs p) (body_at cs p) t c in let x = content_holds p (links_at cs p) (body_at cs p) t c in
+      let pointer : t.at ≡ p = content_pointer p (links_at cs p) (body_at cs p) t c in let x = content_holds p (links_at cs p) (body_at cs p) t c in
       let pair : t.pair ≡ x.0 = content_pair p (links_at cs p) x.0 t (ap (λ b. content_of p (links_at cs p) b) (sym x.1) ∙ c) in
       record {
         next = read_kept p k next_of cs l e (next_relinked o l);
@@ -154,21 +154,21 @@ module _ {B : Type 0} (cs : List (Cell Links B)) (p : Ptr) (l : Links) (e : link
         content = λ q n. ap (λ z. content_of q (links_of z) (body_of z)) (at_other p (λ c. cell c.at k c.body) (λ c. refl) q n cs);
         was = c;
         is = seen_content (links_at (with_links p k cs) p) (body_at (with_links p k cs) p) k x.0 e₂ (body_kept p k cs l e p ∙ x.1) (guard_relinked o l ∙ open_guard)
-            ∙ ap (λ z. Some z) (λ i. held (sym place i) ((number_relinked o l ∙ sym (content_number p l (body_at cs p) t shown_links)) i) (link_relinked o l i) (sym pair i));
+            ∙ ap (λ z. Some z) (λ i. held (sym pointer i) ((number_relinked o l ∙ sym (content_number p l (body_at cs p) t shown_links)) i) (link_relinked o l i) (sym pair i));
         count = length-change p (λ c. cell c.at k c.body) cs;
       }
 
--- what is held lies at places that are apart, so that a change of one is a change of no other
+-- what is held lies at pointers that are apart, so that a change of one is a change of no other
 module _ {B : Type 0} where
-  places_listed : (cs : List (Cell Links B)) (ps : List Ptr) → AllByRecursion (HasContent cs) ps → map (λ (t : Held B). t.at) (listed cs ps) ≡ ps
+  pointers_listed : (cs : List (Cell Links B)) (ps : List Ptr) → AllByRecursion (HasContent cs) ps → map (λ (t : Held B). t.at) (listed cs ps) ≡ ps
   unfolding listed
-  places_listed cs [] a = refl
-  places_listed cs (p ∷ ps) a = ap (λ o. map (λ (t : Held B). t.at) (one_of o ++ listed cs ps)) a.0.1 ∙ (λ i. content_place p (links_at cs p) (body_at cs p) a.0.0 a.0.1 i ∷ places_listed cs ps a.1 i)
+  pointers_listed cs [] a = refl
+  pointers_listed cs (p ∷ ps) a = ap (λ o. map (λ (t : Held B). t.at) (one_of o ++ listed cs ps)) a.0.1 ∙ (λ i. content_pointer p (links_at cs p) (body_at cs p) a.0.0 a.0.1 i ∷ pointers_listed cs ps a.1 i)
 
-  ring_apart : (cs : List (Cell Links B)) (guard : Option Place) (spare : Link) (n m : ℕ) → RingOk cs guard spare n m → IsApart (map (λ (t : Held B). t.at) (ring_list cs guard n))
+  ring_apart : (cs : List (Cell Links B)) (guard : Option NodePointer) (spare : Link) (n m : ℕ) → RingOk cs guard spare n m → IsApart (map (λ (t : Held B). t.at) (ring_list cs guard n))
   ring_apart cs None spare n m ok = apart_none
   ring_apart cs (Some g) spare n m ok =
-      subst IsApart (sym (ap (map (λ (t : Held B). t.at)) (ring_listed cs g.ptr ok.0 (target spare) ok.1 n ok.2 ok.3) ∙ places_listed cs ok.0 ok.2.held)) (apart_left ok.0 ok.1 (apart_tail g.ptr (ok.0 ++ ok.1) ok.2.apart))
+      subst IsApart (sym (ap (map (λ (t : Held B). t.at)) (ring_listed cs g.ptr ok.0 (target spare) ok.1 n ok.2 ok.3) ∙ pointers_listed cs ok.0 ok.2.held)) (apart_left ok.0 ok.1 (apart_tail g.ptr (ok.0 ++ ok.1) ok.2.apart))
 
   unchanged : (p : Ptr) (f : Held B → Held B) (ys : List (Held B)) → IsFresh p (map (λ (t : Held B). t.at) ys) → change_at p f ys ≡ ys
   unchanged p f [] d = refl
@@ -186,6 +186,6 @@ module _ {B : Type 0} where
       let far = apart_head x.at (map (λ (t : Held B). t.at) (xs ++ t ∷ ys)) d in
       λ i. cond (fresh_of x.at p xs t ys at far i) (f x) x ∷ changed_at p f xs t ys at (apart_tail x.at (map (λ (t : Held B). t.at) (xs ++ t ∷ ys)) d) i
 
-  pub changes_only : (cs : List (Cell Links B)) (guard : Option Place) (spare : Link) (n m : ℕ) (v : State B) → RingOk cs guard spare n m → state (ring_list cs guard n) m ≡ v → (p : Ptr) → ChangesOnly v.held p
+  pub changes_only : (cs : List (Cell Links B)) (guard : Option NodePointer) (spare : Link) (n m : ℕ) (v : State B) → RingOk cs guard spare n m → state (ring_list cs guard n) m ≡ v → (p : Ptr) → ChangesOnly v.held p
   changes_only cs guard spare n m v ok w p xs t ys e at f =
       ap (change_at p f) e ∙ changed_at p f xs t ys at (subst (λ hs. IsApart (map (λ (t : Held B). t.at) hs)) (ap (λ (z : State B). z.held) w ∙ e) (ring_apart cs guard spare n m ok))

@@ -16,11 +16,11 @@ use Rattle.lhm_ring.proofs.Options.{none_some}
 module _ {B : Type 0} where
   pub record CutBody (cs : List (Ptr × Option B)) (p : Ptr) (x : B) : Type 0 where
     pub before : List (Ptr × Option B)
-    pub place : Ptr
+    pub pointer : Ptr
     pub after : List (Ptr × Option B)
-    pub whole : cs ≡ before ++ (place, Some x) ∷ after
-    pub at : place ≡ p
-    pub taken : without_body p cs ≡ before ++ (place, None) ∷ after
+    pub whole : cs ≡ before ++ (pointer, Some x) ∷ after
+    pub at : pointer ≡ p
+    pub taken : without_body p cs ≡ before ++ (pointer, None) ∷ after
 
   pub cut_body : (cs : List (Ptr × Option B)) (p : Ptr) (x : B) → body_in cs p ≡ Some x → CutBody cs p x
   unfolding body_in without_body
@@ -29,7 +29,7 @@ module _ {B : Type 0} where
       (elim (same_ptr c.0 p) as (λ y. same_ptr c.0 p ≡ y → CutBody (c ∷ cs) p x) [
         | true ↦ λ t. record {
           before = [];
-          place = c.0;
+          pointer = c.0;
           after = cs;
           whole = ap (λ z. (c.0, z) ∷ cs) (sym (ap (λ y. cond y c.1 (body_in cs p)) t) ∙ e);
           at = same_ptr_eq c.0 p t;
@@ -37,7 +37,7 @@ module _ {B : Type 0} where
         }
         | false ↦ λ t. let on = cut_body cs p x (sym (ap (λ y. cond y c.1 (body_in cs p)) t) ∙ e) in record {
           before = c ∷ on.before;
-          place = on.place;
+          pointer = on.pointer;
           after = on.after;
           whole = ap (λ xs. c ∷ xs) on.whole;
           at = on.at;

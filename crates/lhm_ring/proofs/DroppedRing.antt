@@ -1,7 +1,7 @@
 -- How a ring ends.
 use Rattle.std.proofs.Common.{◌≡◌, ℕ, suc, ◌≤◌, List, [], ◌∷◌, ◌++◌, length, Option, Some, None, refl, ap, ◌∙◌, arith, length-append}
 use denote.RawPtr.{Ptr}
-use Rattle.lhm_ring.specs.declared.block.Place.{Place}
+use Rattle.lhm_ring.specs.declared.block.NodePointer.{NodePointer}
 use Rattle.lhm_ring.specs.declared.links.Links.{Links}
 use Rattle.lhm_ring.specs.Cells.{Cell, without}
 use Rattle.lhm_ring.specs.Rings.{IsRing, ring_list, RingOk}
@@ -30,7 +30,7 @@ module _ {B : Type 0} where
   none_left [] e = refl
   none_left (c ∷ cs) e = absurd (omega arith)
 
-  pub all_gone : (cs : List (Cell Links B)) (guard : Option Place) (spare : Link) (n m : ℕ) (g : Place) (v : State B) → guard ≡ Some g → RingOk cs guard spare n m → state (ring_list cs guard n) m ≡ v → v.held ≡ [] → v.spares ≡ 0 → without g.ptr cs ≡ []
+  pub all_gone : (cs : List (Cell Links B)) (guard : Option NodePointer) (spare : Link) (n m : ℕ) (g : NodePointer) (v : State B) → guard ≡ Some g → RingOk cs guard spare n m → state (ring_list cs guard n) m ≡ v → v.held ≡ [] → v.spares ≡ 0 → without g.ptr cs ≡ []
   all_gone cs guard spare n m g v e ok w h s =
       let o = opened cs guard spare g n m e ok in
       let n0 : n ≡ 0 = ring_length cs guard spare n m v ok w ∙ ap length h in let m0 : m ≡ 0 = ap (λ (z : State B). z.spares) w ∙ s in
@@ -40,6 +40,6 @@ module _ {B : Type 0} where
   pub without-guard : (cs : List (Cell Links B)) (g : Ptr) → IsRing cs g [] None [] → without g cs ≡ []
   without-guard cs g r = let a = shorter g cs r.there.0 in none_left (without g cs) (omega (arith, a, r.count))
 
-  pub never_any : (cs : List (Cell Links B)) (guard : Option Place) (spare : Link) (n m : ℕ) → guard ≡ None → RingOk cs guard spare n m → cs ≡ []
+  pub never_any : (cs : List (Cell Links B)) (guard : Option NodePointer) (spare : Link) (n m : ℕ) → guard ≡ None → RingOk cs guard spare n m → cs ≡ []
   never_any cs None spare n m e ok = ok.0
   never_any cs (Some g) spare n m e ok = absurd (some_none g e)

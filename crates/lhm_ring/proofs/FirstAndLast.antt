@@ -2,37 +2,37 @@
 use Rattle.std.proofs.Common.{◌≡◌, ℕ, List, [], ◌∷◌, ◌++◌, length, Option, Some, None, refl, sym, ap, ◌∙◌, arith}
 use Rattle.std.specs.List.{AllByRecursion}
 use denote.RawPtr.{Ptr}
-use Rattle.lhm_ring.specs.declared.block.Place.{Place}
+use Rattle.lhm_ring.specs.declared.block.NodePointer.{NodePointer}
 use Rattle.lhm_ring.specs.declared.links.Links.{Links}
 use Rattle.lhm_ring.specs.Cells.{Cell, links_at, body_at}
 use Rattle.lhm_ring.specs.Rings.{next_of, prev_of, next_at, prev_at, content_at, Linked, HasContent, follow, listed, one_of, ring_list, RingOk}
 use Rattle.lhm_ring.specs.RingState.{State, state, Held, first_at, last_at, last_of}
 use Rattle.lhm_ring.specs.Targets.{target}
 use Rattle.lhm_ring.specs.declared.link.Link.{Link}
-use Rattle.lhm_ring.proofs.Rows.{content_place, cut_row, last_from}
+use Rattle.lhm_ring.proofs.Rows.{content_pointer, cut_row, last_from}
 use Rattle.lhm_ring.proofs.Moves.{ring_listed, opened}
 
 module _ {B : Type 0} (cs : List (Cell Links B)) where
-  places_of : (p : Ptr) (t : Held B) → content_at cs p ≡ Some t → t.at ≡ p
-  places_of p t e = content_place p (links_at cs p) (body_at cs p) t e
+  pointers_of : (p : Ptr) (t : Held B) → content_at cs p ≡ Some t → t.at ≡ p
+  pointers_of p t e = content_pointer p (links_at cs p) (body_at cs p) t e
 
   last_listed : (p : Ptr) (h : HasContent cs p) (ps : List Ptr) → AllByRecursion (HasContent cs) ps → last_of h.0 (listed cs ps) ≡ last_from p ps
   unfolding listed
-  last_listed p h [] a = places_of p h.0 h.1
+  last_listed p h [] a = pointers_of p h.0 h.1
   last_listed p h (q ∷ qs) a = ap (λ o. last_of h.0 (one_of o ++ listed cs qs)) a.0.1 ∙ last_listed q a.0 qs a.1
 
   -- the first of what comes after g, and the last of what comes before a
   pub first_of : (g a : Ptr) (ps : List Ptr) → AllByRecursion (HasContent cs) ps → Linked cs (g ∷ (ps ++ a ∷ [])) → (length ps ≡ 0 → ⊥) → first_at (listed cs ps) ≡ Some (next_at cs g)
   unfolding listed
   first_of g a [] c l h = absurd (h refl)
-  first_of g a (p ∷ ps) c l h = ap (λ z. first_at (one_of z ++ listed cs ps)) c.0.1 ∙ ap (λ q. Some q) (places_of p c.0.0 c.0.1 ∙ sym l.0.0)
+  first_of g a (p ∷ ps) c l h = ap (λ z. first_at (one_of z ++ listed cs ps)) c.0.1 ∙ ap (λ q. Some q) (pointers_of p c.0.0 c.0.1 ∙ sym l.0.0)
 
   pub last_is : (g a : Ptr) (ps : List Ptr) → AllByRecursion (HasContent cs) ps → Linked cs (g ∷ (ps ++ a ∷ [])) → (length ps ≡ 0 → ⊥) → last_at (listed cs ps) ≡ Some (prev_at cs a)
   unfolding listed
   last_is g a [] c l h = absurd (h refl)
   last_is g a (p ∷ ps) c l h = ap (λ z. last_at (one_of z ++ listed cs ps)) c.0.1 ∙ ap (λ q. Some q) (last_listed p c.0 ps c.1 ∙ sym (cut_row cs g (p ∷ ps) a [] l).1.1)
 
-module _ {B : Type 0} (cs : List (Cell Links B)) (guard : Option Place) (spare : Link) (g : Place) (n m : ℕ) (v : State B) (e : guard ≡ Some g) (ok : RingOk cs guard spare n m) (w : state (ring_list cs guard n) m ≡ v) where
+module _ {B : Type 0} (cs : List (Cell Links B)) (guard : Option NodePointer) (spare : Link) (g : NodePointer) (n m : ℕ) (v : State B) (e : guard ≡ Some g) (ok : RingOk cs guard spare n m) (w : state (ring_list cs guard n) m ≡ v) where
   o : RingOk cs (Some g) spare n m
   o = opened cs guard spare g n m e ok
 
@@ -55,7 +55,7 @@ module _ {B : Type 0} (cs : List (Cell Links B)) (guard : Option Place) (spare :
 
 module _ {B : Type 0} where
   -- a ring of no held nodes shows none
-  pub none_held_where_none : (cs : List (Cell Links B)) (guard : Option Place) (n : ℕ) → n ≡ 0 → ring_list cs guard n ≡ []
+  pub none_held_where_none : (cs : List (Cell Links B)) (guard : Option NodePointer) (n : ℕ) → n ≡ 0 → ring_list cs guard n ≡ []
   unfolding follow listed
   none_held_where_none cs None n e = refl
   none_held_where_none cs (Some g) n e = ap (λ k. listed cs (follow cs k g.ptr)) e

@@ -1,4 +1,4 @@
--- The heads of the buckets, as positions and as places.
+-- The heads of the buckets, as positions and as pointers.
 use Rattle.std.proofs.Common.{◌≡◌, ℕ, zero, suc, ◌+◌, ◌%◌, ◌<◌, List, [], ◌∷◌, ◌++◌, map, refl, sym, ◌∙◌, ap, arith, length, get_or, set, Option, Some, None, true}
 use Rattle.std.specs.Prelude.{IsSome}
 use denote.RawPtr.{Ptr, block_ptr, null_ptr, Testable, InBlock}
@@ -9,18 +9,18 @@ use Rattle.lhm_ring.specs.Targets.{target, led_to}
 use Rattle.std.proofs.lemmas.List.{length-map, map-set}
 use Rattle.std.proofs.Math.Nat.{mod-lt}
 use Rattle.lhm_ring.specs.declared.position.Position.{Position}
-use Rattle.lhm_ring.specs.Positions.{place_of, place_of_some}
+use Rattle.lhm_ring.specs.Positions.{pointer_of, pointer_of_some}
 use Rattle.lhm_ring.specs.RingState.{Held, AtHeld, linked_to}
 use Rattle.lhm_ring.specs.Search.{OfNodeAt, Chains}
 
--- the place of a head is the head of the places
-pub head_place : (heads : List Link) (b : ℕ) (h : Link) → b < length heads → get_or (map target heads) b None ≡ target (get_or heads b h)
-head_place [] b h l = absurd (omega (arith, l))
-head_place (k ∷ heads) zero h l = refl
-head_place (k ∷ heads) (suc b) h l = head_place heads b h (omega (arith, l))
+-- the pointer of a head is the head of the pointers
+pub head_pointer : (heads : List Link) (b : ℕ) (h : Link) → b < length heads → get_or (map target heads) b None ≡ target (get_or heads b h)
+head_pointer [] b h l = absurd (omega (arith, l))
+head_pointer (k ∷ heads) zero h l = refl
+head_pointer (k ∷ heads) (suc b) h l = head_pointer heads b h (omega (arith, l))
 
 -- a head that is there
-pub is_there : {K V : Type 0} (head : Option (Position K V)) (q : Ptr) → place_of_some head ≡ Some q → IsSome head
+pub is_there : {K V : Type 0} (head : Option (Position K V)) (q : Ptr) → pointer_of_some head ≡ Some q → IsSome head
 is_there None q e = absurd (cc)
 is_there (Some p) q e = refl
 
@@ -41,12 +41,12 @@ cleared (x ∷ xs) (suc i) h e a (suc b) l = cleared xs i h e (λ c m. a (suc c)
 
 -- the head of a bucket becomes a link, and the position the head
 pub chained : {K V : Type 0} (at : Position K V) (heads : List Link) (old_head new_head : Link) (link : Option (Position K V)) (count number bucket : ℕ) (old new : List (Held (K × V))) → count ≡ length heads → 0 < count → bucket ≡ number % count
-    → old_head ≡ get_or heads bucket old_head → place_of_some link ≡ target old_head → target new_head ≡ Some (place_of at)
-    → OfNodeAt old (place_of at) (λ x. number ≡ x.number) → AtHeld old (place_of at) (λ before x after. new ≡ before ++ linked_to (place_of_some link) x ∷ after) → Chains (place_of at) (map target heads) (map target (set heads bucket new_head)) old new
+    → old_head ≡ get_or heads bucket old_head → pointer_of_some link ≡ target old_head → target new_head ≡ Some (pointer_of at)
+    → OfNodeAt old (pointer_of at) (λ x. number ≡ x.number) → AtHeld old (pointer_of at) (λ before x after. new ≡ before ++ linked_to (pointer_of_some link) x ∷ after) → Chains (pointer_of at) (map target heads) (map target (set heads bucket new_head)) old new
 chained {K} {V} at heads old_head new_head link count number bucket old new many some is head_is link_is new_is own sets = λ before x after e p.
     let b : bucket ≡ x.number % length (map target heads) = is ∙ ap (λ n. n % count) (own before x after e p) ∙ ap (λ n. x.number % n) (many ∙ sym (length-map heads target)) in
     let within : bucket < length heads = let l : number % count < count = mod-lt number some in omega (arith, l, is, many) in
-    let read : get_or (map target heads) bucket None ≡ place_of_some link = head_place heads bucket old_head within ∙ ap target (sym head_is) ∙ sym link_is in
+    let read : get_or (map target heads) bucket None ≡ pointer_of_some link = head_pointer heads bucket old_head within ∙ ap target (sym head_is) ∙ sym link_is in
     record {
       nodes_is = sets before x after e p ∙ ap (λ (l : Option Ptr). before ++ linked_to l x ∷ after) (sym read ∙ ap (λ n. get_or (map target heads) n None) b);
       heads_is = map-set target heads bucket new_head ∙ (λ i. set (map target heads) (b i) (new_is i));

@@ -213,8 +213,8 @@ take_next {K} {V} {heads} {number} {nodes} {before} {p} nodes' q link e h w l se
 
 -- ---- a rebuild
 
-pub rechain_start : {K V : Type 0} (heads : List (Option Ptr)) (nodes : List (Held (K × V))) (place : Option Ptr) (buckets : ℕ) → HasNoChain heads → place ≡ first_at nodes → length heads ≡ buckets → IsRechained heads nodes nodes place 0 buckets
-rechain_start heads nodes place buckets h e n = record { done = []; rest = nodes; is = refl; indexed = Indexes-none heads h; place_is = e; count_is = refl; kept = refl; buckets_is = n }
+pub rechain_start : {K V : Type 0} (heads : List (Option Ptr)) (nodes : List (Held (K × V))) (pointer : Option Ptr) (buckets : ℕ) → HasNoChain heads → pointer ≡ first_at nodes → length heads ≡ buckets → IsRechained heads nodes nodes pointer 0 buckets
+rechain_start heads nodes pointer buckets h e n = record { done = []; rest = nodes; is = refl; indexed = Indexes-none heads h; pointer_is = e; count_is = refl; kept = refl; buckets_is = n }
 
 record Goes {K V : Type 0} (p : Ptr) (rest : List (Held (K × V))) : Type 0 where
   node : Held (K × V)
@@ -226,12 +226,12 @@ goes : {K V : Type 0} (p : Ptr) (rest : List (Held (K × V))) → Some p ≡ fir
 goes p [] e = absurd (cc)
 goes p (x ∷ rest) e = record { node = x; tail = rest; is = refl; at_is = (cc) }
 
-rechain_is : {K V : Type 0} {heads : List (Option Ptr)} {old nodes : List (Held (K × V))} {place : Option Ptr} {count buckets : ℕ} (p : Ptr) → place ≡ Some p → (w : IsRechained heads old nodes place count buckets) → (g : Goes p w.rest) × (nodes ≡ w.done ++ g.node ∷ g.tail)
+rechain_is : {K V : Type 0} {heads : List (Option Ptr)} {old nodes : List (Held (K × V))} {pointer : Option Ptr} {count buckets : ℕ} (p : Ptr) → pointer ≡ Some p → (w : IsRechained heads old nodes pointer count buckets) → (g : Goes p w.rest) × (nodes ≡ w.done ++ g.node ∷ g.tail)
 rechain_is {K} {V} p e w =
-    let g : Goes p w.rest = goes p w.rest (sym e ∙ w.place_is) in
+    let g : Goes p w.rest = goes p w.rest (sym e ∙ w.pointer_is) in
     (g, w.is ∙ ap (λ (v : List (Held (K × V))). w.done ++ v) g.is)
 
-pub rechain_held : {K V : Type 0} {heads : List (Option Ptr)} {old nodes : List (Held (K × V))} {place : Option Ptr} {count buckets : ℕ} (p : Ptr) → place ≡ Some p → IsRechained heads old nodes place count buckets → IsHeld nodes p
+pub rechain_held : {K V : Type 0} {heads : List (Option Ptr)} {old nodes : List (Held (K × V))} {pointer : Option Ptr} {count buckets : ℕ} (p : Ptr) → pointer ≡ Some p → IsRechained heads old nodes pointer count buckets → IsHeld nodes p
 rechain_held p e w =
     let g = rechain_is p e w in
     (w.done, g.0.node, g.0.tail, g.1, g.0.at_is)
@@ -239,7 +239,7 @@ rechain_held p e w =
 length-kept : {K V : Type 0} (old new : List (Held (K × V))) → entries new ≡ entries old → length new ≡ length old
 length-kept old new e = sym (length-map new (linked_to None)) ∙ ap length e ∙ length-map old (linked_to None)
 
-pub rechain_room : {K V : Type 0} {heads : List (Option Ptr)} {old nodes : List (Held (K × V))} {place : Option Ptr} {count buckets : ℕ} (p : Ptr) → place ≡ Some p → IsRechained heads old nodes place count buckets → count + 1 ≤ length old
+pub rechain_room : {K V : Type 0} {heads : List (Option Ptr)} {old nodes : List (Held (K × V))} {pointer : Option Ptr} {count buckets : ℕ} (p : Ptr) → pointer ≡ Some p → IsRechained heads old nodes pointer count buckets → count + 1 ≤ length old
 rechain_room {K} {V} {heads} {old} {nodes} p e w =
     let g = rechain_is p e w in
     let a : length nodes ≡ length old = length-kept old nodes w.kept in
@@ -248,8 +248,8 @@ rechain_room {K} {V} {heads} {old} {nodes} p e w =
     let d = w.count_is in
     omega (arith, a, b, c, d)
 
-pub rechain_some : {K V : Type 0} {heads : List (Option Ptr)} {old nodes : List (Held (K × V))} {place : Option Ptr} {count buckets : ℕ} (p : Ptr) → place ≡ Some p → (buckets ≡ 0 → old ≡ []) → IsRechained heads old nodes place count buckets → 0 < length heads
-rechain_some {K} {V} {heads} {old} {nodes} {place} {count} {buckets} p e none w =
+pub rechain_some : {K V : Type 0} {heads : List (Option Ptr)} {old nodes : List (Held (K × V))} {pointer : Option Ptr} {count buckets : ℕ} (p : Ptr) → pointer ≡ Some p → (buckets ≡ 0 → old ≡ []) → IsRechained heads old nodes pointer count buckets → 0 < length heads
+rechain_some {K} {V} {heads} {old} {nodes} {pointer} {count} {buckets} p e none w =
     let r : count + 1 ≤ length old = rechain_room p e w in
     let b : length heads ≡ buckets = w.buckets_is in
     elim (cases_lt 0 buckets) [
@@ -257,8 +257,8 @@ rechain_some {K} {V} {heads} {old} {nodes} {place} {count} {buckets} p e none w 
       | inr l ↦ absurd (let z : length old ≡ 0 = ap length (none (omega arith)) in omega arith)
     ]
 
-pub rechain_more : {K V : Type 0} {heads : List (Option Ptr)} {old nodes : List (Held (K × V))} {place : Option Ptr} {count buckets : ℕ} (p : Ptr) (heads' : List (Option Ptr)) (nodes' : List (Held (K × V))) (next : Option Ptr) → place ≡ Some p → 0 < length heads → IsRechained heads old nodes place count buckets → Chains p heads heads' nodes nodes' → AtHeld nodes' p (λ before x after. next ≡ first_at after) → IsRechained heads' old nodes' next (count + 1) buckets
-rechain_more {K} {V} {heads} {old} {nodes} {place} {count} {buckets} p heads' nodes' next e some w c nx =
+pub rechain_more : {K V : Type 0} {heads : List (Option Ptr)} {old nodes : List (Held (K × V))} {pointer : Option Ptr} {count buckets : ℕ} (p : Ptr) (heads' : List (Option Ptr)) (nodes' : List (Held (K × V))) (next : Option Ptr) → pointer ≡ Some p → 0 < length heads → IsRechained heads old nodes pointer count buckets → Chains p heads heads' nodes nodes' → AtHeld nodes' p (λ before x after. next ≡ first_at after) → IsRechained heads' old nodes' next (count + 1) buckets
+rechain_more {K} {V} {heads} {old} {nodes} {pointer} {count} {buckets} p heads' nodes' next e some w c nx =
     let g = rechain_is p e w in
     let x : Held (K × V) = g.0.node in
     let k : IsChained p heads heads' nodes' w.done x g.0.tail = c w.done x g.0.tail g.1 g.0.at_is in
@@ -277,7 +277,7 @@ rechain_more {K} {V} {heads} {old} {nodes} {place} {count} {buckets} p heads' no
       rest = g.0.tail;
       is = split;
       indexed = subst (λ (v : List (Option Ptr)). Indexes v (spots (w.done ++ x' ∷ []))) (sym heads_are) put;
-      place_is = nx w.done x' g.0.tail k.nodes_is g.0.at_is;
+      pointer_is = nx w.done x' g.0.tail k.nodes_is g.0.at_is;
       count_is = (omega (arith, long, d));
       kept = put_keeps p heads heads' nodes nodes' c held ∙ w.kept;
       buckets_is = put_buckets p heads heads' nodes nodes' c held ∙ w.buckets_is;
@@ -287,19 +287,19 @@ no_more : {K V : Type 0} (rest : List (Held (K × V))) → None ≡ first_at res
 no_more [] e = refl
 no_more (x ∷ rest) e = absurd (cc)
 
-pub rechain_end : {K V : Type 0} {heads : List (Option Ptr)} {old nodes : List (Held (K × V))} {place : Option Ptr} {count buckets : ℕ} → place ≡ None → IsRechained heads old nodes place count buckets → Indexes heads (spots nodes)
+pub rechain_end : {K V : Type 0} {heads : List (Option Ptr)} {old nodes : List (Held (K × V))} {pointer : Option Ptr} {count buckets : ℕ} → pointer ≡ None → IsRechained heads old nodes pointer count buckets → Indexes heads (spots nodes)
 rechain_end {K} {V} {heads} {old} {nodes} e w =
-    let none : w.rest ≡ [] = no_more w.rest (sym e ∙ w.place_is) in
+    let none : w.rest ≡ [] = no_more w.rest (sym e ∙ w.pointer_is) in
     let all : nodes ≡ w.done = w.is ∙ ap (λ (v : List (Held (K × V))). w.done ++ v) none ∙ append-nil w.done in
     subst (λ (v : List (Held (K × V))). Indexes heads (spots v)) (sym all) w.indexed
 
-pub rechain_count : {K V : Type 0} {heads : List (Option Ptr)} {old nodes : List (Held (K × V))} {place : Option Ptr} {count buckets : ℕ} → place ≡ None → IsRechained heads old nodes place count buckets → count ≡ length old
+pub rechain_count : {K V : Type 0} {heads : List (Option Ptr)} {old nodes : List (Held (K × V))} {pointer : Option Ptr} {count buckets : ℕ} → pointer ≡ None → IsRechained heads old nodes pointer count buckets → count ≡ length old
 rechain_count {K} {V} {heads} {old} {nodes} e w =
-    let none : w.rest ≡ [] = no_more w.rest (sym e ∙ w.place_is) in
+    let none : w.rest ≡ [] = no_more w.rest (sym e ∙ w.pointer_is) in
     let all : nodes ≡ w.done = w.is ∙ ap (λ (v : List (Held (K × V))). w.done ++ v) none ∙ append-nil w.done in
     w.count_is ∙ sym (ap length all) ∙ length-kept old nodes w.kept
 
-pub rechain_next_held : {K V : Type 0} {heads : List (Option Ptr)} {old nodes : List (Held (K × V))} {place : Option Ptr} {count buckets : ℕ} (p : Ptr) {heads' : List (Option Ptr)} {nodes' : List (Held (K × V))} → place ≡ Some p → IsRechained heads old nodes place count buckets → Chains p heads heads' nodes nodes' → IsHeld nodes' p
-rechain_next_held {K} {V} {heads} {old} {nodes} {place} {count} {buckets} p {heads'} {nodes'} e w c =
+pub rechain_next_held : {K V : Type 0} {heads : List (Option Ptr)} {old nodes : List (Held (K × V))} {pointer : Option Ptr} {count buckets : ℕ} (p : Ptr) {heads' : List (Option Ptr)} {nodes' : List (Held (K × V))} → pointer ≡ Some p → IsRechained heads old nodes pointer count buckets → Chains p heads heads' nodes nodes' → IsHeld nodes' p
+rechain_next_held {K} {V} {heads} {old} {nodes} {pointer} {count} {buckets} p {heads'} {nodes'} e w c =
     let h : IsHeld nodes p = rechain_held p e w in
     IsHeld-kept nodes nodes' p (put_keeps p heads heads' nodes nodes' c h) h

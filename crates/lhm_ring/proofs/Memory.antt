@@ -29,7 +29,7 @@ use Rattle.std.proofs.RcSteps.{Good, word}
 use Rattle.lhm_ring.specs.Cells.{Cell}
 use Rattle.lhm_ring.specs.Ownership.{links_offset, key_offset, value_offset, body_owns, cell_owns, cells_own, cell_lent, cells_lent}
 use Rattle.lhm_ring.specs.contracts.nodes.Nodes as N-type
-use Rattle.lhm_ring.specs.contracts.block.Place as P-type
+use Rattle.lhm_ring.specs.contracts.block.NodePointer as P-type
 
 pub record Three : Type 2 where
   pub links : RattleType
@@ -130,9 +130,9 @@ module _ (i : ℕ) (Y : RattleType) (L : Laws Y) {M : Type 1} {𝓤 : Ura M} (�
   pub value_in : (x : Y.Denot) (b o : ℕ) (v : Val) → ent 𝓤 (sep 𝓤 (H.at full_share (layout Y) b o v) (sem 𝓛 (Y.own_val x (v ∷ [])))) (sem 𝓛 (part_at (param i Y) full_share x b o))
   value_in x b o v = part_in 𝓛 (param i Y) refl full_share x b o v
 
--- the machine value of a place
-pub place_told : (x : Pl.Denot) (vs : List Val) → Is Pl x vs → vs ≡ word x.ptr ∷ []
-place_told x vs is = is.1.0 ∙ ap (λ (ws : List Val). vstruct (of_list (ws ++ [])) ∷ []) is.1.1.0
+-- the machine value of a pointer
+pub pointer_told : (x : Pl.Denot) (vs : List Val) → Is Pl x vs → vs ≡ word x.ptr ∷ []
+pointer_told x vs is = is.1.0 ∙ ap (λ (ws : List Val). vstruct (of_list (ws ++ [])) ∷ []) is.1.1.0
 
 module _ {M : Type 1} {𝓤 : Ura M} (𝓛 : Logic 𝓤) (b o : ℕ) where
   -- a value that is forgotten leaves room

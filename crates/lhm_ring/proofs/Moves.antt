@@ -3,7 +3,7 @@ use Rattle.std.proofs.Common.{◌≡◌, ℕ, suc, ◌+◌, ◌≤◌, ◌^◌, 
 use Rattle.std.specs.List.{AllByRecursion}
 use Rattle.std.specs.Option.{IsSome}
 use denote.RawPtr.{Ptr}
-use Rattle.lhm_ring.specs.declared.block.Place.{Place}
+use Rattle.lhm_ring.specs.declared.block.NodePointer.{NodePointer}
 use Rattle.lhm_ring.specs.declared.links.Links.{Links}
 use Rattle.lhm_ring.specs.Cells.{Cell, IsApart, links_at}
 use Rattle.lhm_ring.specs.Rings.{next_of, prev_of, next_at, prev_at, is_there, is_guard, content_at, Linked, Chained, HasContent, IsRing, follow, listed, one_of, IsJoined, ring_list, RingOk}
@@ -105,12 +105,12 @@ module _ {B : Type 0} where
   none_held p ([], t, ys, e, at) = cc
   none_held p ((x ∷ xs), t, ys, e, at) = cc
 
-  pub guarded : (cs : List (Cell Links B)) (guard : Option Place) (spare : Link) (n m : ℕ) (p : Ptr) → IsHeld (ring_list cs guard n) p → IsSome guard
+  pub guarded : (cs : List (Cell Links B)) (guard : Option NodePointer) (spare : Link) (n m : ℕ) (p : Ptr) → IsHeld (ring_list cs guard n) p → IsSome guard
   guarded cs None spare n m p h = absurd (none_held p h)
   guarded cs (Some g) spare n m p h = refl
 
 -- a held node at p, with those before it and after it
-pub record NodeAt {B : Type 0} (cs : List (Cell Links B)) (g : Place) (spare : Link) (n m : ℕ) (p : Ptr) : Type 0 where
+pub record NodeAt {B : Type 0} (cs : List (Cell Links B)) (g : NodePointer) (spare : Link) (n m : ℕ) (p : Ptr) : Type 0 where
   pub before : List Ptr
   pub after : List Ptr
   pub others : List Ptr
@@ -120,18 +120,18 @@ pub record NodeAt {B : Type 0} (cs : List (Cell Links B)) (g : Place) (spare : L
   pub small : n + m ≤ 2 ^ 57
 
 module _ {B : Type 0} where
-  pub record Found (cs : List (Cell Links B)) (g : Place) (spare : Link) (n m : ℕ) (xs : List (Held B)) (t : Held B) (ys : List (Held B)) : Type 0 where
-    pub place : NodeAt cs g spare n m t.at
+  pub record Found (cs : List (Cell Links B)) (g : NodePointer) (spare : Link) (n m : ℕ) (xs : List (Held B)) (t : Held B) (ys : List (Held B)) : Type 0 where
+    pub pointer : NodeAt cs g spare n m t.at
     pub here : content_at cs t.at ≡ Some t
-    pub listed_before : listed cs place.before ≡ xs
-    pub listed_after : listed cs place.after ≡ ys
+    pub listed_before : listed cs pointer.before ≡ xs
+    pub listed_after : listed cs pointer.after ≡ ys
 
-  pub found : (cs : List (Cell Links B)) (g : Place) (spare : Link) (n m : ℕ) → RingOk cs (Some g) spare n m → (xs : List (Held B)) (t : Held B) (ys : List (Held B))
+  pub found : (cs : List (Cell Links B)) (g : NodePointer) (spare : Link) (n m : ℕ) → RingOk cs (Some g) spare n m → (xs : List (Held B)) (t : Held B) (ys : List (Held B))
       → ring_list cs (Some g) n ≡ xs ++ t ∷ ys → Found cs g spare n m xs t ys
   found cs g spare n m ok xs t ys e =
       let k = cut_listed cs ok.0 ok.2.held xs t ys (sym (ring_listed cs g.ptr ok.0 (target spare) ok.1 n ok.2 ok.3) ∙ e) in
       record {
-        place = record {
+        pointer = record {
           before = k.before;
           after = k.after;
           others = ok.1;
@@ -145,19 +145,19 @@ module _ {B : Type 0} where
         listed_after = k.listed_after;
       }
 
-  pub opened : (cs : List (Cell Links B)) (guard : Option Place) (spare : Link) (g : Place) (n m : ℕ) → guard ≡ Some g → RingOk cs guard spare n m → RingOk cs (Some g) spare n m
+  pub opened : (cs : List (Cell Links B)) (guard : Option NodePointer) (spare : Link) (g : NodePointer) (n m : ℕ) → guard ≡ Some g → RingOk cs guard spare n m → RingOk cs (Some g) spare n m
   opened cs guard spare g n m e ok = subst (λ o. RingOk cs o spare n m) e ok
 
-  pub found_in : (cs : List (Cell Links B)) (guard : Option Place) (spare : Link) (g : Place) (n m : ℕ) (v : State B) → guard ≡ Some g → RingOk cs guard spare n m → state (ring_list cs guard n) m ≡ v
+  pub found_in : (cs : List (Cell Links B)) (guard : Option NodePointer) (spare : Link) (g : NodePointer) (n m : ℕ) (v : State B) → guard ≡ Some g → RingOk cs guard spare n m → state (ring_list cs guard n) m ≡ v
       → (xs : List (Held B)) (t : Held B) (ys : List (Held B)) → v.held ≡ xs ++ t ∷ ys → Found cs g spare n m xs t ys
   found_in cs guard spare g n m v e ok w xs t ys h =
       found cs g spare n m (opened cs guard spare g n m e ok) xs t ys (sym (ap (λ o. ring_list cs o n) e) ∙ ap (λ (z : State B). z.held) w ∙ h)
 
-  pub node_in : (cs : List (Cell Links B)) (guard : Option Place) (spare : Link) (g : Place) (n m : ℕ) (v : State B) (p : Ptr) → guard ≡ Some g → RingOk cs guard spare n m → state (ring_list cs guard n) m ≡ v
+  pub node_in : (cs : List (Cell Links B)) (guard : Option NodePointer) (spare : Link) (g : NodePointer) (n m : ℕ) (v : State B) (p : Ptr) → guard ≡ Some g → RingOk cs guard spare n m → state (ring_list cs guard n) m ≡ v
       → IsHeld v.held p → NodeAt cs g spare n m p
-  node_in cs guard spare g n m v p e ok w h = subst (NodeAt cs g spare n m) h.4 (found_in cs guard spare g n m v e ok w h.0 h.1 h.2 h.3).place
+  node_in cs guard spare g n m v p e ok w h = subst (NodeAt cs g spare n m) h.4 (found_in cs guard spare g n m v e ok w h.0 h.1 h.2 h.3).pointer
 
-  pub guarded_in : (cs : List (Cell Links B)) (guard : Option Place) (spare : Link) (n m : ℕ) (v : State B) (p : Ptr) → state (ring_list cs guard n) m ≡ v → IsHeld v.held p → IsSome guard
+  pub guarded_in : (cs : List (Cell Links B)) (guard : Option NodePointer) (spare : Link) (n m : ℕ) (v : State B) (p : Ptr) → state (ring_list cs guard n) m ≡ v → IsHeld v.held p → IsSome guard
   guarded_in cs guard spare n m v p w h = guarded cs guard spare n m p (subst (λ hs. IsHeld hs p) (sym (ap (λ (z : State B). z.held) w)) h)
 
   pub length_listed : (cs : List (Cell Links B)) (ps : List Ptr) → AllByRecursion (HasContent cs) ps → length (listed cs ps) ≡ length ps
@@ -165,30 +165,30 @@ module _ {B : Type 0} where
   length_listed cs [] h = refl
   length_listed cs (p ∷ ps) h = ap (λ o. length (one_of o ++ listed cs ps)) h.0.1 ∙ ap (λ n. suc n) (length_listed cs ps h.1)
 
-  pub ring_length : (cs : List (Cell Links B)) (guard : Option Place) (spare : Link) (n m : ℕ) (v : State B) → RingOk cs guard spare n m → state (ring_list cs guard n) m ≡ v → n ≡ length v.held
+  pub ring_length : (cs : List (Cell Links B)) (guard : Option NodePointer) (spare : Link) (n m : ℕ) (v : State B) → RingOk cs guard spare n m → state (ring_list cs guard n) m ≡ v → n ≡ length v.held
   ring_length cs None spare n m v ok w = ok.2 ∙ ap (λ (z : State B). length z.held) w
   ring_length cs (Some g) spare n m v ok w =
       sym ok.3 ∙ sym (length_listed cs ok.0 ok.2.held) ∙ sym (ap length (ring_listed cs g.ptr ok.0 (target spare) ok.1 n ok.2 ok.3)) ∙ ap (λ (z : State B). length z.held) w
 
-  small_of : (cs : List (Cell Links B)) (guard : Option Place) (spare : Link) (n m : ℕ) → RingOk cs guard spare n m → n + m ≤ 2 ^ 57
+  small_of : (cs : List (Cell Links B)) (guard : Option NodePointer) (spare : Link) (n m : ℕ) → RingOk cs guard spare n m → n + m ≤ 2 ^ 57
   small_of cs None spare n m ok = let a = ok.2 in let b = ok.3 in omega arith
   small_of cs (Some g) spare n m ok = ok.5
 
-  pub ring_bounded : (cs : List (Cell Links B)) (guard : Option Place) (spare : Link) (n m : ℕ) (v : State B) → RingOk cs guard spare n m → state (ring_list cs guard n) m ≡ v → length v.held + v.spares ≤ 2 ^ 57
+  pub ring_bounded : (cs : List (Cell Links B)) (guard : Option NodePointer) (spare : Link) (n m : ℕ) (v : State B) → RingOk cs guard spare n m → state (ring_list cs guard n) m ≡ v → length v.held + v.spares ≤ 2 ^ 57
   ring_bounded cs guard spare n m v ok w =
       let a = ring_length cs guard spare n m v ok w in let b = ap (λ (z : State B). z.spares) w in let c = small_of cs guard spare n m ok in omega arith
 
   pub there_where : (cs : List (Cell Links B)) (p : Ptr) (l : Links) → links_at cs p ≡ Some l → (q : Ptr) → (prev_at cs p ≡ q → is_there cs q ≡ true) → prev_of (Some l) ≡ q → is_there cs q ≡ true
   there_where cs p l e q f h = f (ap prev_of e ∙ h)
 
--- the same, where the place is known by another name
-pub node_at : {B : Type 0} {cs : List (Cell Links B)} {g : Place} {spare : Link} {n m : ℕ} {xs : List (Held B)} {t : Held B} {ys : List (Held B)} (p : Ptr) → Found cs g spare n m xs t ys → t.at ≡ p
+-- the same, where the pointer is known by another name
+pub node_at : {B : Type 0} {cs : List (Cell Links B)} {g : NodePointer} {spare : Link} {n m : ℕ} {xs : List (Held B)} {t : Held B} {ys : List (Held B)} (p : Ptr) → Found cs g spare n m xs t ys → t.at ≡ p
     → (s : NodeAt cs g spare n m p) × (listed cs s.before ≡ xs) × (listed cs s.after ≡ ys)
 node_at {cs = cs} {g = g} {spare = spare} {n = n} {m = m} {xs = xs} {ys = ys} p f at =
-    subst (λ q. (s : NodeAt cs g spare n m q) × (listed cs s.before ≡ xs) × (listed cs s.after ≡ ys)) at (f.place, f.listed_before, f.listed_after)
+    subst (λ q. (s : NodeAt cs g spare n m q) × (listed cs s.before ≡ xs) × (listed cs s.after ≡ ys)) at (f.pointer, f.listed_before, f.listed_after)
 
 -- a node that is moved to the end: those beside it are joined, the last with it, and it with the guard
-module _ {B : Type 0} (cs : List (Cell Links B)) (guard : Option Place) (spare : Link) (g : Place) (n m : ℕ) (v : State B) (e : guard ≡ Some g) (ok : RingOk cs guard spare n m) (w : state (ring_list cs guard n) m ≡ v)
+module _ {B : Type 0} (cs : List (Cell Links B)) (guard : Option NodePointer) (spare : Link) (g : NodePointer) (n m : ℕ) (v : State B) (e : guard ≡ Some g) (ok : RingOk cs guard spare n m) (w : state (ring_list cs guard n) m ≡ v)
     (p : Ptr) (lp : Links) (ep : links_at cs p ≡ Some lp) (ds : List (Cell Links B)) (j : IsJoined cs ds lp.prev.ptr lp.next.ptr) where
   j' : IsJoined cs ds (prev_at cs p) (next_at cs p)
   j' = subst (λ (z : Ptr × Ptr). IsJoined cs ds z.0 z.1) (λ i. (sym (ap prev_of ep) i, sym (ap next_of ep) i)) j

@@ -3,7 +3,7 @@ use Rattle.std.proofs.Common.{◌≡◌, ℕ, Bool, true, false, cond, List, [],
 use Rattle.std.specs.Prelude.{◌==◌}
 use Rattle.std.specs.List.{AllByRecursion}
 use denote.RawPtr.{Ptr}
-use Rattle.lhm_ring.specs.declared.block.Place.{Place}
+use Rattle.lhm_ring.specs.declared.block.NodePointer.{NodePointer}
 use Rattle.lhm_ring.specs.declared.links.Links.{Links}
 use Rattle.lhm_ring.specs.Cells.{Cell, IsAt, links_at, body_at}
 use Rattle.lhm_ring.specs.Rings.{next_of, prev_of, guard_of, next_at, prev_at, is_there, is_guard, Linked, HasContent, IsRing, listed, ring_list, RingOk}
@@ -52,11 +52,11 @@ module _ {B : Type 0} (cs : List (Cell Links B)) (g : Ptr) (spare : Option Ptr) 
 
 module _ {B : Type 0} where
   -- a ring that holds something has a guard
-  some_guard : (cs : List (Cell Links B)) (guard : Option Place) (n m : ℕ) (v : State B) (p : Ptr) → state (ring_list cs guard n) m ≡ v → IsHeld v.held p → (g : Place) × (guard ≡ Some g)
+  some_guard : (cs : List (Cell Links B)) (guard : Option NodePointer) (n m : ℕ) (v : State B) (p : Ptr) → state (ring_list cs guard n) m ≡ v → IsHeld v.held p → (g : NodePointer) × (guard ≡ Some g)
   some_guard cs None n m v p w h = absurd (none_held p (subst (λ hs. IsHeld hs p) (sym (ap (λ (z : State B). z.held) w)) h))
   some_guard cs (Some g) n m v p w h = (g, refl)
 
-module _ {B : Type 0} (cs : List (Cell Links B)) (guard : Option Place) (spare : Link) (n m : ℕ) (v : State B) (ok : RingOk cs guard spare n m) (w : state (ring_list cs guard n) m ≡ v) (p : Ptr) where
+module _ {B : Type 0} (cs : List (Cell Links B)) (guard : Option NodePointer) (spare : Link) (n m : ℕ) (v : State B) (ok : RingOk cs guard spare n m) (w : state (ring_list cs guard n) m ≡ v) (p : Ptr) where
   pub next_held : IsHeld v.held p → (l : Links) → links_at cs p ≡ Some l → IsAt cs l.next.ptr
   next_held h l e =
       let g = some_guard cs guard n m v p w h in let s = node_in cs guard spare g.0 n m v p g.1 ok w h in

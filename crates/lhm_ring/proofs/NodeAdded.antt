@@ -3,9 +3,9 @@ use Rattle.std.proofs.Common.{◌≡◌, ℕ, suc, true, false, cond, List, [], 
 use Rattle.std.specs.List.{AllByRecursion}
 use Rattle.std.specs.Prelude.{◌==◌}
 use denote.RawPtr.{Ptr}
-use Rattle.lhm_ring.specs.declared.block.Place.{Place}
+use Rattle.lhm_ring.specs.declared.block.NodePointer.{NodePointer}
 use Rattle.lhm_ring.specs.declared.links.Links.{Links}
-use Rattle.lhm_ring.specs.Cells.{Cell, cell, cell_at, same_ptr, places, links_of, IsApart}
+use Rattle.lhm_ring.specs.Cells.{Cell, cell, cell_at, same_ptr, pointers, links_of, IsApart}
 use Rattle.lhm_ring.specs.Rings.{links, link_of, guard_of, has_links, is_guard, link_at, is_there, Chained, IsRing, IsJoined, listed, ring_list, RingOk}
 use Rattle.lhm_ring.specs.RingState.{State, state}
 use Rattle.lhm_ring.specs.Targets.{target}
@@ -19,10 +19,10 @@ use Rattle.lhm_ring.proofs.Options.{some_none}
 false_true : false ≡ true → ⊥
 false_true e = cc
 
-pub link_links : (g : Place) (o : Link) → link_of (Some (links g o)) ≡ target o
+pub link_links : (g : NodePointer) (o : Link) → link_of (Some (links g o)) ≡ target o
 link_links g o = refl
 
-module _ {B : Type 0} (cs : List (Cell Links B)) (p : Ptr) (l : Links) (d : IsApart (places (cell p l None ∷ cs))) where
+module _ {B : Type 0} (cs : List (Cell Links B)) (p : Ptr) (l : Links) (d : IsApart (pointers (cell p l None ∷ cs))) where
   abbrev ds : List (Cell Links B)
   ds = cell p l None ∷ cs
 
@@ -34,7 +34,7 @@ module _ {B : Type 0} (cs : List (Cell Links B)) (p : Ptr) (l : Links) (d : IsAp
   unfolding cell_at
   here = ap (λ y. cond y (Some (cell p l None)) (cell_at cs p)) (same_ptr_refl p)
 
-  nowhere_in : (zs : List (Cell Links B)) → IsFresh p (places zs) → (q : Ptr) → is_there zs q ≡ true → same_ptr p q ≡ false
+  nowhere_in : (zs : List (Cell Links B)) → IsFresh p (pointers zs) → (q : Ptr) → is_there zs q ≡ true → same_ptr p q ≡ false
   unfolding cell_at
   nowhere_in [] f q e = absurd (false_true e)
   nowhere_in (z ∷ zs) f q e =
@@ -44,10 +44,10 @@ module _ {B : Type 0} (cs : List (Cell Links B)) (p : Ptr) (l : Links) (d : IsAp
       ]) refl e
 
   pub fresh_all : (qs : List Ptr) → AllByRecursion (λ q. is_there cs q ≡ true) qs → IsFresh p qs
-  fresh_all = all_from (λ q. is_there cs q ≡ true) (λ q. same_ptr p q ≡ false) (nowhere_in cs (apart_head p (places cs) d))
+  fresh_all = all_from (λ q. is_there cs q ≡ true) (λ q. same_ptr p q ≡ false) (nowhere_in cs (apart_head p (pointers cs) d))
 
   there_more : (q : Ptr) → is_there cs q ≡ true → is_there ds q ≡ true
-  there_more q h = ap (λ z. has_links (links_of z)) (other q (nowhere_in cs (apart_head p (places cs) d) q h)) ∙ h
+  there_more q h = ap (λ z. has_links (links_of z)) (other q (nowhere_in cs (apart_head p (pointers cs) d) q h)) ∙ h
 
   module _ (g : Ptr) (ps : List Ptr) (spare : Option Ptr) (ss : List Ptr) (r : IsRing cs g ps spare ss) (e : link_of (Some l) ≡ spare) (own : guard_of (Some l) ≡ false) where
     abbrev T : Ptr → Type 0
@@ -85,13 +85,13 @@ module _ {B : Type 0} (cs : List (Cell Links B)) (p : Ptr) (l : Links) (d : IsAp
     more_listed = listed_other cs ds p other ps (all_left P ps ss free.1)
 
 -- a ring's fields, with its guard known
-pub record Guarded {B : Type 0} (cs : List (Cell Links B)) (guard : Option Place) (spare : Link) (n m : ℕ) (g : Place) (v : State B) : Type 0 where
+pub record Guarded {B : Type 0} (cs : List (Cell Links B)) (guard : Option NodePointer) (spare : Link) (n m : ℕ) (g : NodePointer) (v : State B) : Type 0 where
   pub is : guard ≡ Some g
   pub ok : RingOk cs guard spare n m
   pub view : state (ring_list cs guard n) m ≡ v
 
 module _ {B : Type 0} where
-  pub guard_made : (cs ds : List (Cell Links B)) (guard : Option Place) (spare : Link) (n m : ℕ) (g : Place) (v : State B) → guard ≡ None → RingOk cs guard spare n m → state (ring_list cs guard n) m ≡ v → IsRing ds g.ptr [] None []
+  pub guard_made : (cs ds : List (Cell Links B)) (guard : Option NodePointer) (spare : Link) (n m : ℕ) (g : NodePointer) (v : State B) → guard ≡ None → RingOk cs guard spare n m → state (ring_list cs guard n) m ≡ v → IsRing ds g.ptr [] None []
       → Guarded ds (Some g) spare n m g v
   unfolding listed
   guard_made cs ds None spare n m g v e ok w r = record {
@@ -101,18 +101,18 @@ module _ {B : Type 0} where
   }
   guard_made cs ds (Some h) spare n m g v e ok w r = absurd (some_none h e)
 
-  pub first_there : (cs es : List (Cell Links B)) (g : Place) (l : Links) → es ≡ cell g.ptr l None ∷ cs → IsApart (places es) → is_there es g.ptr ≡ true
-  first_there cs es g l f d = ap (λ zs. is_there zs g.ptr) f ∙ ap (λ z. has_links (links_of z)) (here cs g.ptr l (subst (λ zs. IsApart (places zs)) f d))
+  pub first_there : (cs es : List (Cell Links B)) (g : NodePointer) (l : Links) → es ≡ cell g.ptr l None ∷ cs → IsApart (pointers es) → is_there es g.ptr ≡ true
+  first_there cs es g l f d = ap (λ zs. is_there zs g.ptr) f ∙ ap (λ z. has_links (links_of z)) (here cs g.ptr l (subst (λ zs. IsApart (pointers zs)) f d))
 
   -- a node alone is a ring once it is joined to itself
-  pub first_guard : (cs es ds : List (Cell Links B)) (g : Place) (l : Links) → cs ≡ [] → es ≡ cell g.ptr l None ∷ cs → IsApart (places es) → (l.guard == 1) ≡ true → IsJoined es ds g.ptr g.ptr → IsRing ds g.ptr [] None []
+  pub first_guard : (cs es ds : List (Cell Links B)) (g : NodePointer) (l : Links) → cs ≡ [] → es ≡ cell g.ptr l None ∷ cs → IsApart (pointers es) → (l.guard == 1) ≡ true → IsJoined es ds g.ptr g.ptr → IsRing ds g.ptr [] None []
   first_guard cs es ds g l e f d s j = record {
     linked = (edge_made es ds g.ptr g.ptr j, tt);
     chained = refl;
     held = tt;
     there = (j.there g.ptr ∙ first_there cs es g l f d, tt);
-    apart = subst (λ zs. IsApart (places zs)) (f ∙ ap (λ zs. cell g.ptr l None ∷ zs) e) d;
+    apart = subst (λ zs. IsApart (pointers zs)) (f ∙ ap (λ zs. cell g.ptr l None ∷ zs) e) d;
     count = j.count ∙ ap length (f ∙ ap (λ zs. cell g.ptr l None ∷ zs) e);
-    guard = j.guard g.ptr ∙ ap (λ zs. is_guard zs g.ptr) f ∙ ap (λ z. guard_of (links_of z)) (here cs g.ptr l (subst (λ zs. IsApart (places zs)) f d)) ∙ s;
+    guard = j.guard g.ptr ∙ ap (λ zs. is_guard zs g.ptr) f ∙ ap (λ z. guard_of (links_of z)) (here cs g.ptr l (subst (λ zs. IsApart (pointers zs)) f d)) ∙ s;
     plain = tt;
   }

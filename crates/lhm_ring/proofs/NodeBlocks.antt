@@ -1,29 +1,29 @@
--- The places of what a ring holds are the starts of blocks.
+-- The pointers of what a ring holds are the starts of blocks.
 use Rattle.std.proofs.Common.{◌≡◌, ℕ, true, List, [], ◌∷◌, ◌++◌, map, Option, Some, None, sym, ap, ◌∙◌, subst}
 use Rattle.std.specs.List.{AllByRecursion}
 use denote.RawPtr.{Ptr}
-use Rattle.lhm_ring.specs.declared.block.Place.{Place}
+use Rattle.lhm_ring.specs.declared.block.NodePointer.{NodePointer}
 use Rattle.lhm_ring.specs.declared.links.Links.{Links}
-use Rattle.lhm_ring.specs.Cells.{Cell, places, links_at, body_at, is_block, AreBlocks}
+use Rattle.lhm_ring.specs.Cells.{Cell, pointers, links_at, body_at, is_block, AreBlocks}
 use Rattle.lhm_ring.specs.Rings.{one_of, HasContent, listed, ring_list, RingOk}
 use Rattle.lhm_ring.specs.RingState.{State, state, Held, first_at, last_of, last_at}
 use Rattle.lhm_ring.specs.declared.link.Link.{Link}
 use Rattle.lhm_ring.proofs.Lookup.{all_at}
 use Rattle.lhm_ring.proofs.Moves.{ring_listed}
 use Rattle.lhm_ring.proofs.Options.{none_some, some_same}
-use Rattle.lhm_ring.proofs.Rows.{content_place}
+use Rattle.lhm_ring.proofs.Rows.{content_pointer}
 use Rattle.lhm_ring.proofs.Writes.{content_links}
 
-module _ {B : Type 0} (cs : List (Cell Links B)) (all : AreBlocks (places cs)) where
+module _ {B : Type 0} (cs : List (Cell Links B)) (all : AreBlocks (pointers cs)) where
   blocks_listed : (ps : List Ptr) → AllByRecursion (HasContent cs) ps → AreBlocks (map (λ (t : Held B). t.at) (listed cs ps))
   unfolding listed
   blocks_listed [] h = tt
   blocks_listed (p ∷ ps) h =
       let l = content_links p (links_at cs p) (body_at cs p) h.0.0 h.0.1 in
-      let here : is_block h.0.0.at ≡ true = ap is_block (content_place p (links_at cs p) (body_at cs p) h.0.0 h.0.1) ∙ all_at (λ q. is_block q ≡ true) cs p l.0 all l.1 in
+      let here : is_block h.0.0.at ≡ true = ap is_block (content_pointer p (links_at cs p) (body_at cs p) h.0.0 h.0.1) ∙ all_at (λ q. is_block q ≡ true) cs p l.0 all l.1 in
       subst (λ o. AreBlocks (map (λ (t : Held B). t.at) (one_of o ++ listed cs ps))) (sym h.0.1) (here, blocks_listed ps h.1)
 
-  pub held_blocks : (guard : Option Place) (spare : Link) (n m : ℕ) (v : State B) → RingOk cs guard spare n m → state (ring_list cs guard n) m ≡ v → AreBlocks (map (λ (t : Held B). t.at) v.held)
+  pub held_blocks : (guard : Option NodePointer) (spare : Link) (n m : ℕ) (v : State B) → RingOk cs guard spare n m → state (ring_list cs guard n) m ≡ v → AreBlocks (map (λ (t : Held B). t.at) v.held)
   held_blocks None spare n m v ok w = subst (λ (s : State B). AreBlocks (map (λ (t : Held B). t.at) s.held)) w tt
   held_blocks (Some g) spare n m v ok w =
       subst (λ (s : State B). AreBlocks (map (λ (t : Held B). t.at) s.held)) w

@@ -2,7 +2,7 @@
 use Rattle.std.proofs.Common.{◌≡◌, ℕ, suc, ◌-◌, ◌<◌, true, false, cond, List, [], ◌∷◌, ◌++◌, length, Option, Some, refl, sym, ap, ◌∙◌, subst, arith}
 use Rattle.std.specs.List.{AllByRecursion}
 use denote.RawPtr.{Ptr}
-use Rattle.lhm_ring.specs.declared.block.Place.{Place}
+use Rattle.lhm_ring.specs.declared.block.NodePointer.{NodePointer}
 use Rattle.lhm_ring.specs.declared.links.Links.{Links}
 use Rattle.lhm_ring.specs.Cells.{Cell, cell_at, same_ptr, links_of, links_at, without}
 use Rattle.lhm_ring.specs.Rings.{has_links, link_of, guard_of, link_at, is_there, is_guard, IsRing, listed, ring_list, RingOk}
@@ -68,7 +68,7 @@ module _ {B : Type 0} (cs : List (Cell Links B)) (g : Ptr) (ps : List Ptr) (p : 
   pub less_listed : listed ds ps ≡ listed cs ps
   less_listed = listed_other cs ds p (other p cs) ps (all_left P ps ss free.1)
 
-module _ {B : Type 0} (cs : List (Cell Links B)) (guard : Option Place) (spare : Link) (g at : Place) (n m : ℕ) (v : State B) (e : guard ≡ Some g) (f : target spare ≡ Some at.ptr) (ok : RingOk cs guard spare n m) (w : state (ring_list cs guard n) m ≡ v)
+module _ {B : Type 0} (cs : List (Cell Links B)) (guard : Option NodePointer) (spare : Link) (g at : NodePointer) (n m : ℕ) (v : State B) (e : guard ≡ Some g) (f : target spare ≡ Some at.ptr) (ok : RingOk cs guard spare n m) (w : state (ring_list cs guard n) m ≡ v)
     (pos : 0 < v.spares) (la : Links) (ea : links_at cs at.ptr ≡ Some la) (ds : List (Cell Links B)) (d : ds ≡ without at.ptr cs) where
   r : Ready cs g at n m
   r = ready cs guard spare g at n m v e f ok w pos

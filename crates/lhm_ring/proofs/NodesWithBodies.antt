@@ -1,9 +1,9 @@
 -- Nodes with the bodies of a run in them, and nodes with none.
 use Rattle.std.proofs.Common.{◌≡◌, ℕ, true, false, cond, List, [], ◌∷◌, length, suc, Option, Some, None, refl, sym, ap, ◌∙◌, subst, arith}
 use denote.RawPtr.{Ptr}
-use Rattle.lhm_ring.specs.declared.block.Place.{Place}
+use Rattle.lhm_ring.specs.declared.block.NodePointer.{NodePointer}
 use Rattle.lhm_ring.specs.declared.links.Links.{Links}
-use Rattle.lhm_ring.specs.Cells.{Cell, cell, cell_at, same_ptr, IsApart, places, links_of, body_of, links_at, body_at, change, with_body}
+use Rattle.lhm_ring.specs.Cells.{Cell, cell, cell_at, same_ptr, IsApart, pointers, links_of, body_of, links_at, body_at, change, with_body}
 use Rattle.lhm_ring.specs.Rings.{next_of, prev_of, link_of, guard_of, has_links, link_at, is_there, is_guard, Linked, Chained, IsRing, ring_list, listed, follow, RingOk}
 use Rattle.lhm_ring.specs.ContentLoan.{body_in, without_body, bodies_of, with_bodies, cleared}
 use Rattle.lhm_ring.specs.Targets.{target}
@@ -50,31 +50,31 @@ module _ {L B : Type 0} where
         | false ↦ λ n h. body_with_bodies cs run q l h
       ]) refl e
 
-  with_bodies_skip : (p : Ptr) (o : Option B) (run : List (Ptr × Option B)) (cs : List (Cell L B)) → IsFresh p (places cs) → with_bodies cs ((p, o) ∷ run) ≡ with_bodies cs run
+  with_bodies_skip : (p : Ptr) (o : Option B) (run : List (Ptr × Option B)) (cs : List (Cell L B)) → IsFresh p (pointers cs) → with_bodies cs ((p, o) ∷ run) ≡ with_bodies cs run
   unfolding body_in
   with_bodies_skip p o run [] f = refl
   with_bodies_skip p o run (c ∷ cs) f = λ i. cell c.at c.links (cond (f.0 i) o (body_in run c.at)) ∷ with_bodies_skip p o run cs f.1 i
 
-  pub with_own_bodies : (cs : List (Cell L B)) → IsApart (places cs) → with_bodies cs (bodies_of cs) ≡ cs
+  pub with_own_bodies : (cs : List (Cell L B)) → IsApart (pointers cs) → with_bodies cs (bodies_of cs) ≡ cs
   unfolding body_in
   with_own_bodies [] d = refl
   with_own_bodies (c ∷ cs) d =
-      let on = with_bodies_skip c.at c.body (bodies_of cs) cs (apart_head c.at (places cs) d) ∙ with_own_bodies cs (apart_tail c.at (places cs) d) in
+      let on = with_bodies_skip c.at c.body (bodies_of cs) cs (apart_head c.at (pointers cs) d) ∙ with_own_bodies cs (apart_tail c.at (pointers cs) d) in
       λ i. cell c.at c.links (cond (same_ptr_refl c.at i) c.body (body_in (bodies_of cs) c.at)) ∷ on i
 
-  with_bodies_far : (p : Ptr) (run : List (Ptr × Option B)) (cs : List (Cell L B)) → IsFresh p (places cs) → with_bodies cs (without_body p run) ≡ with_bodies cs run
+  with_bodies_far : (p : Ptr) (run : List (Ptr × Option B)) (cs : List (Cell L B)) → IsFresh p (pointers cs) → with_bodies cs (without_body p run) ≡ with_bodies cs run
   with_bodies_far p run [] f = refl
   with_bodies_far p run (c ∷ cs) f = λ i. cell c.at c.links (others_left p c.at run f.0 i) ∷ with_bodies_far p run cs f.1 i
 
-  pub with_bodies_without : (p : Ptr) (run : List (Ptr × Option B)) (cs : List (Cell L B)) → IsApart (places cs) → with_bodies cs (without_body p run) ≡ with_body p None (with_bodies cs run)
+  pub with_bodies_without : (p : Ptr) (run : List (Ptr × Option B)) (cs : List (Cell L B)) → IsApart (pointers cs) → with_bodies cs (without_body p run) ≡ with_body p None (with_bodies cs run)
   unfolding change
   with_bodies_without p run [] d = refl
   with_bodies_without p run (c ∷ cs) d =
       (elim (same_ptr c.at p) as (λ y. same_ptr c.at p ≡ y → with_bodies (c ∷ cs) (without_body p run) ≡ cond y (cell c.at c.links None ∷ with_bodies cs run) (cell c.at c.links (body_in run c.at) ∷ with_body p None (with_bodies cs run))) [
         | true ↦ λ t.
-            let here = ap (body_in (without_body p run)) (same_ptr_eq c.at p t) ∙ none_left p run in let far = subst (λ q. IsFresh q (places cs)) (same_ptr_eq c.at p t) (apart_head c.at (places cs) d) in
+            let here = ap (body_in (without_body p run)) (same_ptr_eq c.at p t) ∙ none_left p run in let far = subst (λ q. IsFresh q (pointers cs)) (same_ptr_eq c.at p t) (apart_head c.at (pointers cs) d) in
             λ i. cell c.at c.links (here i) ∷ with_bodies_far p run cs far i
-        | false ↦ λ n. λ i. cell c.at c.links (others_left p c.at run (same_ptr_symm p c.at ∙ n) i) ∷ with_bodies_without p run cs (apart_tail c.at (places cs) d) i
+        | false ↦ λ n. λ i. cell c.at c.links (others_left p c.at run (same_ptr_symm p c.at ∙ n) i) ∷ with_bodies_without p run cs (apart_tail c.at (pointers cs) d) i
       ]) refl
 
   pub links_cleared : (cs : List (Cell L B)) (q : Ptr) → links_at (cleared cs) q ≡ links_at cs q
@@ -113,11 +113,11 @@ module _ {B : Type 0} (cs : List (Cell Links B)) where
     plain = all_from (λ q. is_guard cs q ≡ false) (λ q. is_guard (cleared cs) q ≡ false) (λ q h. ap guard_of (links_cleared cs q) ∙ h) ss r.plain;
   }
 
-  pub ring_ok_cleared : (guard : Option Place) (spare : Link) (n m : ℕ) → n ≡ 0 → RingOk cs guard spare n m → RingOk (cleared cs) guard spare n m
+  pub ring_ok_cleared : (guard : Option NodePointer) (spare : Link) (n m : ℕ) → n ≡ 0 → RingOk cs guard spare n m → RingOk (cleared cs) guard spare n m
   ring_ok_cleared None spare n m e ok = (ap cleared ok.0, ok.1, ok.2, ok.3)
   ring_ok_cleared (Some g) spare n m e ok = (ok.0, ok.1, ring_cleared g.ptr ok.0 (target spare) ok.1 (ok.3 ∙ e) ok.2, ok.3, ok.4, ok.5)
 
-  pub none_cleared : (guard : Option Place) (n : ℕ) → n ≡ 0 → ring_list (cleared cs) guard n ≡ []
+  pub none_cleared : (guard : Option NodePointer) (n : ℕ) → n ≡ 0 → ring_list (cleared cs) guard n ≡ []
   unfolding listed follow
   none_cleared None n e = refl
   none_cleared (Some g) n e = ap (λ k. listed (cleared cs) (follow (cleared cs) k g.ptr)) e

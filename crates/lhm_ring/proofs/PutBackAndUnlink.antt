@@ -3,7 +3,7 @@ use Rattle.std.proofs.Common.{◌≡◌, ℕ, suc, ◌+◌, ◌-◌, ◌<◌, �
 use Rattle.std.specs.Prelude.{◌==◌}
 use Rattle.std.specs.Option.{IsSome}
 use denote.RawPtr.{Ptr}
-use Rattle.lhm_ring.specs.declared.block.Place.{Place}
+use Rattle.lhm_ring.specs.declared.block.NodePointer.{NodePointer}
 use Rattle.lhm_ring.specs.declared.links.Links.{Links}
 use Rattle.lhm_ring.specs.Cells.{Cell, links_at, body_at, IsAt, Holds, with_links, with_body}
 use Rattle.lhm_ring.specs.Rings.{relinked, Relinks, next_of, prev_of, link_of, guard_of, next_at, prev_at, link_at, is_there, is_guard, content_of, content_at, Chained, IsRing, listed, IsJoined, ring_list, RingOk}
@@ -26,12 +26,12 @@ module _ {B : Type 0} where
   first cs spare m [] h e c = absurd (omega arith)
   first cs spare m (p ∷ ss) h e c = subst IsSome (sym c.0) refl
 
-  pub spare_there : (cs : List (Cell Links B)) (guard : Option Place) (spare : Link) (n m : ℕ) (v : State B) → RingOk cs guard spare n m → state (ring_list cs guard n) m ≡ v → 0 < v.spares → IsSome guard × IsSome (target spare)
+  pub spare_there : (cs : List (Cell Links B)) (guard : Option NodePointer) (spare : Link) (n m : ℕ) (v : State B) → RingOk cs guard spare n m → state (ring_list cs guard n) m ≡ v → 0 < v.spares → IsSome guard × IsSome (target spare)
   spare_there cs None spare n m v ok w h = let e = ok.3 in let f : m ≡ v.spares = ap (λ (z : State B). z.spares) w in absurd (omega arith)
   spare_there cs (Some g) spare n m v ok w h = (refl, first cs spare m ok.1 (subst (λ k. 0 < k) (sym (ap (λ (z : State B). z.spares) w)) h) ok.4 ok.2.chained)
 
 -- the first spare node, and the others
-pub record Ready {B : Type 0} (cs : List (Cell Links B)) (g at : Place) (n m : ℕ) : Type 0 where
+pub record Ready {B : Type 0} (cs : List (Cell Links B)) (g at : NodePointer) (n m : ℕ) : Type 0 where
   pub row : List Ptr
   pub others : List Ptr
   pub ring : IsRing cs g.ptr row (Some at.ptr) (at.ptr ∷ others)
@@ -40,17 +40,17 @@ pub record Ready {B : Type 0} (cs : List (Cell Links B)) (g at : Place) (n m : �
   pub small : n + m ≤ 2 ^ 57
 
 module _ {B : Type 0} (cs : List (Cell Links B)) where
-  ready_at : (g at : Place) (n m : ℕ) (ps ss : List Ptr) → IsRing cs g.ptr ps (Some at.ptr) ss → length ps ≡ n → length ss ≡ m → n + m ≤ 2 ^ 57 → 0 < m → Ready cs g at n m
+  ready_at : (g at : NodePointer) (n m : ℕ) (ps ss : List Ptr) → IsRing cs g.ptr ps (Some at.ptr) ss → length ps ≡ n → length ss ≡ m → n + m ≤ 2 ^ 57 → 0 < m → Ready cs g at n m
   ready_at g at n m ps [] r a b c h = absurd (omega arith)
   ready_at g at n m ps (p ∷ rest) r a b c h =
       record { row = ps; others = rest; ring = subst (λ q. IsRing cs g.ptr ps (Some at.ptr) (q ∷ rest)) (sym (some_same at.ptr p r.chained.0)) r; long = a; wide = b; small = c }
 
-  pub ready : (guard : Option Place) (spare : Link) (g at : Place) (n m : ℕ) (v : State B) → guard ≡ Some g → target spare ≡ Some at.ptr → RingOk cs guard spare n m → state (ring_list cs guard n) m ≡ v → 0 < v.spares → Ready cs g at n m
+  pub ready : (guard : Option NodePointer) (spare : Link) (g at : NodePointer) (n m : ℕ) (v : State B) → guard ≡ Some g → target spare ≡ Some at.ptr → RingOk cs guard spare n m → state (ring_list cs guard n) m ≡ v → 0 < v.spares → Ready cs g at n m
   ready guard spare g at n m v e f ok w h =
       let o = opened cs guard spare g n m e ok in
       ready_at g at n m o.0 o.1 (subst (λ z. IsRing cs g.ptr o.0 z o.1) f o.2) o.3 o.4 o.5 (subst (λ k. 0 < k) (sym (ap (λ (z : State B). z.spares) w)) h)
 
-module _ {B : Type 0} (cs : List (Cell Links B)) (guard : Option Place) (spare : Link) (g at : Place) (n m : ℕ) (v : State B) (e : guard ≡ Some g) (f : target spare ≡ Some at.ptr) (ok : RingOk cs guard spare n m) (w : state (ring_list cs guard n) m ≡ v)
+module _ {B : Type 0} (cs : List (Cell Links B)) (guard : Option NodePointer) (spare : Link) (g at : NodePointer) (n m : ℕ) (v : State B) (e : guard ≡ Some g) (f : target spare ≡ Some at.ptr) (ok : RingOk cs guard spare n m) (w : state (ring_list cs guard n) m ≡ v)
     (pos : 0 < v.spares) where
   r : Ready cs g at n m
   r = ready cs guard spare g at n m v e f ok w pos
@@ -110,8 +110,8 @@ module _ {B : Type 0} (cs : List (Cell Links B)) (guard : Option Place) (spare :
           λ i. state (new i) ((ap (λ (z : State B). z.spares) w i) - 1)
 
 -- the node at `at` is joined past, gives its body up, and is the first spare one
-module _ {B : Type 0} (cs : List (Cell Links B)) (guard : Option Place) (spare : Link) (g : Place) (n m : ℕ) (v : State B) (e : guard ≡ Some g) (ok : RingOk cs guard spare n m) (w : state (ring_list cs guard n) m ≡ v)
-    (at : Place) (la : Links) (ea : links_at cs at.ptr ≡ Some la) (ds : List (Cell Links B)) (j : IsJoined cs ds la.prev.ptr la.next.ptr) where
+module _ {B : Type 0} (cs : List (Cell Links B)) (guard : Option NodePointer) (spare : Link) (g : NodePointer) (n m : ℕ) (v : State B) (e : guard ≡ Some g) (ok : RingOk cs guard spare n m) (w : state (ring_list cs guard n) m ≡ v)
+    (at : NodePointer) (la : Links) (ea : links_at cs at.ptr ≡ Some la) (ds : List (Cell Links B)) (j : IsJoined cs ds la.prev.ptr la.next.ptr) where
   j₂ : IsJoined cs ds (prev_at cs at.ptr) (next_at cs at.ptr)
   j₂ = subst (λ (z : Ptr × Ptr). IsJoined cs ds z.0 z.1) (λ i. (sym (ap prev_of ea) i, sym (ap next_of ea) i)) j
 

@@ -1,7 +1,7 @@
--- What is read at a held place.
+-- What is read at a held pointer.
 use Rattle.std.proofs.Common.{◌≡◌, ℕ, List, ◌∷◌, ◌++◌, Option, Some, None, refl, sym, ap, ◌∙◌, subst}
 use denote.RawPtr.{Ptr}
-use Rattle.lhm_ring.specs.declared.block.Place.{Place}
+use Rattle.lhm_ring.specs.declared.block.NodePointer.{NodePointer}
 use Rattle.lhm_ring.specs.declared.links.Links.{Links}
 use Rattle.lhm_ring.specs.Cells.{Cell, links_at, body_at, IsAt, Holds}
 use Rattle.lhm_ring.specs.Rings.{link_of, content_of, content_at, ring_list, RingOk}
@@ -12,12 +12,12 @@ use Rattle.lhm_ring.proofs.OneNodeChanged.{content_number, content_link, content
 use Rattle.lhm_ring.proofs.Writes.{content_links}
 
 module _ {B : Type 0} where
-  pub held_content : (cs : List (Cell Links B)) (guard : Option Place) (spare : Link) (n m : ℕ) (v : State B) → RingOk cs guard spare n m → state (ring_list cs guard n) m ≡ v
+  pub held_content : (cs : List (Cell Links B)) (guard : Option NodePointer) (spare : Link) (n m : ℕ) (v : State B) → RingOk cs guard spare n m → state (ring_list cs guard n) m ≡ v
       → (xs : List (Held B)) (t : Held B) (ys : List (Held B)) → v.held ≡ xs ++ t ∷ ys → content_at cs t.at ≡ Some t
   held_content cs None spare n m v ok w xs t ys e = absurd (none_held t.at (xs, t, ys, ap (λ (z : State B). z.held) w ∙ e, refl))
   held_content cs (Some g) spare n m v ok w xs t ys e = (found cs g spare n m ok xs t ys (ap (λ (z : State B). z.held) w ∙ e)).here
 
-module _ {B : Type 0} (cs : List (Cell Links B)) (guard : Option Place) (spare : Link) (n m : ℕ) (v : State B) (ok : RingOk cs guard spare n m) (w : state (ring_list cs guard n) m ≡ v) (p : Ptr) where
+module _ {B : Type 0} (cs : List (Cell Links B)) (guard : Option NodePointer) (spare : Link) (n m : ℕ) (v : State B) (ok : RingOk cs guard spare n m) (w : state (ring_list cs guard n) m ≡ v) (p : Ptr) where
   pub content : (xs : List (Held B)) (t : Held B) (ys : List (Held B)) → v.held ≡ xs ++ t ∷ ys → t.at ≡ p → content_at cs p ≡ Some t
   content xs t ys e at = ap (content_at cs) (sym at) ∙ held_content cs guard spare n m v ok w xs t ys e
 

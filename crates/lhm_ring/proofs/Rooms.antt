@@ -1,4 +1,4 @@
--- An empty block by value, and a place. Assumes `Logic`.
+-- An empty block by value, and a pointer. Assumes `Logic`.
 use Rattle.std.proofs.Common.{◌≡◌, ℕ, ◌+◌, ◌<◌, true, false, List, [], ◌∷◌, ◌++◌, refl, ◌∙◌, subst, arith, T}
 use seplogic.Ra.Ura.{Ura}
 use base.Fraction.{full_share}
@@ -23,7 +23,7 @@ use Rattle.std.specs.declared.alloc.Allocator.{Ghosts}
 use Rattle.std.proofs.GlobalToken.{dealloc_token_start}
 use Rattle.std.proofs.RcSteps.{Good, word}
 use Rattle.std.proofs.lemmas.Bool.{eq-eqb}
-use Rattle.lhm_ring.specs.Cells.{same_ptr, places, is_block}
+use Rattle.lhm_ring.specs.Cells.{same_ptr, pointers, is_block}
 use Rattle.lhm_ring.specs.Ownership.{links_of, block_owns, deed_owns, chunk_token, node_type, room_owns}
 use Rattle.lhm_ring.specs.contracts.block.Room as R-type
 use Rattle.lhm_ring.proofs.Apart.{same_ptr_eq, IsFresh}
@@ -36,8 +36,8 @@ pub room_Good : (p : Ptr) → T (has_ty (ty_struct [] (tcons ty_ptr (tcons (ty_s
 room_Good (block_ptr b o) = (tt, (tt, (tt, tt)))
 room_Good null_ptr = (tt, (record { fits = omega arith }, (tt, tt)))
 
-pub place_made : {M : Type 1} {𝓤 : Ura M} (𝓛 : Logic 𝓤) (p : Ptr) → ent 𝓤 (emp 𝓤) (sem 𝓛 (Pl.own_val (record { ptr = p }) (word p ∷ [])))
-place_made 𝓛 p = makes_shadow 𝓛 (Pl.own_val (record { ptr = p }) (word p ∷ [])) (λ vss. (tt, (tt, tt))) ((ptr_val p ∷ [], tt), (refl, (refl, tt)))
+pub pointer_made : {M : Type 1} {𝓤 : Ura M} (𝓛 : Logic 𝓤) (p : Ptr) → ent 𝓤 (emp 𝓤) (sem 𝓛 (Pl.own_val (record { ptr = p }) (word p ∷ [])))
+pointer_made 𝓛 p = makes_shadow 𝓛 (Pl.own_val (record { ptr = p }) (word p ∷ [])) (λ vss. (tt, (tt, tt))) ((ptr_val p ∷ [], tt), (refl, (refl, tt)))
 
 module _ (R S W Z : RattleType) (g : Ghosts Z.Denot) where
   abbrev pub Rm : RattleType
@@ -81,11 +81,11 @@ module _ {M : Type 1} {𝓤 : Ura M} (𝓛 : Logic 𝓤) (𝓜 : Model 𝓤 𝓛
     | false ↦ λ e. fact_i 𝓤 (same_ptr p q ≡ false) (F q) e
   ]) refl
 
-  pub fresh : (p : Ptr) (cs : List (Node E)) → ent 𝓤 (sep 𝓤 (sem 𝓛 (New p)) (sem 𝓛 (Cells E cs))) (fact 𝓤 (IsFresh p (places cs)))
+  pub fresh : (p : Ptr) (cs : List (Node E)) → ent 𝓤 (sep 𝓤 (sem 𝓛 (New p)) (sem 𝓛 (Cells E cs))) (fact 𝓤 (IsFresh p (pointers cs)))
   fresh p [] = fact_i 𝓤 (IsFresh p []) _ tt
   fresh p (c ∷ cs) = qed 𝓛 (‵ (New p) ∷ ‵ (Cells E (c ∷ cs)) ∷ []) ∵ move ! (1 ∷ []) $ fsplit ! $ fsplit ! $ move ! (3 ∷ 0 ∷ []) $
       knows ! (same_ptr p c.at ≡ false) (differ p c.at (λ r. sep 𝓤 (sem 𝓛 (New p)) (sem 𝓛 (lies_at (RL E) full_share (links_of (RL E) (RK E) (RV E) r) c.links))) (clash p c.links)) (λ here.
-      move ! (0 ∷ 3 ∷ []) $ knows ! (IsFresh p (places cs)) (fresh p cs) (λ rest. by ! (fact_i 𝓤 (IsFresh p (c.at ∷ places cs)) _ (here, rest))))
+      move ! (0 ∷ 3 ∷ []) $ knows ! (IsFresh p (pointers cs)) (fresh p cs) (λ rest. by ! (fact_i 𝓤 (IsFresh p (c.at ∷ pointers cs)) _ (here, rest))))
 
 -- what may be freed is the start of its block
 pub block_starts : {M : Type 1} {𝓤 : Ura M} (𝓛 : Logic 𝓤) (R S W : RattleType) (b o : ℕ)

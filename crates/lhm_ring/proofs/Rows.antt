@@ -132,7 +132,7 @@ module _ {B : Type 0} where
     glue_row x [] p ys l e m = (e, m)
     glue_row x (y ∷ xs) p ys l e m = (l.0, glue_row y xs p ys l.1 e m)
 
-    -- the places after p are those that the row names
+    -- the pointers after p are those that the row names
     pub follow_row : (x : Ptr) (xs : List Ptr) (z : Ptr) → Linked cs (x ∷ (xs ++ z ∷ [])) → follow cs (length xs) x ≡ xs
     unfolding follow
     follow_row x [] z l = refl
@@ -209,10 +209,10 @@ module _ {B : Type 0} where
       let second : Linked es (g ∷ (ps ++ p ∷ [])) = row_kept ds es p g k (g ∷ (ps ++ p ∷ [])) (avoids_but_last p g ps p free) (all_both P ps (p ∷ []) (apart_head g ps d) (flip p g free.0, tt)) first in
       glue_row es g (ps ++ p ∷ []) g [] second (subst (λ z. Edge es z g) (sym (last_push g ps p)) (edge_made ds es p g k)) tt
 
-  pub content_place : (p : Ptr) (o : Option Links) (b : Option B) (t : Held B) → content_of p o b ≡ Some t → t.at ≡ p
-  content_place p None b t e = cc
-  content_place p (Some l) None t e = cc
-  content_place p (Some l) (Some b) t e = ap (λ (z : Held B). z.at) (sym (not_guard (l.guard == 1) (record { at = p; number = l.number; link = link_of (Some l); pair = b }) t e).1)
+  pub content_pointer : (p : Ptr) (o : Option Links) (b : Option B) (t : Held B) → content_of p o b ≡ Some t → t.at ≡ p
+  content_pointer p None b t e = cc
+  content_pointer p (Some l) None t e = cc
+  content_pointer p (Some l) (Some b) t e = ap (λ (z : Held B). z.at) (sym (not_guard (l.guard == 1) (record { at = p; number = l.number; link = link_of (Some l); pair = b }) t e).1)
 
   -- where a ring is cut, if what it lists is
   pub record CutAt (cs : List (Cell Links B)) (ps : List Ptr) (us : List (Held B)) (t : Held B) (vs : List (Held B)) : Type 0 where
@@ -230,7 +230,7 @@ module _ {B : Type 0} where
   cut_listed cs (p ∷ ps) h [] t vs e =
       let e' : h.0.0 ∷ listed cs ps ≡ t ∷ vs = sym (ap (λ o. one_of o ++ listed cs ps) h.0.1) ∙ e in
       let first : h.0.0 ≡ t = cc in let rest : listed cs ps ≡ vs = cc in
-      let at : p ≡ t.at = sym (content_place p (links_at cs p) (body_at cs p) h.0.0 h.0.1) ∙ ap (λ (z : Held B). z.at) first in
+      let at : p ≡ t.at = sym (content_pointer p (links_at cs p) (body_at cs p) h.0.0 h.0.1) ∙ ap (λ (z : Held B). z.at) first in
       record {
         before = [];
         after = ps;

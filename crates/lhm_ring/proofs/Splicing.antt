@@ -4,10 +4,10 @@ use Rattle.std.specs.Prelude.{◌==◌}
 use lib.ListN.{length-map}
 use Rattle.std.specs.List.{AllByRecursion}
 use denote.RawPtr.{Ptr}
-use Rattle.lhm_ring.specs.declared.block.Place.{Place}
+use Rattle.lhm_ring.specs.declared.block.NodePointer.{NodePointer}
 use Rattle.lhm_ring.specs.declared.links.Links.{Links}
 use Rattle.lhm_ring.specs.Cells.{Cell, cell, cell_at, same_ptr, links_at, body_at, IsApart, IsAt, Holds, with_links, with_body}
-use Rattle.lhm_ring.specs.Rings.{relinked, next_of, prev_of, link_of, has_links, guard_of, next_at, prev_at, link_at, is_there, content_of, content_at, Linked, Chained, HasContent, IsRing, IsJoined, listed, one_of, last_place, HasEnds, places_from, span_triples, IsSpan, ring_list, RingOk, is_guard}
+use Rattle.lhm_ring.specs.Rings.{relinked, next_of, prev_of, link_of, has_links, guard_of, next_at, prev_at, link_at, is_there, content_of, content_at, Linked, Chained, HasContent, IsRing, IsJoined, listed, one_of, last_pointer, HasEnds, pointers_from, span_triples, IsSpan, ring_list, RingOk, is_guard}
 use Rattle.lhm_ring.specs.RingState.{Held, triples}
 use Rattle.lhm_ring.specs.Splices.{onto, StartsAt, triple_of, SameButLinks, IsRow, HasRow, SparesRow}
 use Rattle.lhm_ring.specs.Targets.{target}
@@ -21,24 +21,24 @@ use Rattle.lhm_ring.proofs.Options.{none_some}
 
 module _ {B : Type 0} (cs : List (Cell Links B)) where
   pub none_listed : (f : Ptr) → span_triples cs 0 f ≡ []
-  unfolding places_from listed
+  unfolding pointers_from listed
   none_listed f = refl
 
-  -- the places from f on are those that the row names
-  pub from_row : (f b : Ptr) (rs : List Ptr) → Linked cs rs → HasEnds rs f b → places_from cs (length rs) f ≡ rs
-  unfolding places_from
+  -- the pointers from f on are those that the row names
+  pub from_row : (f b : Ptr) (rs : List Ptr) → Linked cs rs → HasEnds rs f b → pointers_from cs (length rs) f ≡ rs
+  unfolding pointers_from
   from_row f b [] k e = refl
   from_row f b (r ∷ []) k e = ap (λ z. z ∷ []) (sym e.0)
-  from_row f b (r ∷ s ∷ rs) k e = λ i. sym e.0 i ∷ (ap (λ z. places_from cs (length (s ∷ rs)) z) (ap (next_at cs) (sym e.0) ∙ k.0.0) ∙ from_row s b (s ∷ rs) k.1 (refl, e.1)) i
+  from_row f b (r ∷ s ∷ rs) k e = λ i. sym e.0 i ∷ (ap (λ z. pointers_from cs (length (s ∷ rs)) z) (ap (next_at cs) (sym e.0) ∙ k.0.0) ∙ from_row s b (s ∷ rs) k.1 (refl, e.1)) i
 
-  pub span_places : (f b : Ptr) (k : ℕ) → (s : IsSpan cs f b k) → places_from cs k f ≡ s.0
-  span_places f b k s = ap (λ z. places_from cs z f) (sym s.1) ∙ from_row f b s.0 s.2 s.3
+  pub span_pointers : (f b : Ptr) (k : ℕ) → (s : IsSpan cs f b k) → pointers_from cs k f ≡ s.0
+  span_pointers f b k s = ap (λ z. pointers_from cs z f) (sym s.1) ∙ from_row f b s.0 s.2 s.3
 
   pub length_span : (f b : Ptr) (k : ℕ) → IsSpan cs f b k → k ≡ length (span_triples cs k f)
   length_span f b k s =
-      sym (length-map (listed cs (places_from cs k f)) (λ (t : Held B). (t.number, t.pair)) ∙ ap (λ ps. length (listed cs ps)) (span_places f b k s) ∙ length_listed cs s.0 s.4 ∙ s.1)
+      sym (length-map (listed cs (pointers_from cs k f)) (λ (t : Held B). (t.number, t.pair)) ∙ ap (λ ps. length (listed cs ps)) (span_pointers f b k s) ∙ length_listed cs s.0 s.4 ∙ s.1)
 
--- the places of a row go onto others
+-- the pointers of a row go onto others
 pub all_onto : (P : Ptr → Type 0) (ps ss : List Ptr) → AllByRecursion P ps → AllByRecursion P ss → AllByRecursion P (onto ps ss)
 all_onto P [] ss a b = b
 all_onto P (p ∷ ps) ss a b = all_onto P ps (p ∷ ss) a.1 (a.0, b)
@@ -51,7 +51,7 @@ pub apart_onto : (g : Ptr) (ps ss : List Ptr) → IsApart (g ∷ (ps ++ ss)) →
 apart_onto g [] ss d = d
 apart_onto g (p ∷ ps) ss d = apart_onto g ps (p ∷ ss) (apart_in (g ∷ ps) p ss (apart_at (g ∷ []) p (ps ++ ss) d) (apart_out (g ∷ []) p (ps ++ ss) d))
 
-last_same : (p : Ptr) (ps : List Ptr) → last_place p ps ≡ last_from p ps
+last_same : (p : Ptr) (ps : List Ptr) → last_pointer p ps ≡ last_from p ps
 last_same p [] = refl
 last_same p (q ∷ qs) = last_same q qs
 
@@ -117,7 +117,7 @@ module _ {B : Type 0} where
   starts_next cs x (y ∷ ys) k = sym k.0.0
 
   -- the first node of a row becomes the first spare one
-  module _ (cs : List (Cell Links B)) (at : Place) (n : ℕ) (spare : Link) (la : Links) (ea : links_at cs at.ptr ≡ Some la) where
+  module _ (cs : List (Cell Links B)) (at : NodePointer) (n : ℕ) (spare : Link) (la : Links) (ea : links_at cs at.ptr ≡ Some la) where
     abbrev after : List (Cell Links B)
     after = with_links at.ptr (relinked spare la) cs
 
@@ -158,11 +158,11 @@ module _ {B : Type 0} where
     pub row_ends : (ds : List (Cell Links B)) (s : Option Ptr) → 0 < n → SparesRow after la.next.ptr (n - 1) (Some at.ptr) ds s → SparesRow cs at.ptr n (target spare) ds s
     row_ends ds s h k ps ss r = then_all ds s h k ps ss r
 
-  there_first : (cs : List (Cell Links B)) (at : Place) (n : ℕ) (spare : Option Ptr) (ps ss : List Ptr) → 0 < n → IsRow cs at.ptr n spare ps ss → is_there cs at.ptr ≡ true
+  there_first : (cs : List (Cell Links B)) (at : NodePointer) (n : ℕ) (spare : Option Ptr) (ps ss : List Ptr) → 0 < n → IsRow cs at.ptr n spare ps ss → is_there cs at.ptr ≡ true
   there_first cs at n spare [] ss h r = let long = r.long in absurd (omega arith)
   there_first cs at n spare (p ∷ ps) ss h r = subst (λ q. is_there cs q ≡ true) r.starts r.there.0
 
-  pub row_there : (cs : List (Cell Links B)) (at : Place) (n : ℕ) (spare : Option Ptr) → 0 < n → HasRow cs at.ptr n spare → is_there cs at.ptr ≡ true
+  pub row_there : (cs : List (Cell Links B)) (at : NodePointer) (n : ℕ) (spare : Option Ptr) → 0 < n → HasRow cs at.ptr n spare → is_there cs at.ptr ≡ true
   row_there cs at n spare h r = there_first cs at n spare r.0 r.1 h r.2
 
   same_all : (cs : List (Cell Links B)) → SameButLinks cs cs
@@ -189,7 +189,7 @@ module _ {B : Type 0} where
   triples_first (Some t) hs = refl
 
 -- all that a ring holds becomes spare
-module _ {B : Type 0} (cs : List (Cell Links B)) (g : Place) (spare : Link) (n m : ℕ) (o : RingOk cs (Some g) spare n m) (lg : Links) (eg : links_at cs g.ptr ≡ Some lg) where
+module _ {B : Type 0} (cs : List (Cell Links B)) (g : NodePointer) (spare : Link) (n m : ℕ) (o : RingOk cs (Some g) spare n m) (lg : Links) (eg : links_at cs g.ptr ≡ Some lg) where
   cut : Linked cs (g.ptr ∷ o.0) × (prev_at cs g.ptr ≡ last_from g.ptr o.0)
   cut = let k = cut_row cs g.ptr o.0 g.ptr [] o.2.linked in (k.0, k.1.1)
 
@@ -272,12 +272,12 @@ module _ {B : Type 0} (cs : List (Cell Links B)) (g : Place) (spare : Link) (n m
       pub spliced_now : span_triples es n lg.next.ptr ≡ triples (ring_list cs (Some g) n)
       unfolding spliced_row
       spliced_now =
-          ap (λ qs. triples (listed es qs)) (span_places es lg.next.ptr lg.prev.ptr n spliced_row) ∙ ap triples (listed_kept ds es g.ptr g.ptr j o.0) ∙ triples_same o.0
+          ap (λ qs. triples (listed es qs)) (span_pointers es lg.next.ptr lg.prev.ptr n spliced_row) ∙ ap triples (listed_kept ds es g.ptr g.ptr j o.0) ∙ triples_same o.0
           ∙ ap triples (sym (ring_listed cs g.ptr o.0 (target spare) o.1 n o.2 o.3))
 
 -- where there is no guard, nothing is held
 module _ {B : Type 0} (cs : List (Cell Links B)) where
-  pub none_spliced : (guard : Option Place) (spare : Link) (n m : ℕ) (f b : Ptr) → guard ≡ None → RingOk cs guard spare n m → RingOk cs guard spare 0 (m + n) × IsSpan cs f b n × (span_triples cs n f ≡ triples (ring_list cs guard n))
+  pub none_spliced : (guard : Option NodePointer) (spare : Link) (n m : ℕ) (f b : Ptr) → guard ≡ None → RingOk cs guard spare n m → RingOk cs guard spare 0 (m + n) × IsSpan cs f b n × (span_triples cs n f ≡ triples (ring_list cs guard n))
   none_spliced None spare n m f b e ok =
       let none : n ≡ 0 = ok.2 in (
         (ok.0, ok.1, refl, ap (λ k. m + k) none ∙ omega (arith, ok.3)),
@@ -328,7 +328,7 @@ pub record FirstCut {B : Type 0} (cs : List (Cell Links B)) (f b : Ptr) (rs : Li
   pub ends : HasEnds behind (next_at cs f) b
 
 module _ {B : Type 0} (cs : List (Cell Links B)) where
-  ends_behind : (x b : Ptr) (xs : List Ptr) → Linked cs (x ∷ xs) → last_place x xs ≡ b → HasEnds xs (next_at cs x) b
+  ends_behind : (x b : Ptr) (xs : List Ptr) → Linked cs (x ∷ xs) → last_pointer x xs ≡ b → HasEnds xs (next_at cs x) b
   ends_behind x b [] k e = tt
   ends_behind x b (y ∷ ys) k e = (sym k.0.0, e)
 
@@ -406,9 +406,9 @@ module _ {B : Type 0} (cs : List (Cell Links B)) (f b : Ptr) (k : ℕ) (s : IsSp
     pub first_out : (x : B) → body_at cs f ≡ Some x → span_triples cs k f ≡ (la.number, x) ∷ span_triples (with_body f None cs) (k - 1) la.next.ptr
     unfolding first rest_of_first
     first_out x ex =
-        ap (λ ps. triples (listed cs ps)) (span_places cs f b k s ∙ first.whole) ∙ ap triples (listed-append cs (f ∷ []) first.behind) ∙ triples-append (listed cs (f ∷ [])) (listed cs first.behind)
+        ap (λ ps. triples (listed cs ps)) (span_pointers cs f b k s ∙ first.whole) ∙ ap triples (listed-append cs (f ∷ []) first.behind) ∙ triples-append (listed cs (f ∷ [])) (listed cs first.behind)
         ∙ (λ i. one_listed cs f la ea x ex all_first.0 i ++ triples (sym (listed_other cs (with_body f None cs) f (other cs f la ea) first.behind free_first) i))
-        ∙ ap (λ ps. (la.number, x) ∷ triples (listed (with_body f None cs) ps)) (sym (span_places (with_body f None cs) la.next.ptr b (k - 1) rest_of_first))
+        ∙ ap (λ ps. (la.number, x) ∷ triples (listed (with_body f None cs) ps)) (sym (span_pointers (with_body f None cs) la.next.ptr b (k - 1) rest_of_first))
 
   last : LastCut cs f b s.0
   last = last_cut cs f b s.0 (λ e. some (sym s.1 ∙ e)) s.2 s.3
@@ -445,6 +445,6 @@ module _ {B : Type 0} (cs : List (Cell Links B)) (f b : Ptr) (k : ℕ) (s : IsSp
     pub last_out : (x : B) → body_at cs b ≡ Some x → span_triples cs k f ≡ span_triples (with_body b None cs) (k - 1) f ++ (la.number, x) ∷ []
     unfolding last rest_of_last
     last_out x ex =
-        ap (λ ps. triples (listed cs ps)) (span_places cs f b k s ∙ last.whole) ∙ ap triples (listed-append cs last.before (b ∷ [])) ∙ triples-append (listed cs last.before) (listed cs (b ∷ []))
+        ap (λ ps. triples (listed cs ps)) (span_pointers cs f b k s ∙ last.whole) ∙ ap triples (listed-append cs last.before (b ∷ [])) ∙ triples-append (listed cs last.before) (listed cs (b ∷ []))
         ∙ (λ i. triples (sym (listed_other cs (with_body b None cs) b (other cs b la ea) last.before free_last) i) ++ one_listed cs b la ea x ex mine i)
-        ∙ ap (λ ps. triples (listed (with_body b None cs) ps) ++ (la.number, x) ∷ []) (sym (span_places (with_body b None cs) f la.prev.ptr (k - 1) rest_of_last))
+        ∙ ap (λ ps. triples (listed (with_body b None cs) ps) ++ (la.number, x) ∷ []) (sym (span_pointers (with_body b None cs) f la.prev.ptr (k - 1) rest_of_last))

@@ -3,9 +3,9 @@ use Rattle.std.proofs.Common.{◌≡◌, ℕ, suc, zero, ◌+◌, ◌-◌, ◌<�
 use Rattle.std.specs.Option.{IsSome}
 use Rattle.std.specs.Prelude.{IfSome}
 use denote.RawPtr.{Ptr}
-use Rattle.lhm_ring.specs.declared.block.Place.{Place}
+use Rattle.lhm_ring.specs.declared.block.NodePointer.{NodePointer}
 use Rattle.lhm_ring.specs.declared.links.Links.{Links}
-use Rattle.lhm_ring.specs.Cells.{Cell, cell, cell_at, places, links_of, links_at, without, IsApart, IsAt}
+use Rattle.lhm_ring.specs.Cells.{Cell, cell, cell_at, pointers, links_of, links_at, without, IsApart, IsAt}
 use Rattle.lhm_ring.specs.Rings.{links, IsRing, listed, ring_list, RingOk}
 use Rattle.lhm_ring.specs.RingState.{State, state}
 use Rattle.lhm_ring.specs.Stacks.{IsStacked, HasStack, Unstacks, HasGuard}
@@ -26,11 +26,11 @@ module _ {B : Type 0} where
   unfolding without
   head_without p l es = ap (λ y. cond y es (cell p l None ∷ without p es)) (same_ptr_refl p)
 
-  pub nothing_stacked : (cs : List (Cell Links B)) (g : Place) (s : Link) → IsStacked cs g s 0 cs s
+  pub nothing_stacked : (cs : List (Cell Links B)) (g : NodePointer) (s : Link) → IsStacked cs g s 0 cs s
   unfolding IsStacked
   nothing_stacked cs g s = (refl, refl)
 
-  pub stacked_one : (cs : List (Cell Links B)) (g : Place) (s : Link) (n : ℕ) (ds : List (Cell Links B)) (f : Link) (p : Place) (es : List (Cell Links B)) (top : Link)
+  pub stacked_one : (cs : List (Cell Links B)) (g : NodePointer) (s : Link) (n : ℕ) (ds : List (Cell Links B)) (f : Link) (p : NodePointer) (es : List (Cell Links B)) (top : Link)
       → IsStacked cs g s n ds f → es ≡ cell p.ptr (links g f) None ∷ ds → target top ≡ Some p.ptr → IsStacked cs g s (n + 1) es top
   unfolding IsStacked
   stacked_one cs g s n ds f p es top k e et = let more : suc n ≡ n + 1 = omega arith in subst (λ m. IsStacked cs g s m es top) more (p.ptr, ds, f, et, e, k)
@@ -45,7 +45,7 @@ module _ {B : Type 0} where
   top_some zero ds f h k = absurd (omega arith)
   top_some (suc n) ds f h k = subst IsSome (sym k.3.3) refl
 
-  pub top_at : (n : ℕ) (ds : List (Cell Links B)) (f : Link) (at : Place) → 0 < n → HasStack n ds f → target f ≡ Some at.ptr → IsAt ds at.ptr
+  pub top_at : (n : ℕ) (ds : List (Cell Links B)) (f : Link) (at : NodePointer) → 0 < n → HasStack n ds f → target f ≡ Some at.ptr → IsAt ds at.ptr
   unfolding IsStacked
   top_at zero ds f at h k e = absurd (omega arith)
   top_at (suc n) ds f at h k e =
@@ -53,8 +53,8 @@ module _ {B : Type 0} where
       subst (IsAt ds) (some_same p at.ptr (sym k.3.3 ∙ e)) (l, ap (λ zs. links_at zs p) k.3.4 ∙ head_links p l k.3.1)
 
   -- the node on top is taken off
-  pub off : (cs : List (Cell Links B)) (g : Place) (s : Link) (n : ℕ) (ds : List (Cell Links B)) (f : Link) → 0 < n → IsStacked cs g s n ds f
-      → (at : Place) → target f ≡ Some at.ptr → (la : Links) → links_at ds at.ptr ≡ Some la → (es : List (Cell Links B)) → es ≡ without at.ptr ds → IsStacked cs g s (n - 1) es la.link
+  pub off : (cs : List (Cell Links B)) (g : NodePointer) (s : Link) (n : ℕ) (ds : List (Cell Links B)) (f : Link) → 0 < n → IsStacked cs g s n ds f
+      → (at : NodePointer) → target f ≡ Some at.ptr → (la : Links) → links_at ds at.ptr ≡ Some la → (es : List (Cell Links B)) → es ≡ without at.ptr ds → IsStacked cs g s (n - 1) es la.link
   unfolding IsStacked
   off cs g s zero ds f h k at e la ea es ee = absurd (omega arith)
   off cs g s (suc n) ds f h k at e la ea es ee =
@@ -66,14 +66,14 @@ module _ {B : Type 0} where
       subst (λ m. IsStacked cs g s m es la.link) less (subst (λ (z : List (Cell Links B) × Link). IsStacked cs g s n z.0 z.1) (λ i. (sym left i, sym after i)) k.5)
 
   -- a ring with spare nodes more
-  pub stacked : (n : ℕ) (cs : List (Cell Links B)) (g : Place) (s : Link) (ds : List (Cell Links B)) (f : Link) (ps ss : List Ptr) → IsStacked cs g s n ds f → IsApart (places ds) → IsRing cs g.ptr ps (target s) ss
+  pub stacked : (n : ℕ) (cs : List (Cell Links B)) (g : NodePointer) (s : Link) (ds : List (Cell Links B)) (f : Link) (ps ss : List Ptr) → IsStacked cs g s n ds f → IsApart (pointers ds) → IsRing cs g.ptr ps (target s) ss
       → (qs : List Ptr) × IsRing ds g.ptr ps (target f) qs × (length qs ≡ n + length ss) × (listed ds ps ≡ listed cs ps)
   unfolding IsStacked
   stacked zero cs g s ds f ps ss k d r = (ss, subst (λ (z : List (Cell Links B) × Link). IsRing z.0 g.ptr ps (target z.1) ss) (λ i. (sym k.0 i, sym k.1 i)) r, omega arith, ap (λ zs. listed zs ps) k.0)
   stacked (suc n) cs g s ds f ps ss k d r =
       let p = k.0 in let es = k.1 in let h = k.2 in let l = links g h in
-      let d' : IsApart (places (cell p l None ∷ es)) = subst (λ zs. IsApart (places zs)) k.4 d in
-      let on = stacked n cs g s es h ps ss k.5 (apart_tail p (places es) d') r in
+      let d' : IsApart (pointers (cell p l None ∷ es)) = subst (λ zs. IsApart (pointers zs)) k.4 d in
+      let on = stacked n cs g s es h ps ss k.5 (apart_tail p (pointers es) d') r in
       let ring : IsRing (cell p l None ∷ es) g.ptr ps (Some p) (p ∷ on.0) = more es p l d' g.ptr ps (target h) on.0 on.1 (link_links g h) refl in
       let long = on.2 in (
         p ∷ on.0,
@@ -82,30 +82,30 @@ module _ {B : Type 0} where
         ap (λ zs. listed zs ps) k.4 ∙ more_listed es p l d' g.ptr ps (target h) on.0 on.1 (link_links g h) refl ∙ on.3,
       )
 
-  pub guarded : (cs ds : List (Cell Links B)) (guard : Option Place) (spare : Link) (n m : ℕ) (g : Place) (v : State B) → HasGuard guard cs ds g → RingOk cs guard spare n m → state (ring_list cs guard n) m ≡ v → Guarded ds (Some g) spare n m g v
+  pub guarded : (cs ds : List (Cell Links B)) (guard : Option NodePointer) (spare : Link) (n m : ℕ) (g : NodePointer) (v : State B) → HasGuard guard cs ds g → RingOk cs guard spare n m → state (ring_list cs guard n) m ≡ v → Guarded ds (Some g) spare n m g v
   guarded cs ds None spare n m g v h ok w = guard_made cs ds None spare n m g v refl ok w h
   guarded cs ds (Some k) spare n m g v h ok w =
-      let P : (List (Cell Links B) × Place) → Type 0 = λ z. Guarded z.0 (Some z.1) spare n m z.1 v in
+      let P : (List (Cell Links B) × NodePointer) → Type 0 = λ z. Guarded z.0 (Some z.1) spare n m z.1 v in
       subst P (λ i. (sym h.0 i, sym h.1 i)) (record { is = refl; ok = ok; view = w })
 
-  pub guard_same : (cs ds : List (Cell Links B)) (guard : Option Place) (g : Place) → HasGuard guard cs ds g → IfSome guard (λ h. h ≡ g)
+  pub guard_same : (cs ds : List (Cell Links B)) (guard : Option NodePointer) (g : NodePointer) → HasGuard guard cs ds g → IfSome guard (λ h. h ≡ g)
   guard_same cs ds None g h = tt
   guard_same cs ds (Some k) g h = sym h.1
 
   -- a guard that was made is alone
-  pub guard_alone : (cs ds : List (Cell Links B)) (guard : Option Place) (g : Place) → HasGuard guard cs ds g → guard ≡ None → IsRing ds g.ptr [] None []
+  pub guard_alone : (cs ds : List (Cell Links B)) (guard : Option NodePointer) (g : NodePointer) → HasGuard guard cs ds g → guard ≡ None → IsRing ds g.ptr [] None []
   guard_alone cs ds None g h e = h
   guard_alone cs ds (Some k) g h e = absurd (some_none k e)
 
   -- the nodes are as before, once a guard that was made is freed
-  pub ungrown : (cs ds es : List (Cell Links B)) (guard : Option Place) (spare : Link) (n m : ℕ) (g : Place) → HasGuard guard cs ds g → RingOk cs guard spare n m → (guard ≡ None → es ≡ []) → (IsSome guard → es ≡ ds) → es ≡ cs
+  pub ungrown : (cs ds es : List (Cell Links B)) (guard : Option NodePointer) (spare : Link) (n m : ℕ) (g : NodePointer) → HasGuard guard cs ds g → RingOk cs guard spare n m → (guard ≡ None → es ≡ []) → (IsSome guard → es ≡ ds) → es ≡ cs
   ungrown cs ds es None spare n m g h ok none some = none refl ∙ sym ok.0
   ungrown cs ds es (Some k) spare n m g h ok none some = some refl ∙ h.0
 
-  pub grown_ring : (cs ds : List (Cell Links B)) (g : Place) (spare f : Link) (n m k : ℕ) → RingOk cs (Some g) spare n m → IsStacked cs g spare k ds f → IsApart (places ds) → n + m + k ≤ 2 ^ 57 → RingOk ds (Some g) f n (m + k)
+  pub grown_ring : (cs ds : List (Cell Links B)) (g : NodePointer) (spare f : Link) (n m k : ℕ) → RingOk cs (Some g) spare n m → IsStacked cs g spare k ds f → IsApart (pointers ds) → n + m + k ≤ 2 ^ 57 → RingOk ds (Some g) f n (m + k)
   grown_ring cs ds g spare f n m k ok s d small =
       let t = stacked k cs g spare ds f ok.0 ok.1 s d ok.2 in let long = t.2 in let wide = ok.4 in (ok.0, t.0, t.1, ok.3, omega arith, omega arith)
 
-  pub grown_list : (cs ds : List (Cell Links B)) (g : Place) (spare f : Link) (n m k : ℕ) → RingOk cs (Some g) spare n m → IsStacked cs g spare k ds f → IsApart (places ds) → ring_list ds (Some g) n ≡ ring_list cs (Some g) n
+  pub grown_list : (cs ds : List (Cell Links B)) (g : NodePointer) (spare f : Link) (n m k : ℕ) → RingOk cs (Some g) spare n m → IsStacked cs g spare k ds f → IsApart (pointers ds) → ring_list ds (Some g) n ≡ ring_list cs (Some g) n
   grown_list cs ds g spare f n m k ok s d =
       let t = stacked k cs g spare ds f ok.0 ok.1 s d ok.2 in ring_listed ds g.ptr ok.0 (target f) t.0 n t.1 ok.3 ∙ t.3 ∙ sym (ring_listed cs g.ptr ok.0 (target spare) ok.1 n ok.2 ok.3)

@@ -18,10 +18,10 @@ use Rattle.lhm_ring.proofs.Options.{none_some}
 module _ {V : Type 0} where
   pub record CutValue (cs : List (Ptr × V)) (p : Ptr) (v : V) : Type 0 where
     pub before : List (Ptr × V)
-    pub place : Ptr
+    pub pointer : Ptr
     pub after : List (Ptr × V)
-    pub whole : cs ≡ before ++ (place, v) ∷ after
-    pub at : place ≡ p
+    pub whole : cs ≡ before ++ (pointer, v) ∷ after
+    pub at : pointer ≡ p
     pub taken : without_value p cs ≡ before ++ after
 
   some_is : (v w : V) → Some v ≡ Some w → v ≡ w
@@ -34,7 +34,7 @@ module _ {V : Type 0} where
       (elim (same_ptr c.0 p) as (λ y. same_ptr c.0 p ≡ y → CutValue (c ∷ cs) p v) [
         | true ↦ λ t. record {
           before = [];
-          place = c.0;
+          pointer = c.0;
           after = cs;
           whole = ap (λ z. (c.0, z) ∷ cs) (some_is c.1 v (sym (ap (λ y. cond y (Some c.1) (value_at cs p)) t) ∙ e));
           at = same_ptr_eq c.0 p t;
@@ -42,7 +42,7 @@ module _ {V : Type 0} where
         }
         | false ↦ λ t. let on = cut_value cs p v (sym (ap (λ y. cond y (Some c.1) (value_at cs p)) t) ∙ e) in record {
           before = c ∷ on.before;
-          place = on.place;
+          pointer = on.pointer;
           after = on.after;
           whole = ap (λ xs. c ∷ xs) on.whole;
           at = on.at;

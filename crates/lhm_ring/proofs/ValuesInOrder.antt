@@ -12,8 +12,8 @@ use Rattle.lhm_ring.proofs.Rows.{apart_head, apart_tail}
 use Rattle.lhm_ring.proofs.ValuesReplaced.{among, lent, lent_then, run_of, taken, value_in, revalued_by}
 
 module _ {K V : Type 0} where
-  abbrev pub places_of : List (Held (K × V)) → List Ptr
-  places_of = map (λ t. t.at)
+  abbrev pub pointers_of : List (Held (K × V)) → List Ptr
+  pointers_of = map (λ t. t.at)
 
   pub unvalued-set_held_values : (hs : List (Held (K × V))) (vs : List V) → map unvalued (set_held_values hs vs) ≡ map unvalued hs
   unvalued-set_held_values [] vs = refl
@@ -35,7 +35,7 @@ module _ {K V : Type 0} where
   pub still_at : (us ts : List (Held (K × V))) (p : Ptr) → map unvalued us ≡ map unvalued ts → (P : Held K → Type 0) → AtHeld us p (λ xs t ys. P (unvalued t)) → AtHeld ts p (λ xs t ys. P (unvalued t))
   still_at us ts p e P a xs t ys q at = let k = cut_unvalued us xs t ys (e ∙ ap (map unvalued) q) in subst P k.4 (a k.0 k.1 k.2 k.3 (ap (λ z. z.at) k.4 ∙ at))
 
-  -- the own values of what is held, and those that another list has at its places
+  -- the own values of what is held, and those that another list has at its pointers
   pub set_held_values-own : (hs : List (Held (K × V))) → set_held_values hs (held_values hs) ≡ hs
   set_held_values-own [] = refl
   set_held_values-own (t ∷ hs) = ap (λ us. t ∷ us) (set_held_values-own hs)
@@ -44,24 +44,24 @@ module _ {K V : Type 0} where
   set_held_values-by ks [] = refl
   set_held_values-by ks (t ∷ hs) = ap (λ us. revalued (value_in ks t.at t.pair.1) t ∷ us) (set_held_values-by ks hs)
 
-  by_skip : (x : Held (K × V)) (ks hs : List (Held (K × V))) → IsFresh x.at (places_of hs) → revalued_by (x ∷ ks) hs ≡ revalued_by ks hs
+  by_skip : (x : Held (K × V)) (ks hs : List (Held (K × V))) → IsFresh x.at (pointers_of hs) → revalued_by (x ∷ ks) hs ≡ revalued_by ks hs
   by_skip x ks [] f = refl
   by_skip x ks (t ∷ hs) f = λ i. revalued (cond (f.0 i) x.pair.1 (value_in ks t.at t.pair.1)) t ∷ by_skip x ks hs f.1 i
 
-  by_own : (hs : List (Held (K × V))) → IsApart (places_of hs) → revalued_by hs hs ≡ hs
+  by_own : (hs : List (Held (K × V))) → IsApart (pointers_of hs) → revalued_by hs hs ≡ hs
   by_own [] d = refl
   by_own (t ∷ hs) d =
-      let on = by_skip t hs hs (apart_head t.at (places_of hs) d) ∙ by_own hs (apart_tail t.at (places_of hs) d) in
+      let on = by_skip t hs hs (apart_head t.at (pointers_of hs) d) ∙ by_own hs (apart_tail t.at (pointers_of hs) d) in
       λ i. revalued (cond (same_ptr_refl t.at i) t.pair.1 (value_in hs t.at t.pair.1)) t ∷ on i
 
-  pub revalued_by-set_held_values : (hs : List (Held (K × V))) (vs : List V) → IsApart (places_of hs) → revalued_by (set_held_values hs vs) hs ≡ set_held_values hs vs
+  pub revalued_by-set_held_values : (hs : List (Held (K × V))) (vs : List V) → IsApart (pointers_of hs) → revalued_by (set_held_values hs vs) hs ≡ set_held_values hs vs
   revalued_by-set_held_values [] vs d = refl
   revalued_by-set_held_values (t ∷ hs) [] d = by_own (t ∷ hs) d
   revalued_by-set_held_values (t ∷ hs) (v ∷ vs) d =
-      let on = by_skip (revalued v t) (set_held_values hs vs) hs (apart_head t.at (places_of hs) d) ∙ revalued_by-set_held_values hs vs (apart_tail t.at (places_of hs) d) in
+      let on = by_skip (revalued v t) (set_held_values hs vs) hs (apart_head t.at (pointers_of hs) d) ∙ revalued_by-set_held_values hs vs (apart_tail t.at (pointers_of hs) d) in
       λ i. revalued (cond (same_ptr_refl t.at i) v (value_in (set_held_values hs vs) t.at t.pair.1)) t ∷ on i
 
-  -- an entry has the value that the list has at its place
+  -- an entry has the value that the list has at its pointer
   abbrev pub HasOwnValue : List (Held (K × V)) → Ptr × (K × V) → Type 0
   HasOwnValue hs c = value_in hs c.0 c.1.1 ≡ c.1.1
 
@@ -96,15 +96,15 @@ module _ {K V : Type 0} where
   taken-own hs [] own = refl
   taken-own hs (c ∷ es) own = λ i. own.0 i ∷ taken-own hs es own.1 i
 
-  value_by : (ks hs : List (Held (K × V))) (p : Ptr) (v : V) → among (places_of hs) p ≡ true → value_in (revalued_by ks hs) p v ≡ value_in ks p (value_in hs p v)
+  value_by : (ks hs : List (Held (K × V))) (p : Ptr) (v : V) → among (pointers_of hs) p ≡ true → value_in (revalued_by ks hs) p v ≡ value_in ks p (value_in hs p v)
   value_by ks [] p v is = absurd (true≢false (sym is))
   value_by ks (t ∷ hs) p v is =
       (elim (same_ptr t.at p) as (λ y. same_ptr t.at p ≡ y → cond y (value_in ks t.at t.pair.1) (value_in (revalued_by ks hs) p v) ≡ value_in ks p (cond y t.pair.1 (value_in hs p v))) [
         | true ↦ λ s. ap (λ q. value_in ks q t.pair.1) (same_ptr_eq t.at p s)
-        | false ↦ λ s. value_by ks hs p v (sym (ap (λ y. cond y true (among (places_of hs) p)) (same_ptr_symm p t.at ∙ s)) ∙ is)
+        | false ↦ λ s. value_by ks hs p v (sym (ap (λ y. cond y true (among (pointers_of hs) p)) (same_ptr_symm p t.at ∙ s)) ∙ is)
       ]) refl
 
-  pub taken-by : (ks hs : List (Held (K × V))) (es : List (Ptr × (K × V))) → AllByRecursion (HasOwnValue hs) es → AllByRecursion (λ c. among (places_of hs) c.0 ≡ true) es → taken (revalued_by ks hs) es ≡ taken ks es
+  pub taken-by : (ks hs : List (Held (K × V))) (es : List (Ptr × (K × V))) → AllByRecursion (HasOwnValue hs) es → AllByRecursion (λ c. among (pointers_of hs) c.0 ≡ true) es → taken (revalued_by ks hs) es ≡ taken ks es
   taken-by ks hs [] own in_ring = refl
   taken-by ks hs (c ∷ es) own in_ring =
       let one = value_by ks hs c.0 c.1.1 in_ring.0 ∙ ap (value_in ks c.0) own.0 in

@@ -3,11 +3,11 @@ use Rattle.std.proofs.Common.{◌≡◌, ℕ, suc, zero, Bool, true, false, cond
 use Rattle.std.specs.Prelude.{◌==◌}
 use Rattle.std.specs.List.{AllByRecursion}
 use denote.RawPtr.{Ptr}
-use Rattle.lhm_ring.specs.declared.block.Place.{Place}
+use Rattle.lhm_ring.specs.declared.block.NodePointer.{NodePointer}
 use Rattle.lhm_ring.specs.declared.links.Links.{Links}
-use Rattle.lhm_ring.specs.Cells.{Cell, cell, cell_at, same_ptr, IsApart, places, links_of, body_of, links_at, body_at}
+use Rattle.lhm_ring.specs.Cells.{Cell, cell, cell_at, same_ptr, IsApart, pointers, links_of, body_of, links_at, body_at}
 use Rattle.lhm_ring.specs.ValueLoan.{value_at}
-use Rattle.lhm_ring.specs.Rings.{one_of, next_of, prev_of, link_of, guard_of, has_links, link_at, is_there, content_of, content_at, Linked, Chained, HasContent, IsRing, follow, listed, ring_list, ring_places, RingOk, is_guard}
+use Rattle.lhm_ring.specs.Rings.{one_of, next_of, prev_of, link_of, guard_of, has_links, link_at, is_there, content_of, content_at, Linked, Chained, HasContent, IsRing, follow, listed, ring_list, ring_pointers, RingOk, is_guard}
 use Rattle.lhm_ring.specs.RingState.{State, state, Held, held}
 use Rattle.lhm_ring.specs.RingAfterLoan.{pair, revalued}
 use Rattle.lhm_ring.specs.Walks.{IsBetween, AreLent}
@@ -15,16 +15,16 @@ use Rattle.lhm_ring.specs.Targets.{target}
 use Rattle.lhm_ring.specs.declared.link.Link.{Link}
 use Rattle.lhm_ring.proofs.Apart.{IsFresh, same_ptr_eq, same_ptr_refl, apart_none}
 use Rattle.lhm_ring.proofs.Options.{none_some, some_same}
-use Rattle.lhm_ring.proofs.Rows.{all_from, content_place, follow_row, apart_left, apart_head, apart_tail, apart_cons}
+use Rattle.lhm_ring.proofs.Rows.{all_from, content_pointer, follow_row, apart_left, apart_head, apart_tail, apart_cons}
 use Rattle.lhm_ring.proofs.OneNodeChanged.{content_holds, content_pair, content_guard}
 
 module _ {B : Type 0} where
-  pub whole_ring : (cs : List (Cell Links B)) (guard : Option Place) (spare : Link) (g : Place) (n m : ℕ) → guard ≡ Some g → RingOk cs guard spare n m → IsBetween cs g.ptr g.ptr n
+  pub whole_ring : (cs : List (Cell Links B)) (guard : Option NodePointer) (spare : Link) (g : NodePointer) (n m : ℕ) → guard ≡ Some g → RingOk cs guard spare n m → IsBetween cs g.ptr g.ptr n
   whole_ring cs guard spare g n m e ok =
       let o : RingOk cs (Some g) spare n m = subst (λ z. RingOk cs z spare n m) e ok in
       (o.0, o.3, o.2.held, apart_left o.0 o.1 (apart_tail g.ptr (o.0 ++ o.1) o.2.apart), λ z. (o.2.linked, o.2.there.0, o.2.there.0))
 
-  pub nothing_held : (cs : List (Cell Links B)) (guard : Option Place) (n m : ℕ) (v : State B) → guard ≡ None → state (ring_list cs guard n) m ≡ v → [] ≡ v.held
+  pub nothing_held : (cs : List (Cell Links B)) (guard : Option NodePointer) (n m : ℕ) (v : State B) → guard ≡ None → state (ring_list cs guard n) m ≡ v → [] ≡ v.held
   nothing_held cs guard n m v e w = ap (λ z. ring_list cs z n) (sym e) ∙ ap (λ (s : State B). s.held) w
 
 -- whether p is one of ps
@@ -44,7 +44,7 @@ abbrev pub value_in : {K V : Type 0} → List (Held (K × V)) → Ptr → V → 
 value_in [] p v = v
 value_in (t ∷ hs) p v = cond (same_ptr t.at p) t.pair.1 (value_in hs p v)
 
--- what is held, each with the value that hs has at its place
+-- what is held, each with the value that hs has at its pointer
 abbrev pub revalued_by : {K V : Type 0} → List (Held (K × V)) → List (Held (K × V)) → List (Held (K × V))
 revalued_by hs = map (λ t. revalued (value_in hs t.at t.pair.1) t)
 
@@ -74,30 +74,30 @@ module _ {K V : Type 0} where
   body_none true hs q = refl
 
 module _ {L K V : Type 0} where
-  -- what the nodes hold whose places pass the test, each with its place
+  -- what the nodes hold whose pointers pass the test, each with its pointer
   abbrev pub lent : (Ptr → Bool) → List (Cell L (K × V)) → List (Ptr × (K × V))
   lent keep [] = []
   lent keep (c ∷ cs) = lent_then (keep c.at) c.at c.body (lent keep cs)
 
-  -- the same nodes, of which those that pass the test have the values that hs has at their places
+  -- the same nodes, of which those that pass the test have the values that hs has at their pointers
   abbrev pub written : (Ptr → Bool) → List (Held (K × V)) → List (Cell L (K × V)) → List (Cell L (K × V))
   written keep hs = map (λ c. cell c.at c.links (written_body (keep c.at) hs c.at c.body))
 
-  pub places_written : (keep : Ptr → Bool) (hs : List (Held (K × V))) (cs : List (Cell L (K × V))) → places (written keep hs cs) ≡ places cs
-  places_written keep hs [] = refl
-  places_written keep hs (c ∷ cs) = ap (λ ps. c.at ∷ ps) (places_written keep hs cs)
+  pub pointers_written : (keep : Ptr → Bool) (hs : List (Held (K × V))) (cs : List (Cell L (K × V))) → pointers (written keep hs cs) ≡ pointers cs
+  pointers_written keep hs [] = refl
+  pointers_written keep hs (c ∷ cs) = ap (λ ps. c.at ∷ ps) (pointers_written keep hs cs)
 
   pub length_written : (keep : Ptr → Bool) (hs : List (Held (K × V))) (cs : List (Cell L (K × V))) → length (written keep hs cs) ≡ length cs
   length_written keep hs [] = refl
   length_written keep hs (c ∷ cs) = ap suc (length_written keep hs cs)
 
-  fresh_lent : (q : Ptr) (keep : Ptr → Bool) (cs : List (Cell L (K × V))) → IsFresh q (places cs) → IsFresh q (map (λ c. c.0) (lent keep cs))
+  fresh_lent : (q : Ptr) (keep : Ptr → Bool) (cs : List (Cell L (K × V))) → IsFresh q (pointers cs) → IsFresh q (map (λ c. c.0) (lent keep cs))
   fresh_lent q keep [] f = tt
   fresh_lent q keep (c ∷ cs) f = fresh_then q (keep c.at) c.at c.body (lent keep cs) f.0 (fresh_lent q keep cs f.1)
 
-  pub apart_lent : (keep : Ptr → Bool) (cs : List (Cell L (K × V))) → IsApart (places cs) → IsApart (map (λ c. c.0) (lent keep cs))
+  pub apart_lent : (keep : Ptr → Bool) (cs : List (Cell L (K × V))) → IsApart (pointers cs) → IsApart (map (λ c. c.0) (lent keep cs))
   apart_lent keep [] d = apart_none
-  apart_lent keep (c ∷ cs) d = apart_then (keep c.at) c.at c.body (lent keep cs) (fresh_lent c.at keep cs (apart_head c.at (places cs) d)) (apart_lent keep cs (apart_tail c.at (places cs) d))
+  apart_lent keep (c ∷ cs) d = apart_then (keep c.at) c.at c.body (lent keep cs) (fresh_lent c.at keep cs (apart_head c.at (pointers cs) d)) (apart_lent keep cs (apart_tail c.at (pointers cs) d))
 
   links_written : (keep : Ptr → Bool) (hs : List (Held (K × V))) (cs : List (Cell L (K × V))) (q : Ptr) → links_at (written keep hs cs) q ≡ links_at cs q
   unfolding cell_at
@@ -118,11 +118,11 @@ module _ {L K V : Type 0} where
       ]) refl
 
 module _ {K V : Type 0} where
-  -- the values at the places of r, as hs has them
+  -- the values at the pointers of r, as hs has them
   abbrev pub taken : List (Held (K × V)) → List (Ptr × (K × V)) → List V
   taken hs = map (λ c. value_in hs c.0 c.1.1)
 
-  -- the values ws at the places of r
+  -- the values ws at the pointers of r
   abbrev pub listing : List (Ptr × (K × V)) → List V → List (Held (K × V))
   listing [] ws = []
   listing (c ∷ r) [] = []
@@ -214,31 +214,31 @@ module _ {K V : Type 0} where
         ap (λ o. one_of o ++ listed ds ps) (content_is p ∙ ap (λ k. content_of p (links_at cs p) (written_body k hs p (body_at cs p))) a.0)
         ∙ one_written hs p (links_at cs p) (body_at cs p) (listed ds ps) (listed cs ps) (listed_written ps a.1)
 
-    ring_ok_written : (guard : Option Place) (spare : Link) (n m : ℕ) → RingOk cs guard spare n m → RingOk ds guard spare n m
+    ring_ok_written : (guard : Option NodePointer) (spare : Link) (n m : ℕ) → RingOk cs guard spare n m → RingOk ds guard spare n m
     ring_ok_written None spare n m ok = (ap (written keep hs) ok.0, ok.1, ok.2, ok.3)
     ring_ok_written (Some g) spare n m ok = (ok.0, ok.1, ring_same g.ptr ok.0 (target spare) ok.1 ok.2, ok.3, ok.4, ok.5)
 
-    ring_list_by : (guard : Option Place) (n : ℕ) → AllByRecursion (λ p. keep p ≡ true) (ring_places cs guard n) → ring_list ds guard n ≡ revalued_by hs (ring_list cs guard n)
+    ring_list_by : (guard : Option NodePointer) (n : ℕ) → AllByRecursion (λ p. keep p ≡ true) (ring_pointers cs guard n) → ring_list ds guard n ≡ revalued_by hs (ring_list cs guard n)
     ring_list_by None n a = refl
     ring_list_by (Some g) n a = ap (listed ds) (follow_same n g.ptr) ∙ listed_written (follow cs n g.ptr) a
 
-  -- the values that the ring holds, each with its place
-  abbrev pub held_entries : List (Cell Links (K × V)) → Option Place → ℕ → List (Ptr × (K × V))
-  held_entries cs guard n = lent (among (ring_places cs guard n)) cs
+  -- the values that the ring holds, each with its pointer
+  abbrev pub held_entries : List (Cell Links (K × V)) → Option NodePointer → ℕ → List (Ptr × (K × V))
+  held_entries cs guard n = lent (among (ring_pointers cs guard n)) cs
 
-  -- the nodes, where the ring holds the values that hs has at their places
-  abbrev pub held_written : List (Cell Links (K × V)) → Option Place → ℕ → List (Held (K × V)) → List (Cell Links (K × V))
-  held_written cs guard n hs = written (among (ring_places cs guard n)) hs cs
+  -- the nodes, where the ring holds the values that hs has at their pointers
+  abbrev pub held_written : List (Cell Links (K × V)) → Option NodePointer → ℕ → List (Held (K × V)) → List (Cell Links (K × V))
+  held_written cs guard n hs = written (among (ring_pointers cs guard n)) hs cs
 
-  module _ (cs : List (Cell Links (K × V))) (guard : Option Place) (spare : Link) (n m : ℕ) (hs : List (Held (K × V))) where
+  module _ (cs : List (Cell Links (K × V))) (guard : Option NodePointer) (spare : Link) (n m : ℕ) (hs : List (Held (K × V))) where
     abbrev keeps : Ptr → Bool
-    keeps = among (ring_places cs guard n)
+    keeps = among (ring_pointers cs guard n)
 
     pub still_ring : RingOk cs guard spare n m → RingOk (held_written cs guard n hs) guard spare n m
     still_ring = ring_ok_written keeps hs cs guard spare n m
 
     pub list_written : ring_list (held_written cs guard n hs) guard n ≡ revalued_by hs (ring_list cs guard n)
-    list_written = ring_list_by keeps hs cs guard n (among_all (ring_places cs guard n))
+    list_written = ring_list_by keeps hs cs guard n (among_all (ring_pointers cs guard n))
 
 -- the values of what is held are all lent at first
 module _ {K V : Type 0} where
@@ -272,32 +272,32 @@ module _ {K V : Type 0} where
     one_lent p h k =
         let x = content_holds p (links_at cs p) (body_at cs p) h.0 h.1 in
         let same : h.0.pair ≡ x.0 = content_pair p (links_at cs p) x.0 h.0 (ap (λ o. content_of p (links_at cs p) o) (sym x.1) ∙ h.1) in
-        ap (value_at (run_of (lent keep cs))) (content_place p (links_at cs p) (body_at cs p) h.0 h.1) ∙ value_found keep cs p x.0 k x.1 ∙ ap (λ (u : K × V). Some u.1) (sym same)
+        ap (value_at (run_of (lent keep cs))) (content_pointer p (links_at cs p) (body_at cs p) h.0 h.1) ∙ value_found keep cs p x.0 k x.1 ∙ ap (λ (u : K × V). Some u.1) (sym same)
 
     each_lent : (ps : List Ptr) → AllByRecursion (HasContent cs) ps → AllByRecursion (λ p. keep p ≡ true) ps → AllByRecursion (λ t. value_at (run_of (lent keep cs)) t.at ≡ Some t.pair.1) (listed cs ps)
     unfolding listed
     each_lent [] a k = tt
     each_lent (p ∷ ps) a k = subst (λ o. AllByRecursion (λ t. value_at (run_of (lent keep cs)) t.at ≡ Some t.pair.1) (one_of o ++ listed cs ps)) (sym a.0.1) (one_lent p a.0 k.0, each_lent ps a.1 k.1)
 
-  places_listed : (cs : List (Cell Links (K × V))) (ps : List Ptr) → AllByRecursion (HasContent cs) ps → map (λ (t : Held (K × V)). t.at) (listed cs ps) ≡ ps
+  pointers_listed : (cs : List (Cell Links (K × V))) (ps : List Ptr) → AllByRecursion (HasContent cs) ps → map (λ (t : Held (K × V)). t.at) (listed cs ps) ≡ ps
   unfolding listed
-  places_listed cs [] a = refl
-  places_listed cs (p ∷ ps) a = ap (λ o. map (λ (t : Held (K × V)). t.at) (one_of o ++ listed cs ps)) a.0.1 ∙ (λ i. content_place p (links_at cs p) (body_at cs p) a.0.0 a.0.1 i ∷ places_listed cs ps a.1 i)
+  pointers_listed cs [] a = refl
+  pointers_listed cs (p ∷ ps) a = ap (λ o. map (λ (t : Held (K × V)). t.at) (one_of o ++ listed cs ps)) a.0.1 ∙ (λ i. content_pointer p (links_at cs p) (body_at cs p) a.0.0 a.0.1 i ∷ pointers_listed cs ps a.1 i)
 
-  pub all_lent : (cs : List (Cell Links (K × V))) (guard : Option Place) (spare : Link) (n m : ℕ) → RingOk cs guard spare n m → AreLent (run_of (held_entries cs guard n)) (ring_list cs guard n)
+  pub all_lent : (cs : List (Cell Links (K × V))) (guard : Option NodePointer) (spare : Link) (n m : ℕ) → RingOk cs guard spare n m → AreLent (run_of (held_entries cs guard n)) (ring_list cs guard n)
   all_lent cs None spare n m ok = (tt, apart_none)
   all_lent cs (Some g) spare n m ok =
       let is : ok.0 ≡ follow cs n g.ptr = sym (ap (λ k. follow cs k g.ptr) (sym ok.3) ∙ follow_row cs g.ptr ok.0 g.ptr ok.2.linked) in
       let has : AllByRecursion (HasContent cs) (follow cs n g.ptr) = subst (AllByRecursion (HasContent cs)) is ok.2.held in (
         each_lent (among (follow cs n g.ptr)) cs (follow cs n g.ptr) has (among_all (follow cs n g.ptr)),
-        subst IsApart (sym (places_listed cs (follow cs n g.ptr) has)) (subst IsApart is (apart_left ok.0 ok.1 (apart_tail g.ptr (ok.0 ++ ok.1) ok.2.apart))),
+        subst IsApart (sym (pointers_listed cs (follow cs n g.ptr) has)) (subst IsApart is (apart_left ok.0 ok.1 (apart_tail g.ptr (ok.0 ++ ok.1) ok.2.apart))),
       )
 
-  pub held_places : (cs : List (Cell Links (K × V))) (guard : Option Place) (spare : Link) (n m : ℕ) → RingOk cs guard spare n m → map (λ (t : Held (K × V)). t.at) (ring_list cs guard n) ≡ ring_places cs guard n
-  held_places cs None spare n m ok = refl
-  held_places cs (Some g) spare n m ok =
+  pub held_pointers : (cs : List (Cell Links (K × V))) (guard : Option NodePointer) (spare : Link) (n m : ℕ) → RingOk cs guard spare n m → map (λ (t : Held (K × V)). t.at) (ring_list cs guard n) ≡ ring_pointers cs guard n
+  held_pointers cs None spare n m ok = refl
+  held_pointers cs (Some g) spare n m ok =
       let is : ok.0 ≡ follow cs n g.ptr = sym (ap (λ k. follow cs k g.ptr) (sym ok.3) ∙ follow_row cs g.ptr ok.0 g.ptr ok.2.linked) in
-      places_listed cs (follow cs n g.ptr) (subst (AllByRecursion (HasContent cs)) is ok.2.held)
+      pointers_listed cs (follow cs n g.ptr) (subst (AllByRecursion (HasContent cs)) is ok.2.held)
 
-  pub ring_apart : (cs : List (Cell Links (K × V))) (guard : Option Place) (spare : Link) (n m : ℕ) (v : State (K × V)) → RingOk cs guard spare n m → state (ring_list cs guard n) m ≡ v → IsApart (map (λ (t : Held (K × V)). t.at) v.held)
+  pub ring_apart : (cs : List (Cell Links (K × V))) (guard : Option NodePointer) (spare : Link) (n m : ℕ) (v : State (K × V)) → RingOk cs guard spare n m → state (ring_list cs guard n) m ≡ v → IsApart (map (λ (t : Held (K × V)). t.at) v.held)
   ring_apart cs guard spare n m v ok w = subst (λ (s : State (K × V)). IsApart (map (λ t. t.at) s.held)) w (all_lent cs guard spare n m ok).1

@@ -1,5 +1,5 @@
 -- A ring is cut into its values and the rest, and made of them again. Assumes `Logic`.
---     entries are what the ring holds, each with its place (`ValuesReplaced.antt`'s `lent`)
+--     entries are what the ring holds, each with its pointer (`ValuesReplaced.antt`'s `lent`)
 --     nodes_cut, nodes_mend      the values of the nodes that pass the test are taken out, and others are put in their places
 --     Thin      the nodes but for those values, as a type: what a `&` to nodes of holes shows is what a `&` to it shows
 --     ring_cut, ring_mend      the same of a whole ring in memory
@@ -43,7 +43,7 @@ use Rattle.lhm_ring.specs.RingState.{State, Held, state}
 use Rattle.std.specs.List.{AllByRecursion}
 use Rattle.lhm_ring.specs.RingAfterLoan.{held_values, set_held_values}
 use Rattle.lhm_ring.specs.Walks.{AreLent}
-use Rattle.lhm_ring.specs.Rings.{ring_places}
+use Rattle.lhm_ring.specs.Rings.{ring_pointers}
 use Rattle.lhm_ring.specs.contracts.links.Links as links
 use Rattle.lhm_ring.specs.contracts.value_loan.Hole as H-type
 use Rattle.lhm_ring.specs.contracts.value_loan.ValueLoan as L-type
@@ -52,16 +52,16 @@ use Rattle.lhm_ring.specs.contracts.ring.Ring as R-type
 use Rattle.lhm_ring.specs.contracts.ring.Ring.TheInside as I-type
 use Rattle.lhm_ring.specs.declared.ring.Ring.TheInside as D-type
 use Rattle.lhm_ring.proofs.Memory.{mark}
-use Rattle.lhm_ring.proofs.ValuesReplaced.{lent_then, lent, written_body, written, taken, listing, run_of, places_written, taken_listing, apart_lent, among, revalued_by, held_entries, still_ring, list_written, all_lent, held_places}
-use Rattle.lhm_ring.proofs.ValuesInOrder.{places_of, HasOwnValue, own_values, taken-own, taken-by, all_kept, set_held_values-own, set_held_values-by, revalued_by-set_held_values}
+use Rattle.lhm_ring.proofs.ValuesReplaced.{lent_then, lent, written_body, written, taken, listing, run_of, pointers_written, taken_listing, apart_lent, among, revalued_by, held_entries, still_ring, list_written, all_lent, held_pointers}
+use Rattle.lhm_ring.proofs.ValuesInOrder.{pointers_of, HasOwnValue, own_values, taken-own, taken-by, all_kept, set_held_values-own, set_held_values-by, revalued_by-set_held_values}
 use Rattle.lhm_ring.proofs.Sharing.{cells_lent_laws}
 
 module _ (R S W : RattleType) where
   abbrev pub Node : Type 0
   Node = Cell R.Denot (S.Denot × W.Denot)
 
-  abbrev pub at_places : List (Ptr × (S.Denot × W.Denot)) → List Ptr
-  at_places r = map (λ c. value_of R S W c.0) (run_of r)
+  abbrev pub at_pointers : List (Ptr × (S.Denot × W.Denot)) → List Ptr
+  at_pointers r = map (λ c. value_of R S W c.0) (run_of r)
 
   abbrev pub vals : List (Ptr × (S.Denot × W.Denot)) → List W.Denot
   vals r = map (λ c. c.1) (run_of r)
@@ -95,7 +95,7 @@ module _ (R S W : RattleType) {M : Type 1} {𝓤 : Ura M} (𝓛 : Logic 𝓤) wh
   Entries = List (Ptr × (S.Denot × W.Denot))
 
   abbrev Spr : Entries → List W.Denot → Fml
-  Spr r ws = spread W (at_places R S W r) ws
+  Spr r ws = spread W (at_pointers R S W r) ws
 
   abbrev Cells : List (Node R S W) → Fml
   Cells = cells_own R S W
@@ -210,22 +210,22 @@ module _ (S W : RattleType) where
       abbrev passed : List (Ptr × (S.Denot × W.Denot))
       passed = lent keep a.nodes.cells
 
-      pub ring_cut : ent 𝓤 (sem 𝓛 (part_at Full full_share a b o)) (sep 𝓤 (sem 𝓛 (spread W (at_places R S W passed) (vals R S W passed))) (sem 𝓛 (part_at Thinned full_share (thinned a) b o)))
+      pub ring_cut : ent 𝓤 (sem 𝓛 (part_at Full full_share a b o)) (sep 𝓤 (sem 𝓛 (spread W (at_pointers R S W passed) (vals R S W passed))) (sem 𝓛 (part_at Thinned full_share (thinned a) b o)))
       unfolding part_of
       ring_cut = qed 𝓛 (‵ (part_at Full full_share a b o) ∷ []) ∵ fpick ! (λ vs. fsplit ! $ move ! (1 ∷ []) $ fpick ! (λ vss. fsplit ! $ move ! (1 ∷ []) $ fsplit ! $ fsplit ! $
           -- [the mark; the nodes; the other fields; the value; the cell]
-          move ! (1 ∷ []) $ use1 𝓛 (‵ (spread W (at_places R S W passed) (vals R S W passed)) ⊛ ‵ (frames R S W keep a.nodes.cells)) (nodes_cut R S W 𝓛 keep a.nodes.cells) $ split ! $
+          move ! (1 ∷ []) $ use1 𝓛 (‵ (spread W (at_pointers R S W passed) (vals R S W passed)) ⊛ ‵ (frames R S W keep a.nodes.cells)) (nodes_cut R S W 𝓛 keep a.nodes.cells) $ split ! $
           move ! (2 ∷ 1 ∷ []) $ fjoin ! $ move ! (0 ∷ 2 ∷ []) $ fjoin ! $ move ! (2 ∷ 0 ∷ []) $ fjoin ! $
           fpack ! (Valss (rows parts)) (within thin_shape (thinned a) vs) vss $ move ! (2 ∷ 0 ∷ []) $ fjoin ! $
           fpack ! (List Val) (λ us. fsep (cell_raw full_share (raw_all Thinned.mir) us b o) (Thinned.own_val (thinned a) us)) vs $ move ! (1 ∷ []) $ done !))
 
       module _ (hs : List (Held (S.Denot × W.Denot))) where
         abbrev pub mended : Inside
-        mended = record a { nodes = record { mark = a.nodes.mark; cells = written keep hs a.nodes.cells; apart = subst IsApart (sym (places_written keep hs a.nodes.cells)) a.nodes.apart; blocks = subst AreBlocks (sym (places_written keep hs a.nodes.cells)) a.nodes.blocks } }
+        mended = record a { nodes = record { mark = a.nodes.mark; cells = written keep hs a.nodes.cells; apart = subst IsApart (sym (pointers_written keep hs a.nodes.cells)) a.nodes.apart; blocks = subst AreBlocks (sym (pointers_written keep hs a.nodes.cells)) a.nodes.blocks } }
 
-        pub ring_mend : ent 𝓤 (sep 𝓤 (sem 𝓛 (spread W (at_places R S W passed) (taken hs passed))) (sem 𝓛 (part_at Thinned full_share (thinned a) b o))) (sem 𝓛 (part_at Full full_share mended b o))
+        pub ring_mend : ent 𝓤 (sep 𝓤 (sem 𝓛 (spread W (at_pointers R S W passed) (taken hs passed))) (sem 𝓛 (part_at Thinned full_share (thinned a) b o))) (sem 𝓛 (part_at Full full_share mended b o))
         unfolding part_of
-        ring_mend = qed 𝓛 (‵ (spread W (at_places R S W passed) (taken hs passed)) ∷ ‵ (part_at Thinned full_share (thinned a) b o) ∷ []) ∵
+        ring_mend = qed 𝓛 (‵ (spread W (at_pointers R S W passed) (taken hs passed)) ∷ ‵ (part_at Thinned full_share (thinned a) b o) ∷ []) ∵
             move ! (1 ∷ []) $ fpick ! (λ vs. fsplit ! $ move ! (1 ∷ []) $ fpick ! (λ vss. fsplit ! $ move ! (1 ∷ []) $ fsplit ! $ fsplit ! $
             -- [the mark; the frames; the other fields; the value; the cell; the values]
             move ! (5 ∷ 1 ∷ []) $ use2 𝓛 (‵ (cells_own R S W (written keep hs a.nodes.cells))) (nodes_mend R S W 𝓛 keep hs a.nodes.cells) $
@@ -239,13 +239,13 @@ module _ (S W : RattleType) where
   Lr = R-type.the_row S W
 
   abbrev pub kept_by : Inside S W → Ptr → Bool
-  kept_by a = among (ring_places a.nodes.cells a.guard a.len)
+  kept_by a = among (ring_pointers a.nodes.cells a.guard a.len)
 
   abbrev pub entries : Inside S W → List (Ptr × (S.Denot × W.Denot))
   entries a = held_entries a.nodes.cells a.guard a.len
 
   abbrev pub Vals : Inside S W → SemTy
-  Vals a = Spread W (at_places links.the_row S W (entries a))
+  Vals a = Spread W (at_pointers links.the_row S W (entries a))
 
   abbrev pub view : Inside S W → State (S.Denot × W.Denot)
   view = R-type.the_view S W
@@ -265,12 +265,12 @@ module _ (S W : RattleType) where
         use1 𝓛 (given (length ws ≡ length ps) (‵ ftrue)) (spread-length ps ws) $ learn ! (λ e. by ! (fact_i 𝓤 (suc (length ws) ≡ suc (length ps)) (emp 𝓤) (ap suc e)))
 
     abbrev pub Lent : List W.Denot → Fml
-    Lent ws = spread W (at_places links.the_row S W (entries a)) ws
+    Lent ws = spread W (at_pointers links.the_row S W (entries a)) ws
 
     viewed : (ks : List (Held (S.Denot × W.Denot))) → view (mended S W (kept_by a) 𝓛 a b o ks) ≡ record d { held = revalued_by ks d.held }
     viewed ks i = state ((list_written a.nodes.cells a.guard a.spare a.len a.spares ks ∙ ap (λ (s : State (S.Denot × W.Denot)). revalued_by ks s.held) seen) i) (seen i).spares
 
-    -- the values that ks has at their places come back
+    -- the values that ks has at their pointers come back
     back_by : (ks : List (Held (S.Denot × W.Denot))) → ent 𝓤 (sep 𝓤 (sem 𝓛 (Lent (taken ks (entries a)))) (sep 𝓤 (sem 𝓛 (fseps (Fields ∷ []))) (emp 𝓤))) (sem 𝓛 ((mem Lr).own_at (record d { held = revalued_by ks d.held }) b o))
     unfolding fseps
     back_by ks = let a' = mended S W (kept_by a) 𝓛 a b o ks in let s : State (S.Denot × W.Denot) = record d { held = revalued_by ks d.held } in
@@ -286,11 +286,11 @@ module _ (S W : RattleType) where
     own : AllByRecursion (HasOwnValue d.held) (entries a)
     own = own_values d.held (entries a) lent_of.0 (apart_lent (kept_by a) a.nodes.cells a.nodes.apart)
 
-    in_ring : AllByRecursion (λ c. among (places_of d.held) c.0 ≡ true) (entries a)
+    in_ring : AllByRecursion (λ c. among (pointers_of d.held) c.0 ≡ true) (entries a)
     in_ring = subst (λ ps. AllByRecursion (λ c. among ps c.0 ≡ true) (entries a))
-        (sym (held_places a.nodes.cells a.guard a.spare a.len a.spares ok) ∙ ap (λ (s : State (S.Denot × W.Denot)). places_of s.held) seen) (all_kept (kept_by a) a.nodes.cells)
+        (sym (held_pointers a.nodes.cells a.guard a.spare a.len a.spares ok) ∙ ap (λ (s : State (S.Denot × W.Denot)). pointers_of s.held) seen) (all_kept (kept_by a) a.nodes.cells)
 
-    -- the values vs, in the order of the ring, at the places of the entries
+    -- the values vs, in the order of the ring, at the pointers of the entries
     abbrev pub placed : List W.Denot → List W.Denot
     placed vs = taken (set_held_values d.held vs) (entries a)
 
@@ -309,7 +309,7 @@ module _ (S W : RattleType) where
     placed-ordered ws = ap (λ ks. taken ks (entries a)) (set_held_values-by (listing (entries a) ws) d.held) ∙ taken-by (listing (entries a) ws) d.held (entries a) own in_ring
 
     pub ordered_back : (ws : List W.Denot) → ent 𝓤 (sep 𝓤 (sem 𝓛 (Lent ws)) (emp 𝓤)) (sem 𝓛 (Lent (placed (held_values (ordered ws)))))
-    ordered_back ws = let ps = at_places links.the_row S W (entries a) in
+    ordered_back ws = let ps = at_pointers links.the_row S W (entries a) in
         fact_use 𝓤 (length ws ≡ length ps) (via 𝓤 _ (fst∗ 𝓤 (sem 𝓛 (Lent ws)) (emp 𝓤)) (spread-length ps ws)) (λ long.
         let listed = taken_listing (entries a) ws (apart_lent (kept_by a) a.nodes.cells a.nodes.apart) (long ∙ length-map (run_of (entries a)) _ ∙ length-map (entries a) _) in
         qed 𝓛 (‵ (Lent ws) ∷ raw (emp 𝓤) ∷ []) ∵ rewrite ! 0 (λ (l : List W.Denot). ‵ (Lent l)) (sym (placed-ordered ws ∙ listed)) refl $ keep ! (0 ∷ []) $ done !)

@@ -2,7 +2,7 @@
 use Rattle.std.proofs.Common.{◌≡◌, suc, Bool, true, false, cond, List, [], ◌∷◌, length, Option, Some, None, refl, sym, ap, ◌∙◌, subst}
 use Rattle.std.specs.Prelude.{◌==◌}
 use denote.RawPtr.{Ptr}
-use Rattle.lhm_ring.specs.declared.block.Place.{Place}
+use Rattle.lhm_ring.specs.declared.block.NodePointer.{NodePointer}
 use Rattle.lhm_ring.specs.declared.links.Links.{Links}
 use Rattle.lhm_ring.specs.Cells.{Cell, cell, same_ptr, cell_at, links_of, body_of, links_at, body_at, IsAt, change, with_links}
 use Rattle.lhm_ring.specs.Rings.{next_of, prev_of, link_of, guard_of, has_links, is_there, content_of, content_at, IsJoined}
@@ -109,7 +109,7 @@ module _ {B : Type 0} where
   pub is_still_at : (cs ds : List (Cell Links B)) (p : Ptr) (l la : Links) (q : Ptr) → links_at cs p ≡ Some la → ds ≡ with_links p l cs → is_there cs q ≡ true → IsAt ds q
   is_still_at cs ds p l la q e d t = is_at ds q (ap (λ es. is_there es q) d ∙ read_kept p l has_links cs la e refl q ∙ t)
 
-  pub joined : (cs es ds : List (Cell Links B)) (a b : Place) (la lb : Links)
+  pub joined : (cs es ds : List (Cell Links B)) (a b : NodePointer) (la lb : Links)
       → links_at cs a.ptr ≡ Some la → es ≡ with_links a.ptr (record la { next = b }) cs
       → links_at es b.ptr ≡ Some lb → ds ≡ with_links b.ptr (record lb { prev = a }) es → IsJoined cs ds a.ptr b.ptr
   joined cs es ds a b la lb ea e1 eb e2 =

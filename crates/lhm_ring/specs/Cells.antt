@@ -52,8 +52,8 @@ module _ {L B : Type 0} where
   abbrev pub cell : Ptr → L → Option B → Cell L B
   cell p l b = record { at = p; links = l; body = b }
 
-  abbrev pub places : List (Cell L B) → List Ptr
-  places = map (λ c. c.at)
+  abbrev pub pointers : List (Cell L B) → List Ptr
+  pointers = map (λ c. c.at)
 
   -- the node at p
   unfoldable pub cell_at : List (Cell L B) → Ptr → Option (Cell L B)
@@ -98,11 +98,11 @@ module _ {L B : Type 0} where
   without p [] = []
   without p (c ∷ cs) = cond (same_ptr c.at p) cs (c ∷ without p cs)
 
-  pub places-change : (p : Ptr) (f : Cell L B → Cell L B) → ((c : Cell L B) → (f c).at ≡ c.at) → (cs : List (Cell L B)) → places (change p f cs) ≡ places cs
+  pub pointers-change : (p : Ptr) (f : Cell L B → Cell L B) → ((c : Cell L B) → (f c).at ≡ c.at) → (cs : List (Cell L B)) → pointers (change p f cs) ≡ pointers cs
   unfolding change
-  places-change p f same [] = λ i. []
-  places-change p f same (c ∷ cs) =
-      elim (same_ptr c.at p) as (λ y. places (cond y (f c ∷ cs) (c ∷ change p f cs)) ≡ c.at ∷ places cs) [
-        | true ↦ λ i. same c i ∷ places cs
-        | false ↦ λ i. c.at ∷ places-change p f same cs i
+  pointers-change p f same [] = λ i. []
+  pointers-change p f same (c ∷ cs) =
+      elim (same_ptr c.at p) as (λ y. pointers (cond y (f c ∷ cs) (c ∷ change p f cs)) ≡ c.at ∷ pointers cs) [
+        | true ↦ λ i. same c i ∷ pointers cs
+        | false ↦ λ i. c.at ∷ pointers-change p f same cs i
       ]

@@ -6,7 +6,7 @@ use base.Stored.{Coded, coded_list, coded×, coded_via}
 use base.Fml.{Lft, ftrue, ffalse, fsep, fobs, fbor}
 use types.SemTy.{SemTy, Body}
 use denote.RawPtr.{Ptr}
-use Rattle.lhm_ring.specs.Cells.{Cell, cell, same_ptr, places}
+use Rattle.lhm_ring.specs.Cells.{Cell, cell, same_ptr, pointers}
 use Rattle.lhm_ring.specs.Ownership.{body_owns}
 
 module _ {X : Type 0} where
@@ -50,7 +50,7 @@ module _ {B : Type 0} where
   seconds = map (λ c. c.1)
 
 module _ {L B : Type 0} where
-  -- what the nodes hold, each with its place
+  -- what the nodes hold, each with its pointer
   abbrev pub bodies_of : List (Cell L B) → List (Ptr × Option B)
   bodies_of = map (λ c. (c.at, c.body))
 
@@ -62,12 +62,12 @@ module _ {L B : Type 0} where
   abbrev pub with_bodies : List (Cell L B) → List (Ptr × Option B) → List (Cell L B)
   with_bodies cs run = map (λ c. cell c.at c.links (body_in run c.at)) cs
 
-  pub places-cleared : (cs : List (Cell L B)) → places (cleared cs) ≡ places cs
-  places-cleared [] = refl
-  places-cleared (c ∷ cs) = ap (λ ps. c.at ∷ ps) (places-cleared cs)
+  pub pointers-cleared : (cs : List (Cell L B)) → pointers (cleared cs) ≡ pointers cs
+  pointers-cleared [] = refl
+  pointers-cleared (c ∷ cs) = ap (λ ps. c.at ∷ ps) (pointers-cleared cs)
 
 module _ (L K V : RattleType) where
-  -- what the nodes at the places hold, one at each
+  -- what the nodes at the pointers hold, one at each
   abbrev pub bodies : List Ptr → List (Option (K.Denot × V.Denot)) → Fml
   bodies [] [] = ftrue
   bodies [] (w ∷ ws) = ffalse

@@ -4,10 +4,10 @@ use denote.RawPtr.{Ptr}
 use Rattle.lhm_ring.specs.declared.position.Position.{Position}
 
 module _ {K V : Type 0} where
-  abbrev pub place_of : Position K V → Ptr
-  place_of p = p.place.ptr
+  abbrev pub pointer_of : Position K V → Ptr
+  pointer_of p = p.pointer.ptr
 
   -- where a position is, if there is one
-  abbrev pub place_of_some : Option (Position K V) → Option Ptr
-  place_of_some None = None
-  place_of_some (Some p) = Some (place_of p)
+  abbrev pub pointer_of_some : Option (Position K V) → Option Ptr
+  pointer_of_some None = None
+  pointer_of_some (Some p) = Some (pointer_of p)

@@ -37,7 +37,7 @@ with_values s w = record s { held = set_held_values s.held (held_values w.held) 
 abbrev pub unvalued : {K V : Type 0} → Held (K × V) → Held K
 unvalued t = record { at = t.at; number = t.number; link = t.link; pair = t.pair.0 }
 
--- whatever values are written, the places, numbers, links and keys stand, in their order
+-- whatever values are written, the pointers, numbers, links and keys stand, in their order
 abbrev pub KeepsAllButValues : {K V : Type 0} → State (K × V) → Type 0
 KeepsAllButValues {K} {V} s = (vs : List V) → map unvalued (set_held_values s.held vs) ≡ map unvalued s.held
 

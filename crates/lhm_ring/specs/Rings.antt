@@ -4,7 +4,7 @@ use Rattle.std.specs.List.{AllByRecursion}
 use denote.RawPtr.{Ptr, null_ptr}
 use Rattle.lhm_ring.specs.Cells.{Cell, same_ptr, links_at, body_at, with_links, IsApart}
 use Rattle.lhm_ring.specs.RingState.{Held, triples}
-use Rattle.lhm_ring.specs.declared.block.Place.{Place}
+use Rattle.lhm_ring.specs.declared.block.NodePointer.{NodePointer}
 use Rattle.lhm_ring.specs.declared.link.Link.{Link}
 use Rattle.lhm_ring.specs.declared.links.Links.{Links}
 use Rattle.lhm_ring.specs.Targets.{target}
@@ -14,7 +14,7 @@ abbrev pub relinked : Link → Links → Links
 relinked o l = record l { link = o }
 
 -- the links of a spare node, which no one reads but for the further one
-abbrev pub links : Place → Link → Links
+abbrev pub links : NodePointer → Link → Links
 links g o = record { prev = g; next = g; link = o; number = 0; guard = 0 }
 
 -- what links say of their node: where it leads, and whether it is there at all
@@ -97,7 +97,7 @@ module _ {B : Type 0} where
     pub guard : is_guard cs g ≡ true
     pub plain : AllByRecursion (λ p. is_guard cs p ≡ false) ss
 
-  -- the n places after p
+  -- the n pointers after p
   unfoldable pub follow : List (Cell Links B) → ℕ → Ptr → List Ptr
   follow cs zero p = []
   follow cs (suc n) p = next_at cs p ∷ follow cs n (next_at cs p)
@@ -121,39 +121,39 @@ module _ {B : Type 0} where
     pub there : (q : Ptr) → is_there ds q ≡ is_there cs q
     pub count : length ds ≡ length cs
 
-abbrev pub last_place : Ptr → List Ptr → Ptr
-last_place p [] = p
-last_place p (q ∷ qs) = last_place q qs
+abbrev pub last_pointer : Ptr → List Ptr → Ptr
+last_pointer p [] = p
+last_pointer p (q ∷ qs) = last_pointer q qs
 
 -- ps begins with f and ends with b
 abbrev pub HasEnds : List Ptr → Ptr → Ptr → Type 0
 HasEnds [] f b = Unit {0}
-HasEnds (p ∷ ps) f b = (p ≡ f) × (last_place p ps ≡ b)
+HasEnds (p ∷ ps) f b = (p ≡ f) × (last_pointer p ps ≡ b)
 
 module _ {B : Type 0} where
-  -- the n places from p on
-  unfoldable pub places_from : List (Cell Links B) → ℕ → Ptr → List Ptr
-  places_from cs zero p = []
-  places_from cs (suc n) p = p ∷ places_from cs n (next_at cs p)
+  -- the n pointers from p on
+  unfoldable pub pointers_from : List (Cell Links B) → ℕ → Ptr → List Ptr
+  pointers_from cs zero p = []
+  pointers_from cs (suc n) p = p ∷ pointers_from cs n (next_at cs p)
 
   -- the triples of the n nodes from p on
   abbrev pub span_triples : List (Cell Links B) → ℕ → Ptr → List (ℕ × B)
-  span_triples cs n p = triples (listed cs (places_from cs n p))
+  span_triples cs n p = triples (listed cs (pointers_from cs n p))
 
   -- what n nodes hold from the guard on
-  abbrev pub ring_list : List (Cell Links B) → Option Place → ℕ → List (Held B)
+  abbrev pub ring_list : List (Cell Links B) → Option NodePointer → ℕ → List (Held B)
   ring_list cs None n = []
   ring_list cs (Some g) n = listed cs (follow cs n g.ptr)
 
   -- the nodes are a ring of n held and m spare ones, or there is no node and no guard
-  abbrev pub RingOk : List (Cell Links B) → Option Place → Link → ℕ → ℕ → Type 0
+  abbrev pub RingOk : List (Cell Links B) → Option NodePointer → Link → ℕ → ℕ → Type 0
   RingOk cs None spare n m = (cs ≡ []) × (target spare ≡ None) × (n ≡ 0) × (m ≡ 0)
   RingOk cs (Some g) spare n m = (ps : List Ptr) × (ss : List Ptr) × IsRing cs g.ptr ps (target spare) ss × (length ps ≡ n) × (length ss ≡ m) × (n + m ≤ 2 ^ 57)
 
-  -- the places of what a ring holds
-  abbrev pub ring_places : List (Cell Links B) → Option Place → ℕ → List Ptr
-  ring_places cs None n = []
-  ring_places cs (Some g) n = follow cs n g.ptr
+  -- the pointers of what a ring holds
+  abbrev pub ring_pointers : List (Cell Links B) → Option NodePointer → ℕ → List Ptr
+  ring_pointers cs None n = []
+  ring_pointers cs (Some g) n = follow cs n g.ptr
 
   -- n nodes that hold something, each right after the one before, from f to b
   abbrev pub IsSpan : List (Cell Links B) → Ptr → Ptr → ℕ → Type 0

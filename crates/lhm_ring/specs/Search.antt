@@ -67,12 +67,12 @@ DifferAll eq number key nodes [] = Unit {0}
 DifferAll eq number key nodes (s ∷ ss) = OfNodeAt nodes s.at (λ x. Compares eq number key x false) × DifferAll eq number key nodes ss
 
 -- a search that has passed some spots of the chain and stands before the rest
-pub record IsPart {K V : Type 0} (eq : K → K → Bool) (number : ℕ) (key : K) (heads : List (Option Ptr)) (nodes : List (Held (K × V))) (before place : Option Ptr) (visited compared : ℕ) : Type 0 where
+pub record IsPart {K V : Type 0} (eq : K → K → Bool) (number : ℕ) (key : K) (heads : List (Option Ptr)) (nodes : List (Held (K × V))) (before pointer : Option Ptr) (visited compared : ℕ) : Type 0 where
   pub done : List Spot
   pub rest : List Spot
   pub linked : IsChain (slice_index_or heads (number % length heads) None) (done ++ rest)
   pub holds : IsRearranged (done ++ rest) (filter (is_in (length heads) (number % length heads)) (spots nodes))
-  pub next_is : IsChain place rest
+  pub next_is : IsChain pointer rest
   pub behind : IsLast before done
   pub visited_is : visited ≡ length done
   pub compared_is : compared ≡ same done number
@@ -99,13 +99,13 @@ pub record IsChained {K V : Type 0} (p : Ptr) (heads heads' : List (Option Ptr))
 abbrev pub Chains : {K V : Type 0} → Ptr → List (Option Ptr) → List (Option Ptr) → List (Held (K × V)) → List (Held (K × V)) → Type 0
 Chains {K} {V} p heads heads' nodes nodes' = AtHeld nodes p (λ before x after. IsChained p heads heads' nodes' before x after)
 
--- some of the nodes, the first ones, are chained again, and the rest begins at place
-pub record IsRechained {K V : Type 0} (heads : List (Option Ptr)) (old nodes : List (Held (K × V))) (place : Option Ptr) (count buckets : ℕ) : Type 0 where
+-- some of the nodes, the first ones, are chained again, and the rest begins at pointer
+pub record IsRechained {K V : Type 0} (heads : List (Option Ptr)) (old nodes : List (Held (K × V))) (pointer : Option Ptr) (count buckets : ℕ) : Type 0 where
   pub done : List (Held (K × V))
   pub rest : List (Held (K × V))
   pub is : nodes ≡ done ++ rest
   pub indexed : Indexes heads (spots done)
-  pub place_is : place ≡ first_at rest
+  pub pointer_is : pointer ≡ first_at rest
   pub count_is : count ≡ length done
   pub kept : entries nodes ≡ entries old
   pub buckets_is : length heads ≡ buckets

@@ -5,12 +5,12 @@ use denote.RawPtr.{Ptr}
 use Rattle.lhm_ring.specs.Cells.{Cell, IsApart}
 use Rattle.lhm_ring.specs.Rings.{Linked, Chained, next_at, prev_at, is_there, is_guard, content_at, ring_list, RingOk, IsSpan, span_triples}
 use Rattle.lhm_ring.specs.RingState.{Held, triples}
-use Rattle.lhm_ring.specs.declared.block.Place.{Place}
+use Rattle.lhm_ring.specs.declared.block.NodePointer.{NodePointer}
 use Rattle.lhm_ring.specs.declared.links.Links.{Links}
 use Rattle.lhm_ring.specs.declared.splice.Spliced.{Spliced}
 use Rattle.lhm_ring.specs.declared.link.Link.{Link}
 
--- the places ps, the last first, and then ss
+-- the pointers ps, the last first, and then ss
 abbrev pub onto : List Ptr → List Ptr → List Ptr
 onto [] ss = ss
 onto (p ∷ ps) ss = onto ps (p ∷ ss)
@@ -50,11 +50,11 @@ module _ {B : Type 0} where
   SparesRow cs f n spare ds s = (ps ss : List Ptr) → IsRow cs f n spare ps ss → SameButLinks cs ds × Chained ds s (onto ps ss)
 
   -- the nodes are a ring of n held ones
-  abbrev pub HasRing : List (Cell Links B) → Option Place → Link → ℕ → Type 0
+  abbrev pub HasRing : List (Cell Links B) → Option NodePointer → Link → ℕ → Type 0
   HasRing cs guard spare n = (m : ℕ) × RingOk cs guard spare n m
 
   -- in ds all nodes of the ring are spare, and s says between which lies what it held
-  abbrev pub SplicesRing : List (Cell Links B) → Option Place → Link → ℕ → List (Cell Links B) → Spliced → Type 0
+  abbrev pub SplicesRing : List (Cell Links B) → Option NodePointer → Link → ℕ → List (Cell Links B) → Spliced → Type 0
   SplicesRing cs guard spare n ds s =
       (m : ℕ) → RingOk cs guard spare n m → RingOk ds guard s.spare 0 (m + n) × IsSpan ds s.first.ptr s.last.ptr n × (span_triples ds n s.first.ptr ≡ triples (ring_list cs guard n))
 

@@ -8,7 +8,7 @@ use Rattle.lhm_ring.specs.Cells.{Cell, IsApart}
 use Rattle.lhm_ring.specs.ValueLoan.{value_at}
 use Rattle.lhm_ring.specs.Rings.{Linked, HasContent, is_there}
 use Rattle.lhm_ring.specs.RingState.{Held, held}
-use Rattle.lhm_ring.specs.declared.block.Place.{Place}
+use Rattle.lhm_ring.specs.declared.block.NodePointer.{NodePointer}
 use Rattle.lhm_ring.specs.declared.links.Links.{Links}
 
 module _ {B : Type 0} where
@@ -22,11 +22,11 @@ module _ {B : Type 0} where
 
 module _ {K V : Type 0} where
   -- what a step from the front gives, and what it leaves
-  abbrev pub IsFirstStep : List (Held (K × V)) → Option (Place × ℕ × Bor K × Bor V) → List (Held (K × V)) → Type 0
+  abbrev pub IsFirstStep : List (Held (K × V)) → Option (NodePointer × ℕ × Bor K × Bor V) → List (Held (K × V)) → Type 0
   IsFirstStep s None t = (s ≡ []) × (t ≡ [])
   IsFirstStep s (Some r) t = (l : Option Ptr) × (s ≡ held r.0.ptr r.1 l (r.2.now, r.3.now) ∷ t)
 
-  abbrev pub IsLastStep : List (Held (K × V)) → Option (Place × ℕ × Bor K × Bor V) → List (Held (K × V)) → Type 0
+  abbrev pub IsLastStep : List (Held (K × V)) → Option (NodePointer × ℕ × Bor K × Bor V) → List (Held (K × V)) → Type 0
   IsLastStep s None t = (s ≡ []) × (t ≡ [])
   IsLastStep s (Some r) t = (l : Option Ptr) × (s ≡ t ++ held r.0.ptr r.1 l (r.2.now, r.3.now) ∷ [])
 

@@ -9,46 +9,46 @@ use crate::position::Position;
 use crate::ring::{Ring, relink};
 
 impl<K, V> Ring<K, V> {
-    ghost use Rattle.lhm_ring.specs.Positions.{place_of, place_of_some};
+    ghost use Rattle.lhm_ring.specs.Positions.{pointer_of, pointer_of_some};
     ghost use Rattle.lhm_ring.specs.RingAfterLoan.{lends_value};
 
     /// Returns the number at a position.
     pub fn number(&self, at: Position<K, V>) -> u64
-        requires { IsHeld self.now.held (place_of at) }
-        ensures { AtHeld self.now.held (place_of at) (λ xs t ys. result ≡ t.number) }
+        requires { IsHeld self.now.held (pointer_of at) }
+        ensures { AtHeld self.now.held (pointer_of at) (λ xs t ys. result ≡ t.number) }
     {
-        self.nodes.links(at.place).number
+        self.nodes.links(at.pointer).number
     }
 
     /// Returns the key at a position.
     pub fn key(&self, at: Position<K, V>) -> &K
-        requires { IsHeld self.now.held (place_of at) }
-        ensures { AtHeld self.now.held (place_of at) (λ xs t ys. result.now ≡ t.pair.0) }
+        requires { IsHeld self.now.held (pointer_of at) }
+        ensures { AtHeld self.now.held (pointer_of at) (λ xs t ys. result.now ≡ t.pair.0) }
     {
-        self.nodes.key(at.place)
+        self.nodes.key(at.pointer)
     }
 
     /// Returns the value at a position.
     pub fn value(&self, at: Position<K, V>) -> &V
-        requires { IsHeld self.now.held (place_of at) }
-        ensures { AtHeld self.now.held (place_of at) (λ xs t ys. result.now ≡ t.pair.1) }
+        requires { IsHeld self.now.held (pointer_of at) }
+        ensures { AtHeld self.now.held (pointer_of at) (λ xs t ys. result.now ≡ t.pair.1) }
     {
-        self.nodes.value(at.place)
+        self.nodes.value(at.pointer)
     }
 
     /// Lends the value at a position for writing. All else stays as it is.
     pub fn value_mut(&mut self, at: Position<K, V>) -> &mut V
-        requires { IsHeld self.old.held (place_of at) }
-        ensures* writes_back { sem 𝓛 (lends_value K.row V.row self.entry (place_of at) result) }
-        ensures value { AtHeld self.old.held (place_of at) (λ xs t ys. result.now ≡ t.pair.1) }
-        ensures alone { ChangesOnly self.old.held (place_of at) }
+        requires { IsHeld self.old.held (pointer_of at) }
+        ensures* writes_back { sem 𝓛 (lends_value K.row V.row self.entry (pointer_of at) result) }
+        ensures value { AtHeld self.old.held (pointer_of at) (λ xs t ys. result.now ≡ t.pair.1) }
+        ensures alone { ChangesOnly self.old.held (pointer_of at) }
     {
-        self.nodes.value_mut(at.place)
+        self.nodes.value_mut(at.pointer)
     }
 
     /// Returns the position of the first triple, or `None` where nothing is held.
     pub fn first(&self) -> Option<Position<K, V>>
-        ensures { place_of_some result ≡ first_at self.now.held }
+        ensures { pointer_of_some result ≡ first_at self.now.held }
     {
         let guard = self.guard?;
         if self.len == 0 {
@@ -59,7 +59,7 @@ impl<K, V> Ring<K, V> {
 
     /// Returns the position of the last triple, or `None` where nothing is held.
     pub fn last(&self) -> Option<Position<K, V>>
-        ensures { place_of_some result ≡ last_at self.now.held }
+        ensures { pointer_of_some result ≡ last_at self.now.held }
     {
         let guard = self.guard?;
         if self.len == 0 {
@@ -70,11 +70,11 @@ impl<K, V> Ring<K, V> {
 
     /// Returns the position right behind one, or `None` at the last. No two triples are at one position.
     pub fn next(&self, at: Position<K, V>) -> Option<Position<K, V>>
-        requires { IsHeld self.now.held (place_of at) }
-        ensures next { AtHeld self.now.held (place_of at) (λ xs t ys. place_of_some result ≡ first_at ys) }
+        requires { IsHeld self.now.held (pointer_of at) }
+        ensures next { AtHeld self.now.held (pointer_of at) (λ xs t ys. pointer_of_some result ≡ first_at ys) }
         ensures apart { IsApart (map (λ t. t.at) self.now.held) }
     {
-        let next = self.nodes.links(at.place).next;
+        let next = self.nodes.links(at.pointer).next;
         if self.nodes.links(next).guard == 1 {
             return None;
         }
@@ -83,10 +83,10 @@ impl<K, V> Ring<K, V> {
 
     /// Returns the position right before one, or `None` at the first.
     pub fn previous(&self, at: Position<K, V>) -> Option<Position<K, V>>
-        requires { IsHeld self.now.held (place_of at) }
-        ensures { AtHeld self.now.held (place_of at) (λ xs t ys. place_of_some result ≡ last_at xs) }
+        requires { IsHeld self.now.held (pointer_of at) }
+        ensures { AtHeld self.now.held (pointer_of at) (λ xs t ys. pointer_of_some result ≡ last_at xs) }
     {
-        let previous = self.nodes.links(at.place).prev;
+        let previous = self.nodes.links(at.pointer).prev;
         if self.nodes.links(previous).guard == 1 {
             return None;
         }
@@ -95,20 +95,20 @@ impl<K, V> Ring<K, V> {
 
     /// Returns where the link at a position leads, or `None`. The link is its caller's.
     pub fn link(&self, at: Position<K, V>) -> Option<Position<K, V>>
-        requires { IsHeld self.now.held (place_of at) }
-        ensures link { AtHeld self.now.held (place_of at) (λ xs t ys. place_of_some result ≡ t.link) }
+        requires { IsHeld self.now.held (pointer_of at) }
+        ensures link { AtHeld self.now.held (pointer_of at) (λ xs t ys. pointer_of_some result ≡ t.link) }
         ensures blocks { AreBlocks (map (λ t. t.at) self.now.held) }
     {
-        self.nodes.links(at.place).link.get()
+        self.nodes.links(at.pointer).link.get()
     }
 
     /// Lets the link at a position lead to `link`, which the ring never follows. All else stays as it is.
     pub fn set_link(&mut self, at: Position<K, V>, link: Option<Position<K, V>>)
-        requires { IsHeld self.old.held (place_of at) }
-        ensures held { AtHeld self.old.held (place_of at) (λ xs t ys. self.new.held ≡ xs ++ linked_to (place_of_some link) t ∷ ys) }
+        requires { IsHeld self.old.held (pointer_of at) }
+        ensures held { AtHeld self.old.held (pointer_of at) (λ xs t ys. self.new.held ≡ xs ++ linked_to (pointer_of_some link) t ∷ ys) }
         ensures spares { self.new.spares ≡ self.old.spares }
         ensures blocks { AreBlocks (map (λ t. t.at) self.old.held) }
     {
-        relink(&mut self.nodes, at.place, Link::of(link));
+        relink(&mut self.nodes, at.pointer, Link::of(link));
     }
 }

@@ -5,12 +5,12 @@ ghost use base.Fml.{GName, ftrue};
 ghost use denote.RawPtr.{Ptr};
 ghost use Rattle.lhm_ring.specs.ContentLoan.{borrows_bodies, body_in, without_body, HasBody, bodies_of};
 
-use crate::block::{Node, Place};
+use crate::block::{Node, NodePointer};
 use crate::nodes::Nodes;
 use crate::value_loan::Hole;
 use std::marker::{Model, PhantomData};
 
-/// The right to take out what the nodes of `run` hold, each known by its place.
+/// The right to take out what the nodes of `run` hold, each known by its pointer.
 pub(crate) struct ContentLoan<'a, L, K, V> {
     mark: PhantomData<&'a mut Node<L, K, V>>,
     ghost name: { GName },
@@ -31,7 +31,7 @@ impl<L, K, V> Drop for ContentLoan<'_, L, K, V> {
 
 impl<'a, L, K, V> ContentLoan<'a, L, K, V> {
     /// Moves out what the node at `at` holds.
-    pub(crate) fn take(&mut self, at: Place) -> (K, V)
+    pub(crate) fn take(&mut self, at: NodePointer) -> (K, V)
         requires { HasBody self.old.run at.ptr }
         ensures body { body_in self.old.run at.ptr ≡ Some result }
         ensures run { self.new.run ≡ without_body at.ptr self.old.run }

@@ -6,7 +6,7 @@ ghost use Rattle.std.specs.Iterator.SizeHint.{IsWithinCount};
 ghost use Rattle.lhm_ring.specs.RingState.{triples};
 ghost use Rattle.lhm_ring.specs.Splices.{HandsOutFirst, HandsOutLast};
 
-use crate::block::Place;
+use crate::block::NodePointer;
 use crate::content_loan::ContentLoan;
 use crate::links::Links;
 use crate::nodes::Nodes;
@@ -20,8 +20,8 @@ use std::marker::Model;
 struct Remaining<'a, K, V> {
     nodes: &'a Nodes<Links, Hole<K>, Hole<V>>,
     contents: ContentLoan<'a, Links, K, V>,
-    first: Place,
-    last: Place,
+    first: NodePointer,
+    last: NodePointer,
     left: usize,
 }
 

@@ -5,7 +5,7 @@ ghost use Rattle.lhm_ring.specs.Cells.{cell};
 ghost use Rattle.lhm_ring.specs.Rings.{IsRing, links};
 ghost use Rattle.lhm_ring.specs.Stacks.{IsStacked, HasStack, Unstacks, HasGuard};
 
-use crate::block::{Place, allocate, deallocate};
+use crate::block::{NodePointer, allocate, deallocate};
 use crate::link::Link;
 use crate::links::Links;
 use crate::nodes::Nodes;
@@ -15,8 +15,8 @@ use std::alloc::{AllocError, Global};
 /// More nodes would take above 2^62 bytes, which no machine of today can address.
 const MOST_NODES: usize = 1 << 57;
 
-/// The guard of an empty ring, which leads to itself.
-fn make_guard<K, V>(nodes: &mut Nodes<Links, K, V>, alloc: &Global) -> Result<Place, AllocError>
+/// Makes the guard of an empty ring, which leads to itself.
+fn make_guard<K, V>(nodes: &mut Nodes<Links, K, V>, alloc: &Global) -> Result<NodePointer, AllocError>
     requires { nodes.old.cells ≡ [] }
     ensures { MatchResult result (λ g. IsRing nodes.new.cells g.ptr [] None []) (λ _. nodes.new.cells ≡ []) }
 {
@@ -33,13 +33,13 @@ fn make_guard<K, V>(nodes: &mut Nodes<Links, K, V>, alloc: &Global) -> Result<Pl
     Ok(at)
 }
 
-/// One more node, with nothing in it.
+/// Makes one more node, with nothing in it.
 fn make_spare<K, V>(
     nodes: &mut Nodes<Links, K, V>,
     alloc: &Global,
-    guard: Place,
+    guard: NodePointer,
     spare: Link,
-) -> Result<Place, AllocError>
+) -> Result<NodePointer, AllocError>
     ensures { MatchResult result (λ p. nodes.new.cells ≡ cell p.ptr (links guard spare) None ∷ nodes.old.cells) (λ _. nodes.new.cells ≡ nodes.old.cells) }
 {
     let room = allocate(alloc)?;
@@ -53,12 +53,12 @@ fn make_spare<K, V>(
     Ok(nodes.add(room, links))
 }
 
-/// The guard, which is made where there is none yet.
+/// Returns the guard, and makes it where there is none yet.
 fn guard_or_new<K, V>(
     nodes: &mut Nodes<Links, K, V>,
     alloc: &Global,
-    guard: Option<Place>,
-) -> Result<Place, AllocError>
+    guard: Option<NodePointer>,
+) -> Result<NodePointer, AllocError>
     requires { guard ≡ None → nodes.old.cells ≡ [] }
     ensures { MatchResult result (HasGuard guard nodes.old.cells nodes.new.cells) (λ _. nodes.new.cells ≡ nodes.old.cells) }
 {
@@ -69,7 +69,7 @@ fn guard_or_new<K, V>(
 }
 
 /// Notes the guard where there was none before. Else nothing is written.
-fn note_guard(slot: &mut Option<Place>, guard: Place)
+fn note_guard(slot: &mut Option<NodePointer>, guard: NodePointer)
     requires { IfSome slot.old (λ g. g ≡ guard) }
     ensures { slot.new ≡ Some guard }
 {
@@ -83,8 +83,8 @@ fn note_guard(slot: &mut Option<Place>, guard: Place)
 fn undo_guard<K, V>(
     nodes: &mut Nodes<Links, K, V>,
     alloc: &Global,
-    before: Option<Place>,
-    guard: Place,
+    before: Option<NodePointer>,
+    guard: NodePointer,
 )
     requires { before ≡ None → IsRing nodes.old.cells guard.ptr [] None [] }
     ensures none { before ≡ None → nodes.new.cells ≡ [] }
@@ -107,7 +107,7 @@ fn free_stacked<K, V>(nodes: &mut Nodes<Links, K, V>, alloc: &Global, first: Lin
     let mut first = first;
     let mut left = count;
     'each: while 0 < left {
-        let at = first.place();
+        let at = first.pointer();
         let next = nodes.links(at).link;
         let room = nodes.remove(at);
         deallocate(alloc, room);
@@ -121,7 +121,7 @@ fn free_stacked<K, V>(nodes: &mut Nodes<Links, K, V>, alloc: &Global, first: Lin
 fn make_spares<K, V>(
     nodes: &mut Nodes<Links, K, V>,
     alloc: &Global,
-    guard: Place,
+    guard: NodePointer,
     spare: Link,
     count: usize,
 ) -> Result<Link, AllocError>
@@ -175,7 +175,7 @@ impl<K, V> Ring<K, V> {
         ensures spares { self.new.spares ≡ self.old.spares - 1 }
     {
         let _guard = self.guard.unwrap();
-        let at = self.spare.place();
+        let at = self.spare.pointer();
         let next_spare = self.nodes.links(at).link;
         let room = self.nodes.remove(at);
         deallocate(&self.alloc, room);

@@ -4,7 +4,7 @@
 ghost use Rattle.std.specs.Prelude.{◌≡◌, ◌+◌, ◌%◌, ◌<◌, ◌≤◌, ◌^◌, ◌∷◌, [], map, length, None, IfOk, IsOk, IfSome, IfNone, OnSome, slice_index_or, vec_len};
 ghost use Rattle.std.specs.Int.{IsNextPowerOfTwo};
 ghost use Rattle.lhm_ring.specs.RingState.{IsHeld};
-ghost use Rattle.lhm_ring.specs.Positions.{place_of, place_of_some};
+ghost use Rattle.lhm_ring.specs.Positions.{pointer_of, pointer_of_some};
 ghost use Rattle.lhm_ring.specs.Targets.{target};
 ghost use Rattle.lhm_ring.specs.Index.{spot, spots, Indexes, same};
 ghost use Rattle.lhm_ring.specs.Search.{OfNodeAt, entries, Compares, FindsKey, FindsNone, HasKey, IsAbsent, CountsSome, CountsAll, HoldsOthers, IsOnChain, Chains, HasNoChain};
@@ -17,6 +17,17 @@ use std::alloc::{AllocError, Global};
 use std::marker::{Model, PhantomData};
 
 /// What a look-up did.
+///
+/// # Examples
+///
+/// ```rust
+/// use linked_hash_map::LinkedHashMap;
+///
+/// let mut map = LinkedHashMap::new(rt.alloc());
+/// map.insert('x', 1)?;
+/// let (value, probe) = map.get_counted(&'x');
+/// assert_eq!(rt; (value, probe.visited, probe.compared), (Some(&1), 1, 1));
+/// ```
 #[derive(Clone, Copy, Debug, PartialEq)]
 pub struct Probe {
     /// How many nodes were reached along the chain.
@@ -71,12 +82,12 @@ fn step<K: Eq, V>(
     key: &K,
     probe: &mut Probe,
 ) -> bool
-    requires held { IsHeld ring.now.held (place_of at) }
+    requires held { IsHeld ring.now.held (pointer_of at) }
     requires room { probe.old.visited + 1 < 2 ^ 64 }
     requires order { probe.old.compared ≤ probe.old.visited }
     ensures visited { probe.new.visited ≡ probe.old.visited + 1 }
-    ensures compared { OfNodeAt ring.now.held (place_of at) (λ x. probe.new.compared ≡ probe.old.compared + same (spot x ∷ []) number) }
-    ensures found { OfNodeAt ring.now.held (place_of at) (λ x. Compares K.eq number key.now x result) }
+    ensures compared { OfNodeAt ring.now.held (pointer_of at) (λ x. probe.new.compared ≡ probe.old.compared + same (spot x ∷ []) number) }
+    ensures found { OfNodeAt ring.now.held (pointer_of at) (λ x. Compares K.eq number key.now x result) }
 {
     probe.visited += 1;
     if ring.number(at) != number {
@@ -122,7 +133,7 @@ impl<K, V> Index<K, V> {
 
     /// Returns the head of the chain of a number.
     fn head(&self, number: u64) -> Option<Position<K, V>>
-        ensures { place_of_some result ≡ slice_index_or self.now (number % length self.now) None }
+        ensures { pointer_of_some result ≡ slice_index_or self.now (number % length self.now) None }
     {
         if self.heads.is_empty() {
             return None;
@@ -135,7 +146,7 @@ impl<K, V> Index<K, V> {
     /// It costs a constant number of steps and takes no memory. Of the ring only that node's link changes.
     pub fn put_in(&mut self, ring: &mut Ring<K, V>, at: Position<K, V>)
         requires some { 0 < length self.old }
-        requires lacks { HoldsOthers self.old ring.old.held (place_of at) }
+        requires lacks { HoldsOthers self.old ring.old.held (pointer_of at) }
         ensures indexed { Indexes self.new (spots ring.new.held) }
         ensures held { entries ring.new.held ≡ entries ring.old.held }
         ensures spares { ring.new.spares ≡ ring.old.spares }
@@ -147,8 +158,8 @@ impl<K, V> Index<K, V> {
     /// Takes a node out of its chain.
     fn unchain(&mut self, ring: &mut Ring<K, V>, number: u64, found: Found<K, V>)
         requires indexed { Indexes self.old (spots ring.old.held) }
-        requires on_chain { IsOnChain self.old number (spots ring.old.held) (place_of_some found.before) (place_of found.at) }
-        ensures lacks { HoldsOthers self.new ring.new.held (place_of found.at) }
+        requires on_chain { IsOnChain self.old number (spots ring.old.held) (pointer_of_some found.before) (pointer_of found.at) }
+        ensures lacks { HoldsOthers self.new ring.new.held (pointer_of found.at) }
         ensures held { entries ring.new.held ≡ entries ring.old.held }
         ensures spares { ring.new.spares ≡ ring.old.spares }
         ensures buckets { length self.new ≡ length self.old }
@@ -173,11 +184,11 @@ impl<K, V> Index<K, V> {
         number: u64,
         at: Position<K, V>,
     ) -> Option<Position<K, V>>
-        requires held { IsHeld ring.old.held (place_of at) }
-        requires number { OfNodeAt ring.old.held (place_of at) (λ x. number ≡ x.number) }
+        requires held { IsHeld ring.old.held (pointer_of at) }
+        requires number { OfNodeAt ring.old.held (pointer_of at) (λ x. number ≡ x.number) }
         requires indexed { Indexes self.now (spots ring.old.held) }
         requires small { length ring.old.held < 2 ^ 64 }
-        ensures on_chain { IsOnChain self.now number (spots ring.old.held) (place_of_some result) (place_of at) }
+        ensures on_chain { IsOnChain self.now number (spots ring.old.held) (pointer_of_some result) (pointer_of at) }
         ensures ring { ring.new ≡ ring.old }
     {
         let link = ring.link(at);
@@ -198,10 +209,10 @@ impl<K, V> Index<K, V> {
     ///
     /// It costs a step for each node before it on the chain, and takes no memory. Of the ring only links change.
     pub fn take_out_at(&mut self, ring: &mut Ring<K, V>, at: Position<K, V>)
-        requires held { IsHeld ring.old.held (place_of at) }
+        requires held { IsHeld ring.old.held (pointer_of at) }
         requires indexed { Indexes self.old (spots ring.old.held) }
         requires small { length ring.old.held < 2 ^ 64 }
-        ensures lacks { HoldsOthers self.new ring.new.held (place_of at) }
+        ensures lacks { HoldsOthers self.new ring.new.held (pointer_of at) }
         ensures held { entries ring.new.held ≡ entries ring.old.held }
         ensures spares { ring.new.spares ≡ ring.old.spares }
         ensures buckets { length self.new ≡ length self.old }
@@ -243,7 +254,7 @@ impl<K: Eq, V> Index<K, V> {
     fn search(&self, ring: &Ring<K, V>, number: u64, key: &K) -> (Option<Found<K, V>>, Probe)
         requires indexed { Indexes self.now (spots ring.now.held) }
         requires small { length ring.now.held < 2 ^ 64 }
-        ensures found { IfSome result.0 (λ f. FindsKey K.eq number key.now self.now ring.now.held (place_of_some f.before) (place_of f.at) result.1.visited result.1.compared) }
+        ensures found { IfSome result.0 (λ f. FindsKey K.eq number key.now self.now ring.now.held (pointer_of_some f.before) (pointer_of f.at) result.1.visited result.1.compared) }
         ensures absent { IfNone result.0 (FindsNone K.eq number key.now self.now ring.now.held result.1.visited result.1.compared) }
     {
         let mut probe = Probe {
@@ -251,13 +262,13 @@ impl<K: Eq, V> Index<K, V> {
             compared: 0,
         };
         let mut before = None;
-        let mut place = self.head(number);
-        while let Some(at) = place {
+        let mut pointer = self.head(number);
+        while let Some(at) = pointer {
             if step(ring, at, number, key, &mut probe) {
                 return (Some(Found { before, at }), probe);
             }
-            before = place;
-            place = ring.link(at);
+            before = pointer;
+            pointer = ring.link(at);
         }
         (None, probe)
     }
@@ -269,7 +280,7 @@ impl<K: Eq, V> Index<K, V> {
     pub fn find(&self, ring: &Ring<K, V>, number: u64, key: &K) -> (Option<Position<K, V>>, Probe)
         requires indexed { Indexes self.now (spots ring.now.held) }
         requires small { length ring.now.held < 2 ^ 64 }
-        ensures found { IfSome result.0 (λ p. HasKey K.eq number key.now ring.now.held (place_of p)) }
+        ensures found { IfSome result.0 (λ p. HasKey K.eq number key.now ring.now.held (pointer_of p)) }
         ensures absent { IfNone result.0 (IsAbsent K.eq number key.now ring.now.held) }
         ensures counts_found { OnSome result.0 (CountsSome (spots ring.now.held) (length self.now) number result.1.visited result.1.compared) }
         ensures counts_absent { IfNone result.0 (CountsAll (spots ring.now.held) (length self.now) number result.1.visited result.1.compared) }
@@ -291,8 +302,8 @@ impl<K: Eq, V> Index<K, V> {
     ) -> Option<Position<K, V>>
         requires indexed { Indexes self.old (spots ring.old.held) }
         requires small { length ring.old.held < 2 ^ 64 }
-        ensures found { IfSome result (λ p. HasKey K.eq number key.now ring.new.held (place_of p)) }
-        ensures lacks { IfSome result (λ p. HoldsOthers self.new ring.new.held (place_of p)) }
+        ensures found { IfSome result (λ p. HasKey K.eq number key.now ring.new.held (pointer_of p)) }
+        ensures lacks { IfSome result (λ p. HoldsOthers self.new ring.new.held (pointer_of p)) }
         ensures absent { IfNone result (IsAbsent K.eq number key.now ring.old.held) }
         ensures unchanged { IfNone result (self.new ≡ self.old) }
         ensures ring_unchanged { IfNone result (ring.new ≡ ring.old) }
@@ -363,8 +374,8 @@ pub fn lowered(len: usize, capacity: usize) -> usize
 fn chain_one<K, V>(heads: &mut Vec<Link>, ring: &mut Ring<K, V>, at: Position<K, V>)
     requires some { 0 < vec_len heads.old }
     requires power { IsBucketCount (vec_len heads.old) }
-    requires held { IsHeld ring.old.held (place_of at) }
-    ensures chained { Chains (place_of at) (map target heads.old.items) (map target heads.new.items) ring.old.held ring.new.held }
+    requires held { IsHeld ring.old.held (pointer_of at) }
+    ensures chained { Chains (pointer_of at) (map target heads.old.items) (map target heads.new.items) ring.old.held ring.new.held }
     ensures spares { ring.new.spares ≡ ring.old.spares }
     ensures buckets { vec_len heads.new ≡ vec_len heads.old }
 {
@@ -386,11 +397,11 @@ fn chain_all<K, V>(heads: &mut Vec<Link>, ring: &mut Ring<K, V>) -> usize
     ensures buckets { vec_len heads.new ≡ vec_len heads.old }
 {
     let mut count = 0;
-    let mut place = ring.first();
-    while let Some(at) = place {
+    let mut pointer = ring.first();
+    while let Some(at) = pointer {
         chain_one(heads, ring, at);
         count += 1;
-        place = ring.next(at);
+        pointer = ring.next(at);
     }
     count
 }

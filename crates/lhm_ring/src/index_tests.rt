@@ -101,7 +101,7 @@ impl<K: Eq, V> Table<K, V> {
     }
 }
 
-/// A table of this capacity that holds the keys, each with its number.
+/// Makes a table of this capacity that holds the keys, each with its number.
 fn filled(rt: &HostRuntime, capacity: u64, pairs: &[(u64, u64)]) -> Result<Table<u64, u64>, Fail> {
     let mut table = Table::new(rt.alloc());
     for _ in 0..capacity {

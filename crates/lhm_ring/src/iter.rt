@@ -4,7 +4,7 @@ ghost use Rattle.std.specs.Iterator.{at_most, UpTo};
 ghost use Rattle.std.specs.Iterator.SizeHint.{IsWithinCount};
 ghost use Rattle.lhm_ring.specs.Walks.{IsFirstStep, IsLastStep, LendsFirstStep, LendsLastStep, ShowsFirstStep, ShowsLastStep, rest_of};
 
-use crate::block::Place;
+use crate::block::NodePointer;
 use crate::links::Links;
 use crate::nodes::Nodes;
 use crate::ring::{Ring, nowhere};
@@ -20,8 +20,8 @@ use std::marker::Model;
 pub struct Iter<'a, K, V> {
     // What is left is in the `left` nodes between the one at `before` and the one at `after`.
     pub(crate) nodes: &'a Nodes<Links, K, V>,
-    pub(crate) before: Place,
-    pub(crate) after: Place,
+    pub(crate) before: NodePointer,
+    pub(crate) after: NodePointer,
     pub(crate) left: usize,
 }
 
@@ -39,8 +39,8 @@ impl<'a, K, V> Model for Iter<'a, K, V> {
 }
 
 impl<'a, K, V> Iter<'a, K, V> {
-    /// The first of what is left.
-    pub(crate) fn step(&mut self) -> Option<(Place, u64, &'a K, &'a V)>
+    /// Returns the first of what is left and moves past it, or returns `None` where nothing is left.
+    pub(crate) fn step(&mut self) -> Option<(NodePointer, u64, &'a K, &'a V)>
         ensures { IsFirstStep self.old result self.new }
     {
         if self.left == 0 {
@@ -53,8 +53,8 @@ impl<'a, K, V> Iter<'a, K, V> {
         Some((at, nodes.links(at).number, nodes.key(at), nodes.value(at)))
     }
 
-    /// The last of what is left.
-    pub(crate) fn step_back(&mut self) -> Option<(Place, u64, &'a K, &'a V)>
+    /// Returns the last of what is left and moves past it, or returns `None` where nothing is left.
+    pub(crate) fn step_back(&mut self) -> Option<(NodePointer, u64, &'a K, &'a V)>
         ensures { IsLastStep self.old result self.new }
     {
         if self.left == 0 {
@@ -167,7 +167,7 @@ impl<'a, K, V> IterMut<'a, K, V> {
         }
     }
 
-    /// The first of what is left.
+    /// Returns the first of what is left and moves past it, or returns `None` where nothing is left.
     fn step(&mut self) -> Option<(u64, &'a K, &'a mut V)>
         ensures { LendsFirstStep (rest_of self.old) result (rest_of self.new) }
     {
@@ -177,7 +177,7 @@ impl<'a, K, V> IterMut<'a, K, V> {
         }
     }
 
-    /// The last of what is left.
+    /// Returns the last of what is left and moves past it, or returns `None` where nothing is left.
     fn step_back(&mut self) -> Option<(u64, &'a K, &'a mut V)>
         ensures { LendsLastStep (rest_of self.old) result (rest_of self.new) }
     {

@@ -4,11 +4,11 @@ ghost use Rattle.std.specs.Option.{IsSome};
 ghost use mathlib.Core.Bool.{Bool-set};
 ghost use Rattle.lhm_ring.specs.Cells.{is_block, is_null_or_block};
 
-use crate::block::Place;
+use crate::block::NodePointer;
 use crate::position::Position;
 use std::ptr::{NonNull, null};
 
-/// The place of a node, or null where it leads nowhere.
+/// The pointer of a node, or null where it leads nowhere.
 #[derive(Clone, Copy)]
 pub struct Link {
     ptr: *const u8,
@@ -16,50 +16,50 @@ pub struct Link {
 }
 
 impl Link {
-    ghost use Rattle.lhm_ring.specs.Positions.{place_of_some};
+    ghost use Rattle.lhm_ring.specs.Positions.{pointer_of_some};
     ghost use Rattle.lhm_ring.specs.Targets.{target};
 
-    /// The link that leads nowhere.
+    /// Makes a link that leads nowhere.
     pub(crate) fn none() -> Link
         ensures { target result ≡ None }
     {
         Link { ptr: null() }
     }
 
-    /// The link to a place.
-    pub(crate) fn to(place: Place) -> Link
-        requires { is_block place.ptr ≡ true }
-        ensures { target result ≡ Some place.ptr }
+    /// Makes a link to a pointer.
+    pub(crate) fn to(pointer: NodePointer) -> Link
+        requires { is_block pointer.ptr ≡ true }
+        ensures { target result ≡ Some pointer.ptr }
     {
-        Link { ptr: place.ptr }
+        Link { ptr: pointer.ptr }
     }
 
-    /// The link to a position, if there is one.
+    /// Makes a link to a position, or for `None` one that leads nowhere.
     pub(crate) fn of<K, V>(at: Option<Position<K, V>>) -> Link
-        ensures { target result ≡ place_of_some at }
+        ensures { target result ≡ pointer_of_some at }
     {
         match at {
-            Some(at) => Link::to(at.place),
+            Some(at) => Link::to(at.pointer),
             None => Link::none(),
         }
     }
 
-    /// The position that it leads to, if there is one.
+    /// Returns the position that it leads to, or `None` where it leads nowhere.
     pub(crate) fn get<K, V>(self) -> Option<Position<K, V>>
-        ensures { place_of_some result ≡ target self }
+        ensures { pointer_of_some result ≡ target self }
     {
         match NonNull::new(self.ptr.cast_mut()) {
-            Some(_) => Some(Position::new(Place { ptr: self.ptr })),
+            Some(_) => Some(Position::new(NodePointer { ptr: self.ptr })),
             None => None,
         }
     }
 
-    /// The place that it leads to, where it leads somewhere. Nothing is tested.
-    pub(crate) fn place(self) -> Place
+    /// Returns the pointer that it leads to, where it leads somewhere. Nothing is tested.
+    pub(crate) fn pointer(self) -> NodePointer
         requires { IsSome (target self) }
-        ensures place { target self ≡ Some result.ptr }
+        ensures pointer { target self ≡ Some result.ptr }
         ensures block { is_block result.ptr ≡ true }
     {
-        Place { ptr: self.ptr }
+        NodePointer { ptr: self.ptr }
     }
 }

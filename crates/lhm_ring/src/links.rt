@@ -1,6 +1,6 @@
 //! What a node of the ring has beside its key and its value.
 
-use crate::block::Place;
+use crate::block::NodePointer;
 use crate::link::Link;
 
 /// The links of a node for the order, one further link, and the number of its key.
@@ -10,8 +10,8 @@ use crate::link::Link;
 /// smaller one is written with every write of the links, and a whole word only where it changes.
 #[derive(Clone, Copy)]
 pub struct Links {
-    pub(crate) prev: Place,
-    pub(crate) next: Place,
+    pub(crate) prev: NodePointer,
+    pub(crate) next: NodePointer,
     pub(crate) link: Link,
     pub(crate) number: u64,
     pub(crate) guard: u64,

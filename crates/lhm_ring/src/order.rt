@@ -9,7 +9,7 @@ use crate::position::Position;
 use crate::ring::{Ring, join, relink};
 
 impl<K, V> Ring<K, V> {
-    ghost use Rattle.lhm_ring.specs.Positions.{place_of};
+    ghost use Rattle.lhm_ring.specs.Positions.{pointer_of};
     ghost use Rattle.lhm_ring.specs.RingAfterLoan.{pair};
 
     /// Moves the triple at a position behind all others, which stay in order.
@@ -17,17 +17,17 @@ impl<K, V> Ring<K, V> {
     /// It writes links alone, in a constant number of steps, and takes no memory. Positions stand. No two triples are at one
     /// position.
     pub fn move_to_back(&mut self, at: Position<K, V>)
-        requires { IsHeld self.old.held (place_of at) }
-        ensures last { AtHeld self.old.held (place_of at) (λ xs t ys. self.new.held ≡ (xs ++ ys) ++ t ∷ []) }
+        requires { IsHeld self.old.held (pointer_of at) }
+        ensures last { AtHeld self.old.held (pointer_of at) (λ xs t ys. self.new.held ≡ (xs ++ ys) ++ t ∷ []) }
         ensures spares { self.new.spares ≡ self.old.spares }
         ensures apart { IsApart (map (λ t. t.at) self.old.held) }
     {
         let guard = self.guard.unwrap();
-        let links = *self.nodes.links(at.place);
+        let links = *self.nodes.links(at.pointer);
         join(&mut self.nodes, links.prev, links.next);
         let last = self.nodes.links(guard).prev;
-        join(&mut self.nodes, last, at.place);
-        join(&mut self.nodes, at.place, guard);
+        join(&mut self.nodes, last, at.pointer);
+        join(&mut self.nodes, at.pointer, guard);
     }
 
     /// Puts a triple behind all others, into a spare node, and returns its position. Its link leads nowhere.
@@ -35,11 +35,11 @@ impl<K, V> Ring<K, V> {
     /// It costs a constant number of steps, takes no memory, and drops nothing. The others stay in order.
     pub fn put_back(&mut self, number: u64, key: K, value: V) -> Position<K, V>
         requires { 0 < self.old.spares }
-        ensures last { self.new.held ≡ self.old.held ++ held (place_of result) number None (pair key value) ∷ [] }
+        ensures last { self.new.held ≡ self.old.held ++ held (pointer_of result) number None (pair key value) ∷ [] }
         ensures spares { self.new.spares ≡ self.old.spares - 1 }
     {
         let guard = self.guard.unwrap();
-        let at = self.spare.place();
+        let at = self.spare.pointer();
         let old = *self.nodes.links(at);
         let previous = self.nodes.links(guard).prev;
         // A spare node is no guard, and its other two links are written where it is joined.
@@ -62,13 +62,13 @@ impl<K, V> Ring<K, V> {
     ///
     /// It costs a constant number of steps, and takes and frees no memory. The position leads nowhere then.
     pub fn unlink(&mut self, at: Position<K, V>) -> (u64, K, V)
-        requires { IsHeld self.old.held (place_of at) }
-        ensures others { AtHeld self.old.held (place_of at) (λ xs t ys. self.new.held ≡ xs ++ ys) }
-        ensures triple { AtHeld self.old.held (place_of at) (λ xs t ys. result ≡ (t.number, t.pair.0, t.pair.1)) }
+        requires { IsHeld self.old.held (pointer_of at) }
+        ensures others { AtHeld self.old.held (pointer_of at) (λ xs t ys. self.new.held ≡ xs ++ ys) }
+        ensures triple { AtHeld self.old.held (pointer_of at) (λ xs t ys. result ≡ (t.number, t.pair.0, t.pair.1)) }
         ensures spares { self.new.spares ≡ self.old.spares + 1 }
     {
         let guard = self.guard.unwrap();
-        let at = at.place;
+        let at = at.pointer;
         let old = *self.nodes.links(at);
         join(&mut self.nodes, old.prev, old.next);
         let (key, value) = self.nodes.take(at);

@@ -3,7 +3,7 @@ ghost use Rattle.std.specs.Prelude.{◌≡◌, ⊤, true};
 ghost use mathlib.Core.Bool.{Bool-set};
 ghost use Rattle.lhm_ring.specs.Cells.{is_block};
 
-use crate::block::Place;
+use crate::block::NodePointer;
 use std::alloc::AllocError;
 use std::marker::PhantomData;
 
@@ -12,18 +12,18 @@ use std::marker::PhantomData;
 /// It stays the position of its triple until that triple leaves the ring, whatever happens to the others. It owns nothing
 /// and gives no access without the ring. Two of them cannot be compared.
 pub struct Position<K, V> {
-    pub(crate) place: Place,
+    pub(crate) pointer: NodePointer,
     mark: PhantomData<(K, V)>,
-    ghost block: { is_block place.ptr ≡ true } by { Bool-set _ _ },
+    ghost block: { is_block pointer.ptr ≡ true } by { Bool-set _ _ },
 }
 
 impl<K, V> Position<K, V> {
-    pub(crate) fn new(place: Place) -> Position<K, V>
-        requires { is_block place.ptr ≡ true }
-        ensures { result.place ≡ place }
+    pub(crate) fn new(pointer: NodePointer) -> Position<K, V>
+        requires { is_block pointer.ptr ≡ true }
+        ensures { result.pointer ≡ pointer }
     {
         Position {
-            place,
+            pointer,
             mark: PhantomData,
         }
     }

@@ -3,7 +3,7 @@ ghost use Rattle.std.specs.Prelude.{◌≡◌, ◌+◌, ◌≤◌, ◌^◌, [], 
 ghost use Rattle.lhm_ring.specs.Cells.{IsApart, IsAt};
 ghost use Rattle.lhm_ring.specs.Rings.{IsJoined, Relinks, is_there};
 
-use crate::block::{Place, deallocate};
+use crate::block::{NodePointer, deallocate};
 pub use crate::drain::Drain;
 pub use crate::iter::{Iter, IterMut};
 use crate::link::Link;
@@ -23,7 +23,7 @@ use std::marker::Model;
 pub struct Ring<K, V> {
     pub(crate) nodes: Nodes<Links, K, V>,
     pub(crate) alloc: Global,
-    pub(crate) guard: Option<Place>,
+    pub(crate) guard: Option<NodePointer>,
     pub(crate) spare: Link,
     pub(crate) len: usize,
     pub(crate) spares: usize,
@@ -104,7 +104,7 @@ impl<K, V> Ring<K, V> {
 }
 
 /// Makes `b` the node right after `a`.
-pub(crate) fn join<K, V>(nodes: &mut Nodes<Links, K, V>, a: Place, b: Place)
+pub(crate) fn join<K, V>(nodes: &mut Nodes<Links, K, V>, a: NodePointer, b: NodePointer)
     requires { (is_there nodes.old.cells a.ptr ≡ true) × (is_there nodes.old.cells b.ptr ≡ true) }
     ensures { IsJoined nodes.old.cells nodes.new.cells a.ptr b.ptr }
 {
@@ -117,7 +117,7 @@ pub(crate) fn join<K, V>(nodes: &mut Nodes<Links, K, V>, a: Place, b: Place)
 }
 
 /// Lets the further link of the node at `at` be `link`. All else stays.
-pub(crate) fn relink<K, V>(nodes: &mut Nodes<Links, K, V>, at: Place, link: Link)
+pub(crate) fn relink<K, V>(nodes: &mut Nodes<Links, K, V>, at: NodePointer, link: Link)
     requires { IsAt nodes.old.cells at.ptr }
     ensures { Relinks nodes.old.cells at.ptr link nodes.new.cells }
 {
@@ -126,9 +126,9 @@ pub(crate) fn relink<K, V>(nodes: &mut Nodes<Links, K, V>, at: Place, link: Link
     nodes.set_links(at, links);
 }
 
-/// No place at all, for links that lead nowhere yet.
-pub(crate) fn nowhere() -> Place {
-    Place {
+/// Returns a pointer where no node lies, for links that lead nowhere yet.
+pub(crate) fn nowhere() -> NodePointer {
+    NodePointer {
         ptr: std::ptr::null(),
     }
 }

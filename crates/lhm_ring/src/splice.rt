@@ -2,7 +2,7 @@
 ghost use Rattle.lhm_ring.specs.Splices.{HasRow, SparesRow, HasRing, SplicesRing};
 ghost use Rattle.lhm_ring.specs.Targets.{target};
 
-use crate::block::Place;
+use crate::block::NodePointer;
 use crate::link::Link;
 use crate::links::Links;
 use crate::nodes::Nodes;
@@ -10,14 +10,14 @@ use crate::ring::{join, nowhere, relink};
 
 /// The nodes that a ring held, from `first` to `last`, and the first spare node once they are spare too.
 pub(crate) struct Spliced {
-    pub(crate) first: Place,
-    pub(crate) last: Place,
+    pub(crate) first: NodePointer,
+    pub(crate) last: NodePointer,
     pub(crate) spare: Link,
 }
 
 /// Makes spare nodes of the `count` nodes from `first` on, and answers the first spare one. The last of them
 /// comes first. What they hold stays in them, and so do their links for the order.
-fn spare_row<K, V>(nodes: &mut Nodes<Links, K, V>, first: Place, count: usize, spare: Link) -> Link
+fn spare_row<K, V>(nodes: &mut Nodes<Links, K, V>, first: NodePointer, count: usize, spare: Link) -> Link
     requires { HasRow nodes.old.cells first.ptr count (target spare) }
     ensures { SparesRow nodes.old.cells first.ptr count (target spare) nodes.new.cells (target result) }
 {
@@ -37,7 +37,7 @@ fn spare_row<K, V>(nodes: &mut Nodes<Links, K, V>, first: Place, count: usize, s
 /// Makes spare nodes of all held ones. What they hold stays in them.
 pub(crate) fn splice<K, V>(
     nodes: &mut Nodes<Links, K, V>,
-    guard: Option<Place>,
+    guard: Option<NodePointer>,
     spare: Link,
     count: usize,
 ) -> Spliced

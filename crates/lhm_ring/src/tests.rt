@@ -1,7 +1,7 @@
 ghost use Rattle.std.specs.Prelude.{◌≡◌, ◌+◌, [], length, map, slice_get, Some, IfSome};
 ghost use Rattle.lhm_ring.specs.RingState.{IsHeld, AtHeld, triples};
 ghost use Rattle.lhm_ring.specs.RingAfterLoan.{unvalued};
-ghost use Rattle.lhm_ring.specs.Positions.{place_of};
+ghost use Rattle.lhm_ring.specs.Positions.{pointer_of};
 
 use crate::block::Node;
 use crate::links::Links;
@@ -13,7 +13,7 @@ use std::mem::{forget, size_of};
 use std::rc::Rc;
 use std::test::*;
 
-/// The numbers, keys and values in order, and how many spare nodes there are.
+/// Tells whether a ring holds exactly these numbers, keys and values, in order, and has this many spare nodes.
 fn is_ring(ring: &Ring<char, u64>, triples: &[(u64, char, u64)], spares: usize) -> bool {
     if ring.len() != triples.len() || ring.spares() != spares {
         return false;
@@ -87,8 +87,8 @@ fn hands_out_from_both_ends(rt: HostRuntime) -> Result<(), Fail> {
 
 /// Writes each value, and reads the number at `at`, which is where it was: no value is known, and all else stands.
 fn number_after_writing(ring: &mut Ring<char, u64>, at: Position<char, u64>) -> u64
-    requires { IsHeld ring.old.held (place_of at) }
-    ensures number { AtHeld ring.old.held (place_of at) (λ xs t ys. result ≡ t.number) }
+    requires { IsHeld ring.old.held (pointer_of at) }
+    ensures number { AtHeld ring.old.held (pointer_of at) (λ xs t ys. result ≡ t.number) }
     ensures held { map unvalued ring.new.held ≡ map unvalued ring.old.held }
     ensures spares { ring.new.spares ≡ ring.old.spares }
 {
@@ -141,7 +141,7 @@ fn len_when_forgotten(ring: &mut Ring<char, u64>) -> usize
     ring.len()
 }
 
-/// Two triples and one spare node.
+/// Puts two triples into a ring that has no spare nodes or three, and leaves one spare node.
 fn two_of(ring: &mut Ring<char, u64>) -> Result<(), AllocError> {
     if ring.spares() == 0 {
         ring.grow(3)?;
@@ -201,7 +201,7 @@ fn reads_and_writes_at_a_position(rt: HostRuntime) -> Result<(), Fail> {
     Ok(())
 }
 
-/// A ring of three triples, whose keys and values are all the same counted one, and of one spare node.
+/// Puts three triples, whose keys and values are all the same counted one, and one spare node into a new ring.
 fn three_of(counted: &Rc<u8>, ring: &mut Ring<Rc<u8>, Rc<u8>>) -> Result<(), AllocError> {
     ring.grow(4)?;
     for number in 0..3 {

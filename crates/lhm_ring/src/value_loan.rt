@@ -5,7 +5,7 @@ ghost use base.Fml.{GName, ftrue, ffalse};
 ghost use denote.RawPtr.{Ptr};
 ghost use Rattle.lhm_ring.specs.ValueLoan.{borrowed, value_at, without_value, Lies};
 
-use crate::block::{Node, Place};
+use crate::block::{Node, NodePointer};
 use crate::links::Links;
 use crate::ring::Ring;
 use std::cell::UnsafeCell;
@@ -28,7 +28,7 @@ impl<V> Move for Hole<V> {
     ghost own_val = { λ _ _. ffalse };
 }
 
-/// The right to write the values that are still to be taken, `run`, each with the place of its node.
+/// The right to write the values that are still to be taken, `run`, each with the pointer of its node.
 #[derive(Drop)]
 pub struct ValueLoan<'a, L, K, V> {
     pub mark: PhantomData<&'a mut Node<L, K, V>>,
@@ -44,8 +44,8 @@ impl<'a, L, K, V> Model for ValueLoan<'a, L, K, V> {
 }
 
 impl<'a, L, K, V> ValueLoan<'a, L, K, V> {
-    /// The value of the node at `at`, for writing until the loan ends.
-    pub(crate) fn take(&mut self, at: Place) -> &'a mut V
+    /// Lends the value of the node at `at`, for writing until the loan ends.
+    pub(crate) fn take(&mut self, at: NodePointer) -> &'a mut V
         requires { Lies self.old.run at.ptr }
         ensures value { value_at self.old.run at.ptr ≡ Some result.now }
         ensures run { self.new.run ≡ without_value at.ptr self.old.run }

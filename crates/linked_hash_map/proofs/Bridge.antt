@@ -1,13 +1,13 @@
 -- How the pairs that a log defines change with one more event: single calls on a list of pairs.
 use Rattle.std.proofs.Common.{◌≡◌, ℕ, Bool, true, false, cond, not, ◌&&◌, ◌||◌, List, [], ◌∷◌, ◌++◌, map, Option, Some, None, is_some, option_map, filter, filter_map, refl, sym, ap, ◌∙◌, true≢false, append-nil}
 use Rattle.std.specs.List.{list_any, cons_option}
-use Rattle.std.specs.Option.{option_or}
+use Rattle.std.specs.Option.{option_or, option_zip}
 use Rattle.std.specs.Map.{lookup_entry}
 use Rattle.std.specs.Cmp.{IsEquivalence}
 use Rattle.std.proofs.lemmas.List.Elements.{filter_map-append}
 use Rattle.linked_hash_map.specs.declared.map.Mode.{Mode}
 use Rattle.linked_hash_map.specs.declared.map.Mode.TheVariants.{Touch, Keep}
-use Rattle.linked_hash_map.specs.Log.{Event, Put, Write, Refresh, Remove, RemoveAll, Need, Fit, SetMode, Log, moves, mode, touched, put_key, ends, written, live, stored, value, both, pair_of, stands, standing, pairs}
+use Rattle.linked_hash_map.specs.Log.{Event, Put, Write, Refresh, Remove, RemoveAll, Need, Fit, SetMode, Log, moves, mode, touched, put_key, ends, written, live, stored, value, pair_of, stands, standing, pairs}
 use Rattle.linked_hash_map.specs.Pairs.{key_or, find, without, to_back, set_value, put}
 use Rattle.linked_hash_map.proofs.Lists.{option_or_none}
 use Rattle.linked_hash_map.proofs.Pairs.{filter-none, to_back-absent, put-absent, put-present}
@@ -69,7 +69,7 @@ not_not : (b : Bool) → not b ≡ true → b ≡ false
 not_not true h = sym h
 not_not false h = refl
 
-pair_at : {K V : Type 0} (k : K) (s : Option K) (w : Option V) (v : V) → is_some s ≡ is_some (both s w) → both (option_or s (Some k)) (Some v) ≡ Some (key_or k (both s w), v)
+pair_at : {K V : Type 0} (k : K) (s : Option K) (w : Option V) (v : V) → is_some s ≡ is_some (option_zip s w) → option_zip (option_or s (Some k)) (Some v) ≡ Some (key_or k (option_zip s w), v)
 pair_at k None w v h = refl
 pair_at k (Some s) None v h = absurd (true≢false h)
 pair_at k (Some s) (Some w) v h = refl
@@ -190,17 +190,17 @@ module _ {K Y : Type 0} (f g : K → Option Y) (h : Y → Y) (alike : (q : K) �
   map-filter_map (q ∷ ks) = ap (λ o. cons_option o (filter_map f ks)) (alike q) ∙ map_step (g q) (filter_map f ks) (filter_map g ks) (map-filter_map ks)
 
 module _ {K V : Type 0} {eq : K → K → Bool} (laws : IsEquivalence eq) where
-  write_both : (k q : K) (v : V) (b : Bool) (s : Option K) (w : Option V) → eq q k ≡ b → is_some (both s w) ≡ is_some s → ((t : K) → s ≡ Some t → eq q t ≡ true) → both s (option_or (cond b (Some v) None) w) ≡ option_map (λ e. cond (eq k e.0) (e.0, v) e) (both s w)
-  write_both k q v b None w h i f = refl
-  write_both k q v b (Some s) None h i f = absurd (true≢false (sym i))
-  write_both k q v true (Some s) (Some w) h i f = ap (λ b. Some (cond b (s, v) (s, w))) (sym (laws.symm k s ∙ sym (laws.congr q s k (f s refl)) ∙ h))
-  write_both k q v false (Some s) (Some w) h i f = ap (λ b. Some (cond b (s, v) (s, w))) (sym (laws.symm k s ∙ sym (laws.congr q s k (f s refl)) ∙ h))
+  write_zip : (k q : K) (v : V) (b : Bool) (s : Option K) (w : Option V) → eq q k ≡ b → is_some (option_zip s w) ≡ is_some s → ((t : K) → s ≡ Some t → eq q t ≡ true) → option_zip s (option_or (cond b (Some v) None) w) ≡ option_map (λ e. cond (eq k e.0) (e.0, v) e) (option_zip s w)
+  write_zip k q v b None w h i f = refl
+  write_zip k q v b (Some s) None h i f = absurd (true≢false (sym i))
+  write_zip k q v true (Some s) (Some w) h i f = ap (λ b. Some (cond b (s, v) (s, w))) (sym (laws.symm k s ∙ sym (laws.congr q s k (f s refl)) ∙ h))
+  write_zip k q v false (Some s) (Some w) h i f = ap (λ b. Some (cond b (s, v) (s, w))) (sym (laws.symm k s ∙ sym (laws.congr q s k (f s refl)) ∙ h))
 
   write_pair : (log : Log K V) (k : K) (v : V) (q : K) → pair_of (eq q) (log ++ Write k v ∷ []) ≡ option_map (λ e. cond (eq k e.0) (e.0, v) e) (pair_of (eq q) log)
   unfolding pair_of
   write_pair log k v q =
       rw (stored-snoc (eq q) log (Write k v), value-snoc (eq q) log (Write k v), option_or_none (stored (eq q) log))
-      (write_both k q v (eq q k) (stored (eq q) log) (value (eq q) log) refl (pair_of-live (eq q) log ∙ sym (stored-live (eq q) log)) (stored-same (eq q) log))
+      (write_zip k q v (eq q k) (stored (eq q) log) (value (eq q) log) refl (pair_of-live (eq q) log ∙ sym (stored-live (eq q) log)) (stored-same (eq q) log))
 
   -- a Write of a key
   pub pairs-write : (log : Log K V) (k : K) (v : V) → pairs eq (log ++ Write k v ∷ []) ≡ set_value eq (pairs eq log) k v
@@ -216,20 +216,20 @@ module _ {K V : Type 0} {eq : K → K → Bool} (laws : IsEquivalence eq) where
   unfolding pair_of
   kept_pair log k v q is_live =
       rw (stored-snoc (eq q) log (Put k v), value-snoc (eq q) log (Put k v), stored_stays k (stored (eq q) log) (eq q k) (stored_live log k q is_live))
-      (write_both k q v (eq q k) (stored (eq q) log) (value (eq q) log) refl (pair_of-live (eq q) log ∙ sym (stored-live (eq q) log)) (stored-same (eq q) log))
+      (write_zip k q v (eq q k) (stored (eq q) log) (value (eq q) log) refl (pair_of-live (eq q) log ∙ sym (stored-live (eq q) log)) (stored-same (eq q) log))
 
   -- a Put that moves nothing is a Write
   pairs-put_kept : (log : Log K V) (k : K) (v : V) → moves (mode log) (live (eq k) log) ≡ false → pairs eq (log ++ Put k v ∷ []) ≡ set_value eq (pairs eq log) k v
   unfolding pairs
   pairs-put_kept log k v unmoved =
-      ap (filter_map (λ q. pair_of (eq q) (log ++ Put k v ∷ []))) same_places
+      ap (filter_map (λ q. pair_of (eq q) (log ++ Put k v ∷ []))) same_standing
       ∙ map-filter_map (λ q. pair_of (eq q) (log ++ Put k v ∷ [])) (λ q. pair_of (eq q) log) (λ e. cond (eq k e.0) (e.0, v) e) (λ q. kept_pair log k v q (moves-live (mode log) (live (eq k) log) unmoved)) (standing eq log)
     where
       nothing_new : stands {V = V} eq (λ q. live (eq q) (log ++ Put k v ∷ [])) [] (touched eq (log, Put k v)) ≡ []
       nothing_new = rw unmoved refl
 
-      same_places : standing eq (log ++ Put k v ∷ []) ≡ standing eq log
-      same_places =
+      same_standing : standing eq (log ++ Put k v ∷ []) ≡ standing eq log
+      same_standing =
           standing-snoc eq log (Put k v)
           ∙ ap (λ ks. filter (keeps eq log (Put k v)) (standing eq log) ++ ks) nothing_new
           ∙ append-nil (filter (keeps eq log (Put k v)) (standing eq log))

@@ -1,7 +1,7 @@
 -- The pair at the current index.
 use Rattle.std.proofs.Common.{◌≡◌, ℕ, suc, ◌+◌, ◌-◌, ◌<◌, ◌≤◌, ◌⊎◌, Bool, true, false, cond, List, [], ◌∷◌, map, length, slice_get, Option, Some, None, refl, sym, ap, ◌∙◌, subst, arith}
 use denote.RawPtr.{Ptr}
-use Rattle.lhm_ring.specs.Positions.{place_of, place_of_some}
+use Rattle.lhm_ring.specs.Positions.{pointer_of, pointer_of_some}
 use Rattle.lhm_ring.specs.Cells.{same_ptr, IsApart}
 use Rattle.lhm_ring.specs.RingState.{Held, State, first_at, last_of, last_at}
 use Rattle.lhm_ring.specs.RingAfterLoan.{with_value}
@@ -18,7 +18,7 @@ use Rattle.linked_hash_map.specs.Nodes.{pairs_of, bare, before, bookmark_at, cur
 use Rattle.linked_hash_map.proofs.Kept.{CutAt, cut_before, bare-change, length-bare, before-bare, pair_there}
 use Rattle.linked_hash_map.proofs.Outside.{IsElsewhere, before_held}
 
--- the index is the number of nodes before the place
+-- the index is the number of nodes before the pointer
 pub current_at-Some : {K V : Type 0} {o : Option Ptr} {p : Ptr} → o ≡ Some p → (hs : List (Held (K × V))) → current_at o (bare hs) ≡ before p hs
 current_at-Some {p = p} is hs = ap (λ z. current_at z (bare hs)) is ∙ before-bare p hs
 
@@ -27,8 +27,8 @@ cond-None true = refl
 cond-None false = refl
 
 -- where an entry stands
-pub current_of-Some : {K V : Type 0} {current : Option Ptr} {o : Option (Position K V)} {p : Position K V} → place_of_some o ≡ current → o ≡ Some p → current ≡ Some (place_of p)
-current_of-Some of is = sym of ∙ ap place_of_some is
+pub current_of-Some : {K V : Type 0} {current : Option Ptr} {o : Option (Position K V)} {p : Position K V} → pointer_of_some o ≡ current → o ≡ Some p → current ≡ Some (pointer_of p)
+current_of-Some of is = sym of ∙ ap pointer_of_some is
 
 module _ {K V : Type 0} {eq : K → K → Bool} {hash : K → ℕ} {heads : List (Option Ptr)} {s : State (K × V)} {mark : Option Ptr} {n : ℕ} {o : Option Ptr} {r : ℕ} (kept : IsKept eq hash heads s mark n o r) {p : Ptr} (is : o ≡ Some p) where
   -- a node lies there
@@ -88,7 +88,7 @@ module _ {K V : Type 0} {eq : K → K → Bool} {hash : K → ℕ} {heads : List
         few = kept.few;
       }
 
--- a key that was looked for is at the index of its place
+-- a key that was looked for is at the index of its node
 module _ {K V : Type 0} {eq : K → K → Bool} {number : ℕ} {k : K} {hs : List (Held (K × V))} {p : Ptr} (h : HasKey eq number k hs p) where
   pub key_lies : before p hs < length hs
   key_lies = let at = h.held in subst (λ (ks : List (Held (K × V))). before p ks < length ks) (sym at.3) (before_held p at.0 at.1 at.2 at.4)

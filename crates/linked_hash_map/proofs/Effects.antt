@@ -1,11 +1,12 @@
 -- What the map's calls answer and leave, on a log that defines the map.
 use Rattle.std.proofs.Common.{◌≡◌, ℕ, zero, suc, ◌+◌, ◌-◌, ◌<◌, ◌≤◌, max, Bool, take, drop, remove, slice_get, subst, arith, drop_of_length-le, List, [], ◌∷◌, ◌++◌, length, Option, Some, None, is_some, option_map, refl, sym, ap, ap₂, ◌∙◌, true≢false, append-nil, append_assoc}
+use Rattle.std.specs.Option.{option_zip}
 use Rattle.std.specs.List.{IsDistinct}
 use Rattle.std.proofs.lemmas.List.{map-append}
 use Rattle.std.specs.Map.{keys_of}
 use Rattle.std.specs.Cmp.{IsEquivalence}
 use Rattle.linked_hash_map.specs.declared.map.Mode.{Mode}
-use Rattle.linked_hash_map.specs.Log.{Log, Put, Write, Refresh, Remove, RemoveAll, Need, Fit, SetMode, put_each, mode, live, stored, value, both, pair_of, pairs, size, high, IsFull, Defines}
+use Rattle.linked_hash_map.specs.Log.{Log, Put, Write, Refresh, Remove, RemoveAll, Need, Fit, SetMode, put_each, mode, live, stored, value, pair_of, pairs, size, high, IsFull, Defines}
 use Rattle.linked_hash_map.specs.Pairs.{find, value_at, without, to_back, set_value, put}
 use Rattle.linked_hash_map.specs.Requests.{IsAbsent, HasValue}
 use Rattle.linked_hash_map.proofs.LiveKeys.{pair_of-live}
@@ -16,10 +17,10 @@ use Rattle.linked_hash_map.proofs.Standing.{mode-snoc}
 use Rattle.linked_hash_map.proofs.Distinct.{distinct-pairs}
 use Rattle.linked_hash_map.proofs.Indexes.{without-own}
 
-value_of_both : {K V : Type 0} (s : Option K) (w : Option V) (v : V) → option_map (λ pair. pair.1) (both s w) ≡ Some v → w ≡ Some v
-value_of_both None w v h = absurd (true≢false (sym (ap is_some h)))
-value_of_both (Some s) None v h = absurd (true≢false (sym (ap is_some h)))
-value_of_both (Some s) (Some w) v h = h
+value_of_zip : {K V : Type 0} (s : Option K) (w : Option V) (v : V) → option_map (λ pair. pair.1) (option_zip s w) ≡ Some v → w ≡ Some v
+value_of_zip None w v h = absurd (true≢false (sym (ap is_some h)))
+value_of_zip (Some s) None v h = absurd (true≢false (sym (ap is_some h)))
+value_of_zip (Some s) (Some w) v h = h
 
 pub remove-first : {X : Type 0} (xs : List X) → remove xs 0 ≡ drop 1 xs
 remove-first [] = refl
@@ -80,7 +81,7 @@ module _ {K V : Type 0} {eq : K → K → Bool} (laws : IsEquivalence eq) {start
     unfolding pair_of
     HasValue-value {v} h = (
       live-found ∙ sym (is_some-value_at eq held k) ∙ ap is_some h,
-      value_of_both (stored (eq k) log) (value (eq k) log) v (ap (option_map (λ pair. pair.1)) (sym the_pair) ∙ h),
+      value_of_zip (stored (eq k) log) (value (eq k) log) v (ap (option_map (λ pair. pair.1)) (sym the_pair) ∙ h),
     )
 
     -- the map after an insertion
@@ -175,7 +176,7 @@ module _ {K V : Type 0} {eq : K → K → Bool} (laws : IsEquivalence eq) {start
   distinct-held : IsDistinct eq (keys_of held)
   distinct-held = subst (λ es. IsDistinct eq (keys_of es)) defines.same_pairs (distinct-pairs laws log)
 
-  -- after the pair at a place is taken out
+  -- after the pair at an index is taken out
   Defines-take_out : (i : ℕ) (pair : K × V) {later : List (K × V)} {capacity' : ℕ} {m' : Mode} → slice_get held i ≡ Some pair → later ≡ remove held i → capacity' ≡ capacity → m' ≡ m → Defines eq start (log ++ Remove pair.0 ∷ []) later capacity' m'
   Defines-take_out i pair there h m o = Defines-remove pair.0 (h ∙ sym (without-own laws held distinct-held i pair there)) m o
 

@@ -184,7 +184,7 @@ kept-removed : pairs {V = ℕ} nat_eq (SetMode Keep ∷ Put 1 1 ∷ Put 2 2 ∷ 
 unfolding mode live stored value standing_in standing pair_of pairs
 kept-removed = refl
 
--- each place has the mode of the last SetMode before it
+-- each position has the mode of the last SetMode before it
 kept-touched : pairs {V = ℕ} nat_eq (Put 1 1 ∷ Put 2 2 ∷ SetMode Keep ∷ Put 1 5 ∷ Put 2 9 ∷ Put 3 3 ∷ SetMode Touch ∷ Put 1 6 ∷ []) ≡ (2, 9) ∷ (3, 3) ∷ (1, 6) ∷ []
 unfolding mode live stored value standing_in standing pair_of pairs
 kept-touched = refl

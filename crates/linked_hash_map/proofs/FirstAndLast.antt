@@ -20,13 +20,13 @@ pub record Last {B : Type 0} (hs : List (Held B)) (p : Ptr) : Type 0 where
   pub is : hs ≡ rest ++ node ∷ []
   pub at : node.at ≡ p
 
-some_place : (p q : Ptr) → Some p ≡ Some q → p ≡ q
-some_place p q e = cc
+some_pointer : (p q : Ptr) → Some p ≡ Some q → p ≡ q
+some_pointer p q e = cc
 
 module _ {B : Type 0} where
   pub first_node : (hs : List (Held B)) (o : Option Ptr) (p : Ptr) → o ≡ first_at hs → o ≡ Some p → First hs p
   first_node [] o p e h = absurd (let no : None ≡ Some p = sym e ∙ h in cc)
-  first_node (t ∷ hs) o p e h = record { node = t; rest = hs; is = refl; at = some_place t.at p (sym e ∙ h) }
+  first_node (t ∷ hs) o p e h = record { node = t; rest = hs; is = refl; at = some_pointer t.at p (sym e ∙ h) }
 
   last_cut : (t : Held B) (hs : List (Held B)) → Last (t ∷ hs) (last_of t hs)
   last_cut t [] = record { rest = []; node = t; is = refl; at = refl }
@@ -36,7 +36,7 @@ module _ {B : Type 0} where
   last_node [] o p e h = absurd (let no : None ≡ Some p = sym e ∙ h in cc)
   last_node (t ∷ hs) o p e h =
       let r = last_cut t hs in
-      record { rest = r.rest; node = r.node; is = r.is; at = r.at ∙ some_place (last_of t hs) p (sym e ∙ h) }
+      record { rest = r.rest; node = r.node; is = r.is; at = r.at ∙ some_pointer (last_of t hs) p (sym e ∙ h) }
 
   -- the node, cut out of what is held
   module _ {hs : List (Held B)} {p : Ptr} where

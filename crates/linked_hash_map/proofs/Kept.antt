@@ -167,7 +167,7 @@ module _ {K V : Type 0} (eq : K → K → Bool) (hash : K → ℕ) (respects : (
   pub absent_key : (hs : List (Held (K × V))) → AllByRecursion (λ u. u.number ≡ hash u.pair) (bare hs) → IsAbsent eq n k hs → find eq (pairs_of hs) k ≡ None
   absent_key hs h none = lookup_entry-none (eq k) (pairs_of hs) (none_has hs h none)
 
--- the first node at a place
+-- the first node at a pointer
 pub record CutAt {B : Type 0} (p : Ptr) (hs : List (Held B)) : Type 0 where
   pub held : IsHeld hs p
   pub long : length held.0 ≡ before p hs
@@ -183,7 +183,7 @@ cut_before {B} p (t ∷ hs) h =
           record { held = (t ∷ r.held.0, r.held.1, r.held.2, ap (λ l. t ∷ l) r.held.3, r.held.4); long = long ∙ sym (ap (λ y. cond y 0 (before p hs + 1)) e) }
     ]) refl h
 
--- nodes at different places: each is the first at its own
+-- nodes at different pointers: each is the first at its own
 module _ {K V : Type 0} where
   fresh_mid : (p : Ptr) (xs : List (Held (K × V))) (t : Held (K × V)) (ys : List (Held (K × V))) → IsFresh p (map (λ u. u.at) (xs ++ t ∷ ys)) → same_ptr p t.at ≡ false
   fresh_mid p [] t ys f = f.0

@@ -125,12 +125,12 @@ module _ (K₀ V₀ S₀ H₀ : RattleType) (g : eq.Ghosts K₀.Denot) (h : hash
       hs = i.ring.held
 
       abbrev pub ps : List Ptr
-      ps = ring.at_places links.the_row K V (ring.entries K V a)
+      ps = ring.at_pointers links.the_row K V (ring.entries K V a)
 
       abbrev pub Fields : Fml
       Fields = ring.Fields K V 𝓛 a i.ring rseen rok rb (field_at ro)
 
-      -- the values vs, in the order of the ring, at the places of the entries
+      -- the values vs, in the order of the ring, at the pointers of the entries
       abbrev pub placed : List V.Denot → List V.Denot
       placed = ring.placed K V 𝓛 a i.ring rseen rok rb (field_at ro)
 

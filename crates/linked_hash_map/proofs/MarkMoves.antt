@@ -25,18 +25,18 @@ take-zero : {X : Type 0} (xs : List X) → take 0 xs ≡ []
 take-zero [] = refl
 take-zero (x ∷ xs) = refl
 
--- n pairs were unvisited, from the place on; the mark is at the next of them now, or there is no more to visit
-pub record Goes (mark len place n : ℕ) (o : Option Ptr) : Type 1 where
+-- n pairs were unvisited, from the index on; the mark is at the next of them now, or there is no more to visit
+pub record Goes (mark len index n : ℕ) (o : Option Ptr) : Type 1 where
   pub marked : o ≡ None → n - 1 ≡ 0
   pub reach : mark + (n - 1) ≤ len
-  pub stretch : {X : Type 0} (ks : List X) → take (n - 1) (drop mark ks) ≡ take (n - 1) (drop (place + 1) ks)
-  pub outside : (place < mark) ⊎ (mark + (n - 1) ≤ place)
+  pub stretch : {X : Type 0} (ks : List X) → take (n - 1) (drop mark ks) ≡ take (n - 1) (drop (index + 1) ks)
+  pub outside : (index < mark) ⊎ (mark + (n - 1) ≤ index)
 
-goes_none : (len place n : ℕ) → n - 1 ≡ 0 → Goes 0 len place n None
-goes_none len place n none = record {
+goes_none : (len index n : ℕ) → n - 1 ≡ 0 → Goes 0 len index n None
+goes_none len index n none = record {
   marked = λ _. none;
   reach = omega (arith, none);
-  stretch = λ ks. ap (λ k. take k (drop 0 ks)) none ∙ take-zero (drop 0 ks) ∙ sym (ap (λ k. take k (drop (place + 1) ks)) none ∙ take-zero (drop (place + 1) ks));
+  stretch = λ ks. ap (λ k. take k (drop 0 ks)) none ∙ take-zero (drop 0 ks) ∙ sym (ap (λ k. take k (drop (index + 1) ks)) none ∙ take-zero (drop (index + 1) ks));
   outside = inr (omega (arith, none));
 }
 

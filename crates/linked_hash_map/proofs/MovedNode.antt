@@ -23,7 +23,7 @@ list_any-others {K} {eq} laws (q ∷ xs) x ys h =
     let at = all_right (λ y. eq q y ≡ false) xs (x ∷ ys) (IsDistinct-head eq q (xs ++ x ∷ ys) h) in
     ap (λ b. b || list_any (eq x) (xs ++ ys)) (laws.symm x q ∙ at.0) ∙ list_any-others laws xs x ys (IsDistinct-tail eq q (xs ++ x ∷ ys) h)
 
--- before a place that one node has, the last, come all others
+-- before a node that lies last come all others
 before-last : {B : Type 0} (p : Ptr) (hs : List (Held B)) (t : Held B) → t.at ≡ p → IsFresh p (map (λ u. u.at) hs) → before p (hs ++ t ∷ []) ≡ length hs
 before-last p [] t at fresh = ap (λ y. cond y 0 1) (subst (λ q. same_ptr t.at q ≡ true) at (same_ptr_refl t.at))
 before-last p (x ∷ hs) t at fresh =
@@ -98,9 +98,9 @@ module _ {K V : Type 0} (hs ks : List (Held (K × V))) {p : Ptr} (last : AtHeld 
   before-moved : IsApart (map (λ t. t.at) hs) → before p ks ≡ length (cut_moved.held.0 ++ cut_moved.held.2)
   before-moved apart =
       let h = cut_moved.held in
-      let places : List (Held (K × V)) → List Ptr = map (λ t. t.at) in
-      let cut = subst IsApart (ap places h.3 ∙ map-append (λ (t : Held (K × V)). t.at) h.0 (h.1 ∷ h.2)) apart in
-      let fresh = subst (λ q. IsFresh q (places h.0 ++ places h.2)) h.4 (apart_at (places h.0) h.1.at (places h.2) cut) in
+      let pointers : List (Held (K × V)) → List Ptr = map (λ t. t.at) in
+      let cut = subst IsApart (ap pointers h.3 ∙ map-append (λ (t : Held (K × V)). t.at) h.0 (h.1 ∷ h.2)) apart in
+      let fresh = subst (λ q. IsFresh q (pointers h.0 ++ pointers h.2)) h.4 (apart_at (pointers h.0) h.1.at (pointers h.2) cut) in
       ap (before p) moved ∙ before-last p (h.0 ++ h.2) h.1 h.4 (subst (IsFresh p) (sym (map-append (λ (t : Held (K × V)). t.at) h.0 h.2)) fresh)
 
   pub before-at_back : IsApart (map (λ t. t.at) hs) → before p ks ≡ length hs - 1

@@ -1,12 +1,12 @@
 -- What an answer on a log that defines a map says of the map, and what the log after it defines, in the words of single calls.
 use Rattle.std.proofs.Common.{◌≡◌, ℕ, ◌+◌, ◌-◌, ◌<◌, ◌≤◌, max, Bool, true, false, cond, nat_lt, List, [], ◌∷◌, ◌++◌, length, take, drop, slice_get, append_assoc, Option, Some, None, is_some, option_map, refl, sym, ap, ap₂, ◌∙◌, subst, true≢false, arith}
 use Rattle.std.proofs.lemmas.Bool.{ltb-true, lt-ltb}
-use Rattle.std.specs.Option.{IsSome}
+use Rattle.std.specs.Option.{IsSome, option_zip}
 use Rattle.std.specs.List.{IsDistinct}
 use Rattle.std.specs.Map.{keys_of}
 use Rattle.std.specs.Cmp.{IsEquivalence}
 use Rattle.linked_hash_map.specs.declared.map.TheConstants.{LIMIT}
-use Rattle.linked_hash_map.specs.Log.{Log, Put, put_each, stored, value, both, pair_of, pairs, Defines}
+use Rattle.linked_hash_map.specs.Log.{Log, Put, put_each, stored, value, pair_of, pairs, Defines}
 use Rattle.linked_hash_map.specs.declared.map.Mode.{Mode}
 use Rattle.linked_hash_map.specs.Pairs.{find, value_at, to_back, put}
 use Rattle.linked_hash_map.specs.Inserts.{insert_each}
@@ -25,10 +25,10 @@ use Rattle.linked_hash_map.proofs.Effects.{size-held, the_pair, live-found, Defi
 use Rattle.linked_hash_map.proofs.Callers.Keys.{without-absent}
 use Rattle.linked_hash_map.proofs.Callers.Collected.{length-insert_each_least}
 
-value_of_both : {K V : Type 0} (s : Option K) (w : Option V) (v : V) → is_some s ≡ true → w ≡ Some v → option_map (λ pair. pair.1) (both s w) ≡ Some v
-value_of_both None w v there h = absurd (true≢false (sym there))
-value_of_both (Some s) None v there h = absurd (true≢false (sym (ap is_some h)))
-value_of_both (Some s) (Some w) v there h = h
+value_of_zip : {K V : Type 0} (s : Option K) (w : Option V) (v : V) → is_some s ≡ true → w ≡ Some v → option_map (λ pair. pair.1) (option_zip s w) ≡ Some v
+value_of_zip None w v there h = absurd (true≢false (sym there))
+value_of_zip (Some s) None v there h = absurd (true≢false (sym (ap is_some h)))
+value_of_zip (Some s) (Some w) v there h = h
 
 module _ {K V : Type 0} {eq : K → K → Bool} (laws : IsEquivalence eq) {start : ℕ} {log : Log K V} {held : List (K × V)} {room : ℕ} {mode : Mode} (defines : Defines eq start log held room mode) where
   -- what a log defines fits its capacity, and its keys differ
@@ -53,7 +53,7 @@ module _ {K V : Type 0} {eq : K → K → Bool} (laws : IsEquivalence eq) {start
   unfolding pair_of
   value_at-HasValue k v has =
       ap (option_map (λ pair. pair.1)) (the_pair laws defines k)
-      ∙ value_of_both (stored (eq k) log) (value (eq k) log) v (stored-live (eq k) log ∙ has.0) has.1
+      ∙ value_of_zip (stored (eq k) log) (value (eq k) log) v (stored-live (eq k) log ∙ has.0) has.1
 
   pub pairs-first : (o : Option (K × V)) → slice_get (pairs eq log) 0 ≡ o → slice_get held 0 ≡ o
   pairs-first o h = ap (λ ps. slice_get ps 0) (sym defines.same_pairs) ∙ h

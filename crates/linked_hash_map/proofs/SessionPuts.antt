@@ -37,14 +37,14 @@ module _ {T : Type 0} where
   -- and there is room for one more
   pub room-left : {S : Type 0} {m : LinkedMap ℕ (Held T) S} → IsValid nat_eq m → (count id capacity : ℕ) → length m.pairs ≤ capacity → count ≤ length (pairs.without nat_eq m.pairs id)
       → (count ≡ 0 → pairs.find nat_eq m.pairs id ≡ None → length m.pairs < capacity) → length (drop count (pairs.without nat_eq m.pairs id)) < capacity
-  room-left {m = m} valid count id capacity within enough place = by_find (pairs.find nat_eq m.pairs id) refl count refl
+  room-left {m = m} valid count id capacity within enough free = by_find (pairs.find nat_eq m.pairs id) refl count refl
     where
       shorter : length (drop count (pairs.without nat_eq m.pairs id)) ≡ length (pairs.without nat_eq m.pairs id) - count
       shorter = length-drop count (pairs.without nat_eq m.pairs id)
 
       by_find : (o : Option (ℕ × Held T)) → pairs.find nat_eq m.pairs id ≡ o → (n : ℕ) → n ≡ count → length (drop count (pairs.without nat_eq m.pairs id)) < capacity
       by_find (Some pair) found n is = let one = length-without_present nat_eq_equiv m.pairs id valid.distinct (ap is_some found) in omega (arith, shorter)
-      by_find None none zero is = let all = length-without_absent nat_eq m.pairs id none in let below = place (sym is) none in omega (arith, shorter)
+      by_find None none zero is = let all = length-without_absent nat_eq m.pairs id none in let below = free (sym is) none in omega (arith, shorter)
       by_find None none (suc n) is = let all = length-without_absent nat_eq m.pairs id none in omega (arith, shorter)
 
   -- the new session stays, with those that fit beside it

@@ -30,7 +30,7 @@ elements-moments {X} = by_last (λ xs. map (λ m. m.1) (moments xs) ≡ xs)
     (λ xs x h. ap (map (λ m. m.1)) (moments-snoc xs x) ∙ map-append (λ (m : List X × X). m.1) (moments xs) ((xs, x) ∷ []) ∙ ap (λ ys. ys ++ x ∷ []) h)
     refl
 
--- the words for what a touch is, and which places stand, where there is no mode
+-- the words for what a touch is, and which positions stand, where there is no mode
 module _ {K V : Type 0} where
   -- the event sets the mode
   abbrev pub sets_mode : Event K V → Bool
@@ -48,12 +48,12 @@ module _ {K V : Type 0} where
   names same (Refresh j) = same j
   names same _ = false
 
-  -- the place of an event that names a key stands before the events `later`: the key is live, and none of them names it
+  -- the position of an event that names a key stands before the events `later`: the key is live, and none of them names it
   abbrev pub named_stands : (K → K → Bool) → (K → Bool) → Log K V → Option K → List K
   named_stands eq is_live later None = []
   named_stands eq is_live later (Some k) = cond (is_live k && not (list_any (names (eq k)) later)) (k ∷ []) []
 
-  -- the keys of the places that stand in an end of a log, in order
+  -- the keys of the positions that stand in an end of a log, in order
   abbrev pub named_in : (K → K → Bool) → (K → Bool) → Log K V → List K
   named_in eq is_live [] = []
   named_in eq is_live (event ∷ later) = named_stands eq is_live later (named event) ++ named_in eq is_live later
@@ -69,7 +69,7 @@ module _ {K V : Type 0} where
   unfolding mode
   mode-unset log none = ap (λ o. unwrap_or o Touch) (last_some-unset log none)
 
-  -- and so it is at each place
+  -- and so it is at each position
   mode-moments : (log : Log K V) → list_any sets_mode log ≡ false → AllByRecursion (λ m. mode m.0 ≡ Touch) (moments log)
   mode-moments = by_last (λ log. list_any sets_mode log ≡ false → AllByRecursion (λ m. mode m.0 ≡ Touch) (moments log))
       (λ log event rest none.
@@ -98,30 +98,30 @@ module _ {K V : Type 0} (eq : K → K → Bool) where
   touched-unset before Fit unset = refl
   touched-unset before (SetMode m) unset = refl
 
-  any_touches-unset : (same : K → Bool) (places : List (Log K V × Event K V)) → AllByRecursion (λ m. mode m.0 ≡ Touch) places → list_any (touches same) places ≡ list_any (names same) (map (λ m. m.1) places)
+  any_touches-unset : (same : K → Bool) (events : List (Log K V × Event K V)) → AllByRecursion (λ m. mode m.0 ≡ Touch) events → list_any (touches same) events ≡ list_any (names same) (map (λ m. m.1) events)
   any_touches-unset same [] all = refl
-  any_touches-unset same (m ∷ places) all = ap₂ (λ a b. a || b) (touches-unset same m.0 m.1 all.0) (any_touches-unset same places all.1)
+  any_touches-unset same (m ∷ events) all = ap₂ (λ a b. a || b) (touches-unset same m.0 m.1 all.0) (any_touches-unset same events all.1)
 
-  stands-unset : (is_live : K → Bool) (places : List (Log K V × Event K V)) (o : Option K) → AllByRecursion (λ m. mode m.0 ≡ Touch) places → stands eq is_live places o ≡ named_stands eq is_live (map (λ m. m.1) places) o
-  stands-unset is_live places None all = refl
-  stands-unset is_live places (Some k) all = ap (λ b. cond (is_live k && not b) (k ∷ []) []) (any_touches-unset (eq k) places all)
+  stands-unset : (is_live : K → Bool) (events : List (Log K V × Event K V)) (o : Option K) → AllByRecursion (λ m. mode m.0 ≡ Touch) events → stands eq is_live events o ≡ named_stands eq is_live (map (λ m. m.1) events) o
+  stands-unset is_live events None all = refl
+  stands-unset is_live events (Some k) all = ap (λ b. cond (is_live k && not b) (k ∷ []) []) (any_touches-unset (eq k) events all)
 
-  standing_in-unset : (is_live : K → Bool) (places : List (Log K V × Event K V)) → AllByRecursion (λ m. mode m.0 ≡ Touch) places → standing_in eq is_live places ≡ named_in eq is_live (map (λ m. m.1) places)
+  standing_in-unset : (is_live : K → Bool) (events : List (Log K V × Event K V)) → AllByRecursion (λ m. mode m.0 ≡ Touch) events → standing_in eq is_live events ≡ named_in eq is_live (map (λ m. m.1) events)
   unfolding standing_in
   standing_in-unset is_live [] all = refl
-  standing_in-unset is_live (m ∷ places) all =
+  standing_in-unset is_live (m ∷ events) all =
       ap₂ (λ a b. a ++ b)
-      (ap (stands eq is_live places) (touched-unset m.0 m.1 all.0) ∙ stands-unset is_live places (named m.1) all.1)
-      (standing_in-unset is_live places all.1)
+      (ap (stands eq is_live events) (touched-unset m.0 m.1 all.0) ∙ stands-unset is_live events (named m.1) all.1)
+      (standing_in-unset is_live events all.1)
 
-  -- the places that stand are those of the live keys' last Puts or Refreshes
+  -- the positions that stand are those of the live keys' last Puts or Refreshes
   pub standing-unset : (log : Log K V) → list_any sets_mode log ≡ false → standing eq log ≡ named_in eq (λ k. live (eq k) log) log
   unfolding standing
   standing-unset log none =
       standing_in-unset (λ k. live (eq k) log) (moments log) (mode-moments log none)
       ∙ ap (named_in eq (λ k. live (eq k) log)) (elements-moments log)
 
-  -- so its pairs are those of these places
+  -- so its pairs are those of these positions
   pub pairs-unset : (log : Log K V) → list_any sets_mode log ≡ false → pairs eq log ≡ filter_map (λ k. pair_of (eq k) log) (named_in eq (λ k. live (eq k) log) log)
   unfolding pairs
   pairs-unset log none = ap (filter_map (λ k. pair_of (eq k) log)) (standing-unset log none)

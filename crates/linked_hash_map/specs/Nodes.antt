@@ -3,7 +3,7 @@ use Rattle.std.specs.Prelude.{◌≡◌, ℕ, ◌+◌, ◌<◌, ◌≤◌, Bool,
 use Rattle.std.specs.List.{IsDistinct, AllByRecursion}
 use denote.RawPtr.{Ptr}
 use Rattle.lhm_ring.specs.Cells.{same_ptr}
-use Rattle.lhm_ring.specs.Positions.{place_of_some}
+use Rattle.lhm_ring.specs.Positions.{pointer_of_some}
 use Rattle.lhm_ring.specs.RingState.{Held, State, held}
 use Rattle.lhm_ring.specs.IndexedRing.{IsIndexed}
 use Rattle.linked_hash_map.specs.LinkedMap.{LinkedMap, linked_map, nowhere}
@@ -27,7 +27,7 @@ module _ {B : Type 0} where
   current_at None hs = nowhere
   current_at (Some p) hs = before p hs
 
-  -- where there is a place, a node lies there
+  -- where there is a pointer, a node lies there
   abbrev pub Lies : Option Ptr → List (Held B) → Type 0
   Lies None hs = ⊤
   Lies (Some p) hs = before p hs < length hs
@@ -35,13 +35,13 @@ module _ {B : Type 0} where
 -- where a cursor or an entry stands: nowhere, and with nothing to visit, where there is neither
 module _ {K V : Type 0} where
   abbrev pub mark_of : Visit K V → Option Ptr
-  mark_of visit = cond visit.active (place_of_some visit.mark) None
+  mark_of visit = cond visit.active (pointer_of_some visit.mark) None
 
   abbrev pub unvisited_of : Visit K V → ℕ
   unvisited_of visit = cond visit.active visit.unvisited 0
 
   abbrev pub current_of : Visit K V → Option Ptr
-  current_of visit = cond visit.active (place_of_some visit.current) None
+  current_of visit = cond visit.active (pointer_of_some visit.current) None
 
 module _ {K V : Type 0} where
   -- the pairs in the nodes, in order

@@ -9,8 +9,8 @@ use std::iter::FusedIterator;
 /// An iterator that hands out the pairs that a map had, from both ends. It is made by `drain`.
 ///
 /// The map is empty and has the capacity that it had from that call on. Letting the iterator go drops the pairs that are left, a
-/// step for each; where it is forgotten, they are leaked, and nothing else is. No call takes memory. Its calls ask for `K: Drop`
-/// and `V: Drop`, which those of the original do not.
+/// step for each; where it is forgotten, they are leaked, and nothing else is. Each call of the iterator costs a constant number of
+/// steps, and none takes memory. Its calls ask for `K: Drop` and `V: Drop`, which those of the original do not.
 ///
 /// # Examples
 ///

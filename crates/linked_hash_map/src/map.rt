@@ -94,9 +94,9 @@ pub enum Mode {
 ///
 /// Costs are named in steps, each of which reaches, moves or drops one pair. A look-up hashes its key once and goes along the
 /// chain of the key's bucket, a step for each pair that it reaches, and compares keys only where their numbers agree:
-/// [`get_counted`](LinkedHashMap::get_counted) says how many. There are at least as many buckets as places and fewer than twice
-/// as many. Taking a pair out costs a step for each that comes before it in its chain, and compares no key. Where no cost is
-/// named at a call, it costs a constant number of steps. Dropping a map drops its pairs, a step for each.
+/// [`get_counted`](LinkedHashMap::get_counted) says how many. The number of buckets is not below the capacity, and below twice
+/// the capacity. Taking a pair out costs a step for each that comes before it in its chain, and compares no key. Where no cost
+/// is named at a call, it costs a constant number of steps. Dropping a map drops its pairs, a step for each.
 ///
 /// Unlike the original's, the type asks for `K: Eq + Hash` and `S: BuildHasher` wherever it is named, and is made with an
 /// allocator that is handed in.
@@ -387,9 +387,10 @@ impl<K: Eq + Hash, V, S: BuildHasher> LinkedHashMap<K, V, S> {
     ///
     /// A key that is present keeps its stored key and gets the new value, its pair moves to the back, or in [`Mode::Keep`] stays in
     /// its place, `key` is dropped and the old value is returned; this takes no memory and is never refused. A new key goes to the
-    /// back in both modes. Below capacity it takes no memory and is never refused either. A new key at full capacity raises the capacity by exactly one, or is refused: then the error has this key
-    /// and this value, and the map is unchanged. It costs a look-up, and where a raise changes the number of buckets a step for
-    /// each pair. The original answers no error, and may take memory below its capacity.
+    /// back in both modes. Below capacity it takes no memory and is never refused either. A new key at full capacity raises the
+    /// capacity by exactly one, or is refused: then the error has this key and this value, and the map is unchanged. It costs a
+    /// look-up, and where a raise changes the number of buckets a step for each pair. The original answers no error, and may take
+    /// memory below its capacity.
     ///
     /// # Examples
     ///

@@ -435,6 +435,22 @@ fn replays(rt: HostRuntime) -> Result<(), Fail> {
 }
 
 #[test]
+fn counts_steps(rt: HostRuntime) -> Result<(), Fail> {
+    // `get_counted`, `Probe`
+    let mut map = LinkedHashMap::new(rt.alloc());
+    map.insert('x', 1)?;
+    let (value, probe) = map.get_counted(&'x');
+    assert_eq!(rt; (value, probe.visited, probe.compared), (Some(&1), 1, 1));
+    // `rechained`
+    let mut map = LinkedHashMap::new(rt.alloc());
+    for key in [1, 2, 3, 4, 5] {
+        map.insert(key, 0)?;
+    }
+    assert_eq!(rt; map.rechained(), 7);
+    Ok(())
+}
+
+#[test]
 fn keeps_sessions(rt: HostRuntime) -> Result<(), Fail> {
     // `touch`
     let mut table = Sessions::new(rt.alloc(), 10);

@@ -1,4 +1,4 @@
-//! The example of the README, which names the crate where this names its root.
+//! The example of the README.
 ghost use Rattle.std.specs.Prelude.{◌≡◌, ◌∷◌, [], IfOk};
 
 use super::assert_pairs;

@@ -51,8 +51,8 @@ module _ {K V : Type 0} (eq : K → K → Bool) (pairs : List (K × V)) (k : K) 
   slice_get-to_back v =
       let pair : K × V = (key_or k (find eq pairs k), v) in
       let longer = length-append (without eq pairs k) (pair ∷ []) in
-      let place : length (to_back eq pairs k v) - 1 ≡ length (without eq pairs k) = omega arith in
-      ap (slice_get (to_back eq pairs k v)) place ∙ slice_get-last (without eq pairs k) pair
+      let index : length (to_back eq pairs k v) - 1 ≡ length (without eq pairs k) = omega arith in
+      ap (slice_get (to_back eq pairs k v)) index ∙ slice_get-last (without eq pairs k) pair
 
 -- the keys
 keys_of-filter : {K V : Type 0} (kept : K → Bool) (pairs : List (K × V)) → keys_of (filter (λ pair. kept pair.0) pairs) ≡ filter kept (keys_of pairs)

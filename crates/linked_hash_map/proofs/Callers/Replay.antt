@@ -228,30 +228,30 @@ module _ {K V : Type 0} {eq : K → K → Bool} (laws : IsEquivalence eq) {start
       by_answer _ told refused = absurd told
 
   -- which commands cannot be refused: with a key that is present, and below capacity
-  no_place : (k : K) → FindsNoRoom eq held room k → IsSome (find eq held k) → ⊥
-  no_place k none there = true≢false (sym there ∙ ap is_some none.absent)
+  not_found : (k : K) → FindsNoRoom eq held room k → IsSome (find eq held k) → ⊥
+  not_found k none there = true≢false (sym there ∙ ap is_some none.absent)
 
-  no_space : (k : K) → FindsNoRoom eq held room k → length held < room → ⊥
-  no_space k none below = let full = none.full in absurd (omega arith)
+  not_below : (k : K) → FindsNoRoom eq held room k → length held < room → ⊥
+  not_below k none below = let full = none.full in absurd (omega arith)
 
   module _ (k : K) (v : V) (reply : Reply K V) where
     pub is_refusal-insert_present : IsReply eq start log (Insert k v) reply → IsSome (find eq held k) → IsFalse (is_refusal reply.answer)
-    is_refusal-insert_present is there = not_true (is_refusal reply.answer) (λ refused. no_place k (Replied-insert_refused k v reply is refused).0 there)
+    is_refusal-insert_present is there = not_true (is_refusal reply.answer) (λ refused. not_found k (Replied-insert_refused k v reply is refused).0 there)
 
     pub is_refusal-insert_below : IsReply eq start log (Insert k v) reply → length held < room → IsFalse (is_refusal reply.answer)
-    is_refusal-insert_below is below = not_true (is_refusal reply.answer) (λ refused. no_space k (Replied-insert_refused k v reply is refused).0 below)
+    is_refusal-insert_below is below = not_true (is_refusal reply.answer) (λ refused. not_below k (Replied-insert_refused k v reply is refused).0 below)
 
     pub is_refusal-entry_insert_present : IsReply eq start log (EntryInsert k v) reply → IsSome (find eq held k) → IsFalse (is_refusal reply.answer)
-    is_refusal-entry_insert_present is there = not_true (is_refusal reply.answer) (λ refused. no_place k (Replied-entry_insert_refused k v reply is refused).0 there)
+    is_refusal-entry_insert_present is there = not_true (is_refusal reply.answer) (λ refused. not_found k (Replied-entry_insert_refused k v reply is refused).0 there)
 
     pub is_refusal-entry_insert_below : IsReply eq start log (EntryInsert k v) reply → length held < room → IsFalse (is_refusal reply.answer)
-    is_refusal-entry_insert_below is below = not_true (is_refusal reply.answer) (λ refused. no_space k (Replied-entry_insert_refused k v reply is refused).0 below)
+    is_refusal-entry_insert_below is below = not_true (is_refusal reply.answer) (λ refused. not_below k (Replied-entry_insert_refused k v reply is refused).0 below)
 
     pub is_refusal-or_insert_present : IsReply eq start log (OrInsert k v) reply → IsSome (find eq held k) → IsFalse (is_refusal reply.answer)
-    is_refusal-or_insert_present is there = not_true (is_refusal reply.answer) (λ refused. no_place k (Replied-or_insert_refused k v reply is refused).0 there)
+    is_refusal-or_insert_present is there = not_true (is_refusal reply.answer) (λ refused. not_found k (Replied-or_insert_refused k v reply is refused).0 there)
 
     pub is_refusal-or_insert_below : IsReply eq start log (OrInsert k v) reply → length held < room → IsFalse (is_refusal reply.answer)
-    is_refusal-or_insert_below is below = not_true (is_refusal reply.answer) (λ refused. no_space k (Replied-or_insert_refused k v reply is refused).0 below)
+    is_refusal-or_insert_below is below = not_true (is_refusal reply.answer) (λ refused. not_below k (Replied-or_insert_refused k v reply is refused).0 below)
 
     pub Replied-or_insert_present : IsReply eq start log (OrInsert k v) reply → IsSome (find eq held k) → Replied eq start log (OrInsert k v) reply Found held room mode
     Replied-or_insert_present is there =

@@ -1,4 +1,5 @@
-//! The functions that know how the pairs are kept. All others of the map call these.
+//! The functions that know how the pairs are kept. Those of `map.rt` that name the ring or the index know it too, as each look-up
+//! and the pops, which hand a position on; all others of the map call these.
 //!
 //! They speak of indexes into the list of pairs, which no public call does. The index of a pair that a key is looked up for
 //! is kept by the map as its current one, so that what is done with the pair then needs no second look-up.
@@ -15,7 +16,7 @@ ghost use Rattle.linked_hash_map.specs.Counts.{rechained_raised, rechained_fitte
 ghost use Rattle.linked_hash_map.specs.Validity.{IsValid};
 ghost use Rattle.lhm_ring.specs.Buckets.{rechained_lowered};
 ghost use Rattle.lhm_ring.specs.Cells.{IsApart};
-ghost use Rattle.lhm_ring.specs.Positions.{place_of, place_of_some};
+ghost use Rattle.lhm_ring.specs.Positions.{pointer_of, pointer_of_some};
 ghost use Rattle.lhm_ring.specs.RingState.{IsHeld, AtHeld, first_at};
 ghost use Rattle.lhm_ring.specs.LentRings.{lent_held, lent_name, IsLent};
 
@@ -29,15 +30,15 @@ use std::hash::{BuildHasher, Hash};
 use std::marker::PhantomData;
 use std::mem;
 
-/// Returns where the next pair to visit is: the one behind this place, or `None` where none is left to visit.
+/// Returns where the next pair to visit is: the one behind this position, or `None` where none is left to visit.
 fn mark_behind<K, V>(
     ring: &Ring<K, V>,
     at: Position<K, V>,
     unvisited: usize,
 ) -> Option<Position<K, V>>
-    requires { IsHeld ring.now.held (place_of at) }
+    requires { IsHeld ring.now.held (pointer_of at) }
     ensures none { unvisited ≡ 0 → result ≡ None }
-    ensures next { 0 < unvisited → AtHeld ring.now.held (place_of at) (λ xs t ys. place_of_some result ≡ first_at ys) }
+    ensures next { 0 < unvisited → AtHeld ring.now.held (pointer_of at) (λ xs t ys. pointer_of_some result ≡ first_at ys) }
     ensures apart { 0 < unvisited → IsApart (map (λ t. t.at) ring.now.held) }
 {
     if unvisited == 0 {

@@ -1,6 +1,6 @@
 //! Where a cursor or an entry stands.
 ghost use Rattle.std.specs.Prelude.{◌≡◌};
-ghost use Rattle.lhm_ring.specs.Positions.{place_of_some};
+ghost use Rattle.lhm_ring.specs.Positions.{pointer_of_some};
 ghost use Rattle.linked_hash_map.specs.Nodes.{mark_of, unvisited_of, current_of};
 
 use lhm_ring::ring::Position;
@@ -30,7 +30,7 @@ impl<K, V> Copy for Visit<K, V> {}
 impl<K, V> Visit<K, V> {
     /// Returns where the next pair is that a cursor visits.
     pub(super) fn mark(&self) -> Option<Position<K, V>>
-        ensures { place_of_some result ≡ mark_of self.now }
+        ensures { pointer_of_some result ≡ mark_of self.now }
     {
         if self.active { self.mark } else { None }
     }
@@ -44,7 +44,7 @@ impl<K, V> Visit<K, V> {
 
     /// Returns where the pair is that an occupied entry stands for.
     pub(super) fn current(&self) -> Option<Position<K, V>>
-        ensures { place_of_some result ≡ current_of self.now }
+        ensures { pointer_of_some result ≡ current_of self.now }
     {
         if self.active { self.current } else { None }
     }

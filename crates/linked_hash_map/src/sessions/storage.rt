@@ -75,7 +75,7 @@ pub(super) fn make_room<T>(
     ensures stays_valid { IsValid nat_eq map.new }
     ensures empty { IfOk result (λ gone. gone.items ≡ []) }
     ensures exact { IfOk result (λ gone. vec_capacity gone ≡ count) }
-    ensures place { OnOk result (count ≡ 0 → pairs.find nat_eq map.old.pairs id ≡ None → length map.old.pairs < map.new.capacity) }
+    ensures room { OnOk result (count ≡ 0 → pairs.find nat_eq map.old.pairs id ≡ None → length map.old.pairs < map.new.capacity) }
 
     ensures unchanged { OnErr result (map.new ≡ map.old) }
     ensures absent { OnErr result (count ≡ 0 → pairs.find nat_eq map.old.pairs id ≡ None) }

@@ -1,5 +1,5 @@
 use Rattle.std.proofs.Common.{arith, subst, sym}
-use Rattle.lhm_ring.specs.Cells.{places, AreBlocks}
+use Rattle.lhm_ring.specs.Cells.{pointers, AreBlocks}
 use Rattle.lhm_ring.specs.Stacks.{IsStacked}
 use Rattle.lhm_ring.proofs.Stacking.{nothing_stacked, stacked_one}
 use Rattle.lhm_ring.proofs.grow.make_spares.Goals as goal
@@ -14,7 +14,7 @@ more-preserved g c = record {
 }
 
 pub to-first-requires : goal.to-first-requires
-to-first-requires g c = (subst (λ zs. AreBlocks (places zs)) c.in-Ok.ensures c.make_spare.new.nodes.blocks).0
+to-first-requires g c = (subst (λ zs. AreBlocks (pointers zs)) c.in-Ok.ensures c.make_spare.new.nodes.blocks).0
 
 pub free_stacked-requires : goal.free_stacked-requires
 free_stacked-requires g c =

@@ -1,28 +1,28 @@
 use Rattle.std.proofs.Common.{arith, ap, map, refl, ◌∙◌}
 use Rattle.std.proofs.lemmas.List.{length-map}
 use Rattle.lhm_ring.specs.Targets.{target}
-use Rattle.lhm_ring.specs.Positions.{place_of, place_of_some}
+use Rattle.lhm_ring.specs.Positions.{pointer_of, pointer_of_some}
 use Rattle.lhm_ring.proofs.IndexChanges.{rechain_start, rechain_held, rechain_room, rechain_some, rechain_more, rechain_next_held}
 use Rattle.lhm_ring.proofs.index.chain_all.Goals as goal
 
-pub loop-place-init : goal.loop-place-init
-loop-place-init g c = (rechain_start (map target c.args.heads.now.items) c.args.ring.now.held (place_of_some c.first-place.result) _ c.requires.empty c.first-place.ensures (omega (arith, length-map c.args.heads.now.items target, c.args.heads.now.ok)), refl, refl)
+pub loop-pointer-init : goal.loop-pointer-init
+loop-pointer-init g c = (rechain_start (map target c.args.heads.now.items) c.args.ring.now.held (pointer_of_some c.first-pointer.result) _ c.requires.empty c.first-pointer.ensures (omega (arith, length-map c.args.heads.now.items target, c.args.heads.now.ok)), refl, refl)
 
 pub chain_one-requires-clause-held : goal.chain_one-requires-clause-held
-chain_one-requires-clause-held g c = rechain_held (place_of c.in-Some.at) (ap place_of_some c.in-Some.is) c.loop-place.invariant.0
+chain_one-requires-clause-held g c = rechain_held (pointer_of c.in-Some.at) (ap pointer_of_some c.in-Some.is) c.loop-pointer.invariant.0
 
 pub overflow_add-count : goal.overflow_add-count
-overflow_add-count g c = omega (arith, rechain_room (place_of c.in-Some.at) (ap place_of_some c.in-Some.is) c.loop-place.invariant.0, c.requires.small)
+overflow_add-count g c = omega (arith, rechain_room (pointer_of c.in-Some.at) (ap pointer_of_some c.in-Some.is) c.loop-pointer.invariant.0, c.requires.small)
 
-pub next-place-requires : goal.next-place-requires
-next-place-requires g c = rechain_next_held (place_of c.in-Some.at) (ap place_of_some c.in-Some.is) c.loop-place.invariant.0 c.chain_one.ensures.chained
+pub next-pointer-requires : goal.next-pointer-requires
+next-pointer-requires g c = rechain_next_held (pointer_of c.in-Some.at) (ap pointer_of_some c.in-Some.is) c.loop-pointer.invariant.0 c.chain_one.ensures.chained
 
-pub loop-place-smaller : goal.loop-place-smaller
-loop-place-smaller g c = omega (arith, rechain_room (place_of c.in-Some.at) (ap place_of_some c.in-Some.is) c.loop-place.invariant.0)
+pub loop-pointer-smaller : goal.loop-pointer-smaller
+loop-pointer-smaller g c = omega (arith, rechain_room (pointer_of c.in-Some.at) (ap pointer_of_some c.in-Some.is) c.loop-pointer.invariant.0)
 
-pub loop-place-preserved : goal.loop-place-preserved
-loop-place-preserved g c = (
-  rechain_more (place_of c.in-Some.at) (map target c.chain_one.new.heads.items) c.chain_one.new.ring.held (place_of_some c.next-place.result) (ap place_of_some c.in-Some.is) (rechain_some (place_of c.in-Some.at) (ap place_of_some c.in-Some.is) c.requires.some c.loop-place.invariant.0) c.loop-place.invariant.0 c.chain_one.ensures.chained c.next-place.ensures.next,
-  c.chain_one.ensures.spares ∙ c.loop-place.invariant.1,
-  c.chain_one.ensures.buckets ∙ c.loop-place.invariant.2,
+pub loop-pointer-preserved : goal.loop-pointer-preserved
+loop-pointer-preserved g c = (
+  rechain_more (pointer_of c.in-Some.at) (map target c.chain_one.new.heads.items) c.chain_one.new.ring.held (pointer_of_some c.next-pointer.result) (ap pointer_of_some c.in-Some.is) (rechain_some (pointer_of c.in-Some.at) (ap pointer_of_some c.in-Some.is) c.requires.some c.loop-pointer.invariant.0) c.loop-pointer.invariant.0 c.chain_one.ensures.chained c.next-pointer.ensures.next,
+  c.chain_one.ensures.spares ∙ c.loop-pointer.invariant.1,
+  c.chain_one.ensures.buckets ∙ c.loop-pointer.invariant.2,
 )

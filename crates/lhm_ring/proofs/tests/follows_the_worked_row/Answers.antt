@@ -5,7 +5,7 @@ use Rattle.lhm_ring.proofs.tests.follows_the_worked_row.Goals as goal
 -- b, c and a are held then
 pub unlink-requires : goal.unlink-requires
 unlink-requires g c =
-    let a : Held (ℕ × ℕ) = held c.put_back-a.result.place.ptr 7 None (97, 1) in let b : Held (ℕ × ℕ) = held c.put_back.result.place.ptr 7 None (98, 2) in let last : Held (ℕ × ℕ) = held c.put_back-c.result.place.ptr 9 None (99, 3) in
+    let a : Held (ℕ × ℕ) = held c.put_back-a.result.pointer.ptr 7 None (97, 1) in let b : Held (ℕ × ℕ) = held c.put_back.result.pointer.ptr 7 None (98, 2) in let last : Held (ℕ × ℕ) = held c.put_back-c.result.pointer.ptr 9 None (99, 3) in
     let one = c.put_back-a.ensures.last ∙ ap (λ hs. hs ++ a ∷ []) (c.in_ok-grow.ensures.held ∙ c.new-ring.ensures.empty) in
     let three = c.put_back-c.ensures.last ∙ ap (λ hs. hs ++ last ∷ []) (c.put_back.ensures.last ∙ ap (λ hs. hs ++ b ∷ []) one) in
     (b ∷ [], last, a ∷ [], c.move_to_back.ensures.last [] a (b ∷ last ∷ []) three refl, refl)

@@ -30,7 +30,7 @@ use Rattle.lhm_ring.specs.Ownership.{key_of, value_of, body_owns}
 use Rattle.lhm_ring.specs.ContentLoan.{Bodies, bodies, borrows_bodies, body_in, without_body, HasBody, firsts, seconds}
 use Rattle.lhm_ring.specs.declared.content_loan.ContentLoan.{ContentLoan}
 use Rattle.lhm_ring.specs.contracts.content_loan.ContentLoan as S-type
-use Rattle.lhm_ring.proofs.Memory.{Three, args, RL, RK, RV, ko, vo, Pl, place_told, two_made, value_out}
+use Rattle.lhm_ring.proofs.Memory.{Three, args, RL, RK, RV, ko, vo, Pl, pointer_told, two_made, value_out}
 use Rattle.lhm_ring.proofs.ContentTaken.{CutBody, cut_body, same_firsts, Run, bodies_cut, bodies_glue}
 use Rattle.lhm_ring.specs.contracts.content_loan.ContentLoan.take.{ended, clauses}
 use Rattle.lhm_ring.specs.contracts.content_loan.ContentLoan.take.Key.{name as #self}
@@ -52,18 +52,18 @@ take_spec 𝓤 𝓛 𝓜 𝓡 wired L K V LL LK LV =
     qed 𝓛 (((‵ (flft κs.0 qs.0) ⊛ ‵ others) ⊛ ‵ (owns (types_at En.signature.params κs) a vss)) ∷ raw (fact 𝓤 _) ∷ raw (fact 𝓤 _) ∷ raw (fact 𝓤 _) ∷ raw (fact 𝓤 Asked) ∷ []) ∵
     keep ! (4 ∷ 0 ∷ []) $ heard ! Asked (λ asked. split ! $ split ! $ move ! (2 ∷ []) $ fsplit ! $ fsplit3 ! $ keep ! (1 ∷ 2 ∷ 4 ∷ 5 ∷ []) $
     let us : List Val = vptr rb ro ∷ word p ∷ [] in let Runs : List Val → SProp 𝓤 = λ ws. WpFn 𝓤 H 𝓣.C 𝓣.Λ fn ws Post in
-    suffices ! (Runs us) (subst (λ (ws : List Val). ent 𝓤 (Runs us) (Runs ws)) (sym (λ i. are.0.0 i ++ (place_told a.1.0 vss.1.0 are.1.0 i ++ []))) (id⊢ 𝓤 (Runs us))) $
+    suffices ! (Runs us) (subst (λ (ws : List Val). ent 𝓤 (Runs us) (Runs ws)) (sym (λ i. are.0.0 i ++ (pointer_told a.1.0 vss.1.0 are.1.0 i ++ []))) (id⊢ 𝓤 (Runs us))) $
     enter ! 𝓣.C 𝓣.Λ fn us Post $ alloc_all ! (λ l. pass_all ! refl ((tt, tt), (word-Good [] p, tt)) $ let Ev = env fn.locals l in
     let x = asked.0 in let k : CutBody d.run p x = cut_body d.run p x asked.1 in let xs = k.before in let ys = k.after in
-    let all : List (Ptr × Option (K.Denot × V.Denot)) = xs ++ (k.place, Some x) ∷ ys in let left : List (Ptr × Option (K.Denot × V.Denot)) = xs ++ (k.place, None) ∷ ys in
-    let same : firsts left ≡ firsts all = same_firsts xs k.place None (Some x) ys in let Bs : SemTy = Bodies R S W (firsts all) in
+    let all : List (Ptr × Option (K.Denot × V.Denot)) = xs ++ (k.pointer, Some x) ∷ ys in let left : List (Ptr × Option (K.Denot × V.Denot)) = xs ++ (k.pointer, None) ∷ ys in
+    let same : firsts left ≡ firsts all = same_firsts xs k.pointer None (Some x) ys in let Bs : SemTy = Bodies R S W (firsts all) in
     move ! (3 ∷ []) $ fsplit ! $ move ! (2 ∷ 3 ∷ 4 ∷ []) $
     -- [self's name; its borrow; its token; the loan's token; the other tokens]
     opens ! tt It {h = d} rb ro (λ vs. move ! (1 ∷ []) $ fsplit ! $ move ! (1 ∷ 6 ∷ []) $
     rewrite ! 0 (λ (cs : List (Ptr × Option (K.Denot × V.Denot))). ‵ (borrows_bodies R S W κ d.name cs)) k.whole refl $ fsplit ! $
     open_ref ! tt Bs {x = seconds all} {b = 0} {o = 0} $
-    use1 𝓛 (‵ (body_owns R S W k.place (Some x)) ⊛ ‵ (Run E 𝓛 (xs ++ ys))) (bodies_cut E 𝓛 xs k.place (Some x) ys) $ split ! $ fsplit ! $
-    in_a_block ! k.place (λ q. lies_at S full_share (key_of R S W q) x.0) (id⊢ 𝓤 (never 𝓤)) (λ pb po e.
+    use1 𝓛 (‵ (body_owns R S W k.pointer (Some x)) ⊛ ‵ (Run E 𝓛 (xs ++ ys))) (bodies_cut E 𝓛 xs k.pointer (Some x) ys) $ split ! $ fsplit ! $
+    in_a_block ! k.pointer (λ q. lies_at S full_share (key_of R S W q) x.0) (id⊢ 𝓤 (never 𝓤)) (λ pb po e.
     move ! (1 ∷ []) $ rewrite ! 0 (λ (q : Ptr). ‵ (lies_at W full_share (value_of R S W q) x.1)) e refl $ move ! (1 ∷ []) $
     use1 𝓛 (some (λ (u : Val). given (Good (layout K) u) (‵ (fat full_share (layout K) pb (po + ko E) u) ⊛ ‵ (K.own_val x.0 (u ∷ []))))) (value_out 1 K LK 𝓛 x.0 pb (po + ko E)) $ pick ! (λ u. learn ! (λ good. split ! $ move ! (2 ∷ []) $
     use1 𝓛 (some (λ (u : Val). given (Good (layout V) u) (‵ (fat full_share (layout V) pb (po + vo E) u) ⊛ ‵ (V.own_val x.1 (u ∷ []))))) (value_out 2 V LV 𝓛 x.1 pb (po + vo E)) $ pick ! (λ w. learn ! (λ fine. split ! $
@@ -76,7 +76,7 @@ take_spec 𝓤 𝓛 𝓜 𝓡 wired L K V LL LK LV =
     use1 𝓛 (‵ (froom (layout V) pb (po + vo E))) (𝓛.laws.at_room (layout V) pb (po + vo E) w) $ as_raw ! (layout V) pb (po + vo E) $ move ! (2 ∷ []) $
     use1 𝓛 (‵ (froom (layout K) pb (po + ko E))) (𝓛.laws.at_room (layout K) pb (po + ko E) u) $ as_raw ! (layout K) pb (po + ko E) $ fjoin ! $
     -- [room for both; what the value owns; what the key owns; the other bodies; their open borrow, in three; the mark; ..]
-    rewrite ! 0 (λ (q : Ptr). ‵ (body_owns R S W q None)) (sym e) refl $ move ! (0 ∷ 3 ∷ []) $ use2 𝓛 (‵ (Run E 𝓛 left)) (bodies_glue E 𝓛 xs k.place None ys) $
+    rewrite ! 0 (λ (q : Ptr). ‵ (body_owns R S W q None)) (sym e) refl $ move ! (0 ∷ 3 ∷ []) $ use2 𝓛 (‵ (Run E 𝓛 left)) (bodies_glue E 𝓛 xs k.pointer None ys) $
     rewrite ! 0 (λ (ps : List Ptr). ‵ (bodies R S W ps (seconds left))) same refl $ move ! (0 ∷ 3 ∷ 4 ∷ 5 ∷ []) $ close_ref ! tt Bs (seconds left) {b = 0} {o = 0} $
     -- [the bodies' name; their borrow; the loan's token; what the value owns; what the key owns; the mark; its cell; the open borrow, in three; the other tokens]
     rewrite ! 1 (λ (ps : List Ptr). ‵ (fbor κ (Borrowed (Bodies R S W ps) 0 0 d.name))) (sym same) refl $ fjoin ! $
@@ -85,9 +85,9 @@ take_spec 𝓤 𝓛 𝓜 𝓡 wired L K V LL LK LV =
     move ! (4 ∷ 0 ∷ []) $ fjoin ! $ move ! (4 ∷ 0 ∷ 5 ∷ 6 ∷ 7 ∷ []) $ closes ! tt It new vs rb ro $
     -- [self's name; its borrow; its token; the loan's token; what the value owns; what the key owns; the other tokens]
     feq_i ! (List Val) vss.0 (vptr rb ro ∷ []) are.0.0 $ fjoin3 ! $ nothing ! $ nothing ! $ fjoin ! $ move ! (1 ∷ 0 ∷ []) $ fjoin ! $
-    -- [self and the place; its token; the loan's token; the value's; the key's; the other tokens]
+    -- [self and the pointer; its token; the loan's token; the value's; the key's; the other tokens]
     move ! (2 ∷ 5 ∷ []) $ join ! $ move ! (2 ∷ 0 ∷ []) $ join ! $
-    -- [the tokens; self and the place; the value's; the key's]
+    -- [the tokens; self and the pointer; the value's; the key's]
     move ! (3 ∷ 2 ∷ []) $ two_made ! S W x.0 x.1 u w $
     let Told : Type 0 = without_body p d.run ≡ without_body p d.run in let Got : Type 0 = body_in d.run p ≡ Some x in
     use0 𝓛 (raw (fact 𝓤 Told)) (fact_i 𝓤 Told (emp 𝓤) refl) $ use0 𝓛 (raw (fact 𝓤 Got)) (fact_i 𝓤 Got (emp 𝓤) asked.1) $ join ! $

@@ -1,5 +1,5 @@
 use Rattle.std.proofs.Common.{arith, ap, sym, ◌∙◌}
-use Rattle.lhm_ring.specs.Positions.{place_of, place_of_some}
+use Rattle.lhm_ring.specs.Positions.{pointer_of, pointer_of_some}
 use Rattle.lhm_ring.proofs.Heads.{is_there}
 use Rattle.lhm_ring.proofs.NodeBefore.{head_there, towards_start, towards_held, towards_room, towards_next, towards_end, towards_mended, towards_cut_held, same_state}
 use Rattle.lhm_ring.proofs.index.Index.before.Goals as goal
@@ -9,7 +9,7 @@ unwrap-here-requires g c = let h = head_there c.requires.indexed c.requires.held
 
 pub chain-init : goal.chain-init
 chain-init g c = (
-  towards_start c.set_link.new.self.held (place_of_some c.link-link.result) (place_of c.unwrap-here.result) c.requires.indexed c.requires.held c.requires.number c.link-link.ensures.link c.set_link.ensures.held (ap place_of_some (sym c.unwrap-here.ensures) ∙ c.head.ensures),
+  towards_start c.set_link.new.self.held (pointer_of_some c.link-link.result) (pointer_of c.unwrap-here.result) c.requires.indexed c.requires.held c.requires.number c.link-link.ensures.link c.set_link.ensures.held (ap pointer_of_some (sym c.unwrap-here.ensures) ∙ c.head.ensures),
   c.set_link.ensures.spares,
 )
 
@@ -24,7 +24,7 @@ chain-smaller g c = omega (arith, towards_room c.chain.invariant.0)
 
 pub chain-preserved : goal.chain-preserved
 chain-preserved g c = (
-  towards_next (place_of_some c.link.result) (place_of c.in-Some.next) c.chain.invariant.0 c.link.ensures.link (ap place_of_some c.in-Some.is),
+  towards_next (pointer_of_some c.link.result) (pointer_of c.in-Some.next) c.chain.invariant.0 c.link.ensures.link (ap pointer_of_some c.in-Some.is),
   c.chain.invariant.1,
 )
 
@@ -32,7 +32,7 @@ pub set_link-requires-2 : goal.set_link-requires-2
 set_link-requires-2 g c = towards_cut_held c.chain.invariant.0
 
 pub returns-clause-on_chain : goal.returns-clause-on_chain
-returns-clause-on_chain g c = towards_end (place_of_some c.link.result) c.chain.invariant.0 c.link.ensures.link (ap place_of_some c.in_default.is)
+returns-clause-on_chain g c = towards_end (pointer_of_some c.link.result) c.chain.invariant.0 c.link.ensures.link (ap pointer_of_some c.in_default.is)
 
 pub returns-clause-ring : goal.returns-clause-ring
 returns-clause-ring g c =

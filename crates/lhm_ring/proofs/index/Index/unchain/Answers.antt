@@ -1,7 +1,7 @@
 use Rattle.std.proofs.Common.{arith, ap, sym, subst, map, set, ◌∙◌}
 use Rattle.std.proofs.lemmas.List.{length-map, map-set}
 use Rattle.lhm_ring.specs.Targets.{target}
-use Rattle.lhm_ring.specs.Positions.{place_of, place_of_some}
+use Rattle.lhm_ring.specs.Positions.{pointer_of, pointer_of_some}
 use Rattle.lhm_ring.specs.Search.{HoldsOthers}
 use Rattle.lhm_ring.proofs.IndexChanges.{on_held, on_before_held, take_first_at, take_next, kept_by_link}
 use Rattle.lhm_ring.proofs.index.Index.unchain.Goals as goal
@@ -10,15 +10,15 @@ pub link-link-requires : goal.link-link-requires
 link-link-requires g c = on_held c.requires.on_chain
 
 pub set_link-requires : goal.set_link-requires
-set_link-requires g c = on_before_held (place_of c.in-Some.before) (ap place_of_some c.in-Some.is) c.requires.on_chain
+set_link-requires g c = on_before_held (pointer_of c.in-Some.before) (ap pointer_of_some c.in-Some.is) c.requires.on_chain
 
 pub returns-in-Some-clause-lacks : goal.returns-in-Some-clause-lacks
-returns-in-Some-clause-lacks g c = take_next c.set_link.new.self.held (place_of c.in-Some.before) (place_of_some c.link-link.result) (ap place_of_some c.in-Some.is) c.requires.indexed c.requires.on_chain c.link-link.ensures.link c.set_link.ensures.held
+returns-in-Some-clause-lacks g c = take_next c.set_link.new.self.held (pointer_of c.in-Some.before) (pointer_of_some c.link-link.result) (ap pointer_of_some c.in-Some.is) c.requires.indexed c.requires.on_chain c.link-link.ensures.link c.set_link.ensures.held
 
 pub returns-in-Some-clause-held : goal.returns-in-Some-clause-held
-returns-in-Some-clause-held g c = kept_by_link c.args.ring.now.held c.set_link.new.self.held (place_of c.in-Some.before) (place_of_some c.link-link.result) (on_before_held (place_of c.in-Some.before) (ap place_of_some c.in-Some.is) c.requires.on_chain) c.set_link.ensures.held
+returns-in-Some-clause-held g c = kept_by_link c.args.ring.now.held c.set_link.new.self.held (pointer_of c.in-Some.before) (pointer_of_some c.link-link.result) (on_before_held (pointer_of c.in-Some.before) (ap pointer_of_some c.in-Some.is) c.requires.on_chain) c.set_link.ensures.held
 
 pub returns-in-None-clause-lacks : goal.returns-in-None-clause-lacks
 returns-in-None-clause-lacks g c =
-    subst (λ h. HoldsOthers h c.args.ring.now.held (place_of c.args.found.at)) (sym (map-set target c.self.inside.heads.items c.masked-bucket.result c.of.result ∙ ap (set (map target c.self.inside.heads.items) c.masked-bucket.result) c.of.ensures))
-    (rw c.masked-bucket.ensures (take_first_at (map target c.self.inside.heads.items) c.len.result (place_of_some c.link-link.result) c.self.view_is (omega (arith, c.len.ensures, c.self.inside.heads.ok, length-map c.self.inside.heads.items target)) (ap place_of_some c.in-None.is) c.requires.indexed c.requires.on_chain c.link-link.ensures.link))
+    subst (λ h. HoldsOthers h c.args.ring.now.held (pointer_of c.args.found.at)) (sym (map-set target c.self.inside.heads.items c.masked-bucket.result c.of.result ∙ ap (set (map target c.self.inside.heads.items) c.masked-bucket.result) c.of.ensures))
+    (rw c.masked-bucket.ensures (take_first_at (map target c.self.inside.heads.items) c.len.result (pointer_of_some c.link-link.result) c.self.view_is (omega (arith, c.len.ensures, c.self.inside.heads.ok, length-map c.self.inside.heads.items target)) (ap pointer_of_some c.in-None.is) c.requires.indexed c.requires.on_chain c.link-link.ensures.link))

@@ -4,7 +4,7 @@ use Rattle.std.proofs.Common.{◌<◌, true}
 use Rattle.std.specs.contracts.alloc.Global as heap
 use Rattle.std.specs.contracts.impls.GlobalAllocator.TheImpl.{ghosts}
 use Rattle.lhm_ring.proofs.Apart.{IsFresh, apart_with}
-use Rattle.lhm_ring.proofs.Rooms.{room_val, room_Good, place_made, Rm, room_known, knows, fresh, block_starts}
+use Rattle.lhm_ring.proofs.Rooms.{room_val, room_Good, pointer_made, Rm, room_known, knows, fresh, block_starts}
 use base.Logic.{sep, fst∗}
 use Rattle.std.proofs.alloc.Calls.{Goes-blank}
 use Rattle.std.proofs.Common.{◌≡◌, ℕ, ◌+◌, List, [], ◌∷◌, ◌++◌, refl, sym, ap, subst, None}
@@ -31,7 +31,7 @@ use denote.Triple.Walked.{Stays, stay_dropped, stay_ref, walk_of, Goes-dropped, 
 use Rattle.std.proofs.VecSteps.Shapes.{after}
 use Rattle.std.proofs.RcSteps.{word, word-Good}
 use Rattle.std.proofs.raw_atomic.Walks.{proved_at, leaves}
-use Rattle.lhm_ring.specs.Cells.{cell, is_block, places}
+use Rattle.lhm_ring.specs.Cells.{cell, is_block, pointers}
 use Rattle.lhm_ring.specs.Ownership.{links_of, deed_owns, chunk_token, room_owns}
 use Rattle.lhm_ring.proofs.Memory.{Three, args, RL, RK, RV, lo, Node, Nr, Pl, alone, value_in}
 use Rattle.std.proofs.RawLayout.{as_written}
@@ -63,16 +63,16 @@ add_spec 𝓤 𝓛 𝓜 𝓡 wired L K V LL LK LV =
     let p : Ptr = block_ptr pb po in let c' : Node E = cell p new None in
     enter ! 𝓣.C 𝓣.Λ fn us Post $ alloc_all ! (λ l. pass_all ! refl ((tt, tt), (room_Good room.ptr, (got.1.1, tt))) $ let Ev = env fn.locals l in
     move ! (3 ∷ 4 ∷ 5 ∷ []) $ opens ! tt N {h = h} rb ro (λ vs. move ! (1 ∷ []) $ fsplit ! $ move ! (6 ∷ 1 ∷ []) $
-    knows ! (IsFresh p (places h.cells)) (fresh 𝓛 𝓜 E asked p h.cells) (λ free. as_written ! (layout L) pb (po + lo E) $
+    knows ! (IsFresh p (pointers h.cells)) (fresh 𝓛 𝓜 E asked p h.cells) (λ free. as_written ! (layout L) pb (po + lo E) $
     -- [room for the links; the nodes; the mark; its cell; the open borrow, in three; room for the pair; the deed; the new links; the other tokens]
     sets ! (is ! (of_opd ! (get_in ! (fld ! refl (stop !)) (sub ! 0 refl (whole !)))) (ap ptr_val (e))) refl (tt, tt) $ first ! $ blocks ! $
     sets ! (addr ! (through ! refl (fld ! refl (stop !)))) refl (tt, tt) $ sets ! (of_opd ! (get ! refl)) refl got.1.1 $ assigns_last ! (of_opd ! (get ! refl)) (through ! refl (stop !)) (init ! 0 refl got.1.1) $
     exec ! 𝓣.C 𝓣.Λ Ev (after 2 fn.body) (at_ret Ev Post) $ sets ! (of_opd ! (get ! refl)) refl (tt, tt) $ sets ! (agg ! (and_then ! (get ! refl) (no_more !))) refl (word-Good [] p) $
     move ! (0 ∷ 9 ∷ []) $ use2 𝓛 (‵ (lies_at R full_share (links_of R S W p) new)) (value_in 0 L LL 𝓛 new pb (po + lo E) v) $
     move ! (7 ∷ 8 ∷ []) $ fjoin ! $ move ! (1 ∷ 0 ∷ []) $ fjoin ! $ fjoin ! $
-    let h' : N.Denot = record { mark = h.mark; cells = c' ∷ h.cells; apart = apart_with p (places h.cells) free h.apart; blocks = (starts, h.blocks) } in
+    let h' : N.Denot = record { mark = h.mark; cells = c' ∷ h.cells; apart = apart_with p (pointers h.cells) free h.apart; blocks = (starts, h.blocks) } in
     move ! (1 ∷ 0 ∷ []) $ fjoin ! $ move ! (1 ∷ 0 ∷ []) $ closes ! tt N h' vs rb ro $
     feq_i ! (List Val) vss.0 (vptr rb ro ∷ []) are.0.0 $ fjoin3 ! $ nothing ! $ nothing ! $ fjoin ! $ nothing ! $ fjoin ! $ move ! (1 ∷ 0 ∷ []) $ fjoin ! $ move ! (1 ∷ 2 ∷ []) $ join ! $
     let Told : Type 0 = c' ∷ h.cells ≡ c' ∷ h.cells in
-    use0 𝓛 (raw (fact 𝓤 Told)) (fact_i 𝓤 Told (emp 𝓤) refl) $ use0 𝓛 (‵ (Pl.own_val (record { ptr = p }) (word p ∷ []))) (place_made 𝓛 p) $
+    use0 𝓛 (raw (fact 𝓤 Told)) (fact_i 𝓤 Told (emp 𝓤) refl) $ use0 𝓛 (‵ (Pl.own_val (record { ptr = p }) (word p ∷ []))) (pointer_made 𝓛 p) $
     returns ! (look_at ! 0 refl) $ free_all ! refl $ keep ! (2 ∷ 3 ∷ 0 ∷ 1 ∷ []) $ by ! (leaves 𝓛 En hs c y (word p) (record { ptr = p }) (h', (tt, (tt, tt))) (tt, (tt, (tt, tt))))))))))))

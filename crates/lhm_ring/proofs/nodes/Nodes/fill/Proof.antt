@@ -24,10 +24,10 @@ use denote.Triple.Walked.{Stays, stay_dropped, stay_ref, walk_of, Goes-dropped, 
 use Rattle.std.proofs.VecSteps.Shapes.{after}
 use Rattle.std.proofs.RcSteps.{word, word-Good}
 use Rattle.std.proofs.raw_atomic.Walks.{proved_at, leaves}
-use Rattle.lhm_ring.specs.Cells.{cell, IsApart, AreBlocks, IsAt, change, with_body, places-change}
+use Rattle.lhm_ring.specs.Cells.{cell, IsApart, AreBlocks, IsAt, change, with_body, pointers-change}
 use Rattle.lhm_ring.specs.Ownership.{links_of, body_owns}
 use Rattle.lhm_ring.proofs.Lookup.{Cut, cut}
-use Rattle.lhm_ring.proofs.Memory.{Three, args, RL, RK, RV, ko, vo, Node, Nr, Pl, One, Cells, place_told, alone, body_room, cells_cut, cells_glue, value_in}
+use Rattle.lhm_ring.proofs.Memory.{Three, args, RL, RK, RV, ko, vo, Node, Nr, Pl, One, Cells, pointer_told, alone, body_room, cells_cut, cells_glue, value_in}
 use Rattle.lhm_ring.specs.contracts.nodes.Nodes.fill.{ended, clauses}
 use Rattle.lhm_ring.specs.contracts.nodes.Nodes.fill.Key.{name as #self}
 use Rattle.lhm_ring.proofs.nodes.Nodes.fill.Statement.{statement}
@@ -50,7 +50,7 @@ fill_spec 𝓤 𝓛 𝓜 𝓡 wired L K V LL LK LV =
     keep ! (4 ∷ 0 ∷ []) $ heard ! Asked (λ asked. split ! $ split ! $ move ! (2 ∷ []) $ fsplit3 ! $ fsplit3 ! $ move ! (4 ∷ []) $ fsplit3 ! $ keep ! (4 ∷ 5 ∷ 7 ∷ 0 ∷ 1 ∷ 8 ∷ []) $
     rewrite ! 3 (λ (ws : List Val). ‵ (S.own_val new ws)) got.1.0 refl $ rewrite ! 4 (λ (ws : List Val). ‵ (W.own_val val ws)) had.1.0 refl $
     let us : List Val = vptr rb ro ∷ word p ∷ v ∷ w ∷ [] in let Run : List Val → SProp 𝓤 = λ ws. WpFn 𝓤 H 𝓣.C 𝓣.Λ fn ws Post in
-    suffices ! (Run us) (subst (λ (ws : List Val). ent 𝓤 (Run us) (Run ws)) (sym (λ i. are.0.0 i ++ (place_told a.1.0 vss.1.0 are.1.0 i ++ (got.1.0 i ++ (had.1.0 i ++ []))))) (id⊢ 𝓤 (Run us))) $
+    suffices ! (Run us) (subst (λ (ws : List Val). ent 𝓤 (Run us) (Run ws)) (sym (λ i. are.0.0 i ++ (pointer_told a.1.0 vss.1.0 are.1.0 i ++ (got.1.0 i ++ (had.1.0 i ++ []))))) (id⊢ 𝓤 (Run us))) $
     enter ! 𝓣.C 𝓣.Λ fn us Post $ alloc_all ! (λ l. pass_all ! refl ((tt, tt), (word-Good [] p, (got.1.1, (had.1.1, tt)))) $ let Ev = env fn.locals l in
     let k : Cut h.cells p = cut h.cells p asked.0 asked.1 in let f : Node E = k.found in let f' : Node E = cell f.at f.links (Some (new, val)) in
     opens ! tt N {h = h} rb ro (λ vs. move ! (1 ∷ []) $ fsplit ! $ rewrite ! 1 (λ (cs : List (Node E)). ‵ (Cells E cs)) k.whole refl $ move ! (1 ∷ []) $
@@ -67,7 +67,7 @@ fill_spec 𝓤 𝓛 𝓜 𝓡 wired L K V LL LK LV =
     move ! (1 ∷ 10 ∷ []) $ use2 𝓛 (‵ (part_at S full_share new pb (po + ko E))) (value_in 1 K LK 𝓛 new pb (po + ko E) v) $ fjoin ! $
     rewrite ! 0 (λ (q : Ptr). ‵ (body_owns R S W q (Some (new, val)))) (sym e) refl $ fjoin ! $ move ! (1 ∷ 0 ∷ []) $ fjoin ! $
     use2 𝓛 (‵ (Cells E (k.before ++ f' ∷ k.after))) (cells_glue 𝓛 E k.before f' k.after) $ rewrite ! 0 (λ (cs : List (Node E)). ‵ (Cells E cs)) (sym (k.changed (λ c. cell c.at c.links (Some (new, val))))) refl $
-    let h' : N.Denot = record { mark = h.mark; cells = change p (λ c. cell c.at c.links (Some (new, val))) h.cells; apart = subst IsApart (sym (places-change p (λ c. cell c.at c.links (Some (new, val))) (λ c. refl) h.cells)) h.apart; blocks = subst AreBlocks (sym (places-change p (λ c. cell c.at c.links (Some (new, val))) (λ c. refl) h.cells)) h.blocks } in
+    let h' : N.Denot = record { mark = h.mark; cells = change p (λ c. cell c.at c.links (Some (new, val))) h.cells; apart = subst IsApart (sym (pointers-change p (λ c. cell c.at c.links (Some (new, val))) (λ c. refl) h.cells)) h.apart; blocks = subst AreBlocks (sym (pointers-change p (λ c. cell c.at c.links (Some (new, val))) (λ c. refl) h.cells)) h.blocks } in
     move ! (1 ∷ 0 ∷ []) $ fjoin ! $ move ! (1 ∷ 0 ∷ []) $ closes ! tt N h' vs rb ro $
     feq_i ! (List Val) vss.0 (vptr rb ro ∷ []) are.0.0 $ fjoin3 ! $ nothing ! $ nothing ! $ fjoin ! $ nothing ! $ fjoin ! $ nothing ! $ fjoin ! $ move ! (1 ∷ 0 ∷ []) $ fjoin ! $ move ! (1 ∷ 2 ∷ []) $ join ! $
     let Told : Type 0 = with_body p (Some (new, val)) h.cells ≡ with_body p (Some (new, val)) h.cells in

@@ -29,7 +29,7 @@ use Rattle.std.proofs.raw_atomic.Walks.{proved_at, leaves}
 use Rattle.lhm_ring.specs.Cells.{Holds, IsKey, body_at}
 use Rattle.lhm_ring.specs.Ownership.{key_of, body_lent, cell_lent, cells_lent}
 use Rattle.lhm_ring.proofs.Lookup.{Cut, cut_held}
-use Rattle.lhm_ring.proofs.Memory.{Three, args, RL, RK, RV, ko, Node, Nr, Pl, place_told, cell_seen}
+use Rattle.lhm_ring.proofs.Memory.{Three, args, RL, RK, RV, ko, Node, Nr, Pl, pointer_told, cell_seen}
 use Rattle.lhm_ring.specs.contracts.nodes.Nodes.key.{ended, clauses}
 use Rattle.lhm_ring.specs.contracts.nodes.Nodes.key.Key.{name as #self}
 use Rattle.lhm_ring.proofs.nodes.Nodes.key.Statement.{statement}
@@ -50,7 +50,7 @@ key_spec 𝓤 𝓛 𝓜 𝓡 wired L K V LL LK LV =
     qed 𝓛 (((‵ (flft κs.0 qs.0) ⊛ ‵ others) ⊛ ‵ (owns (types_at En.signature.params κs) a vss)) ∷ raw (fact 𝓤 _) ∷ raw (fact 𝓤 _) ∷ raw (fact 𝓤 _) ∷ raw (fact 𝓤 Asked) ∷ []) ∵
     keep ! (4 ∷ 0 ∷ []) $ heard ! Asked (λ asked. split ! $ split ! $ move ! (2 ∷ []) $ fsplit ! $ fsplit ! $ keep ! (1 ∷ 3 ∷ 4 ∷ []) $
     let us : List Val = vptr rb ro ∷ word p ∷ [] in let Run : List Val → SProp 𝓤 = λ ws. WpFn 𝓤 H 𝓣.C 𝓣.Λ fn ws Post in
-    suffices ! (Run us) (subst (λ (ws : List Val). ent 𝓤 (Run us) (Run ws)) (sym (λ i. are.0.0 i ++ (place_told a.1.0 vss.1.0 are.1.0 i ++ []))) (id⊢ 𝓤 (Run us))) $
+    suffices ! (Run us) (subst (λ (ws : List Val). ent 𝓤 (Run us) (Run ws)) (sym (λ i. are.0.0 i ++ (pointer_told a.1.0 vss.1.0 are.1.0 i ++ []))) (id⊢ 𝓤 (Run us))) $
     enter ! 𝓣.C 𝓣.Λ fn us Post $ alloc_all ! (λ l. pass_all ! refl ((tt, tt), (word-Good [] p, tt)) $ let Ev = env fn.locals l in
     let x = asked.0 in let kh = cut_held h.cells p x asked.1 in let k : Cut h.cells p = kh.0 in let f : Node E = k.found in
     unhide ! $ fsplit ! $ drop ! $ rewrite ! 0 (λ (cs : List (Node E)). ‵ (cells_lent R S W cs κ)) k.whole refl $

@@ -28,7 +28,7 @@ use Rattle.std.proofs.raw_atomic.Walks.{proved_at, leaves}
 use Rattle.lhm_ring.specs.Cells.{IsAt, is_block, without}
 use Rattle.lhm_ring.specs.Ownership.{links_of, body_owns, deed_owns, chunk_token}
 use Rattle.lhm_ring.proofs.Lookup.{Cut, cut}
-use Rattle.lhm_ring.proofs.Memory.{Three, args, RL, RK, RV, lo, ko, vo, Node, Nr, Pl, One, Cells, place_told, body_room, cells_cut, value_out}
+use Rattle.lhm_ring.proofs.Memory.{Three, args, RL, RK, RV, lo, ko, vo, Node, Nr, Pl, One, Cells, pointer_told, body_room, cells_cut, value_out}
 use Rattle.std.proofs.RawLayout.{as_raw}
 use Rattle.lhm_ring.specs.contracts.nodes.Nodes.remove.{ended, clauses}
 use Rattle.lhm_ring.specs.contracts.nodes.Nodes.remove.Key.{name as #self}
@@ -50,7 +50,7 @@ remove_spec 𝓤 𝓛 𝓜 𝓡 wired L K V LL LK LV =
     qed 𝓛 (((‵ (flft κs.0 qs.0) ⊛ ‵ others) ⊛ ‵ (owns (types_at En.signature.params κs) a vss)) ∷ raw (fact 𝓤 _) ∷ raw (fact 𝓤 _) ∷ raw (fact 𝓤 _) ∷ raw (fact 𝓤 Asked) ∷ []) ∵
     keep ! (4 ∷ 0 ∷ []) $ heard ! Asked (λ asked. split ! $ split ! $ move ! (2 ∷ []) $ fsplit ! $ fsplit3 ! $ keep ! (1 ∷ 2 ∷ 4 ∷ 5 ∷ []) $
     let us : List Val = vptr rb ro ∷ word p ∷ [] in let Run : List Val → SProp 𝓤 = λ ws. WpFn 𝓤 H 𝓣.C 𝓣.Λ fn ws Post in
-    suffices ! (Run us) (subst (λ (ws : List Val). ent 𝓤 (Run us) (Run ws)) (sym (λ i. are.0.0 i ++ (place_told a.1.0 vss.1.0 are.1.0 i ++ []))) (id⊢ 𝓤 (Run us))) $
+    suffices ! (Run us) (subst (λ (ws : List Val). ent 𝓤 (Run us) (Run ws)) (sym (λ i. are.0.0 i ++ (pointer_told a.1.0 vss.1.0 are.1.0 i ++ []))) (id⊢ 𝓤 (Run us))) $
     enter ! 𝓣.C 𝓣.Λ fn us Post $ alloc_all ! (λ l. pass_all ! refl ((tt, tt), (word-Good [] p, tt)) $ let Ev = env fn.locals l in
     let k : Cut h.cells p = cut h.cells p asked.0 asked.1 in let f : Node E = k.found in
     opens ! tt N {h = h} rb ro (λ vs. move ! (1 ∷ []) $ fsplit ! $ rewrite ! 1 (λ (cs : List (Node E)). ‵ (Cells E cs)) k.whole refl $ move ! (1 ∷ []) $

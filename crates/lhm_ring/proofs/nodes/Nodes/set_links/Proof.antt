@@ -24,10 +24,10 @@ use denote.Triple.Walked.{Stays, stay_dropped, stay_ref, walk_of, Goes-dropped, 
 use Rattle.std.proofs.VecSteps.Shapes.{after}
 use Rattle.std.proofs.RcSteps.{Good, word, word-Good}
 use Rattle.std.proofs.raw_atomic.Walks.{proved_at, leaves}
-use Rattle.lhm_ring.specs.Cells.{cell, IsApart, AreBlocks, IsAt, change, with_links, places-change}
+use Rattle.lhm_ring.specs.Cells.{cell, IsApart, AreBlocks, IsAt, change, with_links, pointers-change}
 use Rattle.lhm_ring.specs.Ownership.{links_of}
 use Rattle.lhm_ring.proofs.Lookup.{Cut, cut}
-use Rattle.lhm_ring.proofs.Memory.{Three, args, RL, RK, RV, lo, Node, Nr, Pl, One, Cells, place_told, alone, cells_cut, cells_glue, value_out, value_in}
+use Rattle.lhm_ring.proofs.Memory.{Three, args, RL, RK, RV, lo, Node, Nr, Pl, One, Cells, pointer_told, alone, cells_cut, cells_glue, value_out, value_in}
 use Rattle.lhm_ring.specs.contracts.nodes.Nodes.set_links.{ended, clauses}
 use Rattle.lhm_ring.specs.contracts.nodes.Nodes.set_links.Key.{name as #self}
 use Rattle.lhm_ring.proofs.nodes.Nodes.set_links.Statement.{statement}
@@ -49,7 +49,7 @@ set_links_spec 𝓤 𝓛 𝓜 𝓡 wired L K V LL LK LV =
     keep ! (4 ∷ 0 ∷ []) $ heard ! Asked (λ asked. split ! $ split ! $ move ! (2 ∷ []) $ fsplit3 ! $ fsplit3 ! $ move ! (4 ∷ []) $ fsplit ! $ keep ! (3 ∷ 4 ∷ 6 ∷ 0 ∷ 7 ∷ []) $
     rewrite ! 3 (λ (ws : List Val). ‵ (R.own_val new ws)) got.1.0 refl $
     let us : List Val = vptr rb ro ∷ word p ∷ v ∷ [] in let Run : List Val → SProp 𝓤 = λ ws. WpFn 𝓤 H 𝓣.C 𝓣.Λ fn ws Post in
-    suffices ! (Run us) (subst (λ (ws : List Val). ent 𝓤 (Run us) (Run ws)) (sym (λ i. are.0.0 i ++ (place_told a.1.0 vss.1.0 are.1.0 i ++ (got.1.0 i ++ [])))) (id⊢ 𝓤 (Run us))) $
+    suffices ! (Run us) (subst (λ (ws : List Val). ent 𝓤 (Run us) (Run ws)) (sym (λ i. are.0.0 i ++ (pointer_told a.1.0 vss.1.0 are.1.0 i ++ (got.1.0 i ++ [])))) (id⊢ 𝓤 (Run us))) $
     enter ! 𝓣.C 𝓣.Λ fn us Post $ alloc_all ! (λ l. pass_all ! refl ((tt, tt), (word-Good [] p, (got.1.1, tt))) $ let Ev = env fn.locals l in
     let k : Cut h.cells p = cut h.cells p asked.0 asked.1 in let f : Node E = k.found in let f' : Node E = cell f.at new f.body in
     opens ! tt N {h = h} rb ro (λ vs. move ! (1 ∷ []) $ fsplit ! $ rewrite ! 1 (λ (cs : List (Node E)). ‵ (Cells E cs)) k.whole refl $ move ! (1 ∷ []) $
@@ -63,7 +63,7 @@ set_links_spec 𝓤 𝓛 𝓜 𝓡 wired L K V LL LK LV =
     move ! (0 ∷ 8 ∷ []) $ use2 𝓛 (‵ (part_at R full_share new pb (po + lo E))) (value_in 0 L LL 𝓛 new pb (po + lo E) v) $
     rewrite ! 0 (λ (q : Ptr). ‵ (lies_at R full_share (links_of R S W q) new)) (sym e) refl $ fjoin ! $
     use2 𝓛 (‵ (Cells E (k.before ++ f' ∷ k.after))) (cells_glue 𝓛 E k.before f' k.after) $ rewrite ! 0 (λ (cs : List (Node E)). ‵ (Cells E cs)) (sym (k.changed (λ c. cell c.at new c.body))) refl $
-    let h' : N.Denot = record { mark = h.mark; cells = change p (λ c. cell c.at new c.body) h.cells; apart = subst IsApart (sym (places-change p (λ c. cell c.at new c.body) (λ c. refl) h.cells)) h.apart; blocks = subst AreBlocks (sym (places-change p (λ c. cell c.at new c.body) (λ c. refl) h.cells)) h.blocks } in
+    let h' : N.Denot = record { mark = h.mark; cells = change p (λ c. cell c.at new c.body) h.cells; apart = subst IsApart (sym (pointers-change p (λ c. cell c.at new c.body) (λ c. refl) h.cells)) h.apart; blocks = subst AreBlocks (sym (pointers-change p (λ c. cell c.at new c.body) (λ c. refl) h.cells)) h.blocks } in
     move ! (1 ∷ 0 ∷ []) $ fjoin ! $ move ! (1 ∷ 0 ∷ []) $ closes ! tt N h' vs rb ro $
     feq_i ! (List Val) vss.0 (vptr rb ro ∷ []) are.0.0 $ fjoin3 ! $ nothing ! $ nothing ! $ fjoin ! $ nothing ! $ fjoin ! $ move ! (1 ∷ 0 ∷ []) $ fjoin ! $ move ! (1 ∷ 2 ∷ []) $ join ! $
     let Told : Type 0 = with_links p new h.cells ≡ with_links p new h.cells in

@@ -38,7 +38,7 @@ use Rattle.std.proofs.raw_atomic.Walks.{proved_at, leaves}
 use Rattle.lhm_ring.specs.Cells.{cell, Holds, IsValue, body_at}
 use Rattle.lhm_ring.specs.Ownership.{links_of, key_of, value_of, body_owns, deed_owns, chunk_token}
 use Rattle.lhm_ring.proofs.Lookup.{Cut, cut_held}
-use Rattle.lhm_ring.proofs.Memory.{Three, args, RL, RK, RV, vo, Node, Nr, Mark, Pl, One, Cells, place_told, cells_cut, cells_glue}
+use Rattle.lhm_ring.proofs.Memory.{Three, args, RL, RK, RV, vo, Node, Nr, Mark, Pl, One, Cells, pointer_told, cells_cut, cells_glue}
 use Rattle.lhm_ring.specs.contracts.nodes.Nodes.value_mut.{ended, clauses}
 use Rattle.lhm_ring.specs.contracts.nodes.Nodes.value_mut.Key.{name as #self}
 use Rattle.lhm_ring.proofs.nodes.Nodes.value_mut.Statement.{statement}
@@ -77,7 +77,7 @@ value_mut_spec 𝓤 𝓛 𝓜 𝓡 wired L K V LL LK LV =
     qed 𝓛 (((‵ (flft κs.0 qs.0) ⊛ ‵ others) ⊛ ‵ (owns (types_at En.signature.params κs) a vss)) ∷ raw (fact 𝓤 _) ∷ raw (fact 𝓤 _) ∷ raw (fact 𝓤 _) ∷ raw (fact 𝓤 Asked) ∷ []) ∵
     keep ! (4 ∷ 0 ∷ []) $ heard ! Asked (λ asked. split ! $ split ! $ move ! (2 ∷ []) $ fsplit ! $ fsplit3 ! $ keep ! (1 ∷ 2 ∷ 4 ∷ 5 ∷ []) $
     let us : List Val = vptr rb ro ∷ word p ∷ [] in let Run : List Val → SProp 𝓤 = λ ws. WpFn 𝓤 H 𝓣.C 𝓣.Λ fn ws Post in
-    suffices ! (Run us) (subst (λ (ws : List Val). ent 𝓤 (Run us) (Run ws)) (sym (λ i. are.0.0 i ++ (place_told a.1.0 vss.1.0 are.1.0 i ++ []))) (id⊢ 𝓤 (Run us))) $
+    suffices ! (Run us) (subst (λ (ws : List Val). ent 𝓤 (Run us) (Run ws)) (sym (λ i. are.0.0 i ++ (pointer_told a.1.0 vss.1.0 are.1.0 i ++ []))) (id⊢ 𝓤 (Run us))) $
     enter ! 𝓣.C 𝓣.Λ fn us Post $ alloc_all ! (λ l. pass_all ! refl ((tt, tt), (word-Good [] p, tt)) $ let Ev = env fn.locals l in
     let x = asked.0 in let kh = cut_held h.cells p x asked.1 in let k : Cut h.cells p = kh.0 in let f : Node E = k.found in
     opens ! tt N {h = h} rb ro (λ vs. move ! (1 ∷ []) $ fsplit ! $ rewrite ! 1 (λ (cs : List (Node E)). ‵ (Cells E cs)) k.whole refl $ move ! (1 ∷ []) $

@@ -3,11 +3,11 @@ use Rattle.lhm_ring.proofs.DroppedRing.{first_held, no_first, smaller}
 use Rattle.lhm_ring.proofs.ring.Ring.drop.Goals as goal
 
 pub unlink-key-requires : goal.unlink-key-requires
-unlink-key-requires g c = first_held c.held.self.held c.in-Some.at.place.ptr c.in-Some.ensures
+unlink-key-requires g c = first_held c.held.self.held c.in-Some.at.pointer.ptr c.in-Some.ensures
 
 pub held-smaller : goal.held-smaller
 held-smaller g c =
-    let h = first_held c.held.self.held c.in-Some.at.place.ptr c.in-Some.ensures in
+    let h = first_held c.held.self.held c.in-Some.at.pointer.ptr c.in-Some.ensures in
     let u = c.unlink-key.ensures.others h.0 h.1 h.2 h.3 h.4 in
     smaller c.held.self.held c.drop_spare.new.self.held h.0 h.1 h.2 h.3 (c.drop_spare.ensures.held ∙ u)
 

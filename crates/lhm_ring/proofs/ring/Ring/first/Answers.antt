@@ -1,5 +1,5 @@
 use Rattle.std.proofs.Common.{◌∙◌, sym, ap, Some}
-use Rattle.lhm_ring.specs.declared.block.Place.{Place}
+use Rattle.lhm_ring.specs.declared.block.NodePointer.{NodePointer}
 use Rattle.lhm_ring.specs.RingState.{first_at}
 use Rattle.lhm_ring.proofs.FirstAndLast.{none_held_at_zero, first_found}
 use Rattle.lhm_ring.proofs.Moves.{opened}
@@ -13,7 +13,7 @@ returns-then-self-eq0 g c =
     sym (ap first_at (none_held_at_zero i.nodes.cells i.guard i.spare _ i.len i.spares _ c.in_ok-guard.was c.self.invariant c.self.view_is c.if-self-eq0.true))
 
 pub returns : goal.returns
-returns g c = let i = c.self.inside in ap (λ (z : Place). Some z.ptr) c.new.ensures ∙ first_found i.nodes.cells i.guard i.spare _ i.len i.spares _ c.in_ok-guard.was c.self.invariant c.self.view_is _ c.links.ensures c.if-self-eq0.false
+returns g c = let i = c.self.inside in ap (λ (z : NodePointer). Some z.ptr) c.new.ensures ∙ first_found i.nodes.cells i.guard i.spare _ i.len i.spares _ c.in_ok-guard.was c.self.invariant c.self.view_is _ c.links.ensures c.if-self-eq0.false
 
 pub links-requires : goal.links-requires
 links-requires g c = let i = c.self.inside in is_at _ _ (opened i.nodes.cells i.guard i.spare _ i.len i.spares c.in_ok-guard.was c.self.invariant).2.there.0

@@ -51,7 +51,7 @@ use Rattle.lhm_ring.proofs.value_loan.Hole.TheLaws as H-laws
 use Rattle.lhm_ring.proofs.ring.Ring.TheInside.TheLaws as I-laws
 use Rattle.lhm_ring.proofs.Memory.{mark, struct_made}
 use Rattle.lhm_ring.proofs.ValuesReplaced.{run_of}
-use Rattle.lhm_ring.proofs.ValuesSplitOff.{Inside, Full, parts, thin_shape, Thinned, thinned, thin_shared, at_places, vals, kept_by, entries, As, Vals, named as listed_as, view, good, Fields, ring_cut, back, placed, placed-own, ordered_back, lent_of, LoanMark, loan_made}
+use Rattle.lhm_ring.proofs.ValuesSplitOff.{Inside, Full, parts, thin_shape, Thinned, thinned, thin_shared, at_pointers, vals, kept_by, entries, As, Vals, named as listed_as, view, good, Fields, ring_cut, back, placed, placed-own, ordered_back, lent_of, LoanMark, loan_made}
 use Rattle.lhm_ring.specs.contracts.ring.Ring.lend.{ended, clauses}
 use Rattle.lhm_ring.specs.contracts.ring.Ring.lend.Key.{name as #self}
 use Rattle.lhm_ring.proofs.ring.Ring.lend.Statement.{statement}
@@ -78,7 +78,7 @@ lend_spec 𝓤 𝓛 𝓜 𝓡 wired K V LK LV =
     open_ref ! tt (mem R) {x = d} {b = rb} {o = ro} $
     use1 𝓛 (some (λ (x : (i : Inside S W) × ((view S W i ≡ d) × good S W i)). ‵ (part_at (Full S W) full_share x.0 rb ro)))
     (plain_out R (Full S W) (view_owns (Full S W) (State (K.Denot × V.Denot)) R.coded (view S W) (good S W)) 𝓛 full_share d rb ro) $ pick ! (λ x.
-    let i : Inside S W = x.0 in let seen = x.1.0 in let ok = x.1.1 in let kb : Ptr → _ = kept_by S W i in let es = entries S W i in let ps : List Ptr = at_places Q S W es in let ws : List V.Denot = vals Q S W es in
+    let i : Inside S W = x.0 in let seen = x.1.0 in let ok = x.1.1 in let kb : Ptr → _ = kept_by S W i in let es = entries S W i in let ps : List Ptr = at_pointers Q S W es in let ws : List V.Denot = vals Q S W es in
     let As' : SemTy = As S W 𝓛 i d seen ok rb ro in let Vs : SemTy = Vals S W i in let Fs : Fml = Fields S W 𝓛 i d seen ok rb ro in let is : placed S W 𝓛 i d seen ok rb ro (held_values d.held) ≡ ws = placed-own S W 𝓛 i d seen ok rb ro in
     use1 𝓛 (‵ (spread W ps ws) ⊛ ‵ Fs) (ring_cut S W kb 𝓛 i rb ro) $ split ! $
     -- [the values; the fields; the open borrow, in three; the other tokens]

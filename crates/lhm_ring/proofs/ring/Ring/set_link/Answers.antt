@@ -7,19 +7,19 @@ use Rattle.lhm_ring.proofs.ContentChange.{link_changes, ring_ok_same, ring_list_
 use Rattle.lhm_ring.proofs.ring.Ring.set_link.Goals as goal
 
 pub relink-requires : goal.relink-requires
-relink-requires g c = let i = c.self.inside in read_at i.nodes.cells i.guard i.spare i.len i.spares _ c.self.invariant c.self.view_is c.args.at.place.ptr c.requires
+relink-requires g c = let i = c.self.inside in read_at i.nodes.cells i.guard i.spare i.len i.spares _ c.self.invariant c.self.view_is c.args.at.pointer.ptr c.requires
 
 pub invariant_of-self : goal.invariant_of-self
 invariant_of-self g c =
-    let i = c.self.inside in let h = c.requires in let p = c.args.at.place.ptr in let cs = i.nodes.cells in let r = read_at i.nodes.cells i.guard i.spare i.len i.spares _ c.self.invariant c.self.view_is p h in let k = held_in i.nodes.cells i.guard i.spare i.len i.spares _ c.self.invariant c.self.view_is c.args.at.place.ptr h in
-    let j = link_changes cs p r.0 r.1 h.1 (content i.nodes.cells i.guard i.spare i.len i.spares _ c.self.invariant c.self.view_is c.args.at.place.ptr h.0 h.1 h.2 h.3 h.4) c.of.result in
+    let i = c.self.inside in let h = c.requires in let p = c.args.at.pointer.ptr in let cs = i.nodes.cells in let r = read_at i.nodes.cells i.guard i.spare i.len i.spares _ c.self.invariant c.self.view_is p h in let k = held_in i.nodes.cells i.guard i.spare i.len i.spares _ c.self.invariant c.self.view_is c.args.at.pointer.ptr h in
+    let j = link_changes cs p r.0 r.1 h.1 (content i.nodes.cells i.guard i.spare i.len i.spares _ c.self.invariant c.self.view_is c.args.at.pointer.ptr h.0 h.1 h.2 h.3 h.4) c.of.result in
     let w = c.relink.ensures r.0 r.1 in
     subst (λ zs. RingOk zs i.guard i.spare i.len i.spares) (sym w) (ring_ok_same cs _ p h.1 _ j i.guard i.spare i.len i.spares c.self.invariant k)
 
 pub returns : goal.returns
 returns g c =
-    let i = c.self.inside in let h = c.requires in let p = c.args.at.place.ptr in let cs = i.nodes.cells in let r = read_at i.nodes.cells i.guard i.spare i.len i.spares _ c.self.invariant c.self.view_is p h in let k = held_in i.nodes.cells i.guard i.spare i.len i.spares _ c.self.invariant c.self.view_is c.args.at.place.ptr h in
-    let j = link_changes cs p r.0 r.1 h.1 (content i.nodes.cells i.guard i.spare i.len i.spares _ c.self.invariant c.self.view_is c.args.at.place.ptr h.0 h.1 h.2 h.3 h.4) c.of.result in
+    let i = c.self.inside in let h = c.requires in let p = c.args.at.pointer.ptr in let cs = i.nodes.cells in let r = read_at i.nodes.cells i.guard i.spare i.len i.spares _ c.self.invariant c.self.view_is p h in let k = held_in i.nodes.cells i.guard i.spare i.len i.spares _ c.self.invariant c.self.view_is c.args.at.pointer.ptr h in
+    let j = link_changes cs p r.0 r.1 h.1 (content i.nodes.cells i.guard i.spare i.len i.spares _ c.self.invariant c.self.view_is c.args.at.pointer.ptr h.0 h.1 h.2 h.3 h.4) c.of.result in
     let w = c.relink.ensures r.0 r.1 in
     let f : Held (g.row.K.Denot × g.row.V.Denot) → Held (g.row.K.Denot × g.row.V.Denot) = linked_to _ in
     let e = ap (λ zs. ring_list zs i.guard i.len) w ∙ ring_list_changed cs _ p h.1 _ j f refl i.guard i.len ∙ ap (λ z. change_at p f z.held) c.self.view_is in

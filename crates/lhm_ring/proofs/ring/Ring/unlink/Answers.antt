@@ -22,27 +22,27 @@ join-requires g c =
 pub take-key-requires : goal.take-key-requires
 take-key-requires g c =
     let i = c.self.inside in
-    taken_holds i.nodes.cells i.guard i.spare _ i.len i.spares _ c.unwrap-guard.ensures c.self.invariant c.self.view_is c.args.at.place _ c.links-old.ensures _ c.join.ensures c.requires
+    taken_holds i.nodes.cells i.guard i.spare _ i.len i.spares _ c.unwrap-guard.ensures c.self.invariant c.self.view_is c.args.at.pointer _ c.links-old.ensures _ c.join.ensures c.requires
 
 pub relink-requires : goal.relink-requires
 relink-requires g c =
     let i = c.self.inside in
-    taken_at i.nodes.cells i.guard i.spare _ i.len i.spares _ c.unwrap-guard.ensures c.self.invariant c.self.view_is c.args.at.place _ c.links-old.ensures _ c.join.ensures _ c.take-key.ensures.body _ c.take-key.new.self.cells c.take-key.ensures.cells c.requires
+    taken_at i.nodes.cells i.guard i.spare _ i.len i.spares _ c.unwrap-guard.ensures c.self.invariant c.self.view_is c.args.at.pointer _ c.links-old.ensures _ c.join.ensures _ c.take-key.ensures.body _ c.take-key.new.self.cells c.take-key.ensures.cells c.requires
 
 pub overflow_sub-self : goal.overflow_sub-self
 overflow_sub-self g c =
     let i = c.self.inside in
-    some_held i.nodes.cells i.guard i.spare _ i.len i.spares _ c.unwrap-guard.ensures c.self.invariant c.self.view_is c.args.at.place _ c.links-old.ensures _ c.join.ensures c.requires
+    some_held i.nodes.cells i.guard i.spare _ i.len i.spares _ c.unwrap-guard.ensures c.self.invariant c.self.view_is c.args.at.pointer _ c.links-old.ensures _ c.join.ensures c.requires
 
 pub invariant_of-self : goal.invariant_of-self
 invariant_of-self g c =
     let i = c.self.inside in
-    (taken_ring i.nodes.cells i.guard i.spare _ i.len i.spares _ c.unwrap-guard.ensures c.self.invariant c.self.view_is c.args.at.place _ c.links-old.ensures _ c.join.ensures _ c.take-key.ensures.body _ _ c.take-key.ensures.cells c.relink.ensures _ c.to-self-inside.ensures c.requires)
+    (taken_ring i.nodes.cells i.guard i.spare _ i.len i.spares _ c.unwrap-guard.ensures c.self.invariant c.self.view_is c.args.at.pointer _ c.links-old.ensures _ c.join.ensures _ c.take-key.ensures.body _ _ c.take-key.ensures.cells c.relink.ensures _ c.to-self-inside.ensures c.requires)
 
 pub returns : goal.returns
 returns g c =
     let i = c.self.inside in let h = c.requires in
-    let e = taken_list i.nodes.cells i.guard i.spare _ i.len i.spares _ c.unwrap-guard.ensures c.self.invariant c.self.view_is c.args.at.place _ c.links-old.ensures _ c.join.ensures _ c.take-key.ensures.body _ _ c.take-key.ensures.cells c.relink.ensures in
+    let e = taken_list i.nodes.cells i.guard i.spare _ i.len i.spares _ c.unwrap-guard.ensures c.self.invariant c.self.view_is c.args.at.pointer _ c.links-old.ensures _ c.join.ensures _ c.take-key.ensures.body _ _ c.take-key.ensures.cells c.relink.ensures in
     record {
       others = λ xs t ys k at. ap (λ z. z.held) (e xs t ys k at).0;
       triple = λ xs t ys k at. let q = e xs t ys k at in λ z. (q.1 z, (q.2 z).0, (q.2 z).1);

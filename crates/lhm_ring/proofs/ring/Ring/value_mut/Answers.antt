@@ -9,11 +9,11 @@ use Rattle.lhm_ring.proofs.ContentChange.{body_changes, ring_ok_same, ring_list_
 use Rattle.lhm_ring.proofs.ring.Ring.value_mut.Goals as goal
 
 pub value_mut-requires : goal.value_mut-requires
-value_mut-requires g c = let i = c.self.inside in read_held i.nodes.cells i.guard i.spare i.len i.spares _ c.self.invariant c.self.view_is c.args.at.place.ptr c.requires
+value_mut-requires g c = let i = c.self.inside in read_held i.nodes.cells i.guard i.spare i.len i.spares _ c.self.invariant c.self.view_is c.args.at.pointer.ptr c.requires
 
 pub invariant_of-self-lent : goal.invariant_of-self-lent
 invariant_of-self-lent g c w =
-    let i = c.self.inside in let h = c.requires in let p = c.args.at.place.ptr in let cs = i.nodes.cells in
+    let i = c.self.inside in let h = c.requires in let p = c.args.at.pointer.ptr in let cs = i.nodes.cells in
     let l = read_links cs i.guard i.spare i.len i.spares _ c.self.invariant c.self.view_is p h.0 h.1 h.2 h.3 h.4 in
     let b = c.value_mut.ensures.value in let k = held_in cs i.guard i.spare i.len i.spares _ c.self.invariant c.self.view_is p h in
     let j = body_changes cs p l.0 l.1 h.1 (content cs i.guard i.spare i.len i.spares _ c.self.invariant c.self.view_is p h.0 h.1 h.2 h.3 h.4) (pair b.0 w) in
@@ -21,7 +21,7 @@ invariant_of-self-lent g c w =
 
 pub returns : goal.returns
 returns g c =
-    let i = c.self.inside in let h = c.requires in let p = c.args.at.place.ptr in let cs = i.nodes.cells in
+    let i = c.self.inside in let h = c.requires in let p = c.args.at.pointer.ptr in let cs = i.nodes.cells in
     let l = read_links cs i.guard i.spare i.len i.spares _ c.self.invariant c.self.view_is p h.0 h.1 h.2 h.3 h.4 in
     let b = c.value_mut.ensures.value in let k = held_in cs i.guard i.spare i.len i.spares _ c.self.invariant c.self.view_is p h in
     let is = read_pair cs i.guard i.spare i.len i.spares _ c.self.invariant c.self.view_is p _ b.1 in (

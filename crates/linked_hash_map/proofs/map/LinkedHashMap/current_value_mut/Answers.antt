@@ -1,5 +1,5 @@
 use Rattle.std.proofs.Common.{Some, slice_get, option_map, refl, sym, ap, ◌∙◌}
-use Rattle.lhm_ring.specs.Positions.{place_of}
+use Rattle.lhm_ring.specs.Positions.{pointer_of}
 use Rattle.lhm_ring.specs.RingAfterLoan.{with_value}
 use Rattle.linked_hash_map.specs.Indexes.{set_value_at}
 use Rattle.linked_hash_map.specs.Nodes.{pairs_of, mark_of, unvisited_of, current_of}
@@ -11,13 +11,13 @@ pub value_mut-requires : goal.value_mut-requires
 value_mut-requires g c = (current_cut c.self.invariant (current_of-Some c.current.ensures c.unwrap-at.ensures)).held
 
 pub invariant_of-self-lent : goal.invariant_of-self-lent
-invariant_of-self-lent g c w = IsKept-with_value c.self.invariant (place_of c.unwrap-at.result) w
+invariant_of-self-lent g c w = IsKept-with_value c.self.invariant (pointer_of c.unwrap-at.result) w
 
 pub returns : goal.returns
 returns g c =
     let m = c.self.inside in
     let hs = m.ring.held in
-    let p = place_of c.unwrap-at.result in
+    let p = pointer_of c.unwrap-at.result in
     let cut = current_cut c.self.invariant (current_of-Some c.current.ensures c.unwrap-at.ensures) in
     let h = cut.held in
     let index = current_at-Some (current_of-Some c.current.ensures c.unwrap-at.ensures) hs ∙ sym cut.long in

@@ -1,6 +1,6 @@
 use Rattle.std.proofs.Common.{◌≤◌, Some, length, option_map, refl, fold, sym, ap, ◌∙◌, subst}
 use Rattle.lhm_ring.specs.Index.{spots}
-use Rattle.lhm_ring.specs.Positions.{place_of}
+use Rattle.lhm_ring.specs.Positions.{pointer_of}
 use Rattle.lhm_ring.specs.Search.{HasKey, IsAbsent, CountsSome, CountsAll}
 use Rattle.linked_hash_map.specs.Hashers.{hash_by}
 use Rattle.linked_hash_map.proofs.Counts.{same-pairs, beside-pairs}
@@ -11,7 +11,7 @@ use Rattle.linked_hash_map.proofs.map.LinkedHashMap.get_counted.Goals as goal
 pub returns-in-Some-clause-value : goal.returns-in-Some-clause-value
 returns-in-Some-clause-value g c =
     let m = c.self.inside in
-    let h = of-Some (λ p. HasKey g.K.PartialEq.eq c.hash_one-number.result c.args.key.now m.ring.held (place_of p)) c.find-found.result.0 c.in-Some.at c.in-Some.is c.find-found.ensures.found in
+    let h = of-Some (λ p. HasKey g.K.PartialEq.eq c.hash_one-number.result c.args.key.now m.ring.held (pointer_of p)) c.find-found.result.0 c.in-Some.at c.in-Some.is c.find-found.ensures.found in
     rw (← c.self.view_is) (
     ap Some (c.value.ensures (front h.held) (node h.held) (back h.held) h.held.3 h.held.4)
     ∙ value_at-index g.met.K.Eq.laws (distinct_keys c.self.invariant) (index_of-key h) (pair_there h.held)

@@ -1,5 +1,5 @@
 use Rattle.std.proofs.Common.{Some, option_map, fold, refl, inl, ap, sym, ◌∙◌, subst}
-use Rattle.lhm_ring.specs.Positions.{place_of}
+use Rattle.lhm_ring.specs.Positions.{pointer_of}
 use Rattle.lhm_ring.specs.RingAfterLoan.{with_value}
 use Rattle.lhm_ring.specs.Search.{HasKey, IsAbsent}
 use Rattle.lhm_ring.proofs.IndexedRing.{indexed_value}
@@ -14,16 +14,16 @@ invariant_of-self-lent g c w =
     let m = c.self.inside in
     record {
       nodes = subst (λ us. AreKept g.K.PartialEq.eq (hash_by g.S.Hasher.Hasher.finish g.S.Hasher.Hasher.write g.S.BuildHasher.build_hasher g.K.Hash.hash_input m.hasher) us m.ring.spares (mark_of m.visit) (unvisited_of m.visit) (current_of m.visit))
-          (sym (bare-change (place_of c.in-Some.at) w m.ring.held)) c.self.invariant.nodes;
-      indexed = indexed_value m.index m.ring (place_of c.in-Some.at) w c.self.invariant.indexed;
+          (sym (bare-change (pointer_of c.in-Some.at) w m.ring.held)) c.self.invariant.nodes;
+      indexed = indexed_value m.index m.ring (pointer_of c.in-Some.at) w c.self.invariant.indexed;
       few = c.self.invariant.few;
     }
 
 pub returns-in-Some : goal.returns-in-Some
 returns-in-Some g c =
     let m = c.self.inside in
-    let at = place_of c.in-Some.at in
-    let h = of-Some (λ p. HasKey g.K.PartialEq.eq c.hash_one-number.result c.args.key.now m.ring.held (place_of p)) c.find.result.0 c.in-Some.at c.in-Some.is c.find.ensures.found in
+    let at = pointer_of c.in-Some.at in
+    let h = of-Some (λ p. HasKey g.K.PartialEq.eq c.hash_one-number.result c.args.key.now m.ring.held (pointer_of p)) c.find.result.0 c.in-Some.at c.in-Some.is c.find.ensures.found in
     let distinct = distinct_keys c.self.invariant in
     rw (← c.self.view_is) (
       (λ i. inl (

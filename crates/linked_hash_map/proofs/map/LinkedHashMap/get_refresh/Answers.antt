@@ -1,5 +1,5 @@
 use Rattle.std.proofs.Common.{◌+◌, None, option_map, fold, refl, inl, ap, sym, ◌∙◌}
-use Rattle.lhm_ring.specs.Positions.{place_of}
+use Rattle.lhm_ring.specs.Positions.{pointer_of}
 use Rattle.lhm_ring.specs.Search.{HasKey, IsAbsent}
 use Rattle.linked_hash_map.specs.Nodes.{map_of}
 use Rattle.linked_hash_map.specs.Hashers.{hash_by}
@@ -10,20 +10,20 @@ use Rattle.linked_hash_map.proofs.PutPair.{held-touched, pairs-touched, value-to
 use Rattle.linked_hash_map.proofs.map.LinkedHashMap.get_refresh.Goals as goal
 
 pub value_mut-requires : goal.value_mut-requires
-value_mut-requires g c = held-touched g.met.K.Eq.laws (of-Some (λ p. HasKey g.K.PartialEq.eq c.hash_one-number.result c.args.key.now c.self.inside.ring.held (place_of p)) c.find.result.0 c.in-Some.at c.in-Some.is c.find.ensures.found) (distinct_keys c.self.invariant) c.move_to_back.ensures.last c.move_to_back.ensures.apart
+value_mut-requires g c = held-touched g.met.K.Eq.laws (of-Some (λ p. HasKey g.K.PartialEq.eq c.hash_one-number.result c.args.key.now c.self.inside.ring.held (pointer_of p)) c.find.result.0 c.in-Some.at c.in-Some.is c.find.ensures.found) (distinct_keys c.self.invariant) c.move_to_back.ensures.last c.move_to_back.ensures.apart
 
 pub invariant_of-self-lent : goal.invariant_of-self-lent
 invariant_of-self-lent g c w =
     let moved = c.move_to_back.ensures in
-    IsKept-touched c.self.invariant g.met.K.Eq.laws (of-Some (λ p. HasKey g.K.PartialEq.eq c.hash_one-number.result c.args.key.now c.self.inside.ring.held (place_of p)) c.find.result.0 c.in-Some.at c.in-Some.is c.find.ensures.found) moved.last moved.spares w
+    IsKept-touched c.self.invariant g.met.K.Eq.laws (of-Some (λ p. HasKey g.K.PartialEq.eq c.hash_one-number.result c.args.key.now c.self.inside.ring.held (pointer_of p)) c.find.result.0 c.in-Some.at c.in-Some.is c.find.ensures.found) moved.last moved.spares w
 
 pub returns-in-Some : goal.returns-in-Some
 returns-in-Some g c =
     let m = c.self.inside in
-    let at = place_of c.in-Some.at in
+    let at = pointer_of c.in-Some.at in
     let moved = c.move_to_back.ensures in
     let ks = c.move_to_back.new.self.held in
-    let has = of-Some (λ p. HasKey g.K.PartialEq.eq c.hash_one-number.result c.args.key.now m.ring.held (place_of p)) c.find.result.0 c.in-Some.at c.in-Some.is c.find.ensures.found in
+    let has = of-Some (λ p. HasKey g.K.PartialEq.eq c.hash_one-number.result c.args.key.now m.ring.held (pointer_of p)) c.find.result.0 c.in-Some.at c.in-Some.is c.find.ensures.found in
     let distinct = distinct_keys c.self.invariant in
     let long = λ (w : g.row.V.Denot). length-same _ ks (bare-change at w ks) ∙ length-to_back m.ring.held ks moved.last (key_lies has) in
     rw (← c.self.view_is) (

@@ -88,7 +88,7 @@ lend_spec 𝓤 𝓛 𝓜 𝓡 wired K₀ V₀ S₀ H₀ LK LV LS LH b₀ d₀ b�
     use1 𝓛 (‵ (part_at Rg full_share i.ring rb fo) ⊛ raw Rest) (lending.field_of K₀ V₀ S₀ H₀ b₁ b₂ b₃ b₄ 𝓛 i rb ro LK LV LS) $ split ! $
     use1 𝓛 (some (λ (z : (r : ring.Inside K V) × ((ring.view K V r ≡ i.ring) × ring.good K V r)). ‵ (part_at (ring.Full K V) full_share z.0 rb fo)))
     (plain_out Rg (ring.Full K V) (view_owns (ring.Full K V) (State (K.Denot × V.Denot)) Rg.coded (ring.view K V) (ring.good K V)) 𝓛 full_share i.ring rb fo) $ pick ! (λ z.
-    let r : ring.Inside K V = z.0 in let rseen = z.1.0 in let rok = z.1.1 in let kb : Ptr → _ = ring.kept_by K V r in let es = ring.entries K V r in let ps : List Ptr = ring.at_places Q K V es in let ws : List V.Denot = ring.vals Q K V es in
+    let r : ring.Inside K V = z.0 in let rseen = z.1.0 in let rok = z.1.1 in let kb : Ptr → _ = ring.kept_by K V r in let es = ring.entries K V r in let ps : List Ptr = ring.at_pointers Q K V es in let ws : List V.Denot = ring.vals Q K V es in
     let As' : SemTy = lending.As K₀ V₀ S₀ H₀ b₁ b₂ b₃ b₄ 𝓛 i rb ro d seen ok r rseen rok in let Vs : SemTy = ring.Vals K V r in let Fs : Fml = ring.Fields K V 𝓛 r i.ring rseen rok rb fo in
     let new = lending.new K₀ V₀ S₀ H₀ b₁ b₂ b₃ b₄ 𝓛 i rb ro d seen ok r rseen rok in let named' = lending.named K₀ V₀ S₀ H₀ b₁ b₂ b₃ b₄ 𝓛 i rb ro d seen ok r rseen rok in
     let is = lending.placed-own K₀ V₀ S₀ H₀ b₁ b₂ b₃ b₄ 𝓛 i rb ro d seen ok r rseen rok in

@@ -1,5 +1,5 @@
 use Rattle.std.proofs.Common.{Some, ◌+◌, ◌-◌, ◌≤◌, ◌++◌, ◌∷◌, [], inr, slice_get, remove, refl, sym, ap, ◌∙◌, subst}
-use Rattle.lhm_ring.specs.Positions.{place_of}
+use Rattle.lhm_ring.specs.Positions.{pointer_of}
 use Rattle.lhm_ring.proofs.IndexedRing.{indexed_to_back}
 use Rattle.linked_hash_map.specs.Nodes.{pairs_of, bare, bookmark_at, AreKept, mark_of, unvisited_of}
 use Rattle.linked_hash_map.specs.Hashers.{hash_by}
@@ -20,9 +20,9 @@ invariant_of-self g c =
     let hash = hash_by g.S.Hasher.Hasher.finish g.S.Hasher.Hasher.write g.S.BuildHasher.build_hasher g.K.Hash.hash_input m.hasher in
     record {
       nodes = subst (λ o. AreKept g.K.PartialEq.eq hash (bare c.move_to_back.new.self.held) c.move_to_back.new.self.spares (mark_of m.visit) (unvisited_of m.visit) o) (sym is)
-          (subst (λ k. AreKept g.K.PartialEq.eq hash (bare c.move_to_back.new.self.held) k (mark_of m.visit) (unvisited_of m.visit) (Some (place_of c.unwrap-at.result))) (sym moved.spares)
+          (subst (λ k. AreKept g.K.PartialEq.eq hash (bare c.move_to_back.new.self.held) k (mark_of m.visit) (unvisited_of m.visit) (Some (pointer_of c.unwrap-at.result))) (sym moved.spares)
           (AreKept-moved m.ring.held c.move_to_back.new.self.held moved.last (current_lies kept is) g.met.K.Eq.laws (current_nodes kept is) (current_elsewhere kept is c.self.view_is c.requires.outside)));
-      indexed = indexed_to_back m.index m.ring c.move_to_back.new.self (place_of c.unwrap-at.result) kept.indexed (current_cut kept is).held moved.last moved.spares;
+      indexed = indexed_to_back m.index m.ring c.move_to_back.new.self (pointer_of c.unwrap-at.result) kept.indexed (current_cut kept is).held moved.last moved.spares;
       few = kept.few;
     }
 

@@ -1,5 +1,5 @@
 use Rattle.std.proofs.Common.{◌-◌, remove, slice_get, refl, sym, ap, ◌∙◌}
-use Rattle.lhm_ring.specs.Positions.{place_of}
+use Rattle.lhm_ring.specs.Positions.{pointer_of}
 use Rattle.linked_hash_map.specs.Nodes.{pairs_of}
 use Rattle.linked_hash_map.proofs.Kept.{IsValid-view, length-pairs_of, cut_before}
 use Rattle.linked_hash_map.proofs.Current.{last_lies, last_index}
@@ -8,7 +8,7 @@ use Rattle.linked_hash_map.proofs.TakenNode.{pair-unlinked, pairs-taken, IsKept-
 use Rattle.linked_hash_map.proofs.map.LinkedHashMap.pop_back.Goals as goal
 
 pub take_out_at-requires-clause-held : goal.take_out_at-requires-clause-held
-take_out_at-requires-clause-held g c = (cut_before (place_of c.in_ok-newest.newest) c.self.inside.ring.held (last_lies c.self.inside.ring.held c.len.ensures.apart c.in_ok-newest.ensures)).held
+take_out_at-requires-clause-held g c = (cut_before (pointer_of c.in_ok-newest.newest) c.self.inside.ring.held (last_lies c.self.inside.ring.held c.len.ensures.apart c.in_ok-newest.ensures)).held
 
 pub invariant_of-self : goal.invariant_of-self
 invariant_of-self g c =

@@ -8,7 +8,7 @@ use Rattle.linked_hash_map.proofs.TakenNode.{pair-unlinked, pairs-taken, IsKept-
 use Rattle.linked_hash_map.proofs.map.LinkedHashMap.pop_front.Goals as goal
 
 pub take_out_at-requires-clause-held : goal.take_out_at-requires-clause-held
-take_out_at-requires-clause-held g c = first_held c.self.inside.ring.held c.in_ok-oldest.oldest.place.ptr c.in_ok-oldest.ensures
+take_out_at-requires-clause-held g c = first_held c.self.inside.ring.held c.in_ok-oldest.oldest.pointer.ptr c.in_ok-oldest.ensures
 
 pub invariant_of-self : goal.invariant_of-self
 invariant_of-self g c =

@@ -1,5 +1,5 @@
 use Rattle.std.proofs.Common.{◌≡◌, ◌+◌, ◌<◌, None, length, refl, ◌∙◌, ap, sym, subst, arith}
-use Rattle.lhm_ring.specs.Positions.{place_of}
+use Rattle.lhm_ring.specs.Positions.{pointer_of}
 use Rattle.lhm_ring.specs.Search.{entries}
 use Rattle.lhm_ring.proofs.IndexedRing.{indexed_some}
 use Rattle.linked_hash_map.specs.LinkedMap.{LinkedMap}
@@ -25,17 +25,17 @@ invariant_of-self g c =
     let absent : find g.K.PartialEq.eq (pairs_of m.ring.held) c.args.key ≡ None = subst (λ (z : LinkedMap g.row.K.Denot g.row.V.Denot g.row.S.Denot). find g.K.PartialEq.eq z.pairs c.args.key ≡ None) (sym c.self.view_is) c.requires.absent in
     let hash = hash_by g.S.Hasher.Hasher.finish g.S.Hasher.Hasher.write g.S.BuildHasher.build_hasher g.K.Hash.hash_input in
     let numbered : c.args.number ≡ hash m.hasher c.args.key = subst (λ (z : LinkedMap g.row.K.Denot g.row.V.Denot g.row.S.Denot). c.args.number ≡ hash z.hasher c.args.key) (sym c.self.view_is) c.requires.number in
-    IsKept-push c.self.invariant (place_of c.put_back-at.result) c.args.number c.args.key c.args.value c.put_in.new.ring (c.put_in.ensures.held ∙ ap entries c.put_back-at.ensures.last)
+    IsKept-push c.self.invariant (pointer_of c.put_back-at.result) c.args.number c.args.key c.args.value c.put_in.new.ring (c.put_in.ensures.held ∙ ap entries c.put_back-at.ensures.last)
     g.met.K.Eq.laws numbered absent (omega (arith, room, of_pairs)) (c.put_in.ensures.spares ∙ c.put_back-at.ensures.spares) c.put_in.ensures.indexed c.put_in.ensures.buckets
 
 pub returns-clause-pairs : goal.returns-clause-pairs
-returns-clause-pairs g c = rw (← c.self.view_is) (pairs_of-push c.self.inside.ring (place_of c.put_back-at.result) c.args.number c.args.key c.args.value c.put_in.new.ring (c.put_in.ensures.held ∙ ap entries c.put_back-at.ensures.last))
+returns-clause-pairs g c = rw (← c.self.view_is) (pairs_of-push c.self.inside.ring (pointer_of c.put_back-at.result) c.args.number c.args.key c.args.value c.put_in.new.ring (c.put_in.ensures.held ∙ ap entries c.put_back-at.ensures.last))
 
 pub returns-clause-bookmark : goal.returns-clause-bookmark
-returns-clause-bookmark g c = rw (← c.self.view_is) (bookmark_at-push c.self.invariant (place_of c.put_back-at.result) c.args.number c.args.key c.args.value c.put_in.new.ring (c.put_in.ensures.held ∙ ap entries c.put_back-at.ensures.last))
+returns-clause-bookmark g c = rw (← c.self.view_is) (bookmark_at-push c.self.invariant (pointer_of c.put_back-at.result) c.args.number c.args.key c.args.value c.put_in.new.ring (c.put_in.ensures.held ∙ ap entries c.put_back-at.ensures.last))
 
 pub returns-clause-current : goal.returns-clause-current
-returns-clause-current g c = rw (← c.self.view_is) (current_at-push c.self.invariant (place_of c.put_back-at.result) c.args.number c.args.key c.args.value c.put_in.new.ring (c.put_in.ensures.held ∙ ap entries c.put_back-at.ensures.last))
+returns-clause-current g c = rw (← c.self.view_is) (current_at-push c.self.invariant (pointer_of c.put_back-at.result) c.args.number c.args.key c.args.value c.put_in.new.ring (c.put_in.ensures.held ∙ ap entries c.put_back-at.ensures.last))
 
 pub returns-clause-stays_valid : goal.returns-clause-stays_valid
 returns-clause-stays_valid g c = IsValid-view (invariant_of-self g c) refl refl

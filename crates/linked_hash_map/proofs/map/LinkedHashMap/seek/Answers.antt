@@ -1,5 +1,5 @@
 use Rattle.std.proofs.Common.{◌≡◌, Some, refl, sym, ap, subst, fold}
-use Rattle.lhm_ring.specs.Positions.{place_of}
+use Rattle.lhm_ring.specs.Positions.{pointer_of}
 use Rattle.lhm_ring.specs.Search.{HasKey, IsAbsent}
 use Rattle.linked_hash_map.specs.LinkedMap.{LinkedMap}
 use Rattle.linked_hash_map.specs.Hashers.{hash_by}
@@ -10,13 +10,13 @@ use Rattle.linked_hash_map.proofs.map.LinkedHashMap.seek.Goals as goal
 pub invariant_of-self : goal.invariant_of-self
 invariant_of-self g c =
     let m = c.self.inside in
-    let h = of-Some (λ p. HasKey g.K.PartialEq.eq c.args.number c.args.key.now m.ring.held (place_of p)) c.find.result.0 c.in-Some.at c.in-Some.is c.find.ensures.found in
-    IsKept-visited c.self.invariant (Some (place_of c.in-Some.at)) (found_lies h)
+    let h = of-Some (λ p. HasKey g.K.PartialEq.eq c.args.number c.args.key.now m.ring.held (pointer_of p)) c.find.result.0 c.in-Some.at c.in-Some.is c.find.ensures.found in
+    IsKept-visited c.self.invariant (Some (pointer_of c.in-Some.at)) (found_lies h)
 
 pub returns-in-Some-clause-found : goal.returns-in-Some-clause-found
 returns-in-Some-clause-found g c found =
     let m = c.self.inside in
-    let h = of-Some (λ p. HasKey g.K.PartialEq.eq c.args.number c.args.key.now m.ring.held (place_of p)) c.find.result.0 c.in-Some.at c.in-Some.is c.find.ensures.found in
+    let h = of-Some (λ p. HasKey g.K.PartialEq.eq c.args.number c.args.key.now m.ring.held (pointer_of p)) c.find.result.0 c.in-Some.at c.in-Some.is c.find.ensures.found in
     rw (← c.self.view_is) (found_index h)
 
 pub returns-in-Some-clause-valid : goal.returns-in-Some-clause-valid

@@ -1,5 +1,5 @@
 use Rattle.std.proofs.Common.{◌≡◌, ◌+◌, None, length, option_map, refl, sym, ap, ◌∙◌, subst, fold, arith}
-use Rattle.lhm_ring.specs.Positions.{place_of}
+use Rattle.lhm_ring.specs.Positions.{pointer_of}
 use Rattle.lhm_ring.specs.RingState.{State}
 use Rattle.lhm_ring.proofs.IndexChanges.{HasKey-kept}
 use Rattle.linked_hash_map.specs.LinkedMap.{LinkedMap}
@@ -47,14 +47,14 @@ pub invariant_of-self-2 : goal.invariant_of-self-2
 invariant_of-self-2 g c =
     let taken = c.in_ok-at.ensures in
     let unlinked = c.unlink-key.ensures in
-    let has = HasKey-kept g.K.PartialEq.eq c.args.number c.args.key.now c.take_out.new.ring.held c.self.inside.ring.held (place_of c.in_ok-at.at) (sym taken.held) taken.found in
+    let has = HasKey-kept g.K.PartialEq.eq c.args.number c.args.key.now c.take_out.new.ring.held c.self.inside.ring.held (pointer_of c.in_ok-at.at) (sym taken.held) taken.found in
     IsKept-taken c.self.invariant (key_lies has) taken.held taken.spares taken.lacks taken.buckets unlinked.others unlinked.spares
 
 pub returns-clause-value : goal.returns-clause-value
 returns-clause-value g c =
     let m = c.self.inside in
     let taken = c.in_ok-at.ensures in
-    let has = HasKey-kept g.K.PartialEq.eq c.args.number c.args.key.now c.take_out.new.ring.held m.ring.held (place_of c.in_ok-at.at) (sym taken.held) taken.found in
+    let has = HasKey-kept g.K.PartialEq.eq c.args.number c.args.key.now c.take_out.new.ring.held m.ring.held (pointer_of c.in_ok-at.at) (sym taken.held) taken.found in
     rw (← c.self.view_is) (
     sym (value_at-slice_get g.met.K.Eq.laws (distinct_keys c.self.invariant) (key_index has)
     ∙ ap (option_map (λ pair. pair.1)) (pair-unlinked m.ring.held c.take_out.new.ring.held c.unlink-key.new.self.held taken.held c.unlink-key.ensures.others (key_lies has) c.unlink-key.ensures.triple))
@@ -64,7 +64,7 @@ pub returns-clause-pairs : goal.returns-clause-pairs
 returns-clause-pairs g c =
     let m = c.self.inside in
     let taken = c.in_ok-at.ensures in
-    let has = HasKey-kept g.K.PartialEq.eq c.args.number c.args.key.now c.take_out.new.ring.held m.ring.held (place_of c.in_ok-at.at) (sym taken.held) taken.found in
+    let has = HasKey-kept g.K.PartialEq.eq c.args.number c.args.key.now c.take_out.new.ring.held m.ring.held (pointer_of c.in_ok-at.at) (sym taken.held) taken.found in
     rw (← c.self.view_is) (
     pairs-taken m.ring.held c.take_out.new.ring.held c.unlink-key.new.self.held taken.held c.unlink-key.ensures.others (key_lies has)
     ∙ sym (without-index g.met.K.Eq.laws (distinct_keys c.self.invariant) (key_index has))
@@ -75,7 +75,7 @@ returns-clause-capacity g c =
     let m = c.self.inside in
     let taken = c.in_ok-at.ensures in
     let unlinked = c.unlink-key.ensures in
-    let has = HasKey-kept g.K.PartialEq.eq c.args.number c.args.key.now c.take_out.new.ring.held m.ring.held (place_of c.in_ok-at.at) (sym taken.held) taken.found in
+    let has = HasKey-kept g.K.PartialEq.eq c.args.number c.args.key.now c.take_out.new.ring.held m.ring.held (pointer_of c.in_ok-at.at) (sym taken.held) taken.found in
     let shorter = length-taken m.ring.held c.take_out.new.ring.held c.unlink-key.new.self.held taken.held unlinked.others (key_lies has) in
     rw (← c.self.view_is) (omega (arith, shorter, unlinked.spares, taken.spares))
 

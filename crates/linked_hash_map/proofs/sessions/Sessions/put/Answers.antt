@@ -55,7 +55,7 @@ put_back-requires-clause-room g c =
     let out = c.take_payload-old.ensures.pairs ∙ ap (λ ps. pairs.without nat_eq ps c.args.id) c.make_room.ensures.pairs in
     let taken = length-taken m.pairs c.args.id out in
     let room = room-left c.self.invariant.valid count c.args.id made.capacity (omega arith)
-    (omega (arith, c.find_leaving-leaving.ensures.within, ap length out)) c.in-Ok.ensures.place in
+    (omega (arith, c.find_leaving-leaving.ensures.within, ap length out)) c.in-Ok.ensures.room in
     omega (arith, ap length (c.take_oldest.ensures.pairs ∙ ap (drop count) out), c.take_oldest.ensures.capacity, c.take_payload-old.ensures.capacity)
 
 pub overflow_add-self : goal.overflow_add-self
