@@ -16,7 +16,10 @@ use std::alloc::{AllocError, Global};
 const MOST_NODES: usize = 1 << 57;
 
 /// Makes the guard of an empty ring, which leads to itself.
-fn make_guard<K, V>(nodes: &mut Nodes<Links, K, V>, alloc: &Global) -> Result<NodePointer, AllocError>
+fn make_guard<K, V>(
+    nodes: &mut Nodes<Links, K, V>,
+    alloc: &Global,
+) -> Result<NodePointer, AllocError>
     requires { nodes.old.cells ≡ [] }
     ensures { MatchResult result (λ g. IsRing nodes.new.cells g.ptr [] None []) (λ _. nodes.new.cells ≡ []) }
 {

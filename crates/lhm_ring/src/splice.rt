@@ -17,7 +17,12 @@ pub(crate) struct Spliced {
 
 /// Makes spare nodes of the `count` nodes from `first` on, and answers the first spare one. The last of them
 /// comes first. What they hold stays in them, and so do their links for the order.
-fn spare_row<K, V>(nodes: &mut Nodes<Links, K, V>, first: NodePointer, count: usize, spare: Link) -> Link
+fn spare_row<K, V>(
+    nodes: &mut Nodes<Links, K, V>,
+    first: NodePointer,
+    count: usize,
+    spare: Link,
+) -> Link
     requires { HasRow nodes.old.cells first.ptr count (target spare) }
     ensures { SparesRow nodes.old.cells first.ptr count (target spare) nodes.new.cells (target result) }
 {

@@ -99,11 +99,11 @@ module _ {K V : Type 0} {eq : K → K → Bool} {hash : K → ℕ} {heads : List
 -- with other values in the same nodes, other pairs are seen, and nothing else
 pub map_of-revalued : {K V S : Type 0} (s t : State (K × V)) (hasher : S) (mark : Option Ptr) (n : ℕ) (current : Option Ptr) (r : ℕ) (mode : Mode) → bare t.held ≡ bare s.held → t.spares ≡ s.spares → {ps : List (K × V)} → pairs_of t.held ≡ ps → map_of t hasher mark n current r mode ≡ record (map_of s hasher mark n current r mode) { pairs = ps }
 map_of-revalued s t hasher mark n current r mode same spares pairs = λ i. record (map_of s hasher mark n current r mode) {
-      pairs = pairs i;
-      capacity = length-same t.held s.held same i + spares i;
-      bookmark = bookmark_at mark (same i);
-      current = current_at current (same i);
-    }
+  pairs = pairs i;
+  capacity = length-same t.held s.held same i + spares i;
+  bookmark = bookmark_at mark (same i);
+  current = current_at current (same i);
+}
 
 -- a list with one element in the midst
 module _ {X : Type 0} where
