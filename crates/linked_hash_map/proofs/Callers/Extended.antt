@@ -5,7 +5,7 @@ use Rattle.std.specs.List.{IsDistinct}
 use Rattle.std.specs.Map.{keys_of}
 use Rattle.std.specs.Map.Iter.{TakesFirst}
 use Rattle.std.specs.Cmp.{IsEquivalence}
-use Rattle.std.specs.Iterator.{Count, UpTo}
+use Rattle.std.specs.Iterator.{Count, UpTo, at_most}
 use Rattle.std.specs.Vec.Iter.{into_iter_items, into_iter_len, into_iter_steps}
 use Rattle.std.proofs.lemmas.Iterator.{YieldsList}
 use Rattle.std.proofs.lemmas.Iterator.Consumers.{YieldsList-end, YieldsList-so_far, YieldsList-from_rest, nth_from_yields_List}
@@ -71,3 +71,17 @@ pairs-InsertsAll_list all inserts is = pairs-InsertsAll inserts (λ it made. Yie
 -- `extend` of a vector
 pub pairs-InsertsAll_vec : {T Z K V : Type 0} {becomes : T → _ → Type 0} {source : T} {eq : K → K → Bool} {mode : Mode} {old new : List (K × V)} (all : List (K × V)) → InsertsAll becomes (into_iter_steps {X = K × V} {Z = Z}) source eq (λ pair. pair) mode old new → ((it : _) → becomes source it → (into_iter_items it ≡ all) × (into_iter_len it ≡ length all)) → new ≡ insert_each eq mode old all
 pairs-InsertsAll_vec all inserts is = pairs-InsertsAll inserts (λ it made. let told = is it made in YieldsList-from_vec {s = it} all told.0 told.1)
+
+-- `from_iter` of a vector
+pub pairs-Collects_vec : {T Z K V : Type 0} {becomes : T → _ → Type 0} {source : T} {eq : K → K → Bool} {remaining : _ → Count} {pairs : List (K × V)} {capacity : ℕ} (all : List (K × V)) → Collects becomes (into_iter_steps {X = K × V} {Z = Z}) source eq (λ pair. pair) remaining pairs capacity → ((it : _) → becomes source it → (into_iter_items it ≡ all) × (into_iter_len it ≡ length all)) → pairs ≡ insert_each eq Touch [] all
+pairs-Collects_vec all collects is = pairs-InsertsAll_vec all collects.inserts is
+
+-- and where the keys of its items differ, the pairs are the items, and the capacity is their number
+module _ {T Z K V : Type 0} {becomes : T → _ → Type 0} {source : T} {eq : K → K → Bool} {pairs : List (K × V)} {capacity : ℕ} (laws : IsEquivalence eq) (all : List (K × V)) (collects : Collects becomes (into_iter_steps {X = K × V} {Z = Z}) source eq (λ pair. pair) (λ it. at_most (into_iter_len it)) pairs capacity) (distinct : IsDistinct eq (keys_of all)) (is : (it : _) → becomes source it → (into_iter_items it ≡ all) × (into_iter_len it ≡ length all)) where
+  pub pairs-Collects_distinct_vec : pairs ≡ all
+  pairs-Collects_distinct_vec = pairs-Collects_vec all collects is ∙ insert_each-distinct laws Touch all distinct
+
+  pub capacity-Collects_distinct_vec : capacity ≡ length all
+  capacity-Collects_distinct_vec = capacity-Collects_distinct laws collects distinct
+      (λ it made. let told = is it made in YieldsList-from_vec {s = it} all told.0 told.1)
+      (λ it made. let told = is it made in (tt, omega (arith, told.1)))

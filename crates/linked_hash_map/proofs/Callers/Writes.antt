@@ -10,10 +10,13 @@ use Rattle.std.specs.Cmp.{IsEquivalence}
 use Rattle.std.proofs.lemmas.List.Elements.{filter-append}
 use Rattle.linked_hash_map.specs.LinkedMap.{LinkedMap}
 use Rattle.linked_hash_map.specs.Cursor.{to_visit}
+use Rattle.linked_hash_map.specs.Changes.{set_or_pushed}
+use Rattle.linked_hash_map.specs.Validity.{IsValid}
 use Rattle.linked_hash_map.specs.Pairs.{key_or, find, value_at, without, to_back, set_value, set_or_push, set_if_some}
 use Rattle.linked_hash_map.proofs.LiveKeys.{none_is}
 use Rattle.linked_hash_map.proofs.Pairs.{is_some-value_at, set_value-none}
 use Rattle.linked_hash_map.proofs.Indexes as at
+use Rattle.linked_hash_map.proofs.EntryFacts.{set_or_pushed-present}
 use Rattle.linked_hash_map.proofs.Callers.Keys.{keys_of-set_value, IsSome-find, set_or_push-present, without-absent}
 use Rattle.linked_hash_map.proofs.Callers.Lookups.{find-without_here, find-to_back, eq-stored}
 
@@ -50,6 +53,12 @@ module _ {K V S : Type 0} {eq : K → K → Bool} (laws : IsEquivalence eq) (m :
 
   pub map-set_or_push_own : record m { pairs = set_or_push eq m.pairs k v } ≡ m
   map-set_or_push_own i = record m { pairs = set_or_push-own laws m.pairs distinct k v own i }
+
+-- and so is the map that `or_insert` leaves, with its capacity and its count of pairs chained again
+pub set_or_pushed-own : {K V S : Type 0} {eq : K → K → Bool} → IsEquivalence eq → (m : LinkedMap K V S) → IsValid eq m → (k : K) (v : V) → value_at eq m.pairs k ≡ Some v → set_or_pushed eq m k v ≡ m
+set_or_pushed-own {eq = eq} laws m valid k v own =
+    sym (set_or_pushed-present eq m k v (IsSome-find eq m.pairs k v own) valid.within)
+    ∙ map-set_value_own laws m valid.distinct k v own
 
 module _ {K V : Type 0} (eq : K → K → Bool) where
   -- with another value for a key, the same keys are still to be visited
