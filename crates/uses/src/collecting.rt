@@ -1,9 +1,12 @@
 //! Maps that take in what others have.
-ghost use Rattle.std.specs.Prelude.{◌≡◌, [], length, None, IfErr, OnOk, OnErr};
+ghost use Rattle.std.specs.Prelude.{◌≡◌, [], length, None, IfOk, IfErr, OnOk, OnErr};
+ghost use Rattle.std.specs.List.{IsDistinct};
+ghost use Rattle.std.specs.Map.{keys_of};
 ghost use Rattle.linked_hash_map.specs.Pairs.{find};
 ghost use Rattle.linked_hash_map.specs.Inserts.{insert_each};
 
-use linked_hash_map::{LinkedHashMap, Refused};
+use linked_hash_map::{LinkedHashMap, Refused, ReserveError};
+use std::alloc::Global;
 use std::hash::{BuildHasher, Hash};
 
 /// Puts in the pairs of a list one by one. The first that finds no memory is handed back, and those before it stay.
@@ -30,4 +33,17 @@ pub fn merge<K: Eq + Hash + Drop, V: Drop, S: BuildHasher, T: BuildHasher + Drop
 {
     map.extend(others)?;
     Ok(())
+}
+
+/// Makes a map of the pairs of a list, whose keys differ. There is room for them and for no more.
+pub fn collect_all<K: Eq + Hash + Drop, V: Drop, S: BuildHasher + Default + Drop>(
+    alloc: Global,
+    list: Vec<(K, V)>,
+) -> Result<LinkedHashMap<K, V, S>, ReserveError>
+    requires differ { IsDistinct K.eq (keys_of list.items) }
+    ensures pairs { IfOk result (λ map. map.pairs ≡ list.items) }
+    ensures capacity { IfOk result (λ map. map.capacity ≡ length list.items) }
+{
+    let map = LinkedHashMap::from_iter(alloc, list)?;
+    Ok(map)
 }

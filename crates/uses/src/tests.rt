@@ -1,6 +1,6 @@
 //! Each program, run once.
 use crate::cache::Cache;
-use crate::collecting::{insert_all, merge};
+use crate::collecting::{collect_all, insert_all, merge};
 use crate::count::counts_of;
 use crate::document::{Document, copy_of, is_same};
 use crate::hasher::for_strangers;
@@ -148,6 +148,15 @@ fn maps_are_merged(rt: HostRuntime) -> Result<(), Fail> {
     merge(&mut map, others)?;
     let list = into_list(rt.alloc(), map)?;
     assert_eq!(rt; list.as_slice(), [(1, 11), (2, 21)].as_slice());
+    Ok(())
+}
+
+#[test]
+fn a_list_is_collected(rt: HostRuntime) -> Result<(), Fail> {
+    let list = Vec::from_array(rt.alloc(), [(2, 20), (1, 10)])?;
+    let map: LinkedHashMap<u32, u32> = collect_all(rt.alloc(), list)?;
+    assert_eq!(rt; map.front(), Some((&2, &20)));
+    assert_eq!(rt; map.capacity(), 2);
     Ok(())
 }
 

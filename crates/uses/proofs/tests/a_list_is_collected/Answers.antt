@@ -1,0 +1,10 @@
+use Rattle.std.proofs.Common.{nat_eq, refl, sym, subst}
+use Rattle.std.specs.List.{IsDistinct}
+use Rattle.std.specs.Map.{keys_of}
+use Rattle.uses.proofs.tests.a_list_is_collected.Goals as goal
+
+pub collect_all-requires : goal.collect_all-requires
+unfolding IsDistinct
+collect_all-requires g c = record {
+  differ = subst (λ pairs. IsDistinct nat_eq (keys_of pairs)) (sym c.in_ok-list.ensures.items) ((refl, tt), (tt, tt));
+}
