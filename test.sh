@@ -79,10 +79,15 @@ refuse_each_growth() {
     exit 1
 }
 
+# Counts the crates whose tests the gate has proved, or whose proofs it has kept from an earlier run.
+count_proved() {
+    sed -n -e 's/^rt: \([a-z_]*\): its tests are proved$/\1/p' -e 's/^rt: \([a-z_]*\) is kept: .*/\1/p' "$work/gate" | sort -u | wc -l
+}
+
 # Waits until the gate has proved the tests of every crate, or has ended.
 await_proofs() {
     crates=$(find crates -mindepth 1 -maxdepth 1 | wc -l)
-    until [ -e "$work/gate.status" ] || [ "$(grep -c ': its tests are proved$' "$work/gate")" -ge "$crates" ]; do
+    until [ -e "$work/gate.status" ] || [ "$(count_proved)" -ge "$crates" ]; do
         sleep 5
     done
 }
