@@ -94,9 +94,9 @@ pub enum Mode {
 ///
 /// Costs are named in steps, each of which reaches, moves or drops one pair. A look-up hashes its key once and goes along the
 /// chain of the key's bucket, a step for each pair that it reaches, and compares keys only where their numbers agree:
-/// [`get_counted`](LinkedHashMap::get_counted) says how many. The number of buckets is not below the capacity, and below twice
-/// the capacity. Taking a pair out costs a step for each that comes before it in its chain, and compares no key. Where no cost
-/// is named at a call, it costs a constant number of steps. Dropping a map drops its pairs, a step for each.
+/// [`get_counted`](LinkedHashMap::get_counted) says how many. The number of buckets is the least power of two that is not below
+/// the capacity, and 0 at capacity 0. Taking a pair out costs a step for each that comes before it in its chain, and compares no
+/// key. Where no cost is named at a call, it costs a constant number of steps. Dropping a map drops its pairs, a step for each.
 ///
 /// Unlike the original's, the type asks for `K: Eq + Hash` and `S: BuildHasher` wherever it is named, and is made with an
 /// allocator that is handed in.
@@ -628,9 +628,9 @@ impl<K: Eq + Hash, V, S: BuildHasher> LinkedHashMap<K, V, S> {
     /// Returns how many nodes changes of the capacity have chained again since the last [`shrink_to_fit`] that lowered it, its own
     /// included.
     ///
-    /// A change chains all pairs again where it changes the number of buckets, which is the least power of two that is not below
-    /// the capacity, and none else. So the number is at most that of the buckets, below twice the capacity, whatever calls came
-    /// before. It takes no memory. The original has no such call.
+    /// A change that changes the number of buckets chains all pairs again, and any other chains none. There are as many buckets as
+    /// the least power of two that is not below the capacity, and 0 at capacity 0: so many nodes at most have been chained again,
+    /// whatever calls came before. It takes no memory. The original has no such call.
     ///
     /// [`shrink_to_fit`]: LinkedHashMap::shrink_to_fit
     ///
