@@ -1,7 +1,6 @@
 -- Nodes are made on top of others, and taken off again.
-use Rattle.std.proofs.Common.{◌≡◌, ℕ, suc, zero, ◌+◌, ◌-◌, ◌<◌, ◌≤◌, ◌^◌, cond, List, [], ◌∷◌, length, Option, Some, None, refl, sym, ap, ◌∙◌, subst, arith}
+use Rattle.std.proofs.Common.{◌≡◌, ℕ, suc, zero, ◌+◌, ◌-◌, ◌<◌, ◌≤◌, ◌^◌, cond, List, ◌∷◌, length, Option, Some, None, refl, sym, ap, ◌∙◌, subst, arith}
 use Rattle.std.specs.Option.{IsSome}
-use Rattle.std.specs.Prelude.{IfSome}
 use denote.RawPtr.{Ptr}
 use Rattle.lhm_ring.specs.declared.block.NodePointer.{NodePointer}
 use Rattle.lhm_ring.specs.declared.links.Links.{Links}
@@ -15,7 +14,7 @@ use Rattle.lhm_ring.proofs.Apart.{same_ptr_refl}
 use Rattle.lhm_ring.proofs.Rows.{apart_tail}
 use Rattle.lhm_ring.proofs.Moves.{ring_listed}
 use Rattle.lhm_ring.proofs.NodeAdded.{link_links, more, more_listed, Guarded, guard_made}
-use Rattle.lhm_ring.proofs.Options.{some_same, some_none}
+use Rattle.lhm_ring.proofs.Options.{some_same}
 
 module _ {B : Type 0} where
   head_links : (p : Ptr) (l : Links) (es : List (Cell Links B)) → links_at (cell p l None ∷ es) p ≡ Some l
@@ -87,20 +86,6 @@ module _ {B : Type 0} where
   guarded cs ds (Some k) spare n m g v h ok w =
       let P : (List (Cell Links B) × NodePointer) → Type 0 = λ z. Guarded z.0 (Some z.1) spare n m z.1 v in
       subst P (λ i. (sym h.0 i, sym h.1 i)) (record { is = refl; ok = ok; view = w })
-
-  pub guard_same : (cs ds : List (Cell Links B)) (guard : Option NodePointer) (g : NodePointer) → HasGuard guard cs ds g → IfSome guard (λ h. h ≡ g)
-  guard_same cs ds None g h = tt
-  guard_same cs ds (Some k) g h = sym h.1
-
-  -- a guard that was made is alone
-  pub guard_alone : (cs ds : List (Cell Links B)) (guard : Option NodePointer) (g : NodePointer) → HasGuard guard cs ds g → guard ≡ None → IsRing ds g.ptr [] None []
-  guard_alone cs ds None g h e = h
-  guard_alone cs ds (Some k) g h e = absurd (some_none k e)
-
-  -- the nodes are as before, once a guard that was made is freed
-  pub ungrown : (cs ds es : List (Cell Links B)) (guard : Option NodePointer) (spare : Link) (n m : ℕ) (g : NodePointer) → HasGuard guard cs ds g → RingOk cs guard spare n m → (guard ≡ None → es ≡ []) → (IsSome guard → es ≡ ds) → es ≡ cs
-  ungrown cs ds es None spare n m g h ok none some = none refl ∙ sym ok.0
-  ungrown cs ds es (Some k) spare n m g h ok none some = some refl ∙ h.0
 
   pub grown_ring : (cs ds : List (Cell Links B)) (g : NodePointer) (spare f : Link) (n m k : ℕ) → RingOk cs (Some g) spare n m → IsStacked cs g spare k ds f → IsApart (pointers ds) → n + m + k ≤ 2 ^ 57 → RingOk ds (Some g) f n (m + k)
   grown_ring cs ds g spare f n m k ok s d small =

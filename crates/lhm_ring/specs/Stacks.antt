@@ -26,3 +26,7 @@ module _ {B : Type 0} where
   abbrev pub HasGuard : Option NodePointer → List (Cell Links B) → List (Cell Links B) → NodePointer → Type 0
   HasGuard None cs ds g = IsRing ds g.ptr [] None []
   HasGuard (Some h) cs ds g = (ds ≡ cs) × (g ≡ h)
+
+  -- of the nodes cs with the guard o, or with none, became ds: g is the guard, and n nodes more are stacked on s, the first of them f
+  abbrev pub IsGrown : Option NodePointer → List (Cell Links B) → Link → ℕ → List (Cell Links B) → NodePointer → Link → Type 0
+  IsGrown o cs s n ds g f = (es : List (Cell Links B)) × HasGuard o cs es g × IsStacked es g s n ds f

@@ -1,9 +1,9 @@
 //! Nodes are made, all or none, and spare ones are freed.
-ghost use Rattle.std.specs.Prelude.{◌≡◌, ◌+◌, ◌-◌, ◌<◌, [], ◌∷◌, None, Some, IfSome, OnOk, OnErr, MatchResult};
+ghost use Rattle.std.specs.Prelude.{◌≡◌, ◌+◌, ◌-◌, ◌<◌, [], ◌∷◌, None, Some, IfSome, IfOk, OnOk, OnErr, MatchResult};
 ghost use Rattle.std.specs.Option.{IsSome};
 ghost use Rattle.lhm_ring.specs.Cells.{cell};
 ghost use Rattle.lhm_ring.specs.Rings.{IsRing, links};
-ghost use Rattle.lhm_ring.specs.Stacks.{IsStacked, HasStack, Unstacks, HasGuard};
+ghost use Rattle.lhm_ring.specs.Stacks.{IsStacked, HasStack, Unstacks, HasGuard, IsGrown};
 
 use crate::block::{NodePointer, allocate, deallocate};
 use crate::link::Link;
@@ -147,6 +147,29 @@ fn make_spares<K, V>(
     Ok(first)
 }
 
+/// Makes `count` nodes on top of the spare ones, and the guard if there is none yet. It returns the guard and the first spare node.
+/// If a block is refused, what it made is freed again.
+fn make_nodes<K, V>(
+    nodes: &mut Nodes<Links, K, V>,
+    alloc: &Global,
+    guard: Option<NodePointer>,
+    spare: Link,
+    count: usize,
+) -> Result<(NodePointer, Link), AllocError>
+    requires { guard ≡ None → nodes.old.cells ≡ [] }
+    ensures made { IfOk result (λ made. IsGrown guard nodes.old.cells spare count nodes.new.cells made.0 made.1) }
+    ensures refused { OnErr result (nodes.new.cells ≡ nodes.old.cells) }
+{
+    let present = guard_or_new(nodes, alloc, guard)?;
+    match make_spares(nodes, alloc, present, spare, count) {
+        Ok(first) => Ok((present, first)),
+        Err(refused) => {
+            undo_guard(nodes, alloc, guard, present);
+            Err(refused)
+        }
+    }
+}
+
 impl<K, V> Ring<K, V> {
     /// Makes `count` spare nodes more, and the guard where there was none.
     ///
@@ -160,11 +183,13 @@ impl<K, V> Ring<K, V> {
         if MOST_NODES - self.len - self.spares < count {
             return Err(AllocError);
         }
-        let guard = guard_or_new(&mut self.nodes, &self.alloc, self.guard)?;
-        let Ok(spare) = make_spares(&mut self.nodes, &self.alloc, guard, self.spare, count) else {
-            undo_guard(&mut self.nodes, &self.alloc, self.guard, guard);
-            return Err(AllocError);
-        };
+        let (guard, spare) = make_nodes(
+            &mut self.nodes,
+            &self.alloc,
+            self.guard,
+            self.spare,
+            count,
+        )?;
         note_guard(&mut self.guard, guard);
         self.spare = spare;
         self.spares += count;

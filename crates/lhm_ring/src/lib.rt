@@ -7,8 +7,6 @@ pub(crate) mod content_loan;
 pub(crate) mod drain;
 pub(crate) mod grow;
 pub mod index;
-#[cfg(test)]
-mod index_tests;
 pub(crate) mod iter;
 pub(crate) mod link;
 pub(crate) mod links;
@@ -17,6 +15,4 @@ pub(crate) mod order;
 pub(crate) mod position;
 pub mod ring;
 pub(crate) mod splice;
-#[cfg(test)]
-mod tests;
 pub(crate) mod value_loan;

@@ -1,7 +1,8 @@
 //! What a node of the ring has beside its key and its value.
 
-use crate::block::NodePointer;
+use crate::block::{Node, NodePointer};
 use crate::link::Link;
+use std::mem::size_of;
 
 /// The links of a node for the order, one further link, and the number of its key.
 ///
@@ -16,3 +17,6 @@ pub struct Links {
     pub(crate) number: u64,
     pub(crate) guard: u64,
 }
+
+// A node of a number and a number: six words, and the guard's.
+const _: () = prove!(size_of::<Node<Links, u64, u64>>() == 56);

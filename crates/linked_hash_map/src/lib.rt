@@ -53,8 +53,7 @@ mod iter;
 mod map;
 pub mod replay;
 pub mod sessions;
-#[cfg(test)]
-mod tests;
+mod visits;
 
 pub use drain::Drain;
 pub use entry::{Entries, Entry, OccupiedEntry, VacantEntry};

@@ -5,8 +5,6 @@ pub mod cache;
 pub mod collecting;
 pub mod count;
 pub mod document;
-#[cfg(test)]
-mod examples;
 pub mod hasher;
 pub mod interner;
 pub mod loops;
@@ -14,7 +12,5 @@ pub mod memory;
 pub mod queue;
 pub mod refusal;
 pub mod replaying;
-#[cfg(test)]
-mod tests;
 pub mod text;
 pub mod window;

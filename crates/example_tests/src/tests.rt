@@ -1,0 +1,5 @@
+//! The examples of the documentation, and the programs of `uses`.
+
+mod checks;
+mod documentation;
+mod programs;

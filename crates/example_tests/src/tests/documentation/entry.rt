@@ -1,0 +1,125 @@
+//! The entry of a key.
+use linked_hash_map::{Entry, LinkedHashMap};
+use std::test::Fail;
+
+/// The example of `Entry`.
+#[test]
+fn entries_by_case(rt: HostRuntime) -> Result<(), Fail> {
+    let mut map = LinkedHashMap::new(rt.alloc());
+    map.insert('x', 1)?;
+    match map.entry('x') {
+        Entry::Occupied(mut entry) => assert_eq!(rt; entry.insert(2), 1),
+        Entry::Vacant(entry) => assert_eq!(rt; *entry.insert(3)?, 3),
+    }
+    assert_eq!(rt; map.get(&'x'), Some(&2));
+    Ok(())
+}
+
+/// The example of `entry`.
+#[test]
+fn entry(rt: HostRuntime) -> Result<(), Fail> {
+    let mut map = LinkedHashMap::new(rt.alloc());
+    map.insert('x', 1)?;
+    assert!(rt; matches!(&map.entry('x'), Entry::Occupied(_)));
+    assert!(rt; matches!(&map.entry('y'), Entry::Vacant(_)));
+    Ok(())
+}
+
+/// The example of `Entry::key`.
+#[test]
+fn key(rt: HostRuntime) -> Result<(), Fail> {
+    let mut map = LinkedHashMap::new(rt.alloc());
+    map.insert('x', 1)?;
+    assert_eq!(rt; *map.entry('x').key(), 'x');
+    Ok(())
+}
+
+/// The example of `and_modify`.
+#[test]
+fn and_modify(rt: HostRuntime) -> Result<(), Fail> {
+    let mut map = LinkedHashMap::new(rt.alloc());
+    map.insert('x', 1)?;
+    let lent = map.entry('x').and_modify(|value| *value = 2).or_insert(3)?;
+    assert_eq!(rt; *lent, 2);
+    Ok(())
+}
+
+/// The example of `or_insert`.
+#[test]
+fn or_insert(rt: HostRuntime) -> Result<(), Fail> {
+    let mut map = LinkedHashMap::new(rt.alloc());
+    let lent = map.entry('x').or_insert(1)?;
+    *lent = 2;
+    assert_eq!(rt; map.get(&'x'), Some(&2));
+    Ok(())
+}
+
+/// The example of `or_insert_with`.
+#[test]
+fn or_insert_with(rt: HostRuntime) -> Result<(), Fail> {
+    let mut map = LinkedHashMap::new(rt.alloc());
+    let lent = map.entry('x').or_insert_with(|| 1)?;
+    assert_eq!(rt; *lent, 1);
+    Ok(())
+}
+
+/// The example of `or_default`.
+#[test]
+fn or_default(rt: HostRuntime) -> Result<(), Fail> {
+    let mut map: LinkedHashMap<char, u64> = LinkedHashMap::new(rt.alloc());
+    let lent = map.entry('x').or_default()?;
+    assert_eq!(rt; *lent, 0);
+    Ok(())
+}
+
+/// The example of `OccupiedEntry` and of its `key`, `get`, `get_mut` and `remove`.
+#[test]
+fn occupied_entry(rt: HostRuntime) -> Result<(), Fail> {
+    let mut map = LinkedHashMap::new(rt.alloc());
+    map.insert('x', 1)?;
+    if let Entry::Occupied(mut entry) = map.entry('x') {
+        assert_eq!(rt; (*entry.key(), *entry.get()), ('x', 1));
+        *entry.get_mut() = 2;
+        assert_eq!(rt; entry.remove(), 2);
+    }
+    assert!(rt; map.is_empty());
+    Ok(())
+}
+
+/// The example of `OccupiedEntry::into_mut`.
+#[test]
+fn into_mut(rt: HostRuntime) -> Result<(), Fail> {
+    let mut map = LinkedHashMap::new(rt.alloc());
+    map.insert('x', 1)?;
+    if let Entry::Occupied(entry) = map.entry('x') {
+        *entry.into_mut() = 2;
+    }
+    assert_eq!(rt; map.get(&'x'), Some(&2));
+    Ok(())
+}
+
+/// The example of `OccupiedEntry::insert`.
+#[test]
+fn insert(rt: HostRuntime) -> Result<(), Fail> {
+    let mut map = LinkedHashMap::new(rt.alloc());
+    map.insert('x', 1)?;
+    map.insert('y', 2)?;
+    if let Entry::Occupied(mut entry) = map.entry('x') {
+        assert_eq!(rt; entry.insert(3), 1);
+    }
+    assert_eq!(rt; map.back(), Some((&'x', &3)));
+    Ok(())
+}
+
+/// The example of `VacantEntry` and of its `insert`. That of its `key` is its beginning.
+#[test]
+fn vacant_entry(rt: HostRuntime) -> Result<(), Fail> {
+    let mut map = LinkedHashMap::new(rt.alloc());
+    if let Entry::Vacant(entry) = map.entry('x') {
+        assert_eq!(rt; *entry.key(), 'x');
+        let lent = entry.insert(1)?;
+        *lent = 2;
+    }
+    assert_eq!(rt; map.get(&'x'), Some(&2));
+    Ok(())
+}

@@ -1,0 +1,110 @@
+//! Iterators over maps.
+use linked_hash_map::LinkedHashMap;
+use std::test::Fail;
+
+/// The example of `iter` and of `Iter`.
+#[test]
+fn iter(rt: HostRuntime) -> Result<(), Fail> {
+    let mut map = LinkedHashMap::new(rt.alloc());
+    map.insert('x', 1)?;
+    map.insert('y', 2)?;
+    let mut pairs = map.iter();
+    assert_eq!(rt; pairs.next(), Some((&'x', &1)));
+    let mut rest = pairs.clone()?;
+    assert_eq!(rt; rest.next_back(), Some((&'y', &2)));
+    assert_eq!(rt; (pairs.len(), rest.len()), (1, 0));
+    Ok(())
+}
+
+/// The example of a loop over `&map`.
+#[test]
+fn loop_over_a_borrowed_map(rt: HostRuntime) -> Result<(), Fail> {
+    let mut map = LinkedHashMap::new(rt.alloc());
+    map.insert('x', 1)?;
+    map.insert('y', 2)?;
+    let mut last = None;
+    for (key, value) in &map {
+        last = Some((*key, *value));
+    }
+    assert_eq!(rt; last, Some(('y', 2)));
+    Ok(())
+}
+
+/// The example of `keys` and of `Keys`.
+#[test]
+fn keys(rt: HostRuntime) -> Result<(), Fail> {
+    let mut map = LinkedHashMap::new(rt.alloc());
+    map.insert('x', 1)?;
+    map.insert('y', 2)?;
+    let mut keys = map.keys();
+    assert_eq!(rt; keys.next(), Some(&'x'));
+    assert_eq!(rt; keys.next(), Some(&'y'));
+    assert_eq!(rt; keys.next(), None);
+    Ok(())
+}
+
+/// The example of `values` and of `Values`.
+#[test]
+fn values(rt: HostRuntime) -> Result<(), Fail> {
+    let mut map = LinkedHashMap::new(rt.alloc());
+    map.insert('x', 1)?;
+    map.insert('y', 2)?;
+    let mut values = map.values();
+    assert_eq!(rt; values.next_back(), Some(&2));
+    assert_eq!(rt; values.next_back(), Some(&1));
+    assert_eq!(rt; values.next_back(), None);
+    Ok(())
+}
+
+/// The example of `iter_mut` and of `IterMut`.
+#[test]
+fn iter_mut(rt: HostRuntime) -> Result<(), Fail> {
+    let mut map = LinkedHashMap::new(rt.alloc());
+    map.insert('x', 1)?;
+    let mut pairs = map.iter_mut();
+    if let Some((_key, value)) = pairs.next() {
+        *value = 3;
+    }
+    assert_eq!(rt; map.get(&'x'), Some(&3));
+    Ok(())
+}
+
+/// The example of a loop over `&mut map`.
+#[test]
+fn loop_over_a_mutable_map(rt: HostRuntime) -> Result<(), Fail> {
+    let mut map = LinkedHashMap::new(rt.alloc());
+    map.insert('x', 1)?;
+    for (_key, value) in &mut map {
+        *value = 3;
+    }
+    assert_eq!(rt; map.get(&'x'), Some(&3));
+    Ok(())
+}
+
+/// The example of `IntoIter`.
+#[test]
+fn into_iter(rt: HostRuntime) -> Result<(), Fail> {
+    let mut map = LinkedHashMap::new(rt.alloc());
+    map.insert('x', 1)?;
+    map.insert('y', 2)?;
+    let mut pairs = map.into_iter();
+    assert_eq!(rt; pairs.next_back(), Some(('y', 2)));
+    let mut rest = pairs.clone()?;
+    assert_eq!(rt; rest.next(), Some(('x', 1)));
+    assert_eq!(rt; (pairs.len(), rest.len()), (1, 0));
+    Ok(())
+}
+
+/// The example of a loop over a map itself.
+#[test]
+fn loop_over_a_map(rt: HostRuntime) -> Result<(), Fail> {
+    let mut map = LinkedHashMap::new(rt.alloc());
+    map.insert('x', 1)?;
+    map.insert('y', 2)?;
+    let mut last = None;
+    for pair in map {
+        last = Some(pair);
+    }
+    assert_eq!(rt; last, Some(('y', 2)));
+    Ok(())
+}

@@ -1,0 +1,131 @@
+//! Looking pairs up.
+use linked_hash_map::LinkedHashMap;
+use std::test::Fail;
+
+/// The example of `contains_key`.
+#[test]
+fn contains_key(rt: HostRuntime) -> Result<(), Fail> {
+    let mut map = LinkedHashMap::new(rt.alloc());
+    map.insert('x', 1)?;
+    assert!(rt; map.contains_key(&'x'));
+    assert!(rt; !map.contains_key(&'y'));
+    Ok(())
+}
+
+/// The example of `get`.
+#[test]
+fn get(rt: HostRuntime) -> Result<(), Fail> {
+    let mut map = LinkedHashMap::new(rt.alloc());
+    map.insert('x', 1)?;
+    assert_eq!(rt; map.get(&'x'), Some(&1));
+    assert_eq!(rt; map.get(&'y'), None);
+    Ok(())
+}
+
+/// The example of `Index`.
+#[test]
+fn index(rt: HostRuntime) -> Result<(), Fail> {
+    let mut map = LinkedHashMap::new(rt.alloc());
+    map.insert('x', 1)?;
+    if map.contains_key(&'x') {
+        assert_eq!(rt; map[&'x'], 1);
+    }
+    Ok(())
+}
+
+/// The example of `get_mut`.
+#[test]
+fn get_mut(rt: HostRuntime) -> Result<(), Fail> {
+    let mut map = LinkedHashMap::new(rt.alloc());
+    map.insert('x', 1)?;
+    if let Some(value) = map.get_mut(&'x') {
+        *value = 3;
+    }
+    assert_eq!(rt; map.get(&'x'), Some(&3));
+    Ok(())
+}
+
+/// The example of `IndexMut`.
+#[test]
+fn index_mut(rt: HostRuntime) -> Result<(), Fail> {
+    let mut map = LinkedHashMap::new(rt.alloc());
+    map.insert('x', 1)?;
+    if map.contains_key(&'x') {
+        map[&'x'] = 3;
+        assert_eq!(rt; map.get(&'x'), Some(&3));
+    }
+    Ok(())
+}
+
+/// The example of `get_refresh`.
+#[test]
+fn get_refresh(rt: HostRuntime) -> Result<(), Fail> {
+    let mut map = LinkedHashMap::new(rt.alloc());
+    map.insert('x', 1)?;
+    map.insert('y', 2)?;
+    if let Some(value) = map.get_refresh(&'x') {
+        *value = 3;
+    }
+    assert_eq!(rt; map.back(), Some((&'x', &3)));
+    Ok(())
+}
+
+/// The example of `front`.
+#[test]
+fn front(rt: HostRuntime) -> Result<(), Fail> {
+    let mut map = LinkedHashMap::new(rt.alloc());
+    map.insert('x', 1)?;
+    map.insert('y', 2)?;
+    assert_eq!(rt; map.front(), Some((&'x', &1)));
+    Ok(())
+}
+
+/// The example of `back`.
+#[test]
+fn back(rt: HostRuntime) -> Result<(), Fail> {
+    let mut map = LinkedHashMap::new(rt.alloc());
+    map.insert('x', 1)?;
+    map.insert('y', 2)?;
+    assert_eq!(rt; map.back(), Some((&'y', &2)));
+    Ok(())
+}
+
+/// The example of `len`.
+#[test]
+fn len(rt: HostRuntime) -> Result<(), Fail> {
+    let mut map = LinkedHashMap::new(rt.alloc());
+    map.insert('x', 1)?;
+    assert_eq!(rt; map.len(), 1);
+    Ok(())
+}
+
+/// The example of `is_empty`.
+#[test]
+fn is_empty(rt: HostRuntime) -> Result<(), Fail> {
+    let mut map = LinkedHashMap::new(rt.alloc());
+    assert!(rt; map.is_empty());
+    map.insert('x', 1)?;
+    assert!(rt; !map.is_empty());
+    Ok(())
+}
+
+/// The example of `get_counted`.
+#[test]
+fn get_counted(rt: HostRuntime) -> Result<(), Fail> {
+    let mut map = LinkedHashMap::new(rt.alloc());
+    map.insert('x', 1)?;
+    let (value, probe) = map.get_counted(&'x');
+    assert_eq!(rt; (value, probe.visited, probe.compared), (Some(&1), 1, 1));
+    Ok(())
+}
+
+/// The example of `rechained`.
+#[test]
+fn rechained(rt: HostRuntime) -> Result<(), Fail> {
+    let mut map = LinkedHashMap::new(rt.alloc());
+    for key in [1, 2, 3, 4, 5] {
+        map.insert(key, 0)?;
+    }
+    assert_eq!(rt; map.rechained(), 7);
+    Ok(())
+}

@@ -1,0 +1,61 @@
+//! Taking pairs out.
+use linked_hash_map::LinkedHashMap;
+use std::test::Fail;
+
+/// The example of `remove`.
+#[test]
+fn remove(rt: HostRuntime) -> Result<(), Fail> {
+    let mut map = LinkedHashMap::new(rt.alloc());
+    map.insert('x', 1)?;
+    map.insert('y', 2)?;
+    assert_eq!(rt; map.remove(&'x'), Some(1));
+    assert_eq!(rt; map.remove(&'x'), None);
+    assert_eq!(rt; (map.len(), map.capacity()), (1, 2));
+    Ok(())
+}
+
+/// The example of `pop_front`.
+#[test]
+fn pop_front(rt: HostRuntime) -> Result<(), Fail> {
+    let mut map = LinkedHashMap::new(rt.alloc());
+    map.insert('x', 1)?;
+    map.insert('y', 2)?;
+    assert_eq!(rt; map.pop_front(), Some(('x', 1)));
+    assert_eq!(rt; map.front(), Some((&'y', &2)));
+    Ok(())
+}
+
+/// The example of `pop_back`.
+#[test]
+fn pop_back(rt: HostRuntime) -> Result<(), Fail> {
+    let mut map = LinkedHashMap::new(rt.alloc());
+    map.insert('x', 1)?;
+    map.insert('y', 2)?;
+    assert_eq!(rt; map.pop_back(), Some(('y', 2)));
+    assert_eq!(rt; map.back(), Some((&'x', &1)));
+    Ok(())
+}
+
+/// The example of `clear`.
+#[test]
+fn clear(rt: HostRuntime) -> Result<(), Fail> {
+    let mut map = LinkedHashMap::new(rt.alloc());
+    map.insert('x', 1)?;
+    map.clear();
+    assert_eq!(rt; (map.len(), map.capacity()), (0, 1));
+    Ok(())
+}
+
+/// The example of `drain` and of `Drain`.
+#[test]
+fn drain(rt: HostRuntime) -> Result<(), Fail> {
+    let mut map = LinkedHashMap::new(rt.alloc());
+    map.insert('x', 1)?;
+    map.insert('y', 2)?;
+    let mut pairs = map.drain();
+    assert_eq!(rt; pairs.next(), Some(('x', 1)));
+    assert_eq!(rt; pairs.len(), 1);
+    drop(pairs);
+    assert_eq!(rt; (map.len(), map.capacity()), (0, 2));
+    Ok(())
+}

@@ -1,0 +1,64 @@
+//! Running commands.
+use linked_hash_map::LinkedHashMap;
+use linked_hash_map::replay::{Answer, Command, PairList, replay};
+use std::test::Fail;
+
+/// The example of `replay` and of its module. Those of `Command` and `Answer` are its beginnings.
+#[test]
+fn commands(rt: HostRuntime) -> Result<(), Fail> {
+    let mut map = LinkedHashMap::new(rt.alloc());
+    let commands = Vec::from_array(rt.alloc(), [Command::Insert('x', 1), Command::PopFront])?;
+    let mut replies = replay(&mut map, commands)?.into_iter();
+    assert_eq!(rt; replies.next().map(|reply| reply.answer), Some(Answer::New));
+    assert_eq!(rt;
+        replies.next().map(|reply| reply.answer),
+        Some(Answer::Pair('x', 1))
+    );
+    assert_eq!(rt; (map.len(), map.capacity()), (0, 1));
+    Ok(())
+}
+
+/// The example of `Reply`.
+#[test]
+fn reply(rt: HostRuntime) -> Result<(), Fail> {
+    let mut map: LinkedHashMap<char, u64> = LinkedHashMap::new(rt.alloc());
+    let commands = Vec::from_array(rt.alloc(), [Command::Reserve(4)])?;
+    for reply in replay(&mut map, commands)? {
+        assert_eq!(rt; reply.answer, Answer::Done);
+        assert_eq!(rt; (reply.len, reply.capacity), (0, 4));
+    }
+    Ok(())
+}
+
+/// The example of `PairList`. Those of its `from_vec`, `len` and `is_empty` are its beginning.
+#[test]
+fn pair_list(rt: HostRuntime) -> Result<(), Fail> {
+    let list = PairList::from_vec(Vec::from_array(rt.alloc(), [('x', 1), ('y', 2)])?);
+    assert_eq!(rt; (list.len(), list.is_empty()), (2, false));
+    assert_eq!(rt; list.as_slice(), [('x', 1), ('y', 2)].as_slice());
+    Ok(())
+}
+
+/// The example of `PairList::into_vec`.
+#[test]
+fn into_vec(rt: HostRuntime) -> Result<(), Fail> {
+    let list = PairList::from_vec(Vec::from_array(rt.alloc(), [('x', 1), ('y', 2)])?);
+    assert_eq!(rt; list.into_vec().as_slice(), [('x', 1), ('y', 2)].as_slice());
+    Ok(())
+}
+
+/// The example of `PairList::as_slice`.
+#[test]
+fn as_slice(rt: HostRuntime) -> Result<(), Fail> {
+    let list = PairList::from_vec(Vec::from_array(rt.alloc(), [('x', 1), ('y', 2)])?);
+    assert_eq!(rt; list.as_slice(), [('x', 1), ('y', 2)].as_slice());
+    Ok(())
+}
+
+/// The example of `From` and of `PartialEq` of `PairList`.
+#[test]
+fn from(rt: HostRuntime) -> Result<(), Fail> {
+    let list = PairList::from_vec(Vec::from_array(rt.alloc(), [('x', 1), ('y', 2)])?);
+    assert!(rt; list == PairList::from(Vec::from_array(rt.alloc(), [('x', 1), ('y', 2)])?));
+    Ok(())
+}

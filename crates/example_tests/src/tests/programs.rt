@@ -1,0 +1,211 @@
+//! Each program, run once.
+ghost use Rattle.std.specs.Prelude.{◌≡◌, ◌∷◌, [], Ok};
+
+use super::checks::{check, check_eq, given};
+use linked_hash_map::LinkedHashMap;
+use std::alloc::Global;
+use std::fmt::Debug;
+use std::process::Abort;
+use uses::cache::Cache;
+use uses::collecting::{collect_all, insert_all, merge};
+use uses::count::counts_of;
+use uses::document::{Document, copy_of, is_same};
+use uses::hasher::for_strangers;
+use uses::interner::{name_of, no_names, number_of};
+use uses::loops::{
+    into_list, keys_in_order, oldest_key, reset, sum_by_values, sum_of, take_all, take_out_zeros,
+};
+use uses::memory::{empty_out, reserve_and_insert};
+use uses::queue::Queue;
+use uses::refusal::insert_anyway;
+use uses::replaying::insert_and_remove;
+use uses::text::{age_of, note_age};
+use uses::window::Window;
+
+/// Returns the value of an `Ok`, as `given` does, and tells a proof which value it is.
+fn value_in<T, E: Debug + Drop>(rt: &impl Abort, outcome: Result<T, E>) -> T
+    ensures { outcome ≡ Ok result }
+{
+    match outcome {
+        Ok(value) => value,
+        Err(error) => panic!(rt; "no value, but {error:?}"),
+    }
+}
+
+/// Writes the value of a key that is in a cache.
+fn write_cached(rt: &impl Abort, cache: &mut Cache<u64, u64>, key: u64, value: u64)
+    ensures { cache.new.map.capacity ≡ cache.old.map.capacity }
+{
+    match cache.get_mut(&key) {
+        Some(lent) => *lent = value,
+        None => panic!(rt; "no key {key}"),
+    }
+}
+
+#[test]
+fn a_cache_gives_up_what_was_used_least_recently(rt: HostRuntime) {
+    let mut cache = value_in(&rt, Cache::new(rt.alloc(), 2));
+    check_eq!(rt; cache.put(1, 10), None);
+    check_eq!(rt; cache.put(2, 20), None);
+    write_cached(&rt, &mut cache, 1, 11);
+    check_eq!(rt; cache.put(3, 30), Some((2, 20)));
+    check_eq!(rt; cache.put(1, 12), None);
+    check_eq!(rt; cache.put(4, 40), Some((3, 30)));
+    check_eq!(rt; cache.len(), 2);
+}
+
+#[test]
+fn an_interner_numbers_names_in_order(rt: HostRuntime) {
+    let mut names = no_names(rt.alloc());
+    check_eq!(rt; number_of(&mut names, "apple"), Ok(0));
+    check_eq!(rt; number_of(&mut names, "pear"), Ok(1));
+    check_eq!(rt; number_of(&mut names, "apple"), Ok(0));
+    check_eq!(rt; name_of(&names, 1), Some(&"pear"));
+    check_eq!(rt; name_of(&names, 2), None);
+}
+
+#[test]
+fn a_window_keeps_the_last_numbers(rt: HostRuntime) {
+    let mut window = given!(rt; Window::new(rt.alloc(), 2));
+    check_eq!(rt; window.see(5), None);
+    check_eq!(rt; window.see(6), None);
+    check_eq!(rt; window.see(5), None);
+    check_eq!(rt; window.see(7), Some(6));
+    check_eq!(rt; window.see(6), Some(5));
+}
+
+/// Makes a document, and sets its fields one by one.
+fn document_of(rt: &impl Abort, alloc: Global, fields: &[(u64, u64)]) -> Document<u64, u64> {
+    let mut document = Document::new(alloc);
+    for (name, value) in fields {
+        check_eq!(rt; document.set(*name, *value), Ok(()));
+    }
+    document
+}
+
+#[test]
+fn a_document_keeps_its_fields_in_order(rt: HostRuntime) {
+    let mut document = document_of(&rt, rt.alloc(), &[(1, 10), (2, 20), (1, 11)]);
+    let other = document_of(&rt, rt.alloc(), &[(2, 20), (3, 11)]);
+    check!(rt; !is_same(&document, &other));
+    check!(rt; document.rename(&1, 3));
+    check!(rt; !document.rename(&1, 4));
+    check!(rt; is_same(&document, &other));
+    check_eq!(rt; document.remove(&2), Some(20));
+    check_eq!(rt; document.get(&3), Some(&11));
+    check!(rt; is_same(&given!(rt; copy_of(&document)), &document));
+}
+
+#[test]
+fn words_are_counted(rt: HostRuntime) {
+    let mut counts = given!(rt; counts_of(rt.alloc(), "banana".chars()));
+    check_eq!(rt;
+        given!(rt; keys_in_order(rt.alloc(), &counts)).as_slice(),
+        ['b', 'a', 'n'].as_slice()
+    );
+    check_eq!(rt; counts.get(&'a'), Some(&3));
+    check_eq!(rt; oldest_key(&mut counts), Some('b'));
+}
+
+#[test]
+fn values_are_added(rt: HostRuntime) {
+    let mut prices = LinkedHashMap::new(rt.alloc());
+    let _ = value_in(&rt, prices.insert(1, 10));
+    let _ = value_in(&rt, prices.insert(2, 20));
+    check_eq!(rt; sum_of(&prices), 30);
+    check_eq!(rt; sum_by_values(&prices), 30);
+    reset(&mut prices);
+    check_eq!(rt;
+        given!(rt; into_list(rt.alloc(), prices)).as_slice(),
+        [(1, 0), (2, 0)].as_slice()
+    );
+}
+
+/// Makes a map of one pair, with room for three more.
+fn one_pair(rt: &impl Abort, alloc: Global) -> LinkedHashMap<u32, u64>
+    ensures { result.pairs ≡ (1, 10) ∷ [] }
+{
+    let mut map = value_in(rt, LinkedHashMap::with_capacity(alloc, 4));
+    value_in(rt, insert_and_remove(alloc, &mut map, 1, 10, 2));
+    map
+}
+
+#[test]
+fn pairs_come_and_go(rt: HostRuntime) {
+    let mut map = one_pair(&rt, rt.alloc());
+    check_eq!(rt; insert_anyway(&mut map, 2, 0), None);
+    check_eq!(rt; take_out_zeros(&mut map), 1);
+    check_eq!(rt;
+        given!(rt; take_all(rt.alloc(), &mut map)).as_slice(),
+        [(1, 10)].as_slice()
+    );
+}
+
+#[test]
+fn room_is_made_and_given_back(rt: HostRuntime) {
+    let mut map = LinkedHashMap::new(rt.alloc());
+    check_eq!(rt; given!(rt; reserve_and_insert(&mut map, 1, 10)), None);
+    check_eq!(rt; given!(rt; reserve_and_insert(&mut map, 1, 11)), Some(10));
+    empty_out(&mut map);
+    check_eq!(rt; map.capacity(), 0);
+}
+
+/// Adds a job, and checks whether it is new.
+fn check_added(
+    rt: &impl Abort,
+    queue: &mut Queue<&'static str>,
+    job: &'static str,
+    weight: u64,
+    is_new: bool,
+) {
+    check_eq!(rt; queue.add(job, weight), Ok(is_new));
+}
+
+#[test]
+fn jobs_wait_once(rt: HostRuntime) {
+    let mut queue = Queue::new(rt.alloc());
+    check_added(&rt, &mut queue, "wash", 5, true);
+    check_added(&rt, &mut queue, "dry", 3, true);
+    check_added(&rt, &mut queue, "wash", 9, false);
+    check_added(&rt, &mut queue, "iron", 4, true);
+    check_eq!(rt; queue.undo(), Some(("iron", 4)));
+    check_eq!(rt; queue.peek(), Some(&"wash"));
+    check_eq!(rt; queue.next(), Some(("wash", 5)));
+    check_eq!(rt; queue.next(), Some(("dry", 3)));
+    check_eq!(rt; queue.next(), None);
+}
+
+#[test]
+fn maps_are_merged(rt: HostRuntime) {
+    let mut map = LinkedHashMap::new(rt.alloc());
+    let mut others = LinkedHashMap::new(rt.alloc());
+    let list = given!(rt; Vec::from_array(rt.alloc(), [(1, 10), (2, 20), (1, 11)]));
+    given!(rt; insert_all(&mut map, list));
+    check_eq!(rt; others.insert(2, 21), Ok(None));
+    given!(rt; merge(&mut map, others));
+    let list = given!(rt; into_list(rt.alloc(), map));
+    check_eq!(rt; list.as_slice(), [(1, 11), (2, 21)].as_slice());
+}
+
+#[test]
+fn a_list_is_collected(rt: HostRuntime) {
+    let list = value_in(&rt, Vec::from_array(rt.alloc(), [(2, 20), (1, 10)]));
+    let map: LinkedHashMap<u32, u32> = given!(rt; collect_all(rt.alloc(), list));
+    check_eq!(rt; map.front(), Some((&2, &20)));
+    check_eq!(rt; map.capacity(), 2);
+}
+
+#[test]
+fn text_is_a_key(rt: HostRuntime) {
+    let mut ages = LinkedHashMap::new(rt.alloc());
+    let ann = given!(rt; String::from_str(rt.alloc(), "ann"));
+    given!(rt; note_age(&mut ages, given!(rt; ann.clone()), 3));
+    check_eq!(rt; age_of(&ages, &ann), Some(3));
+}
+
+#[test]
+fn a_hasher_is_handed_in(rt: HostRuntime) {
+    let mut map = given!(rt; for_strangers(&rt, rt.alloc()));
+    check_eq!(rt; map.insert("guest", 1), Ok(None));
+    check_eq!(rt; map.get(&"guest"), Some(&1));
+}

@@ -1,0 +1,134 @@
+//! Readers and writers over memory, which move a few bytes at once and fail where they are told to.
+
+use std::alloc::Global;
+use std::io;
+use std::io::{ErrorKind, Read, Write};
+
+/// The call at which a reader or a writer that works fails.
+pub const NEVER: usize = 0;
+
+/// A reader over bytes that gives at most `most` of them at once and fails at call `fails_at`.
+#[derive(Drop)]
+pub struct Source<'a> {
+    left: &'a [u8],
+    pub most: usize,
+    pub calls: usize,
+    pub fails_at: usize,
+    pub kind: ErrorKind,
+}
+
+impl<'a> Source<'a> {
+    pub fn new(bytes: &'a [u8]) -> Source<'a> {
+        Source {
+            left: bytes,
+            most: 5,
+            calls: 0,
+            fails_at: NEVER,
+            kind: ErrorKind::Other,
+        }
+    }
+}
+
+impl Read for Source<'_> {
+    fn read(&mut self, buf: &mut [u8]) -> io::Result<usize> {
+        self.calls = self.calls.saturating_add(1);
+        if self.calls == self.fails_at {
+            return Err(io::Error::new(self.kind, "refused"));
+        }
+        let n = self.left.len().min(buf.len()).min(self.most);
+        buf[..n].copy_from_slice(&self.left[..n]);
+        self.left = &self.left[n..];
+        Ok(n)
+    }
+}
+
+/// A writer into a fixed buffer that takes at most 7 bytes at once.
+#[derive(Drop)]
+pub struct Sink {
+    buffer: [u8; 256],
+    len: usize,
+}
+
+impl Sink {
+    pub fn new() -> Sink {
+        Sink {
+            buffer: [0; 256],
+            len: 0,
+        }
+    }
+
+    /// Returns what was written. Bytes that are no text are told by an answer that no run gives.
+    pub fn text(&self) -> &str {
+        match str::from_utf8(self.bytes()) {
+            Ok(text) => text,
+            Err(_) => "bytes that are no text",
+        }
+    }
+
+    fn bytes(&self) -> &[u8] {
+        if self.len <= self.buffer.len() {
+            &self.buffer[..self.len]
+        } else {
+            &[]
+        }
+    }
+}
+
+impl Write for Sink {
+    fn write(&mut self, buf: &[u8]) -> io::Result<usize> {
+        if self.len > self.buffer.len() {
+            return Err(io::Error::other("refused"));
+        }
+        let n = (self.buffer.len() - self.len).min(buf.len()).min(7);
+        self.buffer[self.len..self.len + n].copy_from_slice(&buf[..n]);
+        self.len += n;
+        Ok(n)
+    }
+
+    fn flush(&mut self) -> io::Result<()> {
+        Ok(())
+    }
+}
+
+/// A writer into a vector that takes at most `most` bytes at once and fails at call `fails_at`, where a flush is a call too.
+#[derive(Drop)]
+pub struct Output {
+    pub bytes: Vec<u8>,
+    most: usize,
+    pub calls: usize,
+    fails_at: usize,
+}
+
+impl Output {
+    pub fn new(alloc: Global, most: usize, fails_at: usize) -> Output {
+        Output {
+            bytes: Vec::new(alloc),
+            most,
+            calls: 0,
+            fails_at,
+        }
+    }
+
+    fn count_call(&mut self) -> io::Result<()> {
+        self.calls = self.calls.saturating_add(1);
+        if self.calls == self.fails_at {
+            return Err(io::Error::other("refused"));
+        }
+        Ok(())
+    }
+}
+
+impl Write for Output {
+    fn write(&mut self, buf: &[u8]) -> io::Result<usize> {
+        self.count_call()?;
+        let n = buf.len().min(self.most);
+        if self.bytes.extend_from_slice(&buf[..n]).is_err() {
+            return Err(io::Error::other("no memory"));
+        }
+        Ok(n)
+    }
+
+    fn flush(&mut self) -> io::Result<()> {
+        self.count_call()
+    }
+}

@@ -1,5 +1,0 @@
-use Rattle.lhm_ring.proofs.IndexedRing.{indexed_new}
-use Rattle.lhm_ring.proofs.index_tests.Table.new.Goals as goal
-
-pub invariant_of-result : goal.invariant_of-result
-invariant_of-result g c = indexed_new c.new-2.result c.new.result c.new-2.ensures c.new.ensures.empty c.new.ensures.no_spares

@@ -1,0 +1,50 @@
+//! Many changes of capacity.
+
+use super::calls::{
+    assert_contains, assert_get, assert_sizes, check_insert, check_pop_front, check_remove,
+};
+use linked_hash_map::LinkedHashMap;
+use std::process::Abort;
+
+const HALF: u64 = 500_000;
+
+const ALL: u64 = 1_000_000;
+
+fn insert_all(rt: &impl Abort, map: &mut LinkedHashMap<u64, u64>) {
+    for key in 0..ALL {
+        check_insert(rt, map, key, key, None);
+    }
+}
+
+fn find_all(rt: &impl Abort, map: &LinkedHashMap<u64, u64>) {
+    for key in 0..ALL {
+        assert_get(rt, map, &key, Some(&key));
+        assert_contains(rt, map, &(key + ALL), false);
+    }
+}
+
+fn remove_even(rt: &impl Abort, map: &mut LinkedHashMap<u64, u64>) {
+    for half in 0..HALF {
+        check_remove(rt, map, &(2 * half), Some(2 * half));
+    }
+}
+
+fn pop_odd(rt: &impl Abort, map: &mut LinkedHashMap<u64, u64>) {
+    for half in 0..HALF {
+        assert_contains(rt, map, &(2 * half), false);
+        check_pop_front(rt, map, Some((2 * half + 1, 2 * half + 1)));
+    }
+}
+
+#[test]
+fn holds_a_million_pairs(rt: HostRuntime) {
+    let mut map = LinkedHashMap::new(rt.alloc());
+    insert_all(&rt, &mut map);
+    assert_sizes(&rt, &map, 1_000_000, 1_000_000);
+    find_all(&rt, &map);
+    remove_even(&rt, &mut map);
+    assert_sizes(&rt, &map, 500_000, 1_000_000);
+    pop_odd(&rt, &mut map);
+    check_pop_front(&rt, &mut map, None);
+    assert_sizes(&rt, &map, 0, 1_000_000);
+}

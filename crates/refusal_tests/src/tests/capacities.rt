@@ -1,0 +1,183 @@
+//! Calls that change the capacity by itself.
+
+use super::checks::{check, check_eq};
+use super::{BUILDER, Map, assert_map, full_of, insert_new, say_given, say_if_given, with_room};
+use linked_hash_map::{LinkedHashMap, NoRoom, Refused, ReserveError};
+use std::process::Abort;
+
+#[test]
+fn refused_capacity_gives_no_map(rt: HostRuntime) {
+    // The growths of each map: buckets, the guard and two nodes.
+    let made = with_room(rt.alloc(), 2);
+    let default = LinkedHashMap::with_capacity(rt.alloc(), 2);
+    say_if_given(&rt, made.is_ok() & default.is_ok(), 8);
+    assert_made(&rt, made);
+    assert_default(&rt, default);
+}
+
+fn assert_made(rt: &impl Abort, made: Result<Map, ReserveError>) {
+    match made {
+        Ok(map) => assert_map(rt, &map, &[], 2, 0),
+        Err(error) => check_eq!(rt; error, ReserveError::NoRoom),
+    }
+}
+
+fn assert_default(rt: &impl Abort, made: Result<LinkedHashMap<u8, u64>, ReserveError>) {
+    match made {
+        Ok(map) => check_eq!(rt; (map.len(), map.capacity(), map.rechained()), (0, 2, 0)),
+        Err(error) => check_eq!(rt; error, ReserveError::NoRoom),
+    }
+}
+
+#[test]
+fn refused_reservation_keeps_buckets_and_nodes(rt: HostRuntime) {
+    // The growths: buckets, the guard and two nodes.
+    reserve_twice(&rt, full_of(&rt, rt.alloc(), &[(1, 10), (2, 20)]));
+}
+
+fn reserve_twice(rt: &(impl Abort + Print), made: Result<Map, ReserveError>) {
+    if let Ok(mut map) = made {
+        // The growths: 8 buckets for 2, and four nodes; then a node alone.
+        let first = reserve_four(rt, &mut map);
+        assert_map(rt, &map, &[(1, 10), (2, 20)], 6, 2);
+        let second = reserve_five(rt, &mut map);
+        assert_map(rt, &map, &[(1, 10), (2, 20)], 7, 2);
+        say_if_given(rt, first & second, 10);
+    }
+}
+
+/// Reserves room for four pairs more, again where it is refused, and tells whether it was given at once.
+fn reserve_four(rt: &impl Abort, map: &mut Map) -> bool {
+    match map.reserve(4) {
+        Ok(()) => true,
+        Err(error) => {
+            check_eq!(rt; error, ReserveError::NoRoom);
+            change_two(rt, map);
+            check_eq!(rt; map.reserve(0), Ok(()));
+            // There is memory again.
+            check_eq!(rt; map.reserve(4), Ok(()));
+            change_two_back(rt, map);
+            false
+        }
+    }
+}
+
+/// Checks that a map is as any other with the pairs (1, 10) and (2, 20) and no room for more, and leaves (3, 30) and (2, 21).
+fn change_two(rt: &impl Abort, map: &mut Map) {
+    assert_map(rt, map, &[(1, 10), (2, 20)], 2, 0);
+    check_eq!(rt; map.remove(&1), Some(10));
+    check_eq!(rt; map.insert(3, 30), Ok(None));
+    check_eq!(rt; map.insert(2, 21), Ok(Some(20)));
+    assert_map(rt, map, &[(3, 30), (2, 21)], 2, 0);
+}
+
+/// Undoes what `change_two` did.
+fn change_two_back(rt: &impl Abort, map: &mut Map) {
+    assert_map(rt, map, &[(3, 30), (2, 21)], 6, 2);
+    check_eq!(rt; map.insert(1, 10), Ok(None));
+    check_eq!(rt; map.remove(&3), Some(30));
+    check_eq!(rt; map.insert(2, 20), Ok(Some(21)));
+}
+
+/// Reserves room for five pairs, as `reserve_four` does for four.
+fn reserve_five(rt: &impl Abort, map: &mut Map) -> bool {
+    match map.reserve(5) {
+        Ok(()) => true,
+        Err(error) => {
+            check_eq!(rt; error, ReserveError::NoRoom);
+            assert_map(rt, map, &[(1, 10), (2, 20)], 6, 2);
+            check_eq!(rt; map.reserve(5), Ok(()));
+            false
+        }
+    }
+}
+
+#[test]
+fn refused_first_reservation_leaves_nothing(rt: HostRuntime) {
+    reserve_first(&rt, LinkedHashMap::with_hasher(rt.alloc(), BUILDER));
+}
+
+fn reserve_first(rt: &(impl Abort + Print), mut map: Map) {
+    // The growths: 4 buckets, the guard, and three nodes.
+    match map.reserve(3) {
+        Ok(()) => {
+            assert_map(rt, &map, &[], 3, 0);
+            say_given(rt, 5);
+        }
+        Err(error) => {
+            check_eq!(rt; error, ReserveError::NoRoom);
+            assert_map(rt, &map, &[], 0, 0);
+            check_eq!(rt; map.reserve(1), Ok(()));
+            check_eq!(rt; map.insert(1, 10), Ok(None));
+            assert_map(rt, &map, &[(1, 10)], 1, 0);
+        }
+    }
+}
+
+#[test]
+fn refused_shrink_keeps_buckets_and_nodes(rt: HostRuntime) {
+    // The growths: buckets, the guard and nine nodes.
+    shrink(&rt, with_room(rt.alloc(), 9));
+}
+
+/// The pairs of a map that is shrunk.
+const FEW: [(u8, u64); 3] = [(1, 1), (2, 2), (3, 3)];
+
+fn shrink(rt: &(impl Abort + Print), made: Result<Map, ReserveError>) {
+    if let Ok(mut map) = made {
+        insert_new(rt, &mut map, &FEW);
+        // The growth: 4 buckets for 16.
+        match map.shrink_to_fit() {
+            Ok(()) => {
+                assert_map(rt, &map, &FEW, 3, 3);
+                say_given(rt, 12);
+            }
+            Err(NoRoom) => fill_unshrunk(rt, map),
+        }
+    }
+}
+
+/// Checks a map that was not shrunk, and fills it.
+fn fill_unshrunk(rt: &impl Abort, mut map: Map) {
+    assert_map(rt, &map, &FEW, 9, 0);
+    check_eq!(rt; map.remove(&2), Some(2));
+    let more = [(4, 0), (5, 0), (6, 0), (7, 0), (8, 0), (9, 0), (10, 0)];
+    insert_new(rt, &mut map, &more);
+    check_eq!(rt; (map.get(&2), map.get(&10)), (None, Some(&0)));
+    check_eq!(rt; (map.len(), map.capacity()), (9, 9));
+}
+
+#[test]
+fn refused_growth_is_asked_for_again_after_shrinking(rt: HostRuntime) {
+    // The growths: buckets, the guard and three nodes.
+    shrink_and_reserve(&rt, with_room(rt.alloc(), 3));
+}
+
+fn shrink_and_reserve(rt: &(impl Abort + Print), made: Result<Map, ReserveError>) {
+    if let Ok(mut map) = made {
+        check_eq!(rt; map.insert(1, 10), Ok(None));
+        // What shrinking gives back is asked for again: buckets, and then buckets and two nodes.
+        if map.shrink_to_fit().is_ok() && map.reserve(2).is_ok() {
+            assert_map(rt, &map, &[(1, 10)], 3, 2);
+            empty_and_insert(rt, map);
+        }
+    }
+}
+
+fn empty_and_insert(rt: &(impl Abort + Print), mut map: Map) {
+    map.clear();
+    // An empty map gives back all that it has: then buckets, the guard and a node.
+    check_eq!(rt; map.shrink_to_fit(), Ok(()));
+    assert_map(rt, &map, &[], 0, 0);
+    match map.insert(2, 20) {
+        Ok(old) => {
+            check!(rt; old.is_none());
+            assert_map(rt, &map, &[(2, 20)], 1, 0);
+            say_given(rt, 12);
+        }
+        Err(refused) => {
+            check_eq!(rt; refused, Refused { key: 2, value: 20 });
+            assert_map(rt, &map, &[], 0, 0);
+        }
+    }
+}

@@ -1,0 +1,159 @@
+//! A new pair at full capacity.
+
+use super::checks::{check, check_eq};
+use super::{BUILDER, Map, assert_map, full_of, is_given, say_given, say_if_given};
+use linked_hash_map::{Entry, LinkedHashMap, Refused, ReserveError};
+use std::alloc::Global;
+use std::process::Abort;
+
+/// The calls that put in a new pair.
+#[derive(Clone, Copy)]
+enum Call {
+    Insert,
+    OrInsert,
+    OrInsertWith,
+    OrDefault,
+    InsertVacant,
+}
+
+/// Puts in a pair by a call. That by `or_default` has the value 0.
+fn put(map: &mut Map, call: Call, key: u8, value: u64) -> Result<(), Refused<u8, u64>> {
+    match call {
+        Call::Insert => map.insert(key, value).map(|_old| ()),
+        Call::OrInsert => map.entry(key).or_insert(value).map(|_lent| ()),
+        Call::OrInsertWith => map.entry(key).or_insert_with(|| value).map(|_lent| ()),
+        Call::OrDefault => map.entry(key).or_default().map(|_lent| ()),
+        Call::InsertVacant => put_into_vacant(map, key, value),
+    }
+}
+
+fn put_into_vacant(map: &mut Map, key: u8, value: u64) -> Result<(), Refused<u8, u64>> {
+    match map.entry(key) {
+        Entry::Vacant(entry) => entry.insert(value).map(|_lent| ()),
+        Entry::Occupied(_entry) => Ok(()),
+    }
+}
+
+#[test]
+fn refused_insertion_by_each_call_changes_nothing(rt: HostRuntime) {
+    let mut map = LinkedHashMap::with_hasher(rt.alloc(), BUILDER);
+    let given = put_by_each_call(&rt, &mut map);
+    say_if_given(&rt, given, 10);
+}
+
+/// Puts in a pair by each call, and tells whether none was refused.
+fn put_by_each_call(rt: &impl Abort, map: &mut Map) -> bool {
+    let pairs = [(1, 10), (2, 20), (3, 30), (4, 0), (5, 50)];
+    // The growths: buckets, the guard and a node; buckets and a node; buckets and a node; a node; buckets and a node.
+    let calls: [(Call, (u8, u64), &[(u8, u64)], usize); 5] = [
+        (Call::Insert, (1, 10), &pairs[..1], 0),
+        (Call::OrInsert, (2, 20), &pairs[..2], 1),
+        (Call::OrInsertWith, (3, 30), &pairs[..3], 3),
+        (Call::OrDefault, (4, 0), &pairs[..4], 3),
+        (Call::InsertVacant, (5, 50), &pairs[..5], 7),
+    ];
+    let mut before: (&[(u8, u64)], usize) = (&[], 0);
+    let mut given = true;
+    for (call, pair, after, rechained) in calls {
+        given &= put_or_put_again(rt, map, call, pair, before);
+        assert_map(rt, map, after, after.len(), rechained);
+        before = (after, rechained);
+    }
+    given
+}
+
+/// Puts in a pair by a call, twice where it is refused, which changes nothing. Tells whether it was given at once.
+fn put_or_put_again(
+    rt: &impl Abort,
+    map: &mut Map,
+    call: Call,
+    (key, value): (u8, u64),
+    (pairs, rechained): (&[(u8, u64)], usize),
+) -> bool {
+    match put(map, call, key, value) {
+        Ok(()) => true,
+        Err(refused) => {
+            check_eq!(rt; refused, Refused { key, value });
+            assert_map(rt, map, pairs, pairs.len(), rechained);
+            check_eq!(rt; map.get(&key), None);
+            // There is memory again.
+            check_eq!(rt; put(map, call, key, value), Ok(()));
+            false
+        }
+    }
+}
+
+#[test]
+fn refused_insertion_leaves_the_calls_that_take_no_memory(rt: HostRuntime) {
+    // The growths: buckets, the guard and a node.
+    insert_second(&rt, full_of(&rt, rt.alloc(), &[(1, 10)]));
+}
+
+fn insert_second(rt: &(impl Abort + Print), made: Result<Map, ReserveError>) {
+    if let Ok(mut map) = made {
+        // The growths: buckets and a node.
+        match map.insert(2, 20) {
+            Ok(_old) => {
+                assert_map(rt, &map, &[(1, 10), (2, 20)], 2, 1);
+                say_given(rt, 5);
+            }
+            Err(refused) => {
+                check_eq!(rt; refused, Refused { key: 2, value: 20 });
+                change_one(rt, map);
+            }
+        }
+    }
+}
+
+/// Makes calls that take no memory on a map that has the pair (1, 10) and no room for more.
+fn change_one(rt: &impl Abort, mut map: Map) {
+    assert_map(rt, &map, &[(1, 10)], 1, 0);
+    check_eq!(rt; map.insert(1, 11), Ok(Some(10)));
+    check_eq!(rt; map.pop_front(), Some((1, 11)));
+    check_eq!(rt; map.insert(2, 20), Ok(None));
+    check_eq!(rt; map.remove(&2), Some(20));
+    check_eq!(rt; map.insert(3, 30), Ok(None));
+    assert_map(rt, &map, &[(3, 30)], 1, 0);
+}
+
+#[test]
+fn refused_growth_comes_after_the_closure(rt: HostRuntime) {
+    // The growths: buckets, the guard and a node.
+    insert_with(&rt, full_of(&rt, rt.alloc(), &[(1, 10)]), rt.alloc());
+}
+
+fn insert_with(rt: &(impl Abort + Print), made: Result<Map, ReserveError>, alloc: Global) {
+    if let Ok(mut map) = made {
+        insert_after_a_refusal(rt, &mut map, alloc);
+        assert_map(rt, &map, &[(1, 10), (2, 20)], 2, 1);
+        find_without_the_closure(rt, &mut map);
+        say_given(rt, 3);
+    }
+}
+
+/// The closure meets the refusal that was to come, so that the growths of the call are given.
+fn insert_after_a_refusal(rt: &impl Abort, map: &mut Map, alloc: Global) {
+    let mut called = false;
+    let made = map.entry(2).or_insert_with(|| {
+        called = true;
+        meet_the_refusal(alloc);
+        20
+    });
+    check_eq!(rt; made.map(|lent| *lent), Ok(20));
+    check!(rt; called);
+}
+
+/// Asks for growths until one is refused, at most 64 times.
+fn meet_the_refusal(alloc: Global) -> bool {
+    (0..64).any(|_| !is_given(alloc))
+}
+
+fn find_without_the_closure(rt: &impl Abort, map: &mut Map) {
+    let mut called = false;
+    let found = map.entry(1).or_insert_with(|| {
+        called = true;
+        11
+    });
+    check_eq!(rt; found.map(|lent| *lent), Ok(10));
+    check!(rt; !called);
+}

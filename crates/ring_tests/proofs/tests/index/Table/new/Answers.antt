@@ -1,0 +1,5 @@
+use Rattle.lhm_ring.proofs.IndexedRing.{indexed_new}
+use Rattle.ring_tests.proofs.tests.index.Table.new.Goals as goal
+
+pub invariant_of-result : goal.invariant_of-result
+invariant_of-result g c = indexed_new c.new-2.result c.new.result c.new-2.ensures c.new.ensures.empty c.new.ensures.no_spares

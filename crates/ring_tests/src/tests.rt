@@ -1,0 +1,5 @@
+//! The tests of the ring and of its index.
+
+mod checks;
+mod index;
+mod rings;

@@ -1,0 +1,333 @@
+//! The ring.
+ghost use Rattle.std.specs.Prelude.{◌≡◌, ◌+◌, [], ◌∷◌, ◌++◌, length, map, slice_get, None, Some, IfSome};
+ghost use Rattle.lhm_ring.specs.RingState.{IsHeld, AtHeld, held, triples};
+ghost use Rattle.lhm_ring.specs.RingAfterLoan.{unvalued};
+ghost use Rattle.lhm_ring.specs.Positions.{pointer_of};
+
+use super::checks::{check, check_eq, given};
+use lhm_ring::ring::{Drain, Iter, IterMut, Position, Ring};
+use std::alloc::{AllocError, Global};
+use std::iter::{DoubleEndedIterator, ExactSizeIterator, Iterator};
+use std::mem::forget;
+use std::process::Abort;
+use std::rc::Rc;
+
+/// Tells whether a ring holds exactly these numbers, keys and values, in order, and has this many spare nodes.
+fn is_ring(ring: &Ring<char, u64>, triples: &[(u64, char, u64)], spares: usize) -> bool {
+    if ring.len() != triples.len() || ring.spares() != spares {
+        return false;
+    }
+    let mut held = ring.iter();
+    for triple in triples {
+        let (number, key, value) = *triple;
+        if held.next() != Some((number, &key, &value)) {
+            return false;
+        }
+    }
+    true
+}
+
+/// Makes a ring with this many spare nodes.
+fn with_spares(rt: &impl Abort, alloc: Global, count: usize) -> Ring<char, u64>
+    ensures { result.held ≡ [] }
+{
+    let mut ring = Ring::new(alloc);
+    match ring.grow(count) {
+        Ok(()) => ring,
+        Err(AllocError) => panic!(rt; "out of memory"),
+    }
+}
+
+/// Puts a triple into a spare node, and stops where there is none.
+fn put(
+    rt: &impl Abort,
+    ring: &mut Ring<char, u64>,
+    hash: u64,
+    key: char,
+    value: u64,
+) -> Position<char, u64>
+    ensures { ring.new.held ≡ ring.old.held ++ held (pointer_of result) hash None (key, value) ∷ [] }
+{
+    if ring.spares() == 0 {
+        panic!(rt; "no spare node");
+    }
+    ring.put_back(hash, key, value)
+}
+
+#[test]
+fn follows_the_worked_row(rt: HostRuntime) {
+    let mut ring = with_spares(&rt, rt.alloc(), 3);
+    let a = put(&rt, &mut ring, 7, 'a', 1);
+    put(&rt, &mut ring, 7, 'b', 2);
+    let c = put(&rt, &mut ring, 9, 'c', 3);
+    check!(rt; is_ring(&ring, &[(7, 'a', 1), (7, 'b', 2), (9, 'c', 3)], 0));
+    ring.move_to_back(a);
+    check!(rt; is_ring(&ring, &[(7, 'b', 2), (9, 'c', 3), (7, 'a', 1)], 0));
+    check_eq!(rt; ring.unlink(c), (9, 'c', 3));
+    check!(rt; is_ring(&ring, &[(7, 'b', 2), (7, 'a', 1)], 1));
+    drain_two(&rt, ring.splice_all());
+    check!(rt; is_ring(&ring, &[], 3));
+    ring.free_spares();
+    check!(rt; is_ring(&ring, &[], 0));
+}
+
+/// Drains what `follows_the_worked_row` leaves.
+fn drain_two(rt: &impl Abort, mut rest: Drain<'_, char, u64>) {
+    check_eq!(rt; (rest.len(), rest.size_hint()), (2, (2, Some(2))));
+    check_eq!(rt; rest.next(), Some((7, 'b', 2)));
+    check_eq!(rt; rest.next(), Some((7, 'a', 1)));
+    check_eq!(rt; rest.next(), None);
+}
+
+#[test]
+fn hands_out_from_both_ends(rt: HostRuntime) {
+    let mut ring = with_spares(&rt, rt.alloc(), 4);
+    put(&rt, &mut ring, 1, 'a', 1);
+    put(&rt, &mut ring, 2, 'b', 2);
+    put(&rt, &mut ring, 3, 'c', 3);
+    show_from_both_ends(&rt, ring.iter());
+    write_from_both_ends(&rt, ring.iter_mut());
+    check!(rt; is_ring(&ring, &[(1, 'a', 10), (2, 'b', 2), (3, 'c', 30)], 1));
+    drain_from_both_ends(&rt, ring.splice_all());
+}
+
+fn show_from_both_ends(rt: &impl Abort, mut triples: Iter<'_, char, u64>) {
+    check_eq!(rt;
+        (triples.next_back(), triples.next(), triples.len()),
+        (Some((3, &'c', &3)), Some((1, &'a', &1)), 1)
+    );
+    check_eq!(rt; (triples.next(), triples.next_back()), (Some((2, &'b', &2)), None));
+}
+
+fn write_from_both_ends(rt: &impl Abort, mut triples: IterMut<'_, char, u64>) {
+    if let Some((hash, key, value)) = triples.next_back() {
+        check_eq!(rt; (hash, *key, *value), (3, 'c', 3));
+        *value = 30;
+    }
+    if let Some((hash, key, value)) = triples.next() {
+        check_eq!(rt; (hash, *key, *value), (1, 'a', 1));
+        *value = 10;
+    }
+    check_eq!(rt; triples.len(), 1);
+}
+
+fn drain_from_both_ends(rt: &impl Abort, mut rest: Drain<'_, char, u64>) {
+    check_eq!(rt; rest.next_back(), Some((3, 'c', 30)));
+    check_eq!(rt; rest.next(), Some((1, 'a', 10)));
+    check_eq!(rt; rest.next_back(), Some((2, 'b', 2)));
+    check_eq!(rt; rest.next_back(), None);
+}
+
+/// Writes each value, and reads the number at `at`, which is where it was: no value is known, and all else stands.
+fn number_after_writing(ring: &mut Ring<char, u64>, at: Position<char, u64>) -> u64
+    requires { IsHeld ring.old.held (pointer_of at) }
+    ensures number { AtHeld ring.old.held (pointer_of at) (λ xs t ys. result ≡ t.number) }
+    ensures held { map unvalued ring.new.held ≡ map unvalued ring.old.held }
+    ensures spares { ring.new.spares ≡ ring.old.spares }
+{
+    for (number, _, value) in ring.iter_mut() {
+        *value = number;
+    }
+    ring.number(at)
+}
+
+/// Hands all triples out, and answers the last value.
+fn last_spliced(ring: &mut Ring<char, u64>) -> u64
+    ensures held { ring.new.held ≡ [] }
+    ensures spares { ring.new.spares ≡ ring.old.spares + length ring.old.held }
+{
+    let mut last = 0;
+    for (_, _, value) in ring.splice_all() {
+        last = value;
+    }
+    last
+}
+
+/// Hands the first triple out, and drops the others.
+fn first_spliced(ring: &mut Ring<char, u64>) -> Option<(u64, char, u64)>
+    ensures first { IfSome result (λ r. slice_get (triples ring.old.held) 0 ≡ Some (r.0, (r.1, r.2))) }
+    ensures held { ring.new.held ≡ [] }
+    ensures spares { ring.new.spares ≡ ring.old.spares + length ring.old.held }
+{
+    let mut rest = ring.splice_all();
+    rest.next()
+}
+
+/// Drops all triples, the last one first.
+fn drop_spliced<K: Drop, V: Drop>(ring: &mut Ring<K, V>)
+    ensures held { ring.new.held ≡ [] }
+    ensures spares { ring.new.spares ≡ ring.old.spares + length ring.old.held }
+{
+    let mut rest = ring.splice_all();
+    drop(rest.next_back());
+    drop(rest);
+}
+
+/// Forgets all triples, and answers how many are held then.
+fn len_when_forgotten(ring: &mut Ring<char, u64>) -> usize
+    ensures none { result ≡ 0 }
+    ensures held { ring.new.held ≡ [] }
+    ensures spares { ring.new.spares ≡ ring.old.spares + length ring.old.held }
+{
+    let rest = ring.splice_all();
+    forget(rest);
+    ring.len()
+}
+
+/// Puts two triples into a ring of three spare nodes.
+fn put_two(rt: &impl Abort, ring: &mut Ring<char, u64>) {
+    put(rt, ring, 1, 'a', 10);
+    put(rt, ring, 2, 'a', 20);
+}
+
+#[test]
+fn holds_nothing_however_a_drain_ends(rt: HostRuntime) {
+    let mut ring = with_spares(&rt, rt.alloc(), 3);
+    put_two(&rt, &mut ring);
+    check_eq!(rt; last_spliced(&mut ring), 20);
+    check!(rt; is_ring(&ring, &[], 3));
+    put_two(&rt, &mut ring);
+    check_eq!(rt; first_spliced(&mut ring), Some((1, 'a', 10)));
+    check!(rt; is_ring(&ring, &[], 3));
+    put_two(&rt, &mut ring);
+    drop_spliced(&mut ring);
+    check!(rt; is_ring(&ring, &[], 3));
+    put_two(&rt, &mut ring);
+    check_eq!(rt; len_when_forgotten(&mut ring), 0);
+    check!(rt; is_ring(&ring, &[], 3));
+}
+
+#[test]
+fn stands_but_for_values_after_writing(rt: HostRuntime) {
+    let mut ring = with_spares(&rt, rt.alloc(), 3);
+    put(&rt, &mut ring, 7, 'a', 1);
+    let b = put(&rt, &mut ring, 9, 'b', 2);
+    check_eq!(rt; number_after_writing(&mut ring, b), 9);
+    check!(rt; is_ring(&ring, &[(7, 'a', 7), (9, 'b', 9)], 1));
+}
+
+#[test]
+fn reads_and_writes_at_a_position(rt: HostRuntime) {
+    let mut ring = with_spares(&rt, rt.alloc(), 2);
+    check_eq!(rt; has_ends(&ring), (false, false));
+    let a = put(&rt, &mut ring, 7, 'a', 1);
+    let b = put(&rt, &mut ring, 9, 'b', 2);
+    check_eq!(rt; triple_at(&ring, b), (9, 'b', 2));
+    check_eq!(rt; (has_neighbours(&ring, a), has_neighbours(&ring, b)), ((false, true), (true, false)));
+    check_eq!(rt; has_ends(&ring), (true, true));
+    ring.set_link(b, Some(a));
+    check_eq!(rt; (ring.link(a).is_some(), ring.link(b).is_some()), (false, true));
+    *ring.value_mut(a) = 5;
+    check!(rt; is_ring(&ring, &[(7, 'a', 5), (9, 'b', 2)], 0));
+}
+
+fn triple_at(ring: &Ring<char, u64>, at: Position<char, u64>) -> (u64, char, u64)
+    requires { IsHeld ring.now.held (pointer_of at) }
+{
+    (ring.number(at), *ring.key(at), *ring.value(at))
+}
+
+/// Tells whether there is a first position, and a last one.
+fn has_ends(ring: &Ring<char, u64>) -> (bool, bool) {
+    (ring.first().is_some(), ring.last().is_some())
+}
+
+/// Tells whether there is a position before this one, and one behind it.
+fn has_neighbours(ring: &Ring<char, u64>, at: Position<char, u64>) -> (bool, bool)
+    requires { IsHeld ring.now.held (pointer_of at) }
+{
+    (ring.previous(at).is_some(), ring.next(at).is_some())
+}
+
+/// A ring whose keys and values are all the same counted one.
+type CountedRing = Ring<Rc<u8>, Rc<u8>>;
+
+/// Puts a triple into a spare node, where there is one.
+fn put_counted(rt: &impl Abort, ring: &mut CountedRing, hash: u64, counted: &Rc<u8>) {
+    let key = given!(rt; counted.clone());
+    let value = given!(rt; counted.clone());
+    if 0 < ring.spares() {
+        ring.put_back(hash, key, value);
+    }
+}
+
+/// Makes a ring of three triples and one spare node.
+fn three_of(rt: &impl Abort, alloc: Global, counted: &Rc<u8>) -> CountedRing {
+    let mut ring = Ring::new(alloc);
+    check!(rt; ring.grow(4).is_ok());
+    put_counted(rt, &mut ring, 0, counted);
+    put_counted(rt, &mut ring, 1, counted);
+    put_counted(rt, &mut ring, 2, counted);
+    ring
+}
+
+#[test]
+fn drops_what_a_ring_holds(rt: HostRuntime) {
+    let counted = given!(rt; Rc::new(rt.alloc(), 0));
+    let ring = three_of(&rt, rt.alloc(), &counted);
+    check_eq!(rt; Rc::strong_count(&counted), 7);
+    check_eq!(rt; (ring.len(), ring.spares()), (3, 1));
+    drop(ring);
+    check_eq!(rt; Rc::strong_count(&counted), 1);
+}
+
+#[test]
+fn drops_what_was_not_handed_out(rt: HostRuntime) {
+    let counted = given!(rt; Rc::new(rt.alloc(), 0));
+    let mut ring = three_of(&rt, rt.alloc(), &counted);
+    drop_last_first(&rt, &counted, ring.splice_all());
+    check_eq!(rt; Rc::strong_count(&counted), 1);
+    check_eq!(rt; (ring.len(), ring.spares()), (0, 4));
+    drop(ring);
+    check_eq!(rt; Rc::strong_count(&counted), 1);
+}
+
+/// Drops the last triple, and then what is left.
+fn drop_last_first(rt: &impl Abort, counted: &Rc<u8>, mut rest: Drain<'_, Rc<u8>, Rc<u8>>) {
+    let last = rest.next_back();
+    check_eq!(rt; Rc::strong_count(counted), 7);
+    drop(last);
+    check_eq!(rt; Rc::strong_count(counted), 5);
+}
+
+#[test]
+fn leaves_all_nodes_spare_where_a_drain_is_forgotten(rt: HostRuntime) {
+    let counted = given!(rt; Rc::new(rt.alloc(), 0));
+    let mut ring = three_of(&rt, rt.alloc(), &counted);
+    forget_all_but_one(ring.splice_all());
+    check_eq!(rt; (ring.len(), ring.spares()), (0, 4));
+    put_counted(&rt, &mut ring, 5, &counted);
+    check_eq!(rt; (ring.len(), ring.spares()), (1, 3));
+    check_eq!(rt; Rc::strong_count(&counted), 7);
+    drop(ring);
+    check_eq!(rt; Rc::strong_count(&counted), 5);
+}
+
+/// Drops the first triple, and forgets the others.
+fn forget_all_but_one(mut rest: Drain<'_, Rc<u8>, Rc<u8>>) {
+    drop(rest.next());
+    forget(rest);
+}
+
+#[test]
+fn ends_with_nothing_held(rt: HostRuntime) {
+    let empty: Ring<char, u64> = Ring::new(rt.alloc());
+    drop(empty);
+    let spares_only = with_spares(&rt, rt.alloc(), 2);
+    drop(spares_only);
+    let guard_only = with_spares(&rt, rt.alloc(), 0);
+    check!(rt; is_ring(&guard_only, &[], 0));
+    let destroyed = with_spares(&rt, guard_only.allocator(), 2);
+    destroyed.destroy_empty();
+}
+
+#[test]
+fn refuses_a_size_that_cannot_be_had(rt: HostRuntime) {
+    let mut ring: Ring<char, u64> = Ring::new(rt.alloc());
+    check_eq!(rt; ring.grow(usize::MAX), Err(AllocError));
+    check_eq!(rt; ring.grow(2), Ok(()));
+    put(&rt, &mut ring, 7, 'a', 1);
+    check_eq!(rt; ring.grow(usize::MAX), Err(AllocError));
+    check_eq!(rt; ring.grow(1 << 57), Err(AllocError));
+    check!(rt; is_ring(&ring, &[(7, 'a', 1)], 1));
+}
