@@ -1,6 +1,7 @@
 -- Lemmas for callers of the library, one file a subject. They speak only of the words of the contracts, and never of how a map is
 -- kept.
 pub mod Collected
+pub mod Counts
 pub mod Equality
 pub mod Extended
 pub mod Keys

@@ -3,7 +3,7 @@
 //! A map is a list of pairs with pairwise different keys, from the oldest place to the newest, with a capacity and a hasher.
 //! The contract of each call says what it does to that list. How the pairs are kept concerns few functions: those of
 //! `storage`, and the ones here that name the fields.
-ghost use Rattle.std.specs.Prelude.{◌≡◌, ◌==◌, ◌+◌, ◌<◌, ◌≤◌, [], length, max, option_copied, option_map, is_some, None, IsErrOf, ◌↔◌, OnOk, OnErr, IfOk, IfErr, IfNone, OnSome};
+ghost use Rattle.std.specs.Prelude.{◌≡◌, ◌==◌, ◌+◌, ◌*◌, ◌<◌, ◌≤◌, [], length, max, option_copied, option_map, is_some, None, IsErrOf, ◌↔◌, OnOk, OnErr, IfOk, IfErr, IfNone, OnSome};
 ghost use Rattle.std.specs.Map.{keys_of, values_of};
 ghost use Rattle.std.specs.Map.Iter.{deref, deref_pair, ShowsInOrder, ShowsInReverse, LendsValuesInOrder, LendsValuesInReverse};
 ghost use Rattle.std.specs.Borrow.{sem};
@@ -630,7 +630,8 @@ impl<K: Eq + Hash, V, S: BuildHasher> LinkedHashMap<K, V, S> {
     ///
     /// A change that changes the number of buckets chains all pairs again, and any other chains none. There are as many buckets as
     /// the least power of two that is not below the capacity, and 0 at capacity 0: so many nodes at most have been chained again,
-    /// whatever calls came before. It takes no memory. The original has no such call.
+    /// whatever calls came before. So the count is below twice the capacity, where that is not 0.
+    /// It takes no memory. The original has no such call.
     ///
     /// [`shrink_to_fit`]: LinkedHashMap::shrink_to_fit
     ///
@@ -646,6 +647,7 @@ impl<K: Eq + Hash, V, S: BuildHasher> LinkedHashMap<K, V, S> {
     pub fn rechained(&self) -> usize
         ensures rechained { result ≡ self.now.rechained }
         ensures few { self.now.rechained ≤ buckets self.now.capacity }
+        ensures below { 0 < self.now.capacity → self.now.rechained < 2 * self.now.capacity }
         ensures valid { IsValid K.eq self.now }
     {
         self.rechained

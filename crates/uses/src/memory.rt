@@ -1,5 +1,6 @@
-//! Room made first, so that nothing fails later.
-ghost use Rattle.std.specs.Prelude.{◌≡◌, [], IfOk, OnOk, OnErr};
+//! Room made first, so that nothing fails later, and what it cost.
+ghost use Rattle.std.specs.Prelude.{◌≡◌, ◌*◌, ◌<◌, ◌≤◌, [], IfOk, OnOk, OnErr};
+ghost use Rattle.std.specs.Int.{IsPowerOfTwo};
 ghost use Rattle.linked_hash_map.specs.Pairs.{value_at, put};
 
 use linked_hash_map::{LinkedHashMap, NoRoom, ReserveError};
@@ -32,4 +33,14 @@ pub fn empty_out<K: Eq + Hash + Drop, V: Drop, S: BuildHasher>(map: &mut LinkedH
         Ok(()) => {}
         Err(NoRoom) => unreachable!(),
     }
+}
+
+/// Returns how many pairs changes of the capacity have chained again: fewer than two for each pair
+/// that there is room for, and at most one for each where the capacity is a power of two.
+pub fn chained_again<K: Eq + Hash, V, S: BuildHasher>(map: &LinkedHashMap<K, V, S>) -> usize
+    ensures count { result ≡ map.now.rechained }
+    ensures below { 0 < map.now.capacity → result < 2 * map.now.capacity }
+    ensures once { IsPowerOfTwo map.now.capacity → result ≤ map.now.capacity }
+{
+    map.rechained()
 }

@@ -15,7 +15,7 @@ use uses::interner::{name_of, no_names, number_of};
 use uses::loops::{
     into_list, keys_in_order, oldest_key, reset, sum_by_values, sum_of, take_all, take_out_zeros,
 };
-use uses::memory::{empty_out, reserve_and_insert};
+use uses::memory::{chained_again, empty_out, reserve_and_insert};
 use uses::queue::Queue;
 use uses::refusal::insert_anyway;
 use uses::replaying::insert_and_remove;
@@ -146,6 +146,7 @@ fn room_is_made_and_given_back(rt: HostRuntime) {
     let mut map = LinkedHashMap::new(rt.alloc());
     check_eq!(rt; given!(rt; reserve_and_insert(&mut map, 1, 10)), None);
     check_eq!(rt; given!(rt; reserve_and_insert(&mut map, 1, 11)), Some(10));
+    check_eq!(rt; chained_again(&map), 1);
     empty_out(&mut map);
     check_eq!(rt; map.capacity(), 0);
 }

@@ -1,6 +1,14 @@
-use Rattle.std.proofs.Common.{refl}
+use Rattle.std.proofs.Common.{refl, arith}
+use Rattle.linked_hash_map.proofs.Callers.Counts.{buckets_lt}
 use Rattle.linked_hash_map.proofs.Kept.{IsValid-view}
 use Rattle.linked_hash_map.proofs.map.LinkedHashMap.rechained.Goals as goal
 
 pub returns-clause-valid : goal.returns-clause-valid
 returns-clause-valid g c = rw (← c.self.view_is) (IsValid-view c.self.invariant refl refl)
+
+pub returns-clause-below : goal.returns-clause-below
+returns-clause-below g c = rw (← c.self.view_is) (λ some.
+    let few = c.self.invariant.few in
+    let count = c.self.invariant.indexed.count in
+    let below = buckets_lt _ some in
+    omega arith)

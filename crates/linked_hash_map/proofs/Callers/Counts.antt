@@ -1,0 +1,28 @@
+-- For callers: how many buckets a capacity has.
+use Rattle.std.proofs.Common.{ℕ, ◌*◌, ◌<◌, ◌≤◌, ◌≡◌, inl, inr, arith}
+use Rattle.std.specs.Int.{IsPowerOfTwo}
+use Rattle.lhm_ring.proofs.BucketCounts as ring
+use Rattle.linked_hash_map.specs.Counts.{buckets}
+
+-- n is a power of two that is not below c, and no smaller one is
+pub record IsLeastPower (c n : ℕ) : Type 0 where
+  pub power : IsPowerOfTwo n
+  pub enough : c ≤ n
+  pub least : (m : ℕ) → IsPowerOfTwo m → c ≤ m → n ≤ m
+
+-- the least power of two that is not below the capacity
+pub buckets_least : (c : ℕ) → 0 < c → IsLeastPower c (buckets c)
+buckets_least c some =
+    let next = ring.buckets_least c some in
+    record {
+      power = next.0;
+      enough = next.1;
+      least = λ m power enough.
+          -- m has m buckets, and a higher capacity has no fewer
+          let own : m ≡ buckets m = ring.buckets_is m m power (omega arith) (omega arith) (omega arith) in
+          elim (ring.buckets_raised c m enough) [ inl same ↦ omega arith | inr more ↦ omega arith ];
+    }
+
+-- there are fewer buckets than twice the capacity
+pub buckets_lt : (c : ℕ) → 0 < c → buckets c < 2 * c
+buckets_lt = ring.buckets_lt
