@@ -117,7 +117,7 @@ pub record NodeAt {B : Type 0} (cs : List (Cell Links B)) (g : NodePointer) (spa
   pub ring : IsRing cs g.ptr (before ++ p ∷ after) (target spare) others
   pub long : length (before ++ p ∷ after) ≡ n
   pub wide : length others ≡ m
-  pub small : n + m ≤ 2 ^ 57
+  pub small : n + m ≤ 2 ^ 59
 
 module _ {B : Type 0} where
   pub record Found (cs : List (Cell Links B)) (g : NodePointer) (spare : Link) (n m : ℕ) (xs : List (Held B)) (t : Held B) (ys : List (Held B)) : Type 0 where
@@ -170,11 +170,11 @@ module _ {B : Type 0} where
   ring_length cs (Some g) spare n m v ok w =
       sym ok.3 ∙ sym (length_listed cs ok.0 ok.2.held) ∙ sym (ap length (ring_listed cs g.ptr ok.0 (target spare) ok.1 n ok.2 ok.3)) ∙ ap (λ (z : State B). length z.held) w
 
-  small_of : (cs : List (Cell Links B)) (guard : Option NodePointer) (spare : Link) (n m : ℕ) → RingOk cs guard spare n m → n + m ≤ 2 ^ 57
+  small_of : (cs : List (Cell Links B)) (guard : Option NodePointer) (spare : Link) (n m : ℕ) → RingOk cs guard spare n m → n + m ≤ 2 ^ 59
   small_of cs None spare n m ok = let a = ok.2 in let b = ok.3 in omega arith
   small_of cs (Some g) spare n m ok = ok.5
 
-  pub ring_bounded : (cs : List (Cell Links B)) (guard : Option NodePointer) (spare : Link) (n m : ℕ) (v : State B) → RingOk cs guard spare n m → state (ring_list cs guard n) m ≡ v → length v.held + v.spares ≤ 2 ^ 57
+  pub ring_bounded : (cs : List (Cell Links B)) (guard : Option NodePointer) (spare : Link) (n m : ℕ) (v : State B) → RingOk cs guard spare n m → state (ring_list cs guard n) m ≡ v → length v.held + v.spares ≤ 2 ^ 59
   ring_bounded cs guard spare n m v ok w =
       let a = ring_length cs guard spare n m v ok w in let b = ap (λ (z : State B). z.spares) w in let c = small_of cs guard spare n m ok in omega arith
 

@@ -37,10 +37,10 @@ pub record Ready {B : Type 0} (cs : List (Cell Links B)) (g at : NodePointer) (n
   pub ring : IsRing cs g.ptr row (Some at.ptr) (at.ptr ∷ others)
   pub long : length row ≡ n
   pub wide : suc (length others) ≡ m
-  pub small : n + m ≤ 2 ^ 57
+  pub small : n + m ≤ 2 ^ 59
 
 module _ {B : Type 0} (cs : List (Cell Links B)) where
-  ready_at : (g at : NodePointer) (n m : ℕ) (ps ss : List Ptr) → IsRing cs g.ptr ps (Some at.ptr) ss → length ps ≡ n → length ss ≡ m → n + m ≤ 2 ^ 57 → 0 < m → Ready cs g at n m
+  ready_at : (g at : NodePointer) (n m : ℕ) (ps ss : List Ptr) → IsRing cs g.ptr ps (Some at.ptr) ss → length ps ≡ n → length ss ≡ m → n + m ≤ 2 ^ 59 → 0 < m → Ready cs g at n m
   ready_at g at n m ps [] r a b c h = absurd (omega arith)
   ready_at g at n m ps (p ∷ rest) r a b c h =
       record { row = ps; others = rest; ring = subst (λ q. IsRing cs g.ptr ps (Some at.ptr) (q ∷ rest)) (sym (some_same at.ptr p r.chained.0)) r; long = a; wide = b; small = c }

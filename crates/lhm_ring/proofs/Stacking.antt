@@ -87,7 +87,7 @@ module _ {B : Type 0} where
       let P : (List (Cell Links B) × NodePointer) → Type 0 = λ z. Guarded z.0 (Some z.1) spare n m z.1 v in
       subst P (λ i. (sym h.0 i, sym h.1 i)) (record { is = refl; ok = ok; view = w })
 
-  pub grown_ring : (cs ds : List (Cell Links B)) (g : NodePointer) (spare f : Link) (n m k : ℕ) → RingOk cs (Some g) spare n m → IsStacked cs g spare k ds f → IsApart (pointers ds) → n + m + k ≤ 2 ^ 57 → RingOk ds (Some g) f n (m + k)
+  pub grown_ring : (cs ds : List (Cell Links B)) (g : NodePointer) (spare f : Link) (n m k : ℕ) → RingOk cs (Some g) spare n m → IsStacked cs g spare k ds f → IsApart (pointers ds) → n + m + k ≤ 2 ^ 59 → RingOk ds (Some g) f n (m + k)
   grown_ring cs ds g spare f n m k ok s d small =
       let t = stacked k cs g spare ds f ok.0 ok.1 s d ok.2 in let long = t.2 in let wide = ok.4 in (ok.0, t.0, t.1, ok.3, omega arith, omega arith)
 

@@ -12,8 +12,9 @@ use crate::nodes::Nodes;
 use crate::ring::{Ring, join, nowhere};
 use std::alloc::{AllocError, Global};
 
-/// More nodes would take above 2^62 bytes, which no machine of today can address.
-const MOST_NODES: usize = 1 << 57;
+/// The most nodes that a ring has, held and spare. Each takes at least 40 bytes, so these would take
+/// above 2^64 bytes: no machine has room for them.
+const MOST_NODES: usize = 1 << 59;
 
 /// Makes the guard of an empty ring, which leads to itself.
 fn make_guard<K, V>(
@@ -173,8 +174,10 @@ fn make_nodes<K, V>(
 impl<K, V> Ring<K, V> {
     /// Makes `count` spare nodes more, and the guard where there was none.
     ///
-    /// It takes a block of memory for each, at a step for each. It is refused where a block is, and where there would be more
-    /// than 2^57 nodes: all is then as before, and what it took is given back. The order stands, and so do positions.
+    /// It takes a block of memory for each, at a step for each. Where there would be more than 2^59
+    /// nodes it is refused without asking for memory, and else where a block is refused. After a
+    /// refusal all is as before, and what it took is given back. The order stands, and so do
+    /// positions.
     pub fn grow(&mut self, count: usize) -> Result<(), AllocError>
         ensures held { OnOk result (self.new.held ≡ self.old.held) }
         ensures spares { OnOk result (self.new.spares ≡ self.old.spares + count) }

@@ -63,19 +63,19 @@ impl<K, V> Ring<K, V> {
         self.alloc
     }
 
-    /// Returns how many triples are held. With the spare nodes they are at most 2^57, and no two are at one position.
+    /// Returns how many triples are held. With the spare nodes they are at most 2^59, and no two are at one position.
     pub fn len(&self) -> usize
         ensures value { result ≡ length self.now.held }
-        ensures bounded { length self.now.held + self.now.spares ≤ 2 ^ 57 }
+        ensures bounded { length self.now.held + self.now.spares ≤ 2 ^ 59 }
         ensures apart { IsApart (map (λ t. t.at) self.now.held) }
     {
         self.len
     }
 
-    /// Returns how many spare nodes there are. With the held ones they are at most 2^57.
+    /// Returns how many spare nodes there are. With the held ones they are at most 2^59.
     pub fn spares(&self) -> usize
         ensures value { result ≡ self.now.spares }
-        ensures bounded { length self.now.held + self.now.spares ≤ 2 ^ 57 }
+        ensures bounded { length self.now.held + self.now.spares ≤ 2 ^ 59 }
     {
         self.spares
     }

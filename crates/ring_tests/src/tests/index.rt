@@ -66,6 +66,9 @@ impl<K, V> Table<K, V> {
         ensures refused { OnErr result (self.new ≡ self.old) }
     {
         let capacity = self.ring.len() + self.ring.spares();
+        if capacity == 1 << 59 {
+            return Err(AllocError);
+        }
         if buckets_for(capacity) == buckets_for(capacity + 1) {
             return self.ring.grow(1);
         }

@@ -328,6 +328,6 @@ fn refuses_a_size_that_cannot_be_had(rt: HostRuntime) {
     check_eq!(rt; ring.grow(2), Ok(()));
     put(&rt, &mut ring, 7, 'a', 1);
     check_eq!(rt; ring.grow(usize::MAX), Err(AllocError));
-    check_eq!(rt; ring.grow(1 << 57), Err(AllocError));
+    check_eq!(rt; ring.grow(1 << 59), Err(AllocError));
     check!(rt; is_ring(&ring, &[(7, 'a', 1)], 1));
 }
