@@ -8,7 +8,7 @@ ghost use Rattle.lhm_ring.specs.Positions.{pointer_of, pointer_of_some};
 ghost use Rattle.lhm_ring.specs.Targets.{target};
 ghost use Rattle.lhm_ring.specs.Index.{spot, spots, Indexes, same};
 ghost use Rattle.lhm_ring.specs.Search.{OfNodeAt, entries, Compares, FindsKey, FindsNone, HasKey, IsAbsent, CountsSome, CountsAll, HoldsOthers, IsOnChain, Chains, HasNoChain};
-ghost use Rattle.lhm_ring.specs.Buckets.{buckets, rechained_raised, rechained_lowered, IsBucketCount};
+ghost use Rattle.lhm_ring.specs.Buckets.{buckets, IsBucketCount};
 
 use crate::link::Link;
 use crate::position::Position;
@@ -335,38 +335,6 @@ pub fn buckets_for(capacity: usize) -> usize
         0
     } else {
         capacity.next_power_of_two()
-    }
-}
-
-/// Returns how many nodes were chained again in all, once the capacity is raised from `capacity` to `higher` with `len`
-/// nodes held: those are more where the number of buckets changes.
-pub fn raised(rechained: usize, len: usize, capacity: usize, higher: usize) -> usize
-    requires bound { rechained ≤ buckets capacity }
-    requires held { len ≤ capacity }
-    requires up { capacity ≤ higher }
-    requires limit { higher ≤ 2 ^ 59 }
-    ensures value { result ≡ rechained_raised rechained len capacity higher }
-    ensures bound { result ≤ buckets higher }
-{
-    if buckets_for(capacity) == buckets_for(higher) {
-        rechained
-    } else {
-        rechained + len
-    }
-}
-
-/// Returns how many nodes were chained again once the capacity is lowered to `len`, the number of held nodes: that many where
-/// the number of buckets changes, and else none.
-pub fn lowered(len: usize, capacity: usize) -> usize
-    requires down { len ≤ capacity }
-    requires limit { capacity ≤ 2 ^ 59 }
-    ensures value { result ≡ rechained_lowered len capacity }
-    ensures bound { result ≤ buckets len }
-{
-    if buckets_for(capacity) == buckets_for(len) {
-        0
-    } else {
-        len
     }
 }
 

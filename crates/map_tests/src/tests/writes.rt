@@ -1,5 +1,5 @@
 //! Writes to a value in its place, by `get_mut`, by `get_refresh` and by an index.
-ghost use Rattle.std.specs.Prelude.{◌≡◌, ◌∷◌, [], nat_eq, IsTrue, IsFalse, IsSome};
+ghost use Rattle.std.specs.Prelude.{◌≡◌, nat_eq, IsTrue, IsFalse, IsSome};
 ghost use Rattle.linked_hash_map.specs.Pairs.{find, to_back, set_value};
 
 use super::calls::{assert_get, check_pop_front, check_refresh, insert_all};
@@ -41,13 +41,6 @@ fn set_present(map: &mut LinkedHashMap<u64, u64>, key: u64, value: u64)
     ensures { map.new.pairs ≡ set_value nat_eq map.old.pairs key value }
 {
     map[&key] = value;
-}
-
-fn set_first_of_two(map: &mut LinkedHashMap<u64, u64>)
-    requires { map.old.pairs ≡ (1, 1) ∷ (2, 2) ∷ [] }
-    ensures { map.new.pairs ≡ (1, 7) ∷ (2, 2) ∷ [] }
-{
-    map[&1] = 7;
 }
 
 #[test]
