@@ -59,5 +59,4 @@ pub use drain::Drain;
 pub use entry::{Entries, Entry, OccupiedEntry, VacantEntry};
 pub use error::{NoRoom, Refused, ReserveError};
 pub use iter::{IntoIter, Iter, IterMut, Keys, Values};
-pub use lhm_ring::index::Probe;
-pub use map::{DefaultHashBuilder, LIMIT, LinkedHashMap, Mode};
+pub use map::{DefaultHashBuilder, LIMIT, LinkedHashMap, Mode, Probe};

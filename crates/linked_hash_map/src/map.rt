@@ -15,15 +15,17 @@ ghost use Rattle.linked_hash_map.specs.Hashers.{hash_by};
 ghost use Rattle.linked_hash_map.specs.Counts.{same, beside, buckets, rechained_raised, rechained_fitted};
 
 mod index;
+mod probe;
 mod storage;
 mod visit;
 
+pub use self::probe::Probe;
 pub(crate) use self::storage::ring_with_room;
 use self::visit::Visit;
 use crate::drain::Drain;
 use crate::error::{NoRoom, Refused, ReserveError};
 use crate::iter::{Iter, IterMut, Keys, Values};
-use lhm_ring::index::{Index, Probe};
+use lhm_ring::index::Index;
 use lhm_ring::ring::Ring;
 use std::alloc::Global;
 use std::hash::{BuildHasher, BuildHasherDefault, FoldHasher, Hash};
@@ -504,7 +506,11 @@ impl<K: Eq + Hash, V, S: BuildHasher> LinkedHashMap<K, V, S> {
             ≤ beside (hash_by S.Hasher.finish S.Hasher.write S.build_hasher K.hash_input self.now.hasher) self.now.pairs self.now.capacity key.now) }
     {
         let number = self.hasher.hash_one(key);
-        let (found, probe) = self.index.find(&self.ring, number, key);
+        let (found, counts) = self.index.find(&self.ring, number, key);
+        let probe = Probe {
+            visited: counts.visited,
+            compared: counts.compared,
+        };
         match found {
             Some(at) => (Some(self.ring.value(at)), probe),
             None => (None, probe),
