@@ -1,5 +1,5 @@
 -- The pair that an occupied entry stands for, and the calls by its key.
-use Rattle.std.proofs.Common.{◌≡◌, ℕ, zero, suc, ◌+◌, ◌<◌, ◌≤◌, max, Bool, true, false, cond, not, filter, List, [], ◌∷◌, ◌++◌, length, slice_get, Option, Some, None, Result, Ok, Err, OnErr, is_some, map, option_map, refl, sym, ap, ap₂, ◌∙◌, true≢false, arith, length-append, unwrap_or}
+use Rattle.std.proofs.Common.{◌≡◌, ℕ, zero, suc, ◌+◌, ◌<◌, ◌≤◌, max, Bool, true, false, cond, not, filter, List, [], ◌∷◌, ◌++◌, length, slice_get, Option, Some, None, Result, Ok, Err, OnOk, OnErr, is_some, map, option_map, refl, sym, ap, ap₂, ◌∙◌, true≢false, arith, length-append, unwrap_or}
 use Rattle.std.proofs.Math.Bridge.{le_prop}
 use Rattle.std.proofs.Math.Nat.{le_of_suc-le-suc}
 use Rattle.std.specs.Cmp.{IsEquivalence}
@@ -24,6 +24,10 @@ use Rattle.linked_hash_map.proofs.LiveKeys.{same_test}
 
 pub some_injective : {X : Type 0} {x y : X} → Some x ≡ Some y → x ≡ y
 some_injective h = cc
+
+pub on_ok_given : {A E : Type 0} (Given P : Type 0) (r : Result A E) → OnOk r P → OnOk r (Given → P)
+on_ok_given Given P (Ok x) p = λ _. p
+on_ok_given Given P (Err y) p = tt
 
 pub on_err : {A E P : Type 0} (r : Result A E) → P → OnErr r P
 on_err (Ok x) p = tt

@@ -1,10 +1,14 @@
 -- For callers: a map stays valid through each change. The map after it is one whose pairs and whose capacity are as the clauses
 -- of the call say.
-use Rattle.std.proofs.Common.{◌≡◌, ℕ, ◌+◌, ◌<◌, ◌≤◌, max, Bool, cond, List, [], ◌∷◌, length, take, drop, Option, refl, sym, ap, ◌∙◌, subst, arith, length-drop, length-take}
+use Rattle.std.proofs.Common.{◌≡◌, ℕ, ◌+◌, ◌<◌, ◌≤◌, max, Bool, cond, List, [], ◌∷◌, length, take, drop, Option, None, Result, Ok, Err, OnOk, IsErr, refl, sym, ap, ◌∙◌, subst, arith, length-drop, length-take}
 use Rattle.std.specs.Option.{IsSome}
 use Rattle.std.specs.List.{IsDistinct}
 use Rattle.std.specs.Map.{keys_of}
 use Rattle.std.specs.Cmp.{IsEquivalence}
+use Rattle.std.specs.declared.cmp.PartialEq as eq
+use Rattle.std.specs.declared.hash.Hash as hash
+use Rattle.std.specs.declared.hash.Hasher as hasher
+use Rattle.std.specs.declared.hash.BuildHasher as builder
 use Rattle.linked_hash_map.specs.LinkedMap.{LinkedMap}
 use Rattle.linked_hash_map.specs.declared.map.TheConstants.{LIMIT}
 use Rattle.linked_hash_map.specs.Validity.{IsValid}
@@ -13,7 +17,12 @@ use Rattle.linked_hash_map.specs.declared.map.Mode.TheVariants.{Touch}
 use Rattle.linked_hash_map.specs.Pairs.{find, without, to_back, set_value, set_or_push, set_if_some, set_values, put}
 use Rattle.linked_hash_map.specs.Inserts.{insert_each}
 use Rattle.linked_hash_map.specs.Clones.{AreClones, IsClone}
+use Rattle.linked_hash_map.specs.Changes.{pushed, set_or_pushed}
+use Rattle.linked_hash_map.specs.Entry.{Occupied, Vacant, occupied_key, vacant_map, vacant_key, entry_map, entry_key, entry_value}
+use Rattle.linked_hash_map.specs.declared.entry.Entry.{Entry}
+use Rattle.linked_hash_map.specs.declared.entry.VacantEntry.{VacantEntry}
 use Rattle.linked_hash_map.proofs.Callers.Keys.{distinct-nil, distinct-without, distinct-to_back, distinct-put, distinct-set_value, distinct-set_if_some, distinct-set_values, distinct-set_or_push, distinct-take, distinct-drop, length-without, length-set_value, length-set_if_some, length-set_values, length-set_or_push, length-to_back_present, length-to_back_most, length-set_or_push_most, length-put_present, length-put_most}
+use Rattle.linked_hash_map.proofs.EntryFacts.{found-occupied, set_or_pushed-absent}
 use Rattle.linked_hash_map.proofs.Callers.Collected.{distinct-insert_each, length-insert_each_most}
 
 -- a map without pairs
@@ -177,3 +186,28 @@ IsValid-clone {K} {V} {S} {eq} laws {IsKeyClone} {IsValueClone} {IsHasherClone} 
       within = omega arith;
       limit = omega arith;
     }
+
+-- after the insertions of an entry, by what their clause `limit` says
+module _ {K V S H : Type 0} {g : eq.Ghosts K} {h : hash.Ghosts K} {b : builder.Ghosts S H} {w : hasher.Ghosts H} where
+  -- `or_insert`, `or_insert_with` and `or_default`
+  pub IsValid-set_or_pushed : IsEquivalence g.eq → (e : Entry K V S H g h b w) → IsValid g.eq (entry_map e) → (entry_value e ≡ None → length (entry_map e).pairs < LIMIT) → (v : V)
+      → IsValid g.eq (set_or_pushed g.eq (entry_map e) (entry_key e) v)
+  IsValid-set_or_pushed laws (Occupied o) valid limit v = IsValid-set_or_push_present valid laws (occupied_key o) v (found-occupied o laws) refl refl
+  IsValid-set_or_pushed laws (Vacant e) valid limit v =
+      let below = limit refl in
+      let most = length-set_or_push_most g.eq (vacant_map e).pairs (vacant_key e) v in
+      IsValid-set_or_push valid laws (vacant_key e) v refl refl (omega arith)
+
+  -- `insert` of a vacant one
+  pub IsValid-pushed : IsEquivalence g.eq → (e : VacantEntry K V S H g h b w) → IsValid g.eq (vacant_map e) → length (vacant_map e).pairs < LIMIT → (v : V) → IsValid g.eq (pushed (vacant_map e) (vacant_key e) v)
+  IsValid-pushed laws e valid below v =
+      subst (IsValid g.eq) (sym (set_or_pushed-absent g.eq (vacant_map e) (vacant_key e) v e.absent)) (IsValid-set_or_pushed laws (Vacant e) valid (λ _. below) v)
+
+  -- where a map has as many pairs as the limit, each of these calls is refused a new key
+  pub IsErr-absent : {T E : Type 0} (e : Entry K V S H g h b w) (r : Result T E) → OnOk r (entry_value e ≡ None → length (entry_map e).pairs < LIMIT) → entry_value e ≡ None → length (entry_map e).pairs ≡ LIMIT → IsErr r
+  IsErr-absent e (Ok x) limit absent full = absurd (omega (arith, limit absent, full))
+  IsErr-absent e (Err refused) limit absent full = refl
+
+  pub IsErr-vacant : {T E : Type 0} (e : VacantEntry K V S H g h b w) (r : Result T E) → OnOk r (length (vacant_map e).pairs < LIMIT) → length (vacant_map e).pairs ≡ LIMIT → IsErr r
+  IsErr-vacant e (Ok x) limit full = absurd (omega (arith, limit, full))
+  IsErr-vacant e (Err refused) limit full = refl

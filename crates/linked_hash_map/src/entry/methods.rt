@@ -1,5 +1,5 @@
 //! What makes an entry, and the methods of `Entry`.
-ghost use Rattle.std.specs.Prelude.{◌≡◌, length, is_some, Some, None, unwrap_or, IsTrue, IfOk, IfErr, OnErr};
+ghost use Rattle.std.specs.Prelude.{◌≡◌, ◌<◌, length, is_some, Some, None, unwrap_or, IsTrue, IfOk, IfErr, OnOk, OnErr};
 ghost use Rattle.std.specs.Borrow.{sem, MutBor};
 ghost use Rattle.std.specs.Map.Calls.{ModifiesValue};
 ghost use Rattle.std.specs.Option.{UnwrapsOrElse};
@@ -10,7 +10,7 @@ ghost use Rattle.linked_hash_map.specs.Entry.{entry_map_ref, entry_map, is_occup
 
 use super::{Entry, OccupiedEntry, VacantEntry};
 use crate::error::Refused;
-use crate::map::LinkedHashMap;
+use crate::map::{LIMIT, LinkedHashMap};
 use std::hash::{BuildHasher, Hash};
 
 impl<K: Eq + Hash, V, S: BuildHasher> LinkedHashMap<K, V, S> {
@@ -121,8 +121,8 @@ impl<'a, K: Eq + Hash, V, S: BuildHasher> Entry<'a, K, V, S> {
     /// What is written becomes the value of that pair. The pair of an occupied entry keeps its place, and `value` is dropped. On
     /// an occupied entry, and on a vacant one below capacity, it takes no memory and is never refused. A vacant entry at full
     /// capacity raises the capacity by exactly one, or is refused: then the error has the key and this value, and the map is
-    /// unchanged. A growth that changes the number of buckets costs a step for each pair, and all else a constant number of
-    /// steps. The original answers no error.
+    /// unchanged. A vacant entry of a map of [`LIMIT`] pairs is always refused. A growth that changes the number of buckets costs
+    /// a step for each pair, and all else a constant number of steps. The original answers no error.
     ///
     /// # Examples
     ///
@@ -137,6 +137,7 @@ impl<'a, K: Eq + Hash, V, S: BuildHasher> Entry<'a, K, V, S> {
         V: Drop,
         ensures* writes_back { sem 𝓛 (lends_entry K.row V.row S.row S.Hasher.row K.Hash S.BuildHasher S.Hasher.Hasher self.entry result) }
         ensures value { IfOk result (λ lent. lent.now ≡ unwrap_or (entry_value self.entry) value) }
+        ensures limit { OnOk result (entry_value self.entry ≡ None → length (entry_map self.entry).pairs < LIMIT) }
 
         ensures key_back { IfErr result (λ refused. refused.key ≡ entry_key self.entry) }
         ensures value_back { IfErr result (λ refused. refused.value ≡ value) }
@@ -167,6 +168,7 @@ impl<'a, K: Eq + Hash, V, S: BuildHasher> Entry<'a, K, V, S> {
         requires { entry_value self ≡ None → F.pre f }
         ensures* writes_back { sem 𝓛 (lends_entry K.row V.row S.row S.Hasher.row K.Hash S.BuildHasher S.Hasher.Hasher self.entry result) }
         ensures value { IfOk result (λ lent. UnwrapsOrElse (entry_value self.entry) (F.post f) lent.now) }
+        ensures limit { OnOk result (entry_value self.entry ≡ None → length (entry_map self.entry).pairs < LIMIT) }
 
         ensures key_back { IfErr result (λ refused. refused.key ≡ entry_key self.entry) }
         ensures value_back { IfErr result (λ refused. F.post f refused.value) }
@@ -200,6 +202,7 @@ impl<'a, K: Eq + Hash, V, S: BuildHasher> Entry<'a, K, V, S> {
         V: Default,
         ensures* writes_back { sem 𝓛 (lends_entry K.row V.row S.row S.Hasher.row K.Hash S.BuildHasher S.Hasher.Hasher self.entry result) }
         ensures value { IfOk result (λ lent. UnwrapsOrElse (entry_value self.entry) V.is_default lent.now) }
+        ensures limit { OnOk result (entry_value self.entry ≡ None → length (entry_map self.entry).pairs < LIMIT) }
 
         ensures key_back { IfErr result (λ refused. refused.key ≡ entry_key self.entry) }
         ensures value_back { IfErr result (λ refused. V.is_default refused.value) }

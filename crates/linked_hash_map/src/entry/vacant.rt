@@ -1,5 +1,5 @@
 //! The methods of `VacantEntry`.
-ghost use Rattle.std.specs.Prelude.{◌≡◌, length, None, IfOk, IfErr, OnErr};
+ghost use Rattle.std.specs.Prelude.{◌≡◌, ◌<◌, length, None, IfOk, IfErr, OnOk, OnErr};
 ghost use Rattle.std.specs.Borrow.{sem};
 ghost use Rattle.linked_hash_map.specs.Pairs.{find};
 ghost use Rattle.linked_hash_map.specs.Validity.{IsValid};
@@ -7,6 +7,7 @@ ghost use Rattle.linked_hash_map.specs.Entry.{vacant_map, vacant_key, lends_push
 
 use super::VacantEntry;
 use crate::error::Refused;
+use crate::map::LIMIT;
 use std::hash::{BuildHasher, Hash};
 
 impl<'a, K: Eq + Hash, V, S: BuildHasher> VacantEntry<'a, K, V, S> {
@@ -34,8 +35,8 @@ impl<'a, K: Eq + Hash, V, S: BuildHasher> VacantEntry<'a, K, V, S> {
     ///
     /// What is written becomes the value of that pair. Below capacity it takes no memory and is never refused, and costs a
     /// constant number of steps. At full capacity it raises the capacity by exactly one, which costs a step for each pair where
-    /// the number of buckets changes, or is refused: then the error has the key and this value, and the map is unchanged. The
-    /// original answers no error.
+    /// the number of buckets changes, or is refused: then the error has the key and this value, and the map is unchanged. A map
+    /// of [`LIMIT`] pairs always refuses. The original answers no error.
     ///
     /// # Examples
     ///
@@ -51,6 +52,7 @@ impl<'a, K: Eq + Hash, V, S: BuildHasher> VacantEntry<'a, K, V, S> {
     pub fn insert(self, value: V) -> Result<&'a mut V, Refused<K, V>>
         ensures* writes_back { sem 𝓛 (lends_pushed K.row V.row S.row S.Hasher.row K.Hash S.BuildHasher S.Hasher.Hasher self.entry result) }
         ensures value { IfOk result (λ lent. lent.now ≡ value) }
+        ensures limit { OnOk result (length (vacant_map self.entry).pairs < LIMIT) }
 
         ensures key_back { IfErr result (λ refused. refused.key ≡ vacant_key self.entry) }
         ensures value_back { IfErr result (λ refused. refused.value ≡ value) }

@@ -33,6 +33,7 @@ returns g c =
       record {
         writes_back = tt;
         value = some_injective (sym c.last_value_mut.ensures.value ∙ ap (option_map (λ pair. pair.1)) last);
+        limit = omega (arith, longer, one, ap length room.ensures.pairs, pushed.ensures.stays_valid.within, pushed.ensures.stays_valid.limit);
         key_back = tt;
         value_back = tt;
         absent = tt;
