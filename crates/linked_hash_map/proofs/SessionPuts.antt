@@ -1,17 +1,18 @@
 -- What a put does to the pairs of a table's map.
-use Rattle.std.proofs.Common.{◌≡◌, ℕ, zero, suc, ◌+◌, ◌-◌, ◌<◌, ◌≤◌, List, [], ◌∷◌, ◌++◌, length, drop, nat_eq, Option, Some, None, is_some, true, false, refl, sym, ap, ◌∙◌, arith, length-append, length-drop}
+use Rattle.std.proofs.Common.{◌≡◌, ℕ, zero, suc, ◌+◌, ◌-◌, ◌<◌, ◌≤◌, List, [], ◌∷◌, ◌++◌, length, drop, nat_eq, Option, Some, None, is_some, option_map, true, false, refl, sym, ap, ◌∙◌, arith, length-append, length-drop}
 use Rattle.std.specs.Option.{IsSome}
 use Rattle.std.specs.Cmp.{nat_eq_equiv}
 use Rattle.std.proofs.lemmas.List.{drop-map}
 use Rattle.linked_hash_map.specs.LinkedMap.{LinkedMap}
 use Rattle.linked_hash_map.specs.Pairs as pairs
 use Rattle.linked_hash_map.specs.Validity.{IsValid}
-use Rattle.linked_hash_map.specs.SessionTables.{Session, total_weight, session_of, without, with_last, fit}
+use Rattle.linked_hash_map.specs.SessionTables.{Session, total_weight, session_of, payload_of, without, with_last, fit}
 use Rattle.linked_hash_map.specs.SessionsKept.{sessions_of}
 use Rattle.linked_hash_map.specs.declared.sessions.storage.Held.{Held}
 use Rattle.linked_hash_map.proofs.Callers.Keys.{find-drop, length-without_present, length-without_absent}
 use Rattle.linked_hash_map.proofs.Callers.Lookups.{find-without_here}
-use Rattle.linked_hash_map.proofs.SessionLists.{total_weight-append, total_weight-last, fit-all, fit-append}
+use Rattle.linked_hash_map.proofs.LiveKeys.{none_is}
+use Rattle.linked_hash_map.proofs.SessionLists.{total_weight-append, total_weight-last, fit-all, fit-append, session_of-append}
 use Rattle.linked_hash_map.proofs.SessionPairs.{sessions_of-without, length-sessions_of, is_some-session_of}
 
 module _ {T : Type 0} where
@@ -52,6 +53,12 @@ module _ {T : Type 0} where
       → left ++ (id, weight, payload) ∷ [] ≡ fit limit (with_last sessions id weight payload)
   fit-with_last limit weight id payload sessions left light fits =
       ap (λ l. l ++ (id, weight, payload) ∷ []) fits ∙ sym (fit-append limit (without sessions id) (id, weight, payload) light)
+
+  -- and is the one of its id
+  pub payload_of-put : (left : List (ℕ × Held T)) (id weight : ℕ) (payload : T) → pairs.find nat_eq left id ≡ None → payload_of (sessions_of left ++ (id, weight, payload) ∷ []) id ≡ Some payload
+  payload_of-put left id weight payload none =
+      let absent = none_is (session_of (sessions_of left) id) (is_some-session_of left id ∙ ap is_some none) in
+      ap (option_map (λ (session : Session T). session.2)) (session_of-append (sessions_of left) (id, weight, payload) absent)
 
   pub total_weight-put : (weight id : ℕ) (payload : T) (left : List (Session T)) → total_weight (left ++ (id, weight, payload) ∷ []) ≡ total_weight left + weight
   total_weight-put weight id payload left =

@@ -34,10 +34,11 @@
 //! assert_eq!(rt; kept.next(), Some((1, 8, &"page one")));
 //! assert_eq!(rt; kept.next(), None);
 //! ```
-ghost use Rattle.std.specs.Prelude.{◌≡◌, ◌≤◌, ◌<◌, ◌+◌, ◌∷◌, ◌++◌, ◌↔◌, [], length, nat_eq, vec_capacity, IfOk, IfErr, OnOk, OnErr, IsOk, IsSome, IsErrAnd};
+ghost use Rattle.std.specs.Prelude.{◌≡◌, ◌≤◌, ◌<◌, ◌+◌, ◌∷◌, ◌++◌, ◌↔◌, [], Some, length, nat_eq, vec_capacity, IfOk, IfErr, OnOk, OnErr, IsOk, IsSome, IsErrAnd};
 ghost use Rattle.std.specs.Borrow.{sem};
 ghost use Rattle.std.specs.Map.Iter.{ShowsInOrder};
 ghost use Rattle.std.specs.Option.{option_copied_mut};
+ghost use Rattle.linked_hash_map.specs.Pairs.{last};
 ghost use Rattle.linked_hash_map.specs.SessionTables.{session_of, payload_of, total_weight, without, with_last, to_end, fit, deref_session, IsLongestEnd, IsValidTable};
 
 mod iter;
@@ -123,7 +124,7 @@ impl<T> Sessions<T> {
     /// weights sum to at most the limit.
     ///
     /// The answer has the payload that the id had, and the sessions that went, the oldest first. The weight of the replaced session
-    /// does not count. The new one always stays.
+    /// does not count. The new one always stays, and is the last.
     ///
     /// It is refused as `TooHeavy` exactly where the weight is above the limit, also where the id is held, and else as `NoRoom` where a
     /// growth is refused or a map can hold no more; then the payload comes back and nothing is changed. It asks for memory once
@@ -145,6 +146,8 @@ impl<T> Sessions<T> {
     pub fn put(&mut self, id: u64, weight: u64, payload: T) -> Result<Put<T>, PutRefused<T>>
         ensures stay { OnOk result (self.new.sessions ≡ fit self.old.limit (with_last self.old.sessions id weight payload)) }
         ensures longest { OnOk result (IsLongestEnd self.old.limit (with_last self.old.sessions id weight payload) self.new.sessions) }
+        ensures newest { OnOk result (last self.new.sessions ≡ Some (id, weight, payload)) }
+        ensures payload { OnOk result (payload_of self.new.sessions id ≡ Some payload) }
         ensures gone { IfOk result (λ put. put.gone.items ++ self.new.sessions ≡ with_last self.old.sessions id weight payload) }
         ensures exact { IfOk result (λ put. vec_capacity put.gone ≡ length put.gone.items) }
         ensures old { IfOk result (λ put. put.old ≡ payload_of self.old.sessions id) }

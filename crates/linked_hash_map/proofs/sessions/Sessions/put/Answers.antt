@@ -1,11 +1,12 @@
 use Rattle.std.proofs.Common.{◌+◌, ◌-◌, ◌++◌, ◌∷◌, [], length, drop, nat_eq, sym, ap, ◌∙◌, subst, arith}
 use Rattle.std.proofs.lemmas.List.{append_assoc, drop-map}
 use Rattle.linked_hash_map.specs.Pairs as pairs
-use Rattle.linked_hash_map.specs.SessionTables.{session_table, total_weight, without, IsValidTable}
+use Rattle.linked_hash_map.specs.Pairs.{last}
+use Rattle.linked_hash_map.specs.SessionTables.{session_table, payload_of, total_weight, without, IsValidTable}
 use Rattle.linked_hash_map.specs.SessionsKept.{sessions_of}
-use Rattle.linked_hash_map.proofs.SessionLists.{total_weight-fit, IsLongestEnd-fit}
+use Rattle.linked_hash_map.proofs.SessionLists.{total_weight-fit, last-append, IsLongestEnd-fit}
 use Rattle.linked_hash_map.proofs.SessionPairs.{IsValidTable-kept, total_weight-others, sessions_of-without, length-sessions_of}
-use Rattle.linked_hash_map.proofs.SessionPuts.{sessions_of-left, length-taken, find-left, room-left, fit-with_last, total_weight-put, length-gone, none-leaves, not-absent}
+use Rattle.linked_hash_map.proofs.SessionPuts.{sessions_of-left, length-taken, find-left, room-left, fit-with_last, payload_of-put, total_weight-put, length-gone, none-leaves, not-absent}
 use Rattle.linked_hash_map.proofs.sessions.Sessions.put.Goals as goal
 
 pub returns-then-weight-self-clause-valid : goal.returns-then-weight-self-clause-valid
@@ -90,6 +91,17 @@ returns-clause-stay g c =
 
 pub returns-clause-longest : goal.returns-clause-longest
 returns-clause-longest g c = rw (returns-clause-stay g c) (IsLongestEnd-fit _ _)
+
+pub returns-clause-newest : goal.returns-clause-newest
+returns-clause-newest g c =
+    let left = sessions_of c.take_oldest.new.map.pairs in
+    ap last c.put_back.ensures.sessions ∙ last-append left (c.args.id, c.args.weight, c.args.payload)
+
+pub returns-clause-payload : goal.returns-clause-payload
+returns-clause-payload g c =
+    let left = c.take_oldest.new.map.pairs in
+    let new = find-left c.make_room.new.map.pairs c.find_leaving-leaving.result.count c.args.id c.take_payload-old.ensures.pairs c.take_oldest.ensures.pairs in
+    ap (λ l. payload_of l c.args.id) c.put_back.ensures.sessions ∙ payload_of-put left c.args.id c.args.weight c.args.payload new
 
 pub returns-clause-gone : goal.returns-clause-gone
 returns-clause-gone g c =
