@@ -103,6 +103,11 @@ impl<'a, K: Eq + Hash, V, S: BuildHasher> OccupiedEntry<'a, K, V, S> {
         ensures* writes_back { sem 𝓛 (lends_occupied K.row V.row S.row S.Hasher.row K.Hash S.BuildHasher S.Hasher.Hasher self.entry result) }
         ensures value { result.now ≡ occupied_value self.entry }
         ensures valid { IsValid K.eq (occupied_map self.entry) }
+
+        // The map, once a value is written.
+        ensures to_visit { (v : V) → to_visit (record (occupied_map self.entry) {
+          pairs = set_value K.eq (occupied_map self.entry).pairs (occupied_key self.entry) v;
+        }) ≡ to_visit (occupied_map self.entry) }
     {
         let OccupiedEntry { map } = self;
         map.leave_current()
