@@ -142,14 +142,14 @@ impl<'a, K, V> Clone for Iter<'a, K, V> {
 /// assert_eq!(rt; last, Some(('y', 2)));
 /// ```
 impl<'a, K: Eq + Hash, V, S: BuildHasher> IntoIterator for &'a LinkedHashMap<K, V, S> {
-    ghost use Rattle.std.specs.Map.Iter.{ShowsInOrder};
+    ghost use Rattle.std.specs.Map.Iter.{ShowsInOrder, ShowsInReverse};
     ghost use Rattle.linked_hash_map.specs.Validity.{IsValid};
 
     type Item = (&'a K, &'a V);
 
     type IntoIter = Iter<'a, K, V>;
 
-    ghost into_iter_gives = { λ map walk. (walk ≡ map.now.pairs) × IsValid K.eq map.now × ShowsInOrder (deref_pair {K = K} {X = V}) };
+    ghost into_iter_gives = { λ map walk. (walk ≡ map.now.pairs) × IsValid K.eq map.now × ShowsInOrder (deref_pair {K = K} {X = V}) × ShowsInReverse (deref_pair {K = K} {X = V}) };
 
     fn into_iter(self) -> Iter<'a, K, V> {
         self.iter()

@@ -113,6 +113,7 @@ impl<'a, K, V> FusedIterator for IterMut<'a, K, V> {}
 /// ```
 impl<'a, K: Eq + Hash, V, S: BuildHasher> IntoIterator for &'a mut LinkedHashMap<K, V, S> {
     ghost use Rattle.std.specs.Borrow.{sem};
+    ghost use Rattle.std.specs.Map.Iter.{LendsValuesInOrder, LendsValuesInReverse};
     ghost use Rattle.linked_hash_map.specs.Lends.{lends_values};
     ghost use Rattle.linked_hash_map.specs.Pairs.{KeysStand};
     ghost use Rattle.linked_hash_map.specs.Validity.{IsValid};
@@ -122,12 +123,12 @@ impl<'a, K: Eq + Hash, V, S: BuildHasher> IntoIterator for &'a mut LinkedHashMap
 
     type IntoIter = IterMut<'a, K, V>;
 
-    ghost into_iter_gives = { λ map walk. (pairs_left walk ≡ map.now.pairs) × IsValid K.eq map.now };
+    ghost into_iter_gives = { λ map walk. (pairs_left walk ≡ map.now.pairs) × IsValid K.eq map.now × LendsValuesInOrder (pairs_left {K = K} {V = V}) × LendsValuesInReverse (pairs_left {K = K} {V = V}) };
 
     fn into_iter(self) -> IterMut<'a, K, V>
         ensures* writes_back { sem 𝓛 (lends_values K.row V.row S.row S.Hasher.row K.Hash S.BuildHasher S.Hasher.Hasher self.entry (loan_name result)) }
         ensures keeps { KeysStand self.old.pairs }
-        ensures into_iter_gives { (pairs_left result ≡ self.old.pairs) × IsValid K.eq self.old }
+        ensures into_iter_gives { (pairs_left result ≡ self.old.pairs) × IsValid K.eq self.old × LendsValuesInOrder (pairs_left {K = K} {V = V}) × LendsValuesInReverse (pairs_left {K = K} {V = V}) }
     {
         self.iter_mut()
     }
