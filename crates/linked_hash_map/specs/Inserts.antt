@@ -1,5 +1,5 @@
 -- Insertions one after another, and what an iterator gives.
-use Rattle.std.specs.Prelude.{◌≡◌, ℕ, ◌-◌, ◌≤◌, max, Bool, List, [], ◌∷◌, map, length, Option, Some}
+use Rattle.std.specs.Prelude.{◌≡◌, ℕ, ◌-◌, ◌<◌, ◌≤◌, ◌⊎◌, max, Bool, List, [], ◌∷◌, map, length, Option, Some}
 use Rattle.std.specs.Iterator.{Count, Drains, YieldsThen}
 use Rattle.std.specs.Iterator.SizeHint.{IsWithinCount}
 use Rattle.linked_hash_map.specs.Counts.{rechained_each}
@@ -28,24 +28,6 @@ module _ {T I X : Type 0} (becomes : T → I → Type 0) (steps : I → Option X
     pub made : becomes source iterator
     pub gives : YieldsThen steps iterator given (Some item) left
 
-  -- it gives some item
-  pub record GivesSome : Type 0 where
-    pub given : List X
-    pub item : X
-    pub then : GivesThen given item
-
-  -- given how many items an iterator has left at most: it hints at this many items at least
-  pub record HintsAt (remaining : I → Count) (lower : ℕ) : Type 0 where
-    pub iterator : I
-    pub made : becomes source iterator
-    pub hint : IsWithinCount lower (remaining iterator)
-
-  -- a map was made with the room that it hints at, and its capacity raised one by one from there
-  pub record RaisesFromHint (remaining : I → Count) (capacity rechained : ℕ) : Type 0 where
-    pub lower : ℕ
-    pub hint : HintsAt remaining lower
-    pub counted : rechained ≡ rechained_each 0 lower (capacity - lower)
-
   -- and what pair an item shows
   module _ {K V : Type 0} (eq : K → K → Bool) (shows : X → K × V) where
     -- all items that it gives went in one by one, in a mode
@@ -62,10 +44,37 @@ module _ {T I X : Type 0} (becomes : T → I → Type 0) (steps : I → Option X
       pub shown : shows item ≡ (key, value)
       pub pairs : new ≡ insert_each eq mode old (map shows given)
 
-    -- all items that it gives went into an empty map, and the capacity is the larger of what it hints at and the number of pairs
-    pub record Collects (remaining : I → Count) (pairs : List (K × V)) (capacity : ℕ) : Type 0 where
-      pub lower : ℕ
-      pub hint : HintsAt remaining lower
-      pub limit : lower ≤ LIMIT
-      pub inserts : InsertsAll Touch [] pairs
-      pub room : capacity ≡ max lower (length pairs)
+-- given what becomes an iterator of pairs, the steps of that iterator, and how many items it has
+-- left at most
+module _ {T I K V : Type 0} (becomes : T → I → Type 0) (steps : I → Option (K × V) → I → Type 0) (source : T) (remaining : I → Count) where
+  -- it becomes one iterator: a new map got room for as many pairs as a lower bound that the hint of
+  -- this iterator may answer, and then all items of this iterator, one by one
+  pub record Collects (eq : K → K → Bool) (held : List (K × V)) (capacity rechained : ℕ) : Type 0 where
+    pub iterator : I
+    pub made : becomes source iterator
+    pub lower : ℕ
+    pub hint : IsWithinCount lower (remaining iterator)
+    pub limit : lower ≤ LIMIT
+    pub given : List (K × V)
+    pub gives : Drains steps iterator given
+    pub pairs : held ≡ insert_each eq Touch [] given
+    pub room : capacity ≡ max lower (length held)
+    pub counted : rechained ≡ rechained_each 0 lower (capacity - lower)
+
+  -- it becomes an iterator whose hint may answer a lower bound above `LIMIT`
+  pub record HintsAboveLimit : Type 0 where
+    pub iterator : I
+    pub made : becomes source iterator
+    pub lower : ℕ
+    pub hint : IsWithinCount lower (remaining iterator)
+    pub above : LIMIT < lower
+
+  -- it becomes an iterator whose hint may answer a lower bound of at most `LIMIT`, and that bound
+  -- is above 0, or this iterator gives an item
+  pub record NeedsRoom : Type 0 where
+    pub iterator : I
+    pub made : becomes source iterator
+    pub lower : ℕ
+    pub hint : IsWithinCount lower (remaining iterator)
+    pub limit : lower ≤ LIMIT
+    pub needed : (0 < lower) ⊎ ((item : K × V) × (left : I) × steps iterator (Some item) left)

@@ -1,14 +1,14 @@
 //! Maps that take in what an iterator gives.
-ghost use Rattle.std.specs.Prelude.{◌≡◌, ℕ, ◌-◌, max, length, None, ◌<◌, ◌≤◌, ◌⊎◌, IfOk, IfErr, OnErr, OnOk, IsErrOf};
+ghost use Rattle.std.specs.Prelude.{◌≡◌, ◌-◌, max, length, None, IfOk, IfErr, OnErr, OnOk, IsErrOf};
 ghost use Rattle.std.specs.Iterator.{IsFiniteIterable};
 ghost use Rattle.std.specs.Map.Iter.{deref_pair};
 ghost use Rattle.linked_hash_map.specs.Pairs.{find};
 ghost use Rattle.linked_hash_map.specs.Validity.{IsValid};
 ghost use Rattle.linked_hash_map.specs.Counts.{rechained_each};
-ghost use Rattle.linked_hash_map.specs.Inserts.{GivesSome, HintsAt, InsertsAll, InsertsUntil, Collects, RaisesFromHint};
+ghost use Rattle.linked_hash_map.specs.Inserts.{InsertsAll, InsertsUntil, Collects, HintsAboveLimit, NeedsRoom};
 
 use crate::error::{Refused, ReserveError};
-use crate::map::{LIMIT, LinkedHashMap, Mode};
+use crate::map::{LinkedHashMap, Mode};
 use std::alloc::Global;
 use std::hash::{BuildHasher, Hash};
 
@@ -110,10 +110,11 @@ impl<K: Eq + Hash, V, S: BuildHasher> LinkedHashMap<K, V, S> {
     ///
     /// A repeated key keeps its first stored key, and has its last value and the place of its last occurrence. The capacity
     /// is the larger of the lower bound that the iterator's `size_hint` answers and the number of pairs. Where the keys of the
-    /// items differ and no more items are announced than come, it is the number of items, whatever that bound. It is refused
-    /// as `TooLarge` exactly where the bound is above [`LIMIT`], before an item is taken, and as `NoRoom` where a growth is
-    /// refused; then all items taken are dropped. It takes no memory where the bound is 0 and no item comes. It costs an
-    /// `insert` for each item. The original takes no allocator, may reserve more, and answers no error.
+    /// items differ and no more items are announced than come, it is the number of items, whatever
+    /// that bound. It is refused as `TooLarge` exactly where the bound is above [`LIMIT`](crate::LIMIT),
+    /// before an item is taken, and as `NoRoom` where a growth is refused; then all items taken are
+    /// dropped. It takes no memory where the bound is 0 and no item comes. It costs an `insert` for
+    /// each item. The original takes no allocator, may reserve more, and answers no error.
     ///
     /// # Examples
     ///
@@ -131,17 +132,15 @@ impl<K: Eq + Hash, V, S: BuildHasher> LinkedHashMap<K, V, S> {
         S: Default + Drop,
         I::IntoIter: Drop,
         requires ends { IsFiniteIterable I.into_iter_gives I.IntoIter.can_next I.IntoIter.remaining items }
-        ensures all { IfOk result (λ map. Collects I.into_iter_gives I.IntoIter.next_gives items K.eq (λ pair. pair) I.IntoIter.remaining map.pairs map.capacity) }
-        ensures rechained { IfOk result (λ map. RaisesFromHint I.into_iter_gives I.IntoIter.next_gives items I.IntoIter.remaining map.capacity map.rechained) }
+        ensures all { IfOk result (λ map. Collects I.into_iter_gives I.IntoIter.next_gives items I.IntoIter.remaining K.eq map.pairs map.capacity map.rechained) }
         ensures hasher { IfOk result (λ map. S.is_default map.hasher) }
         ensures mode { IfOk result (λ map. map.mode ≡ Mode.Touch) }
         ensures valid { IfOk result (IsValid K.eq) }
 
-        ensures too_large { IsErrOf result ReserveError.TooLarge → (lower : ℕ)
-            × HintsAt I.into_iter_gives I.IntoIter.next_gives items I.IntoIter.remaining lower × (LIMIT < lower) }
-        ensures no_room { IsErrOf result ReserveError.NoRoom → (lower : ℕ)
-            × HintsAt I.into_iter_gives I.IntoIter.next_gives items I.IntoIter.remaining lower × (lower ≤ LIMIT)
-            × ((0 < lower) ⊎ GivesSome I.into_iter_gives I.IntoIter.next_gives items) }
+        ensures too_large { IsErrOf result ReserveError.TooLarge →
+            HintsAboveLimit I.into_iter_gives I.IntoIter.next_gives items I.IntoIter.remaining }
+        ensures no_room { IsErrOf result ReserveError.NoRoom →
+            NeedsRoom I.into_iter_gives I.IntoIter.next_gives items I.IntoIter.remaining }
     {
         let items = items.into_iter();
         let (lower, _) = items.size_hint();

@@ -1,6 +1,6 @@
 -- For callers: what `extend`, `extend_refs` and `from_iter` leave, where the items that an iterator gives are known. Each lemma takes
 -- the clause of the call, and a chain proof, `YieldsList`, that what the source becomes gives the list.
-use Rattle.std.proofs.Common.{◌≡◌, ℕ, ◌+◌, ◌≤◌, max, Bool, List, [], length, take, slice_get, Option, Some, None, refl, sym, ap, ◌∙◌, arith}
+use Rattle.std.proofs.Common.{◌≡◌, ℕ, ◌+◌, ◌-◌, ◌≤◌, max, Bool, List, [], length, take, slice_get, Option, Some, None, refl, sym, ap, ◌∙◌, arith}
 use Rattle.std.specs.List.{IsDistinct}
 use Rattle.std.specs.Map.{keys_of}
 use Rattle.std.specs.Map.Iter.{TakesFirst}
@@ -10,6 +10,8 @@ use Rattle.std.specs.Vec.Iter.{into_iter_items, into_iter_len, into_iter_steps}
 use Rattle.std.proofs.lemmas.Iterator.{YieldsList}
 use Rattle.std.proofs.lemmas.Iterator.Consumers.{YieldsList-end, YieldsList-so_far, YieldsList-from_rest, nth_from_yields_List}
 use Rattle.std.proofs.lemmas.Iterator.Adapters.{YieldsList-from_vec}
+use Rattle.std.proofs.lemmas.List.{map-id}
+use Rattle.linked_hash_map.specs.Counts.{rechained_each}
 use Rattle.linked_hash_map.specs.declared.map.Mode.{Mode}
 use Rattle.linked_hash_map.specs.declared.map.Mode.TheVariants.{Touch}
 use Rattle.linked_hash_map.specs.Inserts.{insert_each, InsertsAll, InsertsUntil, Collects}
@@ -34,27 +36,43 @@ module _ {T I X K V : Type 0} {becomes : T → I → Type 0} {steps : I → Opti
         sym (nth_from_yields_List (Some inserts.item) gives.left (length inserts.given) (inserts.given, (yields.0, yields.1, yields.2), refl) road) ∙ ap Some inserts.shown,
       )
 
-  module _ (laws : IsEquivalence eq) {remaining : I → Count} {pairs : List (K × V)} {capacity : ℕ} (collects : Collects becomes steps source eq shows remaining pairs capacity) where
+module _ {T I K V : Type 0} {becomes : T → I → Type 0} {steps : I → Option (K × V) → I → Type 0} {source : T} {remaining : I → Count} {eq : K → K → Bool} {pairs : List (K × V)} {capacity rechained : ℕ} where
+  -- `from_iter` inserts as `extend` of a new map does
+  pub InsertsAll-Collects : Collects becomes steps source remaining eq pairs capacity rechained → InsertsAll becomes steps source eq (λ pair. pair) Touch [] pairs
+  InsertsAll-Collects collects = record {
+    given = collects.given;
+    gives = record { iterator = collects.iterator; made = collects.made; gives = collects.gives };
+    pairs = collects.pairs ∙ ap (insert_each eq Touch []) (sym (map-id collects.given));
+  }
+
+  -- where n items are left to come at most, it chained again what growing to the capacity does,
+  -- from room for n at most
+  pub rechained-Collects : Collects becomes steps source remaining eq pairs capacity rechained → (n : ℕ) → ((it : I) → becomes source it → UpTo (remaining it) n) → (lower : ℕ) × (lower ≤ n) × (rechained ≡ rechained_each 0 lower (capacity - lower))
+  rechained-Collects collects n left =
+      let bound = left collects.iterator collects.made in
+      let lower = collects.hint bound.0 in
+      (collects.lower, omega arith, collects.counted)
+
+  module _ {all : List (K × V)} (laws : IsEquivalence eq) (collects : Collects becomes steps source remaining eq pairs capacity rechained) where
     -- `from_iter` of any source whose items are known
-    pub pairs-Collects : ((it : I) → becomes source it → YieldsList steps shows it all) → pairs ≡ insert_each eq Touch [] all
-    pairs-Collects each = pairs-InsertsAll collects.inserts each
+    pub pairs-Collects : ((it : I) → becomes source it → YieldsList steps (λ pair. pair) it all) → pairs ≡ insert_each eq Touch [] all
+    pairs-Collects each = pairs-InsertsAll (InsertsAll-Collects collects) each
 
     -- where no more items are left to come than come, the capacity is no more than the number of items
-    pub capacity-Collects : ((it : I) → becomes source it → YieldsList steps shows it all) → ((it : I) → becomes source it → UpTo (remaining it) (length all)) → (length pairs ≤ capacity) × (capacity ≤ length all)
+    pub capacity-Collects : ((it : I) → becomes source it → YieldsList steps (λ pair. pair) it all) → ((it : I) → becomes source it → UpTo (remaining it) (length all)) → (length pairs ≤ capacity) × (capacity ≤ length all)
     capacity-Collects each left =
-        let hint = collects.hint in
-        let bound = left hint.iterator hint.made in
-        let lower = hint.hint bound.0 in
+        let bound = left collects.iterator collects.made in
+        let lower = collects.hint bound.0 in
         let most = length-insert_each_most laws Touch [] all (distinct-nil V eq) in
         let held = ap length (pairs-Collects each) in
         let room = collects.room in
         (omega arith, omega arith)
 
     -- and where their keys differ, it is that number, and the pairs are the items
-    pub pairs-Collects_distinct : IsDistinct eq (keys_of all) → ((it : I) → becomes source it → YieldsList steps shows it all) → pairs ≡ all
+    pub pairs-Collects_distinct : IsDistinct eq (keys_of all) → ((it : I) → becomes source it → YieldsList steps (λ pair. pair) it all) → pairs ≡ all
     pairs-Collects_distinct distinct each = pairs-Collects each ∙ insert_each-distinct laws Touch all distinct
 
-    pub capacity-Collects_distinct : IsDistinct eq (keys_of all) → ((it : I) → becomes source it → YieldsList steps shows it all) → ((it : I) → becomes source it → UpTo (remaining it) (length all)) → capacity ≡ length all
+    pub capacity-Collects_distinct : IsDistinct eq (keys_of all) → ((it : I) → becomes source it → YieldsList steps (λ pair. pair) it all) → ((it : I) → becomes source it → UpTo (remaining it) (length all)) → capacity ≡ length all
     capacity-Collects_distinct distinct each left =
         let bounds = capacity-Collects each left in
         let held = ap length (pairs-Collects_distinct distinct each) in
@@ -73,11 +91,12 @@ pub pairs-InsertsAll_vec : {T Z K V : Type 0} {becomes : T → _ → Type 0} {so
 pairs-InsertsAll_vec all inserts is = pairs-InsertsAll inserts (λ it made. let told = is it made in YieldsList-from_vec {s = it} all told.0 told.1)
 
 -- `from_iter` of a vector
-pub pairs-Collects_vec : {T Z K V : Type 0} {becomes : T → _ → Type 0} {source : T} {eq : K → K → Bool} {remaining : _ → Count} {pairs : List (K × V)} {capacity : ℕ} (all : List (K × V)) → Collects becomes (into_iter_steps {X = K × V} {Z = Z}) source eq (λ pair. pair) remaining pairs capacity → ((it : _) → becomes source it → (into_iter_items it ≡ all) × (into_iter_len it ≡ length all)) → pairs ≡ insert_each eq Touch [] all
-pairs-Collects_vec all collects is = pairs-InsertsAll_vec all collects.inserts is
+pub pairs-Collects_vec : {T Z K V : Type 0} {becomes : T → _ → Type 0} {source : T} {remaining : _ → Count} {eq : K → K → Bool} {pairs : List (K × V)} {capacity rechained : ℕ} (all : List (K × V)) → Collects becomes (into_iter_steps {X = K × V} {Z = Z}) source remaining eq pairs capacity rechained → ((it : _) → becomes source it → (into_iter_items it ≡ all) × (into_iter_len it ≡ length all)) → pairs ≡ insert_each eq Touch [] all
+pairs-Collects_vec all collects is = pairs-InsertsAll_vec all (InsertsAll-Collects collects) is
 
--- and where the keys of its items differ, the pairs are the items, and the capacity is their number
-module _ {T Z K V : Type 0} {becomes : T → _ → Type 0} {source : T} {eq : K → K → Bool} {pairs : List (K × V)} {capacity : ℕ} (laws : IsEquivalence eq) (all : List (K × V)) (collects : Collects becomes (into_iter_steps {X = K × V} {Z = Z}) source eq (λ pair. pair) (λ it. at_most (into_iter_len it)) pairs capacity) (distinct : IsDistinct eq (keys_of all)) (is : (it : _) → becomes source it → (into_iter_items it ≡ all) × (into_iter_len it ≡ length all)) where
+-- and where the keys of its items differ, the pairs are the items, the capacity is their number,
+-- and it chained again what growing to that number does, from room for no more
+module _ {T Z K V : Type 0} {becomes : T → _ → Type 0} {source : T} {eq : K → K → Bool} {pairs : List (K × V)} {capacity rechained : ℕ} (laws : IsEquivalence eq) (all : List (K × V)) (collects : Collects becomes (into_iter_steps {X = K × V} {Z = Z}) source (λ it. at_most (into_iter_len it)) eq pairs capacity rechained) (distinct : IsDistinct eq (keys_of all)) (is : (it : _) → becomes source it → (into_iter_items it ≡ all) × (into_iter_len it ≡ length all)) where
   pub pairs-Collects_distinct_vec : pairs ≡ all
   pairs-Collects_distinct_vec = pairs-Collects_vec all collects is ∙ insert_each-distinct laws Touch all distinct
 
@@ -85,3 +104,8 @@ module _ {T Z K V : Type 0} {becomes : T → _ → Type 0} {source : T} {eq : K 
   capacity-Collects_distinct_vec = capacity-Collects_distinct laws collects distinct
       (λ it made. let told = is it made in YieldsList-from_vec {s = it} all told.0 told.1)
       (λ it made. let told = is it made in (tt, omega (arith, told.1)))
+
+  pub rechained-Collects_distinct_vec : (lower : ℕ) × (lower ≤ length all) × (rechained ≡ rechained_each 0 lower (length all - lower))
+  rechained-Collects_distinct_vec =
+      let counted = rechained-Collects collects (length all) (λ it made. let told = is it made in (tt, omega (arith, told.1))) in
+      (counted.0, counted.1, counted.2 ∙ ap (λ room. rechained_each 0 counted.0 (room - counted.0)) capacity-Collects_distinct_vec)
