@@ -3,7 +3,7 @@
 use super::checks::{check, check_eq, given};
 use super::map_of;
 use super::written::Written;
-use linked_hash_map::LinkedHashMap;
+use linked_hash_map::{LinkedHashMap, Mode};
 use std::alloc::Global;
 use std::cmp::Ordering;
 use std::hash::Hash;
@@ -84,11 +84,23 @@ fn feeds_nothing_where_it_is_empty(rt: HostRuntime) {
     check_eq!(rt; nothing, Written::new());
 }
 
+/// Checks both debug texts of a map that has the pairs (1, 10) and (2, 20).
+fn assert_shown(rt: &impl Abort, alloc: Global, map: &LinkedHashMap<u64, u64>) {
+    let text = given!(rt; format!(in alloc; "{map:?}"));
+    check_eq!(rt; text.as_str(), "{1: 10, 2: 20}");
+    let lines = given!(rt; format!(in alloc; "{map:#?}"));
+    check_eq!(rt; lines.as_str(), "{\n    1: 10,\n    2: 20,\n}");
+}
+
 #[test]
 fn shows_the_pairs_as_the_maps_of_std(rt: HostRuntime) {
     let map = map_of(&rt, rt.alloc(), &[(1, 10), (2, 20)]);
-    let text = given!(rt; format!(in rt.alloc(); "{map:?}"));
-    check_eq!(rt; text.as_str(), "{1: 10, 2: 20}");
-    let lines = given!(rt; format!(in rt.alloc(); "{map:#?}"));
-    check_eq!(rt; lines.as_str(), "{\n    1: 10,\n    2: 20,\n}");
+    assert_shown(&rt, rt.alloc(), &map);
+}
+
+#[test]
+fn shows_the_same_text_in_mode_keep(rt: HostRuntime) {
+    let mut map = map_of(&rt, rt.alloc(), &[(1, 10), (2, 20)]);
+    map.set_mode(Mode::Keep);
+    assert_shown(&rt, rt.alloc(), &map);
 }
