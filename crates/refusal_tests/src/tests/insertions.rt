@@ -4,6 +4,7 @@ use super::checks::{check, check_eq};
 use super::{BUILDER, Map, assert_map, full_of, is_given, say_given, say_if_given};
 use linked_hash_map::{Entry, LinkedHashMap, Refused, ReserveError};
 use std::alloc::Global;
+use std::cell::Cell;
 use std::process::Abort;
 
 /// The calls that put in a new pair.
@@ -156,4 +157,92 @@ fn find_without_the_closure(rt: &impl Abort, map: &mut Map) {
     });
     check_eq!(rt; found.map(|lent| *lent), Ok(10));
     check!(rt; !called);
+}
+
+#[test]
+fn refused_insertion_goes_in_once_there_is_room(rt: HostRuntime) {
+    // The growths: buckets, the guard and a node.
+    insert_after_a_removal(&rt, full_of(&rt, rt.alloc(), &[(1, 11)]));
+}
+
+fn insert_after_a_removal(rt: &(impl Abort + Print), made: Result<Map, ReserveError>) {
+    if let Ok(mut map) = made {
+        // The growths: buckets and a node.
+        match map.insert(2, 20) {
+            Ok(_old) => say_given(rt, 5),
+            Err(refused) => {
+                check_eq!(rt; refused, Refused { key: 2, value: 20 });
+                assert_map(rt, &map, &[(1, 11)], 1, 0);
+                check_eq!(rt; map.remove(&1), Some(11));
+                check_eq!(rt; map.insert(2, 20), Ok(None));
+                assert_map(rt, &map, &[(2, 20)], 1, 0);
+            }
+        }
+    }
+}
+
+#[test]
+fn refused_pair_comes_back_from_each_call_of_an_entry(rt: HostRuntime) {
+    // The growths, three times: buckets, the guard and a node; buckets and a node.
+    let by_value = put_by_value(&rt, full_of(&rt, rt.alloc(), &[(1, 10)]));
+    let by_default = put_by_default(&rt, full_of(&rt, rt.alloc(), &[(1, 10)]));
+    let by_closure = put_by_closure(&rt, full_of(&rt, rt.alloc(), &[(1, 10)]));
+    say_if_given(&rt, by_value & by_default & by_closure, 15);
+}
+
+/// Puts in a second pair by `or_insert`, and tells whether each growth was given.
+fn put_by_value(rt: &impl Abort, made: Result<Map, ReserveError>) -> bool {
+    let Ok(mut map) = made else {
+        return false;
+    };
+    let put = map.entry(2).or_insert(7).map(|lent| *lent);
+    check_second(rt, &mut map, put, 7)
+}
+
+/// The same by `or_default`.
+fn put_by_default(rt: &impl Abort, made: Result<Map, ReserveError>) -> bool {
+    let Ok(mut map) = made else {
+        return false;
+    };
+    let put = map.entry(2).or_default().map(|lent| *lent);
+    check_second(rt, &mut map, put, 0)
+}
+
+/// The same by `or_insert_with`, whose closure is called once.
+fn put_by_closure(rt: &impl Abort, made: Result<Map, ReserveError>) -> bool {
+    let Ok(mut map) = made else {
+        return false;
+    };
+    let calls = Cell::new(0u64);
+    let put = map.entry(2).or_insert_with(|| {
+        calls.set(calls.get().saturating_add(1));
+        30
+    });
+    let put = put.map(|lent| *lent);
+    check_eq!(rt; calls.get(), 1);
+    check_second(rt, &mut map, put, 30)
+}
+
+/// Checks that a value went in for key 2 at full capacity beside (1, 10), or came back. Tells
+/// whether it went in.
+fn check_second(
+    rt: &impl Abort,
+    map: &mut Map,
+    put: Result<u64, Refused<u8, u64>>,
+    value: u64,
+) -> bool {
+    // The entry of a key that is present asks for no growth.
+    check_eq!(rt; map.entry(1).or_insert(11).map(|lent| *lent), Ok(10));
+    match put {
+        Ok(lent) => {
+            check_eq!(rt; lent, value);
+            assert_map(rt, map, &[(1, 10), (2, value)], 2, 1);
+            true
+        }
+        Err(refused) => {
+            check_eq!(rt; refused, Refused { key: 2, value });
+            assert_map(rt, map, &[(1, 10)], 1, 0);
+            false
+        }
+    }
 }
