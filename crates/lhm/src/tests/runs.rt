@@ -1,9 +1,9 @@
 //! Worked examples.
 
-use super::checks::check_eq;
-use super::fakes::{Sink, Source};
+use super::checks::{check_eq, given};
+use super::fakes::{NEVER, Output, Sink, Source};
 use crate::run;
-use std::alloc::Global;
+use std::alloc::{AllocError, Global};
 use std::process::Abort;
 
 /// Inputs of commands, and the output of each run.
@@ -192,4 +192,37 @@ fn runs_done(rt: HostRuntime) {
 #[test]
 fn lines_that_are_no_command(rt: HostRuntime) {
     check_faults(&rt, rt.alloc(), &INVALID);
+}
+
+/// Commands that make room for two pairs, and then put a thousand in and take each out at once, and
+/// the output of their run. The pairs are 1:10 to 1000:10000.
+fn thousand_pairs(alloc: Global) -> Result<(Vec<u8>, Vec<u8>), AllocError> {
+    let mut input = Vec::new(alloc);
+    let mut output = Vec::new(alloc);
+    input.extend_from_slice(b"reserve 2\n")?;
+    output.extend_from_slice(b"done len=0 cap=2\n")?;
+    for key in 1..=1000u64 {
+        let commands = format!(in alloc; "insert {key} {key}0\npopfront\n")?;
+        input.extend_from_slice(commands.as_bytes())?;
+        let answers = format!(in alloc; "new len=1 cap=2\npair {key} {key}0 len=0 cap=2\n")?;
+        output.extend_from_slice(answers.as_bytes())?;
+    }
+    output.extend_from_slice(b"list\n")?;
+    Ok((input, output))
+}
+
+/// Checks that a run of any length writes its output, and tells no fault.
+fn check_long_run(rt: &impl Abort, alloc: Global, input: &[u8], output: &[u8]) {
+    let mut reader = Source::new(input);
+    let mut writer = Output::new(alloc, usize::MAX, NEVER);
+    let mut faults = Sink::new();
+    let status = run(alloc, &mut reader, &mut writer, &mut faults);
+    check_eq!(rt; (status, faults.text()), (0, ""));
+    check_eq!(rt; writer.bytes.as_slice(), output);
+}
+
+#[test]
+fn a_thousand_pairs_come_and_go_in_room_for_two(rt: HostRuntime) {
+    let (input, output) = given!(rt; thousand_pairs(rt.alloc()));
+    check_long_run(&rt, rt.alloc(), input.as_slice(), output.as_slice());
 }
