@@ -2,6 +2,7 @@
 
 use super::checks::{check_eq, given};
 use super::fakes::{NEVER, Output, Sink, Source};
+use super::refusals::say_whether_given;
 use crate::run;
 use std::alloc::{AllocError, Global};
 use std::io::ErrorKind;
@@ -212,4 +213,40 @@ fn faults_that_fail_change_no_status(rt: HostRuntime) {
     check_each_fault(&rt, rt.alloc(), invalid);
     check_each_fault(&rt, rt.alloc(), unread);
     check_each_fault(&rt, rt.alloc(), unwritten);
+}
+
+/// Checks a run of no commands whose writer of faults fails at a call. It ends for want of memory,
+/// tells a beginning of that fault and makes no further call of the writer; or no growth was
+/// refused. Tells whether none was.
+fn check_out_of_memory(rt: &impl Abort, alloc: Global, fails_at: usize) -> bool {
+    let mut reader = Source::new(b"");
+    let mut output = Sink::new();
+    let mut faults = Sink::new();
+    faults.fails_at = fails_at;
+    let status = run(alloc, &mut reader, &mut output, &mut faults);
+    if status == 0 {
+        check_eq!(rt; (output.text(), faults.calls), ("list\n", 0));
+        return true;
+    }
+    let begins = "out of memory\n".starts_with(faults.text());
+    check_eq!(rt;
+        (fails_at, status, output.text(), begins, faults.calls),
+        (fails_at, 3, "", true, fails_at)
+    );
+    false
+}
+
+/// Checks such a run at each of the first three calls of the writer: the 14 bytes of the fault take
+/// two writes at least, and then comes a flush.
+fn check_each_out_of_memory(rt: &impl Abort, alloc: Global) -> bool {
+    let mut given = true;
+    for fails_at in 1..=3usize {
+        given &= check_out_of_memory(rt, alloc, fails_at);
+    }
+    given
+}
+
+#[test]
+fn refused_growth_is_a_fault_that_fails(rt: HostRuntime) {
+    say_whether_given(&rt, check_each_out_of_memory(&rt, rt.alloc()));
 }

@@ -42,11 +42,14 @@ impl Read for Source<'_> {
     }
 }
 
-/// A writer into a fixed buffer that takes at most 7 bytes at once.
+/// A writer into a fixed buffer that takes at most 7 bytes at once and fails at call `fails_at`,
+/// where a flush is a call too.
 #[derive(Drop)]
 pub struct Sink {
     buffer: [u8; 256],
     len: usize,
+    pub calls: usize,
+    pub fails_at: usize,
 }
 
 impl Sink {
@@ -54,7 +57,17 @@ impl Sink {
         Sink {
             buffer: [0; 256],
             len: 0,
+            calls: 0,
+            fails_at: NEVER,
         }
+    }
+
+    fn count_call(&mut self) -> io::Result<()> {
+        self.calls = self.calls.saturating_add(1);
+        if self.calls == self.fails_at {
+            return Err(io::Error::other("refused"));
+        }
+        Ok(())
     }
 
     /// Returns what was written. Bytes that are no text are told by an answer that no run gives.
@@ -76,6 +89,7 @@ impl Sink {
 
 impl Write for Sink {
     fn write(&mut self, buf: &[u8]) -> io::Result<usize> {
+        self.count_call()?;
         if self.len > self.buffer.len() {
             return Err(io::Error::other("refused"));
         }
@@ -86,7 +100,7 @@ impl Write for Sink {
     }
 
     fn flush(&mut self) -> io::Result<()> {
-        Ok(())
+        self.count_call()
     }
 }
 

@@ -30,7 +30,7 @@ fn find_way(ways: &[Way], status: u8, output: &str, faults: &str) -> (bool, bool
 }
 
 /// Says that no growth was refused, where that is so.
-fn say_whether_given(rt: &impl Print, is_given: bool) {
+pub fn say_whether_given(rt: &impl Print, is_given: bool) {
     if is_given {
         let _ = println!(rt; "every growth was given");
     }
