@@ -1,2 +1,3 @@
 pub mod Counting
 pub mod Insertions
+pub mod Runs

@@ -1,9 +1,10 @@
 //! What a map holds after commands that were replayed.
 ghost use Rattle.std.specs.Prelude.{◌≡◌, ◌<◌, length, OnOk, OnErr};
 ghost use Rattle.linked_hash_map.specs.Pairs.{without, put};
+ghost use Rattle.uses.specs.Replaying.{RefusesNothing, answers_of};
 
 use linked_hash_map::LinkedHashMap;
-use linked_hash_map::replay::{Command, replay};
+use linked_hash_map::replay::{Command, Reply, replay};
 use std::alloc::{AllocError, Global};
 use std::hash::{BuildHasher, Hash};
 
@@ -27,4 +28,34 @@ pub fn insert_and_remove<K: Eq + Hash + Drop, V: Drop, S: BuildHasher>(
         Ok(_replies) => Ok(()),
         Err(_commands) => Err(AllocError),
     }
+}
+
+/// What comes of a run: a reply to each command, or the commands where room for the replies was
+/// refused.
+pub type Outcome<K, V> = Result<Vec<Reply<K, V>>, Vec<Command<K, V>>>;
+
+/// Runs the same commands on two maps that have the same pairs and the same mode, each with a build
+/// hasher of its own, and returns what comes of each run.
+///
+/// Where neither run refuses anything, their answers are the same, and the two maps have the same
+/// pairs in the same order: no answer and no pair rests on the hasher. A run uses its commands up,
+/// so they are given twice. Where room for the replies of a run was refused, its map is as it was.
+/// It costs what the two runs cost, and takes the memory that they take.
+pub fn replay_under_two_hashers<K: Eq + Hash + Drop, V: Drop, S: BuildHasher, T: BuildHasher>(
+    first: &mut LinkedHashMap<K, V, S>,
+    second: &mut LinkedHashMap<K, V, T>,
+    commands: Vec<Command<K, V>>,
+    copies: Vec<Command<K, V>>,
+) -> (Outcome<K, V>, Outcome<K, V>)
+    requires same_pairs { first.old.pairs ≡ second.old.pairs }
+    requires same_mode { first.old.mode ≡ second.old.mode }
+    requires same_commands { commands.items ≡ copies.items }
+    ensures answers { RefusesNothing result.0 → RefusesNothing result.1 → answers_of result.0 ≡ answers_of result.1 }
+    ensures pairs { RefusesNothing result.0 → RefusesNothing result.1 → first.new.pairs ≡ second.new.pairs }
+    ensures first_unchanged { OnErr result.0 (first.new ≡ first.old) }
+    ensures second_unchanged { OnErr result.1 (second.new ≡ second.old) }
+{
+    let one = replay(first, commands);
+    let other = replay(second, copies);
+    (one, other)
 }

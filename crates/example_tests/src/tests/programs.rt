@@ -3,8 +3,10 @@ ghost use Rattle.std.specs.Prelude.{◌≡◌, ◌∷◌, [], Ok};
 
 use super::checks::{check, check_eq, given};
 use linked_hash_map::LinkedHashMap;
+use linked_hash_map::replay::{Answer, Command, Reply};
 use std::alloc::Global;
 use std::fmt::Debug;
+use std::hash::{BuildHasher, RandomState};
 use std::process::Abort;
 use uses::cache::Cache;
 use uses::collecting::{collect_all, insert_all, merge};
@@ -18,7 +20,7 @@ use uses::loops::{
 use uses::memory::{chained_again, empty_out, reserve_and_insert};
 use uses::queue::Queue;
 use uses::refusal::insert_anyway;
-use uses::replaying::insert_and_remove;
+use uses::replaying::{Outcome, insert_and_remove, replay_under_two_hashers};
 use uses::text::{age_of, note_age};
 use uses::window::Window;
 
@@ -139,6 +141,57 @@ fn pairs_come_and_go(rt: HostRuntime) {
         given!(rt; take_all(rt.alloc(), &mut map)).as_slice(),
         [(1, 10)].as_slice()
     );
+}
+
+/// Makes commands that insert two pairs, and the first key again.
+fn three_insertions(rt: &impl Abort, alloc: Global) -> Vec<Command<u64, u64>>
+    ensures { result.items ≡ Command.Insert 1 10 ∷ Command.Insert 2 20 ∷ Command.Insert 1 11 ∷ [] }
+{
+    let commands = [
+        Command::Insert(1, 10),
+        Command::Insert(2, 20),
+        Command::Insert(1, 11),
+    ];
+    value_in(rt, Vec::from_array(alloc, commands))
+}
+
+/// Makes a reply.
+fn reply(answer: Answer<u64, u64>, len: usize, capacity: usize) -> Reply<u64, u64> {
+    Reply {
+        answer,
+        len,
+        capacity,
+    }
+}
+
+/// Checks what comes of those commands on an empty map, and which pairs the map has then.
+fn check_insertions<S: BuildHasher + Drop>(
+    rt: &impl Abort,
+    alloc: Global,
+    map: LinkedHashMap<u64, u64, S>,
+    outcome: Outcome<u64, u64>,
+) {
+    let wanted = [
+        reply(Answer::New, 1, 1),
+        reply(Answer::New, 2, 2),
+        reply(Answer::Old(10), 2, 2),
+    ];
+    check_eq!(rt; given!(rt; outcome).as_slice(), wanted.as_slice());
+    check_eq!(rt;
+        given!(rt; into_list(alloc, map)).as_slice(),
+        [(2, 20), (1, 11)].as_slice()
+    );
+}
+
+#[test]
+fn two_hashers_answer_the_same(rt: HostRuntime) {
+    let mut map = LinkedHashMap::new(rt.alloc());
+    let mut other = LinkedHashMap::with_hasher(rt.alloc(), given!(rt; RandomState::new(&rt)));
+    let commands = three_insertions(&rt, rt.alloc());
+    let copies = three_insertions(&rt, rt.alloc());
+    let (one, another) = replay_under_two_hashers(&mut map, &mut other, commands, copies);
+    check_insertions(&rt, rt.alloc(), map, one);
+    check_insertions(&rt, rt.alloc(), other, another);
 }
 
 #[test]
