@@ -39,6 +39,11 @@ fn count_remove<'a>(map: &mut CountingMap<'a>, key: &Counting<'a>) -> (Option<u6
     (map.remove(key), key.compared.replace(0))
 }
 
+fn count_insert<'a>(map: &mut CountingMap<'a>, key: &Counting<'a>) -> (Option<u64>, usize) {
+    let old = map.insert(*key, key.number).ok().flatten();
+    (old, key.compared.replace(0))
+}
+
 /// Looks one key up by the calls that leave each place, and compares how many keys each compares with what `get_counted` says.
 fn assert_counted<'a>(rt: &impl Abort, map: &mut CountingMap<'a>, key: &Counting<'a>) -> Probe {
     key.compared.set(0);
@@ -56,6 +61,12 @@ fn assert_entry<'a>(rt: &impl Abort, map: &mut CountingMap<'a>, key: &Counting<'
     let probe = assert_counted(rt, map, key);
     check_eq!(rt; count_entry(map, key), (key.number < 9, probe.compared));
     probe
+}
+
+/// Inserts one present key again, and compares the counts in the same way.
+fn assert_inserted_again<'a>(rt: &impl Abort, map: &mut CountingMap<'a>, key: &Counting<'a>) {
+    let probe = assert_counted(rt, map, key);
+    check_eq!(rt; count_insert(map, key), (Some(key.number), probe.compared));
 }
 
 /// Refreshes and then takes out one key, and compares the counts in the same way.
@@ -93,6 +104,9 @@ fn assert_counts(rt: &impl Abort, alloc: Global, builder: BuildMultiple, absent:
     for number in 9..11 {
         let probe = assert_entry(rt, &mut map, &Counting { number, compared });
         check_eq!(rt; (number, probe), (number, absent));
+    }
+    for number in 1..9 {
+        assert_inserted_again(rt, &mut map, &Counting { number, compared });
     }
     for number in [9, 10, 1, 2, 3, 4, 5, 6, 7, 8] {
         assert_moved_and_removed(rt, &mut map, &Counting { number, compared });
@@ -140,6 +154,34 @@ fn compares_one_key_in_a_bucket_of_its_own(rt: HostRuntime) {
             compared: 0,
         },
     );
+}
+
+/// Writes the value of the first pair by a cursor, and takes the pair out.
+fn take_first_by_cursor(map: &mut CountingMap<'_>) -> Option<u64> {
+    let mut cursor = map.entries();
+    let mut entry = cursor.next()?;
+    entry.insert(0);
+    Some(entry.remove())
+}
+
+/// Takes pairs out by the calls that are given no key, and checks that no key is compared.
+fn assert_taken(rt: &impl Abort, mut map: CountingMap<'_>, compared: &Cell<usize>) {
+    compared.set(0);
+    check!(rt; map.pop_front().is_some());
+    check!(rt; map.pop_back().is_some());
+    check_eq!(rt; take_first_by_cursor(&mut map), Some(0));
+    check_eq!(rt; (map.len(), compared.get()), (5, 0));
+    check!(rt; map.drain().next().is_some());
+    map.clear();
+    check_eq!(rt; (map.len(), compared.get()), (0, 0));
+}
+
+/// Four pairs each are in one bucket and have one number.
+#[test]
+fn compares_no_key_where_a_pair_is_taken_out(rt: HostRuntime) {
+    let compared = Cell::new(0);
+    let map = eight_of(&rt, rt.alloc(), PARITY, &compared);
+    assert_taken(&rt, map, &compared);
 }
 
 const MANY: usize = 262_144;
