@@ -8,6 +8,7 @@ pub mod DistinctLists
 pub mod Drained
 pub mod Effects
 pub mod EntryFacts
+mod EntryValue
 mod Examples
 pub mod Extends
 pub mod FirstAndLast

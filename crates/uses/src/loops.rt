@@ -1,5 +1,5 @@
 //! Loops over a map, of every kind.
-ghost use Rattle.std.specs.Prelude.{◌≡◌, ◌^◌, ◌<◌, ◌≤◌, [], sum, length, IfOk};
+ghost use Rattle.std.specs.Prelude.{◌≡◌, ◌^◌, ◌<◌, ◌≤◌, [], ◌∷◌, sum, length, IfOk};
 ghost use Rattle.std.specs.Map.{keys_of, values_of};
 ghost use Rattle.linked_hash_map.specs.Pairs.{first};
 
@@ -113,5 +113,17 @@ pub fn oldest_key<K: Eq + Hash + Copy, V, S: BuildHasher>(
     match entries.next() {
         Some(entry) => Some(*entry.key()),
         None => None,
+    }
+}
+
+/// Takes out the first of two pairs by a cursor, which knows the value of its entry, and returns that value.
+pub fn first_of_cursor(map: &mut LinkedHashMap<u64, u64>) -> u64
+    requires pairs { map.old.pairs ≡ (1, 10) ∷ (2, 20) ∷ [] }
+    ensures value { result ≡ 10 }
+{
+    let mut entries = map.entries();
+    match entries.next() {
+        Some(first) => first.remove(),
+        None => 0,
     }
 }

@@ -1,10 +1,11 @@
 //! The cursor, which lends the entries of a map one after another.
-ghost use Rattle.std.specs.Prelude.{◌≡◌, [], ◌∷◌, length, IfSome, IfNone};
+ghost use Rattle.std.specs.Prelude.{◌≡◌, [], ◌∷◌, length, Some, IfSome, IfNone};
 ghost use Rattle.std.specs.Borrow.{sem};
 ghost use Rattle.std.specs.Map.{keys_of};
+ghost use Rattle.linked_hash_map.specs.Pairs.{value_at};
 ghost use Rattle.linked_hash_map.specs.Cursor.{to_visit};
 ghost use Rattle.linked_hash_map.specs.Validity.{IsValid};
-ghost use Rattle.linked_hash_map.specs.Entry.{occupied_map_ref, occupied_map, occupied_key};
+ghost use Rattle.linked_hash_map.specs.Entry.{occupied_map_ref, occupied_map, occupied_key, occupied_value};
 ghost use Rattle.linked_hash_map.specs.CursorLends.{cursor_map_ref, cursor_map, lends_map, lends_next_entry, lends_next};
 
 use super::OccupiedEntry;
@@ -78,6 +79,7 @@ impl<K: Eq + Hash, V, S: BuildHasher> LinkedHashMap<K, V, S> {
         ensures* lends { sem 𝓛 (lends_next_entry K.row V.row S.row S.Hasher.row K.Hash S.BuildHasher S.Hasher.Hasher self.entry result) }
         ensures same_map { IfSome result (λ entry. (occupied_map_ref entry).ghost_name ≡ self.entry.ghost_name) }
         ensures visits { IfSome result (λ entry. to_visit self.old ≡ occupied_key entry ∷ to_visit (occupied_map entry)) }
+        ensures value { IfSome result (λ entry. value_at K.eq self.old.pairs (occupied_key entry) ≡ Some (occupied_value entry)) }
         ensures pairs { IfSome result (λ entry. (occupied_map entry).pairs ≡ self.old.pairs) }
         ensures capacity { IfSome result (λ entry. (occupied_map entry).capacity ≡ self.old.capacity) }
         ensures rechained { IfSome result (λ entry. (occupied_map entry).rechained ≡ self.old.rechained) }
@@ -114,6 +116,7 @@ impl<'a, K: Eq + Hash, V, S: BuildHasher> Entries<'a, K, V, S> {
     pub fn next(&mut self) -> Option<OccupiedEntry<'_, K, V, S>>
         ensures* lends { sem 𝓛 (lends_next K.row V.row S.row S.Hasher.row K.Hash S.BuildHasher S.Hasher.Hasher self.entry result) }
         ensures visits { IfSome result (λ entry. to_visit (cursor_map self.old) ≡ occupied_key entry ∷ to_visit (occupied_map entry)) }
+        ensures value { IfSome result (λ entry. value_at K.eq (cursor_map self.old).pairs (occupied_key entry) ≡ Some (occupied_value entry)) }
         ensures pairs { IfSome result (λ entry. (occupied_map entry).pairs ≡ (cursor_map self.old).pairs) }
         ensures capacity { IfSome result (λ entry. (occupied_map entry).capacity ≡ (cursor_map self.old).capacity) }
         ensures rechained { IfSome result (λ entry. (occupied_map entry).rechained ≡ (cursor_map self.old).rechained) }

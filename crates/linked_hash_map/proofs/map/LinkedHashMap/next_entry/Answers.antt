@@ -1,5 +1,6 @@
 use Rattle.std.proofs.Common.{slice_get, refl, sym, ap, ◌∙◌}
 use Rattle.std.specs.Map.{keys_of}
+use Rattle.linked_hash_map.proofs.EntryValue.{value-occupied}
 use Rattle.linked_hash_map.proofs.MarkMoves.{occupied_key_there}
 use Rattle.linked_hash_map.proofs.map.LinkedHashMap.next_entry.Goals as goal
 
@@ -10,6 +11,7 @@ returns-then-visit_next g c = (
     lends = tt;
     same_map = refl;
     visits = c.if-visit_next.ensures.key refl _ (ap (λ ps. slice_get (keys_of ps) c.visit_next.new.self.current) (sym c.if-visit_next.ensures.pairs) ∙ occupied_key_there _);
+    value = value-occupied _ g.met.K.Eq.laws c.if-visit_next.ensures.valid.distinct c.if-visit_next.ensures.pairs;
     pairs = c.if-visit_next.ensures.pairs;
     capacity = c.if-visit_next.ensures.capacity;
     rechained = c.if-visit_next.ensures.rechained;

@@ -36,7 +36,7 @@ use Rattle.std.proofs.option.Option.TheLaws.{the_row_laws as option_laws}
 use Rattle.std.proofs.raw_atomic.Walks.{proved}
 use Rattle.std.specs.Borrow.{name_if_some}
 use Rattle.std.specs.HashMap.Lent.{HashMembers}
-use Rattle.std.specs.Prelude.{Option, Some, None, IfSome, IfNone}
+use Rattle.std.specs.Prelude.{Bool, Option, Some, None, IfSome, IfNone}
 use Rattle.std.specs.contracts.option.Option as option
 use Rattle.std.specs.declared.cmp.Eq as total
 use Rattle.std.specs.declared.cmp.PartialEq as eq
@@ -46,7 +46,8 @@ use Rattle.std.specs.declared.hash.BuildHasher as builder
 use Rattle.linked_hash_map.specs.LinkedMap.{LinkedMap}
 use Rattle.linked_hash_map.specs.Cursor.{to_visit}
 use Rattle.linked_hash_map.specs.Validity.{IsValid}
-use Rattle.linked_hash_map.specs.Entry.{occupied_map, occupied_key}
+use Rattle.linked_hash_map.specs.Pairs.{value_at}
+use Rattle.linked_hash_map.specs.Entry.{occupied_map, occupied_key, occupied_value}
 use Rattle.linked_hash_map.specs.CursorLends.{lends_map, lends_next_entry, with_cursor_map}
 use Rattle.linked_hash_map.specs.declared.entry.OccupiedEntry.{OccupiedEntry}
 use Rattle.linked_hash_map.specs.declared.entry.cursor.Entries.{Entries}
@@ -79,6 +80,9 @@ module _ {K V S H : Type 0} {g : eq.Ghosts K} {h : hash.Ghosts K} {b : builder.G
   module _ (m : LinkedMap K V S) where
     abbrev Visits : Type 0
     Visits = IfSome e (λ o. to_visit m ≡ occupied_key o ∷ to_visit (occupied_map o))
+
+    abbrev Value : (K → K → Bool) → Type 0
+    Value eq = IfSome e (λ o. value_at eq m.pairs (occupied_key o) ≡ Some (occupied_value o))
 
     abbrev SamePairs : Type 0
     SamePairs = IfSome e (λ o. (occupied_map o).pairs ≡ m.pairs)
@@ -197,9 +201,9 @@ next_spec 𝓤 𝓛 𝓜 𝓡 wired K V S H LK LV LS LH b₀ d₀ b₁ d₁ b₂
     use1 𝓛 (later (some (λ (e : Given.Denot).
     ((‵ (flft κs.0 qs.0) ⊛ ‵ (flft κs.1.1.0 qs.1.1.0) ⊛ ‵ (flft κs.1.1.1.0 qs.1.1.1.0) ⊛ ‵ (flft κs.1.1.1.1.0 qs.1.1.1.1.0) ⊛ ‵ (flft κs.1.1.1.1.1.0 qs.1.1.1.1.1.0) ⊛ ‵ ftrue) ⊛ ‵ (Given.own_val e (w ∷ []))) ⊛
     some (λ (ws : Lasts (entry-ended K V S H B) u.0.0 u.0.3). ‵ (lasts (entry-ended K V S H B) u.0.0 u.0.3 ws) ⊛ (‵ (LendsNext K V S H B r e) ⊛ raw (fact 𝓤 (Named e r.ghost_name))
-    ⊛ raw (fact 𝓤 (Visits e r.now)) ⊛ raw (fact 𝓤 (SamePairs e r.now)) ⊛ raw (fact 𝓤 (SameCapacity e r.now)) ⊛ raw (fact 𝓤 (SameRechained e r.now)) ⊛ raw (fact 𝓤 (SameHasher e r.now)) ⊛ raw (fact 𝓤 (SameMode e r.now)) ⊛ raw (fact 𝓤 (IsValid b₁.eq r.now)) ⊛ raw (fact 𝓤 (NoneLeft e r.now))))))) (id⊢ 𝓤 _) $
+    ⊛ raw (fact 𝓤 (Visits e r.now)) ⊛ raw (fact 𝓤 (Value e r.now b₁.eq)) ⊛ raw (fact 𝓤 (SamePairs e r.now)) ⊛ raw (fact 𝓤 (SameCapacity e r.now)) ⊛ raw (fact 𝓤 (SameRechained e r.now)) ⊛ raw (fact 𝓤 (SameHasher e r.now)) ⊛ raw (fact 𝓤 (SameMode e r.now)) ⊛ raw (fact 𝓤 (IsValid b₁.eq r.now)) ⊛ raw (fact 𝓤 (NoneLeft e r.now))))))) (id⊢ 𝓤 _) $
     await ! tt $ pick ! (λ e. split ! $ split ! $ split ! $ move ! (3 ∷ []) $ pick ! (λ ws'. split ! $ drop ! $ split ! $ move ! (1 ∷ []) $
-    split ! $ heard ! _ (λ name. split ! $ heard ! _ (λ visits. split ! $ heard ! _ (λ pairs. split ! $ heard ! _ (λ capacity. split ! $ heard ! _ (λ rechained. split ! $ heard ! _ (λ hasher. split ! $ heard ! _ (λ mode. split ! $ heard ! _ (λ valid. heard ! _ (λ none.
+    split ! $ heard ! _ (λ name. split ! $ heard ! _ (λ visits. split ! $ heard ! _ (λ value. split ! $ heard ! _ (λ pairs. split ! $ heard ! _ (λ capacity. split ! $ heard ! _ (λ rechained. split ! $ heard ! _ (λ hasher. split ! $ heard ! _ (λ mode. split ! $ heard ! _ (λ valid. heard ! _ (λ none.
     -- [where it rests; the token of κs.0; the tokens of the parameters; the result; the token of κs.1; what follows]
     move ! (3 ∷ []) $ peeks ! Given (Is Given) (shows 𝓛 Given) e (w ∷ []) (λ it.
     let laws = entry-laws.the_row_laws (record { mir = named 0; lft = κs.0 }) (param 0 K) (param 1 V) (param 2 S) (param 3 H) b₁ b₂ b₃ b₄ (param_laws 0 K LK) (param_laws 1 V LV) (param_laws 2 S LS) (param_laws 3 H LH) in
@@ -212,9 +216,10 @@ next_spec 𝓤 𝓛 𝓜 𝓡 wired K V S H LK LV LS LH b₀ d₀ b₁ d₁ b₂
     -- [what follows; the result; the token of κs.0; the tokens of the parameters; the token of κs.1]
     nothing ! $ nothing ! $ join ! $ move ! (5 ∷ 4 ∷ []) $ join ! $ move ! (4 ∷ 0 ∷ []) $ join ! $ move ! (0 ∷ 1 ∷ 3 ∷ []) $ group ! 3 $ frame ! $ frame ! $
     use0 𝓛 (raw (fact 𝓤 (Visits e held.map.now))) (fact_i 𝓤 _ (emp 𝓤) (subst (Visits e) as_held visits)) $ frame ! $
+    use0 𝓛 (raw (fact 𝓤 (Value e held.map.now b₁.eq))) (fact_i 𝓤 _ (emp 𝓤) (subst (λ m. Value e m b₁.eq) as_held value)) $ frame ! $
     use0 𝓛 (raw (fact 𝓤 (SamePairs e held.map.now))) (fact_i 𝓤 _ (emp 𝓤) (subst (SamePairs e) as_held pairs)) $ frame ! $
     use0 𝓛 (raw (fact 𝓤 (SameCapacity e held.map.now))) (fact_i 𝓤 _ (emp 𝓤) (subst (SameCapacity e) as_held capacity)) $ frame ! $
     use0 𝓛 (raw (fact 𝓤 (SameRechained e held.map.now))) (fact_i 𝓤 _ (emp 𝓤) (subst (SameRechained e) as_held rechained)) $ frame ! $
     use0 𝓛 (raw (fact 𝓤 (SameHasher e held.map.now))) (fact_i 𝓤 _ (emp 𝓤) (subst (SameHasher e) as_held hasher)) $ frame ! $
     use0 𝓛 (raw (fact 𝓤 (SameMode e held.map.now))) (fact_i 𝓤 _ (emp 𝓤) (subst (SameMode e) as_held mode)) $ frame ! $
-    says ! (subst (NoneLeft e) as_held none) $ by ! (fact_i 𝓤 _ _ (subst (IsValid b₁.eq) as_held valid))))))))))))))))))))))))))
+    says ! (subst (NoneLeft e) as_held none) $ by ! (fact_i 𝓤 _ _ (subst (IsValid b₁.eq) as_held valid)))))))))))))))))))))))))))
