@@ -1,10 +1,11 @@
 -- A map when its room grows or shrinks, when a pair is put at the back, and when it holds nothing.
-use Rattle.std.proofs.Common.{◌≡◌, ℕ, zero, suc, ◌+◌, ◌-◌, ◌<◌, ◌≤◌, Bool, true, false, cond, List, [], ◌∷◌, ◌++◌, map, length, Option, Some, None, ◌≢◌, refl, sym, ap, ◌∙◌, subst, inl, inr, arith, length-append, true≢false}
+use Rattle.std.proofs.Common.{◌≡◌, ℕ, zero, suc, ◌+◌, ◌-◌, ◌<◌, ◌≤◌, Bool, true, false, cond, List, [], ◌∷◌, ◌++◌, map, length, take, drop, Option, Some, None, ◌≢◌, refl, sym, ap, ◌∙◌, subst, inl, inr, arith, length-append, true≢false}
 use Rattle.std.specs.Prelude.{is_some, Result, Ok, Err, OnOk, OnErr}
 use Rattle.std.specs.List.{list_any, IsDistinct}
 use Rattle.std.specs.Cmp.{IsEquivalence}
+use Rattle.std.specs.Map.{keys_of}
 use Rattle.std.proofs.lemmas.Bool.{eq-eqb}
-use Rattle.std.proofs.lemmas.List.{map-append}
+use Rattle.std.proofs.lemmas.List.{map-append, length-map}
 use Rattle.std.proofs.lemmas.Map.Keys.{IsDistinct-push}
 use denote.RawPtr.{Ptr}
 use Rattle.lhm_ring.specs.Cells.{same_ptr}
@@ -22,6 +23,7 @@ use Rattle.linked_hash_map.specs.Pairs.{find}
 use Rattle.linked_hash_map.specs.declared.map.TheConstants.{LIMIT}
 use Rattle.linked_hash_map.proofs.Kept.{bare-entries, length-bare, length-same, keys-bare, pairs_of-entries, pairs_of-append}
 use Rattle.linked_hash_map.proofs.Pairs.{list_any-none}
+use Rattle.linked_hash_map.proofs.Outside.{stretch-front}
 
 -- as many buckets do for a higher capacity that is not above their number
 buckets-stay : (c d : ℕ) → c < d → d ≤ buckets c → buckets c ≡ buckets d
@@ -159,6 +161,17 @@ module _ {K V : Type 0} {eq : K → K → Bool} {hash : K → ℕ} where
 
       pub bookmark_at-push : bookmark_at mark (bare t.held) ≡ bookmark_at mark (bare s.held)
       bookmark_at-push = ap (bookmark_at mark) bare_is ∙ bookmark_at-append kept.nodes (held p number None key ∷ [])
+
+      -- what is still to be visited ends before it
+      pub to_visit-push : take n (drop (bookmark_at mark (bare t.held)) (keys_of (pairs_of t.held))) ≡ take n (drop (bookmark_at mark (bare s.held)) (keys_of (pairs_of s.held)))
+      to_visit-push =
+          let keys = λ (us : List (Held K)). map (λ u. u.pair) us in
+          let long = length-map (bare s.held) (λ u. u.pair) in
+          ap (λ ks. take n (drop (bookmark_at mark (bare t.held)) ks)) (sym (keys-bare t.held))
+          ∙ (λ i. take n (drop (bookmark_at-push i) (keys (bare_is i))))
+          ∙ ap (λ ks. take n (drop (bookmark_at mark (bare s.held)) ks)) (map-append (λ (u : Held K). u.pair) (bare s.held) (held p number None key ∷ []))
+          ∙ stretch-front (keys (bare s.held)) (key ∷ []) (bookmark_at mark (bare s.held)) n (omega (arith, long, kept.nodes.in_reach))
+          ∙ ap (λ ks. take n (drop (bookmark_at mark (bare s.held)) ks)) (keys-bare s.held)
 
       pub current_at-push : current_at current (bare t.held) ≡ current_at current (bare s.held)
       current_at-push = ap (current_at current) bare_is ∙ current_at-append current (bare s.held) (held p number None key ∷ []) kept.nodes.current_lies

@@ -9,6 +9,7 @@ ghost use Rattle.std.specs.Map.Iter.{deref, deref_pair, ShowsInOrder, ShowsInRev
 ghost use Rattle.std.specs.Borrow.{sem};
 ghost use Rattle.std.specs.Option.{option_copied_mut};
 ghost use Rattle.linked_hash_map.specs.Pairs.{find, value_at, without, put, first, last, without_first, without_last, KeysStand};
+ghost use Rattle.linked_hash_map.specs.Cursor.{to_visit};
 ghost use Rattle.linked_hash_map.specs.Validity.{IsValid};
 ghost use Rattle.linked_hash_map.specs.Hashers.{IsDefaultHashBuilder};
 ghost use Rattle.linked_hash_map.specs.Hashers.{hash_by};
@@ -322,6 +323,7 @@ impl<K: Eq + Hash, V, S: BuildHasher> LinkedHashMap<K, V, S> {
             (self.new.capacity ≡ max self.old.capacity (length self.old.pairs + additional)) }
         ensures rechained { OnOk result (self.new.rechained
             ≡ rechained_raised self.old.rechained (length self.old.pairs) self.old.capacity self.new.capacity) }
+        ensures to_visit { to_visit self.new ≡ to_visit self.old }
         ensures valid { IsValid K.eq self.old }
         ensures stays_valid { IsValid K.eq self.new }
 
@@ -369,6 +371,7 @@ impl<K: Eq + Hash, V, S: BuildHasher> LinkedHashMap<K, V, S> {
         ensures capacity { OnOk result (self.new.capacity ≡ length self.old.pairs) }
         ensures rechained { OnOk result (self.new.rechained
             ≡ rechained_fitted self.old.rechained (length self.old.pairs) self.old.capacity) }
+        ensures to_visit { to_visit self.new ≡ to_visit self.old }
         ensures valid { IsValid K.eq self.old }
         ensures stays_valid { IsValid K.eq self.new }
 
@@ -414,6 +417,8 @@ impl<K: Eq + Hash, V, S: BuildHasher> LinkedHashMap<K, V, S> {
             ≡ rechained_raised self.old.rechained (length self.old.pairs) self.old.capacity self.new.capacity) }
         ensures hasher { OnOk result (self.new.hasher ≡ self.old.hasher) }
         ensures mode { OnOk result (self.new.mode ≡ self.old.mode) }
+        ensures ends_visit { IfOk result (λ old. OnSome old (to_visit self.new ≡ [])) }
+        ensures to_visit { IfOk result (λ old. IfNone old (to_visit self.new ≡ to_visit self.old)) }
         ensures valid { IsValid K.eq self.old }
         ensures stays_valid { IsValid K.eq self.new }
 
@@ -602,6 +607,8 @@ impl<K: Eq + Hash, V, S: BuildHasher> LinkedHashMap<K, V, S> {
         ensures rechained { self.new.rechained ≡ self.old.rechained }
         ensures hasher { self.new.hasher ≡ self.old.hasher }
         ensures mode { self.new.mode ≡ self.old.mode }
+        ensures ends_visit { OnSome result (to_visit self.new ≡ []) }
+        ensures to_visit { IfNone result (to_visit self.new ≡ to_visit self.old) }
         ensures valid { IsValid K.eq self.old }
         ensures stays_valid { IsValid K.eq self.new }
     {
@@ -680,6 +687,7 @@ impl<K: Eq + Hash, V, S: BuildHasher> LinkedHashMap<K, V, S> {
         ensures rechained { self.new.rechained ≡ self.old.rechained }
         ensures hasher { self.new.hasher ≡ self.old.hasher }
         ensures mode { self.new.mode ≡ self.old.mode }
+        ensures ends_visit { to_visit self.new ≡ [] }
         ensures valid { IsValid K.eq self.old }
         ensures stays_valid { IsValid K.eq self.new }
     {
@@ -730,6 +738,7 @@ impl<K: Eq + Hash, V, S: BuildHasher> LinkedHashMap<K, V, S> {
         ensures rechained { self.new.rechained ≡ self.old.rechained }
         ensures hasher { self.new.hasher ≡ self.old.hasher }
         ensures mode { self.new.mode ≡ self.old.mode }
+        ensures ends_visit { to_visit self.new ≡ [] }
         ensures valid { IsValid K.eq self.old }
         ensures stays_valid { IsValid K.eq self.new }
     {
@@ -840,6 +849,29 @@ impl<K: Eq + Hash, V, S: BuildHasher> LinkedHashMap<K, V, S> {
         self.mode
     }
 
+    /// Returns how many pairs a visit has still to come to, and 0 where no visit is under way.
+    ///
+    /// It takes no memory and leaves the order. The original's iterator over its entries has a size
+    /// hint.
+    ///
+    /// # Examples
+    ///
+    /// ```rust
+    /// let mut map = LinkedHashMap::new(rt.alloc());
+    /// map.insert('x', 1)?;
+    /// map.insert('y', 2)?;
+    /// let entries = map.visit();
+    /// if let Some(mut entry) = entries.next_entry() {
+    ///     assert_eq!(rt; entry.insert(3), 1);
+    /// }
+    /// assert_eq!(rt; entries.unvisited(), 1);
+    /// ```
+    pub fn unvisited(&self) -> usize
+        ensures { result ≡ length (to_visit self.now) }
+    {
+        self.visit.unvisited()
+    }
+
     /// Lends the build hasher. It takes no memory.
     ///
     /// # Examples
@@ -879,6 +911,7 @@ impl<K: Eq + Hash, V, S: BuildHasher> LinkedHashMap<K, V, S> {
         ensures rechained { self.new.rechained ≡ self.old.rechained }
         ensures hasher { self.new.hasher ≡ self.old.hasher }
         ensures mode { self.new.mode ≡ self.old.mode }
+        ensures ends_visit { to_visit self.new ≡ [] }
         ensures valid { IsValid K.eq self.old }
         ensures stays_valid { IsValid K.eq self.new }
     {

@@ -74,8 +74,72 @@ impl<K: Eq + Hash, V, S: BuildHasher> LinkedHashMap<K, V, S> {
         Entries { map: self }
     }
 
-    /// Lends the entry of the next unvisited pair and goes on behind it, or returns `None` where none is left.
-    pub(crate) fn next_entry(&mut self) -> Option<OccupiedEntry<'_, K, V, S>>
+    /// Begins a visit of every pair, from the oldest place to the newest, and lends the map on for it.
+    ///
+    /// [`next_entry`](LinkedHashMap::next_entry) then lends the entry of one pair after another, and
+    /// [`unvisited`](LinkedHashMap::unvisited) counts those still to come. A caller knows the map
+    /// after each step, and so the list of pairs in the end. A loop of `while let` is known to end.
+    ///
+    /// A visit that is under way is ended by a further one, by [`entries`](LinkedHashMap::entries), and
+    /// by each call of the map that takes out or moves a pair or may do so: `insert`, `extend` or
+    /// `entry` of a present key, `remove` of one, `get_refresh` of one, the pops, `clear` and `drain`.
+    /// Then no pair is left to visit. All other calls leave it as it is; a new key that goes in
+    /// meanwhile is not visited.
+    ///
+    /// It takes no memory, leaves the order, and costs a constant number of steps. The original has
+    /// no such call.
+    ///
+    /// # Examples
+    ///
+    /// ```rust
+    /// let mut map = LinkedHashMap::new(rt.alloc());
+    /// map.insert('x', 1)?;
+    /// map.insert('y', 0)?;
+    /// let entries = map.visit();
+    /// while let Some(entry) = entries.next_entry() {
+    ///     if *entry.get() == 0 {
+    ///         entry.remove();
+    ///     }
+    /// }
+    /// assert_eq!(rt; (map.len(), map.get(&'x')), (1, Some(&1)));
+    /// ```
+    pub fn visit(&mut self) -> &mut Self
+        ensures same_map { result.ghost_name ≡ self.entry.ghost_name }
+        ensures to_visit { to_visit result.now ≡ keys_of self.old.pairs }
+        ensures pairs { result.now.pairs ≡ self.old.pairs }
+        ensures capacity { result.now.capacity ≡ self.old.capacity }
+        ensures rechained { result.now.rechained ≡ self.old.rechained }
+        ensures hasher { result.now.hasher ≡ self.old.hasher }
+        ensures mode { result.now.mode ≡ self.old.mode }
+        ensures valid { IsValid K.eq self.old }
+    {
+        self.begin_visit();
+        self
+    }
+
+    /// Lends the entry of the next pair to visit, or returns `None` where none is left.
+    ///
+    /// The visit goes on behind that pair, whatever is done with the entry: one that is taken out,
+    /// or that its entry moved to the back or left in its place, is not visited again. Where no
+    /// visit was begun by [`visit`](LinkedHashMap::visit), and where a call has ended it, none is left.
+    ///
+    /// It takes no memory, leaves the order, and costs a constant number of steps. The original has
+    /// no such call.
+    ///
+    /// # Examples
+    ///
+    /// ```rust
+    /// let mut map = LinkedHashMap::new(rt.alloc());
+    /// map.insert('x', 1)?;
+    /// map.insert('y', 2)?;
+    /// let entries = map.visit();
+    /// if let Some(mut entry) = entries.next_entry() {
+    ///     assert_eq!(rt; entry.insert(3), 1);
+    /// }
+    /// assert_eq!(rt; entries.remove(&'x'), Some(3));
+    /// assert!(rt; entries.next_entry().is_none());
+    /// ```
+    pub fn next_entry(&mut self) -> Option<OccupiedEntry<'_, K, V, S>>
         ensures* lends { sem 𝓛 (lends_next_entry K.row V.row S.row S.Hasher.row K.Hash S.BuildHasher S.Hasher.Hasher self.entry result) }
         ensures same_map { IfSome result (λ entry. (occupied_map_ref entry).ghost_name ≡ self.entry.ghost_name) }
         ensures visits { IfSome result (λ entry. to_visit self.old ≡ occupied_key entry ∷ to_visit (occupied_map entry)) }

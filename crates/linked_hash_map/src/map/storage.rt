@@ -3,7 +3,7 @@
 //!
 //! They speak of indexes into the list of pairs, which no public call does. The index of a pair that a key is looked up for
 //! is kept by the map as its current one, so that what is done with the pair then needs no second look-up.
-ghost use Rattle.std.specs.Prelude.{◌≡◌, ◌+◌, ◌-◌, ◌<◌, ◌≤◌, ◌++◌, ◌∷◌, [], length, map, max, remove, slice_get, option_map, None, Some, IsTrue, IsFalse, IfOk, IfErr, OnOk, OnErr, IsOk};
+ghost use Rattle.std.specs.Prelude.{◌≡◌, ◌+◌, ◌-◌, ◌<◌, ◌≤◌, ◌++◌, ◌∷◌, [], length, map, max, remove, slice_get, option_map, None, Some, IsTrue, IsFalse, IfOk, IfErr, OnOk, OnErr, OnSome, IfNone, IsOk};
 ghost use Rattle.std.specs.Map.{keys_of};
 ghost use Rattle.std.specs.Borrow.{sem};
 ghost use Rattle.linked_hash_map.specs.Pairs.{find, value_at, put, without};
@@ -210,6 +210,7 @@ impl<K: Eq + Hash, V, S: BuildHasher> LinkedHashMap<K, V, S> {
         ensures old { IfOk result (λ old. Some old ≡ value_at K.eq self.old.pairs key.now) }
         ensures pairs { OnOk result (self.new.pairs ≡ put K.eq self.old.mode self.old.pairs key.now value) }
         ensures len { OnOk result (length self.new.pairs ≡ length self.old.pairs) }
+        ensures ends_visit { OnOk result (to_visit self.new ≡ []) }
         ensures capacity { self.new.capacity ≡ self.old.capacity }
         ensures rechained { self.new.rechained ≡ self.old.rechained }
         ensures hasher { self.new.hasher ≡ self.old.hasher }
@@ -262,6 +263,8 @@ impl<K: Eq + Hash, V, S: BuildHasher> LinkedHashMap<K, V, S> {
         requires { number ≡ hash_by S.Hasher.finish S.Hasher.write S.build_hasher K.hash_input self.old.hasher key.now }
         ensures value { option_map (λ pair. pair.1) result ≡ value_at K.eq self.old.pairs key.now }
         ensures pairs { self.new.pairs ≡ without K.eq self.old.pairs key.now }
+        ensures ends_visit { OnSome result (to_visit self.new ≡ []) }
+        ensures to_visit { IfNone result (to_visit self.new ≡ to_visit self.old) }
         ensures capacity { self.new.capacity ≡ self.old.capacity }
         ensures rechained { self.new.rechained ≡ self.old.rechained }
         ensures hasher { self.new.hasher ≡ self.old.hasher }
@@ -322,13 +325,6 @@ impl<K: Eq + Hash, V, S: BuildHasher> LinkedHashMap<K, V, S> {
         true
     }
 
-    /// Returns how many pairs are unvisited.
-    pub(crate) fn unvisited(&self) -> usize
-        ensures { result ≡ length (to_visit self.now) }
-    {
-        self.visit.unvisited()
-    }
-
     /// Ends the visit of a cursor: no pair is unvisited, and none is the current one.
     pub(crate) fn end_visit(&mut self)
         ensures ends { self.new ≡ without_cursor self.old }
@@ -351,6 +347,7 @@ impl<K: Eq + Hash, V, S: BuildHasher> LinkedHashMap<K, V, S> {
         ensures bookmark { self.new.bookmark ≡ self.old.bookmark }
         ensures unvisited { self.new.unvisited ≡ self.old.unvisited }
         ensures current { self.new.current ≡ self.old.current }
+        ensures to_visit { to_visit self.new ≡ to_visit self.old }
         ensures stays_valid { IsValid K.eq self.new }
     {
         let at = self.ring.put_back(number, key, value);
@@ -420,6 +417,7 @@ impl<K: Eq + Hash, V, S: BuildHasher> LinkedHashMap<K, V, S> {
         ensures pairs { self.new.pairs ≡ self.old.pairs }
         ensures hasher { self.new.hasher ≡ self.old.hasher }
         ensures mode { self.new.mode ≡ self.old.mode }
+        ensures to_visit { to_visit self.new ≡ to_visit self.old }
         ensures lowered { IsTrue result → self.new.capacity ≡ length self.old.pairs }
         ensures rechained { IsTrue result → self.new.rechained ≡ rechained_lowered (length self.old.pairs) self.old.capacity }
         ensures refused { IsFalse result → self.new ≡ self.old }
@@ -443,6 +441,7 @@ impl<K: Eq + Hash, V, S: BuildHasher> LinkedHashMap<K, V, S> {
     pub(crate) fn free(&mut self)
         requires { self.old.pairs ≡ [] }
         ensures pairs { self.new.pairs ≡ [] }
+        ensures to_visit { to_visit self.new ≡ to_visit self.old }
         ensures capacity { self.new.capacity ≡ 0 }
         ensures rechained { self.new.rechained ≡ rechained_fitted self.old.rechained 0 self.old.capacity }
         ensures hasher { self.new.hasher ≡ self.old.hasher }

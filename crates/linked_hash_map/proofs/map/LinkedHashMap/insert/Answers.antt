@@ -1,4 +1,6 @@
-use Rattle.std.proofs.Common.{◌++◌, ◌∷◌, [], ap, ◌∙◌}
+use Rattle.std.proofs.Common.{◌++◌, ◌∷◌, [], take, drop, ap, ◌∙◌}
+use Rattle.std.specs.Map.{keys_of}
+use Rattle.linked_hash_map.specs.Cursor.{to_visit}
 use Rattle.linked_hash_map.proofs.Pairs.{put-absent}
 use Rattle.linked_hash_map.proofs.map.LinkedHashMap.insert.Goals as goal
 
@@ -8,3 +10,10 @@ returns-clause-pairs g c =
     c.push_back.ensures.pairs
     ∙ (λ i. (c.make_room.ensures.pairs ∙ ap (λ m. m.pairs) sought.unchanged) i ++ (c.args.key, sought.value_back i) ∷ [])
     ∙ put-absent g.K.PartialEq.eq c.args.self.now.mode c.args.self.now.pairs c.args.key c.args.value sought.absent
+
+pub returns-clause-to_visit : goal.returns-clause-to_visit
+returns-clause-to_visit g c =
+    let room = c.make_room.ensures in
+    c.push_back.ensures.to_visit
+    ∙ (λ i. take (room.unvisited i) (drop (room.bookmark i) (keys_of (room.pairs i))))
+    ∙ ap to_visit c.in-Err.ensures.unchanged

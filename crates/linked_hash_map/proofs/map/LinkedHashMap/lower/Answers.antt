@@ -1,11 +1,12 @@
-use Rattle.std.proofs.Common.{◌≡◌, ◌+◌, ◌∙◌, length, ap, sym, arith}
+use Rattle.std.proofs.Common.{◌≡◌, ◌+◌, ◌∙◌, length, take, drop, ap, sym, arith}
+use Rattle.std.specs.Map.{keys_of}
 use Rattle.lhm_ring.specs.Buckets.{buckets}
 use Rattle.lhm_ring.specs.Search.{entries}
 use Rattle.lhm_ring.proofs.BucketCounts.{capacity_le}
 use Rattle.linked_hash_map.specs.LinkedMap.{LinkedMap}
-use Rattle.linked_hash_map.specs.Nodes.{pairs_of}
+use Rattle.linked_hash_map.specs.Nodes.{bookmark_at, mark_of, pairs_of, unvisited_of}
 use Rattle.linked_hash_map.proofs.Growth.{IsKept-rechained}
-use Rattle.linked_hash_map.proofs.Kept.{length-bare, length-pairs_of, pairs_of-entries}
+use Rattle.linked_hash_map.proofs.Kept.{bare-entries, length-bare, length-pairs_of, pairs_of-entries}
 use Rattle.linked_hash_map.proofs.map.LinkedHashMap.lower.Goals as goal
 
 pub invariant_of-self-2 : goal.invariant_of-self-2
@@ -26,3 +27,9 @@ pub returns-clause-pairs : goal.returns-clause-pairs
 returns-clause-pairs g c =
     let m = c.self.inside in
     rw (← c.self.view_is) (pairs_of-entries c.take_over-self-inside.new.ring.held m.ring.held (c.take_over-self-inside.ensures.held ∙ ap entries c.free_spares-2.ensures.held))
+
+pub returns-clause-to_visit : goal.returns-clause-to_visit
+returns-clause-to_visit g c =
+    let m = c.self.inside in
+    let same = c.take_over-self-inside.ensures.held ∙ ap entries c.free_spares-2.ensures.held in
+    rw (← c.self.view_is) (λ i. take (unvisited_of m.visit) (drop (bookmark_at (mark_of m.visit) (bare-entries c.take_over-self-inside.new.ring.held m.ring.held same i)) (keys_of (pairs_of-entries c.take_over-self-inside.new.ring.held m.ring.held same i))))

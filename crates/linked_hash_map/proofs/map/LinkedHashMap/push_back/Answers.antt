@@ -6,7 +6,7 @@ use Rattle.linked_hash_map.specs.LinkedMap.{LinkedMap}
 use Rattle.linked_hash_map.specs.Nodes.{pairs_of}
 use Rattle.linked_hash_map.specs.Hashers.{hash_by}
 use Rattle.linked_hash_map.specs.Pairs.{find}
-use Rattle.linked_hash_map.proofs.Growth.{IsKept-push, pairs_of-push, bookmark_at-push, current_at-push}
+use Rattle.linked_hash_map.proofs.Growth.{IsKept-push, pairs_of-push, bookmark_at-push, current_at-push, to_visit-push}
 use Rattle.linked_hash_map.proofs.Kept.{IsValid-view, length-pairs_of}
 use Rattle.linked_hash_map.proofs.map.LinkedHashMap.push_back.Goals as goal
 
@@ -36,6 +36,9 @@ returns-clause-bookmark g c = rw (← c.self.view_is) (bookmark_at-push c.self.i
 
 pub returns-clause-current : goal.returns-clause-current
 returns-clause-current g c = rw (← c.self.view_is) (current_at-push c.self.invariant (pointer_of c.put_back-at.result) c.args.number c.args.key c.args.value c.put_in.new.ring (c.put_in.ensures.held ∙ ap entries c.put_back-at.ensures.last))
+
+pub returns-clause-to_visit : goal.returns-clause-to_visit
+returns-clause-to_visit g c = rw (← c.self.view_is) (to_visit-push c.self.invariant (pointer_of c.put_back-at.result) c.args.number c.args.key c.args.value c.put_in.new.ring (c.put_in.ensures.held ∙ ap entries c.put_back-at.ensures.last))
 
 pub returns-clause-stays_valid : goal.returns-clause-stays_valid
 returns-clause-stays_valid g c = IsValid-view (invariant_of-self g c) refl refl

@@ -1,9 +1,10 @@
-use Rattle.std.proofs.Common.{◌≡◌, None, option_map, refl, sym, ap, ◌∙◌, subst, fold, arith}
+use Rattle.std.proofs.Common.{◌≡◌, take, drop, None, option_map, refl, sym, ap, ◌∙◌, subst, fold, arith}
 use Rattle.lhm_ring.specs.Positions.{pointer_of}
 use Rattle.lhm_ring.specs.RingState.{State}
 use Rattle.lhm_ring.proofs.IndexChanges.{HasKey-kept}
 use Rattle.linked_hash_map.specs.LinkedMap.{LinkedMap}
-use Rattle.linked_hash_map.specs.Nodes.{pairs_of, map_of, mark_of, unvisited_of, current_of}
+use Rattle.std.specs.Map.{keys_of}
+use Rattle.linked_hash_map.specs.Nodes.{pairs_of, bare, bookmark_at, map_of, mark_of, unvisited_of, current_of}
 use Rattle.linked_hash_map.specs.Pairs.{find}
 use Rattle.linked_hash_map.specs.Validity.{IsValid}
 use Rattle.linked_hash_map.specs.Hashers.{hash_by}
@@ -33,6 +34,11 @@ returns-in_err-at-clause-pairs g c =
     ap (λ s. pairs_of s.held) c.in_err-at.ensures.ring_unchanged
     ∙ sym (filter-none (g.K.PartialEq.eq c.args.key.now) (pairs_of m.ring.held) (absent g c))
     )
+
+pub returns-in_err-at-clause-to_visit : goal.returns-in_err-at-clause-to_visit
+returns-in_err-at-clause-to_visit g c =
+    let m = c.self.inside in
+    rw (c.from_residual.ensures, ← c.self.view_is) (ap (λ (s : State _). take (unvisited_of m.visit) (drop (bookmark_at (mark_of m.visit) (bare s.held)) (keys_of (pairs_of s.held)))) c.in_err-at.ensures.ring_unchanged)
 
 pub returns-in_err-at-clause-valid : goal.returns-in_err-at-clause-valid
 returns-in_err-at-clause-valid g c = rw (← c.self.view_is) (IsValid-view c.self.invariant refl refl)
