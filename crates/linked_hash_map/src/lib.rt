@@ -53,7 +53,6 @@ mod iter;
 mod map;
 pub mod replay;
 pub mod sessions;
-mod visits;
 
 pub use drain::Drain;
 pub use entry::{Entries, Entry, OccupiedEntry, VacantEntry};

@@ -1,5 +1,5 @@
 -- How often words come.
-use Rattle.std.specs.Prelude.{◌≡◌, ℕ, ◌-◌, ◌^◌, min, Bool, List, Option}
+use Rattle.std.specs.Prelude.{◌≡◌, ℕ, ◌-◌, ◌^◌, ◌==◌, min, not, Bool, List, Option}
 use Rattle.std.specs.Iterator.{Drains}
 use Rattle.std.specs.List.{count_by}
 use Rattle.std.specs.Option.{unwrap_or}
@@ -8,6 +8,10 @@ use Rattle.linked_hash_map.specs.Pairs.{value_at}
 -- the count of a word, which is 0 where it has none
 abbrev pub count_of : {K : Type 0} → (K → K → Bool) → List (K × ℕ) → K → ℕ
 count_of eq counts word = unwrap_or (value_at eq counts word) 0
+
+-- the count of a pair is not zero
+abbrev pub has_count : {K : Type 0} → K × ℕ → Bool
+has_count pair = not (pair.1 == 0)
 
 -- each word has the number of its places among the words as its count, as far as a u64 counts
 abbrev pub HasCounts : {K : Type 0} → (K → K → Bool) → List K → List (K × ℕ) → Type 0

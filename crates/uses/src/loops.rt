@@ -1,11 +1,13 @@
 //! Loops over a map, of every kind.
-ghost use Rattle.std.specs.Prelude.{◌≡◌, ◌^◌, ◌<◌, ◌≤◌, [], ◌∷◌, sum, length, IfOk};
+ghost use Rattle.std.specs.Prelude.{◌≡◌, ◌^◌, ◌<◌, ◌≤◌, ◌+◌, [], ◌∷◌, sum, length, filter, IfOk};
 ghost use Rattle.std.specs.Map.{keys_of, values_of};
 ghost use Rattle.linked_hash_map.specs.Pairs.{first};
+ghost use Rattle.uses.specs.Counting.{has_count};
 
-use linked_hash_map::LinkedHashMap;
+use linked_hash_map::{LinkedHashMap, Mode};
 use std::alloc::{AllocError, Global};
 use std::hash::{BuildHasher, Hash};
+use std::mem;
 
 /// Returns the sum of the values: a loop over `&map`.
 pub fn sum_of<K: Eq + Hash, S: BuildHasher>(prices: &LinkedHashMap<K, u64, S>) -> u64
@@ -82,19 +84,17 @@ pub fn take_all<K: Eq + Hash + Drop, V: Drop, S: BuildHasher>(
     Ok(list)
 }
 
-/// Takes out each pair whose count is zero, and returns how many there were: a cursor's loop. It ends after one step for each pair
-/// that the map had, whatever is done with the entries.
+/// Takes out each pair whose count is zero, and returns how many there were: a loop over a visit.
+/// The others keep their order.
 pub fn take_out_zeros<K: Eq + Hash + Drop, S: BuildHasher>(
     counts: &mut LinkedHashMap<K, u64, S>,
 ) -> usize
-    ensures within { result ≤ length counts.old.pairs }
+    ensures pairs { counts.new.pairs ≡ filter has_count counts.old.pairs }
+    ensures taken { result + length counts.new.pairs ≡ length counts.old.pairs }
 {
-    let mut entries = counts.entries();
     let mut taken = 0;
-    for _ in 0..entries.remaining() {
-        let Some(entry) = entries.next() else {
-            break;
-        };
+    let entries = counts.visit();
+    while let Some(entry) = entries.next_entry() {
         if *entry.get() == 0 {
             entry.remove();
             taken += 1;
@@ -126,4 +126,106 @@ pub fn first_of_cursor(map: &mut LinkedHashMap<u64, u64>) -> u64
         Some(first) => first.remove(),
         None => 0,
     }
+}
+
+/// Visits three pairs, takes out the first, puts 0 in the place of the third's value, and returns the
+/// values that these two had.
+pub fn first_and_third(map: &mut LinkedHashMap<u64, u64>) -> (u64, u64)
+    requires pairs { map.old.pairs ≡ (1, 10) ∷ (2, 20) ∷ (3, 30) ∷ [] }
+    ensures values { result ≡ (10, 30) }
+    ensures pairs { map.new.pairs ≡ (2, 20) ∷ (3, 0) ∷ [] }
+{
+    let entries = map.visit();
+    let Some(first) = entries.next_entry() else {
+        return (0, 0);
+    };
+    let removed = first.remove();
+    let Some(_second) = entries.next_entry() else {
+        return (0, 0);
+    };
+    let Some(mut third) = entries.next_entry() else {
+        return (0, 0);
+    };
+    let replaced = mem::replace(third.get_mut(), 0);
+    let _ = entries.unvisited();
+    (removed, replaced)
+}
+
+/// Visits four pairs: inserts a value at the first and at the last, takes out the second, and writes
+/// the value of the third in its place. Returns how many are left to visit. No pair that an insertion
+/// moved to the back is visited again.
+pub fn insert_on_the_way(map: &mut LinkedHashMap<u64, u64>) -> usize
+    requires pairs { map.old.pairs ≡ (1, 1) ∷ (2, 2) ∷ (3, 3) ∷ (4, 4) ∷ [] }
+    ensures touch { map.old.mode ≡ Mode.Touch → map.new.pairs ≡ (3, 30) ∷ (1, 10) ∷ (4, 40) ∷ [] }
+    ensures keep { map.old.mode ≡ Mode.Keep → map.new.pairs ≡ (1, 10) ∷ (3, 30) ∷ (4, 40) ∷ [] }
+    ensures left { result ≡ 0 }
+{
+    let entries = map.visit();
+    let Some(mut first) = entries.next_entry() else {
+        return 0;
+    };
+    first.insert(10);
+    let Some(second) = entries.next_entry() else {
+        return 0;
+    };
+    second.remove();
+    let Some(mut third) = entries.next_entry() else {
+        return 0;
+    };
+    *third.get_mut() = 30;
+    let Some(mut fourth) = entries.next_entry() else {
+        return 0;
+    };
+    fourth.insert(40);
+    entries.unvisited()
+}
+
+/// Visits two of four pairs, inserts a value at the first and takes out the second, and returns how
+/// many are left to visit.
+pub fn leave_off_early(map: &mut LinkedHashMap<u64, u64>) -> usize
+    requires pairs { map.old.pairs ≡ (1, 1) ∷ (2, 2) ∷ (3, 3) ∷ (4, 4) ∷ [] }
+    requires mode { map.old.mode ≡ Mode.Touch }
+    ensures pairs { map.new.pairs ≡ (3, 3) ∷ (4, 4) ∷ (1, 10) ∷ [] }
+    ensures left { result ≡ 2 }
+{
+    let entries = map.visit();
+    let Some(mut first) = entries.next_entry() else {
+        return 0;
+    };
+    first.insert(10);
+    let Some(second) = entries.next_entry() else {
+        return 0;
+    };
+    second.remove();
+    entries.unvisited()
+}
+
+/// Visits every pair, and takes it out, inserts a value, writes one in its place or leaves the pair, as
+/// its value says. Returns the keys visited: each once, in the order at the start.
+pub fn visit_by_value(
+    alloc: Global,
+    map: &mut LinkedHashMap<u64, u64>,
+) -> Result<Vec<u64>, AllocError>
+    ensures { IfOk result (λ visited. visited.items ≡ keys_of map.old.pairs) }
+{
+    let mut visited = Vec::new(alloc);
+    let entries = map.visit();
+    while let Some(mut entry) = entries.next_entry() {
+        visited.push(*entry.key())?;
+        match *entry.get() {
+            0 => {
+                entry.remove();
+            }
+            1 => {
+                entry.insert(0);
+            }
+            2 => {
+                *entry.get_mut() = 0;
+                // A last look, by which the proof knows what the write left.
+                let _ = entry.get();
+            }
+            _ => {}
+        }
+    }
+    Ok(visited)
 }

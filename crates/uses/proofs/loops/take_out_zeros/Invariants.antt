@@ -1,6 +1,15 @@
-use Rattle.std.proofs.Common.{◌≡◌, ◌≤◌, length}
+use Rattle.std.proofs.Common.{◌≡◌, ◌+◌, length}
+use Rattle.linked_hash_map.specs.Cursor.{to_visit}
+use Rattle.linked_hash_map.specs.Visits.{VisitKeeps}
+use Rattle.uses.specs.Counting.{has_count}
 use Rattle.uses.proofs.loops.take_out_zeros.Given as goal
 
--- no more were taken out than entries were lent
-abbrev pub invariant-loop : goal.invariant-loop
-invariant-loop g l = (l.taken ≤ l.counter) × (l.end ≡ length l.fn.counts.pairs)
+-- those with a count are kept, and the others counted
+abbrev pub invariant-loop-entry : goal.invariant-loop-entry
+invariant-loop-entry g l = record {
+  keeps : VisitKeeps has_count l.fn.counts.pairs l.entries.pairs (to_visit l.entries);
+  taken : l.taken + length l.entries.pairs ≡ length l.fn.counts.pairs;
+}
+
+abbrev pub decreases-loop-entry : goal.decreases-loop-entry
+decreases-loop-entry g l = length (to_visit l.entries)

@@ -1,11 +1,11 @@
 use Rattle.std.proofs.Common.{◌≡◌, ◌++◌, length}
 use Rattle.std.specs.Map.{keys_of}
 use Rattle.linked_hash_map.specs.Cursor.{to_visit}
-use Rattle.linked_hash_map.proofs.visits.visit_all.Given as goal
+use Rattle.uses.proofs.loops.visit_by_value.Given as goal
 
 -- the keys visited and those still to visit are the keys at the start
 abbrev pub invariant-loop-entry : goal.invariant-loop-entry
-invariant-loop-entry l = l.visited.items ++ to_visit l.map ≡ keys_of l.fn.map.pairs
+invariant-loop-entry l = l.visited.items ++ to_visit l.entries ≡ keys_of l.fn.map.pairs
 
 abbrev pub decreases-loop-entry : goal.decreases-loop-entry
-decreases-loop-entry l = length (to_visit l.map)
+decreases-loop-entry l = length (to_visit l.entries)

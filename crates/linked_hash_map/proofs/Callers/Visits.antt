@@ -1,0 +1,110 @@
+-- For callers: a visit that keeps some of the pairs and takes the others out, step by step.
+use Rattle.std.proofs.Common.{◌≡◌, ℕ, ◌+◌, Bool, true, false, cond, List, [], ◌∷◌, ◌++◌, length, slice_get, option_map, Some, filter, refl, sym, ap, subst, ◌∙◌, arith, append_assoc, append-nil}
+use Rattle.std.specs.Cmp.{IsEquivalence}
+use Rattle.std.specs.List.{IsDistinct, remove}
+use Rattle.std.specs.Map.{keys_of}
+use Rattle.std.proofs.lemmas.List.Elements.{filter-append}
+use Rattle.linked_hash_map.specs.Pairs.{value_at, without}
+use Rattle.linked_hash_map.specs.Visits.{VisitKeeps}
+use Rattle.linked_hash_map.proofs.Callers.Keys.{IsSome-find, length-without_present}
+use Rattle.linked_hash_map.proofs.EntryFacts.{some_injective}
+use Rattle.linked_hash_map.proofs.Indexes.{find-own, without-own}
+use Rattle.linked_hash_map.proofs.Kept.{remove-cut}
+use Rattle.linked_hash_map.proofs.Lists.{slice_get-seam}
+
+-- the first pair to come has the key that is next, and the others are to come behind it
+record Next {K V : Type 0} (k : K) (left : List K) (rest : List (K × V)) : Type 0 where
+  pair : K × V
+  others : List (K × V)
+  is : rest ≡ pair ∷ others
+  key : k ≡ pair.0
+  behind : left ≡ keys_of others
+
+next_of : {K V : Type 0} (k : K) (left : List K) (rest : List (K × V)) → k ∷ left ≡ keys_of rest → Next k left rest
+next_of k left [] h = absurd (let no : k ∷ left ≡ [] = h in cc)
+next_of k left (pair ∷ others) h = record { pair = pair; others = others; is = refl; key = cc; behind = cc }
+
+module _ {K V : Type 0} {eq : K → K → Bool} (laws : IsEquivalence eq) (keeps : K × V → Bool) {start now : List (K × V)} {k : K} {left : List K} {v : V}
+    (w : VisitKeeps keeps start now (k ∷ left)) (distinct : IsDistinct eq (keys_of now)) (has : value_at eq now k ≡ Some v) where
+  n : Next k left w.rest
+  n = next_of k left w.rest w.left_is
+
+  now-seam : now ≡ filter keeps w.passed ++ n.pair ∷ n.others
+  now-seam = w.now_is ∙ ap (λ r. filter keeps w.passed ++ r) n.is
+
+  start-seam : start ≡ (w.passed ++ n.pair ∷ []) ++ n.others
+  start-seam = w.start_is ∙ ap (λ r. w.passed ++ r) n.is ∙ sym (append_assoc w.passed (n.pair ∷ []) n.others)
+
+  there : slice_get now (length (filter keeps w.passed)) ≡ Some n.pair
+  there = ap (λ ps. slice_get ps (length (filter keeps w.passed))) now-seam ∙ slice_get-seam (filter keeps w.passed) n.pair n.others
+
+  value : v ≡ n.pair.1
+  value = some_injective (sym has ∙ ap (value_at eq now) n.key ∙ ap (option_map (λ p. p.1)) (find-own laws now distinct (length (filter keeps w.passed)) n.pair there))
+
+  pair_is : (k, v) ≡ n.pair
+  pair_is = λ i. (n.key i, value i)
+
+  filtered : filter keeps (w.passed ++ n.pair ∷ []) ≡ filter keeps w.passed ++ cond (keeps n.pair) (n.pair ∷ []) []
+  filtered = filter-append keeps w.passed (n.pair ∷ [])
+
+  -- a pair that is kept is passed as it is
+  VisitKeeps-pass : keeps (k, v) ≡ true → VisitKeeps keeps start now left
+  VisitKeeps-pass kept = record {
+    passed = w.passed ++ n.pair ∷ [];
+    rest = n.others;
+    start_is = start-seam;
+    now_is = now-seam ∙ sym (append_assoc (filter keeps w.passed) (n.pair ∷ []) n.others)
+        ∙ ap (λ (ps : List (K × V)). ps ++ n.others) (sym (filtered ∙ ap (λ b. filter keeps w.passed ++ cond b (n.pair ∷ []) []) (ap keeps (sym pair_is) ∙ kept)));
+    left_is = n.behind;
+  }
+
+  -- one that is not kept is taken out
+  VisitKeeps-remove : keeps (k, v) ≡ false → VisitKeeps keeps start (without eq now k) left
+  VisitKeeps-remove gone = record {
+    passed = w.passed ++ n.pair ∷ [];
+    rest = n.others;
+    start_is = start-seam;
+    now_is = ap (without eq now) n.key ∙ without-own laws now distinct (length (filter keeps w.passed)) n.pair there
+        ∙ ap (λ ps. remove ps (length (filter keeps w.passed))) now-seam ∙ remove-cut (filter keeps w.passed) n.pair n.others
+        ∙ ap (λ (ps : List (K × V)). ps ++ n.others) (sym (filtered ∙ ap (λ b. filter keeps w.passed ++ cond b (n.pair ∷ []) []) (ap keeps (sym pair_is) ∙ gone) ∙ append-nil (filter keeps w.passed)));
+    left_is = n.behind;
+  }
+
+-- at the start every pair is still to visit
+pub VisitKeeps-start : {K V : Type 0} (keeps : K × V → Bool) (pairs : List (K × V)) → VisitKeeps keeps pairs pairs (keys_of pairs)
+VisitKeeps-start keeps pairs = record { passed = []; rest = pairs; start_is = refl; now_is = refl; left_is = refl }
+
+-- in the end there are the pairs that are kept, in their order
+none_left : {K V : Type 0} (rest : List (K × V)) → [] ≡ keys_of rest → rest ≡ []
+none_left [] h = refl
+none_left (pair ∷ rest) h = absurd (let no : [] ≡ pair.0 ∷ keys_of rest = h in cc)
+
+pub VisitKeeps-end : {K V : Type 0} {keeps : K × V → Bool} {start now : List (K × V)} → VisitKeeps keeps start now [] → now ≡ filter keeps start
+VisitKeeps-end {keeps = keeps} w =
+    let empty = none_left w.rest w.left_is in
+    w.now_is ∙ ap (λ r. filter keeps w.passed ++ r) empty ∙ append-nil (filter keeps w.passed)
+    ∙ ap (filter keeps) (sym (append-nil w.passed) ∙ ap (λ r. w.passed ++ r) (sym empty) ∙ sym w.start_is)
+
+-- a step of the loop, as the clauses of `next_entry` and of the entry's calls say it
+module _ {K V : Type 0} {eq : K → K → Bool} (laws : IsEquivalence eq) {keeps : K × V → Bool} {start now pairs : List (K × V)} {k : K} {to_come left : List K} {v : V}
+    (w : VisitKeeps keeps start now to_come) (visits : to_come ≡ k ∷ left) (distinct : IsDistinct eq (keys_of now)) (has : value_at eq now k ≡ Some v) (same : pairs ≡ now) where
+  before : VisitKeeps keeps start now (k ∷ left)
+  before = subst (λ ks. VisitKeeps keeps start now ks) visits w
+
+  pub VisitKeeps-passed : {after : List (K × V)} {to_come_after : List K} → keeps (k, v) ≡ true → after ≡ pairs → to_come_after ≡ left → VisitKeeps keeps start after to_come_after
+  VisitKeeps-passed {after} {to_come_after} kept stands stays =
+      let r : VisitKeeps keeps start after left = subst (λ ps. VisitKeeps keeps start ps left) (sym (stands ∙ same)) (VisitKeeps-pass laws keeps before distinct has kept) in
+      subst (λ ks. VisitKeeps keeps start after ks) (sym stays) r
+
+  pub VisitKeeps-removed : {after : List (K × V)} {to_come_after : List K} → keeps (k, v) ≡ false → after ≡ without eq pairs k → to_come_after ≡ left → VisitKeeps keeps start after to_come_after
+  VisitKeeps-removed {after} {to_come_after} gone removed stays =
+      let r : VisitKeeps keeps start (without eq now k) left = VisitKeeps-remove laws keeps before distinct has gone in
+      let s : VisitKeeps keeps start after left = subst (λ ps. VisitKeeps keeps start ps left) (sym (removed ∙ ap (λ ps. without eq ps k) same)) r in
+      subst (λ ks. VisitKeeps keeps start after ks) (sym stays) s
+
+-- and one that was taken out is counted
+pub length-removed : {K V : Type 0} {eq : K → K → Bool} → IsEquivalence eq → {now pairs after : List (K × V)} (k : K) {v : V} (taken : ℕ) {all : ℕ} → taken + length now ≡ all → IsDistinct eq (keys_of now) → value_at eq now k ≡ Some v → pairs ≡ now
+    → after ≡ without eq pairs k → taken + 1 + length after ≡ all
+length-removed {eq = eq} laws {now} {pairs} {after} k {v} taken counted distinct has same removed =
+    let fewer : length after + 1 ≡ length now = ap (λ ps. length ps + 1) (removed ∙ ap (λ ps. without eq ps k) same) ∙ length-without_present laws now k distinct (IsSome-find eq now k v has) in
+    omega (arith, fewer, counted)

@@ -1,0 +1,12 @@
+-- How far a visit that keeps some of the pairs has come.
+use Rattle.std.specs.Prelude.{◌≡◌, Bool, List, ◌++◌, filter}
+use Rattle.std.specs.Map.{keys_of}
+
+-- of the pairs at the start, the first were passed and the rest is still to visit, by its keys; now there are those of the passed
+-- that are kept, and the rest
+pub record VisitKeeps {K V : Type 0} (keeps : K × V → Bool) (start now : List (K × V)) (left : List K) : Type 0 where
+  pub passed : List (K × V)
+  pub rest : List (K × V)
+  pub start_is : start ≡ passed ++ rest
+  pub now_is : now ≡ filter keeps passed ++ rest
+  pub left_is : left ≡ keys_of rest
