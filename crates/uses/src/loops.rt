@@ -116,7 +116,8 @@ pub fn oldest_key<K: Eq + Hash + Copy, V, S: BuildHasher>(
     }
 }
 
-/// Takes out the first of two pairs by a cursor, which knows the value of its entry, and returns that value.
+/// Takes out the first of two pairs by a cursor, which knows the value of its entry, and returns
+/// that value.
 pub fn first_of_cursor(map: &mut LinkedHashMap<u64, u64>) -> u64
     requires pairs { map.old.pairs ≡ (1, 10) ∷ (2, 20) ∷ [] }
     ensures value { result ≡ 10 }
@@ -128,8 +129,8 @@ pub fn first_of_cursor(map: &mut LinkedHashMap<u64, u64>) -> u64
     }
 }
 
-/// Visits three pairs, takes out the first, puts 0 in the place of the third's value, and returns the
-/// values that these two had.
+/// Visits three pairs, takes out the first, puts 0 in the place of the third's value, and returns
+/// the values that these two had.
 pub fn first_and_third(map: &mut LinkedHashMap<u64, u64>) -> (u64, u64)
     requires pairs { map.old.pairs ≡ (1, 10) ∷ (2, 20) ∷ (3, 30) ∷ [] }
     ensures values { result ≡ (10, 30) }
@@ -151,9 +152,9 @@ pub fn first_and_third(map: &mut LinkedHashMap<u64, u64>) -> (u64, u64)
     (removed, replaced)
 }
 
-/// Visits four pairs: inserts a value at the first and at the last, takes out the second, and writes
-/// the value of the third in its place. Returns how many are left to visit. No pair that an insertion
-/// moved to the back is visited again.
+/// Visits four pairs: inserts a value at the first and at the last, takes out the second, and
+/// writes the value of the third in its place. Returns how many are left to visit. No pair that an
+/// insertion moved to the back is visited again.
 pub fn insert_on_the_way(map: &mut LinkedHashMap<u64, u64>) -> usize
     requires pairs { map.old.pairs ≡ (1, 1) ∷ (2, 2) ∷ (3, 3) ∷ (4, 4) ∷ [] }
     ensures touch { map.old.mode ≡ Mode.Touch → map.new.pairs ≡ (3, 30) ∷ (1, 10) ∷ (4, 40) ∷ [] }
@@ -200,7 +201,7 @@ pub fn leave_off_early(map: &mut LinkedHashMap<u64, u64>) -> usize
     entries.unvisited()
 }
 
-/// Visits every pair, and takes it out, inserts a value, writes one in its place or leaves the pair, as
+/// Visits every pair, and takes it out, inserts a value, writes one in its place or leaves it, as
 /// its value says. Returns the keys visited: each once, in the order at the start.
 pub fn visit_by_value(
     alloc: Global,

@@ -74,17 +74,17 @@ impl<K: Eq + Hash, V, S: BuildHasher> LinkedHashMap<K, V, S> {
         Entries { map: self }
     }
 
-    /// Begins a visit of every pair, from the oldest place to the newest, and lends the map on for it.
+    /// Begins a visit of every pair, from the oldest place to the newest, and lends the map on.
     ///
-    /// [`next_entry`](LinkedHashMap::next_entry) then lends the entry of one pair after another, and
-    /// [`unvisited`](LinkedHashMap::unvisited) counts those still to come. A caller knows the map
-    /// after each step, and so the list of pairs in the end. A loop of `while let` is known to end.
+    /// [`next_entry`](LinkedHashMap::next_entry) then lends the entry of one pair after another,
+    /// and [`unvisited`](LinkedHashMap::unvisited) counts those still to come. A caller knows the
+    /// map after each step, and so the list of pairs in the end.
     ///
-    /// A visit that is under way is ended by a further one, by [`entries`](LinkedHashMap::entries), and
-    /// by each call of the map that takes out or moves a pair or may do so: `insert`, `extend` or
-    /// `entry` of a present key, `remove` of one, `get_refresh` of one, the pops, `clear` and `drain`.
-    /// Then no pair is left to visit. All other calls leave it as it is; a new key that goes in
-    /// meanwhile is not visited.
+    /// A visit is ended by a further one, by [`entries`](LinkedHashMap::entries), and by each call
+    /// of the map that may take out or move a pair that it has: `insert`, `extend`, `entry`,
+    /// `remove` and `get_refresh` of a present key, the pops, `clear` and `drain`. Then no pair is
+    /// left to visit. All other calls leave it as it is. A new key that goes in meanwhile is not
+    /// visited.
     ///
     /// It takes no memory, leaves the order, and costs a constant number of steps. The original has
     /// no such call.
@@ -120,8 +120,8 @@ impl<K: Eq + Hash, V, S: BuildHasher> LinkedHashMap<K, V, S> {
     /// Lends the entry of the next pair to visit, or returns `None` where none is left.
     ///
     /// The visit goes on behind that pair, whatever is done with the entry: one that is taken out,
-    /// or that its entry moved to the back or left in its place, is not visited again. Where no
-    /// visit was begun by [`visit`](LinkedHashMap::visit), and where a call has ended it, none is left.
+    /// or that its entry moved to the back or left in its place, is not visited again. Where
+    /// [`visit`](LinkedHashMap::visit) began none, and where a call has ended it, none is left.
     ///
     /// It takes no memory, leaves the order, and costs a constant number of steps. The original has
     /// no such call.
