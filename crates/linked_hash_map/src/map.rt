@@ -939,6 +939,7 @@ impl<K: Eq + Hash, V, S: BuildHasher> LinkedHashMap<K, V, S> {
     pub fn iter(&self) -> Iter<'_, K, V>
         ensures pairs { result ≡ self.now.pairs }
         ensures valid { IsValid K.eq self.now }
+        // Laws of walks, for the proofs of callers: any body meets them.
         ensures runs { ShowsInOrder (deref_pair {K = K} {X = V}) }
         ensures runs_back { ShowsInReverse (deref_pair {K = K} {X = V}) }
     {
@@ -964,9 +965,11 @@ impl<K: Eq + Hash, V, S: BuildHasher> LinkedHashMap<K, V, S> {
     /// ```
     pub fn iter_mut(&mut self) -> IterMut<'_, K, V>
         ensures* writes_back { sem 𝓛 (lends_values K.row V.row S.row S.Hasher.row K.Hash S.BuildHasher S.Hasher.Hasher self.entry (loan_name result)) }
+        // A law of lists, for the proofs of callers: any body meets it.
         ensures keeps { KeysStand self.old.pairs }
         ensures rest { pairs_left result ≡ self.old.pairs }
         ensures valid { IsValid K.eq self.old }
+        // Laws of walks, for the proofs of callers: any body meets them.
         ensures runs { LendsValuesInOrder (pairs_left {K = K} {V = V}) }
         ensures runs_back { LendsValuesInReverse (pairs_left {K = K} {V = V}) }
     {
@@ -991,6 +994,7 @@ impl<K: Eq + Hash, V, S: BuildHasher> LinkedHashMap<K, V, S> {
     pub fn keys(&self) -> Keys<'_, K, V>
         ensures keys { result ≡ keys_of self.now.pairs }
         ensures valid { IsValid K.eq self.now }
+        // Laws of walks, for the proofs of callers: any body meets them.
         ensures runs { ShowsInOrder (deref {X = K}) }
         ensures runs_back { ShowsInReverse (deref {X = K}) }
     {
@@ -1015,6 +1019,7 @@ impl<K: Eq + Hash, V, S: BuildHasher> LinkedHashMap<K, V, S> {
     pub fn values(&self) -> Values<'_, K, V>
         ensures values { result ≡ values_of self.now.pairs }
         ensures valid { IsValid K.eq self.now }
+        // Laws of walks, for the proofs of callers: any body meets them.
         ensures runs { ShowsInOrder (deref {X = V}) }
         ensures runs_back { ShowsInReverse (deref {X = V}) }
     {
@@ -1043,6 +1048,7 @@ impl<K: Eq + Hash, V, S: BuildHasher> LinkedHashMap<K, V, S> {
         ensures* writes_back { sem 𝓛 (lends_drained K.row V.row S.row S.Hasher.row K.Hash S.BuildHasher S.Hasher.Hasher self.entry (drain_name result)) }
         ensures rest { drain_rest result ≡ self.old.pairs }
         ensures valid { IsValid K.eq self.old }
+        // Laws of walks, for the proofs of callers: any body meets them.
         ensures runs { YieldsInOrder (DrainSteps {K = K} {V = V}) drain_rest }
         ensures runs_back { YieldsInReverse (DrainStepsBack {K = K} {V = V}) drain_rest }
         ensures stays { DrainKeepsAlong DrainSteps result }

@@ -283,6 +283,7 @@ impl<T> Sessions<T> {
     pub fn iter(&self) -> SessionIter<'_, T>
         ensures sessions { result ≡ self.now.sessions }
         ensures valid { IsValidTable self.now }
+        // A law of walks, for the proofs of callers: any body meets it.
         ensures runs { ShowsInOrder (deref_session {T = T}) }
     {
         SessionIter::new(self.map.iter())

@@ -35,6 +35,7 @@ impl<K: Eq + Hash, V, S: BuildHasher> LinkedHashMap<K, V, S> {
         ensures same_map { (entry_map_ref result).ghost_name ≡ self.entry.ghost_name }
         ensures occupied { is_occupied result ≡ is_some (find K.eq self.old.pairs key) }
         ensures key { entry_key result ≡ key_or key (find K.eq self.old.pairs key) }
+        // It follows from `key`, for the proofs of callers: any body that meets `key` meets it.
         ensures acts { ActsAs K.eq self.old.pairs (entry_key result) key }
         ensures value { entry_value result ≡ value_at K.eq self.old.pairs key }
         ensures pairs { (entry_map result).pairs ≡ self.old.pairs }

@@ -75,7 +75,7 @@ impl<'a, K: Eq + Hash, V, S: BuildHasher> OccupiedEntry<'a, K, V, S> {
         ensures value { result.now ≡ occupied_value self.old }
         ensures valid { IsValid K.eq (occupied_map self.old) }
 
-        // The entry, once a value is written.
+        // The entry, once a value is written: laws, for the proofs of callers, that any body meets.
         ensures key { (v : V) → occupied_key (with_occupied_value self.old v) ≡ occupied_key self.old }
         ensures written { (v : V) → occupied_value (with_occupied_value self.old v) ≡ v }
         ensures map { (v : V) → occupied_map (with_occupied_value self.old v)
@@ -104,7 +104,7 @@ impl<'a, K: Eq + Hash, V, S: BuildHasher> OccupiedEntry<'a, K, V, S> {
         ensures value { result.now ≡ occupied_value self.entry }
         ensures valid { IsValid K.eq (occupied_map self.entry) }
 
-        // The map, once a value is written.
+        // The map, once a value is written: a law, for the proofs of callers, that any body meets.
         ensures to_visit { (v : V) → to_visit (record (occupied_map self.entry) {
           pairs = set_value K.eq (occupied_map self.entry).pairs (occupied_key self.entry) v;
         }) ≡ to_visit (occupied_map self.entry) }

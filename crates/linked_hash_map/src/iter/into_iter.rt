@@ -144,6 +144,7 @@ impl<K: Eq + Hash + Drop, V: Drop, S: BuildHasher + Drop> IntoIterator for Linke
 
     type IntoIter = IntoIter<K, V>;
 
+    // Its last two parts are laws of walks, for the proofs of callers: any body meets them.
     ghost into_iter_gives = { λ map walk. (walk ≡ map.pairs) × IsValid K.eq map × GivesInOrder (K × V) × GivesInReverse (K × V) };
 
     fn into_iter(self) -> IntoIter<K, V> {

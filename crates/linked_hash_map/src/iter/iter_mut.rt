@@ -123,10 +123,12 @@ impl<'a, K: Eq + Hash, V, S: BuildHasher> IntoIterator for &'a mut LinkedHashMap
 
     type IntoIter = IterMut<'a, K, V>;
 
+    // Its last two parts are laws of walks, for the proofs of callers: any body meets them.
     ghost into_iter_gives = { λ map walk. (pairs_left walk ≡ map.now.pairs) × IsValid K.eq map.now × LendsValuesInOrder (pairs_left {K = K} {V = V}) × LendsValuesInReverse (pairs_left {K = K} {V = V}) };
 
     fn into_iter(self) -> IterMut<'a, K, V>
         ensures* writes_back { sem 𝓛 (lends_values K.row V.row S.row S.Hasher.row K.Hash S.BuildHasher S.Hasher.Hasher self.entry (loan_name result)) }
+        // A law of lists, for the proofs of callers: any body meets it.
         ensures keeps { KeysStand self.old.pairs }
         ensures into_iter_gives { (pairs_left result ≡ self.old.pairs) × IsValid K.eq self.old × LendsValuesInOrder (pairs_left {K = K} {V = V}) × LendsValuesInReverse (pairs_left {K = K} {V = V}) }
     {
