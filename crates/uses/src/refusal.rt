@@ -1,8 +1,9 @@
 //! Calls that are refused for want of memory, and what a caller does then.
-ghost use Rattle.std.specs.Prelude.{◌≡◌, ◌<◌, [], ◌∷◌, ◌++◌, max, length, IsSome, IsNone};
-ghost use Rattle.linked_hash_map.specs.Pairs.{put, first, without_first};
+ghost use Rattle.std.specs.Prelude.{◌≡◌, ◌<◌, [], ◌∷◌, ◌++◌, None, max, length, IsSome, IsNone, IsErr};
+ghost use Rattle.linked_hash_map.specs.Pairs.{find, put, first, without_first};
+ghost use Rattle.linked_hash_map.specs.Validity.{IsValid};
 
-use linked_hash_map::{LinkedHashMap, Refused};
+use linked_hash_map::{LIMIT, LinkedHashMap, Refused};
 use std::hash::{BuildHasher, Hash};
 
 /// Puts a pair in, at the back where its key is new. Where memory for it is refused, the pair comes back, and the one at the oldest place, which is
@@ -27,4 +28,18 @@ pub fn insert_anyway<K: Eq + Hash + Drop, V: Drop, S: BuildHasher>(
         Ok(_none) => oldest,
         Err(_refused) => unreachable!(),
     }
+}
+
+/// Puts a pair in at the back where its key is new, and leaves one that is there as it is. Where a new pair is refused, it comes
+/// back: for want of memory, and always from a map of `LIMIT` pairs.
+pub fn insert_if_new<K: Eq + Hash + Drop, V: Drop, S: BuildHasher>(
+    map: &mut LinkedHashMap<K, V, S>,
+    key: K,
+    value: V,
+) -> Result<(), Refused<K, V>>
+    ensures stays_valid { IsValid K.eq map.new }
+    ensures limit { find K.eq map.old.pairs key ≡ None → length map.old.pairs ≡ LIMIT → IsErr result }
+{
+    map.entry(key).or_insert(value)?;
+    Ok(())
 }

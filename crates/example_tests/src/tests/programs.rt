@@ -19,7 +19,7 @@ use uses::loops::{
 };
 use uses::memory::{chained_again, empty_out, reserve_and_insert};
 use uses::queue::Queue;
-use uses::refusal::insert_anyway;
+use uses::refusal::{insert_anyway, insert_if_new};
 use uses::replaying::{Outcome, insert_and_remove, replay_under_two_hashers};
 use uses::text::{age_of, note_age};
 use uses::window::Window;
@@ -136,6 +136,7 @@ fn one_pair(rt: &impl Abort, alloc: Global) -> LinkedHashMap<u32, u64>
 fn pairs_come_and_go(rt: HostRuntime) {
     let mut map = one_pair(&rt, rt.alloc());
     check_eq!(rt; insert_anyway(&mut map, 2, 0), None);
+    check_eq!(rt; insert_if_new(&mut map, 1, 11), Ok(()));
     check_eq!(rt; take_out_zeros(&mut map), 1);
     check_eq!(rt;
         given!(rt; take_all(rt.alloc(), &mut map)).as_slice(),
