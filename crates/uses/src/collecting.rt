@@ -1,7 +1,8 @@
 //! Maps that take in what others have.
-ghost use Rattle.std.specs.Prelude.{◌≡◌, [], length, None, IfOk, IfErr, OnOk, OnErr};
+ghost use Rattle.std.specs.Prelude.{◌≡◌, ◌≤◌, ◌-◌, ℕ, [], length, None, IfOk, IfErr, OnOk, OnErr};
 ghost use Rattle.std.specs.List.{IsDistinct};
 ghost use Rattle.std.specs.Map.{keys_of};
+ghost use Rattle.linked_hash_map.specs.Counts.{rechained_each};
 ghost use Rattle.linked_hash_map.specs.Pairs.{find};
 ghost use Rattle.linked_hash_map.specs.Inserts.{insert_each};
 
@@ -36,6 +37,8 @@ pub fn merge<K: Eq + Hash + Drop, V: Drop, S: BuildHasher, T: BuildHasher + Drop
 }
 
 /// Makes a map of the pairs of a list, whose keys differ. There is room for them and for no more.
+/// Pairs are chained again only as the capacity rises to that number, one by one from a lower one
+/// or from the number itself.
 pub fn collect_all<K: Eq + Hash + Drop, V: Drop, S: BuildHasher + Default + Drop>(
     alloc: Global,
     list: Vec<(K, V)>,
@@ -43,6 +46,8 @@ pub fn collect_all<K: Eq + Hash + Drop, V: Drop, S: BuildHasher + Default + Drop
     requires differ { IsDistinct K.eq (keys_of list.items) }
     ensures pairs { IfOk result (λ map. map.pairs ≡ list.items) }
     ensures capacity { IfOk result (λ map. map.capacity ≡ length list.items) }
+    ensures rechained { IfOk result (λ map. (lower : ℕ) × (lower ≤ length list.items)
+        × (map.rechained ≡ rechained_each 0 lower (length list.items - lower))) }
 {
     let map = LinkedHashMap::from_iter(alloc, list)?;
     Ok(map)
