@@ -22,6 +22,8 @@ fn keeps_the_pairs_of_a_vector(rt: HostRuntime) {
     assert_list(&rt, &list, &[(1, 10), (2, 20)]);
     let pairs = list.into_vec();
     check_eq!(rt; pairs.as_slice(), [(1, 10), (2, 20)].as_slice());
+    let again = Vec::from(PairList::from(pairs));
+    check_eq!(rt; again.as_slice(), [(1, 10), (2, 20)].as_slice());
 }
 
 #[test]
