@@ -2,8 +2,8 @@
 ghost use Rattle.std.specs.Prelude.{◌≡◌, ◌∷◌, [], Ok};
 
 use super::checks::{check, check_eq, given};
-use linked_hash_map::LinkedHashMap;
 use linked_hash_map::replay::{Answer, Command, Reply};
+use linked_hash_map::{LinkedHashMap, Mode};
 use std::alloc::Global;
 use std::fmt::Debug;
 use std::hash::{BuildHasher, RandomState};
@@ -15,7 +15,8 @@ use uses::document::{Document, copy_of, is_same};
 use uses::hasher::for_strangers;
 use uses::interner::{name_of, no_names, number_of};
 use uses::loops::{
-    into_list, keys_in_order, oldest_key, reset, sum_by_values, sum_of, take_all, take_out_zeros,
+    first_and_third, first_of_cursor, insert_on_the_way, into_list, keys_in_order, leave_off_early,
+    oldest_key, reset, sum_by_values, sum_of, take_all, take_out_zeros, visit_by_value,
 };
 use uses::memory::{chained_again, empty_out, reserve_and_insert};
 use uses::queue::Queue;
@@ -193,6 +194,57 @@ fn two_hashers_answer_the_same(rt: HostRuntime) {
     let (one, another) = replay_under_two_hashers(&mut map, &mut other, commands, copies);
     check_insertions(&rt, rt.alloc(), map, one);
     check_insertions(&rt, rt.alloc(), other, another);
+}
+
+/// Makes a map of two pairs.
+fn two_pairs(rt: &impl Abort, alloc: Global) -> LinkedHashMap<u64, u64>
+    ensures pairs { result.pairs ≡ (1, 10) ∷ (2, 20) ∷ [] }
+    ensures mode { result.mode ≡ Mode.Touch }
+{
+    let mut map = LinkedHashMap::new(alloc);
+    value_in(rt, map.insert(1, 10));
+    value_in(rt, map.insert(2, 20));
+    map
+}
+
+/// Makes a map of three pairs.
+fn three_pairs(rt: &impl Abort, alloc: Global) -> LinkedHashMap<u64, u64>
+    ensures { result.pairs ≡ (1, 10) ∷ (2, 20) ∷ (3, 30) ∷ [] }
+{
+    let mut map = two_pairs(rt, alloc);
+    value_in(rt, map.insert(3, 30));
+    map
+}
+
+/// Makes a map of four pairs.
+fn four_pairs(rt: &impl Abort, alloc: Global) -> LinkedHashMap<u64, u64>
+    ensures pairs { result.pairs ≡ (1, 1) ∷ (2, 2) ∷ (3, 3) ∷ (4, 4) ∷ [] }
+    ensures mode { result.mode ≡ Mode.Touch }
+{
+    let mut map = LinkedHashMap::new(alloc);
+    value_in(rt, map.insert(1, 1));
+    value_in(rt, map.insert(2, 2));
+    value_in(rt, map.insert(3, 3));
+    value_in(rt, map.insert(4, 4));
+    map
+}
+
+#[test]
+fn entries_are_visited(rt: HostRuntime) {
+    let mut two = two_pairs(&rt, rt.alloc());
+    check_eq!(rt; first_of_cursor(&mut two), 10);
+    let mut three = three_pairs(&rt, rt.alloc());
+    check_eq!(rt; first_and_third(&mut three), (10, 30));
+}
+
+#[test]
+fn entries_are_inserted_on_the_way(rt: HostRuntime) {
+    let mut map = four_pairs(&rt, rt.alloc());
+    check_eq!(rt; insert_on_the_way(&mut map), 0);
+    let mut other = four_pairs(&rt, rt.alloc());
+    check_eq!(rt; leave_off_early(&mut other), 2);
+    let visited = given!(rt; visit_by_value(rt.alloc(), &mut other));
+    check_eq!(rt; visited.as_slice(), [3, 4, 1].as_slice());
 }
 
 #[test]

@@ -120,8 +120,9 @@ impl<K: Eq + Hash, V, S: BuildHasher> LinkedHashMap<K, V, S> {
     /// Lends the entry of the next pair to visit, or returns `None` where none is left.
     ///
     /// The visit goes on behind that pair, whatever is done with the entry: one that is taken out,
-    /// or that its entry moved to the back or left in its place, is not visited again. Where
-    /// [`visit`](LinkedHashMap::visit) began none, and where a call has ended it, none is left.
+    /// or that its entry moved to the back or left in its place, is not visited again. None is left
+    /// where no visit was begun, by [`visit`](LinkedHashMap::visit) or by
+    /// [`entries`](LinkedHashMap::entries), and where a call has ended it.
     ///
     /// It takes no memory, leaves the order, and costs a constant number of steps. The original has
     /// no such call.

@@ -1,4 +1,4 @@
-//! The entries of all pairs.
+//! The entries of all pairs, by a cursor and by a visit.
 use linked_hash_map::LinkedHashMap;
 use std::test::Fail;
 
@@ -32,5 +32,50 @@ fn next(rt: HostRuntime) -> Result<(), Fail> {
     }
     assert_eq!(rt; cursor.remaining(), 1);
     assert_eq!(rt; map.back(), Some((&'x', &3)));
+    Ok(())
+}
+
+/// The example of `visit`.
+#[test]
+fn visit(rt: HostRuntime) -> Result<(), Fail> {
+    let mut map = LinkedHashMap::new(rt.alloc());
+    map.insert('x', 1)?;
+    map.insert('y', 0)?;
+    let entries = map.visit();
+    while let Some(entry) = entries.next_entry() {
+        if *entry.get() == 0 {
+            entry.remove();
+        }
+    }
+    assert_eq!(rt; (map.len(), map.get(&'x')), (1, Some(&1)));
+    Ok(())
+}
+
+/// The example of `next_entry`.
+#[test]
+fn next_entry(rt: HostRuntime) -> Result<(), Fail> {
+    let mut map = LinkedHashMap::new(rt.alloc());
+    map.insert('x', 1)?;
+    map.insert('y', 2)?;
+    let entries = map.visit();
+    if let Some(mut entry) = entries.next_entry() {
+        assert_eq!(rt; entry.insert(3), 1);
+    }
+    assert_eq!(rt; entries.remove(&'x'), Some(3));
+    assert!(rt; entries.next_entry().is_none());
+    Ok(())
+}
+
+/// The example of `unvisited`.
+#[test]
+fn unvisited(rt: HostRuntime) -> Result<(), Fail> {
+    let mut map = LinkedHashMap::new(rt.alloc());
+    map.insert('x', 1)?;
+    map.insert('y', 2)?;
+    let entries = map.visit();
+    if let Some(mut entry) = entries.next_entry() {
+        assert_eq!(rt; entry.insert(3), 1);
+    }
+    assert_eq!(rt; entries.unvisited(), 1);
     Ok(())
 }
