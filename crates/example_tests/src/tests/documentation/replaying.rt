@@ -55,6 +55,14 @@ fn as_slice(rt: HostRuntime) -> Result<(), Fail> {
     Ok(())
 }
 
+/// The example of `From<PairList>` of a vector.
+#[test]
+fn vector_from(rt: HostRuntime) -> Result<(), Fail> {
+    let list = PairList::from_vec(Vec::from_array(rt.alloc(), [('x', 1), ('y', 2)])?);
+    assert_eq!(rt; Vec::from(list).as_slice(), [('x', 1), ('y', 2)].as_slice());
+    Ok(())
+}
+
 /// The example of `From` and of `PartialEq` of `PairList`.
 #[test]
 fn from(rt: HostRuntime) -> Result<(), Fail> {
