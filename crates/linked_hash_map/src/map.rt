@@ -481,8 +481,8 @@ impl<K: Eq + Hash, V, S: BuildHasher> LinkedHashMap<K, V, S> {
     ///
     /// A look-up goes along the chain of the key's bucket: the number of buckets is the least power of two that is not below the
     /// capacity, and 0 at capacity 0. For an absent key it reaches each pair whose number is in that bucket, and compares each key
-    /// with the same number; for a present key it does no more. Every look-up of the map is this one. It takes no memory and leaves
-    /// the order. The original has no such call.
+    /// with the same number; for a present key it does no more. All look-ups of the map share its search. It takes no memory
+    /// and leaves the order. The original has no such call.
     ///
     /// # Examples
     ///
