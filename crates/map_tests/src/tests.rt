@@ -25,6 +25,7 @@ mod readme;
 mod removals;
 mod replays;
 mod under_hashers;
+mod visits;
 mod writes;
 mod written;
 

@@ -1,0 +1,183 @@
+//! Visits of a map by its own reference.
+use super::calls::{assert_empty, assert_get, check_pop_front, insert_all};
+use super::checks::{check, check_eq, given};
+use super::{assert_pairs, map_of};
+use linked_hash_map::LinkedHashMap;
+use std::alloc::Global;
+use std::fmt::Debug;
+use std::hash::Hash;
+use std::process::Abort;
+
+/// Checks the key and the value of the next entry.
+fn visit(rt: &impl Abort, entries: &mut LinkedHashMap<u64, u64>, key: u64, value: u64) {
+    let entry = given!(rt; entries.next_entry().ok_or("no entry"));
+    check_eq!(rt; (*entry.key(), *entry.get()), (key, value));
+}
+
+/// Checks the key of the next entry, and takes its pair out.
+fn visit_remove(rt: &impl Abort, entries: &mut LinkedHashMap<u64, u64>, key: u64, value: u64) {
+    let entry = given!(rt; entries.next_entry().ok_or("no entry"));
+    check_eq!(rt; *entry.key(), key);
+    check_eq!(rt; entry.remove(), value);
+}
+
+/// Checks the key of the next entry, and inserts a value there.
+fn visit_insert(
+    rt: &impl Abort,
+    entries: &mut LinkedHashMap<u64, u64>,
+    key: u64,
+    value: u64,
+    old: u64,
+) {
+    let mut entry = given!(rt; entries.next_entry().ok_or("no entry"));
+    check_eq!(rt; *entry.key(), key);
+    check_eq!(rt; entry.insert(value), old);
+}
+
+/// Checks the key of the next entry, and writes its value in its place.
+fn visit_write<K: Eq + Hash + Debug>(
+    rt: &impl Abort,
+    entries: &mut LinkedHashMap<K, u64>,
+    key: &K,
+    value: u64,
+) {
+    let mut entry = given!(rt; entries.next_entry().ok_or("no entry"));
+    check_eq!(rt; entry.key(), key);
+    *entry.get_mut() = value;
+}
+
+/// Checks how many pairs a visit has still to come to.
+fn assert_unvisited(rt: &impl Abort, entries: &LinkedHashMap<u64, u64>, unvisited: usize) {
+    check_eq!(rt; entries.unvisited(), unvisited);
+}
+
+/// Checks that every entry was visited.
+fn assert_ended(rt: &impl Abort, entries: &mut LinkedHashMap<u64, u64>) {
+    check!(rt; entries.next_entry().is_none());
+}
+
+#[test]
+fn visits_each_pair_once(rt: HostRuntime) {
+    let mut map = map_of(&rt, rt.alloc(), &[(1, 10), (2, 20), (3, 30)]);
+    let entries = map.visit();
+    visit_remove(&rt, entries, 1, 10);
+    visit_insert(&rt, entries, 2, 0, 20);
+    visit(&rt, entries, 3, 30);
+    assert_ended(&rt, entries);
+    assert_pairs(&rt, &map, &[(3, 30), (2, 0)]);
+}
+
+#[test]
+fn counts_what_is_unvisited(rt: HostRuntime) {
+    let mut map = map_of(&rt, rt.alloc(), &[(1, 1), (2, 2), (3, 3), (4, 4)]);
+    assert_unvisited(&rt, &map, 0);
+    let entries = map.visit();
+    assert_unvisited(&rt, entries, 4);
+    visit_insert(&rt, entries, 1, 10, 1);
+    assert_unvisited(&rt, entries, 3);
+    visit_remove(&rt, entries, 2, 2);
+    assert_unvisited(&rt, entries, 2);
+    visit_write(&rt, entries, &3, 30);
+    assert_unvisited(&rt, entries, 1);
+    visit_insert(&rt, entries, 4, 40, 4);
+    assert_unvisited(&rt, entries, 0);
+    assert_ended(&rt, entries);
+    assert_pairs(&rt, &map, &[(3, 30), (1, 10), (4, 40)]);
+}
+
+#[test]
+fn leaves_off_early(rt: HostRuntime) {
+    let mut map = map_of(&rt, rt.alloc(), &[(1, 1), (2, 2), (3, 3), (4, 4)]);
+    let entries = map.visit();
+    visit_insert(&rt, entries, 1, 10, 1);
+    visit_remove(&rt, entries, 2, 2);
+    assert_pairs(&rt, &map, &[(3, 3), (4, 4), (1, 10)]);
+}
+
+#[test]
+fn writes_in_an_entry(rt: HostRuntime) {
+    let mut map = LinkedHashMap::new(rt.alloc());
+    insert_all(&rt, &mut map, &[("a", 10), ("c", 30), ("b", 20)]);
+    visit_write(&rt, map.visit(), &"a", 17);
+    assert_get(&rt, &map, &"a", Some(&17));
+    let mut keys = map.keys();
+    check_eq!(rt; (keys.next(), keys.next()), (Some(&"a"), Some(&"c")));
+    check_eq!(rt; (keys.next(), keys.next()), (Some(&"b"), None));
+}
+
+#[test]
+fn visits_no_moved_pair_again(rt: HostRuntime) {
+    let mut map = map_of(&rt, rt.alloc(), &[(1, 10), (2, 20), (3, 30)]);
+    let entries = map.visit();
+    visit_insert(&rt, entries, 1, 11, 10);
+    visit_insert(&rt, entries, 2, 21, 20);
+    visit_insert(&rt, entries, 3, 31, 30);
+    assert_ended(&rt, entries);
+    assert_pairs(&rt, &map, &[(1, 11), (2, 21), (3, 31)]);
+}
+
+/// Checks how many pairs an extension by one leaves to visit, and which pairs there are then.
+fn check_extended(
+    rt: &impl Abort,
+    alloc: Global,
+    pair: (u64, u64),
+    unvisited: usize,
+    expected: &[(u64, u64)],
+) {
+    let mut map = map_of(rt, alloc, &[(1, 10), (2, 20), (3, 30)]);
+    let entries = map.visit();
+    visit(rt, entries, 1, 10);
+    given!(rt; entries.extend([pair]));
+    assert_unvisited(rt, entries, unvisited);
+    assert_pairs(rt, &map, expected);
+}
+
+#[test]
+fn an_extension_by_a_present_key_ends_a_visit(rt: HostRuntime) {
+    check_extended(&rt, rt.alloc(), (3, 31), 0, &[(1, 10), (2, 20), (3, 31)]);
+}
+
+#[test]
+fn an_extension_by_a_new_key_leaves_a_visit(rt: HostRuntime) {
+    let pairs = [(1, 10), (2, 20), (3, 30), (4, 40)];
+    check_extended(&rt, rt.alloc(), (4, 40), 2, &pairs);
+}
+
+/// Notes the key of the next entry, and then takes its pair out, moves it, writes its value or
+/// leaves it, as its value says.
+fn visit_by_value(rt: &impl Abort, entries: &mut LinkedHashMap<u64, u64>, visited: &mut Vec<u64>) {
+    let mut entry = given!(rt; entries.next_entry().ok_or("no entry"));
+    given!(rt; visited.push(*entry.key()));
+    match *entry.get() {
+        0 => {
+            entry.remove();
+        }
+        1 => {
+            entry.insert(0);
+        }
+        2 => *entry.get_mut() = 0,
+        _ => {}
+    }
+}
+
+/// Visits every entry so, and returns the keys.
+fn visit_all(rt: &impl Abort, alloc: Global, map: &mut LinkedHashMap<u64, u64>) -> Vec<u64> {
+    let mut visited = Vec::new(alloc);
+    let entries = map.visit();
+    for _ in 0..entries.unvisited() {
+        visit_by_value(rt, entries, &mut visited);
+    }
+    assert_ended(rt, entries);
+    visited
+}
+
+#[test]
+fn visits_whatever_is_done(rt: HostRuntime) {
+    let mut map = map_of(&rt, rt.alloc(), &[(1, 0), (2, 1), (3, 2), (4, 3)]);
+    let visited = visit_all(&rt, rt.alloc(), &mut map);
+    check_eq!(rt; visited.as_slice(), [1, 2, 3, 4].as_slice());
+    check_pop_front(&rt, &mut map, Some((3, 0)));
+    check_pop_front(&rt, &mut map, Some((4, 3)));
+    check_pop_front(&rt, &mut map, Some((2, 0)));
+    assert_empty(&rt, &map);
+}
