@@ -32,6 +32,7 @@ pub mod Searches
 pub mod Sharing
 pub mod Splicing
 pub mod Stacking
+pub mod Tables
 pub mod ValueTaken
 pub mod ValuesInOrder
 pub mod ValuesReplaced

@@ -14,6 +14,8 @@ pub mod Rings
 pub mod Search
 pub mod Splices
 pub mod Stacks
+pub mod TableAfterLoan
+pub mod Tables
 pub mod Targets
 pub mod ValueLoan
 pub mod Walks

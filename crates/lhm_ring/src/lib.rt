@@ -15,4 +15,5 @@ pub(crate) mod order;
 pub(crate) mod position;
 pub mod ring;
 pub(crate) mod splice;
+pub mod table;
 pub(crate) mod value_loan;

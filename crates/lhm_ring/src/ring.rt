@@ -1,5 +1,5 @@
 //! The ring: a guard, the held nodes in order, and the spare ones.
-ghost use Rattle.std.specs.Prelude.{◌≡◌, ◌+◌, ◌≤◌, ◌^◌, [], true, length, map};
+ghost use Rattle.std.specs.Prelude.{◌≡◌, ◌+◌, ◌≤◌, ◌^◌, [], true, length, map, IfOk, IsOk};
 ghost use Rattle.lhm_ring.specs.Cells.{IsApart, IsAt};
 ghost use Rattle.lhm_ring.specs.Rings.{IsJoined, Relinks, is_there};
 
@@ -11,7 +11,7 @@ use crate::links::Links;
 use crate::nodes::Nodes;
 pub use crate::position::Position;
 pub use crate::value_loan::{Hole, LentValues, ValueLoan};
-use std::alloc::Global;
+use std::alloc::{AllocError, Global};
 use std::marker::Model;
 
 /// Triples of a number, a key and a value, in order, each at a position that stays until it leaves, and
@@ -55,6 +55,25 @@ impl<K, V> Ring<K, V> {
             spare: Link::none(),
             len: 0,
             spares: 0,
+        }
+    }
+
+    /// Makes an empty ring with this many spare nodes. For none it does not allocate and is not refused.
+    pub fn with_spares(alloc: Global, count: usize) -> Result<Ring<K, V>, AllocError>
+        ensures empty { IfOk result (λ ring. ring.held ≡ []) }
+        ensures spares { IfOk result (λ ring. ring.spares ≡ count) }
+        ensures succeeds { count ≡ 0 → IsOk result }
+    {
+        let mut ring = Ring::new(alloc);
+        if count == 0 {
+            return Ok(ring);
+        }
+        match ring.grow(count) {
+            Ok(()) => Ok(ring),
+            Err(refused) => {
+                ring.destroy_empty();
+                Err(refused)
+            }
         }
     }
 

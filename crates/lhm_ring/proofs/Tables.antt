@@ -1,0 +1,292 @@
+-- A table: what it shows of the nodes of its ring, which stand there without their links.
+use Rattle.std.proofs.Common.{◌≡◌, ℕ, ◌+◌, ◌-◌, ◌%◌, ◌^◌, ◌<◌, ◌≤◌, ◌≢◌, Bool, true, false, cond, List, [], ◌∷◌, ◌++◌, length, length-append, map, Option, Some, None, refl, sym, ap, ◌∙◌, subst, eqb, inl, inr, arith}
+use Rattle.std.specs.Prelude.{count_by, Result, Ok, Err, OnOk, OnErr, OnSome, IfNone}
+use Rattle.std.proofs.lemmas.Bool.{eq-eqb, ne_eqb}
+use Rattle.std.proofs.lemmas.List.{map-append, length-map}
+use denote.RawPtr.{Ptr}
+use Rattle.lhm_ring.specs.Cells.{same_ptr, IsApart}
+use Rattle.lhm_ring.specs.RingState.{Held, State, state, IsHeld, AtHeld, ChangesOnly, linked_to, first_at, last_at, last_of, change_at, triples}
+use Rattle.lhm_ring.specs.RingAfterLoan.{revalued, with_value}
+use Rattle.lhm_ring.specs.Index.{spot, spots, same, beside, Indexes}
+use Rattle.lhm_ring.specs.Search.{entries, HasKey, IsAbsent, Compares, CountsSome, CountsAll, HoldsOthers}
+use Rattle.lhm_ring.specs.Buckets.{buckets, rechained_raised}
+use Rattle.lhm_ring.specs.TableAfterLoan.{with_value as write}
+use Rattle.lhm_ring.specs.Tables.{IsTable, TableState, WritesOnly, table_of}
+use Rattle.lhm_ring.proofs.BucketCounts.{buckets_raised, buckets_lt, capacity_le, raised_more}
+use Rattle.lhm_ring.proofs.Chains.{count-cons}
+use Rattle.lhm_ring.proofs.IndexChanges.{IsHeld-kept, HasKey-kept}
+use Rattle.lhm_ring.proofs.IndexMoves.{spots-value}
+use Rattle.lhm_ring.proofs.IndexedRing.{indexed_value, indexed_to_back}
+
+module _ {K V : Type 0} where
+  pub entries-append : (xs ys : List (Held (K × V))) → entries (xs ++ ys) ≡ entries xs ++ entries ys
+  entries-append xs ys = map-append (linked_to {B = K × V} None) xs ys
+
+  pub entries-entries : (hs : List (Held (K × V))) → entries (entries hs) ≡ entries hs
+  entries-entries [] = refl
+  entries-entries (t ∷ hs) = ap (λ ys. linked_to None t ∷ ys) (entries-entries hs)
+
+  pub length-entries : (hs : List (Held (K × V))) → length (entries hs) ≡ length hs
+  length-entries hs = length-map hs (linked_to {B = K × V} None)
+
+  pub pointers-entries : (hs : List (Held (K × V))) → map (λ t. t.at) (entries hs) ≡ map (λ t. t.at) hs
+  pointers-entries [] = refl
+  pointers-entries (t ∷ hs) = ap (λ ps. t.at ∷ ps) (pointers-entries hs)
+
+  pub triples-entries : (hs : List (Held (K × V))) → triples (entries hs) ≡ triples hs
+  triples-entries [] = refl
+  triples-entries (t ∷ hs) = ap (λ ts. (t.number, t.pair) ∷ ts) (triples-entries hs)
+
+  pub first_at-entries : (hs : List (Held (K × V))) → first_at (entries hs) ≡ first_at hs
+  first_at-entries [] = refl
+  first_at-entries (t ∷ hs) = refl
+
+  last_of-entries : (t : Held (K × V)) (hs : List (Held (K × V))) → last_of (linked_to None t) (entries hs) ≡ last_of t hs
+  last_of-entries t [] = refl
+  last_of-entries t (u ∷ hs) = last_of-entries u hs
+
+  pub last_at-entries : (hs : List (Held (K × V))) → last_at (entries hs) ≡ last_at hs
+  last_at-entries [] = refl
+  last_at-entries (t ∷ hs) = ap Some (last_of-entries t hs)
+
+  pub entries-change_at : (p : Ptr) (w : V) (hs : List (Held (K × V))) → entries (change_at p (revalued w) hs) ≡ change_at p (revalued w) (entries hs)
+  entries-change_at p w [] = refl
+  entries-change_at p w (t ∷ hs) =
+      elim (same_ptr t.at p) as (λ b. linked_to None (cond b (revalued w t) t) ∷ entries (change_at p (revalued w) hs) ≡ cond b (revalued w (linked_to None t)) (linked_to None t) ∷ change_at p (revalued w) (entries hs)) [
+        | true ↦ ap (λ ys. linked_to None (revalued w t) ∷ ys) (entries-change_at p w hs)
+        | false ↦ ap (λ ys. linked_to None t ∷ ys) (entries-change_at p w hs)
+      ]
+
+  -- nodes whose entries are cut at one of them are cut there too
+  pub record EntriesCut (hs xs : List (Held (K × V))) (t : Held (K × V)) (ys : List (Held (K × V))) : Type 0 where
+    pub before : List (Held (K × V))
+    pub node : Held (K × V)
+    pub after : List (Held (K × V))
+    pub is : hs ≡ before ++ node ∷ after
+    pub before_is : entries before ≡ xs
+    pub node_is : linked_to None node ≡ t
+    pub after_is : entries after ≡ ys
+
+  pub entries_cut : (hs xs : List (Held (K × V))) (t : Held (K × V)) (ys : List (Held (K × V))) → entries hs ≡ xs ++ t ∷ ys → EntriesCut hs xs t ys
+  entries_cut [] [] t ys e = absurd (cc)
+  entries_cut [] (x ∷ xs) t ys e = absurd (cc)
+  entries_cut (h ∷ hs) [] t ys e = record { before = []; node = h; after = hs; is = refl; before_is = refl; node_is = (cc); after_is = (cc) }
+  entries_cut (h ∷ hs) (x ∷ xs) t ys e =
+      let rest : entries hs ≡ xs ++ t ∷ ys = cc in
+      let first : linked_to None h ≡ x = cc in
+      let i : EntriesCut hs xs t ys = entries_cut hs xs t ys rest in
+      record {
+        before = h ∷ i.before;
+        node = i.node;
+        after = i.after;
+        is = ap (λ zs. h ∷ zs) i.is;
+        before_is = (λ j. first j ∷ i.before_is j);
+        node_is = i.node_is;
+        after_is = i.after_is;
+      }
+
+  -- what lies at a position of the entries
+  pub IsHeld-entries : (hs : List (Held (K × V))) (p : Ptr) → IsHeld (entries hs) p → IsHeld hs p
+  IsHeld-entries hs p h = IsHeld-kept (entries hs) hs p (sym (entries-entries hs)) h
+
+  pub AtHeld-entries : (hs : List (Held (K × V))) (p : Ptr) (P : List (Held (K × V)) → Held (K × V) → List (Held (K × V)) → Type 0) → AtHeld hs p (λ xs t ys. P (entries xs) (linked_to None t) (entries ys)) → AtHeld (entries hs) p P
+  AtHeld-entries hs p P h xs t ys e at =
+      let i : EntriesCut hs xs t ys = entries_cut hs xs t ys e in
+      let seen : P (entries i.before) (linked_to None i.node) (entries i.after) = h i.before i.node i.after i.is (ap (λ (u : Held (K × V)). u.at) i.node_is ∙ at) in
+      subst (λ (z : List (Held (K × V)) × (Held (K × V) × List (Held (K × V)))). P z.0 z.1.0 z.1.1) (λ j. (i.before_is j, (i.node_is j, i.after_is j))) seen
+
+  -- searches
+  pub HasKey-entries : (eq : K → K → Bool) (hash : ℕ) (key : K) (hs : List (Held (K × V))) (p : Ptr) → HasKey eq hash key hs p → HasKey eq hash key (entries hs) p
+  HasKey-entries eq hash key hs p h = HasKey-kept eq hash key hs (entries hs) p (entries-entries hs) h
+
+  pub IsAbsent-entries : (eq : K → K → Bool) (hash : ℕ) (key : K) (hs : List (Held (K × V))) → IsAbsent eq hash key hs → IsAbsent eq hash key (entries hs)
+  IsAbsent-entries eq hash key hs none xs t ys e =
+      let i : EntriesCut hs xs t ys = entries_cut hs xs t ys e in
+      subst (λ (u : Held (K × V)). Compares eq hash key u false) i.node_is (none i.before i.node i.after i.is)
+
+  count_by-entries : (test : ℕ → Bool) (hs : List (Held (K × V))) → count_by (λ s. test s.number) (spots (entries hs)) ≡ count_by (λ s. test s.number) (spots hs)
+  count_by-entries test [] = refl
+  count_by-entries test (t ∷ hs) =
+      let rest = count_by-entries test hs in
+      let left = count-cons (λ s. test s.number) (spot (linked_to None t)) (spots (entries hs)) in
+      let right = count-cons (λ s. test s.number) (spot t) (spots hs) in
+      omega (arith, rest, left, right)
+
+  pub same-entries : (hs : List (Held (K × V))) (hash : ℕ) → same (spots (entries hs)) hash ≡ same (spots hs) hash
+  same-entries hs hash = count_by-entries (λ n. eqb n hash) hs
+
+  pub beside-entries : (hs : List (Held (K × V))) (n hash : ℕ) → beside (spots (entries hs)) n hash ≡ beside (spots hs) n hash
+  beside-entries hs n hash = count_by-entries (λ m. eqb (m % n) (hash % n)) hs
+
+  pub CountsSome-entries : (hs : List (Held (K × V))) (m n hash visited compared : ℕ) → m ≡ n → CountsSome (spots hs) m hash visited compared → CountsSome (spots (entries hs)) n hash visited compared
+  CountsSome-entries hs m n hash visited compared wide c =
+      let all = same-entries hs hash in
+      let near = beside-entries hs m hash in
+      let here = ap (λ k. beside (spots (entries hs)) k hash) wide in
+      record { some = c.some; compared_few = omega (arith, all, c.compared_few); order = c.order; visited_few = omega (arith, near, here, c.visited_few) }
+
+  pub CountsAll-entries : (hs : List (Held (K × V))) (m n hash visited compared : ℕ) → m ≡ n → CountsAll (spots hs) m hash visited compared → CountsAll (spots (entries hs)) n hash visited compared
+  CountsAll-entries hs m n hash visited compared wide c = record {
+    visited_all = c.visited_all ∙ sym (beside-entries hs m hash) ∙ ap (λ k. beside (spots (entries hs)) k hash) wide;
+    compared_all = c.compared_all ∙ sym (same-entries hs hash);
+  }
+
+-- what is said of an answer, by what follows from it
+pub OnSome_then : {X P Q : Type 0} (r : Option X) → OnSome r P → (P → Q) → OnSome r Q
+OnSome_then None h f = tt
+OnSome_then (Some x) h f = f h
+
+pub OnOk_always : {X E P : Type 0} (r : Result X E) → P → OnOk r P
+OnOk_always (Ok x) h = h
+OnOk_always (Err e) h = tt
+
+pub IfNone_then : {X P Q : Type 0} (r : Option X) → IfNone r P → (P → Q) → IfNone r Q
+IfNone_then None h f = f h
+IfNone_then (Some x) h f = tt
+
+-- nodes with the same entries are as many
+pub length-same_entries : {K V : Type 0} (hs ks : List (Held (K × V))) → entries hs ≡ entries ks → length hs ≡ length ks
+length-same_entries hs ks e = sym (length-entries hs) ∙ ap length e ∙ length-entries ks
+
+-- a table that is seen as m
+module _ {K V : Type 0} (s : State (K × V)) (r : ℕ) {m : TableState (K × V)} (seen : table_of s r ≡ m) where
+  pub held_in : (p : Ptr) → IsHeld m.held p → IsHeld s.held p
+  held_in p h = IsHeld-entries s.held p (subst (λ (z : TableState (K × V)). IsHeld z.held p) (sym seen) h)
+
+  -- what holds at a position of nodes with the entries of the table
+  pub at_entries : (ks : List (Held (K × V))) → entries ks ≡ entries s.held → (p : Ptr) (P : List (Held (K × V)) → Held (K × V) → List (Held (K × V)) → Type 0)
+      → AtHeld ks p (λ xs t ys. P (entries xs) (linked_to None t) (entries ys)) → AtHeld m.held p P
+  at_entries ks same p P h = subst (λ (hs : List (Held (K × V))). AtHeld hs p P) (same ∙ ap (λ (z : TableState (K × V)). z.held) seen) (AtHeld-entries ks p P h)
+
+  pub at_held : (p : Ptr) (P : List (Held (K × V)) → Held (K × V) → List (Held (K × V)) → Type 0) → AtHeld s.held p (λ xs t ys. P (entries xs) (linked_to None t) (entries ys)) → AtHeld m.held p P
+  at_held p P h = at_entries s.held refl p P h
+
+  pub apart_in : IsApart (map (λ t. t.at) s.held) → IsApart (map (λ t. t.at) m.held)
+  apart_in h = subst IsApart (sym (pointers-entries s.held) ∙ ap (λ (z : TableState (K × V)). map (λ t. t.at) z.held) seen) h
+
+  pub length_in : length s.held ≡ length m.held
+  length_in = sym (length-entries s.held) ∙ ap (λ (z : TableState (K × V)). length z.held) seen
+
+  pub capacity_in : length s.held + s.spares ≡ m.capacity
+  capacity_in = ap (λ (z : TableState (K × V)). z.capacity) seen
+
+  pub spares_in : length m.held < m.capacity → 0 < s.spares
+  spares_in room = let l = length_in in let c = capacity_in in omega (arith, l, c, room)
+
+  -- a value was written at p
+  pub written : (p : Ptr) (w : V) → table_of (with_value s p w) r ≡ write m p w
+  written p w =
+      let count = sym (length-map (change_at p (revalued w) s.held) spot) ∙ ap length (spots-value p w s.held) ∙ length-map s.held spot in
+      (λ i. record { held = entries-change_at p w s.held i; capacity = count i + s.spares; rechained = r })
+      ∙ ap (λ (z : TableState (K × V)). write z p w) seen
+
+  pub writes_only : (p : Ptr) → ChangesOnly s.held p → WritesOnly m.held p
+  writes_only p alone = at_held p (λ xs t ys. (w : V) → change_at p (revalued w) m.held ≡ xs ++ revalued w t ∷ ys)
+      (λ xs t ys e at w.
+      ap (λ (z : TableState (K × V)). change_at p (revalued w) z.held) (sym seen) ∙ sym (entries-change_at p w s.held)
+      ∙ ap entries (alone xs t ys e at (revalued w)) ∙ entries-append xs (revalued w t ∷ ys))
+
+  -- all that was held is out
+  pub drained : table_of (state [] (s.spares + length s.held)) r ≡ record m { held = [] }
+  drained =
+      let room : 0 + (s.spares + length s.held) ≡ length s.held + s.spares = omega arith in
+      (λ i. record (table_of (state {B = K × V} [] (s.spares + length s.held)) r) { capacity = room i })
+      ∙ ap (λ (z : TableState (K × V)). record z { held = [] }) seen
+
+-- as many buckets do for a higher capacity that is not above their number
+buckets-stay : (c d : ℕ) → c < d → d ≤ buckets c → buckets c ≡ buckets d
+buckets-stay c d up enough =
+    elim (buckets_raised c d (omega (arith, up))) [
+      | inl e ↦ sym e
+      | inr twice ↦ let below = buckets_lt d (omega (arith, up)) in absurd (omega (arith, twice, below, enough))
+    ]
+
+-- tables after the calls of the ring and its index
+module _ {K V : Type 0} {heads : List (Option Ptr)} {s : State (K × V)} {r : ℕ} (table : IsTable heads s r) where
+  -- the same pairs in order, but for links
+  pub IsTable-rechained : {heads' : List (Option Ptr)} {t : State (K × V)} {q : ℕ} → entries t.held ≡ entries s.held → length s.held + t.spares ≤ 2 ^ 59 → Indexes heads' (spots t.held) → length heads' ≡ buckets (length s.held + t.spares) → q ≤ length heads' → IsTable heads' t q
+  IsTable-rechained {heads'} {t} same within chains count few =
+      let long = length-same_entries t.held s.held same in
+      record {
+        indexed = record { chains = chains; count = count ∙ ap (λ l. buckets (l + t.spares)) (sym long) };
+        few = few;
+        limit = omega (arith, long, within);
+      }
+
+  -- a value was written
+  pub IsTable-value : (p : Ptr) (w : V) → IsTable heads (with_value s p w) r
+  IsTable-value p w =
+      let count = sym (length-map (change_at p (revalued w) s.held) spot) ∙ ap length (spots-value p w s.held) ∙ length-map s.held spot in
+      record { indexed = indexed_value heads s p w table.indexed; few = table.few; limit = omega (arith, count, table.limit) }
+
+  -- a pair was moved to the back
+  pub length-moved : (t : State (K × V)) (p : Ptr) → IsHeld s.held p → AtHeld s.held p (λ xs x ys. t.held ≡ (xs ++ ys) ++ x ∷ []) → length t.held ≡ length s.held
+  length-moved t p h last =
+      let a = ap length (last h.0 h.1 h.2 h.3 h.4) in
+      let b = ap length h.3 in
+      let f = length-append (h.0 ++ h.2) (h.1 ∷ []) in
+      let g = length-append h.0 h.2 in
+      let k = length-append h.0 (h.1 ∷ h.2) in
+      omega (arith, a, b, f, g, k)
+
+  pub IsTable-to_back : {t : State (K × V)} (p : Ptr) → IsHeld s.held p → AtHeld s.held p (λ xs x ys. t.held ≡ (xs ++ ys) ++ x ∷ []) → t.spares ≡ s.spares → IsTable heads t r
+  IsTable-to_back {t} p h last spares =
+      let long = length-moved t p h last in
+      record { indexed = indexed_to_back heads s t p table.indexed h last spares; few = table.few; limit = omega (arith, long, spares, table.limit) }
+
+  -- a pair was put at the back
+  pub IsTable-pushed : {chains : List (Option Ptr)} {t u : State (K × V)} (x : Held (K × V)) → t.held ≡ s.held ++ x ∷ [] → t.spares ≡ s.spares - 1 → 0 < s.spares → entries u.held ≡ entries t.held → u.spares ≡ t.spares → Indexes chains (spots u.held) → length chains ≡ length heads → IsTable chains u r
+  IsTable-pushed {chains} {t} {u} x last less room same spares indexed count =
+      let a = ap length last in
+      let b = length-append s.held (x ∷ []) in
+      let long = length-same_entries u.held t.held same in
+      let all : length s.held + s.spares ≡ length u.held + u.spares = omega (arith, a, b, long, less, spares, room) in
+      record { indexed = record { chains = indexed; count = count ∙ table.indexed.count ∙ ap buckets all }; few = omega (arith, table.few, count); limit = omega (arith, all, table.limit) }
+
+  -- the node at p was taken out of its chain, and then out of the ring
+  module _ {chains : List (Option Ptr)} {t w : State (K × V)} {p : Ptr} (same : entries t.held ≡ entries s.held) (spares : t.spares ≡ s.spares) (lacks : HoldsOthers chains t.held p) (others : AtHeld t.held p (λ xs x ys. w.held ≡ xs ++ ys)) (more : w.spares ≡ t.spares + 1) where
+    pub all_nodes : length s.held + s.spares ≡ length w.held + w.spares
+    all_nodes =
+        let out = ap length (others lacks.before lacks.node lacks.after lacks.is lacks.at) in
+        let of_rest = length-append lacks.before lacks.after in
+        let of_held = ap length lacks.is in
+        let of_all = length-append lacks.before (lacks.node ∷ lacks.after) in
+        let long = length-same_entries t.held s.held same in
+        omega (arith, out, of_rest, of_held, of_all, long, spares, more)
+
+    pub IsTable-removed : length chains ≡ length heads → IsTable chains w r
+    IsTable-removed count =
+        let out = others lacks.before lacks.node lacks.after lacks.is lacks.at in
+        let all = all_nodes in
+        record {
+          indexed = record { chains = subst (λ (hs : List (Held (K × V))). Indexes chains (spots hs)) (sym out) lacks.others; count = count ∙ table.indexed.count ∙ ap buckets all };
+          few = omega (arith, table.few, count);
+          limit = omega (arith, all, table.limit);
+        }
+
+  -- the capacity rises, and the buckets do for it: no node is rehashed
+  module _ (d : ℕ) (up : length s.held + s.spares < d) (enough : d ≤ length heads) where
+    same_buckets : buckets (length s.held + s.spares) ≡ buckets d
+    same_buckets = buckets-stay (length s.held + s.spares) d up (omega (arith, enough, table.indexed.count))
+
+    pub rechained-stays : (len : ℕ) → rechained_raised r len (length s.held + s.spares) d ≡ r
+    rechained-stays len = ap (λ b. cond b r (r + len)) (eq-eqb (buckets (length s.held + s.spares)) (buckets d) same_buckets)
+
+    pub IsTable-grown : {E : Type 0} {t : State (K × V)} (result : Result (Unit {0}) E) (more : ℕ) → OnOk result (t.held ≡ s.held) → OnOk result (t.spares ≡ s.spares + more) → OnErr result (t ≡ s) → d ≡ length s.held + s.spares + more → d ≤ 2 ^ 59 → IsTable heads t r
+    IsTable-grown {t = t} (Ok _) more stays spares _ all within =
+        let sum : length s.held + t.spares ≡ d = omega (arith, spares, all) in
+        IsTable-rechained (ap entries stays) (omega (arith, sum, within)) (subst (λ hs. Indexes heads (spots hs)) (sym stays) table.indexed.chains) (table.indexed.count ∙ same_buckets ∙ ap buckets (sym sum)) table.few
+    IsTable-grown (Err _) more _ _ unchanged _ _ = subst (λ u. IsTable heads u r) (sym unchanged) table
+
+  -- it rises above the number of buckets: each node can be rehashed
+  module _ (d : ℕ) (up : length s.held + s.spares < d) (few : length heads < d) where
+    differ : buckets (length s.held + s.spares) ≢ buckets d
+    differ e = let fits = capacity_le d in let count = table.indexed.count in absurd (omega (arith, few, count, e, fits))
+
+    pub rechained-fits : r + length s.held ≤ buckets d
+    rechained-fits =
+        let count : length heads ≡ buckets (length s.held + s.spares) = table.indexed.count in
+        raised_more r (length s.held) (length s.held + s.spares) d (omega (arith, table.few, count)) (omega arith) (omega (arith, up)) differ
+
+    pub rechained-moves : (len : ℕ) → rechained_raised r len (length s.held + s.spares) d ≡ r + len
+    rechained-moves len = ap (λ b. cond b r (r + len)) (ne_eqb (buckets (length s.held + s.spares)) (buckets d) differ)

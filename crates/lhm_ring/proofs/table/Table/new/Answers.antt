@@ -1,0 +1,9 @@
+use Rattle.std.proofs.Common.{length, ap, arith}
+use Rattle.lhm_ring.proofs.IndexedRing.{indexed_new}
+use Rattle.lhm_ring.proofs.table.Table.new.Goals as goal
+
+pub invariant_of-result : goal.invariant_of-result
+invariant_of-result g c =
+    let none = c.new.ensures.no_spares in
+    let empty = ap length c.new.ensures.empty in
+    record { indexed = indexed_new c.new-2.result c.new.result c.new-2.ensures c.new.ensures.empty none; few = omega arith; limit = omega (arith, none, empty) }

@@ -1,0 +1,33 @@
+use Rattle.std.proofs.Common.{◌≡◌, ◌+◌, ◌<◌, ◌≤◌, ◌∙◌, length, ap, sym, arith}
+use Rattle.lhm_ring.specs.Buckets.{buckets}
+use Rattle.lhm_ring.specs.Search.{entries}
+use Rattle.lhm_ring.proofs.Tables.{capacity_in, OnOk_always, IsTable-grown, IsTable-rechained, rechained-stays, rechained-fits}
+use Rattle.lhm_ring.proofs.table.Table.raise.Goals as goal
+
+pub invariant_of-self : goal.invariant_of-self
+invariant_of-self g c =
+    let i = c.self.inside in
+    let all = capacity_in i.ring i.rechained c.self.view_is in
+    let up : length i.ring.held + i.ring.spares < c.args.capacity = omega (arith, all, c.requires.higher) in
+    let enough : c.args.capacity ≤ length i.index = omega (arith, c.if-capacity-buckets.true, c.buckets.ensures) in
+    IsTable-grown c.self.invariant c.args.capacity up enough c.grow.result _ c.grow.ensures.held c.grow.ensures.spares c.grow.ensures.refused (omega (arith, all, up, c.capacity.ensures.value)) c.requires.limit
+
+pub returns-then-capacity-buckets-clause-rechained : goal.returns-then-capacity-buckets-clause-rechained
+returns-then-capacity-buckets-clause-rechained g c =
+    let i = c.self.inside in
+    let all = capacity_in i.ring i.rechained c.self.view_is in
+    let up : length i.ring.held + i.ring.spares < c.args.capacity = omega (arith, all, c.requires.higher) in
+    let enough : c.args.capacity ≤ length i.index = omega (arith, c.if-capacity-buckets.true, c.buckets.ensures) in
+    rw (← c.self.view_is) (OnOk_always c.grow.result (sym (rechained-stays c.self.invariant c.args.capacity up enough _)))
+
+pub invariant_of-self-2 : goal.invariant_of-self-2
+invariant_of-self-2 g c =
+    let i = c.self.inside in
+    let all = capacity_in i.ring i.rechained c.self.view_is in
+    let up : length i.ring.held + i.ring.spares < c.args.capacity = omega (arith, all, c.requires.higher) in
+    let few : length i.index < c.args.capacity = omega (arith, c.if-capacity-buckets.false, c.buckets.ensures) in
+    let sum : length i.ring.held + c.take_over.new.ring.spares ≡ c.args.capacity = omega (arith, all, c.requires.higher, c.capacity.ensures.value, c.in_ok-grow.ensures.spares, c.take_over.ensures.spares) in
+    let wide : length c.take_over.new.self ≡ buckets c.args.capacity = c.take_over.ensures.buckets ∙ c.in_ok-fresh.ensures.buckets in
+    let count : c.take_over.result ≡ length i.ring.held = c.take_over.ensures.count ∙ ap length c.in_ok-grow.ensures.held in
+    let fits = rechained-fits c.self.invariant c.args.capacity up few in
+    IsTable-rechained c.self.invariant {t = c.take_over.new.ring} (c.take_over.ensures.held ∙ ap entries c.in_ok-grow.ensures.held) (omega (arith, sum, c.requires.limit)) c.take_over.ensures.indexed (wide ∙ ap buckets (sym sum)) (omega (arith, fits, count, wide))

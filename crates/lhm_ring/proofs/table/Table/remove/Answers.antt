@@ -1,0 +1,40 @@
+use Rattle.std.proofs.Common.{◌≡◌, ◌++◌, sym, ap, ◌∙◌, arith}
+use Rattle.lhm_ring.specs.Positions.{pointer_of}
+use Rattle.lhm_ring.specs.Search.{entries}
+use Rattle.lhm_ring.proofs.IndexChanges.{HasKey-kept}
+use Rattle.lhm_ring.proofs.Tables.{IsAbsent-entries, HasKey-entries, at_entries, capacity_in, entries-append, IsTable-removed, all_nodes}
+use Rattle.lhm_ring.proofs.table.Table.remove.Goals as goal
+
+pub returns-in_err-at-clause-absent : goal.returns-in_err-at-clause-absent
+returns-in_err-at-clause-absent g c =
+    rw (c.from_residual.ensures, ← c.self.view_is) (IsAbsent-entries g.K.PartialEq.eq c.args.hash c.args.key.now c.self.inside.ring.held c.in_err-at.ensures.absent)
+
+pub invariant_of-self-2 : goal.invariant_of-self-2
+invariant_of-self-2 g c =
+    let taken = c.in_ok-at.ensures in
+    let unlinked = c.unlink-key.ensures in
+    IsTable-removed c.self.invariant taken.held taken.spares taken.lacks unlinked.others unlinked.spares taken.buckets
+
+pub returns-clause-removed : goal.returns-clause-removed
+returns-clause-removed g c =
+    let i = c.self.inside in
+    let p = pointer_of c.in_ok-at.at in
+    let ks = c.take_out.new.ring.held in
+    let taken = c.in_ok-at.ensures in
+    let has = HasKey-kept g.K.PartialEq.eq c.args.hash c.args.key.now ks i.ring.held p (sym taken.held) taken.found in
+    record {
+      at = p;
+      has = rw (← c.self.view_is) (HasKey-entries g.K.PartialEq.eq c.args.hash c.args.key.now i.ring.held p has);
+      others = at_entries i.ring i.rechained c.self.view_is ks taken.held p (λ xs t ys. entries c.unlink-key.new.self.held ≡ xs ++ ys)
+          (λ xs t ys e at. ap entries (c.unlink-key.ensures.others xs t ys e at) ∙ entries-append xs ys);
+      pair_is = at_entries i.ring i.rechained c.self.view_is ks taken.held p (λ xs t ys. (c.unlink-key.result.1, c.unlink-key.result.2) ≡ t.pair)
+          (λ xs t ys e at. ap (λ z. (z.1, z.2)) (c.unlink-key.ensures.triple xs t ys e at));
+    }
+
+pub returns-clause-capacity : goal.returns-clause-capacity
+returns-clause-capacity g c =
+    let taken = c.in_ok-at.ensures in
+    let unlinked = c.unlink-key.ensures in
+    let all = all_nodes c.self.invariant taken.held taken.spares taken.lacks unlinked.others unlinked.spares in
+    let before = capacity_in c.self.inside.ring c.self.inside.rechained c.self.view_is in
+    omega (arith, all, before)

@@ -1,0 +1,35 @@
+-- What callers see of a table: a ring and its index, kept in step.
+use Rattle.std.specs.Prelude.{◌≡◌, ℕ, ◌+◌, ◌≤◌, ◌^◌, Bool, List, [], ◌∷◌, ◌++◌, length, Option}
+use denote.RawPtr.{Ptr}
+use Rattle.lhm_ring.specs.RingState.{State, Held, AtHeld, change_at}
+use Rattle.lhm_ring.specs.RingAfterLoan.{revalued}
+use Rattle.lhm_ring.specs.Search.{HasKey, entries}
+use Rattle.lhm_ring.specs.IndexedRing.{IsIndexed}
+
+-- the pairs in order, each with its position and its hash and with no link; how many there is room for; and how many nodes
+-- rehashes have moved
+pub record TableState (B : Type 0) : Type 0 where
+  pub held : List (Held B)
+  pub capacity : ℕ
+  pub rechained : ℕ
+
+-- a table with this ring and this count
+abbrev pub table_of : {K V : Type 0} → State (K × V) → ℕ → TableState (K × V)
+table_of s rechained = record { held = entries s.held; capacity = length s.held + s.spares; rechained = rechained }
+
+-- the index is that of the ring, the count is at most the number of buckets, and the nodes are at most as many as a ring may have
+pub record IsTable {K V : Type 0} (heads : List (Option Ptr)) (s : State (K × V)) (rechained : ℕ) : Type 0 where
+  pub indexed : IsIndexed heads s
+  pub few : rechained ≤ length heads
+  pub limit : length s.held + s.spares ≤ 2 ^ 59
+
+-- a value written at p changes one pair, and no other
+abbrev pub WritesOnly : {K V : Type 0} → List (Held (K × V)) → Ptr → Type 0
+WritesOnly {K} {V} hs p = AtHeld hs p (λ xs t ys. (w : V) → change_at p (revalued w) hs ≡ xs ++ revalued w t ∷ ys)
+
+-- the pair at p, which has the hash and the key, was removed
+pub record Removes {K V : Type 0} (eq : K → K → Bool) (hash : ℕ) (key : K) (old new : List (Held (K × V))) (removed : K × V) : Type 0 where
+  pub at : Ptr
+  pub has : HasKey eq hash key old at
+  pub others : AtHeld old at (λ xs t ys. new ≡ xs ++ ys)
+  pub pair_is : AtHeld old at (λ xs t ys. removed ≡ t.pair)

@@ -1,0 +1,297 @@
+//! Pairs in insertion order with a hash index of their keys: a ring and its index, kept in step.
+ghost use Rattle.std.specs.Prelude.{◌≡◌, ◌==◌, ◌+◌, ◌<◌, ◌≤◌, ◌^◌, ◌++◌, ◌∷◌, [], length, map, None, IfOk, OnOk, OnErr, IsOk, IfSome, IfNone, OnSome};
+ghost use Rattle.lhm_ring.specs.Cells.{IsApart};
+ghost use Rattle.lhm_ring.specs.RingState.{IsHeld, AtHeld, first_at, last_at, held};
+ghost use Rattle.lhm_ring.specs.RingAfterLoan.{pair};
+ghost use Rattle.lhm_ring.specs.Positions.{pointer_of, pointer_of_some};
+ghost use Rattle.lhm_ring.specs.Index.{spots};
+ghost use Rattle.lhm_ring.specs.Search.{HasKey, IsAbsent, CountsSome, CountsAll};
+ghost use Rattle.lhm_ring.specs.Buckets.{buckets, rechained_raised, rechained_lowered};
+ghost use Rattle.lhm_ring.specs.Tables.{Removes, WritesOnly};
+
+use crate::index::{Index, Probe, buckets_for};
+use crate::ring::{Drain, Position, Ring};
+use std::alloc::{AllocError, Global};
+use std::marker::Model;
+use std::mem;
+
+/// Pairs of a key and a value in insertion order, each with the hash of its key, found by hash and key.
+///
+/// Each pair has a [`Position`] until it is removed. The capacity is the number of pairs that fit without an
+/// allocation. Only `with_capacity`, `raise` and `lower` allocate, and a refusal changes nothing.
+pub struct Table<K, V> {
+    ring: Ring<K, V>,
+    index: Index<K, V>,
+    // How many nodes rehashes have moved since the capacity was lowered.
+    rechained: usize,
+}
+
+impl<K, V> Model for Table<K, V> {
+    ghost use Rattle.lhm_ring.specs.Tables.{TableState, table_of, IsTable};
+
+    ghost Value = { TableState (K × V) };
+
+    ghost view = { λ t. table_of t.ring t.rechained };
+
+    ghost invariant = { λ t. IsTable t.index t.ring t.rechained };
+}
+
+impl<K: Drop, V: Drop> Drop for Table<K, V> {
+    fn drop(self) {
+        let Table {
+            ring,
+            index,
+            rechained: _,
+        } = self;
+        drop(ring);
+        drop(index);
+    }
+}
+
+impl<K, V> Table<K, V> {
+    ghost use Rattle.std.specs.Borrow.{sem};
+    ghost use Rattle.lhm_ring.specs.TableAfterLoan.{lends_value, lends_drained};
+    ghost use Rattle.lhm_ring.specs.Drains.{drain_name, drain_rest};
+    ghost use Rattle.lhm_ring.specs.RingState.{triples};
+
+    /// Makes an empty table of capacity 0. It does not allocate.
+    pub fn new(alloc: Global) -> Table<K, V>
+        ensures held { result.held ≡ [] }
+        ensures capacity { result.capacity ≡ 0 }
+        ensures rechained { result.rechained ≡ 0 }
+    {
+        Table {
+            ring: Ring::new(alloc),
+            index: Index::new(alloc),
+            rechained: 0,
+        }
+    }
+
+    /// Makes an empty table of exactly this capacity, in O(n). Capacity 0 does not allocate.
+    pub fn with_capacity(alloc: Global, capacity: usize) -> Result<Table<K, V>, AllocError>
+        requires { capacity ≤ 2 ^ 59 }
+        ensures held { IfOk result (λ table. table.held ≡ []) }
+        ensures capacity { IfOk result (λ table. table.capacity ≡ capacity) }
+        ensures rechained { IfOk result (λ table. table.rechained ≡ 0) }
+        ensures succeeds { capacity ≡ 0 → IsOk result }
+    {
+        let index = Index::with_buckets(alloc, capacity)?;
+        let ring = Ring::with_spares(alloc, capacity)?;
+        Ok(Table {
+            ring,
+            index,
+            rechained: 0,
+        })
+    }
+
+    /// Returns the allocator that the table was made with.
+    pub fn allocator(&self) -> Global {
+        self.ring.allocator()
+    }
+
+    /// Returns the number of pairs.
+    pub fn len(&self) -> usize
+        ensures value { result ≡ length self.now.held }
+        ensures within { length self.now.held ≤ self.now.capacity }
+        ensures limit { self.now.capacity ≤ 2 ^ 59 }
+    {
+        self.ring.len()
+    }
+
+    /// Returns the number of pairs that fit without an allocation.
+    pub fn capacity(&self) -> usize
+        ensures value { result ≡ self.now.capacity }
+        ensures within { length self.now.held ≤ self.now.capacity }
+        ensures limit { self.now.capacity ≤ 2 ^ 59 }
+    {
+        self.ring.len() + self.ring.spares()
+    }
+
+    /// Returns how many nodes rehashes have moved since `lower` last changed the capacity, that call included.
+    pub fn rechained(&self) -> usize
+        ensures value { result ≡ self.now.rechained }
+        ensures few { self.now.rechained ≤ buckets self.now.capacity }
+    {
+        self.rechained
+    }
+
+    /// Returns the position of the front pair, or `None` if the table is empty.
+    pub fn first(&self) -> Option<Position<K, V>>
+        ensures { pointer_of_some result ≡ first_at self.now.held }
+    {
+        self.ring.first()
+    }
+
+    /// Returns the position of the back pair, or `None` if the table is empty.
+    pub fn last(&self) -> Option<Position<K, V>>
+        ensures { pointer_of_some result ≡ last_at self.now.held }
+    {
+        self.ring.last()
+    }
+
+    /// Returns the position of the next pair, or `None` at the back.
+    pub fn next(&self, at: Position<K, V>) -> Option<Position<K, V>>
+        requires { IsHeld self.now.held (pointer_of at) }
+        ensures next { AtHeld self.now.held (pointer_of at) (λ xs t ys. pointer_of_some result ≡ first_at ys) }
+        ensures apart { IsApart (map (λ t. t.at) self.now.held) }
+    {
+        self.ring.next(at)
+    }
+
+    /// Returns the key at a position.
+    pub fn key(&self, at: Position<K, V>) -> &K
+        requires { IsHeld self.now.held (pointer_of at) }
+        ensures { AtHeld self.now.held (pointer_of at) (λ xs t ys. result.now ≡ t.pair.0) }
+    {
+        self.ring.key(at)
+    }
+
+    /// Returns the value at a position.
+    pub fn value(&self, at: Position<K, V>) -> &V
+        requires { IsHeld self.now.held (pointer_of at) }
+        ensures { AtHeld self.now.held (pointer_of at) (λ xs t ys. result.now ≡ t.pair.1) }
+    {
+        self.ring.value(at)
+    }
+
+    /// Lends the value at a position for writing.
+    pub fn value_mut(&mut self, at: Position<K, V>) -> &mut V
+        requires { IsHeld self.old.held (pointer_of at) }
+        ensures* writes_back { sem 𝓛 (lends_value K.row V.row self.entry (pointer_of at) result) }
+        ensures value { AtHeld self.old.held (pointer_of at) (λ xs t ys. result.now ≡ t.pair.1) }
+        ensures alone { WritesOnly self.old.held (pointer_of at) }
+    {
+        self.ring.value_mut(at)
+    }
+
+    /// Moves the pair at a position to the back, in O(1). Positions stay.
+    pub fn move_to_back(&mut self, at: Position<K, V>)
+        requires { IsHeld self.old.held (pointer_of at) }
+        ensures last { AtHeld self.old.held (pointer_of at) (λ xs t ys. self.new.held ≡ (xs ++ ys) ++ t ∷ []) }
+        ensures capacity { self.new.capacity ≡ self.old.capacity }
+        ensures rechained { self.new.rechained ≡ self.old.rechained }
+        ensures apart { IsApart (map (λ t. t.at) self.old.held) }
+    {
+        self.ring.move_to_back(at);
+    }
+
+    /// Inserts a pair at the back and returns its position, in O(1). It does not allocate.
+    pub fn push_back(&mut self, hash: u64, key: K, value: V) -> Position<K, V>
+        requires { length self.old.held < self.old.capacity }
+        ensures last { self.new.held ≡ self.old.held ++ held (pointer_of result) hash None (pair key value) ∷ [] }
+        ensures capacity { self.new.capacity ≡ self.old.capacity }
+        ensures rechained { self.new.rechained ≡ self.old.rechained }
+    {
+        let at = self.ring.put_back(hash, key, value);
+        self.index.put_in(&mut self.ring, at);
+        at
+    }
+
+    /// Removes the pair at a position and returns it. No key is compared.
+    ///
+    /// It takes O(1) time on average: it passes the nodes of the bucket. The capacity stays.
+    pub fn remove_at(&mut self, at: Position<K, V>) -> (K, V)
+        requires { IsHeld self.old.held (pointer_of at) }
+        ensures others { AtHeld self.old.held (pointer_of at) (λ xs t ys. self.new.held ≡ xs ++ ys) }
+        ensures pair { AtHeld self.old.held (pointer_of at) (λ xs t ys. result ≡ t.pair) }
+        ensures capacity { self.new.capacity ≡ self.old.capacity }
+        ensures rechained { self.new.rechained ≡ self.old.rechained }
+    {
+        self.index.take_out_at(&mut self.ring, at);
+        let (_, key, value) = self.ring.unlink(at);
+        (key, value)
+    }
+
+    /// Raises the capacity, or changes nothing if memory is refused.
+    ///
+    /// It allocates the buckets first, if there are to be more, and then the nodes. More buckets rehash all pairs, in
+    /// O(n).
+    pub fn raise(&mut self, capacity: usize) -> Result<(), AllocError>
+        requires higher { self.old.capacity < capacity }
+        requires limit { capacity ≤ 2 ^ 59 }
+        ensures held { self.new.held ≡ self.old.held }
+        ensures capacity { OnOk result (self.new.capacity ≡ capacity) }
+        ensures rechained { OnOk result (self.new.rechained
+            ≡ rechained_raised self.old.rechained (length self.old.held) self.old.capacity capacity) }
+        ensures refused { OnErr result (self.new ≡ self.old) }
+    {
+        let additional = capacity - self.capacity();
+        if capacity <= self.index.buckets() {
+            return self.ring.grow(additional);
+        }
+        let fresh = Index::with_buckets(self.ring.allocator(), capacity)?;
+        self.ring.grow(additional)?;
+        self.rechained += self.index.take_over(fresh, &mut self.ring);
+        Ok(())
+    }
+
+    /// Lowers the capacity to the number of pairs, or changes nothing if memory is refused.
+    ///
+    /// It allocates only if there are to be fewer buckets, which rehashes all pairs, in O(n).
+    pub fn lower(&mut self) -> Result<(), AllocError>
+        ensures held { self.new.held ≡ self.old.held }
+        ensures capacity { OnOk result (self.new.capacity ≡ length self.old.held) }
+        ensures rechained { OnOk result (self.new.rechained ≡ rechained_lowered (length self.old.held) self.old.capacity) }
+        ensures refused { OnErr result (self.new ≡ self.old) }
+    {
+        let len = self.ring.len();
+        if buckets_for(len) == self.index.buckets() {
+            self.ring.free_spares();
+            self.rechained = 0;
+            return Ok(());
+        }
+        let fresh = Index::with_buckets(self.ring.allocator(), len)?;
+        self.ring.free_spares();
+        self.rechained = self.index.take_over(fresh, &mut self.ring);
+        Ok(())
+    }
+
+    /// Deallocates all memory of an empty table, in O(n).
+    pub fn free(&mut self)
+        requires { self.old.held ≡ [] }
+        ensures held { self.new.held ≡ [] }
+        ensures capacity { self.new.capacity ≡ 0 }
+        ensures rechained { self.new.rechained ≡ 0 }
+    {
+        let alloc = self.ring.allocator();
+        self.rechained = 0;
+        self.index = Index::new(alloc);
+        mem::replace(&mut self.ring, Ring::new(alloc)).destroy_empty();
+    }
+
+    /// Removes all pairs and returns them as an iterator, front to back. The capacity stays.
+    ///
+    /// The table is empty from the call on, also if the iterator is forgotten. The call is O(n).
+    pub fn drain(&mut self) -> Drain<'_, K, V>
+        ensures* writes_back { sem 𝓛 (lends_drained K.row V.row self.entry (drain_name result)) }
+        ensures rest { drain_rest result ≡ triples self.old.held }
+    {
+        self.index.forget_all();
+        self.ring.splice_all()
+    }
+}
+
+impl<K: Eq, V> Table<K, V> {
+    /// Returns the position of the pair with this hash and this key, and what the lookup counted.
+    pub fn find(&self, hash: u64, key: &K) -> (Option<Position<K, V>>, Probe)
+        ensures found { IfSome result.0 (λ p. HasKey K.eq hash key.now self.now.held (pointer_of p)) }
+        ensures absent { IfNone result.0 (IsAbsent K.eq hash key.now self.now.held) }
+        ensures counts_found { OnSome result.0 (CountsSome (spots self.now.held) (buckets self.now.capacity) hash result.1.visited result.1.compared) }
+        ensures counts_absent { IfNone result.0 (CountsAll (spots self.now.held) (buckets self.now.capacity) hash result.1.visited result.1.compared) }
+    {
+        self.index.find(&self.ring, hash, key)
+    }
+
+    /// Removes the pair with this hash and this key and returns it, or returns `None` if there is none.
+    pub fn remove(&mut self, hash: u64, key: &K) -> Option<(K, V)>
+        ensures removed { IfSome result (Removes K.eq hash key.now self.old.held self.new.held) }
+        ensures absent { IfNone result (IsAbsent K.eq hash key.now self.old.held) }
+        ensures unchanged { IfNone result (self.new ≡ self.old) }
+        ensures capacity { self.new.capacity ≡ self.old.capacity }
+        ensures rechained { self.new.rechained ≡ self.old.rechained }
+    {
+        let at = self.index.take_out(&mut self.ring, hash, key)?;
+        let (_, key, value) = self.ring.unlink(at);
+        Some((key, value))
+    }
+}
