@@ -6,12 +6,14 @@ pub mod ContentChange
 pub mod ContentTaken
 pub mod ContentsSplitOff
 pub mod DroppedRing
+pub mod Ends
 pub mod FirstAndLast
 pub mod Hashed
 pub mod Heads
 pub mod IndexChanges
 pub mod IndexMoves
 pub mod IndexedRing
+pub mod LendTable
 pub mod Lookup
 pub mod Memory
 pub mod Moves

@@ -57,9 +57,10 @@ impl<K, V> Ring<K, V> {
         Some(Position::new(self.nodes.links(guard).next))
     }
 
-    /// Returns the position of the last triple, or `None` where nothing is held.
+    /// Returns the position of the last triple, or `None` where nothing is held. No two triples are at one position.
     pub fn last(&self) -> Option<Position<K, V>>
-        ensures { pointer_of_some result ≡ last_at self.now.held }
+        ensures last { pointer_of_some result ≡ last_at self.now.held }
+        ensures apart { IsApart (map (λ t. t.at) self.now.held) }
     {
         let guard = self.guard?;
         if self.len == 0 {

@@ -7,6 +7,7 @@ pub(crate) mod content_loan;
 pub(crate) mod drain;
 pub(crate) mod grow;
 pub mod index;
+pub(crate) mod into_iter;
 pub(crate) mod iter;
 pub(crate) mod link;
 pub(crate) mod links;

@@ -1,6 +1,6 @@
 //! The ring: a guard, the held nodes in order, and the spare ones.
-ghost use Rattle.std.specs.Prelude.{◌≡◌, ◌+◌, ◌≤◌, ◌^◌, [], true, length, map, IfOk, IsOk};
-ghost use Rattle.lhm_ring.specs.Cells.{IsApart, IsAt};
+ghost use Rattle.std.specs.Prelude.{◌≡◌, ◌+◌, ◌≤◌, ◌^◌, [], true, length, IfOk, IsOk};
+ghost use Rattle.lhm_ring.specs.Cells.{IsAt};
 ghost use Rattle.lhm_ring.specs.Rings.{IsJoined, Relinks, is_there};
 
 use crate::block::{NodePointer, deallocate};
@@ -82,11 +82,10 @@ impl<K, V> Ring<K, V> {
         self.alloc
     }
 
-    /// Returns how many triples are held. With the spare nodes they are at most 2^59, and no two are at one position.
+    /// Returns how many triples are held. With the spare nodes they are at most 2^59.
     pub fn len(&self) -> usize
         ensures value { result ≡ length self.now.held }
         ensures bounded { length self.now.held + self.now.spares ≤ 2 ^ 59 }
-        ensures apart { IsApart (map (λ t. t.at) self.now.held) }
     {
         self.len
     }

@@ -5,22 +5,30 @@ ghost use Rattle.lhm_ring.specs.RingState.{IsHeld, AtHeld, first_at, last_at, he
 ghost use Rattle.lhm_ring.specs.RingAfterLoan.{pair};
 ghost use Rattle.lhm_ring.specs.Positions.{pointer_of, pointer_of_some};
 ghost use Rattle.lhm_ring.specs.Index.{spots};
-ghost use Rattle.lhm_ring.specs.Search.{HasKey, IsAbsent, CountsSome, CountsAll};
+ghost use Rattle.lhm_ring.specs.Search.{entries, HasKey, IsAbsent, CountsSome, CountsAll};
 ghost use Rattle.lhm_ring.specs.Buckets.{buckets, rechained_raised, rechained_lowered};
 ghost use Rattle.lhm_ring.specs.Tables.{Removes, WritesOnly};
 
-use crate::index::{Index, Probe, buckets_for};
-use crate::ring::{Drain, Position, Ring};
+use crate::index::{Index, buckets_for};
+use crate::ring::Ring;
 use std::alloc::{AllocError, Global};
 use std::marker::Model;
 use std::mem;
+
+pub use crate::index::Probe;
+pub use crate::into_iter::IntoIter;
+pub use crate::ring::{Drain, Hole, Iter, IterMut, LentValues, Position, ValueLoan};
+
+/// The ring of a table, while the values are lent.
+pub type WithoutValues<K, V> = Ring<K, Hole<V>>;
 
 /// Pairs of a key and a value in insertion order, each with the hash of its key, found by hash and key.
 ///
 /// Each pair has a [`Position`] until it is removed. The capacity is the number of pairs that fit without an
 /// allocation. Only `with_capacity`, `raise` and `lower` allocate, and a refusal changes nothing.
 pub struct Table<K, V> {
-    ring: Ring<K, V>,
+    /// Public for a type that keeps a table in a field and lends its values.
+    pub ring: Ring<K, V>,
     index: Index<K, V>,
     // How many nodes rehashes have moved since the capacity was lowered.
     rechained: usize,
@@ -124,7 +132,8 @@ impl<K, V> Table<K, V> {
 
     /// Returns the position of the back pair, or `None` if the table is empty.
     pub fn last(&self) -> Option<Position<K, V>>
-        ensures { pointer_of_some result ≡ last_at self.now.held }
+        ensures last { pointer_of_some result ≡ last_at self.now.held }
+        ensures apart { IsApart (map (λ t. t.at) self.now.held) }
     {
         self.ring.last()
     }
@@ -206,6 +215,8 @@ impl<K, V> Table<K, V> {
     ///
     /// It allocates the buckets first, if there are to be more, and then the nodes. More buckets rehash all pairs, in
     /// O(n).
+    #[cold]
+    #[inline(never)]
     pub fn raise(&mut self, capacity: usize) -> Result<(), AllocError>
         requires higher { self.old.capacity < capacity }
         requires limit { capacity ≤ 2 ^ 59 }
@@ -257,6 +268,26 @@ impl<K, V> Table<K, V> {
         self.rechained = 0;
         self.index = Index::new(alloc);
         mem::replace(&mut self.ring, Ring::new(alloc)).destroy_empty();
+    }
+
+    /// Returns an iterator over the pairs with their hashes, front to back.
+    pub fn iter(&self) -> Iter<'_, K, V>
+        ensures { entries result ≡ self.now.held }
+    {
+        self.ring.iter()
+    }
+
+    /// Returns an iterator that owns the pairs, with their hashes, front to back.
+    pub fn into_iter(self) -> IntoIter<K, V>
+        ensures { result ≡ triples self.held }
+    {
+        let Table {
+            ring,
+            index,
+            rechained: _,
+        } = self;
+        drop(index);
+        IntoIter::new(ring)
     }
 
     /// Removes all pairs and returns them as an iterator, front to back. The capacity stays.

@@ -3,7 +3,7 @@ ghost use Rattle.std.specs.Prelude.{◌≡◌, Some, IfSome, length, map};
 ghost use Rattle.std.specs.Iterator.{at_most, UpTo};
 ghost use Rattle.std.specs.Iterator.SizeHint.{IsWithinCount};
 
-use lhm_ring::ring;
+use lhm_ring::table;
 use std::iter::FusedIterator;
 
 /// An iterator that hands out the pairs that a map had, from both ends. It is made by `drain`.
@@ -25,7 +25,7 @@ use std::iter::FusedIterator;
 /// assert_eq!(rt; (map.len(), map.capacity()), (0, 2));
 /// ```
 pub struct Drain<'a, K, V> {
-    nodes: ring::Drain<'a, K, V>,
+    nodes: table::Drain<'a, K, V>,
 }
 
 impl<'a, K, V> Drain<'a, K, V> {
@@ -33,7 +33,7 @@ impl<'a, K, V> Drain<'a, K, V> {
     ghost use Rattle.linked_hash_map.specs.Drains.{drain_rest, drain_name};
 
     /// Hands out what a ring held.
-    pub(crate) fn new(nodes: ring::Drain<'a, K, V>) -> Self
+    pub(crate) fn new(nodes: table::Drain<'a, K, V>) -> Self
         ensures rest { drain_rest result ≡ map (λ t. t.1) (ring.drain_rest nodes.entry) }
         ensures name { drain_name result ≡ ring.drain_name nodes.entry }
     {

@@ -8,8 +8,8 @@ ghost use Rattle.std.specs.Iterator.SizeHint.{IsWithinCount};
 ghost use Rattle.std.specs.Map.Iter.{TakesFirst, TakesLast, deref_pair};
 
 use crate::map::LinkedHashMap;
-use lhm_ring::ring;
-use lhm_ring::ring::Ring;
+use lhm_ring::table;
+use lhm_ring::table::Table;
 use std::alloc::AllocError;
 use std::hash::{BuildHasher, Hash};
 use std::iter::FusedIterator;
@@ -43,7 +43,7 @@ pub use values::Values;
 /// ```
 #[derive(Drop)]
 pub struct Iter<'a, K, V> {
-    nodes: ring::Iter<'a, K, V>,
+    nodes: table::Iter<'a, K, V>,
 }
 
 /// A contract sees the pairs that are left, in their order.
@@ -60,10 +60,12 @@ impl<'a, K, V> Iter<'a, K, V> {
     ghost use Rattle.linked_hash_map.specs.Nodes.{pairs_of};
 
     /// Walks over a ring.
-    pub(crate) fn new(ring: &'a Ring<K, V>) -> Self
-        ensures { result ≡ pairs_of ring.now.held }
+    pub(crate) fn new(table: &'a Table<K, V>) -> Self
+        ensures { result ≡ pairs_of table.now.held }
     {
-        Iter { nodes: ring.iter() }
+        Iter {
+            nodes: table.iter(),
+        }
     }
 }
 

@@ -21,13 +21,11 @@ mod storage;
 mod visit;
 
 pub use self::probe::Probe;
-pub(crate) use self::storage::ring_with_room;
 use self::visit::Visit;
 use crate::drain::Drain;
 use crate::error::{NoRoom, Refused, ReserveError};
 use crate::iter::{Iter, IterMut, Keys, Values};
-use lhm_ring::index::Index;
-use lhm_ring::ring::Ring;
+use lhm_ring::table::Table;
 use std::alloc::Global;
 use std::hash::{BuildHasher, BuildHasherDefault, FoldHasher, Hash};
 use std::marker::Model;
@@ -118,15 +116,11 @@ pub enum Mode {
 /// ```
 #[derive(Drop)]
 pub struct LinkedHashMap<K: Eq + Hash, V, S: BuildHasher = DefaultHashBuilder> {
-    // The pairs in order, each with the number of its key, and a spare node for each pair more that there is room for.
-    ring: Ring<K, V>,
-    // Which node has a key, by its number.
-    index: Index<K, V>,
+    // The pairs in order, each with the hash of its key, and where a key is.
+    table: Table<K, V>,
     hasher: S,
     // Where a cursor or an entry stands.
     visit: Visit<K, V>,
-    // How many nodes changes of the capacity have chained again.
-    rechained: usize,
     // What an insertion of a present key does to the place of its pair.
     mode: Mode,
 }
@@ -142,9 +136,9 @@ impl<K: Eq + Hash, V, S: BuildHasher> Model for LinkedHashMap<K, V, S> {
 
     ghost coded = { linked_map_code K.code V.code S.code };
 
-    ghost view = { λ m. map_of m.ring m.hasher (mark_of m.visit) (unvisited_of m.visit) (current_of m.visit) m.rechained m.mode };
+    ghost view = { λ m. map_of m.table m.hasher (mark_of m.visit) (unvisited_of m.visit) (current_of m.visit) m.mode };
 
-    ghost invariant = { λ m. IsKept K.eq (hash_by S.Hasher.finish S.Hasher.write S.build_hasher K.hash_input m.hasher) m.index m.ring (mark_of m.visit) (unvisited_of m.visit) (current_of m.visit) m.rechained };
+    ghost invariant = { λ m. IsKept K.eq (hash_by S.Hasher.finish S.Hasher.write S.build_hasher K.hash_input m.hasher) m.table (mark_of m.visit) (unvisited_of m.visit) (current_of m.visit) };
 }
 
 impl<K: Eq + Hash, V> LinkedHashMap<K, V> {
@@ -225,19 +219,7 @@ impl<K: Eq + Hash, V, S: BuildHasher> LinkedHashMap<K, V, S> {
         ensures valid { IsValid K.eq result }
         ensures rechained { result.rechained ≡ 0 }
     {
-        LinkedHashMap {
-            ring: Ring::new(alloc),
-            index: Index::new(alloc),
-            hasher,
-            visit: Visit {
-                active: false,
-                mark: None,
-                unvisited: 0,
-                current: None,
-            },
-            rechained: 0,
-            mode: Mode::Touch,
-        }
+        Self::of_empty(Table::new(alloc), hasher)
     }
 
     /// Makes an empty map of exactly the given capacity with the given build hasher.
@@ -278,15 +260,26 @@ impl<K: Eq + Hash, V, S: BuildHasher> LinkedHashMap<K, V, S> {
         if capacity > LIMIT {
             return Err(ReserveError::TooLarge);
         }
-        let Ok(index) = Index::with_buckets(alloc, capacity) else {
-            return Err(ReserveError::NoRoom);
-        };
-        let Ok(ring) = ring_with_room(alloc, capacity) else {
-            return Err(ReserveError::NoRoom);
-        };
-        Ok(LinkedHashMap {
-            ring,
-            index,
+        match Table::with_capacity(alloc, capacity) {
+            Ok(table) => Ok(Self::of_empty(table, hasher)),
+            Err(_) => Err(ReserveError::NoRoom),
+        }
+    }
+
+    /// Makes a map of an empty table.
+    fn of_empty(table: Table<K, V>, hasher: S) -> Self
+        requires empty { table.held ≡ [] }
+        requires unmoved { table.rechained ≡ 0 }
+        requires limit { table.capacity ≤ LIMIT }
+        ensures pairs { result.pairs ≡ [] }
+        ensures capacity { result.capacity ≡ table.capacity }
+        ensures hasher { result.hasher ≡ hasher }
+        ensures mode { result.mode ≡ Mode.Touch }
+        ensures valid { IsValid K.eq result }
+        ensures rechained { result.rechained ≡ 0 }
+    {
+        LinkedHashMap {
+            table,
             hasher,
             visit: Visit {
                 active: false,
@@ -294,9 +287,8 @@ impl<K: Eq + Hash, V, S: BuildHasher> LinkedHashMap<K, V, S> {
                 unvisited: 0,
                 current: None,
             },
-            rechained: 0,
             mode: Mode::Touch,
-        })
+        }
     }
 
     /// Makes room for at least `additional` more pairs: the capacity becomes exactly the larger of what it is and the
@@ -338,10 +330,12 @@ impl<K: Eq + Hash, V, S: BuildHasher> LinkedHashMap<K, V, S> {
         if additional > LIMIT - len {
             return Err(ReserveError::TooLarge);
         }
-        if len + additional <= self.capacity() || self.raise(len + additional) {
-            Ok(())
-        } else {
-            Err(ReserveError::NoRoom)
+        if len + additional <= self.capacity() {
+            return Ok(());
+        }
+        match self.table.raise(len + additional) {
+            Ok(()) => Ok(()),
+            Err(_) => Err(ReserveError::NoRoom),
         }
     }
 
@@ -381,8 +375,8 @@ impl<K: Eq + Hash, V, S: BuildHasher> LinkedHashMap<K, V, S> {
     {
         let len = self.len();
         if len == 0 {
-            self.free();
-        } else if len < self.capacity() && !self.lower() {
+            self.table.free();
+        } else if len < self.capacity() && self.table.lower().is_err() {
             return Err(NoRoom);
         }
         Ok(())
@@ -511,13 +505,13 @@ impl<K: Eq + Hash, V, S: BuildHasher> LinkedHashMap<K, V, S> {
             ≤ beside (hash_by S.Hasher.finish S.Hasher.write S.build_hasher K.hash_input self.now.hasher) self.now.pairs self.now.capacity key.now) }
     {
         let number = self.hasher.hash_one(key);
-        let (found, counts) = self.index.find(&self.ring, number, key);
+        let (found, counts) = self.table.find(number, key);
         let probe = Probe {
             visited: counts.visited,
             compared: counts.compared,
         };
         match found {
-            Some(at) => (Some(self.ring.value(at)), probe),
+            Some(at) => (Some(self.table.value(at)), probe),
             None => (None, probe),
         }
     }
@@ -543,8 +537,8 @@ impl<K: Eq + Hash, V, S: BuildHasher> LinkedHashMap<K, V, S> {
         ensures valid { IsValid K.eq self.old }
     {
         let number = self.hasher.hash_one(key);
-        match self.index.find(&self.ring, number, key).0 {
-            Some(at) => Some(self.ring.value_mut(at)),
+        match self.table.find(number, key).0 {
+            Some(at) => Some(self.table.value_mut(at)),
             None => None,
         }
     }
@@ -572,11 +566,11 @@ impl<K: Eq + Hash, V, S: BuildHasher> LinkedHashMap<K, V, S> {
         ensures valid { IsValid K.eq self.old }
     {
         let number = self.hasher.hash_one(key);
-        match self.index.find(&self.ring, number, key).0 {
+        match self.table.find(number, key).0 {
             Some(at) => {
                 self.visit.active = false;
-                self.ring.move_to_back(at);
-                Some(self.ring.value_mut(at))
+                self.table.move_to_back(at);
+                Some(self.table.value_mut(at))
             }
             None => None,
         }
@@ -635,7 +629,7 @@ impl<K: Eq + Hash, V, S: BuildHasher> LinkedHashMap<K, V, S> {
         ensures capacity { result ≡ self.now.capacity }
         ensures valid { IsValid K.eq self.now }
     {
-        self.ring.len() + self.ring.spares()
+        self.table.capacity()
     }
 
     /// Returns how many nodes changes of the capacity have chained again since the last [`shrink_to_fit`] that lowered it, its own
@@ -663,7 +657,7 @@ impl<K: Eq + Hash, V, S: BuildHasher> LinkedHashMap<K, V, S> {
         ensures below { 0 < self.now.capacity → self.now.rechained < 2 * self.now.capacity }
         ensures valid { IsValid K.eq self.now }
     {
-        self.rechained
+        self.table.rechained()
     }
 
     /// Takes out the pair at the oldest place, or returns `None` on an empty map.
@@ -691,11 +685,9 @@ impl<K: Eq + Hash, V, S: BuildHasher> LinkedHashMap<K, V, S> {
         ensures valid { IsValid K.eq self.old }
         ensures stays_valid { IsValid K.eq self.new }
     {
-        let oldest = self.ring.first()?;
+        let at = self.table.first()?;
         self.visit.active = false;
-        self.index.take_out_at(&mut self.ring, oldest);
-        let (_, key, value) = self.ring.unlink(oldest);
-        Some((key, value))
+        Some(self.table.remove_at(at))
     }
 
     /// Lends the pair at the oldest place, or returns `None` on an empty map.
@@ -713,8 +705,8 @@ impl<K: Eq + Hash, V, S: BuildHasher> LinkedHashMap<K, V, S> {
     pub fn front(&self) -> Option<(&K, &V)>
         ensures { option_map deref_pair result ≡ first self.now.pairs }
     {
-        let at = self.ring.first()?;
-        Some((self.ring.key(at), self.ring.value(at)))
+        let at = self.table.first()?;
+        Some((self.table.key(at), self.table.value(at)))
     }
 
     /// Takes out the pair at the newest place, or returns `None` on an empty map.
@@ -742,14 +734,9 @@ impl<K: Eq + Hash, V, S: BuildHasher> LinkedHashMap<K, V, S> {
         ensures valid { IsValid K.eq self.old }
         ensures stays_valid { IsValid K.eq self.new }
     {
-        if self.ring.len() == 0 {
-            return None;
-        }
-        let newest = self.ring.last()?;
+        let at = self.table.last()?;
         self.visit.active = false;
-        self.index.take_out_at(&mut self.ring, newest);
-        let (_, key, value) = self.ring.unlink(newest);
-        Some((key, value))
+        Some(self.table.remove_at(at))
     }
 
     /// Lends the pair at the newest place, or returns `None` on an empty map.
@@ -767,8 +754,8 @@ impl<K: Eq + Hash, V, S: BuildHasher> LinkedHashMap<K, V, S> {
     pub fn back(&self) -> Option<(&K, &V)>
         ensures { option_map deref_pair result ≡ last self.now.pairs }
     {
-        let at = self.ring.last()?;
-        Some((self.ring.key(at), self.ring.value(at)))
+        let at = self.table.last()?;
+        Some((self.table.key(at), self.table.value(at)))
     }
 
     /// Returns the number of pairs. It takes no memory.
@@ -784,7 +771,7 @@ impl<K: Eq + Hash, V, S: BuildHasher> LinkedHashMap<K, V, S> {
         ensures len { result ≡ length self.now.pairs }
         ensures valid { IsValid K.eq self.now }
     {
-        self.ring.len()
+        self.table.len()
     }
 
     /// Tells whether the map has no pairs. It takes no memory.
@@ -916,8 +903,7 @@ impl<K: Eq + Hash, V, S: BuildHasher> LinkedHashMap<K, V, S> {
         ensures stays_valid { IsValid K.eq self.new }
     {
         self.end_visit();
-        self.index.forget_all();
-        drop(self.ring.splice_all());
+        drop(self.table.drain());
     }
 
     /// Returns an iterator over the pairs, from the oldest place to the newest, from both ends.
@@ -943,7 +929,7 @@ impl<K: Eq + Hash, V, S: BuildHasher> LinkedHashMap<K, V, S> {
         ensures runs { ShowsInOrder (deref_pair {K = K} {X = V}) }
         ensures runs_back { ShowsInReverse (deref_pair {K = K} {X = V}) }
     {
-        Iter::new(&self.ring)
+        Iter::new(&self.table)
     }
 
     /// Returns an iterator over the pairs, from the oldest place to the newest, from both ends, that lends each value for
@@ -1055,7 +1041,6 @@ impl<K: Eq + Hash, V, S: BuildHasher> LinkedHashMap<K, V, S> {
         ensures stays_back { DrainKeepsAlong DrainStepsBack result }
     {
         self.end_visit();
-        self.index.forget_all();
-        Drain::new(self.ring.splice_all())
+        Drain::new(self.table.drain())
     }
 }

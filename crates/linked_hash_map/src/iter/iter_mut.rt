@@ -5,8 +5,8 @@ ghost use Rattle.std.specs.Iterator.SizeHint.{IsWithinCount};
 ghost use Rattle.std.specs.Map.Iter.{LendsFirst, LendsLast};
 
 use crate::map::LinkedHashMap;
-use lhm_ring::ring;
-use lhm_ring::ring::LentValues;
+use lhm_ring::table;
+use lhm_ring::table::LentValues;
 use std::hash::{BuildHasher, Hash};
 use std::iter::FusedIterator;
 
@@ -28,7 +28,7 @@ use std::iter::FusedIterator;
 /// ```
 #[derive(Drop)]
 pub struct IterMut<'a, K, V> {
-    nodes: ring::IterMut<'a, K, V>,
+    nodes: table::IterMut<'a, K, V>,
 }
 
 impl<'a, K, V> IterMut<'a, K, V> {
@@ -43,7 +43,7 @@ impl<'a, K, V> IterMut<'a, K, V> {
         ensures name { loan_name result ≡ lent_name lent.entry }
     {
         IterMut {
-            nodes: ring::IterMut::of(lent),
+            nodes: table::IterMut::of(lent),
         }
     }
 }

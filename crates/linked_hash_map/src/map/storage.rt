@@ -14,7 +14,6 @@ ghost use Rattle.linked_hash_map.specs.Nodes.{pairs_of};
 ghost use Rattle.linked_hash_map.specs.Hashers.{hash_by};
 ghost use Rattle.linked_hash_map.specs.Counts.{rechained_raised, rechained_fitted};
 ghost use Rattle.linked_hash_map.specs.Validity.{IsValid};
-ghost use Rattle.lhm_ring.specs.Buckets.{rechained_lowered};
 ghost use Rattle.lhm_ring.specs.Cells.{IsApart};
 ghost use Rattle.lhm_ring.specs.Positions.{pointer_of, pointer_of_some};
 ghost use Rattle.lhm_ring.specs.RingState.{IsHeld, AtHeld, first_at};
@@ -23,28 +22,27 @@ ghost use Rattle.lhm_ring.specs.LentRings.{lent_held, lent_name, IsLent};
 use super::visit::Visit;
 use super::{LIMIT, LinkedHashMap, Mode};
 use crate::iter::IntoIter;
-use lhm_ring::index::{Index, buckets_for};
-use lhm_ring::ring::{Hole, LentValues, Position, Ring, ValueLoan};
-use std::alloc::{AllocError, Global};
+use lhm_ring::table::{LentValues, Position, Table, ValueLoan, WithoutValues};
+use std::alloc::Global;
 use std::hash::{BuildHasher, Hash};
 use std::marker::PhantomData;
 use std::mem;
 
 /// Returns where the next pair to visit is: the one behind this position, or `None` where none is left to visit.
 fn mark_behind<K, V>(
-    ring: &Ring<K, V>,
+    table: &Table<K, V>,
     at: Position<K, V>,
     unvisited: usize,
 ) -> Option<Position<K, V>>
-    requires { IsHeld ring.now.held (pointer_of at) }
+    requires { IsHeld table.now.held (pointer_of at) }
     ensures none { unvisited ≡ 0 → result ≡ None }
-    ensures next { 0 < unvisited → AtHeld ring.now.held (pointer_of at) (λ xs t ys. pointer_of_some result ≡ first_at ys) }
-    ensures apart { 0 < unvisited → IsApart (map (λ t. t.at) ring.now.held) }
+    ensures next { 0 < unvisited → AtHeld table.now.held (pointer_of at) (λ xs t ys. pointer_of_some result ≡ first_at ys) }
+    ensures apart { 0 < unvisited → IsApart (map (λ t. t.at) table.now.held) }
 {
     if unvisited == 0 {
         return None;
     }
-    ring.next(at)
+    table.next(at)
 }
 
 impl<K: Eq + Hash, V, S: BuildHasher> LinkedHashMap<K, V, S> {
@@ -58,21 +56,19 @@ impl<K: Eq + Hash, V, S: BuildHasher> LinkedHashMap<K, V, S> {
         ensures valid { IsValid K.eq self }
     {
         let LinkedHashMap {
-            ring,
-            index: _,
+            table,
             hasher: _,
             visit: _,
-            rechained: _,
             mode: _,
         } = self;
-        IntoIter::new(ring)
+        IntoIter::new(table.into_iter())
     }
 
     /// Returns the allocator that the map was made with.
     pub(crate) fn allocator(&self) -> Global
         ensures valid { IsValid K.eq self.now }
     {
-        self.ring.allocator()
+        self.table.allocator()
     }
 
     /// Returns the number of a key.
@@ -95,7 +91,7 @@ impl<K: Eq + Hash, V, S: BuildHasher> LinkedHashMap<K, V, S> {
         ensures unchanged { IsFalse result → self.new ≡ self.old }
         ensures valid { IsValid K.eq self.old }
     {
-        match self.index.find(&self.ring, number, key).0 {
+        match self.table.find(number, key).0 {
             Some(at) => {
                 self.visit = Visit {
                     active: true,
@@ -115,7 +111,7 @@ impl<K: Eq + Hash, V, S: BuildHasher> LinkedHashMap<K, V, S> {
         ensures { slice_get self.now.pairs self.now.current ≡ Some (result.0.now, result.1.now) }
     {
         let at = self.visit.current().unwrap();
-        (self.ring.key(at), self.ring.value(at))
+        (self.table.key(at), self.table.value(at))
     }
 
     /// Lends the value of the current pair for writing.
@@ -126,7 +122,7 @@ impl<K: Eq + Hash, V, S: BuildHasher> LinkedHashMap<K, V, S> {
         ensures valid { IsValid K.eq self.old }
     {
         let at = self.visit.current().unwrap();
-        self.ring.value_mut(at)
+        self.table.value_mut(at)
     }
 
     /// Lends the value of the current pair for writing. No pair is the current one then.
@@ -138,7 +134,7 @@ impl<K: Eq + Hash, V, S: BuildHasher> LinkedHashMap<K, V, S> {
     {
         let at = self.visit.current().unwrap();
         self.visit.current = None;
-        self.ring.value_mut(at)
+        self.table.value_mut(at)
     }
 
     /// Lends the value of the pair at the newest place for writing.
@@ -148,8 +144,8 @@ impl<K: Eq + Hash, V, S: BuildHasher> LinkedHashMap<K, V, S> {
         ensures value { option_map (λ pair. pair.1) (slice_get self.old.pairs (length self.old.pairs - 1)) ≡ Some result.now }
         ensures valid { IsValid K.eq self.old }
     {
-        let at = self.ring.last().unwrap();
-        self.ring.value_mut(at)
+        let at = self.table.last().unwrap();
+        self.table.value_mut(at)
     }
 
     /// Moves the current pair, which is none of those still to be visited, to the back. It stays the current one.
@@ -169,7 +165,7 @@ impl<K: Eq + Hash, V, S: BuildHasher> LinkedHashMap<K, V, S> {
         ensures stays_valid { IsValid K.eq self.new }
     {
         let at = self.visit.current().unwrap();
-        self.ring.move_to_back(at);
+        self.table.move_to_back(at);
     }
 
     /// Puts a value in the place of that of the current pair, which is none of those still to be visited, and returns the old
@@ -222,16 +218,16 @@ impl<K: Eq + Hash, V, S: BuildHasher> LinkedHashMap<K, V, S> {
         ensures unchanged { OnErr result (self.new ≡ self.old) }
         ensures absent { OnErr result (find K.eq self.old.pairs key.now ≡ None) }
     {
-        let Some(found) = self.index.find(&self.ring, number, key).0 else {
+        let Some(found) = self.table.find(number, key).0 else {
             return Err(value);
         };
         self.visit.active = false;
         match self.mode {
             Mode::Touch => {
-                self.ring.move_to_back(found);
-                Ok(mem::replace(self.ring.value_mut(found), value))
+                self.table.move_to_back(found);
+                Ok(mem::replace(self.table.value_mut(found), value))
             }
-            Mode::Keep => Ok(mem::replace(self.ring.value_mut(found), value)),
+            Mode::Keep => Ok(mem::replace(self.table.value_mut(found), value)),
         }
     }
 
@@ -252,9 +248,7 @@ impl<K: Eq + Hash, V, S: BuildHasher> LinkedHashMap<K, V, S> {
     {
         let at = self.visit.current().unwrap();
         self.visit.current = None;
-        self.index.take_out_at(&mut self.ring, at);
-        let (_, key, value) = self.ring.unlink(at);
-        (key, value)
+        self.table.remove_at(at)
     }
 
     /// Takes out the pair of a key, which ends the visit of a cursor, or returns `None` where the key is absent.
@@ -272,10 +266,9 @@ impl<K: Eq + Hash, V, S: BuildHasher> LinkedHashMap<K, V, S> {
         ensures valid { IsValid K.eq self.old }
         ensures stays_valid { IsValid K.eq self.new }
     {
-        let at = self.index.take_out(&mut self.ring, number, key)?;
+        let pair = self.table.remove(number, key)?;
         self.visit.active = false;
-        let (_, key, value) = self.ring.unlink(at);
-        Some((key, value))
+        Some(pair)
     }
 
     /// Begins the visit of a cursor: every pair is unvisited, and the next one is that at the oldest place.
@@ -290,8 +283,8 @@ impl<K: Eq + Hash, V, S: BuildHasher> LinkedHashMap<K, V, S> {
     {
         self.visit = Visit {
             active: true,
-            mark: self.ring.first(),
-            unvisited: self.ring.len(),
+            mark: self.table.first(),
+            unvisited: self.table.len(),
             current: None,
         };
     }
@@ -318,7 +311,7 @@ impl<K: Eq + Hash, V, S: BuildHasher> LinkedHashMap<K, V, S> {
         let unvisited = self.visit.unvisited() - 1;
         self.visit = Visit {
             active: true,
-            mark: mark_behind(&self.ring, at, unvisited),
+            mark: mark_behind(&self.table, at, unvisited),
             unvisited,
             current: Some(at),
         };
@@ -350,40 +343,7 @@ impl<K: Eq + Hash, V, S: BuildHasher> LinkedHashMap<K, V, S> {
         ensures to_visit { to_visit self.new ≡ to_visit self.old }
         ensures stays_valid { IsValid K.eq self.new }
     {
-        let at = self.ring.put_back(number, key, value);
-        self.index.put_in(&mut self.ring, at);
-    }
-
-    /// Raises the capacity, if there is memory: first the buckets are made, then the nodes.
-    #[cold]
-    #[inline(never)]
-    pub(crate) fn raise(&mut self, capacity: usize) -> bool
-        requires higher { self.old.capacity < capacity }
-        requires limit { capacity ≤ LIMIT }
-        ensures pairs { self.new.pairs ≡ self.old.pairs }
-        ensures hasher { self.new.hasher ≡ self.old.hasher }
-        ensures mode { self.new.mode ≡ self.old.mode }
-        ensures bookmark { self.new.bookmark ≡ self.old.bookmark }
-        ensures unvisited { self.new.unvisited ≡ self.old.unvisited }
-        ensures current { self.new.current ≡ self.old.current }
-        ensures made { IsTrue result → self.new.capacity ≡ capacity }
-        ensures rechained { IsTrue result → self.new.rechained
-            ≡ rechained_raised self.old.rechained (length self.old.pairs) self.old.capacity capacity }
-        ensures refused { IsFalse result → self.new ≡ self.old }
-        ensures valid { IsValid K.eq self.old }
-    {
-        let additional = capacity - self.capacity();
-        if capacity <= self.index.buckets() {
-            return self.ring.grow(additional).is_ok();
-        }
-        let Ok(fresh) = Index::with_buckets(self.ring.allocator(), capacity) else {
-            return false;
-        };
-        let Ok(()) = self.ring.grow(additional) else {
-            return false;
-        };
-        self.rechained += self.index.take_over(fresh, &mut self.ring);
-        true
+        self.table.push_back(number, key, value);
     }
 
     /// Makes room for one more pair: at full capacity by raising it by one, if there is memory.
@@ -409,50 +369,7 @@ impl<K: Eq + Hash, V, S: BuildHasher> LinkedHashMap<K, V, S> {
         if capacity == LIMIT {
             return false;
         }
-        self.raise(capacity + 1)
-    }
-
-    /// Lowers the capacity to the number of pairs, if there is memory for fewer buckets where there are to be fewer.
-    pub(crate) fn lower(&mut self) -> bool
-        ensures pairs { self.new.pairs ≡ self.old.pairs }
-        ensures hasher { self.new.hasher ≡ self.old.hasher }
-        ensures mode { self.new.mode ≡ self.old.mode }
-        ensures to_visit { to_visit self.new ≡ to_visit self.old }
-        ensures lowered { IsTrue result → self.new.capacity ≡ length self.old.pairs }
-        ensures rechained { IsTrue result → self.new.rechained ≡ rechained_lowered (length self.old.pairs) self.old.capacity }
-        ensures refused { IsFalse result → self.new ≡ self.old }
-        ensures valid { IsValid K.eq self.old }
-    {
-        let len = self.len();
-        if buckets_for(len) == buckets_for(self.capacity()) {
-            self.ring.free_spares();
-            self.rechained = 0;
-            return true;
-        }
-        let Ok(fresh) = Index::with_buckets(self.ring.allocator(), len) else {
-            return false;
-        };
-        self.ring.free_spares();
-        self.rechained = self.index.take_over(fresh, &mut self.ring);
-        true
-    }
-
-    /// Frees all memory of a map that is empty.
-    pub(crate) fn free(&mut self)
-        requires { self.old.pairs ≡ [] }
-        ensures pairs { self.new.pairs ≡ [] }
-        ensures to_visit { to_visit self.new ≡ to_visit self.old }
-        ensures capacity { self.new.capacity ≡ 0 }
-        ensures rechained { self.new.rechained ≡ rechained_fitted self.old.rechained 0 self.old.capacity }
-        ensures hasher { self.new.hasher ≡ self.old.hasher }
-        ensures mode { self.new.mode ≡ self.old.mode }
-        ensures valid { IsValid K.eq self.old }
-    {
-        let alloc = self.ring.allocator();
-        self.end_visit();
-        self.rechained = 0;
-        self.index = Index::new(alloc);
-        mem::replace(&mut self.ring, Ring::new(alloc)).destroy_empty();
+        self.table.raise(capacity + 1).is_ok()
     }
 
     /// Shares the ring but for its values, and lends the values.
@@ -462,29 +379,10 @@ impl<K: Eq + Hash, V, S: BuildHasher> LinkedHashMap<K, V, S> {
         ensures lent { IsLent result }
         ensures valid { IsValid K.eq self.old }
     {
-        let ring = &raw mut self.ring as *const Ring<K, Hole<V>>;
+        let ring = &raw mut self.table.ring as *const WithoutValues<K, V>;
         LentValues {
             ring: unsafe { &*ring },
             loan: ValueLoan { mark: PhantomData },
-        }
-    }
-}
-
-/// Makes a ring with nothing in it and this many spare nodes. For none it takes no memory and is not refused.
-pub(crate) fn ring_with_room<K, V>(alloc: Global, room: usize) -> Result<Ring<K, V>, AllocError>
-    ensures empty { IfOk result (λ ring. ring.held ≡ []) }
-    ensures spares { IfOk result (λ ring. ring.spares ≡ room) }
-    ensures succeeds { room ≡ 0 → IsOk result }
-{
-    let mut ring = Ring::new(alloc);
-    if room == 0 {
-        return Ok(ring);
-    }
-    match ring.grow(room) {
-        Ok(()) => Ok(ring),
-        Err(refused) => {
-            ring.destroy_empty();
-            Err(refused)
         }
     }
 }

@@ -3,7 +3,7 @@ ghost use Rattle.std.specs.Prelude.{◌≡◌};
 ghost use Rattle.lhm_ring.specs.Positions.{pointer_of_some};
 ghost use Rattle.linked_hash_map.specs.Nodes.{mark_of, unvisited_of, current_of};
 
-use lhm_ring::ring::Position;
+use lhm_ring::table::Position;
 use std::alloc::AllocError;
 
 /// Where a cursor or an entry stands, if there is either. That there is none is told by one word, so that most calls end a

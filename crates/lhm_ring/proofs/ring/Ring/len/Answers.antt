@@ -1,5 +1,4 @@
 use Rattle.lhm_ring.proofs.Moves.{ring_length, ring_bounded}
-use Rattle.lhm_ring.proofs.ValuesReplaced.{ring_apart}
 use Rattle.lhm_ring.proofs.ring.Ring.len.Goals as goal
 
 pub returns : goal.returns
@@ -7,5 +6,4 @@ returns g c =
     let i = c.self.inside in record {
       value = ring_length i.nodes.cells i.guard i.spare i.len i.spares _ c.self.invariant c.self.view_is;
       bounded = ring_bounded i.nodes.cells i.guard i.spare i.len i.spares _ c.self.invariant c.self.view_is;
-      apart = ring_apart i.nodes.cells i.guard i.spare i.len i.spares _ c.self.invariant c.self.view_is;
     }

@@ -1,0 +1,66 @@
+-- The node at an end of what a ring holds.
+use Rattle.std.proofs.Common.{◌≡◌, ℕ, List, [], ◌∷◌, ◌++◌, Option, Some, None, refl, sym, ap, ◌∙◌, append-nil}
+use Rattle.std.specs.List.{AllZip}
+use Rattle.std.proofs.lemmas.List.{map-append}
+use denote.RawPtr.{Ptr}
+use Rattle.lhm_ring.specs.RingState.{Held, IsHeld, first_at, last_at, last_of, triples}
+
+-- a node at p comes first, and the rest after it
+pub record First {B : Type 0} (hs : List (Held B)) (p : Ptr) : Type 0 where
+  pub node : Held B
+  pub rest : List (Held B)
+  pub is : hs ≡ node ∷ rest
+  pub at : node.at ≡ p
+
+-- a node at p comes last, and the rest before it
+pub record Last {B : Type 0} (hs : List (Held B)) (p : Ptr) : Type 0 where
+  pub rest : List (Held B)
+  pub node : Held B
+  pub is : hs ≡ rest ++ node ∷ []
+  pub at : node.at ≡ p
+
+some_pointer : (p q : Ptr) → Some p ≡ Some q → p ≡ q
+some_pointer p q e = cc
+
+module _ {B : Type 0} where
+  pub first_node : (hs : List (Held B)) (o : Option Ptr) (p : Ptr) → o ≡ first_at hs → o ≡ Some p → First hs p
+  first_node [] o p e h = absurd (let no : None ≡ Some p = sym e ∙ h in cc)
+  first_node (t ∷ hs) o p e h = record { node = t; rest = hs; is = refl; at = some_pointer t.at p (sym e ∙ h) }
+
+  last_cut : (t : Held B) (hs : List (Held B)) → Last (t ∷ hs) (last_of t hs)
+  last_cut t [] = record { rest = []; node = t; is = refl; at = refl }
+  last_cut t (u ∷ hs) = let r = last_cut u hs in record { rest = t ∷ r.rest; node = r.node; is = ap (λ l. t ∷ l) r.is; at = r.at }
+
+  pub last_node : (hs : List (Held B)) (o : Option Ptr) (p : Ptr) → o ≡ last_at hs → o ≡ Some p → Last hs p
+  last_node [] o p e h = absurd (let no : None ≡ Some p = sym e ∙ h in cc)
+  last_node (t ∷ hs) o p e h =
+      let r = last_cut t hs in
+      record { rest = r.rest; node = r.node; is = r.is; at = r.at ∙ some_pointer (last_of t hs) p (sym e ∙ h) }
+
+  -- the node, cut out of what is held
+  module _ {hs : List (Held B)} {p : Ptr} where
+    pub first_held : First hs p → IsHeld hs p
+    first_held f = ([], f.node, f.rest, f.is, f.at)
+
+    pub last_held : Last hs p → IsHeld hs p
+    last_held l = (l.rest, l.node, [], l.is, l.at)
+
+-- the triples, once that at an end was taken out
+module _ {K V : Type 0} {hs : List (Held (K × V))} {p : Ptr} where
+  pub triples-first : (f : First hs p) (others : List (Held (K × V))) (taken : ℕ × K × V) → others ≡ f.rest → taken ≡ (f.node.number, f.node.pair.0, f.node.pair.1) → triples hs ≡ (taken.0, (taken.1, taken.2)) ∷ triples others
+  triples-first f others taken left out = ap triples f.is ∙ (λ i. ((sym out i).0, ((sym out i).1, (sym out i).2)) ∷ triples (sym left i))
+
+  pub triples-last : (l : Last hs p) (others : List (Held (K × V))) (taken : ℕ × K × V) → others ≡ l.rest ++ [] → taken ≡ (l.node.number, l.node.pair.0, l.node.pair.1) → triples hs ≡ triples others ++ (taken.0, (taken.1, taken.2)) ∷ []
+  triples-last l others taken left out =
+      ap triples l.is ∙ map-append (λ (t : Held (K × V)). (t.number, t.pair)) l.rest (l.node ∷ [])
+      ∙ (λ i. triples (sym (left ∙ append-nil l.rest) i) ++ ((sym out i).0, ((sym out i).1, (sym out i).2)) ∷ [])
+
+-- a triple that was put at the back comes last
+pub triples-pushed : {K V : Type 0} (hs rest : List (Held (K × V))) (t : Held (K × V)) → hs ≡ rest ++ t ∷ [] → triples hs ≡ triples rest ++ (t.number, t.pair) ∷ []
+triples-pushed hs rest t pushed = ap triples pushed ∙ map-append (λ u. (u.number, u.pair)) rest (t ∷ [])
+
+pub AllZip-last : {A B : Type 0} (R : A → B → Type 0) (xs : List A) (ys : List B) (x : A) (y : B) → AllZip R xs ys → R x y → AllZip R (xs ++ x ∷ []) (ys ++ y ∷ [])
+AllZip-last R [] [] x y all last = (last, tt)
+AllZip-last R [] (y' ∷ ys) x y all last = absurd all
+AllZip-last R (x' ∷ xs) [] x y all last = absurd all
+AllZip-last R (x' ∷ xs) (y' ∷ ys) x y all last = (all.0, AllZip-last R xs ys x y all.1 last)

@@ -1,0 +1,102 @@
+//! What a ring held, handed out by value.
+ghost use Rattle.std.specs.Prelude.{◌≡◌, Some, IfSome, length};
+ghost use Rattle.std.specs.Iterator.{at_most, UpTo};
+ghost use Rattle.std.specs.Iterator.SizeHint.{IsWithinCount};
+ghost use Rattle.std.specs.List.{AllZip};
+ghost use Rattle.lhm_ring.specs.RingState.{triples};
+ghost use Rattle.lhm_ring.specs.Splices.{HandsOutFirst, HandsOutLast};
+
+use crate::ring::Ring;
+use std::alloc::AllocError;
+use std::iter::{DoubleEndedIterator, ExactSizeIterator, Iterator};
+use std::marker::Model;
+
+/// An iterator that owns triples of a hash, a key and a value, from both ends.
+///
+/// No step allocates, and each is O(1). Dropping it drops what it has left. A clone allocates, and has clones of what is left.
+#[derive(Drop)]
+pub struct IntoIter<K, V> {
+    ring: Ring<K, V>,
+}
+
+impl<K, V> Model for IntoIter<K, V> {
+    ghost use Rattle.std.specs.Prelude.{List, ℕ};
+    ghost use Rattle.lhm_ring.specs.RingState.{triples};
+
+    ghost Value = { List (ℕ × (K × V)) };
+
+    ghost view = { λ i. triples i.ring.held };
+}
+
+impl<K, V> IntoIter<K, V> {
+    pub(crate) fn new(ring: Ring<K, V>) -> IntoIter<K, V>
+        ensures { result ≡ triples ring.held }
+    {
+        IntoIter { ring }
+    }
+
+    fn take_first(&mut self) -> Option<(u64, K, V)>
+        ensures { HandsOutFirst self.old result self.new }
+    {
+        let at = self.ring.first()?;
+        Some(self.ring.unlink(at))
+    }
+
+    fn take_last(&mut self) -> Option<(u64, K, V)>
+        ensures { HandsOutLast self.old result self.new }
+    {
+        let at = self.ring.last()?;
+        Some(self.ring.unlink(at))
+    }
+}
+
+impl<K: Drop, V: Drop> Iterator for IntoIter<K, V> {
+    type Item = (u64, K, V);
+
+    ghost next_gives = { HandsOutFirst };
+
+    ghost remaining = { λ s. at_most (length s) };
+
+    fn next(&mut self) -> Option<(u64, K, V)> {
+        self.take_first()
+    }
+
+    fn size_hint(&self) -> (usize, Option<usize>)
+        ensures lower { IsWithinCount result.0 (at_most (length self.now)) }
+        ensures upper { IfSome result.1 (UpTo (at_most (length self.now))) }
+        ensures exact { result ≡ (length self.now, Some (length self.now)) }
+    {
+        let len = self.len();
+        (len, Some(len))
+    }
+}
+
+impl<K: Drop, V: Drop> DoubleEndedIterator for IntoIter<K, V> {
+    ghost next_back_gives = { HandsOutLast };
+
+    fn next_back(&mut self) -> Option<(u64, K, V)> {
+        self.take_last()
+    }
+}
+
+impl<K: Drop, V: Drop> ExactSizeIterator for IntoIter<K, V> {
+    fn len(&self) -> usize {
+        self.ring.len()
+    }
+}
+
+impl<K: Clone, V: Clone> Clone for IntoIter<K, V> {
+    ghost use Rattle.std.specs.Prelude.{[]};
+
+    ghost is_clone = { AllZip (λ t u. (u.0 ≡ t.0) × K.is_clone t.1.0 u.1.0 × V.is_clone t.1.1 u.1.1) };
+
+    ghost is_infallible = { λ s. s ≡ [] };
+
+    fn clone(&self) -> Result<Self, AllocError> {
+        let mut ring = Ring::with_spares(self.ring.allocator(), self.ring.len())?;
+        for (hash, key, value) in self.ring.iter() {
+            ring.put_back(hash, key.clone()?, value.clone()?);
+        }
+        Ok(Self::new(ring))
+    }
+}
