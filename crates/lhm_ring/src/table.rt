@@ -6,26 +6,26 @@ ghost use Rattle.lhm_ring.specs.RingAfterLoan.{pair};
 ghost use Rattle.lhm_ring.specs.Positions.{pointer_of, pointer_of_some};
 ghost use Rattle.lhm_ring.specs.Index.{spots};
 ghost use Rattle.lhm_ring.specs.Search.{entries, HasKey, IsAbsent, CountsSome, CountsAll};
-ghost use Rattle.lhm_ring.specs.Buckets.{buckets, rechained_raised, rechained_lowered};
+ghost use Rattle.lhm_ring.specs.Buckets.{buckets, rechained_raised, rechained_lowered, rechained_fitted};
 ghost use Rattle.lhm_ring.specs.Tables.{Removes, WritesOnly};
 
+pub use crate::index::Probe;
 use crate::index::{Index, buckets_for};
+pub use crate::into_iter::IntoIter;
 use crate::ring::Ring;
+pub use crate::ring::{Drain, Hole, Iter, IterMut, LentValues, Position, ValueLoan};
 use std::alloc::{AllocError, Global};
 use std::marker::Model;
 use std::mem;
-
-pub use crate::index::Probe;
-pub use crate::into_iter::IntoIter;
-pub use crate::ring::{Drain, Hole, Iter, IterMut, LentValues, Position, ValueLoan};
 
 /// The ring of a table, while the values are lent.
 pub type WithoutValues<K, V> = Ring<K, Hole<V>>;
 
 /// Pairs of a key and a value in insertion order, each with the hash of its key, found by hash and key.
 ///
-/// Each pair has a [`Position`] until it is removed. The capacity is the number of pairs that fit without an
-/// allocation. Only `with_capacity`, `raise` and `lower` allocate, and a refusal changes nothing.
+/// Each pair has a [`Position`] until it is removed. The capacity is the number of pairs that fit
+/// without an allocation. Only `with_capacity`, `raise` and `shrink_to_fit` allocate,
+/// and a refusal changes nothing.
 pub struct Table<K, V> {
     /// Public for a type that keeps a table in a field and lends its values.
     pub ring: Ring<K, V>,
@@ -115,7 +115,8 @@ impl<K, V> Table<K, V> {
         self.ring.len() + self.ring.spares()
     }
 
-    /// Returns how many nodes rehashes have moved since `lower` last changed the capacity, that call included.
+    /// Returns how many nodes rehashes have moved since `shrink_to_fit` last lowered the capacity, that
+    /// call included.
     pub fn rechained(&self) -> usize
         ensures value { result ≡ self.now.rechained }
         ensures few { self.now.rechained ≤ buckets self.now.capacity }
@@ -238,8 +239,28 @@ impl<K, V> Table<K, V> {
 
     /// Lowers the capacity to the number of pairs, or changes nothing if memory is refused.
     ///
-    /// It allocates only if there are to be fewer buckets, which rehashes all pairs, in O(n).
-    pub fn lower(&mut self) -> Result<(), AllocError>
+    /// It allocates only if there are pairs and there are to be fewer buckets, which rehashes all pairs, in O(n). An empty
+    /// table gives all its memory back.
+    pub fn shrink_to_fit(&mut self) -> Result<(), AllocError>
+        ensures held { self.new.held ≡ self.old.held }
+        ensures capacity { OnOk result (self.new.capacity ≡ length self.old.held) }
+        ensures rechained { OnOk result (self.new.rechained
+            ≡ rechained_fitted self.old.rechained (length self.old.held) self.old.capacity) }
+        ensures refused { OnErr result (self.new ≡ self.old) }
+        ensures some { OnErr result (0 < length self.old.held) }
+        ensures spare { OnErr result (length self.old.held < self.old.capacity) }
+    {
+        let len = self.ring.len();
+        if len == 0 {
+            self.free();
+        } else if len < self.capacity() {
+            return self.lower();
+        }
+        Ok(())
+    }
+
+    /// Lowers the capacity to the number of pairs, with new buckets if there are to be fewer.
+    fn lower(&mut self) -> Result<(), AllocError>
         ensures held { self.new.held ≡ self.old.held }
         ensures capacity { OnOk result (self.new.capacity ≡ length self.old.held) }
         ensures rechained { OnOk result (self.new.rechained ≡ rechained_lowered (length self.old.held) self.old.capacity) }
@@ -258,7 +279,7 @@ impl<K, V> Table<K, V> {
     }
 
     /// Deallocates all memory of an empty table, in O(n).
-    pub fn free(&mut self)
+    fn free(&mut self)
         requires { self.old.held ≡ [] }
         ensures held { self.new.held ≡ [] }
         ensures capacity { self.new.capacity ≡ 0 }

@@ -1,8 +1,9 @@
 -- Clones of pairs, inserted one after another.
-use Rattle.std.proofs.Common.{◌≡◌, ◌+◌, ◌≤◌, Bool, true, false, IsTrue, List, [], ◌∷◌, ◌++◌, length, append_assoc, append-nil, max, refl, sym, ap, ◌∙◌, subst, arith, length-append}
+use Rattle.std.proofs.Common.{◌≡◌, ℕ, map, ◌+◌, ◌≤◌, Bool, true, false, IsTrue, List, [], ◌∷◌, ◌++◌, length, append_assoc, append-nil, max, refl, sym, ap, ◌∙◌, subst, arith, length-append}
 use Rattle.std.specs.List.{AllZip, AllByRecursion, IsDistinct}
 use Rattle.std.specs.Map.{keys_of}
 use Rattle.std.specs.Cmp.{IsEquivalence}
+use Rattle.lhm_ring.proofs.Ends.{AllZip-last}
 use Rattle.linked_hash_map.specs.declared.map.Mode.TheVariants.{Touch}
 use Rattle.linked_hash_map.specs.LinkedMap.{LinkedMap}
 use Rattle.linked_hash_map.specs.Pairs.{to_back, put}
@@ -10,14 +11,20 @@ use Rattle.linked_hash_map.specs.Inserts.{insert_each}
 use Rattle.linked_hash_map.specs.Validity.{IsValid}
 use Rattle.linked_hash_map.specs.Counts.{rechained_raised}
 use Rattle.linked_hash_map.specs.Clones.{AreClones, IsClone}
-use Rattle.linked_hash_map.proofs.Counts.{rechained_raised-same}
+use Rattle.lhm_ring.proofs.BucketCounts.{rechained_raised-same}
 use Rattle.linked_hash_map.proofs.Inserts.{insert_each-last, insert_each-distinct, length-put_most}
 
-pub AllZip-last : {A B : Type 0} (R : A → B → Type 0) (xs : List A) (ys : List B) (x : A) (y : B) → AllZip R xs ys → R x y → AllZip R (xs ++ x ∷ []) (ys ++ y ∷ [])
-AllZip-last R [] [] x y all last = (last, tt)
-AllZip-last R [] (y' ∷ ys) x y all last = absurd all
-AllZip-last R (x' ∷ xs) [] x y all last = absurd all
-AllZip-last R (x' ∷ xs) (y' ∷ ys) x y all last = (all.0, AllZip-last R xs ys x y all.1 last)
+-- triples of a hash and a pair, and clones of them: their pairs
+module _ {K V : Type 0} (IsKeyClone : K → K → Type 0) (IsValueClone : V → V → Type 0) where
+  pub AreClones-of : (ts us : List (ℕ × (K × V))) → AllZip (λ t u. (u.0 ≡ t.0) × IsKeyClone t.1.0 u.1.0 × IsValueClone t.1.1 u.1.1) ts us → AreClones IsKeyClone IsValueClone (map (λ t. t.1) ts) (map (λ u. u.1) us)
+  AreClones-of [] [] all = tt
+  AreClones-of [] (u ∷ us) all = absurd all
+  AreClones-of (t ∷ ts) [] all = absurd all
+  AreClones-of (t ∷ ts) (u ∷ us) all = ((all.0.1, all.0.2), AreClones-of ts us all.1)
+
+pub none-of : {K V : Type 0} (ts : List (ℕ × (K × V))) → map (λ t. t.1) ts ≡ [] → ts ≡ []
+none-of [] e = refl
+none-of (t ∷ ts) e = absurd (cc)
 
 length-AllZip : {A B : Type 0} (R : A → B → Type 0) (xs : List A) (ys : List B) → AllZip R xs ys → length ys ≡ length xs
 length-AllZip R [] [] all = refl

@@ -1,35 +1,18 @@
 -- The counts of nodes chained again, by the capacities before and after.
 use Rattle.std.proofs.Common.{◌≡◌, ℕ, zero, suc, ◌+◌, ◌-◌, ◌%◌, ◌<◌, ◌≤◌, max, Bool, List, [], ◌∷◌, ⊎_elim, true, false, cond, refl, sym, ap, ◌∙◌, eqb, arith}
-use Rattle.std.proofs.lemmas.Bool.{eq-eqb, ne_eqb, cases_lt}
+use Rattle.std.proofs.lemmas.Bool.{cases_lt}
 use Rattle.std.specs.Prelude.{count_by}
 use Rattle.std.specs.List.{AllByRecursion}
-use Rattle.lhm_ring.specs.Buckets.{buckets, rechained_raised, rechained_lowered}
+use Rattle.lhm_ring.specs.Buckets.{buckets, rechained_raised}
+use Rattle.lhm_ring.proofs.BucketCounts.{rechained_raised-same}
 use Rattle.lhm_ring.specs.Index as index
 use Rattle.lhm_ring.specs.Index.{spots}
 use Rattle.lhm_ring.specs.IndexedRing.{AreHashed}
 use Rattle.lhm_ring.specs.RingState.{Held}
 use Rattle.lhm_ring.proofs.Chains.{count-cons}
 use Rattle.lhm_ring.proofs.Hashed.{same_hashed, beside_hashed}
-use Rattle.linked_hash_map.specs.Counts.{same, beside, rechained_each, rechained_fitted}
+use Rattle.linked_hash_map.specs.Counts.{same, beside, rechained_each}
 use Rattle.linked_hash_map.specs.Nodes.{pairs_of, bare}
-
--- a capacity that stays counts nothing
-pub rechained_raised-same : (rechained len c : ℕ) → rechained_raised rechained len c c ≡ rechained
-rechained_raised-same rechained len c = ap (λ b. cond b rechained (rechained + len)) (eq-eqb (buckets c) (buckets c) refl)
-
-pub rechained_fitted-same : (rechained len c : ℕ) → c ≡ len → rechained_fitted rechained len c ≡ rechained
-rechained_fitted-same rechained len c same = ap (λ b. cond b rechained (rechained_lowered len c)) (eq-eqb c len same)
-
--- one that is lowered counts anew
-pub rechained_fitted-lower : (rechained len c : ℕ) → len < c → rechained_fitted rechained len c ≡ rechained_lowered len c
-rechained_fitted-lower rechained len c less = ap (λ b. cond b rechained (rechained_lowered len c)) (ne_eqb c len (λ e. omega (arith, less, e)))
-
--- with no pair nothing is chained
-pub rechained_fitted-none : (rechained c : ℕ) → (c ≡ 0 → rechained ≡ 0) → rechained_fitted rechained 0 c ≡ 0
-rechained_fitted-none rechained zero none = rechained_fitted-same rechained 0 0 refl ∙ none refl
-rechained_fitted-none rechained (suc c) none =
-    rechained_fitted-lower rechained 0 (suc c) (omega arith)
-    ∙ (elim (eqb (buckets (suc c)) (buckets 0)) as (λ b. cond {A = ℕ} b 0 0 ≡ 0) [ true ↦ refl | false ↦ refl ])
 
 -- one raise more, after n of them
 pub rechained_each-more : (rechained c n : ℕ) → rechained_each rechained c (suc n) ≡ rechained_raised (rechained_each rechained c n) (c + n) (c + n) (c + n + 1)

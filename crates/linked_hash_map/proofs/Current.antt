@@ -3,11 +3,11 @@ use Rattle.std.proofs.Common.{◌≡◌, ℕ, suc, ◌+◌, ◌-◌, ◌<◌, �
 use denote.RawPtr.{Ptr}
 use Rattle.lhm_ring.specs.Positions.{pointer_of, pointer_of_some}
 use Rattle.lhm_ring.specs.Cells.{same_ptr, IsApart}
-use Rattle.lhm_ring.specs.RingState.{Held, State, first_at, last_of, last_at}
-use Rattle.lhm_ring.specs.RingAfterLoan.{with_value}
+use Rattle.lhm_ring.specs.RingState.{Held, first_at, last_of, last_at}
+use Rattle.lhm_ring.specs.Tables.{TableState}
+use Rattle.lhm_ring.specs.TableAfterLoan.{with_value}
 use Rattle.lhm_ring.specs.Search.{HasKey}
 use Rattle.lhm_ring.proofs.Apart.{IsFresh, same_ptr_refl}
-use Rattle.lhm_ring.proofs.IndexedRing.{indexed_value}
 use Rattle.lhm_ring.proofs.Rows.{apart_head, apart_tail}
 use Rattle.lhm_ring.specs.declared.position.Position.{Position}
 use Rattle.linked_hash_map.specs.declared.map.Mode.{Mode}
@@ -30,7 +30,7 @@ cond-None false = refl
 pub current_of-Some : {K V : Type 0} {current : Option Ptr} {o : Option (Position K V)} {p : Position K V} → pointer_of_some o ≡ current → o ≡ Some p → current ≡ Some (pointer_of p)
 current_of-Some of is = sym of ∙ ap pointer_of_some is
 
-module _ {K V : Type 0} {eq : K → K → Bool} {hash : K → ℕ} {heads : List (Option Ptr)} {s : State (K × V)} {mark : Option Ptr} {n : ℕ} {o : Option Ptr} {r : ℕ} (kept : IsKept eq hash heads s mark n o r) {p : Ptr} (is : o ≡ Some p) where
+module _ {K V : Type 0} {eq : K → K → Bool} {hash : K → ℕ} {s : TableState (K × V)} {mark : Option Ptr} {n : ℕ} {o : Option Ptr} (kept : IsKept eq hash s mark n o) {p : Ptr} (is : o ≡ Some p) where
   -- a node lies there
   pub current_lies : before p s.held < length s.held
   current_lies =
@@ -42,51 +42,38 @@ module _ {K V : Type 0} {eq : K → K → Bool} {hash : K → ℕ} {heads : List
   pub current_cut : CutAt p s.held
   current_cut = cut_before p s.held current_lies
 
-  pub current_nodes : AreKept eq hash (bare s.held) s.spares mark n (Some p)
-  current_nodes = subst (λ z. AreKept eq hash (bare s.held) s.spares mark n z) is kept.nodes
+  pub current_nodes : AreKept eq hash (bare s.held) s.capacity mark n (Some p)
+  current_nodes = subst (λ z. AreKept eq hash (bare s.held) s.capacity mark n z) is kept.nodes
 
   -- where the index is outside the pairs to visit, the node is
-  pub current_elsewhere : {S : Type 0} {m : LinkedMap K V S} {hasher : S} {mode : Mode} → map_of s hasher mark n o r mode ≡ m → IsOutside m.current m → IsElsewhere p s.held mark n
+  pub current_elsewhere : {S : Type 0} {m : LinkedMap K V S} {hasher : S} {mode : Mode} → map_of s hasher mark n o mode ≡ m → IsOutside m.current m → IsElsewhere p s.held mark n
   current_elsewhere {S} {m} view outside =
       subst (λ k. (k < bookmark_at mark (bare s.held)) ⊎ (bookmark_at mark (bare s.held) + n ≤ k)) (current_at-Some is s.held)
       (subst (λ (x : LinkedMap K V S). IsOutside x.current x) (sym view) outside)
 
 -- another pair becomes the current one, or a value is written
-module _ {K V : Type 0} {eq : K → K → Bool} {hash : K → ℕ} {heads : List (Option Ptr)} {s : State (K × V)} {mark current : Option Ptr} {n r : ℕ} (kept : IsKept eq hash heads s mark n current r) where
-  pub IsKept-current : (o : Option Ptr) → Lies o (bare s.held) → IsKept eq hash heads s mark n o r
+module _ {K V : Type 0} {eq : K → K → Bool} {hash : K → ℕ} {s : TableState (K × V)} {mark current : Option Ptr} {n : ℕ} (kept : IsKept eq hash s mark n current) where
+  pub IsKept-current : (o : Option Ptr) → Lies o (bare s.held) → IsKept eq hash s mark n o
   IsKept-current o lies =
       let k = kept.nodes in
-      record {
-        nodes = record { distinct = k.distinct; hashed = k.hashed; limit = k.limit; marked = k.marked; ended = k.ended; in_reach = k.in_reach; current_lies = lies };
-        indexed = kept.indexed;
-        few = kept.few;
-      }
+      record { nodes = record { distinct = k.distinct; hashed = k.hashed; within = k.within; limit = k.limit; marked = k.marked; ended = k.ended; in_reach = k.in_reach; current_lies = lies } }
 
   -- and nothing is to be visited
-  pub IsKept-visited : (o : Option Ptr) → Lies o (bare s.held) → IsKept eq hash heads s None 0 o r
+  pub IsKept-visited : (o : Option Ptr) → Lies o (bare s.held) → IsKept eq hash s None 0 o
   IsKept-visited o lies =
       let k = kept.nodes in
-      record {
-        nodes = record { distinct = k.distinct; hashed = k.hashed; limit = k.limit; marked = λ _. refl; ended = λ _. refl; in_reach = omega arith; current_lies = lies };
-        indexed = kept.indexed;
-        few = kept.few;
-      }
+      record { nodes = record { distinct = k.distinct; hashed = k.hashed; within = k.within; limit = k.limit; marked = λ _. refl; ended = λ _. refl; in_reach = omega arith; current_lies = lies } }
 
   -- an entry is done with
-  pub IsKept-left : (active : Bool) → IsKept eq hash heads s mark n (cond active None None) r
+  pub IsKept-left : (active : Bool) → IsKept eq hash s mark n (cond active None None)
   IsKept-left true = IsKept-current None tt
   IsKept-left false = IsKept-current None tt
 
-  pub IsKept-count : {k : ℕ} → k ≡ n → IsKept eq hash heads s mark k current r
-  IsKept-count is = subst (λ (k : ℕ). IsKept eq hash heads s mark k current r) (sym is) kept
+  pub IsKept-count : {k : ℕ} → k ≡ n → IsKept eq hash s mark k current
+  IsKept-count is = subst (λ (k : ℕ). IsKept eq hash s mark k current) (sym is) kept
 
-  pub IsKept-with_value : (p : Ptr) (w : V) → IsKept eq hash heads (with_value s p w) mark n current r
-  IsKept-with_value p w =
-      record {
-        nodes = subst (λ us. AreKept eq hash us s.spares mark n current) (sym (bare-change p w s.held)) kept.nodes;
-        indexed = indexed_value heads s p w kept.indexed;
-        few = kept.few;
-      }
+  pub IsKept-with_value : (p : Ptr) (w : V) → IsKept eq hash (with_value s p w) mark n current
+  IsKept-with_value p w = record { nodes = subst (λ us. AreKept eq hash us s.capacity mark n current) (sym (bare-change p w s.held)) kept.nodes }
 
 -- a key that was looked for is at the index of its node
 module _ {K V : Type 0} {eq : K → K → Bool} {number : ℕ} {k : K} {hs : List (Held (K × V))} {p : Ptr} (h : HasKey eq number k hs p) where

@@ -4,9 +4,8 @@ use Rattle.std.specs.List.{IsDistinct}
 use Rattle.std.specs.Iterator.Runs.{YieldsInOrder, YieldsInReverse}
 use Rattle.std.proofs.iter.runs.Sources.{from_front, from_back, as_is, as_is_back}
 use denote.RawPtr.{Ptr}
-use Rattle.lhm_ring.specs.RingState.{State, Held, state, triples}
-use Rattle.lhm_ring.specs.Search.{HasNoChain}
-use Rattle.lhm_ring.proofs.IndexedRing.{indexed_spliced}
+use Rattle.lhm_ring.specs.RingState.{Held, triples}
+use Rattle.lhm_ring.specs.Tables.{TableState}
 use Rattle.linked_hash_map.specs.Changes.{drained}
 use Rattle.linked_hash_map.specs.Cursor.{without_cursor}
 use Rattle.linked_hash_map.specs.Drains.{drain_rest, drain_name, DrainSteps, DrainStepsBack, DrainKeepsAlong}
@@ -15,7 +14,6 @@ use Rattle.linked_hash_map.specs.LinkedMap.{LinkedMap, nowhere}
 use Rattle.linked_hash_map.specs.Nodes.{pairs_of, map_of, IsKept, Lies, bare, bookmark_at, current_at}
 use Rattle.linked_hash_map.specs.declared.drain.Drain.{Drain}
 use Rattle.linked_hash_map.specs.declared.map.TheConstants.{LIMIT}
-use Rattle.linked_hash_map.proofs.Kept.{length-bare}
 
 module _ {K V : Type 0} where
   pub drains_in_order : YieldsInOrder (DrainSteps {K = K} {V = V}) drain_rest
@@ -37,7 +35,7 @@ module _ {K V : Type 0} where
   stays_back = along DrainStepsBack (λ s t r h. h.1)
 
 -- the pairs of what was handed out with its numbers
-pairs-triples : {K V : Type 0} (hs : List (Held (K × V))) → map (λ t. t.1) (triples hs) ≡ pairs_of hs
+pub pairs-triples : {K V : Type 0} (hs : List (Held (K × V))) → map (λ t. t.1) (triples hs) ≡ pairs_of hs
 pairs-triples [] = refl
 pairs-triples (t ∷ hs) = ap (λ ps. t.pair ∷ ps) (pairs-triples hs)
 
@@ -46,42 +44,39 @@ current_none : {B : Type 0} (o : Option Ptr) (us : List (Held B)) → Lies o us 
 current_none None us lies small e = refl
 current_none (Some p) us lies small e = absurd (omega (arith, lies, small, e))
 
--- a map with no cursor and no entry, of which all nodes are made spare and the index is emptied
-module _ {K V S : Type 0} {eq : K → K → Bool} {hash : K → ℕ} {heads : List (Option Ptr)} {s : State (K × V)} {mark : Option Ptr} {n : ℕ} {current : Option Ptr} {r : ℕ} (kept : IsKept eq hash heads s mark n current r) (hasher : S) {o : Mode} (m x : LinkedMap K V S)
-    (view : map_of s hasher mark n current r o ≡ x) (ends : x ≡ without_cursor m) where
-  seen : map_of s hasher mark n current r o ≡ without_cursor m
+-- a map with no cursor and no entry, whose table is emptied
+module _ {K V S : Type 0} {eq : K → K → Bool} {hash : K → ℕ} {s : TableState (K × V)} {mark : Option Ptr} {n : ℕ} {current : Option Ptr} (kept : IsKept eq hash s mark n current) (hasher : S) {o : Mode} (m x : LinkedMap K V S)
+    (view : map_of s hasher mark n current o ≡ x) (ends : x ≡ without_cursor m) where
+  seen : map_of s hasher mark n current o ≡ without_cursor m
   seen = view ∙ ends
 
   none : n ≡ 0
   none = ap (λ (y : LinkedMap K V S). y.unvisited) seen
 
   no_entry : current ≡ None
-  no_entry = current_none current (bare s.held) kept.nodes.current_lies (omega (arith, kept.nodes.limit)) (ap (λ (y : LinkedMap K V S). y.current) seen)
+  no_entry = let within = kept.nodes.within in let limit = kept.nodes.limit in current_none current (bare s.held) kept.nodes.current_lies (omega (arith, within, limit)) (ap (λ (y : LinkedMap K V S). y.current) seen)
 
-  pub kept_spliced : (heads' : List (Option Ptr)) → HasNoChain heads' → length heads' ≡ length heads → IsKept {V = V} eq hash heads' (state [] (s.spares + length s.held)) mark n current r
+  pub kept_drained : IsKept {V = V} eq hash (record s { held = [] }) mark n current
   unfolding IsDistinct
-  kept_spliced heads' empty same =
+  kept_drained =
       let gone = kept.nodes.ended none in
-      let of_bare = length-bare s.held in
       record {
         nodes = record {
           distinct = tt;
           hashed = tt;
-          limit = omega (arith, of_bare, kept.nodes.limit);
+          within = omega arith;
+          limit = kept.nodes.limit;
           marked = λ _. none;
           ended = λ _. gone;
           in_reach = subst (λ (o : Option Ptr). bookmark_at {B = K} o [] + n ≤ 0) (sym gone) (omega (arith, none));
           current_lies = subst (λ (o : Option Ptr). Lies {B = K} o []) (sym no_entry) tt;
         };
-        indexed = indexed_spliced heads heads' s (state [] (s.spares + length s.held)) kept.indexed empty same refl refl;
-        few = omega (arith, same, kept.few);
       }
 
-  pub view_spliced : map_of (state [] (s.spares + length s.held)) hasher mark n current r o ≡ drained m
-  view_spliced =
-      let room : 0 + (s.spares + length s.held) ≡ length s.held + s.spares = omega arith in
-      (λ i. record (map_of {V = V} (state [] (s.spares + length s.held)) hasher mark n current r o) { capacity = room i; bookmark = bookmark_at {B = K} (kept.nodes.ended none i) []; current = current_at {B = K} (no_entry i) [] })
+  pub view_drained : map_of (record s { held = [] }) hasher mark n current o ≡ drained m
+  view_drained =
+      (λ i. record (map_of {V = V} (record s { held = [] }) hasher mark n current o) { bookmark = bookmark_at {B = K} (kept.nodes.ended none i) []; current = current_at {B = K} (no_entry i) [] })
       ∙ ap (λ (y : LinkedMap K V S). record y { pairs = []; bookmark = 0; current = nowhere }) seen
 
-  pub rest_spliced : (d : Drain K V) (ts : List (ℕ × (K × V))) → drain_rest d ≡ map (λ t. t.1) ts → ts ≡ triples s.held → drain_rest d ≡ m.pairs
-  rest_spliced d ts rest e = rest ∙ ap (map (λ t. t.1)) e ∙ pairs-triples s.held ∙ ap (λ (y : LinkedMap K V S). y.pairs) seen
+  pub rest_drained : (d : Drain K V) (ts : List (ℕ × (K × V))) → drain_rest d ≡ map (λ t. t.1) ts → ts ≡ triples s.held → drain_rest d ≡ m.pairs
+  rest_drained d ts rest e = rest ∙ ap (map (λ t. t.1)) e ∙ pairs-triples s.held ∙ ap (λ (y : LinkedMap K V S). y.pairs) seen

@@ -19,7 +19,7 @@ use Rattle.linked_hash_map.specs.Cursor.{IsOutside, IsOutside-prop}
 use Rattle.linked_hash_map.specs.Entry.{occupied_pair, occupied_key, with_occupied_value}
 use Rattle.linked_hash_map.specs.Validity.{IsValid}
 use Rattle.linked_hash_map.specs.declared.entry.OccupiedEntry.{OccupiedEntry}
-use Rattle.linked_hash_map.proofs.Counts.{rechained_raised-same}
+use Rattle.lhm_ring.proofs.BucketCounts.{rechained_raised-same}
 use Rattle.linked_hash_map.proofs.LiveKeys.{same_test}
 
 pub some_injective : {X : Type 0} {x y : X} → Some x ≡ Some y → x ≡ y

@@ -6,7 +6,8 @@ use Rattle.std.proofs.lemmas.Bool.{eq-eqb}
 use Rattle.std.proofs.lemmas.List.{map-append}
 use denote.RawPtr.{Ptr}
 use Rattle.lhm_ring.specs.Cells.{same_ptr, IsApart}
-use Rattle.lhm_ring.specs.RingState.{Held, State, change_at, ChangesOnly, IsHeld}
+use Rattle.lhm_ring.specs.RingState.{Held, change_at, IsHeld}
+use Rattle.lhm_ring.specs.Tables.{TableState, WritesOnly}
 use Rattle.lhm_ring.specs.RingAfterLoan.{revalued, set_held_values}
 use Rattle.lhm_ring.specs.Search.{entries, HasKey, IsAbsent}
 use Rattle.lhm_ring.proofs.Apart.{IsFresh, same_ptr_eq, same_ptr_refl}
@@ -38,7 +39,7 @@ module _ {K V : Type 0} where
   pub bare-entries : (hs ks : List (Held (K × V))) → entries hs ≡ entries ks → bare hs ≡ bare ks
   bare-entries hs ks e = sym (bare-of-entries hs) ∙ ap bare e ∙ bare-of-entries ks
 
-  pairs_of-of-entries : (hs : List (Held (K × V))) → pairs_of (entries hs) ≡ pairs_of hs
+  pub pairs_of-of-entries : (hs : List (Held (K × V))) → pairs_of (entries hs) ≡ pairs_of hs
   pairs_of-of-entries [] = refl
   pairs_of-of-entries (t ∷ hs) = ap (λ ps. t.pair ∷ ps) (pairs_of-of-entries hs)
 
@@ -81,26 +82,25 @@ module _ {K V : Type 0} where
   pairs_of-append xs ys = map-append (λ (t : Held (K × V)). t.pair) xs ys
 
 -- what is kept so is a valid map
-module _ {K V : Type 0} {eq : K → K → Bool} {hash : K → ℕ} {heads : List (Option Ptr)} {s : State (K × V)} {mark : Option Ptr} {n : ℕ} {current : Option Ptr} {rechained : ℕ} (kept : IsKept eq hash heads s mark n current rechained) where
+module _ {K V : Type 0} {eq : K → K → Bool} {hash : K → ℕ} {s : TableState (K × V)} {mark : Option Ptr} {n : ℕ} {current : Option Ptr} (kept : IsKept eq hash s mark n current) where
   pub distinct_keys : IsDistinct eq (keys_of (pairs_of s.held))
   distinct_keys = subst (IsDistinct eq) (keys-bare s.held) kept.nodes.distinct
 
-  pub IsValid-view : {S : Type 0} {m : LinkedMap K V S} → m.pairs ≡ pairs_of s.held → m.capacity ≡ length s.held + s.spares → IsValid eq m
+  pub IsValid-view : {S : Type 0} {m : LinkedMap K V S} → m.pairs ≡ pairs_of s.held → m.capacity ≡ s.capacity → IsValid eq m
   IsValid-view pairs capacity =
       let of_bare = length-bare s.held in
       let of_pairs = length-pairs_of s.held in
       let len = ap length pairs in
       record {
         distinct = subst (λ ps. IsDistinct eq (keys_of ps)) (sym pairs) distinct_keys;
-        within = omega (arith, len, capacity, of_pairs);
-        limit = omega (arith, capacity, of_bare, kept.nodes.limit);
+        within = omega (arith, len, capacity, of_pairs, of_bare, kept.nodes.within);
+        limit = omega (arith, capacity, kept.nodes.limit);
       }
 
 -- with other values in the same nodes, other pairs are seen, and nothing else
-pub map_of-revalued : {K V S : Type 0} (s t : State (K × V)) (hasher : S) (mark : Option Ptr) (n : ℕ) (current : Option Ptr) (r : ℕ) (mode : Mode) → bare t.held ≡ bare s.held → t.spares ≡ s.spares → {ps : List (K × V)} → pairs_of t.held ≡ ps → map_of t hasher mark n current r mode ≡ record (map_of s hasher mark n current r mode) { pairs = ps }
-map_of-revalued s t hasher mark n current r mode same spares pairs = λ i. record (map_of s hasher mark n current r mode) {
+pub map_of-revalued : {K V S : Type 0} (s : TableState (K × V)) (hs : List (Held (K × V))) (hasher : S) (mark : Option Ptr) (n : ℕ) (current : Option Ptr) (mode : Mode) → bare hs ≡ bare s.held → {ps : List (K × V)} → pairs_of hs ≡ ps → map_of (record s { held = hs }) hasher mark n current mode ≡ record (map_of s hasher mark n current mode) { pairs = ps }
+map_of-revalued s hs hasher mark n current mode same pairs = λ i. record (map_of s hasher mark n current mode) {
   pairs = pairs i;
-  capacity = length-same t.held s.held same i + spares i;
   bookmark = bookmark_at mark (same i);
   current = current_at current (same i);
 }
@@ -141,9 +141,9 @@ module _ {K V : Type 0} {hs : List (Held (K × V))} {p : Ptr} (held : IsHeld hs 
   pairs_removed = subst (λ i. pairs_of (front ++ back) ≡ remove (pairs_of hs) i) (length-pairs_of front)
       (pairs_of-append front back ∙ sym (ap (λ ps. remove ps (length (pairs_of front))) pairs_cut ∙ remove-cut (pairs_of front) node.pair (pairs_of back)))
 
-  pub pairs_set : ChangesOnly hs p → (w : V) → pairs_of (change_at p (revalued w) hs) ≡ set_value_at (pairs_of hs) (length front) w
+  pub pairs_set : WritesOnly hs p → (w : V) → pairs_of (change_at p (revalued w) hs) ≡ set_value_at (pairs_of hs) (length front) w
   pairs_set alone w = subst (λ i. pairs_of (change_at p (revalued w) hs) ≡ set_value_at (pairs_of hs) i w) (length-pairs_of front)
-      (ap pairs_of (alone front node back held.3 held.4 (revalued w)) ∙ pairs_of-append front (revalued w node ∷ back)
+      (ap pairs_of (alone front node back held.3 held.4 w) ∙ pairs_of-append front (revalued w node ∷ back)
       ∙ sym (ap (λ ps. set_value_at ps (length (pairs_of front)) w) pairs_cut ∙ set_value_at-cut (pairs_of front) node.pair (pairs_of back) w))
 
 -- a node with a key that was looked for

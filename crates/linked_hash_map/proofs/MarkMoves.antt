@@ -9,7 +9,8 @@ use Rattle.std.specs.declared.hash.Hasher as hasher
 use Rattle.std.specs.declared.hash.BuildHasher as builder
 use denote.RawPtr.{Ptr}
 use Rattle.lhm_ring.specs.Cells.{IsApart}
-use Rattle.lhm_ring.specs.RingState.{Held, State, IsHeld, AtHeld, first_at}
+use Rattle.lhm_ring.specs.RingState.{Held, IsHeld, AtHeld, first_at}
+use Rattle.lhm_ring.specs.Tables.{TableState}
 use Rattle.linked_hash_map.specs.Entry.{occupied_pair, occupied_key}
 use Rattle.linked_hash_map.specs.Indexes.{pair_at}
 use Rattle.linked_hash_map.specs.Nodes.{IsKept, before, bookmark_at, bare}
@@ -75,7 +76,7 @@ module _ {K V : Type 0} where
       (subst (λ (z : List (Held (K × V))). Goes (bookmark_at (first_at back) z) (length z) (length front) n (first_at back)) (sym is) at))
 
 -- a map with a mark on what lies at p
-module _ {K V : Type 0} {eq : K → K → Bool} {hash : K → ℕ} {heads : List (Option Ptr)} {s : State (K × V)} {mark : Option Ptr} {n : ℕ} {current : Option Ptr} {r : ℕ} (kept : IsKept eq hash heads s mark n current r) (p : Ptr) (marked : mark ≡ Some p) where
+module _ {K V : Type 0} {eq : K → K → Bool} {hash : K → ℕ} {s : TableState (K × V)} {mark : Option Ptr} {n : ℕ} {current : Option Ptr} (kept : IsKept eq hash s mark n current) (p : Ptr) (marked : mark ≡ Some p) where
   pub unvisited_some : 0 < n
   unvisited_some = positive n (λ z. let h : Some p ≡ None = sym marked ∙ kept.nodes.ended z in cc)
 
@@ -101,7 +102,7 @@ module _ {K V : Type 0} {eq : K → K → Bool} {hash : K → ℕ} {heads : List
         (subst (λ (z : ℕ). Goes z (length s.held) (before p s.held) n o) (sym (bookmark-bare o s.held))
         (goes_by (n - 1) p s.held cut o n refl none (λ some. next some t.0 t.1 t.2 t.3 t.4) apart reach)))
 
-    pub kept_on : IsKept eq hash heads s o (n - 1) (Some p) r
+    pub kept_on : IsKept eq hash s o (n - 1) (Some p)
     kept_on =
         let some = unvisited_some in
         let of_bare = length-bare s.held in
@@ -110,14 +111,13 @@ module _ {K V : Type 0} {eq : K → K → Bool} {hash : K → ℕ} {heads : List
           nodes = record {
             distinct = kept.nodes.distinct;
             hashed = kept.nodes.hashed;
+            within = kept.nodes.within;
             limit = kept.nodes.limit;
             marked = goes.marked;
             ended = none;
             in_reach = goes.reach;
             current_lies = omega (arith, of_bare, at, reach, some);
           };
-          indexed = kept.indexed;
-          few = kept.few;
         }
 
     pub to_visit_on : {X : Type 0} (ks : List X) (k : X) → slice_get ks (before p (bare s.held)) ≡ Some k → take n (drop (bookmark_at mark (bare s.held)) ks) ≡ k ∷ take (n - 1) (drop (bookmark_at o (bare s.held)) ks)

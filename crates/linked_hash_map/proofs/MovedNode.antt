@@ -32,8 +32,8 @@ before-last p (x ∷ hs) t at fresh =
     ap (λ y. cond y 0 (before p (hs ++ t ∷ []) + 1)) (same_ptr_symm x.at p ∙ fresh.0) ∙ one
 
 -- the nodes with one that is not to be visited moved behind the others
-module _ {K : Type 0} {eq : K → K → Bool} (laws : IsEquivalence eq) {hash : K → ℕ} (front : List (Held K)) (u : Held K) (back : List (Held K)) {spares n : ℕ} {mark : Option Ptr} {p : Ptr} (kept : AreKept eq hash (front ++ u ∷ back) spares mark n (Some p)) (clear : IsClear front u back mark n) where
-  AreKept-to_back : u.at ≡ p → AreKept eq hash ((front ++ back) ++ u ∷ []) spares mark n (Some p)
+module _ {K : Type 0} {eq : K → K → Bool} (laws : IsEquivalence eq) {hash : K → ℕ} (front : List (Held K)) (u : Held K) (back : List (Held K)) {capacity n : ℕ} {mark : Option Ptr} {p : Ptr} (kept : AreKept eq hash (front ++ u ∷ back) capacity mark n (Some p)) (clear : IsClear front u back mark n) where
+  AreKept-to_back : u.at ≡ p → AreKept eq hash ((front ++ back) ++ u ∷ []) capacity mark n (Some p)
   AreKept-to_back at =
       let of_all = length-append front (u ∷ back) in
       let of_rest = length-append front back in
@@ -48,7 +48,8 @@ module _ {K : Type 0} {eq : K → K → Bool} (laws : IsEquivalence eq) {hash : 
       record {
         distinct = subst (IsDistinct eq) (sym (map-append (λ (t : Held K). t.pair) (front ++ back) (u ∷ []))) (IsDistinct-push laws (keys (front ++ back)) u.pair (distinct_keys-out front u back kept clear) differs);
         hashed = all_both P (front ++ back) (u ∷ []) (all_swap P front u back kept.hashed) ((all_right P front (u ∷ back) kept.hashed).0, tt);
-        limit = omega (arith, of_all, of_rest, of_moved, kept.limit);
+        within = omega (arith, of_all, of_rest, of_moved, kept.within);
+        limit = kept.limit;
         marked = kept.marked;
         ended = kept.ended;
         in_reach = omega (arith, reach, bookmark, of_moved);
@@ -119,17 +120,17 @@ module _ {K V : Type 0} (hs ks : List (Held (K × V))) {p : Ptr} (last : AtHeld 
   bare_moved = let h = cut_moved.held in ap bare moved ∙ map-append bare_node (h.0 ++ h.2) (h.1 ∷ []) ∙ ap (λ us. us ++ bare_node h.1 ∷ []) (map-append bare_node h.0 h.2)
 
   -- the node is none of those that are still to be visited
-  module _ {eq : K → K → Bool} (laws : IsEquivalence eq) {hash : K → ℕ} {spares : ℕ} {mark : Option Ptr} {n : ℕ} (kept : AreKept eq hash (bare hs) spares mark n (Some p)) (elsewhere : IsElsewhere p hs mark n) where
-    kept_cut : AreKept eq hash (bare cut_moved.held.0 ++ bare_node cut_moved.held.1 ∷ bare cut_moved.held.2) spares mark n (Some p)
-    kept_cut = subst (λ us. AreKept eq hash us spares mark n (Some p)) bare_cut kept
+  module _ {eq : K → K → Bool} (laws : IsEquivalence eq) {hash : K → ℕ} {capacity : ℕ} {mark : Option Ptr} {n : ℕ} (kept : AreKept eq hash (bare hs) capacity mark n (Some p)) (elsewhere : IsElsewhere p hs mark n) where
+    kept_cut : AreKept eq hash (bare cut_moved.held.0 ++ bare_node cut_moved.held.1 ∷ bare cut_moved.held.2) capacity mark n (Some p)
+    kept_cut = subst (λ us. AreKept eq hash us capacity mark n (Some p)) bare_cut kept
 
     clear : IsClear (bare cut_moved.held.0) (bare_node cut_moved.held.1) (bare cut_moved.held.2) mark n
     clear = clear-elsewhere p hs mark n cut_moved.held.0 cut_moved.held.1 cut_moved.held.2 bare_cut cut_moved.long elsewhere
 
-    pub AreKept-moved : AreKept eq hash (bare ks) spares mark n (Some p)
+    pub AreKept-moved : AreKept eq hash (bare ks) capacity mark n (Some p)
     AreKept-moved =
         let h = cut_moved.held in
-        subst (λ us. AreKept eq hash us spares mark n (Some p)) (sym bare_moved) (AreKept-to_back laws (bare h.0) (bare_node h.1) (bare h.2) kept_cut clear h.4)
+        subst (λ us. AreKept eq hash us capacity mark n (Some p)) (sym bare_moved) (AreKept-to_back laws (bare h.0) (bare_node h.1) (bare h.2) kept_cut clear h.4)
 
     pub to_visit-moved : take n (drop (bookmark_at mark (bare ks)) (keys_of (pairs_of ks))) ≡ take n (drop (bookmark_at mark (bare hs)) (keys_of (pairs_of hs)))
     to_visit-moved =

@@ -5,10 +5,11 @@ use Rattle.std.specs.Map.{keys_of}
 use Rattle.std.specs.Cmp.{IsEquivalence}
 use denote.RawPtr.{Ptr}
 use Rattle.lhm_ring.specs.Cells.{IsApart}
-use Rattle.lhm_ring.specs.RingState.{Held, State, IsHeld, AtHeld, ChangesOnly, change_at}
-use Rattle.lhm_ring.specs.RingAfterLoan.{revalued, with_value}
+use Rattle.lhm_ring.specs.RingState.{Held, IsHeld, AtHeld, change_at}
+use Rattle.lhm_ring.specs.RingAfterLoan.{revalued}
+use Rattle.lhm_ring.specs.Tables.{TableState, WritesOnly}
+use Rattle.lhm_ring.specs.TableAfterLoan.{with_value}
 use Rattle.lhm_ring.specs.Search.{HasKey}
-use Rattle.lhm_ring.proofs.IndexedRing.{indexed_to_back}
 use Rattle.linked_hash_map.specs.declared.map.Mode.TheVariants.{Touch, Keep}
 use Rattle.linked_hash_map.specs.Nodes.{pairs_of, bare, before, AreKept, IsKept}
 use Rattle.linked_hash_map.specs.Pairs.{value_at, put}
@@ -27,7 +28,7 @@ module _ {K V : Type 0} {eq : K → K → Bool} (laws : IsEquivalence eq) {numbe
   cut = cut_before p hs (key_lies has)
 
   -- in its place
-  pub pairs-kept : ChangesOnly hs p → (w : V) → pairs_of (change_at p (revalued w) hs) ≡ put eq Keep (pairs_of hs) k w
+  pub pairs-kept : WritesOnly hs p → (w : V) → pairs_of (change_at p (revalued w) hs) ≡ put eq Keep (pairs_of hs) k w
   pairs-kept alone w =
       pairs_set cut.held alone w ∙ ap (λ i. set_value_at (pairs_of hs) i w) cut.long
       ∙ sym (set_value-index laws distinct index w) ∙ put-present eq (pairs_of hs) k w (is_some-index laws distinct index)
@@ -55,7 +56,7 @@ module _ {K V : Type 0} {eq : K → K → Bool} (laws : IsEquivalence eq) {numbe
     at_end : before p ks ≡ length (remove (pairs_of hs) (before p hs))
     at_end = before-at_back hs ks last (key_lies has) apart ∙ ap (λ n. n - 1) (sym (length-pairs_of hs)) ∙ length-others (pairs_of hs) (before p hs) index.pair index.there
 
-    pub pairs-touched : ChangesOnly ks p → (w : V) → pairs_of (change_at p (revalued w) ks) ≡ put eq Touch (pairs_of hs) k w
+    pub pairs-touched : WritesOnly ks p → (w : V) → pairs_of (change_at p (revalued w) ks) ≡ put eq Touch (pairs_of hs) k w
     pairs-touched alone w =
         pairs_set cut_last.held alone w ∙ ap (λ i. set_value_at (pairs_of ks) i w) cut_last.long
         ∙ set_value_at-pushed (remove (pairs_of hs) (before p hs)) (pairs_of ks) index.pair (before p ks) pushed at_end w
@@ -69,17 +70,17 @@ module _ {K V : Type 0} {eq : K → K → Bool} (laws : IsEquivalence eq) {numbe
         ap Some (there h.0 h.1 h.2 h.3 h.4) ∙ ap (λ o. option_map (λ pair. pair.1) o) same ∙ value_at-index laws distinct index index.there
 
 -- a map whose pair was touched or kept, with no pair to visit and no current one
-module _ {K V : Type 0} {eq : K → K → Bool} {hash : K → ℕ} {heads : List (Option Ptr)} {s : State (K × V)} {mark current : Option Ptr} {n r : ℕ} (kept : IsKept eq hash heads s mark n current r) where
-  pub IsKept-kept : (p : Ptr) (w : V) → IsKept eq hash heads (with_value s p w) None 0 None r
+module _ {K V : Type 0} {eq : K → K → Bool} {hash : K → ℕ} {s : TableState (K × V)} {mark current : Option Ptr} {n : ℕ} (kept : IsKept eq hash s mark n current) where
+  pub IsKept-kept : (p : Ptr) (w : V) → IsKept eq hash (with_value s p w) None 0 None
   IsKept-kept p w = IsKept-with_value (IsKept-visited kept None tt) p w
 
-  pub IsKept-refreshed : IsEquivalence eq → {number : ℕ} {k : K} {p : Ptr} → HasKey eq number k s.held p → {t : State (K × V)} → AtHeld s.held p (λ xs x ys. t.held ≡ (xs ++ ys) ++ x ∷ []) → t.spares ≡ s.spares → IsKept eq hash heads t None 0 None r
-  IsKept-refreshed laws {p = p} has {t} last spares =
+  pub IsKept-refreshed : IsEquivalence eq → {number : ℕ} {k : K} {p : Ptr} → HasKey eq number k s.held p → {t : TableState (K × V)} → AtHeld s.held p (λ xs x ys. t.held ≡ (xs ++ ys) ++ x ∷ []) → t.capacity ≡ s.capacity → IsKept eq hash t None 0 None
+  IsKept-refreshed laws {p = p} has {t} last capacity =
       let visited = IsKept-visited kept (Some p) (found_lies has) in
-      let nodes : AreKept eq hash (bare t.held) t.spares None 0 (Some p) =
-      subst (λ i. AreKept eq hash (bare t.held) i None 0 (Some p)) (sym spares) (AreKept-moved s.held t.held last (key_lies has) laws visited.nodes (inr (omega arith))) in
-      let moved : IsKept eq hash heads t None 0 (Some p) r = record { nodes = nodes; indexed = indexed_to_back heads s t p kept.indexed has.held last spares; few = kept.few } in
+      let nodes : AreKept eq hash (bare t.held) t.capacity None 0 (Some p) =
+      subst (λ i. AreKept eq hash (bare t.held) i None 0 (Some p)) (sym capacity) (AreKept-moved s.held t.held last (key_lies has) laws visited.nodes (inr (omega arith))) in
+      let moved : IsKept eq hash t None 0 (Some p) = record { nodes = nodes } in
       IsKept-visited moved None tt
 
-  pub IsKept-touched : IsEquivalence eq → {number : ℕ} {k : K} {p : Ptr} → HasKey eq number k s.held p → {t : State (K × V)} → AtHeld s.held p (λ xs x ys. t.held ≡ (xs ++ ys) ++ x ∷ []) → t.spares ≡ s.spares → (w : V) → IsKept eq hash heads (with_value t p w) None 0 None r
-  IsKept-touched laws {p = p} has last spares w = IsKept-with_value (IsKept-refreshed laws has last spares) p w
+  pub IsKept-touched : IsEquivalence eq → {number : ℕ} {k : K} {p : Ptr} → HasKey eq number k s.held p → {t : TableState (K × V)} → AtHeld s.held p (λ xs x ys. t.held ≡ (xs ++ ys) ++ x ∷ []) → t.capacity ≡ s.capacity → (w : V) → IsKept eq hash (with_value t p w) None 0 None
+  IsKept-touched laws {p = p} has last capacity w = IsKept-with_value (IsKept-refreshed laws has last capacity) p w

@@ -1,7 +1,6 @@
 -- What look-ups and changes of the capacity count.
-pub use Rattle.lhm_ring.specs.Buckets.{buckets, rechained_raised}
-use Rattle.std.specs.Prelude.{ℕ, zero, suc, ◌+◌, ◌%◌, ◌==◌, if◌then◌else◌, List, count_by}
-use Rattle.lhm_ring.specs.Buckets.{rechained_lowered}
+pub use Rattle.lhm_ring.specs.Buckets.{buckets, rechained_raised, rechained_fitted}
+use Rattle.std.specs.Prelude.{ℕ, zero, suc, ◌+◌, ◌%◌, ◌==◌, List, count_by}
 
 -- given the number of each key
 module _ {K V : Type 0} (number : K → ℕ) where
@@ -17,7 +16,3 @@ module _ {K V : Type 0} (number : K → ℕ) where
 abbrev pub rechained_each : ℕ → ℕ → ℕ → ℕ
 rechained_each rechained c zero = rechained
 rechained_each rechained c (suc n) = rechained_each (rechained_raised rechained c c (c + 1)) (c + 1) n
-
--- the same, once the capacity c was brought to the number of pairs: a change alone counts
-abbrev pub rechained_fitted : ℕ → ℕ → ℕ → ℕ
-rechained_fitted rechained len c = if c == len then rechained else rechained_lowered len c

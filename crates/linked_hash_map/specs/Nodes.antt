@@ -1,11 +1,11 @@
--- How a map keeps its pairs: in the nodes of a ring, with an index of their numbers.
+-- How a map keeps its pairs: in a table, each with the hash of its key.
 use Rattle.std.specs.Prelude.{◌≡◌, ℕ, ◌+◌, ◌<◌, ◌≤◌, Bool, cond, List, [], ◌∷◌, map, length, Option, Some, None, ⊤}
 use Rattle.std.specs.List.{IsDistinct, AllByRecursion}
 use denote.RawPtr.{Ptr}
 use Rattle.lhm_ring.specs.Cells.{same_ptr}
 use Rattle.lhm_ring.specs.Positions.{pointer_of_some}
-use Rattle.lhm_ring.specs.RingState.{Held, State, held}
-use Rattle.lhm_ring.specs.IndexedRing.{IsIndexed}
+use Rattle.lhm_ring.specs.RingState.{Held, held}
+use Rattle.lhm_ring.specs.Tables.{TableState}
 use Rattle.linked_hash_map.specs.LinkedMap.{LinkedMap, linked_map, nowhere}
 use Rattle.linked_hash_map.specs.declared.map.Mode.{Mode}
 use Rattle.linked_hash_map.specs.declared.map.TheConstants.{LIMIT}
@@ -55,24 +55,23 @@ module _ {K V : Type 0} where
   abbrev pub bare : List (Held (K × V)) → List (Held K)
   bare = map bare_node
 
-  -- what a contract sees of a map that keeps its pairs in these nodes
-  abbrev pub map_of : {S : Type 0} → State (K × V) → S → Option Ptr → ℕ → Option Ptr → ℕ → Mode → LinkedMap K V S
-  map_of s hasher mark unvisited current rechained mode =
-      linked_map (pairs_of s.held) (length s.held + s.spares) hasher (bookmark_at mark (bare s.held)) unvisited (current_at current (bare s.held)) rechained mode
+  -- what a contract sees of a map that keeps its pairs in this table
+  abbrev pub map_of : {S : Type 0} → TableState (K × V) → S → Option Ptr → ℕ → Option Ptr → Mode → LinkedMap K V S
+  map_of s hasher mark unvisited current mode =
+      linked_map (pairs_of s.held) s.capacity hasher (bookmark_at mark (bare s.held)) unvisited (current_at current (bare s.held)) s.rechained mode
 
--- no two keys are the same, each stands with its number, and there are no more nodes than the limit; a mark is there as long as
--- pairs are unvisited, and these are there from it on; the pair that an entry stands for is there
-pub record AreKept {K : Type 0} (eq : K → K → Bool) (hash : K → ℕ) (us : List (Held K)) (spares : ℕ) (mark : Option Ptr) (unvisited : ℕ) (current : Option Ptr) : Type 0 where
+-- no two keys are the same, each stands with its hash, they are within the capacity and that within the limit; a mark is there as
+-- long as pairs are unvisited, and these are there from it on; the pair that an entry stands for is there
+pub record AreKept {K : Type 0} (eq : K → K → Bool) (hash : K → ℕ) (us : List (Held K)) (capacity : ℕ) (mark : Option Ptr) (unvisited : ℕ) (current : Option Ptr) : Type 0 where
   pub distinct : IsDistinct eq (map (λ u. u.pair) us)
   pub hashed : AllByRecursion (λ u. u.number ≡ hash u.pair) us
-  pub limit : length us + spares ≤ LIMIT
+  pub within : length us ≤ capacity
+  pub limit : capacity ≤ LIMIT
   pub marked : mark ≡ None → unvisited ≡ 0
   pub ended : unvisited ≡ 0 → mark ≡ None
   pub in_reach : bookmark_at mark us + unvisited ≤ length us
   pub current_lies : Lies current us
 
--- the nodes are kept so, each is in the chain of its bucket and in no other, and no more were chained again than there are buckets
-pub record IsKept {K V : Type 0} (eq : K → K → Bool) (hash : K → ℕ) (heads : List (Option Ptr)) (s : State (K × V)) (mark : Option Ptr) (unvisited : ℕ) (current : Option Ptr) (rechained : ℕ) : Type 0 where
-  pub nodes : AreKept eq hash (bare s.held) s.spares mark unvisited current
-  pub indexed : IsIndexed heads s
-  pub few : rechained ≤ length heads
+-- the pairs of a table are kept so
+pub record IsKept {K V : Type 0} (eq : K → K → Bool) (hash : K → ℕ) (s : TableState (K × V)) (mark : Option Ptr) (unvisited : ℕ) (current : Option Ptr) : Type 0 where
+  pub nodes : AreKept eq hash (bare s.held) s.capacity mark unvisited current

@@ -373,13 +373,10 @@ impl<K: Eq + Hash, V, S: BuildHasher> LinkedHashMap<K, V, S> {
         ensures some { OnErr result (0 < length self.old.pairs) }
         ensures spare { OnErr result (length self.old.pairs < self.old.capacity) }
     {
-        let len = self.len();
-        if len == 0 {
-            self.table.free();
-        } else if len < self.capacity() && self.table.lower().is_err() {
-            return Err(NoRoom);
+        match self.table.shrink_to_fit() {
+            Ok(()) => Ok(()),
+            Err(_) => Err(NoRoom),
         }
-        Ok(())
     }
 
     /// Puts a pair at the back, or in [`Mode::Keep`] in the place that its key has.
@@ -685,9 +682,9 @@ impl<K: Eq + Hash, V, S: BuildHasher> LinkedHashMap<K, V, S> {
         ensures valid { IsValid K.eq self.old }
         ensures stays_valid { IsValid K.eq self.new }
     {
-        let at = self.table.first()?;
+        let front = self.table.first()?;
         self.visit.active = false;
-        Some(self.table.remove_at(at))
+        Some(self.table.remove_at(front))
     }
 
     /// Lends the pair at the oldest place, or returns `None` on an empty map.
@@ -734,9 +731,9 @@ impl<K: Eq + Hash, V, S: BuildHasher> LinkedHashMap<K, V, S> {
         ensures valid { IsValid K.eq self.old }
         ensures stays_valid { IsValid K.eq self.new }
     {
-        let at = self.table.last()?;
+        let back = self.table.last()?;
         self.visit.active = false;
-        Some(self.table.remove_at(at))
+        Some(self.table.remove_at(back))
     }
 
     /// Lends the pair at the newest place, or returns `None` on an empty map.

@@ -1,12 +1,12 @@
 //! The iterator that owns its pairs.
-ghost use Rattle.std.specs.Prelude.{◌≡◌, Some, IfSome, length};
+ghost use Rattle.std.specs.Prelude.{◌≡◌, Some, IfSome, length, map};
 ghost use Rattle.std.specs.Iterator.{at_most, UpTo};
 ghost use Rattle.std.specs.Iterator.SizeHint.{IsWithinCount};
 ghost use Rattle.std.specs.List.{AllZip};
 ghost use Rattle.std.specs.Map.Iter.{TakesFirst, TakesLast};
 
-use crate::map::{LinkedHashMap, ring_with_room};
-use lhm_ring::ring::Ring;
+use crate::map::LinkedHashMap;
+use lhm_ring::table;
 use std::alloc::AllocError;
 use std::hash::{BuildHasher, Hash};
 use std::iter::FusedIterator;
@@ -32,27 +32,24 @@ use std::marker::Model;
 /// ```
 #[derive(Drop)]
 pub struct IntoIter<K, V> {
-    ring: Ring<K, V>,
+    nodes: table::IntoIter<K, V>,
 }
 
 /// A contract sees the pairs that are left, in their order.
 impl<K, V> Model for IntoIter<K, V> {
-    ghost use Rattle.std.specs.Prelude.{List};
-    ghost use Rattle.linked_hash_map.specs.Nodes.{pairs_of};
+    ghost use Rattle.std.specs.Prelude.{List, map};
 
     ghost Value = { List (K × V) };
 
-    ghost view = { λ a. pairs_of a.ring.held };
+    ghost view = { λ a. map (λ t. t.1) a.nodes };
 }
 
 impl<K, V> IntoIter<K, V> {
-    ghost use Rattle.linked_hash_map.specs.Nodes.{pairs_of};
-
-    /// Hands out what a ring holds. It takes no memory.
-    pub(crate) fn new(ring: Ring<K, V>) -> Self
-        ensures { result ≡ pairs_of ring.held }
+    /// Hands out pairs that come with their hashes.
+    pub(crate) fn new(nodes: table::IntoIter<K, V>) -> Self
+        ensures { result ≡ map (λ t. t.1) nodes }
     {
-        IntoIter { ring }
+        IntoIter { nodes }
     }
 }
 
@@ -65,9 +62,10 @@ impl<K: Drop, V: Drop> Iterator for IntoIter<K, V> {
     ghost remaining = { λ s. at_most (length s) };
 
     fn next(&mut self) -> Option<(K, V)> {
-        let at = self.ring.first()?;
-        let (_, key, value) = self.ring.unlink(at);
-        Some((key, value))
+        match self.nodes.next() {
+            Some((_, key, value)) => Some((key, value)),
+            None => None,
+        }
     }
 
     fn size_hint(&self) -> (usize, Option<usize>)
@@ -85,16 +83,17 @@ impl<K: Drop, V: Drop> DoubleEndedIterator for IntoIter<K, V> {
     ghost next_back_gives = { TakesLast (λ pair. pair) };
 
     fn next_back(&mut self) -> Option<(K, V)> {
-        let at = self.ring.last()?;
-        let (_, key, value) = self.ring.unlink(at);
-        Some((key, value))
+        match self.nodes.next_back() {
+            Some((_, key, value)) => Some((key, value)),
+            None => None,
+        }
     }
 }
 
 /// `len` is the number of pairs that are left.
 impl<K: Drop, V: Drop> ExactSizeIterator for IntoIter<K, V> {
     fn len(&self) -> usize {
-        self.ring.len()
+        self.nodes.len()
     }
 }
 
@@ -114,11 +113,9 @@ impl<K: Clone, V: Clone> Clone for IntoIter<K, V> {
     ghost is_infallible = { λ s. s ≡ [] };
 
     fn clone(&self) -> Result<Self, AllocError> {
-        let mut ring = ring_with_room(self.ring.allocator(), self.ring.len())?;
-        for (number, key, value) in self.ring.iter() {
-            ring.put_back(number, key.clone()?, value.clone()?);
-        }
-        Ok(Self::new(ring))
+        Ok(IntoIter {
+            nodes: self.nodes.clone()?,
+        })
     }
 }
 

@@ -18,6 +18,6 @@ returns g c =
     let key = c.key.ensures h.0 h.1 h.2 h.3 h.4 in
     let value = c.value.ensures h.0 h.1 h.2 h.3 h.4 in
     rw (← c.self.view_is) (
-    ap (slice_get (pairs_of m.ring.held)) (current_at-Some (current_of-Some c.current.ensures c.unwrap-at.ensures) m.ring.held ∙ sym cut.long)
+    ap (slice_get (pairs_of m.table.held)) (current_at-Some (current_of-Some c.current.ensures c.unwrap-at.ensures) m.table.held ∙ sym cut.long)
     ∙ pair_there h ∙ (λ i. Some (sym key i, sym value i))
     )

@@ -1,6 +1,7 @@
 use Rattle.std.proofs.Common.{Some, slice_get, option_map, refl, sym, ap, ◌∙◌}
 use Rattle.lhm_ring.specs.Positions.{pointer_of}
-use Rattle.lhm_ring.specs.RingAfterLoan.{with_value}
+use Rattle.lhm_ring.specs.RingState.{change_at}
+use Rattle.lhm_ring.specs.RingAfterLoan.{revalued}
 use Rattle.linked_hash_map.specs.Indexes.{set_value_at}
 use Rattle.linked_hash_map.specs.Nodes.{pairs_of, mark_of, unvisited_of, current_of}
 use Rattle.linked_hash_map.proofs.Kept.{IsValid-view, map_of-revalued, bare-change, pair_there, pairs_set}
@@ -16,7 +17,7 @@ invariant_of-self-lent g c w = IsKept-with_value c.self.invariant (pointer_of c.
 pub returns : goal.returns
 returns g c =
     let m = c.self.inside in
-    let hs = m.ring.held in
+    let hs = m.table.held in
     let p = pointer_of c.unwrap-at.result in
     let cut = current_cut c.self.invariant (current_of-Some c.current.ensures c.unwrap-at.ensures) in
     let h = cut.held in
@@ -24,7 +25,7 @@ returns g c =
     rw (← c.self.view_is) (
       (
         refl,
-        λ w. map_of-revalued m.ring (with_value m.ring p w) m.hasher (mark_of m.visit) (unvisited_of m.visit) (current_of m.visit) m.rechained m.mode (bare-change p w hs) refl
+        λ w. map_of-revalued m.table (change_at p (revalued w) hs) m.hasher (mark_of m.visit) (unvisited_of m.visit) (current_of m.visit) m.mode (bare-change p w hs)
             (pairs_set h c.value_mut.ensures.alone w ∙ ap (λ k. set_value_at (pairs_of hs) k w) (sym index)),
       ),
       record {

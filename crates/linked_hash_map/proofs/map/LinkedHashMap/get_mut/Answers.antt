@@ -1,34 +1,28 @@
-use Rattle.std.proofs.Common.{Some, option_map, fold, refl, inl, ap, sym, ◌∙◌, subst}
+use Rattle.std.proofs.Common.{Some, option_map, fold, refl, inl, ap, sym, ◌∙◌}
 use Rattle.lhm_ring.specs.Positions.{pointer_of}
-use Rattle.lhm_ring.specs.RingAfterLoan.{with_value}
 use Rattle.lhm_ring.specs.Search.{HasKey, IsAbsent}
-use Rattle.lhm_ring.proofs.IndexedRing.{indexed_value}
-use Rattle.linked_hash_map.specs.Nodes.{AreKept, mark_of, unvisited_of, current_of}
+use Rattle.lhm_ring.specs.RingState.{change_at}
+use Rattle.lhm_ring.specs.RingAfterLoan.{revalued}
+use Rattle.linked_hash_map.specs.Nodes.{mark_of, unvisited_of, current_of}
 use Rattle.linked_hash_map.specs.Hashers.{hash_by}
 use Rattle.linked_hash_map.proofs.Kept.{IsValid-view, of-Some, of-None, index_of-key, pair_there, node, front, back, pairs_set, map_of-revalued, bare-change, distinct_keys, absent_key}
+use Rattle.linked_hash_map.proofs.Current.{IsKept-with_value}
 use Rattle.linked_hash_map.proofs.Indexes.{value_at-index, set_value-index}
 use Rattle.linked_hash_map.proofs.map.LinkedHashMap.get_mut.Goals as goal
 
 pub invariant_of-self-lent : goal.invariant_of-self-lent
-invariant_of-self-lent g c w =
-    let m = c.self.inside in
-    record {
-      nodes = subst (λ us. AreKept g.K.PartialEq.eq (hash_by g.S.Hasher.Hasher.finish g.S.Hasher.Hasher.write g.S.BuildHasher.build_hasher g.K.Hash.hash_input m.hasher) us m.ring.spares (mark_of m.visit) (unvisited_of m.visit) (current_of m.visit))
-          (sym (bare-change (pointer_of c.in-Some.at) w m.ring.held)) c.self.invariant.nodes;
-      indexed = indexed_value m.index m.ring (pointer_of c.in-Some.at) w c.self.invariant.indexed;
-      few = c.self.invariant.few;
-    }
+invariant_of-self-lent g c w = IsKept-with_value c.self.invariant (pointer_of c.in-Some.at) w
 
 pub returns-in-Some : goal.returns-in-Some
 returns-in-Some g c =
     let m = c.self.inside in
     let at = pointer_of c.in-Some.at in
-    let h = of-Some (λ p. HasKey g.K.PartialEq.eq c.hash_one-number.result c.args.key.now m.ring.held (pointer_of p)) c.find.result.0 c.in-Some.at c.in-Some.is c.find.ensures.found in
+    let h = of-Some (λ p. HasKey g.K.PartialEq.eq c.hash_one-number.result c.args.key.now m.table.held (pointer_of p)) c.find.result.0 c.in-Some.at c.in-Some.is c.find.ensures.found in
     let distinct = distinct_keys c.self.invariant in
     rw (← c.self.view_is) (
       (λ i. inl (
         c.value_mut.result.ghost_name,
-        λ w. map_of-revalued m.ring (with_value m.ring at w) m.hasher (mark_of m.visit) (unvisited_of m.visit) (current_of m.visit) m.rechained m.mode (bare-change at w m.ring.held) refl
+        λ w. map_of-revalued m.table (change_at at (revalued w) m.table.held) m.hasher (mark_of m.visit) (unvisited_of m.visit) (current_of m.visit) m.mode (bare-change at w m.table.held)
             (pairs_set h.held c.value_mut.ensures.alone w ∙ sym (set_value-index g.met.K.Eq.laws distinct (index_of-key h) w)) i,
       )),
       record {
@@ -47,8 +41,8 @@ returns-in-None g c =
         writes_back = tt;
         value = sym (ap (option_map (λ p. p.1)) (absent_key g.K.PartialEq.eq (hash_by g.S.Hasher.Hasher.finish g.S.Hasher.Hasher.write g.S.BuildHasher.build_hasher g.K.Hash.hash_input m.hasher)
             (λ x y h. ap (λ ws. g.S.Hasher.Hasher.finish (fold g.S.Hasher.Hasher.write (g.S.BuildHasher.build_hasher m.hasher) ws)) (g.met.K.Hash.respects_eq x y h))
-            c.args.key.now c.hash_one-number.result c.hash_one-number.ensures m.ring.held c.self.invariant.nodes.hashed
-            (of-None (IsAbsent g.K.PartialEq.eq c.hash_one-number.result c.args.key.now m.ring.held) c.find.result.0 c.in-None.is c.find.ensures.absent)));
+            c.args.key.now c.hash_one-number.result c.hash_one-number.ensures m.table.held c.self.invariant.nodes.hashed
+            (of-None (IsAbsent g.K.PartialEq.eq c.hash_one-number.result c.args.key.now m.table.held) c.find.result.0 c.in-None.is c.find.ensures.absent)));
         valid = IsValid-view c.self.invariant refl refl;
       },
     )

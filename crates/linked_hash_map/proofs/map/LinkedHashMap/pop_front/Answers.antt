@@ -1,36 +1,34 @@
 use Rattle.std.proofs.Common.{remove, slice_get, refl, sym, ap, ◌∙◌}
+use Rattle.lhm_ring.specs.Positions.{pointer_of}
 use Rattle.lhm_ring.proofs.DroppedRing.{first_held}
 use Rattle.linked_hash_map.specs.Nodes.{pairs_of}
 use Rattle.linked_hash_map.proofs.Kept.{IsValid-view}
 use Rattle.linked_hash_map.proofs.Current.{first_lies, first_index}
 use Rattle.linked_hash_map.proofs.Effects.{remove-first}
-use Rattle.linked_hash_map.proofs.TakenNode.{pair-unlinked, pairs-taken, IsKept-taken}
+use Rattle.linked_hash_map.proofs.TakenNode.{pair-removed, pairs-removed, IsKept-removed}
 use Rattle.linked_hash_map.proofs.map.LinkedHashMap.pop_front.Goals as goal
 
-pub take_out_at-requires-clause-held : goal.take_out_at-requires-clause-held
-take_out_at-requires-clause-held g c = first_held c.self.inside.ring.held c.in_ok-oldest.oldest.pointer.ptr c.in_ok-oldest.ensures
+pub remove_at-requires : goal.remove_at-requires
+remove_at-requires g c = first_held c.self.inside.table.held (pointer_of c.in_ok-front.front) c.in_ok-front.ensures
 
 pub invariant_of-self : goal.invariant_of-self
-invariant_of-self g c =
-    let taken = c.take_out_at.ensures in
-    let unlinked = c.unlink-key.ensures in
-    IsKept-taken c.self.invariant (first_lies c.self.inside.ring.held c.in_ok-oldest.ensures) taken.held taken.spares taken.lacks taken.buckets unlinked.others unlinked.spares
+invariant_of-self g c = IsKept-removed c.self.invariant (first_lies c.self.inside.table.held c.in_ok-front.ensures) c.remove_at.ensures.others c.remove_at.ensures.capacity
 
 pub returns-clause-pair : goal.returns-clause-pair
 returns-clause-pair g c =
-    let m = c.self.inside in
+    let hs = c.self.inside.table.held in
     rw (← c.self.view_is) (
-    sym (ap (slice_get (pairs_of m.ring.held)) (sym (first_index c.self.inside.ring.held c.in_ok-oldest.ensures))
-    ∙ pair-unlinked m.ring.held c.take_out_at.new.ring.held c.unlink-key.new.self.held c.take_out_at.ensures.held c.unlink-key.ensures.others (first_lies c.self.inside.ring.held c.in_ok-oldest.ensures) c.unlink-key.ensures.triple)
+    sym (ap (slice_get (pairs_of hs)) (sym (first_index c.self.inside.table.held c.in_ok-front.ensures))
+    ∙ pair-removed hs c.remove_at.new.self.held c.remove_at.ensures.others (first_lies c.self.inside.table.held c.in_ok-front.ensures) c.remove_at.ensures.pair)
     )
 
 pub returns-clause-pairs : goal.returns-clause-pairs
 returns-clause-pairs g c =
-    let m = c.self.inside in
+    let hs = c.self.inside.table.held in
     rw (← c.self.view_is) (
-    pairs-taken m.ring.held c.take_out_at.new.ring.held c.unlink-key.new.self.held c.take_out_at.ensures.held c.unlink-key.ensures.others (first_lies c.self.inside.ring.held c.in_ok-oldest.ensures)
-    ∙ ap (remove (pairs_of m.ring.held)) (first_index c.self.inside.ring.held c.in_ok-oldest.ensures)
-    ∙ remove-first (pairs_of m.ring.held)
+    pairs-removed hs c.remove_at.new.self.held c.remove_at.ensures.others (first_lies c.self.inside.table.held c.in_ok-front.ensures)
+    ∙ ap (remove (pairs_of hs)) (sym (sym (first_index c.self.inside.table.held c.in_ok-front.ensures)))
+    ∙ remove-first (pairs_of hs)
     )
 
 pub returns-clause-valid : goal.returns-clause-valid

@@ -1,7 +1,5 @@
-use Rattle.std.proofs.Common.{◌≡◌, ◌+◌, ◌<◌, None, length, refl, ◌∙◌, ap, sym, subst, arith}
+use Rattle.std.proofs.Common.{◌≡◌, ◌<◌, None, length, refl, sym, subst, arith}
 use Rattle.lhm_ring.specs.Positions.{pointer_of}
-use Rattle.lhm_ring.specs.Search.{entries}
-use Rattle.lhm_ring.proofs.IndexedRing.{indexed_some}
 use Rattle.linked_hash_map.specs.LinkedMap.{LinkedMap}
 use Rattle.linked_hash_map.specs.Nodes.{pairs_of}
 use Rattle.linked_hash_map.specs.Hashers.{hash_by}
@@ -10,35 +8,35 @@ use Rattle.linked_hash_map.proofs.Growth.{IsKept-push, pairs_of-push, bookmark_a
 use Rattle.linked_hash_map.proofs.Kept.{IsValid-view, length-pairs_of}
 use Rattle.linked_hash_map.proofs.map.LinkedHashMap.push_back.Goals as goal
 
-pub put_in-requires-clause-some : goal.put_in-requires-clause-some
-put_in-requires-clause-some g c =
-    let m = c.self.inside in
-    let room : length (pairs_of m.ring.held) < length m.ring.held + m.ring.spares = subst (λ (z : LinkedMap g.row.K.Denot g.row.V.Denot g.row.S.Denot). length z.pairs < z.capacity) (sym c.self.view_is) c.requires.room in
-    let of_pairs = length-pairs_of m.ring.held in
-    indexed_some m.index m.ring c.self.invariant.indexed (omega (arith, room, of_pairs))
+pub push_back-requires : goal.push_back-requires
+push_back-requires g c =
+    let t = c.self.inside.table in
+    let room : length (pairs_of t.held) < t.capacity = subst (λ (z : LinkedMap g.row.K.Denot g.row.V.Denot g.row.S.Denot). length z.pairs < z.capacity) (sym c.self.view_is) c.requires.room in
+    let of_pairs = length-pairs_of t.held in
+    omega (arith, room, of_pairs)
 
 pub invariant_of-self : goal.invariant_of-self
 invariant_of-self g c =
     let m = c.self.inside in
-    let room : length (pairs_of m.ring.held) < length m.ring.held + m.ring.spares = subst (λ (z : LinkedMap g.row.K.Denot g.row.V.Denot g.row.S.Denot). length z.pairs < z.capacity) (sym c.self.view_is) c.requires.room in
-    let of_pairs = length-pairs_of m.ring.held in
-    let absent : find g.K.PartialEq.eq (pairs_of m.ring.held) c.args.key ≡ None = subst (λ (z : LinkedMap g.row.K.Denot g.row.V.Denot g.row.S.Denot). find g.K.PartialEq.eq z.pairs c.args.key ≡ None) (sym c.self.view_is) c.requires.absent in
+    let room : length (pairs_of m.table.held) < m.table.capacity = subst (λ (z : LinkedMap g.row.K.Denot g.row.V.Denot g.row.S.Denot). length z.pairs < z.capacity) (sym c.self.view_is) c.requires.room in
+    let of_pairs = length-pairs_of m.table.held in
+    let absent : find g.K.PartialEq.eq (pairs_of m.table.held) c.args.key ≡ None = subst (λ (z : LinkedMap g.row.K.Denot g.row.V.Denot g.row.S.Denot). find g.K.PartialEq.eq z.pairs c.args.key ≡ None) (sym c.self.view_is) c.requires.absent in
     let hash = hash_by g.S.Hasher.Hasher.finish g.S.Hasher.Hasher.write g.S.BuildHasher.build_hasher g.K.Hash.hash_input in
     let numbered : c.args.number ≡ hash m.hasher c.args.key = subst (λ (z : LinkedMap g.row.K.Denot g.row.V.Denot g.row.S.Denot). c.args.number ≡ hash z.hasher c.args.key) (sym c.self.view_is) c.requires.number in
-    IsKept-push c.self.invariant (pointer_of c.put_back-at.result) c.args.number c.args.key c.args.value c.put_in.new.ring (c.put_in.ensures.held ∙ ap entries c.put_back-at.ensures.last)
-    g.met.K.Eq.laws numbered absent (omega (arith, room, of_pairs)) (c.put_in.ensures.spares ∙ c.put_back-at.ensures.spares) c.put_in.ensures.indexed c.put_in.ensures.buckets
+    IsKept-push c.self.invariant (pointer_of c.push_back.result) c.args.number c.args.key c.args.value c.push_back.new.self c.push_back.ensures.last
+    g.met.K.Eq.laws numbered absent (omega (arith, room, of_pairs)) c.push_back.ensures.capacity
 
 pub returns-clause-pairs : goal.returns-clause-pairs
-returns-clause-pairs g c = rw (← c.self.view_is) (pairs_of-push c.self.inside.ring (pointer_of c.put_back-at.result) c.args.number c.args.key c.args.value c.put_in.new.ring (c.put_in.ensures.held ∙ ap entries c.put_back-at.ensures.last))
+returns-clause-pairs g c = rw (← c.self.view_is) (pairs_of-push c.self.inside.table c.push_back.new.self (pointer_of c.push_back.result) c.args.number c.args.key c.args.value c.push_back.ensures.last)
 
 pub returns-clause-bookmark : goal.returns-clause-bookmark
-returns-clause-bookmark g c = rw (← c.self.view_is) (bookmark_at-push c.self.invariant (pointer_of c.put_back-at.result) c.args.number c.args.key c.args.value c.put_in.new.ring (c.put_in.ensures.held ∙ ap entries c.put_back-at.ensures.last))
+returns-clause-bookmark g c = rw (← c.self.view_is) (bookmark_at-push c.self.invariant (pointer_of c.push_back.result) c.args.number c.args.key c.args.value c.push_back.new.self c.push_back.ensures.last)
 
 pub returns-clause-current : goal.returns-clause-current
-returns-clause-current g c = rw (← c.self.view_is) (current_at-push c.self.invariant (pointer_of c.put_back-at.result) c.args.number c.args.key c.args.value c.put_in.new.ring (c.put_in.ensures.held ∙ ap entries c.put_back-at.ensures.last))
+returns-clause-current g c = rw (← c.self.view_is) (current_at-push c.self.invariant (pointer_of c.push_back.result) c.args.number c.args.key c.args.value c.push_back.new.self c.push_back.ensures.last)
 
 pub returns-clause-to_visit : goal.returns-clause-to_visit
-returns-clause-to_visit g c = rw (← c.self.view_is) (to_visit-push c.self.invariant (pointer_of c.put_back-at.result) c.args.number c.args.key c.args.value c.put_in.new.ring (c.put_in.ensures.held ∙ ap entries c.put_back-at.ensures.last))
+returns-clause-to_visit g c = rw (← c.self.view_is) (to_visit-push c.self.invariant (pointer_of c.push_back.result) c.args.number c.args.key c.args.value c.push_back.new.self c.push_back.ensures.last)
 
 pub returns-clause-stays_valid : goal.returns-clause-stays_valid
 returns-clause-stays_valid g c = IsValid-view (invariant_of-self g c) refl refl

@@ -8,7 +8,6 @@ returns-clause-valid g c = rw (← c.self.view_is) (IsValid-view c.self.invarian
 
 pub returns-clause-below : goal.returns-clause-below
 returns-clause-below g c = rw (← c.self.view_is) (λ some.
-    let few = c.self.invariant.few in
-    let count = c.self.invariant.indexed.count in
     let below = buckets_lt _ some in
+    let few = c.rechained.ensures.few in
     omega arith)

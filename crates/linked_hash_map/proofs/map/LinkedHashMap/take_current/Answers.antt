@@ -1,27 +1,24 @@
-use Rattle.std.proofs.Common.{None, ◌+◌, slice_get, remove, refl, sym, ap, ◌∙◌, subst, arith}
+use Rattle.std.proofs.Common.{None, slice_get, remove, refl, sym, ap, ◌∙◌, subst}
 use Rattle.linked_hash_map.specs.Nodes.{pairs_of, bare, AreKept, mark_of, unvisited_of}
 use Rattle.linked_hash_map.specs.Hashers.{hash_by}
 use Rattle.linked_hash_map.proofs.Kept.{IsValid-view}
 use Rattle.linked_hash_map.proofs.Current.{current_of-Some, current_lies, current_cut, current_at-Some, current_elsewhere, IsKept-left}
-use Rattle.linked_hash_map.proofs.TakenNode.{pair-unlinked, pairs-taken, to_visit-taken, AreKept-taken, IsIndexed-taken}
+use Rattle.linked_hash_map.proofs.TakenNode.{pair-removed, pairs-removed, to_visit-removed, AreKept-removed}
 use Rattle.linked_hash_map.proofs.map.LinkedHashMap.take_current.Goals as goal
 
-pub take_out_at-requires-clause-held : goal.take_out_at-requires-clause-held
-take_out_at-requires-clause-held g c = (current_cut c.self.invariant (current_of-Some c.current.ensures c.unwrap-at.ensures)).held
+pub remove_at-requires : goal.remove_at-requires
+remove_at-requires g c = (current_cut c.self.invariant (current_of-Some c.current.ensures c.unwrap-at.ensures)).held
 
 pub invariant_of-self : goal.invariant_of-self
 invariant_of-self g c =
     let m = c.self.inside in
-    let taken = c.take_out_at.ensures in
-    let unlinked = c.unlink-key.ensures in
+    let removed = c.remove_at.ensures in
     let elsewhere = current_elsewhere c.self.invariant (current_of-Some c.current.ensures c.unwrap-at.ensures) c.self.view_is c.requires.outside in
     IsKept-left (
     record {
-      nodes = subst (λ k. AreKept g.K.PartialEq.eq (hash_by g.S.Hasher.Hasher.finish g.S.Hasher.Hasher.write g.S.BuildHasher.build_hasher g.K.Hash.hash_input m.hasher) (bare c.unlink-key.new.self.held) k (mark_of m.visit) (unvisited_of m.visit) None)
-          (sym (unlinked.spares ∙ ap (λ k. k + 1) taken.spares))
-          (AreKept-taken m.ring.held c.take_out_at.new.ring.held c.unlink-key.new.self.held taken.held unlinked.others (current_lies c.self.invariant (current_of-Some c.current.ensures c.unwrap-at.ensures)) (mark_of m.visit) (unvisited_of m.visit) elsewhere c.self.invariant.nodes);
-      indexed = IsIndexed-taken c.self.invariant.indexed taken.held taken.spares taken.lacks taken.buckets unlinked.others unlinked.spares;
-      few = omega (arith, taken.buckets, c.self.invariant.few);
+      nodes = subst (λ k. AreKept g.K.PartialEq.eq (hash_by g.S.Hasher.Hasher.finish g.S.Hasher.Hasher.write g.S.BuildHasher.build_hasher g.K.Hash.hash_input m.hasher) (bare c.remove_at.new.self.held) k (mark_of m.visit) (unvisited_of m.visit) None)
+          (sym removed.capacity)
+          (AreKept-removed m.table.held c.remove_at.new.self.held removed.others (current_lies c.self.invariant (current_of-Some c.current.ensures c.unwrap-at.ensures)) (mark_of m.visit) (unvisited_of m.visit) elsewhere c.self.invariant.nodes);
     }
     ) m.visit.active
 
@@ -29,23 +26,23 @@ pub returns-clause-pair : goal.returns-clause-pair
 returns-clause-pair g c =
     let m = c.self.inside in
     rw (← c.self.view_is) (
-    ap (slice_get (pairs_of m.ring.held)) (current_at-Some (current_of-Some c.current.ensures c.unwrap-at.ensures) m.ring.held)
-    ∙ pair-unlinked m.ring.held c.take_out_at.new.ring.held c.unlink-key.new.self.held c.take_out_at.ensures.held c.unlink-key.ensures.others (current_lies c.self.invariant (current_of-Some c.current.ensures c.unwrap-at.ensures)) c.unlink-key.ensures.triple
+    ap (slice_get (pairs_of m.table.held)) (current_at-Some (current_of-Some c.current.ensures c.unwrap-at.ensures) m.table.held)
+    ∙ pair-removed m.table.held c.remove_at.new.self.held c.remove_at.ensures.others (current_lies c.self.invariant (current_of-Some c.current.ensures c.unwrap-at.ensures)) c.remove_at.ensures.pair
     )
 
 pub returns-clause-pairs : goal.returns-clause-pairs
 returns-clause-pairs g c =
     let m = c.self.inside in
     rw (← c.self.view_is) (
-    pairs-taken m.ring.held c.take_out_at.new.ring.held c.unlink-key.new.self.held c.take_out_at.ensures.held c.unlink-key.ensures.others (current_lies c.self.invariant (current_of-Some c.current.ensures c.unwrap-at.ensures))
-    ∙ ap (remove (pairs_of m.ring.held)) (sym (current_at-Some (current_of-Some c.current.ensures c.unwrap-at.ensures) m.ring.held))
+    pairs-removed m.table.held c.remove_at.new.self.held c.remove_at.ensures.others (current_lies c.self.invariant (current_of-Some c.current.ensures c.unwrap-at.ensures))
+    ∙ ap (remove (pairs_of m.table.held)) (sym (current_at-Some (current_of-Some c.current.ensures c.unwrap-at.ensures) m.table.held))
     )
 
 pub returns-clause-to_visit : goal.returns-clause-to_visit
 returns-clause-to_visit g c =
     let m = c.self.inside in
     let elsewhere = current_elsewhere c.self.invariant (current_of-Some c.current.ensures c.unwrap-at.ensures) c.self.view_is c.requires.outside in
-    rw (← c.self.view_is) (to_visit-taken m.ring.held c.take_out_at.new.ring.held c.unlink-key.new.self.held c.take_out_at.ensures.held c.unlink-key.ensures.others (current_lies c.self.invariant (current_of-Some c.current.ensures c.unwrap-at.ensures)) (mark_of m.visit) (unvisited_of m.visit) elsewhere c.self.invariant.nodes.marked)
+    rw (← c.self.view_is) (to_visit-removed m.table.held c.remove_at.new.self.held c.remove_at.ensures.others (current_lies c.self.invariant (current_of-Some c.current.ensures c.unwrap-at.ensures)) (mark_of m.visit) (unvisited_of m.visit) elsewhere c.self.invariant.nodes.marked)
 
 pub returns-clause-valid : goal.returns-clause-valid
 returns-clause-valid g c = rw (← c.self.view_is) (IsValid-view c.self.invariant refl refl)

@@ -21,7 +21,7 @@ invariant_of-self g c =
 pub returns-clause-key : goal.returns-clause-key
 returns-clause-key g c =
     let m = c.mark_behind in
-    let hs = c.self.inside.ring.held in
+    let hs = c.self.inside.table.held in
     rw (← c.self.view_is)
     (λ _ key there. ap (λ k. take k (drop (bookmark_at (mark_of c.self.inside.visit) (bare hs)) (keys_of (pairs_of hs)))) (sym c.unvisited-unvisited.ensures)
     ∙ to_visit_on (IsKept-count c.self.invariant c.unvisited-unvisited.ensures) (pointer_of c.in-Some.at) (sym c.mark.ensures ∙ ap pointer_of_some c.in-Some.is) (pointer_of_some m.result) (λ z. ap pointer_of_some (m.ensures.none z)) m.ensures.next m.ensures.apart (keys_of (pairs_of hs)) key there)

@@ -1,0 +1,20 @@
+use Rattle.std.proofs.Common.{◌≡◌, ◌+◌, length, ap, sym, ◌∙◌, arith}
+use Rattle.lhm_ring.specs.Buckets.{buckets, rechained_fitted}
+use Rattle.lhm_ring.specs.Search.{entries}
+use Rattle.lhm_ring.proofs.BucketCounts.{buckets_zero, rechained_fitted-none}
+use Rattle.lhm_ring.proofs.Tables.{length-entries}
+use Rattle.lhm_ring.proofs.table.Table.shrink_to_fit.Goals as goal
+
+pub returns-then-len-eq0-clause-rechained : goal.returns-then-len-eq0-clause-rechained
+returns-then-len-eq0-clause-rechained g c =
+    let i = c.self.inside in
+    let capacity = length i.ring.held + i.ring.spares in
+    let none : length (entries i.ring.held) ≡ 0 = length-entries i.ring.held ∙ sym c.len-len.ensures.value ∙ c.if-len-eq0.true in
+    rw (← c.self.view_is) (
+    c.free.ensures.rechained
+    ∙ sym (ap (λ n. rechained_fitted i.rechained n capacity) none ∙ rechained_fitted-none i.rechained capacity (λ e.
+    let no_buckets = ap buckets e ∙ buckets_zero in
+    let few = c.self.invariant.few in
+    let count = c.self.invariant.indexed.count in
+    omega (arith, few, count, no_buckets)))
+    )

@@ -1,0 +1,7 @@
+use Rattle.std.proofs.Common.{ap, sym, ◌∙◌}
+use Rattle.linked_hash_map.specs.Nodes.{pairs_of}
+use Rattle.linked_hash_map.proofs.Kept.{pairs_of-of-entries}
+use Rattle.linked_hash_map.proofs.iter.Iter.new.Goals as goal
+
+pub returns : goal.returns
+returns g c = sym (pairs_of-of-entries c.iter.result) ∙ ap pairs_of c.iter.ensures

@@ -1,0 +1,10 @@
+use Rattle.std.proofs.Common.{refl}
+use Rattle.linked_hash_map.proofs.Growth.{IsKept-none}
+use Rattle.linked_hash_map.proofs.Kept.{IsValid-view}
+use Rattle.linked_hash_map.proofs.map.LinkedHashMap.of_empty.Goals as goal
+
+pub invariant_of-result : goal.invariant_of-result
+invariant_of-result g c = IsKept-none c.requires.empty c.requires.limit
+
+pub returns-clause-valid : goal.returns-clause-valid
+returns-clause-valid g c = IsValid-view (invariant_of-result g c) refl refl
