@@ -46,10 +46,10 @@ module _ {K V : Type 0} {eq : K → K → Bool} {hash : K → ℕ} {s : TableSta
   current_nodes = subst (λ z. AreKept eq hash (bare s.held) s.capacity mark n z) is kept.nodes
 
   -- where the index is outside the pairs to visit, the node is
-  pub current_elsewhere : {S : Type 0} {m : LinkedMap K V S} {hasher : S} {mode : Mode} → map_of s hasher mark n o mode ≡ m → IsOutside m.current m → IsElsewhere p s.held mark n
+  pub current_elsewhere : {S : Type 0} {m : LinkedMap K V S} {hasher : S} {mode : Mode} → map_of s hasher mark n o mode ≡ m → IsOutside m.cursor.current m → IsElsewhere p s.held mark n
   current_elsewhere {S} {m} view outside =
       subst (λ k. (k < bookmark_at mark (bare s.held)) ⊎ (bookmark_at mark (bare s.held) + n ≤ k)) (current_at-Some is s.held)
-      (subst (λ (x : LinkedMap K V S). IsOutside x.current x) (sym view) outside)
+      (subst (λ (x : LinkedMap K V S). IsOutside x.cursor.current x) (sym view) outside)
 
 -- another pair becomes the current one, or a value is written
 module _ {K V : Type 0} {eq : K → K → Bool} {hash : K → ℕ} {s : TableState (K × V)} {mark current : Option Ptr} {n : ℕ} (kept : IsKept eq hash s mark n current) where

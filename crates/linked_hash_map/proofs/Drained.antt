@@ -11,7 +11,7 @@ use Rattle.linked_hash_map.specs.Cursor.{without_cursor}
 use Rattle.linked_hash_map.specs.Drains.{drain_rest, drain_name, DrainSteps, DrainStepsBack, DrainKeepsAlong}
 use Rattle.linked_hash_map.specs.declared.map.Mode.{Mode}
 use Rattle.linked_hash_map.specs.LinkedMap.{LinkedMap, nowhere}
-use Rattle.linked_hash_map.specs.Nodes.{pairs_of, map_of, IsKept, Lies, bare, bookmark_at, current_at}
+use Rattle.linked_hash_map.specs.Nodes.{pairs_of, map_of, IsKept, Lies, bare, bookmark_at, current_at, cursor_at}
 use Rattle.linked_hash_map.specs.declared.drain.Drain.{Drain}
 use Rattle.linked_hash_map.specs.declared.map.TheConstants.{LIMIT}
 
@@ -51,10 +51,10 @@ module _ {K V S : Type 0} {eq : K → K → Bool} {hash : K → ℕ} {s : TableS
   seen = view ∙ ends
 
   none : n ≡ 0
-  none = ap (λ (y : LinkedMap K V S). y.unvisited) seen
+  none = ap (λ (y : LinkedMap K V S). y.cursor.unvisited) seen
 
   no_entry : current ≡ None
-  no_entry = let within = kept.nodes.within in let limit = kept.nodes.limit in current_none current (bare s.held) kept.nodes.current_lies (omega (arith, within, limit)) (ap (λ (y : LinkedMap K V S). y.current) seen)
+  no_entry = let within = kept.nodes.within in let limit = kept.nodes.limit in current_none current (bare s.held) kept.nodes.current_lies (omega (arith, within, limit)) (ap (λ (y : LinkedMap K V S). y.cursor.current) seen)
 
   pub kept_drained : IsKept {V = V} eq hash (record s { held = [] }) mark n current
   unfolding IsDistinct
@@ -75,8 +75,8 @@ module _ {K V S : Type 0} {eq : K → K → Bool} {hash : K → ℕ} {s : TableS
 
   pub view_drained : map_of (record s { held = [] }) hasher mark n current o ≡ drained m
   view_drained =
-      (λ i. record (map_of {V = V} (record s { held = [] }) hasher mark n current o) { bookmark = bookmark_at {B = K} (kept.nodes.ended none i) []; current = current_at {B = K} (no_entry i) [] })
-      ∙ ap (λ (y : LinkedMap K V S). record y { pairs = []; bookmark = 0; current = nowhere }) seen
+      (λ i. record (map_of {V = V} (record s { held = [] }) hasher mark n current o) { cursor = cursor_at {B = K} (kept.nodes.ended none i) n (no_entry i) [] })
+      ∙ ap (λ (y : LinkedMap K V S). record y { pairs = []; cursor = record y.cursor { bookmark = 0; current = nowhere } }) seen
 
   pub rest_drained : (d : Drain K V) (ts : List (ℕ × (K × V))) → drain_rest d ≡ map (λ t. t.1) ts → ts ≡ triples s.held → drain_rest d ≡ m.pairs
   rest_drained d ts rest e = rest ∙ ap (map (λ t. t.1)) e ∙ pairs-triples s.held ∙ ap (λ (y : LinkedMap K V S). y.pairs) seen

@@ -129,37 +129,37 @@ module _ {K V : Type 0} where
       by_value sets (Some v) = sets v
 
 -- which pair an entry stands for is nothing to a map's validity
-pub IsValid-current : {K V S : Type 0} {eq : K → K → Bool} {m : LinkedMap K V S} (index : ℕ) → IsValid eq m → IsValid eq (record m { current = index })
+pub IsValid-current : {K V S : Type 0} {eq : K → K → Bool} {m : LinkedMap K V S} (index : ℕ) → IsValid eq m → IsValid eq (record m { cursor = record m.cursor { current = index } })
 IsValid-current index valid = record { distinct = valid.distinct; within = valid.within; limit = valid.limit }
 
 module _ {K V S H : Type 0} {g : eq.Ghosts K} {h : hash.Ghosts K} {b : builder.Ghosts S H} {w : hasher.Ghosts H} (o : OccupiedEntry K V S H g h b w) where
-  pub slice_get-occupied : slice_get o.map.now.pairs o.map.now.current ≡ Some (occupied_pair o)
+  pub slice_get-occupied : slice_get o.map.now.pairs o.map.now.cursor.current ≡ Some (occupied_pair o)
   unfolding occupied_pair
-  slice_get-occupied = slice_get-pair_at o.map.now.pairs o.map.now.current o.within
+  slice_get-occupied = slice_get-pair_at o.map.now.pairs o.map.now.cursor.current o.within
 
   -- the pair at the index
-  pub occupied_pair-is : (pair : K × V) → slice_get o.map.now.pairs o.map.now.current ≡ Some pair → pair ≡ occupied_pair o
+  pub occupied_pair-is : (pair : K × V) → slice_get o.map.now.pairs o.map.now.cursor.current ≡ Some pair → pair ≡ occupied_pair o
   occupied_pair-is pair there = some_injective (sym there ∙ slice_get-occupied)
 
-  pub occupied_value-is : (v : V) → option_map (λ pair. pair.1) (slice_get o.map.now.pairs o.map.now.current) ≡ Some v → v ≡ (occupied_pair o).1
+  pub occupied_value-is : (v : V) → option_map (λ pair. pair.1) (slice_get o.map.now.pairs o.map.now.cursor.current) ≡ Some v → v ≡ (occupied_pair o).1
   occupied_value-is v there = some_injective (sym there ∙ ap (option_map (λ pair. pair.1)) slice_get-occupied)
 
-  pub IsIndex-occupied : {eq : K → K → Bool} → IsEquivalence eq → IsIndex eq o.map.now.pairs (occupied_key o) o.map.now.current
+  pub IsIndex-occupied : {eq : K → K → Bool} → IsEquivalence eq → IsIndex eq o.map.now.pairs (occupied_key o) o.map.now.cursor.current
   IsIndex-occupied laws = record { pair = occupied_pair o; there = slice_get-occupied; same = laws.refl (occupied_key o) }
 
   pub found-occupied : {eq : K → K → Bool} → IsEquivalence eq → is_some (find eq o.map.now.pairs (occupied_key o)) ≡ true
-  found-occupied {eq} laws = found_at eq o.map.now.pairs o.map.now.current (occupied_key o) (occupied_pair o) slice_get-occupied (laws.refl (occupied_key o))
+  found-occupied {eq} laws = found_at eq o.map.now.pairs o.map.now.cursor.current (occupied_key o) (occupied_pair o) slice_get-occupied (laws.refl (occupied_key o))
 
   -- once a value is written
   pub occupied_pair-written : (v : V) → occupied_pair (with_occupied_value o v) ≡ (occupied_key o, v)
   unfolding occupied_pair
   occupied_pair-written v = some_injective
-      (sym (slice_get-pair_at (set_value_at o.map.now.pairs o.map.now.current v) o.map.now.current (with_occupied_value o v).within)
-      ∙ slice_get-set_value_at o.map.now.pairs o.map.now.current v (occupied_pair o) slice_get-occupied)
+      (sym (slice_get-pair_at (set_value_at o.map.now.pairs o.map.now.cursor.current v) o.map.now.cursor.current (with_occupied_value o v).within)
+      ∙ slice_get-set_value_at o.map.now.pairs o.map.now.cursor.current v (occupied_pair o) slice_get-occupied)
 
-  pub occupied_written : (v : V) (within : o.map.now.current < length (set_value_at o.map.now.pairs o.map.now.current v)) (outside : IsOutside o.map.now.current (with_occupied_value o v).map.now)
+  pub occupied_written : (v : V) (within : o.map.now.cursor.current < length (set_value_at o.map.now.pairs o.map.now.cursor.current v)) (outside : IsOutside o.map.now.cursor.current (with_occupied_value o v).map.now)
       → record { map = (with_occupied_value o v).map; within = within; outside = outside } ≡ with_occupied_value o v
   occupied_written v within outside i = record (with_occupied_value o v) {
     within = le_prop within (with_occupied_value o v).within i;
-    outside = IsOutside-prop o.map.now.current (with_occupied_value o v).map.now outside o.outside i;
+    outside = IsOutside-prop o.map.now.cursor.current (with_occupied_value o v).map.now outside o.outside i;
   }

@@ -14,7 +14,7 @@ use Rattle.lhm_ring.proofs.Apart.{IsFresh, same_ptr_eq, same_ptr_refl}
 use Rattle.lhm_ring.proofs.Rows.{apart_head, apart_tail}
 use Rattle.linked_hash_map.specs.declared.map.Mode.{Mode}
 use Rattle.linked_hash_map.specs.LinkedMap.{LinkedMap}
-use Rattle.linked_hash_map.specs.Nodes.{pairs_of, bare, bare_node, before, bookmark_at, current_at, map_of, IsKept}
+use Rattle.linked_hash_map.specs.Nodes.{pairs_of, bare, bare_node, before, cursor_at, map_of, IsKept}
 use Rattle.linked_hash_map.specs.Indexes.{IsIndex, set_value_at}
 use Rattle.linked_hash_map.specs.Pairs.{find}
 use Rattle.linked_hash_map.specs.Validity.{IsValid}
@@ -101,8 +101,7 @@ module _ {K V : Type 0} {eq : K → K → Bool} {hash : K → ℕ} {s : TableSta
 pub map_of-revalued : {K V S : Type 0} (s : TableState (K × V)) (hs : List (Held (K × V))) (hasher : S) (mark : Option Ptr) (n : ℕ) (current : Option Ptr) (mode : Mode) → bare hs ≡ bare s.held → {ps : List (K × V)} → pairs_of hs ≡ ps → map_of (record s { held = hs }) hasher mark n current mode ≡ record (map_of s hasher mark n current mode) { pairs = ps }
 map_of-revalued s hs hasher mark n current mode same pairs = λ i. record (map_of s hasher mark n current mode) {
   pairs = pairs i;
-  bookmark = bookmark_at mark (same i);
-  current = current_at current (same i);
+  cursor = cursor_at mark n current (same i);
 }
 
 -- a list with one element in the midst

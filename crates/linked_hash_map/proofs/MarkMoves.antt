@@ -130,6 +130,6 @@ module _ {K V : Type 0} where
   slice_get-keys (pair ∷ pairs) (suc index) within = slice_get-keys pairs index (le_of_suc-le-suc within)
 
 -- the key of an occupied entry, at its index
-pub occupied_key_there : {K V S H : Type 0} {g : eq.Ghosts K} {h : hash.Ghosts K} {b : builder.Ghosts S H} {w : hasher.Ghosts H} (o : OccupiedEntry K V S H g h b w) → slice_get (keys_of o.map.now.pairs) o.map.now.current ≡ Some (occupied_key o)
+pub occupied_key_there : {K V S H : Type 0} {g : eq.Ghosts K} {h : hash.Ghosts K} {b : builder.Ghosts S H} {w : hasher.Ghosts H} (o : OccupiedEntry K V S H g h b w) → slice_get (keys_of o.map.now.pairs) o.map.now.cursor.current ≡ Some (occupied_key o)
 unfolding occupied_pair
-occupied_key_there o = slice_get-keys o.map.now.pairs o.map.now.current o.within
+occupied_key_there o = slice_get-keys o.map.now.pairs o.map.now.cursor.current o.within

@@ -1,5 +1,5 @@
 -- What calls make of a map: updates of what it was, so that they name what changes and nothing else.
-use Rattle.std.specs.Prelude.{◌+◌, Bool, max, [], ◌∷◌, ◌++◌, length}
+use Rattle.std.specs.Prelude.{◌≡◌, ◌+◌, Bool, max, [], ◌∷◌, ◌++◌, length}
 use Rattle.lhm_ring.specs.Buckets.{rechained_raised}
 use Rattle.linked_hash_map.specs.LinkedMap.{LinkedMap}
 use Rattle.linked_hash_map.specs.Cursor.{without_cursor}
@@ -26,3 +26,16 @@ module _ {K V S : Type 0} where
   -- with no pair; nothing is left for a cursor to visit
   abbrev pub drained : LinkedMap K V S → LinkedMap K V S
   drained m = record (without_cursor m) { pairs = [] }
+
+module _ {K V S : Type 0} (old new : LinkedMap K V S) where
+  -- the hasher and the mode stay
+  pub record KeepsSettings : Type 0 where
+    pub hasher : new.hasher ≡ old.hasher
+    pub mode : new.mode ≡ old.mode
+
+  -- all but the pairs and the cursor stays
+  pub record Keeps : Type 0 where
+    pub capacity : new.capacity ≡ old.capacity
+    pub rechained : new.rechained ≡ old.rechained
+    pub hasher : new.hasher ≡ old.hasher
+    pub mode : new.mode ≡ old.mode

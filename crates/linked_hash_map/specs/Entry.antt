@@ -8,7 +8,7 @@ use Rattle.std.specs.declared.hash.Hash as hash
 use Rattle.std.specs.declared.hash.Hasher as hasher
 use Rattle.std.specs.declared.hash.BuildHasher as builder
 use mir.Syntax.{named}
-use Rattle.linked_hash_map.specs.LinkedMap.{LinkedMap, nowhere}
+use Rattle.linked_hash_map.specs.LinkedMap.{LinkedMap, without_entry}
 use Rattle.linked_hash_map.specs.Lends.{map_row}
 use Rattle.linked_hash_map.specs.Changes.{pushed, set_or_pushed}
 use Rattle.linked_hash_map.specs.Pairs.{set_value}
@@ -24,10 +24,10 @@ module _ {K V S H : Type 0} {g : eq.Ghosts K} {h : hash.Ghosts K} {b : builder.G
   occupied_map_ref o = o.map
 
   abbrev pub occupied_map : OccupiedEntry K V S H g h b w → LinkedMap K V S
-  occupied_map o = record (occupied_map_ref o).now { current = nowhere }
+  occupied_map o = record o.map.now { cursor = without_entry o.map.now.cursor }
 
   unfoldable pub occupied_pair : OccupiedEntry K V S H g h b w → K × V
-  occupied_pair o = pair_at o.map.now.pairs o.map.now.current o.within
+  occupied_pair o = pair_at o.map.now.pairs o.map.now.cursor.current o.within
 
   abbrev pub occupied_key : OccupiedEntry K V S H g h b w → K
   occupied_key o = (occupied_pair o).0
@@ -66,8 +66,8 @@ module _ {K V S H : Type 0} {g : eq.Ghosts K} {h : hash.Ghosts K} {b : builder.G
   -- an occupied entry, once v is its value
   abbrev pub with_occupied_value : OccupiedEntry K V S H g h b w → V → OccupiedEntry K V S H g h b w
   with_occupied_value o v = record {
-    map = record o.map { now = record o.map.now { pairs = set_value_at o.map.now.pairs o.map.now.current v } };
-    within = within-set_value_at o.map.now.pairs o.map.now.current v o.within;
+    map = record o.map { now = record o.map.now { pairs = set_value_at o.map.now.pairs o.map.now.cursor.current v } };
+    within = within-set_value_at o.map.now.pairs o.map.now.cursor.current v o.within;
     outside = o.outside;
   }
 

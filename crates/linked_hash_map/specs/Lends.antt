@@ -5,7 +5,7 @@ use Rattle.std.specs.Map.{values_of}
 use Rattle.std.specs.HashMap.Lent.{HashMembers}
 use Rattle.std.specs.declared.hash.Hasher as hasher
 use Rattle.std.specs.declared.hash.BuildHasher as builder
-use Rattle.linked_hash_map.specs.LinkedMap.{LinkedMap, nowhere}
+use Rattle.linked_hash_map.specs.LinkedMap.{LinkedMap, without_entry}
 use Rattle.linked_hash_map.specs.Changes.{refreshed, drained}
 use Rattle.linked_hash_map.specs.Pairs.{set_value, set_values}
 use Rattle.linked_hash_map.specs.Indexes.{set_value_at}
@@ -23,7 +23,7 @@ module _ (K V S H : RattleType) (key : HashMembers K.Denot) (build : builder.Gho
 
     -- the value of the pair that an entry stood for is the last one written through the reference
     abbrev pub lends_left : MutBor V.Denot → Fml
-    lends_left r = Lends map_row V m r (λ v. record m.now { pairs = set_value_at m.now.pairs m.now.current v; current = nowhere })
+    lends_left r = Lends map_row V m r (λ v. record m.now { pairs = set_value_at m.now.pairs m.now.cursor.current v; cursor = without_entry m.now.cursor })
 
     -- the value of k, which is present, is the last one written through the reference
     abbrev pub lends_present : K.Denot → MutBor V.Denot → Fml

@@ -6,7 +6,7 @@ use Rattle.lhm_ring.specs.Cells.{same_ptr}
 use Rattle.lhm_ring.specs.Positions.{pointer_of_some}
 use Rattle.lhm_ring.specs.RingState.{Held, held}
 use Rattle.lhm_ring.specs.Tables.{TableState}
-use Rattle.linked_hash_map.specs.LinkedMap.{LinkedMap, linked_map, nowhere}
+use Rattle.linked_hash_map.specs.LinkedMap.{LinkedMap, CursorState, linked_map, cursor_state, nowhere}
 use Rattle.linked_hash_map.specs.declared.map.Mode.{Mode}
 use Rattle.linked_hash_map.specs.declared.map.TheConstants.{LIMIT}
 use Rattle.linked_hash_map.specs.declared.map.visit.Visit.{Visit}
@@ -26,6 +26,10 @@ module _ {B : Type 0} where
   abbrev pub current_at : Option Ptr → List (Held B) → ℕ
   current_at None hs = nowhere
   current_at (Some p) hs = before p hs
+
+  -- where a cursor and an entry stand among these nodes
+  abbrev pub cursor_at : Option Ptr → ℕ → Option Ptr → List (Held B) → CursorState
+  cursor_at mark unvisited current hs = cursor_state (bookmark_at mark hs) unvisited (current_at current hs)
 
   -- where there is a pointer, a node lies there
   abbrev pub Lies : Option Ptr → List (Held B) → Type 0
@@ -58,7 +62,7 @@ module _ {K V : Type 0} where
   -- what a contract sees of a map that keeps its pairs in this table
   abbrev pub map_of : {S : Type 0} → TableState (K × V) → S → Option Ptr → ℕ → Option Ptr → Mode → LinkedMap K V S
   map_of s hasher mark unvisited current mode =
-      linked_map (pairs_of s.held) s.capacity hasher (bookmark_at mark (bare s.held)) unvisited (current_at current (bare s.held)) s.rechained mode
+      linked_map (pairs_of s.held) s.capacity hasher (cursor_at mark unvisited current (bare s.held)) s.rechained mode
 
 -- no two keys are the same, each stands with its hash, they are within the capacity and that within the limit; a mark is there as
 -- long as pairs are unvisited, and these are there from it on; the pair that an entry stands for is there

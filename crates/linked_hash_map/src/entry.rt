@@ -63,8 +63,8 @@ pub enum Entry<'a, K: Eq + Hash, V, S: BuildHasher = DefaultHashBuilder> {
 pub struct OccupiedEntry<'a, K: Eq + Hash, V, S: BuildHasher = DefaultHashBuilder> {
     // Its pair is the map's current one.
     map: &'a mut LinkedHashMap<K, V, S>,
-    ghost within: { map.now.current < length map.now.pairs },
-    ghost outside: { IsOutside map.now.current map.now } by { IsOutside-prop map.now.current map.now },
+    ghost within: { map.now.cursor.current < length map.now.pairs },
+    ghost outside: { IsOutside map.now.cursor.current map.now } by { IsOutside-prop map.now.cursor.current map.now },
 }
 
 /// The entry of a key that is absent: it owns the key, which is dropped with it.

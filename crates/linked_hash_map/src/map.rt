@@ -10,6 +10,7 @@ ghost use Rattle.std.specs.Borrow.{sem};
 ghost use Rattle.std.specs.Option.{option_copied_mut};
 ghost use Rattle.linked_hash_map.specs.Pairs.{find, value_at, without, put, first, last, without_first, without_last, KeysStand};
 ghost use Rattle.linked_hash_map.specs.Cursor.{to_visit};
+ghost use Rattle.linked_hash_map.specs.Changes.{Keeps, KeepsSettings};
 ghost use Rattle.linked_hash_map.specs.Validity.{IsValid};
 ghost use Rattle.linked_hash_map.specs.Hashers.{IsDefaultHashBuilder};
 ghost use Rattle.linked_hash_map.specs.Hashers.{hash_by};
@@ -309,8 +310,7 @@ impl<K: Eq + Hash, V, S: BuildHasher> LinkedHashMap<K, V, S> {
     /// ```
     pub fn reserve(&mut self, additional: usize) -> Result<(), ReserveError>
         ensures pairs { self.new.pairs ≡ self.old.pairs }
-        ensures hasher { self.new.hasher ≡ self.old.hasher }
-        ensures mode { self.new.mode ≡ self.old.mode }
+        ensures settings { KeepsSettings self.old self.new }
         ensures capacity { OnOk result
             (self.new.capacity ≡ max self.old.capacity (length self.old.pairs + additional)) }
         ensures rechained { OnOk result (self.new.rechained
@@ -360,8 +360,7 @@ impl<K: Eq + Hash, V, S: BuildHasher> LinkedHashMap<K, V, S> {
     /// ```
     pub fn shrink_to_fit(&mut self) -> Result<(), NoRoom>
         ensures pairs { self.new.pairs ≡ self.old.pairs }
-        ensures hasher { self.new.hasher ≡ self.old.hasher }
-        ensures mode { self.new.mode ≡ self.old.mode }
+        ensures settings { KeepsSettings self.old self.new }
         ensures capacity { OnOk result (self.new.capacity ≡ length self.old.pairs) }
         ensures rechained { OnOk result (self.new.rechained
             ≡ rechained_fitted self.old.rechained (length self.old.pairs) self.old.capacity) }
@@ -594,10 +593,7 @@ impl<K: Eq + Hash, V, S: BuildHasher> LinkedHashMap<K, V, S> {
         K: Drop,
         ensures value { result ≡ value_at K.eq self.old.pairs key.now }
         ensures pairs { self.new.pairs ≡ without K.eq self.old.pairs key.now }
-        ensures capacity { self.new.capacity ≡ self.old.capacity }
-        ensures rechained { self.new.rechained ≡ self.old.rechained }
-        ensures hasher { self.new.hasher ≡ self.old.hasher }
-        ensures mode { self.new.mode ≡ self.old.mode }
+        ensures keeps { Keeps self.old self.new }
         ensures ends_visit { OnSome result (to_visit self.new ≡ []) }
         ensures to_visit { IfNone result (to_visit self.new ≡ to_visit self.old) }
         ensures valid { IsValid K.eq self.old }
@@ -674,10 +670,7 @@ impl<K: Eq + Hash, V, S: BuildHasher> LinkedHashMap<K, V, S> {
     pub fn pop_front(&mut self) -> Option<(K, V)>
         ensures pair { result ≡ first self.old.pairs }
         ensures pairs { self.new.pairs ≡ without_first self.old.pairs }
-        ensures capacity { self.new.capacity ≡ self.old.capacity }
-        ensures rechained { self.new.rechained ≡ self.old.rechained }
-        ensures hasher { self.new.hasher ≡ self.old.hasher }
-        ensures mode { self.new.mode ≡ self.old.mode }
+        ensures keeps { Keeps self.old self.new }
         ensures ends_visit { to_visit self.new ≡ [] }
         ensures valid { IsValid K.eq self.old }
         ensures stays_valid { IsValid K.eq self.new }
@@ -723,10 +716,7 @@ impl<K: Eq + Hash, V, S: BuildHasher> LinkedHashMap<K, V, S> {
     pub fn pop_back(&mut self) -> Option<(K, V)>
         ensures pair { result ≡ last self.old.pairs }
         ensures pairs { self.new.pairs ≡ without_last self.old.pairs }
-        ensures capacity { self.new.capacity ≡ self.old.capacity }
-        ensures rechained { self.new.rechained ≡ self.old.rechained }
-        ensures hasher { self.new.hasher ≡ self.old.hasher }
-        ensures mode { self.new.mode ≡ self.old.mode }
+        ensures keeps { Keeps self.old self.new }
         ensures ends_visit { to_visit self.new ≡ [] }
         ensures valid { IsValid K.eq self.old }
         ensures stays_valid { IsValid K.eq self.new }
@@ -891,10 +881,7 @@ impl<K: Eq + Hash, V, S: BuildHasher> LinkedHashMap<K, V, S> {
         K: Drop,
         V: Drop,
         ensures pairs { self.new.pairs ≡ [] }
-        ensures capacity { self.new.capacity ≡ self.old.capacity }
-        ensures rechained { self.new.rechained ≡ self.old.rechained }
-        ensures hasher { self.new.hasher ≡ self.old.hasher }
-        ensures mode { self.new.mode ≡ self.old.mode }
+        ensures keeps { Keeps self.old self.new }
         ensures ends_visit { to_visit self.new ≡ [] }
         ensures valid { IsValid K.eq self.old }
         ensures stays_valid { IsValid K.eq self.new }

@@ -63,7 +63,7 @@ set_or_pushed-own {eq = eq} laws m valid k v own =
 module _ {K V : Type 0} (eq : K → K → Bool) where
   -- with another value for a key, the same keys are still to be visited
   pub to_visit-set_value : {S : Type 0} (m : LinkedMap K V S) (k : K) (v : V) → to_visit (record m { pairs = set_value eq m.pairs k v }) ≡ to_visit m
-  to_visit-set_value m k v = ap (λ keys. take m.unvisited (drop m.bookmark keys)) (keys_of-set_value eq m.pairs k v)
+  to_visit-set_value m k v = ap (λ keys. take m.cursor.unvisited (drop m.cursor.bookmark keys)) (keys_of-set_value eq m.pairs k v)
 
   -- the later of two writes counts
   pub set_value-set_value : (pairs : List (K × V)) (k : K) (w v : V) → set_value eq (set_value eq pairs k w) k v ≡ set_value eq pairs k v

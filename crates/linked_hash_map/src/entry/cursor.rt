@@ -4,6 +4,7 @@ ghost use Rattle.std.specs.Borrow.{sem};
 ghost use Rattle.std.specs.Map.{keys_of};
 ghost use Rattle.linked_hash_map.specs.Pairs.{value_at};
 ghost use Rattle.linked_hash_map.specs.Cursor.{to_visit};
+ghost use Rattle.linked_hash_map.specs.Changes.{Keeps};
 ghost use Rattle.linked_hash_map.specs.Validity.{IsValid};
 ghost use Rattle.linked_hash_map.specs.Entry.{occupied_map_ref, occupied_map, occupied_key, occupied_value};
 ghost use Rattle.linked_hash_map.specs.CursorLends.{cursor_map_ref, cursor_map, lends_map, lends_next_entry, lends_next};
@@ -64,10 +65,7 @@ impl<K: Eq + Hash, V, S: BuildHasher> LinkedHashMap<K, V, S> {
         ensures same_map { (cursor_map_ref result).ghost_name ≡ self.entry.ghost_name }
         ensures to_visit { to_visit (cursor_map result) ≡ keys_of self.old.pairs }
         ensures pairs { (cursor_map result).pairs ≡ self.old.pairs }
-        ensures capacity { (cursor_map result).capacity ≡ self.old.capacity }
-        ensures rechained { (cursor_map result).rechained ≡ self.old.rechained }
-        ensures hasher { (cursor_map result).hasher ≡ self.old.hasher }
-        ensures mode { (cursor_map result).mode ≡ self.old.mode }
+        ensures keeps { Keeps self.old (cursor_map result) }
         ensures valid { IsValid K.eq self.old }
     {
         self.begin_visit();
@@ -107,10 +105,7 @@ impl<K: Eq + Hash, V, S: BuildHasher> LinkedHashMap<K, V, S> {
         ensures same_map { result.ghost_name ≡ self.entry.ghost_name }
         ensures to_visit { to_visit result.now ≡ keys_of self.old.pairs }
         ensures pairs { result.now.pairs ≡ self.old.pairs }
-        ensures capacity { result.now.capacity ≡ self.old.capacity }
-        ensures rechained { result.now.rechained ≡ self.old.rechained }
-        ensures hasher { result.now.hasher ≡ self.old.hasher }
-        ensures mode { result.now.mode ≡ self.old.mode }
+        ensures keeps { Keeps self.old result.now }
         ensures valid { IsValid K.eq self.old }
     {
         self.begin_visit();
@@ -146,10 +141,7 @@ impl<K: Eq + Hash, V, S: BuildHasher> LinkedHashMap<K, V, S> {
         ensures visits { IfSome result (λ entry. to_visit self.old ≡ occupied_key entry ∷ to_visit (occupied_map entry)) }
         ensures value { IfSome result (λ entry. value_at K.eq self.old.pairs (occupied_key entry) ≡ Some (occupied_value entry)) }
         ensures pairs { IfSome result (λ entry. (occupied_map entry).pairs ≡ self.old.pairs) }
-        ensures capacity { IfSome result (λ entry. (occupied_map entry).capacity ≡ self.old.capacity) }
-        ensures rechained { IfSome result (λ entry. (occupied_map entry).rechained ≡ self.old.rechained) }
-        ensures hasher { IfSome result (λ entry. (occupied_map entry).hasher ≡ self.old.hasher) }
-        ensures mode { IfSome result (λ entry. (occupied_map entry).mode ≡ self.old.mode) }
+        ensures keeps { IfSome result (λ entry. Keeps self.old (occupied_map entry)) }
         ensures valid { IsValid K.eq self.old }
         ensures none { IfNone result (to_visit self.old ≡ []) }
     {
@@ -183,10 +175,7 @@ impl<'a, K: Eq + Hash, V, S: BuildHasher> Entries<'a, K, V, S> {
         ensures visits { IfSome result (λ entry. to_visit (cursor_map self.old) ≡ occupied_key entry ∷ to_visit (occupied_map entry)) }
         ensures value { IfSome result (λ entry. value_at K.eq (cursor_map self.old).pairs (occupied_key entry) ≡ Some (occupied_value entry)) }
         ensures pairs { IfSome result (λ entry. (occupied_map entry).pairs ≡ (cursor_map self.old).pairs) }
-        ensures capacity { IfSome result (λ entry. (occupied_map entry).capacity ≡ (cursor_map self.old).capacity) }
-        ensures rechained { IfSome result (λ entry. (occupied_map entry).rechained ≡ (cursor_map self.old).rechained) }
-        ensures hasher { IfSome result (λ entry. (occupied_map entry).hasher ≡ (cursor_map self.old).hasher) }
-        ensures mode { IfSome result (λ entry. (occupied_map entry).mode ≡ (cursor_map self.old).mode) }
+        ensures keeps { IfSome result (λ entry. Keeps (cursor_map self.old) (occupied_map entry)) }
         ensures valid { IsValid K.eq (cursor_map self.old) }
         ensures none { IfNone result (to_visit (cursor_map self.old) ≡ []) }
     {

@@ -5,6 +5,7 @@ ghost use Rattle.std.specs.Map.Calls.{ModifiesValue};
 ghost use Rattle.std.specs.Option.{UnwrapsOrElse};
 ghost use Rattle.linked_hash_map.specs.Pairs.{key_or, find, value_at, set_if_some, ActsAs};
 ghost use Rattle.linked_hash_map.specs.Cursor.{without_cursor};
+ghost use Rattle.linked_hash_map.specs.Changes.{Keeps};
 ghost use Rattle.linked_hash_map.specs.Validity.{IsValid};
 ghost use Rattle.linked_hash_map.specs.Entry.{entry_map_ref, entry_map, is_occupied, entry_key, entry_value, lends_entry};
 
@@ -39,10 +40,7 @@ impl<K: Eq + Hash, V, S: BuildHasher> LinkedHashMap<K, V, S> {
         ensures acts { ActsAs K.eq self.old.pairs (entry_key result) key }
         ensures value { entry_value result ≡ value_at K.eq self.old.pairs key }
         ensures pairs { (entry_map result).pairs ≡ self.old.pairs }
-        ensures capacity { (entry_map result).capacity ≡ self.old.capacity }
-        ensures rechained { (entry_map result).rechained ≡ self.old.rechained }
-        ensures hasher { (entry_map result).hasher ≡ self.old.hasher }
-        ensures mode { (entry_map result).mode ≡ self.old.mode }
+        ensures keeps { Keeps self.old (entry_map result) }
         ensures ends_visit { IsTrue (is_occupied result) → entry_map result ≡ without_cursor self.old }
         ensures unchanged { entry_value result ≡ None → entry_map result ≡ self.old }
         ensures valid { IsValid K.eq self.old }

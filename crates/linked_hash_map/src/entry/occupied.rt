@@ -3,6 +3,7 @@ ghost use Rattle.std.specs.Prelude.{◌≡◌};
 ghost use Rattle.std.specs.Borrow.{sem};
 ghost use Rattle.linked_hash_map.specs.Pairs.{without, put, set_value};
 ghost use Rattle.linked_hash_map.specs.Cursor.{to_visit};
+ghost use Rattle.linked_hash_map.specs.Changes.{Keeps};
 ghost use Rattle.linked_hash_map.specs.Validity.{IsValid};
 ghost use Rattle.linked_hash_map.specs.Entry.{occupied_map_ref, occupied_map, occupied_key, occupied_value, with_occupied_value, lends_in_entry, lends_occupied};
 
@@ -136,10 +137,7 @@ impl<'a, K: Eq + Hash, V, S: BuildHasher> OccupiedEntry<'a, K, V, S> {
         ensures key { occupied_key self.new ≡ occupied_key self.old }
         ensures value { occupied_value self.new ≡ value }
         ensures pairs { (occupied_map self.new).pairs ≡ put K.eq (occupied_map self.old).mode (occupied_map self.old).pairs (occupied_key self.old) value }
-        ensures capacity { (occupied_map self.new).capacity ≡ (occupied_map self.old).capacity }
-        ensures rechained { (occupied_map self.new).rechained ≡ (occupied_map self.old).rechained }
-        ensures hasher { (occupied_map self.new).hasher ≡ (occupied_map self.old).hasher }
-        ensures mode { (occupied_map self.new).mode ≡ (occupied_map self.old).mode }
+        ensures keeps { Keeps (occupied_map self.old) (occupied_map self.new) }
         ensures to_visit { to_visit (occupied_map self.new) ≡ to_visit (occupied_map self.old) }
         ensures valid { IsValid K.eq (occupied_map self.old) }
         ensures stays_valid { IsValid K.eq (occupied_map self.new) }
@@ -169,10 +167,7 @@ impl<'a, K: Eq + Hash, V, S: BuildHasher> OccupiedEntry<'a, K, V, S> {
         K: Drop,
         ensures value { result ≡ occupied_value self.entry }
         ensures pairs { self.exit.0.now.pairs ≡ without K.eq (occupied_map self.entry).pairs (occupied_key self.entry) }
-        ensures capacity { self.exit.0.now.capacity ≡ (occupied_map self.entry).capacity }
-        ensures rechained { self.exit.0.now.rechained ≡ (occupied_map self.entry).rechained }
-        ensures hasher { self.exit.0.now.hasher ≡ (occupied_map self.entry).hasher }
-        ensures mode { self.exit.0.now.mode ≡ (occupied_map self.entry).mode }
+        ensures keeps { Keeps (occupied_map self.entry) self.exit.0.now }
         ensures to_visit { to_visit self.exit.0.now ≡ to_visit (occupied_map self.entry) }
         ensures valid { IsValid K.eq (occupied_map self.entry) }
         ensures stays_valid { IsValid K.eq self.exit.0.now }

@@ -9,7 +9,7 @@ ghost use Rattle.std.specs.Borrow.{sem};
 ghost use Rattle.linked_hash_map.specs.Pairs.{find, value_at, put, without};
 ghost use Rattle.linked_hash_map.specs.Indexes.{IsIndex};
 ghost use Rattle.linked_hash_map.specs.Cursor.{to_visit, without_cursor, IsOutside};
-ghost use Rattle.linked_hash_map.specs.LinkedMap.{nowhere};
+ghost use Rattle.linked_hash_map.specs.Changes.{Keeps, KeepsSettings};
 ghost use Rattle.linked_hash_map.specs.Nodes.{pairs_of};
 ghost use Rattle.linked_hash_map.specs.Hashers.{hash_by};
 ghost use Rattle.linked_hash_map.specs.Counts.{rechained_raised, rechained_fitted};
@@ -82,11 +82,11 @@ impl<K: Eq + Hash, V, S: BuildHasher> LinkedHashMap<K, V, S> {
     #[inline]
     pub(crate) fn seek(&mut self, number: u64, key: &K) -> bool
         requires { number ≡ hash_by S.Hasher.finish S.Hasher.write S.build_hasher K.hash_input self.old.hasher key.now }
-        ensures found { IsTrue result → IsIndex K.eq self.old.pairs key.now self.new.current }
+        ensures found { IsTrue result → IsIndex K.eq self.old.pairs key.now self.new.cursor.current }
         ensures ends_visit { IsTrue result → without_cursor self.new ≡ without_cursor self.old }
-        ensures visited { IsTrue result → self.new.unvisited ≡ 0 }
-        ensures bookmark { IsTrue result → self.new.bookmark ≡ 0 }
-        ensures outside { IsTrue result → IsOutside self.new.current self.new }
+        ensures visited { IsTrue result → self.new.cursor.unvisited ≡ 0 }
+        ensures bookmark { IsTrue result → self.new.cursor.bookmark ≡ 0 }
+        ensures outside { IsTrue result → IsOutside self.new.cursor.current self.new }
         ensures absent { IsFalse result → find K.eq self.old.pairs key.now ≡ None }
         ensures unchanged { IsFalse result → self.new ≡ self.old }
         ensures valid { IsValid K.eq self.old }
@@ -107,8 +107,8 @@ impl<K: Eq + Hash, V, S: BuildHasher> LinkedHashMap<K, V, S> {
 
     /// Lends the current pair.
     pub(crate) fn current_pair(&self) -> (&K, &V)
-        requires { self.now.current < length self.now.pairs }
-        ensures { slice_get self.now.pairs self.now.current ≡ Some (result.0.now, result.1.now) }
+        requires { self.now.cursor.current < length self.now.pairs }
+        ensures { slice_get self.now.pairs self.now.cursor.current ≡ Some (result.0.now, result.1.now) }
     {
         let at = self.visit.current().unwrap();
         (self.table.key(at), self.table.value(at))
@@ -116,9 +116,9 @@ impl<K: Eq + Hash, V, S: BuildHasher> LinkedHashMap<K, V, S> {
 
     /// Lends the value of the current pair for writing.
     pub(crate) fn current_value_mut(&mut self) -> &mut V
-        requires { self.old.current < length self.old.pairs }
-        ensures* writes_back { sem 𝓛 (lends_at K.row V.row S.row S.Hasher.row K.Hash S.BuildHasher S.Hasher.Hasher self.entry self.old.current result) }
-        ensures value { option_map (λ pair. pair.1) (slice_get self.old.pairs self.old.current) ≡ Some result.now }
+        requires { self.old.cursor.current < length self.old.pairs }
+        ensures* writes_back { sem 𝓛 (lends_at K.row V.row S.row S.Hasher.row K.Hash S.BuildHasher S.Hasher.Hasher self.entry self.old.cursor.current result) }
+        ensures value { option_map (λ pair. pair.1) (slice_get self.old.pairs self.old.cursor.current) ≡ Some result.now }
         ensures valid { IsValid K.eq self.old }
     {
         let at = self.visit.current().unwrap();
@@ -127,9 +127,9 @@ impl<K: Eq + Hash, V, S: BuildHasher> LinkedHashMap<K, V, S> {
 
     /// Lends the value of the current pair for writing. No pair is the current one then.
     pub(crate) fn leave_current(&mut self) -> &mut V
-        requires { self.old.current < length self.old.pairs }
+        requires { self.old.cursor.current < length self.old.pairs }
         ensures* writes_back { sem 𝓛 (lends_left K.row V.row S.row S.Hasher.row K.Hash S.BuildHasher S.Hasher.Hasher self.entry result) }
-        ensures value { option_map (λ pair. pair.1) (slice_get self.old.pairs self.old.current) ≡ Some result.now }
+        ensures value { option_map (λ pair. pair.1) (slice_get self.old.pairs self.old.cursor.current) ≡ Some result.now }
         ensures valid { IsValid K.eq self.old }
     {
         let at = self.visit.current().unwrap();
@@ -150,17 +150,14 @@ impl<K: Eq + Hash, V, S: BuildHasher> LinkedHashMap<K, V, S> {
 
     /// Moves the current pair, which is none of those still to be visited, to the back. It stays the current one.
     pub(crate) fn move_current_to_back(&mut self)
-        requires within { self.old.current < length self.old.pairs }
-        requires outside { IsOutside self.old.current self.old }
-        ensures pairs { (pair : K × V) → slice_get self.old.pairs self.old.current ≡ Some pair →
-            self.new.pairs ≡ remove self.old.pairs self.old.current ++ pair ∷ [] }
-        ensures current { self.new.current ≡ length self.old.pairs - 1 }
-        ensures capacity { self.new.capacity ≡ self.old.capacity }
-        ensures rechained { self.new.rechained ≡ self.old.rechained }
-        ensures hasher { self.new.hasher ≡ self.old.hasher }
-        ensures mode { self.new.mode ≡ self.old.mode }
+        requires within { self.old.cursor.current < length self.old.pairs }
+        requires outside { IsOutside self.old.cursor.current self.old }
+        ensures pairs { (pair : K × V) → slice_get self.old.pairs self.old.cursor.current ≡ Some pair →
+            self.new.pairs ≡ remove self.old.pairs self.old.cursor.current ++ pair ∷ [] }
+        ensures current { self.new.cursor.current ≡ length self.old.pairs - 1 }
+        ensures keeps { Keeps self.old self.new }
         ensures to_visit { to_visit self.new ≡ to_visit self.old }
-        ensures outside { IsOutside self.new.current self.new }
+        ensures outside { IsOutside self.new.cursor.current self.new }
         ensures valid { IsValid K.eq self.old }
         ensures stays_valid { IsValid K.eq self.new }
     {
@@ -172,20 +169,17 @@ impl<K: Eq + Hash, V, S: BuildHasher> LinkedHashMap<K, V, S> {
     /// value. The pair moves to the back, or in `Keep` stays in its place; it stays the current one.
     #[inline]
     pub(crate) fn insert_current(&mut self, value: V) -> V
-        requires within { self.old.current < length self.old.pairs }
-        requires outside { IsOutside self.old.current self.old }
-        ensures pairs { (key : K) → IsIndex K.eq self.old.pairs key self.old.current →
+        requires within { self.old.cursor.current < length self.old.pairs }
+        requires outside { IsOutside self.old.cursor.current self.old }
+        ensures pairs { (key : K) → IsIndex K.eq self.old.pairs key self.old.cursor.current →
             self.new.pairs ≡ put K.eq self.old.mode self.old.pairs key value }
-        ensures pair { (pair : K × V) → slice_get self.old.pairs self.old.current ≡ Some pair →
-            slice_get self.new.pairs self.new.current ≡ Some (pair.0, value) }
-        ensures old { option_map (λ pair. pair.1) (slice_get self.old.pairs self.old.current) ≡ Some result }
+        ensures pair { (pair : K × V) → slice_get self.old.pairs self.old.cursor.current ≡ Some pair →
+            slice_get self.new.pairs self.new.cursor.current ≡ Some (pair.0, value) }
+        ensures old { option_map (λ pair. pair.1) (slice_get self.old.pairs self.old.cursor.current) ≡ Some result }
         ensures len { length self.new.pairs ≡ length self.old.pairs }
-        ensures capacity { self.new.capacity ≡ self.old.capacity }
-        ensures rechained { self.new.rechained ≡ self.old.rechained }
-        ensures hasher { self.new.hasher ≡ self.old.hasher }
-        ensures mode { self.new.mode ≡ self.old.mode }
+        ensures keeps { Keeps self.old self.new }
         ensures to_visit { to_visit self.new ≡ to_visit self.old }
-        ensures outside { IsOutside self.new.current self.new }
+        ensures outside { IsOutside self.new.cursor.current self.new }
         ensures valid { IsValid K.eq self.old }
         ensures stays_valid { IsValid K.eq self.new }
     {
@@ -207,10 +201,7 @@ impl<K: Eq + Hash, V, S: BuildHasher> LinkedHashMap<K, V, S> {
         ensures pairs { OnOk result (self.new.pairs ≡ put K.eq self.old.mode self.old.pairs key.now value) }
         ensures len { OnOk result (length self.new.pairs ≡ length self.old.pairs) }
         ensures ends_visit { OnOk result (to_visit self.new ≡ []) }
-        ensures capacity { self.new.capacity ≡ self.old.capacity }
-        ensures rechained { self.new.rechained ≡ self.old.rechained }
-        ensures hasher { self.new.hasher ≡ self.old.hasher }
-        ensures mode { self.new.mode ≡ self.old.mode }
+        ensures keeps { Keeps self.old self.new }
         ensures valid { IsValid K.eq self.old }
         ensures stays_valid { IsValid K.eq self.new }
 
@@ -234,14 +225,11 @@ impl<K: Eq + Hash, V, S: BuildHasher> LinkedHashMap<K, V, S> {
     /// Takes out the current pair, which is none of those still to be visited. No pair is the current one then.
     #[inline]
     pub(crate) fn take_current(&mut self) -> (K, V)
-        requires within { self.old.current < length self.old.pairs }
-        requires outside { IsOutside self.old.current self.old }
-        ensures pair { slice_get self.old.pairs self.old.current ≡ Some result }
-        ensures pairs { self.new.pairs ≡ remove self.old.pairs self.old.current }
-        ensures capacity { self.new.capacity ≡ self.old.capacity }
-        ensures rechained { self.new.rechained ≡ self.old.rechained }
-        ensures hasher { self.new.hasher ≡ self.old.hasher }
-        ensures mode { self.new.mode ≡ self.old.mode }
+        requires within { self.old.cursor.current < length self.old.pairs }
+        requires outside { IsOutside self.old.cursor.current self.old }
+        ensures pair { slice_get self.old.pairs self.old.cursor.current ≡ Some result }
+        ensures pairs { self.new.pairs ≡ remove self.old.pairs self.old.cursor.current }
+        ensures keeps { Keeps self.old self.new }
         ensures to_visit { to_visit self.new ≡ to_visit self.old }
         ensures valid { IsValid K.eq self.old }
         ensures stays_valid { IsValid K.eq self.new }
@@ -259,10 +247,7 @@ impl<K: Eq + Hash, V, S: BuildHasher> LinkedHashMap<K, V, S> {
         ensures pairs { self.new.pairs ≡ without K.eq self.old.pairs key.now }
         ensures ends_visit { OnSome result (to_visit self.new ≡ []) }
         ensures to_visit { IfNone result (to_visit self.new ≡ to_visit self.old) }
-        ensures capacity { self.new.capacity ≡ self.old.capacity }
-        ensures rechained { self.new.rechained ≡ self.old.rechained }
-        ensures hasher { self.new.hasher ≡ self.old.hasher }
-        ensures mode { self.new.mode ≡ self.old.mode }
+        ensures keeps { Keeps self.old self.new }
         ensures valid { IsValid K.eq self.old }
         ensures stays_valid { IsValid K.eq self.new }
     {
@@ -275,10 +260,7 @@ impl<K: Eq + Hash, V, S: BuildHasher> LinkedHashMap<K, V, S> {
     pub(crate) fn begin_visit(&mut self)
         ensures to_visit { to_visit self.new ≡ keys_of self.old.pairs }
         ensures pairs { self.new.pairs ≡ self.old.pairs }
-        ensures capacity { self.new.capacity ≡ self.old.capacity }
-        ensures rechained { self.new.rechained ≡ self.old.rechained }
-        ensures hasher { self.new.hasher ≡ self.old.hasher }
-        ensures mode { self.new.mode ≡ self.old.mode }
+        ensures keeps { Keeps self.old self.new }
         ensures valid { IsValid K.eq self.old }
     {
         self.visit = Visit {
@@ -291,15 +273,12 @@ impl<K: Eq + Hash, V, S: BuildHasher> LinkedHashMap<K, V, S> {
 
     /// Makes the next unvisited pair the current one and moves the mark past it, and tells whether one was left.
     pub(crate) fn visit_next(&mut self) -> bool
-        ensures key { IsTrue result → (key : K) → slice_get (keys_of self.old.pairs) self.new.current ≡ Some key →
+        ensures key { IsTrue result → (key : K) → slice_get (keys_of self.old.pairs) self.new.cursor.current ≡ Some key →
             to_visit self.old ≡ key ∷ to_visit self.new }
-        ensures within { IsTrue result → self.new.current < length self.new.pairs }
-        ensures outside { IsTrue result → IsOutside self.new.current self.new }
+        ensures within { IsTrue result → self.new.cursor.current < length self.new.pairs }
+        ensures outside { IsTrue result → IsOutside self.new.cursor.current self.new }
         ensures pairs { self.new.pairs ≡ self.old.pairs }
-        ensures capacity { self.new.capacity ≡ self.old.capacity }
-        ensures rechained { self.new.rechained ≡ self.old.rechained }
-        ensures hasher { self.new.hasher ≡ self.old.hasher }
-        ensures mode { self.new.mode ≡ self.old.mode }
+        ensures keeps { Keeps self.old self.new }
         ensures valid { IsValid K.eq self.old }
 
         ensures none { IsFalse result → to_visit self.old ≡ [] }
@@ -333,13 +312,8 @@ impl<K: Eq + Hash, V, S: BuildHasher> LinkedHashMap<K, V, S> {
         requires room { length self.old.pairs < self.old.capacity }
         requires absent { find K.eq self.old.pairs key ≡ None }
         ensures pairs { self.new.pairs ≡ self.old.pairs ++ (key, value) ∷ [] }
-        ensures capacity { self.new.capacity ≡ self.old.capacity }
-        ensures rechained { self.new.rechained ≡ self.old.rechained }
-        ensures hasher { self.new.hasher ≡ self.old.hasher }
-        ensures mode { self.new.mode ≡ self.old.mode }
-        ensures bookmark { self.new.bookmark ≡ self.old.bookmark }
-        ensures unvisited { self.new.unvisited ≡ self.old.unvisited }
-        ensures current { self.new.current ≡ self.old.current }
+        ensures keeps { Keeps self.old self.new }
+        ensures cursor { self.new.cursor ≡ self.old.cursor }
         ensures to_visit { to_visit self.new ≡ to_visit self.old }
         ensures stays_valid { IsValid K.eq self.new }
     {
@@ -350,11 +324,8 @@ impl<K: Eq + Hash, V, S: BuildHasher> LinkedHashMap<K, V, S> {
     #[inline]
     pub(crate) fn make_room(&mut self) -> bool
         ensures pairs { self.new.pairs ≡ self.old.pairs }
-        ensures hasher { self.new.hasher ≡ self.old.hasher }
-        ensures mode { self.new.mode ≡ self.old.mode }
-        ensures bookmark { self.new.bookmark ≡ self.old.bookmark }
-        ensures unvisited { self.new.unvisited ≡ self.old.unvisited }
-        ensures current { self.new.current ≡ self.old.current }
+        ensures settings { KeepsSettings self.old self.new }
+        ensures cursor { self.new.cursor ≡ self.old.cursor }
         ensures made { IsTrue result → self.new.capacity ≡ max self.old.capacity (length self.old.pairs + 1) }
         ensures rechained { IsTrue result → self.new.rechained
             ≡ rechained_raised self.old.rechained (length self.old.pairs) self.old.capacity self.new.capacity }

@@ -17,18 +17,18 @@ returns-in-Occupied g c =
     let left = c.insert.new.self.map.now in
     let moved : left.pairs ≡ put g.K.PartialEq.eq m.mode m.pairs c.args.key c.args.value =
     done.pairs
-    ∙ (λ i. put g.K.PartialEq.eq (entry.mode i) (entry.pairs i) (occupied_key c.in-Occupied.entry) c.args.value)
+    ∙ (λ i. put g.K.PartialEq.eq (entry.keeps.mode i) (entry.pairs i) (occupied_key c.in-Occupied.entry) c.args.value)
     ∙ acts_put entry.acts m.mode c.args.value in
     let as_long : length left.pairs ≡ length m.pairs =
     ap length moved
     ∙ length-put g.met.K.Eq.laws m.mode m.pairs c.args.key c.args.value entry.valid.distinct
     ∙ ap (λ b. cond b (length m.pairs) (length m.pairs + 1)) (sym entry.occupied) in
-    let room : left.capacity ≡ max m.capacity (length left.pairs) = let same = done.capacity ∙ entry.capacity in omega (arith, entry.valid.within) in
+    let room : left.capacity ≡ max m.capacity (length left.pairs) = let same = done.keeps.capacity ∙ entry.keeps.capacity in omega (arith, entry.valid.within) in
     Serves-same left (search rules)
     (record {
       answers = λ start log defines. HasValue-value g.met.K.Eq.laws defines c.args.key (sym entry.value ∙ ap Some (sym done.old));
-      defines = λ start log defines. Defines-put g.met.K.Eq.laws defines c.args.key c.args.value moved room (done.mode ∙ entry.mode);
-      hasher = done.hasher ∙ entry.hasher;
+      defines = λ start log defines. Defines-put g.met.K.Eq.laws defines c.args.key c.args.value moved room (done.keeps.mode ∙ entry.keeps.mode);
+      hasher = done.keeps.hasher ∙ entry.keeps.hasher;
     })
 
 pub returns-in-Ok : goal.returns-in-Ok
@@ -46,12 +46,12 @@ returns-in-Ok g c =
     let went_in : left.pairs ≡ put eq m.mode m.pairs c.args.key c.args.value =
     (λ i. entry.pairs i ++ (same_key i, c.in-Ok.ensures.value i) ∷ []) ∙ put-absent eq m.mode m.pairs c.args.key c.args.value absent in
     let room : left.capacity ≡ max m.capacity (length left.pairs) =
-    let longer = length-append held.pairs ((key, value) ∷ []) in let same = entry.capacity in omega arith in
+    let longer = length-append held.pairs ((key, value) ∷ []) in let same = entry.keeps.capacity in omega arith in
     Serves-same left (search rules)
     (record {
       answers = λ start log defines. IsAbsent-found g.met.K.Eq.laws defines c.args.key absent;
-      defines = λ start log defines. Defines-put g.met.K.Eq.laws defines c.args.key c.args.value went_in room entry.mode;
-      hasher = entry.hasher;
+      defines = λ start log defines. Defines-put g.met.K.Eq.laws defines c.args.key c.args.value went_in room entry.keeps.mode;
+      hasher = entry.keeps.hasher;
     })
 
 pub returns-in-Err : goal.returns-in-Err

@@ -15,8 +15,8 @@ returns-in-Occupied g c =
       defines = λ start log defines.
           Defines-remove g.met.K.Eq.laws defines c.args.key
           (done.pairs ∙ ap (λ pairs. without g.K.PartialEq.eq pairs (occupied_key c.in-Occupied.entry)) entry.pairs ∙ entry.acts.removes)
-          (done.capacity ∙ entry.capacity) (done.mode ∙ entry.mode);
-      hasher = done.hasher ∙ entry.hasher;
+          (done.keeps.capacity ∙ entry.keeps.capacity) (done.keeps.mode ∙ entry.keeps.mode);
+      hasher = done.keeps.hasher ∙ entry.keeps.hasher;
     })
 
 pub returns-in-Vacant : goal.returns-in-Vacant

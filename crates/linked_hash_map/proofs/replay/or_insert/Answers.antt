@@ -29,12 +29,12 @@ returns-then-present g c =
     ∙ entry.acts.sets_or_pushes value
     ∙ sym (set_or_push-present eq m.pairs k value there)
     ∙ set_value-own g.met.K.Eq.laws k m.pairs value entry.valid.distinct own in
-    let room : left.capacity ≡ m.capacity = let as_long = ap length kept in let same = entry.capacity in omega (arith, entry.valid.within) in
+    let room : left.capacity ≡ m.capacity = let as_long = ap length kept in let same = entry.keeps.capacity in omega (arith, entry.valid.within) in
     Serves-same left (search rules)
     (record {
       answers = λ start log defines. (HasValue-value g.met.K.Eq.laws defines k own).0;
-      defines = λ start log defines. Defines-nothing g.met.K.Eq.laws defines kept room entry.mode;
-      hasher = entry.hasher;
+      defines = λ start log defines. Defines-nothing g.met.K.Eq.laws defines kept room entry.keeps.mode;
+      hasher = entry.keeps.hasher;
     })
 
 pub returns-else-present : goal.returns-else-present
@@ -60,8 +60,8 @@ returns-else-present g c =
     Serves-same left (search rules)
     (record {
       answers = λ start log defines. IsAbsent-found g.met.K.Eq.laws defines k absent;
-      defines = λ start log defines. Defines-put g.met.K.Eq.laws defines k c.args.value pushed (ap (λ n. max n (length left.pairs)) entry.capacity) entry.mode;
-      hasher = entry.hasher;
+      defines = λ start log defines. Defines-put g.met.K.Eq.laws defines k c.args.value pushed (ap (λ n. max n (length left.pairs)) entry.keeps.capacity) entry.keeps.mode;
+      hasher = entry.keeps.hasher;
     })
 
 pub returns-in-Err : goal.returns-in-Err

@@ -7,8 +7,8 @@ returns-in-Some g c =
     let done = c.in-Some.ensures in
     record {
       answers = λ start log defines. slice_get_last-held g.met.K.Eq.laws defines done.pair;
-      defines = λ start log defines. Defines-pop_back g.met.K.Eq.laws defines c.in-Some.key c.in-Some.value done.pair done.pairs done.capacity done.mode;
-      hasher = done.hasher;
+      defines = λ start log defines. Defines-pop_back g.met.K.Eq.laws defines c.in-Some.key c.in-Some.value done.pair done.pairs done.keeps.capacity done.keeps.mode;
+      hasher = done.keeps.hasher;
     }
 
 pub returns-in-None : goal.returns-in-None
@@ -17,6 +17,6 @@ returns-in-None g c =
     let none = no_last_is_nil c.args.map.now.pairs done.pair in
     record {
       answers = λ start log defines. pairs-no_last g.met.K.Eq.laws defines done.pair;
-      defines = λ start log defines. Defines-nothing g.met.K.Eq.laws defines (done.pairs ∙ ap (λ pairs. take (length pairs - 1) pairs) none ∙ sym none) done.capacity done.mode;
-      hasher = done.hasher;
+      defines = λ start log defines. Defines-nothing g.met.K.Eq.laws defines (done.pairs ∙ ap (λ pairs. take (length pairs - 1) pairs) none ∙ sym none) done.keeps.capacity done.keeps.mode;
+      hasher = done.keeps.hasher;
     }

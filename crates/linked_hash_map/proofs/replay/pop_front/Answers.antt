@@ -6,6 +6,6 @@ returns-in-Some g c =
     let done = c.in-Some.ensures in
     record {
       answers = λ start log defines. slice_get-held g.met.K.Eq.laws defines 0 done.pair;
-      defines = λ start log defines. Defines-pop_front g.met.K.Eq.laws defines c.in-Some.key c.in-Some.value done.pair done.pairs done.capacity done.mode;
-      hasher = done.hasher;
+      defines = λ start log defines. Defines-pop_front g.met.K.Eq.laws defines c.in-Some.key c.in-Some.value done.pair done.pairs done.keeps.capacity done.keeps.mode;
+      hasher = done.keeps.hasher;
     }

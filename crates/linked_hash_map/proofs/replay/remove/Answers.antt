@@ -8,8 +8,8 @@ returns-in-Some g c =
     let done = c.in-Some.ensures in
     record {
       answers = λ start log defines. HasValue-value g.met.K.Eq.laws defines c.args.key (sym done.value);
-      defines = λ start log defines. Defines-remove g.met.K.Eq.laws defines c.args.key done.pairs done.capacity done.mode;
-      hasher = done.hasher;
+      defines = λ start log defines. Defines-remove g.met.K.Eq.laws defines c.args.key done.pairs done.keeps.capacity done.keeps.mode;
+      hasher = done.keeps.hasher;
     }
 
 pub returns : goal.returns
@@ -17,6 +17,6 @@ returns g c =
     let done = c.in-None.ensures in
     record {
       answers = λ start log defines. IsAbsent-value g.met.K.Eq.laws defines c.args.key (sym done.value);
-      defines = λ start log defines. Defines-nothing g.met.K.Eq.laws defines (done.pairs ∙ without-absent g.K.PartialEq.eq c.args.map.now.pairs c.args.key (sym done.value)) done.capacity done.mode;
-      hasher = done.hasher;
+      defines = λ start log defines. Defines-nothing g.met.K.Eq.laws defines (done.pairs ∙ without-absent g.K.PartialEq.eq c.args.map.now.pairs c.args.key (sym done.value)) done.keeps.capacity done.keeps.mode;
+      hasher = done.keeps.hasher;
     }

@@ -7,8 +7,8 @@ returns-in-Ok g c =
     let done = c.in-Ok.ensures in
     record {
       answers = λ start log defines. let size_is = size-held g.met.K.Eq.laws defines in let limit = done.stays_valid.limit in let room = done.capacity in omega arith;
-      defines = λ start log defines. Defines-reserve g.met.K.Eq.laws defines c.args.additional done.pairs done.capacity done.mode;
-      hasher = done.hasher;
+      defines = λ start log defines. Defines-reserve g.met.K.Eq.laws defines c.args.additional done.pairs done.capacity done.settings.mode;
+      hasher = done.settings.hasher;
     }
 
 pub returns-in-Err-TooLarge : goal.returns-in-Err-TooLarge
@@ -20,8 +20,8 @@ returns-in-Err-TooLarge g c =
           let over = refused.too_large.0 (ap Err c.in-Err-TooLarge.field-0-is) in
           omega arith;
       defines = λ start log defines.
-          Defines-nothing g.met.K.Eq.laws defines (ap (λ m. m.pairs) refused.unchanged) (ap (λ m. m.capacity) refused.unchanged) refused.mode;
-      hasher = refused.hasher;
+          Defines-nothing g.met.K.Eq.laws defines (ap (λ m. m.pairs) refused.unchanged) (ap (λ m. m.capacity) refused.unchanged) refused.settings.mode;
+      hasher = refused.settings.hasher;
     }
 
 pub returns-in-Err-NoRoom : goal.returns-in-Err-NoRoom
@@ -36,6 +36,6 @@ returns-in-Err-NoRoom g c =
           let within = refused.no_room_within told in
           (omega arith, omega arith);
       defines = λ start log defines.
-          Defines-nothing g.met.K.Eq.laws defines (ap (λ m. m.pairs) refused.unchanged) (ap (λ m. m.capacity) refused.unchanged) refused.mode;
-      hasher = refused.hasher;
+          Defines-nothing g.met.K.Eq.laws defines (ap (λ m. m.pairs) refused.unchanged) (ap (λ m. m.capacity) refused.unchanged) refused.settings.mode;
+      hasher = refused.settings.hasher;
     }

@@ -7,8 +7,8 @@ returns-in-Ok g c =
     let done = c.in-Ok.ensures in
     record {
       answers = λ start log defines. tt;
-      defines = λ start log defines. Defines-shrink g.met.K.Eq.laws defines done.pairs done.capacity done.mode;
-      hasher = done.hasher;
+      defines = λ start log defines. Defines-shrink g.met.K.Eq.laws defines done.pairs done.capacity done.settings.mode;
+      hasher = done.settings.hasher;
     }
 
 pub returns-in-Err : goal.returns-in-Err
@@ -22,6 +22,6 @@ returns-in-Err g c =
           let spare = refused.spare in
           (omega arith, omega arith);
       defines = λ start log defines.
-          Defines-nothing g.met.K.Eq.laws defines (ap (λ m. m.pairs) refused.unchanged) (ap (λ m. m.capacity) refused.unchanged) refused.mode;
-      hasher = refused.hasher;
+          Defines-nothing g.met.K.Eq.laws defines (ap (λ m. m.pairs) refused.unchanged) (ap (λ m. m.capacity) refused.unchanged) refused.settings.mode;
+      hasher = refused.settings.hasher;
     }

@@ -11,7 +11,7 @@ inserted g c =
     let refused = c.in-Err.ensures in
     let popped = c.pop_front-oldest.ensures in
     let left = popped.pairs ∙ ap (λ m. without_first m.pairs) refused.unchanged in
-    let mode = popped.mode ∙ ap (λ m. m.mode) refused.unchanged in
+    let mode = popped.keeps.mode ∙ ap (λ m. m.mode) refused.unchanged in
     c.in-Ok.ensures.pairs
     ∙ (λ i. put eq (mode i) (left i) (refused.key_back i) (refused.value_back i))
 
@@ -24,4 +24,4 @@ returns-clause-capacity g c = λ some.
     let old = c.args.map.now in
     let refused = c.in-Err.ensures in
     let same = length-put_drop g.K.PartialEq.eq old.pairs c.args.key refused.absent old.mode c.args.value c.requires.some in
-    omega (arith, ap length (inserted g c), same, c.in-Ok.ensures.capacity, c.pop_front-oldest.ensures.capacity, ap (λ m. m.capacity) refused.unchanged, refused.full)
+    omega (arith, ap length (inserted g c), same, c.in-Ok.ensures.capacity, c.pop_front-oldest.ensures.keeps.capacity, ap (λ m. m.capacity) refused.unchanged, refused.full)

@@ -1,6 +1,6 @@
 use Rattle.std.proofs.Common.{refl, sym, ap, take, drop}
 use Rattle.linked_hash_map.specs.Indexes.{within-set_value_at}
-use Rattle.linked_hash_map.specs.LinkedMap.{nowhere}
+use Rattle.linked_hash_map.specs.LinkedMap.{nowhere, without_entry}
 use Rattle.linked_hash_map.proofs.Indexes.{keys_of-set_value_at, set_value-index}
 use Rattle.linked_hash_map.proofs.EntryFacts.{occupied_value-is, IsIndex-occupied, IsValid-current, occupied_pair-written, occupied_written}
 use Rattle.linked_hash_map.proofs.entry.OccupiedEntry.get_mut.Goals as goal
@@ -8,7 +8,7 @@ use Rattle.linked_hash_map.proofs.entry.OccupiedEntry.get_mut.Goals as goal
 pub invariant_of-self-lent : goal.invariant_of-self-lent
 invariant_of-self-lent g c w =
     let o = c.args.self.now in
-    (within-set_value_at o.map.now.pairs o.map.now.current w o.within, (o.outside, tt))
+    (within-set_value_at o.map.now.pairs o.map.now.cursor.current w o.within, (o.outside, tt))
 
 pub returns : goal.returns
 returns g c =
@@ -22,7 +22,7 @@ returns g c =
         value = occupied_value-is o c.current_value_mut.result.now lent.value;
         key = λ v. ap (λ pair. pair.0) (occupied_pair-written o v);
         written = λ v. ap (λ pair. pair.1) (occupied_pair-written o v);
-        map = λ v. ap (λ pairs. record m { pairs = pairs; current = nowhere }) (sym (set_value-index g.met.K.Eq.laws lent.valid.distinct (IsIndex-occupied o g.met.K.Eq.laws) v));
-        to_visit = λ v. ap (λ keys. take m.unvisited (drop m.bookmark keys)) (keys_of-set_value_at m.pairs m.current v);
+        map = λ v. ap (λ pairs. record m { pairs = pairs; cursor = without_entry m.cursor }) (sym (set_value-index g.met.K.Eq.laws lent.valid.distinct (IsIndex-occupied o g.met.K.Eq.laws) v));
+        to_visit = λ v. ap (λ keys. take m.cursor.unvisited (drop m.cursor.bookmark keys)) (keys_of-set_value_at m.pairs m.cursor.current v);
       },
     )

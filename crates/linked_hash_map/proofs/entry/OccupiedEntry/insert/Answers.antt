@@ -9,7 +9,7 @@ pub invariant_of-self : goal.invariant_of-self
 invariant_of-self g c =
     let o = c.args.self.now in
     let new = c.insert_current.new.self in
-    record { within = slice_get-within new.pairs new.current (occupied_key o, c.args.value) (c.insert_current.ensures.pair _ (slice_get-occupied o)); outside = c.insert_current.ensures.outside }
+    record { within = slice_get-within new.pairs new.cursor.current (occupied_key o, c.args.value) (c.insert_current.ensures.pair _ (slice_get-occupied o)); outside = c.insert_current.ensures.outside }
 
 pub returns-clause-old : goal.returns-clause-old
 returns-clause-old g c = occupied_value-is c.args.self.now c.insert_current.result c.insert_current.ensures.old

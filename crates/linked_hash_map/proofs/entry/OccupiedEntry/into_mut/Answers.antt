@@ -1,6 +1,6 @@
 use Rattle.std.proofs.Common.{refl, sym, ap}
 use Rattle.linked_hash_map.specs.Entry.{occupied_map, occupied_key}
-use Rattle.linked_hash_map.specs.LinkedMap.{nowhere}
+use Rattle.linked_hash_map.specs.LinkedMap.{nowhere, without_entry}
 use Rattle.linked_hash_map.proofs.Indexes.{set_value-index}
 use Rattle.linked_hash_map.proofs.Callers.Writes.{to_visit-set_value}
 use Rattle.linked_hash_map.proofs.EntryFacts.{occupied_value-is, IsIndex-occupied, IsValid-current}
@@ -11,7 +11,7 @@ returns g c =
     let o = c.args.self in
     let m = o.map.now in
     let lent = c.leave_current.ensures in (
-      (refl, λ v. ap (λ pairs. record m { pairs = pairs; current = nowhere }) (sym (set_value-index g.met.K.Eq.laws lent.valid.distinct (IsIndex-occupied o g.met.K.Eq.laws) v))),
+      (refl, λ v. ap (λ pairs. record m { pairs = pairs; cursor = without_entry m.cursor }) (sym (set_value-index g.met.K.Eq.laws lent.valid.distinct (IsIndex-occupied o g.met.K.Eq.laws) v))),
       record {
         writes_back = tt;
         value = occupied_value-is o c.leave_current.result.now lent.value;

@@ -21,13 +21,11 @@ returns g c =
         c.last_value_mut.result.ghost_name,
         λ v. record m {
           pairs = pairs v i;
-          capacity = (pushed.ensures.capacity ∙ room.ensures.made c.if-not-make_room.false) i;
-          hasher = (pushed.ensures.hasher ∙ room.ensures.hasher) i;
-          bookmark = (pushed.ensures.bookmark ∙ room.ensures.bookmark) i;
-          unvisited = (pushed.ensures.unvisited ∙ room.ensures.unvisited) i;
-          current = (pushed.ensures.current ∙ room.ensures.current) i;
-          rechained = (pushed.ensures.rechained ∙ room.ensures.rechained c.if-not-make_room.false ∙ ap (rechained_raised m.rechained (length m.pairs) m.capacity) (room.ensures.made c.if-not-make_room.false)) i;
-          mode = (pushed.ensures.mode ∙ room.ensures.mode) i;
+          capacity = (pushed.ensures.keeps.capacity ∙ room.ensures.made c.if-not-make_room.false) i;
+          hasher = (pushed.ensures.keeps.hasher ∙ room.ensures.settings.hasher) i;
+          cursor = (pushed.ensures.cursor ∙ room.ensures.cursor) i;
+          rechained = (pushed.ensures.keeps.rechained ∙ room.ensures.rechained c.if-not-make_room.false ∙ ap (rechained_raised m.rechained (length m.pairs) m.capacity) (room.ensures.made c.if-not-make_room.false)) i;
+          mode = (pushed.ensures.keeps.mode ∙ room.ensures.settings.mode) i;
         },
       )),
       record {

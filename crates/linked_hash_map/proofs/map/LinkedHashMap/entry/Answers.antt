@@ -1,5 +1,5 @@
 use Rattle.std.proofs.Common.{slice_get, Some, sym, ap, ◌∙◌}
-use Rattle.linked_hash_map.specs.LinkedMap.{nowhere}
+use Rattle.linked_hash_map.specs.LinkedMap.{nowhere, cursor_state}
 use Rattle.linked_hash_map.specs.Pairs.{key_or}
 use Rattle.linked_hash_map.proofs.Indexes.{is_some-index, find-index, value_at-index}
 use Rattle.linked_hash_map.proofs.EntryFacts.{ActsAs-same, occupied_pair-is}
@@ -11,14 +11,14 @@ returns-then-seek-clause-occupied g c = sym (is_some-index g.met.K.Eq.laws c.see
 pub returns-then-seek-clause-key : goal.returns-then-seek-clause-key
 returns-then-seek-clause-key g c =
     let index = c.seek.ensures.found c.if-seek.true in
-    let there = ap (λ m. slice_get m.pairs c.seek.new.self.current) (c.seek.ensures.ends_visit c.if-seek.true) ∙ index.there in
+    let there = ap (λ m. slice_get m.pairs c.seek.new.self.cursor.current) (c.seek.ensures.ends_visit c.if-seek.true) ∙ index.there in
     sym (ap (λ pair. pair.0) (occupied_pair-is _ index.pair there))
     ∙ sym (ap (key_or c.args.key) (find-index g.met.K.Eq.laws c.seek.ensures.valid.distinct index index.there))
 
 pub returns-then-seek-clause-acts : goal.returns-then-seek-clause-acts
 returns-then-seek-clause-acts g c =
     let index = c.seek.ensures.found c.if-seek.true in
-    let there = ap (λ m. slice_get m.pairs c.seek.new.self.current) (c.seek.ensures.ends_visit c.if-seek.true) ∙ index.there in
+    let there = ap (λ m. slice_get m.pairs c.seek.new.self.cursor.current) (c.seek.ensures.ends_visit c.if-seek.true) ∙ index.there in
     ActsAs-same g.met.K.Eq.laws c.args.self.now.pairs _ c.args.key
     (sym (ap (λ pair. g.K.PartialEq.eq c.args.key pair.0) (occupied_pair-is _ index.pair there)) ∙ index.same)
     (is_some-index g.met.K.Eq.laws c.seek.ensures.valid.distinct index)
@@ -26,12 +26,12 @@ returns-then-seek-clause-acts g c =
 pub returns-then-seek-clause-value : goal.returns-then-seek-clause-value
 returns-then-seek-clause-value g c =
     let index = c.seek.ensures.found c.if-seek.true in
-    let there = ap (λ m. slice_get m.pairs c.seek.new.self.current) (c.seek.ensures.ends_visit c.if-seek.true) ∙ index.there in
+    let there = ap (λ m. slice_get m.pairs c.seek.new.self.cursor.current) (c.seek.ensures.ends_visit c.if-seek.true) ∙ index.there in
     sym (ap (λ pair. Some pair.1) (occupied_pair-is _ index.pair there))
     ∙ value_at-index g.met.K.Eq.laws c.seek.ensures.valid.distinct index index.there
 
 pub returns-then-seek-clause-ends_visit : goal.returns-then-seek-clause-ends_visit
 returns-then-seek-clause-ends_visit g c = λ _.
     let same = c.seek.ensures.ends_visit c.if-seek.true in
-    (λ i. record c.seek.new.self { bookmark = c.seek.ensures.bookmark c.if-seek.true i; unvisited = c.seek.ensures.visited c.if-seek.true i; current = nowhere })
+    (λ i. record c.seek.new.self { cursor = cursor_state (c.seek.ensures.bookmark c.if-seek.true i) (c.seek.ensures.visited c.if-seek.true i) nowhere })
     ∙ same

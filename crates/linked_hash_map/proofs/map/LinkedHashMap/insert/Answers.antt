@@ -15,5 +15,5 @@ pub returns-clause-to_visit : goal.returns-clause-to_visit
 returns-clause-to_visit g c =
     let room = c.make_room.ensures in
     c.push_back.ensures.to_visit
-    ∙ (λ i. take (room.unvisited i) (drop (room.bookmark i) (keys_of (room.pairs i))))
+    ∙ (λ i. take (room.cursor i).unvisited (drop (room.cursor i).bookmark (keys_of (room.pairs i))))
     ∙ ap to_visit c.in-Err.ensures.unchanged

@@ -10,13 +10,10 @@ returns-then-visit_next g c = (
   record {
     lends = tt;
     same_map = refl;
-    visits = c.if-visit_next.ensures.key refl _ (ap (λ ps. slice_get (keys_of ps) c.visit_next.new.self.current) (sym c.if-visit_next.ensures.pairs) ∙ occupied_key_there _);
+    visits = c.if-visit_next.ensures.key refl _ (ap (λ ps. slice_get (keys_of ps) c.visit_next.new.self.cursor.current) (sym c.if-visit_next.ensures.pairs) ∙ occupied_key_there _);
     value = value-occupied _ g.met.K.Eq.laws c.if-visit_next.ensures.valid.distinct c.if-visit_next.ensures.pairs;
     pairs = c.if-visit_next.ensures.pairs;
-    capacity = c.if-visit_next.ensures.capacity;
-    rechained = c.if-visit_next.ensures.rechained;
-    hasher = c.if-visit_next.ensures.hasher;
-    mode = c.if-visit_next.ensures.mode;
+    keeps = record { capacity = c.if-visit_next.ensures.keeps.capacity; rechained = c.if-visit_next.ensures.keeps.rechained; hasher = c.if-visit_next.ensures.keeps.hasher; mode = c.if-visit_next.ensures.keeps.mode };
     valid = c.if-visit_next.ensures.valid;
     none = tt;
   },

@@ -1,7 +1,7 @@
 use Rattle.std.proofs.Common.{◌≡◌, ◌<◌, None, length, refl, sym, subst, arith}
 use Rattle.lhm_ring.specs.Positions.{pointer_of}
-use Rattle.linked_hash_map.specs.LinkedMap.{LinkedMap}
-use Rattle.linked_hash_map.specs.Nodes.{pairs_of}
+use Rattle.linked_hash_map.specs.LinkedMap.{LinkedMap, cursor_state}
+use Rattle.linked_hash_map.specs.Nodes.{pairs_of, unvisited_of}
 use Rattle.linked_hash_map.specs.Hashers.{hash_by}
 use Rattle.linked_hash_map.specs.Pairs.{find}
 use Rattle.linked_hash_map.proofs.Growth.{IsKept-push, pairs_of-push, bookmark_at-push, current_at-push, to_visit-push}
@@ -29,11 +29,11 @@ invariant_of-self g c =
 pub returns-clause-pairs : goal.returns-clause-pairs
 returns-clause-pairs g c = rw (← c.self.view_is) (pairs_of-push c.self.inside.table c.push_back.new.self (pointer_of c.push_back.result) c.args.number c.args.key c.args.value c.push_back.ensures.last)
 
-pub returns-clause-bookmark : goal.returns-clause-bookmark
-returns-clause-bookmark g c = rw (← c.self.view_is) (bookmark_at-push c.self.invariant (pointer_of c.push_back.result) c.args.number c.args.key c.args.value c.push_back.new.self c.push_back.ensures.last)
-
-pub returns-clause-current : goal.returns-clause-current
-returns-clause-current g c = rw (← c.self.view_is) (current_at-push c.self.invariant (pointer_of c.push_back.result) c.args.number c.args.key c.args.value c.push_back.new.self c.push_back.ensures.last)
+pub returns-clause-cursor : goal.returns-clause-cursor
+returns-clause-cursor g c =
+    let n = unvisited_of c.self.inside.visit in
+    rw (← c.self.view_is) (λ i. cursor_state (bookmark_at-push c.self.invariant (pointer_of c.push_back.result) c.args.number c.args.key c.args.value c.push_back.new.self c.push_back.ensures.last i) n
+    (current_at-push c.self.invariant (pointer_of c.push_back.result) c.args.number c.args.key c.args.value c.push_back.new.self c.push_back.ensures.last i))
 
 pub returns-clause-to_visit : goal.returns-clause-to_visit
 returns-clause-to_visit g c = rw (← c.self.view_is) (to_visit-push c.self.invariant (pointer_of c.push_back.result) c.args.number c.args.key c.args.value c.push_back.new.self c.push_back.ensures.last)

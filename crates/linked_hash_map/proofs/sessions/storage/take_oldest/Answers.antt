@@ -20,6 +20,6 @@ loop-preserved g c =
           (append_assoc c.loop.gone.items _ _ ∙ ap (λ ps. c.loop.gone.items ++ sessions_of ps) (sym first) ∙ i.gone);
       len = omega arith;
       room = c.push_reserved.ensures.capacity ∙ i.room;
-      capacity = c.pop_front.ensures.capacity ∙ i.capacity;
+      capacity = c.pop_front.ensures.keeps.capacity ∙ i.capacity;
       valid = c.pop_front.ensures.stays_valid;
     }

@@ -17,7 +17,7 @@ unreachable-requires g c =
     let taken = c.remove.ensures in
     let found = IsSome-find g.K.PartialEq.eq pairs c.args.from.now _ (sym taken.value ∙ c.in-Some.is) in
     let fewer = length-without_present g.met.K.Eq.laws pairs c.args.from.now taken.valid.distinct found in
-    omega (arith, ap length taken.pairs, fewer, taken.valid.within, taken.capacity, c.in-Err.ensures.full)
+    omega (arith, ap length taken.pairs, fewer, taken.valid.within, taken.keeps.capacity, c.in-Err.ensures.full)
 
 pub returns-clause-there : goal.returns-clause-there
 returns-clause-there g c = λ there.

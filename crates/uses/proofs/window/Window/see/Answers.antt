@@ -24,8 +24,8 @@ invariant_of-self-2 c =
     let seen = c.args.self.now.seen.pairs in
     let most = length-to_back_most nat_eq_equiv seen c.args.number tt put.valid.distinct in
     record {
-      touch = pop.mode ∙ put.mode ∙ c.args.self.now.touch;
-      room = omega (arith, put.capacity, pop.capacity);
+      touch = pop.keeps.mode ∙ put.mode ∙ c.args.self.now.touch;
+      room = omega (arith, put.capacity, pop.keeps.capacity);
       within = omega (arith, ap length (put.pairs ∙ in_touch seen c.args.number _ c.args.self.now.touch), ap length pop.pairs, length-drop 1 c.insert.new.self.pairs, most);
     }
 

@@ -45,6 +45,7 @@ use Rattle.std.specs.declared.hash.Hasher as hasher
 use Rattle.std.specs.declared.hash.BuildHasher as builder
 use Rattle.linked_hash_map.specs.LinkedMap.{LinkedMap}
 use Rattle.linked_hash_map.specs.Cursor.{to_visit}
+use Rattle.linked_hash_map.specs.Changes.{Keeps}
 use Rattle.linked_hash_map.specs.Validity.{IsValid}
 use Rattle.linked_hash_map.specs.Pairs.{value_at}
 use Rattle.linked_hash_map.specs.Entry.{occupied_map, occupied_key, occupied_value}
@@ -87,17 +88,8 @@ module _ {K V S H : Type 0} {g : eq.Ghosts K} {h : hash.Ghosts K} {b : builder.G
     abbrev SamePairs : Type 0
     SamePairs = IfSome e (λ o. (occupied_map o).pairs ≡ m.pairs)
 
-    abbrev SameCapacity : Type 0
-    SameCapacity = IfSome e (λ o. (occupied_map o).capacity ≡ m.capacity)
-
-    abbrev SameRechained : Type 0
-    SameRechained = IfSome e (λ o. (occupied_map o).rechained ≡ m.rechained)
-
-    abbrev SameHasher : Type 0
-    SameHasher = IfSome e (λ o. (occupied_map o).hasher ≡ m.hasher)
-
-    abbrev SameMode : Type 0
-    SameMode = IfSome e (λ o. (occupied_map o).mode ≡ m.mode)
+    abbrev Kept : Type 0
+    Kept = IfSome e (λ o. Keeps m (occupied_map o))
 
     abbrev NoneLeft : Type 0
     NoneLeft = IfNone e (to_visit m ≡ [])
@@ -201,9 +193,9 @@ next_spec 𝓤 𝓛 𝓜 𝓡 wired K V S H LK LV LS LH b₀ d₀ b₁ d₁ b₂
     use1 𝓛 (later (some (λ (e : Given.Denot).
     ((‵ (flft κs.0 qs.0) ⊛ ‵ (flft κs.1.1.0 qs.1.1.0) ⊛ ‵ (flft κs.1.1.1.0 qs.1.1.1.0) ⊛ ‵ (flft κs.1.1.1.1.0 qs.1.1.1.1.0) ⊛ ‵ (flft κs.1.1.1.1.1.0 qs.1.1.1.1.1.0) ⊛ ‵ ftrue) ⊛ ‵ (Given.own_val e (w ∷ []))) ⊛
     some (λ (ws : Lasts (entry-ended K V S H B) u.0.0 u.0.3). ‵ (lasts (entry-ended K V S H B) u.0.0 u.0.3 ws) ⊛ (‵ (LendsNext K V S H B r e) ⊛ raw (fact 𝓤 (Named e r.ghost_name))
-    ⊛ raw (fact 𝓤 (Visits e r.now)) ⊛ raw (fact 𝓤 (Value e r.now b₁.eq)) ⊛ raw (fact 𝓤 (SamePairs e r.now)) ⊛ raw (fact 𝓤 (SameCapacity e r.now)) ⊛ raw (fact 𝓤 (SameRechained e r.now)) ⊛ raw (fact 𝓤 (SameHasher e r.now)) ⊛ raw (fact 𝓤 (SameMode e r.now)) ⊛ raw (fact 𝓤 (IsValid b₁.eq r.now)) ⊛ raw (fact 𝓤 (NoneLeft e r.now))))))) (id⊢ 𝓤 _) $
+    ⊛ raw (fact 𝓤 (Visits e r.now)) ⊛ raw (fact 𝓤 (Value e r.now b₁.eq)) ⊛ raw (fact 𝓤 (SamePairs e r.now)) ⊛ raw (fact 𝓤 (Kept e r.now)) ⊛ raw (fact 𝓤 (IsValid b₁.eq r.now)) ⊛ raw (fact 𝓤 (NoneLeft e r.now))))))) (id⊢ 𝓤 _) $
     await ! tt $ pick ! (λ e. split ! $ split ! $ split ! $ move ! (3 ∷ []) $ pick ! (λ ws'. split ! $ drop ! $ split ! $ move ! (1 ∷ []) $
-    split ! $ heard ! _ (λ name. split ! $ heard ! _ (λ visits. split ! $ heard ! _ (λ value. split ! $ heard ! _ (λ pairs. split ! $ heard ! _ (λ capacity. split ! $ heard ! _ (λ rechained. split ! $ heard ! _ (λ hasher. split ! $ heard ! _ (λ mode. split ! $ heard ! _ (λ valid. heard ! _ (λ none.
+    split ! $ heard ! _ (λ name. split ! $ heard ! _ (λ visits. split ! $ heard ! _ (λ value. split ! $ heard ! _ (λ pairs. split ! $ heard ! _ (λ keeps. split ! $ heard ! _ (λ valid. heard ! _ (λ none.
     -- [where it rests; the token of κs.0; the tokens of the parameters; the result; the token of κs.1; what follows]
     move ! (3 ∷ []) $ peeks ! Given (Is Given) (shows 𝓛 Given) e (w ∷ []) (λ it.
     let laws = entry-laws.the_row_laws (record { mir = named 0; lft = κs.0 }) (param 0 K) (param 1 V) (param 2 S) (param 3 H) b₁ b₂ b₃ b₄ (param_laws 0 K LK) (param_laws 1 V LV) (param_laws 2 S LS) (param_laws 3 H LH) in
@@ -218,8 +210,5 @@ next_spec 𝓤 𝓛 𝓜 𝓡 wired K V S H LK LV LS LH b₀ d₀ b₁ d₁ b₂
     use0 𝓛 (raw (fact 𝓤 (Visits e held.map.now))) (fact_i 𝓤 _ (emp 𝓤) (subst (Visits e) as_held visits)) $ frame ! $
     use0 𝓛 (raw (fact 𝓤 (Value e held.map.now b₁.eq))) (fact_i 𝓤 _ (emp 𝓤) (subst (λ m. Value e m b₁.eq) as_held value)) $ frame ! $
     use0 𝓛 (raw (fact 𝓤 (SamePairs e held.map.now))) (fact_i 𝓤 _ (emp 𝓤) (subst (SamePairs e) as_held pairs)) $ frame ! $
-    use0 𝓛 (raw (fact 𝓤 (SameCapacity e held.map.now))) (fact_i 𝓤 _ (emp 𝓤) (subst (SameCapacity e) as_held capacity)) $ frame ! $
-    use0 𝓛 (raw (fact 𝓤 (SameRechained e held.map.now))) (fact_i 𝓤 _ (emp 𝓤) (subst (SameRechained e) as_held rechained)) $ frame ! $
-    use0 𝓛 (raw (fact 𝓤 (SameHasher e held.map.now))) (fact_i 𝓤 _ (emp 𝓤) (subst (SameHasher e) as_held hasher)) $ frame ! $
-    use0 𝓛 (raw (fact 𝓤 (SameMode e held.map.now))) (fact_i 𝓤 _ (emp 𝓤) (subst (SameMode e) as_held mode)) $ frame ! $
-    says ! (subst (NoneLeft e) as_held none) $ by ! (fact_i 𝓤 _ _ (subst (IsValid b₁.eq) as_held valid)))))))))))))))))))))))))))
+    use0 𝓛 (raw (fact 𝓤 (Kept e held.map.now))) (fact_i 𝓤 _ (emp 𝓤) (subst (Kept e) as_held keeps)) $ frame ! $
+    says ! (subst (NoneLeft e) as_held none) $ by ! (fact_i 𝓤 _ _ (subst (IsValid b₁.eq) as_held valid))))))))))))))))))))))))
