@@ -2,7 +2,8 @@
 
 use super::calls::{check_remove, check_reserve, check_shrink, insert_all};
 use super::checks::{check_eq, given};
-use super::hashers::{BuildLastByte, BuildSame};
+use super::hashers::BuildSame;
+use super::last_byte::BuildLastByte;
 use linked_hash_map::{LinkedHashMap, Probe};
 use std::process::Abort;
 

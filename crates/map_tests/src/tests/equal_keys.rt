@@ -2,7 +2,8 @@
 
 use super::calls::{assert_sizes, check_insert};
 use super::checks::{check_eq, given};
-use super::hashers::{BuildLastByte, BuildSame};
+use super::hashers::BuildSame;
+use super::last_byte::BuildLastByte;
 use super::name::Name;
 use linked_hash_map::LinkedHashMap;
 use linked_hash_map::replay::{Answer, Command, Reply, replay};

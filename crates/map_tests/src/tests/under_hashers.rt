@@ -6,7 +6,9 @@ use super::calls::{
 };
 use super::checks::{check, check_eq, given};
 use super::counting::Counting;
-use super::hashers::{BuildFirstLetter, BuildLastByte, BuildMultiple, KEY};
+use super::hashers::BuildFirstLetter;
+use super::last_byte::BuildLastByte;
+use super::multiple::{BuildMultiple, KEY};
 use linked_hash_map::{LinkedHashMap, Probe};
 use std::alloc::Global;
 use std::cell::Cell;

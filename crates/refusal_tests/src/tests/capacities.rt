@@ -1,6 +1,6 @@
 //! Calls that change the capacity by itself.
 
-use super::checks::{check, check_eq};
+use super::checks::check_eq;
 use super::{BUILDER, Map, assert_map, full_of, insert_new, say_given, say_if_given, with_room};
 use linked_hash_map::{LinkedHashMap, NoRoom, Refused, ReserveError};
 use std::process::Abort;
@@ -37,13 +37,17 @@ fn refused_reservation_keeps_buckets_and_nodes(rt: HostRuntime) {
 
 fn reserve_twice(rt: &(impl Abort + Print), made: Result<Map, ReserveError>) {
     if let Ok(mut map) = made {
-        // The growths: 8 buckets for 2, and four nodes; then a node alone.
-        let first = reserve_four(rt, &mut map);
-        assert_map(rt, &map, &[(1, 10), (2, 20)], 6, 2);
-        let second = reserve_five(rt, &mut map);
-        assert_map(rt, &map, &[(1, 10), (2, 20)], 7, 2);
-        say_if_given(rt, first & second, 10);
+        reserve_four_and_five(rt, &mut map);
     }
+}
+
+fn reserve_four_and_five(rt: &(impl Abort + Print), map: &mut Map) {
+    // The growths: 8 buckets for 2, and four nodes; then a node alone.
+    let first = reserve_four(rt, map);
+    assert_map(rt, map, &[(1, 10), (2, 20)], 6, 2);
+    let second = reserve_five(rt, map);
+    assert_map(rt, map, &[(1, 10), (2, 20)], 7, 2);
+    say_if_given(rt, first & second, 10);
 }
 
 /// Reserves room for four pairs more, again where it is refused, and tells whether it was given at once.
@@ -94,24 +98,29 @@ fn reserve_five(rt: &impl Abort, map: &mut Map) -> bool {
 
 #[test]
 fn refused_first_reservation_leaves_nothing(rt: HostRuntime) {
-    reserve_first(&rt, LinkedHashMap::with_hasher(rt.alloc(), BUILDER));
+    let mut map = LinkedHashMap::with_hasher(rt.alloc(), BUILDER);
+    reserve_three(&rt, &mut map);
 }
 
-fn reserve_first(rt: &(impl Abort + Print), mut map: Map) {
-    // The growths: 4 buckets, the guard, and three nodes.
+/// The growths: 4 buckets, the guard, and three nodes.
+fn reserve_three(rt: &(impl Abort + Print), map: &mut Map) {
     match map.reserve(3) {
         Ok(()) => {
-            assert_map(rt, &map, &[], 3, 0);
+            assert_map(rt, map, &[], 3, 0);
             say_given(rt, 5);
         }
         Err(error) => {
             check_eq!(rt; error, ReserveError::NoRoom);
-            assert_map(rt, &map, &[], 0, 0);
-            check_eq!(rt; map.reserve(1), Ok(()));
-            check_eq!(rt; map.insert(1, 10), Ok(None));
-            assert_map(rt, &map, &[(1, 10)], 1, 0);
+            reserve_one(rt, map);
         }
     }
+}
+
+fn reserve_one(rt: &impl Abort, map: &mut Map) {
+    assert_map(rt, map, &[], 0, 0);
+    check_eq!(rt; map.reserve(1), Ok(()));
+    insert_new(rt, map, &[(1, 10)]);
+    assert_map(rt, map, &[(1, 10)], 1, 0);
 }
 
 #[test]
@@ -126,24 +135,32 @@ const FEW: [(u8, u64); 3] = [(1, 1), (2, 2), (3, 3)];
 fn shrink(rt: &(impl Abort + Print), made: Result<Map, ReserveError>) {
     if let Ok(mut map) = made {
         insert_new(rt, &mut map, &FEW);
-        // The growth: 4 buckets for 16.
-        match map.shrink_to_fit() {
-            Ok(()) => {
-                assert_map(rt, &map, &FEW, 3, 3);
-                say_given(rt, 12);
-            }
-            Err(NoRoom) => fill_unshrunk(rt, map),
+        shrink_few(rt, &mut map);
+    }
+}
+
+/// The growth: 4 buckets for 16.
+fn shrink_few(rt: &(impl Abort + Print), map: &mut Map) {
+    match map.shrink_to_fit() {
+        Ok(()) => {
+            assert_map(rt, map, &FEW, 3, 3);
+            say_given(rt, 12);
         }
+        Err(NoRoom) => fill_unshrunk(rt, map),
     }
 }
 
 /// Checks a map that was not shrunk, and fills it.
-fn fill_unshrunk(rt: &impl Abort, mut map: Map) {
-    assert_map(rt, &map, &FEW, 9, 0);
+fn fill_unshrunk(rt: &impl Abort, map: &mut Map) {
+    assert_map(rt, map, &FEW, 9, 0);
     check_eq!(rt; map.remove(&2), Some(2));
-    let more = [(4, 0), (5, 0), (6, 0), (7, 0), (8, 0), (9, 0), (10, 0)];
-    insert_new(rt, &mut map, &more);
-    check_eq!(rt; (map.get(&2), map.get(&10)), (None, Some(&0)));
+    insert_new(
+        rt,
+        map,
+        &[(4, 0), (5, 0), (6, 0), (7, 0), (8, 0), (9, 0), (10, 0)],
+    );
+    check_eq!(rt; map.get(&2), None);
+    check_eq!(rt; map.get(&10), Some(&0));
     check_eq!(rt; (map.len(), map.capacity()), (9, 9));
 }
 
@@ -155,29 +172,42 @@ fn refused_growth_is_asked_for_again_after_shrinking(rt: HostRuntime) {
 
 fn shrink_and_reserve(rt: &(impl Abort + Print), made: Result<Map, ReserveError>) {
     if let Ok(mut map) = made {
-        check_eq!(rt; map.insert(1, 10), Ok(None));
-        // What shrinking gives back is asked for again: buckets, and then buckets and two nodes.
-        if map.shrink_to_fit().is_ok() && map.reserve(2).is_ok() {
-            assert_map(rt, &map, &[(1, 10)], 3, 2);
-            empty_and_insert(rt, map);
-        }
+        insert_new(rt, &mut map, &[(1, 10)]);
+        insert_once_resized(rt, &mut map);
     }
 }
 
-fn empty_and_insert(rt: &(impl Abort + Print), mut map: Map) {
+fn insert_once_resized(rt: &(impl Abort + Print), map: &mut Map) {
+    if is_resized(map) {
+        assert_map(rt, map, &[(1, 10)], 3, 2);
+        empty(rt, map);
+        insert_second(rt, map);
+    }
+}
+
+/// What shrinking gives back is asked for again: buckets, and then buckets and two nodes. Tells whether all were given.
+fn is_resized(map: &mut Map) -> bool {
+    map.shrink_to_fit().is_ok() && map.reserve(2).is_ok()
+}
+
+/// An empty map gives back all that it has.
+fn empty(rt: &impl Abort, map: &mut Map) {
     map.clear();
-    // An empty map gives back all that it has: then buckets, the guard and a node.
     check_eq!(rt; map.shrink_to_fit(), Ok(()));
-    assert_map(rt, &map, &[], 0, 0);
+    assert_map(rt, map, &[], 0, 0);
+}
+
+/// The growths: buckets, the guard and a node.
+fn insert_second(rt: &(impl Abort + Print), map: &mut Map) {
     match map.insert(2, 20) {
         Ok(old) => {
-            check!(rt; old.is_none());
-            assert_map(rt, &map, &[(2, 20)], 1, 0);
+            check_eq!(rt; old, None);
+            assert_map(rt, map, &[(2, 20)], 1, 0);
             say_given(rt, 12);
         }
         Err(refused) => {
             check_eq!(rt; refused, Refused { key: 2, value: 20 });
-            assert_map(rt, &map, &[], 0, 0);
+            assert_map(rt, map, &[], 0, 0);
         }
     }
 }

@@ -57,9 +57,19 @@ fn fill_boxed<'a>(
         return Err(AllocError);
     };
     let boxed = Box::new(alloc, 20)?;
-    check!(rt; map.insert(key_of(rt, 1, counted, left), None).is_ok());
-    check!(rt; map.insert(key_of(rt, 2, counted, left), Some(boxed)).is_ok());
+    insert_boxed(rt, &mut map, key_of(rt, 1, counted, left), None);
+    insert_boxed(rt, &mut map, key_of(rt, 2, counted, left), Some(boxed));
     Ok(map)
+}
+
+/// Inserts a pair below the capacity.
+fn insert_boxed<'a>(
+    rt: &impl Abort,
+    map: &mut BoxedMap<'a>,
+    key: Counted<'a>,
+    value: Option<Box<u8>>,
+) {
+    check!(rt; map.insert(key, value).is_ok());
 }
 
 /// Makes a key that holds the counted value.
@@ -80,20 +90,29 @@ fn refused_clone_drops_the_clones_made_so_far(rt: HostRuntime) {
 
 fn clone_boxed(rt: &(impl Abort + Print), made: Result<Boxed<'_>, AllocError>) {
     if let Ok((counted, map)) = made {
-        // The growths: buckets, the guard and two nodes; a box, once both keys are cloned.
-        match map.clone() {
-            Ok(clone) => {
-                assert_boxed(rt, &clone);
-                check!(rt; clone == map);
-                check_eq!(rt; Rc::strong_count(&counted), 5);
-                say_given(rt, 11);
-            }
-            Err(AllocError) => check_eq!(rt; Rc::strong_count(&counted), 3),
-        }
+        clone_and_drop(rt, &counted, &map);
         assert_boxed(rt, &map);
         drop(map);
-        check_eq!(rt; Rc::strong_count(&counted), 1);
+        assert_held(rt, &counted, 1);
     }
+}
+
+/// The growths: buckets, the guard and two nodes; a box, once both keys are cloned.
+fn clone_and_drop(rt: &(impl Abort + Print), counted: &Rc<u8>, map: &BoxedMap<'_>) {
+    match map.clone() {
+        Ok(clone) => {
+            assert_boxed(rt, &clone);
+            check!(rt; clone == *map);
+            assert_held(rt, counted, 5);
+            say_given(rt, 11);
+        }
+        Err(AllocError) => assert_held(rt, counted, 3),
+    }
+}
+
+/// Checks how many hold what is counted.
+fn assert_held(rt: &impl Abort, counted: &Rc<u8>, count: usize) {
+    check_eq!(rt; Rc::strong_count(counted), count);
 }
 
 /// Checks a map's sizes, and that its first value is none and its last one boxed.
@@ -116,27 +135,37 @@ type BoxedPairs<'a> = IntoIter<Counted<'a>, Option<Box<u8>>>;
 
 fn clone_iterator(rt: &(impl Abort + Print), made: Result<Boxed<'_>, AllocError>) {
     if let Ok((counted, map)) = made {
-        let pairs = map.into_iter();
-        // The growths: the guard and two nodes; a box, once both keys are cloned.
-        match pairs.clone() {
-            Ok(copies) => {
-                check_eq!(rt; (copies.len(), Rc::strong_count(&counted)), (2, 5));
-                say_given(rt, 10);
-            }
-            Err(AllocError) => check_eq!(rt; Rc::strong_count(&counted), 3),
-        }
-        take_boxed(rt, &counted, pairs);
+        let mut pairs = map.into_iter();
+        clone_and_drop_pairs(rt, &counted, &pairs);
+        take_boxed(rt, &mut pairs);
+        clone_none(rt, &counted, &pairs);
     }
 }
 
-/// Takes both pairs out, and clones the iterator that has none left, for which no memory is asked for.
-fn take_boxed(rt: &impl Abort, counted: &Rc<u8>, mut pairs: BoxedPairs<'_>) {
-    check_eq!(rt; next_number(&mut pairs), Some(1));
-    check_eq!(rt; next_number(&mut pairs), Some(2));
-    check_eq!(rt; next_number(&mut pairs), None);
+/// The growths: the guard and two nodes; a box, once both keys are cloned.
+fn clone_and_drop_pairs(rt: &(impl Abort + Print), counted: &Rc<u8>, pairs: &BoxedPairs<'_>) {
+    match pairs.clone() {
+        Ok(copies) => {
+            check_eq!(rt; copies.len(), 2);
+            assert_held(rt, counted, 5);
+            say_given(rt, 10);
+        }
+        Err(AllocError) => assert_held(rt, counted, 3),
+    }
+}
+
+/// Takes both pairs out.
+fn take_boxed(rt: &impl Abort, pairs: &mut BoxedPairs<'_>) {
+    check_eq!(rt; next_number(pairs), Some(1));
+    check_eq!(rt; next_number(pairs), Some(2));
+    check_eq!(rt; next_number(pairs), None);
+}
+
+/// Clones the iterator that has none left, for which no memory is asked for.
+fn clone_none(rt: &impl Abort, counted: &Rc<u8>, pairs: &BoxedPairs<'_>) {
     let mut none = given!(rt; pairs.clone());
     check_eq!(rt; next_number(&mut none), None);
-    check_eq!(rt; Rc::strong_count(counted), 1);
+    assert_held(rt, counted, 1);
 }
 
 /// Takes the next pair out, drops it, and returns the number of its key.
@@ -162,11 +191,14 @@ fn drops_the_clones_made_before_one_fails(rt: HostRuntime) {
     let copy = clone_map(&rt, &map, &counted, &left);
     drop(map);
     // The hasher goes at once.
-    let pairs = copy.into_iter();
-    fail_to_clone_pairs(&rt, &pairs, &counted, &left);
-    clone_pairs(&rt, &pairs, &counted, &left);
-    drop(pairs);
-    check_eq!(rt; Rc::strong_count(&counted), 1);
+    clone_pairs_of(&rt, copy.into_iter(), &counted, &left);
+    assert_held(&rt, &counted, 1);
+}
+
+/// Clones the iterator with each clone refused in turn, and then with all given.
+fn clone_pairs_of(rt: &impl Abort, pairs: CountedPairs<'_>, counted: &Rc<u8>, left: &Cell<u64>) {
+    fail_to_clone_pairs(rt, &pairs, counted, left);
+    clone_pairs(rt, &pairs, counted, left);
 }
 
 /// Makes a map of three pairs.
@@ -177,14 +209,23 @@ fn counted_of<'a>(
     left: &'a Cell<u64>,
 ) -> CountedMap<'a> {
     let mut map = LinkedHashMap::with_hasher(alloc, key_of(rt, 0, counted, left));
-    for number in [1, 2, 3] {
-        let (key, value) = (
-            key_of(rt, number, counted, left),
-            key_of(rt, number, counted, left),
-        );
-        check!(rt; map.insert(key, value).is_ok());
-    }
+    insert_counted(rt, &mut map, 1, counted, left);
+    insert_counted(rt, &mut map, 2, counted, left);
+    insert_counted(rt, &mut map, 3, counted, left);
     map
+}
+
+/// Inserts a pair whose key and value have one number.
+fn insert_counted<'a>(
+    rt: &impl Abort,
+    map: &mut CountedMap<'a>,
+    number: u8,
+    counted: &Rc<u8>,
+    left: &'a Cell<u64>,
+) {
+    let key = key_of(rt, number, counted, left);
+    let value = key_of(rt, number, counted, left);
+    check!(rt; map.insert(key, value).is_ok());
 }
 
 /// Clones a map with each clone refused in turn. The hasher is cloned, and then three times a key and its value.
@@ -238,10 +279,22 @@ fn assert_counted(rt: &impl Abort, map: &CountedMap<'_>) {
     check_eq!(rt; (map.len(), map.capacity(), map.rechained()), (3, 3, 3));
     let mut pairs = map.iter();
     for number in [1, 2, 3] {
-        let Some((key, value)) = pairs.next() else {
-            panic!(rt; "a pair is gone");
-        };
-        check_eq!(rt; (key.number, value.number), (number, number));
-        check!(rt; map.get(key).is_some());
+        assert_pair(rt, map, pairs.next(), number);
+    }
+}
+
+/// Checks a pair whose key and value have this number.
+fn assert_pair<'a>(
+    rt: &impl Abort,
+    map: &CountedMap<'a>,
+    pair: Option<(&Counted<'a>, &Counted<'a>)>,
+    number: u8,
+) {
+    match pair {
+        Some((key, value)) => {
+            check_eq!(rt; (key.number, value.number), (number, number));
+            check!(rt; map.get(key).is_some());
+        }
+        None => panic!(rt; "a pair is gone"),
     }
 }

@@ -21,13 +21,19 @@ type CountedMap<'a> = LinkedHashMap<Counted<'a>, Counted<'a>>;
 fn insert_and_resize<'a>(rt: &impl Abort, tally: &'a Tally, mut map: CountedMap<'a>) -> bool {
     // The growths: buckets, the guard and a node; buckets and a node, twice.
     let dropped = insert_three(rt, tally, &mut map);
+    let resized = is_resized(rt, tally, &mut map, dropped);
+    dropped == 0 && resized
+}
+
+/// Makes room and gives it back, which drops nothing more. Tells whether each growth was given.
+fn is_resized(rt: &impl Abort, tally: &Tally, map: &mut CountedMap<'_>, dropped: u64) -> bool {
     // The growths: buckets and two nodes.
     let reserved = map.reserve(2).is_ok();
     check_eq!(rt; tally.dropped(), Some(dropped));
     // The growth: buckets.
     let shrunk = map.shrink_to_fit().is_ok();
     check_eq!(rt; tally.dropped(), Some(dropped));
-    dropped == 0 && reserved && shrunk
+    reserved & shrunk
 }
 
 /// Inserts three pairs, and returns the bits of the keys and values that came back.

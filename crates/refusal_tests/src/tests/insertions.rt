@@ -1,7 +1,7 @@
 //! A new pair at full capacity.
 
 use super::checks::{check, check_eq};
-use super::{BUILDER, Map, assert_map, full_of, is_given, say_given, say_if_given};
+use super::{BUILDER, Map, assert_map, full_of, insert_new, is_given, say_given, say_if_given};
 use linked_hash_map::{Entry, LinkedHashMap, Refused, ReserveError};
 use std::alloc::Global;
 use std::cell::Cell;
@@ -92,29 +92,33 @@ fn refused_insertion_leaves_the_calls_that_take_no_memory(rt: HostRuntime) {
 
 fn insert_second(rt: &(impl Abort + Print), made: Result<Map, ReserveError>) {
     if let Ok(mut map) = made {
-        // The growths: buckets and a node.
-        match map.insert(2, 20) {
-            Ok(_old) => {
-                assert_map(rt, &map, &[(1, 10), (2, 20)], 2, 1);
-                say_given(rt, 5);
-            }
-            Err(refused) => {
-                check_eq!(rt; refused, Refused { key: 2, value: 20 });
-                change_one(rt, map);
-            }
+        insert_or_change(rt, &mut map);
+    }
+}
+
+/// The growths: buckets and a node.
+fn insert_or_change(rt: &(impl Abort + Print), map: &mut Map) {
+    match map.insert(2, 20) {
+        Ok(_old) => {
+            assert_map(rt, map, &[(1, 10), (2, 20)], 2, 1);
+            say_given(rt, 5);
+        }
+        Err(refused) => {
+            check_eq!(rt; refused, Refused { key: 2, value: 20 });
+            change_one(rt, map);
         }
     }
 }
 
 /// Makes calls that take no memory on a map that has the pair (1, 10) and no room for more.
-fn change_one(rt: &impl Abort, mut map: Map) {
-    assert_map(rt, &map, &[(1, 10)], 1, 0);
+fn change_one(rt: &impl Abort, map: &mut Map) {
+    assert_map(rt, map, &[(1, 10)], 1, 0);
     check_eq!(rt; map.insert(1, 11), Ok(Some(10)));
     check_eq!(rt; map.pop_front(), Some((1, 11)));
-    check_eq!(rt; map.insert(2, 20), Ok(None));
+    insert_new(rt, map, &[(2, 20)]);
     check_eq!(rt; map.remove(&2), Some(20));
-    check_eq!(rt; map.insert(3, 30), Ok(None));
-    assert_map(rt, &map, &[(3, 30)], 1, 0);
+    insert_new(rt, map, &[(3, 30)]);
+    assert_map(rt, map, &[(3, 30)], 1, 0);
 }
 
 #[test]
@@ -167,18 +171,26 @@ fn refused_insertion_goes_in_once_there_is_room(rt: HostRuntime) {
 
 fn insert_after_a_removal(rt: &(impl Abort + Print), made: Result<Map, ReserveError>) {
     if let Ok(mut map) = made {
-        // The growths: buckets and a node.
-        match map.insert(2, 20) {
-            Ok(_old) => say_given(rt, 5),
-            Err(refused) => {
-                check_eq!(rt; refused, Refused { key: 2, value: 20 });
-                assert_map(rt, &map, &[(1, 11)], 1, 0);
-                check_eq!(rt; map.remove(&1), Some(11));
-                check_eq!(rt; map.insert(2, 20), Ok(None));
-                assert_map(rt, &map, &[(2, 20)], 1, 0);
-            }
+        insert_or_make_room(rt, &mut map);
+    }
+}
+
+/// The growths: buckets and a node.
+fn insert_or_make_room(rt: &(impl Abort + Print), map: &mut Map) {
+    match map.insert(2, 20) {
+        Ok(_old) => say_given(rt, 5),
+        Err(refused) => {
+            check_eq!(rt; refused, Refused { key: 2, value: 20 });
+            remove_and_insert(rt, map);
         }
     }
+}
+
+fn remove_and_insert(rt: &impl Abort, map: &mut Map) {
+    assert_map(rt, map, &[(1, 11)], 1, 0);
+    check_eq!(rt; map.remove(&1), Some(11));
+    insert_new(rt, map, &[(2, 20)]);
+    assert_map(rt, map, &[(2, 20)], 1, 0);
 }
 
 #[test]

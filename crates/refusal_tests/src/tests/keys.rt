@@ -5,7 +5,7 @@ ghost use Rattle.std.specs.Hash as fed;
 ghost use Rattle.std.specs.Ordering.{on};
 ghost use Rattle.std.proofs.Common.{rules};
 
-use super::hashers::LastByte;
+use super::last_byte::LastByte;
 use std::alloc::AllocError;
 use std::cell::Cell;
 use std::hash::{BuildHasher, Hash, Hasher};

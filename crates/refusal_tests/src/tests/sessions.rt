@@ -28,29 +28,30 @@ fn assert_refused(rt: &impl Abort, refused: PutRefused<&'static str>, payload: &
 
 #[test]
 fn refused_put_changes_nothing(rt: HostRuntime) {
-    put_first(&rt, Sessions::new(rt.alloc(), 10));
+    let mut table = Sessions::new(rt.alloc(), 10);
+    put_first(&rt, &mut table);
 }
 
-fn put_first(rt: &(impl Abort + Print), mut table: Table) {
+fn put_first(rt: &(impl Abort + Print), table: &mut Table) {
     match table.put(1, 4, "a") {
         Ok(_put) => put_second(rt, table),
         Err(refused) => {
             assert_refused(rt, refused, "a");
-            assert_sessions(rt, &table, &[], 0);
+            assert_sessions(rt, table, &[], 0);
         }
     }
 }
 
-fn put_second(rt: &(impl Abort + Print), mut table: Table) {
+fn put_second(rt: &(impl Abort + Print), table: &mut Table) {
     match table.put(2, 4, "b") {
         Ok(_put) => {
             // No session goes, so no memory is asked for.
-            put_again(rt, &mut table);
+            put_again(rt, table);
             put_third(rt, table);
         }
         Err(refused) => {
             assert_refused(rt, refused, "b");
-            assert_sessions(rt, &table, &[(1, 4, "a")], 4);
+            assert_sessions(rt, table, &[(1, 4, "a")], 4);
         }
     }
 }
@@ -61,10 +62,10 @@ fn put_again(rt: &impl Abort, table: &mut Table) {
 }
 
 /// The growth: the vector for the session that goes.
-fn put_third(rt: &(impl Abort + Print), mut table: Table) {
+fn put_third(rt: &(impl Abort + Print), table: &mut Table) {
     match table.put(3, 4, "d") {
         Ok(_put) => {
-            assert_sessions(rt, &table, &[(2, 4, "c"), (3, 4, "d")], 8);
+            assert_sessions(rt, table, &[(2, 4, "c"), (3, 4, "d")], 8);
             say_given(rt, 6);
         }
         Err(refused) => {
@@ -74,10 +75,14 @@ fn put_third(rt: &(impl Abort + Print), mut table: Table) {
     }
 }
 
-fn put_third_again(rt: &impl Abort, mut table: Table) {
-    assert_sessions(rt, &table, &[(1, 4, "a"), (2, 4, "c")], 8);
+fn put_third_again(rt: &impl Abort, table: &mut Table) {
+    assert_sessions(rt, table, &[(1, 4, "a"), (2, 4, "c")], 8);
     // There is memory again.
+    send_first_away(rt, table);
+    assert_sessions(rt, table, &[(2, 4, "c"), (3, 4, "e")], 8);
+}
+
+fn send_first_away(rt: &impl Abort, table: &mut Table) {
     let put = given!(rt; table.put(3, 4, "e"));
     check_eq!(rt; put.gone.as_slice(), [(1, 4, "a")].as_slice());
-    assert_sessions(rt, &table, &[(2, 4, "c"), (3, 4, "e")], 8);
 }

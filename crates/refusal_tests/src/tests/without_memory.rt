@@ -6,7 +6,7 @@
 use super::checks::{check, check_eq, given};
 use super::{BUILDER, Map, assert_map, full_of, insert_new, is_given, say_if_given, with_room};
 use linked_hash_map::replay::replay;
-use linked_hash_map::{Entry, LinkedHashMap, Mode, ReserveError};
+use linked_hash_map::{Entry, LinkedHashMap, Mode, Refused, ReserveError};
 use std::alloc::Global;
 use std::cmp::Ordering;
 use std::hash::{BuildHasher, Hash, Hasher};
@@ -26,7 +26,9 @@ fn read_all(rt: &(impl Abort + Print), made: Result<Map, ReserveError>, alloc: G
         look_up(rt, &map);
         // `get_counted`, `len`, `capacity`, `rechained` and `hasher`.
         assert_map(rt, &map, &PAIRS, 3, 0);
-        iterate(rt, &map);
+        iterate_pairs(rt, &map);
+        iterate_keys(rt, &map);
+        iterate_values(rt, &map);
         compare(rt, &map);
         hash(rt, &map);
         say_if_given(rt, is_given(alloc), 6);
@@ -37,25 +39,38 @@ fn read_all(rt: &(impl Abort + Print), made: Result<Map, ReserveError>, alloc: G
 fn look_up(rt: &impl Abort, map: &Map) {
     for (key, value) in PAIRS {
         check_eq!(rt; (map.get(&key), map.contains_key(&key)), (Some(&value), true));
-        if map.contains_key(&key) {
-            check_eq!(rt; map[&key], value);
-        }
+        index(rt, map, key, value);
     }
     check_eq!(rt; (map.get(&4), map.contains_key(&4)), (None, false));
     check_eq!(rt; (map.front(), map.back()), (Some((&1, &10)), Some((&3, &30))));
     check!(rt; !map.is_empty());
 }
 
-/// Goes over a map that has `PAIRS`, and over clones of its iterators.
-fn iterate(rt: &impl Abort, map: &Map) {
+/// Indexes a map by a key that it has.
+fn index(rt: &impl Abort, map: &Map, key: u8, value: u64) {
+    if map.contains_key(&key) {
+        check_eq!(rt; map[&key], value);
+    }
+}
+
+/// Goes over a map that has `PAIRS`, and over a clone of its iterator.
+fn iterate_pairs(rt: &impl Abort, map: &Map) {
     let mut pairs = map.iter();
     check_eq!(rt; (pairs.next(), pairs.next_back()), (Some((&1, &10)), Some((&3, &30))));
     let mut pairs = given!(rt; pairs.clone());
     check_eq!(rt; (pairs.len(), pairs.next(), pairs.next()), (1, Some((&2, &20)), None));
+}
+
+/// The same by its keys.
+fn iterate_keys(rt: &impl Abort, map: &Map) {
     let mut keys = map.keys();
     check_eq!(rt; (keys.next(), keys.next_back()), (Some(&1), Some(&3)));
     let mut keys = given!(rt; keys.clone());
     check_eq!(rt; (keys.len(), keys.next(), keys.next()), (1, Some(&2), None));
+}
+
+/// The same by its values.
+fn iterate_values(rt: &impl Abort, map: &Map) {
     let mut values = map.values();
     check_eq!(rt; (values.next(), values.next_back()), (Some(&10), Some(&30)));
     let mut values = given!(rt; values.clone());
@@ -85,32 +100,52 @@ fn refused_growth_is_not_asked_for_by_writing(rt: HostRuntime) {
 
 fn write_all(rt: &(impl Abort + Print), made: Result<Map, ReserveError>, alloc: Global) {
     if let Ok(mut map) = made {
-        // Within the capacity, and at it.
-        check_eq!(rt; (map.reserve(0), map.shrink_to_fit()), (Ok(()), Ok(())));
+        reserve_nothing(rt, &mut map);
         write_values(rt, &mut map);
+        write_all_but_first(rt, &mut map);
         insert_present(rt, &mut map);
         take_out(rt, &mut map);
         put_in(rt, &mut map);
+        drain(rt, &mut map);
         reserve_and_shrink(rt, &mut map);
         say_if_given(rt, is_given(alloc), 6);
     }
 }
 
-/// Writes into a map that has `PAIRS`, and leaves (1, 22), (2, 22) and (3, 22) but for the first, which is (1, 11).
+/// Changes the capacity of a full map within it, and at it.
+fn reserve_nothing(rt: &impl Abort, map: &mut Map) {
+    check_eq!(rt; (map.reserve(0), map.shrink_to_fit()), (Ok(()), Ok(())));
+}
+
+/// Writes each value of a map that has `PAIRS`, in three ways.
 fn write_values(rt: &impl Abort, map: &mut Map) {
+    write_by_get_mut(map);
+    write_by_index(map);
+    write_by_refresh(map);
+    assert_map(rt, map, &[(1, 11), (2, 21), (3, 31)], 3, 0);
+}
+
+fn write_by_get_mut(map: &mut Map) {
     if let Some(lent) = map.get_mut(&1) {
         *lent = 11;
     }
+}
+
+fn write_by_index(map: &mut Map) {
     if map.contains_key(&2) {
         map[&2] = 21;
     }
+}
+
+fn write_by_refresh(map: &mut Map) {
     if let Some(lent) = map.get_refresh(&3) {
         *lent = 31;
     }
-    assert_map(rt, map, &[(1, 11), (2, 21), (3, 31)], 3, 0);
-    if let Some((key, value)) = map.iter_mut().next_back() {
-        check_eq!(rt; (*key, *value), (3, 31));
-    }
+}
+
+/// Writes into a map that `write_values` left, and leaves (1, 11), (2, 22) and (3, 22).
+fn write_all_but_first(rt: &impl Abort, map: &mut Map) {
+    check_eq!(rt; map.iter_mut().next_back(), Some((&3, &mut 31)));
     for (key, value) in map.iter_mut() {
         if *key != 1 {
             *value = 22;
@@ -118,7 +153,7 @@ fn write_values(rt: &impl Abort, map: &mut Map) {
     }
 }
 
-/// Inserts the keys that a map has which `write_values` left, and leaves (2, 22), (3, 33) and (1, 12).
+/// Inserts the keys that a map has which `write_all_but_first` left, and leaves (2, 22), (3, 33) and (1, 12).
 fn insert_present(rt: &impl Abort, map: &mut Map) {
     check_eq!(rt; map.insert(3, 33), Ok(Some(22)));
     check_eq!(rt; map.insert(1, 12), Ok(Some(11)));
@@ -140,18 +175,25 @@ fn take_out(rt: &impl Abort, map: &mut Map) {
     assert_map(rt, map, &[], 3, 0);
 }
 
-/// Extends an empty map below its capacity, and drains it.
+/// Extends an empty map below its capacity.
 fn put_in(rt: &impl Abort, map: &mut Map) {
     check_eq!(rt; map.extend([(8, 1), (9, 2)]), Ok(()));
     check_eq!(rt; map.extend_refs([(&8, &3), (&4, &4)]), Ok(()));
     assert_map(rt, map, &[(9, 2), (8, 3), (4, 4)], 3, 0);
+}
+
+/// Drains a map that `put_in` left.
+fn drain(rt: &impl Abort, map: &mut Map) {
+    take_from_a_drain(rt, map);
+    assert_map(rt, map, &[], 3, 0);
+}
+
+fn take_from_a_drain(rt: &impl Abort, map: &mut Map) {
     let mut pairs = map.drain();
     check_eq!(rt;
         (pairs.len(), pairs.next(), pairs.next_back()),
         (3, Some((9, 2)), Some((4, 4)))
     );
-    drop(pairs);
-    assert_map(rt, map, &[], 3, 0);
 }
 
 /// Reserves what an empty map of capacity 3 has, and lowers its capacity to 0.
@@ -175,6 +217,7 @@ fn refused_growth_is_not_asked_for_by_entries(rt: HostRuntime) {
 fn use_entries(rt: &(impl Abort + Print), made: Result<Map, ReserveError>, alloc: Global) {
     if let Ok(mut map) = made {
         use_occupied(rt, &mut map);
+        remove_occupied(rt, &mut map);
         find_occupied(rt, &mut map);
         use_cursor(rt, &mut map);
         use_vacant(rt, &mut map);
@@ -184,7 +227,7 @@ fn use_entries(rt: &(impl Abort + Print), made: Result<Map, ReserveError>, alloc
     }
 }
 
-/// Uses each call of an occupied entry on a map that has `PAIRS`, and leaves (1, 13) and (3, 30).
+/// Uses each call of an occupied entry but `remove` on a map that has `PAIRS`, and writes the value 13.
 fn use_occupied(rt: &impl Abort, map: &mut Map) {
     if let Entry::Occupied(mut entry) = map.entry(1) {
         check_eq!(rt; (*entry.key(), *entry.get()), (1, 10));
@@ -192,16 +235,25 @@ fn use_occupied(rt: &impl Abort, map: &mut Map) {
         check_eq!(rt; entry.insert(12), 11);
         *entry.into_mut() = 13;
     }
+}
+
+/// Takes out the second pair by its entry.
+fn remove_occupied(rt: &impl Abort, map: &mut Map) {
     if let Entry::Occupied(entry) = map.entry(2) {
         check_eq!(rt; entry.remove(), 20);
     }
 }
 
+/// Checks the value that an entry lends.
+fn check_lent(rt: &impl Abort, lent: Result<&mut u64, Refused<u8, u64>>, value: u64) {
+    check_eq!(rt; lent.map(|lent| *lent), Ok(value));
+}
+
 /// Uses the calls of either kind of entry on an occupied one, and writes the value 15.
 fn find_occupied(rt: &impl Abort, map: &mut Map) {
-    check_eq!(rt; map.entry(1).or_insert(0), Ok(&mut 13));
-    check_eq!(rt; map.entry(1).or_insert_with(|| 0), Ok(&mut 13));
-    check_eq!(rt; map.entry(1).or_default(), Ok(&mut 13));
+    check_lent(rt, map.entry(1).or_insert(0), 13);
+    check_lent(rt, map.entry(1).or_insert_with(|| 0), 13);
+    check_lent(rt, map.entry(1).or_default(), 13);
     check_eq!(rt; *map.entry(1).and_modify(|value| *value = 15).key(), 1);
 }
 
@@ -221,21 +273,31 @@ fn use_cursor(rt: &impl Abort, map: &mut Map) {
 
 /// Uses the calls of either kind of entry on a vacant one, below the capacity.
 fn use_vacant(rt: &impl Abort, map: &mut Map) {
+    modify_vacant(rt, map);
+    check_removed(rt, map, 4, 40);
+    check_lent(rt, map.entry(5).or_insert_with(|| 50), 50);
+    check_removed(rt, map, 5, 50);
+    check_lent(rt, map.entry(6).or_default(), 0);
+    check_removed(rt, map, 6, 0);
+}
+
+/// Modifies nothing, and inserts.
+fn modify_vacant(rt: &impl Abort, map: &mut Map) {
     let vacant = map.entry(4).and_modify(|value| *value = 0);
     check_eq!(rt; *vacant.key(), 4);
-    check_eq!(rt; vacant.or_insert(40), Ok(&mut 40));
-    check_eq!(rt; map.remove(&4), Some(40));
-    check_eq!(rt; map.entry(5).or_insert_with(|| 50), Ok(&mut 50));
-    check_eq!(rt; map.remove(&5), Some(50));
-    check_eq!(rt; map.entry(6).or_default(), Ok(&mut 0));
-    check_eq!(rt; map.remove(&6), Some(0));
+    check_lent(rt, vacant.or_insert(40), 40);
+}
+
+/// Takes out the pair of a key, and checks its value.
+fn check_removed(rt: &impl Abort, map: &mut Map, key: u8, value: u64) {
+    check_eq!(rt; map.remove(&key), Some(value));
 }
 
 /// Inserts through a vacant entry, below the capacity.
 fn insert_vacant(rt: &impl Abort, map: &mut Map) {
     if let Entry::Vacant(entry) = map.entry(7) {
         check_eq!(rt; *entry.key(), 7);
-        check_eq!(rt; entry.insert(70), Ok(&mut 70));
+        check_lent(rt, entry.insert(70), 70);
     }
 }
 
@@ -260,31 +322,43 @@ fn make_default(rt: &impl Abort, alloc: Global) {
 /// Makes maps that are handed a hasher and hold nothing, and uses one.
 fn make_empty(rt: &impl Abort, alloc: Global) {
     let mut map: Map = LinkedHashMap::with_hasher(alloc, BUILDER);
-    check!(rt; with_room(alloc, 0).is_ok_and(|none| none == map));
-    check!(rt; map.clone().is_ok_and(|none| none == map));
-    check!(rt; replay(&mut map, Vec::new(alloc)).is_ok_and(|replies| replies.is_empty()));
-    check_eq!(rt;
-        (map.reserve(0), map.shrink_to_fit(), map.get(&1)),
-        (Ok(()), Ok(()), None)
-    );
+    copy_empty(rt, alloc, &map);
+    use_empty(rt, alloc, &mut map);
+}
+
+/// Makes two more maps like an empty one.
+fn copy_empty(rt: &impl Abort, alloc: Global, map: &Map) {
+    check!(rt; with_room(alloc, 0).is_ok_and(|none| none == *map));
+    check!(rt; map.clone().is_ok_and(|none| none == *map));
+}
+
+/// Runs no command on an empty map, and makes calls that leave it empty.
+fn use_empty(rt: &impl Abort, alloc: Global, map: &mut Map) {
+    check!(rt; replay(map, Vec::new(alloc)).is_ok_and(|replies| replies.is_empty()));
+    check_eq!(rt; (map.reserve(0), map.shrink_to_fit()), (Ok(()), Ok(())));
+    check_eq!(rt; map.get(&1), None);
     drop(map.drain());
 }
 
 fn take_apart(rt: &(impl Abort + Print), made: Result<Map, ReserveError>, alloc: Global) {
     if let Ok(map) = made {
-        let mut pairs = map.into_iter();
-        check_eq!(rt;
-            (pairs.len(), pairs.next(), pairs.next_back()),
-            (3, Some((1, 10)), Some((3, 30)))
-        );
-        check_eq!(rt;
-            (pairs.next(), pairs.next(), pairs.next_back()),
-            (Some((2, 20)), None, None)
-        );
-        check!(rt; pairs.clone().is_ok_and(|mut none| none.next().is_none()));
-        drop(pairs);
+        consume(rt, map);
         say_if_given(rt, is_given(alloc), 6);
     }
+}
+
+/// Takes all pairs out of a map that has `PAIRS`, and clones the iterator that has none left.
+fn consume(rt: &impl Abort, map: Map) {
+    let mut pairs = map.into_iter();
+    check_eq!(rt;
+        (pairs.len(), pairs.next(), pairs.next_back()),
+        (3, Some((1, 10)), Some((3, 30)))
+    );
+    check_eq!(rt;
+        (pairs.next(), pairs.next(), pairs.next_back()),
+        (Some((2, 20)), None, None)
+    );
+    check!(rt; pairs.clone().is_ok_and(|mut none| none.next().is_none()));
 }
 
 #[test]
@@ -295,14 +369,24 @@ fn refused_growth_is_not_asked_for_below_the_capacity(rt: HostRuntime) {
 
 fn fill_again(rt: &(impl Abort + Print), made: Result<Map, ReserveError>, alloc: Global) {
     if let Ok(mut map) = made {
-        insert_new(rt, &mut map, &[(1, 0), (2, 0), (3, 0)]);
-        drop(map.drain());
-        insert_new(rt, &mut map, &[(4, 0), (5, 0)]);
-        map.clear();
-        check_eq!(rt; map.insert(6, 6), Ok(None));
-        check_eq!(rt; map.get_refresh(&6).copied(), Some(6));
-        insert_new(rt, &mut map, &[(7, 7), (8, 8)]);
-        assert_map(rt, &map, &[(6, 6), (7, 7), (8, 8)], 3, 0);
+        fill_and_empty(rt, &mut map);
+        fill(rt, &mut map);
         say_if_given(rt, is_given(alloc), 6);
     }
+}
+
+/// Fills an empty map of capacity 3 and empties it, in two ways.
+fn fill_and_empty(rt: &impl Abort, map: &mut Map) {
+    insert_new(rt, map, &[(1, 0), (2, 0), (3, 0)]);
+    drop(map.drain());
+    insert_new(rt, map, &[(4, 0), (5, 0)]);
+    map.clear();
+}
+
+/// Fills an empty map of capacity 3, and refreshes on the way.
+fn fill(rt: &impl Abort, map: &mut Map) {
+    check_eq!(rt; map.insert(6, 6), Ok(None));
+    check_eq!(rt; map.get_refresh(&6).copied(), Some(6));
+    insert_new(rt, map, &[(7, 7), (8, 8)]);
+    assert_map(rt, map, &[(6, 6), (7, 7), (8, 8)], 3, 0);
 }

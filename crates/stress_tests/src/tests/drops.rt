@@ -9,6 +9,11 @@ use std::process::Abort;
 
 type CountedPair<'a> = (Counted<'a>, Counted<'a>);
 
+/// Checks which bits were dropped so far, each once.
+fn assert_dropped(rt: &impl Abort, tally: &Tally, bits: u64) {
+    check_eq!(rt; tally.dropped(), Some(bits));
+}
+
 static PAIRS: [Bits; 3] = [(1, 1, 2), (2, 4, 8), (3, 16, 32)];
 
 /// Drops a pair that was handed out. Its key and value are dropped then, and not before. Returns the bits of all that was dropped.
@@ -23,11 +28,11 @@ fn drop_pair(
         panic!(rt; "no pair");
     };
     check_eq!(rt; (key.number, value.number), (*number, *number));
-    check_eq!(rt; tally.dropped(), Some(dropped));
+    assert_dropped(rt, tally, dropped);
     drop(key);
     drop(value);
     let dropped = dropped | *key_bit | *value_bit;
-    check_eq!(rt; tally.dropped(), Some(dropped));
+    assert_dropped(rt, tally, dropped);
     dropped
 }
 
@@ -67,7 +72,7 @@ fn take_by_word<'a, P: CountedPairs<'a> + Drop>(
         dropped = drop_pair(rt, tally, dropped, pairs.take_from(back), wanted);
     }
     drop(pairs);
-    check_eq!(rt; tally.dropped(), Some(63));
+    assert_dropped(rt, tally, 63);
 }
 
 /// Takes `len` pairs of a `Drain`, from the ends that `word` says.
@@ -77,7 +82,7 @@ fn drain_by_word(rt: &impl Abort, alloc: Global, len: u32, word: u32) {
     take_by_word(rt, &tally, map.drain(), len, word);
     check_eq!(rt; (map.len(), map.capacity()), (0, 3));
     drop(map);
-    check_eq!(rt; tally.dropped(), Some(63));
+    assert_dropped(rt, &tally, 63);
 }
 
 /// Takes `len` pairs of an `IntoIter`, from the ends that `word` says.
@@ -121,44 +126,44 @@ const AFTER_POP: u64 = AFTER_ENTRY | 16 | 32;
 /// Inserts a present key. The key that is handed in is dropped at once, and the old value is handed out.
 fn insert_present<'a>(rt: &impl Abort, tally: &'a Tally, map: &mut CountedMap<'a>) {
     let old = map.insert(tally.thing(1, 64), tally.thing(7, 128));
-    check_eq!(rt; tally.dropped(), Some(64));
+    assert_dropped(rt, tally, 64);
     drop(old);
-    check_eq!(rt; tally.dropped(), Some(AFTER_INSERTION));
+    assert_dropped(rt, tally, AFTER_INSERTION);
 }
 
 /// Removes a key twice. The stored key is dropped at once, and the value is handed out.
 fn remove_twice<'a>(rt: &impl Abort, tally: &'a Tally, map: &mut CountedMap<'a>) {
     let key = tally.thing(2, 256);
     let old = map.remove(&key);
-    check_eq!(rt; tally.dropped(), Some(AFTER_INSERTION | 4));
+    assert_dropped(rt, tally, AFTER_INSERTION | 4);
     drop(old);
-    check_eq!(rt; tally.dropped(), Some(AFTER_INSERTION | 4 | 8));
+    assert_dropped(rt, tally, AFTER_INSERTION | 4 | 8);
     check!(rt; map.remove(&key).is_none());
-    check_eq!(rt; tally.dropped(), Some(AFTER_INSERTION | 4 | 8));
+    assert_dropped(rt, tally, AFTER_INSERTION | 4 | 8);
     drop(key);
 }
 
 /// Asks for the entry of a present key. It drops the key and the value that are handed in.
 fn enter_present<'a>(rt: &impl Abort, tally: &'a Tally, map: &mut CountedMap<'a>) {
     let entry = map.entry(tally.thing(3, 512));
-    check_eq!(rt; tally.dropped(), Some(AFTER_REMOVALS | 512));
+    assert_dropped(rt, tally, AFTER_REMOVALS | 512);
     check!(rt; entry.or_insert(tally.thing(8, 1024)).is_ok());
-    check_eq!(rt; tally.dropped(), Some(AFTER_ENTRY));
+    assert_dropped(rt, tally, AFTER_ENTRY);
 }
 
 /// Asks for room that is refused. It drops nothing.
 fn reserve_too_much(rt: &impl Abort, tally: &Tally, map: &mut CountedMap<'_>) {
     check_eq!(rt; map.reserve(LIMIT), Err(ReserveError::TooLarge));
     check_eq!(rt; map.reserve(LIMIT - 2), Err(ReserveError::NoRoom));
-    check_eq!(rt; tally.dropped(), Some(AFTER_ENTRY));
+    assert_dropped(rt, tally, AFTER_ENTRY);
 }
 
 /// Takes out the first pair, which is handed out.
 fn pop_first(rt: &impl Abort, tally: &Tally, map: &mut CountedMap<'_>) {
     let pair = map.pop_front();
-    check_eq!(rt; tally.dropped(), Some(AFTER_ENTRY));
+    assert_dropped(rt, tally, AFTER_ENTRY);
     drop(pair);
-    check_eq!(rt; tally.dropped(), Some(AFTER_POP));
+    assert_dropped(rt, tally, AFTER_POP);
 }
 
 #[test]
@@ -171,8 +176,8 @@ fn drops_what_each_call_lets_go_of(rt: HostRuntime) {
     reserve_too_much(&rt, &tally, &mut map);
     pop_first(&rt, &tally, &mut map);
     map.clear();
-    check_eq!(rt; tally.dropped(), Some(AFTER_POP | 1 | 128));
+    assert_dropped(&rt, &tally, AFTER_POP | 1 | 128);
     check_eq!(rt; (map.len(), map.capacity()), (0, 3));
     drop(map);
-    check_eq!(rt; tally.dropped(), Some(2047));
+    assert_dropped(&rt, &tally, 2047);
 }

@@ -2,7 +2,7 @@
 
 use super::checks::{check, check_eq, given};
 use super::counting::Counting;
-use super::hashers::{BuildMultiple, EIGHTFOLD, KEY, PARITY};
+use super::multiple::{BuildMultiple, EIGHTFOLD, KEY, PARITY};
 use linked_hash_map::{Entry, LinkedHashMap, Probe};
 use std::alloc::Global;
 use std::cell::Cell;
@@ -159,9 +159,13 @@ fn compares_one_key_in_a_bucket_of_its_own(rt: HostRuntime) {
 /// Writes the value of the first pair by a cursor, and takes the pair out.
 fn take_first_by_cursor(map: &mut CountingMap<'_>) -> Option<u64> {
     let mut cursor = map.entries();
-    let mut entry = cursor.next()?;
-    entry.insert(0);
-    Some(entry.remove())
+    match cursor.next() {
+        Some(mut entry) => {
+            entry.insert(0);
+            Some(entry.remove())
+        }
+        None => None,
+    }
 }
 
 /// Takes pairs out by the calls that are given no key, and checks that no key is compared.

@@ -1,7 +1,7 @@
 //! Long runs of commands drawn at random, beside a plain map.
 
 use super::checks::{check_eq, given};
-use super::hashers::PARITY;
+use super::multiple::PARITY;
 use super::plain_map::PlainMap;
 use linked_hash_map::replay::{Answer, Command, PairList, Reply, replay};
 use linked_hash_map::{LIMIT, LinkedHashMap, Mode};

@@ -188,7 +188,9 @@ static AFTER_A_TOUCH: [Step; 1] = [(
 
 /// Touches the session with an id, and writes its payload.
 fn write_touched(table: &mut Sessions<&'static str>, id: u64, new_payload: &'static str) {
-    let _ = table.touch(id).map(|payload| *payload = new_payload);
+    if let Some(payload) = table.touch(id) {
+        *payload = new_payload;
+    }
 }
 
 #[test]

@@ -1,5 +1,5 @@
 use Rattle.std.proofs.Common.{◌≡◌, ◌+◌, ◌*◌, ◌/◌, fold, take}
-use Rattle.refusal_tests.proofs.tests.hashers.MultipleHasher.write.Given as goal
+use Rattle.map_tests.proofs.tests.multiple.MultipleHasher.write.Given as goal
 
 -- the number of the bytes so far
 abbrev pub invariant-loop-byte : goal.invariant-loop-byte

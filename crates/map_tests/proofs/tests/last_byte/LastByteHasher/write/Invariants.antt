@@ -1,5 +1,5 @@
 use Rattle.std.proofs.Common.{◌≡◌, fold, take}
-use Rattle.map_tests.proofs.tests.hashers.LastByteHasher.write.Given as goal
+use Rattle.map_tests.proofs.tests.last_byte.LastByteHasher.write.Given as goal
 
 -- the last byte of those so far
 abbrev pub invariant-loop-byte : goal.invariant-loop-byte
