@@ -1,5 +1,5 @@
 -- What callers see of a table: a ring and its index, kept in step.
-use Rattle.std.specs.Prelude.{◌≡◌, ℕ, ◌+◌, ◌≤◌, ◌^◌, Bool, List, [], ◌∷◌, ◌++◌, length, Option}
+use Rattle.std.specs.Prelude.{◌≡◌, ℕ, ◌+◌, ◌≤◌, ◌^◌, Bool, List, ◌∷◌, ◌++◌, length, Option}
 use denote.RawPtr.{Ptr}
 use Rattle.lhm_ring.specs.RingState.{State, Held, AtHeld, change_at}
 use Rattle.lhm_ring.specs.RingAfterLoan.{revalued}

@@ -10,11 +10,10 @@ use Rattle.lhm_ring.specs.Search.{HasKey}
 use Rattle.lhm_ring.proofs.Apart.{IsFresh, same_ptr_refl}
 use Rattle.lhm_ring.proofs.Rows.{apart_head, apart_tail}
 use Rattle.lhm_ring.specs.declared.position.Position.{Position}
-use Rattle.linked_hash_map.specs.declared.map.Mode.{Mode}
-use Rattle.linked_hash_map.specs.LinkedMap.{LinkedMap}
+use Rattle.linked_hash_map.specs.LinkedMap.{LinkedMap, CursorState}
 use Rattle.linked_hash_map.specs.Cursor.{IsOutside}
 use Rattle.linked_hash_map.specs.Indexes.{IsIndex}
-use Rattle.linked_hash_map.specs.Nodes.{pairs_of, bare, before, bookmark_at, current_at, map_of, Lies, AreKept, IsKept}
+use Rattle.linked_hash_map.specs.Nodes.{pairs_of, bare, before, bookmark_at, current_at, cursor_at, Lies, AreKept, IsKept}
 use Rattle.linked_hash_map.proofs.Kept.{CutAt, cut_before, bare-change, length-bare, before-bare, pair_there}
 use Rattle.linked_hash_map.proofs.Outside.{IsElsewhere, before_held}
 
@@ -46,10 +45,10 @@ module _ {K V : Type 0} {eq : K → K → Bool} {hash : K → ℕ} {s : TableSta
   current_nodes = subst (λ z. AreKept eq hash (bare s.held) s.capacity mark n z) is kept.nodes
 
   -- where the index is outside the pairs to visit, the node is
-  pub current_elsewhere : {S : Type 0} {m : LinkedMap K V S} {hasher : S} {mode : Mode} → map_of s hasher mark n o mode ≡ m → IsOutside m.cursor.current m → IsElsewhere p s.held mark n
-  current_elsewhere {S} {m} view outside =
+  pub current_elsewhere : {S : Type 0} (m : LinkedMap K V S) → cursor_at mark n o (bare s.held) ≡ m.cursor → IsOutside m.cursor.current m → IsElsewhere p s.held mark n
+  current_elsewhere m view outside =
       subst (λ k. (k < bookmark_at mark (bare s.held)) ⊎ (bookmark_at mark (bare s.held) + n ≤ k)) (current_at-Some is s.held)
-      (subst (λ (x : LinkedMap K V S). IsOutside x.cursor.current x) (sym view) outside)
+      (subst (λ (c : CursorState). (c.current < c.bookmark) ⊎ (c.bookmark + c.unvisited ≤ c.current)) (sym view) outside)
 
 -- another pair becomes the current one, or a value is written
 module _ {K V : Type 0} {eq : K → K → Bool} {hash : K → ℕ} {s : TableState (K × V)} {mark current : Option Ptr} {n : ℕ} (kept : IsKept eq hash s mark n current) where

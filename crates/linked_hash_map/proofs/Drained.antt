@@ -9,9 +9,8 @@ use Rattle.lhm_ring.specs.Tables.{TableState}
 use Rattle.linked_hash_map.specs.Changes.{drained}
 use Rattle.linked_hash_map.specs.Cursor.{without_cursor}
 use Rattle.linked_hash_map.specs.Drains.{drain_rest, drain_name, DrainSteps, DrainStepsBack, DrainKeepsAlong}
-use Rattle.linked_hash_map.specs.declared.map.Mode.{Mode}
 use Rattle.linked_hash_map.specs.LinkedMap.{LinkedMap, nowhere}
-use Rattle.linked_hash_map.specs.Nodes.{pairs_of, map_of, IsKept, Lies, bare, bookmark_at, current_at, cursor_at}
+use Rattle.linked_hash_map.specs.Nodes.{Beside, pairs_of, map_of, IsKept, Lies, bare, bookmark_at, current_at, cursor_at}
 use Rattle.linked_hash_map.specs.declared.drain.Drain.{Drain}
 use Rattle.linked_hash_map.specs.declared.map.TheConstants.{LIMIT}
 
@@ -45,18 +44,18 @@ current_none None us lies small e = refl
 current_none (Some p) us lies small e = absurd (omega (arith, lies, small, e))
 
 -- a map with no cursor and no entry, whose table is emptied
-module _ {K V S : Type 0} {eq : K → K → Bool} {hash : K → ℕ} {s : TableState (K × V)} {mark : Option Ptr} {n : ℕ} {current : Option Ptr} (kept : IsKept eq hash s mark n current) (hasher : S) {o : Mode} (m x : LinkedMap K V S)
-    (view : map_of s hasher mark n current o ≡ x) (ends : x ≡ without_cursor m) where
-  seen : map_of s hasher mark n current o ≡ without_cursor m
+module _ {K V S : Type 0} {eq : K → K → Bool} {hash : K → ℕ} {s : TableState (K × V)} {b : Beside S} (kept : IsKept eq hash s b.mark b.unvisited b.current) (m x : LinkedMap K V S)
+    (view : map_of s b ≡ x) (ends : x ≡ without_cursor m) where
+  seen : map_of s b ≡ without_cursor m
   seen = view ∙ ends
 
-  none : n ≡ 0
+  none : b.unvisited ≡ 0
   none = ap (λ (y : LinkedMap K V S). y.cursor.unvisited) seen
 
-  no_entry : current ≡ None
-  no_entry = let within = kept.nodes.within in let limit = kept.nodes.limit in current_none current (bare s.held) kept.nodes.current_lies (omega (arith, within, limit)) (ap (λ (y : LinkedMap K V S). y.cursor.current) seen)
+  no_entry : b.current ≡ None
+  no_entry = let within = kept.nodes.within in let limit = kept.nodes.limit in current_none b.current (bare s.held) kept.nodes.current_lies (omega (arith, within, limit)) (ap (λ (y : LinkedMap K V S). y.cursor.current) seen)
 
-  pub kept_drained : IsKept {V = V} eq hash (record s { held = [] }) mark n current
+  pub kept_drained : IsKept {V = V} eq hash (record s { held = [] }) b.mark b.unvisited b.current
   unfolding IsDistinct
   kept_drained =
       let gone = kept.nodes.ended none in
@@ -68,14 +67,14 @@ module _ {K V S : Type 0} {eq : K → K → Bool} {hash : K → ℕ} {s : TableS
           limit = kept.nodes.limit;
           marked = λ _. none;
           ended = λ _. gone;
-          in_reach = subst (λ (o : Option Ptr). bookmark_at {B = K} o [] + n ≤ 0) (sym gone) (omega (arith, none));
+          in_reach = subst (λ (o : Option Ptr). bookmark_at {B = K} o [] + b.unvisited ≤ 0) (sym gone) (omega (arith, none));
           current_lies = subst (λ (o : Option Ptr). Lies {B = K} o []) (sym no_entry) tt;
         };
       }
 
-  pub view_drained : map_of (record s { held = [] }) hasher mark n current o ≡ drained m
+  pub view_drained : map_of (record s { held = [] }) b ≡ drained m
   view_drained =
-      (λ i. record (map_of {V = V} (record s { held = [] }) hasher mark n current o) { cursor = cursor_at {B = K} (kept.nodes.ended none i) n (no_entry i) [] })
+      (λ i. record (map_of {V = V} (record s { held = [] }) b) { cursor = cursor_at {B = K} (kept.nodes.ended none i) b.unvisited (no_entry i) [] })
       ∙ ap (λ (y : LinkedMap K V S). record y { pairs = []; cursor = record y.cursor { bookmark = 0; current = nowhere } }) seen
 
   pub rest_drained : (d : Drain K V) (ts : List (ℕ × (K × V))) → drain_rest d ≡ map (λ t. t.1) ts → ts ≡ triples s.held → drain_rest d ≡ m.pairs

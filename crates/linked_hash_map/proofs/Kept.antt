@@ -12,9 +12,8 @@ use Rattle.lhm_ring.specs.RingAfterLoan.{revalued, set_held_values}
 use Rattle.lhm_ring.specs.Search.{entries, HasKey, IsAbsent}
 use Rattle.lhm_ring.proofs.Apart.{IsFresh, same_ptr_eq, same_ptr_refl}
 use Rattle.lhm_ring.proofs.Rows.{apart_head, apart_tail}
-use Rattle.linked_hash_map.specs.declared.map.Mode.{Mode}
 use Rattle.linked_hash_map.specs.LinkedMap.{LinkedMap}
-use Rattle.linked_hash_map.specs.Nodes.{pairs_of, bare, bare_node, before, cursor_at, map_of, IsKept}
+use Rattle.linked_hash_map.specs.Nodes.{pairs_of, bare, bare_node, before, Beside, cursor_at, map_of, IsKept}
 use Rattle.linked_hash_map.specs.Indexes.{IsIndex, set_value_at}
 use Rattle.linked_hash_map.specs.Pairs.{find}
 use Rattle.linked_hash_map.specs.Validity.{IsValid}
@@ -98,10 +97,10 @@ module _ {K V : Type 0} {eq : K → K → Bool} {hash : K → ℕ} {s : TableSta
       }
 
 -- with other values in the same nodes, other pairs are seen, and nothing else
-pub map_of-revalued : {K V S : Type 0} (s : TableState (K × V)) (hs : List (Held (K × V))) (hasher : S) (mark : Option Ptr) (n : ℕ) (current : Option Ptr) (mode : Mode) → bare hs ≡ bare s.held → {ps : List (K × V)} → pairs_of hs ≡ ps → map_of (record s { held = hs }) hasher mark n current mode ≡ record (map_of s hasher mark n current mode) { pairs = ps }
-map_of-revalued s hs hasher mark n current mode same pairs = λ i. record (map_of s hasher mark n current mode) {
+pub map_of-revalued : {K V S : Type 0} (s : TableState (K × V)) (hs : List (Held (K × V))) (b : Beside S) → bare hs ≡ bare s.held → {ps : List (K × V)} → pairs_of hs ≡ ps → map_of (record s { held = hs }) b ≡ record (map_of s b) { pairs = ps }
+map_of-revalued s hs b same pairs = λ i. record (map_of s b) {
   pairs = pairs i;
-  cursor = cursor_at mark n current (same i);
+  cursor = cursor_at b.mark b.unvisited b.current (same i);
 }
 
 -- a list with one element in the midst

@@ -25,7 +25,6 @@ use Rattle.std.specs.declared.hash.BuildHasher as builder
 use Rattle.lhm_ring.specs.ValueLoan.{spread}
 use Rattle.lhm_ring.specs.RingState.{Held}
 use Rattle.lhm_ring.specs.RingAfterLoan.{held_values, set_held_values}
-use Rattle.lhm_ring.specs.Search.{entries}
 use Rattle.lhm_ring.specs.Tables.{TableState}
 use Rattle.lhm_ring.specs.contracts.links.Links as links
 use Rattle.lhm_ring.specs.contracts.table.Table as T-type
@@ -148,7 +147,7 @@ module _ (K₀ V₀ S₀ H₀ : RattleType) (g : eq.Ghosts K₀.Denot) (h : hash
 
         viewed : view (record i { table = after }) ≡ record dm { pairs = set_values dm.pairs vs }
         viewed =
-            map_of-revalued i.table (set_held_values hs vs) i.hasher (mark_of i.visit) (unvisited_of i.visit) (current_of i.visit) i.mode same_bare (pairs_of-set_held_values hs vs)
+            map_of-revalued i.table (set_held_values hs vs) _ same_bare (pairs_of-set_held_values hs vs)
             ∙ ap (λ (m : Seen). record m { pairs = set_values m.pairs vs }) seen
 
         still_good : good (record i { table = after })

@@ -47,6 +47,14 @@ module _ {K V : Type 0} where
   abbrev pub current_of : Visit K V → Option Ptr
   current_of visit = cond visit.active (pointer_of_some visit.current) None
 
+-- what a map has beside its table: the hasher, where a cursor and an entry stand, and the mode
+pub record Beside (S : Type 0) : Type 0 where
+  pub hasher : S
+  pub mark : Option Ptr
+  pub unvisited : ℕ
+  pub current : Option Ptr
+  pub mode : Mode
+
 module _ {K V : Type 0} where
   -- the pairs in the nodes, in order
   abbrev pub pairs_of : List (Held (K × V)) → List (K × V)
@@ -59,10 +67,12 @@ module _ {K V : Type 0} where
   abbrev pub bare : List (Held (K × V)) → List (Held K)
   bare = map bare_node
 
+  abbrev pub beside : {S : Type 0} → S → Visit K V → Mode → Beside S
+  beside hasher visit mode = record { hasher = hasher; mark = mark_of visit; unvisited = unvisited_of visit; current = current_of visit; mode = mode }
+
   -- what a contract sees of a map that keeps its pairs in this table
-  abbrev pub map_of : {S : Type 0} → TableState (K × V) → S → Option Ptr → ℕ → Option Ptr → Mode → LinkedMap K V S
-  map_of s hasher mark unvisited current mode =
-      linked_map (pairs_of s.held) s.capacity hasher (cursor_at mark unvisited current (bare s.held)) s.rechained mode
+  abbrev pub map_of : {S : Type 0} → TableState (K × V) → Beside S → LinkedMap K V S
+  map_of s b = linked_map (pairs_of s.held) s.capacity b.hasher (cursor_at b.mark b.unvisited b.current (bare s.held)) s.rechained b.mode
 
 -- no two keys are the same, each stands with its hash, they are within the capacity and that within the limit; a mark is there as
 -- long as pairs are unvisited, and these are there from it on; the pair that an entry stands for is there

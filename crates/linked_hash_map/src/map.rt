@@ -130,14 +130,14 @@ pub struct LinkedHashMap<K: Eq + Hash, V, S: BuildHasher = DefaultHashBuilder> {
 /// has still to visit.
 impl<K: Eq + Hash, V, S: BuildHasher> Model for LinkedHashMap<K, V, S> {
     ghost use Rattle.linked_hash_map.specs.LinkedMap.{LinkedMap, linked_map_code};
-    ghost use Rattle.linked_hash_map.specs.Nodes.{IsKept, map_of, mark_of, unvisited_of, current_of};
+    ghost use Rattle.linked_hash_map.specs.Nodes.{IsKept, map_of, beside, mark_of, unvisited_of, current_of};
     ghost use Rattle.linked_hash_map.specs.Hashers.{hash_by};
 
     ghost Value = { LinkedMap K V S };
 
     ghost coded = { linked_map_code K.code V.code S.code };
 
-    ghost view = { λ m. map_of m.table m.hasher (mark_of m.visit) (unvisited_of m.visit) (current_of m.visit) m.mode };
+    ghost view = { λ m. map_of m.table (beside m.hasher m.visit m.mode) };
 
     ghost invariant = { λ m. IsKept K.eq (hash_by S.Hasher.finish S.Hasher.write S.build_hasher K.hash_input m.hasher) m.table (mark_of m.visit) (unvisited_of m.visit) (current_of m.visit) };
 }

@@ -1,10 +1,5 @@
-use Rattle.std.proofs.Common.{sym, ap, ◌∙◌, subst}
 use Rattle.std.proofs.lemmas.Option.{IfSome_then}
-use Rattle.lhm_ring.specs.Index.{spots}
 use Rattle.lhm_ring.specs.Positions.{pointer_of}
-use Rattle.lhm_ring.specs.Search.{HasKey, IsAbsent, CountsSome, CountsAll}
-use Rattle.lhm_ring.specs.Buckets.{buckets}
-use Rattle.lhm_ring.specs.Tables.{TableState}
 use Rattle.lhm_ring.proofs.Tables.{HasKey-entries, IsAbsent-entries, CountsSome-entries, CountsAll-entries, OnSome_then, IfNone_then}
 use Rattle.lhm_ring.proofs.table.Table.find.Goals as goal
 

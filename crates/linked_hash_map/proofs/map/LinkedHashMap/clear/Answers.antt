@@ -5,7 +5,7 @@ use Rattle.linked_hash_map.proofs.Stretches.{stretch-nil}
 use Rattle.linked_hash_map.proofs.map.LinkedHashMap.clear.Goals as goal
 
 pub invariant_of-self : goal.invariant_of-self
-invariant_of-self g c = kept_drained c.self.invariant c.self.inside.hasher c.args.self.now c.end_visit.new.self c.self.view_is c.end_visit.ensures.ends
+invariant_of-self g c = kept_drained c.self.invariant c.args.self.now c.end_visit.new.self c.self.view_is c.end_visit.ensures.ends
 
 pub returns-clause-ends_visit : goal.returns-clause-ends_visit
 returns-clause-ends_visit g c = stretch-nil _ _ _ refl

@@ -3,7 +3,7 @@ use Rattle.lhm_ring.specs.Positions.{pointer_of}
 use Rattle.lhm_ring.specs.RingState.{change_at}
 use Rattle.lhm_ring.specs.RingAfterLoan.{revalued}
 use Rattle.linked_hash_map.specs.Indexes.{set_value_at}
-use Rattle.linked_hash_map.specs.Nodes.{pairs_of, mark_of, unvisited_of, current_of}
+use Rattle.linked_hash_map.specs.Nodes.{pairs_of}
 use Rattle.linked_hash_map.proofs.Kept.{IsValid-view, map_of-revalued, bare-change, pair_there, pairs_set}
 use Rattle.linked_hash_map.proofs.Current.{current_of-Some, current_at-Some, current_cut, IsKept-with_value}
 use Rattle.linked_hash_map.proofs.map.LinkedHashMap.current_value_mut.Goals as goal
@@ -25,7 +25,7 @@ returns g c =
     rw (← c.self.view_is) (
       (
         refl,
-        λ w. map_of-revalued m.table (change_at p (revalued w) hs) m.hasher (mark_of m.visit) (unvisited_of m.visit) (current_of m.visit) m.mode (bare-change p w hs)
+        λ w. map_of-revalued m.table (change_at p (revalued w) hs) _ (bare-change p w hs)
             (pairs_set h c.value_mut.ensures.alone w ∙ ap (λ k. set_value_at (pairs_of hs) k w) (sym index)),
       ),
       record {

@@ -1,4 +1,4 @@
-use Rattle.std.proofs.Common.{◌≤◌, Some, length, option_map, refl, fold, sym, ap, ◌∙◌, subst}
+use Rattle.std.proofs.Common.{◌≤◌, Some, option_map, refl, fold, sym, ap, ◌∙◌, subst}
 use Rattle.lhm_ring.specs.Buckets.{buckets}
 use Rattle.lhm_ring.specs.Index.{spots}
 use Rattle.lhm_ring.specs.Positions.{pointer_of}

@@ -3,7 +3,7 @@ use Rattle.lhm_ring.specs.Positions.{pointer_of}
 use Rattle.lhm_ring.specs.Search.{HasKey, IsAbsent}
 use Rattle.lhm_ring.specs.RingState.{change_at}
 use Rattle.lhm_ring.specs.RingAfterLoan.{revalued}
-use Rattle.linked_hash_map.specs.Nodes.{mark_of, unvisited_of, current_of}
+use Rattle.linked_hash_map.specs.Nodes.{beside}
 use Rattle.linked_hash_map.specs.Hashers.{hash_by}
 use Rattle.linked_hash_map.proofs.Kept.{IsValid-view, of-Some, of-None, index_of-key, pair_there, node, front, back, pairs_set, map_of-revalued, bare-change, distinct_keys, absent_key}
 use Rattle.linked_hash_map.proofs.Current.{IsKept-with_value}
@@ -22,7 +22,7 @@ returns-in-Some g c =
     rw (← c.self.view_is) (
       (λ i. inl (
         c.value_mut.result.ghost_name,
-        λ w. map_of-revalued m.table (change_at at (revalued w) m.table.held) m.hasher (mark_of m.visit) (unvisited_of m.visit) (current_of m.visit) m.mode (bare-change at w m.table.held)
+        λ w. map_of-revalued m.table (change_at at (revalued w) m.table.held) (beside m.hasher m.visit m.mode) (bare-change at w m.table.held)
             (pairs_set h.held c.value_mut.ensures.alone w ∙ sym (set_value-index g.met.K.Eq.laws distinct (index_of-key h) w)) i,
       )),
       record {

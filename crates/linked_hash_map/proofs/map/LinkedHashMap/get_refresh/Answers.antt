@@ -1,7 +1,7 @@
-use Rattle.std.proofs.Common.{None, option_map, fold, refl, inl, ap, sym, ◌∙◌}
+use Rattle.std.proofs.Common.{None, option_map, fold, refl, inl, ap, sym}
 use Rattle.lhm_ring.specs.Positions.{pointer_of}
 use Rattle.lhm_ring.specs.Search.{HasKey, IsAbsent}
-use Rattle.linked_hash_map.specs.Nodes.{map_of}
+use Rattle.linked_hash_map.specs.Nodes.{map_of, beside}
 use Rattle.linked_hash_map.specs.Hashers.{hash_by}
 use Rattle.linked_hash_map.proofs.Kept.{IsValid-view, of-Some, of-None, absent_key, distinct_keys}
 use Rattle.linked_hash_map.proofs.PutPair.{held-touched, pairs-touched, value-touched, IsKept-touched}
@@ -24,7 +24,7 @@ returns-in-Some g c =
     rw (← c.self.view_is) (
       (λ i. inl (
         c.value_mut.result.ghost_name,
-        λ w. record (map_of m.table m.hasher None 0 None m.mode) {
+        λ w. record (map_of m.table (record (beside m.hasher m.visit m.mode) { mark = None; unvisited = 0; current = None })) {
           pairs = pairs-touched g.met.K.Eq.laws has distinct moved.last moved.apart c.value_mut.ensures.alone w i;
           capacity = moved.capacity i;
           rechained = moved.rechained i;

@@ -4,7 +4,7 @@ use Rattle.lhm_ring.specs.RingState.{IsHeld, change_at}
 use Rattle.lhm_ring.specs.RingAfterLoan.{revalued}
 use Rattle.lhm_ring.proofs.Ends.{last_node}
 use Rattle.linked_hash_map.specs.Indexes.{set_value_at}
-use Rattle.linked_hash_map.specs.Nodes.{pairs_of, mark_of, unvisited_of, current_of}
+use Rattle.linked_hash_map.specs.Nodes.{pairs_of}
 use Rattle.linked_hash_map.proofs.Current.{IsKept-with_value}
 use Rattle.linked_hash_map.proofs.FirstAndLast.{last-pairs}
 use Rattle.linked_hash_map.proofs.Kept.{IsValid-view, map_of-revalued, bare-change, length-pairs_of, pairs_set}
@@ -32,7 +32,7 @@ returns g c =
     rw (← c.self.view_is) (
       (
         refl,
-        λ w. map_of-revalued m.table (change_at at (revalued w) m.table.held) m.hasher (mark_of m.visit) (unvisited_of m.visit) (current_of m.visit) m.mode (bare-change at w m.table.held)
+        λ w. map_of-revalued m.table (change_at at (revalued w) m.table.held) _ (bare-change at w m.table.held)
             (pairs_set held c.value_mut.ensures.alone w ∙ ap (λ n. set_value_at (pairs_of m.table.held) n w) index),
       ),
       record {

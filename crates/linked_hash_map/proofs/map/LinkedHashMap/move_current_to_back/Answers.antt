@@ -20,7 +20,7 @@ invariant_of-self g c =
     record {
       nodes = subst (λ o. AreKept g.K.PartialEq.eq hash (bare c.move_to_back.new.self.held) c.move_to_back.new.self.capacity (mark_of m.visit) (unvisited_of m.visit) o) (sym is)
           (subst (λ k. AreKept g.K.PartialEq.eq hash (bare c.move_to_back.new.self.held) k (mark_of m.visit) (unvisited_of m.visit) (Some (pointer_of c.unwrap-at.result))) (sym moved.capacity)
-          (AreKept-moved m.table.held c.move_to_back.new.self.held moved.last (current_lies kept is) g.met.K.Eq.laws (current_nodes kept is) (current_elsewhere kept is c.self.view_is c.requires.outside)));
+          (AreKept-moved m.table.held c.move_to_back.new.self.held moved.last (current_lies kept is) g.met.K.Eq.laws (current_nodes kept is) (current_elsewhere kept is c.args.self.now (ap (λ m. m.cursor) c.self.view_is) c.requires.outside)));
     }
 
 pub returns-clause-pairs : goal.returns-clause-pairs
@@ -47,7 +47,7 @@ returns-clause-to_visit g c =
     let m = c.self.inside in
     let kept = c.self.invariant in
     let is = current_of-Some c.current.ensures c.unwrap-at.ensures in
-    rw (← c.self.view_is) (to_visit-moved m.table.held c.move_to_back.new.self.held c.move_to_back.ensures.last (current_lies kept is) g.met.K.Eq.laws (current_nodes kept is) (current_elsewhere kept is c.self.view_is c.requires.outside))
+    rw (← c.self.view_is) (to_visit-moved m.table.held c.move_to_back.new.self.held c.move_to_back.ensures.last (current_lies kept is) g.met.K.Eq.laws (current_nodes kept is) (current_elsewhere kept is c.args.self.now (ap (λ m. m.cursor) c.self.view_is) c.requires.outside))
 
 pub returns-clause-outside : goal.returns-clause-outside
 returns-clause-outside g c =
@@ -55,7 +55,7 @@ returns-clause-outside g c =
     let kept = c.self.invariant in
     let is = current_of-Some c.current.ensures c.unwrap-at.ensures in
     inr (subst (λ k. bookmark_at (mark_of m.visit) (bare c.move_to_back.new.self.held) + unvisited_of m.visit ≤ k) (sym (current_at-Some is c.move_to_back.new.self.held))
-    (behind-moved m.table.held c.move_to_back.new.self.held c.move_to_back.ensures.last (current_lies kept is) g.met.K.Eq.laws (current_nodes kept is) (current_elsewhere kept is c.self.view_is c.requires.outside) c.move_to_back.ensures.apart))
+    (behind-moved m.table.held c.move_to_back.new.self.held c.move_to_back.ensures.last (current_lies kept is) g.met.K.Eq.laws (current_nodes kept is) (current_elsewhere kept is c.args.self.now (ap (λ m. m.cursor) c.self.view_is) c.requires.outside) c.move_to_back.ensures.apart))
 
 pub returns-clause-valid : goal.returns-clause-valid
 returns-clause-valid g c = rw (← c.self.view_is) (IsValid-view c.self.invariant refl refl)

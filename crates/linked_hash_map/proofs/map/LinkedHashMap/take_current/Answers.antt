@@ -13,7 +13,7 @@ pub invariant_of-self : goal.invariant_of-self
 invariant_of-self g c =
     let m = c.self.inside in
     let removed = c.remove_at.ensures in
-    let elsewhere = current_elsewhere c.self.invariant (current_of-Some c.current.ensures c.unwrap-at.ensures) c.self.view_is c.requires.outside in
+    let elsewhere = current_elsewhere c.self.invariant (current_of-Some c.current.ensures c.unwrap-at.ensures) c.args.self.now (ap (λ m. m.cursor) c.self.view_is) c.requires.outside in
     IsKept-left (
     record {
       nodes = subst (λ k. AreKept g.K.PartialEq.eq (hash_by g.S.Hasher.Hasher.finish g.S.Hasher.Hasher.write g.S.BuildHasher.build_hasher g.K.Hash.hash_input m.hasher) (bare c.remove_at.new.self.held) k (mark_of m.visit) (unvisited_of m.visit) None)
@@ -41,7 +41,7 @@ returns-clause-pairs g c =
 pub returns-clause-to_visit : goal.returns-clause-to_visit
 returns-clause-to_visit g c =
     let m = c.self.inside in
-    let elsewhere = current_elsewhere c.self.invariant (current_of-Some c.current.ensures c.unwrap-at.ensures) c.self.view_is c.requires.outside in
+    let elsewhere = current_elsewhere c.self.invariant (current_of-Some c.current.ensures c.unwrap-at.ensures) c.args.self.now (ap (λ m. m.cursor) c.self.view_is) c.requires.outside in
     rw (← c.self.view_is) (to_visit-removed m.table.held c.remove_at.new.self.held c.remove_at.ensures.others (current_lies c.self.invariant (current_of-Some c.current.ensures c.unwrap-at.ensures)) (mark_of m.visit) (unvisited_of m.visit) elsewhere c.self.invariant.nodes.marked)
 
 pub returns-clause-valid : goal.returns-clause-valid

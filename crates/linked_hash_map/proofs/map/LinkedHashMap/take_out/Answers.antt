@@ -2,7 +2,7 @@ use Rattle.std.proofs.Common.{◌≡◌, take, drop, None, option_map, refl, sym
 use Rattle.lhm_ring.specs.Tables.{TableState}
 use Rattle.linked_hash_map.specs.LinkedMap.{LinkedMap}
 use Rattle.std.specs.Map.{keys_of}
-use Rattle.linked_hash_map.specs.Nodes.{pairs_of, bare, bookmark_at, map_of, mark_of, unvisited_of, current_of}
+use Rattle.linked_hash_map.specs.Nodes.{pairs_of, bare, bookmark_at, map_of, beside, mark_of, unvisited_of}
 use Rattle.linked_hash_map.specs.Pairs.{find}
 use Rattle.linked_hash_map.specs.Validity.{IsValid}
 use Rattle.linked_hash_map.specs.Hashers.{hash_by}
@@ -44,7 +44,7 @@ returns-in_err-pair-clause-valid g c = rw (← c.self.view_is) (IsValid-view c.s
 pub returns-in_err-pair-clause-stays_valid : goal.returns-in_err-pair-clause-stays_valid
 returns-in_err-pair-clause-stays_valid g c =
     let m = c.self.inside in
-    subst (λ (s : TableState _). IsValid g.K.PartialEq.eq (map_of s m.hasher (mark_of m.visit) (unvisited_of m.visit) (current_of m.visit) m.mode))
+    subst (λ (s : TableState _). IsValid g.K.PartialEq.eq (map_of s (beside m.hasher m.visit m.mode)))
     (sym c.in_err-pair.ensures.unchanged) (IsValid-view c.self.invariant refl refl)
 
 pub invariant_of-self-2 : goal.invariant_of-self-2
