@@ -36,6 +36,7 @@ CALLS = (
     ("eq", 1, ""),
     ("cmp", 1, ""),
     ("hash", 1, ""),
+    ("new", 1, "value"),
 )
 
 # Those whose answer has every pair.
@@ -51,6 +52,7 @@ RARE_CALLS = (
     ("clear", 2, ""),
     ("drain", 4, "steps forget"),
     ("into_iter", 3, "steps steps"),
+    ("into_iter_forget", 1, "steps"),
     ("default", 1, ""),
     ("with_hasher", 2, "hasher"),
     ("with_capacity", 2, "hasher value"),
@@ -64,11 +66,11 @@ RARE_CALLS = (
 class Drawing:
     """Draws runs over some number of keys."""
 
-    def __init__(self, rng, keys):
+    def __init__(self, rng, keys, rare=None):
         self.rng = rng
         self.keys = keys
         self.calls = CALLS if keys > 100 else CALLS + LONG_CALLS
-        self.rare = min(0.06, 3 / keys)
+        self.rare = min(0.06, 3 / keys) if rare is None else rare
 
     def key(self):
         number = self.rng.randrange(self.keys)
@@ -104,7 +106,7 @@ class Drawing:
     def run(self, calls):
         """Draws a run of so many calls, on maps that are new at its start."""
         first = [f"with_hasher {name} {self.word('hasher')}" for name in "ab"]
-        if self.keys > 100:
+        if self.keys > 3:
             pairs = (f"{self.key()} {self.rng.randrange(100)}" for _ in range(self.keys))
             first.append("extend a " + " ".join(pairs))
         return first + [self.call() for _ in range(calls - len(first))]

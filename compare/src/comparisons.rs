@@ -1,6 +1,7 @@
 //! Calls that compare two maps, hash one or show it.
 
 use crate::hasher::{BuildKeyHasher, Choice};
+use crate::line::Line;
 use crate::Map;
 use linked_hash_map::LinkedHashMap;
 use std::fmt::{Error, Write};
@@ -16,6 +17,15 @@ fn plain(map: &Map) -> Plain {
         plain.insert(key.number(), *value);
     }
     plain
+}
+
+/// Makes two maps with the default hasher, puts the pair of a number into each, and shows them.
+fn show_new(number: usize, text: &mut String) -> std::fmt::Result {
+    let mut map = Plain::new();
+    let mut roomy = Plain::with_capacity(number);
+    map.insert(1, number as u64);
+    roomy.insert(1, number as u64);
+    write!(text, "{map:?} {roomy:?} {} ", map == roomy)
 }
 
 /// Appends which of two maps is less.
@@ -34,10 +44,17 @@ fn number_of(map: &Map) -> u64 {
 }
 
 /// Runs the call of this name, and tells whether there is one.
-pub fn run(name: &str, map: &Map, other: &Map, text: &mut String) -> Result<bool, Error> {
+pub fn run(
+    name: &str,
+    line: &mut Line<'_>,
+    map: &Map,
+    other: &Map,
+    text: &mut String,
+) -> Result<bool, Error> {
     match name {
         "eq" => write!(text, "{} {} ", *map == *other, *map != *other)?,
         "cmp" => compare(&plain(map), &plain(other), text)?,
+        "new" => show_new(line.small_number(), text)?,
         "hash" => write!(text, "{} ", number_of(map))?,
         "debug" => write!(text, "{map:?} ")?,
         "debug_pretty" => write!(text, "{:?} ", format!("{map:#?}"))?,

@@ -36,7 +36,7 @@ fn run_call(
         || making::run(name, line, map, other, text)?
         || entries::run(name, line, map, text)?
         || walks::run(name, line, map, text)?
-        || comparisons::run(name, map, other, text)?;
+        || comparisons::run(name, line, map, other, text)?;
     if !known {
         write!(text, "unknown ")?;
     }

@@ -48,12 +48,21 @@ fn walk_and_write(map: &mut Map, steps: &str, value: u64, text: &mut String) -> 
         };
         match pair {
             Some((key, lent)) => {
-                write!(text, "{key:?}={} {} ", *lent, pairs.len())?;
+                write!(text, "{key:?}={} ", *lent)?;
                 *lent = value;
             }
-            None => write!(text, "end {} ", pairs.len())?,
+            None => write!(text, "end ")?,
         }
+        write!(text, "{:?} {} ", pairs.size_hint(), pairs.len())?;
     }
+    Ok(())
+}
+
+/// Walks along a map that is taken, and forgets what is left.
+fn walk_and_forget(map: Map, steps: &str, text: &mut String) -> Result {
+    let mut pairs = map.into_iter();
+    walk(&mut pairs, steps, text)?;
+    mem::forget(pairs);
     Ok(())
 }
 
@@ -80,6 +89,7 @@ pub fn run(
         "values" => walk_and_clone(map.values(), line, text)?,
         "iter_mut" => walk_and_write(map, line.word(), line.number(), text)?,
         "into_iter" => walk_and_clone(mem::take(map).into_iter(), line, text)?,
+        "into_iter_forget" => walk_and_forget(mem::take(map), line.word(), text)?,
         "drain" => drain(map, line, text)?,
         "loop" => {
             for (key, value) in &*map {

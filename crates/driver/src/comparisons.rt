@@ -2,6 +2,7 @@
 
 use super::Map;
 use super::hasher::{BuildKeyHasher, Choice};
+use super::line::Line;
 use super::stop::Stop;
 use linked_hash_map::LinkedHashMap;
 use std::alloc::{AllocError, Global};
@@ -17,6 +18,15 @@ fn plain(alloc: Global, map: &Map) -> Result<Plain, Stop> {
         plain.insert(key.number(), *value)?;
     }
     Ok(plain)
+}
+
+/// Makes two maps with the default hasher, puts the pair of a number into each, and shows them.
+fn show_new(alloc: Global, number: usize, text: &mut String) -> Result<(), Stop> {
+    let mut map = Plain::new(alloc);
+    let mut roomy = Plain::with_capacity(alloc, number)?;
+    map.insert(1, number as u64)?;
+    roomy.insert(1, number as u64)?;
+    Ok(write!(text, "{map:?} {roomy:?} {} ", map == roomy)?)
 }
 
 /// Appends which of two maps is less.
@@ -36,6 +46,7 @@ fn number_of(map: &Map) -> u64 {
 pub fn run(
     alloc: Global,
     name: &str,
+    line: &mut Line<'_>,
     map: &Map,
     other: &Map,
     text: &mut String,
@@ -43,6 +54,7 @@ pub fn run(
     match name {
         "eq" => write!(text, "{} {} ", *map == *other, *map != *other)?,
         "cmp" => compare(&plain(alloc, map)?, &plain(alloc, other)?, text)?,
+        "new" => show_new(alloc, line.small_number(), text)?,
         "hash" => write!(text, "{} ", number_of(map))?,
         "debug" => write!(text, "{map:?} ")?,
         "debug_pretty" => {

@@ -44,7 +44,7 @@ fn run_call(
         || making::run(alloc, name, line, map, other, text)?
         || entries::run(name, line, map, text)?
         || walks::run(alloc, name, line, map, text)?
-        || comparisons::run(alloc, name, map, other, text)?;
+        || comparisons::run(alloc, name, line, map, other, text)?;
     if !known {
         write!(text, "unknown ")?;
     }

@@ -60,11 +60,12 @@ fn walk_and_write(
         };
         match pair {
             Some((key, lent)) => {
-                write!(text, "{key:?}={} {} ", *lent, pairs.len())?;
+                write!(text, "{key:?}={} ", *lent)?;
                 *lent = value;
             }
-            None => write!(text, "end {} ", pairs.len())?,
+            None => write!(text, "end ")?,
         }
+        write!(text, "{:?} {} ", pairs.size_hint(), pairs.len())?;
     }
     Ok(())
 }
@@ -99,6 +100,14 @@ fn drain(map: &mut Map, line: &mut Line<'_>, text: &mut String) -> Result<(), Al
     Ok(())
 }
 
+/// Walks along a map that is taken, and forgets what is left.
+fn walk_and_forget(map: Map, steps: &str, text: &mut String) -> Result<(), AllocError> {
+    let mut pairs = map.into_iter();
+    walk(&mut pairs, steps, text)?;
+    mem::forget(pairs);
+    Ok(())
+}
+
 /// Runs the call of this name, and tells whether there is one.
 pub fn run(
     alloc: Global,
@@ -113,6 +122,7 @@ pub fn run(
         "values" => walk_and_clone(map.values(), line, text)?,
         "iter_mut" => walk_and_write(map, line.word(), line.number(), text)?,
         "into_iter" => walk_and_clone(take(alloc, map).into_iter(), line, text)?,
+        "into_iter_forget" => walk_and_forget(take(alloc, map), line.word(), text)?,
         "drain" => drain(map, line, text)?,
         "loop" => show(map, text)?,
         "loop_mut" => add(map, line.number()),
