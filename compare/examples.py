@@ -1,4 +1,4 @@
-"""The examples of the original's documentation, as calls."""
+"""The examples of the original's documentation and of this repository's, as calls."""
 
 # New maps for an example.
 FIRST = ["with_hasher a spread", "with_hasher b spread"]
@@ -32,4 +32,21 @@ EXAMPLES = {
     "keys": ["insert a a 10", "insert a c 30", "insert a b 20", "keys a ffff f"],
     "values": ["insert a a 10", "insert a c 30", "insert a b 20", "values a ffff f"],
     "key of an entry": ["entry_key a hello", "insert a foo 1", "entry_key a foo"],
+    "README.md": ["insert a 2 20", "insert a 1 10", "insert a 2 21", "iter a fff f"],
+    "the library": [
+        "insert a 7 1", "insert a 5 2", "insert a 7 3", "front a", "get a 5", "back a",
+        "get_refresh a 5 2", "back a",
+    ],
+    "an entry of either kind": [
+        "insert a x 1", "entry a x i 2", "entry a y m 3", "entry a x r 0", "len a",
+    ],
+    "comparison": [
+        "insert a x 1", "insert a y 2", "insert b y 2", "insert b x 1", "eq a", "cmp a",
+        "insert b y 2", "eq a", "cmp a", "hash a", "hash b",
+    ],
+    "extension and collection": [
+        "extend a x 1 y 2 x 3", "front a", "back a", "from_iter b x 1 y 2", "extend_refs b",
+    ],
+    "draining": ["insert a x 1", "insert a y 2", "drain a f", "len a"],
+    "debug text": ["insert a x 1", "debug a", "debug_pretty a", "clone b", "debug b"],
 }

@@ -1,7 +1,11 @@
 //! Runs calls of the map's public API from standard input to standard output, one a line.
 //!
-//! `compare/README.md` says what the lines are, and compares the answers with those of the Rust crate
-//! linked-hash-map 0.5.6. What is proved of this program is that it is safe and ends.
+//! `compare/run` compares the answers with those of the Rust crate linked-hash-map 0.5.6, and
+//! `compare/run --help` says what the lines are. What is proved of this program is that it is safe
+//! and ends.
+//!
+//! The exit status is 0; 3 for want of memory; 4 where the input is no text, or reading or writing
+//! fails.
 #![tactic(auto)]
 
 mod changes;
