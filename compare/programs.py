@@ -25,7 +25,7 @@ class Original:
 
     def __init__(self, registry=REGISTRY):
         if not shutil.which("cargo") or not any(registry.glob("linked-hash-map-0.5.6*")):
-            stop("to install what is missing: apt-get install cargo rustc librust-linked-hash-map-dev")
+            stop("first apt-get install cargo rustc librust-linked-hash-map-dev")
         target = COMPARE / "target"
         command = ["cargo", "build", "--quiet", "--release", "--offline"]
         if registry != REGISTRY:
@@ -33,6 +33,8 @@ class Original:
             target = target / "other"
             shutil.rmtree(target, ignore_errors=True)
             command += ["--config", f'source.debian.directory="{registry}"']
+        # Another version of cargo may have written it.
+        (COMPARE / "Cargo.lock").unlink(missing_ok=True)
         built = subprocess.run(
             command + ["--target-dir", str(target)],
             cwd=COMPARE, env={**os.environ, "RUSTFLAGS": "--cap-lints allow"},
