@@ -19,13 +19,11 @@ fn plain(map: &Map) -> Plain {
     plain
 }
 
-/// Makes two maps with the default hasher, puts the pair of a number into each, and shows them.
-fn show_new(number: usize, text: &mut String) -> std::fmt::Result {
+/// Makes a map with the default hasher, puts in the pair of a number, and shows it.
+fn show_new(number: u64, text: &mut String) -> std::fmt::Result {
     let mut map = Plain::new();
-    let mut roomy = Plain::with_capacity(number);
-    map.insert(1, number as u64);
-    roomy.insert(1, number as u64);
-    write!(text, "{map:?} {roomy:?} {} ", map == roomy)
+    map.insert(number, number);
+    write!(text, "{map:?} ")
 }
 
 /// Appends which of two maps is less.
@@ -54,7 +52,7 @@ pub fn run(
     match name {
         "eq" => write!(text, "{} {} ", *map == *other, *map != *other)?,
         "cmp" => compare(&plain(map), &plain(other), text)?,
-        "new" => show_new(line.small_number(), text)?,
+        "new" => show_new(line.number(), text)?,
         "hash" => write!(text, "{} ", number_of(map))?,
         "debug" => write!(text, "{map:?} ")?,
         "debug_pretty" => write!(text, "{:?} ", format!("{map:#?}"))?,

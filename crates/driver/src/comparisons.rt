@@ -20,13 +20,11 @@ fn plain(alloc: Global, map: &Map) -> Result<Plain, Stop> {
     Ok(plain)
 }
 
-/// Makes two maps with the default hasher, puts the pair of a number into each, and shows them.
-fn show_new(alloc: Global, number: usize, text: &mut String) -> Result<(), Stop> {
+/// Makes a map with the default hasher, puts in the pair of a number, and shows it.
+fn show_new(alloc: Global, number: u64, text: &mut String) -> Result<(), Stop> {
     let mut map = Plain::new(alloc);
-    let mut roomy = Plain::with_capacity(alloc, number)?;
-    map.insert(1, number as u64)?;
-    roomy.insert(1, number as u64)?;
-    Ok(write!(text, "{map:?} {roomy:?} {} ", map == roomy)?)
+    map.insert(number, number)?;
+    Ok(write!(text, "{map:?} ")?)
 }
 
 /// Appends which of two maps is less.
@@ -54,7 +52,7 @@ pub fn run(
     match name {
         "eq" => write!(text, "{} {} ", *map == *other, *map != *other)?,
         "cmp" => compare(&plain(alloc, map)?, &plain(alloc, other)?, text)?,
-        "new" => show_new(alloc, line.small_number(), text)?,
+        "new" => show_new(alloc, line.number(), text)?,
         "hash" => write!(text, "{} ", number_of(map))?,
         "debug" => write!(text, "{map:?} ")?,
         "debug_pretty" => {

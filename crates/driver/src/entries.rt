@@ -5,7 +5,7 @@ use super::hasher::BuildKeyHasher;
 use super::key::Key;
 use super::line::Line;
 use super::stop::Stop;
-use linked_hash_map::{Entry, OccupiedEntry};
+use linked_hash_map::{Entries, Entry, OccupiedEntry};
 
 type Occupied<'m> = OccupiedEntry<'m, Key, u64, BuildKeyHasher>;
 
@@ -89,22 +89,31 @@ fn first_byte(word: &str) -> u8 {
     }
 }
 
+/// Makes an edit by the next entry of a cursor.
+fn visit_next(
+    entries: &mut Entries<'_, Key, u64, BuildKeyHasher>,
+    edit: u8,
+    value: u64,
+    text: &mut String,
+) -> Result<(), Stop> {
+    let Some(mut entry) = entries.next() else {
+        return Ok(write!(text, "end ")?);
+    };
+    edit_in_place(&mut entry, edit, value, text)?;
+    match edit {
+        b'r' => write!(text, "{} ", entry.remove())?,
+        b'm' => *entry.into_mut() = value,
+        _ => {}
+    }
+    Ok(())
+}
+
 /// Makes an edit by each entry of a cursor, up to the end of the word.
 fn visit(map: &mut Map, edits: &str, value: u64, text: &mut String) -> Result<(), Stop> {
     let mut entries = map.entries();
     for edit in edits.bytes() {
         write!(text, "{} ", entries.remaining())?;
-        match entries.next() {
-            Some(mut entry) => {
-                edit_in_place(&mut entry, edit, value, text)?;
-                match edit {
-                    b'r' => write!(text, "{} ", entry.remove())?,
-                    b'm' => *entry.into_mut() = value,
-                    _ => {}
-                }
-            }
-            None => write!(text, "end ")?,
-        }
+        visit_next(&mut entries, edit, value, text)?;
     }
     Ok(())
 }
