@@ -11,8 +11,8 @@ type Occupied<'m> = OccupiedEntry<'m, Key, u64, BuildKeyHasher>;
 
 type Vacant<'m> = VacantEntry<'m, Key, u64, BuildKeyHasher>;
 
-/// Makes one edit by an occupied entry: it writes the value, inserts, inserts twice, removes,
-/// writes what the entry turns into, or only looks.
+/// Shows an entry, and writes the value at `w`, inserts it at `i`, inserts it and then 0 at `t`,
+/// removes the pair at `r`, or writes what the entry turns into at `m`.
 fn edit_occupied(mut entry: Occupied<'_>, edit: u8, value: u64, text: &mut String) -> Result {
     write!(text, "{:?}={} ", entry.key(), entry.get())?;
     match edit {
@@ -26,7 +26,7 @@ fn edit_occupied(mut entry: Occupied<'_>, edit: u8, value: u64, text: &mut Strin
     Ok(())
 }
 
-/// Inserts by a vacant entry and writes what was inserted, or only looks.
+/// Inserts at `i`, or inserts 0 that is then written at `m`.
 fn edit_vacant(entry: Vacant<'_>, edit: u8, value: u64, text: &mut String) -> Result {
     write!(text, "vacant {:?} ", entry.key())?;
     match edit {

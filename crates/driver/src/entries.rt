@@ -9,7 +9,7 @@ use linked_hash_map::{Entries, Entry, OccupiedEntry};
 
 type Occupied<'m> = OccupiedEntry<'m, Key, u64, BuildKeyHasher>;
 
-/// Writes the value, inserts, or inserts twice, and keeps the entry.
+/// Shows an entry, and writes the value at `w`, inserts it at `i`, or inserts it and then 0 at `t`.
 fn edit_in_place(
     entry: &mut Occupied<'_>,
     edit: u8,
@@ -26,7 +26,8 @@ fn edit_in_place(
     Ok(())
 }
 
-/// Makes an edit by the entry of a key that is present.
+/// Makes an edit by the entry of a key that is present: one in place, a removal at `r`, or a write
+/// to what the entry turns into at `m`.
 fn edit_occupied(
     map: &mut Map,
     key: Key,
@@ -45,8 +46,8 @@ fn edit_occupied(
     Ok(())
 }
 
-/// Inserts by the entry of a key that is absent and shows or writes what was inserted, or only
-/// looks.
+/// Makes an edit by the entry of a key that is absent: an insertion at `i`, one of 0 that is then
+/// written at `m`, or none.
 fn edit_vacant(
     map: &mut Map,
     key: Key,
