@@ -63,6 +63,10 @@ RARE_CALLS = (
 )
 
 
+# The most pairs that a run begins with.
+MOST_AT_FIRST = 1000
+
+
 class Drawing:
     """Draws runs over some number of keys."""
 
@@ -107,6 +111,7 @@ class Drawing:
         """Draws a run of so many calls, on maps that are new at its start."""
         first = [f"with_hasher {name} {self.word('hasher')}" for name in "ab"]
         if self.keys > 3:
-            pairs = (f"{self.key()} {self.rng.randrange(100)}" for _ in range(self.keys))
+            count = min(self.keys, MOST_AT_FIRST)
+            pairs = (f"{self.key()} {self.rng.randrange(100)}" for _ in range(count))
             first.append("extend a " + " ".join(pairs))
         return first + [self.call() for _ in range(calls - len(first))]
