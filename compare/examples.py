@@ -1,0 +1,52 @@
+"""The examples of the original's documentation and of this repository's, as calls."""
+
+# New maps for an example.
+FIRST = ["with_hasher a spread", "with_hasher b spread"]
+
+EXAMPLES = {
+    "the crate": [
+        "insert a 2 20", "insert a 1 10", "insert a 3 30",
+        "index a 1", "index a 2", "index a 3", "iter a ffff f",
+    ],
+    "entry": [
+        "or_insert a s 0", "or_insert a h 0", "or_insert a o 0", "or_insert a r 0",
+        "or_insert a t 0", "or_insert a t 0", "or_insert a r 0", "or_insert a s 0",
+        "index a s", "index a t", "get a y",
+    ],
+    "entries": ["insert a a 10", "insert a c 30", "insert a b 20", "entries a w 17", "get a a"],
+    "insert": ["insert a 1 11", "insert a 2 12", "index a 1", "index a 2"],
+    "get": [
+        "insert a 1 11", "insert a 2 12", "insert a 2 13", "insert a 3 14", "get a 1", "get a 2",
+    ],
+    "get_mut": ["insert a 1 11", "insert a 2 12", "get_mut a 1 13", "get a 1"],
+    "get_refresh": [
+        "insert a 1 11", "insert a 2 12", "insert a 3 14", "get_refresh a 2 12", "iter a b f",
+    ],
+    "remove": ["insert a 2 11", "remove a 1", "remove a 2", "remove a 2", "len a"],
+    "pop_front": ["insert a 1 10", "insert a 2 20", "pop_front a", "get a 1", "get a 2"],
+    "front": ["insert a 1 10", "insert a 2 20", "front a"],
+    "pop_back": ["insert a 1 10", "insert a 2 20", "pop_back a", "get a 1", "get a 2"],
+    "back": ["insert a 1 10", "insert a 2 20", "back a"],
+    "iter": ["insert a a 10", "insert a c 30", "insert a b 20", "iter a ffff f"],
+    "iter_mut": ["insert a a 10", "insert a c 30", "insert a b 20", "iter_mut a f 17", "get a a"],
+    "keys": ["insert a a 10", "insert a c 30", "insert a b 20", "keys a ffff f"],
+    "values": ["insert a a 10", "insert a c 30", "insert a b 20", "values a ffff f"],
+    "key of an entry": ["entry_key a hello", "insert a foo 1", "entry_key a foo"],
+    "README.md": ["insert a 2 20", "insert a 1 10", "insert a 2 21", "iter a fff f"],
+    "the library": [
+        "insert a 7 1", "insert a 5 2", "insert a 7 3", "front a", "get a 5", "back a",
+        "get_refresh a 5 2", "back a",
+    ],
+    "an entry of either kind": [
+        "insert a x 1", "entry a x i 2", "entry a y m 3", "entry a x r 0", "len a",
+    ],
+    "comparison": [
+        "insert a x 1", "insert a y 2", "insert b y 2", "insert b x 1", "eq a", "cmp a",
+        "insert b y 2", "eq a", "cmp a", "hash a", "hash b",
+    ],
+    "extension and collection": [
+        "extend a x 1 y 2 x 3", "front a", "back a", "from_iter b x 1 y 2", "extend_refs b",
+    ],
+    "draining": ["insert a x 1", "insert a y 2", "drain a f", "len a"],
+    "debug text": ["insert a x 1", "debug a", "debug_pretty a", "clone b", "debug b"],
+}

@@ -1,0 +1,123 @@
+"""The two programs that are compared, and how they are built and run."""
+
+import concurrent.futures
+import os
+import pathlib
+import shutil
+import subprocess
+import sys
+import tempfile
+
+TOP = pathlib.Path(__file__).resolve().parent.parent
+COMPARE = TOP / "compare"
+DRIVER = TOP / "crates" / "driver"
+REGISTRY = pathlib.Path("/usr/share/cargo/registry")
+
+
+def stop(message):
+    """Ends the program, which could not compare anything."""
+    print(f"compare/run: {message}")
+    sys.exit(2)
+
+
+class Original:
+    """The driver over the original, which lies in a folder of cargo packages."""
+
+    def __init__(self, registry=REGISTRY):
+        if not shutil.which("cargo") or not any(registry.glob("linked-hash-map-0.5.6*")):
+            stop("first apt-get install cargo rustc librust-linked-hash-map-dev")
+        target = COMPARE / "target"
+        command = ["cargo", "build", "--quiet", "--release", "--offline"]
+        if registry != REGISTRY:
+            # What was built from another folder of this name may be older.
+            target = target / "other"
+            shutil.rmtree(target, ignore_errors=True)
+            command += ["--config", f'source.debian.directory="{registry}"']
+        # Another version of cargo may have written it.
+        (COMPARE / "Cargo.lock").unlink(missing_ok=True)
+        built = subprocess.run(
+            command + ["--target-dir", str(target)],
+            cwd=COMPARE, env={**os.environ, "RUSTFLAGS": "--cap-lints allow"},
+            capture_output=True, text=True)
+        if built.returncode != 0:
+            stop("the driver over the original does not build:\n" + built.stderr)
+        self.program = target / "release" / "compare"
+
+    def answers(self, runs):
+        """Returns the lines that each run answers."""
+        return [run_program(self.program, lines) for lines in runs]
+
+
+class Port:
+    """The driver over the port: the proved program, or else one that `rt try` builds."""
+
+    def __init__(self):
+        self.program = DRIVER / "out" / "driver"
+        if not is_up_to_date(self.program):
+            self.program = None
+            if not shutil.which("rt"):
+                stop("put rt, the command of the Rattle kit, on the PATH")
+
+    def answers(self, runs):
+        """Returns the lines that each run answers."""
+        if self.program:
+            return [run_program(self.program, lines) for lines in runs]
+        # Each half builds the program once more, and takes a processor of its own.
+        halves = [half for half in (runs[::2], runs[1::2]) if half]
+        with concurrent.futures.ThreadPoolExecutor() as pool:
+            answers = list(pool.map(tried, halves))
+        return [answers[number % len(answers)][number // len(answers)]
+                for number in range(len(runs))]
+
+
+def tried(runs):
+    """Runs the port without a proof, and returns the lines that each run answers."""
+    with tempfile.TemporaryDirectory() as folder:
+        for number, lines in enumerate(runs):
+            (pathlib.Path(folder) / f"{number:06}").write_text(text_of(lines))
+        ran = subprocess.run(
+            ["rt", "try", "--cases", folder, "--steps", "1"],
+            cwd=DRIVER, capture_output=True, text=True)
+    return answers_of_cases(ran.stdout, ran.stderr, len(runs))
+
+
+def is_up_to_date(program):
+    """Tells whether a built program is there, and younger than every source."""
+    if not program.exists():
+        return False
+    built = program.stat().st_mtime
+    sources = [path for crate in ("driver", "linked_hash_map", "lhm_ring")
+               for path in (TOP / "crates" / crate / "src").rglob("*.rt")]
+    return all(path.stat().st_mtime < built for path in sources)
+
+
+def text_of(lines):
+    return "".join(line + "\n" for line in lines)
+
+
+def run_program(program, lines):
+    """Runs a program on some lines, and returns the lines that it answers."""
+    ran = subprocess.run([str(program)], input=text_of(lines), capture_output=True, text=True)
+    answers = ran.stdout.splitlines()
+    if ran.returncode != 0:
+        answers.append(f"(it ended with status {ran.returncode}: {ran.stderr.strip()[:200]})")
+    return answers
+
+
+def answers_of_cases(output, outcomes, count):
+    """Takes apart what `rt try --cases` printed."""
+    answers = {}
+    current = None
+    for line in output.splitlines():
+        if line.startswith("== "):
+            current = answers.setdefault(int(line[3:]), [])
+        elif current is not None:
+            current.append(line)
+    for line in outcomes.splitlines():
+        if line.startswith("case="):
+            name, outcome = line[5:].split(" ", 1)
+            if not outcome.startswith("run=ended status=0"):
+                answers.setdefault(int(name), []).append(f"({outcome})")
+    if len(answers) != count:
+        stop("rt try gave no answer:\n" + (output + outcomes)[-2000:])
+    return [answers[number] for number in range(count)]

@@ -1,0 +1,74 @@
+//! The hashers of the maps.
+
+use std::hash::{BuildHasher, Hasher};
+
+/// What a hasher makes of the bytes that are written.
+#[derive(Clone, Copy, Debug)]
+pub enum Choice {
+    Spread,
+    Same,
+    Letter,
+}
+
+impl Choice {
+    /// Returns the choice of this name, `Spread` for any that is not known.
+    pub fn named(name: &str) -> Choice {
+        match name {
+            "same" => Choice::Same,
+            "letter" => Choice::Letter,
+            _ => Choice::Spread,
+        }
+    }
+}
+
+/// The bytes that were written, as a number, and the first of them.
+pub struct KeyHasher {
+    choice: Choice,
+    number: u64,
+    first: u64,
+}
+
+impl Hasher for KeyHasher {
+    fn finish(&self) -> u64 {
+        match self.choice {
+            Choice::Spread => self.number,
+            Choice::Same => 0,
+            Choice::Letter => self.first,
+        }
+    }
+
+    fn write(&mut self, bytes: &[u8]) {
+        if self.first == 0 {
+            self.first = bytes.first().map_or(0, |byte| u64::from(*byte));
+        }
+        for byte in bytes {
+            self.number = self.number % (1 << 32) * 31 + u64::from(*byte);
+        }
+    }
+}
+
+/// Makes the hashers of a choice.
+#[derive(Clone, Copy, Debug)]
+pub struct BuildKeyHasher {
+    pub choice: Choice,
+}
+
+impl BuildHasher for BuildKeyHasher {
+    type Hasher = KeyHasher;
+
+    fn build_hasher(&self) -> KeyHasher {
+        KeyHasher {
+            choice: self.choice,
+            number: 0,
+            first: 0,
+        }
+    }
+}
+
+impl Default for BuildKeyHasher {
+    fn default() -> BuildKeyHasher {
+        BuildKeyHasher {
+            choice: Choice::Spread,
+        }
+    }
+}

@@ -1,0 +1,53 @@
+//! Keys of short text, compared and hashed without regard to ASCII case.
+
+use std::fmt;
+use std::hash::{Hash, Hasher};
+
+/// The first eight bytes of a text. Two keys are the same where they differ in case alone.
+#[derive(Clone, Copy)]
+pub struct Key {
+    text: [u8; 8],
+    /// The text in lower case, as one number.
+    folded: u64,
+}
+
+impl Key {
+    pub fn new(text: &str) -> Key {
+        let mut bytes = [0; 8];
+        for (place, byte) in bytes.iter_mut().zip(text.bytes()) {
+            *place = byte;
+        }
+        Key {
+            text: bytes,
+            folded: u64::from_le_bytes(bytes.map(|byte| byte.to_ascii_lowercase())),
+        }
+    }
+
+    /// Returns the text as one number, whose order is that of the texts.
+    pub fn number(&self) -> u64 {
+        u64::from_be_bytes(self.text)
+    }
+}
+
+impl PartialEq for Key {
+    fn eq(&self, other: &Self) -> bool {
+        self.folded == other.folded
+    }
+}
+
+impl Eq for Key {}
+
+impl Hash for Key {
+    fn hash<H: Hasher>(&self, state: &mut H) {
+        state.write_u64(self.folded);
+    }
+}
+
+impl fmt::Debug for Key {
+    fn fmt(&self, f: &mut fmt::Formatter<'_>) -> fmt::Result {
+        for byte in self.text.iter().filter(|byte| **byte != 0) {
+            write!(f, "{}", char::from(*byte))?;
+        }
+        Ok(())
+    }
+}

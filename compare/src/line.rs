@@ -1,0 +1,39 @@
+//! The words of a line.
+
+use crate::key::Key;
+use std::str::SplitWhitespace;
+
+/// The words of a line that are left. A word that is missing is empty, and one that is no number
+/// is 0.
+pub struct Line<'a> {
+    words: SplitWhitespace<'a>,
+}
+
+impl<'a> Line<'a> {
+    pub fn new(text: &'a str) -> Line<'a> {
+        Line {
+            words: text.split_whitespace(),
+        }
+    }
+
+    pub fn next_word(&mut self) -> Option<&'a str> {
+        self.words.next()
+    }
+
+    pub fn word(&mut self) -> &'a str {
+        self.next_word().unwrap_or("")
+    }
+
+    pub fn key(&mut self) -> Key {
+        Key::new(self.word())
+    }
+
+    pub fn number(&mut self) -> u64 {
+        self.word().parse().unwrap_or(0)
+    }
+
+    /// Returns the next word as a number below 1,000.
+    pub fn small_number(&mut self) -> usize {
+        (self.number() % 1000) as usize
+    }
+}

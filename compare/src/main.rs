@@ -1,0 +1,67 @@
+//! Runs calls of the public API of linked-hash-map 0.5.6 from standard input to standard output,
+//! one a line: what `crates/driver` does with the port.
+
+mod changes;
+mod comparisons;
+mod entries;
+mod hasher;
+mod key;
+mod line;
+mod list;
+mod lookups;
+mod making;
+mod walks;
+
+use hasher::BuildKeyHasher;
+use key::Key;
+use line::Line;
+use linked_hash_map::LinkedHashMap;
+use std::fmt::Write as _;
+use std::io::{self, Read, Write};
+
+/// The maps that the lines speak of.
+type Map = LinkedHashMap<Key, u64, BuildKeyHasher>;
+
+/// Runs the call of a line, on `map` and where it takes two on `other` too, and appends its answer
+/// and the list of `map`. The answer to a line that is no call is `unknown`.
+fn run_call(
+    name: &str,
+    line: &mut Line<'_>,
+    map: &mut Map,
+    other: &mut Map,
+    text: &mut String,
+) -> std::fmt::Result {
+    let known = lookups::run(name, line, map, text)?
+        || changes::run(name, line, map, text)?
+        || making::run(name, line, map, other, text)?
+        || entries::run(name, line, map, text)?
+        || walks::run(name, line, map, text)?
+        || comparisons::run(name, line, map, other, text)?;
+    if !known {
+        write!(text, "unknown ")?;
+    }
+    list::push_list(map, text)
+}
+
+/// Runs the lines on two new maps, and returns the whole text of the output.
+fn respond(lines: &str) -> Result<String, std::fmt::Error> {
+    let mut text = String::new();
+    let (mut a, mut b) = (Map::default(), Map::default());
+    for line in lines.lines() {
+        let mut line = Line::new(line);
+        let name = line.word();
+        if line.word() == "b" {
+            run_call(name, &mut line, &mut b, &mut a, &mut text)?;
+        } else {
+            run_call(name, &mut line, &mut a, &mut b, &mut text)?;
+        }
+    }
+    Ok(text)
+}
+
+fn main() -> io::Result<()> {
+    let mut lines = String::new();
+    io::stdin().read_to_string(&mut lines)?;
+    let text = respond(&lines).expect("a string takes what is written to it");
+    io::stdout().write_all(text.as_bytes())
+}

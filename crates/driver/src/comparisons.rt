@@ -1,0 +1,65 @@
+//! Calls that compare two maps, hash one or show it.
+
+use super::Map;
+use super::hasher::{BuildKeyHasher, Choice};
+use super::line::Line;
+use super::stop::Stop;
+use linked_hash_map::LinkedHashMap;
+use std::alloc::{AllocError, Global};
+use std::hash::BuildHasher;
+
+/// A map whose keys are compared as they are.
+type Plain = LinkedHashMap<u64, u64>;
+
+/// Makes a map of the same pairs whose keys are compared as they are.
+fn plain(alloc: Global, map: &Map) -> Result<Plain, Stop> {
+    let mut plain = Plain::with_capacity(alloc, map.len())?;
+    for (key, value) in map.iter() {
+        plain.insert(key.number(), *value)?;
+    }
+    Ok(plain)
+}
+
+/// Makes a map with the default hasher, puts in the pair of a number, and shows it.
+fn show_new(alloc: Global, number: u64, text: &mut String) -> Result<(), Stop> {
+    let mut map = Plain::new(alloc);
+    map.insert(number, number)?;
+    Ok(write!(text, "{map:?} ")?)
+}
+
+/// Appends which of two maps is less.
+fn compare(map: &Plain, other: &Plain, text: &mut String) -> Result<(), AllocError> {
+    write!(text, "{:?} {:?} ", map.cmp(other), map.partial_cmp(other))?;
+    write!(text, "{} {} ", *map < *other, *map <= *other)?;
+    write!(text, "{} {} ", *map > *other, *map >= *other)
+}
+
+/// Returns the number that a hasher gives a map.
+fn number_of(map: &Map) -> u64 {
+    let choice = Choice::Spread;
+    BuildKeyHasher { choice }.hash_one(map)
+}
+
+/// Runs the call of this name, and tells whether there is one.
+pub fn run(
+    alloc: Global,
+    name: &str,
+    line: &mut Line<'_>,
+    map: &Map,
+    other: &Map,
+    text: &mut String,
+) -> Result<bool, Stop> {
+    match name {
+        "eq" => write!(text, "{} {} ", *map == *other, *map != *other)?,
+        "cmp" => compare(&plain(alloc, map)?, &plain(alloc, other)?, text)?,
+        "new" => show_new(alloc, line.number(), text)?,
+        "hash" => write!(text, "{} ", number_of(map))?,
+        "debug" => write!(text, "{map:?} ")?,
+        "debug_pretty" => {
+            let pretty = format!(in alloc; "{map:#?}")?;
+            write!(text, "{pretty:?} ")?;
+        }
+        _ => return Ok(false),
+    }
+    Ok(true)
+}

@@ -1,0 +1,103 @@
+//! The hashers of the maps.
+ghost use Rattle.std.specs.Prelude.{◌≡◌, ◌==◌, ◌+◌, ◌*◌, ◌%◌, fold, get_or, if◌then◌else◌};
+ghost use Rattle.driver.specs.Hashers.{number_of};
+
+use std::hash::{BuildHasher, Hasher};
+
+/// What a hasher makes of the bytes that are written.
+#[derive(Clone, Copy, Debug)]
+pub enum Choice {
+    /// A number that differs for most keys.
+    Spread,
+    /// The same number for every key.
+    Same,
+    /// The first byte.
+    Letter,
+}
+
+impl Choice {
+    /// Returns the choice of this name, `Spread` for any that is not known.
+    pub fn named(name: &str) -> Choice {
+        match name {
+            "same" => Choice::Same,
+            "letter" => Choice::Letter,
+            _ => Choice::Spread,
+        }
+    }
+}
+
+/// The bytes that were written, as a number, and the first of them.
+#[derive(Clone, Copy)]
+pub struct KeyHasher {
+    choice: Choice,
+    number: u64,
+    first: u64,
+}
+
+impl Hasher for KeyHasher {
+    ghost write = { λ state bytes. record {
+      choice = state.choice;
+      number = fold (λ number byte. number % 4294967296 * 31 + byte) state.number bytes;
+      first = if state.first == 0 then get_or bytes 0 0 else state.first;
+    } };
+
+    ghost finish = { λ state. number_of state.choice state.number state.first };
+
+    fn finish(&self) -> u64 {
+        match self.choice {
+            Choice::Spread => self.number,
+            Choice::Same => 0,
+            Choice::Letter => self.first,
+        }
+    }
+
+    fn write(&mut self, bytes: &[u8]) {
+        if self.first == 0 {
+            self.first = first_of(bytes);
+        }
+        let mut number = self.number;
+        for byte in bytes {
+            number = number % 4_294_967_296 * 31 + u64::from(*byte);
+        }
+        self.number = number;
+    }
+}
+
+/// The first byte, or 0 where there is none.
+fn first_of(bytes: &[u8]) -> u64
+    ensures { result ≡ get_or bytes.now 0 0 }
+{
+    match bytes.first() {
+        Some(byte) => u64::from(*byte),
+        None => 0,
+    }
+}
+
+/// Makes the hashers of a choice.
+#[derive(Clone, Copy, Debug)]
+pub struct BuildKeyHasher {
+    pub choice: Choice,
+}
+
+impl BuildHasher for BuildKeyHasher {
+    type Hasher = KeyHasher;
+
+    ghost build_hasher = { λ build. record { choice = build.choice; number = 0; first = 0 } };
+
+    fn build_hasher(&self) -> KeyHasher {
+        KeyHasher {
+            choice: self.choice,
+            number: 0,
+            first: 0,
+        }
+    }
+}
+
+/// Spreads the keys.
+impl Default for BuildKeyHasher {
+    fn default() -> BuildKeyHasher {
+        BuildKeyHasher {
+            choice: Choice::Spread,
+        }
+    }
+}

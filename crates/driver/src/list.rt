@@ -1,0 +1,41 @@
+//! The list of a map, at the end of each line of the output.
+
+use super::Map;
+use std::alloc::AllocError;
+
+/// The longest list that is shown whole.
+const SHOWN: usize = 8;
+
+/// Takes a number into a digest.
+fn mixed(digest: u64, number: u64) -> u64 {
+    (digest ^ number).wrapping_mul(1_099_511_628_211)
+}
+
+/// Returns a digest of the pairs in order.
+fn digest(map: &Map) -> u64 {
+    let mut digest = 0;
+    for (key, value) in map.iter() {
+        digest = mixed(mixed(digest, key.number()), *value);
+    }
+    digest
+}
+
+/// Appends the pairs in order.
+fn push_pairs(map: &Map, text: &mut String) -> Result<(), AllocError> {
+    for (key, value) in map.iter() {
+        write!(text, " {key:?}:{value}")?;
+    }
+    Ok(())
+}
+
+/// Appends the pairs in order, or where they are many a digest of them, and ends the line.
+pub fn push_list(map: &Map, text: &mut String) -> Result<(), AllocError> {
+    let len = map.len();
+    write!(text, "| {len}")?;
+    if len <= SHOWN {
+        push_pairs(map, text)?;
+    } else {
+        write!(text, " {}", digest(map))?;
+    }
+    writeln!(text)
+}

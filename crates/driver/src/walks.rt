@@ -1,0 +1,132 @@
+//! Calls that walk over the pairs.
+
+use super::Map;
+use super::hasher::BuildKeyHasher;
+use super::line::Line;
+use super::stop::Stop;
+use std::alloc::{AllocError, Global};
+use std::fmt::Debug;
+use std::mem;
+
+/// Makes a step for each letter, from the back at a `b`, and appends what each gives and how much
+/// is left.
+fn walk<T: Debug + Drop, I: DoubleEndedIterator<Item = T> + ExactSizeIterator>(
+    items: &mut I,
+    steps: &str,
+    text: &mut String,
+) -> Result<(), AllocError>
+    requires { (items : I) → I.can_next items × I.can_next_back items }
+{
+    for step in steps.bytes() {
+        let item = if step == b'b' {
+            items.next_back()
+        } else {
+            items.next()
+        };
+        write!(text, "{item:?} {:?} {} ", items.size_hint(), items.len())?;
+    }
+    Ok(())
+}
+
+/// Walks, clones the iterator, and walks by the clone and then by what it was cloned from.
+fn walk_and_clone<
+    T: Debug + Drop,
+    I: DoubleEndedIterator<Item = T> + ExactSizeIterator + Clone + Drop,
+>(items: I, line: &mut Line<'_>, text: &mut String) -> Result<(), AllocError>
+    requires { (items : I) → I.can_next items × I.can_next_back items }
+{
+    let mut items = items;
+    walk(&mut items, line.word(), text)?;
+    let mut copy = items.clone()?;
+    let steps = line.word();
+    walk(&mut copy, steps, text)?;
+    write!(text, "/ ")?;
+    walk(&mut items, steps, text)
+}
+
+/// Walks along `iter_mut`, and writes each value that is lent.
+fn walk_and_write(
+    map: &mut Map,
+    steps: &str,
+    value: u64,
+    text: &mut String,
+) -> Result<(), AllocError> {
+    let mut pairs = map.iter_mut();
+    for step in steps.bytes() {
+        let pair = if step == b'b' {
+            pairs.next_back()
+        } else {
+            pairs.next()
+        };
+        match pair {
+            Some((key, lent)) => {
+                write!(text, "{key:?}={} ", *lent)?;
+                *lent = value;
+            }
+            None => write!(text, "end ")?,
+        }
+        write!(text, "{:?} {} ", pairs.size_hint(), pairs.len())?;
+    }
+    Ok(())
+}
+
+/// Adds a number to every value, in a loop over the map.
+fn add(map: &mut Map, number: u64) {
+    for (_key, value) in map {
+        *value = value.wrapping_add(number);
+    }
+}
+
+/// Appends every pair, in a loop over the map.
+fn show(map: &Map, text: &mut String) -> Result<(), AllocError> {
+    for (key, value) in map {
+        write!(text, "{key:?}={value} ")?;
+    }
+    Ok(())
+}
+
+/// Takes the map, and leaves an empty one with the default hasher in its place.
+fn take(alloc: Global, map: &mut Map) -> Map {
+    mem::replace(map, Map::with_hasher(alloc, BuildKeyHasher::default()))
+}
+
+/// Walks along a draining, and lets it go or forgets it.
+fn drain(map: &mut Map, line: &mut Line<'_>, text: &mut String) -> Result<(), AllocError> {
+    let mut pairs = map.drain();
+    walk(&mut pairs, line.word(), text)?;
+    if line.word() == "forget" {
+        mem::forget(pairs);
+    }
+    Ok(())
+}
+
+/// Walks along a map that is taken, and forgets what is left.
+fn walk_and_forget(map: Map, steps: &str, text: &mut String) -> Result<(), AllocError> {
+    let mut pairs = map.into_iter();
+    walk(&mut pairs, steps, text)?;
+    mem::forget(pairs);
+    Ok(())
+}
+
+/// Runs the call of this name, and tells whether there is one.
+pub fn run(
+    alloc: Global,
+    name: &str,
+    line: &mut Line<'_>,
+    map: &mut Map,
+    text: &mut String,
+) -> Result<bool, Stop> {
+    match name {
+        "iter" => walk_and_clone(map.iter(), line, text)?,
+        "keys" => walk_and_clone(map.keys(), line, text)?,
+        "values" => walk_and_clone(map.values(), line, text)?,
+        "iter_mut" => walk_and_write(map, line.word(), line.number(), text)?,
+        "into_iter" => walk_and_clone(take(alloc, map).into_iter(), line, text)?,
+        "into_iter_forget" => walk_and_forget(take(alloc, map), line.word(), text)?,
+        "drain" => drain(map, line, text)?,
+        "loop" => show(map, text)?,
+        "loop_mut" => add(map, line.number()),
+        _ => return Ok(false),
+    }
+    Ok(true)
+}
