@@ -108,9 +108,8 @@ impl<K, V> Index<K, V> {
         }
     }
 
-    /// Makes an index of empty buckets for a capacity, at a step for each: all the memory that a resize takes.
-    ///
-    /// For capacity 0 it has no buckets, takes no memory, and is not refused.
+    /// Makes an index of empty buckets for a capacity, at a step for each: all the memory that a
+    /// resize takes. For capacity 0 it has no buckets, takes no memory, and is not refused.
     pub fn with_buckets(alloc: Global, capacity: usize) -> Result<Index<K, V>, AllocError>
         requires { capacity ≤ 2 ^ 59 }
         ensures buckets { IfOk result (λ i. length i ≡ buckets capacity) }
@@ -141,9 +140,8 @@ impl<K, V> Index<K, V> {
         self.heads[masked(number, self.heads.len())].get()
     }
 
-    /// Puts the one node that the index lacks at the head of its chain.
-    ///
-    /// It costs a constant number of steps and takes no memory. Of the ring only that node's link changes.
+    /// Puts the one node that the index lacks at the head of its chain. It costs a constant number
+    /// of steps and takes no memory. Of the ring only that node's link changes.
     pub fn put_in(&mut self, ring: &mut Ring<K, V>, at: Position<K, V>)
         requires some { 0 < length self.old }
         requires lacks { HoldsOthers self.old ring.old.held (pointer_of at) }
@@ -205,9 +203,8 @@ impl<K, V> Index<K, V> {
         before
     }
 
-    /// Takes the node at a position out of its chain. No key is compared.
-    ///
-    /// It costs a step for each node before it on the chain, and takes no memory. Of the ring only links change.
+    /// Takes the node at a position out of its chain. No key is compared. It costs a step for each
+    /// node before it on the chain, and takes no memory. Of the ring only links change.
     pub fn take_out_at(&mut self, ring: &mut Ring<K, V>, at: Position<K, V>)
         requires held { IsHeld ring.old.held (pointer_of at) }
         requires indexed { Indexes self.old (spots ring.old.held) }

@@ -13,9 +13,8 @@ use std::alloc::AllocError;
 use std::iter::{DoubleEndedIterator, ExactSizeIterator, Iterator};
 use std::marker::Model;
 
-/// An iterator that shows the triples of a ring, each once, from both ends. It is made by `Ring::iter`.
-///
-/// A step costs a constant number of steps and takes no memory.
+/// An iterator that shows the triples of a ring, each once, from both ends. It is made by
+/// `Ring::iter`. A step costs a constant number of steps and takes no memory.
 #[derive(Drop)]
 pub struct Iter<'a, K, V> {
     // What is left is in the `left` nodes between the one at `before` and the one at `after`.

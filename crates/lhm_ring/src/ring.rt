@@ -41,9 +41,8 @@ impl<K, V> Model for Ring<K, V> {
 }
 
 impl<K, V> Ring<K, V> {
-    /// Makes an empty ring with no spare nodes.
-    ///
-    /// It takes no memory: there is no guard yet. Later growths are asked of `alloc`.
+    /// Makes an empty ring with no spare nodes. It takes no memory: there is no guard yet. Later
+    /// growths are asked of `alloc`.
     pub fn new(alloc: Global) -> Ring<K, V>
         ensures empty { result.held ≡ [] }
         ensures no_spares { result.spares ≡ 0 }
@@ -98,9 +97,8 @@ impl<K, V> Ring<K, V> {
         self.spares
     }
 
-    /// Ends a ring that holds nothing, and frees its nodes, at a step for each.
-    ///
-    /// It asks no `Drop` of keys and values, which letting a ring go does.
+    /// Ends a ring that holds nothing, and frees its nodes, at a step for each. It asks no `Drop`
+    /// of keys and values, which letting a ring go does.
     pub fn destroy_empty(mut self)
         requires { self.held ≡ [] }
     {

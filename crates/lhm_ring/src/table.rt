@@ -197,9 +197,8 @@ impl<K, V> Table<K, V> {
         at
     }
 
-    /// Removes the pair at a position and returns it. No key is compared.
-    ///
-    /// It takes O(1) time on average: it passes the nodes of the bucket. The capacity stays.
+    /// Removes the pair at a position and returns it. No key is compared. It takes O(1) time on
+    /// average: it passes the nodes of the bucket. The capacity stays.
     pub fn remove_at(&mut self, at: Position<K, V>) -> (K, V)
         requires { IsHeld self.old.held (pointer_of at) }
         ensures others { AtHeld self.old.held (pointer_of at) (λ xs t ys. self.new.held ≡ xs ++ ys) }
@@ -212,10 +211,8 @@ impl<K, V> Table<K, V> {
         (key, value)
     }
 
-    /// Raises the capacity, or changes nothing if memory is refused.
-    ///
-    /// It allocates the buckets first, if there are to be more, and then the nodes. More buckets rehash all pairs, in
-    /// O(n).
+    /// Raises the capacity, or changes nothing if memory is refused. It allocates the buckets
+    /// first, if there are to be more, and then the nodes. More buckets rehash all pairs, in O(n).
     #[cold]
     #[inline(never)]
     pub fn raise(&mut self, capacity: usize) -> Result<(), AllocError>
@@ -311,9 +308,8 @@ impl<K, V> Table<K, V> {
         IntoIter::new(ring)
     }
 
-    /// Removes all pairs and returns them as an iterator, front to back. The capacity stays.
-    ///
-    /// The table is empty from the call on, also if the iterator is forgotten. The call is O(n).
+    /// Removes all pairs and returns them as an iterator, front to back. The capacity stays. The
+    /// table is empty from the call on, also if the iterator is forgotten. The call is O(n).
     pub fn drain(&mut self) -> Drain<'_, K, V>
         ensures* writes_back { sem 𝓛 (lends_drained K.row V.row self.entry (drain_name result)) }
         ensures rest { drain_rest result ≡ triples self.old.held }

@@ -13,9 +13,8 @@ use std::cmp::Ordering;
 use std::fmt;
 use std::hash::{BuildHasher, Hash, Hasher};
 
-/// Two maps are equal where they have equal pairs in the same order. Their hashers and capacities are not compared.
-///
-/// It costs at most a step for each pair, and takes no memory.
+/// Two maps are equal where they have equal pairs in the same order. Their hashers and capacities
+/// are not compared. It costs at most a step for each pair, and takes no memory.
 ///
 /// # Examples
 ///
@@ -100,9 +99,8 @@ impl<K: Eq + Hash + PartialOrd, V: PartialOrd, S: BuildHasher> PartialOrd
     }
 }
 
-/// The order of two maps is the lexicographic one of their pairs, key before value.
-///
-/// It costs at most a step for each pair, and takes no memory.
+/// The order of two maps is the lexicographic one of their pairs, key before value. It costs at
+/// most a step for each pair, and takes no memory.
 ///
 /// # Examples
 ///
@@ -177,9 +175,8 @@ impl<K: Eq + Hash, V: Hash, S: BuildHasher> Hash for LinkedHashMap<K, V, S> {
     }
 }
 
-/// The debug text is that of the maps of std, with the pairs in order.
-///
-/// It costs a step for each pair, and takes no memory of its own.
+/// The debug text is that of the maps of std, with the pairs in order. It costs a step for each
+/// pair, and takes no memory of its own.
 ///
 /// # Examples
 ///

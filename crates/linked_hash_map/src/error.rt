@@ -22,9 +22,7 @@ pub struct Refused<K, V> {
     pub value: V,
 }
 
-/// The error of a call that reserves room.
-///
-/// The original panics or ends the program instead.
+/// The error of a call that reserves room. The original panics or ends the program instead.
 ///
 /// # Examples
 ///

@@ -136,9 +136,8 @@ impl<K: Eq + Hash, V, S: BuildHasher> Model for LinkedHashMap<K, V, S> {
 }
 
 impl<K: Eq + Hash, V> LinkedHashMap<K, V> {
-    /// Creates an empty map of capacity 0 with the default hasher, whose seed is fixed.
-    ///
-    /// It is O(1) and does not allocate. `alloc` makes later allocations.
+    /// Creates an empty map of capacity 0 with the default hasher, whose seed is fixed. It is O(1)
+    /// and does not allocate. `alloc` makes later allocations.
     ///
     /// # Examples
     ///
@@ -190,9 +189,8 @@ impl<K: Eq + Hash, V, S: BuildHasher> LinkedHashMap<K, V, S> {
     ghost use Rattle.linked_hash_map.specs.Lends.{lends_value, lends_refreshed, lends_values, lends_drained};
     ghost use Rattle.linked_hash_map.specs.ValueWalks.{pairs_left, loan_name};
 
-    /// Creates an empty map of capacity 0 with a build hasher.
-    ///
-    /// It is O(1) and does not allocate. `alloc` makes later allocations.
+    /// Creates an empty map of capacity 0 with a build hasher. It is O(1) and does not allocate.
+    /// `alloc` makes later allocations.
     ///
     /// # Examples
     ///
@@ -434,9 +432,8 @@ impl<K: Eq + Hash, V, S: BuildHasher> LinkedHashMap<K, V, S> {
         self.get(key).is_some()
     }
 
-    /// Returns a reference to the value of a key, or `None` if the key is absent.
-    ///
-    /// It is O(1) on average and does not allocate.
+    /// Returns a reference to the value of a key, or `None` if the key is absent. It is O(1) on
+    /// average and does not allocate.
     ///
     /// # Examples
     ///
@@ -496,9 +493,8 @@ impl<K: Eq + Hash, V, S: BuildHasher> LinkedHashMap<K, V, S> {
         }
     }
 
-    /// Returns a mutable reference to the value of a key, or `None` if the key is absent.
-    ///
-    /// It is O(1) on average and does not allocate.
+    /// Returns a mutable reference to the value of a key, or `None` if the key is absent. It is
+    /// O(1) on average and does not allocate.
     ///
     /// # Examples
     ///
@@ -635,9 +631,8 @@ impl<K: Eq + Hash, V, S: BuildHasher> LinkedHashMap<K, V, S> {
         self.table.rechained()
     }
 
-    /// Removes the front pair and returns it, or returns `None` if the map is empty.
-    ///
-    /// The capacity stays. It is O(1) on average and does not allocate.
+    /// Removes the front pair and returns it, or returns `None` if the map is empty. The capacity
+    /// stays. It is O(1) on average and does not allocate.
     ///
     /// # Examples
     ///
@@ -661,9 +656,8 @@ impl<K: Eq + Hash, V, S: BuildHasher> LinkedHashMap<K, V, S> {
         Some(self.table.remove_at(front))
     }
 
-    /// Returns references to the front pair, or `None` if the map is empty.
-    ///
-    /// It is O(1) and does not allocate.
+    /// Returns references to the front pair, or `None` if the map is empty. It is O(1) and does not
+    /// allocate.
     ///
     /// # Examples
     ///
@@ -680,9 +674,8 @@ impl<K: Eq + Hash, V, S: BuildHasher> LinkedHashMap<K, V, S> {
         Some((self.table.key(at), self.table.value(at)))
     }
 
-    /// Removes the back pair and returns it, or returns `None` if the map is empty.
-    ///
-    /// The capacity stays. It is O(1) on average and does not allocate.
+    /// Removes the back pair and returns it, or returns `None` if the map is empty. The capacity
+    /// stays. It is O(1) on average and does not allocate.
     ///
     /// # Examples
     ///
@@ -706,9 +699,8 @@ impl<K: Eq + Hash, V, S: BuildHasher> LinkedHashMap<K, V, S> {
         Some(self.table.remove_at(back))
     }
 
-    /// Returns references to the back pair, or `None` if the map is empty.
-    ///
-    /// It is O(1) and does not allocate.
+    /// Returns references to the back pair, or `None` if the map is empty. It is O(1) and does not
+    /// allocate.
     ///
     /// # Examples
     ///
@@ -758,9 +750,8 @@ impl<K: Eq + Hash, V, S: BuildHasher> LinkedHashMap<K, V, S> {
         self.len() == 0
     }
 
-    /// Sets the mode: whether inserting a present key moves its pair to the back.
-    ///
-    /// Nothing else changes. It is O(1) and does not allocate.
+    /// Sets the mode: whether inserting a present key moves its pair to the back. Nothing else
+    /// changes. It is O(1) and does not allocate.
     ///
     /// # Examples
     ///
@@ -803,9 +794,8 @@ impl<K: Eq + Hash, V, S: BuildHasher> LinkedHashMap<K, V, S> {
         self.mode
     }
 
-    /// Returns how many pairs are left to visit, or 0 if no visit is under way.
-    ///
-    /// It is O(1) and does not allocate.
+    /// Returns how many pairs are left to visit, or 0 if no visit is under way. It is O(1) and does
+    /// not allocate.
     ///
     /// # Examples
     ///
@@ -867,9 +857,8 @@ impl<K: Eq + Hash, V, S: BuildHasher> LinkedHashMap<K, V, S> {
         drop(self.table.drain());
     }
 
-    /// Returns a double-ended iterator over the pairs, front to back.
-    ///
-    /// The call and each item are O(1) and do not allocate.
+    /// Returns a double-ended iterator over the pairs, front to back. The call and each item are
+    /// O(1) and do not allocate.
     ///
     /// # Examples
     ///
@@ -893,9 +882,8 @@ impl<K: Eq + Hash, V, S: BuildHasher> LinkedHashMap<K, V, S> {
         Iter::new(&self.table)
     }
 
-    /// Returns a double-ended iterator over the pairs, front to back, with mutable values.
-    ///
-    /// The call and each item are O(1) and do not allocate.
+    /// Returns a double-ended iterator over the pairs, front to back, with mutable values. The call
+    /// and each item are O(1) and do not allocate.
     ///
     /// # Examples
     ///
@@ -921,9 +909,8 @@ impl<K: Eq + Hash, V, S: BuildHasher> LinkedHashMap<K, V, S> {
         IterMut::new(self.lend())
     }
 
-    /// Returns a double-ended iterator over the keys, front to back.
-    ///
-    /// The call and each item are O(1) and do not allocate.
+    /// Returns a double-ended iterator over the keys, front to back. The call and each item are
+    /// O(1) and do not allocate.
     ///
     /// # Examples
     ///
@@ -946,9 +933,8 @@ impl<K: Eq + Hash, V, S: BuildHasher> LinkedHashMap<K, V, S> {
         Keys::new(self.iter())
     }
 
-    /// Returns a double-ended iterator over the values, front to back.
-    ///
-    /// The call and each item are O(1) and do not allocate.
+    /// Returns a double-ended iterator over the values, front to back. The call and each item are
+    /// O(1) and do not allocate.
     ///
     /// # Examples
     ///

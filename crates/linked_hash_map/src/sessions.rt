@@ -97,9 +97,8 @@ impl<T> Model for Sessions<T> {
 impl<T> Sessions<T> {
     ghost use Rattle.linked_hash_map.specs.SessionLends.{lends_payload};
 
-    /// Makes an empty table with a limit on the sum of the weights.
-    ///
-    /// It takes no memory. Later growths are asked of `alloc`.
+    /// Makes an empty table with a limit on the sum of the weights. It takes no memory. Later
+    /// growths are asked of `alloc`.
     ///
     /// # Examples
     ///
@@ -210,9 +209,8 @@ impl<T> Sessions<T> {
         }
     }
 
-    /// Takes out the session with an id and returns its payload, or returns `None` where there is none.
-    ///
-    /// All other sessions keep their order. It takes no memory.
+    /// Takes out the session with an id and returns its payload, or returns `None` where there is
+    /// none. All other sessions keep their order. It takes no memory.
     ///
     /// # Examples
     ///
@@ -266,9 +264,8 @@ impl<T> Sessions<T> {
         self.map.len()
     }
 
-    /// Returns an iterator over the sessions, each as its id, its weight and its payload, the oldest first.
-    ///
-    /// Neither the call nor a step of the iterator takes memory, and the order stays.
+    /// Returns an iterator over the sessions, each as its id, its weight and its payload, the
+    /// oldest first. Neither the call nor a step of the iterator takes memory, and the order stays.
     ///
     /// # Examples
     ///

@@ -1,8 +1,7 @@
 //! What a look-up counts.
 
-/// What a look-up did, as [`get_counted`](crate::LinkedHashMap::get_counted) counts it.
-///
-/// The original has no such type.
+/// What a look-up did, as [`get_counted`](crate::LinkedHashMap::get_counted) counts it. The
+/// original has no such type.
 ///
 /// # Examples
 ///
