@@ -6,13 +6,13 @@ use crate::map::LinkedHashMap;
 use std::alloc::AllocError;
 use std::hash::{BuildHasher, Hash};
 
-/// A clone of a map has a clone of its hasher, its mode, its length as capacity, and clones of its pairs, inserted in order.
+/// Clones a map: its hasher, its mode and its pairs, inserted in order, with its length as
+/// capacity.
 ///
-/// Where a clone of a key is the same key, its list is the clones in order; else two of them may be the same, and the later
-/// then replaces the earlier. It takes memory for as many pairs as there are, and what the clones take. It is refused where
-/// a clone of a key, of a value or of the hasher is, or a growth, by the error of the trait `Clone`; an empty map is refused
-/// only where the clone of its hasher is. The source stays as it was. It costs an `insert` for each pair. The original answers
-/// no error.
+/// If two clones of keys are equal, the later replaces the earlier. Returns an error if an
+/// allocation fails, or the clone of a key, a value or the hasher; an empty map is refused only if
+/// the clone of its hasher is. The source is unchanged. Each pair costs an `insert`. It allocates
+/// room for the pairs and what their clones allocate.
 ///
 /// # Examples
 ///

@@ -113,7 +113,8 @@ impl<'a, K: Eq + Hash, V, S: BuildHasher> Entry<'a, K, V, S> {
         }
     }
 
-    /// Returns a mutable reference to the value, which a vacant entry first inserts at the back.
+    /// Inserts `value` at the back of the map if the entry is vacant, and returns a mutable
+    /// reference to the value.
     ///
     /// An occupied entry keeps its place and drops `value`. A vacant one at full capacity raises
     /// the capacity by exactly one or is refused, always so in a map of [`LIMIT`] pairs: the error
@@ -147,12 +148,10 @@ impl<'a, K: Eq + Hash, V, S: BuildHasher> Entry<'a, K, V, S> {
         }
     }
 
-    /// Returns a mutable reference to the value, which a vacant entry first makes by `f` and
-    /// inserts at the back.
+    /// Inserts what `f` returns, as `or_insert` does, and returns a mutable reference to the value.
     ///
     /// `f` is called once on a vacant entry, before any allocation, and never on an occupied one. A
-    /// refusal has the key and the value that `f` made. All else, besides the cost of `f`, is as
-    /// for `or_insert`.
+    /// refusal has the key and the value of `f`. The cost is that of `or_insert` and of `f`.
     ///
     /// # Examples
     ///
@@ -181,11 +180,11 @@ impl<'a, K: Eq + Hash, V, S: BuildHasher> Entry<'a, K, V, S> {
         vacant.insert(value)
     }
 
-    /// Returns a mutable reference to the value, for which a vacant entry first inserts the default
-    /// at the back.
+    /// Inserts the default value, as `or_insert` does, and returns a mutable reference to the
+    /// value.
     ///
     /// The default is made on a vacant entry alone, before any allocation. A refusal has the key
-    /// and the default. All else, besides the cost of the default, is as for `or_insert`.
+    /// and the default. The cost is that of `or_insert` and of the default.
     ///
     /// # Examples
     ///
