@@ -21,11 +21,11 @@ use std::mem;
 /// The ring of a table, while the values are lent.
 pub type WithoutValues<K, V> = Ring<K, Hole<V>>;
 
-/// Pairs of a key and a value in insertion order, each with the hash of its key, found by hash and key.
+/// Pairs of a key and a value in insertion order, each with its hash, found by hash and key.
 ///
 /// Each pair has a [`Position`] until it is removed. The capacity is the number of pairs that fit
-/// without an allocation. Only `with_capacity`, `raise` and `shrink_to_fit` allocate,
-/// and a refusal changes nothing.
+/// without an allocation. Only `with_capacity`, `raise` and `shrink_to_fit` allocate; if that
+/// fails, nothing changes.
 pub struct Table<K, V> {
     /// Public for a type that keeps a table in a field and lends its values.
     pub ring: Ring<K, V>,
@@ -197,8 +197,8 @@ impl<K, V> Table<K, V> {
         at
     }
 
-    /// Removes the pair at a position and returns it. No key is compared. It takes O(1) time on
-    /// average: it passes the nodes of the bucket. The capacity stays.
+    /// Removes the pair at a position and returns it. No key is compared. It is O(1) on average.
+    /// The capacity stays.
     pub fn remove_at(&mut self, at: Position<K, V>) -> (K, V)
         requires { IsHeld self.old.held (pointer_of at) }
         ensures others { AtHeld self.old.held (pointer_of at) (λ xs t ys. self.new.held ≡ xs ++ ys) }
@@ -211,8 +211,8 @@ impl<K, V> Table<K, V> {
         (key, value)
     }
 
-    /// Raises the capacity, or changes nothing if memory is refused. It allocates the buckets
-    /// first, if there are to be more, and then the nodes. More buckets rehash all pairs, in O(n).
+    /// Raises the capacity, or changes nothing if an allocation fails. It allocates more buckets
+    /// first, if needed, and then the nodes. More buckets rehash all pairs, in O(n).
     #[cold]
     #[inline(never)]
     pub fn raise(&mut self, capacity: usize) -> Result<(), AllocError>
@@ -234,10 +234,10 @@ impl<K, V> Table<K, V> {
         Ok(())
     }
 
-    /// Lowers the capacity to the number of pairs, or changes nothing if memory is refused.
+    /// Lowers the capacity to the number of pairs, or changes nothing if an allocation fails.
     ///
-    /// It allocates only if there are pairs and there are to be fewer buckets, which rehashes all pairs, in O(n). An empty
-    /// table gives all its memory back.
+    /// It allocates only if there are pairs and are to be fewer buckets, which rehashes all pairs,
+    /// in O(n). An empty table frees all its memory.
     pub fn shrink_to_fit(&mut self) -> Result<(), AllocError>
         ensures held { self.new.held ≡ self.old.held }
         ensures capacity { OnOk result (self.new.capacity ≡ length self.old.held) }

@@ -1,7 +1,6 @@
 //! The map: its type, and the calls that create one, look keys up, insert, remove and iterate.
 //!
-//! Contracts see a map as its list of pairs. Only `storage` and the functions here that name the
-//! fields know how the pairs are stored.
+//! Only `storage` and the functions here that name the fields know how the pairs are stored.
 ghost use Rattle.std.specs.Prelude.{◌≡◌, ◌==◌, ◌+◌, ◌*◌, ◌<◌, ◌≤◌, [], length, max, option_copied, option_map, is_some, None, IsErrOf, ◌↔◌, OnOk, OnErr, IfOk, IfErr, IfNone, OnSome};
 ghost use Rattle.std.specs.Map.{keys_of, values_of};
 ghost use Rattle.std.specs.Map.Iter.{deref, deref_pair, ShowsInOrder, ShowsInReverse, LendsValuesInOrder, LendsValuesInReverse};
@@ -44,8 +43,8 @@ pub const LIMIT: usize = 576460752303423488;
 
 /// The build hasher of a map that is given none: that of std's `HashMap`, with a fixed seed.
 ///
-/// Whoever chooses the keys can make them collide under a fixed seed: use a build hasher with a
-/// random one, as `RandomState`, for untrusted keys. The original's default has a random seed.
+/// Whoever chooses the keys can make them collide: use a random seed, as `RandomState` has, for
+/// untrusted keys. The original's default has a random seed.
 ///
 /// # Examples
 ///
@@ -59,10 +58,8 @@ pub const LIMIT: usize = 576460752303423488;
 /// ```
 pub type DefaultHashBuilder = BuildHasherDefault<FoldHasher>;
 
-/// Whether inserting a present key moves its pair to the back.
-///
-/// Every map starts in `Touch`, except a clone, which has the mode of its source. The original has
-/// no modes: its maps behave as those in `Touch`.
+/// Whether inserting a present key moves its pair to the back. A new map is in `Touch`; a clone has
+/// the mode of its source. The original has no modes: its maps behave as those in `Touch`.
 ///
 /// # Examples
 ///
@@ -88,13 +85,12 @@ pub enum Mode {
 /// A hash map that keeps its pairs in insertion order.
 ///
 /// A new key goes to the back. Inserting a present key moves its pair to the back, or in
-/// [`Mode::Keep`] leaves it in its place. Keys are distinct, and the length is at most the
-/// capacity, which is at most [`LIMIT`].
+/// [`Mode::Keep`] leaves it in its place. The length is at most the capacity, which is at most
+/// [`LIMIT`].
 ///
 /// A lookup hashes its key once, follows the chain of the key's bucket and compares only keys with
-/// the same hash: it is O(1) on average, and [`get_counted`](LinkedHashMap::get_counted) counts its
-/// work. There are as many buckets as the least power of two that is not below the capacity, and 0
-/// at capacity 0. Dropping a map drops its pairs, in O(capacity).
+/// the same hash: it is O(1) on average. There are as many buckets as the least power of two that
+/// is not below the capacity, and 0 at capacity 0. Dropping a map drops its pairs, in O(capacity).
 ///
 /// # Examples
 ///
@@ -328,10 +324,10 @@ impl<K: Eq + Hash, V, S: BuildHasher> LinkedHashMap<K, V, S> {
 
     /// Lowers the capacity to exactly the number of pairs.
     ///
-    /// Returns `NoRoom` if an allocation fails; the map is then unchanged. It is O(capacity) for
-    /// the old capacity, and allocates only if there are to be fewer buckets. A map that is empty
-    /// or at full capacity does not allocate and is never refused; an empty one frees all its
-    /// memory.
+    /// Returns `NoRoom` if an allocation fails; the map is then unchanged. A map that is empty or
+    /// at full capacity is never refused, and an empty one frees all its memory. It is O(capacity)
+    /// for the old capacity, and allocates only if pairs are left and there are to be fewer
+    /// buckets.
     ///
     /// # Examples
     ///
@@ -582,8 +578,7 @@ impl<K: Eq + Hash, V, S: BuildHasher> LinkedHashMap<K, V, S> {
         Some(value)
     }
 
-    /// Returns how many pairs the map can hold: up to it, an insertion neither allocates nor is
-    /// refused.
+    /// Returns how many pairs the map can hold before an insertion allocates or is refused.
     ///
     /// It is O(1) and does not allocate. The original may allocate below its capacity, and raises
     /// it by more than one.
@@ -604,11 +599,11 @@ impl<K: Eq + Hash, V, S: BuildHasher> LinkedHashMap<K, V, S> {
         self.table.capacity()
     }
 
-    /// Returns how many nodes were rehashed since the last [`shrink_to_fit`] that lowered the
-    /// capacity, its own included.
+    /// Returns how many nodes were rehashed since [`shrink_to_fit`] last lowered the capacity, its
+    /// own included.
     ///
-    /// A change of the number of buckets rehashes all pairs, and any other call none. The count is
-    /// at most the number of buckets, and below twice the capacity unless that is 0. It is O(1) and
+    /// Only a change of the number of buckets rehashes, and it rehashes all pairs. The count is at
+    /// most the number of buckets, and below twice the capacity unless that is 0. It is O(1) and
     /// does not allocate.
     ///
     /// [`shrink_to_fit`]: LinkedHashMap::shrink_to_fit
@@ -632,7 +627,7 @@ impl<K: Eq + Hash, V, S: BuildHasher> LinkedHashMap<K, V, S> {
     }
 
     /// Removes the front pair and returns it, or returns `None` if the map is empty. The capacity
-    /// stays. It is O(1) on average and does not allocate.
+    /// stays. It is O(1) on average, compares no key and does not allocate.
     ///
     /// # Examples
     ///
@@ -675,7 +670,7 @@ impl<K: Eq + Hash, V, S: BuildHasher> LinkedHashMap<K, V, S> {
     }
 
     /// Removes the back pair and returns it, or returns `None` if the map is empty. The capacity
-    /// stays. It is O(1) on average and does not allocate.
+    /// stays. It is O(1) on average, compares no key and does not allocate.
     ///
     /// # Examples
     ///
@@ -959,9 +954,8 @@ impl<K: Eq + Hash, V, S: BuildHasher> LinkedHashMap<K, V, S> {
 
     /// Removes all pairs and returns them as a double-ended iterator, front to back.
     ///
-    /// The map is empty and has the same capacity from the call on, also if the iterator is
-    /// forgotten, which leaks the pairs that are left. The call is O(capacity), each item O(1), and
-    /// neither allocates.
+    /// The map is empty and keeps its capacity from the call on. Forgetting the iterator leaks the
+    /// pairs that are left. The call is O(capacity), each item O(1), and neither allocates.
     ///
     /// # Examples
     ///

@@ -127,7 +127,7 @@ impl<T> Sessions<T> {
     /// allocation fails or the map is full, with the payload; the table is then unchanged. It
     /// allocates at most once: a vector of exactly the sessions removed, or, if there are none,
     /// room for a new id. So a put of a present id that removes none is never refused. It is O(n)
-    /// for n sessions removed.
+    /// for n sessions removed, or, if the number of buckets changes, for n sessions held.
     ///
     /// # Examples
     ///

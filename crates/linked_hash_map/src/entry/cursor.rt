@@ -145,8 +145,8 @@ impl<K: Eq + Hash, V, S: BuildHasher> LinkedHashMap<K, V, S> {
 }
 
 impl<'a, K: Eq + Hash, V, S: BuildHasher> Entries<'a, K, V, S> {
-    /// Returns the entry of the next pair, or `None` if every pair has been visited. The entry is
-    /// lent until the cursor is used again. It is O(1) and does not allocate.
+    /// Returns the entry of the next pair, or `None` if every pair has been visited. It lends the
+    /// entry until the cursor is used again, is O(1) and does not allocate.
     ///
     /// # Examples
     ///

@@ -107,11 +107,11 @@ impl<'a, K: Eq + Hash, V, S: BuildHasher> OccupiedEntry<'a, K, V, S> {
         map.leave_current()
     }
 
-    /// Replaces the value and returns the old one; the pair moves to the back, or in
-    /// [`Mode::Keep`](crate::Mode::Keep) stays in its place.
+    /// Replaces the value and returns the old one. The pair moves to the back, or in
+    /// [`Mode::Keep`](crate::Mode::Keep) stays in its place, and stays the entry's.
     ///
-    /// The entry still has the pair. It is O(1) and does not allocate. The original's documentation
-    /// says only that the value is set; its code moves the pair too.
+    /// It is O(1) and does not allocate. The original's documentation says only that the value is
+    /// set; its code moves the pair too.
     ///
     /// # Examples
     ///
@@ -139,7 +139,7 @@ impl<'a, K: Eq + Hash, V, S: BuildHasher> OccupiedEntry<'a, K, V, S> {
     }
 
     /// Removes the pair, drops the stored key and returns the value. The order of the others and
-    /// the capacity stay. It is O(1) on average and does not allocate.
+    /// the capacity stay. It is O(1) on average, compares no key and does not allocate.
     ///
     /// # Examples
     ///

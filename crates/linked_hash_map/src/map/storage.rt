@@ -321,8 +321,8 @@ impl<K: Eq + Hash, V, S: BuildHasher> LinkedHashMap<K, V, S> {
         self.table.push_back(number, key, value);
     }
 
-    /// Makes room for one more pair, at full capacity by raising it by one, and returns whether it
-    /// did.
+    /// Makes room for one more pair, at full capacity by raising it by one, and returns whether
+    /// there is room.
     #[inline]
     pub(crate) fn make_room(&mut self) -> bool
         ensures pairs { self.new.pairs ≡ self.old.pairs }
