@@ -57,7 +57,8 @@ impl<K, V> Ring<K, V> {
         Some(Position::new(self.nodes.links(guard).next))
     }
 
-    /// Returns the position of the back triple, or `None` if nothing is held. No two are the same.
+    /// Returns the position of the back triple, or `None` if nothing is held. No two triples share
+    /// one.
     pub fn last(&self) -> Option<Position<K, V>>
         ensures last { pointer_of_some result ≡ last_at self.now.held }
         ensures apart { IsApart (map (λ t. t.at) self.now.held) }
@@ -69,7 +70,7 @@ impl<K, V> Ring<K, V> {
         Some(Position::new(self.nodes.links(guard).prev))
     }
 
-    /// Returns the position right behind one, or `None` at the back. No two are the same.
+    /// Returns the position right behind one, or `None` at the back. No two triples share one.
     pub fn next(&self, at: Position<K, V>) -> Option<Position<K, V>>
         requires { IsHeld self.now.held (pointer_of at) }
         ensures next { AtHeld self.now.held (pointer_of at) (λ xs t ys. pointer_of_some result ≡ first_at ys) }
@@ -94,7 +95,7 @@ impl<K, V> Ring<K, V> {
         Some(Position::new(previous))
     }
 
-    /// Returns the chain link at a position, or `None` if it leads nowhere. It is the caller's.
+    /// Returns where the chain link at a position leads, or `None`. The link is its caller's.
     pub fn link(&self, at: Position<K, V>) -> Option<Position<K, V>>
         requires { IsHeld self.now.held (pointer_of at) }
         ensures link { AtHeld self.now.held (pointer_of at) (λ xs t ys. pointer_of_some result ≡ t.link) }

@@ -108,8 +108,8 @@ impl<K, V> Index<K, V> {
         }
     }
 
-    /// Allocates an index of empty buckets for a capacity, in O(n): all that a resize of it
-    /// allocates. For capacity 0 it has no buckets, does not allocate, and never fails.
+    /// Allocates an index of empty buckets for a capacity, in O(n): all that a resize allocates.
+    /// For capacity 0 it has no buckets, does not allocate, and never fails.
     pub fn with_buckets(alloc: Global, capacity: usize) -> Result<Index<K, V>, AllocError>
         requires { capacity ≤ 2 ^ 59 }
         ensures buckets { IfOk result (λ i. length i ≡ buckets capacity) }

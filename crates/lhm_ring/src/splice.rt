@@ -15,8 +15,8 @@ pub(crate) struct Spliced {
     pub(crate) spare: Link,
 }
 
-/// Makes the `count` nodes from `first` on spare, and returns the first spare one, which is the
-/// last of them. What they hold and their links for the order stay.
+/// Makes the `count` nodes from `first` on spare, and returns the first spare one. The last of them
+/// comes first. What they hold and their links for the order stay.
 fn spare_row<K, V>(
     nodes: &mut Nodes<Links, K, V>,
     first: NodePointer,

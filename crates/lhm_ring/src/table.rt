@@ -115,8 +115,8 @@ impl<K, V> Table<K, V> {
         self.ring.len() + self.ring.spares()
     }
 
-    /// Returns how many nodes rehashes have moved since `shrink_to_fit` last lowered the capacity, that
-    /// call included.
+    /// Returns how many nodes rehashes have moved since `shrink_to_fit` last lowered the capacity,
+    /// that call included.
     pub fn rechained(&self) -> usize
         ensures value { result ≡ self.now.rechained }
         ensures few { self.now.rechained ≤ buckets self.now.capacity }
@@ -330,7 +330,8 @@ impl<K: Eq, V> Table<K, V> {
         self.index.find(&self.ring, hash, key)
     }
 
-    /// Removes the pair with this hash and this key and returns it, or returns `None` if there is none.
+    /// Removes the pair with this hash and this key and returns it, or returns `None` if there is
+    /// none.
     pub fn remove(&mut self, hash: u64, key: &K) -> Option<(K, V)>
         ensures removed { IfSome result (Removes K.eq hash key.now self.old.held self.new.held) }
         ensures absent { IfNone result (IsAbsent K.eq hash key.now self.old.held) }

@@ -6,13 +6,12 @@ use crate::map::LinkedHashMap;
 use std::alloc::AllocError;
 use std::hash::{BuildHasher, Hash};
 
-/// Clones a map: its hasher, its mode and its pairs, inserted in order, with its length as
-/// capacity.
+/// Clones the hasher and the pairs, inserted in order. The clone has the same mode, and its
+/// capacity is its source's length.
 ///
-/// If two clones of keys are equal, the later replaces the earlier. Returns an error if an
+/// If clones of two keys are equal, the later replaces the earlier. Returns an error if an
 /// allocation fails, or the clone of a key, a value or the hasher; an empty map is refused only if
-/// the clone of its hasher is. The source is unchanged. Each pair costs an `insert`. It allocates
-/// room for the pairs and what their clones allocate.
+/// the clone of its hasher is. Each pair costs an `insert`.
 ///
 /// # Examples
 ///

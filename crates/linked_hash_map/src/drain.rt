@@ -8,9 +8,9 @@ use std::iter::FusedIterator;
 
 /// A double-ended iterator over the pairs removed by `drain`, which returns it.
 ///
-/// The map is empty and has the same capacity from that call on. Dropping the iterator drops the
-/// pairs that are left, in O(n); forgetting it leaks them, and nothing else. Its calls are O(1) and
-/// do not allocate.
+/// The map is empty and keeps its capacity from that call on. Dropping the iterator drops the pairs
+/// left, in O(n); forgetting it leaks them, and nothing else. Its calls are O(1) and do not
+/// allocate.
 ///
 /// # Examples
 ///
@@ -41,7 +41,7 @@ impl<'a, K, V> Drain<'a, K, V> {
     }
 }
 
-/// Drops the pairs that are left.
+/// Drops the pairs left.
 impl<'a, K: Drop, V: Drop> Drop for Drain<'a, K, V> {
     fn drop(self) {
         let Drain { nodes } = self;
@@ -49,7 +49,7 @@ impl<'a, K: Drop, V: Drop> Drop for Drain<'a, K, V> {
     }
 }
 
-/// `next` yields the front pair that is left; the size hint is exact.
+/// `next` yields the front pair left; the size hint is exact.
 impl<'a, K: Drop, V: Drop> Iterator for Drain<'a, K, V> {
     ghost use Rattle.linked_hash_map.specs.Drains.{drain_rest, DrainSteps};
 
@@ -76,7 +76,7 @@ impl<'a, K: Drop, V: Drop> Iterator for Drain<'a, K, V> {
     }
 }
 
-/// `next_back` yields the back pair that is left.
+/// `next_back` yields the back pair left.
 impl<'a, K: Drop, V: Drop> DoubleEndedIterator for Drain<'a, K, V> {
     ghost use Rattle.linked_hash_map.specs.Drains.{DrainStepsBack};
 
@@ -90,7 +90,7 @@ impl<'a, K: Drop, V: Drop> DoubleEndedIterator for Drain<'a, K, V> {
     }
 }
 
-/// `len` is the number of pairs that are left.
+/// `len` is the number of pairs left.
 impl<'a, K: Drop, V: Drop> ExactSizeIterator for Drain<'a, K, V> {
     fn len(&self) -> usize {
         self.nodes.len()

@@ -1,7 +1,5 @@
-//! The entry of a key: its pair, or the key alone, whose pair would go to the back.
-//!
-//! `entry` returns one for any key, a cursor (`entries`) one for each present key in turn. It
-//! reads, changes, inserts or removes the pair without a second lookup.
+//! The entry of a key: its pair, or the key alone, whose pair would go to the back. It reads,
+//! changes, inserts or removes the pair without a second lookup.
 ghost use Rattle.std.specs.Prelude.{◌≡◌, ◌<◌, None, length};
 ghost use Rattle.linked_hash_map.specs.Pairs.{find};
 ghost use Rattle.linked_hash_map.specs.Cursor.{IsOutside, IsOutside-prop};
@@ -16,8 +14,8 @@ use crate::map::{DefaultHashBuilder, LinkedHashMap};
 pub use cursor::Entries;
 use std::hash::{BuildHasher, Hash};
 
-/// The entry of a key, present or absent. It is returned by `entry`. Dropping it leaves the pairs
-/// and their order as they are.
+/// The entry of a key, returned by `entry`. Dropping it leaves the pairs and their order as they
+/// are.
 ///
 /// # Examples
 ///
@@ -40,8 +38,7 @@ pub enum Entry<'a, K: Eq + Hash, V, S: BuildHasher = DefaultHashBuilder> {
     Vacant(VacantEntry<'a, K, V, S>),
 }
 
-/// The entry of a present key: one pair of a map. None of its calls allocates or ends the visit of
-/// a cursor.
+/// The entry of a present key. None of its calls allocates or ends the visit of a cursor.
 ///
 /// # Examples
 ///

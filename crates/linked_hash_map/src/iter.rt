@@ -1,8 +1,7 @@
 //! The double-ended iterators over a map.
 //!
-//! A contract sees an iterator as the list of its items left: `next` and `next_back`, in any
-//! mixture, yield each once and then return `None` for good. No call allocates, except the clone of
-//! an [`IntoIter`].
+//! A contract sees an iterator as the list of items left: `next` and `next_back`, in any mixture,
+//! yield each once and then return `None` for good.
 ghost use Rattle.std.specs.Prelude.{◌≡◌, Some, IfSome, length, ⊤};
 ghost use Rattle.std.specs.Iterator.{at_most, UpTo};
 ghost use Rattle.std.specs.Iterator.SizeHint.{IsWithinCount};
@@ -26,8 +25,8 @@ pub use iter_mut::IterMut;
 pub use keys::Keys;
 pub use values::Values;
 
-/// A double-ended iterator over the pairs of a map. It is returned by `iter`, or made by a loop
-/// over `&map`. Its calls are O(1) and do not allocate. A clone has the same pairs left.
+/// A double-ended iterator over the pairs of a map, returned by `iter` or a loop over `&map`. Its
+/// calls are O(1) and do not allocate. A clone has the same pairs left.
 ///
 /// # Examples
 ///
@@ -69,7 +68,7 @@ impl<'a, K, V> Iter<'a, K, V> {
     }
 }
 
-/// `next` yields the front pair that is left; the size hint is exact.
+/// `next` yields the front pair left; the size hint is exact.
 impl<'a, K, V> Iterator for Iter<'a, K, V> {
     type Item = (&'a K, &'a V);
 
@@ -94,7 +93,7 @@ impl<'a, K, V> Iterator for Iter<'a, K, V> {
     }
 }
 
-/// `next_back` yields the back pair that is left.
+/// `next_back` yields the back pair left.
 impl<'a, K, V> DoubleEndedIterator for Iter<'a, K, V> {
     ghost next_back_gives = { TakesLast deref_pair };
 
@@ -106,7 +105,7 @@ impl<'a, K, V> DoubleEndedIterator for Iter<'a, K, V> {
     }
 }
 
-/// `len` is the number of pairs that are left.
+/// `len` is the number of pairs left.
 impl<'a, K, V> ExactSizeIterator for Iter<'a, K, V> {
     fn len(&self) -> usize {
         self.nodes.len()
@@ -151,7 +150,7 @@ impl<'a, K: Eq + Hash, V, S: BuildHasher> IntoIterator for &'a LinkedHashMap<K, 
 
     type IntoIter = Iter<'a, K, V>;
 
-    // Its last two parts are laws of iterators, for the proofs of callers: any body meets them.
+    // Its last two parts are laws of iterators, for the proofs of callers.
     ghost into_iter_gives = { λ map walk. (walk ≡ map.now.pairs) × IsValid K.eq map.now × ShowsInOrder (deref_pair {K = K} {X = V}) × ShowsInReverse (deref_pair {K = K} {X = V}) };
 
     fn into_iter(self) -> Iter<'a, K, V> {

@@ -115,8 +115,8 @@ pub struct LinkedHashMap<K: Eq + Hash, V, S: BuildHasher = DefaultHashBuilder> {
     mode: Mode,
 }
 
-/// A contract sees a map as its pairs, front to back, its capacity, its hasher, its mode, and what
-/// a cursor has still to visit.
+/// A contract sees a map as its pairs, front to back, its capacity, hasher and mode, and the pairs
+/// left to visit.
 impl<K: Eq + Hash, V, S: BuildHasher> Model for LinkedHashMap<K, V, S> {
     ghost use Rattle.linked_hash_map.specs.LinkedMap.{LinkedMap, linked_map_code};
     ghost use Rattle.linked_hash_map.specs.Nodes.{IsKept, map_of, mark_of, unvisited_of, current_of};
@@ -133,7 +133,7 @@ impl<K: Eq + Hash, V, S: BuildHasher> Model for LinkedHashMap<K, V, S> {
 
 impl<K: Eq + Hash, V> LinkedHashMap<K, V> {
     /// Creates an empty map of capacity 0 with the default hasher, whose seed is fixed. It is O(1)
-    /// and does not allocate. `alloc` makes later allocations.
+    /// and does not allocate.
     ///
     /// # Examples
     ///
@@ -154,8 +154,8 @@ impl<K: Eq + Hash, V> LinkedHashMap<K, V> {
 
     /// Creates an empty map of exactly this capacity with the default hasher, whose seed is fixed.
     ///
-    /// Returns `TooLarge` exactly if the capacity is above [`LIMIT`], and `NoRoom` if an allocation
-    /// fails. It allocates the whole capacity, in O(capacity), and nothing for capacity 0.
+    /// Returns `TooLarge` exactly if it is above [`LIMIT`], and `NoRoom` if an allocation fails. It
+    /// is O(capacity), and does not allocate for capacity 0.
     ///
     /// # Examples
     ///
@@ -186,7 +186,6 @@ impl<K: Eq + Hash, V, S: BuildHasher> LinkedHashMap<K, V, S> {
     ghost use Rattle.linked_hash_map.specs.ValueWalks.{pairs_left, loan_name};
 
     /// Creates an empty map of capacity 0 with a build hasher. It is O(1) and does not allocate.
-    /// `alloc` makes later allocations.
     ///
     /// # Examples
     ///
@@ -211,9 +210,8 @@ impl<K: Eq + Hash, V, S: BuildHasher> LinkedHashMap<K, V, S> {
 
     /// Creates an empty map of exactly this capacity with a build hasher.
     ///
-    /// Returns `TooLarge` exactly if the capacity is above [`LIMIT`], and `NoRoom` if an allocation
-    /// fails; the hasher is then dropped. It allocates the whole capacity, in O(capacity), and
-    /// nothing for capacity 0.
+    /// Returns `TooLarge` exactly if it is above [`LIMIT`], and `NoRoom` if an allocation fails;
+    /// the hasher is then dropped. It is O(capacity), and does not allocate for capacity 0.
     ///
     /// # Examples
     ///
@@ -279,9 +277,9 @@ impl<K: Eq + Hash, V, S: BuildHasher> LinkedHashMap<K, V, S> {
 
     /// Raises the capacity to exactly the number of pairs plus `additional`, if it is below that.
     ///
-    /// Returns `TooLarge` exactly if that sum, without overflow, is above [`LIMIT`], and `NoRoom`
-    /// if an allocation fails; the map is then unchanged. It is O(capacity) for the new capacity.
-    /// Within the old one it does not allocate and is never refused.
+    /// Returns `TooLarge` exactly if that sum is above [`LIMIT`], also if it overflows, and
+    /// `NoRoom` if an allocation fails; the map is then unchanged. It is O(capacity) for the new
+    /// capacity. Within the old one it does not allocate and is never refused.
     ///
     /// # Examples
     ///
@@ -322,12 +320,11 @@ impl<K: Eq + Hash, V, S: BuildHasher> LinkedHashMap<K, V, S> {
         }
     }
 
-    /// Lowers the capacity to exactly the number of pairs.
+    /// Lowers the capacity to exactly the number of pairs; an empty map frees all its memory.
     ///
-    /// Returns `NoRoom` if an allocation fails; the map is then unchanged. A map that is empty or
-    /// at full capacity is never refused, and an empty one frees all its memory. It is O(capacity)
-    /// for the old capacity, and allocates only if pairs are left and there are to be fewer
-    /// buckets.
+    /// Returns `NoRoom` if an allocation fails; the map is then unchanged. It is O(capacity) for
+    /// the old capacity. It allocates, and can be refused, only if pairs are left and there are to
+    /// be fewer buckets.
     ///
     /// # Examples
     ///
@@ -366,8 +363,8 @@ impl<K: Eq + Hash, V, S: BuildHasher> LinkedHashMap<K, V, S> {
     /// A present key is never refused: its pair keeps the stored key and moves to the back, or in
     /// [`Mode::Keep`] stays in its place, and `key` is dropped. A new key goes to the back. At full
     /// capacity it raises the capacity by exactly one or is refused: the error has this key and
-    /// this value, and the map is unchanged. It is O(1) on average and does not allocate, except
-    /// for a new key at full capacity, which is O(n) if the number of buckets changes.
+    /// this value, and the map is unchanged. It is O(1) on average, or O(n) if the number of
+    /// buckets changes, and allocates only for a new key at full capacity.
     ///
     /// # Examples
     ///
@@ -428,8 +425,7 @@ impl<K: Eq + Hash, V, S: BuildHasher> LinkedHashMap<K, V, S> {
         self.get(key).is_some()
     }
 
-    /// Returns a reference to the value of a key, or `None` if the key is absent. It is O(1) on
-    /// average and does not allocate.
+    /// Returns the value of a key, if present. It is O(1) on average and does not allocate.
     ///
     /// # Examples
     ///
@@ -445,10 +441,10 @@ impl<K: Eq + Hash, V, S: BuildHasher> LinkedHashMap<K, V, S> {
         self.get_counted(key).0
     }
 
-    /// Returns a reference to the value of a key, if present, and the counts of the lookup.
+    /// Returns the value of a key, if present, and the counts of the lookup.
     ///
     /// For an absent key it reaches each node of the bucket's chain and compares each key with the
-    /// same hash; for a present key it does no more. All lookups search as it does. It is O(1) on
+    /// same hash; for a present key it does no more. Every lookup searches so. It is O(1) on
     /// average and does not allocate.
     ///
     /// # Examples
@@ -489,8 +485,8 @@ impl<K: Eq + Hash, V, S: BuildHasher> LinkedHashMap<K, V, S> {
         }
     }
 
-    /// Returns a mutable reference to the value of a key, or `None` if the key is absent. It is
-    /// O(1) on average and does not allocate.
+    /// Returns the value of a key, mutable, if present. It is O(1) on average and does not
+    /// allocate.
     ///
     /// # Examples
     ///
@@ -514,11 +510,8 @@ impl<K: Eq + Hash, V, S: BuildHasher> LinkedHashMap<K, V, S> {
         }
     }
 
-    /// Moves the pair of a key to the back, in both modes, and returns a mutable reference to its
-    /// value.
-    ///
-    /// Returns `None` if the key is absent; the map is then unchanged. It is O(1) on average and
-    /// does not allocate.
+    /// Moves the pair of a key to the back, in both modes, and returns its value, mutable, if
+    /// present. Otherwise the map is unchanged. It is O(1) on average and does not allocate.
     ///
     /// # Examples
     ///
@@ -547,10 +540,8 @@ impl<K: Eq + Hash, V, S: BuildHasher> LinkedHashMap<K, V, S> {
         }
     }
 
-    /// Removes the pair of a key and returns its value, or returns `None` if the key is absent.
-    ///
-    /// The stored key is dropped, and the order of the others and the capacity stay. It is O(1) on
-    /// average and does not allocate.
+    /// Removes the pair of a key and returns its value, if present; the stored key is dropped. The
+    /// order of the others and the capacity stay. It is O(1) on average and does not allocate.
     ///
     /// # Examples
     ///
@@ -600,11 +591,10 @@ impl<K: Eq + Hash, V, S: BuildHasher> LinkedHashMap<K, V, S> {
     }
 
     /// Returns how many nodes were rehashed since [`shrink_to_fit`] last lowered the capacity, its
-    /// own included.
+    /// own included. It is O(1) and does not allocate.
     ///
     /// Only a change of the number of buckets rehashes, and it rehashes all pairs. The count is at
-    /// most the number of buckets, and below twice the capacity unless that is 0. It is O(1) and
-    /// does not allocate.
+    /// most the number of buckets, and below twice the capacity unless that is 0.
     ///
     /// [`shrink_to_fit`]: LinkedHashMap::shrink_to_fit
     ///
@@ -626,8 +616,8 @@ impl<K: Eq + Hash, V, S: BuildHasher> LinkedHashMap<K, V, S> {
         self.table.rechained()
     }
 
-    /// Removes the front pair and returns it, or returns `None` if the map is empty. The capacity
-    /// stays. It is O(1) on average, compares no key and does not allocate.
+    /// Removes and returns the front pair, if any. The capacity stays. It is O(1) on average,
+    /// compares no key and does not allocate.
     ///
     /// # Examples
     ///
@@ -651,8 +641,7 @@ impl<K: Eq + Hash, V, S: BuildHasher> LinkedHashMap<K, V, S> {
         Some(self.table.remove_at(front))
     }
 
-    /// Returns references to the front pair, or `None` if the map is empty. It is O(1) and does not
-    /// allocate.
+    /// Returns the front pair, if any. It is O(1) and does not allocate.
     ///
     /// # Examples
     ///
@@ -669,8 +658,8 @@ impl<K: Eq + Hash, V, S: BuildHasher> LinkedHashMap<K, V, S> {
         Some((self.table.key(at), self.table.value(at)))
     }
 
-    /// Removes the back pair and returns it, or returns `None` if the map is empty. The capacity
-    /// stays. It is O(1) on average, compares no key and does not allocate.
+    /// Removes and returns the back pair, if any. The capacity stays. It is O(1) on average,
+    /// compares no key and does not allocate.
     ///
     /// # Examples
     ///
@@ -694,8 +683,7 @@ impl<K: Eq + Hash, V, S: BuildHasher> LinkedHashMap<K, V, S> {
         Some(self.table.remove_at(back))
     }
 
-    /// Returns references to the back pair, or `None` if the map is empty. It is O(1) and does not
-    /// allocate.
+    /// Returns the back pair, if any. It is O(1) and does not allocate.
     ///
     /// # Examples
     ///
@@ -789,7 +777,7 @@ impl<K: Eq + Hash, V, S: BuildHasher> LinkedHashMap<K, V, S> {
         self.mode
     }
 
-    /// Returns how many pairs are left to visit, or 0 if no visit is under way. It is O(1) and does
+    /// Returns the number of pairs left to visit, or 0 if there is no visit. It is O(1) and does
     /// not allocate.
     ///
     /// # Examples
@@ -852,8 +840,7 @@ impl<K: Eq + Hash, V, S: BuildHasher> LinkedHashMap<K, V, S> {
         drop(self.table.drain());
     }
 
-    /// Returns a double-ended iterator over the pairs, front to back. The call and each item are
-    /// O(1) and do not allocate.
+    /// Returns a double-ended iterator over the pairs, front to back, in O(1) without allocating.
     ///
     /// # Examples
     ///
@@ -870,15 +857,15 @@ impl<K: Eq + Hash, V, S: BuildHasher> LinkedHashMap<K, V, S> {
     pub fn iter(&self) -> Iter<'_, K, V>
         ensures pairs { result ≡ self.now.pairs }
         ensures valid { IsValid K.eq self.now }
-        // Laws of iterators, for the proofs of callers: any body meets them.
+        // Laws of iterators, for the proofs of callers.
         ensures runs { ShowsInOrder (deref_pair {K = K} {X = V}) }
         ensures runs_back { ShowsInReverse (deref_pair {K = K} {X = V}) }
     {
         Iter::new(&self.table)
     }
 
-    /// Returns a double-ended iterator over the pairs, front to back, with mutable values. The call
-    /// and each item are O(1) and do not allocate.
+    /// Returns a double-ended iterator over the pairs, front to back, with mutable values, in O(1)
+    /// without allocating.
     ///
     /// # Examples
     ///
@@ -893,19 +880,18 @@ impl<K: Eq + Hash, V, S: BuildHasher> LinkedHashMap<K, V, S> {
     /// ```
     pub fn iter_mut(&mut self) -> IterMut<'_, K, V>
         ensures* writes_back { sem 𝓛 (lends_values K.row V.row S.row S.Hasher.row K.Hash S.BuildHasher S.Hasher.Hasher self.entry (loan_name result)) }
-        // A law of lists, for the proofs of callers: any body meets it.
+        // A law of lists, for the proofs of callers.
         ensures keeps { KeysStand self.old.pairs }
         ensures rest { pairs_left result ≡ self.old.pairs }
         ensures valid { IsValid K.eq self.old }
-        // Laws of iterators, for the proofs of callers: any body meets them.
+        // Laws of iterators, for the proofs of callers.
         ensures runs { LendsValuesInOrder (pairs_left {K = K} {V = V}) }
         ensures runs_back { LendsValuesInReverse (pairs_left {K = K} {V = V}) }
     {
         IterMut::new(self.lend())
     }
 
-    /// Returns a double-ended iterator over the keys, front to back. The call and each item are
-    /// O(1) and do not allocate.
+    /// Returns a double-ended iterator over the keys, front to back, in O(1) without allocating.
     ///
     /// # Examples
     ///
@@ -921,15 +907,14 @@ impl<K: Eq + Hash, V, S: BuildHasher> LinkedHashMap<K, V, S> {
     pub fn keys(&self) -> Keys<'_, K, V>
         ensures keys { result ≡ keys_of self.now.pairs }
         ensures valid { IsValid K.eq self.now }
-        // Laws of iterators, for the proofs of callers: any body meets them.
+        // Laws of iterators, for the proofs of callers.
         ensures runs { ShowsInOrder (deref {X = K}) }
         ensures runs_back { ShowsInReverse (deref {X = K}) }
     {
         Keys::new(self.iter())
     }
 
-    /// Returns a double-ended iterator over the values, front to back. The call and each item are
-    /// O(1) and do not allocate.
+    /// Returns a double-ended iterator over the values, front to back, in O(1) without allocating.
     ///
     /// # Examples
     ///
@@ -945,7 +930,7 @@ impl<K: Eq + Hash, V, S: BuildHasher> LinkedHashMap<K, V, S> {
     pub fn values(&self) -> Values<'_, K, V>
         ensures values { result ≡ values_of self.now.pairs }
         ensures valid { IsValid K.eq self.now }
-        // Laws of iterators, for the proofs of callers: any body meets them.
+        // Laws of iterators, for the proofs of callers.
         ensures runs { ShowsInOrder (deref {X = V}) }
         ensures runs_back { ShowsInReverse (deref {X = V}) }
     {
@@ -955,7 +940,7 @@ impl<K: Eq + Hash, V, S: BuildHasher> LinkedHashMap<K, V, S> {
     /// Removes all pairs and returns them as a double-ended iterator, front to back.
     ///
     /// The map is empty and keeps its capacity from the call on. Forgetting the iterator leaks the
-    /// pairs that are left. The call is O(capacity), each item O(1), and neither allocates.
+    /// pairs left. The call is O(capacity) and does not allocate.
     ///
     /// # Examples
     ///
@@ -973,7 +958,7 @@ impl<K: Eq + Hash, V, S: BuildHasher> LinkedHashMap<K, V, S> {
         ensures* writes_back { sem 𝓛 (lends_drained K.row V.row S.row S.Hasher.row K.Hash S.BuildHasher S.Hasher.Hasher self.entry (drain_name result)) }
         ensures rest { drain_rest result ≡ self.old.pairs }
         ensures valid { IsValid K.eq self.old }
-        // Laws of iterators, for the proofs of callers: any body meets them.
+        // Laws of iterators, for the proofs of callers.
         ensures runs { YieldsInOrder (DrainSteps {K = K} {V = V}) drain_rest }
         ensures runs_back { YieldsInReverse (DrainStepsBack {K = K} {V = V}) drain_rest }
         ensures stays { DrainKeepsAlong DrainSteps result }

@@ -54,9 +54,9 @@ use std::marker::Model;
 
 /// A table of sessions with a limit on the sum of their weights.
 ///
-/// Ids are distinct, and sessions are in the order of their last put or touch. A call that is given
-/// an id looks it up in a map whose hasher has a fixed seed, in O(1) on average. Dropping a table
-/// drops its payloads, in O(n).
+/// Ids are distinct, and sessions are in the order of their last put or touch. A call with an id
+/// looks it up, in O(1) on average, in a map whose hasher has a fixed seed. Dropping a table drops
+/// its payloads, in O(n).
 ///
 /// # Examples
 ///
@@ -96,7 +96,7 @@ impl<T> Sessions<T> {
     ghost use Rattle.linked_hash_map.specs.SessionLends.{lends_payload};
 
     /// Creates an empty table with a limit on the sum of the weights. It is O(1) and does not
-    /// allocate. `alloc` makes later allocations.
+    /// allocate.
     ///
     /// # Examples
     ///
@@ -120,14 +120,15 @@ impl<T> Sessions<T> {
     /// Puts a session at the back, in place of the one with its id, if any, and removes others from
     /// the front until the weights sum to at most the limit.
     ///
-    /// Returns the payload that the id had and the sessions removed, front to back. The longest end
-    /// of the order that fits stays, always with the new session; the replaced one does not count.
+    /// Returns the payload that the id had and the sessions removed, front to back. What stays is
+    /// the longest end of the order that fits, with the new session. The replaced one does not
+    /// count.
     ///
     /// Returns `TooHeavy` exactly if the weight is above the limit, and else `NoRoom` if an
     /// allocation fails or the map is full, with the payload; the table is then unchanged. It
     /// allocates at most once: a vector of exactly the sessions removed, or, if there are none,
-    /// room for a new id. So a put of a present id that removes none is never refused. It is O(n)
-    /// for n sessions removed, or, if the number of buckets changes, for n sessions held.
+    /// room for a new id. It is O(n) for n sessions removed, or, if the number of buckets changes,
+    /// for n sessions held.
     ///
     /// # Examples
     ///
@@ -180,10 +181,8 @@ impl<T> Sessions<T> {
         Ok(Put { old, gone })
     }
 
-    /// Moves the session with an id to the back and returns a mutable reference to its payload.
-    ///
-    /// Returns `None` if there is none; the table is then unchanged. It is O(1) on average and does
-    /// not allocate.
+    /// Moves the session with an id to the back and returns its payload, mutable, if present.
+    /// Otherwise the table is unchanged. It is O(1) on average and does not allocate.
     ///
     /// # Examples
     ///
@@ -208,8 +207,8 @@ impl<T> Sessions<T> {
         }
     }
 
-    /// Removes the session with an id and returns its payload, or returns `None` if there is none.
-    /// The order of the others stays. It is O(1) on average and does not allocate.
+    /// Removes the session with an id and returns its payload, if present. The order of the others
+    /// stays. It is O(1) on average and does not allocate.
     ///
     /// # Examples
     ///
@@ -263,8 +262,8 @@ impl<T> Sessions<T> {
         self.map.len()
     }
 
-    /// Returns an iterator over the sessions, front to back, each as its id, weight and payload.
-    /// The call and each item are O(1) and do not allocate.
+    /// Returns an iterator over the sessions, front to back, each as its id, weight and payload, in
+    /// O(1) without allocating.
     ///
     /// # Examples
     ///
@@ -279,7 +278,7 @@ impl<T> Sessions<T> {
     pub fn iter(&self) -> SessionIter<'_, T>
         ensures sessions { result ≡ self.now.sessions }
         ensures valid { IsValidTable self.now }
-        // A law of iterators, for the proofs of callers: any body meets it.
+        // A law of iterators, for the proofs of callers.
         ensures runs { ShowsInOrder (deref_session {T = T}) }
     {
         SessionIter::new(self.map.iter())

@@ -13,11 +13,11 @@ use super::OccupiedEntry;
 use crate::map::{DefaultHashBuilder, LinkedHashMap};
 use std::hash::{BuildHasher, Hash};
 
-/// A cursor over the entries of a map, front to back. It is returned by `entries`.
+/// A cursor over the entries of a map, front to back, returned by `entries`.
 ///
-/// It visits each pair that the map had at that call once, in the order of then: one that its entry
-/// removed, moved to the back or left in its place is not visited again. Dropping it leaves the map
-/// as it is. The original's is an iterator, whose entries can be held side by side.
+/// It visits each pair that the map had at that call once, in the order of then, whatever its entry
+/// does with it. Dropping it leaves the map as it is. The original's is an iterator, whose entries
+/// can be held side by side.
 ///
 /// # Examples
 ///
@@ -38,10 +38,8 @@ pub struct Entries<'a, K: Eq + Hash, V, S: BuildHasher = DefaultHashBuilder> {
 }
 
 impl<K: Eq + Hash, V, S: BuildHasher> LinkedHashMap<K, V, S> {
-    /// Returns a cursor over the entries, front to back, to read, change or remove their pairs.
-    ///
-    /// It is O(1) and does not allocate. A loop that counts its entries by
-    /// [`remaining`](Entries::remaining) is known to end.
+    /// Returns a cursor over the entries, front to back, in O(1) without allocating. A loop that
+    /// counts its entries by [`remaining`](Entries::remaining) is known to end.
     ///
     /// # Examples
     ///
@@ -72,14 +70,12 @@ impl<K: Eq + Hash, V, S: BuildHasher> LinkedHashMap<K, V, S> {
 
     /// Begins a visit of every pair, front to back, and returns the map.
     ///
-    /// [`next_entry`](LinkedHashMap::next_entry) then returns one entry after another, and
-    /// [`unvisited`](LinkedHashMap::unvisited) counts those left. A new key that is inserted
-    /// meanwhile is not visited. It is O(1) and does not allocate.
-    ///
-    /// A visit ends, with no pair left, at a further one, at [`entries`](LinkedHashMap::entries),
-    /// and at each call of the map that may remove or move a pair that it has: `insert`, `extend`,
-    /// `entry`, `remove` and `get_refresh` of a present key, the pops, `clear` and `drain`. No
-    /// other call ends it.
+    /// [`next_entry`](LinkedHashMap::next_entry) returns one entry after another,
+    /// [`unvisited`](LinkedHashMap::unvisited) the number left. A visit ends at a further one, at
+    /// [`entries`](LinkedHashMap::entries), and at each call of the map that may remove or move a
+    /// pair: `insert`, `extend`, `entry`, `remove` and `get_refresh` of a present key, the pops,
+    /// `clear` and `drain`; no other call ends it. Keys that are new meanwhile are not visited. It
+    /// is O(1) and does not allocate.
     ///
     /// # Examples
     ///
@@ -106,12 +102,11 @@ impl<K: Eq + Hash, V, S: BuildHasher> LinkedHashMap<K, V, S> {
         self
     }
 
-    /// Returns the entry of the next pair to visit, or `None` if none is left.
+    /// Returns the entry of the next pair to visit, if any: none is left if no visit was begun or a
+    /// call ended it.
     ///
-    /// A pair that its entry removed, moved to the back or left in its place is not visited again.
-    /// None is left if no visit was begun, by [`visit`](LinkedHashMap::visit) or
-    /// [`entries`](LinkedHashMap::entries), or if a call ended it. It is O(1) and does not
-    /// allocate.
+    /// A visited pair is not visited again, whatever its entry does with it. It is O(1) and does
+    /// not allocate.
     ///
     /// # Examples
     ///
@@ -145,8 +140,8 @@ impl<K: Eq + Hash, V, S: BuildHasher> LinkedHashMap<K, V, S> {
 }
 
 impl<'a, K: Eq + Hash, V, S: BuildHasher> Entries<'a, K, V, S> {
-    /// Returns the entry of the next pair, or `None` if every pair has been visited. It lends the
-    /// entry until the cursor is used again, is O(1) and does not allocate.
+    /// Returns the entry of the next pair, lent until the cursor is used again, or `None` if every
+    /// pair has been visited. It is O(1) and does not allocate.
     ///
     /// # Examples
     ///
@@ -172,7 +167,7 @@ impl<'a, K: Eq + Hash, V, S: BuildHasher> Entries<'a, K, V, S> {
         map.next_entry()
     }
 
-    /// Returns the number of pairs that are left to visit. It is O(1) and does not allocate.
+    /// Returns the number of pairs left to visit. It is O(1) and does not allocate.
     ///
     /// # Examples
     ///

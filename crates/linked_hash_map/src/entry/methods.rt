@@ -17,8 +17,8 @@ use std::hash::{BuildHasher, Hash};
 impl<K: Eq + Hash, V, S: BuildHasher> LinkedHashMap<K, V, S> {
     /// Returns the entry of a key, to read, change, insert or remove its pair.
     ///
-    /// A present key gives an occupied entry with the stored key, and `key` is dropped. An absent
-    /// key gives a vacant entry, which owns `key`. It is O(1) on average and does not allocate.
+    /// An occupied entry has the stored key, and `key` is dropped; a vacant one owns `key`. It is
+    /// O(1) on average and does not allocate.
     ///
     /// # Examples
     ///
@@ -36,7 +36,7 @@ impl<K: Eq + Hash, V, S: BuildHasher> LinkedHashMap<K, V, S> {
         ensures same_map { (entry_map_ref result).ghost_name ≡ self.entry.ghost_name }
         ensures occupied { is_occupied result ≡ is_some (find K.eq self.old.pairs key) }
         ensures key { entry_key result ≡ key_or key (find K.eq self.old.pairs key) }
-        // It follows from `key`, for the proofs of callers: any body that meets `key` meets it.
+        // A consequence of `key`, for the proofs of callers.
         ensures acts { ActsAs K.eq self.old.pairs (entry_key result) key }
         ensures value { entry_value result ≡ value_at K.eq self.old.pairs key }
         ensures pairs { (entry_map result).pairs ≡ self.old.pairs }
@@ -59,8 +59,7 @@ impl<K: Eq + Hash, V, S: BuildHasher> LinkedHashMap<K, V, S> {
 }
 
 impl<'a, K: Eq + Hash, V, S: BuildHasher> Entry<'a, K, V, S> {
-    /// Returns the stored key of an occupied entry, or the key of a vacant one. It is O(1) and does
-    /// not allocate.
+    /// Returns the key: the stored one of an occupied entry. It is O(1) and does not allocate.
     ///
     /// # Examples
     ///
@@ -113,13 +112,12 @@ impl<'a, K: Eq + Hash, V, S: BuildHasher> Entry<'a, K, V, S> {
         }
     }
 
-    /// Inserts `value` at the back of the map if the entry is vacant, and returns a mutable
-    /// reference to the value.
+    /// Inserts `value` at the back if the entry is vacant, and returns the value, mutable.
     ///
     /// An occupied entry keeps its place and drops `value`. A vacant one at full capacity raises
     /// the capacity by exactly one or is refused, always so in a map of [`LIMIT`] pairs: the error
     /// has the key and this value, and the map is unchanged. Any other entry neither allocates nor
-    /// is refused. It is O(1), and O(n) if the number of buckets changes.
+    /// is refused. It is O(1), or O(n) if the number of buckets changes.
     ///
     /// # Examples
     ///
@@ -148,10 +146,10 @@ impl<'a, K: Eq + Hash, V, S: BuildHasher> Entry<'a, K, V, S> {
         }
     }
 
-    /// Inserts what `f` returns, as `or_insert` does, and returns a mutable reference to the value.
+    /// Inserts the result of `f`, as `or_insert` does, and returns the value, mutable.
     ///
     /// `f` is called once on a vacant entry, before any allocation, and never on an occupied one. A
-    /// refusal has the key and the value of `f`. The cost is that of `or_insert` and of `f`.
+    /// refusal has the key and that result. The cost is that of `or_insert` and of `f`.
     ///
     /// # Examples
     ///
@@ -180,8 +178,7 @@ impl<'a, K: Eq + Hash, V, S: BuildHasher> Entry<'a, K, V, S> {
         vacant.insert(value)
     }
 
-    /// Inserts the default value, as `or_insert` does, and returns a mutable reference to the
-    /// value.
+    /// Inserts the default value, as `or_insert` does, and returns the value, mutable.
     ///
     /// The default is made on a vacant entry alone, before any allocation. A refusal has the key
     /// and the default. The cost is that of `or_insert` and of the default.

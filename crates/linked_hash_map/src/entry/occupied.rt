@@ -11,7 +11,7 @@ use super::OccupiedEntry;
 use std::hash::{BuildHasher, Hash};
 
 impl<'a, K: Eq + Hash, V, S: BuildHasher> OccupiedEntry<'a, K, V, S> {
-    /// Returns a reference to the stored key. It is O(1) and does not allocate.
+    /// Returns the stored key. It is O(1) and does not allocate.
     ///
     /// # Examples
     ///
@@ -31,7 +31,7 @@ impl<'a, K: Eq + Hash, V, S: BuildHasher> OccupiedEntry<'a, K, V, S> {
         self.map.current_pair().0
     }
 
-    /// Returns a reference to the value. It is O(1) and does not allocate.
+    /// Returns the value. It is O(1) and does not allocate.
     ///
     /// # Examples
     ///
@@ -51,7 +51,7 @@ impl<'a, K: Eq + Hash, V, S: BuildHasher> OccupiedEntry<'a, K, V, S> {
         self.map.current_pair().1
     }
 
-    /// Returns a mutable reference to the value. It is O(1) and does not allocate.
+    /// Returns the value, mutable. It is O(1) and does not allocate.
     ///
     /// # Examples
     ///
@@ -70,7 +70,7 @@ impl<'a, K: Eq + Hash, V, S: BuildHasher> OccupiedEntry<'a, K, V, S> {
         ensures value { result.now ≡ occupied_value self.old }
         ensures valid { IsValid K.eq (occupied_map self.old) }
 
-        // The entry, once a value is written: laws, for the proofs of callers, that any body meets.
+        // Laws of the entry once a value is written, for the proofs of callers.
         ensures key { (v : V) → occupied_key (with_occupied_value self.old v) ≡ occupied_key self.old }
         ensures written { (v : V) → occupied_value (with_occupied_value self.old v) ≡ v }
         ensures map { (v : V) → occupied_map (with_occupied_value self.old v)
@@ -80,8 +80,7 @@ impl<'a, K: Eq + Hash, V, S: BuildHasher> OccupiedEntry<'a, K, V, S> {
         self.map.current_value_mut()
     }
 
-    /// Returns a mutable reference to the value for as long as the map is borrowed. It is O(1) and
-    /// does not allocate.
+    /// Returns the value, mutable while the map is borrowed. It is O(1) and does not allocate.
     ///
     /// # Examples
     ///
@@ -98,7 +97,7 @@ impl<'a, K: Eq + Hash, V, S: BuildHasher> OccupiedEntry<'a, K, V, S> {
         ensures value { result.now ≡ occupied_value self.entry }
         ensures valid { IsValid K.eq (occupied_map self.entry) }
 
-        // The map, once a value is written: a law, for the proofs of callers, that any body meets.
+        // A law of the map once a value is written, for the proofs of callers.
         ensures to_visit { (v : V) → to_visit (record (occupied_map self.entry) {
           pairs = set_value K.eq (occupied_map self.entry).pairs (occupied_key self.entry) v;
         }) ≡ to_visit (occupied_map self.entry) }

@@ -12,11 +12,11 @@ use std::hash::{BuildHasher, Hash};
 use std::iter::FusedIterator;
 use std::marker::Model;
 
-/// A double-ended iterator that owns the pairs of a map. It is returned by `into_iter`, or made by
-/// a loop over the map.
+/// A double-ended iterator that owns the pairs of a map, returned by `into_iter` or a loop over the
+/// map.
 ///
-/// `next`, `next_back`, `len` and `size_hint` are O(1) and do not allocate. Dropping it drops the
-/// pairs that are left, in O(n).
+/// Its calls are O(1) and do not allocate, except `clone`. Dropping it drops the pairs left, in
+/// O(n).
 ///
 /// # Examples
 ///
@@ -53,7 +53,7 @@ impl<K, V> IntoIter<K, V> {
     }
 }
 
-/// `next` yields the front pair that is left; the size hint is exact.
+/// `next` yields the front pair left; the size hint is exact.
 impl<K: Drop, V: Drop> Iterator for IntoIter<K, V> {
     type Item = (K, V);
 
@@ -78,7 +78,7 @@ impl<K: Drop, V: Drop> Iterator for IntoIter<K, V> {
     }
 }
 
-/// `next_back` yields the back pair that is left.
+/// `next_back` yields the back pair left.
 impl<K: Drop, V: Drop> DoubleEndedIterator for IntoIter<K, V> {
     ghost next_back_gives = { TakesLast (λ pair. pair) };
 
@@ -90,7 +90,7 @@ impl<K: Drop, V: Drop> DoubleEndedIterator for IntoIter<K, V> {
     }
 }
 
-/// `len` is the number of pairs that are left.
+/// `len` is the number of pairs left.
 impl<K: Drop, V: Drop> ExactSizeIterator for IntoIter<K, V> {
     fn len(&self) -> usize {
         self.nodes.len()
@@ -100,11 +100,10 @@ impl<K: Drop, V: Drop> ExactSizeIterator for IntoIter<K, V> {
 /// Once no pair is left, `next` and `next_back` return `None` for good.
 impl<K: Drop, V: Drop> FusedIterator for IntoIter<K, V> {}
 
-/// Clones the pairs that are left, in the source's allocator.
+/// Clones the pairs left, in O(n), in the source's allocator.
 ///
-/// Returns an error if an allocation or the clone of a key or a value fails; the clones made so far
-/// are then dropped. The source is unchanged. It makes O(n) clones and allocates; with no pair left
-/// it does not allocate and never fails.
+/// Returns an error if an allocation or the clone of a key or a value fails, and drops the clones
+/// made so far. With no pair left it does not allocate and never fails.
 impl<K: Clone, V: Clone> Clone for IntoIter<K, V> {
     ghost use Rattle.std.specs.Prelude.{[]};
 
@@ -119,7 +118,7 @@ impl<K: Clone, V: Clone> Clone for IntoIter<K, V> {
     }
 }
 
-/// A loop over the map itself, which drops the hasher. It is O(1) and does not allocate.
+/// A loop over the map, which drops the hasher. It is O(1) and does not allocate.
 ///
 /// # Examples
 ///
@@ -141,7 +140,7 @@ impl<K: Eq + Hash + Drop, V: Drop, S: BuildHasher + Drop> IntoIterator for Linke
 
     type IntoIter = IntoIter<K, V>;
 
-    // Its last two parts are laws of iterators, for the proofs of callers: any body meets them.
+    // Its last two parts are laws of iterators, for the proofs of callers.
     ghost into_iter_gives = { λ map walk. (walk ≡ map.pairs) × IsValid K.eq map × GivesInOrder (K × V) × GivesInReverse (K × V) };
 
     fn into_iter(self) -> IntoIter<K, V> {

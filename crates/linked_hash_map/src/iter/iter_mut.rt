@@ -10,8 +10,8 @@ use lhm_ring::table::LentValues;
 use std::hash::{BuildHasher, Hash};
 use std::iter::FusedIterator;
 
-/// A double-ended iterator over the pairs of a map, with mutable values. It is returned by
-/// `iter_mut`, or made by a loop over `&mut map`. Its calls are O(1) and do not allocate.
+/// A double-ended iterator over the pairs of a map, with mutable values, returned by `iter_mut` or
+/// a loop over `&mut map`. Its calls are O(1) and do not allocate.
 ///
 /// # Examples
 ///
@@ -46,7 +46,7 @@ impl<'a, K, V> IterMut<'a, K, V> {
     }
 }
 
-/// `next` yields the front pair that is left; the size hint is exact.
+/// `next` yields the front pair left; the size hint is exact.
 impl<'a, K, V> Iterator for IterMut<'a, K, V> {
     ghost use Rattle.linked_hash_map.specs.ValueWalks.{pairs_left};
 
@@ -73,7 +73,7 @@ impl<'a, K, V> Iterator for IterMut<'a, K, V> {
     }
 }
 
-/// `next_back` yields the back pair that is left.
+/// `next_back` yields the back pair left.
 impl<'a, K, V> DoubleEndedIterator for IterMut<'a, K, V> {
     ghost use Rattle.linked_hash_map.specs.ValueWalks.{pairs_left};
 
@@ -87,7 +87,7 @@ impl<'a, K, V> DoubleEndedIterator for IterMut<'a, K, V> {
     }
 }
 
-/// `len` is the number of pairs that are left.
+/// `len` is the number of pairs left.
 impl<'a, K, V> ExactSizeIterator for IterMut<'a, K, V> {
     fn len(&self) -> usize {
         self.nodes.len()
@@ -121,12 +121,12 @@ impl<'a, K: Eq + Hash, V, S: BuildHasher> IntoIterator for &'a mut LinkedHashMap
 
     type IntoIter = IterMut<'a, K, V>;
 
-    // Its last two parts are laws of iterators, for the proofs of callers: any body meets them.
+    // Its last two parts are laws of iterators, for the proofs of callers.
     ghost into_iter_gives = { λ map walk. (pairs_left walk ≡ map.now.pairs) × IsValid K.eq map.now × LendsValuesInOrder (pairs_left {K = K} {V = V}) × LendsValuesInReverse (pairs_left {K = K} {V = V}) };
 
     fn into_iter(self) -> IterMut<'a, K, V>
         ensures* writes_back { sem 𝓛 (lends_values K.row V.row S.row S.Hasher.row K.Hash S.BuildHasher S.Hasher.Hasher self.entry (loan_name result)) }
-        // A law of lists, for the proofs of callers: any body meets it.
+        // A law of lists, for the proofs of callers.
         ensures keeps { KeysStand self.old.pairs }
         ensures into_iter_gives { (pairs_left result ≡ self.old.pairs) × IsValid K.eq self.old × LendsValuesInOrder (pairs_left {K = K} {V = V}) × LendsValuesInReverse (pairs_left {K = K} {V = V}) }
     {

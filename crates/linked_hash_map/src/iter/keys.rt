@@ -10,8 +10,8 @@ use std::alloc::AllocError;
 use std::iter::FusedIterator;
 use std::marker::Model;
 
-/// A double-ended iterator over the keys of a map, front to back. It is returned by `keys`. Its
-/// calls are O(1) and do not allocate. A clone has the same keys left.
+/// A double-ended iterator over the keys of a map, front to back, returned by `keys`. Its calls are
+/// O(1) and do not allocate. A clone has the same keys left.
 ///
 /// # Examples
 ///
@@ -48,7 +48,7 @@ impl<'a, K, V> Keys<'a, K, V> {
     }
 }
 
-/// `next` yields the front key that is left; the size hint is exact.
+/// `next` yields the front key left; the size hint is exact.
 impl<'a, K, V> Iterator for Keys<'a, K, V> {
     type Item = &'a K;
 
@@ -70,7 +70,7 @@ impl<'a, K, V> Iterator for Keys<'a, K, V> {
     }
 }
 
-/// `next_back` yields the back key that is left.
+/// `next_back` yields the back key left.
 impl<'a, K, V> DoubleEndedIterator for Keys<'a, K, V> {
     ghost next_back_gives = { TakesLast deref };
 
@@ -80,7 +80,7 @@ impl<'a, K, V> DoubleEndedIterator for Keys<'a, K, V> {
     }
 }
 
-/// `len` is the number of keys that are left.
+/// `len` is the number of keys left.
 impl<'a, K, V> ExactSizeIterator for Keys<'a, K, V> {
     fn len(&self) -> usize {
         self.pairs.len()

@@ -10,8 +10,8 @@ use std::alloc::AllocError;
 use std::iter::FusedIterator;
 use std::marker::Model;
 
-/// A double-ended iterator over the values of a map, front to back. It is returned by `values`. Its
-/// calls are O(1) and do not allocate. A clone has the same values left.
+/// A double-ended iterator over the values of a map, front to back, returned by `values`. Its calls
+/// are O(1) and do not allocate. A clone has the same values left.
 ///
 /// # Examples
 ///
@@ -48,7 +48,7 @@ impl<'a, K, V> Values<'a, K, V> {
     }
 }
 
-/// `next` yields the front value that is left; the size hint is exact.
+/// `next` yields the front value left; the size hint is exact.
 impl<'a, K, V> Iterator for Values<'a, K, V> {
     type Item = &'a V;
 
@@ -70,7 +70,7 @@ impl<'a, K, V> Iterator for Values<'a, K, V> {
     }
 }
 
-/// `next_back` yields the back value that is left.
+/// `next_back` yields the back value left.
 impl<'a, K, V> DoubleEndedIterator for Values<'a, K, V> {
     ghost next_back_gives = { TakesLast deref };
 
@@ -80,7 +80,7 @@ impl<'a, K, V> DoubleEndedIterator for Values<'a, K, V> {
     }
 }
 
-/// `len` is the number of values that are left.
+/// `len` is the number of values left.
 impl<'a, K, V> ExactSizeIterator for Values<'a, K, V> {
     fn len(&self) -> usize {
         self.pairs.len()

@@ -50,7 +50,7 @@ impl<'a, T> SessionIter<'a, T> {
     }
 }
 
-/// `next` yields the front session that is left; the size hint is exact.
+/// `next` yields the front session left; the size hint is exact.
 impl<'a, T> Iterator for SessionIter<'a, T> {
     type Item = (u64, u64, &'a T);
 
@@ -72,7 +72,7 @@ impl<'a, T> Iterator for SessionIter<'a, T> {
     }
 }
 
-/// `len` is the number of sessions that are left.
+/// `len` is the number of sessions left.
 impl<'a, T> ExactSizeIterator for SessionIter<'a, T> {
     fn len(&self) -> usize {
         self.pairs.len()
