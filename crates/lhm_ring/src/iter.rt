@@ -125,8 +125,8 @@ impl<'a, K, V> Clone for Iter<'a, K, V> {
     }
 }
 
-/// A double-ended iterator over the triples of a ring, with mutable values, returned by
-/// `Ring::iter_mut`. Each item is O(1), and none allocates.
+/// A double-ended iterator over the triples of a ring, with mutable references to the values,
+/// returned by `Ring::iter_mut`. Each item is O(1), and none allocates.
 #[derive(Drop)]
 pub struct IterMut<'a, K, V> {
     // The links and the keys are shared, and each value is taken out of a loan.
@@ -243,8 +243,8 @@ impl<K, V> Ring<K, V> {
         }
     }
 
-    /// Returns a double-ended iterator over the triples, front to back, with mutable values. It
-    /// does not allocate. Nothing but the values changes.
+    /// Returns a double-ended iterator over the triples, front to back, with mutable references to
+    /// the values. It does not allocate, and nothing but the values changes.
     pub fn iter_mut(&mut self) -> IterMut<'_, K, V>
         ensures* writes_back { sem 𝓛 (lends_values K.row V.row self.entry result.1) }
         ensures keeps { KeepsAllButValues self.old }

@@ -18,5 +18,5 @@ pub struct Links {
     pub(crate) guard: u64,
 }
 
-// A node of a number and a number: six words, and the guard's.
+// A node with a `u64` as key and as value: six words, and the guard's.
 const _: () = prove!(size_of::<Node<Links, u64, u64>>() == 56);

@@ -11,7 +11,8 @@ use std::hash::{BuildHasher, Hash};
 ///
 /// If clones of two keys are equal, the later replaces the earlier. Returns an error if an
 /// allocation fails, or the clone of a key, a value or the hasher; an empty map is refused only if
-/// the clone of its hasher is. Each pair costs an `insert`.
+/// the clone of its hasher is. It allocates for the pairs, besides their own clones, and each costs
+/// an `insert`.
 ///
 /// # Examples
 ///

@@ -485,8 +485,8 @@ impl<K: Eq + Hash, V, S: BuildHasher> LinkedHashMap<K, V, S> {
         }
     }
 
-    /// Returns the value of a key, mutable, if present. It is O(1) on average and does not
-    /// allocate.
+    /// Returns a mutable reference to the value of a key, if present. It is O(1) on average and
+    /// does not allocate.
     ///
     /// # Examples
     ///
@@ -510,8 +510,8 @@ impl<K: Eq + Hash, V, S: BuildHasher> LinkedHashMap<K, V, S> {
         }
     }
 
-    /// Moves the pair of a key to the back, in both modes, and returns its value, mutable, if
-    /// present. Otherwise the map is unchanged. It is O(1) on average and does not allocate.
+    /// Moves the pair of a key, if present, to the back in both modes and returns a mutable
+    /// reference to its value; else nothing changes. It is O(1) on average and does not allocate.
     ///
     /// # Examples
     ///
@@ -864,8 +864,8 @@ impl<K: Eq + Hash, V, S: BuildHasher> LinkedHashMap<K, V, S> {
         Iter::new(&self.table)
     }
 
-    /// Returns a double-ended iterator over the pairs, front to back, with mutable values, in O(1)
-    /// without allocating.
+    /// Returns a double-ended iterator over the pairs, front to back, with mutable references to
+    /// the values, in O(1) without allocating.
     ///
     /// # Examples
     ///

@@ -121,14 +121,14 @@ impl<T> Sessions<T> {
     /// the front until the weights sum to at most the limit.
     ///
     /// Returns the payload that the id had and the sessions removed, front to back. What stays is
-    /// the longest end of the order that fits, with the new session. The replaced one does not
-    /// count.
+    /// the longest end of the order that fits, always with the new session. The replaced one does
+    /// not count.
     ///
     /// Returns `TooHeavy` exactly if the weight is above the limit, and else `NoRoom` if an
     /// allocation fails or the map is full, with the payload; the table is then unchanged. It
     /// allocates at most once: a vector of exactly the sessions removed, or, if there are none,
-    /// room for a new id. It is O(n) for n sessions removed, or, if the number of buckets changes,
-    /// for n sessions held.
+    /// room for a new id. A present id that removes none is never refused as `NoRoom`. It is O(n)
+    /// for n sessions removed, or, if the number of buckets changes, for n sessions held.
     ///
     /// # Examples
     ///
@@ -181,8 +181,8 @@ impl<T> Sessions<T> {
         Ok(Put { old, gone })
     }
 
-    /// Moves the session with an id to the back and returns its payload, mutable, if present.
-    /// Otherwise the table is unchanged. It is O(1) on average and does not allocate.
+    /// Moves the session with an id, if present, to the back and returns a mutable reference to its
+    /// payload; else nothing changes. It is O(1) on average and does not allocate.
     ///
     /// # Examples
     ///

@@ -15,9 +15,9 @@ use std::hash::{BuildHasher, Hash};
 
 /// A cursor over the entries of a map, front to back, returned by `entries`.
 ///
-/// It visits each pair that the map had at that call once, in the order of then, whatever its entry
-/// does with it. Dropping it leaves the map as it is. The original's is an iterator, whose entries
-/// can be held side by side.
+/// It visits each pair that the map had at that call once, in that order, whatever its entry does
+/// with it. Dropping it leaves the map as it is. The original's is an iterator, whose entries can
+/// be held side by side.
 ///
 /// # Examples
 ///

@@ -112,7 +112,7 @@ impl<'a, K: Eq + Hash, V, S: BuildHasher> Entry<'a, K, V, S> {
         }
     }
 
-    /// Inserts `value` at the back if the entry is vacant, and returns the value, mutable.
+    /// Inserts `value` at the back if vacant, and returns a mutable reference to the value.
     ///
     /// An occupied entry keeps its place and drops `value`. A vacant one at full capacity raises
     /// the capacity by exactly one or is refused, always so in a map of [`LIMIT`] pairs: the error
@@ -146,7 +146,7 @@ impl<'a, K: Eq + Hash, V, S: BuildHasher> Entry<'a, K, V, S> {
         }
     }
 
-    /// Inserts the result of `f`, as `or_insert` does, and returns the value, mutable.
+    /// Inserts the result of `f` as `or_insert` does, and returns a mutable reference to the value.
     ///
     /// `f` is called once on a vacant entry, before any allocation, and never on an occupied one. A
     /// refusal has the key and that result. The cost is that of `or_insert` and of `f`.
@@ -178,7 +178,7 @@ impl<'a, K: Eq + Hash, V, S: BuildHasher> Entry<'a, K, V, S> {
         vacant.insert(value)
     }
 
-    /// Inserts the default value, as `or_insert` does, and returns the value, mutable.
+    /// Inserts the default as `or_insert` does, and returns a mutable reference to the value.
     ///
     /// The default is made on a vacant entry alone, before any allocation. A refusal has the key
     /// and the default. The cost is that of `or_insert` and of the default.

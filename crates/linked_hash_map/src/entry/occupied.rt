@@ -11,7 +11,7 @@ use super::OccupiedEntry;
 use std::hash::{BuildHasher, Hash};
 
 impl<'a, K: Eq + Hash, V, S: BuildHasher> OccupiedEntry<'a, K, V, S> {
-    /// Returns the stored key. It is O(1) and does not allocate.
+    /// Returns a reference to the stored key. It is O(1) and does not allocate.
     ///
     /// # Examples
     ///
@@ -31,7 +31,7 @@ impl<'a, K: Eq + Hash, V, S: BuildHasher> OccupiedEntry<'a, K, V, S> {
         self.map.current_pair().0
     }
 
-    /// Returns the value. It is O(1) and does not allocate.
+    /// Returns a reference to the value. It is O(1) and does not allocate.
     ///
     /// # Examples
     ///
@@ -51,7 +51,7 @@ impl<'a, K: Eq + Hash, V, S: BuildHasher> OccupiedEntry<'a, K, V, S> {
         self.map.current_pair().1
     }
 
-    /// Returns the value, mutable. It is O(1) and does not allocate.
+    /// Returns a mutable reference to the value. It is O(1) and does not allocate.
     ///
     /// # Examples
     ///
@@ -80,7 +80,8 @@ impl<'a, K: Eq + Hash, V, S: BuildHasher> OccupiedEntry<'a, K, V, S> {
         self.map.current_value_mut()
     }
 
-    /// Returns the value, mutable while the map is borrowed. It is O(1) and does not allocate.
+    /// Returns a mutable reference to the value for as long as the map is borrowed. It is O(1) and
+    /// does not allocate.
     ///
     /// # Examples
     ///

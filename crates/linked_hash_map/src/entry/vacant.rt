@@ -11,7 +11,7 @@ use crate::map::LIMIT;
 use std::hash::{BuildHasher, Hash};
 
 impl<'a, K: Eq + Hash, V, S: BuildHasher> VacantEntry<'a, K, V, S> {
-    /// Returns the key. It is O(1) and does not allocate.
+    /// Returns a reference to the key. It is O(1) and does not allocate.
     ///
     /// # Examples
     ///
@@ -29,7 +29,7 @@ impl<'a, K: Eq + Hash, V, S: BuildHasher> VacantEntry<'a, K, V, S> {
         &self.key
     }
 
-    /// Inserts the key and a value at the back, and returns the value, mutable.
+    /// Inserts the key and a value at the back, and returns a mutable reference to the value.
     ///
     /// At full capacity it raises the capacity by exactly one or is refused, always so in a map of
     /// [`LIMIT`] pairs: the error has the key and this value, and the map is unchanged. Below

@@ -12,11 +12,10 @@ use std::hash::{BuildHasher, Hash};
 use std::iter::FusedIterator;
 use std::marker::Model;
 
-/// A double-ended iterator that owns the pairs of a map, returned by `into_iter` or a loop over the
-/// map.
+/// A double-ended iterator that owns the pairs of a map, returned by `into_iter` or a loop over it.
 ///
-/// Its calls are O(1) and do not allocate, except `clone`. Dropping it drops the pairs left, in
-/// O(n).
+/// `next`, `next_back`, `len` and `size_hint` are O(1) and do not allocate. Dropping it drops the
+/// pairs left, in O(n).
 ///
 /// # Examples
 ///

@@ -1,4 +1,4 @@
-//! The iterator with mutable values.
+//! The iterator with mutable references to the values.
 ghost use Rattle.std.specs.Prelude.{◌≡◌, Some, IfSome, length};
 ghost use Rattle.std.specs.Iterator.{at_most, UpTo};
 ghost use Rattle.std.specs.Iterator.SizeHint.{IsWithinCount};
@@ -10,8 +10,8 @@ use lhm_ring::table::LentValues;
 use std::hash::{BuildHasher, Hash};
 use std::iter::FusedIterator;
 
-/// A double-ended iterator over the pairs of a map, with mutable values, returned by `iter_mut` or
-/// a loop over `&mut map`. Its calls are O(1) and do not allocate.
+/// A double-ended iterator over the pairs of a map, with mutable references to the values, returned
+/// by `iter_mut` or a loop over `&mut map`. Its calls are O(1) and do not allocate.
 ///
 /// # Examples
 ///

@@ -31,7 +31,7 @@ pub struct Put<T> {
 pub struct PutRefused<T> {
     /// Why the session was refused.
     pub reason: PutReason,
-    /// The payload that was handed in.
+    /// The payload that was given.
     pub payload: T,
 }
 
