@@ -62,7 +62,7 @@ impl<K, V> Table<K, V> {
     ghost use Rattle.lhm_ring.specs.Drains.{drain_name, drain_rest};
     ghost use Rattle.lhm_ring.specs.RingState.{triples};
 
-    /// Makes an empty table of capacity 0. It does not allocate.
+    /// Creates an empty table of capacity 0. It does not allocate.
     pub fn new(alloc: Global) -> Table<K, V>
         ensures held { result.held ≡ [] }
         ensures capacity { result.capacity ≡ 0 }
@@ -75,7 +75,7 @@ impl<K, V> Table<K, V> {
         }
     }
 
-    /// Makes an empty table of exactly this capacity, in O(n). Capacity 0 does not allocate.
+    /// Creates an empty table of exactly this capacity, in O(n). Capacity 0 does not allocate.
     pub fn with_capacity(alloc: Global, capacity: usize) -> Result<Table<K, V>, AllocError>
         requires { capacity ≤ 2 ^ 59 }
         ensures held { IfOk result (λ table. table.held ≡ []) }
@@ -164,7 +164,7 @@ impl<K, V> Table<K, V> {
         self.ring.value(at)
     }
 
-    /// Lends the value at a position for writing.
+    /// Returns a mutable reference to the value at a position.
     pub fn value_mut(&mut self, at: Position<K, V>) -> &mut V
         requires { IsHeld self.old.held (pointer_of at) }
         ensures* writes_back { sem 𝓛 (lends_value K.row V.row self.entry (pointer_of at) result) }
