@@ -1,4 +1,4 @@
-//! What is at a position, and which positions come beside it. Each call costs a constant number of steps and takes no memory.
+//! What is at a position, and the positions beside it. Each call is O(1) and does not allocate.
 ghost use Rattle.std.specs.Prelude.{◌≡◌, ◌∷◌, ◌++◌, map};
 ghost use Rattle.lhm_ring.specs.Cells.{IsApart, AreBlocks};
 ghost use Rattle.std.specs.Borrow.{sem};
@@ -12,7 +12,7 @@ impl<K, V> Ring<K, V> {
     ghost use Rattle.lhm_ring.specs.Positions.{pointer_of, pointer_of_some};
     ghost use Rattle.lhm_ring.specs.RingAfterLoan.{lends_value};
 
-    /// Returns the number at a position.
+    /// Returns the hash at a position.
     pub fn number(&self, at: Position<K, V>) -> u64
         requires { IsHeld self.now.held (pointer_of at) }
         ensures { AtHeld self.now.held (pointer_of at) (λ xs t ys. result ≡ t.number) }
@@ -36,7 +36,7 @@ impl<K, V> Ring<K, V> {
         self.nodes.value(at.pointer)
     }
 
-    /// Lends the value at a position for writing. All else stays as it is.
+    /// Returns a mutable reference to the value at a position.
     pub fn value_mut(&mut self, at: Position<K, V>) -> &mut V
         requires { IsHeld self.old.held (pointer_of at) }
         ensures* writes_back { sem 𝓛 (lends_value K.row V.row self.entry (pointer_of at) result) }
@@ -46,7 +46,7 @@ impl<K, V> Ring<K, V> {
         self.nodes.value_mut(at.pointer)
     }
 
-    /// Returns the position of the first triple, or `None` where nothing is held.
+    /// Returns the position of the front triple, or `None` if nothing is held.
     pub fn first(&self) -> Option<Position<K, V>>
         ensures { pointer_of_some result ≡ first_at self.now.held }
     {
@@ -57,7 +57,8 @@ impl<K, V> Ring<K, V> {
         Some(Position::new(self.nodes.links(guard).next))
     }
 
-    /// Returns the position of the last triple, or `None` where nothing is held. No two triples are at one position.
+    /// Returns the position of the back triple, or `None` if nothing is held. No two triples share
+    /// one.
     pub fn last(&self) -> Option<Position<K, V>>
         ensures last { pointer_of_some result ≡ last_at self.now.held }
         ensures apart { IsApart (map (λ t. t.at) self.now.held) }
@@ -69,7 +70,7 @@ impl<K, V> Ring<K, V> {
         Some(Position::new(self.nodes.links(guard).prev))
     }
 
-    /// Returns the position right behind one, or `None` at the last. No two triples are at one position.
+    /// Returns the position right behind one, or `None` at the back. No two triples share one.
     pub fn next(&self, at: Position<K, V>) -> Option<Position<K, V>>
         requires { IsHeld self.now.held (pointer_of at) }
         ensures next { AtHeld self.now.held (pointer_of at) (λ xs t ys. pointer_of_some result ≡ first_at ys) }
@@ -82,7 +83,7 @@ impl<K, V> Ring<K, V> {
         Some(Position::new(next))
     }
 
-    /// Returns the position right before one, or `None` at the first.
+    /// Returns the position right before one, or `None` at the front.
     pub fn previous(&self, at: Position<K, V>) -> Option<Position<K, V>>
         requires { IsHeld self.now.held (pointer_of at) }
         ensures { AtHeld self.now.held (pointer_of at) (λ xs t ys. pointer_of_some result ≡ last_at xs) }
@@ -94,7 +95,7 @@ impl<K, V> Ring<K, V> {
         Some(Position::new(previous))
     }
 
-    /// Returns where the link at a position leads, or `None`. The link is its caller's.
+    /// Returns where the chain link at a position leads, or `None`. The link is its caller's.
     pub fn link(&self, at: Position<K, V>) -> Option<Position<K, V>>
         requires { IsHeld self.now.held (pointer_of at) }
         ensures link { AtHeld self.now.held (pointer_of at) (λ xs t ys. pointer_of_some result ≡ t.link) }
@@ -103,7 +104,7 @@ impl<K, V> Ring<K, V> {
         self.nodes.links(at.pointer).link.get()
     }
 
-    /// Lets the link at a position lead to `link`, which the ring never follows. All else stays as it is.
+    /// Sets the chain link at a position, which the ring never follows. Nothing else changes.
     pub fn set_link(&mut self, at: Position<K, V>, link: Option<Position<K, V>>)
         requires { IsHeld self.old.held (pointer_of at) }
         ensures held { AtHeld self.old.held (pointer_of at) (λ xs t ys. self.new.held ≡ xs ++ linked_to (pointer_of_some link) t ∷ ys) }

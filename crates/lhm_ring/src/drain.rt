@@ -1,4 +1,4 @@
-//! What a ring held is handed out, while its nodes are spare.
+//! What a ring held is yielded, while its nodes are spare.
 ghost use Rattle.std.specs.Prelude.{◌≡◌, Some, IfSome, length};
 ghost use Rattle.std.specs.Borrow.{sem};
 ghost use Rattle.std.specs.Iterator.{at_most, UpTo};
@@ -16,7 +16,7 @@ use crate::value_loan::Hole;
 use std::iter::{DoubleEndedIterator, ExactSizeIterator, Iterator};
 use std::marker::Model;
 
-/// What is still to be handed out, in the `left` nodes from `first` to `last`.
+/// What is left to yield, in the `left` nodes from `first` to `last`.
 struct Remaining<'a, K, V> {
     nodes: &'a Nodes<Links, Hole<K>, Hole<V>>,
     contents: ContentLoan<'a, Links, K, V>,
@@ -38,7 +38,7 @@ impl<'a, K, V> Model for Remaining<'a, K, V> {
 }
 
 impl<'a, K, V> Remaining<'a, K, V> {
-    /// Takes the first out.
+    /// Moves the front triple out.
     fn take_first(&mut self) -> Option<(u64, K, V)>
         ensures { HandsOutFirst self.old result self.new }
     {
@@ -53,7 +53,7 @@ impl<'a, K, V> Remaining<'a, K, V> {
         Some((links.number, key, value))
     }
 
-    /// Takes the last out.
+    /// Moves the back triple out.
     fn take_last(&mut self) -> Option<(u64, K, V)>
         ensures { HandsOutLast self.old result self.new }
     {
@@ -91,12 +91,11 @@ impl<K: Drop, V: Drop> Drop for Remaining<'_, K, V> {
     }
 }
 
-/// An iterator that hands out the triples that a ring held, once each, from both ends. It is made by
-/// `Ring::splice_all`.
+/// A double-ended iterator over the triples that a ring held, returned by `Ring::splice_all`.
 ///
-/// Its ring holds nothing, and all its nodes are spare, from that call on. Letting it go drops the triples that
-/// are left, at a step for each. Where it is forgotten, they are leaked, and nothing else is. No step takes
-/// memory, and each costs a constant number of steps.
+/// From that call on the ring holds nothing and all its nodes are spare. Dropping the iterator
+/// drops the triples left, in O(n); forgetting it leaks them, and nothing else. Each item is O(1),
+/// and none allocates.
 pub struct Drain<'a, K, V> {
     // A borrow of no bytes, at whose end the ring is what it is then.
     anchor: &'a mut [u8; 0],
@@ -107,11 +106,11 @@ impl<K, V> Ring<K, V> {
     ghost use Rattle.lhm_ring.specs.RingAfterLoan.{lends_spliced};
     ghost use Rattle.lhm_ring.specs.Drains.{drain_name, drain_rest};
 
-    /// Takes all triples out and hands them out in order, from both ends.
+    /// Removes all triples and returns them as a double-ended iterator, front to back.
     ///
-    /// The ring holds nothing, and all its nodes are spare, from the call on, also where the [`Drain`] is
-    /// forgotten. Positions of what it held lead nowhere then. It takes no memory and frees none. The call costs
-    /// a step for each triple.
+    /// From the call on, the ring holds nothing and all its nodes are spare, also if the [`Drain`]
+    /// is forgotten. Positions of what it held lead nowhere then. It is O(n), and neither allocates
+    /// nor frees.
     pub fn splice_all(&mut self) -> Drain<'_, K, V>
         ensures* writes_back { sem 𝓛 (lends_spliced K.row V.row self.entry (drain_name result)) }
         ensures rest { drain_rest result ≡ triples self.old.held }

@@ -1,4 +1,4 @@
-//! Nodes are made, all or none, and spare ones are freed.
+//! Nodes are allocated, all or none, and spare ones are freed.
 ghost use Rattle.std.specs.Prelude.{◌≡◌, ◌+◌, ◌-◌, ◌<◌, [], ◌∷◌, None, Some, IfSome, IfOk, OnOk, OnErr, MatchResult};
 ghost use Rattle.std.specs.Option.{IsSome};
 ghost use Rattle.lhm_ring.specs.Cells.{cell};
@@ -12,11 +12,11 @@ use crate::nodes::Nodes;
 use crate::ring::{Ring, join, nowhere};
 use std::alloc::{AllocError, Global};
 
-/// The most nodes that a ring has, held and spare. Each takes at least 40 bytes, so these would take
-/// above 2^64 bytes: no machine has room for them.
+/// The most nodes of a ring, held and spare. Each takes at least 40 bytes, so these would take more
+/// than 2^64 bytes, which no machine has.
 const MOST_NODES: usize = 1 << 59;
 
-/// Makes the guard of an empty ring, which leads to itself.
+/// Allocates the guard of an empty ring, which leads to itself.
 fn make_guard<K, V>(
     nodes: &mut Nodes<Links, K, V>,
     alloc: &Global,
@@ -37,7 +37,7 @@ fn make_guard<K, V>(
     Ok(at)
 }
 
-/// Makes one more node, with nothing in it.
+/// Allocates one more node, with nothing in it.
 fn make_spare<K, V>(
     nodes: &mut Nodes<Links, K, V>,
     alloc: &Global,
@@ -57,7 +57,7 @@ fn make_spare<K, V>(
     Ok(nodes.add(room, links))
 }
 
-/// Returns the guard, and makes it where there is none yet.
+/// Returns the guard, and allocates it if there is none.
 fn guard_or_new<K, V>(
     nodes: &mut Nodes<Links, K, V>,
     alloc: &Global,
@@ -72,7 +72,7 @@ fn guard_or_new<K, V>(
     }
 }
 
-/// Notes the guard where there was none before. Else nothing is written.
+/// Sets the guard if there was none before. Otherwise it writes nothing.
 fn note_guard(slot: &mut Option<NodePointer>, guard: NodePointer)
     requires { IfSome slot.old (λ g. g ≡ guard) }
     ensures { slot.new ≡ Some guard }
@@ -83,7 +83,7 @@ fn note_guard(slot: &mut Option<NodePointer>, guard: NodePointer)
     }
 }
 
-/// Frees the guard where there was none before, so that no node is left; else it changes nothing.
+/// Frees the guard if there was none before, so that no node is left. Otherwise it changes nothing.
 fn undo_guard<K, V>(
     nodes: &mut Nodes<Links, K, V>,
     alloc: &Global,
@@ -103,7 +103,7 @@ fn undo_guard<K, V>(
     }
 }
 
-/// Frees the `count` nodes from `first` on, each of which leads to the next by its further link.
+/// Frees the `count` nodes from `first` on, each of which leads to the next by its chain link.
 fn free_stacked<K, V>(nodes: &mut Nodes<Links, K, V>, alloc: &Global, first: Link, count: usize)
     requires { HasStack count nodes.old.cells first }
     ensures { Unstacks count nodes.old.cells first nodes.new.cells }
@@ -120,8 +120,8 @@ fn free_stacked<K, V>(nodes: &mut Nodes<Links, K, V>, alloc: &Global, first: Lin
     }
 }
 
-/// Makes `count` nodes on top of the spare ones, and answers the first of them. Where one is refused, those
-/// that were made are freed again.
+/// Allocates `count` nodes on top of the spare ones, and returns the first of them. If an
+/// allocation fails, it frees those that it made.
 fn make_spares<K, V>(
     nodes: &mut Nodes<Links, K, V>,
     alloc: &Global,
@@ -148,8 +148,8 @@ fn make_spares<K, V>(
     Ok(first)
 }
 
-/// Makes `count` nodes on top of the spare ones, and the guard if there is none yet. It returns the guard and the first spare node.
-/// If a block is refused, what it made is freed again.
+/// Allocates `count` nodes on top of the spare ones, and the guard if there is none. It returns the
+/// guard and the first spare node. If an allocation fails, it frees what it made.
 fn make_nodes<K, V>(
     nodes: &mut Nodes<Links, K, V>,
     alloc: &Global,
@@ -172,12 +172,11 @@ fn make_nodes<K, V>(
 }
 
 impl<K, V> Ring<K, V> {
-    /// Makes `count` spare nodes more, and the guard where there was none.
+    /// Allocates `count` more spare nodes, and the guard if there is none, in O(n).
     ///
-    /// It takes a block of memory for each, at a step for each. Where there would be more than 2^59
-    /// nodes it is refused without asking for memory, and else where a block is refused. After a
-    /// refusal all is as before, and what it took is given back. The order stands, and so do
-    /// positions.
+    /// Returns an error if an allocation fails, or, without allocating, if there would be more than
+    /// 2^59 nodes; it then frees what it allocated, and nothing changes. The order and positions
+    /// stay.
     pub fn grow(&mut self, count: usize) -> Result<(), AllocError>
         ensures held { OnOk result (self.new.held ≡ self.old.held) }
         ensures spares { OnOk result (self.new.spares ≡ self.old.spares + count) }
@@ -214,7 +213,7 @@ impl<K, V> Ring<K, V> {
         self.spares -= 1;
     }
 
-    /// Frees the spare nodes, at a step for each. The guard stays, the order stands, and so do positions.
+    /// Frees the spare nodes, in O(n). The guard, the order and positions stay.
     pub fn free_spares(&mut self)
         ensures held { self.new.held ≡ self.old.held }
         ensures no_spares { self.new.spares ≡ 0 }

@@ -1,6 +1,6 @@
-//! Bucket chains through the nodes of a ring: which position has a key, by its number.
+//! Bucket chains through the nodes of a ring: the position of each key, by its hash.
 //!
-//! A node's link leads to the next node of its chain. Whoever has an index over a ring lets nobody else set a link.
+//! A node's chain link leads to the next node of its chain. Only the index of a ring sets it.
 ghost use Rattle.std.specs.Prelude.{◌≡◌, ◌+◌, ◌%◌, ◌<◌, ◌≤◌, ◌^◌, ◌∷◌, [], map, length, None, IfOk, IsOk, IfSome, IfNone, OnSome, slice_index_or, vec_len};
 ghost use Rattle.std.specs.Int.{IsNextPowerOfTwo};
 ghost use Rattle.lhm_ring.specs.RingState.{IsHeld};
@@ -16,7 +16,7 @@ use crate::ring::Ring;
 use std::alloc::{AllocError, Global};
 use std::marker::{Model, PhantomData};
 
-/// What a look-up did.
+/// The counts of a lookup.
 ///
 /// # Examples
 ///
@@ -30,16 +30,16 @@ use std::marker::{Model, PhantomData};
 /// ```
 #[derive(Clone, Copy, Debug, PartialEq)]
 pub struct Probe {
-    /// How many nodes were reached along the chain.
+    /// The number of nodes reached along the chain.
     pub visited: usize,
-    /// How many times keys were compared.
+    /// The number of comparisons of keys.
     pub compared: usize,
 }
 
 /// The bucket chains of a ring, by their heads.
 ///
-/// It does not hold the ring: each call is handed it. The bucket of a number is the number modulo the number of buckets,
-/// which is 0 or a power of two. A look-up costs a step for each node of the chain that it reaches.
+/// Each call is given the ring. The bucket of a hash is the hash modulo the number of buckets,
+/// which is 0 or a power of two. A lookup is O(1) on average: it follows one chain.
 pub struct Index<K, V> {
     heads: Vec<Link>,
     mark: PhantomData<*mut (K, V)>,
@@ -68,13 +68,13 @@ impl<K, V> Drop for Index<K, V> {
 /// A node that a search found.
 #[derive(Drop)]
 struct Found<K, V> {
-    /// The one before it on its chain, or `None` where it is the first.
+    /// The node before it on its chain, or `None` if it is the first.
     before: Option<Position<K, V>>,
     at: Position<K, V>,
 }
 
-/// Counts a node that is reached, and tells whether it has the number and the key. The keys are compared only where the
-/// numbers agree.
+/// Counts a node that is reached, and returns whether it has the hash and the key. Keys are
+/// compared only if the hashes are equal.
 fn step<K: Eq, V>(
     ring: &Ring<K, V>,
     at: Position<K, V>,
@@ -98,7 +98,7 @@ fn step<K: Eq, V>(
 }
 
 impl<K, V> Index<K, V> {
-    /// Makes an index without buckets, for a ring that holds nothing. It takes no memory. Later growths are asked of `alloc`.
+    /// Creates an index without buckets, for a ring that holds nothing. It does not allocate.
     pub fn new(alloc: Global) -> Index<K, V>
         ensures { result ≡ [] }
     {
@@ -108,9 +108,8 @@ impl<K, V> Index<K, V> {
         }
     }
 
-    /// Makes an index of empty buckets for a capacity, at a step for each: all the memory that a resize takes.
-    ///
-    /// For capacity 0 it has no buckets, takes no memory, and is not refused.
+    /// Allocates an index of empty buckets for a capacity, in O(n): all that a resize allocates.
+    /// For capacity 0 it has no buckets, does not allocate, and never fails.
     pub fn with_buckets(alloc: Global, capacity: usize) -> Result<Index<K, V>, AllocError>
         requires { capacity ≤ 2 ^ 59 }
         ensures buckets { IfOk result (λ i. length i ≡ buckets capacity) }
@@ -124,14 +123,14 @@ impl<K, V> Index<K, V> {
         })
     }
 
-    /// Returns the number of buckets. It takes no memory.
+    /// Returns the number of buckets.
     pub fn buckets(&self) -> usize
         ensures { result ≡ length self.now }
     {
         self.heads.len()
     }
 
-    /// Returns the head of the chain of a number.
+    /// Returns the head of the chain of a hash.
     fn head(&self, number: u64) -> Option<Position<K, V>>
         ensures { pointer_of_some result ≡ slice_index_or self.now (number % length self.now) None }
     {
@@ -141,9 +140,8 @@ impl<K, V> Index<K, V> {
         self.heads[masked(number, self.heads.len())].get()
     }
 
-    /// Puts the one node that the index lacks at the head of its chain.
-    ///
-    /// It costs a constant number of steps and takes no memory. Of the ring only that node's link changes.
+    /// Puts the one node that the index lacks at the head of its chain, in O(1). It does not
+    /// allocate. Of the ring only that node's chain link changes.
     pub fn put_in(&mut self, ring: &mut Ring<K, V>, at: Position<K, V>)
         requires some { 0 < length self.old }
         requires lacks { HoldsOthers self.old ring.old.held (pointer_of at) }
@@ -155,7 +153,7 @@ impl<K, V> Index<K, V> {
         chain_one(&mut self.heads, ring, at);
     }
 
-    /// Takes a node out of its chain.
+    /// Removes a node from its chain.
     fn unchain(&mut self, ring: &mut Ring<K, V>, number: u64, found: Found<K, V>)
         requires indexed { Indexes self.old (spots ring.old.held) }
         requires on_chain { IsOnChain self.old number (spots ring.old.held) (pointer_of_some found.before) (pointer_of found.at) }
@@ -174,10 +172,11 @@ impl<K, V> Index<K, V> {
         }
     }
 
-    /// Returns the position before the one at `at` on its chain, that of `number`, or `None` where it is the first.
+    /// Returns the position before the one at `at` on its chain, that of `number`, or `None` if it
+    /// is the first.
     ///
-    /// No two positions are compared, which a machine refuses for two blocks of memory: the chain is cut behind the node,
-    /// which is the last of it then, until it is found. All links are then as they were.
+    /// Pointers to two blocks cannot be compared: the chain is cut behind the node, which is then
+    /// its last, until it is found. All links are then as they were.
     fn before(
         &self,
         ring: &mut Ring<K, V>,
@@ -205,9 +204,8 @@ impl<K, V> Index<K, V> {
         before
     }
 
-    /// Takes the node at a position out of its chain. No key is compared.
-    ///
-    /// It costs a step for each node before it on the chain, and takes no memory. Of the ring only links change.
+    /// Removes the node at a position from its chain. No key is compared. It is O(1) on average and
+    /// does not allocate. Of the ring only chain links change.
     pub fn take_out_at(&mut self, ring: &mut Ring<K, V>, at: Position<K, V>)
         requires held { IsHeld ring.old.held (pointer_of at) }
         requires indexed { Indexes self.old (spots ring.old.held) }
@@ -222,9 +220,8 @@ impl<K, V> Index<K, V> {
         self.unchain(ring, number, Found { before, at });
     }
 
-    /// Puts fresh buckets in place of the old ones, chains all held nodes there, and returns how many.
-    ///
-    /// It costs a step for each, takes no memory, and frees the old buckets. Of the ring only links change.
+    /// Replaces the buckets by fresh ones, rehashes all held nodes, and returns how many. It is
+    /// O(n), does not allocate, and frees the old buckets. Of the ring only chain links change.
     pub fn take_over(&mut self, fresh: Index<K, V>, ring: &mut Ring<K, V>) -> usize
         requires empty { HasNoChain fresh }
         requires some { length fresh ≡ 0 → ring.old.held ≡ [] }
@@ -239,8 +236,8 @@ impl<K, V> Index<K, V> {
         chain_all(&mut self.heads, ring)
     }
 
-    /// Empties all chains, for a ring that holds nothing any more. It keeps the buckets, takes no memory, and costs a step
-    /// for each bucket.
+    /// Empties all chains, for a ring that holds nothing any more. The buckets stay. It is O(n) in
+    /// them and does not allocate.
     pub fn forget_all(&mut self)
         ensures empty { HasNoChain self.new }
         ensures buckets { length self.new ≡ length self.old }
@@ -250,7 +247,7 @@ impl<K, V> Index<K, V> {
 }
 
 impl<K: Eq, V> Index<K, V> {
-    /// Walks along the chain of the number to the node with the key, which every look-up does.
+    /// Follows the chain of the hash to the node with the key, as every lookup does.
     fn search(&self, ring: &Ring<K, V>, number: u64, key: &K) -> (Option<Found<K, V>>, Probe)
         requires indexed { Indexes self.now (spots ring.now.held) }
         requires small { length ring.now.held < 2 ^ 64 }
@@ -273,10 +270,10 @@ impl<K: Eq, V> Index<K, V> {
         (None, probe)
     }
 
-    /// Returns the position of the node with this number and this key, and what the look-up did.
+    /// Returns the position of the node with this hash and this key, and the counts of the lookup.
     ///
-    /// For an absent key the counts are exact: each node of the chain is reached, and each with this number compared. It
-    /// takes no memory.
+    /// For an absent key each node of the chain is reached, and each with this hash compared. It
+    /// does not allocate.
     pub fn find(&self, ring: &Ring<K, V>, number: u64, key: &K) -> (Option<Position<K, V>>, Probe)
         requires indexed { Indexes self.now (spots ring.now.held) }
         requires small { length ring.now.held < 2 ^ 64 }
@@ -292,8 +289,8 @@ impl<K: Eq, V> Index<K, V> {
         }
     }
 
-    /// Takes the node with this number and this key out of its chain, and returns its position. Of the ring only links change,
-    /// and nothing where the key is absent. It takes no memory.
+    /// Removes the node with this hash and this key from its chain, and returns its position. Of
+    /// the ring only chain links change, and nothing if the key is absent. It does not allocate.
     pub fn take_out(
         &mut self,
         ring: &mut Ring<K, V>,
@@ -323,7 +320,8 @@ impl<K: Eq, V> Index<K, V> {
     }
 }
 
-/// Returns how many buckets a capacity has: none for 0, and else the least power of two that is not below it.
+/// Returns the number of buckets of a capacity: 0 for 0, and else the least power of two not below
+/// it.
 pub fn buckets_for(capacity: usize) -> usize
     requires { capacity ≤ 2 ^ 59 }
     ensures value { result ≡ buckets capacity }
@@ -338,7 +336,7 @@ pub fn buckets_for(capacity: usize) -> usize
     }
 }
 
-/// Puts a node at the head of the chain of its number.
+/// Puts a node at the head of the chain of its hash.
 fn chain_one<K, V>(heads: &mut Vec<Link>, ring: &mut Ring<K, V>, at: Position<K, V>)
     requires some { 0 < vec_len heads.old }
     requires power { IsBucketCount (vec_len heads.old) }
@@ -374,7 +372,7 @@ fn chain_all<K, V>(heads: &mut Vec<Link>, ring: &mut Ring<K, V>) -> usize
     count
 }
 
-/// Makes `count` empty buckets.
+/// Allocates `count` empty buckets.
 fn empty_heads(alloc: Global, count: usize) -> Result<Vec<Link>, AllocError>
     ensures empty { IfOk result (λ v. HasNoChain (map target v.items)) }
     ensures len { IfOk result (λ v. vec_len v ≡ count) }
@@ -399,7 +397,7 @@ fn clear_heads(heads: &mut Vec<Link>)
     }
 }
 
-/// Returns the bucket of a number, by a mask.
+/// Returns the bucket of a hash, by a mask.
 fn masked(number: u64, buckets: usize) -> usize
     requires some { 0 < buckets }
     requires power { IsBucketCount buckets }

@@ -1,4 +1,4 @@
-//! What a ring held, handed out by value.
+//! What a ring held, yielded by value.
 ghost use Rattle.std.specs.Prelude.{◌≡◌, Some, IfSome, length};
 ghost use Rattle.std.specs.Iterator.{at_most, UpTo};
 ghost use Rattle.std.specs.Iterator.SizeHint.{IsWithinCount};
@@ -11,9 +11,10 @@ use std::alloc::AllocError;
 use std::iter::{DoubleEndedIterator, ExactSizeIterator, Iterator};
 use std::marker::Model;
 
-/// An iterator that owns triples of a hash, a key and a value, from both ends.
+/// A double-ended iterator that owns triples of a hash, a key and a value.
 ///
-/// No step allocates, and each is O(1). Dropping it drops what it has left. A clone allocates, and has clones of what is left.
+/// Each item is O(1), and none allocates. Dropping it drops what is left. A clone allocates, and
+/// has clones of what is left.
 #[derive(Drop)]
 pub struct IntoIter<K, V> {
     ring: Ring<K, V>,

@@ -1,4 +1,4 @@
-//! Walks over a ring, from both ends.
+//! Double-ended iterators over a ring.
 ghost use Rattle.std.specs.Prelude.{◌≡◌, Some, IfSome, length};
 ghost use Rattle.std.specs.Iterator.{at_most, UpTo};
 ghost use Rattle.std.specs.Iterator.SizeHint.{IsWithinCount};
@@ -13,9 +13,8 @@ use std::alloc::AllocError;
 use std::iter::{DoubleEndedIterator, ExactSizeIterator, Iterator};
 use std::marker::Model;
 
-/// An iterator that shows the triples of a ring, each once, from both ends. It is made by `Ring::iter`.
-///
-/// A step costs a constant number of steps and takes no memory.
+/// A double-ended iterator over the triples of a ring, returned by `Ring::iter`. Each item is O(1),
+/// and none allocates.
 #[derive(Drop)]
 pub struct Iter<'a, K, V> {
     // What is left is in the `left` nodes between the one at `before` and the one at `after`.
@@ -39,7 +38,7 @@ impl<'a, K, V> Model for Iter<'a, K, V> {
 }
 
 impl<'a, K, V> Iter<'a, K, V> {
-    /// Returns the first of what is left and moves past it, or returns `None` where nothing is left.
+    /// Returns the first triple left and moves past it, or returns `None` if none is left.
     pub(crate) fn step(&mut self) -> Option<(NodePointer, u64, &'a K, &'a V)>
         ensures { IsFirstStep self.old result self.new }
     {
@@ -53,7 +52,7 @@ impl<'a, K, V> Iter<'a, K, V> {
         Some((at, nodes.links(at).number, nodes.key(at), nodes.value(at)))
     }
 
-    /// Returns the last of what is left and moves past it, or returns `None` where nothing is left.
+    /// Returns the last triple left and moves past it, or returns `None` if none is left.
     pub(crate) fn step_back(&mut self) -> Option<(NodePointer, u64, &'a K, &'a V)>
         ensures { IsLastStep self.old result self.new }
     {
@@ -108,7 +107,7 @@ impl<'a, K, V> DoubleEndedIterator for Iter<'a, K, V> {
     }
 }
 
-/// A clone has the same triples left. It takes no memory and is never refused.
+/// A clone has the same triples left. It does not allocate and never fails.
 impl<'a, K, V> Clone for Iter<'a, K, V> {
     ghost use Rattle.std.specs.Prelude.{◌≡◌, ⊤};
 
@@ -126,10 +125,8 @@ impl<'a, K, V> Clone for Iter<'a, K, V> {
     }
 }
 
-/// An iterator over the triples of a ring, each once, from both ends, that lends each value for writing. It is made by
-/// `Ring::iter_mut`.
-///
-/// A step costs a constant number of steps and takes no memory.
+/// A double-ended iterator over the triples of a ring, with mutable references to the values,
+/// returned by `Ring::iter_mut`. Each item is O(1), and none allocates.
 #[derive(Drop)]
 pub struct IterMut<'a, K, V> {
     // The links and the keys are shared, and each value is taken out of a loan.
@@ -153,8 +150,7 @@ impl<'a, K, V> Model for IterMut<'a, K, V> {
 impl<'a, K, V> IterMut<'a, K, V> {
     ghost use Rattle.lhm_ring.specs.LentRings.{lent_held, lent_name, IsLent};
 
-    /// Walks over what a ring holds whose values are lent, from both ends. It takes no memory, and costs a
-    /// constant number of steps.
+    /// Returns an iterator over a ring whose values are lent. It is O(1) and does not allocate.
     pub fn of(lent: LentValues<'a, K, V>) -> IterMut<'a, K, V>
         requires { IsLent lent }
         ensures rest { rest_of result ≡ lent_held lent.entry }
@@ -167,7 +163,7 @@ impl<'a, K, V> IterMut<'a, K, V> {
         }
     }
 
-    /// Returns the first of what is left and moves past it, or returns `None` where nothing is left.
+    /// Returns the first triple left and moves past it, or returns `None` if none is left.
     fn step(&mut self) -> Option<(u64, &'a K, &'a mut V)>
         ensures { LendsFirstStep (rest_of self.old) result (rest_of self.new) }
     {
@@ -177,7 +173,7 @@ impl<'a, K, V> IterMut<'a, K, V> {
         }
     }
 
-    /// Returns the last of what is left and moves past it, or returns `None` where nothing is left.
+    /// Returns the last triple left and moves past it, or returns `None` if none is left.
     fn step_back(&mut self) -> Option<(u64, &'a K, &'a mut V)>
         ensures { LendsLastStep (rest_of self.old) result (rest_of self.new) }
     {
@@ -227,7 +223,7 @@ impl<K, V> Ring<K, V> {
     ghost use Rattle.std.specs.Borrow.{sem};
     ghost use Rattle.lhm_ring.specs.RingAfterLoan.{lends_values, KeepsAllButValues};
 
-    /// Returns an iterator over what is held, in order, from both ends. It takes no memory.
+    /// Returns a double-ended iterator over the triples, front to back. It does not allocate.
     pub fn iter(&self) -> Iter<'_, K, V>
         ensures { result ≡ self.now.held }
     {
@@ -247,9 +243,8 @@ impl<K, V> Ring<K, V> {
         }
     }
 
-    /// Returns an iterator over what is held, in order, from both ends, that lends each value for writing.
-    ///
-    /// It takes no memory. Numbers, keys, positions, links, the order and the spare nodes stand, whatever is written.
+    /// Returns a double-ended iterator over the triples, front to back, with mutable references to
+    /// the values. It does not allocate, and nothing but the values changes.
     pub fn iter_mut(&mut self) -> IterMut<'_, K, V>
         ensures* writes_back { sem 𝓛 (lends_values K.row V.row self.entry result.1) }
         ensures keeps { KeepsAllButValues self.old }

@@ -1,4 +1,5 @@
-//! Raw nodes in a ring, for a hash map in insertion order: see `ring::Ring`, and `index::Index` for look-ups by key.
+//! Raw nodes in a ring, for a hash map in insertion order: see `ring::Ring`, and `index::Index` for
+//! lookups by key.
 #![tactic(auto)]
 
 pub(crate) mod access;

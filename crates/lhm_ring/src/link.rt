@@ -1,4 +1,4 @@
-//! Where a node lies, if there is one, in one pointer.
+//! The pointer of a node, or null.
 ghost use Rattle.std.specs.Prelude.{◌≡◌, None, Some, true};
 ghost use Rattle.std.specs.Option.{IsSome};
 ghost use mathlib.Core.Bool.{Bool-set};
@@ -9,7 +9,7 @@ use crate::position::Position;
 use std::mem::size_of;
 use std::ptr::{NonNull, null};
 
-/// The pointer of a node, or null where it leads nowhere.
+/// The pointer of a node, or null if it leads nowhere.
 #[derive(Clone, Copy)]
 pub struct Link {
     ptr: *const u8,
@@ -23,14 +23,14 @@ impl Link {
     ghost use Rattle.lhm_ring.specs.Positions.{pointer_of_some};
     ghost use Rattle.lhm_ring.specs.Targets.{target};
 
-    /// Makes a link that leads nowhere.
+    /// Creates a link that leads nowhere.
     pub(crate) fn none() -> Link
         ensures { target result ≡ None }
     {
         Link { ptr: null() }
     }
 
-    /// Makes a link to a pointer.
+    /// Creates a link to a pointer.
     pub(crate) fn to(pointer: NodePointer) -> Link
         requires { is_block pointer.ptr ≡ true }
         ensures { target result ≡ Some pointer.ptr }
@@ -38,7 +38,7 @@ impl Link {
         Link { ptr: pointer.ptr }
     }
 
-    /// Makes a link to a position, or for `None` one that leads nowhere.
+    /// Creates a link to a position, or for `None` one that leads nowhere.
     pub(crate) fn of<K, V>(at: Option<Position<K, V>>) -> Link
         ensures { target result ≡ pointer_of_some at }
     {
@@ -48,7 +48,7 @@ impl Link {
         }
     }
 
-    /// Returns the position that it leads to, or `None` where it leads nowhere.
+    /// Returns the position that it leads to, or `None` if it leads nowhere.
     pub(crate) fn get<K, V>(self) -> Option<Position<K, V>>
         ensures { pointer_of_some result ≡ target self }
     {
@@ -58,7 +58,7 @@ impl Link {
         }
     }
 
-    /// Returns the pointer that it leads to, where it leads somewhere. Nothing is tested.
+    /// Returns the pointer that it leads to, if it leads somewhere. Nothing is tested.
     pub(crate) fn pointer(self) -> NodePointer
         requires { IsSome (target self) }
         ensures pointer { target self ≡ Some result.ptr }

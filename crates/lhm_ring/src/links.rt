@@ -4,11 +4,11 @@ use crate::block::{Node, NodePointer};
 use crate::link::Link;
 use std::mem::size_of;
 
-/// The links of a node for the order, one further link, and the number of its key.
+/// The links of a node for the order, its chain link, and the hash of its key.
 ///
-/// The further link, `link`, leads to the next spare node while the node is spare, and is its caller's
-/// while the node is held. `guard` is 1 at the guard, and else 0. It is a whole word, as all fields are: what pads a
-/// smaller one is written with every write of the links, and a whole word only where it changes.
+/// `link`, the chain link, leads to the next spare node while the node is spare, and is its
+/// caller's while the node is held. `guard` is 1 at the guard, and else 0. It is a whole word,
+/// since the padding of a smaller field is written with every write of the links.
 #[derive(Clone, Copy)]
 pub struct Links {
     pub(crate) prev: NodePointer,
@@ -18,5 +18,5 @@ pub struct Links {
     pub(crate) guard: u64,
 }
 
-// A node of a number and a number: six words, and the guard's.
+// A node with a `u64` as key and as value: six words, and the guard's.
 const _: () = prove!(size_of::<Node<Links, u64, u64>>() == 56);

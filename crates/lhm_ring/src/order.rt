@@ -1,4 +1,4 @@
-//! The calls that change the order: a triple comes last, or goes out.
+//! The calls that change the order: a triple is inserted, moved to the back, or removed.
 ghost use Rattle.std.specs.Prelude.{◌≡◌, ◌+◌, ◌-◌, ◌<◌, [], ◌∷◌, ◌++◌, None, map};
 ghost use Rattle.lhm_ring.specs.Cells.{IsApart};
 ghost use Rattle.lhm_ring.specs.RingState.{held, IsHeld, AtHeld};
@@ -12,10 +12,8 @@ impl<K, V> Ring<K, V> {
     ghost use Rattle.lhm_ring.specs.Positions.{pointer_of};
     ghost use Rattle.lhm_ring.specs.RingAfterLoan.{pair};
 
-    /// Moves the triple at a position behind all others, which stay in order.
-    ///
-    /// It writes links alone, in a constant number of steps, and takes no memory. Positions stand. No two triples are at one
-    /// position.
+    /// Moves the triple at a position to the back. The others stay in order, and positions stay. It
+    /// is O(1), writes links alone and does not allocate. No two triples have the same position.
     pub fn move_to_back(&mut self, at: Position<K, V>)
         requires { IsHeld self.old.held (pointer_of at) }
         ensures last { AtHeld self.old.held (pointer_of at) (λ xs t ys. self.new.held ≡ (xs ++ ys) ++ t ∷ []) }
@@ -30,9 +28,8 @@ impl<K, V> Ring<K, V> {
         join(&mut self.nodes, at.pointer, guard);
     }
 
-    /// Puts a triple behind all others, into a spare node, and returns its position. Its link leads nowhere.
-    ///
-    /// It costs a constant number of steps, takes no memory, and drops nothing. The others stay in order.
+    /// Inserts a triple at the back, into a spare node, and returns its position. Its chain link
+    /// leads nowhere. It is O(1), does not allocate and drops nothing.
     pub fn put_back(&mut self, number: u64, key: K, value: V) -> Position<K, V>
         requires { 0 < self.old.spares }
         ensures last { self.new.held ≡ self.old.held ++ held (pointer_of result) number None (pair key value) ∷ [] }
@@ -42,7 +39,7 @@ impl<K, V> Ring<K, V> {
         let at = self.spare.pointer();
         let old = *self.nodes.links(at);
         let previous = self.nodes.links(guard).prev;
-        // A spare node is no guard, and its other two links are written where it is joined.
+        // A spare node is no guard, and `join` writes its other two links.
         let fresh = Links {
             link: Link::none(),
             number,
@@ -58,9 +55,8 @@ impl<K, V> Ring<K, V> {
         Position::new(at)
     }
 
-    /// Takes the triple at a position out and hands it over. Its node is spare, and the others stay in order.
-    ///
-    /// It costs a constant number of steps, and takes and frees no memory. The position leads nowhere then.
+    /// Removes the triple at a position and returns it. The others stay in order. Its node is then
+    /// spare, and the position leads nowhere. It is O(1), and neither allocates nor frees.
     pub fn unlink(&mut self, at: Position<K, V>) -> (u64, K, V)
         requires { IsHeld self.old.held (pointer_of at) }
         ensures others { AtHeld self.old.held (pointer_of at) (λ xs t ys. self.new.held ≡ xs ++ ys) }

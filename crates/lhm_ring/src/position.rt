@@ -1,4 +1,4 @@
-//! Where a triple of a ring is, for callers.
+//! The position of a triple in a ring, for callers.
 ghost use Rattle.std.specs.Prelude.{◌≡◌, ⊤, true};
 ghost use mathlib.Core.Bool.{Bool-set};
 ghost use Rattle.lhm_ring.specs.Cells.{is_block};
@@ -7,10 +7,8 @@ use crate::block::NodePointer;
 use std::alloc::AllocError;
 use std::marker::PhantomData;
 
-/// Where a triple of a `Ring` is.
-///
-/// It stays the position of its triple until that triple leaves the ring, whatever happens to the others. It owns nothing
-/// and gives no access without the ring. Two of them cannot be compared.
+/// The position of a triple in a `Ring`, until that triple leaves the ring. It owns nothing and
+/// gives no access without the ring. Two of them cannot be compared.
 pub struct Position<K, V> {
     pub(crate) pointer: NodePointer,
     mark: PhantomData<(K, V)>,

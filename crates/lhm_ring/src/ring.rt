@@ -14,12 +14,12 @@ pub use crate::value_loan::{Hole, LentValues, ValueLoan};
 use std::alloc::{AllocError, Global};
 use std::marker::Model;
 
-/// Triples of a number, a key and a value, in order, each at a position that stays until it leaves, and
-/// spare nodes for more.
+/// Triples of a hash, a key and a value, in order, each at a position that stays until it leaves,
+/// and spare nodes for more.
 ///
-/// A new triple comes last. Each triple and each spare node takes one block of memory, and one more is the guard's. Only
-/// `grow` takes any, and only `free_spares`, `destroy_empty` and letting the ring go free any. Letting it go drops the
-/// triples, at a step for each node.
+/// Each triple and each spare node is one block of memory, and so is the guard. Only `grow` and
+/// `with_spares` allocate; only `free_spares`, `destroy_empty` and dropping the ring free. Dropping
+/// it drops the triples, in O(n) for its nodes.
 pub struct Ring<K, V> {
     pub(crate) nodes: Nodes<Links, K, V>,
     pub(crate) alloc: Global,
@@ -41,9 +41,7 @@ impl<K, V> Model for Ring<K, V> {
 }
 
 impl<K, V> Ring<K, V> {
-    /// Makes an empty ring with no spare nodes.
-    ///
-    /// It takes no memory: there is no guard yet. Later growths are asked of `alloc`.
+    /// Creates an empty ring with no spare nodes. It does not allocate, not even a guard.
     pub fn new(alloc: Global) -> Ring<K, V>
         ensures empty { result.held ≡ [] }
         ensures no_spares { result.spares ≡ 0 }
@@ -58,7 +56,8 @@ impl<K, V> Ring<K, V> {
         }
     }
 
-    /// Makes an empty ring with this many spare nodes. For none it does not allocate and is not refused.
+    /// Creates an empty ring with this many spare nodes. For none it does not allocate and never
+    /// fails.
     pub fn with_spares(alloc: Global, count: usize) -> Result<Ring<K, V>, AllocError>
         ensures empty { IfOk result (λ ring. ring.held ≡ []) }
         ensures spares { IfOk result (λ ring. ring.spares ≡ count) }
@@ -77,12 +76,12 @@ impl<K, V> Ring<K, V> {
         }
     }
 
-    /// Returns the allocator that the ring was made with. It takes no memory.
+    /// Returns the allocator that the ring was made with.
     pub fn allocator(&self) -> Global {
         self.alloc
     }
 
-    /// Returns how many triples are held. With the spare nodes they are at most 2^59.
+    /// Returns the number of triples. With the spare nodes they are at most 2^59.
     pub fn len(&self) -> usize
         ensures value { result ≡ length self.now.held }
         ensures bounded { length self.now.held + self.now.spares ≤ 2 ^ 59 }
@@ -90,7 +89,7 @@ impl<K, V> Ring<K, V> {
         self.len
     }
 
-    /// Returns how many spare nodes there are. With the held ones they are at most 2^59.
+    /// Returns the number of spare nodes. With the held ones they are at most 2^59.
     pub fn spares(&self) -> usize
         ensures value { result ≡ self.now.spares }
         ensures bounded { length self.now.held + self.now.spares ≤ 2 ^ 59 }
@@ -98,9 +97,8 @@ impl<K, V> Ring<K, V> {
         self.spares
     }
 
-    /// Ends a ring that holds nothing, and frees its nodes, at a step for each.
-    ///
-    /// It asks no `Drop` of keys and values, which letting a ring go does.
+    /// Ends a ring that holds nothing, and frees its nodes, in O(n). Keys and values need no
+    /// `Drop`.
     pub fn destroy_empty(mut self)
         requires { self.held ≡ [] }
     {
@@ -134,7 +132,7 @@ pub(crate) fn join<K, V>(nodes: &mut Nodes<Links, K, V>, a: NodePointer, b: Node
     nodes.set_links(b, links);
 }
 
-/// Lets the further link of the node at `at` be `link`. All else stays.
+/// Sets the chain link of the node at `at`. Nothing else changes.
 pub(crate) fn relink<K, V>(nodes: &mut Nodes<Links, K, V>, at: NodePointer, link: Link)
     requires { IsAt nodes.old.cells at.ptr }
     ensures { Relinks nodes.old.cells at.ptr link nodes.new.cells }
@@ -144,7 +142,7 @@ pub(crate) fn relink<K, V>(nodes: &mut Nodes<Links, K, V>, at: NodePointer, link
     nodes.set_links(at, links);
 }
 
-/// Returns a pointer where no node lies, for links that lead nowhere yet.
+/// Returns a pointer to no node, for links that lead nowhere yet.
 pub(crate) fn nowhere() -> NodePointer {
     NodePointer {
         ptr: std::ptr::null(),

@@ -8,15 +8,15 @@ use crate::links::Links;
 use crate::nodes::Nodes;
 use crate::ring::{join, nowhere, relink};
 
-/// The nodes that a ring held, from `first` to `last`, and the first spare node once they are spare too.
+/// The nodes that a ring held, from `first` to `last`, and the first spare node after them.
 pub(crate) struct Spliced {
     pub(crate) first: NodePointer,
     pub(crate) last: NodePointer,
     pub(crate) spare: Link,
 }
 
-/// Makes spare nodes of the `count` nodes from `first` on, and answers the first spare one. The last of them
-/// comes first. What they hold stays in them, and so do their links for the order.
+/// Makes the `count` nodes from `first` on spare, and returns the first spare one. The last of them
+/// comes first. What they hold and their links for the order stay.
 fn spare_row<K, V>(
     nodes: &mut Nodes<Links, K, V>,
     first: NodePointer,
@@ -39,7 +39,7 @@ fn spare_row<K, V>(
     spare
 }
 
-/// Makes spare nodes of all held ones. What they hold stays in them.
+/// Makes all held nodes spare. What they hold stays in them.
 pub(crate) fn splice<K, V>(
     nodes: &mut Nodes<Links, K, V>,
     guard: Option<NodePointer>,

@@ -21,11 +21,11 @@ use std::mem;
 /// The ring of a table, while the values are lent.
 pub type WithoutValues<K, V> = Ring<K, Hole<V>>;
 
-/// Pairs of a key and a value in insertion order, each with the hash of its key, found by hash and key.
+/// Pairs of a key and a value in insertion order, each with its hash, found by hash and key.
 ///
 /// Each pair has a [`Position`] until it is removed. The capacity is the number of pairs that fit
-/// without an allocation. Only `with_capacity`, `raise` and `shrink_to_fit` allocate,
-/// and a refusal changes nothing.
+/// without an allocation. Only `with_capacity`, `raise` and `shrink_to_fit` allocate; if that
+/// fails, nothing changes.
 pub struct Table<K, V> {
     /// Public for a type that keeps a table in a field and lends its values.
     pub ring: Ring<K, V>,
@@ -62,7 +62,7 @@ impl<K, V> Table<K, V> {
     ghost use Rattle.lhm_ring.specs.Drains.{drain_name, drain_rest};
     ghost use Rattle.lhm_ring.specs.RingState.{triples};
 
-    /// Makes an empty table of capacity 0. It does not allocate.
+    /// Creates an empty table of capacity 0. It does not allocate.
     pub fn new(alloc: Global) -> Table<K, V>
         ensures held { result.held ≡ [] }
         ensures capacity { result.capacity ≡ 0 }
@@ -75,7 +75,7 @@ impl<K, V> Table<K, V> {
         }
     }
 
-    /// Makes an empty table of exactly this capacity, in O(n). Capacity 0 does not allocate.
+    /// Creates an empty table of exactly this capacity, in O(n). Capacity 0 does not allocate.
     pub fn with_capacity(alloc: Global, capacity: usize) -> Result<Table<K, V>, AllocError>
         requires { capacity ≤ 2 ^ 59 }
         ensures held { IfOk result (λ table. table.held ≡ []) }
@@ -115,8 +115,8 @@ impl<K, V> Table<K, V> {
         self.ring.len() + self.ring.spares()
     }
 
-    /// Returns how many nodes rehashes have moved since `shrink_to_fit` last lowered the capacity, that
-    /// call included.
+    /// Returns how many nodes rehashes have moved since `shrink_to_fit` last lowered the capacity,
+    /// that call included.
     pub fn rechained(&self) -> usize
         ensures value { result ≡ self.now.rechained }
         ensures few { self.now.rechained ≤ buckets self.now.capacity }
@@ -164,7 +164,7 @@ impl<K, V> Table<K, V> {
         self.ring.value(at)
     }
 
-    /// Lends the value at a position for writing.
+    /// Returns a mutable reference to the value at a position.
     pub fn value_mut(&mut self, at: Position<K, V>) -> &mut V
         requires { IsHeld self.old.held (pointer_of at) }
         ensures* writes_back { sem 𝓛 (lends_value K.row V.row self.entry (pointer_of at) result) }
@@ -197,9 +197,8 @@ impl<K, V> Table<K, V> {
         at
     }
 
-    /// Removes the pair at a position and returns it. No key is compared.
-    ///
-    /// It takes O(1) time on average: it passes the nodes of the bucket. The capacity stays.
+    /// Removes the pair at a position and returns it. No key is compared. It is O(1) on average.
+    /// The capacity stays.
     pub fn remove_at(&mut self, at: Position<K, V>) -> (K, V)
         requires { IsHeld self.old.held (pointer_of at) }
         ensures others { AtHeld self.old.held (pointer_of at) (λ xs t ys. self.new.held ≡ xs ++ ys) }
@@ -212,10 +211,8 @@ impl<K, V> Table<K, V> {
         (key, value)
     }
 
-    /// Raises the capacity, or changes nothing if memory is refused.
-    ///
-    /// It allocates the buckets first, if there are to be more, and then the nodes. More buckets rehash all pairs, in
-    /// O(n).
+    /// Raises the capacity, or changes nothing if an allocation fails. It allocates more buckets
+    /// first, if needed, and then the nodes. More buckets rehash all pairs, in O(n).
     #[cold]
     #[inline(never)]
     pub fn raise(&mut self, capacity: usize) -> Result<(), AllocError>
@@ -237,10 +234,10 @@ impl<K, V> Table<K, V> {
         Ok(())
     }
 
-    /// Lowers the capacity to the number of pairs, or changes nothing if memory is refused.
+    /// Lowers the capacity to the number of pairs, or changes nothing if an allocation fails.
     ///
-    /// It allocates only if there are pairs and there are to be fewer buckets, which rehashes all pairs, in O(n). An empty
-    /// table gives all its memory back.
+    /// It allocates only if there are pairs and are to be fewer buckets, which rehashes all pairs,
+    /// in O(n). An empty table frees all its memory.
     pub fn shrink_to_fit(&mut self) -> Result<(), AllocError>
         ensures held { self.new.held ≡ self.old.held }
         ensures capacity { OnOk result (self.new.capacity ≡ length self.old.held) }
@@ -311,9 +308,8 @@ impl<K, V> Table<K, V> {
         IntoIter::new(ring)
     }
 
-    /// Removes all pairs and returns them as an iterator, front to back. The capacity stays.
-    ///
-    /// The table is empty from the call on, also if the iterator is forgotten. The call is O(n).
+    /// Removes all pairs and returns them as an iterator, front to back. The capacity stays. The
+    /// table is empty from the call on, also if the iterator is forgotten. The call is O(n).
     pub fn drain(&mut self) -> Drain<'_, K, V>
         ensures* writes_back { sem 𝓛 (lends_drained K.row V.row self.entry (drain_name result)) }
         ensures rest { drain_rest result ≡ triples self.old.held }
@@ -334,7 +330,8 @@ impl<K: Eq, V> Table<K, V> {
         self.index.find(&self.ring, hash, key)
     }
 
-    /// Removes the pair with this hash and this key and returns it, or returns `None` if there is none.
+    /// Removes the pair with this hash and this key and returns it, or returns `None` if there is
+    /// none.
     pub fn remove(&mut self, hash: u64, key: &K) -> Option<(K, V)>
         ensures removed { IfSome result (Removes K.eq hash key.now self.old.held self.new.held) }
         ensures absent { IfNone result (IsAbsent K.eq hash key.now self.old.held) }

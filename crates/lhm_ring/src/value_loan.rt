@@ -1,4 +1,4 @@
-//! The values of the nodes are lent one by one, while the links and the keys are shared.
+//! The values of nodes are lent one by one, while the links and the keys are shared.
 ghost use Rattle.std.specs.Prelude.{◌≡◌, List as Seq, Some};
 ghost use Rattle.std.specs.Borrow.{sem};
 ghost use base.Fml.{GName, ftrue, ffalse};
@@ -28,7 +28,8 @@ impl<V> Move for Hole<V> {
     ghost own_val = { λ _ _. ffalse };
 }
 
-/// The right to write the values that are still to be taken, `run`, each with the pointer of its node.
+/// The right to write the values that are still to be taken, `run`, each with the pointer of its
+/// node.
 #[derive(Drop)]
 pub struct ValueLoan<'a, L, K, V> {
     pub mark: PhantomData<&'a mut Node<L, K, V>>,
@@ -44,7 +45,7 @@ impl<'a, L, K, V> Model for ValueLoan<'a, L, K, V> {
 }
 
 impl<'a, L, K, V> ValueLoan<'a, L, K, V> {
-    /// Lends the value of the node at `at`, for writing until the loan ends.
+    /// Returns a mutable reference to the value of the node at `at`, until the loan ends.
     pub(crate) fn take(&mut self, at: NodePointer) -> &'a mut V
         requires { Lies self.old.run at.ptr }
         ensures value { value_at self.old.run at.ptr ≡ Some result.now }
@@ -56,10 +57,8 @@ impl<'a, L, K, V> ValueLoan<'a, L, K, V> {
     }
 }
 
-/// A ring whose values are lent: all else of it is shared, and the values are there to be written.
-///
-/// It is made by a type that keeps a ring in a field and lends the ring's values, and turned into an
-/// `IterMut` by `IterMut::of`. Whoever makes one proves that the loan is there.
+/// A ring whose values are lent, while all else of it is shared. A type that keeps a ring in a
+/// field makes it, proves that the loan is there, and turns it into an `IterMut` by `IterMut::of`.
 pub struct LentValues<'a, K, V> {
     pub ring: &'a Ring<K, Hole<V>>,
     pub loan: ValueLoan<'a, Links, K, V>,
@@ -69,7 +68,7 @@ impl<K, V> Ring<K, V> {
     ghost use Rattle.lhm_ring.specs.RingAfterLoan.{lends_values};
     ghost use Rattle.lhm_ring.specs.LentRings.{lent_held, lent_name, IsLent};
 
-    /// Shares the ring but for its values, and lends the values.
+    /// Shares the ring except its values, and lends the values.
     pub(crate) fn lend<'a>(&'a mut self) -> LentValues<'a, K, V>
         ensures* writes_back { sem 𝓛 (lends_values K.row V.row self.entry (lent_name result)) }
         ensures held { lent_held result ≡ self.old.held }

@@ -6,13 +6,13 @@ use crate::map::LinkedHashMap;
 use std::alloc::AllocError;
 use std::hash::{BuildHasher, Hash};
 
-/// A clone of a map has a clone of its hasher, its mode, its length as capacity, and clones of its pairs, inserted in order.
+/// Clones the hasher and the pairs, inserted in order. The clone has the same mode, and its
+/// capacity is its source's length.
 ///
-/// Where a clone of a key is the same key, its list is the clones in order; else two of them may be the same, and the later
-/// then replaces the earlier. It takes memory for as many pairs as there are, and what the clones take. It is refused where
-/// a clone of a key, of a value or of the hasher is, or a growth, by the error of the trait `Clone`; an empty map is refused
-/// only where the clone of its hasher is. The source stays as it was. It costs an `insert` for each pair. The original answers
-/// no error.
+/// If clones of two keys are equal, the later replaces the earlier. Returns an error if an
+/// allocation fails, or the clone of a key, a value or the hasher; an empty map is refused only if
+/// the clone of its hasher is. It allocates for the pairs, besides their own clones, and each costs
+/// an `insert`.
 ///
 /// # Examples
 ///

@@ -1,4 +1,4 @@
-//! Maps that take in what an iterator gives.
+//! Maps that are filled from an iterator.
 ghost use Rattle.std.specs.Prelude.{◌≡◌, ◌-◌, max, length, None, IfOk, IfErr, OnErr, OnOk, IsErrOf};
 ghost use Rattle.std.specs.Iterator.{IsFiniteIterable};
 ghost use Rattle.std.specs.Map.Iter.{deref_pair};
@@ -15,11 +15,8 @@ use std::hash::{BuildHasher, Hash};
 impl<K: Eq + Hash, V, S: BuildHasher> LinkedHashMap<K, V, S> {
     /// Inserts the items one by one, as `insert` does, up to the first that is refused.
     ///
-    /// A repeated key keeps its first stored key, and has its last value and the place of its last occurrence. At the first
-    /// refused insertion it stops: the error has that key and that value, the pairs before it stay, and no later item is
-    /// taken. Only a new key at full capacity takes memory, and the capacity then rises by exactly one. It costs an `insert`
-    /// for each item. The original answers no error, and may take memory below its capacity. Here it is a call of the map,
-    /// since the trait `Extend` of std has no error that hands a pair back.
+    /// The error has that key and that value; the pairs before it stay, and no later item is taken.
+    /// Each item costs and allocates what `insert` does.
     ///
     /// # Examples
     ///
@@ -48,7 +45,7 @@ impl<K: Eq + Hash, V, S: BuildHasher> LinkedHashMap<K, V, S> {
         ensures absent { IfErr result (λ refused. find K.eq self.new.pairs refused.key ≡ None) }
         ensures full { OnErr result (length self.new.pairs ≡ self.new.capacity) }
     {
-        // Tells that the map is valid, where no item comes.
+        // Shows that the map is valid if no item comes.
         let _len = self.len();
         for (key, value) in items {
             match self.insert(key, value) {
@@ -59,11 +56,8 @@ impl<K: Eq + Hash, V, S: BuildHasher> LinkedHashMap<K, V, S> {
         Ok(())
     }
 
-    /// Inserts copies of the pairs lent, one by one, as `extend` does.
-    ///
-    /// It stops at the first refused insertion, with copies of that key and that value as the error; the pairs before it
-    /// stay. It takes memory as `extend` does, and costs an `insert` for each item. The original answers no error, and may
-    /// take memory below its capacity. Here it is a call of its own, since a method has one type of items.
+    /// Inserts copies of the referenced pairs one by one, as `extend` does. The error has copies of
+    /// the refused key and value.
     ///
     /// # Examples
     ///
@@ -94,7 +88,7 @@ impl<K: Eq + Hash, V, S: BuildHasher> LinkedHashMap<K, V, S> {
         ensures absent { IfErr result (λ refused. find K.eq self.new.pairs refused.key ≡ None) }
         ensures full { OnErr result (length self.new.pairs ≡ self.new.capacity) }
     {
-        // Tells that the map is valid, where no item comes.
+        // Shows that the map is valid if no item comes.
         let _len = self.len();
         for (key, value) in items {
             match self.insert(*key, *value) {
@@ -105,16 +99,13 @@ impl<K: Eq + Hash, V, S: BuildHasher> LinkedHashMap<K, V, S> {
         Ok(())
     }
 
-    /// Makes a map with the default hasher of its type, with room for as many pairs as the iterator surely gives, and
-    /// inserts the items one by one.
+    /// Creates a map with the default hasher of its type and inserts the items one by one.
     ///
-    /// A repeated key keeps its first stored key, and has its last value and the place of its last occurrence. The capacity
-    /// is the larger of the lower bound that the iterator's `size_hint` answers and the number of pairs. Where the keys of the
-    /// items differ and no more items are announced than come, it is the number of items, whatever
-    /// that bound. It is refused as `TooLarge` exactly where the bound is above [`LIMIT`](crate::LIMIT),
-    /// before an item is taken, and as `NoRoom` where a growth is refused; then all items taken are
-    /// dropped. It takes no memory where the bound is 0 and no item comes. It costs an `insert` for
-    /// each item. The original takes no allocator, may reserve more, and answers no error.
+    /// The capacity is the larger of the lower bound of the iterator's `size_hint` and the number
+    /// of pairs. Returns `TooLarge` exactly if that bound is above [`LIMIT`](crate::LIMIT), before
+    /// an item is taken, and `NoRoom` if an allocation fails or an insertion is refused; all items
+    /// taken are then dropped. It does not allocate if the bound is 0 and no item comes. Each item
+    /// costs an `insert`. The original takes no allocator.
     ///
     /// # Examples
     ///

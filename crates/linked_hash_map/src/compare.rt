@@ -13,9 +13,8 @@ use std::cmp::Ordering;
 use std::fmt;
 use std::hash::{BuildHasher, Hash, Hasher};
 
-/// Two maps are equal where they have equal pairs in the same order. Their hashers and capacities are not compared.
-///
-/// It costs at most a step for each pair, and takes no memory.
+/// Two maps are equal if they have equal pairs in the same order. Hashers and capacities are not
+/// compared. It is O(n) and does not allocate.
 ///
 /// # Examples
 ///
@@ -52,16 +51,13 @@ impl<K: Eq + Hash, V: PartialEq, S: BuildHasher> PartialEq for LinkedHashMap<K, 
     }
 }
 
-/// The equality of maps is an equivalence where that of the values is, since that of the keys is one. `PartialEq` has an
-/// example.
+/// The equality of maps is an equivalence if that of the values is. `PartialEq` has an example.
 impl<K: Eq + Hash, V: Eq, S: BuildHasher> Eq for LinkedHashMap<K, V, S> {
     ghost laws = { on_equiv (λ m. m.pairs) (lists_equiv (and_equiv (on_equiv (λ pair. pair.0) K.Eq.laws) (on_equiv (λ pair. pair.1) V.Eq.laws))) };
 }
 
-/// The order of two maps is the lexicographic one of their pairs, key before value. There is none where the first keys or
-/// values that are not equal have none.
-///
-/// It costs at most a step for each pair, and takes no memory.
+/// Maps compare as their pairs do, lexicographically, key before value. There is no order if the
+/// first keys or values that differ have none. It is O(n) and does not allocate.
 ///
 /// # Examples
 ///
@@ -100,9 +96,8 @@ impl<K: Eq + Hash + PartialOrd, V: PartialOrd, S: BuildHasher> PartialOrd
     }
 }
 
-/// The order of two maps is the lexicographic one of their pairs, key before value.
-///
-/// It costs at most a step for each pair, and takes no memory.
+/// Maps compare as their pairs do, lexicographically, key before value. It is O(n) and does not
+/// allocate.
 ///
 /// # Examples
 ///
@@ -148,9 +143,8 @@ impl<K: Ord + Hash, V: Ord, S: BuildHasher> Ord for LinkedHashMap<K, V, S> {
     }
 }
 
-/// A map feeds a hasher each pair in order, key then value, and nothing else: no length, which the original leaves out too.
-///
-/// So equal maps hash alike. It costs a step for each pair, and takes no memory.
+/// A map feeds a hasher each pair in order, key then value, and no length, so equal maps hash
+/// alike. It is O(n) and does not allocate.
 ///
 /// # Examples
 ///
@@ -177,9 +171,8 @@ impl<K: Eq + Hash, V: Hash, S: BuildHasher> Hash for LinkedHashMap<K, V, S> {
     }
 }
 
-/// The debug text is that of the maps of std, with the pairs in order.
-///
-/// It costs a step for each pair, and takes no memory of its own.
+/// The debug text is that of the maps of std, with the pairs in order. It is O(n), and the map
+/// itself does not allocate.
 ///
 /// # Examples
 ///
@@ -200,7 +193,7 @@ impl<K: Eq + Hash + fmt::Debug, V: fmt::Debug, S: BuildHasher> fmt::Debug
     }
 }
 
-/// Tells whether two pairs are equal.
+/// Returns `true` if two pairs are equal.
 fn is_same_pair<K: PartialEq, V: PartialEq>(pair: (&K, &V), other: (&K, &V)) -> bool
     ensures { result ≡ same_pair K.eq V.eq (deref_pair pair.entry) (deref_pair other.entry) }
 {
@@ -218,7 +211,7 @@ fn compare_pairs<K: Ord, V: Ord>(pair: (&K, &V), other: (&K, &V)) -> Ordering
     }
 }
 
-/// Compares two pairs, key before value, where there may be no order.
+/// Compares two pairs, key before value, if there is an order.
 fn partial_compare_pairs<K: PartialOrd, V: PartialOrd>(
     pair: (&K, &V),
     other: (&K, &V),

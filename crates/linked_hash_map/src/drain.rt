@@ -6,11 +6,11 @@ ghost use Rattle.std.specs.Iterator.SizeHint.{IsWithinCount};
 use lhm_ring::table;
 use std::iter::FusedIterator;
 
-/// An iterator that hands out the pairs that a map had, from both ends. It is made by `drain`.
+/// A double-ended iterator over the pairs removed by `drain`, which returns it.
 ///
-/// The map is empty and has the capacity that it had from that call on. Letting the iterator go drops the pairs that are left, a
-/// step for each; where it is forgotten, they are leaked, and nothing else is. Each call of the iterator costs a constant number of
-/// steps, and none takes memory. Its calls ask for `K: Drop` and `V: Drop`, which those of the original do not.
+/// The map is empty and keeps its capacity from that call on. Dropping the iterator drops the pairs
+/// left, in O(n); forgetting it leaks them, and nothing else. Its calls are O(1) and do not
+/// allocate.
 ///
 /// # Examples
 ///
@@ -32,7 +32,7 @@ impl<'a, K, V> Drain<'a, K, V> {
     ghost use Rattle.lhm_ring.specs.Drains as ring;
     ghost use Rattle.linked_hash_map.specs.Drains.{drain_rest, drain_name};
 
-    /// Hands out what a ring held.
+    /// Returns an iterator over the pairs removed from a table.
     pub(crate) fn new(nodes: table::Drain<'a, K, V>) -> Self
         ensures rest { drain_rest result ≡ map (λ t. t.1) (ring.drain_rest nodes.entry) }
         ensures name { drain_name result ≡ ring.drain_name nodes.entry }
@@ -41,7 +41,7 @@ impl<'a, K, V> Drain<'a, K, V> {
     }
 }
 
-/// Drops the pairs that are left.
+/// Drops the pairs left.
 impl<'a, K: Drop, V: Drop> Drop for Drain<'a, K, V> {
     fn drop(self) {
         let Drain { nodes } = self;
@@ -49,7 +49,7 @@ impl<'a, K: Drop, V: Drop> Drop for Drain<'a, K, V> {
     }
 }
 
-/// `next` hands out the pair at the oldest place that is left; the size hint is exact.
+/// `next` yields the front pair left; the size hint is exact.
 impl<'a, K: Drop, V: Drop> Iterator for Drain<'a, K, V> {
     ghost use Rattle.linked_hash_map.specs.Drains.{drain_rest, DrainSteps};
 
@@ -76,7 +76,7 @@ impl<'a, K: Drop, V: Drop> Iterator for Drain<'a, K, V> {
     }
 }
 
-/// `next_back` hands out the pair at the newest place that is left.
+/// `next_back` yields the back pair left.
 impl<'a, K: Drop, V: Drop> DoubleEndedIterator for Drain<'a, K, V> {
     ghost use Rattle.linked_hash_map.specs.Drains.{DrainStepsBack};
 
@@ -90,12 +90,12 @@ impl<'a, K: Drop, V: Drop> DoubleEndedIterator for Drain<'a, K, V> {
     }
 }
 
-/// `len` is the number of pairs that are left.
+/// `len` is the number of pairs left.
 impl<'a, K: Drop, V: Drop> ExactSizeIterator for Drain<'a, K, V> {
     fn len(&self) -> usize {
         self.nodes.len()
     }
 }
 
-/// Once no pair is left, `next` and `next_back` answer `None` for good.
+/// Once no pair is left, `next` and `next_back` return `None` for good.
 impl<'a, K: Drop, V: Drop> FusedIterator for Drain<'a, K, V> {}

@@ -1,7 +1,5 @@
-//! The entry of a key: the pair that a map has for it, or the key alone, whose pair would go to the back.
-//!
-//! An entry is made by `entry` of the map, for any key, or lent by a cursor (`entries`), for one present key after another.
-//! Through it the pair is read, changed, put in or taken out without a second look-up.
+//! The entry of a key: its pair, or the key alone, whose pair would go to the back. It reads,
+//! changes, inserts or removes the pair without a second lookup.
 ghost use Rattle.std.specs.Prelude.{◌≡◌, ◌<◌, None, length};
 ghost use Rattle.linked_hash_map.specs.Pairs.{find};
 ghost use Rattle.linked_hash_map.specs.Cursor.{IsOutside, IsOutside-prop};
@@ -16,9 +14,8 @@ use crate::map::{DefaultHashBuilder, LinkedHashMap};
 pub use cursor::Entries;
 use std::hash::{BuildHasher, Hash};
 
-/// The entry of a key, which a map has or lacks. It is made by `entry`.
-///
-/// An entry that is let go leaves the pairs and their order as they were.
+/// The entry of a key, returned by `entry`. Dropping it leaves the pairs and their order as they
+/// are.
 ///
 /// # Examples
 ///
@@ -41,9 +38,7 @@ pub enum Entry<'a, K: Eq + Hash, V, S: BuildHasher = DefaultHashBuilder> {
     Vacant(VacantEntry<'a, K, V, S>),
 }
 
-/// The entry of a key that is present: it stands for one pair of a map.
-///
-/// Nothing that it does takes memory, and nothing that it does ends the visit of a cursor.
+/// The entry of a present key. None of its calls allocates or ends the visit of a cursor.
 ///
 /// # Examples
 ///
@@ -67,7 +62,7 @@ pub struct OccupiedEntry<'a, K: Eq + Hash, V, S: BuildHasher = DefaultHashBuilde
     ghost outside: { IsOutside map.now.cursor.current map.now } by { IsOutside-prop map.now.cursor.current map.now },
 }
 
-/// The entry of a key that is absent: it owns the key, which is dropped with it.
+/// The entry of an absent key. It owns the key, which is dropped with it.
 ///
 /// # Examples
 ///

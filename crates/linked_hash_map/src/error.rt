@@ -1,9 +1,6 @@
-//! The errors of calls that take memory.
+//! The errors of calls that allocate.
 
-/// The error of an insertion that found no room: the key and the value that were to go in.
-///
-/// The map is then as it was, so the pair can be put in later, or elsewhere. The original ends the program for want of
-/// memory.
+/// The error of a refused insertion: the key and the value. The map is unchanged.
 ///
 /// # Examples
 ///
@@ -16,15 +13,13 @@
 /// ```
 #[derive(Debug, PartialEq, Drop)]
 pub struct Refused<K, V> {
-    /// The key that was handed in.
+    /// The key that was given.
     pub key: K,
-    /// The value that was handed in, or that was made for it.
+    /// The value that was given, or that was made for the key.
     pub value: V,
 }
 
-/// The error of a call that reserves room.
-///
-/// The original panics or ends the program instead.
+/// The error of a call that reserves capacity.
 ///
 /// # Examples
 ///
@@ -40,11 +35,11 @@ pub struct Refused<K, V> {
 pub enum ReserveError {
     /// The capacity would be above [`LIMIT`](crate::LIMIT).
     TooLarge = 1,
-    /// A growth was refused.
+    /// An allocation failed.
     NoRoom = 2,
 }
 
-/// The error of a call whose growth was refused. It is that of `shrink_to_fit`, which may need a smaller block.
+/// The error of `shrink_to_fit`, which may need a smaller block: an allocation failed.
 ///
 /// # Examples
 ///

@@ -1,7 +1,7 @@
-//! The iterators over a map, each from both ends.
+//! The double-ended iterators over a map.
 //!
-//! A contract sees an iterator as the list of what it has left: any mixture of `next` and `next_back` hands out each item once,
-//! from the two ends, and then answers `None` for good. No call takes memory but the clone of an [`IntoIter`].
+//! A contract sees an iterator as the list of items left: `next` and `next_back`, in any mixture,
+//! yield each once and then return `None` for good.
 ghost use Rattle.std.specs.Prelude.{◌≡◌, Some, IfSome, length, ⊤};
 ghost use Rattle.std.specs.Iterator.{at_most, UpTo};
 ghost use Rattle.std.specs.Iterator.SizeHint.{IsWithinCount};
@@ -25,9 +25,8 @@ pub use iter_mut::IterMut;
 pub use keys::Keys;
 pub use values::Values;
 
-/// An iterator over the pairs of a map, from both ends. It is made by `iter`, or by a loop over `&map`.
-///
-/// Each of its calls costs a constant number of steps and takes no memory. A clone has the same pairs left.
+/// A double-ended iterator over the pairs of a map, returned by `iter` or a loop over `&map`. Its
+/// calls are O(1) and do not allocate. A clone has the same pairs left.
 ///
 /// # Examples
 ///
@@ -59,7 +58,7 @@ impl<'a, K, V> Model for Iter<'a, K, V> {
 impl<'a, K, V> Iter<'a, K, V> {
     ghost use Rattle.linked_hash_map.specs.Nodes.{pairs_of};
 
-    /// Walks over a ring.
+    /// Returns an iterator over a table.
     pub(crate) fn new(table: &'a Table<K, V>) -> Self
         ensures { result ≡ pairs_of table.now.held }
     {
@@ -69,7 +68,7 @@ impl<'a, K, V> Iter<'a, K, V> {
     }
 }
 
-/// `next` hands out the pair at the oldest place that is left; the size hint is exact.
+/// `next` yields the front pair left; the size hint is exact.
 impl<'a, K, V> Iterator for Iter<'a, K, V> {
     type Item = (&'a K, &'a V);
 
@@ -94,7 +93,7 @@ impl<'a, K, V> Iterator for Iter<'a, K, V> {
     }
 }
 
-/// `next_back` hands out the pair at the newest place that is left.
+/// `next_back` yields the back pair left.
 impl<'a, K, V> DoubleEndedIterator for Iter<'a, K, V> {
     ghost next_back_gives = { TakesLast deref_pair };
 
@@ -106,17 +105,17 @@ impl<'a, K, V> DoubleEndedIterator for Iter<'a, K, V> {
     }
 }
 
-/// `len` is the number of pairs that are left.
+/// `len` is the number of pairs left.
 impl<'a, K, V> ExactSizeIterator for Iter<'a, K, V> {
     fn len(&self) -> usize {
         self.nodes.len()
     }
 }
 
-/// Once no pair is left, `next` and `next_back` answer `None` for good.
+/// Once no pair is left, `next` and `next_back` return `None` for good.
 impl<'a, K, V> FusedIterator for Iter<'a, K, V> {}
 
-/// A clone has the same pairs left. It takes no memory and is never refused.
+/// A clone has the same pairs left. It does not allocate and never fails.
 impl<'a, K, V> Clone for Iter<'a, K, V> {
     ghost is_clone = { λ s t. t ≡ s };
 
@@ -129,7 +128,7 @@ impl<'a, K, V> Clone for Iter<'a, K, V> {
     }
 }
 
-/// A loop over `&map`, as over `iter`. It takes no memory and leaves the order.
+/// A loop over `&map`, as over `iter`. It does not allocate.
 ///
 /// # Examples
 ///
@@ -151,7 +150,7 @@ impl<'a, K: Eq + Hash, V, S: BuildHasher> IntoIterator for &'a LinkedHashMap<K, 
 
     type IntoIter = Iter<'a, K, V>;
 
-    // Its last two parts are laws of walks, for the proofs of callers: any body meets them.
+    // Its last two parts are laws of iterators, for the proofs of callers.
     ghost into_iter_gives = { λ map walk. (walk ≡ map.now.pairs) × IsValid K.eq map.now × ShowsInOrder (deref_pair {K = K} {X = V}) × ShowsInReverse (deref_pair {K = K} {X = V}) };
 
     fn into_iter(self) -> Iter<'a, K, V> {

@@ -1,11 +1,12 @@
 //! A hash map that keeps its pairs in insertion order.
 //!
-//! A new key goes to the back. Inserting a key that is present replaces its value, keeps the stored key and moves the
-//! pair to the back, but in [`Mode::Keep`] leaves it in its place. Capacity is exact: a map holds `capacity` pairs without
-//! taking memory, and only a new key at full capacity can be refused, with its key and value handed back and the map unchanged.
+//! A new key goes to the back. Inserting a present key replaces its value, keeps the stored key and
+//! moves the pair to the back, or in [`Mode::Keep`] leaves it in its place. Capacity is exact: a
+//! map holds `capacity` pairs without allocating, and only a new key at full capacity can be
+//! refused, with its key and value returned and the map unchanged.
 //!
-//! This is a port of the Rust crate linked-hash-map 0.5.6, "the original" in what follows. Where a call differs from it, its
-//! documentation says so.
+//! This is a port of the Rust crate linked-hash-map 0.5.6, "the original" in what follows.
+//! `docs/DIFFERENCES.md` lists where it differs.
 //!
 //! # Examples
 //!
@@ -33,14 +34,14 @@
 //! }
 //! ```
 //!
-//! The examples of this documentation are statements of a function that is given `rt: HostRuntime` and hands errors on by
-//! `?`. Each of them is run.
+//! Each example is the body of a function that has `rt: HostRuntime` and returns errors by `?`.
+//! Each is run.
 //!
 //! # What is proved
 //!
-//! Each call is proved to do what its contract says to the list of pairs: which pairs there are afterwards, in which order,
-//! and what stays where the call is refused. The contract of [`replay::replay`] says the same of any run of commands.
-//! `README.md` lists the promises, and `docs/CALLING.md` shows how a caller uses them in a proof of its own.
+//! Each call is proved to do what its contract says to the list of pairs, also if it is refused.
+//! The contract of [`replay::replay`] says the same of any run of commands. `README.md` lists the
+//! promises, and `docs/CALLING.md` shows how a caller uses them in a proof of its own.
 #![tactic(auto)]
 
 mod clone;

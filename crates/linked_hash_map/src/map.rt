@@ -1,8 +1,6 @@
-//! The map: its type, and the calls that make one, look keys up, put pairs in, take them out and go over them.
+//! The map: its type, and the calls that create one, look keys up, insert, remove and iterate.
 //!
-//! A map is a list of pairs with pairwise different keys, from the oldest place to the newest, with a capacity and a hasher.
-//! The contract of each call says what it does to that list. How the pairs are kept concerns few functions: those of
-//! `storage`, and the ones here that name the fields.
+//! Only `storage` and the functions here that name the fields know how the pairs are stored.
 ghost use Rattle.std.specs.Prelude.{◌≡◌, ◌==◌, ◌+◌, ◌*◌, ◌<◌, ◌≤◌, [], length, max, option_copied, option_map, is_some, None, IsErrOf, ◌↔◌, OnOk, OnErr, IfOk, IfErr, IfNone, OnSome};
 ghost use Rattle.std.specs.Map.{keys_of, values_of};
 ghost use Rattle.std.specs.Map.Iter.{deref, deref_pair, ShowsInOrder, ShowsInReverse, LendsValuesInOrder, LendsValuesInReverse};
@@ -31,9 +29,7 @@ use std::alloc::Global;
 use std::hash::{BuildHasher, BuildHasherDefault, FoldHasher, Hash};
 use std::marker::Model;
 
-/// The most pairs that a map can have room for: 2^59.
-///
-/// A call that would need more is refused without asking for memory. The original has no such limit.
+/// The largest capacity of a map: 2^59. A call that would need more is refused without allocating.
 ///
 /// # Examples
 ///
@@ -45,10 +41,10 @@ use std::marker::Model;
 /// ```
 pub const LIMIT: usize = 576460752303423488;
 
-/// The build hasher of maps that are handed none: that of std's `HashMap`, with a fixed seed.
+/// The build hasher of a map that is given none: that of std's `HashMap`, with a fixed seed.
 ///
-/// Whoever chooses the keys of a map can make them collide under a fixed seed: hand in a build hasher with a random one, as
-/// `RandomState`, where strangers do. The original's default has a random seed.
+/// Whoever chooses the keys can make them collide: use a random seed, as `RandomState` has, for
+/// untrusted keys. The original's default has a random seed.
 ///
 /// # Examples
 ///
@@ -62,10 +58,8 @@ pub const LIMIT: usize = 576460752303423488;
 /// ```
 pub type DefaultHashBuilder = BuildHasherDefault<FoldHasher>;
 
-/// What an insertion does to the place of a pair whose key is present.
-///
-/// [`LinkedHashMap::set_mode`] sets the mode of a map and [`LinkedHashMap::mode`] tells it. Every map starts in `Touch`, but a clone
-/// has the mode of its source. The original has no modes: its maps do what those in `Touch` do.
+/// Whether inserting a present key moves its pair to the back. A new map is in `Touch`; a clone has
+/// the mode of its source. The original has no modes: its maps behave as those in `Touch`.
 ///
 /// # Examples
 ///
@@ -82,26 +76,21 @@ pub type DefaultHashBuilder = BuildHasherDefault<FoldHasher>;
 /// ```
 #[derive(Clone, Copy, Debug, PartialEq)]
 pub enum Mode {
-    /// It moves the pair to the back.
+    /// Moves the pair to the back.
     Touch,
-    /// It leaves the pair in its place.
+    /// Leaves the pair in its place.
     Keep,
 }
 
 /// A hash map that keeps its pairs in insertion order.
 ///
-/// A new key goes to the back; inserting a key that is present moves its pair to the back, but in [`Mode::Keep`] leaves it in its
-/// place. Every call keeps the map valid: its keys are pairwise different, and its length is within its capacity, which is within
+/// A new key goes to the back. Inserting a present key moves its pair to the back, or in
+/// [`Mode::Keep`] leaves it in its place. The length is at most the capacity, which is at most
 /// [`LIMIT`].
 ///
-/// Costs are named in steps, each of which reaches, moves or drops one pair. A look-up hashes its key once and goes along the
-/// chain of the key's bucket, a step for each pair that it reaches, and compares keys only where their numbers agree:
-/// [`get_counted`](LinkedHashMap::get_counted) says how many. The number of buckets is the least power of two that is not below
-/// the capacity, and 0 at capacity 0. Taking a pair out costs a step for each that comes before it in its chain, and compares no
-/// key. Where no cost is named at a call, it costs a constant number of steps. Dropping a map drops its pairs, a step for each.
-///
-/// Unlike the original's, the type asks for `K: Eq + Hash` and `S: BuildHasher` wherever it is named, and is made with an
-/// allocator that is handed in.
+/// A lookup hashes its key once, follows the chain of the key's bucket and compares only keys with
+/// the same hash: it is O(1) on average. There are as many buckets as the least power of two that
+/// is not below the capacity, and 0 at capacity 0. Dropping a map drops its pairs, in O(capacity).
 ///
 /// # Examples
 ///
@@ -117,17 +106,17 @@ pub enum Mode {
 /// ```
 #[derive(Drop)]
 pub struct LinkedHashMap<K: Eq + Hash, V, S: BuildHasher = DefaultHashBuilder> {
-    // The pairs in order, each with the hash of its key, and where a key is.
+    // The pairs in order, with the hashes of their keys, and where each key is.
     table: Table<K, V>,
     hasher: S,
     // Where a cursor or an entry stands.
     visit: Visit<K, V>,
-    // What an insertion of a present key does to the place of its pair.
+    // Whether inserting a present key moves its pair to the back.
     mode: Mode,
 }
 
-/// A contract sees a map as its pairs from the oldest place to the newest, its capacity, its hasher, its mode, and what a cursor
-/// has still to visit.
+/// A contract sees a map as its pairs, front to back, its capacity, hasher and mode, and the pairs
+/// left to visit.
 impl<K: Eq + Hash, V, S: BuildHasher> Model for LinkedHashMap<K, V, S> {
     ghost use Rattle.linked_hash_map.specs.LinkedMap.{LinkedMap, linked_map_code};
     ghost use Rattle.linked_hash_map.specs.Nodes.{IsKept, map_of, beside, mark_of, unvisited_of, current_of};
@@ -143,9 +132,8 @@ impl<K: Eq + Hash, V, S: BuildHasher> Model for LinkedHashMap<K, V, S> {
 }
 
 impl<K: Eq + Hash, V> LinkedHashMap<K, V> {
-    /// Makes an empty map of capacity 0 with the default hasher, whose seed is fixed.
-    ///
-    /// It takes no memory. Later growths are asked of `alloc`. The original takes no allocator, and its seed is random.
+    /// Creates an empty map of capacity 0 with the default hasher, whose seed is fixed. It is O(1)
+    /// and does not allocate.
     ///
     /// # Examples
     ///
@@ -164,11 +152,10 @@ impl<K: Eq + Hash, V> LinkedHashMap<K, V> {
         Self::with_hasher(alloc, BuildHasherDefault::new())
     }
 
-    /// Makes an empty map of exactly the given capacity with the default hasher, whose seed is fixed.
+    /// Creates an empty map of exactly this capacity with the default hasher, whose seed is fixed.
     ///
-    /// It takes memory for the whole capacity, and none for capacity 0. It is refused as `TooLarge` exactly where the
-    /// capacity is above [`LIMIT`], and as `NoRoom` where a growth is refused. It costs at most a step for each pair of the
-    /// capacity. The original gives at least this capacity, and ends the program where memory is refused.
+    /// Returns `TooLarge` exactly if it is above [`LIMIT`], and `NoRoom` if an allocation fails. It
+    /// is O(capacity), and does not allocate for capacity 0.
     ///
     /// # Examples
     ///
@@ -198,9 +185,7 @@ impl<K: Eq + Hash, V, S: BuildHasher> LinkedHashMap<K, V, S> {
     ghost use Rattle.linked_hash_map.specs.Lends.{lends_value, lends_refreshed, lends_values, lends_drained};
     ghost use Rattle.linked_hash_map.specs.ValueWalks.{pairs_left, loan_name};
 
-    /// Makes an empty map of capacity 0 with the given build hasher.
-    ///
-    /// It takes no memory. Later growths are asked of `alloc`, which the original does not take.
+    /// Creates an empty map of capacity 0 with a build hasher. It is O(1) and does not allocate.
     ///
     /// # Examples
     ///
@@ -223,12 +208,10 @@ impl<K: Eq + Hash, V, S: BuildHasher> LinkedHashMap<K, V, S> {
         Self::of_empty(Table::new(alloc), hasher)
     }
 
-    /// Makes an empty map of exactly the given capacity with the given build hasher.
+    /// Creates an empty map of exactly this capacity with a build hasher.
     ///
-    /// It takes memory for the whole capacity, and none for capacity 0. It is refused as `TooLarge` exactly where the
-    /// capacity is above [`LIMIT`], and as `NoRoom` where a growth is refused; the hasher is dropped then. It costs at most a
-    /// step for each pair of the capacity. The original gives at least this capacity, and ends the program where memory is
-    /// refused.
+    /// Returns `TooLarge` exactly if it is above [`LIMIT`], and `NoRoom` if an allocation fails;
+    /// the hasher is then dropped. It is O(capacity), and does not allocate for capacity 0.
     ///
     /// # Examples
     ///
@@ -267,7 +250,7 @@ impl<K: Eq + Hash, V, S: BuildHasher> LinkedHashMap<K, V, S> {
         }
     }
 
-    /// Makes a map of an empty table.
+    /// Creates a map of an empty table.
     fn of_empty(table: Table<K, V>, hasher: S) -> Self
         requires empty { table.held ≡ [] }
         requires unmoved { table.rechained ≡ 0 }
@@ -292,13 +275,11 @@ impl<K: Eq + Hash, V, S: BuildHasher> LinkedHashMap<K, V, S> {
         }
     }
 
-    /// Makes room for at least `additional` more pairs: the capacity becomes exactly the larger of what it is and the
-    /// number of pairs and `additional` together.
+    /// Raises the capacity to exactly the number of pairs plus `additional`, if it is below that.
     ///
-    /// Within the capacity it takes no memory and is never refused. It is refused as `TooLarge` exactly where that sum,
-    /// as a whole number, is above [`LIMIT`], and as `NoRoom` where a growth is refused; then nothing is changed. The order
-    /// stays. It costs at most a step for each pair of the new capacity. The original may reserve more, and panics where the
-    /// sum overflows.
+    /// Returns `TooLarge` exactly if that sum is above [`LIMIT`], also if it overflows, and
+    /// `NoRoom` if an allocation fails; the map is then unchanged. It is O(capacity) for the new
+    /// capacity. Within the old one it does not allocate and is never refused.
     ///
     /// # Examples
     ///
@@ -339,12 +320,11 @@ impl<K: Eq + Hash, V, S: BuildHasher> LinkedHashMap<K, V, S> {
         }
     }
 
-    /// Lowers the capacity to exactly the number of pairs.
+    /// Lowers the capacity to exactly the number of pairs; an empty map frees all its memory.
     ///
-    /// On an empty map, and where the capacity is the number of pairs already, it takes no memory and is never refused; an empty
-    /// map gives all its memory back. Otherwise it asks for memory only where there are to be fewer buckets, and a refusal
-    /// changes nothing. The order stays. It costs at most a step for each pair of the old capacity. The original may leave some
-    /// space.
+    /// Returns `NoRoom` if an allocation fails; the map is then unchanged. It is O(capacity) for
+    /// the old capacity. It allocates, and can be refused, only if pairs are left and there are to
+    /// be fewer buckets.
     ///
     /// # Examples
     ///
@@ -378,14 +358,13 @@ impl<K: Eq + Hash, V, S: BuildHasher> LinkedHashMap<K, V, S> {
         }
     }
 
-    /// Puts a pair at the back, or in [`Mode::Keep`] in the place that its key has.
+    /// Inserts a pair and returns the old value of its key, or `None` if the key is new.
     ///
-    /// A key that is present keeps its stored key and gets the new value, its pair moves to the back, or in [`Mode::Keep`] stays in
-    /// its place, `key` is dropped and the old value is returned; this takes no memory and is never refused. A new key goes to the
-    /// back in both modes. Below capacity it takes no memory and is never refused either. A new key at full capacity raises the
-    /// capacity by exactly one, or is refused: then the error has this key and this value, and the map is unchanged. It costs a
-    /// look-up, and where a raise changes the number of buckets a step for each pair. The original answers no error, and may take
-    /// memory below its capacity.
+    /// A present key is never refused: its pair keeps the stored key and moves to the back, or in
+    /// [`Mode::Keep`] stays in its place, and `key` is dropped. A new key goes to the back. At full
+    /// capacity it raises the capacity by exactly one or is refused: the error has this key and
+    /// this value, and the map is unchanged. It is O(1) on average, or O(n) if the number of
+    /// buckets changes, and allocates only for a new key at full capacity.
     ///
     /// # Examples
     ///
@@ -430,9 +409,7 @@ impl<K: Eq + Hash, V, S: BuildHasher> LinkedHashMap<K, V, S> {
         Ok(None)
     }
 
-    /// Tells whether a key is present.
-    ///
-    /// It takes no memory, leaves the order and costs a look-up. The original takes any borrowed form of the key.
+    /// Returns `true` if a key is present. It is O(1) on average and does not allocate.
     ///
     /// # Examples
     ///
@@ -448,9 +425,7 @@ impl<K: Eq + Hash, V, S: BuildHasher> LinkedHashMap<K, V, S> {
         self.get(key).is_some()
     }
 
-    /// Returns the value of a key, or `None` where the key is absent.
-    ///
-    /// It takes no memory, leaves the order and costs a look-up. The original takes any borrowed form of the key.
+    /// Returns the value of a key, if present. It is O(1) on average and does not allocate.
     ///
     /// # Examples
     ///
@@ -466,13 +441,11 @@ impl<K: Eq + Hash, V, S: BuildHasher> LinkedHashMap<K, V, S> {
         self.get_counted(key).0
     }
 
-    /// Lends the value of a key, or returns `None` where the key is absent, and says how many nodes were reached and how many keys
-    /// compared.
+    /// Returns the value of a key, if present, and the counts of the lookup.
     ///
-    /// A look-up goes along the chain of the key's bucket: the number of buckets is the least power of two that is not below the
-    /// capacity, and 0 at capacity 0. For an absent key it reaches each pair whose number is in that bucket, and compares each key
-    /// with the same number; for a present key it does no more. All look-ups of the map share its search. It takes no memory
-    /// and leaves the order. The original has no such call.
+    /// For an absent key it reaches each node of the bucket's chain and compares each key with the
+    /// same hash; for a present key it does no more. Every lookup searches so. It is O(1) on
+    /// average and does not allocate.
     ///
     /// # Examples
     ///
@@ -486,13 +459,13 @@ impl<K: Eq + Hash, V, S: BuildHasher> LinkedHashMap<K, V, S> {
         ensures value { option_copied result.0 ≡ value_at K.eq self.now.pairs key.now }
         ensures valid { IsValid K.eq self.now }
 
-        // Where the key is absent.
+        // If the key is absent.
         ensures compared { IfNone result.0 (result.1.compared
             ≡ same (hash_by S.Hasher.finish S.Hasher.write S.build_hasher K.hash_input self.now.hasher) self.now.pairs key.now) }
         ensures visited { IfNone result.0 (result.1.visited
             ≡ beside (hash_by S.Hasher.finish S.Hasher.write S.build_hasher K.hash_input self.now.hasher) self.now.pairs self.now.capacity key.now) }
 
-        // Where it is present.
+        // If it is present.
         ensures compared_some { OnSome result.0 (1 ≤ result.1.compared) }
         ensures compared_few { OnSome result.0 (result.1.compared
             ≤ same (hash_by S.Hasher.finish S.Hasher.write S.build_hasher K.hash_input self.now.hasher) self.now.pairs key.now) }
@@ -512,10 +485,8 @@ impl<K: Eq + Hash, V, S: BuildHasher> LinkedHashMap<K, V, S> {
         }
     }
 
-    /// Lends the value of a key for writing, or returns `None` where the key is absent.
-    ///
-    /// What is written becomes the value of that pair. It takes no memory, leaves the order and costs a look-up. The original
-    /// takes any borrowed form of the key.
+    /// Returns a mutable reference to the value of a key, if present. It is O(1) on average and
+    /// does not allocate.
     ///
     /// # Examples
     ///
@@ -539,11 +510,8 @@ impl<K: Eq + Hash, V, S: BuildHasher> LinkedHashMap<K, V, S> {
         }
     }
 
-    /// Moves the pair of a key to the back, in both modes, and lends its value for writing, or returns `None` where the key is
-    /// absent and changes nothing.
-    ///
-    /// What is written becomes the value of that pair. All other pairs keep their order. It takes no memory and costs a look-up.
-    /// The original takes any borrowed form of the key.
+    /// Moves the pair of a key, if present, to the back in both modes and returns a mutable
+    /// reference to its value; else nothing changes. It is O(1) on average and does not allocate.
     ///
     /// # Examples
     ///
@@ -572,11 +540,8 @@ impl<K: Eq + Hash, V, S: BuildHasher> LinkedHashMap<K, V, S> {
         }
     }
 
-    /// Takes out the pair of a key, drops the stored key and returns the value, or returns `None` where the key is
-    /// absent.
-    ///
-    /// All other pairs keep their order. It takes no memory, and the capacity stays. It costs a look-up. The original takes any
-    /// borrowed form of the key.
+    /// Removes the pair of a key and returns its value, if present; the stored key is dropped. The
+    /// order of the others and the capacity stay. It is O(1) on average and does not allocate.
     ///
     /// # Examples
     ///
@@ -604,10 +569,10 @@ impl<K: Eq + Hash, V, S: BuildHasher> LinkedHashMap<K, V, S> {
         Some(value)
     }
 
-    /// Returns the number of pairs that the map has room for: up to it, an insertion takes no memory and is never
-    /// refused.
+    /// Returns how many pairs the map can hold before an insertion allocates or is refused.
     ///
-    /// It takes no memory. The original may take memory below its capacity, and raises it by more than one.
+    /// It is O(1) and does not allocate. The original may allocate below its capacity, and raises
+    /// it by more than one.
     ///
     /// # Examples
     ///
@@ -625,13 +590,11 @@ impl<K: Eq + Hash, V, S: BuildHasher> LinkedHashMap<K, V, S> {
         self.table.capacity()
     }
 
-    /// Returns how many nodes changes of the capacity have chained again since the last [`shrink_to_fit`] that lowered it, its own
-    /// included.
+    /// Returns how many nodes were rehashed since [`shrink_to_fit`] last lowered the capacity, its
+    /// own included. It is O(1) and does not allocate.
     ///
-    /// A change that changes the number of buckets chains all pairs again, and any other chains none. There are as many buckets as
-    /// the least power of two that is not below the capacity, and 0 at capacity 0: so many nodes at most have been chained again,
-    /// whatever calls came before. So the count is below twice the capacity, where that is not 0.
-    /// It takes no memory. The original has no such call.
+    /// Only a change of the number of buckets rehashes, and it rehashes all pairs. The count is at
+    /// most the number of buckets, and below twice the capacity unless that is 0.
     ///
     /// [`shrink_to_fit`]: LinkedHashMap::shrink_to_fit
     ///
@@ -653,10 +616,8 @@ impl<K: Eq + Hash, V, S: BuildHasher> LinkedHashMap<K, V, S> {
         self.table.rechained()
     }
 
-    /// Takes out the pair at the oldest place, or returns `None` on an empty map.
-    ///
-    /// The key is the stored one, and all other pairs keep their order. It takes no memory, and the capacity stays, for which the
-    /// original gives memory back. It costs a step for each pair before it in its chain.
+    /// Removes and returns the front pair, if any. The capacity stays. It is O(1) on average,
+    /// compares no key and does not allocate.
     ///
     /// # Examples
     ///
@@ -680,9 +641,7 @@ impl<K: Eq + Hash, V, S: BuildHasher> LinkedHashMap<K, V, S> {
         Some(self.table.remove_at(front))
     }
 
-    /// Lends the pair at the oldest place, or returns `None` on an empty map.
-    ///
-    /// The key is the stored one. It takes no memory and leaves the order.
+    /// Returns the front pair, if any. It is O(1) and does not allocate.
     ///
     /// # Examples
     ///
@@ -699,10 +658,8 @@ impl<K: Eq + Hash, V, S: BuildHasher> LinkedHashMap<K, V, S> {
         Some((self.table.key(at), self.table.value(at)))
     }
 
-    /// Takes out the pair at the newest place, or returns `None` on an empty map.
-    ///
-    /// The key is the stored one, and all other pairs keep their order. It takes no memory, and the capacity stays, for which the
-    /// original gives memory back. It costs a step for each pair before it in its chain.
+    /// Removes and returns the back pair, if any. The capacity stays. It is O(1) on average,
+    /// compares no key and does not allocate.
     ///
     /// # Examples
     ///
@@ -726,9 +683,7 @@ impl<K: Eq + Hash, V, S: BuildHasher> LinkedHashMap<K, V, S> {
         Some(self.table.remove_at(back))
     }
 
-    /// Lends the pair at the newest place, or returns `None` on an empty map.
-    ///
-    /// The key is the stored one. It takes no memory and leaves the order.
+    /// Returns the back pair, if any. It is O(1) and does not allocate.
     ///
     /// # Examples
     ///
@@ -745,7 +700,7 @@ impl<K: Eq + Hash, V, S: BuildHasher> LinkedHashMap<K, V, S> {
         Some((self.table.key(at), self.table.value(at)))
     }
 
-    /// Returns the number of pairs. It takes no memory.
+    /// Returns the number of pairs. It is O(1) and does not allocate.
     ///
     /// # Examples
     ///
@@ -761,7 +716,7 @@ impl<K: Eq + Hash, V, S: BuildHasher> LinkedHashMap<K, V, S> {
         self.table.len()
     }
 
-    /// Tells whether the map has no pairs. It takes no memory.
+    /// Returns `true` if the map has no pairs. It is O(1) and does not allocate.
     ///
     /// # Examples
     ///
@@ -778,9 +733,8 @@ impl<K: Eq + Hash, V, S: BuildHasher> LinkedHashMap<K, V, S> {
         self.len() == 0
     }
 
-    /// Sets the mode: what an insertion of a present key does to the place of its pair.
-    ///
-    /// Nothing else is changed. It takes no memory. The original has no such call.
+    /// Sets the mode: whether inserting a present key moves its pair to the back. Nothing else
+    /// changes. It is O(1) and does not allocate.
     ///
     /// # Examples
     ///
@@ -805,7 +759,7 @@ impl<K: Eq + Hash, V, S: BuildHasher> LinkedHashMap<K, V, S> {
         self.mode = mode;
     }
 
-    /// Tells the mode. It takes no memory. The original has no such call.
+    /// Returns the mode. It is O(1) and does not allocate.
     ///
     /// # Examples
     ///
@@ -823,10 +777,8 @@ impl<K: Eq + Hash, V, S: BuildHasher> LinkedHashMap<K, V, S> {
         self.mode
     }
 
-    /// Returns how many pairs a visit has still to come to, and 0 where no visit is under way.
-    ///
-    /// It takes no memory and leaves the order. The original's iterator over its entries has a size
-    /// hint.
+    /// Returns the number of pairs left to visit, or 0 if there is no visit. It is O(1) and does
+    /// not allocate.
     ///
     /// # Examples
     ///
@@ -846,7 +798,7 @@ impl<K: Eq + Hash, V, S: BuildHasher> LinkedHashMap<K, V, S> {
         self.visit.unvisited()
     }
 
-    /// Lends the build hasher. It takes no memory.
+    /// Returns a reference to the build hasher. It is O(1) and does not allocate.
     ///
     /// # Examples
     ///
@@ -864,9 +816,7 @@ impl<K: Eq + Hash, V, S: BuildHasher> LinkedHashMap<K, V, S> {
         &self.hasher
     }
 
-    /// Drops all pairs and keeps the capacity, for which the original gives memory back.
-    ///
-    /// It takes no memory and costs a step for each pair and each bucket.
+    /// Drops all pairs and keeps the capacity. It is O(capacity) and does not allocate.
     ///
     /// # Examples
     ///
@@ -890,9 +840,7 @@ impl<K: Eq + Hash, V, S: BuildHasher> LinkedHashMap<K, V, S> {
         drop(self.table.drain());
     }
 
-    /// Returns an iterator over the pairs, from the oldest place to the newest, from both ends.
-    ///
-    /// Neither the call nor a step of the iterator takes memory, and the order stays.
+    /// Returns a double-ended iterator over the pairs, front to back, in O(1) without allocating.
     ///
     /// # Examples
     ///
@@ -909,18 +857,15 @@ impl<K: Eq + Hash, V, S: BuildHasher> LinkedHashMap<K, V, S> {
     pub fn iter(&self) -> Iter<'_, K, V>
         ensures pairs { result ≡ self.now.pairs }
         ensures valid { IsValid K.eq self.now }
-        // Laws of walks, for the proofs of callers: any body meets them.
+        // Laws of iterators, for the proofs of callers.
         ensures runs { ShowsInOrder (deref_pair {K = K} {X = V}) }
         ensures runs_back { ShowsInReverse (deref_pair {K = K} {X = V}) }
     {
         Iter::new(&self.table)
     }
 
-    /// Returns an iterator over the pairs, from the oldest place to the newest, from both ends, that lends each value for
-    /// writing.
-    ///
-    /// What is written becomes the value of that pair. The keys and the order stay. Neither the call nor a step of the iterator
-    /// takes memory.
+    /// Returns a double-ended iterator over the pairs, front to back, with mutable references to
+    /// the values, in O(1) without allocating.
     ///
     /// # Examples
     ///
@@ -935,20 +880,18 @@ impl<K: Eq + Hash, V, S: BuildHasher> LinkedHashMap<K, V, S> {
     /// ```
     pub fn iter_mut(&mut self) -> IterMut<'_, K, V>
         ensures* writes_back { sem 𝓛 (lends_values K.row V.row S.row S.Hasher.row K.Hash S.BuildHasher S.Hasher.Hasher self.entry (loan_name result)) }
-        // A law of lists, for the proofs of callers: any body meets it.
+        // A law of lists, for the proofs of callers.
         ensures keeps { KeysStand self.old.pairs }
         ensures rest { pairs_left result ≡ self.old.pairs }
         ensures valid { IsValid K.eq self.old }
-        // Laws of walks, for the proofs of callers: any body meets them.
+        // Laws of iterators, for the proofs of callers.
         ensures runs { LendsValuesInOrder (pairs_left {K = K} {V = V}) }
         ensures runs_back { LendsValuesInReverse (pairs_left {K = K} {V = V}) }
     {
         IterMut::new(self.lend())
     }
 
-    /// Returns an iterator over the keys, in the order of their pairs, from both ends.
-    ///
-    /// Neither the call nor a step of the iterator takes memory, and the order stays.
+    /// Returns a double-ended iterator over the keys, front to back, in O(1) without allocating.
     ///
     /// # Examples
     ///
@@ -964,16 +907,14 @@ impl<K: Eq + Hash, V, S: BuildHasher> LinkedHashMap<K, V, S> {
     pub fn keys(&self) -> Keys<'_, K, V>
         ensures keys { result ≡ keys_of self.now.pairs }
         ensures valid { IsValid K.eq self.now }
-        // Laws of walks, for the proofs of callers: any body meets them.
+        // Laws of iterators, for the proofs of callers.
         ensures runs { ShowsInOrder (deref {X = K}) }
         ensures runs_back { ShowsInReverse (deref {X = K}) }
     {
         Keys::new(self.iter())
     }
 
-    /// Returns an iterator over the values, in the order of their pairs, from both ends.
-    ///
-    /// Neither the call nor a step of the iterator takes memory, and the order stays.
+    /// Returns a double-ended iterator over the values, front to back, in O(1) without allocating.
     ///
     /// # Examples
     ///
@@ -989,18 +930,17 @@ impl<K: Eq + Hash, V, S: BuildHasher> LinkedHashMap<K, V, S> {
     pub fn values(&self) -> Values<'_, K, V>
         ensures values { result ≡ values_of self.now.pairs }
         ensures valid { IsValid K.eq self.now }
-        // Laws of walks, for the proofs of callers: any body meets them.
+        // Laws of iterators, for the proofs of callers.
         ensures runs { ShowsInOrder (deref {X = V}) }
         ensures runs_back { ShowsInReverse (deref {X = V}) }
     {
         Values::new(self.iter())
     }
 
-    /// Returns an iterator that takes all pairs out and hands them out, from the oldest place to the newest, from both ends.
+    /// Removes all pairs and returns them as a double-ended iterator, front to back.
     ///
-    /// The map is empty and has the capacity that it had from the call on, also where the iterator is forgotten: then the pairs
-    /// that it had not handed out are leaked. The call costs a step for each pair and each bucket. Neither the call nor a step of
-    /// the iterator takes memory. The original gives memory back.
+    /// The map is empty and keeps its capacity from the call on. Forgetting the iterator leaks the
+    /// pairs left. The call is O(capacity) and does not allocate.
     ///
     /// # Examples
     ///
@@ -1018,7 +958,7 @@ impl<K: Eq + Hash, V, S: BuildHasher> LinkedHashMap<K, V, S> {
         ensures* writes_back { sem 𝓛 (lends_drained K.row V.row S.row S.Hasher.row K.Hash S.BuildHasher S.Hasher.Hasher self.entry (drain_name result)) }
         ensures rest { drain_rest result ≡ self.old.pairs }
         ensures valid { IsValid K.eq self.old }
-        // Laws of walks, for the proofs of callers: any body meets them.
+        // Laws of iterators, for the proofs of callers.
         ensures runs { YieldsInOrder (DrainSteps {K = K} {V = V}) drain_rest }
         ensures runs_back { YieldsInReverse (DrainStepsBack {K = K} {V = V}) drain_rest }
         ensures stays { DrainKeepsAlong DrainSteps result }

@@ -1,12 +1,10 @@
 //! Runs of commands, and the theorem about them.
 //!
-//! A [`Command`] asks a map for one of its calls. [`replay`] runs a list of commands on a map and gives a [`Reply`] for each:
-//! the [`Answer`], and the length and the capacity after it. Its contract says what the map and the answers are after any
-//! run, by a log of events: the map has exactly the pairs that the log of the answers' effects defines, in the order
-//! of each key's last touch: a refresh, or an insertion that moves the pair. The events, and what a log defines, are in
-//! `specs/Log.antt`; the effects and the allowed answers are in `specs/Requests.antt`.
-//!
-//! The original has no such module.
+//! [`replay`] runs a list of [`Command`]s on a map and returns a [`Reply`] for each: the
+//! [`Answer`], and the length and the capacity after it. By its contract the map has, after any
+//! run, exactly the pairs that the log of the answers' effects defines, in the order of each key's
+//! last touch: a refresh, or an insertion that moves the pair. `specs/Log.antt` has the events and
+//! what a log defines, `specs/Requests.antt` the effects and the allowed answers.
 //!
 //! # Examples
 //!
@@ -36,7 +34,7 @@ mod pair_list;
 
 pub use pair_list::PairList;
 
-/// What a map is asked in a run. A command costs what the calls that it names cost.
+/// A command to a map. It costs what the calls that it names cost.
 ///
 /// # Examples
 ///
@@ -51,32 +49,32 @@ pub use pair_list::PairList;
 /// ```
 #[derive(Debug, PartialEq, Drop)]
 pub enum Command<K, V> {
-    /// Puts a pair in, as `insert` does in the mode of the map: `New`, `Old` or `Refused`.
+    /// Inserts a pair, as `insert` does: `New`, `Old` or `Refused`.
     Insert(K, V),
-    /// Writes the value of a key in its place, as through `get_mut`: `Old` or `Absent`.
+    /// Replaces the value of a key, as through `get_mut`: `Old` or `Absent`.
     Write(K, V),
     /// Moves the pair of a key to the back, as `get_refresh` does: `Found` or `Missing`.
     Refresh(K),
-    /// Takes out the pair of a key, as `remove` does: `Old` or `Missing`.
+    /// Removes the pair of a key, as `remove` does: `Old` or `Missing`.
     Remove(K),
-    /// Takes out the pair at the oldest place, as `pop_front` does: `Pair` or `Empty`.
+    /// Removes the front pair, as `pop_front` does: `Pair` or `Empty`.
     PopFront,
-    /// Takes out the pair at the newest place, as `pop_back` does: `Pair` or `Empty`.
+    /// Removes the back pair, as `pop_back` does: `Pair` or `Empty`.
     PopBack,
     /// Drops all pairs, as `clear` does: `Done`.
     Clear,
-    /// Takes out all pairs, as `drain` does: `Pairs` or `NoRoom`. Room for the answer's list is reserved first, none on an
-    /// empty map.
+    /// Removes all pairs, as `drain` does: `Pairs` or `NoRoom`. The answer's list is allocated
+    /// first, and not for an empty map.
     Drain,
-    /// Inserts the pairs one by one, as `insert` does, up to the first that is refused: `Done` or `Stopped`.
+    /// Inserts pairs as `insert` does, up to the first that is refused: `Done` or `Stopped`.
     Extend(PairList<K, V>),
-    /// Puts a pair at the back unless the key is present, as `entry` and `or_insert` do: `New`, `Found` or `Refused`.
+    /// Inserts a pair if the key is absent, as `or_insert` does: `New`, `Found` or `Refused`.
     OrInsert(K, V),
-    /// Puts a pair in, as `entry` and then `insert` of either kind of entry do in the mode of the map: `New`, `Old` or `Refused`.
+    /// Inserts a pair, as `insert` of either kind of entry does: `New`, `Old` or `Refused`.
     EntryInsert(K, V),
-    /// Takes out the pair of a key, as `entry` and `OccupiedEntry::remove` do: `Old` or `Missing`.
+    /// Removes the pair of a key, as `OccupiedEntry::remove` does: `Old` or `Missing`.
     EntryRemove(K),
-    /// Makes room for more pairs, as `reserve` does: `Done`, `TooLarge` or `NoRoom`.
+    /// Reserves room for more pairs, as `reserve` does: `Done`, `TooLarge` or `NoRoom`.
     Reserve(usize),
     /// Lowers the capacity to the number of pairs, as `shrink_to_fit` does: `Done` or `NoRoom`.
     Shrink,
@@ -84,7 +82,7 @@ pub enum Command<K, V> {
     SetMode(Mode),
 }
 
-/// What a map answers to a command.
+/// The answer to a command.
 ///
 /// # Examples
 ///
@@ -100,7 +98,7 @@ pub enum Command<K, V> {
 /// ```
 #[derive(Debug, PartialEq, Drop)]
 pub enum Answer<K, V> {
-    /// The key was absent, and its pair went in.
+    /// The key was absent, and its pair was inserted.
     New,
     /// The key was present, with this value.
     Old(V),
@@ -108,27 +106,28 @@ pub enum Answer<K, V> {
     Found,
     /// The key is absent, and nothing changed.
     Missing,
-    /// The key is absent, and nothing changed; this is the pair handed in.
+    /// The key is absent, and nothing changed. It has the pair given.
     Absent(K, V),
-    /// The key was absent and found no room, and nothing changed; this is the pair handed in.
+    /// The key was absent and the insertion was refused; nothing changed. It has the pair given.
     Refused(K, V),
-    /// The pair that was taken out, with its stored key.
+    /// The pair removed, with its stored key.
     Pair(K, V),
     /// The map is empty, and nothing changed.
     Empty,
-    /// The pairs that were taken out, with their stored keys, from the oldest place to the newest.
+    /// The pairs removed, with their stored keys, front to back.
     Pairs(PairList<K, V>),
-    /// This many pairs went in. The next one, which is this, has an absent key and found no room. The later ones are dropped.
+    /// The number of pairs inserted, and the next one, which is new and was refused. Later pairs
+    /// are dropped.
     Stopped(usize, K, V),
-    /// The command was carried out.
+    /// The command was run.
     Done,
     /// The capacity would be above `LIMIT`, and nothing changed.
     TooLarge,
-    /// A growth was refused, and nothing changed.
+    /// An allocation failed, and nothing changed.
     NoRoom,
 }
 
-/// An answer, and the length and the capacity of the map after it.
+/// An answer, and the length and the capacity after it.
 ///
 /// # Examples
 ///
@@ -153,7 +152,7 @@ pub struct Reply<K, V> {
     pub capacity: usize,
 }
 
-/// Answers `Insert`.
+/// Runs `Insert`.
 fn insert<K: Eq + Hash + Drop, V: Drop, S: BuildHasher>(
     map: &mut LinkedHashMap<K, V, S>,
     key: K,
@@ -168,7 +167,7 @@ fn insert<K: Eq + Hash + Drop, V: Drop, S: BuildHasher>(
     }
 }
 
-/// Answers `Write`.
+/// Runs `Write`.
 fn write<K: Eq + Hash + Drop, V: Drop, S: BuildHasher>(
     map: &mut LinkedHashMap<K, V, S>,
     key: K,
@@ -182,7 +181,7 @@ fn write<K: Eq + Hash + Drop, V: Drop, S: BuildHasher>(
     }
 }
 
-/// Answers `Refresh`.
+/// Runs `Refresh`.
 fn refresh<K: Eq + Hash + Drop, V: Drop, S: BuildHasher>(
     map: &mut LinkedHashMap<K, V, S>,
     key: K,
@@ -195,7 +194,7 @@ fn refresh<K: Eq + Hash + Drop, V: Drop, S: BuildHasher>(
     }
 }
 
-/// Answers `Remove`.
+/// Runs `Remove`.
 fn remove<K: Eq + Hash + Drop, V: Drop, S: BuildHasher>(
     map: &mut LinkedHashMap<K, V, S>,
     key: K,
@@ -208,7 +207,7 @@ fn remove<K: Eq + Hash + Drop, V: Drop, S: BuildHasher>(
     }
 }
 
-/// Answers `PopFront`.
+/// Runs `PopFront`.
 fn pop_front<K: Eq + Hash + Drop, V: Drop, S: BuildHasher>(
     map: &mut LinkedHashMap<K, V, S>,
 ) -> Answer<K, V>
@@ -220,7 +219,7 @@ fn pop_front<K: Eq + Hash + Drop, V: Drop, S: BuildHasher>(
     }
 }
 
-/// Answers `PopBack`.
+/// Runs `PopBack`.
 fn pop_back<K: Eq + Hash + Drop, V: Drop, S: BuildHasher>(
     map: &mut LinkedHashMap<K, V, S>,
 ) -> Answer<K, V>
@@ -232,7 +231,7 @@ fn pop_back<K: Eq + Hash + Drop, V: Drop, S: BuildHasher>(
     }
 }
 
-/// Answers `Clear`.
+/// Runs `Clear`.
 fn clear<K: Eq + Hash + Drop, V: Drop, S: BuildHasher>(
     map: &mut LinkedHashMap<K, V, S>,
 ) -> Answer<K, V>
@@ -242,7 +241,7 @@ fn clear<K: Eq + Hash + Drop, V: Drop, S: BuildHasher>(
     Answer::Done
 }
 
-/// Answers `Drain`.
+/// Runs `Drain`.
 fn drain<K: Eq + Hash + Drop, V: Drop, S: BuildHasher>(
     map: &mut LinkedHashMap<K, V, S>,
 ) -> Answer<K, V>
@@ -257,7 +256,7 @@ fn drain<K: Eq + Hash + Drop, V: Drop, S: BuildHasher>(
     Answer::Pairs(PairList::from_vec(pairs))
 }
 
-/// Answers `Extend`.
+/// Runs `Extend`.
 fn extend<K: Eq + Hash + Drop, V: Drop, S: BuildHasher>(
     map: &mut LinkedHashMap<K, V, S>,
     pairs: PairList<K, V>,
@@ -274,7 +273,7 @@ fn extend<K: Eq + Hash + Drop, V: Drop, S: BuildHasher>(
     Answer::Done
 }
 
-/// Answers `OrInsert`.
+/// Runs `OrInsert`.
 fn or_insert<K: Eq + Hash + Drop, V: Drop, S: BuildHasher>(
     map: &mut LinkedHashMap<K, V, S>,
     key: K,
@@ -290,7 +289,7 @@ fn or_insert<K: Eq + Hash + Drop, V: Drop, S: BuildHasher>(
     }
 }
 
-/// Answers `EntryInsert`.
+/// Runs `EntryInsert`.
 fn entry_insert<K: Eq + Hash + Drop, V: Drop, S: BuildHasher>(
     map: &mut LinkedHashMap<K, V, S>,
     key: K,
@@ -307,7 +306,7 @@ fn entry_insert<K: Eq + Hash + Drop, V: Drop, S: BuildHasher>(
     }
 }
 
-/// Answers `EntryRemove`.
+/// Runs `EntryRemove`.
 fn entry_remove<K: Eq + Hash + Drop, V: Drop, S: BuildHasher>(
     map: &mut LinkedHashMap<K, V, S>,
     key: K,
@@ -320,7 +319,7 @@ fn entry_remove<K: Eq + Hash + Drop, V: Drop, S: BuildHasher>(
     }
 }
 
-/// Answers `Reserve`.
+/// Runs `Reserve`.
 fn reserve<K: Eq + Hash + Drop, V: Drop, S: BuildHasher>(
     map: &mut LinkedHashMap<K, V, S>,
     additional: usize,
@@ -334,7 +333,7 @@ fn reserve<K: Eq + Hash + Drop, V: Drop, S: BuildHasher>(
     }
 }
 
-/// Answers `Shrink`.
+/// Runs `Shrink`.
 fn shrink<K: Eq + Hash + Drop, V: Drop, S: BuildHasher>(
     map: &mut LinkedHashMap<K, V, S>,
 ) -> Answer<K, V>
@@ -346,7 +345,7 @@ fn shrink<K: Eq + Hash + Drop, V: Drop, S: BuildHasher>(
     }
 }
 
-/// Answers `SetMode`.
+/// Runs `SetMode`.
 fn set_mode<K: Eq + Hash + Drop, V: Drop, S: BuildHasher>(
     map: &mut LinkedHashMap<K, V, S>,
     mode: Mode,
@@ -357,7 +356,7 @@ fn set_mode<K: Eq + Hash + Drop, V: Drop, S: BuildHasher>(
     Answer::Done
 }
 
-/// Runs one command.
+/// Runs one command and returns its answer.
 fn answer_to<K: Eq + Hash + Drop, V: Drop, S: BuildHasher>(
     map: &mut LinkedHashMap<K, V, S>,
     command: Command<K, V>,
@@ -383,7 +382,7 @@ fn answer_to<K: Eq + Hash + Drop, V: Drop, S: BuildHasher>(
     }
 }
 
-/// Runs one command, and tells the length and the capacity after it.
+/// Runs one command and returns its answer, with the length and the capacity after it.
 fn reply_to<K: Eq + Hash + Drop, V: Drop, S: BuildHasher>(
     map: &mut LinkedHashMap<K, V, S>,
     command: Command<K, V>,
@@ -405,10 +404,10 @@ fn reply_to<K: Eq + Hash + Drop, V: Drop, S: BuildHasher>(
 
 /// Runs the commands in order and returns one reply for each.
 ///
-/// A refused command changes nothing and does not stop the run; an extension keeps the pairs that went in before the
-/// refused one. Room for one reply for each command is reserved first; where that is refused, nothing runs and the error is
-/// the commands as they were given. An empty list of commands is never refused. Besides that room, each command takes the
-/// memory and costs the steps of its call. The original has no such call.
+/// A refused command changes nothing and does not stop the run; an extension keeps the pairs before
+/// the refused one. The replies are allocated first: if that fails, nothing runs and the error is
+/// the commands. An empty list is never refused. Besides, each command costs and allocates what its
+/// call does.
 ///
 /// # Examples
 ///
@@ -427,11 +426,11 @@ pub fn replay<K: Eq + Hash + Drop, V: Drop, S: BuildHasher>(
     map: &mut LinkedHashMap<K, V, S>,
     commands: Vec<Command<K, V>>,
 ) -> Result<Vec<Reply<K, V>>, Vec<Command<K, V>>>
-    // One reply for each command, each read off the log that those before it left.
+    // One reply for each command, by the log that those before it left.
     ensures run { IfOk result (λ replies.
         IsRun K.eq map.old.capacity (first_log map.old.mode map.old.pairs) commands.items replies.items) }
 
-    // What the map is at the end, by the last log.
+    // The map at the end, by the last log.
     ensures pairs { IfOk result (λ replies.
         let last = last_log K.eq (first_log map.old.mode map.old.pairs) commands.items replies.items in
         map.new.pairs ≡ pairs K.eq last) }

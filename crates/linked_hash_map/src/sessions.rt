@@ -1,14 +1,12 @@
 //! A table of sessions with a limit on the sum of their weights, on the map's public calls alone.
 //!
-//! A session has an id, a weight and a payload. The table keeps its sessions in the order of their last put or touch, and a put
-//! sends the oldest ones away until the weights sum to at most the limit: what stays is the longest end of the order that fits.
-//! Nothing is lost on the way: those that go are handed out, and so is a payload that was replaced or refused.
-//!
-//! The original has no such module.
+//! A session has an id, a weight and a payload. A put or a touch moves a session to the back, and a
+//! put removes sessions from the front until the weights sum to at most the limit. It returns those
+//! it removed, and the payload that it replaced or refused.
 //!
 //! # Examples
 //!
-//! A cache of pages whose weights are their lengths. The page that was asked for least recently goes first:
+//! A cache of pages whose weights are their lengths. The least recently used page goes first:
 //!
 //! ```rust
 //! use linked_hash_map::sessions::Sessions;
@@ -56,9 +54,9 @@ use std::marker::Model;
 
 /// A table of sessions with a limit on the sum of their weights.
 ///
-/// No two sessions have one id. Each stands where its last put or touch left it, the oldest first. A call that is given an id costs
-/// look-ups of it in a map whose hasher has a fixed seed, and beyond that a constant number of steps where it names no other cost.
-/// Dropping a table drops its payloads, a step for each.
+/// Ids are distinct, and sessions are in the order of their last put or touch. A call with an id
+/// looks it up, in O(1) on average, in a map whose hasher has a fixed seed. Dropping a table drops
+/// its payloads, in O(n).
 ///
 /// # Examples
 ///
@@ -97,9 +95,8 @@ impl<T> Model for Sessions<T> {
 impl<T> Sessions<T> {
     ghost use Rattle.linked_hash_map.specs.SessionLends.{lends_payload};
 
-    /// Makes an empty table with a limit on the sum of the weights.
-    ///
-    /// It takes no memory. Later growths are asked of `alloc`.
+    /// Creates an empty table with a limit on the sum of the weights. It is O(1) and does not
+    /// allocate.
     ///
     /// # Examples
     ///
@@ -120,16 +117,18 @@ impl<T> Sessions<T> {
         }
     }
 
-    /// Puts a session at the end, in place of the one with its id if there is one, and sends away the oldest others until the
-    /// weights sum to at most the limit.
+    /// Puts a session at the back, in place of the one with its id, if any, and removes others from
+    /// the front until the weights sum to at most the limit.
     ///
-    /// The answer has the payload that the id had, and the sessions that went, the oldest first. The weight of the replaced session
-    /// does not count. The new one always stays, and is the last.
+    /// Returns the payload that the id had and the sessions removed, front to back. What stays is
+    /// the longest end of the order that fits, always with the new session. The replaced one does
+    /// not count.
     ///
-    /// It is refused as `TooHeavy` exactly where the weight is above the limit, also where the id is held, and else as `NoRoom` where a
-    /// growth is refused or a map can hold no more; then the payload comes back and nothing is changed. It asks for memory once
-    /// at most: for the vector of those that go, of exactly their number, or where none goes for room for a new id. So a put
-    /// of a held id that sends none away is never refused. It costs a step for each session that goes.
+    /// Returns `TooHeavy` exactly if the weight is above the limit, and else `NoRoom` if an
+    /// allocation fails or the map is full, with the payload; the table is then unchanged. It
+    /// allocates at most once: a vector of exactly the sessions removed, or, if there are none,
+    /// room for a new id. A present id that removes none is never refused as `NoRoom`. It is O(n)
+    /// for n sessions removed, or, if the number of buckets changes, for n sessions held.
     ///
     /// # Examples
     ///
@@ -166,7 +165,7 @@ impl<T> Sessions<T> {
                 payload,
             });
         }
-        // No sum can overflow: the weight is taken from the limit, and not added to the total.
+        // No sum can overflow: the weight is subtracted from the limit, not added to the total.
         let others = self.total - weight_at(&self.map, id);
         let leaving = find_leaving(&self.map, id, others, self.limit - weight);
         let Ok(mut gone) = make_room(&mut self.map, self.alloc, id, leaving.count) else {
@@ -182,10 +181,8 @@ impl<T> Sessions<T> {
         Ok(Put { old, gone })
     }
 
-    /// Moves the session with an id to the end and lends its payload for writing, or returns `None` where there is none and changes
-    /// nothing.
-    ///
-    /// What is written becomes the payload. The weight stays, and all other sessions keep their order. It takes no memory.
+    /// Moves the session with an id, if present, to the back and returns a mutable reference to its
+    /// payload; else nothing changes. It is O(1) on average and does not allocate.
     ///
     /// # Examples
     ///
@@ -210,9 +207,8 @@ impl<T> Sessions<T> {
         }
     }
 
-    /// Takes out the session with an id and returns its payload, or returns `None` where there is none.
-    ///
-    /// All other sessions keep their order. It takes no memory.
+    /// Removes the session with an id and returns its payload, if present. The order of the others
+    /// stays. It is O(1) on average and does not allocate.
     ///
     /// # Examples
     ///
@@ -233,7 +229,7 @@ impl<T> Sessions<T> {
         take_payload(&mut self.map, id)
     }
 
-    /// Returns the sum of the weights, which is at most the limit. It takes no memory.
+    /// Returns the sum of the weights, at most the limit. It is O(1) and does not allocate.
     ///
     /// # Examples
     ///
@@ -250,7 +246,7 @@ impl<T> Sessions<T> {
         self.total
     }
 
-    /// Returns the number of sessions. It takes no memory.
+    /// Returns the number of sessions. It is O(1) and does not allocate.
     ///
     /// # Examples
     ///
@@ -266,9 +262,8 @@ impl<T> Sessions<T> {
         self.map.len()
     }
 
-    /// Returns an iterator over the sessions, each as its id, its weight and its payload, the oldest first.
-    ///
-    /// Neither the call nor a step of the iterator takes memory, and the order stays.
+    /// Returns an iterator over the sessions, front to back, each as its id, weight and payload, in
+    /// O(1) without allocating.
     ///
     /// # Examples
     ///
@@ -283,7 +278,7 @@ impl<T> Sessions<T> {
     pub fn iter(&self) -> SessionIter<'_, T>
         ensures sessions { result ≡ self.now.sessions }
         ensures valid { IsValidTable self.now }
-        // A law of walks, for the proofs of callers: any body meets it.
+        // A law of iterators, for the proofs of callers.
         ensures runs { ShowsInOrder (deref_session {T = T}) }
     {
         SessionIter::new(self.map.iter())

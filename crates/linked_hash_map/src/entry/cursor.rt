@@ -1,4 +1,4 @@
-//! The cursor, which lends the entries of a map one after another.
+//! The cursor, which returns the entries of a map one after another.
 ghost use Rattle.std.specs.Prelude.{◌≡◌, [], ◌∷◌, length, Some, IfSome, IfNone};
 ghost use Rattle.std.specs.Borrow.{sem};
 ghost use Rattle.std.specs.Map.{keys_of};
@@ -13,12 +13,11 @@ use super::OccupiedEntry;
 use crate::map::{DefaultHashBuilder, LinkedHashMap};
 use std::hash::{BuildHasher, Hash};
 
-/// A cursor over the entries of a map, from the oldest place to the newest. It is made by `entries`.
+/// A cursor over the entries of a map, front to back, returned by `entries`.
 ///
-/// It visits the pairs that the map had when the cursor was made, in their order then, each once, whatever is done with their
-/// entries: one that is taken out, or that its entry moved to the back or left in its place, is not visited again. A cursor that
-/// is let go leaves the map as it then is. The original's is an iterator, and its entries can be held side by side; this one lends
-/// one entry at a time.
+/// It visits each pair that the map had at that call once, in that order, whatever its entry does
+/// with it. Dropping it leaves the map as it is. The original's is an iterator, whose entries can
+/// be held side by side.
 ///
 /// # Examples
 ///
@@ -39,11 +38,8 @@ pub struct Entries<'a, K: Eq + Hash, V, S: BuildHasher = DefaultHashBuilder> {
 }
 
 impl<K: Eq + Hash, V, S: BuildHasher> LinkedHashMap<K, V, S> {
-    /// Returns a cursor over the entries, to read, change or take out one pair after another.
-    ///
-    /// Every pair is to be visited, from the oldest place to the newest. It takes no memory, leaves the order, and costs a
-    /// constant number of steps. A loop over all entries counts them by [`remaining`](Entries::remaining), by which it is known
-    /// to end. The original's is an iterator.
+    /// Returns a cursor over the entries, front to back, in O(1) without allocating. A loop that
+    /// counts its entries by [`remaining`](Entries::remaining) is known to end.
     ///
     /// # Examples
     ///
@@ -72,20 +68,14 @@ impl<K: Eq + Hash, V, S: BuildHasher> LinkedHashMap<K, V, S> {
         Entries { map: self }
     }
 
-    /// Begins a visit of every pair, from the oldest place to the newest, and lends the map on.
+    /// Begins a visit of every pair, front to back, and returns the map.
     ///
-    /// [`next_entry`](LinkedHashMap::next_entry) then lends the entry of one pair after another,
-    /// and [`unvisited`](LinkedHashMap::unvisited) counts those still to come. A caller knows the
-    /// map after each step, and so the list of pairs in the end.
-    ///
-    /// A visit is ended by a further one, by [`entries`](LinkedHashMap::entries), and by each call
-    /// of the map that may take out or move a pair that it has: `insert`, `extend`, `entry`,
-    /// `remove` and `get_refresh` of a present key, the pops, `clear` and `drain`. Then no pair is
-    /// left to visit. All other calls leave it as it is. A new key that goes in meanwhile is not
-    /// visited.
-    ///
-    /// It takes no memory, leaves the order, and costs a constant number of steps. The original has
-    /// no such call.
+    /// [`next_entry`](LinkedHashMap::next_entry) returns one entry after another,
+    /// [`unvisited`](LinkedHashMap::unvisited) the number left. A visit ends at a further one, at
+    /// [`entries`](LinkedHashMap::entries), and at each call of the map that may remove or move a
+    /// pair: `insert`, `extend`, `entry`, `remove` and `get_refresh` of a present key, the pops,
+    /// `clear` and `drain`; no other call ends it. Keys that are new meanwhile are not visited. It
+    /// is O(1) and does not allocate.
     ///
     /// # Examples
     ///
@@ -112,15 +102,11 @@ impl<K: Eq + Hash, V, S: BuildHasher> LinkedHashMap<K, V, S> {
         self
     }
 
-    /// Lends the entry of the next pair to visit, or returns `None` where none is left.
+    /// Returns the entry of the next pair to visit, if any: none is left if no visit was begun or a
+    /// call ended it.
     ///
-    /// The visit goes on behind that pair, whatever is done with the entry: one that is taken out,
-    /// or that its entry moved to the back or left in its place, is not visited again. None is left
-    /// where no visit was begun, by [`visit`](LinkedHashMap::visit) or by
-    /// [`entries`](LinkedHashMap::entries), and where a call has ended it.
-    ///
-    /// It takes no memory, leaves the order, and costs a constant number of steps. The original has
-    /// no such call.
+    /// A visited pair is not visited again, whatever its entry does with it. It is O(1) and does
+    /// not allocate.
     ///
     /// # Examples
     ///
@@ -154,10 +140,8 @@ impl<K: Eq + Hash, V, S: BuildHasher> LinkedHashMap<K, V, S> {
 }
 
 impl<'a, K: Eq + Hash, V, S: BuildHasher> Entries<'a, K, V, S> {
-    /// Lends the entry of the next pair until the cursor is used again, or returns `None` where every pair has been visited.
-    ///
-    /// It takes no memory, leaves the order, and costs a constant number of steps. The original's entries may outlive the
-    /// next call.
+    /// Returns the entry of the next pair, lent until the cursor is used again, or `None` if every
+    /// pair has been visited. It is O(1) and does not allocate.
     ///
     /// # Examples
     ///
@@ -183,10 +167,7 @@ impl<'a, K: Eq + Hash, V, S: BuildHasher> Entries<'a, K, V, S> {
         map.next_entry()
     }
 
-    /// Returns the number of pairs that are still to be visited.
-    ///
-    /// It takes no memory, leaves the order, and costs a constant number of steps. It is the port's own: the original has a
-    /// size hint.
+    /// Returns the number of pairs left to visit. It is O(1) and does not allocate.
     ///
     /// # Examples
     ///
@@ -206,7 +187,7 @@ impl<'a, K: Eq + Hash, V, S: BuildHasher> Entries<'a, K, V, S> {
         self.map.unvisited()
     }
 
-    /// Lends the map.
+    /// Returns the map.
     fn as_map(&mut self) -> &mut LinkedHashMap<K, V, S>
         ensures* lends { sem 𝓛 (lends_map K.row V.row S.row S.Hasher.row K.Hash S.BuildHasher S.Hasher.Hasher self.entry result) }
         ensures now { result.now ≡ cursor_map self.old }

@@ -1,4 +1,4 @@
-//! What makes an entry, and the methods of `Entry`.
+//! The call `entry`, and the methods of `Entry`.
 ghost use Rattle.std.specs.Prelude.{◌≡◌, ◌<◌, length, is_some, Some, None, unwrap_or, IsTrue, IfOk, IfErr, OnOk, OnErr};
 ghost use Rattle.std.specs.Borrow.{sem, MutBor};
 ghost use Rattle.std.specs.Map.Calls.{ModifiesValue};
@@ -17,8 +17,8 @@ use std::hash::{BuildHasher, Hash};
 impl<K: Eq + Hash, V, S: BuildHasher> LinkedHashMap<K, V, S> {
     /// Returns the entry of a key, to read, change, insert or remove its pair.
     ///
-    /// A key that is present gives an occupied entry with the stored key, and `key` is dropped. One that is absent gives a vacant
-    /// entry, which owns `key`. It takes no memory, leaves the order and costs a look-up.
+    /// An occupied entry has the stored key, and `key` is dropped; a vacant one owns `key`. It is
+    /// O(1) on average and does not allocate.
     ///
     /// # Examples
     ///
@@ -36,7 +36,7 @@ impl<K: Eq + Hash, V, S: BuildHasher> LinkedHashMap<K, V, S> {
         ensures same_map { (entry_map_ref result).ghost_name ≡ self.entry.ghost_name }
         ensures occupied { is_occupied result ≡ is_some (find K.eq self.old.pairs key) }
         ensures key { entry_key result ≡ key_or key (find K.eq self.old.pairs key) }
-        // It follows from `key`, for the proofs of callers: any body that meets `key` meets it.
+        // A consequence of `key`, for the proofs of callers.
         ensures acts { ActsAs K.eq self.old.pairs (entry_key result) key }
         ensures value { entry_value result ≡ value_at K.eq self.old.pairs key }
         ensures pairs { (entry_map result).pairs ≡ self.old.pairs }
@@ -59,9 +59,7 @@ impl<K: Eq + Hash, V, S: BuildHasher> LinkedHashMap<K, V, S> {
 }
 
 impl<'a, K: Eq + Hash, V, S: BuildHasher> Entry<'a, K, V, S> {
-    /// Lends the stored key of an occupied entry, or the key of a vacant one.
-    ///
-    /// It takes no memory and leaves the order.
+    /// Returns the key: the stored one of an occupied entry. It is O(1) and does not allocate.
     ///
     /// # Examples
     ///
@@ -79,9 +77,8 @@ impl<'a, K: Eq + Hash, V, S: BuildHasher> Entry<'a, K, V, S> {
         }
     }
 
-    /// Calls `f` on the value of an occupied entry, and leaves a vacant one as it is.
-    ///
-    /// It takes no memory of its own, leaves the order, and costs a constant number of steps besides the call of `f`.
+    /// Calls `f` on the value of an occupied entry, and leaves a vacant one as it is. Besides the
+    /// call of `f`, it is O(1) and does not allocate.
     ///
     /// # Examples
     ///
@@ -108,20 +105,19 @@ impl<'a, K: Eq + Hash, V, S: BuildHasher> Entry<'a, K, V, S> {
                 Entry::Occupied(entry)
             }
             Entry::Vacant(entry) => {
-                // Tells that the map is valid.
+                // Shows that the map is valid.
                 let _len = entry.map.len();
                 Entry::Vacant(entry)
             }
         }
     }
 
-    /// Lends the value for writing, after it has put the pair of the key and `value` at the back where the entry is vacant.
+    /// Inserts `value` at the back if vacant, and returns a mutable reference to the value.
     ///
-    /// What is written becomes the value of that pair. The pair of an occupied entry keeps its place, and `value` is dropped. On
-    /// an occupied entry, and on a vacant one below capacity, it takes no memory and is never refused. A vacant entry at full
-    /// capacity raises the capacity by exactly one, or is refused: then the error has the key and this value, and the map is
-    /// unchanged. A vacant entry of a map of [`LIMIT`] pairs is always refused. A growth that changes the number of buckets costs
-    /// a step for each pair, and all else a constant number of steps. The original answers no error.
+    /// An occupied entry keeps its place and drops `value`. A vacant one at full capacity raises
+    /// the capacity by exactly one or is refused, always so in a map of [`LIMIT`] pairs: the error
+    /// has the key and this value, and the map is unchanged. Any other entry neither allocates nor
+    /// is refused. It is O(1), or O(n) if the number of buckets changes.
     ///
     /// # Examples
     ///
@@ -150,11 +146,10 @@ impl<'a, K: Eq + Hash, V, S: BuildHasher> Entry<'a, K, V, S> {
         }
     }
 
-    /// Lends the value for writing, after it has put the pair of the key and what `f` returns at the back where the entry is
-    /// vacant.
+    /// Inserts the result of `f` as `or_insert` does, and returns a mutable reference to the value.
     ///
-    /// `f` is called once on a vacant entry, before any memory is asked for, and never on an occupied one. A refusal has the
-    /// key and the value that `f` made. All else is as at `or_insert`, and so is the cost besides that of `f`.
+    /// `f` is called once on a vacant entry, before any allocation, and never on an occupied one. A
+    /// refusal has the key and that result. The cost is that of `or_insert` and of `f`.
     ///
     /// # Examples
     ///
@@ -183,11 +178,10 @@ impl<'a, K: Eq + Hash, V, S: BuildHasher> Entry<'a, K, V, S> {
         vacant.insert(value)
     }
 
-    /// Lends the value for writing, after it has put the pair of the key and the default value at the back where the entry is
-    /// vacant.
+    /// Inserts the default as `or_insert` does, and returns a mutable reference to the value.
     ///
-    /// The default is made on a vacant entry alone, before any memory is asked for. A refusal has the key and the default. All
-    /// else is as at `or_insert`, and so is the cost besides that of the default.
+    /// The default is made on a vacant entry alone, before any allocation. A refusal has the key
+    /// and the default. The cost is that of `or_insert` and of the default.
     ///
     /// # Examples
     ///

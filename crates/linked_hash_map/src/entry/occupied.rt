@@ -11,9 +11,7 @@ use super::OccupiedEntry;
 use std::hash::{BuildHasher, Hash};
 
 impl<'a, K: Eq + Hash, V, S: BuildHasher> OccupiedEntry<'a, K, V, S> {
-    /// Lends the stored key.
-    ///
-    /// It takes no memory and leaves the order.
+    /// Returns a reference to the stored key. It is O(1) and does not allocate.
     ///
     /// # Examples
     ///
@@ -33,9 +31,7 @@ impl<'a, K: Eq + Hash, V, S: BuildHasher> OccupiedEntry<'a, K, V, S> {
         self.map.current_pair().0
     }
 
-    /// Lends the value.
-    ///
-    /// It takes no memory and leaves the order.
+    /// Returns a reference to the value. It is O(1) and does not allocate.
     ///
     /// # Examples
     ///
@@ -55,9 +51,7 @@ impl<'a, K: Eq + Hash, V, S: BuildHasher> OccupiedEntry<'a, K, V, S> {
         self.map.current_pair().1
     }
 
-    /// Lends the value for writing.
-    ///
-    /// What is written becomes the value of the pair. It takes no memory and leaves the order.
+    /// Returns a mutable reference to the value. It is O(1) and does not allocate.
     ///
     /// # Examples
     ///
@@ -76,7 +70,7 @@ impl<'a, K: Eq + Hash, V, S: BuildHasher> OccupiedEntry<'a, K, V, S> {
         ensures value { result.now ≡ occupied_value self.old }
         ensures valid { IsValid K.eq (occupied_map self.old) }
 
-        // The entry, once a value is written: laws, for the proofs of callers, that any body meets.
+        // Laws of the entry once a value is written, for the proofs of callers.
         ensures key { (v : V) → occupied_key (with_occupied_value self.old v) ≡ occupied_key self.old }
         ensures written { (v : V) → occupied_value (with_occupied_value self.old v) ≡ v }
         ensures map { (v : V) → occupied_map (with_occupied_value self.old v)
@@ -86,9 +80,8 @@ impl<'a, K: Eq + Hash, V, S: BuildHasher> OccupiedEntry<'a, K, V, S> {
         self.map.current_value_mut()
     }
 
-    /// Lends the value for writing, for as long as the map was lent.
-    ///
-    /// What is written becomes the value of the pair. It takes no memory and leaves the order.
+    /// Returns a mutable reference to the value for as long as the map is borrowed. It is O(1) and
+    /// does not allocate.
     ///
     /// # Examples
     ///
@@ -105,7 +98,7 @@ impl<'a, K: Eq + Hash, V, S: BuildHasher> OccupiedEntry<'a, K, V, S> {
         ensures value { result.now ≡ occupied_value self.entry }
         ensures valid { IsValid K.eq (occupied_map self.entry) }
 
-        // The map, once a value is written: a law, for the proofs of callers, that any body meets.
+        // A law of the map once a value is written, for the proofs of callers.
         ensures to_visit { (v : V) → to_visit (record (occupied_map self.entry) {
           pairs = set_value K.eq (occupied_map self.entry).pairs (occupied_key self.entry) v;
         }) ≡ to_visit (occupied_map self.entry) }
@@ -114,11 +107,11 @@ impl<'a, K: Eq + Hash, V, S: BuildHasher> OccupiedEntry<'a, K, V, S> {
         map.leave_current()
     }
 
-    /// Replaces the value, moves the pair to the back, but in [`Mode::Keep`](crate::Mode::Keep) leaves it in its place, and returns the
-    /// old value. The entry still stands for the pair.
+    /// Replaces the value and returns the old one. The pair moves to the back, or in
+    /// [`Mode::Keep`](crate::Mode::Keep) stays in its place, and stays the entry's.
     ///
-    /// All other pairs keep their order. It takes no memory, and the capacity stays. It costs a constant number of steps. The
-    /// documentation of the original says only that the value is set; its code moves the pair too.
+    /// It is O(1) and does not allocate. The original's documentation says only that the value is
+    /// set; its code moves the pair too.
     ///
     /// # Examples
     ///
@@ -145,10 +138,8 @@ impl<'a, K: Eq + Hash, V, S: BuildHasher> OccupiedEntry<'a, K, V, S> {
         self.map.insert_current(value)
     }
 
-    /// Takes the pair out of the map, drops the stored key and returns the value.
-    ///
-    /// All other pairs keep their order. It takes no memory, and the capacity stays. It costs a step for each pair before it in
-    /// its chain.
+    /// Removes the pair, drops the stored key and returns the value. The order of the others and
+    /// the capacity stay. It is O(1) on average, compares no key and does not allocate.
     ///
     /// # Examples
     ///

@@ -11,9 +11,7 @@ use crate::map::LIMIT;
 use std::hash::{BuildHasher, Hash};
 
 impl<'a, K: Eq + Hash, V, S: BuildHasher> VacantEntry<'a, K, V, S> {
-    /// Lends the key.
-    ///
-    /// It takes no memory and leaves the order.
+    /// Returns a reference to the key. It is O(1) and does not allocate.
     ///
     /// # Examples
     ///
@@ -31,12 +29,12 @@ impl<'a, K: Eq + Hash, V, S: BuildHasher> VacantEntry<'a, K, V, S> {
         &self.key
     }
 
-    /// Puts the pair of the key and the value at the back, and lends the value for writing.
+    /// Inserts the key and a value at the back, and returns a mutable reference to the value.
     ///
-    /// What is written becomes the value of that pair. Below capacity it takes no memory and is never refused, and costs a
-    /// constant number of steps. At full capacity it raises the capacity by exactly one, which costs a step for each pair where
-    /// the number of buckets changes, or is refused: then the error has the key and this value, and the map is unchanged. A map
-    /// of [`LIMIT`] pairs always refuses. The original answers no error.
+    /// At full capacity it raises the capacity by exactly one or is refused, always so in a map of
+    /// [`LIMIT`] pairs: the error has the key and this value, and the map is unchanged. Below
+    /// capacity it neither allocates nor is refused. It is O(1), or O(n) if the number of buckets
+    /// changes.
     ///
     /// # Examples
     ///

@@ -12,11 +12,10 @@ use std::hash::{BuildHasher, Hash};
 use std::iter::FusedIterator;
 use std::marker::Model;
 
-/// An iterator that hands out the pairs of a map by value, from both ends. It is made by `into_iter`, or by a loop over the
-/// map.
+/// A double-ended iterator that owns the pairs of a map, returned by `into_iter` or a loop over it.
 ///
-/// `next`, `next_back`, `len` and `size_hint` cost a constant number of steps and take no memory. Letting it go drops the
-/// pairs that are left, a step for each. Its calls ask for `K: Drop` and `V: Drop`, which those of the original do not.
+/// `next`, `next_back`, `len` and `size_hint` are O(1) and do not allocate. Dropping it drops the
+/// pairs left, in O(n).
 ///
 /// # Examples
 ///
@@ -45,7 +44,7 @@ impl<K, V> Model for IntoIter<K, V> {
 }
 
 impl<K, V> IntoIter<K, V> {
-    /// Hands out pairs that come with their hashes.
+    /// Returns an iterator over the pairs of a table.
     pub(crate) fn new(nodes: table::IntoIter<K, V>) -> Self
         ensures { result ≡ map (λ t. t.1) nodes }
     {
@@ -53,7 +52,7 @@ impl<K, V> IntoIter<K, V> {
     }
 }
 
-/// `next` hands out the pair at the oldest place that is left; the size hint is exact.
+/// `next` yields the front pair left; the size hint is exact.
 impl<K: Drop, V: Drop> Iterator for IntoIter<K, V> {
     type Item = (K, V);
 
@@ -78,7 +77,7 @@ impl<K: Drop, V: Drop> Iterator for IntoIter<K, V> {
     }
 }
 
-/// `next_back` hands out the pair at the newest place that is left.
+/// `next_back` yields the back pair left.
 impl<K: Drop, V: Drop> DoubleEndedIterator for IntoIter<K, V> {
     ghost next_back_gives = { TakesLast (λ pair. pair) };
 
@@ -90,21 +89,20 @@ impl<K: Drop, V: Drop> DoubleEndedIterator for IntoIter<K, V> {
     }
 }
 
-/// `len` is the number of pairs that are left.
+/// `len` is the number of pairs left.
 impl<K: Drop, V: Drop> ExactSizeIterator for IntoIter<K, V> {
     fn len(&self) -> usize {
         self.nodes.len()
     }
 }
 
-/// Once no pair is left, `next` and `next_back` answer `None` for good.
+/// Once no pair is left, `next` and `next_back` return `None` for good.
 impl<K: Drop, V: Drop> FusedIterator for IntoIter<K, V> {}
 
-/// Clones what is left, which takes memory for it and for the clones of the keys and values, in the source's allocator.
+/// Clones the pairs left, in O(n), in the source's allocator.
 ///
-/// It is refused where a growth is, or the clone of a key or a value. What was cloned so far is dropped then, and the source
-/// stays as it was. With nothing left it takes no memory and is never refused. It costs a clone of each pair that is left. The
-/// original ends the program where memory is refused.
+/// Returns an error if an allocation or the clone of a key or a value fails, and drops the clones
+/// made so far. With no pair left it does not allocate and never fails.
 impl<K: Clone, V: Clone> Clone for IntoIter<K, V> {
     ghost use Rattle.std.specs.Prelude.{[]};
 
@@ -119,7 +117,7 @@ impl<K: Clone, V: Clone> Clone for IntoIter<K, V> {
     }
 }
 
-/// A loop over the map itself, which drops the hasher. It takes no memory and costs a constant number of steps.
+/// A loop over the map, which drops the hasher. It is O(1) and does not allocate.
 ///
 /// # Examples
 ///
@@ -141,7 +139,7 @@ impl<K: Eq + Hash + Drop, V: Drop, S: BuildHasher + Drop> IntoIterator for Linke
 
     type IntoIter = IntoIter<K, V>;
 
-    // Its last two parts are laws of walks, for the proofs of callers: any body meets them.
+    // Its last two parts are laws of iterators, for the proofs of callers.
     ghost into_iter_gives = { λ map walk. (walk ≡ map.pairs) × IsValid K.eq map × GivesInOrder (K × V) × GivesInReverse (K × V) };
 
     fn into_iter(self) -> IntoIter<K, V> {

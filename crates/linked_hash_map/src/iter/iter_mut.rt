@@ -1,4 +1,4 @@
-//! The iterator that lends the values for writing.
+//! The iterator with mutable references to the values.
 ghost use Rattle.std.specs.Prelude.{◌≡◌, Some, IfSome, length};
 ghost use Rattle.std.specs.Iterator.{at_most, UpTo};
 ghost use Rattle.std.specs.Iterator.SizeHint.{IsWithinCount};
@@ -10,10 +10,8 @@ use lhm_ring::table::LentValues;
 use std::hash::{BuildHasher, Hash};
 use std::iter::FusedIterator;
 
-/// An iterator over the pairs of a map, from both ends, that lends each value for writing. It is made by `iter_mut`, or by a
-/// loop over `&mut map`.
-///
-/// What is written becomes the value of that pair. Each of its calls costs a constant number of steps and takes no memory.
+/// A double-ended iterator over the pairs of a map, with mutable references to the values, returned
+/// by `iter_mut` or a loop over `&mut map`. Its calls are O(1) and do not allocate.
 ///
 /// # Examples
 ///
@@ -36,7 +34,7 @@ impl<'a, K, V> IterMut<'a, K, V> {
     ghost use Rattle.linked_hash_map.specs.Nodes.{pairs_of};
     ghost use Rattle.lhm_ring.specs.LentRings.{lent_held, lent_name, IsLent};
 
-    /// Walks over a ring whose values are lent.
+    /// Returns an iterator over a ring whose values are lent.
     pub(crate) fn new(lent: LentValues<'a, K, V>) -> Self
         requires { IsLent lent }
         ensures rest { pairs_left result ≡ pairs_of (lent_held lent.entry) }
@@ -48,7 +46,7 @@ impl<'a, K, V> IterMut<'a, K, V> {
     }
 }
 
-/// `next` lends the pair at the oldest place that is left; the size hint is exact.
+/// `next` yields the front pair left; the size hint is exact.
 impl<'a, K, V> Iterator for IterMut<'a, K, V> {
     ghost use Rattle.linked_hash_map.specs.ValueWalks.{pairs_left};
 
@@ -75,7 +73,7 @@ impl<'a, K, V> Iterator for IterMut<'a, K, V> {
     }
 }
 
-/// `next_back` lends the pair at the newest place that is left.
+/// `next_back` yields the back pair left.
 impl<'a, K, V> DoubleEndedIterator for IterMut<'a, K, V> {
     ghost use Rattle.linked_hash_map.specs.ValueWalks.{pairs_left};
 
@@ -89,17 +87,17 @@ impl<'a, K, V> DoubleEndedIterator for IterMut<'a, K, V> {
     }
 }
 
-/// `len` is the number of pairs that are left.
+/// `len` is the number of pairs left.
 impl<'a, K, V> ExactSizeIterator for IterMut<'a, K, V> {
     fn len(&self) -> usize {
         self.nodes.len()
     }
 }
 
-/// Once no pair is left, `next` and `next_back` answer `None` for good.
+/// Once no pair is left, `next` and `next_back` return `None` for good.
 impl<'a, K, V> FusedIterator for IterMut<'a, K, V> {}
 
-/// A loop over `&mut map`, as over `iter_mut`. It takes no memory and leaves the keys and the order.
+/// A loop over `&mut map`, as over `iter_mut`. It does not allocate.
 ///
 /// # Examples
 ///
@@ -123,12 +121,12 @@ impl<'a, K: Eq + Hash, V, S: BuildHasher> IntoIterator for &'a mut LinkedHashMap
 
     type IntoIter = IterMut<'a, K, V>;
 
-    // Its last two parts are laws of walks, for the proofs of callers: any body meets them.
+    // Its last two parts are laws of iterators, for the proofs of callers.
     ghost into_iter_gives = { λ map walk. (pairs_left walk ≡ map.now.pairs) × IsValid K.eq map.now × LendsValuesInOrder (pairs_left {K = K} {V = V}) × LendsValuesInReverse (pairs_left {K = K} {V = V}) };
 
     fn into_iter(self) -> IterMut<'a, K, V>
         ensures* writes_back { sem 𝓛 (lends_values K.row V.row S.row S.Hasher.row K.Hash S.BuildHasher S.Hasher.Hasher self.entry (loan_name result)) }
-        // A law of lists, for the proofs of callers: any body meets it.
+        // A law of lists, for the proofs of callers.
         ensures keeps { KeysStand self.old.pairs }
         ensures into_iter_gives { (pairs_left result ≡ self.old.pairs) × IsValid K.eq self.old × LendsValuesInOrder (pairs_left {K = K} {V = V}) × LendsValuesInReverse (pairs_left {K = K} {V = V}) }
     {

@@ -10,9 +10,8 @@ use std::alloc::AllocError;
 use std::iter::FusedIterator;
 use std::marker::Model;
 
-/// An iterator over the keys of a map, from both ends, in the order of their pairs. It is made by `keys`.
-///
-/// Each of its calls costs a constant number of steps and takes no memory. A clone has the same keys left.
+/// A double-ended iterator over the keys of a map, front to back, returned by `keys`. Its calls are
+/// O(1) and do not allocate. A clone has the same keys left.
 ///
 /// # Examples
 ///
@@ -41,7 +40,7 @@ impl<'a, K, V> Model for Keys<'a, K, V> {
 }
 
 impl<'a, K, V> Keys<'a, K, V> {
-    /// Walks the keys of the pairs.
+    /// Returns an iterator over the keys of the pairs.
     pub(crate) fn new(pairs: Iter<'a, K, V>) -> Self
         ensures { result ≡ keys_of pairs.entry }
     {
@@ -49,7 +48,7 @@ impl<'a, K, V> Keys<'a, K, V> {
     }
 }
 
-/// `next` lends the key at the oldest place that is left; the size hint is exact.
+/// `next` yields the front key left; the size hint is exact.
 impl<'a, K, V> Iterator for Keys<'a, K, V> {
     type Item = &'a K;
 
@@ -71,7 +70,7 @@ impl<'a, K, V> Iterator for Keys<'a, K, V> {
     }
 }
 
-/// `next_back` lends the key at the newest place that is left.
+/// `next_back` yields the back key left.
 impl<'a, K, V> DoubleEndedIterator for Keys<'a, K, V> {
     ghost next_back_gives = { TakesLast deref };
 
@@ -81,17 +80,17 @@ impl<'a, K, V> DoubleEndedIterator for Keys<'a, K, V> {
     }
 }
 
-/// `len` is the number of keys that are left.
+/// `len` is the number of keys left.
 impl<'a, K, V> ExactSizeIterator for Keys<'a, K, V> {
     fn len(&self) -> usize {
         self.pairs.len()
     }
 }
 
-/// Once no key is left, `next` and `next_back` answer `None` for good.
+/// Once no key is left, `next` and `next_back` return `None` for good.
 impl<'a, K, V> FusedIterator for Keys<'a, K, V> {}
 
-/// A clone has the same keys left. It takes no memory and is never refused.
+/// A clone has the same keys left. It does not allocate and never fails.
 impl<'a, K, V> Clone for Keys<'a, K, V> {
     ghost is_clone = { λ s t. t ≡ s };
 

@@ -8,10 +8,8 @@ use super::LinkedHashMap;
 use std::hash::{BuildHasher, Hash};
 use std::ops::{Index, IndexMut};
 
-/// `map[&key]`, for a key that is present. Presence is the caller's condition, which has to be proved, where the original
-/// panics; `contains_key` and `get` are the tests.
-///
-/// It takes no memory, leaves the order and costs a look-up. The original takes any borrowed form of the key.
+/// `map[&key]`, for a key that has to be proved present; the original panics if it is absent.
+/// `contains_key` and `get` are the tests. It is O(1) on average and does not allocate.
 ///
 /// # Examples
 ///
@@ -34,10 +32,8 @@ impl<'q, K: Eq + Hash, V, S: BuildHasher> Index<&'q K> for LinkedHashMap<K, V, S
     }
 }
 
-/// `map[&key] = value`, for a key that is present. Presence is the caller's condition, which has to be proved, where the
-/// original panics; `contains_key` and `get_mut` are the tests.
-///
-/// It takes no memory, leaves the order and costs a look-up. The original takes any borrowed form of the key.
+/// `map[&key] = value`, for a key that has to be proved present. `contains_key` and `get_mut` are
+/// the tests. It is O(1) on average and does not allocate.
 ///
 /// # Examples
 ///

@@ -1,8 +1,6 @@
-//! What a look-up counts.
+//! What a lookup counts.
 
-/// What a look-up did, as [`get_counted`](crate::LinkedHashMap::get_counted) counts it.
-///
-/// The original has no such type.
+/// The counts of a lookup, returned by [`get_counted`](crate::LinkedHashMap::get_counted).
 ///
 /// # Examples
 ///
@@ -16,8 +14,8 @@
 /// ```
 #[derive(Clone, Copy, Debug, PartialEq)]
 pub struct Probe {
-    /// How many pairs were reached along the chain of the key's bucket.
+    /// The number of pairs reached along the chain of the key's bucket.
     pub visited: usize,
-    /// How many times keys were compared.
+    /// The number of comparisons of keys.
     pub compared: usize,
 }

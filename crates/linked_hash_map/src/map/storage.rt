@@ -1,8 +1,7 @@
-//! The functions that know how the pairs are kept. Those of `map.rt` that name the ring or the index know it too, as each look-up
-//! and the pops, which hand a position on; all others of the map call these.
+//! The functions that know how the pairs are stored, as do those of `map.rt` that name the table.
 //!
-//! They speak of indexes into the list of pairs, which no public call does. The index of a pair that a key is looked up for
-//! is kept by the map as its current one, so that what is done with the pair then needs no second look-up.
+//! They use indexes into the list of pairs, which no public call does. The map keeps the index of a
+//! pair that was looked up as its current one, so an entry needs no second lookup.
 ghost use Rattle.std.specs.Prelude.{◌≡◌, ◌+◌, ◌-◌, ◌<◌, ◌≤◌, ◌++◌, ◌∷◌, [], length, map, max, remove, slice_get, option_map, None, Some, IsTrue, IsFalse, IfOk, IfErr, OnOk, OnErr, OnSome, IfNone, IsOk};
 ghost use Rattle.std.specs.Map.{keys_of};
 ghost use Rattle.std.specs.Borrow.{sem};
@@ -28,7 +27,7 @@ use std::hash::{BuildHasher, Hash};
 use std::marker::PhantomData;
 use std::mem;
 
-/// Returns where the next pair to visit is: the one behind this position, or `None` where none is left to visit.
+/// Returns the position of the next pair to visit, behind this one, or `None` if none is left.
 fn mark_behind<K, V>(
     table: &Table<K, V>,
     at: Position<K, V>,
@@ -48,7 +47,7 @@ fn mark_behind<K, V>(
 impl<K: Eq + Hash, V, S: BuildHasher> LinkedHashMap<K, V, S> {
     ghost use Rattle.linked_hash_map.specs.Lends.{lends_at, lends_left, lends_values};
 
-    /// Takes the map apart into an iterator that hands out its pairs, and drops the hasher.
+    /// Returns an iterator that owns the pairs, and drops the hasher.
     pub(crate) fn into_pairs(self) -> IntoIter<K, V>
     where
         S: Drop,
@@ -71,14 +70,14 @@ impl<K: Eq + Hash, V, S: BuildHasher> LinkedHashMap<K, V, S> {
         self.table.allocator()
     }
 
-    /// Returns the number of a key.
+    /// Returns the hash of a key.
     pub(crate) fn number_of(&self, key: &K) -> u64
         ensures { result ≡ hash_by S.Hasher.finish S.Hasher.write S.build_hasher K.hash_input self.now.hasher key.now }
     {
         self.hasher.hash_one(key)
     }
 
-    /// Makes the pair of a key the current one, which ends the visit of a cursor, and tells whether there is one.
+    /// Makes the pair of a key the current one, ending a visit, and returns whether there is one.
     #[inline]
     pub(crate) fn seek(&mut self, number: u64, key: &K) -> bool
         requires { number ≡ hash_by S.Hasher.finish S.Hasher.write S.build_hasher K.hash_input self.old.hasher key.now }
@@ -105,7 +104,7 @@ impl<K: Eq + Hash, V, S: BuildHasher> LinkedHashMap<K, V, S> {
         }
     }
 
-    /// Lends the current pair.
+    /// Returns references to the current pair.
     pub(crate) fn current_pair(&self) -> (&K, &V)
         requires { self.now.cursor.current < length self.now.pairs }
         ensures { slice_get self.now.pairs self.now.cursor.current ≡ Some (result.0.now, result.1.now) }
@@ -114,7 +113,7 @@ impl<K: Eq + Hash, V, S: BuildHasher> LinkedHashMap<K, V, S> {
         (self.table.key(at), self.table.value(at))
     }
 
-    /// Lends the value of the current pair for writing.
+    /// Returns a mutable reference to the value of the current pair.
     pub(crate) fn current_value_mut(&mut self) -> &mut V
         requires { self.old.cursor.current < length self.old.pairs }
         ensures* writes_back { sem 𝓛 (lends_at K.row V.row S.row S.Hasher.row K.Hash S.BuildHasher S.Hasher.Hasher self.entry self.old.cursor.current result) }
@@ -125,7 +124,7 @@ impl<K: Eq + Hash, V, S: BuildHasher> LinkedHashMap<K, V, S> {
         self.table.value_mut(at)
     }
 
-    /// Lends the value of the current pair for writing. No pair is the current one then.
+    /// Returns a mutable reference to the value of the current pair. No pair is then current.
     pub(crate) fn leave_current(&mut self) -> &mut V
         requires { self.old.cursor.current < length self.old.pairs }
         ensures* writes_back { sem 𝓛 (lends_left K.row V.row S.row S.Hasher.row K.Hash S.BuildHasher S.Hasher.Hasher self.entry result) }
@@ -137,7 +136,7 @@ impl<K: Eq + Hash, V, S: BuildHasher> LinkedHashMap<K, V, S> {
         self.table.value_mut(at)
     }
 
-    /// Lends the value of the pair at the newest place for writing.
+    /// Returns a mutable reference to the value of the back pair.
     pub(crate) fn last_value_mut(&mut self) -> &mut V
         requires { 0 < length self.old.pairs }
         ensures* writes_back { sem 𝓛 (lends_at K.row V.row S.row S.Hasher.row K.Hash S.BuildHasher S.Hasher.Hasher self.entry (length self.old.pairs - 1) result) }
@@ -148,7 +147,7 @@ impl<K: Eq + Hash, V, S: BuildHasher> LinkedHashMap<K, V, S> {
         self.table.value_mut(at)
     }
 
-    /// Moves the current pair, which is none of those still to be visited, to the back. It stays the current one.
+    /// Moves the current pair, which is not left to visit, to the back. It stays current.
     pub(crate) fn move_current_to_back(&mut self)
         requires within { self.old.cursor.current < length self.old.pairs }
         requires outside { IsOutside self.old.cursor.current self.old }
@@ -165,8 +164,8 @@ impl<K: Eq + Hash, V, S: BuildHasher> LinkedHashMap<K, V, S> {
         self.table.move_to_back(at);
     }
 
-    /// Puts a value in the place of that of the current pair, which is none of those still to be visited, and returns the old
-    /// value. The pair moves to the back, or in `Keep` stays in its place; it stays the current one.
+    /// Replaces the value of the current pair, which is not left to visit, and returns the old one.
+    /// The pair moves to the back, or in `Keep` stays in its place, and stays current.
     #[inline]
     pub(crate) fn insert_current(&mut self, value: V) -> V
         requires within { self.old.cursor.current < length self.old.pairs }
@@ -192,8 +191,8 @@ impl<K: Eq + Hash, V, S: BuildHasher> LinkedHashMap<K, V, S> {
         }
     }
 
-    /// Puts a value in the place of that of a present key, which ends the visit of a cursor, and returns the old value. The pair
-    /// moves to the back, or in `Keep` stays in its place. Where the key is absent, the value is handed back.
+    /// Replaces the value of a present key, ending a visit, and returns the old one, or the given
+    /// value if the key is absent. The pair moves to the back, or in `Keep` stays in its place.
     #[inline]
     pub(crate) fn insert_present(&mut self, number: u64, key: &K, value: V) -> Result<V, V>
         requires { number ≡ hash_by S.Hasher.finish S.Hasher.write S.build_hasher K.hash_input self.old.hasher key.now }
@@ -222,7 +221,8 @@ impl<K: Eq + Hash, V, S: BuildHasher> LinkedHashMap<K, V, S> {
         }
     }
 
-    /// Takes out the current pair, which is none of those still to be visited. No pair is the current one then.
+    /// Removes the current pair, which is not left to visit, and returns it. No pair is then
+    /// current.
     #[inline]
     pub(crate) fn take_current(&mut self) -> (K, V)
         requires within { self.old.cursor.current < length self.old.pairs }
@@ -239,7 +239,8 @@ impl<K: Eq + Hash, V, S: BuildHasher> LinkedHashMap<K, V, S> {
         self.table.remove_at(at)
     }
 
-    /// Takes out the pair of a key, which ends the visit of a cursor, or returns `None` where the key is absent.
+    /// Removes the pair of a key, ending a visit, and returns it, or returns `None` if there is
+    /// none.
     #[inline]
     pub(crate) fn take_out(&mut self, number: u64, key: &K) -> Option<(K, V)>
         requires { number ≡ hash_by S.Hasher.finish S.Hasher.write S.build_hasher K.hash_input self.old.hasher key.now }
@@ -256,7 +257,7 @@ impl<K: Eq + Hash, V, S: BuildHasher> LinkedHashMap<K, V, S> {
         Some(pair)
     }
 
-    /// Begins the visit of a cursor: every pair is unvisited, and the next one is that at the oldest place.
+    /// Begins a visit of every pair, front to back.
     pub(crate) fn begin_visit(&mut self)
         ensures to_visit { to_visit self.new ≡ keys_of self.old.pairs }
         ensures pairs { self.new.pairs ≡ self.old.pairs }
@@ -271,7 +272,7 @@ impl<K: Eq + Hash, V, S: BuildHasher> LinkedHashMap<K, V, S> {
         };
     }
 
-    /// Makes the next unvisited pair the current one and moves the mark past it, and tells whether one was left.
+    /// Makes the next pair to visit the current one, and returns whether one was left.
     pub(crate) fn visit_next(&mut self) -> bool
         ensures key { IsTrue result → (key : K) → slice_get (keys_of self.old.pairs) self.new.cursor.current ≡ Some key →
             to_visit self.old ≡ key ∷ to_visit self.new }
@@ -297,7 +298,7 @@ impl<K: Eq + Hash, V, S: BuildHasher> LinkedHashMap<K, V, S> {
         true
     }
 
-    /// Ends the visit of a cursor: no pair is unvisited, and none is the current one.
+    /// Ends a visit: no pair is left to visit, and none is current.
     pub(crate) fn end_visit(&mut self)
         ensures ends { self.new ≡ without_cursor self.old }
         ensures valid { IsValid K.eq self.old }
@@ -305,7 +306,7 @@ impl<K: Eq + Hash, V, S: BuildHasher> LinkedHashMap<K, V, S> {
         self.visit.active = false;
     }
 
-    /// Puts a pair at the back, for which there is room. Its key is absent and has this number.
+    /// Inserts a pair at the back, for which there is room. Its key is absent and has this hash.
     #[inline(never)]
     pub(crate) fn push_back(&mut self, number: u64, key: K, value: V)
         requires number { number ≡ hash_by S.Hasher.finish S.Hasher.write S.build_hasher K.hash_input self.old.hasher key }
@@ -320,7 +321,8 @@ impl<K: Eq + Hash, V, S: BuildHasher> LinkedHashMap<K, V, S> {
         self.table.push_back(number, key, value);
     }
 
-    /// Makes room for one more pair: at full capacity by raising it by one, if there is memory.
+    /// Makes room for one more pair, at full capacity by raising it by one, and returns whether
+    /// there is room.
     #[inline]
     pub(crate) fn make_room(&mut self) -> bool
         ensures pairs { self.new.pairs ≡ self.old.pairs }
@@ -343,7 +345,7 @@ impl<K: Eq + Hash, V, S: BuildHasher> LinkedHashMap<K, V, S> {
         self.table.raise(capacity + 1).is_ok()
     }
 
-    /// Shares the ring but for its values, and lends the values.
+    /// Shares the ring except its values, and lends the values.
     pub(crate) fn lend<'a>(&'a mut self) -> LentValues<'a, K, V>
         ensures* writes_back { sem 𝓛 (lends_values K.row V.row S.row S.Hasher.row K.Hash S.BuildHasher S.Hasher.Hasher self.entry (lent_name result)) }
         ensures pairs { pairs_of (lent_held result) ≡ self.old.pairs }

@@ -10,10 +10,8 @@ use crate::iter::Iter;
 use std::iter::FusedIterator;
 use std::marker::Model;
 
-/// An iterator over the sessions of a table, each as its id, its weight and its payload, the oldest first. It is made by
-/// `Sessions::iter`.
-///
-/// Each of its calls costs a constant number of steps and takes no memory.
+/// An iterator over the sessions of a table, front to back, each as its id, weight and payload. It
+/// is returned by `Sessions::iter`. Its calls are O(1) and do not allocate.
 ///
 /// # Examples
 ///
@@ -44,7 +42,7 @@ impl<'a, T> Model for SessionIter<'a, T> {
 impl<'a, T> SessionIter<'a, T> {
     ghost use Rattle.linked_hash_map.specs.SessionsKept.{sessions_of};
 
-    /// Goes over the sessions of the pairs.
+    /// Returns an iterator over the sessions of the pairs.
     pub(super) fn new(pairs: Iter<'a, u64, Held<T>>) -> Self
         ensures { result ≡ sessions_of pairs.entry }
     {
@@ -52,7 +50,7 @@ impl<'a, T> SessionIter<'a, T> {
     }
 }
 
-/// `next` lends the oldest session that is left; the size hint is exact.
+/// `next` yields the front session left; the size hint is exact.
 impl<'a, T> Iterator for SessionIter<'a, T> {
     type Item = (u64, u64, &'a T);
 
@@ -74,12 +72,12 @@ impl<'a, T> Iterator for SessionIter<'a, T> {
     }
 }
 
-/// `len` is the number of sessions that are left.
+/// `len` is the number of sessions left.
 impl<'a, T> ExactSizeIterator for SessionIter<'a, T> {
     fn len(&self) -> usize {
         self.pairs.len()
     }
 }
 
-/// Once no session is left, `next` answers `None` for good.
+/// Once no session is left, `next` returns `None` for good.
 impl<'a, T> FusedIterator for SessionIter<'a, T> {}

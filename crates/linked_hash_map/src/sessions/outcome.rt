@@ -1,6 +1,6 @@
-//! What a put of a session answers.
+//! What a put of a session returns.
 
-/// What a put brought about: a payload that was replaced, and the sessions that went.
+/// The result of a put: the payload that it replaced, and the sessions that it removed.
 ///
 /// # Examples
 ///
@@ -12,13 +12,13 @@
 /// ```
 #[derive(Debug, PartialEq, Drop)]
 pub struct Put<T> {
-    /// The payload that the id had, or `None` where the id was new.
+    /// The payload that the id had, or `None` if the id was new.
     pub old: Option<T>,
-    /// The sessions that went, each as its id, its weight and its payload, the oldest first.
+    /// The sessions removed, front to back, each as its id, weight and payload.
     pub gone: Vec<(u64, u64, T)>,
 }
 
-/// The error of a put: why it was refused, and the payload that was handed in. The table is as it was.
+/// The error of a put: why it was refused, and the payload. The table is unchanged.
 ///
 /// # Examples
 ///
@@ -31,7 +31,7 @@ pub struct Put<T> {
 pub struct PutRefused<T> {
     /// Why the session was refused.
     pub reason: PutReason,
-    /// The payload that was handed in.
+    /// The payload that was given.
     pub payload: T,
 }
 
@@ -48,6 +48,6 @@ pub struct PutRefused<T> {
 pub enum PutReason {
     /// The weight is above the limit.
     TooHeavy = 1,
-    /// A growth was refused, or there are as many sessions as a map can hold.
+    /// An allocation failed, or there are as many sessions as a map can hold.
     NoRoom = 2,
 }

@@ -1,5 +1,5 @@
-//! How the sessions of a table are kept: in a map, by their ids, in order. The calls of the table are made of these functions, none
-//! of which drops a payload.
+//! How the sessions of a table are stored: in a map, by their ids, in order. None of these
+//! functions drops a payload.
 ghost use Rattle.std.specs.Prelude.{◌≡◌, ◌+◌, ◌-◌, ◌<◌, ◌≤◌, ◌∷◌, ◌++◌, [], length, drop, nat_eq, None, IfOk, OnOk, OnErr, vec_len, vec_capacity};
 ghost use Rattle.linked_hash_map.specs.Pairs as pairs;
 ghost use Rattle.linked_hash_map.specs.SessionTables.{payload_of, weight_of, total_weight, without, fit};
@@ -10,21 +10,21 @@ use crate::error::NoRoom;
 use crate::map::LinkedHashMap;
 use std::alloc::Global;
 
-/// What the map has at an id.
+/// What the map has for an id.
 #[derive(Drop)]
 pub(super) struct Held<T> {
     pub(super) weight: u64,
     pub(super) payload: T,
 }
 
-/// Which sessions go: how many of the oldest, and the sum of the weights of those that stay.
+/// How many sessions at the front a put removes, and the sum of the weights of those that stay.
 #[derive(Drop)]
 pub(super) struct Leaving {
     pub(super) count: usize,
     pub(super) staying: u64,
 }
 
-/// Returns the weight of the session with an id, or 0 where there is none.
+/// Returns the weight of the session with an id, or 0 if there is none.
 pub(super) fn weight_at<T>(map: &LinkedHashMap<u64, Held<T>>, id: u64) -> u64
     ensures { result ≡ weight_of (sessions_of map.now.pairs) id }
 {
@@ -34,9 +34,10 @@ pub(super) fn weight_at<T>(map: &LinkedHashMap<u64, Held<T>>, id: u64) -> u64
     }
 }
 
-/// Finds which of the sessions go, but for that with the id, so that the weights of the others sum to at most `room`.
+/// Returns which sessions to remove, except the one with the id, so that the weights of the others
+/// sum to at most `room`. `others` is the sum of all of them.
 ///
-/// `others` is the sum of the weights of all of them. It costs a step for each that goes, and at most two more.
+/// It reaches each session to remove, and at most two more.
 pub(super) fn find_leaving<T>(
     map: &LinkedHashMap<u64, Held<T>>,
     id: u64,
@@ -62,8 +63,8 @@ pub(super) fn find_leaving<T>(
     Leaving { count, staying }
 }
 
-/// Makes the room that a put takes: that for the sessions that go, or where none goes and the id is new for one more. It is the
-/// only growth of a put.
+/// Allocates what a put needs, and nothing else of it allocates: room for the sessions to remove,
+/// or, if there are none and the id is new, for one more.
 pub(super) fn make_room<T>(
     map: &mut LinkedHashMap<u64, Held<T>>,
     alloc: Global,
@@ -95,7 +96,7 @@ pub(super) fn make_room<T>(
     }
 }
 
-/// Takes out the session with an id and returns its payload, or returns `None` where there is none.
+/// Removes the session with an id and returns its payload, or returns `None` if there is none.
 pub(super) fn take_payload<T>(map: &mut LinkedHashMap<u64, Held<T>>, id: u64) -> Option<T>
     ensures pairs { map.new.pairs ≡ pairs.without nat_eq map.old.pairs id }
     ensures payload { result ≡ payload_of (sessions_of map.old.pairs) id }
@@ -108,7 +109,7 @@ pub(super) fn take_payload<T>(map: &mut LinkedHashMap<u64, Held<T>>, id: u64) ->
     }
 }
 
-/// Takes out the oldest sessions, in order, into a vector that has the room for them.
+/// Removes sessions from the front, in order, into a vector that has room for them.
 pub(super) fn take_oldest<T>(
     map: &mut LinkedHashMap<u64, Held<T>>,
     count: usize,
@@ -131,7 +132,7 @@ pub(super) fn take_oldest<T>(
     }
 }
 
-/// Puts a session at the back. Its id is new and there is room, so this takes no memory.
+/// Inserts a session at the back. Its id is new and there is room, so it does not allocate.
 pub(super) fn put_back<T>(map: &mut LinkedHashMap<u64, Held<T>>, id: u64, weight: u64, payload: T)
     requires new { pairs.find nat_eq map.old.pairs id ≡ None }
     requires room { length map.old.pairs < map.old.capacity }
