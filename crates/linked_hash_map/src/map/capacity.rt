@@ -12,9 +12,9 @@ use std::hash::{BuildHasher, Hash};
 impl<K: Eq + Hash, V, S: BuildHasher> LinkedHashMap<K, V, S> {
     /// Raises the capacity to exactly the number of pairs plus `additional`, if it is below that.
     ///
-    /// Returns `TooLarge` exactly if that sum is above [`LIMIT`], also if it overflows, and
-    /// `NoRoom` if an allocation fails; the map is then unchanged. It is O(capacity) for the new
-    /// capacity. Within the old one it does not allocate and is never refused.
+    /// Returns `TooLarge` exactly if that sum is above [`LIMIT`] or overflows, and `NoRoom` if an
+    /// allocation fails; the map is then unchanged. It is O(capacity) for the new capacity. Within
+    /// the old one it does not allocate and is never refused.
     ///
     /// # Examples
     ///
@@ -55,11 +55,11 @@ impl<K: Eq + Hash, V, S: BuildHasher> LinkedHashMap<K, V, S> {
         }
     }
 
-    /// Lowers the capacity to exactly the number of pairs; an empty map frees all its memory.
+    /// Lowers the capacity to exactly the number of pairs, in O(capacity) for the old one. An empty
+    /// map frees all its memory.
     ///
-    /// Returns `NoRoom` if an allocation fails; the map is then unchanged. It is O(capacity) for
-    /// the old capacity. It allocates, and can be refused, only if pairs are left and there are to
-    /// be fewer buckets.
+    /// It allocates only if pairs are left and there are to be fewer buckets. Returns `NoRoom` if
+    /// that fails; the map is then unchanged.
     ///
     /// # Examples
     ///
@@ -94,10 +94,10 @@ impl<K: Eq + Hash, V, S: BuildHasher> LinkedHashMap<K, V, S> {
     }
 
     /// Returns how many nodes were rehashed since [`shrink_to_fit`] last lowered the capacity, its
-    /// own included. It is O(1) and does not allocate.
+    /// own included, in O(1) without allocating.
     ///
     /// Only a change of the number of buckets rehashes, and it rehashes all pairs. The count is at
-    /// most the number of buckets, and below twice the capacity unless that is 0.
+    /// most the number of buckets.
     ///
     /// [`shrink_to_fit`]: LinkedHashMap::shrink_to_fit
     ///
@@ -119,8 +119,7 @@ impl<K: Eq + Hash, V, S: BuildHasher> LinkedHashMap<K, V, S> {
         self.table.rechained()
     }
 
-    /// Makes room for one more pair, at full capacity by raising it by one, and returns whether
-    /// there is room.
+    /// Raises a full capacity by one, and returns whether there is room for one more pair.
     #[inline]
     pub(crate) fn make_room(&mut self) -> bool
         ensures pairs { self.new.pairs ≡ self.old.pairs }

@@ -21,10 +21,9 @@ use std::alloc::AllocError;
 use std::hash::{BuildHasher, Hash};
 use std::mem;
 
-/// Where a cursor or an entry stands, if there is one. One word tells that, so that most calls end
-/// a visit by one write.
+/// Where a cursor or an entry stands. Most calls end a visit by one write, that of `active`.
 pub(super) struct Visit<K, V> {
-    /// Whether there is a cursor or an entry. If not, the other fields mean nothing.
+    /// Whether there is a cursor or an entry; if not, the other fields mean nothing.
     pub(super) active: bool,
     /// The position of the next pair to visit.
     pub(super) mark: Option<Position<K, V>>,
@@ -43,6 +42,20 @@ impl<K, V> Clone for Visit<K, V> {
 impl<K, V> Copy for Visit<K, V> {}
 
 impl<K, V> Visit<K, V> {
+    /// Returns the state of no cursor and no entry.
+    pub(super) fn none() -> Self
+        ensures mark { mark_of result ≡ None }
+        ensures unvisited { unvisited_of result ≡ 0 }
+        ensures current { current_of result ≡ None }
+    {
+        Visit {
+            active: false,
+            mark: None,
+            unvisited: 0,
+            current: None,
+        }
+    }
+
     /// Returns the position of the next pair to visit.
     pub(super) fn mark(&self) -> Option<Position<K, V>>
         ensures { pointer_of_some result ≡ mark_of self.now }
@@ -65,7 +78,7 @@ impl<K, V> Visit<K, V> {
     }
 }
 
-/// Returns the position of the next pair to visit, behind this one, or `None` if none is left.
+/// Returns the position of the pair behind this one, or `None` if none is left to visit.
 fn mark_behind<K, V>(
     table: &Table<K, V>,
     at: Position<K, V>,
@@ -126,16 +139,8 @@ impl<K: Eq + Hash, V, S: BuildHasher> LinkedHashMap<K, V, S> {
         true
     }
 
-    /// Ends a visit: no pair is left to visit, and none is current.
-    pub(crate) fn end_visit(&mut self)
-        ensures ends { self.new ≡ without_cursor self.old }
-        ensures valid { IsValid K.eq self.old }
-    {
-        self.visit.active = false;
-    }
-
-    /// Returns the number of pairs left to visit, or 0 if there is no visit. It is O(1) and does
-    /// not allocate.
+    /// Returns the number of pairs left to visit, or 0 if there is no visit, in O(1) without
+    /// allocating.
     ///
     /// # Examples
     ///
@@ -157,8 +162,8 @@ impl<K: Eq + Hash, V, S: BuildHasher> LinkedHashMap<K, V, S> {
 
     /// Makes the pair of a key the current one, ending a visit, and returns whether there is one.
     #[inline]
-    pub(crate) fn seek(&mut self, number: u64, key: &K) -> bool
-        requires { number ≡ hash_by S.Hasher.finish S.Hasher.write S.build_hasher K.hash_input self.old.hasher key.now }
+    pub(crate) fn seek(&mut self, hash: u64, key: &K) -> bool
+        requires { hash ≡ hash_by S.Hasher.finish S.Hasher.write S.build_hasher K.hash_input self.old.hasher key.now }
         ensures found { IsTrue result → IsIndex K.eq self.old.pairs key.now self.new.cursor.current }
         ensures ends_visit { IsTrue result → without_cursor self.new ≡ without_cursor self.old }
         ensures visited { IsTrue result → self.new.cursor.unvisited ≡ 0 }
@@ -168,7 +173,7 @@ impl<K: Eq + Hash, V, S: BuildHasher> LinkedHashMap<K, V, S> {
         ensures unchanged { IsFalse result → self.new ≡ self.old }
         ensures valid { IsValid K.eq self.old }
     {
-        match self.table.find(number, key).0 {
+        match self.table.find(hash, key).0 {
             Some(at) => {
                 self.visit = Visit {
                     active: true,
@@ -202,7 +207,7 @@ impl<K: Eq + Hash, V, S: BuildHasher> LinkedHashMap<K, V, S> {
         self.table.value_mut(at)
     }
 
-    /// Returns a mutable reference to the value of the current pair. No pair is then current.
+    /// Returns a mutable reference to the value of the current pair. None is then current.
     pub(crate) fn leave_current(&mut self) -> &mut V
         requires { self.old.cursor.current < length self.old.pairs }
         ensures* writes_back { sem 𝓛 (lends_left K.row V.row S.row S.Hasher.row K.Hash S.BuildHasher S.Hasher.Hasher self.entry result) }
@@ -214,7 +219,7 @@ impl<K: Eq + Hash, V, S: BuildHasher> LinkedHashMap<K, V, S> {
         self.table.value_mut(at)
     }
 
-    /// Moves the current pair, which is not left to visit, to the back. It stays current.
+    /// Moves the current pair to the back. It stays current.
     pub(crate) fn move_current_to_back(&mut self)
         requires within { self.old.cursor.current < length self.old.pairs }
         requires outside { IsOutside self.old.cursor.current self.old }
@@ -231,8 +236,8 @@ impl<K: Eq + Hash, V, S: BuildHasher> LinkedHashMap<K, V, S> {
         self.table.move_to_back(at);
     }
 
-    /// Replaces the value of the current pair, which is not left to visit, and returns the old one.
-    /// The pair moves to the back, or in `Keep` stays in its place, and stays current.
+    /// Replaces the value of the current pair and returns the old one. The pair stays current and
+    /// moves to the back, or in `Keep` stays in its place.
     #[inline]
     pub(crate) fn insert_current(&mut self, value: V) -> V
         requires within { self.old.cursor.current < length self.old.pairs }
@@ -258,8 +263,7 @@ impl<K: Eq + Hash, V, S: BuildHasher> LinkedHashMap<K, V, S> {
         }
     }
 
-    /// Removes the current pair, which is not left to visit, and returns it. No pair is then
-    /// current.
+    /// Removes and returns the current pair. None is then current.
     #[inline]
     pub(crate) fn take_current(&mut self) -> (K, V)
         requires within { self.old.cursor.current < length self.old.pairs }

@@ -15,7 +15,7 @@ use std::ops::{Index, IndexMut};
 impl<K: Eq + Hash, V, S: BuildHasher> LinkedHashMap<K, V, S> {
     ghost use Rattle.linked_hash_map.specs.Lends.{lends_value, lends_refreshed};
 
-    /// Returns the value of a key, if present. It is O(1) on average and does not allocate.
+    /// Returns the value of a key, if present, in O(1) on average without allocating.
     ///
     /// # Examples
     ///
@@ -31,8 +31,8 @@ impl<K: Eq + Hash, V, S: BuildHasher> LinkedHashMap<K, V, S> {
         self.get_counted(key).0
     }
 
-    /// Returns a mutable reference to the value of a key, if present. It is O(1) on average and
-    /// does not allocate.
+    /// Returns a mutable reference to the value of a key, if present, in O(1) on average without
+    /// allocating.
     ///
     /// # Examples
     ///
@@ -49,15 +49,15 @@ impl<K: Eq + Hash, V, S: BuildHasher> LinkedHashMap<K, V, S> {
         ensures value { option_copied_mut result ≡ value_at K.eq self.old.pairs key.now }
         ensures valid { IsValid K.eq self.old }
     {
-        let number = self.hasher.hash_one(key);
-        match self.table.find(number, key).0 {
+        let hash = self.hasher.hash_one(key);
+        match self.table.find(hash, key).0 {
             Some(at) => Some(self.table.value_mut(at)),
             None => None,
         }
     }
 
-    /// Moves the pair of a key, if present, to the back in both modes and returns a mutable
-    /// reference to its value; else nothing changes. It is O(1) on average and does not allocate.
+    /// Moves the pair of a key, if present, to the back in both modes, and returns a mutable
+    /// reference to its value. It is O(1) on average and does not allocate.
     ///
     /// # Examples
     ///
@@ -75,8 +75,8 @@ impl<K: Eq + Hash, V, S: BuildHasher> LinkedHashMap<K, V, S> {
         ensures value { option_copied_mut result ≡ value_at K.eq self.old.pairs key.now }
         ensures valid { IsValid K.eq self.old }
     {
-        let number = self.hasher.hash_one(key);
-        match self.table.find(number, key).0 {
+        let hash = self.hasher.hash_one(key);
+        match self.table.find(hash, key).0 {
             Some(at) => {
                 self.visit.active = false;
                 self.table.move_to_back(at);
@@ -86,11 +86,11 @@ impl<K: Eq + Hash, V, S: BuildHasher> LinkedHashMap<K, V, S> {
         }
     }
 
-    /// Returns the value of a key, if present, and the counts of the lookup.
+    /// Returns the value of a key, if present, and the counts of the lookup, in O(1) on average
+    /// without allocating.
     ///
     /// For an absent key it reaches each node of the bucket's chain and compares each key with the
-    /// same hash; for a present key it does no more. Every lookup searches so. It is O(1) on
-    /// average and does not allocate.
+    /// same hash; for a present key it does no more. Every lookup searches so.
     ///
     /// # Examples
     ///
@@ -118,8 +118,8 @@ impl<K: Eq + Hash, V, S: BuildHasher> LinkedHashMap<K, V, S> {
         ensures visited_few { OnSome result.0 (result.1.visited
             ≤ beside (hash_by S.Hasher.finish S.Hasher.write S.build_hasher K.hash_input self.now.hasher) self.now.pairs self.now.capacity key.now) }
     {
-        let number = self.hasher.hash_one(key);
-        let (found, counts) = self.table.find(number, key);
+        let hash = self.hasher.hash_one(key);
+        let (found, counts) = self.table.find(hash, key);
         let probe = Probe {
             visited: counts.visited,
             compared: counts.compared,
@@ -130,7 +130,7 @@ impl<K: Eq + Hash, V, S: BuildHasher> LinkedHashMap<K, V, S> {
         }
     }
 
-    /// Returns `true` if a key is present. It is O(1) on average and does not allocate.
+    /// Returns `true` if a key is present, in O(1) on average without allocating.
     ///
     /// # Examples
     ///
@@ -146,7 +146,7 @@ impl<K: Eq + Hash, V, S: BuildHasher> LinkedHashMap<K, V, S> {
         self.get(key).is_some()
     }
 
-    /// Returns the front pair, if any. It is O(1) and does not allocate.
+    /// Returns the front pair, if any, in O(1) without allocating.
     ///
     /// # Examples
     ///
@@ -163,7 +163,7 @@ impl<K: Eq + Hash, V, S: BuildHasher> LinkedHashMap<K, V, S> {
         Some((self.table.key(at), self.table.value(at)))
     }
 
-    /// Returns the back pair, if any. It is O(1) and does not allocate.
+    /// Returns the back pair, if any, in O(1) without allocating.
     ///
     /// # Examples
     ///
@@ -181,8 +181,8 @@ impl<K: Eq + Hash, V, S: BuildHasher> LinkedHashMap<K, V, S> {
     }
 }
 
-/// `map[&key]`, for a key that has to be proved present; the original panics if it is absent.
-/// `contains_key` and `get` are the tests. It is O(1) on average and does not allocate.
+/// `map[&key]`, for a key that has to be proved present, as by `contains_key`; the original
+/// panics if it is absent. It is O(1) on average and does not allocate.
 ///
 /// # Examples
 ///
@@ -205,8 +205,8 @@ impl<'q, K: Eq + Hash, V, S: BuildHasher> Index<&'q K> for LinkedHashMap<K, V, S
     }
 }
 
-/// `map[&key] = value`, for a key that has to be proved present. `contains_key` and `get_mut` are
-/// the tests. It is O(1) on average and does not allocate.
+/// `map[&key] = value`, for a key that has to be proved present, in O(1) on average without
+/// allocating.
 ///
 /// # Examples
 ///

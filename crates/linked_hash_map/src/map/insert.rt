@@ -1,4 +1,4 @@
-//! Insertion of a pair.
+//! Insertion.
 ghost use Rattle.std.specs.Prelude.{◌≡◌, ◌<◌, [], length, max, option_map, None, OnOk, OnErr, IfOk, IfErr, IfNone, OnSome, ◌-◌, ◌++◌, ◌∷◌, slice_get, Some};
 ghost use Rattle.std.specs.Borrow.{sem};
 ghost use Rattle.linked_hash_map.specs.Pairs.{find, value_at, put};
@@ -19,10 +19,10 @@ impl<K: Eq + Hash, V, S: BuildHasher> LinkedHashMap<K, V, S> {
     /// Inserts a pair and returns the old value of its key, or `None` if the key is new.
     ///
     /// A present key is never refused: its pair keeps the stored key and moves to the back, or in
-    /// [`Mode::Keep`] stays in its place, and `key` is dropped. A new key goes to the back. At full
-    /// capacity it raises the capacity by exactly one or is refused: the error has this key and
-    /// this value, and the map is unchanged. It is O(1) on average, or O(n) if the number of
-    /// buckets changes, and allocates only for a new key at full capacity.
+    /// [`Mode::Keep`] stays in its place, and `key` is dropped. A new key goes to the back. Only a
+    /// new key at full capacity allocates: it raises the capacity by one or is refused, and the
+    /// error then has this key and this value, and the map is unchanged. It is O(1) on average, or
+    /// O(n) if the number of buckets changes.
     ///
     /// # Examples
     ///
@@ -55,23 +55,23 @@ impl<K: Eq + Hash, V, S: BuildHasher> LinkedHashMap<K, V, S> {
         ensures absent { OnErr result (find K.eq self.old.pairs key ≡ None) }
         ensures full { OnErr result (length self.old.pairs ≡ self.old.capacity) }
     {
-        let number = self.number_of(&key);
-        let value = match self.insert_present(number, &key, value) {
+        let hash = self.hash_of(&key);
+        let value = match self.insert_present(hash, &key, value) {
             Ok(old) => return Ok(Some(old)),
             Err(value) => value,
         };
         if !self.make_room() {
             return Err(Refused { key, value });
         }
-        self.push_back(number, key, value);
+        self.push_back(hash, key, value);
         Ok(None)
     }
 
-    /// Replaces the value of a present key, ending a visit, and returns the old one, or the given
-    /// value if the key is absent. The pair moves to the back, or in `Keep` stays in its place.
+    /// Replaces the value of a present key and returns the old one, or `Err(value)` if it is
+    /// absent. The pair moves to the back, or in `Keep` stays in its place, and a visit ends.
     #[inline]
-    pub(crate) fn insert_present(&mut self, number: u64, key: &K, value: V) -> Result<V, V>
-        requires { number ≡ hash_by S.Hasher.finish S.Hasher.write S.build_hasher K.hash_input self.old.hasher key.now }
+    pub(crate) fn insert_present(&mut self, hash: u64, key: &K, value: V) -> Result<V, V>
+        requires { hash ≡ hash_by S.Hasher.finish S.Hasher.write S.build_hasher K.hash_input self.old.hasher key.now }
         ensures old { IfOk result (λ old. Some old ≡ value_at K.eq self.old.pairs key.now) }
         ensures pairs { OnOk result (self.new.pairs ≡ put K.eq self.old.mode self.old.pairs key.now value) }
         ensures len { OnOk result (length self.new.pairs ≡ length self.old.pairs) }
@@ -84,7 +84,7 @@ impl<K: Eq + Hash, V, S: BuildHasher> LinkedHashMap<K, V, S> {
         ensures unchanged { OnErr result (self.new ≡ self.old) }
         ensures absent { OnErr result (find K.eq self.old.pairs key.now ≡ None) }
     {
-        let Some(found) = self.table.find(number, key).0 else {
+        let Some(found) = self.table.find(hash, key).0 else {
             return Err(value);
         };
         self.visit.active = false;
@@ -97,10 +97,10 @@ impl<K: Eq + Hash, V, S: BuildHasher> LinkedHashMap<K, V, S> {
         }
     }
 
-    /// Inserts a pair at the back, for which there is room. Its key is absent and has this hash.
+    /// Inserts a pair of an absent key, which has this hash, at the back, below the capacity.
     #[inline(never)]
-    pub(crate) fn push_back(&mut self, number: u64, key: K, value: V)
-        requires number { number ≡ hash_by S.Hasher.finish S.Hasher.write S.build_hasher K.hash_input self.old.hasher key }
+    pub(crate) fn push_back(&mut self, hash: u64, key: K, value: V)
+        requires hash { hash ≡ hash_by S.Hasher.finish S.Hasher.write S.build_hasher K.hash_input self.old.hasher key }
         requires room { length self.old.pairs < self.old.capacity }
         requires absent { find K.eq self.old.pairs key ≡ None }
         ensures pairs { self.new.pairs ≡ self.old.pairs ++ (key, value) ∷ [] }
@@ -109,7 +109,7 @@ impl<K: Eq + Hash, V, S: BuildHasher> LinkedHashMap<K, V, S> {
         ensures to_visit { to_visit self.new ≡ to_visit self.old }
         ensures stays_valid { IsValid K.eq self.new }
     {
-        self.table.push_back(number, key, value);
+        self.table.push_back(hash, key, value);
     }
 
     /// Returns a mutable reference to the value of the back pair.

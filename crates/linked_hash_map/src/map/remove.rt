@@ -1,4 +1,4 @@
-//! Removal of one pair and of all.
+//! Removal.
 ghost use Rattle.std.specs.Prelude.{◌≡◌, [], option_map, IfNone, OnSome};
 ghost use Rattle.std.specs.Borrow.{sem};
 ghost use Rattle.linked_hash_map.specs.Pairs.{value_at, without, first, last, without_first, without_last};
@@ -16,8 +16,8 @@ impl<K: Eq + Hash, V, S: BuildHasher> LinkedHashMap<K, V, S> {
     ghost use Rattle.std.specs.Iterator.Runs.{YieldsInOrder, YieldsInReverse};
     ghost use Rattle.linked_hash_map.specs.Lends.{lends_drained};
 
-    /// Removes the pair of a key and returns its value, if present; the stored key is dropped. The
-    /// order of the others and the capacity stay. It is O(1) on average and does not allocate.
+    /// Removes the pair of a key and returns its value, if present, in O(1) on average without
+    /// allocating. The stored key is dropped; the order of the others and the capacity stay.
     ///
     /// # Examples
     ///
@@ -40,16 +40,15 @@ impl<K: Eq + Hash, V, S: BuildHasher> LinkedHashMap<K, V, S> {
         ensures valid { IsValid K.eq self.old }
         ensures stays_valid { IsValid K.eq self.new }
     {
-        let number = self.number_of(key);
-        let (_stored, value) = self.take_out(number, key)?;
+        let hash = self.hash_of(key);
+        let (_stored, value) = self.take_out(hash, key)?;
         Some(value)
     }
 
-    /// Removes the pair of a key, ending a visit, and returns it, or returns `None` if there is
-    /// none.
+    /// Removes and returns the pair of a key, if present, and then ends a visit.
     #[inline]
-    pub(crate) fn take_out(&mut self, number: u64, key: &K) -> Option<(K, V)>
-        requires { number ≡ hash_by S.Hasher.finish S.Hasher.write S.build_hasher K.hash_input self.old.hasher key.now }
+    pub(crate) fn take_out(&mut self, hash: u64, key: &K) -> Option<(K, V)>
+        requires { hash ≡ hash_by S.Hasher.finish S.Hasher.write S.build_hasher K.hash_input self.old.hasher key.now }
         ensures value { option_map (λ pair. pair.1) result ≡ value_at K.eq self.old.pairs key.now }
         ensures pairs { self.new.pairs ≡ without K.eq self.old.pairs key.now }
         ensures ends_visit { OnSome result (to_visit self.new ≡ []) }
@@ -58,13 +57,13 @@ impl<K: Eq + Hash, V, S: BuildHasher> LinkedHashMap<K, V, S> {
         ensures valid { IsValid K.eq self.old }
         ensures stays_valid { IsValid K.eq self.new }
     {
-        let pair = self.table.remove(number, key)?;
+        let pair = self.table.remove(hash, key)?;
         self.visit.active = false;
         Some(pair)
     }
 
-    /// Removes and returns the front pair, if any. The capacity stays. It is O(1) on average,
-    /// compares no key and does not allocate.
+    /// Removes and returns the front pair, if any, in O(1) on average. It compares no key and does
+    /// not allocate; the capacity stays.
     ///
     /// # Examples
     ///
@@ -88,8 +87,8 @@ impl<K: Eq + Hash, V, S: BuildHasher> LinkedHashMap<K, V, S> {
         Some(self.table.remove_at(front))
     }
 
-    /// Removes and returns the back pair, if any. The capacity stays. It is O(1) on average,
-    /// compares no key and does not allocate.
+    /// Removes and returns the back pair, if any, in O(1) on average. It compares no key and does
+    /// not allocate; the capacity stays.
     ///
     /// # Examples
     ///
@@ -113,7 +112,7 @@ impl<K: Eq + Hash, V, S: BuildHasher> LinkedHashMap<K, V, S> {
         Some(self.table.remove_at(back))
     }
 
-    /// Drops all pairs and keeps the capacity. It is O(capacity) and does not allocate.
+    /// Drops all pairs and keeps the capacity, in O(capacity) without allocating.
     ///
     /// # Examples
     ///
@@ -133,14 +132,15 @@ impl<K: Eq + Hash, V, S: BuildHasher> LinkedHashMap<K, V, S> {
         ensures valid { IsValid K.eq self.old }
         ensures stays_valid { IsValid K.eq self.new }
     {
-        self.end_visit();
+        self.visit.active = false;
         drop(self.table.drain());
     }
 
-    /// Removes all pairs and returns them as a double-ended iterator, front to back.
+    /// Removes all pairs and returns them as a double-ended iterator, front to back, in O(capacity)
+    /// without allocating.
     ///
     /// The map is empty and keeps its capacity from the call on. Forgetting the iterator leaks the
-    /// pairs left. The call is O(capacity) and does not allocate.
+    /// pairs left.
     ///
     /// # Examples
     ///
@@ -164,7 +164,7 @@ impl<K: Eq + Hash, V, S: BuildHasher> LinkedHashMap<K, V, S> {
         ensures stays { DrainKeepsAlong DrainSteps result }
         ensures stays_back { DrainKeepsAlong DrainStepsBack result }
     {
-        self.end_visit();
+        self.visit.active = false;
         Drain::new(self.table.drain())
     }
 }
