@@ -1,4 +1,4 @@
--- The counts of nodes chained again, by the capacities before and after.
+-- The counts of rehashed nodes, by the capacities before and after.
 use Rattle.std.proofs.Common.{◌≡◌, ℕ, zero, suc, ◌+◌, ◌-◌, ◌%◌, ◌≤◌, max, Bool, List, [], ◌∷◌, ⊎_elim, cond, refl, sym, ap, ◌∙◌, eqb, arith}
 use Rattle.std.proofs.lemmas.Bool.{cases_lt}
 use Rattle.std.specs.Prelude.{count_by}
@@ -53,11 +53,11 @@ module _ {K V : Type 0} (hash : K → ℕ) where
   hashed_bare [] h = tt
   hashed_bare (t ∷ hs) h = (h.0, hashed_bare hs h.1)
 
-  pub same-pairs : (hs : List (Held (K × V))) (k : K) (number : ℕ) → number ≡ hash k → AllByRecursion (λ u. u.number ≡ hash u.pair) (bare hs) → index.same (spots hs) number ≡ same hash (pairs_of hs) k
-  same-pairs hs k number its h =
+  pub same-pairs : (hs : List (Held (K × V))) (k : K) (hash_k : ℕ) → hash_k ≡ hash k → AllByRecursion (λ u. u.number ≡ hash u.pair) (bare hs) → index.same (spots hs) hash_k ≡ same hash (pairs_of hs) k
+  same-pairs hs k hash_k its h =
       ap (index.same (spots hs)) its ∙ same_hashed hash hs (hash k) (hashed_bare hs h) ∙ count-pairs (λ pair. eqb (hash pair.0) (hash k)) hs
 
-  pub beside-pairs : (hs : List (Held (K × V))) (k : K) (number n capacity : ℕ) → number ≡ hash k → n ≡ buckets capacity → AllByRecursion (λ u. u.number ≡ hash u.pair) (bare hs) → index.beside (spots hs) n number ≡ beside hash (pairs_of hs) capacity k
-  beside-pairs hs k number n capacity its wide h =
+  pub beside-pairs : (hs : List (Held (K × V))) (k : K) (hash_k n capacity : ℕ) → hash_k ≡ hash k → n ≡ buckets capacity → AllByRecursion (λ u. u.number ≡ hash u.pair) (bare hs) → index.beside (spots hs) n hash_k ≡ beside hash (pairs_of hs) capacity k
+  beside-pairs hs k hash_k n capacity its wide h =
       (λ i. index.beside (spots hs) (wide i) (its i)) ∙ beside_hashed hash hs (buckets capacity) (hash k) (hashed_bare hs h)
       ∙ count-pairs (λ pair. eqb (hash pair.0 % buckets capacity) (hash k % buckets capacity)) hs

@@ -75,7 +75,7 @@ module _ {K V : Type 0} {eq : K → K → Bool} {hash : K → ℕ} {s : TableSta
   IsKept-with_value p w = record { nodes = subst (λ us. AreKept eq hash us s.capacity mark n current) (sym (bare-change p w s.held)) kept.nodes }
 
 -- a key that was looked for is at the index of its node
-module _ {K V : Type 0} {eq : K → K → Bool} {number : ℕ} {k : K} {hs : List (Held (K × V))} {p : Ptr} (h : HasKey eq number k hs p) where
+module _ {K V : Type 0} {eq : K → K → Bool} {hash : ℕ} {k : K} {hs : List (Held (K × V))} {p : Ptr} (h : HasKey eq hash k hs p) where
   pub key_lies : before p hs < length hs
   key_lies = let at = h.held in subst (λ (ks : List (Held (K × V))). before p ks < length ks) (sym at.3) (before_held p at.0 at.1 at.2 at.4)
 

@@ -1,4 +1,4 @@
--- Runs of a `Drain`, and how a map is kept that one was made of.
+-- Runs of a `Drain`, and what is left of one.
 use Rattle.std.proofs.Common.{◌≡◌, ℕ, ◌+◌, ◌≤◌, Bool, List, [], ◌∷◌, map, length, Option, Some, None, refl, sym, ap, ◌∙◌, subst, arith}
 use Rattle.std.specs.List.{IsDistinct}
 use Rattle.std.specs.Iterator.Runs.{YieldsInOrder, YieldsInReverse}
@@ -33,49 +33,11 @@ module _ {K V : Type 0} where
   pub stays_back : (d : Drain K V) → DrainKeepsAlong DrainStepsBack d
   stays_back = along DrainStepsBack (λ s t r h. h.1)
 
--- the pairs of what was handed out with its numbers
+-- the pairs of what is drained with hashes
 pub pairs-triples : {K V : Type 0} (hs : List (Held (K × V))) → map (λ t. t.1) (triples hs) ≡ pairs_of hs
 pairs-triples [] = refl
 pairs-triples (t ∷ hs) = ap (λ ps. t.pair ∷ ps) (pairs-triples hs)
 
--- the pair that lies within the limit is not nowhere
-current_none : {B : Type 0} (o : Option Ptr) (us : List (Held B)) → Lies o us → length us ≤ LIMIT → current_at o us ≡ nowhere → o ≡ None
-current_none None us lies small e = refl
-current_none (Some p) us lies small e = absurd (omega (arith, lies, small, e))
-
--- a map with no cursor and no entry, whose table is emptied
-module _ {K V S : Type 0} {eq : K → K → Bool} {hash : K → ℕ} {s : TableState (K × V)} {b : Beside S} (kept : IsKept eq hash s b.mark b.unvisited b.current) (m x : LinkedMap K V S)
-    (view : map_of s b ≡ x) (ends : x ≡ without_cursor m) where
-  seen : map_of s b ≡ without_cursor m
-  seen = view ∙ ends
-
-  none : b.unvisited ≡ 0
-  none = ap (λ (y : LinkedMap K V S). y.cursor.unvisited) seen
-
-  no_entry : b.current ≡ None
-  no_entry = let within = kept.nodes.within in let limit = kept.nodes.limit in current_none b.current (bare s.held) kept.nodes.current_lies (omega (arith, within, limit)) (ap (λ (y : LinkedMap K V S). y.cursor.current) seen)
-
-  pub kept_drained : IsKept {V = V} eq hash (record s { held = [] }) b.mark b.unvisited b.current
-  unfolding IsDistinct
-  kept_drained =
-      let gone = kept.nodes.ended none in
-      record {
-        nodes = record {
-          distinct = tt;
-          hashed = tt;
-          within = omega arith;
-          limit = kept.nodes.limit;
-          marked = λ _. none;
-          ended = λ _. gone;
-          in_reach = subst (λ (o : Option Ptr). bookmark_at {B = K} o [] + b.unvisited ≤ 0) (sym gone) (omega (arith, none));
-          current_lies = subst (λ (o : Option Ptr). Lies {B = K} o []) (sym no_entry) tt;
-        };
-      }
-
-  pub view_drained : map_of (record s { held = [] }) b ≡ drained m
-  view_drained =
-      (λ i. record (map_of {V = V} (record s { held = [] }) b) { cursor = cursor_at {B = K} (kept.nodes.ended none i) b.unvisited (no_entry i) [] })
-      ∙ ap (λ (y : LinkedMap K V S). record y { pairs = []; cursor = record y.cursor { bookmark = 0; current = nowhere } }) seen
-
-  pub rest_drained : (d : Drain K V) (ts : List (ℕ × (K × V))) → drain_rest d ≡ map (λ t. t.1) ts → ts ≡ triples s.held → drain_rest d ≡ m.pairs
-  rest_drained d ts rest e = rest ∙ ap (map (λ t. t.1)) e ∙ pairs-triples s.held ∙ ap (λ (y : LinkedMap K V S). y.pairs) seen
+-- what is left of a `Drain` that was made of a table
+pub rest_drained : {K V : Type 0} (d : Drain K V) {ts : List (ℕ × (K × V))} {hs : List (Held (K × V))} → drain_rest d ≡ map (λ t. t.1) ts → ts ≡ triples hs → drain_rest d ≡ pairs_of hs
+rest_drained d {hs = hs} rest e = rest ∙ ap (map (λ t. t.1)) e ∙ pairs-triples hs

@@ -62,12 +62,12 @@ module _ {K : Type 0} {eq : K → K → Bool} {hash : K → ℕ} {us : List (Hel
           by_count (suc m) e r = omega (arith, r)
 
   pub AreKept-push : IsEquivalence eq → (u : Held K) → u.number ≡ hash u.pair → list_any (eq u.pair) (map (λ t. t.pair) us) ≡ false → length us < capacity → AreKept eq hash (us ++ u ∷ []) capacity mark n current
-  AreKept-push laws u numbered absent room =
+  AreKept-push laws u hashed absent room =
       let long = length-append us (u ∷ []) in
       let mark_stands = bookmark_at-append (u ∷ []) in
       record {
         distinct = subst (IsDistinct eq) (sym (map-append (λ (t : Held K). t.pair) us (u ∷ []))) (IsDistinct-push laws (map (λ t. t.pair) us) u.pair k.distinct absent);
-        hashed = all_both (λ (t : Held K). t.number ≡ hash t.pair) us (u ∷ []) k.hashed (numbered, tt);
+        hashed = all_both (λ (t : Held K). t.number ≡ hash t.pair) us (u ∷ []) k.hashed (hashed, tt);
         within = omega (arith, long, room);
         limit = k.limit;
         marked = k.marked;
@@ -77,12 +77,12 @@ module _ {K : Type 0} {eq : K → K → Bool} {hash : K → ℕ} {us : List (Hel
       }
 
 -- a pair was put at the back
-module _ {K V : Type 0} (s t : TableState (K × V)) (p : Ptr) (number : ℕ) (key : K) (value : V) (last : t.held ≡ s.held ++ held p number None (pair key value) ∷ []) where
+module _ {K V : Type 0} (s t : TableState (K × V)) (p : Ptr) (hash : ℕ) (key : K) (value : V) (last : t.held ≡ s.held ++ held p hash None (pair key value) ∷ []) where
   pub pairs_of-push : pairs_of t.held ≡ pairs_of s.held ++ (key, value) ∷ []
-  pairs_of-push = ap pairs_of last ∙ pairs_of-append s.held (held p number None (pair key value) ∷ [])
+  pairs_of-push = ap pairs_of last ∙ pairs_of-append s.held (held p hash None (pair key value) ∷ [])
 
-  bare-push : bare t.held ≡ bare s.held ++ held p number None key ∷ []
-  bare-push = ap bare last ∙ map-append (bare_node {K = K} {V = V}) s.held (held p number None (pair key value) ∷ [])
+  bare-push : bare t.held ≡ bare s.held ++ held p hash None key ∷ []
+  bare-push = ap bare last ∙ map-append (bare_node {K = K} {V = V}) s.held (held p hash None (pair key value) ∷ [])
 
 module _ {K V : Type 0} {eq : K → K → Bool} {hash : K → ℕ} where
   -- nothing is held
@@ -103,12 +103,12 @@ module _ {K V : Type 0} {eq : K → K → Bool} {hash : K → ℕ} where
         IsKept-room same (omega (arith, room)) (omega (arith, room, of_bare, kept.nodes.within, kept.nodes.limit))
     IsKept-fitted {t = t} (Err _) same _ unchanged = subst (λ u. IsKept eq hash u mark n current) (sym unchanged) kept
 
-    module _ (p : Ptr) (number : ℕ) (key : K) (value : V) (t : TableState (K × V)) (last : t.held ≡ s.held ++ held p number None (pair key value) ∷ []) where
-      bare_is : bare t.held ≡ bare s.held ++ held p number None key ∷ []
-      bare_is = bare-push s t p number key value last
+    module _ (p : Ptr) (hash_key : ℕ) (key : K) (value : V) (t : TableState (K × V)) (last : t.held ≡ s.held ++ held p hash_key None (pair key value) ∷ []) where
+      bare_is : bare t.held ≡ bare s.held ++ held p hash_key None key ∷ []
+      bare_is = bare-push s t p hash_key key value last
 
       pub bookmark_at-push : bookmark_at mark (bare t.held) ≡ bookmark_at mark (bare s.held)
-      bookmark_at-push = ap (bookmark_at mark) bare_is ∙ bookmark_at-append kept.nodes (held p number None key ∷ [])
+      bookmark_at-push = ap (bookmark_at mark) bare_is ∙ bookmark_at-append kept.nodes (held p hash_key None key ∷ [])
 
       -- what is still to be visited ends before it
       pub to_visit-push : take n (drop (bookmark_at mark (bare t.held)) (keys_of (pairs_of t.held))) ≡ take n (drop (bookmark_at mark (bare s.held)) (keys_of (pairs_of s.held)))
@@ -117,18 +117,18 @@ module _ {K V : Type 0} {eq : K → K → Bool} {hash : K → ℕ} where
           let long = length-map (bare s.held) (λ u. u.pair) in
           ap (λ ks. take n (drop (bookmark_at mark (bare t.held)) ks)) (sym (keys-bare t.held))
           ∙ (λ i. take n (drop (bookmark_at-push i) (keys (bare_is i))))
-          ∙ ap (λ ks. take n (drop (bookmark_at mark (bare s.held)) ks)) (map-append (λ (u : Held K). u.pair) (bare s.held) (held p number None key ∷ []))
+          ∙ ap (λ ks. take n (drop (bookmark_at mark (bare s.held)) ks)) (map-append (λ (u : Held K). u.pair) (bare s.held) (held p hash_key None key ∷ []))
           ∙ stretch-front (keys (bare s.held)) (key ∷ []) (bookmark_at mark (bare s.held)) n (omega (arith, long, kept.nodes.in_reach))
           ∙ ap (λ ks. take n (drop (bookmark_at mark (bare s.held)) ks)) (keys-bare s.held)
 
       pub current_at-push : current_at current (bare t.held) ≡ current_at current (bare s.held)
-      current_at-push = ap (current_at current) bare_is ∙ current_at-append current (bare s.held) (held p number None key ∷ []) kept.nodes.current_lies
+      current_at-push = ap (current_at current) bare_is ∙ current_at-append current (bare s.held) (held p hash_key None key ∷ []) kept.nodes.current_lies
 
-      pub IsKept-push : IsEquivalence eq → number ≡ hash key → find eq (pairs_of s.held) key ≡ None → length s.held < s.capacity → t.capacity ≡ s.capacity → IsKept eq hash t mark n current
-      IsKept-push laws numbered absent room capacity =
+      pub IsKept-push : IsEquivalence eq → hash_key ≡ hash key → find eq (pairs_of s.held) key ≡ None → length s.held < s.capacity → t.capacity ≡ s.capacity → IsKept eq hash t mark n current
+      IsKept-push laws hashed absent room capacity =
           let of_bare = length-bare s.held in
           let none : list_any (eq key) (map (λ u. u.pair) (bare s.held)) ≡ false = ap (list_any (eq key)) (keys-bare s.held) ∙ list_any-none (eq key) (pairs_of s.held) absent in
-          let grown : AreKept eq hash (bare s.held ++ held p number None key ∷ []) s.capacity mark n current = AreKept-push kept.nodes laws (held p number None key) numbered none (omega (arith, of_bare, room)) in
+          let grown : AreKept eq hash (bare s.held ++ held p hash_key None key ∷ []) s.capacity mark n current = AreKept-push kept.nodes laws (held p hash_key None key) hashed none (omega (arith, of_bare, room)) in
           record {
-            nodes = subst (λ us. AreKept eq hash us t.capacity mark n current) (sym bare_is) (subst (λ m. AreKept eq hash (bare s.held ++ held p number None key ∷ []) m mark n current) (sym capacity) grown);
+            nodes = subst (λ us. AreKept eq hash us t.capacity mark n current) (sym bare_is) (subst (λ m. AreKept eq hash (bare s.held ++ held p hash_key None key ∷ []) m mark n current) (sym capacity) grown);
           }

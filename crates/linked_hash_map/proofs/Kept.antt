@@ -145,10 +145,10 @@ module _ {K V : Type 0} {hs : List (Held (K × V))} {p : Ptr} (held : IsHeld hs 
       ∙ sym (ap (λ ps. set_value_at ps (length (pairs_of front)) w) pairs_cut ∙ set_value_at-cut (pairs_of front) node.pair (pairs_of back) w))
 
 -- a node with a key that was looked for
-pub index_of-key : {K V : Type 0} {eq : K → K → Bool} {number : ℕ} {k : K} {hs : List (Held (K × V))} {p : Ptr} (h : HasKey eq number k hs p) → IsIndex eq (pairs_of hs) k (length (front h.held))
+pub index_of-key : {K V : Type 0} {eq : K → K → Bool} {hash : ℕ} {k : K} {hs : List (Held (K × V))} {p : Ptr} (h : HasKey eq hash k hs p) → IsIndex eq (pairs_of hs) k (length (front h.held))
 index_of-key h = let held = h.held in record { pair = (node held).pair; there = pair_there held; same = h.key_is (front held) (node held) (back held) held.3 held.4 }
 
--- a key that no node of its number has is absent
+-- a key that no node of its hash has is absent
 module _ {K V : Type 0} (eq : K → K → Bool) (hash : K → ℕ) (respects : (x y : K) → IsTrue (eq x y) → hash x ≡ hash y) (k : K) (n : ℕ) (its : n ≡ hash k) where
   one_differs : (t : Held (K × V)) → t.number ≡ hash t.pair.0 → false ≡ (eqb t.number n && eq k t.pair.0) → (b : Bool) → eq k t.pair.0 ≡ b → eq k t.pair.0 ≡ false
   one_differs t h none false is = is

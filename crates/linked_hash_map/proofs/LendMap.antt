@@ -38,11 +38,11 @@ use Rattle.linked_hash_map.specs.Pairs.{set_values}
 use Rattle.linked_hash_map.specs.Validity.{IsValid}
 use Rattle.linked_hash_map.specs.contracts.map.LinkedHashMap as M-type
 use Rattle.linked_hash_map.specs.contracts.map.Mode as O-type
-use Rattle.linked_hash_map.specs.contracts.map.visit.Visit as V-type
+use Rattle.linked_hash_map.specs.contracts.map.cursor.Visit as V-type
 use Rattle.linked_hash_map.specs.contracts.map.LinkedHashMap.TheInside as I-type
 use Rattle.linked_hash_map.proofs.Kept.{IsValid-view, map_of-revalued, bare-values, pairs_of-of-entries}
 use Rattle.linked_hash_map.proofs.map.Mode.TheLaws as O-laws
-use Rattle.linked_hash_map.proofs.map.visit.Visit.TheLaws as V-laws
+use Rattle.linked_hash_map.proofs.map.cursor.Visit.TheLaws as V-laws
 
 -- the pairs of nodes, and their values
 module _ {K V : Type 0} where

@@ -20,7 +20,7 @@ use Rattle.linked_hash_map.proofs.Kept.{CutAt, cut_before, length-pairs_of, pair
 use Rattle.linked_hash_map.proofs.Current.{key_lies, key_index, found_lies, IsKept-visited, IsKept-with_value}
 use Rattle.linked_hash_map.proofs.MovedNode.{pairs-moved, length-to_back, before-at_back, AreKept-moved}
 
-module _ {K V : Type 0} {eq : K → K → Bool} (laws : IsEquivalence eq) {number : ℕ} {k : K} {hs : List (Held (K × V))} {p : Ptr} (has : HasKey eq number k hs p) (distinct : IsDistinct eq (keys_of (pairs_of hs))) where
+module _ {K V : Type 0} {eq : K → K → Bool} (laws : IsEquivalence eq) {hash : ℕ} {k : K} {hs : List (Held (K × V))} {p : Ptr} (has : HasKey eq hash k hs p) (distinct : IsDistinct eq (keys_of (pairs_of hs))) where
   index : IsIndex eq (pairs_of hs) k (before p hs)
   index = key_index has
 
@@ -74,7 +74,7 @@ module _ {K V : Type 0} {eq : K → K → Bool} {hash : K → ℕ} {s : TableSta
   pub IsKept-kept : (p : Ptr) (w : V) → IsKept eq hash (with_value s p w) None 0 None
   IsKept-kept p w = IsKept-with_value (IsKept-visited kept None tt) p w
 
-  pub IsKept-refreshed : IsEquivalence eq → {number : ℕ} {k : K} {p : Ptr} → HasKey eq number k s.held p → {t : TableState (K × V)} → AtHeld s.held p (λ xs x ys. t.held ≡ (xs ++ ys) ++ x ∷ []) → t.capacity ≡ s.capacity → IsKept eq hash t None 0 None
+  pub IsKept-refreshed : IsEquivalence eq → {hash_k : ℕ} {k : K} {p : Ptr} → HasKey eq hash_k k s.held p → {t : TableState (K × V)} → AtHeld s.held p (λ xs x ys. t.held ≡ (xs ++ ys) ++ x ∷ []) → t.capacity ≡ s.capacity → IsKept eq hash t None 0 None
   IsKept-refreshed laws {p = p} has {t} last capacity =
       let visited = IsKept-visited kept (Some p) (found_lies has) in
       let nodes : AreKept eq hash (bare t.held) t.capacity None 0 (Some p) =
@@ -82,5 +82,5 @@ module _ {K V : Type 0} {eq : K → K → Bool} {hash : K → ℕ} {s : TableSta
       let moved : IsKept eq hash t None 0 (Some p) = record { nodes = nodes } in
       IsKept-visited moved None tt
 
-  pub IsKept-touched : IsEquivalence eq → {number : ℕ} {k : K} {p : Ptr} → HasKey eq number k s.held p → {t : TableState (K × V)} → AtHeld s.held p (λ xs x ys. t.held ≡ (xs ++ ys) ++ x ∷ []) → t.capacity ≡ s.capacity → (w : V) → IsKept eq hash (with_value t p w) None 0 None
+  pub IsKept-touched : IsEquivalence eq → {hash_k : ℕ} {k : K} {p : Ptr} → HasKey eq hash_k k s.held p → {t : TableState (K × V)} → AtHeld s.held p (λ xs x ys. t.held ≡ (xs ++ ys) ++ x ∷ []) → t.capacity ≡ s.capacity → (w : V) → IsKept eq hash (with_value t p w) None 0 None
   IsKept-touched laws {p = p} has last capacity w = IsKept-with_value (IsKept-refreshed laws has last capacity) p w

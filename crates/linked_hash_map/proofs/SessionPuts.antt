@@ -16,7 +16,7 @@ use Rattle.linked_hash_map.proofs.SessionLists.{total_weight-append, total_weigh
 use Rattle.linked_hash_map.proofs.SessionPairs.{sessions_of-without, length-sessions_of, is_some-session_of}
 
 module _ {T : Type 0} where
-  -- once the session of the id is out and the oldest ones went, those that fit are left
+  -- once the session of the id is out and the front ones went, those that fit are left
   pub sessions_of-left : (ps : List (ℕ × Held T)) (count room id : ℕ) {taken left : List (ℕ × Held T)} → taken ≡ pairs.without nat_eq ps id → left ≡ drop count taken
       → drop count (without (sessions_of ps) id) ≡ fit room (without (sessions_of ps) id) → sessions_of left ≡ fit room (without (sessions_of ps) id)
   sessions_of-left ps count room id {taken} out oldest fits =

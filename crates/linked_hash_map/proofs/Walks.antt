@@ -1,4 +1,4 @@
--- Steps and runs of the walks.
+-- Steps and runs of the iterators.
 use Rattle.std.proofs.Common.{◌≡◌, ◌<◌, List, [], ◌∷◌, ◌++◌, length, Option, Some, None, refl, ap, ◌∙◌, arith, length-append}
 use Rattle.std.specs.Iterator.{MakesProgress, at_most}
 use Rattle.std.specs.Map.{values_of}
@@ -7,7 +7,7 @@ use Rattle.std.proofs.lemmas.List.{map-append}
 use Rattle.std.proofs.iter.runs.Sources.{from_front, from_back, as_is, as_is_back}
 use Rattle.linked_hash_map.specs.Pairs.{KeysStand}
 
--- a walk that is seen as the list of what it has left
+-- an iterator that is seen as the list of what it has left
 module _ {A X : Type 0} (shows : A → X) where
   pub shows_in_order : ShowsInOrder shows
   shows_in_order = from_front (TakesFirst shows) shows (λ s. s) (λ s t h. ap length h.0) (λ s x t h. h)
@@ -22,7 +22,7 @@ module _ {X : Type 0} where
   pub gives_in_reverse : GivesInReverse X
   gives_in_reverse p s = as_is_back p p.from (shows_in_reverse (λ x. x) p s)
 
--- a walk that lends the values of what it has left
+-- an iterator that lends the values of what it has left
 module _ {S K X : Type 0} (rest : S → List (K × X)) where
   pub lends_in_order : LendsValuesInOrder rest
   lends_in_order = from_front (LendsFirst rest) (λ x. x.1.now) (λ s. values_of (rest s)) (λ s t h. ap (λ l. length (values_of l)) h.0) (λ s x t h. ap values_of h)

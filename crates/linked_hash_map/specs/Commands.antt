@@ -52,7 +52,7 @@ module _ {K V : Type 0} (eq : K → K → Bool) where
   to_back_if_some pairs k None = pairs
   to_back_if_some pairs k (Some v) = to_back eq pairs k v
 
-  -- what a command answers on these pairs
+  -- what a command returns on these pairs
   abbrev pub answer_to : List (K × V) → Command K V → Answer K V
   answer_to pairs (Insert k v) = old_or New (value_at eq pairs k)
   answer_to pairs (Write k v) = old_or (Absent k v) (value_at eq pairs k)

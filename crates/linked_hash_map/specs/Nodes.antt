@@ -9,7 +9,7 @@ use Rattle.lhm_ring.specs.Tables.{TableState}
 use Rattle.linked_hash_map.specs.LinkedMap.{LinkedMap, CursorState, linked_map, cursor_state, nowhere}
 use Rattle.linked_hash_map.specs.declared.map.Mode.{Mode}
 use Rattle.linked_hash_map.specs.declared.map.TheConstants.{LIMIT}
-use Rattle.linked_hash_map.specs.declared.map.visit.Visit.{Visit}
+use Rattle.linked_hash_map.specs.declared.map.cursor.Visit.{Visit}
 
 module _ {B : Type 0} where
   -- how many nodes come before the one at p: all, where none lies there

@@ -38,11 +38,11 @@ module _ {T : Type 0} where
   abbrev pub weight_of : List (Session T) → ℕ → ℕ
   weight_of sessions id = unwrap_or (option_map (λ session. session.1) (session_of sessions id)) 0
 
-  -- the sessions but for that with the id
+  -- the sessions except that with the id
   abbrev pub without : List (Session T) → ℕ → List (Session T)
   without sessions id = filter (λ session. not (id == session.0)) sessions
 
-  -- the sessions but for that with the id, and then one with it, this weight and this payload
+  -- the sessions except that with the id, and then one with it, this weight and this payload
   abbrev pub with_last : List (Session T) → ℕ → ℕ → T → List (Session T)
   with_last sessions id weight payload = without sessions id ++ (id, weight, payload) ∷ []
 

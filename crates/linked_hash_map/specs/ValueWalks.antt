@@ -1,4 +1,4 @@
--- What a contract sees of a walk that lends the values for writing.
+-- What a contract sees of an iterator that lends the values.
 use Rattle.std.specs.Prelude.{List}
 use Rattle.std.specs.Borrow.{GName}
 use Rattle.linked_hash_map.specs.Nodes.{pairs_of}

@@ -6,13 +6,12 @@ use crate::map::LinkedHashMap;
 use std::alloc::AllocError;
 use std::hash::{BuildHasher, Hash};
 
-/// Clones the hasher and the pairs, inserted in order. The clone has the same mode, and its
-/// capacity is its source's length.
+/// Clones the hasher and the pairs, in order, in O(n) on average. The clone has the same mode, and
+/// its capacity is its source's length.
 ///
 /// If clones of two keys are equal, the later replaces the earlier. Returns an error if an
-/// allocation fails, or the clone of a key, a value or the hasher; an empty map is refused only if
-/// the clone of its hasher is. It allocates for the pairs, besides their own clones, and each costs
-/// an `insert`.
+/// allocation or the clone of the hasher, a key or a value fails. Without pairs only the clone of
+/// the hasher can allocate or fail.
 ///
 /// # Examples
 ///

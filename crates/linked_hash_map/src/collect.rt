@@ -1,4 +1,4 @@
-//! Maps that are filled from an iterator.
+//! Maps filled from an iterator.
 ghost use Rattle.std.specs.Prelude.{◌≡◌, ◌-◌, max, length, None, IfOk, IfErr, OnErr, OnOk, IsErrOf};
 ghost use Rattle.std.specs.Iterator.{IsFiniteIterable};
 ghost use Rattle.std.specs.Map.Iter.{deref_pair};
@@ -13,10 +13,10 @@ use std::alloc::Global;
 use std::hash::{BuildHasher, Hash};
 
 impl<K: Eq + Hash, V, S: BuildHasher> LinkedHashMap<K, V, S> {
-    /// Inserts the items one by one, as `insert` does, up to the first that is refused.
+    /// Inserts the items one by one, as `insert` does, until one is refused.
     ///
-    /// The error has that key and that value; the pairs before it stay, and no later item is taken.
-    /// Each item costs and allocates what `insert` does.
+    /// The error has the key and the value of that item; the pairs before it stay, and no later
+    /// item is taken.
     ///
     /// # Examples
     ///
@@ -56,8 +56,7 @@ impl<K: Eq + Hash, V, S: BuildHasher> LinkedHashMap<K, V, S> {
         Ok(())
     }
 
-    /// Inserts copies of the referenced pairs one by one, as `extend` does. The error has copies of
-    /// the refused key and value.
+    /// Inserts copies of the referenced pairs, as `extend` does. The error has copies too.
     ///
     /// # Examples
     ///
@@ -99,13 +98,13 @@ impl<K: Eq + Hash, V, S: BuildHasher> LinkedHashMap<K, V, S> {
         Ok(())
     }
 
-    /// Creates a map with the default hasher of its type and inserts the items one by one.
+    /// Creates a map with the default hasher of its type and inserts the items, each at the cost of
+    /// `insert`.
     ///
-    /// The capacity is the larger of the lower bound of the iterator's `size_hint` and the number
+    /// Its capacity is the larger of the lower bound of the iterator's `size_hint` and the number
     /// of pairs. Returns `TooLarge` exactly if that bound is above [`LIMIT`](crate::LIMIT), before
     /// an item is taken, and `NoRoom` if an allocation fails or an insertion is refused; all items
-    /// taken are then dropped. It does not allocate if the bound is 0 and no item comes. Each item
-    /// costs an `insert`. The original takes no allocator.
+    /// taken are then dropped. It does not allocate if the bound is 0 and no item comes.
     ///
     /// # Examples
     ///

@@ -1,4 +1,4 @@
-//! Equality, order, hash and debug text of maps, which are those of their pairs in order.
+//! Equality, order, hash and debug text of maps: those of their pairs in order.
 ghost use Rattle.std.specs.Prelude.{◌≡◌, drop};
 ghost use Rattle.std.specs.List.{flat_map};
 ghost use Rattle.std.specs.Cmp.Lexicographic.{pointwise, lists_equiv, lists_agrees, lists_total, lists_ties, lists_per, lists_po};
@@ -13,8 +13,8 @@ use std::cmp::Ordering;
 use std::fmt;
 use std::hash::{BuildHasher, Hash, Hasher};
 
-/// Two maps are equal if they have equal pairs in the same order. Hashers and capacities are not
-/// compared. It is O(n) and does not allocate.
+/// Maps are equal if their pairs are, in order. Hashers, modes and capacities are not compared. It
+/// is O(n) and does not allocate.
 ///
 /// # Examples
 ///
@@ -51,13 +51,13 @@ impl<K: Eq + Hash, V: PartialEq, S: BuildHasher> PartialEq for LinkedHashMap<K, 
     }
 }
 
-/// The equality of maps is an equivalence if that of the values is. `PartialEq` has an example.
+/// Equality of maps is an equivalence if that of the values is.
 impl<K: Eq + Hash, V: Eq, S: BuildHasher> Eq for LinkedHashMap<K, V, S> {
     ghost laws = { on_equiv (λ m. m.pairs) (lists_equiv (and_equiv (on_equiv (λ pair. pair.0) K.Eq.laws) (on_equiv (λ pair. pair.1) V.Eq.laws))) };
 }
 
-/// Maps compare as their pairs do, lexicographically, key before value. There is no order if the
-/// first keys or values that differ have none. It is O(n) and does not allocate.
+/// Compares the pairs lexicographically, key before value, in O(n) without allocating. There is no
+/// order if the first keys or values that differ have none.
 ///
 /// # Examples
 ///
@@ -96,8 +96,7 @@ impl<K: Eq + Hash + PartialOrd, V: PartialOrd, S: BuildHasher> PartialOrd
     }
 }
 
-/// Maps compare as their pairs do, lexicographically, key before value. It is O(n) and does not
-/// allocate.
+/// Compares the pairs lexicographically, key before value, in O(n) without allocating.
 ///
 /// # Examples
 ///
@@ -143,8 +142,8 @@ impl<K: Ord + Hash, V: Ord, S: BuildHasher> Ord for LinkedHashMap<K, V, S> {
     }
 }
 
-/// A map feeds a hasher each pair in order, key then value, and no length, so equal maps hash
-/// alike. It is O(n) and does not allocate.
+/// Feeds a hasher each pair in order, key then value, and no length, in O(n) without allocating.
+/// Equal maps hash alike.
 ///
 /// # Examples
 ///
@@ -171,8 +170,7 @@ impl<K: Eq + Hash, V: Hash, S: BuildHasher> Hash for LinkedHashMap<K, V, S> {
     }
 }
 
-/// The debug text is that of the maps of std, with the pairs in order. It is O(n), and the map
-/// itself does not allocate.
+/// Formats the pairs in order, as std formats maps, in O(n). The map itself does not allocate.
 ///
 /// # Examples
 ///

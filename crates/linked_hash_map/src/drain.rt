@@ -6,11 +6,10 @@ ghost use Rattle.std.specs.Iterator.SizeHint.{IsWithinCount};
 use lhm_ring::table;
 use std::iter::FusedIterator;
 
-/// A double-ended iterator over the pairs removed by `drain`, which returns it.
+/// A fused double-ended iterator over the pairs removed by `drain`, which returns it.
 ///
-/// The map is empty and keeps its capacity from that call on. Dropping the iterator drops the pairs
-/// left, in O(n); forgetting it leaks them, and nothing else. Its calls are O(1) and do not
-/// allocate.
+/// Its methods are O(1) and do not allocate. Dropping it drops the pairs left, in O(n); forgetting
+/// it leaks them, and nothing else.
 ///
 /// # Examples
 ///
@@ -76,7 +75,6 @@ impl<'a, K: Drop, V: Drop> Iterator for Drain<'a, K, V> {
     }
 }
 
-/// `next_back` yields the back pair left.
 impl<'a, K: Drop, V: Drop> DoubleEndedIterator for Drain<'a, K, V> {
     ghost use Rattle.linked_hash_map.specs.Drains.{DrainStepsBack};
 
@@ -90,12 +88,10 @@ impl<'a, K: Drop, V: Drop> DoubleEndedIterator for Drain<'a, K, V> {
     }
 }
 
-/// `len` is the number of pairs left.
 impl<'a, K: Drop, V: Drop> ExactSizeIterator for Drain<'a, K, V> {
     fn len(&self) -> usize {
         self.nodes.len()
     }
 }
 
-/// Once no pair is left, `next` and `next_back` return `None` for good.
 impl<'a, K: Drop, V: Drop> FusedIterator for Drain<'a, K, V> {}

@@ -1,5 +1,4 @@
-//! The entry of a key: its pair, or the key alone, whose pair would go to the back. It reads,
-//! changes, inserts or removes the pair without a second lookup.
+//! Entries: the pair of a present key, or an absent key, without a second lookup.
 ghost use Rattle.std.specs.Prelude.{◌≡◌, ◌<◌, None, length};
 ghost use Rattle.linked_hash_map.specs.Pairs.{find};
 ghost use Rattle.linked_hash_map.specs.Cursor.{IsOutside, IsOutside-prop};
@@ -14,8 +13,7 @@ use crate::map::{DefaultHashBuilder, LinkedHashMap};
 pub use cursor::Entries;
 use std::hash::{BuildHasher, Hash};
 
-/// The entry of a key, returned by `entry`. Dropping it leaves the pairs and their order as they
-/// are.
+/// The entry of a key, returned by `entry`. Dropping it leaves the pairs in their order.
 ///
 /// # Examples
 ///
@@ -38,7 +36,7 @@ pub enum Entry<'a, K: Eq + Hash, V, S: BuildHasher = DefaultHashBuilder> {
     Vacant(VacantEntry<'a, K, V, S>),
 }
 
-/// The entry of a present key. None of its calls allocates or ends the visit of a cursor.
+/// The entry of a present key. Its methods neither allocate nor end the visit of a cursor.
 ///
 /// # Examples
 ///
@@ -80,9 +78,9 @@ pub struct OccupiedEntry<'a, K: Eq + Hash, V, S: BuildHasher = DefaultHashBuilde
 pub struct VacantEntry<'a, K: Eq + Hash, V, S: BuildHasher = DefaultHashBuilder> {
     map: &'a mut LinkedHashMap<K, V, S>,
     key: K,
-    number: u64,
+    hash: u64,
     ghost absent: { find K.eq map.now.pairs key ≡ None },
-    ghost hashed: { number ≡ hash_by S.Hasher.finish S.Hasher.write S.build_hasher K.hash_input map.now.hasher key },
+    ghost hashed: { hash ≡ hash_by S.Hasher.finish S.Hasher.write S.build_hasher K.hash_input map.now.hasher key },
 }
 
 // By hand, so that callers know what an unused entry leaves.
@@ -95,7 +93,7 @@ impl<'a, K: Eq + Hash + Drop, V, S: BuildHasher> Drop for VacantEntry<'a, K, V, 
         let VacantEntry {
             map: _,
             key: _,
-            number: _,
+            hash: _,
         } = self;
     }
 }

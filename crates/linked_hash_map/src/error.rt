@@ -1,6 +1,6 @@
 //! The errors of calls that allocate.
 
-/// The error of a refused insertion: the key and the value. The map is unchanged.
+/// The error of a refused insertion: its key and value. The map is unchanged.
 ///
 /// # Examples
 ///
@@ -13,9 +13,9 @@
 /// ```
 #[derive(Debug, PartialEq, Drop)]
 pub struct Refused<K, V> {
-    /// The key that was given.
+    /// The given key.
     pub key: K,
-    /// The value that was given, or that was made for the key.
+    /// The given value, or the one made for the key.
     pub value: V,
 }
 
@@ -39,7 +39,7 @@ pub enum ReserveError {
     NoRoom = 2,
 }
 
-/// The error of `shrink_to_fit`, which may need a smaller block: an allocation failed.
+/// The error of `shrink_to_fit`: an allocation failed.
 ///
 /// # Examples
 ///

@@ -1,7 +1,7 @@
 //! The double-ended iterators over a map.
 //!
 //! A contract sees an iterator as the list of items left: `next` and `next_back`, in any mixture,
-//! yield each once and then return `None` for good.
+//! yield each once and then return `None` for good. Size hints are exact.
 ghost use Rattle.std.specs.Prelude.{◌≡◌, Some, IfSome, length, ⊤};
 ghost use Rattle.std.specs.Iterator.{at_most, UpTo};
 ghost use Rattle.std.specs.Iterator.SizeHint.{IsWithinCount};
@@ -25,8 +25,8 @@ pub use iter_mut::IterMut;
 pub use keys::Keys;
 pub use values::Values;
 
-/// A double-ended iterator over the pairs of a map, returned by `iter` or a loop over `&map`. Its
-/// calls are O(1) and do not allocate. A clone has the same pairs left.
+/// A fused double-ended iterator over the pairs of a map, returned by `iter` or a loop over `&map`.
+/// Its methods are O(1) and do not allocate.
 ///
 /// # Examples
 ///
@@ -45,7 +45,6 @@ pub struct Iter<'a, K, V> {
     nodes: table::Iter<'a, K, V>,
 }
 
-/// A contract sees the pairs that are left, in their order.
 impl<'a, K, V> Model for Iter<'a, K, V> {
     ghost use Rattle.std.specs.Prelude.{List};
     ghost use Rattle.linked_hash_map.specs.Nodes.{pairs_of};
@@ -68,7 +67,6 @@ impl<'a, K, V> Iter<'a, K, V> {
     }
 }
 
-/// `next` yields the front pair left; the size hint is exact.
 impl<'a, K, V> Iterator for Iter<'a, K, V> {
     type Item = (&'a K, &'a V);
 
@@ -93,7 +91,6 @@ impl<'a, K, V> Iterator for Iter<'a, K, V> {
     }
 }
 
-/// `next_back` yields the back pair left.
 impl<'a, K, V> DoubleEndedIterator for Iter<'a, K, V> {
     ghost next_back_gives = { TakesLast deref_pair };
 
@@ -105,14 +102,12 @@ impl<'a, K, V> DoubleEndedIterator for Iter<'a, K, V> {
     }
 }
 
-/// `len` is the number of pairs left.
 impl<'a, K, V> ExactSizeIterator for Iter<'a, K, V> {
     fn len(&self) -> usize {
         self.nodes.len()
     }
 }
 
-/// Once no pair is left, `next` and `next_back` return `None` for good.
 impl<'a, K, V> FusedIterator for Iter<'a, K, V> {}
 
 /// A clone has the same pairs left. It does not allocate and never fails.
@@ -128,7 +123,7 @@ impl<'a, K, V> Clone for Iter<'a, K, V> {
     }
 }
 
-/// A loop over `&map`, as over `iter`. It does not allocate.
+/// A loop over `&map`, as over `iter`.
 ///
 /// # Examples
 ///

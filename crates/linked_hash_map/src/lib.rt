@@ -5,8 +5,8 @@
 //! map holds `capacity` pairs without allocating, and only a new key at full capacity can be
 //! refused, with its key and value returned and the map unchanged.
 //!
-//! This is a port of the Rust crate linked-hash-map 0.5.6, "the original" in what follows.
-//! `docs/DIFFERENCES.md` lists where it differs.
+//! This is a port of the Rust crate linked-hash-map 0.5.6, called the original here, from which it
+//! differs as `docs/DIFFERENCES.md` lists.
 //!
 //! # Examples
 //!
@@ -21,13 +21,13 @@
 //! colours.insert(7, "blue")?;
 //! assert_eq!(rt; colours.front(), Some((&5, &"green")));
 //!
-//! // A look-up leaves the order. A refresh moves the pair to the back.
+//! // A lookup leaves the order. A refresh moves the pair to the back.
 //! assert_eq!(rt; colours.get(&5), Some(&"green"));
 //! assert_eq!(rt; colours.back(), Some((&7, &"blue")));
 //! assert_eq!(rt; colours.get_refresh(&5).copied(), Some("green"));
 //! assert_eq!(rt; colours.back(), Some((&5, &"green")));
 //!
-//! // Where memory for a new key is refused, the pair comes back and the map is as it was.
+//! // If an allocation fails, the pair comes back and the map is unchanged.
 //! match colours.insert(8, "grey") {
 //!     Ok(old) => assert_eq!(rt; old, None),
 //!     Err(refused) => assert_eq!(rt; (refused.key, refused.value), (8, "grey")),
@@ -39,9 +39,9 @@
 //!
 //! # What is proved
 //!
-//! Each call is proved to do what its contract says to the list of pairs, also if it is refused.
-//! The contract of [`replay::replay`] says the same of any run of commands. `README.md` lists the
-//! promises, and `docs/CALLING.md` shows how a caller uses them in a proof of its own.
+//! Each call is proved to do what its contract says, also if it is refused. The contract of
+//! [`replay::replay`] covers any run of commands. `docs/CALLING.md` shows how callers use contracts
+//! in proofs.
 #![tactic(auto)]
 
 mod clone;

@@ -1,4 +1,4 @@
-//! The cursor, which returns the entries of a map one after another.
+//! Visits of a map, entry by entry.
 ghost use Rattle.std.specs.Prelude.{◌≡◌, [], ◌∷◌, length, Some, IfSome, IfNone};
 ghost use Rattle.std.specs.Borrow.{sem};
 ghost use Rattle.std.specs.Map.{keys_of};
@@ -15,9 +15,8 @@ use std::hash::{BuildHasher, Hash};
 
 /// A cursor over the entries of a map, front to back, returned by `entries`.
 ///
-/// It visits each pair that the map had at that call once, in that order, whatever its entry does
-/// with it. Dropping it leaves the map as it is. The original's is an iterator, whose entries can
-/// be held side by side.
+/// It visits each pair that the map had at that call once, whatever its entry does with it.
+/// Dropping it leaves the map as it is.
 ///
 /// # Examples
 ///
@@ -68,14 +67,13 @@ impl<K: Eq + Hash, V, S: BuildHasher> LinkedHashMap<K, V, S> {
         Entries { map: self }
     }
 
-    /// Begins a visit of every pair, front to back, and returns the map.
+    /// Begins a visit of every pair, front to back, in O(1) without allocating, and returns the
+    /// map.
     ///
-    /// [`next_entry`](LinkedHashMap::next_entry) returns one entry after another,
-    /// [`unvisited`](LinkedHashMap::unvisited) the number left. A visit ends at a further one, at
-    /// [`entries`](LinkedHashMap::entries), and at each call of the map that may remove or move a
-    /// pair: `insert`, `extend`, `entry`, `remove` and `get_refresh` of a present key, the pops,
-    /// `clear` and `drain`; no other call ends it. Keys that are new meanwhile are not visited. It
-    /// is O(1) and does not allocate.
+    /// [`next_entry`](LinkedHashMap::next_entry) returns the entries one by one. Another visit ends
+    /// it, and so does each call that may remove or move a pair: `insert`, `extend`, `entry`,
+    /// `remove` and `get_refresh` of a present key, the pops, `clear` and `drain`. No other call
+    /// does. New keys are not visited.
     ///
     /// # Examples
     ///
@@ -102,11 +100,9 @@ impl<K: Eq + Hash, V, S: BuildHasher> LinkedHashMap<K, V, S> {
         self
     }
 
-    /// Returns the entry of the next pair to visit, if any: none is left if no visit was begun or a
-    /// call ended it.
-    ///
-    /// A visited pair is not visited again, whatever its entry does with it. It is O(1) and does
-    /// not allocate.
+    /// Returns the entry of the next pair to visit, in O(1) without allocating, or `None` if none
+    /// is left, a call ended the visit or none was begun. No pair is visited twice, whatever its
+    /// entry does with it.
     ///
     /// # Examples
     ///
@@ -140,8 +136,8 @@ impl<K: Eq + Hash, V, S: BuildHasher> LinkedHashMap<K, V, S> {
 }
 
 impl<'a, K: Eq + Hash, V, S: BuildHasher> Entries<'a, K, V, S> {
-    /// Returns the entry of the next pair, lent until the cursor is used again, or `None` if every
-    /// pair has been visited. It is O(1) and does not allocate.
+    /// Returns the entry of the next pair, lent until the cursor is used again, or `None` if
+    /// none is left to visit. It is O(1) and does not allocate.
     ///
     /// # Examples
     ///
@@ -167,7 +163,7 @@ impl<'a, K: Eq + Hash, V, S: BuildHasher> Entries<'a, K, V, S> {
         map.next_entry()
     }
 
-    /// Returns the number of pairs left to visit. It is O(1) and does not allocate.
+    /// Returns the number of pairs left to visit, in O(1) without allocating.
     ///
     /// # Examples
     ///

@@ -15,10 +15,8 @@ use crate::map::{LIMIT, LinkedHashMap};
 use std::hash::{BuildHasher, Hash};
 
 impl<K: Eq + Hash, V, S: BuildHasher> LinkedHashMap<K, V, S> {
-    /// Returns the entry of a key, to read, change, insert or remove its pair.
-    ///
-    /// An occupied entry has the stored key, and `key` is dropped; a vacant one owns `key`. It is
-    /// O(1) on average and does not allocate.
+    /// Returns the entry of a key, in O(1) on average without allocating. An occupied entry has the
+    /// stored key, and `key` is dropped; a vacant one owns `key`.
     ///
     /// # Examples
     ///
@@ -45,21 +43,21 @@ impl<K: Eq + Hash, V, S: BuildHasher> LinkedHashMap<K, V, S> {
         ensures unchanged { entry_value result ≡ None → entry_map result ≡ self.old }
         ensures valid { IsValid K.eq self.old }
     {
-        let number = self.number_of(&key);
-        if self.seek(number, &key) {
+        let hash = self.hash_of(&key);
+        if self.seek(hash, &key) {
             Entry::Occupied(OccupiedEntry { map: self })
         } else {
             Entry::Vacant(VacantEntry {
                 map: self,
                 key,
-                number,
+                hash,
             })
         }
     }
 }
 
 impl<'a, K: Eq + Hash, V, S: BuildHasher> Entry<'a, K, V, S> {
-    /// Returns the key: the stored one of an occupied entry. It is O(1) and does not allocate.
+    /// Returns the key, the stored one if occupied, in O(1) without allocating.
     ///
     /// # Examples
     ///
@@ -77,8 +75,7 @@ impl<'a, K: Eq + Hash, V, S: BuildHasher> Entry<'a, K, V, S> {
         }
     }
 
-    /// Calls `f` on the value of an occupied entry, and leaves a vacant one as it is. Besides the
-    /// call of `f`, it is O(1) and does not allocate.
+    /// Calls `f` on the value if occupied. Except for `f`, it is O(1) and does not allocate.
     ///
     /// # Examples
     ///
@@ -112,12 +109,10 @@ impl<'a, K: Eq + Hash, V, S: BuildHasher> Entry<'a, K, V, S> {
         }
     }
 
-    /// Inserts `value` at the back if vacant, and returns a mutable reference to the value.
+    /// Inserts `value` if vacant, as [`VacantEntry::insert`] does, and returns a mutable reference
+    /// to the value.
     ///
-    /// An occupied entry keeps its place and drops `value`. A vacant one at full capacity raises
-    /// the capacity by exactly one or is refused, always so in a map of [`LIMIT`] pairs: the error
-    /// has the key and this value, and the map is unchanged. Any other entry neither allocates nor
-    /// is refused. It is O(1), or O(n) if the number of buckets changes.
+    /// An occupied entry keeps its place and drops `value`, in O(1) without allocating.
     ///
     /// # Examples
     ///
@@ -146,10 +141,11 @@ impl<'a, K: Eq + Hash, V, S: BuildHasher> Entry<'a, K, V, S> {
         }
     }
 
-    /// Inserts the result of `f` as `or_insert` does, and returns a mutable reference to the value.
+    /// Inserts the result of `f` if vacant, as `or_insert` does, and returns a mutable reference to
+    /// the value.
     ///
-    /// `f` is called once on a vacant entry, before any allocation, and never on an occupied one. A
-    /// refusal has the key and that result. The cost is that of `or_insert` and of `f`.
+    /// `f` is called only if vacant, once, before any allocation. The error has the key and that
+    /// result.
     ///
     /// # Examples
     ///
@@ -178,10 +174,11 @@ impl<'a, K: Eq + Hash, V, S: BuildHasher> Entry<'a, K, V, S> {
         vacant.insert(value)
     }
 
-    /// Inserts the default as `or_insert` does, and returns a mutable reference to the value.
+    /// Inserts the default if vacant, as `or_insert` does, and returns a mutable reference to the
+    /// value.
     ///
-    /// The default is made on a vacant entry alone, before any allocation. A refusal has the key
-    /// and the default. The cost is that of `or_insert` and of the default.
+    /// The default is made only if vacant, before any allocation. The error has the key and the
+    /// default.
     ///
     /// # Examples
     ///

@@ -11,7 +11,7 @@ use super::OccupiedEntry;
 use std::hash::{BuildHasher, Hash};
 
 impl<'a, K: Eq + Hash, V, S: BuildHasher> OccupiedEntry<'a, K, V, S> {
-    /// Returns a reference to the stored key. It is O(1) and does not allocate.
+    /// Returns a reference to the stored key, in O(1) without allocating.
     ///
     /// # Examples
     ///
@@ -31,7 +31,7 @@ impl<'a, K: Eq + Hash, V, S: BuildHasher> OccupiedEntry<'a, K, V, S> {
         self.map.current_pair().0
     }
 
-    /// Returns a reference to the value. It is O(1) and does not allocate.
+    /// Returns a reference to the value, in O(1) without allocating.
     ///
     /// # Examples
     ///
@@ -51,7 +51,7 @@ impl<'a, K: Eq + Hash, V, S: BuildHasher> OccupiedEntry<'a, K, V, S> {
         self.map.current_pair().1
     }
 
-    /// Returns a mutable reference to the value. It is O(1) and does not allocate.
+    /// Returns a mutable reference to the value, in O(1) without allocating.
     ///
     /// # Examples
     ///
@@ -80,8 +80,8 @@ impl<'a, K: Eq + Hash, V, S: BuildHasher> OccupiedEntry<'a, K, V, S> {
         self.map.current_value_mut()
     }
 
-    /// Returns a mutable reference to the value for as long as the map is borrowed. It is O(1) and
-    /// does not allocate.
+    /// Returns a mutable reference to the value that lives as long as the borrow of the map, in
+    /// O(1) without allocating.
     ///
     /// # Examples
     ///
@@ -107,11 +107,8 @@ impl<'a, K: Eq + Hash, V, S: BuildHasher> OccupiedEntry<'a, K, V, S> {
         map.leave_current()
     }
 
-    /// Replaces the value and returns the old one. The pair moves to the back, or in
-    /// [`Mode::Keep`](crate::Mode::Keep) stays in its place, and stays the entry's.
-    ///
-    /// It is O(1) and does not allocate. The original's documentation says only that the value is
-    /// set; its code moves the pair too.
+    /// Replaces the value and returns the old one, in O(1) without allocating. The pair moves to
+    /// the back, or in [`Mode::Keep`](crate::Mode::Keep) stays in its place, and stays the entry's.
     ///
     /// # Examples
     ///
@@ -138,8 +135,8 @@ impl<'a, K: Eq + Hash, V, S: BuildHasher> OccupiedEntry<'a, K, V, S> {
         self.map.insert_current(value)
     }
 
-    /// Removes the pair, drops the stored key and returns the value. The order of the others and
-    /// the capacity stay. It is O(1) on average, compares no key and does not allocate.
+    /// Removes the pair, drops the stored key and returns the value, in O(1) on average. It
+    /// compares no key and does not allocate; the order of the others and the capacity stay.
     ///
     /// # Examples
     ///

@@ -11,7 +11,7 @@ use crate::map::LIMIT;
 use std::hash::{BuildHasher, Hash};
 
 impl<'a, K: Eq + Hash, V, S: BuildHasher> VacantEntry<'a, K, V, S> {
-    /// Returns a reference to the key. It is O(1) and does not allocate.
+    /// Returns a reference to the key, in O(1) without allocating.
     ///
     /// # Examples
     ///
@@ -31,10 +31,9 @@ impl<'a, K: Eq + Hash, V, S: BuildHasher> VacantEntry<'a, K, V, S> {
 
     /// Inserts the key and a value at the back, and returns a mutable reference to the value.
     ///
-    /// At full capacity it raises the capacity by exactly one or is refused, always so in a map of
-    /// [`LIMIT`] pairs: the error has the key and this value, and the map is unchanged. Below
-    /// capacity it neither allocates nor is refused. It is O(1), or O(n) if the number of buckets
-    /// changes.
+    /// Only at full capacity does it allocate: it raises the capacity by one or is refused, always
+    /// so at [`LIMIT`] pairs. The error has the key and this value, and the map is unchanged. It is
+    /// O(1), or O(n) if the number of buckets changes.
     ///
     /// # Examples
     ///
@@ -58,11 +57,11 @@ impl<'a, K: Eq + Hash, V, S: BuildHasher> VacantEntry<'a, K, V, S> {
         ensures full { OnErr result (length (vacant_map self.entry).pairs ≡ (vacant_map self.entry).capacity) }
         ensures valid { IsValid K.eq (vacant_map self.entry) }
     {
-        let VacantEntry { map, key, number } = self;
+        let VacantEntry { map, key, hash } = self;
         if !map.make_room() {
             return Err(Refused { key, value });
         }
-        map.push_back(number, key, value);
+        map.push_back(hash, key, value);
         Ok(map.last_value_mut())
     }
 }

@@ -12,10 +12,11 @@ use std::hash::{BuildHasher, Hash};
 use std::iter::FusedIterator;
 use std::marker::Model;
 
-/// A double-ended iterator that owns the pairs of a map, returned by `into_iter` or a loop over it.
+/// A fused double-ended iterator that owns the pairs of a map, returned by `into_iter` or a loop
+/// over it.
 ///
-/// `next`, `next_back`, `len` and `size_hint` are O(1) and do not allocate. Dropping it drops the
-/// pairs left, in O(n).
+/// Except for `clone`, its methods are O(1) and do not allocate. Dropping it drops the pairs left,
+/// in O(n).
 ///
 /// # Examples
 ///
@@ -34,7 +35,6 @@ pub struct IntoIter<K, V> {
     nodes: table::IntoIter<K, V>,
 }
 
-/// A contract sees the pairs that are left, in their order.
 impl<K, V> Model for IntoIter<K, V> {
     ghost use Rattle.std.specs.Prelude.{List, map};
 
@@ -52,7 +52,6 @@ impl<K, V> IntoIter<K, V> {
     }
 }
 
-/// `next` yields the front pair left; the size hint is exact.
 impl<K: Drop, V: Drop> Iterator for IntoIter<K, V> {
     type Item = (K, V);
 
@@ -77,7 +76,6 @@ impl<K: Drop, V: Drop> Iterator for IntoIter<K, V> {
     }
 }
 
-/// `next_back` yields the back pair left.
 impl<K: Drop, V: Drop> DoubleEndedIterator for IntoIter<K, V> {
     ghost next_back_gives = { TakesLast (λ pair. pair) };
 
@@ -89,20 +87,18 @@ impl<K: Drop, V: Drop> DoubleEndedIterator for IntoIter<K, V> {
     }
 }
 
-/// `len` is the number of pairs left.
 impl<K: Drop, V: Drop> ExactSizeIterator for IntoIter<K, V> {
     fn len(&self) -> usize {
         self.nodes.len()
     }
 }
 
-/// Once no pair is left, `next` and `next_back` return `None` for good.
 impl<K: Drop, V: Drop> FusedIterator for IntoIter<K, V> {}
 
-/// Clones the pairs left, in O(n), in the source's allocator.
+/// Clones the pairs left, in O(n), with the source's allocator.
 ///
-/// Returns an error if an allocation or the clone of a key or a value fails, and drops the clones
-/// made so far. With no pair left it does not allocate and never fails.
+/// Returns an error if an allocation or the clone of a key or a value fails; the clones made so far
+/// are dropped. With no pair left it does not allocate and never fails.
 impl<K: Clone, V: Clone> Clone for IntoIter<K, V> {
     ghost use Rattle.std.specs.Prelude.{[]};
 
@@ -117,7 +113,7 @@ impl<K: Clone, V: Clone> Clone for IntoIter<K, V> {
     }
 }
 
-/// A loop over the map, which drops the hasher. It is O(1) and does not allocate.
+/// A loop over the map, in O(1) without allocating. The hasher is dropped.
 ///
 /// # Examples
 ///

@@ -10,8 +10,8 @@ use lhm_ring::table::LentValues;
 use std::hash::{BuildHasher, Hash};
 use std::iter::FusedIterator;
 
-/// A double-ended iterator over the pairs of a map, with mutable references to the values, returned
-/// by `iter_mut` or a loop over `&mut map`. Its calls are O(1) and do not allocate.
+/// A fused double-ended iterator over the pairs of a map, with mutable references to the values,
+/// returned by `iter_mut` or a loop over `&mut map`. Its methods are O(1) and do not allocate.
 ///
 /// # Examples
 ///
@@ -46,7 +46,6 @@ impl<'a, K, V> IterMut<'a, K, V> {
     }
 }
 
-/// `next` yields the front pair left; the size hint is exact.
 impl<'a, K, V> Iterator for IterMut<'a, K, V> {
     ghost use Rattle.linked_hash_map.specs.ValueWalks.{pairs_left};
 
@@ -73,7 +72,6 @@ impl<'a, K, V> Iterator for IterMut<'a, K, V> {
     }
 }
 
-/// `next_back` yields the back pair left.
 impl<'a, K, V> DoubleEndedIterator for IterMut<'a, K, V> {
     ghost use Rattle.linked_hash_map.specs.ValueWalks.{pairs_left};
 
@@ -87,17 +85,15 @@ impl<'a, K, V> DoubleEndedIterator for IterMut<'a, K, V> {
     }
 }
 
-/// `len` is the number of pairs left.
 impl<'a, K, V> ExactSizeIterator for IterMut<'a, K, V> {
     fn len(&self) -> usize {
         self.nodes.len()
     }
 }
 
-/// Once no pair is left, `next` and `next_back` return `None` for good.
 impl<'a, K, V> FusedIterator for IterMut<'a, K, V> {}
 
-/// A loop over `&mut map`, as over `iter_mut`. It does not allocate.
+/// A loop over `&mut map`, as over `iter_mut`.
 ///
 /// # Examples
 ///

@@ -10,8 +10,8 @@ use std::alloc::AllocError;
 use std::iter::FusedIterator;
 use std::marker::Model;
 
-/// A double-ended iterator over the keys of a map, front to back, returned by `keys`. Its calls are
-/// O(1) and do not allocate. A clone has the same keys left.
+/// A fused double-ended iterator over the keys of a map, returned by `keys`. Its methods are O(1)
+/// and do not allocate.
 ///
 /// # Examples
 ///
@@ -29,7 +29,6 @@ pub struct Keys<'a, K, V> {
     pairs: Iter<'a, K, V>,
 }
 
-/// A contract sees the keys that are left, in their order.
 impl<'a, K, V> Model for Keys<'a, K, V> {
     ghost use Rattle.std.specs.Prelude.{List};
     ghost use Rattle.std.specs.Map.{keys_of};
@@ -48,7 +47,6 @@ impl<'a, K, V> Keys<'a, K, V> {
     }
 }
 
-/// `next` yields the front key left; the size hint is exact.
 impl<'a, K, V> Iterator for Keys<'a, K, V> {
     type Item = &'a K;
 
@@ -70,7 +68,6 @@ impl<'a, K, V> Iterator for Keys<'a, K, V> {
     }
 }
 
-/// `next_back` yields the back key left.
 impl<'a, K, V> DoubleEndedIterator for Keys<'a, K, V> {
     ghost next_back_gives = { TakesLast deref };
 
@@ -80,14 +77,12 @@ impl<'a, K, V> DoubleEndedIterator for Keys<'a, K, V> {
     }
 }
 
-/// `len` is the number of keys left.
 impl<'a, K, V> ExactSizeIterator for Keys<'a, K, V> {
     fn len(&self) -> usize {
         self.pairs.len()
     }
 }
 
-/// Once no key is left, `next` and `next_back` return `None` for good.
 impl<'a, K, V> FusedIterator for Keys<'a, K, V> {}
 
 /// A clone has the same keys left. It does not allocate and never fails.

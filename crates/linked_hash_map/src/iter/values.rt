@@ -10,8 +10,8 @@ use std::alloc::AllocError;
 use std::iter::FusedIterator;
 use std::marker::Model;
 
-/// A double-ended iterator over the values of a map, front to back, returned by `values`. Its calls
-/// are O(1) and do not allocate. A clone has the same values left.
+/// A fused double-ended iterator over the values of a map, returned by `values`. Its methods are
+/// O(1) and do not allocate.
 ///
 /// # Examples
 ///
@@ -29,7 +29,6 @@ pub struct Values<'a, K, V> {
     pairs: Iter<'a, K, V>,
 }
 
-/// A contract sees the values that are left, in their order.
 impl<'a, K, V> Model for Values<'a, K, V> {
     ghost use Rattle.std.specs.Prelude.{List};
     ghost use Rattle.std.specs.Map.{values_of};
@@ -48,7 +47,6 @@ impl<'a, K, V> Values<'a, K, V> {
     }
 }
 
-/// `next` yields the front value left; the size hint is exact.
 impl<'a, K, V> Iterator for Values<'a, K, V> {
     type Item = &'a V;
 
@@ -70,7 +68,6 @@ impl<'a, K, V> Iterator for Values<'a, K, V> {
     }
 }
 
-/// `next_back` yields the back value left.
 impl<'a, K, V> DoubleEndedIterator for Values<'a, K, V> {
     ghost next_back_gives = { TakesLast deref };
 
@@ -80,14 +77,12 @@ impl<'a, K, V> DoubleEndedIterator for Values<'a, K, V> {
     }
 }
 
-/// `len` is the number of values left.
 impl<'a, K, V> ExactSizeIterator for Values<'a, K, V> {
     fn len(&self) -> usize {
         self.pairs.len()
     }
 }
 
-/// Once no value is left, `next` and `next_back` return `None` for good.
 impl<'a, K, V> FusedIterator for Values<'a, K, V> {}
 
 /// A clone has the same values left. It does not allocate and never fails.

@@ -14,13 +14,13 @@ fn the_crate(rt: HostRuntime) -> Result<(), Fail> {
     colours.insert(7, "blue")?;
     assert_eq!(rt; colours.front(), Some((&5, &"green")));
 
-    // A look-up leaves the order. A refresh moves the pair to the back.
+    // A lookup leaves the order. A refresh moves the pair to the back.
     assert_eq!(rt; colours.get(&5), Some(&"green"));
     assert_eq!(rt; colours.back(), Some((&7, &"blue")));
     assert_eq!(rt; colours.get_refresh(&5).copied(), Some("green"));
     assert_eq!(rt; colours.back(), Some((&5, &"green")));
 
-    // Where memory for a new key is refused, the pair comes back and the map is as it was.
+    // If an allocation fails, the pair comes back and the map is unchanged.
     match colours.insert(8, "grey") {
         Ok(old) => assert_eq!(rt; old, None),
         Err(refused) => assert_eq!(rt; (refused.key, refused.value), (8, "grey")),

@@ -12,7 +12,7 @@ use Rattle.linked_hash_map.proofs.map.LinkedHashMap.get_counted.Goals as goal
 pub returns-in-Some-clause-value : goal.returns-in-Some-clause-value
 returns-in-Some-clause-value g c =
     let m = c.self.inside in
-    let h = of-Some (λ p. HasKey g.K.PartialEq.eq c.hash_one-number.result c.args.key.now m.table.held (pointer_of p)) c.find-found.result.0 c.in-Some.at c.in-Some.is c.find-found.ensures.found in
+    let h = of-Some (λ p. HasKey g.K.PartialEq.eq c.hash_one-hash.result c.args.key.now m.table.held (pointer_of p)) c.find-found.result.0 c.in-Some.at c.in-Some.is c.find-found.ensures.found in
     rw (← c.self.view_is) (
     ap Some (c.value.ensures (front h.held) (node h.held) (back h.held) h.held.3 h.held.4)
     ∙ value_at-index g.met.K.Eq.laws (distinct_keys c.self.invariant) (index_of-key h) (pair_there h.held)
@@ -26,24 +26,24 @@ returns-in-Some-clause-compared_few g c =
     let m = c.self.inside in
     let hash = hash_by g.S.Hasher.Hasher.finish g.S.Hasher.Hasher.write g.S.BuildHasher.build_hasher g.K.Hash.hash_input m.hasher in
     let probe = c.find-found.result.1 in
-    let counts = of-OnSome (CountsSome (spots m.table.held) (buckets m.table.capacity) c.hash_one-number.result probe.visited probe.compared) c.find-found.result.0 c.in-Some.at c.in-Some.is c.find-found.ensures.counts_found in
-    rw (← c.self.view_is) (subst (λ n. probe.compared ≤ n) (same-pairs hash m.table.held c.args.key.now c.hash_one-number.result c.hash_one-number.ensures c.self.invariant.nodes.hashed) counts.compared_few)
+    let counts = of-OnSome (CountsSome (spots m.table.held) (buckets m.table.capacity) c.hash_one-hash.result probe.visited probe.compared) c.find-found.result.0 c.in-Some.at c.in-Some.is c.find-found.ensures.counts_found in
+    rw (← c.self.view_is) (subst (λ n. probe.compared ≤ n) (same-pairs hash m.table.held c.args.key.now c.hash_one-hash.result c.hash_one-hash.ensures c.self.invariant.nodes.hashed) counts.compared_few)
 
 pub returns-in-Some-clause-visited_few : goal.returns-in-Some-clause-visited_few
 returns-in-Some-clause-visited_few g c =
     let m = c.self.inside in
     let hash = hash_by g.S.Hasher.Hasher.finish g.S.Hasher.Hasher.write g.S.BuildHasher.build_hasher g.K.Hash.hash_input m.hasher in
     let probe = c.find-found.result.1 in
-    let counts = of-OnSome (CountsSome (spots m.table.held) (buckets m.table.capacity) c.hash_one-number.result probe.visited probe.compared) c.find-found.result.0 c.in-Some.at c.in-Some.is c.find-found.ensures.counts_found in
-    rw (← c.self.view_is) (subst (λ n. probe.visited ≤ n) (beside-pairs hash m.table.held c.args.key.now c.hash_one-number.result (buckets m.table.capacity) _ c.hash_one-number.ensures refl c.self.invariant.nodes.hashed) counts.visited_few)
+    let counts = of-OnSome (CountsSome (spots m.table.held) (buckets m.table.capacity) c.hash_one-hash.result probe.visited probe.compared) c.find-found.result.0 c.in-Some.at c.in-Some.is c.find-found.ensures.counts_found in
+    rw (← c.self.view_is) (subst (λ n. probe.visited ≤ n) (beside-pairs hash m.table.held c.args.key.now c.hash_one-hash.result (buckets m.table.capacity) _ c.hash_one-hash.ensures refl c.self.invariant.nodes.hashed) counts.visited_few)
 
 pub returns-in-None-clause-value : goal.returns-in-None-clause-value
 returns-in-None-clause-value g c =
     let m = c.self.inside in
     rw (← c.self.view_is) (sym (ap (option_map (λ p. p.1)) (absent_key g.K.PartialEq.eq (hash_by g.S.Hasher.Hasher.finish g.S.Hasher.Hasher.write g.S.BuildHasher.build_hasher g.K.Hash.hash_input m.hasher)
     (λ x y h. ap (λ ws. g.S.Hasher.Hasher.finish (fold g.S.Hasher.Hasher.write (g.S.BuildHasher.build_hasher m.hasher) ws)) (g.met.K.Hash.respects_eq x y h))
-    c.args.key.now c.hash_one-number.result c.hash_one-number.ensures m.table.held c.self.invariant.nodes.hashed
-    (of-None (IsAbsent g.K.PartialEq.eq c.hash_one-number.result c.args.key.now m.table.held) c.find-found.result.0 c.in-None.is c.find-found.ensures.absent))))
+    c.args.key.now c.hash_one-hash.result c.hash_one-hash.ensures m.table.held c.self.invariant.nodes.hashed
+    (of-None (IsAbsent g.K.PartialEq.eq c.hash_one-hash.result c.args.key.now m.table.held) c.find-found.result.0 c.in-None.is c.find-found.ensures.absent))))
 
 pub returns-in-None-clause-valid : goal.returns-in-None-clause-valid
 returns-in-None-clause-valid g c = rw (← c.self.view_is) (IsValid-view c.self.invariant refl refl)
@@ -53,13 +53,13 @@ returns-in-None-clause-compared g c =
     let m = c.self.inside in
     let hash = hash_by g.S.Hasher.Hasher.finish g.S.Hasher.Hasher.write g.S.BuildHasher.build_hasher g.K.Hash.hash_input m.hasher in
     let probe = c.find-found.result.1 in
-    let counts = of-None (CountsAll (spots m.table.held) (buckets m.table.capacity) c.hash_one-number.result probe.visited probe.compared) c.find-found.result.0 c.in-None.is c.find-found.ensures.counts_absent in
-    rw (← c.self.view_is) (counts.compared_all ∙ same-pairs hash m.table.held c.args.key.now c.hash_one-number.result c.hash_one-number.ensures c.self.invariant.nodes.hashed)
+    let counts = of-None (CountsAll (spots m.table.held) (buckets m.table.capacity) c.hash_one-hash.result probe.visited probe.compared) c.find-found.result.0 c.in-None.is c.find-found.ensures.counts_absent in
+    rw (← c.self.view_is) (counts.compared_all ∙ same-pairs hash m.table.held c.args.key.now c.hash_one-hash.result c.hash_one-hash.ensures c.self.invariant.nodes.hashed)
 
 pub returns-in-None-clause-visited : goal.returns-in-None-clause-visited
 returns-in-None-clause-visited g c =
     let m = c.self.inside in
     let hash = hash_by g.S.Hasher.Hasher.finish g.S.Hasher.Hasher.write g.S.BuildHasher.build_hasher g.K.Hash.hash_input m.hasher in
     let probe = c.find-found.result.1 in
-    let counts = of-None (CountsAll (spots m.table.held) (buckets m.table.capacity) c.hash_one-number.result probe.visited probe.compared) c.find-found.result.0 c.in-None.is c.find-found.ensures.counts_absent in
-    rw (← c.self.view_is) (counts.visited_all ∙ beside-pairs hash m.table.held c.args.key.now c.hash_one-number.result (buckets m.table.capacity) _ c.hash_one-number.ensures refl c.self.invariant.nodes.hashed)
+    let counts = of-None (CountsAll (spots m.table.held) (buckets m.table.capacity) c.hash_one-hash.result probe.visited probe.compared) c.find-found.result.0 c.in-None.is c.find-found.ensures.counts_absent in
+    rw (← c.self.view_is) (counts.visited_all ∙ beside-pairs hash m.table.held c.args.key.now c.hash_one-hash.result (buckets m.table.capacity) _ c.hash_one-hash.ensures refl c.self.invariant.nodes.hashed)

@@ -22,21 +22,21 @@ invariant_of-self g c =
     let of_pairs = length-pairs_of m.table.held in
     let absent : find g.K.PartialEq.eq (pairs_of m.table.held) c.args.key ≡ None = subst (λ (z : LinkedMap g.row.K.Denot g.row.V.Denot g.row.S.Denot). find g.K.PartialEq.eq z.pairs c.args.key ≡ None) (sym c.self.view_is) c.requires.absent in
     let hash = hash_by g.S.Hasher.Hasher.finish g.S.Hasher.Hasher.write g.S.BuildHasher.build_hasher g.K.Hash.hash_input in
-    let numbered : c.args.number ≡ hash m.hasher c.args.key = subst (λ (z : LinkedMap g.row.K.Denot g.row.V.Denot g.row.S.Denot). c.args.number ≡ hash z.hasher c.args.key) (sym c.self.view_is) c.requires.number in
-    IsKept-push c.self.invariant (pointer_of c.push_back.result) c.args.number c.args.key c.args.value c.push_back.new.self c.push_back.ensures.last
-    g.met.K.Eq.laws numbered absent (omega (arith, room, of_pairs)) c.push_back.ensures.capacity
+    let hashed : c.args.hash ≡ hash m.hasher c.args.key = subst (λ (z : LinkedMap g.row.K.Denot g.row.V.Denot g.row.S.Denot). c.args.hash ≡ hash z.hasher c.args.key) (sym c.self.view_is) c.requires.hash in
+    IsKept-push c.self.invariant (pointer_of c.push_back.result) c.args.hash c.args.key c.args.value c.push_back.new.self c.push_back.ensures.last
+    g.met.K.Eq.laws hashed absent (omega (arith, room, of_pairs)) c.push_back.ensures.capacity
 
 pub returns-clause-pairs : goal.returns-clause-pairs
-returns-clause-pairs g c = rw (← c.self.view_is) (pairs_of-push c.self.inside.table c.push_back.new.self (pointer_of c.push_back.result) c.args.number c.args.key c.args.value c.push_back.ensures.last)
+returns-clause-pairs g c = rw (← c.self.view_is) (pairs_of-push c.self.inside.table c.push_back.new.self (pointer_of c.push_back.result) c.args.hash c.args.key c.args.value c.push_back.ensures.last)
 
 pub returns-clause-cursor : goal.returns-clause-cursor
 returns-clause-cursor g c =
     let n = unvisited_of c.self.inside.visit in
-    rw (← c.self.view_is) (λ i. cursor_state (bookmark_at-push c.self.invariant (pointer_of c.push_back.result) c.args.number c.args.key c.args.value c.push_back.new.self c.push_back.ensures.last i) n
-    (current_at-push c.self.invariant (pointer_of c.push_back.result) c.args.number c.args.key c.args.value c.push_back.new.self c.push_back.ensures.last i))
+    rw (← c.self.view_is) (λ i. cursor_state (bookmark_at-push c.self.invariant (pointer_of c.push_back.result) c.args.hash c.args.key c.args.value c.push_back.new.self c.push_back.ensures.last i) n
+    (current_at-push c.self.invariant (pointer_of c.push_back.result) c.args.hash c.args.key c.args.value c.push_back.new.self c.push_back.ensures.last i))
 
 pub returns-clause-to_visit : goal.returns-clause-to_visit
-returns-clause-to_visit g c = rw (← c.self.view_is) (to_visit-push c.self.invariant (pointer_of c.push_back.result) c.args.number c.args.key c.args.value c.push_back.new.self c.push_back.ensures.last)
+returns-clause-to_visit g c = rw (← c.self.view_is) (to_visit-push c.self.invariant (pointer_of c.push_back.result) c.args.hash c.args.key c.args.value c.push_back.new.self c.push_back.ensures.last)
 
 pub returns-clause-stays_valid : goal.returns-clause-stays_valid
 returns-clause-stays_valid g c = IsValid-view (invariant_of-self g c) refl refl

@@ -19,7 +19,7 @@ absent g c =
     let m = c.self.inside in
     absent_key g.K.PartialEq.eq (hash_by g.S.Hasher.Hasher.finish g.S.Hasher.Hasher.write g.S.BuildHasher.build_hasher g.K.Hash.hash_input m.hasher)
     (λ x y h. ap (λ ws. g.S.Hasher.Hasher.finish (fold g.S.Hasher.Hasher.write (g.S.BuildHasher.build_hasher m.hasher) ws)) (g.met.K.Hash.respects_eq x y h))
-    c.args.key.now c.args.number (subst (λ (z : LinkedMap _ _ _). c.args.number ≡ hash_by g.S.Hasher.Hasher.finish g.S.Hasher.Hasher.write g.S.BuildHasher.build_hasher g.K.Hash.hash_input z.hasher c.args.key.now) (sym c.self.view_is) c.requires) m.table.held c.self.invariant.nodes.hashed
+    c.args.key.now c.args.hash (subst (λ (z : LinkedMap _ _ _). c.args.hash ≡ hash_by g.S.Hasher.Hasher.finish g.S.Hasher.Hasher.write g.S.BuildHasher.build_hasher g.K.Hash.hash_input z.hasher c.args.key.now) (sym c.self.view_is) c.requires) m.table.held c.self.invariant.nodes.hashed
     c.in_err-pair.ensures.absent
 
 pub returns-in_err-pair-clause-value : goal.returns-in_err-pair-clause-value

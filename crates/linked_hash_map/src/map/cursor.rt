@@ -1,0 +1,282 @@
+//! Where a cursor or an entry stands: the pairs left to visit, and the pair of an entry.
+//!
+//! The contracts speak of indexes into the list of pairs, which no public call does.
+ghost use Rattle.std.specs.Prelude.{◌≡◌, ◌<◌, [], length, option_map, None, ◌-◌, ◌++◌, ◌∷◌, map, remove, slice_get, Some, IsTrue, IsFalse};
+ghost use Rattle.std.specs.Map.{keys_of};
+ghost use Rattle.std.specs.Borrow.{sem};
+ghost use Rattle.linked_hash_map.specs.Pairs.{find, put};
+ghost use Rattle.linked_hash_map.specs.Cursor.{to_visit, without_cursor, IsOutside};
+ghost use Rattle.linked_hash_map.specs.Changes.{Keeps};
+ghost use Rattle.linked_hash_map.specs.Validity.{IsValid};
+ghost use Rattle.linked_hash_map.specs.Hashers.{hash_by};
+ghost use Rattle.linked_hash_map.specs.Indexes.{IsIndex};
+ghost use Rattle.linked_hash_map.specs.Nodes.{mark_of, unvisited_of, current_of};
+ghost use Rattle.lhm_ring.specs.Cells.{IsApart};
+ghost use Rattle.lhm_ring.specs.Positions.{pointer_of, pointer_of_some};
+ghost use Rattle.lhm_ring.specs.RingState.{IsHeld, AtHeld, first_at};
+
+use super::{LinkedHashMap, Mode};
+use lhm_ring::table::{Position, Table};
+use std::alloc::AllocError;
+use std::hash::{BuildHasher, Hash};
+use std::mem;
+
+/// Where a cursor or an entry stands. Most calls end a visit by one write, that of `active`.
+pub(super) struct Visit<K, V> {
+    /// Whether there is a cursor or an entry; if not, the other fields mean nothing.
+    pub(super) active: bool,
+    /// The position of the next pair to visit.
+    pub(super) mark: Option<Position<K, V>>,
+    /// The number of pairs left to visit, from `mark` on.
+    pub(super) unvisited: usize,
+    /// The position of the pair of an occupied entry.
+    pub(super) current: Option<Position<K, V>>,
+}
+
+impl<K, V> Clone for Visit<K, V> {
+    fn clone(&self) -> Result<Self, AllocError> {
+        Ok(*self)
+    }
+}
+
+impl<K, V> Copy for Visit<K, V> {}
+
+impl<K, V> Visit<K, V> {
+    /// Returns the state of no cursor and no entry.
+    pub(super) fn none() -> Self
+        ensures mark { mark_of result ≡ None }
+        ensures unvisited { unvisited_of result ≡ 0 }
+        ensures current { current_of result ≡ None }
+    {
+        Visit {
+            active: false,
+            mark: None,
+            unvisited: 0,
+            current: None,
+        }
+    }
+
+    /// Returns the position of the next pair to visit.
+    pub(super) fn mark(&self) -> Option<Position<K, V>>
+        ensures { pointer_of_some result ≡ mark_of self.now }
+    {
+        if self.active { self.mark } else { None }
+    }
+
+    /// Returns the number of pairs left to visit.
+    pub(super) fn unvisited(&self) -> usize
+        ensures { result ≡ unvisited_of self.now }
+    {
+        if self.active { self.unvisited } else { 0 }
+    }
+
+    /// Returns the position of the pair of an occupied entry.
+    pub(super) fn current(&self) -> Option<Position<K, V>>
+        ensures { pointer_of_some result ≡ current_of self.now }
+    {
+        if self.active { self.current } else { None }
+    }
+}
+
+/// Returns the position of the pair behind this one, or `None` if none is left to visit.
+fn mark_behind<K, V>(
+    table: &Table<K, V>,
+    at: Position<K, V>,
+    unvisited: usize,
+) -> Option<Position<K, V>>
+    requires { IsHeld table.now.held (pointer_of at) }
+    ensures none { unvisited ≡ 0 → result ≡ None }
+    ensures next { 0 < unvisited → AtHeld table.now.held (pointer_of at) (λ xs t ys. pointer_of_some result ≡ first_at ys) }
+    ensures apart { 0 < unvisited → IsApart (map (λ t. t.at) table.now.held) }
+{
+    if unvisited == 0 {
+        return None;
+    }
+    table.next(at)
+}
+
+impl<K: Eq + Hash, V, S: BuildHasher> LinkedHashMap<K, V, S> {
+    ghost use Rattle.linked_hash_map.specs.Lends.{lends_at, lends_left};
+
+    /// Begins a visit of every pair, front to back.
+    pub(crate) fn begin_visit(&mut self)
+        ensures to_visit { to_visit self.new ≡ keys_of self.old.pairs }
+        ensures pairs { self.new.pairs ≡ self.old.pairs }
+        ensures keeps { Keeps self.old self.new }
+        ensures valid { IsValid K.eq self.old }
+    {
+        self.visit = Visit {
+            active: true,
+            mark: self.table.first(),
+            unvisited: self.table.len(),
+            current: None,
+        };
+    }
+
+    /// Makes the next pair to visit the current one, and returns whether one was left.
+    pub(crate) fn visit_next(&mut self) -> bool
+        ensures key { IsTrue result → (key : K) → slice_get (keys_of self.old.pairs) self.new.cursor.current ≡ Some key →
+            to_visit self.old ≡ key ∷ to_visit self.new }
+        ensures within { IsTrue result → self.new.cursor.current < length self.new.pairs }
+        ensures outside { IsTrue result → IsOutside self.new.cursor.current self.new }
+        ensures pairs { self.new.pairs ≡ self.old.pairs }
+        ensures keeps { Keeps self.old self.new }
+        ensures valid { IsValid K.eq self.old }
+
+        ensures none { IsFalse result → to_visit self.old ≡ [] }
+        ensures unchanged { IsFalse result → self.new ≡ self.old }
+    {
+        let Some(at) = self.visit.mark() else {
+            return false;
+        };
+        let unvisited = self.visit.unvisited() - 1;
+        self.visit = Visit {
+            active: true,
+            mark: mark_behind(&self.table, at, unvisited),
+            unvisited,
+            current: Some(at),
+        };
+        true
+    }
+
+    /// Returns the number of pairs left to visit, or 0 if there is no visit, in O(1) without
+    /// allocating.
+    ///
+    /// # Examples
+    ///
+    /// ```rust
+    /// let mut map = LinkedHashMap::new(rt.alloc());
+    /// map.insert('x', 1)?;
+    /// map.insert('y', 2)?;
+    /// let entries = map.visit();
+    /// if let Some(mut entry) = entries.next_entry() {
+    ///     assert_eq!(rt; entry.insert(3), 1);
+    /// }
+    /// assert_eq!(rt; entries.unvisited(), 1);
+    /// ```
+    pub fn unvisited(&self) -> usize
+        ensures { result ≡ length (to_visit self.now) }
+    {
+        self.visit.unvisited()
+    }
+
+    /// Makes the pair of a key the current one, ending a visit, and returns whether there is one.
+    #[inline]
+    pub(crate) fn seek(&mut self, hash: u64, key: &K) -> bool
+        requires { hash ≡ hash_by S.Hasher.finish S.Hasher.write S.build_hasher K.hash_input self.old.hasher key.now }
+        ensures found { IsTrue result → IsIndex K.eq self.old.pairs key.now self.new.cursor.current }
+        ensures ends_visit { IsTrue result → without_cursor self.new ≡ without_cursor self.old }
+        ensures visited { IsTrue result → self.new.cursor.unvisited ≡ 0 }
+        ensures bookmark { IsTrue result → self.new.cursor.bookmark ≡ 0 }
+        ensures outside { IsTrue result → IsOutside self.new.cursor.current self.new }
+        ensures absent { IsFalse result → find K.eq self.old.pairs key.now ≡ None }
+        ensures unchanged { IsFalse result → self.new ≡ self.old }
+        ensures valid { IsValid K.eq self.old }
+    {
+        match self.table.find(hash, key).0 {
+            Some(at) => {
+                self.visit = Visit {
+                    active: true,
+                    mark: None,
+                    unvisited: 0,
+                    current: Some(at),
+                };
+                true
+            }
+            None => false,
+        }
+    }
+
+    /// Returns references to the current pair.
+    pub(crate) fn current_pair(&self) -> (&K, &V)
+        requires { self.now.cursor.current < length self.now.pairs }
+        ensures { slice_get self.now.pairs self.now.cursor.current ≡ Some (result.0.now, result.1.now) }
+    {
+        let at = self.visit.current().unwrap();
+        (self.table.key(at), self.table.value(at))
+    }
+
+    /// Returns a mutable reference to the value of the current pair.
+    pub(crate) fn current_value_mut(&mut self) -> &mut V
+        requires { self.old.cursor.current < length self.old.pairs }
+        ensures* writes_back { sem 𝓛 (lends_at K.row V.row S.row S.Hasher.row K.Hash S.BuildHasher S.Hasher.Hasher self.entry self.old.cursor.current result) }
+        ensures value { option_map (λ pair. pair.1) (slice_get self.old.pairs self.old.cursor.current) ≡ Some result.now }
+        ensures valid { IsValid K.eq self.old }
+    {
+        let at = self.visit.current().unwrap();
+        self.table.value_mut(at)
+    }
+
+    /// Returns a mutable reference to the value of the current pair. None is then current.
+    pub(crate) fn leave_current(&mut self) -> &mut V
+        requires { self.old.cursor.current < length self.old.pairs }
+        ensures* writes_back { sem 𝓛 (lends_left K.row V.row S.row S.Hasher.row K.Hash S.BuildHasher S.Hasher.Hasher self.entry result) }
+        ensures value { option_map (λ pair. pair.1) (slice_get self.old.pairs self.old.cursor.current) ≡ Some result.now }
+        ensures valid { IsValid K.eq self.old }
+    {
+        let at = self.visit.current().unwrap();
+        self.visit.current = None;
+        self.table.value_mut(at)
+    }
+
+    /// Moves the current pair to the back. It stays current.
+    pub(crate) fn move_current_to_back(&mut self)
+        requires within { self.old.cursor.current < length self.old.pairs }
+        requires outside { IsOutside self.old.cursor.current self.old }
+        ensures pairs { (pair : K × V) → slice_get self.old.pairs self.old.cursor.current ≡ Some pair →
+            self.new.pairs ≡ remove self.old.pairs self.old.cursor.current ++ pair ∷ [] }
+        ensures current { self.new.cursor.current ≡ length self.old.pairs - 1 }
+        ensures keeps { Keeps self.old self.new }
+        ensures to_visit { to_visit self.new ≡ to_visit self.old }
+        ensures outside { IsOutside self.new.cursor.current self.new }
+        ensures valid { IsValid K.eq self.old }
+        ensures stays_valid { IsValid K.eq self.new }
+    {
+        let at = self.visit.current().unwrap();
+        self.table.move_to_back(at);
+    }
+
+    /// Replaces the value of the current pair and returns the old one. The pair stays current and
+    /// moves to the back, or in `Keep` stays in its place.
+    #[inline]
+    pub(crate) fn insert_current(&mut self, value: V) -> V
+        requires within { self.old.cursor.current < length self.old.pairs }
+        requires outside { IsOutside self.old.cursor.current self.old }
+        ensures pairs { (key : K) → IsIndex K.eq self.old.pairs key self.old.cursor.current →
+            self.new.pairs ≡ put K.eq self.old.mode self.old.pairs key value }
+        ensures pair { (pair : K × V) → slice_get self.old.pairs self.old.cursor.current ≡ Some pair →
+            slice_get self.new.pairs self.new.cursor.current ≡ Some (pair.0, value) }
+        ensures old { option_map (λ pair. pair.1) (slice_get self.old.pairs self.old.cursor.current) ≡ Some result }
+        ensures len { length self.new.pairs ≡ length self.old.pairs }
+        ensures keeps { Keeps self.old self.new }
+        ensures to_visit { to_visit self.new ≡ to_visit self.old }
+        ensures outside { IsOutside self.new.cursor.current self.new }
+        ensures valid { IsValid K.eq self.old }
+        ensures stays_valid { IsValid K.eq self.new }
+    {
+        match self.mode {
+            Mode::Touch => {
+                self.move_current_to_back();
+                mem::replace(self.current_value_mut(), value)
+            }
+            Mode::Keep => mem::replace(self.current_value_mut(), value),
+        }
+    }
+
+    /// Removes and returns the current pair. None is then current.
+    #[inline]
+    pub(crate) fn take_current(&mut self) -> (K, V)
+        requires within { self.old.cursor.current < length self.old.pairs }
+        requires outside { IsOutside self.old.cursor.current self.old }
+        ensures pair { slice_get self.old.pairs self.old.cursor.current ≡ Some result }
+        ensures pairs { self.new.pairs ≡ remove self.old.pairs self.old.cursor.current }
+        ensures keeps { Keeps self.old self.new }
+        ensures to_visit { to_visit self.new ≡ to_visit self.old }
+        ensures valid { IsValid K.eq self.old }
+        ensures stays_valid { IsValid K.eq self.new }
+    {
+        let at = self.visit.current().unwrap();
+        self.visit.current = None;
+        self.table.remove_at(at)
+    }
+}

@@ -1,0 +1,235 @@
+//! Lookups, and indexing by a key that is present.
+ghost use Rattle.std.specs.Prelude.{◌≡◌, ◌≤◌, option_copied, option_map, is_some, IfNone, OnSome, Some, IsSome};
+ghost use Rattle.std.specs.Map.Iter.{deref_pair};
+ghost use Rattle.std.specs.Borrow.{sem};
+ghost use Rattle.std.specs.Option.{option_copied_mut};
+ghost use Rattle.linked_hash_map.specs.Pairs.{find, value_at, first, last};
+ghost use Rattle.linked_hash_map.specs.Validity.{IsValid};
+ghost use Rattle.linked_hash_map.specs.Hashers.{hash_by};
+ghost use Rattle.linked_hash_map.specs.Counts.{same, beside};
+
+use super::{LinkedHashMap, Probe};
+use std::hash::{BuildHasher, Hash};
+use std::ops::{Index, IndexMut};
+
+impl<K: Eq + Hash, V, S: BuildHasher> LinkedHashMap<K, V, S> {
+    ghost use Rattle.linked_hash_map.specs.Lends.{lends_value, lends_refreshed};
+
+    /// Returns the value of a key, if present, in O(1) on average without allocating.
+    ///
+    /// # Examples
+    ///
+    /// ```rust
+    /// let mut map = LinkedHashMap::new(rt.alloc());
+    /// map.insert('x', 1)?;
+    /// assert_eq!(rt; map.get(&'x'), Some(&1));
+    /// assert_eq!(rt; map.get(&'y'), None);
+    /// ```
+    pub fn get(&self, key: &K) -> Option<&V>
+        ensures { option_copied result ≡ value_at K.eq self.now.pairs key.now }
+    {
+        self.get_counted(key).0
+    }
+
+    /// Returns a mutable reference to the value of a key, if present, in O(1) on average without
+    /// allocating.
+    ///
+    /// # Examples
+    ///
+    /// ```rust
+    /// let mut map = LinkedHashMap::new(rt.alloc());
+    /// map.insert('x', 1)?;
+    /// if let Some(value) = map.get_mut(&'x') {
+    ///     *value = 3;
+    /// }
+    /// assert_eq!(rt; map.get(&'x'), Some(&3));
+    /// ```
+    pub fn get_mut(&mut self, key: &K) -> Option<&mut V>
+        ensures* writes_back { sem 𝓛 (lends_value K.row V.row S.row S.Hasher.row K.Hash S.BuildHasher S.Hasher.Hasher self.entry key.now result) }
+        ensures value { option_copied_mut result ≡ value_at K.eq self.old.pairs key.now }
+        ensures valid { IsValid K.eq self.old }
+    {
+        let hash = self.hasher.hash_one(key);
+        match self.table.find(hash, key).0 {
+            Some(at) => Some(self.table.value_mut(at)),
+            None => None,
+        }
+    }
+
+    /// Moves the pair of a key, if present, to the back in both modes, and returns a mutable
+    /// reference to its value. It is O(1) on average and does not allocate.
+    ///
+    /// # Examples
+    ///
+    /// ```rust
+    /// let mut map = LinkedHashMap::new(rt.alloc());
+    /// map.insert('x', 1)?;
+    /// map.insert('y', 2)?;
+    /// if let Some(value) = map.get_refresh(&'x') {
+    ///     *value = 3;
+    /// }
+    /// assert_eq!(rt; map.back(), Some((&'x', &3)));
+    /// ```
+    pub fn get_refresh(&mut self, key: &K) -> Option<&mut V>
+        ensures* writes_back { sem 𝓛 (lends_refreshed K.row V.row S.row S.Hasher.row K.Hash S.BuildHasher S.Hasher.Hasher self.entry key.now result) }
+        ensures value { option_copied_mut result ≡ value_at K.eq self.old.pairs key.now }
+        ensures valid { IsValid K.eq self.old }
+    {
+        let hash = self.hasher.hash_one(key);
+        match self.table.find(hash, key).0 {
+            Some(at) => {
+                self.visit.active = false;
+                self.table.move_to_back(at);
+                Some(self.table.value_mut(at))
+            }
+            None => None,
+        }
+    }
+
+    /// Returns the value of a key, if present, and the counts of the lookup, in O(1) on average
+    /// without allocating.
+    ///
+    /// For an absent key it reaches each node of the bucket's chain and compares each key with the
+    /// same hash; for a present key it does no more. Every lookup searches so.
+    ///
+    /// # Examples
+    ///
+    /// ```rust
+    /// let mut map = LinkedHashMap::new(rt.alloc());
+    /// map.insert('x', 1)?;
+    /// let (value, probe) = map.get_counted(&'x');
+    /// assert_eq!(rt; (value, probe.visited, probe.compared), (Some(&1), 1, 1));
+    /// ```
+    pub fn get_counted(&self, key: &K) -> (Option<&V>, Probe)
+        ensures value { option_copied result.0 ≡ value_at K.eq self.now.pairs key.now }
+        ensures valid { IsValid K.eq self.now }
+
+        // If the key is absent.
+        ensures compared { IfNone result.0 (result.1.compared
+            ≡ same (hash_by S.Hasher.finish S.Hasher.write S.build_hasher K.hash_input self.now.hasher) self.now.pairs key.now) }
+        ensures visited { IfNone result.0 (result.1.visited
+            ≡ beside (hash_by S.Hasher.finish S.Hasher.write S.build_hasher K.hash_input self.now.hasher) self.now.pairs self.now.capacity key.now) }
+
+        // If it is present.
+        ensures compared_some { OnSome result.0 (1 ≤ result.1.compared) }
+        ensures compared_few { OnSome result.0 (result.1.compared
+            ≤ same (hash_by S.Hasher.finish S.Hasher.write S.build_hasher K.hash_input self.now.hasher) self.now.pairs key.now) }
+        ensures visited_all { OnSome result.0 (result.1.compared ≤ result.1.visited) }
+        ensures visited_few { OnSome result.0 (result.1.visited
+            ≤ beside (hash_by S.Hasher.finish S.Hasher.write S.build_hasher K.hash_input self.now.hasher) self.now.pairs self.now.capacity key.now) }
+    {
+        let hash = self.hasher.hash_one(key);
+        let (found, counts) = self.table.find(hash, key);
+        let probe = Probe {
+            visited: counts.visited,
+            compared: counts.compared,
+        };
+        match found {
+            Some(at) => (Some(self.table.value(at)), probe),
+            None => (None, probe),
+        }
+    }
+
+    /// Returns `true` if a key is present, in O(1) on average without allocating.
+    ///
+    /// # Examples
+    ///
+    /// ```rust
+    /// let mut map = LinkedHashMap::new(rt.alloc());
+    /// map.insert('x', 1)?;
+    /// assert!(rt; map.contains_key(&'x'));
+    /// assert!(rt; !map.contains_key(&'y'));
+    /// ```
+    pub fn contains_key(&self, key: &K) -> bool
+        ensures { result ≡ is_some (find K.eq self.now.pairs key.now) }
+    {
+        self.get(key).is_some()
+    }
+
+    /// Returns the front pair, if any, in O(1) without allocating.
+    ///
+    /// # Examples
+    ///
+    /// ```rust
+    /// let mut map = LinkedHashMap::new(rt.alloc());
+    /// map.insert('x', 1)?;
+    /// map.insert('y', 2)?;
+    /// assert_eq!(rt; map.front(), Some((&'x', &1)));
+    /// ```
+    pub fn front(&self) -> Option<(&K, &V)>
+        ensures { option_map deref_pair result ≡ first self.now.pairs }
+    {
+        let at = self.table.first()?;
+        Some((self.table.key(at), self.table.value(at)))
+    }
+
+    /// Returns the back pair, if any, in O(1) without allocating.
+    ///
+    /// # Examples
+    ///
+    /// ```rust
+    /// let mut map = LinkedHashMap::new(rt.alloc());
+    /// map.insert('x', 1)?;
+    /// map.insert('y', 2)?;
+    /// assert_eq!(rt; map.back(), Some((&'y', &2)));
+    /// ```
+    pub fn back(&self) -> Option<(&K, &V)>
+        ensures { option_map deref_pair result ≡ last self.now.pairs }
+    {
+        let at = self.table.last()?;
+        Some((self.table.key(at), self.table.value(at)))
+    }
+}
+
+/// `map[&key]`, for a key that has to be proved present, as by `contains_key`; the original
+/// panics if it is absent. It is O(1) on average and does not allocate.
+///
+/// # Examples
+///
+/// ```rust
+/// let mut map = LinkedHashMap::new(rt.alloc());
+/// map.insert('x', 1)?;
+/// if map.contains_key(&'x') {
+///     assert_eq!(rt; map[&'x'], 1);
+/// }
+/// ```
+impl<'q, K: Eq + Hash, V, S: BuildHasher> Index<&'q K> for LinkedHashMap<K, V, S> {
+    type Output = V;
+
+    ghost can_index = { λ m key. IsSome (find K.eq m.pairs key.now) };
+
+    ghost index_gives = { λ m key value. value_at K.eq m.pairs key.now ≡ Some value };
+
+    fn index(&self, key: &'q K) -> &V {
+        self.get(key).unwrap()
+    }
+}
+
+/// `map[&key] = value`, for a key that has to be proved present, in O(1) on average without
+/// allocating.
+///
+/// # Examples
+///
+/// ```rust
+/// let mut map = LinkedHashMap::new(rt.alloc());
+/// map.insert('x', 1)?;
+/// if map.contains_key(&'x') {
+///     map[&'x'] = 3;
+///     assert_eq!(rt; map.get(&'x'), Some(&3));
+/// }
+/// ```
+impl<'q, K: Eq + Hash, V, S: BuildHasher> IndexMut<&'q K> for LinkedHashMap<K, V, S> {
+    ghost use Rattle.linked_hash_map.specs.Lends.{lends_present};
+
+    fn index_mut(&mut self, key: &'q K) -> &mut V
+        requires { IsSome (find K.eq self.old.pairs key.now) }
+        ensures* writes_back { sem 𝓛 (lends_present K.row V.row S.row S.Hasher.row K.Hash S.BuildHasher S.Hasher.Hasher self.entry key.now result) }
+        ensures value { value_at K.eq self.old.pairs key.now ≡ Some result.now }
+        ensures valid { IsValid K.eq self.old }
+    {
+        match self.get_mut(key) {
+            Some(value) => value,
+            None => unreachable!(),
+        }
+    }
+}

@@ -1,0 +1,125 @@
+//! Insertion.
+ghost use Rattle.std.specs.Prelude.{◌≡◌, ◌<◌, [], length, max, option_map, None, OnOk, OnErr, IfOk, IfErr, IfNone, OnSome, ◌-◌, ◌++◌, ◌∷◌, slice_get, Some};
+ghost use Rattle.std.specs.Borrow.{sem};
+ghost use Rattle.linked_hash_map.specs.Pairs.{find, value_at, put};
+ghost use Rattle.linked_hash_map.specs.Cursor.{to_visit};
+ghost use Rattle.linked_hash_map.specs.Changes.{Keeps};
+ghost use Rattle.linked_hash_map.specs.Validity.{IsValid};
+ghost use Rattle.linked_hash_map.specs.Hashers.{hash_by};
+ghost use Rattle.linked_hash_map.specs.Counts.{rechained_raised};
+
+use super::{LinkedHashMap, Mode};
+use crate::error::Refused;
+use std::hash::{BuildHasher, Hash};
+use std::mem;
+
+impl<K: Eq + Hash, V, S: BuildHasher> LinkedHashMap<K, V, S> {
+    ghost use Rattle.linked_hash_map.specs.Lends.{lends_at};
+
+    /// Inserts a pair and returns the old value of its key, or `None` if the key is new.
+    ///
+    /// A present key is never refused: its pair keeps the stored key and moves to the back, or in
+    /// [`Mode::Keep`] stays in its place, and `key` is dropped. A new key goes to the back. Only a
+    /// new key at full capacity allocates: it raises the capacity by one or is refused, and the
+    /// error then has this key and this value, and the map is unchanged. It is O(1) on average, or
+    /// O(n) if the number of buckets changes.
+    ///
+    /// # Examples
+    ///
+    /// ```rust
+    /// let mut map = LinkedHashMap::new(rt.alloc());
+    /// assert_eq!(rt; map.insert('x', 1)?, None);
+    /// assert_eq!(rt; map.insert('y', 2)?, None);
+    /// assert_eq!(rt; map.insert('x', 3)?, Some(1));
+    /// assert_eq!(rt; map.back(), Some((&'x', &3)));
+    /// ```
+    #[inline(always)]
+    pub fn insert(&mut self, key: K, value: V) -> Result<Option<V>, Refused<K, V>>
+    where
+        K: Drop,
+        ensures old { IfOk result (λ old. old ≡ value_at K.eq self.old.pairs key) }
+        ensures pairs { OnOk result (self.new.pairs ≡ put K.eq self.old.mode self.old.pairs key value) }
+        ensures capacity { OnOk result (self.new.capacity ≡ max self.old.capacity (length self.new.pairs)) }
+        ensures rechained { OnOk result (self.new.rechained
+            ≡ rechained_raised self.old.rechained (length self.old.pairs) self.old.capacity self.new.capacity) }
+        ensures hasher { OnOk result (self.new.hasher ≡ self.old.hasher) }
+        ensures mode { OnOk result (self.new.mode ≡ self.old.mode) }
+        ensures ends_visit { IfOk result (λ old. OnSome old (to_visit self.new ≡ [])) }
+        ensures to_visit { IfOk result (λ old. IfNone old (to_visit self.new ≡ to_visit self.old)) }
+        ensures valid { IsValid K.eq self.old }
+        ensures stays_valid { IsValid K.eq self.new }
+
+        ensures key_back { IfErr result (λ refused. refused.key ≡ key) }
+        ensures value_back { IfErr result (λ refused. refused.value ≡ value) }
+        ensures unchanged { OnErr result (self.new ≡ self.old) }
+        ensures absent { OnErr result (find K.eq self.old.pairs key ≡ None) }
+        ensures full { OnErr result (length self.old.pairs ≡ self.old.capacity) }
+    {
+        let hash = self.hash_of(&key);
+        let value = match self.insert_present(hash, &key, value) {
+            Ok(old) => return Ok(Some(old)),
+            Err(value) => value,
+        };
+        if !self.make_room() {
+            return Err(Refused { key, value });
+        }
+        self.push_back(hash, key, value);
+        Ok(None)
+    }
+
+    /// Replaces the value of a present key and returns the old one, or `Err(value)` if it is
+    /// absent. The pair moves to the back, or in `Keep` stays in its place, and a visit ends.
+    #[inline]
+    pub(crate) fn insert_present(&mut self, hash: u64, key: &K, value: V) -> Result<V, V>
+        requires { hash ≡ hash_by S.Hasher.finish S.Hasher.write S.build_hasher K.hash_input self.old.hasher key.now }
+        ensures old { IfOk result (λ old. Some old ≡ value_at K.eq self.old.pairs key.now) }
+        ensures pairs { OnOk result (self.new.pairs ≡ put K.eq self.old.mode self.old.pairs key.now value) }
+        ensures len { OnOk result (length self.new.pairs ≡ length self.old.pairs) }
+        ensures ends_visit { OnOk result (to_visit self.new ≡ []) }
+        ensures keeps { Keeps self.old self.new }
+        ensures valid { IsValid K.eq self.old }
+        ensures stays_valid { IsValid K.eq self.new }
+
+        ensures value_back { IfErr result (λ back. back ≡ value) }
+        ensures unchanged { OnErr result (self.new ≡ self.old) }
+        ensures absent { OnErr result (find K.eq self.old.pairs key.now ≡ None) }
+    {
+        let Some(found) = self.table.find(hash, key).0 else {
+            return Err(value);
+        };
+        self.visit.active = false;
+        match self.mode {
+            Mode::Touch => {
+                self.table.move_to_back(found);
+                Ok(mem::replace(self.table.value_mut(found), value))
+            }
+            Mode::Keep => Ok(mem::replace(self.table.value_mut(found), value)),
+        }
+    }
+
+    /// Inserts a pair of an absent key, which has this hash, at the back, below the capacity.
+    #[inline(never)]
+    pub(crate) fn push_back(&mut self, hash: u64, key: K, value: V)
+        requires hash { hash ≡ hash_by S.Hasher.finish S.Hasher.write S.build_hasher K.hash_input self.old.hasher key }
+        requires room { length self.old.pairs < self.old.capacity }
+        requires absent { find K.eq self.old.pairs key ≡ None }
+        ensures pairs { self.new.pairs ≡ self.old.pairs ++ (key, value) ∷ [] }
+        ensures keeps { Keeps self.old self.new }
+        ensures cursor { self.new.cursor ≡ self.old.cursor }
+        ensures to_visit { to_visit self.new ≡ to_visit self.old }
+        ensures stays_valid { IsValid K.eq self.new }
+    {
+        self.table.push_back(hash, key, value);
+    }
+
+    /// Returns a mutable reference to the value of the back pair.
+    pub(crate) fn last_value_mut(&mut self) -> &mut V
+        requires { 0 < length self.old.pairs }
+        ensures* writes_back { sem 𝓛 (lends_at K.row V.row S.row S.Hasher.row K.Hash S.BuildHasher S.Hasher.Hasher self.entry (length self.old.pairs - 1) result) }
+        ensures value { option_map (λ pair. pair.1) (slice_get self.old.pairs (length self.old.pairs - 1)) ≡ Some result.now }
+        ensures valid { IsValid K.eq self.old }
+    {
+        let at = self.table.last().unwrap();
+        self.table.value_mut(at)
+    }
+}

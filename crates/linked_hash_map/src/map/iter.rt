@@ -1,0 +1,147 @@
+//! The iterators over the pairs, the keys and the values.
+ghost use Rattle.std.specs.Prelude.{◌≡◌};
+ghost use Rattle.std.specs.Map.{keys_of, values_of};
+ghost use Rattle.std.specs.Map.Iter.{deref, deref_pair, ShowsInOrder, ShowsInReverse, LendsValuesInOrder, LendsValuesInReverse};
+ghost use Rattle.std.specs.Borrow.{sem};
+ghost use Rattle.linked_hash_map.specs.Pairs.{KeysStand};
+ghost use Rattle.linked_hash_map.specs.Validity.{IsValid};
+ghost use Rattle.linked_hash_map.specs.Nodes.{pairs_of};
+ghost use Rattle.lhm_ring.specs.LentRings.{lent_held, lent_name, IsLent};
+
+use super::LinkedHashMap;
+use crate::iter::{IntoIter, Iter, IterMut, Keys, Values};
+use lhm_ring::table::{LentValues, ValueLoan, WithoutValues};
+use std::hash::{BuildHasher, Hash};
+use std::marker::PhantomData;
+
+impl<K: Eq + Hash, V, S: BuildHasher> LinkedHashMap<K, V, S> {
+    ghost use Rattle.linked_hash_map.specs.Lends.{lends_values};
+    ghost use Rattle.linked_hash_map.specs.ValueWalks.{pairs_left, loan_name};
+
+    /// Returns a double-ended iterator over the pairs, front to back, in O(1) without allocating.
+    ///
+    /// # Examples
+    ///
+    /// ```rust
+    /// let mut map = LinkedHashMap::new(rt.alloc());
+    /// map.insert('x', 1)?;
+    /// map.insert('y', 2)?;
+    /// let mut pairs = map.iter();
+    /// assert_eq!(rt; pairs.next(), Some((&'x', &1)));
+    /// let mut rest = pairs.clone()?;
+    /// assert_eq!(rt; rest.next_back(), Some((&'y', &2)));
+    /// assert_eq!(rt; (pairs.len(), rest.len()), (1, 0));
+    /// ```
+    pub fn iter(&self) -> Iter<'_, K, V>
+        ensures pairs { result ≡ self.now.pairs }
+        ensures valid { IsValid K.eq self.now }
+        // Laws of iterators, for the proofs of callers.
+        ensures runs { ShowsInOrder (deref_pair {K = K} {X = V}) }
+        ensures runs_back { ShowsInReverse (deref_pair {K = K} {X = V}) }
+    {
+        Iter::new(&self.table)
+    }
+
+    /// Returns a double-ended iterator over the pairs, front to back, with mutable references to
+    /// the values, in O(1) without allocating.
+    ///
+    /// # Examples
+    ///
+    /// ```rust
+    /// let mut map = LinkedHashMap::new(rt.alloc());
+    /// map.insert('x', 1)?;
+    /// let mut pairs = map.iter_mut();
+    /// if let Some((_key, value)) = pairs.next() {
+    ///     *value = 3;
+    /// }
+    /// assert_eq!(rt; map.get(&'x'), Some(&3));
+    /// ```
+    pub fn iter_mut(&mut self) -> IterMut<'_, K, V>
+        ensures* writes_back { sem 𝓛 (lends_values K.row V.row S.row S.Hasher.row K.Hash S.BuildHasher S.Hasher.Hasher self.entry (loan_name result)) }
+        // A law of lists, for the proofs of callers.
+        ensures keeps { KeysStand self.old.pairs }
+        ensures rest { pairs_left result ≡ self.old.pairs }
+        ensures valid { IsValid K.eq self.old }
+        // Laws of iterators, for the proofs of callers.
+        ensures runs { LendsValuesInOrder (pairs_left {K = K} {V = V}) }
+        ensures runs_back { LendsValuesInReverse (pairs_left {K = K} {V = V}) }
+    {
+        IterMut::new(self.lend())
+    }
+
+    /// Returns a double-ended iterator over the keys, front to back, in O(1) without allocating.
+    ///
+    /// # Examples
+    ///
+    /// ```rust
+    /// let mut map = LinkedHashMap::new(rt.alloc());
+    /// map.insert('x', 1)?;
+    /// map.insert('y', 2)?;
+    /// let mut keys = map.keys();
+    /// assert_eq!(rt; keys.next(), Some(&'x'));
+    /// assert_eq!(rt; keys.next(), Some(&'y'));
+    /// assert_eq!(rt; keys.next(), None);
+    /// ```
+    pub fn keys(&self) -> Keys<'_, K, V>
+        ensures keys { result ≡ keys_of self.now.pairs }
+        ensures valid { IsValid K.eq self.now }
+        // Laws of iterators, for the proofs of callers.
+        ensures runs { ShowsInOrder (deref {X = K}) }
+        ensures runs_back { ShowsInReverse (deref {X = K}) }
+    {
+        Keys::new(self.iter())
+    }
+
+    /// Returns a double-ended iterator over the values, front to back, in O(1) without allocating.
+    ///
+    /// # Examples
+    ///
+    /// ```rust
+    /// let mut map = LinkedHashMap::new(rt.alloc());
+    /// map.insert('x', 1)?;
+    /// map.insert('y', 2)?;
+    /// let mut values = map.values();
+    /// assert_eq!(rt; values.next_back(), Some(&2));
+    /// assert_eq!(rt; values.next_back(), Some(&1));
+    /// assert_eq!(rt; values.next_back(), None);
+    /// ```
+    pub fn values(&self) -> Values<'_, K, V>
+        ensures values { result ≡ values_of self.now.pairs }
+        ensures valid { IsValid K.eq self.now }
+        // Laws of iterators, for the proofs of callers.
+        ensures runs { ShowsInOrder (deref {X = V}) }
+        ensures runs_back { ShowsInReverse (deref {X = V}) }
+    {
+        Values::new(self.iter())
+    }
+
+    /// Shares the ring except its values, and lends the values.
+    pub(crate) fn lend<'a>(&'a mut self) -> LentValues<'a, K, V>
+        ensures* writes_back { sem 𝓛 (lends_values K.row V.row S.row S.Hasher.row K.Hash S.BuildHasher S.Hasher.Hasher self.entry (lent_name result)) }
+        ensures pairs { pairs_of (lent_held result) ≡ self.old.pairs }
+        ensures lent { IsLent result }
+        ensures valid { IsValid K.eq self.old }
+    {
+        let ring = &raw mut self.table.ring as *const WithoutValues<K, V>;
+        LentValues {
+            ring: unsafe { &*ring },
+            loan: ValueLoan { mark: PhantomData },
+        }
+    }
+
+    /// Returns an iterator that owns the pairs, and drops the hasher.
+    pub(crate) fn into_pairs(self) -> IntoIter<K, V>
+    where
+        S: Drop,
+        ensures pairs { result ≡ self.pairs }
+        ensures valid { IsValid K.eq self }
+    {
+        let LinkedHashMap {
+            table,
+            hasher: _,
+            visit: _,
+            mode: _,
+        } = self;
+        IntoIter::new(table.into_iter())
+    }
+}

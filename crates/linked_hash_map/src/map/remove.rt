@@ -1,0 +1,170 @@
+//! Removal.
+ghost use Rattle.std.specs.Prelude.{◌≡◌, [], option_map, IfNone, OnSome};
+ghost use Rattle.std.specs.Borrow.{sem};
+ghost use Rattle.linked_hash_map.specs.Pairs.{value_at, without, first, last, without_first, without_last};
+ghost use Rattle.linked_hash_map.specs.Cursor.{to_visit};
+ghost use Rattle.linked_hash_map.specs.Changes.{Keeps};
+ghost use Rattle.linked_hash_map.specs.Validity.{IsValid};
+ghost use Rattle.linked_hash_map.specs.Hashers.{hash_by};
+
+use super::LinkedHashMap;
+use crate::drain::Drain;
+use std::hash::{BuildHasher, Hash};
+
+impl<K: Eq + Hash, V, S: BuildHasher> LinkedHashMap<K, V, S> {
+    ghost use Rattle.linked_hash_map.specs.Drains.{drain_rest, drain_name, DrainSteps, DrainStepsBack, DrainKeepsAlong};
+    ghost use Rattle.std.specs.Iterator.Runs.{YieldsInOrder, YieldsInReverse};
+    ghost use Rattle.linked_hash_map.specs.Lends.{lends_drained};
+
+    /// Removes the pair of a key and returns its value, if present, in O(1) on average without
+    /// allocating. The stored key is dropped; the order of the others and the capacity stay.
+    ///
+    /// # Examples
+    ///
+    /// ```rust
+    /// let mut map = LinkedHashMap::new(rt.alloc());
+    /// map.insert('x', 1)?;
+    /// map.insert('y', 2)?;
+    /// assert_eq!(rt; map.remove(&'x'), Some(1));
+    /// assert_eq!(rt; map.remove(&'x'), None);
+    /// assert_eq!(rt; (map.len(), map.capacity()), (1, 2));
+    /// ```
+    pub fn remove(&mut self, key: &K) -> Option<V>
+    where
+        K: Drop,
+        ensures value { result ≡ value_at K.eq self.old.pairs key.now }
+        ensures pairs { self.new.pairs ≡ without K.eq self.old.pairs key.now }
+        ensures keeps { Keeps self.old self.new }
+        ensures ends_visit { OnSome result (to_visit self.new ≡ []) }
+        ensures to_visit { IfNone result (to_visit self.new ≡ to_visit self.old) }
+        ensures valid { IsValid K.eq self.old }
+        ensures stays_valid { IsValid K.eq self.new }
+    {
+        let hash = self.hash_of(key);
+        let (_stored, value) = self.take_out(hash, key)?;
+        Some(value)
+    }
+
+    /// Removes and returns the pair of a key, if present, and then ends a visit.
+    #[inline]
+    pub(crate) fn take_out(&mut self, hash: u64, key: &K) -> Option<(K, V)>
+        requires { hash ≡ hash_by S.Hasher.finish S.Hasher.write S.build_hasher K.hash_input self.old.hasher key.now }
+        ensures value { option_map (λ pair. pair.1) result ≡ value_at K.eq self.old.pairs key.now }
+        ensures pairs { self.new.pairs ≡ without K.eq self.old.pairs key.now }
+        ensures ends_visit { OnSome result (to_visit self.new ≡ []) }
+        ensures to_visit { IfNone result (to_visit self.new ≡ to_visit self.old) }
+        ensures keeps { Keeps self.old self.new }
+        ensures valid { IsValid K.eq self.old }
+        ensures stays_valid { IsValid K.eq self.new }
+    {
+        let pair = self.table.remove(hash, key)?;
+        self.visit.active = false;
+        Some(pair)
+    }
+
+    /// Removes and returns the front pair, if any, in O(1) on average. It compares no key and does
+    /// not allocate; the capacity stays.
+    ///
+    /// # Examples
+    ///
+    /// ```rust
+    /// let mut map = LinkedHashMap::new(rt.alloc());
+    /// map.insert('x', 1)?;
+    /// map.insert('y', 2)?;
+    /// assert_eq!(rt; map.pop_front(), Some(('x', 1)));
+    /// assert_eq!(rt; map.front(), Some((&'y', &2)));
+    /// ```
+    pub fn pop_front(&mut self) -> Option<(K, V)>
+        ensures pair { result ≡ first self.old.pairs }
+        ensures pairs { self.new.pairs ≡ without_first self.old.pairs }
+        ensures keeps { Keeps self.old self.new }
+        ensures ends_visit { to_visit self.new ≡ [] }
+        ensures valid { IsValid K.eq self.old }
+        ensures stays_valid { IsValid K.eq self.new }
+    {
+        let front = self.table.first()?;
+        self.visit.active = false;
+        Some(self.table.remove_at(front))
+    }
+
+    /// Removes and returns the back pair, if any, in O(1) on average. It compares no key and does
+    /// not allocate; the capacity stays.
+    ///
+    /// # Examples
+    ///
+    /// ```rust
+    /// let mut map = LinkedHashMap::new(rt.alloc());
+    /// map.insert('x', 1)?;
+    /// map.insert('y', 2)?;
+    /// assert_eq!(rt; map.pop_back(), Some(('y', 2)));
+    /// assert_eq!(rt; map.back(), Some((&'x', &1)));
+    /// ```
+    pub fn pop_back(&mut self) -> Option<(K, V)>
+        ensures pair { result ≡ last self.old.pairs }
+        ensures pairs { self.new.pairs ≡ without_last self.old.pairs }
+        ensures keeps { Keeps self.old self.new }
+        ensures ends_visit { to_visit self.new ≡ [] }
+        ensures valid { IsValid K.eq self.old }
+        ensures stays_valid { IsValid K.eq self.new }
+    {
+        let back = self.table.last()?;
+        self.visit.active = false;
+        Some(self.table.remove_at(back))
+    }
+
+    /// Drops all pairs and keeps the capacity, in O(capacity) without allocating.
+    ///
+    /// # Examples
+    ///
+    /// ```rust
+    /// let mut map = LinkedHashMap::new(rt.alloc());
+    /// map.insert('x', 1)?;
+    /// map.clear();
+    /// assert_eq!(rt; (map.len(), map.capacity()), (0, 1));
+    /// ```
+    pub fn clear(&mut self)
+    where
+        K: Drop,
+        V: Drop,
+        ensures pairs { self.new.pairs ≡ [] }
+        ensures keeps { Keeps self.old self.new }
+        ensures ends_visit { to_visit self.new ≡ [] }
+        ensures valid { IsValid K.eq self.old }
+        ensures stays_valid { IsValid K.eq self.new }
+    {
+        self.visit.active = false;
+        drop(self.table.drain());
+    }
+
+    /// Removes all pairs and returns them as a double-ended iterator, front to back, in O(capacity)
+    /// without allocating.
+    ///
+    /// The map is empty and keeps its capacity from the call on. Forgetting the iterator leaks the
+    /// pairs left.
+    ///
+    /// # Examples
+    ///
+    /// ```rust
+    /// let mut map = LinkedHashMap::new(rt.alloc());
+    /// map.insert('x', 1)?;
+    /// map.insert('y', 2)?;
+    /// let mut pairs = map.drain();
+    /// assert_eq!(rt; pairs.next(), Some(('x', 1)));
+    /// assert_eq!(rt; pairs.len(), 1);
+    /// drop(pairs);
+    /// assert_eq!(rt; (map.len(), map.capacity()), (0, 2));
+    /// ```
+    pub fn drain(&mut self) -> Drain<'_, K, V>
+        ensures* writes_back { sem 𝓛 (lends_drained K.row V.row S.row S.Hasher.row K.Hash S.BuildHasher S.Hasher.Hasher self.entry (drain_name result)) }
+        ensures rest { drain_rest result ≡ self.old.pairs }
+        ensures valid { IsValid K.eq self.old }
+        // Laws of iterators, for the proofs of callers.
+        ensures runs { YieldsInOrder (DrainSteps {K = K} {V = V}) drain_rest }
+        ensures runs_back { YieldsInReverse (DrainStepsBack {K = K} {V = V}) drain_rest }
+        ensures stays { DrainKeepsAlong DrainSteps result }
+        ensures stays_back { DrainKeepsAlong DrainStepsBack result }
+    {
+        self.visit.active = false;
+        Drain::new(self.table.drain())
+    }
+}
