@@ -1,7 +1,7 @@
-use Rattle.std.proofs.Common.{◌+◌, ◌-◌, ◌++◌, ◌∷◌, [], length, drop, nat_eq, sym, ap, ◌∙◌, subst, arith}
-use Rattle.std.specs.Prelude.{not, is_some, unwrap_or}
+use Rattle.std.proofs.Common.{◌+◌, ◌-◌, ◌++◌, drop, sym, ap, ◌∙◌, subst, arith}
+use Rattle.std.specs.Prelude.{not, unwrap_or}
 use Rattle.linked_hash_map.specs.Pairs.{last}
-use Rattle.linked_hash_map.specs.SessionTables.{session_table, session_of, payload_of, total_weight, without, with_last, IsValidTable}
+use Rattle.linked_hash_map.specs.SessionTables.{session_table, payload_of, total_weight, without, with_last, IsValidTable}
 use Rattle.linked_hash_map.specs.SessionsKept.{sessions_of}
 use Rattle.linked_hash_map.proofs.SessionLists.{total_weight-fit, last-append, IsLongestEnd-fit}
 use Rattle.linked_hash_map.proofs.SessionPairs.{IsValidTable-kept, total_weight-others}

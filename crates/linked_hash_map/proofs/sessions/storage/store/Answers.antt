@@ -1,4 +1,4 @@
-use Rattle.std.proofs.Common.{◌++◌, ◌∷◌, [], length, drop, not, nat_eq, true≢false, option_map, sym, ap, ◌∙◌, arith, length-drop}
+use Rattle.std.proofs.Common.{◌++◌, ◌∷◌, [], length, drop, not, true≢false, sym, ap, ◌∙◌, arith, length-drop}
 use Rattle.std.proofs.lemmas.List.{append_assoc}
 use Rattle.linked_hash_map.specs.SessionsKept.{sessions_of}
 use Rattle.linked_hash_map.proofs.SessionPuts.{room-left, with_last-new, sessions_of-drop, with_last-drop, length-without_new, find-new, payload_of-new, find-drop_new, not-absent}
