@@ -1,5 +1,6 @@
 -- Words that spell numbers.
-use Rattle.std.proofs.Common.{ℕ, ◌≡◌, ◌≢◌, ◌<◌, List, [], ◌∷◌, length, IsTrue, IsFalse, Option, Some, None, is_some, MatchOption, refl, sym, ap, ◌∙◌, arith, true≢false}
+use Rattle.std.proofs.Common.{ℕ, ◌≡◌, ◌≢◌, ◌<◌, List, [], ◌∷◌, length, refl, sym, ap, ◌∙◌, arith}
+use Rattle.lhm.specs.Grammar.{SpellsNumber}
 use Rattle.lhm.specs.Commands.{SpellNumbers, StartWithNumber, numbers_of}
 
 -- one number more
@@ -47,11 +48,13 @@ pub length-after : (words others : List (List ℕ)) (n : ℕ) → StartWithNumbe
 length-after [] others n first = absurd first
 length-after (word ∷ words) others n first = let same = ap length first.1 in omega (arith, same)
 
--- whether a text has words, by splitting one off
-pub words-some : {P : Type 0} (o : Option P) {words : List (List ℕ)} (first : P → List ℕ) (rest : P → List (List ℕ)) → IsTrue (is_some o) → MatchOption o (words ≡ []) (λ p. words ≡ first p ∷ rest p) → words ≢ []
-words-some None first rest some split = absurd (true≢false (sym some))
-words-some (Some p) first rest some split = λ none. let same = ap length (sym none ∙ split) in omega (arith, same)
+-- words of which the first was split off
+module _ (words others : List (List ℕ)) (word : List ℕ) (split : words ≡ word ∷ others) where
+  pub words-some : words ≢ []
+  words-some none = let same = ap length (sym none ∙ split) in omega (arith, same)
 
-pub words-none : {P : Type 0} (o : Option P) {words : List (List ℕ)} (first : P → List ℕ) (rest : P → List (List ℕ)) → IsFalse (is_some o) → MatchOption o (words ≡ []) (λ p. words ≡ first p ∷ rest p) → words ≡ []
-words-none None first rest none split = split
-words-none (Some p) first rest none split = absurd (true≢false none)
+  pub StartWithNumber-split : (n : ℕ) → SpellsNumber word n → StartWithNumber words n others
+  StartWithNumber-split n spells = rw split (spells, refl)
+
+  pub SpellsNumber-split : (n : ℕ) (rest : List (List ℕ)) → StartWithNumber words n rest → SpellsNumber word n
+  SpellsNumber-split n rest starts = (rw split at starts).0

@@ -2,6 +2,10 @@
 //!
 //! Each line of input is blank or one command, such as `insert 2 20` or `remove 2`. The output has one line for each
 //! command, with its answer and the map's length and capacity, and a last line with all pairs in order.
+//!
+//! The map's hasher has a fixed seed, so whoever writes the input can choose keys that collide, and a lookup is then
+//! O(n) in the number of pairs. A program for keys that strangers choose makes its map with a random seed:
+//! `LinkedHashMap::with_hasher(rt.alloc(), RandomState::new(&rt)?)`, with `std::hash::RandomState`.
 #![tactic(auto)]
 
 ghost use Rattle.std.specs.Prelude.{◌≡◌, ◌⊎◌, ◌++◌, ◌∷◌, ℕ, List, [], All, OnOk, IfOk, IfErr, IfSome, string_bytes};

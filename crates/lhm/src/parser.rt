@@ -1,6 +1,6 @@
 //! Commands from the words of lines.
 ghost use Rattle.std.specs.Prelude.{ℕ, ◌≡◌, ◌≢◌, ◌∷◌, List, [], IfSome, IfNone, IfOk, IfErr, OnOk, OnErr, IsErrOf, MatchOption};
-ghost use Rattle.lhm.specs.Grammar.{words_of, lines_of};
+ghost use Rattle.lhm.specs.Grammar.{words_of, lines_of, SpellsNumber};
 ghost use Rattle.lhm.specs.Commands.{SpellNumbers, StartWithNumber, name_text, mode_text, command_name, numbers_of, SayRest, IsSaidBy, AreCommandsOf, IsInvalid};
 ghost use Rattle.lhm.specs.Stop.{StopsLines};
 
@@ -54,6 +54,17 @@ fn no_number(rest: &[u8]) -> Result<(), NotACommand>
     }
 }
 
+/// Returns the number that a word is.
+fn number_of(word: &[u8]) -> Result<u64, NotACommand>
+    ensures ok { IfOk result (λ n. SpellsNumber word.now n) }
+    ensures err { OnErr result ((n : ℕ) → ¬ SpellsNumber word.now n) }
+{
+    match number(word) {
+        Some(n) => Ok(n),
+        None => Err(NotACommand),
+    }
+}
+
 /// Splits off the first word, which has to be a number.
 fn split_number(rest: &[u8]) -> Result<(u64, &[u8]), NotACommand>
     ensures ok { IfOk result (λ parts.
@@ -64,10 +75,7 @@ fn split_number(rest: &[u8]) -> Result<(u64, &[u8]), NotACommand>
     let Some((word, after)) = split_word(rest) else {
         return Err(NotACommand);
     };
-    match number(word) {
-        Some(n) => Ok((n, after)),
-        None => Err(NotACommand),
-    }
+    Ok((number_of(word)?, after))
 }
 
 /// Returns the number that the only word is.
@@ -98,8 +106,8 @@ fn pairs(alloc: Global, rest: &[u8]) -> Result<Vec<(u64, u64)>, LineError>
 {
     let mut pairs = Vec::new(alloc);
     let mut rest = rest;
-    while split_word(rest).is_some() {
-        let (k, after) = split_number(rest)?;
+    while let Some((word, after)) = split_word(rest) {
+        let k = number_of(word)?;
         let (v, after) = split_number(after)?;
         pairs.push((k, v))?;
         rest = after;

@@ -60,9 +60,11 @@ module _ {T : Type 0} where
   pub payload_of-sessions_of : (ps : List (ℕ × Held T)) (id : ℕ) → payload_of (sessions_of ps) id ≡ option_map (λ held. held.payload) (pairs.value_at nat_eq ps id)
   payload_of-sessions_of ps id = ap (option_map (λ (s : Session T). s.2)) (session_of-sessions_of ps id) ∙ payload_by (pairs.find nat_eq ps id)
 
+  pub weight-sessions_of : (ps : List (ℕ × Held T)) (id : ℕ) → option_map (λ s. s.1) (session_of (sessions_of ps) id) ≡ option_map (λ held. held.weight) (pairs.value_at nat_eq ps id)
+  weight-sessions_of ps id = ap (option_map (λ (s : Session T). s.1)) (session_of-sessions_of ps id) ∙ weight_by (pairs.find nat_eq ps id)
+
   pub weight_of-sessions_of : (ps : List (ℕ × Held T)) (id : ℕ) → weight_of (sessions_of ps) id ≡ unwrap_or (option_map (λ held. held.weight) (pairs.value_at nat_eq ps id)) 0
-  weight_of-sessions_of ps id =
-      ap (λ o. unwrap_or o 0) (ap (option_map (λ (s : Session T). s.1)) (session_of-sessions_of ps id) ∙ weight_by (pairs.find nat_eq ps id))
+  weight_of-sessions_of ps id = ap (λ o. unwrap_or o 0) (weight-sessions_of ps id)
 
   pub is_some-session_of : (ps : List (ℕ × Held T)) (id : ℕ) → is_some (session_of (sessions_of ps) id) ≡ is_some (pairs.find nat_eq ps id)
   is_some-session_of ps id = ap is_some (session_of-sessions_of ps id) ∙ some_by (pairs.find nat_eq ps id)
@@ -79,10 +81,6 @@ module _ {T : Type 0} where
   length-sessions_of [] = refl
   length-sessions_of (pair ∷ ps) = ap suc (length-sessions_of ps)
 
-  -- a pair put behind the others
-  pub sessions_of-append : (ps others : List (ℕ × Held T)) → sessions_of (ps ++ others) ≡ sessions_of ps ++ sessions_of others
-  sessions_of-append ps others = map-append session ps others
-
   -- what holds of a table that is kept so
   module _ {S : Type 0} {m : LinkedMap ℕ (Held T) S} {total limit : ℕ} (kept : IsKeptWithin m total limit) where
     pub distinct-sessions_of : IsDistinct nat_eq (ids_of (sessions_of m.pairs))
@@ -95,12 +93,12 @@ module _ {T : Type 0} where
     total_weight-others id = total_weight-without (sessions_of m.pairs) id distinct-sessions_of ∙ sym kept.sum
 
     -- and once a session is out
-    pub IsKeptWithin-without : {n : LinkedMap ℕ (Held T) S} (id : ℕ) → n.pairs ≡ pairs.without nat_eq m.pairs id → IsValid nat_eq n → IsKeptWithin n (total - weight_of (sessions_of m.pairs) id) limit
-    IsKeptWithin-without id changed valid =
+    pub IsKeptWithin-without : {n : LinkedMap ℕ (Held T) S} (id : ℕ) → n.pairs ≡ pairs.without nat_eq m.pairs id → n.mode ≡ m.mode → IsValid nat_eq n → IsKeptWithin n (total - weight_of (sessions_of m.pairs) id) limit
+    IsKeptWithin-without id changed same valid =
         let others = total_weight-others id in
         let left = ap sessions_of changed ∙ sessions_of-without m.pairs id in
         let within = kept.within in
-        record { valid = valid; sum = omega (arith, ap total_weight left); within = omega arith }
+        record { valid = valid; mode = same ∙ kept.mode; sum = omega (arith, ap total_weight left); within = omega arith }
 
   -- the session of an id at the end
   module _ {S : Type 0} (m : LinkedMap ℕ (Held T) S) (id : ℕ) {held : Held T} (found : pairs.value_at nat_eq m.pairs id ≡ Some held) where
@@ -122,6 +120,7 @@ module _ {T : Type 0} where
         let after = total_weight-with_last (sessions_of m.pairs) id (weight_of (sessions_of m.pairs) id) payload in
         record {
           valid = IsValid-to_back_present kept.valid nat_eq_equiv id now there refl (omega arith);
+          mode = kept.mode;
           sum = omega (arith, ap total_weight (sessions_of-refreshed payload));
           within = kept.within;
         }

@@ -1,52 +1,68 @@
 -- What a put does to the pairs of a table's map.
 use Rattle.std.proofs.Common.{◌≡◌, ℕ, zero, suc, ◌+◌, ◌-◌, ◌<◌, ◌≤◌, List, [], ◌∷◌, ◌++◌, length, drop, nat_eq, Option, Some, None, is_some, option_map, true, false, refl, sym, ap, ◌∙◌, arith, length-append, length-drop}
-use Rattle.std.specs.Option.{IsSome}
 use Rattle.std.specs.Cmp.{nat_eq_equiv}
-use Rattle.std.proofs.lemmas.List.{drop-map}
-use Rattle.linked_hash_map.specs.LinkedMap.{LinkedMap}
+use Rattle.std.proofs.lemmas.List.{drop-map, drop-append-le}
 use Rattle.linked_hash_map.specs.Pairs as pairs
-use Rattle.linked_hash_map.specs.Validity.{IsValid}
 use Rattle.linked_hash_map.specs.SessionTables.{Session, total_weight, session_of, payload_of, without, with_last, fit}
 use Rattle.linked_hash_map.specs.SessionsKept.{sessions_of}
 use Rattle.linked_hash_map.specs.declared.sessions.storage.Held.{Held}
-use Rattle.linked_hash_map.proofs.Callers.Keys.{find-drop, length-without_present, length-without_absent}
+use Rattle.linked_hash_map.proofs.Callers.Keys.{find-drop, without-absent, value_at-none, length-without_absent}
 use Rattle.linked_hash_map.proofs.Callers.Lookups.{find-without_here}
 use Rattle.linked_hash_map.proofs.LiveKeys.{none_is}
 use Rattle.linked_hash_map.proofs.SessionLists.{total_weight-append, total_weight-last, fit-all, fit-append, session_of-append}
-use Rattle.linked_hash_map.proofs.SessionPairs.{sessions_of-without, length-sessions_of, is_some-session_of}
+use Rattle.linked_hash_map.proofs.SessionPairs.{sessions_of-without, length-sessions_of, is_some-session_of, payload_of-sessions_of}
+
+-- there is room for one more once some are out, or at once
+pub room-left : (count len capacity : ℕ) → count ≤ len → len ≤ capacity → (count ≡ 0 → len < capacity) → len - count < capacity
+room-left zero len capacity enough within free = let below = free refl in omega arith
+room-left (suc count) len capacity enough within free = omega arith
 
 module _ {T : Type 0} where
-  -- once the session of the id is out and the front ones went, those that fit are left
-  pub sessions_of-left : (ps : List (ℕ × Held T)) (count room id : ℕ) {taken left : List (ℕ × Held T)} → taken ≡ pairs.without nat_eq ps id → left ≡ drop count taken
-      → drop count (without (sessions_of ps) id) ≡ fit room (without (sessions_of ps) id) → sessions_of left ≡ fit room (without (sessions_of ps) id)
-  sessions_of-left ps count room id {taken} out oldest fits =
-      ap sessions_of oldest
-      ∙ sym (drop-map (λ (pair : ℕ × Held T). (pair.0, pair.1.weight, pair.1.payload)) count taken)
-      ∙ ap (λ l. drop count (sessions_of l)) out
-      ∙ ap (drop count) (sessions_of-without ps id)
-      ∙ fits
+  -- a session whose id is new is put behind the others
+  pub with_last-new : (ps : List (ℕ × Held T)) (id weight : ℕ) (payload : T) → pairs.find nat_eq ps id ≡ None → with_last (sessions_of ps) id weight payload ≡ sessions_of ps ++ (id, weight, payload) ∷ []
+  with_last-new ps id weight payload none =
+      ap (λ l. l ++ (id, weight, payload) ∷ []) (sym (sessions_of-without ps id) ∙ ap sessions_of (without-absent nat_eq ps id none))
 
-  pub length-taken : (ps : List (ℕ × Held T)) (id : ℕ) {taken : List (ℕ × Held T)} → taken ≡ pairs.without nat_eq ps id → length taken ≡ length (without (sessions_of ps) id)
-  length-taken ps id {taken} out = sym (length-sessions_of taken) ∙ ap (λ l. length (sessions_of l)) out ∙ ap length (sessions_of-without ps id)
+  pub sessions_of-drop : (count : ℕ) (ps : List (ℕ × Held T)) → sessions_of (drop count ps) ≡ drop count (sessions_of ps)
+  sessions_of-drop count ps = sym (drop-map (λ (pair : ℕ × Held T). (pair.0, pair.1.weight, pair.1.payload)) count ps)
 
-  -- no session has the id any more
-  pub find-left : (ps : List (ℕ × Held T)) (count id : ℕ) {taken left : List (ℕ × Held T)} → taken ≡ pairs.without nat_eq ps id → left ≡ drop count taken → pairs.find nat_eq left id ≡ None
-  find-left ps count id out oldest =
-      ap (λ l. pairs.find nat_eq l id) (oldest ∙ ap (drop count) out)
-      ∙ find-drop nat_eq (pairs.without nat_eq ps id) id (find-without_here nat_eq_equiv ps id) count
+  -- the front ones are not the new one
+  pub drop-with_last : (sessions : List (Session T)) (count id weight : ℕ) (payload : T) → count ≤ length (without sessions id)
+      → drop count (with_last sessions id weight payload) ≡ drop count (without sessions id) ++ (id, weight, payload) ∷ []
+  drop-with_last sessions count id weight payload enough = drop-append-le count (without sessions id) ((id, weight, payload) ∷ []) enough
 
-  -- and there is room for one more
-  pub room-left : {S : Type 0} {m : LinkedMap ℕ (Held T) S} → IsValid nat_eq m → (count id capacity : ℕ) → length m.pairs ≤ capacity → count ≤ length (pairs.without nat_eq m.pairs id)
-      → (count ≡ 0 → pairs.find nat_eq m.pairs id ≡ None → length m.pairs < capacity) → length (drop count (pairs.without nat_eq m.pairs id)) < capacity
-  room-left {m = m} valid count id capacity within enough free = by_find (pairs.find nat_eq m.pairs id) refl count refl
-    where
-      shorter : length (drop count (pairs.without nat_eq m.pairs id)) ≡ length (pairs.without nat_eq m.pairs id) - count
-      shorter = length-drop count (pairs.without nat_eq m.pairs id)
+  pub with_last-drop : (ps : List (ℕ × Held T)) (count id weight : ℕ) (payload : T) → pairs.find nat_eq ps id ≡ None → count ≤ length ps
+      → with_last (sessions_of (drop count ps)) id weight payload ≡ drop count (with_last (sessions_of ps) id weight payload)
+  with_last-drop ps count id weight payload none enough =
+      with_last-new (drop count ps) id weight payload (find-drop nat_eq ps id none count)
+      ∙ ap (λ l. l ++ (id, weight, payload) ∷ []) (sessions_of-drop count ps)
+      ∙ sym (drop-append-le count (sessions_of ps) ((id, weight, payload) ∷ []) (omega (arith, length-sessions_of ps)))
+      ∙ ap (drop count) (sym (with_last-new ps id weight payload none))
 
-      by_find : (o : Option (ℕ × Held T)) → pairs.find nat_eq m.pairs id ≡ o → (n : ℕ) → n ≡ count → length (drop count (pairs.without nat_eq m.pairs id)) < capacity
-      by_find (Some pair) found n is = let one = length-without_present nat_eq_equiv m.pairs id valid.distinct (ap is_some found) in omega (arith, shorter)
-      by_find None none zero is = let all = length-without_absent nat_eq m.pairs id none in let below = free (sym is) none in omega (arith, shorter)
-      by_find None none (suc n) is = let all = length-without_absent nat_eq m.pairs id none in omega (arith, shorter)
+  pub length-without_new : (ps : List (ℕ × Held T)) (id : ℕ) → pairs.find nat_eq ps id ≡ None → length (without (sessions_of ps) id) ≡ length ps
+  length-without_new ps id none =
+      ap length (sym (sessions_of-without ps id)) ∙ length-sessions_of (pairs.without nat_eq ps id) ∙ length-without_absent nat_eq ps id none
+
+  -- whether an id is new
+  pub find-new : (ps : List (ℕ × Held T)) (id : ℕ) → is_some (session_of (sessions_of ps) id) ≡ false → pairs.find nat_eq ps id ≡ None
+  find-new ps id new = none_is (pairs.find nat_eq ps id) (sym (is_some-session_of ps id) ∙ new)
+
+  some_weight : (o : Option (Session T)) → is_some (option_map (λ (session : Session T). session.1) o) ≡ is_some o
+  some_weight None = refl
+  some_weight (Some session) = refl
+
+  pub is_some-weight : (sessions : List (Session T)) (id : ℕ) {weight : Option ℕ} → weight ≡ option_map (λ session. session.1) (session_of sessions id) → is_some (session_of sessions id) ≡ is_some weight
+  is_some-weight sessions id known = sym (ap is_some known ∙ some_weight (session_of sessions id))
+
+  pub find-drop_new : (ps : List (ℕ × Held T)) (count id : ℕ) {left : List (ℕ × Held T)} → pairs.find nat_eq ps id ≡ None → left ≡ drop count ps → pairs.find nat_eq left id ≡ None
+  find-drop_new ps count id none oldest = ap (λ l. pairs.find nat_eq l id) oldest ∙ find-drop nat_eq ps id none count
+
+  pub payload_of-new : (ps : List (ℕ × Held T)) (id : ℕ) → pairs.find nat_eq ps id ≡ None → payload_of (sessions_of ps) id ≡ None
+  payload_of-new ps id none = payload_of-sessions_of ps id ∙ ap (option_map (λ (held : Held T). held.payload)) (value_at-none nat_eq ps id none)
+
+  -- a put adds no more than one
+  pub length-with_last : (sessions : List (Session T)) (id weight : ℕ) (payload : T) → length (with_last sessions id weight payload) ≡ length (without sessions id) + 1
+  length-with_last sessions id weight payload = length-append (without sessions id) ((id, weight, payload) ∷ [])
 
   -- the new session stays, with those that fit beside it
   pub fit-with_last : (limit weight id : ℕ) (payload : T) (sessions left : List (Session T)) → weight ≤ limit → left ≡ fit (limit - weight) (without sessions id)
@@ -55,10 +71,14 @@ module _ {T : Type 0} where
       ap (λ l. l ++ (id, weight, payload) ∷ []) fits ∙ sym (fit-append limit (without sessions id) (id, weight, payload) light)
 
   -- and is the one of its id
-  pub payload_of-put : (left : List (ℕ × Held T)) (id weight : ℕ) (payload : T) → pairs.find nat_eq left id ≡ None → payload_of (sessions_of left ++ (id, weight, payload) ∷ []) id ≡ Some payload
-  payload_of-put left id weight payload none =
+  pub payload_of-put : (ps : List (ℕ × Held T)) (count id weight : ℕ) (payload : T) → payload_of (drop count (without (sessions_of ps) id) ++ (id, weight, payload) ∷ []) id ≡ Some payload
+  payload_of-put ps count id weight payload =
+      let left = drop count (pairs.without nat_eq ps id) in
+      let none = find-drop nat_eq (pairs.without nat_eq ps id) id (find-without_here nat_eq_equiv ps id) count in
       let absent = none_is (session_of (sessions_of left) id) (is_some-session_of left id ∙ ap is_some none) in
-      ap (option_map (λ (session : Session T). session.2)) (session_of-append (sessions_of left) (id, weight, payload) absent)
+      let same = sessions_of-drop count (pairs.without nat_eq ps id) ∙ ap (drop count) (sessions_of-without ps id) in
+      ap (λ l. payload_of (l ++ (id, weight, payload) ∷ []) id) (sym same)
+      ∙ ap (option_map (λ (session : Session T). session.2)) (session_of-append (sessions_of left) (id, weight, payload) absent)
 
   pub total_weight-put : (weight id : ℕ) (payload : T) (left : List (Session T)) → total_weight (left ++ (id, weight, payload) ∷ []) ≡ total_weight left + weight
   total_weight-put weight id payload left =
@@ -72,5 +92,5 @@ module _ {T : Type 0} where
   pub none-leaves : (count room : ℕ) (sessions : List (Session T)) → drop count sessions ≡ fit room sessions → count ≤ length sessions → total_weight sessions ≤ room → count ≡ 0
   none-leaves count room sessions stay within light = omega (arith, ap length (stay ∙ fit-all room sessions light), length-drop count sessions)
 
-  pub not-absent : (ps : List (ℕ × Held T)) (id : ℕ) → IsSome (session_of (sessions_of ps) id) → pairs.find nat_eq ps id ≡ None → false ≡ true
+  pub not-absent : (ps : List (ℕ × Held T)) (id : ℕ) → is_some (session_of (sessions_of ps) id) ≡ true → pairs.find nat_eq ps id ≡ None → false ≡ true
   not-absent ps id some none = ap is_some (sym none) ∙ sym (is_some-session_of ps id) ∙ some

@@ -43,9 +43,7 @@ mod iter;
 mod outcome;
 mod storage;
 
-use self::storage::{
-    Held, find_leaving, make_room, put_back, take_oldest, take_payload, weight_at,
-};
+use self::storage::{Held, find_leaving, make_room, store, weight_at};
 use crate::map::LinkedHashMap;
 pub use iter::SessionIter;
 pub use outcome::{Put, PutReason, PutRefused};
@@ -55,8 +53,11 @@ use std::marker::Model;
 /// A table of sessions with a limit on the sum of their weights.
 ///
 /// Ids are distinct, and sessions are in the order of their last put or touch. A call with an id
-/// looks it up, in O(1) on average, in a map whose hasher has a fixed seed. Dropping a table drops
-/// its payloads, in O(n).
+/// looks it up in O(1) on average. Dropping a table drops its payloads, in O(n).
+///
+/// The hasher of a table has a fixed seed, so whoever chooses the ids can make them collide, and a
+/// lookup is then O(n). For ids that strangers choose use a [`LinkedHashMap`] itself, with a random
+/// seed: `LinkedHashMap::with_hasher(rt.alloc(), RandomState::new(&rt)?)`.
 ///
 /// # Examples
 ///
@@ -165,18 +166,19 @@ impl<T> Sessions<T> {
                 payload,
             });
         }
+        let replaced = weight_at(&self.map, id);
+        let is_new = replaced.is_none();
         // No sum can overflow: the weight is subtracted from the limit, not added to the total.
-        let others = self.total - weight_at(&self.map, id);
+        let others = self.total - replaced.unwrap_or(0);
         let leaving = find_leaving(&self.map, id, others, self.limit - weight);
-        let Ok(mut gone) = make_room(&mut self.map, self.alloc, id, leaving.count) else {
+        let Ok(mut gone) = make_room(&mut self.map, self.alloc, is_new, leaving.count) else {
             return Err(PutRefused {
                 reason: PutReason::NoRoom,
                 payload,
             });
         };
-        let old = take_payload(&mut self.map, id);
-        take_oldest(&mut self.map, leaving.count, &mut gone);
-        put_back(&mut self.map, id, weight, payload);
+        let session = (id, weight, payload);
+        let old = store(&mut self.map, session, is_new, leaving.count, &mut gone);
         self.total = leaving.staying + weight;
         Ok(Put { old, gone })
     }
@@ -225,8 +227,11 @@ impl<T> Sessions<T> {
         ensures valid { IsValidTable self.old }
         ensures stays_valid { IsValidTable self.new }
     {
-        self.total -= weight_at(&self.map, id);
-        take_payload(&mut self.map, id)
+        let Some(held) = self.map.remove(&id) else {
+            return None;
+        };
+        self.total -= held.weight;
+        Some(held.payload)
     }
 
     /// Returns the sum of the weights, at most the limit. It is O(1) and does not allocate.

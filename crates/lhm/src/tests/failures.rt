@@ -2,7 +2,7 @@
 
 use super::checks::{check_eq, given};
 use super::fakes::{NEVER, Output, Sink, Source};
-use super::refusals::say_whether_given;
+use super::refusals::say_if_given;
 use crate::run;
 use std::alloc::{AllocError, Global};
 use std::io::ErrorKind;
@@ -228,7 +228,7 @@ fn check_out_of_memory(rt: &impl Abort, alloc: Global, fails_at: usize) -> bool 
         check_eq!(rt; (output.text(), faults.calls), ("list\n", 0));
         return true;
     }
-    let begins = "out of memory\n".starts_with(faults.text());
+    let begins = "out of memory\n".starts_with(faults.written());
     check_eq!(rt;
         (fails_at, status, output.text(), begins, faults.calls),
         (fails_at, 3, "", true, fails_at)
@@ -248,5 +248,6 @@ fn check_each_out_of_memory(rt: &impl Abort, alloc: Global) -> bool {
 
 #[test]
 fn refused_growth_is_a_fault_that_fails(rt: HostRuntime) {
-    say_whether_given(&rt, check_each_out_of_memory(&rt, rt.alloc()));
+    // Each of the three runs asks for the text of its list.
+    say_if_given(&rt, check_each_out_of_memory(&rt, rt.alloc()), 3);
 }

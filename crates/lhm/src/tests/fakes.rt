@@ -43,11 +43,12 @@ impl Read for Source<'_> {
 }
 
 /// A writer into a fixed buffer that takes at most 7 bytes at once and fails at call `fails_at`,
-/// where a flush is a call too.
+/// where a flush is a call too. It gives on what was written when it is flushed.
 #[derive(Drop)]
 pub struct Sink {
     buffer: [u8; 256],
     len: usize,
+    flushed: usize,
     pub calls: usize,
     pub fails_at: usize,
 }
@@ -57,6 +58,7 @@ impl Sink {
         Sink {
             buffer: [0; 256],
             len: 0,
+            flushed: 0,
             calls: 0,
             fails_at: NEVER,
         }
@@ -70,19 +72,24 @@ impl Sink {
         Ok(())
     }
 
-    /// Returns what was written. Bytes that are no text are told by an answer that no run gives.
+    /// Returns what was written and flushed.
     pub fn text(&self) -> &str {
-        match str::from_utf8(self.bytes()) {
-            Ok(text) => text,
-            Err(_) => "bytes that are no text",
-        }
+        self.first(self.flushed)
     }
 
-    fn bytes(&self) -> &[u8] {
-        if self.len <= self.buffer.len() {
-            &self.buffer[..self.len]
-        } else {
-            &[]
+    /// Returns what was written, flushed or not.
+    pub fn written(&self) -> &str {
+        self.first(self.len)
+    }
+
+    /// Returns the first bytes. Bytes that are no text are told by an answer that no run gives.
+    fn first(&self, len: usize) -> &str {
+        if len > self.buffer.len() {
+            return "more than the buffer";
+        }
+        match str::from_utf8(&self.buffer[..len]) {
+            Ok(text) => text,
+            Err(_) => "bytes that are no text",
         }
     }
 }
@@ -100,7 +107,9 @@ impl Write for Sink {
     }
 
     fn flush(&mut self) -> io::Result<()> {
-        self.count_call()
+        self.count_call()?;
+        self.flushed = self.len;
+        Ok(())
     }
 }
 

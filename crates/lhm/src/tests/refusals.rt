@@ -1,10 +1,15 @@
 //! Runs with a growth refused.
 //!
-//! The tests named `refused_` run with the Nth growth refused, for each N, until all of them say that every growth was given.
+//! The tests named `refused_` run with the Nth growth refused, for each N, until all of them say that every growth was given, and how
+//! many there are. That number is counted by hand. A vector of bytes grows to 8, and one of commands or of pairs to 4, and each doubles
+//! from there. The room of the replies is one growth, and so is the list of a draining. A map asks for its buckets, a guard and a node
+//! at its first pair, and for its buckets and a node at its second.
 
-use super::checks::check_eq;
+use super::checks::{check_eq, given};
 use super::fakes::{Sink, Source};
 use crate::run;
+use crate::text::push_replies;
+use linked_hash_map::replay::{Answer, Reply};
 use std::alloc::Global;
 use std::process::Abort;
 
@@ -29,16 +34,16 @@ fn find_way(ways: &[Way], status: u8, output: &str, faults: &str) -> (bool, bool
     (found, is_last)
 }
 
-/// Says that no growth was refused, where that is so.
-pub fn say_whether_given(rt: &impl Print, is_given: bool) {
-    if is_given {
-        let _ = println!(rt; "every growth was given");
+/// Says that no growth was refused, where that is so, and how many there are.
+pub fn say_if_given(rt: &impl Print, given: bool, growths: u64) {
+    if given {
+        let _ = println!(rt; "every growth was given, {growths} in all");
     }
 }
 
 /// Checks that one run over memory ends in one of the ways, and says so where it is the last, in which no growth is
 /// refused.
-fn check_ways(rt: &(impl Abort + Print), alloc: Global, input: &[u8], ways: &[Way]) {
+fn check_ways(rt: &(impl Abort + Print), alloc: Global, input: &[u8], ways: &[Way], growths: u64) {
     let mut reader = Source::new(input);
     let mut output = Sink::new();
     let mut faults = Sink::new();
@@ -48,19 +53,21 @@ fn check_ways(rt: &(impl Abort + Print), alloc: Global, input: &[u8], ways: &[Wa
         (status, output.text(), faults.text(), found),
         (status, output.text(), faults.text(), true)
     );
-    say_whether_given(rt, is_last);
+    say_if_given(rt, is_last, growths);
 }
 
 #[test]
 fn refused_growth_of_an_empty_run(rt: HostRuntime) {
     let ways = [OUT_OF_MEMORY, (0, "list\n", "")];
-    check_ways(&rt, rt.alloc(), b"", &ways);
+    // The text of the list.
+    check_ways(&rt, rt.alloc(), b"", &ways, 1);
 }
 
 #[test]
 fn refused_growth_before_a_line_that_is_no_command(rt: HostRuntime) {
     let ways = [OUT_OF_MEMORY, (2, "", "line 2: not a command\n")];
-    check_ways(&rt, rt.alloc(), b"insert 1 10\nremove\n", &ways);
+    // 19 bytes of input, to 32, and a command.
+    check_ways(&rt, rt.alloc(), b"insert 1 10\nremove\n", &ways, 4);
 }
 
 #[test]
@@ -85,7 +92,8 @@ fn refused_growth_of_a_run(rt: HostRuntime) {
         ),
     ];
     let input = b"insert 1 10\ninsert 2 20\ninsert 1 11\nremove 1\ninsert 2 21\n";
-    check_ways(&rt, rt.alloc(), input, &ways);
+    // 57 bytes of input, to 64, five commands, to 8, the replies, two pairs of the map, and 99 bytes of output, to 128.
+    check_ways(&rt, rt.alloc(), input, &ways, 17);
 }
 
 #[test]
@@ -96,7 +104,8 @@ fn refused_growth_of_an_extension(rt: HostRuntime) {
         (0, "stopped 1 2 20 len=1 cap=1\nlist 1:10\n", ""),
         (0, "done len=2 cap=2\nlist 1:10 2:20\n", ""),
     ];
-    check_ways(&rt, rt.alloc(), b"extend 1 10 2 20\n", &ways);
+    // 17 bytes of input, to 32, the pairs, a command, the replies, two pairs of the map, and 32 bytes of output.
+    check_ways(&rt, rt.alloc(), b"extend 1 10 2 20\n", &ways, 14);
 }
 
 #[test]
@@ -107,5 +116,33 @@ fn refused_growth_of_a_draining(rt: HostRuntime) {
         (0, "new len=1 cap=1\nnoroom len=1 cap=1\nlist 1:1\n", ""),
         (0, "new len=1 cap=1\npairs 1:1 len=0 cap=1\nlist\n", ""),
     ];
-    check_ways(&rt, rt.alloc(), b"insert 1 1\ndrain\n", &ways);
+    // 17 bytes of input, to 32, the commands, the replies, a pair of the map, its list, and 43 bytes of output, to 64.
+    check_ways(&rt, rt.alloc(), b"insert 1 1\ndrain\n", &ways, 13);
+}
+
+/// Answers that a run gives where a growth is refused, and the lines of their replies.
+const REFUSALS: [(Answer<u64, u64>, &str); 3] = [
+    (Answer::Refused(1, 10), "refused 1 10 len=2 cap=3\n"),
+    (Answer::Stopped(4, 1, 10), "stopped 4 1 10 len=2 cap=3\n"),
+    (Answer::NoRoom, "noroom len=2 cap=3\n"),
+];
+
+/// Checks the line of a reply. Its text has room, so that nothing is refused.
+fn check_reply(rt: &impl Abort, alloc: Global, answer: Answer<u64, u64>, line: &str) {
+    let mut text = given!(rt; String::with_capacity(alloc, 64));
+    let reply = Reply {
+        answer,
+        len: 2,
+        capacity: 3,
+    };
+    let _ = given!(rt; push_replies(&mut text, &[reply]));
+    check_eq!(rt; text.as_str(), line);
+}
+
+#[test]
+fn answers_to_refusals_are_written_where_there_is_room(rt: HostRuntime) {
+    let [refused, stopped, no_room] = REFUSALS;
+    check_reply(&rt, rt.alloc(), refused.0, refused.1);
+    check_reply(&rt, rt.alloc(), stopped.0, stopped.1);
+    check_reply(&rt, rt.alloc(), no_room.0, no_room.1);
 }

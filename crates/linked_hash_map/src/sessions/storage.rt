@@ -1,10 +1,11 @@
 //! How the sessions of a table are stored: in a map, by their ids, in order. None of these
 //! functions drops a payload.
-ghost use Rattle.std.specs.Prelude.{◌≡◌, ◌+◌, ◌-◌, ◌<◌, ◌≤◌, ◌∷◌, ◌++◌, [], length, drop, nat_eq, None, IfOk, OnOk, OnErr, vec_len, vec_capacity};
+ghost use Rattle.std.specs.Prelude.{◌≡◌, ◌+◌, ◌-◌, ◌<◌, ◌≤◌, ◌++◌, [], length, drop, nat_eq, not, is_some, None, option_map, IsTrue, IfOk, OnOk, OnErr, vec_len, vec_capacity};
 ghost use Rattle.linked_hash_map.specs.Pairs as pairs;
-ghost use Rattle.linked_hash_map.specs.SessionTables.{payload_of, weight_of, total_weight, without, fit};
+ghost use Rattle.linked_hash_map.specs.SessionTables.{session_of, payload_of, total_weight, without, with_last, fit};
 ghost use Rattle.linked_hash_map.specs.Validity.{IsValid};
 ghost use Rattle.linked_hash_map.specs.SessionsKept.{sessions_of};
+ghost use Rattle.linked_hash_map.specs.declared.map.Mode.TheVariants.{Touch};
 
 use crate::error::NoRoom;
 use crate::map::LinkedHashMap;
@@ -24,13 +25,13 @@ pub(super) struct Leaving {
     pub(super) staying: u64,
 }
 
-/// Returns the weight of the session with an id, or 0 if there is none.
-pub(super) fn weight_at<T>(map: &LinkedHashMap<u64, Held<T>>, id: u64) -> u64
-    ensures { result ≡ weight_of (sessions_of map.now.pairs) id }
+/// Returns the weight of the session with an id, or `None` if there is none.
+pub(super) fn weight_at<T>(map: &LinkedHashMap<u64, Held<T>>, id: u64) -> Option<u64>
+    ensures { result ≡ option_map (λ session. session.1) (session_of (sessions_of map.now.pairs) id) }
 {
     match map.get(&id) {
-        Some(held) => held.weight,
-        None => 0,
+        Some(held) => Some(held.weight),
+        None => None,
     }
 }
 
@@ -68,18 +69,19 @@ pub(super) fn find_leaving<T>(
 pub(super) fn make_room<T>(
     map: &mut LinkedHashMap<u64, Held<T>>,
     alloc: Global,
-    id: u64,
+    is_new: bool,
     count: usize,
 ) -> Result<Vec<(u64, u64, T)>, NoRoom>
     requires { IsValid nat_eq map.old }
     ensures pairs { map.new.pairs ≡ map.old.pairs }
+    ensures mode { map.new.mode ≡ map.old.mode }
     ensures stays_valid { IsValid nat_eq map.new }
     ensures empty { IfOk result (λ gone. gone.items ≡ []) }
     ensures exact { IfOk result (λ gone. vec_capacity gone ≡ count) }
-    ensures room { OnOk result (count ≡ 0 → pairs.find nat_eq map.old.pairs id ≡ None → length map.old.pairs < map.new.capacity) }
+    ensures room { OnOk result (count ≡ 0 → IsTrue is_new → length map.old.pairs < map.new.capacity) }
 
     ensures unchanged { OnErr result (map.new ≡ map.old) }
-    ensures absent { OnErr result (count ≡ 0 → pairs.find nat_eq map.old.pairs id ≡ None) }
+    ensures new { OnErr result (count ≡ 0 → IsTrue is_new) }
 {
     if count > 0 {
         return match Vec::with_capacity(alloc, count) {
@@ -87,7 +89,7 @@ pub(super) fn make_room<T>(
             Err(_error) => Err(NoRoom),
         };
     }
-    if map.contains_key(&id) {
+    if !is_new {
         return Ok(Vec::new(alloc));
     }
     match map.reserve(1) {
@@ -96,17 +98,36 @@ pub(super) fn make_room<T>(
     }
 }
 
-/// Removes the session with an id and returns its payload, or returns `None` if there is none.
-pub(super) fn take_payload<T>(map: &mut LinkedHashMap<u64, Held<T>>, id: u64) -> Option<T>
-    ensures pairs { map.new.pairs ≡ pairs.without nat_eq map.old.pairs id }
-    ensures payload { result ≡ payload_of (sessions_of map.old.pairs) id }
-    ensures capacity { map.new.capacity ≡ map.old.capacity }
+/// Puts a session at the back, in place of the one with its id, and removes sessions from the
+/// front. Returns the payload that the id had. It looks the id up once, and does not allocate.
+pub(super) fn store<T>(
+    map: &mut LinkedHashMap<u64, Held<T>>,
+    session: (u64, u64, T),
+    is_new: bool,
+    count: usize,
+    gone: &mut Vec<(u64, u64, T)>,
+) -> Option<T>
+    requires valid { IsValid nat_eq map.old }
+    requires mode { map.old.mode ≡ Touch }
+    requires held { is_some (session_of (sessions_of map.old.pairs) session.0) ≡ not is_new }
+    requires enough { count ≤ length (without (sessions_of map.old.pairs) session.0) }
+    requires space { vec_len gone.old + count ≤ vec_capacity gone.old }
+    requires room { count ≡ 0 → IsTrue is_new → length map.old.pairs < map.old.capacity }
+    ensures sessions { sessions_of map.new.pairs ≡ drop count (with_last (sessions_of map.old.pairs) session.0 session.1 session.2) }
+    ensures gone { gone.new.items ++ sessions_of map.new.pairs ≡ gone.old.items ++ with_last (sessions_of map.old.pairs) session.0 session.1 session.2 }
+    ensures same_space { vec_capacity gone.new ≡ vec_capacity gone.old }
+    ensures old { result ≡ payload_of (sessions_of map.old.pairs) session.0 }
+    ensures mode { map.new.mode ≡ Touch }
     ensures stays_valid { IsValid nat_eq map.new }
 {
-    match map.remove(&id) {
-        Some(held) => Some(held.payload),
-        None => None,
+    let (id, weight, payload) = session;
+    if is_new {
+        take_oldest(map, count, gone);
+        return put_back(map, id, weight, payload);
     }
+    let old = put_back(map, id, weight, payload);
+    take_oldest(map, count, gone);
+    old
 }
 
 /// Removes sessions from the front, in order, into a vector that has room for them.
@@ -117,11 +138,12 @@ pub(super) fn take_oldest<T>(
 )
     requires valid { IsValid nat_eq map.old }
     requires enough { count ≤ length map.old.pairs }
-    requires room { vec_len gone.old + count ≤ vec_capacity gone.old }
+    requires space { vec_len gone.old + count ≤ vec_capacity gone.old }
     ensures pairs { map.new.pairs ≡ drop count map.old.pairs }
     ensures gone { gone.new.items ++ sessions_of map.new.pairs ≡ gone.old.items ++ sessions_of map.old.pairs }
-    ensures same_room { vec_capacity gone.new ≡ vec_capacity gone.old }
+    ensures same_space { vec_capacity gone.new ≡ vec_capacity gone.old }
     ensures capacity { map.new.capacity ≡ map.old.capacity }
+    ensures mode { map.new.mode ≡ map.old.mode }
     ensures stays_valid { IsValid nat_eq map.new }
 {
     for _ in 0..count {
@@ -132,16 +154,24 @@ pub(super) fn take_oldest<T>(
     }
 }
 
-/// Inserts a session at the back. Its id is new and there is room, so it does not allocate.
-pub(super) fn put_back<T>(map: &mut LinkedHashMap<u64, Held<T>>, id: u64, weight: u64, payload: T)
-    requires new { pairs.find nat_eq map.old.pairs id ≡ None }
-    requires room { length map.old.pairs < map.old.capacity }
-    ensures sessions { sessions_of map.new.pairs ≡ sessions_of map.old.pairs ++ (id, weight, payload) ∷ [] }
+/// Puts a session at the back, in place of the one with its id, and returns the payload that the id
+/// had. A new id has room, so it does not allocate.
+pub(super) fn put_back<T>(
+    map: &mut LinkedHashMap<u64, Held<T>>,
+    id: u64,
+    weight: u64,
+    payload: T,
+) -> Option<T>
+    requires mode { map.old.mode ≡ Touch }
+    requires room { pairs.find nat_eq map.old.pairs id ≡ None → length map.old.pairs < map.old.capacity }
+    ensures sessions { sessions_of map.new.pairs ≡ with_last (sessions_of map.old.pairs) id weight payload }
+    ensures old { result ≡ payload_of (sessions_of map.old.pairs) id }
+    ensures mode { map.new.mode ≡ Touch }
     ensures stays_valid { IsValid nat_eq map.new }
 {
     match map.insert(id, Held { weight, payload }) {
-        Ok(None) => {}
-        Ok(Some(_held)) => unreachable!(),
+        Ok(Some(held)) => Some(held.payload),
+        Ok(None) => None,
         Err(_refused) => unreachable!(),
     }
 }

@@ -8,8 +8,8 @@ pub record IsSpelledTo (whole rest : List (List ℕ)) (pairs : List (ℕ × ℕ)
   pub spell : (others : List (ℕ × ℕ)) → SpellNumbers rest (numbers_of others) → SpellNumbers whole (numbers_of (pairs ++ others))
   pub spelled : (others : List (ℕ × ℕ)) → SpellNumbers whole (numbers_of others) → (left : List (ℕ × ℕ)) × SpellNumbers rest (numbers_of left)
 
-abbrev pub invariant-loop-rest : goal.invariant-loop-rest
-invariant-loop-rest l = IsSpelledTo (words_of l.fn.rest) (words_of l.rest) l.pairs.items
+abbrev pub invariant-loop-word : goal.invariant-loop-word
+invariant-loop-word l = IsSpelledTo (words_of l.fn.rest) (words_of l.rest) l.pairs.items
 
-abbrev pub decreases-loop-rest : goal.decreases-loop-rest
-decreases-loop-rest l = length (words_of l.rest)
+abbrev pub decreases-loop-word : goal.decreases-loop-word
+decreases-loop-word l = length (words_of l.rest)

@@ -1,12 +1,11 @@
-use Rattle.std.proofs.Common.{◌+◌, ◌-◌, ◌++◌, ◌∷◌, [], length, drop, nat_eq, sym, ap, ◌∙◌, subst, arith}
-use Rattle.std.proofs.lemmas.List.{append_assoc, drop-map}
-use Rattle.linked_hash_map.specs.Pairs as pairs
+use Rattle.std.proofs.Common.{◌+◌, ◌-◌, ◌++◌, drop, sym, ap, ◌∙◌, subst, arith}
+use Rattle.std.specs.Prelude.{not, unwrap_or}
 use Rattle.linked_hash_map.specs.Pairs.{last}
-use Rattle.linked_hash_map.specs.SessionTables.{session_table, payload_of, total_weight, without, IsValidTable}
+use Rattle.linked_hash_map.specs.SessionTables.{session_table, payload_of, total_weight, without, with_last, IsValidTable}
 use Rattle.linked_hash_map.specs.SessionsKept.{sessions_of}
 use Rattle.linked_hash_map.proofs.SessionLists.{total_weight-fit, last-append, IsLongestEnd-fit}
-use Rattle.linked_hash_map.proofs.SessionPairs.{IsValidTable-kept, total_weight-others, sessions_of-without, length-sessions_of}
-use Rattle.linked_hash_map.proofs.SessionPuts.{sessions_of-left, length-taken, find-left, room-left, fit-with_last, payload_of-put, total_weight-put, length-gone, none-leaves, not-absent}
+use Rattle.linked_hash_map.proofs.SessionPairs.{IsValidTable-kept, total_weight-others}
+use Rattle.linked_hash_map.proofs.SessionPuts.{fit-with_last, payload_of-put, total_weight-put, length-gone, none-leaves, drop-with_last, length-with_last, is_some-weight}
 use Rattle.linked_hash_map.proofs.sessions.Sessions.put.Goals as goal
 
 pub returns-then-weight-self-clause-valid : goal.returns-then-weight-self-clause-valid
@@ -16,10 +15,14 @@ pub returns-then-weight-self-clause-stays_valid : goal.returns-then-weight-self-
 returns-then-weight-self-clause-stays_valid g c = rw (← c.self.view_is) (IsValidTable-kept c.self.invariant)
 
 pub overflow_sub-others : goal.overflow_sub-others
-overflow_sub-others g c = let others = total_weight-others c.self.invariant c.args.id in omega (arith, c.weight_at.ensures)
+overflow_sub-others g c =
+    let others = total_weight-others c.self.invariant c.args.id in
+    omega (arith, c.unwrap_or.ensures ∙ ap (λ o. unwrap_or o 0) c.weight_at-replaced.ensures)
 
 pub find_leaving-leaving-requires : goal.find_leaving-leaving-requires
-find_leaving-leaving-requires g c = let others = total_weight-others c.self.invariant c.args.id in omega (arith, c.weight_at.ensures)
+find_leaving-leaving-requires g c =
+    let others = total_weight-others c.self.invariant c.args.id in
+    omega (arith, c.unwrap_or.ensures ∙ ap (λ o. unwrap_or o 0) c.weight_at-replaced.ensures)
 
 pub returns-in_default-clause-valid : goal.returns-in_default-clause-valid
 returns-in_default-clause-valid g c = rw (← c.self.view_is) (IsValidTable-kept c.self.invariant)
@@ -35,29 +38,18 @@ returns-in_default-clause-succeeds g c =
     let leaving = c.find_leaving-leaving in
     rw (← c.self.view_is) (λ some light.
     let none = none-leaves leaving.result.count (m.limit - c.args.weight) (without all c.args.id) leaving.ensures.stay leaving.ensures.within (omega arith) in
-    not-absent m.map.pairs c.args.id some (c.in_default.ensures.absent none))
+    let held = is_some-weight all c.args.id c.weight_at-replaced.ensures ∙ c.is_none-is_new.ensures in
+    sym (held ∙ ap not (c.in_default.ensures.new none)) ∙ some)
 
-pub take_oldest-requires-clause-enough : goal.take_oldest-requires-clause-enough
-take_oldest-requires-clause-enough g c =
-    let out = c.take_payload-old.ensures.pairs ∙ ap (λ ps. pairs.without nat_eq ps c.args.id) c.make_room.ensures.pairs in
-    omega (arith, c.find_leaving-leaving.ensures.within, length-taken c.self.inside.map.pairs c.args.id out)
+pub store-old-requires-clause-held : goal.store-old-requires-clause-held
+store-old-requires-clause-held g c =
+    rw c.make_room.ensures.pairs (is_some-weight (sessions_of c.self.inside.map.pairs) c.args.id c.weight_at-replaced.ensures ∙ c.is_none-is_new.ensures)
 
-pub put_back-requires-clause-new : goal.put_back-requires-clause-new
-put_back-requires-clause-new g c =
-    find-left c.make_room.new.map.pairs c.find_leaving-leaving.result.count c.args.id c.take_payload-old.ensures.pairs c.take_oldest.ensures.pairs
+pub store-old-requires-clause-enough : goal.store-old-requires-clause-enough
+store-old-requires-clause-enough g c = rw c.make_room.ensures.pairs c.find_leaving-leaving.ensures.within
 
-pub put_back-requires-clause-room : goal.put_back-requires-clause-room
-put_back-requires-clause-room g c =
-    let m = c.self.inside.map in
-    let count = c.find_leaving-leaving.result.count in
-    let made = c.make_room.new.map in
-    let same = ap length c.make_room.ensures.pairs in
-    let held = c.make_room.ensures.stays_valid.within in
-    let out = c.take_payload-old.ensures.pairs ∙ ap (λ ps. pairs.without nat_eq ps c.args.id) c.make_room.ensures.pairs in
-    let taken = length-taken m.pairs c.args.id out in
-    let room = room-left c.self.invariant.valid count c.args.id made.capacity (omega arith)
-    (omega (arith, c.find_leaving-leaving.ensures.within, ap length out)) c.in-Ok.ensures.room in
-    omega (arith, ap length (c.take_oldest.ensures.pairs ∙ ap (drop count) out), c.take_oldest.ensures.capacity, c.take_payload-old.ensures.capacity)
+pub store-old-requires-clause-room : goal.store-old-requires-clause-room
+store-old-requires-clause-room g c = rw c.make_room.ensures.pairs c.in-Ok.ensures.room
 
 pub overflow_add-self : goal.overflow_add-self
 overflow_add-self g c =
@@ -69,14 +61,16 @@ pub invariant_of-self-2 : goal.invariant_of-self-2
 invariant_of-self-2 g c =
     let m = c.self.inside in
     let leaving = c.find_leaving-leaving in
-    let out = c.take_payload-old.ensures.pairs ∙ ap (λ ps. pairs.without nat_eq ps c.args.id) c.make_room.ensures.pairs in
-    let left = sessions_of-left m.map.pairs leaving.result.count (m.limit - c.args.weight) c.args.id out c.take_oldest.ensures.pairs leaving.ensures.stay in
-    let few = total_weight-fit (m.limit - c.args.weight) (without (sessions_of m.map.pairs) c.args.id) in
+    let others = without (sessions_of m.map.pairs) c.args.id in
+    let left = drop leaving.result.count others in
+    let few = total_weight-fit (m.limit - c.args.weight) others in
+    let now = rw c.make_room.ensures.pairs at c.store-old.ensures.sessions in
     record {
-      valid = c.put_back.ensures.stays_valid;
+      valid = c.store-old.ensures.stays_valid;
+      mode = c.store-old.ensures.mode;
       sum =
-          ap (λ w. w + c.args.weight) (leaving.ensures.staying ∙ sym (ap total_weight left))
-          ∙ sym (ap total_weight c.put_back.ensures.sessions ∙ total_weight-put c.args.weight c.args.id c.args.payload (sessions_of c.take_oldest.new.map.pairs));
+          ap (λ w. w + c.args.weight) (leaving.ensures.staying ∙ sym (ap total_weight leaving.ensures.stay))
+          ∙ sym (ap total_weight (now ∙ drop-with_last (sessions_of m.map.pairs) leaving.result.count c.args.id c.args.weight c.args.payload leaving.ensures.within) ∙ total_weight-put c.args.weight c.args.id c.args.payload left);
       within = omega (arith, leaving.ensures.staying);
     }
 
@@ -84,45 +78,50 @@ pub returns-clause-stay : goal.returns-clause-stay
 returns-clause-stay g c =
     let m = c.self.inside in
     let leaving = c.find_leaving-leaving in
-    let out = c.take_payload-old.ensures.pairs ∙ ap (λ ps. pairs.without nat_eq ps c.args.id) c.make_room.ensures.pairs in
-    let left = sessions_of-left m.map.pairs leaving.result.count (m.limit - c.args.weight) c.args.id out c.take_oldest.ensures.pairs leaving.ensures.stay in
-    rw (← c.self.view_is)
-    (c.put_back.ensures.sessions ∙ fit-with_last m.limit c.args.weight c.args.id c.args.payload (sessions_of m.map.pairs) (sessions_of c.take_oldest.new.map.pairs) (omega arith) left)
+    let all = sessions_of m.map.pairs in
+    let now = rw c.make_room.ensures.pairs at c.store-old.ensures.sessions in
+    rw (← c.self.view_is) (
+    now
+    ∙ drop-with_last all leaving.result.count c.args.id c.args.weight c.args.payload leaving.ensures.within
+    ∙ fit-with_last m.limit c.args.weight c.args.id c.args.payload all (drop leaving.result.count (without all c.args.id)) (omega arith) leaving.ensures.stay)
 
 pub returns-clause-longest : goal.returns-clause-longest
 returns-clause-longest g c = rw (returns-clause-stay g c) (IsLongestEnd-fit _ _)
 
 pub returns-clause-newest : goal.returns-clause-newest
 returns-clause-newest g c =
-    let left = sessions_of c.take_oldest.new.map.pairs in
-    ap last c.put_back.ensures.sessions ∙ last-append left (c.args.id, c.args.weight, c.args.payload)
+    let leaving = c.find_leaving-leaving in
+    let all = sessions_of c.self.inside.map.pairs in
+    let now = rw c.make_room.ensures.pairs at c.store-old.ensures.sessions in
+    ap last (now ∙ drop-with_last all leaving.result.count c.args.id c.args.weight c.args.payload leaving.ensures.within)
+    ∙ last-append (drop leaving.result.count (without all c.args.id)) (c.args.id, c.args.weight, c.args.payload)
 
 pub returns-clause-payload : goal.returns-clause-payload
 returns-clause-payload g c =
-    let left = c.take_oldest.new.map.pairs in
-    let new = find-left c.make_room.new.map.pairs c.find_leaving-leaving.result.count c.args.id c.take_payload-old.ensures.pairs c.take_oldest.ensures.pairs in
-    ap (λ l. payload_of l c.args.id) c.put_back.ensures.sessions ∙ payload_of-put left c.args.id c.args.weight c.args.payload new
+    let leaving = c.find_leaving-leaving in
+    let ps = c.self.inside.map.pairs in
+    let now = rw c.make_room.ensures.pairs at c.store-old.ensures.sessions in
+    ap (λ l. payload_of l c.args.id) (now ∙ drop-with_last (sessions_of ps) leaving.result.count c.args.id c.args.weight c.args.payload leaving.ensures.within)
+    ∙ payload_of-put ps leaving.result.count c.args.id c.args.weight c.args.payload
 
 pub returns-clause-gone : goal.returns-clause-gone
 returns-clause-gone g c =
-    let m = c.self.inside in
-    let gone = c.take_oldest.new.gone.items in
-    let out = c.take_payload-old.ensures.pairs ∙ ap (λ ps. pairs.without nat_eq ps c.args.id) c.make_room.ensures.pairs in
-    rw (← c.self.view_is, c.put_back.ensures.sessions) (
-    sym (append_assoc gone (sessions_of c.take_oldest.new.map.pairs) _)
-    ∙ ap (λ l. l ++ (c.args.id, c.args.weight, c.args.payload) ∷ [])
-    (c.take_oldest.ensures.gone ∙ ap (λ l. l ++ sessions_of c.take_payload-old.new.map.pairs) c.in-Ok.ensures.empty ∙ ap sessions_of out ∙ sessions_of-without m.map.pairs c.args.id))
+    let all = rw c.make_room.ensures.pairs at c.store-old.ensures.gone in
+    rw (← c.self.view_is) (all ∙ ap (λ l. l ++ with_last (sessions_of c.self.inside.map.pairs) c.args.id c.args.weight c.args.payload) c.in-Ok.ensures.empty)
 
 pub returns-clause-exact : goal.returns-clause-exact
 returns-clause-exact g c =
-    let count = c.find_leaving-leaving.result.count in
-    let out = c.take_payload-old.ensures.pairs ∙ ap (λ ps. pairs.without nat_eq ps c.args.id) c.make_room.ensures.pairs in
-    let taken = length-taken c.self.inside.map.pairs c.args.id out in
-    let gone = length-gone count c.take_oldest.new.gone.items (sessions_of c.take_oldest.new.map.pairs) (sessions_of c.take_payload-old.new.map.pairs)
-    (c.take_oldest.ensures.gone ∙ ap (λ l. l ++ sessions_of c.take_payload-old.new.map.pairs) c.in-Ok.ensures.empty)
-    (ap sessions_of c.take_oldest.ensures.pairs ∙ sym (drop-map _ count c.take_payload-old.new.map.pairs))
-    (omega (arith, c.find_leaving-leaving.ensures.within, length-sessions_of c.take_payload-old.new.map.pairs)) in
-    c.take_oldest.ensures.same_room ∙ c.in-Ok.ensures.exact ∙ sym gone
+    let leaving = c.find_leaving-leaving in
+    let all = with_last (sessions_of c.self.inside.map.pairs) c.args.id c.args.weight c.args.payload in
+    let now = rw c.make_room.ensures.pairs at c.store-old.ensures.sessions in
+    let gone = rw c.make_room.ensures.pairs at c.store-old.ensures.gone in
+    let more = length-with_last (sessions_of c.self.inside.map.pairs) c.args.id c.args.weight c.args.payload in
+    let as_many = length-gone leaving.result.count c.store-old.new.gone.items (sessions_of c.store-old.new.map.pairs) all
+    (gone ∙ ap (λ l. l ++ all) c.in-Ok.ensures.empty) now (omega (arith, leaving.ensures.within)) in
+    c.store-old.ensures.same_space ∙ c.in-Ok.ensures.exact ∙ sym as_many
+
+pub returns-clause-old : goal.returns-clause-old
+returns-clause-old g c = rw (← c.self.view_is) (rw c.make_room.ensures.pairs at c.store-old.ensures.old)
 
 pub returns-clause-valid : goal.returns-clause-valid
 returns-clause-valid g c = rw (← c.self.view_is) (IsValidTable-kept c.self.invariant)

@@ -1,22 +1,56 @@
-use Rattle.std.proofs.Common.{sym, ap, ◌∙◌, ◌-◌, subst, arith}
+use Rattle.std.proofs.Common.{◌≡◌, ◌-◌, option_map, sym, ap, ◌∙◌, subst, arith}
+use Rattle.std.specs.Prelude.{unwrap_or}
 use Rattle.linked_hash_map.specs.SessionsKept.{sessions_of, IsKeptWithin}
-use Rattle.linked_hash_map.proofs.SessionPairs.{IsValidTable-kept, IsKeptWithin-without, total_weight-others, sessions_of-without}
+use Rattle.linked_hash_map.proofs.SessionPairs.{IsValidTable-kept, IsKeptWithin-without, total_weight-others, sessions_of-without, weight_of-sessions_of, payload_of-sessions_of}
 use Rattle.linked_hash_map.proofs.sessions.Sessions.remove.Goals as goal
-
-pub overflow_sub-self : goal.overflow_sub-self
-overflow_sub-self g c = let others = total_weight-others c.self.invariant c.args.id in omega (arith, c.weight_at.ensures)
 
 pub invariant_of-self : goal.invariant_of-self
 invariant_of-self g c =
-    subst (λ weight. IsKeptWithin c.take_payload.new.map (c.self.inside.total - weight) c.self.inside.limit) (sym c.weight_at.ensures)
-    (IsKeptWithin-without c.self.invariant c.args.id c.take_payload.ensures.pairs c.take_payload.ensures.stays_valid)
+    let m = c.self.inside in
+    let none = weight_of-sessions_of m.map.pairs c.args.id ∙ ap (λ o. unwrap_or (option_map (λ held. held.weight) o) 0) (sym c.in_default.ensures.value) in
+    let whole : m.total - 0 ≡ m.total = omega arith in
+    subst (λ total. IsKeptWithin c.remove.new.self total m.limit) (ap (λ weight. m.total - weight) none ∙ whole)
+    (IsKeptWithin-without c.self.invariant c.args.id c.remove.ensures.pairs c.remove.ensures.keeps.mode c.remove.ensures.stays_valid)
+
+pub returns-in_default-clause-payload : goal.returns-in_default-clause-payload
+returns-in_default-clause-payload g c =
+    let m = c.self.inside in
+    rw (← c.self.view_is) (ap (option_map (λ held. held.payload)) c.in_default.ensures.value ∙ sym (payload_of-sessions_of m.map.pairs c.args.id))
+
+pub returns-in_default-clause-sessions : goal.returns-in_default-clause-sessions
+returns-in_default-clause-sessions g c =
+    rw (← c.self.view_is) (ap sessions_of c.remove.ensures.pairs ∙ sessions_of-without c.self.inside.map.pairs c.args.id)
+
+pub returns-in_default-clause-valid : goal.returns-in_default-clause-valid
+returns-in_default-clause-valid g c = rw (← c.self.view_is) (IsValidTable-kept c.self.invariant)
+
+pub returns-in_default-clause-stays_valid : goal.returns-in_default-clause-stays_valid
+returns-in_default-clause-stays_valid g c = IsValidTable-kept (invariant_of-self g c)
+
+pub overflow_sub-self : goal.overflow_sub-self
+overflow_sub-self g c =
+    let m = c.self.inside in
+    let weight = weight_of-sessions_of m.map.pairs c.args.id ∙ ap (λ o. unwrap_or (option_map (λ held. held.weight) o) 0) (sym c.in-Some.ensures.value) in
+    omega (arith, weight, total_weight-others c.self.invariant c.args.id)
+
+pub invariant_of-self-2 : goal.invariant_of-self-2
+invariant_of-self-2 g c =
+    let m = c.self.inside in
+    let weight = weight_of-sessions_of m.map.pairs c.args.id ∙ ap (λ o. unwrap_or (option_map (λ held. held.weight) o) 0) (sym c.in-Some.ensures.value) in
+    subst (λ n. IsKeptWithin c.remove.new.self (m.total - n) m.limit) weight
+    (IsKeptWithin-without c.self.invariant c.args.id c.remove.ensures.pairs c.remove.ensures.keeps.mode c.remove.ensures.stays_valid)
+
+pub returns-clause-payload : goal.returns-clause-payload
+returns-clause-payload g c =
+    let m = c.self.inside in
+    rw (← c.self.view_is) (ap (option_map (λ held. held.payload)) c.in-Some.ensures.value ∙ sym (payload_of-sessions_of m.map.pairs c.args.id))
 
 pub returns-clause-sessions : goal.returns-clause-sessions
 returns-clause-sessions g c =
-    rw (← c.self.view_is) (ap sessions_of c.take_payload.ensures.pairs ∙ sessions_of-without c.self.inside.map.pairs c.args.id)
+    rw (← c.self.view_is) (ap sessions_of c.remove.ensures.pairs ∙ sessions_of-without c.self.inside.map.pairs c.args.id)
 
 pub returns-clause-valid : goal.returns-clause-valid
 returns-clause-valid g c = rw (← c.self.view_is) (IsValidTable-kept c.self.invariant)
 
 pub returns-clause-stays_valid : goal.returns-clause-stays_valid
-returns-clause-stays_valid g c = IsValidTable-kept (invariant_of-self g c)
+returns-clause-stays_valid g c = IsValidTable-kept (invariant_of-self-2 g c)

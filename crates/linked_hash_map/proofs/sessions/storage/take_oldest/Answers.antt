@@ -21,5 +21,6 @@ loop-preserved g c =
       len = omega arith;
       room = c.push_reserved.ensures.capacity ∙ i.room;
       capacity = c.pop_front.ensures.keeps.capacity ∙ i.capacity;
+      mode = c.pop_front.ensures.keeps.mode ∙ i.mode;
       valid = c.pop_front.ensures.stays_valid;
     }

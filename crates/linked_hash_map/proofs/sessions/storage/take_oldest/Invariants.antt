@@ -11,5 +11,6 @@ invariant-loop g l = record {
   len : vec_len l.gone ≡ vec_len l.fn.gone + l.counter;
   room : vec_capacity l.gone ≡ vec_capacity l.fn.gone;
   capacity : l.map.capacity ≡ l.fn.map.capacity;
+  mode : l.map.mode ≡ l.fn.map.mode;
   valid : IsValid nat_eq l.map;
 }
