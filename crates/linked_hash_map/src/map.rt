@@ -11,6 +11,7 @@ mod insert;
 mod iter;
 mod probe;
 mod remove;
+mod retain;
 
 use self::cursor::Visit;
 pub use self::probe::Probe;

@@ -72,8 +72,8 @@ impl<K: Eq + Hash, V, S: BuildHasher> LinkedHashMap<K, V, S> {
     ///
     /// [`next_entry`](LinkedHashMap::next_entry) returns the entries one by one. Another visit ends
     /// it, and so does each call that may remove or move a pair: `insert`, `extend`, `entry`,
-    /// `remove` and `get_refresh` of a present key, the pops, `clear` and `drain`. No other call
-    /// does. New keys are not visited.
+    /// `remove` and `get_refresh` of a present key, the pops, `retain`, `clear` and `drain`. No
+    /// other call does. New keys are not visited.
     ///
     /// # Examples
     ///
