@@ -1,8 +1,8 @@
 //! Keys and values of refused commands.
 
-use super::super::say_if_given;
-use super::super::tally::{Counted, Tally};
 use super::{CountedMap, assert_dropped, insert_first, pair_of};
+use crate::tests::say_if_given;
+use crate::tests::tally::{Counted, Tally};
 use linked_hash_map::LinkedHashMap;
 use linked_hash_map::replay::{Answer, Command, PairList, Reply, replay};
 use std::alloc::{AllocError, Global};
@@ -58,7 +58,8 @@ fn run<'a>(
     given
 }
 
-/// Returns the bits of what a run drops: the second pair of the extension, where the first is refused.
+/// Returns the bits of what a run drops: the second pair of the extension, where the first is
+/// refused.
 fn dropped_by(outcome: &Run<'_>) -> u64 {
     match outcome {
         Ok(replies) => match replies.last().map(|reply| &reply.answer) {

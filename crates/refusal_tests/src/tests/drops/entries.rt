@@ -1,8 +1,8 @@
 //! Keys, values and closures of refused entries.
 
-use super::super::say_if_given;
-use super::super::tally::{Counted, Tally};
 use super::{CountedMap, assert_dropped, insert_first};
+use crate::tests::say_if_given;
+use crate::tests::tally::{Counted, Tally};
 use linked_hash_map::{Entry, LinkedHashMap, Refused};
 use std::process::Abort;
 
@@ -13,7 +13,8 @@ fn refused_entries_drop_nothing(rt: HostRuntime) {
     say_if_given(&rt, given, 9);
 }
 
-/// Inserts three new keys into a full map of one pair, each by another call, and tells whether each growth was given.
+/// Inserts three new keys into a full map of one pair, each by another call, and tells whether each
+/// growth was given.
 fn insert_by_entries<'a>(rt: &impl Abort, tally: &'a Tally, mut map: CountedMap<'a>) -> bool {
     if !insert_first(tally, &mut map) {
         return false;
@@ -27,7 +28,8 @@ fn insert_by_entries<'a>(rt: &impl Abort, tally: &'a Tally, mut map: CountedMap<
     refused == 256
 }
 
-/// Drops what an entry answers, and returns the bits of all that was dropped: those of the pair with the answer, where it was refused.
+/// Drops what an entry answers, and returns the bits of all that was dropped: those of the pair
+/// with the answer, where it was refused.
 fn drop_put<'a>(
     rt: &impl Abort,
     tally: &Tally,

@@ -1,10 +1,10 @@
 //! Hashers of refused maps.
 
-use super::super::checks::check_eq;
-use super::super::counted_builder::{CountedBuilder, counted_builder};
-use super::super::say_if_given;
-use super::super::tally::Tally;
 use super::assert_dropped;
+use crate::tests::checks::check_eq;
+use crate::tests::counted_builder::{CountedBuilder, counted_builder};
+use crate::tests::say_if_given;
+use crate::tests::tally::Tally;
 use linked_hash_map::{LinkedHashMap, ReserveError};
 use std::process::Abort;
 
@@ -19,7 +19,8 @@ fn refused_capacity_drops_the_hasher(rt: HostRuntime) {
     say_if_given(&rt, given, 5);
 }
 
-/// Drops a map with its hasher, or checks that the hasher is dropped where the map was refused. Tells whether it was made.
+/// Drops a map with its hasher, or checks that the hasher is dropped where the map was refused.
+/// Tells whether it was made.
 fn drop_made(
     rt: &impl Abort,
     tally: &Tally,

@@ -1,9 +1,9 @@
 //! Insertions, extensions and changes of the capacity.
 
-use super::super::checks::check_eq;
-use super::super::say_if_given;
-use super::super::tally::{Counted, Tally};
 use super::{CountedMap, CountedPair, assert_dropped, insert_first, pair_of};
+use crate::tests::checks::check_eq;
+use crate::tests::say_if_given;
+use crate::tests::tally::{Counted, Tally};
 use linked_hash_map::{LinkedHashMap, Refused};
 use std::process::Abort;
 
@@ -57,7 +57,8 @@ fn refused_extension_drops_the_items_behind(rt: HostRuntime) {
     say_if_given(&rt, given, 9);
 }
 
-/// Extends a full map of one pair by a present key and by three new ones, and tells whether each growth was given.
+/// Extends a full map of one pair by a present key and by three new ones, and tells whether each
+/// growth was given.
 fn extend<'a>(rt: &impl Abort, tally: &'a Tally, mut map: CountedMap<'a>) -> bool {
     if !insert_first(tally, &mut map) {
         return false;
@@ -81,8 +82,8 @@ fn four_items(tally: &Tally) -> [CountedPair<'_>; 4] {
     ]
 }
 
-/// Drops what an extension answers that left so many pairs. It dropped the present key, the value that was replaced and the items
-/// behind the refused one, which is dropped with the answer.
+/// Drops what an extension answers that left so many pairs. It dropped the present key, the value
+/// that was replaced and the items behind the refused one, which is dropped with the answer.
 fn drop_refused(
     rt: &impl Abort,
     tally: &Tally,

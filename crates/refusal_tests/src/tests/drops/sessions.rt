@@ -1,8 +1,8 @@
 //! Payloads of refused sessions.
 
-use super::super::say_if_given;
-use super::super::tally::{Counted, Tally};
 use super::assert_dropped;
+use crate::tests::say_if_given;
+use crate::tests::tally::{Counted, Tally};
 use linked_hash_map::sessions::{Put, PutRefused, Sessions};
 use std::process::Abort;
 
@@ -16,9 +16,11 @@ fn refused_put_drops_no_payload(rt: HostRuntime) {
     say_if_given(&rt, given, 7);
 }
 
-/// Puts three sessions, of which the third sends the first away, and tells whether each growth was given.
+/// Puts three sessions, of which the third sends the first away, and tells whether each growth was
+/// given.
 fn put_three<'a>(rt: &impl Abort, tally: &'a Tally, mut table: Table<'a>) -> bool {
-    // The growths: buckets, the guard and a node; buckets and a node; the vector for the session that goes.
+    // The growths: buckets, the guard and a node; buckets and a node; the vector for the session
+    // that goes.
     let first = table.put(1, 4, tally.thing(1, 1));
     let given = first.is_ok();
     let dropped = drop_put(rt, tally, first, 0, 1);
@@ -33,7 +35,8 @@ fn put_three<'a>(rt: &impl Abort, tally: &'a Tally, mut table: Table<'a>) -> boo
     given
 }
 
-/// Drops what a put answers, and returns the bits of all that was dropped: that of a refused payload, or those of what is gone.
+/// Drops what a put answers, and returns the bits of all that was dropped: that of a refused
+/// payload, or those of what is gone.
 fn drop_put<'a>(
     rt: &impl Abort,
     tally: &Tally,

@@ -1,8 +1,8 @@
 //! Commands, and the lists that they have.
 
-use super::super::checks::{check, check_eq};
-use super::super::{Map, assert_map, full_of, say_given};
 use super::PAIRS;
+use crate::tests::checks::{check, check_eq};
+use crate::tests::{Map, assert_map, full_of, say_given};
 use linked_hash_map::replay::{Command, PairList, replay};
 use linked_hash_map::{Mode, ReserveError};
 use std::alloc::{AllocError, Global};

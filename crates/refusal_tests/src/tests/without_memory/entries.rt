@@ -1,8 +1,8 @@
 //! Entries of either kind, and the cursor.
 
-use super::super::checks::{check, check_eq};
-use super::super::{Map, assert_map, full_of, say_given};
 use super::PAIRS;
+use crate::tests::checks::{check, check_eq};
+use crate::tests::{Map, assert_map, full_of, say_given};
 use linked_hash_map::{Entry, Refused, ReserveError};
 use std::process::Abort;
 
@@ -26,7 +26,8 @@ fn use_entries(rt: &(impl Abort + Print + AllocGlobal), made: Result<Map, Reserv
     }
 }
 
-/// Uses each call of an occupied entry but `remove` on a map that has `PAIRS`, and writes the value 13.
+/// Uses each call of an occupied entry but `remove` on a map that has `PAIRS`, and writes the value
+/// 13.
 fn use_occupied(rt: &impl Abort, map: &mut Map) {
     if let Entry::Occupied(mut entry) = map.entry(1) {
         check_eq!(rt; (*entry.key(), *entry.get()), (1, 10));

@@ -1,8 +1,8 @@
 //! Calls that change a map within its capacity.
 
-use super::super::checks::{check, check_eq};
-use super::super::{Map, assert_map, full_of, insert_new, say_given, with_room};
 use super::PAIRS;
+use crate::tests::checks::{check, check_eq};
+use crate::tests::{Map, assert_map, full_of, insert_new, say_given, with_room};
 use linked_hash_map::{LIMIT, Mode, ReserveError};
 use std::process::Abort;
 
@@ -76,7 +76,8 @@ fn loop_over(map: &mut Map) {
     }
 }
 
-/// Inserts the keys that a map has which `write_all_but_first` left, and leaves (2, 22), (3, 33) and (1, 12).
+/// Inserts the keys that a map has which `write_all_but_first` left, and leaves (2, 22), (3, 33)
+/// and (1, 12).
 fn insert_present(rt: &impl Abort, map: &mut Map) {
     check_eq!(rt; map.insert(3, 33), Ok(Some(22)));
     check_eq!(rt; map.insert(1, 12), Ok(Some(11)));
