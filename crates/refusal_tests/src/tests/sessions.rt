@@ -13,7 +13,8 @@ type Table = Sessions<&'static str>;
 fn assert_sessions(rt: &impl Abort, table: &Table, expected: &[Session], total: u64) {
     check_eq!(rt; (table.len(), table.total()), (expected.len(), total));
     let mut sessions = table.iter();
-    check_eq!(rt; sessions.len(), expected.len());
+    let len = expected.len();
+    check_eq!(rt; (sessions.len(), sessions.size_hint()), (len, (len, Some(len))));
     for (id, weight, payload) in expected {
         check_eq!(rt; sessions.next(), Some((*id, *weight, payload)));
     }

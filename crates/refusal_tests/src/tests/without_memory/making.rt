@@ -71,6 +71,7 @@ fn consume(rt: &impl Abort, map: Map) {
         (pairs.len(), pairs.next(), pairs.next_back()),
         (3, Some((1, 10)), Some((3, 30)))
     );
+    check_eq!(rt; pairs.size_hint(), (1, Some(1)));
     check_eq!(rt;
         (pairs.next(), pairs.next(), pairs.next_back()),
         (Some((2, 20)), None, None)

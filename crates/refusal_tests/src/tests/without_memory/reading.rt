@@ -55,6 +55,7 @@ fn iterate_pairs(rt: &impl Abort, map: &Map) {
     let mut pairs = map.iter();
     check_eq!(rt; (pairs.next(), pairs.next_back()), (Some((&1, &10)), Some((&3, &30))));
     let mut pairs = given!(rt; pairs.clone());
+    check_eq!(rt; pairs.size_hint(), (1, Some(1)));
     check_eq!(rt; (pairs.len(), pairs.next(), pairs.next()), (1, Some((&2, &20)), None));
 }
 
@@ -63,6 +64,7 @@ fn iterate_keys(rt: &impl Abort, map: &Map) {
     let mut keys = map.keys();
     check_eq!(rt; (keys.next(), keys.next_back()), (Some(&1), Some(&3)));
     let mut keys = given!(rt; keys.clone());
+    check_eq!(rt; keys.size_hint(), (1, Some(1)));
     check_eq!(rt; (keys.len(), keys.next(), keys.next()), (1, Some(&2), None));
 }
 
@@ -71,6 +73,7 @@ fn iterate_values(rt: &impl Abort, map: &Map) {
     let mut values = map.values();
     check_eq!(rt; (values.next(), values.next_back()), (Some(&10), Some(&30)));
     let mut values = given!(rt; values.clone());
+    check_eq!(rt; values.size_hint(), (1, Some(1)));
     check_eq!(rt; (values.len(), values.next(), values.next()), (1, Some(&20), None));
 }
 

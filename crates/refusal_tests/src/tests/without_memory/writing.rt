@@ -60,6 +60,7 @@ fn write_by_refresh(map: &mut Map) {
 
 /// Writes into a map that `write_values` left, and leaves (1, 11), (2, 22) and (3, 22).
 fn write_all_but_first(rt: &impl Abort, map: &mut Map) {
+    check_eq!(rt; (map.iter_mut().len(), map.iter_mut().size_hint()), (3, (3, Some(3))));
     check_eq!(rt; map.iter_mut().next_back(), Some((&3, &mut 31)));
     for (key, value) in map.iter_mut() {
         if *key != 1 {
@@ -118,6 +119,7 @@ fn take_from_a_drain(rt: &impl Abort, map: &mut Map) {
         (pairs.len(), pairs.next(), pairs.next_back()),
         (3, Some((9, 2)), Some((4, 4)))
     );
+    check_eq!(rt; pairs.size_hint(), (1, Some(1)));
 }
 
 /// Reserves what an empty map of capacity 3 has, and lowers its capacity to 0.
