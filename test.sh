@@ -26,7 +26,7 @@ show_part() {
     echo "$1: $seconds s, $([ "$status" = 0 ] && echo passed || echo FAILED)"
 }
 
-for part in readme-example shared-files; do
+for part in readme-example shared-files dropped-counts; do
     run_part $part "scripts/$part"
     show_part $part
 done

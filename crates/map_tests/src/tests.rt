@@ -1,15 +1,21 @@
 //! What each public call returns and leaves, on short maps: a module for each subject.
 
 mod borrowed;
+mod call_counts;
 mod calls;
 mod capacities;
+mod chains;
 mod checks;
 mod collect;
 mod compare;
+mod counted_builder;
+mod counted_calls;
+mod counted_map;
 mod counting;
 mod counts;
 mod cursor;
 mod drains;
+mod drops;
 mod entries;
 mod equal_keys;
 mod every_call;

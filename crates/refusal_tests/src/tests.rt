@@ -1,14 +1,17 @@
 //! Each growth refused in turn.
 //!
-//! The tests whose names begin with `refused_` hold whichever one of their growths is refused. Where none was, a test says so, and how
-//! many it asks for. That number is counted by hand, from what the calls promise: a map asks for one growth for its buckets where their
-//! number changes to another than 0, one for the guard of its nodes where it has none, and one for each further node. So a growth whose
+//! The tests whose names begin with `refused_` hold whichever one of their growths is refused.
+//! Where none was, a test says so, and how many it asks for. That number is counted by hand, from
+//! what the calls promise: a map asks for one growth for its buckets where their number changes to
+//! another than 0, one for the guard of its nodes where it has none, and one for each further node.
+//! The last growth is one that the test asks for itself, behind the calls. So a growth whose
 //! refusal a call ignores is seen too, as one more or one fewer than the test says.
 
 mod capacities;
 mod checks;
 mod clones;
 mod collections;
+mod counted_builder;
 mod drops;
 mod extensions;
 mod insertions;
@@ -35,15 +38,16 @@ const BUILDER: BuildLastByte = BuildLastByte { first: 7 };
 /// A key that no map of these tests has.
 const ABSENT: u8 = 200;
 
-/// Says that none of a test's growths was refused, and how many there are.
-fn say_given(rt: &impl Print, growths: u64) {
-    let _ = println!(rt; "every growth was given, {growths} in all");
+/// Asks for one growth more, the last, and says that none of a test's growths was refused, and how
+/// many there are with that one.
+fn say_given(rt: &(impl Print + AllocGlobal), growths: u64) {
+    say_if_given(rt, true, growths);
 }
 
-/// Says so where it is so.
-fn say_if_given(rt: &impl Print, given: bool, growths: u64) {
-    if given {
-        say_given(rt, growths);
+/// Does so where none was refused so far.
+fn say_if_given(rt: &(impl Print + AllocGlobal), given: bool, growths: u64) {
+    if given && is_given(rt.alloc()) {
+        let _ = println!(rt; "every growth was given, {growths} in all");
     }
 }
 
@@ -71,8 +75,8 @@ fn insert_new(rt: &impl Abort, map: &mut Map, pairs: &[(u8, u64)]) {
     }
 }
 
-/// Checks a map's pairs from both ends, its capacity and its count, that its hasher is the one that it was made with and finds each
-/// key, and that it is in `Touch`.
+/// Checks a map's pairs from both ends, its capacity and its count, that its hasher is the one that
+/// it was made with and finds each key, and that it is in `Touch`.
 fn assert_map(rt: &impl Abort, map: &Map, pairs: &[(u8, u64)], capacity: usize, rechained: usize) {
     check_eq!(rt;
         (map.len(), map.capacity(), map.rechained()),

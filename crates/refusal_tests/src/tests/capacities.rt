@@ -10,7 +10,7 @@ fn refused_capacity_gives_no_map(rt: HostRuntime) {
     // The growths of each map: buckets, the guard and two nodes.
     let made = with_room(rt.alloc(), 2);
     let default = LinkedHashMap::with_capacity(rt.alloc(), 2);
-    say_if_given(&rt, made.is_ok() & default.is_ok(), 8);
+    say_if_given(&rt, made.is_ok() & default.is_ok(), 9);
     assert_made(&rt, made);
     assert_default(&rt, default);
 }
@@ -35,19 +35,19 @@ fn refused_reservation_keeps_buckets_and_nodes(rt: HostRuntime) {
     reserve_twice(&rt, full_of(&rt, rt.alloc(), &[(1, 10), (2, 20)]));
 }
 
-fn reserve_twice(rt: &(impl Abort + Print), made: Result<Map, ReserveError>) {
+fn reserve_twice(rt: &(impl Abort + Print + AllocGlobal), made: Result<Map, ReserveError>) {
     if let Ok(mut map) = made {
         reserve_four_and_five(rt, &mut map);
     }
 }
 
-fn reserve_four_and_five(rt: &(impl Abort + Print), map: &mut Map) {
+fn reserve_four_and_five(rt: &(impl Abort + Print + AllocGlobal), map: &mut Map) {
     // The growths: 8 buckets for 2, and four nodes; then a node alone.
     let first = reserve_four(rt, map);
     assert_map(rt, map, &[(1, 10), (2, 20)], 6, 2);
     let second = reserve_five(rt, map);
     assert_map(rt, map, &[(1, 10), (2, 20)], 7, 2);
-    say_if_given(rt, first & second, 10);
+    say_if_given(rt, first & second, 11);
 }
 
 /// Reserves room for four pairs more, again where it is refused, and tells whether it was given at once.
@@ -103,11 +103,11 @@ fn refused_first_reservation_leaves_nothing(rt: HostRuntime) {
 }
 
 /// The growths: 4 buckets, the guard, and three nodes.
-fn reserve_three(rt: &(impl Abort + Print), map: &mut Map) {
+fn reserve_three(rt: &(impl Abort + Print + AllocGlobal), map: &mut Map) {
     match map.reserve(3) {
         Ok(()) => {
             assert_map(rt, map, &[], 3, 0);
-            say_given(rt, 5);
+            say_given(rt, 6);
         }
         Err(error) => {
             check_eq!(rt; error, ReserveError::NoRoom);
@@ -132,7 +132,7 @@ fn refused_shrink_keeps_buckets_and_nodes(rt: HostRuntime) {
 /// The pairs of a map that is shrunk.
 const FEW: [(u8, u64); 3] = [(1, 1), (2, 2), (3, 3)];
 
-fn shrink(rt: &(impl Abort + Print), made: Result<Map, ReserveError>) {
+fn shrink(rt: &(impl Abort + Print + AllocGlobal), made: Result<Map, ReserveError>) {
     if let Ok(mut map) = made {
         insert_new(rt, &mut map, &FEW);
         shrink_few(rt, &mut map);
@@ -140,11 +140,11 @@ fn shrink(rt: &(impl Abort + Print), made: Result<Map, ReserveError>) {
 }
 
 /// The growth: 4 buckets for 16.
-fn shrink_few(rt: &(impl Abort + Print), map: &mut Map) {
+fn shrink_few(rt: &(impl Abort + Print + AllocGlobal), map: &mut Map) {
     match map.shrink_to_fit() {
         Ok(()) => {
             assert_map(rt, map, &FEW, 3, 3);
-            say_given(rt, 12);
+            say_given(rt, 13);
         }
         Err(NoRoom) => fill_unshrunk(rt, map),
     }
@@ -170,14 +170,14 @@ fn refused_growth_is_asked_for_again_after_shrinking(rt: HostRuntime) {
     shrink_and_reserve(&rt, with_room(rt.alloc(), 3));
 }
 
-fn shrink_and_reserve(rt: &(impl Abort + Print), made: Result<Map, ReserveError>) {
+fn shrink_and_reserve(rt: &(impl Abort + Print + AllocGlobal), made: Result<Map, ReserveError>) {
     if let Ok(mut map) = made {
         insert_new(rt, &mut map, &[(1, 10)]);
         insert_once_resized(rt, &mut map);
     }
 }
 
-fn insert_once_resized(rt: &(impl Abort + Print), map: &mut Map) {
+fn insert_once_resized(rt: &(impl Abort + Print + AllocGlobal), map: &mut Map) {
     if is_resized(map) {
         assert_map(rt, map, &[(1, 10)], 3, 2);
         empty(rt, map);
@@ -198,16 +198,48 @@ fn empty(rt: &impl Abort, map: &mut Map) {
 }
 
 /// The growths: buckets, the guard and a node.
-fn insert_second(rt: &(impl Abort + Print), map: &mut Map) {
+fn insert_second(rt: &(impl Abort + Print + AllocGlobal), map: &mut Map) {
     match map.insert(2, 20) {
         Ok(old) => {
             check_eq!(rt; old, None);
             assert_map(rt, map, &[(2, 20)], 1, 0);
-            say_given(rt, 12);
+            say_given(rt, 13);
         }
         Err(refused) => {
             check_eq!(rt; refused, Refused { key: 2, value: 20 });
             assert_map(rt, map, &[], 0, 0);
+        }
+    }
+}
+
+#[test]
+fn refused_shrink_within_its_buckets_asks_for_none(rt: HostRuntime) {
+    // The growths: buckets, the guard and eight nodes.
+    shrink_within(&rt, with_room(rt.alloc(), 8));
+}
+
+/// The pairs of a map that keeps its 8 buckets.
+const FIVE: [(u8, u64); 5] = [(1, 1), (2, 2), (3, 3), (4, 4), (5, 5)];
+
+fn shrink_within(rt: &(impl Abort + Print + AllocGlobal), made: Result<Map, ReserveError>) {
+    if let Ok(mut map) = made {
+        insert_new(rt, &mut map, &FIVE);
+        check_eq!(rt; map.shrink_to_fit(), Ok(()));
+        assert_map(rt, &map, &FIVE, 5, 0);
+        raise_within(rt, &mut map);
+    }
+}
+
+/// The growths: three nodes, and no buckets.
+fn raise_within(rt: &(impl Abort + Print + AllocGlobal), map: &mut Map) {
+    match map.reserve(3) {
+        Ok(()) => {
+            assert_map(rt, map, &FIVE, 8, 0);
+            say_given(rt, 14);
+        }
+        Err(error) => {
+            check_eq!(rt; error, ReserveError::NoRoom);
+            assert_map(rt, map, &FIVE, 5, 0);
         }
     }
 }

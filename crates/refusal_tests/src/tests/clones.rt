@@ -15,11 +15,11 @@ fn refused_clone_leaves_the_map(rt: HostRuntime) {
     clone_full(&rt, full_of(&rt, rt.alloc(), &[(1, 10), (2, 20)]));
 }
 
-fn clone_full(rt: &(impl Abort + Print), made: Result<Map, ReserveError>) {
+fn clone_full(rt: &(impl Abort + Print + AllocGlobal), made: Result<Map, ReserveError>) {
     if let Ok(map) = made {
         if let Ok(clone) = map.clone() {
             assert_map(rt, &clone, &[(1, 10), (2, 20)], 2, 0);
-            say_given(rt, 8);
+            say_given(rt, 9);
         }
         assert_map(rt, &map, &[(1, 10), (2, 20)], 2, 0);
     }
@@ -88,7 +88,7 @@ fn refused_clone_drops_the_clones_made_so_far(rt: HostRuntime) {
     clone_boxed(&rt, boxed_of(&rt, rt.alloc(), &left));
 }
 
-fn clone_boxed(rt: &(impl Abort + Print), made: Result<Boxed<'_>, AllocError>) {
+fn clone_boxed(rt: &(impl Abort + Print + AllocGlobal), made: Result<Boxed<'_>, AllocError>) {
     if let Ok((counted, map)) = made {
         clone_and_drop(rt, &counted, &map);
         assert_boxed(rt, &map);
@@ -98,13 +98,13 @@ fn clone_boxed(rt: &(impl Abort + Print), made: Result<Boxed<'_>, AllocError>) {
 }
 
 /// The growths: buckets, the guard and two nodes; a box, once both keys are cloned.
-fn clone_and_drop(rt: &(impl Abort + Print), counted: &Rc<u8>, map: &BoxedMap<'_>) {
+fn clone_and_drop(rt: &(impl Abort + Print + AllocGlobal), counted: &Rc<u8>, map: &BoxedMap<'_>) {
     match map.clone() {
         Ok(clone) => {
             assert_boxed(rt, &clone);
             check!(rt; clone == *map);
             assert_held(rt, counted, 5);
-            say_given(rt, 11);
+            say_given(rt, 12);
         }
         Err(AllocError) => assert_held(rt, counted, 3),
     }
@@ -133,7 +133,7 @@ fn refused_clone_leaves_the_walk(rt: HostRuntime) {
 /// An iterator that owns the pairs of a boxed map.
 type BoxedPairs<'a> = IntoIter<Counted<'a>, Option<Box<u8>>>;
 
-fn clone_iterator(rt: &(impl Abort + Print), made: Result<Boxed<'_>, AllocError>) {
+fn clone_iterator(rt: &(impl Abort + Print + AllocGlobal), made: Result<Boxed<'_>, AllocError>) {
     if let Ok((counted, map)) = made {
         let mut pairs = map.into_iter();
         clone_and_drop_pairs(rt, &counted, &pairs);
@@ -143,12 +143,16 @@ fn clone_iterator(rt: &(impl Abort + Print), made: Result<Boxed<'_>, AllocError>
 }
 
 /// The growths: the guard and two nodes; a box, once both keys are cloned.
-fn clone_and_drop_pairs(rt: &(impl Abort + Print), counted: &Rc<u8>, pairs: &BoxedPairs<'_>) {
+fn clone_and_drop_pairs(
+    rt: &(impl Abort + Print + AllocGlobal),
+    counted: &Rc<u8>,
+    pairs: &BoxedPairs<'_>,
+) {
     match pairs.clone() {
         Ok(copies) => {
             check_eq!(rt; copies.len(), 2);
             assert_held(rt, counted, 5);
-            say_given(rt, 10);
+            say_given(rt, 11);
         }
         Err(AllocError) => assert_held(rt, counted, 3),
     }

@@ -60,11 +60,15 @@ fn refused_collection_gives_no_map(rt: HostRuntime) {
     collect(&rt, rt.alloc(), counted_value(rt.alloc()));
 }
 
-fn collect(rt: &(impl Abort + Print), alloc: Global, made: Result<Rc<u8>, AllocError>) {
+fn collect(
+    rt: &(impl Abort + Print + AllocGlobal),
+    alloc: Global,
+    made: Result<Rc<u8>, AllocError>,
+) {
     if let Ok(counted) = made {
         // The growths: buckets, the guard and three nodes.
         let made = SharedMap::from_iter(alloc, three_of(rt, &counted));
-        say_if_given(rt, is_collected(rt, &counted, made, 0), 6);
+        say_if_given(rt, is_collected(rt, &counted, made, 0), 7);
     }
 }
 
@@ -75,7 +79,7 @@ fn refused_collection_without_a_hint_gives_no_map(rt: HostRuntime) {
 }
 
 fn collect_without_a_hint(
-    rt: &(impl Abort + Print),
+    rt: &(impl Abort + Print + AllocGlobal),
     alloc: Global,
     made: Result<Rc<u8>, AllocError>,
 ) {
@@ -83,6 +87,6 @@ fn collect_without_a_hint(
         // The filter hints at no item. The growths: buckets, the guard and a node; buckets and a node, twice.
         let items = three_of(rt, &counted).into_iter().filter(|_| true);
         let made = SharedMap::from_iter(alloc, items);
-        say_if_given(rt, is_collected(rt, &counted, made, 3), 8);
+        say_if_given(rt, is_collected(rt, &counted, made, 3), 9);
     }
 }

@@ -14,13 +14,13 @@ fn refused_extension_keeps_what_went_in(rt: HostRuntime) {
     extend(&rt, with_room(rt.alloc(), 1));
 }
 
-fn extend(rt: &(impl Abort + Print), made: Result<Map, ReserveError>) {
+fn extend(rt: &(impl Abort + Print + AllocGlobal), made: Result<Map, ReserveError>) {
     if let Ok(mut map) = made {
         let mut items = [(1, 10), (1, 11), (2, 20), (3, 30), (4, 40)].into_iter();
         // The growths: buckets and a node, twice; then a node.
         let extended = map.extend(items.by_ref());
         assert_extended(rt, &map, extended, items.len());
-        say_if_given(rt, map.len() == 4, 8);
+        say_if_given(rt, map.len() == 4, 9);
     }
 }
 
@@ -50,13 +50,13 @@ fn refused_extension_by_references_keeps_what_went_in(rt: HostRuntime) {
     extend_refs(&rt, with_room(rt.alloc(), 1));
 }
 
-fn extend_refs(rt: &(impl Abort + Print), made: Result<Map, ReserveError>) {
+fn extend_refs(rt: &(impl Abort + Print + AllocGlobal), made: Result<Map, ReserveError>) {
     if let Ok(mut map) = made {
         let mut items = [(&1, &10), (&1, &11), (&2, &20), (&3, &30)].into_iter();
         // The growths: buckets and a node, twice.
         let extended = map.extend_refs(items.by_ref());
         assert_extended_by_references(rt, &map, extended, items.len());
-        say_if_given(rt, map.len() == 3, 7);
+        say_if_given(rt, map.len() == 3, 8);
     }
 }
 

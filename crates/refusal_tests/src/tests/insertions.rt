@@ -39,7 +39,7 @@ fn put_into_vacant(map: &mut Map, key: u8, value: u64) -> Result<(), Refused<u8,
 fn refused_insertion_by_each_call_changes_nothing(rt: HostRuntime) {
     let mut map = LinkedHashMap::with_hasher(rt.alloc(), BUILDER);
     let given = put_by_each_call(&rt, &mut map);
-    say_if_given(&rt, given, 10);
+    say_if_given(&rt, given, 11);
 }
 
 /// Puts in a pair by each call, and tells whether none was refused.
@@ -90,18 +90,18 @@ fn refused_insertion_leaves_the_calls_that_take_no_memory(rt: HostRuntime) {
     insert_second(&rt, full_of(&rt, rt.alloc(), &[(1, 10)]));
 }
 
-fn insert_second(rt: &(impl Abort + Print), made: Result<Map, ReserveError>) {
+fn insert_second(rt: &(impl Abort + Print + AllocGlobal), made: Result<Map, ReserveError>) {
     if let Ok(mut map) = made {
         insert_or_change(rt, &mut map);
     }
 }
 
 /// The growths: buckets and a node.
-fn insert_or_change(rt: &(impl Abort + Print), map: &mut Map) {
+fn insert_or_change(rt: &(impl Abort + Print + AllocGlobal), map: &mut Map) {
     match map.insert(2, 20) {
         Ok(_old) => {
             assert_map(rt, map, &[(1, 10), (2, 20)], 2, 1);
-            say_given(rt, 5);
+            say_given(rt, 6);
         }
         Err(refused) => {
             check_eq!(rt; refused, Refused { key: 2, value: 20 });
@@ -127,7 +127,11 @@ fn refused_growth_comes_after_the_closure(rt: HostRuntime) {
     insert_with(&rt, full_of(&rt, rt.alloc(), &[(1, 10)]), rt.alloc());
 }
 
-fn insert_with(rt: &(impl Abort + Print), made: Result<Map, ReserveError>, alloc: Global) {
+fn insert_with(
+    rt: &(impl Abort + Print + AllocGlobal),
+    made: Result<Map, ReserveError>,
+    alloc: Global,
+) {
     if let Ok(mut map) = made {
         insert_after_a_refusal(rt, &mut map, alloc);
         assert_map(rt, &map, &[(1, 10), (2, 20)], 2, 1);
@@ -169,16 +173,19 @@ fn refused_insertion_goes_in_once_there_is_room(rt: HostRuntime) {
     insert_after_a_removal(&rt, full_of(&rt, rt.alloc(), &[(1, 11)]));
 }
 
-fn insert_after_a_removal(rt: &(impl Abort + Print), made: Result<Map, ReserveError>) {
+fn insert_after_a_removal(
+    rt: &(impl Abort + Print + AllocGlobal),
+    made: Result<Map, ReserveError>,
+) {
     if let Ok(mut map) = made {
         insert_or_make_room(rt, &mut map);
     }
 }
 
 /// The growths: buckets and a node.
-fn insert_or_make_room(rt: &(impl Abort + Print), map: &mut Map) {
+fn insert_or_make_room(rt: &(impl Abort + Print + AllocGlobal), map: &mut Map) {
     match map.insert(2, 20) {
-        Ok(_old) => say_given(rt, 5),
+        Ok(_old) => say_given(rt, 6),
         Err(refused) => {
             check_eq!(rt; refused, Refused { key: 2, value: 20 });
             remove_and_insert(rt, map);
@@ -199,7 +206,7 @@ fn refused_pair_comes_back_from_each_call_of_an_entry(rt: HostRuntime) {
     let by_value = put_by_value(&rt, full_of(&rt, rt.alloc(), &[(1, 10)]));
     let by_default = put_by_default(&rt, full_of(&rt, rt.alloc(), &[(1, 10)]));
     let by_closure = put_by_closure(&rt, full_of(&rt, rt.alloc(), &[(1, 10)]));
-    say_if_given(&rt, by_value & by_default & by_closure, 15);
+    say_if_given(&rt, by_value & by_default & by_closure, 16);
 }
 
 /// Puts in a second pair by `or_insert`, and tells whether each growth was given.

@@ -30,19 +30,19 @@ fn refused_replay_hands_the_commands_back(rt: HostRuntime) {
     );
 }
 
-fn make_insertions(rt: &(impl Abort + Print), map: Map, alloc: Global) {
+fn make_insertions(rt: &(impl Abort + Print + AllocGlobal), map: Map, alloc: Global) {
     // The growth: the commands.
     if let Ok(commands) = Vec::from_array(alloc, INSERTIONS) {
         replay_insertions(rt, map, commands);
     }
 }
 
-fn replay_insertions(rt: &(impl Abort + Print), mut map: Map, commands: Commands) {
+fn replay_insertions(rt: &(impl Abort + Print + AllocGlobal), mut map: Map, commands: Commands) {
     // The growths: the replies; buckets, the guard and a node; buckets and a node, twice.
     match replay(&mut map, commands) {
         Ok(replies) => {
             assert_inserted(rt, &map, replies.as_slice());
-            say_if_given(rt, map.len() == 3, 9);
+            say_if_given(rt, map.len() == 3, 10);
         }
         Err(commands) => {
             check_eq!(rt; commands.as_slice(), INSERTIONS.as_slice());
@@ -117,7 +117,11 @@ fn refused_change_of_a_replay_is_answered(rt: HostRuntime) {
     make_changes(&rt, made, rt.alloc());
 }
 
-fn make_changes(rt: &(impl Abort + Print), made: Result<Map, ReserveError>, alloc: Global) {
+fn make_changes(
+    rt: &(impl Abort + Print + AllocGlobal),
+    made: Result<Map, ReserveError>,
+    alloc: Global,
+) {
     if let Ok(map) = made {
         if let Ok(commands) = Vec::from_array(alloc, CHANGES) {
             replay_changes(rt, map, commands);
@@ -125,13 +129,13 @@ fn make_changes(rt: &(impl Abort + Print), made: Result<Map, ReserveError>, allo
     }
 }
 
-fn replay_changes(rt: &(impl Abort + Print), mut map: Map, commands: Commands) {
+fn replay_changes(rt: &(impl Abort + Print + AllocGlobal), mut map: Map, commands: Commands) {
     // The growths: the replies; buckets and a node; buckets; the list.
     match replay(&mut map, commands) {
         Ok(replies) => {
             let refused = refused_at(replies.as_slice());
             assert_changed(rt, &map, replies.as_slice(), refused);
-            say_if_given(rt, refused.is_none(), 10);
+            say_if_given(rt, refused.is_none(), 11);
         }
         Err(commands) => {
             check_eq!(rt; commands.as_slice(), CHANGES.as_slice());
@@ -180,7 +184,11 @@ fn refused_replay_stops_an_extension(rt: HostRuntime) {
     make_extension(&rt, with_room(rt.alloc(), 1), rt.alloc());
 }
 
-fn make_extension(rt: &(impl Abort + Print), made: Result<Map, ReserveError>, alloc: Global) {
+fn make_extension(
+    rt: &(impl Abort + Print + AllocGlobal),
+    made: Result<Map, ReserveError>,
+    alloc: Global,
+) {
     if let Ok(map) = made {
         if let Ok(commands) = extension(alloc) {
             replay_extension(rt, map, commands);
@@ -194,12 +202,12 @@ fn extension(alloc: Global) -> Result<Commands, AllocError> {
     Ok(Vec::from_array(alloc, [Command::Extend(PairList::from_vec(pairs))])?)
 }
 
-fn replay_extension(rt: &(impl Abort + Print), mut map: Map, commands: Commands) {
+fn replay_extension(rt: &(impl Abort + Print + AllocGlobal), mut map: Map, commands: Commands) {
     // The growths: the replies; buckets and a node, twice.
     match replay(&mut map, commands) {
         Ok(replies) => {
             assert_stopped(rt, &map, replies.as_slice());
-            say_if_given(rt, map.len() == 3, 10);
+            say_if_given(rt, map.len() == 3, 11);
         }
         Err(_commands) => assert_map(rt, &map, &[], 1, 0),
     }

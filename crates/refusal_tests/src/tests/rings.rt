@@ -26,12 +26,12 @@ fn refused_growth_leaves_an_empty_ring(rt: HostRuntime) {
     grow_empty(&rt, Ring::new(rt.alloc()));
 }
 
-fn grow_empty(rt: &(impl Abort + Print), mut ring: Ring<char, u64>) {
+fn grow_empty(rt: &(impl Abort + Print + AllocGlobal), mut ring: Ring<char, u64>) {
     // The growths: the guard and three nodes.
     match ring.grow(3) {
         Ok(()) => {
             check!(rt; is_ring(&ring, &[], 3));
-            say_given(rt, 4);
+            say_given(rt, 5);
         }
         Err(AllocError) => check!(rt; is_ring(&ring, &[], 0)),
     }
@@ -42,7 +42,7 @@ fn refused_growth_leaves_what_is_held(rt: HostRuntime) {
     grow_twice(&rt, Ring::new(rt.alloc()));
 }
 
-fn grow_twice(rt: &(impl Abort + Print), mut ring: Ring<char, u64>) {
+fn grow_twice(rt: &(impl Abort + Print + AllocGlobal), mut ring: Ring<char, u64>) {
     // The growths: the guard and two nodes.
     if let Ok(()) = ring.grow(2) {
         ring.put_back(7, 'a', 1);
@@ -50,12 +50,12 @@ fn grow_twice(rt: &(impl Abort + Print), mut ring: Ring<char, u64>) {
     }
 }
 
-fn grow_held(rt: &(impl Abort + Print), mut ring: Ring<char, u64>) {
+fn grow_held(rt: &(impl Abort + Print + AllocGlobal), mut ring: Ring<char, u64>) {
     // The growths: three nodes.
     match ring.grow(3) {
         Ok(()) => {
             check!(rt; is_ring(&ring, &[(7, 'a', 1)], 4));
-            say_given(rt, 6);
+            say_given(rt, 7);
         }
         Err(AllocError) => check!(rt; is_ring(&ring, &[(7, 'a', 1)], 1)),
     }

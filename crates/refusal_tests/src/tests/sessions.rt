@@ -13,7 +13,8 @@ type Table = Sessions<&'static str>;
 fn assert_sessions(rt: &impl Abort, table: &Table, expected: &[Session], total: u64) {
     check_eq!(rt; (table.len(), table.total()), (expected.len(), total));
     let mut sessions = table.iter();
-    check_eq!(rt; sessions.len(), expected.len());
+    let len = expected.len();
+    check_eq!(rt; (sessions.len(), sessions.size_hint()), (len, (len, Some(len))));
     for (id, weight, payload) in expected {
         check_eq!(rt; sessions.next(), Some((*id, *weight, payload)));
     }
@@ -32,7 +33,7 @@ fn refused_put_changes_nothing(rt: HostRuntime) {
     put_first(&rt, &mut table);
 }
 
-fn put_first(rt: &(impl Abort + Print), table: &mut Table) {
+fn put_first(rt: &(impl Abort + Print + AllocGlobal), table: &mut Table) {
     match table.put(1, 4, "a") {
         Ok(_put) => put_second(rt, table),
         Err(refused) => {
@@ -42,7 +43,7 @@ fn put_first(rt: &(impl Abort + Print), table: &mut Table) {
     }
 }
 
-fn put_second(rt: &(impl Abort + Print), table: &mut Table) {
+fn put_second(rt: &(impl Abort + Print + AllocGlobal), table: &mut Table) {
     match table.put(2, 4, "b") {
         Ok(_put) => {
             // No session goes, so no memory is asked for.
@@ -62,11 +63,11 @@ fn put_again(rt: &impl Abort, table: &mut Table) {
 }
 
 /// The growth: the vector for the session that goes.
-fn put_third(rt: &(impl Abort + Print), table: &mut Table) {
+fn put_third(rt: &(impl Abort + Print + AllocGlobal), table: &mut Table) {
     match table.put(3, 4, "d") {
         Ok(_put) => {
             assert_sessions(rt, table, &[(2, 4, "c"), (3, 4, "d")], 8);
-            say_given(rt, 6);
+            say_given(rt, 7);
         }
         Err(refused) => {
             assert_refused(rt, refused, "d");
@@ -85,4 +86,81 @@ fn put_third_again(rt: &impl Abort, table: &mut Table) {
 fn send_first_away(rt: &impl Abort, table: &mut Table) {
     let put = given!(rt; table.put(3, 4, "e"));
     check_eq!(rt; put.gone.as_slice(), [(1, 4, "a")].as_slice());
+}
+
+/// Puts two sessions, and tells whether each growth was given. The growths: buckets, the guard and a node; buckets and a node.
+fn put_two(table: &mut Table) -> bool {
+    table.put(1, 4, "a").is_ok() && table.put(2, 4, "b").is_ok()
+}
+
+#[test]
+fn refused_growth_is_not_asked_for_by_a_table(rt: HostRuntime) {
+    let mut table = Sessions::new(rt.alloc(), 10);
+    use_two(&rt, &mut table);
+}
+
+fn use_two(rt: &(impl Abort + Print + AllocGlobal), table: &mut Table) {
+    if put_two(table) {
+        read_and_move(rt, table);
+        remove_and_put(rt, table);
+        say_given(rt, 6);
+    }
+}
+
+/// Reads a table of two sessions, and moves the first to the back.
+fn read_and_move(rt: &impl Abort, table: &mut Table) {
+    assert_sessions(rt, table, &[(1, 4, "a"), (2, 4, "b")], 8);
+    check_eq!(rt; table.touch(1).copied(), Some("a"));
+    check_eq!(rt; table.touch(3).copied(), None);
+    assert_sessions(rt, table, &[(2, 4, "b"), (1, 4, "a")], 8);
+}
+
+/// Takes a session out of a table of two, and puts others within its room.
+fn remove_and_put(rt: &impl Abort, table: &mut Table) {
+    check_eq!(rt; (table.remove(2), table.remove(3)), (Some("b"), None));
+    check!(rt; table.put(3, 4, "c").is_ok());
+    check!(rt; table.put(3, 5, "d").is_ok());
+    check!(rt; table.put(3, 11, "e").is_err());
+    assert_sessions(rt, table, &[(1, 4, "a"), (3, 5, "d")], 9);
+}
+
+#[test]
+fn refused_put_asks_once(rt: HostRuntime) {
+    let mut table = Sessions::new(rt.alloc(), 10);
+    send_two_away(&rt, &mut table);
+}
+
+fn send_two_away(rt: &(impl Abort + Print + AllocGlobal), table: &mut Table) {
+    if put_two(table) {
+        put_heavy(rt, table);
+    }
+}
+
+/// The growth: one vector for both sessions that go.
+fn put_heavy(rt: &(impl Abort + Print + AllocGlobal), table: &mut Table) {
+    match table.put(3, 9, "c") {
+        Ok(put) => {
+            check_eq!(rt; put.gone.as_slice(), [(1, 4, "a"), (2, 4, "b")].as_slice());
+            put_light(rt, table);
+        }
+        Err(refused) => {
+            assert_refused(rt, refused, "c");
+            assert_sessions(rt, table, &[(1, 4, "a"), (2, 4, "b")], 8);
+        }
+    }
+}
+
+/// Puts a session again, and a new one that sends the other away. The growth: the vector for it.
+fn put_light(rt: &(impl Abort + Print + AllocGlobal), table: &mut Table) {
+    check!(rt; table.put(3, 8, "d").is_ok());
+    match table.put(4, 4, "e") {
+        Ok(_put) => {
+            assert_sessions(rt, table, &[(4, 4, "e")], 4);
+            say_given(rt, 8);
+        }
+        Err(refused) => {
+            assert_refused(rt, refused, "e");
+            assert_sessions(rt, table, &[(3, 8, "d")], 8);
+        }
+    }
 }

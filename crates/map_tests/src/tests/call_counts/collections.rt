@@ -1,0 +1,131 @@
+//! Extensions and collections, which look each item up once, and clones and comparisons.
+
+use super::{CallMap, KINDS, Kind, SAME, check_calls, map_of_kind};
+use crate::tests::checks::{check, given};
+use crate::tests::counted_calls::{Calls, Counts, Key};
+use crate::tests::multiple::KEY;
+use linked_hash_map::LinkedHashMap;
+use std::alloc::Global;
+use std::hash::{BuildHasher, Hash, Hasher};
+use std::process::Abort;
+
+/// The calls of `lookups` lookups that compare so many keys in all.
+fn lookups(lookups: usize, compared: usize) -> Calls {
+    Calls {
+        compared,
+        hashed: lookups,
+        cloned: 0,
+        built: lookups,
+    }
+}
+
+/// Makes a full map of one pair, of another key than those of the extensions.
+fn one_pair<'a>(rt: &impl Abort, alloc: Global, counts: &'a Counts) -> CallMap<'a> {
+    let kind = Kind {
+        build: SAME,
+        capacity: 1,
+        len: 1,
+        same: 1,
+    };
+    map_of_kind(rt, alloc, &kind, counts)
+}
+
+/// Three items of two keys, neither of which is 0.
+fn items(counts: &Counts) -> [(Key<'_>, u64); 3] {
+    [1, 2, 1].map(|number| (Key { number, counts }, number))
+}
+
+/// The keys have one hash: the first item is compared with one key, and the second with two.
+#[test]
+fn looks_each_item_of_an_extension_up_once(rt: HostRuntime) {
+    let counts = Counts::new();
+    let mut map = one_pair(&rt, rt.alloc(), &counts);
+    let [first, second, _third] = items(&counts);
+    check_calls!(rt; counts, map.extend([first, second]).is_ok(), lookups(2, 3));
+    let mut map = one_pair(&rt, rt.alloc(), &counts);
+    let items = [(&first.0, &first.1), (&second.0, &second.1)];
+    check_calls!(rt; counts, map.extend_refs(items).is_ok(), lookups(2, 3));
+}
+
+/// A map of the default hasher, which is not counted.
+type DefaultMap<'a> = LinkedHashMap<Key<'a>, u64>;
+
+/// The third item has the key of the first, and is compared with it.
+#[test]
+fn hashes_each_item_of_a_collection_once(rt: HostRuntime) {
+    let counts = Counts::new();
+    let wanted = Calls {
+        built: 0,
+        ..lookups(3, 1)
+    };
+    check_calls!(rt; counts, DefaultMap::from_iter(rt.alloc(), items(&counts)).is_ok(), wanted);
+}
+
+/// What a clone of a map of `len` pairs calls: each key and the builder are cloned, and each clone
+/// is compared with those before it that have its hash.
+fn calls_of_a_clone(kind: &Kind) -> Calls {
+    let len = kind.len as usize;
+    let before = kind.same.saturating_sub(1);
+    Calls {
+        compared: kind.same.saturating_mul(before) / 2,
+        hashed: len,
+        cloned: len.saturating_add(1),
+        built: len,
+    }
+}
+
+/// Clones a map of a kind, and then its iterator, which hashes and compares no key.
+fn clone_each(rt: &impl Abort, alloc: Global, kind: &Kind) {
+    let counts = Counts::new();
+    let map = map_of_kind(rt, alloc, kind, &counts);
+    check_calls!(rt; counts, map.clone().is_ok(), calls_of_a_clone(kind));
+    let pairs = map.into_iter();
+    let wanted = Calls {
+        cloned: kind.len as usize,
+        ..lookups(0, 0)
+    };
+    check_calls!(rt; counts, pairs.clone().is_ok(), wanted);
+}
+
+/// Hashes a map by a builder that is not counted.
+fn hash_of(map: &CallMap<'_>) -> u64 {
+    let mut state = KEY.build_hasher();
+    map.hash(&mut state);
+    state.finish()
+}
+
+/// Compares a map with itself, and hashes it.
+fn compare_each(rt: &impl Abort, alloc: Global, kind: &Kind) {
+    let counts = Counts::new();
+    let map = map_of_kind(rt, alloc, kind, &counts);
+    let len = kind.len as usize;
+    check_calls!(rt; counts, map == map, lookups(0, len));
+    let wanted = Calls {
+        hashed: len,
+        ..lookups(0, 0)
+    };
+    check_calls!(rt; counts, hash_of(&map), wanted);
+}
+
+fn clone_and_compare_in_each(rt: &impl Abort, alloc: Global) {
+    for kind in &KINDS {
+        clone_each(rt, alloc, kind);
+        compare_each(rt, alloc, kind);
+    }
+}
+
+#[test]
+fn clones_and_compares_each_key_once(rt: HostRuntime) {
+    clone_and_compare_in_each(&rt, rt.alloc());
+}
+
+/// Maps of different lengths are known to differ without a comparison.
+#[test]
+fn compares_no_key_of_maps_of_other_lengths(rt: HostRuntime) {
+    let counts = Counts::new();
+    let mut map = one_pair(&rt, rt.alloc(), &counts);
+    let other = given!(rt; map.clone());
+    let [first, _second, _third] = items(&counts);
+    check!(rt; map.insert(first.0, first.1).is_ok());
+    check_calls!(rt; counts, map == other, lookups(0, 0));
+}

@@ -1,0 +1,121 @@
+//! Entries, which look their key up once, when they are made.
+
+use super::{CallMap, KINDS, Kind, check_calls, lookup_of, map_of_kind};
+use crate::tests::checks::check;
+use crate::tests::counted_calls::{Calls, Counts, Key, lookup};
+use linked_hash_map::Entry;
+use std::alloc::Global;
+use std::process::Abort;
+
+/// Makes the entry of a key, and makes the calls of either kind of entry that leave the pairs.
+fn enter<'a>(rt: &impl Abort, map: &mut CallMap<'a>, key: Key<'a>, wanted: Calls) {
+    check_calls!(rt; key.counts, map.entry(key), wanted);
+    check_calls!(rt; key.counts, map.entry(key).key().number, wanted);
+    check_calls!(rt; key.counts, map.entry(key).and_modify(|value| *value = 1), wanted);
+}
+
+/// Makes the calls that insert an absent key.
+fn or_insert<'a>(rt: &impl Abort, map: &mut CallMap<'a>, key: Key<'a>, wanted: Calls) {
+    check_calls!(rt; key.counts, map.entry(key).or_insert(1).is_ok(), wanted);
+}
+
+fn or_insert_with<'a>(rt: &impl Abort, map: &mut CallMap<'a>, key: Key<'a>, wanted: Calls) {
+    check_calls!(rt; key.counts, map.entry(key).or_insert_with(|| 1).is_ok(), wanted);
+}
+
+fn or_default<'a>(rt: &impl Abort, map: &mut CallMap<'a>, key: Key<'a>, wanted: Calls) {
+    check_calls!(rt; key.counts, map.entry(key).or_default().is_ok(), wanted);
+}
+
+/// Inserts a key through its vacant entry.
+fn insert_vacant<'a>(map: &mut CallMap<'a>, key: Key<'a>) -> bool {
+    match map.entry(key) {
+        Entry::Vacant(entry) => entry.key().number == key.number && entry.insert(1).is_ok(),
+        Entry::Occupied(_entry) => false,
+    }
+}
+
+/// Makes the calls of an occupied entry that leave its pair.
+fn use_occupied<'a>(map: &mut CallMap<'a>, key: Key<'a>) -> u64 {
+    match map.entry(key) {
+        Entry::Vacant(_entry) => 0,
+        Entry::Occupied(mut entry) => {
+            let number = entry.key().number;
+            *entry.get_mut() = number;
+            let old = entry.insert(1);
+            *entry.into_mut() = old;
+            old
+        }
+    }
+}
+
+/// Removes a key by its occupied entry.
+fn remove_occupied<'a>(map: &mut CallMap<'a>, key: Key<'a>) -> bool {
+    match map.entry(key) {
+        Entry::Vacant(_entry) => false,
+        Entry::Occupied(entry) => {
+            let value = *entry.get();
+            value == entry.remove()
+        }
+    }
+}
+
+/// Takes a present key out.
+fn take_out<'a>(rt: &impl Abort, map: &mut CallMap<'a>, key: Key<'a>) {
+    let wanted = lookup_of(rt, map, &key);
+    check_calls!(rt; key.counts, remove_occupied(map, key), wanted);
+}
+
+/// Inserts an absent key by each call, and takes it out again.
+fn enter_absent<'a>(rt: &impl Abort, map: &mut CallMap<'a>, key: Key<'a>, wanted: Calls) {
+    enter(rt, map, key, wanted);
+    or_insert(rt, map, key, wanted);
+    take_out(rt, map, key);
+    or_insert_with(rt, map, key, wanted);
+    take_out(rt, map, key);
+    or_default(rt, map, key, wanted);
+    take_out(rt, map, key);
+    check_calls!(rt; key.counts, insert_vacant(map, key), wanted);
+    take_out(rt, map, key);
+}
+
+/// Makes each call of an occupied entry on a present key.
+fn enter_present<'a>(rt: &impl Abort, map: &mut CallMap<'a>, key: Key<'a>) {
+    let wanted = lookup_of(rt, map, &key);
+    enter(rt, map, key, wanted);
+    or_insert(rt, map, key, wanted);
+    or_insert_with(rt, map, key, wanted);
+    or_default(rt, map, key, wanted);
+    check_calls!(rt; key.counts, use_occupied(map, key), wanted);
+    take_out(rt, map, key);
+    check!(rt; insert_vacant(map, key));
+}
+
+/// Makes the entry of each key of a map of a kind, and of an absent one.
+fn enter_each(rt: &impl Abort, alloc: Global, kind: &Kind) {
+    let counts = Counts::new();
+    let mut map = map_of_kind(rt, alloc, kind, &counts);
+    let absent = Key {
+        number: 99,
+        counts: &counts,
+    };
+    enter_absent(rt, &mut map, absent, lookup(kind.same));
+    for number in 0..kind.len {
+        let key = Key {
+            number,
+            counts: &counts,
+        };
+        enter_present(rt, &mut map, key);
+    }
+}
+
+fn enter_in_each(rt: &impl Abort, alloc: Global) {
+    for kind in &KINDS {
+        enter_each(rt, alloc, kind);
+    }
+}
+
+#[test]
+fn looks_the_key_of_an_entry_up_once(rt: HostRuntime) {
+    enter_in_each(&rt, rt.alloc());
+}

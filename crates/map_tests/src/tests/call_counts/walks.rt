@@ -1,0 +1,91 @@
+//! Calls that look no key up: the ends, iterators, cursors, capacities and settings.
+
+use super::{CallMap, KINDS, Kind, check_calls, map_of_kind};
+use crate::tests::counted_calls::{Counts, NONE};
+use linked_hash_map::Mode;
+use std::alloc::Global;
+use std::process::Abort;
+
+/// Makes the calls that read a map.
+fn read(rt: &impl Abort, map: &CallMap<'_>, counts: &Counts) {
+    check_calls!(rt; counts, (map.front(), map.back()), NONE);
+    check_calls!(rt; counts, (map.len(), map.is_empty(), map.capacity()), NONE);
+    check_calls!(rt; counts, (map.rechained(), map.unvisited(), map.mode()), NONE);
+    check_calls!(rt; counts, map.hasher(), NONE);
+    check_calls!(rt; counts, (map.iter().next(), map.iter().next_back()), NONE);
+    check_calls!(rt; counts, (map.keys().next(), map.values().next_back()), NONE);
+    check_calls!(rt; counts, map.iter().clone().is_ok(), NONE);
+    check_calls!(rt; counts, sum(map), NONE);
+}
+
+/// Goes over a map by a loop.
+fn sum(map: &CallMap<'_>) -> u64 {
+    let mut sum = 0u64;
+    for (key, value) in map {
+        sum = sum.wrapping_add(key.number).wrapping_add(*value);
+    }
+    sum
+}
+
+/// Replaces each value by a cursor.
+fn visit_all(map: &mut CallMap<'_>) {
+    let mut cursor = map.entries();
+    for _ in 0..cursor.remaining() {
+        if let Some(mut entry) = cursor.next() {
+            entry.insert(1);
+        }
+    }
+}
+
+/// Removes the first pair by a visit.
+fn remove_first(map: &mut CallMap<'_>) -> u64 {
+    match map.visit().next_entry() {
+        Some(entry) => entry.remove(),
+        None => 0,
+    }
+}
+
+/// Makes the calls that change the capacity or values. The hashes that are kept serve for further
+/// buckets.
+fn change(rt: &impl Abort, map: &mut CallMap<'_>, counts: &Counts) {
+    check_calls!(rt; counts, map.set_mode(Mode::Touch), NONE);
+    check_calls!(rt; counts, map.reserve(100), NONE);
+    check_calls!(rt; counts, map.shrink_to_fit(), NONE);
+    check_calls!(rt; counts, map.iter_mut().next(), NONE);
+    check_calls!(rt; counts, visit_all(map), NONE);
+}
+
+/// Takes pairs out by each call that is handed no key.
+fn take_out(rt: &impl Abort, map: &mut CallMap<'_>, counts: &Counts) {
+    check_calls!(rt; counts, map.pop_front(), NONE);
+    check_calls!(rt; counts, map.pop_back(), NONE);
+    check_calls!(rt; counts, remove_first(map), NONE);
+    check_calls!(rt; counts, map.drain().next(), NONE);
+}
+
+/// Takes the last map apart.
+fn consume(rt: &impl Abort, map: CallMap<'_>, counts: &Counts) {
+    check_calls!(rt; counts, map.into_iter().next_back(), NONE);
+}
+
+fn walk_each(rt: &impl Abort, alloc: Global, kind: &Kind) {
+    let counts = Counts::new();
+    let mut map = map_of_kind(rt, alloc, kind, &counts);
+    read(rt, &map, &counts);
+    change(rt, &mut map, &counts);
+    take_out(rt, &mut map, &counts);
+    let mut map = map_of_kind(rt, alloc, kind, &counts);
+    check_calls!(rt; counts, map.clear(), NONE);
+    consume(rt, map_of_kind(rt, alloc, kind, &counts), &counts);
+}
+
+fn walk_in_each(rt: &impl Abort, alloc: Global) {
+    for kind in &KINDS {
+        walk_each(rt, alloc, kind);
+    }
+}
+
+#[test]
+fn looks_no_key_up_that_it_is_not_handed(rt: HostRuntime) {
+    walk_in_each(&rt, rt.alloc());
+}

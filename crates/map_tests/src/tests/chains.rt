@@ -1,0 +1,123 @@
+//! Iterators that a caller chains, collects or loops over.
+ghost use Rattle.std.specs.Prelude.{◌≡◌, ◌∷◌, ◌^◌, ◌<◌, [], filter, nat_lt, reverse, slice_get, sum_by, IfOk};
+ghost use Rattle.std.specs.Map.{keys_of, values_of};
+
+use super::calls::{assert_get, check_insert, insert_all};
+use super::checks::{check_eq, given};
+use linked_hash_map::{LinkedHashMap, Refused};
+use std::alloc::{AllocError, Global};
+use std::process::Abort;
+
+// Callers that chain an iterator, and know what the list gives.
+
+fn sum_of_values(map: &LinkedHashMap<u32, u32>) -> u64
+    requires { sum_by (λ v. v) (values_of map.now.pairs) < 2 ^ 64 }
+    ensures { result ≡ sum_by (λ v. v) (values_of map.now.pairs) }
+{
+    map.values().map(|value| *value as u64).sum()
+}
+
+fn sum_of_large(map: &LinkedHashMap<u32, u32>) -> u64
+    requires { sum_by (λ v. v) (values_of map.now.pairs) < 2 ^ 64 }
+    ensures { result ≡ sum_by (λ v. v) (filter (λ v. nat_lt 10 v) (values_of map.now.pairs)) }
+{
+    map.values()
+        .filter(|value| **value > 10)
+        .map(|value| *value as u64)
+        .sum()
+}
+
+fn newest_first(alloc: Global, map: &LinkedHashMap<u32, u32>) -> Result<Vec<u32>, AllocError>
+    ensures { IfOk result (λ keys. keys.items ≡ reverse (keys_of map.now.pairs)) }
+{
+    map.keys().rev().map(|key| *key).collect(alloc)
+}
+
+// A caller that writes each value, and knows that the keys stand.
+fn clear_values(map: &mut LinkedHashMap<u32, u32>)
+    ensures keys { keys_of map.new.pairs ≡ keys_of map.old.pairs }
+    ensures capacity { map.new.capacity ≡ map.old.capacity }
+{
+    for (_, value) in map.iter_mut() {
+        *value = 0;
+    }
+}
+
+// A caller that drops a drain early, and knows what is left.
+fn take_first(map: &mut LinkedHashMap<u32, u32>) -> Option<(u32, u32)>
+    ensures first { result ≡ slice_get map.old.pairs 0 }
+    ensures empty { map.new.pairs ≡ [] }
+    ensures capacity { map.new.capacity ≡ map.old.capacity }
+{
+    let mut pairs = map.drain();
+    pairs.next()
+}
+
+fn drained(alloc: Global, map: &mut LinkedHashMap<u32, u32>) -> Result<Vec<(u32, u32)>, AllocError>
+    ensures { IfOk result (λ pairs. pairs.items ≡ map.old.pairs) }
+{
+    map.drain().collect(alloc)
+}
+
+/// Makes a map of two pairs, whose values are known to have a sum that fits.
+fn two_pairs(alloc: Global) -> Result<LinkedHashMap<u32, u32>, Refused<u32, u32>>
+    ensures { IfOk result (λ map. map.pairs ≡ (1, 10) ∷ (2, 20) ∷ []) }
+{
+    let mut map = LinkedHashMap::new(alloc);
+    map.insert(1, 10)?;
+    map.insert(2, 20)?;
+    Ok(map)
+}
+
+/// Checks what the chains give on those two pairs.
+fn assert_chains(rt: &impl Abort, alloc: Global) {
+    match two_pairs(alloc) {
+        Ok(map) => {
+            check_eq!(rt; (sum_of_values(&map), sum_of_large(&map)), (30, 20));
+            let keys = given!(rt; newest_first(alloc, &map));
+            check_eq!(rt; keys.as_slice(), [2, 1].as_slice());
+        }
+        Err(_refused) => panic!(rt; "no memory for two pairs"),
+    }
+}
+
+#[test]
+fn chains_a_walk(rt: HostRuntime) {
+    assert_chains(&rt, rt.alloc());
+}
+
+/// Checks that a loop gives each key with its value.
+fn assert_each(rt: &impl Abort, map: &LinkedHashMap<u32, u32>) {
+    for (key, value) in map {
+        assert_get(rt, map, key, Some(value));
+    }
+}
+
+/// Checks that a loop that takes the map gives one pair alone.
+fn assert_only(rt: &impl Abort, map: LinkedHashMap<u32, u32>, only: (u32, u32)) {
+    for pair in map {
+        check_eq!(rt; pair, only);
+    }
+}
+
+#[test]
+fn loops_over_a_map(rt: HostRuntime) {
+    let mut map = LinkedHashMap::new(rt.alloc());
+    insert_all(&rt, &mut map, &[(1, 10), (2, 20), (3, 30)]);
+    assert_each(&rt, &map);
+    let keys = given!(rt; newest_first(rt.alloc(), &map));
+    check_eq!(rt; keys.as_slice(), [3, 2, 1].as_slice());
+    clear_values(&mut map);
+    assert_get(&rt, &map, &1, Some(&0));
+    check_eq!(rt; take_first(&mut map), Some((1, 0)));
+    check_insert(&rt, &mut map, 4, 40, None);
+    assert_only(&rt, map, (4, 40));
+}
+
+#[test]
+fn drains_into_a_vector(rt: HostRuntime) {
+    let mut map = LinkedHashMap::new(rt.alloc());
+    insert_all(&rt, &mut map, &[(5, 50)]);
+    let pairs = given!(rt; drained(rt.alloc(), &mut map));
+    check_eq!(rt; pairs.as_slice(), [(5, 50)].as_slice());
+}

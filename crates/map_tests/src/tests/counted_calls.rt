@@ -1,0 +1,152 @@
+//! Keys and hashers that count how often their calls are made.
+ghost use Rattle.std.specs.Prelude.{◌==◌};
+ghost use Rattle.std.specs.Cmp.Rules.{comparing, hashing};
+ghost use Rattle.std.specs.Hash as fed;
+ghost use Rattle.std.specs.Ordering.{on};
+ghost use Rattle.std.proofs.Common.{rules};
+
+use super::multiple::{BuildMultiple, Multiple};
+use std::alloc::AllocError;
+use std::cell::Cell;
+use std::hash::{BuildHasher, Hash, Hasher};
+
+/// How often each call was made.
+#[derive(Clone, Copy, Debug, PartialEq)]
+pub struct Calls {
+    /// `==` of keys.
+    pub compared: usize,
+    /// `hash` of a key.
+    pub hashed: usize,
+    /// `clone` of a key or of a builder.
+    pub cloned: usize,
+    /// `build_hasher` of a builder.
+    pub built: usize,
+}
+
+/// No call.
+pub const NONE: Calls = Calls {
+    compared: 0,
+    hashed: 0,
+    cloned: 0,
+    built: 0,
+};
+
+/// The calls of one lookup that compares so many keys.
+pub fn lookup(compared: usize) -> Calls {
+    Calls {
+        compared,
+        hashed: 1,
+        cloned: 0,
+        built: 1,
+    }
+}
+
+/// The counts that keys and builders share.
+#[derive(Drop)]
+pub struct Counts {
+    calls: Cell<Calls>,
+}
+
+impl Counts {
+    pub fn new() -> Counts {
+        Counts {
+            calls: Cell::new(NONE),
+        }
+    }
+
+    /// Returns the calls made since the last time, and begins anew.
+    pub fn take(&self) -> Calls {
+        self.calls.replace(NONE)
+    }
+
+    fn count_comparison(&self) {
+        let calls = self.calls.get();
+        let compared = calls.compared.saturating_add(1);
+        self.calls.set(Calls { compared, ..calls });
+    }
+
+    fn count_hash(&self) {
+        let calls = self.calls.get();
+        let hashed = calls.hashed.saturating_add(1);
+        self.calls.set(Calls { hashed, ..calls });
+    }
+
+    fn count_clone(&self) {
+        let calls = self.calls.get();
+        let cloned = calls.cloned.saturating_add(1);
+        self.calls.set(Calls { cloned, ..calls });
+    }
+
+    fn count_build(&self) {
+        let calls = self.calls.get();
+        let built = calls.built.saturating_add(1);
+        self.calls.set(Calls { built, ..calls });
+    }
+}
+
+/// A number whose calls are counted.
+pub struct Key<'a> {
+    pub number: u64,
+    pub counts: &'a Counts,
+}
+
+impl<'a> Clone for Key<'a> {
+    fn clone(&self) -> Result<Key<'a>, AllocError> {
+        self.counts.count_clone();
+        Ok(*self)
+    }
+}
+
+impl<'a> Copy for Key<'a> {}
+
+impl<'a> PartialEq for Key<'a> {
+    ghost eq = { on (λ key. key.number) ◌==◌ };
+
+    ghost laws = { Prim.search (comparing, rules) };
+
+    fn eq(&self, other: &Key<'a>) -> bool {
+        self.counts.count_comparison();
+        self.number == other.number
+    }
+}
+
+impl<'a> Eq for Key<'a> {
+    ghost laws = { Prim.search (comparing, rules) };
+}
+
+impl<'a> Hash for Key<'a> {
+    ghost hash_input = { λ key. fed.u64 key.number };
+
+    ghost respects_eq = { Prim.search (hashing, rules) };
+
+    fn hash<H: Hasher>(&self, state: &mut H) {
+        self.counts.count_hash();
+        state.write_u64(self.number);
+    }
+}
+
+/// A builder whose calls are counted.
+pub struct Builder<'a> {
+    pub build: BuildMultiple,
+    pub counts: &'a Counts,
+}
+
+impl<'a> Clone for Builder<'a> {
+    fn clone(&self) -> Result<Builder<'a>, AllocError> {
+        self.counts.count_clone();
+        Ok(*self)
+    }
+}
+
+impl<'a> Copy for Builder<'a> {}
+
+impl<'a> BuildHasher for Builder<'a> {
+    type Hasher = Multiple;
+
+    ghost build_hasher = { λ builder. record { last = 0; build = builder.build } };
+
+    fn build_hasher(&self) -> Multiple {
+        self.counts.count_build();
+        self.build.build_hasher()
+    }
+}

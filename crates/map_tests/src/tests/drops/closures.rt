@@ -1,0 +1,84 @@
+//! Closures that own what is counted, called and not called.
+
+use super::{KEY, OWNED, PAIRS, VALUE, assert_dropped};
+use crate::tests::checks::check;
+use crate::tests::counted_map::{CountedMap, counted_map_of};
+use crate::tests::tally::{Counted, Tally};
+use linked_hash_map::Entry;
+use std::mem::replace;
+use std::process::Abort;
+
+/// Inserts what a closure makes, which owns `owned` too.
+fn or_insert_with<'a>(
+    rt: &impl Abort,
+    map: &mut CountedMap<'a>,
+    key: Counted<'a>,
+    value: Counted<'a>,
+    owned: Counted<'a>,
+) {
+    let made = move || {
+        drop(owned);
+        value
+    };
+    check!(rt; map.entry(key).or_insert_with(made).is_ok());
+}
+
+#[test]
+fn drops_what_a_called_closure_owns(rt: HostRuntime) {
+    let tally = Tally::new();
+    let mut map = counted_map_of(&rt, rt.alloc(), &tally, &PAIRS);
+    let (key, value) = (tally.thing(4, KEY), tally.thing(4, VALUE));
+    or_insert_with(&rt, &mut map, key, value, tally.thing(0, OWNED));
+    assert_dropped(&rt, &tally, OWNED);
+    drop(map);
+    assert_dropped(&rt, &tally, 511);
+}
+
+/// The key that finds the entry is dropped too, with the value that the closure would have made.
+#[test]
+fn drops_a_closure_that_is_not_called(rt: HostRuntime) {
+    let tally = Tally::new();
+    let mut map = counted_map_of(&rt, rt.alloc(), &tally, &PAIRS);
+    let (key, value) = (tally.thing(1, KEY), tally.thing(1, VALUE));
+    or_insert_with(&rt, &mut map, key, value, tally.thing(0, OWNED));
+    assert_dropped(&rt, &tally, KEY | VALUE | OWNED);
+    drop(map);
+    assert_dropped(&rt, &tally, 511);
+}
+
+/// Writes a value by a closure, which owns the value, and drops the value that was there.
+fn and_modify<'m, 'a>(
+    map: &'m mut CountedMap<'a>,
+    key: Counted<'a>,
+    new: Counted<'a>,
+) -> Entry<'m, Counted<'a>, Counted<'a>> {
+    map.entry(key)
+        .and_modify(move |value| drop(replace(value, new)))
+}
+
+#[test]
+fn drops_what_a_closure_replaces(rt: HostRuntime) {
+    let tally = Tally::new();
+    let mut map = counted_map_of(&rt, rt.alloc(), &tally, &PAIRS);
+    drop(and_modify(&mut map, tally.thing(1, KEY), tally.thing(1, VALUE)));
+    assert_dropped(&rt, &tally, KEY | 2);
+    drop(map);
+    assert_dropped(&rt, &tally, 255);
+}
+
+/// The closure goes at once, and the key with its entry.
+fn modify_absent<'a>(rt: &impl Abort, tally: &'a Tally, map: &mut CountedMap<'a>) {
+    let entry = and_modify(map, tally.thing(4, KEY), tally.thing(4, VALUE));
+    assert_dropped(rt, tally, VALUE);
+    drop(entry);
+    assert_dropped(rt, tally, KEY | VALUE);
+}
+
+#[test]
+fn drops_a_closure_that_has_nothing_to_modify(rt: HostRuntime) {
+    let tally = Tally::new();
+    let mut map = counted_map_of(&rt, rt.alloc(), &tally, &PAIRS);
+    modify_absent(&rt, &tally, &mut map);
+    drop(map);
+    assert_dropped(&rt, &tally, 255);
+}

@@ -1,0 +1,89 @@
+//! Keys, values and closures of refused entries.
+
+use super::{CountedMap, assert_dropped, insert_first};
+use crate::tests::say_if_given;
+use crate::tests::tally::{Counted, Tally};
+use linked_hash_map::{Entry, LinkedHashMap, Refused};
+use std::process::Abort;
+
+#[test]
+fn refused_entries_drop_nothing(rt: HostRuntime) {
+    let tally = Tally::new();
+    let given = insert_by_entries(&rt, &tally, LinkedHashMap::new(rt.alloc()));
+    say_if_given(&rt, given, 9);
+}
+
+/// Inserts three new keys into a full map of one pair, each by another call, and tells whether each
+/// growth was given.
+fn insert_by_entries<'a>(rt: &impl Abort, tally: &'a Tally, mut map: CountedMap<'a>) -> bool {
+    if !insert_first(tally, &mut map) {
+        return false;
+    }
+    // The growths: buckets and a node, twice; a node.
+    let refused = or_insert(rt, tally, &mut map);
+    let refused = insert_vacant(rt, tally, &mut map, refused);
+    let refused = or_insert_with(rt, tally, &mut map, refused);
+    drop(map);
+    assert_dropped(rt, tally, 511);
+    refused == 256
+}
+
+/// Drops what an entry answers, and returns the bits of all that was dropped: those of the pair
+/// with the answer, where it was refused.
+fn drop_put<'a>(
+    rt: &impl Abort,
+    tally: &Tally,
+    put: Result<&mut Counted<'a>, Refused<Counted<'a>, Counted<'a>>>,
+    dropped: u64,
+    pair: u64,
+) -> u64 {
+    assert_dropped(rt, tally, dropped);
+    let dropped = if put.is_err() {
+        dropped | pair
+    } else {
+        dropped
+    };
+    drop(put);
+    assert_dropped(rt, tally, dropped);
+    dropped
+}
+
+fn or_insert<'a>(rt: &impl Abort, tally: &'a Tally, map: &mut CountedMap<'a>) -> u64 {
+    let put = map.entry(tally.thing(2, 4)).or_insert(tally.thing(2, 8));
+    drop_put(rt, tally, put, 0, 4 | 8)
+}
+
+fn insert_vacant<'a>(
+    rt: &impl Abort,
+    tally: &'a Tally,
+    map: &mut CountedMap<'a>,
+    dropped: u64,
+) -> u64 {
+    match map.entry(tally.thing(3, 16)) {
+        Entry::Vacant(entry) => {
+            drop_put(
+                rt,
+                tally,
+                entry.insert(tally.thing(3, 32)),
+                dropped,
+                16 | 32,
+            )
+        }
+        Entry::Occupied(_entry) => panic!(rt; "the key is present"),
+    }
+}
+
+/// The closure is called and dropped before a growth is asked for.
+fn or_insert_with<'a>(
+    rt: &impl Abort,
+    tally: &'a Tally,
+    map: &mut CountedMap<'a>,
+    dropped: u64,
+) -> u64 {
+    let (value, owned) = (tally.thing(4, 128), tally.thing(0, 256));
+    let put = map.entry(tally.thing(4, 64)).or_insert_with(move || {
+        drop(owned);
+        value
+    });
+    drop_put(rt, tally, put, dropped | 256, 64 | 128)
+}

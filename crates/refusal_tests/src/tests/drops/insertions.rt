@@ -1,0 +1,102 @@
+//! Insertions, extensions and changes of the capacity.
+
+use super::{CountedMap, CountedPair, assert_dropped, insert_first, pair_of};
+use crate::tests::checks::check_eq;
+use crate::tests::say_if_given;
+use crate::tests::tally::{Counted, Tally};
+use linked_hash_map::{LinkedHashMap, Refused};
+use std::process::Abort;
+
+#[test]
+fn refused_calls_drop_nothing(rt: HostRuntime) {
+    let tally = Tally::new();
+    let given = insert_and_resize(&rt, &tally, LinkedHashMap::new(rt.alloc()));
+    check_eq!(rt; tally.dropped(), Some(63));
+    say_if_given(&rt, given, 12);
+}
+
+/// Makes the calls on an empty map, and tells whether each growth was given.
+fn insert_and_resize<'a>(rt: &impl Abort, tally: &'a Tally, mut map: CountedMap<'a>) -> bool {
+    // The growths: buckets, the guard and a node; buckets and a node, twice.
+    let dropped = insert_three(rt, tally, &mut map);
+    let resized = is_resized(rt, tally, &mut map, dropped);
+    dropped == 0 && resized
+}
+
+/// Makes room and gives it back, which drops nothing more. Tells whether each growth was given.
+fn is_resized(rt: &impl Abort, tally: &Tally, map: &mut CountedMap<'_>, dropped: u64) -> bool {
+    // The growths: buckets and two nodes.
+    let reserved = map.reserve(2).is_ok();
+    check_eq!(rt; tally.dropped(), Some(dropped));
+    // The growth: buckets.
+    let shrunk = map.shrink_to_fit().is_ok();
+    check_eq!(rt; tally.dropped(), Some(dropped));
+    reserved & shrunk
+}
+
+/// Inserts three pairs, and returns the bits of the keys and values that came back.
+fn insert_three<'a>(rt: &impl Abort, tally: &'a Tally, map: &mut CountedMap<'a>) -> u64 {
+    let mut dropped = 0;
+    for (number, key, value) in [(1, 1, 2), (2, 4, 8), (3, 16, 32)] {
+        let inserted = map.insert(tally.thing(number, key), tally.thing(number, value));
+        check_eq!(rt; tally.dropped(), Some(dropped));
+        // The pair is in the map, or came back.
+        if inserted.is_err() {
+            dropped |= key | value;
+        }
+        drop(inserted);
+        check_eq!(rt; tally.dropped(), Some(dropped));
+    }
+    dropped
+}
+
+#[test]
+fn refused_extension_drops_the_items_behind(rt: HostRuntime) {
+    let tally = Tally::new();
+    let given = extend(&rt, &tally, LinkedHashMap::new(rt.alloc()));
+    say_if_given(&rt, given, 9);
+}
+
+/// Extends a full map of one pair by a present key and by three new ones, and tells whether each
+/// growth was given.
+fn extend<'a>(rt: &impl Abort, tally: &'a Tally, mut map: CountedMap<'a>) -> bool {
+    if !insert_first(tally, &mut map) {
+        return false;
+    }
+    let items = four_items(tally);
+    // The growths: buckets and a node, twice; a node.
+    let extended = map.extend(items);
+    let given = extended.is_ok();
+    drop_refused(rt, tally, map.len(), extended);
+    drop(map);
+    assert_dropped(rt, tally, 1023);
+    given
+}
+
+fn four_items(tally: &Tally) -> [CountedPair<'_>; 4] {
+    [
+        pair_of(tally, 1, 4, 8),
+        pair_of(tally, 2, 16, 32),
+        pair_of(tally, 3, 64, 128),
+        pair_of(tally, 4, 256, 512),
+    ]
+}
+
+/// Drops what an extension answers that left so many pairs. It dropped the present key, the value
+/// that was replaced and the items behind the refused one, which is dropped with the answer.
+fn drop_refused(
+    rt: &impl Abort,
+    tally: &Tally,
+    len: usize,
+    extended: Result<(), Refused<Counted<'_>, Counted<'_>>>,
+) {
+    let (behind, refused) = match len {
+        1 => (64 | 128 | 256 | 512, 16 | 32),
+        2 => (256 | 512, 64 | 128),
+        3 => (0, 256 | 512),
+        _ => (0, 0),
+    };
+    assert_dropped(rt, tally, 4 | 2 | behind);
+    drop(extended);
+    assert_dropped(rt, tally, 4 | 2 | behind | refused);
+}

@@ -1,0 +1,115 @@
+//! Entries of either kind, and the cursor.
+
+use super::PAIRS;
+use crate::tests::checks::{check, check_eq};
+use crate::tests::{Map, assert_map, full_of, say_given};
+use linked_hash_map::{Entry, Refused, ReserveError};
+use std::process::Abort;
+
+#[test]
+fn refused_growth_is_not_asked_for_by_entries(rt: HostRuntime) {
+    // The growths: buckets, the guard and three nodes.
+    use_entries(&rt, full_of(&rt, rt.alloc(), &PAIRS));
+}
+
+fn use_entries(rt: &(impl Abort + Print + AllocGlobal), made: Result<Map, ReserveError>) {
+    if let Ok(mut map) = made {
+        use_occupied(rt, &mut map);
+        remove_occupied(rt, &mut map);
+        find_occupied(rt, &mut map);
+        use_cursor(rt, &mut map);
+        use_visit(rt, &mut map);
+        use_vacant(rt, &mut map);
+        insert_vacant(rt, &mut map);
+        assert_map(rt, &map, &[(3, 33), (1, 15), (7, 70)], 3, 0);
+        say_given(rt, 6);
+    }
+}
+
+/// Uses each call of an occupied entry but `remove` on a map that has `PAIRS`, and writes the value
+/// 13.
+fn use_occupied(rt: &impl Abort, map: &mut Map) {
+    if let Entry::Occupied(mut entry) = map.entry(1) {
+        check_eq!(rt; (*entry.key(), *entry.get()), (1, 10));
+        *entry.get_mut() = 11;
+        check_eq!(rt; entry.insert(12), 11);
+        *entry.into_mut() = 13;
+    }
+}
+
+/// Takes out the second pair by its entry.
+fn remove_occupied(rt: &impl Abort, map: &mut Map) {
+    if let Entry::Occupied(entry) = map.entry(2) {
+        check_eq!(rt; entry.remove(), 20);
+    }
+}
+
+/// Checks the value that an entry lends.
+fn check_lent(rt: &impl Abort, lent: Result<&mut u64, Refused<u8, u64>>, value: u64) {
+    check_eq!(rt; lent.map(|lent| *lent), Ok(value));
+}
+
+/// Uses the calls of either kind of entry on an occupied one, and writes the value 15.
+fn find_occupied(rt: &impl Abort, map: &mut Map) {
+    check_lent(rt, map.entry(1).or_insert(0), 13);
+    check_lent(rt, map.entry(1).or_insert_with(|| 0), 13);
+    check_lent(rt, map.entry(1).or_default(), 13);
+    check_eq!(rt; *map.entry(1).and_modify(|value| *value = 15).key(), 1);
+}
+
+/// Goes over the entries of a map that has two.
+fn use_cursor(rt: &impl Abort, map: &mut Map) {
+    let mut entries = map.entries();
+    check_eq!(rt; entries.remaining(), 2);
+    if let Some(mut entry) = entries.next() {
+        check_eq!(rt; entry.insert(33), 30);
+    }
+    if let Some(mut entry) = entries.next() {
+        check_eq!(rt; entry.insert(15), 15);
+    }
+    check!(rt; entries.next().is_none());
+    assert_map(rt, map, &[(3, 33), (1, 15)], 3, 0);
+}
+
+/// Visits the pairs that `use_cursor` left, and leaves them as they are.
+fn use_visit(rt: &impl Abort, map: &mut Map) {
+    let entries = map.visit();
+    if let Some(mut entry) = entries.next_entry() {
+        check_eq!(rt; entry.insert(33), 33);
+    }
+    check_eq!(rt; entries.unvisited(), 1);
+    if let Some(mut entry) = entries.next_entry() {
+        check_eq!(rt; entry.insert(15), 15);
+    }
+    check!(rt; entries.next_entry().is_none());
+}
+
+/// Uses the calls of either kind of entry on a vacant one, below the capacity.
+fn use_vacant(rt: &impl Abort, map: &mut Map) {
+    modify_vacant(rt, map);
+    check_removed(rt, map, 4, 40);
+    check_lent(rt, map.entry(5).or_insert_with(|| 50), 50);
+    check_removed(rt, map, 5, 50);
+    check_lent(rt, map.entry(6).or_default(), 0);
+    check_removed(rt, map, 6, 0);
+}
+
+/// Modifies nothing, and inserts.
+fn modify_vacant(rt: &impl Abort, map: &mut Map) {
+    let vacant = map.entry(4).and_modify(|value| *value = 0);
+    check_eq!(rt; *vacant.key(), 4);
+    check_lent(rt, vacant.or_insert(40), 40);
+}
+
+/// Takes out the pair of a key, and checks its value.
+fn check_removed(rt: &impl Abort, map: &mut Map, key: u8, value: u64) {
+    check_eq!(rt; map.remove(&key), Some(value));
+}
+
+/// Inserts through a vacant entry, below the capacity.
+fn insert_vacant(rt: &impl Abort, map: &mut Map) {
+    if let Entry::Vacant(entry) = map.entry(7) {
+        check_eq!(rt; *entry.key(), 7);
+        check_lent(rt, entry.insert(70), 70);
+    }
+}

@@ -1,0 +1,168 @@
+//! Calls that change a map within its capacity.
+
+use super::PAIRS;
+use crate::tests::checks::{check, check_eq};
+use crate::tests::{Map, assert_map, full_of, insert_new, say_given, with_room};
+use linked_hash_map::{LIMIT, Mode, ReserveError};
+use std::process::Abort;
+
+#[test]
+fn refused_growth_is_not_asked_for_by_writing(rt: HostRuntime) {
+    // The growths: buckets, the guard and three nodes.
+    write_all(&rt, full_of(&rt, rt.alloc(), &PAIRS));
+}
+
+fn write_all(rt: &(impl Abort + Print + AllocGlobal), made: Result<Map, ReserveError>) {
+    if let Ok(mut map) = made {
+        reserve_nothing(rt, &mut map);
+        write_values(rt, &mut map);
+        write_all_but_first(rt, &mut map);
+        insert_present(rt, &mut map);
+        take_out(rt, &mut map);
+        put_in(rt, &mut map);
+        drain(rt, &mut map);
+        reserve_and_shrink(rt, &mut map);
+        say_given(rt, 6);
+    }
+}
+
+/// Changes the capacity of a full map within it, and at it.
+fn reserve_nothing(rt: &impl Abort, map: &mut Map) {
+    check_eq!(rt; (map.reserve(0), map.shrink_to_fit()), (Ok(()), Ok(())));
+    check_eq!(rt; map.reserve(LIMIT), Err(ReserveError::TooLarge));
+}
+
+/// Writes each value of a map that has `PAIRS`, in three ways.
+fn write_values(rt: &impl Abort, map: &mut Map) {
+    write_by_get_mut(map);
+    write_by_index(map);
+    write_by_refresh(map);
+    assert_map(rt, map, &[(1, 11), (2, 21), (3, 31)], 3, 0);
+}
+
+fn write_by_get_mut(map: &mut Map) {
+    if let Some(lent) = map.get_mut(&1) {
+        *lent = 11;
+    }
+}
+
+fn write_by_index(map: &mut Map) {
+    if map.contains_key(&2) {
+        map[&2] = 21;
+    }
+}
+
+fn write_by_refresh(map: &mut Map) {
+    if let Some(lent) = map.get_refresh(&3) {
+        *lent = 31;
+    }
+}
+
+/// Writes into a map that `write_values` left, and leaves (1, 11), (2, 22) and (3, 22).
+fn write_all_but_first(rt: &impl Abort, map: &mut Map) {
+    check_eq!(rt; (map.iter_mut().len(), map.iter_mut().size_hint()), (3, (3, Some(3))));
+    check_eq!(rt; map.iter_mut().next_back(), Some((&3, &mut 31)));
+    for (key, value) in map.iter_mut() {
+        if *key != 1 {
+            *value = 22;
+        }
+    }
+    loop_over(map);
+}
+
+/// Writes each value as it is by a loop.
+fn loop_over(map: &mut Map) {
+    for (_key, value) in map {
+        *value = value.saturating_add(0);
+    }
+}
+
+/// Inserts the keys that a map has which `write_all_but_first` left, and leaves (2, 22), (3, 33)
+/// and (1, 12).
+fn insert_present(rt: &impl Abort, map: &mut Map) {
+    check_eq!(rt; map.insert(3, 33), Ok(Some(22)));
+    check_eq!(rt; map.insert(1, 12), Ok(Some(11)));
+    map.set_mode(Mode::Keep);
+    check_eq!(rt; (map.mode(), map.insert(2, 22)), (Mode::Keep, Ok(Some(22))));
+    map.set_mode(Mode::Touch);
+    check!(rt; map.get_mut(&4).is_none());
+    check!(rt; map.get_refresh(&4).is_none());
+    assert_map(rt, map, &[(2, 22), (3, 33), (1, 12)], 3, 0);
+}
+
+/// Takes all pairs out of a map that `insert_present` left, in three ways, keeps two of three, and
+/// clears it.
+fn take_out(rt: &impl Abort, map: &mut Map) {
+    check_eq!(rt; (map.remove(&3), map.remove(&4)), (Some(33), None));
+    check_eq!(rt; map.pop_front(), Some((2, 22)));
+    check_eq!(rt; (map.pop_back(), map.pop_back()), (Some((1, 12)), None));
+    insert_new(rt, map, &[(5, 0), (6, 0), (7, 0)]);
+    map.retain(|key, _value| *key != 6);
+    assert_map(rt, map, &[(5, 0), (7, 0)], 3, 0);
+    map.clear();
+    assert_map(rt, map, &[], 3, 0);
+}
+
+/// Extends an empty map below its capacity.
+fn put_in(rt: &impl Abort, map: &mut Map) {
+    check_eq!(rt; map.extend([(8, 1), (9, 2)]), Ok(()));
+    check_eq!(rt; map.extend_refs([(&8, &3), (&4, &4)]), Ok(()));
+    assert_map(rt, map, &[(9, 2), (8, 3), (4, 4)], 3, 0);
+}
+
+/// Drains a map that `put_in` left.
+fn drain(rt: &impl Abort, map: &mut Map) {
+    take_from_a_drain(rt, map);
+    assert_map(rt, map, &[], 3, 0);
+}
+
+fn take_from_a_drain(rt: &impl Abort, map: &mut Map) {
+    let mut pairs = map.drain();
+    check_eq!(rt;
+        (pairs.len(), pairs.next(), pairs.next_back()),
+        (3, Some((9, 2)), Some((4, 4)))
+    );
+    check_eq!(rt; pairs.size_hint(), (1, Some(1)));
+}
+
+/// Reserves what an empty map of capacity 3 has, and lowers its capacity to 0.
+fn reserve_and_shrink(rt: &impl Abort, map: &mut Map) {
+    check_eq!(rt; map.reserve(3), Ok(()));
+    check_eq!(rt; map.insert(1, 1), Ok(None));
+    check_eq!(rt; map.reserve(2), Ok(()));
+    assert_map(rt, map, &[(1, 1)], 3, 0);
+    map.clear();
+    // All spare nodes, the guard and the buckets go.
+    check_eq!(rt; map.shrink_to_fit(), Ok(()));
+    assert_map(rt, map, &[], 0, 0);
+}
+
+#[test]
+fn refused_growth_is_not_asked_for_below_the_capacity(rt: HostRuntime) {
+    // The growths: buckets, the guard and three nodes.
+    fill_again(&rt, with_room(rt.alloc(), 3));
+}
+
+fn fill_again(rt: &(impl Abort + Print + AllocGlobal), made: Result<Map, ReserveError>) {
+    if let Ok(mut map) = made {
+        fill_and_empty(rt, &mut map);
+        fill(rt, &mut map);
+        say_given(rt, 6);
+    }
+}
+
+/// Fills an empty map of capacity 3 and empties it, in two ways.
+fn fill_and_empty(rt: &impl Abort, map: &mut Map) {
+    insert_new(rt, map, &[(1, 0), (2, 0), (3, 0)]);
+    drop(map.drain());
+    insert_new(rt, map, &[(4, 0), (5, 0)]);
+    map.clear();
+}
+
+/// Fills an empty map of capacity 3, and refreshes on the way.
+fn fill(rt: &impl Abort, map: &mut Map) {
+    check_eq!(rt; map.insert(6, 6), Ok(None));
+    check_eq!(rt; map.get_refresh(&6).copied(), Some(6));
+    insert_new(rt, map, &[(7, 7), (8, 8)]);
+    assert_map(rt, map, &[(6, 6), (7, 7), (8, 8)], 3, 0);
+}
