@@ -20,10 +20,11 @@ fn take<T: Drop, I: DoubleEndedIterator<Item = T>>(items: &mut I, count: u64) ->
     taken
 }
 
-/// Turns a full map into an iterator, and takes this many pairs from each end.
+/// Turns a full map into an iterator, takes this many pairs from each end, and drops the rest.
 fn into_iter<K: Key, V: Value>(alloc: Global, count: u64) -> Result<u64, Stop> {
     let map: Map<K, V> = filled(alloc)?;
-    Ok(take(&mut map.into_iter(), count))
+    let mut pairs = map.into_iter();
+    Ok(take(&mut pairs, count))
 }
 
 /// Turns a full map into an iterator, clones that, and takes some pairs of the clone.
@@ -31,7 +32,8 @@ fn clone_of_into_iter<K: Key, V: Value>(alloc: Global) -> Result<u64, Stop> {
     let map: Map<K, V> = filled(alloc)?;
     let mut pairs = map.into_iter();
     let _pair = pairs.next();
-    Ok(take(&mut pairs.clone()?, PAIRS / 4))
+    let mut clone = pairs.clone()?;
+    Ok(take(&mut clone, PAIRS / 4))
 }
 
 /// Loops over a full map.
@@ -44,14 +46,20 @@ fn loop_over<K: Key, V: Value>(alloc: Global) -> Result<u64, Stop> {
     Ok(seen)
 }
 
+/// Drains a map, takes this many pairs from each end, and drops the rest.
+fn drain_of<K: Key, V: Value>(map: &mut Map<K, V>, count: u64) -> u64 {
+    let mut pairs = map.drain();
+    take(&mut pairs, count)
+}
+
 /// Drains a full map three times: of some pairs from each end, of none, and of all.
 fn drain<K: Key, V: Value>(alloc: Global) -> Result<u64, Stop> {
     let mut map: Map<K, V> = filled(alloc)?;
-    let some = take(&mut map.drain(), PAIRS / 4);
+    let some = drain_of(&mut map, PAIRS / 4);
     fill(alloc, &mut map, 0, PAIRS)?;
-    let none = take(&mut map.drain(), 0);
+    let none = drain_of(&mut map, 0);
     fill(alloc, &mut map, 0, PAIRS)?;
-    let all = take(&mut map.drain(), PAIRS);
+    let all = drain_of(&mut map, PAIRS);
     Ok(sum(&[some, none, all]))
 }
 
