@@ -14,6 +14,8 @@ DRIVER = TOP / "crates" / "driver"
 REGISTRY = pathlib.Path("/usr/share/cargo/registry")
 
 
+# The port is built for this processor too.
+FLAGS = "--cap-lints allow -C target-cpu=x86-64-v2"
 # What is built over, and the package that has it.
 PACKAGES = {
     "linked-hash-map-0.5.6": "librust-linked-hash-map-dev",
@@ -44,7 +46,7 @@ def built_by_cargo(folder, crates, registry=REGISTRY):
     (folder / "Cargo.lock").unlink(missing_ok=True)
     built = subprocess.run(
         command + ["--target-dir", str(target)],
-        cwd=folder, env={**os.environ, "RUSTFLAGS": "--cap-lints allow"},
+        cwd=folder, env={**os.environ, "RUSTFLAGS": FLAGS},
         capture_output=True, text=True)
     if built.returncode != 0:
         stop(f"{folder.relative_to(TOP)} does not build:\n{built.stderr}")
