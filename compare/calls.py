@@ -35,6 +35,7 @@ CALLS = (
     ("iter_mut", 3, "steps value"),
     ("eq", 1, ""),
     ("cmp", 1, ""),
+    ("partial_cmp", 1, ""),
     ("hash", 1, ""),
     ("new", 1, "value"),
 )

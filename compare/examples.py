@@ -42,7 +42,8 @@ EXAMPLES = {
     ],
     "comparison": [
         "insert a x 1", "insert a y 2", "insert b y 2", "insert b x 1", "eq a", "cmp a",
-        "insert b y 2", "eq a", "cmp a", "hash a", "hash b",
+        "insert b y 2", "eq a", "cmp a", "hash a", "hash b", "partial_cmp a", "insert b y 3",
+        "partial_cmp a", "insert b x 4", "partial_cmp a",
     ],
     "extension and collection": [
         "extend a x 1 y 2 x 3", "front a", "back a", "from_iter b x 1 y 2", "extend_refs b",

@@ -14,34 +14,50 @@ DRIVER = TOP / "crates" / "driver"
 REGISTRY = pathlib.Path("/usr/share/cargo/registry")
 
 
+# The port is built for this processor too.
+FLAGS = "--cap-lints allow -C target-cpu=x86-64-v2"
+# What is built over, and the package that has it.
+PACKAGES = {
+    "linked-hash-map-0.5.6": "librust-linked-hash-map-dev",
+    "hashlink-0.8.0": "librust-hashlink-dev",
+}
+
+
 def stop(message):
     """Ends the program, which could not compare anything."""
-    print(f"compare/run: {message}")
+    print(f"compare/{pathlib.Path(sys.argv[0]).name}: {message}")
     sys.exit(2)
+
+
+def built_by_cargo(folder, crates, registry=REGISTRY):
+    """Builds the program in a folder over the crates in a registry, and returns the folder it is in."""
+    missing = [] if shutil.which("cargo") else ["cargo", "rustc"]
+    missing += [PACKAGES[crate] for crate in crates if not any(registry.glob(crate + "*"))]
+    if missing:
+        stop("first apt-get install " + " ".join(missing))
+    target = COMPARE / "target"
+    command = ["cargo", "build", "--quiet", "--release", "--offline"]
+    if registry != REGISTRY:
+        # What was built from another folder of this name may be older.
+        target = target / "other"
+        shutil.rmtree(target, ignore_errors=True)
+        command += ["--config", f'source.debian.directory="{registry}"']
+    # Another version of cargo may have written it.
+    (folder / "Cargo.lock").unlink(missing_ok=True)
+    built = subprocess.run(
+        command + ["--target-dir", str(target)],
+        cwd=folder, env={**os.environ, "RUSTFLAGS": FLAGS},
+        capture_output=True, text=True)
+    if built.returncode != 0:
+        stop(f"{folder.relative_to(TOP)} does not build:\n{built.stderr}")
+    return target / "release"
 
 
 class Original:
     """The driver over the original, which lies in a folder of cargo packages."""
 
     def __init__(self, registry=REGISTRY):
-        if not shutil.which("cargo") or not any(registry.glob("linked-hash-map-0.5.6*")):
-            stop("first apt-get install cargo rustc librust-linked-hash-map-dev")
-        target = COMPARE / "target"
-        command = ["cargo", "build", "--quiet", "--release", "--offline"]
-        if registry != REGISTRY:
-            # What was built from another folder of this name may be older.
-            target = target / "other"
-            shutil.rmtree(target, ignore_errors=True)
-            command += ["--config", f'source.debian.directory="{registry}"']
-        # Another version of cargo may have written it.
-        (COMPARE / "Cargo.lock").unlink(missing_ok=True)
-        built = subprocess.run(
-            command + ["--target-dir", str(target)],
-            cwd=COMPARE, env={**os.environ, "RUSTFLAGS": "--cap-lints allow"},
-            capture_output=True, text=True)
-        if built.returncode != 0:
-            stop("the driver over the original does not build:\n" + built.stderr)
-        self.program = target / "release" / "compare"
+        self.program = built_by_cargo(COMPARE, ["linked-hash-map-0.5.6"], registry) / "compare"
 
     def answers(self, runs):
         """Returns the lines that each run answers."""
@@ -53,7 +69,7 @@ class Port:
 
     def __init__(self):
         self.program = DRIVER / "out" / "driver"
-        if not is_up_to_date(self.program):
+        if not is_up_to_date(self.program, "driver"):
             self.program = None
             if not shutil.which("rt"):
                 stop("put rt, the command of the Rattle kit, on the PATH")
@@ -81,13 +97,13 @@ def tried(runs):
     return answers_of_cases(ran.stdout, ran.stderr, len(runs))
 
 
-def is_up_to_date(program):
-    """Tells whether a built program is there, and younger than every source."""
+def is_up_to_date(program, crate):
+    """Tells whether the built program of a crate is there, and younger than every source."""
     if not program.exists():
         return False
     built = program.stat().st_mtime
-    sources = [path for crate in ("driver", "linked_hash_map", "lhm_ring")
-               for path in (TOP / "crates" / crate / "src").rglob("*.rt")]
+    sources = [path for name in (crate, "linked_hash_map", "lhm_ring")
+               for path in (TOP / "crates" / name / "src").rglob("*.rt")]
     return all(path.stat().st_mtime < built for path in sources)
 
 

@@ -1,16 +1,11 @@
 //! Calls that change what pairs there are.
 
 use crate::line::Line;
-use crate::Map;
-use std::fmt::{Error, Write};
+use crate::{Known, Map};
+use std::fmt::Write;
 
 /// Runs the call of this name, and tells whether there is one.
-pub fn run(
-    name: &str,
-    line: &mut Line<'_>,
-    map: &mut Map,
-    text: &mut String,
-) -> Result<bool, Error> {
+pub fn run(name: &str, line: &mut Line<'_>, map: &mut Map, text: &mut String) -> Known {
     match name {
         "insert" => write!(text, "{:?} ", map.insert(line.key(), line.number()))?,
         "remove" => write!(text, "{:?} ", map.remove(&line.key()))?,

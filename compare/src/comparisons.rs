@@ -2,9 +2,9 @@
 
 use crate::hasher::{BuildKeyHasher, Choice};
 use crate::line::Line;
-use crate::Map;
+use crate::{Known, Map};
 use linked_hash_map::LinkedHashMap;
-use std::fmt::{Error, Write};
+use std::fmt::Write;
 use std::hash::{BuildHasher, Hash, Hasher};
 
 /// A map whose keys are compared as they are.
@@ -28,7 +28,13 @@ fn show_new(number: u64, text: &mut String) -> std::fmt::Result {
 
 /// Appends which of two maps is less.
 fn compare(map: &Plain, other: &Plain, text: &mut String) -> std::fmt::Result {
-    write!(text, "{:?} {:?} ", map.cmp(other), map.partial_cmp(other))?;
+    write!(text, "{:?} ", map.cmp(other))?;
+    partial_compare(map, other, text)
+}
+
+/// Appends which of two maps is less, if they have an order.
+fn partial_compare<M: PartialOrd>(map: &M, other: &M, text: &mut String) -> std::fmt::Result {
+    write!(text, "{:?} ", map.partial_cmp(other))?;
     write!(text, "{} {} ", *map < *other, *map <= *other)?;
     write!(text, "{} {} ", *map > *other, *map >= *other)
 }
@@ -42,16 +48,11 @@ fn number_of(map: &Map) -> u64 {
 }
 
 /// Runs the call of this name, and tells whether there is one.
-pub fn run(
-    name: &str,
-    line: &mut Line<'_>,
-    map: &Map,
-    other: &Map,
-    text: &mut String,
-) -> Result<bool, Error> {
+pub fn run(name: &str, line: &mut Line<'_>, map: &Map, other: &Map, text: &mut String) -> Known {
     match name {
         "eq" => write!(text, "{} {} ", *map == *other, *map != *other)?,
         "cmp" => compare(&plain(map), &plain(other), text)?,
+        "partial_cmp" => partial_compare(map, other, text)?,
         "new" => show_new(line.number(), text)?,
         "hash" => write!(text, "{} ", number_of(map))?,
         "debug" => write!(text, "{map:?} ")?,

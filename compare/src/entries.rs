@@ -3,9 +3,9 @@
 use crate::hasher::BuildKeyHasher;
 use crate::key::Key;
 use crate::line::Line;
-use crate::Map;
+use crate::{Known, Map};
 use linked_hash_map::{Entry, OccupiedEntry, VacantEntry};
-use std::fmt::{Error, Result, Write};
+use std::fmt::{Result, Write};
 
 type Occupied<'m> = OccupiedEntry<'m, Key, u64, BuildKeyHasher>;
 
@@ -58,12 +58,7 @@ fn show_and_write(lent: &mut u64, text: &mut String) -> Result {
 }
 
 /// Runs the call of this name, and tells whether there is one.
-pub fn run(
-    name: &str,
-    line: &mut Line<'_>,
-    map: &mut Map,
-    text: &mut String,
-) -> std::result::Result<bool, Error> {
+pub fn run(name: &str, line: &mut Line<'_>, map: &mut Map, text: &mut String) -> Known {
     match name {
         "entry" => {
             let entry = map.entry(line.key());

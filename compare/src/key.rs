@@ -1,5 +1,6 @@
 //! Keys of short text, compared and hashed without regard to ASCII case.
 
+use std::cmp::Ordering;
 use std::fmt;
 use std::hash::{Hash, Hasher};
 
@@ -36,6 +37,13 @@ impl PartialEq for Key {
 }
 
 impl Eq for Key {}
+
+/// Keys that are not the same have no order.
+impl PartialOrd for Key {
+    fn partial_cmp(&self, other: &Self) -> Option<Ordering> {
+        (self == other).then(|| Ordering::Equal)
+    }
+}
 
 impl Hash for Key {
     fn hash<H: Hasher>(&self, state: &mut H) {

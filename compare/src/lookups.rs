@@ -1,7 +1,7 @@
 //! Calls that look up, and those that write one value.
 
 use crate::line::Line;
-use crate::Map;
+use crate::{Known, Map};
 use std::fmt::{Result, Write};
 
 /// Writes a value that is lent, and appends what it was.
@@ -17,12 +17,7 @@ fn write_lent(lent: Option<&mut u64>, value: u64, text: &mut String) -> Result {
 }
 
 /// Runs the call of this name, and tells whether there is one.
-pub fn run(
-    name: &str,
-    line: &mut Line<'_>,
-    map: &mut Map,
-    text: &mut String,
-) -> std::result::Result<bool, std::fmt::Error> {
+pub fn run(name: &str, line: &mut Line<'_>, map: &mut Map, text: &mut String) -> Known {
     match name {
         "get" => write!(text, "{:?} ", map.get(&line.key()))?,
         "contains_key" => write!(text, "{} ", map.contains_key(&line.key()))?,

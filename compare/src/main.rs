@@ -22,6 +22,9 @@ use std::io::{self, Read, Write};
 /// The maps that the lines speak of.
 type Map = LinkedHashMap<Key, u64, BuildKeyHasher>;
 
+/// Whether there is a call of a name. If there is one, it has run.
+type Known = Result<bool, std::fmt::Error>;
+
 /// Runs the call of a line, on `map` and where it takes two on `other` too, and appends its answer
 /// and the list of `map`. The answer to a line that is no call is `unknown`.
 fn run_call(

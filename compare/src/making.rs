@@ -3,8 +3,8 @@
 use crate::hasher::{BuildKeyHasher, Choice};
 use crate::key::Key;
 use crate::line::Line;
-use crate::Map;
-use std::fmt::{Error, Write};
+use crate::{Known, Map};
+use std::fmt::Write;
 use std::mem;
 
 /// Reads the build hasher that the next word names.
@@ -29,7 +29,7 @@ pub fn run(
     map: &mut Map,
     other: &mut Map,
     text: &mut String,
-) -> Result<bool, Error> {
+) -> Known {
     match name {
         "with_hasher" => *map = Map::with_hasher(hasher(line)),
         "with_capacity" => {

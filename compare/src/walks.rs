@@ -1,8 +1,8 @@
 //! Calls that walk over the pairs.
 
 use crate::line::Line;
-use crate::Map;
-use std::fmt::{Debug, Error, Result, Write};
+use crate::{Known, Map};
+use std::fmt::{Debug, Result, Write};
 use std::mem;
 
 /// Makes a step for each letter, from the back at a `b`, and appends what each gives and how much
@@ -77,12 +77,7 @@ fn drain(map: &mut Map, line: &mut Line<'_>, text: &mut String) -> Result {
 }
 
 /// Runs the call of this name, and tells whether there is one.
-pub fn run(
-    name: &str,
-    line: &mut Line<'_>,
-    map: &mut Map,
-    text: &mut String,
-) -> std::result::Result<bool, Error> {
+pub fn run(name: &str, line: &mut Line<'_>, map: &mut Map, text: &mut String) -> Known {
     match name {
         "iter" => walk_and_clone(map.iter(), line, text)?,
         "keys" => walk_and_clone(map.keys(), line, text)?,

@@ -1,18 +1,21 @@
 //! Times the calls of the map.
 //!
-//! `bench ROUNDS N ..` prints for each size N a line `workload n ns_per_op check` for each workload: the nanoseconds of
-//! processor time of this thread that the best of the rounds took, divided by N, and a bit of what the map answered. With
-//! no arguments it prints how it is called.
+//! `bench ORDER ROUNDS N ..` prints for each size N a line `workload n ns_per_op check` for each
+//! workload: the nanoseconds of processor time of this thread that the best of the rounds took,
+//! divided by N, and the sum of what the rounds returned. ORDER is `repeated` or `random`. With no
+//! arguments it prints how it is called.
 #![tactic(auto)]
 
 ghost use Rattle.std.specs.Prelude.{◌≡◌, ◌<◌, ◌*◌, ◌/◌, ◌^◌};
 
 mod arguments;
+mod order;
 #[cfg(test)]
 mod tests;
 mod workloads;
 
 use arguments::numbers;
+use order::{Order, Random, Repeated};
 use std::alloc::Global;
 use std::io::Write;
 use std::process::ExitCode;
@@ -20,38 +23,38 @@ use std::time::CpuClock;
 use std::{env, io};
 use workloads::{Map, Workload, fill};
 
-const USAGE: &str = "usage: bench ROUNDS N ..";
+const USAGE: &str = "usage: bench repeated|random ROUNDS N ..";
 
-/// The best time of a workload in nanoseconds, and the check of its rounds.
+/// The best time of a workload in nanoseconds, and the sum of what its rounds returned.
 #[derive(Drop)]
 struct Timed {
     nanoseconds: u128,
     check: u64,
 }
 
-/// Does a workload in each round, and answers the best time.
-fn best_of<C: CpuClock>(
+/// Does a workload in each round, and returns the best time.
+fn best_of<C: CpuClock, O: Order>(
     clock: &C,
     alloc: Global,
     workload: Workload,
     map: &mut Map,
+    order: &mut O,
     rounds: u64,
     n: u64,
 ) -> io::Result<Timed>
     requires { 0 < n }
 {
-    let mut best = u128::MAX;
-    let mut sink = 0;
+    let mut nanoseconds = u128::MAX;
+    let mut check: u64 = 0;
     for _ in 0..rounds {
+        workload.prepare(map, order, n)?;
         let start = clock.thread_cpu_time()?.as_nanos();
-        sink ^= workload.run(alloc, map, n)?;
+        let returned = workload.run(alloc, map, order, n)?;
         let end = clock.thread_cpu_time()?.as_nanos();
-        best = best.min(end.saturating_sub(start));
+        nanoseconds = nanoseconds.min(end.saturating_sub(start));
+        check = check.wrapping_add(returned);
     }
-    Ok(Timed {
-        nanoseconds: best,
-        check: sink & 1,
-    })
+    Ok(Timed { nanoseconds, check })
 }
 
 /// Returns how many hundredths of a nanosecond each of `n` took, rounded down.
@@ -63,10 +66,11 @@ fn hundredths(nanoseconds: u128, n: u64) -> u128
 }
 
 /// Times each workload at a size, and writes a line for each.
-fn bench<C: CpuClock, W: Write>(
+fn bench<C: CpuClock, O: Order, W: Write>(
     clock: &C,
     alloc: Global,
     output: &mut W,
+    order: &mut O,
     rounds: u64,
     n: u64,
 ) -> io::Result<()>
@@ -74,10 +78,10 @@ fn bench<C: CpuClock, W: Write>(
 {
     let mut map = Map::new(alloc);
     for workload in Workload::ALL {
-        let timed = best_of(clock, alloc, workload, &mut map, rounds, n)?;
+        let timed = best_of(clock, alloc, workload, &mut map, order, rounds, n)?;
         // The others' map is filled only now, so that its nodes lie in memory that was used before.
         if workload == Workload::InsertNew {
-            map = fill(alloc, n)?;
+            map = fill(alloc, 0, n)?;
         }
         let time = hundredths(timed.nanoseconds, n);
         let name = workload.name();
@@ -92,12 +96,13 @@ fn bench<C: CpuClock, W: Write>(
     Ok(())
 }
 
-/// Times what these numbers ask for: the rounds, and then each size. For fewer than two of them it writes how the program is
-/// called.
-fn run<C: CpuClock, W: Write>(
+/// Times what these numbers ask for: the rounds, and then each size. For fewer than two of them it
+/// writes how the program is called.
+fn run<C: CpuClock, O: Order, W: Write>(
     clock: &C,
     alloc: Global,
     output: &mut W,
+    order: &mut O,
     numbers: &[u64],
 ) -> io::Result<()> {
     let [rounds, sizes @ ..] = numbers else {
@@ -108,21 +113,36 @@ fn run<C: CpuClock, W: Write>(
     }
     for n in sizes {
         if 0 < *n {
-            bench(clock, alloc, output, *rounds, *n)?;
+            bench(clock, alloc, output, order, *rounds, *n)?;
         }
     }
     Ok(())
 }
 
+/// Says on standard error how the program is called, and returns the status of a call that is
+/// wrong.
+fn misused(rt: &impl Eprint) -> io::Result<ExitCode> {
+    eprintln!(rt; "{USAGE}")?;
+    Ok(ExitCode::from(2))
+}
+
 fn main(rt: HostRuntime) -> io::Result<ExitCode> {
     let words: Vec<String> = env::args(&rt)?.collect(rt.alloc())?;
     let [_, words @ ..] = words.as_slice() else {
-        return Ok(ExitCode::from(2));
+        return misused(&rt);
+    };
+    let [order, words @ ..] = words else {
+        println!(rt; "{USAGE}")?;
+        return Ok(ExitCode::from(0));
     };
     let Some(numbers) = numbers(rt.alloc(), words)? else {
-        eprintln!(rt; "{USAGE}")?;
-        return Ok(ExitCode::from(2));
+        return misused(&rt);
     };
-    run(&rt, rt.alloc(), &mut rt.stdout(), numbers.as_slice())?;
+    let (alloc, numbers) = (rt.alloc(), numbers.as_slice());
+    match order.as_str() {
+        "repeated" => run(&rt, alloc, &mut rt.stdout(), &mut Repeated, numbers)?,
+        "random" => run(&rt, alloc, &mut rt.stdout(), &mut Random::new(), numbers)?,
+        _ => return misused(&rt),
+    }
     Ok(ExitCode::from(0))
 }

@@ -1,13 +1,14 @@
 //! The workloads: what is done with a map of `n` pairs, once.
 ghost use Rattle.std.specs.Prelude.{◌<◌};
 
+use super::order::{Order, mix};
 use linked_hash_map::LinkedHashMap;
 use std::alloc::{AllocError, Global};
 
 /// The maps that are timed.
 pub type Map = LinkedHashMap<u64, u64>;
 
-/// A workload. Each is done on a map that those before it have left, but for the first.
+/// A workload. Each except the first is done on the map that those before it have left.
 #[derive(Clone, Copy, Debug, PartialEq)]
 pub enum Workload {
     /// Fills a new map, one pair at a time, and drops it.
@@ -22,7 +23,7 @@ pub enum Workload {
     GetRefresh,
     /// Inserts each key again.
     InsertPresent,
-    /// Takes out the pair at the oldest place and inserts another key, as often as there are pairs.
+    /// Takes out the oldest pair and inserts another key, as often as there are pairs.
     LruCycle,
     /// Lists the keys, and removes and inserts each.
     RemoveReinsert,
@@ -59,39 +60,40 @@ impl Workload {
         }
     }
 
-    /// Does the workload once, and returns a number that depends on what the map answered.
-    pub fn run(self, alloc: Global, map: &mut Map, n: u64) -> Result<u64, AllocError>
+    /// Prepares a round. In random order the map that is cloned gets other keys, so that no two
+    /// clones are alike.
+    pub fn prepare<O: Order>(self, map: &mut Map, order: &O, n: u64) -> Result<(), AllocError> {
+        if self == Workload::Clone && order.is_random() {
+            lru_cycle(map, n)?;
+        }
+        Ok(())
+    }
+
+    /// Does the workload once, and returns a number that depends on what the map returned.
+    pub fn run<O: Order>(
+        self,
+        alloc: Global,
+        map: &mut Map,
+        order: &mut O,
+        n: u64,
+    ) -> Result<u64, AllocError>
         requires { 0 < n }
     {
         match self {
-            Workload::InsertNew => Ok(fill(alloc, n)?.len() as u64),
-            Workload::GetHit => Ok(get_hit(map, n)),
-            Workload::GetMiss => Ok(get_miss(map, n)),
+            Workload::InsertNew => Ok(fill(alloc, order.start(), n)?.len() as u64),
+            Workload::GetHit => Ok(get_hit(map, order, n)),
+            Workload::GetMiss => Ok(get_miss(map, order, n)),
             Workload::Iterate => Ok(iterate(map)),
-            Workload::GetRefresh => Ok(get_refresh(map, n)),
-            Workload::InsertPresent => insert_present(map, n),
+            Workload::GetRefresh => Ok(get_refresh(map, order, n)),
+            Workload::InsertPresent => insert_present(map, order, n),
             Workload::LruCycle => lru_cycle(map, n),
-            Workload::RemoveReinsert => remove_reinsert(alloc, map),
+            Workload::RemoveReinsert => remove_reinsert(alloc, map, order, n),
             Workload::Clone => Ok(map.clone()?.len() as u64),
         }
     }
 }
 
-/// Returns the key of an index. Different indexes have different keys.
-pub fn mix(i: u64) -> u64 {
-    let mut z = i.wrapping_mul(0x9e37_79b9_7f4a_7c15);
-    z = (z ^ (z >> 30)).wrapping_mul(0xbf58_476d_1ce4_e5b9);
-    z ^ (z >> 27)
-}
-
-/// Returns the key that is the `i`th of `n` in another order.
-fn scattered(i: u64, n: u64) -> u64
-    requires { 0 < n }
-{
-    mix(i.wrapping_mul(7919) % n)
-}
-
-/// Inserts a pair, and answers the old value of its key.
+/// Inserts a pair, and returns the old value of its key.
 #[inline(always)]
 fn insert(map: &mut Map, key: u64, value: u64) -> Result<Option<u64>, AllocError> {
     match map.insert(key, value) {
@@ -100,31 +102,33 @@ fn insert(map: &mut Map, key: u64, value: u64) -> Result<Option<u64>, AllocError
     }
 }
 
-/// Makes a map of `n` pairs, whose capacity is raised one by one.
-pub fn fill(alloc: Global, n: u64) -> Result<Map, AllocError> {
+/// Makes a map of `n` pairs, whose capacity is raised one by one. The keys are those of the indexes
+/// from `start` on.
+pub fn fill(alloc: Global, start: u64, n: u64) -> Result<Map, AllocError> {
     let mut map = LinkedHashMap::new(alloc);
     for i in 0..n {
-        insert(&mut map, mix(i), i)?;
+        insert(&mut map, mix(start.wrapping_add(i)), i)?;
     }
     Ok(map)
 }
 
-fn get_hit(map: &Map, n: u64) -> u64
+fn get_hit<O: Order>(map: &Map, order: &mut O, n: u64) -> u64
     requires { 0 < n }
 {
     let mut sink = 0;
     for i in 0..n {
-        if let Some(value) = map.get(&scattered(i, n)) {
+        if let Some(value) = map.get(&mix(order.index(i, n))) {
             sink ^= *value;
         }
     }
     sink
 }
 
-fn get_miss(map: &Map, n: u64) -> u64 {
+fn get_miss<O: Order>(map: &Map, order: &mut O, n: u64) -> u64 {
+    let start = order.start().wrapping_add(n);
     let mut count: u64 = 0;
     for i in 0..n {
-        if map.get(&mix(i.wrapping_add(n))).is_some() {
+        if map.get(&mix(start.wrapping_add(i))).is_some() {
             count = count.wrapping_add(1);
         }
     }
@@ -139,24 +143,24 @@ fn iterate(map: &Map) -> u64 {
     sink
 }
 
-fn get_refresh(map: &mut Map, n: u64) -> u64
+fn get_refresh<O: Order>(map: &mut Map, order: &mut O, n: u64) -> u64
     requires { 0 < n }
 {
     let mut sink = 0;
     for i in 0..n {
-        if let Some(value) = map.get_refresh(&scattered(i, n)) {
+        if let Some(value) = map.get_refresh(&mix(order.index(i, n))) {
             sink ^= *value;
         }
     }
     sink
 }
 
-fn insert_present(map: &mut Map, n: u64) -> Result<u64, AllocError>
+fn insert_present<O: Order>(map: &mut Map, order: &mut O, n: u64) -> Result<u64, AllocError>
     requires { 0 < n }
 {
     let mut sink = 0;
     for i in 0..n {
-        if let Some(old) = insert(map, scattered(i, n), i)? {
+        if let Some(old) = insert(map, mix(order.index(i, n)), i)? {
             sink ^= old;
         }
     }
@@ -174,15 +178,26 @@ fn lru_cycle(map: &mut Map, n: u64) -> Result<u64, AllocError> {
     Ok(sink)
 }
 
-fn remove_reinsert(alloc: Global, map: &mut Map) -> Result<u64, AllocError> {
+fn remove_reinsert<O: Order>(
+    alloc: Global,
+    map: &mut Map,
+    order: &mut O,
+    n: u64,
+) -> Result<u64, AllocError>
+    requires { 0 < n }
+{
     let mut keys = Vec::new(alloc);
     for key in map.keys() {
         keys.push(*key)?;
     }
-    for key in &keys {
-        if let Some(value) = map.remove(key) {
-            insert(map, *key, value)?;
+    let mut sink = 0;
+    for i in 0..n {
+        if let Some(key) = keys.get(order.place(i, n) as usize) {
+            if let Some(value) = map.remove(key) {
+                sink ^= value;
+                insert(map, *key, value)?;
+            }
         }
     }
-    Ok(keys.len() as u64)
+    Ok(sink)
 }

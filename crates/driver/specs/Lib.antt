@@ -1,1 +1,2 @@
 pub mod Hashers
+pub mod Keys

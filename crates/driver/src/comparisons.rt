@@ -29,7 +29,13 @@ fn show_new(alloc: Global, number: u64, text: &mut String) -> Result<(), Stop> {
 
 /// Appends which of two maps is less.
 fn compare(map: &Plain, other: &Plain, text: &mut String) -> Result<(), AllocError> {
-    write!(text, "{:?} {:?} ", map.cmp(other), map.partial_cmp(other))?;
+    write!(text, "{:?} ", map.cmp(other))?;
+    partial_compare(map, other, text)
+}
+
+/// Appends which of two maps is less, if they have an order.
+fn partial_compare<M: PartialOrd>(map: &M, other: &M, text: &mut String) -> Result<(), AllocError> {
+    write!(text, "{:?} ", map.partial_cmp(other))?;
     write!(text, "{} {} ", *map < *other, *map <= *other)?;
     write!(text, "{} {} ", *map > *other, *map >= *other)
 }
@@ -52,6 +58,7 @@ pub fn run(
     match name {
         "eq" => write!(text, "{} {} ", *map == *other, *map != *other)?,
         "cmp" => compare(&plain(alloc, map)?, &plain(alloc, other)?, text)?,
+        "partial_cmp" => partial_compare(map, other, text)?,
         "new" => show_new(alloc, line.number(), text)?,
         "hash" => write!(text, "{} ", number_of(map))?,
         "debug" => write!(text, "{map:?} ")?,

@@ -1,10 +1,13 @@
 //! Keys of short text, compared and hashed without regard to ASCII case.
 ghost use Rattle.std.specs.Prelude.{◌==◌};
+ghost use Rattle.std.specs.Cmp.{on_po};
 ghost use Rattle.std.specs.Cmp.Rules.{comparing, hashing};
 ghost use Rattle.std.specs.Hash as fed;
 ghost use Rattle.std.specs.Ordering.{on};
 ghost use Rattle.std.proofs.Common.{rules};
+ghost use Rattle.driver.specs.Keys.{same_cmp, same_cmp_partial_order};
 
+use std::cmp::Ordering;
 use std::fmt;
 use std::hash::{Hash, Hasher};
 
@@ -52,6 +55,21 @@ impl PartialEq for Key {
 
 impl Eq for Key {
     ghost laws = { Prim.search (comparing, rules) };
+}
+
+/// Keys that are not the same have no order.
+impl PartialOrd for Key {
+    ghost partial_cmp = { on (λ key. key.folded) same_cmp };
+
+    ghost laws = { on_po (λ key. key.folded) same_cmp_partial_order };
+
+    fn partial_cmp(&self, other: &Key) -> Option<Ordering> {
+        if self.folded == other.folded {
+            Some(Ordering::Equal)
+        } else {
+            None
+        }
+    }
 }
 
 impl Hash for Key {
