@@ -117,7 +117,8 @@ impl<K: Clone, V: Clone> Clone for IntoIter<K, V> {
     }
 }
 
-/// A loop over the map, which drops the hasher. It is O(1) and does not allocate.
+/// A loop over the map, which drops the hasher. The call is O(capacity), since it frees the buckets,
+/// and does not allocate.
 ///
 /// # Examples
 ///
