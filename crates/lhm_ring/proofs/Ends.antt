@@ -27,6 +27,10 @@ module _ {B : Type 0} where
   first_node [] o p e h = absurd (let no : None ≡ Some p = sym e ∙ h in cc)
   first_node (t ∷ hs) o p e h = record { node = t; rest = hs; is = refl; at = some_pointer t.at p (sym e ∙ h) }
 
+  pub triples-none : (hs : List (Held B)) → triples hs ≡ [] → hs ≡ []
+  triples-none [] e = refl
+  triples-none (t ∷ hs) e = absurd (cc)
+
   last_cut : (t : Held B) (hs : List (Held B)) → Last (t ∷ hs) (last_of t hs)
   last_cut t [] = record { rest = []; node = t; is = refl; at = refl }
   last_cut t (u ∷ hs) = let r = last_cut u hs in record { rest = t ∷ r.rest; node = r.node; is = ap (λ l. t ∷ l) r.is; at = r.at }

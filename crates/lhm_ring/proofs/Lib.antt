@@ -1,6 +1,7 @@
 pub mod Apart
 pub mod Blocks
 pub mod BucketCounts
+pub mod BucketHeads
 pub mod Chains
 pub mod ContentChange
 pub mod ContentTaken
@@ -9,7 +10,6 @@ pub mod DroppedRing
 pub mod Ends
 pub mod FirstAndLast
 pub mod Hashed
-pub mod Heads
 pub mod IndexChanges
 pub mod IndexMoves
 pub mod IndexedRing

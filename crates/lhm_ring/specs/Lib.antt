@@ -2,6 +2,7 @@ pub mod Buckets
 pub mod Cells
 pub mod ContentLoan
 pub mod Drains
+pub mod Heads
 pub mod Index
 pub mod IndexedRing
 pub mod LentRings

@@ -204,7 +204,6 @@ impl<K, V> Ring<K, V> {
         ensures held { self.new.held ≡ self.old.held }
         ensures spares { self.new.spares ≡ self.old.spares - 1 }
     {
-        let _guard = self.guard.unwrap();
         let at = self.spare.pointer();
         let next_spare = self.nodes.links(at).link;
         let room = self.nodes.remove(at);

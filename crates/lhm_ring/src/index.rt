@@ -5,16 +5,17 @@ ghost use Rattle.std.specs.Prelude.{◌≡◌, ◌+◌, ◌%◌, ◌<◌, ◌≤
 ghost use Rattle.std.specs.Int.{IsNextPowerOfTwo};
 ghost use Rattle.lhm_ring.specs.RingState.{IsHeld};
 ghost use Rattle.lhm_ring.specs.Positions.{pointer_of, pointer_of_some};
-ghost use Rattle.lhm_ring.specs.Targets.{target};
 ghost use Rattle.lhm_ring.specs.Index.{spot, spots, Indexes, same};
 ghost use Rattle.lhm_ring.specs.Search.{OfNodeAt, entries, Compares, FindsKey, FindsNone, HasKey, IsAbsent, CountsSome, CountsAll, HoldsOthers, IsOnChain, Chains, HasNoChain};
 ghost use Rattle.lhm_ring.specs.Buckets.{buckets, IsBucketCount};
 
+use crate::heads::{Head, chain_all, chain_one, clear_heads, empty_heads, free_heads, masked};
 use crate::link::Link;
 use crate::position::Position;
 use crate::ring::Ring;
 use std::alloc::{AllocError, Global};
 use std::marker::{Model, PhantomData};
+use std::mem;
 
 /// The counts of a lookup.
 ///
@@ -40,29 +41,24 @@ pub struct Probe {
 ///
 /// Each call is given the ring. The bucket of a hash is the hash modulo the number of buckets,
 /// which is 0 or a power of two. A lookup is O(1) on average: it follows one chain.
+///
+/// It is not `Drop`: only `free` ends it.
 pub struct Index<K, V> {
-    heads: Vec<Link>,
+    heads: Vec<Head>,
     mark: PhantomData<*mut (K, V)>,
 }
 
 impl<K, V> Model for Index<K, V> {
     ghost use Rattle.std.specs.Prelude.{List, Option, map, length};
-    ghost use Rattle.lhm_ring.specs.Targets.{target};
+    ghost use Rattle.lhm_ring.specs.Heads.{leads_to};
     ghost use Rattle.lhm_ring.specs.Buckets.{IsBucketCount};
     ghost use denote.RawPtr.{Ptr};
 
     ghost Value = { List (Option Ptr) };
 
-    ghost view = { λ i. map target i.heads.items };
+    ghost view = { λ i. map leads_to i.heads.items };
 
     ghost invariant = { λ i. IsBucketCount (length i.heads.items) };
-}
-
-impl<K, V> Drop for Index<K, V> {
-    fn drop(self) {
-        let Index { heads, mark: _ } = self;
-        drop(heads);
-    }
 }
 
 /// A node that a search found.
@@ -137,7 +133,7 @@ impl<K, V> Index<K, V> {
         if self.heads.is_empty() {
             return None;
         }
-        self.heads[masked(number, self.heads.len())].get()
+        self.heads[masked(number, self.heads.len())].link.get()
     }
 
     /// Puts the one node that the index lacks at the head of its chain, in O(1). It does not
@@ -167,7 +163,7 @@ impl<K, V> Index<K, V> {
             Some(before) => ring.set_link(before, link),
             None => {
                 let bucket = masked(number, self.heads.len());
-                self.heads[bucket] = Link::of(link);
+                self.heads[bucket].link = Link::of(link);
             }
         }
     }
@@ -232,7 +228,7 @@ impl<K, V> Index<K, V> {
         ensures spares { ring.new.spares ≡ ring.old.spares }
         ensures buckets { length self.new ≡ length fresh }
     {
-        *self = fresh;
+        mem::replace(self, fresh).free();
         chain_all(&mut self.heads, ring)
     }
 
@@ -243,6 +239,12 @@ impl<K, V> Index<K, V> {
         ensures buckets { length self.new ≡ length self.old }
     {
         clear_heads(&mut self.heads);
+    }
+
+    /// Ends the index and frees its buckets, in O(n) for them. The nodes of its ring stay.
+    pub fn free(self) {
+        let Index { heads, mark: _ } = self;
+        free_heads(heads);
     }
 }
 
@@ -334,74 +336,4 @@ pub fn buckets_for(capacity: usize) -> usize
     } else {
         capacity.next_power_of_two()
     }
-}
-
-/// Puts a node at the head of the chain of its hash.
-fn chain_one<K, V>(heads: &mut Vec<Link>, ring: &mut Ring<K, V>, at: Position<K, V>)
-    requires some { 0 < vec_len heads.old }
-    requires power { IsBucketCount (vec_len heads.old) }
-    requires held { IsHeld ring.old.held (pointer_of at) }
-    ensures chained { Chains (pointer_of at) (map target heads.old.items) (map target heads.new.items) ring.old.held ring.new.held }
-    ensures spares { ring.new.spares ≡ ring.old.spares }
-    ensures buckets { vec_len heads.new ≡ vec_len heads.old }
-{
-    let bucket = masked(ring.number(at), heads.len());
-    ring.set_link(at, heads[bucket].get());
-    heads[bucket] = Link::of(Some(at));
-}
-
-/// Chains all held nodes into empty buckets, and counts them.
-fn chain_all<K, V>(heads: &mut Vec<Link>, ring: &mut Ring<K, V>) -> usize
-    requires empty { HasNoChain (map target heads.old.items) }
-    requires power { IsBucketCount (vec_len heads.old) }
-    requires some { vec_len heads.old ≡ 0 → ring.old.held ≡ [] }
-    requires small { length ring.old.held < 2 ^ 64 }
-    ensures indexed { Indexes (map target heads.new.items) (spots ring.new.held) }
-    ensures count { result ≡ length ring.old.held }
-    ensures held { entries ring.new.held ≡ entries ring.old.held }
-    ensures spares { ring.new.spares ≡ ring.old.spares }
-    ensures buckets { vec_len heads.new ≡ vec_len heads.old }
-{
-    let mut count = 0;
-    let mut pointer = ring.first();
-    while let Some(at) = pointer {
-        chain_one(heads, ring, at);
-        count += 1;
-        pointer = ring.next(at);
-    }
-    count
-}
-
-/// Allocates `count` empty buckets.
-fn empty_heads(alloc: Global, count: usize) -> Result<Vec<Link>, AllocError>
-    ensures empty { IfOk result (λ v. HasNoChain (map target v.items)) }
-    ensures len { IfOk result (λ v. vec_len v ≡ count) }
-    ensures succeeds { count ≡ 0 → IsOk result }
-{
-    let mut heads = Vec::with_capacity(alloc, count)?;
-    'heads: while heads.len() < count {
-        heads.push_reserved(Link::none());
-    }
-    Ok(heads)
-}
-
-/// Empties every bucket.
-fn clear_heads(heads: &mut Vec<Link>)
-    ensures empty { HasNoChain (map target heads.new.items) }
-    ensures buckets { vec_len heads.new ≡ vec_len heads.old }
-{
-    let mut next = 0;
-    'heads: while next < heads.len() {
-        heads[next] = Link::none();
-        next += 1;
-    }
-}
-
-/// Returns the bucket of a hash, by a mask.
-fn masked(number: u64, buckets: usize) -> usize
-    requires some { 0 < buckets }
-    requires power { IsBucketCount buckets }
-    ensures { result ≡ number % buckets }
-{
-    (number & (buckets as u64 - 1)) as usize
 }

@@ -6,7 +6,6 @@ ghost use Rattle.lhm_ring.specs.Cells.{is_block, is_null_or_block};
 
 use crate::block::NodePointer;
 use crate::position::Position;
-use std::mem::size_of;
 use std::ptr::{NonNull, null};
 
 /// The pointer of a node, or null if it leads nowhere.
@@ -15,9 +14,6 @@ pub struct Link {
     ptr: *const u8,
     ghost comparable: { is_null_or_block ptr ≡ true } by { Bool-set _ _ },
 }
-
-// A bucket of the index is a link.
-const _: () = prove!(size_of::<Link>() == 8);
 
 impl Link {
     ghost use Rattle.lhm_ring.specs.Positions.{pointer_of_some};

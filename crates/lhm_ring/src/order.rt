@@ -63,7 +63,6 @@ impl<K, V> Ring<K, V> {
         ensures triple { AtHeld self.old.held (pointer_of at) (λ xs t ys. result ≡ (t.number, t.pair.0, t.pair.1)) }
         ensures spares { self.new.spares ≡ self.old.spares + 1 }
     {
-        let guard = self.guard.unwrap();
         let at = at.pointer;
         let old = *self.nodes.links(at);
         join(&mut self.nodes, old.prev, old.next);

@@ -1,22 +1,22 @@
 //! Pairs in insertion order with a hash index of their keys: a ring and its index, kept in step.
-ghost use Rattle.std.specs.Prelude.{◌≡◌, ◌==◌, ◌+◌, ◌<◌, ◌≤◌, ◌^◌, ◌++◌, ◌∷◌, [], length, map, None, IfOk, OnOk, OnErr, IsOk, IfSome, IfNone, OnSome};
+ghost use Rattle.std.specs.Prelude.{◌≡◌, ◌==◌, ◌+◌, ◌<◌, ◌≤◌, ◌^◌, ◌++◌, ◌∷◌, [], length, map, None, IfOk, IsOk, IfSome, IfNone, OnSome};
 ghost use Rattle.lhm_ring.specs.Cells.{IsApart};
 ghost use Rattle.lhm_ring.specs.RingState.{IsHeld, AtHeld, first_at, last_at, held};
 ghost use Rattle.lhm_ring.specs.RingAfterLoan.{pair};
 ghost use Rattle.lhm_ring.specs.Positions.{pointer_of, pointer_of_some};
-ghost use Rattle.lhm_ring.specs.Index.{spots};
-ghost use Rattle.lhm_ring.specs.Search.{entries, HasKey, IsAbsent, CountsSome, CountsAll};
-ghost use Rattle.lhm_ring.specs.Buckets.{buckets, rechained_raised, rechained_lowered, rechained_fitted};
+ghost use Rattle.lhm_ring.specs.Index.{spots, Indexes};
+ghost use Rattle.lhm_ring.specs.Search.{entries, HasKey, IsAbsent, CountsSome, CountsAll, HasNoChain};
+ghost use Rattle.lhm_ring.specs.Buckets.{buckets};
 ghost use Rattle.lhm_ring.specs.Tables.{Removes, WritesOnly};
 
+use crate::index::Index;
 pub use crate::index::Probe;
-use crate::index::{Index, buckets_for};
 pub use crate::into_iter::IntoIter;
+pub use crate::owned_pairs::OwnedPairs;
 use crate::ring::Ring;
 pub use crate::ring::{Drain, Hole, Iter, IterMut, LentValues, Position, ValueLoan};
 use std::alloc::{AllocError, Global};
 use std::marker::Model;
-use std::mem;
 
 /// The ring of a table, while the values are lent.
 pub type WithoutValues<K, V> = Ring<K, Hole<V>>;
@@ -26,12 +26,14 @@ pub type WithoutValues<K, V> = Ring<K, Hole<V>>;
 /// Each pair has a [`Position`] until it is removed. The capacity is the number of pairs that fit
 /// without an allocation. Only `with_capacity`, `raise` and `shrink_to_fit` allocate; if that
 /// fails, nothing changes.
+///
+/// It is not `Drop`: only `into_pairs` and `into_iter` end it.
 pub struct Table<K, V> {
     /// Public for a type that keeps a table in a field and lends its values.
     pub ring: Ring<K, V>,
-    index: Index<K, V>,
+    pub(crate) index: Index<K, V>,
     // How many nodes rehashes have moved since the capacity was lowered.
-    rechained: usize,
+    pub(crate) rechained: usize,
 }
 
 impl<K, V> Model for Table<K, V> {
@@ -44,16 +46,16 @@ impl<K, V> Model for Table<K, V> {
     ghost invariant = { λ t. IsTable t.index t.ring t.rechained };
 }
 
-impl<K: Drop, V: Drop> Drop for Table<K, V> {
-    fn drop(self) {
-        let Table {
-            ring,
-            index,
-            rechained: _,
-        } = self;
-        drop(ring);
-        drop(index);
+/// Empties the chains of an index, in O(n) for its buckets. If the ring is empty, they are empty.
+fn empty_chains<K, V>(index: &mut Index<K, V>, ring: &Ring<K, V>)
+    requires { Indexes index.old (spots ring.now.held) }
+    ensures empty { HasNoChain index.new }
+    ensures buckets { length index.new ≡ length index.old }
+{
+    if ring.len() == 0 {
+        return;
     }
+    index.forget_all();
 }
 
 impl<K, V> Table<K, V> {
@@ -84,12 +86,17 @@ impl<K, V> Table<K, V> {
         ensures succeeds { capacity ≡ 0 → IsOk result }
     {
         let index = Index::with_buckets(alloc, capacity)?;
-        let ring = Ring::with_spares(alloc, capacity)?;
-        Ok(Table {
-            ring,
-            index,
-            rechained: 0,
-        })
+        match Ring::with_spares(alloc, capacity) {
+            Ok(ring) => Ok(Table {
+                ring,
+                index,
+                rechained: 0,
+            }),
+            Err(refused) => {
+                index.free();
+                Err(refused)
+            }
+        }
     }
 
     /// Returns the allocator that the table was made with.
@@ -211,83 +218,6 @@ impl<K, V> Table<K, V> {
         (key, value)
     }
 
-    /// Raises the capacity, or changes nothing if an allocation fails. It allocates more buckets
-    /// first, if needed, and then the nodes. More buckets rehash all pairs, in O(n).
-    #[cold]
-    #[inline(never)]
-    pub fn raise(&mut self, capacity: usize) -> Result<(), AllocError>
-        requires higher { self.old.capacity < capacity }
-        requires limit { capacity ≤ 2 ^ 59 }
-        ensures held { self.new.held ≡ self.old.held }
-        ensures capacity { OnOk result (self.new.capacity ≡ capacity) }
-        ensures rechained { OnOk result (self.new.rechained
-            ≡ rechained_raised self.old.rechained (length self.old.held) self.old.capacity capacity) }
-        ensures refused { OnErr result (self.new ≡ self.old) }
-    {
-        let additional = capacity - self.capacity();
-        if capacity <= self.index.buckets() {
-            return self.ring.grow(additional);
-        }
-        let fresh = Index::with_buckets(self.ring.allocator(), capacity)?;
-        self.ring.grow(additional)?;
-        self.rechained += self.index.take_over(fresh, &mut self.ring);
-        Ok(())
-    }
-
-    /// Lowers the capacity to the number of pairs, or changes nothing if an allocation fails.
-    ///
-    /// It allocates only if there are pairs and are to be fewer buckets, which rehashes all pairs,
-    /// in O(n). An empty table frees all its memory.
-    pub fn shrink_to_fit(&mut self) -> Result<(), AllocError>
-        ensures held { self.new.held ≡ self.old.held }
-        ensures capacity { OnOk result (self.new.capacity ≡ length self.old.held) }
-        ensures rechained { OnOk result (self.new.rechained
-            ≡ rechained_fitted self.old.rechained (length self.old.held) self.old.capacity) }
-        ensures refused { OnErr result (self.new ≡ self.old) }
-        ensures some { OnErr result (0 < length self.old.held) }
-        ensures spare { OnErr result (length self.old.held < self.old.capacity) }
-    {
-        let len = self.ring.len();
-        if len == 0 {
-            self.free();
-        } else if len < self.capacity() {
-            return self.lower();
-        }
-        Ok(())
-    }
-
-    /// Lowers the capacity to the number of pairs, with new buckets if there are to be fewer.
-    fn lower(&mut self) -> Result<(), AllocError>
-        ensures held { self.new.held ≡ self.old.held }
-        ensures capacity { OnOk result (self.new.capacity ≡ length self.old.held) }
-        ensures rechained { OnOk result (self.new.rechained ≡ rechained_lowered (length self.old.held) self.old.capacity) }
-        ensures refused { OnErr result (self.new ≡ self.old) }
-    {
-        let len = self.ring.len();
-        if buckets_for(len) == self.index.buckets() {
-            self.ring.free_spares();
-            self.rechained = 0;
-            return Ok(());
-        }
-        let fresh = Index::with_buckets(self.ring.allocator(), len)?;
-        self.ring.free_spares();
-        self.rechained = self.index.take_over(fresh, &mut self.ring);
-        Ok(())
-    }
-
-    /// Deallocates all memory of an empty table, in O(n).
-    fn free(&mut self)
-        requires { self.old.held ≡ [] }
-        ensures held { self.new.held ≡ [] }
-        ensures capacity { self.new.capacity ≡ 0 }
-        ensures rechained { self.new.rechained ≡ 0 }
-    {
-        let alloc = self.ring.allocator();
-        self.rechained = 0;
-        self.index = Index::new(alloc);
-        mem::replace(&mut self.ring, Ring::new(alloc)).destroy_empty();
-    }
-
     /// Returns an iterator over the pairs with their hashes, front to back.
     pub fn iter(&self) -> Iter<'_, K, V>
         ensures { entries result ≡ self.now.held }
@@ -304,17 +234,32 @@ impl<K, V> Table<K, V> {
             index,
             rechained: _,
         } = self;
-        drop(index);
+        index.free();
         IntoIter::new(ring)
     }
 
+    /// Ends the table and returns its pairs, front to back, for an owner that drops them. It frees
+    /// the buckets, in O(n) for them; the nodes are freed as the pairs are taken.
+    pub fn into_pairs(self) -> OwnedPairs<K, V>
+        ensures { result ≡ triples self.held }
+    {
+        let Table {
+            ring,
+            index,
+            rechained: _,
+        } = self;
+        index.free();
+        OwnedPairs::new(ring)
+    }
+
     /// Removes all pairs and returns them as an iterator, front to back. The capacity stays. The
-    /// table is empty from the call on, also if the iterator is forgotten. The call is O(n).
+    /// table is empty from the call on, also if the iterator is forgotten. The call is O(1) for an
+    /// empty table, and else O(n) in the pairs and the buckets.
     pub fn drain(&mut self) -> Drain<'_, K, V>
         ensures* writes_back { sem 𝓛 (lends_drained K.row V.row self.entry (drain_name result)) }
         ensures rest { drain_rest result ≡ triples self.old.held }
     {
-        self.index.forget_all();
+        empty_chains(&mut self.index, &self.ring);
         self.ring.splice_all()
     }
 }

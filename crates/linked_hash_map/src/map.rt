@@ -95,7 +95,6 @@ pub enum Mode {
 /// assert_eq!(rt; map.front(), Some((&'y', &2)));
 /// assert_eq!(rt; map.back(), Some((&'x', &3)));
 /// ```
-#[derive(Drop)]
 pub struct LinkedHashMap<K: Eq + Hash, V, S: BuildHasher = DefaultHashBuilder> {
     // The pairs in order, with the hashes of their keys, and where each key is.
     table: Table<K, V>,
@@ -104,6 +103,24 @@ pub struct LinkedHashMap<K: Eq + Hash, V, S: BuildHasher = DefaultHashBuilder> {
     visit: Visit<K, V>,
     // Whether inserting a present key moves its pair to the back.
     mode: Mode,
+}
+
+/// Drops the pairs, front to back, and the hasher, and frees all memory, in O(capacity).
+impl<K: Eq + Hash + Drop, V: Drop, S: BuildHasher + Drop> Drop for LinkedHashMap<K, V, S> {
+    fn drop(self) {
+        let LinkedHashMap {
+            table,
+            hasher: _,
+            visit: _,
+            mode: _,
+        } = self;
+        let mut pairs = table.into_pairs();
+        'pairs: while let Some((_, key, value)) = pairs.take_first() {
+            drop(key);
+            drop(value);
+        }
+        pairs.destroy_empty();
+    }
 }
 
 /// A contract sees a map as its pairs, front to back, its capacity, hasher and mode, and the pairs

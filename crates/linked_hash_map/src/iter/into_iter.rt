@@ -113,7 +113,8 @@ impl<K: Clone, V: Clone> Clone for IntoIter<K, V> {
     }
 }
 
-/// A loop over the map, in O(1) without allocating. The hasher is dropped.
+/// A loop over the map, in O(capacity) without allocating: the hasher is dropped, and the buckets
+/// are freed.
 ///
 /// # Examples
 ///

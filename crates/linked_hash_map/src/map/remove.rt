@@ -112,7 +112,8 @@ impl<K: Eq + Hash, V, S: BuildHasher> LinkedHashMap<K, V, S> {
         Some(self.table.remove_at(back))
     }
 
-    /// Drops all pairs and keeps the capacity, in O(capacity) without allocating.
+    /// Drops all pairs and keeps the capacity, in O(capacity), or O(1) if the map is empty. It does
+    /// not allocate.
     ///
     /// # Examples
     ///
@@ -136,11 +137,10 @@ impl<K: Eq + Hash, V, S: BuildHasher> LinkedHashMap<K, V, S> {
         drop(self.table.drain());
     }
 
-    /// Removes all pairs and returns them as a double-ended iterator, front to back, in O(capacity)
-    /// without allocating.
+    /// Removes all pairs and returns them as a double-ended iterator, front to back.
     ///
     /// The map is empty and keeps its capacity from the call on. Forgetting the iterator leaks the
-    /// pairs left.
+    /// pairs left. It is O(capacity), or O(1) if the map is empty, and does not allocate.
     ///
     /// # Examples
     ///

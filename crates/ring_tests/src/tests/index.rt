@@ -35,7 +35,7 @@ impl<K: Drop, V: Drop> Drop for Table<K, V> {
             alloc: _,
         } = self;
         drop(ring);
-        drop(index);
+        index.free();
     }
 }
 
@@ -73,7 +73,10 @@ impl<K, V> Table<K, V> {
             return self.ring.grow(1);
         }
         let fresh = Index::with_buckets(self.alloc, capacity + 1)?;
-        self.ring.grow(1)?;
+        let Ok(()) = self.ring.grow(1) else {
+            fresh.free();
+            return Err(AllocError);
+        };
         self.index.take_over(fresh, &mut self.ring);
         Ok(())
     }

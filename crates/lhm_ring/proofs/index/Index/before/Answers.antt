@@ -1,6 +1,6 @@
 use Rattle.std.proofs.Common.{arith, ap, sym, ◌∙◌}
 use Rattle.lhm_ring.specs.Positions.{pointer_of, pointer_of_some}
-use Rattle.lhm_ring.proofs.Heads.{is_there}
+use Rattle.lhm_ring.proofs.BucketHeads.{is_there}
 use Rattle.lhm_ring.proofs.NodeBefore.{head_there, towards_start, towards_held, towards_room, towards_next, towards_end, towards_mended, towards_cut_held, same_state}
 use Rattle.lhm_ring.proofs.index.Index.before.Goals as goal
 

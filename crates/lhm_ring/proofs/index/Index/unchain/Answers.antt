@@ -1,6 +1,6 @@
 use Rattle.std.proofs.Common.{arith, ap, sym, subst, map, set, ◌∙◌}
 use Rattle.std.proofs.lemmas.List.{length-map, map-set}
-use Rattle.lhm_ring.specs.Targets.{target}
+use Rattle.lhm_ring.specs.Heads.{leads_to}
 use Rattle.lhm_ring.specs.Positions.{pointer_of, pointer_of_some}
 use Rattle.lhm_ring.specs.Search.{HoldsOthers}
 use Rattle.lhm_ring.proofs.IndexChanges.{on_held, on_before_held, take_first_at, take_next, kept_by_link}
@@ -20,5 +20,5 @@ returns-in-Some-clause-held g c = kept_by_link c.args.ring.now.held c.set_link.n
 
 pub returns-in-None-clause-lacks : goal.returns-in-None-clause-lacks
 returns-in-None-clause-lacks g c =
-    subst (λ h. HoldsOthers h c.args.ring.now.held (pointer_of c.args.found.at)) (sym (map-set target c.self.inside.heads.items c.masked-bucket.result c.of.result ∙ ap (set (map target c.self.inside.heads.items) c.masked-bucket.result) c.of.ensures))
-    (rw c.masked-bucket.ensures (take_first_at (map target c.self.inside.heads.items) c.len.result (pointer_of_some c.link-link.result) c.self.view_is (omega (arith, c.len.ensures, c.self.inside.heads.ok, length-map c.self.inside.heads.items target)) (ap pointer_of_some c.in-None.is) c.requires.indexed c.requires.on_chain c.link-link.ensures.link))
+    subst (λ h. HoldsOthers h c.args.ring.now.held (pointer_of c.args.found.at)) (sym (map-set leads_to c.self.inside.heads.items c.masked-bucket.result (record { link = c.of.result }) ∙ ap (set (map leads_to c.self.inside.heads.items) c.masked-bucket.result) c.of.ensures))
+    (rw c.masked-bucket.ensures (take_first_at (map leads_to c.self.inside.heads.items) c.len.result (pointer_of_some c.link-link.result) c.self.view_is (omega (arith, c.len.ensures, c.self.inside.heads.ok, length-map c.self.inside.heads.items leads_to)) (ap pointer_of_some c.in-None.is) c.requires.indexed c.requires.on_chain c.link-link.ensures.link))

@@ -2,7 +2,7 @@ use Rattle.std.proofs.Common.{◌∙◌, Some, ap, sym, subst}
 use denote.RawPtr.{InBlock}
 use Rattle.lhm_ring.specs.declared.block.NodePointer.{NodePointer}
 use Rattle.lhm_ring.specs.Targets.{led_to}
-use Rattle.lhm_ring.proofs.Heads.{comparable, led_there, block_there}
+use Rattle.lhm_ring.proofs.BucketHeads.{comparable, led_there, block_there}
 use Rattle.lhm_ring.proofs.link.Link.get.Goals as goal
 
 pub new-requires : goal.new-requires

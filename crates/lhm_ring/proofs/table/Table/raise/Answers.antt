@@ -20,14 +20,14 @@ returns-then-capacity-buckets-clause-rechained g c =
     let enough : c.args.capacity ≤ length i.index = omega (arith, c.if-capacity-buckets.true, c.buckets.ensures) in
     rw (← c.self.view_is) (OnOk_always c.grow.result (sym (rechained-stays c.self.invariant c.args.capacity up enough _)))
 
-pub invariant_of-self-2 : goal.invariant_of-self-2
-invariant_of-self-2 g c =
+pub invariant_of-self-in-Ok : goal.invariant_of-self-in-Ok
+invariant_of-self-in-Ok g c =
     let i = c.self.inside in
     let all = capacity_in i.ring i.rechained c.self.view_is in
     let up : length i.ring.held + i.ring.spares < c.args.capacity = omega (arith, all, c.requires.higher) in
     let few : length i.index < c.args.capacity = omega (arith, c.if-capacity-buckets.false, c.buckets.ensures) in
-    let sum : length i.ring.held + c.take_over.new.ring.spares ≡ c.args.capacity = omega (arith, all, c.requires.higher, c.capacity.ensures.value, c.in_ok-grow.ensures.spares, c.take_over.ensures.spares) in
+    let sum : length i.ring.held + c.take_over.new.ring.spares ≡ c.args.capacity = omega (arith, all, c.requires.higher, c.capacity.ensures.value, c.in-Ok.ensures.spares, c.take_over.ensures.spares) in
     let wide : length c.take_over.new.self ≡ buckets c.args.capacity = c.take_over.ensures.buckets ∙ c.in_ok-fresh.ensures.buckets in
-    let count : c.take_over.result ≡ length i.ring.held = c.take_over.ensures.count ∙ ap length c.in_ok-grow.ensures.held in
+    let count : c.take_over.result ≡ length i.ring.held = c.take_over.ensures.count ∙ ap length c.in-Ok.ensures.held in
     let fits = rechained-fits c.self.invariant c.args.capacity up few in
-    IsTable-rechained c.self.invariant {t = c.take_over.new.ring} (c.take_over.ensures.held ∙ ap entries c.in_ok-grow.ensures.held) (omega (arith, sum, c.requires.limit)) c.take_over.ensures.indexed (wide ∙ ap buckets (sym sum)) (omega (arith, fits, count, wide))
+    IsTable-rechained c.self.invariant {t = c.take_over.new.ring} (c.take_over.ensures.held ∙ ap entries c.in-Ok.ensures.held) (omega (arith, sum, c.requires.limit)) c.take_over.ensures.indexed (wide ∙ ap buckets (sym sum)) (omega (arith, fits, count, wide))

@@ -2,7 +2,7 @@ use Rattle.std.proofs.Common.{subst, sym, ◌≡◌, ℕ, ◌-◌, ◌%◌}
 use Rattle.std.specs.Prelude.{bit_and}
 use Rattle.std.proofs.lemmas.Nat.{and_mask}
 use Rattle.lhm_ring.proofs.BucketCounts.{power_of}
-use Rattle.lhm_ring.proofs.index.masked.Goals as goal
+use Rattle.lhm_ring.proofs.heads.masked.Goals as goal
 
 pub returns : goal.returns
 returns c =

@@ -1,12 +1,12 @@
 use Rattle.std.proofs.Common.{length, map, ◌-◌, ◌≡◌, vec_len}
-use Rattle.lhm_ring.specs.Targets.{target}
+use Rattle.lhm_ring.specs.Heads.{leads_to}
 use Rattle.lhm_ring.specs.Positions.{pointer_of_some}
 use Rattle.lhm_ring.specs.Search.{IsRechained}
-use Rattle.lhm_ring.proofs.index.chain_all.Given as goal
+use Rattle.lhm_ring.proofs.heads.chain_all.Given as goal
 
 abbrev pub invariant-loop-pointer : goal.invariant-loop-pointer
 invariant-loop-pointer g l =
-    IsRechained (map target l.heads.items) l.initial.ring.held l.ring.held (pointer_of_some l.pointer) l.count (vec_len l.initial.heads)
+    IsRechained (map leads_to l.heads.items) l.initial.ring.held l.ring.held (pointer_of_some l.pointer) l.count (vec_len l.initial.heads)
     × (l.ring.spares ≡ l.initial.ring.spares)
     × (vec_len l.heads ≡ vec_len l.initial.heads)
 

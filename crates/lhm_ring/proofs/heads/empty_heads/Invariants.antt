@@ -1,10 +1,10 @@
 use Rattle.std.proofs.Common.{◌≡◌, ℕ, ◌≤◌, ◌-◌, get_or, map, None, vec_len}
 use Rattle.std.specs.Vec.{vec_capacity}
-use Rattle.lhm_ring.specs.Targets.{target}
-use Rattle.lhm_ring.proofs.index.empty_heads.Given as goal
+use Rattle.lhm_ring.specs.Heads.{leads_to}
+use Rattle.lhm_ring.proofs.heads.empty_heads.Given as goal
 
 abbrev pub invariant-heads : goal.invariant-heads
-invariant-heads l = ((b : ℕ) → get_or (map target l.heads.items) b None ≡ None) × (vec_len l.heads ≤ l.count) × (vec_capacity l.heads ≡ l.count)
+invariant-heads l = ((b : ℕ) → get_or (map leads_to l.heads.items) b None ≡ None) × (vec_len l.heads ≤ l.count) × (vec_capacity l.heads ≡ l.count)
 
 abbrev pub decreases-heads : goal.decreases-heads
 decreases-heads l = l.count - vec_len l.heads

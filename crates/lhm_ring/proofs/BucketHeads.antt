@@ -3,9 +3,10 @@ use Rattle.std.proofs.Common.{◌≡◌, ℕ, zero, suc, ◌+◌, ◌%◌, ◌<�
 use Rattle.std.specs.Prelude.{IsSome}
 use denote.RawPtr.{Ptr, block_ptr, null_ptr, Testable, InBlock}
 use Rattle.std.proofs.lemmas.Bool.{eqb-true}
-use Rattle.lhm_ring.specs.declared.link.Link.{Link}
+use Rattle.lhm_ring.specs.declared.heads.Head.{Head}
 use Rattle.lhm_ring.specs.Cells.{is_block, is_null_or_block}
-use Rattle.lhm_ring.specs.Targets.{target, led_to}
+use Rattle.lhm_ring.specs.Heads.{leads_to}
+use Rattle.lhm_ring.specs.Targets.{led_to}
 use Rattle.std.proofs.lemmas.List.{length-map, map-set}
 use Rattle.std.proofs.Math.Nat.{mod-lt}
 use Rattle.lhm_ring.specs.declared.position.Position.{Position}
@@ -14,7 +15,7 @@ use Rattle.lhm_ring.specs.RingState.{Held, AtHeld, linked_to}
 use Rattle.lhm_ring.specs.Search.{OfNodeAt, Chains}
 
 -- the pointer of a head is the head of the pointers
-pub head_pointer : (heads : List Link) (b : ℕ) (h : Link) → b < length heads → get_or (map target heads) b None ≡ target (get_or heads b h)
+pub head_pointer : (heads : List Head) (b : ℕ) (h : Head) → b < length heads → get_or (map leads_to heads) b None ≡ leads_to (get_or heads b h)
 head_pointer [] b h l = absurd (omega (arith, l))
 head_pointer (k ∷ heads) zero h l = refl
 head_pointer (k ∷ heads) (suc b) h l = head_pointer heads b h (omega (arith, l))
@@ -25,14 +26,14 @@ is_there None q e = absurd (cc)
 is_there (Some p) q e = refl
 
 -- one more empty bucket
-pub none_more : (xs : List Link) (h : Link) → target h ≡ None → ((b : ℕ) → get_or (map target xs) b None ≡ None) → (b : ℕ) → get_or (map target (xs ++ h ∷ [])) b None ≡ None
+pub none_more : (xs : List Head) (h : Head) → leads_to h ≡ None → ((b : ℕ) → get_or (map leads_to xs) b None ≡ None) → (b : ℕ) → get_or (map leads_to (xs ++ h ∷ [])) b None ≡ None
 none_more [] h e a zero = e
 none_more [] h e a (suc b) = refl
 none_more (x ∷ xs) h e a zero = a 0
 none_more (x ∷ xs) h e a (suc b) = none_more xs h e (λ c. a (suc c)) b
 
 -- one more bucket is emptied
-pub cleared : (xs : List Link) (i : ℕ) (h : Link) → target h ≡ None → ((b : ℕ) → b < i → get_or (map target xs) b None ≡ None) → (b : ℕ) → b < i + 1 → get_or (map target (set xs i h)) b None ≡ None
+pub cleared : (xs : List Head) (i : ℕ) (h : Head) → leads_to h ≡ None → ((b : ℕ) → b < i → get_or (map leads_to xs) b None ≡ None) → (b : ℕ) → b < i + 1 → get_or (map leads_to (set xs i h)) b None ≡ None
 cleared [] i h e a b l = refl
 cleared (x ∷ xs) zero h e a zero l = e
 cleared (x ∷ xs) zero h e a (suc b) l = absurd (omega (arith, l))
@@ -40,16 +41,16 @@ cleared (x ∷ xs) (suc i) h e a zero l = a 0 (omega arith)
 cleared (x ∷ xs) (suc i) h e a (suc b) l = cleared xs i h e (λ c m. a (suc c) (omega (arith, m))) b (omega (arith, l))
 
 -- the head of a bucket becomes a link, and the position the head
-pub chained : {K V : Type 0} (at : Position K V) (heads : List Link) (old_head new_head : Link) (link : Option (Position K V)) (count number bucket : ℕ) (old new : List (Held (K × V))) → count ≡ length heads → 0 < count → bucket ≡ number % count
-    → old_head ≡ get_or heads bucket old_head → pointer_of_some link ≡ target old_head → target new_head ≡ Some (pointer_of at)
-    → OfNodeAt old (pointer_of at) (λ x. number ≡ x.number) → AtHeld old (pointer_of at) (λ before x after. new ≡ before ++ linked_to (pointer_of_some link) x ∷ after) → Chains (pointer_of at) (map target heads) (map target (set heads bucket new_head)) old new
+pub chained : {K V : Type 0} (at : Position K V) (heads : List Head) (old_head new_head : Head) (link : Option (Position K V)) (count number bucket : ℕ) (old new : List (Held (K × V))) → count ≡ length heads → 0 < count → bucket ≡ number % count
+    → old_head ≡ get_or heads bucket old_head → pointer_of_some link ≡ leads_to old_head → leads_to new_head ≡ Some (pointer_of at)
+    → OfNodeAt old (pointer_of at) (λ x. number ≡ x.number) → AtHeld old (pointer_of at) (λ before x after. new ≡ before ++ linked_to (pointer_of_some link) x ∷ after) → Chains (pointer_of at) (map leads_to heads) (map leads_to (set heads bucket new_head)) old new
 chained {K} {V} at heads old_head new_head link count number bucket old new many some is head_is link_is new_is own sets = λ before x after e p.
-    let b : bucket ≡ x.number % length (map target heads) = is ∙ ap (λ n. n % count) (own before x after e p) ∙ ap (λ n. x.number % n) (many ∙ sym (length-map heads target)) in
+    let b : bucket ≡ x.number % length (map leads_to heads) = is ∙ ap (λ n. n % count) (own before x after e p) ∙ ap (λ n. x.number % n) (many ∙ sym (length-map heads leads_to)) in
     let within : bucket < length heads = let l : number % count < count = mod-lt number some in omega (arith, l, is, many) in
-    let read : get_or (map target heads) bucket None ≡ pointer_of_some link = head_pointer heads bucket old_head within ∙ ap target (sym head_is) ∙ sym link_is in
+    let read : get_or (map leads_to heads) bucket None ≡ pointer_of_some link = head_pointer heads bucket old_head within ∙ ap leads_to (sym head_is) ∙ sym link_is in
     record {
-      nodes_is = sets before x after e p ∙ ap (λ (l : Option Ptr). before ++ linked_to l x ∷ after) (sym read ∙ ap (λ n. get_or (map target heads) n None) b);
-      heads_is = map-set target heads bucket new_head ∙ (λ i. set (map target heads) (b i) (new_is i));
+      nodes_is = sets before x after e p ∙ ap (λ (l : Option Ptr). before ++ linked_to l x ∷ after) (sym read ∙ ap (λ n. get_or (map leads_to heads) n None) b);
+      heads_is = map-set leads_to heads bucket new_head ∙ (λ i. set (map leads_to heads) (b i) (new_is i));
     }
 
 -- what may be compared with null, and where it leads

@@ -1,0 +1,102 @@
+//! The heads of the buckets' chains, as a vector.
+ghost use Rattle.std.specs.Prelude.{◌≡◌, ◌%◌, ◌<◌, ◌^◌, [], map, length, IfOk, IsOk, vec_len};
+ghost use Rattle.lhm_ring.specs.RingState.{IsHeld};
+ghost use Rattle.lhm_ring.specs.Positions.{pointer_of};
+ghost use Rattle.lhm_ring.specs.Heads.{leads_to};
+ghost use Rattle.lhm_ring.specs.Index.{spots, Indexes};
+ghost use Rattle.lhm_ring.specs.Search.{entries, Chains, HasNoChain};
+ghost use Rattle.lhm_ring.specs.Buckets.{IsBucketCount};
+
+use crate::link::Link;
+use crate::position::Position;
+use crate::ring::Ring;
+use std::alloc::{AllocError, Global};
+use std::mem::size_of;
+
+/// The head of a bucket's chain.
+///
+/// It is not `Drop`, so a vector of heads is not either: `mem::forget`, `ManuallyDrop::new` and
+/// `Vec::leak` do not accept one, and only `free_heads` ends it.
+pub(crate) struct Head {
+    pub(crate) link: Link,
+}
+
+// A bucket of the index is one pointer.
+const _: () = prove!(size_of::<Head>() == 8);
+
+/// Puts a node at the head of the chain of its hash.
+pub(crate) fn chain_one<K, V>(heads: &mut Vec<Head>, ring: &mut Ring<K, V>, at: Position<K, V>)
+    requires some { 0 < vec_len heads.old }
+    requires power { IsBucketCount (vec_len heads.old) }
+    requires held { IsHeld ring.old.held (pointer_of at) }
+    ensures chained { Chains (pointer_of at) (map leads_to heads.old.items) (map leads_to heads.new.items) ring.old.held ring.new.held }
+    ensures spares { ring.new.spares ≡ ring.old.spares }
+    ensures buckets { vec_len heads.new ≡ vec_len heads.old }
+{
+    let bucket = masked(ring.number(at), heads.len());
+    ring.set_link(at, heads[bucket].link.get());
+    heads[bucket].link = Link::of(Some(at));
+}
+
+/// Chains all held nodes into empty buckets, and counts them.
+pub(crate) fn chain_all<K, V>(heads: &mut Vec<Head>, ring: &mut Ring<K, V>) -> usize
+    requires empty { HasNoChain (map leads_to heads.old.items) }
+    requires power { IsBucketCount (vec_len heads.old) }
+    requires some { vec_len heads.old ≡ 0 → ring.old.held ≡ [] }
+    requires small { length ring.old.held < 2 ^ 64 }
+    ensures indexed { Indexes (map leads_to heads.new.items) (spots ring.new.held) }
+    ensures count { result ≡ length ring.old.held }
+    ensures held { entries ring.new.held ≡ entries ring.old.held }
+    ensures spares { ring.new.spares ≡ ring.old.spares }
+    ensures buckets { vec_len heads.new ≡ vec_len heads.old }
+{
+    let mut count = 0;
+    let mut pointer = ring.first();
+    while let Some(at) = pointer {
+        chain_one(heads, ring, at);
+        count += 1;
+        pointer = ring.next(at);
+    }
+    count
+}
+
+/// Allocates `count` empty buckets.
+pub(crate) fn empty_heads(alloc: Global, count: usize) -> Result<Vec<Head>, AllocError>
+    ensures empty { IfOk result (λ v. HasNoChain (map leads_to v.items)) }
+    ensures len { IfOk result (λ v. vec_len v ≡ count) }
+    ensures succeeds { count ≡ 0 → IsOk result }
+{
+    let mut heads = Vec::with_capacity(alloc, count)?;
+    'heads: while heads.len() < count {
+        heads.push_reserved(Head { link: Link::none() });
+    }
+    Ok(heads)
+}
+
+/// Empties every bucket.
+pub(crate) fn clear_heads(heads: &mut Vec<Head>)
+    ensures empty { HasNoChain (map leads_to heads.new.items) }
+    ensures buckets { vec_len heads.new ≡ vec_len heads.old }
+{
+    let mut next = 0;
+    'heads: while next < heads.len() {
+        heads[next].link = Link::none();
+        next += 1;
+    }
+}
+
+/// Frees the buckets.
+pub(crate) fn free_heads(heads: Vec<Head>) {
+    let mut heads = heads;
+    'heads: while let Some(Head { link: _ }) = heads.pop() {}
+    heads.destroy_empty();
+}
+
+/// Returns the bucket of a hash, by a mask.
+pub(crate) fn masked(number: u64, buckets: usize) -> usize
+    requires some { 0 < buckets }
+    requires power { IsBucketCount buckets }
+    ensures { result ≡ number % buckets }
+{
+    (number & (buckets as u64 - 1)) as usize
+}

@@ -1,0 +1,94 @@
+//! The capacity of a table is raised and lowered.
+ghost use Rattle.std.specs.Prelude.{◌≡◌, ◌<◌, ◌≤◌, ◌^◌, [], length, OnOk, OnErr};
+ghost use Rattle.lhm_ring.specs.Buckets.{rechained_raised, rechained_lowered, rechained_fitted};
+
+use crate::index::{Index, buckets_for};
+use crate::table::Table;
+use std::alloc::AllocError;
+use std::mem;
+
+impl<K, V> Table<K, V> {
+    /// Raises the capacity, or changes nothing if an allocation fails. It allocates more buckets
+    /// first, if needed, and then the nodes. More buckets rehash all pairs, in O(n).
+    #[cold]
+    #[inline(never)]
+    pub fn raise(&mut self, capacity: usize) -> Result<(), AllocError>
+        requires higher { self.old.capacity < capacity }
+        requires limit { capacity ≤ 2 ^ 59 }
+        ensures held { self.new.held ≡ self.old.held }
+        ensures capacity { OnOk result (self.new.capacity ≡ capacity) }
+        ensures rechained { OnOk result (self.new.rechained
+            ≡ rechained_raised self.old.rechained (length self.old.held) self.old.capacity capacity) }
+        ensures refused { OnErr result (self.new ≡ self.old) }
+    {
+        let additional = capacity - self.capacity();
+        if capacity <= self.index.buckets() {
+            return self.ring.grow(additional);
+        }
+        let fresh = Index::with_buckets(self.ring.allocator(), capacity)?;
+        match self.ring.grow(additional) {
+            Ok(()) => {
+                self.rechained += self.index.take_over(fresh, &mut self.ring);
+                Ok(())
+            }
+            Err(refused) => {
+                fresh.free();
+                Err(refused)
+            }
+        }
+    }
+
+    /// Lowers the capacity to the number of pairs, or changes nothing if an allocation fails.
+    ///
+    /// It allocates only if there are pairs and are to be fewer buckets, which rehashes all pairs,
+    /// in O(n). An empty table frees all its memory.
+    pub fn shrink_to_fit(&mut self) -> Result<(), AllocError>
+        ensures held { self.new.held ≡ self.old.held }
+        ensures capacity { OnOk result (self.new.capacity ≡ length self.old.held) }
+        ensures rechained { OnOk result (self.new.rechained
+            ≡ rechained_fitted self.old.rechained (length self.old.held) self.old.capacity) }
+        ensures refused { OnErr result (self.new ≡ self.old) }
+        ensures some { OnErr result (0 < length self.old.held) }
+        ensures spare { OnErr result (length self.old.held < self.old.capacity) }
+    {
+        let len = self.ring.len();
+        if len == 0 {
+            self.free();
+        } else if len < self.capacity() {
+            return self.lower();
+        }
+        Ok(())
+    }
+
+    /// Lowers the capacity to the number of pairs, with new buckets if there are to be fewer.
+    fn lower(&mut self) -> Result<(), AllocError>
+        ensures held { self.new.held ≡ self.old.held }
+        ensures capacity { OnOk result (self.new.capacity ≡ length self.old.held) }
+        ensures rechained { OnOk result (self.new.rechained ≡ rechained_lowered (length self.old.held) self.old.capacity) }
+        ensures refused { OnErr result (self.new ≡ self.old) }
+    {
+        let len = self.ring.len();
+        if buckets_for(len) == self.index.buckets() {
+            self.ring.free_spares();
+            self.rechained = 0;
+            return Ok(());
+        }
+        let fresh = Index::with_buckets(self.ring.allocator(), len)?;
+        self.ring.free_spares();
+        self.rechained = self.index.take_over(fresh, &mut self.ring);
+        Ok(())
+    }
+
+    /// Deallocates all memory of an empty table, in O(n).
+    fn free(&mut self)
+        requires { self.old.held ≡ [] }
+        ensures held { self.new.held ≡ [] }
+        ensures capacity { self.new.capacity ≡ 0 }
+        ensures rechained { self.new.rechained ≡ 0 }
+    {
+        let alloc = self.ring.allocator();
+        mem::replace(self, Table::new(alloc))
+            .into_pairs()
+            .destroy_empty();
+    }
+}
