@@ -1,7 +1,6 @@
 -- A table as a closure goes over its pairs and keeps some.
-use Rattle.std.proofs.Common.{◌≡◌, ℕ, ◌<◌, Bool, true, false, cond, not, List, [], ◌∷◌, ◌++◌, map, length, Option, Some, None, refl, sym, ap, ◌∙◌, subst, append_assoc, append-nil, arith}
+use Rattle.std.proofs.Common.{◌≡◌, ℕ, ◌<◌, Bool, true, false, cond, List, [], ◌∷◌, ◌++◌, map, length, Option, Some, None, refl, sym, ap, ◌∙◌, subst, append_assoc, arith}
 use Rattle.std.proofs.lemmas.List.{map-append}
-use Rattle.std.specs.List.{FoldsTo}
 use Rattle.std.specs.Map.Calls.{CallableOnEachPair, SomeCallAtPair}
 use denote.RawPtr.{Ptr}
 use Rattle.lhm_ring.specs.Cells.{Cell, cell, same_ptr, IsApart, change, with_body}
@@ -12,14 +11,6 @@ use Rattle.lhm_ring.specs.Retains.{TakesAt, CallsAt, RetainsAt, RetainsHeld, IsR
 use Rattle.lhm_ring.proofs.Apart.{IsFresh, same_ptr_refl}
 use Rattle.lhm_ring.proofs.Rows.{apart_head, apart_tail, apart_out}
 use Rattle.lhm_ring.proofs.Tables.{entries_cut}
-
-not-true : (b : Bool) → not b ≡ true → b ≡ false
-not-true true e = absurd (cc)
-not-true false e = refl
-
-not-false : (b : Bool) → not b ≡ false → b ≡ true
-not-false true e = refl
-not-false false e = absurd (cc)
 
 -- what a node holds is written twice
 module _ {L B : Type 0} where
@@ -73,18 +64,18 @@ taken_in {F} {K} {V} Q f {p} s r seen h =
 
 -- one call, after which the pair stays with its value or is removed
 module _ {F K V : Type 0} (T : F → K → V → Bool → V → F → Type 0) {f f' : F} {old now : List (Held (K × V))} {p : Ptr} {b : Bool} {w : V} where
-  pub RetainsAt-kept : CallsAt T f old p b w f' → WritesOnly old p → now ≡ change_at p (revalued w) old → not b ≡ false → RetainsAt T f old p now f'
+  pub RetainsAt-kept : CallsAt T f old p b w f' → WritesOnly old p → now ≡ change_at p (revalued w) old → b ≡ true → RetainsAt T f old p now f'
   RetainsAt-kept called alone written kept = (
     b,
     w,
-    λ xs t ys e at. (called xs t ys e at, written ∙ alone xs t ys e at w ∙ ap (λ c. xs ++ cond c (revalued w t ∷ ys) ys) (sym (not-false b kept))),
+    λ xs t ys e at. (called xs t ys e at, written ∙ alone xs t ys e at w ∙ ap (λ c. xs ++ cond c (revalued w t ∷ ys) ys) (sym kept)),
   )
 
-  pub RetainsAt-removed : {new : List (Held (K × V))} → CallsAt T f old p b w f' → WritesOnly old p → now ≡ change_at p (revalued w) old → not b ≡ true → AtHeld now p (λ xs t ys. new ≡ xs ++ ys) → RetainsAt T f old p new f'
+  pub RetainsAt-removed : {new : List (Held (K × V))} → CallsAt T f old p b w f' → WritesOnly old p → now ≡ change_at p (revalued w) old → b ≡ false → AtHeld now p (λ xs t ys. new ≡ xs ++ ys) → RetainsAt T f old p new f'
   RetainsAt-removed called alone written removed others = (
     b,
     w,
-    λ xs t ys e at. (called xs t ys e at, others xs (revalued w t) ys (written ∙ alone xs t ys e at w) at ∙ ap (λ c. xs ++ cond c (revalued w t ∷ ys) ys) (sym (not-true b removed))),
+    λ xs t ys e at. (called xs t ys e at, others xs (revalued w t) ys (written ∙ alone xs t ys e at w) at ∙ ap (λ c. xs ++ cond c (revalued w t ∷ ys) ys) (sym removed)),
   )
 
 pub held-written : {K V : Type 0} {old now : List (Held (K × V))} {p : Ptr} (w : V) → WritesOnly old p → now ≡ change_at p (revalued w) old → IsHeld old p → IsHeld now p

@@ -8,7 +8,7 @@ use Rattle.lhm_ring.specs.RingState.{Held}
 use Rattle.lhm_ring.specs.RingAfterLoan.{revalued}
 use Rattle.lhm_ring.specs.Tables.{TableState}
 use Rattle.lhm_ring.specs.Retains.{RetainsHeld}
-use Rattle.linked_hash_map.specs.Nodes.{pairs_of, bare, bare_node, AreKept, IsKept}
+use Rattle.linked_hash_map.specs.Nodes.{pairs_of, bare, bare_node, IsKept}
 use Rattle.linked_hash_map.specs.Retains.{IsSublist}
 use Rattle.linked_hash_map.proofs.Kept.{keys-bare, length-bare, length-pairs_of}
 
@@ -59,7 +59,7 @@ module _ {F K V : Type 0} (T : F → K → V → Bool → V → F → Type 0) wh
 -- the keys and the number of the pairs in some of the nodes
 module _ {K V : Type 0} (hs ks : List (Held (K × V))) (some : IsSublist (bare ks) (bare hs)) where
   pub keys-some : IsSublist (keys_of (pairs_of ks)) (keys_of (pairs_of hs))
-  keys-some = subst (λ l. IsSublist l (keys_of (pairs_of hs))) (keys-bare ks) (subst (IsSublist (map (λ u. u.pair) (bare ks))) (keys-bare hs) (map-sublist (λ (u : Held K). u.pair) (bare ks) (bare hs) some))
+  keys-some = subst (λ (l : List K). IsSublist l (keys_of (pairs_of hs))) (keys-bare ks) (subst (IsSublist (map (λ (u : Held K). u.pair) (bare ks))) (keys-bare hs) (map-sublist (λ (u : Held K). u.pair) (bare ks) (bare hs) some))
 
   pub length-some : length (pairs_of ks) ≤ length (pairs_of hs)
   length-some =
@@ -78,8 +78,8 @@ IsKept-some {K} {V} {eq} {hash} {s} {t} kept some capacity =
     let few = length-sublist (bare t.held) (bare s.held) some in
     record {
       nodes = record {
-        distinct = distinct-sublist eq (map (λ u. u.pair) (bare t.held)) (map (λ u. u.pair) (bare s.held)) (map-sublist (λ (u : Held K). u.pair) (bare t.held) (bare s.held) some) k.distinct;
-        hashed = all-sublist (λ u. u.number ≡ hash u.pair) (bare t.held) (bare s.held) some k.hashed;
+        distinct = distinct-sublist eq (map (λ (u : Held K). u.pair) (bare t.held)) (map (λ (u : Held K). u.pair) (bare s.held)) (map-sublist (λ (u : Held K). u.pair) (bare t.held) (bare s.held) some) k.distinct;
+        hashed = all-sublist (λ (u : Held K). u.number ≡ hash u.pair) (bare t.held) (bare s.held) some k.hashed;
         within = omega (arith, few, capacity, k.within);
         limit = omega (arith, capacity, k.limit);
         marked = λ _. refl;

@@ -1,6 +1,6 @@
 -- For callers: what `retain` keeps, by what the closure's contract says of each call. T says what a call does: it may return this,
 -- leave this value there, and leave the closure so.
-use Rattle.std.proofs.Common.{◌≡◌, Bool, true, false, cond, List, [], ◌∷◌, map, filter, refl, sym, ◌∙◌, subst}
+use Rattle.std.proofs.Common.{◌≡◌, Bool, true, false, cond, List, [], ◌∷◌, map, filter, refl, ◌∙◌, subst}
 use Rattle.std.specs.Map.Calls.{RetainsPairs}
 pub use Rattle.std.proofs.lemmas.Map.Made.{filter_same_pairs, map_same_pairs}
 pub use Rattle.std.proofs.lemmas.Map.Entries.{All-from_retain_pairs, filter_from_retain_pairs, keys_from_retain_pairs}
