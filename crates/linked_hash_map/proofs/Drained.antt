@@ -39,5 +39,5 @@ pairs-triples [] = refl
 pairs-triples (t ∷ hs) = ap (λ ps. t.pair ∷ ps) (pairs-triples hs)
 
 -- what is left of a `Drain` that was made of a table
-pub rest_drained : {K V : Type 0} (d : Drain K V) {ts : List (ℕ × (K × V))} {hs : List (Held (K × V))} → drain_rest d ≡ map (λ t. t.1) ts → ts ≡ triples hs → drain_rest d ≡ pairs_of hs
-rest_drained d {hs = hs} rest e = rest ∙ ap (map (λ t. t.1)) e ∙ pairs-triples hs
+pub rest_drained : {K V : Type 0} (d : Drain K V) (ts : List (ℕ × (K × V))) (hs : List (Held (K × V))) → drain_rest d ≡ map (λ t. t.1) ts → ts ≡ triples hs → drain_rest d ≡ pairs_of hs
+rest_drained d ts hs rest e = rest ∙ ap (map (λ t. t.1)) e ∙ pairs-triples hs

@@ -1,86 +1,135 @@
--- The pair of a present key, once its value is written: in its place, or moved to the back.
-use Rattle.std.proofs.Common.{◌≡◌, ℕ, ◌-◌, inr, Bool, List, [], ◌∷◌, ◌++◌, map, length, slice_get, remove, Option, Some, None, option_map, sym, ap, ◌∙◌, subst, arith}
+-- The pair at a position, once it is moved by a mode and its value is written.
+use Rattle.std.proofs.Common.{◌≡◌, ℕ, ◌+◌, ◌-◌, ◌<◌, ◌≤◌, ◌⊎◌, inr, Bool, List, [], ◌∷◌, ◌++◌, map, length, take, drop, slice_get, remove, Option, Some, None, option_map, refl, sym, ap, ◌∙◌, subst, arith}
 use Rattle.std.specs.List.{IsDistinct}
 use Rattle.std.specs.Map.{keys_of}
 use Rattle.std.specs.Cmp.{IsEquivalence}
 use denote.RawPtr.{Ptr}
 use Rattle.lhm_ring.specs.Cells.{IsApart}
-use Rattle.lhm_ring.specs.RingState.{Held, IsHeld, AtHeld, change_at}
+use Rattle.lhm_ring.specs.RingState.{Held, AtHeld, change_at}
 use Rattle.lhm_ring.specs.RingAfterLoan.{revalued}
 use Rattle.lhm_ring.specs.Tables.{TableState, WritesOnly}
 use Rattle.lhm_ring.specs.TableAfterLoan.{with_value}
-use Rattle.lhm_ring.specs.Search.{HasKey}
+use Rattle.linked_hash_map.specs.declared.map.Mode.{Mode}
 use Rattle.linked_hash_map.specs.declared.map.Mode.TheVariants.{Touch, Keep}
-use Rattle.linked_hash_map.specs.Nodes.{pairs_of, bare, before, AreKept, IsKept}
+use Rattle.linked_hash_map.specs.Nodes.{pairs_of, bare, before, bookmark_at, current_at, AreKept, IsKept}
 use Rattle.linked_hash_map.specs.Pairs.{value_at, put}
 use Rattle.linked_hash_map.specs.Indexes.{IsIndex, set_value_at}
+use Rattle.linked_hash_map.specs.Touches.{IsTouched}
+use Rattle.linked_hash_map.proofs.EntryFacts.{slice_get-set_value_at}
+use Rattle.linked_hash_map.proofs.Growth.{IsKept-room}
 use Rattle.linked_hash_map.proofs.Pairs.{put-present}
-use Rattle.linked_hash_map.proofs.Indexes.{length-others, set_value_at-pushed, slice_get-pushed, set_value-index, is_some-index, to_back-index, value_at-index}
-use Rattle.linked_hash_map.proofs.Kept.{CutAt, cut_before, length-pairs_of, pair_there, pairs_set}
-use Rattle.linked_hash_map.proofs.Current.{key_lies, key_index, found_lies, IsKept-visited, IsKept-with_value}
-use Rattle.linked_hash_map.proofs.MovedNode.{pairs-moved, length-to_back, before-at_back, AreKept-moved}
+use Rattle.linked_hash_map.proofs.Indexes.{length-others, set_value_at-pushed, slice_get-pushed, set_value-index, is_some-index, to_back-index, value_at-slice_get}
+use Rattle.linked_hash_map.proofs.Kept.{CutAt, cut_before, bare-change, before-bare, keys-bare, length-bare, length-pairs_of, length-same, pair_there, pairs_set}
+use Rattle.linked_hash_map.proofs.Current.{current_at-Some, current_lies, current_nodes, IsKept-visited, IsKept-with_value}
+use Rattle.linked_hash_map.proofs.MovedNode.{pairs-moved, length-to_back, before-at_back, AreKept-moved, to_visit-moved, behind-moved}
+use Rattle.linked_hash_map.proofs.Outside.{IsElsewhere}
 
-module _ {K V : Type 0} {eq : K → K → Bool} (laws : IsEquivalence eq) {hash : ℕ} {k : K} {hs : List (Held (K × V))} {p : Ptr} (has : HasKey eq hash k hs p) (distinct : IsDistinct eq (keys_of (pairs_of hs))) where
-  index : IsIndex eq (pairs_of hs) k (before p hs)
-  index = key_index has
+-- hs are the nodes before, and ks those after
+module _ {K V : Type 0} (hs ks : List (Held (K × V))) (p : Ptr) (lies : before p hs < length hs) where
+  at_end : AtHeld hs p (λ xs x ys. ks ≡ (xs ++ ys) ++ x ∷ []) → IsApart (map (λ t. t.at) hs) → (pair : K × V) → slice_get (pairs_of hs) (before p hs) ≡ Some pair → before p ks ≡ length (remove (pairs_of hs) (before p hs))
+  at_end last apart pair there = before-at_back hs ks last lies apart ∙ ap (λ n. n - 1) (sym (length-pairs_of hs)) ∙ length-others (pairs_of hs) (before p hs) pair there
 
-  cut : CutAt p hs
-  cut = cut_before p hs (key_lies has)
+  pub touched_cut : (mode : Mode) → IsTouched mode p hs ks → CutAt p ks
+  touched_cut Touch moved =
+      let at_back = before-at_back hs ks moved.0 lies moved.1 in
+      let long = length-to_back hs ks moved.0 lies in
+      cut_before p ks (omega (arith, at_back, long, lies))
+  touched_cut Keep same = subst (CutAt p) (sym same) (cut_before p hs lies)
 
-  -- in its place
-  pub pairs-kept : WritesOnly hs p → (w : V) → pairs_of (change_at p (revalued w) hs) ≡ put eq Keep (pairs_of hs) k w
-  pairs-kept alone w =
-      pairs_set cut.held alone w ∙ ap (λ i. set_value_at (pairs_of hs) i w) cut.long
-      ∙ sym (set_value-index laws distinct index w) ∙ put-present eq (pairs_of hs) k w (is_some-index laws distinct index)
+  length-touched : (mode : Mode) → IsTouched mode p hs ks → length ks ≡ length hs
+  length-touched Touch moved = length-to_back hs ks moved.0 lies
+  length-touched Keep same = ap length same
 
-  pub value-kept : {v : V} → AtHeld hs p (λ xs t ys. v ≡ t.pair.1) → Some v ≡ value_at eq (pairs_of hs) k
-  value-kept there =
-      let h = cut.held in
-      ap Some (there h.0 h.1 h.2 h.3 h.4) ∙ value_at-index laws distinct index (ap (slice_get (pairs_of hs)) (sym cut.long) ∙ pair_there h)
+  slice_get-touched : (mode : Mode) → IsTouched mode p hs ks → (pair : K × V) → slice_get (pairs_of hs) (before p hs) ≡ Some pair → slice_get (pairs_of ks) (before p ks) ≡ Some pair
+  slice_get-touched Touch moved pair there = slice_get-pushed (remove (pairs_of hs) (before p hs)) (pairs_of ks) pair (before p ks) (pairs-moved hs ks moved.0 lies pair there) (at_end moved.0 moved.1 pair there)
+  slice_get-touched Keep same pair there = subst (λ (ns : List (Held (K × V))). slice_get (pairs_of ns) (before p ns) ≡ Some pair) (sym same) there
 
-  -- moved to the back, where ks are the nodes
-  module _ {ks : List (Held (K × V))} (last : AtHeld hs p (λ xs x ys. ks ≡ (xs ++ ys) ++ x ∷ [])) (apart : IsApart (map (λ t. t.at) hs)) where
-    cut_last : CutAt p ks
-    cut_last =
-        let at_back = before-at_back hs ks last (key_lies has) apart in
-        let long = length-to_back hs ks last (key_lies has) in
-        let lies = key_lies has in
-        cut_before p ks (omega (arith, at_back, long, lies))
+  module _ (mode : Mode) (touched : IsTouched mode p hs ks) where
+    -- the value that is read is that of the pair
+    pub value-touched : {v : V} → AtHeld ks p (λ xs t ys. v ≡ t.pair.1) → option_map (λ pair. pair.1) (slice_get (pairs_of hs) (before p hs)) ≡ Some v
+    value-touched at =
+        let old = cut_before p hs lies in
+        let new = touched_cut mode touched in
+        let g = old.held in
+        let h = new.held in
+        let here = ap (slice_get (pairs_of hs)) (sym old.long) ∙ pair_there g in
+        let own = ap (slice_get (pairs_of ks)) (sym new.long) ∙ pair_there h in
+        ap (option_map (λ pair. pair.1)) (here ∙ sym (slice_get-touched mode touched g.1.pair here) ∙ own) ∙ ap Some (sym (at h.0 h.1 h.2 h.3 h.4))
 
-    pub held-touched : IsHeld ks p
-    held-touched = cut_last.held
+    set-touched : WritesOnly ks p → (w : V) → pairs_of (change_at p (revalued w) ks) ≡ set_value_at (pairs_of ks) (before p ks) w
+    set-touched alone w = let cut = touched_cut mode touched in pairs_set cut.held alone w ∙ ap (λ i. set_value_at (pairs_of ks) i w) cut.long
 
-    pushed : pairs_of ks ≡ remove (pairs_of hs) (before p hs) ++ index.pair ∷ []
-    pushed = pairs-moved hs ks last (key_lies has) index.pair index.there
+    -- the pair has the value that is written
+    pub pair-touched : WritesOnly ks p → (w : V) (pair : K × V) → slice_get (pairs_of hs) (before p hs) ≡ Some pair → slice_get (pairs_of (change_at p (revalued w) ks)) (before p (change_at p (revalued w) ks)) ≡ Some (pair.0, w)
+    pair-touched alone w pair there =
+        let ls = change_at p (revalued w) ks in
+        ap (slice_get (pairs_of ls)) (sym (before-bare p ls) ∙ ap (before p) (bare-change p w ks) ∙ before-bare p ks)
+        ∙ ap (λ ps. slice_get ps (before p ks)) (set-touched alone w)
+        ∙ slice_get-set_value_at (pairs_of ks) (before p ks) w pair (slice_get-touched mode touched pair there)
 
-    at_end : before p ks ≡ length (remove (pairs_of hs) (before p hs))
-    at_end = before-at_back hs ks last (key_lies has) apart ∙ ap (λ n. n - 1) (sym (length-pairs_of hs)) ∙ length-others (pairs_of hs) (before p hs) index.pair index.there
+    pub length-put : (w : V) → length (pairs_of (change_at p (revalued w) ks)) ≡ length (pairs_of hs)
+    length-put w = length-pairs_of _ ∙ length-same _ ks (bare-change p w ks) ∙ length-touched mode touched ∙ sym (length-pairs_of hs)
 
-    pub pairs-touched : WritesOnly ks p → (w : V) → pairs_of (change_at p (revalued w) ks) ≡ put eq Touch (pairs_of hs) k w
-    pairs-touched alone w =
-        pairs_set cut_last.held alone w ∙ ap (λ i. set_value_at (pairs_of ks) i w) cut_last.long
-        ∙ set_value_at-pushed (remove (pairs_of hs) (before p hs)) (pairs_of ks) index.pair (before p ks) pushed at_end w
+  -- the pair of a key
+  module _ {eq : K → K → Bool} (laws : IsEquivalence eq) {k : K} (index : IsIndex eq (pairs_of hs) k (before p hs)) (distinct : IsDistinct eq (keys_of (pairs_of hs))) where
+    pub pairs-put : (mode : Mode) → IsTouched mode p hs ks → WritesOnly ks p → (w : V) → pairs_of (change_at p (revalued w) ks) ≡ put eq mode (pairs_of hs) k w
+    pairs-put Touch moved alone w =
+        set-touched Touch moved alone w
+        ∙ set_value_at-pushed (remove (pairs_of hs) (before p hs)) (pairs_of ks) index.pair (before p ks) (pairs-moved hs ks moved.0 lies index.pair index.there) (at_end moved.0 moved.1 index.pair index.there) w
         ∙ sym (to_back-index laws distinct index index.there w)
+    pairs-put Keep same alone w =
+        set-touched Keep same alone w ∙ ap (λ (ns : List (Held (K × V))). set_value_at (pairs_of ns) (before p ns) w) same
+        ∙ sym (set_value-index laws distinct index w) ∙ put-present eq (pairs_of hs) k w (is_some-index laws distinct index)
 
-    pub value-touched : {v : V} → AtHeld ks p (λ xs t ys. v ≡ t.pair.1) → Some v ≡ value_at eq (pairs_of hs) k
-    value-touched there =
-        let h = cut_last.held in
-        let same : Some h.1.pair ≡ Some index.pair =
-        sym (pair_there h) ∙ ap (slice_get (pairs_of ks)) cut_last.long ∙ slice_get-pushed (remove (pairs_of hs) (before p hs)) (pairs_of ks) index.pair (before p ks) pushed at_end in
-        ap Some (there h.0 h.1 h.2 h.3 h.4) ∙ ap (λ o. option_map (λ pair. pair.1) o) same ∙ value_at-index laws distinct index index.there
+    pub value_at-touched : (mode : Mode) → IsTouched mode p hs ks → {v : V} → AtHeld ks p (λ xs t ys. v ≡ t.pair.1) → Some v ≡ value_at eq (pairs_of hs) k
+    value_at-touched mode touched at = sym (value_at-slice_get laws distinct index ∙ value-touched mode touched at)
 
--- a map whose pair was touched or kept, with no pair to visit and no current one
-module _ {K V : Type 0} {eq : K → K → Bool} {hash : K → ℕ} {s : TableState (K × V)} {mark current : Option Ptr} {n : ℕ} (kept : IsKept eq hash s mark n current) where
-  pub IsKept-kept : (p : Ptr) (w : V) → IsKept eq hash (with_value s p w) None 0 None
-  IsKept-kept p w = IsKept-with_value (IsKept-visited kept None tt) p w
+-- the current pair is none of those to visit
+abbrev pub IsOutsideAt : {K : Type 0} → Option Ptr → Option Ptr → ℕ → List (Held K) → Type 0
+IsOutsideAt current mark n us = (current_at current us < bookmark_at mark us) ⊎ (bookmark_at mark us + n ≤ current_at current us)
 
-  pub IsKept-refreshed : IsEquivalence eq → {hash_k : ℕ} {k : K} {p : Ptr} → HasKey eq hash_k k s.held p → {t : TableState (K × V)} → AtHeld s.held p (λ xs x ys. t.held ≡ (xs ++ ys) ++ x ∷ []) → t.capacity ≡ s.capacity → IsKept eq hash t None 0 None
-  IsKept-refreshed laws {p = p} has {t} last capacity =
-      let visited = IsKept-visited kept (Some p) (found_lies has) in
-      let nodes : AreKept eq hash (bare t.held) t.capacity None 0 (Some p) =
-      subst (λ i. AreKept eq hash (bare t.held) i None 0 (Some p)) (sym capacity) (AreKept-moved s.held t.held last (key_lies has) laws visited.nodes (inr (omega arith))) in
-      let moved : IsKept eq hash t None 0 (Some p) = record { nodes = nodes } in
-      IsKept-visited moved None tt
+-- the same pairs in as much room
+same_room : {K V : Type 0} {eq : K → K → Bool} {hash : K → ℕ} {s t : TableState (K × V)} {mark current : Option Ptr} {n : ℕ} → IsKept eq hash s mark n current → t.held ≡ s.held → t.capacity ≡ s.capacity → IsKept eq hash t mark n current
+same_room {s = s} kept same capacity =
+    let within = kept.nodes.within in
+    let limit = kept.nodes.limit in
+    let of_bare = length-bare s.held in
+    IsKept-room kept same (omega (arith, within, of_bare, capacity)) (omega (arith, limit, capacity))
 
-  pub IsKept-touched : IsEquivalence eq → {hash_k : ℕ} {k : K} {p : Ptr} → HasKey eq hash_k k s.held p → {t : TableState (K × V)} → AtHeld s.held p (λ xs x ys. t.held ≡ (xs ++ ys) ++ x ∷ []) → t.capacity ≡ s.capacity → (w : V) → IsKept eq hash (with_value t p w) None 0 None
-  IsKept-touched laws {p = p} has last capacity w = IsKept-with_value (IsKept-refreshed laws has last capacity) p w
+-- the current pair, which is none of those to visit
+module _ {K V : Type 0} {eq : K → K → Bool} (laws : IsEquivalence eq) {hash : K → ℕ} {s : TableState (K × V)} (t : TableState (K × V)) {mark current : Option Ptr} {n : ℕ} {p : Ptr} (kept : IsKept eq hash s mark n current) (is : current ≡ Some p) (elsewhere : IsElsewhere p s.held mark n) where
+  IsKept-touched : (mode : Mode) → IsTouched mode p s.held t.held → t.capacity ≡ s.capacity → IsKept eq hash t mark n current
+  IsKept-touched Touch moved capacity = record {
+    nodes = subst (λ o. AreKept eq hash (bare t.held) t.capacity mark n o) (sym is)
+        (subst (λ k. AreKept eq hash (bare t.held) k mark n (Some p)) (sym capacity) (AreKept-moved s.held t.held moved.0 (current_lies kept is) laws (current_nodes kept is) elsewhere));
+  }
+  IsKept-touched Keep same capacity = same_room kept same capacity
+
+  pub IsKept-put_current : (mode : Mode) → IsTouched mode p s.held t.held → t.capacity ≡ s.capacity → (w : V) → IsKept eq hash (with_value t p w) mark n current
+  IsKept-put_current mode touched capacity w = IsKept-with_value (IsKept-touched mode touched capacity) p w
+
+  to_visit-touched : (mode : Mode) → IsTouched mode p s.held t.held → take n (drop (bookmark_at mark (bare t.held)) (keys_of (pairs_of t.held))) ≡ take n (drop (bookmark_at mark (bare s.held)) (keys_of (pairs_of s.held)))
+  to_visit-touched Touch moved = to_visit-moved s.held t.held moved.0 (current_lies kept is) laws (current_nodes kept is) elsewhere
+  to_visit-touched Keep same = ap (λ (ns : List (Held (K × V))). take n (drop (bookmark_at mark (bare ns)) (keys_of (pairs_of ns)))) same
+
+  pub to_visit-put : (mode : Mode) → IsTouched mode p s.held t.held → (w : V) → take n (drop (bookmark_at mark (bare (change_at p (revalued w) t.held))) (keys_of (pairs_of (change_at p (revalued w) t.held)))) ≡ take n (drop (bookmark_at mark (bare s.held)) (keys_of (pairs_of s.held)))
+  to_visit-put mode touched w =
+      let ls = change_at p (revalued w) t.held in
+      ap (λ ks. take n (drop (bookmark_at mark (bare ls)) ks)) (sym (keys-bare ls))
+      ∙ ap (λ (us : List (Held K)). take n (drop (bookmark_at mark us) (map (λ u. u.pair) us))) (bare-change p w t.held)
+      ∙ ap (λ ks. take n (drop (bookmark_at mark (bare t.held)) ks)) (keys-bare t.held)
+      ∙ to_visit-touched mode touched
+
+  elsewhere-touched : (mode : Mode) → IsTouched mode p s.held t.held → IsElsewhere p t.held mark n
+  elsewhere-touched Touch moved = inr (behind-moved s.held t.held moved.0 (current_lies kept is) laws (current_nodes kept is) elsewhere moved.1)
+  elsewhere-touched Keep same = subst (λ (ns : List (Held (K × V))). IsElsewhere p ns mark n) (sym same) elsewhere
+
+  pub outside-put : (mode : Mode) → IsTouched mode p s.held t.held → (w : V) → IsOutsideAt current mark n (bare (change_at p (revalued w) t.held))
+  outside-put mode touched w =
+      subst (λ (us : List (Held K)). IsOutsideAt current mark n us) (sym (bare-change p w t.held))
+      (subst (λ k. (k < bookmark_at mark (bare t.held)) ⊎ (bookmark_at mark (bare t.held) + n ≤ k)) (sym (current_at-Some is t.held)) (elsewhere-touched mode touched))
+
+-- with nothing to visit, and no current pair
+pub IsKept-put : {K V : Type 0} {eq : K → K → Bool} → IsEquivalence eq → {hash : K → ℕ} {s : TableState (K × V)} (t : TableState (K × V)) {mark current : Option Ptr} {n : ℕ} (p : Ptr) → IsKept eq hash s mark n current → before p (bare s.held) < length (bare s.held) → (mode : Mode) → IsTouched mode p s.held t.held → t.capacity ≡ s.capacity → (w : V) → IsKept eq hash (with_value t p w) None 0 None
+IsKept-put laws t p kept lies mode touched capacity w =
+    IsKept-visited (IsKept-put_current laws t (IsKept-visited kept (Some p) lies) refl (inr (omega arith)) mode touched capacity w) None tt

@@ -80,7 +80,7 @@ pub enum Mode {
 /// [`LIMIT`].
 ///
 /// A lookup is O(1) on average: it hashes its key once and compares only keys with the same hash in
-/// one bucket. There are as many buckets as the next power of two from the capacity on, or 0 at
+/// one bucket. There are as many buckets as the capacity, rounded up to a power of two, and none at
 /// capacity 0. Dropping a map drops its pairs, in O(capacity).
 ///
 /// # Examples

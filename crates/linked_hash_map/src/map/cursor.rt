@@ -1,7 +1,7 @@
 //! Where a cursor or an entry stands: the pairs left to visit, and the pair of an entry.
 //!
 //! The contracts speak of indexes into the list of pairs, which no public call does.
-ghost use Rattle.std.specs.Prelude.{◌≡◌, ◌<◌, [], length, option_map, None, ◌-◌, ◌++◌, ◌∷◌, map, remove, slice_get, Some, IsTrue, IsFalse};
+ghost use Rattle.std.specs.Prelude.{◌≡◌, ◌<◌, [], length, option_map, None, ◌∷◌, map, remove, slice_get, Some, IsTrue, IsFalse};
 ghost use Rattle.std.specs.Map.{keys_of};
 ghost use Rattle.std.specs.Borrow.{sem};
 ghost use Rattle.linked_hash_map.specs.Pairs.{find, put};
@@ -15,7 +15,8 @@ ghost use Rattle.lhm_ring.specs.Cells.{IsApart};
 ghost use Rattle.lhm_ring.specs.Positions.{pointer_of, pointer_of_some};
 ghost use Rattle.lhm_ring.specs.RingState.{IsHeld, AtHeld, first_at};
 
-use super::{LinkedHashMap, Mode};
+use super::LinkedHashMap;
+use super::insert::touch;
 use lhm_ring::table::{Position, Table};
 use std::alloc::AllocError;
 use std::hash::{BuildHasher, Hash};
@@ -219,23 +220,6 @@ impl<K: Eq + Hash, V, S: BuildHasher> LinkedHashMap<K, V, S> {
         self.table.value_mut(at)
     }
 
-    /// Moves the current pair to the back. It stays current.
-    pub(crate) fn move_current_to_back(&mut self)
-        requires within { self.old.cursor.current < length self.old.pairs }
-        requires outside { IsOutside self.old.cursor.current self.old }
-        ensures pairs { (pair : K × V) → slice_get self.old.pairs self.old.cursor.current ≡ Some pair →
-            self.new.pairs ≡ remove self.old.pairs self.old.cursor.current ++ pair ∷ [] }
-        ensures current { self.new.cursor.current ≡ length self.old.pairs - 1 }
-        ensures keeps { Keeps self.old self.new }
-        ensures to_visit { to_visit self.new ≡ to_visit self.old }
-        ensures outside { IsOutside self.new.cursor.current self.new }
-        ensures valid { IsValid K.eq self.old }
-        ensures stays_valid { IsValid K.eq self.new }
-    {
-        let at = self.visit.current().unwrap();
-        self.table.move_to_back(at);
-    }
-
     /// Replaces the value of the current pair and returns the old one. The pair stays current and
     /// moves to the back, or in `Keep` stays in its place.
     #[inline]
@@ -254,13 +238,9 @@ impl<K: Eq + Hash, V, S: BuildHasher> LinkedHashMap<K, V, S> {
         ensures valid { IsValid K.eq self.old }
         ensures stays_valid { IsValid K.eq self.new }
     {
-        match self.mode {
-            Mode::Touch => {
-                self.move_current_to_back();
-                mem::replace(self.current_value_mut(), value)
-            }
-            Mode::Keep => mem::replace(self.current_value_mut(), value),
-        }
+        let at = self.visit.current().unwrap();
+        touch(&mut self.table, at, self.mode);
+        mem::replace(self.table.value_mut(at), value)
     }
 
     /// Removes and returns the current pair. None is then current.

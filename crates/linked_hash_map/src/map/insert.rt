@@ -7,11 +7,29 @@ ghost use Rattle.linked_hash_map.specs.Changes.{Keeps};
 ghost use Rattle.linked_hash_map.specs.Validity.{IsValid};
 ghost use Rattle.linked_hash_map.specs.Hashers.{hash_by};
 ghost use Rattle.linked_hash_map.specs.Counts.{rechained_raised};
+ghost use Rattle.linked_hash_map.specs.Touches.{IsTouched};
+ghost use Rattle.lhm_ring.specs.Positions.{pointer_of};
+ghost use Rattle.lhm_ring.specs.RingState.{IsHeld};
 
 use super::{LinkedHashMap, Mode};
 use crate::error::Refused;
+use lhm_ring::table::{Position, Table};
 use std::hash::{BuildHasher, Hash};
 use std::mem;
+
+/// Moves the pair at a position to the back, or in `Keep` leaves it in its place.
+#[inline]
+pub(super) fn touch<K, V>(table: &mut Table<K, V>, at: Position<K, V>, mode: Mode)
+    requires { IsHeld table.old.held (pointer_of at) }
+    ensures touched { IsTouched mode (pointer_of at) table.old.held table.new.held }
+    ensures capacity { table.new.capacity ≡ table.old.capacity }
+    ensures rechained { table.new.rechained ≡ table.old.rechained }
+{
+    match mode {
+        Mode::Touch => table.move_to_back(at),
+        Mode::Keep => {}
+    }
+}
 
 impl<K: Eq + Hash, V, S: BuildHasher> LinkedHashMap<K, V, S> {
     ghost use Rattle.linked_hash_map.specs.Lends.{lends_at};
@@ -88,13 +106,8 @@ impl<K: Eq + Hash, V, S: BuildHasher> LinkedHashMap<K, V, S> {
             return Err(value);
         };
         self.visit.active = false;
-        match self.mode {
-            Mode::Touch => {
-                self.table.move_to_back(found);
-                Ok(mem::replace(self.table.value_mut(found), value))
-            }
-            Mode::Keep => Ok(mem::replace(self.table.value_mut(found), value)),
-        }
+        touch(&mut self.table, found, self.mode);
+        Ok(mem::replace(self.table.value_mut(found), value))
     }
 
     /// Inserts a pair of an absent key, which has this hash, at the back, below the capacity.

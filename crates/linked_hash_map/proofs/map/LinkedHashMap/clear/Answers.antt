@@ -1,14 +1,10 @@
 use Rattle.std.proofs.Common.{refl}
 use Rattle.linked_hash_map.proofs.Growth.{IsKept-none}
 use Rattle.linked_hash_map.proofs.Kept.{IsValid-view}
-use Rattle.linked_hash_map.proofs.Stretches.{stretch-nil}
 use Rattle.linked_hash_map.proofs.map.LinkedHashMap.clear.Goals as goal
 
 pub invariant_of-self : goal.invariant_of-self
 invariant_of-self g c = IsKept-none refl c.self.invariant.nodes.limit
-
-pub returns-clause-ends_visit : goal.returns-clause-ends_visit
-returns-clause-ends_visit g c = stretch-nil _ _ _ refl
 
 pub returns-clause-valid : goal.returns-clause-valid
 returns-clause-valid g c = rw (← c.self.view_is) (IsValid-view c.self.invariant refl refl)

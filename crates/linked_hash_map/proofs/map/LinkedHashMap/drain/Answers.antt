@@ -13,7 +13,7 @@ returns g c =
       (sym c.new.ensures.name, λ _. refl),
       record {
         writes_back = tt;
-        rest = rest_drained c.new.result c.new.ensures.rest c.drain.ensures.rest;
+        rest = rest_drained c.new.result _ c.self.inside.table.held c.new.ensures.rest c.drain.ensures.rest;
         valid = IsValid-view c.self.invariant refl refl;
         runs = drains_in_order;
         runs_back = drains_in_reverse;

@@ -1,19 +1,21 @@
 use Rattle.std.proofs.Common.{None, option_map, fold, refl, inl, ap, sym}
 use Rattle.lhm_ring.specs.Positions.{pointer_of}
 use Rattle.lhm_ring.specs.Search.{HasKey, IsAbsent}
+use Rattle.linked_hash_map.specs.declared.map.Mode.TheVariants.{Touch}
 use Rattle.linked_hash_map.specs.Nodes.{map_of, beside}
 use Rattle.linked_hash_map.specs.Hashers.{hash_by}
 use Rattle.linked_hash_map.proofs.Kept.{IsValid-view, of-Some, of-None, absent_key, distinct_keys}
-use Rattle.linked_hash_map.proofs.PutPair.{held-touched, pairs-touched, value-touched, IsKept-touched}
+use Rattle.linked_hash_map.proofs.Current.{key_lies, key_index, found_lies}
+use Rattle.linked_hash_map.proofs.PutPair.{touched_cut, pairs-put, value_at-touched, IsKept-put}
 use Rattle.linked_hash_map.proofs.map.LinkedHashMap.get_refresh.Goals as goal
 
 pub value_mut-requires : goal.value_mut-requires
-value_mut-requires g c = held-touched g.met.K.Eq.laws (of-Some (λ p. HasKey g.K.PartialEq.eq c.hash_one-hash.result c.args.key.now c.self.inside.table.held (pointer_of p)) c.find.result.0 c.in-Some.at c.in-Some.is c.find.ensures.found) (distinct_keys c.self.invariant) c.move_to_back.ensures.last c.move_to_back.ensures.apart
+value_mut-requires g c = (touched_cut c.self.inside.table.held c.move_to_back.new.self.held (pointer_of c.in-Some.at) (key_lies (of-Some (λ p. HasKey g.K.PartialEq.eq c.hash_one-hash.result c.args.key.now c.self.inside.table.held (pointer_of p)) c.find.result.0 c.in-Some.at c.in-Some.is c.find.ensures.found)) Touch (c.move_to_back.ensures.last, c.move_to_back.ensures.apart)).held
 
 pub invariant_of-self-lent : goal.invariant_of-self-lent
 invariant_of-self-lent g c w =
     let moved = c.move_to_back.ensures in
-    IsKept-touched c.self.invariant g.met.K.Eq.laws (of-Some (λ p. HasKey g.K.PartialEq.eq c.hash_one-hash.result c.args.key.now c.self.inside.table.held (pointer_of p)) c.find.result.0 c.in-Some.at c.in-Some.is c.find.ensures.found) moved.last moved.capacity w
+    IsKept-put g.met.K.Eq.laws c.move_to_back.new.self (pointer_of c.in-Some.at) c.self.invariant (found_lies (of-Some (λ p. HasKey g.K.PartialEq.eq c.hash_one-hash.result c.args.key.now c.self.inside.table.held (pointer_of p)) c.find.result.0 c.in-Some.at c.in-Some.is c.find.ensures.found)) Touch (moved.last, moved.apart) moved.capacity w
 
 pub returns-in-Some : goal.returns-in-Some
 returns-in-Some g c =
@@ -25,14 +27,14 @@ returns-in-Some g c =
       (λ i. inl (
         c.value_mut.result.ghost_name,
         λ w. record (map_of m.table (record (beside m.hasher m.visit m.mode) { mark = None; unvisited = 0; current = None })) {
-          pairs = pairs-touched g.met.K.Eq.laws has distinct moved.last moved.apart c.value_mut.ensures.alone w i;
+          pairs = pairs-put c.self.inside.table.held c.move_to_back.new.self.held (pointer_of c.in-Some.at) (key_lies has) g.met.K.Eq.laws (key_index has) distinct Touch (moved.last, moved.apart) c.value_mut.ensures.alone w i;
           capacity = moved.capacity i;
           rechained = moved.rechained i;
         },
       )),
       record {
         writes_back = tt;
-        value = value-touched g.met.K.Eq.laws has distinct moved.last moved.apart c.value_mut.ensures.value;
+        value = value_at-touched c.self.inside.table.held c.move_to_back.new.self.held (pointer_of c.in-Some.at) (key_lies has) g.met.K.Eq.laws (key_index has) distinct Touch (moved.last, moved.apart) c.value_mut.ensures.value;
         valid = IsValid-view c.self.invariant refl refl;
       },
     )

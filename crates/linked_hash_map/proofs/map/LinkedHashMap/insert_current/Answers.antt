@@ -1,86 +1,72 @@
-use Rattle.std.proofs.Common.{Some, ◌++◌, ◌∷◌, [], remove, length, take, drop, option_map, sym, ap, ◌∙◌}
+use Rattle.std.proofs.Common.{Some, slice_get, option_map, refl, sym, ap, ◌∙◌, subst}
+use Rattle.lhm_ring.specs.Positions.{pointer_of}
+use Rattle.lhm_ring.specs.RingState.{change_at}
+use Rattle.lhm_ring.specs.RingAfterLoan.{revalued}
+use Rattle.linked_hash_map.specs.Nodes.{pairs_of}
+use Rattle.linked_hash_map.specs.Indexes.{IsIndex}
 use Rattle.linked_hash_map.specs.Pairs.{put}
-use Rattle.linked_hash_map.specs.Indexes.{set_value_at, length-set_value_at}
-use Rattle.linked_hash_map.proofs.Pairs.{put-present}
-use Rattle.linked_hash_map.proofs.Indexes.{slice_get-within, some-within, length-others, length-moved, set_value_at-pushed, slice_get-pushed, keys_of-set_value_at, IsValid-set_value_at, to_back-index, set_value-index, is_some-index}
-use Rattle.linked_hash_map.proofs.EntryFacts.{slice_get-set_value_at}
+use Rattle.linked_hash_map.proofs.Kept.{distinct_keys, IsValid-view}
+use Rattle.linked_hash_map.proofs.Current.{current_of-Some, current_at-Some, current_lies, current_cut, current_elsewhere}
+use Rattle.linked_hash_map.proofs.PutPair.{touched_cut, value-touched, pair-touched, pairs-put, length-put, IsKept-put_current, to_visit-put, outside-put}
 use Rattle.linked_hash_map.proofs.map.LinkedHashMap.insert_current.Goals as goal
 
-pub current_value_mut-requires : goal.current_value_mut-requires
-current_value_mut-requires g c =
-    let old = c.args.self.now in
-    let moved = c.move_current_to_back in
-    let some = some-within old.pairs old.cursor.current c.requires.within in
-    let at_end = moved.ensures.current ∙ length-others old.pairs old.cursor.current some.0 some.1 in
-    slice_get-within moved.new.self.pairs moved.new.self.cursor.current some.0
-    (slice_get-pushed (remove old.pairs old.cursor.current) moved.new.self.pairs some.0 moved.new.self.cursor.current (moved.ensures.pairs some.0 some.1) at_end)
+pub touch-requires : goal.touch-requires
+touch-requires g c = (current_cut c.self.invariant (current_of-Some c.current.ensures c.unwrap-at.ensures)).held
 
-pub returns-in-Touch-clause-pairs : goal.returns-in-Touch-clause-pairs
-returns-in-Touch-clause-pairs g c key index =
+pub value_mut-requires : goal.value_mut-requires
+value_mut-requires g c = (touched_cut c.self.inside.table.held c.touch.new.table.held (pointer_of c.unwrap-at.result) (current_lies c.self.invariant (current_of-Some c.current.ensures c.unwrap-at.ensures)) c.self.inside.mode c.touch.ensures.touched).held
+
+pub invariant_of-self : goal.invariant_of-self
+invariant_of-self g c =
+    let is = current_of-Some c.current.ensures c.unwrap-at.ensures in
+    let elsewhere = current_elsewhere c.self.invariant is c.args.self.now (ap (λ m. m.cursor) c.self.view_is) c.requires.outside in
+    IsKept-put_current g.met.K.Eq.laws c.touch.new.table c.self.invariant is elsewhere c.self.inside.mode c.touch.ensures.touched c.touch.ensures.capacity c.replace.new.dest
+
+pub returns-clause-pairs : goal.returns-clause-pairs
+returns-clause-pairs g c =
+    let m = c.self.inside in
     let eq = g.K.PartialEq.eq in
-    let old = c.args.self.now in
-    let moved = c.move_current_to_back in
-    let at_end = moved.ensures.current ∙ length-others old.pairs old.cursor.current index.pair index.there in
-    set_value_at-pushed (remove old.pairs old.cursor.current) moved.new.self.pairs index.pair moved.new.self.cursor.current (moved.ensures.pairs index.pair index.there) at_end c.replace.new.dest
-    ∙ ap (λ v. remove old.pairs old.cursor.current ++ (index.pair.0, v) ∷ []) c.replace.ensures.after
-    ∙ sym (to_back-index g.met.K.Eq.laws moved.ensures.valid.distinct index index.there c.args.value)
-    ∙ ap (λ mode. put eq mode old.pairs key c.args.value) (sym c.in-Touch.is ∙ ap (λ m. m.mode) c.self.view_is)
+    let is = current_of-Some c.current.ensures c.unwrap-at.ensures in
+    rw (← c.self.view_is) (λ key index.
+    pairs-put c.self.inside.table.held c.touch.new.table.held (pointer_of c.unwrap-at.result) (current_lies c.self.invariant is) g.met.K.Eq.laws (subst (IsIndex eq (pairs_of m.table.held) key) (current_at-Some is m.table.held) index) (distinct_keys c.self.invariant) m.mode c.touch.ensures.touched c.value_mut.ensures.alone c.replace.new.dest
+    ∙ ap (put eq m.mode (pairs_of m.table.held) key) c.replace.ensures.after)
 
-pub returns-in-Touch-clause-pair : goal.returns-in-Touch-clause-pair
-returns-in-Touch-clause-pair g c pair there =
-    let old = c.args.self.now in
-    let moved = c.move_current_to_back in
-    let at_end = moved.ensures.current ∙ length-others old.pairs old.cursor.current pair there in
-    let last = slice_get-pushed (remove old.pairs old.cursor.current) moved.new.self.pairs pair moved.new.self.cursor.current (moved.ensures.pairs pair there) at_end in
-    slice_get-set_value_at moved.new.self.pairs moved.new.self.cursor.current c.replace.new.dest pair last ∙ ap (λ v. Some (pair.0, v)) c.replace.ensures.after
+pub returns-clause-pair : goal.returns-clause-pair
+returns-clause-pair g c =
+    let m = c.self.inside in
+    let is = current_of-Some c.current.ensures c.unwrap-at.ensures in
+    let ls = change_at (pointer_of c.unwrap-at.result) (revalued c.replace.new.dest) c.touch.new.table.held in
+    rw (← c.self.view_is) (λ pair there.
+    ap (slice_get (pairs_of ls)) (current_at-Some is ls)
+    ∙ pair-touched c.self.inside.table.held c.touch.new.table.held (pointer_of c.unwrap-at.result) (current_lies c.self.invariant is) m.mode c.touch.ensures.touched c.value_mut.ensures.alone c.replace.new.dest pair (ap (slice_get (pairs_of m.table.held)) (sym (current_at-Some is m.table.held)) ∙ there)
+    ∙ ap (λ v. Some (pair.0, v)) c.replace.ensures.after)
 
-pub returns-in-Touch-clause-old : goal.returns-in-Touch-clause-old
-returns-in-Touch-clause-old g c =
-    let old = c.args.self.now in
-    let moved = c.move_current_to_back in
-    let some = some-within old.pairs old.cursor.current c.requires.within in
-    let at_end = moved.ensures.current ∙ length-others old.pairs old.cursor.current some.0 some.1 in
-    let last = slice_get-pushed (remove old.pairs old.cursor.current) moved.new.self.pairs some.0 moved.new.self.cursor.current (moved.ensures.pairs some.0 some.1) at_end in
-    ap (option_map (λ pair. pair.1)) (some.1 ∙ sym last) ∙ c.current_value_mut.ensures.value ∙ ap Some (sym c.replace.ensures.value)
+pub returns-clause-old : goal.returns-clause-old
+returns-clause-old g c =
+    let m = c.self.inside in
+    let is = current_of-Some c.current.ensures c.unwrap-at.ensures in
+    rw (← c.self.view_is) (
+    ap (λ k. option_map (λ pair. pair.1) (slice_get (pairs_of m.table.held) k)) (current_at-Some is m.table.held)
+    ∙ value-touched c.self.inside.table.held c.touch.new.table.held (pointer_of c.unwrap-at.result) (current_lies c.self.invariant is) m.mode c.touch.ensures.touched c.value_mut.ensures.value ∙ ap Some (sym c.replace.ensures.value)
+    )
 
-pub returns-in-Touch-clause-len : goal.returns-in-Touch-clause-len
-returns-in-Touch-clause-len g c =
-    let old = c.args.self.now in
-    let moved = c.move_current_to_back in
-    let some = some-within old.pairs old.cursor.current c.requires.within in
-    length-set_value_at moved.new.self.pairs moved.new.self.cursor.current c.replace.new.dest
-    ∙ ap length (moved.ensures.pairs some.0 some.1) ∙ length-moved old.pairs old.cursor.current some.0 some.0 some.1
+pub returns-clause-len : goal.returns-clause-len
+returns-clause-len g c = rw (← c.self.view_is) (length-put c.self.inside.table.held c.touch.new.table.held (pointer_of c.unwrap-at.result) (current_lies c.self.invariant (current_of-Some c.current.ensures c.unwrap-at.ensures)) c.self.inside.mode c.touch.ensures.touched c.replace.new.dest)
 
-pub returns-in-Touch-clause-to_visit : goal.returns-in-Touch-clause-to_visit
-returns-in-Touch-clause-to_visit g c =
-    let moved = c.move_current_to_back in
-    ap (λ ks. take moved.new.self.cursor.unvisited (drop moved.new.self.cursor.bookmark ks)) (keys_of-set_value_at moved.new.self.pairs moved.new.self.cursor.current c.replace.new.dest)
-    ∙ moved.ensures.to_visit
+pub returns-clause-to_visit : goal.returns-clause-to_visit
+returns-clause-to_visit g c =
+    let is = current_of-Some c.current.ensures c.unwrap-at.ensures in
+    let elsewhere = current_elsewhere c.self.invariant is c.args.self.now (ap (λ m. m.cursor) c.self.view_is) c.requires.outside in
+    rw (← c.self.view_is) (to_visit-put g.met.K.Eq.laws c.touch.new.table c.self.invariant is elsewhere c.self.inside.mode c.touch.ensures.touched c.replace.new.dest)
 
-pub returns-in-Touch-clause-stays_valid : goal.returns-in-Touch-clause-stays_valid
-returns-in-Touch-clause-stays_valid g c = IsValid-set_value_at c.move_current_to_back.ensures.stays_valid c.move_current_to_back.new.self.cursor.current c.replace.new.dest
+pub returns-clause-outside : goal.returns-clause-outside
+returns-clause-outside g c =
+    let is = current_of-Some c.current.ensures c.unwrap-at.ensures in
+    let elsewhere = current_elsewhere c.self.invariant is c.args.self.now (ap (λ m. m.cursor) c.self.view_is) c.requires.outside in
+    outside-put g.met.K.Eq.laws c.touch.new.table c.self.invariant is elsewhere c.self.inside.mode c.touch.ensures.touched c.replace.new.dest
 
-pub returns-in-Keep-clause-pairs : goal.returns-in-Keep-clause-pairs
-returns-in-Keep-clause-pairs g c key index =
-    let eq = g.K.PartialEq.eq in
-    let old = c.args.self.now in
-    ap (set_value_at old.pairs old.cursor.current) c.replace-in-Keep.ensures.after
-    ∙ sym (set_value-index g.met.K.Eq.laws c.current_value_mut-in-Keep.ensures.valid.distinct index c.args.value)
-    ∙ put-present eq old.pairs key c.args.value (is_some-index g.met.K.Eq.laws c.current_value_mut-in-Keep.ensures.valid.distinct index)
-    ∙ ap (λ mode. put eq mode old.pairs key c.args.value) (sym c.in-Keep.is ∙ ap (λ m. m.mode) c.self.view_is)
+pub returns-clause-valid : goal.returns-clause-valid
+returns-clause-valid g c = rw (← c.self.view_is) (IsValid-view c.self.invariant refl refl)
 
-pub returns-in-Keep-clause-pair : goal.returns-in-Keep-clause-pair
-returns-in-Keep-clause-pair g c pair there =
-    let old = c.args.self.now in
-    slice_get-set_value_at old.pairs old.cursor.current c.replace-in-Keep.new.dest pair there ∙ ap (λ v. Some (pair.0, v)) c.replace-in-Keep.ensures.after
-
-pub returns-in-Keep-clause-len : goal.returns-in-Keep-clause-len
-returns-in-Keep-clause-len g c = length-set_value_at c.args.self.now.pairs c.args.self.now.cursor.current c.replace-in-Keep.new.dest
-
-pub returns-in-Keep-clause-to_visit : goal.returns-in-Keep-clause-to_visit
-returns-in-Keep-clause-to_visit g c =
-    let old = c.args.self.now in
-    ap (λ ks. take old.cursor.unvisited (drop old.cursor.bookmark ks)) (keys_of-set_value_at old.pairs old.cursor.current c.replace-in-Keep.new.dest)
-
-pub returns-in-Keep-clause-stays_valid : goal.returns-in-Keep-clause-stays_valid
-returns-in-Keep-clause-stays_valid g c = IsValid-set_value_at c.current_value_mut-in-Keep.ensures.valid c.args.self.now.cursor.current c.replace-in-Keep.new.dest
+pub returns-clause-stays_valid : goal.returns-clause-stays_valid
+returns-clause-stays_valid g c = IsValid-view (invariant_of-self g c) refl refl
