@@ -28,6 +28,7 @@ pub mod Options
 pub mod PutBackAndUnlink
 pub mod ReadAtPosition
 pub mod Rearranged
+pub mod Retained
 pub mod Rooms
 pub mod Rows
 pub mod Searches

@@ -8,6 +8,7 @@ pub mod LentRings
 pub mod NodesAfterLoan
 pub mod Ownership
 pub mod Positions
+pub mod Retains
 pub mod RingAfterLoan
 pub mod RingState
 pub mod Rings

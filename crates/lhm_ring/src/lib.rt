@@ -15,6 +15,7 @@ pub(crate) mod links;
 pub(crate) mod nodes;
 pub(crate) mod order;
 pub(crate) mod position;
+pub(crate) mod retain;
 pub mod ring;
 pub(crate) mod splice;
 pub mod table;

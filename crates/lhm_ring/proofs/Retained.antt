@@ -1,0 +1,177 @@
+-- A table as a closure goes over its pairs and keeps some.
+use Rattle.std.proofs.Common.{◌≡◌, ℕ, ◌<◌, Bool, true, false, cond, List, [], ◌∷◌, ◌++◌, map, length, Option, Some, None, refl, sym, ap, ◌∙◌, subst, append_assoc, arith}
+use Rattle.std.proofs.lemmas.List.{map-append}
+use Rattle.std.specs.Map.Calls.{CallableOnEachPair, SomeCallAtPair}
+use denote.RawPtr.{Ptr}
+use Rattle.lhm_ring.specs.Cells.{Cell, cell, same_ptr, IsApart, change, with_body}
+use Rattle.lhm_ring.specs.RingState.{State, Held, IsHeld, AtHeld, first_at, change_at}
+use Rattle.lhm_ring.specs.RingAfterLoan.{revalued}
+use Rattle.lhm_ring.specs.Tables.{TableState, table_of, WritesOnly}
+use Rattle.lhm_ring.specs.Retains.{TakesAt, CallsAt, RetainsAt, RetainsHeld, IsRetaining, left_from}
+use Rattle.lhm_ring.proofs.Apart.{IsFresh, same_ptr_refl}
+use Rattle.lhm_ring.proofs.Rows.{apart_head, apart_tail, apart_out}
+use Rattle.lhm_ring.proofs.Tables.{entries_cut}
+
+-- what a node holds is written twice
+module _ {L B : Type 0} where
+  change_twice : (p : Ptr) (f g : Cell L B → Cell L B) → ((c : Cell L B) → (f c).at ≡ c.at) → ((c : Cell L B) → g (f c) ≡ g c) → (cs : List (Cell L B)) → change p g (change p f cs) ≡ change p g cs
+  unfolding change
+  change_twice p f g same over [] = refl
+  change_twice p f g same over (c ∷ cs) =
+      (elim (same_ptr c.at p) as (λ y. same_ptr c.at p ≡ y → change p g (cond y (f c ∷ cs) (c ∷ change p f cs)) ≡ cond y (g c ∷ cs) (c ∷ change p g cs)) [
+        | true ↦ λ t. ap (λ y. cond y (g (f c) ∷ cs) (f c ∷ change p g cs)) (ap (λ q. same_ptr q p) (same c) ∙ t) ∙ ap (λ d. d ∷ cs) (over c)
+        | false ↦ λ t. ap (λ y. cond y (g c ∷ change p f cs) (c ∷ change p g (change p f cs))) t ∙ ap (λ l. c ∷ l) (change_twice p f g same over cs)
+      ]) refl
+
+  pub body_twice : (p : Ptr) (x : B) (cs : List (Cell L B)) → with_body p (Some x) (with_body p None cs) ≡ with_body p (Some x) cs
+  body_twice p x cs = change_twice p (λ c. cell c.at c.links None) (λ c. cell c.at c.links (Some x)) (λ c. refl) (λ c. refl) cs
+
+-- how many are left, where no two lie at one pointer
+module _ {B : Type 0} where
+  abbrev pub pointers_of : List (Held B) → List Ptr
+  pointers_of hs = map (λ t. t.at) hs
+
+  fresh_in : (p : Ptr) (xs : List (Held B)) (y : Held B) (ys : List (Held B)) → IsFresh p (pointers_of (xs ++ y ∷ ys)) → same_ptr p y.at ≡ false
+  fresh_in p [] y ys f = f.0
+  fresh_in p (x ∷ xs) y ys f = fresh_in p xs y ys f.1
+
+  pub left_from-append : (xs ys : List (Held B)) → IsApart (pointers_of (xs ++ ys)) → left_from (first_at ys) (xs ++ ys) ≡ length ys
+  left_from-append xs [] d = refl
+  left_from-append [] (y ∷ ys) d = ap (λ b. cond b (length (y ∷ ys)) (left_from (Some y.at) ys)) (same_ptr_refl y.at)
+  left_from-append (x ∷ xs) (y ∷ ys) d =
+      ap (λ b. cond b (length (x ∷ (xs ++ y ∷ ys))) (left_from (Some y.at) (xs ++ y ∷ ys))) (fresh_in x.at xs y ys (apart_head x.at (pointers_of (xs ++ y ∷ ys)) d))
+      ∙ left_from-append xs (y ∷ ys) (apart_tail x.at (pointers_of (xs ++ y ∷ ys)) d)
+
+  pub pointers-append : (xs ys : List (Held B)) → pointers_of (xs ++ ys) ≡ pointers_of xs ++ pointers_of ys
+  pointers-append xs ys = map-append (λ (t : Held B). t.at) xs ys
+
+  -- without one of them
+  pub apart-removed : (xs : List (Held B)) (t : Held B) (ys : List (Held B)) → IsApart (pointers_of (xs ++ t ∷ ys)) → IsApart (pointers_of (xs ++ ys))
+  apart-removed xs t ys d =
+      subst IsApart (sym (pointers-append xs ys)) (apart_out (pointers_of xs) t.at (pointers_of ys) (subst IsApart (pointers-append xs (t ∷ ys)) d))
+
+-- a table that is seen as m: where the closure may be called at one of its pairs, it may at that of the ring
+pub taken_in : {F K V : Type 0} (Q : F → K → V → Type 0) (f : F) {p : Ptr} (s : State (K × V)) (r : ℕ) {m : TableState (K × V)} → table_of s r ≡ m → TakesAt Q f m.held p → TakesAt Q f s.held p
+taken_in {F} {K} {V} Q f {p} s r seen h =
+    let i = entries_cut s.held h.0 h.1 h.2 (ap (λ (z : TableState (K × V)). z.held) seen ∙ h.3) in (
+      i.before,
+      i.node,
+      i.after,
+      i.is,
+      ap (λ (t : Held (K × V)). t.at) i.node_is ∙ h.4,
+      subst (λ (t : Held (K × V)). Q f t.pair.0 t.pair.1) (sym i.node_is) h.5,
+    )
+
+-- one call, after which the pair stays with its value or is removed
+module _ {F K V : Type 0} (T : F → K → V → Bool → V → F → Type 0) {f f' : F} {old now : List (Held (K × V))} {p : Ptr} {b : Bool} {w : V} where
+  pub RetainsAt-kept : CallsAt T f old p b w f' → WritesOnly old p → now ≡ change_at p (revalued w) old → b ≡ true → RetainsAt T f old p now f'
+  RetainsAt-kept called alone written kept = (
+    b,
+    w,
+    λ xs t ys e at. (called xs t ys e at, written ∙ alone xs t ys e at w ∙ ap (λ c. xs ++ cond c (revalued w t ∷ ys) ys) (sym kept)),
+  )
+
+  pub RetainsAt-removed : {new : List (Held (K × V))} → CallsAt T f old p b w f' → WritesOnly old p → now ≡ change_at p (revalued w) old → b ≡ false → AtHeld now p (λ xs t ys. new ≡ xs ++ ys) → RetainsAt T f old p new f'
+  RetainsAt-removed called alone written removed others = (
+    b,
+    w,
+    λ xs t ys e at. (called xs t ys e at, others xs (revalued w t) ys (written ∙ alone xs t ys e at w) at ∙ ap (λ c. xs ++ cond c (revalued w t ∷ ys) ys) (sym removed)),
+  )
+
+pub held-written : {K V : Type 0} {old now : List (Held (K × V))} {p : Ptr} (w : V) → WritesOnly old p → now ≡ change_at p (revalued w) old → IsHeld old p → IsHeld now p
+held-written w alone written h = (h.0, revalued w h.1, h.2, written ∙ alone h.0 h.1 h.2 h.3 h.4 w, h.4)
+
+-- the closure may be called at the pairs behind the first
+module _ {F K V : Type 0} (T : F → K → V → Bool → V → F → Type 0) (Q : F → K → V → Type 0) where
+  callable-first : {f : F} {pair : K × V} {pairs : List (K × V)} → CallableOnEachPair T Q f (pair ∷ pairs) → Q f pair.0 pair.1
+  callable-first {f} {pair} {pairs} c = c.at [] pairs f pair.0 pair.1 refl refl
+
+  callable-rest : {f f' : F} {pair : K × V} {pairs : List (K × V)} → CallableOnEachPair T Q f (pair ∷ pairs) → SomeCallAtPair T f pair f' → CallableOnEachPair T Q f' pairs
+  callable-rest {f} {f'} {pair} {pairs} c called = record { at = λ before after g k v is run. c.at (pair ∷ before) after g k v (ap (λ l. pair ∷ l) is) (f', called, run) }
+
+  pub IsRetaining-start : {f : F} {hs : List (Held (K × V))} {next : Option Ptr} → CallableOnEachPair T Q f (map (λ t. t.pair) hs) → next ≡ first_at hs → IsRetaining T Q f hs f hs next
+  IsRetaining-start {f} {hs} c is = record { kept = []; rest = hs; now_is = refl; next_is = is; callable = c; ends = λ last r. r }
+
+  module _ {start f : F} {old now : List (Held (K × V))} {next : Option Ptr} (m : IsRetaining T Q start old f now next) where
+    -- no pair is left
+    pub IsRetaining-end : next ≡ None → RetainsHeld T start old now
+    IsRetaining-end none = by m.rest refl
+      where
+        by : (rest : List (Held (K × V))) → m.rest ≡ rest → RetainsHeld T start old now
+        by [] is = subst (RetainsHeld T start old) (sym (m.now_is ∙ ap (λ l. m.kept ++ l) is)) (m.ends [] (subst (λ l. RetainsHeld T f l []) (sym is) refl))
+        by (t ∷ ys) is = absurd (let no : Some t.at ≡ None = sym (m.next_is ∙ ap first_at is) ∙ none in cc)
+
+    -- the pair at p is the next
+    pub record Next (p : Ptr) : Type 0 where
+      pub pair : Held (K × V)
+      pub behind : List (Held (K × V))
+      pub is : m.rest ≡ pair ∷ behind
+      pub at : pair.at ≡ p
+
+    pub next_of : {p : Ptr} → next ≡ Some p → Next p
+    next_of {p} some = by m.rest refl
+      where
+        by : (rest : List (Held (K × V))) → m.rest ≡ rest → Next p
+        by [] is = absurd (let no : None ≡ Some p = sym (m.next_is ∙ ap first_at is) ∙ some in cc)
+        by (t ∷ ys) is = let same : Some t.at ≡ Some p = sym (m.next_is ∙ ap first_at is) ∙ some in record { pair = t; behind = ys; is = is; at = cc }
+
+    module _ {p : Ptr} (n : Next p) where
+      pub now_cut : now ≡ m.kept ++ n.pair ∷ n.behind
+      now_cut = m.now_is ∙ ap (λ l. m.kept ++ l) n.is
+
+      pub next_held : IsHeld now p
+      next_held = (m.kept, n.pair, n.behind, now_cut, n.at)
+
+      callable_now : CallableOnEachPair T Q f (n.pair.pair ∷ map (λ t. t.pair) n.behind)
+      callable_now = subst (λ l. CallableOnEachPair T Q f (map (λ t. t.pair) l)) n.is m.callable
+
+      pub next_taken : TakesAt Q f now p
+      next_taken = (m.kept, n.pair, n.behind, now_cut, n.at, callable-first callable_now)
+
+      module _ {f' : F} {new : List (Held (K × V))} {next' : Option Ptr} (made : RetainsAt T f now p new f') (follows : AtHeld now p (λ xs t ys. next' ≡ first_at ys)) where
+        abbrev kept' : List (Held (K × V))
+        kept' = cond made.0 (m.kept ++ revalued made.1 n.pair ∷ []) m.kept
+
+        call : T f n.pair.pair.0 n.pair.pair.1 made.0 made.1 f'
+        call = (made.2 m.kept n.pair n.behind now_cut n.at).0
+
+        new_is : new ≡ m.kept ++ cond made.0 (revalued made.1 n.pair ∷ n.behind) n.behind
+        new_is = (made.2 m.kept n.pair n.behind now_cut n.at).1
+
+        joined : (b : Bool) (u : Held (K × V)) (ys : List (Held (K × V))) → cond b (m.kept ++ u ∷ []) m.kept ++ ys ≡ m.kept ++ cond b (u ∷ ys) ys
+        joined true u ys = append_assoc m.kept (u ∷ []) ys
+        joined false u ys = refl
+
+        now_new : new ≡ kept' ++ n.behind
+        now_new = new_is ∙ sym (joined made.0 (revalued made.1 n.pair) n.behind)
+
+        next_new : next' ≡ first_at n.behind
+        next_new = follows m.kept n.pair n.behind now_cut n.at
+
+        pub IsRetaining-step : IsRetaining T Q start old f' new next'
+        IsRetaining-step = record {
+          kept = kept';
+          rest = n.behind;
+          now_is = now_new;
+          next_is = next_new;
+          callable = callable-rest callable_now (made.0, made.1, call);
+          ends = λ last r.
+              subst (RetainsHeld T start old) (sym (joined made.0 (revalued made.1 n.pair) last))
+              (m.ends (cond made.0 (revalued made.1 n.pair ∷ last) last)
+              (subst (λ l. RetainsHeld T f l (cond made.0 (revalued made.1 n.pair ∷ last) last)) (sym n.is) (made.0, made.1, f', last, call, r, refl)));
+        }
+
+        apart_new : (b : Bool) (w : V) → IsApart (pointers_of (m.kept ++ n.pair ∷ n.behind)) → IsApart (pointers_of (m.kept ++ cond b (revalued w n.pair ∷ n.behind) n.behind))
+        apart_new true w d = subst IsApart (pointers-append m.kept (n.pair ∷ n.behind) ∙ sym (pointers-append m.kept (revalued w n.pair ∷ n.behind))) d
+        apart_new false w d = apart-removed m.kept n.pair n.behind d
+
+        pub left_from-smaller : IsApart (pointers_of now) → left_from next' new < left_from next now
+        left_from-smaller d =
+            let cut = subst (λ l. IsApart (pointers_of l)) now_cut d in
+            let before : left_from next now ≡ length (n.pair ∷ n.behind) =
+            ap (λ o. left_from o now) (m.next_is ∙ ap first_at n.is) ∙ ap (left_from (Some n.pair.at)) now_cut ∙ left_from-append m.kept (n.pair ∷ n.behind) cut in
+            let apart : IsApart (pointers_of (kept' ++ n.behind)) =
+            subst (λ l. IsApart (pointers_of l)) (sym (joined made.0 (revalued made.1 n.pair) n.behind)) (apart_new made.0 made.1 cut) in
+            let after : left_from next' new ≡ length n.behind =
+            ap (λ o. left_from o new) next_new ∙ ap (left_from (first_at n.behind)) now_new ∙ left_from-append kept' n.behind apart in
+            omega (arith, before, after)

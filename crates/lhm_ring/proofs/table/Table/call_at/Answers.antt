@@ -1,0 +1,28 @@
+use Rattle.std.proofs.Common.{ap, subst, sym, ◌∙◌}
+use Rattle.std.specs.Map.Calls.{CalledAtPair, TakesPair}
+use Rattle.lhm_ring.specs.Positions.{pointer_of}
+use Rattle.lhm_ring.specs.Tables.{IsTable, table_of}
+use Rattle.lhm_ring.proofs.Tables.{at_held, written, writes_only, IsTable-value}
+use Rattle.lhm_ring.proofs.Retained.{taken_in}
+use Rattle.lhm_ring.proofs.table.Table.call_at.Goals as goal
+
+pub call_at-requires : goal.call_at-requires
+call_at-requires g c = taken_in (TakesPair g.F.FnMut) c.args.keep.now c.self.inside.ring c.self.inside.rechained c.self.view_is c.requires
+
+pub invariant_of-self : goal.invariant_of-self
+invariant_of-self g c =
+    let called = c.call_at.ensures.called in
+    subst (λ s. IsTable c.self.inside.index s c.self.inside.rechained) (sym called.2) (IsTable-value c.self.invariant (pointer_of c.args.at) called.0)
+
+pub returns-clause-called : goal.returns-clause-called
+returns-clause-called g c =
+    let i = c.self.inside in
+    let p = pointer_of c.args.at in
+    let called = c.call_at.ensures.called in (
+      called.0,
+      at_held i.ring i.rechained c.self.view_is p (λ xs t ys. CalledAtPair g.F.FnMut c.args.keep.now t.pair.0 t.pair.1 c.call_at.result called.0 c.call_at.new.keep) called.1,
+      ap (λ s. table_of s i.rechained) called.2 ∙ written i.ring i.rechained c.self.view_is p called.0,
+    )
+
+pub returns-clause-alone : goal.returns-clause-alone
+returns-clause-alone g c = writes_only c.self.inside.ring c.self.inside.rechained c.self.view_is (pointer_of c.args.at) c.call_at.ensures.alone

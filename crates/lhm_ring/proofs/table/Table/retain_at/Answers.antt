@@ -1,0 +1,20 @@
+use Rattle.std.proofs.Common.{ap}
+use Rattle.std.specs.Map.Calls.{CalledAtPair}
+use Rattle.lhm_ring.proofs.Retained.{held-written, RetainsAt-kept, RetainsAt-removed}
+use Rattle.lhm_ring.proofs.table.Table.retain_at.Goals as goal
+
+pub remove_at-requires : goal.remove_at-requires
+remove_at-requires g c =
+    let h = c.requires in
+    let called = c.call_at.ensures.called in
+    held-written called.0 c.call_at.ensures.alone (ap (λ s. s.held) called.2) (h.0, h.1, h.2, h.3, h.4)
+
+pub returns-then-not-call_at-clause-retained : goal.returns-then-not-call_at-clause-retained
+returns-then-not-call_at-clause-retained g c =
+    let called = c.call_at.ensures.called in
+    RetainsAt-removed (CalledAtPair g.F.FnMut) called.1 c.call_at.ensures.alone (ap (λ s. s.held) called.2) c.if-not-call_at.true c.remove_at.ensures.others
+
+pub returns-else-not-call_at-clause-retained : goal.returns-else-not-call_at-clause-retained
+returns-else-not-call_at-clause-retained g c =
+    let called = c.call_at.ensures.called in
+    RetainsAt-kept (CalledAtPair g.F.FnMut) called.1 c.call_at.ensures.alone (ap (λ s. s.held) called.2) c.if-not-call_at.false

@@ -1,0 +1,42 @@
+-- What `retain` leaves of what a table holds. T says what a call of a closure at a key and a value does: it may return this, leave
+-- this value there, and leave the closure so. Q says that a closure may be called at a key and a value.
+use Rattle.std.specs.Prelude.{◌≡◌, ℕ, Bool, cond, List, [], ◌∷◌, ◌++◌, map, length, Option, Some, None}
+use Rattle.std.specs.Map.Calls.{CallableOnEachPair}
+use denote.RawPtr.{Ptr}
+use Rattle.lhm_ring.specs.Cells.{same_ptr}
+use Rattle.lhm_ring.specs.RingState.{Held, AtHeld, first_at}
+use Rattle.lhm_ring.specs.RingAfterLoan.{revalued}
+
+-- a pair is held at p, and f may be called at it
+abbrev pub TakesAt : {F K V : Type 0} → (F → K → V → Type 0) → F → List (Held (K × V)) → Ptr → Type 0
+TakesAt {F} {K} {V} Q f hs p = (xs : List (Held (K × V))) × (t : Held (K × V)) × (ys : List (Held (K × V))) × (hs ≡ xs ++ t ∷ ys) × (t.at ≡ p) × Q f t.pair.0 t.pair.1
+
+module _ {F K V : Type 0} (T : F → K → V → Bool → V → F → Type 0) where
+  -- f was called at the pair at p, returned b, and left the value w there
+  abbrev pub CallsAt : F → List (Held (K × V)) → Ptr → Bool → V → F → Type 0
+  CallsAt f hs p b w f' = AtHeld hs p (λ xs t ys. T f t.pair.0 t.pair.1 b w f')
+
+  -- and the pair stayed with that value, or was removed
+  abbrev pub RetainsAt : F → List (Held (K × V)) → Ptr → List (Held (K × V)) → F → Type 0
+  RetainsAt f hs p new f' = (b : Bool) × (w : V) × AtHeld hs p (λ xs t ys. T f t.pair.0 t.pair.1 b w f' × (new ≡ xs ++ cond b (revalued w t ∷ ys) ys))
+
+  -- f was called at each pair in turn, and kept has those at which it returned `true`, with the values that it left there
+  abbrev pub RetainsHeld : F → List (Held (K × V)) → List (Held (K × V)) → Type 0
+  RetainsHeld f [] kept = kept ≡ []
+  RetainsHeld f (t ∷ hs) kept =
+      (b : Bool) × (w : V) × (f' : F) × (rest : List (Held (K × V))) × T f t.pair.0 t.pair.1 b w f' × RetainsHeld f' hs rest × (kept ≡ cond b (revalued w t ∷ rest) rest)
+
+  -- the closure, which was start, has been called at some of the pairs in old, and is now f; the rest begins at next
+  pub record IsRetaining (Q : F → K → V → Type 0) (start : F) (old : List (Held (K × V))) (f : F) (now : List (Held (K × V))) (next : Option Ptr) : Type 0 where
+    pub kept : List (Held (K × V))
+    pub rest : List (Held (K × V))
+    pub now_is : now ≡ kept ++ rest
+    pub next_is : next ≡ first_at rest
+    pub callable : CallableOnEachPair T Q f (map (λ t. t.pair) rest)
+    pub ends : (last : List (Held (K × V))) → RetainsHeld f rest last → RetainsHeld start old (kept ++ last)
+
+-- how many are held from the one at a pointer on
+abbrev pub left_from : {B : Type 0} → Option Ptr → List (Held B) → ℕ
+left_from None hs = 0
+left_from (Some p) [] = 0
+left_from (Some p) (t ∷ hs) = cond (same_ptr t.at p) (length (t ∷ hs)) (left_from (Some p) hs)

@@ -1,0 +1,87 @@
+//! `retain`, which removes the pairs that a closure rejects.
+ghost use Rattle.std.specs.Prelude.{◌≡◌, map};
+ghost use Rattle.std.specs.Map.Calls.{CallableOnEachPair, CalledAtPair, TakesPair};
+ghost use Rattle.lhm_ring.specs.RingState.{ChangesOnly};
+ghost use Rattle.lhm_ring.specs.Positions.{pointer_of};
+ghost use Rattle.lhm_ring.specs.Tables.{WritesOnly};
+ghost use Rattle.lhm_ring.specs.Retains.{TakesAt, CallsAt, RetainsAt, RetainsHeld};
+
+use crate::position::Position;
+use crate::ring::Ring;
+use crate::table::Table;
+
+/// Calls a closure with a key and a value. Both references have one lifetime.
+fn call<'a, K, V, F: FnMut(&K, &mut V) -> bool>(keep: &mut F, key: &'a K, value: &'a mut V) -> bool
+    requires { TakesPair F.FnMut keep.old key.now value.old }
+    ensures { CalledAtPair F.FnMut keep.old key.now value.old result value.new keep.new }
+{
+    keep(key, value)
+}
+
+impl<K, V> Ring<K, V> {
+    ghost use Rattle.lhm_ring.specs.RingAfterLoan.{with_value};
+
+    /// Calls a closure with the key and the value at a position, and returns what it returns. Both
+    /// are moved out of their node for the call. It is O(1) and does not allocate.
+    fn call_at<F: FnMut(&K, &mut V) -> bool>(&mut self, at: Position<K, V>, keep: &mut F) -> bool
+        requires { TakesAt (TakesPair F.FnMut) keep.old self.old.held (pointer_of at) }
+        ensures called { (value : V) × CallsAt (CalledAtPair F.FnMut) keep.old self.old.held (pointer_of at) result value keep.new
+            × (self.new ≡ with_value self.old (pointer_of at) value) }
+        ensures alone { ChangesOnly self.old.held (pointer_of at) }
+    {
+        let (key, mut value) = self.nodes.take(at.pointer);
+        let kept = call(keep, &key, &mut value);
+        self.nodes.fill(at.pointer, key, value);
+        kept
+    }
+}
+
+impl<K, V> Table<K, V> {
+    ghost use Rattle.lhm_ring.specs.TableAfterLoan.{with_value};
+
+    /// Calls a closure with the key and the value at a position, and returns what it returns.
+    fn call_at<F: FnMut(&K, &mut V) -> bool>(&mut self, at: Position<K, V>, keep: &mut F) -> bool
+        requires { TakesAt (TakesPair F.FnMut) keep.old self.old.held (pointer_of at) }
+        ensures called { (value : V) × CallsAt (CalledAtPair F.FnMut) keep.old self.old.held (pointer_of at) result value keep.new
+            × (self.new ≡ with_value self.old (pointer_of at) value) }
+        ensures alone { WritesOnly self.old.held (pointer_of at) }
+    {
+        self.ring.call_at(at, keep)
+    }
+
+    /// Calls a closure with the key and the value at a position, and drops the pair if it returns
+    /// `false`.
+    fn retain_at<F: FnMut(&K, &mut V) -> bool>(&mut self, at: Position<K, V>, keep: &mut F)
+    where
+        K: Drop,
+        V: Drop,
+        requires { TakesAt (TakesPair F.FnMut) keep.old self.old.held (pointer_of at) }
+        ensures retained { RetainsAt (CalledAtPair F.FnMut) keep.old self.old.held (pointer_of at) self.new.held keep.new }
+        ensures capacity { self.new.capacity ≡ self.old.capacity }
+        ensures rechained { self.new.rechained ≡ self.old.rechained }
+    {
+        if !self.call_at(at, keep) {
+            self.remove_at(at);
+        }
+    }
+
+    /// Keeps the pairs for which a closure returns `true`, in order, and drops the others.
+    ///
+    /// The closure is called once with each pair, front to back, and may change the value. No key
+    /// is compared. The capacity stays. It is O(n) on average and does not allocate.
+    pub fn retain<F: FnMut(&K, &mut V) -> bool>(&mut self, mut keep: F)
+    where
+        K: Drop,
+        V: Drop,
+        requires { CallableOnEachPair (CalledAtPair F.FnMut) (TakesPair F.FnMut) keep (map (λ t. t.pair) self.old.held) }
+        ensures retained { RetainsHeld (CalledAtPair F.FnMut) keep self.old.held self.new.held }
+        ensures capacity { self.new.capacity ≡ self.old.capacity }
+        ensures rechained { self.new.rechained ≡ self.old.rechained }
+    {
+        let mut next = self.first();
+        while let Some(at) = next {
+            next = self.next(at);
+            self.retain_at(at, &mut keep);
+        }
+    }
+}
