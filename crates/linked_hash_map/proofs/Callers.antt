@@ -7,6 +7,7 @@ pub mod Extended
 pub mod Keys
 pub mod Lookups
 pub mod Replay
+pub mod Retained
 pub mod Valid
 pub mod Visits
 pub mod WholeRuns

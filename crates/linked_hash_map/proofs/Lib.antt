@@ -27,6 +27,7 @@ pub mod Outcomes
 pub mod Outside
 pub mod Pairs
 pub mod PutPair
+pub mod Retained
 pub mod Runs
 pub mod SessionLists
 pub mod SessionPairs

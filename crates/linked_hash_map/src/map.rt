@@ -16,6 +16,7 @@ ghost use Rattle.linked_hash_map.specs.Counts.{same, beside, buckets, rechained_
 
 mod index;
 mod probe;
+mod retain;
 mod storage;
 mod visit;
 

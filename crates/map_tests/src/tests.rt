@@ -26,8 +26,11 @@ mod nodes;
 mod readme;
 mod removals;
 mod replays;
+mod retains;
+mod tally;
 mod under_hashers;
 mod visits;
+mod watched;
 mod writes;
 mod written;
 

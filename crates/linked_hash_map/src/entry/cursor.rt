@@ -74,8 +74,8 @@ impl<K: Eq + Hash, V, S: BuildHasher> LinkedHashMap<K, V, S> {
     /// [`unvisited`](LinkedHashMap::unvisited) the number left. A visit ends at a further one, at
     /// [`entries`](LinkedHashMap::entries), and at each call of the map that may remove or move a
     /// pair: `insert`, `extend`, `entry`, `remove` and `get_refresh` of a present key, the pops,
-    /// `clear` and `drain`; no other call ends it. Keys that are new meanwhile are not visited. It
-    /// is O(1) and does not allocate.
+    /// `retain`, `clear` and `drain`; no other call ends it. Keys that are new meanwhile are not
+    /// visited. It is O(1) and does not allocate.
     ///
     /// # Examples
     ///

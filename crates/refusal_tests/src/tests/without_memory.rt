@@ -165,12 +165,14 @@ fn insert_present(rt: &impl Abort, map: &mut Map) {
     assert_map(rt, map, &[(2, 22), (3, 33), (1, 12)], 3, 0);
 }
 
-/// Takes all pairs out of a map that `insert_present` left, in three ways, and clears it.
+/// Takes all pairs out of a map that `insert_present` left, in three ways, keeps two of three, and clears it.
 fn take_out(rt: &impl Abort, map: &mut Map) {
     check_eq!(rt; (map.remove(&3), map.remove(&4)), (Some(33), None));
     check_eq!(rt; map.pop_front(), Some((2, 22)));
     check_eq!(rt; (map.pop_back(), map.pop_back()), (Some((1, 12)), None));
     insert_new(rt, map, &[(5, 0), (6, 0), (7, 0)]);
+    map.retain(|key, _value| *key != 6);
+    assert_map(rt, map, &[(5, 0), (7, 0)], 3, 0);
     map.clear();
     assert_map(rt, map, &[], 3, 0);
 }

@@ -59,3 +59,20 @@ fn drain(rt: HostRuntime) -> Result<(), Fail> {
     assert_eq!(rt; (map.len(), map.capacity()), (0, 2));
     Ok(())
 }
+
+/// The example of `retain`.
+#[test]
+fn retain(rt: HostRuntime) -> Result<(), Fail> {
+    let mut map = LinkedHashMap::new(rt.alloc());
+    map.insert('x', 1)?;
+    map.insert('y', 2)?;
+    map.insert('z', 3)?;
+    map.retain(|key, value| {
+        *value = 7;
+        *key != 'y'
+    });
+    assert_eq!(rt; (map.len(), map.get(&'y')), (2, None));
+    assert_eq!(rt; map.front(), Some((&'x', &7)));
+    assert_eq!(rt; map.back(), Some((&'z', &7)));
+    Ok(())
+}

@@ -1,0 +1,24 @@
+-- For callers: what `retain` keeps, by what the closure's contract says of each call. T says what a call does: it may return this,
+-- leave this value there, and leave the closure so.
+use Rattle.std.proofs.Common.{◌≡◌, Bool, true, false, cond, List, [], ◌∷◌, map, filter, refl, ◌∙◌, subst}
+use Rattle.std.specs.Map.Calls.{RetainsPairs}
+pub use Rattle.std.proofs.lemmas.Map.Made.{filter_same_pairs, map_same_pairs}
+pub use Rattle.std.proofs.lemmas.Map.Entries.{All-from_retain_pairs, filter_from_retain_pairs, keys_from_retain_pairs}
+pub use Rattle.linked_hash_map.proofs.Retained.{all-sublist, distinct-sublist, length-sublist}
+
+-- a closure that stays as it was, and whose answer and the value that it leaves depend on the pair alone
+module _ {F K V : Type 0} (T : F → K → V → Bool → V → F → Type 0) (test : K × V → Bool) (change : K × V → V) (f : F)
+    (says : (k : K) (v : V) (b : Bool) (w : V) (g : F) → T f k v b w g → (b ≡ test (k, v)) × (w ≡ change (k, v)) × (g ≡ f)) where
+  abbrev changed : K × V → K × V
+  changed pair = (pair.0, change pair)
+
+  cond-changed : (b : Bool) (pair : K × V) (pairs : List (K × V)) → cond b (changed pair ∷ map changed pairs) (map changed pairs) ≡ map changed (cond b (pair ∷ pairs) pairs)
+  cond-changed true pair pairs = refl
+  cond-changed false pair pairs = refl
+
+  pub map-filter_from_retain_pairs : (pairs kept : List (K × V)) → RetainsPairs T f pairs kept → kept ≡ map changed (filter test pairs)
+  map-filter_from_retain_pairs [] kept r = r
+  map-filter_from_retain_pairs (pair ∷ pairs) kept r =
+      let said = says pair.0 pair.1 r.0 r.1 r.2 r.4 in
+      let rest = map-filter_from_retain_pairs pairs r.3 (subst (λ g. RetainsPairs T g pairs r.3) said.2 r.5) in
+      r.6 ∙ (λ i. cond (said.0 i) ((pair.0, said.1 i) ∷ rest i) (rest i)) ∙ cond-changed (test pair) pair (filter test pairs)
