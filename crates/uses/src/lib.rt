@@ -12,5 +12,6 @@ pub mod memory;
 pub mod queue;
 pub mod refusal;
 pub mod replaying;
+pub mod retains;
 pub mod text;
 pub mod window;
