@@ -9,7 +9,7 @@ pub use Rattle.linked_hash_map.proofs.Retained.{all-sublist, distinct-sublist, l
 -- a closure that stays as it was, and whose answer and the value that it leaves depend on the pair alone
 module _ {F K V : Type 0} (T : F → K → V → Bool → V → F → Type 0) (test : K × V → Bool) (change : K × V → V) (f : F)
     (says : (k : K) (v : V) (b : Bool) (w : V) (g : F) → T f k v b w g → (b ≡ test (k, v)) × (w ≡ change (k, v)) × (g ≡ f)) where
-  changed : K × V → K × V
+  abbrev changed : K × V → K × V
   changed pair = (pair.0, change pair)
 
   cond-changed : (b : Bool) (pair : K × V) (pairs : List (K × V)) → cond b (changed pair ∷ map changed pairs) (map changed pairs) ≡ map changed (cond b (pair ∷ pairs) pairs)
