@@ -12,11 +12,12 @@ mod lookups;
 mod walks;
 
 use super::checks::{check, check_eq, given};
-use super::counted_calls::{Builder, Calls, Counts, Key, lookup};
+use super::counted_calls::{Builder, Calls, Counts, Key, builder_of, key_of, lookup};
 use super::multiple::{BuildMultiple, EIGHTFOLD, KEY};
 use linked_hash_map::LinkedHashMap;
 use std::alloc::Global;
 use std::process::Abort;
+use std::rc::Rc;
 
 /// Makes a call, and checks which calls of keys and builders it makes.
 macro_rules! check_calls {
@@ -30,7 +31,7 @@ macro_rules! check_calls {
 use check_calls;
 
 /// A map whose keys and builder are counted.
-type CallMap<'a> = LinkedHashMap<Key<'a>, u64, Builder<'a>>;
+type CallMap = LinkedHashMap<Key, u64, Builder>;
 
 /// All hashes are 0.
 const SAME: BuildMultiple = BuildMultiple {
@@ -88,21 +89,18 @@ static KINDS: [Kind; 5] = [
 ];
 
 /// Makes a map of a kind.
-fn map_of_kind<'a>(rt: &impl Abort, alloc: Global, kind: &Kind, counts: &'a Counts) -> CallMap<'a> {
-    let builder = Builder {
-        build: kind.build,
-        counts,
-    };
+fn map_of_kind(rt: &impl Abort, alloc: Global, kind: &Kind, counts: &Rc<Counts>) -> CallMap {
+    let builder = builder_of(rt, counts, kind.build);
     let mut map =
         given!(rt; LinkedHashMap::with_capacity_and_hasher(alloc, kind.capacity, builder));
     for number in 0..kind.len {
-        check!(rt; map.insert(Key { number, counts }, number).is_ok());
+        check!(rt; map.insert(key_of(rt, counts, number), number).is_ok());
     }
     map
 }
 
 /// Returns the calls of one lookup of a key, by `get_counted`.
-fn lookup_of<'a>(rt: &impl Abort, map: &CallMap<'a>, key: &Key<'a>) -> Calls {
+fn lookup_of(rt: &impl Abort, map: &CallMap, key: &Key) -> Calls {
     let _before = key.counts.take();
     let wanted = lookup(map.get_counted(key).1.compared);
     check_eq!(rt; key.counts.take(), wanted);

@@ -5,10 +5,13 @@ ghost use Rattle.std.specs.Hash as fed;
 ghost use Rattle.std.specs.Ordering.{on};
 ghost use Rattle.std.proofs.Common.{rules};
 
+use super::checks::given;
 use super::multiple::{BuildMultiple, Multiple};
-use std::alloc::AllocError;
+use std::alloc::{AllocError, Global};
 use std::cell::Cell;
 use std::hash::{BuildHasher, Hash, Hasher};
+use std::process::Abort;
+use std::rc::Rc;
 
 /// How often each call was made.
 #[derive(Clone, Copy, Debug, PartialEq)]
@@ -47,13 +50,20 @@ pub struct Counts {
     calls: Cell<Calls>,
 }
 
-impl Counts {
-    pub fn new() -> Counts {
-        Counts {
-            calls: Cell::new(NONE),
-        }
-    }
+/// Makes counts that have seen no call.
+pub fn new_counts(rt: &impl Abort, alloc: Global) -> Rc<Counts> {
+    let counts = Counts {
+        calls: Cell::new(NONE),
+    };
+    given!(rt; Rc::new(alloc, counts))
+}
 
+/// Shares counts, which counts no call.
+fn share(rt: &impl Abort, counts: &Rc<Counts>) -> Rc<Counts> {
+    given!(rt; counts.clone())
+}
+
+impl Counts {
     /// Returns the calls made since the last time, and begins anew.
     pub fn take(&self) -> Calls {
         self.calls.replace(NONE)
@@ -85,36 +95,53 @@ impl Counts {
 }
 
 /// A number whose calls are counted.
-pub struct Key<'a> {
+#[derive(Drop)]
+pub struct Key {
     pub number: u64,
-    pub counts: &'a Counts,
+    pub counts: Rc<Counts>,
 }
 
-impl<'a> Clone for Key<'a> {
-    fn clone(&self) -> Result<Key<'a>, AllocError> {
-        self.counts.count_clone();
-        Ok(*self)
+/// Makes a key.
+pub fn key_of(rt: &impl Abort, counts: &Rc<Counts>, number: u64) -> Key {
+    Key {
+        number,
+        counts: share(rt, counts),
     }
 }
 
-impl<'a> Copy for Key<'a> {}
+impl Key {
+    /// Makes a key of the same number, which counts no call.
+    pub fn again(&self, rt: &impl Abort) -> Key {
+        key_of(rt, &self.counts, self.number)
+    }
+}
 
-impl<'a> PartialEq for Key<'a> {
+impl Clone for Key {
+    fn clone(&self) -> Result<Key, AllocError> {
+        self.counts.count_clone();
+        Ok(Key {
+            number: self.number,
+            counts: self.counts.clone()?,
+        })
+    }
+}
+
+impl PartialEq for Key {
     ghost eq = { on (λ key. key.number) ◌==◌ };
 
     ghost laws = { Prim.search (comparing, rules) };
 
-    fn eq(&self, other: &Key<'a>) -> bool {
+    fn eq(&self, other: &Key) -> bool {
         self.counts.count_comparison();
         self.number == other.number
     }
 }
 
-impl<'a> Eq for Key<'a> {
+impl Eq for Key {
     ghost laws = { Prim.search (comparing, rules) };
 }
 
-impl<'a> Hash for Key<'a> {
+impl Hash for Key {
     ghost hash_input = { λ key. fed.u64 key.number };
 
     ghost respects_eq = { Prim.search (hashing, rules) };
@@ -126,21 +153,31 @@ impl<'a> Hash for Key<'a> {
 }
 
 /// A builder whose calls are counted.
-pub struct Builder<'a> {
+#[derive(Drop)]
+pub struct Builder {
     pub build: BuildMultiple,
-    pub counts: &'a Counts,
+    counts: Rc<Counts>,
 }
 
-impl<'a> Clone for Builder<'a> {
-    fn clone(&self) -> Result<Builder<'a>, AllocError> {
-        self.counts.count_clone();
-        Ok(*self)
+/// Makes a builder.
+pub fn builder_of(rt: &impl Abort, counts: &Rc<Counts>, build: BuildMultiple) -> Builder {
+    Builder {
+        build,
+        counts: share(rt, counts),
     }
 }
 
-impl<'a> Copy for Builder<'a> {}
+impl Clone for Builder {
+    fn clone(&self) -> Result<Builder, AllocError> {
+        self.counts.count_clone();
+        Ok(Builder {
+            build: self.build,
+            counts: self.counts.clone()?,
+        })
+    }
+}
 
-impl<'a> BuildHasher for Builder<'a> {
+impl BuildHasher for Builder {
     type Hasher = Multiple;
 
     ghost build_hasher = { λ builder. record { last = 0; build = builder.build } };

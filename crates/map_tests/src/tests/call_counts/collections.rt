@@ -2,12 +2,15 @@
 
 use super::{CallMap, KINDS, Kind, SAME, check_calls, map_of_kind};
 use crate::tests::checks::{check, given};
-use crate::tests::counted_calls::{Calls, Counts, Key};
+use crate::tests::counted_calls::{
+    Builder, Calls, Counts, Key, NONE, builder_of, key_of, new_counts,
+};
 use crate::tests::multiple::KEY;
 use linked_hash_map::LinkedHashMap;
 use std::alloc::Global;
 use std::hash::{BuildHasher, Hash, Hasher};
 use std::process::Abort;
+use std::rc::Rc;
 
 /// The calls of `lookups` lookups that compare so many keys in all.
 fn lookups(lookups: usize, compared: usize) -> Calls {
@@ -20,7 +23,7 @@ fn lookups(lookups: usize, compared: usize) -> Calls {
 }
 
 /// Makes a full map of one pair, of another key than those of the extensions.
-fn one_pair<'a>(rt: &impl Abort, alloc: Global, counts: &'a Counts) -> CallMap<'a> {
+fn one_pair(rt: &impl Abort, alloc: Global, counts: &Rc<Counts>) -> CallMap {
     let kind = Kind {
         build: SAME,
         capacity: 1,
@@ -31,34 +34,47 @@ fn one_pair<'a>(rt: &impl Abort, alloc: Global, counts: &'a Counts) -> CallMap<'
 }
 
 /// Three items of two keys, neither of which is 0.
-fn items(counts: &Counts) -> [(Key<'_>, u64); 3] {
-    [1, 2, 1].map(|number| (Key { number, counts }, number))
+fn items(rt: &impl Abort, counts: &Rc<Counts>) -> [(Key, u64); 3] {
+    [
+        (key_of(rt, counts, 1), 1),
+        (key_of(rt, counts, 2), 2),
+        (key_of(rt, counts, 1), 3),
+    ]
 }
 
 /// The keys have one hash: the first item is compared with one key, and the second with two.
 #[test]
 fn looks_each_item_of_an_extension_up_once(rt: HostRuntime) {
-    let counts = Counts::new();
+    let counts = new_counts(&rt, rt.alloc());
     let mut map = one_pair(&rt, rt.alloc(), &counts);
-    let [first, second, _third] = items(&counts);
+    let [first, second, _third] = items(&rt, &counts);
     check_calls!(rt; counts, map.extend([first, second]).is_ok(), lookups(2, 3));
-    let mut map = one_pair(&rt, rt.alloc(), &counts);
-    let items = [(&first.0, &first.1), (&second.0, &second.1)];
-    check_calls!(rt; counts, map.extend_refs(items).is_ok(), lookups(2, 3));
+}
+
+/// The keys are numbers, and the hashers that are built are counted.
+#[test]
+fn looks_each_reference_of_an_extension_up_once(rt: HostRuntime) {
+    let counts = new_counts(&rt, rt.alloc());
+    let builder = builder_of(&rt, &counts, KEY);
+    let mut map: LinkedHashMap<u64, u64, Builder> = LinkedHashMap::with_hasher(rt.alloc(), builder);
+    let wanted = Calls { built: 3, ..NONE };
+    let items = [(&1, &1), (&2, &2), (&1, &3)];
+    check_calls!(rt; counts, map.extend_refs(items).is_ok(), wanted);
 }
 
 /// A map of the default hasher, which is not counted.
-type DefaultMap<'a> = LinkedHashMap<Key<'a>, u64>;
+type DefaultMap = LinkedHashMap<Key, u64>;
 
 /// The third item has the key of the first, and is compared with it.
 #[test]
 fn hashes_each_item_of_a_collection_once(rt: HostRuntime) {
-    let counts = Counts::new();
+    let counts = new_counts(&rt, rt.alloc());
     let wanted = Calls {
         built: 0,
         ..lookups(3, 1)
     };
-    check_calls!(rt; counts, DefaultMap::from_iter(rt.alloc(), items(&counts)).is_ok(), wanted);
+    let items = items(&rt, &counts);
+    check_calls!(rt; counts, DefaultMap::from_iter(rt.alloc(), items).is_ok(), wanted);
 }
 
 /// What a clone of a map of `len` pairs calls: each key and the builder are cloned, and each clone
@@ -76,19 +92,19 @@ fn calls_of_a_clone(kind: &Kind) -> Calls {
 
 /// Clones a map of a kind, and then its iterator, which hashes and compares no key.
 fn clone_each(rt: &impl Abort, alloc: Global, kind: &Kind) {
-    let counts = Counts::new();
+    let counts = new_counts(rt, alloc);
     let map = map_of_kind(rt, alloc, kind, &counts);
     check_calls!(rt; counts, map.clone().is_ok(), calls_of_a_clone(kind));
     let pairs = map.into_iter();
     let wanted = Calls {
         cloned: kind.len as usize,
-        ..lookups(0, 0)
+        ..NONE
     };
     check_calls!(rt; counts, pairs.clone().is_ok(), wanted);
 }
 
 /// Hashes a map by a builder that is not counted.
-fn hash_of(map: &CallMap<'_>) -> u64 {
+fn hash_of(map: &CallMap) -> u64 {
     let mut state = KEY.build_hasher();
     map.hash(&mut state);
     state.finish()
@@ -96,13 +112,13 @@ fn hash_of(map: &CallMap<'_>) -> u64 {
 
 /// Compares a map with itself, and hashes it.
 fn compare_each(rt: &impl Abort, alloc: Global, kind: &Kind) {
-    let counts = Counts::new();
+    let counts = new_counts(rt, alloc);
     let map = map_of_kind(rt, alloc, kind, &counts);
     let len = kind.len as usize;
     check_calls!(rt; counts, map == map, lookups(0, len));
     let wanted = Calls {
         hashed: len,
-        ..lookups(0, 0)
+        ..NONE
     };
     check_calls!(rt; counts, hash_of(&map), wanted);
 }
@@ -122,10 +138,9 @@ fn clones_and_compares_each_key_once(rt: HostRuntime) {
 /// Maps of different lengths are known to differ without a comparison.
 #[test]
 fn compares_no_key_of_maps_of_other_lengths(rt: HostRuntime) {
-    let counts = Counts::new();
+    let counts = new_counts(&rt, rt.alloc());
     let mut map = one_pair(&rt, rt.alloc(), &counts);
     let other = given!(rt; map.clone());
-    let [first, _second, _third] = items(&counts);
-    check!(rt; map.insert(first.0, first.1).is_ok());
-    check_calls!(rt; counts, map == other, lookups(0, 0));
+    check!(rt; map.insert(key_of(&rt, &counts, 1), 1).is_ok());
+    check_calls!(rt; counts, map == other, NONE);
 }

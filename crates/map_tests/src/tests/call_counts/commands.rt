@@ -2,20 +2,21 @@
 
 use super::{CallMap, KINDS, Kind, check_calls, lookup_of, map_of_kind};
 use crate::tests::checks::{check, given};
-use crate::tests::counted_calls::{Calls, Counts, Key, NONE};
+use crate::tests::counted_calls::{Calls, Counts, Key, NONE, key_of, new_counts};
 use linked_hash_map::replay::{Command, replay};
 use std::alloc::Global;
 use std::process::Abort;
+use std::rc::Rc;
 
-type CallCommand<'a> = Command<Key<'a>, u64>;
+type CallCommand = Command<Key, u64>;
 
 /// Runs one command, and checks its calls.
-fn run<'a>(
+fn run(
     rt: &impl Abort,
     alloc: Global,
-    map: &mut CallMap<'a>,
-    counts: &Counts,
-    command: CallCommand<'a>,
+    map: &mut CallMap,
+    counts: &Rc<Counts>,
+    command: CallCommand,
     wanted: Calls,
 ) {
     let commands = given!(rt; Vec::from_array(alloc, [command]));
@@ -23,72 +24,107 @@ fn run<'a>(
 }
 
 /// Runs the commands that leave the keys of a map.
-fn run_keeping<'a>(rt: &impl Abort, alloc: Global, map: &mut CallMap<'a>, key: Key<'a>) {
-    let wanted = lookup_of(rt, map, &key);
-    run(rt, alloc, map, key.counts, Command::Insert(key, 1), wanted);
-    run(rt, alloc, map, key.counts, Command::Write(key, 1), wanted);
-    run(rt, alloc, map, key.counts, Command::Refresh(key), wanted);
+fn run_keeping(rt: &impl Abort, alloc: Global, map: &mut CallMap, key: &Key) {
+    let wanted = lookup_of(rt, map, key);
     run(
         rt,
         alloc,
         map,
-        key.counts,
-        Command::OrInsert(key, 1),
+        &key.counts,
+        Command::Insert(key.again(rt), 1),
         wanted,
     );
     run(
         rt,
         alloc,
         map,
-        key.counts,
-        Command::EntryInsert(key, 1),
+        &key.counts,
+        Command::Write(key.again(rt), 1),
+        wanted,
+    );
+    run(
+        rt,
+        alloc,
+        map,
+        &key.counts,
+        Command::Refresh(key.again(rt)),
+        wanted,
+    );
+    run(
+        rt,
+        alloc,
+        map,
+        &key.counts,
+        Command::OrInsert(key.again(rt), 1),
+        wanted,
+    );
+    run(
+        rt,
+        alloc,
+        map,
+        &key.counts,
+        Command::EntryInsert(key.again(rt), 1),
         wanted,
     );
 }
 
 /// Runs the commands that remove a key, and those that insert it.
-fn run_changing<'a>(rt: &impl Abort, alloc: Global, map: &mut CallMap<'a>, key: Key<'a>) {
-    let present = lookup_of(rt, map, &key);
-    run(rt, alloc, map, key.counts, Command::Remove(key), present);
-    let absent = lookup_of(rt, map, &key);
-    run(rt, alloc, map, key.counts, Command::Remove(key), absent);
+fn run_changing(rt: &impl Abort, alloc: Global, map: &mut CallMap, key: &Key) {
+    let present = lookup_of(rt, map, key);
     run(
         rt,
         alloc,
         map,
-        key.counts,
-        Command::EntryRemove(key),
+        &key.counts,
+        Command::Remove(key.again(rt)),
+        present,
+    );
+    let absent = lookup_of(rt, map, key);
+    run(
+        rt,
+        alloc,
+        map,
+        &key.counts,
+        Command::Remove(key.again(rt)),
         absent,
     );
     run(
         rt,
         alloc,
         map,
-        key.counts,
-        Command::OrInsert(key, 1),
+        &key.counts,
+        Command::EntryRemove(key.again(rt)),
         absent,
     );
-    let present = lookup_of(rt, map, &key);
     run(
         rt,
         alloc,
         map,
-        key.counts,
-        Command::EntryRemove(key),
+        &key.counts,
+        Command::OrInsert(key.again(rt), 1),
+        absent,
+    );
+    let present = lookup_of(rt, map, key);
+    run(
+        rt,
+        alloc,
+        map,
+        &key.counts,
+        Command::EntryRemove(key.again(rt)),
         present,
     );
     run(
         rt,
         alloc,
         map,
-        key.counts,
-        Command::EntryInsert(key, 1),
+        &key.counts,
+        Command::EntryInsert(key.again(rt), 1),
         absent,
     );
 }
 
 /// Runs the commands that have no key.
-fn run_without_a_key(rt: &impl Abort, alloc: Global, map: &mut CallMap<'_>, counts: &Counts) {
+fn run_without_a_key(rt: &impl Abort, alloc: Global, map: &mut CallMap, counts: &Rc<Counts>) {
     run(rt, alloc, map, counts, Command::Reserve(100), NONE);
     run(rt, alloc, map, counts, Command::Shrink, NONE);
     run(rt, alloc, map, counts, Command::PopFront, NONE);
@@ -99,15 +135,12 @@ fn run_without_a_key(rt: &impl Abort, alloc: Global, map: &mut CallMap<'_>, coun
 
 /// Runs the commands on a map of a kind.
 fn run_each(rt: &impl Abort, alloc: Global, kind: &Kind) {
-    let counts = Counts::new();
+    let counts = new_counts(rt, alloc);
     let mut map = map_of_kind(rt, alloc, kind, &counts);
     for number in 0..kind.len {
-        let key = Key {
-            number,
-            counts: &counts,
-        };
-        run_keeping(rt, alloc, &mut map, key);
-        run_changing(rt, alloc, &mut map, key);
+        let key = key_of(rt, &counts, number);
+        run_keeping(rt, alloc, &mut map, &key);
+        run_changing(rt, alloc, &mut map, &key);
     }
     run_without_a_key(rt, alloc, &mut map, &counts);
     check!(rt; map.is_empty());

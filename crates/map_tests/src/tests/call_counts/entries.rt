@@ -2,42 +2,42 @@
 
 use super::{CallMap, KINDS, Kind, check_calls, lookup_of, map_of_kind};
 use crate::tests::checks::check;
-use crate::tests::counted_calls::{Calls, Counts, Key, lookup};
+use crate::tests::counted_calls::{Calls, Key, key_of, lookup, new_counts};
 use linked_hash_map::Entry;
 use std::alloc::Global;
 use std::process::Abort;
 
 /// Makes the entry of a key, and makes the calls of either kind of entry that leave the pairs.
-fn enter<'a>(rt: &impl Abort, map: &mut CallMap<'a>, key: Key<'a>, wanted: Calls) {
-    check_calls!(rt; key.counts, map.entry(key), wanted);
-    check_calls!(rt; key.counts, map.entry(key).key().number, wanted);
-    check_calls!(rt; key.counts, map.entry(key).and_modify(|value| *value = 1), wanted);
+fn enter(rt: &impl Abort, map: &mut CallMap, key: &Key, wanted: Calls) {
+    check_calls!(rt; key.counts, map.entry(key.again(rt)), wanted);
+    check_calls!(rt; key.counts, map.entry(key.again(rt)).key().number, wanted);
+    check_calls!(rt; key.counts, map.entry(key.again(rt)).and_modify(|value| *value = 1), wanted);
 }
 
 /// Makes the calls that insert an absent key.
-fn or_insert<'a>(rt: &impl Abort, map: &mut CallMap<'a>, key: Key<'a>, wanted: Calls) {
-    check_calls!(rt; key.counts, map.entry(key).or_insert(1).is_ok(), wanted);
+fn or_insert(rt: &impl Abort, map: &mut CallMap, key: &Key, wanted: Calls) {
+    check_calls!(rt; key.counts, map.entry(key.again(rt)).or_insert(1).is_ok(), wanted);
 }
 
-fn or_insert_with<'a>(rt: &impl Abort, map: &mut CallMap<'a>, key: Key<'a>, wanted: Calls) {
-    check_calls!(rt; key.counts, map.entry(key).or_insert_with(|| 1).is_ok(), wanted);
+fn or_insert_with(rt: &impl Abort, map: &mut CallMap, key: &Key, wanted: Calls) {
+    check_calls!(rt; key.counts, map.entry(key.again(rt)).or_insert_with(|| 1).is_ok(), wanted);
 }
 
-fn or_default<'a>(rt: &impl Abort, map: &mut CallMap<'a>, key: Key<'a>, wanted: Calls) {
-    check_calls!(rt; key.counts, map.entry(key).or_default().is_ok(), wanted);
+fn or_default(rt: &impl Abort, map: &mut CallMap, key: &Key, wanted: Calls) {
+    check_calls!(rt; key.counts, map.entry(key.again(rt)).or_default().is_ok(), wanted);
 }
 
 /// Inserts a key through its vacant entry.
-fn insert_vacant<'a>(map: &mut CallMap<'a>, key: Key<'a>) -> bool {
-    match map.entry(key) {
+fn insert_vacant(rt: &impl Abort, map: &mut CallMap, key: &Key) -> bool {
+    match map.entry(key.again(rt)) {
         Entry::Vacant(entry) => entry.key().number == key.number && entry.insert(1).is_ok(),
         Entry::Occupied(_entry) => false,
     }
 }
 
 /// Makes the calls of an occupied entry that leave its pair.
-fn use_occupied<'a>(map: &mut CallMap<'a>, key: Key<'a>) -> u64 {
-    match map.entry(key) {
+fn use_occupied(rt: &impl Abort, map: &mut CallMap, key: &Key) -> u64 {
+    match map.entry(key.again(rt)) {
         Entry::Vacant(_entry) => 0,
         Entry::Occupied(mut entry) => {
             let number = entry.key().number;
@@ -50,8 +50,8 @@ fn use_occupied<'a>(map: &mut CallMap<'a>, key: Key<'a>) -> u64 {
 }
 
 /// Removes a key by its occupied entry.
-fn remove_occupied<'a>(map: &mut CallMap<'a>, key: Key<'a>) -> bool {
-    match map.entry(key) {
+fn remove_occupied(rt: &impl Abort, map: &mut CallMap, key: &Key) -> bool {
+    match map.entry(key.again(rt)) {
         Entry::Vacant(_entry) => false,
         Entry::Occupied(entry) => {
             let value = *entry.get();
@@ -61,13 +61,13 @@ fn remove_occupied<'a>(map: &mut CallMap<'a>, key: Key<'a>) -> bool {
 }
 
 /// Takes a present key out.
-fn take_out<'a>(rt: &impl Abort, map: &mut CallMap<'a>, key: Key<'a>) {
-    let wanted = lookup_of(rt, map, &key);
-    check_calls!(rt; key.counts, remove_occupied(map, key), wanted);
+fn take_out(rt: &impl Abort, map: &mut CallMap, key: &Key) {
+    let wanted = lookup_of(rt, map, key);
+    check_calls!(rt; key.counts, remove_occupied(rt, map, key), wanted);
 }
 
 /// Inserts an absent key by each call, and takes it out again.
-fn enter_absent<'a>(rt: &impl Abort, map: &mut CallMap<'a>, key: Key<'a>, wanted: Calls) {
+fn enter_absent(rt: &impl Abort, map: &mut CallMap, key: &Key, wanted: Calls) {
     enter(rt, map, key, wanted);
     or_insert(rt, map, key, wanted);
     take_out(rt, map, key);
@@ -75,37 +75,31 @@ fn enter_absent<'a>(rt: &impl Abort, map: &mut CallMap<'a>, key: Key<'a>, wanted
     take_out(rt, map, key);
     or_default(rt, map, key, wanted);
     take_out(rt, map, key);
-    check_calls!(rt; key.counts, insert_vacant(map, key), wanted);
+    check_calls!(rt; key.counts, insert_vacant(rt, map, key), wanted);
     take_out(rt, map, key);
 }
 
 /// Makes each call of an occupied entry on a present key.
-fn enter_present<'a>(rt: &impl Abort, map: &mut CallMap<'a>, key: Key<'a>) {
-    let wanted = lookup_of(rt, map, &key);
+fn enter_present(rt: &impl Abort, map: &mut CallMap, key: &Key) {
+    let wanted = lookup_of(rt, map, key);
     enter(rt, map, key, wanted);
     or_insert(rt, map, key, wanted);
     or_insert_with(rt, map, key, wanted);
     or_default(rt, map, key, wanted);
-    check_calls!(rt; key.counts, use_occupied(map, key), wanted);
+    check_calls!(rt; key.counts, use_occupied(rt, map, key), wanted);
     take_out(rt, map, key);
-    check!(rt; insert_vacant(map, key));
+    check!(rt; insert_vacant(rt, map, key));
 }
 
 /// Makes the entry of each key of a map of a kind, and of an absent one.
 fn enter_each(rt: &impl Abort, alloc: Global, kind: &Kind) {
-    let counts = Counts::new();
+    let counts = new_counts(rt, alloc);
     let mut map = map_of_kind(rt, alloc, kind, &counts);
-    let absent = Key {
-        number: 99,
-        counts: &counts,
-    };
-    enter_absent(rt, &mut map, absent, lookup(kind.same));
+    let absent = key_of(rt, &counts, 99);
+    enter_absent(rt, &mut map, &absent, lookup(kind.same));
     for number in 0..kind.len {
-        let key = Key {
-            number,
-            counts: &counts,
-        };
-        enter_present(rt, &mut map, key);
+        let key = key_of(rt, &counts, number);
+        enter_present(rt, &mut map, &key);
     }
 }
 

@@ -2,35 +2,35 @@
 
 use super::{CallMap, KINDS, Kind, check_calls, lookup_of, map_of_kind};
 use crate::tests::checks::{check, check_eq};
-use crate::tests::counted_calls::{Calls, Counts, Key, lookup};
+use crate::tests::counted_calls::{Calls, Key, key_of, lookup, new_counts};
 use linked_hash_map::Mode;
 use std::alloc::Global;
 use std::process::Abort;
 
 /// Looks a key up by each call that leaves the pairs.
-fn look_up<'a>(rt: &impl Abort, map: &mut CallMap<'a>, key: Key<'a>, wanted: Calls) {
-    check_calls!(rt; key.counts, map.get_counted(&key), wanted);
-    check_calls!(rt; key.counts, map.get(&key), wanted);
-    check_calls!(rt; key.counts, map.contains_key(&key), wanted);
-    check_calls!(rt; key.counts, map.get_mut(&key), wanted);
-    check_calls!(rt; key.counts, map.get_refresh(&key), wanted);
+fn look_up(rt: &impl Abort, map: &mut CallMap, key: &Key, wanted: Calls) {
+    check_calls!(rt; key.counts, map.get_counted(key), wanted);
+    check_calls!(rt; key.counts, map.get(key), wanted);
+    check_calls!(rt; key.counts, map.contains_key(key), wanted);
+    check_calls!(rt; key.counts, map.get_mut(key), wanted);
+    check_calls!(rt; key.counts, map.get_refresh(key), wanted);
 }
 
 /// Looks an absent key up, inserts it, and removes it.
-fn look_up_absent<'a>(rt: &impl Abort, map: &mut CallMap<'a>, key: Key<'a>, wanted: Calls) {
+fn look_up_absent(rt: &impl Abort, map: &mut CallMap, key: &Key, wanted: Calls) {
     look_up(rt, map, key, wanted);
-    check_calls!(rt; key.counts, map.remove(&key), wanted);
-    check_calls!(rt; key.counts, map.insert(key, 1).is_ok(), wanted);
-    let present = lookup_of(rt, map, &key);
-    check_calls!(rt; key.counts, map.remove(&key), present);
+    check_calls!(rt; key.counts, map.remove(key), wanted);
+    check_calls!(rt; key.counts, map.insert(key.again(rt), 1).is_ok(), wanted);
+    let present = lookup_of(rt, map, key);
+    check_calls!(rt; key.counts, map.remove(key), present);
 }
 
 /// Indexes by a key that is present: two lookups with the one that shows so.
-fn index<'a>(map: &CallMap<'a>, key: &Key<'a>) -> u64 {
+fn index(map: &CallMap, key: &Key) -> u64 {
     if map.contains_key(key) { map[key] } else { 0 }
 }
 
-fn index_mut<'a>(map: &mut CallMap<'a>, key: &Key<'a>) {
+fn index_mut(map: &mut CallMap, key: &Key) {
     if map.contains_key(key) {
         map[key] = 1;
     }
@@ -47,40 +47,34 @@ fn twice(calls: Calls) -> Calls {
 }
 
 /// Looks a present key up, indexes by it, and inserts it again in both modes.
-fn look_up_present<'a>(rt: &impl Abort, map: &mut CallMap<'a>, key: Key<'a>) {
-    let wanted = lookup_of(rt, map, &key);
+fn look_up_present(rt: &impl Abort, map: &mut CallMap, key: &Key) {
+    let wanted = lookup_of(rt, map, key);
     look_up(rt, map, key, wanted);
-    check_calls!(rt; key.counts, index(map, &key), twice(wanted));
-    check_calls!(rt; key.counts, index_mut(map, &key), twice(wanted));
-    check_calls!(rt; key.counts, map.insert(key, 1).is_ok(), wanted);
+    check_calls!(rt; key.counts, index(map, key), twice(wanted));
+    check_calls!(rt; key.counts, index_mut(map, key), twice(wanted));
+    check_calls!(rt; key.counts, map.insert(key.again(rt), 1).is_ok(), wanted);
     map.set_mode(Mode::Keep);
-    check_calls!(rt; key.counts, map.insert(key, 1).is_ok(), wanted);
+    check_calls!(rt; key.counts, map.insert(key.again(rt), 1).is_ok(), wanted);
     map.set_mode(Mode::Touch);
 }
 
 /// Removes a present key, and inserts it again.
-fn remove_present<'a>(rt: &impl Abort, map: &mut CallMap<'a>, key: Key<'a>) {
-    let wanted = lookup_of(rt, map, &key);
-    check_calls!(rt; key.counts, map.remove(&key), wanted);
-    check!(rt; map.insert(key, 1).is_ok());
+fn remove_present(rt: &impl Abort, map: &mut CallMap, key: &Key) {
+    let wanted = lookup_of(rt, map, key);
+    check_calls!(rt; key.counts, map.remove(key), wanted);
+    check!(rt; map.insert(key.again(rt), 1).is_ok());
 }
 
 /// Looks up each key of a map of a kind, and an absent one.
 fn look_up_each(rt: &impl Abort, alloc: Global, kind: &Kind) {
-    let counts = Counts::new();
+    let counts = new_counts(rt, alloc);
     let mut map = map_of_kind(rt, alloc, kind, &counts);
-    let absent = Key {
-        number: 99,
-        counts: &counts,
-    };
-    look_up_absent(rt, &mut map, absent, lookup(kind.same));
+    let absent = key_of(rt, &counts, 99);
+    look_up_absent(rt, &mut map, &absent, lookup(kind.same));
     for number in 0..kind.len {
-        let key = Key {
-            number,
-            counts: &counts,
-        };
-        look_up_present(rt, &mut map, key);
-        remove_present(rt, &mut map, key);
+        let key = key_of(rt, &counts, number);
+        look_up_present(rt, &mut map, &key);
+        remove_present(rt, &mut map, &key);
     }
     check_eq!(rt; map.len() as u64, kind.len);
 }

@@ -1,13 +1,14 @@
 //! Calls that look no key up: the ends, iterators, cursors, capacities and settings.
 
 use super::{CallMap, KINDS, Kind, check_calls, map_of_kind};
-use crate::tests::counted_calls::{Counts, NONE};
+use crate::tests::counted_calls::{Counts, NONE, new_counts};
 use linked_hash_map::Mode;
 use std::alloc::Global;
 use std::process::Abort;
+use std::rc::Rc;
 
 /// Makes the calls that read a map.
-fn read(rt: &impl Abort, map: &CallMap<'_>, counts: &Counts) {
+fn read(rt: &impl Abort, map: &CallMap, counts: &Rc<Counts>) {
     check_calls!(rt; counts, (map.front(), map.back()), NONE);
     check_calls!(rt; counts, (map.len(), map.is_empty(), map.capacity()), NONE);
     check_calls!(rt; counts, (map.rechained(), map.unvisited(), map.mode()), NONE);
@@ -19,7 +20,7 @@ fn read(rt: &impl Abort, map: &CallMap<'_>, counts: &Counts) {
 }
 
 /// Goes over a map by a loop.
-fn sum(map: &CallMap<'_>) -> u64 {
+fn sum(map: &CallMap) -> u64 {
     let mut sum = 0u64;
     for (key, value) in map {
         sum = sum.wrapping_add(key.number).wrapping_add(*value);
@@ -28,7 +29,7 @@ fn sum(map: &CallMap<'_>) -> u64 {
 }
 
 /// Replaces each value by a cursor.
-fn visit_all(map: &mut CallMap<'_>) {
+fn visit_all(map: &mut CallMap) {
     let mut cursor = map.entries();
     for _ in 0..cursor.remaining() {
         if let Some(mut entry) = cursor.next() {
@@ -38,7 +39,7 @@ fn visit_all(map: &mut CallMap<'_>) {
 }
 
 /// Removes the first pair by a visit.
-fn remove_first(map: &mut CallMap<'_>) -> u64 {
+fn remove_first(map: &mut CallMap) -> u64 {
     match map.visit().next_entry() {
         Some(entry) => entry.remove(),
         None => 0,
@@ -47,7 +48,7 @@ fn remove_first(map: &mut CallMap<'_>) -> u64 {
 
 /// Makes the calls that change the capacity or values. The hashes that are kept serve for further
 /// buckets.
-fn change(rt: &impl Abort, map: &mut CallMap<'_>, counts: &Counts) {
+fn change(rt: &impl Abort, map: &mut CallMap, counts: &Rc<Counts>) {
     check_calls!(rt; counts, map.set_mode(Mode::Touch), NONE);
     check_calls!(rt; counts, map.reserve(100), NONE);
     check_calls!(rt; counts, map.shrink_to_fit(), NONE);
@@ -56,7 +57,7 @@ fn change(rt: &impl Abort, map: &mut CallMap<'_>, counts: &Counts) {
 }
 
 /// Takes pairs out by each call that is handed no key.
-fn take_out(rt: &impl Abort, map: &mut CallMap<'_>, counts: &Counts) {
+fn take_out(rt: &impl Abort, map: &mut CallMap, counts: &Rc<Counts>) {
     check_calls!(rt; counts, map.pop_front(), NONE);
     check_calls!(rt; counts, map.pop_back(), NONE);
     check_calls!(rt; counts, remove_first(map), NONE);
@@ -64,12 +65,12 @@ fn take_out(rt: &impl Abort, map: &mut CallMap<'_>, counts: &Counts) {
 }
 
 /// Takes the last map apart.
-fn consume(rt: &impl Abort, map: CallMap<'_>, counts: &Counts) {
+fn consume(rt: &impl Abort, map: CallMap, counts: &Rc<Counts>) {
     check_calls!(rt; counts, map.into_iter().next_back(), NONE);
 }
 
 fn walk_each(rt: &impl Abort, alloc: Global, kind: &Kind) {
-    let counts = Counts::new();
+    let counts = new_counts(rt, alloc);
     let mut map = map_of_kind(rt, alloc, kind, &counts);
     read(rt, &map, &counts);
     change(rt, &mut map, &counts);
