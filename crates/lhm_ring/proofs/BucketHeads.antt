@@ -65,12 +65,3 @@ led_there null_ptr t = absurd t
 pub block_there : (p : Ptr) → is_null_or_block p ≡ true → InBlock p → is_block p ≡ true
 block_there (block_ptr b o) e t = e
 block_there null_ptr e t = absurd t
-
--- a link that leads somewhere
-pub led_some : (p : Ptr) → IsSome (led_to p) → led_to p ≡ Some p
-led_some (block_ptr b o) t = refl
-led_some null_ptr t = absurd (cc)
-
-pub block_some : (p : Ptr) → is_null_or_block p ≡ true → IsSome (led_to p) → is_block p ≡ true
-block_some (block_ptr b o) e t = e
-block_some null_ptr e t = absurd (cc)

@@ -1,11 +1,11 @@
 -- The first and the last of a ring.
-use Rattle.std.proofs.Common.{◌≡◌, ℕ, List, [], ◌∷◌, ◌++◌, length, Option, Some, None, refl, sym, ap, ◌∙◌, arith}
+use Rattle.std.proofs.Common.{◌≡◌, ℕ, List, [], ◌∷◌, ◌++◌, length, Option, Some, refl, sym, ap, ◌∙◌, arith}
 use Rattle.std.specs.List.{AllByRecursion}
 use denote.RawPtr.{Ptr}
 use Rattle.lhm_ring.specs.declared.block.NodePointer.{NodePointer}
 use Rattle.lhm_ring.specs.declared.links.Links.{Links}
 use Rattle.lhm_ring.specs.Cells.{Cell, links_at, body_at}
-use Rattle.lhm_ring.specs.Rings.{next_of, prev_of, next_at, prev_at, content_at, Linked, HasContent, follow, listed, one_of, ring_list, RingOk}
+use Rattle.lhm_ring.specs.Rings.{next_of, prev_of, next_at, prev_at, content_at, Linked, HasContent, listed, one_of, ring_list, RingOk}
 use Rattle.lhm_ring.specs.RingState.{State, state, Held, first_at, last_at, last_of}
 use Rattle.lhm_ring.specs.Targets.{target}
 use Rattle.lhm_ring.specs.declared.link.Link.{Link}
@@ -52,10 +52,3 @@ module _ {B : Type 0} (cs : List (Cell Links B)) (guard : Option NodePointer) (s
 
   pub last_found : (l : Links) → links_at cs g.ptr ≡ Some l → (n ≡ 0 → ⊥) → Some l.prev.ptr ≡ last_at v.held
   last_found l k h = sym (ap last_at (sym shown) ∙ last_is cs g.ptr g.ptr o.0 o.2.held o.2.linked (λ z. h (sym o.3 ∙ z)) ∙ ap (λ z. Some (prev_of z)) k)
-
-module _ {B : Type 0} where
-  -- a ring of no held nodes shows none
-  pub none_held_where_none : (cs : List (Cell Links B)) (guard : Option NodePointer) (n : ℕ) → n ≡ 0 → ring_list cs guard n ≡ []
-  unfolding follow listed
-  none_held_where_none cs None n e = refl
-  none_held_where_none cs (Some g) n e = ap (λ k. listed cs (follow cs k g.ptr)) e

@@ -99,11 +99,6 @@ on_held {K} {V} {heads} {number} {nodes} {before} {p} w =
     let o : OnNode (length heads) (number % length heads) w.done w.here w.rest nodes = on_node (length heads) (number % length heads) w.done w.here w.rest nodes w.holds in
     (o.of.before, o.of.node, o.of.after, o.of.is, ap (λ v. v.at) o.of.spot_is ∙ w.at_is)
 
--- the one after it on the chain is held too
-chain_at : (h : Option Ptr) (done : List Spot) (s : Spot) (rest : List Spot) → IsChain h (done ++ s ∷ rest) → IsChain s.link rest
-chain_at h [] s rest c = c.1
-chain_at h (d ∷ done) s rest c = chain_at d.link done s rest c.1
-
 first_of : (rest : List Spot) (l : Option Ptr) (q : Ptr) → IsChain l rest → l ≡ Some q → (r : Spot) × (rs : List Spot) × (rest ≡ r ∷ rs) × (r.at ≡ q)
 first_of [] l q c e = absurd cc
 first_of (r ∷ rs) l q c e = let first : l ≡ Some r.at = c.0 in let same : r.at ≡ q = cc in (r, rs, refl, same)
@@ -286,18 +281,6 @@ rechain_more {K} {V} {heads} {old} {nodes} {pointer} {count} {buckets} p heads' 
 no_more : {K V : Type 0} (rest : List (Held (K × V))) → None ≡ first_at rest → rest ≡ []
 no_more [] e = refl
 no_more (x ∷ rest) e = absurd (cc)
-
-pub rechain_end : {K V : Type 0} {heads : List (Option Ptr)} {old nodes : List (Held (K × V))} {pointer : Option Ptr} {count buckets : ℕ} → pointer ≡ None → IsRechained heads old nodes pointer count buckets → Indexes heads (spots nodes)
-rechain_end {K} {V} {heads} {old} {nodes} e w =
-    let none : w.rest ≡ [] = no_more w.rest (sym e ∙ w.pointer_is) in
-    let all : nodes ≡ w.done = w.is ∙ ap (λ (v : List (Held (K × V))). w.done ++ v) none ∙ append-nil w.done in
-    subst (λ (v : List (Held (K × V))). Indexes heads (spots v)) (sym all) w.indexed
-
-pub rechain_count : {K V : Type 0} {heads : List (Option Ptr)} {old nodes : List (Held (K × V))} {pointer : Option Ptr} {count buckets : ℕ} → pointer ≡ None → IsRechained heads old nodes pointer count buckets → count ≡ length old
-rechain_count {K} {V} {heads} {old} {nodes} e w =
-    let none : w.rest ≡ [] = no_more w.rest (sym e ∙ w.pointer_is) in
-    let all : nodes ≡ w.done = w.is ∙ ap (λ (v : List (Held (K × V))). w.done ++ v) none ∙ append-nil w.done in
-    w.count_is ∙ sym (ap length all) ∙ length-kept old nodes w.kept
 
 pub rechain_next_held : {K V : Type 0} {heads : List (Option Ptr)} {old nodes : List (Held (K × V))} {pointer : Option Ptr} {count buckets : ℕ} (p : Ptr) {heads' : List (Option Ptr)} {nodes' : List (Held (K × V))} → pointer ≡ Some p → IsRechained heads old nodes pointer count buckets → Chains p heads heads' nodes nodes' → IsHeld nodes' p
 rechain_next_held {K} {V} {heads} {old} {nodes} {pointer} {count} {buckets} p {heads'} {nodes'} e w c =

@@ -3,14 +3,14 @@ use Rattle.std.proofs.Common.{◌≡◌, ◌+◌, ◌<◌, List, [], ◌∷◌, 
 use Rattle.std.proofs.lemmas.List.{length-map}
 use denote.RawPtr.{Ptr}
 use Rattle.lhm_ring.specs.RingState.{State, Held, IsHeld, AtHeld}
-use Rattle.lhm_ring.specs.RingAfterLoan.{held_values, with_value, with_values}
+use Rattle.lhm_ring.specs.RingAfterLoan.{with_value}
 use Rattle.lhm_ring.specs.Buckets.{buckets}
 use Rattle.lhm_ring.specs.Index.{spot, spots, Indexes}
 use Rattle.lhm_ring.specs.Search.{HasNoChain}
 use Rattle.lhm_ring.specs.IndexedRing.{IsIndexed}
 use Rattle.lhm_ring.proofs.BucketCounts.{buckets_zero, capacity_le}
 use Rattle.lhm_ring.proofs.Chains.{Indexes-none}
-use Rattle.lhm_ring.proofs.IndexMoves.{Indexes-to_back, spots-value, spots-values}
+use Rattle.lhm_ring.proofs.IndexMoves.{Indexes-to_back, spots-value}
 
 -- nothing is held
 pub indexed_none : {K V : Type 0} (heads : List (Option Ptr)) (s : State (K × V)) → HasNoChain heads → s.held ≡ [] → length heads ≡ buckets s.spares → IsIndexed heads s
@@ -26,12 +26,6 @@ pub indexed_new : {K V : Type 0} (heads : List (Option Ptr)) (s : State (K × V)
 indexed_new {K} {V} heads s h e z =
     indexed_none heads s (λ b l. absurd (let f : length heads ≡ 0 = ap length h in omega (arith, f, l))) e (ap length h ∙ sym (ap buckets z ∙ buckets_zero))
 
--- everything that was held is spare
-pub indexed_spliced : {K V : Type 0} (heads heads' : List (Option Ptr)) (s t : State (K × V)) → IsIndexed heads s → HasNoChain heads' → length heads' ≡ length heads → t.held ≡ [] → t.spares ≡ s.spares + length s.held → IsIndexed heads' t
-indexed_spliced heads heads' s t i h n e m =
-    let all : length s.held + s.spares ≡ t.spares = omega (arith, m) in
-    indexed_none heads' t h e (n ∙ i.count ∙ ap buckets all)
-
 -- what the index reads is as before
 pub indexed_same : {K V : Type 0} (heads : List (Option Ptr)) (s t : State (K × V)) → IsIndexed heads s → spots t.held ≡ spots s.held → t.spares ≡ s.spares → IsIndexed heads t
 indexed_same heads s t i e m =
@@ -44,9 +38,6 @@ indexed_same heads s t i e m =
 -- a value was written, or all of them
 pub indexed_value : {K V : Type 0} (heads : List (Option Ptr)) (s : State (K × V)) (p : Ptr) (w : V) → IsIndexed heads s → IsIndexed heads (with_value s p w)
 indexed_value heads s p w i = indexed_same heads s (with_value s p w) i (spots-value p w s.held) refl
-
-pub indexed_values : {K V : Type 0} (heads : List (Option Ptr)) (s w : State (K × V)) → IsIndexed heads s → IsIndexed heads (with_values s w)
-indexed_values heads s w i = indexed_same heads s (with_values s w) i (spots-values s.held (held_values w.held)) refl
 
 -- a triple was moved to the back
 pub indexed_to_back : {K V : Type 0} (heads : List (Option Ptr)) (s t : State (K × V)) (p : Ptr) → IsIndexed heads s → IsHeld s.held p → AtHeld s.held p (λ xs x ys. t.held ≡ (xs ++ ys) ++ x ∷ []) → t.spares ≡ s.spares → IsIndexed heads t

@@ -178,9 +178,6 @@ module _ {B : Type 0} where
   ring_bounded cs guard spare n m v ok w =
       let a = ring_length cs guard spare n m v ok w in let b = ap (λ (z : State B). z.spares) w in let c = small_of cs guard spare n m ok in omega arith
 
-  pub there_where : (cs : List (Cell Links B)) (p : Ptr) (l : Links) → links_at cs p ≡ Some l → (q : Ptr) → (prev_at cs p ≡ q → is_there cs q ≡ true) → prev_of (Some l) ≡ q → is_there cs q ≡ true
-  there_where cs p l e q f h = f (ap prev_of e ∙ h)
-
 -- the same, where the pointer is known by another name
 pub node_at : {B : Type 0} {cs : List (Cell Links B)} {g : NodePointer} {spare : Link} {n m : ℕ} {xs : List (Held B)} {t : Held B} {ys : List (Held B)} (p : Ptr) → Found cs g spare n m xs t ys → t.at ≡ p
     → (s : NodeAt cs g spare n m p) × (listed cs s.before ≡ xs) × (listed cs s.after ≡ ys)

@@ -25,10 +25,6 @@ abbrev pub last_from : {X : Type 0} → X → List X → X
 last_from x [] = x
 last_from x (y ∷ ys) = last_from y ys
 
-abbrev pub first_or : {X : Type 0} → List X → X → X
-first_or [] x = x
-first_or (y ∷ ys) x = y
-
 pub all_both : {X : Type 0} (P : X → Type 0) (xs ys : List X) → AllByRecursion P xs → AllByRecursion P ys → AllByRecursion P (xs ++ ys)
 all_both P [] ys a b = b
 all_both P (x ∷ xs) ys a b = (a.0, all_both P xs ys a.1 b)
@@ -65,11 +61,6 @@ pub apart_left : (xs ys : List Ptr) → IsApart (xs ++ ys) → IsApart xs
 unfolding IsDistinct
 apart_left [] ys d = tt
 apart_left (x ∷ xs) ys d = (all_left (λ q. same_ptr x q ≡ false) xs ys d.0, apart_left xs ys d.1)
-
-pub apart_right : (xs ys : List Ptr) → IsApart (xs ++ ys) → IsApart ys
-unfolding IsDistinct
-apart_right [] ys d = d
-apart_right (x ∷ xs) ys d = apart_right xs ys d.1
 
 pub apart_head : (x : Ptr) (xs : List Ptr) → IsApart (x ∷ xs) → IsFresh x xs
 unfolding IsDistinct

@@ -1,5 +1,5 @@
 -- A table: what it shows of the nodes of its ring, which stand there without their links.
-use Rattle.std.proofs.Common.{◌≡◌, ℕ, ◌+◌, ◌-◌, ◌%◌, ◌^◌, ◌<◌, ◌≤◌, ◌≢◌, Bool, true, false, cond, List, [], ◌∷◌, ◌++◌, length, length-append, map, Option, Some, None, refl, sym, ap, ◌∙◌, subst, eqb, inl, inr, arith}
+use Rattle.std.proofs.Common.{◌≡◌, ℕ, ◌+◌, ◌%◌, ◌^◌, ◌<◌, ◌≤◌, ◌≢◌, Bool, true, false, cond, List, [], ◌∷◌, ◌++◌, length, length-append, map, Option, Some, None, refl, sym, ap, ◌∙◌, subst, eqb, inl, inr, arith}
 use Rattle.std.specs.Prelude.{count_by, Result, Ok, Err, OnOk, OnErr, OnSome, IfNone}
 use Rattle.std.proofs.lemmas.Bool.{eq-eqb, ne_eqb}
 use Rattle.std.proofs.lemmas.List.{map-append, length-map}
@@ -233,15 +233,6 @@ module _ {K V : Type 0} {heads : List (Option Ptr)} {s : State (K × V)} {r : �
   IsTable-to_back {t} p h last spares =
       let long = length-moved t p h last in
       record { indexed = indexed_to_back heads s t p table.indexed h last spares; few = table.few; limit = omega (arith, long, spares, table.limit) }
-
-  -- a pair was put at the back
-  pub IsTable-pushed : {chains : List (Option Ptr)} {t u : State (K × V)} (x : Held (K × V)) → t.held ≡ s.held ++ x ∷ [] → t.spares ≡ s.spares - 1 → 0 < s.spares → entries u.held ≡ entries t.held → u.spares ≡ t.spares → Indexes chains (spots u.held) → length chains ≡ length heads → IsTable chains u r
-  IsTable-pushed {chains} {t} {u} x last less room same spares indexed count =
-      let a = ap length last in
-      let b = length-append s.held (x ∷ []) in
-      let long = length-same_entries u.held t.held same in
-      let all : length s.held + s.spares ≡ length u.held + u.spares = omega (arith, a, b, long, less, spares, room) in
-      record { indexed = record { chains = indexed; count = count ∙ table.indexed.count ∙ ap buckets all }; few = omega (arith, table.few, count); limit = omega (arith, all, table.limit) }
 
   -- the node at p was taken out of its chain, and then out of the ring
   module _ {chains : List (Option Ptr)} {t w : State (K × V)} {p : Ptr} (same : entries t.held ≡ entries s.held) (spares : t.spares ≡ s.spares) (lacks : HoldsOthers chains t.held p) (others : AtHeld t.held p (λ xs x ys. w.held ≡ xs ++ ys)) (more : w.spares ≡ t.spares + 1) where

@@ -1,18 +1,11 @@
 -- Runs of a `Drain`, and what is left of one.
-use Rattle.std.proofs.Common.{◌≡◌, ℕ, ◌+◌, ◌≤◌, Bool, List, [], ◌∷◌, map, length, Option, Some, None, refl, sym, ap, ◌∙◌, subst, arith}
-use Rattle.std.specs.List.{IsDistinct}
+use Rattle.std.proofs.Common.{◌≡◌, ℕ, List, [], ◌∷◌, map, length, Option, refl, sym, ap, ◌∙◌}
 use Rattle.std.specs.Iterator.Runs.{YieldsInOrder, YieldsInReverse}
 use Rattle.std.proofs.iter.runs.Sources.{from_front, from_back, as_is, as_is_back}
-use denote.RawPtr.{Ptr}
 use Rattle.lhm_ring.specs.RingState.{Held, triples}
-use Rattle.lhm_ring.specs.Tables.{TableState}
-use Rattle.linked_hash_map.specs.Changes.{drained}
-use Rattle.linked_hash_map.specs.Cursor.{without_cursor}
 use Rattle.linked_hash_map.specs.Drains.{drain_rest, drain_name, DrainSteps, DrainStepsBack, DrainKeepsAlong}
-use Rattle.linked_hash_map.specs.LinkedMap.{LinkedMap, nowhere}
-use Rattle.linked_hash_map.specs.Nodes.{Beside, pairs_of, map_of, IsKept, Lies, bare, bookmark_at, current_at, cursor_at}
+use Rattle.linked_hash_map.specs.Nodes.{pairs_of}
 use Rattle.linked_hash_map.specs.declared.drain.Drain.{Drain}
-use Rattle.linked_hash_map.specs.declared.map.TheConstants.{LIMIT}
 
 module _ {K V : Type 0} where
   pub drains_in_order : YieldsInOrder (DrainSteps {K = K} {V = V}) drain_rest

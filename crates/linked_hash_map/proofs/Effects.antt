@@ -32,10 +32,6 @@ remove-last {X} xs =
     let none : drop (suc (length xs - 1)) xs ≡ [] = drop_of_length-le xs past in
     ap (λ (ys : List X). take (length xs - 1) xs ++ ys) none ∙ append-nil (take (length xs - 1) xs)
 
-pub no_first_is_nil : {X : Type 0} (xs : List X) → None ≡ slice_get xs 0 → xs ≡ []
-no_first_is_nil [] h = refl
-no_first_is_nil (x ∷ xs) h = absurd (true≢false (sym (ap is_some h)))
-
 pub no_last_is_nil : {X : Type 0} (xs : List X) → None ≡ slice_get xs (length xs - 1) → xs ≡ []
 no_last_is_nil [] h = refl
 no_last_is_nil (x ∷ xs) h = absurd (some_last x xs (length (x ∷ xs) - 1) (omega arith) h)
@@ -192,10 +188,6 @@ module _ {K V : Type 0} {eq : K → K → Bool} (laws : IsEquivalence eq) {start
 
   pub slice_get_last-held : {o : Option (K × V)} → o ≡ slice_get held (length held - 1) → slice_get (pairs eq log) (length (pairs eq log) - 1) ≡ o
   slice_get_last-held h = ap (λ es. slice_get es (length es - 1)) defines.same_pairs ∙ sym h
-
-  -- where nothing is first or last, the log has no pairs
-  pub pairs-no_first : None ≡ slice_get held 0 → pairs eq log ≡ []
-  pairs-no_first h = defines.same_pairs ∙ no_first_is_nil held h
 
   pub pairs-no_last : None ≡ slice_get held (length held - 1) → pairs eq log ≡ []
   pairs-no_last h = defines.same_pairs ∙ no_last_is_nil held h

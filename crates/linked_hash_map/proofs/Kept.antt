@@ -31,19 +31,9 @@ of-None P o e h = subst (λ (r : Option _). IfNone r P) e h
 
 -- what is the same of nodes with the same entries, and of nodes with other values
 module _ {K V : Type 0} where
-  pub bare-of-entries : (hs : List (Held (K × V))) → bare (entries hs) ≡ bare hs
-  bare-of-entries [] = refl
-  bare-of-entries (t ∷ hs) = ap (λ us. bare_node t ∷ us) (bare-of-entries hs)
-
-  pub bare-entries : (hs ks : List (Held (K × V))) → entries hs ≡ entries ks → bare hs ≡ bare ks
-  bare-entries hs ks e = sym (bare-of-entries hs) ∙ ap bare e ∙ bare-of-entries ks
-
   pub pairs_of-of-entries : (hs : List (Held (K × V))) → pairs_of (entries hs) ≡ pairs_of hs
   pairs_of-of-entries [] = refl
   pairs_of-of-entries (t ∷ hs) = ap (λ ps. t.pair ∷ ps) (pairs_of-of-entries hs)
-
-  pub pairs_of-entries : (hs ks : List (Held (K × V))) → entries hs ≡ entries ks → pairs_of hs ≡ pairs_of ks
-  pairs_of-entries hs ks e = sym (pairs_of-of-entries hs) ∙ ap pairs_of e ∙ pairs_of-of-entries ks
 
   pub bare-change : (p : Ptr) (w : V) (hs : List (Held (K × V))) → bare (change_at p (revalued w) hs) ≡ bare hs
   bare-change p w [] = refl

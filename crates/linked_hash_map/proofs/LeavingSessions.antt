@@ -1,5 +1,5 @@
 -- The loop past the sessions that go.
-use Rattle.std.proofs.Common.{◌≡◌, ℕ, ◌+◌, ◌-◌, ◌<◌, ◌≤◌, cond, not, List, [], ◌∷◌, length, drop, nat_eq, refl, sym, ap, ◌∙◌, subst, arith, eq-eqb}
+use Rattle.std.proofs.Common.{◌≡◌, ℕ, ◌+◌, ◌-◌, ◌<◌, ◌≤◌, cond, not, List, [], ◌∷◌, length, drop, nat_eq, sym, ap, ◌∙◌, subst, arith, eq-eqb}
 use Rattle.std.proofs.lemmas.Bool.{ne_eqb}
 use Rattle.std.proofs.lemmas.List.{drop-drop}
 use Rattle.std.proofs.lemmas.List.Sums.{length-filter, count_by-le-length}
@@ -19,9 +19,6 @@ module _ {T : Type 0} (id room : ℕ) (all : List (Session T)) where
     pub stay : drop count (without all id) ≡ fit room (without all id)
     pub weigh : staying ≡ total_weight (fit room (without all id))
     pub within : count ≤ length (without all id)
-
-  pub IsPast-none : (weight : ℕ) → weight ≡ total_weight (without all id) → IsPast 0 weight all
-  IsPast-none weight weighs = record { left = refl; weighs = weighs; goes = refl; counted = omega arith }
 
   module _ {count weight : ℕ} where
     -- the session with the id is not counted

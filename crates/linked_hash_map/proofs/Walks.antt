@@ -1,6 +1,5 @@
 -- Steps and runs of the iterators.
-use Rattle.std.proofs.Common.{◌≡◌, ◌<◌, List, [], ◌∷◌, ◌++◌, length, Option, Some, None, refl, ap, ◌∙◌, arith, length-append}
-use Rattle.std.specs.Iterator.{MakesProgress, at_most}
+use Rattle.std.proofs.Common.{List, [], ◌∷◌, length, refl, ap, ◌∙◌}
 use Rattle.std.specs.Map.{values_of}
 use Rattle.std.specs.Map.Iter.{TakesFirst, TakesLast, ShowsInOrder, ShowsInReverse, GivesInOrder, GivesInReverse, LendsFirst, LendsLast, LendsValuesInOrder, LendsValuesInReverse}
 use Rattle.std.proofs.lemmas.List.{map-append}
@@ -32,19 +31,7 @@ module _ {S K X : Type 0} (rest : S → List (K × X)) where
       from_back (LendsLast rest) (λ x. x.1.now) (λ s. values_of (rest s)) (λ s t h. ap (λ l. length (values_of l)) h.0)
       (λ s x t h. ap values_of h ∙ map-append (λ pair. pair.1) (rest t) ((x.0.now, x.1.now) ∷ []))
 
-pub shorter_by_last : {X : Type 0} (s t : List X) (x : X) → s ≡ t ++ x ∷ [] → length t < length s
-shorter_by_last s t x e = omega (arith, ap length e, length-append t (x ∷ []))
-
 -- a step leaves less
-module _ {S A X : Type 0} (rest : S → List X) (shows : A → X) (s t : S) where
-  pub first_progress : (r : Option A) → TakesFirst shows (rest s) r (rest t) → MakesProgress (λ _. Unit {0}) (λ u. at_most (length (rest u))) s r t
-  first_progress None h = record { on = λ _. tt; keeps = tt; rests = λ _. tt }
-  first_progress (Some x) h = record { on = λ _. (tt, tt, omega (arith, ap length h)); keeps = tt; rests = λ _. tt }
-
-  pub last_progress : (r : Option A) → TakesLast shows (rest s) r (rest t) → MakesProgress (λ _. Unit {0}) (λ u. at_most (length (rest u))) s r t
-  last_progress None h = record { on = λ _. tt; keeps = tt; rests = λ _. tt }
-  last_progress (Some x) h = record { on = λ _. (tt, tt, shorter_by_last (rest s) (rest t) (shows x) h); keeps = tt; rests = λ _. tt }
-
 module _ {K V : Type 0} where
   pub keys_stand : (pairs : List (K × V)) → KeysStand pairs
   keys_stand [] vs = refl
