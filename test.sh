@@ -45,7 +45,8 @@ show_part gate
 
 wait
 [ -n "$failed" ] || run_part built-program scripts/built-program
-for part in refused-growths wrong-bodies-self-test built-program; do
+[ -n "$failed" ] || run_part churn scripts/churn
+for part in refused-growths wrong-bodies-self-test built-program churn; do
     [ ! -e "$work/$part.end" ] || show_part $part
 done
 if [ -n "$failed" ]; then
