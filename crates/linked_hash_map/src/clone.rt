@@ -6,8 +6,8 @@ use crate::map::LinkedHashMap;
 use std::alloc::AllocError;
 use std::hash::{BuildHasher, Hash};
 
-/// Clones the hasher and the pairs, inserted in order. The clone has the same mode, and its
-/// capacity is its source's length.
+/// Clones the hasher and each key and value once, inserted in order. The clone has the same mode,
+/// and its capacity is its source's length.
 ///
 /// If clones of two keys are equal, the later replaces the earlier. Returns an error if an
 /// allocation fails, or the clone of a key, a value or the hasher; an empty map is refused only if

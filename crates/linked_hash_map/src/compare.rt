@@ -14,7 +14,7 @@ use std::fmt;
 use std::hash::{BuildHasher, Hash, Hasher};
 
 /// Two maps are equal if they have equal pairs in the same order. Hashers and capacities are not
-/// compared. It is O(n) and does not allocate.
+/// compared, nor keys of maps of different lengths. It is O(n) and does not allocate.
 ///
 /// # Examples
 ///

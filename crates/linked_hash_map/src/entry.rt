@@ -38,7 +38,8 @@ pub enum Entry<'a, K: Eq + Hash, V, S: BuildHasher = DefaultHashBuilder> {
     Vacant(VacantEntry<'a, K, V, S>),
 }
 
-/// The entry of a present key. None of its calls allocates or ends the visit of a cursor.
+/// The entry of a present key. None of its calls hashes or compares a key, allocates, or ends the
+/// visit of a cursor.
 ///
 /// # Examples
 ///
@@ -62,7 +63,8 @@ pub struct OccupiedEntry<'a, K: Eq + Hash, V, S: BuildHasher = DefaultHashBuilde
     ghost outside: { IsOutside map.now.cursor.current map.now } by { IsOutside-prop map.now.cursor.current map.now },
 }
 
-/// The entry of an absent key. It owns the key, which is dropped with it.
+/// The entry of an absent key. It owns the key, which is dropped with it. None of its calls hashes
+/// or compares a key.
 ///
 /// # Examples
 ///

@@ -279,7 +279,7 @@ impl<K: Eq + Hash, V, S: BuildHasher> LinkedHashMap<K, V, S> {
     ///
     /// Returns `TooLarge` exactly if that sum is above [`LIMIT`], also if it overflows, and
     /// `NoRoom` if an allocation fails; the map is then unchanged. It is O(capacity) for the new
-    /// capacity. Within the old one it does not allocate and is never refused.
+    /// capacity, and hashes no key. Within the old one it does not allocate and is never refused.
     ///
     /// # Examples
     ///
@@ -323,8 +323,8 @@ impl<K: Eq + Hash, V, S: BuildHasher> LinkedHashMap<K, V, S> {
     /// Lowers the capacity to exactly the number of pairs; an empty map frees all its memory.
     ///
     /// Returns `NoRoom` if an allocation fails; the map is then unchanged. It is O(capacity) for
-    /// the old capacity. It allocates, and can be refused, only if pairs are left and there are to
-    /// be fewer buckets.
+    /// the old capacity, and hashes no key. It allocates, and can be refused, only if pairs are
+    /// left and there are to be fewer buckets.
     ///
     /// # Examples
     ///
@@ -364,7 +364,7 @@ impl<K: Eq + Hash, V, S: BuildHasher> LinkedHashMap<K, V, S> {
     /// [`Mode::Keep`] stays in its place, and `key` is dropped. A new key goes to the back. At full
     /// capacity it raises the capacity by exactly one or is refused: the error has this key and
     /// this value, and the map is unchanged. It is O(1) on average, or O(n) if the number of
-    /// buckets changes, and allocates only for a new key at full capacity.
+    /// buckets changes, hashes `key` once, and allocates only for a new key at full capacity.
     ///
     /// # Examples
     ///
@@ -409,7 +409,8 @@ impl<K: Eq + Hash, V, S: BuildHasher> LinkedHashMap<K, V, S> {
         Ok(None)
     }
 
-    /// Returns `true` if a key is present. It is O(1) on average and does not allocate.
+    /// Returns `true` if a key is present. It is O(1) on average, hashes the key once and does not
+    /// allocate.
     ///
     /// # Examples
     ///
@@ -425,7 +426,8 @@ impl<K: Eq + Hash, V, S: BuildHasher> LinkedHashMap<K, V, S> {
         self.get(key).is_some()
     }
 
-    /// Returns the value of a key, if present. It is O(1) on average and does not allocate.
+    /// Returns the value of a key, if present. It is O(1) on average, hashes the key once and does
+    /// not allocate.
     ///
     /// # Examples
     ///
@@ -445,7 +447,7 @@ impl<K: Eq + Hash, V, S: BuildHasher> LinkedHashMap<K, V, S> {
     ///
     /// For an absent key it reaches each node of the bucket's chain and compares each key with the
     /// same hash; for a present key it does no more. Every lookup searches so. It is O(1) on
-    /// average and does not allocate.
+    /// average, hashes the key once and does not allocate.
     ///
     /// # Examples
     ///
@@ -485,8 +487,8 @@ impl<K: Eq + Hash, V, S: BuildHasher> LinkedHashMap<K, V, S> {
         }
     }
 
-    /// Returns a mutable reference to the value of a key, if present. It is O(1) on average and
-    /// does not allocate.
+    /// Returns a mutable reference to the value of a key, if present. It is O(1) on average,
+    /// hashes the key once and does not allocate.
     ///
     /// # Examples
     ///
@@ -511,7 +513,8 @@ impl<K: Eq + Hash, V, S: BuildHasher> LinkedHashMap<K, V, S> {
     }
 
     /// Moves the pair of a key, if present, to the back in both modes and returns a mutable
-    /// reference to its value; else nothing changes. It is O(1) on average and does not allocate.
+    /// reference to its value; else nothing changes. It is O(1) on average, hashes the key once and
+    /// does not allocate.
     ///
     /// # Examples
     ///
@@ -541,7 +544,8 @@ impl<K: Eq + Hash, V, S: BuildHasher> LinkedHashMap<K, V, S> {
     }
 
     /// Removes the pair of a key and returns its value, if present; the stored key is dropped. The
-    /// order of the others and the capacity stay. It is O(1) on average and does not allocate.
+    /// order of the others and the capacity stay. It is O(1) on average, hashes the key once and
+    /// does not allocate.
     ///
     /// # Examples
     ///
@@ -617,7 +621,7 @@ impl<K: Eq + Hash, V, S: BuildHasher> LinkedHashMap<K, V, S> {
     }
 
     /// Removes and returns the front pair, if any. The capacity stays. It is O(1) on average,
-    /// compares no key and does not allocate.
+    /// hashes and compares no key, and does not allocate.
     ///
     /// # Examples
     ///
@@ -659,7 +663,7 @@ impl<K: Eq + Hash, V, S: BuildHasher> LinkedHashMap<K, V, S> {
     }
 
     /// Removes and returns the back pair, if any. The capacity stays. It is O(1) on average,
-    /// compares no key and does not allocate.
+    /// hashes and compares no key, and does not allocate.
     ///
     /// # Examples
     ///

@@ -18,7 +18,7 @@ impl<K: Eq + Hash, V, S: BuildHasher> LinkedHashMap<K, V, S> {
     /// Returns the entry of a key, to read, change, insert or remove its pair.
     ///
     /// An occupied entry has the stored key, and `key` is dropped; a vacant one owns `key`. It is
-    /// O(1) on average and does not allocate.
+    /// O(1) on average, hashes `key` once and does not allocate.
     ///
     /// # Examples
     ///

@@ -139,7 +139,7 @@ impl<'a, K: Eq + Hash, V, S: BuildHasher> OccupiedEntry<'a, K, V, S> {
     }
 
     /// Removes the pair, drops the stored key and returns the value. The order of the others and
-    /// the capacity stay. It is O(1) on average, compares no key and does not allocate.
+    /// the capacity stay. It is O(1) on average, hashes and compares no key, and does not allocate.
     ///
     /// # Examples
     ///

@@ -99,7 +99,7 @@ impl<K: Drop, V: Drop> ExactSizeIterator for IntoIter<K, V> {
 /// Once no pair is left, `next` and `next_back` return `None` for good.
 impl<K: Drop, V: Drop> FusedIterator for IntoIter<K, V> {}
 
-/// Clones the pairs left, in O(n), in the source's allocator.
+/// Clones each key and value left once, in O(n), in the source's allocator. It hashes no key.
 ///
 /// Returns an error if an allocation or the clone of a key or a value fails, and drops the clones
 /// made so far. With no pair left it does not allocate and never fails.

@@ -9,7 +9,8 @@ use std::hash::{BuildHasher, Hash};
 use std::ops::{Index, IndexMut};
 
 /// `map[&key]`, for a key that has to be proved present; the original panics if it is absent.
-/// `contains_key` and `get` are the tests. It is O(1) on average and does not allocate.
+/// `contains_key` and `get` are the tests. It is O(1) on average, hashes the key once and does not
+/// allocate.
 ///
 /// # Examples
 ///
@@ -33,7 +34,7 @@ impl<'q, K: Eq + Hash, V, S: BuildHasher> Index<&'q K> for LinkedHashMap<K, V, S
 }
 
 /// `map[&key] = value`, for a key that has to be proved present. `contains_key` and `get_mut` are
-/// the tests. It is O(1) on average and does not allocate.
+/// the tests. It is O(1) on average, hashes the key once and does not allocate.
 ///
 /// # Examples
 ///
