@@ -16,7 +16,9 @@ fn write_all(rt: &(impl Abort + Print + AllocGlobal), made: Result<Map, ReserveE
     if let Ok(mut map) = made {
         reserve_nothing(rt, &mut map);
         write_values(rt, &mut map);
+        count_values(rt, &mut map);
         write_all_but_first(rt, &mut map);
+        loop_over(&mut map);
         insert_present(rt, &mut map);
         take_out(rt, &mut map);
         put_in(rt, &mut map);
@@ -60,14 +62,18 @@ fn write_by_refresh(map: &mut Map) {
 
 /// Writes into a map that `write_values` left, and leaves (1, 11), (2, 22) and (3, 22).
 fn write_all_but_first(rt: &impl Abort, map: &mut Map) {
-    check_eq!(rt; (map.iter_mut().len(), map.iter_mut().size_hint()), (3, (3, Some(3))));
     check_eq!(rt; map.iter_mut().next_back(), Some((&3, &mut 31)));
     for (key, value) in map.iter_mut() {
         if *key != 1 {
             *value = 22;
         }
     }
-    loop_over(map);
+}
+
+/// Checks how many values there are to write in a map that has three.
+fn count_values(rt: &impl Abort, map: &mut Map) {
+    let pairs = map.iter_mut();
+    check_eq!(rt; (pairs.len(), pairs.size_hint()), (3, (3, Some(3))));
 }
 
 /// Writes each value as it is by a loop.
