@@ -36,7 +36,8 @@ pub enum Entry<'a, K: Eq + Hash, V, S: BuildHasher = DefaultHashBuilder> {
     Vacant(VacantEntry<'a, K, V, S>),
 }
 
-/// The entry of a present key. Its methods neither allocate nor end the visit of a cursor.
+/// The entry of a present key. Its methods neither hash or compare a key, nor allocate, nor end the
+/// visit of a cursor.
 ///
 /// # Examples
 ///
@@ -60,7 +61,8 @@ pub struct OccupiedEntry<'a, K: Eq + Hash, V, S: BuildHasher = DefaultHashBuilde
     ghost outside: { IsOutside map.now.cursor.current map.now } by { IsOutside-prop map.now.cursor.current map.now },
 }
 
-/// The entry of an absent key. It owns the key, which is dropped with it.
+/// The entry of an absent key. It owns the key, which is dropped with it. Its methods hash and
+/// compare no key.
 ///
 /// # Examples
 ///

@@ -15,8 +15,8 @@ use crate::map::{LIMIT, LinkedHashMap};
 use std::hash::{BuildHasher, Hash};
 
 impl<K: Eq + Hash, V, S: BuildHasher> LinkedHashMap<K, V, S> {
-    /// Returns the entry of a key, in O(1) on average without allocating. An occupied entry has the
-    /// stored key, and `key` is dropped; a vacant one owns `key`.
+    /// Returns the entry of a key, with one hash of it, in O(1) on average without allocating. An
+    /// occupied entry has the stored key, and `key` is dropped; a vacant one owns `key`.
     ///
     /// # Examples
     ///

@@ -135,8 +135,8 @@ impl<'a, K: Eq + Hash, V, S: BuildHasher> OccupiedEntry<'a, K, V, S> {
         self.map.insert_current(value)
     }
 
-    /// Removes the pair, drops the stored key and returns the value, in O(1) on average. It
-    /// compares no key and does not allocate; the order of the others and the capacity stay.
+    /// Removes the pair, drops the stored key and returns the value, in O(1) on average. It hashes
+    /// and compares no key and does not allocate; the order of the others and the capacity stay.
     ///
     /// # Examples
     ///

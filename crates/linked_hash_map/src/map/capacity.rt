@@ -13,8 +13,8 @@ impl<K: Eq + Hash, V, S: BuildHasher> LinkedHashMap<K, V, S> {
     /// Raises the capacity to exactly the number of pairs plus `additional`, if it is below that.
     ///
     /// Returns `TooLarge` exactly if that sum is above [`LIMIT`] or overflows, and `NoRoom` if an
-    /// allocation fails; the map is then unchanged. It is O(capacity) for the new capacity. Within
-    /// the old one it does not allocate and is never refused.
+    /// allocation fails; the map is then unchanged. It is O(capacity) for the new capacity and
+    /// hashes no key. Within the old one it does not allocate and is never refused.
     ///
     /// # Examples
     ///
@@ -55,8 +55,8 @@ impl<K: Eq + Hash, V, S: BuildHasher> LinkedHashMap<K, V, S> {
         }
     }
 
-    /// Lowers the capacity to exactly the number of pairs, in O(capacity) for the old one. An empty
-    /// map frees all its memory.
+    /// Lowers the capacity to exactly the number of pairs, in O(capacity) for the old one, hashing
+    /// no key. An empty map frees all its memory.
     ///
     /// It allocates only if pairs are left and there are to be fewer buckets. Returns `NoRoom` if
     /// that fails; the map is then unchanged.

@@ -15,7 +15,8 @@ use std::ops::{Index, IndexMut};
 impl<K: Eq + Hash, V, S: BuildHasher> LinkedHashMap<K, V, S> {
     ghost use Rattle.linked_hash_map.specs.Lends.{lends_value, lends_refreshed};
 
-    /// Returns the value of a key, if present, in O(1) on average without allocating.
+    /// Returns the value of a key, if present. It hashes the key once, is O(1) on average and does
+    /// not allocate.
     ///
     /// # Examples
     ///
@@ -31,8 +32,8 @@ impl<K: Eq + Hash, V, S: BuildHasher> LinkedHashMap<K, V, S> {
         self.get_counted(key).0
     }
 
-    /// Returns a mutable reference to the value of a key, if present, in O(1) on average without
-    /// allocating.
+    /// Returns a mutable reference to the value of a key, if present. It hashes the key once, is
+    /// O(1) on average and does not allocate.
     ///
     /// # Examples
     ///
@@ -57,7 +58,7 @@ impl<K: Eq + Hash, V, S: BuildHasher> LinkedHashMap<K, V, S> {
     }
 
     /// Moves the pair of a key, if present, to the back in both modes, and returns a mutable
-    /// reference to its value. It is O(1) on average and does not allocate.
+    /// reference to its value. It hashes the key once, is O(1) on average and does not allocate.
     ///
     /// # Examples
     ///
@@ -86,8 +87,8 @@ impl<K: Eq + Hash, V, S: BuildHasher> LinkedHashMap<K, V, S> {
         }
     }
 
-    /// Returns the value of a key, if present, and the counts of the lookup, in O(1) on average
-    /// without allocating.
+    /// Returns the value of a key, if present, and the counts of the lookup. It hashes the key
+    /// once, is O(1) on average and does not allocate.
     ///
     /// For an absent key it reaches each node of the bucket's chain and compares each key with the
     /// same hash; for a present key it does no more. Every lookup searches so.
@@ -130,7 +131,8 @@ impl<K: Eq + Hash, V, S: BuildHasher> LinkedHashMap<K, V, S> {
         }
     }
 
-    /// Returns `true` if a key is present, in O(1) on average without allocating.
+    /// Returns `true` if a key is present. It hashes the key once, is O(1) on average and does not
+    /// allocate.
     ///
     /// # Examples
     ///
@@ -181,8 +183,8 @@ impl<K: Eq + Hash, V, S: BuildHasher> LinkedHashMap<K, V, S> {
     }
 }
 
-/// `map[&key]`, for a key that has to be proved present, as by `contains_key`; the original
-/// panics if it is absent. It is O(1) on average and does not allocate.
+/// `map[&key]`, for a key that has to be proved present, as by `contains_key`; the original panics
+/// if it is absent. It hashes the key once, is O(1) on average and does not allocate.
 ///
 /// # Examples
 ///
@@ -205,8 +207,8 @@ impl<'q, K: Eq + Hash, V, S: BuildHasher> Index<&'q K> for LinkedHashMap<K, V, S
     }
 }
 
-/// `map[&key] = value`, for a key that has to be proved present, in O(1) on average without
-/// allocating.
+/// `map[&key] = value`, for a key that has to be proved present, with one hash of the key, in O(1)
+/// on average without allocating.
 ///
 /// # Examples
 ///

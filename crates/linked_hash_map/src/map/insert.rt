@@ -39,8 +39,8 @@ impl<K: Eq + Hash, V, S: BuildHasher> LinkedHashMap<K, V, S> {
     /// A present key is never refused: its pair keeps the stored key and moves to the back, or in
     /// [`Mode::Keep`] stays in its place, and `key` is dropped. A new key goes to the back. Only a
     /// new key at full capacity allocates: it raises the capacity by one or is refused, and the
-    /// error then has this key and this value, and the map is unchanged. It is O(1) on average, or
-    /// O(n) if the number of buckets changes.
+    /// error then has this key and this value, and the map is unchanged. It hashes `key` once and
+    /// is O(1) on average, or O(n) if the number of buckets changes.
     ///
     /// # Examples
     ///

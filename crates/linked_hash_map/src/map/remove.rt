@@ -16,8 +16,9 @@ impl<K: Eq + Hash, V, S: BuildHasher> LinkedHashMap<K, V, S> {
     ghost use Rattle.std.specs.Iterator.Runs.{YieldsInOrder, YieldsInReverse};
     ghost use Rattle.linked_hash_map.specs.Lends.{lends_drained};
 
-    /// Removes the pair of a key and returns its value, if present, in O(1) on average without
-    /// allocating. The stored key is dropped; the order of the others and the capacity stay.
+    /// Removes the pair of a key and returns its value, if present, with one hash of the key, in
+    /// O(1) on average without allocating. The stored key is dropped; the order of the others and
+    /// the capacity stay.
     ///
     /// # Examples
     ///
@@ -62,8 +63,8 @@ impl<K: Eq + Hash, V, S: BuildHasher> LinkedHashMap<K, V, S> {
         Some(pair)
     }
 
-    /// Removes and returns the front pair, if any, in O(1) on average. It compares no key and does
-    /// not allocate; the capacity stays.
+    /// Removes and returns the front pair, if any, in O(1) on average. It hashes and compares no
+    /// key and does not allocate; the capacity stays.
     ///
     /// # Examples
     ///
@@ -87,8 +88,8 @@ impl<K: Eq + Hash, V, S: BuildHasher> LinkedHashMap<K, V, S> {
         Some(self.table.remove_at(front))
     }
 
-    /// Removes and returns the back pair, if any, in O(1) on average. It compares no key and does
-    /// not allocate; the capacity stays.
+    /// Removes and returns the back pair, if any, in O(1) on average. It hashes and compares no key
+    /// and does not allocate; the capacity stays.
     ///
     /// # Examples
     ///
