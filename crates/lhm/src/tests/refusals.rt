@@ -120,13 +120,6 @@ fn refused_growth_of_a_draining(rt: HostRuntime) {
     check_ways(&rt, rt.alloc(), b"insert 1 1\ndrain\n", &ways, 13);
 }
 
-/// Answers that a run gives where a growth is refused, and the lines of their replies.
-const REFUSALS: [(Answer<u64, u64>, &str); 3] = [
-    (Answer::Refused(1, 10), "refused 1 10 len=2 cap=3\n"),
-    (Answer::Stopped(4, 1, 10), "stopped 4 1 10 len=2 cap=3\n"),
-    (Answer::NoRoom, "noroom len=2 cap=3\n"),
-];
-
 /// Checks the line of a reply. Its text has room, so that nothing is refused.
 fn check_reply(rt: &impl Abort, alloc: Global, answer: Answer<u64, u64>, line: &str) {
     let mut text = given!(rt; String::with_capacity(alloc, 64));
@@ -141,8 +134,18 @@ fn check_reply(rt: &impl Abort, alloc: Global, answer: Answer<u64, u64>, line: &
 
 #[test]
 fn answers_to_refusals_are_written_where_there_is_room(rt: HostRuntime) {
-    let [refused, stopped, no_room] = REFUSALS;
-    check_reply(&rt, rt.alloc(), refused.0, refused.1);
-    check_reply(&rt, rt.alloc(), stopped.0, stopped.1);
-    check_reply(&rt, rt.alloc(), no_room.0, no_room.1);
+    let alloc = rt.alloc();
+    check_reply(
+        &rt,
+        alloc,
+        Answer::Refused(1, 10),
+        "refused 1 10 len=2 cap=3\n",
+    );
+    check_reply(
+        &rt,
+        alloc,
+        Answer::Stopped(4, 1, 10),
+        "stopped 4 1 10 len=2 cap=3\n",
+    );
+    check_reply(&rt, alloc, Answer::NoRoom, "noroom len=2 cap=3\n");
 }
