@@ -44,10 +44,10 @@ began=$(date +%s)
 show_part gate
 
 wait
-for part in built-program larger-run; do
+for part in built-program larger-run churn; do
     [ -n "$failed" ] || run_part $part "scripts/$part"
 done
-for part in refused-growths wrong-bodies-self-test built-program larger-run; do
+for part in refused-growths wrong-bodies-self-test built-program larger-run churn; do
     [ ! -e "$work/$part.end" ] || show_part $part
 done
 if [ -n "$failed" ]; then

@@ -1,0 +1,56 @@
+//! Maps that the parts begin with.
+
+use super::hasher::BuildOwner;
+use super::item::{Key, Value};
+use super::stop::Stop;
+use linked_hash_map::LinkedHashMap;
+use std::alloc::{AllocError, Global};
+
+/// How many pairs a map has. It has nearly two buckets a pair then, the most that there can be.
+pub const PAIRS: u64 = 1025;
+
+/// The maps of the parts.
+pub type Map<K, V> = LinkedHashMap<K, V, BuildOwner>;
+
+/// Makes an empty map of capacity 0.
+pub fn empty<K: Key, V: Value>(alloc: Global) -> Result<Map<K, V>, Stop> {
+    Ok(Map::with_hasher(alloc, BuildOwner::new(alloc)?))
+}
+
+/// Inserts the pair of each number from `first` up to `end`.
+pub fn fill<K: Key, V: Value>(
+    alloc: Global,
+    map: &mut Map<K, V>,
+    first: u64,
+    end: u64,
+) -> Result<(), Stop> {
+    for number in first..end {
+        map.insert(K::key(alloc, number)?, V::value(alloc, number)?)?;
+    }
+    Ok(())
+}
+
+/// Makes a map of the first `PAIRS` pairs, whose capacity is raised one by one.
+pub fn filled<K: Key, V: Value>(alloc: Global) -> Result<Map<K, V>, Stop> {
+    let mut map = empty(alloc)?;
+    fill(alloc, &mut map, 0, PAIRS)?;
+    Ok(map)
+}
+
+/// Makes a list of the pairs from `first` up to `end`.
+pub fn list<K: Key, V: Value>(alloc: Global, first: u64, end: u64) -> Result<Vec<(K, V)>, Stop> {
+    let mut pairs = Vec::new(alloc);
+    for number in first..end {
+        pairs.push((K::key(alloc, number)?, V::value(alloc, number)?))?;
+    }
+    Ok(pairs)
+}
+
+/// Makes a list of the first `PAIRS` keys.
+pub fn keys<K: Key>(alloc: Global) -> Result<Vec<K>, Stop> {
+    let mut keys = Vec::new(alloc);
+    for number in 0..PAIRS {
+        keys.push(K::key(alloc, number)?)?;
+    }
+    Ok(keys)
+}

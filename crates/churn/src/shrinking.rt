@@ -1,0 +1,43 @@
+//! Calls that lower the capacity.
+
+use super::filling::{Map, PAIRS, empty, fill, filled};
+use super::item::{Key, Value};
+use super::stop::Stop;
+use super::sums::total;
+use std::alloc::Global;
+
+/// Shrinks a map with room and no pairs, and fills it again.
+fn without_pairs<K: Key, V: Value>(alloc: Global) -> Result<usize, Stop> {
+    let mut map: Map<K, V> = empty(alloc)?;
+    map.reserve(PAIRS as usize)?;
+    map.shrink_to_fit()?;
+    fill(alloc, &mut map, 0, 1)?;
+    Ok(map.len())
+}
+
+/// Shrinks a map with room and few pairs, so that it has fewer buckets.
+fn to_fewer_buckets<K: Key, V: Value>(alloc: Global) -> Result<usize, Stop> {
+    let mut map: Map<K, V> = empty(alloc)?;
+    map.reserve(PAIRS as usize)?;
+    fill(alloc, &mut map, 0, 3)?;
+    map.shrink_to_fit()?;
+    Ok(map.len())
+}
+
+/// Shrinks a map that is nearly full, so that it keeps its buckets and frees nodes alone.
+fn to_as_many_buckets<K: Key, V: Value>(alloc: Global) -> Result<usize, Stop> {
+    let mut map: Map<K, V> = filled(alloc)?;
+    map.reserve(PAIRS as usize - 10)?;
+    map.shrink_to_fit()?;
+    Ok(map.len())
+}
+
+/// Runs the part, and returns how many pairs it saw.
+pub fn run<K: Key, V: Value>(alloc: Global) -> Result<u64, Stop> {
+    let seen = [
+        without_pairs::<K, V>(alloc)?,
+        to_fewer_buckets::<K, V>(alloc)?,
+        to_as_many_buckets::<K, V>(alloc)?,
+    ];
+    Ok(total(&seen))
+}
