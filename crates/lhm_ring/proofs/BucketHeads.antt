@@ -41,12 +41,12 @@ cleared (x ∷ xs) (suc i) h e a zero l = a 0 (omega arith)
 cleared (x ∷ xs) (suc i) h e a (suc b) l = cleared xs i h e (λ c m. a (suc c) (omega (arith, m))) b (omega (arith, l))
 
 -- the head of a bucket becomes a link, and the position the head
-pub chained : {K V : Type 0} (at : Position K V) (heads : List Head) (old_head new_head : Head) (link : Option (Position K V)) (count number bucket : ℕ) (old new : List (Held (K × V))) → count ≡ length heads → 0 < count → bucket ≡ number % count
+pub chained : {K V : Type 0} (at : Position K V) (heads : List Head) (old_head new_head : Head) (link : Option (Position K V)) (count hash bucket : ℕ) (old new : List (Held (K × V))) → count ≡ length heads → 0 < count → bucket ≡ hash % count
     → old_head ≡ get_or heads bucket old_head → pointer_of_some link ≡ leads_to old_head → leads_to new_head ≡ Some (pointer_of at)
-    → OfNodeAt old (pointer_of at) (λ x. number ≡ x.number) → AtHeld old (pointer_of at) (λ before x after. new ≡ before ++ linked_to (pointer_of_some link) x ∷ after) → Chains (pointer_of at) (map leads_to heads) (map leads_to (set heads bucket new_head)) old new
-chained {K} {V} at heads old_head new_head link count number bucket old new many some is head_is link_is new_is own sets = λ before x after e p.
-    let b : bucket ≡ x.number % length (map leads_to heads) = is ∙ ap (λ n. n % count) (own before x after e p) ∙ ap (λ n. x.number % n) (many ∙ sym (length-map heads leads_to)) in
-    let within : bucket < length heads = let l : number % count < count = mod-lt number some in omega (arith, l, is, many) in
+    → OfNodeAt old (pointer_of at) (λ x. hash ≡ x.hash) → AtHeld old (pointer_of at) (λ before x after. new ≡ before ++ linked_to (pointer_of_some link) x ∷ after) → Chains (pointer_of at) (map leads_to heads) (map leads_to (set heads bucket new_head)) old new
+chained {K} {V} at heads old_head new_head link count hash bucket old new many some is head_is link_is new_is own sets = λ before x after e p.
+    let b : bucket ≡ x.hash % length (map leads_to heads) = is ∙ ap (λ n. n % count) (own before x after e p) ∙ ap (λ n. x.hash % n) (many ∙ sym (length-map heads leads_to)) in
+    let within : bucket < length heads = let l : hash % count < count = mod-lt hash some in omega (arith, l, is, many) in
     let read : get_or (map leads_to heads) bucket None ≡ pointer_of_some link = head_pointer heads bucket old_head within ∙ ap leads_to (sym head_is) ∙ sym link_is in
     record {
       nodes_is = sets before x after e p ∙ ap (λ (l : Option Ptr). before ++ linked_to l x ∷ after) (sym read ∙ ap (λ n. get_or (map leads_to heads) n None) b);

@@ -14,10 +14,10 @@ use Rattle.lhm_ring.proofs.Apart.{IsFresh, apart_none, same_ptr_eq, same_ptr_ref
 use Rattle.lhm_ring.proofs.Writes.{at_other, length-change, read_kept, links_set, body_kept}
 use Rattle.lhm_ring.proofs.Rows.{all_from, all_right, content_pointer, apart_at, apart_head, apart_left, apart_tail, follow_row}
 use Rattle.lhm_ring.proofs.Moves.{ring_listed, none_held, found}
-use Rattle.lhm_ring.proofs.Splicing.{next_relinked, prev_relinked, guard_relinked, link_relinked, number_relinked}
-use Rattle.lhm_ring.proofs.OneNodeChanged.{links_kept, body_set, content_number, content_link, content_guard, content_pair, content_holds}
+use Rattle.lhm_ring.proofs.Splicing.{next_relinked, prev_relinked, guard_relinked, link_relinked, hash_relinked}
+use Rattle.lhm_ring.proofs.OneNodeChanged.{links_kept, body_set, content_hash, content_link, content_guard, content_pair, content_holds}
 
--- the same nodes and the same order, but that p holds u in pointer of t
+-- the same nodes and the same order, except that p holds u in place of t
 pub record ChangesAt {B : Type 0} (cs ds : List (Cell Links B)) (p : Ptr) (t u : Held B) : Type 0 where
   pub next : (q : Ptr) → next_at ds q ≡ next_at cs q
   pub prev : (q : Ptr) → prev_at ds q ≡ prev_at cs q
@@ -112,18 +112,18 @@ module _ {B : Type 0} (cs ds : List (Cell Links B)) (p : Ptr) (t u : Held B) (j 
     ring_list_changed None n = refl
     ring_list_changed (Some g) n = ap (listed ds) (follow_same n g.ptr) ∙ listed_changed (follow cs n g.ptr)
 
--- the body of a node is written, or its further link
+-- the body of a node is written, or its chain link
 module _ {B : Type 0} (cs : List (Cell Links B)) (p : Ptr) (l : Links) (e : links_at cs p ≡ Some l) (t : Held B) (c : content_at cs p ≡ Some t) where
   open_guard : (l.guard == 1) ≡ false
   open_guard = sym (ap guard_of e) ∙ content_guard p (links_at cs p) (body_at cs p) t c
 
-  seen_content : (o : Option Links) (b : Option B) (k : Links) (x : B) → o ≡ Some k → b ≡ Some x → (k.guard == 1) ≡ false → content_of p o b ≡ Some (held p k.number (link_of (Some k)) x)
-  seen_content o b k x eo eb f = (λ i. content_of p (eo i) (eb i)) ∙ ap (λ y. cond y None (Some (held p k.number (link_of (Some k)) x))) f
+  seen_content : (o : Option Links) (b : Option B) (k : Links) (x : B) → o ≡ Some k → b ≡ Some x → (k.guard == 1) ≡ false → content_of p o b ≡ Some (held p k.hash (link_of (Some k)) x)
+  seen_content o b k x eo eb f = (λ i. content_of p (eo i) (eb i)) ∙ ap (λ y. cond y None (Some (held p k.hash (link_of (Some k)) x))) f
 
   shown_links : content_of p (Some l) (body_at cs p) ≡ Some t
   shown_links = ap (λ o. content_of p o (body_at cs p)) (sym e) ∙ c
 
-  pub body_changes : (x : B) → ChangesAt cs (with_body p (Some x) cs) p t (held t.at t.number t.link x)
+  pub body_changes : (x : B) → ChangesAt cs (with_body p (Some x) cs) p t (held t.at t.hash t.link x)
   body_changes x =
       let same : (q : Ptr) → links_at (with_body p (Some x) cs) q ≡ links_at cs q = links_kept p (Some x) cs l e in
       let pointer : t.at ≡ p = content_pointer p (links_at cs p) (body_at cs p) t c in
@@ -136,11 +136,11 @@ module _ {B : Type 0} (cs : List (Cell Links B)) (p : Ptr) (l : Links) (e : link
         content = λ q n. ap (λ z. content_of q (links_of z) (body_of z)) (at_other p (λ c. cell c.at c.links (Some x)) (λ c. refl) q n cs);
         was = c;
         is = seen_content (links_at (with_body p (Some x) cs) p) (body_at (with_body p (Some x) cs) p) l x (same p ∙ e) (body_set p (Some x) cs l e) open_guard
-            ∙ ap (λ z. Some z) (λ i. held (sym pointer i) (sym (content_number p l (body_at cs p) t shown_links) i) (sym (content_link p l (body_at cs p) t shown_links) i) x);
+            ∙ ap (λ z. Some z) (λ i. held (sym pointer i) (sym (content_hash p l (body_at cs p) t shown_links) i) (sym (content_link p l (body_at cs p) t shown_links) i) x);
         count = length-change p (λ c. cell c.at c.links (Some x)) cs;
       }
 
-  pub link_changes : (o : Link) → ChangesAt cs (with_links p (relinked o l) cs) p t (held t.at t.number (target o) t.pair)
+  pub link_changes : (o : Link) → ChangesAt cs (with_links p (relinked o l) cs) p t (held t.at t.hash (target o) t.pair)
   link_changes o =
       let k : Links = relinked o l in let e₂ : links_at (with_links p k cs) p ≡ Some k = links_set p k cs l e p ∙ ap (λ y. cond y (Some k) (links_at cs p)) (same_ptr_refl p) in
       let pointer : t.at ≡ p = content_pointer p (links_at cs p) (body_at cs p) t c in let x = content_holds p (links_at cs p) (body_at cs p) t c in
@@ -154,7 +154,7 @@ module _ {B : Type 0} (cs : List (Cell Links B)) (p : Ptr) (l : Links) (e : link
         content = λ q n. ap (λ z. content_of q (links_of z) (body_of z)) (at_other p (λ c. cell c.at k c.body) (λ c. refl) q n cs);
         was = c;
         is = seen_content (links_at (with_links p k cs) p) (body_at (with_links p k cs) p) k x.0 e₂ (body_kept p k cs l e p ∙ x.1) (guard_relinked o l ∙ open_guard)
-            ∙ ap (λ z. Some z) (λ i. held (sym pointer i) ((number_relinked o l ∙ sym (content_number p l (body_at cs p) t shown_links)) i) (link_relinked o l i) (sym pair i));
+            ∙ ap (λ z. Some z) (λ i. held (sym pointer i) ((hash_relinked o l ∙ sym (content_hash p l (body_at cs p) t shown_links)) i) (link_relinked o l i) (sym pair i));
         count = length-change p (λ c. cell c.at k c.body) cs;
       }
 

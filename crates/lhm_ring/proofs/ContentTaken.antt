@@ -1,4 +1,4 @@
--- What one node holds is taken out of what is lent. Assumes `Logic`.
+-- What one node holds is moved out of what is lent. Assumes `Logic`.
 use Rattle.std.proofs.Common.{◌≡◌, true, false, cond, List, [], ◌∷◌, ◌++◌, Option, Some, None, refl, sym, ap, ◌∙◌}
 use seplogic.Ra.Ura.{Ura}
 use base.Logic.{ent, sep, id⊢}

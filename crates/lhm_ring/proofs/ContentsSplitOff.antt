@@ -1,5 +1,5 @@
 -- What nodes hold is cut out of them, and they are whole again with nothing in them. Assumes `Logic`.
---     cells_out, cells_in      all bodies are taken out, and whatever comes back leaves room alone
+--     cells_out, cells_in      all bodies are taken from the nodes, and whatever comes back leaves room alone
 --     Bare      the nodes without bodies, as a type: what a `&` to nodes of holes shows is what a `&` to it shows
 use Rattle.std.proofs.Common.{ℕ, ◌+◌, List, [], ◌∷◌, ◌++◌, Option, Some, None, refl}
 use seplogic.Ra.Ura.{Ura}
@@ -160,7 +160,7 @@ anchor_made {𝓤 = 𝓤} 𝓛 b o = qed 𝓛 (raw (emp 𝓤) ∷ []) ∵
     fpack ! (List Val) (λ us. fsep (shape {X = ℕ} 0 [] (vstruct vnil ∷ []) us) (each ℕ u8.own_val [] us)) [] $ move ! (1 ∷ 0 ∷ []) $ fjoin ! $
     fpack ! (List Val) (λ us. fsep (cell_at full_share Anchor.mir us b o) (Anchor.own_val [] us)) (vstruct vnil ∷ []) $ done !
 
--- the nodes, but for their bodies, and the way back
+-- the nodes without their bodies, and the way back
 module _ (E : Three) {M : Type 1} {𝓤 : Ura M} (𝓛 : Logic 𝓤) (h : (Nr E).Denot) (rb ro : ℕ) where
   abbrev pub Fields : Fml
   Fields = part_at (BareRow (RL E) (RK E) (RV E)) full_share h rb ro

@@ -36,7 +36,7 @@ module _ {B : Type 0} where
       let n0 : n ≡ 0 = ring_length cs guard spare n m v ok w ∙ ap length h in let m0 : m ≡ 0 = ap (λ (z : State B). z.spares) w ∙ s in
       let a = shorter g.ptr cs o.2.there.0 in let b = o.2.count in let c = o.3 in let d = o.4 in none_left (without g.ptr cs) (omega arith)
 
-  -- a guard alone is gone once it is freed
+  -- once the guard is freed, no node is left
   pub without-guard : (cs : List (Cell Links B)) (g : Ptr) → IsRing cs g [] None [] → without g cs ≡ []
   without-guard cs g r = let a = shorter g cs r.there.0 in none_left (without g cs) (omega (arith, a, r.count))
 

@@ -49,19 +49,19 @@ module _ {B : Type 0} where
     pub last_held : Last hs p → IsHeld hs p
     last_held l = (l.rest, l.node, [], l.is, l.at)
 
--- the triples, once that at an end was taken out
+-- the triples, once that at an end was removed
 module _ {K V : Type 0} {hs : List (Held (K × V))} {p : Ptr} where
-  pub triples-first : (f : First hs p) (others : List (Held (K × V))) (taken : ℕ × K × V) → others ≡ f.rest → taken ≡ (f.node.number, f.node.pair.0, f.node.pair.1) → triples hs ≡ (taken.0, (taken.1, taken.2)) ∷ triples others
+  pub triples-first : (f : First hs p) (others : List (Held (K × V))) (taken : ℕ × K × V) → others ≡ f.rest → taken ≡ (f.node.hash, f.node.pair.0, f.node.pair.1) → triples hs ≡ (taken.0, (taken.1, taken.2)) ∷ triples others
   triples-first f others taken left out = ap triples f.is ∙ (λ i. ((sym out i).0, ((sym out i).1, (sym out i).2)) ∷ triples (sym left i))
 
-  pub triples-last : (l : Last hs p) (others : List (Held (K × V))) (taken : ℕ × K × V) → others ≡ l.rest ++ [] → taken ≡ (l.node.number, l.node.pair.0, l.node.pair.1) → triples hs ≡ triples others ++ (taken.0, (taken.1, taken.2)) ∷ []
+  pub triples-last : (l : Last hs p) (others : List (Held (K × V))) (taken : ℕ × K × V) → others ≡ l.rest ++ [] → taken ≡ (l.node.hash, l.node.pair.0, l.node.pair.1) → triples hs ≡ triples others ++ (taken.0, (taken.1, taken.2)) ∷ []
   triples-last l others taken left out =
-      ap triples l.is ∙ map-append (λ (t : Held (K × V)). (t.number, t.pair)) l.rest (l.node ∷ [])
+      ap triples l.is ∙ map-append (λ (t : Held (K × V)). (t.hash, t.pair)) l.rest (l.node ∷ [])
       ∙ (λ i. triples (sym (left ∙ append-nil l.rest) i) ++ ((sym out i).0, ((sym out i).1, (sym out i).2)) ∷ [])
 
 -- a triple that was put at the back comes last
-pub triples-pushed : {K V : Type 0} (hs rest : List (Held (K × V))) (t : Held (K × V)) → hs ≡ rest ++ t ∷ [] → triples hs ≡ triples rest ++ (t.number, t.pair) ∷ []
-triples-pushed hs rest t pushed = ap triples pushed ∙ map-append (λ u. (u.number, u.pair)) rest (t ∷ [])
+pub triples-pushed : {K V : Type 0} (hs rest : List (Held (K × V))) (t : Held (K × V)) → hs ≡ rest ++ t ∷ [] → triples hs ≡ triples rest ++ (t.hash, t.pair) ∷ []
+triples-pushed hs rest t pushed = ap triples pushed ∙ map-append (λ u. (u.hash, u.pair)) rest (t ∷ [])
 
 pub AllZip-last : {A B : Type 0} (R : A → B → Type 0) (xs : List A) (ys : List B) (x : A) (y : B) → AllZip R xs ys → R x y → AllZip R (xs ++ x ∷ []) (ys ++ y ∷ [])
 AllZip-last R [] [] x y all last = (last, tt)

@@ -11,7 +11,7 @@ use Rattle.lhm_ring.specs.Search.{OfNodeAt, entries, HasKey, IsLast, IsOnChain, 
 use Rattle.lhm_ring.proofs.Rearranged.{PutsIn-middle, IsRearranged-less}
 use Rattle.lhm_ring.proofs.Chains.{NodeOf, node_of_spot, later, IsRearranged-member, PutsIn-unfilter, PutsIn-filter_in, PutsIn-spots, Indexes-put, Indexes-take_first, Indexes-take_next, Indexes-none}
 
--- ---- nodes but for their links
+-- ---- nodes with no chain link
 
 entries-link : {K V : Type 0} (before : List (Held (K × V))) (x : Held (K × V)) (after : List (Held (K × V))) (l : Option Ptr) → entries (before ++ linked_to l x ∷ after) ≡ entries (before ++ x ∷ after)
 entries-link [] x after l = refl
@@ -42,13 +42,13 @@ IsHeld-kept old new p e h =
     let i : SplitLike new h.1 = split_like new h.0 h.1 h.2 (e ∙ ap entries h.3) in
     (i.before, i.node, i.after, i.is, ap (λ v. v.at) i.entry_is ∙ h.4)
 
-pub HasKey-kept : {K V : Type 0} (eq : K → K → Bool) (number : ℕ) (key : K) (old new : List (Held (K × V))) (p : Ptr) → entries new ≡ entries old → HasKey eq number key old p → HasKey eq number key new p
-HasKey-kept {K} {V} eq number key old new p e h =
+pub HasKey-kept : {K V : Type 0} (eq : K → K → Bool) (hash : ℕ) (key : K) (old new : List (Held (K × V))) (p : Ptr) → entries new ≡ entries old → HasKey eq hash key old p → HasKey eq hash key new p
+HasKey-kept {K} {V} eq hash key old new p e h =
     let back : (before : List (Held (K × V))) (x : Held (K × V)) (after : List (Held (K × V))) → new ≡ before ++ x ∷ after → SplitLike old x =
     λ b x a i. split_like old b x a (sym e ∙ ap entries i) in
     record {
       held = IsHeld-kept old new p e h.held;
-      number_is = λ b x a i j. ap (λ v. v.number) (sym (back b x a i).entry_is) ∙ h.number_is (back b x a i).before (back b x a i).node (back b x a i).after (back b x a i).is (ap (λ v. v.at) (back b x a i).entry_is ∙ j);
+      hash_is = λ b x a i j. ap (λ v. v.hash) (sym (back b x a i).entry_is) ∙ h.hash_is (back b x a i).before (back b x a i).node (back b x a i).after (back b x a i).is (ap (λ v. v.at) (back b x a i).entry_is ∙ j);
       key_is = λ b x a i j. ap (λ v. eq key v.pair.0) (sym (back b x a i).entry_is) ∙ h.key_is (back b x a i).before (back b x a i).node (back b x a i).after (back b x a i).is (ap (λ v. v.at) (back b x a i).entry_is ∙ j);
     }
 
@@ -57,12 +57,12 @@ HasKey-kept {K} {V} eq number key old new p e h =
 pub put_indexes : {K V : Type 0} (p : Ptr) (heads heads' : List (Option Ptr)) (nodes nodes' : List (Held (K × V))) → Chains p heads heads' nodes nodes' → HoldsOthers heads nodes p → 0 < length heads → Indexes heads' (spots nodes')
 put_indexes {K} {V} p heads heads' nodes nodes' c h l =
     let k : IsChained p heads heads' nodes' h.before h.node h.after = c h.before h.node h.after h.is h.at in
-    let head : Option Ptr = get_or heads (h.node.number % length heads) None in
+    let head : Option Ptr = get_or heads (h.node.hash % length heads) None in
     let x : Held (K × V) = linked_to head h.node in
-    let i : Indexes (set heads (h.node.number % length heads) (Some h.node.at)) (spots (h.before ++ x ∷ h.after)) = Indexes-put heads (spot x) (spots (h.before ++ h.after)) (spots (h.before ++ x ∷ h.after)) h.others l refl (PutsIn-spots h.before x h.after) in
-    let e : heads' ≡ set heads (h.node.number % length heads) (Some h.node.at) = k.heads_is ∙ ap (λ (v : Ptr). set heads (h.node.number % length heads) (Some v)) (sym h.at) in
+    let i : Indexes (set heads (h.node.hash % length heads) (Some h.node.at)) (spots (h.before ++ x ∷ h.after)) = Indexes-put heads (spot x) (spots (h.before ++ h.after)) (spots (h.before ++ x ∷ h.after)) h.others l refl (PutsIn-spots h.before x h.after) in
+    let e : heads' ≡ set heads (h.node.hash % length heads) (Some h.node.at) = k.heads_is ∙ ap (λ (v : Ptr). set heads (h.node.hash % length heads) (Some v)) (sym h.at) in
     subst (λ (v : List (Option Ptr)). Indexes v (spots nodes')) (sym e)
-    (subst (λ (v : List (Held (K × V))). Indexes (set heads (h.node.number % length heads) (Some h.node.at)) (spots v)) (sym k.nodes_is) i)
+    (subst (λ (v : List (Held (K × V))). Indexes (set heads (h.node.hash % length heads) (Some h.node.at)) (spots v)) (sym k.nodes_is) i)
 
 pub put_indexes_at : {K V : Type 0} (p : Ptr) (items heads heads' : List (Option Ptr)) (nodes nodes' : List (Held (K × V))) → items ≡ heads → Chains p items heads' nodes nodes' → HoldsOthers heads nodes p → 0 < length heads → Indexes heads' (spots nodes')
 put_indexes_at {K} {V} p items heads heads' nodes nodes' is c h l =
@@ -94,9 +94,9 @@ on_node n b done s rest nodes h =
     let t : (ws : List Spot) × PutsIn s ws (spots nodes) × (q s ≡ true) = PutsIn-unfilter q s m.0 (spots nodes) m.1 in
     record { ws = t.0; puts = t.1; passes = t.2; of = node_of_spot s t.0 nodes t.1 }
 
-pub on_held : {K V : Type 0} {heads : List (Option Ptr)} {number : ℕ} {nodes : List (Held (K × V))} {before : Option Ptr} {p : Ptr} → IsOnChain heads number (spots nodes) before p → IsHeld nodes p
-on_held {K} {V} {heads} {number} {nodes} {before} {p} w =
-    let o : OnNode (length heads) (number % length heads) w.done w.here w.rest nodes = on_node (length heads) (number % length heads) w.done w.here w.rest nodes w.holds in
+pub on_held : {K V : Type 0} {heads : List (Option Ptr)} {hash : ℕ} {nodes : List (Held (K × V))} {before : Option Ptr} {p : Ptr} → IsOnChain heads hash (spots nodes) before p → IsHeld nodes p
+on_held {K} {V} {heads} {hash} {nodes} {before} {p} w =
+    let o : OnNode (length heads) (hash % length heads) w.done w.here w.rest nodes = on_node (length heads) (hash % length heads) w.done w.here w.rest nodes w.holds in
     (o.of.before, o.of.node, o.of.after, o.of.is, ap (λ v. v.at) o.of.spot_is ∙ w.at_is)
 
 first_of : (rest : List Spot) (l : Option Ptr) (q : Ptr) → IsChain l rest → l ≡ Some q → (r : Spot) × (rs : List Spot) × (rest ≡ r ∷ rs) × (r.at ≡ q)
@@ -106,9 +106,9 @@ first_of (r ∷ rs) l q c e = let first : l ≡ Some r.at = c.0 in let same : r.
 PutsIn-some : {X : Type 0} (x : X) (xs : List X) → PutsIn x xs [] → ⊥
 PutsIn-some x xs h = h
 
-pub on_some : {heads : List (Option Ptr)} {number : ℕ} {xs : List Spot} {before : Option Ptr} {p : Ptr} → Indexes heads xs → IsOnChain heads number xs before p → 0 < length heads
-on_some {heads} {number} {xs} {before} {p} h w =
-    let f : Spot → Bool = is_in (length heads) (number % length heads) in
+pub on_some : {heads : List (Option Ptr)} {hash : ℕ} {xs : List Spot} {before : Option Ptr} {p : Ptr} → Indexes heads xs → IsOnChain heads hash xs before p → 0 < length heads
+on_some {heads} {hash} {xs} {before} {p} h w =
+    let f : Spot → Bool = is_in (length heads) (hash % length heads) in
     let m : (ws : List Spot) × PutsIn w.here ws (filter f xs) = IsRearranged-member w.done w.here w.rest (filter f xs) w.holds in
     let t : (ws : List Spot) × PutsIn w.here ws xs × (f w.here ≡ true) = PutsIn-unfilter f w.here m.0 xs m.1 in
     elim (cases_lt 0 (length heads)) [
@@ -135,18 +135,18 @@ has_none before done e (inr h) = absurd (let f : before ≡ Some h.1.at = h.3 in
 before_chain : (done : List Spot) (q : Ptr) (b : HasBefore done q) (s : Spot) (rest : List Spot) → done ++ s ∷ rest ≡ b.front ++ b.last ∷ s ∷ rest
 before_chain done q b s rest = ap (λ (v : List Spot). v ++ s ∷ rest) b.is ∙ append_assoc b.front (b.last ∷ []) (s ∷ rest)
 
-pub on_before_held : {K V : Type 0} {heads : List (Option Ptr)} {number : ℕ} {nodes : List (Held (K × V))} {before : Option Ptr} {p : Ptr} (q : Ptr) → before ≡ Some q → IsOnChain heads number (spots nodes) before p → IsHeld nodes q
-on_before_held {K} {V} {heads} {number} {nodes} {before} {p} q e w =
+pub on_before_held : {K V : Type 0} {heads : List (Option Ptr)} {hash : ℕ} {nodes : List (Held (K × V))} {before : Option Ptr} {p : Ptr} (q : Ptr) → before ≡ Some q → IsOnChain heads hash (spots nodes) before p → IsHeld nodes q
+on_before_held {K} {V} {heads} {hash} {nodes} {before} {p} q e w =
     let b : HasBefore w.done q = has_before before w.done q e w.behind in
-    let f : Spot → Bool = is_in (length heads) (number % length heads) in
+    let f : Spot → Bool = is_in (length heads) (hash % length heads) in
     let h : IsRearranged (b.front ++ b.last ∷ w.here ∷ w.rest) (filter f (spots nodes)) = subst (λ (v : List Spot). IsRearranged v (filter f (spots nodes))) (before_chain w.done q b w.here w.rest) w.holds in
-    let o : OnNode (length heads) (number % length heads) b.front b.last (w.here ∷ w.rest) nodes = on_node (length heads) (number % length heads) b.front b.last (w.here ∷ w.rest) nodes h in
+    let o : OnNode (length heads) (hash % length heads) b.front b.last (w.here ∷ w.rest) nodes = on_node (length heads) (hash % length heads) b.front b.last (w.here ∷ w.rest) nodes h in
     (o.of.before, o.of.node, o.of.after, o.of.is, ap (λ v. v.at) o.of.spot_is ∙ b.at_is)
 
-pub take_first : {K V : Type 0} {heads : List (Option Ptr)} {number : ℕ} {nodes : List (Held (K × V))} {before : Option Ptr} {p : Ptr} (link : Option Ptr) → before ≡ None → Indexes heads (spots nodes) → IsOnChain heads number (spots nodes) before p → OfNodeAt nodes p (λ x. link ≡ x.link) → HoldsOthers (set heads (number % length heads) link) nodes p
-take_first {K} {V} {heads} {number} {nodes} {before} {p} link e h w l =
+pub take_first : {K V : Type 0} {heads : List (Option Ptr)} {hash : ℕ} {nodes : List (Held (K × V))} {before : Option Ptr} {p : Ptr} (link : Option Ptr) → before ≡ None → Indexes heads (spots nodes) → IsOnChain heads hash (spots nodes) before p → OfNodeAt nodes p (λ x. link ≡ x.link) → HoldsOthers (set heads (hash % length heads) link) nodes p
+take_first {K} {V} {heads} {hash} {nodes} {before} {p} link e h w l =
     let n : ℕ = length heads in
-    let bucket : ℕ = number % n in
+    let bucket : ℕ = hash % n in
     let f : Spot → Bool = is_in n bucket in
     let none : w.done ≡ [] = has_none before w.done e w.behind in
     let linked : IsChain (get_or heads bucket None) (w.here ∷ w.rest) = subst (λ (v : List Spot). IsChain (get_or heads bucket None) (v ++ w.here ∷ w.rest)) none w.linked in
@@ -154,7 +154,7 @@ take_first {K} {V} {heads} {number} {nodes} {before} {p} link e h w l =
     let o : OnNode n bucket w.done w.here w.rest nodes = on_node n bucket w.done w.here w.rest nodes w.holds in
     let there : o.of.node.at ≡ p = ap (λ v. v.at) o.of.spot_is ∙ w.at_is in
     let link_is : link ≡ w.here.link = l o.of.before o.of.node o.of.after o.of.is there ∙ ap (λ v. v.link) o.of.spot_is in
-    let i : Indexes (set heads bucket w.here.link) o.ws = Indexes-take_first heads bucket w.here w.rest o.ws (spots nodes) h (mod-lt number (on_some h w)) linked holds o.puts in
+    let i : Indexes (set heads bucket w.here.link) o.ws = Indexes-take_first heads bucket w.here w.rest o.ws (spots nodes) h (mod-lt hash (on_some h w)) linked holds o.puts in
     record {
       before = o.of.before;
       node = o.of.node;
@@ -164,18 +164,18 @@ take_first {K} {V} {heads} {number} {nodes} {before} {p} link e h w l =
       others = subst (λ (v : Option Ptr). Indexes (set heads bucket v) (spots (o.of.before ++ o.of.after))) (sym link_is) (subst (λ (v : List Spot). Indexes (set heads bucket w.here.link) v) o.of.others i);
     }
 
--- the same, with the heads and their number as the code has them
-pub take_first_at : {K V : Type 0} {heads : List (Option Ptr)} {number : ℕ} {nodes : List (Held (K × V))} {before : Option Ptr} {p : Ptr} (items : List (Option Ptr)) (count : ℕ) (link : Option Ptr) → items ≡ heads → count ≡ length items → before ≡ None → Indexes heads (spots nodes) → IsOnChain heads number (spots nodes) before p → OfNodeAt nodes p (λ x. link ≡ x.link) → HoldsOthers (set items (number % count) link) nodes p
-take_first_at {K} {V} {heads} {number} {nodes} {before} {p} items count link is many e h w l =
-    let k : HoldsOthers (set heads (number % length heads) link) nodes p = take_first link e h w l in
+-- the same, with the heads and their count as the code has them
+pub take_first_at : {K V : Type 0} {heads : List (Option Ptr)} {hash : ℕ} {nodes : List (Held (K × V))} {before : Option Ptr} {p : Ptr} (items : List (Option Ptr)) (count : ℕ) (link : Option Ptr) → items ≡ heads → count ≡ length items → before ≡ None → Indexes heads (spots nodes) → IsOnChain heads hash (spots nodes) before p → OfNodeAt nodes p (λ x. link ≡ x.link) → HoldsOthers (set items (hash % count) link) nodes p
+take_first_at {K} {V} {heads} {hash} {nodes} {before} {p} items count link is many e h w l =
+    let k : HoldsOthers (set heads (hash % length heads) link) nodes p = take_first link e h w l in
     let c : count ≡ length heads = many ∙ ap length is in
-    subst (λ (v : List (Option Ptr)). HoldsOthers (set v (number % count) link) nodes p) (sym is)
-    (subst (λ (v : ℕ). HoldsOthers (set heads (number % v) link) nodes p) (sym c) k)
+    subst (λ (v : List (Option Ptr)). HoldsOthers (set v (hash % count) link) nodes p) (sym is)
+    (subst (λ (v : ℕ). HoldsOthers (set heads (hash % v) link) nodes p) (sym c) k)
 
-pub take_next : {K V : Type 0} {heads : List (Option Ptr)} {number : ℕ} {nodes : List (Held (K × V))} {before : Option Ptr} {p : Ptr} (nodes' : List (Held (K × V))) (q : Ptr) (link : Option Ptr) → before ≡ Some q → Indexes heads (spots nodes) → IsOnChain heads number (spots nodes) before p → OfNodeAt nodes p (λ x. link ≡ x.link) → AtHeld nodes q (λ before x after. nodes' ≡ before ++ linked_to link x ∷ after) → HoldsOthers heads nodes' p
-take_next {K} {V} {heads} {number} {nodes} {before} {p} nodes' q link e h w l sets =
+pub take_next : {K V : Type 0} {heads : List (Option Ptr)} {hash : ℕ} {nodes : List (Held (K × V))} {before : Option Ptr} {p : Ptr} (nodes' : List (Held (K × V))) (q : Ptr) (link : Option Ptr) → before ≡ Some q → Indexes heads (spots nodes) → IsOnChain heads hash (spots nodes) before p → OfNodeAt nodes p (λ x. link ≡ x.link) → AtHeld nodes q (λ before x after. nodes' ≡ before ++ linked_to link x ∷ after) → HoldsOthers heads nodes' p
+take_next {K} {V} {heads} {hash} {nodes} {before} {p} nodes' q link e h w l sets =
     let n : ℕ = length heads in
-    let bucket : ℕ = number % n in
+    let bucket : ℕ = hash % n in
     let f : Spot → Bool = is_in n bucket in
     let b : HasBefore w.done q = has_before before w.done q e w.behind in
     let split : w.done ++ w.here ∷ w.rest ≡ b.front ++ b.last ∷ w.here ∷ w.rest = before_chain w.done q b w.here w.rest in
@@ -196,7 +196,7 @@ take_next {K} {V} {heads} {number} {nodes} {before} {p} nodes' q link e h w l se
     let t : (ws : List Spot) × PutsIn w.here ws y.ws × (f w.here ≡ true) = PutsIn-unfilter f w.here m.0 y.ws m.1 in
     let s : (ws : List Spot) × PutsIn w.here ws (spots nodes') = later w.here y' t.0 y.ws (spots nodes') t.1 put' in
     let of : NodeOf w.here s.0 nodes' = node_of_spot w.here s.0 nodes' s.1 in
-    let i : Indexes heads s.0 = Indexes-take_next heads bucket b.front b.last y' w.here w.rest y.ws (spots nodes) (spots nodes') s.0 h (mod-lt number (on_some h w)) linked holds (ap (λ v. v.at) y.of.spot_is) (ap (λ v. v.number) y.of.spot_is) link_is y.puts put' s.1 in
+    let i : Indexes heads s.0 = Indexes-take_next heads bucket b.front b.last y' w.here w.rest y.ws (spots nodes) (spots nodes') s.0 h (mod-lt hash (on_some h w)) linked holds (ap (λ v. v.at) y.of.spot_is) (ap (λ v. v.hash) y.of.spot_is) link_is y.puts put' s.1 in
     record {
       before = of.before;
       node = of.node;
@@ -258,12 +258,12 @@ rechain_more {K} {V} {heads} {old} {nodes} {pointer} {count} {buckets} p heads' 
     let x : Held (K × V) = g.0.node in
     let k : IsChained p heads heads' nodes' w.done x g.0.tail = c w.done x g.0.tail g.1 g.0.at_is in
     let n : ℕ = length heads in
-    let head : Option Ptr = get_or heads (x.number % n) None in
+    let head : Option Ptr = get_or heads (x.hash % n) None in
     let x' : Held (K × V) = linked_to head x in
     let split : nodes' ≡ (w.done ++ x' ∷ []) ++ g.0.tail = k.nodes_is ∙ sym (append_assoc w.done (x' ∷ []) g.0.tail) in
-    let put : Indexes (set heads (x.number % n) (Some x.at)) (spots (w.done ++ x' ∷ [])) =
+    let put : Indexes (set heads (x.hash % n) (Some x.at)) (spots (w.done ++ x' ∷ [])) =
     Indexes-put heads (spot x') (spots (w.done ++ [])) (spots (w.done ++ x' ∷ [])) (subst (λ (v : List (Held (K × V))). Indexes heads (spots v)) (sym (append-nil w.done)) w.indexed) some refl (PutsIn-spots w.done x' []) in
-    let heads_are : heads' ≡ set heads (x.number % n) (Some x.at) = k.heads_is ∙ ap (λ (v : Ptr). set heads (x.number % n) (Some v)) (sym g.0.at_is) in
+    let heads_are : heads' ≡ set heads (x.hash % n) (Some x.at) = k.heads_is ∙ ap (λ (v : Ptr). set heads (x.hash % n) (Some v)) (sym g.0.at_is) in
     let long : length (w.done ++ x' ∷ []) ≡ length w.done + 1 = length-append w.done (x' ∷ []) in
     let d : count ≡ length w.done = w.count_is in
     let held : IsHeld nodes p = (w.done, x, g.0.tail, g.1, g.0.at_is) in

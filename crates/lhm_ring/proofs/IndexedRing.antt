@@ -53,6 +53,6 @@ indexed_to_back {K} {V} heads s t p i h last m =
     let all : length s.held + s.spares ≡ length t.held + t.spares = omega (arith, a, b, f, g, k, m) in
     record { chains = d; count = i.count ∙ ap buckets all }
 
--- where a node is there, so is a bucket
+-- if a node is held, there is a bucket
 pub indexed_some : {K V : Type 0} (heads : List (Option Ptr)) (s : State (K × V)) → IsIndexed heads s → 0 < s.spares → 0 < length heads
 indexed_some heads s i l = let c = capacity_le (length s.held + s.spares) in let n = i.count in omega (arith, c, n, l)

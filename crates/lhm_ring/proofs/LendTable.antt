@@ -39,7 +39,7 @@ module _ {K V : Type 0} where
   pub entries-set_held_values : (hs : List (Held (K × V))) (vs : List V) → entries (set_held_values hs vs) ≡ set_held_values (entries hs) vs
   entries-set_held_values [] vs = refl
   entries-set_held_values (t ∷ hs) [] = refl
-  entries-set_held_values (t ∷ hs) (v ∷ vs) = ap (λ ys. record { at = t.at; number = t.number; link = None; pair = (t.pair.0, v) } ∷ ys) (entries-set_held_values hs vs)
+  entries-set_held_values (t ∷ hs) (v ∷ vs) = ap (λ ys. record { at = t.at; hash = t.hash; link = None; pair = (t.pair.0, v) } ∷ ys) (entries-set_held_values hs vs)
 
   pub held_values-entries : (hs : List (Held (K × V))) → held_values (entries hs) ≡ held_values hs
   held_values-entries [] = refl

@@ -13,6 +13,7 @@ pub mod Hashed
 pub mod IndexChanges
 pub mod IndexMoves
 pub mod IndexedRing
+pub mod IteratorSteps
 pub mod LendTable
 pub mod Lookup
 pub mod Memory
@@ -40,5 +41,4 @@ pub mod ValueTaken
 pub mod ValuesInOrder
 pub mod ValuesReplaced
 pub mod ValuesSplitOff
-pub mod WalkSteps
 pub mod Writes

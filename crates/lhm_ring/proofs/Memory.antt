@@ -1,4 +1,4 @@
--- What the walks over the nodes share. Assumes `Logic`.
+-- What the proofs by hand over the nodes share. Assumes `Logic`.
 --     Three, args          the rows of the links, of the keys and of the values, and what a call passes for them
 --     word_known, word_made, mark_made      a value of one pointer, and one of no bytes
 --     cells_cut, cells_glue, cell_seen      one node is taken out of the others, put back, and seen through a `&`

@@ -14,19 +14,19 @@ use Rattle.lhm_ring.proofs.Chains.{IsRearranged-back, PutsIn-filter_in, PutsIn-s
 use Rattle.lhm_ring.proofs.IndexChanges.{OnNode, on_node}
 
 -- on the way to the node at p, along its chain, which is cut behind it: here comes after before
-pub record IsTowards {K V : Type 0} (heads : List (Option Ptr)) (number : ℕ) (nodes cut : List (Held (K × V))) (p : Ptr) (link before : Option Ptr) (here : Ptr) (passed : ℕ) : Type 0 where
+pub record IsTowards {K V : Type 0} (heads : List (Option Ptr)) (hash : ℕ) (nodes cut : List (Held (K × V))) (p : Ptr) (link before : Option Ptr) (here : Ptr) (passed : ℕ) : Type 0 where
   pub xs : List (Held (K × V))
   pub x : Held (K × V)
   pub ys : List (Held (K × V))
   pub is : nodes ≡ xs ++ x ∷ ys
   pub at : x.at ≡ p
-  pub number_is : number ≡ x.number
+  pub hash_is : hash ≡ x.hash
   pub link_is : link ≡ x.link
   pub cut_is : cut ≡ xs ++ linked_to None x ∷ ys
   pub us : List Spot
   pub vs : List Spot
-  pub linked : IsChain (get_or heads (number % length heads) None) (us ++ spot x ∷ vs)
-  pub holds : IsRearranged (us ++ spot x ∷ vs) (filter (is_in (length heads) (number % length heads)) (spots nodes))
+  pub linked : IsChain (get_or heads (hash % length heads) None) (us ++ spot x ∷ vs)
+  pub holds : IsRearranged (us ++ spot x ∷ vs) (filter (is_in (length heads) (hash % length heads)) (spots nodes))
   pub done : List Spot
   pub node : Spot
   pub todo : List Spot
@@ -41,7 +41,7 @@ some_there : {X : Type 0} (xs : List X) (x : X) (ys : List X) → xs ++ x ∷ ys
 some_there [] x ys e = absurd (cc)
 some_there (y ∷ xs) x ys e = absurd (cc)
 
--- the same but for the last
+-- the same except for the last
 fronts : {X : Type 0} (us : List X) (u : X) (vs : List X) (v : X) → us ++ u ∷ [] ≡ vs ++ v ∷ [] → us ≡ vs
 fronts [] u [] v e = refl
 fronts [] u (w ∷ []) v e = absurd (cc)
@@ -76,29 +76,29 @@ first_of here (u ∷ us) s t vs a c = record { node = u; todo = us ++ t ∷ []; 
 
 -- ---- the chain of a held node
 
-pub record OnItsChain {K V : Type 0} (heads : List (Option Ptr)) (number : ℕ) (nodes : List (Held (K × V))) (x : Held (K × V)) : Type 0 where
+pub record OnItsChain {K V : Type 0} (heads : List (Option Ptr)) (hash : ℕ) (nodes : List (Held (K × V))) (x : Held (K × V)) : Type 0 where
   pub us : List Spot
   pub vs : List Spot
-  pub linked : IsChain (get_or heads (number % length heads) None) (us ++ spot x ∷ vs)
-  pub holds : IsRearranged (us ++ spot x ∷ vs) (filter (is_in (length heads) (number % length heads)) (spots nodes))
+  pub linked : IsChain (get_or heads (hash % length heads) None) (us ++ spot x ∷ vs)
+  pub holds : IsRearranged (us ++ spot x ∷ vs) (filter (is_in (length heads) (hash % length heads)) (spots nodes))
 
-its_chain : {K V : Type 0} (heads : List (Option Ptr)) (number : ℕ) (nodes xs : List (Held (K × V))) (x : Held (K × V)) (ys : List (Held (K × V))) → Indexes heads (spots nodes) → nodes ≡ xs ++ x ∷ ys → number ≡ x.number → OnItsChain heads number nodes x
-its_chain {K} {V} heads number nodes xs x ys h is e =
+its_chain : {K V : Type 0} (heads : List (Option Ptr)) (hash : ℕ) (nodes xs : List (Held (K × V))) (x : Held (K × V)) (ys : List (Held (K × V))) → Indexes heads (spots nodes) → nodes ≡ xs ++ x ∷ ys → hash ≡ x.hash → OnItsChain heads hash nodes x
+its_chain {K} {V} heads hash nodes xs x ys h is e =
     let n : ℕ = length heads in
-    let f : Spot → Bool = is_in n (number % n) in
+    let f : Spot → Bool = is_in n (hash % n) in
     let p : PutsIn (spot x) (spots (xs ++ ys)) (spots nodes) = subst (λ (v : List (Held (K × V))). PutsIn (spot x) (spots (xs ++ ys)) (spots v)) (sym is) (PutsIn-spots xs x ys) in
     let some : 0 < n = elim (cases_lt 0 n) [
       | inl l ↦ l
       | inr l ↦ absurd (no_puts (spot x) (spots (xs ++ ys)) (subst (λ (v : List Spot). PutsIn (spot x) (spots (xs ++ ys)) v) (h.none (omega arith)) p))
     ] in
-    let c : HasChain (get_or heads (number % n) None) n (number % n) (spots nodes) = h.chains (number % n) (mod-lt number some) in
-    let inside : f (spot x) ≡ true = eq-eqb (x.number % n) (number % n) (ap (λ v. v % n) (sym e)) in
+    let c : HasChain (get_or heads (hash % n) None) n (hash % n) (spots nodes) = h.chains (hash % n) (mod-lt hash some) in
+    let inside : f (spot x) ≡ true = eq-eqb (x.hash % n) (hash % n) (ap (λ v. v % n) (sym e)) in
     let q : PutsIn (spot x) (filter f (spots (xs ++ ys))) (filter f (spots nodes)) = PutsIn-filter_in f (spot x) (spots (xs ++ ys)) (spots nodes) p inside in
     let m : (us : List Spot) × (vs : List Spot) × (c.chain ≡ us ++ spot x ∷ vs) = IsRearranged-back c.chain (spot x) (filter f (spots (xs ++ ys))) (filter f (spots nodes)) c.holds q in
     record {
       us = m.0;
       vs = m.1;
-      linked = subst (λ (v : List Spot). IsChain (get_or heads (number % n) None) v) m.2 c.linked;
+      linked = subst (λ (v : List Spot). IsChain (get_or heads (hash % n) None) v) m.2 c.linked;
       holds = subst (λ (v : List Spot). IsRearranged v (filter f (spots nodes))) m.2 c.holds;
     }
   where
@@ -110,16 +110,16 @@ has_head : (h : Option Ptr) (us : List Spot) (s : Spot) (vs : List Spot) → IsC
 has_head h [] s vs c = (s.at, c.0)
 has_head h (u ∷ us) s vs c = (u.at, c.0)
 
-pub head_there : {K V : Type 0} {heads : List (Option Ptr)} {number : ℕ} {nodes : List (Held (K × V))} {p : Ptr} → Indexes heads (spots nodes) → IsHeld nodes p → OfNodeAt nodes p (λ x. number ≡ x.number) → (q : Ptr) × (get_or heads (number % length heads) None ≡ Some q)
-head_there {K} {V} {heads} {number} {nodes} {p} h w e =
-    let c : OnItsChain heads number nodes w.1 = its_chain heads number nodes w.0 w.1 w.2 h w.3 (e w.0 w.1 w.2 w.3 w.4) in
-    has_head (get_or heads (number % length heads) None) c.us (spot w.1) c.vs c.linked
+pub head_there : {K V : Type 0} {heads : List (Option Ptr)} {hash : ℕ} {nodes : List (Held (K × V))} {p : Ptr} → Indexes heads (spots nodes) → IsHeld nodes p → OfNodeAt nodes p (λ x. hash ≡ x.hash) → (q : Ptr) × (get_or heads (hash % length heads) None ≡ Some q)
+head_there {K} {V} {heads} {hash} {nodes} {p} h w e =
+    let c : OnItsChain heads hash nodes w.1 = its_chain heads hash nodes w.0 w.1 w.2 h w.3 (e w.0 w.1 w.2 w.3 w.4) in
+    has_head (get_or heads (hash % length heads) None) c.us (spot w.1) c.vs c.linked
 
 -- ---- the way
 
-pub towards_start : {K V : Type 0} {heads : List (Option Ptr)} {number : ℕ} {nodes : List (Held (K × V))} {p : Ptr} (cut : List (Held (K × V))) (link : Option Ptr) (here : Ptr) → Indexes heads (spots nodes) → IsHeld nodes p → OfNodeAt nodes p (λ x. number ≡ x.number) → OfNodeAt nodes p (λ x. link ≡ x.link) → AtHeld nodes p (λ before x after. cut ≡ before ++ linked_to None x ∷ after) → Some here ≡ get_or heads (number % length heads) None → IsTowards heads number nodes cut p link None here 0
-towards_start {K} {V} {heads} {number} {nodes} {p} cut link here h w e l d a =
-    let c : OnItsChain heads number nodes w.1 = its_chain heads number nodes w.0 w.1 w.2 h w.3 (e w.0 w.1 w.2 w.3 w.4) in
+pub towards_start : {K V : Type 0} {heads : List (Option Ptr)} {hash : ℕ} {nodes : List (Held (K × V))} {p : Ptr} (cut : List (Held (K × V))) (link : Option Ptr) (here : Ptr) → Indexes heads (spots nodes) → IsHeld nodes p → OfNodeAt nodes p (λ x. hash ≡ x.hash) → OfNodeAt nodes p (λ x. link ≡ x.link) → AtHeld nodes p (λ before x after. cut ≡ before ++ linked_to None x ∷ after) → Some here ≡ get_or heads (hash % length heads) None → IsTowards heads hash nodes cut p link None here 0
+towards_start {K} {V} {heads} {hash} {nodes} {p} cut link here h w e l d a =
+    let c : OnItsChain heads hash nodes w.1 = its_chain heads hash nodes w.0 w.1 w.2 h w.3 (e w.0 w.1 w.2 w.3 w.4) in
     let f : First here (c.us ++ spot (linked_to None w.1) ∷ []) = first_of here c.us (spot w.1) (spot (linked_to None w.1)) c.vs refl (subst (λ (v : Option Ptr). IsChain v (c.us ++ spot w.1 ∷ c.vs)) (sym a) c.linked) in
     record {
       xs = w.0;
@@ -127,7 +127,7 @@ towards_start {K} {V} {heads} {number} {nodes} {p} cut link here h w e l d a =
       ys = w.2;
       is = w.3;
       at = w.4;
-      number_is = e w.0 w.1 w.2 w.3 w.4;
+      hash_is = e w.0 w.1 w.2 w.3 w.4;
       link_is = l w.0 w.1 w.2 w.3 w.4;
       cut_is = d w.0 w.1 w.2 w.3 w.4;
       us = c.us;
@@ -144,39 +144,39 @@ towards_start {K} {V} {heads} {number} {nodes} {p} cut link here h w e l d a =
     }
 
 -- the node on the way is one of the ring that is cut
-here_on : {K V : Type 0} {heads : List (Option Ptr)} {number : ℕ} {nodes cut : List (Held (K × V))} {p : Ptr} {link before : Option Ptr} {here : Ptr} {passed : ℕ} (w : IsTowards heads number nodes cut p link before here passed) → OnNode (length heads) (number % length heads) w.done w.node (w.todo ++ w.vs) cut
-here_on {K} {V} {heads} {number} {nodes} {cut} {p} {link} {before} {here} {passed} w =
+here_on : {K V : Type 0} {heads : List (Option Ptr)} {hash : ℕ} {nodes cut : List (Held (K × V))} {p : Ptr} {link before : Option Ptr} {here : Ptr} {passed : ℕ} (w : IsTowards heads hash nodes cut p link before here passed) → OnNode (length heads) (hash % length heads) w.done w.node (w.todo ++ w.vs) cut
+here_on {K} {V} {heads} {hash} {nodes} {cut} {p} {link} {before} {here} {passed} w =
     let n : ℕ = length heads in
-    let f : Spot → Bool = is_in n (number % n) in
+    let f : Spot → Bool = is_in n (hash % n) in
     let s : Spot = spot w.x in
     let t : Spot = spot (linked_to None w.x) in
     let others : List Spot = spots (w.xs ++ w.ys) in
-    let inside : f s ≡ true = eq-eqb (w.x.number % n) (number % n) (ap (λ v. v % n) (sym w.number_is)) in
+    let inside : f s ≡ true = eq-eqb (w.x.hash % n) (hash % n) (ap (λ v. v % n) (sym w.hash_is)) in
     let ps : PutsIn s others (spots nodes) = subst (λ (v : List (Held (K × V))). PutsIn s others (spots v)) (sym w.is) (PutsIn-spots w.xs w.x w.ys) in
     let pt : PutsIn t others (spots cut) = subst (λ (v : List (Held (K × V))). PutsIn t others (spots v)) (sym w.cut_is) (PutsIn-spots w.xs (linked_to None w.x) w.ys) in
     let less : IsRearranged (w.us ++ w.vs) (filter f others) = IsRearranged-less s (w.us ++ w.vs) (w.us ++ s ∷ w.vs) (filter f others) (filter f (spots nodes)) (PutsIn-middle w.us s w.vs) (PutsIn-filter_in f s others (spots nodes) ps inside) w.holds in
     let more : IsRearranged (w.us ++ t ∷ w.vs) (filter f (spots cut)) = IsRearranged-more t (w.us ++ w.vs) (w.us ++ t ∷ w.vs) (filter f others) (filter f (spots cut)) (PutsIn-middle w.us t w.vs) (PutsIn-filter_in f t others (spots cut) pt inside) less in
     let all : w.us ++ t ∷ w.vs ≡ w.done ++ w.node ∷ (w.todo ++ w.vs) = sym (append_assoc w.us (t ∷ []) w.vs) ∙ ap (λ (v : List Spot). v ++ w.vs) w.whole ∙ append_assoc w.done (w.node ∷ w.todo) w.vs in
-    on_node n (number % n) w.done w.node (w.todo ++ w.vs) cut (subst (λ (v : List Spot). IsRearranged v (filter f (spots cut))) all more)
+    on_node n (hash % n) w.done w.node (w.todo ++ w.vs) cut (subst (λ (v : List Spot). IsRearranged v (filter f (spots cut))) all more)
 
-pub towards_held : {K V : Type 0} {heads : List (Option Ptr)} {number : ℕ} {nodes cut : List (Held (K × V))} {p : Ptr} {link before : Option Ptr} {here : Ptr} {passed : ℕ} → IsTowards heads number nodes cut p link before here passed → IsHeld cut here
-towards_held {K} {V} {heads} {number} {nodes} {cut} w =
-    let o : OnNode (length heads) (number % length heads) w.done w.node (w.todo ++ w.vs) cut = here_on w in
+pub towards_held : {K V : Type 0} {heads : List (Option Ptr)} {hash : ℕ} {nodes cut : List (Held (K × V))} {p : Ptr} {link before : Option Ptr} {here : Ptr} {passed : ℕ} → IsTowards heads hash nodes cut p link before here passed → IsHeld cut here
+towards_held {K} {V} {heads} {hash} {nodes} {cut} w =
+    let o : OnNode (length heads) (hash % length heads) w.done w.node (w.todo ++ w.vs) cut = here_on w in
     (o.of.before, o.of.node, o.of.after, o.of.is, ap (λ v. v.at) o.of.spot_is ∙ w.at_is)
 
 -- the rest of the chain, by the link that is read
-rest_on : {K V : Type 0} {heads : List (Option Ptr)} {number : ℕ} {nodes cut : List (Held (K × V))} {p : Ptr} {link before : Option Ptr} {here : Ptr} {passed : ℕ} (read : Option Ptr) (w : IsTowards heads number nodes cut p link before here passed) → OfNodeAt cut here (λ x. read ≡ x.link) → IsChain read w.todo
-rest_on {K} {V} {heads} {number} {nodes} {cut} {p} {link} {before} {here} read w r =
-    let o : OnNode (length heads) (number % length heads) w.done w.node (w.todo ++ w.vs) cut = here_on w in
+rest_on : {K V : Type 0} {heads : List (Option Ptr)} {hash : ℕ} {nodes cut : List (Held (K × V))} {p : Ptr} {link before : Option Ptr} {here : Ptr} {passed : ℕ} (read : Option Ptr) (w : IsTowards heads hash nodes cut p link before here passed) → OfNodeAt cut here (λ x. read ≡ x.link) → IsChain read w.todo
+rest_on {K} {V} {heads} {hash} {nodes} {cut} {p} {link} {before} {here} read w r =
+    let o : OnNode (length heads) (hash % length heads) w.done w.node (w.todo ++ w.vs) cut = here_on w in
     let e : read ≡ w.node.link = r o.of.before o.of.node o.of.after o.of.is (ap (λ v. v.at) o.of.spot_is ∙ w.at_is) ∙ ap (λ v. v.link) o.of.spot_is in
-    let head : Option Ptr = get_or heads (number % length heads) None in
+    let head : Option Ptr = get_or heads (hash % length heads) None in
     let c : IsChain head (w.us ++ spot (linked_to None w.x) ∷ []) = cut_chain head w.us (spot w.x) (spot (linked_to None w.x)) w.vs refl refl w.linked in
     let d : IsChain head (w.done ++ w.node ∷ w.todo) = subst (λ (v : List Spot). IsChain head v) w.whole c in
     subst (λ (v : Option Ptr). IsChain v w.todo) (sym e) (chain_tail head w.done w.node w.todo d)
 
-pub towards_room : {K V : Type 0} {heads : List (Option Ptr)} {number : ℕ} {nodes cut : List (Held (K × V))} {p : Ptr} {link before : Option Ptr} {here : Ptr} {passed : ℕ} → IsTowards heads number nodes cut p link before here passed → passed + 1 ≤ length nodes
-towards_room {K} {V} {heads} {number} {nodes} w =
-    let f : Spot → Bool = is_in (length heads) (number % length heads) in
+pub towards_room : {K V : Type 0} {heads : List (Option Ptr)} {hash : ℕ} {nodes cut : List (Held (K × V))} {p : Ptr} {link before : Option Ptr} {here : Ptr} {passed : ℕ} → IsTowards heads hash nodes cut p link before here passed → passed + 1 ≤ length nodes
+towards_room {K} {V} {heads} {hash} {nodes} w =
+    let f : Spot → Bool = is_in (length heads) (hash % length heads) in
     let a : length (w.us ++ spot w.x ∷ w.vs) ≡ length (filter f (spots nodes)) = length-IsRearranged (w.us ++ spot w.x ∷ w.vs) (filter f (spots nodes)) w.holds in
     let b = length-filter f (spots nodes) in
     let c = count_by-le-length f (spots nodes) in
@@ -198,8 +198,8 @@ begins : (p : Ptr) (rest : List Spot) → IsChain (Some p) rest → Begins p res
 begins p [] h = absurd (cc)
 begins p (s ∷ rest) h = record { head = s; tail = rest; is = refl; at_is = (let e : Some p ≡ Some s.at = h.0 in cc) }
 
-pub towards_next : {K V : Type 0} {heads : List (Option Ptr)} {number : ℕ} {nodes cut : List (Held (K × V))} {p : Ptr} {link before : Option Ptr} {here : Ptr} {passed : ℕ} (read : Option Ptr) (next : Ptr) → IsTowards heads number nodes cut p link before here passed → OfNodeAt cut here (λ x. read ≡ x.link) → read ≡ Some next → IsTowards heads number nodes cut p link (Some here) next (passed + 1)
-towards_next {K} {V} {heads} {number} {nodes} {cut} {p} {link} {before} {here} {passed} read next w r e =
+pub towards_next : {K V : Type 0} {heads : List (Option Ptr)} {hash : ℕ} {nodes cut : List (Held (K × V))} {p : Ptr} {link before : Option Ptr} {here : Ptr} {passed : ℕ} (read : Option Ptr) (next : Ptr) → IsTowards heads hash nodes cut p link before here passed → OfNodeAt cut here (λ x. read ≡ x.link) → read ≡ Some next → IsTowards heads hash nodes cut p link (Some here) next (passed + 1)
+towards_next {K} {V} {heads} {hash} {nodes} {cut} {p} {link} {before} {here} {passed} read next w r e =
     let b : Begins next w.todo = begins next w.todo (subst (λ (v : Option Ptr). IsChain v w.todo) e (rest_on read w r)) in
     let k : length (w.done ++ w.node ∷ []) ≡ length w.done + 1 = length-append w.done (w.node ∷ []) in
     let m = w.passed_is in
@@ -209,7 +209,7 @@ towards_next {K} {V} {heads} {number} {nodes} {cut} {p} {link} {before} {here} {
       ys = w.ys;
       is = w.is;
       at = w.at;
-      number_is = w.number_is;
+      hash_is = w.hash_is;
       link_is = w.link_is;
       cut_is = w.cut_is;
       us = w.us;
@@ -229,8 +229,8 @@ ends : (rest : List Spot) → IsChain None rest → rest ≡ []
 ends [] h = refl
 ends (s ∷ rest) h = absurd (let e : None ≡ Some s.at = h.0 in cc)
 
-pub towards_end : {K V : Type 0} {heads : List (Option Ptr)} {number : ℕ} {nodes cut : List (Held (K × V))} {p : Ptr} {link before : Option Ptr} {here : Ptr} {passed : ℕ} (read : Option Ptr) → IsTowards heads number nodes cut p link before here passed → OfNodeAt cut here (λ x. read ≡ x.link) → read ≡ None → IsOnChain heads number (spots nodes) before p
-towards_end {K} {V} {heads} {number} {nodes} {cut} {p} {link} {before} read w r e =
+pub towards_end : {K V : Type 0} {heads : List (Option Ptr)} {hash : ℕ} {nodes cut : List (Held (K × V))} {p : Ptr} {link before : Option Ptr} {here : Ptr} {passed : ℕ} (read : Option Ptr) → IsTowards heads hash nodes cut p link before here passed → OfNodeAt cut here (λ x. read ≡ x.link) → read ≡ None → IsOnChain heads hash (spots nodes) before p
+towards_end {K} {V} {heads} {hash} {nodes} {cut} {p} {link} {before} read w r e =
     let z : w.todo ≡ [] = ends w.todo (subst (λ (v : Option Ptr). IsChain v w.todo) e (rest_on read w r)) in
     let same : w.us ≡ w.done = fronts w.us (spot (linked_to None w.x)) w.done w.node (w.whole ∙ ap (λ (v : List Spot). w.done ++ w.node ∷ v) z) in
     record {
@@ -244,11 +244,11 @@ towards_end {K} {V} {heads} {number} {nodes} {cut} {p} {link} {before} read w r 
     }
 
 -- the link is put back
-pub towards_mended : {K V : Type 0} {heads : List (Option Ptr)} {number : ℕ} {nodes cut : List (Held (K × V))} {p : Ptr} {link before : Option Ptr} {here : Ptr} {passed : ℕ} (new : List (Held (K × V))) → IsTowards heads number nodes cut p link before here passed → AtHeld cut p (λ before' x after. new ≡ before' ++ linked_to link x ∷ after) → new ≡ nodes
-towards_mended {K} {V} {heads} {number} {nodes} {cut} {p} {link} new w s =
+pub towards_mended : {K V : Type 0} {heads : List (Option Ptr)} {hash : ℕ} {nodes cut : List (Held (K × V))} {p : Ptr} {link before : Option Ptr} {here : Ptr} {passed : ℕ} (new : List (Held (K × V))) → IsTowards heads hash nodes cut p link before here passed → AtHeld cut p (λ before' x after. new ≡ before' ++ linked_to link x ∷ after) → new ≡ nodes
+towards_mended {K} {V} {heads} {hash} {nodes} {cut} {p} {link} new w s =
     s w.xs (linked_to None w.x) w.ys w.cut_is w.at ∙ ap (λ (l : Option Ptr). w.xs ++ linked_to l w.x ∷ w.ys) w.link_is ∙ sym w.is
 
-pub towards_cut_held : {K V : Type 0} {heads : List (Option Ptr)} {number : ℕ} {nodes cut : List (Held (K × V))} {p : Ptr} {link before : Option Ptr} {here : Ptr} {passed : ℕ} → IsTowards heads number nodes cut p link before here passed → IsHeld cut p
+pub towards_cut_held : {K V : Type 0} {heads : List (Option Ptr)} {hash : ℕ} {nodes cut : List (Held (K × V))} {p : Ptr} {link before : Option Ptr} {here : Ptr} {passed : ℕ} → IsTowards heads hash nodes cut p link before here passed → IsHeld cut p
 towards_cut_held w = (w.xs, linked_to None w.x, w.ys, w.cut_is, w.at)
 
 -- states are told by their fields

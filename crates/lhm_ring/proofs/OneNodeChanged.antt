@@ -13,7 +13,7 @@ use Rattle.lhm_ring.proofs.Writes.{at_changed, at_other, length-change, read_kep
 use Rattle.lhm_ring.proofs.Rows.{all_two, not_guard, all_both, all_left, all_right, all_swap, apart_left, apart_at, apart_out, apart_in, chain_kept, held_kept, there_kept, listed_kept, listed-append, into_row}
 use Rattle.lhm_ring.proofs.Moves.{listed_one}
 
--- every node but the one at p is as it was
+-- every node except the one at p is as it was
 pub record OnlyAt {B : Type 0} (cs ds : List (Cell Links B)) (p : Ptr) : Type 0 where
   pub other : (q : Ptr) → same_ptr p q ≡ false → cell_at ds q ≡ cell_at cs q
   pub there : (q : Ptr) → is_there ds q ≡ is_there cs q
@@ -75,29 +75,29 @@ module _ {B : Type 0} where
     there_other [] a = tt
     there_other (x ∷ xs) a = (o.there x ∙ a.0, there_other xs a.1)
 
-  pub content_number : (p : Ptr) (l : Links) (b : Option B) (t : Held B) → content_of p (Some l) b ≡ Some t → t.number ≡ l.number
-  content_number p l None t e = absurd (none_some t e)
-  content_number p l (Some x) t e = ap (λ (z : Held B). z.number) (sym (not_guard (l.guard == 1) (held p l.number (link_of (Some l)) x) t e).1)
+  pub content_hash : (p : Ptr) (l : Links) (b : Option B) (t : Held B) → content_of p (Some l) b ≡ Some t → t.hash ≡ l.hash
+  content_hash p l None t e = absurd (none_some t e)
+  content_hash p l (Some x) t e = ap (λ (z : Held B). z.hash) (sym (not_guard (l.guard == 1) (held p l.hash (link_of (Some l)) x) t e).1)
 
   pub content_link : (p : Ptr) (l : Links) (b : Option B) (t : Held B) → content_of p (Some l) b ≡ Some t → t.link ≡ link_of (Some l)
   content_link p l None t e = absurd (none_some t e)
-  content_link p l (Some x) t e = ap (λ (z : Held B). z.link) (sym (not_guard (l.guard == 1) (held p l.number (link_of (Some l)) x) t e).1)
+  content_link p l (Some x) t e = ap (λ (z : Held B). z.link) (sym (not_guard (l.guard == 1) (held p l.hash (link_of (Some l)) x) t e).1)
 
   pub content_guard : (p : Ptr) (o : Option Links) (b : Option B) (t : Held B) → content_of p o b ≡ Some t → guard_of o ≡ false
   content_guard p None b t e = refl
   content_guard p (Some l) None t e = absurd (none_some t e)
-  content_guard p (Some l) (Some x) t e = (not_guard (l.guard == 1) (held p l.number (link_of (Some l)) x) t e).0
+  content_guard p (Some l) (Some x) t e = (not_guard (l.guard == 1) (held p l.hash (link_of (Some l)) x) t e).0
 
   pub content_pair : (p : Ptr) (o : Option Links) (x : B) (t : Held B) → content_of p o (Some x) ≡ Some t → t.pair ≡ x
   content_pair p None x t e = absurd (none_some t e)
-  content_pair p (Some l) x t e = ap (λ (z : Held B). z.pair) (sym (not_guard (l.guard == 1) (held p l.number (link_of (Some l)) x) t e).1)
+  content_pair p (Some l) x t e = ap (λ (z : Held B). z.pair) (sym (not_guard (l.guard == 1) (held p l.hash (link_of (Some l)) x) t e).1)
 
   pub content_holds : (p : Ptr) (o : Option Links) (b : Option B) (t : Held B) → content_of p o b ≡ Some t → (x : B) × (b ≡ Some x)
   content_holds p None b t e = absurd (none_some t e)
   content_holds p (Some l) None t e = absurd (none_some t e)
   content_holds p (Some l) (Some x) t e = (x, refl)
 
--- the first spare node p is given links, a number and a body, and comes last
+-- the first spare node p is given links, a hash and a body, and comes last
 module _ {B : Type 0} (cs ds es fs : List (Cell Links B)) (g : Ptr) (ps : List Ptr) (spare : Option Ptr) (p : Ptr) (ss : List Ptr) (r : IsRing cs g ps spare (p ∷ ss))
     (o : OnlyAt cs ds p) (k : IsJoined ds es (prev_at cs g) p) (l : IsJoined es fs p g) (t : Held B) (c : content_at ds p ≡ Some t) where
   abbrev T : Ptr → Type 0

@@ -15,7 +15,7 @@ use Rattle.lhm_ring.proofs.Options.{some_same}
 use Rattle.lhm_ring.proofs.Writes.{links_set, is_at}
 use Rattle.lhm_ring.proofs.Rows.{all_left, all_last, all_right, cut_row}
 use Rattle.lhm_ring.proofs.Moves.{NodeAt, found_in, node_in, node_at, opened, ring_listed, out, p_there}
-use Rattle.lhm_ring.proofs.OneNodeChanged.{OnlyAt, links_kept, body_set, only_links, only_body, only_both, content_number, content_guard, content_pair, content_holds, put, put_listed, gone, gone_listed}
+use Rattle.lhm_ring.proofs.OneNodeChanged.{OnlyAt, links_kept, body_set, only_links, only_body, only_both, content_hash, content_guard, content_pair, content_holds, put, put_listed, gone, gone_listed}
 
 -- the links of the node at p once they are written
 here_set : {B : Type 0} (p : Ptr) (l : Links) (cs : List (Cell Links B)) (la : Links) → links_at cs p ≡ Some la → links_at (with_links p l cs) p ≡ Some l
@@ -58,10 +58,10 @@ module _ {B : Type 0} (cs : List (Cell Links B)) (guard : Option NodePointer) (s
   pub first_at : IsAt cs at.ptr
   first_at = is_at cs at.ptr (all_right (λ q. is_there cs q ≡ true) r.row (at.ptr ∷ r.others) r.ring.there.1).0
 
-  module _ (la lg : Links) (ea : links_at cs at.ptr ≡ Some la) (eg : links_at cs g.ptr ≡ Some lg) (number : ℕ) (x : B) (unlinked : Link) (en : target unlinked ≡ None) (c₁ c₂ : List (Cell Links B))
-      (e₁ : c₁ ≡ with_links at.ptr (record la { link = unlinked; number = number }) cs) (e₂ : c₂ ≡ with_body at.ptr (Some x) c₁) where
+  module _ (la lg : Links) (ea : links_at cs at.ptr ≡ Some la) (eg : links_at cs g.ptr ≡ Some lg) (hash : ℕ) (x : B) (unlinked : Link) (en : target unlinked ≡ None) (c₁ c₂ : List (Cell Links B))
+      (e₁ : c₁ ≡ with_links at.ptr (record la { link = unlinked; hash = hash }) cs) (e₂ : c₂ ≡ with_body at.ptr (Some x) c₁) where
     abbrev l : Links
-    l = record la { link = unlinked; number = number }
+    l = record la { link = unlinked; hash = hash }
 
     pub still : links_at c₁ at.ptr ≡ Some l
     still = ap (λ z. links_at z at.ptr) e₁ ∙ here_set at.ptr l cs la ea
@@ -78,20 +78,20 @@ module _ {B : Type 0} (cs : List (Cell Links B)) (guard : Option NodePointer) (s
     pub put_there_then : (c₃ : List (Cell Links B)) → IsJoined c₂ c₃ lg.prev.ptr at.ptr → (is_there c₃ at.ptr ≡ true) × (is_there c₃ g.ptr ≡ true)
     put_there_then c₃ j = (j.there at.ptr ∙ put_there.1, j.there g.ptr ∙ only.there g.ptr ∙ r.ring.there.0)
 
-    filled : content_at c₂ at.ptr ≡ Some (held at.ptr number None x)
+    filled : content_at c₂ at.ptr ≡ Some (held at.ptr hash None x)
     filled =
         let p = at.ptr in
         let k : links_at c₂ p ≡ Some l = ap (λ z. links_at z p) e₂ ∙ links_kept p (Some x) c₁ l still p ∙ still in
         let b : body_at c₂ p ≡ Some x = ap (λ z. body_at z p) e₂ ∙ body_set p (Some x) c₁ l still in
         let own : (la.guard == 1) ≡ false = sym (ap guard_of ea) ∙ r.ring.plain.0 in
-        (λ i. content_of p (k i) (b i)) ∙ ap (λ y. cond y None (Some (held p number (target unlinked) x))) own ∙ ap (λ o. Some (held p number o x)) en
+        (λ i. content_of p (k i) (b i)) ∙ ap (λ y. cond y None (Some (held p hash (target unlinked) x))) own ∙ ap (λ o. Some (held p hash o x)) en
 
     module _ (c₃ c₄ : List (Cell Links B)) (j : IsJoined c₂ c₃ lg.prev.ptr at.ptr) (k : IsJoined c₃ c₄ at.ptr g.ptr) where
       j₁ : IsJoined c₂ c₃ (prev_at cs g.ptr) at.ptr
       j₁ = subst (λ z. IsJoined c₂ c₃ z at.ptr) (sym (ap prev_of eg)) j
 
       made : IsRing c₄ g.ptr (r.row ++ at.ptr ∷ []) (link_at cs at.ptr) r.others
-      made = put cs c₂ c₃ c₄ g.ptr r.row (Some at.ptr) at.ptr r.others r.ring only j₁ k (held at.ptr number None x) filled
+      made = put cs c₂ c₃ c₄ g.ptr r.row (Some at.ptr) at.ptr r.others r.ring only j₁ k (held at.ptr hash None x) filled
 
       longer : length (r.row ++ at.ptr ∷ []) ≡ n + 1
       longer = let a = r.long in omega (arith, length-append r.row (at.ptr ∷ []))
@@ -101,12 +101,12 @@ module _ {B : Type 0} (cs : List (Cell Links B)) (guard : Option NodePointer) (s
           let a = r.wide in let b = r.small in
           subst (λ o. RingOk c₄ o la.link (n + 1) (m - 1)) (sym e) (r.row ++ at.ptr ∷ [], r.others, subst (λ z. IsRing c₄ g.ptr (r.row ++ at.ptr ∷ []) z r.others) (ap link_of ea) made, longer, omega arith, omega arith)
 
-      pub put_list : state (ring_list c₄ guard (n + 1)) (m - 1) ≡ state (v.held ++ held at.ptr number None x ∷ []) (v.spares - 1)
+      pub put_list : state (ring_list c₄ guard (n + 1)) (m - 1) ≡ state (v.held ++ held at.ptr hash None x ∷ []) (v.spares - 1)
       put_list =
           let p = at.ptr in
           let old : listed cs r.row ≡ v.held = sym (ring_listed cs g.ptr r.row (Some p) (p ∷ r.others) n r.ring r.long) ∙ sym (ap (λ o. ring_list cs o n) e) ∙ ap (λ (z : State B). z.held) w in
-          let new : ring_list c₄ guard (n + 1) ≡ v.held ++ held p number None x ∷ [] = ap (λ o. ring_list c₄ o (n + 1)) e ∙ ring_listed c₄ g.ptr (r.row ++ p ∷ []) (link_at cs p) r.others (n + 1) made longer
-          ∙ put_listed cs c₂ c₃ c₄ g.ptr r.row (Some p) p r.others r.ring only j₁ k (held p number None x) filled ∙ ap (λ hs. hs ++ held p number None x ∷ []) old in
+          let new : ring_list c₄ guard (n + 1) ≡ v.held ++ held p hash None x ∷ [] = ap (λ o. ring_list c₄ o (n + 1)) e ∙ ring_listed c₄ g.ptr (r.row ++ p ∷ []) (link_at cs p) r.others (n + 1) made longer
+          ∙ put_listed cs c₂ c₃ c₄ g.ptr r.row (Some p) p r.others r.ring only j₁ k (held p hash None x) filled ∙ ap (λ hs. hs ++ held p hash None x ∷ []) old in
           λ i. state (new i) ((ap (λ (z : State B). z.spares) w i) - 1)
 
 -- the node at `at` is joined past, gives its body up, and is the first spare one
@@ -160,7 +160,7 @@ module _ {B : Type 0} (cs : List (Cell Links B)) (guard : Option NodePointer) (s
           let s = node_in cs guard spare g n m v at.ptr e ok w h in let a = s.wide in let b = s.small in let some : 1 ≤ n = some_held h in
           subst (λ o. RingOk c₂ o top (n - 1) (m + 1)) (sym e) (s.before ++ s.after, at.ptr ∷ s.others, subst (λ z. IsRing c₂ g.ptr (s.before ++ s.after) z (at.ptr ∷ s.others)) (sym et) (left h s), shorter s, omega arith, omega arith)
 
-      pub taken_list : AtHeld v.held at.ptr (λ xs t ys. (state (ring_list c₂ guard (n - 1)) (m + 1) ≡ state (xs ++ ys) (v.spares + 1)) × (la.number ≡ t.number) × (x ≡ t.pair))
+      pub taken_list : AtHeld v.held at.ptr (λ xs t ys. (state (ring_list c₂ guard (n - 1)) (m + 1) ≡ state (xs ++ ys) (v.spares + 1)) × (la.hash ≡ t.hash) × (x ≡ t.pair))
       taken_list xs t ys k here =
           let f = found_in cs guard spare g n m v e ok w xs t ys k in let h : IsHeld v.held at.ptr = (xs, t, ys, k, here) in
           let c : content_at cs at.ptr ≡ Some t = ap (content_at cs) (sym here) ∙ f.here in
@@ -169,6 +169,6 @@ module _ {B : Type 0} (cs : List (Cell Links B)) (guard : Option NodePointer) (s
           ∙ ring_listed c₂ g.ptr (s.before ++ s.after) (Some at.ptr) (at.ptr ∷ s.others) (n - 1) (left h s) (shorter s)
           ∙ gone_listed cs ds c₂ g.ptr (target spare) s.others s.before at.ptr s.after s.ring _ _ j₂ (out cs g.ptr (target spare) s.others s.before at.ptr s.after s.ring ds j₂) (only₂ h) (spare₂ h) (plain₂ h)
           ∙ (λ i. q.1 i ++ q.2 i) in
-          let number : t.number ≡ la.number = content_number at.ptr la (body_at cs at.ptr) t (ap (λ o. content_of at.ptr o (body_at cs at.ptr)) (sym ea) ∙ c) in
+          let hash : t.hash ≡ la.hash = content_hash at.ptr la (body_at cs at.ptr) t (ap (λ o. content_of at.ptr o (body_at cs at.ptr)) (sym ea) ∙ c) in
           let pair : t.pair ≡ x = content_pair at.ptr (links_at ds at.ptr) x t (ap (λ b. content_of at.ptr (links_at ds at.ptr) b) (sym ex) ∙ j.content at.ptr ∙ c) in
-          ((λ i. state (list i) (ap (λ (z : State B). z.spares) w i + 1)), sym number, sym pair)
+          ((λ i. state (list i) (ap (λ (z : State B). z.spares) w i + 1)), sym hash, sym pair)

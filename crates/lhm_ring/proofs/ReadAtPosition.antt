@@ -8,7 +8,7 @@ use Rattle.lhm_ring.specs.Rings.{link_of, content_of, content_at, ring_list, Rin
 use Rattle.lhm_ring.specs.RingState.{State, state, Held, IsHeld}
 use Rattle.lhm_ring.specs.declared.link.Link.{Link}
 use Rattle.lhm_ring.proofs.Moves.{none_held, found}
-use Rattle.lhm_ring.proofs.OneNodeChanged.{content_number, content_link, content_pair, content_holds}
+use Rattle.lhm_ring.proofs.OneNodeChanged.{content_hash, content_link, content_pair, content_holds}
 use Rattle.lhm_ring.proofs.Writes.{content_links}
 
 module _ {B : Type 0} where
@@ -30,8 +30,8 @@ module _ {B : Type 0} (cs : List (Cell Links B)) (guard : Option NodePointer) (s
   pub read_held : IsHeld v.held p → Holds cs p
   read_held h = content_holds p (links_at cs p) (body_at cs p) h.1 (content h.0 h.1 h.2 h.3 h.4)
 
-  pub read_number : (l : Links) → links_at cs p ≡ Some l → (xs : List (Held B)) (t : Held B) (ys : List (Held B)) → v.held ≡ xs ++ t ∷ ys → t.at ≡ p → l.number ≡ t.number
-  read_number l e xs t ys h at = sym (content_number p l (body_at cs p) t (ap (λ o. content_of p o (body_at cs p)) (sym e) ∙ content xs t ys h at))
+  pub read_hash : (l : Links) → links_at cs p ≡ Some l → (xs : List (Held B)) (t : Held B) (ys : List (Held B)) → v.held ≡ xs ++ t ∷ ys → t.at ≡ p → l.hash ≡ t.hash
+  read_hash l e xs t ys h at = sym (content_hash p l (body_at cs p) t (ap (λ o. content_of p o (body_at cs p)) (sym e) ∙ content xs t ys h at))
 
   pub read_link : (l : Links) → links_at cs p ≡ Some l → (xs : List (Held B)) (t : Held B) (ys : List (Held B)) → v.held ≡ xs ++ t ∷ ys → t.at ≡ p → link_of (Some l) ≡ t.link
   read_link l e xs t ys h at = sym (content_link p l (body_at cs p) t (ap (λ o. content_of p o (body_at cs p)) (sym e) ∙ content xs t ys h at))

@@ -203,7 +203,7 @@ module _ {B : Type 0} where
   pub content_pointer : (p : Ptr) (o : Option Links) (b : Option B) (t : Held B) → content_of p o b ≡ Some t → t.at ≡ p
   content_pointer p None b t e = cc
   content_pointer p (Some l) None t e = cc
-  content_pointer p (Some l) (Some b) t e = ap (λ (z : Held B). z.at) (sym (not_guard (l.guard == 1) (record { at = p; number = l.number; link = link_of (Some l); pair = b }) t e).1)
+  content_pointer p (Some l) (Some b) t e = ap (λ (z : Held B). z.at) (sym (not_guard (l.guard == 1) (record { at = p; hash = l.hash; link = link_of (Some l); pair = b }) t e).1)
 
   -- where a ring is cut, if what it lists is
   pub record CutAt (cs : List (Cell Links B)) (ps : List Ptr) (us : List (Held B)) (t : Held B) (vs : List (Held B)) : Type 0 where

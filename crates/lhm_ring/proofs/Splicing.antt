@@ -1,4 +1,4 @@
--- All that a ring holds becomes spare, and what it held is taken out from both ends.
+-- All that a ring holds becomes spare, and what it held is yielded from both ends.
 use Rattle.std.proofs.Common.{◌≡◌, ℕ, ◌+◌, ◌-◌, ◌<◌, true, false, cond, List, [], ◌∷◌, ◌++◌, length, Option, Some, None, refl, sym, ap, ◌∙◌, subst, arith, length-append}
 use Rattle.std.specs.Prelude.{◌==◌}
 use lib.ListN.{length-map}
@@ -16,7 +16,7 @@ use Rattle.lhm_ring.proofs.Apart.{IsFresh, apart_none, same_ptr_refl}
 use Rattle.lhm_ring.proofs.Writes.{at_other, length-change, read_kept, links_set, body_kept, content_links}
 use Rattle.lhm_ring.proofs.Rows.{last_from, all_left, all_right, all_from, apart_left, apart_head, apart_tail, apart_at, apart_out, apart_in, avoids_all, AvoidsSource, AvoidsTarget, cut_row, row_kept, chain_kept, edge_made, listed_kept, listed-append, snoc}
 use Rattle.lhm_ring.proofs.Moves.{ring_listed, length_listed}
-use Rattle.lhm_ring.proofs.OneNodeChanged.{links_kept, chain_other, held_other, listed_other, content_number, content_pair, content_holds, content_guard}
+use Rattle.lhm_ring.proofs.OneNodeChanged.{links_kept, chain_other, held_other, listed_other, content_hash, content_pair, content_holds, content_guard}
 use Rattle.lhm_ring.proofs.Options.{none_some}
 
 module _ {B : Type 0} (cs : List (Cell Links B)) where
@@ -36,7 +36,7 @@ module _ {B : Type 0} (cs : List (Cell Links B)) where
 
   pub length_span : (f b : Ptr) (k : ℕ) → IsSpan cs f b k → k ≡ length (span_triples cs k f)
   length_span f b k s =
-      sym (length-map (listed cs (pointers_from cs k f)) (λ (t : Held B). (t.number, t.pair)) ∙ ap (λ ps. length (listed cs ps)) (span_pointers f b k s) ∙ length_listed cs s.0 s.4 ∙ s.1)
+      sym (length-map (listed cs (pointers_from cs k f)) (λ (t : Held B). (t.hash, t.pair)) ∙ ap (λ ps. length (listed cs ps)) (span_pointers f b k s) ∙ length_listed cs s.0 s.4 ∙ s.1)
 
 -- the pointers of a row go onto others
 pub all_onto : (P : Ptr → Type 0) (ps ss : List Ptr) → AllByRecursion P ps → AllByRecursion P ss → AllByRecursion P (onto ps ss)
@@ -67,18 +67,18 @@ guard_relinked o l = refl
 pub link_relinked : (o : Link) (l : Links) → link_of (Some (relinked o l)) ≡ target o
 link_relinked o l = refl
 
-pub number_relinked : (o : Link) (l : Links) → (relinked o l).number ≡ l.number
-number_relinked o l = refl
+pub hash_relinked : (o : Link) (l : Links) → (relinked o l).hash ≡ l.hash
+hash_relinked o l = refl
 
 module _ {B : Type 0} where
-  triple_shown : (q : Ptr) (l : Links) (x : B) → triple_of (content_of q (Some l) (Some x)) ≡ cond (l.guard == 1) None (Some (l.number, x))
-  triple_shown q l x = elim (l.guard == 1) as (λ y. triple_of (cond y None (Some (record { at = q; number = l.number; link = link_of (Some l); pair = x }))) ≡ cond y None (Some (l.number, x))) [ true ↦ refl | false ↦ refl ]
+  triple_shown : (q : Ptr) (l : Links) (x : B) → triple_of (content_of q (Some l) (Some x)) ≡ cond (l.guard == 1) None (Some (l.hash, x))
+  triple_shown q l x = elim (l.guard == 1) as (λ y. triple_of (cond y None (Some (record { at = q; hash = l.hash; link = link_of (Some l); pair = x }))) ≡ cond y None (Some (l.hash, x))) [ true ↦ refl | false ↦ refl ]
 
   triple_relinked : (q : Ptr) (o : Link) (l : Links) (b : Option B) → triple_of (content_of q (Some (relinked o l)) b) ≡ triple_of (content_of q (Some l) b)
   triple_relinked q o l None = refl
-  triple_relinked q o l (Some x) = triple_shown q (relinked o l) x ∙ (λ i. cond (guard_relinked o l i) None (Some (number_relinked o l i, x))) ∙ sym (triple_shown q l x)
+  triple_relinked q o l (Some x) = triple_shown q (relinked o l) x ∙ (λ i. cond (guard_relinked o l i) None (Some (hash_relinked o l i, x))) ∙ sym (triple_shown q l x)
 
-  -- what the write of a further link keeps
+  -- what the write of a chain link keeps
   same_relinked : (cs : List (Cell Links B)) (p : Ptr) (o : Link) (la : Links) → links_at cs p ≡ Some la → SameButLinks cs (with_links p (relinked o la) cs)
   same_relinked cs p o la e =
       let l = relinked o la in
@@ -175,8 +175,8 @@ module _ {B : Type 0} where
   pub row_done : (cs : List (Cell Links B)) (f : Ptr) (n : ℕ) (spare : Option Ptr) → n ≡ 0 → SparesRow cs f n spare cs spare
   row_done cs f n spare e ps ss r = none_more cs f n spare e ps ss r
 
-  some_still : (o : Option (Held B)) (t : Held B) → triple_of o ≡ Some (t.number, t.pair) → (u : Held B) × (o ≡ Some u)
-  some_still None t e = absurd (none_some (t.number, t.pair) e)
+  some_still : (o : Option (Held B)) (t : Held B) → triple_of o ≡ Some (t.hash, t.pair) → (u : Held B) × (o ≡ Some u)
+  some_still None t e = absurd (none_some (t.hash, t.pair) e)
   some_still (Some u) t e = (u, refl)
 
   one_triple : Option (ℕ × B) → List (ℕ × B)
@@ -275,7 +275,7 @@ module _ {B : Type 0} (cs : List (Cell Links B)) (g : NodePointer) (spare : Link
           ap (λ qs. triples (listed es qs)) (span_pointers es lg.next.ptr lg.prev.ptr n spliced_row) ∙ ap triples (listed_kept ds es g.ptr g.ptr j o.0) ∙ triples_same o.0
           ∙ ap triples (sym (ring_listed cs g.ptr o.0 (target spare) o.1 n o.2 o.3))
 
--- where there is no guard, nothing is held
+-- if there is no guard, nothing is held
 module _ {B : Type 0} (cs : List (Cell Links B)) where
   pub none_spliced : (guard : Option NodePointer) (spare : Link) (n m : ℕ) (f b : Ptr) → guard ≡ None → RingOk cs guard spare n m → RingOk cs guard spare 0 (m + n) × IsSpan cs f b n × (span_triples cs n f ≡ triples (ring_list cs guard n))
   none_spliced None spare n m f b e ok =
@@ -341,7 +341,7 @@ module _ {B : Type 0} (cs : List (Cell Links B)) where
     ends = subst (λ q. HasEnds xs (next_at cs q) b) h.0 (ends_behind x b xs k h.1);
   }
 
--- what the node p holds is taken out of it
+-- what the node p holds is moved out of it
 module _ {B : Type 0} (cs : List (Cell Links B)) (p : Ptr) (la : Links) (ea : links_at cs p ≡ Some la) where
   abbrev ds : List (Cell Links B)
   ds = with_body p None cs
@@ -355,17 +355,17 @@ module _ {B : Type 0} (cs : List (Cell Links B)) (p : Ptr) (la : Links) (ea : li
   row_stays : (s : List Ptr) → Linked cs s → Linked ds s
   row_stays = row_same cs ds (λ q. ap next_of (same_links q)) (λ q. ap prev_of (same_links q))
 
-  one_listed : (x : B) → body_at cs p ≡ Some x → HasContent cs p → triples (listed cs (p ∷ [])) ≡ (la.number, x) ∷ []
+  one_listed : (x : B) → body_at cs p ≡ Some x → HasContent cs p → triples (listed cs (p ∷ [])) ≡ (la.hash, x) ∷ []
   unfolding listed
   one_listed x ex h =
-      let number : h.0.number ≡ la.number = content_number p la (body_at cs p) h.0 (ap (λ o. content_of p o (body_at cs p)) (sym ea) ∙ h.1) in
+      let hash : h.0.hash ≡ la.hash = content_hash p la (body_at cs p) h.0 (ap (λ o. content_of p o (body_at cs p)) (sym ea) ∙ h.1) in
       let pair : h.0.pair ≡ x = content_pair p (links_at cs p) x h.0 (ap (λ o. content_of p (links_at cs p) o) (sym ex) ∙ h.1) in
-      ap (λ o. triples (one_of o ++ [])) h.1 ∙ (λ i. (number i, pair i) ∷ [])
+      ap (λ o. triples (one_of o ++ [])) h.1 ∙ (λ i. (hash i, pair i) ∷ [])
 
 module _ {B : Type 0} where
   triples-append : (xs ys : List (Held B)) → triples (xs ++ ys) ≡ triples xs ++ triples ys
   triples-append [] ys = refl
-  triples-append (x ∷ xs) ys = ap (λ r. (x.number, x.pair) ∷ r) (triples-append xs ys)
+  triples-append (x ∷ xs) ys = ap (λ r. (x.hash, x.pair) ∷ r) (triples-append xs ys)
 
   holds_here : (cs : List (Cell Links B)) (p : Ptr) → HasContent cs p → Holds cs p
   holds_here cs p h = content_holds p (links_at cs p) (body_at cs p) h.0 h.1
@@ -403,12 +403,12 @@ module _ {B : Type 0} (cs : List (Cell Links B)) (f b : Ptr) (k : ℕ) (s : IsSp
       apart_tail f first.behind apart_first,
     )
 
-    pub first_out : (x : B) → body_at cs f ≡ Some x → span_triples cs k f ≡ (la.number, x) ∷ span_triples (with_body f None cs) (k - 1) la.next.ptr
+    pub first_out : (x : B) → body_at cs f ≡ Some x → span_triples cs k f ≡ (la.hash, x) ∷ span_triples (with_body f None cs) (k - 1) la.next.ptr
     unfolding first rest_of_first
     first_out x ex =
         ap (λ ps. triples (listed cs ps)) (span_pointers cs f b k s ∙ first.whole) ∙ ap triples (listed-append cs (f ∷ []) first.behind) ∙ triples-append (listed cs (f ∷ [])) (listed cs first.behind)
         ∙ (λ i. one_listed cs f la ea x ex all_first.0 i ++ triples (sym (listed_other cs (with_body f None cs) f (other cs f la ea) first.behind free_first) i))
-        ∙ ap (λ ps. (la.number, x) ∷ triples (listed (with_body f None cs) ps)) (sym (span_pointers (with_body f None cs) la.next.ptr b (k - 1) rest_of_first))
+        ∙ ap (λ ps. (la.hash, x) ∷ triples (listed (with_body f None cs) ps)) (sym (span_pointers (with_body f None cs) la.next.ptr b (k - 1) rest_of_first))
 
   last : LastCut cs f b s.0
   last = last_cut cs f b s.0 (λ e. some (sym s.1 ∙ e)) s.2 s.3
@@ -442,9 +442,9 @@ module _ {B : Type 0} (cs : List (Cell Links B)) (f b : Ptr) (k : ℕ) (s : IsSp
       apart_left last.before (b ∷ []) (subst IsApart last.whole s.5),
     )
 
-    pub last_out : (x : B) → body_at cs b ≡ Some x → span_triples cs k f ≡ span_triples (with_body b None cs) (k - 1) f ++ (la.number, x) ∷ []
+    pub last_out : (x : B) → body_at cs b ≡ Some x → span_triples cs k f ≡ span_triples (with_body b None cs) (k - 1) f ++ (la.hash, x) ∷ []
     unfolding last rest_of_last
     last_out x ex =
         ap (λ ps. triples (listed cs ps)) (span_pointers cs f b k s ∙ last.whole) ∙ ap triples (listed-append cs last.before (b ∷ [])) ∙ triples-append (listed cs last.before) (listed cs (b ∷ []))
         ∙ (λ i. triples (sym (listed_other cs (with_body b None cs) b (other cs b la ea) last.before free_last) i) ++ one_listed cs b la ea x ex mine i)
-        ∙ ap (λ ps. triples (listed (with_body b None cs) ps) ++ (la.number, x) ∷ []) (sym (span_pointers (with_body b None cs) f la.prev.ptr (k - 1) rest_of_last))
+        ∙ ap (λ ps. triples (listed (with_body b None cs) ps) ++ (la.hash, x) ∷ []) (sym (span_pointers (with_body b None cs) f la.prev.ptr (k - 1) rest_of_last))

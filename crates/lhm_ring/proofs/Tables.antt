@@ -35,7 +35,7 @@ module _ {K V : Type 0} where
 
   pub triples-entries : (hs : List (Held (K × V))) → triples (entries hs) ≡ triples hs
   triples-entries [] = refl
-  triples-entries (t ∷ hs) = ap (λ ts. (t.number, t.pair) ∷ ts) (triples-entries hs)
+  triples-entries (t ∷ hs) = ap (λ ts. (t.hash, t.pair) ∷ ts) (triples-entries hs)
 
   pub first_at-entries : (hs : List (Held (K × V))) → first_at (entries hs) ≡ first_at hs
   first_at-entries [] = refl
@@ -104,12 +104,12 @@ module _ {K V : Type 0} where
       let i : EntriesCut hs xs t ys = entries_cut hs xs t ys e in
       subst (λ (u : Held (K × V)). Compares eq hash key u false) i.node_is (none i.before i.node i.after i.is)
 
-  count_by-entries : (test : ℕ → Bool) (hs : List (Held (K × V))) → count_by (λ s. test s.number) (spots (entries hs)) ≡ count_by (λ s. test s.number) (spots hs)
+  count_by-entries : (test : ℕ → Bool) (hs : List (Held (K × V))) → count_by (λ s. test s.hash) (spots (entries hs)) ≡ count_by (λ s. test s.hash) (spots hs)
   count_by-entries test [] = refl
   count_by-entries test (t ∷ hs) =
       let rest = count_by-entries test hs in
-      let left = count-cons (λ s. test s.number) (spot (linked_to None t)) (spots (entries hs)) in
-      let right = count-cons (λ s. test s.number) (spot t) (spots hs) in
+      let left = count-cons (λ s. test s.hash) (spot (linked_to None t)) (spots (entries hs)) in
+      let right = count-cons (λ s. test s.hash) (spot t) (spots hs) in
       omega (arith, rest, left, right)
 
   pub same-entries : (hs : List (Held (K × V))) (hash : ℕ) → same (spots (entries hs)) hash ≡ same (spots hs) hash
@@ -131,7 +131,7 @@ module _ {K V : Type 0} where
     compared_all = c.compared_all ∙ sym (same-entries hs hash);
   }
 
--- what is said of an answer, by what follows from it
+-- what is said of a result, by what follows from it
 pub OnSome_then : {X P Q : Type 0} (r : Option X) → OnSome r P → (P → Q) → OnSome r Q
 OnSome_then None h f = tt
 OnSome_then (Some x) h f = f h
@@ -193,7 +193,7 @@ module _ {K V : Type 0} (s : State (K × V)) (r : ℕ) {m : TableState (K × V)}
       (λ i. record (table_of (state {B = K × V} [] (s.spares + length s.held)) r) { capacity = room i })
       ∙ ap (λ (z : TableState (K × V)). record z { held = [] }) seen
 
--- as many buckets do for a higher capacity that is not above their number
+-- as many buckets do for a higher capacity that is not above their count
 buckets-stay : (c d : ℕ) → c < d → d ≤ buckets c → buckets c ≡ buckets d
 buckets-stay c d up enough =
     elim (buckets_raised c d (omega (arith, up))) [
@@ -203,7 +203,7 @@ buckets-stay c d up enough =
 
 -- tables after the calls of the ring and its index
 module _ {K V : Type 0} {heads : List (Option Ptr)} {s : State (K × V)} {r : ℕ} (table : IsTable heads s r) where
-  -- the same pairs in order, but for links
+  -- the same pairs in order, except for chain links
   pub IsTable-rechained : {heads' : List (Option Ptr)} {t : State (K × V)} {q : ℕ} → entries t.held ≡ entries s.held → length s.held + t.spares ≤ 2 ^ 59 → Indexes heads' (spots t.held) → length heads' ≡ buckets (length s.held + t.spares) → q ≤ length heads' → IsTable heads' t q
   IsTable-rechained {heads'} {t} same within chains count few =
       let long = length-same_entries t.held s.held same in
@@ -234,7 +234,7 @@ module _ {K V : Type 0} {heads : List (Option Ptr)} {s : State (K × V)} {r : �
       let long = length-moved t p h last in
       record { indexed = indexed_to_back heads s t p table.indexed h last spares; few = table.few; limit = omega (arith, long, spares, table.limit) }
 
-  -- the node at p was taken out of its chain, and then out of the ring
+  -- the node at p was removed from its chain, and then from the ring
   module _ {chains : List (Option Ptr)} {t w : State (K × V)} {p : Ptr} (same : entries t.held ≡ entries s.held) (spares : t.spares ≡ s.spares) (lacks : HoldsOthers chains t.held p) (others : AtHeld t.held p (λ xs x ys. w.held ≡ xs ++ ys)) (more : w.spares ≡ t.spares + 1) where
     pub all_nodes : length s.held + s.spares ≡ length w.held + w.spares
     all_nodes =

@@ -1,4 +1,4 @@
--- One value is taken out of those that are lent. Assumes `Logic`.
+-- One value is taken from those that are lent. Assumes `Logic`.
 use Rattle.std.proofs.Common.{◌≡◌, ℕ, true, false, cond, List, [], ◌∷◌, ◌++◌, map, length, Some, refl, sym, ap, ◌∙◌}
 use seplogic.Ra.Ura.{Ura}
 use base.Fraction.{full_share}

@@ -10,7 +10,7 @@ use Rattle.lhm_ring.specs.ValueLoan.{value_at}
 use Rattle.lhm_ring.specs.Rings.{one_of, next_of, prev_of, link_of, guard_of, has_links, link_at, is_there, content_of, content_at, Linked, Chained, HasContent, IsRing, follow, listed, ring_list, ring_pointers, RingOk, is_guard}
 use Rattle.lhm_ring.specs.RingState.{State, state, Held, held}
 use Rattle.lhm_ring.specs.RingAfterLoan.{pair, revalued}
-use Rattle.lhm_ring.specs.Walks.{IsBetween, AreLent}
+use Rattle.lhm_ring.specs.Iterators.{IsBetween, AreLent}
 use Rattle.lhm_ring.specs.Targets.{target}
 use Rattle.lhm_ring.specs.declared.link.Link.{Link}
 use Rattle.lhm_ring.proofs.Apart.{IsFresh, same_ptr_eq, same_ptr_refl, apart_none}
@@ -158,9 +158,9 @@ module _ {K V : Type 0} where
   one_written hs p None b r s e = e
   one_written hs p (Some l) None r s e = e
   one_written hs p (Some l) (Some x) r s e =
-      elim (l.guard == 1) as (λ y. one_of (cond y None (Some (held p l.number (link_of (Some l)) (pair x.0 (value_in hs p x.1))))) ++ r ≡ revalued_by hs (one_of (cond y None (Some (held p l.number (link_of (Some l)) x))) ++ s)) [
+      elim (l.guard == 1) as (λ y. one_of (cond y None (Some (held p l.hash (link_of (Some l)) (pair x.0 (value_in hs p x.1))))) ++ r ≡ revalued_by hs (one_of (cond y None (Some (held p l.hash (link_of (Some l)) x))) ++ s)) [
         | true ↦ e
-        | false ↦ ap (λ us. held p l.number (link_of (Some l)) (pair x.0 (value_in hs p x.1)) ∷ us) e
+        | false ↦ ap (λ us. held p l.hash (link_of (Some l)) (pair x.0 (value_in hs p x.1)) ∷ us) e
       ]
 
   module _ (keep : Ptr → Bool) (hs : List (Held (K × V))) (cs : List (Cell Links (K × V))) where
@@ -182,9 +182,9 @@ module _ {K V : Type 0} where
     has_same : (q : Ptr) → HasContent cs q → HasContent ds q
     has_same q h =
         let l = some_links q (links_at cs q) (body_at cs q) h.0 h.1 in let y = full_written (keep q) hs q (body_at cs q) (content_holds q (links_at cs q) (body_at cs q) h.0 h.1) in (
-          held q l.0.number (link_of (Some l.0)) y.0,
+          held q l.0.hash (link_of (Some l.0)) y.0,
           (λ i. content_of q ((same q ∙ l.1) i) ((body_written keep hs cs q ∙ y.1) i))
-              ∙ ap (λ z. cond z None (Some (held q l.0.number (link_of (Some l.0)) y.0))) (sym (ap guard_of l.1) ∙ content_guard q (links_at cs q) (body_at cs q) h.0 h.1),
+              ∙ ap (λ z. cond z None (Some (held q l.0.hash (link_of (Some l.0)) y.0))) (sym (ap guard_of l.1) ∙ content_guard q (links_at cs q) (body_at cs q) h.0 h.1),
         )
 
     ring_same : (g : Ptr) (ps : List Ptr) (spare : Option Ptr) (ss : List Ptr) → IsRing cs g ps spare ss → IsRing ds g ps spare ss

@@ -1,7 +1,7 @@
 -- A ring is cut into its values and the rest, and made of them again. Assumes `Logic`.
 --     entries are what the ring holds, each with its pointer (`ValuesReplaced.antt`'s `lent`)
 --     nodes_cut, nodes_mend      the values of the nodes that pass the test are taken out, and others are put in their places
---     Thin      the nodes but for those values, as a type: what a `&` to nodes of holes shows is what a `&` to it shows
+--     Thin      the nodes without those values, as a type: what a `&` to nodes of holes shows is what a `&` to it shows
 --     ring_cut, ring_mend      the same of a whole ring in memory
 --     back, ordered_back      the way back of a loan of a ring's values: the values in the order of the ring. A type that keeps a ring
 --     in a field shares both
@@ -42,7 +42,7 @@ use Rattle.lhm_ring.specs.Ownership.{links_of, key_of, value_of, body_owns, deed
 use Rattle.lhm_ring.specs.RingState.{State, Held, state}
 use Rattle.std.specs.List.{AllByRecursion}
 use Rattle.lhm_ring.specs.RingAfterLoan.{held_values, set_held_values}
-use Rattle.lhm_ring.specs.Walks.{AreLent}
+use Rattle.lhm_ring.specs.Iterators.{AreLent}
 use Rattle.lhm_ring.specs.Rings.{ring_pointers}
 use Rattle.lhm_ring.specs.contracts.links.Links as links
 use Rattle.lhm_ring.specs.contracts.value_loan.Hole as H-type
@@ -66,7 +66,7 @@ module _ (R S W : RattleType) where
   abbrev pub vals : List (Ptr × (S.Denot × W.Denot)) → List W.Denot
   vals r = map (λ c. c.1) (run_of r)
 
-  -- what a node holds but for the value that is lent
+  -- what a node holds except the value that is lent
   abbrev pub body_frame : Bool → Ptr → Option (S.Denot × W.Denot) → Fml
   body_frame false p b = body_owns R S W p b
   body_frame true p None = body_owns R S W p None
@@ -162,7 +162,7 @@ module _ (R S W : RattleType) {M : Type 1} {𝓤 : Ura M} (𝓛 : Logic 𝓤) wh
         updating ! $ use2 𝓛 (later (‵ (frames_lent R S W cs κ) ⊛ raw (lfts 𝓛 ts))) (Lends-frames keep cs κ ts inc sp) $ await ! tt $ split ! $
         use1 𝓛 (‵ (cells_lent R S (Hr R S W) cs κ)) (nodes_seen κ cs) $ now ! $ done !)
 
--- the nodes but for the values that are lent, as a type that is shared as nodes of holes are
+-- the nodes without the values that are lent, as a type that is shared as nodes of holes are
 module _ (R S W : RattleType) (keep : Ptr → Bool) where
   abbrev pub Thin : owning.Owning
   Thin = owning.lending (C.struct R S (Hr R S W)) (C.the_codes R.Denot S.Denot W.Denot R.coded S.coded W.coded (marker.the_row RawPtr).coded) (λ n. frames R S W keep n.cells) (C.the_lent R S (Hr R S W))

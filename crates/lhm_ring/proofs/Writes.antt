@@ -20,11 +20,11 @@ cond_same false u v h = refl
 
 -- two links that show the same of what a node holds
 abbrev pub ShowsSame : Links → Links → Type 0
-ShowsSame l la = (l.number ≡ la.number) × (l.guard ≡ la.guard) × (link_of (Some l) ≡ link_of (Some la))
+ShowsSame l la = (l.hash ≡ la.hash) × (l.guard ≡ la.guard) × (link_of (Some l) ≡ link_of (Some la))
 
 pub shown_same : {B : Type 0} (q : Ptr) (l la : Links) → ShowsSame l la → (b : Option B) → content_of q (Some l) b ≡ content_of q (Some la) b
 shown_same q l la h None = refl
-shown_same q l la h (Some x) = λ i. cond (h.1 i == 1) None (Some (record { at = q; number = h.0 i; link = h.2 i; pair = x }))
+shown_same q l la h (Some x) = λ i. cond (h.1 i == 1) None (Some (record { at = q; hash = h.0 i; link = h.2 i; pair = x }))
 
 true_false : {X : Type 0} (y : Bool) → y ≡ true → y ≡ false → X
 true_false true e f = absurd cc

@@ -93,7 +93,7 @@ module _ {L B : Type 0} where
   abbrev pub with_body : Ptr → Option B → List (Cell L B) → List (Cell L B)
   with_body p b = change p (λ c. cell c.at c.links b)
 
-  -- the nodes but the one at p
+  -- the nodes without the one at p
   unfoldable pub without : Ptr → List (Cell L B) → List (Cell L B)
   without p [] = []
   without p (c ∷ cs) = cond (same_ptr c.at p) cs (c ∷ without p cs)

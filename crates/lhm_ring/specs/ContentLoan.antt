@@ -1,4 +1,4 @@
--- Keys and values that are lent apart from the nodes that hold them, to be taken out.
+-- Keys and values that are lent apart from their nodes, to be moved out.
 use Rattle.std.specs.Prelude.{◌≡◌, cond, List, [], ◌∷◌, map, Option, Some, None}
 use Rattle.std.specs.Borrow.{Fml, RattleType, GName}
 use Rattle.std.proofs.Common.{refl, sym, ap, ◌∙◌}
@@ -35,7 +35,7 @@ module _ {B : Type 0} where
   body_in [] p = None
   body_in (c ∷ cs) p = cond (same_ptr c.0 p) c.1 (body_in cs p)
 
-  -- the same, but that the node at p holds nothing
+  -- the same, except that the node at p holds nothing
   unfoldable pub without_body : Ptr → List (Ptr × Option B) → List (Ptr × Option B)
   without_body p [] = []
   without_body p (c ∷ cs) = cond (same_ptr c.0 p) ((c.0, None) ∷ cs) (c ∷ without_body p cs)

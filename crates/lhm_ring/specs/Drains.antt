@@ -9,7 +9,7 @@ module _ {K V : Type 0} where
   abbrev pub drain_name : Drain K V → GName
   drain_name d = d.anchor.ghost_name
 
-  -- what is still to be handed out
+  -- what is still to be yielded
   abbrev pub drain_rest : Drain K V → List (ℕ × (K × V))
   drain_rest d = d.remaining
 

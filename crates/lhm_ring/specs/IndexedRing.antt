@@ -10,7 +10,7 @@ pub record IsIndexed {K V : Type 0} (heads : List (Option Ptr)) (s : State (K ×
   pub chains : Indexes heads (spots s.held)
   pub count : length heads ≡ buckets (length s.held + s.spares)
 
--- each stored number is the hash of the key
+-- each stored hash is the hash of the key
 abbrev pub AreHashed : {K V : Type 0} → (K → ℕ) → List (Held (K × V)) → Type 0
-AreHashed hash [] = Unit {0}
-AreHashed hash (x ∷ xs) = (x.number ≡ hash x.pair.0) × AreHashed hash xs
+AreHashed hash_of [] = Unit {0}
+AreHashed hash_of (x ∷ xs) = (x.hash ≡ hash_of x.pair.0) × AreHashed hash_of xs

@@ -2,7 +2,7 @@
 use Rattle.std.specs.Prelude.{List}
 use Rattle.std.specs.Borrow.{GName}
 use Rattle.lhm_ring.specs.RingState.{Held}
-use Rattle.lhm_ring.specs.Walks.{AreLent}
+use Rattle.lhm_ring.specs.Iterators.{AreLent}
 use Rattle.lhm_ring.specs.declared.value_loan.LentValues.{LentValues}
 
 module _ {K V : Type 0} where

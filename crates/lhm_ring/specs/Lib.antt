@@ -5,6 +5,7 @@ pub mod Drains
 pub mod Heads
 pub mod Index
 pub mod IndexedRing
+pub mod Iterators
 pub mod LentRings
 pub mod NodesAfterLoan
 pub mod Ownership
@@ -20,4 +21,3 @@ pub mod TableAfterLoan
 pub mod Tables
 pub mod Targets
 pub mod ValueLoan
-pub mod Walks

@@ -10,9 +10,9 @@ pair k v = (k, v)
 
 -- the same triple with the value w
 abbrev pub revalued : {K V : Type 0} → V → Held (K × V) → Held (K × V)
-revalued w t = held t.at t.number t.link (pair t.pair.0 w)
+revalued w t = held t.at t.hash t.link (pair t.pair.0 w)
 
--- the same but for the value at p, which is w
+-- the same ring, with the value w at p
 abbrev pub with_value : {K V : Type 0} → State (K × V) → Ptr → V → State (K × V)
 with_value s p w = record s { held = change_at p (revalued w) s.held }
 
@@ -29,15 +29,15 @@ set_held_values [] vs = []
 set_held_values (t ∷ hs) [] = t ∷ hs
 set_held_values (t ∷ hs) (v ∷ vs) = revalued v t ∷ set_held_values hs vs
 
--- the same but for the values, which are those of w in order
+-- the same ring, with the values of w in order
 abbrev pub with_values : {K V : Type 0} → State (K × V) → State (K × V) → State (K × V)
 with_values s w = record s { held = set_held_values s.held (held_values w.held) }
 
--- all of a triple but its value
+-- a triple without its value
 abbrev pub unvalued : {K V : Type 0} → Held (K × V) → Held K
-unvalued t = record { at = t.at; number = t.number; link = t.link; pair = t.pair.0 }
+unvalued t = record { at = t.at; hash = t.hash; link = t.link; pair = t.pair.0 }
 
--- whatever values are written, the pointers, numbers, links and keys stand, in their order
+-- whatever values are written, the pointers, hashes, chain links and keys stay, in their order
 abbrev pub KeepsAllButValues : {K V : Type 0} → State (K × V) → Type 0
 KeepsAllButValues {K} {V} s = (vs : List V) → map unvalued (set_held_values s.held vs) ≡ map unvalued s.held
 

@@ -9,13 +9,13 @@ use Rattle.lhm_ring.specs.declared.link.Link.{Link}
 use Rattle.lhm_ring.specs.declared.links.Links.{Links}
 use Rattle.lhm_ring.specs.Targets.{target}
 
--- the links, of which the further one is o
+-- the links, with the chain link o
 abbrev pub relinked : Link → Links → Links
 relinked o l = record l { link = o }
 
--- the links of a spare node, which no one reads but for the further one
+-- the links of a spare node: only its chain link is read
 abbrev pub links : NodePointer → Link → Links
-links g o = record { prev = g; next = g; link = o; number = 0; guard = 0 }
+links g o = record { prev = g; next = g; link = o; hash = 0; guard = 0 }
 
 -- what links say of their node: where it leads, and whether it is there at all
 abbrev pub next_of : Option Links → Ptr
@@ -45,7 +45,7 @@ module _ {B : Type 0} where
   abbrev pub prev_at : List (Cell Links B) → Ptr → Ptr
   prev_at cs p = prev_of (links_at cs p)
 
-  -- where the further link of the node at p leads
+  -- where the chain link of the node at p leads
   abbrev pub link_at : List (Cell Links B) → Ptr → Option Ptr
   link_at cs p = link_of (links_at cs p)
 
@@ -55,16 +55,16 @@ module _ {B : Type 0} where
   abbrev pub is_there : List (Cell Links B) → Ptr → Bool
   is_there cs p = has_links (links_at cs p)
 
-  -- the number, the link, the key and the value at p: none at a guard
+  -- the hash, the chain link, the key and the value at p: none at a guard
   abbrev pub content_of : Ptr → Option Links → Option B → Option (Held B)
   content_of p None b = None
   content_of p (Some l) None = None
-  content_of p (Some l) (Some b) = cond (l.guard == 1) None (Some (record { at = p; number = l.number; link = link_of (Some l); pair = b }))
+  content_of p (Some l) (Some b) = cond (l.guard == 1) None (Some (record { at = p; hash = l.hash; link = link_of (Some l); pair = b }))
 
   abbrev pub content_at : List (Cell Links B) → Ptr → Option (Held B)
   content_at cs p = content_of p (links_at cs p) (body_at cs p)
 
-  -- in ds the further link of the node at p is o, and all else stands
+  -- in ds the chain link of the node at p is o, and nothing else differs
   abbrev pub Relinks : List (Cell Links B) → Ptr → Link → List (Cell Links B) → Type 0
   Relinks cs p o ds = (l : Links) → links_at cs p ≡ Some l → ds ≡ with_links p (relinked o l) cs
 
@@ -111,7 +111,7 @@ module _ {B : Type 0} where
   listed cs [] = []
   listed cs (p ∷ ps) = one_of (content_at cs p) ++ listed cs ps
 
-  -- the same nodes, but that b comes right after a
+  -- the same nodes, except that b comes right after a
   pub record IsJoined (cs ds : List (Cell Links B)) (a b : Ptr) : Type 0 where
     pub next : (q : Ptr) → next_at ds q ≡ cond (same_ptr a q) b (next_at cs q)
     pub prev : (q : Ptr) → prev_at ds q ≡ cond (same_ptr b q) a (prev_at cs q)

@@ -1,4 +1,4 @@
--- The held nodes of a ring become spare ones all at once.
+-- The held nodes of a ring become spare, all at once.
 use Rattle.std.specs.Prelude.{◌≡◌, ℕ, ◌+◌, true, List, [], ◌∷◌, ◌++◌, length, Option, Some, None}
 use Rattle.std.specs.List.{AllByRecursion}
 use denote.RawPtr.{Ptr}
@@ -22,9 +22,9 @@ StartsAt (p ∷ ps) f = p ≡ f
 module _ {B : Type 0} where
   abbrev pub triple_of : Option (Held B) → Option (ℕ × B)
   triple_of None = None
-  triple_of (Some t) = Some (t.number, t.pair)
+  triple_of (Some t) = Some (t.hash, t.pair)
 
-  -- the same nodes, but for their further links
+  -- the same nodes, except for their chain links
   pub record SameButLinks (cs ds : List (Cell Links B)) : Type 0 where
     pub next : (q : Ptr) → next_at ds q ≡ next_at cs q
     pub prev : (q : Ptr) → prev_at ds q ≡ prev_at cs q
@@ -33,7 +33,7 @@ module _ {B : Type 0} where
     pub triple : (q : Ptr) → triple_of (content_at ds q) ≡ triple_of (content_at cs q)
     pub count : length ds ≡ length cs
 
-  -- the n nodes ps from f on, and apart from them the spare nodes ss
+  -- the n nodes ps from f on, and the spare nodes ss, none of them among ps
   pub record IsRow (cs : List (Cell Links B)) (f : Ptr) (n : ℕ) (spare : Option Ptr) (ps ss : List Ptr) : Type 0 where
     pub long : length ps ≡ n
     pub linked : Linked cs ps
@@ -53,7 +53,7 @@ module _ {B : Type 0} where
   abbrev pub HasRing : List (Cell Links B) → Option NodePointer → Link → ℕ → Type 0
   HasRing cs guard spare n = (m : ℕ) × RingOk cs guard spare n m
 
-  -- in ds all nodes of the ring are spare, and s says between which lies what it held
+  -- in ds all nodes of the ring are spare, and what it held is in those from s.first to s.last
   abbrev pub SplicesRing : List (Cell Links B) → Option NodePointer → Link → ℕ → List (Cell Links B) → Spliced → Type 0
   SplicesRing cs guard spare n ds s =
       (m : ℕ) → RingOk cs guard spare n m → RingOk ds guard s.spare 0 (m + n) × IsSpan ds s.first.ptr s.last.ptr n × (span_triples ds n s.first.ptr ≡ triples (ring_list cs guard n))

@@ -1,4 +1,4 @@
--- Nodes that are made one on top of the other, each with a further link to the one before.
+-- New nodes on a stack, each with a chain link to the one below.
 use Rattle.std.specs.Prelude.{◌≡◌, ℕ, suc, zero, List, [], ◌∷◌, Option, Some, None}
 use denote.RawPtr.{Ptr}
 use Rattle.lhm_ring.specs.Cells.{Cell, cell}
@@ -14,7 +14,7 @@ module _ {B : Type 0} where
   IsStacked cs g s zero ds f = (ds ≡ cs) × (f ≡ s)
   IsStacked cs g s (suc n) ds f = (p : Ptr) × (es : List (Cell Links B)) × (h : Link) × (target f ≡ Some p) × (ds ≡ cell p (links g h) None ∷ es) × IsStacked cs g s n es h
 
-  -- there are n nodes to take off
+  -- the stack has n nodes
   abbrev pub HasStack : ℕ → List (Cell Links B) → Link → Type 0
   HasStack n ds f = (cs : List (Cell Links B)) × (g : NodePointer) × (s : Link) × IsStacked cs g s n ds f
 

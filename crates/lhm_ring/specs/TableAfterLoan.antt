@@ -7,7 +7,7 @@ use Rattle.lhm_ring.specs.RingAfterLoan.{revalued}
 use Rattle.lhm_ring.specs.Tables.{TableState}
 use Rattle.lhm_ring.specs.contracts.table.Table.{the_row}
 
--- the same but for the value at p, which is w
+-- the same table, with the value w at p
 abbrev pub with_value : {K V : Type 0} → TableState (K × V) → Ptr → V → TableState (K × V)
 with_value s p w = record s { held = change_at p (revalued w) s.held }
 

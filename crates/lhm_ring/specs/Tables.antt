@@ -6,8 +6,8 @@ use Rattle.lhm_ring.specs.RingAfterLoan.{revalued}
 use Rattle.lhm_ring.specs.Search.{HasKey, entries}
 use Rattle.lhm_ring.specs.IndexedRing.{IsIndexed}
 
--- the pairs in order, each with its position and its hash and with no link; how many there is room for; and how many nodes
--- rehashes have moved
+-- the pairs in order, each with its position and its hash and with no chain link; the capacity; and how many nodes rehashes
+-- have moved
 pub record TableState (B : Type 0) : Type 0 where
   pub held : List (Held B)
   pub capacity : ℕ

@@ -8,6 +8,6 @@ abbrev pub led_to : Ptr → Option Ptr
 led_to (block_ptr b o) = Some (block_ptr b o)
 led_to null_ptr = None
 
--- where a link leads, if it leads somewhere
+-- the pointer that a link leads to, or None
 abbrev pub target : Link → Option Ptr
 target l = led_to l.ptr

@@ -13,11 +13,11 @@ impl<K, V> Ring<K, V> {
     ghost use Rattle.lhm_ring.specs.RingAfterLoan.{lends_value};
 
     /// Returns the hash at a position.
-    pub fn number(&self, at: Position<K, V>) -> u64
+    pub fn hash(&self, at: Position<K, V>) -> u64
         requires { IsHeld self.now.held (pointer_of at) }
-        ensures { AtHeld self.now.held (pointer_of at) (λ xs t ys. result ≡ t.number) }
+        ensures { AtHeld self.now.held (pointer_of at) (λ xs t ys. result ≡ t.hash) }
     {
-        self.nodes.links(at.pointer).number
+        self.nodes.links(at.pointer).hash
     }
 
     /// Returns the key at a position.

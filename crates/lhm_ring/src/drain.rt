@@ -50,7 +50,7 @@ impl<'a, K, V> Remaining<'a, K, V> {
         let (key, value) = self.contents.take(at);
         self.first = links.next;
         self.left -= 1;
-        Some((links.number, key, value))
+        Some((links.hash, key, value))
     }
 
     /// Moves the back triple out.
@@ -65,7 +65,7 @@ impl<'a, K, V> Remaining<'a, K, V> {
         let (key, value) = self.contents.take(at);
         self.last = links.prev;
         self.left -= 1;
-        Some((links.number, key, value))
+        Some((links.hash, key, value))
     }
 
     fn len(&self) -> usize

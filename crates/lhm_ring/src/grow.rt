@@ -29,7 +29,7 @@ fn make_guard<K, V>(
         prev: nowhere(),
         next: nowhere(),
         link: Link::none(),
-        number: 0,
+        hash: 0,
         guard: 1,
     };
     let at = nodes.add(room, links);
@@ -51,7 +51,7 @@ fn make_spare<K, V>(
         prev: guard,
         next: guard,
         link: spare,
-        number: 0,
+        hash: 0,
         guard: 0,
     };
     Ok(nodes.add(room, links))

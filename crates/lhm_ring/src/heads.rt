@@ -33,7 +33,7 @@ pub(crate) fn chain_one<K, V>(heads: &mut Vec<Head>, ring: &mut Ring<K, V>, at: 
     ensures spares { ring.new.spares ≡ ring.old.spares }
     ensures buckets { vec_len heads.new ≡ vec_len heads.old }
 {
-    let bucket = masked(ring.number(at), heads.len());
+    let bucket = masked(ring.hash(at), heads.len());
     ring.set_link(at, heads[bucket].link.get());
     heads[bucket].link = Link::of(Some(at));
 }
@@ -93,10 +93,10 @@ pub(crate) fn free_heads(heads: Vec<Head>) {
 }
 
 /// Returns the bucket of a hash, by a mask.
-pub(crate) fn masked(number: u64, buckets: usize) -> usize
+pub(crate) fn masked(hash: u64, buckets: usize) -> usize
     requires some { 0 < buckets }
     requires power { IsBucketCount buckets }
-    ensures { result ≡ number % buckets }
+    ensures { result ≡ hash % buckets }
 {
-    (number & (buckets as u64 - 1)) as usize
+    (hash & (buckets as u64 - 1)) as usize
 }

@@ -74,7 +74,7 @@ struct Found<K, V> {
 fn step<K: Eq, V>(
     ring: &Ring<K, V>,
     at: Position<K, V>,
-    number: u64,
+    hash: u64,
     key: &K,
     probe: &mut Probe,
 ) -> bool
@@ -82,11 +82,11 @@ fn step<K: Eq, V>(
     requires room { probe.old.visited + 1 < 2 ^ 64 }
     requires order { probe.old.compared ≤ probe.old.visited }
     ensures visited { probe.new.visited ≡ probe.old.visited + 1 }
-    ensures compared { OfNodeAt ring.now.held (pointer_of at) (λ x. probe.new.compared ≡ probe.old.compared + same (spot x ∷ []) number) }
-    ensures found { OfNodeAt ring.now.held (pointer_of at) (λ x. Compares K.eq number key.now x result) }
+    ensures compared { OfNodeAt ring.now.held (pointer_of at) (λ x. probe.new.compared ≡ probe.old.compared + same (spot x ∷ []) hash) }
+    ensures found { OfNodeAt ring.now.held (pointer_of at) (λ x. Compares K.eq hash key.now x result) }
 {
     probe.visited += 1;
-    if ring.number(at) != number {
+    if ring.hash(at) != hash {
         return false;
     }
     probe.compared += 1;
@@ -127,13 +127,13 @@ impl<K, V> Index<K, V> {
     }
 
     /// Returns the head of the chain of a hash.
-    fn head(&self, number: u64) -> Option<Position<K, V>>
-        ensures { pointer_of_some result ≡ slice_index_or self.now (number % length self.now) None }
+    fn head(&self, hash: u64) -> Option<Position<K, V>>
+        ensures { pointer_of_some result ≡ slice_index_or self.now (hash % length self.now) None }
     {
         if self.heads.is_empty() {
             return None;
         }
-        self.heads[masked(number, self.heads.len())].link.get()
+        self.heads[masked(hash, self.heads.len())].link.get()
     }
 
     /// Puts the one node that the index lacks at the head of its chain, in O(1). It does not
@@ -150,9 +150,9 @@ impl<K, V> Index<K, V> {
     }
 
     /// Removes a node from its chain.
-    fn unchain(&mut self, ring: &mut Ring<K, V>, number: u64, found: Found<K, V>)
+    fn unchain(&mut self, ring: &mut Ring<K, V>, hash: u64, found: Found<K, V>)
         requires indexed { Indexes self.old (spots ring.old.held) }
-        requires on_chain { IsOnChain self.old number (spots ring.old.held) (pointer_of_some found.before) (pointer_of found.at) }
+        requires on_chain { IsOnChain self.old hash (spots ring.old.held) (pointer_of_some found.before) (pointer_of found.at) }
         ensures lacks { HoldsOthers self.new ring.new.held (pointer_of found.at) }
         ensures held { entries ring.new.held ≡ entries ring.old.held }
         ensures spares { ring.new.spares ≡ ring.old.spares }
@@ -162,34 +162,28 @@ impl<K, V> Index<K, V> {
         match found.before {
             Some(before) => ring.set_link(before, link),
             None => {
-                let bucket = masked(number, self.heads.len());
+                let bucket = masked(hash, self.heads.len());
                 self.heads[bucket].link = Link::of(link);
             }
         }
     }
 
-    /// Returns the position before the one at `at` on its chain, that of `number`, or `None` if it
-    /// is the first.
+    /// Returns the position before `at` on the chain of `hash`, or `None` if it is the first.
     ///
     /// Pointers to two blocks cannot be compared: the chain is cut behind the node, which is then
     /// its last, until it is found. All links are then as they were.
-    fn before(
-        &self,
-        ring: &mut Ring<K, V>,
-        number: u64,
-        at: Position<K, V>,
-    ) -> Option<Position<K, V>>
+    fn before(&self, ring: &mut Ring<K, V>, hash: u64, at: Position<K, V>) -> Option<Position<K, V>>
         requires held { IsHeld ring.old.held (pointer_of at) }
-        requires number { OfNodeAt ring.old.held (pointer_of at) (λ x. number ≡ x.number) }
+        requires hash { OfNodeAt ring.old.held (pointer_of at) (λ x. hash ≡ x.hash) }
         requires indexed { Indexes self.now (spots ring.old.held) }
         requires small { length ring.old.held < 2 ^ 64 }
-        ensures on_chain { IsOnChain self.now number (spots ring.old.held) (pointer_of_some result) (pointer_of at) }
+        ensures on_chain { IsOnChain self.now hash (spots ring.old.held) (pointer_of_some result) (pointer_of at) }
         ensures ring { ring.new ≡ ring.old }
     {
         let link = ring.link(at);
         ring.set_link(at, None);
         let mut before = None;
-        let mut here = self.head(number).unwrap();
+        let mut here = self.head(hash).unwrap();
         let mut passed: usize = 0;
         'chain: while let Some(next) = ring.link(here) {
             before = Some(here);
@@ -211,9 +205,9 @@ impl<K, V> Index<K, V> {
         ensures spares { ring.new.spares ≡ ring.old.spares }
         ensures buckets { length self.new ≡ length self.old }
     {
-        let number = ring.number(at);
-        let before = self.before(ring, number, at);
-        self.unchain(ring, number, Found { before, at });
+        let hash = ring.hash(at);
+        let before = self.before(ring, hash, at);
+        self.unchain(ring, hash, Found { before, at });
     }
 
     /// Replaces the buckets by fresh ones, rehashes all held nodes, and returns how many. It is
@@ -250,20 +244,20 @@ impl<K, V> Index<K, V> {
 
 impl<K: Eq, V> Index<K, V> {
     /// Follows the chain of the hash to the node with the key, as every lookup does.
-    fn search(&self, ring: &Ring<K, V>, number: u64, key: &K) -> (Option<Found<K, V>>, Probe)
+    fn search(&self, ring: &Ring<K, V>, hash: u64, key: &K) -> (Option<Found<K, V>>, Probe)
         requires indexed { Indexes self.now (spots ring.now.held) }
         requires small { length ring.now.held < 2 ^ 64 }
-        ensures found { IfSome result.0 (λ f. FindsKey K.eq number key.now self.now ring.now.held (pointer_of_some f.before) (pointer_of f.at) result.1.visited result.1.compared) }
-        ensures absent { IfNone result.0 (FindsNone K.eq number key.now self.now ring.now.held result.1.visited result.1.compared) }
+        ensures found { IfSome result.0 (λ f. FindsKey K.eq hash key.now self.now ring.now.held (pointer_of_some f.before) (pointer_of f.at) result.1.visited result.1.compared) }
+        ensures absent { IfNone result.0 (FindsNone K.eq hash key.now self.now ring.now.held result.1.visited result.1.compared) }
     {
         let mut probe = Probe {
             visited: 0,
             compared: 0,
         };
         let mut before = None;
-        let mut pointer = self.head(number);
+        let mut pointer = self.head(hash);
         while let Some(at) = pointer {
-            if step(ring, at, number, key, &mut probe) {
+            if step(ring, at, hash, key, &mut probe) {
                 return (Some(Found { before, at }), probe);
             }
             before = pointer;
@@ -276,15 +270,15 @@ impl<K: Eq, V> Index<K, V> {
     ///
     /// For an absent key each node of the chain is reached, and each with this hash compared. It
     /// does not allocate.
-    pub fn find(&self, ring: &Ring<K, V>, number: u64, key: &K) -> (Option<Position<K, V>>, Probe)
+    pub fn find(&self, ring: &Ring<K, V>, hash: u64, key: &K) -> (Option<Position<K, V>>, Probe)
         requires indexed { Indexes self.now (spots ring.now.held) }
         requires small { length ring.now.held < 2 ^ 64 }
-        ensures found { IfSome result.0 (λ p. HasKey K.eq number key.now ring.now.held (pointer_of p)) }
-        ensures absent { IfNone result.0 (IsAbsent K.eq number key.now ring.now.held) }
-        ensures counts_found { OnSome result.0 (CountsSome (spots ring.now.held) (length self.now) number result.1.visited result.1.compared) }
-        ensures counts_absent { IfNone result.0 (CountsAll (spots ring.now.held) (length self.now) number result.1.visited result.1.compared) }
+        ensures found { IfSome result.0 (λ p. HasKey K.eq hash key.now ring.now.held (pointer_of p)) }
+        ensures absent { IfNone result.0 (IsAbsent K.eq hash key.now ring.now.held) }
+        ensures counts_found { OnSome result.0 (CountsSome (spots ring.now.held) (length self.now) hash result.1.visited result.1.compared) }
+        ensures counts_absent { IfNone result.0 (CountsAll (spots ring.now.held) (length self.now) hash result.1.visited result.1.compared) }
     {
-        let (found, probe) = self.search(ring, number, key);
+        let (found, probe) = self.search(ring, hash, key);
         match found {
             Some(found) => (Some(found.at), probe),
             None => (None, probe),
@@ -293,28 +287,23 @@ impl<K: Eq, V> Index<K, V> {
 
     /// Removes the node with this hash and this key from its chain, and returns its position. Of
     /// the ring only chain links change, and nothing if the key is absent. It does not allocate.
-    pub fn take_out(
-        &mut self,
-        ring: &mut Ring<K, V>,
-        number: u64,
-        key: &K,
-    ) -> Option<Position<K, V>>
+    pub fn take_out(&mut self, ring: &mut Ring<K, V>, hash: u64, key: &K) -> Option<Position<K, V>>
         requires indexed { Indexes self.old (spots ring.old.held) }
         requires small { length ring.old.held < 2 ^ 64 }
-        ensures found { IfSome result (λ p. HasKey K.eq number key.now ring.new.held (pointer_of p)) }
+        ensures found { IfSome result (λ p. HasKey K.eq hash key.now ring.new.held (pointer_of p)) }
         ensures lacks { IfSome result (λ p. HoldsOthers self.new ring.new.held (pointer_of p)) }
-        ensures absent { IfNone result (IsAbsent K.eq number key.now ring.old.held) }
+        ensures absent { IfNone result (IsAbsent K.eq hash key.now ring.old.held) }
         ensures unchanged { IfNone result (self.new ≡ self.old) }
         ensures ring_unchanged { IfNone result (ring.new ≡ ring.old) }
         ensures held { entries ring.new.held ≡ entries ring.old.held }
         ensures spares { ring.new.spares ≡ ring.old.spares }
         ensures buckets { length self.new ≡ length self.old }
     {
-        let (found, _) = self.search(ring, number, key);
+        let (found, _) = self.search(ring, hash, key);
         match found {
             Some(found) => {
                 let at = found.at;
-                self.unchain(ring, number, found);
+                self.unchain(ring, hash, found);
                 Some(at)
             }
             None => None,

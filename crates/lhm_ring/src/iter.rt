@@ -2,7 +2,7 @@
 ghost use Rattle.std.specs.Prelude.{◌≡◌, Some, IfSome, length};
 ghost use Rattle.std.specs.Iterator.{at_most, UpTo};
 ghost use Rattle.std.specs.Iterator.SizeHint.{IsWithinCount};
-ghost use Rattle.lhm_ring.specs.Walks.{IsFirstStep, IsLastStep, LendsFirstStep, LendsLastStep, ShowsFirstStep, ShowsLastStep, rest_of};
+ghost use Rattle.lhm_ring.specs.Iterators.{IsFirstStep, IsLastStep, LendsFirstStep, LendsLastStep, ShowsFirstStep, ShowsLastStep, rest_of};
 
 use crate::block::NodePointer;
 use crate::links::Links;
@@ -28,7 +28,7 @@ impl<'a, K, V> Model for Iter<'a, K, V> {
     ghost use Rattle.std.specs.Prelude.{List};
     ghost use Rattle.lhm_ring.specs.Rings.{listed, follow};
     ghost use Rattle.lhm_ring.specs.RingState.{Held};
-    ghost use Rattle.lhm_ring.specs.Walks.{IsBetween};
+    ghost use Rattle.lhm_ring.specs.Iterators.{IsBetween};
 
     ghost Value = { List (Held (K × V)) };
 
@@ -49,7 +49,7 @@ impl<'a, K, V> Iter<'a, K, V> {
         let at = nodes.links(self.before).next;
         self.before = at;
         self.left -= 1;
-        Some((at, nodes.links(at).number, nodes.key(at), nodes.value(at)))
+        Some((at, nodes.links(at).hash, nodes.key(at), nodes.value(at)))
     }
 
     /// Returns the last triple left and moves past it, or returns `None` if none is left.
@@ -63,7 +63,7 @@ impl<'a, K, V> Iter<'a, K, V> {
         let at = nodes.links(self.after).prev;
         self.after = at;
         self.left -= 1;
-        Some((at, nodes.links(at).number, nodes.key(at), nodes.value(at)))
+        Some((at, nodes.links(at).hash, nodes.key(at), nodes.value(at)))
     }
 }
 
@@ -76,7 +76,7 @@ impl<'a, K, V> Iterator for Iter<'a, K, V> {
 
     fn next(&mut self) -> Option<(u64, &'a K, &'a V)> {
         match self.step() {
-            Some((_, number, key, value)) => Some((number, key, value)),
+            Some((_, hash, key, value)) => Some((hash, key, value)),
             None => None,
         }
     }
@@ -101,7 +101,7 @@ impl<'a, K, V> DoubleEndedIterator for Iter<'a, K, V> {
 
     fn next_back(&mut self) -> Option<(u64, &'a K, &'a V)> {
         match self.step_back() {
-            Some((_, number, key, value)) => Some((number, key, value)),
+            Some((_, hash, key, value)) => Some((hash, key, value)),
             None => None,
         }
     }
@@ -129,7 +129,7 @@ impl<'a, K, V> Clone for Iter<'a, K, V> {
 /// returned by `Ring::iter_mut`. Each item is O(1), and none allocates.
 #[derive(Drop)]
 pub struct IterMut<'a, K, V> {
-    // The links and the keys are shared, and each value is taken out of a loan.
+    // The links and the keys are shared, and each value is taken from a loan.
     holes: Iter<'a, K, Hole<V>>,
     loan: ValueLoan<'a, Links, K, V>,
 }
@@ -138,7 +138,7 @@ impl<'a, K, V> Model for IterMut<'a, K, V> {
     ghost use Rattle.std.specs.Prelude.{List};
     ghost use base.Fml.{GName};
     ghost use Rattle.lhm_ring.specs.RingState.{Held};
-    ghost use Rattle.lhm_ring.specs.Walks.{AreLent};
+    ghost use Rattle.lhm_ring.specs.Iterators.{AreLent};
 
     ghost Value = { List (Held (K × V)) × GName };
 
@@ -168,7 +168,7 @@ impl<'a, K, V> IterMut<'a, K, V> {
         ensures { LendsFirstStep (rest_of self.old) result (rest_of self.new) }
     {
         match self.holes.step() {
-            Some((at, number, key, _)) => Some((number, key, self.loan.take(at))),
+            Some((at, hash, key, _)) => Some((hash, key, self.loan.take(at))),
             None => None,
         }
     }
@@ -178,7 +178,7 @@ impl<'a, K, V> IterMut<'a, K, V> {
         ensures { LendsLastStep (rest_of self.old) result (rest_of self.new) }
     {
         match self.holes.step_back() {
-            Some((at, number, key, _)) => Some((number, key, self.loan.take(at))),
+            Some((at, hash, key, _)) => Some((hash, key, self.loan.take(at))),
             None => None,
         }
     }

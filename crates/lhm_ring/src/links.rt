@@ -14,7 +14,7 @@ pub struct Links {
     pub(crate) prev: NodePointer,
     pub(crate) next: NodePointer,
     pub(crate) link: Link,
-    pub(crate) number: u64,
+    pub(crate) hash: u64,
     pub(crate) guard: u64,
 }
 

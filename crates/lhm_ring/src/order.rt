@@ -30,9 +30,9 @@ impl<K, V> Ring<K, V> {
 
     /// Inserts a triple at the back, into a spare node, and returns its position. Its chain link
     /// leads nowhere. It is O(1), does not allocate and drops nothing.
-    pub fn put_back(&mut self, number: u64, key: K, value: V) -> Position<K, V>
+    pub fn put_back(&mut self, hash: u64, key: K, value: V) -> Position<K, V>
         requires { 0 < self.old.spares }
-        ensures last { self.new.held ≡ self.old.held ++ held (pointer_of result) number None (pair key value) ∷ [] }
+        ensures last { self.new.held ≡ self.old.held ++ held (pointer_of result) hash None (pair key value) ∷ [] }
         ensures spares { self.new.spares ≡ self.old.spares - 1 }
     {
         let guard = self.guard.unwrap();
@@ -42,7 +42,7 @@ impl<K, V> Ring<K, V> {
         // A spare node is no guard, and `join` writes its other two links.
         let fresh = Links {
             link: Link::none(),
-            number,
+            hash,
             ..old
         };
         self.nodes.set_links(at, fresh);
@@ -60,7 +60,7 @@ impl<K, V> Ring<K, V> {
     pub fn unlink(&mut self, at: Position<K, V>) -> (u64, K, V)
         requires { IsHeld self.old.held (pointer_of at) }
         ensures others { AtHeld self.old.held (pointer_of at) (λ xs t ys. self.new.held ≡ xs ++ ys) }
-        ensures triple { AtHeld self.old.held (pointer_of at) (λ xs t ys. result ≡ (t.number, t.pair.0, t.pair.1)) }
+        ensures triple { AtHeld self.old.held (pointer_of at) (λ xs t ys. result ≡ (t.hash, t.pair.0, t.pair.1)) }
         ensures spares { self.new.spares ≡ self.old.spares + 1 }
     {
         let at = at.pointer;
@@ -71,6 +71,6 @@ impl<K, V> Ring<K, V> {
         self.spare = Link::to(at);
         self.len -= 1;
         self.spares += 1;
-        (old.number, key, value)
+        (old.hash, key, value)
     }
 }

@@ -49,15 +49,15 @@ module _ {K V : Type 0} (hash : K → ℕ) where
       let right : count_by test (t.pair ∷ pairs_of hs) ≡ cond (test t.pair) 1 0 + count_by test (pairs_of hs) = count-cons test t.pair (pairs_of hs) in
       omega (arith, rest, left, right)
 
-  hashed_bare : (hs : List (Held (K × V))) → AllByRecursion (λ u. u.number ≡ hash u.pair) (bare hs) → AreHashed hash hs
+  hashed_bare : (hs : List (Held (K × V))) → AllByRecursion (λ u. u.hash ≡ hash u.pair) (bare hs) → AreHashed hash hs
   hashed_bare [] h = tt
   hashed_bare (t ∷ hs) h = (h.0, hashed_bare hs h.1)
 
-  pub same-pairs : (hs : List (Held (K × V))) (k : K) (hash_k : ℕ) → hash_k ≡ hash k → AllByRecursion (λ u. u.number ≡ hash u.pair) (bare hs) → index.same (spots hs) hash_k ≡ same hash (pairs_of hs) k
+  pub same-pairs : (hs : List (Held (K × V))) (k : K) (hash_k : ℕ) → hash_k ≡ hash k → AllByRecursion (λ u. u.hash ≡ hash u.pair) (bare hs) → index.same (spots hs) hash_k ≡ same hash (pairs_of hs) k
   same-pairs hs k hash_k its h =
       ap (index.same (spots hs)) its ∙ same_hashed hash hs (hash k) (hashed_bare hs h) ∙ count-pairs (λ pair. eqb (hash pair.0) (hash k)) hs
 
-  pub beside-pairs : (hs : List (Held (K × V))) (k : K) (hash_k n capacity : ℕ) → hash_k ≡ hash k → n ≡ buckets capacity → AllByRecursion (λ u. u.number ≡ hash u.pair) (bare hs) → index.beside (spots hs) n hash_k ≡ beside hash (pairs_of hs) capacity k
+  pub beside-pairs : (hs : List (Held (K × V))) (k : K) (hash_k n capacity : ℕ) → hash_k ≡ hash k → n ≡ buckets capacity → AllByRecursion (λ u. u.hash ≡ hash u.pair) (bare hs) → index.beside (spots hs) n hash_k ≡ beside hash (pairs_of hs) capacity k
   beside-pairs hs k hash_k n capacity its wide h =
       (λ i. index.beside (spots hs) (wide i) (its i)) ∙ beside_hashed hash hs (buckets capacity) (hash k) (hashed_bare hs h)
       ∙ count-pairs (λ pair. eqb (hash pair.0 % buckets capacity) (hash k % buckets capacity)) hs

@@ -61,13 +61,13 @@ module _ {K : Type 0} {eq : K → K → Bool} {hash : K → ℕ} {us : List (Hel
           by_count zero e r = absurd (true≢false (ap is_some (e refl)))
           by_count (suc m) e r = omega (arith, r)
 
-  pub AreKept-push : IsEquivalence eq → (u : Held K) → u.number ≡ hash u.pair → list_any (eq u.pair) (map (λ t. t.pair) us) ≡ false → length us < capacity → AreKept eq hash (us ++ u ∷ []) capacity mark n current
+  pub AreKept-push : IsEquivalence eq → (u : Held K) → u.hash ≡ hash u.pair → list_any (eq u.pair) (map (λ t. t.pair) us) ≡ false → length us < capacity → AreKept eq hash (us ++ u ∷ []) capacity mark n current
   AreKept-push laws u hashed absent room =
       let long = length-append us (u ∷ []) in
       let mark_stands = bookmark_at-append (u ∷ []) in
       record {
         distinct = subst (IsDistinct eq) (sym (map-append (λ (t : Held K). t.pair) us (u ∷ []))) (IsDistinct-push laws (map (λ t. t.pair) us) u.pair k.distinct absent);
-        hashed = all_both (λ (t : Held K). t.number ≡ hash t.pair) us (u ∷ []) k.hashed (hashed, tt);
+        hashed = all_both (λ (t : Held K). t.hash ≡ hash t.pair) us (u ∷ []) k.hashed (hashed, tt);
         within = omega (arith, long, room);
         limit = k.limit;
         marked = k.marked;

@@ -140,19 +140,19 @@ index_of-key h = let held = h.held in record { pair = (node held).pair; there = 
 
 -- a key that no node of its hash has is absent
 module _ {K V : Type 0} (eq : K → K → Bool) (hash : K → ℕ) (respects : (x y : K) → IsTrue (eq x y) → hash x ≡ hash y) (k : K) (n : ℕ) (its : n ≡ hash k) where
-  one_differs : (t : Held (K × V)) → t.number ≡ hash t.pair.0 → false ≡ (eqb t.number n && eq k t.pair.0) → (b : Bool) → eq k t.pair.0 ≡ b → eq k t.pair.0 ≡ false
+  one_differs : (t : Held (K × V)) → t.hash ≡ hash t.pair.0 → false ≡ (eqb t.hash n && eq k t.pair.0) → (b : Bool) → eq k t.pair.0 ≡ b → eq k t.pair.0 ≡ false
   one_differs t h none false is = is
   one_differs t h none true is =
-      let same : eqb t.number n ≡ true = eq-eqb t.number n (h ∙ sym (respects k t.pair.0 is) ∙ sym its) in
+      let same : eqb t.hash n ≡ true = eq-eqb t.hash n (h ∙ sym (respects k t.pair.0 is) ∙ sym its) in
       sym (none ∙ ap (λ b. b && eq k t.pair.0) same)
 
-  none_has : (hs : List (Held (K × V))) → AllByRecursion (λ u. u.number ≡ hash u.pair) (bare hs) → IsAbsent eq n k hs → list_any (eq k) (keys_of (pairs_of hs)) ≡ false
+  none_has : (hs : List (Held (K × V))) → AllByRecursion (λ u. u.hash ≡ hash u.pair) (bare hs) → IsAbsent eq n k hs → list_any (eq k) (keys_of (pairs_of hs)) ≡ false
   none_has [] h none = refl
   none_has (t ∷ hs) h none =
       ap (λ b. b || list_any (eq k) (keys_of (pairs_of hs))) (one_differs t h.0 (none [] t hs refl) (eq k t.pair.0) refl)
       ∙ none_has hs h.1 (λ xs x ys e. none (t ∷ xs) x ys (ap (λ l. t ∷ l) e))
 
-  pub absent_key : (hs : List (Held (K × V))) → AllByRecursion (λ u. u.number ≡ hash u.pair) (bare hs) → IsAbsent eq n k hs → find eq (pairs_of hs) k ≡ None
+  pub absent_key : (hs : List (Held (K × V))) → AllByRecursion (λ u. u.hash ≡ hash u.pair) (bare hs) → IsAbsent eq n k hs → find eq (pairs_of hs) k ≡ None
   absent_key hs h none = lookup_entry-none (eq k) (pairs_of hs) (none_has hs h none)
 
 -- the first node at a pointer

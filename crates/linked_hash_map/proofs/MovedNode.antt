@@ -38,7 +38,7 @@ module _ {K : Type 0} {eq : K → K → Bool} (laws : IsEquivalence eq) {hash : 
       let of_all = length-append front (u ∷ back) in
       let of_rest = length-append front back in
       let of_moved = length-append (front ++ back) (u ∷ []) in
-      let P : Held K → Type 0 = λ t. t.number ≡ hash t.pair in
+      let P : Held K → Type 0 = λ t. t.hash ≡ hash t.pair in
       let keys : List (Held K) → List K = map (λ t. t.pair) in
       let cut = map-append (λ (t : Held K). t.pair) front (u ∷ back) in
       let joined = map-append (λ (t : Held K). t.pair) front back in

@@ -79,7 +79,7 @@ IsKept-some {K} {V} {eq} {hash} {s} {t} kept some capacity =
     record {
       nodes = record {
         distinct = distinct-sublist eq (map (λ (u : Held K). u.pair) (bare t.held)) (map (λ (u : Held K). u.pair) (bare s.held)) (map-sublist (λ (u : Held K). u.pair) (bare t.held) (bare s.held) some) k.distinct;
-        hashed = all-sublist (λ (u : Held K). u.number ≡ hash u.pair) (bare t.held) (bare s.held) some k.hashed;
+        hashed = all-sublist (λ (u : Held K). u.hash ≡ hash u.pair) (bare t.held) (bare s.held) some k.hashed;
         within = omega (arith, few, capacity, k.within);
         limit = omega (arith, capacity, k.limit);
         marked = λ _. refl;

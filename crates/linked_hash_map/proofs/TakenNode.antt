@@ -30,7 +30,7 @@ module _ {K : Type 0} {eq : K → K → Bool} {hash : K → ℕ} (front : List (
       let of_rest = length-append front back in
       record {
         distinct = distinct_keys-out;
-        hashed = all_swap (λ t. t.number ≡ hash t.pair) front u back kept.hashed;
+        hashed = all_swap (λ t. t.hash ≡ hash t.pair) front u back kept.hashed;
         within = omega (arith, of_all, of_rest, kept.within);
         limit = kept.limit;
         marked = kept.marked;

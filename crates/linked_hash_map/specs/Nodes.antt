@@ -62,7 +62,7 @@ module _ {K V : Type 0} where
 
   -- a node without its link and its value
   abbrev pub bare_node : Held (K × V) → Held K
-  bare_node t = held t.at t.number None t.pair.0
+  bare_node t = held t.at t.hash None t.pair.0
 
   abbrev pub bare : List (Held (K × V)) → List (Held K)
   bare = map bare_node
@@ -78,7 +78,7 @@ module _ {K V : Type 0} where
 -- long as pairs are unvisited, and these are there from it on; the pair that an entry stands for is there
 pub record AreKept {K : Type 0} (eq : K → K → Bool) (hash : K → ℕ) (us : List (Held K)) (capacity : ℕ) (mark : Option Ptr) (unvisited : ℕ) (current : Option Ptr) : Type 0 where
   pub distinct : IsDistinct eq (map (λ u. u.pair) us)
-  pub hashed : AllByRecursion (λ u. u.number ≡ hash u.pair) us
+  pub hashed : AllByRecursion (λ u. u.hash ≡ hash u.pair) us
   pub within : length us ≤ capacity
   pub limit : capacity ≤ LIMIT
   pub marked : mark ≡ None → unvisited ≡ 0

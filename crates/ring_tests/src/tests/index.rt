@@ -54,10 +54,10 @@ impl<K, V> Table<K, V> {
         self.ring.spares()
     }
 
-    fn push(&mut self, number: u64, key: K, value: V)
+    fn push(&mut self, hash: u64, key: K, value: V)
         requires { 0 < self.old.spares }
     {
-        let at = self.ring.put_back(number, key, value);
+        let at = self.ring.put_back(hash, key, value);
         self.index.put_in(&mut self.ring, at);
     }
 
@@ -92,17 +92,17 @@ impl<K, V> Table<K, V> {
 }
 
 impl<K: Eq, V> Table<K, V> {
-    fn probe(&self, number: u64, key: &K) -> (bool, Probe) {
+    fn probe(&self, hash: u64, key: &K) -> (bool, Probe) {
         let _len = self.ring.len();
-        let (found, probe) = self.index.find(&self.ring, number, key);
+        let (found, probe) = self.index.find(&self.ring, hash, key);
         (found.is_some(), probe)
     }
 
-    fn remove(&mut self, number: u64, key: &K) -> Option<(u64, K, V)>
-        ensures absent { IfNone result (IsAbsent K.eq number key.now self.old.held) }
+    fn remove(&mut self, hash: u64, key: &K) -> Option<(u64, K, V)>
+        ensures absent { IfNone result (IsAbsent K.eq hash key.now self.old.held) }
     {
         let _len = self.ring.len();
-        let at = self.index.take_out(&mut self.ring, number, key)?;
+        let at = self.index.take_out(&mut self.ring, hash, key)?;
         Some(self.ring.unlink(at))
     }
 }

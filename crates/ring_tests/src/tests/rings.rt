@@ -12,15 +12,15 @@ use std::mem::forget;
 use std::process::Abort;
 use std::rc::Rc;
 
-/// Tells whether a ring holds exactly these numbers, keys and values, in order, and has this many spare nodes.
+/// Tells whether a ring holds exactly these hashes, keys and values, in order, and has this many spare nodes.
 fn is_ring(ring: &Ring<char, u64>, triples: &[(u64, char, u64)], spares: usize) -> bool {
     if ring.len() != triples.len() || ring.spares() != spares {
         return false;
     }
     let mut held = ring.iter();
     for triple in triples {
-        let (number, key, value) = *triple;
-        if held.next() != Some((number, &key, &value)) {
+        let (hash, key, value) = *triple;
+        if held.next() != Some((hash, &key, &value)) {
             return false;
         }
     }
@@ -118,17 +118,17 @@ fn drain_from_both_ends(rt: &impl Abort, mut rest: Drain<'_, char, u64>) {
     check_eq!(rt; rest.next_back(), None);
 }
 
-/// Writes each value, and reads the number at `at`, which is where it was: no value is known, and all else stands.
-fn number_after_writing(ring: &mut Ring<char, u64>, at: Position<char, u64>) -> u64
+/// Writes each value, and reads the hash at `at`, which is where it was: no value is known, and all else stands.
+fn hash_after_writing(ring: &mut Ring<char, u64>, at: Position<char, u64>) -> u64
     requires { IsHeld ring.old.held (pointer_of at) }
-    ensures number { AtHeld ring.old.held (pointer_of at) (λ xs t ys. result ≡ t.number) }
+    ensures hash { AtHeld ring.old.held (pointer_of at) (λ xs t ys. result ≡ t.hash) }
     ensures held { map unvalued ring.new.held ≡ map unvalued ring.old.held }
     ensures spares { ring.new.spares ≡ ring.old.spares }
 {
-    for (number, _, value) in ring.iter_mut() {
-        *value = number;
+    for (hash, _, value) in ring.iter_mut() {
+        *value = hash;
     }
-    ring.number(at)
+    ring.hash(at)
 }
 
 /// Hands all triples out, and answers the last value.
@@ -202,7 +202,7 @@ fn stands_but_for_values_after_writing(rt: HostRuntime) {
     let mut ring = with_spares(&rt, rt.alloc(), 3);
     put(&rt, &mut ring, 7, 'a', 1);
     let b = put(&rt, &mut ring, 9, 'b', 2);
-    check_eq!(rt; number_after_writing(&mut ring, b), 9);
+    check_eq!(rt; hash_after_writing(&mut ring, b), 9);
     check!(rt; is_ring(&ring, &[(7, 'a', 7), (9, 'b', 9)], 1));
 }
 
@@ -224,7 +224,7 @@ fn reads_and_writes_at_a_position(rt: HostRuntime) {
 fn triple_at(ring: &Ring<char, u64>, at: Position<char, u64>) -> (u64, char, u64)
     requires { IsHeld ring.now.held (pointer_of at) }
 {
-    (ring.number(at), *ring.key(at), *ring.value(at))
+    (ring.hash(at), *ring.key(at), *ring.value(at))
 }
 
 /// Tells whether there is a first position, and a last one.

@@ -7,5 +7,5 @@ use Rattle.lhm_ring.proofs.heads.masked.Goals as goal
 pub returns : goal.returns
 returns c =
     let p = power_of c.args.buckets c.requires.some c.requires.power in
-    let P : ℕ → Type 0 = λ n. bit_and c.args.number (n - 1) ≡ c.args.number % n in
-    subst P (sym p.1) (and_mask c.args.number p.0)
+    let P : ℕ → Type 0 = λ n. bit_and c.args.hash (n - 1) ≡ c.args.hash % n in
+    subst P (sym p.1) (and_mask c.args.hash p.0)

@@ -5,11 +5,11 @@ use Rattle.lhm_ring.proofs.NodeBefore.{head_there, towards_start, towards_held, 
 use Rattle.lhm_ring.proofs.index.Index.before.Goals as goal
 
 pub unwrap-here-requires : goal.unwrap-here-requires
-unwrap-here-requires g c = let h = head_there c.requires.indexed c.requires.held c.requires.number in is_there c.head.result h.0 (c.head.ensures ∙ h.1)
+unwrap-here-requires g c = let h = head_there c.requires.indexed c.requires.held c.requires.hash in is_there c.head.result h.0 (c.head.ensures ∙ h.1)
 
 pub chain-init : goal.chain-init
 chain-init g c = (
-  towards_start c.set_link.new.self.held (pointer_of_some c.link-link.result) (pointer_of c.unwrap-here.result) c.requires.indexed c.requires.held c.requires.number c.link-link.ensures.link c.set_link.ensures.held (ap pointer_of_some (sym c.unwrap-here.ensures) ∙ c.head.ensures),
+  towards_start c.set_link.new.self.held (pointer_of_some c.link-link.result) (pointer_of c.unwrap-here.result) c.requires.indexed c.requires.held c.requires.hash c.link-link.ensures.link c.set_link.ensures.held (ap pointer_of_some (sym c.unwrap-here.ensures) ∙ c.head.ensures),
   c.set_link.ensures.spares,
 )
 

@@ -5,7 +5,7 @@ use Rattle.lhm_ring.proofs.index.Index.before.Given as goal
 
 abbrev pub invariant-chain : goal.invariant-chain
 invariant-chain g l =
-    IsTowards l.self l.number l.fn.ring.held l.ring.held (pointer_of l.at) (pointer_of_some l.link) (pointer_of_some l.before) (pointer_of l.here) l.passed
+    IsTowards l.self l.hash l.fn.ring.held l.ring.held (pointer_of l.at) (pointer_of_some l.link) (pointer_of_some l.before) (pointer_of l.here) l.passed
     × (l.ring.spares ≡ l.fn.ring.spares)
 
 abbrev pub decreases-chain : goal.decreases-chain

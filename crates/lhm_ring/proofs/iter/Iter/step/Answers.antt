@@ -1,5 +1,5 @@
 use Rattle.std.proofs.Common.{◌∙◌, sym}
-use Rattle.lhm_ring.proofs.WalkSteps.{front, before_at, none_left, read_both}
+use Rattle.lhm_ring.proofs.IteratorSteps.{front, before_at, none_left, read_both}
 use Rattle.lhm_ring.proofs.iter.Iter.step.Goals as goal
 
 pub returns-then-self-eq0 : goal.returns-then-self-eq0

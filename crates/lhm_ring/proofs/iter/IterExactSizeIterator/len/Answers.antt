@@ -1,5 +1,5 @@
 use Rattle.std.proofs.Common.{◌∙◌, ap, length}
-use Rattle.lhm_ring.proofs.WalkSteps.{length_left}
+use Rattle.lhm_ring.proofs.IteratorSteps.{length_left}
 use Rattle.lhm_ring.proofs.iter.IterExactSizeIterator.len.Goals as goal
 
 pub returns-clause-value : goal.returns-clause-value

@@ -1,6 +1,6 @@
 use Rattle.std.proofs.Common.{◌∷◌, ◌∙◌, sym, ap, subst}
-use Rattle.lhm_ring.specs.Walks.{AreLent}
-use Rattle.lhm_ring.proofs.WalkSteps.{first_lent, same_value}
+use Rattle.lhm_ring.specs.Iterators.{AreLent}
+use Rattle.lhm_ring.proofs.IteratorSteps.{first_lent, same_value}
 use Rattle.lhm_ring.proofs.iter.IterMut.step.Goals as goal
 
 pub take-requires : goal.take-requires
@@ -13,4 +13,4 @@ pub returns-in-Some : goal.returns-in-Some
 returns-in-Some g c =
     let i = c.self.inside in let l = first_lent i.loan.run i.holes _ c.step.new.self c.in-Some.ensures.1 c.self.invariant in
     let same = same_value _ _ _ l.0 c.take.ensures.value in
-    (c.in-Some.at.ptr, c.in-Some.ensures.0, sym (ap (λ s. s.0) c.self.view_is) ∙ c.in-Some.ensures.1 ∙ ap (λ w. record { at = c.in-Some.at.ptr; number = c.in-Some.number; link = c.in-Some.ensures.0; pair = (c.in-Some.key.now, w) } ∷ c.step.new.self) same)
+    (c.in-Some.at.ptr, c.in-Some.ensures.0, sym (ap (λ s. s.0) c.self.view_is) ∙ c.in-Some.ensures.1 ∙ ap (λ w. record { at = c.in-Some.at.ptr; hash = c.in-Some.hash; link = c.in-Some.ensures.0; pair = (c.in-Some.key.now, w) } ∷ c.step.new.self) same)

@@ -37,7 +37,7 @@ use Rattle.std.proofs.raw_atomic.Walks.{proved_at, leaves}
 use Rattle.lhm_ring.specs.ValueLoan.{spread}
 use Rattle.lhm_ring.specs.RingState.{State}
 use Rattle.lhm_ring.specs.RingAfterLoan.{held_values, with_values}
-use Rattle.lhm_ring.specs.Walks.{AreLent}
+use Rattle.lhm_ring.specs.Iterators.{AreLent}
 use Rattle.lhm_ring.specs.declared.value_loan.ValueLoan.{ValueLoan}
 use Rattle.lhm_ring.specs.declared.links.Links.{Links}
 use Rattle.lhm_ring.specs.contracts.links.Links as links

@@ -19,35 +19,35 @@ pub fill-requires : goal.fill-requires
 fill-requires g c =
     let i = c.self.inside in (
       _,
-      still i.nodes.cells i.guard i.spare _ _ i.len i.spares _ c.unwrap-guard.ensures c.pointer-at.ensures.pointer c.self.invariant c.self.view_is c.requires _ _ c.links-old.ensures c.links.ensures c.args.number
+      still i.nodes.cells i.guard i.spare _ _ i.len i.spares _ c.unwrap-guard.ensures c.pointer-at.ensures.pointer c.self.invariant c.self.view_is c.requires _ _ c.links-old.ensures c.links.ensures c.args.hash
           (c.args.key, c.args.value) _ c.none.ensures _ _ c.set_links.ensures refl,
     )
 
 pub join-requires : goal.join-requires
 join-requires g c =
     let i = c.self.inside in
-    put_there i.nodes.cells i.guard i.spare _ _ i.len i.spares _ c.unwrap-guard.ensures c.pointer-at.ensures.pointer c.self.invariant c.self.view_is c.requires _ _ c.links-old.ensures c.links.ensures c.args.number
+    put_there i.nodes.cells i.guard i.spare _ _ i.len i.spares _ c.unwrap-guard.ensures c.pointer-at.ensures.pointer c.self.invariant c.self.view_is c.requires _ _ c.links-old.ensures c.links.ensures c.args.hash
     (c.args.key, c.args.value) _ c.none.ensures _ _ c.set_links.ensures c.fill.ensures
 
 pub join-requires-2 : goal.join-requires-2
 join-requires-2 g c =
     let i = c.self.inside in
-    put_there_then i.nodes.cells i.guard i.spare _ _ i.len i.spares _ c.unwrap-guard.ensures c.pointer-at.ensures.pointer c.self.invariant c.self.view_is c.requires _ _ c.links-old.ensures c.links.ensures c.args.number
+    put_there_then i.nodes.cells i.guard i.spare _ _ i.len i.spares _ c.unwrap-guard.ensures c.pointer-at.ensures.pointer c.self.invariant c.self.view_is c.requires _ _ c.links-old.ensures c.links.ensures c.args.hash
     (c.args.key, c.args.value) _ c.none.ensures _ _ c.set_links.ensures c.fill.ensures _ c.join.ensures
 
 pub invariant_of-self : goal.invariant_of-self
 invariant_of-self g c =
     let i = c.self.inside in (
-    put_ring i.nodes.cells i.guard i.spare _ _ i.len i.spares _ c.unwrap-guard.ensures c.pointer-at.ensures.pointer c.self.invariant c.self.view_is c.requires _ _ c.links-old.ensures c.links.ensures c.args.number
+    put_ring i.nodes.cells i.guard i.spare _ _ i.len i.spares _ c.unwrap-guard.ensures c.pointer-at.ensures.pointer c.self.invariant c.self.view_is c.requires _ _ c.links-old.ensures c.links.ensures c.args.hash
     (c.args.key, c.args.value) _ c.none.ensures _ _ c.set_links.ensures c.fill.ensures _ _ c.join.ensures c.join-2.ensures)
 
 pub returns : goal.returns
 returns g c =
     let i = c.self.inside in let p = ap (λ (z : NodePointer). z.ptr) (sym c.new.ensures) in
-    let e = put_list i.nodes.cells i.guard i.spare _ _ i.len i.spares _ c.unwrap-guard.ensures c.pointer-at.ensures.pointer c.self.invariant c.self.view_is c.requires _ _ c.links-old.ensures c.links.ensures c.args.number
+    let e = put_list i.nodes.cells i.guard i.spare _ _ i.len i.spares _ c.unwrap-guard.ensures c.pointer-at.ensures.pointer c.self.invariant c.self.view_is c.requires _ _ c.links-old.ensures c.links.ensures c.args.hash
     (c.args.key, c.args.value) _ c.none.ensures _ _ c.set_links.ensures c.fill.ensures _ _ c.join.ensures c.join-2.ensures in
     record {
-      last = ap (λ z. z.held) e ∙ ap (λ q. c.args.self.now.held ++ held q c.args.number None (c.args.key, c.args.value) ∷ []) p;
+      last = ap (λ z. z.held) e ∙ ap (λ q. c.args.self.now.held ++ held q c.args.hash None (c.args.key, c.args.value) ∷ []) p;
       spares = ap (λ z. z.spares) e;
     }
 

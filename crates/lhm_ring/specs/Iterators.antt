@@ -1,4 +1,4 @@
--- What a walk has left: nodes between two others; and what its steps give.
+-- What an iterator has left: nodes between two others; and what its steps return.
 use Rattle.std.specs.Prelude.{◌≡◌, ℕ, ◌<◌, true, List, [], ◌∷◌, ◌++◌, map, length, Option, Some, None}
 use Rattle.std.specs.List.{AllByRecursion}
 use Rattle.std.specs.Borrow.{Bor, MutBor}
@@ -12,7 +12,7 @@ use Rattle.lhm_ring.specs.declared.block.NodePointer.{NodePointer}
 use Rattle.lhm_ring.specs.declared.links.Links.{Links}
 
 module _ {B : Type 0} where
-  -- what a writing walk has left
+  -- what a mutable iterator has left
   abbrev pub rest_of : List (Held B) × GName → List (Held B)
   rest_of s = s.0
 
@@ -21,7 +21,7 @@ module _ {B : Type 0} where
   IsBetween cs b a n = (ps : List Ptr) × (length ps ≡ n) × AllByRecursion (HasContent cs) ps × IsApart ps × (0 < n → Linked cs (b ∷ (ps ++ a ∷ [])) × (is_there cs b ≡ true) × (is_there cs a ≡ true))
 
 module _ {K V : Type 0} where
-  -- what a step from the front gives, and what it leaves
+  -- what a step from the front returns, and what it leaves
   abbrev pub IsFirstStep : List (Held (K × V)) → Option (NodePointer × ℕ × Bor K × Bor V) → List (Held (K × V)) → Type 0
   IsFirstStep s None t = (s ≡ []) × (t ≡ [])
   IsFirstStep s (Some r) t = (l : Option Ptr) × (s ≡ held r.0.ptr r.1 l (r.2.now, r.3.now) ∷ t)
@@ -30,7 +30,7 @@ module _ {K V : Type 0} where
   IsLastStep s None t = (s ≡ []) × (t ≡ [])
   IsLastStep s (Some r) t = (l : Option Ptr) × (s ≡ t ++ held r.0.ptr r.1 l (r.2.now, r.3.now) ∷ [])
 
-  -- the same of pairs whose value is lent for writing
+  -- the same of pairs with a mutable reference to the value
   abbrev pub LendsFirstStep : List (Held (K × V)) → Option (ℕ × Bor K × MutBor V) → List (Held (K × V)) → Type 0
   LendsFirstStep s None t = (s ≡ []) × (t ≡ [])
   LendsFirstStep s (Some r) t = (p : Ptr) × (l : Option Ptr) × (s ≡ held p r.0 l (r.1.now, r.2.now) ∷ t)
@@ -39,11 +39,11 @@ module _ {K V : Type 0} where
   LendsLastStep s None t = (s ≡ []) × (t ≡ [])
   LendsLastStep s (Some r) t = (p : Ptr) × (l : Option Ptr) × (s ≡ t ++ held p r.0 l (r.1.now, r.2.now) ∷ [])
 
-  -- the values of the nodes that are left are still to be taken
+  -- the values of the nodes left are still to be lent
   abbrev pub AreLent : List (Ptr × V) → List (Held (K × V)) → Type 0
   AreLent run hs = AllByRecursion (λ t. value_at run t.at ≡ Some t.pair.1) hs × IsApart (map (λ t. t.at) hs)
 
-  -- the same of pairs that are shown
+  -- the same of pairs with a shared reference to the value
   abbrev pub ShowsFirstStep : List (Held (K × V)) → Option (ℕ × Bor K × Bor V) → List (Held (K × V)) → Type 0
   ShowsFirstStep s None t = (s ≡ []) × (t ≡ [])
   ShowsFirstStep s (Some r) t = (p : Ptr) × (l : Option Ptr) × (s ≡ held p r.0 l (r.1.now, r.2.now) ∷ t)

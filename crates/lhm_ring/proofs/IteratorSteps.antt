@@ -1,4 +1,4 @@
--- A walk takes the first or the last of what it has left.
+-- An iterator returns the first or the last of what it has left.
 use Rattle.std.proofs.Common.{◌≡◌, ℕ, suc, zero, ◌-◌, ◌<◌, true, false, cond, List, [], ◌∷◌, ◌++◌, map, length, Option, Some, None, refl, sym, ap, ◌∙◌, subst, arith}
 use lib.ListN.{length-append}
 use Rattle.std.specs.List.{AllByRecursion}
@@ -8,7 +8,7 @@ use Rattle.lhm_ring.specs.Cells.{Cell, same_ptr, IsApart, IsAt, Holds, links_at,
 use Rattle.lhm_ring.specs.ValueLoan.{value_at, without_value}
 use Rattle.lhm_ring.specs.Rings.{next_of, prev_of, link_of, guard_of, has_links, next_at, prev_at, is_there, content_of, Linked, HasContent, follow, listed, one_of}
 use Rattle.lhm_ring.specs.RingState.{Held, held}
-use Rattle.lhm_ring.specs.Walks.{IsBetween, AreLent}
+use Rattle.lhm_ring.specs.Iterators.{IsBetween, AreLent}
 use Rattle.lhm_ring.proofs.Apart.{IsFresh, same_ptr_symm, same_ptr_eq}
 use Rattle.lhm_ring.proofs.Options.{some_same}
 use Rattle.lhm_ring.proofs.Writes.{is_at, content_links}
@@ -35,9 +35,9 @@ module _ {B : Type 0} (cs : List (Cell Links B)) where
   holds : (p : Ptr) → HasContent cs p → Holds cs p
   holds p h = content_holds p (links_at cs p) (body_at cs p) h.0 h.1
 
-  one : (p : Ptr) → HasContent cs p → (l : Links) → links_at cs p ≡ Some l → (x : B) → body_at cs p ≡ Some x → listed cs (p ∷ []) ≡ held p l.number (link_of (Some l)) x ∷ []
+  one : (p : Ptr) → HasContent cs p → (l : Links) → links_at cs p ≡ Some l → (x : B) → body_at cs p ≡ Some x → listed cs (p ∷ []) ≡ held p l.hash (link_of (Some l)) x ∷ []
   unfolding listed
-  one p h l f x e = (λ i. one_of (content_of p (f i) (e i)) ++ []) ∙ ap (λ y. one_of (cond y None (Some (held p l.number (link_of (Some l)) x))) ++ []) (sym (ap guard_of f) ∙ content_guard p (links_at cs p) (body_at cs p) h.0 h.1)
+  one p h l f x e = (λ i. one_of (content_of p (f i) (e i)) ++ []) ∙ ap (λ y. one_of (cond y None (Some (held p l.hash (link_of (Some l)) x))) ++ []) (sym (ap guard_of f) ∙ content_guard p (links_at cs p) (body_at cs p) h.0 h.1)
 
   between_listed : (b a : Ptr) (n : ℕ) (ps : List Ptr) → length ps ≡ n → (0 < n → Linked cs (b ∷ (ps ++ a ∷ []))) → listed cs (follow cs n b) ≡ listed cs ps
   unfolding follow listed
@@ -54,7 +54,7 @@ module _ {B : Type 0} (cs : List (Cell Links B)) where
   unfolding follow listed
   none_left b a n e = ap (λ m. listed cs (follow cs m b)) e
 
-  -- as many are left as the walk counts
+  -- as many are left as the iterator counts
   pub length_left : (b a : Ptr) (n : ℕ) → IsBetween cs b a n → n ≡ length (listed cs (follow cs n b))
   length_left b a n st = sym (ap length (between_listed b a n st.0 st.1 (λ z. (st.4 z).0)) ∙ length_listed cs st.0 st.2 ∙ st.1)
 
@@ -62,7 +62,7 @@ module _ {B : Type 0} (cs : List (Cell Links B)) where
     pub holds : Holds cs q
     pub next : IsBetween cs q a (n - 1)
     pub there : IsAt cs q
-    pub shown : (l : Links) → links_at cs q ≡ Some l → (x : B) → body_at cs q ≡ Some x → listed cs (follow cs n b) ≡ held q l.number (link_of (Some l)) x ∷ listed cs (follow cs (n - 1) q)
+    pub shown : (l : Links) → links_at cs q ≡ Some l → (x : B) → body_at cs q ≡ Some x → listed cs (follow cs n b) ≡ held q l.hash (link_of (Some l)) x ∷ listed cs (follow cs (n - 1) q)
 
   front_of : (b a : Ptr) (n : ℕ) (ps : List Ptr) → length ps ≡ n → AllByRecursion (HasContent cs) ps → IsApart ps → (0 < n → Linked cs (b ∷ (ps ++ a ∷ [])) × (is_there cs b ≡ true) × (is_there cs a ≡ true)) → (n ≡ 0 → ⊥)
       → (q : Ptr) → next_at cs b ≡ q → Front b a n q
@@ -85,7 +85,7 @@ module _ {B : Type 0} (cs : List (Cell Links B)) where
     pub holds : Holds cs q
     pub next : IsBetween cs b q (n - 1)
     pub there : IsAt cs q
-    pub shown : (l : Links) → links_at cs q ≡ Some l → (x : B) → body_at cs q ≡ Some x → listed cs (follow cs n b) ≡ listed cs (follow cs (n - 1) b) ++ held q l.number (link_of (Some l)) x ∷ []
+    pub shown : (l : Links) → links_at cs q ≡ Some l → (x : B) → body_at cs q ≡ Some x → listed cs (follow cs n b) ≡ listed cs (follow cs (n - 1) b) ++ held q l.hash (link_of (Some l)) x ∷ []
 
   back_at : (b a : Ptr) (n : ℕ) (ps : List Ptr) (p : Ptr) → length (ps ++ p ∷ []) ≡ n → AllByRecursion (HasContent cs) (ps ++ p ∷ []) → IsApart (ps ++ p ∷ [])
       → (0 < n → Linked cs (b ∷ ((ps ++ p ∷ []) ++ a ∷ [])) × (is_there cs b ≡ true) × (is_there cs a ≡ true)) → (n ≡ 0 → ⊥) → (q : Ptr) → prev_at cs a ≡ q → Back b a n q

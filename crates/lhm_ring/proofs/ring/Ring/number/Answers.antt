@@ -1,8 +1,0 @@
-use Rattle.lhm_ring.proofs.ReadAtPosition.{read_at, read_number}
-use Rattle.lhm_ring.proofs.ring.Ring.number.Goals as goal
-
-pub links-requires : goal.links-requires
-links-requires g c = let i = c.self.inside in read_at i.nodes.cells i.guard i.spare i.len i.spares _ c.self.invariant c.self.view_is c.args.at.pointer.ptr c.requires
-
-pub returns : goal.returns
-returns g c = let i = c.self.inside in read_number i.nodes.cells i.guard i.spare i.len i.spares _ c.self.invariant c.self.view_is c.args.at.pointer.ptr _ c.links.ensures
