@@ -66,8 +66,8 @@ module _ {B : Type 0} (cs ds : List (Cell Links B)) (p : Ptr) (t u : Held B) (j 
   split_at : (guard : Option NodePointer) (spare : Link) (n m : ℕ) → RingOk cs guard spare n m → IsHeld (ring_list cs guard n) p → (us : List Ptr) × (vs : List Ptr) × (ring_pointers cs guard n ≡ us ++ p ∷ vs)
   split_at None spare n m ok h = absurd (none_held p h)
   split_at (Some g) spare n m ok h =
-      let f = found cs g spare n m ok h.0 h.1 h.2 h.3 in let s = f.pointer in
-      (s.before, s.after, ap (λ k. follow cs k g.ptr) (sym s.long) ∙ follow_row cs g.ptr (s.before ++ h.1.at ∷ s.after) g.ptr s.ring.linked ∙ ap (λ q. s.before ++ q ∷ s.after) h.4)
+      let f = found cs g spare n m ok h.before h.node h.after h.is in let s = f.pointer in
+      (s.before, s.after, ap (λ k. follow cs k g.ptr) (sym s.long) ∙ follow_row cs g.ptr (s.before ++ h.node.at ∷ s.after) g.ptr s.ring.linked ∙ ap (λ q. s.before ++ q ∷ s.after) h.at_is)
 
   free_of : (g : NodePointer) (spare : Link) (n m : ℕ) (ok : RingOk cs (Some g) spare n m) (us vs : List Ptr) → follow cs n g.ptr ≡ us ++ p ∷ vs → IsFresh p ok.1
   free_of g spare n m ok us vs e =

@@ -17,7 +17,7 @@ same_at p q e = cc
 module _ {B : Type 0} where
   pub first_held : (hs : List (Held B)) (p : Ptr) → Some p ≡ first_at hs → IsHeld hs p
   first_held [] p h = absurd (some_none p h)
-  first_held (t ∷ hs) p h = ([], t, hs, refl, same_at p t.at h)
+  first_held (t ∷ hs) p h = record { before = []; node = t; after = hs; is = refl; at_is = same_at p t.at h }
 
   pub no_first : (hs : List (Held B)) → None ≡ first_at hs → hs ≡ []
   no_first [] h = refl

@@ -3,21 +3,15 @@ use Rattle.std.proofs.Common.{◌≡◌, ℕ, List, [], ◌∷◌, ◌++◌, Opt
 use Rattle.std.specs.List.{AllZip}
 use Rattle.std.proofs.lemmas.List.{map-append}
 use denote.RawPtr.{Ptr}
+use Rattle.lhm_ring.specs.Splits.{SplitFirst, SplitLast}
 use Rattle.lhm_ring.specs.RingState.{Held, IsHeld, first_at, last_at, last_of, triples}
 
--- a node at p comes first, and the rest after it
-pub record First {B : Type 0} (hs : List (Held B)) (p : Ptr) : Type 0 where
-  pub node : Held B
-  pub rest : List (Held B)
-  pub is : hs ≡ node ∷ rest
-  pub at : node.at ≡ p
+-- a node at p comes first, or last
+abbrev pub First : {B : Type 0} → List (Held B) → Ptr → Type 0
+First = SplitFirst (λ t. t.at)
 
--- a node at p comes last, and the rest before it
-pub record Last {B : Type 0} (hs : List (Held B)) (p : Ptr) : Type 0 where
-  pub rest : List (Held B)
-  pub node : Held B
-  pub is : hs ≡ rest ++ node ∷ []
-  pub at : node.at ≡ p
+abbrev pub Last : {B : Type 0} → List (Held B) → Ptr → Type 0
+Last = SplitLast (λ t. t.at)
 
 some_pointer : (p q : Ptr) → Some p ≡ Some q → p ≡ q
 some_pointer p q e = cc
@@ -25,39 +19,39 @@ some_pointer p q e = cc
 module _ {B : Type 0} where
   pub first_node : (hs : List (Held B)) (o : Option Ptr) (p : Ptr) → o ≡ first_at hs → o ≡ Some p → First hs p
   first_node [] o p e h = absurd (let no : None ≡ Some p = sym e ∙ h in cc)
-  first_node (t ∷ hs) o p e h = record { node = t; rest = hs; is = refl; at = some_pointer t.at p (sym e ∙ h) }
+  first_node (t ∷ hs) o p e h = record { node = t; after = hs; is = refl; at_is = some_pointer t.at p (sym e ∙ h) }
 
   pub triples-none : (hs : List (Held B)) → triples hs ≡ [] → hs ≡ []
   triples-none [] e = refl
   triples-none (t ∷ hs) e = absurd (cc)
 
   last_cut : (t : Held B) (hs : List (Held B)) → Last (t ∷ hs) (last_of t hs)
-  last_cut t [] = record { rest = []; node = t; is = refl; at = refl }
-  last_cut t (u ∷ hs) = let r = last_cut u hs in record { rest = t ∷ r.rest; node = r.node; is = ap (λ l. t ∷ l) r.is; at = r.at }
+  last_cut t [] = record { before = []; node = t; is = refl; at_is = refl }
+  last_cut t (u ∷ hs) = let r = last_cut u hs in record { before = t ∷ r.before; node = r.node; is = ap (λ l. t ∷ l) r.is; at_is = r.at_is }
 
   pub last_node : (hs : List (Held B)) (o : Option Ptr) (p : Ptr) → o ≡ last_at hs → o ≡ Some p → Last hs p
   last_node [] o p e h = absurd (let no : None ≡ Some p = sym e ∙ h in cc)
   last_node (t ∷ hs) o p e h =
       let r = last_cut t hs in
-      record { rest = r.rest; node = r.node; is = r.is; at = r.at ∙ some_pointer (last_of t hs) p (sym e ∙ h) }
+      record { before = r.before; node = r.node; is = r.is; at_is = r.at_is ∙ some_pointer (last_of t hs) p (sym e ∙ h) }
 
   -- the node, cut out of what is held
   module _ {hs : List (Held B)} {p : Ptr} where
     pub first_held : First hs p → IsHeld hs p
-    first_held f = ([], f.node, f.rest, f.is, f.at)
+    first_held f = record { before = []; node = f.node; after = f.after; is = f.is; at_is = f.at_is }
 
     pub last_held : Last hs p → IsHeld hs p
-    last_held l = (l.rest, l.node, [], l.is, l.at)
+    last_held l = record { before = l.before; node = l.node; after = []; is = l.is; at_is = l.at_is }
 
 -- the triples, once that at an end was removed
 module _ {K V : Type 0} {hs : List (Held (K × V))} {p : Ptr} where
-  pub triples-first : (f : First hs p) (others : List (Held (K × V))) (taken : ℕ × K × V) → others ≡ f.rest → taken ≡ (f.node.hash, f.node.pair.0, f.node.pair.1) → triples hs ≡ (taken.0, (taken.1, taken.2)) ∷ triples others
+  pub triples-first : (f : First hs p) (others : List (Held (K × V))) (taken : ℕ × K × V) → others ≡ f.after → taken ≡ (f.node.hash, f.node.pair.0, f.node.pair.1) → triples hs ≡ (taken.0, (taken.1, taken.2)) ∷ triples others
   triples-first f others taken left out = ap triples f.is ∙ (λ i. ((sym out i).0, ((sym out i).1, (sym out i).2)) ∷ triples (sym left i))
 
-  pub triples-last : (l : Last hs p) (others : List (Held (K × V))) (taken : ℕ × K × V) → others ≡ l.rest ++ [] → taken ≡ (l.node.hash, l.node.pair.0, l.node.pair.1) → triples hs ≡ triples others ++ (taken.0, (taken.1, taken.2)) ∷ []
+  pub triples-last : (l : Last hs p) (others : List (Held (K × V))) (taken : ℕ × K × V) → others ≡ l.before ++ [] → taken ≡ (l.node.hash, l.node.pair.0, l.node.pair.1) → triples hs ≡ triples others ++ (taken.0, (taken.1, taken.2)) ∷ []
   triples-last l others taken left out =
-      ap triples l.is ∙ map-append (λ (t : Held (K × V)). (t.hash, t.pair)) l.rest (l.node ∷ [])
-      ∙ (λ i. triples (sym (left ∙ append-nil l.rest) i) ++ ((sym out i).0, ((sym out i).1, (sym out i).2)) ∷ [])
+      ap triples l.is ∙ map-append (λ (t : Held (K × V)). (t.hash, t.pair)) l.before (l.node ∷ [])
+      ∙ (λ i. triples (sym (left ∙ append-nil l.before) i) ++ ((sym out i).0, ((sym out i).1, (sym out i).2)) ∷ [])
 
 -- a triple that was put at the back comes last
 pub triples-pushed : {K V : Type 0} (hs rest : List (Held (K × V))) (t : Held (K × V)) → hs ≡ rest ++ t ∷ [] → triples hs ≡ triples rest ++ (t.hash, t.pair) ∷ []

@@ -42,14 +42,14 @@ indexed_value heads s p w i = indexed_same heads s (with_value s p w) i (spots-v
 -- a triple was moved to the back
 pub indexed_to_back : {K V : Type 0} (heads : List (Option Ptr)) (s t : State (K × V)) (p : Ptr) → IsIndexed heads s → IsHeld s.held p → AtHeld s.held p (λ xs x ys. t.held ≡ (xs ++ ys) ++ x ∷ []) → t.spares ≡ s.spares → IsIndexed heads t
 indexed_to_back {K} {V} heads s t p i h last m =
-    let e : t.held ≡ (h.0 ++ h.2) ++ h.1 ∷ [] = last h.0 h.1 h.2 h.3 h.4 in
-    let c : Indexes heads (spots (h.0 ++ h.1 ∷ h.2)) = subst (λ (v : List (Held (K × V))). Indexes heads (spots v)) h.3 i.chains in
-    let d : Indexes heads (spots t.held) = subst (λ (v : List (Held (K × V))). Indexes heads (spots v)) (sym e) (Indexes-to_back heads h.0 h.1 h.2 c) in
-    let a : length t.held ≡ length ((h.0 ++ h.2) ++ h.1 ∷ []) = ap length e in
-    let b : length s.held ≡ length (h.0 ++ h.1 ∷ h.2) = ap length h.3 in
-    let f : length ((h.0 ++ h.2) ++ h.1 ∷ []) ≡ length (h.0 ++ h.2) + 1 = length-append (h.0 ++ h.2) (h.1 ∷ []) in
-    let g : length (h.0 ++ h.2) ≡ length h.0 + length h.2 = length-append h.0 h.2 in
-    let k : length (h.0 ++ h.1 ∷ h.2) ≡ length h.0 + length (h.1 ∷ h.2) = length-append h.0 (h.1 ∷ h.2) in
+    let e : t.held ≡ (h.before ++ h.after) ++ h.node ∷ [] = last h.before h.node h.after h.is h.at_is in
+    let c : Indexes heads (spots (h.before ++ h.node ∷ h.after)) = subst (λ (v : List (Held (K × V))). Indexes heads (spots v)) h.is i.chains in
+    let d : Indexes heads (spots t.held) = subst (λ (v : List (Held (K × V))). Indexes heads (spots v)) (sym e) (Indexes-to_back heads h.before h.node h.after c) in
+    let a : length t.held ≡ length ((h.before ++ h.after) ++ h.node ∷ []) = ap length e in
+    let b : length s.held ≡ length (h.before ++ h.node ∷ h.after) = ap length h.is in
+    let f : length ((h.before ++ h.after) ++ h.node ∷ []) ≡ length (h.before ++ h.after) + 1 = length-append (h.before ++ h.after) (h.node ∷ []) in
+    let g : length (h.before ++ h.after) ≡ length h.before + length h.after = length-append h.before h.after in
+    let k : length (h.before ++ h.node ∷ h.after) ≡ length h.before + length (h.node ∷ h.after) = length-append h.before (h.node ∷ h.after) in
     let all : length s.held + s.spares ≡ length t.held + t.spares = omega (arith, a, b, f, g, k, m) in
     record { chains = d; count = i.count ∙ ap buckets all }
 

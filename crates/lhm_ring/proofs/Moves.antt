@@ -101,9 +101,12 @@ module _ {B : Type 0} where
   pub ring_listed : (cs : List (Cell Links B)) (g : Ptr) (ps : List Ptr) (spare : Option Ptr) (ss : List Ptr) (n : ℕ) → IsRing cs g ps spare ss → length ps ≡ n → listed cs (follow cs n g) ≡ listed cs ps
   ring_listed cs g ps spare ss n r e = ap (λ m. listed cs (follow cs m g)) (sym e) ∙ ap (listed cs) (follow_row cs g ps g r.linked)
 
+  pub none_split : (xs : List (Held B)) (t : Held B) (ys : List (Held B)) → [] ≡ xs ++ t ∷ ys → ⊥
+  none_split [] t ys e = cc
+  none_split (x ∷ xs) t ys e = cc
+
   pub none_held : (p : Ptr) → IsHeld {B = B} [] p → ⊥
-  none_held p ([], t, ys, e, at) = cc
-  none_held p ((x ∷ xs), t, ys, e, at) = cc
+  none_held p h = none_split h.before h.node h.after h.is
 
   pub guarded : (cs : List (Cell Links B)) (guard : Option NodePointer) (spare : Link) (n m : ℕ) (p : Ptr) → IsHeld (ring_list cs guard n) p → IsSome guard
   guarded cs None spare n m p h = absurd (none_held p h)
@@ -155,7 +158,7 @@ module _ {B : Type 0} where
 
   pub node_in : (cs : List (Cell Links B)) (guard : Option NodePointer) (spare : Link) (g : NodePointer) (n m : ℕ) (v : State B) (p : Ptr) → guard ≡ Some g → RingOk cs guard spare n m → state (ring_list cs guard n) m ≡ v
       → IsHeld v.held p → NodeAt cs g spare n m p
-  node_in cs guard spare g n m v p e ok w h = subst (NodeAt cs g spare n m) h.4 (found_in cs guard spare g n m v e ok w h.0 h.1 h.2 h.3).pointer
+  node_in cs guard spare g n m v p e ok w h = subst (NodeAt cs g spare n m) h.at_is (found_in cs guard spare g n m v e ok w h.before h.node h.after h.is).pointer
 
   pub guarded_in : (cs : List (Cell Links B)) (guard : Option NodePointer) (spare : Link) (n m : ℕ) (v : State B) (p : Ptr) → state (ring_list cs guard n) m ≡ v → IsHeld v.held p → IsSome guard
   guarded_in cs guard spare n m v p w h = guarded cs guard spare n m p (subst (λ hs. IsHeld hs p) (sym (ap (λ (z : State B). z.held) w)) h)

@@ -69,14 +69,14 @@ module _ {B : Type 0} (cs : List (Cell Links B)) (guard : Option NodePointer) (s
 
   pub next_at_is : (l k : Links) → links_at cs p ≡ Some l → links_at cs l.next.ptr ≡ Some k → (y : Bool) → (k.guard == 1) ≡ y → AtHeld v.held p (λ xs t ys. cond y None (Some l.next.ptr) ≡ first_at ys)
   next_at_is l k el ek y f xs t ys h at =
-      let g = some_guard cs guard n m v p w (xs, t, ys, h, at) in
+      let g = some_guard cs guard n m v p w (record { before = xs; node = t; after = ys; is = h; at_is = at }) in
       let q = node_at p (found_in cs guard spare g.0 n m v g.1 ok w xs t ys h) at in let s = q.0 in
       let e : next_at cs p ≡ l.next.ptr = ap next_of el in
       sym (ap first_at (sym q.2) ∙ next_is cs g.0.ptr (target spare) s.others s.before p s.after s.ring y (ap (is_guard cs) e ∙ ap guard_of ek ∙ f) ∙ ap (λ z. cond y None (Some z)) e)
 
   pub previous_at_is : (l k : Links) → links_at cs p ≡ Some l → links_at cs l.prev.ptr ≡ Some k → (y : Bool) → (k.guard == 1) ≡ y → AtHeld v.held p (λ xs t ys. cond y None (Some l.prev.ptr) ≡ last_at xs)
   previous_at_is l k el ek y f xs t ys h at =
-      let g = some_guard cs guard n m v p w (xs, t, ys, h, at) in
+      let g = some_guard cs guard n m v p w (record { before = xs; node = t; after = ys; is = h; at_is = at }) in
       let q = node_at p (found_in cs guard spare g.0 n m v g.1 ok w xs t ys h) at in let s = q.0 in
       let e : prev_at cs p ≡ l.prev.ptr = ap prev_of el in
       sym (ap last_at (sym q.1) ∙ previous_is cs g.0.ptr (target spare) s.others s.before p s.after s.ring y (ap (is_guard cs) e ∙ ap guard_of ek ∙ f) ∙ ap (λ z. cond y None (Some z)) e)

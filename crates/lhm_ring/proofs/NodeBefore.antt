@@ -10,7 +10,7 @@ use Rattle.lhm_ring.specs.RingState.{State, Held, IsHeld, AtHeld, linked_to}
 use Rattle.lhm_ring.specs.Index.{Spot, spot, spots, PutsIn, IsRearranged, IsChain, is_in, HasChain, Indexes}
 use Rattle.lhm_ring.specs.Search.{OfNodeAt, IsLast, IsOnChain}
 use Rattle.lhm_ring.proofs.Rearranged.{PutsIn-middle, IsRearranged-less, IsRearranged-more}
-use Rattle.lhm_ring.proofs.Chains.{IsRearranged-back, PutsIn-filter_in, PutsIn-spots, length-IsRearranged}
+use Rattle.lhm_ring.proofs.Chains.{held_of, ChainFirst, chain_begins, IsRearranged-back, PutsIn-filter_in, PutsIn-spots, length-IsRearranged}
 use Rattle.lhm_ring.proofs.IndexChanges.{OnNode, on_node}
 
 -- on the way to the node at p, along its chain, which is cut behind it: here comes after before
@@ -64,15 +64,9 @@ chain_tail : (h : Option Ptr) (us : List Spot) (s : Spot) (vs : List Spot) → I
 chain_tail h [] s vs c = c.1
 chain_tail h (u ∷ us) s vs c = chain_tail u.link us s vs c.1
 
-record First (here : Ptr) (all : List Spot) : Type 0 where
-  node : Spot
-  todo : List Spot
-  is : all ≡ node ∷ todo
-  at_is : node.at ≡ here
-
-first_of : (here : Ptr) (us : List Spot) (s t : Spot) (vs : List Spot) → t.at ≡ s.at → IsChain (Some here) (us ++ s ∷ vs) → First here (us ++ t ∷ [])
-first_of here [] s t vs a c = record { node = t; todo = []; is = refl; at_is = (let e : Some here ≡ Some s.at = c.0 in cc) }
-first_of here (u ∷ us) s t vs a c = record { node = u; todo = us ++ t ∷ []; is = refl; at_is = (let e : Some here ≡ Some u.at = c.0 in cc) }
+first_of : (here : Ptr) (us : List Spot) (s t : Spot) (vs : List Spot) → t.at ≡ s.at → IsChain (Some here) (us ++ s ∷ vs) → ChainFirst (us ++ t ∷ []) here
+first_of here [] s t vs a c = record { node = t; after = []; is = refl; at_is = (let e : Some here ≡ Some s.at = c.0 in cc) }
+first_of here (u ∷ us) s t vs a c = record { node = u; after = us ++ t ∷ []; is = refl; at_is = (let e : Some here ≡ Some u.at = c.0 in cc) }
 
 -- ---- the chain of a held node
 
@@ -112,31 +106,31 @@ has_head h (u ∷ us) s vs c = (u.at, c.0)
 
 pub head_there : {K V : Type 0} {heads : List (Option Ptr)} {hash : ℕ} {nodes : List (Held (K × V))} {p : Ptr} → Indexes heads (spots nodes) → IsHeld nodes p → OfNodeAt nodes p (λ x. hash ≡ x.hash) → (q : Ptr) × (get_or heads (hash % length heads) None ≡ Some q)
 head_there {K} {V} {heads} {hash} {nodes} {p} h w e =
-    let c : OnItsChain heads hash nodes w.1 = its_chain heads hash nodes w.0 w.1 w.2 h w.3 (e w.0 w.1 w.2 w.3 w.4) in
-    has_head (get_or heads (hash % length heads) None) c.us (spot w.1) c.vs c.linked
+    let c : OnItsChain heads hash nodes w.node = its_chain heads hash nodes w.before w.node w.after h w.is (e w.before w.node w.after w.is w.at_is) in
+    has_head (get_or heads (hash % length heads) None) c.us (spot w.node) c.vs c.linked
 
 -- ---- the way
 
 pub towards_start : {K V : Type 0} {heads : List (Option Ptr)} {hash : ℕ} {nodes : List (Held (K × V))} {p : Ptr} (cut : List (Held (K × V))) (link : Option Ptr) (here : Ptr) → Indexes heads (spots nodes) → IsHeld nodes p → OfNodeAt nodes p (λ x. hash ≡ x.hash) → OfNodeAt nodes p (λ x. link ≡ x.link) → AtHeld nodes p (λ before x after. cut ≡ before ++ linked_to None x ∷ after) → Some here ≡ get_or heads (hash % length heads) None → IsTowards heads hash nodes cut p link None here 0
 towards_start {K} {V} {heads} {hash} {nodes} {p} cut link here h w e l d a =
-    let c : OnItsChain heads hash nodes w.1 = its_chain heads hash nodes w.0 w.1 w.2 h w.3 (e w.0 w.1 w.2 w.3 w.4) in
-    let f : First here (c.us ++ spot (linked_to None w.1) ∷ []) = first_of here c.us (spot w.1) (spot (linked_to None w.1)) c.vs refl (subst (λ (v : Option Ptr). IsChain v (c.us ++ spot w.1 ∷ c.vs)) (sym a) c.linked) in
+    let c : OnItsChain heads hash nodes w.node = its_chain heads hash nodes w.before w.node w.after h w.is (e w.before w.node w.after w.is w.at_is) in
+    let f : ChainFirst (c.us ++ spot (linked_to None w.node) ∷ []) here = first_of here c.us (spot w.node) (spot (linked_to None w.node)) c.vs refl (subst (λ (v : Option Ptr). IsChain v (c.us ++ spot w.node ∷ c.vs)) (sym a) c.linked) in
     record {
-      xs = w.0;
-      x = w.1;
-      ys = w.2;
-      is = w.3;
-      at = w.4;
-      hash_is = e w.0 w.1 w.2 w.3 w.4;
-      link_is = l w.0 w.1 w.2 w.3 w.4;
-      cut_is = d w.0 w.1 w.2 w.3 w.4;
+      xs = w.before;
+      x = w.node;
+      ys = w.after;
+      is = w.is;
+      at = w.at_is;
+      hash_is = e w.before w.node w.after w.is w.at_is;
+      link_is = l w.before w.node w.after w.is w.at_is;
+      cut_is = d w.before w.node w.after w.is w.at_is;
       us = c.us;
       vs = c.vs;
       linked = c.linked;
       holds = c.holds;
       done = [];
       node = f.node;
-      todo = f.todo;
+      todo = f.after;
       whole = f.is;
       at_is = f.at_is;
       behind = inl (refl, refl);
@@ -162,7 +156,7 @@ here_on {K} {V} {heads} {hash} {nodes} {cut} {p} {link} {before} {here} {passed}
 pub towards_held : {K V : Type 0} {heads : List (Option Ptr)} {hash : ℕ} {nodes cut : List (Held (K × V))} {p : Ptr} {link before : Option Ptr} {here : Ptr} {passed : ℕ} → IsTowards heads hash nodes cut p link before here passed → IsHeld cut here
 towards_held {K} {V} {heads} {hash} {nodes} {cut} w =
     let o : OnNode (length heads) (hash % length heads) w.done w.node (w.todo ++ w.vs) cut = here_on w in
-    (o.of.before, o.of.node, o.of.after, o.of.is, ap (λ v. v.at) o.of.spot_is ∙ w.at_is)
+    held_of o.of w.at_is
 
 -- the rest of the chain, by the link that is read
 rest_on : {K V : Type 0} {heads : List (Option Ptr)} {hash : ℕ} {nodes cut : List (Held (K × V))} {p : Ptr} {link before : Option Ptr} {here : Ptr} {passed : ℕ} (read : Option Ptr) (w : IsTowards heads hash nodes cut p link before here passed) → OfNodeAt cut here (λ x. read ≡ x.link) → IsChain read w.todo
@@ -188,19 +182,9 @@ towards_room {K} {V} {heads} {hash} {nodes} w =
     let r = w.passed_is in
     omega (arith, a, b, c, d, e, k, m, q, r)
 
-record Begins (p : Ptr) (rest : List Spot) : Type 0 where
-  head : Spot
-  tail : List Spot
-  is : rest ≡ head ∷ tail
-  at_is : head.at ≡ p
-
-begins : (p : Ptr) (rest : List Spot) → IsChain (Some p) rest → Begins p rest
-begins p [] h = absurd (cc)
-begins p (s ∷ rest) h = record { head = s; tail = rest; is = refl; at_is = (let e : Some p ≡ Some s.at = h.0 in cc) }
-
 pub towards_next : {K V : Type 0} {heads : List (Option Ptr)} {hash : ℕ} {nodes cut : List (Held (K × V))} {p : Ptr} {link before : Option Ptr} {here : Ptr} {passed : ℕ} (read : Option Ptr) (next : Ptr) → IsTowards heads hash nodes cut p link before here passed → OfNodeAt cut here (λ x. read ≡ x.link) → read ≡ Some next → IsTowards heads hash nodes cut p link (Some here) next (passed + 1)
 towards_next {K} {V} {heads} {hash} {nodes} {cut} {p} {link} {before} {here} {passed} read next w r e =
-    let b : Begins next w.todo = begins next w.todo (subst (λ (v : Option Ptr). IsChain v w.todo) e (rest_on read w r)) in
+    let b : ChainFirst w.todo next = chain_begins next w.todo (subst (λ (v : Option Ptr). IsChain v w.todo) e (rest_on read w r)) in
     let k : length (w.done ++ w.node ∷ []) ≡ length w.done + 1 = length-append w.done (w.node ∷ []) in
     let m = w.passed_is in
     record {
@@ -217,9 +201,9 @@ towards_next {K} {V} {heads} {hash} {nodes} {cut} {p} {link} {before} {here} {pa
       linked = w.linked;
       holds = w.holds;
       done = w.done ++ w.node ∷ [];
-      node = b.head;
-      todo = b.tail;
-      whole = w.whole ∙ ap (λ (v : List Spot). w.done ++ w.node ∷ v) b.is ∙ sym (append_assoc w.done (w.node ∷ []) (b.head ∷ b.tail));
+      node = b.node;
+      todo = b.after;
+      whole = w.whole ∙ ap (λ (v : List Spot). w.done ++ w.node ∷ v) b.is ∙ sym (append_assoc w.done (w.node ∷ []) (b.node ∷ b.after));
       at_is = b.at_is;
       behind = inr (w.done, w.node, refl, ap Some (sym w.at_is));
       passed_is = (omega (arith, k, m));
@@ -249,7 +233,7 @@ towards_mended {K} {V} {heads} {hash} {nodes} {cut} {p} {link} new w s =
     s w.xs (linked_to None w.x) w.ys w.cut_is w.at ∙ ap (λ (l : Option Ptr). w.xs ++ linked_to l w.x ∷ w.ys) w.link_is ∙ sym w.is
 
 pub towards_cut_held : {K V : Type 0} {heads : List (Option Ptr)} {hash : ℕ} {nodes cut : List (Held (K × V))} {p : Ptr} {link before : Option Ptr} {here : Ptr} {passed : ℕ} → IsTowards heads hash nodes cut p link before here passed → IsHeld cut p
-towards_cut_held w = (w.xs, linked_to None w.x, w.ys, w.cut_is, w.at)
+towards_cut_held w = record { before = w.xs; node = linked_to None w.x; after = w.ys; is = w.cut_is; at_is = w.at }
 
 -- states are told by their fields
 pub same_state : {B : Type 0} (s t : State B) → s.held ≡ t.held → s.spares ≡ t.spares → s ≡ t

@@ -117,9 +117,9 @@ module _ {B : Type 0} (cs : List (Cell Links B)) (guard : Option NodePointer) (s
 
   pub taken_holds : IsHeld v.held at.ptr → Holds ds at.ptr
   taken_holds h =
-      let f = found_in cs guard spare g n m v e ok w h.0 h.1 h.2 h.3 in
-      let c : content_at ds at.ptr ≡ Some h.1 = j.content at.ptr ∙ ap (content_at cs) (sym h.4) ∙ f.here in
-      content_holds at.ptr (links_at ds at.ptr) (body_at ds at.ptr) h.1 c
+      let f = found_in cs guard spare g n m v e ok w h.before h.node h.after h.is in
+      let c : content_at ds at.ptr ≡ Some h.node = j.content at.ptr ∙ ap (content_at cs) (sym h.at_is) ∙ f.here in
+      content_holds at.ptr (links_at ds at.ptr) (body_at ds at.ptr) h.node c
 
   pub some_held : IsHeld v.held at.ptr → 1 ≤ n
   some_held h = let s = node_in cs guard spare g n m v at.ptr e ok w h in let a = s.long in let b = length-append s.before (at.ptr ∷ s.after) in omega arith
@@ -145,9 +145,9 @@ module _ {B : Type 0} (cs : List (Cell Links B)) (guard : Option NodePointer) (s
 
       plain₂ : IsHeld v.held at.ptr → is_guard c₂ at.ptr ≡ false
       plain₂ h =
-          let a = there h in let b = taken_at h in let f = found_in cs guard spare g n m v e ok w h.0 h.1 h.2 h.3 in
+          let a = there h in let b = taken_at h in let f = found_in cs guard spare g n m v e ok w h.before h.node h.after h.is in
           ap (λ z. guard_of (links_at z at.ptr)) (e₂ h) ∙ ap guard_of (here_set at.ptr (relinked spare b.0) c₁ b.0 b.1) ∙ sym (ap guard_of b.1) ∙ ap (λ z. guard_of (links_at z at.ptr)) e₁
-          ∙ ap guard_of (links_kept at.ptr None ds a.0 a.1 at.ptr) ∙ j.guard at.ptr ∙ content_guard at.ptr (links_at cs at.ptr) (body_at cs at.ptr) h.1 (ap (content_at cs) (sym h.4) ∙ f.here)
+          ∙ ap guard_of (links_kept at.ptr None ds a.0 a.1 at.ptr) ∙ j.guard at.ptr ∙ content_guard at.ptr (links_at cs at.ptr) (body_at cs at.ptr) h.node (ap (content_at cs) (sym h.at_is) ∙ f.here)
 
       left : IsHeld v.held at.ptr → (s : NodeAt cs g spare n m at.ptr) → IsRing c₂ g.ptr (s.before ++ s.after) (Some at.ptr) (at.ptr ∷ s.others)
       left h s = gone cs ds c₂ g.ptr (target spare) s.others s.before at.ptr s.after s.ring _ _ j₂ (out cs g.ptr (target spare) s.others s.before at.ptr s.after s.ring ds j₂) (only₂ h) (spare₂ h) (plain₂ h)
@@ -162,7 +162,7 @@ module _ {B : Type 0} (cs : List (Cell Links B)) (guard : Option NodePointer) (s
 
       pub taken_list : AtHeld v.held at.ptr (λ xs t ys. (state (ring_list c₂ guard (n - 1)) (m + 1) ≡ state (xs ++ ys) (v.spares + 1)) × (la.hash ≡ t.hash) × (x ≡ t.pair))
       taken_list xs t ys k here =
-          let f = found_in cs guard spare g n m v e ok w xs t ys k in let h : IsHeld v.held at.ptr = (xs, t, ys, k, here) in
+          let f = found_in cs guard spare g n m v e ok w xs t ys k in let h : IsHeld v.held at.ptr = record { before = xs; node = t; after = ys; is = k; at_is = here } in
           let c : content_at cs at.ptr ≡ Some t = ap (content_at cs) (sym here) ∙ f.here in
           let q = node_at at.ptr f here in let s = q.0 in
           let list : ring_list c₂ guard (n - 1) ≡ xs ++ ys = ap (λ o. ring_list c₂ o (n - 1)) e

@@ -7,14 +7,14 @@ use Rattle.lhm_ring.specs.Cells.{Cell, links_at, body_at, IsAt, Holds}
 use Rattle.lhm_ring.specs.Rings.{link_of, content_of, content_at, ring_list, RingOk}
 use Rattle.lhm_ring.specs.RingState.{State, state, Held, IsHeld}
 use Rattle.lhm_ring.specs.declared.link.Link.{Link}
-use Rattle.lhm_ring.proofs.Moves.{none_held, found}
+use Rattle.lhm_ring.proofs.Moves.{none_split, found}
 use Rattle.lhm_ring.proofs.OneNodeChanged.{content_hash, content_link, content_pair, content_holds}
 use Rattle.lhm_ring.proofs.Writes.{content_links}
 
 module _ {B : Type 0} where
   pub held_content : (cs : List (Cell Links B)) (guard : Option NodePointer) (spare : Link) (n m : ℕ) (v : State B) → RingOk cs guard spare n m → state (ring_list cs guard n) m ≡ v
       → (xs : List (Held B)) (t : Held B) (ys : List (Held B)) → v.held ≡ xs ++ t ∷ ys → content_at cs t.at ≡ Some t
-  held_content cs None spare n m v ok w xs t ys e = absurd (none_held t.at (xs, t, ys, ap (λ (z : State B). z.held) w ∙ e, refl))
+  held_content cs None spare n m v ok w xs t ys e = absurd (none_split xs t ys (ap (λ (z : State B). z.held) w ∙ e))
   held_content cs (Some g) spare n m v ok w xs t ys e = (found cs g spare n m ok xs t ys (ap (λ (z : State B). z.held) w ∙ e)).here
 
 module _ {B : Type 0} (cs : List (Cell Links B)) (guard : Option NodePointer) (spare : Link) (n m : ℕ) (v : State B) (ok : RingOk cs guard spare n m) (w : state (ring_list cs guard n) m ≡ v) (p : Ptr) where
@@ -25,10 +25,10 @@ module _ {B : Type 0} (cs : List (Cell Links B)) (guard : Option NodePointer) (s
   held_in h = subst (λ hs. IsHeld hs p) (sym (ap (λ (z : State B). z.held) w)) h
 
   pub read_at : IsHeld v.held p → IsAt cs p
-  read_at h = content_links p (links_at cs p) (body_at cs p) h.1 (content h.0 h.1 h.2 h.3 h.4)
+  read_at h = content_links p (links_at cs p) (body_at cs p) h.node (content h.before h.node h.after h.is h.at_is)
 
   pub read_held : IsHeld v.held p → Holds cs p
-  read_held h = content_holds p (links_at cs p) (body_at cs p) h.1 (content h.0 h.1 h.2 h.3 h.4)
+  read_held h = content_holds p (links_at cs p) (body_at cs p) h.node (content h.before h.node h.after h.is h.at_is)
 
   pub read_hash : (l : Links) → links_at cs p ≡ Some l → (xs : List (Held B)) (t : Held B) (ys : List (Held B)) → v.held ≡ xs ++ t ∷ ys → t.at ≡ p → l.hash ≡ t.hash
   read_hash l e xs t ys h at = sym (content_hash p l (body_at cs p) t (ap (λ o. content_of p o (body_at cs p)) (sym e) ∙ content xs t ys h at))

@@ -10,6 +10,7 @@ use Rattle.lhm_ring.specs.Tables.{TableState, table_of, WritesOnly}
 use Rattle.lhm_ring.specs.Retains.{TakesAt, CallsAt, RetainsAt, RetainsHeld, IsRetaining, left_from}
 use Rattle.lhm_ring.proofs.Apart.{IsFresh, same_ptr_refl}
 use Rattle.lhm_ring.proofs.Rows.{apart_head, apart_tail, apart_out}
+use Rattle.lhm_ring.proofs.Ends.{First, first_node}
 use Rattle.lhm_ring.proofs.Tables.{entries_cut}
 
 -- what a node holds is written twice
@@ -53,13 +54,10 @@ module _ {B : Type 0} where
 -- a table that is seen as m: where the closure may be called at one of its pairs, it may at that of the ring
 pub taken_in : {F K V : Type 0} (Q : F → K → V → Type 0) (f : F) {p : Ptr} (s : State (K × V)) (r : ℕ) {m : TableState (K × V)} → table_of s r ≡ m → TakesAt Q f m.held p → TakesAt Q f s.held p
 taken_in {F} {K} {V} Q f {p} s r seen h =
-    let i = entries_cut s.held h.0 h.1 h.2 (ap (λ (z : TableState (K × V)). z.held) seen ∙ h.3) in (
-      i.before,
-      i.node,
-      i.after,
-      i.is,
-      ap (λ (t : Held (K × V)). t.at) i.node_is ∙ h.4,
-      subst (λ (t : Held (K × V)). Q f t.pair.0 t.pair.1) (sym i.node_is) h.5,
+    let at = h.0 in
+    let i = entries_cut s.held at.before at.node at.after (ap (λ (z : TableState (K × V)). z.held) seen ∙ at.is) in (
+      record { before = i.before; node = i.node; after = i.after; is = i.is; at_is = ap (λ (t : Held (K × V)). t.at) i.node_is ∙ at.at_is },
+      subst (λ (t : Held (K × V)). Q f t.pair.0 t.pair.1) (sym i.node_is) h.1,
     )
 
 -- one call, after which the pair stays with its value or is removed
@@ -79,7 +77,8 @@ module _ {F K V : Type 0} (T : F → K → V → Bool → V → F → Type 0) {f
   )
 
 pub held-written : {K V : Type 0} {old now : List (Held (K × V))} {p : Ptr} (w : V) → WritesOnly old p → now ≡ change_at p (revalued w) old → IsHeld old p → IsHeld now p
-held-written w alone written h = (h.0, revalued w h.1, h.2, written ∙ alone h.0 h.1 h.2 h.3 h.4 w, h.4)
+held-written w alone written h =
+    record { before = h.before; node = revalued w h.node; after = h.after; is = written ∙ alone h.before h.node h.after h.is h.at_is w; at_is = h.at_is }
 
 -- the closure may be called at the pairs behind the first
 module _ {F K V : Type 0} (T : F → K → V → Bool → V → F → Type 0) (Q : F → K → V → Type 0) where
@@ -102,76 +101,66 @@ module _ {F K V : Type 0} (T : F → K → V → Bool → V → F → Type 0) (Q
         by (t ∷ ys) is = absurd (let no : Some t.at ≡ None = sym (m.next_is ∙ ap first_at is) ∙ none in cc)
 
     -- the pair at p is the next
-    pub record Next (p : Ptr) : Type 0 where
-      pub pair : Held (K × V)
-      pub behind : List (Held (K × V))
-      pub is : m.rest ≡ pair ∷ behind
-      pub at : pair.at ≡ p
+    pub next_of : {p : Ptr} → next ≡ Some p → First m.rest p
+    next_of {p} some = first_node m.rest next p m.next_is some
 
-    pub next_of : {p : Ptr} → next ≡ Some p → Next p
-    next_of {p} some = by m.rest refl
-      where
-        by : (rest : List (Held (K × V))) → m.rest ≡ rest → Next p
-        by [] is = absurd (let no : None ≡ Some p = sym (m.next_is ∙ ap first_at is) ∙ some in cc)
-        by (t ∷ ys) is = let same : Some t.at ≡ Some p = sym (m.next_is ∙ ap first_at is) ∙ some in record { pair = t; behind = ys; is = is; at = cc }
-
-    module _ {p : Ptr} (n : Next p) where
-      pub now_cut : now ≡ m.kept ++ n.pair ∷ n.behind
+    module _ {p : Ptr} (n : First m.rest p) where
+      pub now_cut : now ≡ m.kept ++ n.node ∷ n.after
       now_cut = m.now_is ∙ ap (λ l. m.kept ++ l) n.is
 
-      pub next_held : IsHeld now p
-      next_held = (m.kept, n.pair, n.behind, now_cut, n.at)
+      abbrev pub next_held : IsHeld now p
+      next_held = record { before = m.kept; node = n.node; after = n.after; is = now_cut; at_is = n.at_is }
 
-      callable_now : CallableOnEachPair T Q f (n.pair.pair ∷ map (λ t. t.pair) n.behind)
+      callable_now : CallableOnEachPair T Q f (n.node.pair ∷ map (λ t. t.pair) n.after)
       callable_now = subst (λ l. CallableOnEachPair T Q f (map (λ t. t.pair) l)) n.is m.callable
 
       pub next_taken : TakesAt Q f now p
-      next_taken = (m.kept, n.pair, n.behind, now_cut, n.at, callable-first callable_now)
+      next_taken = (next_held, callable-first callable_now)
 
       module _ {f' : F} {new : List (Held (K × V))} {next' : Option Ptr} (made : RetainsAt T f now p new f') (follows : AtHeld now p (λ xs t ys. next' ≡ first_at ys)) where
         abbrev kept' : List (Held (K × V))
-        kept' = cond made.0 (m.kept ++ revalued made.1 n.pair ∷ []) m.kept
+        kept' = cond made.0 (m.kept ++ revalued made.1 n.node ∷ []) m.kept
 
-        call : T f n.pair.pair.0 n.pair.pair.1 made.0 made.1 f'
-        call = (made.2 m.kept n.pair n.behind now_cut n.at).0
+        call : T f n.node.pair.0 n.node.pair.1 made.0 made.1 f'
+        call = (made.2 m.kept n.node n.after now_cut n.at_is).0
 
-        new_is : new ≡ m.kept ++ cond made.0 (revalued made.1 n.pair ∷ n.behind) n.behind
-        new_is = (made.2 m.kept n.pair n.behind now_cut n.at).1
+        new_is : new ≡ m.kept ++ cond made.0 (revalued made.1 n.node ∷ n.after) n.after
+        new_is = (made.2 m.kept n.node n.after now_cut n.at_is).1
 
         joined : (b : Bool) (u : Held (K × V)) (ys : List (Held (K × V))) → cond b (m.kept ++ u ∷ []) m.kept ++ ys ≡ m.kept ++ cond b (u ∷ ys) ys
         joined true u ys = append_assoc m.kept (u ∷ []) ys
         joined false u ys = refl
 
-        now_new : new ≡ kept' ++ n.behind
-        now_new = new_is ∙ sym (joined made.0 (revalued made.1 n.pair) n.behind)
+        now_new : new ≡ kept' ++ n.after
+        now_new = new_is ∙ sym (joined made.0 (revalued made.1 n.node) n.after)
 
-        next_new : next' ≡ first_at n.behind
-        next_new = follows m.kept n.pair n.behind now_cut n.at
+        next_new : next' ≡ first_at n.after
+        next_new = follows m.kept n.node n.after now_cut n.at_is
 
         pub IsRetaining-step : IsRetaining T Q start old f' new next'
         IsRetaining-step = record {
           kept = kept';
-          rest = n.behind;
+          rest = n.after;
           now_is = now_new;
           next_is = next_new;
           callable = callable-rest callable_now (made.0, made.1, call);
           ends = λ last r.
-              subst (RetainsHeld T start old) (sym (joined made.0 (revalued made.1 n.pair) last))
-              (m.ends (cond made.0 (revalued made.1 n.pair ∷ last) last)
-              (subst (λ l. RetainsHeld T f l (cond made.0 (revalued made.1 n.pair ∷ last) last)) (sym n.is) (made.0, made.1, f', last, call, r, refl)));
+              subst (RetainsHeld T start old) (sym (joined made.0 (revalued made.1 n.node) last))
+              (m.ends (cond made.0 (revalued made.1 n.node ∷ last) last)
+              (subst (λ l. RetainsHeld T f l (cond made.0 (revalued made.1 n.node ∷ last) last)) (sym n.is) (made.0, made.1, f', last, call, r, refl)));
         }
 
-        apart_new : (b : Bool) (w : V) → IsApart (pointers_of (m.kept ++ n.pair ∷ n.behind)) → IsApart (pointers_of (m.kept ++ cond b (revalued w n.pair ∷ n.behind) n.behind))
-        apart_new true w d = subst IsApart (pointers-append m.kept (n.pair ∷ n.behind) ∙ sym (pointers-append m.kept (revalued w n.pair ∷ n.behind))) d
-        apart_new false w d = apart-removed m.kept n.pair n.behind d
+        apart_new : (b : Bool) (w : V) → IsApart (pointers_of (m.kept ++ n.node ∷ n.after)) → IsApart (pointers_of (m.kept ++ cond b (revalued w n.node ∷ n.after) n.after))
+        apart_new true w d = subst IsApart (pointers-append m.kept (n.node ∷ n.after) ∙ sym (pointers-append m.kept (revalued w n.node ∷ n.after))) d
+        apart_new false w d = apart-removed m.kept n.node n.after d
 
         pub left_from-smaller : IsApart (pointers_of now) → left_from next' new < left_from next now
         left_from-smaller d =
             let cut = subst (λ l. IsApart (pointers_of l)) now_cut d in
-            let before : left_from next now ≡ length (n.pair ∷ n.behind) =
-            ap (λ o. left_from o now) (m.next_is ∙ ap first_at n.is) ∙ ap (left_from (Some n.pair.at)) now_cut ∙ left_from-append m.kept (n.pair ∷ n.behind) cut in
-            let apart : IsApart (pointers_of (kept' ++ n.behind)) =
-            subst (λ l. IsApart (pointers_of l)) (sym (joined made.0 (revalued made.1 n.pair) n.behind)) (apart_new made.0 made.1 cut) in
-            let after : left_from next' new ≡ length n.behind =
-            ap (λ o. left_from o new) next_new ∙ ap (left_from (first_at n.behind)) now_new ∙ left_from-append kept' n.behind apart in
+            let before : left_from next now ≡ length (n.node ∷ n.after) =
+            ap (λ o. left_from o now) (m.next_is ∙ ap first_at n.is) ∙ ap (left_from (Some n.node.at)) now_cut ∙ left_from-append m.kept (n.node ∷ n.after) cut in
+            let apart : IsApart (pointers_of (kept' ++ n.after)) =
+            subst (λ l. IsApart (pointers_of l)) (sym (joined made.0 (revalued made.1 n.node) n.after)) (apart_new made.0 made.1 cut) in
+            let after : left_from next' new ≡ length n.after =
+            ap (λ o. left_from o new) next_new ∙ ap (left_from (first_at n.after)) now_new ∙ left_from-append kept' n.after apart in
             omega (arith, before, after)

@@ -222,11 +222,11 @@ module _ {K V : Type 0} {heads : List (Option Ptr)} {s : State (K × V)} {r : �
   -- a pair was moved to the back
   pub length-moved : (t : State (K × V)) (p : Ptr) → IsHeld s.held p → AtHeld s.held p (λ xs x ys. t.held ≡ (xs ++ ys) ++ x ∷ []) → length t.held ≡ length s.held
   length-moved t p h last =
-      let a = ap length (last h.0 h.1 h.2 h.3 h.4) in
-      let b = ap length h.3 in
-      let f = length-append (h.0 ++ h.2) (h.1 ∷ []) in
-      let g = length-append h.0 h.2 in
-      let k = length-append h.0 (h.1 ∷ h.2) in
+      let a = ap length (last h.before h.node h.after h.is h.at_is) in
+      let b = ap length h.is in
+      let f = length-append (h.before ++ h.after) (h.node ∷ []) in
+      let g = length-append h.before h.after in
+      let k = length-append h.before (h.node ∷ h.after) in
       omega (arith, a, b, f, g, k)
 
   pub IsTable-to_back : {t : State (K × V)} (p : Ptr) → IsHeld s.held p → AtHeld s.held p (λ xs x ys. t.held ≡ (xs ++ ys) ++ x ∷ []) → t.spares ≡ s.spares → IsTable heads t r

@@ -4,6 +4,7 @@ use Rattle.std.specs.List.{AllByRecursion}
 use denote.RawPtr.{Ptr}
 use Rattle.lhm_ring.specs.Cells.{Cell, same_ptr, IsApart}
 use Rattle.lhm_ring.specs.ValueLoan.{value_at}
+use Rattle.lhm_ring.specs.Splits.{SplitAt}
 use Rattle.lhm_ring.specs.RingState.{Held, IsHeld, AtHeld}
 use Rattle.lhm_ring.specs.RingAfterLoan.{revalued, unvalued, held_values, set_held_values}
 use Rattle.lhm_ring.proofs.Apart.{IsFresh, same_ptr_eq, same_ptr_refl, same_ptr_symm}
@@ -22,18 +23,21 @@ module _ {K V : Type 0} where
 
   -- what is held at p is still held there where only values differ
   cut_unvalued : (us xs : List (Held (K × V))) (t : Held (K × V)) (ys : List (Held (K × V))) → map unvalued us ≡ map unvalued (xs ++ t ∷ ys)
-      → (vs : List (Held (K × V))) × (u : Held (K × V)) × (ws : List (Held (K × V))) × (us ≡ vs ++ u ∷ ws) × (unvalued u ≡ unvalued t)
+      → SplitAt unvalued us (unvalued t)
   cut_unvalued [] [] t ys e = absurd cc
   cut_unvalued [] (x ∷ xs) t ys e = absurd cc
-  cut_unvalued (u ∷ us) [] t ys e = let same : unvalued u ≡ unvalued t = cc in ([], u, us, refl, same)
+  cut_unvalued (u ∷ us) [] t ys e = let same : unvalued u ≡ unvalued t = cc in record { before = []; node = u; after = us; is = refl; at_is = same }
   cut_unvalued (u ∷ us) (x ∷ xs) t ys e =
-      let rest : map unvalued us ≡ map unvalued (xs ++ t ∷ ys) = cc in let on = cut_unvalued us xs t ys rest in (u ∷ on.0, on.1, on.2, ap (λ zs. u ∷ zs) on.3, on.4)
+      let rest : map unvalued us ≡ map unvalued (xs ++ t ∷ ys) = cc in let on = cut_unvalued us xs t ys rest in
+      record { before = u ∷ on.before; node = on.node; after = on.after; is = ap (λ zs. u ∷ zs) on.is; at_is = on.at_is }
 
   pub still_held : (us ts : List (Held (K × V))) (p : Ptr) → map unvalued us ≡ map unvalued ts → IsHeld ts p → IsHeld us p
-  still_held us ts p e h = let k = cut_unvalued us h.0 h.1 h.2 (e ∙ ap (map unvalued) h.3) in (k.0, k.1, k.2, k.3, ap (λ z. z.at) k.4 ∙ h.4)
+  still_held us ts p e h = let k = cut_unvalued us h.before h.node h.after (e ∙ ap (map unvalued) h.is) in
+      record { before = k.before; node = k.node; after = k.after; is = k.is; at_is = ap (λ z. z.at) k.at_is ∙ h.at_is }
 
   pub still_at : (us ts : List (Held (K × V))) (p : Ptr) → map unvalued us ≡ map unvalued ts → (P : Held K → Type 0) → AtHeld us p (λ xs t ys. P (unvalued t)) → AtHeld ts p (λ xs t ys. P (unvalued t))
-  still_at us ts p e P a xs t ys q at = let k = cut_unvalued us xs t ys (e ∙ ap (map unvalued) q) in subst P k.4 (a k.0 k.1 k.2 k.3 (ap (λ z. z.at) k.4 ∙ at))
+  still_at us ts p e P a xs t ys q at = let k = cut_unvalued us xs t ys (e ∙ ap (map unvalued) q) in
+      subst P k.at_is (a k.before k.node k.after k.is (ap (λ z. z.at) k.at_is ∙ at))
 
   -- the own values of what is held, and those that another list has at its pointers
   pub set_held_values-own : (hs : List (Held (K × V))) → set_held_values hs (held_values hs) ≡ hs

@@ -16,6 +16,7 @@ pub mod RingState
 pub mod Rings
 pub mod Search
 pub mod Splices
+pub mod Splits
 pub mod Stacks
 pub mod TableAfterLoan
 pub mod Tables

@@ -4,12 +4,12 @@ use Rattle.std.specs.Prelude.{◌≡◌, ℕ, Bool, cond, List, [], ◌∷◌, �
 use Rattle.std.specs.Map.Calls.{CallableOnEachPair}
 use denote.RawPtr.{Ptr}
 use Rattle.lhm_ring.specs.Cells.{same_ptr}
-use Rattle.lhm_ring.specs.RingState.{Held, AtHeld, first_at}
+use Rattle.lhm_ring.specs.RingState.{Held, IsHeld, AtHeld, first_at}
 use Rattle.lhm_ring.specs.RingAfterLoan.{revalued}
 
 -- a pair is held at p, and f may be called at it
 abbrev pub TakesAt : {F K V : Type 0} → (F → K → V → Type 0) → F → List (Held (K × V)) → Ptr → Type 0
-TakesAt {F} {K} {V} Q f hs p = (xs : List (Held (K × V))) × (t : Held (K × V)) × (ys : List (Held (K × V))) × (hs ≡ xs ++ t ∷ ys) × (t.at ≡ p) × Q f t.pair.0 t.pair.1
+TakesAt Q f hs p = (h : IsHeld hs p) × Q f h.node.pair.0 h.node.pair.1
 
 module _ {F K V : Type 0} (T : F → K → V → Bool → V → F → Type 0) where
   -- f was called at the pair at p, returned b, and left the value w there

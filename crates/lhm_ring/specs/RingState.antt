@@ -2,6 +2,7 @@
 use Rattle.std.specs.Prelude.{◌≡◌, ℕ, cond, List, [], ◌∷◌, ◌++◌, map, Option, Some, None}
 use denote.RawPtr.{Ptr}
 use Rattle.lhm_ring.specs.Cells.{same_ptr}
+use Rattle.lhm_ring.specs.Splits.{SplitAt}
 
 -- a triple of a hash, a key and a value, with the pointer and the chain link of its node
 pub record Held (B : Type 0) : Type 0 where
@@ -28,7 +29,7 @@ module _ {B : Type 0} where
 
   -- something is held at p
   abbrev pub IsHeld : List (Held B) → Ptr → Type 0
-  IsHeld hs p = (xs : List (Held B)) × (t : Held B) × (ys : List (Held B)) × (hs ≡ xs ++ t ∷ ys) × (t.at ≡ p)
+  IsHeld = SplitAt (λ t. t.at)
 
   -- P holds of what is held at p, with what is before it and after it
   abbrev pub AtHeld : List (Held B) → Ptr → (List (Held B) → Held B → List (Held B) → Type 0) → Type 0

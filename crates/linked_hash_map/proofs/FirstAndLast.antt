@@ -1,8 +1,8 @@
 -- The pair of the node at an end.
 use Rattle.std.proofs.Common.{◌≡◌, ◌-◌, List, [], ◌∷◌, length, slice_get, Some, sym, ap, ◌∙◌, arith, length-append}
 use denote.RawPtr.{Ptr}
-use Rattle.lhm_ring.specs.RingState.{Held, IsHeld}
-use Rattle.lhm_ring.proofs.Ends.{First, Last}
+use Rattle.lhm_ring.specs.RingState.{Held}
+use Rattle.lhm_ring.proofs.Ends.{First, Last, last_held}
 use Rattle.linked_hash_map.specs.Nodes.{pairs_of}
 use Rattle.linked_hash_map.specs.Pairs.{first, last}
 use Rattle.linked_hash_map.proofs.Kept.{length-pairs_of, pair_there}
@@ -15,11 +15,10 @@ module _ {K V : Type 0} {hs : List (Held (K × V))} {p : Ptr} where
   pub last-pairs : (l : Last hs p) → last (pairs_of hs) ≡ Some l.node.pair
   last-pairs l =
       let long = ap length l.is in
-      let cut = length-append l.rest (l.node ∷ []) in
+      let cut = length-append l.before (l.node ∷ []) in
       let as_many = length-pairs_of hs in
-      let at_end : length (pairs_of hs) - 1 ≡ length l.rest = omega (arith, long, cut, as_many) in
-      let held : IsHeld hs p = (l.rest, l.node, [], l.is, l.at) in
-      ap (slice_get (pairs_of hs)) at_end ∙ pair_there held
+      let at_end : length (pairs_of hs) - 1 ≡ length l.before = omega (arith, long, cut, as_many) in
+      ap (slice_get (pairs_of hs)) at_end ∙ pair_there (last_held l)
 
   pub Some-first : (f : First hs p) (k : K) (v : V) → k ≡ f.node.pair.0 → v ≡ f.node.pair.1 → Some (k, v) ≡ first (pairs_of hs)
   Some-first f k v key value = (λ i. Some (key i, value i)) ∙ sym (first-pairs f)

@@ -110,16 +110,16 @@ set_value_at-cut (z ∷ xs) x ys w = ap (λ l. z ∷ l) (set_value_at-cut xs x y
 -- nodes, cut at one of them: what is at its index
 module _ {K V : Type 0} {hs : List (Held (K × V))} {p : Ptr} (held : IsHeld hs p) where
   abbrev pub front : List (Held (K × V))
-  front = held.0
+  front = held.before
 
   abbrev pub node : Held (K × V)
-  node = held.1
+  node = held.node
 
   abbrev pub back : List (Held (K × V))
-  back = held.2
+  back = held.after
 
   pub pairs_cut : pairs_of hs ≡ pairs_of front ++ node.pair ∷ pairs_of back
-  pairs_cut = ap pairs_of held.3 ∙ pairs_of-append front (node ∷ back)
+  pairs_cut = ap pairs_of held.is ∙ pairs_of-append front (node ∷ back)
 
   pub pair_there : slice_get (pairs_of hs) (length front) ≡ Some node.pair
   pair_there = subst (λ i. slice_get (pairs_of hs) i ≡ Some node.pair) (length-pairs_of front)
@@ -131,12 +131,12 @@ module _ {K V : Type 0} {hs : List (Held (K × V))} {p : Ptr} (held : IsHeld hs 
 
   pub pairs_set : WritesOnly hs p → (w : V) → pairs_of (change_at p (revalued w) hs) ≡ set_value_at (pairs_of hs) (length front) w
   pairs_set alone w = subst (λ i. pairs_of (change_at p (revalued w) hs) ≡ set_value_at (pairs_of hs) i w) (length-pairs_of front)
-      (ap pairs_of (alone front node back held.3 held.4 w) ∙ pairs_of-append front (revalued w node ∷ back)
+      (ap pairs_of (alone front node back held.is held.at_is w) ∙ pairs_of-append front (revalued w node ∷ back)
       ∙ sym (ap (λ ps. set_value_at ps (length (pairs_of front)) w) pairs_cut ∙ set_value_at-cut (pairs_of front) node.pair (pairs_of back) w))
 
 -- a node with a key that was looked for
 pub index_of-key : {K V : Type 0} {eq : K → K → Bool} {hash : ℕ} {k : K} {hs : List (Held (K × V))} {p : Ptr} (h : HasKey eq hash k hs p) → IsIndex eq (pairs_of hs) k (length (front h.held))
-index_of-key h = let held = h.held in record { pair = (node held).pair; there = pair_there held; same = h.key_is (front held) (node held) (back held) held.3 held.4 }
+index_of-key h = let held = h.held in record { pair = (node held).pair; there = pair_there held; same = h.key_is (front held) (node held) (back held) held.is held.at_is }
 
 -- a key that no node of its hash has is absent
 module _ {K V : Type 0} (eq : K → K → Bool) (hash : K → ℕ) (respects : (x y : K) → IsTrue (eq x y) → hash x ≡ hash y) (k : K) (n : ℕ) (its : n ≡ hash k) where
@@ -158,17 +158,17 @@ module _ {K V : Type 0} (eq : K → K → Bool) (hash : K → ℕ) (respects : (
 -- the first node at a pointer
 pub record CutAt {B : Type 0} (p : Ptr) (hs : List (Held B)) : Type 0 where
   pub held : IsHeld hs p
-  pub long : length held.0 ≡ before p hs
+  pub long : length held.before ≡ before p hs
 
 pub cut_before : {B : Type 0} (p : Ptr) (hs : List (Held B)) → before p hs < length hs → CutAt p hs
 cut_before p [] h = absurd (omega (arith, h))
 cut_before {B} p (t ∷ hs) h =
     (elim (same_ptr t.at p) as (λ y. same_ptr t.at p ≡ y → cond y 0 (before p hs + 1) < suc (length hs) → CutAt p (t ∷ hs)) [
-      | true ↦ λ e k. record { held = ([], t, hs, refl, same_ptr_eq t.at p e); long = sym (ap (λ y. cond y 0 (before p hs + 1)) e) }
+      | true ↦ λ e k. record { held = record { before = []; node = t; after = hs; is = refl; at_is = same_ptr_eq t.at p e }; long = sym (ap (λ y. cond y 0 (before p hs + 1)) e) }
       | false ↦ λ e k.
           let r = cut_before p hs (omega (arith, k)) in
-          let long : length (t ∷ r.held.0) ≡ before p hs + 1 = omega (arith, r.long) in
-          record { held = (t ∷ r.held.0, r.held.1, r.held.2, ap (λ l. t ∷ l) r.held.3, r.held.4); long = long ∙ sym (ap (λ y. cond y 0 (before p hs + 1)) e) }
+          let long : length (t ∷ r.held.before) ≡ before p hs + 1 = omega (arith, r.long) in
+          record { held = record { before = t ∷ r.held.before; node = r.held.node; after = r.held.after; is = ap (λ l. t ∷ l) r.held.is; at_is = r.held.at_is }; long = long ∙ sym (ap (λ y. cond y 0 (before p hs + 1)) e) }
     ]) refl h
 
 -- nodes at different pointers: each is the first at its own

@@ -60,14 +60,14 @@ module _ {K V : Type 0} where
         outside = inl (omega (arith, is));
       }
 
-  goes_by : (m : ℕ) (p : Ptr) (hs : List (Held (K × V))) (cut : CutAt p hs) (o : Option Ptr) (n : ℕ) → n - 1 ≡ m → (n - 1 ≡ 0 → o ≡ None) → (0 < n - 1 → o ≡ first_at cut.held.2) → (0 < n - 1 → IsApart (map (λ u. u.at) hs))
+  goes_by : (m : ℕ) (p : Ptr) (hs : List (Held (K × V))) (cut : CutAt p hs) (o : Option Ptr) (n : ℕ) → n - 1 ≡ m → (n - 1 ≡ 0 → o ≡ None) → (0 < n - 1 → o ≡ first_at cut.held.after) → (0 < n - 1 → IsApart (map (λ u. u.at) hs))
       → before p hs + n ≤ length hs → Goes (bookmark_at o hs) (length hs) (before p hs) n o
   goes_by zero p hs cut o n e none next apart reach = subst (λ (z : Option Ptr). Goes (bookmark_at z hs) (length hs) (before p hs) n z) (sym (none e)) (goes_none (length hs) (before p hs) n e)
   goes_by (suc m) p hs cut o n e none next apart reach =
-      let front = cut.held.0 in
-      let t = cut.held.1 in
-      let back = cut.held.2 in
-      let is : hs ≡ front ++ t ∷ back = cut.held.3 in
+      let front = cut.held.before in
+      let t = cut.held.node in
+      let back = cut.held.after in
+      let is : hs ≡ front ++ t ∷ back = cut.held.is in
       let some : 0 < n - 1 = omega (arith, e) in
       let long : length hs ≡ length (front ++ t ∷ back) = ap length is in
       let at = goes_next front t back (subst (λ l. IsApart (map (λ u. u.at) l)) is (apart some)) n (omega (arith, long, cut.long, reach)) some in
@@ -100,7 +100,7 @@ module _ {K V : Type 0} {eq : K → K → Bool} {hash : K → ℕ} {s : TableSta
         subst (λ (z : ℕ). Goes (bookmark_at o (bare s.held)) (length (bare s.held)) z n o) (sym (before-bare p s.held))
         (subst (λ (z : ℕ). Goes (bookmark_at o (bare s.held)) z (before p s.held) n o) (sym (length-bare s.held))
         (subst (λ (z : ℕ). Goes z (length s.held) (before p s.held) n o) (sym (bookmark-bare o s.held))
-        (goes_by (n - 1) p s.held cut o n refl none (λ some. next some t.0 t.1 t.2 t.3 t.4) apart reach)))
+        (goes_by (n - 1) p s.held cut o n refl none (λ some. next some t.before t.node t.after t.is t.at_is) apart reach)))
 
     pub kept_on : IsKept eq hash s o (n - 1) (Some p)
     kept_on =

@@ -76,68 +76,68 @@ module _ {K V : Type 0} (hs ks : List (Held (K × V))) {p : Ptr} (last : AtHeld 
   cut_moved : CutAt p hs
   cut_moved = cut_before p hs lies
 
-  moved : ks ≡ (cut_moved.held.0 ++ cut_moved.held.2) ++ cut_moved.held.1 ∷ []
-  moved = let h = cut_moved.held in last h.0 h.1 h.2 h.3 h.4
+  moved : ks ≡ (cut_moved.held.before ++ cut_moved.held.after) ++ cut_moved.held.node ∷ []
+  moved = let h = cut_moved.held in last h.before h.node h.after h.is h.at_is
 
   pub pairs-moved : (pair : K × V) → slice_get (pairs_of hs) (before p hs) ≡ Some pair → pairs_of ks ≡ remove (pairs_of hs) (before p hs) ++ pair ∷ []
   pairs-moved pair there =
       let h = cut_moved.held in
-      let same : h.1.pair ≡ pair = let a = sym (pair_there h) ∙ ap (slice_get (pairs_of hs)) cut_moved.long ∙ there in cc in
-      ap pairs_of moved ∙ pairs_of-append (h.0 ++ h.2) (h.1 ∷ [])
+      let same : h.node.pair ≡ pair = let a = sym (pair_there h) ∙ ap (slice_get (pairs_of hs)) cut_moved.long ∙ there in cc in
+      ap pairs_of moved ∙ pairs_of-append (h.before ++ h.after) (h.node ∷ [])
       ∙ ap₂ (λ ps q. ps ++ q ∷ []) (pairs_removed h ∙ ap (remove (pairs_of hs)) cut_moved.long) same
 
   pub length-to_back : length ks ≡ length hs
   length-to_back =
       let h = cut_moved.held in
       let of_ks = ap length moved in
-      let of_moved = length-append (h.0 ++ h.2) (h.1 ∷ []) in
-      let of_rest = length-append h.0 h.2 in
-      let of_hs = ap length h.3 in
-      let of_cut = length-append h.0 (h.1 ∷ h.2) in
+      let of_moved = length-append (h.before ++ h.after) (h.node ∷ []) in
+      let of_rest = length-append h.before h.after in
+      let of_hs = ap length h.is in
+      let of_cut = length-append h.before (h.node ∷ h.after) in
       omega (arith, of_ks, of_moved, of_rest, of_hs, of_cut)
 
-  before-moved : IsApart (map (λ t. t.at) hs) → before p ks ≡ length (cut_moved.held.0 ++ cut_moved.held.2)
+  before-moved : IsApart (map (λ t. t.at) hs) → before p ks ≡ length (cut_moved.held.before ++ cut_moved.held.after)
   before-moved apart =
       let h = cut_moved.held in
       let pointers : List (Held (K × V)) → List Ptr = map (λ t. t.at) in
-      let cut = subst IsApart (ap pointers h.3 ∙ map-append (λ (t : Held (K × V)). t.at) h.0 (h.1 ∷ h.2)) apart in
-      let fresh = subst (λ q. IsFresh q (pointers h.0 ++ pointers h.2)) h.4 (apart_at (pointers h.0) h.1.at (pointers h.2) cut) in
-      ap (before p) moved ∙ before-last p (h.0 ++ h.2) h.1 h.4 (subst (IsFresh p) (sym (map-append (λ (t : Held (K × V)). t.at) h.0 h.2)) fresh)
+      let cut = subst IsApart (ap pointers h.is ∙ map-append (λ (t : Held (K × V)). t.at) h.before (h.node ∷ h.after)) apart in
+      let fresh = subst (λ q. IsFresh q (pointers h.before ++ pointers h.after)) h.at_is (apart_at (pointers h.before) h.node.at (pointers h.after) cut) in
+      ap (before p) moved ∙ before-last p (h.before ++ h.after) h.node h.at_is (subst (IsFresh p) (sym (map-append (λ (t : Held (K × V)). t.at) h.before h.after)) fresh)
 
   pub before-at_back : IsApart (map (λ t. t.at) hs) → before p ks ≡ length hs - 1
   before-at_back apart =
       let h = cut_moved.held in
       let index = before-moved apart in
       let of_ks = ap length moved in
-      let of_moved = length-append (h.0 ++ h.2) (h.1 ∷ []) in
+      let of_moved = length-append (h.before ++ h.after) (h.node ∷ []) in
       let same = length-to_back in
       omega (arith, index, of_ks, of_moved, same)
 
-  bare_cut : bare hs ≡ bare cut_moved.held.0 ++ bare_node cut_moved.held.1 ∷ bare cut_moved.held.2
-  bare_cut = let h = cut_moved.held in ap bare h.3 ∙ map-append bare_node h.0 (h.1 ∷ h.2)
+  bare_cut : bare hs ≡ bare cut_moved.held.before ++ bare_node cut_moved.held.node ∷ bare cut_moved.held.after
+  bare_cut = let h = cut_moved.held in ap bare h.is ∙ map-append bare_node h.before (h.node ∷ h.after)
 
-  bare_moved : bare ks ≡ (bare cut_moved.held.0 ++ bare cut_moved.held.2) ++ bare_node cut_moved.held.1 ∷ []
-  bare_moved = let h = cut_moved.held in ap bare moved ∙ map-append bare_node (h.0 ++ h.2) (h.1 ∷ []) ∙ ap (λ us. us ++ bare_node h.1 ∷ []) (map-append bare_node h.0 h.2)
+  bare_moved : bare ks ≡ (bare cut_moved.held.before ++ bare cut_moved.held.after) ++ bare_node cut_moved.held.node ∷ []
+  bare_moved = let h = cut_moved.held in ap bare moved ∙ map-append bare_node (h.before ++ h.after) (h.node ∷ []) ∙ ap (λ us. us ++ bare_node h.node ∷ []) (map-append bare_node h.before h.after)
 
   -- the node is none of those that are still to be visited
   module _ {eq : K → K → Bool} (laws : IsEquivalence eq) {hash : K → ℕ} {capacity : ℕ} {mark : Option Ptr} {n : ℕ} (kept : AreKept eq hash (bare hs) capacity mark n (Some p)) (elsewhere : IsElsewhere p hs mark n) where
-    kept_cut : AreKept eq hash (bare cut_moved.held.0 ++ bare_node cut_moved.held.1 ∷ bare cut_moved.held.2) capacity mark n (Some p)
+    kept_cut : AreKept eq hash (bare cut_moved.held.before ++ bare_node cut_moved.held.node ∷ bare cut_moved.held.after) capacity mark n (Some p)
     kept_cut = subst (λ us. AreKept eq hash us capacity mark n (Some p)) bare_cut kept
 
-    clear : IsClear (bare cut_moved.held.0) (bare_node cut_moved.held.1) (bare cut_moved.held.2) mark n
-    clear = clear-elsewhere p hs mark n cut_moved.held.0 cut_moved.held.1 cut_moved.held.2 bare_cut cut_moved.long elsewhere
+    clear : IsClear (bare cut_moved.held.before) (bare_node cut_moved.held.node) (bare cut_moved.held.after) mark n
+    clear = clear-elsewhere p hs mark n cut_moved.held.before cut_moved.held.node cut_moved.held.after bare_cut cut_moved.long elsewhere
 
     pub AreKept-moved : AreKept eq hash (bare ks) capacity mark n (Some p)
     AreKept-moved =
         let h = cut_moved.held in
-        subst (λ us. AreKept eq hash us capacity mark n (Some p)) (sym bare_moved) (AreKept-to_back laws (bare h.0) (bare_node h.1) (bare h.2) kept_cut clear h.4)
+        subst (λ us. AreKept eq hash us capacity mark n (Some p)) (sym bare_moved) (AreKept-to_back laws (bare h.before) (bare_node h.node) (bare h.after) kept_cut clear h.at_is)
 
     pub to_visit-moved : take n (drop (bookmark_at mark (bare ks)) (keys_of (pairs_of ks))) ≡ take n (drop (bookmark_at mark (bare hs)) (keys_of (pairs_of hs)))
     to_visit-moved =
         let h = cut_moved.held in
         ap (λ ys. take n (drop (bookmark_at mark (bare ks)) ys)) (sym (keys-bare ks))
         ∙ ap (λ us. take n (drop (bookmark_at mark us) (map (λ u. u.pair) us))) bare_moved
-        ∙ to_visit-back laws (bare h.0) (bare_node h.1) (bare h.2) kept_cut clear
+        ∙ to_visit-back laws (bare h.before) (bare_node h.node) (bare h.after) kept_cut clear
         ∙ ap (λ us. take n (drop (bookmark_at mark us) (map (λ u. u.pair) us))) (sym bare_cut)
         ∙ ap (λ ys. take n (drop (bookmark_at mark (bare hs)) ys)) (keys-bare hs)
 
@@ -145,10 +145,10 @@ module _ {K V : Type 0} (hs ks : List (Held (K × V))) {p : Ptr} (last : AtHeld 
     behind-moved apart =
         let h = cut_moved.held in
         let index = before-moved apart in
-        let of_rest = length-append h.0 h.2 in
-        let of_bare = length-append (bare h.0) (bare h.2) in
-        let of_front = length-map h.0 bare_node in
-        let of_back = length-map h.2 bare_node in
+        let of_rest = length-append h.before h.after in
+        let of_bare = length-append (bare h.before) (bare h.after) in
+        let of_front = length-map h.before bare_node in
+        let of_back = length-map h.after bare_node in
         let bookmark = ap (bookmark_at mark) bare_moved in
-        let behind = behind-back laws (bare h.0) (bare_node h.1) (bare h.2) kept_cut clear in
+        let behind = behind-back laws (bare h.before) (bare_node h.node) (bare h.after) kept_cut clear in
         omega (arith, index, of_rest, of_bare, of_front, of_back, bookmark, behind)

@@ -54,7 +54,7 @@ module _ {K V : Type 0} (hs ks : List (Held (K × V))) (p : Ptr) (lies : before 
         let h = new.held in
         let here = ap (slice_get (pairs_of hs)) (sym old.long) ∙ pair_there g in
         let own = ap (slice_get (pairs_of ks)) (sym new.long) ∙ pair_there h in
-        ap (option_map (λ pair. pair.1)) (here ∙ sym (slice_get-touched mode touched g.1.pair here) ∙ own) ∙ ap Some (sym (at h.0 h.1 h.2 h.3 h.4))
+        ap (option_map (λ pair. pair.1)) (here ∙ sym (slice_get-touched mode touched g.node.pair here) ∙ own) ∙ ap Some (sym (at h.before h.node h.after h.is h.at_is))
 
     set-touched : WritesOnly ks p → (w : V) → pairs_of (change_at p (revalued w) ks) ≡ set_value_at (pairs_of ks) (before p ks) w
     set-touched alone w = let cut = touched_cut mode touched in pairs_set cut.held alone w ∙ ap (λ i. set_value_at (pairs_of ks) i w) cut.long

@@ -48,30 +48,30 @@ module _ {K V : Type 0} (hs ws : List (Held (K × V))) {p : Ptr} (others : AtHel
   pub pair-removed : {pair : K × V} → AtHeld hs p (λ xs x ys. pair ≡ x.pair) → slice_get (pairs_of hs) (before p hs) ≡ Some pair
   pair-removed is =
       let h = cut_removed.held in
-      ap (slice_get (pairs_of hs)) (sym cut_removed.long) ∙ pair_there h ∙ ap Some (sym (is h.0 h.1 h.2 h.3 h.4))
+      ap (slice_get (pairs_of hs)) (sym cut_removed.long) ∙ pair_there h ∙ ap Some (sym (is h.before h.node h.after h.is h.at_is))
 
-  rest : ws ≡ cut_removed.held.0 ++ cut_removed.held.2
-  rest = let h = cut_removed.held in others h.0 h.1 h.2 h.3 h.4
+  rest : ws ≡ cut_removed.held.before ++ cut_removed.held.after
+  rest = let h = cut_removed.held in others h.before h.node h.after h.is h.at_is
 
   pub pairs-removed : pairs_of ws ≡ remove (pairs_of hs) (before p hs)
   pairs-removed = ap pairs_of rest ∙ pairs_removed cut_removed.held ∙ ap (remove (pairs_of hs)) cut_removed.long
 
-  bare_cut : bare hs ≡ bare cut_removed.held.0 ++ bare_node cut_removed.held.1 ∷ bare cut_removed.held.2
-  bare_cut = let h = cut_removed.held in ap bare h.3 ∙ map-append bare_node h.0 (h.1 ∷ h.2)
+  bare_cut : bare hs ≡ bare cut_removed.held.before ++ bare_node cut_removed.held.node ∷ bare cut_removed.held.after
+  bare_cut = let h = cut_removed.held in ap bare h.is ∙ map-append bare_node h.before (h.node ∷ h.after)
 
-  bare_rest : bare ws ≡ bare cut_removed.held.0 ++ bare cut_removed.held.2
-  bare_rest = ap bare rest ∙ map-append bare_node cut_removed.held.0 cut_removed.held.2
+  bare_rest : bare ws ≡ bare cut_removed.held.before ++ bare cut_removed.held.after
+  bare_rest = ap bare rest ∙ map-append bare_node cut_removed.held.before cut_removed.held.after
 
   -- the node is none of those that are still to be visited
   module _ (mark : Option Ptr) (n : ℕ) (elsewhere : IsElsewhere p hs mark n) where
-    clear : IsClear (bare cut_removed.held.0) (bare_node cut_removed.held.1) (bare cut_removed.held.2) mark n
-    clear = clear-elsewhere p hs mark n cut_removed.held.0 cut_removed.held.1 cut_removed.held.2 bare_cut cut_removed.long elsewhere
+    clear : IsClear (bare cut_removed.held.before) (bare_node cut_removed.held.node) (bare cut_removed.held.after) mark n
+    clear = clear-elsewhere p hs mark n cut_removed.held.before cut_removed.held.node cut_removed.held.after bare_cut cut_removed.long elsewhere
 
     pub to_visit-removed : (mark ≡ None → n ≡ 0) → take n (drop (bookmark_at mark (bare ws)) (keys_of (pairs_of ws))) ≡ take n (drop (bookmark_at mark (bare hs)) (keys_of (pairs_of hs)))
     to_visit-removed marked =
         ap (λ ks. take n (drop (bookmark_at mark (bare ws)) ks)) (sym (keys-bare ws))
         ∙ ap (λ us. take n (drop (bookmark_at mark us) (map (λ u. u.pair) us))) bare_rest
-        ∙ to_visit-out (bare cut_removed.held.0) (bare_node cut_removed.held.1) (bare cut_removed.held.2) mark n marked clear
+        ∙ to_visit-out (bare cut_removed.held.before) (bare_node cut_removed.held.node) (bare cut_removed.held.after) mark n marked clear
         ∙ ap (λ us. take n (drop (bookmark_at mark us) (map (λ u. u.pair) us))) (sym bare_cut)
         ∙ ap (λ ks. take n (drop (bookmark_at mark (bare hs)) ks)) (keys-bare hs)
 
@@ -79,7 +79,7 @@ module _ {K V : Type 0} (hs ws : List (Held (K × V))) {p : Ptr} (others : AtHel
     AreKept-removed {eq} {hash} {capacity} {current} kept =
         let h = cut_removed.held in
         subst (λ us. AreKept eq hash us capacity mark n None) (sym bare_rest)
-        (AreKept-out (bare h.0) (bare_node h.1) (bare h.2) (subst (λ us. AreKept eq hash us capacity mark n current) bare_cut kept) clear)
+        (AreKept-out (bare h.before) (bare_node h.node) (bare h.after) (subst (λ us. AreKept eq hash us capacity mark n current) bare_cut kept) clear)
 
 -- and no pair is to be visited, nor is there a current one
 pub IsKept-removed : {K V : Type 0} {eq : K → K → Bool} {hash : K → ℕ} {s w : TableState (K × V)} {mark current : Option Ptr} {n : ℕ} {p : Ptr} → IsKept eq hash s mark n current → before p s.held < length s.held → AtHeld s.held p (λ xs x ys. w.held ≡ xs ++ ys) → w.capacity ≡ s.capacity → IsKept eq hash w None 0 None

@@ -9,4 +9,4 @@ unlink-requires g c = first_held (first_node c.self.inside.ring.held (pointer_of
 pub returns : goal.returns
 returns g c =
     let n = first_node c.self.inside.ring.held (pointer_of_some c.first.result) (pointer_of c.in_ok-at.at) c.first.ensures (ap pointer_of_some c.in_ok-at.was) in
-    sym c.self.view_is ∙ triples-first n c.unlink.new.self.held c.unlink.result (c.unlink.ensures.others [] n.node n.rest n.is n.at) (c.unlink.ensures.triple [] n.node n.rest n.is n.at)
+    sym c.self.view_is ∙ triples-first n c.unlink.new.self.held c.unlink.result (c.unlink.ensures.others [] n.node n.after n.is n.at_is) (c.unlink.ensures.triple [] n.node n.after n.is n.at_is)

@@ -9,4 +9,4 @@ unlink-requires g c = last_held (last_node c.self.inside.ring.held (pointer_of_s
 pub returns : goal.returns
 returns g c =
     let n = last_node c.self.inside.ring.held (pointer_of_some c.last.result) (pointer_of c.in_ok-at.at) c.last.ensures.last (ap pointer_of_some c.in_ok-at.was) in
-    sym c.self.view_is ∙ triples-last n c.unlink.new.self.held c.unlink.result (c.unlink.ensures.others n.rest n.node [] n.is n.at) (c.unlink.ensures.triple n.rest n.node [] n.is n.at)
+    sym c.self.view_is ∙ triples-last n c.unlink.new.self.held c.unlink.result (c.unlink.ensures.others n.before n.node [] n.is n.at_is) (c.unlink.ensures.triple n.before n.node [] n.is n.at_is)

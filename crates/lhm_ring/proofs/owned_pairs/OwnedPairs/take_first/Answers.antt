@@ -12,4 +12,4 @@ drop_spare-requires g c = omega (arith, c.unlink-triple.ensures.spares)
 pub returns : goal.returns
 returns g c =
     let n = first_node c.self.inside.ring.held (pointer_of_some c.first.result) (pointer_of c.in_ok-at.at) c.first.ensures (ap pointer_of_some c.in_ok-at.was) in
-    sym c.self.view_is ∙ triples-first n c.drop_spare.new.self.held c.unlink-triple.result (c.drop_spare.ensures.held ∙ c.unlink-triple.ensures.others [] n.node n.rest n.is n.at) (c.unlink-triple.ensures.triple [] n.node n.rest n.is n.at)
+    sym c.self.view_is ∙ triples-first n c.drop_spare.new.self.held c.unlink-triple.result (c.drop_spare.ensures.held ∙ c.unlink-triple.ensures.others [] n.node n.after n.is n.at_is) (c.unlink-triple.ensures.triple [] n.node n.after n.is n.at_is)

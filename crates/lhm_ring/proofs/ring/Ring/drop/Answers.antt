@@ -8,8 +8,8 @@ unlink-key-requires g c = first_held c.held.self.held c.in-Some.at.pointer.ptr c
 pub held-smaller : goal.held-smaller
 held-smaller g c =
     let h = first_held c.held.self.held c.in-Some.at.pointer.ptr c.in-Some.ensures in
-    let u = c.unlink-key.ensures.others h.0 h.1 h.2 h.3 h.4 in
-    smaller c.held.self.held c.drop_spare.new.self.held h.0 h.1 h.2 h.3 (c.drop_spare.ensures.held ∙ u)
+    let u = c.unlink-key.ensures.others h.before h.node h.after h.is h.at_is in
+    smaller c.held.self.held c.drop_spare.new.self.held h.before h.node h.after h.is (c.drop_spare.ensures.held ∙ u)
 
 pub destroy_empty-requires : goal.destroy_empty-requires
 destroy_empty-requires g c = no_first c.held.self.held c.in_default.ensures

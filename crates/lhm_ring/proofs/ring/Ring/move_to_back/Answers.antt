@@ -35,7 +35,7 @@ returns g c =
     let e = moved_list i.nodes.cells i.guard i.spare _ i.len i.spares _ c.unwrap-guard.ensures c.self.invariant c.self.view_is _ _ c.links-links.ensures _ c.join.ensures _ c.links.ensures _ _ c.join-2.ensures c.join-3.ensures in
     record {
       last = λ xs t ys k at. ap (λ z. z.held) (e xs t ys k at);
-      spares = ap (λ z. z.spares) (e h.0 h.1 h.2 h.3 h.4);
+      spares = ap (λ z. z.spares) (e h.before h.node h.after h.is h.at_is);
       apart = ring_apart i.nodes.cells i.guard i.spare i.len i.spares _ c.self.invariant c.self.view_is;
     }
 

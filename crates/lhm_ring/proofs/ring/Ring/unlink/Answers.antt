@@ -44,7 +44,7 @@ returns g c =
     record {
       others = λ xs t ys cut at. ap (λ z. z.held) (e xs t ys cut at).0;
       triple = λ xs t ys cut at. let q = e xs t ys cut at in λ z. (q.1 z, (q.2 z).0, (q.2 z).1);
-      spares = ap (λ z. z.spares) (e h.0 h.1 h.2 h.3 h.4).0;
+      spares = ap (λ z. z.spares) (e h.before h.node h.after h.is h.at_is).0;
     }
 
 pub to-self-inside-requires : goal.to-self-inside-requires

@@ -5,9 +5,8 @@ use Rattle.lhm_ring.proofs.table.Table.retain_at.Goals as goal
 
 pub remove_at-requires : goal.remove_at-requires
 remove_at-requires g c =
-    let h = c.requires in
     let called = c.call_at.ensures.called in
-    held-written called.0 c.call_at.ensures.alone (ap (λ s. s.held) called.2) (h.0, h.1, h.2, h.3, h.4)
+    held-written called.0 c.call_at.ensures.alone (ap (λ s. s.held) called.2) c.requires.0
 
 pub returns-then-not-call_at-clause-retained : goal.returns-then-not-call_at-clause-retained
 returns-then-not-call_at-clause-retained g c =

@@ -13,4 +13,4 @@ value-requires g c = last_held (last_node c.self.inside.table.held (pointer_of_s
 pub returns : goal.returns
 returns g c =
     let n = last_node c.self.inside.table.held (pointer_of_some c.last.result) (pointer_of c.in_ok-at.at) c.last.ensures.last (ap pointer_of_some c.in_ok-at.was) in
-    rw (← c.self.view_is) (Some-last n c.key.result.now c.value.result.now (c.key.ensures n.rest n.node [] n.is n.at) (c.value.ensures n.rest n.node [] n.is n.at))
+    rw (← c.self.view_is) (Some-last n c.key.result.now c.value.result.now (c.key.ensures n.before n.node [] n.is n.at_is) (c.value.ensures n.before n.node [] n.is n.at_is))

@@ -15,8 +15,8 @@ returns g c =
     let m = c.self.inside in
     let cut = current_cut c.self.invariant (current_of-Some c.current.ensures c.unwrap-at.ensures) in
     let h = cut.held in
-    let key = c.key.ensures h.0 h.1 h.2 h.3 h.4 in
-    let value = c.value.ensures h.0 h.1 h.2 h.3 h.4 in
+    let key = c.key.ensures h.before h.node h.after h.is h.at_is in
+    let value = c.value.ensures h.before h.node h.after h.is h.at_is in
     rw (← c.self.view_is) (
     ap (slice_get (pairs_of m.table.held)) (current_at-Some (current_of-Some c.current.ensures c.unwrap-at.ensures) m.table.held ∙ sym cut.long)
     ∙ pair_there h ∙ (λ i. Some (sym key i, sym value i))

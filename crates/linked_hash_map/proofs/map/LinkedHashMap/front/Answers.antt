@@ -13,4 +13,4 @@ value-requires g c = first_held (first_node c.self.inside.table.held (pointer_of
 pub returns : goal.returns
 returns g c =
     let n = first_node c.self.inside.table.held (pointer_of_some c.first.result) (pointer_of c.in_ok-at.at) c.first.ensures (ap pointer_of_some c.in_ok-at.was) in
-    rw (← c.self.view_is) (Some-first n c.key.result.now c.value.result.now (c.key.ensures [] n.node n.rest n.is n.at) (c.value.ensures [] n.node n.rest n.is n.at))
+    rw (← c.self.view_is) (Some-first n c.key.result.now c.value.result.now (c.key.ensures [] n.node n.after n.is n.at_is) (c.value.ensures [] n.node n.after n.is n.at_is))

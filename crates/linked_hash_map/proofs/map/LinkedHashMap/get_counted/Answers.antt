@@ -14,7 +14,7 @@ returns-in-Some-clause-value g c =
     let m = c.self.inside in
     let h = of-Some (λ p. HasKey g.K.PartialEq.eq c.hash_one-hash.result c.args.key.now m.table.held (pointer_of p)) c.find-found.result.0 c.in-Some.at c.in-Some.is c.find-found.ensures.found in
     rw (← c.self.view_is) (
-    ap Some (c.value.ensures (front h.held) (node h.held) (back h.held) h.held.3 h.held.4)
+    ap Some (c.value.ensures (front h.held) (node h.held) (back h.held) h.held.is h.held.at_is)
     ∙ value_at-index g.met.K.Eq.laws (distinct_keys c.self.invariant) (index_of-key h) (pair_there h.held)
     )
 

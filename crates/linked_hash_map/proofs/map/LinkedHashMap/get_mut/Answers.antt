@@ -27,7 +27,7 @@ returns-in-Some g c =
       )),
       record {
         writes_back = tt;
-        value = ap Some (c.value_mut.ensures.value (front h.held) (node h.held) (back h.held) h.held.3 h.held.4) ∙ value_at-index g.met.K.Eq.laws distinct (index_of-key h) (pair_there h.held);
+        value = ap Some (c.value_mut.ensures.value (front h.held) (node h.held) (back h.held) h.held.is h.held.at_is) ∙ value_at-index g.met.K.Eq.laws distinct (index_of-key h) (pair_there h.held);
         valid = IsValid-view c.self.invariant refl refl;
       },
     )

@@ -1,8 +1,8 @@
 use Rattle.std.proofs.Common.{◌≡◌, ◌-◌, ◌∙◌, [], ◌∷◌, length, option_map, Some, refl, ap, sym, arith, length-append}
 use Rattle.lhm_ring.specs.Positions.{pointer_of, pointer_of_some}
-use Rattle.lhm_ring.specs.RingState.{IsHeld, change_at}
+use Rattle.lhm_ring.specs.RingState.{change_at}
 use Rattle.lhm_ring.specs.RingAfterLoan.{revalued}
-use Rattle.lhm_ring.proofs.Ends.{last_node}
+use Rattle.lhm_ring.proofs.Ends.{last_node, last_held}
 use Rattle.linked_hash_map.specs.Indexes.{set_value_at}
 use Rattle.linked_hash_map.specs.Nodes.{pairs_of}
 use Rattle.linked_hash_map.proofs.Current.{IsKept-with_value}
@@ -14,7 +14,7 @@ pub value_mut-requires : goal.value_mut-requires
 value_mut-requires g c =
     let m = c.self.inside in
     let last = last_node m.table.held (pointer_of_some c.last.result) (pointer_of c.unwrap-at.result) c.last.ensures.last (ap pointer_of_some c.unwrap-at.ensures) in
-    (last.rest, last.node, [], last.is, last.at)
+    last_held last
 
 pub invariant_of-self-lent : goal.invariant_of-self-lent
 invariant_of-self-lent g c w = IsKept-with_value c.self.invariant (pointer_of c.unwrap-at.result) w
@@ -24,20 +24,19 @@ returns g c =
     let m = c.self.inside in
     let at = pointer_of c.unwrap-at.result in
     let last = last_node m.table.held (pointer_of_some c.last.result) at c.last.ensures.last (ap pointer_of_some c.unwrap-at.ensures) in
-    let held : IsHeld m.table.held at = (last.rest, last.node, [], last.is, last.at) in
     let of_pairs = length-pairs_of m.table.held in
     let long = ap length last.is in
-    let cut = length-append last.rest (last.node ∷ []) in
-    let index : length last.rest ≡ length (pairs_of m.table.held) - 1 = omega (arith, of_pairs, long, cut) in
+    let cut = length-append last.before (last.node ∷ []) in
+    let index : length last.before ≡ length (pairs_of m.table.held) - 1 = omega (arith, of_pairs, long, cut) in
     rw (← c.self.view_is) (
       (
         refl,
         λ w. map_of-revalued m.table (change_at at (revalued w) m.table.held) _ (bare-change at w m.table.held)
-            (pairs_set held c.value_mut.ensures.alone w ∙ ap (λ n. set_value_at (pairs_of m.table.held) n w) index),
+            (pairs_set (last_held last) c.value_mut.ensures.alone w ∙ ap (λ n. set_value_at (pairs_of m.table.held) n w) index),
       ),
       record {
         writes_back = tt;
-        value = ap (option_map (λ p. p.1)) (last-pairs last) ∙ ap Some (sym (c.value_mut.ensures.value last.rest last.node [] last.is last.at));
+        value = ap (option_map (λ p. p.1)) (last-pairs last) ∙ ap Some (sym (c.value_mut.ensures.value last.before last.node [] last.is last.at_is));
         valid = IsValid-view c.self.invariant refl refl;
       },
     )

@@ -32,7 +32,7 @@ returns g c =
       ),
       record {
         writes_back = tt;
-        value = ap (λ k. option_map (λ pair. pair.1) (slice_get (pairs_of hs) k)) index ∙ ap (option_map (λ pair. pair.1)) (pair_there h) ∙ ap Some (sym (c.value_mut.ensures.value h.0 h.1 h.2 h.3 h.4));
+        value = ap (λ k. option_map (λ pair. pair.1) (slice_get (pairs_of hs) k)) index ∙ ap (option_map (λ pair. pair.1)) (pair_there h) ∙ ap Some (sym (c.value_mut.ensures.value h.before h.node h.after h.is h.at_is));
         valid = IsValid-view c.self.invariant refl refl;
       },
     )
