@@ -37,10 +37,10 @@ module _ {B : Type 0} where
 
   -- the node, cut out of what is held
   module _ {hs : List (Held B)} {p : Ptr} where
-    pub first_held : First hs p → IsHeld hs p
+    abbrev pub first_held : First hs p → IsHeld hs p
     first_held f = record { before = []; node = f.node; after = f.after; is = f.is; at_is = f.at_is }
 
-    pub last_held : Last hs p → IsHeld hs p
+    abbrev pub last_held : Last hs p → IsHeld hs p
     last_held l = record { before = l.before; node = l.node; after = []; is = l.is; at_is = l.at_is }
 
 -- the triples, once that at an end was removed

@@ -77,7 +77,7 @@ module _ {K V : Type 0} {eq : K → K → Bool} {hash : K → ℕ} {s : TableSta
 -- a key that was looked for is at the index of its node
 module _ {K V : Type 0} {eq : K → K → Bool} {hash : ℕ} {k : K} {hs : List (Held (K × V))} {p : Ptr} (h : HasKey eq hash k hs p) where
   pub key_lies : before p hs < length hs
-  key_lies = let at = h.held in subst (λ (ks : List (Held (K × V))). before p ks < length ks) (sym at.3) (before_held p at.0 at.1 at.2 at.4)
+  key_lies = let at = h.held in subst (λ (ks : List (Held (K × V))). before p ks < length ks) (sym at.is) (before_held p at.before at.node at.after at.at_is)
 
   pub found_lies : before p (bare hs) < length (bare hs)
   found_lies =
