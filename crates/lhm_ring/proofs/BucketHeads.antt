@@ -33,18 +33,18 @@ none_more (x ∷ xs) h e a zero = a 0
 none_more (x ∷ xs) h e a (suc b) = none_more xs h e (λ c. a (suc c)) b
 
 -- one more bucket is emptied
-pub cleared : (xs : List Head) (i : ℕ) (h : Head) → leads_to h ≡ None → ((b : ℕ) → b < i → get_or (map leads_to xs) b None ≡ None) → (b : ℕ) → b < i + 1 → get_or (map leads_to (set xs i h)) b None ≡ None
-cleared [] i h e a b l = refl
-cleared (x ∷ xs) zero h e a zero l = e
-cleared (x ∷ xs) zero h e a (suc b) l = absurd (omega (arith, l))
-cleared (x ∷ xs) (suc i) h e a zero l = a 0 (omega arith)
-cleared (x ∷ xs) (suc i) h e a (suc b) l = cleared xs i h e (λ c m. a (suc c) (omega (arith, m))) b (omega (arith, l))
+pub leads_to-cleared : (xs : List Head) (i : ℕ) (h : Head) → leads_to h ≡ None → ((b : ℕ) → b < i → get_or (map leads_to xs) b None ≡ None) → (b : ℕ) → b < i + 1 → get_or (map leads_to (set xs i h)) b None ≡ None
+leads_to-cleared [] i h e a b l = refl
+leads_to-cleared (x ∷ xs) zero h e a zero l = e
+leads_to-cleared (x ∷ xs) zero h e a (suc b) l = absurd (omega (arith, l))
+leads_to-cleared (x ∷ xs) (suc i) h e a zero l = a 0 (omega arith)
+leads_to-cleared (x ∷ xs) (suc i) h e a (suc b) l = leads_to-cleared xs i h e (λ c m. a (suc c) (omega (arith, m))) b (omega (arith, l))
 
 -- the head of a bucket becomes a link, and the position the head
-pub chained : {K V : Type 0} (at : Position K V) (heads : List Head) (old_head new_head : Head) (link : Option (Position K V)) (count hash bucket : ℕ) (old new : List (Held (K × V))) → count ≡ length heads → 0 < count → bucket ≡ hash % count
+pub Chains-heads : {K V : Type 0} (at : Position K V) (heads : List Head) (old_head new_head : Head) (link : Option (Position K V)) (count hash bucket : ℕ) (old new : List (Held (K × V))) → count ≡ length heads → 0 < count → bucket ≡ hash % count
     → old_head ≡ get_or heads bucket old_head → pointer_of_some link ≡ leads_to old_head → leads_to new_head ≡ Some (pointer_of at)
     → OfNodeAt old (pointer_of at) (λ x. hash ≡ x.hash) → AtHeld old (pointer_of at) (λ before x after. new ≡ before ++ linked_to (pointer_of_some link) x ∷ after) → Chains (pointer_of at) (map leads_to heads) (map leads_to (set heads bucket new_head)) old new
-chained {K} {V} at heads old_head new_head link count hash bucket old new many some is head_is link_is new_is own sets = λ before x after e p.
+Chains-heads {K} {V} at heads old_head new_head link count hash bucket old new many some is head_is link_is new_is own sets = λ before x after e p.
     let b : bucket ≡ x.hash % length (map leads_to heads) = is ∙ ap (λ n. n % count) (own before x after e p) ∙ ap (λ n. x.hash % n) (many ∙ sym (length-map heads leads_to)) in
     let within : bucket < length heads = let l : hash % count < count = mod-lt hash some in omega (arith, l, is, many) in
     let read : get_or (map leads_to heads) bucket None ≡ pointer_of_some link = head_pointer heads bucket old_head within ∙ ap leads_to (sym head_is) ∙ sym link_is in

@@ -13,7 +13,7 @@ use Rattle.lhm_ring.specs.declared.link.Link.{Link}
 use Rattle.lhm_ring.proofs.Apart.{IsFresh, apart_none, same_ptr_eq, same_ptr_refl, same_ptr_symm}
 use Rattle.lhm_ring.proofs.Writes.{at_other, length-change, read_kept, links_set, body_kept}
 use Rattle.lhm_ring.proofs.Rows.{all_from, all_right, content_pointer, apart_at, apart_head, apart_left, apart_tail, follow_row}
-use Rattle.lhm_ring.proofs.Moves.{ring_listed, none_held, found}
+use Rattle.lhm_ring.proofs.RingNodes.{ring_listed, none_held, node-listed}
 use Rattle.lhm_ring.proofs.Splicing.{next_relinked, prev_relinked, guard_relinked, link_relinked, hash_relinked}
 use Rattle.lhm_ring.proofs.OneNodeChanged.{links_kept, body_set, content_hash, content_link, content_guard, content_pair, content_holds}
 
@@ -66,7 +66,7 @@ module _ {B : Type 0} (cs ds : List (Cell Links B)) (p : Ptr) (t u : Held B) (j 
   split_at : (guard : Option NodePointer) (spare : Link) (n m : ℕ) → RingOk cs guard spare n m → IsHeld (ring_list cs guard n) p → (us : List Ptr) × (vs : List Ptr) × (ring_pointers cs guard n ≡ us ++ p ∷ vs)
   split_at None spare n m ok h = absurd (none_held p h)
   split_at (Some g) spare n m ok h =
-      let f = found cs g spare n m ok h.before h.node h.after h.is in let s = f.pointer in
+      let f = node-listed cs g spare n m ok h.before h.node h.after h.is in let s = f.pointer in
       (s.before, s.after, ap (λ k. follow cs k g.ptr) (sym s.long) ∙ follow_row cs g.ptr (s.before ++ h.node.at ∷ s.after) g.ptr s.ring.linked ∙ ap (λ q. s.before ++ q ∷ s.after) h.at_is)
 
   free_of : (g : NodePointer) (spare : Link) (n m : ℕ) (ok : RingOk cs (Some g) spare n m) (us vs : List Ptr) → follow cs n g.ptr ≡ us ++ p ∷ vs → IsFresh p ok.1

@@ -10,7 +10,7 @@ use Rattle.lhm_ring.specs.RingState.{State, state, Held, first_at, last_at, last
 use Rattle.lhm_ring.specs.Targets.{target}
 use Rattle.lhm_ring.specs.declared.link.Link.{Link}
 use Rattle.lhm_ring.proofs.Rows.{content_pointer, cut_row, last_from}
-use Rattle.lhm_ring.proofs.Moves.{ring_listed, opened}
+use Rattle.lhm_ring.proofs.RingNodes.{ring_listed, RingOk-guard}
 
 module _ {B : Type 0} (cs : List (Cell Links B)) where
   pointers_of : (p : Ptr) (t : Held B) → content_at cs p ≡ Some t → t.at ≡ p
@@ -34,7 +34,7 @@ module _ {B : Type 0} (cs : List (Cell Links B)) where
 
 module _ {B : Type 0} (cs : List (Cell Links B)) (guard : Option NodePointer) (spare : Link) (g : NodePointer) (n m : ℕ) (v : State B) (e : guard ≡ Some g) (ok : RingOk cs guard spare n m) (w : state (ring_list cs guard n) m ≡ v) where
   o : RingOk cs (Some g) spare n m
-  o = opened cs guard spare g n m e ok
+  o = RingOk-guard cs guard spare g n m e ok
 
   shown : listed cs o.0 ≡ v.held
   shown = sym (ring_listed cs g.ptr o.0 (target spare) o.1 n o.2 o.3) ∙ sym (ap (λ z. ring_list cs z n) e) ∙ ap (λ (z : State B). z.held) w

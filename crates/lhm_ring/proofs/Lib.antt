@@ -8,10 +8,12 @@ pub mod ContentTaken
 pub mod ContentsSplitOff
 pub mod DroppedRing
 pub mod Ends
+pub mod Entries
 pub mod FirstAndLast
 pub mod Hashed
-pub mod IndexChanges
 pub mod IndexMoves
+pub mod IndexPuts
+pub mod IndexTakes
 pub mod IndexedRing
 pub mod IteratorSteps
 pub mod LendTable
@@ -30,10 +32,12 @@ pub mod PutBackAndUnlink
 pub mod ReadAtPosition
 pub mod Rearranged
 pub mod Retained
+pub mod RingNodes
 pub mod Rooms
 pub mod Rows
 pub mod Searches
 pub mod Sharing
+pub mod Spans
 pub mod Splicing
 pub mod Stacking
 pub mod Tables

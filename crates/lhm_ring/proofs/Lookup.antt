@@ -3,7 +3,7 @@ use Rattle.std.proofs.Common.{◌≡◌, true, false, cond, List, [], ◌∷◌,
 use denote.RawPtr.{Ptr}
 use Rattle.lhm_ring.specs.Cells.{Cell, IsApart, same_ptr, pointers, cell_at, links_of, body_of, links_at, body_at, change, without}
 use Rattle.std.specs.List.{IsDistinct, AllByRecursion}
-use Rattle.lhm_ring.proofs.Apart.{same_ptr_eq, IsFresh}
+use Rattle.lhm_ring.proofs.Apart.{same_ptr_eq}
 use Rattle.lhm_ring.proofs.Options.{none_some}
 
 module _ {L B : Type 0} where
@@ -54,13 +54,13 @@ module _ {L B : Type 0} where
   cut_held cs p b e =
       let h = holds_at (cell_at cs p) b e in let k = cut cs p h.0.links (ap links_of h.1) in (k, sym (ap body_of k.here) ∙ e)
 
-  fresh_without : (q p : Ptr) (cs : List (Cell L B)) → IsFresh q (pointers cs) → IsFresh q (pointers (without p cs))
+  pub all_without : (P : Ptr → Type 0) (p : Ptr) (cs : List (Cell L B)) → AllByRecursion P (pointers cs) → AllByRecursion P (pointers (without p cs))
   unfolding without
-  fresh_without q p [] h = tt
-  fresh_without q p (c ∷ cs) h =
-      elim (same_ptr c.at p) as (λ y. IsFresh q (pointers (cond y cs (c ∷ without p cs)))) [
+  all_without P p [] h = tt
+  all_without P p (c ∷ cs) h =
+      elim (same_ptr c.at p) as (λ y. AllByRecursion P (pointers (cond y cs (c ∷ without p cs)))) [
         | true ↦ h.1
-        | false ↦ (h.0, fresh_without q p cs h.1)
+        | false ↦ (h.0, all_without P p cs h.1)
       ]
 
   pub apart_without : (p : Ptr) (cs : List (Cell L B)) → IsApart (pointers cs) → IsApart (pointers (without p cs))
@@ -69,16 +69,7 @@ module _ {L B : Type 0} where
   apart_without p (c ∷ cs) d =
       elim (same_ptr c.at p) as (λ y. IsApart (pointers (cond y cs (c ∷ without p cs)))) [
         | true ↦ d.1
-        | false ↦ (fresh_without c.at p cs d.0, apart_without p cs d.1)
-      ]
-
-  pub all_without : (P : Ptr → Type 0) (p : Ptr) (cs : List (Cell L B)) → AllByRecursion P (pointers cs) → AllByRecursion P (pointers (without p cs))
-  unfolding without
-  all_without P p [] h = tt
-  all_without P p (c ∷ cs) h =
-      elim (same_ptr c.at p) as (λ y. AllByRecursion P (pointers (cond y cs (c ∷ without p cs)))) [
-        | true ↦ h.1
-        | false ↦ (h.0, all_without P p cs h.1)
+        | false ↦ (all_without (λ q. same_ptr c.at q ≡ false) p cs d.0, apart_without p cs d.1)
       ]
 
   -- what holds of all pointers holds where a node is found

@@ -12,7 +12,8 @@ use Rattle.lhm_ring.specs.Targets.{target}
 use Rattle.lhm_ring.specs.declared.link.Link.{Link}
 use Rattle.lhm_ring.proofs.Writes.{is_at}
 use Rattle.lhm_ring.proofs.Rows.{all_left, all_right, all_last, cut_row, glue_row, last_from}
-use Rattle.lhm_ring.proofs.Moves.{none_held, found_in, node_in, node_at, prev_there, next_there}
+use Rattle.lhm_ring.proofs.RingNodes.{none_held, found_in, node_in, node_at}
+use Rattle.lhm_ring.proofs.Moves.{prev_there, next_there}
 use Rattle.lhm_ring.proofs.OneNodeChanged.{content_guard}
 use Rattle.lhm_ring.proofs.FirstAndLast.{first_of, last_is}
 

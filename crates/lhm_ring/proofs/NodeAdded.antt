@@ -12,7 +12,7 @@ use Rattle.lhm_ring.specs.Targets.{target}
 use Rattle.lhm_ring.specs.declared.link.Link.{Link}
 use Rattle.lhm_ring.proofs.Apart.{IsFresh, same_ptr_eq, same_ptr_refl}
 use Rattle.lhm_ring.proofs.Rows.{all_two, all_both, all_left, all_right, all_from, apart_head, apart_in, edge_made}
-use Rattle.lhm_ring.proofs.Moves.{ring_listed}
+use Rattle.lhm_ring.proofs.RingNodes.{ring_listed}
 use Rattle.lhm_ring.proofs.OneNodeChanged.{row_other, chain_other, held_other, listed_other}
 use Rattle.lhm_ring.proofs.Options.{some_none}
 
@@ -26,13 +26,13 @@ module _ {B : Type 0} (cs : List (Cell Links B)) (p : Ptr) (l : Links) (d : IsAp
   abbrev ds : List (Cell Links B)
   ds = cell p l None ∷ cs
 
-  pub other : (q : Ptr) → same_ptr p q ≡ false → cell_at ds q ≡ cell_at cs q
+  pub cell_at-other : (q : Ptr) → same_ptr p q ≡ false → cell_at ds q ≡ cell_at cs q
   unfolding cell_at
-  other q n = ap (λ y. cond y (Some (cell p l None)) (cell_at cs q)) n
+  cell_at-other q n = ap (λ y. cond y (Some (cell p l None)) (cell_at cs q)) n
 
-  pub here : cell_at ds p ≡ Some (cell p l None)
+  pub cell_at-added : cell_at ds p ≡ Some (cell p l None)
   unfolding cell_at
-  here = ap (λ y. cond y (Some (cell p l None)) (cell_at cs p)) (same_ptr_refl p)
+  cell_at-added = ap (λ y. cond y (Some (cell p l None)) (cell_at cs p)) (same_ptr_refl p)
 
   nowhere_in : (zs : List (Cell Links B)) → IsFresh p (pointers zs) → (q : Ptr) → is_there zs q ≡ true → same_ptr p q ≡ false
   unfolding cell_at
@@ -47,7 +47,7 @@ module _ {B : Type 0} (cs : List (Cell Links B)) (p : Ptr) (l : Links) (d : IsAp
   fresh_all = all_from (λ q. is_there cs q ≡ true) (λ q. same_ptr p q ≡ false) (nowhere_in cs (apart_head p (pointers cs) d))
 
   there_more : (q : Ptr) → is_there cs q ≡ true → is_there ds q ≡ true
-  there_more q h = ap (λ z. has_links (links_of z)) (other q (nowhere_in cs (apart_head p (pointers cs) d) q h)) ∙ h
+  there_more q h = ap (λ z. has_links (links_of z)) (cell_at-other q (nowhere_in cs (apart_head p (pointers cs) d) q h)) ∙ h
 
   module _ (g : Ptr) (ps : List Ptr) (spare : Option Ptr) (ss : List Ptr) (r : IsRing cs g ps spare ss) (e : link_of (Some l) ≡ spare) (own : guard_of (Some l) ≡ false) where
     abbrev T : Ptr → Type 0
@@ -60,29 +60,29 @@ module _ {B : Type 0} (cs : List (Cell Links B)) (p : Ptr) (l : Links) (d : IsAp
     P q = same_ptr p q ≡ false
 
     spare_here : link_at ds p ≡ link_of (Some l)
-    spare_here = ap (λ z. link_of (links_of z)) here
+    spare_here = ap (λ z. link_of (links_of z)) cell_at-added
 
-    pub more : IsRing ds g ps (Some p) (p ∷ ss)
-    more = record {
-      linked = row_other cs ds p other (g ∷ (ps ++ g ∷ [])) (free.0, all_both P ps (g ∷ []) (all_left P ps ss free.1) (free.0, tt)) r.linked;
-      chained = (refl, chain_other cs ds p other (link_at ds p) ss (all_right P ps ss free.1) (subst (λ z. Chained cs z ss) (sym (spare_here ∙ e)) r.chained));
-      held = held_other cs ds p other ps (all_left P ps ss free.1) r.held;
+    pub IsRing-added : IsRing ds g ps (Some p) (p ∷ ss)
+    IsRing-added = record {
+      linked = row_other cs ds p cell_at-other (g ∷ (ps ++ g ∷ [])) (free.0, all_both P ps (g ∷ []) (all_left P ps ss free.1) (free.0, tt)) r.linked;
+      chained = (refl, chain_other cs ds p cell_at-other (link_at ds p) ss (all_right P ps ss free.1) (subst (λ z. Chained cs z ss) (sym (spare_here ∙ e)) r.chained));
+      held = held_other cs ds p cell_at-other ps (all_left P ps ss free.1) r.held;
       there = (
         there_more g r.there.0,
         all_both (λ q. is_there ds q ≡ true) ps (p ∷ ss) (all_from T (λ q. is_there ds q ≡ true) there_more ps (all_left T ps ss r.there.1))
-            (ap (λ z. has_links (links_of z)) here, all_from T (λ q. is_there ds q ≡ true) there_more ss (all_right T ps ss r.there.1)),
+            (ap (λ z. has_links (links_of z)) cell_at-added, all_from T (λ q. is_there ds q ≡ true) there_more ss (all_right T ps ss r.there.1)),
       );
       apart = apart_in (g ∷ ps) p ss free r.apart;
       count = ap (λ n. suc n) r.count ∙ omega arith;
-      guard = ap (λ z. guard_of (links_of z)) (other g free.0) ∙ r.guard;
+      guard = ap (λ z. guard_of (links_of z)) (cell_at-other g free.0) ∙ r.guard;
       plain = (
-        ap (λ z. guard_of (links_of z)) here ∙ own,
-        all_two P (λ q. is_guard cs q ≡ false) (λ q. is_guard ds q ≡ false) (λ q n h. ap (λ z. guard_of (links_of z)) (other q n) ∙ h) ss (all_right P ps ss free.1) r.plain,
+        ap (λ z. guard_of (links_of z)) cell_at-added ∙ own,
+        all_two P (λ q. is_guard cs q ≡ false) (λ q. is_guard ds q ≡ false) (λ q n h. ap (λ z. guard_of (links_of z)) (cell_at-other q n) ∙ h) ss (all_right P ps ss free.1) r.plain,
       );
     }
 
     pub more_listed : listed ds ps ≡ listed cs ps
-    more_listed = listed_other cs ds p other ps (all_left P ps ss free.1)
+    more_listed = listed_other cs ds p cell_at-other ps (all_left P ps ss free.1)
 
 -- a ring's fields, with its guard known
 pub record Guarded {B : Type 0} (cs : List (Cell Links B)) (guard : Option NodePointer) (spare : Link) (n m : ℕ) (g : NodePointer) (v : State B) : Type 0 where
@@ -102,7 +102,7 @@ module _ {B : Type 0} where
   guard_made cs ds (Some h) spare n m g v e ok w r = absurd (some_none h e)
 
   pub first_there : (cs es : List (Cell Links B)) (g : NodePointer) (l : Links) → es ≡ cell g.ptr l None ∷ cs → IsApart (pointers es) → is_there es g.ptr ≡ true
-  first_there cs es g l f d = ap (λ zs. is_there zs g.ptr) f ∙ ap (λ z. has_links (links_of z)) (here cs g.ptr l (subst (λ zs. IsApart (pointers zs)) f d))
+  first_there cs es g l f d = ap (λ zs. is_there zs g.ptr) f ∙ ap (λ z. has_links (links_of z)) (cell_at-added cs g.ptr l (subst (λ zs. IsApart (pointers zs)) f d))
 
   -- a node alone is a ring once it is joined to itself
   pub first_guard : (cs es ds : List (Cell Links B)) (g : NodePointer) (l : Links) → cs ≡ [] → es ≡ cell g.ptr l None ∷ cs → IsApart (pointers es) → (l.guard == 1) ≡ true → IsJoined es ds g.ptr g.ptr → IsRing ds g.ptr [] None []
@@ -113,6 +113,6 @@ module _ {B : Type 0} where
     there = (j.there g.ptr ∙ first_there cs es g l f d, tt);
     apart = subst (λ zs. IsApart (pointers zs)) (f ∙ ap (λ zs. cell g.ptr l None ∷ zs) e) d;
     count = j.count ∙ ap length (f ∙ ap (λ zs. cell g.ptr l None ∷ zs) e);
-    guard = j.guard g.ptr ∙ ap (λ zs. is_guard zs g.ptr) f ∙ ap (λ z. guard_of (links_of z)) (here cs g.ptr l (subst (λ zs. IsApart (pointers zs)) f d)) ∙ s;
+    guard = j.guard g.ptr ∙ ap (λ zs. is_guard zs g.ptr) f ∙ ap (λ z. guard_of (links_of z)) (cell_at-added cs g.ptr l (subst (λ zs. IsApart (pointers zs)) f d)) ∙ s;
     plain = tt;
   }

@@ -10,8 +10,8 @@ use Rattle.lhm_ring.specs.RingState.{State, Held, IsHeld, AtHeld, linked_to}
 use Rattle.lhm_ring.specs.Index.{Spot, spot, spots, PutsIn, IsRearranged, IsChain, is_in, HasChain, Indexes}
 use Rattle.lhm_ring.specs.Search.{OfNodeAt, IsLast, IsOnChain}
 use Rattle.lhm_ring.proofs.Rearranged.{PutsIn-middle, IsRearranged-less, IsRearranged-more}
-use Rattle.lhm_ring.proofs.Chains.{held_of, ChainFirst, chain_begins, IsRearranged-back, PutsIn-filter_in, PutsIn-spots, length-IsRearranged}
-use Rattle.lhm_ring.proofs.IndexChanges.{OnNode, on_node}
+use Rattle.lhm_ring.proofs.Chains.{held_of, ChainFirst, chain_begins, chain_none, IsRearranged-back, PutsIn-filter_in, PutsIn-spots, length-IsRearranged}
+use Rattle.lhm_ring.proofs.IndexTakes.{OnNode, on_node}
 
 -- on the way to the node at p, along its chain, which is cut behind it: here comes after before
 pub record IsTowards {K V : Type 0} (heads : List (Option Ptr)) (hash : ℕ) (nodes cut : List (Held (K × V))) (p : Ptr) (link before : Option Ptr) (here : Ptr) (passed : ℕ) : Type 0 where
@@ -209,13 +209,9 @@ towards_next {K} {V} {heads} {hash} {nodes} {cut} {p} {link} {before} {here} {pa
       passed_is = (omega (arith, k, m));
     }
 
-ends : (rest : List Spot) → IsChain None rest → rest ≡ []
-ends [] h = refl
-ends (s ∷ rest) h = absurd (let e : None ≡ Some s.at = h.0 in cc)
-
 pub towards_end : {K V : Type 0} {heads : List (Option Ptr)} {hash : ℕ} {nodes cut : List (Held (K × V))} {p : Ptr} {link before : Option Ptr} {here : Ptr} {passed : ℕ} (read : Option Ptr) → IsTowards heads hash nodes cut p link before here passed → OfNodeAt cut here (λ x. read ≡ x.link) → read ≡ None → IsOnChain heads hash (spots nodes) before p
 towards_end {K} {V} {heads} {hash} {nodes} {cut} {p} {link} {before} read w r e =
-    let z : w.todo ≡ [] = ends w.todo (subst (λ (v : Option Ptr). IsChain v w.todo) e (rest_on read w r)) in
+    let z : w.todo ≡ [] = chain_none w.todo (subst (λ (v : Option Ptr). IsChain v w.todo) e (rest_on read w r)) in
     let same : w.us ≡ w.done = fronts w.us (spot (linked_to None w.x)) w.done w.node (w.whole ∙ ap (λ (v : List Spot). w.done ++ w.node ∷ v) z) in
     record {
       done = w.us;

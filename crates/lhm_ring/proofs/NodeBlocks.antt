@@ -9,7 +9,7 @@ use Rattle.lhm_ring.specs.Rings.{one_of, HasContent, listed, ring_list, RingOk}
 use Rattle.lhm_ring.specs.RingState.{State, state, Held, first_at, last_of, last_at}
 use Rattle.lhm_ring.specs.declared.link.Link.{Link}
 use Rattle.lhm_ring.proofs.Lookup.{all_at}
-use Rattle.lhm_ring.proofs.Moves.{ring_listed}
+use Rattle.lhm_ring.proofs.RingNodes.{ring_listed}
 use Rattle.lhm_ring.proofs.Options.{none_some, some_same}
 use Rattle.lhm_ring.proofs.Rows.{content_pointer}
 use Rattle.lhm_ring.proofs.Writes.{content_links}

@@ -11,7 +11,7 @@ use Rattle.lhm_ring.specs.Targets.{target}
 use Rattle.lhm_ring.specs.declared.link.Link.{Link}
 use Rattle.lhm_ring.proofs.Apart.{IsFresh, same_ptr_eq}
 use Rattle.lhm_ring.proofs.Rows.{all_two, all_both, all_left, all_right, apart_at, apart_out}
-use Rattle.lhm_ring.proofs.Moves.{ring_listed}
+use Rattle.lhm_ring.proofs.RingNodes.{ring_listed}
 use Rattle.lhm_ring.proofs.OneNodeChanged.{row_other, chain_other, held_other, listed_other}
 use Rattle.lhm_ring.proofs.PutBackAndUnlink.{Ready, ready}
 
@@ -28,13 +28,13 @@ module _ {B : Type 0} (p : Ptr) where
         | false ↦ λ s. ap (λ o. cond (same_ptr c.at q) (Some c) o) (other cs q n)
       ]) refl
 
-  pub shorter : (cs : List (Cell Links B)) → is_there cs p ≡ true → length cs ≡ suc (length (without p cs))
+  pub length-without : (cs : List (Cell Links B)) → is_there cs p ≡ true → length cs ≡ suc (length (without p cs))
   unfolding cell_at without
-  shorter [] e = absurd (false_true e)
-  shorter (c ∷ cs) e =
+  length-without [] e = absurd (false_true e)
+  length-without (c ∷ cs) e =
       (elim (same_ptr c.at p) as (λ y. same_ptr c.at p ≡ y → has_links (links_of (cond y (Some c) (cell_at cs p))) ≡ true → length (c ∷ cs) ≡ suc (length (cond y cs (c ∷ without p cs)))) [
         | true ↦ λ s h. omega arith
-        | false ↦ λ s h. let a = shorter cs h in omega arith
+        | false ↦ λ s h. let a = length-without cs h in omega arith
       ]) refl e
 
 module _ {B : Type 0} (cs : List (Cell Links B)) (g : Ptr) (ps : List Ptr) (p : Ptr) (ss : List Ptr) (r : IsRing cs g ps (Some p) (p ∷ ss)) where
@@ -53,14 +53,14 @@ module _ {B : Type 0} (cs : List (Cell Links B)) (g : Ptr) (ps : List Ptr) (p : 
   stays : (qs : List Ptr) → AllByRecursion P qs → AllByRecursion T qs → AllByRecursion (λ q. is_there ds q ≡ true) qs
   stays = all_two P T (λ q. is_there ds q ≡ true) (λ q n h. ap (λ z. has_links (links_of z)) (other p cs q n) ∙ h)
 
-  pub less : IsRing ds g ps (link_at cs p) ss
-  less = record {
+  pub IsRing-without : IsRing ds g ps (link_at cs p) ss
+  IsRing-without = record {
     linked = row_other cs ds p (other p cs) (g ∷ (ps ++ g ∷ [])) (free.0, all_both P ps (g ∷ []) (all_left P ps ss free.1) (free.0, tt)) r.linked;
     chained = chain_other cs ds p (other p cs) (link_at cs p) ss (all_right P ps ss free.1) r.chained.1;
     held = held_other cs ds p (other p cs) ps (all_left P ps ss free.1) r.held;
     there = stays (g ∷ (ps ++ ss)) free (r.there.0, all_both T ps ss (all_left T ps (p ∷ ss) r.there.1) (all_right T ps (p ∷ ss) r.there.1).1);
     apart = apart_out (g ∷ ps) p ss r.apart;
-    count = let a = shorter p cs (all_right T ps (p ∷ ss) r.there.1).0 in let b = r.count in omega arith;
+    count = let a = length-without p cs (all_right T ps (p ∷ ss) r.there.1).0 in let b = r.count in omega arith;
     guard = ap (λ z. guard_of (links_of z)) (other p cs g free.0) ∙ r.guard;
     plain = all_two P (λ q. is_guard cs q ≡ false) (λ q. is_guard ds q ≡ false) (λ q n h. ap (λ z. guard_of (links_of z)) (other p cs q n) ∙ h) ss (all_right P ps ss free.1) r.plain.1;
   }
@@ -74,7 +74,7 @@ module _ {B : Type 0} (cs : List (Cell Links B)) (guard : Option NodePointer) (s
   r = ready cs guard spare g at n m v e f ok w pos
 
   made : IsRing ds g.ptr r.row (target la.link) r.others
-  made = subst (λ z. IsRing ds g.ptr r.row z r.others) (ap link_of ea) (subst (λ zs. IsRing zs g.ptr r.row (link_at cs at.ptr) r.others) (sym d) (less cs g.ptr r.row at.ptr r.others r.ring))
+  made = subst (λ z. IsRing ds g.ptr r.row z r.others) (ap link_of ea) (subst (λ zs. IsRing zs g.ptr r.row (link_at cs at.ptr) r.others) (sym d) (IsRing-without cs g.ptr r.row at.ptr r.others r.ring))
 
   pub less_ring : RingOk ds guard la.link n (m - 1)
   less_ring = let a = r.wide in let b = r.small in subst (λ z. RingOk ds z la.link n (m - 1)) (sym e) (r.row, r.others, made, r.long, omega arith, omega arith)

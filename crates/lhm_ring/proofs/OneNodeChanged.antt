@@ -127,8 +127,8 @@ module _ {B : Type 0} (cs ds es fs : List (Cell Links B)) (g : Ptr) (ps : List P
   put_there : AllByRecursion T ((ps ++ p ∷ []) ++ ss)
   put_there = subst (AllByRecursion T) (sym (append_assoc ps (p ∷ []) ss)) r.there.1
 
-  pub put : IsRing fs g (ps ++ p ∷ []) (link_at cs p) ss
-  put = record {
+  pub IsRing-put_back : IsRing fs g (ps ++ p ∷ []) (link_at cs p) ss
+  IsRing-put_back = record {
     linked = into_row ds es fs g ps p apart_row free_row row_there k₁ l;
     chained = chain_kept es fs p g l (link_at cs p) ss (chain_kept ds es _ p k₁ (link_at cs p) ss (chain_other cs ds p o.other (link_at cs p) ss free_chain r.chained.1));
     held = let qs = ps ++ p ∷ [] in held_kept es fs p g l qs (held_kept ds es _ p k₁ qs (all_both (HasContent ds) ps (p ∷ []) (held_other cs ds p o.other ps free_row.1 r.held) ((t, c), tt)));
@@ -139,8 +139,8 @@ module _ {B : Type 0} (cs ds es fs : List (Cell Links B)) (g : Ptr) (ps : List P
     plain = all_two (λ q. same_ptr p q ≡ false) (λ q. is_guard cs q ≡ false) (λ q. is_guard fs q ≡ false) (λ q n h. l.guard q ∙ k₁.guard q ∙ ap (λ z. guard_of (links_of z)) (o.other q n) ∙ h) ss free_chain r.plain.1;
   }
 
-  pub put_listed : listed fs (ps ++ p ∷ []) ≡ listed cs ps ++ t ∷ []
-  put_listed =
+  pub listed-put_back : listed fs (ps ++ p ∷ []) ≡ listed cs ps ++ t ∷ []
+  listed-put_back =
       let qs = ps ++ p ∷ [] in listed_kept es fs p g l qs ∙ listed_kept ds es _ p k₁ qs ∙ listed-append ds ps (p ∷ []) ∙ (λ i. listed_other cs ds p o.other ps free_row.1 i ++ listed_one ds p t c i)
 
 -- a held node p comes out, and is the first spare one
@@ -169,8 +169,8 @@ module _ {B : Type 0} (cs ds es : List (Cell Links B)) (g : Ptr) (spare : Option
       let held = all_left T₂ (us ++ p ∷ vs) ss r.there.1 in
       (r.there.0, all_both T₂ (us ++ vs) (p ∷ ss) (all_swap T₂ us p vs held) ((all_right T₂ us (p ∷ vs) held).0, all_right T₂ (us ++ p ∷ vs) ss r.there.1))
 
-  pub gone : IsRing es g (us ++ vs) (Some p) (p ∷ ss)
-  gone = record {
+  pub IsRing-unlinked : IsRing es g (us ++ vs) (Some p) (p ∷ ss)
+  IsRing-unlinked = record {
     linked = row_other ds es p o.other (g ∷ ((us ++ vs) ++ g ∷ [])) (free.0, all_both (λ q. same_ptr p q ≡ false) (us ++ vs) (g ∷ []) free_held (free.0, tt)) out;
     chained = (refl, subst (λ z. Chained es z ss) (sym h) (chain_other ds es p o.other spare ss (all_right (λ q. same_ptr p q ≡ false) (us ++ vs) ss free.1) (chain_kept cs ds a b j spare ss r.chained)));
     held = held_other ds es p o.other (us ++ vs) free_held (held_kept cs ds a b j (us ++ vs) (all_swap (HasContent cs) us p vs r.held));
@@ -184,5 +184,5 @@ module _ {B : Type 0} (cs ds es : List (Cell Links B)) (g : Ptr) (spare : Option
     );
   }
 
-  pub gone_listed : listed es (us ++ vs) ≡ listed cs us ++ listed cs vs
-  gone_listed = listed_other ds es p o.other (us ++ vs) free_held ∙ listed_kept cs ds a b j (us ++ vs) ∙ listed-append cs us vs
+  pub listed-unlinked : listed es (us ++ vs) ≡ listed cs us ++ listed cs vs
+  listed-unlinked = listed_other ds es p o.other (us ++ vs) free_held ∙ listed_kept cs ds a b j (us ++ vs) ∙ listed-append cs us vs

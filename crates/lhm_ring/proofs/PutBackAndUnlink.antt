@@ -14,8 +14,9 @@ use Rattle.lhm_ring.proofs.Apart.{same_ptr_refl}
 use Rattle.lhm_ring.proofs.Options.{some_same}
 use Rattle.lhm_ring.proofs.Writes.{links_set, is_at}
 use Rattle.lhm_ring.proofs.Rows.{all_left, all_last, all_right, cut_row}
-use Rattle.lhm_ring.proofs.Moves.{NodeAt, found_in, node_in, node_at, opened, ring_listed, out, p_there}
-use Rattle.lhm_ring.proofs.OneNodeChanged.{OnlyAt, links_kept, body_set, only_links, only_body, only_both, content_hash, content_guard, content_pair, content_holds, put, put_listed, gone, gone_listed}
+use Rattle.lhm_ring.proofs.RingNodes.{NodeAt, found_in, node_in, node_at, RingOk-guard, ring_listed}
+use Rattle.lhm_ring.proofs.Moves.{Linked-joined, p_there}
+use Rattle.lhm_ring.proofs.OneNodeChanged.{OnlyAt, links_kept, body_set, only_links, only_body, only_both, content_hash, content_guard, content_pair, content_holds, IsRing-put_back, listed-put_back, IsRing-unlinked, listed-unlinked}
 
 -- the links of the node at p once they are written
 here_set : {B : Type 0} (p : Ptr) (l : Links) (cs : List (Cell Links B)) (la : Links) → links_at cs p ≡ Some la → links_at (with_links p l cs) p ≡ Some l
@@ -47,7 +48,7 @@ module _ {B : Type 0} (cs : List (Cell Links B)) where
 
   pub ready : (guard : Option NodePointer) (spare : Link) (g at : NodePointer) (n m : ℕ) (v : State B) → guard ≡ Some g → target spare ≡ Some at.ptr → RingOk cs guard spare n m → state (ring_list cs guard n) m ≡ v → 0 < v.spares → Ready cs g at n m
   ready guard spare g at n m v e f ok w h =
-      let o = opened cs guard spare g n m e ok in
+      let o = RingOk-guard cs guard spare g n m e ok in
       ready_at g at n m o.0 o.1 (subst (λ z. IsRing cs g.ptr o.0 z o.1) f o.2) o.3 o.4 o.5 (subst (λ k. 0 < k) (sym (ap (λ (z : State B). z.spares) w)) h)
 
 module _ {B : Type 0} (cs : List (Cell Links B)) (guard : Option NodePointer) (spare : Link) (g at : NodePointer) (n m : ℕ) (v : State B) (e : guard ≡ Some g) (f : target spare ≡ Some at.ptr) (ok : RingOk cs guard spare n m) (w : state (ring_list cs guard n) m ≡ v)
@@ -63,11 +64,11 @@ module _ {B : Type 0} (cs : List (Cell Links B)) (guard : Option NodePointer) (s
     abbrev l : Links
     l = record la { link = unlinked; hash = hash }
 
-    pub still : links_at c₁ at.ptr ≡ Some l
-    still = ap (λ z. links_at z at.ptr) e₁ ∙ here_set at.ptr l cs la ea
+    pub links_at-filled : links_at c₁ at.ptr ≡ Some l
+    links_at-filled = ap (λ z. links_at z at.ptr) e₁ ∙ here_set at.ptr l cs la ea
 
     only : OnlyAt cs c₂ at.ptr
-    only = only_both cs c₁ c₂ at.ptr (subst (λ z. OnlyAt cs z at.ptr) (sym e₁) (only_links at.ptr l cs la ea)) (subst (λ z. OnlyAt c₁ z at.ptr) (sym e₂) (only_body at.ptr (Some x) c₁ l still))
+    only = only_both cs c₁ c₂ at.ptr (subst (λ z. OnlyAt cs z at.ptr) (sym e₁) (only_links at.ptr l cs la ea)) (subst (λ z. OnlyAt c₁ z at.ptr) (sym e₂) (only_body at.ptr (Some x) c₁ l links_at-filled))
 
     pub put_there : (is_there c₂ lg.prev.ptr ≡ true) × (is_there c₂ at.ptr ≡ true)
     put_there =
@@ -81,8 +82,8 @@ module _ {B : Type 0} (cs : List (Cell Links B)) (guard : Option NodePointer) (s
     filled : content_at c₂ at.ptr ≡ Some (held at.ptr hash None x)
     filled =
         let p = at.ptr in
-        let k : links_at c₂ p ≡ Some l = ap (λ z. links_at z p) e₂ ∙ links_kept p (Some x) c₁ l still p ∙ still in
-        let b : body_at c₂ p ≡ Some x = ap (λ z. body_at z p) e₂ ∙ body_set p (Some x) c₁ l still in
+        let k : links_at c₂ p ≡ Some l = ap (λ z. links_at z p) e₂ ∙ links_kept p (Some x) c₁ l links_at-filled p ∙ links_at-filled in
+        let b : body_at c₂ p ≡ Some x = ap (λ z. body_at z p) e₂ ∙ body_set p (Some x) c₁ l links_at-filled in
         let own : (la.guard == 1) ≡ false = sym (ap guard_of ea) ∙ r.ring.plain.0 in
         (λ i. content_of p (k i) (b i)) ∙ ap (λ y. cond y None (Some (held p hash (target unlinked) x))) own ∙ ap (λ o. Some (held p hash o x)) en
 
@@ -91,7 +92,7 @@ module _ {B : Type 0} (cs : List (Cell Links B)) (guard : Option NodePointer) (s
       j₁ = subst (λ z. IsJoined c₂ c₃ z at.ptr) (sym (ap prev_of eg)) j
 
       made : IsRing c₄ g.ptr (r.row ++ at.ptr ∷ []) (link_at cs at.ptr) r.others
-      made = put cs c₂ c₃ c₄ g.ptr r.row (Some at.ptr) at.ptr r.others r.ring only j₁ k (held at.ptr hash None x) filled
+      made = IsRing-put_back cs c₂ c₃ c₄ g.ptr r.row (Some at.ptr) at.ptr r.others r.ring only j₁ k (held at.ptr hash None x) filled
 
       longer : length (r.row ++ at.ptr ∷ []) ≡ n + 1
       longer = let a = r.long in omega (arith, length-append r.row (at.ptr ∷ []))
@@ -106,7 +107,7 @@ module _ {B : Type 0} (cs : List (Cell Links B)) (guard : Option NodePointer) (s
           let p = at.ptr in
           let old : listed cs r.row ≡ v.held = sym (ring_listed cs g.ptr r.row (Some p) (p ∷ r.others) n r.ring r.long) ∙ sym (ap (λ o. ring_list cs o n) e) ∙ ap (λ (z : State B). z.held) w in
           let new : ring_list c₄ guard (n + 1) ≡ v.held ++ held p hash None x ∷ [] = ap (λ o. ring_list c₄ o (n + 1)) e ∙ ring_listed c₄ g.ptr (r.row ++ p ∷ []) (link_at cs p) r.others (n + 1) made longer
-          ∙ put_listed cs c₂ c₃ c₄ g.ptr r.row (Some p) p r.others r.ring only j₁ k (held p hash None x) filled ∙ ap (λ hs. hs ++ held p hash None x ∷ []) old in
+          ∙ listed-put_back cs c₂ c₃ c₄ g.ptr r.row (Some p) p r.others r.ring only j₁ k (held p hash None x) filled ∙ ap (λ hs. hs ++ held p hash None x ∷ []) old in
           λ i. state (new i) ((ap (λ (z : State B). z.spares) w i) - 1)
 
 -- the node at `at` is joined past, gives its body up, and is the first spare one
@@ -150,7 +151,7 @@ module _ {B : Type 0} (cs : List (Cell Links B)) (guard : Option NodePointer) (s
           ∙ ap guard_of (links_kept at.ptr None ds a.0 a.1 at.ptr) ∙ j.guard at.ptr ∙ content_guard at.ptr (links_at cs at.ptr) (body_at cs at.ptr) h.node (ap (content_at cs) (sym h.at_is) ∙ f.here)
 
       left : IsHeld v.held at.ptr → (s : NodeAt cs g spare n m at.ptr) → IsRing c₂ g.ptr (s.before ++ s.after) (Some at.ptr) (at.ptr ∷ s.others)
-      left h s = gone cs ds c₂ g.ptr (target spare) s.others s.before at.ptr s.after s.ring _ _ j₂ (out cs g.ptr (target spare) s.others s.before at.ptr s.after s.ring ds j₂) (only₂ h) (spare₂ h) (plain₂ h)
+      left h s = IsRing-unlinked cs ds c₂ g.ptr (target spare) s.others s.before at.ptr s.after s.ring _ _ j₂ (Linked-joined cs g.ptr (target spare) s.others s.before at.ptr s.after s.ring ds j₂) (only₂ h) (spare₂ h) (plain₂ h)
 
       shorter : (s : NodeAt cs g spare n m at.ptr) → length (s.before ++ s.after) ≡ n - 1
       shorter s = let a = s.long in omega (arith, length-append s.before (at.ptr ∷ s.after), length-append s.before s.after)
@@ -167,7 +168,7 @@ module _ {B : Type 0} (cs : List (Cell Links B)) (guard : Option NodePointer) (s
           let q = node_at at.ptr f here in let s = q.0 in
           let list : ring_list c₂ guard (n - 1) ≡ xs ++ ys = ap (λ o. ring_list c₂ o (n - 1)) e
           ∙ ring_listed c₂ g.ptr (s.before ++ s.after) (Some at.ptr) (at.ptr ∷ s.others) (n - 1) (left h s) (shorter s)
-          ∙ gone_listed cs ds c₂ g.ptr (target spare) s.others s.before at.ptr s.after s.ring _ _ j₂ (out cs g.ptr (target spare) s.others s.before at.ptr s.after s.ring ds j₂) (only₂ h) (spare₂ h) (plain₂ h)
+          ∙ listed-unlinked cs ds c₂ g.ptr (target spare) s.others s.before at.ptr s.after s.ring _ _ j₂ (Linked-joined cs g.ptr (target spare) s.others s.before at.ptr s.after s.ring ds j₂) (only₂ h) (spare₂ h) (plain₂ h)
           ∙ (λ i. q.1 i ++ q.2 i) in
           let hash : t.hash ≡ la.hash = content_hash at.ptr la (body_at cs at.ptr) t (ap (λ o. content_of at.ptr o (body_at cs at.ptr)) (sym ea) ∙ c) in
           let pair : t.pair ≡ x = content_pair at.ptr (links_at ds at.ptr) x t (ap (λ b. content_of at.ptr (links_at ds at.ptr) b) (sym ex) ∙ j.content at.ptr ∙ c) in

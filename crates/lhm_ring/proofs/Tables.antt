@@ -14,7 +14,7 @@ use Rattle.lhm_ring.specs.TableAfterLoan.{with_value as write}
 use Rattle.lhm_ring.specs.Tables.{IsTable, TableState, WritesOnly, table_of}
 use Rattle.lhm_ring.proofs.BucketCounts.{buckets_raised, buckets_lt, capacity_le, raised_more}
 use Rattle.lhm_ring.proofs.Chains.{count-cons}
-use Rattle.lhm_ring.proofs.IndexChanges.{IsHeld-kept, HasKey-kept}
+use Rattle.lhm_ring.proofs.Entries.{IsHeld-kept, HasKey-kept}
 use Rattle.lhm_ring.proofs.IndexMoves.{spots-value}
 use Rattle.lhm_ring.proofs.IndexedRing.{indexed_value, indexed_to_back}
 
@@ -174,8 +174,8 @@ module _ {K V : Type 0} (s : State (K × V)) (r : ℕ) {m : TableState (K × V)}
   spares_in room = let l = length_in in let c = capacity_in in omega (arith, l, c, room)
 
   -- a value was written at p
-  pub written : (p : Ptr) (w : V) → table_of (with_value s p w) r ≡ write m p w
-  written p w =
+  pub table_of-value : (p : Ptr) (w : V) → table_of (with_value s p w) r ≡ write m p w
+  table_of-value p w =
       let count = sym (length-map (change_at p (revalued w) s.held) spot) ∙ ap length (spots-value p w s.held) ∙ length-map s.held spot in
       (λ i. record { held = entries-change_at p w s.held i; capacity = count i + s.spares; rechained = r })
       ∙ ap (λ (z : TableState (K × V)). write z p w) seen
@@ -187,8 +187,8 @@ module _ {K V : Type 0} (s : State (K × V)) (r : ℕ) {m : TableState (K × V)}
       ∙ ap entries (alone xs t ys e at (revalued w)) ∙ entries-append xs (revalued w t ∷ ys))
 
   -- all that was held is out
-  pub drained : table_of (state [] (s.spares + length s.held)) r ≡ record m { held = [] }
-  drained =
+  pub table_of-drained : table_of (state [] (s.spares + length s.held)) r ≡ record m { held = [] }
+  table_of-drained =
       let room : 0 + (s.spares + length s.held) ≡ length s.held + s.spares = omega arith in
       (λ i. record (table_of (state {B = K × V} [] (s.spares + length s.held)) r) { capacity = room i })
       ∙ ap (λ (z : TableState (K × V)). record z { held = [] }) seen

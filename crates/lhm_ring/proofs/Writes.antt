@@ -109,10 +109,10 @@ module _ {B : Type 0} where
   pub is_still_at : (cs ds : List (Cell Links B)) (p : Ptr) (l la : Links) (q : Ptr) → links_at cs p ≡ Some la → ds ≡ with_links p l cs → is_there cs q ≡ true → IsAt ds q
   is_still_at cs ds p l la q e d t = is_at ds q (ap (λ es. is_there es q) d ∙ read_kept p l has_links cs la e refl q ∙ t)
 
-  pub joined : (cs es ds : List (Cell Links B)) (a b : NodePointer) (la lb : Links)
+  pub IsJoined-writes : (cs es ds : List (Cell Links B)) (a b : NodePointer) (la lb : Links)
       → links_at cs a.ptr ≡ Some la → es ≡ with_links a.ptr (record la { next = b }) cs
       → links_at es b.ptr ≡ Some lb → ds ≡ with_links b.ptr (record lb { prev = a }) es → IsJoined cs ds a.ptr b.ptr
-  joined cs es ds a b la lb ea e1 eb e2 =
+  IsJoined-writes cs es ds a b la lb ea e1 eb e2 =
       let l : Links = record la { next = b } in let m : Links = record lb { prev = a } in
       let fs : List (Cell Links B) = with_links a.ptr l cs in
       let ef : links_at fs b.ptr ≡ Some lb = sym (ap (λ zs. links_at zs b.ptr) e1) ∙ eb in

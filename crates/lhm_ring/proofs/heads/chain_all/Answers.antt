@@ -2,7 +2,7 @@ use Rattle.std.proofs.Common.{arith, ap, map, refl, ◌∙◌}
 use Rattle.std.proofs.lemmas.List.{length-map}
 use Rattle.lhm_ring.specs.Heads.{leads_to}
 use Rattle.lhm_ring.specs.Positions.{pointer_of, pointer_of_some}
-use Rattle.lhm_ring.proofs.IndexChanges.{rechain_start, rechain_held, rechain_room, rechain_some, rechain_more, rechain_next_held}
+use Rattle.lhm_ring.proofs.IndexPuts.{rechain_start, rechain_held, rechain_room, rechain_some, rechain_more, rechain_next_held}
 use Rattle.lhm_ring.proofs.heads.chain_all.Goals as goal
 
 pub loop-pointer-init : goal.loop-pointer-init

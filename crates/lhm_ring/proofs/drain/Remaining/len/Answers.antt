@@ -1,6 +1,6 @@
 use Rattle.std.proofs.Common.{◌∙◌, ap, length}
 use Rattle.lhm_ring.specs.ContentLoan.{with_bodies}
-use Rattle.lhm_ring.proofs.Splicing.{length_span}
+use Rattle.lhm_ring.proofs.Spans.{length_span}
 use Rattle.lhm_ring.proofs.drain.Remaining.len.Goals as goal
 
 pub returns : goal.returns

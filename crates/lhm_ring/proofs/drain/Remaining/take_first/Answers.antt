@@ -1,7 +1,7 @@
 use Rattle.std.proofs.Common.{◌∙◌, ◌-◌, ◌∷◌, ap, sym, subst}
 use Rattle.lhm_ring.specs.Rings.{IsSpan, span_triples}
 use Rattle.lhm_ring.specs.ContentLoan.{with_bodies}
-use Rattle.lhm_ring.proofs.Splicing.{none_listed, first_there, first_holds, rest_of_first, first_out}
+use Rattle.lhm_ring.proofs.Spans.{none_listed, first_there, first_holds, rest_of_first, first_out}
 use Rattle.lhm_ring.proofs.NodesWithBodies.{links_with_bodies, body_with_bodies, with_bodies_without}
 use Rattle.lhm_ring.proofs.drain.Remaining.take_first.Goals as goal
 

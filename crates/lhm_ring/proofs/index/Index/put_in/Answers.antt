@@ -1,7 +1,7 @@
 use Rattle.std.proofs.Common.{map}
 use Rattle.lhm_ring.specs.Heads.{leads_to}
 use Rattle.lhm_ring.specs.Positions.{pointer_of}
-use Rattle.lhm_ring.proofs.IndexChanges.{put_indexes_at}
+use Rattle.lhm_ring.proofs.IndexPuts.{put_indexes_at}
 use Rattle.lhm_ring.proofs.index.Index.put_in.Goals as goal
 
 pub returns-clause-indexed : goal.returns-clause-indexed

@@ -1,5 +1,5 @@
 use Rattle.lhm_ring.specs.Positions.{pointer_of}
-use Rattle.lhm_ring.proofs.IndexChanges.{HasKey-kept}
+use Rattle.lhm_ring.proofs.Entries.{HasKey-kept}
 use Rattle.lhm_ring.proofs.index.Index.take_out.Goals as goal
 
 pub returns-in-Some-clause-found : goal.returns-in-Some-clause-found

@@ -3,7 +3,8 @@ use Rattle.std.proofs.lemmas.List.{length-map, map-set}
 use Rattle.lhm_ring.specs.Heads.{leads_to}
 use Rattle.lhm_ring.specs.Positions.{pointer_of, pointer_of_some}
 use Rattle.lhm_ring.specs.Search.{HoldsOthers}
-use Rattle.lhm_ring.proofs.IndexChanges.{on_held, on_before_held, take_first_at, take_next, kept_by_link}
+use Rattle.lhm_ring.proofs.IndexTakes.{on_held, on_before_held, take_first_at, take_next}
+use Rattle.lhm_ring.proofs.Entries.{kept_by_link}
 use Rattle.lhm_ring.proofs.index.Index.unchain.Goals as goal
 
 pub link-link-requires : goal.link-link-requires

@@ -4,7 +4,7 @@ use Rattle.lhm_ring.specs.Cells.{links_at, with_body}
 use Rattle.lhm_ring.specs.RingState.{Held, state, change_at}
 use Rattle.lhm_ring.specs.RingAfterLoan.{pair, revalued}
 use Rattle.lhm_ring.specs.Rings.{RingOk, ring_list}
-use Rattle.lhm_ring.proofs.ReadAtPosition.{content, read_held, read_links, read_pair, held_in}
+use Rattle.lhm_ring.proofs.ReadAtPosition.{content_at-held, read_held, read_links, read_pair, held_in}
 use Rattle.lhm_ring.proofs.OneNodeChanged.{links_kept}
 use Rattle.lhm_ring.proofs.ContentChange.{body_changes, ring_ok_same, ring_list_changed, changes_only}
 use Rattle.lhm_ring.proofs.Retained.{body_twice}
@@ -33,7 +33,7 @@ invariant_of-self g c =
     let l = read_links cs i.guard i.spare i.len i.spares _ c.self.invariant c.self.view_is p h.before h.node h.after h.is h.at_is in
     let x = pair c.take-key.result.0 c.call-kept.new.value in
     let k = held_in cs i.guard i.spare i.len i.spares _ c.self.invariant c.self.view_is p h in
-    let j = body_changes cs p l.0 l.1 h.node (content cs i.guard i.spare i.len i.spares _ c.self.invariant c.self.view_is p h.before h.node h.after h.is h.at_is) x in
+    let j = body_changes cs p l.0 l.1 h.node (content_at-held cs i.guard i.spare i.len i.spares _ c.self.invariant c.self.view_is p h.before h.node h.after h.is h.at_is) x in
     subst (λ ds. RingOk ds i.guard i.spare i.len i.spares) (sym (c.fill.ensures ∙ ap (with_body p (Some x)) c.take-key.ensures.cells ∙ body_twice p x cs))
     (ring_ok_same cs _ p h.node _ j i.guard i.spare i.len i.spares c.self.invariant k)
 
@@ -45,7 +45,7 @@ returns-clause-called g c =
     let w = c.call-kept.new.value in
     let x = pair c.take-key.result.0 w in
     let is = read_pair cs i.guard i.spare i.len i.spares _ c.self.invariant v p _ c.take-key.ensures.body in
-    let j = body_changes cs p l.0 l.1 h.node (content cs i.guard i.spare i.len i.spares _ c.self.invariant v p h.before h.node h.after h.is h.at_is) x in
+    let j = body_changes cs p l.0 l.1 h.node (content_at-held cs i.guard i.spare i.len i.spares _ c.self.invariant v p h.before h.node h.after h.is h.at_is) x in
     let f : Held (g.row.K.Denot × g.row.V.Denot) → Held (g.row.K.Denot × g.row.V.Denot) = revalued w in
     let same = ap (λ (z : g.row.K.Denot × g.row.V.Denot). record h.node { pair = pair z.0 w }) (sym (is h.before h.node h.after h.is h.at_is)) in
     let q =

@@ -2,7 +2,7 @@ use Rattle.std.proofs.Common.{◌∙◌, ap}
 use Rattle.lhm_ring.specs.declared.links.Links.{Links}
 use Rattle.lhm_ring.specs.declared.nodes.Nodes.{Nodes}
 use Rattle.lhm_ring.proofs.DroppedRing.{all_gone, never_any}
-use Rattle.lhm_ring.proofs.Moves.{opened}
+use Rattle.lhm_ring.proofs.RingNodes.{RingOk-guard}
 use Rattle.lhm_ring.proofs.Writes.{is_at}
 use Rattle.lhm_ring.proofs.ring.Ring.destroy_empty.Goals.{in-Some, in_default}
 use Rattle.lhm_ring.proofs.ring.Ring.destroy_empty.Goals as goal
@@ -18,4 +18,4 @@ end-requires g c =
     ]
 
 pub remove-room-requires : goal.remove-room-requires
-remove-room-requires g c = let i = c.self.inside in is_at _ _ (opened i.nodes.cells i.guard i.spare _ i.len i.spares c.in-Some.is c.self.invariant).2.there.0
+remove-room-requires g c = let i = c.self.inside in is_at _ _ (RingOk-guard i.nodes.cells i.guard i.spare _ i.len i.spares c.in-Some.is c.self.invariant).2.there.0

@@ -1,5 +1,5 @@
 use Rattle.std.proofs.Common.{◌∙◌, arith}
-use Rattle.lhm_ring.proofs.DroppedRing.{first_held, no_first, smaller}
+use Rattle.lhm_ring.proofs.DroppedRing.{first_held, no_first, length-removed}
 use Rattle.lhm_ring.proofs.ring.Ring.drop.Goals as goal
 
 pub unlink-key-requires : goal.unlink-key-requires
@@ -9,7 +9,7 @@ pub held-smaller : goal.held-smaller
 held-smaller g c =
     let h = first_held c.held.self.held c.in-Some.at.pointer.ptr c.in-Some.ensures in
     let u = c.unlink-key.ensures.others h.before h.node h.after h.is h.at_is in
-    smaller c.held.self.held c.drop_spare.new.self.held h.before h.node h.after h.is (c.drop_spare.ensures.held ∙ u)
+    length-removed c.held.self.held c.drop_spare.new.self.held h.before h.node h.after h.is (c.drop_spare.ensures.held ∙ u)
 
 pub destroy_empty-requires : goal.destroy_empty-requires
 destroy_empty-requires g c = no_first c.held.self.held c.in_default.ensures

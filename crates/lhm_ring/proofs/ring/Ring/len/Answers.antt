@@ -1,4 +1,4 @@
-use Rattle.lhm_ring.proofs.Moves.{ring_length, ring_bounded}
+use Rattle.lhm_ring.proofs.RingNodes.{ring_length, ring_bounded}
 use Rattle.lhm_ring.proofs.ring.Ring.len.Goals as goal
 
 pub returns : goal.returns

@@ -1,7 +1,8 @@
 use Rattle.std.proofs.Common.{◌≡◌, ◌∙◌, ap, subst, true}
 use Rattle.lhm_ring.specs.Rings.{next_of, prev_of, is_there}
 use Rattle.lhm_ring.proofs.Writes.{is_at}
-use Rattle.lhm_ring.proofs.Moves.{opened, guarded_in, node_in, p_there, prev_there, next_there, moving_there, moved_ring, moved_list}
+use Rattle.lhm_ring.proofs.RingNodes.{RingOk-guard, guarded_in, node_in}
+use Rattle.lhm_ring.proofs.Moves.{p_there, prev_there, next_there, moving_there, moved_ring, moved_list}
 use Rattle.lhm_ring.proofs.ValuesReplaced.{ring_apart}
 use Rattle.lhm_ring.proofs.ring.Ring.move_to_back.Goals as goal
 
@@ -41,4 +42,4 @@ returns g c =
 
 pub links-requires : goal.links-requires
 links-requires g c =
-    let i = c.self.inside in is_at _ _ (c.join.ensures.there c.unwrap-guard.result.ptr ∙ (opened i.nodes.cells i.guard i.spare _ i.len i.spares c.unwrap-guard.ensures c.self.invariant).2.there.0)
+    let i = c.self.inside in is_at _ _ (c.join.ensures.there c.unwrap-guard.result.ptr ∙ (RingOk-guard i.nodes.cells i.guard i.spare _ i.len i.spares c.unwrap-guard.ensures c.self.invariant).2.there.0)

@@ -1,8 +1,8 @@
 use Rattle.std.proofs.Common.{◌∙◌, ◌++◌, ◌∷◌, [], None, ap, sym, refl}
 use Rattle.lhm_ring.specs.declared.block.NodePointer.{NodePointer}
 use Rattle.lhm_ring.specs.RingState.{held}
-use Rattle.lhm_ring.proofs.PutBackAndUnlink.{spare_there, first_at, still, put_there, put_there_then, put_ring, put_list}
-use Rattle.lhm_ring.proofs.Moves.{opened}
+use Rattle.lhm_ring.proofs.PutBackAndUnlink.{spare_there, first_at, links_at-filled, put_there, put_there_then, put_ring, put_list}
+use Rattle.lhm_ring.proofs.RingNodes.{RingOk-guard}
 use Rattle.lhm_ring.proofs.Writes.{is_at}
 use Rattle.lhm_ring.proofs.ring.Ring.put_back.Goals as goal
 
@@ -19,7 +19,7 @@ pub fill-requires : goal.fill-requires
 fill-requires g c =
     let i = c.self.inside in (
       _,
-      still i.nodes.cells i.guard i.spare _ _ i.len i.spares _ c.unwrap-guard.ensures c.pointer-at.ensures.pointer c.self.invariant c.self.view_is c.requires _ _ c.links-old.ensures c.links.ensures c.args.hash
+      links_at-filled i.nodes.cells i.guard i.spare _ _ i.len i.spares _ c.unwrap-guard.ensures c.pointer-at.ensures.pointer c.self.invariant c.self.view_is c.requires _ _ c.links-old.ensures c.links.ensures c.args.hash
           (c.args.key, c.args.value) _ c.none.ensures _ _ c.set_links.ensures refl,
     )
 
@@ -52,7 +52,7 @@ returns g c =
     }
 
 pub links-requires : goal.links-requires
-links-requires g c = let i = c.self.inside in is_at _ _ (opened i.nodes.cells i.guard i.spare _ i.len i.spares c.unwrap-guard.ensures c.self.invariant).2.there.0
+links-requires g c = let i = c.self.inside in is_at _ _ (RingOk-guard i.nodes.cells i.guard i.spare _ i.len i.spares c.unwrap-guard.ensures c.self.invariant).2.there.0
 
 pub new-requires : goal.new-requires
 new-requires g c = c.pointer-at.ensures.block

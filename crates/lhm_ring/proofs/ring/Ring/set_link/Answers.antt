@@ -2,7 +2,7 @@ use Rattle.std.proofs.Common.{◌∙◌, ◌++◌, ◌∷◌, ap, sym, subst, re
 use Rattle.lhm_ring.specs.Rings.{RingOk, ring_list}
 use Rattle.lhm_ring.specs.RingState.{Held, linked_to, change_at}
 use Rattle.lhm_ring.proofs.NodeBlocks.{held_blocks}
-use Rattle.lhm_ring.proofs.ReadAtPosition.{content, read_at, held_in}
+use Rattle.lhm_ring.proofs.ReadAtPosition.{content_at-held, read_at, held_in}
 use Rattle.lhm_ring.proofs.ContentChange.{link_changes, ring_ok_same, ring_list_changed, changes_only}
 use Rattle.lhm_ring.proofs.ring.Ring.set_link.Goals as goal
 
@@ -12,14 +12,14 @@ relink-requires g c = let i = c.self.inside in read_at i.nodes.cells i.guard i.s
 pub invariant_of-self : goal.invariant_of-self
 invariant_of-self g c =
     let i = c.self.inside in let h = c.requires in let p = c.args.at.pointer.ptr in let cs = i.nodes.cells in let r = read_at i.nodes.cells i.guard i.spare i.len i.spares _ c.self.invariant c.self.view_is p h in let k = held_in i.nodes.cells i.guard i.spare i.len i.spares _ c.self.invariant c.self.view_is c.args.at.pointer.ptr h in
-    let j = link_changes cs p r.0 r.1 h.node (content i.nodes.cells i.guard i.spare i.len i.spares _ c.self.invariant c.self.view_is c.args.at.pointer.ptr h.before h.node h.after h.is h.at_is) c.of.result in
+    let j = link_changes cs p r.0 r.1 h.node (content_at-held i.nodes.cells i.guard i.spare i.len i.spares _ c.self.invariant c.self.view_is c.args.at.pointer.ptr h.before h.node h.after h.is h.at_is) c.of.result in
     let w = c.relink.ensures r.0 r.1 in
     subst (λ zs. RingOk zs i.guard i.spare i.len i.spares) (sym w) (ring_ok_same cs _ p h.node _ j i.guard i.spare i.len i.spares c.self.invariant k)
 
 pub returns : goal.returns
 returns g c =
     let i = c.self.inside in let h = c.requires in let p = c.args.at.pointer.ptr in let cs = i.nodes.cells in let r = read_at i.nodes.cells i.guard i.spare i.len i.spares _ c.self.invariant c.self.view_is p h in let k = held_in i.nodes.cells i.guard i.spare i.len i.spares _ c.self.invariant c.self.view_is c.args.at.pointer.ptr h in
-    let j = link_changes cs p r.0 r.1 h.node (content i.nodes.cells i.guard i.spare i.len i.spares _ c.self.invariant c.self.view_is c.args.at.pointer.ptr h.before h.node h.after h.is h.at_is) c.of.result in
+    let j = link_changes cs p r.0 r.1 h.node (content_at-held i.nodes.cells i.guard i.spare i.len i.spares _ c.self.invariant c.self.view_is c.args.at.pointer.ptr h.before h.node h.after h.is h.at_is) c.of.result in
     let w = c.relink.ensures r.0 r.1 in
     let f : Held (g.row.K.Denot × g.row.V.Denot) → Held (g.row.K.Denot × g.row.V.Denot) = linked_to _ in
     let e = ap (λ zs. ring_list zs i.guard i.len) w ∙ ring_list_changed cs _ p h.node _ j f refl i.guard i.len ∙ ap (λ z. change_at p f z.held) c.self.view_is in

@@ -1,4 +1,4 @@
-use Rattle.lhm_ring.proofs.Moves.{ring_bounded}
+use Rattle.lhm_ring.proofs.RingNodes.{ring_bounded}
 use Rattle.lhm_ring.proofs.ring.Ring.spares.Goals as goal
 
 pub returns-clause-bounded : goal.returns-clause-bounded

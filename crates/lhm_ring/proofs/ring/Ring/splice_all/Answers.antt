@@ -2,7 +2,7 @@ use Rattle.std.proofs.Common.{◌∙◌, ◌+◌, ap, sym, subst, refl}
 use Rattle.lhm_ring.specs.Rings.{IsSpan, span_triples}
 use Rattle.lhm_ring.specs.RingState.{state, triples}
 use Rattle.lhm_ring.specs.ContentLoan.{with_bodies}
-use Rattle.lhm_ring.proofs.Moves.{ring_length}
+use Rattle.lhm_ring.proofs.RingNodes.{ring_length}
 use Rattle.lhm_ring.proofs.NodesWithBodies.{with_own_bodies, ring_ok_cleared, none_cleared}
 use Rattle.lhm_ring.proofs.ring.Ring.splice_all.Goals as goal
 

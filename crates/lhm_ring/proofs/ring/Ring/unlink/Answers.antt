@@ -2,7 +2,8 @@ use Rattle.std.proofs.Common.{◌≡◌, ap, subst, true}
 use Rattle.lhm_ring.specs.Rings.{next_of, prev_of, is_there}
 use Rattle.lhm_ring.proofs.Options.{some_there}
 use Rattle.lhm_ring.proofs.Writes.{is_at}
-use Rattle.lhm_ring.proofs.Moves.{guarded_in, node_in, p_there, prev_there, next_there}
+use Rattle.lhm_ring.proofs.RingNodes.{guarded_in, node_in}
+use Rattle.lhm_ring.proofs.Moves.{p_there, prev_there, next_there}
 use Rattle.lhm_ring.proofs.PutBackAndUnlink.{taken_holds, taken_at, some_held, taken_ring, taken_list}
 use Rattle.lhm_ring.proofs.ring.Ring.unlink.Goals as goal
 

@@ -4,7 +4,7 @@ use Rattle.lhm_ring.specs.RingState.{Held, state, change_at}
 use Rattle.lhm_ring.specs.RingAfterLoan.{pair, revalued}
 use Rattle.lhm_ring.specs.NodesAfterLoan.{value_set}
 use Rattle.lhm_ring.specs.Cells.{with_body}
-use Rattle.lhm_ring.proofs.ReadAtPosition.{content, read_held, read_links, read_pair, held_in}
+use Rattle.lhm_ring.proofs.ReadAtPosition.{content_at-held, read_held, read_links, read_pair, held_in}
 use Rattle.lhm_ring.proofs.ContentChange.{body_changes, ring_ok_same, ring_list_changed, changes_only}
 use Rattle.lhm_ring.proofs.ring.Ring.value_mut.Goals as goal
 
@@ -16,7 +16,7 @@ invariant_of-self-lent g c w =
     let i = c.self.inside in let h = c.requires in let p = c.args.at.pointer.ptr in let cs = i.nodes.cells in
     let l = read_links cs i.guard i.spare i.len i.spares _ c.self.invariant c.self.view_is p h.before h.node h.after h.is h.at_is in
     let b = c.value_mut.ensures.value in let k = held_in cs i.guard i.spare i.len i.spares _ c.self.invariant c.self.view_is p h in
-    let j = body_changes cs p l.0 l.1 h.node (content cs i.guard i.spare i.len i.spares _ c.self.invariant c.self.view_is p h.before h.node h.after h.is h.at_is) (pair b.0 w) in
+    let j = body_changes cs p l.0 l.1 h.node (content_at-held cs i.guard i.spare i.len i.spares _ c.self.invariant c.self.view_is p h.before h.node h.after h.is h.at_is) (pair b.0 w) in
     subst (λ o. RingOk (with_body p (value_set w o) cs) i.guard i.spare i.len i.spares) (sym b.1) (ring_ok_same cs _ p h.node _ j i.guard i.spare i.len i.spares c.self.invariant k)
 
 pub returns : goal.returns
@@ -28,7 +28,7 @@ returns g c =
       (
         refl,
         λ w.
-            let j = body_changes cs p l.0 l.1 h.node (content cs i.guard i.spare i.len i.spares _ c.self.invariant c.self.view_is p h.before h.node h.after h.is h.at_is) (pair b.0 w) in
+            let j = body_changes cs p l.0 l.1 h.node (content_at-held cs i.guard i.spare i.len i.spares _ c.self.invariant c.self.view_is p h.before h.node h.after h.is h.at_is) (pair b.0 w) in
             let f : Held (g.row.K.Denot × g.row.V.Denot) → Held (g.row.K.Denot × g.row.V.Denot) = revalued w in
             let same = ap (λ (z : g.row.K.Denot × g.row.V.Denot). record h.node { pair = pair z.0 w }) (sym (is h.before h.node h.after h.is h.at_is)) in
             let q = ap (λ o. ring_list (with_body p (value_set w o) cs) i.guard i.len) b.1 ∙ ring_list_changed cs _ p h.node _ j f same i.guard i.len in

@@ -2,7 +2,7 @@ use Rattle.std.proofs.Common.{ap, subst, sym, ◌∙◌}
 use Rattle.std.specs.Map.Calls.{CalledAtPair, TakesPair}
 use Rattle.lhm_ring.specs.Positions.{pointer_of}
 use Rattle.lhm_ring.specs.Tables.{IsTable, table_of}
-use Rattle.lhm_ring.proofs.Tables.{at_held, written, writes_only, IsTable-value}
+use Rattle.lhm_ring.proofs.Tables.{at_held, table_of-value, writes_only, IsTable-value}
 use Rattle.lhm_ring.proofs.Retained.{taken_in}
 use Rattle.lhm_ring.proofs.table.Table.call_at.Goals as goal
 
@@ -21,7 +21,7 @@ returns-clause-called g c =
     let called = c.call_at.ensures.called in (
       called.0,
       at_held i.ring i.rechained c.self.view_is p (λ xs t ys. CalledAtPair g.F.FnMut c.args.keep.now t.pair.0 t.pair.1 c.call_at.result called.0 c.call_at.new.keep) called.1,
-      ap (λ s. table_of s i.rechained) called.2 ∙ written i.ring i.rechained c.self.view_is p called.0,
+      ap (λ s. table_of s i.rechained) called.2 ∙ table_of-value i.ring i.rechained c.self.view_is p called.0,
     )
 
 pub returns-clause-alone : goal.returns-clause-alone

@@ -1,13 +1,13 @@
 use Rattle.std.proofs.Common.{refl, sym, ap, ◌∙◌}
 use Rattle.lhm_ring.specs.RingState.{triples}
 use Rattle.lhm_ring.specs.Tables.{TableState}
-use Rattle.lhm_ring.proofs.Tables.{drained, triples-entries}
+use Rattle.lhm_ring.proofs.Tables.{table_of-drained, triples-entries}
 use Rattle.lhm_ring.proofs.table.Table.drain.Goals as goal
 
 pub returns : goal.returns
 returns g c =
     let i = c.self.inside in (
-      (refl, λ _. drained i.ring i.rechained c.self.view_is),
+      (refl, λ _. table_of-drained i.ring i.rechained c.self.view_is),
       record {
         writes_back = tt;
         rest = c.splice_all.ensures.rest ∙ sym (triples-entries i.ring.held) ∙ ap (λ (z : TableState (g.row.K.Denot × g.row.V.Denot)). triples z.held) c.self.view_is;

@@ -1,7 +1,7 @@
 use Rattle.std.proofs.Common.{◌≡◌, ◌++◌, sym, ap, ◌∙◌, arith}
 use Rattle.lhm_ring.specs.Positions.{pointer_of}
 use Rattle.lhm_ring.specs.Search.{entries}
-use Rattle.lhm_ring.proofs.IndexChanges.{HasKey-kept}
+use Rattle.lhm_ring.proofs.Entries.{HasKey-kept}
 use Rattle.lhm_ring.proofs.Tables.{IsAbsent-entries, HasKey-entries, at_entries, capacity_in, entries-append, IsTable-removed, all_nodes}
 use Rattle.lhm_ring.proofs.table.Table.remove.Goals as goal
 

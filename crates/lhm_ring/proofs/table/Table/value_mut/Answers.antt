@@ -1,6 +1,6 @@
 use Rattle.std.proofs.Common.{◌≡◌, refl}
 use Rattle.lhm_ring.specs.Positions.{pointer_of}
-use Rattle.lhm_ring.proofs.Tables.{held_in, at_held, written, writes_only, IsTable-value}
+use Rattle.lhm_ring.proofs.Tables.{held_in, at_held, table_of-value, writes_only, IsTable-value}
 use Rattle.lhm_ring.proofs.table.Table.value_mut.Goals as goal
 
 pub value_mut-requires : goal.value_mut-requires
@@ -13,7 +13,7 @@ pub returns : goal.returns
 returns g c =
     let i = c.self.inside in
     let p = pointer_of c.args.at in (
-      (refl, λ w. written i.ring i.rechained c.self.view_is p w),
+      (refl, λ w. table_of-value i.ring i.rechained c.self.view_is p w),
       record {
         writes_back = tt;
         value = at_held i.ring i.rechained c.self.view_is p (λ xs t ys. c.value_mut.result.now ≡ t.pair.1) c.value_mut.ensures.value;

@@ -1,0 +1,102 @@
+-- A node is put into its chain, and all nodes are, one after another.
+use Rattle.std.proofs.Common.{◌≡◌, ℕ, ◌+◌, ◌%◌, ◌<◌, ◌≤◌, List, [], ◌∷◌, ◌++◌, inl, inr, refl, sym, ◌∙◌, ap, subst, length, get_or, set, arith, Option, Some, None, append_assoc, length-append, append-nil}
+use Rattle.std.proofs.lemmas.Bool.{cases_lt}
+use Rattle.std.proofs.lemmas.List.{length-map, length-set}
+use denote.RawPtr.{Ptr}
+use Rattle.lhm_ring.specs.RingState.{Held, IsHeld, AtHeld, linked_to, first_at}
+use Rattle.lhm_ring.specs.Index.{spot, spots, Indexes}
+use Rattle.lhm_ring.specs.Search.{entries, HoldsOthers, HasNoChain, IsChained, Chains, IsRechained}
+use Rattle.lhm_ring.proofs.Ends.{First, first_node}
+use Rattle.lhm_ring.proofs.Chains.{PutsIn-spots, Indexes-put, Indexes-none}
+use Rattle.lhm_ring.proofs.Entries.{IsHeld-kept, entries-link}
+
+pub put_indexes : {K V : Type 0} (p : Ptr) (heads heads' : List (Option Ptr)) (nodes nodes' : List (Held (K × V))) → Chains p heads heads' nodes nodes' → HoldsOthers heads nodes p → 0 < length heads → Indexes heads' (spots nodes')
+put_indexes {K} {V} p heads heads' nodes nodes' c h l =
+    let k : IsChained p heads heads' nodes' h.before h.node h.after = c h.before h.node h.after h.is h.at in
+    let head : Option Ptr = get_or heads (h.node.hash % length heads) None in
+    let x : Held (K × V) = linked_to head h.node in
+    let i : Indexes (set heads (h.node.hash % length heads) (Some h.node.at)) (spots (h.before ++ x ∷ h.after)) = Indexes-put heads (spot x) (spots (h.before ++ h.after)) (spots (h.before ++ x ∷ h.after)) h.others l refl (PutsIn-spots h.before x h.after) in
+    let e : heads' ≡ set heads (h.node.hash % length heads) (Some h.node.at) = k.heads_is ∙ ap (λ (v : Ptr). set heads (h.node.hash % length heads) (Some v)) (sym h.at) in
+    subst (λ (v : List (Option Ptr)). Indexes v (spots nodes')) (sym e)
+    (subst (λ (v : List (Held (K × V))). Indexes (set heads (h.node.hash % length heads) (Some h.node.at)) (spots v)) (sym k.nodes_is) i)
+
+pub put_indexes_at : {K V : Type 0} (p : Ptr) (items heads heads' : List (Option Ptr)) (nodes nodes' : List (Held (K × V))) → items ≡ heads → Chains p items heads' nodes nodes' → HoldsOthers heads nodes p → 0 < length heads → Indexes heads' (spots nodes')
+put_indexes_at {K} {V} p items heads heads' nodes nodes' is c h l =
+    put_indexes p heads heads' nodes nodes' (subst (λ (v : List (Option Ptr)). Chains p v heads' nodes nodes') is c) h l
+
+pub put_keeps : {K V : Type 0} (p : Ptr) (heads heads' : List (Option Ptr)) (nodes nodes' : List (Held (K × V))) → Chains p heads heads' nodes nodes' → IsHeld nodes p → entries nodes' ≡ entries nodes
+put_keeps p heads heads' nodes nodes' c h =
+    let k : IsChained p heads heads' nodes' h.before h.node h.after = c h.before h.node h.after h.is h.at_is in
+    ap entries k.nodes_is ∙ entries-link h.before h.node h.after _ ∙ ap entries (sym h.is)
+
+pub put_buckets : {K V : Type 0} (p : Ptr) (heads heads' : List (Option Ptr)) (nodes nodes' : List (Held (K × V))) → Chains p heads heads' nodes nodes' → IsHeld nodes p → length heads' ≡ length heads
+put_buckets p heads heads' nodes nodes' c h =
+    let k : IsChained p heads heads' nodes' h.before h.node h.after = c h.before h.node h.after h.is h.at_is in
+    ap length k.heads_is ∙ length-set heads _ _
+
+-- ---- all nodes are rehashed
+
+pub rechain_start : {K V : Type 0} (heads : List (Option Ptr)) (nodes : List (Held (K × V))) (pointer : Option Ptr) (buckets : ℕ) → HasNoChain heads → pointer ≡ first_at nodes → length heads ≡ buckets → IsRechained heads nodes nodes pointer 0 buckets
+rechain_start heads nodes pointer buckets h e n = record { done = []; rest = nodes; is = refl; indexed = Indexes-none heads h; pointer_is = e; count_is = refl; kept = refl; buckets_is = n }
+
+rechain_is : {K V : Type 0} {heads : List (Option Ptr)} {old nodes : List (Held (K × V))} {pointer : Option Ptr} {count buckets : ℕ} (p : Ptr) → pointer ≡ Some p → (w : IsRechained heads old nodes pointer count buckets) → (g : First w.rest p) × (nodes ≡ w.done ++ g.node ∷ g.after)
+rechain_is {K} {V} {pointer = pointer} p e w =
+    let g : First w.rest p = first_node w.rest pointer p w.pointer_is e in
+    (g, w.is ∙ ap (λ (v : List (Held (K × V))). w.done ++ v) g.is)
+
+pub rechain_held : {K V : Type 0} {heads : List (Option Ptr)} {old nodes : List (Held (K × V))} {pointer : Option Ptr} {count buckets : ℕ} (p : Ptr) → pointer ≡ Some p → IsRechained heads old nodes pointer count buckets → IsHeld nodes p
+rechain_held p e w =
+    let g = rechain_is p e w in
+    record { before = w.done; node = g.0.node; after = g.0.after; is = g.1; at_is = g.0.at_is }
+
+length-kept : {K V : Type 0} (old new : List (Held (K × V))) → entries new ≡ entries old → length new ≡ length old
+length-kept old new e = sym (length-map new (linked_to None)) ∙ ap length e ∙ length-map old (linked_to None)
+
+pub rechain_room : {K V : Type 0} {heads : List (Option Ptr)} {old nodes : List (Held (K × V))} {pointer : Option Ptr} {count buckets : ℕ} (p : Ptr) → pointer ≡ Some p → IsRechained heads old nodes pointer count buckets → count + 1 ≤ length old
+rechain_room {K} {V} {heads} {old} {nodes} p e w =
+    let g = rechain_is p e w in
+    let a : length nodes ≡ length old = length-kept old nodes w.kept in
+    let b : length nodes ≡ length (w.done ++ g.0.node ∷ g.0.after) = ap length g.1 in
+    let c : length (w.done ++ g.0.node ∷ g.0.after) ≡ length w.done + length (g.0.node ∷ g.0.after) = length-append w.done (g.0.node ∷ g.0.after) in
+    let d = w.count_is in
+    omega (arith, a, b, c, d)
+
+pub rechain_some : {K V : Type 0} {heads : List (Option Ptr)} {old nodes : List (Held (K × V))} {pointer : Option Ptr} {count buckets : ℕ} (p : Ptr) → pointer ≡ Some p → (buckets ≡ 0 → old ≡ []) → IsRechained heads old nodes pointer count buckets → 0 < length heads
+rechain_some {K} {V} {heads} {old} {nodes} {pointer} {count} {buckets} p e none w =
+    let r : count + 1 ≤ length old = rechain_room p e w in
+    let b : length heads ≡ buckets = w.buckets_is in
+    elim (cases_lt 0 buckets) [
+      | inl l ↦ omega arith
+      | inr l ↦ absurd (let z : length old ≡ 0 = ap length (none (omega arith)) in omega arith)
+    ]
+
+pub rechain_more : {K V : Type 0} {heads : List (Option Ptr)} {old nodes : List (Held (K × V))} {pointer : Option Ptr} {count buckets : ℕ} (p : Ptr) (heads' : List (Option Ptr)) (nodes' : List (Held (K × V))) (next : Option Ptr) → pointer ≡ Some p → 0 < length heads → IsRechained heads old nodes pointer count buckets → Chains p heads heads' nodes nodes' → AtHeld nodes' p (λ before x after. next ≡ first_at after) → IsRechained heads' old nodes' next (count + 1) buckets
+rechain_more {K} {V} {heads} {old} {nodes} {pointer} {count} {buckets} p heads' nodes' next e some w c nx =
+    let g = rechain_is p e w in
+    let x : Held (K × V) = g.0.node in
+    let k : IsChained p heads heads' nodes' w.done x g.0.after = c w.done x g.0.after g.1 g.0.at_is in
+    let n : ℕ = length heads in
+    let head : Option Ptr = get_or heads (x.hash % n) None in
+    let x' : Held (K × V) = linked_to head x in
+    let split : nodes' ≡ (w.done ++ x' ∷ []) ++ g.0.after = k.nodes_is ∙ sym (append_assoc w.done (x' ∷ []) g.0.after) in
+    let put : Indexes (set heads (x.hash % n) (Some x.at)) (spots (w.done ++ x' ∷ [])) =
+    Indexes-put heads (spot x') (spots (w.done ++ [])) (spots (w.done ++ x' ∷ [])) (subst (λ (v : List (Held (K × V))). Indexes heads (spots v)) (sym (append-nil w.done)) w.indexed) some refl (PutsIn-spots w.done x' []) in
+    let heads_are : heads' ≡ set heads (x.hash % n) (Some x.at) = k.heads_is ∙ ap (λ (v : Ptr). set heads (x.hash % n) (Some v)) (sym g.0.at_is) in
+    let long : length (w.done ++ x' ∷ []) ≡ length w.done + 1 = length-append w.done (x' ∷ []) in
+    let d : count ≡ length w.done = w.count_is in
+    let held : IsHeld nodes p = record { before = w.done; node = x; after = g.0.after; is = g.1; at_is = g.0.at_is } in
+    record {
+      done = w.done ++ x' ∷ [];
+      rest = g.0.after;
+      is = split;
+      indexed = subst (λ (v : List (Option Ptr)). Indexes v (spots (w.done ++ x' ∷ []))) (sym heads_are) put;
+      pointer_is = nx w.done x' g.0.after k.nodes_is g.0.at_is;
+      count_is = (omega (arith, long, d));
+      kept = put_keeps p heads heads' nodes nodes' c held ∙ w.kept;
+      buckets_is = put_buckets p heads heads' nodes nodes' c held ∙ w.buckets_is;
+    }
+
+pub rechain_next_held : {K V : Type 0} {heads : List (Option Ptr)} {old nodes : List (Held (K × V))} {pointer : Option Ptr} {count buckets : ℕ} (p : Ptr) {heads' : List (Option Ptr)} {nodes' : List (Held (K × V))} → pointer ≡ Some p → IsRechained heads old nodes pointer count buckets → Chains p heads heads' nodes nodes' → IsHeld nodes' p
+rechain_next_held {K} {V} {heads} {old} {nodes} {pointer} {count} {buckets} p {heads'} {nodes'} e w c =
+    let h : IsHeld nodes p = rechain_held p e w in
+    IsHeld-kept nodes nodes' p (put_keeps p heads heads' nodes nodes' c h) h

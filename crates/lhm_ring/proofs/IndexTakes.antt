@@ -1,0 +1,131 @@
+-- A node is removed from its chain.
+use Rattle.std.proofs.Common.{◌≡◌, ℕ, ◌+◌, ◌%◌, ◌<◌, List, [], ◌∷◌, ◌++◌, inl, inr, sym, ◌∙◌, ap, subst, Bool, true, length, get_or, set, arith, Option, Some, None, append_assoc}
+use Rattle.std.specs.Prelude.{filter}
+use Rattle.std.proofs.lemmas.Bool.{cases_lt}
+use Rattle.std.proofs.Math.Nat.{mod-lt}
+use denote.RawPtr.{Ptr}
+use Rattle.lhm_ring.specs.RingState.{Held, IsHeld, AtHeld, linked_to}
+use Rattle.lhm_ring.specs.Splits.{SplitLast}
+use Rattle.lhm_ring.specs.Index.{Spot, spot, spots, PutsIn, IsRearranged, IsChain, is_in, Indexes}
+use Rattle.lhm_ring.specs.Search.{OfNodeAt, IsLast, IsOnChain, HoldsOthers}
+use Rattle.lhm_ring.proofs.Rearranged.{PutsIn-middle, IsRearranged-less}
+use Rattle.lhm_ring.proofs.Chains.{NodeOf, node_of_spot, held_of, PutsIn-later, IsRearranged-member, PutsIn-unfilter, PutsIn-filter_in, PutsIn-spots, Indexes-take_first, Indexes-take_next}
+
+-- a spot of a chain is a held node's
+pub record OnNode {K V : Type 0} (n b : ℕ) (done : List Spot) (s : Spot) (rest : List Spot) (nodes : List (Held (K × V))) : Type 0 where
+  pub ws : List Spot
+  pub puts : PutsIn s ws (spots nodes)
+  pub passes : is_in n b s ≡ true
+  pub of : NodeOf s ws nodes
+
+pub on_node : {K V : Type 0} (n b : ℕ) (done : List Spot) (s : Spot) (rest : List Spot) (nodes : List (Held (K × V))) → IsRearranged (done ++ s ∷ rest) (filter (is_in n b) (spots nodes)) → OnNode n b done s rest nodes
+on_node n b done s rest nodes h =
+    let q : Spot → Bool = is_in n b in
+    let m : (ws : List Spot) × PutsIn s ws (filter q (spots nodes)) = IsRearranged-member done s rest (filter q (spots nodes)) h in
+    let t : (ws : List Spot) × PutsIn s ws (spots nodes) × (q s ≡ true) = PutsIn-unfilter q s m.0 (spots nodes) m.1 in
+    record { ws = t.0; puts = t.1; passes = t.2; of = node_of_spot s t.0 nodes t.1 }
+
+pub on_held : {K V : Type 0} {heads : List (Option Ptr)} {hash : ℕ} {nodes : List (Held (K × V))} {before : Option Ptr} {p : Ptr} → IsOnChain heads hash (spots nodes) before p → IsHeld nodes p
+on_held {K} {V} {heads} {hash} {nodes} {before} {p} w =
+    let o : OnNode (length heads) (hash % length heads) w.done w.here w.rest nodes = on_node (length heads) (hash % length heads) w.done w.here w.rest nodes w.holds in
+    held_of o.of w.at_is
+
+PutsIn-some : {X : Type 0} (x : X) (xs : List X) → PutsIn x xs [] → ⊥
+PutsIn-some x xs h = h
+
+pub on_some : {heads : List (Option Ptr)} {hash : ℕ} {xs : List Spot} {before : Option Ptr} {p : Ptr} → Indexes heads xs → IsOnChain heads hash xs before p → 0 < length heads
+on_some {heads} {hash} {xs} {before} {p} h w =
+    let f : Spot → Bool = is_in (length heads) (hash % length heads) in
+    let m : (ws : List Spot) × PutsIn w.here ws (filter f xs) = IsRearranged-member w.done w.here w.rest (filter f xs) w.holds in
+    let t : (ws : List Spot) × PutsIn w.here ws xs × (f w.here ≡ true) = PutsIn-unfilter f w.here m.0 xs m.1 in
+    elim (cases_lt 0 (length heads)) [
+      | inl l ↦ l
+      | inr l ↦ absurd (PutsIn-some w.here t.0 (subst (λ (v : List Spot). PutsIn w.here t.0 v) (h.none (omega arith)) t.1))
+    ]
+
+-- the one before, where there is one
+abbrev HasBefore : List Spot → Ptr → Type 0
+HasBefore = SplitLast (λ s. s.at)
+
+has_before : (before : Option Ptr) (done : List Spot) (q : Ptr) → before ≡ Some q → IsLast before done → HasBefore done q
+has_before before done q e (inl h) = absurd (let f : before ≡ None = h.1 in cc)
+has_before before done q e (inr h) = record { before = h.0; node = h.1; is = h.2; at_is = (let f : before ≡ Some h.1.at = h.3 in cc) }
+
+has_none : (before : Option Ptr) (done : List Spot) → before ≡ None → IsLast before done → done ≡ []
+has_none before done e (inl h) = h.0
+has_none before done e (inr h) = absurd (let f : before ≡ Some h.1.at = h.3 in cc)
+
+-- the chain, split at the one before
+before_chain : (done : List Spot) (q : Ptr) (b : HasBefore done q) (s : Spot) (rest : List Spot) → done ++ s ∷ rest ≡ b.before ++ b.node ∷ s ∷ rest
+before_chain done q b s rest = ap (λ (v : List Spot). v ++ s ∷ rest) b.is ∙ append_assoc b.before (b.node ∷ []) (s ∷ rest)
+
+pub on_before_held : {K V : Type 0} {heads : List (Option Ptr)} {hash : ℕ} {nodes : List (Held (K × V))} {before : Option Ptr} {p : Ptr} (q : Ptr) → before ≡ Some q → IsOnChain heads hash (spots nodes) before p → IsHeld nodes q
+on_before_held {K} {V} {heads} {hash} {nodes} {before} {p} q e w =
+    let b : HasBefore w.done q = has_before before w.done q e w.behind in
+    let f : Spot → Bool = is_in (length heads) (hash % length heads) in
+    let h : IsRearranged (b.before ++ b.node ∷ w.here ∷ w.rest) (filter f (spots nodes)) = subst (λ (v : List Spot). IsRearranged v (filter f (spots nodes))) (before_chain w.done q b w.here w.rest) w.holds in
+    let o : OnNode (length heads) (hash % length heads) b.before b.node (w.here ∷ w.rest) nodes = on_node (length heads) (hash % length heads) b.before b.node (w.here ∷ w.rest) nodes h in
+    held_of o.of b.at_is
+
+pub take_first : {K V : Type 0} {heads : List (Option Ptr)} {hash : ℕ} {nodes : List (Held (K × V))} {before : Option Ptr} {p : Ptr} (link : Option Ptr) → before ≡ None → Indexes heads (spots nodes) → IsOnChain heads hash (spots nodes) before p → OfNodeAt nodes p (λ x. link ≡ x.link) → HoldsOthers (set heads (hash % length heads) link) nodes p
+take_first {K} {V} {heads} {hash} {nodes} {before} {p} link e h w l =
+    let n : ℕ = length heads in
+    let bucket : ℕ = hash % n in
+    let f : Spot → Bool = is_in n bucket in
+    let none : w.done ≡ [] = has_none before w.done e w.behind in
+    let linked : IsChain (get_or heads bucket None) (w.here ∷ w.rest) = subst (λ (v : List Spot). IsChain (get_or heads bucket None) (v ++ w.here ∷ w.rest)) none w.linked in
+    let holds : IsRearranged (w.here ∷ w.rest) (filter f (spots nodes)) = subst (λ (v : List Spot). IsRearranged (v ++ w.here ∷ w.rest) (filter f (spots nodes))) none w.holds in
+    let o : OnNode n bucket w.done w.here w.rest nodes = on_node n bucket w.done w.here w.rest nodes w.holds in
+    let there : o.of.node.at ≡ p = ap (λ v. v.at) o.of.spot_is ∙ w.at_is in
+    let link_is : link ≡ w.here.link = l o.of.before o.of.node o.of.after o.of.is there ∙ ap (λ v. v.link) o.of.spot_is in
+    let i : Indexes (set heads bucket w.here.link) o.ws = Indexes-take_first heads bucket w.here w.rest o.ws (spots nodes) h (mod-lt hash (on_some h w)) linked holds o.puts in
+    record {
+      before = o.of.before;
+      node = o.of.node;
+      after = o.of.after;
+      is = o.of.is;
+      at = there;
+      others = subst (λ (v : Option Ptr). Indexes (set heads bucket v) (spots (o.of.before ++ o.of.after))) (sym link_is) (subst (λ (v : List Spot). Indexes (set heads bucket w.here.link) v) o.of.others i);
+    }
+
+-- the same, with the heads and their count as the code has them
+pub take_first_at : {K V : Type 0} {heads : List (Option Ptr)} {hash : ℕ} {nodes : List (Held (K × V))} {before : Option Ptr} {p : Ptr} (items : List (Option Ptr)) (count : ℕ) (link : Option Ptr) → items ≡ heads → count ≡ length items → before ≡ None → Indexes heads (spots nodes) → IsOnChain heads hash (spots nodes) before p → OfNodeAt nodes p (λ x. link ≡ x.link) → HoldsOthers (set items (hash % count) link) nodes p
+take_first_at {K} {V} {heads} {hash} {nodes} {before} {p} items count link is many e h w l =
+    let k : HoldsOthers (set heads (hash % length heads) link) nodes p = take_first link e h w l in
+    let c : count ≡ length heads = many ∙ ap length is in
+    subst (λ (v : List (Option Ptr)). HoldsOthers (set v (hash % count) link) nodes p) (sym is)
+    (subst (λ (v : ℕ). HoldsOthers (set heads (hash % v) link) nodes p) (sym c) k)
+
+pub take_next : {K V : Type 0} {heads : List (Option Ptr)} {hash : ℕ} {nodes : List (Held (K × V))} {before : Option Ptr} {p : Ptr} (nodes' : List (Held (K × V))) (q : Ptr) (link : Option Ptr) → before ≡ Some q → Indexes heads (spots nodes) → IsOnChain heads hash (spots nodes) before p → OfNodeAt nodes p (λ x. link ≡ x.link) → AtHeld nodes q (λ before x after. nodes' ≡ before ++ linked_to link x ∷ after) → HoldsOthers heads nodes' p
+take_next {K} {V} {heads} {hash} {nodes} {before} {p} nodes' q link e h w l sets =
+    let n : ℕ = length heads in
+    let bucket : ℕ = hash % n in
+    let f : Spot → Bool = is_in n bucket in
+    let b : HasBefore w.done q = has_before before w.done q e w.behind in
+    let split : w.done ++ w.here ∷ w.rest ≡ b.before ++ b.node ∷ w.here ∷ w.rest = before_chain w.done q b w.here w.rest in
+    let linked : IsChain (get_or heads bucket None) (b.before ++ b.node ∷ w.here ∷ w.rest) = subst (λ (v : List Spot). IsChain (get_or heads bucket None) v) split w.linked in
+    let holds : IsRearranged (b.before ++ b.node ∷ w.here ∷ w.rest) (filter f (spots nodes)) = subst (λ (v : List Spot). IsRearranged v (filter f (spots nodes))) split w.holds in
+    let o : OnNode n bucket w.done w.here w.rest nodes = on_node n bucket w.done w.here w.rest nodes w.holds in
+    let there : o.of.node.at ≡ p = ap (λ v. v.at) o.of.spot_is ∙ w.at_is in
+    let link_is : link ≡ w.here.link = l o.of.before o.of.node o.of.after o.of.is there ∙ ap (λ v. v.link) o.of.spot_is in
+    let y : OnNode n bucket b.before b.node (w.here ∷ w.rest) nodes = on_node n bucket b.before b.node (w.here ∷ w.rest) nodes holds in
+    let y_there : y.of.node.at ≡ q = ap (λ v. v.at) y.of.spot_is ∙ b.at_is in
+    let nodes_are : nodes' ≡ y.of.before ++ linked_to link y.of.node ∷ y.of.after = sets y.of.before y.of.node y.of.after y.of.is y_there in
+    let y' : Spot = spot (linked_to link y.of.node) in
+    let put' : PutsIn y' y.ws (spots nodes') =
+    subst (λ (v : List Spot). PutsIn y' v (spots nodes')) (sym y.of.others)
+    (subst (λ (v : List (Held (K × V))). PutsIn y' (spots (y.of.before ++ y.of.after)) (spots v)) (sym nodes_are) (PutsIn-spots y.of.before (linked_to link y.of.node) y.of.after)) in
+    let less : IsRearranged (b.before ++ w.here ∷ w.rest) (filter f y.ws) = IsRearranged-less b.node (b.before ++ w.here ∷ w.rest) (b.before ++ b.node ∷ w.here ∷ w.rest) (filter f y.ws) (filter f (spots nodes)) (PutsIn-middle b.before b.node (w.here ∷ w.rest)) (PutsIn-filter_in f b.node y.ws (spots nodes) y.puts y.passes) holds in
+    let m : (ws : List Spot) × PutsIn w.here ws (filter f y.ws) = IsRearranged-member b.before w.here w.rest (filter f y.ws) less in
+    let t : (ws : List Spot) × PutsIn w.here ws y.ws × (f w.here ≡ true) = PutsIn-unfilter f w.here m.0 y.ws m.1 in
+    let s : (ws : List Spot) × PutsIn w.here ws (spots nodes') = PutsIn-later w.here y' t.0 y.ws (spots nodes') t.1 put' in
+    let of : NodeOf w.here s.0 nodes' = node_of_spot w.here s.0 nodes' s.1 in
+    let i : Indexes heads s.0 = Indexes-take_next heads bucket b.before b.node y' w.here w.rest y.ws (spots nodes) (spots nodes') s.0 h (mod-lt hash (on_some h w)) linked holds (ap (λ v. v.at) y.of.spot_is) (ap (λ v. v.hash) y.of.spot_is) link_is y.puts put' s.1 in
+    record {
+      before = of.before;
+      node = of.node;
+      after = of.after;
+      is = of.is;
+      at = ap (λ v. v.at) of.spot_is ∙ w.at_is;
+      others = subst (λ (v : List Spot). Indexes heads v) of.others i;
+    }
