@@ -8,6 +8,7 @@ pub mod Keys
 pub mod Lookups
 pub mod Replay
 pub mod Retained
+pub mod Updates
 pub mod Valid
 pub mod Visits
 pub mod WholeRuns
