@@ -1,4 +1,4 @@
-//! Calls that replace, remove and clear pairs.
+//! Calls that write, replace, remove and clear pairs.
 
 use super::filling::{Map, PAIRS, fill, filled, keys};
 use super::item::{Key, Value};
@@ -38,12 +38,60 @@ fn pop<K: Key, V: Value>(alloc: Global) -> Result<u64, Stop> {
     Ok(popped)
 }
 
+/// Moves the pair of a number to the back and writes its value, and returns 1 if it is there.
+fn refresh<K: Key, V: Value>(alloc: Global, map: &mut Map<K, V>, number: u64) -> Result<u64, Stop> {
+    let key = K::key(alloc, number)?;
+    let new = V::value(alloc, number)?;
+    match map.get_refresh(&key) {
+        Some(value) => {
+            *value = new;
+            Ok(1)
+        }
+        None => Ok(0),
+    }
+}
+
+/// Writes each value of a full map by its key.
+fn refresh_each<K: Key, V: Value>(alloc: Global) -> Result<u64, Stop> {
+    let mut map: Map<K, V> = filled(alloc)?;
+    let mut written: u64 = 0;
+    for number in 0..PAIRS {
+        written = written.wrapping_add(refresh(alloc, &mut map, number)?);
+    }
+    Ok(written)
+}
+
+/// Writes each value of a full map by a loop.
+fn write_each<K: Key, V: Value>(alloc: Global) -> Result<u64, Stop> {
+    let mut map: Map<K, V> = filled(alloc)?;
+    let mut written: u64 = 0;
+    for (_key, value) in map.iter_mut() {
+        *value = V::value(alloc, written)?;
+        written = written.wrapping_add(1);
+    }
+    Ok(written)
+}
+
+/// Keeps every second pair of a full map, and returns how many that are.
+fn retain<K: Key, V: Value>(alloc: Global) -> Result<u64, Stop> {
+    let mut map: Map<K, V> = filled(alloc)?;
+    let mut seen: u64 = 0;
+    map.retain(|_key, _value| {
+        seen = seen.wrapping_add(1);
+        seen % 2 == 0
+    });
+    Ok(map.len() as u64)
+}
+
 /// Runs the part, and returns how many pairs it saw.
 pub fn run<K: Key, V: Value>(alloc: Global) -> Result<u64, Stop> {
     let seen = [
         replace_and_clear::<K, V>(alloc)?,
         remove::<K, V>(alloc)?,
         pop::<K, V>(alloc)?,
+        refresh_each::<K, V>(alloc)?,
+        write_each::<K, V>(alloc)?,
+        retain::<K, V>(alloc)?,
     ];
     Ok(sum(&seen))
 }

@@ -37,18 +37,20 @@ fn push_removals<K: Key, V: Value>(
     Ok(commands.push(Command::Refresh(K::key(alloc, absent)?))?)
 }
 
-/// Appends commands for the map as a whole, which has no pairs before them and after them.
+/// Appends commands for the map as a whole, which has no pairs before them and one after them.
 fn push_whole<K: Key, V: Value>(alloc: Global, commands: &mut Commands<K, V>) -> Result<(), Stop> {
     commands.push(Command::Extend(PairList::from_vec(list(alloc, 0, PAIRS)?)))?;
     commands.push(Command::PopFront)?;
     commands.push(Command::PopBack)?;
     commands.push(Command::Reserve(LIMIT))?;
     commands.push(Command::Clear)?;
-    Ok(commands.push(Command::Shrink)?)
+    commands.push(Command::Shrink)?;
+    commands.push(Command::Reserve(PAIRS as usize))?;
+    Ok(commands.push(Command::OrInsert(K::key(alloc, 0)?, V::value(alloc, 0)?))?)
 }
 
 /// Makes a list of commands for a full map: each pair is changed, all are drained, put in again and
-/// removed, and then put in again and cleared.
+/// removed, and then put in again and cleared, and one is put in.
 fn commands<K: Key, V: Value>(alloc: Global) -> Result<Commands<K, V>, Stop> {
     let mut commands = Vec::new(alloc);
     for number in 0..PAIRS {

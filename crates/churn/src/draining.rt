@@ -1,7 +1,7 @@
 //! Iterators that own pairs: a map is turned into one or drained, and the iterator goes over all
 //! pairs, over some from both ends, or over none before it is dropped.
 
-use super::filling::{Map, PAIRS, fill, filled};
+use super::filling::{Map, PAIRS, empty, fill, filled};
 use super::item::{Key, Value};
 use super::stop::Stop;
 use super::sums::sum;
@@ -70,6 +70,16 @@ fn drain<K: Key, V: Value>(alloc: Global) -> Result<u64, Stop> {
     Ok(sum(&[some, none, all]))
 }
 
+/// Drains a map with room and no pairs, turns it into an iterator, and clones that.
+fn without_pairs<K: Key, V: Value>(alloc: Global) -> Result<u64, Stop> {
+    let mut map: Map<K, V> = empty(alloc)?;
+    map.reserve(PAIRS as usize)?;
+    let drained = drain_of(&mut map, 1);
+    let pairs = map.into_iter();
+    let mut clone = pairs.clone()?;
+    Ok(take(&mut clone, 1).wrapping_add(drained))
+}
+
 /// Runs the part, and returns how many pairs it saw.
 pub fn run<K: Key, V: Value>(alloc: Global) -> Result<u64, Stop> {
     let seen = [
@@ -78,6 +88,7 @@ pub fn run<K: Key, V: Value>(alloc: Global) -> Result<u64, Stop> {
         clone_of_into_iter::<K, V>(alloc)?,
         loop_over::<K, V>(alloc)?,
         drain::<K, V>(alloc)?,
+        without_pairs::<K, V>(alloc)?,
     ];
     Ok(sum(&seen))
 }

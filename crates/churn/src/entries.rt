@@ -42,6 +42,78 @@ fn insert<K: Key, V: Value>(alloc: Global) -> Result<u64, Stop> {
     Ok(map.len() as u64)
 }
 
+/// Inserts a pair by a closure that owns its value twice: it is called, and then it is dropped.
+fn insert_with_twice<K: Key, V: Value>(
+    alloc: Global,
+    map: &mut Map<K, V>,
+    number: u64,
+) -> Result<(), Stop> {
+    let new = V::value(alloc, number)?;
+    let _new = map
+        .entry(K::key(alloc, number)?)
+        .or_insert_with(move || new)?;
+    let other = V::value(alloc, number)?;
+    let _old = map
+        .entry(K::key(alloc, number)?)
+        .or_insert_with(move || other)?;
+    Ok(())
+}
+
+/// Inserts each pair by a closure twice.
+fn insert_with<K: Key, V: Value>(alloc: Global) -> Result<u64, Stop> {
+    let mut map: Map<K, V> = empty(alloc)?;
+    for number in 0..PAIRS {
+        insert_with_twice(alloc, &mut map, number)?;
+    }
+    Ok(map.len() as u64)
+}
+
+/// Inserts a pair by its vacant entry itself, and returns 1 if it is new.
+fn insert_vacant<K: Key, V: Value>(
+    alloc: Global,
+    map: &mut Map<K, V>,
+    number: u64,
+) -> Result<u64, Stop> {
+    let value = V::value(alloc, number)?;
+    match map.entry(K::key(alloc, number)?) {
+        Entry::Vacant(entry) => {
+            let _new = entry.insert(value)?;
+            Ok(1)
+        }
+        Entry::Occupied(_entry) => Ok(0),
+    }
+}
+
+/// Inserts each pair by its vacant entry itself.
+fn insert_each_vacant<K: Key, V: Value>(alloc: Global) -> Result<u64, Stop> {
+    let mut map: Map<K, V> = empty(alloc)?;
+    let mut inserted: u64 = 0;
+    for number in 0..PAIRS {
+        inserted = inserted.wrapping_add(insert_vacant(alloc, &mut map, number)?);
+    }
+    Ok(inserted)
+}
+
+/// Writes the value of a pair by a closure that owns it, and returns 1 if the pair is there. If it
+/// is absent, the closure is dropped.
+fn modify<K: Key, V: Value>(alloc: Global, map: &mut Map<K, V>, number: u64) -> Result<u64, Stop> {
+    let new = V::value(alloc, number)?;
+    let entry = map
+        .entry(K::key(alloc, number)?)
+        .and_modify(move |value| *value = new);
+    Ok(matches!(&entry, Entry::Occupied(_)) as u64)
+}
+
+/// Writes each value of a full map by a closure, and those of as many absent pairs.
+fn modify_each<K: Key, V: Value>(alloc: Global) -> Result<u64, Stop> {
+    let mut map: Map<K, V> = filled(alloc)?;
+    let mut modified: u64 = 0;
+    for number in 0..2 * PAIRS {
+        modified = modified.wrapping_add(modify(alloc, &mut map, number)?);
+    }
+    Ok(modified)
+}
+
 /// Replaces the value of a pair by its entry, and then removes the pair by it.
 fn replace_and_remove<K: Key, V: Value>(
     alloc: Global,
@@ -88,6 +160,9 @@ pub fn run<K: Key, V: Value>(alloc: Global) -> Result<u64, Stop> {
     let seen = [
         drop_vacant::<K, V>(alloc)?,
         insert::<K, V>(alloc)?,
+        insert_with::<K, V>(alloc)?,
+        insert_each_vacant::<K, V>(alloc)?,
+        modify_each::<K, V>(alloc)?,
         remove::<K, V>(alloc)?,
         remove_by_cursor::<K, V>(alloc)?,
     ];

@@ -38,11 +38,13 @@ fn collect<K: Key, V: Value>(alloc: Global) -> Result<u64, Stop> {
     Ok(map.len() as u64)
 }
 
-/// Asks for a map of this capacity, and returns 1 if that is refused.
+/// Asks for maps of this capacity, with a hasher of their own and without, and returns how many are
+/// refused.
 fn refused<K: Key, V: Value>(alloc: Global, capacity: usize) -> Result<u64, Stop> {
     let hasher = BuildOwner::new(alloc)?;
-    let made = Map::<K, V>::with_capacity_and_hasher(alloc, capacity, hasher);
-    Ok(made.is_err() as u64)
+    let own = Map::<K, V>::with_capacity_and_hasher(alloc, capacity, hasher).is_err();
+    let default = LinkedHashMap::<K, V>::with_capacity(alloc, capacity).is_err();
+    Ok(own as u64 + default as u64)
 }
 
 /// Runs the part, and returns how many pairs it saw.
@@ -52,7 +54,7 @@ pub fn run<K: Key, V: Value>(alloc: Global) -> Result<u64, Stop> {
         own_hasher::<K, V>(alloc)?,
         clones::<K, V>(alloc)?,
         collect::<K, V>(alloc)?,
-        // The first is refused without asking, and the second by the allocator.
+        // The first are refused without asking, and the second by the allocator.
         refused::<K, V>(alloc, LIMIT + 1)?,
         refused::<K, V>(alloc, LIMIT)?,
     ];

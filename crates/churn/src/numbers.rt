@@ -1,8 +1,10 @@
-//! Calls for keys and values that are copied, and for values that have a default.
+//! Calls for keys and values that are copied, for values that have a default, and for iterators
+//! that make pairs.
 
 use super::filling::{Map, PAIRS, empty, filled};
 use super::stop::Stop;
 use super::sums::total;
+use linked_hash_map::{LIMIT, LinkedHashMap};
 use std::alloc::Global;
 
 /// Extends an empty map by references to the pairs of a full one.
@@ -22,7 +24,22 @@ fn or_default(alloc: Global) -> Result<usize, Stop> {
     Ok(map.len())
 }
 
+/// Collects from an iterator that owns memory and hints at this many pairs, and returns 1 if that
+/// is refused.
+fn refused(alloc: Global, hint: usize) -> Result<usize, Stop> {
+    let block: Vec<u64> = vec![in alloc; 7; 2048]?;
+    let items = (0..hint).map(move |key| (key, block.len()));
+    let made: Result<LinkedHashMap<usize, usize>, _> = LinkedHashMap::from_iter(alloc, items);
+    Ok(made.is_err() as usize)
+}
+
 /// Runs the part, and returns how many pairs it saw.
 pub fn run(alloc: Global) -> Result<u64, Stop> {
-    Ok(total(&[extend_refs(alloc)?, or_default(alloc)?]))
+    Ok(total(&[
+        extend_refs(alloc)?,
+        or_default(alloc)?,
+        // The first is refused without asking, and the second by the allocator.
+        refused(alloc, LIMIT + 1)?,
+        refused(alloc, LIMIT)?,
+    ]))
 }

@@ -32,12 +32,22 @@ fn to_as_many_buckets<K: Key, V: Value>(alloc: Global) -> Result<usize, Stop> {
     Ok(map.len())
 }
 
+/// Shrinks a map that is full, and one that has no capacity: neither changes.
+fn with_no_room<K: Key, V: Value>(alloc: Global) -> Result<usize, Stop> {
+    let mut full: Map<K, V> = filled(alloc)?;
+    full.shrink_to_fit()?;
+    let mut none: Map<K, V> = empty(alloc)?;
+    none.shrink_to_fit()?;
+    Ok(full.len())
+}
+
 /// Runs the part, and returns how many pairs it saw.
 pub fn run<K: Key, V: Value>(alloc: Global) -> Result<u64, Stop> {
     let seen = [
         without_pairs::<K, V>(alloc)?,
         to_fewer_buckets::<K, V>(alloc)?,
         to_as_many_buckets::<K, V>(alloc)?,
+        with_no_room::<K, V>(alloc)?,
     ];
     Ok(total(&seen))
 }

@@ -1,4 +1,5 @@
-//! How often each call compares, hashes and clones a key, and builds and clones a hasher.
+//! How often each call compares, orders, hashes, formats and clones a key, and builds and clones a
+//! hasher.
 //!
 //! `KINDS` is the table of the maps: each group of calls is made on a map of each kind, with a key
 //! that is present and with one that is absent. A lookup hashes its key once, and compares what
@@ -7,6 +8,7 @@
 
 mod collections;
 mod commands;
+mod comparisons;
 mod entries;
 mod lookups;
 mod walks;

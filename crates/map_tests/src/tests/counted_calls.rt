@@ -1,14 +1,17 @@
 //! Keys and hashers that count how often their calls are made.
 ghost use Rattle.std.specs.Prelude.{◌==◌};
+ghost use Rattle.std.specs.Cmp.{partial_order_from_own_ties};
 ghost use Rattle.std.specs.Cmp.Rules.{comparing, hashing};
 ghost use Rattle.std.specs.Hash as fed;
-ghost use Rattle.std.specs.Ordering.{on};
+ghost use Rattle.std.specs.Ordering.{on, nat_cmp, as_partial_cmp};
 ghost use Rattle.std.proofs.Common.{rules};
 
 use super::checks::given;
 use super::multiple::{BuildMultiple, Multiple};
 use std::alloc::{AllocError, Global};
 use std::cell::Cell;
+use std::cmp::Ordering;
+use std::fmt;
 use std::hash::{BuildHasher, Hash, Hasher};
 use std::process::Abort;
 use std::rc::Rc;
@@ -18,6 +21,10 @@ use std::rc::Rc;
 pub struct Calls {
     /// `==` of keys.
     pub compared: usize,
+    /// `cmp` or `partial_cmp` of keys.
+    pub ordered: usize,
+    /// `fmt` of a key.
+    pub formatted: usize,
     /// `hash` of a key.
     pub hashed: usize,
     /// `clone` of a key or of a builder.
@@ -29,6 +36,8 @@ pub struct Calls {
 /// No call.
 pub const NONE: Calls = Calls {
     compared: 0,
+    ordered: 0,
+    formatted: 0,
     hashed: 0,
     cloned: 0,
     built: 0,
@@ -39,8 +48,8 @@ pub fn lookup(compared: usize) -> Calls {
     Calls {
         compared,
         hashed: 1,
-        cloned: 0,
         built: 1,
+        ..NONE
     }
 }
 
@@ -73,6 +82,18 @@ impl Counts {
         let calls = self.calls.get();
         let compared = calls.compared.saturating_add(1);
         self.calls.set(Calls { compared, ..calls });
+    }
+
+    fn count_order(&self) {
+        let calls = self.calls.get();
+        let ordered = calls.ordered.saturating_add(1);
+        self.calls.set(Calls { ordered, ..calls });
+    }
+
+    fn count_text(&self) {
+        let calls = self.calls.get();
+        let formatted = calls.formatted.saturating_add(1);
+        self.calls.set(Calls { formatted, ..calls });
     }
 
     fn count_hash(&self) {
@@ -139,6 +160,38 @@ impl PartialEq for Key {
 
 impl Eq for Key {
     ghost laws = { Prim.search (comparing, rules) };
+}
+
+impl Ord for Key {
+    ghost cmp = { on (λ key. key.number) nat_cmp };
+
+    ghost total = { Prim.search (comparing, rules) };
+
+    ghost matches_partial_cmp = { Prim.search (comparing, rules) };
+
+    ghost matches_eq = { Prim.search (comparing, rules) };
+
+    fn cmp(&self, other: &Key) -> Ordering {
+        self.counts.count_order();
+        self.number.cmp(&other.number)
+    }
+}
+
+impl PartialOrd for Key {
+    ghost partial_cmp = { as_partial_cmp (on (λ key. key.number) nat_cmp) };
+
+    ghost laws = { partial_order_from_own_ties (Prim.search (comparing, rules)) (Prim.search (comparing, rules)) };
+
+    fn partial_cmp(&self, other: &Key) -> Option<Ordering> {
+        Some(self.cmp(other))
+    }
+}
+
+impl fmt::Debug for Key {
+    fn fmt<W: fmt::Write>(&self, f: &mut fmt::Formatter<W>) -> fmt::Result {
+        self.counts.count_text();
+        write!(f, "{}", self.number)
+    }
 }
 
 impl Hash for Key {

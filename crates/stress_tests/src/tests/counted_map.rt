@@ -6,6 +6,7 @@ use linked_hash_map::LinkedHashMap;
 use std::alloc::Global;
 use std::process::Abort;
 
+/// A map whose keys and values are counted.
 pub type CountedMap<'a> = LinkedHashMap<Counted<'a>, Counted<'a>>;
 
 /// The number of a key and of its value, the bit of the key, and that of the value.

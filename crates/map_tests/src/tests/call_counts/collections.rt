@@ -1,14 +1,12 @@
-//! Extensions and collections, which look each item up once, and clones and comparisons.
+//! Extensions and collections, which look each item up once, and clones.
 
 use super::{CallMap, KINDS, Kind, SAME, check_calls, map_of_kind};
-use crate::tests::checks::{check, given};
 use crate::tests::counted_calls::{
     Builder, Calls, Counts, Key, NONE, builder_of, key_of, new_counts,
 };
 use crate::tests::multiple::KEY;
 use linked_hash_map::LinkedHashMap;
 use std::alloc::Global;
-use std::hash::{BuildHasher, Hash, Hasher};
 use std::process::Abort;
 use std::rc::Rc;
 
@@ -17,8 +15,8 @@ fn lookups(lookups: usize, compared: usize) -> Calls {
     Calls {
         compared,
         hashed: lookups,
-        cloned: 0,
         built: lookups,
+        ..NONE
     }
 }
 
@@ -87,6 +85,7 @@ fn calls_of_a_clone(kind: &Kind) -> Calls {
         hashed: len,
         cloned: len.saturating_add(1),
         built: len,
+        ..NONE
     }
 }
 
@@ -103,44 +102,13 @@ fn clone_each(rt: &impl Abort, alloc: Global, kind: &Kind) {
     check_calls!(rt; counts, pairs.clone().is_ok(), wanted);
 }
 
-/// Hashes a map by a builder that is not counted.
-fn hash_of(map: &CallMap) -> u64 {
-    let mut state = KEY.build_hasher();
-    map.hash(&mut state);
-    state.finish()
-}
-
-/// Compares a map with itself, and hashes it.
-fn compare_each(rt: &impl Abort, alloc: Global, kind: &Kind) {
-    let counts = new_counts(rt, alloc);
-    let map = map_of_kind(rt, alloc, kind, &counts);
-    let len = kind.len as usize;
-    check_calls!(rt; counts, map == map, lookups(0, len));
-    let wanted = Calls {
-        hashed: len,
-        ..NONE
-    };
-    check_calls!(rt; counts, hash_of(&map), wanted);
-}
-
-fn clone_and_compare_in_each(rt: &impl Abort, alloc: Global) {
+fn clone_in_each(rt: &impl Abort, alloc: Global) {
     for kind in &KINDS {
         clone_each(rt, alloc, kind);
-        compare_each(rt, alloc, kind);
     }
 }
 
 #[test]
-fn clones_and_compares_each_key_once(rt: HostRuntime) {
-    clone_and_compare_in_each(&rt, rt.alloc());
-}
-
-/// Maps of different lengths are known to differ without a comparison.
-#[test]
-fn compares_no_key_of_maps_of_other_lengths(rt: HostRuntime) {
-    let counts = new_counts(&rt, rt.alloc());
-    let mut map = one_pair(&rt, rt.alloc(), &counts);
-    let other = given!(rt; map.clone());
-    check!(rt; map.insert(key_of(&rt, &counts, 1), 1).is_ok());
-    check_calls!(rt; counts, map == other, NONE);
+fn clones_each_key_once(rt: HostRuntime) {
+    clone_in_each(&rt, rt.alloc());
 }

@@ -3,7 +3,8 @@
 use super::{CallMap, KINDS, Kind, check_calls, lookup_of, map_of_kind};
 use crate::tests::checks::{check, given};
 use crate::tests::counted_calls::{Calls, Counts, Key, NONE, key_of, new_counts};
-use linked_hash_map::replay::{Command, replay};
+use linked_hash_map::Mode;
+use linked_hash_map::replay::{Command, PairList, replay};
 use std::alloc::Global;
 use std::process::Abort;
 use std::rc::Rc;
@@ -21,6 +22,11 @@ fn run(
 ) {
     let commands = given!(rt; Vec::from_array(alloc, [command]));
     check_calls!(rt; counts, replay(map, commands).is_ok(), wanted);
+}
+
+/// Makes a command that extends a map by one pair.
+fn extension(rt: &impl Abort, alloc: Global, key: Key) -> CallCommand {
+    Command::Extend(PairList::from_vec(given!(rt; Vec::from_array(alloc, [(key, 1)]))))
 }
 
 /// Runs the commands that leave the keys of a map.
@@ -66,6 +72,8 @@ fn run_keeping(rt: &impl Abort, alloc: Global, map: &mut CallMap, key: &Key) {
         Command::EntryInsert(key.again(rt), 1),
         wanted,
     );
+    let extension = extension(rt, alloc, key.again(rt));
+    run(rt, alloc, map, &key.counts, extension, wanted);
 }
 
 /// Runs the commands that remove a key, and those that insert it.
@@ -127,6 +135,7 @@ fn run_changing(rt: &impl Abort, alloc: Global, map: &mut CallMap, key: &Key) {
 fn run_without_a_key(rt: &impl Abort, alloc: Global, map: &mut CallMap, counts: &Rc<Counts>) {
     run(rt, alloc, map, counts, Command::Reserve(100), NONE);
     run(rt, alloc, map, counts, Command::Shrink, NONE);
+    run(rt, alloc, map, counts, Command::SetMode(Mode::Keep), NONE);
     run(rt, alloc, map, counts, Command::PopFront, NONE);
     run(rt, alloc, map, counts, Command::PopBack, NONE);
     run(rt, alloc, map, counts, Command::Drain, NONE);

@@ -2,7 +2,7 @@
 
 use super::{CallMap, KINDS, Kind, check_calls, lookup_of, map_of_kind};
 use crate::tests::checks::{check, check_eq};
-use crate::tests::counted_calls::{Calls, Key, key_of, lookup, new_counts};
+use crate::tests::counted_calls::{Calls, Key, NONE, key_of, lookup, new_counts};
 use linked_hash_map::Mode;
 use std::alloc::Global;
 use std::process::Abort;
@@ -41,8 +41,8 @@ fn twice(calls: Calls) -> Calls {
     Calls {
         compared: calls.compared.saturating_mul(2),
         hashed: calls.hashed.saturating_mul(2),
-        cloned: 0,
         built: calls.built.saturating_mul(2),
+        ..NONE
     }
 }
 

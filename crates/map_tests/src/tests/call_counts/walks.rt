@@ -1,11 +1,20 @@
-//! Calls that look no key up: the ends, iterators, cursors, capacities and settings.
+//! Calls that look no key up: making and dropping, the ends, iterators, cursors, capacities and
+//! settings.
 
 use super::{CallMap, KINDS, Kind, check_calls, map_of_kind};
-use crate::tests::counted_calls::{Counts, NONE, new_counts};
+use crate::tests::counted_calls::{Counts, NONE, builder_of, new_counts};
 use linked_hash_map::Mode;
 use std::alloc::Global;
 use std::process::Abort;
 use std::rc::Rc;
+
+/// Makes maps that have a hasher.
+fn make(rt: &impl Abort, alloc: Global, kind: &Kind, counts: &Rc<Counts>) {
+    let builder = builder_of(rt, counts, kind.build);
+    check_calls!(rt; counts, CallMap::with_hasher(alloc, builder), NONE);
+    let builder = builder_of(rt, counts, kind.build);
+    check_calls!(rt; counts, CallMap::with_capacity_and_hasher(alloc, 8, builder).is_ok(), NONE);
+}
 
 /// Makes the calls that read a map.
 fn read(rt: &impl Abort, map: &CallMap, counts: &Rc<Counts>) {
@@ -14,8 +23,11 @@ fn read(rt: &impl Abort, map: &CallMap, counts: &Rc<Counts>) {
     check_calls!(rt; counts, (map.rechained(), map.unvisited(), map.mode()), NONE);
     check_calls!(rt; counts, map.hasher(), NONE);
     check_calls!(rt; counts, (map.iter().next(), map.iter().next_back()), NONE);
-    check_calls!(rt; counts, (map.keys().next(), map.values().next_back()), NONE);
+    check_calls!(rt; counts, (map.iter().len(), map.iter().size_hint()), NONE);
+    check_calls!(rt; counts, (map.keys().next(), map.keys().next_back()), NONE);
+    check_calls!(rt; counts, (map.values().next(), map.values().next_back()), NONE);
     check_calls!(rt; counts, map.iter().clone().is_ok(), NONE);
+    check_calls!(rt; counts, (map.keys().clone().is_ok(), map.values().clone().is_ok()), NONE);
     check_calls!(rt; counts, sum(map), NONE);
 }
 
@@ -53,6 +65,7 @@ fn change(rt: &impl Abort, map: &mut CallMap, counts: &Rc<Counts>) {
     check_calls!(rt; counts, map.reserve(100), NONE);
     check_calls!(rt; counts, map.shrink_to_fit(), NONE);
     check_calls!(rt; counts, map.iter_mut().next(), NONE);
+    check_calls!(rt; counts, map.iter_mut().next_back(), NONE);
     check_calls!(rt; counts, visit_all(map), NONE);
 }
 
@@ -61,23 +74,32 @@ fn take_out(rt: &impl Abort, map: &mut CallMap, counts: &Rc<Counts>) {
     check_calls!(rt; counts, map.pop_front(), NONE);
     check_calls!(rt; counts, map.pop_back(), NONE);
     check_calls!(rt; counts, remove_first(map), NONE);
+    check_calls!(rt; counts, map.retain(|key, _value| key.number % 2 == 0), NONE);
     check_calls!(rt; counts, map.drain().next(), NONE);
 }
 
-/// Takes the last map apart.
-fn consume(rt: &impl Abort, map: CallMap, counts: &Rc<Counts>) {
+/// Takes maps apart, and drops one.
+fn consume(rt: &impl Abort, alloc: Global, kind: &Kind, counts: &Rc<Counts>) {
+    let map = map_of_kind(rt, alloc, kind, counts);
+    check_calls!(rt; counts, map.into_iter().next(), NONE);
+    let map = map_of_kind(rt, alloc, kind, counts);
     check_calls!(rt; counts, map.into_iter().next_back(), NONE);
+    let mut map = map_of_kind(rt, alloc, kind, counts);
+    check_calls!(rt; counts, map.drain().next_back(), NONE);
+    let map = map_of_kind(rt, alloc, kind, counts);
+    check_calls!(rt; counts, map, NONE);
 }
 
 fn walk_each(rt: &impl Abort, alloc: Global, kind: &Kind) {
     let counts = new_counts(rt, alloc);
+    make(rt, alloc, kind, &counts);
     let mut map = map_of_kind(rt, alloc, kind, &counts);
     read(rt, &map, &counts);
     change(rt, &mut map, &counts);
     take_out(rt, &mut map, &counts);
     let mut map = map_of_kind(rt, alloc, kind, &counts);
     check_calls!(rt; counts, map.clear(), NONE);
-    consume(rt, map_of_kind(rt, alloc, kind, &counts), &counts);
+    consume(rt, alloc, kind, &counts);
 }
 
 fn walk_in_each(rt: &impl Abort, alloc: Global) {
