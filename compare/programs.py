@@ -13,7 +13,6 @@ COMPARE = TOP / "compare"
 DRIVER = TOP / "crates" / "driver"
 REGISTRY = pathlib.Path("/usr/share/cargo/registry")
 
-
 # The port is built for this processor too.
 FLAGS = "--cap-lints allow -C target-cpu=x86-64-v2"
 # What is built over, and the package that has it.
@@ -30,7 +29,7 @@ def stop(message):
 
 
 def built_by_cargo(folder, crates, registry=REGISTRY):
-    """Builds the program in a folder over the crates in a registry, and returns the folder it is in."""
+    """Builds the program in a folder over the crates of a registry, and returns where it is."""
     missing = [] if shutil.which("cargo") else ["cargo", "rustc"]
     missing += [PACKAGES[crate] for crate in crates if not any(registry.glob(crate + "*"))]
     if missing:

@@ -41,7 +41,7 @@ impl Eq for Key {}
 /// Keys that are not the same have no order.
 impl PartialOrd for Key {
     fn partial_cmp(&self, other: &Self) -> Option<Ordering> {
-        (self == other).then(|| Ordering::Equal)
+        (self == other).then_some(Ordering::Equal)
     }
 }
 
