@@ -252,4 +252,3 @@ module _ {B : Type 0} (cs : List (Cell Links B)) where
         ap (λ k. span_triples cs k f) none ∙ none_listed cs f,
       )
   none_spliced (Some g) spare n m f b e ok = absurd (none_some g (sym e))
-

@@ -91,9 +91,9 @@ module _ {K V : Type 0} {eq : K → K → Bool} {hash : ℕ} {k : K} {hs : List 
       let cut = cut_before p hs key_lies in
       let at = cut.held in
       record {
-        pair = at.1.pair;
+        pair = at.node.pair;
         there = ap (slice_get (pairs_of hs)) (sym cut.long) ∙ pair_there at;
-        same = h.key_is at.0 at.1 at.2 at.3 at.4;
+        same = h.key_is at.before at.node at.after at.is at.at_is;
       }
 
   pub found_index : IsIndex eq (pairs_of hs) k (before p (bare hs))
