@@ -54,7 +54,7 @@ pub fn run<K: Key, V: Value>(alloc: Global) -> Result<u64, Stop> {
         own_hasher::<K, V>(alloc)?,
         clones::<K, V>(alloc)?,
         collect::<K, V>(alloc)?,
-        // The first are refused without asking, and the second by the allocator.
+        // Those of the first are refused without asking, and those of the second by the allocator.
         refused::<K, V>(alloc, LIMIT + 1)?,
         refused::<K, V>(alloc, LIMIT)?,
     ];
