@@ -5,19 +5,23 @@ use crate::{Known, Map};
 use std::fmt::{Debug, Result, Write};
 use std::mem;
 
-/// Makes a step for each letter, from the back at a `b`, and appends what each gives and how much
-/// is left.
+/// Returns the next item, from the back at a `b`.
+fn step<T>(items: &mut impl DoubleEndedIterator<Item = T>, letter: u8) -> Option<T> {
+    if letter == b'b' {
+        items.next_back()
+    } else {
+        items.next()
+    }
+}
+
+/// Makes a step for each letter, and appends what each gives and how much is left.
 fn walk<T: Debug>(
     items: &mut (impl DoubleEndedIterator<Item = T> + ExactSizeIterator),
     steps: &str,
     text: &mut String,
 ) -> Result {
-    for step in steps.bytes() {
-        let item = if step == b'b' {
-            items.next_back()
-        } else {
-            items.next()
-        };
+    for letter in steps.bytes() {
+        let item = step(items, letter);
         write!(text, "{item:?} {:?} {} ", items.size_hint(), items.len())?;
     }
     Ok(())
@@ -40,13 +44,8 @@ fn walk_and_clone<T: Debug>(
 /// Walks along `iter_mut`, and writes each value that is lent.
 fn walk_and_write(map: &mut Map, steps: &str, value: u64, text: &mut String) -> Result {
     let mut pairs = map.iter_mut();
-    for step in steps.bytes() {
-        let pair = if step == b'b' {
-            pairs.next_back()
-        } else {
-            pairs.next()
-        };
-        match pair {
+    for letter in steps.bytes() {
+        match step(&mut pairs, letter) {
             Some((key, lent)) => {
                 write!(text, "{key:?}={} ", *lent)?;
                 *lent = value;

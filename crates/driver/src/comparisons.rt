@@ -3,6 +3,7 @@
 use super::Map;
 use super::hasher::{BuildKeyHasher, Choice};
 use super::line::Line;
+use super::show::show;
 use super::stop::Stop;
 use linked_hash_map::LinkedHashMap;
 use std::alloc::{AllocError, Global};
@@ -20,11 +21,22 @@ fn plain(alloc: Global, map: &Map) -> Result<Plain, Stop> {
     Ok(plain)
 }
 
-/// Makes a map with the default hasher, puts in the pair of a number, and shows it.
-fn show_new(alloc: Global, number: u64, text: &mut String) -> Result<(), Stop> {
+/// Makes a map with the default hasher and the pair of a number.
+fn new(alloc: Global, number: u64) -> Result<Plain, Stop> {
     let mut map = Plain::new(alloc);
     map.insert(number, number)?;
-    Ok(write!(text, "{map:?} ")?)
+    Ok(map)
+}
+
+/// Appends the debug text of a map over several lines, as that of a string.
+fn show_pretty(alloc: Global, map: &Map, text: &mut String) -> Result<(), AllocError> {
+    let pretty = format!(in alloc; "{map:#?}")?;
+    write!(text, "{pretty:?} ")
+}
+
+/// Appends whether two maps are equal.
+fn equal(map: &Map, other: &Map, text: &mut String) -> Result<(), AllocError> {
+    write!(text, "{} {} ", *map == *other, *map != *other)
 }
 
 /// Appends which of two maps is less.
@@ -56,16 +68,13 @@ pub fn run(
     text: &mut String,
 ) -> Result<bool, Stop> {
     match name {
-        "eq" => write!(text, "{} {} ", *map == *other, *map != *other)?,
+        "eq" => equal(map, other, text)?,
         "cmp" => compare(&plain(alloc, map)?, &plain(alloc, other)?, text)?,
         "partial_cmp" => partial_compare(map, other, text)?,
-        "new" => show_new(alloc, line.number(), text)?,
+        "new" => show(&new(alloc, line.number())?, text)?,
         "hash" => write!(text, "{} ", number_of(map))?,
-        "debug" => write!(text, "{map:?} ")?,
-        "debug_pretty" => {
-            let pretty = format!(in alloc; "{map:#?}")?;
-            write!(text, "{pretty:?} ")?;
-        }
+        "debug" => show(map, text)?,
+        "debug_pretty" => show_pretty(alloc, map, text)?,
         _ => return Ok(false),
     }
     Ok(true)

@@ -4,10 +4,28 @@ use super::Map;
 use super::hasher::BuildKeyHasher;
 use super::key::Key;
 use super::line::Line;
+use super::show::{show, show_and_write, show_pair};
 use super::stop::Stop;
 use linked_hash_map::{Entries, Entry, OccupiedEntry};
+use std::alloc::AllocError;
 
 type Occupied<'m> = OccupiedEntry<'m, Key, u64, BuildKeyHasher>;
+
+/// Appends the key and the value of an entry.
+fn show_entry(entry: &Occupied<'_>, text: &mut String) -> Result<(), AllocError> {
+    show_pair(entry.key(), *entry.get(), text)
+}
+
+/// Inserts a value by an entry, and appends the one before it.
+fn insert(entry: &mut Occupied<'_>, value: u64, text: &mut String) -> Result<(), AllocError> {
+    write!(text, "{} ", entry.insert(value))
+}
+
+/// Inserts a value and then 0.
+fn insert_twice(entry: &mut Occupied<'_>, value: u64, text: &mut String) -> Result<(), AllocError> {
+    insert(entry, value, text)?;
+    insert(entry, 0, text)
+}
 
 /// Shows an entry, and writes the value at `w`, inserts it at `i`, or inserts it and then 0 at `t`.
 fn edit_in_place(
@@ -15,15 +33,20 @@ fn edit_in_place(
     edit: u8,
     value: u64,
     text: &mut String,
-) -> Result<(), Stop> {
-    write!(text, "{:?}={} ", entry.key(), entry.get())?;
+) -> Result<(), AllocError> {
+    show_entry(entry, text)?;
     match edit {
         b'w' => *entry.get_mut() = value,
-        b'i' => write!(text, "{} ", entry.insert(value))?,
-        b't' => write!(text, "{} {} ", entry.insert(value), entry.insert(0))?,
+        b'i' => insert(entry, value, text)?,
+        b't' => insert_twice(entry, value, text)?,
         _ => {}
     }
     Ok(())
+}
+
+/// Removes the pair of an entry, and appends its value.
+fn remove(entry: Occupied<'_>, text: &mut String) -> Result<(), AllocError> {
+    write!(text, "{} ", entry.remove())
 }
 
 /// Makes an edit by the entry of a key that is present: one in place, a removal at `r`, or a write
@@ -34,16 +57,23 @@ fn edit_occupied(
     edit: u8,
     value: u64,
     text: &mut String,
-) -> Result<(), Stop> {
-    if let Entry::Occupied(mut entry) = map.entry(key) {
-        edit_in_place(&mut entry, edit, value, text)?;
-        match edit {
-            b'r' => write!(text, "{} ", entry.remove())?,
-            b'm' => *entry.into_mut() = value,
-            _ => {}
-        }
+) -> Result<(), AllocError> {
+    let Entry::Occupied(mut entry) = map.entry(key) else {
+        return Ok(());
+    };
+    edit_in_place(&mut entry, edit, value, text)?;
+    match edit {
+        b'r' => remove(entry, text)?,
+        b'm' => *entry.into_mut() = value,
+        _ => {}
     }
     Ok(())
+}
+
+/// Appends the key of a vacant entry.
+fn show_vacant(key: &Key, text: &mut String) -> Result<(), AllocError> {
+    text.push_str("vacant ")?;
+    show(key, text)
 }
 
 /// Makes an edit by the entry of a key that is absent: an insertion at `i`, one of 0 that is then
@@ -55,17 +85,17 @@ fn edit_vacant(
     value: u64,
     text: &mut String,
 ) -> Result<(), Stop> {
-    if let Entry::Vacant(entry) = map.entry(key) {
-        let shown = *entry.key();
-        write!(text, "vacant {shown:?} ")?;
-        match edit {
-            b'i' => {
-                let lent = entry.insert(value)?;
-                write!(text, "{} ", *lent)?;
-            }
-            b'm' => *entry.insert(0)? = value,
-            _ => {}
+    let Entry::Vacant(entry) = map.entry(key) else {
+        return Ok(());
+    };
+    show_vacant(entry.key(), text)?;
+    match edit {
+        b'i' => {
+            let lent = entry.insert(value)?;
+            write!(text, "{} ", *lent)?;
         }
+        b'm' => *entry.insert(0)? = value,
+        _ => {}
     }
     Ok(())
 }
@@ -76,7 +106,7 @@ fn edit(map: &mut Map, line: &mut Line<'_>, text: &mut String) -> Result<(), Sto
     let edit = first_byte(line.word());
     let value = line.number();
     if map.contains_key(&key) {
-        edit_occupied(map, key, edit, value, text)
+        Ok(edit_occupied(map, key, edit, value, text)?)
     } else {
         edit_vacant(map, key, edit, value, text)
     }
@@ -96,13 +126,13 @@ fn visit_next(
     edit: u8,
     value: u64,
     text: &mut String,
-) -> Result<(), Stop> {
+) -> Result<(), AllocError> {
     let Some(mut entry) = entries.next() else {
-        return Ok(write!(text, "end ")?);
+        return write!(text, "end ");
     };
     edit_in_place(&mut entry, edit, value, text)?;
     match edit {
-        b'r' => write!(text, "{} ", entry.remove())?,
+        b'r' => remove(entry, text)?,
         b'm' => *entry.into_mut() = value,
         _ => {}
     }
@@ -110,7 +140,7 @@ fn visit_next(
 }
 
 /// Makes an edit by each entry of a cursor, up to the end of the word.
-fn visit(map: &mut Map, edits: &str, value: u64, text: &mut String) -> Result<(), Stop> {
+fn visit(map: &mut Map, edits: &str, value: u64, text: &mut String) -> Result<(), AllocError> {
     let mut entries = map.entries();
     for edit in edits.bytes() {
         write!(text, "{} ", entries.remaining())?;
@@ -120,37 +150,35 @@ fn visit(map: &mut Map, edits: &str, value: u64, text: &mut String) -> Result<()
 }
 
 /// Appends a value that is lent, and writes the number after it.
-fn show_and_write(lent: &mut u64, text: &mut String) -> Result<(), Stop> {
-    write!(text, "{} ", *lent)?;
-    *lent = lent.wrapping_add(1);
-    Ok(())
+fn show_and_increase(lent: &mut u64, text: &mut String) -> Result<(), Stop> {
+    let next = lent.wrapping_add(1);
+    Ok(show_and_write(lent, next, text)?)
 }
 
 fn entry_key(map: &mut Map, key: Key, text: &mut String) -> Result<(), Stop> {
     let entry = map.entry(key);
-    let shown = *entry.key();
-    Ok(write!(text, "{shown:?} ")?)
+    Ok(show(entry.key(), text)?)
 }
 
 fn or_insert(map: &mut Map, key: Key, value: u64, text: &mut String) -> Result<(), Stop> {
     let lent = map.entry(key).or_insert(value)?;
-    show_and_write(lent, text)
+    show_and_increase(lent, text)
 }
 
 fn or_insert_with(map: &mut Map, key: Key, value: u64, text: &mut String) -> Result<(), Stop> {
     let lent = map.entry(key).or_insert_with(|| value)?;
-    show_and_write(lent, text)
+    show_and_increase(lent, text)
 }
 
 fn or_default(map: &mut Map, key: Key, text: &mut String) -> Result<(), Stop> {
     let lent = map.entry(key).or_default()?;
-    show_and_write(lent, text)
+    show_and_increase(lent, text)
 }
 
 fn and_modify(map: &mut Map, key: Key, value: u64, text: &mut String) -> Result<(), Stop> {
     let entry = map.entry(key).and_modify(|lent| *lent = value);
     let lent = entry.or_insert(0)?;
-    show_and_write(lent, text)
+    show_and_increase(lent, text)
 }
 
 /// Runs the call of this name, and tells whether there is one.

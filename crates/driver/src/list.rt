@@ -1,6 +1,7 @@
 //! The list of a map, at the end of each line of the output.
 
 use super::Map;
+use super::key::Key;
 use std::alloc::AllocError;
 
 /// The longest list that is shown whole.
@@ -20,10 +21,15 @@ fn digest(map: &Map) -> u64 {
     digest
 }
 
+/// Appends a pair.
+fn push_pair(key: &Key, value: u64, text: &mut String) -> Result<(), AllocError> {
+    write!(text, " {key:?}:{value}")
+}
+
 /// Appends the pairs in order.
 fn push_pairs(map: &Map, text: &mut String) -> Result<(), AllocError> {
     for (key, value) in map.iter() {
-        write!(text, " {key:?}:{value}")?;
+        push_pair(key, *value, text)?;
     }
     Ok(())
 }

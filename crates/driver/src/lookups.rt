@@ -3,6 +3,7 @@
 use super::Map;
 use super::key::Key;
 use super::line::Line;
+use super::show::show_and_write;
 use super::stop::Stop;
 use std::alloc::AllocError;
 
@@ -25,14 +26,10 @@ fn index_mut(map: &mut Map, key: Key, value: u64, text: &mut String) -> Result<(
     }
 }
 
-/// Writes a value that is lent, and appends what it was.
+/// Appends a value that is lent, and writes another, if there is one.
 fn write_lent(lent: Option<&mut u64>, value: u64, text: &mut String) -> Result<(), AllocError> {
     match lent {
-        Some(lent) => {
-            write!(text, "{} ", *lent)?;
-            *lent = value;
-            Ok(())
-        }
+        Some(lent) => show_and_write(lent, value, text),
         None => write!(text, "absent "),
     }
 }

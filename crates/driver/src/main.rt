@@ -17,6 +17,7 @@ mod line;
 mod list;
 mod lookups;
 mod making;
+mod show;
 mod stop;
 mod walks;
 

@@ -2,14 +2,35 @@
 
 use super::Map;
 use super::hasher::BuildKeyHasher;
+use super::key::Key;
 use super::line::Line;
+use super::show::{show, show_pair};
 use super::stop::Stop;
 use std::alloc::{AllocError, Global};
 use std::fmt::Debug;
 use std::mem;
 
-/// Makes a step for each letter, from the back at a `b`, and appends what each gives and how much
-/// is left.
+/// Returns the next item, from the back at a `b`.
+fn step<T, I: DoubleEndedIterator<Item = T>>(items: &mut I, letter: u8) -> Option<T>
+    requires { (items : I) → I.can_next items × I.can_next_back items }
+{
+    if letter == b'b' {
+        items.next_back()
+    } else {
+        items.next()
+    }
+}
+
+/// Appends how many items are left, as an iterator tells it.
+fn show_left(
+    hint: (usize, Option<usize>),
+    len: usize,
+    text: &mut String,
+) -> Result<(), AllocError> {
+    write!(text, "{hint:?} {len} ")
+}
+
+/// Makes a step for each letter, and appends what each gives and how much is left.
 fn walk<T: Debug + Drop, I: DoubleEndedIterator<Item = T> + ExactSizeIterator>(
     items: &mut I,
     steps: &str,
@@ -17,13 +38,10 @@ fn walk<T: Debug + Drop, I: DoubleEndedIterator<Item = T> + ExactSizeIterator>(
 ) -> Result<(), AllocError>
     requires { (items : I) → I.can_next items × I.can_next_back items }
 {
-    for step in steps.bytes() {
-        let item = if step == b'b' {
-            items.next_back()
-        } else {
-            items.next()
-        };
-        write!(text, "{item:?} {:?} {} ", items.size_hint(), items.len())?;
+    for letter in steps.bytes() {
+        let item = step(items, letter);
+        show(&item, text)?;
+        show_left(items.size_hint(), items.len(), text)?;
     }
     Ok(())
 }
@@ -44,6 +62,13 @@ fn walk_and_clone<
     walk(&mut items, steps, text)
 }
 
+/// Appends a pair, and writes its value.
+fn write_pair(key: &Key, lent: &mut u64, value: u64, text: &mut String) -> Result<(), AllocError> {
+    show_pair(key, *lent, text)?;
+    *lent = value;
+    Ok(())
+}
+
 /// Walks along `iter_mut`, and writes each value that is lent.
 fn walk_and_write(
     map: &mut Map,
@@ -52,20 +77,17 @@ fn walk_and_write(
     text: &mut String,
 ) -> Result<(), AllocError> {
     let mut pairs = map.iter_mut();
-    for step in steps.bytes() {
-        let pair = if step == b'b' {
+    for letter in steps.bytes() {
+        let pair = if letter == b'b' {
             pairs.next_back()
         } else {
             pairs.next()
         };
         match pair {
-            Some((key, lent)) => {
-                write!(text, "{key:?}={} ", *lent)?;
-                *lent = value;
-            }
+            Some((key, lent)) => write_pair(key, lent, value, text)?,
             None => write!(text, "end ")?,
         }
-        write!(text, "{:?} {} ", pairs.size_hint(), pairs.len())?;
+        show_left(pairs.size_hint(), pairs.len(), text)?;
     }
     Ok(())
 }
@@ -78,9 +100,9 @@ fn add(map: &mut Map, number: u64) {
 }
 
 /// Appends every pair, in a loop over the map.
-fn show(map: &Map, text: &mut String) -> Result<(), AllocError> {
+fn show_all(map: &Map, text: &mut String) -> Result<(), AllocError> {
     for (key, value) in map {
-        write!(text, "{key:?}={value} ")?;
+        show_pair(key, *value, text)?;
     }
     Ok(())
 }
@@ -124,7 +146,7 @@ pub fn run(
         "into_iter" => walk_and_clone(take(alloc, map).into_iter(), line, text)?,
         "into_iter_forget" => walk_and_forget(take(alloc, map), line.word(), text)?,
         "drain" => drain(map, line, text)?,
-        "loop" => show(map, text)?,
+        "loop" => show_all(map, text)?,
         "loop_mut" => add(map, line.number()),
         _ => return Ok(false),
     }
