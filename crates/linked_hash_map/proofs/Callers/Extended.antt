@@ -1,8 +1,9 @@
 -- For callers: what `extend`, `extend_refs` and `from_iter` leave, where the items that an iterator gives are known. Each lemma takes
 -- the clause of the call, and a chain proof, `YieldsList`, that what the source becomes gives the list.
-use Rattle.std.proofs.Common.{◌≡◌, ℕ, ◌+◌, ◌-◌, ◌≤◌, max, Bool, List, [], length, take, slice_get, Option, Some, None, refl, sym, ap, ◌∙◌, arith}
+use Rattle.std.proofs.Common.{◌≡◌, ℕ, ◌+◌, ◌-◌, ◌≤◌, max, Bool, not, List, [], ◌++◌, length, take, filter, slice_get, Option, Some, None, is_some, refl, sym, ap, ◌∙◌, arith}
 use Rattle.std.specs.List.{IsDistinct}
 use Rattle.std.specs.Map.{keys_of}
+use Rattle.std.specs.Option.{option_or}
 use Rattle.std.specs.Map.Iter.{TakesFirst}
 use Rattle.std.specs.Cmp.{IsEquivalence}
 use Rattle.std.specs.Iterator.{Count, UpTo, at_most}
@@ -13,10 +14,11 @@ use Rattle.std.proofs.lemmas.Iterator.Adapters.{YieldsList-from_vec}
 use Rattle.std.proofs.lemmas.List.{map-id}
 use Rattle.linked_hash_map.specs.Counts.{rechained_each}
 use Rattle.linked_hash_map.specs.declared.map.Mode.{Mode}
-use Rattle.linked_hash_map.specs.declared.map.Mode.TheVariants.{Touch}
+use Rattle.linked_hash_map.specs.declared.map.Mode.TheVariants.{Touch, Keep}
+use Rattle.linked_hash_map.specs.Pairs.{find, value_at}
 use Rattle.linked_hash_map.specs.Inserts.{insert_each, InsertsAll, InsertsUntil, Collects}
 use Rattle.linked_hash_map.proofs.Callers.Keys.{distinct-nil}
-use Rattle.linked_hash_map.proofs.Callers.Collected.{insert_each-distinct, length-insert_each_most}
+use Rattle.linked_hash_map.proofs.Callers.Collected.{insert_each-distinct, length-insert_each_most, value_at-insert_each_distinct, keys_of-insert_each_keep}
 
 module _ {T I X K V : Type 0} {becomes : T → I → Type 0} {steps : I → Option X → I → Type 0} {source : T} {eq : K → K → Bool} {shows : X → K × V} {all : List (K × V)} where
   -- `extend` of any source whose items are known
@@ -85,6 +87,19 @@ capacity-insert_each laws mode pairs items capacity distinct enough = let most =
 -- `extend` of a map by value, or by reference: of any source that becomes a list which shows what is left
 pub pairs-InsertsAll_list : {T X K V : Type 0} {becomes : T → List (K × V) → Type 0} {source : T} {eq : K → K → Bool} {shows : X → K × V} {mode : Mode} {old new : List (K × V)} (all : List (K × V)) → InsertsAll becomes (TakesFirst shows) source eq shows mode old new → ((it : List (K × V)) → becomes source it → it ≡ all) → new ≡ insert_each eq mode old all
 pairs-InsertsAll_list all inserts is = pairs-InsertsAll inserts (λ it made. YieldsList-from_rest all (is it made))
+
+-- and where the keys of that list differ, as those of a map do: its values win, and in Keep the old keys stand before the new
+module _ {T K V : Type 0} {becomes : T → List (K × V) → Type 0} {source : T} {eq : K → K → Bool} (laws : IsEquivalence eq) {mode : Mode} {old new : List (K × V)} (all : List (K × V)) (inserts : InsertsAll becomes (TakesFirst (λ (pair : K × V). pair)) source eq (λ pair. pair) mode old new) (is : (it : List (K × V)) → becomes source it → (it ≡ all) × IsDistinct eq (keys_of all)) where
+  pub value_at-InsertsAll_distinct : (q : K) → value_at eq new q ≡ option_or (value_at eq all q) (value_at eq old q)
+  value_at-InsertsAll_distinct q =
+      ap (λ ps. value_at eq ps q) (pairs-InsertsAll_list all inserts (λ it made. (is it made).0))
+      ∙ value_at-insert_each_distinct laws mode old all (is inserts.gives.iterator inserts.gives.made).1 q
+
+  pub keys_of-InsertsAll_keep : mode ≡ Keep → keys_of new ≡ keys_of old ++ filter (λ k. not (is_some (find eq old k))) (keys_of all)
+  keys_of-InsertsAll_keep keep =
+      ap keys_of (pairs-InsertsAll_list all inserts (λ it made. (is it made).0))
+      ∙ ap (λ m. keys_of (insert_each eq m old all)) keep
+      ∙ keys_of-insert_each_keep laws old all (is inserts.gives.iterator inserts.gives.made).1
 
 -- `extend` of a vector
 pub pairs-InsertsAll_vec : {T Z K V : Type 0} {becomes : T → _ → Type 0} {source : T} {eq : K → K → Bool} {mode : Mode} {old new : List (K × V)} (all : List (K × V)) → InsertsAll becomes (into_iter_steps {X = K × V} {Z = Z}) source eq (λ pair. pair) mode old new → ((it : _) → becomes source it → (into_iter_items it ≡ all) × (into_iter_len it ≡ length all)) → new ≡ insert_each eq mode old all
