@@ -13,6 +13,7 @@ pub mod Retained
 pub mod Rules
 pub mod Texts
 pub mod Turns
+pub mod Updates
 pub mod Valid
 pub mod Visits
 pub mod WholeRuns

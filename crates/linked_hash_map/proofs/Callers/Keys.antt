@@ -1,5 +1,5 @@
 -- For callers: which pairs and keys there are after each call, and how many.
-use Rattle.std.proofs.Common.{◌≡◌, ℕ, zero, suc, ◌+◌, ◌-◌, ◌<◌, ◌≤◌, max, Bool, true, false, cond, not, ◌||◌, IsTrue, List, [], ◌∷◌, ◌++◌, length, take, drop, slice_get, filter, Option, Some, None, is_some, option_map, refl, sym, ap, ap₂, ◌∙◌, subst, true≢false, arith, length-append, length-drop}
+use Rattle.std.proofs.Common.{◌≡◌, ℕ, zero, suc, ◌+◌, ◌-◌, ◌<◌, ◌≤◌, Bool, true, false, cond, not, ◌||◌, IsTrue, List, [], ◌∷◌, ◌++◌, length, take, drop, slice_get, filter, Option, Some, None, is_some, option_map, refl, sym, ap, ap₂, ◌∙◌, subst, true≢false, arith, length-append, length-drop}
 use Rattle.std.specs.Option.{IsSome}
 use Rattle.std.specs.List.{IsDistinct, AllByRecursion, list_any}
 use Rattle.std.specs.Map.{lookup_entry, keys_of}
@@ -181,14 +181,6 @@ module _ {K V : Type 0} {eq : K → K → Bool} (laws : IsEquivalence eq) (pairs
 
   pub length-put_present : (mode : Mode) (v : V) → length (put eq mode pairs k v) ≡ length pairs
   length-put_present mode v = length-put laws mode pairs k v distinct ∙ ap (λ b. cond b (length pairs) (length pairs + 1)) found
-
--- where the key is present or there is room, an insertion leaves the capacity
-pub max-length-put : {K V : Type 0} {eq : K → K → Bool} → IsEquivalence eq → (mode : Mode) (pairs : List (K × V)) (k : K) (v : V) (capacity : ℕ) → IsDistinct eq (keys_of pairs) → length pairs ≤ capacity → (find eq pairs k ≡ None → length pairs < capacity) → max capacity (length (put eq mode pairs k v)) ≡ capacity
-max-length-put {K} {V} {eq} laws mode pairs k v capacity distinct within room = by_find (find eq pairs k) refl
-  where
-    by_find : (o : Option (K × V)) → find eq pairs k ≡ o → max capacity (length (put eq mode pairs k v)) ≡ capacity
-    by_find None none = let more = length-put_absent eq mode pairs k v none in let below = room none in omega arith
-    by_find (Some pair) found = let same = length-put_present laws pairs k distinct (ap is_some found) mode v in omega arith
 
 -- one more pair at most
 most : (b : Bool) (n length_after : ℕ) → length_after ≡ cond b n (n + 1) → length_after ≤ n + 1

@@ -1,5 +1,5 @@
 //! Insertion.
-ghost use Rattle.std.specs.Prelude.{◌≡◌, ◌<◌, [], length, max, option_map, None, OnOk, OnErr, IfOk, IfErr, IfNone, OnSome, ◌-◌, ◌++◌, ◌∷◌, slice_get, Some};
+ghost use Rattle.std.specs.Prelude.{◌≡◌, ◌<◌, [], length, max, option_map, None, OnOk, OnErr, IfOk, IfErr, IfNone, OnSome, ◌-◌, ◌+◌, ◌++◌, ◌∷◌, slice_get, Some};
 ghost use Rattle.std.specs.Borrow.{sem};
 ghost use Rattle.linked_hash_map.specs.Pairs.{find, value_at, put};
 ghost use Rattle.linked_hash_map.specs.Cursor.{to_visit};
@@ -8,6 +8,7 @@ ghost use Rattle.linked_hash_map.specs.Validity.{IsValid};
 ghost use Rattle.linked_hash_map.specs.Hashers.{hash_by};
 ghost use Rattle.linked_hash_map.specs.Counts.{rechained_raised};
 ghost use Rattle.linked_hash_map.specs.Touches.{IsTouched};
+ghost use Rattle.linked_hash_map.specs.Updates.{Updates};
 ghost use Rattle.lhm_ring.specs.Positions.{pointer_of};
 ghost use Rattle.lhm_ring.specs.RingState.{IsHeld};
 
@@ -66,6 +67,14 @@ impl<K: Eq + Hash, V, S: BuildHasher> LinkedHashMap<K, V, S> {
         ensures to_visit { IfOk result (λ old. IfNone old (to_visit self.new ≡ to_visit self.old)) }
         ensures valid { IsValid K.eq self.old }
         ensures stays_valid { IsValid K.eq self.new }
+        // Consequences of `pairs` and `capacity`, for the proofs of callers.
+        ensures updates { OnOk result (Updates K.eq self.old.pairs self.new.pairs key (Some value)) }
+        ensures pushed { OnOk result (value_at K.eq self.old.pairs key ≡ None
+            → self.new.pairs ≡ self.old.pairs ++ (key, value) ∷ []) }
+        ensures more { OnOk result (value_at K.eq self.old.pairs key ≡ None
+            → length self.new.pairs ≡ length self.old.pairs + 1) }
+        ensures same_room { OnOk result ((find K.eq self.old.pairs key ≡ None
+            → length self.old.pairs < self.old.capacity) → self.new.capacity ≡ self.old.capacity) }
 
         ensures key_back { IfErr result (λ refused. refused.key ≡ key) }
         ensures value_back { IfErr result (λ refused. refused.value ≡ value) }

@@ -1,0 +1,52 @@
+-- For callers: what a call changes, at its key and at the others.
+use Rattle.std.proofs.Common.{◌≡◌, ℕ, ◌-◌, ◌+◌, ◌<◌, ◌≤◌, max, Bool, List, length, take, drop, slice_get, Option, Some, None, is_some, refl, ap, ◌∙◌, subst, sym, arith}
+use Rattle.std.specs.Cmp.{IsEquivalence}
+use Rattle.std.specs.List.{IsDistinct}
+use Rattle.std.specs.Map.{keys_of}
+use Rattle.linked_hash_map.specs.declared.map.Mode.{Mode}
+use Rattle.linked_hash_map.specs.Pairs.{find, value_at, put, to_back, without, set_value, set_or_push}
+use Rattle.linked_hash_map.specs.Updates.{Updates}
+use Rattle.linked_hash_map.proofs.Callers.Lookups.{value_at-put_here, value_at-put_apart, value_at-to_back_here, value_at-to_back_apart, value_at-without_here, value_at-without_apart, value_at-set_or_push_here, value_at-set_or_push_apart, drop-first, take-but_last}
+use Rattle.linked_hash_map.proofs.Callers.Keys.{length-put_absent, length-put_present}
+
+-- an insertion of a key that is present, or that has room, leaves the capacity
+pub max-length_put : {K V : Type 0} {eq : K → K → Bool} → IsEquivalence eq → (mode : Mode) (pairs : List (K × V)) (k : K) (v : V) (capacity : ℕ) → IsDistinct eq (keys_of pairs) → length pairs ≤ capacity → (find eq pairs k ≡ None → length pairs < capacity) → max capacity (length (put eq mode pairs k v)) ≡ capacity
+max-length_put {K} {V} {eq} laws mode pairs k v capacity distinct within room = by_pair (find eq pairs k) refl
+  where
+    by_pair : (o : Option (K × V)) → find eq pairs k ≡ o → max capacity (length (put eq mode pairs k v)) ≡ capacity
+    by_pair None absent = let longer = length-put_absent eq mode pairs k v absent in let below = room absent in omega arith
+    by_pair (Some pair) found = let same = length-put_present laws pairs k distinct (ap is_some found) mode v in omega arith
+
+module _ {K V : Type 0} {eq : K → K → Bool} (laws : IsEquivalence eq) (before after : List (K × V)) (k : K) where
+  pub Updates-without : after ≡ without eq before k → Updates eq before after k None
+  Updates-without is = record {
+    here = ap (λ pairs. value_at eq pairs k) is ∙ value_at-without_here laws before k;
+    others = λ q apart. ap (λ pairs. value_at eq pairs q) is ∙ value_at-without_apart laws before k q apart;
+  }
+
+  module _ (v : V) where
+    pub Updates-put : (mode : Mode) → after ≡ put eq mode before k v → Updates eq before after k (Some v)
+    Updates-put mode is = record {
+      here = ap (λ pairs. value_at eq pairs k) is ∙ value_at-put_here laws before k mode v;
+      others = λ q apart. ap (λ pairs. value_at eq pairs q) is ∙ value_at-put_apart laws before k q apart mode v;
+    }
+
+    pub Updates-to_back : after ≡ to_back eq before k v → Updates eq before after k (Some v)
+    Updates-to_back is = record {
+      here = ap (λ pairs. value_at eq pairs k) is ∙ value_at-to_back_here laws before k v;
+      others = λ q apart. ap (λ pairs. value_at eq pairs q) is ∙ value_at-to_back_apart laws before k q apart v;
+    }
+
+    pub Updates-set_or_push : after ≡ set_or_push eq before k v → Updates eq before after k (Some v)
+    Updates-set_or_push is = record {
+      here = ap (λ pairs. value_at eq pairs k) is ∙ value_at-set_or_push_here laws before k v;
+      others = λ q apart. ap (λ pairs. value_at eq pairs q) is ∙ value_at-set_or_push_apart laws before k q apart v;
+    }
+
+-- a pop takes out the key of the first pair, or of the last
+module _ {K V : Type 0} {eq : K → K → Bool} (laws : IsEquivalence eq) (before after : List (K × V)) (distinct : IsDistinct eq (keys_of before)) (pair : K × V) where
+  pub Updates-drop_first : slice_get before 0 ≡ Some pair → after ≡ drop 1 before → Updates eq before after pair.0 None
+  Updates-drop_first there is = Updates-without laws before after pair.0 (is ∙ drop-first laws before distinct pair there)
+
+  pub Updates-take_but_last : slice_get before (length before - 1) ≡ Some pair → after ≡ take (length before - 1) before → Updates eq before after pair.0 None
+  Updates-take_but_last there is = Updates-without laws before after pair.0 (is ∙ take-but_last laws before distinct pair there)
