@@ -91,7 +91,7 @@ impl<K: Eq + Hash, V> Document<K, V> {
         if !self.fields.contains_key(from) || self.fields.contains_key(&to) {
             return false;
         }
-        for _ in 0..self.fields.len() {
+        for _turn in 0..self.fields.len() {
             let Some((name, value)) = self.fields.pop_front() else {
                 unreachable!()
             };
