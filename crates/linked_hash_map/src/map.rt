@@ -1,5 +1,5 @@
 //! The map: its type, length, capacity, hasher and mode.
-ghost use Rattle.std.specs.Prelude.{◌≡◌, ◌==◌, length};
+ghost use Rattle.std.specs.Prelude.{◌≡◌, ◌==◌, ◌≤◌, [], length};
 ghost use Rattle.linked_hash_map.specs.Validity.{IsValid};
 ghost use Rattle.linked_hash_map.specs.Hashers.{hash_by};
 
@@ -15,6 +15,7 @@ mod retain;
 
 use self::cursor::Visit;
 pub use self::probe::Probe;
+use crate::iter::IntoIter;
 use lhm_ring::table::Table;
 use std::alloc::Global;
 use std::hash::{BuildHasher, BuildHasherDefault, FoldHasher, Hash};
@@ -140,6 +141,42 @@ impl<K: Eq + Hash, V, S: BuildHasher> Model for LinkedHashMap<K, V, S> {
 }
 
 impl<K: Eq + Hash, V, S: BuildHasher> LinkedHashMap<K, V, S> {
+    /// Creates a map of an empty table.
+    fn of_empty(table: Table<K, V>, hasher: S) -> Self
+        requires empty { table.held ≡ [] }
+        requires unmoved { table.rechained ≡ 0 }
+        requires limit { table.capacity ≤ LIMIT }
+        ensures pairs { result.pairs ≡ [] }
+        ensures capacity { result.capacity ≡ table.capacity }
+        ensures hasher { result.hasher ≡ hasher }
+        ensures mode { result.mode ≡ Mode.Touch }
+        ensures valid { IsValid K.eq result }
+        ensures rechained { result.rechained ≡ 0 }
+    {
+        LinkedHashMap {
+            table,
+            hasher,
+            visit: Visit::none(),
+            mode: Mode::Touch,
+        }
+    }
+
+    /// Returns an iterator that owns the pairs, and drops the hasher.
+    pub(crate) fn into_pairs(self) -> IntoIter<K, V>
+    where
+        S: Drop,
+        ensures pairs { result ≡ self.pairs }
+        ensures valid { IsValid K.eq self }
+    {
+        let LinkedHashMap {
+            table,
+            hasher: _,
+            visit: _,
+            mode: _,
+        } = self;
+        IntoIter::new(table.into_iter())
+    }
+
     /// Returns the number of pairs, in O(1) without allocating.
     ///
     /// # Examples

@@ -22,7 +22,7 @@
 ghost use Rattle.std.specs.Prelude.{◌≡◌, ℕ, [], IfOk, IfErr, OnErr, IsOk};
 ghost use Rattle.linked_hash_map.specs.Log.{Log, mode, pairs, high, Defines};
 ghost use Rattle.linked_hash_map.specs.Validity.{IsValid};
-ghost use Rattle.linked_hash_map.specs.Run.{log_after, first_log, last_log, Serves, IsReply, IsRun};
+ghost use Rattle.linked_hash_map.specs.Run.{log_after, first_log, last_log, Serves, IsReply, IsRun, Replayed};
 
 use crate::entry::Entry;
 use crate::error::{NoRoom, ReserveError};
@@ -443,6 +443,8 @@ pub fn replay<K: Eq + Hash + Drop, V: Drop, S: BuildHasher>(
     ensures hasher { map.new.hasher ≡ map.old.hasher }
     ensures valid { IsValid K.eq map.old }
     ensures stays_valid { IsValid K.eq map.new }
+    // The clauses `run`, `pairs`, `capacity` and `mode` in one, for the proofs of callers.
+    ensures replayed { IfOk result (λ replies. Replayed K.eq map.old commands.items replies.items map.new) }
 
     ensures handed_back { IfErr result (λ refused. refused ≡ commands) }
     ensures unchanged { OnErr result (map.new ≡ map.old) }

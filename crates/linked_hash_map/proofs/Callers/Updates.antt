@@ -1,10 +1,10 @@
 -- For callers: what a call changes, at its key and at the others.
-use Rattle.std.proofs.Common.{◌≡◌, ℕ, ◌-◌, ◌+◌, ◌<◌, ◌≤◌, max, Bool, List, length, take, drop, slice_get, Option, Some, None, is_some, refl, ap, ◌∙◌, subst, sym, arith}
+use Rattle.std.proofs.Common.{◌≡◌, ℕ, ◌-◌, ◌<◌, ◌≤◌, max, Bool, List, length, take, drop, slice_get, Option, Some, None, is_some, refl, ap, ◌∙◌, arith}
 use Rattle.std.specs.Cmp.{IsEquivalence}
 use Rattle.std.specs.List.{IsDistinct}
 use Rattle.std.specs.Map.{keys_of}
 use Rattle.linked_hash_map.specs.declared.map.Mode.{Mode}
-use Rattle.linked_hash_map.specs.Pairs.{find, value_at, put, to_back, without, set_value, set_or_push}
+use Rattle.linked_hash_map.specs.Pairs.{find, value_at, put, to_back, without, set_or_push}
 use Rattle.linked_hash_map.specs.Updates.{Updates}
 use Rattle.linked_hash_map.proofs.Callers.Lookups.{value_at-put_here, value_at-put_apart, value_at-to_back_here, value_at-to_back_apart, value_at-without_here, value_at-without_apart, value_at-set_or_push_here, value_at-set_or_push_apart, drop-first, take-but_last}
 use Rattle.linked_hash_map.proofs.Callers.Keys.{length-put_absent, length-put_present}

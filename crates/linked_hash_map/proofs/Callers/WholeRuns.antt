@@ -13,14 +13,8 @@ use Rattle.linked_hash_map.specs.declared.replay.Command.{Command}
 use Rattle.linked_hash_map.specs.declared.replay.Command.TheVariants.{Insert, Write, Refresh, Remove, PopFront, PopBack, Clear, Drain, Extend, OrInsert, EntryInsert, EntryRemove, Reserve, Shrink, SetMode}
 use Rattle.linked_hash_map.specs.declared.replay.Reply.{Reply}
 use Rattle.linked_hash_map.proofs.Callers.Replay.{Replied-given, Defines-first, is_refusal-write, is_refusal-refresh, is_refusal-remove, is_refusal-entry_remove, is_refusal-pop_front, is_refusal-pop_back, is_refusal-clear, is_refusal-set_mode}
-
--- what `replay` says where it returns replies: each is allowed on the log that those before it left, and the last log defines
--- the map
-pub record Replayed {K V S : Type 0} (eq : K → K → Bool) (old : LinkedMap K V S) (commands : List (Command K V)) (replies : List (Reply K V)) (new : LinkedMap K V S) : Type 0 where
-  pub run : IsRun eq old.capacity (first_log old.mode old.pairs) commands replies
-  pub pairs : new.pairs ≡ pairs eq (last_log eq (first_log old.mode old.pairs) commands replies)
-  pub capacity : new.capacity ≡ high eq old.capacity (last_log eq (first_log old.mode old.pairs) commands replies)
-  pub mode : new.mode ≡ mode (last_log eq (first_log old.mode old.pairs) commands replies)
+-- what `replay` says if it returns replies
+pub use Rattle.linked_hash_map.specs.Run.{Replayed}
 
 -- it is what the four clauses of `replay` say together
 pub Replayed-replay : {K V S R E : Type 0} (eq : K → K → Bool) (old new : LinkedMap K V S) (commands : List (Command K V)) (items : R → List (Reply K V)) (r : Result R E)

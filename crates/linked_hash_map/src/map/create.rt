@@ -3,7 +3,6 @@ ghost use Rattle.std.specs.Prelude.{◌≡◌, ◌<◌, ◌≤◌, [], IsErrOf, 
 ghost use Rattle.linked_hash_map.specs.Validity.{IsValid};
 ghost use Rattle.linked_hash_map.specs.Hashers.{IsDefaultHashBuilder};
 
-use super::cursor::Visit;
 use super::{LIMIT, LinkedHashMap, Mode};
 use crate::error::ReserveError;
 use lhm_ring::table::Table;
@@ -120,26 +119,6 @@ impl<K: Eq + Hash, V, S: BuildHasher> LinkedHashMap<K, V, S> {
         match Table::with_capacity(alloc, capacity) {
             Ok(table) => Ok(Self::of_empty(table, hasher)),
             Err(_) => Err(ReserveError::NoRoom),
-        }
-    }
-
-    /// Creates a map of an empty table.
-    fn of_empty(table: Table<K, V>, hasher: S) -> Self
-        requires empty { table.held ≡ [] }
-        requires unmoved { table.rechained ≡ 0 }
-        requires limit { table.capacity ≤ LIMIT }
-        ensures pairs { result.pairs ≡ [] }
-        ensures capacity { result.capacity ≡ table.capacity }
-        ensures hasher { result.hasher ≡ hasher }
-        ensures mode { result.mode ≡ Mode.Touch }
-        ensures valid { IsValid K.eq result }
-        ensures rechained { result.rechained ≡ 0 }
-    {
-        LinkedHashMap {
-            table,
-            hasher,
-            visit: Visit::none(),
-            mode: Mode::Touch,
         }
     }
 }

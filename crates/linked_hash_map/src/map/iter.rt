@@ -9,7 +9,7 @@ ghost use Rattle.linked_hash_map.specs.Nodes.{pairs_of};
 ghost use Rattle.lhm_ring.specs.LentRings.{lent_held, lent_name, IsLent};
 
 use super::LinkedHashMap;
-use crate::iter::{IntoIter, Iter, IterMut, Keys, Values};
+use crate::iter::{Iter, IterMut, Keys, Values};
 use lhm_ring::table::{LentValues, ValueLoan, WithoutValues};
 use std::hash::{BuildHasher, Hash};
 use std::marker::PhantomData;
@@ -127,21 +127,5 @@ impl<K: Eq + Hash, V, S: BuildHasher> LinkedHashMap<K, V, S> {
             ring: unsafe { &*ring },
             loan: ValueLoan { mark: PhantomData },
         }
-    }
-
-    /// Returns an iterator that owns the pairs, and drops the hasher.
-    pub(crate) fn into_pairs(self) -> IntoIter<K, V>
-    where
-        S: Drop,
-        ensures pairs { result ≡ self.pairs }
-        ensures valid { IsValid K.eq self }
-    {
-        let LinkedHashMap {
-            table,
-            hasher: _,
-            visit: _,
-            mode: _,
-        } = self;
-        IntoIter::new(table.into_iter())
     }
 }

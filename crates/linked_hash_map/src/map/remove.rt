@@ -1,9 +1,10 @@
 //! Removal.
-ghost use Rattle.std.specs.Prelude.{◌≡◌, [], option_map, IfNone, OnSome};
+ghost use Rattle.std.specs.Prelude.{◌≡◌, ◌+◌, [], length, option_map, None, IfNone, IfSome, OnSome};
 ghost use Rattle.std.specs.Borrow.{sem};
-ghost use Rattle.linked_hash_map.specs.Pairs.{value_at, without, first, last, without_first, without_last};
+ghost use Rattle.linked_hash_map.specs.Pairs.{find, value_at, without, first, last, without_first, without_last};
 ghost use Rattle.linked_hash_map.specs.Cursor.{to_visit};
 ghost use Rattle.linked_hash_map.specs.Changes.{Keeps};
+ghost use Rattle.linked_hash_map.specs.Updates.{Updates};
 ghost use Rattle.linked_hash_map.specs.Validity.{IsValid};
 ghost use Rattle.linked_hash_map.specs.Hashers.{hash_by};
 
@@ -40,6 +41,10 @@ impl<K: Eq + Hash, V, S: BuildHasher> LinkedHashMap<K, V, S> {
         ensures to_visit { IfNone result (to_visit self.new ≡ to_visit self.old) }
         ensures valid { IsValid K.eq self.old }
         ensures stays_valid { IsValid K.eq self.new }
+        // Consequences of `pairs`, for the proofs of callers.
+        ensures updates { Updates K.eq self.old.pairs self.new.pairs key.now None }
+        ensures fewer { OnSome result (length self.new.pairs + 1 ≡ length self.old.pairs) }
+        ensures same { IfNone result (self.new.pairs ≡ self.old.pairs) }
     {
         let hash = self.hash_of(key);
         let (_stored, value) = self.take_out(hash, key)?;
@@ -82,6 +87,9 @@ impl<K: Eq + Hash, V, S: BuildHasher> LinkedHashMap<K, V, S> {
         ensures ends_visit { to_visit self.new ≡ [] }
         ensures valid { IsValid K.eq self.old }
         ensures stays_valid { IsValid K.eq self.new }
+        // Consequences of `pair` and `pairs`, for the proofs of callers.
+        ensures updates { IfSome result (λ pair. Updates K.eq self.old.pairs self.new.pairs pair.0 None) }
+        ensures gone { IfSome result (λ pair. find K.eq self.new.pairs pair.0 ≡ None) }
     {
         let front = self.table.first()?;
         self.visit.active = false;
@@ -107,6 +115,9 @@ impl<K: Eq + Hash, V, S: BuildHasher> LinkedHashMap<K, V, S> {
         ensures ends_visit { to_visit self.new ≡ [] }
         ensures valid { IsValid K.eq self.old }
         ensures stays_valid { IsValid K.eq self.new }
+        // Consequences of `pair` and `pairs`, for the proofs of callers.
+        ensures updates { IfSome result (λ pair. Updates K.eq self.old.pairs self.new.pairs pair.0 None) }
+        ensures gone { IfSome result (λ pair. find K.eq self.new.pairs pair.0 ≡ None) }
     {
         let back = self.table.last()?;
         self.visit.active = false;

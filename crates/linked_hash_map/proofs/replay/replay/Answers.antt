@@ -63,3 +63,6 @@ returns-clause-mode g c =
     let end = YieldsList-end (YieldsList-from_vec c.args.commands.items gives.0 (gives.1 ∙ c.args.commands.ok.0)) c.loop-command.yielded c.loop-command.command-iterator c.loop-command.yielded_by c.next.result c.next.new.self c.in-None.is c.next.ensures.steps in
     let first = first_log c.args.map.now.mode c.args.map.now.pairs in
     subst (λ cs. c.loop-command.map.mode ≡ mode (last_log g.K.PartialEq.eq first cs c.loop-command.replies.items)) (sym (map-id c.loop-command.yielded) ∙ end.0) (sym c.loop-command.invariant.defines.same_mode)
+
+pub returns-clause-replayed : goal.returns-clause-replayed
+returns-clause-replayed g c = record { run = returns-clause-run g c; pairs = returns-clause-pairs g c; capacity = returns-clause-capacity g c; mode = returns-clause-mode g c }

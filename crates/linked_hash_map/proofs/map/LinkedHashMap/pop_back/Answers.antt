@@ -1,6 +1,8 @@
 use Rattle.std.proofs.Common.{◌-◌, remove, slice_get, refl, sym, ap, ◌∙◌}
 use Rattle.lhm_ring.specs.Positions.{pointer_of}
 use Rattle.linked_hash_map.specs.Nodes.{pairs_of}
+use Rattle.linked_hash_map.proofs.Callers.Keys.{find-none}
+use Rattle.linked_hash_map.proofs.Callers.Updates.{Updates-take_but_last}
 use Rattle.linked_hash_map.proofs.Kept.{IsValid-view, length-pairs_of, cut_before}
 use Rattle.linked_hash_map.proofs.Current.{last_lies, last_index}
 use Rattle.linked_hash_map.proofs.Effects.{remove-last}
@@ -35,3 +37,9 @@ returns-clause-valid g c = rw (← c.self.view_is) (IsValid-view c.self.invarian
 
 pub returns-clause-stays_valid : goal.returns-clause-stays_valid
 returns-clause-stays_valid g c = IsValid-view (invariant_of-self g c) refl refl
+
+pub returns-clause-updates : goal.returns-clause-updates
+returns-clause-updates g c = Updates-take_but_last g.met.K.Eq.laws c.args.self.now.pairs (pairs_of c.remove_at.new.self.held) (returns-clause-valid g c).distinct c.remove_at.result (sym (returns-clause-pair g c)) (returns-clause-pairs g c)
+
+pub returns-clause-gone : goal.returns-clause-gone
+returns-clause-gone g c = find-none g.K.PartialEq.eq (pairs_of c.remove_at.new.self.held) c.remove_at.result.0 (returns-clause-updates g c).here
