@@ -17,5 +17,4 @@ pub mod Updates
 pub mod Valid
 pub mod Visits
 pub mod WholeRuns
-pub mod WorkedRun
 pub mod Writes

@@ -1,7 +1,7 @@
 //! A document: fields with names, in order.
-ghost use Rattle.std.specs.Prelude.{◌≡◌, [], Some, None, IsSome, IsTrue, IsFalse, map, if◌then◌else◌, length, option_copied, false, IfOk, OnOk, OnErr, IfErr};
+ghost use Rattle.std.specs.Prelude.{◌≡◌, ◌∷◌, ◌++◌, [], Some, None, IsSome, IsTrue, IsFalse, map, if◌then◌else◌, length, option_copied, false, IfOk, OnOk, OnErr, IfErr};
 ghost use Rattle.std.specs.Bool.{Decides};
-ghost use Rattle.linked_hash_map.specs.Pairs.{find, value_at, without, to_back, set_value};
+ghost use Rattle.linked_hash_map.specs.Pairs.{find, value_at, set_value};
 
 use linked_hash_map::{LinkedHashMap, Refused};
 use std::alloc::{AllocError, Global};
@@ -55,7 +55,7 @@ impl<K: Eq + Hash, V> Document<K, V> {
         K: Drop,
         V: Drop,
         ensures there { OnOk result (IsSome (find K.eq self.old.fields.pairs name) → self.new.fields.pairs ≡ set_value K.eq self.old.fields.pairs name value) }
-        ensures new { OnOk result (find K.eq self.old.fields.pairs name ≡ None → self.new.fields.pairs ≡ to_back K.eq self.old.fields.pairs name value) }
+        ensures new { OnOk result (find K.eq self.old.fields.pairs name ≡ None → self.new.fields.pairs ≡ self.old.fields.pairs ++ (name, value) ∷ []) }
 
         ensures handed_back { IfErr result (λ refused. refused.key ≡ name) }
         ensures unchanged { OnErr result (self.new ≡ self.old) }
@@ -84,6 +84,7 @@ impl<K: Eq + Hash, V> Document<K, V> {
     pub fn rename(&mut self, from: &K, to: K) -> bool
     where
         K: Copy,
+        V: Drop,
         ensures did { Decides result (IsSome (find K.eq self.old.fields.pairs from.now) × (find K.eq self.old.fields.pairs to ≡ None)) }
         ensures renamed { IsTrue result → self.new.fields.pairs ≡ map (λ field. if K.eq from.now field.0 then (to, field.1) else field) self.old.fields.pairs }
         ensures unchanged { IsFalse result → self.new.fields.pairs ≡ self.old.fields.pairs }

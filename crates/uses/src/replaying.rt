@@ -1,7 +1,7 @@
 //! What a map holds after commands that were replayed.
-ghost use Rattle.std.specs.Prelude.{◌≡◌, ◌∷◌, [], IfOk, OnOk, OnErr};
+ghost use Rattle.std.specs.Prelude.{◌≡◌, ◌∷◌, [], map, IfOk, OnOk, OnErr};
 ghost use Rattle.linked_hash_map.specs.Commands.{pairs_after_all, replies_to};
-ghost use Rattle.uses.specs.Replaying.{RefusesNothing, answers_of};
+ghost use Rattle.uses.specs.Replaying.{RefusesNothing};
 
 use linked_hash_map::LinkedHashMap;
 use linked_hash_map::replay::{Command, Reply, replay};
@@ -54,7 +54,8 @@ pub fn replay_under_two_hashers<K: Eq + Hash + Drop, V: Drop, S: BuildHasher, T:
     requires same_pairs { first.old.pairs ≡ second.old.pairs }
     requires same_mode { first.old.mode ≡ second.old.mode }
     requires same_commands { commands.items ≡ copies.items }
-    ensures answers { RefusesNothing result.0 → RefusesNothing result.1 → answers_of result.0 ≡ answers_of result.1 }
+    ensures answers { RefusesNothing result.0 → RefusesNothing result.1
+        → IfOk result.0 (λ one. IfOk result.1 (λ other. map (λ reply. reply.answer) one.items ≡ map (λ reply. reply.answer) other.items)) }
     ensures pairs { RefusesNothing result.0 → RefusesNothing result.1 → first.new.pairs ≡ second.new.pairs }
     ensures first_unchanged { OnErr result.0 (first.new ≡ first.old) }
     ensures second_unchanged { OnErr result.1 (second.new ≡ second.old) }

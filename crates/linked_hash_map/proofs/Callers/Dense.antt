@@ -1,5 +1,5 @@
 -- For callers: maps whose values are numbers from 0 on, in the order of the places.
-use Rattle.std.proofs.Common.{◌≡◌, ℕ, zero, suc, ◌+◌, ◌<◌, Bool, true, false, cond, List, [], ◌∷◌, ◌++◌, length, Option, Some, None, IfSome, option_map, refl, subst, sym, ap, ◌∙◌, arith, length-append, Global, String, nat_eq, string_eq}
+use Rattle.std.proofs.Common.{◌≡◌, ℕ, zero, suc, ◌+◌, ◌<◌, Bool, true, false, cond, List, [], ◌∷◌, ◌++◌, length, Option, Some, None, IfSome, option_map, refl, subst, sym, ap, ◌∙◌, arith, length-append}
 use Rattle.std.specs.List.{range_with_len}
 use Rattle.std.specs.Map.{values_of}
 use Rattle.linked_hash_map.specs.Pairs.{find, value_at}
@@ -57,10 +57,3 @@ value_at_dense_below {K = K} eq pairs k dense = at_zero (find eq pairs k) (below
 -- at every key at once; the first part shows `grind` the call to match
 pub value_at_dense_each : {K : Type 0} (eq : K → K → Bool) (pairs : List (K × ℕ)) (k : K) → values_of pairs ≡ range_with_len 0 (length pairs) → (value_at eq pairs k ≡ value_at eq pairs k) × ((n : ℕ) → value_at eq pairs k ≡ Some n → n < length pairs)
 value_at_dense_each eq pairs k dense = (refl, λ n found. subst (λ (p : Option ℕ). IfSome p (λ m. m < length pairs)) found (value_at_dense_below eq pairs k dense))
-
--- at texts and at numbers, so that no equality is left to be found
-pub text_dense_each : (pairs : List (String Global × ℕ)) → values_of pairs ≡ range_with_len 0 (length pairs) → (values_of pairs ≡ values_of pairs) × ((k : String Global) (n : ℕ) → value_at string_eq pairs k ≡ Some n → n < length pairs)
-text_dense_each pairs dense = (refl, λ k. (value_at_dense_each string_eq pairs k dense).1)
-
-pub number_dense_each : (pairs : List (ℕ × ℕ)) → values_of pairs ≡ range_with_len 0 (length pairs) → (values_of pairs ≡ values_of pairs) × ((k : ℕ) (n : ℕ) → value_at nat_eq pairs k ≡ Some n → n < length pairs)
-number_dense_each pairs dense = (refl, λ k. (value_at_dense_each nat_eq pairs k dense).1)

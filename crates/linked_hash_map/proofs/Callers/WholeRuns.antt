@@ -1,6 +1,6 @@
 -- For callers: whole runs in which nothing is refused. The replies, the pairs and the capacity then follow from the commands and
 -- the first map, and two such runs answer alike.
-use Rattle.std.proofs.Common.{◌≡◌, ℕ, Bool, true, false, Result, Ok, Err, IfOk, ◌||◌, ◌&&◌, IsFalse, List, [], ◌∷◌, map, refl, sym, ap, ap₂, ◌∙◌, true≢false}
+use Rattle.std.proofs.Common.{◌≡◌, ℕ, Bool, true, false, Result, Ok, Err, IfOk, IsOkAnd, Vec, Global, ◌||◌, ◌&&◌, IsFalse, List, [], ◌∷◌, map, refl, sym, ap, ap₂, ◌∙◌, subst, true≢false}
 use Rattle.std.specs.List.{list_any, list_all}
 use Rattle.std.specs.Cmp.{IsEquivalence}
 use Rattle.linked_hash_map.specs.declared.map.Mode.{Mode}
@@ -15,16 +15,6 @@ use Rattle.linked_hash_map.specs.declared.replay.Reply.{Reply}
 use Rattle.linked_hash_map.proofs.Callers.Replay.{Replied-given, Defines-first, is_refusal-write, is_refusal-refresh, is_refusal-remove, is_refusal-entry_remove, is_refusal-pop_front, is_refusal-pop_back, is_refusal-clear, is_refusal-set_mode}
 -- what `replay` says if it returns replies
 pub use Rattle.linked_hash_map.specs.Run.{Replayed}
-
--- it is what the four clauses of `replay` say together
-pub Replayed-replay : {K V S R E : Type 0} (eq : K → K → Bool) (old new : LinkedMap K V S) (commands : List (Command K V)) (items : R → List (Reply K V)) (r : Result R E)
-    → IfOk r (λ replies. IsRun eq old.capacity (first_log old.mode old.pairs) commands (items replies))
-    → IfOk r (λ replies. new.pairs ≡ pairs eq (last_log eq (first_log old.mode old.pairs) commands (items replies)))
-    → IfOk r (λ replies. new.capacity ≡ high eq old.capacity (last_log eq (first_log old.mode old.pairs) commands (items replies)))
-    → IfOk r (λ replies. new.mode ≡ mode (last_log eq (first_log old.mode old.pairs) commands (items replies)))
-    → IfOk r (λ replies. Replayed eq old commands (items replies) new)
-Replayed-replay eq old new commands items (Ok replies) run same_pairs same_capacity same_mode = record { run = run; pairs = same_pairs; capacity = same_capacity; mode = same_mode }
-Replayed-replay eq old new commands items (Err refused) run same_pairs same_capacity same_mode = tt
 
 -- no reply says that something was refused for want of memory
 abbrev pub NoneRefused : {K V : Type 0} → List (Reply K V) → Type 0
@@ -127,16 +117,17 @@ module _ {K V S : Type 0} {eq : K → K → Bool} (laws : IsEquivalence eq) {old
       replayed.mode
       ∙ (Defines-given laws old.capacity commands replies (first_log old.mode old.pairs) old.pairs old.capacity old.mode (Defines-first laws valid) replayed.run given).same_mode
 
-module _ {K V S : Type 0} {eq : K → K → Bool} (laws : IsEquivalence eq) (old new : LinkedMap K V S) (commands : List (Command K V)) (replies : List (Reply K V)) where
-  -- where each command is one that is never refused, the replies and the pairs follow with no more ado
-  pub NoneRefused-replayed : IsValid eq old → Replayed eq old commands replies new → list_all never_refused commands ≡ true → NoneRefused replies
-  NoneRefused-replayed valid replayed never = NoneRefused-run laws old.capacity commands replies (first_log old.mode old.pairs) old.pairs old.capacity old.mode (Defines-first laws valid) replayed.run never
+-- a run of these commands, each of which is never refused: the replies and the pairs follow from them with no more ado
+module _ {K V S : Type 0} {eq : K → K → Bool} (laws : IsEquivalence eq) {old new : LinkedMap K V S} {commands : List (Command K V)} {replies : List (Reply K V)} (valid : IsValid eq old) (replayed : Replayed eq old commands replies new)
+    (these : List (Command K V)) (are : commands ≡ these) (never : list_all never_refused these ≡ true) where
+  NoneRefused-replayed : NoneRefused replies
+  NoneRefused-replayed = NoneRefused-run laws old.capacity commands replies (first_log old.mode old.pairs) old.pairs old.capacity old.mode (Defines-first laws valid) replayed.run (ap (list_all never_refused) are ∙ never)
 
-  pub pairs-replayed_never_refused : IsValid eq old → Replayed eq old commands replies new → list_all never_refused commands ≡ true → new.pairs ≡ pairs_after_all eq old.mode old.pairs commands
-  pairs-replayed_never_refused valid replayed never = pairs-replayed laws valid replayed (NoneRefused-replayed valid replayed never)
+  pub pairs-replayed_never_refused : new.pairs ≡ pairs_after_all eq old.mode old.pairs these
+  pairs-replayed_never_refused = pairs-replayed laws valid replayed NoneRefused-replayed ∙ ap (pairs_after_all eq old.mode old.pairs) are
 
-  pub replies-replayed_never_refused : IsValid eq old → Replayed eq old commands replies new → list_all never_refused commands ≡ true → replies ≡ replies_to eq old.mode old.capacity old.pairs commands
-  replies-replayed_never_refused valid replayed never = replies-replayed laws valid replayed (NoneRefused-replayed valid replayed never)
+  pub replies-replayed_never_refused : replies ≡ replies_to eq old.mode old.capacity old.pairs these
+  replies-replayed_never_refused = replies-replayed laws valid replayed NoneRefused-replayed ∙ ap (replies_to eq old.mode old.capacity old.pairs) are
 
 -- the answers do not rest on the capacity
 answers-replies_to : {K V : Type 0} (eq : K → K → Bool) (commands : List (Command K V)) (held : List (K × V)) (room other : ℕ) (mode : Mode) → map (λ reply. reply.answer) (replies_to eq mode room held commands) ≡ map (λ reply. reply.answer) (replies_to eq mode other held commands)
@@ -172,3 +163,20 @@ module _ {K V S T : Type 0} {eq : K → K → Bool} (laws : IsEquivalence eq) {o
       capacity-replayed laws valid replayed given
       ∙ (λ i. capacity_after_all eq (alike i) (as_much i) (same i) commands)
       ∙ sym (capacity-replayed laws valid' replayed' given')
+
+-- the same of what two calls of `replay` return
+module _ {K V S T E : Type 0} {eq : K → K → Bool} (laws : IsEquivalence eq) {old : LinkedMap K V S} (new : LinkedMap K V S) {old' : LinkedMap K V T} (new' : LinkedMap K V T) {commands copies : List (Command K V)} (valid : IsValid eq old) (valid' : IsValid eq old') (same : old.pairs ≡ old'.pairs) (alike : old.mode ≡ old'.mode) (copied : commands ≡ copies) where
+  both_same : (run run' : Result (Vec (Reply K V) Global) E) → IfOk run (λ replies. Replayed eq old commands replies.items new) → IfOk run' (λ replies. Replayed eq old' copies replies.items new') → IsOkAnd run (λ replies. NoneRefused replies.items) → IsOkAnd run' (λ replies. NoneRefused replies.items)
+      → IfOk run (λ replies. IfOk run' (λ replies'. map (λ reply. reply.answer) replies.items ≡ map (λ reply. reply.answer) replies'.items)) × (new.pairs ≡ new'.pairs)
+  both_same (Err refused) run' replayed replayed' given given' = absurd given
+  both_same (Ok replies) (Err refused) replayed replayed' given given' = absurd given'
+  both_same (Ok replies) (Ok replies') replayed replayed' given given' =
+      let again = subst (λ cs. Replayed eq old' cs replies'.items new') (sym copied) replayed' in
+      (answers-same_run laws valid valid' replayed again same alike given given', pairs-same_run laws valid valid' replayed again same alike given given')
+
+  pub answers-same_runs : (run run' : Result (Vec (Reply K V) Global) E) → IfOk run (λ replies. Replayed eq old commands replies.items new) → IfOk run' (λ replies. Replayed eq old' copies replies.items new') → IsOkAnd run (λ replies. NoneRefused replies.items) → IsOkAnd run' (λ replies. NoneRefused replies.items)
+      → IfOk run (λ replies. IfOk run' (λ replies'. map (λ reply. reply.answer) replies.items ≡ map (λ reply. reply.answer) replies'.items))
+  answers-same_runs run run' replayed replayed' given given' = (both_same run run' replayed replayed' given given').0
+
+  pub pairs-same_runs : (run run' : Result (Vec (Reply K V) Global) E) → IfOk run (λ replies. Replayed eq old commands replies.items new) → IfOk run' (λ replies. Replayed eq old' copies replies.items new') → IsOkAnd run (λ replies. NoneRefused replies.items) → IsOkAnd run' (λ replies. NoneRefused replies.items) → new.pairs ≡ new'.pairs
+  pairs-same_runs run run' replayed replayed' given given' = (both_same run run' replayed replayed' given given').1
