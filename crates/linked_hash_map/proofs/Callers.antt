@@ -1,16 +1,20 @@
 -- Lemmas for callers of the library, one file a subject. They speak only of the words of the contracts, and never of how a map is
 -- kept.
 pub mod Collected
+pub mod Counted
 pub mod Counts
+pub mod Dense
 pub mod Equality
 pub mod Extended
 pub mod Keys
 pub mod Lookups
 pub mod Replay
 pub mod Retained
+pub mod Rules
+pub mod Texts
+pub mod Turns
 pub mod Updates
 pub mod Valid
 pub mod Visits
 pub mod WholeRuns
-pub mod WorkedRun
 pub mod Writes

@@ -53,29 +53,30 @@ impl<K: Eq + Hash, V> Cache<K, V> {
         ensures all { IsNone result → self.new.map.pairs ≡ put K.eq self.old.map.mode self.old.map.pairs key value }
         ensures mode { self.new.map.mode ≡ self.old.map.mode }
     {
-        if self.map.len() < self.map.capacity() || self.map.contains_key(&key) {
-            self.store(key, value);
-            return None;
+        let evicted = self.make_place(&key);
+        match self.map.insert(key, value) {
+            Ok(_old) => evicted,
+            Err(_refused) => unreachable!(),
         }
-        let evicted = self.map.pop_front();
-        self.store(key, value);
-        evicted
     }
 
-    /// Puts a pair in as the one used last, where its key is present or there is room.
-    fn store(&mut self, key: K, value: V)
-    where
-        K: Drop,
-        V: Drop,
-        requires room { find K.eq self.old.map.pairs key ≡ None → length self.old.map.pairs < self.old.map.capacity }
-        ensures pairs { self.new.map.pairs ≡ put K.eq self.old.map.mode self.old.map.pairs key value }
+    /// Takes out the pair used least recently and returns it, if the cache is full and does not have the key.
+    #[tactic(auto, using(linked_hash_map::proofs::Callers::Rules::any_keys))]
+    fn make_place(&mut self, key: &K) -> Option<(K, V)>
+        requires room { 0 < self.old.map.capacity }
+        ensures evicts { is_some result ≡ not (is_some (find K.eq self.old.map.pairs key.now)) && (length self.old.map.pairs == self.old.map.capacity) }
+        ensures evicted { IsSome result → result ≡ first self.old.map.pairs }
+        ensures others { IsSome result → self.new.map.pairs ≡ without_first self.old.map.pairs }
+        ensures all { IsNone result → self.new.map.pairs ≡ self.old.map.pairs }
+        ensures absent { IsSome result → value_at K.eq self.new.map.pairs key.now ≡ None }
+        ensures room { find K.eq self.new.map.pairs key.now ≡ None → length self.new.map.pairs < self.new.map.capacity }
         ensures size { self.new.map.capacity ≡ self.old.map.capacity }
         ensures mode { self.new.map.mode ≡ self.old.map.mode }
     {
-        match self.map.insert(key, value) {
-            Ok(_old) => {}
-            Err(_refused) => unreachable!(),
+        if self.map.len() < self.map.capacity() || self.map.contains_key(key) {
+            return None;
         }
+        self.map.pop_front()
     }
 
     /// Lends the value of a key for writing, and makes it the one used last, or returns `None` where the key is absent and

@@ -1,12 +1,13 @@
 //! Maps that take in what others have.
-ghost use Rattle.std.specs.Prelude.{◌≡◌, ◌≤◌, ◌-◌, ℕ, [], length, None, IfOk, IfErr, OnOk, OnErr};
+ghost use Rattle.std.specs.Prelude.{◌≡◌, ◌≤◌, ◌-◌, ◌++◌, ℕ, [], length, filter, not, is_some, None, IfOk, IfErr, OnOk, OnErr};
 ghost use Rattle.std.specs.List.{IsDistinct};
 ghost use Rattle.std.specs.Map.{keys_of};
+ghost use Rattle.std.specs.Option.{option_or};
 ghost use Rattle.linked_hash_map.specs.Counts.{rechained_each};
-ghost use Rattle.linked_hash_map.specs.Pairs.{find};
+ghost use Rattle.linked_hash_map.specs.Pairs.{find, value_at};
 ghost use Rattle.linked_hash_map.specs.Inserts.{insert_each};
 
-use linked_hash_map::{LinkedHashMap, Refused, ReserveError};
+use linked_hash_map::{LinkedHashMap, Mode, Refused, ReserveError};
 use std::alloc::Global;
 use std::hash::{BuildHasher, Hash};
 
@@ -23,12 +24,15 @@ pub fn insert_all<K: Eq + Hash + Drop, V: Drop, S: BuildHasher>(
     Ok(())
 }
 
-/// Puts in the pairs of another map, as `insert_all` does.
+/// Puts in the pairs of another map, whose values win. In `Keep` the keys of the first map stand in their places, and the new
+/// ones come behind them, in order. The first pair that finds no memory is handed back, and those before it stay.
 pub fn merge<K: Eq + Hash + Drop, V: Drop, S: BuildHasher, T: BuildHasher + Drop>(
     map: &mut LinkedHashMap<K, V, S>,
     others: LinkedHashMap<K, V, T>,
 ) -> Result<(), Refused<K, V>>
     ensures all { OnOk result (map.new.pairs ≡ insert_each K.eq map.old.mode map.old.pairs others.pairs) }
+    ensures values { OnOk result ((key : K) → value_at K.eq map.new.pairs key ≡ option_or (value_at K.eq others.pairs key) (value_at K.eq map.old.pairs key)) }
+    ensures keep { OnOk result (map.old.mode ≡ Mode.Keep → keys_of map.new.pairs ≡ keys_of map.old.pairs ++ filter (λ key. not (is_some (find K.eq map.old.pairs key))) (keys_of others.pairs)) }
     ensures absent { IfErr result (λ refused. find K.eq map.new.pairs refused.key ≡ None) }
     ensures full { OnErr result (length map.new.pairs ≡ map.new.capacity) }
 {

@@ -1,7 +1,7 @@
 //! A document: fields with names, in order.
-ghost use Rattle.std.specs.Prelude.{◌≡◌, [], Some, None, IsSome, IsTrue, IsFalse, length, option_copied, false, IfOk, OnOk, OnErr, IfErr};
+ghost use Rattle.std.specs.Prelude.{◌≡◌, ◌∷◌, ◌++◌, [], Some, None, IsSome, IsTrue, IsFalse, map, if◌then◌else◌, length, option_copied, false, IfOk, OnOk, OnErr, IfErr};
 ghost use Rattle.std.specs.Bool.{Decides};
-ghost use Rattle.linked_hash_map.specs.Pairs.{find, value_at, without, to_back, set_value};
+ghost use Rattle.linked_hash_map.specs.Pairs.{find, value_at, set_value};
 
 use linked_hash_map::{LinkedHashMap, Refused};
 use std::alloc::{AllocError, Global};
@@ -55,7 +55,7 @@ impl<K: Eq + Hash, V> Document<K, V> {
         K: Drop,
         V: Drop,
         ensures there { OnOk result (IsSome (find K.eq self.old.fields.pairs name) → self.new.fields.pairs ≡ set_value K.eq self.old.fields.pairs name value) }
-        ensures new { OnOk result (find K.eq self.old.fields.pairs name ≡ None → self.new.fields.pairs ≡ to_back K.eq self.old.fields.pairs name value) }
+        ensures new { OnOk result (find K.eq self.old.fields.pairs name ≡ None → self.new.fields.pairs ≡ self.old.fields.pairs ++ (name, value) ∷ []) }
 
         ensures handed_back { IfErr result (λ refused. refused.key ≡ name) }
         ensures unchanged { OnErr result (self.new ≡ self.old) }
@@ -79,24 +79,30 @@ impl<K: Eq + Hash, V> Document<K, V> {
         self.fields.remove(name)
     }
 
-    /// Gives a field another name, at the end of the document. A field that has that name is replaced. It never fails: the place
-    /// of the old name is free for the new one.
+    /// Gives a field another name, in its place, and tells whether it did: only where the old name is there and the new one is
+    /// not. It takes no memory and never fails: each field goes to the end once, in turn.
     pub fn rename(&mut self, from: &K, to: K) -> bool
     where
-        K: Drop,
+        K: Copy,
         V: Drop,
-        ensures there { IsTrue result → value_at K.eq self.new.fields.pairs to ≡ value_at K.eq self.old.fields.pairs from.now }
-        ensures gone { IsTrue result → K.eq to from.now ≡ false → value_at K.eq self.new.fields.pairs from.now ≡ None }
-        ensures absent { IsFalse result → find K.eq self.old.fields.pairs from.now ≡ None }
+        ensures did { Decides result (IsSome (find K.eq self.old.fields.pairs from.now) × (find K.eq self.old.fields.pairs to ≡ None)) }
+        ensures renamed { IsTrue result → self.new.fields.pairs ≡ map (λ field. if K.eq from.now field.0 then (to, field.1) else field) self.old.fields.pairs }
         ensures unchanged { IsFalse result → self.new.fields.pairs ≡ self.old.fields.pairs }
     {
-        let Some(value) = self.fields.remove(from) else {
+        if !self.fields.contains_key(from) || self.fields.contains_key(&to) {
             return false;
-        };
-        match self.fields.insert(to, value) {
-            Ok(_replaced) => true,
-            Err(_refused) => unreachable!(),
         }
+        for _turn in 0..self.fields.len() {
+            let Some((name, value)) = self.fields.pop_front() else {
+                unreachable!()
+            };
+            let name = if *from == name { to } else { name };
+            match self.fields.insert(name, value) {
+                Ok(_none) => {}
+                Err(_refused) => unreachable!(),
+            }
+        }
+        true
     }
 }
 

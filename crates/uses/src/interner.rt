@@ -1,40 +1,56 @@
 //! Names and their numbers.
-ghost use Rattle.std.specs.Prelude.{◌≡◌, ℕ, ◌∷◌, [], ◌++◌, Some, None, length, option_copied, slice_get, IfOk, IfErr, OnOk, OnErr};
+ghost use Rattle.std.specs.Prelude.{◌≡◌, ◌<◌, ℕ, ◌∷◌, [], ◌++◌, Some, None, length, option_copied, slice_get, IfOk, IfErr, OnOk, OnErr};
+ghost use Rattle.std.specs.List.{range_with_len};
 ghost use Rattle.std.specs.Map.{keys_of, values_of};
-ghost use Rattle.linked_hash_map.specs.Pairs.{find, value_at};
+ghost use Rattle.linked_hash_map.specs.Pairs.{value_at};
 
 use linked_hash_map::{LinkedHashMap, Refused};
 use std::alloc::Global;
 use std::hash::Hash;
 
-/// Makes a table of names with no names in it.
-pub fn no_names<K: Eq + Hash>(alloc: Global) -> LinkedHashMap<K, usize>
-    ensures { result.pairs ≡ [] }
-{
-    LinkedHashMap::new(alloc)
+/// Names with their numbers, which are 0, 1, 2 and so on, in the order in which the names first came.
+#[derive(Drop)]
+pub struct Interner<K: Eq + Hash> {
+    names: LinkedHashMap<K, usize>,
+    ghost dense: { values_of names.pairs ≡ range_with_len 0 (length names.pairs) },
 }
 
-/// Returns the number of a name. A name that has none gets the next one, which is how many names there are. One that is refused
-/// for want of memory is handed back.
-pub fn number_of<K: Eq + Hash + Drop>(
-    names: &mut LinkedHashMap<K, usize>,
-    name: K,
-) -> Result<usize, Refused<K, usize>>
-    ensures number { IfOk result (λ number. value_at K.eq names.new.pairs name ≡ Some number) }
-    ensures known { (number : ℕ) → OnOk result (value_at K.eq names.old.pairs name ≡ Some number → names.new.pairs ≡ names.old.pairs) }
-    ensures new { OnOk result (value_at K.eq names.old.pairs name ≡ None → names.new.pairs ≡ names.old.pairs ++ (name, length names.old.pairs) ∷ []) }
+impl<K: Eq + Hash> Interner<K> {
+    /// Makes an interner with no names in it.
+    pub fn new(alloc: Global) -> Self
+        ensures { result.names.pairs ≡ [] }
+    {
+        Interner {
+            names: LinkedHashMap::new(alloc),
+        }
+    }
 
-    ensures handed_back { IfErr result (λ refused. refused.key ≡ name) }
-    ensures unchanged { OnErr result (names.new ≡ names.old) }
-{
-    let next = names.len();
-    let number = names.entry(name).or_insert(next)?;
-    Ok(*number)
-}
+    /// Returns the number of a name. A name that has none gets the next one, which is how many names there are. One that is
+    /// refused for want of memory is handed back.
+    #[tactic(auto, using(linked_hash_map::proofs::Callers::Rules::dense))]
+    pub fn number_of(&mut self, name: K) -> Result<usize, Refused<K, usize>>
+    where
+        K: Drop,
+        ensures number { IfOk result (λ number. value_at K.eq self.new.names.pairs name ≡ Some number) }
+        ensures known { (number : ℕ) → OnOk result (value_at K.eq self.old.names.pairs name ≡ Some number → self.new.names.pairs ≡ self.old.names.pairs) }
+        ensures new { OnOk result (value_at K.eq self.old.names.pairs name ≡ None → self.new.names.pairs ≡ self.old.names.pairs ++ (name, length self.old.names.pairs) ∷ []) }
+        ensures below { IfOk result (λ number. number < length self.new.names.pairs) }
 
-/// Returns the name of a number.
-pub fn name_of<K: Eq + Hash>(names: &LinkedHashMap<K, usize>, number: usize) -> Option<&K>
-    ensures { option_copied result ≡ slice_get (keys_of names.now.pairs) number }
-{
-    names.keys().nth(number)
+        ensures handed_back { IfErr result (λ refused. refused.key ≡ name) }
+        ensures unchanged { OnErr result (self.new ≡ self.old) }
+    {
+        if let Some(number) = self.names.get(&name) {
+            return Ok(*number);
+        }
+        let next = self.names.len();
+        self.names.insert(name, next)?;
+        Ok(next)
+    }
+
+    /// Returns the name of a number.
+    pub fn name_of(&self, number: usize) -> Option<&K>
+        ensures { option_copied result ≡ slice_get (keys_of self.now.names.pairs) number }
+    {
+        self.names.keys().nth(number)
+    }
 }

@@ -8,6 +8,7 @@ use std::hash::{BuildHasher, Hash};
 
 /// Puts a pair in, at the back where its key is new. Where memory for it is refused, the pair comes back, and the one at the oldest place, which is
 /// returned, leaves for it: this never fails.
+#[tactic(auto, using(linked_hash_map::proofs::Callers::Rules::any_keys))]
 pub fn insert_anyway<K: Eq + Hash + Drop, V: Drop, S: BuildHasher>(
     map: &mut LinkedHashMap<K, V, S>,
     key: K,

@@ -1,31 +1,35 @@
 //! What a map holds after commands that were replayed.
-ghost use Rattle.std.specs.Prelude.{◌≡◌, ◌<◌, length, OnOk, OnErr};
-ghost use Rattle.linked_hash_map.specs.Pairs.{without, put};
-ghost use Rattle.uses.specs.Replaying.{RefusesNothing, answers_of};
+ghost use Rattle.std.specs.Prelude.{◌≡◌, ◌∷◌, [], map, IfOk, OnOk, OnErr};
+ghost use Rattle.linked_hash_map.specs.Commands.{pairs_after_all, replies_to};
+ghost use Rattle.uses.specs.Replaying.{RefusesNothing};
 
 use linked_hash_map::LinkedHashMap;
 use linked_hash_map::replay::{Command, Reply, replay};
 use std::alloc::{AllocError, Global};
 use std::hash::{BuildHasher, Hash};
 
-/// Runs two commands by `replay`: an insertion, for which there is room, and the removal of a key. It is refused only for want of
-/// memory for the commands or the replies.
-pub fn insert_and_remove<K: Eq + Hash + Drop, V: Drop, S: BuildHasher>(
+/// Runs three commands by `replay` and returns the replies: the value of a key is written, another key is moved to the back and
+/// a third is removed, each if it is there. No command is refused; the run is, for want of memory for the commands or the
+/// replies.
+pub fn write_refresh_remove<K: Eq + Hash + Drop, V: Drop, S: BuildHasher>(
     alloc: Global,
     map: &mut LinkedHashMap<K, V, S>,
-    key: K,
-    value: V,
+    pair: (K, V),
+    used: K,
     gone: K,
-) -> Result<(), AllocError>
-    requires room { length map.old.pairs < map.old.capacity }
-    ensures pairs { OnOk result (map.new.pairs ≡ without K.eq (put K.eq map.old.mode map.old.pairs key value) gone) }
+) -> Result<Vec<Reply<K, V>>, AllocError>
+    ensures pairs { OnOk result (map.new.pairs ≡ pairs_after_all K.eq map.old.mode map.old.pairs
+        (Command.Write pair.0 pair.1 ∷ Command.Refresh used ∷ Command.Remove gone ∷ [])) }
+    ensures replies { IfOk result (λ replies. replies.items ≡ replies_to K.eq map.old.mode map.old.capacity map.old.pairs
+        (Command.Write pair.0 pair.1 ∷ Command.Refresh used ∷ Command.Remove gone ∷ [])) }
     ensures unchanged { OnErr result (map.new ≡ map.old) }
 {
-    let mut commands = Vec::with_capacity(alloc, 2)?;
-    commands.push_reserved(Command::Insert(key, value));
+    let mut commands = Vec::with_capacity(alloc, 3)?;
+    commands.push_reserved(Command::Write(pair.0, pair.1));
+    commands.push_reserved(Command::Refresh(used));
     commands.push_reserved(Command::Remove(gone));
     match replay(map, commands) {
-        Ok(_replies) => Ok(()),
+        Ok(replies) => Ok(replies),
         Err(_commands) => Err(AllocError),
     }
 }
@@ -50,7 +54,8 @@ pub fn replay_under_two_hashers<K: Eq + Hash + Drop, V: Drop, S: BuildHasher, T:
     requires same_pairs { first.old.pairs ≡ second.old.pairs }
     requires same_mode { first.old.mode ≡ second.old.mode }
     requires same_commands { commands.items ≡ copies.items }
-    ensures answers { RefusesNothing result.0 → RefusesNothing result.1 → answers_of result.0 ≡ answers_of result.1 }
+    ensures answers { RefusesNothing result.0 → RefusesNothing result.1
+        → IfOk result.0 (λ one. IfOk result.1 (λ other. map (λ reply. reply.answer) one.items ≡ map (λ reply. reply.answer) other.items)) }
     ensures pairs { RefusesNothing result.0 → RefusesNothing result.1 → first.new.pairs ≡ second.new.pairs }
     ensures first_unchanged { OnErr result.0 (first.new ≡ first.old) }
     ensures second_unchanged { OnErr result.1 (second.new ≡ second.old) }

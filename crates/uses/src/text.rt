@@ -1,5 +1,5 @@
 //! A map with text as keys.
-ghost use Rattle.std.specs.Prelude.{◌≡◌, Some, string_eq, IfErr, OnOk};
+ghost use Rattle.std.specs.Prelude.{◌≡◌, ◌≤◌, ◌+◌, Some, length, string_eq, IfErr, OnOk};
 ghost use Rattle.linked_hash_map.specs.Pairs.{value_at};
 
 use linked_hash_map::{LinkedHashMap, Refused};
@@ -12,11 +12,13 @@ pub fn age_of(ages: &LinkedHashMap<String, u64>, name: &String) -> Option<u64>
 }
 
 /// Notes the age of a person. Where there is no memory for a new name, it is handed back.
+#[tactic(auto, using(linked_hash_map::proofs::Callers::Rules::string_keys))]
 pub fn note_age(
     ages: &mut LinkedHashMap<String, u64>,
     name: String,
     age: u64,
 ) -> Result<(), Refused<String, u64>>
+    ensures most { OnOk result (length ages.new.pairs ≤ length ages.old.pairs + 1) }
     ensures noted { OnOk result (value_at string_eq ages.new.pairs name ≡ Some age) }
     ensures handed_back { IfErr result (λ refused. refused.key ≡ name) }
 {

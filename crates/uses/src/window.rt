@@ -30,6 +30,7 @@ impl Window {
     }
 
     /// Sees a number, which never fails, and returns the number that leaves, if one does.
+    #[tactic(auto, using(linked_hash_map::proofs::Callers::Rules::number_keys))]
     pub fn see(&mut self, number: u64) -> Option<u64>
         ensures left { IfSome result (λ gone. gone ∷ keys_of self.new.seen.pairs ≡ filter (λ other. not (number == other)) (keys_of self.old.seen.pairs) ++ number ∷ []) }
         ensures stays { IsNone result → keys_of self.new.seen.pairs ≡ filter (λ other. not (number == other)) (keys_of self.old.seen.pairs) ++ number ∷ [] }
@@ -44,7 +45,7 @@ impl Window {
         if self.seen.len() <= self.size {
             return None;
         }
-        let (gone, ()) = self.seen.pop_front()?;
-        Some(gone)
+        let pair = self.seen.pop_front()?;
+        Some(pair.0)
     }
 }

@@ -13,15 +13,17 @@ use uses::collecting::{collect_all, insert_all, merge};
 use uses::count::counts_of;
 use uses::document::{Document, copy_of, is_same};
 use uses::hasher::for_strangers;
-use uses::interner::{name_of, no_names, number_of};
+use uses::interner::Interner;
 use uses::loops::{
     first_and_third, first_of_cursor, insert_on_the_way, into_list, keys_in_order, leave_off_early,
     oldest_key, reset, sum_by_values, sum_of, take_all, take_out_zeros, visit_by_value,
 };
 use uses::memory::{chained_again, empty_out, reserve_and_insert};
+use uses::pages::Pages;
 use uses::queue::Queue;
 use uses::refusal::{insert_anyway, insert_if_new};
-use uses::replaying::{Outcome, insert_and_remove, replay_under_two_hashers};
+use uses::replaying::{Outcome, replay_under_two_hashers, write_refresh_remove};
+use uses::retains::{age, keep_frequent};
 use uses::text::{age_of, note_age};
 use uses::window::Window;
 
@@ -59,12 +61,12 @@ fn a_cache_gives_up_what_was_used_least_recently(rt: HostRuntime) {
 
 #[test]
 fn an_interner_numbers_names_in_order(rt: HostRuntime) {
-    let mut names = no_names(rt.alloc());
-    check_eq!(rt; number_of(&mut names, "apple"), Ok(0));
-    check_eq!(rt; number_of(&mut names, "pear"), Ok(1));
-    check_eq!(rt; number_of(&mut names, "apple"), Ok(0));
-    check_eq!(rt; name_of(&names, 1), Some(&"pear"));
-    check_eq!(rt; name_of(&names, 2), None);
+    let mut names = Interner::new(rt.alloc());
+    check_eq!(rt; names.number_of("apple"), Ok(0));
+    check_eq!(rt; names.number_of("pear"), Ok(1));
+    check_eq!(rt; names.number_of("apple"), Ok(0));
+    check_eq!(rt; names.name_of(1), Some(&"pear"));
+    check_eq!(rt; names.name_of(2), None);
 }
 
 #[test]
@@ -89,10 +91,11 @@ fn document_of(rt: &impl Abort, alloc: Global, fields: &[(u64, u64)]) -> Documen
 #[test]
 fn a_document_keeps_its_fields_in_order(rt: HostRuntime) {
     let mut document = document_of(&rt, rt.alloc(), &[(1, 10), (2, 20), (1, 11)]);
-    let other = document_of(&rt, rt.alloc(), &[(2, 20), (3, 11)]);
+    let other = document_of(&rt, rt.alloc(), &[(3, 11), (2, 20)]);
     check!(rt; !is_same(&document, &other));
     check!(rt; document.rename(&1, 3));
     check!(rt; !document.rename(&1, 4));
+    check!(rt; !document.rename(&3, 2));
     check!(rt; is_same(&document, &other));
     check_eq!(rt; document.remove(&2), Some(20));
     check_eq!(rt; document.get(&3), Some(&11));
@@ -101,7 +104,7 @@ fn a_document_keeps_its_fields_in_order(rt: HostRuntime) {
 
 #[test]
 fn words_are_counted(rt: HostRuntime) {
-    let mut counts = given!(rt; counts_of(rt.alloc(), "banana".chars()));
+    let mut counts = given!(rt; counts_of(rt.alloc(), &['b', 'a', 'n', 'a', 'n', 'a']));
     check_eq!(rt;
         given!(rt; keys_in_order(rt.alloc(), &counts)).as_slice(),
         ['b', 'a', 'n'].as_slice()
@@ -129,7 +132,7 @@ fn one_pair(rt: &impl Abort, alloc: Global) -> LinkedHashMap<u32, u64>
     ensures { result.pairs ≡ (1, 10) ∷ [] }
 {
     let mut map = value_in(rt, LinkedHashMap::with_capacity(alloc, 4));
-    value_in(rt, insert_and_remove(alloc, &mut map, 1, 10, 2));
+    value_in(rt, map.insert(1, 10));
     map
 }
 
@@ -142,6 +145,22 @@ fn pairs_come_and_go(rt: HostRuntime) {
     check_eq!(rt;
         given!(rt; take_all(rt.alloc(), &mut map)).as_slice(),
         [(1, 10)].as_slice()
+    );
+}
+
+#[test]
+fn commands_are_replayed(rt: HostRuntime) {
+    let mut map = three_pairs(&rt, rt.alloc());
+    let replies = given!(rt; write_refresh_remove(rt.alloc(), &mut map, (2, 21), 1, 3));
+    let wanted = [
+        reply(Answer::Old(20), 3, 3),
+        reply(Answer::Found, 3, 3),
+        reply(Answer::Old(30), 2, 3),
+    ];
+    check_eq!(rt; replies.as_slice(), wanted.as_slice());
+    check_eq!(rt;
+        given!(rt; into_list(rt.alloc(), map)).as_slice(),
+        [(2, 21), (1, 10)].as_slice()
     );
 }
 
@@ -257,6 +276,18 @@ fn room_is_made_and_given_back(rt: HostRuntime) {
     check_eq!(rt; map.capacity(), 0);
 }
 
+#[test]
+fn words_that_are_rare_go(rt: HostRuntime) {
+    let words = ['b', 'a', 'n', 'a', 'n', 'a'];
+    let mut counts = given!(rt; counts_of(rt.alloc(), &words));
+    keep_frequent(&mut counts, 2);
+    age(&mut counts);
+    check_eq!(rt;
+        given!(rt; into_list(rt.alloc(), counts)).as_slice(),
+        [('a', 1), ('n', 1)].as_slice()
+    );
+}
+
 /// Adds a job, and checks whether it is new.
 fn check_added(
     rt: &impl Abort,
@@ -292,6 +323,21 @@ fn maps_are_merged(rt: HostRuntime) {
     given!(rt; merge(&mut map, others));
     let list = given!(rt; into_list(rt.alloc(), map));
     check_eq!(rt; list.as_slice(), [(1, 11), (2, 21)].as_slice());
+}
+
+/// Puts a page of text in.
+fn put_page(rt: &impl Abort, alloc: Global, pages: &mut Pages, number: u64, text: &str) {
+    check_eq!(rt; pages.put(number, given!(rt; String::from_str(alloc, text))), Ok(()));
+}
+
+#[test]
+fn pages_leave_for_others(rt: HostRuntime) {
+    let mut pages = Pages::new(rt.alloc(), 10);
+    put_page(&rt, rt.alloc(), &mut pages, 1, "four");
+    put_page(&rt, rt.alloc(), &mut pages, 2, "nine");
+    put_page(&rt, rt.alloc(), &mut pages, 3, "a page");
+    check_eq!(rt; pages.take(1), None);
+    check_eq!(rt; given!(rt; pages.take(3).ok_or("no page")).as_str(), "a page");
 }
 
 #[test]

@@ -1,17 +1,21 @@
 -- For callers: insertions one after another.
-use Rattle.std.proofs.Common.{◌≡◌, ◌+◌, ◌≤◌, Bool, true, false, cond, ◌||◌, List, [], ◌∷◌, ◌++◌, length, reverse, append_assoc, append-nil, Option, Some, None, is_some, true≢false, option_map, refl, sym, ap, ◌∙◌, subst, arith}
+use Rattle.std.proofs.Common.{◌≡◌, ◌+◌, ◌≤◌, Bool, true, false, cond, not, ◌||◌, List, [], ◌∷◌, ◌++◌, length, filter, reverse, append_assoc, append-nil, Option, Some, None, is_some, true≢false, option_map, refl, sym, ap, ap₂, ◌∙◌, subst, arith}
 use Rattle.std.specs.Option.{option_or}
-use Rattle.std.specs.List.{IsDistinct}
+use Rattle.std.specs.List.{IsDistinct, AllByRecursion}
 use Rattle.std.specs.Map.{keys_of}
 use Rattle.std.proofs.lemmas.List.{reverse-append}
 use Rattle.std.specs.Cmp.{IsEquivalence}
+use Rattle.std.proofs.lemmas.Map.Keys.{IsDistinct-head, IsDistinct-tail}
 use Rattle.linked_hash_map.specs.declared.map.Mode.{Mode}
-use Rattle.linked_hash_map.specs.Pairs.{key_or, find, value_at, put}
+use Rattle.linked_hash_map.specs.declared.map.Mode.TheVariants.{Keep}
+use Rattle.linked_hash_map.specs.Pairs.{key_or, find, value_at, set_or_push, put}
 use Rattle.linked_hash_map.specs.Inserts.{insert_each}
 use Rattle.linked_hash_map.proofs.Lists.{by_last}
 use Rattle.linked_hash_map.proofs.Inserts.{insert_each-last, length-grows, length-put_most, distinct-put}
 use Rattle.linked_hash_map.proofs.Runs.{put_last, last_differs}
-use Rattle.linked_hash_map.proofs.Callers.Lookups.{lookup_entry-append, find-same, value_at-put, find-put}
+use Rattle.linked_hash_map.proofs.Callers.Keys.{keys_of-set_or_push}
+use Rattle.linked_hash_map.proofs.Callers.Lookups.{lookup_entry-append, find-same, value_at-put, find-put, find-set_or_push_apart}
+use Rattle.linked_hash_map.proofs.Callers.Turns.{find-others}
 -- keys that differ still do, and items with keys that differ, inserted into nothing, are the pairs
 pub use Rattle.linked_hash_map.proofs.Inserts.{distinct-insert_each, insert_each-distinct}
 
@@ -107,3 +111,41 @@ module _ {K V : Type 0} {eq : K → K → Bool} (laws : IsEquivalence eq) where
       by_test : (before : List (K × V)) (item : K × V) (b : Bool) → eq item.0 q ≡ b → cond (eq item.0 q) (Some (key_or item.0 (find eq before item.0), item.1)) (find eq before q) ≡ cond (eq item.0 q) (Some (key_or item.0 (find eq before q), item.1)) (find eq before q)
       by_test before item true same = ap (λ o. cond (eq item.0 q) (Some (key_or item.0 o, item.1)) (find eq before q)) (find-same laws before item.0 q same)
       by_test before item false apart = ap (λ b. cond b (Some (key_or item.0 (find eq before item.0), item.1)) (find eq before q)) apart ∙ sym (ap (λ b. cond b (Some (key_or item.0 (find eq before q), item.1)) (find eq before q)) apart)
+
+-- items whose keys differ: a key has the value that came with it, or what it had
+module _ {K V : Type 0} {eq : K → K → Bool} (laws : IsEquivalence eq) (mode : Mode) where
+  pub value_at-insert_each_distinct : (pairs items : List (K × V)) → IsDistinct eq (keys_of items) → (q : K) → value_at eq (insert_each eq mode pairs items) q ≡ option_or (value_at eq items q) (value_at eq pairs q)
+  value_at-insert_each_distinct pairs [] distinct q = refl
+  value_at-insert_each_distinct pairs (item ∷ items) distinct q =
+      value_at-insert_each_distinct (put eq mode pairs item.0 item.1) items (IsDistinct-tail eq item.0 (keys_of items) distinct) q
+      ∙ ap (option_or (value_at eq items q)) (value_at-put laws mode pairs item.0 item.1 q)
+      ∙ by_test (eq q item.0) refl
+    where
+      by_test : (b : Bool) → eq q item.0 ≡ b → option_or (value_at eq items q) (cond (eq item.0 q) (Some item.1) (value_at eq pairs q)) ≡ option_or (option_map (λ (pair : K × V). pair.1) (cond b (Some item) (find eq items q))) (value_at eq pairs q)
+      by_test true same =
+          let none = find-others laws item items distinct q same in
+          ap (λ o. option_or (option_map (λ (pair : K × V). pair.1) o) (cond (eq item.0 q) (Some item.1) (value_at eq pairs q))) none
+          ∙ ap (λ b. cond b (Some item.1) (value_at eq pairs q)) (laws.symm item.0 q ∙ same)
+      by_test false apart = ap (λ b. option_or (value_at eq items q) (cond b (Some item.1) (value_at eq pairs q))) (laws.symm item.0 q ∙ apart)
+
+-- in Keep the old keys stand, and the new ones come behind them, in order
+filter-alike : {K : Type 0} (one other : K → Bool) (ks : List K) → AllByRecursion (λ k. one k ≡ other k) ks → filter one ks ≡ filter other ks
+filter-alike one other [] all = refl
+filter-alike one other (k ∷ ks) all = ap₂ (λ b rest. cond b (k ∷ rest) rest) all.0 (filter-alike one other ks all.1)
+
+module _ {K V : Type 0} {eq : K → K → Bool} (laws : IsEquivalence eq) where
+  new-set_or_push : (pairs : List (K × V)) (k : K) (v : V) (ks : List K) → AllByRecursion (λ j. eq k j ≡ false) ks → AllByRecursion (λ j. not (is_some (find eq (set_or_push eq pairs k v) j)) ≡ not (is_some (find eq pairs j))) ks
+  new-set_or_push pairs k v [] apart = tt
+  new-set_or_push pairs k v (j ∷ ks) apart = (ap (λ o. not (is_some o)) (find-set_or_push_apart laws pairs k j apart.0 v), new-set_or_push pairs k v ks apart.1)
+
+  pub keys_of-insert_each_keep : (pairs items : List (K × V)) → IsDistinct eq (keys_of items) → keys_of (insert_each eq Keep pairs items) ≡ keys_of pairs ++ filter (λ k. not (is_some (find eq pairs k))) (keys_of items)
+  keys_of-insert_each_keep pairs [] distinct = sym (append-nil (keys_of pairs))
+  keys_of-insert_each_keep pairs (item ∷ items) distinct =
+      let apart = IsDistinct-head eq item.0 (keys_of items) distinct in
+      keys_of-insert_each_keep (set_or_push eq pairs item.0 item.1) items (IsDistinct-tail eq item.0 (keys_of items) distinct)
+      ∙ ap₂ (λ ks fs. ks ++ fs) (keys_of-set_or_push eq pairs item.0 item.1) (filter-alike (λ j. not (is_some (find eq (set_or_push eq pairs item.0 item.1) j))) (λ j. not (is_some (find eq pairs j))) (keys_of items) (new-set_or_push pairs item.0 item.1 (keys_of items) apart))
+      ∙ by_test (is_some (find eq pairs item.0))
+    where
+      by_test : (b : Bool) → cond b (keys_of pairs) (keys_of pairs ++ item.0 ∷ []) ++ filter (λ k. not (is_some (find eq pairs k))) (keys_of items) ≡ keys_of pairs ++ cond (not b) (item.0 ∷ filter (λ k. not (is_some (find eq pairs k))) (keys_of items)) (filter (λ k. not (is_some (find eq pairs k))) (keys_of items))
+      by_test true = refl
+      by_test false = append_assoc (keys_of pairs) (item.0 ∷ []) (filter (λ k. not (is_some (find eq pairs k))) (keys_of items))

@@ -1,5 +1,6 @@
 -- For callers: how many buckets a capacity has.
-use Rattle.std.proofs.Common.{ℕ, ◌*◌, ◌<◌, ◌≤◌, ◌≡◌, inl, inr, arith}
+use Rattle.std.proofs.Common.{ℕ, ◌*◌, ◌<◌, ◌≤◌, ◌≡◌, inl, inr, sym, arith}
+use Rattle.std.proofs.lemmas.Nat.{pow_pos}
 use Rattle.std.specs.Int.{IsPowerOfTwo}
 use Rattle.lhm_ring.proofs.BucketCounts as ring
 use Rattle.linked_hash_map.specs.Counts.{buckets}
@@ -26,3 +27,11 @@ buckets_least c some =
 -- there are fewer buckets than twice the capacity
 pub buckets_lt : (c : ℕ) → 0 < c → buckets c < 2 * c
 buckets_lt = ring.buckets_lt
+
+-- a power of two has as many buckets as it is
+pub buckets_power : (c : ℕ) → IsPowerOfTwo c → buckets c ≡ c
+buckets_power c power =
+    let some = pow_pos power.0 in
+    let is = power.1 in
+    let own : c ≡ buckets c = ring.buckets_is c c power (omega arith) (omega arith) (omega arith) in
+    sym own

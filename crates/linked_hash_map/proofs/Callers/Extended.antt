@@ -1,8 +1,9 @@
 -- For callers: what `extend`, `extend_refs` and `from_iter` leave, where the items that an iterator gives are known. Each lemma takes
 -- the clause of the call, and a chain proof, `YieldsList`, that what the source becomes gives the list.
-use Rattle.std.proofs.Common.{◌≡◌, ℕ, ◌+◌, ◌-◌, ◌≤◌, max, Bool, List, [], length, take, slice_get, Option, Some, None, refl, sym, ap, ◌∙◌, arith}
+use Rattle.std.proofs.Common.{◌≡◌, ℕ, ◌+◌, ◌-◌, ◌≤◌, max, Bool, not, List, [], ◌++◌, length, take, filter, slice_get, Option, Some, None, is_some, Vec, vec_items, vec_len, refl, sym, ap, ◌∙◌, arith}
 use Rattle.std.specs.List.{IsDistinct}
 use Rattle.std.specs.Map.{keys_of}
+use Rattle.std.specs.Option.{option_or}
 use Rattle.std.specs.Map.Iter.{TakesFirst}
 use Rattle.std.specs.Cmp.{IsEquivalence}
 use Rattle.std.specs.Iterator.{Count, UpTo, at_most}
@@ -13,10 +14,11 @@ use Rattle.std.proofs.lemmas.Iterator.Adapters.{YieldsList-from_vec}
 use Rattle.std.proofs.lemmas.List.{map-id}
 use Rattle.linked_hash_map.specs.Counts.{rechained_each}
 use Rattle.linked_hash_map.specs.declared.map.Mode.{Mode}
-use Rattle.linked_hash_map.specs.declared.map.Mode.TheVariants.{Touch}
+use Rattle.linked_hash_map.specs.declared.map.Mode.TheVariants.{Touch, Keep}
+use Rattle.linked_hash_map.specs.Pairs.{find, value_at}
 use Rattle.linked_hash_map.specs.Inserts.{insert_each, InsertsAll, InsertsUntil, Collects}
 use Rattle.linked_hash_map.proofs.Callers.Keys.{distinct-nil}
-use Rattle.linked_hash_map.proofs.Callers.Collected.{insert_each-distinct, length-insert_each_most}
+use Rattle.linked_hash_map.proofs.Callers.Collected.{insert_each-distinct, length-insert_each_most, value_at-insert_each_distinct, keys_of-insert_each_keep}
 
 module _ {T I X K V : Type 0} {becomes : T → I → Type 0} {steps : I → Option X → I → Type 0} {source : T} {eq : K → K → Bool} {shows : X → K × V} {all : List (K × V)} where
   -- `extend` of any source whose items are known
@@ -86,26 +88,46 @@ capacity-insert_each laws mode pairs items capacity distinct enough = let most =
 pub pairs-InsertsAll_list : {T X K V : Type 0} {becomes : T → List (K × V) → Type 0} {source : T} {eq : K → K → Bool} {shows : X → K × V} {mode : Mode} {old new : List (K × V)} (all : List (K × V)) → InsertsAll becomes (TakesFirst shows) source eq shows mode old new → ((it : List (K × V)) → becomes source it → it ≡ all) → new ≡ insert_each eq mode old all
 pairs-InsertsAll_list all inserts is = pairs-InsertsAll inserts (λ it made. YieldsList-from_rest all (is it made))
 
--- `extend` of a vector
-pub pairs-InsertsAll_vec : {T Z K V : Type 0} {becomes : T → _ → Type 0} {source : T} {eq : K → K → Bool} {mode : Mode} {old new : List (K × V)} (all : List (K × V)) → InsertsAll becomes (into_iter_steps {X = K × V} {Z = Z}) source eq (λ pair. pair) mode old new → ((it : _) → becomes source it → (into_iter_items it ≡ all) × (into_iter_len it ≡ length all)) → new ≡ insert_each eq mode old all
-pairs-InsertsAll_vec all inserts is = pairs-InsertsAll inserts (λ it made. let told = is it made in YieldsList-from_vec {s = it} all told.0 told.1)
+-- and where the keys of that list differ, as those of a map do: its values win, and in Keep the old keys stand before the new
+module _ {T K V : Type 0} {becomes : T → List (K × V) → Type 0} {source : T} {eq : K → K → Bool} (laws : IsEquivalence eq) {mode : Mode} {old new : List (K × V)} (all : List (K × V)) (inserts : InsertsAll becomes (TakesFirst (λ (pair : K × V). pair)) source eq (λ pair. pair) mode old new) (is : (it : List (K × V)) → becomes source it → (it ≡ all) × IsDistinct eq (keys_of all)) where
+  pub value_at-InsertsAll_distinct : (q : K) → value_at eq new q ≡ option_or (value_at eq all q) (value_at eq old q)
+  value_at-InsertsAll_distinct q =
+      ap (λ ps. value_at eq ps q) (pairs-InsertsAll_list all inserts (λ it made. (is it made).0))
+      ∙ value_at-insert_each_distinct laws mode old all (is inserts.gives.iterator inserts.gives.made).1 q
 
--- `from_iter` of a vector
-pub pairs-Collects_vec : {T Z K V : Type 0} {becomes : T → _ → Type 0} {source : T} {remaining : _ → Count} {eq : K → K → Bool} {pairs : List (K × V)} {capacity rechained : ℕ} (all : List (K × V)) → Collects becomes (into_iter_steps {X = K × V} {Z = Z}) source remaining eq pairs capacity rechained → ((it : _) → becomes source it → (into_iter_items it ≡ all) × (into_iter_len it ≡ length all)) → pairs ≡ insert_each eq Touch [] all
-pairs-Collects_vec all collects is = pairs-InsertsAll_vec all (InsertsAll-Collects collects) is
+  pub keys_of-InsertsAll_keep : mode ≡ Keep → keys_of new ≡ keys_of old ++ filter (λ k. not (is_some (find eq old k))) (keys_of all)
+  keys_of-InsertsAll_keep keep =
+      ap keys_of (pairs-InsertsAll_list all inserts (λ it made. (is it made).0))
+      ∙ ap (λ m. keys_of (insert_each eq m old all)) keep
+      ∙ keys_of-insert_each_keep laws old all (is inserts.gives.iterator inserts.gives.made).1
 
--- and where the keys of its items differ, the pairs are the items, the capacity is their number,
--- and it chained again what growing to that number does, from room for no more
-module _ {T Z K V : Type 0} {becomes : T → _ → Type 0} {source : T} {eq : K → K → Bool} {pairs : List (K × V)} {capacity rechained : ℕ} (laws : IsEquivalence eq) (all : List (K × V)) (collects : Collects becomes (into_iter_steps {X = K × V} {Z = Z}) source (λ it. at_most (into_iter_len it)) eq pairs capacity rechained) (distinct : IsDistinct eq (keys_of all)) (is : (it : _) → becomes source it → (into_iter_items it ≡ all) × (into_iter_len it ≡ length all)) where
-  pub pairs-Collects_distinct_vec : pairs ≡ all
-  pairs-Collects_distinct_vec = pairs-Collects_vec all collects is ∙ insert_each-distinct laws Touch all distinct
+-- what a vector becomes gives its items, and has as many left
+module _ {T Z K V : Type 0} (becomes : T → _ → Type 0) (source : T) (vec : Vec (K × V) Z) (is : (it : _) → becomes source it → (into_iter_items {X = K × V} {Z = Z} it ≡ vec_items vec) × (into_iter_len it ≡ vec_len vec)) where
+  yields : (it : _) → becomes source it → YieldsList into_iter_steps (λ pair. pair) it (vec_items vec)
+  yields it made = let told = is it made in YieldsList-from_vec {s = it} (vec_items vec) told.0 (omega (arith, told.1, vec.ok.0))
 
-  pub capacity-Collects_distinct_vec : capacity ≡ length all
-  capacity-Collects_distinct_vec = capacity-Collects_distinct laws collects distinct
-      (λ it made. let told = is it made in YieldsList-from_vec {s = it} all told.0 told.1)
-      (λ it made. let told = is it made in (tt, omega (arith, told.1)))
+  left : (it : _) → becomes source it → UpTo (at_most (into_iter_len it)) (length (vec_items vec))
+  left it made = let told = is it made in (tt, omega (arith, told.1, vec.ok.0))
 
-  pub rechained-Collects_distinct_vec : (lower : ℕ) × (lower ≤ length all) × (rechained ≡ rechained_each 0 lower (length all - lower))
-  rechained-Collects_distinct_vec =
-      let counted = rechained-Collects collects (length all) (λ it made. let told = is it made in (tt, omega (arith, told.1))) in
-      (counted.0, counted.1, counted.2 ∙ ap (λ room. rechained_each 0 counted.0 (room - counted.0)) capacity-Collects_distinct_vec)
+-- `extend` of a vector, and `from_iter` of one
+module _ {T Z K V : Type 0} {becomes : T → _ → Type 0} {source : T} {eq : K → K → Bool} (vec : Vec (K × V) Z) (is : (it : _) → becomes source it → (into_iter_items {X = K × V} {Z = Z} it ≡ vec_items vec) × (into_iter_len it ≡ vec_len vec)) where
+  pub pairs-InsertsAll_vec : {mode : Mode} {old new : List (K × V)} → InsertsAll becomes into_iter_steps source eq (λ pair. pair) mode old new → new ≡ insert_each eq mode old (vec_items vec)
+  pairs-InsertsAll_vec inserts = pairs-InsertsAll inserts (yields becomes source vec is)
+
+  module _ {pairs : List (K × V)} {capacity rechained : ℕ} (collects : Collects becomes into_iter_steps source (λ it. at_most (into_iter_len it)) eq pairs capacity rechained) where
+    pub pairs-Collects_vec : pairs ≡ insert_each eq Touch [] (vec_items vec)
+    pairs-Collects_vec = pairs-InsertsAll_vec (InsertsAll-Collects collects)
+
+    -- where the keys of its items differ, the pairs are the items, the capacity is their number, and it chained again what growing
+    -- to that number does, from room for no more
+    module _ (laws : IsEquivalence eq) (distinct : IsDistinct eq (keys_of (vec_items vec))) where
+      pub pairs-Collects_distinct_vec : pairs ≡ vec_items vec
+      pairs-Collects_distinct_vec = pairs-Collects_vec ∙ insert_each-distinct laws Touch (vec_items vec) distinct
+
+      pub capacity-Collects_distinct_vec : capacity ≡ length (vec_items vec)
+      capacity-Collects_distinct_vec = capacity-Collects_distinct laws collects distinct (yields becomes source vec is) (left becomes source vec is)
+
+      pub rechained-Collects_distinct_vec : (lower : ℕ) × (lower ≤ length (vec_items vec)) × (rechained ≡ rechained_each 0 lower (length (vec_items vec) - lower))
+      rechained-Collects_distinct_vec =
+          let counted = rechained-Collects collects (length (vec_items vec)) (left becomes source vec is) in
+          (counted.0, counted.1, counted.2 ∙ ap (λ room. rechained_each 0 counted.0 (room - counted.0)) capacity-Collects_distinct_vec)

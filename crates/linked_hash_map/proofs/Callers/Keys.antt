@@ -1,7 +1,7 @@
 -- For callers: which pairs and keys there are after each call, and how many.
-use Rattle.std.proofs.Common.{◌≡◌, ℕ, zero, suc, ◌+◌, ◌-◌, ◌<◌, ◌≤◌, Bool, true, false, cond, not, List, [], ◌∷◌, ◌++◌, length, take, drop, slice_get, filter, Option, Some, None, is_some, option_map, refl, sym, ap, ap₂, ◌∙◌, subst, true≢false, arith, length-append, length-drop}
+use Rattle.std.proofs.Common.{◌≡◌, ℕ, zero, suc, ◌+◌, ◌-◌, ◌<◌, ◌≤◌, Bool, true, false, cond, not, ◌||◌, IsTrue, List, [], ◌∷◌, ◌++◌, length, take, drop, slice_get, filter, Option, Some, None, is_some, option_map, refl, sym, ap, ap₂, ◌∙◌, subst, true≢false, arith, length-append, length-drop}
 use Rattle.std.specs.Option.{IsSome}
-use Rattle.std.specs.List.{IsDistinct, AllByRecursion}
+use Rattle.std.specs.List.{IsDistinct, AllByRecursion, list_any}
 use Rattle.std.specs.Map.{lookup_entry, keys_of}
 use Rattle.std.specs.Cmp.{IsEquivalence}
 use Rattle.std.proofs.lemmas.List.{map-append}
@@ -10,12 +10,21 @@ use Rattle.linked_hash_map.specs.declared.map.Mode.{Mode}
 use Rattle.linked_hash_map.specs.declared.map.Mode.TheVariants.{Touch, Keep}
 use Rattle.linked_hash_map.specs.Pairs.{key_or, find, value_at, without, to_back, set_value, set_or_push, set_if_some, set_values, put}
 use Rattle.linked_hash_map.proofs.LiveKeys.{none_is}
+use Rattle.linked_hash_map.proofs.Callers.Lookups.{eq-stored}
 use Rattle.linked_hash_map.proofs.Pairs.{is_some-value_at, filter-none}
 use Rattle.linked_hash_map.proofs.Indexes.{slice_get-last}
 -- one pair fewer exactly where the key has one; one more exactly where it has none
 pub use Rattle.linked_hash_map.proofs.Pairs.{length-without, length-to_back, length-put}
 -- keys that differ still do after an insertion
 pub use Rattle.linked_hash_map.proofs.Inserts.{distinct-to_back, distinct-put, length-put_most}
+
+is_some-lookup_entry : {K V : Type 0} (test : K → Bool) (pairs : List (K × V)) → is_some (lookup_entry test pairs) ≡ list_any test (keys_of pairs)
+is_some-lookup_entry test [] = refl
+is_some-lookup_entry test (pair ∷ pairs) = by_test (test pair.0) (is_some-lookup_entry test pairs)
+  where
+    by_test : (b : Bool) → is_some (lookup_entry test pairs) ≡ list_any test (keys_of pairs) → is_some (cond b (Some pair) (lookup_entry test pairs)) ≡ (b || list_any test (keys_of pairs))
+    by_test true rest = refl
+    by_test false rest = rest
 
 module _ {K V : Type 0} (eq : K → K → Bool) (pairs : List (K × V)) (k : K) where
   -- a key that has no value has no pair, and so on
@@ -24,6 +33,14 @@ module _ {K V : Type 0} (eq : K → K → Bool) (pairs : List (K × V)) (k : K) 
 
   pub value_at-none : find eq pairs k ≡ None → value_at eq pairs k ≡ None
   value_at-none none = ap (option_map (λ pair. pair.1)) none
+
+  -- as after a `contains_key` that returned false
+  pub find-absent : is_some (find eq pairs k) ≡ false → find eq pairs k ≡ None
+  find-absent absent = none_is (find eq pairs k) absent
+
+  -- a key is found exactly if it is the same as one of the keys
+  pub is_some-find : is_some (find eq pairs k) ≡ list_any (eq k) (keys_of pairs)
+  is_some-find = is_some-lookup_entry (eq k) pairs
 
   pub IsSome-find : (v : V) → value_at eq pairs k ≡ Some v → IsSome (find eq pairs k)
   IsSome-find v found = sym (is_some-value_at eq pairs k) ∙ ap is_some found
@@ -75,6 +92,12 @@ module _ {K V : Type 0} (eq : K → K → Bool) where
   pub keys_of-to_back_absent : (pairs : List (K × V)) (k : K) (v : V) → find eq pairs k ≡ None → keys_of (to_back eq pairs k v) ≡ keys_of pairs ++ k ∷ []
   keys_of-to_back_absent pairs k v none =
       ap keys_of (to_back-absent eq pairs k v none) ∙ map-append (λ (pair : K × V). pair.0) pairs ((k, v) ∷ [])
+
+  -- where equality decides `≡`, the key that goes to the back is the key of the call
+  pub keys_of-to_back_own : IsEquivalence eq → (pairs : List (K × V)) (k : K) → ((a b : K) → IsTrue (eq a b) → a ≡ b) → (v : V) → keys_of (to_back eq pairs k v) ≡ filter (λ j. not (eq k j)) (keys_of pairs) ++ k ∷ []
+  keys_of-to_back_own laws pairs k decides v =
+      keys_of-to_back pairs k v
+      ∙ ap (λ key. filter (λ j. not (eq k j)) (keys_of pairs) ++ key ∷ []) (sym (decides k (key_or k (find eq pairs k)) (eq-stored laws pairs k)))
 
   pub keys_of-set_value : (pairs : List (K × V)) (k : K) (v : V) → keys_of (set_value eq pairs k v) ≡ keys_of pairs
   keys_of-set_value [] k v = refl

@@ -70,6 +70,11 @@ module _ {K V : Type 0} {eq : K → K → Bool} (laws : IsEquivalence eq) (keeps
     left_is = n.behind;
   }
 
+-- the keys visited and those still to visit stay what they are at the start
+pub append-visited : {X : Type 0} (seen later : List X) {now left rest keys : List X} {pushed key : X} → now ≡ seen ++ pushed ∷ [] → pushed ≡ key → left ≡ key ∷ later → rest ≡ later → seen ++ left ≡ keys → now ++ rest ≡ keys
+append-visited seen later {key = key} grown is visits stays all =
+    (λ i. grown i ++ stays i) ∙ append_assoc seen (_ ∷ []) later ∙ ap (λ k. seen ++ k ∷ later) is ∙ ap (λ keys. seen ++ keys) (sym visits) ∙ all
+
 -- at the start every pair is still to visit
 pub VisitKeeps-start : {K V : Type 0} (keeps : K × V → Bool) (pairs : List (K × V)) → VisitKeeps keeps pairs pairs (keys_of pairs)
 VisitKeeps-start keeps pairs = record { passed = []; rest = pairs; start_is = refl; now_is = refl; left_is = refl }

@@ -1,33 +1,36 @@
 -- For callers: whole runs in which nothing is refused. The replies, the pairs and the capacity then follow from the commands and
 -- the first map, and two such runs answer alike.
-use Rattle.std.proofs.Common.{◌≡◌, ℕ, Bool, true, false, Result, Ok, Err, IfOk, ◌||◌, IsFalse, List, [], ◌∷◌, map, refl, sym, ap, ap₂, ◌∙◌, true≢false}
-use Rattle.std.specs.List.{list_any}
+use Rattle.std.proofs.Common.{◌≡◌, ℕ, Bool, true, false, Result, Ok, Err, IfOk, IsOkAnd, Vec, Global, ◌||◌, ◌&&◌, IsFalse, List, [], ◌∷◌, map, refl, sym, ap, ap₂, ◌∙◌, subst, true≢false}
+use Rattle.std.specs.List.{list_any, list_all}
 use Rattle.std.specs.Cmp.{IsEquivalence}
 use Rattle.linked_hash_map.specs.declared.map.Mode.{Mode}
 use Rattle.linked_hash_map.specs.LinkedMap.{LinkedMap}
 use Rattle.linked_hash_map.specs.Validity.{IsValid}
 use Rattle.linked_hash_map.specs.Log.{Log, mode, pairs, high, Defines}
-use Rattle.linked_hash_map.specs.Run.{first_log, log_after, last_log, IsRun}
+use Rattle.linked_hash_map.specs.Run.{first_log, log_after, last_log, IsReply, IsRun}
 use Rattle.linked_hash_map.specs.Commands.{is_refusal, pairs_after, capacity_after, mode_after, mode_after_all, reply_to, replies_to, pairs_after_all, capacity_after_all}
 use Rattle.linked_hash_map.specs.declared.replay.Command.{Command}
+use Rattle.linked_hash_map.specs.declared.replay.Command.TheVariants.{Insert, Write, Refresh, Remove, PopFront, PopBack, Clear, Drain, Extend, OrInsert, EntryInsert, EntryRemove, Reserve, Shrink, SetMode}
 use Rattle.linked_hash_map.specs.declared.replay.Reply.{Reply}
-use Rattle.linked_hash_map.proofs.Callers.Replay.{Replied-given, Defines-first}
+use Rattle.linked_hash_map.proofs.Callers.Replay.{Replied-given, Defines-first, is_refusal-write, is_refusal-refresh, is_refusal-remove, is_refusal-entry_remove, is_refusal-pop_front, is_refusal-pop_back, is_refusal-clear, is_refusal-set_mode}
 -- what `replay` says if it returns replies
 pub use Rattle.linked_hash_map.specs.Run.{Replayed}
-
--- it is what the four clauses of `replay` say together
-pub Replayed-replay : {K V S R E : Type 0} (eq : K → K → Bool) (old new : LinkedMap K V S) (commands : List (Command K V)) (items : R → List (Reply K V)) (r : Result R E)
-    → IfOk r (λ replies. IsRun eq old.capacity (first_log old.mode old.pairs) commands (items replies))
-    → IfOk r (λ replies. new.pairs ≡ pairs eq (last_log eq (first_log old.mode old.pairs) commands (items replies)))
-    → IfOk r (λ replies. new.capacity ≡ high eq old.capacity (last_log eq (first_log old.mode old.pairs) commands (items replies)))
-    → IfOk r (λ replies. new.mode ≡ mode (last_log eq (first_log old.mode old.pairs) commands (items replies)))
-    → IfOk r (λ replies. Replayed eq old commands (items replies) new)
-Replayed-replay eq old new commands items (Ok replies) run same_pairs same_capacity same_mode = record { run = run; pairs = same_pairs; capacity = same_capacity; mode = same_mode }
-Replayed-replay eq old new commands items (Err refused) run same_pairs same_capacity same_mode = tt
 
 -- no reply says that something was refused for want of memory
 abbrev pub NoneRefused : {K V : Type 0} → List (Reply K V) → Type 0
 NoneRefused replies = IsFalse (list_any (λ reply. is_refusal reply.answer) replies)
+
+-- a command that is never refused, whatever the map
+abbrev pub never_refused : {K V : Type 0} → Command K V → Bool
+never_refused (Write k v) = true
+never_refused (Refresh k) = true
+never_refused (Remove k) = true
+never_refused (EntryRemove k) = true
+never_refused PopFront = true
+never_refused PopBack = true
+never_refused Clear = true
+never_refused (SetMode mode) = true
+never_refused _ = false
 
 first_given : (a b : Bool) → (a || b) ≡ false → a ≡ false
 first_given true b h = absurd (true≢false h)
@@ -61,6 +64,39 @@ module _ {K V : Type 0} {eq : K → K → Bool} (laws : IsEquivalence eq) (start
       let replied = Replied-given laws defines command reply run.0 (first_given refused later given) in
       Defines-given commands replies (log_after eq log command reply.answer) (pairs_after eq mode held command) (capacity_after eq mode room held command) (mode_after mode command) replied.defines run.1 (others_given refused later given)
 
+both_hold : (a b : Bool) → (a && b) ≡ true → (a ≡ true) × (b ≡ true)
+both_hold true b h = (refl, h)
+both_hold false b h = absurd (true≢false (sym h))
+
+-- commands that are never refused get no such reply
+module _ {K V : Type 0} {eq : K → K → Bool} (laws : IsEquivalence eq) (start : ℕ) where
+  is_refusal-never : {log : Log K V} {held : List (K × V)} {room : ℕ} {mode : Mode} → Defines eq start log held room mode → (command : Command K V) (reply : Reply K V) → IsReply eq start log command reply → never_refused command ≡ true → is_refusal reply.answer ≡ false
+  is_refusal-never defines (Write k v) reply is never = is_refusal-write laws defines reply k v is
+  is_refusal-never defines (Refresh k) reply is never = is_refusal-refresh laws defines reply k is
+  is_refusal-never defines (Remove k) reply is never = is_refusal-remove laws defines reply k is
+  is_refusal-never defines (EntryRemove k) reply is never = is_refusal-entry_remove laws defines reply k is
+  is_refusal-never defines PopFront reply is never = is_refusal-pop_front laws defines reply is
+  is_refusal-never defines PopBack reply is never = is_refusal-pop_back laws defines reply is
+  is_refusal-never defines Clear reply is never = is_refusal-clear laws defines reply is
+  is_refusal-never defines (SetMode mode) reply is never = is_refusal-set_mode laws defines reply mode is
+  is_refusal-never defines (Insert k v) reply is never = absurd (true≢false (sym never))
+  is_refusal-never defines Drain reply is never = absurd (true≢false (sym never))
+  is_refusal-never defines (Extend items) reply is never = absurd (true≢false (sym never))
+  is_refusal-never defines (OrInsert k v) reply is never = absurd (true≢false (sym never))
+  is_refusal-never defines (EntryInsert k v) reply is never = absurd (true≢false (sym never))
+  is_refusal-never defines (Reserve additional) reply is never = absurd (true≢false (sym never))
+  is_refusal-never defines Shrink reply is never = absurd (true≢false (sym never))
+
+  NoneRefused-run : (commands : List (Command K V)) (replies : List (Reply K V)) (log : Log K V) (held : List (K × V)) (room : ℕ) (mode : Mode) → Defines eq start log held room mode → IsRun eq start log commands replies → list_all never_refused commands ≡ true → NoneRefused replies
+  NoneRefused-run [] [] log held room mode defines run never = refl
+  NoneRefused-run [] (reply ∷ replies) log held room mode defines run never = absurd run
+  NoneRefused-run (command ∷ commands) [] log held room mode defines run never = absurd run
+  NoneRefused-run (command ∷ commands) (reply ∷ replies) log held room mode defines run never =
+      let both = both_hold (never_refused command) (list_all never_refused commands) never in
+      let given = is_refusal-never defines command reply run.0 both.0 in
+      let replied = Replied-given laws defines command reply run.0 given in
+      ap₂ (λ a b. a || b) given (NoneRefused-run commands replies (log_after eq log command reply.answer) (pairs_after eq mode held command) (capacity_after eq mode room held command) (mode_after mode command) replied.defines run.1 both.1)
+
 module _ {K V S : Type 0} {eq : K → K → Bool} (laws : IsEquivalence eq) {old new : LinkedMap K V S} {commands : List (Command K V)} {replies : List (Reply K V)} (valid : IsValid eq old) (replayed : Replayed eq old commands replies new) where
   -- of a whole run: what `replay` answered, and what the map holds
   pub replies-replayed : NoneRefused replies → replies ≡ replies_to eq old.mode old.capacity old.pairs commands
@@ -80,6 +116,18 @@ module _ {K V S : Type 0} {eq : K → K → Bool} (laws : IsEquivalence eq) {old
   mode-replayed given =
       replayed.mode
       ∙ (Defines-given laws old.capacity commands replies (first_log old.mode old.pairs) old.pairs old.capacity old.mode (Defines-first laws valid) replayed.run given).same_mode
+
+-- a run of these commands, each of which is never refused: the replies and the pairs follow from them with no more ado
+module _ {K V S : Type 0} {eq : K → K → Bool} (laws : IsEquivalence eq) {old new : LinkedMap K V S} {commands : List (Command K V)} {replies : List (Reply K V)} (valid : IsValid eq old) (replayed : Replayed eq old commands replies new)
+    (these : List (Command K V)) (are : commands ≡ these) (never : list_all never_refused these ≡ true) where
+  NoneRefused-replayed : NoneRefused replies
+  NoneRefused-replayed = NoneRefused-run laws old.capacity commands replies (first_log old.mode old.pairs) old.pairs old.capacity old.mode (Defines-first laws valid) replayed.run (ap (list_all never_refused) are ∙ never)
+
+  pub pairs-replayed_never_refused : new.pairs ≡ pairs_after_all eq old.mode old.pairs these
+  pairs-replayed_never_refused = pairs-replayed laws valid replayed NoneRefused-replayed ∙ ap (pairs_after_all eq old.mode old.pairs) are
+
+  pub replies-replayed_never_refused : replies ≡ replies_to eq old.mode old.capacity old.pairs these
+  replies-replayed_never_refused = replies-replayed laws valid replayed NoneRefused-replayed ∙ ap (replies_to eq old.mode old.capacity old.pairs) are
 
 -- the answers do not rest on the capacity
 answers-replies_to : {K V : Type 0} (eq : K → K → Bool) (commands : List (Command K V)) (held : List (K × V)) (room other : ℕ) (mode : Mode) → map (λ reply. reply.answer) (replies_to eq mode room held commands) ≡ map (λ reply. reply.answer) (replies_to eq mode other held commands)
@@ -115,3 +163,20 @@ module _ {K V S T : Type 0} {eq : K → K → Bool} (laws : IsEquivalence eq) {o
       capacity-replayed laws valid replayed given
       ∙ (λ i. capacity_after_all eq (alike i) (as_much i) (same i) commands)
       ∙ sym (capacity-replayed laws valid' replayed' given')
+
+-- the same of what two calls of `replay` return
+module _ {K V S T E : Type 0} {eq : K → K → Bool} (laws : IsEquivalence eq) {old : LinkedMap K V S} (new : LinkedMap K V S) {old' : LinkedMap K V T} (new' : LinkedMap K V T) {commands copies : List (Command K V)} (valid : IsValid eq old) (valid' : IsValid eq old') (same : old.pairs ≡ old'.pairs) (alike : old.mode ≡ old'.mode) (copied : commands ≡ copies) where
+  both_same : (run run' : Result (Vec (Reply K V) Global) E) → IfOk run (λ replies. Replayed eq old commands replies.items new) → IfOk run' (λ replies. Replayed eq old' copies replies.items new') → IsOkAnd run (λ replies. NoneRefused replies.items) → IsOkAnd run' (λ replies. NoneRefused replies.items)
+      → IfOk run (λ replies. IfOk run' (λ replies'. map (λ reply. reply.answer) replies.items ≡ map (λ reply. reply.answer) replies'.items)) × (new.pairs ≡ new'.pairs)
+  both_same (Err refused) run' replayed replayed' given given' = absurd given
+  both_same (Ok replies) (Err refused) replayed replayed' given given' = absurd given'
+  both_same (Ok replies) (Ok replies') replayed replayed' given given' =
+      let again = subst (λ cs. Replayed eq old' cs replies'.items new') (sym copied) replayed' in
+      (answers-same_run laws valid valid' replayed again same alike given given', pairs-same_run laws valid valid' replayed again same alike given given')
+
+  pub answers-same_runs : (run run' : Result (Vec (Reply K V) Global) E) → IfOk run (λ replies. Replayed eq old commands replies.items new) → IfOk run' (λ replies. Replayed eq old' copies replies.items new') → IsOkAnd run (λ replies. NoneRefused replies.items) → IsOkAnd run' (λ replies. NoneRefused replies.items)
+      → IfOk run (λ replies. IfOk run' (λ replies'. map (λ reply. reply.answer) replies.items ≡ map (λ reply. reply.answer) replies'.items))
+  answers-same_runs run run' replayed replayed' given given' = (both_same run run' replayed replayed' given given').0
+
+  pub pairs-same_runs : (run run' : Result (Vec (Reply K V) Global) E) → IfOk run (λ replies. Replayed eq old commands replies.items new) → IfOk run' (λ replies. Replayed eq old' copies replies.items new') → IsOkAnd run (λ replies. NoneRefused replies.items) → IsOkAnd run' (λ replies. NoneRefused replies.items) → new.pairs ≡ new'.pairs
+  pairs-same_runs run run' replayed replayed' given given' = (both_same run run' replayed replayed' given given').1

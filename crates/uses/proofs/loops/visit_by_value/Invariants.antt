@@ -3,7 +3,6 @@ use Rattle.std.specs.Map.{keys_of}
 use Rattle.linked_hash_map.specs.Cursor.{to_visit}
 use Rattle.uses.proofs.loops.visit_by_value.Given as goal
 
--- the keys visited and those still to visit are the keys at the start
 abbrev pub invariant-loop-entry : goal.invariant-loop-entry
 invariant-loop-entry l = l.visited.items ++ to_visit l.entries ≡ keys_of l.fn.map.pairs
 

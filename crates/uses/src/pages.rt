@@ -1,0 +1,50 @@
+//! A cache of pages, over a table of sessions, which together have at most a limit of bytes.
+ghost use Rattle.std.specs.Prelude.{◌≡◌, ◌≤◌, [], Some, length, string_bytes, IfErr, OnOk, OnErr};
+ghost use Rattle.linked_hash_map.specs.SessionTables.{payload_of, without, with_last, total_weight, IsEnd};
+
+use linked_hash_map::sessions::{PutRefused, Sessions};
+use std::alloc::Global;
+
+/// Pages of text by their numbers. They stand in the order of their last use, the one used least recently first.
+#[derive(Drop)]
+pub struct Pages {
+    table: Sessions<String>,
+}
+
+impl Pages {
+    /// Makes a cache without pages, for at most `limit` bytes of text.
+    pub fn new(alloc: Global, limit: u64) -> Self
+        ensures empty { result.table.sessions ≡ [] }
+        ensures limit { result.table.limit ≡ limit }
+    {
+        Pages {
+            table: Sessions::new(alloc, limit),
+        }
+    }
+
+    /// Puts a page in as the one used last, in place of the one with its number. Pages that were used least recently leave for
+    /// it, as few as it takes. A page above the limit is handed back, and so is one that found no memory.
+    pub fn put(&mut self, number: u64, text: String) -> Result<(), PutRefused<String>>
+        ensures stays { OnOk result (payload_of self.new.table.sessions number ≡ Some text) }
+        ensures within { total_weight self.new.table.sessions ≤ self.new.table.limit }
+        ensures oldest { OnOk result (IsEnd (with_last self.old.table.sessions number (length (string_bytes text)) text) self.new.table.sessions) }
+        ensures all { OnOk result (total_weight (with_last self.old.table.sessions number (length (string_bytes text)) text) ≤ self.old.table.limit
+            → self.new.table.sessions ≡ with_last self.old.table.sessions number (length (string_bytes text)) text) }
+        ensures limit { self.new.table.limit ≡ self.old.table.limit }
+
+        ensures handed_back { IfErr result (λ refused. refused.payload ≡ text) }
+        ensures unchanged { OnErr result (self.new ≡ self.old) }
+    {
+        let bytes = text.len() as u64;
+        self.table.put(number, bytes, text)?;
+        Ok(())
+    }
+
+    /// Takes a page out.
+    pub fn take(&mut self, number: u64) -> Option<String>
+        ensures page { result ≡ payload_of self.old.table.sessions number }
+        ensures others { self.new.table.sessions ≡ without self.old.table.sessions number }
+    {
+        self.table.remove(number)
+    }
+}
