@@ -18,8 +18,8 @@ module _ {B : Type 0} where
     pub before : List (Ptr × Option B)
     pub pointer : Ptr
     pub after : List (Ptr × Option B)
-    pub whole : cs ≡ before ++ (pointer, Some x) ∷ after
-    pub at : pointer ≡ p
+    pub is : cs ≡ before ++ (pointer, Some x) ∷ after
+    pub at_is : pointer ≡ p
     pub taken : without_body p cs ≡ before ++ (pointer, None) ∷ after
 
   pub cut_body : (cs : List (Ptr × Option B)) (p : Ptr) (x : B) → body_in cs p ≡ Some x → CutBody cs p x
@@ -31,16 +31,16 @@ module _ {B : Type 0} where
           before = [];
           pointer = c.0;
           after = cs;
-          whole = ap (λ z. (c.0, z) ∷ cs) (sym (ap (λ y. cond y c.1 (body_in cs p)) t) ∙ e);
-          at = same_ptr_eq c.0 p t;
+          is = ap (λ z. (c.0, z) ∷ cs) (sym (ap (λ y. cond y c.1 (body_in cs p)) t) ∙ e);
+          at_is = same_ptr_eq c.0 p t;
           taken = ap (λ y. cond y ((c.0, None) ∷ cs) (c ∷ without_body p cs)) t;
         }
         | false ↦ λ t. let on = cut_body cs p x (sym (ap (λ y. cond y c.1 (body_in cs p)) t) ∙ e) in record {
           before = c ∷ on.before;
           pointer = on.pointer;
           after = on.after;
-          whole = ap (λ xs. c ∷ xs) on.whole;
-          at = on.at;
+          is = ap (λ xs. c ∷ xs) on.is;
+          at_is = on.at_is;
           taken = ap (λ y. cond y ((c.0, None) ∷ cs) (c ∷ without_body p cs)) t ∙ ap (λ xs. c ∷ xs) on.taken;
         }
       ]) refl

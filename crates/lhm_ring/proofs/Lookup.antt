@@ -10,12 +10,12 @@ module _ {L B : Type 0} where
   -- where the list is cut, and what a change or a removal there does
   pub record Cut (cs : List (Cell L B)) (p : Ptr) : Type 0 where
     pub before : List (Cell L B)
-    pub found : Cell L B
+    pub node : Cell L B
     pub after : List (Cell L B)
-    pub whole : cs ≡ before ++ found ∷ after
-    pub at : found.at ≡ p
-    pub here : cell_at cs p ≡ Some found
-    pub changed : (f : Cell L B → Cell L B) → change p f cs ≡ before ++ f found ∷ after
+    pub is : cs ≡ before ++ node ∷ after
+    pub at_is : node.at ≡ p
+    pub here : cell_at cs p ≡ Some node
+    pub changed : (f : Cell L B → Cell L B) → change p f cs ≡ before ++ f node ∷ after
     pub taken : without p cs ≡ before ++ after
 
   pub cut : (cs : List (Cell L B)) (p : Ptr) (l : L) → links_at cs p ≡ Some l → Cut cs p
@@ -25,20 +25,20 @@ module _ {L B : Type 0} where
       (elim (same_ptr c.at p) as (λ y. same_ptr c.at p ≡ y → Cut (c ∷ cs) p) [
         | true ↦ λ t. record {
           before = [];
-          found = c;
+          node = c;
           after = cs;
-          whole = refl;
-          at = same_ptr_eq c.at p t;
+          is = refl;
+          at_is = same_ptr_eq c.at p t;
           here = ap (λ y. cond y (Some c) (cell_at cs p)) t;
           changed = λ f. ap (λ y. cond y (f c ∷ cs) (c ∷ change p f cs)) t;
           taken = ap (λ y. cond y cs (c ∷ without p cs)) t;
         }
         | false ↦ λ t. let on = cut cs p l (sym (ap (λ y. links_of (cond y (Some c) (cell_at cs p))) t) ∙ e) in record {
           before = c ∷ on.before;
-          found = on.found;
+          node = on.node;
           after = on.after;
-          whole = ap (λ xs. c ∷ xs) on.whole;
-          at = on.at;
+          is = ap (λ xs. c ∷ xs) on.is;
+          at_is = on.at_is;
           here = ap (λ y. cond y (Some c) (cell_at cs p)) t ∙ on.here;
           changed = λ f. ap (λ y. cond y (f c ∷ cs) (c ∷ change p f cs)) t ∙ ap (λ xs. c ∷ xs) (on.changed f);
           taken = ap (λ y. cond y cs (c ∷ without p cs)) t ∙ ap (λ xs. c ∷ xs) on.taken;
@@ -50,7 +50,7 @@ module _ {L B : Type 0} where
   holds_at (Some c) b e = (c, refl)
 
   -- where something is held
-  pub cut_held : (cs : List (Cell L B)) (p : Ptr) (b : B) → body_at cs p ≡ Some b → (k : Cut cs p) × (k.found.body ≡ Some b)
+  pub cut_held : (cs : List (Cell L B)) (p : Ptr) (b : B) → body_at cs p ≡ Some b → (k : Cut cs p) × (k.node.body ≡ Some b)
   cut_held cs p b e =
       let h = holds_at (cell_at cs p) b e in let k = cut cs p h.0.links (ap links_of h.1) in (k, sym (ap body_of k.here) ∙ e)
 

@@ -54,8 +54,8 @@ module _ {B : Type 0} where
           before = k.before;
           after = k.after;
           others = ok.1;
-          ring = subst (λ qs. IsRing cs g.ptr qs (target spare) ok.1) k.whole ok.2;
-          long = sym (ap length k.whole) ∙ ok.3;
+          ring = subst (λ qs. IsRing cs g.ptr qs (target spare) ok.1) k.is ok.2;
+          long = sym (ap length k.is) ∙ ok.3;
           wide = ok.4;
           small = ok.5;
         };

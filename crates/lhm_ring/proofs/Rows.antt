@@ -209,7 +209,7 @@ module _ {B : Type 0} where
   pub record CutAt (cs : List (Cell Links B)) (ps : List Ptr) (us : List (Held B)) (t : Held B) (vs : List (Held B)) : Type 0 where
     pub before : List Ptr
     pub after : List Ptr
-    pub whole : ps ≡ before ++ t.at ∷ after
+    pub is : ps ≡ before ++ t.at ∷ after
     pub here : content_at cs t.at ≡ Some t
     pub listed_before : listed cs before ≡ us
     pub listed_after : listed cs after ≡ vs
@@ -225,7 +225,7 @@ module _ {B : Type 0} where
       record {
         before = [];
         after = ps;
-        whole = ap (λ q. q ∷ ps) at;
+        is = ap (λ q. q ∷ ps) at;
         here = ap (content_at cs) (sym at) ∙ h.0.1 ∙ ap (λ z. Some z) first;
         listed_before = refl;
         listed_after = rest;
@@ -237,7 +237,7 @@ module _ {B : Type 0} where
       record {
         before = p ∷ on.before;
         after = on.after;
-        whole = ap (λ qs. p ∷ qs) on.whole;
+        is = ap (λ qs. p ∷ qs) on.is;
         here = on.here;
         listed_before = ap (λ o. one_of o ++ listed cs on.before) h.0.1 ∙ ap (λ l. h.0.0 ∷ l) on.listed_before ∙ ap (λ z. z ∷ us) first;
         listed_after = on.listed_after;

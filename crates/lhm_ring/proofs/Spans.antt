@@ -50,7 +50,7 @@ module _ {B : Type 0} where
 -- the last of a row, with those before it
 pub record LastCut {B : Type 0} (cs : List (Cell Links B)) (f b : Ptr) (rs : List Ptr) : Type 0 where
   pub before : List Ptr
-  pub whole : rs ≡ before ++ b ∷ []
+  pub is : rs ≡ before ++ b ∷ []
   pub linked : Linked cs before
   pub ends : HasEnds before f (prev_at cs b)
 
@@ -75,18 +75,18 @@ module _ {B : Type 0} (cs : List (Cell Links B)) where
   cut_at_last f b (x ∷ xs) zs z e k h =
       let is : z ≡ b = sym (last_of_all x xs zs z e) ∙ sym (last_same x xs) ∙ h.1 in
       let p = ends_before f zs z (subst (Linked cs) e k) (first_is f b (x ∷ xs) zs z e h) in
-      record { before = zs; whole = e ∙ ap (λ q. zs ++ q ∷ []) is; linked = p.0; ends = subst (λ q. HasEnds zs f (prev_at cs q)) is p.1 }
+      record { before = zs; is = e ∙ ap (λ q. zs ++ q ∷ []) is; linked = p.0; ends = subst (λ q. HasEnds zs f (prev_at cs q)) is p.1 }
 
   pub last_cut : (f b : Ptr) (rs : List Ptr) → (length rs ≡ 0 → ⊥) → Linked cs rs → HasEnds rs f b → LastCut cs f b rs
   last_cut f b [] n k h = absurd (n refl)
   last_cut f b (x ∷ xs) n k h = let s = snoc x xs in cut_at_last f b (x ∷ xs) s.0 s.1 s.2 k h
 
--- the first of a row, with those behind it
+-- the first of a row, with those after it
 pub record FirstCut {B : Type 0} (cs : List (Cell Links B)) (f b : Ptr) (rs : List Ptr) : Type 0 where
-  pub behind : List Ptr
-  pub whole : rs ≡ f ∷ behind
-  pub linked : Linked cs behind
-  pub ends : HasEnds behind (next_at cs f) b
+  pub after : List Ptr
+  pub is : rs ≡ f ∷ after
+  pub linked : Linked cs after
+  pub ends : HasEnds after (next_at cs f) b
 
 module _ {B : Type 0} (cs : List (Cell Links B)) where
   ends_behind : (x b : Ptr) (xs : List Ptr) → Linked cs (x ∷ xs) → last_pointer x xs ≡ b → HasEnds xs (next_at cs x) b
@@ -96,8 +96,8 @@ module _ {B : Type 0} (cs : List (Cell Links B)) where
   pub first_cut : (f b : Ptr) (rs : List Ptr) → (length rs ≡ 0 → ⊥) → Linked cs rs → HasEnds rs f b → FirstCut cs f b rs
   first_cut f b [] n k h = absurd (n refl)
   first_cut f b (x ∷ xs) n k h = record {
-    behind = xs;
-    whole = ap (λ q. q ∷ xs) h.0;
+    after = xs;
+    is = ap (λ q. q ∷ xs) h.0;
     linked = linked_tail cs x xs k;
     ends = subst (λ q. HasEnds xs (next_at cs q) b) h.0 (ends_behind x b xs k h.1);
   }
@@ -135,8 +135,8 @@ module _ {B : Type 0} (cs : List (Cell Links B)) (f b : Ptr) (k : ℕ) (s : IsSp
   first : FirstCut cs f b s.0
   first = first_cut cs f b s.0 (λ e. some (sym s.1 ∙ e)) s.2 s.3
 
-  all_first : AllByRecursion (HasContent cs) (f ∷ first.behind)
-  all_first = subst (AllByRecursion (HasContent cs)) first.whole s.4
+  all_first : AllByRecursion (HasContent cs) (f ∷ first.after)
+  all_first = subst (AllByRecursion (HasContent cs)) first.is s.4
 
   pub first_there : IsAt cs f
   first_there = content_links f (links_at cs f) (body_at cs f) all_first.0.0 all_first.0.1
@@ -144,38 +144,38 @@ module _ {B : Type 0} (cs : List (Cell Links B)) (f b : Ptr) (k : ℕ) (s : IsSp
   pub first_holds : Holds cs f
   first_holds = holds_here cs f all_first.0
 
-  apart_first : IsApart (f ∷ first.behind)
-  apart_first = subst IsApart first.whole s.5
+  apart_first : IsApart (f ∷ first.after)
+  apart_first = subst IsApart first.is s.5
 
-  long_first : length first.behind ≡ k - 1
-  long_first = let e = ap length (sym first.whole) ∙ s.1 in omega arith
+  long_first : length first.after ≡ k - 1
+  long_first = let e = ap length (sym first.is) ∙ s.1 in omega arith
 
   module _ (la : Links) (ea : links_at cs f ≡ Some la) where
-    free_first : IsFresh f first.behind
-    free_first = apart_head f first.behind apart_first
+    free_first : IsFresh f first.after
+    free_first = apart_head f first.after apart_first
 
     pub rest_of_first : IsSpan (with_body f None cs) la.next.ptr b (k - 1)
     rest_of_first = (
-      first.behind,
+      first.after,
       long_first,
-      row_stays cs f la ea first.behind first.linked,
-      subst (λ q. HasEnds first.behind q b) (ap next_of ea) first.ends,
-      held_other cs (with_body f None cs) f (other cs f la ea) first.behind free_first all_first.1,
-      apart_tail f first.behind apart_first,
+      row_stays cs f la ea first.after first.linked,
+      subst (λ q. HasEnds first.after q b) (ap next_of ea) first.ends,
+      held_other cs (with_body f None cs) f (other cs f la ea) first.after free_first all_first.1,
+      apart_tail f first.after apart_first,
     )
 
     pub first_out : (x : B) → body_at cs f ≡ Some x → span_triples cs k f ≡ (la.hash, x) ∷ span_triples (with_body f None cs) (k - 1) la.next.ptr
     unfolding first rest_of_first
     first_out x ex =
-        ap (λ ps. triples (listed cs ps)) (span_pointers cs f b k s ∙ first.whole) ∙ ap triples (listed-append cs (f ∷ []) first.behind) ∙ triples-append (listed cs (f ∷ [])) (listed cs first.behind)
-        ∙ (λ i. one_listed cs f la ea x ex all_first.0 i ++ triples (sym (listed_other cs (with_body f None cs) f (other cs f la ea) first.behind free_first) i))
+        ap (λ ps. triples (listed cs ps)) (span_pointers cs f b k s ∙ first.is) ∙ ap triples (listed-append cs (f ∷ []) first.after) ∙ triples-append (listed cs (f ∷ [])) (listed cs first.after)
+        ∙ (λ i. one_listed cs f la ea x ex all_first.0 i ++ triples (sym (listed_other cs (with_body f None cs) f (other cs f la ea) first.after free_first) i))
         ∙ ap (λ ps. (la.hash, x) ∷ triples (listed (with_body f None cs) ps)) (sym (span_pointers (with_body f None cs) la.next.ptr b (k - 1) rest_of_first))
 
   last : LastCut cs f b s.0
   last = last_cut cs f b s.0 (λ e. some (sym s.1 ∙ e)) s.2 s.3
 
   all_last : AllByRecursion (HasContent cs) (last.before ++ b ∷ [])
-  all_last = subst (AllByRecursion (HasContent cs)) last.whole s.4
+  all_last = subst (AllByRecursion (HasContent cs)) last.is s.4
 
   mine : HasContent cs b
   mine = (all_right (HasContent cs) last.before (b ∷ []) all_last).0
@@ -187,11 +187,11 @@ module _ {B : Type 0} (cs : List (Cell Links B)) (f b : Ptr) (k : ℕ) (s : IsSp
   last_holds = holds_here cs b mine
 
   long_last : length last.before ≡ k - 1
-  long_last = let e = ap length (sym last.whole) ∙ s.1 in omega (arith, length-append last.before (b ∷ []))
+  long_last = let e = ap length (sym last.is) ∙ s.1 in omega (arith, length-append last.before (b ∷ []))
 
   module _ (la : Links) (ea : links_at cs b ≡ Some la) where
     free_last : IsFresh b last.before
-    free_last = all_left (λ q. same_ptr b q ≡ false) last.before [] (apart_at last.before b [] (subst IsApart last.whole s.5))
+    free_last = all_left (λ q. same_ptr b q ≡ false) last.before [] (apart_at last.before b [] (subst IsApart last.is s.5))
 
     pub rest_of_last : IsSpan (with_body b None cs) f la.prev.ptr (k - 1)
     rest_of_last = (
@@ -200,12 +200,12 @@ module _ {B : Type 0} (cs : List (Cell Links B)) (f b : Ptr) (k : ℕ) (s : IsSp
       row_stays cs b la ea last.before last.linked,
       subst (λ q. HasEnds last.before f q) (ap prev_of ea) last.ends,
       held_other cs (with_body b None cs) b (other cs b la ea) last.before free_last (all_left (HasContent cs) last.before (b ∷ []) all_last),
-      apart_left last.before (b ∷ []) (subst IsApart last.whole s.5),
+      apart_left last.before (b ∷ []) (subst IsApart last.is s.5),
     )
 
     pub last_out : (x : B) → body_at cs b ≡ Some x → span_triples cs k f ≡ span_triples (with_body b None cs) (k - 1) f ++ (la.hash, x) ∷ []
     unfolding last rest_of_last
     last_out x ex =
-        ap (λ ps. triples (listed cs ps)) (span_pointers cs f b k s ∙ last.whole) ∙ ap triples (listed-append cs last.before (b ∷ [])) ∙ triples-append (listed cs last.before) (listed cs (b ∷ []))
+        ap (λ ps. triples (listed cs ps)) (span_pointers cs f b k s ∙ last.is) ∙ ap triples (listed-append cs last.before (b ∷ [])) ∙ triples-append (listed cs last.before) (listed cs (b ∷ []))
         ∙ (λ i. triples (sym (listed_other cs (with_body b None cs) b (other cs b la ea) last.before free_last) i) ++ one_listed cs b la ea x ex mine i)
         ∙ ap (λ ps. triples (listed (with_body b None cs) ps) ++ (la.hash, x) ∷ []) (sym (span_pointers (with_body b None cs) f la.prev.ptr (k - 1) rest_of_last))

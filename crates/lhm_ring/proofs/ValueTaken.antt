@@ -20,8 +20,8 @@ module _ {V : Type 0} where
     pub before : List (Ptr × V)
     pub pointer : Ptr
     pub after : List (Ptr × V)
-    pub whole : cs ≡ before ++ (pointer, v) ∷ after
-    pub at : pointer ≡ p
+    pub is : cs ≡ before ++ (pointer, v) ∷ after
+    pub at_is : pointer ≡ p
     pub taken : without_value p cs ≡ before ++ after
 
   some_is : (v w : V) → Some v ≡ Some w → v ≡ w
@@ -36,16 +36,16 @@ module _ {V : Type 0} where
           before = [];
           pointer = c.0;
           after = cs;
-          whole = ap (λ z. (c.0, z) ∷ cs) (some_is c.1 v (sym (ap (λ y. cond y (Some c.1) (value_at cs p)) t) ∙ e));
-          at = same_ptr_eq c.0 p t;
+          is = ap (λ z. (c.0, z) ∷ cs) (some_is c.1 v (sym (ap (λ y. cond y (Some c.1) (value_at cs p)) t) ∙ e));
+          at_is = same_ptr_eq c.0 p t;
           taken = ap (λ y. cond y cs (c ∷ without_value p cs)) t;
         }
         | false ↦ λ t. let on = cut_value cs p v (sym (ap (λ y. cond y (Some c.1) (value_at cs p)) t) ∙ e) in record {
           before = c ∷ on.before;
           pointer = on.pointer;
           after = on.after;
-          whole = ap (λ xs. c ∷ xs) on.whole;
-          at = on.at;
+          is = ap (λ xs. c ∷ xs) on.is;
+          at_is = on.at_is;
           taken = ap (λ y. cond y cs (c ∷ without_value p cs)) t ∙ ap (λ xs. c ∷ xs) on.taken;
         }
       ]) refl

@@ -52,8 +52,8 @@ remove_spec 𝓤 𝓛 𝓜 𝓡 wired L K V LL LK LV =
     let us : List Val = vptr rb ro ∷ word p ∷ [] in let Run : List Val → SProp 𝓤 = λ ws. WpFn 𝓤 H 𝓣.C 𝓣.Λ fn ws Post in
     suffices ! (Run us) (subst (λ (ws : List Val). ent 𝓤 (Run us) (Run ws)) (sym (λ i. are.0.0 i ++ (pointer_told a.1.0 vss.1.0 are.1.0 i ++ []))) (id⊢ 𝓤 (Run us))) $
     enter ! 𝓣.C 𝓣.Λ fn us Post $ alloc_all ! (λ l. pass_all ! refl ((tt, tt), (word-Good [] p, tt)) $ let Ev = env fn.locals l in
-    let k : Cut h.cells p = cut h.cells p asked.0 asked.1 in let f : Node E = k.found in
-    opens ! tt N {h = h} rb ro (λ vs. move ! (1 ∷ []) $ fsplit ! $ rewrite ! 1 (λ (cs : List (Node E)). ‵ (Cells E cs)) k.whole refl $ move ! (1 ∷ []) $
+    let k : Cut h.cells p = cut h.cells p asked.0 asked.1 in let f : Node E = k.node in
+    opens ! tt N {h = h} rb ro (λ vs. move ! (1 ∷ []) $ fsplit ! $ rewrite ! 1 (λ (cs : List (Node E)). ‵ (Cells E cs)) k.is refl $ move ! (1 ∷ []) $
     use1 𝓛 (‵ (One E f) ⊛ ‵ (Cells E (k.before ++ k.after))) (cells_cut 𝓛 E k.before f k.after) $ split ! $ fsplit ! $
     in_a_block ! f.at (λ q. lies_at R full_share (links_of R S W q) f.links) (id⊢ 𝓤 (never 𝓤)) (λ pb po e.
     use1 𝓛 (some (λ (u : Val). given (Good (layout L) u) (‵ (fat full_share (layout L) pb (po + lo E) u) ⊛ ‵ (L.own_val f.links (u ∷ []))))) (value_out 0 L LL 𝓛 f.links pb (po + lo E)) $ pick ! (λ u. learn ! (λ _. split ! $ move ! (1 ∷ []) $ drop ! $
@@ -61,7 +61,7 @@ remove_spec 𝓤 𝓛 𝓜 𝓡 wired L K V LL LK LV =
     rewrite ! 0 (λ (q : Ptr). ‵ (body_owns R S W q f.body)) e refl $ use1 𝓛 (‵ (froom (layout K) pb (po + ko E)) ⊛ ‵ (froom (layout V) pb (po + vo E))) (body_room 𝓛 E pb po f.body) $ split ! $
     as_raw ! (layout K) pb (po + ko E) $ move ! (1 ∷ []) $ as_raw ! (layout V) pb (po + vo E) $
     -- [room for the value; for the key; the deed; room for the links; ..]
-    let q : Ptr = block_ptr pb po in let at : p ≡ q = sym k.at ∙ e in
+    let q : Ptr = block_ptr pb po in let at : p ≡ q = sym k.at_is ∙ e in
     rewrite ! 2 (λ (q : Ptr). ‵ (deed_owns R S W chunk_token q)) e refl $ move ! (3 ∷ 1 ∷ 0 ∷ []) $ fjoin3 ! $ fjoin ! $
     use0 𝓛 (‵ ((RmFields R S W heap.the_row ghosts).own_val (q, (record {}, tt)) (room_val q ∷ []))) (room_made R S W heap.the_row ghosts 𝓛 q) $ fjoin ! $
     let out : Room.Denot = record { ptr = q; mark = record {}; alloc = record { memory = record { seal = tt } } } in

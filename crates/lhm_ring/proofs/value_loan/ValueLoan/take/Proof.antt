@@ -64,7 +64,7 @@ take_spec 𝓤 𝓛 𝓜 𝓡 wired L K V LL LK LV =
     move ! (3 ∷ []) $ fsplit ! $ move ! (2 ∷ 3 ∷ 4 ∷ []) $
     -- [self's name; its borrow; its token; the loan's token; the other tokens]
     opens ! tt It {h = d} rb ro (λ vs. move ! (1 ∷ []) $ fsplit ! $ move ! (1 ∷ 6 ∷ []) $
-    rewrite ! 0 (λ (cs : List (Ptr × V.Denot)). ‵ (borrowed κ R S W d.name cs)) k.whole refl $ fsplit ! $
+    rewrite ! 0 (λ (cs : List (Ptr × V.Denot)). ‵ (borrowed κ R S W d.name cs)) k.is refl $ fsplit ! $
     open_ref ! tt (Spread W (ats all)) {x = ofs all} {b = 0} {o = 0} $
     use1 𝓛 (‵ (lies_at W full_share (f k.pointer) v) ⊛ ‵ (spread W (ats (xs ++ ys)) (ofs (xs ++ ys)))) (run_cut 𝓛 W f k.pointer xs v ys) $ split ! $
     in_a_block ! k.pointer (λ q. lies_at W full_share (value_of R S W q) v) (id⊢ 𝓤 (never 𝓤)) (λ pb po e.
@@ -80,7 +80,7 @@ take_spec 𝓤 𝓛 𝓜 𝓡 wired L K V LL LK LV =
     -- [the loan's token; the two names'; the other values; the value; the mark; its cell; the open borrow, in three; the other tokens]
     rewrite ! 2 (λ (cs : List (Ptr × V.Denot)). ‵ (borrowed κ R S W γs.1 cs)) (sym k.taken) refl $ move ! (4 ∷ 2 ∷ []) $ fjoin ! $ move ! (4 ∷ 0 ∷ 5 ∷ 6 ∷ 7 ∷ []) $ closes ! tt It new vs rb ro $
     -- [self's name; its borrow; its token; the loan's token; the two names'; the value; the other tokens]
-    sets ! (is ! (of_opd ! (get_in ! (fld ! refl (stop !)) (sub ! 0 refl (whole !)))) (ap ptr_val (sym k.at ∙ e))) refl (tt, tt) $ first ! $ blocks ! $
+    sets ! (is ! (of_opd ! (get_in ! (fld ! refl (stop !)) (sub ! 0 refl (whole !)))) (ap ptr_val (sym k.at_is ∙ e))) refl (tt, tt) $ first ! $ blocks ! $
     sets_last ! (addr ! (through ! refl (fld ! refl (stop !)))) refl (tt, tt) $ exec ! 𝓣.C 𝓣.Λ Ev (after 2 fn.body) (at_ret Ev Post) $ sets ! (of_opd ! (get ! refl)) refl (tt, tt) $
     feq_i ! (List Val) vss.0 (vptr rb ro ∷ []) are.0.0 $ fjoin3 ! $ nothing ! $ nothing ! $ fjoin ! $ move ! (1 ∷ 0 ∷ []) $ fjoin ! $
     -- [self and the pointer; its token; the loan's token; the two names'; the value; the other tokens]
