@@ -1,5 +1,5 @@
 -- The sessions that a closure keeps.
-use Rattle.std.proofs.Common.{◌≡◌, ℕ, ◌+◌, ◌≤◌, Bool, true, false, cond, List, [], ◌∷◌, map, filter, length, inl, inr, refl, sym, ap, ◌∙◌, subst, arith}
+use Rattle.std.proofs.Common.{◌≡◌, ℕ, ◌+◌, ◌≤◌, Bool, true, false, cond, List, [], ◌∷◌, map, filter, inl, inr, refl, sym, ap, ◌∙◌, subst, arith}
 use Rattle.std.specs.Borrow.{MutBor}
 use Rattle.std.specs.List.{FoldsTo}
 use Rattle.std.specs.Map.Calls.{CallableOnEachPair, SomeCallAtPair, RetainsPairs}
@@ -10,7 +10,6 @@ use Rattle.linked_hash_map.specs.SessionTables.{Session, total_weight}
 use Rattle.linked_hash_map.specs.SessionsKept.{sessions_of}
 use Rattle.linked_hash_map.specs.SessionRetains.{weights_of, CalledAtSession, RetainsSessions}
 use Rattle.linked_hash_map.specs.declared.sessions.storage.Held.{Held}
-use Rattle.linked_hash_map.proofs.Retained.{length-sublist}
 use Rattle.linked_hash_map.proofs.SessionLists.{total_weight-cons}
 
 module _ {F T : Type 0} (g : Mut F (ℕ × (ℕ × (MutBor T × Unit {0}))) (Bool × (MutBor T × Unit {0}))) where
@@ -33,15 +32,6 @@ module _ {F T : Type 0} (g : Mut F (ℕ × (ℕ × (MutBor T × Unit {0}))) (Boo
       (elim r.0 as (λ b. kept ≡ cond b ((session.0, session.1, r.1) ∷ r.3) r.3 → total_weight kept ≤ total_weight (session ∷ sessions)) [
         | true ↦ λ is. let some = ap total_weight is in let stays = total_weight-cons (session.0, session.1, r.1) r.3 in omega (arith, rest, all, some, stays)
         | false ↦ λ is. let some = ap total_weight is in omega (arith, rest, all, some)
-      ]) r.6
-
-  pub length-retained : (f : F) (sessions kept : List (Session T)) → RetainsSessions g f sessions kept → length kept ≤ length sessions
-  length-retained f [] kept r = let none = ap length r in omega (arith, none)
-  length-retained f (session ∷ sessions) kept r =
-      let rest = length-retained r.2 sessions r.3 r.5 in
-      (elim r.0 as (λ b. kept ≡ cond b ((session.0, session.1, r.1) ∷ r.3) r.3 → length kept ≤ length (session ∷ sessions)) [
-        | true ↦ λ is. let some = ap length is in omega (arith, rest, some)
-        | false ↦ λ is. let some = ap length is in omega (arith, rest, some)
       ]) r.6
 
   -- a closure that may always be called may be called again after each call
