@@ -70,12 +70,6 @@ fn edit_occupied(
     Ok(())
 }
 
-/// Appends the key of a vacant entry.
-fn show_vacant(key: &Key, text: &mut String) -> Result<(), AllocError> {
-    text.push_str("vacant ")?;
-    show(key, text)
-}
-
 /// Makes an edit by the entry of a key that is absent: an insertion at `i`, one of 0 that is then
 /// written at `m`, or none.
 fn edit_vacant(
@@ -88,7 +82,8 @@ fn edit_vacant(
     let Entry::Vacant(entry) = map.entry(key) else {
         return Ok(());
     };
-    show_vacant(entry.key(), text)?;
+    text.push_str("vacant ")?;
+    show(entry.key(), text)?;
     match edit {
         b'i' => {
             let lent = entry.insert(value)?;
