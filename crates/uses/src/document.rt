@@ -93,17 +93,23 @@ impl<K: Eq + Hash, V> Document<K, V> {
             return false;
         }
         for _turn in 0..self.fields.len() {
-            let Some((name, value)) = self.fields.pop_front() else {
+            let Some(field) = self.fields.pop_front() else {
                 unreachable!()
             };
-            let name = if *from == name { to } else { name };
-            match self.fields.insert(name, value) {
+            match self.fields.insert(name_after(from, to, field.0), field.1) {
                 Ok(_none) => {}
                 Err(_refused) => unreachable!(),
             }
         }
         true
     }
+}
+
+/// Returns the name that a field has after a renaming.
+fn name_after<K: Eq + Copy>(from: &K, to: K, name: K) -> K
+    ensures { result ≡ if K.eq from.now name then to else name }
+{
+    if *from == name { to } else { name }
 }
 
 /// Tells whether two documents have the same fields in the same order.

@@ -117,9 +117,8 @@ module _ {K V : Type 0} {eq : K → K → Bool} (laws : IsEquivalence eq) (from 
             (free_turn pair rest (subst (λ (p : K × V). IsDistinct eq (keys_of (p ∷ rest))) same distinct)
             (subst (λ (p : K × V). is_some (find eq (p ∷ rest) from) ≡ true → find eq (p ∷ rest) to ≡ None) same free)).0
 
-    -- one turn: the first pair goes behind the others, under the new name where it has the old one
-    pub IsRenaming-turn : (after : List (K × V)) → turns < length old → after ≡ without_first now ++ (cond (eq from pair.0) to pair.0, pair.1) ∷ [] → IsRenaming eq from to old after (turns + 1)
-    IsRenaming-turn after within done = by_list now distinct there w.list w.free done
+    IsRenaming-pushed : (after : List (K × V)) → turns < length old → after ≡ without_first now ++ (cond (eq from pair.0) to pair.0, pair.1) ∷ [] → IsRenaming eq from to old after (turns + 1)
+    IsRenaming-pushed after within done = by_list now distinct there w.list w.free done
       where
         by_list : (held : List (K × V)) → IsDistinct eq (keys_of held) → first held ≡ Some pair
             → held ≡ drop turns old ++ map (λ p. cond (eq from p.0) (to, p.1) p) (take turns old) → (is_some (find eq held from) ≡ true → find eq held to ≡ None)
@@ -133,3 +132,8 @@ module _ {K V : Type 0} {eq : K → K → Bool} (laws : IsEquivalence eq) (from 
               list = done ∙ list_turn old turns pair rest within (ap (λ (p : K × V). p ∷ rest) (sym same) ∙ list);
               free = subst (λ ps. is_some (find eq ps from) ≡ true → find eq ps to ≡ None) (sym done) turned.1;
             }
+
+    -- one turn: the first pair goes behind the others, under the new name if it has the old one
+    pub IsRenaming-turn : {rest after : List (K × V)} {name : K} (mode : Mode) → turns < length old → rest ≡ without_first now → name ≡ cond (eq from pair.0) to pair.0 → after ≡ put eq mode rest name pair.1 → IsRenaming eq from to old after (turns + 1)
+    IsRenaming-turn {rest} {after} {name} mode within popped named inserted =
+        IsRenaming-pushed after within (inserted ∙ (λ i. put eq mode (popped i) (named i) pair.1) ∙ put-absent eq (without_first now) (cond (eq from pair.0) to pair.0) mode pair.1 find-renamed)
