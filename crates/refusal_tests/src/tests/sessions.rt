@@ -103,6 +103,7 @@ fn use_two(rt: &(impl Abort + Print + AllocGlobal), table: &mut Table) {
     if put_two(table) {
         read_and_move(rt, table);
         remove_and_put(rt, table);
+        retain(rt, table);
         say_given(rt, 6);
     }
 }
@@ -122,6 +123,14 @@ fn remove_and_put(rt: &impl Abort, table: &mut Table) {
     check!(rt; table.put(3, 5, "d").is_ok());
     check!(rt; table.put(3, 11, "e").is_err());
     assert_sessions(rt, table, &[(1, 4, "a"), (3, 5, "d")], 9);
+}
+
+/// Keeps both sessions of a table, and then one.
+fn retain(rt: &impl Abort, table: &mut Table) {
+    table.retain(|_id, _weight, _payload| true);
+    assert_sessions(rt, table, &[(1, 4, "a"), (3, 5, "d")], 9);
+    table.retain(|id, _weight, _payload| id == 3);
+    assert_sessions(rt, table, &[(3, 5, "d")], 5);
 }
 
 #[test]
