@@ -32,6 +32,7 @@ pub mod Runs
 pub mod SessionLists
 pub mod SessionPairs
 pub mod SessionPuts
+pub mod SessionRetained
 pub mod Standing
 pub mod Stretches
 pub mod TakenNode

@@ -41,6 +41,7 @@ ghost use Rattle.linked_hash_map.specs.SessionTables.{session_of, payload_of, to
 
 mod iter;
 mod outcome;
+mod retain;
 mod storage;
 
 use self::storage::{Held, find_leaving, make_room, store, weight_at};

@@ -10,5 +10,6 @@ mod look_ups;
 mod multiple;
 mod plain_map;
 mod random;
+mod session_retains;
 mod sessions;
 mod tally;

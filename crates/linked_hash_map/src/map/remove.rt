@@ -41,7 +41,7 @@ impl<K: Eq + Hash, V, S: BuildHasher> LinkedHashMap<K, V, S> {
         ensures to_visit { IfNone result (to_visit self.new ≡ to_visit self.old) }
         ensures valid { IsValid K.eq self.old }
         ensures stays_valid { IsValid K.eq self.new }
-        // Consequences of `pairs`, for the proofs of callers.
+        // Consequences of `value` and `pairs`, for the proofs of callers.
         ensures updates { Updates K.eq self.old.pairs self.new.pairs key.now None }
         ensures fewer { OnSome result (length self.new.pairs + 1 ≡ length self.old.pairs) }
         ensures same { IfNone result (self.new.pairs ≡ self.old.pairs) }

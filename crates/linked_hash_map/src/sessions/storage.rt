@@ -64,6 +64,18 @@ pub(super) fn find_leaving<T>(
     Leaving { count, staying }
 }
 
+/// Returns the sum of the weights of all sessions, in O(n).
+pub(super) fn total_of<T>(map: &LinkedHashMap<u64, Held<T>>) -> u64
+    requires { total_weight (sessions_of map.now.pairs) ≤ u64.MAX }
+    ensures { result ≡ total_weight (sessions_of map.now.pairs) }
+{
+    let mut total = 0;
+    for (_id, held) in map.iter() {
+        total += held.weight;
+    }
+    total
+}
+
 /// Allocates what a put needs, and nothing else of it allocates: room for the sessions to remove,
 /// or, if there are none and the id is new, for one more.
 pub(super) fn make_room<T>(

@@ -1,4 +1,4 @@
-use Rattle.std.proofs.Common.{◌≡◌, ◌+◌, length, Option, Some, None, IfNone, sym, ap, ◌∙◌}
+use Rattle.std.proofs.Common.{◌≡◌, ◌+◌, length, Some, None, IfNone, sym, ap, ◌∙◌}
 use Rattle.linked_hash_map.proofs.Callers.Keys.{IsSome-find, length-without_present}
 use Rattle.linked_hash_map.proofs.Callers.Updates.{Updates-without}
 use Rattle.linked_hash_map.proofs.Pairs.{without-absent}

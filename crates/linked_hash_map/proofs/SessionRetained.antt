@@ -1,0 +1,84 @@
+-- The sessions that a closure keeps.
+use Rattle.std.proofs.Common.{◌≡◌, ℕ, ◌+◌, ◌≤◌, Bool, true, false, cond, List, [], ◌∷◌, filter, inl, inr, refl, sym, ap, ◌∙◌, subst, arith}
+use Rattle.std.specs.Borrow.{MutBor}
+use Rattle.std.specs.List.{FoldsTo}
+use Rattle.std.specs.Map.Calls.{CallableOnEachPair, SomeCallAtPair, RetainsPairs}
+use denote.Param.Always.{always_mut, mut_next}
+use denote.Param.Members.{Mut}
+use Rattle.linked_hash_map.specs.Retains.{IsSublist}
+use Rattle.linked_hash_map.specs.SessionTables.{Session, total_weight}
+use Rattle.linked_hash_map.specs.SessionsKept.{sessions_of}
+use Rattle.linked_hash_map.specs.SessionRetains.{weights_of, CalledAtSession, RetainsSessions}
+use Rattle.linked_hash_map.specs.declared.sessions.storage.Held.{Held}
+use Rattle.linked_hash_map.proofs.SessionLists.{total_weight-cons}
+
+module _ {F T : Type 0} (g : Mut F (ℕ × (ℕ × (MutBor T × Unit {0}))) (Bool × (MutBor T × Unit {0}))) where
+  -- whatever the closure does, some of the sessions stay, in order, each with its weight
+  pub weights-retained : (f : F) (sessions kept : List (Session T)) → RetainsSessions g f sessions kept → IsSublist (weights_of kept) (weights_of sessions)
+  weights-retained f [] kept r = ap weights_of r
+  weights-retained f (session ∷ sessions) kept r =
+      let rest = weights-retained r.2 sessions r.3 r.5 in
+      (elim r.0 as (λ b. kept ≡ cond b ((session.0, session.1, r.1) ∷ r.3) r.3 → IsSublist (weights_of kept) ((session.0, session.1) ∷ weights_of sessions)) [
+        | true ↦ λ is. inr (weights_of r.3, ap weights_of is, rest)
+        | false ↦ λ is. inl (subst (λ (l : List (Session T)). IsSublist (weights_of l) (weights_of sessions)) (sym is) rest)
+      ]) r.6
+
+  -- and they weigh no more
+  pub total_weight-retained : (f : F) (sessions kept : List (Session T)) → RetainsSessions g f sessions kept → total_weight kept ≤ total_weight sessions
+  total_weight-retained f [] kept r = let none = ap total_weight r in omega (arith, none)
+  total_weight-retained f (session ∷ sessions) kept r =
+      let rest = total_weight-retained r.2 sessions r.3 r.5 in
+      let all = total_weight-cons session sessions in
+      (elim r.0 as (λ b. kept ≡ cond b ((session.0, session.1, r.1) ∷ r.3) r.3 → total_weight kept ≤ total_weight (session ∷ sessions)) [
+        | true ↦ λ is. let some = ap total_weight is in let stays = total_weight-cons (session.0, session.1, r.1) r.3 in omega (arith, rest, all, some, stays)
+        | false ↦ λ is. let some = ap total_weight is in omega (arith, rest, all, some)
+      ]) r.6
+
+  -- a closure that may always be called may be called again after each call
+  pub always-called : (f : F) (session : Session T) (b : Bool) (payload : T) (f' : F) → CalledAtSession g f session b payload f' → always_mut g f → always_mut g f'
+  always-called f session b payload f' call always = mut_next g _ _ _ _ _ call.called refl always
+
+  -- a closure that only tests, and stays as it was, leaves a filter
+  module _ (test : Session T → Bool) (f : F) (says : (session : Session T) (b : Bool) (payload : T) (f' : F) → CalledAtSession g f session b payload f' → (b ≡ test session) × (payload ≡ session.2) × (f' ≡ f)) where
+    pub filter-retained_sessions : (sessions kept : List (Session T)) → RetainsSessions g f sessions kept → kept ≡ filter test sessions
+    filter-retained_sessions [] kept r = r
+    filter-retained_sessions (session ∷ sessions) kept r =
+        let said = says session r.0 r.1 r.2 r.4 in
+        let rest = filter-retained_sessions sessions r.3 (subst (λ f'. RetainsSessions g f' sessions r.3) said.2 r.5) in
+        r.6 ∙ (λ i. cond (said.0 i) ((session.0, session.1, said.1 i) ∷ rest i) (rest i))
+
+-- the weight of the first of the sessions that pairs stand for, and of the others
+pub total_weight-next : {T : Type 0} (pairs : List (ℕ × Held T)) (pair : ℕ × Held T) (rest : List (ℕ × Held T)) → pairs ≡ pair ∷ rest → total_weight (sessions_of pairs) ≡ pair.1.weight + total_weight (sessions_of rest)
+total_weight-next pairs pair rest is = ap (λ ps. total_weight (sessions_of ps)) is ∙ total_weight-cons (pair.0, pair.1.weight, pair.1.payload) (sessions_of rest)
+
+-- what a closure over the pairs of a map keeps, if each of its calls is one of the closure over sessions
+module _ {C F T : Type 0} (calls : C → ℕ → Held T → Bool → Held T → C → Type 0) (g : Mut F (ℕ × (ℕ × (MutBor T × Unit {0}))) (Bool × (MutBor T × Unit {0}))) (inner : C → F)
+    (says : (c : C) (id : ℕ) (held : Held T) (b : Bool) (left : Held T) (c' : C) → calls c id held b left c' → CalledAtSession g (inner c) (id, held.weight, held.payload) b left.payload (inner c') × (left.weight ≡ held.weight)) where
+  sessions_of-cond : (b : Bool) (id : ℕ) (left : Held T) (pairs : List (ℕ × Held T)) → sessions_of (cond b ((id, left) ∷ pairs) pairs) ≡ cond b ((id, left.weight, left.payload) ∷ sessions_of pairs) (sessions_of pairs)
+  sessions_of-cond true id left pairs = refl
+  sessions_of-cond false id left pairs = refl
+
+  pub sessions-retained : (c : C) (pairs kept : List (ℕ × Held T)) → RetainsPairs calls c pairs kept → RetainsSessions g (inner c) (sessions_of pairs) (sessions_of kept)
+  sessions-retained c [] kept r = ap sessions_of r
+  sessions-retained c (pair ∷ pairs) kept r =
+      let said = says c pair.0 pair.1 r.0 r.1 r.2 r.4 in (
+        r.0,
+        r.1.payload,
+        inner r.2,
+        sessions_of r.3,
+        said.0,
+        sessions-retained r.2 pairs r.3 r.5,
+        ap sessions_of r.6 ∙ sessions_of-cond r.0 pair.0 r.1 r.3 ∙ (λ i. cond r.0 ((pair.0, said.1 i, r.1.payload) ∷ sessions_of r.3) (sessions_of r.3)),
+      )
+
+  pub lighter-retained : (c : C) (pairs kept : List (ℕ × Held T)) → RetainsPairs calls c pairs kept → total_weight (sessions_of kept) ≤ total_weight (sessions_of pairs)
+  lighter-retained c pairs kept r = total_weight-retained g (inner c) (sessions_of pairs) (sessions_of kept) (sessions-retained c pairs kept r)
+
+-- what holds of a closure after each of its calls lets it be called at each pair
+module _ {C K X : Type 0} (calls : C → K → X → Bool → X → C → Type 0) (Ready : C → Type 0) (still : (c : C) (k : K) (v : X) (b : Bool) (w : X) (c' : C) → calls c k v b w c' → Ready c → Ready c') where
+  ready_after : (pairs : List (K × X)) (c c' : C) → FoldsTo (SomeCallAtPair calls) c pairs c' → Ready c → Ready c'
+  ready_after [] c c' end ready = subst Ready end ready
+  ready_after (pair ∷ pairs) c c' steps ready = ready_after pairs steps.0 c' steps.2 (still c pair.0 pair.1 steps.1.0 steps.1.1 steps.0 steps.1.2 ready)
+
+  pub callable-ready : (Takes : C → K → X → Type 0) → ((c : C) (k : K) (v : X) → Ready c → Takes c k v) → (c : C) (pairs : List (K × X)) → Ready c → CallableOnEachPair calls Takes c pairs
+  callable-ready Takes takes c pairs ready = record { at = λ before after c' k v is steps. takes c' k v (ready_after before c c' steps ready) }

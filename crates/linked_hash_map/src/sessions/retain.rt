@@ -1,0 +1,53 @@
+//! `retain`, which removes the sessions that a closure rejects.
+ghost use Rattle.std.specs.Prelude.{◌≡◌, ◌≤◌, length};
+ghost use Rattle.linked_hash_map.specs.Retains.{IsSublist};
+ghost use Rattle.linked_hash_map.specs.SessionRetains.{weights_of, CalledAtSession, RetainsSessions};
+ghost use Rattle.linked_hash_map.specs.SessionTables.{total_weight, IsValidTable};
+
+use super::Sessions;
+use super::storage::{Held, total_of};
+
+impl<T> Sessions<T> {
+    /// Keeps the sessions for which a closure returns `true`, in order, and drops the payloads of
+    /// the others.
+    ///
+    /// The closure is called once with each id, weight and payload, front to back, and may change
+    /// the payload. Each payload that it rejects is dropped before the next call. Whatever it does,
+    /// the sessions that stay are some of the old ones, in their order, each with its weight, and
+    /// the limit stays. It is O(n) on average and does not allocate.
+    ///
+    /// # Examples
+    ///
+    /// ```rust
+    /// let mut table = Sessions::new(rt.alloc(), 10);
+    /// table.put(1, 4, "a")?;
+    /// table.put(2, 3, "b")?;
+    /// table.retain(|_id, weight, payload| {
+    ///     *payload = "c";
+    ///     weight < 4
+    /// });
+    /// assert_eq!(rt; (table.len(), table.total()), (1, 3));
+    /// assert_eq!(rt; table.iter().next(), Some((2, 3, &"c")));
+    /// ```
+    pub fn retain<F: FnMut(u64, u64, &mut T) -> bool>(&mut self, mut keep: F)
+    where
+        T: Drop,
+        requires { F.IsAlwaysCallable keep }
+        ensures sessions { RetainsSessions F.FnMut keep self.old.sessions self.new.sessions }
+        ensures weights { IsSublist (weights_of self.new.sessions) (weights_of self.old.sessions) }
+        ensures len { length self.new.sessions ≤ length self.old.sessions }
+        ensures lighter { total_weight self.new.sessions ≤ total_weight self.old.sessions }
+        ensures limit { self.new.limit ≡ self.old.limit }
+        ensures valid { IsValidTable self.old }
+        ensures stays_valid { IsValidTable self.new }
+    {
+        self.map.retain(
+            |id: &u64, held: &mut Held<T>|
+                requires { F.IsAlwaysCallable keep }
+                ensures called { CalledAtSession F.FnMut keep.entry (id.now, held.old.weight, held.old.payload) result held.new.payload keep.exit }
+                ensures weight { held.new.weight ≡ held.old.weight }
+            { keep(*id, held.weight, &mut held.payload) },
+        );
+        self.total = total_of(&self.map);
+    }
+}
