@@ -1,8 +1,7 @@
 //! How often each word comes.
-ghost use Rattle.std.specs.Prelude.{◌≡◌, [], ◌∷◌, ◌++◌, fold, unwrap_or, if◌then◌else◌, IfOk};
-ghost use Rattle.std.specs.List.{count_by, list_any};
+ghost use Rattle.std.specs.Prelude.{◌≡◌, IfOk};
 ghost use Rattle.std.specs.Map.{keys_of};
-ghost use Rattle.linked_hash_map.specs.Pairs.{value_at};
+ghost use Rattle.uses.specs.Counting.{HasCounts, first_seen};
 
 use linked_hash_map::{LinkedHashMap, Refused};
 use std::alloc::Global;
@@ -15,8 +14,8 @@ pub fn counts_of<K: Eq + Hash + Copy>(
     alloc: Global,
     words: &[K],
 ) -> Result<LinkedHashMap<K, u64>, Refused<K, u64>>
-    ensures counts { IfOk result (λ counts. (word : K) → unwrap_or (value_at K.eq counts.pairs word) 0 ≡ count_by (K.eq word) words.now) }
-    ensures order { IfOk result (λ counts. keys_of counts.pairs ≡ fold (λ seen word. if list_any (K.eq word) seen then seen else seen ++ word ∷ []) [] words.now) }
+    ensures counts { IfOk result (λ counts. HasCounts K.eq counts.pairs words.now) }
+    ensures order { IfOk result (λ counts. keys_of counts.pairs ≡ first_seen K.eq words.now) }
 {
     let mut counts = LinkedHashMap::new(alloc);
     for word in words {

@@ -37,7 +37,7 @@ impl<K: Eq + Hash> Interner<K> {
         ensures below { IfOk result (λ number. number < length self.new.names.pairs) }
 
         ensures handed_back { IfErr result (λ refused. refused.key ≡ name) }
-        ensures unchanged { OnErr result (self.new ≡ self.old) }
+        ensures unchanged { OnErr result (self.new.names ≡ self.old.names) }
     {
         if let Some(number) = self.names.get(&name) {
             return Ok(*number);

@@ -2,4 +2,5 @@ use Rattle.linked_hash_map.proofs.Callers.Extended.{pairs-InsertsAll_vec}
 use Rattle.uses.proofs.collecting.insert_all.Goals as goal
 
 pub returns-clause-all : goal.returns-clause-all
-returns-clause-all g c = pairs-InsertsAll_vec c.args.list (λ it made. (made.0, made.1)) c.in_ok-extend.ensures.all
+returns-clause-all g c =
+    pairs-InsertsAll_vec c.args.list (λ it m. (m.0, m.1)) c.in_ok-extend.ensures.all

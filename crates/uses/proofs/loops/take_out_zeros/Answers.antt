@@ -1,19 +1,15 @@
 use Rattle.std.proofs.Common.{rules}
-use Rattle.linked_hash_map.proofs.Callers.Visits.{VisitKeeps-passed, VisitKeeps-removed, length-removed}
+use Rattle.linked_hash_map.proofs.Callers.Visits.{VisitKeeps-passed, VisitKeeps-removed}
 use Rattle.uses.proofs.loops.take_out_zeros.Goals as goal
 
 pub loop-entry-preserved-then-get-eq0 : goal.loop-entry-preserved-then-get-eq0
 loop-entry-preserved-then-get-eq0 g c =
     let e = c.in-Some.ensures in
-    record {
-      keeps = VisitKeeps-removed g.met.K.Eq.laws c.loop-entry.invariant.keeps e.visits e.valid.distinct e.value e.pairs (search rules) (search rules) (search rules);
-      taken = length-removed g.met.K.Eq.laws _ _ c.loop-entry.invariant.taken e.valid.distinct e.value e.pairs (search rules);
-    }
+    VisitKeeps-removed g.met.K.Eq.laws c.loop-entry.invariant e.visits e.valid.distinct e.value
+    e.pairs (search rules) (search rules) (search rules)
 
 pub loop-entry-preserved : goal.loop-entry-preserved
 loop-entry-preserved g c =
     let e = c.in-Some.ensures in
-    record {
-      keeps = VisitKeeps-passed g.met.K.Eq.laws c.loop-entry.invariant.keeps e.visits e.valid.distinct e.value e.pairs (search rules) (search rules) (search rules);
-      taken = search rules;
-    }
+    VisitKeeps-passed g.met.K.Eq.laws c.loop-entry.invariant e.visits e.valid.distinct e.value
+    e.pairs (search rules) (search rules) (search rules)

@@ -1,9 +1,9 @@
-use Rattle.std.proofs.Common.{sym, ◌∙◌}
-use Rattle.linked_hash_map.proofs.Callers.Keys.{find-absent}
-use Rattle.linked_hash_map.proofs.Callers.Turns.{IsRenaming-start, IsRenaming-turn, IsRenaming-end}
+use Rattle.std.proofs.Common.{sym, arith}
+use Rattle.linked_hash_map.proofs.Callers.Turns.{IsRenaming-turn}
 use Rattle.uses.proofs.document.Document.rename.Goals as goal
 
-pub loop-_turn-preserved : goal.loop-_turn-preserved
-loop-_turn-preserved g c =
-    let pop = c.pop_front.ensures in
-    ?
+pub loop-turn-preserved : goal.loop-turn-preserved
+loop-turn-preserved g c =
+    let pop = c.in-Some.ensures in
+    IsRenaming-turn g.met.K.Eq.laws _ _ _ _ _ _ c.loop-turn.invariant pop.valid.distinct
+    (sym pop.pair) _ (omega arith) pop.pairs c.name_after.ensures c.in-Ok.ensures.pairs

@@ -1,5 +1,6 @@
 use Rattle.linked_hash_map.proofs.Callers.Turns.{IsRenaming}
 use Rattle.uses.proofs.document.Document.rename.Given as goal
 
-abbrev pub invariant-loop-_turn : goal.invariant-loop-_turn
-invariant-loop-_turn g l = IsRenaming g.K.PartialEq.eq l.from l.to l.fn.self.fields.pairs l.self.fields.pairs l._turn
+abbrev pub invariant-loop-turn : goal.invariant-loop-turn
+invariant-loop-turn g l =
+    IsRenaming g.K.PartialEq.eq l.from l.to l.fn.self.fields.pairs l.self.fields.pairs l._turn
