@@ -3,12 +3,13 @@
 use super::calls::{
     assert_contains, assert_get, assert_sizes, check_insert, check_pop_front, check_remove,
 };
+use super::checks::given;
 use linked_hash_map::LinkedHashMap;
 use std::process::Abort;
 
-const HALF: u64 = 500_000;
+const HALF: u64 = 1 << 19;
 
-const ALL: u64 = 1_000_000;
+const ALL: u64 = 1 << 20;
 
 fn insert_all(rt: &impl Abort, map: &mut LinkedHashMap<u64, u64>) {
     for key in 0..ALL {
@@ -40,11 +41,21 @@ fn pop_odd(rt: &impl Abort, map: &mut LinkedHashMap<u64, u64>) {
 fn holds_a_million_pairs(rt: HostRuntime) {
     let mut map = LinkedHashMap::new(rt.alloc());
     insert_all(&rt, &mut map);
-    assert_sizes(&rt, &map, 1_000_000, 1_000_000);
+    assert_sizes(&rt, &map, 1_048_576, 1_048_576);
     find_all(&rt, &map);
+}
+
+#[test]
+fn gives_a_million_pairs_back(rt: HostRuntime) {
+    let mut map = given!(rt; LinkedHashMap::with_capacity(rt.alloc(), 1_048_576));
+    assert_sizes(&rt, &map, 0, 1_048_576);
+    insert_all(&rt, &mut map);
     remove_even(&rt, &mut map);
-    assert_sizes(&rt, &map, 500_000, 1_000_000);
+    assert_sizes(&rt, &map, 524_288, 1_048_576);
+    given!(rt; map.shrink_to_fit());
+    assert_sizes(&rt, &map, 524_288, 524_288);
     pop_odd(&rt, &mut map);
     check_pop_front(&rt, &mut map, None);
-    assert_sizes(&rt, &map, 0, 1_000_000);
+    given!(rt; map.shrink_to_fit());
+    assert_sizes(&rt, &map, 0, 0);
 }
