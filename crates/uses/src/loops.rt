@@ -86,21 +86,21 @@ pub fn take_all<K: Eq + Hash + Drop, V: Drop, S: BuildHasher>(
 
 /// Takes out each pair whose count is zero, and returns how many there were: a loop over a visit.
 /// The others keep their order.
-#[tactic(auto, using(linked_hash_map::proofs::Callers::Rules::kept))]
 pub fn take_out_zeros<K: Eq + Hash + Drop, S: BuildHasher>(
     counts: &mut LinkedHashMap<K, u64, S>,
 ) -> usize
     ensures pairs { counts.new.pairs ≡ filter has_count counts.old.pairs }
     ensures taken { result + length counts.new.pairs ≡ length counts.old.pairs }
 {
-    let before = counts.len();
+    let mut taken = 0;
     let entries = counts.visit();
     while let Some(entry) = entries.next_entry() {
         if *entry.get() == 0 {
             entry.remove();
+            taken += 1;
         }
     }
-    before - counts.len()
+    taken
 }
 
 /// Returns the key at the oldest place, by a cursor, which knows its first entry.

@@ -5,7 +5,6 @@ use Rattle.std.proofs.Common.{◌≡◌, ℕ, ◌+◌, ◌≤◌, Bool, false, n
 use Rattle.std.specs.Cmp.{nat_eq_equiv}
 use Rattle.std.specs.Map.{keys_of}
 use Rattle.std.proofs.lemmas.Bool.{eqb-true}
-use Rattle.std.proofs.lemmas.List.Sums.{length-filter}
 use Rattle.linked_hash_map.specs.declared.map.Mode.{Mode}
 use Rattle.linked_hash_map.specs.declared.map.Mode.TheVariants.{Touch}
 use Rattle.linked_hash_map.specs.Pairs.{find, value_at, put}
@@ -45,6 +44,3 @@ pub ruleset dense = (values_of_dense_push, value_at_dense_each)
 
 -- maps that count items, in the order in which these first come
 pub ruleset counts = (count_by-set_or_push, count-lt-length, keys_of-set_or_push_first_seen)
-
--- how many pairs a visit or `retain` keeps
-pub ruleset kept = length-filter
