@@ -40,7 +40,7 @@ fn partial_compare<M: PartialOrd>(map: &M, other: &M, text: &mut String) -> std:
 }
 
 /// Returns the number that a hasher gives a map.
-fn number_of(map: &Map) -> u64 {
+fn hash_of(map: &Map) -> u64 {
     let choice = Choice::Spread;
     let mut hasher = BuildKeyHasher { choice }.build_hasher();
     map.hash(&mut hasher);
@@ -54,7 +54,7 @@ pub fn run(name: &str, line: &mut Line<'_>, map: &Map, other: &Map, text: &mut S
         "cmp" => compare(&plain(map), &plain(other), text)?,
         "partial_cmp" => partial_compare(map, other, text)?,
         "new" => show_new(line.number(), text)?,
-        "hash" => write!(text, "{} ", number_of(map))?,
+        "hash" => write!(text, "{} ", hash_of(map))?,
         "debug" => write!(text, "{map:?} ")?,
         "debug_pretty" => write!(text, "{:?} ", format!("{map:#?}"))?,
         _ => return Ok(false),

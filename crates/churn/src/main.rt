@@ -5,7 +5,7 @@
 //! saw in all. `scripts/churn` runs it with little memory, which ends it if each turn keeps as much
 //! as the buckets of one map. What is proved of it is that it is safe and ends.
 //!
-//! The exit status is 0; 2 where there is no number of turns; 3 for want of memory; 4 where writing
+//! The exit status is 0; 2 if there is no number of turns; 3 if an allocation fails; 4 if writing
 //! fails.
 #![tactic(auto)]
 

@@ -1,10 +1,10 @@
--- What a hasher answers.
+-- What a hasher returns.
 use Rattle.std.specs.Prelude.{ℕ}
 use Rattle.driver.specs.declared.hasher.Choice.{Choice}
 use Rattle.driver.specs.declared.hasher.Choice.TheVariants.{Spread, Same, Letter}
 
 -- of the number that was written and its first byte
-abbrev pub number_of : Choice → ℕ → ℕ → ℕ
-number_of Spread number first = number
-number_of Same number first = 0
-number_of Letter number first = first
+abbrev pub hash_of : Choice → ℕ → ℕ → ℕ
+hash_of Spread number first = number
+hash_of Same number first = 0
+hash_of Letter number first = first

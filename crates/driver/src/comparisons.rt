@@ -53,7 +53,7 @@ fn partial_compare<M: PartialOrd>(map: &M, other: &M, text: &mut String) -> Resu
 }
 
 /// Returns the number that a hasher gives a map.
-fn number_of(map: &Map) -> u64 {
+fn hash_of(map: &Map) -> u64 {
     let choice = Choice::Spread;
     BuildKeyHasher { choice }.hash_one(map)
 }
@@ -72,7 +72,7 @@ pub fn run(
         "cmp" => compare(&plain(alloc, map)?, &plain(alloc, other)?, text)?,
         "partial_cmp" => partial_compare(map, other, text)?,
         "new" => show(&new(alloc, line.number())?, text)?,
-        "hash" => write!(text, "{} ", number_of(map))?,
+        "hash" => write!(text, "{} ", hash_of(map))?,
         "debug" => show(map, text)?,
         "debug_pretty" => show_pretty(alloc, map, text)?,
         _ => return Ok(false),

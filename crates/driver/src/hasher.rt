@@ -1,6 +1,6 @@
 //! The hashers of the maps.
 ghost use Rattle.std.specs.Prelude.{◌≡◌, ◌==◌, ◌+◌, ◌*◌, ◌%◌, fold, get_or, if◌then◌else◌};
-ghost use Rattle.driver.specs.Hashers.{number_of};
+ghost use Rattle.driver.specs.Hashers.{hash_of};
 
 use std::hash::{BuildHasher, Hasher};
 
@@ -41,7 +41,7 @@ impl Hasher for KeyHasher {
       first = if state.first == 0 then get_or bytes 0 0 else state.first;
     } };
 
-    ghost finish = { λ state. number_of state.choice state.number state.first };
+    ghost finish = { λ state. hash_of state.choice state.number state.first };
 
     fn finish(&self) -> u64 {
         match self.choice {

@@ -4,7 +4,7 @@
 //! `compare/run --help` says what the lines are. What is proved of this program is that it is safe
 //! and ends.
 //!
-//! The exit status is 0; 3 for want of memory; 4 where the input is no text, or reading or writing
+//! The exit status is 0; 3 if an allocation fails; 4 if the input is no text, or reading or writing
 //! fails.
 #![tactic(auto)]
 

@@ -1,5 +1,6 @@
 //! The examples of the documentation, and the programs of `uses`.
 
+mod caches;
 mod checks;
 mod documentation;
 mod programs;

@@ -19,14 +19,14 @@ stop_text OutOfMemory = codes "out of memory"
 stop_text InputFailed = codes "input failed"
 stop_text OutputFailed = codes "output failed"
 
--- why the commands in some lines give no output: the first invalid line, or want of memory
+-- why the commands in some lines give no output: the first invalid line, or a failed allocation
 abbrev pub StopsLines : List (List ℕ) → Stop → Type 0
 StopsLines lines (NotACommand n) = IsFirstInvalid lines n
 StopsLines lines OutOfMemory = ⊤
 StopsLines lines InputFailed = ⊥
 StopsLines lines OutputFailed = ⊥
 
--- why an input gives no output: a failed read, want of memory, or the first invalid line of the bytes, where they are known
+-- why an input gives no output: a failed read, a failed allocation, or the first invalid line of the bytes, where they are known
 abbrev pub StopsInput : Option (List ℕ) → Stop → Type 0
 StopsInput known (NotACommand n) = IfSome known (λ bytes. IsFirstInvalid (lines_of bytes) n)
 StopsInput known OutOfMemory = ⊤

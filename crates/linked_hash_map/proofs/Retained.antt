@@ -36,7 +36,7 @@ map-sublist f xs [] s = ap (map f) s
 map-sublist f xs (y ∷ ys) (inl s) = inl (map-sublist f xs ys s)
 map-sublist f xs (y ∷ ys) (inr s) = inr (map f s.0, ap (map f) s.1, map-sublist f s.0 ys s.2)
 
--- the nodes that a closure keeps, but for their values, and the pairs in them
+-- the nodes that a closure keeps, except their values, and the pairs in them
 module _ {F K V : Type 0} (T : F → K → V → Bool → V → F → Type 0) where
   pub bare-retained : (f : F) (hs ks : List (Held (K × V))) → RetainsHeld T f hs ks → IsSublist (bare ks) (bare hs)
   bare-retained f [] ks r = ap bare r

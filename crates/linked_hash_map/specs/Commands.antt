@@ -11,7 +11,7 @@ use Rattle.linked_hash_map.specs.declared.replay.Answer.TheVariants.{New, Old, F
 use Rattle.linked_hash_map.specs.declared.replay.Reply.{Reply}
 
 module _ {K V : Type 0} where
-  -- the answer is that something was refused for want of memory
+  -- whether the answer is a refusal of memory
   abbrev pub is_refusal : Answer K V → Bool
   is_refusal (Refused k v) = true
   is_refusal (Stopped n k v) = true

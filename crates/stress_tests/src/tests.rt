@@ -7,6 +7,7 @@ mod cursor;
 mod drops;
 mod large;
 mod look_ups;
+mod many_sessions;
 mod multiple;
 mod plain_map;
 mod random;

@@ -41,7 +41,7 @@ pub fn merge<K: Eq + Hash + Drop, V: Drop, S: BuildHasher, T: BuildHasher + Drop
 }
 
 /// Makes a map of the pairs of a list, whose keys differ. There is room for them and for no more.
-/// Pairs are chained again only as the capacity rises to that number, one by one from a lower one
+/// Pairs are rehashed only as the capacity rises to that number, one by one from a lower one
 /// or from the number itself.
 pub fn collect_all<K: Eq + Hash + Drop, V: Drop, S: BuildHasher + Default + Drop>(
     alloc: Global,

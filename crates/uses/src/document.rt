@@ -119,7 +119,7 @@ pub fn is_same(a: &Document<u64, u64>, b: &Document<u64, u64>) -> bool
     a.fields == b.fields
 }
 
-/// Copies a document. It is refused for want of memory, and the document stands.
+/// Copies a document. It is refused if an allocation fails, and the document stands.
 pub fn copy_of(document: &Document<u64, u64>) -> Result<Document<u64, u64>, AllocError>
     ensures { IfOk result (λ copy. copy.fields.pairs ≡ document.now.fields.pairs) }
 {

@@ -25,8 +25,8 @@ impl<K: Eq + Hash> Interner<K> {
         }
     }
 
-    /// Returns the number of a name. A name that has none gets the next one, which is how many names there are. One that is
-    /// refused for want of memory is handed back.
+    /// Returns the number of a name. A name that has none gets the next one, which is how many names
+    /// there are, or is handed back if an allocation fails.
     #[tactic(auto, using(linked_hash_map::proofs::Callers::Rules::dense))]
     pub fn number_of(&mut self, name: K) -> Result<usize, Refused<K, usize>>
     where

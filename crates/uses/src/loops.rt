@@ -103,7 +103,7 @@ pub fn take_out_zeros<K: Eq + Hash + Drop, S: BuildHasher>(
     taken
 }
 
-/// Returns the key at the oldest place, by a cursor, which knows its first entry.
+/// Returns the front key, by a cursor, which knows its first entry.
 pub fn oldest_key<K: Eq + Hash + Copy, V, S: BuildHasher>(
     map: &mut LinkedHashMap<K, V, S>,
 ) -> Option<K>

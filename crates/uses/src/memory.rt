@@ -35,10 +35,10 @@ pub fn empty_out<K: Eq + Hash + Drop, V: Drop, S: BuildHasher>(map: &mut LinkedH
     }
 }
 
-/// Returns how many pairs changes of the capacity have chained again: fewer than two for each pair
-/// that there is room for, and at most one for each where the capacity is a power of two.
+/// Returns how many pairs were rehashed: fewer than two for each pair that there is room for, and at
+/// most one for each if the capacity is a power of two.
 #[tactic(auto, using(linked_hash_map::proofs::Callers::Counts::buckets_power))]
-pub fn chained_again<K: Eq + Hash, V, S: BuildHasher>(map: &LinkedHashMap<K, V, S>) -> usize
+pub fn rehashed<K: Eq + Hash, V, S: BuildHasher>(map: &LinkedHashMap<K, V, S>) -> usize
     ensures count { result ≡ map.now.rechained }
     ensures below { 0 < map.now.capacity → result < 2 * map.now.capacity }
     ensures once { IsPowerOfTwo map.now.capacity → result ≤ map.now.capacity }

@@ -1,4 +1,4 @@
-//! Calls that are refused for want of memory, and what a caller does then.
+//! Calls that are refused if an allocation fails, and what a caller does then.
 ghost use Rattle.std.specs.Prelude.{◌≡◌, ◌<◌, [], ◌∷◌, ◌++◌, None, max, length, IsSome, IsNone, IsErr};
 ghost use Rattle.linked_hash_map.specs.Pairs.{find, put, first, without_first};
 ghost use Rattle.linked_hash_map.specs.Validity.{IsValid};
@@ -6,8 +6,8 @@ ghost use Rattle.linked_hash_map.specs.Validity.{IsValid};
 use linked_hash_map::{LIMIT, LinkedHashMap, Refused};
 use std::hash::{BuildHasher, Hash};
 
-/// Puts a pair in, at the back where its key is new. Where memory for it is refused, the pair comes back, and the one at the oldest place, which is
-/// returned, leaves for it: this never fails.
+/// Inserts a pair, at the back if its key is new. If it is refused, the front pair is removed for it
+/// and returned: this never fails.
 #[tactic(auto, using(linked_hash_map::proofs::Callers::Rules::any_keys))]
 pub fn insert_anyway<K: Eq + Hash + Drop, V: Drop, S: BuildHasher>(
     map: &mut LinkedHashMap<K, V, S>,
@@ -31,8 +31,8 @@ pub fn insert_anyway<K: Eq + Hash + Drop, V: Drop, S: BuildHasher>(
     }
 }
 
-/// Puts a pair in at the back where its key is new, and leaves one that is there as it is. Where a new pair is refused, it comes
-/// back: for want of memory, and always from a map of `LIMIT` pairs.
+/// Inserts a pair at the back if its key is new, and else changes nothing. A new pair that is refused
+/// comes back: if an allocation fails, and always from a map of `LIMIT` pairs.
 pub fn insert_if_new<K: Eq + Hash + Drop, V: Drop, S: BuildHasher>(
     map: &mut LinkedHashMap<K, V, S>,
     key: K,

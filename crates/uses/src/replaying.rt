@@ -9,8 +9,8 @@ use std::alloc::{AllocError, Global};
 use std::hash::{BuildHasher, Hash};
 
 /// Runs three commands by `replay` and returns the replies: the value of a key is written, another key is moved to the back and
-/// a third is removed, each if it is there. No command is refused; the run is, for want of memory for the commands or the
-/// replies.
+/// a third is removed, each if it is there. No command is refused; the run is, if the commands or the replies cannot
+/// be allocated.
 pub fn write_refresh_remove<K: Eq + Hash + Drop, V: Drop, S: BuildHasher>(
     alloc: Global,
     map: &mut LinkedHashMap<K, V, S>,

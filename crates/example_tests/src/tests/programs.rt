@@ -1,4 +1,4 @@
-//! Each program, run once.
+//! Each program except the caches, run once.
 ghost use Rattle.std.specs.Prelude.{◌≡◌, ◌∷◌, [], Ok};
 
 use super::checks::{check, check_eq, given};
@@ -8,7 +8,6 @@ use std::alloc::Global;
 use std::fmt::Debug;
 use std::hash::{BuildHasher, RandomState};
 use std::process::Abort;
-use uses::cache::Cache;
 use uses::collecting::{collect_all, insert_all, merge};
 use uses::count::counts_of;
 use uses::document::{Document, copy_of, is_same};
@@ -18,8 +17,7 @@ use uses::loops::{
     first_and_third, first_of_cursor, insert_on_the_way, into_list, keys_in_order, leave_off_early,
     oldest_key, reset, sum_by_values, sum_of, take_all, take_out_zeros, visit_by_value,
 };
-use uses::memory::{chained_again, empty_out, reserve_and_insert};
-use uses::pages::Pages;
+use uses::memory::{empty_out, rehashed, reserve_and_insert};
 use uses::queue::Queue;
 use uses::refusal::{insert_anyway, insert_if_new};
 use uses::replaying::{Outcome, replay_under_two_hashers, write_refresh_remove};
@@ -28,35 +26,13 @@ use uses::text::{age_of, note_age};
 use uses::window::Window;
 
 /// Returns the value of an `Ok`, as `given` does, and tells a proof which value it is.
-fn value_in<T, E: Debug + Drop>(rt: &impl Abort, outcome: Result<T, E>) -> T
+pub fn value_in<T, E: Debug + Drop>(rt: &impl Abort, outcome: Result<T, E>) -> T
     ensures { outcome ≡ Ok result }
 {
     match outcome {
         Ok(value) => value,
         Err(error) => panic!(rt; "no value, but {error:?}"),
     }
-}
-
-/// Writes the value of a key that is in a cache.
-fn write_cached(rt: &impl Abort, cache: &mut Cache<u64, u64>, key: u64, value: u64)
-    ensures { cache.new.map.capacity ≡ cache.old.map.capacity }
-{
-    match cache.get_mut(&key) {
-        Some(lent) => *lent = value,
-        None => panic!(rt; "no key {key}"),
-    }
-}
-
-#[test]
-fn a_cache_gives_up_what_was_used_least_recently(rt: HostRuntime) {
-    let mut cache = value_in(&rt, Cache::new(rt.alloc(), 2));
-    check_eq!(rt; cache.put(1, 10), None);
-    check_eq!(rt; cache.put(2, 20), None);
-    write_cached(&rt, &mut cache, 1, 11);
-    check_eq!(rt; cache.put(3, 30), Some((2, 20)));
-    check_eq!(rt; cache.put(1, 12), None);
-    check_eq!(rt; cache.put(4, 40), Some((3, 30)));
-    check_eq!(rt; cache.len(), 2);
 }
 
 #[test]
@@ -271,7 +247,7 @@ fn room_is_made_and_given_back(rt: HostRuntime) {
     let mut map = LinkedHashMap::new(rt.alloc());
     check_eq!(rt; given!(rt; reserve_and_insert(&mut map, 1, 10)), None);
     check_eq!(rt; given!(rt; reserve_and_insert(&mut map, 1, 11)), Some(10));
-    check_eq!(rt; chained_again(&map), 1);
+    check_eq!(rt; rehashed(&map), 1);
     empty_out(&mut map);
     check_eq!(rt; map.capacity(), 0);
 }
@@ -323,21 +299,6 @@ fn maps_are_merged(rt: HostRuntime) {
     given!(rt; merge(&mut map, others));
     let list = given!(rt; into_list(rt.alloc(), map));
     check_eq!(rt; list.as_slice(), [(1, 11), (2, 21)].as_slice());
-}
-
-/// Puts a page of text in.
-fn put_page(rt: &impl Abort, alloc: Global, pages: &mut Pages, number: u64, text: &str) {
-    check_eq!(rt; pages.put(number, given!(rt; String::from_str(alloc, text))), Ok(()));
-}
-
-#[test]
-fn pages_leave_for_others(rt: HostRuntime) {
-    let mut pages = Pages::new(rt.alloc(), 10);
-    put_page(&rt, rt.alloc(), &mut pages, 1, "four");
-    put_page(&rt, rt.alloc(), &mut pages, 2, "nine");
-    put_page(&rt, rt.alloc(), &mut pages, 3, "a page");
-    check_eq!(rt; pages.take(1), None);
-    check_eq!(rt; given!(rt; pages.take(3).ok_or("no page")).as_str(), "a page");
 }
 
 #[test]

@@ -215,8 +215,8 @@ fn faults_that_fail_change_no_status(rt: HostRuntime) {
     check_each_fault(&rt, rt.alloc(), unwritten);
 }
 
-/// Checks a run of no commands whose writer of faults fails at a call. It ends for want of memory,
-/// tells a beginning of that fault and makes no further call of the writer; or no growth was
+/// Checks a run of no commands whose writer of faults fails at a call. It ends out of memory, tells
+/// a beginning of that fault and makes no further call of the writer; or no growth was
 /// refused. Tells whether none was.
 fn check_out_of_memory(rt: &impl Abort, alloc: Global, fails_at: usize) -> bool {
     let mut reader = Source::new(b"");

@@ -47,8 +47,8 @@ module _ {T I K V : Type 0} {becomes : T → I → Type 0} {steps : I → Option
     pairs = collects.pairs ∙ ap (insert_each eq Touch []) (sym (map-id collects.given));
   }
 
-  -- where n items are left to come at most, it chained again what growing to the capacity does,
-  -- from room for n at most
+  -- if at most n items are left to come, it rehashed what growing to the capacity does, from room for
+  -- at most n
   pub rechained-Collects : Collects becomes steps source remaining eq pairs capacity rechained → (n : ℕ) → ((it : I) → becomes source it → UpTo (remaining it) n) → (lower : ℕ) × (lower ≤ n) × (rechained ≡ rechained_each 0 lower (capacity - lower))
   rechained-Collects collects n left =
       let bound = left collects.iterator collects.made in
@@ -118,8 +118,8 @@ module _ {T Z K V : Type 0} {becomes : T → _ → Type 0} {source : T} {eq : K 
     pub pairs-Collects_vec : pairs ≡ insert_each eq Touch [] (vec_items vec)
     pairs-Collects_vec = pairs-InsertsAll_vec (InsertsAll-Collects collects)
 
-    -- where the keys of its items differ, the pairs are the items, the capacity is their number, and it chained again what growing
-    -- to that number does, from room for no more
+    -- if the keys of its items differ, the pairs are the items, the capacity is their number, and it
+    -- rehashed what growing to that number does, from room for no more
     module _ (laws : IsEquivalence eq) (distinct : IsDistinct eq (keys_of (vec_items vec))) where
       pub pairs-Collects_distinct_vec : pairs ≡ vec_items vec
       pairs-Collects_distinct_vec = pairs-Collects_vec ∙ insert_each-distinct laws Touch (vec_items vec) distinct

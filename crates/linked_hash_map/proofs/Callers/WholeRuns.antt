@@ -16,7 +16,7 @@ use Rattle.linked_hash_map.proofs.Callers.Replay.{Replied-given, Defines-first, 
 -- what `replay` says if it returns replies
 pub use Rattle.linked_hash_map.specs.Run.{Replayed}
 
--- no reply says that something was refused for want of memory
+-- no reply is a refusal
 abbrev pub NoneRefused : {K V : Type 0} → List (Reply K V) → Type 0
 NoneRefused replies = IsFalse (list_any (λ reply. is_refusal reply.answer) replies)
 

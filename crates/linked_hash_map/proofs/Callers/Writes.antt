@@ -54,7 +54,7 @@ module _ {K V S : Type 0} {eq : K → K → Bool} (laws : IsEquivalence eq) (m :
   pub map-set_or_push_own : record m { pairs = set_or_push eq m.pairs k v } ≡ m
   map-set_or_push_own i = record m { pairs = set_or_push-own laws m.pairs distinct k v own i }
 
--- and so is the map that `or_insert` leaves, with its capacity and its count of pairs chained again
+-- and so is the map that `or_insert` leaves, with its capacity and its count of rehashed pairs
 pub set_or_pushed-own : {K V S : Type 0} {eq : K → K → Bool} → IsEquivalence eq → (m : LinkedMap K V S) → IsValid eq m → (k : K) (v : V) → value_at eq m.pairs k ≡ Some v → set_or_pushed eq m k v ≡ m
 set_or_pushed-own {eq = eq} laws m valid k v own =
     sym (set_or_pushed-present eq m k v (IsSome-find eq m.pairs k v own) valid.within)

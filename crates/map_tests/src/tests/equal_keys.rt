@@ -47,7 +47,7 @@ type NameCommand = Command<Name<'static>, u64>;
 
 type NameReply = Reply<Name<'static>, u64>;
 
-/// Makes commands on names that are the same key but for one, whose text differs in case.
+/// Makes commands on names that are the same key except one, whose text differs in case.
 fn name_commands(rt: &impl Abort, alloc: Global) -> Vec<NameCommand> {
     let commands = [
         Command::Insert(Name { text: "A" }, 1),

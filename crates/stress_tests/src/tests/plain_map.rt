@@ -5,9 +5,9 @@ use linked_hash_map::{LIMIT, Mode};
 use std::alloc::{AllocError, Global};
 use std::mem;
 
-/// Pairs in insertion order, a capacity, a count of the pairs that changes of the capacity chained again, and a mode.
+/// Pairs in insertion order, a capacity, a count of the pairs that were rehashed, and a mode.
 ///
-/// No growth is refused, but for a reservation of `LIMIT` places, which no machine has.
+/// No growth is refused except a reservation of `LIMIT` places, which no machine has.
 #[derive(Drop)]
 pub struct PlainMap {
     pub pairs: Vec<(u64, u64)>,
@@ -78,7 +78,7 @@ impl PlainMap {
         None
     }
 
-    /// Raises the capacity. Where that changes the number of buckets, all pairs are chained again.
+    /// Raises the capacity. If that changes the number of buckets, all pairs are rehashed.
     fn raise(&mut self, capacity: usize) {
         if has_other_buckets(capacity, self.capacity) {
             self.rechained = self.rechained.saturating_add(self.pairs.len());

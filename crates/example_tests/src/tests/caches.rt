@@ -1,0 +1,46 @@
+//! The two caches, run once.
+ghost use Rattle.std.specs.Prelude.{◌≡◌};
+
+use super::checks::{check_eq, given};
+use super::programs::value_in;
+use std::alloc::Global;
+use std::process::Abort;
+use uses::cache::Cache;
+use uses::pages::Pages;
+
+/// Writes the value of a key that is in a cache.
+fn write_cached(rt: &impl Abort, cache: &mut Cache<u64, u64>, key: u64, value: u64)
+    ensures { cache.new.map.capacity ≡ cache.old.map.capacity }
+{
+    match cache.get_mut(&key) {
+        Some(lent) => *lent = value,
+        None => panic!(rt; "no key {key}"),
+    }
+}
+
+#[test]
+fn a_cache_gives_up_what_was_used_least_recently(rt: HostRuntime) {
+    let mut cache = value_in(&rt, Cache::new(rt.alloc(), 2));
+    check_eq!(rt; cache.put(1, 10), None);
+    check_eq!(rt; cache.put(2, 20), None);
+    write_cached(&rt, &mut cache, 1, 11);
+    check_eq!(rt; cache.put(3, 30), Some((2, 20)));
+    check_eq!(rt; cache.put(1, 12), None);
+    check_eq!(rt; cache.put(4, 40), Some((3, 30)));
+    check_eq!(rt; cache.len(), 2);
+}
+
+/// Puts a page of text in.
+fn put_page(rt: &impl Abort, alloc: Global, pages: &mut Pages, number: u64, text: &str) {
+    check_eq!(rt; pages.put(number, given!(rt; String::from_str(alloc, text))), Ok(()));
+}
+
+#[test]
+fn pages_leave_for_others(rt: HostRuntime) {
+    let mut pages = Pages::new(rt.alloc(), 10);
+    put_page(&rt, rt.alloc(), &mut pages, 1, "four");
+    put_page(&rt, rt.alloc(), &mut pages, 2, "nine");
+    put_page(&rt, rt.alloc(), &mut pages, 3, "a page");
+    check_eq!(rt; pages.take(1), None);
+    check_eq!(rt; given!(rt; pages.take(3).ok_or("no page")).as_str(), "a page");
+}
