@@ -1,5 +1,5 @@
 //! The heads of the buckets' chains, as a vector.
-ghost use Rattle.std.specs.Prelude.{◌≡◌, ◌%◌, ◌<◌, ◌^◌, [], map, length, IfOk, IsOk, vec_len};
+ghost use Rattle.std.specs.Prelude.{◌≡◌, ◌%◌, ◌<◌, ◌^◌, [], map, length, IfOk, IsOk, vec_len, vec_capacity};
 ghost use Rattle.lhm_ring.specs.RingState.{IsHeld};
 ghost use Rattle.lhm_ring.specs.Positions.{pointer_of};
 ghost use Rattle.lhm_ring.specs.Heads.{leads_to};
@@ -64,6 +64,7 @@ pub(crate) fn chain_all<K, V>(heads: &mut Vec<Head>, ring: &mut Ring<K, V>) -> u
 pub(crate) fn empty_heads(alloc: Global, count: usize) -> Result<Vec<Head>, AllocError>
     ensures empty { IfOk result (λ v. HasNoChain (map leads_to v.items)) }
     ensures len { IfOk result (λ v. vec_len v ≡ count) }
+    ensures exact { IfOk result (λ v. vec_capacity v ≡ count) }
     ensures succeeds { count ≡ 0 → IsOk result }
 {
     let mut heads = Vec::with_capacity(alloc, count)?;
