@@ -18,6 +18,7 @@ pub struct Source<'a> {
 }
 
 impl<'a> Source<'a> {
+    /// Creates a reader that gives at most five of these bytes at once and never fails.
     pub fn new(bytes: &'a [u8]) -> Source<'a> {
         Source {
             left: bytes,
@@ -54,6 +55,7 @@ pub struct Sink {
 }
 
 impl Sink {
+    /// Creates an empty writer that never fails.
     pub fn new() -> Sink {
         Sink {
             buffer: [0; 256],
@@ -123,6 +125,7 @@ pub struct Output {
 }
 
 impl Output {
+    /// Creates an empty writer.
     pub fn new(alloc: Global, most: usize, fails_at: usize) -> Output {
         Output {
             bytes: Vec::new(alloc),
