@@ -24,13 +24,16 @@ use Rattle.lhm_ring.specs.RingAfterLoan.{held_values, set_held_values}
 use Rattle.lhm_ring.specs.Index.{spot}
 use Rattle.lhm_ring.specs.Search.{entries}
 use Rattle.lhm_ring.specs.Tables.{TableState, IsTable}
+use Rattle.lhm_ring.specs.contracts.filter.Filter as F-type
 use Rattle.lhm_ring.specs.contracts.index.Index as N-type
 use Rattle.lhm_ring.specs.contracts.links.Links as links
 use Rattle.lhm_ring.specs.contracts.ring.Ring as R-type
 use Rattle.lhm_ring.specs.contracts.table.Table as T-type
 use Rattle.lhm_ring.specs.contracts.table.Table.TheInside as I-type
+use Rattle.lhm_ring.proofs.Filters.{IsFilter-spots}
 use Rattle.lhm_ring.proofs.IndexMoves.{spots-values}
 use Rattle.lhm_ring.proofs.IndexedRing.{indexed_same}
+use Rattle.lhm_ring.proofs.filter.Filter.TheLaws as F-laws
 use Rattle.lhm_ring.proofs.index.Index.TheLaws as N-laws
 use Rattle.lhm_ring.proofs.ring.Ring.TheLaws as R-laws
 use Rattle.lhm_ring.proofs.ValuesSplitOff as ring
@@ -49,8 +52,9 @@ module _ {K V : Type 0} where
   length-set_held_values hs vs = sym (length-map (set_held_values hs vs) spot) ∙ ap length (spots-values hs vs) ∙ length-map hs spot
 
   -- other values in a table's nodes
-  pub IsTable-values : {heads : List (Option Ptr)} {s : State (K × V)} {r : ℕ} (vs : List V) → IsTable heads s r → IsTable heads (record s { held = set_held_values s.held vs }) r
-  IsTable-values {heads} {s} vs table = record {
+  pub IsTable-values : {heads : List (Option Ptr)} {words : List ℕ} {s : State (K × V)} {r : ℕ} (vs : List V) → IsTable heads words s r → IsTable heads words (record s { held = set_held_values s.held vs }) r
+  IsTable-values {heads} {words} {s} vs table = record {
+    filtered = IsFilter-spots s.held (set_held_values s.held vs) (spots-values s.held vs) table.filtered;
     indexed = indexed_same heads s (record s { held = set_held_values s.held vs }) table.indexed (spots-values s.held vs) refl;
     few = table.few;
     limit = (let long = length-set_held_values s.held vs in omega (arith, long, table.limit));
@@ -69,8 +73,11 @@ module _ (K V : RattleType) where
   abbrev pub Index : RattleType
   Index = N-type.the_row K V
 
+  abbrev pub Filter : RattleType
+  Filter = F-type.the_row
+
   abbrev pub ms : List Member
-  ms = record { row = Rg; ty = lone Rg.mir } ∷ record { row = Index; ty = lone Index.mir } ∷ record { row = usize; ty = lone usize.mir } ∷ []
+  ms = record { row = Rg; ty = lone Rg.mir } ∷ record { row = Index; ty = lone Index.mir } ∷ record { row = Filter; ty = lone Filter.mir } ∷ record { row = usize; ty = lone usize.mir } ∷ []
 
   abbrev pub Seen : Type 0
   Seen = TableState (K.Denot × V.Denot)
@@ -87,17 +94,17 @@ module _ (K V : RattleType) where
 
   module _ {M : Type 1} {𝓤 : Ura M} (𝓛 : Logic 𝓤) (i : Whole.Denot) (rb ro : ℕ) where
     abbrev pub Rest : SProp 𝓤
-    Rest = sep 𝓤 (sem 𝓛 (rest_at full_share ms 0 (i.ring, (i.index, (i.rechained, tt))) rb ro 0)) (PartsBack 𝓛 full_share [] ms rb ro)
+    Rest = sep 𝓤 (sem 𝓛 (rest_at full_share ms 0 (i.ring, (i.index, (i.filter, (i.rechained, tt)))) rb ro 0)) (PartsBack 𝓛 full_share [] ms rb ro)
 
     pub field_of : Laws K → Laws V → ent 𝓤 (sem 𝓛 (part_at Whole full_share i rb ro)) (sep 𝓤 (sem 𝓛 (part_at Rg full_share i.ring rb (field_at ro))) Rest)
     unfolding part_of
     field_of LK LV =
-        field_out 𝓛 full_share [] ms ((R-laws.the_row_laws K V LK LV).lawful 𝓛, ((N-laws.the_row_laws K V LK LV).lawful 𝓛, (usize-laws.lawful 𝓛, tt)))
-        (i.ring, (i.index, (i.rechained, tt))) rb ro 0
+        field_out 𝓛 full_share [] ms ((R-laws.the_row_laws K V LK LV).lawful 𝓛, ((N-laws.the_row_laws K V LK LV).lawful 𝓛, (F-laws.the_row_laws.lawful 𝓛, (usize-laws.lawful 𝓛, tt))))
+        (i.ring, (i.index, (i.filter, (i.rechained, tt)))) rb ro 0
 
     of_field : (d : State (K.Denot × V.Denot)) → ent 𝓤 (sep 𝓤 (sem 𝓛 (part_at Rg full_share d rb (field_at ro))) Rest) (sem 𝓛 (part_at Whole full_share (record i { ring = d }) rb ro))
     unfolding part_of
-    of_field d = field_back 𝓛 full_share [] ms (d, (i.index, (i.rechained, tt))) rb ro 0
+    of_field d = field_back 𝓛 full_share [] ms (d, (i.index, (i.filter, (i.rechained, tt)))) rb ro 0
 
     module _ (dm : Seen) (seen : view i ≡ dm) (ok : good i) (a : ring.Inside K V) (rseen : ring.view K V a ≡ i.ring) (rok : ring.good K V a) where
       abbrev pub ps : List Ptr

@@ -9,6 +9,8 @@ pub mod ContentsSplitOff
 pub mod DroppedRing
 pub mod Ends
 pub mod Entries
+pub mod FilterFills
+pub mod Filters
 pub mod FirstAndLast
 pub mod Hashed
 pub mod IndexMoves

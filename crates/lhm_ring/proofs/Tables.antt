@@ -10,11 +10,13 @@ use Rattle.lhm_ring.specs.RingAfterLoan.{revalued, with_value}
 use Rattle.lhm_ring.specs.Index.{spot, spots, same, beside, Indexes}
 use Rattle.lhm_ring.specs.Search.{entries, HasKey, IsAbsent, Compares, CountsSome, CountsAll, HoldsOthers}
 use Rattle.lhm_ring.specs.Buckets.{buckets, rechained_raised}
+use Rattle.lhm_ring.specs.Filters.{IsFilter}
 use Rattle.lhm_ring.specs.TableAfterLoan.{with_value as write}
 use Rattle.lhm_ring.specs.Tables.{IsTable, TableState, WritesOnly, table_of}
 use Rattle.lhm_ring.proofs.BucketCounts.{buckets_raised, buckets_lt, capacity_le, raised_more}
 use Rattle.lhm_ring.proofs.Chains.{count-cons}
 use Rattle.lhm_ring.proofs.Entries.{IsHeld-kept, HasKey-kept}
+use Rattle.lhm_ring.proofs.Filters.{IsFilter-spots, IsFilter-entries, IsFilter-removed, IsFilter-to_back}
 use Rattle.lhm_ring.proofs.IndexMoves.{spots-value}
 use Rattle.lhm_ring.proofs.IndexedRing.{indexed_value, indexed_to_back}
 
@@ -202,22 +204,28 @@ buckets-stay c d up enough =
     ]
 
 -- tables after the calls of the ring and its index
-module _ {K V : Type 0} {heads : List (Option Ptr)} {s : State (K × V)} {r : ℕ} (table : IsTable heads s r) where
+module _ {K V : Type 0} {heads : List (Option Ptr)} {words : List ℕ} {s : State (K × V)} {r : ℕ} (table : IsTable heads words s r) where
   -- the same pairs in order, except for chain links
-  pub IsTable-rechained : {heads' : List (Option Ptr)} {t : State (K × V)} {q : ℕ} → entries t.held ≡ entries s.held → length s.held + t.spares ≤ 2 ^ 59 → Indexes heads' (spots t.held) → length heads' ≡ buckets (length s.held + t.spares) → q ≤ length heads' → IsTable heads' t q
-  IsTable-rechained {heads'} {t} same within chains count few =
+  pub IsTable-rechained : {heads' : List (Option Ptr)} {words' : List ℕ} {t : State (K × V)} {q : ℕ} → entries t.held ≡ entries s.held → length s.held + t.spares ≤ 2 ^ 59 → Indexes heads' (spots t.held) → length heads' ≡ buckets (length s.held + t.spares) → IsFilter words' heads' t.held → q ≤ length heads' → IsTable heads' words' t q
+  IsTable-rechained {heads'} {words'} {t} same within chains count filtered few =
       let long = length-same_entries t.held s.held same in
       record {
         indexed = record { chains = chains; count = count ∙ ap (λ l. buckets (l + t.spares)) (sym long) };
+        filtered = filtered;
         few = few;
         limit = omega (arith, long, within);
       }
 
   -- a value was written
-  pub IsTable-value : (p : Ptr) (w : V) → IsTable heads (with_value s p w) r
+  pub IsTable-value : (p : Ptr) (w : V) → IsTable heads words (with_value s p w) r
   IsTable-value p w =
       let count = sym (length-map (change_at p (revalued w) s.held) spot) ∙ ap length (spots-value p w s.held) ∙ length-map s.held spot in
-      record { indexed = indexed_value heads s p w table.indexed; few = table.few; limit = omega (arith, count, table.limit) }
+      record {
+        indexed = indexed_value heads s p w table.indexed;
+        filtered = IsFilter-spots s.held (change_at p (revalued w) s.held) (spots-value p w s.held) table.filtered;
+        few = table.few;
+        limit = omega (arith, count, table.limit);
+      }
 
   -- a pair was moved to the back
   pub length-moved : (t : State (K × V)) (p : Ptr) → IsHeld s.held p → AtHeld s.held p (λ xs x ys. t.held ≡ (xs ++ ys) ++ x ∷ []) → length t.held ≡ length s.held
@@ -229,10 +237,16 @@ module _ {K V : Type 0} {heads : List (Option Ptr)} {s : State (K × V)} {r : �
       let k = length-append h.before (h.node ∷ h.after) in
       omega (arith, a, b, f, g, k)
 
-  pub IsTable-to_back : {t : State (K × V)} (p : Ptr) → IsHeld s.held p → AtHeld s.held p (λ xs x ys. t.held ≡ (xs ++ ys) ++ x ∷ []) → t.spares ≡ s.spares → IsTable heads t r
+  pub IsTable-to_back : {t : State (K × V)} (p : Ptr) → IsHeld s.held p → AtHeld s.held p (λ xs x ys. t.held ≡ (xs ++ ys) ++ x ∷ []) → t.spares ≡ s.spares → IsTable heads words t r
   IsTable-to_back {t} p h last spares =
       let long = length-moved t p h last in
-      record { indexed = indexed_to_back heads s t p table.indexed h last spares; few = table.few; limit = omega (arith, long, spares, table.limit) }
+      let moved = IsFilter-to_back h.before h.node h.after (subst (λ (hs : List (Held (K × V))). IsFilter words heads hs) h.is table.filtered) in
+      record {
+        indexed = indexed_to_back heads s t p table.indexed h last spares;
+        filtered = subst (λ (hs : List (Held (K × V))). IsFilter words heads hs) (sym (last h.before h.node h.after h.is h.at_is)) moved;
+        few = table.few;
+        limit = omega (arith, long, spares, table.limit);
+      }
 
   -- the node at p was removed from its chain, and then from the ring
   module _ {chains : List (Option Ptr)} {t w : State (K × V)} {p : Ptr} (same : entries t.held ≡ entries s.held) (spares : t.spares ≡ s.spares) (lacks : HoldsOthers chains t.held p) (others : AtHeld t.held p (λ xs x ys. w.held ≡ xs ++ ys)) (more : w.spares ≡ t.spares + 1) where
@@ -245,11 +259,14 @@ module _ {K V : Type 0} {heads : List (Option Ptr)} {s : State (K × V)} {r : �
         let long = length-same_entries t.held s.held same in
         omega (arith, out, of_rest, of_held, of_all, long, spares, more)
 
-    pub IsTable-removed : length chains ≡ length heads → IsTable chains w r
+    pub IsTable-removed : length chains ≡ length heads → IsTable chains words w r
     IsTable-removed count =
         let out = others lacks.before lacks.node lacks.after lacks.is lacks.at in
         let all = all_nodes in
+        let kept : IsFilter words chains t.held = IsFilter-entries chains s.held t.held same count table.filtered in
+        let rest = IsFilter-removed lacks.before lacks.node lacks.after (subst (λ (hs : List (Held (K × V))). IsFilter words chains hs) lacks.is kept) in
         record {
+          filtered = subst (λ (hs : List (Held (K × V))). IsFilter words chains hs) (sym out) rest;
           indexed = record { chains = subst (λ (hs : List (Held (K × V))). Indexes chains (spots hs)) (sym out) lacks.others; count = count ∙ table.indexed.count ∙ ap buckets all };
           few = omega (arith, table.few, count);
           limit = omega (arith, all, table.limit);
@@ -263,11 +280,11 @@ module _ {K V : Type 0} {heads : List (Option Ptr)} {s : State (K × V)} {r : �
     pub rechained-stays : (len : ℕ) → rechained_raised r len (length s.held + s.spares) d ≡ r
     rechained-stays len = ap (λ b. cond b r (r + len)) (eq-eqb (buckets (length s.held + s.spares)) (buckets d) same_buckets)
 
-    pub IsTable-grown : {E : Type 0} {t : State (K × V)} (result : Result (Unit {0}) E) (more : ℕ) → OnOk result (t.held ≡ s.held) → OnOk result (t.spares ≡ s.spares + more) → OnErr result (t ≡ s) → d ≡ length s.held + s.spares + more → d ≤ 2 ^ 59 → IsTable heads t r
+    pub IsTable-grown : {E : Type 0} {t : State (K × V)} (result : Result (Unit {0}) E) (more : ℕ) → OnOk result (t.held ≡ s.held) → OnOk result (t.spares ≡ s.spares + more) → OnErr result (t ≡ s) → d ≡ length s.held + s.spares + more → d ≤ 2 ^ 59 → IsTable heads words t r
     IsTable-grown {t = t} (Ok _) more stays spares _ all within =
         let sum : length s.held + t.spares ≡ d = omega (arith, spares, all) in
-        IsTable-rechained (ap entries stays) (omega (arith, sum, within)) (subst (λ hs. Indexes heads (spots hs)) (sym stays) table.indexed.chains) (table.indexed.count ∙ same_buckets ∙ ap buckets (sym sum)) table.few
-    IsTable-grown (Err _) more _ _ unchanged _ _ = subst (λ u. IsTable heads u r) (sym unchanged) table
+        IsTable-rechained (ap entries stays) (omega (arith, sum, within)) (subst (λ hs. Indexes heads (spots hs)) (sym stays) table.indexed.chains) (table.indexed.count ∙ same_buckets ∙ ap buckets (sym sum)) (subst (λ (hs : List (Held (K × V))). IsFilter words heads hs) (sym stays) table.filtered) table.few
+    IsTable-grown (Err _) more _ _ unchanged _ _ = subst (λ u. IsTable heads words u r) (sym unchanged) table
 
   -- it rises above the number of buckets: each node can be rehashed
   module _ (d : ℕ) (up : length s.held + s.spares < d) (few : length heads < d) where

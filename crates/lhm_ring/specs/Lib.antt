@@ -2,6 +2,7 @@ pub mod Buckets
 pub mod Cells
 pub mod ContentLoan
 pub mod Drains
+pub mod Filters
 pub mod Heads
 pub mod Index
 pub mod IndexedRing
@@ -22,3 +23,4 @@ pub mod TableAfterLoan
 pub mod Tables
 pub mod Targets
 pub mod ValueLoan
+pub mod Words

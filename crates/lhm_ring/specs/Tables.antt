@@ -5,6 +5,7 @@ use Rattle.lhm_ring.specs.RingState.{State, Held, AtHeld, change_at}
 use Rattle.lhm_ring.specs.RingAfterLoan.{revalued}
 use Rattle.lhm_ring.specs.Search.{HasKey, entries}
 use Rattle.lhm_ring.specs.IndexedRing.{IsIndexed}
+use Rattle.lhm_ring.specs.Filters.{IsFilter}
 
 -- the pairs in order, each with its position and its hash and with no chain link; the capacity; and how many nodes rehashes
 -- have moved
@@ -17,9 +18,11 @@ pub record TableState (B : Type 0) : Type 0 where
 abbrev pub table_of : {K V : Type 0} → State (K × V) → ℕ → TableState (K × V)
 table_of s rechained = record { held = entries s.held; capacity = length s.held + s.spares; rechained = rechained }
 
--- the index is that of the ring, the count is at most the number of buckets, and the nodes are at most as many as a ring may have
-pub record IsTable {K V : Type 0} (heads : List (Option Ptr)) (s : State (K × V)) (rechained : ℕ) : Type 0 where
+-- the index and the filter are those of the ring, the count is at most the number of buckets, and the nodes are at most as many
+-- as a ring may have
+pub record IsTable {K V : Type 0} (heads : List (Option Ptr)) (words : List ℕ) (s : State (K × V)) (rechained : ℕ) : Type 0 where
   pub indexed : IsIndexed heads s
+  pub filtered : IsFilter words heads s.held
   pub few : rechained ≤ length heads
   pub limit : length s.held + s.spares ≤ 2 ^ 59
 

@@ -1,7 +1,7 @@
 //! Bucket chains through the nodes of a ring: the position of each key, by its hash.
 //!
 //! A node's chain link leads to the next node of its chain. Only the index of a ring sets it.
-ghost use Rattle.std.specs.Prelude.{◌≡◌, ◌+◌, ◌%◌, ◌<◌, ◌≤◌, ◌^◌, ◌∷◌, [], map, length, None, IfOk, IsOk, IfSome, IfNone, OnSome, slice_index_or, vec_len};
+ghost use Rattle.std.specs.Prelude.{◌≡◌, ◌+◌, ◌%◌, ◌<◌, ◌≤◌, ◌^◌, ◌∷◌, [], map, length, None, IfOk, IsOk, IfSome, IfNone, OnSome, is_some, not, slice_index_or, vec_len};
 ghost use Rattle.std.specs.Int.{IsNextPowerOfTwo};
 ghost use Rattle.lhm_ring.specs.RingState.{IsHeld};
 ghost use Rattle.lhm_ring.specs.Positions.{pointer_of, pointer_of_some};
@@ -134,6 +134,13 @@ impl<K, V> Index<K, V> {
             return None;
         }
         self.heads[masked(hash, self.heads.len())].link.get()
+    }
+
+    /// Returns whether the bucket of a hash has no chain, in O(1).
+    pub(crate) fn is_empty_at(&self, hash: u64) -> bool
+        ensures { result ≡ not (is_some (slice_index_or self.now (hash % length self.now) None)) }
+    {
+        self.head(hash).is_none()
     }
 
     /// Puts the one node that the index lacks at the head of its chain, in O(1). It does not

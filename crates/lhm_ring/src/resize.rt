@@ -2,8 +2,8 @@
 ghost use Rattle.std.specs.Prelude.{◌≡◌, ◌<◌, ◌≤◌, ◌^◌, [], length, OnOk, OnErr};
 ghost use Rattle.lhm_ring.specs.Buckets.{rechained_raised, rechained_lowered, rechained_fitted};
 
-use crate::index::{Index, buckets_for};
-use crate::table::Table;
+use crate::index::buckets_for;
+use crate::table::{Table, with_filter};
 use std::alloc::AllocError;
 use std::mem;
 
@@ -25,14 +25,16 @@ impl<K, V> Table<K, V> {
         if capacity <= self.index.buckets() {
             return self.ring.grow(additional);
         }
-        let fresh = Index::with_buckets(self.ring.allocator(), capacity)?;
+        let (index, filter) = with_filter(self.ring.allocator(), capacity)?;
         match self.ring.grow(additional) {
             Ok(()) => {
-                self.rechained += self.index.take_over(fresh, &mut self.ring);
+                self.rechained += self.index.take_over(index, &mut self.ring);
+                self.filter.take_over(filter, &self.ring);
                 Ok(())
             }
             Err(refused) => {
-                fresh.free();
+                index.free();
+                filter.free();
                 Err(refused)
             }
         }
@@ -73,9 +75,10 @@ impl<K, V> Table<K, V> {
             self.rechained = 0;
             return Ok(());
         }
-        let fresh = Index::with_buckets(self.ring.allocator(), len)?;
+        let (index, filter) = with_filter(self.ring.allocator(), len)?;
         self.ring.free_spares();
-        self.rechained = self.index.take_over(fresh, &mut self.ring);
+        self.rechained = self.index.take_over(index, &mut self.ring);
+        self.filter.take_over(filter, &self.ring);
         Ok(())
     }
 

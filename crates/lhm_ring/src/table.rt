@@ -9,6 +9,7 @@ ghost use Rattle.lhm_ring.specs.Search.{entries, HasKey, IsAbsent, CountsSome, C
 ghost use Rattle.lhm_ring.specs.Buckets.{buckets};
 ghost use Rattle.lhm_ring.specs.Tables.{Removes, WritesOnly};
 
+use crate::filter::Filter;
 use crate::index::Index;
 pub use crate::index::Probe;
 pub use crate::into_iter::IntoIter;
@@ -32,6 +33,7 @@ pub struct Table<K, V> {
     /// Public for a type that keeps a table in a field and lends its values.
     pub ring: Ring<K, V>,
     pub(crate) index: Index<K, V>,
+    pub(crate) filter: Filter,
     // How many nodes rehashes have moved since the capacity was lowered.
     pub(crate) rechained: usize,
 }
@@ -43,19 +45,45 @@ impl<K, V> Model for Table<K, V> {
 
     ghost view = { λ t. table_of t.ring t.rechained };
 
-    ghost invariant = { λ t. IsTable t.index t.ring t.rechained };
+    ghost invariant = { λ t. IsTable t.index t.filter t.ring t.rechained };
 }
 
-/// Empties the chains of an index, in O(n) for its buckets. If the ring is empty, they are empty.
-fn empty_chains<K, V>(index: &mut Index<K, V>, ring: &Ring<K, V>)
+/// Empties the chains of an index and clears its filter, in O(n) for the buckets. If the ring is
+/// empty, so are the chains.
+fn empty_chains<K, V>(index: &mut Index<K, V>, filter: &mut Filter, ring: &Ring<K, V>)
     requires { Indexes index.old (spots ring.now.held) }
     ensures empty { HasNoChain index.new }
     ensures buckets { length index.new ≡ length index.old }
+    ensures words { length filter.new ≡ length filter.old }
 {
     if ring.len() == 0 {
         return;
     }
     index.forget_all();
+    filter.clear();
+}
+
+/// Allocates an index of empty buckets for a capacity, and its filter, in O(n). For capacity 0 it
+/// does not allocate and never fails.
+pub(crate) fn with_filter<K, V>(
+    alloc: Global,
+    capacity: usize,
+) -> Result<(Index<K, V>, Filter), AllocError>
+    requires { capacity ≤ 2 ^ 59 }
+    ensures buckets { IfOk result (λ fresh. length fresh.0 ≡ buckets capacity) }
+    ensures words { IfOk result (λ fresh. length fresh.1 ≡ length fresh.0) }
+    ensures enough { IfOk result (λ fresh. capacity ≤ length fresh.0) }
+    ensures empty { IfOk result (λ fresh. HasNoChain fresh.0) }
+    ensures succeeds { capacity ≡ 0 → IsOk result }
+{
+    let index = Index::with_buckets(alloc, capacity)?;
+    match Filter::with_buckets(alloc, index.buckets()) {
+        Ok(filter) => Ok((index, filter)),
+        Err(refused) => {
+            index.free();
+            Err(refused)
+        }
+    }
 }
 
 impl<K, V> Table<K, V> {
@@ -73,6 +101,7 @@ impl<K, V> Table<K, V> {
         Table {
             ring: Ring::new(alloc),
             index: Index::new(alloc),
+            filter: Filter::new(alloc),
             rechained: 0,
         }
     }
@@ -85,15 +114,17 @@ impl<K, V> Table<K, V> {
         ensures rechained { IfOk result (λ table. table.rechained ≡ 0) }
         ensures succeeds { capacity ≡ 0 → IsOk result }
     {
-        let index = Index::with_buckets(alloc, capacity)?;
+        let (index, filter) = with_filter(alloc, capacity)?;
         match Ring::with_spares(alloc, capacity) {
             Ok(ring) => Ok(Table {
                 ring,
                 index,
+                filter,
                 rechained: 0,
             }),
             Err(refused) => {
                 index.free();
+                filter.free();
                 Err(refused)
             }
         }
@@ -201,6 +232,7 @@ impl<K, V> Table<K, V> {
     {
         let at = self.ring.put_back(hash, key, value);
         self.index.put_in(&mut self.ring, at);
+        self.filter.insert(hash);
         at
     }
 
@@ -214,8 +246,19 @@ impl<K, V> Table<K, V> {
         ensures rechained { self.new.rechained ≡ self.old.rechained }
     {
         self.index.take_out_at(&mut self.ring, at);
-        let (_, key, value) = self.ring.unlink(at);
+        let (hash, key, value) = self.ring.unlink(at);
+        self.clear_if_empty(hash);
         (key, value)
+    }
+
+    /// Clears the filter of the bucket of a hash if the bucket is empty, in O(1).
+    fn clear_if_empty(&mut self, hash: u64)
+        requires { 0 < self.old.capacity }
+        ensures { self.new ≡ self.old }
+    {
+        if self.index.is_empty_at(hash) {
+            self.filter.clear_bucket(hash);
+        }
     }
 
     /// Returns an iterator over the pairs with their hashes, front to back.
@@ -232,9 +275,11 @@ impl<K, V> Table<K, V> {
         let Table {
             ring,
             index,
+            filter,
             rechained: _,
         } = self;
         index.free();
+        filter.free();
         IntoIter::new(ring)
     }
 
@@ -246,9 +291,11 @@ impl<K, V> Table<K, V> {
         let Table {
             ring,
             index,
+            filter,
             rechained: _,
         } = self;
         index.free();
+        filter.free();
         OwnedPairs::new(ring)
     }
 
@@ -259,13 +306,14 @@ impl<K, V> Table<K, V> {
         ensures* writes_back { sem 𝓛 (lends_drained K.row V.row self.entry (drain_name result)) }
         ensures rest { drain_rest result ≡ triples self.old.held }
     {
-        empty_chains(&mut self.index, &self.ring);
+        empty_chains(&mut self.index, &mut self.filter, &self.ring);
         self.ring.splice_all()
     }
 }
 
 impl<K: Eq, V> Table<K, V> {
     /// Returns the position of the pair with this hash and this key, and what the lookup counted.
+    /// It follows the chain of the bucket, whatever the filter says.
     pub fn find(&self, hash: u64, key: &K) -> (Option<Position<K, V>>, Probe)
         ensures found { IfSome result.0 (λ p. HasKey K.eq hash key.now self.now.held (pointer_of p)) }
         ensures absent { IfNone result.0 (IsAbsent K.eq hash key.now self.now.held) }
@@ -273,6 +321,18 @@ impl<K: Eq, V> Table<K, V> {
         ensures counts_absent { IfNone result.0 (CountsAll (spots self.now.held) (buckets self.now.capacity) hash result.1.visited result.1.compared) }
     {
         self.index.find(&self.ring, hash, key)
+    }
+
+    /// Returns the position of the pair with this hash and this key, or `None` if there is none. It
+    /// reads no pair if the filter says that none has the hash.
+    pub fn position(&self, hash: u64, key: &K) -> Option<Position<K, V>>
+        ensures found { IfSome result (λ p. HasKey K.eq hash key.now self.now.held (pointer_of p)) }
+        ensures absent { IfNone result (IsAbsent K.eq hash key.now self.now.held) }
+    {
+        if !self.filter.may_contain(hash) {
+            return None;
+        }
+        self.find(hash, key).0
     }
 
     /// Removes the pair with this hash and this key and returns it, or returns `None` if there is
@@ -284,8 +344,12 @@ impl<K: Eq, V> Table<K, V> {
         ensures capacity { self.new.capacity ≡ self.old.capacity }
         ensures rechained { self.new.rechained ≡ self.old.rechained }
     {
+        if !self.filter.may_contain(hash) {
+            return None;
+        }
         let at = self.index.take_out(&mut self.ring, hash, key)?;
         let (_, key, value) = self.ring.unlink(at);
+        self.clear_if_empty(hash);
         Some((key, value))
     }
 }

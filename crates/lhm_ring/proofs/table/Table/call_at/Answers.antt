@@ -12,7 +12,7 @@ call_at-requires g c = taken_in (TakesPair g.F.FnMut) c.args.keep.now c.self.ins
 pub invariant_of-self : goal.invariant_of-self
 invariant_of-self g c =
     let called = c.call_at.ensures.called in
-    subst (λ s. IsTable c.self.inside.index s c.self.inside.rechained) (sym called.2) (IsTable-value c.self.invariant (pointer_of c.args.at) called.0)
+    subst (λ s. IsTable c.self.inside.index c.self.inside.filter s c.self.inside.rechained) (sym called.2) (IsTable-value c.self.invariant (pointer_of c.args.at) called.0)
 
 pub returns-clause-called : goal.returns-clause-called
 returns-clause-called g c =

@@ -27,7 +27,8 @@ invariant_of-self-in-Ok g c =
     let up : length i.ring.held + i.ring.spares < c.args.capacity = omega (arith, all, c.requires.higher) in
     let few : length i.index < c.args.capacity = omega (arith, c.if-capacity-buckets.false, c.buckets.ensures) in
     let sum : length i.ring.held + c.take_over.new.ring.spares ≡ c.args.capacity = omega (arith, all, c.requires.higher, c.capacity.ensures.value, c.in-Ok.ensures.spares, c.take_over.ensures.spares) in
-    let wide : length c.take_over.new.self ≡ buckets c.args.capacity = c.take_over.ensures.buckets ∙ c.in_ok-fresh.ensures.buckets in
+    let wide : length c.take_over.new.self ≡ buckets c.args.capacity = c.take_over.ensures.buckets ∙ c.in_ok-index.ensures.buckets in
     let count : c.take_over.result ≡ length i.ring.held = c.take_over.ensures.count ∙ ap length c.in-Ok.ensures.held in
+    let filled = c.take_over-in-Ok.ensures in
     let fits = rechained-fits c.self.invariant c.args.capacity up few in
-    IsTable-rechained c.self.invariant {t = c.take_over.new.ring} (c.take_over.ensures.held ∙ ap entries c.in-Ok.ensures.held) (omega (arith, sum, c.requires.limit)) c.take_over.ensures.indexed (wide ∙ ap buckets (sym sum)) (omega (arith, fits, count, wide))
+    IsTable-rechained c.self.invariant {t = c.take_over.new.ring} (c.take_over.ensures.held ∙ ap entries c.in-Ok.ensures.held) (omega (arith, sum, c.requires.limit)) c.take_over.ensures.indexed (wide ∙ ap buckets (sym sum)) (record { count = filled.buckets ∙ c.in_ok-index.ensures.words ∙ sym c.take_over.ensures.buckets; covers = filled.covers }) (omega (arith, fits, count, wide))

@@ -1,0 +1,153 @@
+//! The filter of a table: which hashes the nodes of each bucket may have.
+ghost use Rattle.std.specs.Prelude.{◌≡◌, ◌≢◌, ◌%◌, ◌<◌, [], length, ◌/◌, ◌^◌, IfOk, IsOk, IsTrue, ℕ, vec_len, vec_capacity};
+ghost use Rattle.lhm_ring.specs.Buckets.{IsBucketCount};
+ghost use Rattle.lhm_ring.specs.Filters.{may_contain, CoversAll};
+
+use crate::heads::masked;
+use crate::ring::Ring;
+use std::alloc::{AllocError, Global};
+use std::marker::Model;
+use std::mem::{self, size_of};
+
+/// The bits of a bucket: a bit is set if a node in the bucket may have a hash with its number as
+/// the upper four bits.
+///
+/// It is not `Drop`, so a vector of words is not either: only `Filter::free` ends it.
+struct Word {
+    bits: u16,
+}
+
+// A bucket takes two bytes of the filter.
+const _: () = prove!(size_of::<Word>() == 2);
+
+/// A word for each bucket.
+///
+/// The bit of each held node's hash is set, so a lookup of a hash whose bit is not set reads no
+/// node. Bits stay set until the bucket has no node.
+///
+/// It is not `Drop`: only `free` ends it.
+pub(crate) struct Filter {
+    words: Vec<Word>,
+}
+
+impl Model for Filter {
+    ghost use Rattle.std.specs.Prelude.{List, ℕ, map, length};
+    ghost use Rattle.lhm_ring.specs.Words.{bits_of};
+    ghost use Rattle.lhm_ring.specs.Buckets.{IsBucketCount};
+
+    ghost Value = { List ℕ };
+
+    ghost view = { λ f. map bits_of f.words.items };
+
+    ghost invariant = { λ f. IsBucketCount (length f.words.items) };
+}
+
+/// Returns the number of the bit of a hash.
+fn bit(hash: u64) -> u32
+    ensures value { result ≡ hash / 2 ^ 60 }
+    ensures small { result < 16 }
+{
+    (hash >> 60) as u32
+}
+
+/// Allocates `count` words without bits.
+fn empty_words(alloc: Global, count: usize) -> Result<Vec<Word>, AllocError>
+    ensures len { IfOk result (λ v. vec_len v ≡ count) }
+    ensures exact { IfOk result (λ v. vec_capacity v ≡ count) }
+    ensures succeeds { count ≡ 0 → IsOk result }
+{
+    let mut words = Vec::with_capacity(alloc, count)?;
+    'words: while words.len() < count {
+        words.push_reserved(Word { bits: 0 });
+    }
+    Ok(words)
+}
+
+impl Filter {
+    /// Creates a filter without words. It does not allocate.
+    pub(crate) fn new(alloc: Global) -> Filter
+        ensures { result ≡ [] }
+    {
+        Filter {
+            words: Vec::new(alloc),
+        }
+    }
+
+    /// Allocates a word without bits for each bucket, in O(n). For no buckets it does not allocate
+    /// and never fails.
+    pub(crate) fn with_buckets(alloc: Global, count: usize) -> Result<Filter, AllocError>
+        requires { IsBucketCount count }
+        ensures len { IfOk result (λ filter. length filter ≡ count) }
+        ensures succeeds { count ≡ 0 → IsOk result }
+    {
+        Ok(Filter {
+            words: empty_words(alloc, count)?,
+        })
+    }
+
+    /// Returns whether a node may have a hash: `false` if none has it, in O(1).
+    pub(crate) fn may_contain(&self, hash: u64) -> bool
+        ensures { result ≡ may_contain self.now hash }
+    {
+        if self.words.is_empty() {
+            return false;
+        }
+        let bits = self.words[masked(hash, self.words.len())].bits;
+        (bits >> bit(hash)) & 1 == 1
+    }
+
+    /// Sets the bit of a hash, in O(1).
+    pub(crate) fn insert(&mut self, hash: u64)
+        requires { 0 < length self.old }
+        ensures set { IsTrue (may_contain self.new hash) }
+        ensures others { (other : ℕ) → IsTrue (may_contain self.old other) → IsTrue (may_contain self.new other) }
+        ensures buckets { length self.new ≡ length self.old }
+    {
+        let bucket = masked(hash, self.words.len());
+        let bits = self.words[bucket].bits;
+        self.words[bucket].bits = bits | (1u16 << bit(hash));
+    }
+
+    /// Clears the bits of the bucket of a hash, in O(1).
+    pub(crate) fn clear_bucket(&mut self, hash: u64)
+        requires { 0 < length self.old }
+        ensures others { (other : ℕ) → other % length self.old ≢ hash % length self.old → may_contain self.new other ≡ may_contain self.old other }
+        ensures buckets { length self.new ≡ length self.old }
+    {
+        let bucket = masked(hash, self.words.len());
+        self.words[bucket].bits = 0;
+    }
+
+    /// Clears all bits, in O(n) for the buckets.
+    pub(crate) fn clear(&mut self)
+        ensures buckets { length self.new ≡ length self.old }
+    {
+        let mut next = 0;
+        'words: while next < self.words.len() {
+            self.words[next].bits = 0;
+            next += 1;
+        }
+    }
+
+    /// Replaces the words by fresh ones, sets the bits of all held nodes, in O(n), and frees the
+    /// old words.
+    pub(crate) fn take_over<K, V>(&mut self, fresh: Filter, ring: &Ring<K, V>)
+        requires some { length fresh ≡ 0 → ring.now.held ≡ [] }
+        ensures covers { CoversAll self.new ring.now.held }
+        ensures buckets { length self.new ≡ length fresh }
+    {
+        mem::replace(self, fresh).free();
+        let mut pointer = ring.first();
+        while let Some(at) = pointer {
+            self.insert(ring.hash(at));
+            pointer = ring.next(at);
+        }
+    }
+
+    /// Ends the filter and frees its words, in O(n).
+    pub(crate) fn free(self) {
+        let Filter { mut words } = self;
+        'words: while let Some(Word { bits: _ }) = words.pop() {}
+        words.destroy_empty();
+    }
+}
