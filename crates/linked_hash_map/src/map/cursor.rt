@@ -174,7 +174,7 @@ impl<K: Eq + Hash, V, S: BuildHasher> LinkedHashMap<K, V, S> {
         ensures unchanged { IsFalse result → self.new ≡ self.old }
         ensures valid { IsValid K.eq self.old }
     {
-        match self.table.find(hash, key).0 {
+        match self.table.position(hash, key) {
             Some(at) => {
                 self.visit = Visit {
                     active: true,

@@ -29,7 +29,11 @@ impl<K: Eq + Hash, V, S: BuildHasher> LinkedHashMap<K, V, S> {
     pub fn get(&self, key: &K) -> Option<&V>
         ensures { option_copied result ≡ value_at K.eq self.now.pairs key.now }
     {
-        self.get_counted(key).0
+        let hash = self.hasher.hash_one(key);
+        match self.table.position(hash, key) {
+            Some(at) => Some(self.table.value(at)),
+            None => None,
+        }
     }
 
     /// Returns a mutable reference to the value of a key, if present. It hashes the key once, is
@@ -51,7 +55,7 @@ impl<K: Eq + Hash, V, S: BuildHasher> LinkedHashMap<K, V, S> {
         ensures valid { IsValid K.eq self.old }
     {
         let hash = self.hasher.hash_one(key);
-        match self.table.find(hash, key).0 {
+        match self.table.position(hash, key) {
             Some(at) => Some(self.table.value_mut(at)),
             None => None,
         }
@@ -77,7 +81,7 @@ impl<K: Eq + Hash, V, S: BuildHasher> LinkedHashMap<K, V, S> {
         ensures valid { IsValid K.eq self.old }
     {
         let hash = self.hasher.hash_one(key);
-        match self.table.find(hash, key).0 {
+        match self.table.position(hash, key) {
             Some(at) => {
                 self.visit.active = false;
                 self.table.move_to_back(at);
@@ -91,7 +95,8 @@ impl<K: Eq + Hash, V, S: BuildHasher> LinkedHashMap<K, V, S> {
     /// once, is O(1) on average and does not allocate.
     ///
     /// For an absent key it reaches each node of the bucket's chain and compares each key with the
-    /// same hash; for a present key it does no more. Every lookup searches so.
+    /// same hash; for a present key it does no more. Any other lookup searches so too, except that
+    /// it reaches no node if a filter of the bucket's hashes shows that none has the hash.
     ///
     /// # Examples
     ///

@@ -111,7 +111,7 @@ impl<K: Eq + Hash, V, S: BuildHasher> LinkedHashMap<K, V, S> {
         ensures unchanged { OnErr result (self.new ≡ self.old) }
         ensures absent { OnErr result (find K.eq self.old.pairs key.now ≡ None) }
     {
-        let Some(found) = self.table.find(hash, key).0 else {
+        let Some(found) = self.table.position(hash, key) else {
             return Err(value);
         };
         self.visit.active = false;

@@ -17,7 +17,7 @@ pub returns-in-Some : goal.returns-in-Some
 returns-in-Some g c =
     let m = c.self.inside in
     let at = pointer_of c.in-Some.at in
-    let h = of-Some (λ p. HasKey g.K.PartialEq.eq c.hash_one-hash.result c.args.key.now m.table.held (pointer_of p)) c.find.result.0 c.in-Some.at c.in-Some.is c.find.ensures.found in
+    let h = of-Some (λ p. HasKey g.K.PartialEq.eq c.hash_one-hash.result c.args.key.now m.table.held (pointer_of p)) c.position.result c.in-Some.at c.in-Some.is c.position.ensures.found in
     let distinct = distinct_keys c.self.invariant in
     rw (← c.self.view_is) (
       (λ i. inl (
@@ -42,7 +42,7 @@ returns-in-None g c =
         value = sym (ap (option_map (λ p. p.1)) (absent_key g.K.PartialEq.eq (hash_by g.S.Hasher.Hasher.finish g.S.Hasher.Hasher.write g.S.BuildHasher.build_hasher g.K.Hash.hash_input m.hasher)
             (λ x y h. ap (λ ws. g.S.Hasher.Hasher.finish (fold g.S.Hasher.Hasher.write (g.S.BuildHasher.build_hasher m.hasher) ws)) (g.met.K.Hash.respects_eq x y h))
             c.args.key.now c.hash_one-hash.result c.hash_one-hash.ensures m.table.held c.self.invariant.nodes.hashed
-            (of-None (IsAbsent g.K.PartialEq.eq c.hash_one-hash.result c.args.key.now m.table.held) c.find.result.0 c.in-None.is c.find.ensures.absent)));
+            (of-None (IsAbsent g.K.PartialEq.eq c.hash_one-hash.result c.args.key.now m.table.held) c.position.result c.in-None.is c.position.ensures.absent)));
         valid = IsValid-view c.self.invariant refl refl;
       },
     )

@@ -10,18 +10,18 @@ use Rattle.linked_hash_map.proofs.PutPair.{touched_cut, pairs-put, value_at-touc
 use Rattle.linked_hash_map.proofs.map.LinkedHashMap.get_refresh.Goals as goal
 
 pub value_mut-requires : goal.value_mut-requires
-value_mut-requires g c = (touched_cut c.self.inside.table.held c.move_to_back.new.self.held (pointer_of c.in-Some.at) (key_lies (of-Some (λ p. HasKey g.K.PartialEq.eq c.hash_one-hash.result c.args.key.now c.self.inside.table.held (pointer_of p)) c.find.result.0 c.in-Some.at c.in-Some.is c.find.ensures.found)) Touch (c.move_to_back.ensures.last, c.move_to_back.ensures.apart)).held
+value_mut-requires g c = (touched_cut c.self.inside.table.held c.move_to_back.new.self.held (pointer_of c.in-Some.at) (key_lies (of-Some (λ p. HasKey g.K.PartialEq.eq c.hash_one-hash.result c.args.key.now c.self.inside.table.held (pointer_of p)) c.position.result c.in-Some.at c.in-Some.is c.position.ensures.found)) Touch (c.move_to_back.ensures.last, c.move_to_back.ensures.apart)).held
 
 pub invariant_of-self-lent : goal.invariant_of-self-lent
 invariant_of-self-lent g c w =
     let moved = c.move_to_back.ensures in
-    IsKept-put g.met.K.Eq.laws c.move_to_back.new.self (pointer_of c.in-Some.at) c.self.invariant (found_lies (of-Some (λ p. HasKey g.K.PartialEq.eq c.hash_one-hash.result c.args.key.now c.self.inside.table.held (pointer_of p)) c.find.result.0 c.in-Some.at c.in-Some.is c.find.ensures.found)) Touch (moved.last, moved.apart) moved.capacity w
+    IsKept-put g.met.K.Eq.laws c.move_to_back.new.self (pointer_of c.in-Some.at) c.self.invariant (found_lies (of-Some (λ p. HasKey g.K.PartialEq.eq c.hash_one-hash.result c.args.key.now c.self.inside.table.held (pointer_of p)) c.position.result c.in-Some.at c.in-Some.is c.position.ensures.found)) Touch (moved.last, moved.apart) moved.capacity w
 
 pub returns-in-Some : goal.returns-in-Some
 returns-in-Some g c =
     let m = c.self.inside in
     let moved = c.move_to_back.ensures in
-    let has = of-Some (λ p. HasKey g.K.PartialEq.eq c.hash_one-hash.result c.args.key.now m.table.held (pointer_of p)) c.find.result.0 c.in-Some.at c.in-Some.is c.find.ensures.found in
+    let has = of-Some (λ p. HasKey g.K.PartialEq.eq c.hash_one-hash.result c.args.key.now m.table.held (pointer_of p)) c.position.result c.in-Some.at c.in-Some.is c.position.ensures.found in
     let distinct = distinct_keys c.self.invariant in
     rw (← c.self.view_is) (
       (λ i. inl (
@@ -49,7 +49,7 @@ returns-in-None g c =
         value = sym (ap (option_map (λ p. p.1)) (absent_key g.K.PartialEq.eq (hash_by g.S.Hasher.Hasher.finish g.S.Hasher.Hasher.write g.S.BuildHasher.build_hasher g.K.Hash.hash_input m.hasher)
             (λ x y h. ap (λ ws. g.S.Hasher.Hasher.finish (fold g.S.Hasher.Hasher.write (g.S.BuildHasher.build_hasher m.hasher) ws)) (g.met.K.Hash.respects_eq x y h))
             c.args.key.now c.hash_one-hash.result c.hash_one-hash.ensures m.table.held c.self.invariant.nodes.hashed
-            (of-None (IsAbsent g.K.PartialEq.eq c.hash_one-hash.result c.args.key.now m.table.held) c.find.result.0 c.in-None.is c.find.ensures.absent)));
+            (of-None (IsAbsent g.K.PartialEq.eq c.hash_one-hash.result c.args.key.now m.table.held) c.position.result c.in-None.is c.position.ensures.absent)));
         valid = IsValid-view c.self.invariant refl refl;
       },
     )

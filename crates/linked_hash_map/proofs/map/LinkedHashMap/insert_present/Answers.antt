@@ -22,20 +22,20 @@ returns-in_default-clause-absent g c =
     rw (← c.self.view_is) (absent_key g.K.PartialEq.eq (hash_by g.S.Hasher.Hasher.finish g.S.Hasher.Hasher.write g.S.BuildHasher.build_hasher g.K.Hash.hash_input m.hasher)
     (λ x y h. ap (λ ws. g.S.Hasher.Hasher.finish (fold g.S.Hasher.Hasher.write (g.S.BuildHasher.build_hasher m.hasher) ws)) (g.met.K.Hash.respects_eq x y h))
     c.args.key.now c.args.hash (subst (λ (z : LinkedMap _ _ _). c.args.hash ≡ hash_by g.S.Hasher.Hasher.finish g.S.Hasher.Hasher.write g.S.BuildHasher.build_hasher g.K.Hash.hash_input z.hasher c.args.key.now) (sym c.self.view_is) c.requires) m.table.held c.self.invariant.nodes.hashed
-    (of-None (IsAbsent g.K.PartialEq.eq c.args.hash c.args.key.now m.table.held) c.find.result.0 c.in_default.is c.find.ensures.absent))
+    (of-None (IsAbsent g.K.PartialEq.eq c.args.hash c.args.key.now m.table.held) c.position.result c.in_default.is c.position.ensures.absent))
 
 pub touch-requires : goal.touch-requires
-touch-requires g c = (of-Some (λ p. HasKey g.K.PartialEq.eq c.args.hash c.args.key.now c.self.inside.table.held (pointer_of p)) c.find.result.0 c.in-Some.found c.in-Some.is c.find.ensures.found).held
+touch-requires g c = (of-Some (λ p. HasKey g.K.PartialEq.eq c.args.hash c.args.key.now c.self.inside.table.held (pointer_of p)) c.position.result c.in-Some.found c.in-Some.is c.position.ensures.found).held
 
 pub value_mut-requires : goal.value_mut-requires
-value_mut-requires g c = (touched_cut c.self.inside.table.held c.touch.new.table.held (pointer_of c.in-Some.found) (key_lies (of-Some (λ p. HasKey g.K.PartialEq.eq c.args.hash c.args.key.now c.self.inside.table.held (pointer_of p)) c.find.result.0 c.in-Some.found c.in-Some.is c.find.ensures.found)) c.self.inside.mode c.touch.ensures.touched).held
+value_mut-requires g c = (touched_cut c.self.inside.table.held c.touch.new.table.held (pointer_of c.in-Some.found) (key_lies (of-Some (λ p. HasKey g.K.PartialEq.eq c.args.hash c.args.key.now c.self.inside.table.held (pointer_of p)) c.position.result c.in-Some.found c.in-Some.is c.position.ensures.found)) c.self.inside.mode c.touch.ensures.touched).held
 
 pub invariant_of-self : goal.invariant_of-self
-invariant_of-self g c = IsKept-put g.met.K.Eq.laws c.touch.new.table (pointer_of c.in-Some.found) c.self.invariant (found_lies (of-Some (λ p. HasKey g.K.PartialEq.eq c.args.hash c.args.key.now c.self.inside.table.held (pointer_of p)) c.find.result.0 c.in-Some.found c.in-Some.is c.find.ensures.found)) c.self.inside.mode c.touch.ensures.touched c.touch.ensures.capacity c.replace.new.dest
+invariant_of-self g c = IsKept-put g.met.K.Eq.laws c.touch.new.table (pointer_of c.in-Some.found) c.self.invariant (found_lies (of-Some (λ p. HasKey g.K.PartialEq.eq c.args.hash c.args.key.now c.self.inside.table.held (pointer_of p)) c.position.result c.in-Some.found c.in-Some.is c.position.ensures.found)) c.self.inside.mode c.touch.ensures.touched c.touch.ensures.capacity c.replace.new.dest
 
 pub returns-clause-old : goal.returns-clause-old
 returns-clause-old g c =
-    let has = (of-Some (λ p. HasKey g.K.PartialEq.eq c.args.hash c.args.key.now c.self.inside.table.held (pointer_of p)) c.find.result.0 c.in-Some.found c.in-Some.is c.find.ensures.found) in
+    let has = (of-Some (λ p. HasKey g.K.PartialEq.eq c.args.hash c.args.key.now c.self.inside.table.held (pointer_of p)) c.position.result c.in-Some.found c.in-Some.is c.position.ensures.found) in
     rw (← c.self.view_is) (
     ap Some c.replace.ensures.value ∙ value_at-touched c.self.inside.table.held c.touch.new.table.held (pointer_of c.in-Some.found) (key_lies has) g.met.K.Eq.laws (key_index has) (distinct_keys c.self.invariant) c.self.inside.mode c.touch.ensures.touched c.value_mut.ensures.value
     )
@@ -43,14 +43,14 @@ returns-clause-old g c =
 pub returns-clause-pairs : goal.returns-clause-pairs
 returns-clause-pairs g c =
     let m = c.self.inside in
-    let has = (of-Some (λ p. HasKey g.K.PartialEq.eq c.args.hash c.args.key.now c.self.inside.table.held (pointer_of p)) c.find.result.0 c.in-Some.found c.in-Some.is c.find.ensures.found) in
+    let has = (of-Some (λ p. HasKey g.K.PartialEq.eq c.args.hash c.args.key.now c.self.inside.table.held (pointer_of p)) c.position.result c.in-Some.found c.in-Some.is c.position.ensures.found) in
     rw (← c.self.view_is) (
     pairs-put c.self.inside.table.held c.touch.new.table.held (pointer_of c.in-Some.found) (key_lies has) g.met.K.Eq.laws (key_index has) (distinct_keys c.self.invariant) m.mode c.touch.ensures.touched c.value_mut.ensures.alone c.replace.new.dest
     ∙ ap (put g.K.PartialEq.eq m.mode (pairs_of m.table.held) c.args.key.now) c.replace.ensures.after
     )
 
 pub returns-clause-len : goal.returns-clause-len
-returns-clause-len g c = rw (← c.self.view_is) (length-put c.self.inside.table.held c.touch.new.table.held (pointer_of c.in-Some.found) (key_lies (of-Some (λ p. HasKey g.K.PartialEq.eq c.args.hash c.args.key.now c.self.inside.table.held (pointer_of p)) c.find.result.0 c.in-Some.found c.in-Some.is c.find.ensures.found)) c.self.inside.mode c.touch.ensures.touched c.replace.new.dest)
+returns-clause-len g c = rw (← c.self.view_is) (length-put c.self.inside.table.held c.touch.new.table.held (pointer_of c.in-Some.found) (key_lies (of-Some (λ p. HasKey g.K.PartialEq.eq c.args.hash c.args.key.now c.self.inside.table.held (pointer_of p)) c.position.result c.in-Some.found c.in-Some.is c.position.ensures.found)) c.self.inside.mode c.touch.ensures.touched c.replace.new.dest)
 
 pub returns-clause-valid : goal.returns-clause-valid
 returns-clause-valid g c = rw (← c.self.view_is) (IsValid-view c.self.invariant refl refl)
