@@ -74,7 +74,7 @@ cleared-pairs : pairs {V = ℕ} nat_eq (Put 1 1 ∷ Put 2 2 ∷ RemoveAll ∷ Pu
 unfolding mode live stored value standing_in standing pair_of pairs
 cleared-pairs = refl
 
--- a Need raises the mark, a Fit brings it down to the size
+-- a Need raises the high-water mark, a Fit brings it down to the size
 needed-high : high {V = ℕ} nat_eq 0 (Need 2 ∷ Put 1 1 ∷ Put 2 2 ∷ Need 3 ∷ Remove 1 ∷ []) ≡ 3
 unfolding mode live standing_in standing size high
 needed-high = refl
