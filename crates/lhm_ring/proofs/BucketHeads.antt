@@ -1,6 +1,6 @@
 -- The heads of the buckets, as positions and as pointers.
-use Rattle.std.proofs.Common.{◌≡◌, ℕ, zero, suc, ◌+◌, ◌%◌, ◌<◌, List, [], ◌∷◌, ◌++◌, map, refl, sym, ◌∙◌, ap, arith, length, get_or, set, Option, Some, None, true}
-use Rattle.std.specs.Prelude.{IsSome}
+use Rattle.std.proofs.Common.{◌≡◌, ℕ, zero, suc, ◌+◌, ◌%◌, ◌<◌, List, [], ◌∷◌, ◌++◌, map, refl, sym, ◌∙◌, ap, arith, length, get_or, set, Option, Some, None, Bool, true}
+use Rattle.std.specs.Prelude.{IsSome, is_some, not}
 use denote.RawPtr.{Ptr, block_ptr, null_ptr, Testable, InBlock}
 use Rattle.std.proofs.lemmas.Bool.{eqb-true}
 use Rattle.lhm_ring.specs.declared.heads.Head.{Head}
@@ -24,6 +24,11 @@ head_pointer (k ∷ heads) (suc b) h l = head_pointer heads b h (omega (arith, l
 pub is_there : {K V : Type 0} (head : Option (Position K V)) (q : Ptr) → pointer_of_some head ≡ Some q → IsSome head
 is_there None q e = absurd (cc)
 is_there (Some p) q e = refl
+
+-- a position that is not there has no pointer
+pub no_pointer : {K V : Type 0} (at : Option (Position K V)) (empty : Bool) → is_some at ≡ not empty → empty ≡ true → pointer_of_some at ≡ None
+no_pointer None empty e t = refl
+no_pointer (Some p) empty e t = absurd (let no_some : true ≡ not true = e ∙ ap not t in cc)
 
 -- one more empty bucket
 pub none_more : (xs : List Head) (h : Head) → leads_to h ≡ None → ((b : ℕ) → get_or (map leads_to xs) b None ≡ None) → (b : ℕ) → get_or (map leads_to (xs ++ h ∷ [])) b None ≡ None

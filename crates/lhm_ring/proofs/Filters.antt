@@ -1,6 +1,7 @@
 -- Filters: bits that stay set, and the nodes that they stand for.
 use Rattle.std.proofs.Common.{◌≡◌, ◌≢◌, ℕ, ◌*◌, ◌/◌, ◌%◌, ◌^◌, ◌<◌, Bool, true, false, List, [], ◌∷◌, ◌++◌, length, map, get_or, set, eqb, cond, Option, Some, None, refl, sym, ap, ◌∙◌, subst, inl, inr, arith, w16, length-set, get_or-set_same, get_or-set_other, eq-eqb, ne_eqb, true≢false}
-use Rattle.std.specs.Prelude.{bit_or, filter, is_some, not, ◌&&◌}
+use Rattle.std.specs.Prelude.{bit_or, filter, IfSome, IfNone, ◌&&◌}
+use Rattle.std.specs.Bool.{then_some}
 use Rattle.std.specs.Int.{bit_at}
 use Rattle.std.proofs.lemmas.Bool.{cases_eq, eqb-false}
 use Rattle.std.proofs.lemmas.List.{length-map, map-set, map-append, get_or-map}
@@ -10,9 +11,9 @@ use denote.RawPtr.{Ptr}
 use Rattle.lhm_ring.specs.declared.filter.Word.{Word}
 use Rattle.lhm_ring.specs.Words.{bits_of}
 use Rattle.lhm_ring.specs.RingState.{Held}
-use Rattle.lhm_ring.specs.Filters.{may_contain, CoversAll, IsFilter}
+use Rattle.lhm_ring.specs.Filters.{may_contain, LacksHash, CoversAll, IsFilter}
 use Rattle.lhm_ring.specs.Index.{Spot, spot, spots, is_in, IsChain, IsRearranged, HasChain, Indexes}
-use Rattle.lhm_ring.specs.Search.{entries, IsAbsent}
+use Rattle.lhm_ring.specs.Search.{entries, IsAbsent, IsEmptied}
 
 -- the bit of the hash in a word
 abbrev has_bit : ℕ → ℕ → Bool
@@ -57,37 +58,25 @@ module _ (words : List ℕ) (hash : ℕ) (small : hash / 2 ^ 60 < 16) (within : 
             ])
       ]
 
--- a word of a filter is written
-module _ (items : List Word) (bucket hash count : ℕ) (word : Word) (many : count ≡ length items) (is : bucket ≡ hash % count) where
-  abbrev seen : List ℕ
-  seen = map bits_of items
-
-  seen-set : map bits_of (set items bucket word) ≡ set seen (hash % length seen) (bits_of word)
-  seen-set =
-      map-set bits_of items bucket word
-      ∙ ap (λ b. set seen b (bits_of word)) (is ∙ ap (λ n. hash % n) (many ∙ sym (length-map items bits_of)))
-
-  pub may_contain-cleared : (other : ℕ) → other % length seen ≢ hash % length seen → may_contain (map bits_of (set items bucket word)) other ≡ may_contain seen other
-  may_contain-cleared other away = ap (λ ws. may_contain ws other) seen-set ∙ may_contain-set_other seen (hash % length seen) (bits_of word) other away
+-- a word is written over
+pub may_contain-cleared : (items : List Word) (bucket : ℕ) (word : Word) (other : ℕ) → other % length (map bits_of items) ≢ bucket → may_contain (map bits_of (set items bucket word)) other ≡ may_contain (map bits_of items) other
+may_contain-cleared items bucket word other away = ap (λ ws. may_contain ws other) (map-set bits_of items bucket word) ∙ may_contain-set_other (map bits_of items) bucket (bits_of word) other away
 
 -- the bit of a hash is set in the word that was read
-module _ (items : List Word) (bucket hash count number : ℕ) (old : Word) (many : count ≡ length items) (is : bucket ≡ hash % count) (some : 0 < count) (bit : number ≡ hash / 2 ^ 60) (small : number < 16) (read : old ≡ get_or items bucket old) where
+module _ (items : List Word) (bucket hash number : ℕ) (old : Word) (is : bucket ≡ hash % length (map bits_of items)) (inside : bucket < length (map bits_of items)) (bit : number ≡ hash / 2 ^ 60) (small : number < 16) (read : old ≡ get_or items bucket old) where
   abbrev word : Word
   word = record { bits = bit_or old.bits (1 * 2 ^ number % 2 ^ 16) }
 
   within : hash % length (map bits_of items) < length (map bits_of items)
-  within = let l = length-map items bits_of in mod-lt hash (omega (arith, l, many, some))
+  within = subst (λ b. b < length (map bits_of items)) is inside
 
   word_read : old.bits ≡ get_or (map bits_of items) (hash % length (map bits_of items)) 0
   word_read =
-      let inside : bucket < length items = let l = mod-lt hash some in omega (arith, l, is, many) in
-      ap bits_of read ∙ sym (get_or-map bits_of items bucket old 0 inside)
-      ∙ ap (λ b. get_or (map bits_of items) b 0) (is ∙ ap (λ n. hash % n) (many ∙ sym (length-map items bits_of)))
+      ap bits_of read ∙ sym (get_or-map bits_of items bucket old 0 (let l = length-map items bits_of in omega (arith, l, inside)))
+      ∙ ap (λ b. get_or (map bits_of items) b 0) is
 
   written : map bits_of (set items bucket word) ≡ marked (map bits_of items) hash
-  written =
-      seen-set items bucket hash count word many is
-      ∙ (λ i. set (map bits_of items) (hash % length (map bits_of items)) (bit_or (word_read i) (1 * 2 ^ bit i % 2 ^ 16)))
+  written = map-set bits_of items bucket word ∙ (λ i. set (map bits_of items) (is i) (bit_or (word_read i) (1 * 2 ^ bit i % 2 ^ 16)))
 
   pub may_contain-set_bit : may_contain (map bits_of (set items bucket word)) hash ≡ true
   may_contain-set_bit = ap (λ ws. may_contain ws hash) written ∙ may_contain-inserted (map bits_of items) hash (subst (λ n. n < 16) bit small) within
@@ -133,12 +122,6 @@ module _ {B : Type 0} where
       let head : x.hash ≡ y.hash = cc in
       let tail : map (λ t. t.hash) xs ≡ map (λ t. t.hash) ys = cc in
       (ap (may_contain words) (sym head) ∙ c.0, CoversAll-hashes words xs ys tail c.1)
-
-  -- a hash whose bit is not set is that of no node
-  pub CoversAll-lacks : (words : List ℕ) (hash : ℕ) (xs : List (Held B)) (t : Held B) (ys : List (Held B)) → CoversAll words (xs ++ t ∷ ys) → may_contain words hash ≡ false → t.hash ≢ hash
-  CoversAll-lacks words hash xs t ys c lacks e =
-      let rest = CoversAll-after words xs (t ∷ ys) c in
-      true≢false (sym rest.0 ∙ ap (may_contain words) e ∙ lacks)
 
   -- the bits of one bucket are cleared, and no node is in it
   pub CoversAll-cleared : (old new : List ℕ) (n b : ℕ) → ((hash : ℕ) → hash % n ≢ b → may_contain new hash ≡ may_contain old hash) → (xs : List (Held B)) → ((before : List (Held B)) (t : Held B) (after : List (Held B)) → xs ≡ before ++ t ∷ after → t.hash % n ≢ b) → CoversAll old xs → CoversAll new xs
@@ -191,12 +174,6 @@ module _ {K V : Type 0} {words : List ℕ} {heads : List (Option Ptr)} where
         (CoversAll-append new xs (t ∷ []) (CoversAll-more words new others xs f.covers) (set, tt));
   }
 
-  -- a hash whose bit is not set is that of no key
-  pub IsAbsent-lacks : (eq : K → K → Bool) (hash : ℕ) (key : K) (nodes : List (Held (K × V))) → IsFilter words heads nodes → may_contain words hash ≡ false → IsAbsent eq hash key nodes
-  IsAbsent-lacks eq hash key nodes f lacks before x after e =
-      let other : x.hash ≢ hash = CoversAll-lacks words hash before x after (subst (λ (zs : List (Held (K × V))). CoversAll words zs) e f.covers) lacks in
-      sym (ap (λ b. b && eq key x.pair.0) (ne_eqb x.hash hash other))
-
 -- a bucket with no chain holds no node
 no_chain : (chain : List Spot) → IsChain None chain → chain ≡ []
 no_chain [] l = refl
@@ -218,22 +195,60 @@ filter_none : (p : Spot → Bool) (xs : List Spot) (s : Spot) (ys : List Spot) �
 filter_none p [] s ys e = not_kept (p s) s (filter p ys) e
 filter_none p (x ∷ xs) s ys e = filter_none p xs s ys (rest_none (p x) x (filter p (xs ++ s ∷ ys)) e)
 
-pub not_some : {X : Type 0} (o : Option X) → not (is_some o) ≡ true → o ≡ None
-not_some None e = refl
-not_some (Some x) e = absurd (cc)
-
 module _ {K V : Type 0} where
-  pub IsFilter-cleared : (words new : List ℕ) (heads : List (Option Ptr)) (hash : ℕ) (nodes : List (Held (K × V))) → 0 < length heads → get_or heads (hash % length heads) None ≡ None → Indexes heads (spots nodes) → IsFilter words heads nodes
-      → ((other : ℕ) → other % length words ≢ hash % length words → may_contain new other ≡ may_contain words other) → length new ≡ length words → IsFilter new heads nodes
-  IsFilter-cleared words new heads hash nodes some empty indexed f others same =
-      let b : ℕ = hash % length heads in
-      let h : HasChain (get_or heads b None) (length heads) b (spots nodes) = indexed.chains b (mod-lt hash some) in
+  pub IsFilter-cleared : (words new : List ℕ) (heads : List (Option Ptr)) (b : ℕ) (nodes : List (Held (K × V))) → b < length heads → get_or heads b None ≡ None → Indexes heads (spots nodes) → IsFilter words heads nodes
+      → ((other : ℕ) → other % length words ≢ b → may_contain new other ≡ may_contain words other) → length new ≡ length words → IsFilter new heads nodes
+  IsFilter-cleared words new heads b nodes within empty indexed f others same =
+      let h : HasChain (get_or heads b None) (length heads) b (spots nodes) = indexed.chains b within in
       let none : filter (is_in (length heads) b) (spots nodes) ≡ [] = rearranged_none h.chain _ (no_chain h.chain (subst (λ o. IsChain o h.chain) empty h.linked)) h.holds in
       record {
         count = same ∙ f.count;
-        covers = CoversAll-cleared words new (length words) (hash % length words) others nodes
+        covers = CoversAll-cleared words new (length words) b others nodes
             (λ before t after e at.
             let out : is_in (length heads) b (spot t) ≡ false = filter_none (is_in (length heads) b) (spots before) (spot t) (spots after) (ap (filter (is_in (length heads) b)) (sym (ap spots e ∙ map-append spot before (t ∷ after))) ∙ none) in
-            eqb-false (t.hash % length heads) b out (ap (λ n. t.hash % n) (sym f.count) ∙ at ∙ ap (λ n. hash % n) f.count))
+            eqb-false (t.hash % length heads) b out (ap (λ n. t.hash % n) (sym f.count) ∙ at))
             f.covers;
       }
+
+  -- the same where a bucket may have lost its last node
+  pub IsFilter-emptied : (words new : List ℕ) (heads : List (Option Ptr)) (hash : ℕ) (nodes : List (Held (K × V))) (emptied : Option ℕ) → IfSome emptied (IsEmptied heads hash)
+      → IfSome emptied (λ b. (other : ℕ) → other % length words ≢ b → may_contain new other ≡ may_contain words other) → IfNone emptied (new ≡ words) → length new ≡ length words
+      → Indexes heads (spots nodes) → IsFilter words heads nodes → IsFilter new heads nodes
+  IsFilter-emptied words new heads hash nodes None is others unchanged same indexed f = subst (λ ws. IsFilter ws heads nodes) (sym unchanged) f
+  IsFilter-emptied words new heads hash nodes (Some b) is others unchanged same indexed f = IsFilter-cleared words new heads b nodes is.within is.empty indexed f others same
+
+  -- no node has a hash whose bit is not set
+  pub LacksHash-lacks : (words : List ℕ) (hash : ℕ) (nodes : List (Held (K × V))) → CoversAll words nodes → may_contain words hash ≡ false → LacksHash hash nodes
+  LacksHash-lacks words hash [] c lacks = tt
+  LacksHash-lacks words hash (x ∷ xs) c lacks = ((λ e. true≢false (sym c.0 ∙ ap (may_contain words) e ∙ lacks)), LacksHash-lacks words hash xs c.1 lacks)
+
+  pub LacksHash-entries : (hash : ℕ) (nodes : List (Held (K × V))) → LacksHash hash nodes → LacksHash hash (entries nodes)
+  LacksHash-entries hash [] h = tt
+  LacksHash-entries hash (x ∷ xs) h = (h.0, LacksHash-entries hash xs h.1)
+
+  LacksHash-at : (hash : ℕ) (xs : List (Held (K × V))) (t : Held (K × V)) (ys : List (Held (K × V))) → LacksHash hash (xs ++ t ∷ ys) → t.hash ≢ hash
+  LacksHash-at hash [] t ys h = h.0
+  LacksHash-at hash (x ∷ xs) t ys h = LacksHash-at hash xs t ys h.1
+
+  pub IsAbsent-lacks : (eq : K → K → Bool) (hash : ℕ) (key : K) (nodes : List (Held (K × V))) → LacksHash hash nodes → IsAbsent eq hash key nodes
+  IsAbsent-lacks eq hash key nodes lacks before x after e =
+      let other : x.hash ≢ hash = LacksHash-at hash before x after (subst (λ (zs : List (Held (K × V))). LacksHash hash zs) e lacks) in
+      sym (ap (λ b. b && eq key x.pair.0) (ne_eqb x.hash hash other))
+
+-- the bucket that lost its last node is one of the filter's
+pub emptied_within : (words : List ℕ) (heads chains : List (Option Ptr)) (hash : ℕ) (emptied : Option ℕ) → IfSome emptied (IsEmptied chains hash) → length chains ≡ length heads → length words ≡ length heads → IfSome emptied (λ b. b < length words)
+emptied_within words heads chains hash None is count many = tt
+emptied_within words heads chains hash (Some b) is count many = omega (arith, is.within, count, many)
+
+-- a bucket whose new head is none
+pub IsEmptied-head : (heads : List (Option Ptr)) (count hash b : ℕ) (link : Option Ptr) (empty : Bool) → count ≡ length heads → 0 < count → b ≡ hash % count → (empty ≡ true → link ≡ None) → IfSome (then_some empty b) (IsEmptied (set heads b link) hash)
+IsEmptied-head heads count hash b link false many some is none = tt
+IsEmptied-head heads count hash b link true many some is none =
+    let long = length-set heads b link in
+    let below : hash % count < count = mod-lt hash some in
+    let within : b < length heads = omega (arith, below, is, many) in
+    record {
+      bucket = is ∙ ap (λ n. hash % n) (many ∙ sym long);
+      within = omega (arith, within, long);
+      empty = get_or-set_same heads b link None within ∙ none refl;
+    }

@@ -87,6 +87,12 @@ pub record HoldsOthers {K V : Type 0} (heads : List (Option Ptr)) (nodes : List 
   pub at : node.at ≡ p
   pub others : Indexes heads (spots (before ++ after))
 
+-- b is the bucket of the hash, and has no chain
+pub record IsEmptied (heads : List (Option Ptr)) (hash b : ℕ) : Type 0 where
+  pub bucket : b ≡ hash % length heads
+  pub within : b < length heads
+  pub empty : slice_index_or heads b None ≡ None
+
 -- no bucket has a chain
 abbrev pub HasNoChain : {X : Type 0} → List (Option X) → Type 0
 HasNoChain heads = (b : ℕ) → b < length heads → slice_index_or heads b None ≡ None

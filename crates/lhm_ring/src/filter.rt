@@ -85,36 +85,34 @@ impl Filter {
         })
     }
 
-    /// Returns whether a node may have a hash: `false` if none has it, in O(1).
-    pub(crate) fn may_contain(&self, hash: u64) -> bool
+    /// Returns whether a node may have a hash, whose bucket is given: `false` if none has it, in
+    /// O(1).
+    pub(crate) fn may_contain(&self, bucket: usize, hash: u64) -> bool
+        requires within { bucket < length self.now }
+        requires of_hash { bucket ≡ hash % length self.now }
         ensures { result ≡ may_contain self.now hash }
     {
-        if self.words.is_empty() {
-            return false;
-        }
-        let bits = self.words[masked(hash, self.words.len())].bits;
-        (bits >> bit(hash)) & 1 == 1
+        (self.words[bucket].bits >> bit(hash)) & 1 == 1
     }
 
-    /// Sets the bit of a hash, in O(1).
-    pub(crate) fn insert(&mut self, hash: u64)
-        requires { 0 < length self.old }
+    /// Sets the bit of a hash, whose bucket is given, in O(1).
+    pub(crate) fn insert(&mut self, bucket: usize, hash: u64)
+        requires within { bucket < length self.old }
+        requires of_hash { bucket ≡ hash % length self.old }
         ensures set { IsTrue (may_contain self.new hash) }
         ensures others { (other : ℕ) → IsTrue (may_contain self.old other) → IsTrue (may_contain self.new other) }
         ensures buckets { length self.new ≡ length self.old }
     {
-        let bucket = masked(hash, self.words.len());
         let bits = self.words[bucket].bits;
         self.words[bucket].bits = bits | (1u16 << bit(hash));
     }
 
-    /// Clears the bits of the bucket of a hash, in O(1).
-    pub(crate) fn clear_bucket(&mut self, hash: u64)
-        requires { 0 < length self.old }
-        ensures others { (other : ℕ) → other % length self.old ≢ hash % length self.old → may_contain self.new other ≡ may_contain self.old other }
+    /// Clears the bits of a bucket, in O(1).
+    pub(crate) fn clear_bucket(&mut self, bucket: usize)
+        requires { bucket < length self.old }
+        ensures others { (other : ℕ) → other % length self.old ≢ bucket → may_contain self.new other ≡ may_contain self.old other }
         ensures buckets { length self.new ≡ length self.old }
     {
-        let bucket = masked(hash, self.words.len());
         self.words[bucket].bits = 0;
     }
 
@@ -139,7 +137,9 @@ impl Filter {
         mem::replace(self, fresh).free();
         let mut pointer = ring.first();
         while let Some(at) = pointer {
-            self.insert(ring.hash(at));
+            let hash = ring.hash(at);
+            let bucket = masked(hash, self.words.len());
+            self.insert(bucket, hash);
             pointer = ring.next(at);
         }
     }

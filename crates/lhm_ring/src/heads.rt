@@ -4,7 +4,7 @@ ghost use Rattle.lhm_ring.specs.RingState.{IsHeld};
 ghost use Rattle.lhm_ring.specs.Positions.{pointer_of};
 ghost use Rattle.lhm_ring.specs.Heads.{leads_to};
 ghost use Rattle.lhm_ring.specs.Index.{spots, Indexes};
-ghost use Rattle.lhm_ring.specs.Search.{entries, Chains, HasNoChain};
+ghost use Rattle.lhm_ring.specs.Search.{OfNodeAt, entries, Chains, HasNoChain};
 ghost use Rattle.lhm_ring.specs.Buckets.{IsBucketCount};
 
 use crate::link::Link;
@@ -24,11 +24,16 @@ pub(crate) struct Head {
 // A bucket of the index is one pointer.
 const _: () = prove!(size_of::<Head>() == 8);
 
-/// Puts a node at the head of the chain of its hash.
-pub(crate) fn chain_one<K, V>(heads: &mut Vec<Head>, ring: &mut Ring<K, V>, at: Position<K, V>)
+/// Puts a node at the head of the chain of its hash, and returns its bucket.
+pub(crate) fn chain_one<K, V>(
+    heads: &mut Vec<Head>,
+    ring: &mut Ring<K, V>,
+    at: Position<K, V>,
+) -> usize
     requires some { 0 < vec_len heads.old }
     requires power { IsBucketCount (vec_len heads.old) }
     requires held { IsHeld ring.old.held (pointer_of at) }
+    ensures bucket { OfNodeAt ring.old.held (pointer_of at) (λ x. result ≡ x.hash % vec_len heads.old) }
     ensures chained { Chains (pointer_of at) (map leads_to heads.old.items) (map leads_to heads.new.items) ring.old.held ring.new.held }
     ensures spares { ring.new.spares ≡ ring.old.spares }
     ensures buckets { vec_len heads.new ≡ vec_len heads.old }
@@ -36,6 +41,7 @@ pub(crate) fn chain_one<K, V>(heads: &mut Vec<Head>, ring: &mut Ring<K, V>, at: 
     let bucket = masked(ring.hash(at), heads.len());
     ring.set_link(at, heads[bucket].link.get());
     heads[bucket].link = Link::of(Some(at));
+    bucket
 }
 
 /// Chains all held nodes into empty buckets, and counts them.

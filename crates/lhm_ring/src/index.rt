@@ -1,12 +1,12 @@
 //! Bucket chains through the nodes of a ring: the position of each key, by its hash.
 //!
 //! A node's chain link leads to the next node of its chain. Only the index of a ring sets it.
-ghost use Rattle.std.specs.Prelude.{◌≡◌, ◌+◌, ◌%◌, ◌<◌, ◌≤◌, ◌^◌, ◌∷◌, [], map, length, None, IfOk, IsOk, IfSome, IfNone, OnSome, is_some, not, slice_index_or, vec_len};
+ghost use Rattle.std.specs.Prelude.{◌≡◌, ◌+◌, ◌%◌, ◌<◌, ◌≤◌, ◌^◌, ◌∷◌, [], map, length, None, IfOk, IsOk, IfSome, IfNone, OnSome, slice_index_or, vec_len};
 ghost use Rattle.std.specs.Int.{IsNextPowerOfTwo};
 ghost use Rattle.lhm_ring.specs.RingState.{IsHeld};
 ghost use Rattle.lhm_ring.specs.Positions.{pointer_of, pointer_of_some};
 ghost use Rattle.lhm_ring.specs.Index.{spot, spots, Indexes, same};
-ghost use Rattle.lhm_ring.specs.Search.{OfNodeAt, entries, Compares, FindsKey, FindsNone, HasKey, IsAbsent, CountsSome, CountsAll, HoldsOthers, IsOnChain, Chains, HasNoChain};
+ghost use Rattle.lhm_ring.specs.Search.{OfNodeAt, entries, Compares, FindsKey, FindsNone, HasKey, IsAbsent, CountsSome, CountsAll, HoldsOthers, IsEmptied, IsOnChain, Chains, HasNoChain};
 ghost use Rattle.lhm_ring.specs.Buckets.{buckets, IsBucketCount};
 
 use crate::heads::{Head, chain_all, chain_one, clear_heads, empty_heads, free_heads, masked};
@@ -136,30 +136,37 @@ impl<K, V> Index<K, V> {
         self.heads[masked(hash, self.heads.len())].link.get()
     }
 
-    /// Returns whether the bucket of a hash has no chain, in O(1).
-    pub(crate) fn is_empty_at(&self, hash: u64) -> bool
-        ensures { result ≡ not (is_some (slice_index_or self.now (hash % length self.now) None)) }
+    /// Returns the bucket of a hash, or `None` if there are no buckets, in O(1).
+    pub(crate) fn bucket(&self, hash: u64) -> Option<usize>
+        ensures bucket { IfSome result (λ b. b ≡ hash % length self.now) }
+        ensures within { IfSome result (λ b. b < length self.now) }
+        ensures none { IfNone result (length self.now ≡ 0) }
     {
-        self.head(hash).is_none()
+        if self.heads.is_empty() {
+            return None;
+        }
+        Some(masked(hash, self.heads.len()))
     }
 
-    /// Puts the one node that the index lacks at the head of its chain, in O(1). It does not
-    /// allocate. Of the ring only that node's chain link changes.
-    pub fn put_in(&mut self, ring: &mut Ring<K, V>, at: Position<K, V>)
+    /// Puts the one node that the index lacks at the head of its chain, in O(1), and returns its
+    /// bucket. It does not allocate. Of the ring only that node's chain link changes.
+    pub fn put_in(&mut self, ring: &mut Ring<K, V>, at: Position<K, V>) -> usize
         requires some { 0 < length self.old }
         requires lacks { HoldsOthers self.old ring.old.held (pointer_of at) }
+        ensures bucket { OfNodeAt ring.old.held (pointer_of at) (λ x. result ≡ x.hash % length self.old) }
         ensures indexed { Indexes self.new (spots ring.new.held) }
         ensures held { entries ring.new.held ≡ entries ring.old.held }
         ensures spares { ring.new.spares ≡ ring.old.spares }
         ensures buckets { length self.new ≡ length self.old }
     {
-        chain_one(&mut self.heads, ring, at);
+        chain_one(&mut self.heads, ring, at)
     }
 
-    /// Removes a node from its chain.
-    fn unchain(&mut self, ring: &mut Ring<K, V>, hash: u64, found: Found<K, V>)
+    /// Removes a node from its chain, and returns its bucket if that has no node any more.
+    fn unchain(&mut self, ring: &mut Ring<K, V>, hash: u64, found: Found<K, V>) -> Option<usize>
         requires indexed { Indexes self.old (spots ring.old.held) }
         requires on_chain { IsOnChain self.old hash (spots ring.old.held) (pointer_of_some found.before) (pointer_of found.at) }
+        ensures emptied { IfSome result (IsEmptied self.new hash) }
         ensures lacks { HoldsOthers self.new ring.new.held (pointer_of found.at) }
         ensures held { entries ring.new.held ≡ entries ring.old.held }
         ensures spares { ring.new.spares ≡ ring.old.spares }
@@ -167,10 +174,14 @@ impl<K, V> Index<K, V> {
     {
         let link = ring.link(found.at);
         match found.before {
-            Some(before) => ring.set_link(before, link),
+            Some(before) => {
+                ring.set_link(before, link);
+                None
+            }
             None => {
                 let bucket = masked(hash, self.heads.len());
                 self.heads[bucket].link = Link::of(link);
+                link.is_none().then_some(bucket)
             }
         }
     }
@@ -201,12 +212,14 @@ impl<K, V> Index<K, V> {
         before
     }
 
-    /// Removes the node at a position from its chain. No key is compared. It is O(1) on average and
-    /// does not allocate. Of the ring only chain links change.
-    pub fn take_out_at(&mut self, ring: &mut Ring<K, V>, at: Position<K, V>)
+    /// Removes the node at a position from its chain, and returns its bucket if that has no node
+    /// any more. No key is compared. It is O(1) on average and does not allocate. Of the ring only
+    /// chain links change.
+    pub fn take_out_at(&mut self, ring: &mut Ring<K, V>, at: Position<K, V>) -> Option<usize>
         requires held { IsHeld ring.old.held (pointer_of at) }
         requires indexed { Indexes self.old (spots ring.old.held) }
         requires small { length ring.old.held < 2 ^ 64 }
+        ensures emptied { OfNodeAt ring.old.held (pointer_of at) (λ x. IfSome result (IsEmptied self.new x.hash)) }
         ensures lacks { HoldsOthers self.new ring.new.held (pointer_of at) }
         ensures held { entries ring.new.held ≡ entries ring.old.held }
         ensures spares { ring.new.spares ≡ ring.old.spares }
@@ -214,7 +227,7 @@ impl<K, V> Index<K, V> {
     {
         let hash = ring.hash(at);
         let before = self.before(ring, hash, at);
-        self.unchain(ring, hash, Found { before, at });
+        self.unchain(ring, hash, Found { before, at })
     }
 
     /// Replaces the buckets by fresh ones, rehashes all held nodes, and returns how many. It is
@@ -292,13 +305,20 @@ impl<K: Eq, V> Index<K, V> {
         }
     }
 
-    /// Removes the node with this hash and this key from its chain, and returns its position. Of
-    /// the ring only chain links change, and nothing if the key is absent. It does not allocate.
-    pub fn take_out(&mut self, ring: &mut Ring<K, V>, hash: u64, key: &K) -> Option<Position<K, V>>
+    /// Removes the node with this hash and this key from its chain, and returns its position, and
+    /// its bucket if that has no node any more. Of the ring only chain links change, and nothing if
+    /// the key is absent. It does not allocate.
+    pub fn take_out(
+        &mut self,
+        ring: &mut Ring<K, V>,
+        hash: u64,
+        key: &K,
+    ) -> Option<(Position<K, V>, Option<usize>)>
         requires indexed { Indexes self.old (spots ring.old.held) }
         requires small { length ring.old.held < 2 ^ 64 }
-        ensures found { IfSome result (λ p. HasKey K.eq hash key.now ring.new.held (pointer_of p)) }
-        ensures lacks { IfSome result (λ p. HoldsOthers self.new ring.new.held (pointer_of p)) }
+        ensures found { IfSome result (λ taken. HasKey K.eq hash key.now ring.new.held (pointer_of taken.0)) }
+        ensures emptied { IfSome result (λ taken. IfSome taken.1 (IsEmptied self.new hash)) }
+        ensures lacks { IfSome result (λ taken. HoldsOthers self.new ring.new.held (pointer_of taken.0)) }
         ensures absent { IfNone result (IsAbsent K.eq hash key.now ring.old.held) }
         ensures unchanged { IfNone result (self.new ≡ self.old) }
         ensures ring_unchanged { IfNone result (ring.new ≡ ring.old) }
@@ -310,8 +330,8 @@ impl<K: Eq, V> Index<K, V> {
         match found {
             Some(found) => {
                 let at = found.at;
-                self.unchain(ring, hash, found);
-                Some(at)
+                let emptied = self.unchain(ring, hash, found);
+                Some((at, emptied))
             }
             None => None,
         }

@@ -1,5 +1,5 @@
 //! Pairs in insertion order with a hash index of their keys: a ring and its index, kept in step.
-ghost use Rattle.std.specs.Prelude.{◌≡◌, ◌==◌, ◌+◌, ◌<◌, ◌≤◌, ◌^◌, ◌++◌, ◌∷◌, [], length, map, None, IfOk, IsOk, IfSome, IfNone, OnSome};
+ghost use Rattle.std.specs.Prelude.{◌≡◌, ◌≢◌, ◌==◌, ◌+◌, ◌%◌, ◌<◌, ◌≤◌, ◌^◌, ◌++◌, ◌∷◌, [], length, map, None, IfOk, IsOk, IfSome, IfNone, OnSome, IsFalse, ℕ};
 ghost use Rattle.lhm_ring.specs.Cells.{IsApart};
 ghost use Rattle.lhm_ring.specs.RingState.{IsHeld, AtHeld, first_at, last_at, held};
 ghost use Rattle.lhm_ring.specs.RingAfterLoan.{pair};
@@ -7,6 +7,7 @@ ghost use Rattle.lhm_ring.specs.Positions.{pointer_of, pointer_of_some};
 ghost use Rattle.lhm_ring.specs.Index.{spots, Indexes};
 ghost use Rattle.lhm_ring.specs.Search.{entries, HasKey, IsAbsent, CountsSome, CountsAll, HasNoChain};
 ghost use Rattle.lhm_ring.specs.Buckets.{buckets};
+ghost use Rattle.lhm_ring.specs.Filters.{may_contain, LacksHash};
 ghost use Rattle.lhm_ring.specs.Tables.{Removes, WritesOnly};
 
 use crate::filter::Filter;
@@ -61,6 +62,19 @@ fn empty_chains<K, V>(index: &mut Index<K, V>, filter: &mut Filter, ring: &Ring<
     }
     index.forget_all();
     filter.clear();
+}
+
+/// Clears the bits of a bucket that has no node any more.
+fn clear_emptied(filter: &mut Filter, emptied: Option<usize>)
+    requires { IfSome emptied (λ b. b < length filter.old) }
+    ensures others { IfSome emptied (λ b. (other : ℕ) → other % length filter.old ≢ b → may_contain filter.new other ≡ may_contain filter.old other) }
+    ensures same { IfNone emptied (filter.new ≡ filter.old) }
+    ensures words { length filter.new ≡ length filter.old }
+{
+    match emptied {
+        Some(bucket) => filter.clear_bucket(bucket),
+        None => {}
+    }
 }
 
 /// Allocates an index of empty buckets for a capacity, and its filter, in O(n). For capacity 0 it
@@ -231,8 +245,8 @@ impl<K, V> Table<K, V> {
         ensures rechained { self.new.rechained ≡ self.old.rechained }
     {
         let at = self.ring.put_back(hash, key, value);
-        self.index.put_in(&mut self.ring, at);
-        self.filter.insert(hash);
+        let bucket = self.index.put_in(&mut self.ring, at);
+        self.filter.insert(bucket, hash);
         at
     }
 
@@ -245,19 +259,19 @@ impl<K, V> Table<K, V> {
         ensures capacity { self.new.capacity ≡ self.old.capacity }
         ensures rechained { self.new.rechained ≡ self.old.rechained }
     {
-        self.index.take_out_at(&mut self.ring, at);
-        let (hash, key, value) = self.ring.unlink(at);
-        self.clear_if_empty(hash);
+        let emptied = self.index.take_out_at(&mut self.ring, at);
+        clear_emptied(&mut self.filter, emptied);
+        let (_, key, value) = self.ring.unlink(at);
         (key, value)
     }
 
-    /// Clears the filter of the bucket of a hash if the bucket is empty, in O(1).
-    fn clear_if_empty(&mut self, hash: u64)
-        requires { 0 < self.old.capacity }
-        ensures { self.new ≡ self.old }
+    /// Returns `false` if no pair has a hash, by the filter alone, in O(1).
+    fn may_contain(&self, hash: u64) -> bool
+        ensures { IsFalse result → LacksHash hash self.now.held }
     {
-        if self.index.is_empty_at(hash) {
-            self.filter.clear_bucket(hash);
+        match self.index.bucket(hash) {
+            Some(bucket) => self.filter.may_contain(bucket, hash),
+            None => false,
         }
     }
 
@@ -329,7 +343,7 @@ impl<K: Eq, V> Table<K, V> {
         ensures found { IfSome result (λ p. HasKey K.eq hash key.now self.now.held (pointer_of p)) }
         ensures absent { IfNone result (IsAbsent K.eq hash key.now self.now.held) }
     {
-        if !self.filter.may_contain(hash) {
+        if !self.may_contain(hash) {
             return None;
         }
         self.find(hash, key).0
@@ -344,12 +358,12 @@ impl<K: Eq, V> Table<K, V> {
         ensures capacity { self.new.capacity ≡ self.old.capacity }
         ensures rechained { self.new.rechained ≡ self.old.rechained }
     {
-        if !self.filter.may_contain(hash) {
+        if !self.may_contain(hash) {
             return None;
         }
-        let at = self.index.take_out(&mut self.ring, hash, key)?;
+        let (at, emptied) = self.index.take_out(&mut self.ring, hash, key)?;
+        clear_emptied(&mut self.filter, emptied);
         let (_, key, value) = self.ring.unlink(at);
-        self.clear_if_empty(hash);
         Some((key, value))
     }
 }

@@ -1,6 +1,5 @@
-use Rattle.std.proofs.Common.{arith}
 use Rattle.lhm_ring.proofs.Filters.{may_contain-cleared}
 use Rattle.lhm_ring.proofs.filter.Filter.clear_bucket.Goals as goal
 
 pub returns-clause-others : goal.returns-clause-others
-returns-clause-others c = rw (← c.self.view_is) (may_contain-cleared c.self.inside.words.items c.masked-bucket.result c.args.hash c.len.result (record { bits = 0 }) (omega (arith, c.len.ensures, c.self.inside.words.ok)) c.masked-bucket.ensures)
+returns-clause-others c = rw (← c.self.view_is) (may_contain-cleared c.self.inside.words.items c.args.bucket (record { bits = 0 }))

@@ -1,9 +1,14 @@
-use Rattle.std.proofs.Common.{arith, ap, sym, subst, map, set, ◌∙◌}
+use Rattle.std.proofs.Common.{◌≡◌, ◌<◌, ℕ, List, Option, arith, ap, sym, subst, length, map, set, ◌∙◌}
+use Rattle.std.specs.Prelude.{IfSome}
+use Rattle.std.specs.Bool.{then_some}
+use denote.RawPtr.{Ptr}
 use Rattle.std.proofs.lemmas.List.{length-map, map-set}
 use Rattle.lhm_ring.specs.Heads.{leads_to}
 use Rattle.lhm_ring.specs.Positions.{pointer_of, pointer_of_some}
-use Rattle.lhm_ring.specs.Search.{HoldsOthers}
-use Rattle.lhm_ring.proofs.IndexTakes.{on_held, on_before_held, take_first_at, take_next}
+use Rattle.lhm_ring.specs.Search.{HoldsOthers, IsEmptied}
+use Rattle.lhm_ring.proofs.IndexTakes.{on_held, on_before_held, on_some, take_first_at, take_next}
+use Rattle.lhm_ring.proofs.BucketHeads.{no_pointer}
+use Rattle.lhm_ring.proofs.Filters.{IsEmptied-head}
 use Rattle.lhm_ring.proofs.Entries.{kept_by_link}
 use Rattle.lhm_ring.proofs.index.Index.unchain.Goals as goal
 
@@ -18,6 +23,17 @@ returns-in-Some-clause-lacks g c = take_next c.set_link.new.self.held (pointer_o
 
 pub returns-in-Some-clause-held : goal.returns-in-Some-clause-held
 returns-in-Some-clause-held g c = kept_by_link c.args.ring.now.held c.set_link.new.self.held (pointer_of c.in-Some.before) (pointer_of_some c.link-link.result) (on_before_held (pointer_of c.in-Some.before) (ap pointer_of_some c.in-Some.is) c.requires.on_chain) c.set_link.ensures.held
+
+pub returns-in-None-clause-emptied : goal.returns-in-None-clause-emptied
+returns-in-None-clause-emptied g c =
+    let heads = c.self.inside.heads.items in
+    let bucket = c.masked-bucket.result in
+    let many : c.len.result ≡ length (map leads_to heads) = omega (arith, c.len.ensures, c.self.inside.heads.ok, length-map heads leads_to) in
+    let some : 0 < c.len.result = omega (arith, many, ap length c.self.view_is, on_some c.requires.indexed c.requires.on_chain) in
+    let head = IsEmptied-head (map leads_to heads) c.len.result c.args.hash bucket (pointer_of_some c.link-link.result) c.is_none.result many some c.masked-bucket.ensures (no_pointer c.link-link.result c.is_none.result c.is_none.ensures) in
+    subst (λ (r : Option ℕ). IfSome r (IsEmptied (map leads_to (set heads bucket (record { link = c.of.result }))) c.args.hash)) (sym c.then_some.ensures)
+    (subst (λ (hs : List (Option Ptr)). IfSome (then_some c.is_none.result bucket) (IsEmptied hs c.args.hash))
+    (sym (map-set leads_to heads bucket (record { link = c.of.result }) ∙ ap (set (map leads_to heads) bucket) c.of.ensures)) head)
 
 pub returns-in-None-clause-lacks : goal.returns-in-None-clause-lacks
 returns-in-None-clause-lacks g c =

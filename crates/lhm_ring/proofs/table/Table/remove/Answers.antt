@@ -2,24 +2,33 @@ use Rattle.std.proofs.Common.{◌≡◌, ◌++◌, sym, ap, ◌∙◌, arith}
 use Rattle.lhm_ring.specs.Positions.{pointer_of}
 use Rattle.lhm_ring.specs.Search.{entries}
 use Rattle.lhm_ring.proofs.Entries.{HasKey-kept}
-use Rattle.lhm_ring.specs.Tables.{TableState}
-use Rattle.lhm_ring.proofs.Filters.{IsAbsent-lacks}
-use Rattle.lhm_ring.proofs.Tables.{length-entries, IsAbsent-entries, HasKey-entries, at_entries, capacity_in, entries-append, IsTable-removed, all_nodes}
+use Rattle.lhm_ring.proofs.Filters.{IsAbsent-lacks, IsFilter-emptied, emptied_within}
+use Rattle.lhm_ring.proofs.Tables.{IsAbsent-entries, HasKey-entries, at_entries, capacity_in, entries-append, IsTable-removed, all_nodes}
 use Rattle.lhm_ring.proofs.table.Table.remove.Goals as goal
-
-pub returns-then-not-may_contain-clause-absent : goal.returns-then-not-may_contain-clause-absent
-returns-then-not-may_contain-clause-absent g c =
-    rw (← c.self.view_is) (IsAbsent-entries g.K.PartialEq.eq c.args.hash c.args.key.now c.self.inside.ring.held (IsAbsent-lacks g.K.PartialEq.eq c.args.hash c.args.key.now c.self.inside.ring.held c.self.invariant.filtered (sym c.may_contain.ensures ∙ c.if-not-may_contain.true)))
 
 pub returns-in_err-at-clause-absent : goal.returns-in_err-at-clause-absent
 returns-in_err-at-clause-absent g c =
     rw (c.from_residual.ensures, ← c.self.view_is) (IsAbsent-entries g.K.PartialEq.eq c.args.hash c.args.key.now c.self.inside.ring.held c.in_err-at.ensures.absent)
 
+pub returns-then-not-may_contain-clause-absent : goal.returns-then-not-may_contain-clause-absent
+returns-then-not-may_contain-clause-absent g c = IsAbsent-lacks g.K.PartialEq.eq c.args.hash c.args.key.now c.args.self.now.held (c.may_contain.ensures c.if-not-may_contain.true)
+
+pub clear_emptied-requires : goal.clear_emptied-requires
+clear_emptied-requires g c =
+    emptied_within c.self.inside.filter c.self.inside.index c.take_out.new.self c.args.hash c.in_ok-at.emptied c.in_ok-at.ensures.emptied c.in_ok-at.ensures.buckets c.self.invariant.filtered.count
+
 pub invariant_of-self-2 : goal.invariant_of-self-2
 invariant_of-self-2 g c =
     let taken = c.in_ok-at.ensures in
     let unlinked = c.unlink-key.ensures in
-    IsTable-removed c.self.invariant taken.held taken.spares taken.lacks unlinked.others unlinked.spares taken.buckets
+    let cleared = c.clear_emptied.ensures in
+    let table = IsTable-removed c.self.invariant taken.held taken.spares taken.lacks unlinked.others unlinked.spares taken.buckets in
+    record {
+      indexed = table.indexed;
+      filtered = IsFilter-emptied c.self.inside.filter c.clear_emptied.new.filter c.take_out.new.self c.args.hash c.unlink-key.new.self.held c.in_ok-at.emptied taken.emptied cleared.others cleared.same cleared.words table.indexed.chains table.filtered;
+      few = table.few;
+      limit = table.limit;
+    }
 
 pub returns-clause-removed : goal.returns-clause-removed
 returns-clause-removed g c =
@@ -31,8 +40,8 @@ returns-clause-removed g c =
     record {
       at = p;
       has = rw (← c.self.view_is) (HasKey-entries g.K.PartialEq.eq c.args.hash c.args.key.now i.ring.held p has);
-      others = at_entries i.ring i.rechained c.self.view_is ks taken.held p (λ xs t ys. c.clear_if_empty.new.self.held ≡ xs ++ ys)
-          (λ xs t ys e at. ap (λ (z : TableState (g.row.K.Denot × g.row.V.Denot)). z.held) c.clear_if_empty.ensures ∙ ap entries (c.unlink-key.ensures.others xs t ys e at) ∙ entries-append xs ys);
+      others = at_entries i.ring i.rechained c.self.view_is ks taken.held p (λ xs t ys. entries c.unlink-key.new.self.held ≡ xs ++ ys)
+          (λ xs t ys e at. ap entries (c.unlink-key.ensures.others xs t ys e at) ∙ entries-append xs ys);
       pair_is = at_entries i.ring i.rechained c.self.view_is ks taken.held p (λ xs t ys. (c.unlink-key.result.1, c.unlink-key.result.2) ≡ t.pair)
           (λ xs t ys e at. ap (λ z. (z.1, z.2)) (c.unlink-key.ensures.triple xs t ys e at));
     }
@@ -43,6 +52,4 @@ returns-clause-capacity g c =
     let unlinked = c.unlink-key.ensures in
     let all = all_nodes c.self.invariant taken.held taken.spares taken.lacks unlinked.others unlinked.spares in
     let before = capacity_in c.self.inside.ring c.self.inside.rechained c.self.view_is in
-    let after = ap (λ (z : TableState (g.row.K.Denot × g.row.V.Denot)). z.capacity) c.clear_if_empty.ensures in
-    let long = length-entries c.unlink-key.new.self.held in
-    omega (arith, all, before, after, long)
+    omega (arith, all, before)
