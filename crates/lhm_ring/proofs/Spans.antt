@@ -1,5 +1,5 @@
 -- A row of nodes from one to another, and the first and the last of it moved out.
-use Rattle.std.proofs.Common.{◌≡◌, ℕ, ◌+◌, ◌-◌, false, List, [], ◌∷◌, ◌++◌, length, Some, None, refl, sym, ap, ◌∙◌, subst, arith, length-append}
+use Rattle.std.proofs.Common.{◌≡◌, ℕ, ◌-◌, false, List, [], ◌∷◌, ◌++◌, length, Some, None, refl, sym, ap, ◌∙◌, subst, arith, length-append}
 use lib.ListN.{length-map}
 use Rattle.std.specs.List.{AllByRecursion}
 use denote.RawPtr.{Ptr}
