@@ -1,7 +1,8 @@
 -- Insertions one after another.
-use Rattle.std.proofs.Common.{◌≡◌, ◌+◌, ◌-◌, ◌≤◌, max, Bool, true, false, cond, not, filter, List, [], ◌∷◌, ◌++◌, length, map, is_some, refl, sym, ap, ◌∙◌, subst, arith, length-append}
+use Rattle.std.proofs.Common.{◌≡◌, ℕ, ◌+◌, ◌-◌, ◌≤◌, max, Bool, true, false, cond, not, filter, List, [], ◌∷◌, ◌++◌, length, map, Some, is_some, refl, sym, ap, ◌∙◌, subst, arith, length-append}
 use Rattle.std.specs.List.{IsDistinct}
 use Rattle.std.specs.Map.{keys_of}
+use Rattle.std.specs.Iterator.{Count, IsFinite, size, MakesProgress}
 use Rattle.std.specs.Cmp.{IsEquivalence}
 use Rattle.std.proofs.lemmas.List.{map-append, length-map}
 use Rattle.linked_hash_map.specs.LinkedMap.{LinkedMap}
@@ -52,6 +53,18 @@ pub record HasInserted {K V S : Type 0} (eq : K → K → Bool) (old : LinkedMap
   pub rechained : new.rechained ≡ rechained_each old.rechained old.capacity (new.capacity - old.capacity)
   pub hasher : new.hasher ≡ old.hasher
   pub mode : new.mode ≡ old.mode
+
+-- the items that came, and those left to come, are no more than were left at the start
+pub record AreWithinBound {I : Type 0} (remaining : I → Count) (start now : I) (came : ℕ) : Type 0 where
+  pub finite : IsFinite (remaining now)
+  pub fewer : came + size (remaining now) ≤ size (remaining start)
+
+pub AreWithinBound-next : {I X : Type 0} (can : I → Type 0) (remaining : I → Count) {start now later : I} (came : List X) (item : X) → AreWithinBound remaining start now (length came) → MakesProgress can remaining now (Some item) later → AreWithinBound remaining start later (length (came ++ item ∷ []))
+AreWithinBound-next can remaining came item bound goes =
+    let step = goes.on bound.finite in
+    let longer = length-append came (item ∷ []) in
+    let fewer = bound.fewer in
+    record { finite = step.1; fewer = omega arith }
 
 module _ {K V : Type 0} {eq : K → K → Bool} (laws : IsEquivalence eq) where
   -- keys that differ still do after an insertion

@@ -1,5 +1,5 @@
 -- The loop past the sessions that go.
-use Rattle.std.proofs.Common.{◌≡◌, ℕ, ◌+◌, ◌-◌, ◌<◌, ◌≤◌, cond, not, List, [], ◌∷◌, length, drop, nat_eq, sym, ap, ◌∙◌, subst, arith, eq-eqb}
+use Rattle.std.proofs.Common.{◌≡◌, ℕ, ◌+◌, ◌-◌, ◌<◌, ◌≤◌, cond, not, List, ◌∷◌, length, drop, nat_eq, sym, ap, ◌∙◌, subst, arith}
 use Rattle.std.proofs.lemmas.Bool.{ne_eqb}
 use Rattle.std.proofs.lemmas.List.{drop-drop}
 use Rattle.std.proofs.lemmas.List.Sums.{length-filter, count_by-le-length}
@@ -21,17 +21,6 @@ module _ {T : Type 0} (id weight_left : ℕ) (all : List (Session T)) where
     pub within : count ≤ length (without all id)
 
   module _ {count weight : ℕ} where
-    -- the session with the id is not counted
-    pub IsPast-own : (session : Session T) (rest : List (Session T)) → IsPast count weight (session ∷ rest) → id ≡ session.0 → IsPast count weight rest
-    IsPast-own session rest past own =
-        let same : without (session ∷ rest) id ≡ without rest id = ap (λ b. cond (not b) (session ∷ without rest id) (without rest id)) (eq-eqb id session.0 own) in
-        record {
-          left = past.left ∙ same;
-          weighs = past.weighs ∙ ap total_weight same;
-          goes = past.goes ∙ ap (fit weight_left) same;
-          counted = omega (arith, past.counted, ap length same);
-        }
-
     -- while too much is left, the next one goes
     pub IsPast-more : (session : Session T) (rest : List (Session T)) → IsPast count weight (session ∷ rest) → (id ≡ session.0 → ⊥) → weight_left < weight → IsPast (count + 1) (weight - session.1) rest
     IsPast-more session rest past other heavy =
@@ -44,14 +33,6 @@ module _ {T : Type 0} (id weight_left : ℕ) (all : List (Session T)) where
           goes = past.goes ∙ ap (fit weight_left) same ∙ fit-more weight_left session (without rest id) (omega arith);
           counted = omega (arith, past.counted, ap length same);
         }
-
-    -- at least the weight of the next one is left
-    pub enough-left : (session : Session T) (rest : List (Session T)) → IsPast count weight (session ∷ rest) → (id ≡ session.0 → ⊥) → session.1 ≤ weight
-    enough-left session rest past other =
-        let same : without (session ∷ rest) id ≡ session ∷ without rest id = ap (λ b. cond (not b) (session ∷ without rest id) (without rest id)) (ne_eqb id session.0 other) in
-        let sum = total_weight-cons session (without rest id) in
-        let weighs = past.weighs ∙ ap total_weight same in
-        omega arith
 
     -- no more than there are
     pub few-past : (rest : List (Session T)) → IsPast count weight rest → count ≤ length all
@@ -66,6 +47,3 @@ module _ {T : Type 0} (id weight_left : ℕ) (all : List (Session T)) where
           weigh = past.weighs ∙ ap total_weight (sym all_left);
           within = omega (arith, past.counted);
         }
-
-    pub AreLeaving-end : IsPast count weight [] → AreLeaving count weight
-    AreLeaving-end past = AreLeaving-past [] past (omega (arith, past.weighs))

@@ -1,5 +1,5 @@
 -- Lists of sessions: sums of weights, and the longest end that fits.
-use Rattle.std.proofs.Common.{◌≡◌, ℕ, ◌+◌, ◌-◌, ◌<◌, ◌≤◌, Bool, true, false, cond, not, List, [], ◌∷◌, ◌++◌, length, drop, slice_get, nat_eq, Some, None, option_map, eq-eqb, refl, sym, ap, ◌∙◌, subst, arith, length-append}
+use Rattle.std.proofs.Common.{◌≡◌, ℕ, ◌+◌, ◌-◌, ◌<◌, ◌≤◌, Bool, true, false, cond, not, List, [], ◌∷◌, ◌++◌, length, drop, nat_eq, Some, None, option_map, eq-eqb, refl, sym, ap, ◌∙◌, subst, arith, length-append}
 use Rattle.std.specs.Prelude.{nat_le, if◌then◌else◌, unwrap_or}
 use Rattle.std.specs.List.{IsDistinct, AllByRecursion}
 use Rattle.std.specs.Option.{option_or}
@@ -8,7 +8,6 @@ use Rattle.std.proofs.lemmas.List.Folds.{find-append}
 use Rattle.std.proofs.lemmas.List.Sums.{sum_by-cons, sum_by-append}
 use Rattle.linked_hash_map.specs.Pairs.{last}
 use Rattle.linked_hash_map.specs.SessionTables.{Session, ids_of, total_weight, session_of, weight_of, without, with_last, fit, IsEnd, IsLongestEnd}
-use Rattle.linked_hash_map.proofs.Indexes.{slice_get-last}
 
 module _ {T : Type 0} where
   pub total_weight-cons : (session : Session T) (sessions : List (Session T)) → total_weight (session ∷ sessions) ≡ session.1 + total_weight sessions
@@ -25,13 +24,7 @@ module _ {T : Type 0} where
       total_weight-append (without sessions id) ((id, weight, payload) ∷ [])
       ∙ ap (λ w. total_weight (without sessions id) + w) (total_weight-last (id, weight, payload))
 
-  -- a session behind the others is the last, and the one of its id, where no other has it
-  pub last-append : (sessions : List (Session T)) (session : Session T) → last (sessions ++ session ∷ []) ≡ Some session
-  last-append sessions session =
-      let longer = length-append sessions (session ∷ []) in
-      let index : length (sessions ++ session ∷ []) - 1 ≡ length sessions = omega arith in
-      ap (slice_get (sessions ++ session ∷ [])) index ∙ slice_get-last sessions session
-
+  -- a session behind the others is the one of its id, where no other has it
   pub session_of-append : (sessions : List (Session T)) (session : Session T) → session_of sessions session.0 ≡ None → session_of (sessions ++ session ∷ []) session.0 ≡ Some session
   session_of-append sessions session none =
       find-append (λ (other : Session T). nat_eq session.0 other.0) sessions (session ∷ [])

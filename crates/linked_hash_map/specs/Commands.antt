@@ -1,5 +1,5 @@
 -- What commands answer and leave where nothing is refused, in the words of single calls.
-use Rattle.std.specs.Prelude.{◌≡◌, ℕ, ◌+◌, ◌-◌, max, Bool, true, false, cond, nat_lt, List, [], ◌∷◌, take, drop, length, slice_get, Option, Some, None, is_some}
+use Rattle.std.specs.Prelude.{ℕ, ◌+◌, ◌-◌, max, Bool, true, false, cond, nat_lt, List, [], ◌∷◌, take, drop, length, slice_get, Option, Some, None, is_some}
 use Rattle.linked_hash_map.specs.declared.map.TheConstants.{LIMIT}
 use Rattle.linked_hash_map.specs.declared.map.Mode.{Mode}
 use Rattle.linked_hash_map.specs.Pairs.{find, value_at, without, to_back, set_value, put}
@@ -35,16 +35,6 @@ module _ {K V : Type 0} where
   abbrev pub pair_or_empty : Option (K × V) → Answer K V
   pair_or_empty None = Empty
   pair_or_empty (Some pair) = Pair pair.0 pair.1
-
--- a key is absent, and there is no room for it
-pub record FindsNoRoom {K V : Type 0} (eq : K → K → Bool) (pairs : List (K × V)) (capacity : ℕ) (k : K) : Type 0 where
-  pub absent : find eq pairs k ≡ None
-  pub full : length pairs ≡ capacity
-
--- an extension in a mode stops: the first n items went in, and the next, of k and v, found no room
-pub record StopsAt {K V : Type 0} (eq : K → K → Bool) (mode : Mode) (pairs : List (K × V)) (capacity : ℕ) (items : List (K × V)) (n : ℕ) (k : K) (v : V) : Type 0 where
-  pub next : slice_get items n ≡ Some (k, v)
-  pub refused : FindsNoRoom eq (insert_each eq mode pairs (take n items)) (max capacity (length (insert_each eq mode pairs (take n items)))) k
 
 module _ {K V : Type 0} (eq : K → K → Bool) where
   -- the pairs, with that of k at the back where there is a value for it

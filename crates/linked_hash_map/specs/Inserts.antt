@@ -1,6 +1,6 @@
 -- Insertions one after another, and what an iterator gives.
 use Rattle.std.specs.Prelude.{◌≡◌, ℕ, ◌-◌, ◌<◌, ◌≤◌, ◌⊎◌, max, Bool, List, [], ◌∷◌, map, length, Option, Some}
-use Rattle.std.specs.Iterator.{Count, Drains, YieldsThen}
+use Rattle.std.specs.Iterator.{Count, UpTo, Drains, YieldsThen}
 use Rattle.std.specs.Iterator.SizeHint.{IsWithinCount}
 use Rattle.linked_hash_map.specs.Counts.{rechained_each}
 use Rattle.linked_hash_map.specs.declared.map.TheConstants.{LIMIT}
@@ -12,6 +12,10 @@ use Rattle.linked_hash_map.specs.declared.map.Mode.TheVariants.{Touch}
 abbrev pub insert_each : {K V : Type 0} → (K → K → Bool) → Mode → List (K × V) → List (K × V) → List (K × V)
 insert_each eq mode pairs [] = pairs
 insert_each eq mode pairs (item ∷ items) = insert_each eq mode (put eq mode pairs item.0 item.1) items
+
+-- whichever iterator it becomes, that has at most n items left
+abbrev pub GivesAtMost : {T I : Type 0} → (T → I → Type 0) → (I → Count) → T → ℕ → Type 0
+GivesAtMost {I = I} becomes remaining source n = (it : I) → becomes source it → UpTo (remaining it) n
 
 -- given what becomes an iterator, and the steps of that iterator
 module _ {T I X : Type 0} (becomes : T → I → Type 0) (steps : I → Option X → I → Type 0) (source : T) where

@@ -1,11 +1,11 @@
 //! Maps filled from an iterator.
-ghost use Rattle.std.specs.Prelude.{◌≡◌, ◌-◌, max, length, None, IfOk, IfErr, OnErr, OnOk, IsErrOf};
+ghost use Rattle.std.specs.Prelude.{◌≡◌, ℕ, ◌+◌, ◌-◌, ◌≤◌, max, length, None, IfOk, IfErr, OnErr, OnOk, IsOk, IsErrOf};
 ghost use Rattle.std.specs.Iterator.{IsFiniteIterable};
 ghost use Rattle.std.specs.Map.Iter.{deref_pair};
 ghost use Rattle.linked_hash_map.specs.Pairs.{find};
 ghost use Rattle.linked_hash_map.specs.Validity.{IsValid};
 ghost use Rattle.linked_hash_map.specs.Counts.{rechained_each};
-ghost use Rattle.linked_hash_map.specs.Inserts.{InsertsAll, InsertsUntil, Collects, HintsAboveLimit, NeedsRoom};
+ghost use Rattle.linked_hash_map.specs.Inserts.{GivesAtMost, InsertsAll, InsertsUntil, Collects, HintsAboveLimit, NeedsRoom};
 
 use crate::error::{Refused, ReserveError};
 use crate::map::{LinkedHashMap, Mode};
@@ -44,6 +44,10 @@ impl<K: Eq + Hash, V, S: BuildHasher> LinkedHashMap<K, V, S> {
         ensures stopped { IfErr result (λ refused. InsertsUntil I.into_iter_gives I.IntoIter.next_gives items K.eq (λ pair. pair) self.old.mode self.old.pairs self.new.pairs refused.key refused.value) }
         ensures absent { IfErr result (λ refused. find K.eq self.new.pairs refused.key ≡ None) }
         ensures full { OnErr result (length self.new.pairs ≡ self.new.capacity) }
+        // Consequences of `stopped`, `absent` and `full`, for the proofs of callers.
+        ensures new_key { IfErr result (λ refused. find K.eq self.old.pairs refused.key ≡ None) }
+        ensures succeeds { (n : ℕ) → GivesAtMost I.into_iter_gives I.IntoIter.remaining items n
+            → length self.old.pairs + n ≤ self.old.capacity → IsOk result }
     {
         // Shows that the map is valid if no item comes.
         let _len = self.len();
@@ -86,6 +90,10 @@ impl<K: Eq + Hash, V, S: BuildHasher> LinkedHashMap<K, V, S> {
         ensures stopped { IfErr result (λ refused. InsertsUntil I.into_iter_gives I.IntoIter.next_gives items K.eq deref_pair self.old.mode self.old.pairs self.new.pairs refused.key refused.value) }
         ensures absent { IfErr result (λ refused. find K.eq self.new.pairs refused.key ≡ None) }
         ensures full { OnErr result (length self.new.pairs ≡ self.new.capacity) }
+        // Consequences of `stopped`, `absent` and `full`, for the proofs of callers.
+        ensures new_key { IfErr result (λ refused. find K.eq self.old.pairs refused.key ≡ None) }
+        ensures succeeds { (n : ℕ) → GivesAtMost I.into_iter_gives I.IntoIter.remaining items n
+            → length self.old.pairs + n ≤ self.old.capacity → IsOk result }
     {
         // Shows that the map is valid if no item comes.
         let _len = self.len();

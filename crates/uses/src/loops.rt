@@ -86,6 +86,7 @@ pub fn take_all<K: Eq + Hash + Drop, V: Drop, S: BuildHasher>(
 
 /// Takes out each pair whose count is zero, and returns how many there were: a loop over a visit.
 /// The others keep their order.
+#[tactic(auto, using(linked_hash_map::proofs::Callers::Rules::visits))]
 pub fn take_out_zeros<K: Eq + Hash + Drop, S: BuildHasher>(
     counts: &mut LinkedHashMap<K, u64, S>,
 ) -> usize
@@ -203,6 +204,7 @@ pub fn leave_off_early(map: &mut LinkedHashMap<u64, u64>) -> usize
 
 /// Visits every pair, and takes it out, inserts a value, writes one in its place or leaves it, as
 /// its value says. Returns the keys visited: each once, in the order at the start.
+#[tactic(auto, using(linked_hash_map::proofs::Callers::Rules::visits))]
 pub fn visit_by_value(
     alloc: Global,
     map: &mut LinkedHashMap<u64, u64>,

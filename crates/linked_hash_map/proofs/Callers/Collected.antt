@@ -1,5 +1,5 @@
 -- For callers: insertions one after another.
-use Rattle.std.proofs.Common.{◌≡◌, ◌+◌, ◌≤◌, Bool, true, false, cond, not, ◌||◌, List, [], ◌∷◌, ◌++◌, length, filter, reverse, append_assoc, append-nil, Option, Some, None, is_some, true≢false, option_map, refl, sym, ap, ap₂, ◌∙◌, subst, arith}
+use Rattle.std.proofs.Common.{◌≡◌, ◌+◌, ◌≤◌, Bool, true, false, cond, not, ◌||◌, List, [], ◌∷◌, ◌++◌, length, filter, reverse, append_assoc, append-nil, Option, Some, None, is_some, true≢false, option_map, refl, sym, ap, ap₂, ◌∙◌, arith}
 use Rattle.std.specs.Option.{option_or}
 use Rattle.std.specs.List.{IsDistinct, AllByRecursion}
 use Rattle.std.specs.Map.{keys_of}
@@ -11,30 +11,19 @@ use Rattle.linked_hash_map.specs.declared.map.Mode.TheVariants.{Keep}
 use Rattle.linked_hash_map.specs.Pairs.{key_or, find, value_at, set_or_push, put}
 use Rattle.linked_hash_map.specs.Inserts.{insert_each}
 use Rattle.linked_hash_map.proofs.Lists.{by_last}
+use Rattle.linked_hash_map.proofs.LiveKeys.{none_is}
 use Rattle.linked_hash_map.proofs.Inserts.{insert_each-last, length-grows, length-put_most, distinct-put}
-use Rattle.linked_hash_map.proofs.Runs.{put_last, last_differs}
 use Rattle.linked_hash_map.proofs.Callers.Keys.{keys_of-set_or_push}
-use Rattle.linked_hash_map.proofs.Callers.Lookups.{lookup_entry-append, find-same, value_at-put, find-put, find-set_or_push_apart}
+use Rattle.linked_hash_map.proofs.Callers.Lookups.{value_at-put, find-put, find-set_or_push_apart}
 use Rattle.linked_hash_map.proofs.Callers.Turns.{find-others}
 -- keys that differ still do, and items with keys that differ, inserted into nothing, are the pairs
 pub use Rattle.linked_hash_map.proofs.Inserts.{distinct-insert_each, insert_each-distinct}
-
-stored_last : {K V : Type 0} (b : Bool) (item : K × V) (mine older : Option (K × V)) → option_map (λ (pair : K × V). pair.0) mine ≡ option_map (λ (pair : K × V). pair.0) older → option_map (λ (pair : K × V). pair.0) (cond b (Some (key_or item.0 mine, item.1)) mine) ≡ option_map (λ (pair : K × V). pair.0) (option_or older (cond b (Some item) None))
-stored_last true item None None same = refl
-stored_last true item None (Some h) same = absurd (true≢false (sym (ap is_some same)))
-stored_last true item (Some m) None same = absurd (true≢false (ap is_some same))
-stored_last true item (Some m) (Some h) same = same
-stored_last false item mine None same = same
-stored_last false item mine (Some h) same = same
 
 or-false : (b : Bool) → b ≡ (b || false)
 or-false true = refl
 or-false false = refl
 
 module _ {K V : Type 0} (eq : K → K → Bool) where
-  pub insert_each-nil : (mode : Mode) (pairs : List (K × V)) → insert_each eq mode pairs [] ≡ pairs
-  insert_each-nil mode pairs = refl
-
   -- one more item goes in last
   pub insert_each-snoc : (mode : Mode) (pairs items : List (K × V)) (item : K × V) → insert_each eq mode pairs (items ++ item ∷ []) ≡ put eq mode (insert_each eq mode pairs items) item.0 item.1
   insert_each-snoc mode pairs items item = insert_each-last eq mode pairs items item
@@ -72,6 +61,14 @@ module _ {K V : Type 0} {eq : K → K → Bool} (laws : IsEquivalence eq) where
       by_test true same false older = ap (λ b. is_some (cond b (Some (key_or item.0 (find eq pairs item.0), item.1)) (find eq pairs q)) || is_some (find eq items q)) same ∙ sym (ap (λ h. h || true) older)
       by_test false same h older = ap (λ b. is_some (cond b (Some (key_or item.0 (find eq pairs item.0), item.1)) (find eq pairs q)) || is_some (find eq items q)) same
 
+  -- so one that is absent then was absent
+  pub find-insert_each_absent : (mode : Mode) (pairs items : List (K × V)) (q : K) → find eq (insert_each eq mode pairs items) q ≡ None → find eq pairs q ≡ None
+  find-insert_each_absent mode pairs items q absent = none_is (find eq pairs q) (none_of (is_some (find eq pairs q)) (sym (is_some-insert_each mode pairs items q) ∙ ap is_some absent))
+    where
+      none_of : (b : Bool) → (b || is_some (find eq items q)) ≡ false → b ≡ false
+      none_of true h = absurd (true≢false h)
+      none_of false h = refl
+
   -- no pair goes, and one for each item comes at most
   pub length-insert_each_least : (mode : Mode) (pairs items : List (K × V)) → IsDistinct eq (keys_of pairs) → length pairs ≤ length (insert_each eq mode pairs items)
   length-insert_each_least mode pairs [] distinct = omega arith
@@ -86,31 +83,6 @@ module _ {K V : Type 0} {eq : K → K → Bool} (laws : IsEquivalence eq) where
       let rest = length-insert_each_most mode (put eq mode pairs item.0 item.1) items (distinct-put laws mode pairs item.0 item.1 distinct) in
       let most = length-put_most eq mode pairs item.0 item.1 in
       omega arith
-
-  -- new keys that differ go in behind the others, in order
-  pub insert_each-new : (mode : Mode) (pairs items : List (K × V)) → IsDistinct eq (keys_of (pairs ++ items)) → insert_each eq mode pairs items ≡ pairs ++ items
-  insert_each-new mode pairs = by_last (λ items. IsDistinct eq (keys_of (pairs ++ items)) → insert_each eq mode pairs items ≡ pairs ++ items)
-      (λ items item rest distinct.
-      let apart = last_differs laws (pairs ++ items) item (subst (λ es. IsDistinct eq (keys_of es)) (sym (append_assoc pairs items (item ∷ []))) distinct) in
-      insert_each-last eq mode pairs items item ∙ ap (λ es. put eq mode es item.0 item.1) (rest apart.0) ∙ put_last laws mode (pairs ++ items) item apart.1 ∙ append_assoc pairs items (item ∷ []))
-      (λ distinct. sym (append-nil pairs))
-
-  -- a key keeps its first stored key, be it that of a pair or of an item
-  pub stored-insert_each : (mode : Mode) (pairs items : List (K × V)) (q : K) → option_map (λ (pair : K × V). pair.0) (find eq (insert_each eq mode pairs items) q) ≡ option_map (λ (pair : K × V). pair.0) (find eq (pairs ++ items) q)
-  stored-insert_each mode pairs items q = by_last (λ items. option_map (λ (pair : K × V). pair.0) (find eq (insert_each eq mode pairs items) q) ≡ option_map (λ (pair : K × V). pair.0) (find eq (pairs ++ items) q))
-      (λ items item rest.
-      let before = insert_each eq mode pairs items in
-      ap (λ es. option_map (λ (pair : K × V). pair.0) (find eq es q)) (insert_each-last eq mode pairs items item)
-      ∙ ap (option_map (λ (pair : K × V). pair.0)) (find-put laws mode before item.0 item.1 q ∙ by_test before item (eq item.0 q) refl)
-      ∙ stored_last (eq item.0 q) item (find eq before q) (find eq (pairs ++ items) q) rest
-      ∙ ap (λ b. option_map (λ (pair : K × V). pair.0) (option_or (find eq (pairs ++ items) q) (cond b (Some item) None))) (laws.symm item.0 q)
-      ∙ ap (option_map (λ (pair : K × V). pair.0)) (sym (lookup_entry-append (eq q) (pairs ++ items) (item ∷ [])))
-      ∙ ap (λ es. option_map (λ (pair : K × V). pair.0) (find eq es q)) (append_assoc pairs items (item ∷ [])))
-      (sym (ap (λ es. option_map (λ (pair : K × V). pair.0) (find eq es q)) (append-nil pairs))) items
-    where
-      by_test : (before : List (K × V)) (item : K × V) (b : Bool) → eq item.0 q ≡ b → cond (eq item.0 q) (Some (key_or item.0 (find eq before item.0), item.1)) (find eq before q) ≡ cond (eq item.0 q) (Some (key_or item.0 (find eq before q), item.1)) (find eq before q)
-      by_test before item true same = ap (λ o. cond (eq item.0 q) (Some (key_or item.0 o, item.1)) (find eq before q)) (find-same laws before item.0 q same)
-      by_test before item false apart = ap (λ b. cond b (Some (key_or item.0 (find eq before item.0), item.1)) (find eq before q)) apart ∙ sym (ap (λ b. cond b (Some (key_or item.0 (find eq before q), item.1)) (find eq before q)) apart)
 
 -- items whose keys differ: a key has the value that came with it, or what it had
 module _ {K V : Type 0} {eq : K → K → Bool} (laws : IsEquivalence eq) (mode : Mode) where

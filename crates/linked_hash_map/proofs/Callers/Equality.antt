@@ -1,13 +1,13 @@
 -- For callers: what `==` of two maps says of their lists, and clones.
-use Rattle.std.proofs.Common.{◌≡◌, Bool, true, false, ◌&&◌, IsTrue, List, [], ◌∷◌, refl, sym, ap, ap₂, ◌∙◌, subst, true≢false}
+use Rattle.std.proofs.Common.{◌≡◌, Bool, true, false, ◌&&◌, refl, sym, ap, ap₂, subst, true≢false}
 use Rattle.std.specs.Bool.{Decides}
-use Rattle.std.specs.Cmp.{IsEquivalence, IsPartialEquivalence, and_per, on_per}
-use Rattle.std.specs.Cmp.Lexicographic.{pointwise, lists_per}
+use Rattle.std.specs.Cmp.{IsEquivalence}
+use Rattle.std.specs.Cmp.Lexicographic.{pointwise}
 use Rattle.std.proofs.lemmas.Slice.Eq.{slice_eq-Decides}
 use Rattle.std.proofs.lemmas.Map.Entries.{entries_from_clone}
 use Rattle.linked_hash_map.specs.LinkedMap.{LinkedMap}
 use Rattle.linked_hash_map.specs.Comparison.{same_pair}
-use Rattle.linked_hash_map.specs.Clones.{AreClones, IsClone}
+use Rattle.linked_hash_map.specs.Clones.{IsClone}
 
 module _ {K V : Type 0} {eq : K → K → Bool} {value_eq : V → V → Bool} where
   same_pair-Decides : ((a b : K) → Decides (eq a b) (a ≡ b)) → ((a b : V) → Decides (value_eq a b) (a ≡ b)) → (p q : K × V) → Decides (same_pair eq value_eq p q) (p ≡ q)
@@ -20,23 +20,6 @@ module _ {K V : Type 0} {eq : K → K → Bool} {value_eq : V → V → Bool} wh
   -- where `==` of keys and of values decides `≡`, that of maps decides it of their lists
   pub eq-Decides : ((a b : K) → Decides (eq a b) (a ≡ b)) → ((a b : V) → Decides (value_eq a b) (a ≡ b)) → {S : Type 0} (m n : LinkedMap K V S) (r : Bool) → r ≡ pointwise (same_pair eq value_eq) m.pairs n.pairs → Decides r (m.pairs ≡ n.pairs)
   eq-Decides keys values m n r told = slice_eq-Decides (same_pair-Decides keys values) m.pairs n.pairs r told
-
-  module _ {IsKeyClone : K → K → Type 0} {IsValueClone : V → V → Type 0} where
-    pointwise-clones : ((k clone : K) → IsKeyClone k clone → IsTrue (eq k clone)) → ((v clone : V) → IsValueClone v clone → IsTrue (value_eq v clone)) → (pairs clones : List (K × V)) → AreClones IsKeyClone IsValueClone pairs clones → pointwise (same_pair eq value_eq) pairs clones ≡ true
-    pointwise-clones keys values [] [] each = refl
-    pointwise-clones keys values [] (clone ∷ clones) each = absurd each
-    pointwise-clones keys values (pair ∷ pairs) [] each = absurd each
-    pointwise-clones keys values (pair ∷ pairs) (clone ∷ clones) each = ap₂ (λ a b. a && b) (ap₂ (λ a b. a && b) (keys pair.0 clone.0 each.0.0) (values pair.1 clone.1 each.0.1)) (pointwise-clones keys values pairs clones each.1)
-
-    -- a map equals its clone where keys and values equal theirs
-    pub eq-clone : ((k clone : K) → IsKeyClone k clone → IsTrue (eq k clone)) → ((v clone : V) → IsValueClone v clone → IsTrue (value_eq v clone)) → {S : Type 0} {IsHasherClone : S → S → Type 0} {m n : LinkedMap K V S} → IsClone eq IsKeyClone IsValueClone IsHasherClone m n → pointwise (same_pair eq value_eq) m.pairs n.pairs ≡ true
-    eq-clone keys values {m = m} {n = n} cloned = pointwise-clones keys values m.pairs n.pairs (cloned.in_order keys)
-
-    -- and the clone equals the map
-    pub clone-eq : IsPartialEquivalence eq → IsPartialEquivalence value_eq → ((k clone : K) → IsKeyClone k clone → IsTrue (eq k clone)) → ((v clone : V) → IsValueClone v clone → IsTrue (value_eq v clone)) → {S : Type 0} {IsHasherClone : S → S → Type 0} {m n : LinkedMap K V S} → IsClone eq IsKeyClone IsValueClone IsHasherClone m n → pointwise (same_pair eq value_eq) n.pairs m.pairs ≡ true
-    clone-eq key_laws value_laws keys values {m = m} {n = n} cloned =
-        (lists_per (and_per (on_per (λ (pair : K × V). pair.0) key_laws) (on_per (λ (pair : K × V). pair.1) value_laws))).symm n.pairs m.pairs
-        ∙ eq-clone keys values cloned
 
 -- where clones of keys and values are what they were made from, a clone has the same list
 pub pairs-clone : {K V S : Type 0} {eq : K → K → Bool} → IsEquivalence eq → {IsKeyClone : K → K → Type 0} {IsValueClone : V → V → Type 0} {IsHasherClone : S → S → Type 0} → ((k clone : K) → IsKeyClone k clone → clone ≡ k) → ((v clone : V) → IsValueClone v clone → clone ≡ v) → {m n : LinkedMap K V S} → IsClone eq IsKeyClone IsValueClone IsHasherClone m n → n.pairs ≡ m.pairs

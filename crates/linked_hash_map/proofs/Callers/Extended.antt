@@ -6,7 +6,7 @@ use Rattle.std.specs.Map.{keys_of}
 use Rattle.std.specs.Option.{option_or}
 use Rattle.std.specs.Map.Iter.{TakesFirst}
 use Rattle.std.specs.Cmp.{IsEquivalence}
-use Rattle.std.specs.Iterator.{Count, UpTo, at_most}
+use Rattle.std.specs.Iterator.{Count, at_most}
 use Rattle.std.specs.Vec.Iter.{into_iter_items, into_iter_len, into_iter_steps}
 use Rattle.std.proofs.lemmas.Iterator.{YieldsList}
 use Rattle.std.proofs.lemmas.Iterator.Consumers.{YieldsList-end, YieldsList-so_far, YieldsList-from_rest, nth_from_yields_List}
@@ -16,7 +16,7 @@ use Rattle.linked_hash_map.specs.Counts.{rechained_each}
 use Rattle.linked_hash_map.specs.declared.map.Mode.{Mode}
 use Rattle.linked_hash_map.specs.declared.map.Mode.TheVariants.{Touch, Keep}
 use Rattle.linked_hash_map.specs.Pairs.{find, value_at}
-use Rattle.linked_hash_map.specs.Inserts.{insert_each, InsertsAll, InsertsUntil, Collects}
+use Rattle.linked_hash_map.specs.Inserts.{insert_each, GivesAtMost, InsertsAll, InsertsUntil, Collects}
 use Rattle.linked_hash_map.proofs.Callers.Keys.{distinct-nil}
 use Rattle.linked_hash_map.proofs.Callers.Collected.{insert_each-distinct, length-insert_each_most, value_at-insert_each_distinct, keys_of-insert_each_keep}
 
@@ -49,7 +49,7 @@ module _ {T I K V : Type 0} {becomes : T → I → Type 0} {steps : I → Option
 
   -- if at most n items are left to come, it rehashed what growing to the capacity does, from room for
   -- at most n
-  pub rechained-Collects : Collects becomes steps source remaining eq pairs capacity rechained → (n : ℕ) → ((it : I) → becomes source it → UpTo (remaining it) n) → (lower : ℕ) × (lower ≤ n) × (rechained ≡ rechained_each 0 lower (capacity - lower))
+  pub rechained-Collects : Collects becomes steps source remaining eq pairs capacity rechained → (n : ℕ) → GivesAtMost becomes remaining source n → (lower : ℕ) × (lower ≤ n) × (rechained ≡ rechained_each 0 lower (capacity - lower))
   rechained-Collects collects n left =
       let bound = left collects.iterator collects.made in
       let lower = collects.hint bound.0 in
@@ -61,7 +61,7 @@ module _ {T I K V : Type 0} {becomes : T → I → Type 0} {steps : I → Option
     pairs-Collects each = pairs-InsertsAll (InsertsAll-Collects collects) each
 
     -- where no more items are left to come than come, the capacity is no more than the number of items
-    pub capacity-Collects : ((it : I) → becomes source it → YieldsList steps (λ pair. pair) it all) → ((it : I) → becomes source it → UpTo (remaining it) (length all)) → (length pairs ≤ capacity) × (capacity ≤ length all)
+    pub capacity-Collects : ((it : I) → becomes source it → YieldsList steps (λ pair. pair) it all) → GivesAtMost becomes remaining source (length all) → (length pairs ≤ capacity) × (capacity ≤ length all)
     capacity-Collects each left =
         let bound = left collects.iterator collects.made in
         let lower = collects.hint bound.0 in
@@ -74,7 +74,7 @@ module _ {T I K V : Type 0} {becomes : T → I → Type 0} {steps : I → Option
     pub pairs-Collects_distinct : IsDistinct eq (keys_of all) → ((it : I) → becomes source it → YieldsList steps (λ pair. pair) it all) → pairs ≡ all
     pairs-Collects_distinct distinct each = pairs-Collects each ∙ insert_each-distinct laws Touch all distinct
 
-    pub capacity-Collects_distinct : IsDistinct eq (keys_of all) → ((it : I) → becomes source it → YieldsList steps (λ pair. pair) it all) → ((it : I) → becomes source it → UpTo (remaining it) (length all)) → capacity ≡ length all
+    pub capacity-Collects_distinct : IsDistinct eq (keys_of all) → ((it : I) → becomes source it → YieldsList steps (λ pair. pair) it all) → GivesAtMost becomes remaining source (length all) → capacity ≡ length all
     capacity-Collects_distinct distinct each left =
         let bounds = capacity-Collects each left in
         let length_is = ap length (pairs-Collects_distinct distinct each) in
@@ -106,8 +106,8 @@ module _ {T Z K V : Type 0} (becomes : T → _ → Type 0) (source : T) (vec : V
   yields : (it : _) → becomes source it → YieldsList into_iter_steps (λ pair. pair) it (vec_items vec)
   yields it made = let told = is it made in YieldsList-from_vec {s = it} (vec_items vec) told.0 (omega (arith, told.1, vec.ok.0))
 
-  left : (it : _) → becomes source it → UpTo (at_most (into_iter_len it)) (length (vec_items vec))
-  left it made = let told = is it made in (tt, omega (arith, told.1, vec.ok.0))
+  pub GivesAtMost-vec : GivesAtMost becomes (λ it. at_most (into_iter_len it)) source (length (vec_items vec))
+  GivesAtMost-vec it made = let told = is it made in (tt, omega (arith, told.1, vec.ok.0))
 
 -- `extend` of a vector, and `from_iter` of one
 module _ {T Z K V : Type 0} {becomes : T → _ → Type 0} {source : T} {eq : K → K → Bool} (vec : Vec (K × V) Z) (is : (it : _) → becomes source it → (into_iter_items {X = K × V} {Z = Z} it ≡ vec_items vec) × (into_iter_len it ≡ vec_len vec)) where
@@ -125,9 +125,9 @@ module _ {T Z K V : Type 0} {becomes : T → _ → Type 0} {source : T} {eq : K 
       pairs-Collects_distinct_vec = pairs-Collects_vec ∙ insert_each-distinct laws Touch (vec_items vec) distinct
 
       pub capacity-Collects_distinct_vec : capacity ≡ length (vec_items vec)
-      capacity-Collects_distinct_vec = capacity-Collects_distinct laws collects distinct (yields becomes source vec is) (left becomes source vec is)
+      capacity-Collects_distinct_vec = capacity-Collects_distinct laws collects distinct (yields becomes source vec is) (GivesAtMost-vec becomes source vec is)
 
       pub rechained-Collects_distinct_vec : (lower : ℕ) × (lower ≤ length (vec_items vec)) × (rechained ≡ rechained_each 0 lower (length (vec_items vec) - lower))
       rechained-Collects_distinct_vec =
-          let counted = rechained-Collects collects (length (vec_items vec)) (left becomes source vec is) in
+          let counted = rechained-Collects collects (length (vec_items vec)) (GivesAtMost-vec becomes source vec is) in
           (counted.0, counted.1, counted.2 ∙ ap (λ room. rechained_each 0 counted.0 (room - counted.0)) capacity-Collects_distinct_vec)

@@ -1,18 +1,16 @@
 -- For callers: which pairs and keys there are after each call, and how many.
-use Rattle.std.proofs.Common.{◌≡◌, ℕ, zero, suc, ◌+◌, ◌-◌, ◌<◌, ◌≤◌, Bool, true, false, cond, not, ◌||◌, IsTrue, List, [], ◌∷◌, ◌++◌, length, take, drop, slice_get, filter, Option, Some, None, is_some, option_map, refl, sym, ap, ap₂, ◌∙◌, subst, true≢false, arith, length-append, length-drop}
+use Rattle.std.proofs.Common.{◌≡◌, ℕ, zero, suc, ◌+◌, ◌≤◌, Bool, true, false, cond, not, ◌||◌, IsTrue, List, [], ◌∷◌, ◌++◌, length, drop, filter, Option, Some, None, is_some, option_map, refl, sym, ap, ap₂, ◌∙◌, subst, true≢false, arith, length-append}
 use Rattle.std.specs.Option.{IsSome}
-use Rattle.std.specs.List.{IsDistinct, AllByRecursion, list_any}
+use Rattle.std.specs.List.{IsDistinct, list_any}
 use Rattle.std.specs.Map.{lookup_entry, keys_of}
 use Rattle.std.specs.Cmp.{IsEquivalence}
 use Rattle.std.proofs.lemmas.List.{map-append}
-use Rattle.std.proofs.lemmas.Map.Made.{IsDistinct-keys_filter}
 use Rattle.linked_hash_map.specs.declared.map.Mode.{Mode}
 use Rattle.linked_hash_map.specs.declared.map.Mode.TheVariants.{Touch, Keep}
-use Rattle.linked_hash_map.specs.Pairs.{key_or, find, value_at, without, to_back, set_value, set_or_push, set_if_some, set_values, put}
+use Rattle.linked_hash_map.specs.Pairs.{key_or, find, value_at, without, to_back, set_value, set_or_push, put}
 use Rattle.linked_hash_map.proofs.LiveKeys.{none_is}
 use Rattle.linked_hash_map.proofs.Callers.Lookups.{eq-stored}
 use Rattle.linked_hash_map.proofs.Pairs.{is_some-value_at, filter-none}
-use Rattle.linked_hash_map.proofs.Indexes.{slice_get-last}
 -- one pair fewer exactly where the key has one; one more exactly where it has none
 pub use Rattle.linked_hash_map.proofs.Pairs.{length-without, length-to_back, length-put}
 -- keys that differ still do after an insertion
@@ -63,14 +61,6 @@ module _ {K V : Type 0} (eq : K → K → Bool) (pairs : List (K × V)) (k : K) 
   pub set_or_push-present : (v : V) → IsSome (find eq pairs k) → set_or_push eq pairs k v ≡ set_value eq pairs k v
   set_or_push-present v found = ap (λ b. cond b (set_value eq pairs k v) (pairs ++ (k, v) ∷ [])) found
 
-  -- the pair that went in is the last
-  pub slice_get-to_back : (v : V) → slice_get (to_back eq pairs k v) (length (to_back eq pairs k v) - 1) ≡ Some (key_or k (find eq pairs k), v)
-  slice_get-to_back v =
-      let pair : K × V = (key_or k (find eq pairs k), v) in
-      let longer = length-append (without eq pairs k) (pair ∷ []) in
-      let index : length (to_back eq pairs k v) - 1 ≡ length (without eq pairs k) = omega arith in
-      ap (slice_get (to_back eq pairs k v)) index ∙ slice_get-last (without eq pairs k) pair
-
 -- the keys
 keys_of-filter : {K V : Type 0} (kept : K → Bool) (pairs : List (K × V)) → keys_of (filter (λ pair. kept pair.0) pairs) ≡ filter kept (keys_of pairs)
 keys_of-filter kept [] = refl
@@ -89,10 +79,6 @@ module _ {K V : Type 0} (eq : K → K → Bool) where
       map-append (λ (pair : K × V). pair.0) (without eq pairs k) ((key_or k (find eq pairs k), v) ∷ [])
       ∙ ap (λ ks. ks ++ key_or k (find eq pairs k) ∷ []) (keys_of-without pairs k)
 
-  pub keys_of-to_back_absent : (pairs : List (K × V)) (k : K) (v : V) → find eq pairs k ≡ None → keys_of (to_back eq pairs k v) ≡ keys_of pairs ++ k ∷ []
-  keys_of-to_back_absent pairs k v none =
-      ap keys_of (to_back-absent eq pairs k v none) ∙ map-append (λ (pair : K × V). pair.0) pairs ((k, v) ∷ [])
-
   -- where equality decides `≡`, the key that goes to the back is the key of the call
   pub keys_of-to_back_own : IsEquivalence eq → (pairs : List (K × V)) (k : K) → ((a b : K) → IsTrue (eq a b) → a ≡ b) → (v : V) → keys_of (to_back eq pairs k v) ≡ filter (λ j. not (eq k j)) (keys_of pairs) ++ k ∷ []
   keys_of-to_back_own laws pairs k decides v =
@@ -107,10 +93,6 @@ module _ {K V : Type 0} (eq : K → K → Bool) where
       by_test true = refl
       by_test false = refl
 
-  pub keys_of-set_if_some : (pairs : List (K × V)) (k : K) (o : Option V) → keys_of (set_if_some eq pairs k o) ≡ keys_of pairs
-  keys_of-set_if_some pairs k None = refl
-  keys_of-set_if_some pairs k (Some v) = keys_of-set_value pairs k v
-
   pub keys_of-set_or_push : (pairs : List (K × V)) (k : K) (v : V) → keys_of (set_or_push eq pairs k v) ≡ cond (is_some (find eq pairs k)) (keys_of pairs) (keys_of pairs ++ k ∷ [])
   keys_of-set_or_push pairs k v = by_test (is_some (find eq pairs k))
     where
@@ -118,31 +100,11 @@ module _ {K V : Type 0} (eq : K → K → Bool) where
       by_test true = keys_of-set_value pairs k v
       by_test false = map-append (λ (pair : K × V). pair.0) pairs ((k, v) ∷ [])
 
-module _ {K V : Type 0} where
-  pub keys_of-set_values : (pairs : List (K × V)) (vs : List V) → keys_of (set_values pairs vs) ≡ keys_of pairs
-  keys_of-set_values [] vs = refl
-  keys_of-set_values (pair ∷ pairs) [] = refl
-  keys_of-set_values (pair ∷ pairs) (v ∷ vs) = ap (λ ks. pair.0 ∷ ks) (keys_of-set_values pairs vs)
-
-  pub keys_of-take : (n : ℕ) (pairs : List (K × V)) → keys_of (take n pairs) ≡ take n (keys_of pairs)
-  keys_of-take zero pairs = refl
-  keys_of-take (suc n) [] = refl
-  keys_of-take (suc n) (pair ∷ pairs) = ap (λ ks. pair.0 ∷ ks) (keys_of-take n pairs)
-
-  pub keys_of-drop : (n : ℕ) (pairs : List (K × V)) → keys_of (drop n pairs) ≡ drop n (keys_of pairs)
-  keys_of-drop zero pairs = refl
-  keys_of-drop (suc n) [] = refl
-  keys_of-drop (suc n) (pair ∷ pairs) = keys_of-drop n pairs
-
 -- how many there are
 module _ {K V : Type 0} (eq : K → K → Bool) where
   pub length-set_value : (pairs : List (K × V)) (k : K) (v : V) → length (set_value eq pairs k v) ≡ length pairs
   length-set_value [] k v = refl
   length-set_value (pair ∷ pairs) k v = ap suc (length-set_value pairs k v)
-
-  pub length-set_if_some : (pairs : List (K × V)) (k : K) (o : Option V) → length (set_if_some eq pairs k o) ≡ length pairs
-  length-set_if_some pairs k None = refl
-  length-set_if_some pairs k (Some v) = length-set_value pairs k v
 
   pub length-set_or_push : (pairs : List (K × V)) (k : K) (v : V) → length (set_or_push eq pairs k v) ≡ cond (is_some (find eq pairs k)) (length pairs) (length pairs + 1)
   length-set_or_push pairs k v = by_test (is_some (find eq pairs k))
@@ -154,23 +116,12 @@ module _ {K V : Type 0} (eq : K → K → Bool) where
   pub length-without_absent : (pairs : List (K × V)) (k : K) → find eq pairs k ≡ None → length (without eq pairs k) ≡ length pairs
   length-without_absent pairs k none = ap length (without-absent eq pairs k none)
 
-  pub length-to_back_absent : (pairs : List (K × V)) (k : K) (v : V) → find eq pairs k ≡ None → length (to_back eq pairs k v) ≡ length pairs + 1
-  length-to_back_absent pairs k v none =
-      let pushed = ap length (to_back-absent eq pairs k v none) in
-      let longer = length-append pairs ((k, v) ∷ []) in
-      omega arith
-
   -- in either mode
   pub length-put_absent : (mode : Mode) (pairs : List (K × V)) (k : K) (v : V) → find eq pairs k ≡ None → length (put eq mode pairs k v) ≡ length pairs + 1
   length-put_absent mode pairs k v none =
       let pushed = ap length (put-absent eq pairs k mode v none) in
       let longer = length-append pairs ((k, v) ∷ []) in
       omega arith
-
-pub length-set_values : {K V : Type 0} (pairs : List (K × V)) (vs : List V) → length (set_values pairs vs) ≡ length pairs
-length-set_values [] vs = refl
-length-set_values (pair ∷ pairs) [] = refl
-length-set_values (pair ∷ pairs) (v ∷ vs) = ap suc (length-set_values pairs vs)
 
 module _ {K V : Type 0} {eq : K → K → Bool} (laws : IsEquivalence eq) (pairs : List (K × V)) (k : K) (distinct : IsDistinct eq (keys_of pairs)) (found : IsSome (find eq pairs k)) where
   pub length-without_present : length (without eq pairs k) + 1 ≡ length pairs
@@ -187,52 +138,16 @@ most : (b : Bool) (n length_after : ℕ) → length_after ≡ cond b n (n + 1) �
 most true n length_after h = omega arith
 most false n length_after h = omega arith
 
-pub length-to_back_most : {K V : Type 0} {eq : K → K → Bool} → IsEquivalence eq → (pairs : List (K × V)) (k : K) (v : V) → IsDistinct eq (keys_of pairs) → length (to_back eq pairs k v) ≤ length pairs + 1
-length-to_back_most {eq = eq} laws pairs k v distinct = most (is_some (find eq pairs k)) (length pairs) (length (to_back eq pairs k v)) (length-to_back laws pairs k v distinct)
-
 pub length-set_or_push_most : {K V : Type 0} (eq : K → K → Bool) (pairs : List (K × V)) (k : K) (v : V) → length (set_or_push eq pairs k v) ≤ length pairs + 1
 length-set_or_push_most eq pairs k v = most (is_some (find eq pairs k)) (length pairs) (length (set_or_push eq pairs k v)) (length-set_or_push eq pairs k v)
-
--- keys that differ still do
-all_take : {K : Type 0} (P : K → Type 0) (n : ℕ) (ks : List K) → AllByRecursion P ks → AllByRecursion P (take n ks)
-all_take P zero ks all = tt
-all_take P (suc n) [] all = tt
-all_take P (suc n) (k ∷ ks) all = (all.0, all_take P n ks all.1)
-
-distinct_take : {K : Type 0} (eq : K → K → Bool) (n : ℕ) (ks : List K) → IsDistinct eq ks → IsDistinct eq (take n ks)
-unfolding IsDistinct
-distinct_take eq zero ks distinct = tt
-distinct_take eq (suc n) [] distinct = tt
-distinct_take eq (suc n) (k ∷ ks) distinct = (all_take (λ j. eq k j ≡ false) n ks distinct.0, distinct_take eq n ks distinct.1)
-
-distinct_drop : {K : Type 0} (eq : K → K → Bool) (n : ℕ) (ks : List K) → IsDistinct eq ks → IsDistinct eq (drop n ks)
-unfolding IsDistinct
-distinct_drop eq zero ks distinct = distinct
-distinct_drop eq (suc n) [] distinct = tt
-distinct_drop eq (suc n) (k ∷ ks) distinct = distinct_drop eq n ks distinct.1
 
 pub distinct-nil : {K : Type 0} (V : Type 0) (eq : K → K → Bool) → IsDistinct eq (keys_of {X = V} [])
 unfolding IsDistinct
 distinct-nil V eq = tt
 
 module _ {K V : Type 0} (eq : K → K → Bool) (pairs : List (K × V)) (distinct : IsDistinct eq (keys_of pairs)) where
-  pub distinct-without : (k : K) → IsDistinct eq (keys_of (without eq pairs k))
-  distinct-without k = IsDistinct-keys_filter eq (λ pair. not (eq k pair.0)) pairs distinct
-
   pub distinct-set_value : (k : K) (v : V) → IsDistinct eq (keys_of (set_value eq pairs k v))
   distinct-set_value k v = subst (IsDistinct eq) (sym (keys_of-set_value eq pairs k v)) distinct
-
-  pub distinct-set_if_some : (k : K) (o : Option V) → IsDistinct eq (keys_of (set_if_some eq pairs k o))
-  distinct-set_if_some k o = subst (IsDistinct eq) (sym (keys_of-set_if_some eq pairs k o)) distinct
-
-  pub distinct-set_values : (vs : List V) → IsDistinct eq (keys_of (set_values pairs vs))
-  distinct-set_values vs = subst (IsDistinct eq) (sym (keys_of-set_values pairs vs)) distinct
-
-  pub distinct-take : (n : ℕ) → IsDistinct eq (keys_of (take n pairs))
-  distinct-take n = subst (IsDistinct eq) (sym (keys_of-take n pairs)) (distinct_take eq n (keys_of pairs) distinct)
-
-  pub distinct-drop : (n : ℕ) → IsDistinct eq (keys_of (drop n pairs))
-  distinct-drop n = subst (IsDistinct eq) (sym (keys_of-drop n pairs)) (distinct_drop eq n (keys_of pairs) distinct)
 
 pub distinct-set_or_push : {K V : Type 0} {eq : K → K → Bool} → IsEquivalence eq → (pairs : List (K × V)) (k : K) (v : V) → IsDistinct eq (keys_of pairs) → IsDistinct eq (keys_of (set_or_push eq pairs k v))
 distinct-set_or_push {K} {V} {eq} laws pairs k v distinct = by_pair (find eq pairs k) refl
@@ -254,21 +169,3 @@ find_drop test (suc n) (pair ∷ pairs) none = find_drop test n pairs (by_test (
 module _ {K V : Type 0} (eq : K → K → Bool) (pairs : List (K × V)) (k : K) (absent : find eq pairs k ≡ None) where
   pub find-drop : (n : ℕ) → find eq (drop n pairs) k ≡ None
   find-drop n = find_drop (eq k) n pairs absent
-
-  pub to_back-drop : (n : ℕ) (v : V) → to_back eq (drop n pairs) k v ≡ drop n pairs ++ (k, v) ∷ []
-  to_back-drop n v = to_back-absent eq (drop n pairs) k v (find-drop n)
-
-  pub length-to_back_drop : (v : V) → 0 < length pairs → length (to_back eq (drop 1 pairs) k v) ≡ length pairs
-  length-to_back_drop v some =
-      let pushed = length-to_back_absent eq (drop 1 pairs) k v (find-drop 1) in
-      let fewer = length-drop 1 pairs in
-      omega arith
-
-  pub put-drop : (mode : Mode) (n : ℕ) (v : V) → put eq mode (drop n pairs) k v ≡ drop n pairs ++ (k, v) ∷ []
-  put-drop mode n v = put-absent eq (drop n pairs) k mode v (find-drop n)
-
-  pub length-put_drop : (mode : Mode) (v : V) → 0 < length pairs → length (put eq mode (drop 1 pairs) k v) ≡ length pairs
-  length-put_drop mode v some =
-      let pushed = length-put_absent eq mode (drop 1 pairs) k v (find-drop 1) in
-      let fewer = length-drop 1 pairs in
-      omega arith

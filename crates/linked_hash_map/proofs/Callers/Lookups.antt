@@ -1,18 +1,25 @@
 -- For callers: what a map has at a key after each call.
-use Rattle.std.proofs.Common.{◌≡◌, ◌-◌, Bool, true, false, cond, not, List, [], ◌∷◌, ◌++◌, length, take, drop, remove, slice_get, filter, Option, Some, None, is_some, option_map, refl, sym, ap, ◌∙◌, true≢false}
+use Rattle.std.proofs.Common.{◌≡◌, ◌-◌, Bool, true, false, cond, not, List, [], ◌∷◌, ◌++◌, length, length-append, take, drop, remove, slice_get, filter, Option, Some, None, is_some, option_map, refl, sym, ap, ◌∙◌, true≢false, arith}
 use Rattle.std.specs.List.{IsDistinct}
-use Rattle.std.specs.Option.{option_or, IsSome}
+use Rattle.std.specs.Option.{option_or}
 use Rattle.std.specs.Map.{lookup_entry, keys_of}
 use Rattle.std.specs.Cmp.{IsEquivalence}
 use Rattle.linked_hash_map.specs.declared.map.Mode.{Mode}
 use Rattle.linked_hash_map.specs.declared.map.Mode.TheVariants.{Touch, Keep}
-use Rattle.linked_hash_map.specs.Pairs.{key_or, find, value_at, without, to_back, set_value, set_or_push, set_if_some, put}
+use Rattle.linked_hash_map.specs.Pairs.{last, key_or, find, value_at, without, to_back, set_value, set_or_push, put}
 use Rattle.linked_hash_map.proofs.Lists.{option_or_none}
-use Rattle.linked_hash_map.proofs.LiveKeys.{same_test, none_is}
+use Rattle.linked_hash_map.proofs.LiveKeys.{same_test}
 use Rattle.linked_hash_map.proofs.Effects.{remove-last}
-use Rattle.linked_hash_map.proofs.Indexes.{find-own, without-own}
+use Rattle.linked_hash_map.proofs.Indexes.{without-own, slice_get-last}
 -- a key has a value exactly where it has a pair
 pub use Rattle.linked_hash_map.proofs.Pairs.{is_some-value_at}
+
+-- what stands behind the others is the last
+pub last-append : {X : Type 0} (xs : List X) (x : X) → last (xs ++ x ∷ []) ≡ Some x
+last-append xs x =
+    let longer = length-append xs (x ∷ []) in
+    let index : length (xs ++ x ∷ []) - 1 ≡ length xs = omega arith in
+    ap (slice_get (xs ++ x ∷ [])) index ∙ slice_get-last xs x
 
 cond-none : {X : Type 0} (b : Bool) (x : Option X) → cond (not b) x None ≡ cond b None x
 cond-none true x = refl
@@ -148,16 +155,6 @@ module _ {K V : Type 0} {eq : K → K → Bool} (laws : IsEquivalence eq) where
       ap (option_map (λ pair. pair.1)) (find-to_back pairs k v q)
       ∙ option_map-cond (λ pair. pair.1) (eq k q) (Some (key_or k (find eq pairs k), v)) (find eq pairs q)
 
-  pub value_at-set_value : (pairs : List (K × V)) (k : K) (v : V) (q : K) → value_at eq (set_value eq pairs k v) q ≡ cond (eq k q) (option_map (λ w. v) (value_at eq pairs q)) (value_at eq pairs q)
-  value_at-set_value pairs k v q =
-      ap (option_map (λ (pair : K × V). pair.1)) (find-set_value pairs k v q)
-      ∙ option_map-cond (λ (pair : K × V). pair.1) (eq k q) (option_map (λ pair. (pair.0, v)) (find eq pairs q)) (find eq pairs q)
-      ∙ ap (λ o. cond (eq k q) o (value_at eq pairs q)) (by_pair (find eq pairs q))
-    where
-      by_pair : (o : Option (K × V)) → option_map (λ (pair : K × V). pair.1) (option_map (λ pair. (pair.0, v)) o) ≡ option_map (λ w. v) (option_map (λ (pair : K × V). pair.1) o)
-      by_pair None = refl
-      by_pair (Some pair) = refl
-
   pub value_at-set_or_push : (pairs : List (K × V)) (k : K) (v : V) (q : K) → value_at eq (set_or_push eq pairs k v) q ≡ cond (eq k q) (Some v) (value_at eq pairs q)
   value_at-set_or_push pairs k v q =
       ap (option_map (λ pair. pair.1)) (find-set_or_push pairs k v q)
@@ -178,17 +175,6 @@ module _ {K V : Type 0} {eq : K → K → Bool} (laws : IsEquivalence eq) where
     pub value_at-to_back_here : (v : V) → value_at eq (to_back eq pairs k v) k ≡ Some v
     value_at-to_back_here v = value_at-to_back pairs k v k ∙ ap (λ b. cond b (Some v) (value_at eq pairs k)) (laws.refl k)
 
-    -- of a key that is present
-    pub value_at-set_value_here : (v : V) → IsSome (find eq pairs k) → value_at eq (set_value eq pairs k v) k ≡ Some v
-    value_at-set_value_here v found =
-        value_at-set_value pairs k v k
-        ∙ ap (λ b. cond b (option_map (λ w. v) (value_at eq pairs k)) (value_at eq pairs k)) (laws.refl k)
-        ∙ by_pair (find eq pairs k) found
-      where
-        by_pair : (o : Option (K × V)) → is_some o ≡ true → option_map (λ w. v) (option_map (λ pair. pair.1) o) ≡ Some v
-        by_pair None found = absurd (true≢false (sym found))
-        by_pair (Some pair) found = refl
-
     pub value_at-set_or_push_here : (v : V) → value_at eq (set_or_push eq pairs k v) k ≡ Some v
     value_at-set_or_push_here v = value_at-set_or_push pairs k v k ∙ ap (λ b. cond b (Some v) (value_at eq pairs k)) (laws.refl k)
 
@@ -196,30 +182,13 @@ module _ {K V : Type 0} {eq : K → K → Bool} (laws : IsEquivalence eq) where
     value_at-put_here Touch v = value_at-to_back_here v
     value_at-put_here Keep v = value_at-set_or_push_here v
 
-    -- where there is a value to set exactly if the key has one, as after `and_modify`
-    pub value_at-set_if_some_here : (o : Option V) → is_some o ≡ is_some (find eq pairs k) → value_at eq (set_if_some eq pairs k o) k ≡ o
-    value_at-set_if_some_here None same = ap (option_map (λ pair. pair.1)) (none_is (find eq pairs k) (sym same))
-    value_at-set_if_some_here (Some v) same = value_at-set_value_here v (sym same)
-
   -- at another key
   module _ (pairs : List (K × V)) (k q : K) (apart : eq k q ≡ false) where
     pub value_at-without_apart : value_at eq (without eq pairs k) q ≡ value_at eq pairs q
     value_at-without_apart = value_at-without pairs k q ∙ ap (λ b. cond b None (value_at eq pairs q)) apart
 
-    pub find-without_apart : find eq (without eq pairs k) q ≡ find eq pairs q
-    find-without_apart = find-without pairs k q ∙ ap (λ b. cond b None (find eq pairs q)) apart
-
     pub value_at-to_back_apart : (v : V) → value_at eq (to_back eq pairs k v) q ≡ value_at eq pairs q
     value_at-to_back_apart v = value_at-to_back pairs k v q ∙ ap (λ b. cond b (Some v) (value_at eq pairs q)) apart
-
-    pub find-to_back_apart : (v : V) → find eq (to_back eq pairs k v) q ≡ find eq pairs q
-    find-to_back_apart v = find-to_back pairs k v q ∙ ap (λ b. cond b (Some (key_or k (find eq pairs k), v)) (find eq pairs q)) apart
-
-    pub value_at-set_value_apart : (v : V) → value_at eq (set_value eq pairs k v) q ≡ value_at eq pairs q
-    value_at-set_value_apart v = value_at-set_value pairs k v q ∙ ap (λ b. cond b (option_map (λ w. v) (value_at eq pairs q)) (value_at eq pairs q)) apart
-
-    pub find-set_value_apart : (v : V) → find eq (set_value eq pairs k v) q ≡ find eq pairs q
-    find-set_value_apart v = find-set_value pairs k v q ∙ ap (λ b. cond b (option_map (λ pair. (pair.0, v)) (find eq pairs q)) (find eq pairs q)) apart
 
     pub value_at-set_or_push_apart : (v : V) → value_at eq (set_or_push eq pairs k v) q ≡ value_at eq pairs q
     value_at-set_or_push_apart v = value_at-set_or_push pairs k v q ∙ ap (λ b. cond b (Some v) (value_at eq pairs q)) apart
@@ -231,14 +200,6 @@ module _ {K V : Type 0} {eq : K → K → Bool} (laws : IsEquivalence eq) where
     value_at-put_apart Touch v = value_at-to_back_apart v
     value_at-put_apart Keep v = value_at-set_or_push_apart v
 
-    pub find-put_apart : (mode : Mode) (v : V) → find eq (put eq mode pairs k v) q ≡ find eq pairs q
-    find-put_apart Touch v = find-to_back_apart v
-    find-put_apart Keep v = find-set_or_push_apart v
-
-    pub value_at-set_if_some_apart : (o : Option V) → value_at eq (set_if_some eq pairs k o) q ≡ value_at eq pairs q
-    value_at-set_if_some_apart None = refl
-    value_at-set_if_some_apart (Some v) = value_at-set_value_apart v
-
   -- where the keys differ, a pop takes out what the first or the last key has, as `remove` of that key does
   module _ (pairs : List (K × V)) (distinct : IsDistinct eq (keys_of pairs)) (pair : K × V) where
     pub drop-first : slice_get pairs 0 ≡ Some pair → drop 1 pairs ≡ without eq pairs pair.0
@@ -246,20 +207,3 @@ module _ {K V : Type 0} {eq : K → K → Bool} (laws : IsEquivalence eq) where
 
     pub take-but_last : slice_get pairs (length pairs - 1) ≡ Some pair → take (length pairs - 1) pairs ≡ without eq pairs pair.0
     take-but_last there = sym (remove-last pairs) ∙ sym (without-own laws pairs distinct (length pairs - 1) pair there)
-
-    pub value_at-drop_first : slice_get pairs 0 ≡ Some pair → (q : K) → value_at eq (drop 1 pairs) q ≡ cond (eq pair.0 q) None (value_at eq pairs q)
-    value_at-drop_first there q = ap (λ ps. value_at eq ps q) (drop-first there) ∙ value_at-without pairs pair.0 q
-
-    pub value_at-take_but_last : slice_get pairs (length pairs - 1) ≡ Some pair → (q : K) → value_at eq (take (length pairs - 1) pairs) q ≡ cond (eq pair.0 q) None (value_at eq pairs q)
-    value_at-take_but_last there q = ap (λ ps. value_at eq ps q) (take-but_last there) ∙ value_at-without pairs pair.0 q
-
-    -- with a new key in place of the oldest
-    pub value_at-to_back_drop : slice_get pairs 0 ≡ Some pair → (k : K) (v : V) (q : K) → value_at eq (to_back eq (drop 1 pairs) k v) q ≡ cond (eq k q) (Some v) (cond (eq pair.0 q) None (value_at eq pairs q))
-    value_at-to_back_drop there k v q = value_at-to_back (drop 1 pairs) k v q ∙ ap (cond (eq k q) (Some v)) (value_at-drop_first there q)
-
-    -- the first pair and the last are what their keys have
-    pub value_at-first : slice_get pairs 0 ≡ Some pair → value_at eq pairs pair.0 ≡ Some pair.1
-    value_at-first there = ap (option_map (λ p. p.1)) (find-own laws pairs distinct 0 pair there)
-
-    pub value_at-last : slice_get pairs (length pairs - 1) ≡ Some pair → value_at eq pairs pair.0 ≡ Some pair.1
-    value_at-last there = ap (option_map (λ p. p.1)) (find-own laws pairs distinct (length pairs - 1) pair there)

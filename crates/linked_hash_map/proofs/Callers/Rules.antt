@@ -12,6 +12,7 @@ use Rattle.linked_hash_map.proofs.Callers.Keys.{find-absent, find-drop, value_at
 use Rattle.linked_hash_map.proofs.Callers.Counted.{count_by-set_or_push, count-lt-length, keys_of-set_or_push_first_seen}
 use Rattle.linked_hash_map.proofs.Callers.Dense.{values_of_dense_push, value_at_dense_each}
 use Rattle.linked_hash_map.proofs.Callers.Turns.{cons-keys_of_first}
+use Rattle.linked_hash_map.proofs.Callers.Visits.{VisitKeeps-passed, VisitKeeps-removed, append-visited}
 
 -- a key that is absent is absent among the others, once the first pairs went
 pub value_at-drop_absent : {K V : Type 0} (eq : K → K → Bool) (n : ℕ) (pairs : List (K × V)) (k : K) → is_some (find eq pairs k) ≡ false → value_at eq (drop n pairs) k ≡ None
@@ -38,6 +39,9 @@ pub ruleset number_keys = (keys_of-put_number, length-put_number, cons-keys_of_f
 pub ruleset string_keys = (length-put_text, cons-keys_of_first)
 
 pub ruleset any_keys = (value_at-drop_absent, value_at-drop_none, length-put_most)
+
+-- a visit that keeps some pairs and takes the others out, and one that lists the keys that it visits
+pub ruleset visits = (VisitKeeps-passed, VisitKeeps-removed, append-visited)
 
 -- maps that number their keys from 0 on
 pub ruleset dense = (values_of_dense_push, value_at_dense_each)

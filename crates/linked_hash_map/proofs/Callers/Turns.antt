@@ -1,11 +1,10 @@
 -- For callers: the first pair taken out and put back behind the others, and turns of this kind one after another.
-use Rattle.std.proofs.Common.{◌≡◌, ℕ, ◌+◌, ◌<◌, Bool, true, false, cond, List, [], ◌∷◌, ◌++◌, length, take, drop, map, get_or, append_assoc, append-nil, subst, Option, Some, None, is_some, true≢false, refl, sym, ap, ap₂, ◌∙◌}
+use Rattle.std.proofs.Common.{◌≡◌, ℕ, ◌+◌, ◌<◌, Bool, true, false, cond, List, [], ◌∷◌, ◌++◌, length, take, drop, map, get_or, append_assoc, subst, Option, Some, None, is_some, true≢false, refl, sym, ap, ap₂, ◌∙◌}
 use Rattle.std.specs.Option.{option_or}
 use Rattle.std.specs.List.{IsDistinct}
 use Rattle.std.specs.Map.{keys_of}
 use Rattle.std.specs.Cmp.{IsEquivalence}
 use Rattle.std.proofs.lemmas.List.{drop_more, take_more, map-append}
-use Rattle.std.proofs.Math.Seq.{drop-length, take-length}
 use Rattle.linked_hash_map.specs.Pairs.{find, put, first, without_first}
 use Rattle.linked_hash_map.specs.declared.map.Mode.{Mode}
 use Rattle.linked_hash_map.proofs.Callers.Lookups.{lookup_entry-append, find-same, find-without_here, drop-first}
@@ -40,15 +39,6 @@ module _ {K V : Type 0} {eq : K → K → Bool} (laws : IsEquivalence eq) where
 pub record IsRenaming {K V : Type 0} (eq : K → K → Bool) (from to : K) (old now : List (K × V)) (turns : ℕ) : Type 0 where
   pub list : now ≡ drop turns old ++ map (λ pair. cond (eq from pair.0) (to, pair.1) pair) (take turns old)
   pub free : is_some (find eq now from) ≡ true → find eq now to ≡ None
-
-module _ {K V : Type 0} {eq : K → K → Bool} (from to : K) where
-  pub IsRenaming-start : (old : List (K × V)) → find eq old to ≡ None → IsRenaming eq from to old old 0
-  IsRenaming-start old none = record { list = sym (append-nil old); free = λ found. none }
-
-  pub IsRenaming-end : (old now : List (K × V)) (turns : ℕ) → IsRenaming eq from to old now turns → turns ≡ length old → now ≡ map (λ pair. cond (eq from pair.0) (to, pair.1) pair) old
-  IsRenaming-end old now turns w all =
-      w.list ∙ ap (λ n. drop n old ++ map (λ (pair : K × V). cond (eq from pair.0) (to, pair.1) pair) (take n old)) all
-      ∙ ap₂ (λ xs ys. xs ++ map (λ (pair : K × V). cond (eq from pair.0) (to, pair.1) pair) ys) (drop-length old) (take-length old)
 
 module _ {K V : Type 0} {eq : K → K → Bool} (laws : IsEquivalence eq) (from to : K) where
   -- the new name is free for the pair that takes it, and the old name is gone then

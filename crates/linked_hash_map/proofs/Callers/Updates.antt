@@ -4,9 +4,9 @@ use Rattle.std.specs.Cmp.{IsEquivalence}
 use Rattle.std.specs.List.{IsDistinct}
 use Rattle.std.specs.Map.{keys_of}
 use Rattle.linked_hash_map.specs.declared.map.Mode.{Mode}
-use Rattle.linked_hash_map.specs.Pairs.{find, value_at, put, to_back, without, set_or_push}
+use Rattle.linked_hash_map.specs.Pairs.{find, value_at, put, without, set_or_push}
 use Rattle.linked_hash_map.specs.Updates.{Updates}
-use Rattle.linked_hash_map.proofs.Callers.Lookups.{value_at-put_here, value_at-put_apart, value_at-to_back_here, value_at-to_back_apart, value_at-without_here, value_at-without_apart, value_at-set_or_push_here, value_at-set_or_push_apart, drop-first, take-but_last}
+use Rattle.linked_hash_map.proofs.Callers.Lookups.{value_at-put_here, value_at-put_apart, value_at-without_here, value_at-without_apart, value_at-set_or_push_here, value_at-set_or_push_apart, drop-first, take-but_last}
 use Rattle.linked_hash_map.proofs.Callers.Keys.{length-put_absent, length-put_present}
 
 -- an insertion of a key that is present, or that has room, leaves the capacity
@@ -29,12 +29,6 @@ module _ {K V : Type 0} {eq : K → K → Bool} (laws : IsEquivalence eq) (befor
     Updates-put mode is = record {
       here = ap (λ pairs. value_at eq pairs k) is ∙ value_at-put_here laws before k mode v;
       others = λ q apart. ap (λ pairs. value_at eq pairs q) is ∙ value_at-put_apart laws before k q apart mode v;
-    }
-
-    pub Updates-to_back : after ≡ to_back eq before k v → Updates eq before after k (Some v)
-    Updates-to_back is = record {
-      here = ap (λ pairs. value_at eq pairs k) is ∙ value_at-to_back_here laws before k v;
-      others = λ q apart. ap (λ pairs. value_at eq pairs q) is ∙ value_at-to_back_apart laws before k q apart v;
     }
 
     pub Updates-set_or_push : after ≡ set_or_push eq before k v → Updates eq before after k (Some v)

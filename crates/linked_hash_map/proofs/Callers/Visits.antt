@@ -75,21 +75,6 @@ pub append-visited : {X : Type 0} (seen later : List X) {now left rest keys : Li
 append-visited seen later {key = key} grown is visits stays all =
     (λ i. grown i ++ stays i) ∙ append_assoc seen (_ ∷ []) later ∙ ap (λ k. seen ++ k ∷ later) is ∙ ap (λ keys. seen ++ keys) (sym visits) ∙ all
 
--- at the start every pair is still to visit
-pub VisitKeeps-start : {K V : Type 0} (keeps : K × V → Bool) (pairs : List (K × V)) → VisitKeeps keeps pairs pairs (keys_of pairs)
-VisitKeeps-start keeps pairs = record { passed = []; rest = pairs; start_is = refl; now_is = refl; left_is = refl }
-
--- in the end there are the pairs that are kept, in their order
-none_left : {K V : Type 0} (rest : List (K × V)) → [] ≡ keys_of rest → rest ≡ []
-none_left [] h = refl
-none_left (pair ∷ rest) h = absurd (let no : [] ≡ pair.0 ∷ keys_of rest = h in cc)
-
-pub VisitKeeps-end : {K V : Type 0} {keeps : K × V → Bool} {start now : List (K × V)} → VisitKeeps keeps start now [] → now ≡ filter keeps start
-VisitKeeps-end {keeps = keeps} w =
-    let empty = none_left w.rest w.left_is in
-    w.now_is ∙ ap (λ r. filter keeps w.passed ++ r) empty ∙ append-nil (filter keeps w.passed)
-    ∙ ap (filter keeps) (sym (append-nil w.passed) ∙ ap (λ r. w.passed ++ r) (sym empty) ∙ sym w.start_is)
-
 -- a step of the loop, as the clauses of `next_entry` and of the entry's calls say it
 module _ {K V : Type 0} {eq : K → K → Bool} (laws : IsEquivalence eq) {keeps : K × V → Bool} {start now pairs : List (K × V)} {k : K} {to_come left : List K} {v : V}
     (w : VisitKeeps keeps start now to_come) (visits : to_come ≡ k ∷ left) (distinct : IsDistinct eq (keys_of now)) (has : value_at eq now k ≡ Some v) (same : pairs ≡ now) where

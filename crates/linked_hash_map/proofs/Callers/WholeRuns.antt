@@ -6,7 +6,7 @@ use Rattle.std.specs.Cmp.{IsEquivalence}
 use Rattle.linked_hash_map.specs.declared.map.Mode.{Mode}
 use Rattle.linked_hash_map.specs.LinkedMap.{LinkedMap}
 use Rattle.linked_hash_map.specs.Validity.{IsValid}
-use Rattle.linked_hash_map.specs.Log.{Log, mode, pairs, Defines}
+use Rattle.linked_hash_map.specs.Log.{Log, mode, Defines}
 use Rattle.linked_hash_map.specs.Run.{first_log, log_after, last_log, IsReply, IsRun}
 use Rattle.linked_hash_map.specs.Commands.{is_refusal, pairs_after, capacity_after, mode_after, mode_after_all, reply_to, replies_to, pairs_after_all, capacity_after_all}
 use Rattle.linked_hash_map.specs.declared.replay.Command.{Command}
@@ -107,16 +107,6 @@ module _ {K V S : Type 0} {eq : K → K → Bool} (laws : IsEquivalence eq) {old
       replayed.pairs
       ∙ (Defines-given laws old.capacity commands replies (first_log old.mode old.pairs) old.pairs old.capacity old.mode (Defines-first laws valid) replayed.run given).same_pairs
 
-  pub capacity-replayed : NoneRefused replies → new.capacity ≡ capacity_after_all eq old.mode old.capacity old.pairs commands
-  capacity-replayed given =
-      replayed.capacity
-      ∙ (Defines-given laws old.capacity commands replies (first_log old.mode old.pairs) old.pairs old.capacity old.mode (Defines-first laws valid) replayed.run given).same_capacity
-
-  pub mode-replayed : NoneRefused replies → new.mode ≡ mode_after_all old.mode commands
-  mode-replayed given =
-      replayed.mode
-      ∙ (Defines-given laws old.capacity commands replies (first_log old.mode old.pairs) old.pairs old.capacity old.mode (Defines-first laws valid) replayed.run given).same_mode
-
 -- a run of these commands, each of which is never refused: the replies and the pairs follow from them with no more ado
 module _ {K V S : Type 0} {eq : K → K → Bool} (laws : IsEquivalence eq) {old new : LinkedMap K V S} {commands : List (Command K V)} {replies : List (Reply K V)} (valid : IsValid eq old) (replayed : Replayed eq old commands replies new)
     (these : List (Command K V)) (are : commands ≡ these) (never : list_all never_refused these ≡ true) where
@@ -151,32 +141,12 @@ module _ {K V S T : Type 0} {eq : K → K → Bool} (laws : IsEquivalence eq) {o
       ∙ ap₂ (λ mode contents. pairs_after_all eq mode contents commands) alike same
       ∙ sym (pairs-replayed laws valid' replayed' given')
 
-  -- and where their capacities were the same, the same replies and capacities
-  pub replies-same_run : old.capacity ≡ old'.capacity → replies ≡ replies'
-  replies-same_run as_much =
-      replies-replayed laws valid replayed given
-      ∙ (λ i. replies_to eq (alike i) (as_much i) (same i) commands)
-      ∙ sym (replies-replayed laws valid' replayed' given')
-
-  pub capacity-same_run : old.capacity ≡ old'.capacity → new.capacity ≡ new'.capacity
-  capacity-same_run as_much =
-      capacity-replayed laws valid replayed given
-      ∙ (λ i. capacity_after_all eq (alike i) (as_much i) (same i) commands)
-      ∙ sym (capacity-replayed laws valid' replayed' given')
-
 -- the same of what two calls of `replay` return
 module _ {K V S T E : Type 0} {eq : K → K → Bool} (laws : IsEquivalence eq) {old : LinkedMap K V S} (new : LinkedMap K V S) {old' : LinkedMap K V T} (new' : LinkedMap K V T) {commands copies : List (Command K V)} (valid : IsValid eq old) (valid' : IsValid eq old') (same : old.pairs ≡ old'.pairs) (alike : old.mode ≡ old'.mode) (copied : commands ≡ copies) where
-  both_same : (run run' : Result (Vec (Reply K V) Global) E) → IfOk run (λ replies. Replayed eq old commands replies.items new) → IfOk run' (λ replies. Replayed eq old' copies replies.items new') → IsOkAnd run (λ replies. NoneRefused replies.items) → IsOkAnd run' (λ replies. NoneRefused replies.items)
+  pub same_runs : (run run' : Result (Vec (Reply K V) Global) E) → IfOk run (λ replies. Replayed eq old commands replies.items new) → IfOk run' (λ replies. Replayed eq old' copies replies.items new') → IsOkAnd run (λ replies. NoneRefused replies.items) → IsOkAnd run' (λ replies. NoneRefused replies.items)
       → IfOk run (λ replies. IfOk run' (λ replies'. map (λ reply. reply.answer) replies.items ≡ map (λ reply. reply.answer) replies'.items)) × (new.pairs ≡ new'.pairs)
-  both_same (Err refused) run' replayed replayed' given given' = absurd given
-  both_same (Ok replies) (Err refused) replayed replayed' given given' = absurd given'
-  both_same (Ok replies) (Ok replies') replayed replayed' given given' =
+  same_runs (Err refused) run' replayed replayed' given given' = absurd given
+  same_runs (Ok replies) (Err refused) replayed replayed' given given' = absurd given'
+  same_runs (Ok replies) (Ok replies') replayed replayed' given given' =
       let again = subst (λ cs. Replayed eq old' cs replies'.items new') (sym copied) replayed' in
       (answers-same_run laws valid valid' replayed again same alike given given', pairs-same_run laws valid valid' replayed again same alike given given')
-
-  pub answers-same_runs : (run run' : Result (Vec (Reply K V) Global) E) → IfOk run (λ replies. Replayed eq old commands replies.items new) → IfOk run' (λ replies. Replayed eq old' copies replies.items new') → IsOkAnd run (λ replies. NoneRefused replies.items) → IsOkAnd run' (λ replies. NoneRefused replies.items)
-      → IfOk run (λ replies. IfOk run' (λ replies'. map (λ reply. reply.answer) replies.items ≡ map (λ reply. reply.answer) replies'.items))
-  answers-same_runs run run' replayed replayed' given given' = (both_same run run' replayed replayed' given given').0
-
-  pub pairs-same_runs : (run run' : Result (Vec (Reply K V) Global) E) → IfOk run (λ replies. Replayed eq old commands replies.items new) → IfOk run' (λ replies. Replayed eq old' copies replies.items new') → IsOkAnd run (λ replies. NoneRefused replies.items) → IsOkAnd run' (λ replies. NoneRefused replies.items) → new.pairs ≡ new'.pairs
-  pairs-same_runs run run' replayed replayed' given given' = (both_same run run' replayed replayed' given given').1

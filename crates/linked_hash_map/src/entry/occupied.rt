@@ -1,9 +1,10 @@
 //! The methods of `OccupiedEntry`.
-ghost use Rattle.std.specs.Prelude.{◌≡◌};
+ghost use Rattle.std.specs.Prelude.{◌≡◌, ◌+◌, length, Some, None};
 ghost use Rattle.std.specs.Borrow.{sem};
 ghost use Rattle.linked_hash_map.specs.Pairs.{without, put, set_value};
 ghost use Rattle.linked_hash_map.specs.Cursor.{to_visit};
 ghost use Rattle.linked_hash_map.specs.Changes.{Keeps};
+ghost use Rattle.linked_hash_map.specs.Updates.{Updates};
 ghost use Rattle.linked_hash_map.specs.Validity.{IsValid};
 ghost use Rattle.linked_hash_map.specs.Entry.{occupied_map_ref, occupied_map, occupied_key, occupied_value, with_occupied_value, lends_in_entry, lends_occupied};
 
@@ -131,6 +132,8 @@ impl<'a, K: Eq + Hash, V, S: BuildHasher> OccupiedEntry<'a, K, V, S> {
         ensures to_visit { to_visit (occupied_map self.new) ≡ to_visit (occupied_map self.old) }
         ensures valid { IsValid K.eq (occupied_map self.old) }
         ensures stays_valid { IsValid K.eq (occupied_map self.new) }
+        // A consequence of `pairs`, for the proofs of callers.
+        ensures updates { Updates K.eq (occupied_map self.old).pairs (occupied_map self.new).pairs (occupied_key self.old) (Some value) }
     {
         self.map.insert_current(value)
     }
@@ -159,6 +162,9 @@ impl<'a, K: Eq + Hash, V, S: BuildHasher> OccupiedEntry<'a, K, V, S> {
         ensures to_visit { to_visit self.exit.0.now ≡ to_visit (occupied_map self.entry) }
         ensures valid { IsValid K.eq (occupied_map self.entry) }
         ensures stays_valid { IsValid K.eq self.exit.0.now }
+        // Consequences of `pairs`, for the proofs of callers.
+        ensures updates { Updates K.eq (occupied_map self.entry).pairs self.exit.0.now.pairs (occupied_key self.entry) None }
+        ensures fewer { length self.exit.0.now.pairs + 1 ≡ length (occupied_map self.entry).pairs }
     {
         let (_key, value) = self.map.take_current();
         value

@@ -1,20 +1,17 @@
 use Rattle.linked_hash_map.proofs.Callers.WholeRuns as run
 use Rattle.uses.proofs.replaying.replay_under_two_hashers.Goals as goal
 
-pub returns-clause-answers : goal.returns-clause-answers
-returns-clause-answers g c =
+pub returns : goal.returns
+returns g c =
     let one = c.replay-one.ensures in
     let other = c.replay-other.ensures in
     let asked = c.requires in
-    run.answers-same_runs g.met.K.Eq.laws c.replay-one.new.map c.replay-other.new.map one.valid
-    other.valid asked.same_pairs asked.same_mode asked.same_commands c.replay-one.result
-    c.replay-other.result one.replayed other.replayed
-
-pub returns-clause-pairs : goal.returns-clause-pairs
-returns-clause-pairs g c =
-    let one = c.replay-one.ensures in
-    let other = c.replay-other.ensures in
-    let asked = c.requires in
-    run.pairs-same_runs g.met.K.Eq.laws c.replay-one.new.map c.replay-other.new.map one.valid
-    other.valid asked.same_pairs asked.same_mode asked.same_commands c.replay-one.result
-    c.replay-other.result one.replayed other.replayed
+    let same = run.same_runs g.met.K.Eq.laws c.replay-one.new.map c.replay-other.new.map one.valid
+        other.valid asked.same_pairs asked.same_mode asked.same_commands c.replay-one.result
+        c.replay-other.result one.replayed other.replayed in
+    record {
+      answers = λ given given'. (same given given').0;
+      pairs = λ given given'. (same given given').1;
+      first_unchanged = one.unchanged;
+      second_unchanged = other.unchanged;
+    }

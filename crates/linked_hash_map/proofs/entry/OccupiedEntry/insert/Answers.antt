@@ -1,6 +1,7 @@
 use Rattle.std.proofs.Common.{sym, ap}
-use Rattle.linked_hash_map.specs.Entry.{occupied_key}
+use Rattle.linked_hash_map.specs.Entry.{occupied_map, occupied_key}
 use Rattle.linked_hash_map.specs.LinkedMap.{nowhere}
+use Rattle.linked_hash_map.proofs.Callers.Updates.{Updates-put}
 use Rattle.linked_hash_map.proofs.Indexes.{slice_get-within}
 use Rattle.linked_hash_map.proofs.EntryFacts.{occupied_pair-is, occupied_value-is, slice_get-occupied, IsIndex-occupied, IsValid-current}
 use Rattle.linked_hash_map.proofs.entry.OccupiedEntry.insert.Goals as goal
@@ -34,3 +35,8 @@ returns-clause-valid g c = IsValid-current nowhere c.insert_current.ensures.vali
 
 pub returns-clause-stays_valid : goal.returns-clause-stays_valid
 returns-clause-stays_valid g c = IsValid-current nowhere c.insert_current.ensures.stays_valid
+
+pub returns-clause-updates : goal.returns-clause-updates
+returns-clause-updates g c =
+    let o = c.args.self.now in
+    Updates-put g.met.K.Eq.laws (occupied_map o).pairs c.insert_current.new.self.pairs (occupied_key o) c.args.value (occupied_map o).mode (returns-clause-pairs g c)

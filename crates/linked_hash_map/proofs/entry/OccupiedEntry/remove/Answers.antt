@@ -1,7 +1,10 @@
-use Rattle.std.proofs.Common.{sym, ap, ◌∙◌}
+use Rattle.std.proofs.Common.{◌+◌, length, sym, ap, ◌∙◌}
+use Rattle.linked_hash_map.specs.Entry.{occupied_map, occupied_key}
 use Rattle.linked_hash_map.specs.LinkedMap.{nowhere}
+use Rattle.linked_hash_map.proofs.Callers.Keys.{length-without_present}
+use Rattle.linked_hash_map.proofs.Callers.Updates.{Updates-without}
 use Rattle.linked_hash_map.proofs.Indexes.{without-index}
-use Rattle.linked_hash_map.proofs.EntryFacts.{occupied_pair-is, IsIndex-occupied, IsValid-current}
+use Rattle.linked_hash_map.proofs.EntryFacts.{occupied_pair-is, found-occupied, IsIndex-occupied, IsValid-current}
 use Rattle.linked_hash_map.proofs.entry.OccupiedEntry.remove.Goals as goal
 
 pub returns-clause-value : goal.returns-clause-value
@@ -14,3 +17,14 @@ returns-clause-pairs g c =
 
 pub returns-clause-valid : goal.returns-clause-valid
 returns-clause-valid g c = IsValid-current nowhere c.take_current-key.ensures.valid
+
+pub returns-clause-updates : goal.returns-clause-updates
+returns-clause-updates g c =
+    let o = c.args.self in
+    Updates-without g.met.K.Eq.laws (occupied_map o).pairs c.take_current-key.new.self.pairs (occupied_key o) (returns-clause-pairs g c)
+
+pub returns-clause-fewer : goal.returns-clause-fewer
+returns-clause-fewer g c =
+    let o = c.args.self in
+    ap (λ pairs. length pairs + 1) (returns-clause-pairs g c)
+    ∙ length-without_present g.met.K.Eq.laws (occupied_map o).pairs (occupied_key o) c.take_current-key.ensures.valid.distinct (found-occupied o g.met.K.Eq.laws)

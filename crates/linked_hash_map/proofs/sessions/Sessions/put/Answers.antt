@@ -3,7 +3,8 @@ use Rattle.std.specs.Prelude.{not, unwrap_or}
 use Rattle.linked_hash_map.specs.Pairs.{last}
 use Rattle.linked_hash_map.specs.SessionTables.{session_table, payload_of, total_weight, without, with_last, IsValidTable}
 use Rattle.linked_hash_map.specs.SessionsKept.{sessions_of}
-use Rattle.linked_hash_map.proofs.SessionLists.{total_weight-fit, last-append, IsLongestEnd-fit}
+use Rattle.linked_hash_map.proofs.Callers.Lookups.{last-append}
+use Rattle.linked_hash_map.proofs.SessionLists.{total_weight-fit, IsLongestEnd-fit}
 use Rattle.linked_hash_map.proofs.SessionPairs.{IsValidTable-kept, total_weight-others}
 use Rattle.linked_hash_map.proofs.SessionPuts.{fit-with_last, payload_of-put, total_weight-put, length-gone, none-leaves, drop-with_last, length-with_last, is_some-weight}
 use Rattle.linked_hash_map.proofs.sessions.Sessions.put.Goals as goal
