@@ -10,7 +10,7 @@ fn refused_capacity_gives_no_map(rt: HostRuntime) {
     // The growths of each map: buckets, the guard and two nodes.
     let made = with_room(rt.alloc(), 2);
     let default = LinkedHashMap::with_capacity(rt.alloc(), 2);
-    say_if_given(&rt, made.is_ok() & default.is_ok(), 9);
+    say_if_given(&rt, made.is_ok() & default.is_ok(), 11);
     assert_made(&rt, made);
     assert_default(&rt, default);
 }
@@ -47,7 +47,7 @@ fn reserve_four_and_five(rt: &(impl Abort + Print + AllocGlobal), map: &mut Map)
     assert_map(rt, map, &[(1, 10), (2, 20)], 6, 2);
     let second = reserve_five(rt, map);
     assert_map(rt, map, &[(1, 10), (2, 20)], 7, 2);
-    say_if_given(rt, first & second, 11);
+    say_if_given(rt, first & second, 13);
 }
 
 /// Reserves room for four pairs more, again where it is refused, and tells whether it was given at once.
@@ -107,7 +107,7 @@ fn reserve_three(rt: &(impl Abort + Print + AllocGlobal), map: &mut Map) {
     match map.reserve(3) {
         Ok(()) => {
             assert_map(rt, map, &[], 3, 0);
-            say_given(rt, 6);
+            say_given(rt, 7);
         }
         Err(error) => {
             check_eq!(rt; error, ReserveError::NoRoom);
@@ -139,12 +139,12 @@ fn shrink(rt: &(impl Abort + Print + AllocGlobal), made: Result<Map, ReserveErro
     }
 }
 
-/// The growth: 4 buckets for 16.
+/// The growths: 4 buckets for 16.
 fn shrink_few(rt: &(impl Abort + Print + AllocGlobal), map: &mut Map) {
     match map.shrink_to_fit() {
         Ok(()) => {
             assert_map(rt, map, &FEW, 3, 3);
-            say_given(rt, 13);
+            say_given(rt, 15);
         }
         Err(NoRoom) => fill_unshrunk(rt, map),
     }
@@ -203,7 +203,7 @@ fn insert_second(rt: &(impl Abort + Print + AllocGlobal), map: &mut Map) {
         Ok(old) => {
             check_eq!(rt; old, None);
             assert_map(rt, map, &[(2, 20)], 1, 0);
-            say_given(rt, 13);
+            say_given(rt, 17);
         }
         Err(refused) => {
             check_eq!(rt; refused, Refused { key: 2, value: 20 });
@@ -235,7 +235,7 @@ fn raise_within(rt: &(impl Abort + Print + AllocGlobal), map: &mut Map) {
     match map.reserve(3) {
         Ok(()) => {
             assert_map(rt, map, &FIVE, 8, 0);
-            say_given(rt, 14);
+            say_given(rt, 15);
         }
         Err(error) => {
             check_eq!(rt; error, ReserveError::NoRoom);

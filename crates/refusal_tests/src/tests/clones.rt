@@ -19,7 +19,7 @@ fn clone_full(rt: &(impl Abort + Print + AllocGlobal), made: Result<Map, Reserve
     if let Ok(map) = made {
         if let Ok(clone) = map.clone() {
             assert_map(rt, &clone, &[(1, 10), (2, 20)], 2, 0);
-            say_given(rt, 9);
+            say_given(rt, 11);
         }
         assert_map(rt, &map, &[(1, 10), (2, 20)], 2, 0);
     }
@@ -104,7 +104,7 @@ fn clone_and_drop(rt: &(impl Abort + Print + AllocGlobal), counted: &Rc<u8>, map
             assert_boxed(rt, &clone);
             check!(rt; clone == *map);
             assert_held(rt, counted, 5);
-            say_given(rt, 12);
+            say_given(rt, 14);
         }
         Err(AllocError) => assert_held(rt, counted, 3),
     }
@@ -152,7 +152,7 @@ fn clone_and_drop_pairs(
         Ok(copies) => {
             check_eq!(rt; copies.len(), 2);
             assert_held(rt, counted, 5);
-            say_given(rt, 11);
+            say_given(rt, 12);
         }
         Err(AllocError) => assert_held(rt, counted, 3),
     }

@@ -20,7 +20,7 @@ fn extend(rt: &(impl Abort + Print + AllocGlobal), made: Result<Map, ReserveErro
         // The growths: buckets and a node, twice; then a node.
         let extended = map.extend(items.by_ref());
         assert_extended(rt, &map, extended, items.len());
-        say_if_given(rt, map.len() == 4, 9);
+        say_if_given(rt, map.len() == 4, 12);
     }
 }
 
@@ -56,7 +56,7 @@ fn extend_refs(rt: &(impl Abort + Print + AllocGlobal), made: Result<Map, Reserv
         // The growths: buckets and a node, twice.
         let extended = map.extend_refs(items.by_ref());
         assert_extended_by_references(rt, &map, extended, items.len());
-        say_if_given(rt, map.len() == 3, 8);
+        say_if_given(rt, map.len() == 3, 11);
     }
 }
 

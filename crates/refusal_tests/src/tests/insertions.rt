@@ -39,7 +39,7 @@ fn put_into_vacant(map: &mut Map, key: u8, value: u64) -> Result<(), Refused<u8,
 fn refused_insertion_by_each_call_changes_nothing(rt: HostRuntime) {
     let mut map = LinkedHashMap::with_hasher(rt.alloc(), BUILDER);
     let given = put_by_each_call(&rt, &mut map);
-    say_if_given(&rt, given, 11);
+    say_if_given(&rt, given, 15);
 }
 
 /// Puts in a pair by each call, and tells whether none was refused.
@@ -101,7 +101,7 @@ fn insert_or_change(rt: &(impl Abort + Print + AllocGlobal), map: &mut Map) {
     match map.insert(2, 20) {
         Ok(_old) => {
             assert_map(rt, map, &[(1, 10), (2, 20)], 2, 1);
-            say_given(rt, 6);
+            say_given(rt, 8);
         }
         Err(refused) => {
             check_eq!(rt; refused, Refused { key: 2, value: 20 });
@@ -136,7 +136,7 @@ fn insert_with(
         insert_after_a_refusal(rt, &mut map, alloc);
         assert_map(rt, &map, &[(1, 10), (2, 20)], 2, 1);
         find_without_the_closure(rt, &mut map);
-        say_given(rt, 3);
+        say_given(rt, 4);
     }
 }
 
@@ -185,7 +185,7 @@ fn insert_after_a_removal(
 /// The growths: buckets and a node.
 fn insert_or_make_room(rt: &(impl Abort + Print + AllocGlobal), map: &mut Map) {
     match map.insert(2, 20) {
-        Ok(_old) => say_given(rt, 6),
+        Ok(_old) => say_given(rt, 8),
         Err(refused) => {
             check_eq!(rt; refused, Refused { key: 2, value: 20 });
             remove_and_insert(rt, map);
@@ -206,7 +206,7 @@ fn refused_pair_comes_back_from_each_call_of_an_entry(rt: HostRuntime) {
     let by_value = put_by_value(&rt, full_of(&rt, rt.alloc(), &[(1, 10)]));
     let by_default = put_by_default(&rt, full_of(&rt, rt.alloc(), &[(1, 10)]));
     let by_closure = put_by_closure(&rt, full_of(&rt, rt.alloc(), &[(1, 10)]));
-    say_if_given(&rt, by_value & by_default & by_closure, 16);
+    say_if_given(&rt, by_value & by_default & by_closure, 22);
 }
 
 /// Puts in a second pair by `or_insert`, and tells whether each growth was given.

@@ -42,7 +42,7 @@ fn replay_insertions(rt: &(impl Abort + Print + AllocGlobal), mut map: Map, comm
     match replay(&mut map, commands) {
         Ok(replies) => {
             assert_inserted(rt, &map, replies.as_slice());
-            say_if_given(rt, map.len() == 3, 10);
+            say_if_given(rt, map.len() == 3, 13);
         }
         Err(commands) => {
             check_eq!(rt; commands.as_slice(), INSERTIONS.as_slice());
@@ -135,7 +135,7 @@ fn replay_changes(rt: &(impl Abort + Print + AllocGlobal), mut map: Map, command
         Ok(replies) => {
             let refused = refused_at(replies.as_slice());
             assert_changed(rt, &map, replies.as_slice(), refused);
-            say_if_given(rt, refused.is_none(), 11);
+            say_if_given(rt, refused.is_none(), 14);
         }
         Err(commands) => {
             check_eq!(rt; commands.as_slice(), CHANGES.as_slice());
@@ -207,7 +207,7 @@ fn replay_extension(rt: &(impl Abort + Print + AllocGlobal), mut map: Map, comma
     match replay(&mut map, commands) {
         Ok(replies) => {
             assert_stopped(rt, &map, replies.as_slice());
-            say_if_given(rt, map.len() == 3, 11);
+            say_if_given(rt, map.len() == 3, 14);
         }
         Err(_commands) => assert_map(rt, &map, &[], 1, 0),
     }

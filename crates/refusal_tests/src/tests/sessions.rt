@@ -67,7 +67,7 @@ fn put_third(rt: &(impl Abort + Print + AllocGlobal), table: &mut Table) {
     match table.put(3, 4, "d") {
         Ok(_put) => {
             assert_sessions(rt, table, &[(2, 4, "c"), (3, 4, "d")], 8);
-            say_given(rt, 7);
+            say_given(rt, 9);
         }
         Err(refused) => {
             assert_refused(rt, refused, "d");
@@ -104,7 +104,7 @@ fn use_two(rt: &(impl Abort + Print + AllocGlobal), table: &mut Table) {
         read_and_move(rt, table);
         remove_and_put(rt, table);
         retain(rt, table);
-        say_given(rt, 6);
+        say_given(rt, 8);
     }
 }
 
@@ -165,7 +165,7 @@ fn put_light(rt: &(impl Abort + Print + AllocGlobal), table: &mut Table) {
     match table.put(4, 4, "e") {
         Ok(_put) => {
             assert_sessions(rt, table, &[(4, 4, "e")], 4);
-            say_given(rt, 8);
+            say_given(rt, 10);
         }
         Err(refused) => {
             assert_refused(rt, refused, "e");

@@ -19,7 +19,7 @@ fn refused_commands_drop_nothing_twice(rt: HostRuntime) {
     let tally = Tally::new();
     let map = LinkedHashMap::new(rt.alloc());
     let given = run(&rt, &tally, map, commands(&tally, rt.alloc()));
-    say_if_given(&rt, given, 15);
+    say_if_given(&rt, given, 19);
 }
 
 /// Makes four commands, for which it asks for two growths: the list and the commands.

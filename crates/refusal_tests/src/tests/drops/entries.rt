@@ -10,7 +10,7 @@ use std::process::Abort;
 fn refused_entries_drop_nothing(rt: HostRuntime) {
     let tally = Tally::new();
     let given = insert_by_entries(&rt, &tally, LinkedHashMap::new(rt.alloc()));
-    say_if_given(&rt, given, 9);
+    say_if_given(&rt, given, 12);
 }
 
 /// Inserts three new keys into a full map of one pair, each by another call, and tells whether each

@@ -16,7 +16,7 @@ fn refused_capacity_drops_the_hasher(rt: HostRuntime) {
     let made = LinkedHashMap::with_capacity_and_hasher(rt.alloc(), 2, builder);
     let given = drop_made(&rt, &tally, made);
     assert_dropped(&rt, &tally, 1);
-    say_if_given(&rt, given, 5);
+    say_if_given(&rt, given, 6);
 }
 
 /// Drops a map with its hasher, or checks that the hasher is dropped where the map was refused.

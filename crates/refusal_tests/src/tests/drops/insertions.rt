@@ -12,7 +12,7 @@ fn refused_calls_drop_nothing(rt: HostRuntime) {
     let tally = Tally::new();
     let given = insert_and_resize(&rt, &tally, LinkedHashMap::new(rt.alloc()));
     check_eq!(rt; tally.dropped(), Some(63));
-    say_if_given(&rt, given, 12);
+    say_if_given(&rt, given, 17);
 }
 
 /// Makes the calls on an empty map, and tells whether each growth was given.
@@ -28,7 +28,7 @@ fn is_resized(rt: &impl Abort, tally: &Tally, map: &mut CountedMap<'_>, dropped:
     // The growths: buckets and two nodes.
     let reserved = map.reserve(2).is_ok();
     check_eq!(rt; tally.dropped(), Some(dropped));
-    // The growth: buckets.
+    // The growths: buckets.
     let shrunk = map.shrink_to_fit().is_ok();
     check_eq!(rt; tally.dropped(), Some(dropped));
     reserved & shrunk
@@ -54,7 +54,7 @@ fn insert_three<'a>(rt: &impl Abort, tally: &'a Tally, map: &mut CountedMap<'a>)
 fn refused_extension_drops_the_items_behind(rt: HostRuntime) {
     let tally = Tally::new();
     let given = extend(&rt, &tally, LinkedHashMap::new(rt.alloc()));
-    say_if_given(&rt, given, 9);
+    say_if_given(&rt, given, 12);
 }
 
 /// Extends a full map of one pair by a present key and by three new ones, and tells whether each

@@ -13,7 +13,7 @@ type Table<'a> = Sessions<Counted<'a>>;
 fn refused_put_drops_no_payload(rt: HostRuntime) {
     let tally = Tally::new();
     let given = put_three(&rt, &tally, Sessions::new(rt.alloc(), 10));
-    say_if_given(&rt, given, 7);
+    say_if_given(&rt, given, 9);
 }
 
 /// Puts three sessions, of which the third sends the first away, and tells whether each growth was

@@ -61,7 +61,7 @@ fn replay_all(
         let sizes = replies.iter().map(|reply| (reply.len, reply.capacity));
         check!(rt; sizes.take(18).eq(LENGTHS.map(|len| (len, 3))));
         assert_map(rt, &map, &[], 0, 0);
-        say_given(rt, 9);
+        say_given(rt, 10);
     }
 }
 

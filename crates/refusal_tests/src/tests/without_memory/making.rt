@@ -60,7 +60,7 @@ fn use_empty(rt: &impl Abort, alloc: Global, map: &mut Map) {
 fn take_apart(rt: &(impl Abort + Print + AllocGlobal), made: Result<Map, ReserveError>) {
     if let Ok(map) = made {
         consume(rt, map);
-        say_given(rt, 6);
+        say_given(rt, 7);
     }
 }
 

@@ -28,7 +28,7 @@ fn read_all(rt: &(impl Abort + Print + AllocGlobal), made: Result<Map, ReserveEr
         compare(rt, &map);
         hash(rt, &map);
         show(rt, &map);
-        say_given(rt, 6);
+        say_given(rt, 7);
     }
 }
 

@@ -24,7 +24,7 @@ fn write_all(rt: &(impl Abort + Print + AllocGlobal), made: Result<Map, ReserveE
         put_in(rt, &mut map);
         drain(rt, &mut map);
         reserve_and_shrink(rt, &mut map);
-        say_given(rt, 6);
+        say_given(rt, 7);
     }
 }
 
@@ -153,7 +153,7 @@ fn fill_again(rt: &(impl Abort + Print + AllocGlobal), made: Result<Map, Reserve
     if let Ok(mut map) = made {
         fill_and_empty(rt, &mut map);
         fill(rt, &mut map);
-        say_given(rt, 6);
+        say_given(rt, 7);
     }
 }
 
