@@ -7,7 +7,7 @@ use super::sums::sum;
 use linked_hash_map::sessions::Sessions;
 use std::alloc::Global;
 
-/// Puts a session of weight 1, whose id may be held.
+/// Puts a session of weight 1, whose id may be present.
 fn put<V: Value>(alloc: Global, table: &mut Sessions<V>, id: u64) -> Result<(), Stop> {
     let _put = table.put(id, 1, V::value(alloc, id)?)?;
     Ok(())
@@ -26,7 +26,7 @@ fn put_each<V: Value>(
     Ok(())
 }
 
-/// Moves the session of an id to the back and replaces its payload, and returns 1 if it is held.
+/// Moves the session of an id to the back and replaces its payload, and returns 1 if it is present.
 fn touch<V: Value>(alloc: Global, table: &mut Sessions<V>, id: u64) -> Result<u64, Stop> {
     let new = V::value(alloc, id)?;
     match table.touch(id) {
@@ -38,7 +38,7 @@ fn touch<V: Value>(alloc: Global, table: &mut Sessions<V>, id: u64) -> Result<u6
     }
 }
 
-/// Touches the sessions of the ids from 0 up to `end`, and returns how many are held.
+/// Touches the sessions of the ids from 0 up to `end`, and returns how many are present.
 fn touch_each<V: Value>(alloc: Global, table: &mut Sessions<V>, end: u64) -> Result<u64, Stop> {
     let mut touched: u64 = 0;
     for id in 0..end {

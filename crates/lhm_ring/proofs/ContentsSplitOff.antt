@@ -1,5 +1,5 @@
 -- What nodes hold is cut out of them, and they are whole again with nothing in them. Assumes `Logic`.
---     cells_out, cells_in      all bodies are taken from the nodes, and whatever comes back leaves room alone
+--     cells_out, cells_in      all bodies are taken from the nodes, and whatever comes back leaves uninitialised memory
 --     Bare      the nodes without bodies, as a type: what a `&` to nodes of holes shows is what a `&` to it shows
 use Rattle.std.proofs.Common.{ℕ, ◌+◌, List, [], ◌∷◌, ◌++◌, Option, Some, None, refl}
 use seplogic.Ra.Ura.{Ura}
@@ -38,7 +38,7 @@ use Rattle.lhm_ring.specs.NodesAfterLoan.{cleared_nodes}
 use Rattle.lhm_ring.specs.contracts.value_loan.Hole as H-type
 use Rattle.lhm_ring.specs.contracts.nodes.Nodes as C
 use Rattle.lhm_ring.specs.contracts.content_loan.ContentLoan as S-type
-use Rattle.lhm_ring.proofs.Memory.{Three, RL, RK, RV, ko, vo, Mark, Nr, mark, body_room}
+use Rattle.lhm_ring.proofs.Memory.{Three, RL, RK, RV, ko, vo, Marker, Nr, marker, body_uninit}
 use Rattle.lhm_ring.proofs.Sharing.{cells_lent_laws}
 
 module _ (R S W : RattleType) where
@@ -87,7 +87,7 @@ module _ (E : Three) {M : Type 1} {𝓤 : Ura M} (𝓛 : Logic 𝓤) where
   emptied_body p None = id⊢ 𝓤 _
   emptied_body null_ptr (Some x) = qed 𝓛 (‵ (Body null_ptr (Some x)) ∷ []) ∵ fsplit ! $ keep ! (0 ∷ []) $ by ! (never_e 𝓤 _)
   emptied_body (block_ptr b o) (Some x) = qed 𝓛 (‵ (Body (block_ptr b o) (Some x)) ∷ []) ∵
-      use1 𝓛 (‵ (froom (layout E.key) b (o + ko E)) ⊛ ‵ (froom (layout E.value) b (o + vo E))) (body_room 𝓛 E b o (Some x)) $ split ! $
+      use1 𝓛 (‵ (froom (layout E.key) b (o + ko E)) ⊛ ‵ (froom (layout E.value) b (o + vo E))) (body_uninit 𝓛 E b o (Some x)) $ split ! $
       as_raw ! (layout E.key) b (o + ko E) $ move ! (1 ∷ []) $ as_raw ! (layout E.value) b (o + vo E) $ move ! (1 ∷ 0 ∷ []) $ fjoin ! $ done !
 
   pub cells_in : (cs : List (Node (RL E) (RK E) (RV E))) (ws : List (Option (E.key.Denot × E.value.Denot))) → ent 𝓤 (sep 𝓤 (sem 𝓛 (Run (firsts (bodies_of cs)) ws)) (sem 𝓛 (Stems cs))) (sem 𝓛 (Cells (cleared cs)))
@@ -142,11 +142,11 @@ module _ (R S W : RattleType) where
       (λ M 𝓤 𝓛 d p. Lends-stems R S W 𝓛 LR BareRow.lives (Incl-trans (meet_⊑_left T _) (meet_⊑_left R.lives ((HS R S W).lives ++ ((HW R S W).lives ++ [])))) d.cells)).shares M 𝓤 𝓛
 
 -- the loan's field, which takes no bytes
-abbrev pub ContentMark : NamedLft → (R S W : RattleType) → RattleType
-ContentMark a R S W = Struct (owning.shape (S-type.the_type a R S W))
+abbrev pub ContentMarker : NamedLft → (R S W : RattleType) → RattleType
+ContentMarker a R S W = Struct (owning.shape (S-type.the_type a R S W))
 
-pub content_loan_made : (a : NamedLft) (R S W : RattleType) {M : Type 1} {𝓤 : Ura M} (𝓛 : Logic 𝓤) → ent 𝓤 (emp 𝓤) (sem 𝓛 ((ContentMark a R S W).own_val (tt, tt) (mark ∷ [])))
-content_loan_made a R S W 𝓛 = makes_shadow 𝓛 ((ContentMark a R S W).own_val (tt, tt) (mark ∷ [])) (λ vss. (tt, ((λ uss. (tt, tt)), tt))) ((vstruct vnil ∷ [], tt), (refl, ((tt, (refl, tt)), tt)))
+pub content_loan_made : (a : NamedLft) (R S W : RattleType) {M : Type 1} {𝓤 : Ura M} (𝓛 : Logic 𝓤) → ent 𝓤 (emp 𝓤) (sem 𝓛 ((ContentMarker a R S W).own_val (tt, tt) (marker ∷ [])))
+content_loan_made a R S W 𝓛 = makes_shadow 𝓛 ((ContentMarker a R S W).own_val (tt, tt) (marker ∷ [])) (λ vss. (tt, ((λ uss. (tt, tt)), tt))) ((vstruct vnil ∷ [], tt), (refl, ((tt, (refl, tt)), tt)))
 
 -- an array of no bytes lies anywhere
 abbrev pub Anchor : RattleType
@@ -168,15 +168,15 @@ module _ (E : Three) {M : Type 1} {𝓤 : Ura M} (𝓛 : Logic 𝓤) (h : (Nr E)
   abbrev pub Held : SemTy
   Held = Bodies (RL E) (RK E) (RV E) (firsts (bodies_of h.cells))
 
-  pub fields_made : (vs : List Val) → ent 𝓤 (sep 𝓤 (sem 𝓛 ((Mark E).own_val (tt, tt) vs)) (sep 𝓤 (sem 𝓛 (stems (RL E) (RK E) (RV E) h.cells)) (sem 𝓛 (cell_at full_share (Nr E).mir vs rb ro)))) (sem 𝓛 Fields)
+  pub fields_made : (vs : List Val) → ent 𝓤 (sep 𝓤 (sem 𝓛 ((Marker E).own_val (tt, tt) vs)) (sep 𝓤 (sem 𝓛 (stems (RL E) (RK E) (RV E) h.cells)) (sem 𝓛 (cell_at full_share (Nr E).mir vs rb ro)))) (sem 𝓛 Fields)
   unfolding part_of
-  fields_made vs = qed 𝓛 (‵ ((Mark E).own_val (tt, tt) vs) ∷ ‵ (stems (RL E) (RK E) (RV E) h.cells) ∷ ‵ (cell_at full_share (Nr E).mir vs rb ro) ∷ []) ∵
+  fields_made vs = qed 𝓛 (‵ ((Marker E).own_val (tt, tt) vs) ∷ ‵ (stems (RL E) (RK E) (RV E) h.cells) ∷ ‵ (cell_at full_share (Nr E).mir vs rb ro) ∷ []) ∵
       fjoin ! $ move ! (1 ∷ 0 ∷ []) $ fjoin ! $ fpack ! (List Val) (λ us. fsep (cell_at full_share (Nr E).mir us rb ro) ((BareRow (RL E) (RK E) (RV E)).own_val h us)) vs $ done !
 
   pub back : (δ : GName) (w : List ℕ) → ent 𝓤 (sep 𝓤 (sem 𝓛 ((mem Anchor).own_at w rb ro)) (sep 𝓤 (sem 𝓛 (fseps (Borrowed Held 0 0 δ ∷ Fields ∷ []))) (emp 𝓤))) (sem 𝓛 ((mem (Nr E)).own_at (cleared_nodes h) rb ro))
   unfolding fseps part_of
   back δ w = qed 𝓛 (‵ ((mem Anchor).own_at w rb ro) ∷ ‵ (fseps (Borrowed Held 0 0 δ ∷ Fields ∷ [])) ∷ raw (emp 𝓤) ∷ []) ∵ drop ! $ fsplit ! $ fpick ! (λ os. fsplit ! $ move ! (2 ∷ []) $ fsplit ! $ fpick ! (λ vs. fsplit ! $ move ! (1 ∷ []) $ fsplit ! $
-      -- [the mark; the stems; the cell; nothing; the bodies; their name; nothing]
+      -- [the marker; the stems; the cell; nothing; the bodies; their name; nothing]
       move ! (4 ∷ 1 ∷ []) $ use2 𝓛 (‵ (cells_own (RL E) (RK E) (RV E) (cleared h.cells))) (cells_in E 𝓛 h.cells os) $ move ! (1 ∷ 0 ∷ []) $ fjoin ! $ move ! (1 ∷ 0 ∷ []) $ fjoin ! $
       fpack ! (List Val) (λ us. fsep (cell_at full_share (Nr E).mir us rb ro) ((Nr E).own_val (cleared_nodes h) us)) vs $ keep ! (0 ∷ []) $ done !))
 

@@ -52,8 +52,8 @@ rechain_held p e w =
 length-kept : {K V : Type 0} (old new : List (Held (K × V))) → entries new ≡ entries old → length new ≡ length old
 length-kept old new e = sym (length-map new (linked_to None)) ∙ ap length e ∙ length-map old (linked_to None)
 
-pub rechain_room : {K V : Type 0} {heads : List (Option Ptr)} {old nodes : List (Held (K × V))} {pointer : Option Ptr} {count buckets : ℕ} (p : Ptr) → pointer ≡ Some p → IsRechained heads old nodes pointer count buckets → count + 1 ≤ length old
-rechain_room {K} {V} {heads} {old} {nodes} p e w =
+pub rechain_below : {K V : Type 0} {heads : List (Option Ptr)} {old nodes : List (Held (K × V))} {pointer : Option Ptr} {count buckets : ℕ} (p : Ptr) → pointer ≡ Some p → IsRechained heads old nodes pointer count buckets → count + 1 ≤ length old
+rechain_below {K} {V} {heads} {old} {nodes} p e w =
     let g = rechain_is p e w in
     let a : length nodes ≡ length old = length-kept old nodes w.kept in
     let b : length nodes ≡ length (w.done ++ g.0.node ∷ g.0.after) = ap length g.1 in
@@ -63,7 +63,7 @@ rechain_room {K} {V} {heads} {old} {nodes} p e w =
 
 pub rechain_some : {K V : Type 0} {heads : List (Option Ptr)} {old nodes : List (Held (K × V))} {pointer : Option Ptr} {count buckets : ℕ} (p : Ptr) → pointer ≡ Some p → (buckets ≡ 0 → old ≡ []) → IsRechained heads old nodes pointer count buckets → 0 < length heads
 rechain_some {K} {V} {heads} {old} {nodes} {pointer} {count} {buckets} p e none w =
-    let r : count + 1 ≤ length old = rechain_room p e w in
+    let r : count + 1 ≤ length old = rechain_below p e w in
     let b : length heads ≡ buckets = w.buckets_is in
     elim (cases_lt 0 buckets) [
       | inl l ↦ omega arith

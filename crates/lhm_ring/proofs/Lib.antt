@@ -1,4 +1,5 @@
 pub mod Apart
+pub mod BlockValues
 pub mod Blocks
 pub mod BucketCounts
 pub mod BucketHeads
@@ -35,7 +36,6 @@ pub mod ReadAtPosition
 pub mod Rearranged
 pub mod Retained
 pub mod RingNodes
-pub mod Rooms
 pub mod Rows
 pub mod Searches
 pub mod Sharing

@@ -1,6 +1,6 @@
 -- What the proofs by hand over the nodes share. Assumes `Logic`.
 --     Three, args          the rows of the links, of the keys and of the values, and what a call passes for them
---     word_known, word_made, mark_made      a value of one pointer, and one of no bytes
+--     word_known, word_made, marker_made      a value of one pointer, and one of no bytes
 --     cells_cut, cells_glue, cell_seen      one node is taken out of the others, put back, and seen through a `&`
 use mathlib.Core.Path.{◌≡◌, refl, ap, ◌∙◌, subst}
 use Prim.Native.Nat.{ℕ, ◌+◌}
@@ -68,8 +68,8 @@ module _ (E : Three) where
   Nr = N-type.the_row RL RK RV
 
   -- the field of `Nodes`, which takes no bytes
-  abbrev pub Mark : RattleType
-  Mark = Struct (shape (N-type.the_type RL RK RV))
+  abbrev pub Marker : RattleType
+  Marker = Struct (shape (N-type.the_type RL RK RV))
 
   abbrev pub One : Node → Fml
   One c = cell_owns RL RK RV c
@@ -80,11 +80,11 @@ module _ (E : Three) where
 abbrev pub Pl : RattleType
 Pl = P-type.the_row
 
-abbrev pub mark : Val
-mark = vstruct (vcons (vstruct vnil) vnil)
+abbrev pub marker : Val
+marker = vstruct (vcons (vstruct vnil) vnil)
 
-pub mark_made : (E : Three) {M : Type 1} {𝓤 : Ura M} (𝓛 : Logic 𝓤) → ent 𝓤 (emp 𝓤) (sem 𝓛 ((Mark E).own_val (tt, tt) (mark ∷ [])))
-mark_made E 𝓛 = makes_shadow 𝓛 ((Mark E).own_val (tt, tt) (mark ∷ [])) (λ vss. (tt, ((λ uss. (tt, tt)), tt))) ((vstruct vnil ∷ [], tt), (refl, ((tt, (refl, tt)), tt)))
+pub marker_made : (E : Three) {M : Type 1} {𝓤 : Ura M} (𝓛 : Logic 𝓤) → ent 𝓤 (emp 𝓤) (sem 𝓛 ((Marker E).own_val (tt, tt) (marker ∷ [])))
+marker_made E 𝓛 = makes_shadow 𝓛 ((Marker E).own_val (tt, tt) (marker ∷ [])) (λ vss. (tt, ((λ uss. (tt, tt)), tt))) ((vstruct vnil ∷ [], tt), (refl, ((tt, (refl, tt)), tt)))
 
 module _ {M : Type 1} {𝓤 : Ura M} {𝓛 : Logic 𝓤} {K : Type 0} {Γ : List (Item 𝓤)} {G : Goal 𝓤 𝓛.H} where
   pub word_known : K → (c : Ptr) (vs : List Val) → (vs ≡ word c ∷ [] → Seq K 𝓛 Γ G) → Seq K 𝓛 (‵ (Pl.own_val (record { ptr = c }) vs) ∷ Γ) G
@@ -135,19 +135,19 @@ pub pointer_told : (x : Pl.Denot) (vs : List Val) → Is Pl x vs → vs ≡ word
 pointer_told x vs is = is.1.0 ∙ ap (λ (ws : List Val). vstruct (of_list (ws ++ [])) ∷ []) is.1.1.0
 
 module _ {M : Type 1} {𝓤 : Ura M} (𝓛 : Logic 𝓤) (b o : ℕ) where
-  -- a value that is forgotten leaves room
-  pub left_room : (i : ℕ) (Y : RattleType) (L : Laws Y) (x : Y.Denot) → ent 𝓤 (sem 𝓛 (part_at (param i Y) full_share x b o)) (sem 𝓛 (froom (layout Y) b o))
-  left_room i Y L x = qed 𝓛 (‵ (part_at (param i Y) full_share x b o) ∷ []) ∵
+  -- a value that is forgotten leaves uninitialised memory
+  pub uninit_left : (i : ℕ) (Y : RattleType) (L : Laws Y) (x : Y.Denot) → ent 𝓤 (sem 𝓛 (part_at (param i Y) full_share x b o)) (sem 𝓛 (froom (layout Y) b o))
+  uninit_left i Y L x = qed 𝓛 (‵ (part_at (param i Y) full_share x b o) ∷ []) ∵
       use1 𝓛 (some (λ (v : Val). given (Good (layout Y) v) (‵ (fat full_share (layout Y) b o v) ⊛ ‵ (Y.own_val x (v ∷ []))))) (value_out i Y L 𝓛 x b o) $ pick ! (λ v. learn ! (λ _. split ! $
       use1 𝓛 (‵ (froom (layout Y) b o)) (𝓛.laws.at_room (layout Y) b o v) $ move ! (1 ∷ []) $ drop ! $ done !))
 
 module _ {M : Type 1} {𝓤 : Ura M} (𝓛 : Logic 𝓤) (E : Three) (b o : ℕ) where
-  -- what a node holds, or the room for it, is room
-  pub body_room : (x : Option (E.key.Denot × E.value.Denot)) → ent 𝓤 (sem 𝓛 (body_owns (RL E) (RK E) (RV E) (block_ptr b o) x)) (sep 𝓤 (sem 𝓛 (froom (layout E.key) b (o + ko E))) (sem 𝓛 (froom (layout E.value) b (o + vo E))))
-  body_room None = qed 𝓛 (‵ (body_owns (RL E) (RK E) (RV E) (block_ptr b o) None) ∷ []) ∵ fsplit ! $ use1 𝓛 (‵ (froom (layout E.key) b (o + ko E))) (𝓛.laws.raw-room (layout E.key) b (o + ko E)) $ move ! (1 ∷ []) $
+  -- what a node holds, or the memory for it, is uninitialised memory
+  pub body_uninit : (x : Option (E.key.Denot × E.value.Denot)) → ent 𝓤 (sem 𝓛 (body_owns (RL E) (RK E) (RV E) (block_ptr b o) x)) (sep 𝓤 (sem 𝓛 (froom (layout E.key) b (o + ko E))) (sem 𝓛 (froom (layout E.value) b (o + vo E))))
+  body_uninit None = qed 𝓛 (‵ (body_owns (RL E) (RK E) (RV E) (block_ptr b o) None) ∷ []) ∵ fsplit ! $ use1 𝓛 (‵ (froom (layout E.key) b (o + ko E))) (𝓛.laws.raw-room (layout E.key) b (o + ko E)) $ move ! (1 ∷ []) $
       use1 𝓛 (‵ (froom (layout E.value) b (o + vo E))) (𝓛.laws.raw-room (layout E.value) b (o + vo E)) $ move ! (1 ∷ 0 ∷ []) $ done !
-  body_room (Some x) = qed 𝓛 (‵ (body_owns (RL E) (RK E) (RV E) (block_ptr b o) (Some x)) ∷ []) ∵ fsplit ! $ use1 𝓛 (‵ (froom (layout E.key) b (o + ko E))) (left_room 𝓛 b (o + ko E) 1 E.key E.key_laws x.0) $ move ! (1 ∷ []) $
-      use1 𝓛 (‵ (froom (layout E.value) b (o + vo E))) (left_room 𝓛 b (o + vo E) 2 E.value E.value_laws x.1) $ move ! (1 ∷ 0 ∷ []) $ done !
+  body_uninit (Some x) = qed 𝓛 (‵ (body_owns (RL E) (RK E) (RV E) (block_ptr b o) (Some x)) ∷ []) ∵ fsplit ! $ use1 𝓛 (‵ (froom (layout E.key) b (o + ko E))) (uninit_left 𝓛 b (o + ko E) 1 E.key E.key_laws x.0) $ move ! (1 ∷ []) $
+      use1 𝓛 (‵ (froom (layout E.value) b (o + vo E))) (uninit_left 𝓛 b (o + vo E) 2 E.value E.value_laws x.1) $ move ! (1 ∷ 0 ∷ []) $ done !
 
 module _ {M : Type 1} {𝓤 : Ura M} {𝓛 : Logic 𝓤} {K : Type 0} {Γ : List (Item 𝓤)} {G : Goal 𝓤 𝓛.H} where
   -- two values make a struct of two fields

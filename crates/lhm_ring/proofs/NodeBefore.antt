@@ -168,8 +168,8 @@ rest_on {K} {V} {heads} {hash} {nodes} {cut} {p} {link} {before} {here} read w r
     let d : IsChain head (w.done ++ w.node ∷ w.todo) = subst (λ (v : List Spot). IsChain head v) w.whole c in
     subst (λ (v : Option Ptr). IsChain v w.todo) (sym e) (chain_tail head w.done w.node w.todo d)
 
-pub towards_room : {K V : Type 0} {heads : List (Option Ptr)} {hash : ℕ} {nodes cut : List (Held (K × V))} {p : Ptr} {link before : Option Ptr} {here : Ptr} {passed : ℕ} → IsTowards heads hash nodes cut p link before here passed → passed + 1 ≤ length nodes
-towards_room {K} {V} {heads} {hash} {nodes} w =
+pub towards_below : {K V : Type 0} {heads : List (Option Ptr)} {hash : ℕ} {nodes cut : List (Held (K × V))} {p : Ptr} {link before : Option Ptr} {here : Ptr} {passed : ℕ} → IsTowards heads hash nodes cut p link before here passed → passed + 1 ≤ length nodes
+towards_below {K} {V} {heads} {hash} {nodes} w =
     let f : Spot → Bool = is_in (length heads) (hash % length heads) in
     let a : length (w.us ++ spot w.x ∷ w.vs) ≡ length (filter f (spots nodes)) = length-IsRearranged (w.us ++ spot w.x ∷ w.vs) (filter f (spots nodes)) w.holds in
     let b = length-filter f (spots nodes) in

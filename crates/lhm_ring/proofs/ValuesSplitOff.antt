@@ -51,7 +51,7 @@ use Rattle.lhm_ring.specs.contracts.nodes.Nodes as C
 use Rattle.lhm_ring.specs.contracts.ring.Ring as R-type
 use Rattle.lhm_ring.specs.contracts.ring.Ring.TheInside as I-type
 use Rattle.lhm_ring.specs.declared.ring.Ring.TheInside as D-type
-use Rattle.lhm_ring.proofs.Memory.{mark}
+use Rattle.lhm_ring.proofs.Memory.{marker}
 use Rattle.lhm_ring.proofs.ValuesReplaced.{lent_then, lent, written_body, written, taken, listing, run_of, pointers_written, taken_listing, apart_lent, among, revalued_by, held_entries, still_ring, list_written, all_lent, held_pointers}
 use Rattle.lhm_ring.proofs.ValuesInOrder.{pointers_of, HasOwnValue, own_values, taken-own, taken-by, all_kept, set_held_values-own, set_held_values-by, revalued_by-set_held_values}
 use Rattle.lhm_ring.proofs.Sharing.{cells_lent_laws}
@@ -213,7 +213,7 @@ module _ (S W : RattleType) where
       pub ring_cut : ent 𝓤 (sem 𝓛 (part_at Full full_share a b o)) (sep 𝓤 (sem 𝓛 (spread W (at_pointers R S W passed) (vals R S W passed))) (sem 𝓛 (part_at Thinned full_share (thinned a) b o)))
       unfolding part_of
       ring_cut = qed 𝓛 (‵ (part_at Full full_share a b o) ∷ []) ∵ fpick ! (λ vs. fsplit ! $ move ! (1 ∷ []) $ fpick ! (λ vss. fsplit ! $ move ! (1 ∷ []) $ fsplit ! $ fsplit ! $
-          -- [the mark; the nodes; the other fields; the value; the cell]
+          -- [the marker; the nodes; the other fields; the value; the cell]
           move ! (1 ∷ []) $ use1 𝓛 (‵ (spread W (at_pointers R S W passed) (vals R S W passed)) ⊛ ‵ (frames R S W keep a.nodes.cells)) (nodes_cut R S W 𝓛 keep a.nodes.cells) $ split ! $
           move ! (2 ∷ 1 ∷ []) $ fjoin ! $ move ! (0 ∷ 2 ∷ []) $ fjoin ! $ move ! (2 ∷ 0 ∷ []) $ fjoin ! $
           fpack ! (Valss (rows parts)) (within thin_shape (thinned a) vs) vss $ move ! (2 ∷ 0 ∷ []) $ fjoin ! $
@@ -221,13 +221,13 @@ module _ (S W : RattleType) where
 
       module _ (hs : List (Held (S.Denot × W.Denot))) where
         abbrev pub mended : Inside
-        mended = record a { nodes = record { mark = a.nodes.mark; cells = written keep hs a.nodes.cells; apart = subst IsApart (sym (pointers_written keep hs a.nodes.cells)) a.nodes.apart; blocks = subst AreBlocks (sym (pointers_written keep hs a.nodes.cells)) a.nodes.blocks } }
+        mended = record a { nodes = record { marker = a.nodes.marker; cells = written keep hs a.nodes.cells; apart = subst IsApart (sym (pointers_written keep hs a.nodes.cells)) a.nodes.apart; blocks = subst AreBlocks (sym (pointers_written keep hs a.nodes.cells)) a.nodes.blocks } }
 
         pub ring_mend : ent 𝓤 (sep 𝓤 (sem 𝓛 (spread W (at_pointers R S W passed) (taken hs passed))) (sem 𝓛 (part_at Thinned full_share (thinned a) b o))) (sem 𝓛 (part_at Full full_share mended b o))
         unfolding part_of
         ring_mend = qed 𝓛 (‵ (spread W (at_pointers R S W passed) (taken hs passed)) ∷ ‵ (part_at Thinned full_share (thinned a) b o) ∷ []) ∵
             move ! (1 ∷ []) $ fpick ! (λ vs. fsplit ! $ move ! (1 ∷ []) $ fpick ! (λ vss. fsplit ! $ move ! (1 ∷ []) $ fsplit ! $ fsplit ! $
-            -- [the mark; the frames; the other fields; the value; the cell; the values]
+            -- [the marker; the frames; the other fields; the value; the cell; the values]
             move ! (5 ∷ 1 ∷ []) $ use2 𝓛 (‵ (cells_own R S W (written keep hs a.nodes.cells))) (nodes_mend R S W 𝓛 keep hs a.nodes.cells) $
             move ! (1 ∷ 0 ∷ []) $ fjoin ! $ fjoin ! $ move ! (1 ∷ 0 ∷ []) $ fjoin ! $
             fpack ! (Valss (rows (I-type.struct S W).parts)) (within (declared.shape (I-type.the_type S W)) (values_of mended) vs) vss $ move ! (1 ∷ 0 ∷ []) $ fjoin ! $
@@ -322,8 +322,8 @@ module _ (S W : RattleType) where
     named ws = state (ordered ws) 0
 
 -- the loan's field, which takes no bytes
-abbrev pub LoanMark : NamedLft → (R S W : RattleType) → RattleType
-LoanMark a R S W = Struct (owning.shape (L-type.the_type a R S W))
+abbrev pub LoanMarker : NamedLft → (R S W : RattleType) → RattleType
+LoanMarker a R S W = Struct (owning.shape (L-type.the_type a R S W))
 
-pub loan_made : (a : NamedLft) (R S W : RattleType) {M : Type 1} {𝓤 : Ura M} (𝓛 : Logic 𝓤) → ent 𝓤 (emp 𝓤) (sem 𝓛 ((LoanMark a R S W).own_val (tt, tt) (mark ∷ [])))
-loan_made a R S W 𝓛 = makes_shadow 𝓛 ((LoanMark a R S W).own_val (tt, tt) (mark ∷ [])) (λ vss. (tt, ((λ uss. (tt, tt)), tt))) ((vstruct vnil ∷ [], tt), (refl, ((tt, (refl, tt)), tt)))
+pub loan_made : (a : NamedLft) (R S W : RattleType) {M : Type 1} {𝓤 : Ura M} (𝓛 : Logic 𝓤) → ent 𝓤 (emp 𝓤) (sem 𝓛 ((LoanMarker a R S W).own_val (tt, tt) (marker ∷ [])))
+loan_made a R S W 𝓛 = makes_shadow 𝓛 ((LoanMarker a R S W).own_val (tt, tt) (marker ∷ [])) (λ vss. (tt, ((λ uss. (tt, tt)), tt))) ((vstruct vnil ∷ [], tt), (refl, ((tt, (refl, tt)), tt)))

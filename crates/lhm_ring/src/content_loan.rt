@@ -12,7 +12,7 @@ use std::marker::{Model, PhantomData};
 
 /// The right to move out what the nodes of `run` hold, each known by its pointer.
 pub(crate) struct ContentLoan<'a, L, K, V> {
-    mark: PhantomData<&'a mut Node<L, K, V>>,
+    marker: PhantomData<&'a mut Node<L, K, V>>,
     ghost name: { GName },
     ghost run: { Seq (Ptr × Option (K × V)) },
 }
@@ -25,7 +25,7 @@ impl<'a, L, K, V> Model for ContentLoan<'a, L, K, V> {
 
 impl<L, K, V> Drop for ContentLoan<'_, L, K, V> {
     fn drop(self) {
-        let Self { mark: _ } = self;
+        let Self { marker: _ } = self;
     }
 }
 
@@ -64,7 +64,9 @@ impl<L, K, V> Nodes<L, K, V> {
         (
             unsafe { &mut *anchor },
             unsafe { &*nodes },
-            ContentLoan { mark: PhantomData },
+            ContentLoan {
+                marker: PhantomData,
+            },
         )
     }
 }

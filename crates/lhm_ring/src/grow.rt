@@ -24,7 +24,7 @@ fn make_guard<K, V>(
     requires { nodes.old.cells ≡ [] }
     ensures { MatchResult result (λ g. IsRing nodes.new.cells g.ptr [] None []) (λ _. nodes.new.cells ≡ []) }
 {
-    let room = allocate(alloc)?;
+    let block = allocate(alloc)?;
     let links = Links {
         prev: nowhere(),
         next: nowhere(),
@@ -32,7 +32,7 @@ fn make_guard<K, V>(
         hash: 0,
         guard: 1,
     };
-    let at = nodes.add(room, links);
+    let at = nodes.add(block, links);
     join(nodes, at, at);
     Ok(at)
 }
@@ -46,7 +46,7 @@ fn make_spare<K, V>(
 ) -> Result<NodePointer, AllocError>
     ensures { MatchResult result (λ p. nodes.new.cells ≡ cell p.ptr (links guard spare) None ∷ nodes.old.cells) (λ _. nodes.new.cells ≡ nodes.old.cells) }
 {
-    let room = allocate(alloc)?;
+    let block = allocate(alloc)?;
     let links = Links {
         prev: guard,
         next: guard,
@@ -54,7 +54,7 @@ fn make_spare<K, V>(
         hash: 0,
         guard: 0,
     };
-    Ok(nodes.add(room, links))
+    Ok(nodes.add(block, links))
 }
 
 /// Returns the guard, and allocates it if there is none.
@@ -97,8 +97,8 @@ fn undo_guard<K, V>(
     match before {
         Some(_) => (),
         None => {
-            let room = nodes.remove(guard);
-            deallocate(alloc, room);
+            let block = nodes.remove(guard);
+            deallocate(alloc, block);
         }
     }
 }
@@ -113,8 +113,8 @@ fn free_stacked<K, V>(nodes: &mut Nodes<Links, K, V>, alloc: &Global, first: Lin
     'each: while 0 < left {
         let at = first.pointer();
         let next = nodes.links(at).link;
-        let room = nodes.remove(at);
-        deallocate(alloc, room);
+        let block = nodes.remove(at);
+        deallocate(alloc, block);
         first = next;
         left -= 1;
     }
@@ -206,8 +206,8 @@ impl<K, V> Ring<K, V> {
     {
         let at = self.spare.pointer();
         let next_spare = self.nodes.links(at).link;
-        let room = self.nodes.remove(at);
-        deallocate(&self.alloc, room);
+        let block = self.nodes.remove(at);
+        deallocate(&self.alloc, block);
         self.spare = next_spare;
         self.spares -= 1;
     }

@@ -45,7 +45,7 @@ pub struct Probe {
 /// It is not `Drop`: only `free` ends it.
 pub struct Index<K, V> {
     heads: Vec<Head>,
-    mark: PhantomData<*mut (K, V)>,
+    marker: PhantomData<*mut (K, V)>,
 }
 
 impl<K, V> Model for Index<K, V> {
@@ -79,7 +79,7 @@ fn step<K: Eq, V>(
     probe: &mut Probe,
 ) -> bool
     requires held { IsHeld ring.now.held (pointer_of at) }
-    requires room { probe.old.visited + 1 < 2 ^ 64 }
+    requires no_overflow { probe.old.visited + 1 < 2 ^ 64 }
     requires order { probe.old.compared ≤ probe.old.visited }
     ensures visited { probe.new.visited ≡ probe.old.visited + 1 }
     ensures compared { OfNodeAt ring.now.held (pointer_of at) (λ x. probe.new.compared ≡ probe.old.compared + same (spot x ∷ []) hash) }
@@ -100,7 +100,7 @@ impl<K, V> Index<K, V> {
     {
         Index {
             heads: Vec::new(alloc),
-            mark: PhantomData,
+            marker: PhantomData,
         }
     }
 
@@ -115,7 +115,7 @@ impl<K, V> Index<K, V> {
     {
         Ok(Index {
             heads: empty_heads(alloc, buckets_for(capacity))?,
-            mark: PhantomData,
+            marker: PhantomData,
         })
     }
 
@@ -244,7 +244,7 @@ impl<K, V> Index<K, V> {
 
     /// Ends the index and frees its buckets, in O(n) for them. The nodes of its ring stay.
     pub fn free(self) {
-        let Index { heads, mark: _ } = self;
+        let Index { heads, marker: _ } = self;
         free_heads(heads);
     }
 }

@@ -11,7 +11,7 @@ use std::marker::PhantomData;
 /// gives no access without the ring. Two of them cannot be compared.
 pub struct Position<K, V> {
     pub(crate) pointer: NodePointer,
-    mark: PhantomData<(K, V)>,
+    marker: PhantomData<(K, V)>,
     ghost block: { is_block pointer.ptr ≡ true } by { Bool-set _ _ },
 }
 
@@ -22,7 +22,7 @@ impl<K, V> Position<K, V> {
     {
         Position {
             pointer,
-            mark: PhantomData,
+            marker: PhantomData,
         }
     }
 }

@@ -112,8 +112,8 @@ impl<K, V> Ring<K, V> {
             spares: _,
         } = self;
         if let Some(guard) = guard {
-            let room = nodes.remove(guard);
-            deallocate(&alloc, room);
+            let block = nodes.remove(guard);
+            deallocate(&alloc, block);
         }
         nodes.end();
     }

@@ -32,7 +32,7 @@ impl<V> Move for Hole<V> {
 /// node.
 #[derive(Drop)]
 pub struct ValueLoan<'a, L, K, V> {
-    pub mark: PhantomData<&'a mut Node<L, K, V>>,
+    pub marker: PhantomData<&'a mut Node<L, K, V>>,
     ghost name: { GName },
     ghost tie: { GName },
     ghost run: { Seq (Ptr × V) },
@@ -77,7 +77,9 @@ impl<K, V> Ring<K, V> {
         let ring = &raw mut *self as *const Ring<K, Hole<V>>;
         LentValues {
             ring: unsafe { &*ring },
-            loan: ValueLoan { mark: PhantomData },
+            loan: ValueLoan {
+                marker: PhantomData,
+            },
         }
     }
 }

@@ -12,7 +12,7 @@ use Rattle.linked_hash_map.specs.Requests.{IsAbsent, HasValue}
 use Rattle.linked_hash_map.proofs.LiveKeys.{pair_of-live}
 use Rattle.linked_hash_map.proofs.Pairs.{is_some-value_at}
 use Rattle.linked_hash_map.proofs.Bridge.{find-pairs, pairs-put, pairs-write, pairs-refresh, pairs-remove, pairs-remove_all, pairs-need, pairs-fit, pairs-set_mode}
-use Rattle.linked_hash_map.proofs.Marks.{size-pairs, high-put, high-write, high-refresh, high-remove, high-remove_all, high-need, high-fit, high-set_mode}
+use Rattle.linked_hash_map.proofs.HighWater.{size-pairs, high-put, high-write, high-refresh, high-remove, high-remove_all, high-need, high-fit, high-set_mode}
 use Rattle.linked_hash_map.proofs.Standing.{mode-snoc}
 use Rattle.linked_hash_map.proofs.Distinct.{distinct-pairs}
 use Rattle.linked_hash_map.proofs.Indexes.{without-own}
@@ -41,16 +41,16 @@ no_last_is_nil (x ∷ xs) h = absurd (some_last x xs (length (x ∷ xs) - 1) (om
     some_last y [] (suc i) l n = absurd (omega arith)
     some_last y (z ∷ ys) (suc i) l n = some_last z ys i (omega arith) n
 
-module _ {K V : Type 0} {eq : K → K → Bool} (laws : IsEquivalence eq) {start : ℕ} {log : Log K V} {held : List (K × V)} {capacity : ℕ} {m : Mode} (defines : Defines eq start log held capacity m) where
-  pub size-held : size eq log ≡ length held
-  size-held = size-pairs eq log ∙ ap length defines.same_pairs
+module _ {K V : Type 0} {eq : K → K → Bool} (laws : IsEquivalence eq) {start : ℕ} {log : Log K V} {contents : List (K × V)} {capacity : ℕ} {m : Mode} (defines : Defines eq start log contents capacity m) where
+  pub size-contents : size eq log ≡ length contents
+  size-contents = size-pairs eq log ∙ ap length defines.same_pairs
 
   -- a map that has no more room is defined by a full log
-  pub IsFull-held : length held ≡ capacity → IsFull eq start log
-  IsFull-held h = size-held ∙ h ∙ sym defines.same_capacity
+  pub IsFull-contents : length contents ≡ capacity → IsFull eq start log
+  IsFull-contents h = size-contents ∙ h ∙ sym defines.same_capacity
 
   -- the map as it was
-  pub Defines-nothing : {later : List (K × V)} {capacity' : ℕ} {m' : Mode} → later ≡ held → capacity' ≡ capacity → m' ≡ m → Defines eq start (log ++ []) later capacity' m'
+  pub Defines-nothing : {later : List (K × V)} {capacity' : ℕ} {m' : Mode} → later ≡ contents → capacity' ≡ capacity → m' ≡ m → Defines eq start (log ++ []) later capacity' m'
   Defines-nothing h m o = record {
     same_pairs = ap (pairs eq) (append-nil log) ∙ defines.same_pairs ∙ sym h;
     same_capacity = ap (high eq start) (append-nil log) ∙ defines.same_capacity ∙ sym m;
@@ -58,30 +58,30 @@ module _ {K V : Type 0} {eq : K → K → Bool} (laws : IsEquivalence eq) {start
   }
 
   module _ (k : K) where
-    pub the_pair : find eq held k ≡ pair_of (eq k) log
+    pub the_pair : find eq contents k ≡ pair_of (eq k) log
     the_pair = ap (λ es. find eq es k) (sym defines.same_pairs) ∙ find-pairs laws log k
 
-    pub live-found : live (eq k) log ≡ is_some (find eq held k)
+    pub live-found : live (eq k) log ≡ is_some (find eq contents k)
     live-found = sym (pair_of-live (eq k) log) ∙ ap is_some (sym the_pair)
 
     -- a key without a pair is not live
-    pub IsAbsent-found : find eq held k ≡ None → IsAbsent eq log k
+    pub IsAbsent-found : find eq contents k ≡ None → IsAbsent eq log k
     IsAbsent-found h = live-found ∙ ap is_some h
 
     -- nor is one without a value
-    pub IsAbsent-value : value_at eq held k ≡ None → IsAbsent eq log k
-    IsAbsent-value h = live-found ∙ sym (is_some-value_at eq held k) ∙ ap is_some h
+    pub IsAbsent-value : value_at eq contents k ≡ None → IsAbsent eq log k
+    IsAbsent-value h = live-found ∙ sym (is_some-value_at eq contents k) ∙ ap is_some h
 
     -- a key with a value is live with that value
-    pub HasValue-value : {v : V} → value_at eq held k ≡ Some v → HasValue eq log k v
+    pub HasValue-value : {v : V} → value_at eq contents k ≡ Some v → HasValue eq log k v
     unfolding pair_of
     HasValue-value {v} h = (
-      live-found ∙ sym (is_some-value_at eq held k) ∙ ap is_some h,
+      live-found ∙ sym (is_some-value_at eq contents k) ∙ ap is_some h,
       value_of_zip (stored (eq k) log) (value (eq k) log) v (ap (option_map (λ pair. pair.1)) (sym the_pair) ∙ h),
     )
 
     -- the map after an insertion
-    pub Defines-put : (v : V) {later : List (K × V)} {capacity' : ℕ} {m' : Mode} → later ≡ put eq m held k v → capacity' ≡ max capacity (length later) → m' ≡ m → Defines eq start (log ++ Put k v ∷ []) later capacity' m'
+    pub Defines-put : (v : V) {later : List (K × V)} {capacity' : ℕ} {m' : Mode} → later ≡ put eq m contents k v → capacity' ≡ max capacity (length later) → m' ≡ m → Defines eq start (log ++ Put k v ∷ []) later capacity' m'
     Defines-put v {later} h m o =
         let same : pairs eq (log ++ Put k v ∷ []) ≡ later = pairs-put laws log k v ∙ (λ i. put eq (defines.same_mode i) (defines.same_pairs i) k v) ∙ sym h in
         record {
@@ -94,14 +94,14 @@ module _ {K V : Type 0} {eq : K → K → Bool} (laws : IsEquivalence eq) {start
         }
 
     -- the map after one more of many insertions
-    pub Defines-put_last : (v : V) (earlier : Log K V) (items : List (K × V)) {later : List (K × V)} {capacity' : ℕ} {m' : Mode} → log ≡ earlier ++ put_each items → later ≡ put eq m held k v → capacity' ≡ max capacity (length later) → m' ≡ m → Defines eq start (earlier ++ put_each (items ++ (k, v) ∷ [])) later capacity' m'
+    pub Defines-put_last : (v : V) (earlier : Log K V) (items : List (K × V)) {later : List (K × V)} {capacity' : ℕ} {m' : Mode} → log ≡ earlier ++ put_each items → later ≡ put eq m contents k v → capacity' ≡ max capacity (length later) → m' ≡ m → Defines eq start (earlier ++ put_each (items ++ (k, v) ∷ [])) later capacity' m'
     Defines-put_last v earlier items {later} {capacity'} {m'} is h m o =
         let longer : log ++ Put k v ∷ [] ≡ earlier ++ put_each (items ++ (k, v) ∷ []) =
         ap (λ events. events ++ Put k v ∷ []) is ∙ append_assoc earlier (put_each items) (Put k v ∷ []) ∙ ap (λ events. earlier ++ events) (sym (map-append (λ (pair : K × V). Put pair.0 pair.1) items ((k, v) ∷ []))) in
         subst (λ events. Defines eq start events later capacity' m') longer (Defines-put v h m o)
 
     -- the map after a removal
-    pub Defines-remove : {later : List (K × V)} {capacity' : ℕ} {m' : Mode} → later ≡ without eq held k → capacity' ≡ capacity → m' ≡ m → Defines eq start (log ++ Remove k ∷ []) later capacity' m'
+    pub Defines-remove : {later : List (K × V)} {capacity' : ℕ} {m' : Mode} → later ≡ without eq contents k → capacity' ≡ capacity → m' ≡ m → Defines eq start (log ++ Remove k ∷ []) later capacity' m'
     Defines-remove h m o = record {
       same_pairs = pairs-remove laws log k ∙ ap (λ es. without eq es k) defines.same_pairs ∙ sym h;
       same_capacity = high-remove laws log start k ∙ defines.same_capacity ∙ sym m;
@@ -109,7 +109,7 @@ module _ {K V : Type 0} {eq : K → K → Bool} (laws : IsEquivalence eq) {start
     }
 
     -- after a write
-    pub Defines-write : (v : V) {later : List (K × V)} {capacity' : ℕ} {m' : Mode} → later ≡ set_value eq held k v → capacity' ≡ capacity → m' ≡ m → Defines eq start (log ++ Write k v ∷ []) later capacity' m'
+    pub Defines-write : (v : V) {later : List (K × V)} {capacity' : ℕ} {m' : Mode} → later ≡ set_value eq contents k v → capacity' ≡ capacity → m' ≡ m → Defines eq start (log ++ Write k v ∷ []) later capacity' m'
     Defines-write v h m o = record {
       same_pairs = pairs-write laws log k v ∙ ap (λ es. set_value eq es k v) defines.same_pairs ∙ sym h;
       same_capacity = high-write laws log start k v ∙ defines.same_capacity ∙ sym m;
@@ -117,7 +117,7 @@ module _ {K V : Type 0} {eq : K → K → Bool} (laws : IsEquivalence eq) {start
     }
 
     -- after a refresh of a key with a value
-    pub Defines-refresh : (v : V) {later : List (K × V)} {capacity' : ℕ} {m' : Mode} → Some v ≡ value_at eq held k → later ≡ to_back eq held k v → capacity' ≡ capacity → m' ≡ m → Defines eq start (log ++ Refresh k ∷ []) later capacity' m'
+    pub Defines-refresh : (v : V) {later : List (K × V)} {capacity' : ℕ} {m' : Mode} → Some v ≡ value_at eq contents k → later ≡ to_back eq contents k v → capacity' ≡ capacity → m' ≡ m → Defines eq start (log ++ Refresh k ∷ []) later capacity' m'
     Defines-refresh v {later} {capacity'} {m'} found h m o = by_pair (pair_of (eq k) log) refl (found ∙ ap (option_map (λ pair. pair.1)) the_pair)
       where
         by_pair : (o : Option (K × V)) → pair_of (eq k) log ≡ o → Some v ≡ option_map (λ pair. pair.1) o → Defines eq start (log ++ Refresh k ∷ []) later capacity' m'
@@ -142,26 +142,26 @@ module _ {K V : Type 0} {eq : K → K → Bool} (laws : IsEquivalence eq) {start
   }
 
   -- after room is reserved
-  pub Defines-reserve : (additional : ℕ) {later : List (K × V)} {capacity' : ℕ} {m' : Mode} → later ≡ held → capacity' ≡ max capacity (length held + additional) → m' ≡ m → Defines eq start (log ++ Need (size eq log + additional) ∷ []) later capacity' m'
+  pub Defines-reserve : (additional : ℕ) {later : List (K × V)} {capacity' : ℕ} {m' : Mode} → later ≡ contents → capacity' ≡ max capacity (length contents + additional) → m' ≡ m → Defines eq start (log ++ Need (size eq log + additional) ∷ []) later capacity' m'
   Defines-reserve additional h m o = record {
     same_pairs = pairs-need laws log (size eq log + additional) ∙ defines.same_pairs ∙ sym h;
     same_capacity =
         high-need laws start log (size eq log + additional)
-        ∙ ap₂ (λ room n. max room (n + additional)) defines.same_capacity size-held
+        ∙ ap₂ (λ room n. max room (n + additional)) defines.same_capacity size-contents
         ∙ sym m;
     same_mode = mode-snoc log (Need (size eq log + additional)) ∙ defines.same_mode ∙ sym o;
   }
 
   -- after the capacity is lowered to the number of pairs
-  pub Defines-shrink : {later : List (K × V)} {capacity' : ℕ} {m' : Mode} → later ≡ held → capacity' ≡ length held → m' ≡ m → Defines eq start (log ++ Fit ∷ []) later capacity' m'
+  pub Defines-shrink : {later : List (K × V)} {capacity' : ℕ} {m' : Mode} → later ≡ contents → capacity' ≡ length contents → m' ≡ m → Defines eq start (log ++ Fit ∷ []) later capacity' m'
   Defines-shrink h m o = record {
     same_pairs = pairs-fit laws log ∙ defines.same_pairs ∙ sym h;
-    same_capacity = high-fit laws start log ∙ size-held ∙ sym m;
+    same_capacity = high-fit laws start log ∙ size-contents ∙ sym m;
     same_mode = mode-snoc log Fit ∙ defines.same_mode ∙ sym o;
   }
 
   -- after a mode is set
-  pub Defines-set_mode : (set : Mode) {later : List (K × V)} {capacity' : ℕ} {m' : Mode} → later ≡ held → capacity' ≡ capacity → m' ≡ set → Defines eq start (log ++ SetMode set ∷ []) later capacity' m'
+  pub Defines-set_mode : (set : Mode) {later : List (K × V)} {capacity' : ℕ} {m' : Mode} → later ≡ contents → capacity' ≡ capacity → m' ≡ set → Defines eq start (log ++ SetMode set ∷ []) later capacity' m'
   Defines-set_mode set h m o = record {
     same_pairs = pairs-set_mode laws log set ∙ defines.same_pairs ∙ sym h;
     same_capacity = high-set_mode laws log start set ∙ defines.same_capacity ∙ sym m;
@@ -169,25 +169,25 @@ module _ {K V : Type 0} {eq : K → K → Bool} (laws : IsEquivalence eq) {start
   }
 
   -- the keys that a log defines are different
-  distinct-held : IsDistinct eq (keys_of held)
-  distinct-held = subst (λ es. IsDistinct eq (keys_of es)) defines.same_pairs (distinct-pairs laws log)
+  distinct-contents : IsDistinct eq (keys_of contents)
+  distinct-contents = subst (λ es. IsDistinct eq (keys_of es)) defines.same_pairs (distinct-pairs laws log)
 
   -- after the pair at an index is taken out
-  Defines-take_out : (i : ℕ) (pair : K × V) {later : List (K × V)} {capacity' : ℕ} {m' : Mode} → slice_get held i ≡ Some pair → later ≡ remove held i → capacity' ≡ capacity → m' ≡ m → Defines eq start (log ++ Remove pair.0 ∷ []) later capacity' m'
-  Defines-take_out i pair there h m o = Defines-remove pair.0 (h ∙ sym (without-own laws held distinct-held i pair there)) m o
+  Defines-take_out : (i : ℕ) (pair : K × V) {later : List (K × V)} {capacity' : ℕ} {m' : Mode} → slice_get contents i ≡ Some pair → later ≡ remove contents i → capacity' ≡ capacity → m' ≡ m → Defines eq start (log ++ Remove pair.0 ∷ []) later capacity' m'
+  Defines-take_out i pair there h m o = Defines-remove pair.0 (h ∙ sym (without-own laws contents distinct-contents i pair there)) m o
 
-  pub Defines-pop_front : (k : K) (v : V) {later : List (K × V)} {capacity' : ℕ} {m' : Mode} → Some (k, v) ≡ slice_get held 0 → later ≡ drop 1 held → capacity' ≡ capacity → m' ≡ m → Defines eq start (log ++ Remove k ∷ []) later capacity' m'
+  pub Defines-pop_front : (k : K) (v : V) {later : List (K × V)} {capacity' : ℕ} {m' : Mode} → Some (k, v) ≡ slice_get contents 0 → later ≡ drop 1 contents → capacity' ≡ capacity → m' ≡ m → Defines eq start (log ++ Remove k ∷ []) later capacity' m'
   Defines-pop_front k v there h m o = Defines-take_out 0 (k, v) (sym there) h m o
 
-  pub Defines-pop_back : (k : K) (v : V) {later : List (K × V)} {capacity' : ℕ} {m' : Mode} → Some (k, v) ≡ slice_get held (length held - 1) → later ≡ take (length held - 1) held → capacity' ≡ capacity → m' ≡ m → Defines eq start (log ++ Remove k ∷ []) later capacity' m'
-  Defines-pop_back k v there h m o = Defines-take_out (length held - 1) (k, v) (sym there) (h ∙ sym (remove-last held)) m o
+  pub Defines-pop_back : (k : K) (v : V) {later : List (K × V)} {capacity' : ℕ} {m' : Mode} → Some (k, v) ≡ slice_get contents (length contents - 1) → later ≡ take (length contents - 1) contents → capacity' ≡ capacity → m' ≡ m → Defines eq start (log ++ Remove k ∷ []) later capacity' m'
+  Defines-pop_back k v there h m o = Defines-take_out (length contents - 1) (k, v) (sym there) (h ∙ sym (remove-last contents)) m o
 
   -- the pair at an index of the map is that of the log
-  pub slice_get-held : (i : ℕ) {o : Option (K × V)} → o ≡ slice_get held i → slice_get (pairs eq log) i ≡ o
-  slice_get-held i h = ap (λ es. slice_get es i) defines.same_pairs ∙ sym h
+  pub slice_get-contents : (i : ℕ) {o : Option (K × V)} → o ≡ slice_get contents i → slice_get (pairs eq log) i ≡ o
+  slice_get-contents i h = ap (λ es. slice_get es i) defines.same_pairs ∙ sym h
 
-  pub slice_get_last-held : {o : Option (K × V)} → o ≡ slice_get held (length held - 1) → slice_get (pairs eq log) (length (pairs eq log) - 1) ≡ o
-  slice_get_last-held h = ap (λ es. slice_get es (length es - 1)) defines.same_pairs ∙ sym h
+  pub slice_get_last-contents : {o : Option (K × V)} → o ≡ slice_get contents (length contents - 1) → slice_get (pairs eq log) (length (pairs eq log) - 1) ≡ o
+  slice_get_last-contents h = ap (λ es. slice_get es (length es - 1)) defines.same_pairs ∙ sym h
 
-  pub pairs-no_last : None ≡ slice_get held (length held - 1) → pairs eq log ≡ []
-  pairs-no_last h = defines.same_pairs ∙ no_last_is_nil held h
+  pub pairs-no_last : None ≡ slice_get contents (length contents - 1) → pairs eq log ≡ []
+  pairs-no_last h = defines.same_pairs ∙ no_last_is_nil contents h

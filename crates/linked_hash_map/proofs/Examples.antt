@@ -3,7 +3,7 @@ use Rattle.std.proofs.Common.{◌≡◌, ℕ, ◌%◌, Bool, false, List, [], �
 use Rattle.linked_hash_map.specs.declared.map.Mode.TheVariants.{Touch, Keep}
 use Rattle.linked_hash_map.specs.Log.{Log, Put, Write, Refresh, Remove, RemoveAll, Need, Fit, SetMode, mode, live, stored, value, pair_of, standing_in, standing, pairs, size, high}
 use Rattle.linked_hash_map.specs.Pairs.{find, value_at, without, to_back, set_value}
-use Rattle.linked_hash_map.specs.Requests.{Request, Response, effects, next_log, IsLive, IsAbsent, HasValue, HasNoRoom, Answers, IsAllowed}
+use Rattle.linked_hash_map.specs.Requests.{effects, IsAllowed}
 use Rattle.linked_hash_map.specs.Requests as spec
 use Rattle.linked_hash_map.specs.Run.{last_log, IsRun}
 use Rattle.linked_hash_map.specs.declared.replay.Command.{Command}
@@ -74,7 +74,7 @@ cleared-pairs : pairs {V = ℕ} nat_eq (Put 1 1 ∷ Put 2 2 ∷ RemoveAll ∷ Pu
 unfolding mode live stored value standing_in standing pair_of pairs
 cleared-pairs = refl
 
--- a Need raises the mark, a Fit brings it down to the size
+-- a Need raises the high-water mark, a Fit brings it down to the size
 needed-high : high {V = ℕ} nat_eq 0 (Need 2 ∷ Put 1 1 ∷ Put 2 2 ∷ Need 3 ∷ Remove 1 ∷ []) ≡ 3
 unfolding mode live standing_in standing size high
 needed-high = refl

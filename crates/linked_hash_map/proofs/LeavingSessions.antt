@@ -6,18 +6,18 @@ use Rattle.std.proofs.lemmas.List.Sums.{length-filter, count_by-le-length}
 use Rattle.linked_hash_map.specs.SessionTables.{Session, total_weight, without, fit}
 use Rattle.linked_hash_map.proofs.SessionLists.{total_weight-cons, fit-all, fit-more}
 
-module _ {T : Type 0} (id room : ℕ) (all : List (Session T)) where
+module _ {T : Type 0} (id weight_left : ℕ) (all : List (Session T)) where
   -- count of the sessions except that with the id were passed, all of which go; the rest are to come, and weigh so much
   pub record IsPast (count weight : ℕ) (rest : List (Session T)) : Type 0 where
     pub left : drop count (without all id) ≡ without rest id
     pub weighs : weight ≡ total_weight (without rest id)
-    pub goes : fit room (without all id) ≡ fit room (without rest id)
+    pub goes : fit weight_left (without all id) ≡ fit weight_left (without rest id)
     pub counted : count + length (without rest id) ≡ length (without all id)
 
   -- these go, and the others stay
   pub record AreLeaving (count staying : ℕ) : Type 0 where
-    pub stay : drop count (without all id) ≡ fit room (without all id)
-    pub weigh : staying ≡ total_weight (fit room (without all id))
+    pub stay : drop count (without all id) ≡ fit weight_left (without all id)
+    pub weigh : staying ≡ total_weight (fit weight_left (without all id))
     pub within : count ≤ length (without all id)
 
   module _ {count weight : ℕ} where
@@ -28,12 +28,12 @@ module _ {T : Type 0} (id room : ℕ) (all : List (Session T)) where
         record {
           left = past.left ∙ same;
           weighs = past.weighs ∙ ap total_weight same;
-          goes = past.goes ∙ ap (fit room) same;
+          goes = past.goes ∙ ap (fit weight_left) same;
           counted = omega (arith, past.counted, ap length same);
         }
 
     -- while too much is left, the next one goes
-    pub IsPast-more : (session : Session T) (rest : List (Session T)) → IsPast count weight (session ∷ rest) → (id ≡ session.0 → ⊥) → room < weight → IsPast (count + 1) (weight - session.1) rest
+    pub IsPast-more : (session : Session T) (rest : List (Session T)) → IsPast count weight (session ∷ rest) → (id ≡ session.0 → ⊥) → weight_left < weight → IsPast (count + 1) (weight - session.1) rest
     IsPast-more session rest past other heavy =
         let same : without (session ∷ rest) id ≡ session ∷ without rest id = ap (λ b. cond (not b) (session ∷ without rest id) (without rest id)) (ne_eqb id session.0 other) in
         let sum = total_weight-cons session (without rest id) in
@@ -41,7 +41,7 @@ module _ {T : Type 0} (id room : ℕ) (all : List (Session T)) where
         record {
           left = sym (drop-drop 1 count (without all id)) ∙ ap (drop 1) (past.left ∙ same);
           weighs = omega arith;
-          goes = past.goes ∙ ap (fit room) same ∙ fit-more room session (without rest id) (omega arith);
+          goes = past.goes ∙ ap (fit weight_left) same ∙ fit-more weight_left session (without rest id) (omega arith);
           counted = omega (arith, past.counted, ap length same);
         }
 
@@ -58,9 +58,9 @@ module _ {T : Type 0} (id room : ℕ) (all : List (Session T)) where
     few-past rest past = omega (arith, past.counted, length-filter (λ (session : Session T). not (nat_eq id session.0)) all, count_by-le-length (λ (session : Session T). not (nat_eq id session.0)) all)
 
     -- once they fit, all that are left stay
-    pub AreLeaving-past : (rest : List (Session T)) → IsPast count weight rest → weight ≤ room → AreLeaving count weight
+    pub AreLeaving-past : (rest : List (Session T)) → IsPast count weight rest → weight ≤ weight_left → AreLeaving count weight
     AreLeaving-past rest past light =
-        let all_left : fit room (without all id) ≡ without rest id = past.goes ∙ fit-all room (without rest id) (subst (λ n. n ≤ room) past.weighs light) in
+        let all_left : fit weight_left (without all id) ≡ without rest id = past.goes ∙ fit-all weight_left (without rest id) (subst (λ n. n ≤ weight_left) past.weighs light) in
         record {
           stay = past.left ∙ sym all_left;
           weigh = past.weighs ∙ ap total_weight (sym all_left);

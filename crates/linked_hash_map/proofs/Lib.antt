@@ -13,6 +13,7 @@ mod Examples
 pub mod Extends
 pub mod FirstAndLast
 pub mod Growth
+pub mod HighWater
 pub mod Indexes
 pub mod Inserts
 pub mod Kept
@@ -21,7 +22,6 @@ pub mod LendMap
 pub mod Lists
 pub mod LiveKeys
 pub mod MarkMoves
-pub mod Marks
 pub mod MovedNode
 pub mod Outcomes
 pub mod Outside

@@ -20,8 +20,8 @@ use Rattle.linked_hash_map.specs.declared.replay.Answer.TheVariants.{New, Old, F
 use Rattle.linked_hash_map.proofs.LiveKeys.{none_is, stored-live}
 use Rattle.linked_hash_map.proofs.Pairs.{is_some-value_at, set_value-none, to_back-absent, put-absent}
 use Rattle.linked_hash_map.proofs.Distinct.{distinct-pairs}
-use Rattle.linked_hash_map.proofs.Marks.{size-high}
-use Rattle.linked_hash_map.proofs.Effects.{size-held, the_pair, live-found, Defines-nothing, Defines-put, Defines-remove, Defines-write, Defines-refresh, Defines-remove_all, Defines-reserve, Defines-shrink, Defines-pop_front, Defines-pop_back, Defines-set_mode}
+use Rattle.linked_hash_map.proofs.HighWater.{size-high}
+use Rattle.linked_hash_map.proofs.Effects.{size-contents, the_pair, live-found, Defines-nothing, Defines-put, Defines-remove, Defines-write, Defines-refresh, Defines-remove_all, Defines-reserve, Defines-shrink, Defines-pop_front, Defines-pop_back, Defines-set_mode}
 use Rattle.linked_hash_map.proofs.Callers.Keys.{without-absent}
 use Rattle.linked_hash_map.proofs.Callers.Collected.{length-insert_each_least}
 
@@ -30,46 +30,46 @@ value_of_zip None w v there h = absurd (true≢false (sym there))
 value_of_zip (Some s) None v there h = absurd (true≢false (sym (ap is_some h)))
 value_of_zip (Some s) (Some w) v there h = h
 
-module _ {K V : Type 0} {eq : K → K → Bool} (laws : IsEquivalence eq) {start : ℕ} {log : Log K V} {held : List (K × V)} {room : ℕ} {mode : Mode} (defines : Defines eq start log held room mode) where
+module _ {K V : Type 0} {eq : K → K → Bool} (laws : IsEquivalence eq) {start : ℕ} {log : Log K V} {contents : List (K × V)} {room : ℕ} {mode : Mode} (defines : Defines eq start log contents room mode) where
   -- what a log defines fits its capacity, and its keys differ
-  pub length-defined : length held ≤ room
+  pub length-defined : length contents ≤ room
   length-defined =
-      let size_is = size-held laws defines in
+      let size_is = size-contents laws defines in
       let within = size-high eq start log in
       let room_is = defines.same_capacity in
       omega arith
 
-  pub distinct-defined : IsDistinct eq (keys_of held)
+  pub distinct-defined : IsDistinct eq (keys_of contents)
   distinct-defined = subst (λ ps. IsDistinct eq (keys_of ps)) defines.same_pairs (distinct-pairs laws log)
 
   -- what the log says of a key, the pairs say
-  pub find-absent : (k : K) → IsAbsent eq log k → find eq held k ≡ None
-  find-absent k absent = none_is (find eq held k) (sym (live-found laws defines k) ∙ absent)
+  pub find-absent : (k : K) → IsAbsent eq log k → find eq contents k ≡ None
+  find-absent k absent = none_is (find eq contents k) (sym (live-found laws defines k) ∙ absent)
 
-  pub find-live : (k : K) → IsLive eq log k → IsSome (find eq held k)
+  pub find-live : (k : K) → IsLive eq log k → IsSome (find eq contents k)
   find-live k is_live = sym (live-found laws defines k) ∙ is_live
 
-  pub value_at-HasValue : (k : K) (v : V) → HasValue eq log k v → value_at eq held k ≡ Some v
+  pub value_at-HasValue : (k : K) (v : V) → HasValue eq log k v → value_at eq contents k ≡ Some v
   unfolding pair_of
   value_at-HasValue k v has =
       ap (option_map (λ pair. pair.1)) (the_pair laws defines k)
       ∙ value_of_zip (stored (eq k) log) (value (eq k) log) v (stored-live (eq k) log ∙ has.0) has.1
 
-  pub pairs-first : (o : Option (K × V)) → slice_get (pairs eq log) 0 ≡ o → slice_get held 0 ≡ o
+  pub pairs-first : (o : Option (K × V)) → slice_get (pairs eq log) 0 ≡ o → slice_get contents 0 ≡ o
   pairs-first o h = ap (λ ps. slice_get ps 0) (sym defines.same_pairs) ∙ h
 
-  pub pairs-last : (o : Option (K × V)) → slice_get (pairs eq log) (length (pairs eq log) - 1) ≡ o → slice_get held (length held - 1) ≡ o
+  pub pairs-last : (o : Option (K × V)) → slice_get (pairs eq log) (length (pairs eq log) - 1) ≡ o → slice_get contents (length contents - 1) ≡ o
   pairs-last o h = ap (λ ps. slice_get ps (length ps - 1)) (sym defines.same_pairs) ∙ h
 
 -- after insertions one after another
-pub Defines-put_each : {K V : Type 0} {eq : K → K → Bool} (laws : IsEquivalence eq) {start : ℕ} (items : List (K × V)) (log : Log K V) (held : List (K × V)) (room : ℕ) (mode : Mode) → Defines eq start log held room mode → Defines eq start (log ++ put_each items) (insert_each eq mode held items) (max room (length (insert_each eq mode held items))) mode
-Defines-put_each laws [] log held room mode defines =
+pub Defines-put_each : {K V : Type 0} {eq : K → K → Bool} (laws : IsEquivalence eq) {start : ℕ} (items : List (K × V)) (log : Log K V) (contents : List (K × V)) (room : ℕ) (mode : Mode) → Defines eq start log contents room mode → Defines eq start (log ++ put_each items) (insert_each eq mode contents items) (max room (length (insert_each eq mode contents items))) mode
+Defines-put_each laws [] log contents room mode defines =
     let within = length-defined laws defines in
     Defines-nothing laws defines refl (omega arith) refl
-Defines-put_each {K} {V} {eq} laws {start} (item ∷ items) log held room mode defines =
-    let one = put eq mode held item.0 item.1 in
+Defines-put_each {K} {V} {eq} laws {start} (item ∷ items) log contents room mode defines =
+    let one = put eq mode contents item.0 item.1 in
     let first = max room (length one) in
-    let all = insert_each eq mode held (item ∷ items) in
+    let all = insert_each eq mode contents (item ∷ items) in
     let whole = length all in
     let went_in = Defines-put laws defines item.0 item.1 refl refl refl in
     let rest = Defines-put_each laws items (log ++ Put item.0 item.1 ∷ []) one first mode went_in in
@@ -80,8 +80,8 @@ Defines-put_each {K} {V} {eq} laws {start} (item ∷ items) log held room mode d
 
 -- an answer, and what the log after it defines
 abbrev pub Outcome : {K V : Type 0} → (K → K → Bool) → ℕ → Log K V → List (K × V) → ℕ → Mode → Command K V → Answer K V → Type 0
-Outcome eq start log held room mode command answer =
-    (answer ≡ answer_to eq held command) × Defines eq start (log_after eq log command answer) (pairs_after eq mode held command) (capacity_after eq mode room held command) (mode_after mode command)
+Outcome eq start log contents room mode command answer =
+    (answer ≡ answer_to eq contents command) × Defines eq start (log_after eq log command answer) (pairs_after eq mode contents command) (capacity_after eq mode room contents command) (mode_after mode command)
 
 pub not_above : (limit n : ℕ) → n ≤ limit → nat_lt limit n ≡ false
 not_above limit n most = by_test (nat_lt limit n) refl
@@ -90,74 +90,74 @@ not_above limit n most = by_test (nat_lt limit n) refl
     by_test true above = absurd (let more = ltb-true limit n above in omega arith)
     by_test false above = above
 
-module _ {K V : Type 0} {eq : K → K → Bool} (laws : IsEquivalence eq) {start : ℕ} {log : Log K V} {held : List (K × V)} {room : ℕ} {mode : Mode} (defines : Defines eq start log held room mode) where
-  no_value : (k : K) → IsAbsent eq log k → value_at eq held k ≡ None
+module _ {K V : Type 0} {eq : K → K → Bool} (laws : IsEquivalence eq) {start : ℕ} {log : Log K V} {contents : List (K × V)} {room : ℕ} {mode : Mode} (defines : Defines eq start log contents room mode) where
+  no_value : (k : K) → IsAbsent eq log k → value_at eq contents k ≡ None
   no_value k told = ap (option_map (λ pair. pair.1)) (find-absent laws defines k told)
 
   -- an answer that is no refusal, to each command
-  pub insert_outcome : (k : K) (v : V) (answer : Answer K V) → Answers eq start log (request_of (Insert k v)) (response_of answer) → is_refusal answer ≡ false → Outcome eq start log held room mode (Insert k v) answer
+  pub insert_outcome : (k : K) (v : V) (answer : Answer K V) → Answers eq start log (request_of (Insert k v)) (response_of answer) → is_refusal answer ≡ false → Outcome eq start log contents room mode (Insert k v) answer
   insert_outcome k v New told given = (ap (old_or New) (sym (no_value k told)), Defines-put laws defines k v refl refl refl)
   insert_outcome k v (Old w) told given = (ap (old_or New) (sym (value_at-HasValue laws defines k w told)), Defines-put laws defines k v refl refl refl)
   insert_outcome k v (Refused j w) told given = absurd (true≢false given)
   insert_outcome k v _ told given = absurd told
 
-  pub entry_insert_outcome : (k : K) (v : V) (answer : Answer K V) → Answers eq start log (request_of (EntryInsert k v)) (response_of answer) → is_refusal answer ≡ false → Outcome eq start log held room mode (EntryInsert k v) answer
+  pub entry_insert_outcome : (k : K) (v : V) (answer : Answer K V) → Answers eq start log (request_of (EntryInsert k v)) (response_of answer) → is_refusal answer ≡ false → Outcome eq start log contents room mode (EntryInsert k v) answer
   entry_insert_outcome k v New told given = (ap (old_or New) (sym (no_value k told)), Defines-put laws defines k v refl refl refl)
   entry_insert_outcome k v (Old w) told given = (ap (old_or New) (sym (value_at-HasValue laws defines k w told)), Defines-put laws defines k v refl refl refl)
   entry_insert_outcome k v (Refused j w) told given = absurd (true≢false given)
   entry_insert_outcome k v _ told given = absurd told
 
-  pub or_insert_outcome : (k : K) (v : V) (answer : Answer K V) → Answers eq start log (request_of (OrInsert k v)) (response_of answer) → is_refusal answer ≡ false → Outcome eq start log held room mode (OrInsert k v) answer
+  pub or_insert_outcome : (k : K) (v : V) (answer : Answer K V) → Answers eq start log (request_of (OrInsert k v)) (response_of answer) → is_refusal answer ≡ false → Outcome eq start log contents room mode (OrInsert k v) answer
   or_insert_outcome k v New told given =
       let absent = find-absent laws defines k told in
       let none = ap is_some absent in
-      (ap (λ b. cond b Found New) (sym none), Defines-put laws defines k v (ap (λ b. cond b held (to_back eq held k v)) none ∙ sym (to_back-absent eq held k v absent) ∙ put-absent eq mode held k v absent) refl refl)
+      (ap (λ b. cond b Found New) (sym none), Defines-put laws defines k v (ap (λ b. cond b contents (to_back eq contents k v)) none ∙ sym (to_back-absent eq contents k v absent) ∙ put-absent eq mode contents k v absent) refl refl)
   or_insert_outcome k v Found told given =
       let there = find-live laws defines k told in
-      let same : cond (is_some (find eq held k)) held (to_back eq held k v) ≡ held = ap (λ b. cond b held (to_back eq held k v)) there in
+      let same : cond (is_some (find eq contents k)) contents (to_back eq contents k v) ≡ contents = ap (λ b. cond b contents (to_back eq contents k v)) there in
       let within = length-defined laws defines in
-      let as_long : length (cond (is_some (find eq held k)) held (to_back eq held k v)) ≡ length held = ap length same in
+      let as_long : length (cond (is_some (find eq contents k)) contents (to_back eq contents k v)) ≡ length contents = ap length same in
       (ap (λ b. cond b Found New) (sym there), Defines-nothing laws defines same (omega arith) refl)
   or_insert_outcome k v (Refused j w) told given = absurd (true≢false given)
   or_insert_outcome k v _ told given = absurd told
 
-  pub write_outcome : (k : K) (v : V) (answer : Answer K V) → Answers eq start log (request_of (Write k v)) (response_of answer) → Outcome eq start log held room mode (Write k v) answer
+  pub write_outcome : (k : K) (v : V) (answer : Answer K V) → Answers eq start log (request_of (Write k v)) (response_of answer) → Outcome eq start log contents room mode (Write k v) answer
   write_outcome k v (Old w) told = (ap (old_or (Absent k v)) (sym (value_at-HasValue laws defines k w told)), Defines-write laws defines k v refl refl refl)
   write_outcome k v (Absent j w) told = (
     ap₂ (λ key value. Absent key value) told.1 told.2 ∙ ap (old_or (Absent k v)) (sym (no_value k told.0)),
-    Defines-nothing laws defines (set_value-none eq held k v (find-absent laws defines k told.0)) refl refl,
+    Defines-nothing laws defines (set_value-none eq contents k v (find-absent laws defines k told.0)) refl refl,
   )
   write_outcome k v _ told = absurd told
 
-  pub remove_outcome : (k : K) (answer : Answer K V) → Answers eq start log (request_of (Remove k)) (response_of answer) → Outcome eq start log held room mode (Remove k) answer
+  pub remove_outcome : (k : K) (answer : Answer K V) → Answers eq start log (request_of (Remove k)) (response_of answer) → Outcome eq start log contents room mode (Remove k) answer
   remove_outcome k (Old w) told = (ap (old_or Missing) (sym (value_at-HasValue laws defines k w told)), Defines-remove laws defines k refl refl refl)
-  remove_outcome k Missing told = (ap (old_or Missing) (sym (no_value k told)), Defines-nothing laws defines (without-absent eq held k (find-absent laws defines k told)) refl refl)
+  remove_outcome k Missing told = (ap (old_or Missing) (sym (no_value k told)), Defines-nothing laws defines (without-absent eq contents k (find-absent laws defines k told)) refl refl)
   remove_outcome k _ told = absurd told
 
-  pub entry_remove_outcome : (k : K) (answer : Answer K V) → Answers eq start log (request_of (EntryRemove k)) (response_of answer) → Outcome eq start log held room mode (EntryRemove k) answer
+  pub entry_remove_outcome : (k : K) (answer : Answer K V) → Answers eq start log (request_of (EntryRemove k)) (response_of answer) → Outcome eq start log contents room mode (EntryRemove k) answer
   entry_remove_outcome k (Old w) told = (ap (old_or Missing) (sym (value_at-HasValue laws defines k w told)), Defines-remove laws defines k refl refl refl)
-  entry_remove_outcome k Missing told = (ap (old_or Missing) (sym (no_value k told)), Defines-nothing laws defines (without-absent eq held k (find-absent laws defines k told)) refl refl)
+  entry_remove_outcome k Missing told = (ap (old_or Missing) (sym (no_value k told)), Defines-nothing laws defines (without-absent eq contents k (find-absent laws defines k told)) refl refl)
   entry_remove_outcome k _ told = absurd told
 
-  pub refresh_outcome : (k : K) (answer : Answer K V) → Answers eq start log (request_of (Refresh k)) (response_of answer) → Outcome eq start log held room mode (Refresh k) answer
-  refresh_outcome k Found told = (ap (λ b. cond b Found Missing) (sym there), by_value (value_at eq held k) refl (is_some-value_at eq held k ∙ there))
+  pub refresh_outcome : (k : K) (answer : Answer K V) → Answers eq start log (request_of (Refresh k)) (response_of answer) → Outcome eq start log contents room mode (Refresh k) answer
+  refresh_outcome k Found told = (ap (λ b. cond b Found Missing) (sym there), by_value (value_at eq contents k) refl (is_some-value_at eq contents k ∙ there))
     where
-      there : is_some (find eq held k) ≡ true
+      there : is_some (find eq contents k) ≡ true
       there = find-live laws defines k told
 
-      by_value : (o : Option V) → value_at eq held k ≡ o → is_some (value_at eq held k) ≡ true → Defines eq start (log_after eq log (Refresh k) Found) (to_back_if_some eq held k (value_at eq held k)) room mode
+      by_value : (o : Option V) → value_at eq contents k ≡ o → is_some (value_at eq contents k) ≡ true → Defines eq start (log_after eq log (Refresh k) Found) (to_back_if_some eq contents k (value_at eq contents k)) room mode
       by_value None is some = absurd (true≢false (sym some ∙ ap is_some is))
-      by_value (Some v) is some = Defines-refresh laws defines k v (sym is) (ap (to_back_if_some eq held k) is) refl refl
+      by_value (Some v) is some = Defines-refresh laws defines k v (sym is) (ap (to_back_if_some eq contents k) is) refl refl
   refresh_outcome k Missing told = (
     ap (λ b. cond b Found Missing) (sym (ap is_some (find-absent laws defines k told))),
-    Defines-nothing laws defines (ap (to_back_if_some eq held k) (no_value k told)) refl refl,
+    Defines-nothing laws defines (ap (to_back_if_some eq contents k) (no_value k told)) refl refl,
   )
   refresh_outcome k _ told = absurd told
 
-  held-nil : pairs eq log ≡ [] → held ≡ []
+  held-nil : pairs eq log ≡ [] → contents ≡ []
   held-nil none = sym defines.same_pairs ∙ none
 
-  pub pop_front_outcome : (answer : Answer K V) → Answers eq start log (request_of PopFront) (response_of answer) → Outcome eq start log held room mode PopFront answer
+  pub pop_front_outcome : (answer : Answer K V) → Answers eq start log (request_of PopFront) (response_of answer) → Outcome eq start log contents room mode PopFront answer
   pop_front_outcome (Pair k v) told =
       let first = pairs-first laws defines (Some (k, v)) told in
       (ap pair_or_empty (sym first), Defines-pop_front laws defines k v (sym first) refl refl refl)
@@ -166,7 +166,7 @@ module _ {K V : Type 0} {eq : K → K → Bool} (laws : IsEquivalence eq) {start
       (ap (λ ps. pair_or_empty (slice_get ps 0)) (sym none), Defines-nothing laws defines (ap (drop 1) none ∙ sym none) refl refl)
   pop_front_outcome _ told = absurd told
 
-  pub pop_back_outcome : (answer : Answer K V) → Answers eq start log (request_of PopBack) (response_of answer) → Outcome eq start log held room mode PopBack answer
+  pub pop_back_outcome : (answer : Answer K V) → Answers eq start log (request_of PopBack) (response_of answer) → Outcome eq start log contents room mode PopBack answer
   pop_back_outcome (Pair k v) told =
       let last = pairs-last laws defines (Some (k, v)) told in
       (ap pair_or_empty (sym last), Defines-pop_back laws defines k v (sym last) refl refl refl)
@@ -175,42 +175,42 @@ module _ {K V : Type 0} {eq : K → K → Bool} (laws : IsEquivalence eq) {start
       (ap (λ ps. pair_or_empty (slice_get ps (length ps - 1))) (sym none), Defines-nothing laws defines (ap (λ ps. take (length ps - 1) ps) none ∙ sym none) refl refl)
   pop_back_outcome _ told = absurd told
 
-  pub clear_outcome : (answer : Answer K V) → Answers eq start log (request_of Clear) (response_of answer) → Outcome eq start log held room mode Clear answer
+  pub clear_outcome : (answer : Answer K V) → Answers eq start log (request_of Clear) (response_of answer) → Outcome eq start log contents room mode Clear answer
   clear_outcome Done told = (refl, Defines-remove_all laws defines refl refl refl)
   clear_outcome _ told = absurd told
 
-  pub drain_outcome : (answer : Answer K V) → Answers eq start log (request_of Drain) (response_of answer) → is_refusal answer ≡ false → Outcome eq start log held room mode Drain answer
+  pub drain_outcome : (answer : Answer K V) → Answers eq start log (request_of Drain) (response_of answer) → is_refusal answer ≡ false → Outcome eq start log contents room mode Drain answer
   drain_outcome (Pairs drained) told given = (ap (λ ps. Pairs ps) (told ∙ defines.same_pairs), Defines-remove_all laws defines refl refl refl)
   drain_outcome NoRoom told given = absurd (true≢false given)
   drain_outcome _ told given = absurd told
 
-  pub extend_outcome : (items : List (K × V)) (answer : Answer K V) → Answers eq start log (request_of (Extend items)) (response_of answer) → is_refusal answer ≡ false → Outcome eq start log held room mode (Extend items) answer
-  extend_outcome items Done told given = (refl, Defines-put_each laws items log held room mode defines)
+  pub extend_outcome : (items : List (K × V)) (answer : Answer K V) → Answers eq start log (request_of (Extend items)) (response_of answer) → is_refusal answer ≡ false → Outcome eq start log contents room mode (Extend items) answer
+  extend_outcome items Done told given = (refl, Defines-put_each laws items log contents room mode defines)
   extend_outcome items (Stopped n k v) told given = absurd (true≢false given)
   extend_outcome items _ told given = absurd told
 
-  pub reserve_outcome : (additional : ℕ) (answer : Answer K V) → Answers eq start log (request_of (Reserve additional)) (response_of answer) → is_refusal answer ≡ false → Outcome eq start log held room mode (Reserve additional) answer
+  pub reserve_outcome : (additional : ℕ) (answer : Answer K V) → Answers eq start log (request_of (Reserve additional)) (response_of answer) → is_refusal answer ≡ false → Outcome eq start log contents room mode (Reserve additional) answer
   reserve_outcome additional Done told given =
-      let size_is = size-held laws defines in
-      let within : nat_lt LIMIT (length held + additional) ≡ false = not_above LIMIT (length held + additional) (subst (λ n. n + additional ≤ LIMIT) size_is told) in
-      (ap (λ b. cond b TooLarge Done) (sym within), Defines-reserve laws defines additional refl (ap (λ b. cond b room (max room (length held + additional))) within) refl)
+      let size_is = size-contents laws defines in
+      let within : nat_lt LIMIT (length contents + additional) ≡ false = not_above LIMIT (length contents + additional) (subst (λ n. n + additional ≤ LIMIT) size_is told) in
+      (ap (λ b. cond b TooLarge Done) (sym within), Defines-reserve laws defines additional refl (ap (λ b. cond b room (max room (length contents + additional))) within) refl)
   reserve_outcome additional TooLarge told given =
-      let size_is = size-held laws defines in
-      let above : nat_lt LIMIT (length held + additional) ≡ true = lt-ltb LIMIT (length held + additional) (subst (λ n. LIMIT < n + additional) size_is told) in
-      (ap (λ b. cond b TooLarge Done) (sym above), Defines-nothing laws defines refl (ap (λ b. cond b room (max room (length held + additional))) above) refl)
+      let size_is = size-contents laws defines in
+      let above : nat_lt LIMIT (length contents + additional) ≡ true = lt-ltb LIMIT (length contents + additional) (subst (λ n. LIMIT < n + additional) size_is told) in
+      (ap (λ b. cond b TooLarge Done) (sym above), Defines-nothing laws defines refl (ap (λ b. cond b room (max room (length contents + additional))) above) refl)
   reserve_outcome additional NoRoom told given = absurd (true≢false given)
   reserve_outcome additional _ told given = absurd told
 
-  pub shrink_outcome : (answer : Answer K V) → Answers eq start log (request_of Shrink) (response_of answer) → is_refusal answer ≡ false → Outcome eq start log held room mode Shrink answer
+  pub shrink_outcome : (answer : Answer K V) → Answers eq start log (request_of Shrink) (response_of answer) → is_refusal answer ≡ false → Outcome eq start log contents room mode Shrink answer
   shrink_outcome Done told given = (refl, Defines-shrink laws defines refl refl refl)
   shrink_outcome NoRoom told given = absurd (true≢false given)
   shrink_outcome _ told given = absurd told
 
-  pub set_mode_outcome : (m : Mode) (answer : Answer K V) → Answers eq start log (request_of (SetMode m)) (response_of answer) → Outcome eq start log held room mode (SetMode m) answer
+  pub set_mode_outcome : (m : Mode) (answer : Answer K V) → Answers eq start log (request_of (SetMode m)) (response_of answer) → Outcome eq start log contents room mode (SetMode m) answer
   set_mode_outcome m Done told = (refl, Defines-set_mode laws defines m refl refl refl)
   set_mode_outcome m _ told = absurd told
 
-  pub outcome : (command : Command K V) (answer : Answer K V) → Answers eq start log (request_of command) (response_of answer) → is_refusal answer ≡ false → Outcome eq start log held room mode command answer
+  pub outcome : (command : Command K V) (answer : Answer K V) → Answers eq start log (request_of command) (response_of answer) → is_refusal answer ≡ false → Outcome eq start log contents room mode command answer
   outcome (Insert k v) answer told given = insert_outcome k v answer told given
   outcome (Write k v) answer told given = write_outcome k v answer told
   outcome (Refresh k) answer told given = refresh_outcome k answer told

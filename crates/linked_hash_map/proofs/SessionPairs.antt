@@ -11,7 +11,7 @@ use Rattle.linked_hash_map.specs.Pairs as pairs
 use Rattle.linked_hash_map.specs.Validity.{IsValid}
 use Rattle.linked_hash_map.specs.SessionTables.{Session, session_table, ids_of, total_weight, session_of, payload_of, weight_of, without, with_last, to_end, IsValidTable}
 use Rattle.linked_hash_map.specs.SessionsKept.{sessions_of, IsKeptWithin}
-use Rattle.linked_hash_map.specs.declared.sessions.storage.Held.{Held}
+use Rattle.linked_hash_map.specs.declared.sessions.storage.Weighted.{Weighted}
 use Rattle.linked_hash_map.specs.Changes.{refreshed}
 use Rattle.linked_hash_map.proofs.Callers.Keys.{IsSome-find, length-to_back_present}
 use Rattle.linked_hash_map.proofs.Callers.Lookups.{eq-stored}
@@ -19,14 +19,14 @@ use Rattle.linked_hash_map.proofs.Callers.Valid.{IsValid-to_back_present}
 use Rattle.linked_hash_map.proofs.SessionLists.{total_weight-without, total_weight-with_last}
 
 module _ {T : Type 0} where
-  abbrev session : ℕ × Held T → Session T
+  abbrev session : ℕ × Weighted T → Session T
   session pair = (pair.0, pair.1.weight, pair.1.payload)
 
-  ids_of-sessions_of : (ps : List (ℕ × Held T)) → ids_of (sessions_of ps) ≡ keys_of ps
+  ids_of-sessions_of : (ps : List (ℕ × Weighted T)) → ids_of (sessions_of ps) ≡ keys_of ps
   ids_of-sessions_of [] = refl
   ids_of-sessions_of (pair ∷ ps) = ap (λ ids. pair.0 ∷ ids) (ids_of-sessions_of ps)
 
-  pub sessions_of-without : (ps : List (ℕ × Held T)) (id : ℕ) → sessions_of (pairs.without nat_eq ps id) ≡ without (sessions_of ps) id
+  pub sessions_of-without : (ps : List (ℕ × Weighted T)) (id : ℕ) → sessions_of (pairs.without nat_eq ps id) ≡ without (sessions_of ps) id
   sessions_of-without [] id = refl
   sessions_of-without (pair ∷ ps) id = by_test (nat_eq id pair.0) (sessions_of-without ps id)
     where
@@ -36,7 +36,7 @@ module _ {T : Type 0} where
       by_test false rest = ap (λ l. session pair ∷ l) rest
 
   -- what an id has
-  session_of-sessions_of : (ps : List (ℕ × Held T)) (id : ℕ) → session_of (sessions_of ps) id ≡ option_map session (pairs.find nat_eq ps id)
+  session_of-sessions_of : (ps : List (ℕ × Weighted T)) (id : ℕ) → session_of (sessions_of ps) id ≡ option_map session (pairs.find nat_eq ps id)
   session_of-sessions_of [] id = refl
   session_of-sessions_of (pair ∷ ps) id = by_test (nat_eq id pair.0) (session_of-sessions_of ps id)
     where
@@ -45,44 +45,44 @@ module _ {T : Type 0} where
       by_test true rest = refl
       by_test false rest = rest
 
-  payload_by : (o : Option (ℕ × Held T)) → option_map (λ s. s.2) (option_map session o) ≡ option_map (λ held. held.payload) (option_map (λ pair. pair.1) o)
+  payload_by : (o : Option (ℕ × Weighted T)) → option_map (λ s. s.2) (option_map session o) ≡ option_map (λ weighted. weighted.payload) (option_map (λ pair. pair.1) o)
   payload_by None = refl
   payload_by (Some pair) = refl
 
-  weight_by : (o : Option (ℕ × Held T)) → option_map (λ s. s.1) (option_map session o) ≡ option_map (λ held. held.weight) (option_map (λ pair. pair.1) o)
+  weight_by : (o : Option (ℕ × Weighted T)) → option_map (λ s. s.1) (option_map session o) ≡ option_map (λ weighted. weighted.weight) (option_map (λ pair. pair.1) o)
   weight_by None = refl
   weight_by (Some pair) = refl
 
-  some_by : (o : Option (ℕ × Held T)) → is_some (option_map session o) ≡ is_some o
+  some_by : (o : Option (ℕ × Weighted T)) → is_some (option_map session o) ≡ is_some o
   some_by None = refl
   some_by (Some pair) = refl
 
-  pub payload_of-sessions_of : (ps : List (ℕ × Held T)) (id : ℕ) → payload_of (sessions_of ps) id ≡ option_map (λ held. held.payload) (pairs.value_at nat_eq ps id)
+  pub payload_of-sessions_of : (ps : List (ℕ × Weighted T)) (id : ℕ) → payload_of (sessions_of ps) id ≡ option_map (λ weighted. weighted.payload) (pairs.value_at nat_eq ps id)
   payload_of-sessions_of ps id = ap (option_map (λ (s : Session T). s.2)) (session_of-sessions_of ps id) ∙ payload_by (pairs.find nat_eq ps id)
 
-  pub weight-sessions_of : (ps : List (ℕ × Held T)) (id : ℕ) → option_map (λ s. s.1) (session_of (sessions_of ps) id) ≡ option_map (λ held. held.weight) (pairs.value_at nat_eq ps id)
+  pub weight-sessions_of : (ps : List (ℕ × Weighted T)) (id : ℕ) → option_map (λ s. s.1) (session_of (sessions_of ps) id) ≡ option_map (λ weighted. weighted.weight) (pairs.value_at nat_eq ps id)
   weight-sessions_of ps id = ap (option_map (λ (s : Session T). s.1)) (session_of-sessions_of ps id) ∙ weight_by (pairs.find nat_eq ps id)
 
-  pub weight_of-sessions_of : (ps : List (ℕ × Held T)) (id : ℕ) → weight_of (sessions_of ps) id ≡ unwrap_or (option_map (λ held. held.weight) (pairs.value_at nat_eq ps id)) 0
+  pub weight_of-sessions_of : (ps : List (ℕ × Weighted T)) (id : ℕ) → weight_of (sessions_of ps) id ≡ unwrap_or (option_map (λ weighted. weighted.weight) (pairs.value_at nat_eq ps id)) 0
   weight_of-sessions_of ps id = ap (λ o. unwrap_or o 0) (weight-sessions_of ps id)
 
-  pub is_some-session_of : (ps : List (ℕ × Held T)) (id : ℕ) → is_some (session_of (sessions_of ps) id) ≡ is_some (pairs.find nat_eq ps id)
+  pub is_some-session_of : (ps : List (ℕ × Weighted T)) (id : ℕ) → is_some (session_of (sessions_of ps) id) ≡ is_some (pairs.find nat_eq ps id)
   is_some-session_of ps id = ap is_some (session_of-sessions_of ps id) ∙ some_by (pairs.find nat_eq ps id)
 
   -- the pair of an id at the back
-  pub sessions_of-to_back : (ps : List (ℕ × Held T)) (id : ℕ) (held : Held T) → sessions_of (pairs.to_back nat_eq ps id held) ≡ with_last (sessions_of ps) id held.weight held.payload
-  sessions_of-to_back ps id held =
+  pub sessions_of-to_back : (ps : List (ℕ × Weighted T)) (id : ℕ) (weighted : Weighted T) → sessions_of (pairs.to_back nat_eq ps id weighted) ≡ with_last (sessions_of ps) id weighted.weight weighted.payload
+  sessions_of-to_back ps id weighted =
       let stored = pairs.key_or id (pairs.find nat_eq ps id) in
       let own : id ≡ stored = eqb-true id stored (eq-stored nat_eq_equiv ps id) in
-      map-append session (pairs.without nat_eq ps id) ((stored, held) ∷ [])
-      ∙ ap₂ (λ l j. l ++ (j, held.weight, held.payload) ∷ []) (sessions_of-without ps id) (sym own)
+      map-append session (pairs.without nat_eq ps id) ((stored, weighted) ∷ [])
+      ∙ ap₂ (λ l j. l ++ (j, weighted.weight, weighted.payload) ∷ []) (sessions_of-without ps id) (sym own)
 
-  pub length-sessions_of : (ps : List (ℕ × Held T)) → length (sessions_of ps) ≡ length ps
+  pub length-sessions_of : (ps : List (ℕ × Weighted T)) → length (sessions_of ps) ≡ length ps
   length-sessions_of [] = refl
   length-sessions_of (pair ∷ ps) = ap suc (length-sessions_of ps)
 
   -- what holds of a table that is kept so
-  module _ {S : Type 0} {m : LinkedMap ℕ (Held T) S} {total limit : ℕ} (kept : IsKeptWithin m total limit) where
+  module _ {S : Type 0} {m : LinkedMap ℕ (Weighted T) S} {total limit : ℕ} (kept : IsKeptWithin m total limit) where
     pub distinct-sessions_of : IsDistinct nat_eq (ids_of (sessions_of m.pairs))
     distinct-sessions_of = subst (IsDistinct nat_eq) (sym (ids_of-sessions_of m.pairs)) kept.valid.distinct
 
@@ -93,7 +93,7 @@ module _ {T : Type 0} where
     total_weight-others id = total_weight-without (sessions_of m.pairs) id distinct-sessions_of ∙ sym kept.sum
 
     -- and once a session is out
-    pub IsKeptWithin-without : {n : LinkedMap ℕ (Held T) S} (id : ℕ) → n.pairs ≡ pairs.without nat_eq m.pairs id → n.mode ≡ m.mode → IsValid nat_eq n → IsKeptWithin n (total - weight_of (sessions_of m.pairs) id) limit
+    pub IsKeptWithin-without : {n : LinkedMap ℕ (Weighted T) S} (id : ℕ) → n.pairs ≡ pairs.without nat_eq m.pairs id → n.mode ≡ m.mode → IsValid nat_eq n → IsKeptWithin n (total - weight_of (sessions_of m.pairs) id) limit
     IsKeptWithin-without id changed same valid =
         let others = total_weight-others id in
         let left = ap sessions_of changed ∙ sessions_of-without m.pairs id in
@@ -101,19 +101,19 @@ module _ {T : Type 0} where
         record { valid = valid; mode = same ∙ kept.mode; sum = omega (arith, ap total_weight left); within = omega arith }
 
   -- the session of an id at the end
-  module _ {S : Type 0} (m : LinkedMap ℕ (Held T) S) (id : ℕ) {held : Held T} (found : pairs.value_at nat_eq m.pairs id ≡ Some held) where
-    weight_of-found : weight_of (sessions_of m.pairs) id ≡ held.weight
-    weight_of-found = weight_of-sessions_of m.pairs id ∙ ap (λ o. unwrap_or (option_map (λ (h : Held T). h.weight) o) 0) found
+  module _ {S : Type 0} (m : LinkedMap ℕ (Weighted T) S) (id : ℕ) {weighted : Weighted T} (found : pairs.value_at nat_eq m.pairs id ≡ Some weighted) where
+    weight_of-found : weight_of (sessions_of m.pairs) id ≡ weighted.weight
+    weight_of-found = weight_of-sessions_of m.pairs id ∙ ap (λ o. unwrap_or (option_map (λ (h : Weighted T). h.weight) o) 0) found
 
-    pub sessions_of-refreshed : (payload : T) → sessions_of (pairs.to_back nat_eq m.pairs id (record { weight = held.weight; payload = payload })) ≡ to_end (sessions_of m.pairs) id payload
+    pub sessions_of-refreshed : (payload : T) → sessions_of (pairs.to_back nat_eq m.pairs id (record { weight = weighted.weight; payload = payload })) ≡ to_end (sessions_of m.pairs) id payload
     sessions_of-refreshed payload =
-        sessions_of-to_back m.pairs id (record { weight = held.weight; payload = payload })
+        sessions_of-to_back m.pairs id (record { weight = weighted.weight; payload = payload })
         ∙ ap (λ weight. with_last (sessions_of m.pairs) id weight payload) (sym weight_of-found)
 
-    pub IsKeptWithin-refreshed : {total limit : ℕ} → IsKeptWithin m total limit → (payload : T) → IsKeptWithin (refreshed nat_eq m id (record { weight = held.weight; payload = payload })) total limit
+    pub IsKeptWithin-refreshed : {total limit : ℕ} → IsKeptWithin m total limit → (payload : T) → IsKeptWithin (refreshed nat_eq m id (record { weight = weighted.weight; payload = payload })) total limit
     IsKeptWithin-refreshed {total} {limit} kept payload =
-        let now : Held T = record { weight = held.weight; payload = payload } in
-        let there = IsSome-find nat_eq m.pairs id held found in
+        let now : Weighted T = record { weight = weighted.weight; payload = payload } in
+        let there = IsSome-find nat_eq m.pairs id weighted found in
         let same = length-to_back_present nat_eq_equiv m.pairs id kept.valid.distinct there now in
         let within = kept.valid.within in
         let others = total_weight-others kept id in

@@ -5,7 +5,7 @@ use Rattle.std.proofs.lemmas.List.{drop-map, drop-append-le}
 use Rattle.linked_hash_map.specs.Pairs as pairs
 use Rattle.linked_hash_map.specs.SessionTables.{Session, total_weight, session_of, payload_of, without, with_last, fit}
 use Rattle.linked_hash_map.specs.SessionsKept.{sessions_of}
-use Rattle.linked_hash_map.specs.declared.sessions.storage.Held.{Held}
+use Rattle.linked_hash_map.specs.declared.sessions.storage.Weighted.{Weighted}
 use Rattle.linked_hash_map.proofs.Callers.Keys.{find-drop, without-absent, value_at-none, length-without_absent}
 use Rattle.linked_hash_map.proofs.Callers.Lookups.{find-without_here}
 use Rattle.linked_hash_map.proofs.LiveKeys.{none_is}
@@ -19,19 +19,19 @@ room-left (suc count) len capacity enough within free = omega arith
 
 module _ {T : Type 0} where
   -- a session whose id is new is put behind the others
-  pub with_last-new : (ps : List (ℕ × Held T)) (id weight : ℕ) (payload : T) → pairs.find nat_eq ps id ≡ None → with_last (sessions_of ps) id weight payload ≡ sessions_of ps ++ (id, weight, payload) ∷ []
+  pub with_last-new : (ps : List (ℕ × Weighted T)) (id weight : ℕ) (payload : T) → pairs.find nat_eq ps id ≡ None → with_last (sessions_of ps) id weight payload ≡ sessions_of ps ++ (id, weight, payload) ∷ []
   with_last-new ps id weight payload none =
       ap (λ l. l ++ (id, weight, payload) ∷ []) (sym (sessions_of-without ps id) ∙ ap sessions_of (without-absent nat_eq ps id none))
 
-  pub sessions_of-drop : (count : ℕ) (ps : List (ℕ × Held T)) → sessions_of (drop count ps) ≡ drop count (sessions_of ps)
-  sessions_of-drop count ps = sym (drop-map (λ (pair : ℕ × Held T). (pair.0, pair.1.weight, pair.1.payload)) count ps)
+  pub sessions_of-drop : (count : ℕ) (ps : List (ℕ × Weighted T)) → sessions_of (drop count ps) ≡ drop count (sessions_of ps)
+  sessions_of-drop count ps = sym (drop-map (λ (pair : ℕ × Weighted T). (pair.0, pair.1.weight, pair.1.payload)) count ps)
 
   -- the front ones are not the new one
   pub drop-with_last : (sessions : List (Session T)) (count id weight : ℕ) (payload : T) → count ≤ length (without sessions id)
       → drop count (with_last sessions id weight payload) ≡ drop count (without sessions id) ++ (id, weight, payload) ∷ []
   drop-with_last sessions count id weight payload enough = drop-append-le count (without sessions id) ((id, weight, payload) ∷ []) enough
 
-  pub with_last-drop : (ps : List (ℕ × Held T)) (count id weight : ℕ) (payload : T) → pairs.find nat_eq ps id ≡ None → count ≤ length ps
+  pub with_last-drop : (ps : List (ℕ × Weighted T)) (count id weight : ℕ) (payload : T) → pairs.find nat_eq ps id ≡ None → count ≤ length ps
       → with_last (sessions_of (drop count ps)) id weight payload ≡ drop count (with_last (sessions_of ps) id weight payload)
   with_last-drop ps count id weight payload none enough =
       with_last-new (drop count ps) id weight payload (find-drop nat_eq ps id none count)
@@ -39,12 +39,12 @@ module _ {T : Type 0} where
       ∙ sym (drop-append-le count (sessions_of ps) ((id, weight, payload) ∷ []) (omega (arith, length-sessions_of ps)))
       ∙ ap (drop count) (sym (with_last-new ps id weight payload none))
 
-  pub length-without_new : (ps : List (ℕ × Held T)) (id : ℕ) → pairs.find nat_eq ps id ≡ None → length (without (sessions_of ps) id) ≡ length ps
+  pub length-without_new : (ps : List (ℕ × Weighted T)) (id : ℕ) → pairs.find nat_eq ps id ≡ None → length (without (sessions_of ps) id) ≡ length ps
   length-without_new ps id none =
       ap length (sym (sessions_of-without ps id)) ∙ length-sessions_of (pairs.without nat_eq ps id) ∙ length-without_absent nat_eq ps id none
 
   -- whether an id is new
-  pub find-new : (ps : List (ℕ × Held T)) (id : ℕ) → is_some (session_of (sessions_of ps) id) ≡ false → pairs.find nat_eq ps id ≡ None
+  pub find-new : (ps : List (ℕ × Weighted T)) (id : ℕ) → is_some (session_of (sessions_of ps) id) ≡ false → pairs.find nat_eq ps id ≡ None
   find-new ps id new = none_is (pairs.find nat_eq ps id) (sym (is_some-session_of ps id) ∙ new)
 
   some_weight : (o : Option (Session T)) → is_some (option_map (λ (session : Session T). session.1) o) ≡ is_some o
@@ -54,11 +54,11 @@ module _ {T : Type 0} where
   pub is_some-weight : (sessions : List (Session T)) (id : ℕ) {weight : Option ℕ} → weight ≡ option_map (λ session. session.1) (session_of sessions id) → is_some (session_of sessions id) ≡ is_some weight
   is_some-weight sessions id known = sym (ap is_some known ∙ some_weight (session_of sessions id))
 
-  pub find-drop_new : (ps : List (ℕ × Held T)) (count id : ℕ) {left : List (ℕ × Held T)} → pairs.find nat_eq ps id ≡ None → left ≡ drop count ps → pairs.find nat_eq left id ≡ None
+  pub find-drop_new : (ps : List (ℕ × Weighted T)) (count id : ℕ) {left : List (ℕ × Weighted T)} → pairs.find nat_eq ps id ≡ None → left ≡ drop count ps → pairs.find nat_eq left id ≡ None
   find-drop_new ps count id none oldest = ap (λ l. pairs.find nat_eq l id) oldest ∙ find-drop nat_eq ps id none count
 
-  pub payload_of-new : (ps : List (ℕ × Held T)) (id : ℕ) → pairs.find nat_eq ps id ≡ None → payload_of (sessions_of ps) id ≡ None
-  payload_of-new ps id none = payload_of-sessions_of ps id ∙ ap (option_map (λ (held : Held T). held.payload)) (value_at-none nat_eq ps id none)
+  pub payload_of-new : (ps : List (ℕ × Weighted T)) (id : ℕ) → pairs.find nat_eq ps id ≡ None → payload_of (sessions_of ps) id ≡ None
+  payload_of-new ps id none = payload_of-sessions_of ps id ∙ ap (option_map (λ (weighted : Weighted T). weighted.payload)) (value_at-none nat_eq ps id none)
 
   -- a put adds no more than one
   pub length-with_last : (sessions : List (Session T)) (id weight : ℕ) (payload : T) → length (with_last sessions id weight payload) ≡ length (without sessions id) + 1
@@ -71,7 +71,7 @@ module _ {T : Type 0} where
       ap (λ l. l ++ (id, weight, payload) ∷ []) fits ∙ sym (fit-append limit (without sessions id) (id, weight, payload) light)
 
   -- and is the one of its id
-  pub payload_of-put : (ps : List (ℕ × Held T)) (count id weight : ℕ) (payload : T) → payload_of (drop count (without (sessions_of ps) id) ++ (id, weight, payload) ∷ []) id ≡ Some payload
+  pub payload_of-put : (ps : List (ℕ × Weighted T)) (count id weight : ℕ) (payload : T) → payload_of (drop count (without (sessions_of ps) id) ++ (id, weight, payload) ∷ []) id ≡ Some payload
   payload_of-put ps count id weight payload =
       let left = drop count (pairs.without nat_eq ps id) in
       let none = find-drop nat_eq (pairs.without nat_eq ps id) id (find-without_here nat_eq_equiv ps id) count in
@@ -89,8 +89,8 @@ module _ {T : Type 0} where
   length-gone count gone left sessions all rest within = omega (arith, ap length all, ap length rest, length-append gone left, length-drop count sessions)
 
   -- where all fit, none goes
-  pub none-leaves : (count room : ℕ) (sessions : List (Session T)) → drop count sessions ≡ fit room sessions → count ≤ length sessions → total_weight sessions ≤ room → count ≡ 0
-  none-leaves count room sessions stay within light = omega (arith, ap length (stay ∙ fit-all room sessions light), length-drop count sessions)
+  pub none-leaves : (count weight_left : ℕ) (sessions : List (Session T)) → drop count sessions ≡ fit weight_left sessions → count ≤ length sessions → total_weight sessions ≤ weight_left → count ≡ 0
+  none-leaves count weight_left sessions stay within light = omega (arith, ap length (stay ∙ fit-all weight_left sessions light), length-drop count sessions)
 
-  pub not-absent : (ps : List (ℕ × Held T)) (id : ℕ) → is_some (session_of (sessions_of ps) id) ≡ true → pairs.find nat_eq ps id ≡ None → false ≡ true
+  pub not-absent : (ps : List (ℕ × Weighted T)) (id : ℕ) → is_some (session_of (sessions_of ps) id) ≡ true → pairs.find nat_eq ps id ≡ None → false ≡ true
   not-absent ps id some none = ap is_some (sym none) ∙ sym (is_some-session_of ps id) ∙ some

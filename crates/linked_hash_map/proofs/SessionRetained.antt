@@ -9,7 +9,7 @@ use Rattle.linked_hash_map.specs.Retains.{IsSublist}
 use Rattle.linked_hash_map.specs.SessionTables.{Session, total_weight}
 use Rattle.linked_hash_map.specs.SessionsKept.{sessions_of}
 use Rattle.linked_hash_map.specs.SessionRetains.{weights_of, CalledAtSession, RetainsSessions}
-use Rattle.linked_hash_map.specs.declared.sessions.storage.Held.{Held}
+use Rattle.linked_hash_map.specs.declared.sessions.storage.Weighted.{Weighted}
 use Rattle.linked_hash_map.proofs.SessionLists.{total_weight-cons}
 
 module _ {F T : Type 0} (g : Mut F (ℕ × (ℕ × (MutBor T × Unit {0}))) (Bool × (MutBor T × Unit {0}))) where
@@ -48,17 +48,17 @@ module _ {F T : Type 0} (g : Mut F (ℕ × (ℕ × (MutBor T × Unit {0}))) (Boo
         r.6 ∙ (λ i. cond (said.0 i) ((session.0, session.1, said.1 i) ∷ rest i) (rest i))
 
 -- the weight of the first of the sessions that pairs stand for, and of the others
-pub total_weight-next : {T : Type 0} (pairs : List (ℕ × Held T)) (pair : ℕ × Held T) (rest : List (ℕ × Held T)) → pairs ≡ pair ∷ rest → total_weight (sessions_of pairs) ≡ pair.1.weight + total_weight (sessions_of rest)
+pub total_weight-next : {T : Type 0} (pairs : List (ℕ × Weighted T)) (pair : ℕ × Weighted T) (rest : List (ℕ × Weighted T)) → pairs ≡ pair ∷ rest → total_weight (sessions_of pairs) ≡ pair.1.weight + total_weight (sessions_of rest)
 total_weight-next pairs pair rest is = ap (λ ps. total_weight (sessions_of ps)) is ∙ total_weight-cons (pair.0, pair.1.weight, pair.1.payload) (sessions_of rest)
 
 -- what a closure over the pairs of a map keeps, if each of its calls is one of the closure over sessions
-module _ {C F T : Type 0} (calls : C → ℕ → Held T → Bool → Held T → C → Type 0) (g : Mut F (ℕ × (ℕ × (MutBor T × Unit {0}))) (Bool × (MutBor T × Unit {0}))) (inner : C → F)
-    (says : (c : C) (id : ℕ) (held : Held T) (b : Bool) (left : Held T) (c' : C) → calls c id held b left c' → CalledAtSession g (inner c) (id, held.weight, held.payload) b left.payload (inner c') × (left.weight ≡ held.weight)) where
-  sessions_of-cond : (b : Bool) (id : ℕ) (left : Held T) (pairs : List (ℕ × Held T)) → sessions_of (cond b ((id, left) ∷ pairs) pairs) ≡ cond b ((id, left.weight, left.payload) ∷ sessions_of pairs) (sessions_of pairs)
+module _ {C F T : Type 0} (calls : C → ℕ → Weighted T → Bool → Weighted T → C → Type 0) (g : Mut F (ℕ × (ℕ × (MutBor T × Unit {0}))) (Bool × (MutBor T × Unit {0}))) (inner : C → F)
+    (says : (c : C) (id : ℕ) (weighted : Weighted T) (b : Bool) (left : Weighted T) (c' : C) → calls c id weighted b left c' → CalledAtSession g (inner c) (id, weighted.weight, weighted.payload) b left.payload (inner c') × (left.weight ≡ weighted.weight)) where
+  sessions_of-cond : (b : Bool) (id : ℕ) (left : Weighted T) (pairs : List (ℕ × Weighted T)) → sessions_of (cond b ((id, left) ∷ pairs) pairs) ≡ cond b ((id, left.weight, left.payload) ∷ sessions_of pairs) (sessions_of pairs)
   sessions_of-cond true id left pairs = refl
   sessions_of-cond false id left pairs = refl
 
-  pub sessions-retained : (c : C) (pairs kept : List (ℕ × Held T)) → RetainsPairs calls c pairs kept → RetainsSessions g (inner c) (sessions_of pairs) (sessions_of kept)
+  pub sessions-retained : (c : C) (pairs kept : List (ℕ × Weighted T)) → RetainsPairs calls c pairs kept → RetainsSessions g (inner c) (sessions_of pairs) (sessions_of kept)
   sessions-retained c [] kept r = ap sessions_of r
   sessions-retained c (pair ∷ pairs) kept r =
       let said = says c pair.0 pair.1 r.0 r.1 r.2 r.4 in (
@@ -71,7 +71,7 @@ module _ {C F T : Type 0} (calls : C → ℕ → Held T → Bool → Held T → 
         ap sessions_of r.6 ∙ sessions_of-cond r.0 pair.0 r.1 r.3 ∙ (λ i. cond r.0 ((pair.0, said.1 i, r.1.payload) ∷ sessions_of r.3) (sessions_of r.3)),
       )
 
-  pub lighter-retained : (c : C) (pairs kept : List (ℕ × Held T)) → RetainsPairs calls c pairs kept → total_weight (sessions_of kept) ≤ total_weight (sessions_of pairs)
+  pub lighter-retained : (c : C) (pairs kept : List (ℕ × Weighted T)) → RetainsPairs calls c pairs kept → total_weight (sessions_of kept) ≤ total_weight (sessions_of pairs)
   lighter-retained c pairs kept r = total_weight-retained g (inner c) (sessions_of pairs) (sessions_of kept) (sessions-retained c pairs kept r)
 
 -- what holds of a closure after each of its calls lets it be called at each pair

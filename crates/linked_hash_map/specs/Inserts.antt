@@ -49,7 +49,7 @@ module _ {T I X : Type 0} (becomes : T → I → Type 0) (steps : I → Option X
 module _ {T I K V : Type 0} (becomes : T → I → Type 0) (steps : I → Option (K × V) → I → Type 0) (source : T) (remaining : I → Count) where
   -- it becomes one iterator: a new map got room for as many pairs as a lower bound that the hint of
   -- this iterator may answer, and then all items of this iterator, one by one
-  pub record Collects (eq : K → K → Bool) (held : List (K × V)) (capacity rechained : ℕ) : Type 0 where
+  pub record Collects (eq : K → K → Bool) (contents : List (K × V)) (capacity rechained : ℕ) : Type 0 where
     pub iterator : I
     pub made : becomes source iterator
     pub lower : ℕ
@@ -57,8 +57,8 @@ module _ {T I K V : Type 0} (becomes : T → I → Type 0) (steps : I → Option
     pub limit : lower ≤ LIMIT
     pub given : List (K × V)
     pub gives : Drains steps iterator given
-    pub pairs : held ≡ insert_each eq Touch [] given
-    pub room : capacity ≡ max lower (length held)
+    pub pairs : contents ≡ insert_each eq Touch [] given
+    pub room : capacity ≡ max lower (length contents)
     pub counted : rechained ≡ rechained_each 0 lower (capacity - lower)
 
   -- it becomes an iterator whose hint may answer a lower bound above `LIMIT`

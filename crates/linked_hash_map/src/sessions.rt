@@ -18,7 +18,7 @@
 //! }
 //! assert_eq!(rt; (pages.len(), pages.total()), (2, 27));
 //!
-//! // Page 1 is asked for, so page 2 is now the oldest, and goes where the next one needs its room.
+//! // Page 1 is asked for, so page 2 is now the oldest, and goes when the next one does not fit.
 //! assert_eq!(rt; pages.touch(1).copied(), Some("a page of 18 bytes"));
 //! let put = pages.put(3, 7, "a third")?;
 //! assert_eq!(rt; put.gone.as_slice(), [(2, 9, "nine more")].as_slice());
@@ -44,7 +44,7 @@ mod outcome;
 mod retain;
 mod storage;
 
-use self::storage::{Held, find_leaving, make_room, store, weight_at};
+use self::storage::{Weighted, find_leaving, make_room, store, weight_at};
 use crate::map::LinkedHashMap;
 pub use iter::SessionIter;
 pub use outcome::{Put, PutReason, PutRefused};
@@ -73,7 +73,7 @@ use std::marker::Model;
 #[derive(Drop)]
 pub struct Sessions<T> {
     // The sessions by their ids, in order.
-    map: LinkedHashMap<u64, Held<T>>,
+    map: LinkedHashMap<u64, Weighted<T>>,
     limit: u64,
     // The sum of the weights.
     total: u64,
@@ -130,7 +130,7 @@ impl<T> Sessions<T> {
     /// allocation fails or the map is full, with the payload; the table is then unchanged. It
     /// allocates at most once: a vector of exactly the sessions removed, or, if there are none,
     /// room for a new id. A present id that removes none is never refused as `NoRoom`. It is O(n)
-    /// for n sessions removed, or, if the number of buckets changes, for n sessions held.
+    /// for n sessions removed, or, if the number of buckets changes, for n sessions in the table.
     ///
     /// # Examples
     ///
@@ -205,7 +205,7 @@ impl<T> Sessions<T> {
         ensures valid { IsValidTable self.old }
     {
         match self.map.get_refresh(&id) {
-            Some(held) => Some(&mut held.payload),
+            Some(weighted) => Some(&mut weighted.payload),
             None => None,
         }
     }
@@ -228,11 +228,11 @@ impl<T> Sessions<T> {
         ensures valid { IsValidTable self.old }
         ensures stays_valid { IsValidTable self.new }
     {
-        let Some(held) = self.map.remove(&id) else {
+        let Some(weighted) = self.map.remove(&id) else {
             return None;
         };
-        self.total -= held.weight;
-        Some(held.payload)
+        self.total -= weighted.weight;
+        Some(weighted.payload)
     }
 
     /// Returns the sum of the weights, at most the limit. It is O(1) and does not allocate.

@@ -19,7 +19,7 @@ use Rattle.linked_hash_map.proofs.Callers.Turns.{find-others}
 -- keys that differ still do, and items with keys that differ, inserted into nothing, are the pairs
 pub use Rattle.linked_hash_map.proofs.Inserts.{distinct-insert_each, insert_each-distinct}
 
-stored_last : {K V : Type 0} (b : Bool) (item : K × V) (mine held : Option (K × V)) → option_map (λ (pair : K × V). pair.0) mine ≡ option_map (λ (pair : K × V). pair.0) held → option_map (λ (pair : K × V). pair.0) (cond b (Some (key_or item.0 mine, item.1)) mine) ≡ option_map (λ (pair : K × V). pair.0) (option_or held (cond b (Some item) None))
+stored_last : {K V : Type 0} (b : Bool) (item : K × V) (mine older : Option (K × V)) → option_map (λ (pair : K × V). pair.0) mine ≡ option_map (λ (pair : K × V). pair.0) older → option_map (λ (pair : K × V). pair.0) (cond b (Some (key_or item.0 mine, item.1)) mine) ≡ option_map (λ (pair : K × V). pair.0) (option_or older (cond b (Some item) None))
 stored_last true item None None same = refl
 stored_last true item None (Some h) same = absurd (true≢false (sym (ap is_some same)))
 stored_last true item (Some m) None same = absurd (true≢false (ap is_some same))
@@ -55,9 +55,9 @@ module _ {K V : Type 0} {eq : K → K → Bool} (laws : IsEquivalence eq) where
       ∙ ap (λ es. option_or (value_at eq es q) (value_at eq pairs q)) (sym (reverse-append items (item ∷ []))))
       refl items
     where
-      last_first : (b : Bool) (item : K × V) (o : Option (K × V)) (held : Option V) → eq item.0 q ≡ b → cond (eq item.0 q) (Some item.1) (option_or (option_map (λ pair. pair.1) o) held) ≡ option_or (option_map (λ pair. pair.1) (cond b (Some item) o)) held
-      last_first true item o held same = ap (λ b. cond b (Some item.1) (option_or (option_map (λ (pair : K × V). pair.1) o) held)) same
-      last_first false item o held same = ap (λ b. cond b (Some item.1) (option_or (option_map (λ (pair : K × V). pair.1) o) held)) same
+      last_first : (b : Bool) (item : K × V) (o : Option (K × V)) (older : Option V) → eq item.0 q ≡ b → cond (eq item.0 q) (Some item.1) (option_or (option_map (λ pair. pair.1) o) older) ≡ option_or (option_map (λ pair. pair.1) (cond b (Some item) o)) older
+      last_first true item o older same = ap (λ b. cond b (Some item.1) (option_or (option_map (λ (pair : K × V). pair.1) o) older)) same
+      last_first false item o older same = ap (λ b. cond b (Some item.1) (option_or (option_map (λ (pair : K × V). pair.1) o) older)) same
 
   -- a key is present if it was, or came with some item
   pub is_some-insert_each : (mode : Mode) (pairs items : List (K × V)) (q : K) → is_some (find eq (insert_each eq mode pairs items) q) ≡ (is_some (find eq pairs q) || is_some (find eq items q))
@@ -68,9 +68,9 @@ module _ {K V : Type 0} {eq : K → K → Bool} (laws : IsEquivalence eq) where
       ∙ by_test (eq q item.0) (laws.symm item.0 q) (is_some (find eq pairs q)) refl
     where
       by_test : (b : Bool) → eq item.0 q ≡ b → (h : Bool) → is_some (find eq pairs q) ≡ h → (is_some (cond (eq item.0 q) (Some (key_or item.0 (find eq pairs item.0), item.1)) (find eq pairs q)) || is_some (find eq items q)) ≡ (is_some (find eq pairs q) || is_some (cond b (Some item) (find eq items q)))
-      by_test true same true held = ap (λ b. is_some (cond b (Some (key_or item.0 (find eq pairs item.0), item.1)) (find eq pairs q)) || is_some (find eq items q)) same ∙ sym (ap (λ h. h || true) held)
-      by_test true same false held = ap (λ b. is_some (cond b (Some (key_or item.0 (find eq pairs item.0), item.1)) (find eq pairs q)) || is_some (find eq items q)) same ∙ sym (ap (λ h. h || true) held)
-      by_test false same h held = ap (λ b. is_some (cond b (Some (key_or item.0 (find eq pairs item.0), item.1)) (find eq pairs q)) || is_some (find eq items q)) same
+      by_test true same true older = ap (λ b. is_some (cond b (Some (key_or item.0 (find eq pairs item.0), item.1)) (find eq pairs q)) || is_some (find eq items q)) same ∙ sym (ap (λ h. h || true) older)
+      by_test true same false older = ap (λ b. is_some (cond b (Some (key_or item.0 (find eq pairs item.0), item.1)) (find eq pairs q)) || is_some (find eq items q)) same ∙ sym (ap (λ h. h || true) older)
+      by_test false same h older = ap (λ b. is_some (cond b (Some (key_or item.0 (find eq pairs item.0), item.1)) (find eq pairs q)) || is_some (find eq items q)) same
 
   -- no pair goes, and one for each item comes at most
   pub length-insert_each_least : (mode : Mode) (pairs items : List (K × V)) → IsDistinct eq (keys_of pairs) → length pairs ≤ length (insert_each eq mode pairs items)

@@ -1,11 +1,11 @@
 -- For callers: a count for each item of a list, one item after another, and the keys in the order in which they first come.
-use Rattle.std.proofs.Common.{◌≡◌, ℕ, ◌+◌, ◌<◌, ◌≤◌, Bool, true, false, cond, List, [], ◌∷◌, ◌++◌, length, take, get_or, fold, Option, Some, None, is_some, unwrap_or, refl, sym, ap, ap₂, ◌∙◌, arith, length-take}
+use Rattle.std.proofs.Common.{◌≡◌, ℕ, ◌+◌, ◌<◌, Bool, true, false, cond, List, [], ◌∷◌, ◌++◌, length, take, get_or, fold, Some, unwrap_or, refl, sym, ap, ◌∙◌, arith, length-take}
 use Rattle.std.specs.Prelude.{if◌then◌else◌}
 use Rattle.std.specs.List.{count_by, list_any}
 use Rattle.std.specs.Map.{keys_of}
 use Rattle.std.specs.Cmp.{IsEquivalence}
 use Rattle.std.proofs.lemmas.List.Sums.{count_by_more_yes, count_by_more_no, count_by-le-length, fold_more}
-use Rattle.linked_hash_map.specs.Pairs.{find, value_at, set_or_push}
+use Rattle.linked_hash_map.specs.Pairs.{value_at, set_or_push}
 use Rattle.linked_hash_map.proofs.Callers.Lookups.{value_at-same, value_at-set_or_push}
 use Rattle.linked_hash_map.proofs.Callers.Keys.{keys_of-set_or_push, is_some-find}
 

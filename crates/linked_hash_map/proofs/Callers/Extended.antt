@@ -66,7 +66,7 @@ module _ {T I K V : Type 0} {becomes : T → I → Type 0} {steps : I → Option
         let bound = left collects.iterator collects.made in
         let lower = collects.hint bound.0 in
         let most = length-insert_each_most laws Touch [] all (distinct-nil V eq) in
-        let held = ap length (pairs-Collects each) in
+        let length_is = ap length (pairs-Collects each) in
         let room = collects.room in
         (omega arith, omega arith)
 
@@ -77,7 +77,7 @@ module _ {T I K V : Type 0} {becomes : T → I → Type 0} {steps : I → Option
     pub capacity-Collects_distinct : IsDistinct eq (keys_of all) → ((it : I) → becomes source it → YieldsList steps (λ pair. pair) it all) → ((it : I) → becomes source it → UpTo (remaining it) (length all)) → capacity ≡ length all
     capacity-Collects_distinct distinct each left =
         let bounds = capacity-Collects each left in
-        let held = ap length (pairs-Collects_distinct distinct each) in
+        let length_is = ap length (pairs-Collects_distinct distinct each) in
         omega arith
 
 -- where there is room for each item, as after `with_capacity` of their number, `extend` leaves the capacity

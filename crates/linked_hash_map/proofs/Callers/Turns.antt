@@ -1,5 +1,5 @@
 -- For callers: the first pair taken out and put back behind the others, and turns of this kind one after another.
-use Rattle.std.proofs.Common.{◌≡◌, ℕ, ◌+◌, ◌<◌, Bool, true, false, cond, List, [], ◌∷◌, ◌++◌, length, take, drop, map, get_or, append_assoc, append-nil, slice_get, subst, Option, Some, None, is_some, true≢false, refl, sym, ap, ap₂, ◌∙◌, arith}
+use Rattle.std.proofs.Common.{◌≡◌, ℕ, ◌+◌, ◌<◌, Bool, true, false, cond, List, [], ◌∷◌, ◌++◌, length, take, drop, map, get_or, append_assoc, append-nil, subst, Option, Some, None, is_some, true≢false, refl, sym, ap, ap₂, ◌∙◌}
 use Rattle.std.specs.Option.{option_or}
 use Rattle.std.specs.List.{IsDistinct}
 use Rattle.std.specs.Map.{keys_of}
@@ -110,7 +110,7 @@ module _ {K V : Type 0} {eq : K → K → Bool} (laws : IsEquivalence eq) (from 
     pub find-renamed : find eq (without_first now) (cond (eq from pair.0) to pair.0) ≡ None
     find-renamed = by_list now distinct there w.free
       where
-        by_list : (held : List (K × V)) → IsDistinct eq (keys_of held) → first held ≡ Some pair → (is_some (find eq held from) ≡ true → find eq held to ≡ None) → find eq (without_first held) (cond (eq from pair.0) to pair.0) ≡ None
+        by_list : (contents : List (K × V)) → IsDistinct eq (keys_of contents) → first contents ≡ Some pair → (is_some (find eq contents from) ≡ true → find eq contents to ≡ None) → find eq (without_first contents) (cond (eq from pair.0) to pair.0) ≡ None
         by_list [] distinct there free = absurd (let no : Some pair ≡ None = sym there in cc)
         by_list (one ∷ rest) distinct there free =
             let same : one ≡ pair = (let some : Some one ≡ Some pair = there in cc) in
@@ -120,9 +120,9 @@ module _ {K V : Type 0} {eq : K → K → Bool} (laws : IsEquivalence eq) (from 
     IsRenaming-pushed : (after : List (K × V)) → turns < length old → after ≡ without_first now ++ (cond (eq from pair.0) to pair.0, pair.1) ∷ [] → IsRenaming eq from to old after (turns + 1)
     IsRenaming-pushed after within done = by_list now distinct there w.list w.free done
       where
-        by_list : (held : List (K × V)) → IsDistinct eq (keys_of held) → first held ≡ Some pair
-            → held ≡ drop turns old ++ map (λ p. cond (eq from p.0) (to, p.1) p) (take turns old) → (is_some (find eq held from) ≡ true → find eq held to ≡ None)
-            → after ≡ without_first held ++ (cond (eq from pair.0) to pair.0, pair.1) ∷ [] → IsRenaming eq from to old after (turns + 1)
+        by_list : (contents : List (K × V)) → IsDistinct eq (keys_of contents) → first contents ≡ Some pair
+            → contents ≡ drop turns old ++ map (λ p. cond (eq from p.0) (to, p.1) p) (take turns old) → (is_some (find eq contents from) ≡ true → find eq contents to ≡ None)
+            → after ≡ without_first contents ++ (cond (eq from pair.0) to pair.0, pair.1) ∷ [] → IsRenaming eq from to old after (turns + 1)
         by_list [] distinct there list free done = absurd (let no : Some pair ≡ None = sym there in cc)
         by_list (one ∷ rest) distinct there list free done =
             let same : one ≡ pair = (let some : Some one ≡ Some pair = there in cc) in

@@ -37,7 +37,7 @@ module _ {K V S : Type 0} {eq : K → K → Bool} {m : LinkedMap K V S} (valid :
   fewer {pairs} distinct less changed same =
       let within = valid.within in
       let limit = valid.limit in
-      let held : length n.pairs ≡ length pairs = ap length changed in
+      let counted : length n.pairs ≡ length pairs = ap length changed in
       record { distinct = subst (λ ps. IsDistinct eq (keys_of ps)) (sym changed) distinct; within = omega arith; limit = omega arith }
 
   -- the same pairs, and as much room
@@ -47,7 +47,7 @@ module _ {K V S : Type 0} {eq : K → K → Bool} {m : LinkedMap K V S} (valid :
   -- the same pairs with other room: after `reserve`, and after `shrink_to_fit`
   pub IsValid-room : n.pairs ≡ m.pairs → length m.pairs ≤ n.capacity → n.capacity ≤ LIMIT → IsValid eq n
   IsValid-room same enough limit =
-      let held : length n.pairs ≡ length m.pairs = ap length same in
+      let counted : length n.pairs ≡ length m.pairs = ap length same in
       record { distinct = subst (λ ps. IsDistinct eq (keys_of ps)) (sym same) valid.distinct; within = omega arith; limit = limit }
 
   pub IsValid-reserve : (additional : ℕ) → n.pairs ≡ m.pairs → n.capacity ≡ max m.capacity (length m.pairs + additional) → length m.pairs + additional ≤ LIMIT → IsValid eq n
@@ -102,7 +102,7 @@ module _ {K V S : Type 0} {eq : K → K → Bool} {m : LinkedMap K V S} (valid :
     pub IsValid-to_back_present : (k : K) (v : V) → IsSome (find eq m.pairs k) → n.pairs ≡ to_back eq m.pairs k v → n.capacity ≡ max m.capacity (length n.pairs) → IsValid eq n
     IsValid-to_back_present k v found changed more =
         let same = length-to_back_present laws m.pairs k valid.distinct found v in
-        let held : length n.pairs ≡ length (to_back eq m.pairs k v) = ap length changed in
+        let counted : length n.pairs ≡ length (to_back eq m.pairs k v) = ap length changed in
         let within = valid.within in
         let limit = valid.limit in
         IsValid-to_back k v changed more (omega arith)
@@ -110,7 +110,7 @@ module _ {K V S : Type 0} {eq : K → K → Bool} {m : LinkedMap K V S} (valid :
     pub IsValid-to_back_below : (k : K) (v : V) → length m.pairs < m.capacity → n.pairs ≡ to_back eq m.pairs k v → n.capacity ≡ max m.capacity (length n.pairs) → IsValid eq n
     IsValid-to_back_below k v below changed more =
         let most = length-to_back_most laws m.pairs k v valid.distinct in
-        let held : length n.pairs ≡ length (to_back eq m.pairs k v) = ap length changed in
+        let counted : length n.pairs ≡ length (to_back eq m.pairs k v) = ap length changed in
         let limit = valid.limit in
         IsValid-to_back k v changed more (omega arith)
 
@@ -121,7 +121,7 @@ module _ {K V S : Type 0} {eq : K → K → Bool} {m : LinkedMap K V S} (valid :
     pub IsValid-put_present : (mode : Mode) (k : K) (v : V) → IsSome (find eq m.pairs k) → n.pairs ≡ put eq mode m.pairs k v → n.capacity ≡ max m.capacity (length n.pairs) → IsValid eq n
     IsValid-put_present mode k v found changed more =
         let same = length-put_present laws m.pairs k valid.distinct found mode v in
-        let held : length n.pairs ≡ length (put eq mode m.pairs k v) = ap length changed in
+        let counted : length n.pairs ≡ length (put eq mode m.pairs k v) = ap length changed in
         let within = valid.within in
         let limit = valid.limit in
         IsValid-put mode k v changed more (omega arith)
@@ -129,7 +129,7 @@ module _ {K V S : Type 0} {eq : K → K → Bool} {m : LinkedMap K V S} (valid :
     pub IsValid-put_below : (mode : Mode) (k : K) (v : V) → length m.pairs < m.capacity → n.pairs ≡ put eq mode m.pairs k v → n.capacity ≡ max m.capacity (length n.pairs) → IsValid eq n
     IsValid-put_below mode k v below changed more =
         let most = length-put_most eq mode m.pairs k v in
-        let held : length n.pairs ≡ length (put eq mode m.pairs k v) = ap length changed in
+        let counted : length n.pairs ≡ length (put eq mode m.pairs k v) = ap length changed in
         let limit = valid.limit in
         IsValid-put mode k v changed more (omega arith)
 
@@ -140,7 +140,7 @@ module _ {K V S : Type 0} {eq : K → K → Bool} {m : LinkedMap K V S} (valid :
     pub IsValid-set_or_push_present : (k : K) (v : V) → IsSome (find eq m.pairs k) → n.pairs ≡ set_or_push eq m.pairs k v → n.capacity ≡ max m.capacity (length n.pairs) → IsValid eq n
     IsValid-set_or_push_present k v found changed more =
         let same : length (set_or_push eq m.pairs k v) ≡ length m.pairs = length-set_or_push eq m.pairs k v ∙ ap (λ b. cond b (length m.pairs) (length m.pairs + 1)) found in
-        let held : length n.pairs ≡ length (set_or_push eq m.pairs k v) = ap length changed in
+        let counted : length n.pairs ≡ length (set_or_push eq m.pairs k v) = ap length changed in
         let within = valid.within in
         let limit = valid.limit in
         IsValid-set_or_push k v changed more (omega arith)
@@ -148,7 +148,7 @@ module _ {K V S : Type 0} {eq : K → K → Bool} {m : LinkedMap K V S} (valid :
     pub IsValid-set_or_push_below : (k : K) (v : V) → length m.pairs < m.capacity → n.pairs ≡ set_or_push eq m.pairs k v → n.capacity ≡ max m.capacity (length n.pairs) → IsValid eq n
     IsValid-set_or_push_below k v below changed more =
         let most = length-set_or_push_most eq m.pairs k v in
-        let held : length n.pairs ≡ length (set_or_push eq m.pairs k v) = ap length changed in
+        let counted : length n.pairs ≡ length (set_or_push eq m.pairs k v) = ap length changed in
         let limit = valid.limit in
         IsValid-set_or_push k v changed more (omega arith)
 
@@ -160,7 +160,7 @@ module _ {K V S : Type 0} {eq : K → K → Bool} {m : LinkedMap K V S} (valid :
     pub IsValid-insert_each_below : (mode : Mode) (items : List (K × V)) → length m.pairs + length items ≤ m.capacity → n.pairs ≡ insert_each eq mode m.pairs items → n.capacity ≡ max m.capacity (length n.pairs) → IsValid eq n
     IsValid-insert_each_below mode items room changed more =
         let most = length-insert_each_most laws mode m.pairs items valid.distinct in
-        let held : length n.pairs ≡ length (insert_each eq mode m.pairs items) = ap length changed in
+        let counted : length n.pairs ≡ length (insert_each eq mode m.pairs items) = ap length changed in
         let limit = valid.limit in
         IsValid-insert_each mode items changed more (omega arith)
 
@@ -177,7 +177,7 @@ IsValid-clone {K} {V} {S} {eq} laws {IsKeyClone} {IsValueClone} {IsHasherClone} 
     let same = cloned.pairs.2 in
     let as_many = length-clones IsKeyClone IsValueClone m.pairs clones cloned.pairs.1 in
     let most = length-insert_each_most laws Touch [] clones (distinct-nil V eq) in
-    let held : length n.pairs ≡ length (insert_each eq Touch [] clones) = ap length same in
+    let counted : length n.pairs ≡ length (insert_each eq Touch [] clones) = ap length same in
     let room = cloned.capacity in
     let within = valid.within in
     let limit = valid.limit in

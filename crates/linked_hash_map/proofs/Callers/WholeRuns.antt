@@ -6,7 +6,7 @@ use Rattle.std.specs.Cmp.{IsEquivalence}
 use Rattle.linked_hash_map.specs.declared.map.Mode.{Mode}
 use Rattle.linked_hash_map.specs.LinkedMap.{LinkedMap}
 use Rattle.linked_hash_map.specs.Validity.{IsValid}
-use Rattle.linked_hash_map.specs.Log.{Log, mode, pairs, high, Defines}
+use Rattle.linked_hash_map.specs.Log.{Log, mode, pairs, Defines}
 use Rattle.linked_hash_map.specs.Run.{first_log, log_after, last_log, IsReply, IsRun}
 use Rattle.linked_hash_map.specs.Commands.{is_refusal, pairs_after, capacity_after, mode_after, mode_after_all, reply_to, replies_to, pairs_after_all, capacity_after_all}
 use Rattle.linked_hash_map.specs.declared.replay.Command.{Command}
@@ -42,27 +42,27 @@ others_given false b h = h
 
 module _ {K V : Type 0} {eq : K → K → Bool} (laws : IsEquivalence eq) (start : ℕ) where
   -- a run on a log that defines these pairs and this capacity
-  pub replies-given : (commands : List (Command K V)) (replies : List (Reply K V)) (log : Log K V) (held : List (K × V)) (room : ℕ) (mode : Mode) → Defines eq start log held room mode → IsRun eq start log commands replies → NoneRefused replies → replies ≡ replies_to eq mode room held commands
-  replies-given [] [] log held room mode defines run given = refl
-  replies-given [] (reply ∷ replies) log held room mode defines run given = absurd run
-  replies-given (command ∷ commands) [] log held room mode defines run given = absurd run
-  replies-given (command ∷ commands) (reply ∷ replies) log held room mode defines run given =
+  pub replies-given : (commands : List (Command K V)) (replies : List (Reply K V)) (log : Log K V) (contents : List (K × V)) (room : ℕ) (mode : Mode) → Defines eq start log contents room mode → IsRun eq start log commands replies → NoneRefused replies → replies ≡ replies_to eq mode room contents commands
+  replies-given [] [] log contents room mode defines run given = refl
+  replies-given [] (reply ∷ replies) log contents room mode defines run given = absurd run
+  replies-given (command ∷ commands) [] log contents room mode defines run given = absurd run
+  replies-given (command ∷ commands) (reply ∷ replies) log contents room mode defines run given =
       let refused = is_refusal reply.answer in
       let later = list_any (λ (r : Reply K V). is_refusal r.answer) replies in
       let replied = Replied-given laws defines command reply run.0 (first_given refused later given) in
       ap₂ (λ r rs. r ∷ rs)
       (λ i. record { answer = replied.answer_is i; len = replied.len_is i; capacity = replied.capacity_is i })
-      (replies-given commands replies (log_after eq log command reply.answer) (pairs_after eq mode held command) (capacity_after eq mode room held command) (mode_after mode command) replied.defines run.1 (others_given refused later given))
+      (replies-given commands replies (log_after eq log command reply.answer) (pairs_after eq mode contents command) (capacity_after eq mode room contents command) (mode_after mode command) replied.defines run.1 (others_given refused later given))
 
-  pub Defines-given : (commands : List (Command K V)) (replies : List (Reply K V)) (log : Log K V) (held : List (K × V)) (room : ℕ) (mode : Mode) → Defines eq start log held room mode → IsRun eq start log commands replies → NoneRefused replies → Defines eq start (last_log eq log commands replies) (pairs_after_all eq mode held commands) (capacity_after_all eq mode room held commands) (mode_after_all mode commands)
-  Defines-given [] [] log held room mode defines run given = defines
-  Defines-given [] (reply ∷ replies) log held room mode defines run given = absurd run
-  Defines-given (command ∷ commands) [] log held room mode defines run given = absurd run
-  Defines-given (command ∷ commands) (reply ∷ replies) log held room mode defines run given =
+  pub Defines-given : (commands : List (Command K V)) (replies : List (Reply K V)) (log : Log K V) (contents : List (K × V)) (room : ℕ) (mode : Mode) → Defines eq start log contents room mode → IsRun eq start log commands replies → NoneRefused replies → Defines eq start (last_log eq log commands replies) (pairs_after_all eq mode contents commands) (capacity_after_all eq mode room contents commands) (mode_after_all mode commands)
+  Defines-given [] [] log contents room mode defines run given = defines
+  Defines-given [] (reply ∷ replies) log contents room mode defines run given = absurd run
+  Defines-given (command ∷ commands) [] log contents room mode defines run given = absurd run
+  Defines-given (command ∷ commands) (reply ∷ replies) log contents room mode defines run given =
       let refused = is_refusal reply.answer in
       let later = list_any (λ (r : Reply K V). is_refusal r.answer) replies in
       let replied = Replied-given laws defines command reply run.0 (first_given refused later given) in
-      Defines-given commands replies (log_after eq log command reply.answer) (pairs_after eq mode held command) (capacity_after eq mode room held command) (mode_after mode command) replied.defines run.1 (others_given refused later given)
+      Defines-given commands replies (log_after eq log command reply.answer) (pairs_after eq mode contents command) (capacity_after eq mode room contents command) (mode_after mode command) replied.defines run.1 (others_given refused later given)
 
 both_hold : (a b : Bool) → (a && b) ≡ true → (a ≡ true) × (b ≡ true)
 both_hold true b h = (refl, h)
@@ -70,7 +70,7 @@ both_hold false b h = absurd (true≢false (sym h))
 
 -- commands that are never refused get no such reply
 module _ {K V : Type 0} {eq : K → K → Bool} (laws : IsEquivalence eq) (start : ℕ) where
-  is_refusal-never : {log : Log K V} {held : List (K × V)} {room : ℕ} {mode : Mode} → Defines eq start log held room mode → (command : Command K V) (reply : Reply K V) → IsReply eq start log command reply → never_refused command ≡ true → is_refusal reply.answer ≡ false
+  is_refusal-never : {log : Log K V} {contents : List (K × V)} {room : ℕ} {mode : Mode} → Defines eq start log contents room mode → (command : Command K V) (reply : Reply K V) → IsReply eq start log command reply → never_refused command ≡ true → is_refusal reply.answer ≡ false
   is_refusal-never defines (Write k v) reply is never = is_refusal-write laws defines reply k v is
   is_refusal-never defines (Refresh k) reply is never = is_refusal-refresh laws defines reply k is
   is_refusal-never defines (Remove k) reply is never = is_refusal-remove laws defines reply k is
@@ -87,15 +87,15 @@ module _ {K V : Type 0} {eq : K → K → Bool} (laws : IsEquivalence eq) (start
   is_refusal-never defines (Reserve additional) reply is never = absurd (true≢false (sym never))
   is_refusal-never defines Shrink reply is never = absurd (true≢false (sym never))
 
-  NoneRefused-run : (commands : List (Command K V)) (replies : List (Reply K V)) (log : Log K V) (held : List (K × V)) (room : ℕ) (mode : Mode) → Defines eq start log held room mode → IsRun eq start log commands replies → list_all never_refused commands ≡ true → NoneRefused replies
-  NoneRefused-run [] [] log held room mode defines run never = refl
-  NoneRefused-run [] (reply ∷ replies) log held room mode defines run never = absurd run
-  NoneRefused-run (command ∷ commands) [] log held room mode defines run never = absurd run
-  NoneRefused-run (command ∷ commands) (reply ∷ replies) log held room mode defines run never =
+  NoneRefused-run : (commands : List (Command K V)) (replies : List (Reply K V)) (log : Log K V) (contents : List (K × V)) (room : ℕ) (mode : Mode) → Defines eq start log contents room mode → IsRun eq start log commands replies → list_all never_refused commands ≡ true → NoneRefused replies
+  NoneRefused-run [] [] log contents room mode defines run never = refl
+  NoneRefused-run [] (reply ∷ replies) log contents room mode defines run never = absurd run
+  NoneRefused-run (command ∷ commands) [] log contents room mode defines run never = absurd run
+  NoneRefused-run (command ∷ commands) (reply ∷ replies) log contents room mode defines run never =
       let both = both_hold (never_refused command) (list_all never_refused commands) never in
       let given = is_refusal-never defines command reply run.0 both.0 in
       let replied = Replied-given laws defines command reply run.0 given in
-      ap₂ (λ a b. a || b) given (NoneRefused-run commands replies (log_after eq log command reply.answer) (pairs_after eq mode held command) (capacity_after eq mode room held command) (mode_after mode command) replied.defines run.1 both.1)
+      ap₂ (λ a b. a || b) given (NoneRefused-run commands replies (log_after eq log command reply.answer) (pairs_after eq mode contents command) (capacity_after eq mode room contents command) (mode_after mode command) replied.defines run.1 both.1)
 
 module _ {K V S : Type 0} {eq : K → K → Bool} (laws : IsEquivalence eq) {old new : LinkedMap K V S} {commands : List (Command K V)} {replies : List (Reply K V)} (valid : IsValid eq old) (replayed : Replayed eq old commands replies new) where
   -- of a whole run: what `replay` answered, and what the map holds
@@ -130,11 +130,11 @@ module _ {K V S : Type 0} {eq : K → K → Bool} (laws : IsEquivalence eq) {old
   replies-replayed_never_refused = replies-replayed laws valid replayed NoneRefused-replayed ∙ ap (replies_to eq old.mode old.capacity old.pairs) are
 
 -- the answers do not rest on the capacity
-answers-replies_to : {K V : Type 0} (eq : K → K → Bool) (commands : List (Command K V)) (held : List (K × V)) (room other : ℕ) (mode : Mode) → map (λ reply. reply.answer) (replies_to eq mode room held commands) ≡ map (λ reply. reply.answer) (replies_to eq mode other held commands)
-answers-replies_to eq [] held room other mode = refl
-answers-replies_to eq (command ∷ commands) held room other mode =
-    ap (λ answers. (reply_to eq mode room held command).answer ∷ answers)
-    (answers-replies_to eq commands (pairs_after eq mode held command) (capacity_after eq mode room held command) (capacity_after eq mode other held command) (mode_after mode command))
+answers-replies_to : {K V : Type 0} (eq : K → K → Bool) (commands : List (Command K V)) (contents : List (K × V)) (room other : ℕ) (mode : Mode) → map (λ reply. reply.answer) (replies_to eq mode room contents commands) ≡ map (λ reply. reply.answer) (replies_to eq mode other contents commands)
+answers-replies_to eq [] contents room other mode = refl
+answers-replies_to eq (command ∷ commands) contents room other mode =
+    ap (λ answers. (reply_to eq mode room contents command).answer ∷ answers)
+    (answers-replies_to eq commands (pairs_after eq mode contents command) (capacity_after eq mode room contents command) (capacity_after eq mode other contents command) (mode_after mode command))
 
 module _ {K V S T : Type 0} {eq : K → K → Bool} (laws : IsEquivalence eq) {old new : LinkedMap K V S} {old' new' : LinkedMap K V T} {commands : List (Command K V)} {replies replies' : List (Reply K V)} (valid : IsValid eq old) (valid' : IsValid eq old') (replayed : Replayed eq old commands replies new) (replayed' : Replayed eq old' commands replies' new') (same : old.pairs ≡ old'.pairs) (alike : old.mode ≡ old'.mode) (given : NoneRefused replies) (given' : NoneRefused replies') where
   -- two runs of the same commands on maps with the same pairs and the same mode, whatever their hashers, have the same answers and leave the same pairs
@@ -142,13 +142,13 @@ module _ {K V S T : Type 0} {eq : K → K → Bool} (laws : IsEquivalence eq) {o
   answers-same_run =
       ap (map (λ (reply : Reply K V). reply.answer)) (replies-replayed laws valid replayed given)
       ∙ answers-replies_to eq commands old.pairs old.capacity old'.capacity old.mode
-      ∙ ap₂ (λ mode held. map (λ (reply : Reply K V). reply.answer) (replies_to eq mode old'.capacity held commands)) alike same
+      ∙ ap₂ (λ mode contents. map (λ (reply : Reply K V). reply.answer) (replies_to eq mode old'.capacity contents commands)) alike same
       ∙ sym (ap (map (λ (reply : Reply K V). reply.answer)) (replies-replayed laws valid' replayed' given'))
 
   pub pairs-same_run : new.pairs ≡ new'.pairs
   pairs-same_run =
       pairs-replayed laws valid replayed given
-      ∙ ap₂ (λ mode held. pairs_after_all eq mode held commands) alike same
+      ∙ ap₂ (λ mode contents. pairs_after_all eq mode contents commands) alike same
       ∙ sym (pairs-replayed laws valid' replayed' given')
 
   -- and where their capacities were the same, the same replies and capacities

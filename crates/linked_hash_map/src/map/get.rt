@@ -30,10 +30,8 @@ impl<K: Eq + Hash, V, S: BuildHasher> LinkedHashMap<K, V, S> {
         ensures { option_copied result ≡ value_at K.eq self.now.pairs key.now }
     {
         let hash = self.hasher.hash_one(key);
-        match self.table.position(hash, key) {
-            Some(at) => Some(self.table.value(at)),
-            None => None,
-        }
+        let at = self.table.position(hash, key)?;
+        Some(self.table.value(at))
     }
 
     /// Returns a mutable reference to the value of a key, if present. It hashes the key once, is

@@ -125,7 +125,9 @@ impl<K: Eq + Hash, V, S: BuildHasher> LinkedHashMap<K, V, S> {
         let ring = &raw mut self.table.ring as *const WithoutValues<K, V>;
         LentValues {
             ring: unsafe { &*ring },
-            loan: ValueLoan { mark: PhantomData },
+            loan: ValueLoan {
+                marker: PhantomData,
+            },
         }
     }
 }

@@ -5,7 +5,7 @@ ghost use Rattle.std.specs.Iterator.SizeHint.{IsWithinCount};
 ghost use Rattle.std.specs.Map.Iter.{TakesFirst};
 ghost use Rattle.linked_hash_map.specs.SessionTables.{deref_session};
 
-use super::storage::Held;
+use super::storage::Weighted;
 use crate::iter::Iter;
 use std::iter::FusedIterator;
 use std::marker::Model;
@@ -25,7 +25,7 @@ use std::marker::Model;
 /// ```
 #[derive(Drop)]
 pub struct SessionIter<'a, T> {
-    pairs: Iter<'a, u64, Held<T>>,
+    pairs: Iter<'a, u64, Weighted<T>>,
 }
 
 /// A contract sees the sessions that are left, in their order.
@@ -43,7 +43,7 @@ impl<'a, T> SessionIter<'a, T> {
     ghost use Rattle.linked_hash_map.specs.SessionsKept.{sessions_of};
 
     /// Returns an iterator over the sessions of the pairs.
-    pub(super) fn new(pairs: Iter<'a, u64, Held<T>>) -> Self
+    pub(super) fn new(pairs: Iter<'a, u64, Weighted<T>>) -> Self
         ensures { result ≡ sessions_of pairs.entry }
     {
         SessionIter { pairs }
@@ -59,8 +59,8 @@ impl<'a, T> Iterator for SessionIter<'a, T> {
     ghost remaining = { λ s. at_most (length s) };
 
     fn next(&mut self) -> Option<(u64, u64, &'a T)> {
-        let (id, held) = self.pairs.next()?;
-        Some((*id, held.weight, &held.payload))
+        let (id, weighted) = self.pairs.next()?;
+        Some((*id, weighted.weight, &weighted.payload))
     }
 
     fn size_hint(&self) -> (usize, Option<usize>)

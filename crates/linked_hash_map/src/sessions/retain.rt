@@ -5,7 +5,7 @@ ghost use Rattle.linked_hash_map.specs.SessionRetains.{weights_of, CalledAtSessi
 ghost use Rattle.linked_hash_map.specs.SessionTables.{total_weight, IsValidTable};
 
 use super::Sessions;
-use super::storage::{Held, total_of};
+use super::storage::{Weighted, total_of};
 
 impl<T> Sessions<T> {
     /// Keeps the sessions for which a closure returns `true`, in order, and drops the payloads of
@@ -42,11 +42,11 @@ impl<T> Sessions<T> {
         ensures stays_valid { IsValidTable self.new }
     {
         self.map.retain(
-            |id: &u64, held: &mut Held<T>|
+            |id: &u64, weighted: &mut Weighted<T>|
                 requires { F.IsAlwaysCallable keep }
-                ensures called { CalledAtSession F.FnMut keep.entry (id.now, held.old.weight, held.old.payload) result held.new.payload keep.exit }
-                ensures weight { held.new.weight ≡ held.old.weight }
-            { keep(*id, held.weight, &mut held.payload) },
+                ensures called { CalledAtSession F.FnMut keep.entry (id.now, weighted.old.weight, weighted.old.payload) result weighted.new.payload keep.exit }
+                ensures weight { weighted.new.weight ≡ weighted.old.weight }
+            { keep(*id, weighted.weight, &mut weighted.payload) },
         );
         self.total = total_of(&self.map);
     }

@@ -11,9 +11,9 @@ use crate::error::NoRoom;
 use crate::map::LinkedHashMap;
 use std::alloc::Global;
 
-/// What the map has for an id.
+/// What the map has for an id: a weight and a payload.
 #[derive(Drop)]
-pub(super) struct Held<T> {
+pub(super) struct Weighted<T> {
     pub(super) weight: u64,
     pub(super) payload: T,
 }
@@ -26,38 +26,38 @@ pub(super) struct Leaving {
 }
 
 /// Returns the weight of the session with an id, or `None` if there is none.
-pub(super) fn weight_at<T>(map: &LinkedHashMap<u64, Held<T>>, id: u64) -> Option<u64>
+pub(super) fn weight_at<T>(map: &LinkedHashMap<u64, Weighted<T>>, id: u64) -> Option<u64>
     ensures { result ≡ option_map (λ session. session.1) (session_of (sessions_of map.now.pairs) id) }
 {
     match map.get(&id) {
-        Some(held) => Some(held.weight),
+        Some(weighted) => Some(weighted.weight),
         None => None,
     }
 }
 
 /// Returns which sessions to remove, except the one with the id, so that the weights of the others
-/// sum to at most `room`. `others` is the sum of all of them.
+/// sum to at most `weight_left`. `others` is the sum of all of them.
 ///
 /// It reaches each session to remove, and at most two more.
 pub(super) fn find_leaving<T>(
-    map: &LinkedHashMap<u64, Held<T>>,
+    map: &LinkedHashMap<u64, Weighted<T>>,
     id: u64,
     others: u64,
-    room: u64,
+    weight_left: u64,
 ) -> Leaving
     requires { others ≡ total_weight (without (sessions_of map.now.pairs) id) }
-    ensures stay { drop result.count (without (sessions_of map.now.pairs) id) ≡ fit room (without (sessions_of map.now.pairs) id) }
-    ensures staying { result.staying ≡ total_weight (fit room (without (sessions_of map.now.pairs) id)) }
+    ensures stay { drop result.count (without (sessions_of map.now.pairs) id) ≡ fit weight_left (without (sessions_of map.now.pairs) id) }
+    ensures staying { result.staying ≡ total_weight (fit weight_left (without (sessions_of map.now.pairs) id)) }
     ensures within { result.count ≤ length (without (sessions_of map.now.pairs) id) }
 {
     let mut count = 0;
     let mut staying = others;
-    for (other, held) in map.iter() {
-        if staying <= room {
+    for (other, weighted) in map.iter() {
+        if staying <= weight_left {
             return Leaving { count, staying };
         }
         if id != *other {
-            staying -= held.weight;
+            staying -= weighted.weight;
             count += 1;
         }
     }
@@ -65,21 +65,21 @@ pub(super) fn find_leaving<T>(
 }
 
 /// Returns the sum of the weights of all sessions, in O(n).
-pub(super) fn total_of<T>(map: &LinkedHashMap<u64, Held<T>>) -> u64
+pub(super) fn total_of<T>(map: &LinkedHashMap<u64, Weighted<T>>) -> u64
     requires { total_weight (sessions_of map.now.pairs) ≤ u64.MAX }
     ensures { result ≡ total_weight (sessions_of map.now.pairs) }
 {
     let mut total = 0;
-    for (_id, held) in map.iter() {
-        total += held.weight;
+    for (_id, weighted) in map.iter() {
+        total += weighted.weight;
     }
     total
 }
 
-/// Allocates what a put needs, and nothing else of it allocates: room for the sessions to remove,
-/// or, if there are none and the id is new, for one more.
+/// Allocates what a put needs, and nothing else of it allocates: a vector for the sessions to
+/// remove, or, if there are none and the id is new, room for one more.
 pub(super) fn make_room<T>(
-    map: &mut LinkedHashMap<u64, Held<T>>,
+    map: &mut LinkedHashMap<u64, Weighted<T>>,
     alloc: Global,
     is_new: bool,
     count: usize,
@@ -113,7 +113,7 @@ pub(super) fn make_room<T>(
 /// Puts a session at the back, in place of the one with its id, and removes sessions from the
 /// front. Returns the payload that the id had. It looks the id up once, and does not allocate.
 pub(super) fn store<T>(
-    map: &mut LinkedHashMap<u64, Held<T>>,
+    map: &mut LinkedHashMap<u64, Weighted<T>>,
     session: (u64, u64, T),
     is_new: bool,
     count: usize,
@@ -121,7 +121,7 @@ pub(super) fn store<T>(
 ) -> Option<T>
     requires valid { IsValid nat_eq map.old }
     requires mode { map.old.mode ≡ Touch }
-    requires held { is_some (session_of (sessions_of map.old.pairs) session.0) ≡ not is_new }
+    requires present { is_some (session_of (sessions_of map.old.pairs) session.0) ≡ not is_new }
     requires enough { count ≤ length (without (sessions_of map.old.pairs) session.0) }
     requires space { vec_len gone.old + count ≤ vec_capacity gone.old }
     requires room { count ≡ 0 → IsTrue is_new → length map.old.pairs < map.old.capacity }
@@ -144,7 +144,7 @@ pub(super) fn store<T>(
 
 /// Removes sessions from the front, in order, into a vector that has room for them.
 pub(super) fn take_oldest<T>(
-    map: &mut LinkedHashMap<u64, Held<T>>,
+    map: &mut LinkedHashMap<u64, Weighted<T>>,
     count: usize,
     gone: &mut Vec<(u64, u64, T)>,
 )
@@ -159,17 +159,17 @@ pub(super) fn take_oldest<T>(
     ensures stays_valid { IsValid nat_eq map.new }
 {
     for _ in 0..count {
-        let Some((id, held)) = map.pop_front() else {
+        let Some((id, weighted)) = map.pop_front() else {
             unreachable!()
         };
-        gone.push_reserved((id, held.weight, held.payload));
+        gone.push_reserved((id, weighted.weight, weighted.payload));
     }
 }
 
 /// Puts a session at the back, in place of the one with its id, and returns the payload that the id
 /// had. A new id has room, so it does not allocate.
 pub(super) fn put_back<T>(
-    map: &mut LinkedHashMap<u64, Held<T>>,
+    map: &mut LinkedHashMap<u64, Weighted<T>>,
     id: u64,
     weight: u64,
     payload: T,
@@ -181,8 +181,8 @@ pub(super) fn put_back<T>(
     ensures mode { map.new.mode ≡ Touch }
     ensures stays_valid { IsValid nat_eq map.new }
 {
-    match map.insert(id, Held { weight, payload }) {
-        Ok(Some(held)) => Some(held.payload),
+    match map.insert(id, Weighted { weight, payload }) {
+        Ok(Some(weighted)) => Some(weighted.payload),
         Ok(None) => None,
         Err(_refused) => unreachable!(),
     }

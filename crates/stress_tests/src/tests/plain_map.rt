@@ -29,8 +29,8 @@ impl PlainMap {
 
     /// Returns the value of a key, searched from the front.
     pub fn value(&self, key: u64) -> Option<u64> {
-        for (held, value) in self.pairs.iter() {
-            if *held == key {
+        for (stored, value) in self.pairs.iter() {
+            if *stored == key {
                 return Some(*value);
             }
         }
@@ -70,8 +70,8 @@ impl PlainMap {
 
     /// Writes the value of a key in its place.
     pub fn write(&mut self, key: u64, value: u64) -> Option<u64> {
-        for (held, old) in self.pairs.iter_mut() {
-            if *held == key {
+        for (stored, old) in self.pairs.iter_mut() {
+            if *stored == key {
                 return Some(mem::replace(old, value));
             }
         }

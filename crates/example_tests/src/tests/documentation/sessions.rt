@@ -12,7 +12,7 @@ fn pages(rt: HostRuntime) -> Result<(), Fail> {
     }
     assert_eq!(rt; (pages.len(), pages.total()), (2, 27));
 
-    // Page 1 is asked for, so page 2 is now the oldest, and goes where the next one needs its room.
+    // Page 1 is asked for, so page 2 is now the oldest, and goes when the next one does not fit.
     assert_eq!(rt; pages.touch(1).copied(), Some("a page of 18 bytes"));
     let put = pages.put(3, 7, "a third")?;
     assert_eq!(rt; put.gone.as_slice(), [(2, 9, "nine more")].as_slice());

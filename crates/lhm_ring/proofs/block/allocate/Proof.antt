@@ -1,4 +1,4 @@
--- `allocate` cuts a new block into room for its fields and the right to free it. Assumes `Logic`.
+-- `allocate` cuts a new block into its uninitialised fields and the right to free it. Assumes `Logic`.
 use Rattle.std.proofs.Common.{T, lit<, true, false}
 use mir.Syntax.{Ty, Body}
 use mir.Val.{vcons, vnil, vstruct, has_ty, WT}
@@ -26,7 +26,7 @@ use Rattle.std.specs.contracts.alloc.AllocError as AE
 use Rattle.std.proofs.alloc.Calls.{Al, Answer-typed, Takes, at_takes, Answered, Takes-goes, Takes-gives, answers}
 use Rattle.std.proofs.VecSteps.Shapes.{head, arm_body}
 use Rattle.std.proofs.ResultValues.{ok_of, err_of}
-use Rattle.lhm_ring.proofs.Rooms.{room_val, room_Good, Rm, RmFields, room_made}
+use Rattle.lhm_ring.proofs.BlockValues.{block_val, block_Good, BlockType, BlockFields, block_made}
 use Rattle.lhm_ring.proofs.Blocks.{written, block, Rejoins, block_args, block_cut}
 use Rattle.std.proofs.Common.{◌≡◌, ℕ, [], ◌∷◌, refl, ap}
 use mir.Val.{Val, vptr}
@@ -50,7 +50,7 @@ use denote.Steps.{nothing, heard}
 use denote.Triple.Walked.{Stays, stay_dropped, walk_of, Goes-dropped}
 use Rattle.std.proofs.VecSteps.Shapes.{after}
 use Rattle.std.proofs.raw_atomic.Walks.{proved, leaves}
-use Rattle.lhm_ring.specs.Ownership.{room_owns}
+use Rattle.lhm_ring.specs.Ownership.{fields_own}
 use Rattle.lhm_ring.proofs.Memory.{Three, RL, RK, RV}
 use Rattle.lhm_ring.specs.contracts.block.allocate.{ended, clauses}
 use Rattle.lhm_ring.specs.contracts.block.allocate.Key.{name as #self}
@@ -60,9 +60,9 @@ use Rattle.lhm_ring.proofs.block.allocate.Code as code
 pub allocate_spec : {M : Type 1} → statement M
 allocate_spec 𝓤 𝓛 𝓜 𝓡 wired L K V A LL LK LV LA g d dd met _ =
     let H = 𝓛.H in let 𝓣 = tables 𝓤 H 𝓜 𝓡 𝓡.env in let E : Three = record { links = L; links_laws = LL; key = K; key_laws = LK; value = V; value_laws = LV } in let R = RL E in let S = RK E in let W = RV E in let Z : RattleType = param 3 A in
-    let Hd : Al = record { row = A; laws = LA; g = g; d = d; drops = dd } in let Room : RattleType = Rm R S W Z g in
+    let Hd : Al = record { row = A; laws = LA; g = g; d = d; drops = dd } in let Block : RattleType = BlockType R S W Z g in
     let En = ended L K V A g d dd in let c = clauses L K V A g d dd 𝓛 𝓜.mem 𝓡.returns in let fn = inst_fn (block_args E Hd) code.function in
-    let handle = RefOf (0 ∷ []) tt (plain (λ _. Z)) (λ _. tt) in let hs : Stays En.signature.params En.kept = (stay_dropped handle yes, tt) in let Out : RattleType = RS.the_row Room AE.the_row in
+    let handle = RefOf (0 ∷ []) tt (plain (λ _. Z)) (λ _. tt) in let hs : Stays En.signature.params En.kept = (stay_dropped handle yes, tt) in let Out : RattleType = RS.the_row Block AE.the_row in
     proved 𝓛 En hs c 𝓜 𝓡 (Goes-dropped 𝓛 5 handle yes (λ κs x f. refl), tt) (#self (block_args E Hd)) fn (code.unfolded 𝓤 H 𝓜 𝓡 wired (L, (K, (V, (A, tt)))) d dd)
     (λ κs. (shr_vals, tt)) (λ κs. (shr_Tells (named 0) κs.0 Z, tt)) (λ κs qs bounds a gh are.
     let hp : ℕ × ℕ = a.0.ref_ptr in let heap : A.Denot = a.0.now in let κ : Lft = κs.0 in let q : Share = qs.0 in
@@ -77,15 +77,15 @@ allocate_spec 𝓤 𝓛 𝓜 𝓡 wired L K V A LL LK LV LA g d dd met _ =
     calls_at ! (framed 𝓤 H 𝓜 𝓣) Asked (met.allocate dd) w (and_then ! (get ! refl) (and_then ! (size_word !) (and_then ! (align_word !) (no_more !)))) (λ u.
     use1 𝓛 (later (raw (Answered Hd 𝓛 𝓜.mem 𝓡.returns heap τ u) ⊛ ‵ (flft κ q))) (Takes-gives Hd 𝓛 𝓜.mem 𝓡.returns κ q hp heap s al τ u) $ await ! tt $ split ! $ move ! (1 ∷ 2 ∷ []) $ join ! $ move ! (1 ∷ []) $
     answers Hd ! 𝓜.mem 𝓡.returns heap τ u
-    (λ b o e. let p : Ptr = block_ptr b o in let r : Room.Denot = record { ptr = p; mark = record {}; alloc = heap } in
-    let val : Val = live 0 (vcons (room_val p) vnil) in let good : T (has_ty (layout Out) val) × WT val = (tt, (record { fits = lit< tt }, ((room_Good p).1, tt))) in
+    (λ b o e. let p : Ptr = block_ptr b o in let r : Block.Denot = record { ptr = p; marker = record {}; alloc = heap } in
+    let val : Val = live 0 (vcons (block_val p) vnil) in let good : T (has_ty (layout Out) val) × WT val = (tt, (record { fits = lit< tt }, ((block_Good p).1, tt))) in
     lands_as ! e refl (Answer-typed true b o) $ first ! $ switches_on ! (get_tag ! (vrt ! refl (fld ! refl (stop !))) (whole !)) $ exec ! 𝓣.C 𝓣.Λ Ev (arm_body 0 both) Then $
     sets ! (of_opd ! (get_in ! (vrt ! refl (fld ! refl (stop !))) (in_variant ! 0 0 refl refl (whole !)))) refl (tt, tt) $ sets ! (of_opd ! (get ! refl)) refl (tt, tt) $ sets ! (agg ! (no_more !)) refl (tt, tt) $
-    sets ! (agg ! (and_then ! (get ! refl) (and_then ! (get ! refl) (no_more !)))) refl (room_Good p) $ sets_last ! (agg ! (and_then ! (lit ! tt) (and_then ! (get ! refl) (no_more !)))) refl good $
+    sets ! (agg ! (and_then ! (get ! refl) (and_then ! (get ! refl) (no_more !)))) refl (block_Good p) $ sets_last ! (agg ! (and_then ! (lit ! tt) (and_then ! (get ! refl) (no_more !)))) refl good $
     exec ! 𝓣.C 𝓣.Λ Ev (after 2 fn.body) (at_ret Ev Post) $ sets ! (of_opd ! (get ! refl)) refl good $
-    use1 𝓛 (‵ (room_owns R S W p) ⊛ ‵ (Rejoins E p)) (block_cut E 𝓛 b o) $ split ! $ move ! (2 ∷ 1 ∷ []) $ fjoin ! $ move ! (1 ∷ 0 ∷ []) $ fjoin ! $
-    use0 𝓛 (‵ ((RmFields R S W Z g).own_val (p, (record {}, tt)) (room_val p ∷ []))) (room_made R S W Z g 𝓛 p) $ fjoin ! $
-    use1 𝓛 (‵ (Out.own_val (Ok r) (val ∷ []))) (ok_of 𝓛 Room AE.the_row r (room_val p)) $
+    use1 𝓛 (‵ (fields_own R S W p) ⊛ ‵ (Rejoins E p)) (block_cut E 𝓛 b o) $ split ! $ move ! (2 ∷ 1 ∷ []) $ fjoin ! $ move ! (1 ∷ 0 ∷ []) $ fjoin ! $
+    use0 𝓛 (‵ ((BlockFields R S W Z g).own_val (p, (record {}, tt)) (block_val p ∷ []))) (block_made R S W Z g 𝓛 p) $ fjoin ! $
+    use1 𝓛 (‵ (Out.own_val (Ok r) (val ∷ []))) (ok_of 𝓛 Block AE.the_row r (block_val p)) $
     let Told : Type 0 = heap ≡ heap in use0 𝓛 (raw (fact 𝓤 Told)) (fact_i 𝓤 Told (emp 𝓤) refl) $ nothing ! $ nothing ! $ fjoin ! $
     returns ! (look_at ! 0 refl) $ free_all ! refl $ keep ! (3 ∷ 0 ∷ 2 ∷ 1 ∷ []) $ by ! (leaves 𝓛 En hs c y val (Ok r) (tt, tt) (tt, tt)))
     (λ e. let Refusal : RattleType = Struct (Declared.shape AE.the_type) in let val : Val = live 1 (vcons (vstruct vnil) vnil) in let good : T (has_ty (layout Out) val) × WT val = (tt, (record { fits = lit< tt }, (tt, tt))) in
@@ -93,6 +93,6 @@ allocate_spec 𝓤 𝓛 𝓜 𝓡 wired L K V A LL LK LV LA g d dd met _ =
     sets ! (of_opd ! (get_in ! (vrt ! refl (fld ! refl (stop !))) (in_variant ! 1 0 refl refl (whole !)))) refl (tt, tt) $
     sets_last ! (agg ! (and_then ! (lit ! tt) (and_then ! (get ! refl) (no_more !)))) refl good $ exec ! 𝓣.C 𝓣.Λ Ev (after 2 fn.body) (at_ret Ev Post) $ sets ! (of_opd ! (get ! refl)) refl good $
     owned ! Refusal (Is Refusal) (Struct-Makes 𝓛 (Declared.shape AE.the_type) tt) tt (vstruct vnil ∷ []) (tt, (refl, tt)) $
-    use1 𝓛 (‵ (Out.own_val (Err (record {})) (val ∷ []))) (err_of 𝓛 Room AE.the_row (record {}) (vstruct vnil)) $
+    use1 𝓛 (‵ (Out.own_val (Err (record {})) (val ∷ []))) (err_of 𝓛 Block AE.the_row (record {}) (vstruct vnil)) $
     use0 𝓛 (raw (fact 𝓤 (Unit {0}))) (fact_i 𝓤 (Unit {0}) (emp 𝓤) tt) $ nothing ! $ nothing ! $ fjoin ! $
     returns ! (look_at ! 0 refl) $ free_all ! refl $ keep ! (3 ∷ 0 ∷ 2 ∷ 1 ∷ []) $ by ! (leaves 𝓛 En hs c y val (Err (record {})) (tt, tt) (tt, tt)))))))

@@ -16,7 +16,7 @@ links-requires g c = top_at c.each.left c.each.nodes.cells c.each.first c.pointe
 pub each-preserved : goal.each-preserved
 each-preserved g c =
     let k = c.each.invariant.stack in
-    let less : (cs : List (Cell Links (g.row.K.Denot × g.row.V.Denot))) (b : NodePointer) (s : Link) → IsStacked cs b s c.each.left c.each.nodes.cells c.each.first → IsStacked cs b s (c.each.left - 1) c.remove-room.new.self.cells c.links.result.now.link = λ cs b s k. IsStacked-without cs b s c.each.left c.each.nodes.cells c.each.first c.each-test.true k c.pointer-at.result c.pointer-at.ensures.pointer _ c.links.ensures _ c.remove-room.ensures in
+    let less : (cs : List (Cell Links (g.row.K.Denot × g.row.V.Denot))) (b : NodePointer) (s : Link) → IsStacked cs b s c.each.left c.each.nodes.cells c.each.first → IsStacked cs b s (c.each.left - 1) c.remove-block.new.self.cells c.links.result.now.link = λ cs b s k. IsStacked-without cs b s c.each.left c.each.nodes.cells c.each.first c.each-test.true k c.pointer-at.result c.pointer-at.ensures.pointer _ c.links.ensures _ c.remove-block.ensures in
     record {
       stack = (k.0, k.1, k.2, less k.0 k.1 k.2 k.3);
       ends = λ es h. c.each.invariant.ends es (λ cs b s j. h cs b s (less cs b s j));

@@ -2,14 +2,14 @@ use Rattle.std.proofs.Common.{◌≡◌, ◌<◌, ◌++◌, ◌∷◌, [], lengt
 use Rattle.std.proofs.lemmas.List.{append-nil, append_assoc}
 use Rattle.linked_hash_map.specs.Drains.{drain_rest}
 use Rattle.linked_hash_map.proofs.MarkMoves.{positive}
-use Rattle.linked_hash_map.proofs.Effects.{size-held, Defines-nothing, Defines-remove_all}
+use Rattle.linked_hash_map.proofs.Effects.{size-contents, Defines-nothing, Defines-remove_all}
 use Rattle.linked_hash_map.proofs.replay.drain.Goals as goal
 
 pub returns-in_default : goal.returns-in_default
 returns-in_default g c = record {
   answers = λ start log defines.
       let some : 0 < c.len.result = positive c.len.result (λ none. true≢false (sym (c.in_default.ensures.succeeds none))) in
-      let held = size-held g.met.K.Eq.laws defines in
+      let length_is = size-contents g.met.K.Eq.laws defines in
       omega (arith, c.len.ensures.len);
   defines = λ start log defines. Defines-nothing g.met.K.Eq.laws defines refl refl refl;
   hasher = refl;

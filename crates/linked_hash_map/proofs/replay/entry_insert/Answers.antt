@@ -5,7 +5,7 @@ use Rattle.linked_hash_map.specs.Entry.{occupied_key}
 use Rattle.linked_hash_map.proofs.LiveKeys.{none_is}
 use Rattle.linked_hash_map.proofs.Pairs.{length-put, put-absent}
 use Rattle.linked_hash_map.proofs.EntryFacts.{acts_put}
-use Rattle.linked_hash_map.proofs.Effects.{IsFull-held, IsAbsent-found, HasValue-value, Defines-put, Defines-nothing}
+use Rattle.linked_hash_map.proofs.Effects.{IsFull-contents, IsAbsent-found, HasValue-value, Defines-put, Defines-nothing}
 use Rattle.linked_hash_map.proofs.Runs.{Serves-same}
 use Rattle.linked_hash_map.proofs.replay.entry_insert.Goals as goal
 
@@ -36,17 +36,17 @@ returns-in-Ok g c =
     let eq = g.K.PartialEq.eq in
     let m = c.args.map.now in
     let entry = c.in-Vacant.ensures in
-    let held = c.in-Vacant.entry.map.now in
+    let lent_map = c.in-Vacant.entry.map.now in
     let key = c.in-Vacant.entry.key in
     let value = c.in-Ok._lent.now in
     let kept = entry.unchanged refl in
     let absent = none_is (find eq m.pairs c.args.key) (sym entry.occupied) in
     let same_key : key ≡ c.args.key = entry.key ∙ ap (key_or c.args.key) absent in
-    let left = pushed held key value in
+    let left = pushed lent_map key value in
     let went_in : left.pairs ≡ put eq m.mode m.pairs c.args.key c.args.value =
     (λ i. entry.pairs i ++ (same_key i, c.in-Ok.ensures.value i) ∷ []) ∙ put-absent eq m.mode m.pairs c.args.key c.args.value absent in
     let room : left.capacity ≡ max m.capacity (length left.pairs) =
-    let longer = length-append held.pairs ((key, value) ∷ []) in let same = entry.keeps.capacity in omega arith in
+    let longer = length-append lent_map.pairs ((key, value) ∷ []) in let same = entry.keeps.capacity in omega arith in
     Serves-same left (search rules)
     (record {
       answers = λ start log defines. IsAbsent-found g.met.K.Eq.laws defines c.args.key absent;
@@ -67,7 +67,7 @@ returns-in-Err g c =
     Serves-same m (search rules)
     (record {
       answers = λ start log defines.
-          ((IsAbsent-found g.met.K.Eq.laws defines c.args.key absent, IsFull-held g.met.K.Eq.laws defines full), refused.key_back ∙ same_key, refused.value_back);
+          ((IsAbsent-found g.met.K.Eq.laws defines c.args.key absent, IsFull-contents g.met.K.Eq.laws defines full), refused.key_back ∙ same_key, refused.value_back);
       defines = λ start log defines. Defines-nothing g.met.K.Eq.laws defines refl refl refl;
       hasher = refl;
     })

@@ -1,5 +1,5 @@
 use Rattle.std.proofs.Common.{sym, ap, ◌∙◌}
-use Rattle.linked_hash_map.proofs.Effects.{IsFull-held, IsAbsent-found, IsAbsent-value, HasValue-value, Defines-put, Defines-nothing}
+use Rattle.linked_hash_map.proofs.Effects.{IsFull-contents, IsAbsent-found, IsAbsent-value, HasValue-value, Defines-put, Defines-nothing}
 use Rattle.linked_hash_map.proofs.replay.insert.Goals as goal
 
 pub returns-in-Ok-None : goal.returns-in-Ok-None
@@ -25,7 +25,7 @@ returns-in-Err g c =
     let refused = c.in-Err.ensures in
     record {
       answers = λ start log defines.
-          ((IsAbsent-found g.met.K.Eq.laws defines c.args.key refused.absent, IsFull-held g.met.K.Eq.laws defines refused.full), refused.key_back, refused.value_back);
+          ((IsAbsent-found g.met.K.Eq.laws defines c.args.key refused.absent, IsFull-contents g.met.K.Eq.laws defines refused.full), refused.key_back, refused.value_back);
       defines = λ start log defines.
           Defines-nothing g.met.K.Eq.laws defines (ap (λ m. m.pairs) refused.unchanged) (ap (λ m. m.capacity) refused.unchanged) (ap (λ m. m.mode) refused.unchanged);
       hasher = ap (λ m. m.hasher) refused.unchanged;

@@ -6,7 +6,7 @@ use Rattle.linked_hash_map.proofs.LiveKeys.{none_is}
 use Rattle.linked_hash_map.proofs.Pairs.{is_some-value_at, put-absent}
 use Rattle.linked_hash_map.proofs.Indexes.{set_value-own}
 use Rattle.linked_hash_map.proofs.EntryFacts.{some_unwrapped, set_or_push-present, set_or_push-absent}
-use Rattle.linked_hash_map.proofs.Effects.{IsFull-held, IsAbsent-found, IsAbsent-value, HasValue-value, Defines-put, Defines-nothing}
+use Rattle.linked_hash_map.proofs.Effects.{IsFull-contents, IsAbsent-found, IsAbsent-value, HasValue-value, Defines-put, Defines-nothing}
 use Rattle.linked_hash_map.proofs.Runs.{Serves-same}
 use Rattle.linked_hash_map.proofs.replay.or_insert.Goals as goal
 
@@ -16,14 +16,14 @@ returns-then-present g c =
     let m = c.args.map.now in
     let k = c.args.key in
     let entry = c.entry-entry.ensures in
-    let held = entry_map c.entry-entry.result in
+    let lent_map = entry_map c.entry-entry.result in
     let key = entry_key c.entry-entry.result in
     let value = c.in-Ok._lent.now in
     let occupied : is_occupied c.entry-entry.result ≡ true = search rules in
     let there : is_some (find eq m.pairs k) ≡ true = sym entry.occupied ∙ occupied in
     let own : value_at eq m.pairs k ≡ Some value =
     some_unwrapped (value_at eq m.pairs k) c.args.value value (is_some-value_at eq m.pairs k ∙ there) (c.in-Ok.ensures.value ∙ ap (λ o. unwrap_or o c.args.value) entry.value) in
-    let left = set_or_pushed eq held key value in
+    let left = set_or_pushed eq lent_map key value in
     let kept : left.pairs ≡ m.pairs =
     ap (λ ps. set_or_push eq ps key value) entry.pairs
     ∙ entry.acts.sets_or_pushes value
@@ -43,14 +43,14 @@ returns-else-present g c =
     let m = c.args.map.now in
     let k = c.args.key in
     let entry = c.entry-entry.ensures in
-    let held = entry_map c.entry-entry.result in
+    let lent_map = entry_map c.entry-entry.result in
     let key = entry_key c.entry-entry.result in
     let value = c.in-Ok._lent.now in
     let vacant : is_occupied c.entry-entry.result ≡ false = search rules in
     let absent = none_is (find eq m.pairs k) (sym entry.occupied ∙ vacant) in
     let given : value ≡ c.args.value =
     c.in-Ok.ensures.value ∙ ap (λ o. unwrap_or o c.args.value) (entry.value ∙ ap (option_map (λ pair. pair.1)) absent) in
-    let left = set_or_pushed eq held key value in
+    let left = set_or_pushed eq lent_map key value in
     let pushed : left.pairs ≡ put eq m.mode m.pairs k c.args.value =
     ap (λ ps. set_or_push eq ps key value) entry.pairs
     ∙ entry.acts.sets_or_pushes value
@@ -71,15 +71,15 @@ returns-in-Err g c =
     let k = c.args.key in
     let entry = c.entry-entry.ensures in
     let refused = c.in-Err.ensures in
-    let held = entry_map c.entry-entry.result in
+    let lent_map = entry_map c.entry-entry.result in
     let none : value_at eq m.pairs k ≡ None = sym entry.value ∙ refused.absent in
     let absent = none_is (find eq m.pairs k) (sym (is_some-value_at eq m.pairs k) ∙ ap is_some none) in
     let kept = entry.unchanged refused.absent in
     let full : length m.pairs ≡ m.capacity = sym (ap (λ n. length n.pairs) kept) ∙ refused.full ∙ ap (λ n. n.capacity) kept in
-    Serves-same held (search rules)
+    Serves-same lent_map (search rules)
     (record {
       answers = λ start log defines.
-          ((IsAbsent-value g.met.K.Eq.laws defines k none, IsFull-held g.met.K.Eq.laws defines full), refused.key_back ∙ entry.key ∙ ap (key_or k) absent, refused.value_back);
+          ((IsAbsent-value g.met.K.Eq.laws defines k none, IsFull-contents g.met.K.Eq.laws defines full), refused.key_back ∙ entry.key ∙ ap (key_or k) absent, refused.value_back);
       defines = λ start log defines. Defines-nothing g.met.K.Eq.laws defines (ap (λ n. n.pairs) kept) (ap (λ n. n.capacity) kept) (ap (λ n. n.mode) kept);
       hasher = ap (λ n. n.hasher) kept;
     })

@@ -1,12 +1,12 @@
 use Rattle.std.proofs.Common.{◌-◌, ◌∙◌, sym, ap, take, length}
-use Rattle.linked_hash_map.proofs.Effects.{no_last_is_nil, Defines-nothing, Defines-pop_back, slice_get_last-held, pairs-no_last}
+use Rattle.linked_hash_map.proofs.Effects.{no_last_is_nil, Defines-nothing, Defines-pop_back, slice_get_last-contents, pairs-no_last}
 use Rattle.linked_hash_map.proofs.replay.pop_back.Goals as goal
 
 pub returns-in-Some : goal.returns-in-Some
 returns-in-Some g c =
     let done = c.in-Some.ensures in
     record {
-      answers = λ start log defines. slice_get_last-held g.met.K.Eq.laws defines done.pair;
+      answers = λ start log defines. slice_get_last-contents g.met.K.Eq.laws defines done.pair;
       defines = λ start log defines. Defines-pop_back g.met.K.Eq.laws defines c.in-Some.key c.in-Some.value done.pair done.pairs done.keeps.capacity done.keeps.mode;
       hasher = done.keeps.hasher;
     }

@@ -1,12 +1,12 @@
 use Rattle.std.proofs.Common.{Err, ap, arith}
-use Rattle.linked_hash_map.proofs.Effects.{size-held, Defines-reserve, Defines-nothing}
+use Rattle.linked_hash_map.proofs.Effects.{size-contents, Defines-reserve, Defines-nothing}
 use Rattle.linked_hash_map.proofs.replay.reserve.Goals as goal
 
 pub returns-in-Ok : goal.returns-in-Ok
 returns-in-Ok g c =
     let done = c.in-Ok.ensures in
     record {
-      answers = λ start log defines. let size_is = size-held g.met.K.Eq.laws defines in let limit = done.stays_valid.limit in let room = done.capacity in omega arith;
+      answers = λ start log defines. let size_is = size-contents g.met.K.Eq.laws defines in let limit = done.stays_valid.limit in let room = done.capacity in omega arith;
       defines = λ start log defines. Defines-reserve g.met.K.Eq.laws defines c.args.additional done.pairs done.capacity done.settings.mode;
       hasher = done.settings.hasher;
     }
@@ -16,7 +16,7 @@ returns-in-Err-TooLarge g c =
     let refused = c.in-Err-TooLarge.ensures in
     record {
       answers = λ start log defines.
-          let size_is = size-held g.met.K.Eq.laws defines in
+          let size_is = size-contents g.met.K.Eq.laws defines in
           let over = refused.too_large.0 (ap Err c.in-Err-TooLarge.field-0-is) in
           omega arith;
       defines = λ start log defines.
@@ -30,7 +30,7 @@ returns-in-Err-NoRoom g c =
     let told = ap Err c.in-Err-NoRoom.field-0-is in
     record {
       answers = λ start log defines.
-          let size_is = size-held g.met.K.Eq.laws defines in
+          let size_is = size-contents g.met.K.Eq.laws defines in
           let mark = defines.same_capacity in
           let over = refused.no_room told in
           let within = refused.no_room_within told in

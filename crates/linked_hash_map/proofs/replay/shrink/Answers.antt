@@ -1,5 +1,5 @@
 use Rattle.std.proofs.Common.{ap, arith}
-use Rattle.linked_hash_map.proofs.Effects.{size-held, Defines-shrink, Defines-nothing}
+use Rattle.linked_hash_map.proofs.Effects.{size-contents, Defines-shrink, Defines-nothing}
 use Rattle.linked_hash_map.proofs.replay.shrink.Goals as goal
 
 pub returns-in-Ok : goal.returns-in-Ok
@@ -16,7 +16,7 @@ returns-in-Err g c =
     let refused = c.in-Err.ensures in
     record {
       answers = λ start log defines.
-          let size_is = size-held g.met.K.Eq.laws defines in
+          let size_is = size-contents g.met.K.Eq.laws defines in
           let mark = defines.same_capacity in
           let some = refused.some in
           let spare = refused.spare in

@@ -1,7 +1,7 @@
 use Rattle.std.proofs.Common.{arith, ap, sym, ◌∙◌}
 use Rattle.lhm_ring.specs.Positions.{pointer_of, pointer_of_some}
 use Rattle.lhm_ring.proofs.BucketHeads.{is_there}
-use Rattle.lhm_ring.proofs.NodeBefore.{head_there, towards_start, towards_held, towards_room, towards_next, towards_end, towards_mended, towards_cut_held, same_state}
+use Rattle.lhm_ring.proofs.NodeBefore.{head_there, towards_start, towards_held, towards_below, towards_next, towards_end, towards_mended, towards_cut_held, same_state}
 use Rattle.lhm_ring.proofs.index.Index.before.Goals as goal
 
 pub unwrap-here-requires : goal.unwrap-here-requires
@@ -17,10 +17,10 @@ pub link-requires : goal.link-requires
 link-requires g c = towards_held c.chain.invariant.0
 
 pub overflow_add-passed : goal.overflow_add-passed
-overflow_add-passed g c = omega (arith, towards_room c.chain.invariant.0, c.requires.small)
+overflow_add-passed g c = omega (arith, towards_below c.chain.invariant.0, c.requires.small)
 
 pub chain-smaller : goal.chain-smaller
-chain-smaller g c = omega (arith, towards_room c.chain.invariant.0)
+chain-smaller g c = omega (arith, towards_below c.chain.invariant.0)
 
 pub chain-preserved : goal.chain-preserved
 chain-preserved g c = (

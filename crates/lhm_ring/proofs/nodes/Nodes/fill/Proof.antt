@@ -1,4 +1,4 @@
--- `fill` writes over what one node holds, or over the room for it. Assumes `Logic`.
+-- `fill` writes over what one node holds, or over uninitialised memory. Assumes `Logic`.
 use Rattle.std.proofs.Common.{◌≡◌, ℕ, ◌+◌, List, [], ◌∷◌, ◌++◌, refl, sym, ap, ◌∙◌, subst, Some}
 use base.Fraction.{full_share}
 use mir.Val.{Val, vptr, vunit}
@@ -27,7 +27,7 @@ use Rattle.std.proofs.raw_atomic.Walks.{proved_at, leaves}
 use Rattle.lhm_ring.specs.Cells.{cell, IsApart, AreBlocks, IsAt, change, with_body, pointers-change}
 use Rattle.lhm_ring.specs.Ownership.{links_of, body_owns}
 use Rattle.lhm_ring.proofs.Lookup.{Cut, cut}
-use Rattle.lhm_ring.proofs.Memory.{Three, args, RL, RK, RV, ko, vo, Node, Nr, Pl, One, Cells, pointer_told, alone, body_room, cells_cut, cells_glue, value_in}
+use Rattle.lhm_ring.proofs.Memory.{Three, args, RL, RK, RV, ko, vo, Node, Nr, Pl, One, Cells, pointer_told, alone, body_uninit, cells_cut, cells_glue, value_in}
 use Rattle.lhm_ring.specs.contracts.nodes.Nodes.fill.{ended, clauses}
 use Rattle.lhm_ring.specs.contracts.nodes.Nodes.fill.Key.{name as #self}
 use Rattle.lhm_ring.proofs.nodes.Nodes.fill.Statement.{statement}
@@ -57,8 +57,8 @@ fill_spec 𝓤 𝓛 𝓜 𝓡 wired L K V LL LK LV =
     use1 𝓛 (‵ (One E f) ⊛ ‵ (Cells E (k.before ++ k.after))) (cells_cut 𝓛 E k.before f k.after) $ split ! $ fsplit ! $
     in_a_block ! f.at (λ q. lies_at R full_share (links_of R S W q) f.links) (id⊢ 𝓤 (never 𝓤)) (λ pb po e.
     rewrite ! 0 (λ (q : Ptr). ‵ (lies_at R full_share (links_of R S W q) f.links)) (sym e) refl $ move ! (1 ∷ []) $ fsplit ! $
-    rewrite ! 0 (λ (q : Ptr). ‵ (body_owns R S W q f.body)) e refl $ use1 𝓛 (‵ (froom (layout K) pb (po + ko E)) ⊛ ‵ (froom (layout V) pb (po + vo E))) (body_room 𝓛 E pb po f.body) $ split ! $
-    -- [room for the key; for the value; the deed; the links; the other nodes; the mark; its cell; the open borrow, in three; the new key; the new value; the other tokens]
+    rewrite ! 0 (λ (q : Ptr). ‵ (body_owns R S W q f.body)) e refl $ use1 𝓛 (‵ (froom (layout K) pb (po + ko E)) ⊛ ‵ (froom (layout V) pb (po + vo E))) (body_uninit 𝓛 E pb po f.body) $ split ! $
+    -- [the key's memory; the value's; the deed; the links; the other nodes; the marker; its cell; the open borrow, in three; the new key; the new value; the other tokens]
     sets ! (is ! (of_opd ! (get_in ! (fld ! refl (stop !)) (sub ! 0 refl (whole !)))) (ap ptr_val (sym k.at_is ∙ e))) refl (tt, tt) $ first ! $ blocks ! $
     sets ! (addr ! (through ! refl (fld ! refl (stop !)))) refl (tt, tt) $ sets ! (of_opd ! (get ! refl)) refl got.1.1 $ assigns ! (of_opd ! (get ! refl)) (through ! refl (stop !)) (init ! 0 refl got.1.1) $ move ! (1 ∷ []) $
     sets ! (addr ! (through ! refl (fld ! refl (stop !)))) refl (tt, tt) $ sets ! (of_opd ! (get ! refl)) refl had.1.1 $ assigns_last ! (of_opd ! (get ! refl)) (through ! refl (stop !)) (init ! 0 refl had.1.1) $
@@ -67,7 +67,7 @@ fill_spec 𝓤 𝓛 𝓜 𝓡 wired L K V LL LK LV =
     move ! (1 ∷ 10 ∷ []) $ use2 𝓛 (‵ (part_at S full_share new pb (po + ko E))) (value_in 1 K LK 𝓛 new pb (po + ko E) v) $ fjoin ! $
     rewrite ! 0 (λ (q : Ptr). ‵ (body_owns R S W q (Some (new, val)))) (sym e) refl $ fjoin ! $ move ! (1 ∷ 0 ∷ []) $ fjoin ! $
     use2 𝓛 (‵ (Cells E (k.before ++ f' ∷ k.after))) (cells_glue 𝓛 E k.before f' k.after) $ rewrite ! 0 (λ (cs : List (Node E)). ‵ (Cells E cs)) (sym (k.changed (λ c. cell c.at c.links (Some (new, val))))) refl $
-    let h' : N.Denot = record { mark = h.mark; cells = change p (λ c. cell c.at c.links (Some (new, val))) h.cells; apart = subst IsApart (sym (pointers-change p (λ c. cell c.at c.links (Some (new, val))) (λ c. refl) h.cells)) h.apart; blocks = subst AreBlocks (sym (pointers-change p (λ c. cell c.at c.links (Some (new, val))) (λ c. refl) h.cells)) h.blocks } in
+    let h' : N.Denot = record { marker = h.marker; cells = change p (λ c. cell c.at c.links (Some (new, val))) h.cells; apart = subst IsApart (sym (pointers-change p (λ c. cell c.at c.links (Some (new, val))) (λ c. refl) h.cells)) h.apart; blocks = subst AreBlocks (sym (pointers-change p (λ c. cell c.at c.links (Some (new, val))) (λ c. refl) h.cells)) h.blocks } in
     move ! (1 ∷ 0 ∷ []) $ fjoin ! $ move ! (1 ∷ 0 ∷ []) $ closes ! tt N h' vs rb ro $
     feq_i ! (List Val) vss.0 (vptr rb ro ∷ []) are.0.0 $ fjoin3 ! $ nothing ! $ nothing ! $ fjoin ! $ nothing ! $ fjoin ! $ nothing ! $ fjoin ! $ move ! (1 ∷ 0 ∷ []) $ fjoin ! $ move ! (1 ∷ 2 ∷ []) $ join ! $
     let Told : Type 0 = with_body p (Some (new, val)) h.cells ≡ with_body p (Some (new, val)) h.cells in

@@ -35,8 +35,8 @@ use Rattle.lhm_ring.specs.contracts.content_loan.ContentLoan as S-type
 use Rattle.lhm_ring.proofs.value_loan.Hole.TheLaws as H-laws
 use Rattle.lhm_ring.proofs.nodes.Nodes.TheLaws as N-laws
 use denote.Param.Laws.{param_laws}
-use Rattle.lhm_ring.proofs.Memory.{Three, args, RL, RK, RV, Nr, mark}
-use Rattle.lhm_ring.proofs.ContentsSplitOff.{HS, HW, stems, cells_out, Fields, Held, fields_made, back, BareRow, Holed, bare_shares, ContentMark, content_loan_made, Anchor, anchor_made, three_made}
+use Rattle.lhm_ring.proofs.Memory.{Three, args, RL, RK, RV, Nr, marker}
+use Rattle.lhm_ring.proofs.ContentsSplitOff.{HS, HW, stems, cells_out, Fields, Held, fields_made, back, BareRow, Holed, bare_shares, ContentMarker, content_loan_made, Anchor, anchor_made, three_made}
 use Rattle.lhm_ring.specs.contracts.nodes.Nodes.lend_bodies.{ended, clauses}
 use Rattle.lhm_ring.specs.contracts.nodes.Nodes.lend_bodies.Key.{name as #self}
 use Rattle.lhm_ring.proofs.nodes.Nodes.lend_bodies.Statement.{statement}
@@ -54,7 +54,7 @@ lend_bodies_spec 𝓤 𝓛 𝓜 𝓡 wired L K V LL LK LV =
     let rb : ℕ = a.0.ref_ptr.0 in let ro : ℕ = a.0.ref_ptr.1 in let h : N.Denot = a.0.now in
     let others : Fml = fsep (flft κs.1.0 qs.1.0) (fsep (flft κs.1.1.0 qs.1.1.0) (fsep (flft κs.1.1.1.0 qs.1.1.1.0) ftrue)) in
     let κ : Lft = κs.0 in let q = qs.0 in let γ = a.0.ghost_name in let hcode = N.coded.code h in let bounds = y.0.2 in
-    let It : RattleType = S-type.the_row (named_lft 4 0 tt κs) R S W in let sm : RattleType = ContentMark (named_lft 4 0 tt κs) R S W in let Hr : RattleType = Holed R S W in
+    let It : RattleType = S-type.the_row (named_lft 4 0 tt κs) R S W in let sm : RattleType = ContentMarker (named_lft 4 0 tt κs) R S W in let Hr : RattleType = Holed R S W in
     let ps : List Ptr = firsts (bodies_of h.cells) in let os : List (Option (K.Denot × V.Denot)) = seconds (bodies_of h.cells) in let Bs : SemTy = Held E 𝓛 h rb ro in let Fs : Fml = Fields E 𝓛 h rb ro in
     qed 𝓛 (((‵ (flft κs.0 qs.0) ⊛ ‵ others) ⊛ ‵ (owns (types_at En.signature.params κs) a vss)) ∷ raw (fact 𝓤 (κs.1.0 ⊑ L.lives)) ∷ raw (fact 𝓤 (κs.1.1.0 ⊑ K.lives)) ∷ raw (fact 𝓤 (κs.1.1.1.0 ⊑ V.lives)) ∷ raw (emp 𝓤) ∷ []) ∵
     keep ! (1 ∷ 2 ∷ 3 ∷ 0 ∷ []) $ heard ! (κs.1.0 ⊑ L.lives) (λ inL. heard ! (κs.1.1.0 ⊑ K.lives) (λ inK. heard ! (κs.1.1.1.0 ⊑ V.lives) (λ inV. split ! $ split ! $ move ! (2 ∷ []) $ fsplit ! $ fsplit3 ! $ keep ! (1 ∷ 2 ∷ 4 ∷ 5 ∷ []) $
@@ -63,7 +63,7 @@ lend_bodies_spec 𝓤 𝓛 𝓜 𝓡 wired L K V LL LK LV =
     enter ! 𝓣.C 𝓣.Λ fn us Post $ alloc_all ! (λ l. pass_all ! refl ((tt, tt), tt) $ let Ev = env fn.locals l in
     opens ! tt N {h = h} rb ro (λ vs. move ! (1 ∷ []) $ fsplit ! $ move ! (1 ∷ []) $
     use1 𝓛 (‵ (bodies R S W ps os) ⊛ ‵ (stems R S W h.cells)) (cells_out E 𝓛 h.cells) $ split ! $
-    -- [the bodies; the stems; the mark; its cell; the open borrow, in three; the other tokens]
+    -- [the bodies; the stems; the marker; its cell; the open borrow, in three; the other tokens]
     move ! (2 ∷ 1 ∷ 3 ∷ []) $ use3 𝓛 (‵ Fs) (fields_made E 𝓛 h rb ro vs) $
     name_new ! tt (Bs.coded.code os) (λ δ.
     -- [the bodies' name, in two; the fields; the bodies; the open borrow, in three; the other tokens]
@@ -77,8 +77,8 @@ lend_bodies_spec 𝓤 𝓛 𝓜 𝓡 wired L K V LL LK LV =
     feq_i ! (List Val) (vptr rb ro ∷ []) (vptr rb ro ∷ []) refl $ move ! (0 ∷ 6 ∷ 7 ∷ []) $ fjoin3 ! $
     -- [the anchor; the bodies' borrow; the fields'; nothing; the token; what follows; the bodies' name; the other tokens]
     let top : MutBor (List ℕ) = record { ref_ptr = (rb, ro); ghost_name = ν; now = [] } in let seen : Bor N.Denot = record { ref_ptr = (rb, ro); now = h } in
-    let lent : ContentLoan L.Denot K.Denot V.Denot = record { mark = record {}; name = δ; run = bodies_of h.cells } in
-    move ! (6 ∷ 1 ∷ []) $ fjoin ! $ use0 𝓛 (‵ (sm.own_val (tt, tt) (mark ∷ []))) (content_loan_made (named_lft 4 0 tt κs) R S W 𝓛) $ fjoin ! $
+    let lent : ContentLoan L.Denot K.Denot V.Denot = record { marker = record {}; name = δ; run = bodies_of h.cells } in
+    move ! (6 ∷ 1 ∷ []) $ fjoin ! $ use0 𝓛 (‵ (sm.own_val (tt, tt) (marker ∷ []))) (content_loan_made (named_lft 4 0 tt κs) R S W 𝓛) $ fjoin ! $
     -- [the loan of the contents; the anchor; the fields' borrow; nothing; the token; what follows; the other tokens]
     move ! (2 ∷ 4 ∷ []) $
     use2 𝓛 (later (‵ ((BareRow R S W).shr_at h rb ro κ) ⊛ ‵ (flft κ q)))
@@ -86,8 +86,8 @@ lend_bodies_spec 𝓤 𝓛 𝓜 𝓡 wired L K V LL LK LV =
     (N-laws.the_within R (HS R S W) (HW R S W) κ (Incl-trans bounds.0 inL) (H-laws.the_within S κ (Incl-trans bounds.1.0 inK)) (H-laws.the_within W κ (Incl-trans bounds.1.1.0 inV))) (Incl-refl κ)) $ await ! tt $ split ! $
     use1 𝓛 (‵ (Hr.shr_at h rb ro κ)) (id⊢ 𝓤 _) $ hide ! $ feq_i ! (List Val) (vptr rb ro ∷ []) (vptr rb ro ∷ []) refl $ fjoin ! $
     -- [the nodes, shared; the token; the loan of the contents; the anchor; nothing; what follows; the other tokens]
-    move ! (3 ∷ 0 ∷ 2 ∷ []) $ three_made ! (MutRef (named 0) κ Anchor) (ShrRef (named 0) κ Hr) It top seen lent (vptr rb ro) (vptr rb ro) mark $
-    let out : Val = vstruct (vcons (vptr rb ro) (vcons (vptr rb ro) (vcons mark vnil))) in
+    move ! (3 ∷ 0 ∷ 2 ∷ []) $ three_made ! (MutRef (named 0) κ Anchor) (ShrRef (named 0) κ Hr) It top seen lent (vptr rb ro) (vptr rb ro) marker $
+    let out : Val = vstruct (vcons (vptr rb ro) (vcons (vptr rb ro) (vcons marker vnil))) in
     sets ! (addr ! (through ! refl (stop !))) refl (tt, tt) $ sets ! (addr ! (through ! refl (stop !))) refl (tt, tt) $ first ! $ blocks ! $ sets_last ! (addr ! (through ! refl (stop !))) refl (tt, tt) $
     exec ! 𝓣.C 𝓣.Λ Ev (after 3 fn.body) (at_ret Ev Post) $ sets ! (of_opd ! (get ! refl)) refl (tt, tt) $ first ! $ blocks ! $ sets_last ! (addr ! (through ! refl (stop !))) refl (tt, tt) $
     exec ! 𝓣.C 𝓣.Λ Ev (after 5 fn.body) (at_ret Ev Post) $ sets ! (of_opd ! (get ! refl)) refl (tt, tt) $ sets ! (agg ! (no_more !)) refl (tt, tt) $

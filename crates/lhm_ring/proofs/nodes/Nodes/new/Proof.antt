@@ -14,7 +14,7 @@ use denote.Steps.{nothing}
 use denote.Triple.Walked.{Stays, walk_of}
 use Rattle.std.proofs.raw_atomic.Walks.{proved_at, leaves}
 use Rattle.lhm_ring.proofs.Apart.{apart_none}
-use Rattle.lhm_ring.proofs.Memory.{Three, args, RL, RK, Nr, Mark, mark, mark_made}
+use Rattle.lhm_ring.proofs.Memory.{Three, args, RL, RK, Nr, Marker, marker, marker_made}
 use Rattle.lhm_ring.specs.contracts.nodes.Nodes.new.{ended, clauses}
 use Rattle.lhm_ring.specs.contracts.nodes.Nodes.new.Key.{name as #self}
 use Rattle.lhm_ring.proofs.nodes.Nodes.new.Statement.{statement}
@@ -28,10 +28,10 @@ new_spec 𝓤 𝓛 𝓜 𝓡 wired L K V LL LK LV =
     proved_at 𝓛 En hs c 𝓜 𝓡 tt (#self (args E)) fn (code.unfolded 𝓤 H 𝓜 𝓡 wired (L, (K, (V, tt)))) (λ y are.
     let κs = y.0.0 in let qs = y.0.1 in let Post : Val → SProp 𝓤 = (walk_of 𝓛 En hs c).post y in
     let toks = ‵ (flft κs.0 qs.0) ⊛ ‵ (flft κs.1.0 qs.1.0) ⊛ ‵ (flft κs.1.1.0 qs.1.1.0) ⊛ ‵ ftrue in
-    let out : N.Denot = record { mark = record {}; cells = []; apart = apart_none; blocks = tt } in
+    let out : N.Denot = record { marker = record {}; cells = []; apart = apart_none; blocks = tt } in
     qed 𝓛 ((toks ⊛ ‵ ftrue) ∷ raw ((c κs y.0.3).requires y.1) ∷ []) ∵ split ! $ keep ! (0 ∷ []) $
     enter ! 𝓣.C 𝓣.Λ fn [] Post $ alloc_all ! (λ l. pass_all ! refl tt $
     sets ! (agg ! (no_more !)) refl (tt, tt) $ sets ! (agg ! (and_then ! (get ! refl) (no_more !))) refl (tt, (tt, tt)) $
     let Told : Type 0 = out.cells ≡ [] in use0 𝓛 (raw (fact 𝓤 Told)) (fact_i 𝓤 Told (emp 𝓤) refl) $
-    nothing ! $ use0 𝓛 (‵ ((Mark E).own_val (tt, tt) (mark ∷ []))) (mark_made E 𝓛) $ fjoin ! $ nothing ! $
-    returns ! (look_at ! 0 refl) $ free_all ! refl $ keep ! (3 ∷ 0 ∷ 1 ∷ 2 ∷ []) $ by ! (leaves 𝓛 En hs c y mark out tt tt)))
+    nothing ! $ use0 𝓛 (‵ ((Marker E).own_val (tt, tt) (marker ∷ []))) (marker_made E 𝓛) $ fjoin ! $ nothing ! $
+    returns ! (look_at ! 0 refl) $ free_all ! refl $ keep ! (3 ∷ 0 ∷ 1 ∷ 2 ∷ []) $ by ! (leaves 𝓛 En hs c y marker out tt tt)))

@@ -49,9 +49,9 @@ use Rattle.lhm_ring.specs.contracts.ring.Ring.TheInside as I-type
 use Rattle.lhm_ring.proofs.links.Links.TheLaws as links-laws
 use Rattle.lhm_ring.proofs.value_loan.Hole.TheLaws as H-laws
 use Rattle.lhm_ring.proofs.ring.Ring.TheInside.TheLaws as I-laws
-use Rattle.lhm_ring.proofs.Memory.{mark, struct_made}
+use Rattle.lhm_ring.proofs.Memory.{marker, struct_made}
 use Rattle.lhm_ring.proofs.ValuesReplaced.{run_of}
-use Rattle.lhm_ring.proofs.ValuesSplitOff.{Inside, Full, parts, thin_shape, Thinned, thinned, thin_shared, at_pointers, vals, kept_by, entries, As, Vals, named as listed_as, view, good, Fields, ring_cut, back, placed, placed-own, ordered_back, lent_of, LoanMark, loan_made}
+use Rattle.lhm_ring.proofs.ValuesSplitOff.{Inside, Full, parts, thin_shape, Thinned, thinned, thin_shared, at_pointers, vals, kept_by, entries, As, Vals, named as listed_as, view, good, Fields, ring_cut, back, placed, placed-own, ordered_back, lent_of, LoanMarker, loan_made}
 use Rattle.lhm_ring.specs.contracts.ring.Ring.lend.{ended, clauses}
 use Rattle.lhm_ring.specs.contracts.ring.Ring.lend.Key.{name as #self}
 use Rattle.lhm_ring.proofs.ring.Ring.lend.Statement.{statement}
@@ -69,7 +69,7 @@ lend_spec 𝓤 𝓛 𝓜 𝓡 wired K V LK LV =
     let rb : ℕ = a.0.ref_ptr.0 in let ro : ℕ = a.0.ref_ptr.1 in let d : State (K.Denot × V.Denot) = a.0.now in
     let others : Fml = fsep (flft κs.1.0 qs.1.0) (fsep (flft κs.1.1.0 qs.1.1.0) ftrue) in
     let κ : Lft = κs.0 in let q = qs.0 in let γ = a.0.ghost_name in let dcode = R.coded.code d in let bounds = y.0.2 in
-    let It : RattleType = L-type.the_row (named_lft 3 0 tt κs) Q S W in let Holed : RattleType = R-type.the_row S Hr in let lm : RattleType = LoanMark (named_lft 3 0 tt κs) Q S W in
+    let It : RattleType = L-type.the_row (named_lft 3 0 tt κs) Q S W in let Holed : RattleType = R-type.the_row S Hr in let lm : RattleType = LoanMarker (named_lft 3 0 tt κs) Q S W in
     qed 𝓛 (((‵ (flft κs.0 qs.0) ⊛ ‵ others) ⊛ ‵ (owns (types_at En.signature.params κs) a vss)) ∷ raw (fact 𝓤 (κs.1.0 ⊑ K.lives)) ∷ raw (fact 𝓤 (κs.1.1.0 ⊑ V.lives)) ∷ raw (emp 𝓤) ∷ []) ∵
     keep ! (1 ∷ 2 ∷ 0 ∷ []) $ heard ! (κs.1.0 ⊑ K.lives) (λ inK. heard ! (κs.1.1.0 ⊑ V.lives) (λ inV. split ! $ split ! $ move ! (2 ∷ []) $ fsplit ! $ fsplit3 ! $ keep ! (1 ∷ 2 ∷ 4 ∷ 5 ∷ []) $
     let us : List Val = vptr rb ro ∷ [] in let Run : List Val → SProp 𝓤 = λ ws. WpFn 𝓤 H 𝓣.C 𝓣.Λ fn ws Post in
@@ -89,8 +89,8 @@ lend_spec 𝓤 𝓛 𝓜 𝓡 wired K V LK LV =
     open_ref ! tt As' {x = d} {b = 0} {o = 0} $ rewrite ! 0 (λ (l : List V.Denot). ‵ (spread W ps l)) is refl $ nothing ! $ move ! (2 ∷ 3 ∷ 4 ∷ 1 ∷ 0 ∷ []) $ group ! 5 $
     use1 𝓛 (later (some (λ (δ : ℕ). ‵ (fobs δ (Vs.coded.code ws)) ⊛ ‵ (fbor κ (Borrowed Vs 0 0 δ)) ⊛ ‵ (flft κ q) ⊛ ‵ (afterwards As' Vs ν δ (listed_as S W 𝓛 i d seen ok rb ro)))))
     (takes_part 𝓛 As' Vs (listed_as S W 𝓛 i d seen ok rb ro) κ q 0 0 0 0 ν (emp 𝓤) (ordered_back S W 𝓛 i d seen ok rb ro) dcode dcode ws) $ await ! tt $ pick ! (λ δ. split3 ! $ fjoin ! $
-    let lent : ValueLoan Links K.Denot V.Denot = record { mark = record {}; name = δ; tie = ν; run = run_of es } in let top : Bor (State (K.Denot × V.Denot)) = record { ref_ptr = (rb, ro); now = d } in
-    use0 𝓛 (‵ (lm.own_val (tt, tt) (mark ∷ []))) (loan_made (named_lft 3 0 tt κs) Q S W 𝓛) $ fjoin ! $
+    let lent : ValueLoan Links K.Denot V.Denot = record { marker = record {}; name = δ; tie = ν; run = run_of es } in let top : Bor (State (K.Denot × V.Denot)) = record { ref_ptr = (rb, ro); now = d } in
+    use0 𝓛 (‵ (lm.own_val (tt, tt) (marker ∷ []))) (loan_made (named_lft 3 0 tt κs) Q S W 𝓛) $ fjoin ! $
     -- [the loan; its token and the second name's; what follows; the shared parts; the other tokens]
     move ! (1 ∷ []) $ split ! $ move ! (4 ∷ []) $ split ! $
     -- [the fields; nothing; the token; the second name's; the loan; what follows; the other tokens]
@@ -101,8 +101,8 @@ lend_spec 𝓤 𝓛 𝓜 𝓡 wired K V LK LV =
     use1 𝓛 (‵ (Holed.shr_at d rb ro κ)) (view-Hides (I-type.the_row S Hr) (State (K.Denot × V.Denot)) Holed.coded (R-type.the_view S Hr) (R-type.the_invariant S Hr) _ 𝓤 𝓛 d i (seen, ok) rb ro κ) $
     hide ! $ feq_i ! (List Val) (vptr rb ro ∷ []) (vptr rb ro ∷ []) refl $ fjoin ! $
     -- [the ring, shared; the token; nothing; the second name's; the loan; what follows; the other tokens]
-    move ! (0 ∷ 4 ∷ []) $ struct_made ! (declared.shape (T-type.the_type (named_lft 3 0 tt κs) S W)) (ShrRef (named 0) κ Holed) It top lent (vptr rb ro) mark $
-    let out : Val = vstruct (vcons (vptr rb ro) (vcons mark vnil)) in
+    move ! (0 ∷ 4 ∷ []) $ struct_made ! (declared.shape (T-type.the_type (named_lft 3 0 tt κs) S W)) (ShrRef (named 0) κ Holed) It top lent (vptr rb ro) marker $
+    let out : Val = vstruct (vcons (vptr rb ro) (vcons marker vnil)) in
     sets ! (addr ! (through ! refl (stop !))) refl (tt, tt) $ first ! $ blocks ! $ sets_last ! (addr ! (through ! refl (stop !))) refl (tt, tt) $
     exec ! 𝓣.C 𝓣.Λ Ev (after 2 fn.body) (at_ret Ev Post) $ sets ! (of_opd ! (get ! refl)) refl (tt, tt) $ sets ! (agg ! (no_more !)) refl (tt, tt) $
     sets ! (agg ! (and_then ! (get ! refl) (no_more !))) refl (tt, (tt, tt)) $ sets ! (agg ! (and_then ! (get ! refl) (and_then ! (get ! refl) (no_more !)))) refl (tt, (tt, ((tt, tt), tt))) $

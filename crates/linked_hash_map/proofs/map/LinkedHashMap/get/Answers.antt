@@ -1,24 +1,21 @@
 use Rattle.std.proofs.Common.{Some, option_map, fold, sym, ap, ◌∙◌}
-use Rattle.lhm_ring.specs.Positions.{pointer_of}
-use Rattle.lhm_ring.specs.Search.{HasKey, IsAbsent}
 use Rattle.linked_hash_map.specs.Hashers.{hash_by}
 use Rattle.linked_hash_map.proofs.Indexes.{value_at-index}
-use Rattle.linked_hash_map.proofs.Kept.{of-Some, of-None, index_of-key, pair_there, node, front, back, distinct_keys, absent_key}
+use Rattle.linked_hash_map.proofs.Kept.{index_of-key, pair_there, node, front, back, distinct_keys, absent_key}
 use Rattle.linked_hash_map.proofs.map.LinkedHashMap.get.Goals as goal
 
-pub returns-in-Some : goal.returns-in-Some
-returns-in-Some g c =
-    let m = c.self.inside in
-    let h = of-Some (λ p. HasKey g.K.PartialEq.eq c.hash_one-hash.result c.args.key.now m.table.held (pointer_of p)) c.position.result c.in-Some.at c.in-Some.is c.position.ensures.found in
+pub returns : goal.returns
+returns g c =
+    let h = c.in_ok-at.ensures.found in
     rw (← c.self.view_is) (
     ap Some (c.value.ensures (front h.held) (node h.held) (back h.held) h.held.is h.held.at_is)
     ∙ value_at-index g.met.K.Eq.laws (distinct_keys c.self.invariant) (index_of-key h) (pair_there h.held)
     )
 
-pub returns-in-None : goal.returns-in-None
-returns-in-None g c =
+pub returns-in_err-at : goal.returns-in_err-at
+returns-in_err-at g c =
     let m = c.self.inside in
-    rw (← c.self.view_is) (sym (ap (option_map (λ p. p.1)) (absent_key g.K.PartialEq.eq (hash_by g.S.Hasher.Hasher.finish g.S.Hasher.Hasher.write g.S.BuildHasher.build_hasher g.K.Hash.hash_input m.hasher)
+    rw (c.from_residual.ensures, ← c.self.view_is) (sym (ap (option_map (λ p. p.1)) (absent_key g.K.PartialEq.eq (hash_by g.S.Hasher.Hasher.finish g.S.Hasher.Hasher.write g.S.BuildHasher.build_hasher g.K.Hash.hash_input m.hasher)
     (λ x y h. ap (λ ws. g.S.Hasher.Hasher.finish (fold g.S.Hasher.Hasher.write (g.S.BuildHasher.build_hasher m.hasher) ws)) (g.met.K.Hash.respects_eq x y h))
     c.args.key.now c.hash_one-hash.result c.hash_one-hash.ensures m.table.held c.self.invariant.nodes.hashed
-    (of-None (IsAbsent g.K.PartialEq.eq c.hash_one-hash.result c.args.key.now m.table.held) c.position.result c.in-None.is c.position.ensures.absent))))
+    c.in_err-at.ensures.absent)))

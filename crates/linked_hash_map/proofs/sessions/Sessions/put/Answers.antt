@@ -38,11 +38,11 @@ returns-in_default-clause-succeeds g c =
     let leaving = c.find_leaving-leaving in
     rw (← c.self.view_is) (λ some light.
     let none = none-leaves leaving.result.count (m.limit - c.args.weight) (without all c.args.id) leaving.ensures.stay leaving.ensures.within (omega arith) in
-    let held = is_some-weight all c.args.id c.weight_at-replaced.ensures ∙ c.is_none-is_new.ensures in
-    sym (held ∙ ap not (c.in_default.ensures.new none)) ∙ some)
+    let present = is_some-weight all c.args.id c.weight_at-replaced.ensures ∙ c.is_none-is_new.ensures in
+    sym (present ∙ ap not (c.in_default.ensures.new none)) ∙ some)
 
-pub store-old-requires-clause-held : goal.store-old-requires-clause-held
-store-old-requires-clause-held g c =
+pub store-old-requires-clause-present : goal.store-old-requires-clause-present
+store-old-requires-clause-present g c =
     rw c.make_room.ensures.pairs (is_some-weight (sessions_of c.self.inside.map.pairs) c.args.id c.weight_at-replaced.ensures ∙ c.is_none-is_new.ensures)
 
 pub store-old-requires-clause-enough : goal.store-old-requires-clause-enough

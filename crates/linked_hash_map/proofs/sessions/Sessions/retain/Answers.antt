@@ -9,17 +9,17 @@ use Rattle.linked_hash_map.proofs.sessions.Sessions.retain.Goals as goal
 pub retain-requires : goal.retain-requires
 retain-requires g c =
     callable-ready _ (λ (s : record { 0 : MutBor g.row.F.Denot }). always_mut g.F.FnMut s.0.now)
-    (λ s id held b left s' call always. always-called g.F.FnMut s.0.now (id, held.weight, held.payload) b left.payload s'.0.now (search rules) always)
-    _ (λ s id held always key value is_id is_held. always) _ _ c.requires
+    (λ s id weighted b left s' call always. always-called g.F.FnMut s.0.now (id, weighted.weight, weighted.payload) b left.payload s'.0.now (search rules) always)
+    _ (λ s id weighted always key value is_id is_weighted. always) _ _ c.requires
 
 pub total_of-self-inside-requires : goal.total_of-self-inside-requires
 total_of-self-inside-requires g c =
-    let lighter = lighter-retained _ g.F.FnMut (λ (s : record { 0 : MutBor g.row.F.Denot }). s.0.now) (λ s id held b left s' call. search rules) _ _ _ c.retain.ensures.pairs in
+    let lighter = lighter-retained _ g.F.FnMut (λ (s : record { 0 : MutBor g.row.F.Denot }). s.0.now) (λ s id weighted b left s' call. search rules) _ _ _ c.retain.ensures.pairs in
     omega (arith, lighter, c.self.invariant.sum, c.self.invariant.within, c.self.ranges)
 
 pub invariant_of-self : goal.invariant_of-self
 invariant_of-self g c =
-    let lighter = lighter-retained _ g.F.FnMut (λ (s : record { 0 : MutBor g.row.F.Denot }). s.0.now) (λ s id held b left s' call. search rules) _ _ _ c.retain.ensures.pairs in
+    let lighter = lighter-retained _ g.F.FnMut (λ (s : record { 0 : MutBor g.row.F.Denot }). s.0.now) (λ s id weighted b left s' call. search rules) _ _ _ c.retain.ensures.pairs in
     record {
       valid = c.retain.ensures.stays_valid;
       mode = c.retain.ensures.keeps.mode ∙ c.self.invariant.mode;
@@ -29,7 +29,7 @@ invariant_of-self g c =
 
 pub returns-clause-sessions : goal.returns-clause-sessions
 returns-clause-sessions g c =
-    rw (← c.self.view_is) (sessions-retained _ g.F.FnMut (λ (s : record { 0 : MutBor g.row.F.Denot }). s.0.now) (λ s id held b left s' call. search rules) _ _ _ c.retain.ensures.pairs)
+    rw (← c.self.view_is) (sessions-retained _ g.F.FnMut (λ (s : record { 0 : MutBor g.row.F.Denot }). s.0.now) (λ s id weighted b left s' call. search rules) _ _ _ c.retain.ensures.pairs)
 
 pub returns-clause-weights : goal.returns-clause-weights
 returns-clause-weights g c = weights-retained g.F.FnMut c.args.keep c.args.self.now.sessions (sessions_of c.retain.new.self.pairs) (returns-clause-sessions g c)

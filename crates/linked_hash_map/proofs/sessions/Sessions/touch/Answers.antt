@@ -13,7 +13,7 @@ returns-in-Some g c =
       lends_alike (λ payload. ap (λ sessions. session_table sessions m.limit) (sessions_of-refreshed m.map c.args.id (sym c.in-Some.ensures.value) payload)),
       record {
         writes_back = tt;
-        payload = ap (option_map (λ held. held.payload)) c.in-Some.ensures.value ∙ sym (payload_of-sessions_of m.map.pairs c.args.id);
+        payload = ap (option_map (λ weighted. weighted.payload)) c.in-Some.ensures.value ∙ sym (payload_of-sessions_of m.map.pairs c.args.id);
         valid = IsValidTable-kept c.self.invariant;
       },
     )
@@ -25,7 +25,7 @@ returns-in-None g c =
       refl,
       record {
         writes_back = tt;
-        payload = ap (option_map (λ held. held.payload)) c.in-None.ensures.value ∙ sym (payload_of-sessions_of m.map.pairs c.args.id);
+        payload = ap (option_map (λ weighted. weighted.payload)) c.in-None.ensures.value ∙ sym (payload_of-sessions_of m.map.pairs c.args.id);
         valid = IsValidTable-kept c.self.invariant;
       },
     )

@@ -12,7 +12,7 @@ returns-in-Ok-Some-clause-sessions g c =
 
 pub returns-in-Ok-Some-clause-old : goal.returns-in-Ok-Some-clause-old
 returns-in-Ok-Some-clause-old g c =
-    ap (option_map (λ held. held.payload)) (sym c.in-Ok-Some.field-0-is ∙ c.in-Ok-Some.ensures.old) ∙ sym (payload_of-sessions_of c.args.map.now.pairs c.args.id)
+    ap (option_map (λ weighted. weighted.payload)) (sym c.in-Ok-Some.field-0-is ∙ c.in-Ok-Some.ensures.old) ∙ sym (payload_of-sessions_of c.args.map.now.pairs c.args.id)
 
 pub returns-in-Ok-None-clause-sessions : goal.returns-in-Ok-None-clause-sessions
 returns-in-Ok-None-clause-sessions g c =
@@ -22,4 +22,4 @@ returns-in-Ok-None-clause-sessions g c =
 
 pub returns-in-Ok-None-clause-old : goal.returns-in-Ok-None-clause-old
 returns-in-Ok-None-clause-old g c =
-    ap (option_map (λ held. held.payload)) (sym c.in-Ok-None.field-0-is ∙ c.in-Ok-None.ensures.old) ∙ sym (payload_of-sessions_of c.args.map.now.pairs c.args.id)
+    ap (option_map (λ weighted. weighted.payload)) (sym c.in-Ok-None.field-0-is ∙ c.in-Ok-None.ensures.old) ∙ sym (payload_of-sessions_of c.args.map.now.pairs c.args.id)

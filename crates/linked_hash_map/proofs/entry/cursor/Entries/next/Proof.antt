@@ -178,7 +178,7 @@ next_spec 𝓤 𝓛 𝓜 𝓡 wired K V S H LK LV LS LH b₀ d₀ b₁ d₁ b₂
     let at = mut_Tells (named 0) κs.0 Part r (v ∷ []) is in
     lands_as ! (ap only at) refl (tt, tt) $ rewrite ! 0 (λ (w : Val). ‵ (Lent.own_val r (w ∷ []))) (ap only at) refl $
     sets ! (addr ! (through ! refl (stop !))) refl (tt, tt) $
-    move ! (3 ∷ []) $ pick ! (λ ws. split ! $ drop ! $ split ! $ move ! (1 ∷ []) $ heard ! _ (λ as_held.
+    move ! (3 ∷ []) $ pick ! (λ ws. split ! $ drop ! $ split ! $ move ! (1 ∷ []) $ heard ! _ (λ as_lent_to.
     -- [what follows; what was lent; the token of κs.0; the other tokens]
     let N = triple_of 𝓛 (entry-ended K V S H B).signature (h.spec K V S H b₀ d₀ b₁ d₁ b₂ d₂ b₃ d₃ b₄ d₄ d₅ 𝓛 𝓜.mem 𝓡.returns) in
     let u : N.Ghost = (((κs.0, κs.1.1), (qs.0, qs.1.1), (bounds.1.0, (bounds.1.1.0, (bounds.1.1.1.0, tt))), (r, tt), (mut_vals r, tt)), tt) in
@@ -201,14 +201,14 @@ next_spec 𝓤 𝓛 𝓜 𝓡 wired K V S H LK LV LS LH b₀ d₀ b₁ d₁ b₂
     let laws = entry-laws.the_row_laws (record { mir = named 0; lft = κs.0 }) (param 0 K) (param 1 V) (param 2 S) (param 3 H) b₁ b₂ b₃ b₄ (param_laws 0 K LK) (param_laws 1 V LV) (param_laws 2 S LS) (param_laws 3 H LH) in
     lands_as ! refl refl (((option_laws (Entry K V S H B κs.0) laws).lawful 𝓛).typed e (w ∷ []) it).0 $
     returns ! (look_at ! 0 refl) $ free_all ! refl $ suffices ! _ (ends_at 𝓛 (ended K V S H B) (stayed K V S H B) c z w e (tt, tt) (tt, tt)) $
-    let held = a.0.now in
-    move ! (5 ∷ 1 ∷ []) $ use2 𝓛 (‵ (follows_if Whole Part a.0.ghost_name (name_if_some (λ o. o.map.ghost_name) e) (with_cursor_map held) (with_cursor_map held r.now)))
-    (handed_on 𝓛 Whole Part a.0.ghost_name r.ghost_name (with_cursor_map held) r.now (name_if_some (λ o. o.map.ghost_name) e) (same_name e r.ghost_name name)) $
-    rewrite ! 0 (λ (m : Part.Denot). ‵ (follows_if Whole Part a.0.ghost_name (name_if_some (λ o. o.map.ghost_name) e) (with_cursor_map held) (with_cursor_map held m))) as_held refl $
+    let lent_to = a.0.now in
+    move ! (5 ∷ 1 ∷ []) $ use2 𝓛 (‵ (follows_if Whole Part a.0.ghost_name (name_if_some (λ o. o.map.ghost_name) e) (with_cursor_map lent_to) (with_cursor_map lent_to r.now)))
+    (handed_on 𝓛 Whole Part a.0.ghost_name r.ghost_name (with_cursor_map lent_to) r.now (name_if_some (λ o. o.map.ghost_name) e) (same_name e r.ghost_name name)) $
+    rewrite ! 0 (λ (m : Part.Denot). ‵ (follows_if Whole Part a.0.ghost_name (name_if_some (λ o. o.map.ghost_name) e) (with_cursor_map lent_to) (with_cursor_map lent_to m))) as_lent_to refl $
     -- [what follows; the result; the token of κs.0; the tokens of the parameters; the token of κs.1]
     nothing ! $ nothing ! $ join ! $ move ! (5 ∷ 4 ∷ []) $ join ! $ move ! (4 ∷ 0 ∷ []) $ join ! $ move ! (0 ∷ 1 ∷ 3 ∷ []) $ group ! 3 $ frame ! $ frame ! $
-    use0 𝓛 (raw (fact 𝓤 (Visits e held.map.now))) (fact_i 𝓤 _ (emp 𝓤) (subst (Visits e) as_held visits)) $ frame ! $
-    use0 𝓛 (raw (fact 𝓤 (Value e held.map.now b₁.eq))) (fact_i 𝓤 _ (emp 𝓤) (subst (λ m. Value e m b₁.eq) as_held value)) $ frame ! $
-    use0 𝓛 (raw (fact 𝓤 (SamePairs e held.map.now))) (fact_i 𝓤 _ (emp 𝓤) (subst (SamePairs e) as_held pairs)) $ frame ! $
-    use0 𝓛 (raw (fact 𝓤 (Kept e held.map.now))) (fact_i 𝓤 _ (emp 𝓤) (subst (Kept e) as_held keeps)) $ frame ! $
-    says ! (subst (NoneLeft e) as_held none) $ by ! (fact_i 𝓤 _ _ (subst (IsValid b₁.eq) as_held valid))))))))))))))))))))))))
+    use0 𝓛 (raw (fact 𝓤 (Visits e lent_to.map.now))) (fact_i 𝓤 _ (emp 𝓤) (subst (Visits e) as_lent_to visits)) $ frame ! $
+    use0 𝓛 (raw (fact 𝓤 (Value e lent_to.map.now b₁.eq))) (fact_i 𝓤 _ (emp 𝓤) (subst (λ m. Value e m b₁.eq) as_lent_to value)) $ frame ! $
+    use0 𝓛 (raw (fact 𝓤 (SamePairs e lent_to.map.now))) (fact_i 𝓤 _ (emp 𝓤) (subst (SamePairs e) as_lent_to pairs)) $ frame ! $
+    use0 𝓛 (raw (fact 𝓤 (Kept e lent_to.map.now))) (fact_i 𝓤 _ (emp 𝓤) (subst (Kept e) as_lent_to keeps)) $ frame ! $
+    says ! (subst (NoneLeft e) as_lent_to none) $ by ! (fact_i 𝓤 _ _ (subst (IsValid b₁.eq) as_lent_to valid))))))))))))))))))))))))

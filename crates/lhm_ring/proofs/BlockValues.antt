@@ -24,35 +24,35 @@ use Rattle.std.proofs.GlobalToken.{dealloc_token_start}
 use Rattle.std.proofs.RcSteps.{Good, word}
 use Rattle.std.proofs.lemmas.Bool.{eq-eqb}
 use Rattle.lhm_ring.specs.Cells.{same_ptr, pointers, is_block}
-use Rattle.lhm_ring.specs.Ownership.{links_of, block_owns, deed_owns, chunk_token, node_type, room_owns}
-use Rattle.lhm_ring.specs.contracts.block.Room as R-type
+use Rattle.lhm_ring.specs.Ownership.{links_of, block_owns, deed_owns, chunk_token, node_type, fields_own}
+use Rattle.lhm_ring.specs.contracts.block.Block as R-type
 use Rattle.lhm_ring.proofs.Apart.{same_ptr_eq, IsFresh}
 use Rattle.lhm_ring.proofs.Memory.{Three, RL, RK, RV, lo, Node, Pl, Cells, value_out}
 
-abbrev pub room_val : Ptr → Val
-room_val p = vstruct (vcons (ptr_val p) (vcons (vstruct vnil) vnil))
+abbrev pub block_val : Ptr → Val
+block_val p = vstruct (vcons (ptr_val p) (vcons (vstruct vnil) vnil))
 
-pub room_Good : (p : Ptr) → T (has_ty (ty_struct [] (tcons ty_ptr (tcons (ty_struct [] tnil) tnil))) (room_val p)) × WT (room_val p)
-room_Good (block_ptr b o) = (tt, (tt, (tt, tt)))
-room_Good null_ptr = (tt, (record { fits = omega arith }, (tt, tt)))
+pub block_Good : (p : Ptr) → T (has_ty (ty_struct [] (tcons ty_ptr (tcons (ty_struct [] tnil) tnil))) (block_val p)) × WT (block_val p)
+block_Good (block_ptr b o) = (tt, (tt, (tt, tt)))
+block_Good null_ptr = (tt, (record { fits = omega arith }, (tt, tt)))
 
 pub pointer_made : {M : Type 1} {𝓤 : Ura M} (𝓛 : Logic 𝓤) (p : Ptr) → ent 𝓤 (emp 𝓤) (sem 𝓛 (Pl.own_val (record { ptr = p }) (word p ∷ [])))
 pointer_made 𝓛 p = makes_shadow 𝓛 (Pl.own_val (record { ptr = p }) (word p ∷ [])) (λ vss. (tt, (tt, tt))) ((ptr_val p ∷ [], tt), (refl, (refl, tt)))
 
 module _ (R S W Z : RattleType) (g : Ghosts Z.Denot) where
-  abbrev pub Rm : RattleType
-  Rm = R-type.the_row R S W Z g
+  abbrev pub BlockType : RattleType
+  BlockType = R-type.the_row R S W Z g
 
-  abbrev pub RmFields : RattleType
-  RmFields = Struct (shape (R-type.the_type R S W Z g))
+  abbrev pub BlockFields : RattleType
+  BlockFields = Struct (shape (R-type.the_type R S W Z g))
 
-  pub room_made : {M : Type 1} {𝓤 : Ura M} (𝓛 : Logic 𝓤) (p : Ptr) → ent 𝓤 (emp 𝓤) (sem 𝓛 (RmFields.own_val (p, (record {}, tt)) (room_val p ∷ [])))
-  room_made 𝓛 p = makes_shadow 𝓛 (RmFields.own_val (p, (record {}, tt)) (room_val p ∷ [])) (λ vss. (tt, (tt, ((λ uss. (tt, tt)), tt))))
+  pub block_made : {M : Type 1} {𝓤 : Ura M} (𝓛 : Logic 𝓤) (p : Ptr) → ent 𝓤 (emp 𝓤) (sem 𝓛 (BlockFields.own_val (p, (record {}, tt)) (block_val p ∷ [])))
+  block_made 𝓛 p = makes_shadow 𝓛 (BlockFields.own_val (p, (record {}, tt)) (block_val p ∷ [])) (λ vss. (tt, (tt, ((λ uss. (tt, tt)), tt))))
       ((ptr_val p ∷ [], (vstruct vnil ∷ [], tt)), (refl, (refl, ((tt, (refl, tt)), tt))))
 
   module _ {M : Type 1} {𝓤 : Ura M} {𝓛 : Logic 𝓤} {K : Type 0} {Γ : List (Item 𝓤)} {G : Goal 𝓤 𝓛.H} where
-    pub room_known : K → (r : Rm.Denot) (vs : List Val) → (vs ≡ room_val r.ptr ∷ [] → Seq K 𝓛 (‵ (block_owns R S W (g.dealloc_token r.alloc) r.ptr) ∷ Γ) G) → Seq K 𝓛 (‵ (Rm.own_val r vs) ∷ Γ) G
-    room_known t r vs k = fsplit t $ fpick t (λ vss. fsplit t $ feq_l t (λ ev. fsplit t $ feq_l t (λ ep. fsplit t $ fpick t (λ uss. fsplit t $ feq_l t (λ em. drop t $ drop t $
+    pub block_known : K → (r : BlockType.Denot) (vs : List Val) → (vs ≡ block_val r.ptr ∷ [] → Seq K 𝓛 (‵ (block_owns R S W (g.dealloc_token r.alloc) r.ptr) ∷ Γ) G) → Seq K 𝓛 (‵ (BlockType.own_val r vs) ∷ Γ) G
+    block_known t r vs k = fsplit t $ fpick t (λ vss. fsplit t $ feq_l t (λ ev. fsplit t $ feq_l t (λ ep. fsplit t $ fpick t (λ uss. fsplit t $ feq_l t (λ em. drop t $ drop t $
         k (ev ∙ (λ i. vstruct (of_list (ep i ++ (em i ++ []))) ∷ [])))))))
 
 module _ {M : Type 1} {𝓤 : Ura M} {𝓛 : Logic 𝓤} {K : Type 0} {Γ : List (Item 𝓤)} {G : Goal 𝓤 𝓛.H} where
@@ -62,7 +62,7 @@ module _ {M : Type 1} {𝓤 : Ura M} {𝓛 : Logic 𝓤} {K : Type 0} {Γ : List
       let shown : Seq K 𝓛 (i ∷ j ∷ Γ) (prop (fact 𝓤 φ)) = use2 𝓛 (raw (fact 𝓤 φ)) h $ keep t (0 ∷ []) $ done t in
       record { prf = fact_use 𝓤 φ shown.prf (λ x. (k x).prf) }
 
--- room for links that take space lies apart from every node
+-- uninitialised links that take space lie apart from every node
 module _ {M : Type 1} {𝓤 : Ura M} (𝓛 : Logic 𝓤) (𝓜 : Model 𝓤 𝓛.H) (E : Three) (sized : 0 < size (layout E.links)) where
   abbrev New : Ptr → Fml
   New p = room_for (bare (layout E.links)) (links_of (RL E) (RK E) (RV E) p)
@@ -92,5 +92,5 @@ pub block_starts : {M : Type 1} {𝓤 : Ura M} (𝓛 : Logic 𝓤) (R S W : Ratt
     → ent 𝓤 (sep 𝓤 (sem 𝓛 (deed_owns R S W chunk_token (block_ptr b o))) (sem 𝓛 (room_for (bare (lone R.mir)) (links_of R S W (block_ptr b o))))) (fact 𝓤 (is_block (block_ptr b o) ≡ true))
 block_starts {𝓤 = 𝓤} 𝓛 R S W b o =
     let p : Ptr = block_ptr b o in let token : SProp 𝓤 = sem 𝓛 (chunk_token (node_type R S W) p) in let deed : SProp 𝓤 = sem 𝓛 (deed_owns R S W chunk_token p) in
-    via 𝓤 deed (fst∗ 𝓤 deed (sem 𝓛 (room_for (bare (lone R.mir)) (links_of R S W p)))) (via 𝓤 token (fst∗ 𝓤 token (sem 𝓛 (fwand (room_owns R S W p) (room_for (node_type R S W) p))))
+    via 𝓤 deed (fst∗ 𝓤 deed (sem 𝓛 (room_for (bare (lone R.mir)) (links_of R S W p)))) (via 𝓤 token (fst∗ 𝓤 token (sem 𝓛 (fwand (fields_own R S W p) (room_for (node_type R S W) p))))
     (via 𝓤 (fact 𝓤 (o ≡ 0)) (dealloc_token_start 𝓛 (record { memory = record { seal = tt } }) (node_type R S W) p) (fact_mono 𝓤 (o ≡ 0) (is_block p ≡ true) (λ e. eq-eqb o 0 e))))
