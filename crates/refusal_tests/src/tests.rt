@@ -2,11 +2,11 @@
 //!
 //! The tests whose names begin with `refused_` hold whichever one of their growths is refused.
 //! Where none was, a test says so, and how many it asks for. That number is counted by hand, from
-//! what the calls promise: a map asks for two growths for its buckets where their number changes to
-//! another than 0, first for the heads of their chains and then for their filter. It asks for one
-//! for the guard of its nodes where it has none, and for one for each further node. The last growth
-//! is one that the test asks for itself, behind the calls. So a growth whose refusal a call ignores
-//! is seen too, as one more or one fewer than the test says.
+//! what the calls promise: a map asks for one growth for its buckets and one for their filter where
+//! the number of buckets changes to another than 0, one for the guard of its nodes where it has
+//! none, and one for each further node. The last growth is one that the test asks for itself,
+//! behind the calls. So a growth whose refusal a call ignores is seen too, as one more or one fewer
+//! than the test says.
 
 mod capacities;
 mod checks;

@@ -48,7 +48,8 @@ fn run<'a>(
     if !insert_first(tally, &mut map) {
         return false;
     }
-    // The growths: the replies; buckets and a node, twice; a node; buckets and a node; a node.
+    // The growths: the replies; buckets, a filter and a node, twice; a node; buckets, a filter and
+    // a node; a node.
     let outcome = replay(&mut map, commands);
     assert_dropped(rt, tally, dropped_by(&outcome));
     drop(outcome);

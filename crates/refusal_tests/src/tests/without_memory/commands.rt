@@ -13,7 +13,7 @@ type Commands = Vec<Command<u8, u64>>;
 
 #[test]
 fn refused_growth_is_not_asked_for_by_commands(rt: HostRuntime) {
-    // The growths: buckets, the guard and three nodes; the list and the commands.
+    // The growths: buckets, a filter, the guard and three nodes; the list and the commands.
     let made = full_of(&rt, rt.alloc(), &PAIRS);
     replay_all(&rt, made, commands(rt.alloc()));
 }

@@ -13,7 +13,7 @@ fn refused_growth_is_not_asked_for_by_making_and_taking_apart(rt: HostRuntime) {
     make_default(&rt, rt.alloc());
     make_too_large(&rt, rt.alloc());
     make_empty(&rt, rt.alloc());
-    // The growths: buckets, the guard and three nodes.
+    // The growths: buckets, a filter, the guard and three nodes.
     take_apart(&rt, full_of(&rt, rt.alloc(), &PAIRS));
 }
 
