@@ -2,10 +2,11 @@
 //!
 //! The tests whose names begin with `refused_` hold whichever one of their growths is refused.
 //! Where none was, a test says so, and how many it asks for. That number is counted by hand, from
-//! what the calls promise: a map asks for one growth for its buckets where their number changes to
-//! another than 0, one for the guard of its nodes where it has none, and one for each further node.
-//! The last growth is one that the test asks for itself, behind the calls. So a growth whose
-//! refusal a call ignores is seen too, as one more or one fewer than the test says.
+//! what the calls promise: a map asks for one growth for its buckets and one for their filter where
+//! the number of buckets changes to another than 0, one for the guard of its nodes where it has
+//! none, and one for each further node. The last growth is one that the test asks for itself,
+//! behind the calls. So a growth whose refusal a call ignores is seen too, as one more or one fewer
+//! than the test says.
 
 mod capacities;
 mod checks;
@@ -56,7 +57,7 @@ fn is_given(alloc: Global) -> bool {
     Box::new(alloc, 0).is_ok()
 }
 
-/// Makes a map of this capacity, for which it asks for two growths more.
+/// Makes a map of this capacity, for which it asks for three growths more.
 fn with_room(alloc: Global, capacity: usize) -> Result<Map, ReserveError> {
     LinkedHashMap::with_capacity_and_hasher(alloc, capacity, BUILDER)
 }
@@ -85,7 +86,7 @@ fn assert_map(rt: &impl Abort, map: &Map, pairs: &[(u8, u64)], capacity: usize, 
     check_eq!(rt; (*map.hasher(), map.mode()), (BUILDER, Mode::Touch));
     assert_forward(rt, map, pairs);
     assert_backward(rt, map, pairs);
-    check_eq!(rt; find(map, &ABSENT), (None, 0));
+    check_eq!(rt; (find(map, &ABSENT), map.get(&ABSENT)), ((None, 0), None));
 }
 
 fn assert_forward(rt: &impl Abort, map: &Map, pairs: &[(u8, u64)]) {
@@ -93,6 +94,8 @@ fn assert_forward(rt: &impl Abort, map: &Map, pairs: &[(u8, u64)]) {
     for (key, value) in pairs {
         check_eq!(rt; forward.next(), Some((key, value)));
         check_eq!(rt; find(map, key), (Some(value), 1));
+        // This lookup goes by the filter too.
+        check_eq!(rt; map.get(key), Some(value));
     }
 }
 

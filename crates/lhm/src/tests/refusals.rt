@@ -2,8 +2,9 @@
 //!
 //! The tests named `refused_` run with the Nth growth refused, for each N, until all of them say that every growth was given, and how
 //! many there are. That number is counted by hand. A vector of bytes grows to 8, and one of commands or of pairs to 4, and each doubles
-//! from there. The room of the replies is one growth, and so is the list of a draining. A map asks for its buckets, a guard and a node
-//! at its first pair, and for its buckets and a node at its second.
+//! from there. The room of the replies is one growth, and so is the list of a draining. A map asks
+//! for its buckets, a filter, a guard and a node at its first pair, and for its buckets, a filter
+//! and a node at its second.
 
 use super::checks::{check_eq, given};
 use super::fakes::{Sink, Source};
@@ -93,7 +94,7 @@ fn refused_growth_of_a_run(rt: HostRuntime) {
     ];
     let input = b"insert 1 10\ninsert 2 20\ninsert 1 11\nremove 1\ninsert 2 21\n";
     // 57 bytes of input, to 64, five commands, to 8, the replies, two pairs of the map, and 99 bytes of output, to 128.
-    check_ways(&rt, rt.alloc(), input, &ways, 17);
+    check_ways(&rt, rt.alloc(), input, &ways, 19);
 }
 
 #[test]
@@ -105,7 +106,7 @@ fn refused_growth_of_an_extension(rt: HostRuntime) {
         (0, "done len=2 cap=2\nlist 1:10 2:20\n", ""),
     ];
     // 17 bytes of input, to 32, the pairs, a command, the replies, two pairs of the map, and 32 bytes of output.
-    check_ways(&rt, rt.alloc(), b"extend 1 10 2 20\n", &ways, 14);
+    check_ways(&rt, rt.alloc(), b"extend 1 10 2 20\n", &ways, 16);
 }
 
 #[test]
@@ -117,7 +118,7 @@ fn refused_growth_of_a_draining(rt: HostRuntime) {
         (0, "new len=1 cap=1\npairs 1:1 len=0 cap=1\nlist\n", ""),
     ];
     // 17 bytes of input, to 32, the commands, the replies, a pair of the map, its list, and 43 bytes of output, to 64.
-    check_ways(&rt, rt.alloc(), b"insert 1 1\ndrain\n", &ways, 13);
+    check_ways(&rt, rt.alloc(), b"insert 1 1\ndrain\n", &ways, 14);
 }
 
 /// Checks the line of a reply. Its text has room, so that nothing is refused.

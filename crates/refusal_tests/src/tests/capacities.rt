@@ -7,10 +7,10 @@ use std::process::Abort;
 
 #[test]
 fn refused_capacity_gives_no_map(rt: HostRuntime) {
-    // The growths of each map: buckets, the guard and two nodes.
+    // The growths of each map: buckets, a filter, the guard and two nodes.
     let made = with_room(rt.alloc(), 2);
     let default = LinkedHashMap::with_capacity(rt.alloc(), 2);
-    say_if_given(&rt, made.is_ok() & default.is_ok(), 9);
+    say_if_given(&rt, made.is_ok() & default.is_ok(), 11);
     assert_made(&rt, made);
     assert_default(&rt, default);
 }
@@ -31,7 +31,7 @@ fn assert_default(rt: &impl Abort, made: Result<LinkedHashMap<u8, u64>, ReserveE
 
 #[test]
 fn refused_reservation_keeps_buckets_and_nodes(rt: HostRuntime) {
-    // The growths: buckets, the guard and two nodes.
+    // The growths: buckets, a filter, the guard and two nodes.
     reserve_twice(&rt, full_of(&rt, rt.alloc(), &[(1, 10), (2, 20)]));
 }
 
@@ -42,12 +42,12 @@ fn reserve_twice(rt: &(impl Abort + Print + AllocGlobal), made: Result<Map, Rese
 }
 
 fn reserve_four_and_five(rt: &(impl Abort + Print + AllocGlobal), map: &mut Map) {
-    // The growths: 8 buckets for 2, and four nodes; then a node alone.
+    // The growths: 8 buckets for 2, a filter and four nodes; then a node alone.
     let first = reserve_four(rt, map);
     assert_map(rt, map, &[(1, 10), (2, 20)], 6, 2);
     let second = reserve_five(rt, map);
     assert_map(rt, map, &[(1, 10), (2, 20)], 7, 2);
-    say_if_given(rt, first & second, 11);
+    say_if_given(rt, first & second, 13);
 }
 
 /// Reserves room for four pairs more, again where it is refused, and tells whether it was given at once.
@@ -102,12 +102,12 @@ fn refused_first_reservation_leaves_nothing(rt: HostRuntime) {
     reserve_three(&rt, &mut map);
 }
 
-/// The growths: 4 buckets, the guard, and three nodes.
+/// The growths: 4 buckets, a filter, the guard and three nodes.
 fn reserve_three(rt: &(impl Abort + Print + AllocGlobal), map: &mut Map) {
     match map.reserve(3) {
         Ok(()) => {
             assert_map(rt, map, &[], 3, 0);
-            say_given(rt, 6);
+            say_given(rt, 7);
         }
         Err(error) => {
             check_eq!(rt; error, ReserveError::NoRoom);
@@ -125,7 +125,7 @@ fn reserve_one(rt: &impl Abort, map: &mut Map) {
 
 #[test]
 fn refused_shrink_keeps_buckets_and_nodes(rt: HostRuntime) {
-    // The growths: buckets, the guard and nine nodes.
+    // The growths: buckets, a filter, the guard and nine nodes.
     shrink(&rt, with_room(rt.alloc(), 9));
 }
 
@@ -139,12 +139,12 @@ fn shrink(rt: &(impl Abort + Print + AllocGlobal), made: Result<Map, ReserveErro
     }
 }
 
-/// The growth: 4 buckets for 16.
+/// The growths: 4 buckets for 16, and a filter.
 fn shrink_few(rt: &(impl Abort + Print + AllocGlobal), map: &mut Map) {
     match map.shrink_to_fit() {
         Ok(()) => {
             assert_map(rt, map, &FEW, 3, 3);
-            say_given(rt, 13);
+            say_given(rt, 15);
         }
         Err(NoRoom) => fill_unshrunk(rt, map),
     }
@@ -166,7 +166,7 @@ fn fill_unshrunk(rt: &impl Abort, map: &mut Map) {
 
 #[test]
 fn refused_growth_is_asked_for_again_after_shrinking(rt: HostRuntime) {
-    // The growths: buckets, the guard and three nodes.
+    // The growths: buckets, a filter, the guard and three nodes.
     shrink_and_reserve(&rt, with_room(rt.alloc(), 3));
 }
 
@@ -185,7 +185,8 @@ fn insert_once_resized(rt: &(impl Abort + Print + AllocGlobal), map: &mut Map) {
     }
 }
 
-/// What shrinking gives back is asked for again: buckets, and then buckets and two nodes. Tells whether all were given.
+/// What shrinking gives back is asked for again: buckets and a filter, and then buckets, a filter
+/// and two nodes. Tells whether all were given.
 fn is_resized(map: &mut Map) -> bool {
     map.shrink_to_fit().is_ok() && map.reserve(2).is_ok()
 }
@@ -197,13 +198,13 @@ fn empty(rt: &impl Abort, map: &mut Map) {
     assert_map(rt, map, &[], 0, 0);
 }
 
-/// The growths: buckets, the guard and a node.
+/// The growths: buckets, a filter, the guard and a node.
 fn insert_second(rt: &(impl Abort + Print + AllocGlobal), map: &mut Map) {
     match map.insert(2, 20) {
         Ok(old) => {
             check_eq!(rt; old, None);
             assert_map(rt, map, &[(2, 20)], 1, 0);
-            say_given(rt, 13);
+            say_given(rt, 17);
         }
         Err(refused) => {
             check_eq!(rt; refused, Refused { key: 2, value: 20 });
@@ -214,7 +215,7 @@ fn insert_second(rt: &(impl Abort + Print + AllocGlobal), map: &mut Map) {
 
 #[test]
 fn refused_shrink_within_its_buckets_asks_for_none(rt: HostRuntime) {
-    // The growths: buckets, the guard and eight nodes.
+    // The growths: buckets, a filter, the guard and eight nodes.
     shrink_within(&rt, with_room(rt.alloc(), 8));
 }
 
@@ -235,7 +236,7 @@ fn raise_within(rt: &(impl Abort + Print + AllocGlobal), map: &mut Map) {
     match map.reserve(3) {
         Ok(()) => {
             assert_map(rt, map, &FIVE, 8, 0);
-            say_given(rt, 14);
+            say_given(rt, 15);
         }
         Err(error) => {
             check_eq!(rt; error, ReserveError::NoRoom);

@@ -66,9 +66,9 @@ fn collect(
     made: Result<Rc<u8>, AllocError>,
 ) {
     if let Ok(counted) = made {
-        // The growths: buckets, the guard and three nodes.
+        // The growths: buckets, a filter, the guard and three nodes.
         let made = SharedMap::from_iter(alloc, three_of(rt, &counted));
-        say_if_given(rt, is_collected(rt, &counted, made, 0), 7);
+        say_if_given(rt, is_collected(rt, &counted, made, 0), 8);
     }
 }
 
@@ -84,9 +84,10 @@ fn collect_without_a_hint(
     made: Result<Rc<u8>, AllocError>,
 ) {
     if let Ok(counted) = made {
-        // The filter hints at no item. The growths: buckets, the guard and a node; buckets and a node, twice.
+        // The iterator hints at no item. The growths: buckets, a filter, the guard and a node;
+        // buckets, a filter and a node, twice.
         let items = three_of(rt, &counted).into_iter().filter(|_| true);
         let made = SharedMap::from_iter(alloc, items);
-        say_if_given(rt, is_collected(rt, &counted, made, 3), 9);
+        say_if_given(rt, is_collected(rt, &counted, made, 3), 12);
     }
 }

@@ -10,17 +10,17 @@ type Extended = Result<(), Refused<u8, u64>>;
 
 #[test]
 fn refused_extension_keeps_what_went_in(rt: HostRuntime) {
-    // The growths: buckets, the guard and a node.
+    // The growths: buckets, a filter, the guard and a node.
     extend(&rt, with_room(rt.alloc(), 1));
 }
 
 fn extend(rt: &(impl Abort + Print + AllocGlobal), made: Result<Map, ReserveError>) {
     if let Ok(mut map) = made {
         let mut items = [(1, 10), (1, 11), (2, 20), (3, 30), (4, 40)].into_iter();
-        // The growths: buckets and a node, twice; then a node.
+        // The growths: buckets, a filter and a node, twice; then a node.
         let extended = map.extend(items.by_ref());
         assert_extended(rt, &map, extended, items.len());
-        say_if_given(rt, map.len() == 4, 9);
+        say_if_given(rt, map.len() == 4, 12);
     }
 }
 
@@ -46,17 +46,17 @@ fn assert_extended(rt: &impl Abort, map: &Map, extended: Extended, left: usize) 
 
 #[test]
 fn refused_extension_by_references_keeps_what_went_in(rt: HostRuntime) {
-    // The growths: buckets, the guard and a node.
+    // The growths: buckets, a filter, the guard and a node.
     extend_refs(&rt, with_room(rt.alloc(), 1));
 }
 
 fn extend_refs(rt: &(impl Abort + Print + AllocGlobal), made: Result<Map, ReserveError>) {
     if let Ok(mut map) = made {
         let mut items = [(&1, &10), (&1, &11), (&2, &20), (&3, &30)].into_iter();
-        // The growths: buckets and a node, twice.
+        // The growths: buckets, a filter and a node, twice.
         let extended = map.extend_refs(items.by_ref());
         assert_extended_by_references(rt, &map, extended, items.len());
-        say_if_given(rt, map.len() == 3, 8);
+        say_if_given(rt, map.len() == 3, 11);
     }
 }
 

@@ -39,13 +39,14 @@ fn put_into_vacant(map: &mut Map, key: u8, value: u64) -> Result<(), Refused<u8,
 fn refused_insertion_by_each_call_changes_nothing(rt: HostRuntime) {
     let mut map = LinkedHashMap::with_hasher(rt.alloc(), BUILDER);
     let given = put_by_each_call(&rt, &mut map);
-    say_if_given(&rt, given, 11);
+    say_if_given(&rt, given, 15);
 }
 
 /// Puts in a pair by each call, and tells whether none was refused.
 fn put_by_each_call(rt: &impl Abort, map: &mut Map) -> bool {
     let pairs = [(1, 10), (2, 20), (3, 30), (4, 0), (5, 50)];
-    // The growths: buckets, the guard and a node; buckets and a node; buckets and a node; a node; buckets and a node.
+    // The growths: buckets, a filter, the guard and a node; buckets, a filter and a node, twice; a
+    // node; buckets, a filter and a node.
     let calls: [(Call, (u8, u64), &[(u8, u64)], usize); 5] = [
         (Call::Insert, (1, 10), &pairs[..1], 0),
         (Call::OrInsert, (2, 20), &pairs[..2], 1),
@@ -86,7 +87,7 @@ fn put_or_put_again(
 
 #[test]
 fn refused_insertion_leaves_the_calls_that_take_no_memory(rt: HostRuntime) {
-    // The growths: buckets, the guard and a node.
+    // The growths: buckets, a filter, the guard and a node.
     insert_second(&rt, full_of(&rt, rt.alloc(), &[(1, 10)]));
 }
 
@@ -96,12 +97,12 @@ fn insert_second(rt: &(impl Abort + Print + AllocGlobal), made: Result<Map, Rese
     }
 }
 
-/// The growths: buckets and a node.
+/// The growths: buckets, a filter and a node.
 fn insert_or_change(rt: &(impl Abort + Print + AllocGlobal), map: &mut Map) {
     match map.insert(2, 20) {
         Ok(_old) => {
             assert_map(rt, map, &[(1, 10), (2, 20)], 2, 1);
-            say_given(rt, 6);
+            say_given(rt, 8);
         }
         Err(refused) => {
             check_eq!(rt; refused, Refused { key: 2, value: 20 });
@@ -123,7 +124,7 @@ fn change_one(rt: &impl Abort, map: &mut Map) {
 
 #[test]
 fn refused_growth_comes_after_the_closure(rt: HostRuntime) {
-    // The growths: buckets, the guard and a node.
+    // The growths: buckets, a filter, the guard and a node.
     insert_with(&rt, full_of(&rt, rt.alloc(), &[(1, 10)]), rt.alloc());
 }
 
@@ -136,7 +137,7 @@ fn insert_with(
         insert_after_a_refusal(rt, &mut map, alloc);
         assert_map(rt, &map, &[(1, 10), (2, 20)], 2, 1);
         find_without_the_closure(rt, &mut map);
-        say_given(rt, 3);
+        say_given(rt, 4);
     }
 }
 
@@ -169,7 +170,7 @@ fn find_without_the_closure(rt: &impl Abort, map: &mut Map) {
 
 #[test]
 fn refused_insertion_goes_in_once_there_is_room(rt: HostRuntime) {
-    // The growths: buckets, the guard and a node.
+    // The growths: buckets, a filter, the guard and a node.
     insert_after_a_removal(&rt, full_of(&rt, rt.alloc(), &[(1, 11)]));
 }
 
@@ -182,10 +183,10 @@ fn insert_after_a_removal(
     }
 }
 
-/// The growths: buckets and a node.
+/// The growths: buckets, a filter and a node.
 fn insert_or_make_room(rt: &(impl Abort + Print + AllocGlobal), map: &mut Map) {
     match map.insert(2, 20) {
-        Ok(_old) => say_given(rt, 6),
+        Ok(_old) => say_given(rt, 8),
         Err(refused) => {
             check_eq!(rt; refused, Refused { key: 2, value: 20 });
             remove_and_insert(rt, map);
@@ -202,11 +203,12 @@ fn remove_and_insert(rt: &impl Abort, map: &mut Map) {
 
 #[test]
 fn refused_pair_comes_back_from_each_call_of_an_entry(rt: HostRuntime) {
-    // The growths, three times: buckets, the guard and a node; buckets and a node.
+    // The growths, three times: buckets, a filter, the guard and a node; buckets, a filter and a
+    // node.
     let by_value = put_by_value(&rt, full_of(&rt, rt.alloc(), &[(1, 10)]));
     let by_default = put_by_default(&rt, full_of(&rt, rt.alloc(), &[(1, 10)]));
     let by_closure = put_by_closure(&rt, full_of(&rt, rt.alloc(), &[(1, 10)]));
-    say_if_given(&rt, by_value & by_default & by_closure, 16);
+    say_if_given(&rt, by_value & by_default & by_closure, 22);
 }
 
 /// Puts in a second pair by `or_insert`, and tells whether each growth was given.

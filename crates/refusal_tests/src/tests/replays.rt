@@ -38,11 +38,12 @@ fn make_insertions(rt: &(impl Abort + Print + AllocGlobal), map: Map, alloc: Glo
 }
 
 fn replay_insertions(rt: &(impl Abort + Print + AllocGlobal), mut map: Map, commands: Commands) {
-    // The growths: the replies; buckets, the guard and a node; buckets and a node, twice.
+    // The growths: the replies; buckets, a filter, the guard and a node; buckets, a filter and a
+    // node, twice.
     match replay(&mut map, commands) {
         Ok(replies) => {
             assert_inserted(rt, &map, replies.as_slice());
-            say_if_given(rt, map.len() == 3, 10);
+            say_if_given(rt, map.len() == 3, 13);
         }
         Err(commands) => {
             check_eq!(rt; commands.as_slice(), INSERTIONS.as_slice());
@@ -112,7 +113,7 @@ const CHANGES: [Command<u8, u64>; 4] = [
 
 #[test]
 fn refused_change_of_a_replay_is_answered(rt: HostRuntime) {
-    // The growths: buckets, the guard and two nodes; the commands.
+    // The growths: buckets, a filter, the guard and two nodes; the commands.
     let made = full_of(&rt, rt.alloc(), &[(1, 10), (2, 20)]);
     make_changes(&rt, made, rt.alloc());
 }
@@ -130,12 +131,12 @@ fn make_changes(
 }
 
 fn replay_changes(rt: &(impl Abort + Print + AllocGlobal), mut map: Map, commands: Commands) {
-    // The growths: the replies; buckets and a node; buckets; the list.
+    // The growths: the replies; buckets, a filter and a node; buckets and a filter; the list.
     match replay(&mut map, commands) {
         Ok(replies) => {
             let refused = refused_at(replies.as_slice());
             assert_changed(rt, &map, replies.as_slice(), refused);
-            say_if_given(rt, refused.is_none(), 11);
+            say_if_given(rt, refused.is_none(), 14);
         }
         Err(commands) => {
             check_eq!(rt; commands.as_slice(), CHANGES.as_slice());
@@ -180,7 +181,7 @@ fn has_drained(replies: &[Reply<u8, u64>]) -> bool {
 
 #[test]
 fn refused_replay_stops_an_extension(rt: HostRuntime) {
-    // The growths: buckets, the guard and a node.
+    // The growths: buckets, a filter, the guard and a node.
     make_extension(&rt, with_room(rt.alloc(), 1), rt.alloc());
 }
 
@@ -203,11 +204,11 @@ fn extension(alloc: Global) -> Result<Commands, AllocError> {
 }
 
 fn replay_extension(rt: &(impl Abort + Print + AllocGlobal), mut map: Map, commands: Commands) {
-    // The growths: the replies; buckets and a node, twice.
+    // The growths: the replies; buckets, a filter and a node, twice.
     match replay(&mut map, commands) {
         Ok(replies) => {
             assert_stopped(rt, &map, replies.as_slice());
-            say_if_given(rt, map.len() == 3, 11);
+            say_if_given(rt, map.len() == 3, 14);
         }
         Err(_commands) => assert_map(rt, &map, &[], 1, 0),
     }

@@ -67,7 +67,7 @@ fn put_third(rt: &(impl Abort + Print + AllocGlobal), table: &mut Table) {
     match table.put(3, 4, "d") {
         Ok(_put) => {
             assert_sessions(rt, table, &[(2, 4, "c"), (3, 4, "d")], 8);
-            say_given(rt, 7);
+            say_given(rt, 9);
         }
         Err(refused) => {
             assert_refused(rt, refused, "d");
@@ -88,7 +88,8 @@ fn send_first_away(rt: &impl Abort, table: &mut Table) {
     check_eq!(rt; put.gone.as_slice(), [(1, 4, "a")].as_slice());
 }
 
-/// Puts two sessions, and tells whether each growth was given. The growths: buckets, the guard and a node; buckets and a node.
+/// Puts two sessions, and tells whether each growth was given. The growths: buckets, a filter, the
+/// guard and a node; buckets, a filter and a node.
 fn put_two(table: &mut Table) -> bool {
     table.put(1, 4, "a").is_ok() && table.put(2, 4, "b").is_ok()
 }
@@ -104,7 +105,7 @@ fn use_two(rt: &(impl Abort + Print + AllocGlobal), table: &mut Table) {
         read_and_move(rt, table);
         remove_and_put(rt, table);
         retain(rt, table);
-        say_given(rt, 6);
+        say_given(rt, 8);
     }
 }
 
@@ -165,7 +166,7 @@ fn put_light(rt: &(impl Abort + Print + AllocGlobal), table: &mut Table) {
     match table.put(4, 4, "e") {
         Ok(_put) => {
             assert_sessions(rt, table, &[(4, 4, "e")], 4);
-            say_given(rt, 8);
+            say_given(rt, 10);
         }
         Err(refused) => {
             assert_refused(rt, refused, "e");

@@ -19,7 +19,7 @@ fn refused_commands_drop_nothing_twice(rt: HostRuntime) {
     let tally = Tally::new();
     let map = LinkedHashMap::new(rt.alloc());
     let given = run(&rt, &tally, map, commands(&tally, rt.alloc()));
-    say_if_given(&rt, given, 15);
+    say_if_given(&rt, given, 19);
 }
 
 /// Makes four commands, for which it asks for two growths: the list and the commands.
@@ -48,7 +48,8 @@ fn run<'a>(
     if !insert_first(tally, &mut map) {
         return false;
     }
-    // The growths: the replies; buckets and a node, twice; a node; buckets and a node; a node.
+    // The growths: the replies; buckets, a filter and a node, twice; a node; buckets, a filter and
+    // a node; a node.
     let outcome = replay(&mut map, commands);
     assert_dropped(rt, tally, dropped_by(&outcome));
     drop(outcome);

@@ -10,7 +10,7 @@ use std::process::Abort;
 fn refused_entries_drop_nothing(rt: HostRuntime) {
     let tally = Tally::new();
     let given = insert_by_entries(&rt, &tally, LinkedHashMap::new(rt.alloc()));
-    say_if_given(&rt, given, 9);
+    say_if_given(&rt, given, 12);
 }
 
 /// Inserts three new keys into a full map of one pair, each by another call, and tells whether each
@@ -19,7 +19,7 @@ fn insert_by_entries<'a>(rt: &impl Abort, tally: &'a Tally, mut map: CountedMap<
     if !insert_first(tally, &mut map) {
         return false;
     }
-    // The growths: buckets and a node, twice; a node.
+    // The growths: buckets, a filter and a node, twice; a node.
     let refused = or_insert(rt, tally, &mut map);
     let refused = insert_vacant(rt, tally, &mut map, refused);
     let refused = or_insert_with(rt, tally, &mut map, refused);

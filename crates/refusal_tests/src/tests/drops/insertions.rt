@@ -12,12 +12,12 @@ fn refused_calls_drop_nothing(rt: HostRuntime) {
     let tally = Tally::new();
     let given = insert_and_resize(&rt, &tally, LinkedHashMap::new(rt.alloc()));
     check_eq!(rt; tally.dropped(), Some(63));
-    say_if_given(&rt, given, 12);
+    say_if_given(&rt, given, 17);
 }
 
 /// Makes the calls on an empty map, and tells whether each growth was given.
 fn insert_and_resize<'a>(rt: &impl Abort, tally: &'a Tally, mut map: CountedMap<'a>) -> bool {
-    // The growths: buckets, the guard and a node; buckets and a node, twice.
+    // The growths: buckets, a filter, the guard and a node; buckets, a filter and a node, twice.
     let dropped = insert_three(rt, tally, &mut map);
     let resized = is_resized(rt, tally, &mut map, dropped);
     dropped == 0 && resized
@@ -25,10 +25,10 @@ fn insert_and_resize<'a>(rt: &impl Abort, tally: &'a Tally, mut map: CountedMap<
 
 /// Makes room and gives it back, which drops nothing more. Tells whether each growth was given.
 fn is_resized(rt: &impl Abort, tally: &Tally, map: &mut CountedMap<'_>, dropped: u64) -> bool {
-    // The growths: buckets and two nodes.
+    // The growths: buckets, a filter and two nodes.
     let reserved = map.reserve(2).is_ok();
     check_eq!(rt; tally.dropped(), Some(dropped));
-    // The growth: buckets.
+    // The growths: buckets and a filter.
     let shrunk = map.shrink_to_fit().is_ok();
     check_eq!(rt; tally.dropped(), Some(dropped));
     reserved & shrunk
@@ -54,7 +54,7 @@ fn insert_three<'a>(rt: &impl Abort, tally: &'a Tally, map: &mut CountedMap<'a>)
 fn refused_extension_drops_the_items_behind(rt: HostRuntime) {
     let tally = Tally::new();
     let given = extend(&rt, &tally, LinkedHashMap::new(rt.alloc()));
-    say_if_given(&rt, given, 9);
+    say_if_given(&rt, given, 12);
 }
 
 /// Extends a full map of one pair by a present key and by three new ones, and tells whether each
@@ -64,7 +64,7 @@ fn extend<'a>(rt: &impl Abort, tally: &'a Tally, mut map: CountedMap<'a>) -> boo
         return false;
     }
     let items = four_items(tally);
-    // The growths: buckets and a node, twice; a node.
+    // The growths: buckets, a filter and a node, twice; a node.
     let extended = map.extend(items);
     let given = extended.is_ok();
     drop_refused(rt, tally, map.len(), extended);

@@ -13,7 +13,7 @@ fn refused_growth_is_not_asked_for_by_making_and_taking_apart(rt: HostRuntime) {
     make_default(&rt, rt.alloc());
     make_too_large(&rt, rt.alloc());
     make_empty(&rt, rt.alloc());
-    // The growths: buckets, the guard and three nodes.
+    // The growths: buckets, a filter, the guard and three nodes.
     take_apart(&rt, full_of(&rt, rt.alloc(), &PAIRS));
 }
 
@@ -60,7 +60,7 @@ fn use_empty(rt: &impl Abort, alloc: Global, map: &mut Map) {
 fn take_apart(rt: &(impl Abort + Print + AllocGlobal), made: Result<Map, ReserveError>) {
     if let Ok(map) = made {
         consume(rt, map);
-        say_given(rt, 6);
+        say_given(rt, 7);
     }
 }
 
