@@ -142,6 +142,10 @@ pub OnOk_always : {X E P : Type 0} (r : Result X E) → P → OnOk r P
 OnOk_always (Ok x) h = h
 OnOk_always (Err e) h = tt
 
+pub OnOk_then : {X E P Q : Type 0} (r : Result X E) → OnOk r P → (P → Q) → OnOk r Q
+OnOk_then (Ok x) h f = f h
+OnOk_then (Err e) h f = tt
+
 pub IfNone_then : {X P Q : Type 0} (r : Option X) → IfNone r P → (P → Q) → IfNone r Q
 IfNone_then None h f = f h
 IfNone_then (Some x) h f = tt

@@ -1,6 +1,6 @@
 //! The capacity of a table is raised and lowered.
-ghost use Rattle.std.specs.Prelude.{◌≡◌, ◌<◌, ◌≤◌, ◌^◌, [], length, OnOk, OnErr};
-ghost use Rattle.lhm_ring.specs.Buckets.{rechained_raised, rechained_lowered, rechained_fitted};
+ghost use Rattle.std.specs.Prelude.{◌≡◌, ◌+◌, ◌<◌, ◌≤◌, ◌^◌, [], length, OnOk, OnErr};
+ghost use Rattle.lhm_ring.specs.Buckets.{buckets, rechained_raised, rechained_lowered, rechained_fitted};
 
 use crate::index::buckets_for;
 use crate::table::{Table, with_filter};
@@ -25,6 +25,23 @@ impl<K, V> Table<K, V> {
         if capacity <= self.index.buckets() {
             return self.ring.grow(additional);
         }
+        self.raise_buckets(capacity)
+    }
+
+    /// Raises the capacity above the number of buckets, and rehashes all pairs, in O(n). It changes
+    /// nothing if an allocation fails.
+    #[cold]
+    #[inline(never)]
+    fn raise_buckets(&mut self, capacity: usize) -> Result<(), AllocError>
+        requires more { buckets self.old.capacity < capacity }
+        requires higher { self.old.capacity < capacity }
+        requires limit { capacity ≤ 2 ^ 59 }
+        ensures held { self.new.held ≡ self.old.held }
+        ensures capacity { OnOk result (self.new.capacity ≡ capacity) }
+        ensures rechained { OnOk result (self.new.rechained ≡ self.old.rechained + length self.old.held) }
+        ensures refused { OnErr result (self.new ≡ self.old) }
+    {
+        let additional = capacity - self.capacity();
         let (index, filter) = with_filter(self.ring.allocator(), capacity)?;
         match self.ring.grow(additional) {
             Ok(()) => {

@@ -1,7 +1,8 @@
-use Rattle.std.proofs.Common.{◌≡◌, ◌+◌, ◌<◌, ◌≤◌, ◌∙◌, length, ap, sym, arith}
-use Rattle.lhm_ring.specs.Buckets.{buckets}
+use Rattle.std.proofs.Common.{◌≡◌, ◌+◌, ◌<◌, ◌≤◌, ◌∙◌, length, ap, sym, subst, arith}
+use Rattle.lhm_ring.specs.Buckets.{buckets, rechained_raised}
 use Rattle.lhm_ring.specs.Search.{entries}
-use Rattle.lhm_ring.proofs.Tables.{capacity_in, OnOk_always, IsTable-grown, IsTable-rechained, rechained-stays, rechained-fits}
+use Rattle.lhm_ring.specs.Tables.{TableState}
+use Rattle.lhm_ring.proofs.Tables.{capacity_in, OnOk_always, OnOk_then, IsTable-grown, rechained-stays, rechained-moves}
 use Rattle.lhm_ring.proofs.table.Table.raise.Goals as goal
 
 pub invariant_of-self : goal.invariant_of-self
@@ -20,15 +21,16 @@ returns-then-capacity-buckets-clause-rechained g c =
     let enough : c.args.capacity ≤ length i.index = omega (arith, c.if-capacity-buckets.true, c.buckets.ensures) in
     rw (← c.self.view_is) (OnOk_always c.grow.result (sym (rechained-stays c.self.invariant c.args.capacity up enough _)))
 
-pub invariant_of-self-in-Ok : goal.invariant_of-self-in-Ok
-invariant_of-self-in-Ok g c =
+pub raise_buckets-requires-clause-more : goal.raise_buckets-requires-clause-more
+raise_buckets-requires-clause-more g c =
+    let all = capacity_in c.self.inside.ring c.self.inside.rechained c.self.view_is in
+    omega (arith, ap buckets all, c.self.invariant.indexed.count, c.buckets.ensures, c.if-capacity-buckets.false)
+
+pub returns-clause-rechained : goal.returns-clause-rechained
+returns-clause-rechained g c =
     let i = c.self.inside in
     let all = capacity_in i.ring i.rechained c.self.view_is in
     let up : length i.ring.held + i.ring.spares < c.args.capacity = omega (arith, all, c.requires.higher) in
     let few : length i.index < c.args.capacity = omega (arith, c.if-capacity-buckets.false, c.buckets.ensures) in
-    let sum : length i.ring.held + c.take_over.new.ring.spares ≡ c.args.capacity = omega (arith, all, c.requires.higher, c.capacity.ensures.value, c.in-Ok.ensures.spares, c.take_over.ensures.spares) in
-    let wide : length c.take_over.new.self ≡ buckets c.args.capacity = c.take_over.ensures.buckets ∙ c.in_ok-index.ensures.buckets in
-    let count : c.take_over.result ≡ length i.ring.held = c.take_over.ensures.count ∙ ap length c.in-Ok.ensures.held in
-    let filled = c.take_over-in-Ok.ensures in
-    let fits = rechained-fits c.self.invariant c.args.capacity up few in
-    IsTable-rechained c.self.invariant {t = c.take_over.new.ring} (c.take_over.ensures.held ∙ ap entries c.in-Ok.ensures.held) (omega (arith, sum, c.requires.limit)) c.take_over.ensures.indexed (wide ∙ ap buckets (sym sum)) (record { count = filled.buckets ∙ c.in_ok-index.ensures.words ∙ sym c.take_over.ensures.buckets; covers = filled.covers }) (omega (arith, fits, count, wide))
+    let moves = subst (λ (z : TableState (g.row.K.Denot × g.row.V.Denot)). rechained_raised z.rechained (length z.held) z.capacity c.args.capacity ≡ z.rechained + length z.held) c.self.view_is (rechained-moves c.self.invariant c.args.capacity up few (length (entries i.ring.held))) in
+    OnOk_then c.raise_buckets.result c.raise_buckets.ensures.rechained (λ e. e ∙ sym moves)

@@ -49,7 +49,7 @@ use Rattle.lhm_ring.specs.contracts.ring.Ring.TheInside as RI-type
 use Rattle.lhm_ring.proofs.links.Links.TheLaws as links-laws
 use Rattle.lhm_ring.proofs.value_loan.Hole.TheLaws as H-laws
 use Rattle.lhm_ring.proofs.ring.Ring.TheInside.TheLaws as RI-laws
-use Rattle.lhm_ring.proofs.Memory.{mark, struct_made}
+use Rattle.lhm_ring.proofs.Memory.{marker, struct_made}
 use Rattle.lhm_ring.proofs.ValuesReplaced.{run_of}
 use Rattle.lhm_ring.proofs.LendTable as table
 use Rattle.lhm_ring.proofs.ValuesSplitOff as ring
@@ -77,7 +77,7 @@ lend_spec 𝓤 𝓛 𝓜 𝓡 wired K₀ V₀ S₀ H₀ LK LV LS LH b₀ d₀ b�
     let rb : ℕ = a.0.ref_ptr.0 in let ro : ℕ = a.0.ref_ptr.1 in let to : ℕ = lending.field_at K₀ V₀ S₀ H₀ b₁ b₂ b₃ b₄ ro in let fo : ℕ = table.field_at K V to in let d : LinkedMap K₀.Denot V₀.Denot S₀.Denot = a.0.now in
     let others : Fml = fsep (flft κs.1.0 qs.1.0) (fsep (flft κs.1.1.0 qs.1.1.0) (fsep (flft κs.1.1.1.0 qs.1.1.1.0) (fsep (flft κs.1.1.1.1.0 qs.1.1.1.1.0) ftrue))) in
     let κ : Lft = κs.0 in let q = qs.0 in let γ = a.0.ghost_name in let dcode = Map.coded.code d in let bounds = y.0.2 in
-    let It : RattleType = L-type.the_row (named_lft 5 0 tt κs) Q K V in let Holed : RattleType = R-type.the_row K Hr in let lm : RattleType = ring.LoanMark (named_lft 5 0 tt κs) Q K V in
+    let It : RattleType = L-type.the_row (named_lft 5 0 tt κs) Q K V in let Holed : RattleType = R-type.the_row K Hr in let lm : RattleType = ring.LoanMarker (named_lft 5 0 tt κs) Q K V in
     qed 𝓛 (((‵ (flft κs.0 qs.0) ⊛ ‵ others) ⊛ ‵ (owns (types_at En.signature.params κs) a vss)) ∷ raw (fact 𝓤 (κs.1.0 ⊑ K₀.lives)) ∷ raw (fact 𝓤 (κs.1.1.0 ⊑ V₀.lives)) ∷ raw (fact 𝓤 (κs.1.1.1.0 ⊑ S₀.lives)) ∷ raw (fact 𝓤 (κs.1.1.1.1.0 ⊑ H₀.lives)) ∷ raw (emp 𝓤) ∷ []) ∵
     keep ! (1 ∷ 2 ∷ 0 ∷ []) $ heard ! (κs.1.0 ⊑ K₀.lives) (λ inK. heard ! (κs.1.1.0 ⊑ V₀.lives) (λ inV. split ! $ split ! $ move ! (2 ∷ []) $ fsplit ! $ fsplit3 ! $ keep ! (1 ∷ 2 ∷ 4 ∷ 5 ∷ []) $
     let us : List Val = vptr rb ro ∷ [] in let Run : List Val → SProp 𝓤 = λ ws. WpFn 𝓤 H 𝓣.C 𝓣.Λ fn ws Post in
@@ -107,8 +107,8 @@ lend_spec 𝓤 𝓛 𝓜 𝓡 wired K₀ V₀ S₀ H₀ LK LV LS LH b₀ d₀ b�
     open_ref ! tt As' {x = d} {b = 0} {o = 0} $ rewrite ! 0 (λ (l : List V.Denot). ‵ (spread V ps l)) is refl $ nothing ! $ move ! (2 ∷ 3 ∷ 4 ∷ 1 ∷ 0 ∷ []) $ group ! 5 $
     use1 𝓛 (later (some (λ (δ : ℕ). ‵ (fobs δ (Vs.coded.code ws)) ⊛ ‵ (fbor κ (Borrowed Vs 0 0 δ)) ⊛ ‵ (flft κ q) ⊛ ‵ (afterwards As' Vs ν δ named'))))
     (takes_part 𝓛 As' Vs named' κ q 0 0 0 0 ν (emp 𝓤) (lending.named_back K₀ V₀ S₀ H₀ b₁ b₂ b₃ b₄ 𝓛 i rb ro d seen ok t tseen tok r rseen rok) dcode dcode ws) $ await ! tt $ pick ! (λ δ. split3 ! $ fjoin ! $
-    let lent : ValueLoan Links K.Denot V.Denot = record { mark = record {}; name = δ; tie = ν; run = run_of es } in let top : Bor (State (K.Denot × V.Denot)) = record { ref_ptr = (rb, fo); now = t.ring } in
-    use0 𝓛 (‵ (lm.own_val (tt, tt) (mark ∷ []))) (ring.loan_made (named_lft 5 0 tt κs) Q K V 𝓛) $ fjoin ! $
+    let lent : ValueLoan Links K.Denot V.Denot = record { marker = record {}; name = δ; tie = ν; run = run_of es } in let top : Bor (State (K.Denot × V.Denot)) = record { ref_ptr = (rb, fo); now = t.ring } in
+    use0 𝓛 (‵ (lm.own_val (tt, tt) (marker ∷ []))) (ring.loan_made (named_lft 5 0 tt κs) Q K V 𝓛) $ fjoin ! $
     -- [the loan; its token and the second name's; what follows; the shared parts; the other tokens]
     move ! (1 ∷ []) $ split ! $ move ! (4 ∷ []) $ split ! $
     -- [the fields; nothing; the token; the second name's; the loan; what follows; the other tokens]
@@ -119,8 +119,8 @@ lend_spec 𝓤 𝓛 𝓜 𝓡 wired K₀ V₀ S₀ H₀ LK LV LS LH b₀ d₀ b�
     use1 𝓛 (‵ (Holed.shr_at t.ring rb fo κ)) (view-Hides (RI-type.the_row K Hr) (State (K.Denot × V.Denot)) Holed.coded (R-type.the_view K Hr) (R-type.the_invariant K Hr) _ 𝓤 𝓛 t.ring r (rseen, rok) rb fo κ) $
     hide ! $ feq_i ! (List Val) (vptr rb fo ∷ []) (vptr rb fo ∷ []) refl $ fjoin ! $
     -- [the ring, shared; the token; nothing; the second name's; the loan; what follows; the other tokens]
-    move ! (0 ∷ 4 ∷ []) $ struct_made ! (declared.shape (T-type.the_type (named_lft 5 0 tt κs) K V)) (ShrRef (named 0) κ Holed) It top lent (vptr rb fo) mark $
-    let out : Val = vstruct (vcons (vptr rb fo) (vcons mark vnil)) in
+    move ! (0 ∷ 4 ∷ []) $ struct_made ! (declared.shape (T-type.the_type (named_lft 5 0 tt κs) K V)) (ShrRef (named 0) κ Holed) It top lent (vptr rb fo) marker $
+    let out : Val = vstruct (vcons (vptr rb fo) (vcons marker vnil)) in
     sets ! (addr ! (through ! refl (fld ! refl (fld ! refl (stop !))))) refl (tt, tt) $ first ! $ blocks ! $ sets_last ! (addr ! (through ! refl (stop !))) refl (tt, tt) $
     exec ! 𝓣.C 𝓣.Λ Ev (after 2 fn.body) (at_ret Ev Post) $ sets ! (of_opd ! (get ! refl)) refl (tt, tt) $ sets ! (agg ! (no_more !)) refl (tt, tt) $
     sets ! (agg ! (and_then ! (get ! refl) (no_more !))) refl (tt, (tt, tt)) $ sets ! (agg ! (and_then ! (get ! refl) (and_then ! (get ! refl) (no_more !)))) refl (tt, (tt, ((tt, tt), tt))) $

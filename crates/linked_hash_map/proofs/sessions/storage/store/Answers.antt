@@ -7,20 +7,20 @@ use Rattle.linked_hash_map.proofs.sessions.storage.store.Goals as goal
 pub take_oldest-requires-clause-enough : goal.take_oldest-requires-clause-enough
 take_oldest-requires-clause-enough g c =
     let ps = c.args.map.now.pairs in
-    let none = find-new ps c.args.session.0 (c.requires.held ∙ ap not c.if-is_new.true) in
+    let none = find-new ps c.args.session.0 (c.requires.present ∙ ap not c.if-is_new.true) in
     omega (arith, c.requires.enough, length-without_new ps c.args.session.0 none)
 
 pub put_back-requires-clause-room : goal.put_back-requires-clause-room
 put_back-requires-clause-room g c = λ _.
     let ps = c.args.map.now.pairs in
-    let none = find-new ps c.args.session.0 (c.requires.held ∙ ap not c.if-is_new.true) in
+    let none = find-new ps c.args.session.0 (c.requires.present ∙ ap not c.if-is_new.true) in
     let room = room-left c.args.count (length ps) c.args.map.now.capacity (omega (arith, c.requires.enough, length-without_new ps c.args.session.0 none)) c.requires.valid.within (λ zero. c.requires.room zero c.if-is_new.true) in
     omega (arith, room, ap length c.take_oldest.ensures.pairs, length-drop c.args.count ps, c.take_oldest.ensures.capacity)
 
 pub returns-then-is_new-clause-sessions : goal.returns-then-is_new-clause-sessions
 returns-then-is_new-clause-sessions g c =
     let ps = c.args.map.now.pairs in
-    let none = find-new ps c.args.session.0 (c.requires.held ∙ ap not c.if-is_new.true) in
+    let none = find-new ps c.args.session.0 (c.requires.present ∙ ap not c.if-is_new.true) in
     rw (c.put_back.ensures.sessions, c.take_oldest.ensures.pairs)
     (with_last-drop ps c.args.count c.args.session.0 c.args.session.1 c.args.session.2 none (omega (arith, c.requires.enough, length-without_new ps c.args.session.0 none)))
 
@@ -29,7 +29,7 @@ returns-then-is_new-clause-gone g c =
     let ps = c.args.map.now.pairs in
     let left = c.take_oldest.new.map.pairs in
     let session = c.args.session in
-    let none = find-new ps session.0 (c.requires.held ∙ ap not c.if-is_new.true) in
+    let none = find-new ps session.0 (c.requires.present ∙ ap not c.if-is_new.true) in
     ap (λ l. c.take_oldest.new.gone.items ++ l) (c.put_back.ensures.sessions ∙ with_last-new left session.0 session.1 session.2 (find-drop_new ps c.args.count session.0 none c.take_oldest.ensures.pairs))
     ∙ sym (append_assoc c.take_oldest.new.gone.items (sessions_of left) _)
     ∙ ap (λ l. l ++ session ∷ []) c.take_oldest.ensures.gone
@@ -39,14 +39,14 @@ returns-then-is_new-clause-gone g c =
 pub returns-then-is_new-clause-old : goal.returns-then-is_new-clause-old
 returns-then-is_new-clause-old g c =
     let ps = c.args.map.now.pairs in
-    let none = find-new ps c.args.session.0 (c.requires.held ∙ ap not c.if-is_new.true) in
+    let none = find-new ps c.args.session.0 (c.requires.present ∙ ap not c.if-is_new.true) in
     c.put_back.ensures.old
     ∙ payload_of-new c.take_oldest.new.map.pairs c.args.session.0 (find-drop_new ps c.args.count c.args.session.0 none c.take_oldest.ensures.pairs)
     ∙ sym (payload_of-new ps c.args.session.0 none)
 
 pub put_back-old-requires-clause-room : goal.put_back-old-requires-clause-room
 put_back-old-requires-clause-room g c = λ none.
-    absurd (true≢false (sym (not-absent c.args.map.now.pairs c.args.session.0 (c.requires.held ∙ ap not c.if-is_new.false) none)))
+    absurd (true≢false (sym (not-absent c.args.map.now.pairs c.args.session.0 (c.requires.present ∙ ap not c.if-is_new.false) none)))
 
 pub returns-clause-sessions : goal.returns-clause-sessions
 returns-clause-sessions g c =

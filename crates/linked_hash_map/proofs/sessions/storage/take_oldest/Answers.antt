@@ -13,7 +13,7 @@ unreachable-requires g c =
 pub loop-preserved : goal.loop-preserved
 loop-preserved g c =
     let i = c.loop.invariant in
-    let first = first-some c.loop.map.pairs (c.in-Some.id, c.in-Some.held) c.in-Some.ensures.pair in
+    let first = first-some c.loop.map.pairs (c.in-Some.id, c.in-Some.weighted) c.in-Some.ensures.pair in
     record {
       pairs = c.pop_front.ensures.pairs ∙ ap (drop 1) i.pairs ∙ drop-drop 1 c.loop.counter c.args.map.now.pairs;
       gone = rw (c.push_reserved.ensures.items, c.pop_front.ensures.pairs)
