@@ -26,10 +26,12 @@ show_part() {
     echo "$1: $seconds s, $([ "$status" = 0 ] && echo passed || echo FAILED)"
 }
 
-for part in readme-example shared-files dropped-counts; do
+for part in readme-example shared-files dropped-counts claims; do
     run_part $part "scripts/$part"
     show_part $part
 done
+run_part claims-self-test scripts/claims --self-test
+show_part claims-self-test
 [ -z "$failed" ] || exit 1
 
 run_part refused-growths nice -n 19 scripts/refused-growths &
