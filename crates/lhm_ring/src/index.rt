@@ -130,10 +130,18 @@ impl<K, V> Index<K, V> {
     fn head(&self, hash: u64) -> Option<Position<K, V>>
         ensures { pointer_of_some result ≡ slice_index_or self.now (hash % length self.now) None }
     {
-        if self.heads.is_empty() {
-            return None;
+        match self.bucket(hash) {
+            Some(bucket) => self.head_of(bucket),
+            None => None,
         }
-        self.heads[masked(hash, self.heads.len())].link.get()
+    }
+
+    /// Returns the head of the chain of a bucket.
+    fn head_of(&self, bucket: usize) -> Option<Position<K, V>>
+        requires { bucket < length self.now }
+        ensures { pointer_of_some result ≡ slice_index_or self.now bucket None }
+    {
+        self.heads[bucket].link.get()
     }
 
     /// Returns the bucket of a hash, or `None` if there are no buckets, in O(1).
@@ -263,8 +271,15 @@ impl<K, V> Index<K, V> {
 }
 
 impl<K: Eq, V> Index<K, V> {
-    /// Follows the chain of the hash to the node with the key, as every lookup does.
-    fn search(&self, ring: &Ring<K, V>, hash: u64, key: &K) -> (Option<Found<K, V>>, Probe)
+    /// Follows the chain of the hash from its head to the node with the key, as every lookup does.
+    fn search(
+        &self,
+        ring: &Ring<K, V>,
+        head: Option<Position<K, V>>,
+        hash: u64,
+        key: &K,
+    ) -> (Option<Found<K, V>>, Probe)
+        requires head { pointer_of_some head ≡ slice_index_or self.now (hash % length self.now) None }
         requires indexed { Indexes self.now (spots ring.now.held) }
         requires small { length ring.now.held < 2 ^ 64 }
         ensures found { IfSome result.0 (λ f. FindsKey K.eq hash key.now self.now ring.now.held (pointer_of_some f.before) (pointer_of f.at) result.1.visited result.1.compared) }
@@ -275,7 +290,7 @@ impl<K: Eq, V> Index<K, V> {
             compared: 0,
         };
         let mut before = None;
-        let mut pointer = self.head(hash);
+        let mut pointer = head;
         while let Some(at) = pointer {
             if step(ring, at, hash, key, &mut probe) {
                 return (Some(Found { before, at }), probe);
@@ -298,10 +313,31 @@ impl<K: Eq, V> Index<K, V> {
         ensures counts_found { OnSome result.0 (CountsSome (spots ring.now.held) (length self.now) hash result.1.visited result.1.compared) }
         ensures counts_absent { IfNone result.0 (CountsAll (spots ring.now.held) (length self.now) hash result.1.visited result.1.compared) }
     {
-        let (found, probe) = self.search(ring, hash, key);
+        let (found, probe) = self.search(ring, self.head(hash), hash, key);
         match found {
             Some(found) => (Some(found.at), probe),
             None => (None, probe),
+        }
+    }
+
+    /// Returns the position of the node with this hash, whose bucket is given, and this key.
+    pub(crate) fn find_in(
+        &self,
+        ring: &Ring<K, V>,
+        bucket: usize,
+        hash: u64,
+        key: &K,
+    ) -> Option<Position<K, V>>
+        requires of_hash { bucket ≡ hash % length self.now }
+        requires within { bucket < length self.now }
+        requires indexed { Indexes self.now (spots ring.now.held) }
+        requires small { length ring.now.held < 2 ^ 64 }
+        ensures found { IfSome result (λ p. HasKey K.eq hash key.now ring.now.held (pointer_of p)) }
+        ensures absent { IfNone result (IsAbsent K.eq hash key.now ring.now.held) }
+    {
+        match self.search(ring, self.head_of(bucket), hash, key).0 {
+            Some(found) => Some(found.at),
+            None => None,
         }
     }
 
@@ -326,7 +362,7 @@ impl<K: Eq, V> Index<K, V> {
         ensures spares { ring.new.spares ≡ ring.old.spares }
         ensures buckets { length self.new ≡ length self.old }
     {
-        let (found, _) = self.search(ring, hash, key);
+        let (found, _) = self.search(ring, self.head(hash), hash, key);
         match found {
             Some(found) => {
                 let at = found.at;

@@ -343,10 +343,11 @@ impl<K: Eq, V> Table<K, V> {
         ensures found { IfSome result (λ p. HasKey K.eq hash key.now self.now.held (pointer_of p)) }
         ensures absent { IfNone result (IsAbsent K.eq hash key.now self.now.held) }
     {
-        if !self.may_contain(hash) {
+        let bucket = self.index.bucket(hash)?;
+        if !self.filter.may_contain(bucket, hash) {
             return None;
         }
-        self.find(hash, key).0
+        self.index.find_in(&self.ring, bucket, hash, key)
     }
 
     /// Removes the pair with this hash and this key and returns it, or returns `None` if there is
