@@ -145,7 +145,7 @@ fn reserve_and_shrink(rt: &impl Abort, map: &mut Map) {
     check_reserve(rt, map, 2, Ok(()));
     assert_map(rt, map, &[(1, 1)], 3, 0);
     map.clear();
-    // All spare nodes, the guard and the buckets go.
+    // All spare nodes, the guard, the buckets and their filter go.
     check_shrink(rt, map);
     assert_map(rt, map, &[], 0, 0);
 }
