@@ -1,12 +1,11 @@
 -- For callers: a visit that keeps some of the pairs and takes the others out, step by step.
-use Rattle.std.proofs.Common.{◌≡◌, ℕ, ◌+◌, Bool, true, false, cond, List, [], ◌∷◌, ◌++◌, length, slice_get, option_map, Some, filter, refl, sym, ap, subst, ◌∙◌, arith, append_assoc, append-nil}
+use Rattle.std.proofs.Common.{◌≡◌, Bool, true, false, cond, List, [], ◌∷◌, ◌++◌, length, slice_get, option_map, Some, filter, refl, sym, ap, subst, ◌∙◌, append_assoc, append-nil}
 use Rattle.std.specs.Cmp.{IsEquivalence}
 use Rattle.std.specs.List.{IsDistinct, remove}
 use Rattle.std.specs.Map.{keys_of}
 use Rattle.std.proofs.lemmas.List.Elements.{filter-append}
 use Rattle.linked_hash_map.specs.Pairs.{value_at, without}
 use Rattle.linked_hash_map.specs.Visits.{VisitKeeps}
-use Rattle.linked_hash_map.proofs.Callers.Keys.{IsSome-find, length-without_present}
 use Rattle.linked_hash_map.proofs.EntryFacts.{some_injective}
 use Rattle.linked_hash_map.proofs.Indexes.{find-own, without-own}
 use Rattle.linked_hash_map.proofs.Kept.{remove-cut}
@@ -91,10 +90,3 @@ module _ {K V : Type 0} {eq : K → K → Bool} (laws : IsEquivalence eq) {keeps
       let r : VisitKeeps keeps start (without eq now k) left = VisitKeeps-remove laws keeps before distinct has gone in
       let s : VisitKeeps keeps start after left = subst (λ ps. VisitKeeps keeps start ps left) (sym (removed ∙ ap (λ ps. without eq ps k) same)) r in
       subst (λ ks. VisitKeeps keeps start after ks) (sym stays) s
-
--- and one that was taken out is counted
-pub length-removed : {K V : Type 0} {eq : K → K → Bool} → IsEquivalence eq → {now pairs after : List (K × V)} (k : K) {v : V} (taken : ℕ) {all : ℕ} → taken + length now ≡ all → IsDistinct eq (keys_of now) → value_at eq now k ≡ Some v → pairs ≡ now
-    → after ≡ without eq pairs k → taken + 1 + length after ≡ all
-length-removed {eq = eq} laws {now} {pairs} {after} k {v} taken counted distinct has same removed =
-    let fewer : length after + 1 ≡ length now = ap (λ ps. length ps + 1) (removed ∙ ap (λ ps. without eq ps k) same) ∙ length-without_present laws now k distinct (IsSome-find eq now k v has) in
-    omega (arith, fewer, counted)
