@@ -7,8 +7,8 @@ returns g c =
     let other = c.replay-other.ensures in
     let asked = c.requires in
     let same = run.same_runs g.met.K.Eq.laws c.replay-one.new.map c.replay-other.new.map one.valid
-        other.valid asked.same_pairs asked.same_mode asked.same_commands c.replay-one.result
-        c.replay-other.result one.replayed other.replayed in
+    other.valid asked.same_pairs asked.same_mode asked.same_commands c.replay-one.result
+    c.replay-other.result one.replayed other.replayed in
     record {
       answers = λ given given'. (same given given').0;
       pairs = λ given given'. (same given given').1;
