@@ -7,6 +7,7 @@
 //! The last growth is one that the test asks for itself, behind the calls. So a growth whose
 //! refusal a call ignores is seen too, as one more or one fewer than the test says.
 
+mod calls;
 mod capacities;
 mod checks;
 mod clones;
@@ -23,6 +24,7 @@ mod sessions;
 mod tally;
 mod without_memory;
 
+use calls::check_insert;
 use checks::check_eq;
 use last_byte::BuildLastByte;
 use linked_hash_map::{LinkedHashMap, Mode, ReserveError};
@@ -71,7 +73,7 @@ fn full_of(rt: &impl Abort, alloc: Global, pairs: &[(u8, u64)]) -> Result<Map, R
 /// Inserts pairs with keys that are absent, below the capacity.
 fn insert_new(rt: &impl Abort, map: &mut Map, pairs: &[(u8, u64)]) {
     for (key, value) in pairs {
-        check_eq!(rt; map.insert(*key, *value), Ok(None));
+        check_insert(rt, map, *key, *value, None);
     }
 }
 

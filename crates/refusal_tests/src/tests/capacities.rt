@@ -1,8 +1,11 @@
 //! Calls that change the capacity by itself.
 
+use super::calls::{
+    check_get, check_insert, check_remove, check_reserve, check_shrink, is_inserted, is_reserved,
+};
 use super::checks::check_eq;
 use super::{BUILDER, Map, assert_map, full_of, insert_new, say_given, say_if_given, with_room};
-use linked_hash_map::{LinkedHashMap, NoRoom, Refused, ReserveError};
+use linked_hash_map::{LinkedHashMap, NoRoom, ReserveError};
 use std::process::Abort;
 
 #[test]
@@ -52,48 +55,46 @@ fn reserve_four_and_five(rt: &(impl Abort + Print + AllocGlobal), map: &mut Map)
 
 /// Reserves room for four pairs more, again where it is refused, and tells whether it was given at once.
 fn reserve_four(rt: &impl Abort, map: &mut Map) -> bool {
-    match map.reserve(4) {
-        Ok(()) => true,
-        Err(error) => {
-            check_eq!(rt; error, ReserveError::NoRoom);
-            change_two(rt, map);
-            check_eq!(rt; map.reserve(0), Ok(()));
-            // There is memory again.
-            check_eq!(rt; map.reserve(4), Ok(()));
-            change_two_back(rt, map);
-            false
-        }
+    let is_given = is_reserved(rt, map, 4);
+    if !is_given {
+        reserve_four_again(rt, map);
     }
+    is_given
+}
+
+fn reserve_four_again(rt: &impl Abort, map: &mut Map) {
+    change_two(rt, map);
+    check_reserve(rt, map, 0, Ok(()));
+    // There is memory again.
+    check_reserve(rt, map, 4, Ok(()));
+    change_two_back(rt, map);
 }
 
 /// Checks that a map is as any other with the pairs (1, 10) and (2, 20) and no room for more, and leaves (3, 30) and (2, 21).
 fn change_two(rt: &impl Abort, map: &mut Map) {
     assert_map(rt, map, &[(1, 10), (2, 20)], 2, 0);
-    check_eq!(rt; map.remove(&1), Some(10));
-    check_eq!(rt; map.insert(3, 30), Ok(None));
-    check_eq!(rt; map.insert(2, 21), Ok(Some(20)));
+    check_remove(rt, map, 1, Some(10));
+    check_insert(rt, map, 3, 30, None);
+    check_insert(rt, map, 2, 21, Some(20));
     assert_map(rt, map, &[(3, 30), (2, 21)], 2, 0);
 }
 
 /// Undoes what `change_two` did.
 fn change_two_back(rt: &impl Abort, map: &mut Map) {
     assert_map(rt, map, &[(3, 30), (2, 21)], 6, 2);
-    check_eq!(rt; map.insert(1, 10), Ok(None));
-    check_eq!(rt; map.remove(&3), Some(30));
-    check_eq!(rt; map.insert(2, 20), Ok(Some(21)));
+    check_insert(rt, map, 1, 10, None);
+    check_remove(rt, map, 3, Some(30));
+    check_insert(rt, map, 2, 20, Some(21));
 }
 
 /// Reserves room for five pairs, as `reserve_four` does for four.
 fn reserve_five(rt: &impl Abort, map: &mut Map) -> bool {
-    match map.reserve(5) {
-        Ok(()) => true,
-        Err(error) => {
-            check_eq!(rt; error, ReserveError::NoRoom);
-            assert_map(rt, map, &[(1, 10), (2, 20)], 6, 2);
-            check_eq!(rt; map.reserve(5), Ok(()));
-            false
-        }
+    let is_given = is_reserved(rt, map, 5);
+    if !is_given {
+        assert_map(rt, map, &[(1, 10), (2, 20)], 6, 2);
+        check_reserve(rt, map, 5, Ok(()));
     }
+    is_given
 }
 
 #[test]
@@ -104,21 +105,17 @@ fn refused_first_reservation_leaves_nothing(rt: HostRuntime) {
 
 /// The growths: 4 buckets, the guard, and three nodes.
 fn reserve_three(rt: &(impl Abort + Print + AllocGlobal), map: &mut Map) {
-    match map.reserve(3) {
-        Ok(()) => {
-            assert_map(rt, map, &[], 3, 0);
-            say_given(rt, 6);
-        }
-        Err(error) => {
-            check_eq!(rt; error, ReserveError::NoRoom);
-            reserve_one(rt, map);
-        }
+    if is_reserved(rt, map, 3) {
+        assert_map(rt, map, &[], 3, 0);
+        say_given(rt, 6);
+    } else {
+        reserve_one(rt, map);
     }
 }
 
 fn reserve_one(rt: &impl Abort, map: &mut Map) {
     assert_map(rt, map, &[], 0, 0);
-    check_eq!(rt; map.reserve(1), Ok(()));
+    check_reserve(rt, map, 1, Ok(()));
     insert_new(rt, map, &[(1, 10)]);
     assert_map(rt, map, &[(1, 10)], 1, 0);
 }
@@ -153,14 +150,14 @@ fn shrink_few(rt: &(impl Abort + Print + AllocGlobal), map: &mut Map) {
 /// Checks a map that was not shrunk, and fills it.
 fn fill_unshrunk(rt: &impl Abort, map: &mut Map) {
     assert_map(rt, map, &FEW, 9, 0);
-    check_eq!(rt; map.remove(&2), Some(2));
+    check_remove(rt, map, 2, Some(2));
     insert_new(
         rt,
         map,
         &[(4, 0), (5, 0), (6, 0), (7, 0), (8, 0), (9, 0), (10, 0)],
     );
-    check_eq!(rt; map.get(&2), None);
-    check_eq!(rt; map.get(&10), Some(&0));
+    check_get(rt, map, 2, None);
+    check_get(rt, map, 10, Some(&0));
     check_eq!(rt; (map.len(), map.capacity()), (9, 9));
 }
 
@@ -193,22 +190,17 @@ fn is_resized(map: &mut Map) -> bool {
 /// An empty map gives back all that it has.
 fn empty(rt: &impl Abort, map: &mut Map) {
     map.clear();
-    check_eq!(rt; map.shrink_to_fit(), Ok(()));
+    check_shrink(rt, map);
     assert_map(rt, map, &[], 0, 0);
 }
 
 /// The growths: buckets, the guard and a node.
 fn insert_second(rt: &(impl Abort + Print + AllocGlobal), map: &mut Map) {
-    match map.insert(2, 20) {
-        Ok(old) => {
-            check_eq!(rt; old, None);
-            assert_map(rt, map, &[(2, 20)], 1, 0);
-            say_given(rt, 13);
-        }
-        Err(refused) => {
-            check_eq!(rt; refused, Refused { key: 2, value: 20 });
-            assert_map(rt, map, &[], 0, 0);
-        }
+    if is_inserted(rt, map, 2, 20) {
+        assert_map(rt, map, &[(2, 20)], 1, 0);
+        say_given(rt, 13);
+    } else {
+        assert_map(rt, map, &[], 0, 0);
     }
 }
 
@@ -224,7 +216,7 @@ const FIVE: [(u8, u64); 5] = [(1, 1), (2, 2), (3, 3), (4, 4), (5, 5)];
 fn shrink_within(rt: &(impl Abort + Print + AllocGlobal), made: Result<Map, ReserveError>) {
     if let Ok(mut map) = made {
         insert_new(rt, &mut map, &FIVE);
-        check_eq!(rt; map.shrink_to_fit(), Ok(()));
+        check_shrink(rt, &mut map);
         assert_map(rt, &map, &FIVE, 5, 0);
         raise_within(rt, &mut map);
     }
@@ -232,14 +224,10 @@ fn shrink_within(rt: &(impl Abort + Print + AllocGlobal), made: Result<Map, Rese
 
 /// The growths: three nodes, and no buckets.
 fn raise_within(rt: &(impl Abort + Print + AllocGlobal), map: &mut Map) {
-    match map.reserve(3) {
-        Ok(()) => {
-            assert_map(rt, map, &FIVE, 8, 0);
-            say_given(rt, 14);
-        }
-        Err(error) => {
-            check_eq!(rt; error, ReserveError::NoRoom);
-            assert_map(rt, map, &FIVE, 5, 0);
-        }
+    if is_reserved(rt, map, 3) {
+        assert_map(rt, map, &FIVE, 8, 0);
+        say_given(rt, 14);
+    } else {
+        assert_map(rt, map, &FIVE, 5, 0);
     }
 }

@@ -1,5 +1,9 @@
 //! A new pair at full capacity.
 
+use super::calls::{
+    Put, check_get, check_insert, check_pop_front, check_remove, is_inserted, or_default,
+    or_insert, or_insert_with,
+};
 use super::checks::{check, check_eq};
 use super::{BUILDER, Map, assert_map, full_of, insert_new, is_given, say_given, say_if_given};
 use linked_hash_map::{Entry, LinkedHashMap, Refused, ReserveError};
@@ -21,11 +25,15 @@ enum Call {
 fn put(map: &mut Map, call: Call, key: u8, value: u64) -> Result<(), Refused<u8, u64>> {
     match call {
         Call::Insert => map.insert(key, value).map(|_old| ()),
-        Call::OrInsert => map.entry(key).or_insert(value).map(|_lent| ()),
-        Call::OrInsertWith => map.entry(key).or_insert_with(|| value).map(|_lent| ()),
-        Call::OrDefault => map.entry(key).or_default().map(|_lent| ()),
+        Call::OrInsert => without_value(or_insert(map, key, value)),
+        Call::OrInsertWith => without_value(or_insert_with(map, key, value)),
+        Call::OrDefault => without_value(or_default(map, key)),
         Call::InsertVacant => put_into_vacant(map, key, value),
     }
+}
+
+fn without_value(put: Put) -> Result<(), Refused<u8, u64>> {
+    put.map(|_value| ())
 }
 
 fn put_into_vacant(map: &mut Map, key: u8, value: u64) -> Result<(), Refused<u8, u64>> {
@@ -76,7 +84,7 @@ fn put_or_put_again(
         Err(refused) => {
             check_eq!(rt; refused, Refused { key, value });
             assert_map(rt, map, pairs, pairs.len(), rechained);
-            check_eq!(rt; map.get(&key), None);
+            check_get(rt, map, key, None);
             // There is memory again.
             check_eq!(rt; put(map, call, key, value), Ok(()));
             false
@@ -98,25 +106,21 @@ fn insert_second(rt: &(impl Abort + Print + AllocGlobal), made: Result<Map, Rese
 
 /// The growths: buckets and a node.
 fn insert_or_change(rt: &(impl Abort + Print + AllocGlobal), map: &mut Map) {
-    match map.insert(2, 20) {
-        Ok(_old) => {
-            assert_map(rt, map, &[(1, 10), (2, 20)], 2, 1);
-            say_given(rt, 6);
-        }
-        Err(refused) => {
-            check_eq!(rt; refused, Refused { key: 2, value: 20 });
-            change_one(rt, map);
-        }
+    if is_inserted(rt, map, 2, 20) {
+        assert_map(rt, map, &[(1, 10), (2, 20)], 2, 1);
+        say_given(rt, 6);
+    } else {
+        change_one(rt, map);
     }
 }
 
 /// Makes calls that take no memory on a map that has the pair (1, 10) and no room for more.
 fn change_one(rt: &impl Abort, map: &mut Map) {
     assert_map(rt, map, &[(1, 10)], 1, 0);
-    check_eq!(rt; map.insert(1, 11), Ok(Some(10)));
-    check_eq!(rt; map.pop_front(), Some((1, 11)));
+    check_insert(rt, map, 1, 11, Some(10));
+    check_pop_front(rt, map, Some((1, 11)));
     insert_new(rt, map, &[(2, 20)]);
-    check_eq!(rt; map.remove(&2), Some(20));
+    check_remove(rt, map, 2, Some(20));
     insert_new(rt, map, &[(3, 30)]);
     assert_map(rt, map, &[(3, 30)], 1, 0);
 }
@@ -184,18 +188,16 @@ fn insert_after_a_removal(
 
 /// The growths: buckets and a node.
 fn insert_or_make_room(rt: &(impl Abort + Print + AllocGlobal), map: &mut Map) {
-    match map.insert(2, 20) {
-        Ok(_old) => say_given(rt, 6),
-        Err(refused) => {
-            check_eq!(rt; refused, Refused { key: 2, value: 20 });
-            remove_and_insert(rt, map);
-        }
+    if is_inserted(rt, map, 2, 20) {
+        say_given(rt, 6);
+    } else {
+        remove_and_insert(rt, map);
     }
 }
 
 fn remove_and_insert(rt: &impl Abort, map: &mut Map) {
     assert_map(rt, map, &[(1, 11)], 1, 0);
-    check_eq!(rt; map.remove(&1), Some(11));
+    check_remove(rt, map, 1, Some(11));
     insert_new(rt, map, &[(2, 20)]);
     assert_map(rt, map, &[(2, 20)], 1, 0);
 }
@@ -214,7 +216,7 @@ fn put_by_value(rt: &impl Abort, made: Result<Map, ReserveError>) -> bool {
     let Ok(mut map) = made else {
         return false;
     };
-    let put = map.entry(2).or_insert(7).map(|lent| *lent);
+    let put = or_insert(&mut map, 2, 7);
     check_second(rt, &mut map, put, 7)
 }
 
@@ -223,7 +225,7 @@ fn put_by_default(rt: &impl Abort, made: Result<Map, ReserveError>) -> bool {
     let Ok(mut map) = made else {
         return false;
     };
-    let put = map.entry(2).or_default().map(|lent| *lent);
+    let put = or_default(&mut map, 2);
     check_second(rt, &mut map, put, 0)
 }
 
@@ -232,6 +234,11 @@ fn put_by_closure(rt: &impl Abort, made: Result<Map, ReserveError>) -> bool {
     let Ok(mut map) = made else {
         return false;
     };
+    let put = put_counted(rt, &mut map);
+    check_second(rt, &mut map, put, 30)
+}
+
+fn put_counted(rt: &impl Abort, map: &mut Map) -> Put {
     let calls = Cell::new(0u64);
     let put = map.entry(2).or_insert_with(|| {
         calls.set(calls.get().saturating_add(1));
@@ -239,19 +246,14 @@ fn put_by_closure(rt: &impl Abort, made: Result<Map, ReserveError>) -> bool {
     });
     let put = put.map(|lent| *lent);
     check_eq!(rt; calls.get(), 1);
-    check_second(rt, &mut map, put, 30)
+    put
 }
 
 /// Checks that a value went in for key 2 at full capacity beside (1, 10), or came back. Tells
 /// whether it went in.
-fn check_second(
-    rt: &impl Abort,
-    map: &mut Map,
-    put: Result<u64, Refused<u8, u64>>,
-    value: u64,
-) -> bool {
+fn check_second(rt: &impl Abort, map: &mut Map, put: Put, value: u64) -> bool {
     // The entry of a key that is present asks for no growth.
-    check_eq!(rt; map.entry(1).or_insert(11).map(|lent| *lent), Ok(10));
+    check_eq!(rt; or_insert(map, 1, 11), Ok(10));
     match put {
         Ok(lent) => {
             check_eq!(rt; lent, value);

@@ -27,6 +27,17 @@ fn assert_refused(rt: &impl Abort, refused: PutRefused<&'static str>, payload: &
     check_eq!(rt; refused, PutRefused { reason, payload });
 }
 
+/// Puts a session, and tells whether it was given. Where it was refused, it checks so as `assert_refused` does.
+fn is_put(rt: &impl Abort, table: &mut Table, id: u64, weight: u64, payload: &'static str) -> bool {
+    match table.put(id, weight, payload) {
+        Ok(_put) => true,
+        Err(refused) => {
+            assert_refused(rt, refused, payload);
+            false
+        }
+    }
+}
+
 #[test]
 fn refused_put_changes_nothing(rt: HostRuntime) {
     let mut table = Sessions::new(rt.alloc(), 10);
@@ -34,26 +45,20 @@ fn refused_put_changes_nothing(rt: HostRuntime) {
 }
 
 fn put_first(rt: &(impl Abort + Print + AllocGlobal), table: &mut Table) {
-    match table.put(1, 4, "a") {
-        Ok(_put) => put_second(rt, table),
-        Err(refused) => {
-            assert_refused(rt, refused, "a");
-            assert_sessions(rt, table, &[], 0);
-        }
+    if is_put(rt, table, 1, 4, "a") {
+        put_second(rt, table);
+    } else {
+        assert_sessions(rt, table, &[], 0);
     }
 }
 
 fn put_second(rt: &(impl Abort + Print + AllocGlobal), table: &mut Table) {
-    match table.put(2, 4, "b") {
-        Ok(_put) => {
-            // No session goes, so no memory is asked for.
-            put_again(rt, table);
-            put_third(rt, table);
-        }
-        Err(refused) => {
-            assert_refused(rt, refused, "b");
-            assert_sessions(rt, table, &[(1, 4, "a")], 4);
-        }
+    if is_put(rt, table, 2, 4, "b") {
+        // No session goes, so no memory is asked for.
+        put_again(rt, table);
+        put_third(rt, table);
+    } else {
+        assert_sessions(rt, table, &[(1, 4, "a")], 4);
     }
 }
 
@@ -64,15 +69,11 @@ fn put_again(rt: &impl Abort, table: &mut Table) {
 
 /// The growth: the vector for the session that goes.
 fn put_third(rt: &(impl Abort + Print + AllocGlobal), table: &mut Table) {
-    match table.put(3, 4, "d") {
-        Ok(_put) => {
-            assert_sessions(rt, table, &[(2, 4, "c"), (3, 4, "d")], 8);
-            say_given(rt, 7);
-        }
-        Err(refused) => {
-            assert_refused(rt, refused, "d");
-            put_third_again(rt, table);
-        }
+    if is_put(rt, table, 3, 4, "d") {
+        assert_sessions(rt, table, &[(2, 4, "c"), (3, 4, "d")], 8);
+        say_given(rt, 7);
+    } else {
+        put_third_again(rt, table);
     }
 }
 
@@ -89,8 +90,8 @@ fn send_first_away(rt: &impl Abort, table: &mut Table) {
 }
 
 /// Puts two sessions, and tells whether each growth was given. The growths: buckets, the guard and a node; buckets and a node.
-fn put_two(table: &mut Table) -> bool {
-    table.put(1, 4, "a").is_ok() && table.put(2, 4, "b").is_ok()
+fn put_two(rt: &impl Abort, table: &mut Table) -> bool {
+    is_put(rt, table, 1, 4, "a") && is_put(rt, table, 2, 4, "b")
 }
 
 #[test]
@@ -100,7 +101,7 @@ fn refused_growth_is_not_asked_for_by_a_table(rt: HostRuntime) {
 }
 
 fn use_two(rt: &(impl Abort + Print + AllocGlobal), table: &mut Table) {
-    if put_two(table) {
+    if put_two(rt, table) {
         read_and_move(rt, table);
         remove_and_put(rt, table);
         retain(rt, table);
@@ -119,8 +120,8 @@ fn read_and_move(rt: &impl Abort, table: &mut Table) {
 /// Takes a session out of a table of two, and puts others within its room.
 fn remove_and_put(rt: &impl Abort, table: &mut Table) {
     check_eq!(rt; (table.remove(2), table.remove(3)), (Some("b"), None));
-    check!(rt; table.put(3, 4, "c").is_ok());
-    check!(rt; table.put(3, 5, "d").is_ok());
+    check!(rt; is_put(rt, table, 3, 4, "c"));
+    check!(rt; is_put(rt, table, 3, 5, "d"));
     check!(rt; table.put(3, 11, "e").is_err());
     assert_sessions(rt, table, &[(1, 4, "a"), (3, 5, "d")], 9);
 }
@@ -140,7 +141,7 @@ fn refused_put_asks_once(rt: HostRuntime) {
 }
 
 fn send_two_away(rt: &(impl Abort + Print + AllocGlobal), table: &mut Table) {
-    if put_two(table) {
+    if put_two(rt, table) {
         put_heavy(rt, table);
     }
 }
@@ -161,15 +162,11 @@ fn put_heavy(rt: &(impl Abort + Print + AllocGlobal), table: &mut Table) {
 
 /// Puts a session again, and a new one that sends the other away. The growth: the vector for it.
 fn put_light(rt: &(impl Abort + Print + AllocGlobal), table: &mut Table) {
-    check!(rt; table.put(3, 8, "d").is_ok());
-    match table.put(4, 4, "e") {
-        Ok(_put) => {
-            assert_sessions(rt, table, &[(4, 4, "e")], 4);
-            say_given(rt, 8);
-        }
-        Err(refused) => {
-            assert_refused(rt, refused, "e");
-            assert_sessions(rt, table, &[(3, 8, "d")], 8);
-        }
+    check!(rt; is_put(rt, table, 3, 8, "d"));
+    if is_put(rt, table, 4, 4, "e") {
+        assert_sessions(rt, table, &[(4, 4, "e")], 4);
+        say_given(rt, 8);
+    } else {
+        assert_sessions(rt, table, &[(3, 8, "d")], 8);
     }
 }

@@ -1,9 +1,11 @@
 //! Entries of either kind, and the cursor.
 
 use super::PAIRS;
+use crate::tests::calls::{check_remove, or_default, or_insert, or_insert_with};
 use crate::tests::checks::{check, check_eq};
+use crate::tests::last_byte::BuildLastByte;
 use crate::tests::{Map, assert_map, full_of, say_given};
-use linked_hash_map::{Entry, Refused, ReserveError};
+use linked_hash_map::{Entries, Entry, Refused, ReserveError};
 use std::process::Abort;
 
 #[test]
@@ -51,9 +53,9 @@ fn check_lent(rt: &impl Abort, lent: Result<&mut u64, Refused<u8, u64>>, value: 
 
 /// Uses the calls of either kind of entry on an occupied one, and writes the value 15.
 fn find_occupied(rt: &impl Abort, map: &mut Map) {
-    check_lent(rt, map.entry(1).or_insert(0), 13);
-    check_lent(rt, map.entry(1).or_insert_with(|| 0), 13);
-    check_lent(rt, map.entry(1).or_default(), 13);
+    check_eq!(rt; or_insert(map, 1, 0), Ok(13));
+    check_eq!(rt; or_insert_with(map, 1, 0), Ok(13));
+    check_eq!(rt; or_default(map, 1), Ok(13));
     check_eq!(rt; *map.entry(1).and_modify(|value| *value = 15).key(), 1);
 }
 
@@ -61,37 +63,48 @@ fn find_occupied(rt: &impl Abort, map: &mut Map) {
 fn use_cursor(rt: &impl Abort, map: &mut Map) {
     let mut entries = map.entries();
     check_eq!(rt; entries.remaining(), 2);
-    if let Some(mut entry) = entries.next() {
-        check_eq!(rt; entry.insert(33), 30);
-    }
-    if let Some(mut entry) = entries.next() {
-        check_eq!(rt; entry.insert(15), 15);
-    }
+    insert_next(rt, &mut entries, 33, 30);
+    insert_next(rt, &mut entries, 15, 15);
     check!(rt; entries.next().is_none());
     assert_map(rt, map, &[(3, 33), (1, 15)], 3, 0);
+}
+
+/// Inserts a value at the next entry of a cursor, and checks the old one.
+fn insert_next(
+    rt: &impl Abort,
+    entries: &mut Entries<'_, u8, u64, BuildLastByte>,
+    value: u64,
+    old: u64,
+) {
+    if let Some(mut entry) = entries.next() {
+        check_eq!(rt; entry.insert(value), old);
+    }
 }
 
 /// Visits the pairs that `use_cursor` left, and leaves them as they are.
 fn use_visit(rt: &impl Abort, map: &mut Map) {
     let entries = map.visit();
-    if let Some(mut entry) = entries.next_entry() {
-        check_eq!(rt; entry.insert(33), 33);
-    }
+    insert_unvisited(rt, entries, 33);
     check_eq!(rt; entries.unvisited(), 1);
-    if let Some(mut entry) = entries.next_entry() {
-        check_eq!(rt; entry.insert(15), 15);
-    }
+    insert_unvisited(rt, entries, 15);
     check!(rt; entries.next_entry().is_none());
+}
+
+/// Inserts a value at the next entry of a visit that has it.
+fn insert_unvisited(rt: &impl Abort, entries: &mut Map, value: u64) {
+    if let Some(mut entry) = entries.next_entry() {
+        check_eq!(rt; entry.insert(value), value);
+    }
 }
 
 /// Uses the calls of either kind of entry on a vacant one, below the capacity.
 fn use_vacant(rt: &impl Abort, map: &mut Map) {
     modify_vacant(rt, map);
-    check_removed(rt, map, 4, 40);
-    check_lent(rt, map.entry(5).or_insert_with(|| 50), 50);
-    check_removed(rt, map, 5, 50);
-    check_lent(rt, map.entry(6).or_default(), 0);
-    check_removed(rt, map, 6, 0);
+    check_remove(rt, map, 4, Some(40));
+    check_eq!(rt; or_insert_with(map, 5, 50), Ok(50));
+    check_remove(rt, map, 5, Some(50));
+    check_eq!(rt; or_default(map, 6), Ok(0));
+    check_remove(rt, map, 6, Some(0));
 }
 
 /// Modifies nothing, and inserts.
@@ -99,11 +112,6 @@ fn modify_vacant(rt: &impl Abort, map: &mut Map) {
     let vacant = map.entry(4).and_modify(|value| *value = 0);
     check_eq!(rt; *vacant.key(), 4);
     check_lent(rt, vacant.or_insert(40), 40);
-}
-
-/// Takes out the pair of a key, and checks its value.
-fn check_removed(rt: &impl Abort, map: &mut Map, key: u8, value: u64) {
-    check_eq!(rt; map.remove(&key), Some(value));
 }
 
 /// Inserts through a vacant entry, below the capacity.

@@ -1,6 +1,7 @@
 //! Empty maps, and the iterator that owns its pairs.
 
 use super::PAIRS;
+use crate::tests::calls::{check_get, check_reserve, check_shrink};
 use crate::tests::checks::{check, check_eq};
 use crate::tests::{BUILDER, Map, full_of, say_given, with_room};
 use linked_hash_map::replay::replay;
@@ -52,8 +53,9 @@ fn copy_empty(rt: &impl Abort, alloc: Global, map: &Map) {
 /// Runs no command on an empty map, and makes calls that leave it empty.
 fn use_empty(rt: &impl Abort, alloc: Global, map: &mut Map) {
     check!(rt; replay(map, Vec::new(alloc)).is_ok_and(|replies| replies.is_empty()));
-    check_eq!(rt; (map.reserve(0), map.shrink_to_fit()), (Ok(()), Ok(())));
-    check_eq!(rt; map.get(&1), None);
+    check_reserve(rt, map, 0, Ok(()));
+    check_shrink(rt, map);
+    check_get(rt, map, 1, None);
     drop(map.drain());
 }
 

@@ -1,6 +1,7 @@
 //! Lookups, iterators and comparisons.
 
 use super::PAIRS;
+use crate::tests::calls::check_get;
 use crate::tests::checks::{check, check_eq, given};
 use crate::tests::{BUILDER, Map, assert_map, full_of, say_given};
 use linked_hash_map::ReserveError;
@@ -80,7 +81,7 @@ fn iterate_values(rt: &impl Abort, map: &Map) {
 /// Goes over a map by a loop.
 fn loop_over(rt: &impl Abort, map: &Map) {
     for (key, value) in map {
-        check_eq!(rt; map.get(key), Some(value));
+        check_get(rt, map, *key, Some(value));
     }
 }
 

@@ -1,7 +1,11 @@
 //! Calls that change a map within its capacity.
 
 use super::PAIRS;
-use crate::tests::checks::{check, check_eq};
+use crate::tests::calls::{
+    check_insert, check_lends_none, check_pop_back, check_pop_front, check_remove, check_reserve,
+    check_shrink,
+};
+use crate::tests::checks::check_eq;
 use crate::tests::{Map, assert_map, full_of, insert_new, say_given, with_room};
 use linked_hash_map::{LIMIT, Mode, ReserveError};
 use std::process::Abort;
@@ -30,8 +34,9 @@ fn write_all(rt: &(impl Abort + Print + AllocGlobal), made: Result<Map, ReserveE
 
 /// Changes the capacity of a full map within it, and at it.
 fn reserve_nothing(rt: &impl Abort, map: &mut Map) {
-    check_eq!(rt; (map.reserve(0), map.shrink_to_fit()), (Ok(()), Ok(())));
-    check_eq!(rt; map.reserve(LIMIT), Err(ReserveError::TooLarge));
+    check_reserve(rt, map, 0, Ok(()));
+    check_shrink(rt, map);
+    check_reserve(rt, map, LIMIT, Err(ReserveError::TooLarge));
 }
 
 /// Writes each value of a map that has `PAIRS`, in three ways.
@@ -86,22 +91,24 @@ fn loop_over(map: &mut Map) {
 /// Inserts the keys that a map has which `write_all_but_first` left, and leaves (2, 22), (3, 33)
 /// and (1, 12).
 fn insert_present(rt: &impl Abort, map: &mut Map) {
-    check_eq!(rt; map.insert(3, 33), Ok(Some(22)));
-    check_eq!(rt; map.insert(1, 12), Ok(Some(11)));
+    check_insert(rt, map, 3, 33, Some(22));
+    check_insert(rt, map, 1, 12, Some(11));
     map.set_mode(Mode::Keep);
-    check_eq!(rt; (map.mode(), map.insert(2, 22)), (Mode::Keep, Ok(Some(22))));
+    check_eq!(rt; map.mode(), Mode::Keep);
+    check_insert(rt, map, 2, 22, Some(22));
     map.set_mode(Mode::Touch);
-    check!(rt; map.get_mut(&4).is_none());
-    check!(rt; map.get_refresh(&4).is_none());
+    check_lends_none(rt, map, 4);
     assert_map(rt, map, &[(2, 22), (3, 33), (1, 12)], 3, 0);
 }
 
 /// Takes all pairs out of a map that `insert_present` left, in three ways, keeps two of three, and
 /// clears it.
 fn take_out(rt: &impl Abort, map: &mut Map) {
-    check_eq!(rt; (map.remove(&3), map.remove(&4)), (Some(33), None));
-    check_eq!(rt; map.pop_front(), Some((2, 22)));
-    check_eq!(rt; (map.pop_back(), map.pop_back()), (Some((1, 12)), None));
+    check_remove(rt, map, 3, Some(33));
+    check_remove(rt, map, 4, None);
+    check_pop_front(rt, map, Some((2, 22)));
+    check_pop_back(rt, map, Some((1, 12)));
+    check_pop_back(rt, map, None);
     insert_new(rt, map, &[(5, 0), (6, 0), (7, 0)]);
     map.retain(|key, _value| *key != 6);
     assert_map(rt, map, &[(5, 0), (7, 0)], 3, 0);
@@ -133,13 +140,13 @@ fn take_from_a_drain(rt: &impl Abort, map: &mut Map) {
 
 /// Reserves what an empty map of capacity 3 has, and lowers its capacity to 0.
 fn reserve_and_shrink(rt: &impl Abort, map: &mut Map) {
-    check_eq!(rt; map.reserve(3), Ok(()));
-    check_eq!(rt; map.insert(1, 1), Ok(None));
-    check_eq!(rt; map.reserve(2), Ok(()));
+    check_reserve(rt, map, 3, Ok(()));
+    check_insert(rt, map, 1, 1, None);
+    check_reserve(rt, map, 2, Ok(()));
     assert_map(rt, map, &[(1, 1)], 3, 0);
     map.clear();
     // All spare nodes, the guard and the buckets go.
-    check_eq!(rt; map.shrink_to_fit(), Ok(()));
+    check_shrink(rt, map);
     assert_map(rt, map, &[], 0, 0);
 }
 
@@ -167,7 +174,7 @@ fn fill_and_empty(rt: &impl Abort, map: &mut Map) {
 
 /// Fills an empty map of capacity 3, and refreshes on the way.
 fn fill(rt: &impl Abort, map: &mut Map) {
-    check_eq!(rt; map.insert(6, 6), Ok(None));
+    check_insert(rt, map, 6, 6, None);
     check_eq!(rt; map.get_refresh(&6).copied(), Some(6));
     insert_new(rt, map, &[(7, 7), (8, 8)]);
     assert_map(rt, map, &[(6, 6), (7, 7), (8, 8)], 3, 0);
