@@ -1,6 +1,6 @@
 //! Calls that write, replace, remove and clear pairs.
 
-use super::filling::{Map, PAIRS, fill, filled, keys};
+use super::filling::{Map, PAIRS, fill, filled, keys, pair};
 use super::item::{Key, Value};
 use super::stop::Stop;
 use super::sums::sum;
@@ -40,8 +40,7 @@ fn pop<K: Key, V: Value>(alloc: Global) -> Result<u64, Stop> {
 
 /// Moves the pair of a number to the back and writes its value, and returns 1 if it is there.
 fn refresh<K: Key, V: Value>(alloc: Global, map: &mut Map<K, V>, number: u64) -> Result<u64, Stop> {
-    let key = K::key(alloc, number)?;
-    let new = V::value(alloc, number)?;
+    let (key, new): (K, V) = pair(alloc, number)?;
     match map.get_refresh(&key) {
         Some(value) => {
             *value = new;
@@ -61,15 +60,20 @@ fn refresh_each<K: Key, V: Value>(alloc: Global) -> Result<u64, Stop> {
     Ok(written)
 }
 
-/// Writes each value of a full map by a loop.
-fn write_each<K: Key, V: Value>(alloc: Global) -> Result<u64, Stop> {
-    let mut map: Map<K, V> = filled(alloc)?;
+/// Writes each value of a map by a loop.
+fn write_values<K: Key, V: Value>(alloc: Global, map: &mut Map<K, V>) -> Result<u64, Stop> {
     let mut written: u64 = 0;
     for (_key, value) in map.iter_mut() {
         *value = V::value(alloc, written)?;
         written = written.wrapping_add(1);
     }
     Ok(written)
+}
+
+/// Writes each value of a full map by a loop.
+fn write_each<K: Key, V: Value>(alloc: Global) -> Result<u64, Stop> {
+    let mut map: Map<K, V> = filled(alloc)?;
+    write_values(alloc, &mut map)
 }
 
 /// Keeps every second pair of a full map, and returns how many that are.

@@ -17,6 +17,19 @@ pub fn empty<K: Key, V: Value>(alloc: Global) -> Result<Map<K, V>, Stop> {
     Ok(Map::with_hasher(alloc, BuildOwner::new(alloc)?))
 }
 
+/// Makes the key and the value of a number.
+pub fn pair<K: Key, V: Value>(alloc: Global, number: u64) -> Result<(K, V), AllocError> {
+    let key = K::key(alloc, number)?;
+    Ok((key, V::value(alloc, number)?))
+}
+
+/// Inserts the pair of a number.
+fn insert<K: Key, V: Value>(alloc: Global, map: &mut Map<K, V>, number: u64) -> Result<(), Stop> {
+    let (key, value) = pair(alloc, number)?;
+    map.insert(key, value)?;
+    Ok(())
+}
+
 /// Inserts the pair of each number from `first` up to `end`.
 pub fn fill<K: Key, V: Value>(
     alloc: Global,
@@ -25,7 +38,7 @@ pub fn fill<K: Key, V: Value>(
     end: u64,
 ) -> Result<(), Stop> {
     for number in first..end {
-        map.insert(K::key(alloc, number)?, V::value(alloc, number)?)?;
+        insert(alloc, map, number)?;
     }
     Ok(())
 }
@@ -41,7 +54,7 @@ pub fn filled<K: Key, V: Value>(alloc: Global) -> Result<Map<K, V>, Stop> {
 pub fn list<K: Key, V: Value>(alloc: Global, first: u64, end: u64) -> Result<Vec<(K, V)>, Stop> {
     let mut pairs = Vec::new(alloc);
     for number in first..end {
-        pairs.push((K::key(alloc, number)?, V::value(alloc, number)?))?;
+        pairs.push(pair(alloc, number)?)?;
     }
     Ok(pairs)
 }

@@ -1,6 +1,6 @@
 //! Calls that make a map.
 
-use super::filling::{Map, PAIRS, empty, filled, list};
+use super::filling::{Map, PAIRS, empty, filled, list, pair};
 use super::hasher::BuildOwner;
 use super::item::{Key, Value};
 use super::stop::Stop;
@@ -10,8 +10,9 @@ use std::alloc::Global;
 
 /// Makes maps with the default hasher: one of capacity 0, which gets a pair, and one that has room.
 fn default_hasher<K: Key, V: Value>(alloc: Global) -> Result<u64, Stop> {
+    let (key, value) = pair(alloc, 0)?;
     let mut map: LinkedHashMap<K, V> = LinkedHashMap::new(alloc);
-    map.insert(K::key(alloc, 0)?, V::value(alloc, 0)?)?;
+    map.insert(key, value)?;
     let roomy: LinkedHashMap<K, V> = LinkedHashMap::with_capacity(alloc, PAIRS as usize)?;
     Ok(total(&[map.len(), roomy.len()]))
 }

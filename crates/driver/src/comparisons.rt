@@ -58,6 +58,19 @@ fn hash_of(map: &Map) -> u64 {
     BuildKeyHasher { choice }.hash_one(map)
 }
 
+/// Appends which of two maps of the same pairs is less.
+fn compare_plain(alloc: Global, map: &Map, other: &Map, text: &mut String) -> Result<(), Stop> {
+    let map = plain(alloc, map)?;
+    let other = plain(alloc, other)?;
+    Ok(compare(&map, &other, text)?)
+}
+
+/// Appends the debug text of a new map.
+fn show_new(alloc: Global, number: u64, text: &mut String) -> Result<(), Stop> {
+    let map = new(alloc, number)?;
+    Ok(show(&map, text)?)
+}
+
 /// Runs the call of this name, and tells whether there is one.
 pub fn run(
     alloc: Global,
@@ -69,10 +82,10 @@ pub fn run(
 ) -> Result<bool, Stop> {
     match name {
         "eq" => equal(map, other, text)?,
-        "cmp" => compare(&plain(alloc, map)?, &plain(alloc, other)?, text)?,
+        "cmp" => compare_plain(alloc, map, other, text)?,
         "partial_cmp" => partial_compare(map, other, text)?,
-        "new" => show(&new(alloc, line.number())?, text)?,
-        "hash" => write!(text, "{} ", hash_of(map))?,
+        "new" => show_new(alloc, line.number(), text)?,
+        "hash" => show(&hash_of(map), text)?,
         "debug" => show(map, text)?,
         "debug_pretty" => show_pretty(alloc, map, text)?,
         _ => return Ok(false),

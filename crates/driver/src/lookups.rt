@@ -3,7 +3,7 @@
 use super::Map;
 use super::key::Key;
 use super::line::Line;
-use super::show::show_and_write;
+use super::show::{show, show_and_write};
 use super::stop::Stop;
 use std::alloc::AllocError;
 
@@ -34,6 +34,38 @@ fn write_lent(lent: Option<&mut u64>, value: u64, text: &mut String) -> Result<(
     }
 }
 
+fn get(map: &Map, key: &Key, text: &mut String) -> Result<(), AllocError> {
+    show(&map.get(key), text)
+}
+
+fn contains_key(map: &Map, key: &Key, text: &mut String) -> Result<(), AllocError> {
+    show(&map.contains_key(key), text)
+}
+
+fn get_mut(map: &mut Map, key: &Key, value: u64, text: &mut String) -> Result<(), AllocError> {
+    write_lent(map.get_mut(key), value, text)
+}
+
+fn get_refresh(map: &mut Map, key: &Key, value: u64, text: &mut String) -> Result<(), AllocError> {
+    write_lent(map.get_refresh(key), value, text)
+}
+
+fn front(map: &Map, text: &mut String) -> Result<(), AllocError> {
+    show(&map.front(), text)
+}
+
+fn back(map: &Map, text: &mut String) -> Result<(), AllocError> {
+    show(&map.back(), text)
+}
+
+fn len(map: &Map, text: &mut String) -> Result<(), AllocError> {
+    write!(text, "{} {} ", map.len(), map.is_empty())
+}
+
+fn hasher(map: &Map, text: &mut String) -> Result<(), AllocError> {
+    show(map.hasher(), text)
+}
+
 /// Runs the call of this name, and tells whether there is one.
 pub fn run(
     name: &str,
@@ -42,16 +74,16 @@ pub fn run(
     text: &mut String,
 ) -> Result<bool, Stop> {
     match name {
-        "get" => write!(text, "{:?} ", map.get(&line.key()))?,
-        "contains_key" => write!(text, "{} ", map.contains_key(&line.key()))?,
+        "get" => get(map, &line.key(), text)?,
+        "contains_key" => contains_key(map, &line.key(), text)?,
         "index" => index(map, line.key(), text)?,
         "index_mut" => index_mut(map, line.key(), line.number(), text)?,
-        "get_mut" => write_lent(map.get_mut(&line.key()), line.number(), text)?,
-        "get_refresh" => write_lent(map.get_refresh(&line.key()), line.number(), text)?,
-        "front" => write!(text, "{:?} ", map.front())?,
-        "back" => write!(text, "{:?} ", map.back())?,
-        "len" => write!(text, "{} {} ", map.len(), map.is_empty())?,
-        "hasher" => write!(text, "{:?} ", map.hasher())?,
+        "get_mut" => get_mut(map, &line.key(), line.number(), text)?,
+        "get_refresh" => get_refresh(map, &line.key(), line.number(), text)?,
+        "front" => front(map, text)?,
+        "back" => back(map, text)?,
+        "len" => len(map, text)?,
+        "hasher" => hasher(map, text)?,
         _ => return Ok(false),
     }
     Ok(true)

@@ -4,6 +4,7 @@ use super::Map;
 use super::hasher::{BuildKeyHasher, Choice};
 use super::key::Key;
 use super::line::Line;
+use super::show::show;
 use super::stop::Stop;
 use std::alloc::{AllocError, Global};
 use std::mem;
@@ -34,6 +35,34 @@ fn pairs(alloc: Global, line: &mut Line<'_>) -> Result<Vec<(Key, u64)>, AllocErr
     Ok(pairs)
 }
 
+/// Collects the pairs that are left of a line.
+fn collect(alloc: Global, line: &mut Line<'_>) -> Result<Map, Stop> {
+    let pairs = pairs(alloc, line)?;
+    Ok(Map::from_iter(alloc, pairs)?)
+}
+
+fn extend(alloc: Global, line: &mut Line<'_>, map: &mut Map) -> Result<(), Stop> {
+    let pairs = pairs(alloc, line)?;
+    Ok(map.extend(pairs)?)
+}
+
+fn extend_refs(map: &mut Map, other: &Map) -> Result<(), Stop> {
+    Ok(map.extend_refs(other.iter())?)
+}
+
+fn extend_drain(map: &mut Map, other: &mut Map) -> Result<(), Stop> {
+    Ok(map.extend(other.drain())?)
+}
+
+fn clone_of(other: &Map) -> Result<Map, Stop> {
+    Ok(other.clone()?)
+}
+
+/// Puts a map in the place of another, which is dropped.
+fn set(map: &mut Map, new: Map) {
+    *map = new;
+}
+
 /// Runs the call of this name, and tells whether there is one.
 pub fn run(
     alloc: Global,
@@ -44,17 +73,17 @@ pub fn run(
     text: &mut String,
 ) -> Result<bool, Stop> {
     match name {
-        "with_hasher" => *map = new(alloc, line),
-        "with_capacity" => *map = with_capacity(alloc, line)?,
-        "default" => *map = Map::with_hasher(alloc, BuildKeyHasher::default()),
-        "from_iter" => *map = Map::from_iter(alloc, pairs(alloc, line)?)?,
-        "extend" => map.extend(pairs(alloc, line)?)?,
-        "extend_refs" => map.extend_refs(other.iter())?,
-        "extend_drain" => map.extend(other.drain())?,
-        "clone" => *map = other.clone()?,
+        "with_hasher" => set(map, new(alloc, line)),
+        "with_capacity" => set(map, with_capacity(alloc, line)?),
+        "default" => set(map, Map::with_hasher(alloc, BuildKeyHasher::default())),
+        "from_iter" => set(map, collect(alloc, line)?),
+        "extend" => extend(alloc, line, map)?,
+        "extend_refs" => extend_refs(map, other)?,
+        "extend_drain" => extend_drain(map, other)?,
+        "clone" => set(map, clone_of(other)?),
         "swap" => mem::swap(map, other),
         _ => return Ok(false),
     }
-    write!(text, "{:?} ", map.hasher())?;
+    show(map.hasher(), text)?;
     Ok(true)
 }

@@ -130,6 +130,22 @@ fn walk_and_forget(map: Map, steps: &str, text: &mut String) -> Result<(), Alloc
     Ok(())
 }
 
+fn iter(map: &Map, line: &mut Line<'_>, text: &mut String) -> Result<(), AllocError> {
+    walk_and_clone(map.iter(), line, text)
+}
+
+fn keys(map: &Map, line: &mut Line<'_>, text: &mut String) -> Result<(), AllocError> {
+    walk_and_clone(map.keys(), line, text)
+}
+
+fn values(map: &Map, line: &mut Line<'_>, text: &mut String) -> Result<(), AllocError> {
+    walk_and_clone(map.values(), line, text)
+}
+
+fn into_iter(map: Map, line: &mut Line<'_>, text: &mut String) -> Result<(), AllocError> {
+    walk_and_clone(map.into_iter(), line, text)
+}
+
 /// Runs the call of this name, and tells whether there is one.
 pub fn run(
     alloc: Global,
@@ -139,11 +155,11 @@ pub fn run(
     text: &mut String,
 ) -> Result<bool, Stop> {
     match name {
-        "iter" => walk_and_clone(map.iter(), line, text)?,
-        "keys" => walk_and_clone(map.keys(), line, text)?,
-        "values" => walk_and_clone(map.values(), line, text)?,
+        "iter" => iter(map, line, text)?,
+        "keys" => keys(map, line, text)?,
+        "values" => values(map, line, text)?,
         "iter_mut" => walk_and_write(map, line.word(), line.number(), text)?,
-        "into_iter" => walk_and_clone(take(alloc, map).into_iter(), line, text)?,
+        "into_iter" => into_iter(take(alloc, map), line, text)?,
         "into_iter_forget" => walk_and_forget(take(alloc, map), line.word(), text)?,
         "drain" => drain(map, line, text)?,
         "loop" => show_all(map, text)?,
