@@ -1,16 +1,13 @@
 //! The examples in the documentation of the library's public items, run.
 //!
 //! Each example stands here word for word, in a test that is named for an item that shows it. An example that several
-//! items show, or that is the beginning of another, stands here once. Except in `introduction`,
-//! `assert_eq!` and `assert!` are the macros of `checks.rt`: they check the same as those of std, and add no branch to
-//! the proof of a test.
+//! items show, or that is the beginning of another, stands here once.
 
 mod capacity;
 mod comparison;
 mod cursor;
 mod entry;
 mod insertion;
-mod introduction;
 mod iteration;
 mod lookup;
 mod making;

@@ -1,5 +1,4 @@
 //! Capacities.
-use crate::tests::checks::check_eq as assert_eq;
 use linked_hash_map::{LIMIT, LinkedHashMap, NoRoom, ReserveError};
 use std::test::Fail;
 

@@ -1,5 +1,4 @@
 //! Comparing, hashing and writing maps.
-use crate::tests::checks::{check as assert, check_eq as assert_eq};
 use linked_hash_map::{DefaultHashBuilder, LinkedHashMap};
 use std::cmp::Ordering;
 use std::hash::BuildHasher;

@@ -1,5 +1,4 @@
 //! The entry of a key.
-use crate::tests::checks::{check as assert, check_eq as assert_eq};
 use linked_hash_map::{Entry, LinkedHashMap};
 use std::test::Fail;
 

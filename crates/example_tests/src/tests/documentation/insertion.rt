@@ -1,5 +1,4 @@
 //! Inserting pairs.
-use crate::tests::checks::{check as assert, check_eq as assert_eq};
 use linked_hash_map::{LinkedHashMap, Mode};
 use std::test::Fail;
 

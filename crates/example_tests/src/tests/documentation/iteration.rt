@@ -1,5 +1,4 @@
 //! Iterators over maps.
-use crate::tests::checks::check_eq as assert_eq;
 use linked_hash_map::LinkedHashMap;
 use std::test::Fail;
 

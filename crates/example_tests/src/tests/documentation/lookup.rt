@@ -1,5 +1,4 @@
 //! Looking pairs up.
-use crate::tests::checks::{check as assert, check_eq as assert_eq};
 use linked_hash_map::LinkedHashMap;
 use std::test::Fail;
 

@@ -1,5 +1,4 @@
 //! Running commands.
-use crate::tests::checks::{check as assert, check_eq as assert_eq};
 use linked_hash_map::LinkedHashMap;
 use linked_hash_map::replay::{Answer, Command, PairList, replay};
 use std::test::Fail;

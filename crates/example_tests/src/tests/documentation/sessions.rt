@@ -1,5 +1,4 @@
 //! Tables of sessions.
-use crate::tests::checks::{check as assert, check_eq as assert_eq};
 use linked_hash_map::sessions::{PutReason, PutRefused, Sessions};
 use std::test::Fail;
 
