@@ -101,11 +101,6 @@ fn map_of_kind(rt: &impl Abort, alloc: Global, kind: &Kind, counts: &Rc<Counts>)
     map
 }
 
-/// Inserts a pair of a key, and tells whether it went in.
-fn is_inserted(rt: &impl Abort, map: &mut CallMap, key: &Key) -> bool {
-    map.insert(key.again(rt), 1).is_ok()
-}
-
 /// Returns the calls of one lookup of a key, by `get_counted`.
 fn lookup_of(rt: &impl Abort, map: &CallMap, key: &Key) -> Calls {
     let _before = key.counts.take();

@@ -5,7 +5,7 @@ ghost use Rattle.std.specs.Map.{keys_of};
 use super::calls::{assert_empty, assert_get, check_pop_front, insert_all};
 use super::checks::{check, check_eq, given};
 use super::{assert_pairs, map_of};
-use linked_hash_map::{Entries, LinkedHashMap, OccupiedEntry};
+use linked_hash_map::{Entries, LinkedHashMap};
 use std::alloc::Global;
 use std::fmt::Debug;
 use std::hash::{BuildHasher, Hash};
@@ -22,64 +22,6 @@ fn oldest_key(map: &mut LinkedHashMap<u64, u64>) -> Option<u64>
     }
 }
 
-/// Checks the key and the value of an entry.
-pub fn assert_entry<S: BuildHasher>(
-    rt: &impl Abort,
-    entry: &OccupiedEntry<'_, u64, u64, S>,
-    key: u64,
-    value: u64,
-) {
-    check_eq!(rt; (*entry.key(), *entry.get()), (key, value));
-}
-
-/// Checks the key of an entry, and takes its pair out.
-pub fn remove_by<S: BuildHasher>(
-    rt: &impl Abort,
-    entry: OccupiedEntry<'_, u64, u64, S>,
-    key: u64,
-    value: u64,
-) {
-    check_eq!(rt; *entry.key(), key);
-    check_eq!(rt; entry.remove(), value);
-}
-
-/// Checks the key of an entry, and inserts a value there.
-pub fn insert_by<S: BuildHasher>(
-    rt: &impl Abort,
-    mut entry: OccupiedEntry<'_, u64, u64, S>,
-    key: u64,
-    value: u64,
-    old: u64,
-) {
-    check_eq!(rt; *entry.key(), key);
-    check_eq!(rt; entry.insert(value), old);
-}
-
-/// Checks the key of an entry, and writes its value in its place.
-pub fn write_by<K: Eq + Hash + Debug>(
-    rt: &impl Abort,
-    mut entry: OccupiedEntry<'_, K, u64>,
-    key: &K,
-    value: u64,
-) {
-    check_eq!(rt; entry.key(), key);
-    *entry.get_mut() = value;
-}
-
-/// Takes the pair of an entry out, moves it, writes its value or leaves it, as its value says.
-pub fn change_by_value(mut entry: OccupiedEntry<'_, u64, u64>) {
-    match *entry.get() {
-        0 => {
-            entry.remove();
-        }
-        1 => {
-            entry.insert(0);
-        }
-        2 => *entry.get_mut() = 0,
-        _ => {}
-    }
-}
-
 /// Checks the key and the value of the next entry.
 pub fn visit<S: BuildHasher>(
     rt: &impl Abort,
@@ -88,7 +30,7 @@ pub fn visit<S: BuildHasher>(
     value: u64,
 ) {
     let entry = given!(rt; cursor.next().ok_or("no entry"));
-    assert_entry(rt, &entry, key, value);
+    check_eq!(rt; (*entry.key(), *entry.get()), (key, value));
 }
 
 /// Checks the key of the next entry, and takes its pair out.
@@ -99,7 +41,8 @@ pub fn visit_remove<S: BuildHasher>(
     value: u64,
 ) {
     let entry = given!(rt; cursor.next().ok_or("no entry"));
-    remove_by(rt, entry, key, value);
+    check_eq!(rt; *entry.key(), key);
+    check_eq!(rt; entry.remove(), value);
 }
 
 /// Checks the key of the next entry, and inserts a value there.
@@ -110,8 +53,9 @@ pub fn visit_insert<S: BuildHasher>(
     value: u64,
     old: u64,
 ) {
-    let entry = given!(rt; cursor.next().ok_or("no entry"));
-    insert_by(rt, entry, key, value, old);
+    let mut entry = given!(rt; cursor.next().ok_or("no entry"));
+    check_eq!(rt; *entry.key(), key);
+    check_eq!(rt; entry.insert(value), old);
 }
 
 /// Checks the key of the next entry, and writes its value in its place.
@@ -121,8 +65,9 @@ fn visit_write<K: Eq + Hash + Debug>(
     key: &K,
     value: u64,
 ) {
-    let entry = given!(rt; cursor.next().ok_or("no entry"));
-    write_by(rt, entry, key, value);
+    let mut entry = given!(rt; cursor.next().ok_or("no entry"));
+    check_eq!(rt; entry.key(), key);
+    *entry.get_mut() = value;
 }
 
 /// Checks how many entries are left to visit.
@@ -202,9 +147,18 @@ fn visits_no_moved_pair_again(rt: HostRuntime) {
 /// Notes the key of the next entry, and then takes its pair out, moves it, writes its value or
 /// leaves it, as its value says.
 fn visit_by_value(rt: &impl Abort, cursor: &mut Entries<'_, u64, u64>, visited: &mut Vec<u64>) {
-    let entry = given!(rt; cursor.next().ok_or("no entry"));
+    let mut entry = given!(rt; cursor.next().ok_or("no entry"));
     given!(rt; visited.push(*entry.key()));
-    change_by_value(entry);
+    match *entry.get() {
+        0 => {
+            entry.remove();
+        }
+        1 => {
+            entry.insert(0);
+        }
+        2 => *entry.get_mut() = 0,
+        _ => {}
+    }
 }
 
 /// Visits every entry so, and returns the keys.

@@ -51,21 +51,10 @@ fn assert_owned(rt: &impl Abort, alloc: Global, mut map: LinkedHashMap<u64, u64>
     assert_walk(rt, map_of(rt, alloc, &owned).into_iter(), word, &owned);
 }
 
-/// The word of five calls that a number has in its last five bits.
-fn word_of(number: u32) -> [bool; 5] {
-    [
-        number & 1 != 0,
-        number & 2 != 0,
-        number & 4 != 0,
-        number & 8 != 0,
-        number & 16 != 0,
-    ]
-}
-
 /// Checks each iterator by each word of five calls.
 fn assert_words(rt: &impl Abort, alloc: Global) {
     for number in 0..32u32 {
-        let word = word_of(number);
+        let word = [1, 2, 4, 8, 16].map(|call| number & call != 0);
         let map = map_of(rt, alloc, &[(1, 10), (2, 20), (3, 30)]);
         assert_borrowed(rt, &map, &word);
         assert_owned(rt, alloc, map, &word);

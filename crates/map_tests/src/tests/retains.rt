@@ -14,11 +14,6 @@ use std::process::Abort;
 
 static PAIRS: [(u64, u64); 5] = [(3, 30), (1, 10), (4, 40), (2, 20), (5, 50)];
 
-/// Keeps the pairs that have one of these keys, by a closure that reads the key alone.
-fn retain_keys<S: BuildHasher>(map: &mut LinkedHashMap<u64, u64, S>, keys: &[u64]) {
-    map.retain(|key, _value| keys.contains(key));
-}
-
 #[test]
 fn keeps_what_the_closure_accepts(rt: HostRuntime) {
     let mut map = map_of(&rt, rt.alloc(), &PAIRS);
@@ -43,7 +38,7 @@ fn keeps_by_the_value(rt: HostRuntime) {
 #[test]
 fn removes_neighbours(rt: HostRuntime) {
     let mut map = map_of(&rt, rt.alloc(), &PAIRS);
-    retain_keys(&mut map, &[3, 5]);
+    map.retain(|key, _value| *key == 3 || *key == 5);
     assert_pairs(&rt, &map, &[(3, 30), (5, 50)]);
     assert_ends(&rt, &map, Some((&3, &30)), Some((&5, &50)));
 }
@@ -51,7 +46,7 @@ fn removes_neighbours(rt: HostRuntime) {
 #[test]
 fn removes_both_ends(rt: HostRuntime) {
     let mut map = map_of(&rt, rt.alloc(), &PAIRS);
-    retain_keys(&mut map, &[1, 2, 4]);
+    map.retain(|key, _value| *key != 3 && *key != 5);
     assert_pairs(&rt, &map, &[(1, 10), (4, 40), (2, 20)]);
     assert_ends(&rt, &map, Some((&1, &10)), Some((&2, &20)));
 }
@@ -59,7 +54,7 @@ fn removes_both_ends(rt: HostRuntime) {
 #[test]
 fn keeps_all(rt: HostRuntime) {
     let mut map = map_of(&rt, rt.alloc(), &PAIRS);
-    retain_keys(&mut map, &[1, 2, 3, 4, 5]);
+    map.retain(|_key, _value| true);
     assert_pairs(&rt, &map, &PAIRS);
     assert_sizes(&rt, &map, 5, 5);
 }
@@ -67,7 +62,7 @@ fn keeps_all(rt: HostRuntime) {
 #[test]
 fn removes_all(rt: HostRuntime) {
     let mut map = map_of(&rt, rt.alloc(), &PAIRS);
-    retain_keys(&mut map, &[]);
+    map.retain(|_key, _value| false);
     assert_empty(&rt, &map);
     assert_sizes(&rt, &map, 0, 5);
     check_insert(&rt, &mut map, 4, 41, None);
@@ -77,7 +72,7 @@ fn removes_all(rt: HostRuntime) {
 #[test]
 fn does_nothing_to_an_empty_map(rt: HostRuntime) {
     let mut map = map_of(&rt, rt.alloc(), &[]);
-    retain_keys(&mut map, &[]);
+    map.retain(|_key, _value| false);
     assert_sizes(&rt, &map, 0, 0);
     check_insert(&rt, &mut map, 1, 10, None);
     assert_pairs(&rt, &map, &[(1, 10)]);
@@ -161,7 +156,7 @@ fn compares_and_hashes_no_key(rt: HostRuntime) {
 fn retain_under<S: BuildHasher + Drop>(rt: &impl Abort, alloc: Global, builder: S) {
     let mut map = LinkedHashMap::with_hasher(alloc, builder);
     insert_all(rt, &mut map, &PAIRS);
-    retain_keys(&mut map, &[3, 4, 5]);
+    map.retain(|key, _value| *key != 1 && *key != 2);
     assert_get(rt, &map, &3, Some(&30));
     assert_get(rt, &map, &1, None);
     assert_get(rt, &map, &4, Some(&40));
@@ -179,7 +174,7 @@ fn keeps_one_chain(rt: HostRuntime) {
 fn retain_in(rt: &impl Abort, alloc: Global, mode: Mode, expected: &[(u64, u64)]) {
     let mut map = map_of(rt, alloc, &PAIRS);
     map.set_mode(mode);
-    retain_keys(&mut map, &[1, 2, 3, 5]);
+    map.retain(|key, _value| *key != 4);
     check_eq!(rt; map.mode(), mode);
     check_insert(rt, &mut map, 1, 11, Some(10));
     assert_pairs(rt, &map, expected);
@@ -213,7 +208,7 @@ fn ends_a_visit(rt: HostRuntime) {
     let mut map = map_of(&rt, rt.alloc(), &PAIRS);
     begin_visit(&rt, &mut map);
     check_eq!(rt; map.unvisited(), 4);
-    retain_keys(&mut map, &[2, 3, 4, 5]);
+    map.retain(|key, _value| *key != 1);
     check_eq!(rt; map.unvisited(), 0);
     check!(rt; map.next_entry().is_none());
     assert_pairs(&rt, &map, &[(4, 40), (2, 20), (5, 50), (3, 31)]);

@@ -1,7 +1,6 @@
 //! Visits of a map by its own reference.
 use super::calls::{assert_empty, assert_get, check_pop_front, insert_all};
 use super::checks::{check, check_eq, given};
-use super::cursor::{assert_entry, change_by_value, insert_by, remove_by, write_by};
 use super::{assert_pairs, map_of};
 use linked_hash_map::LinkedHashMap;
 use std::alloc::Global;
@@ -12,13 +11,14 @@ use std::process::Abort;
 /// Checks the key and the value of the next entry.
 fn visit(rt: &impl Abort, entries: &mut LinkedHashMap<u64, u64>, key: u64, value: u64) {
     let entry = given!(rt; entries.next_entry().ok_or("no entry"));
-    assert_entry(rt, &entry, key, value);
+    check_eq!(rt; (*entry.key(), *entry.get()), (key, value));
 }
 
 /// Checks the key of the next entry, and takes its pair out.
 fn visit_remove(rt: &impl Abort, entries: &mut LinkedHashMap<u64, u64>, key: u64, value: u64) {
     let entry = given!(rt; entries.next_entry().ok_or("no entry"));
-    remove_by(rt, entry, key, value);
+    check_eq!(rt; *entry.key(), key);
+    check_eq!(rt; entry.remove(), value);
 }
 
 /// Checks the key of the next entry, and inserts a value there.
@@ -29,8 +29,9 @@ fn visit_insert(
     value: u64,
     old: u64,
 ) {
-    let entry = given!(rt; entries.next_entry().ok_or("no entry"));
-    insert_by(rt, entry, key, value, old);
+    let mut entry = given!(rt; entries.next_entry().ok_or("no entry"));
+    check_eq!(rt; *entry.key(), key);
+    check_eq!(rt; entry.insert(value), old);
 }
 
 /// Checks the key of the next entry, and writes its value in its place.
@@ -40,8 +41,9 @@ fn visit_write<K: Eq + Hash + Debug>(
     key: &K,
     value: u64,
 ) {
-    let entry = given!(rt; entries.next_entry().ok_or("no entry"));
-    write_by(rt, entry, key, value);
+    let mut entry = given!(rt; entries.next_entry().ok_or("no entry"));
+    check_eq!(rt; entry.key(), key);
+    *entry.get_mut() = value;
 }
 
 /// Checks how many pairs a visit has still to come to.
@@ -144,9 +146,18 @@ fn an_extension_by_a_new_key_leaves_a_visit(rt: HostRuntime) {
 /// Notes the key of the next entry, and then takes its pair out, moves it, writes its value or
 /// leaves it, as its value says.
 fn visit_by_value(rt: &impl Abort, entries: &mut LinkedHashMap<u64, u64>, visited: &mut Vec<u64>) {
-    let entry = given!(rt; entries.next_entry().ok_or("no entry"));
+    let mut entry = given!(rt; entries.next_entry().ok_or("no entry"));
     given!(rt; visited.push(*entry.key()));
-    change_by_value(entry);
+    match *entry.get() {
+        0 => {
+            entry.remove();
+        }
+        1 => {
+            entry.insert(0);
+        }
+        2 => *entry.get_mut() = 0,
+        _ => {}
+    }
 }
 
 /// Visits every entry so, and returns the keys.

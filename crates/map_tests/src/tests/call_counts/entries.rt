@@ -2,39 +2,34 @@
 
 use super::{CallMap, KINDS, Kind, check_calls, lookup_of, map_of_kind};
 use crate::tests::checks::check;
-use crate::tests::counted_calls::{Builder, Calls, Key, key_of, lookup, new_counts};
-use linked_hash_map::{Entry, OccupiedEntry};
+use crate::tests::counted_calls::{Calls, Key, key_of, lookup, new_counts};
+use linked_hash_map::Entry;
 use std::alloc::Global;
 use std::process::Abort;
 
-/// Makes the entry of a key.
-fn entry_of<'m>(rt: &impl Abort, map: &'m mut CallMap, key: &Key) -> Entry<'m, Key, u64, Builder> {
-    map.entry(key.again(rt))
-}
-
 /// Makes the entry of a key, and makes the calls of either kind of entry that leave the pairs.
 fn enter(rt: &impl Abort, map: &mut CallMap, key: &Key, wanted: Calls) {
-    check_calls!(rt; key.counts, entry_of(rt, map, key), wanted);
-    check_calls!(rt; key.counts, entry_of(rt, map, key).key().number, wanted);
-    check_calls!(rt; key.counts, entry_of(rt, map, key).and_modify(|value| *value = 1), wanted);
+    check_calls!(rt; key.counts, map.entry(key.again(rt)), wanted);
+    check_calls!(rt; key.counts, map.entry(key.again(rt)).key().number, wanted);
+    check_calls!(rt; key.counts, map.entry(key.again(rt)).and_modify(|value| *value = 1), wanted);
 }
 
 /// Makes the calls that insert an absent key.
 fn or_insert(rt: &impl Abort, map: &mut CallMap, key: &Key, wanted: Calls) {
-    check_calls!(rt; key.counts, entry_of(rt, map, key).or_insert(1).is_ok(), wanted);
+    check_calls!(rt; key.counts, map.entry(key.again(rt)).or_insert(1).is_ok(), wanted);
 }
 
 fn or_insert_with(rt: &impl Abort, map: &mut CallMap, key: &Key, wanted: Calls) {
-    check_calls!(rt; key.counts, entry_of(rt, map, key).or_insert_with(|| 1).is_ok(), wanted);
+    check_calls!(rt; key.counts, map.entry(key.again(rt)).or_insert_with(|| 1).is_ok(), wanted);
 }
 
 fn or_default(rt: &impl Abort, map: &mut CallMap, key: &Key, wanted: Calls) {
-    check_calls!(rt; key.counts, entry_of(rt, map, key).or_default().is_ok(), wanted);
+    check_calls!(rt; key.counts, map.entry(key.again(rt)).or_default().is_ok(), wanted);
 }
 
 /// Inserts a key through its vacant entry.
 fn insert_vacant(rt: &impl Abort, map: &mut CallMap, key: &Key) -> bool {
-    match entry_of(rt, map, key) {
+    match map.entry(key.again(rt)) {
         Entry::Vacant(entry) => entry.key().number == key.number && entry.insert(1).is_ok(),
         Entry::Occupied(_entry) => false,
     }
@@ -42,23 +37,21 @@ fn insert_vacant(rt: &impl Abort, map: &mut CallMap, key: &Key) -> bool {
 
 /// Makes the calls of an occupied entry that leave its pair.
 fn use_occupied(rt: &impl Abort, map: &mut CallMap, key: &Key) -> u64 {
-    match entry_of(rt, map, key) {
+    match map.entry(key.again(rt)) {
         Entry::Vacant(_entry) => 0,
-        Entry::Occupied(entry) => write_occupied(entry),
+        Entry::Occupied(mut entry) => {
+            let number = entry.key().number;
+            *entry.get_mut() = number;
+            let old = entry.insert(1);
+            *entry.into_mut() = old;
+            old
+        }
     }
-}
-
-fn write_occupied(mut entry: OccupiedEntry<'_, Key, u64, Builder>) -> u64 {
-    let number = entry.key().number;
-    *entry.get_mut() = number;
-    let old = entry.insert(1);
-    *entry.into_mut() = old;
-    old
 }
 
 /// Removes a key by its occupied entry.
 fn remove_occupied(rt: &impl Abort, map: &mut CallMap, key: &Key) -> bool {
-    match entry_of(rt, map, key) {
+    match map.entry(key.again(rt)) {
         Entry::Vacant(_entry) => false,
         Entry::Occupied(entry) => {
             let value = *entry.get();

@@ -1,6 +1,6 @@
 //! Calls that look a key up, once.
 
-use super::{CallMap, KINDS, Kind, check_calls, is_inserted, lookup_of, map_of_kind};
+use super::{CallMap, KINDS, Kind, check_calls, lookup_of, map_of_kind};
 use crate::tests::checks::{check, check_eq};
 use crate::tests::counted_calls::{Calls, Key, NONE, key_of, lookup, new_counts};
 use linked_hash_map::Mode;
@@ -16,17 +16,13 @@ fn look_up(rt: &impl Abort, map: &mut CallMap, key: &Key, wanted: Calls) {
     check_calls!(rt; key.counts, map.get_refresh(key), wanted);
 }
 
-fn remove(rt: &impl Abort, map: &mut CallMap, key: &Key, wanted: Calls) {
-    check_calls!(rt; key.counts, map.remove(key), wanted);
-}
-
 /// Looks an absent key up, inserts it, and removes it.
 fn look_up_absent(rt: &impl Abort, map: &mut CallMap, key: &Key, wanted: Calls) {
     look_up(rt, map, key, wanted);
-    remove(rt, map, key, wanted);
-    check_calls!(rt; key.counts, is_inserted(rt, map, key), wanted);
+    check_calls!(rt; key.counts, map.remove(key), wanted);
+    check_calls!(rt; key.counts, map.insert(key.again(rt), 1).is_ok(), wanted);
     let present = lookup_of(rt, map, key);
-    remove(rt, map, key, present);
+    check_calls!(rt; key.counts, map.remove(key), present);
 }
 
 /// Indexes by a key that is present: two lookups with the one that shows so.
@@ -56,17 +52,17 @@ fn look_up_present(rt: &impl Abort, map: &mut CallMap, key: &Key) {
     look_up(rt, map, key, wanted);
     check_calls!(rt; key.counts, index(map, key), twice(wanted));
     check_calls!(rt; key.counts, index_mut(map, key), twice(wanted));
-    check_calls!(rt; key.counts, is_inserted(rt, map, key), wanted);
+    check_calls!(rt; key.counts, map.insert(key.again(rt), 1).is_ok(), wanted);
     map.set_mode(Mode::Keep);
-    check_calls!(rt; key.counts, is_inserted(rt, map, key), wanted);
+    check_calls!(rt; key.counts, map.insert(key.again(rt), 1).is_ok(), wanted);
     map.set_mode(Mode::Touch);
 }
 
 /// Removes a present key, and inserts it again.
 fn remove_present(rt: &impl Abort, map: &mut CallMap, key: &Key) {
     let wanted = lookup_of(rt, map, key);
-    remove(rt, map, key, wanted);
-    check!(rt; is_inserted(rt, map, key));
+    check_calls!(rt; key.counts, map.remove(key), wanted);
+    check!(rt; map.insert(key.again(rt), 1).is_ok());
 }
 
 /// Looks up each key of a map of a kind, and an absent one.

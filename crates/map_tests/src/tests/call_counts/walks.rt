@@ -2,8 +2,8 @@
 //! settings.
 
 use super::{CallMap, KINDS, Kind, check_calls, map_of_kind};
-use crate::tests::counted_calls::{Builder, Counts, Key, NONE, builder_of, new_counts};
-use linked_hash_map::{Entries, Mode};
+use crate::tests::counted_calls::{Counts, NONE, builder_of, new_counts};
+use linked_hash_map::Mode;
 use std::alloc::Global;
 use std::process::Abort;
 use std::rc::Rc;
@@ -40,18 +40,13 @@ fn sum(map: &CallMap) -> u64 {
     sum
 }
 
-/// Replaces the value of the next entry of a cursor.
-fn visit_next(cursor: &mut Entries<'_, Key, u64, Builder>) {
-    if let Some(mut entry) = cursor.next() {
-        entry.insert(1);
-    }
-}
-
 /// Replaces each value by a cursor.
 fn visit_all(map: &mut CallMap) {
     let mut cursor = map.entries();
     for _ in 0..cursor.remaining() {
-        visit_next(&mut cursor);
+        if let Some(mut entry) = cursor.next() {
+            entry.insert(1);
+        }
     }
 }
 
@@ -83,28 +78,16 @@ fn take_out(rt: &impl Abort, map: &mut CallMap, counts: &Rc<Counts>) {
     check_calls!(rt; counts, map.drain().next(), NONE);
 }
 
-fn take_first(rt: &impl Abort, map: CallMap, counts: &Rc<Counts>) {
-    check_calls!(rt; counts, map.into_iter().next(), NONE);
-}
-
-fn take_last(rt: &impl Abort, map: CallMap, counts: &Rc<Counts>) {
-    check_calls!(rt; counts, map.into_iter().next_back(), NONE);
-}
-
-fn drain_last(rt: &impl Abort, mut map: CallMap, counts: &Rc<Counts>) {
-    check_calls!(rt; counts, map.drain().next_back(), NONE);
-}
-
-fn drop_map(rt: &impl Abort, map: CallMap, counts: &Rc<Counts>) {
-    check_calls!(rt; counts, map, NONE);
-}
-
 /// Takes maps apart, and drops one.
 fn consume(rt: &impl Abort, alloc: Global, kind: &Kind, counts: &Rc<Counts>) {
-    take_first(rt, map_of_kind(rt, alloc, kind, counts), counts);
-    take_last(rt, map_of_kind(rt, alloc, kind, counts), counts);
-    drain_last(rt, map_of_kind(rt, alloc, kind, counts), counts);
-    drop_map(rt, map_of_kind(rt, alloc, kind, counts), counts);
+    let map = map_of_kind(rt, alloc, kind, counts);
+    check_calls!(rt; counts, map.into_iter().next(), NONE);
+    let map = map_of_kind(rt, alloc, kind, counts);
+    check_calls!(rt; counts, map.into_iter().next_back(), NONE);
+    let mut map = map_of_kind(rt, alloc, kind, counts);
+    check_calls!(rt; counts, map.drain().next_back(), NONE);
+    let map = map_of_kind(rt, alloc, kind, counts);
+    check_calls!(rt; counts, map, NONE);
 }
 
 fn walk_each(rt: &impl Abort, alloc: Global, kind: &Kind) {
