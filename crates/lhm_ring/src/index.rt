@@ -1,41 +1,23 @@
 //! Bucket chains through the nodes of a ring: the position of each key, by its hash.
 //!
 //! A node's chain link leads to the next node of its chain. Only the index of a ring sets it.
-ghost use Rattle.std.specs.Prelude.{◌≡◌, ◌+◌, ◌%◌, ◌<◌, ◌≤◌, ◌^◌, ◌∷◌, [], map, length, None, IfOk, IsOk, IfSome, IfNone, OnSome, slice_index_or, vec_len};
+ghost use Rattle.std.specs.Prelude.{◌≡◌, ◌%◌, ◌<◌, ◌≤◌, ◌^◌, [], map, length, None, IfOk, IsOk, IfSome, IfNone, slice_index_or};
 ghost use Rattle.std.specs.Int.{IsNextPowerOfTwo};
 ghost use Rattle.lhm_ring.specs.RingState.{IsHeld};
 ghost use Rattle.lhm_ring.specs.Positions.{pointer_of, pointer_of_some};
-ghost use Rattle.lhm_ring.specs.Index.{spot, spots, Indexes, same};
-ghost use Rattle.lhm_ring.specs.Search.{OfNodeAt, entries, Compares, FindsKey, FindsNone, HasKey, IsAbsent, CountsSome, CountsAll, HoldsOthers, IsEmptied, IsOnChain, Chains, HasNoChain};
+ghost use Rattle.lhm_ring.specs.Index.{spots, Indexes};
+ghost use Rattle.lhm_ring.specs.Search.{OfNodeAt, entries, HoldsOthers, IsEmptied, IsOnChain, HasNoChain};
 ghost use Rattle.lhm_ring.specs.Buckets.{buckets, IsBucketCount};
 
 use crate::heads::{Head, chain_all, chain_one, clear_heads, empty_heads, free_heads, masked};
 use crate::link::Link;
 use crate::position::Position;
 use crate::ring::Ring;
+use crate::search::Found;
+pub use crate::search::Probe;
 use std::alloc::{AllocError, Global};
 use std::marker::{Model, PhantomData};
 use std::mem;
-
-/// The counts of a lookup.
-///
-/// # Examples
-///
-/// ```rust
-/// use linked_hash_map::LinkedHashMap;
-///
-/// let mut map = LinkedHashMap::new(rt.alloc());
-/// map.insert('x', 1)?;
-/// let (value, probe) = map.get_counted(&'x');
-/// assert_eq!(rt; (value, probe.visited, probe.compared), (Some(&1), 1, 1));
-/// ```
-#[derive(Clone, Copy, Debug, PartialEq)]
-pub struct Probe {
-    /// The number of nodes reached along the chain.
-    pub visited: usize,
-    /// The number of comparisons of keys.
-    pub compared: usize,
-}
 
 /// The bucket chains of a ring, by their heads.
 ///
@@ -59,38 +41,6 @@ impl<K, V> Model for Index<K, V> {
     ghost view = { λ i. map leads_to i.heads.items };
 
     ghost invariant = { λ i. IsBucketCount (length i.heads.items) };
-}
-
-/// A node that a search found.
-#[derive(Drop)]
-struct Found<K, V> {
-    /// The node before it on its chain, or `None` if it is the first.
-    before: Option<Position<K, V>>,
-    at: Position<K, V>,
-}
-
-/// Counts a node that is reached, and returns whether it has the hash and the key. Keys are
-/// compared only if the hashes are equal.
-fn step<K: Eq, V>(
-    ring: &Ring<K, V>,
-    at: Position<K, V>,
-    hash: u64,
-    key: &K,
-    probe: &mut Probe,
-) -> bool
-    requires held { IsHeld ring.now.held (pointer_of at) }
-    requires no_overflow { probe.old.visited + 1 < 2 ^ 64 }
-    requires order { probe.old.compared ≤ probe.old.visited }
-    ensures visited { probe.new.visited ≡ probe.old.visited + 1 }
-    ensures compared { OfNodeAt ring.now.held (pointer_of at) (λ x. probe.new.compared ≡ probe.old.compared + same (spot x ∷ []) hash) }
-    ensures found { OfNodeAt ring.now.held (pointer_of at) (λ x. Compares K.eq hash key.now x result) }
-{
-    probe.visited += 1;
-    if ring.hash(at) != hash {
-        return false;
-    }
-    probe.compared += 1;
-    key == ring.key(at)
 }
 
 impl<K, V> Index<K, V> {
@@ -127,7 +77,7 @@ impl<K, V> Index<K, V> {
     }
 
     /// Returns the head of the chain of a hash.
-    fn head(&self, hash: u64) -> Option<Position<K, V>>
+    pub(crate) fn head(&self, hash: u64) -> Option<Position<K, V>>
         ensures { pointer_of_some result ≡ slice_index_or self.now (hash % length self.now) None }
     {
         match self.bucket(hash) {
@@ -137,7 +87,7 @@ impl<K, V> Index<K, V> {
     }
 
     /// Returns the head of the chain of a bucket.
-    fn head_of(&self, bucket: usize) -> Option<Position<K, V>>
+    pub(crate) fn head_of(&self, bucket: usize) -> Option<Position<K, V>>
         requires { bucket < length self.now }
         ensures { pointer_of_some result ≡ slice_index_or self.now bucket None }
     {
@@ -171,7 +121,12 @@ impl<K, V> Index<K, V> {
     }
 
     /// Removes a node from its chain, and returns its bucket if that has no node any more.
-    fn unchain(&mut self, ring: &mut Ring<K, V>, hash: u64, found: Found<K, V>) -> Option<usize>
+    pub(crate) fn unchain(
+        &mut self,
+        ring: &mut Ring<K, V>,
+        hash: u64,
+        found: Found<K, V>,
+    ) -> Option<usize>
         requires indexed { Indexes self.old (spots ring.old.held) }
         requires on_chain { IsOnChain self.old hash (spots ring.old.held) (pointer_of_some found.before) (pointer_of found.at) }
         ensures emptied { IfSome result (IsEmptied self.new hash) }
@@ -267,110 +222,6 @@ impl<K, V> Index<K, V> {
     pub fn free(self) {
         let Index { heads, marker: _ } = self;
         free_heads(heads);
-    }
-}
-
-impl<K: Eq, V> Index<K, V> {
-    /// Follows the chain of the hash from its head to the node with the key, as every lookup does.
-    fn search(
-        &self,
-        ring: &Ring<K, V>,
-        head: Option<Position<K, V>>,
-        hash: u64,
-        key: &K,
-    ) -> (Option<Found<K, V>>, Probe)
-        requires head { pointer_of_some head ≡ slice_index_or self.now (hash % length self.now) None }
-        requires indexed { Indexes self.now (spots ring.now.held) }
-        requires small { length ring.now.held < 2 ^ 64 }
-        ensures found { IfSome result.0 (λ f. FindsKey K.eq hash key.now self.now ring.now.held (pointer_of_some f.before) (pointer_of f.at) result.1.visited result.1.compared) }
-        ensures absent { IfNone result.0 (FindsNone K.eq hash key.now self.now ring.now.held result.1.visited result.1.compared) }
-    {
-        let mut probe = Probe {
-            visited: 0,
-            compared: 0,
-        };
-        let mut before = None;
-        let mut pointer = head;
-        while let Some(at) = pointer {
-            if step(ring, at, hash, key, &mut probe) {
-                return (Some(Found { before, at }), probe);
-            }
-            before = pointer;
-            pointer = ring.link(at);
-        }
-        (None, probe)
-    }
-
-    /// Returns the position of the node with this hash and this key, and the counts of the lookup.
-    ///
-    /// For an absent key each node of the chain is reached, and each with this hash compared. It
-    /// does not allocate.
-    pub fn find(&self, ring: &Ring<K, V>, hash: u64, key: &K) -> (Option<Position<K, V>>, Probe)
-        requires indexed { Indexes self.now (spots ring.now.held) }
-        requires small { length ring.now.held < 2 ^ 64 }
-        ensures found { IfSome result.0 (λ p. HasKey K.eq hash key.now ring.now.held (pointer_of p)) }
-        ensures absent { IfNone result.0 (IsAbsent K.eq hash key.now ring.now.held) }
-        ensures counts_found { OnSome result.0 (CountsSome (spots ring.now.held) (length self.now) hash result.1.visited result.1.compared) }
-        ensures counts_absent { IfNone result.0 (CountsAll (spots ring.now.held) (length self.now) hash result.1.visited result.1.compared) }
-    {
-        let (found, probe) = self.search(ring, self.head(hash), hash, key);
-        match found {
-            Some(found) => (Some(found.at), probe),
-            None => (None, probe),
-        }
-    }
-
-    /// Returns the position of the node with this hash, whose bucket is given, and this key.
-    pub(crate) fn find_in(
-        &self,
-        ring: &Ring<K, V>,
-        bucket: usize,
-        hash: u64,
-        key: &K,
-    ) -> Option<Position<K, V>>
-        requires of_hash { bucket ≡ hash % length self.now }
-        requires within { bucket < length self.now }
-        requires indexed { Indexes self.now (spots ring.now.held) }
-        requires small { length ring.now.held < 2 ^ 64 }
-        ensures found { IfSome result (λ p. HasKey K.eq hash key.now ring.now.held (pointer_of p)) }
-        ensures absent { IfNone result (IsAbsent K.eq hash key.now ring.now.held) }
-    {
-        match self.search(ring, self.head_of(bucket), hash, key).0 {
-            Some(found) => Some(found.at),
-            None => None,
-        }
-    }
-
-    /// Removes the node with this hash and this key from its chain, and returns its position, and
-    /// its bucket if that has no node any more. Of the ring only chain links change, and nothing if
-    /// the key is absent. It does not allocate.
-    pub fn take_out(
-        &mut self,
-        ring: &mut Ring<K, V>,
-        hash: u64,
-        key: &K,
-    ) -> Option<(Position<K, V>, Option<usize>)>
-        requires indexed { Indexes self.old (spots ring.old.held) }
-        requires small { length ring.old.held < 2 ^ 64 }
-        ensures found { IfSome result (λ taken. HasKey K.eq hash key.now ring.new.held (pointer_of taken.0)) }
-        ensures emptied { IfSome result (λ taken. IfSome taken.1 (IsEmptied self.new hash)) }
-        ensures lacks { IfSome result (λ taken. HoldsOthers self.new ring.new.held (pointer_of taken.0)) }
-        ensures absent { IfNone result (IsAbsent K.eq hash key.now ring.old.held) }
-        ensures unchanged { IfNone result (self.new ≡ self.old) }
-        ensures ring_unchanged { IfNone result (ring.new ≡ ring.old) }
-        ensures held { entries ring.new.held ≡ entries ring.old.held }
-        ensures spares { ring.new.spares ≡ ring.old.spares }
-        ensures buckets { length self.new ≡ length self.old }
-    {
-        let (found, _) = self.search(ring, self.head(hash), hash, key);
-        match found {
-            Some(found) => {
-                let at = found.at;
-                let emptied = self.unchain(ring, hash, found);
-                Some((at, emptied))
-            }
-            None => None,
-        }
     }
 }
 

@@ -10,6 +10,7 @@ pub(crate) mod value_loan;
 
 // Safe code over these, with no proof by hand.
 pub(crate) mod access;
+pub(crate) mod buckets;
 pub(crate) mod drain;
 pub(crate) mod filter;
 pub(crate) mod grow;
@@ -25,5 +26,6 @@ pub(crate) mod position;
 pub(crate) mod resize;
 pub(crate) mod retain;
 pub mod ring;
+pub(crate) mod search;
 pub(crate) mod splice;
 pub mod table;

@@ -2,8 +2,9 @@
 ghost use Rattle.std.specs.Prelude.{◌≡◌, ◌+◌, ◌<◌, ◌≤◌, ◌^◌, [], length, OnOk, OnErr};
 ghost use Rattle.lhm_ring.specs.Buckets.{buckets, rechained_raised, rechained_lowered, rechained_fitted};
 
+use crate::buckets::with_filter;
 use crate::index::buckets_for;
-use crate::table::{Table, with_filter};
+use crate::table::Table;
 use std::alloc::AllocError;
 use std::mem;
 

@@ -1,15 +1,16 @@
 //! Pairs in insertion order with a hash index of their keys: a ring and its index, kept in step.
-ghost use Rattle.std.specs.Prelude.{◌≡◌, ◌≢◌, ◌==◌, ◌+◌, ◌%◌, ◌<◌, ◌≤◌, ◌^◌, ◌++◌, ◌∷◌, [], length, map, None, IfOk, IsOk, IfSome, IfNone, OnSome, IsFalse, ℕ};
+ghost use Rattle.std.specs.Prelude.{◌≡◌, ◌+◌, ◌<◌, ◌≤◌, ◌^◌, ◌++◌, ◌∷◌, [], length, map, None, IfOk, IsOk, IfSome, IfNone, OnSome, IsFalse};
 ghost use Rattle.lhm_ring.specs.Cells.{IsApart};
 ghost use Rattle.lhm_ring.specs.RingState.{IsHeld, AtHeld, first_at, last_at, held};
 ghost use Rattle.lhm_ring.specs.RingAfterLoan.{pair};
 ghost use Rattle.lhm_ring.specs.Positions.{pointer_of, pointer_of_some};
-ghost use Rattle.lhm_ring.specs.Index.{spots, Indexes};
-ghost use Rattle.lhm_ring.specs.Search.{entries, HasKey, IsAbsent, CountsSome, CountsAll, HasNoChain};
+ghost use Rattle.lhm_ring.specs.Index.{spots};
+ghost use Rattle.lhm_ring.specs.Search.{entries, HasKey, IsAbsent, CountsSome, CountsAll};
 ghost use Rattle.lhm_ring.specs.Buckets.{buckets};
 ghost use Rattle.lhm_ring.specs.Filters.{may_contain, LacksHash};
 ghost use Rattle.lhm_ring.specs.Tables.{Removes, WritesOnly};
 
+use crate::buckets::{clear_emptied, empty_chains, with_filter};
 use crate::filter::Filter;
 use crate::index::Index;
 pub use crate::index::Probe;
@@ -47,57 +48,6 @@ impl<K, V> Model for Table<K, V> {
     ghost view = { λ t. table_of t.ring t.rechained };
 
     ghost invariant = { λ t. IsTable t.index t.filter t.ring t.rechained };
-}
-
-/// Empties the chains of an index and clears its filter, in O(n) for the buckets. If the ring is
-/// empty, so are the chains.
-fn empty_chains<K, V>(index: &mut Index<K, V>, filter: &mut Filter, ring: &Ring<K, V>)
-    requires { Indexes index.old (spots ring.now.held) }
-    ensures empty { HasNoChain index.new }
-    ensures buckets { length index.new ≡ length index.old }
-    ensures words { length filter.new ≡ length filter.old }
-{
-    if ring.len() == 0 {
-        return;
-    }
-    index.forget_all();
-    filter.clear();
-}
-
-/// Clears the bits of a bucket that has no node any more.
-fn clear_emptied(filter: &mut Filter, emptied: Option<usize>)
-    requires { IfSome emptied (λ b. b < length filter.old) }
-    ensures others { IfSome emptied (λ b. (other : ℕ) → other % length filter.old ≢ b → may_contain filter.new other ≡ may_contain filter.old other) }
-    ensures same { IfNone emptied (filter.new ≡ filter.old) }
-    ensures words { length filter.new ≡ length filter.old }
-{
-    match emptied {
-        Some(bucket) => filter.clear_bucket(bucket),
-        None => {}
-    }
-}
-
-/// Allocates an index of empty buckets for a capacity, and its filter, in O(n). For capacity 0 it
-/// does not allocate and never fails.
-pub(crate) fn with_filter<K, V>(
-    alloc: Global,
-    capacity: usize,
-) -> Result<(Index<K, V>, Filter), AllocError>
-    requires { capacity ≤ 2 ^ 59 }
-    ensures buckets { IfOk result (λ fresh. length fresh.0 ≡ buckets capacity) }
-    ensures words { IfOk result (λ fresh. length fresh.1 ≡ length fresh.0) }
-    ensures enough { IfOk result (λ fresh. capacity ≤ length fresh.0) }
-    ensures empty { IfOk result (λ fresh. HasNoChain fresh.0) }
-    ensures succeeds { capacity ≡ 0 → IsOk result }
-{
-    let index = Index::with_buckets(alloc, capacity)?;
-    match Filter::with_buckets(alloc, index.buckets()) {
-        Ok(filter) => Ok((index, filter)),
-        Err(refused) => {
-            index.free();
-            Err(refused)
-        }
-    }
 }
 
 impl<K, V> Table<K, V> {

@@ -2,7 +2,7 @@ use Rattle.std.proofs.Common.{sym, subst, ◌∙◌}
 use Rattle.std.proofs.lemmas.List.{nil_from_length}
 use Rattle.lhm_ring.specs.Index.{spots, Indexes}
 use Rattle.lhm_ring.proofs.Chains.{Indexes-unchained}
-use Rattle.lhm_ring.proofs.table.empty_chains.Goals as goal
+use Rattle.lhm_ring.proofs.buckets.empty_chains.Goals as goal
 
 pub returns-then-len-eq0-clause-empty : goal.returns-then-len-eq0-clause-empty
 returns-then-len-eq0-clause-empty g c =

@@ -1,0 +1,166 @@
+//! Searches along the chain of a hash for a key, and what they count.
+ghost use Rattle.std.specs.Prelude.{◌≡◌, ◌+◌, ◌%◌, ◌<◌, ◌≤◌, ◌^◌, ◌∷◌, [], length, None, IfSome, IfNone, OnSome, slice_index_or};
+ghost use Rattle.lhm_ring.specs.RingState.{IsHeld};
+ghost use Rattle.lhm_ring.specs.Positions.{pointer_of, pointer_of_some};
+ghost use Rattle.lhm_ring.specs.Index.{spot, spots, Indexes, same};
+ghost use Rattle.lhm_ring.specs.Search.{OfNodeAt, entries, Compares, FindsKey, FindsNone, HasKey, IsAbsent, CountsSome, CountsAll, HoldsOthers, IsEmptied};
+
+use crate::index::Index;
+use crate::position::Position;
+use crate::ring::Ring;
+
+/// The counts of a lookup.
+///
+/// # Examples
+///
+/// ```rust
+/// use linked_hash_map::LinkedHashMap;
+///
+/// let mut map = LinkedHashMap::new(rt.alloc());
+/// map.insert('x', 1)?;
+/// let (value, probe) = map.get_counted(&'x');
+/// assert_eq!(rt; (value, probe.visited, probe.compared), (Some(&1), 1, 1));
+/// ```
+#[derive(Clone, Copy, Debug, PartialEq)]
+pub struct Probe {
+    /// The number of nodes reached along the chain.
+    pub visited: usize,
+    /// The number of comparisons of keys.
+    pub compared: usize,
+}
+
+/// A node that a search found.
+#[derive(Drop)]
+pub(crate) struct Found<K, V> {
+    /// The node before it on its chain, or `None` if it is the first.
+    pub(crate) before: Option<Position<K, V>>,
+    pub(crate) at: Position<K, V>,
+}
+
+/// Counts a node that is reached, and returns whether it has the hash and the key. Keys are
+/// compared only if the hashes are equal.
+fn step<K: Eq, V>(
+    ring: &Ring<K, V>,
+    at: Position<K, V>,
+    hash: u64,
+    key: &K,
+    probe: &mut Probe,
+) -> bool
+    requires held { IsHeld ring.now.held (pointer_of at) }
+    requires no_overflow { probe.old.visited + 1 < 2 ^ 64 }
+    requires order { probe.old.compared ≤ probe.old.visited }
+    ensures visited { probe.new.visited ≡ probe.old.visited + 1 }
+    ensures compared { OfNodeAt ring.now.held (pointer_of at) (λ x. probe.new.compared ≡ probe.old.compared + same (spot x ∷ []) hash) }
+    ensures found { OfNodeAt ring.now.held (pointer_of at) (λ x. Compares K.eq hash key.now x result) }
+{
+    probe.visited += 1;
+    if ring.hash(at) != hash {
+        return false;
+    }
+    probe.compared += 1;
+    key == ring.key(at)
+}
+
+impl<K: Eq, V> Index<K, V> {
+    /// Follows the chain of the hash from its head to the node with the key, as every lookup does.
+    fn search(
+        &self,
+        ring: &Ring<K, V>,
+        head: Option<Position<K, V>>,
+        hash: u64,
+        key: &K,
+    ) -> (Option<Found<K, V>>, Probe)
+        requires head { pointer_of_some head ≡ slice_index_or self.now (hash % length self.now) None }
+        requires indexed { Indexes self.now (spots ring.now.held) }
+        requires small { length ring.now.held < 2 ^ 64 }
+        ensures found { IfSome result.0 (λ f. FindsKey K.eq hash key.now self.now ring.now.held (pointer_of_some f.before) (pointer_of f.at) result.1.visited result.1.compared) }
+        ensures absent { IfNone result.0 (FindsNone K.eq hash key.now self.now ring.now.held result.1.visited result.1.compared) }
+    {
+        let mut probe = Probe {
+            visited: 0,
+            compared: 0,
+        };
+        let mut before = None;
+        let mut pointer = head;
+        while let Some(at) = pointer {
+            if step(ring, at, hash, key, &mut probe) {
+                return (Some(Found { before, at }), probe);
+            }
+            before = pointer;
+            pointer = ring.link(at);
+        }
+        (None, probe)
+    }
+
+    /// Returns the position of the node with this hash and this key, and the counts of the lookup.
+    ///
+    /// For an absent key each node of the chain is reached, and each with this hash compared. It
+    /// does not allocate.
+    pub fn find(&self, ring: &Ring<K, V>, hash: u64, key: &K) -> (Option<Position<K, V>>, Probe)
+        requires indexed { Indexes self.now (spots ring.now.held) }
+        requires small { length ring.now.held < 2 ^ 64 }
+        ensures found { IfSome result.0 (λ p. HasKey K.eq hash key.now ring.now.held (pointer_of p)) }
+        ensures absent { IfNone result.0 (IsAbsent K.eq hash key.now ring.now.held) }
+        ensures counts_found { OnSome result.0 (CountsSome (spots ring.now.held) (length self.now) hash result.1.visited result.1.compared) }
+        ensures counts_absent { IfNone result.0 (CountsAll (spots ring.now.held) (length self.now) hash result.1.visited result.1.compared) }
+    {
+        let (found, probe) = self.search(ring, self.head(hash), hash, key);
+        match found {
+            Some(found) => (Some(found.at), probe),
+            None => (None, probe),
+        }
+    }
+
+    /// Returns the position of the node with this hash, whose bucket is given, and this key.
+    pub(crate) fn find_in(
+        &self,
+        ring: &Ring<K, V>,
+        bucket: usize,
+        hash: u64,
+        key: &K,
+    ) -> Option<Position<K, V>>
+        requires of_hash { bucket ≡ hash % length self.now }
+        requires within { bucket < length self.now }
+        requires indexed { Indexes self.now (spots ring.now.held) }
+        requires small { length ring.now.held < 2 ^ 64 }
+        ensures found { IfSome result (λ p. HasKey K.eq hash key.now ring.now.held (pointer_of p)) }
+        ensures absent { IfNone result (IsAbsent K.eq hash key.now ring.now.held) }
+    {
+        match self.search(ring, self.head_of(bucket), hash, key).0 {
+            Some(found) => Some(found.at),
+            None => None,
+        }
+    }
+
+    /// Removes the node with this hash and this key from its chain, and returns its position, and
+    /// its bucket if that has no node any more. Of the ring only chain links change, and nothing if
+    /// the key is absent. It does not allocate.
+    pub fn take_out(
+        &mut self,
+        ring: &mut Ring<K, V>,
+        hash: u64,
+        key: &K,
+    ) -> Option<(Position<K, V>, Option<usize>)>
+        requires indexed { Indexes self.old (spots ring.old.held) }
+        requires small { length ring.old.held < 2 ^ 64 }
+        ensures found { IfSome result (λ taken. HasKey K.eq hash key.now ring.new.held (pointer_of taken.0)) }
+        ensures emptied { IfSome result (λ taken. IfSome taken.1 (IsEmptied self.new hash)) }
+        ensures lacks { IfSome result (λ taken. HoldsOthers self.new ring.new.held (pointer_of taken.0)) }
+        ensures absent { IfNone result (IsAbsent K.eq hash key.now ring.old.held) }
+        ensures unchanged { IfNone result (self.new ≡ self.old) }
+        ensures ring_unchanged { IfNone result (ring.new ≡ ring.old) }
+        ensures held { entries ring.new.held ≡ entries ring.old.held }
+        ensures spares { ring.new.spares ≡ ring.old.spares }
+        ensures buckets { length self.new ≡ length self.old }
+    {
+        let (found, _) = self.search(ring, self.head(hash), hash, key);
+        match found {
+            Some(found) => {
+                let at = found.at;
+                let emptied = self.unchain(ring, hash, found);
+                Some((at, emptied))
+            }
+            None => None,
+        }
+    }
+}
