@@ -2,6 +2,7 @@
 ghost use Rattle.std.specs.Prelude.{◌≡◌, ◌*◌, ◌<◌, ◌≤◌, [], IfOk, OnOk, OnErr};
 ghost use Rattle.std.specs.Int.{IsPowerOfTwo};
 ghost use Rattle.linked_hash_map.specs.Pairs.{value_at, put};
+ghost use Rattle.linked_hash_map.specs.Inserts.{insert_each};
 
 use linked_hash_map::{LinkedHashMap, NoRoom, ReserveError};
 use std::hash::{BuildHasher, Hash};
@@ -19,6 +20,21 @@ pub fn reserve_and_insert<K: Eq + Hash + Drop, V: Drop, S: BuildHasher>(
     map.reserve(1)?;
     match map.insert(key, value) {
         Ok(old) => Ok(old),
+        Err(_refused) => unreachable!(),
+    }
+}
+
+/// Makes room for the pairs of a list and puts them in one by one, which then never fails.
+pub fn reserve_and_extend<K: Eq + Hash + Drop, V: Drop, S: BuildHasher>(
+    map: &mut LinkedHashMap<K, V, S>,
+    list: Vec<(K, V)>,
+) -> Result<(), ReserveError>
+    ensures pairs { OnOk result (map.new.pairs ≡ insert_each K.eq map.old.mode map.old.pairs list.items) }
+    ensures unchanged { OnErr result (map.new ≡ map.old) }
+{
+    map.reserve(list.len())?;
+    match map.extend(list) {
+        Ok(()) => Ok(()),
         Err(_refused) => unreachable!(),
     }
 }

@@ -17,7 +17,7 @@ use uses::loops::{
     first_and_third, first_of_cursor, insert_on_the_way, into_list, keys_in_order, leave_off_early,
     oldest_key, reset, sum_by_values, sum_of, take_all, take_out_zeros, visit_by_value,
 };
-use uses::memory::{empty_out, rehashed, reserve_and_insert};
+use uses::memory::{empty_out, rehashed, reserve_and_extend, reserve_and_insert};
 use uses::queue::Queue;
 use uses::refusal::{insert_anyway, insert_if_new};
 use uses::replaying::{Outcome, replay_under_two_hashers, write_refresh_remove};
@@ -248,6 +248,9 @@ fn room_is_made_and_given_back(rt: HostRuntime) {
     check_eq!(rt; given!(rt; reserve_and_insert(&mut map, 1, 10)), None);
     check_eq!(rt; given!(rt; reserve_and_insert(&mut map, 1, 11)), Some(10));
     check_eq!(rt; rehashed(&map), 1);
+    let list = given!(rt; Vec::from_array(rt.alloc(), [(2, 20), (1, 12)]));
+    given!(rt; reserve_and_extend(&mut map, list));
+    check_eq!(rt; map.back(), Some((&1, &12)));
     empty_out(&mut map);
     check_eq!(rt; map.capacity(), 0);
 }

@@ -3,7 +3,8 @@ ghost use Rattle.std.specs.Prelude.{◌≡◌, ◌≤◌, option_copied, option_
 ghost use Rattle.std.specs.Map.Iter.{deref_pair};
 ghost use Rattle.std.specs.Borrow.{sem};
 ghost use Rattle.std.specs.Option.{option_copied_mut};
-ghost use Rattle.linked_hash_map.specs.Pairs.{find, value_at, first, last};
+ghost use Rattle.linked_hash_map.specs.Pairs.{find, value_at, to_back, first, last};
+ghost use Rattle.linked_hash_map.specs.Updates.{Updates};
 ghost use Rattle.linked_hash_map.specs.Validity.{IsValid};
 ghost use Rattle.linked_hash_map.specs.Hashers.{hash_by};
 ghost use Rattle.linked_hash_map.specs.Counts.{same, beside};
@@ -77,6 +78,9 @@ impl<K: Eq + Hash, V, S: BuildHasher> LinkedHashMap<K, V, S> {
         ensures* writes_back { sem 𝓛 (lends_refreshed K.row V.row S.row S.Hasher.row K.Hash S.BuildHasher S.Hasher.Hasher self.entry key.now result) }
         ensures value { option_copied_mut result ≡ value_at K.eq self.old.pairs key.now }
         ensures valid { IsValid K.eq self.old }
+
+        // A law of the map once a value is written, for the proofs of callers.
+        ensures updates { (v : V) → Updates K.eq self.old.pairs (to_back K.eq self.old.pairs key.now v) key.now (Some v) }
     {
         let hash = self.hasher.hash_one(key);
         match self.table.position(hash, key) {

@@ -4,6 +4,7 @@ use Rattle.lhm_ring.specs.Search.{HasKey, IsAbsent}
 use Rattle.linked_hash_map.specs.declared.map.Mode.TheVariants.{Touch}
 use Rattle.linked_hash_map.specs.Nodes.{map_of, beside}
 use Rattle.linked_hash_map.specs.Hashers.{hash_by}
+use Rattle.linked_hash_map.proofs.Callers.Updates.{Updates-put}
 use Rattle.linked_hash_map.proofs.Kept.{IsValid-view, of-Some, of-None, absent_key, distinct_keys}
 use Rattle.linked_hash_map.proofs.Current.{key_lies, key_index, found_lies}
 use Rattle.linked_hash_map.proofs.PutPair.{touched_cut, pairs-put, value_at-touched, IsKept-put}
@@ -36,6 +37,7 @@ returns-in-Some g c =
         writes_back = tt;
         value = value_at-touched c.self.inside.table.held c.move_to_back.new.self.held (pointer_of c.in-Some.at) (key_lies has) g.met.K.Eq.laws (key_index has) distinct Touch (moved.last, moved.apart) c.value_mut.ensures.value;
         valid = IsValid-view c.self.invariant refl refl;
+        updates = λ v. Updates-put g.met.K.Eq.laws _ _ _ v Touch refl;
       },
     )
 
@@ -51,5 +53,6 @@ returns-in-None g c =
             c.args.key.now c.hash_one-hash.result c.hash_one-hash.ensures m.table.held c.self.invariant.nodes.hashed
             (of-None (IsAbsent g.K.PartialEq.eq c.hash_one-hash.result c.args.key.now m.table.held) c.position.result c.in-None.is c.position.ensures.absent)));
         valid = IsValid-view c.self.invariant refl refl;
+        updates = λ v. Updates-put g.met.K.Eq.laws _ _ _ v Touch refl;
       },
     )
