@@ -1,14 +1,12 @@
 -- Lists of sessions: sums of weights, and the longest end that fits.
-use Rattle.std.proofs.Common.{◌≡◌, ℕ, ◌+◌, ◌-◌, ◌<◌, ◌≤◌, Bool, true, false, cond, not, List, [], ◌∷◌, ◌++◌, length, drop, nat_eq, Some, None, option_map, eq-eqb, true≢false, refl, sym, ap, ap₂, ◌∙◌, subst, arith, length-append}
+use Rattle.std.proofs.Common.{◌≡◌, ℕ, ◌+◌, ◌-◌, ◌<◌, ◌≤◌, Bool, true, false, cond, not, List, [], ◌∷◌, ◌++◌, length, drop, nat_eq, Some, None, option_map, eq-eqb, refl, sym, ap, ◌∙◌, subst, arith, length-append}
 use Rattle.std.specs.Prelude.{nat_le, if◌then◌else◌, unwrap_or}
 use Rattle.std.specs.List.{IsDistinct, AllByRecursion}
 use Rattle.std.specs.Option.{option_or}
-use Rattle.std.specs.Cmp.{nat_eq_equiv}
 use Rattle.std.proofs.lemmas.Bool.{eqb-true, le-leb, lt-leb, leb-true, leb-false}
 use Rattle.std.proofs.lemmas.List.Folds.{find-append}
 use Rattle.std.proofs.lemmas.List.Sums.{sum_by-cons, sum_by-append}
 use Rattle.linked_hash_map.specs.Pairs.{last}
-use Rattle.linked_hash_map.proofs.Lists.{option_or_none}
 use Rattle.linked_hash_map.specs.SessionTables.{Session, ids_of, total_weight, session_of, weight_of, without, with_last, fit, IsEnd, IsLongestEnd}
 
 module _ {T : Type 0} where
@@ -32,29 +30,6 @@ module _ {T : Type 0} where
       find-append (λ (other : Session T). nat_eq session.0 other.0) sessions (session ∷ [])
       ∙ ap (λ o. option_or o (session_of (session ∷ []) session.0)) none
       ∙ ap (λ b. cond b (Some session) None) (eq-eqb session.0 session.0 refl)
-
-  -- without one, another is what it was
-  pub session_of-without : (sessions : List (Session T)) (id other : ℕ) → nat_eq id other ≡ false → session_of (without sessions id) other ≡ session_of sessions other
-  session_of-without [] id other apart = refl
-  session_of-without (session ∷ sessions) id other apart = by_test (nat_eq id session.0) (nat_eq other session.0) refl refl (session_of-without sessions id other apart)
-    where
-      by_test : (b c : Bool) → nat_eq id session.0 ≡ b → nat_eq other session.0 ≡ c → session_of (without sessions id) other ≡ session_of sessions other → session_of (cond (not b) (session ∷ without sessions id) (without sessions id)) other ≡ cond c (Some session) (session_of sessions other)
-      by_test true true one another rest =
-          let same = eqb-true id session.0 one ∙ sym (eqb-true other session.0 another) in
-          absurd (true≢false (sym (eq-eqb id other same) ∙ apart))
-      by_test true false one another rest = rest
-      by_test false c one another rest = ap₂ (λ c found. cond c (Some session) found) another rest
-
-  -- where some of the sessions with the new one are gone, another that is not among them is what it was
-  pub session_of-others : (gone left sessions : List (Session T)) (id weight : ℕ) (payload : T) → gone ++ left ≡ with_last sessions id weight payload → (other : ℕ) → nat_eq id other ≡ false → session_of gone other ≡ None → session_of left other ≡ session_of sessions other
-  session_of-others gone left sessions id weight payload all other apart none =
-      let last = (id, weight, payload) ∷ [] in
-      sym (ap (λ o. option_or o (session_of left other)) none)
-      ∙ sym (find-append (λ (session : Session T). nat_eq other session.0) gone left)
-      ∙ ap (λ l. session_of l other) all
-      ∙ find-append (λ (session : Session T). nat_eq other session.0) (without sessions id) last
-      ∙ ap₂ option_or (session_of-without sessions id other apart) (ap (λ b. cond b (Some (id, weight, payload)) None) (nat_eq_equiv.symm other id ∙ apart))
-      ∙ option_or_none (session_of sessions other)
 
   -- the longest end that fits: all, where all fit, and else that of the others
   pub fit-all : (limit : ℕ) (sessions : List (Session T)) → total_weight sessions ≤ limit → fit limit sessions ≡ sessions

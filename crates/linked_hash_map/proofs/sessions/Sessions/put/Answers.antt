@@ -4,7 +4,7 @@ use Rattle.linked_hash_map.specs.Pairs.{last}
 use Rattle.linked_hash_map.specs.SessionTables.{session_table, payload_of, total_weight, without, with_last, IsValidTable}
 use Rattle.linked_hash_map.specs.SessionsKept.{sessions_of}
 use Rattle.linked_hash_map.proofs.Callers.Lookups.{last-append}
-use Rattle.linked_hash_map.proofs.SessionLists.{session_of-others, total_weight-fit, IsLongestEnd-fit}
+use Rattle.linked_hash_map.proofs.SessionLists.{total_weight-fit, IsLongestEnd-fit}
 use Rattle.linked_hash_map.proofs.SessionPairs.{IsValidTable-kept, total_weight-others}
 use Rattle.linked_hash_map.proofs.SessionPuts.{fit-with_last, payload_of-put, total_weight-put, length-gone, none-leaves, drop-with_last, length-with_last, is_some-weight}
 use Rattle.linked_hash_map.proofs.sessions.Sessions.put.Goals as goal
@@ -109,11 +109,6 @@ pub returns-clause-gone : goal.returns-clause-gone
 returns-clause-gone g c =
     let all = rw c.make_room.ensures.pairs at c.store-old.ensures.gone in
     rw (← c.self.view_is) (all ∙ ap (λ l. l ++ with_last (sessions_of c.self.inside.map.pairs) c.args.id c.args.weight c.args.payload) c.in-Ok.ensures.empty)
-
-pub returns-clause-others : goal.returns-clause-others
-returns-clause-others g c =
-    session_of-others c.store-old.new.gone.items (sessions_of c.store-old.new.map.pairs) c.args.self.now.sessions c.args.id c.args.weight c.args.payload
-    (returns-clause-gone g c)
 
 pub returns-clause-exact : goal.returns-clause-exact
 returns-clause-exact g c =
