@@ -7,7 +7,6 @@ pub mod Chains
 pub mod ContentChange
 pub mod ContentTaken
 pub mod ContentsSplitOff
-pub mod DroppedRing
 pub mod Ends
 pub mod Entries
 pub mod FilterFills
@@ -27,7 +26,6 @@ pub mod Neighbours
 pub mod NodeAdded
 pub mod NodeBefore
 pub mod NodeBlocks
-pub mod NodeRemoved
 pub mod NodesWithBodies
 pub mod OneNodeChanged
 pub mod Options

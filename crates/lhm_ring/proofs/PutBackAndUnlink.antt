@@ -23,7 +23,7 @@ here_set : {B : Type 0} (p : Ptr) (l : Links) (cs : List (Cell Links B)) (la : L
 here_set p l cs la e = links_set p l cs la e p ∙ ap (λ y. cond y (Some l) (links_at cs p)) (same_ptr_refl p)
 
 module _ {B : Type 0} where
-  first : (cs : List (Cell Links B)) (spare : Link) (m : ℕ) (ss : List Ptr) → 0 < m → length ss ≡ m → Chained cs (target spare) ss → IsSome (target spare)
+  first : (cs : List (Cell Links B)) (spare : Link) (m : ℕ) (ss : List Ptr) → 0 < m → m ≤ length ss → Chained cs (target spare) ss → IsSome (target spare)
   first cs spare m [] h e c = absurd (omega arith)
   first cs spare m (p ∷ ss) h e c = subst IsSome (sym c.0) refl
 
@@ -37,11 +37,11 @@ pub record Ready {B : Type 0} (cs : List (Cell Links B)) (g at : NodePointer) (n
   pub others : List Ptr
   pub ring : IsRing cs g.ptr row (Some at.ptr) (at.ptr ∷ others)
   pub long : length row ≡ n
-  pub wide : suc (length others) ≡ m
+  pub wide : m ≤ suc (length others)
   pub small : n + m ≤ 2 ^ 59
 
 module _ {B : Type 0} (cs : List (Cell Links B)) where
-  ready_at : (g at : NodePointer) (n m : ℕ) (ps ss : List Ptr) → IsRing cs g.ptr ps (Some at.ptr) ss → length ps ≡ n → length ss ≡ m → n + m ≤ 2 ^ 59 → 0 < m → Ready cs g at n m
+  ready_at : (g at : NodePointer) (n m : ℕ) (ps ss : List Ptr) → IsRing cs g.ptr ps (Some at.ptr) ss → length ps ≡ n → m ≤ length ss → n + m ≤ 2 ^ 59 → 0 < m → Ready cs g at n m
   ready_at g at n m ps [] r a b c h = absurd (omega arith)
   ready_at g at n m ps (p ∷ rest) r a b c h =
       record { row = ps; others = rest; ring = subst (λ q. IsRing cs g.ptr ps (Some at.ptr) (q ∷ rest)) (sym (some_same at.ptr p r.chained.0)) r; long = a; wide = b; small = c }

@@ -35,7 +35,7 @@ pub record NodeAt {B : Type 0} (cs : List (Cell Links B)) (g : NodePointer) (spa
   pub others : List Ptr
   pub ring : IsRing cs g.ptr (before ++ p ∷ after) (target spare) others
   pub long : length (before ++ p ∷ after) ≡ n
-  pub wide : length others ≡ m
+  pub wide : m ≤ length others
   pub small : n + m ≤ 2 ^ 59
 
 module _ {B : Type 0} where

@@ -145,10 +145,10 @@ module _ {B : Type 0} where
   ring_list cs None n = []
   ring_list cs (Some g) n = listed cs (follow cs n g.ptr)
 
-  -- the nodes are a ring of n held and m spare ones, or there is no node and no guard
+  -- the nodes are a ring of n held and at least m spare ones, or there is no node and no guard
   abbrev pub RingOk : List (Cell Links B) → Option NodePointer → Link → ℕ → ℕ → Type 0
   RingOk cs None spare n m = (cs ≡ []) × (target spare ≡ None) × (n ≡ 0) × (m ≡ 0)
-  RingOk cs (Some g) spare n m = (ps : List Ptr) × (ss : List Ptr) × IsRing cs g.ptr ps (target spare) ss × (length ps ≡ n) × (length ss ≡ m) × (n + m ≤ 2 ^ 59)
+  RingOk cs (Some g) spare n m = (ps : List Ptr) × (ss : List Ptr) × IsRing cs g.ptr ps (target spare) ss × (length ps ≡ n) × (m ≤ length ss) × (n + m ≤ 2 ^ 59)
 
   -- the pointers of what a ring holds
   abbrev pub ring_pointers : List (Cell Links B) → Option NodePointer → ℕ → List Ptr

@@ -1,75 +1,139 @@
-//! Nodes are allocated, all or none, and spare ones are freed.
-ghost use Rattle.std.specs.Prelude.{◌≡◌, ◌+◌, ◌-◌, ◌<◌, [], ◌∷◌, None, Some, IfSome, IfOk, OnOk, OnErr, MatchResult};
-ghost use Rattle.std.specs.Option.{IsSome};
+//! Nodes are allocated, many in one chunk, and all chunks are freed.
+ghost use Rattle.std.specs.Prelude.{◌≡◌, ℕ, ◌+◌, ◌-◌, ◌<◌, ◌≤◌, ◌^◌, [], ◌∷◌, ◌++◌, None, Some, map, IfSome, IfOk, OnOk, OnErr, IsTrue, true};
+ghost use Rattle.std.specs.Allocator.{FitsBlock};
 ghost use Rattle.lhm_ring.specs.Cells.{cell};
+ghost use Rattle.lhm_ring.specs.Chunks.{row};
+ghost use Rattle.lhm_ring.specs.Land.{extent, IsLaid};
 ghost use Rattle.lhm_ring.specs.Rings.{IsRing, links};
-ghost use Rattle.lhm_ring.specs.Stacks.{IsStacked, HasStack, Unstacks, HasGuard, IsGrown};
+ghost use Rattle.lhm_ring.specs.Stacks.{IsStacked, IsGrown, spares_of};
 
-use crate::block::{NodePointer, allocate, deallocate};
+use crate::block::{Node, NodePointer, allocate, deallocate};
+use crate::chunk::Chunk;
 use crate::link::Link;
 use crate::links::Links;
 use crate::nodes::Nodes;
-use crate::ring::{Ring, join, nowhere};
+use crate::ring::Ring;
 use std::alloc::{AllocError, Global};
+use std::mem::size_of;
 
 /// The most nodes of a ring, held and spare. Each takes at least 40 bytes, so these would take more
 /// than 2^64 bytes, which no machine has.
 const MOST_NODES: usize = 1 << 59;
 
-/// Allocates the guard of an empty ring, which leads to itself.
-fn make_guard<K, V>(
-    nodes: &mut Nodes<Links, K, V>,
-    alloc: &Global,
-) -> Result<NodePointer, AllocError>
-    requires { nodes.old.cells ≡ [] }
-    ensures { MatchResult result (λ g. IsRing nodes.new.cells g.ptr [] None []) (λ _. nodes.new.cells ≡ []) }
+/// Returns whether a block for `count` values is small enough to be allocated.
+fn fits<T>(count: usize) -> bool
+    ensures { IsTrue result → FitsBlock T.row count }
 {
-    let block = allocate(alloc)?;
+    match count.checked_mul(size_of::<T>()) {
+        Some(bytes) => bytes <= isize::MAX as usize,
+        None => false,
+    }
+}
+
+/// Makes the first unused place the guard of an empty ring, which leads to itself, and returns
+/// where the next place lies.
+fn make_guard<K, V>(nodes: &mut Nodes<Links, K, V>, at: NodePointer) -> NodePointer
+    requires empty { nodes.old.cells ≡ [] }
+    requires unused { (n : ℕ) × (nodes.old.unused ≡ row at.ptr nodes.old.node_bytes (n + 1)) }
+    ensures guard { IsRing nodes.new.cells at.ptr [] None [] }
+    ensures unused { (n : ℕ) → nodes.old.unused ≡ row at.ptr nodes.old.node_bytes (n + 1) → nodes.new.unused ≡ row result.ptr nodes.new.node_bytes n }
+    ensures chunks { nodes.new.chunks ≡ nodes.old.chunks }
+{
     let links = Links {
-        prev: nowhere(),
-        next: nowhere(),
+        prev: at,
+        next: at,
         link: Link::none(),
         hash: 0,
         guard: 1,
     };
-    let at = nodes.add(block, links);
-    join(nodes, at, at);
-    Ok(at)
+    nodes.add(at, links)
 }
 
-/// Allocates one more node, with nothing in it.
-fn make_spare<K, V>(
+/// Makes the `count` unused places, from `at` on, spare nodes on top of the others, and returns the
+/// first of them.
+fn make_spares<K, V>(
     nodes: &mut Nodes<Links, K, V>,
-    alloc: &Global,
+    at: NodePointer,
     guard: NodePointer,
     spare: Link,
-) -> Result<NodePointer, AllocError>
-    ensures { MatchResult result (λ p. nodes.new.cells ≡ cell p.ptr (links guard spare) None ∷ nodes.old.cells) (λ _. nodes.new.cells ≡ nodes.old.cells) }
+    count: usize,
+) -> Link
+    requires { nodes.old.unused ≡ row at.ptr nodes.old.node_bytes count }
+    ensures stacked { IsStacked nodes.old.cells guard spare count nodes.new.cells result }
+    ensures unused { nodes.new.unused ≡ [] }
+    ensures chunks { nodes.new.chunks ≡ nodes.old.chunks }
 {
-    let block = allocate(alloc)?;
-    let links = Links {
-        prev: guard,
-        next: guard,
-        link: spare,
-        hash: 0,
-        guard: 0,
-    };
-    Ok(nodes.add(block, links))
+    let mut at = at;
+    let mut first = spare;
+    let mut left = count;
+    'each: while 0 < left {
+        let links = Links {
+            prev: guard,
+            next: guard,
+            link: first,
+            hash: 0,
+            guard: 0,
+        };
+        let next = nodes.add(at, links);
+        first = Link::to(at);
+        at = next;
+        left -= 1;
+    }
+    first
 }
 
-/// Returns the guard, and allocates it if there is none.
-fn guard_or_new<K, V>(
+/// Makes nodes of the `places` unused places, from `at` on: the guard if there is none, and spare
+/// ones. Returns the guard and the first spare node.
+fn make_nodes<K, V>(
     nodes: &mut Nodes<Links, K, V>,
-    alloc: &Global,
+    at: NodePointer,
     guard: Option<NodePointer>,
-) -> Result<NodePointer, AllocError>
-    requires { guard ≡ None → nodes.old.cells ≡ [] }
-    ensures { MatchResult result (HasGuard guard nodes.old.cells nodes.new.cells) (λ _. nodes.new.cells ≡ nodes.old.cells) }
+    spare: Link,
+    places: usize,
+) -> (NodePointer, Link)
+    requires some { 0 < places }
+    requires empty { guard ≡ None → nodes.old.cells ≡ [] }
+    requires unused { nodes.old.unused ≡ row at.ptr nodes.old.node_bytes places }
+    ensures made { IsGrown guard nodes.old.cells spare (spares_of guard places) nodes.new.cells result.0 result.1 }
+    ensures unused { nodes.new.unused ≡ [] }
+    ensures chunks { nodes.new.chunks ≡ nodes.old.chunks }
 {
     match guard {
-        Some(guard) => Ok(guard),
-        None => make_guard(nodes, alloc),
+        Some(guard) => (guard, make_spares(nodes, at, guard, spare, places)),
+        None => {
+            let next = make_guard(nodes, at);
+            (at, make_spares(nodes, next, at, spare, places - 1))
+        }
     }
+}
+
+/// Allocates a chunk of `places` unused places, and returns where the first of them lies.
+fn take_chunk<K, V>(
+    nodes: &mut Nodes<Links, K, V>,
+    chunks: &mut Vec<Chunk, Global>,
+    alloc: &Global,
+    places: usize,
+) -> Result<NodePointer, AllocError>
+    requires some { 0 < places }
+    requires none_unused { nodes.old.unused ≡ [] }
+    ensures cells { nodes.new.cells ≡ nodes.old.cells }
+    ensures unused { IfOk result (λ first. nodes.new.unused ≡ row first.ptr nodes.new.node_bytes places) }
+    ensures chunks { IfOk result (λ first. nodes.new.chunks ≡ nodes.old.chunks ++ (first.ptr, places) ∷ []) }
+    ensures kept { IfOk result (λ first. map extent chunks.new.items ≡ map extent chunks.old.items ++ (first.ptr, places) ∷ []) }
+    ensures refused { OnErr result ((nodes.new.unused ≡ nodes.old.unused) × (nodes.new.chunks ≡ nodes.old.chunks)) }
+    ensures refused_kept { OnErr result (chunks.new.items ≡ chunks.old.items) }
+{
+    if !fits::<Node<Links, K, V>>(places) {
+        return Err(AllocError);
+    }
+    chunks.reserve(1)?;
+    let block = allocate(alloc, places)?;
+    let first = nodes.add_chunk(block);
+    chunks.push_reserved(Chunk {
+        first,
+        count: places,
+    });
+    Ok(first)
 }
 
 /// Sets the guard if there was none before. Otherwise it writes nothing.
@@ -83,101 +147,29 @@ fn note_guard(slot: &mut Option<NodePointer>, guard: NodePointer)
     }
 }
 
-/// Frees the guard if there was none before, so that no node is left. Otherwise it changes nothing.
-fn undo_guard<K, V>(
+/// Frees all chunks, and forgets what the nodes hold.
+pub(crate) fn free_chunks<K, V>(
     nodes: &mut Nodes<Links, K, V>,
     alloc: &Global,
-    before: Option<NodePointer>,
-    guard: NodePointer,
+    mut chunks: Vec<Chunk, Global>,
 )
-    requires { before ≡ None → IsRing nodes.old.cells guard.ptr [] None [] }
-    ensures none { before ≡ None → nodes.new.cells ≡ [] }
-    ensures some { IsSome before → nodes.new.cells ≡ nodes.old.cells }
+    requires { nodes.old.chunks ≡ map extent chunks.items }
+    ensures cells { nodes.new.cells ≡ [] }
+    ensures chunks { nodes.new.chunks ≡ [] }
 {
-    match before {
-        Some(_) => (),
-        None => {
-            let block = nodes.remove(guard);
-            deallocate(alloc, block);
-        }
+    nodes.clear();
+    'each: while let Some(chunk) = chunks.pop() {
+        let block = nodes.remove_chunk(chunk.first, chunk.count);
+        deallocate(alloc, block, chunk.count);
     }
-}
-
-/// Frees the `count` nodes from `first` on, each of which leads to the next by its chain link.
-fn free_stacked<K, V>(nodes: &mut Nodes<Links, K, V>, alloc: &Global, first: Link, count: usize)
-    requires { HasStack count nodes.old.cells first }
-    ensures { Unstacks count nodes.old.cells first nodes.new.cells }
-{
-    let mut first = first;
-    let mut left = count;
-    'each: while 0 < left {
-        let at = first.pointer();
-        let next = nodes.links(at).link;
-        let block = nodes.remove(at);
-        deallocate(alloc, block);
-        first = next;
-        left -= 1;
-    }
-}
-
-/// Allocates `count` nodes on top of the spare ones, and returns the first of them. If an
-/// allocation fails, it frees those that it made.
-fn make_spares<K, V>(
-    nodes: &mut Nodes<Links, K, V>,
-    alloc: &Global,
-    guard: NodePointer,
-    spare: Link,
-    count: usize,
-) -> Result<Link, AllocError>
-    ensures { MatchResult result (λ first. IsStacked nodes.old.cells guard spare count nodes.new.cells first) (λ _. nodes.new.cells ≡ nodes.old.cells) }
-{
-    let mut first = spare;
-    let mut made = 0;
-    'more: while made < count {
-        match make_spare(nodes, alloc, guard, first) {
-            Ok(at) => {
-                first = Link::to(at);
-                made += 1;
-            }
-            Err(refused) => {
-                free_stacked(nodes, alloc, first, made);
-                return Err(refused);
-            }
-        }
-    }
-    Ok(first)
-}
-
-/// Allocates `count` nodes on top of the spare ones, and the guard if there is none. It returns the
-/// guard and the first spare node. If an allocation fails, it frees what it made.
-fn make_nodes<K, V>(
-    nodes: &mut Nodes<Links, K, V>,
-    alloc: &Global,
-    guard: Option<NodePointer>,
-    spare: Link,
-    count: usize,
-) -> Result<(NodePointer, Link), AllocError>
-    requires { guard ≡ None → nodes.old.cells ≡ [] }
-    ensures made { IfOk result (λ made. IsGrown guard nodes.old.cells spare count nodes.new.cells made.0 made.1) }
-    ensures refused { OnErr result (nodes.new.cells ≡ nodes.old.cells) }
-{
-    let present = guard_or_new(nodes, alloc, guard)?;
-    match make_spares(nodes, alloc, present, spare, count) {
-        Ok(first) => Ok((present, first)),
-        Err(refused) => {
-            undo_guard(nodes, alloc, guard, present);
-            Err(refused)
-        }
-    }
+    chunks.destroy_empty();
 }
 
 impl<K, V> Ring<K, V> {
-    /// Allocates `count` more spare nodes, and the guard if there is none, in O(n).
-    ///
-    /// Returns an error if an allocation fails, or, without allocating, if there would be more than
-    /// 2^59 nodes; it then frees what it allocated, and nothing changes. The order and positions
-    /// stay.
-    pub fn grow(&mut self, count: usize) -> Result<(), AllocError>
+    /// Makes `count` more nodes spare. If it has to allocate, it does so for what is missing, in
+    /// one chunk, which has at least `least` nodes.
+    fn grow_by(&mut self, count: usize, least: usize) -> Result<(), AllocError>
+        requires { least ≤ 2 ^ 58 }
         ensures held { OnOk result (self.new.held ≡ self.old.held) }
         ensures spares { OnOk result (self.new.spares ≡ self.old.spares + count) }
         ensures refused { OnErr result (self.new ≡ self.old) }
@@ -185,40 +177,51 @@ impl<K, V> Ring<K, V> {
         if MOST_NODES - self.len - self.spares < count {
             return Err(AllocError);
         }
-        let (guard, spare) = make_nodes(
-            &mut self.nodes,
-            &self.alloc,
-            self.guard,
-            self.spare,
-            count,
-        )?;
+        let needed = self.len + self.spares + count + 1;
+        if needed <= self.made {
+            self.spares += count;
+            return Ok(());
+        }
+        let places = (needed - self.made).max(least);
+        let at = take_chunk(&mut self.nodes, &mut self.chunks, &self.alloc, places)?;
+        let (guard, spare) = make_nodes(&mut self.nodes, at, self.guard, self.spare, places);
         note_guard(&mut self.guard, guard);
         self.spare = spare;
         self.spares += count;
+        self.made += places;
         Ok(())
     }
 
-    /// Frees the first spare node.
-    pub(crate) fn drop_spare(&mut self)
-        requires { 0 < self.old.spares }
-        ensures held { self.new.held ≡ self.old.held }
-        ensures spares { self.new.spares ≡ self.old.spares - 1 }
+    /// Makes `count` more nodes spare, and the guard if there is none. If it allocates, it is one
+    /// chunk with what is missing, in O(n).
+    ///
+    /// Returns an error if an allocation fails, or, without allocating, if there would be more than
+    /// 2^59 nodes; nothing changes then. The order and positions stay.
+    pub fn grow(&mut self, count: usize) -> Result<(), AllocError>
+        ensures held { OnOk result (self.new.held ≡ self.old.held) }
+        ensures spares { OnOk result (self.new.spares ≡ self.old.spares + count) }
+        ensures refused { OnErr result (self.new ≡ self.old) }
     {
-        let at = self.spare.pointer();
-        let next_spare = self.nodes.links(at).link;
-        let block = self.nodes.remove(at);
-        deallocate(&self.alloc, block);
-        self.spare = next_spare;
-        self.spares -= 1;
+        self.grow_by(count, 0)
     }
 
-    /// Frees the spare nodes, in O(n). The guard, the order and positions stay.
+    /// Makes one more node spare. If it allocates, it is one chunk, with as many nodes as there
+    /// are, but at most 64, and not more than `most` in all.
+    pub fn grow_by_one(&mut self, most: usize) -> Result<(), AllocError>
+        ensures held { OnOk result (self.new.held ≡ self.old.held) }
+        ensures spares { OnOk result (self.new.spares ≡ self.old.spares + 1) }
+        ensures refused { OnErr result (self.new ≡ self.old) }
+    {
+        let least = self.made.min(64).min(most.saturating_add(1).saturating_sub(self.made));
+        self.grow_by(1, least)
+    }
+
+    /// Makes no node spare any more. The nodes stay for a later growth. The order and positions
+    /// stay.
     pub fn free_spares(&mut self)
         ensures held { self.new.held ≡ self.old.held }
         ensures no_spares { self.new.spares ≡ 0 }
     {
-        'spares: while 0 < self.spares() {
-            self.drop_spare();
-        }
+        self.spares = 0;
     }
 }

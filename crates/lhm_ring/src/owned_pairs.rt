@@ -36,9 +36,7 @@ impl<K, V> OwnedPairs<K, V> {
         ensures { HandsOutFirst self.old result self.new }
     {
         let at = self.ring.first()?;
-        let triple = self.ring.unlink(at);
-        self.ring.drop_spare();
-        Some(triple)
+        Some(self.ring.unlink(at))
     }
 
     /// Ends it once no pair is left, and frees the spare nodes, in O(n) for them.

@@ -3,8 +3,10 @@ ghost use Rattle.std.specs.Prelude.{◌≡◌, ◌+◌, ◌≤◌, ◌^◌, [], 
 ghost use Rattle.lhm_ring.specs.Cells.{IsAt};
 ghost use Rattle.lhm_ring.specs.Rings.{IsJoined, Relinks, is_there};
 
-use crate::block::{NodePointer, deallocate};
+use crate::block::NodePointer;
+use crate::chunk::Chunk;
 pub use crate::drain::Drain;
+use crate::grow::free_chunks;
 pub use crate::iter::{Iter, IterMut};
 use crate::link::Link;
 use crate::links::Links;
@@ -23,6 +25,9 @@ use std::marker::Model;
 pub struct Ring<K, V> {
     pub(crate) nodes: Nodes<Links, K, V>,
     pub(crate) alloc: Global,
+    pub(crate) chunks: Vec<Chunk, Global>,
+    // How many nodes the chunks have, the guard included.
+    pub(crate) made: usize,
     pub(crate) guard: Option<NodePointer>,
     pub(crate) spare: Link,
     pub(crate) len: usize,
@@ -32,12 +37,13 @@ pub struct Ring<K, V> {
 impl<K, V> Model for Ring<K, V> {
     ghost use Rattle.lhm_ring.specs.Rings.{ring_list, RingOk};
     ghost use Rattle.lhm_ring.specs.RingState.{State, state};
+    ghost use Rattle.lhm_ring.specs.Land.{IsLaid};
 
     ghost Value = { State (K × V) };
 
     ghost view = { λ r. state (ring_list r.nodes.cells r.guard r.len) r.spares };
 
-    ghost invariant = { λ r. RingOk r.nodes.cells r.guard r.spare r.len r.spares };
+    ghost invariant = { λ r. RingOk r.nodes.cells r.guard r.spare r.len r.spares × IsLaid r.nodes.unused r.nodes.chunks r.chunks.items r.made };
 }
 
 impl<K, V> Ring<K, V> {
@@ -49,6 +55,8 @@ impl<K, V> Ring<K, V> {
         Ring {
             nodes: Nodes::new(),
             alloc,
+            chunks: Vec::new(alloc),
+            made: 0,
             guard: None,
             spare: Link::none(),
             len: 0,
@@ -97,24 +105,22 @@ impl<K, V> Ring<K, V> {
         self.spares
     }
 
-    /// Ends a ring that holds nothing, and frees its nodes, in O(n). Keys and values need no
-    /// `Drop`.
-    pub fn destroy_empty(mut self)
+    /// Ends a ring that holds nothing, and frees its nodes, in O(n) for its chunks. Keys and values
+    /// need no `Drop`.
+    pub fn destroy_empty(self)
         requires { self.held ≡ [] }
     {
-        self.free_spares();
         let Ring {
             mut nodes,
             alloc,
-            guard,
+            chunks,
+            made: _,
+            guard: _,
             spare: _,
             len: _,
             spares: _,
         } = self;
-        if let Some(guard) = guard {
-            let block = nodes.remove(guard);
-            deallocate(&alloc, block);
-        }
+        free_chunks(&mut nodes, &alloc, chunks);
         nodes.end();
     }
 }
@@ -122,7 +128,8 @@ impl<K, V> Ring<K, V> {
 /// Makes `b` the node right after `a`.
 pub(crate) fn join<K, V>(nodes: &mut Nodes<Links, K, V>, a: NodePointer, b: NodePointer)
     requires { (is_there nodes.old.cells a.ptr ≡ true) × (is_there nodes.old.cells b.ptr ≡ true) }
-    ensures { IsJoined nodes.old.cells nodes.new.cells a.ptr b.ptr }
+    ensures joined { IsJoined nodes.old.cells nodes.new.cells a.ptr b.ptr }
+    ensures land { (nodes.new.unused ≡ nodes.old.unused) × (nodes.new.chunks ≡ nodes.old.chunks) }
 {
     let mut links = *nodes.links(a);
     links.next = b;
@@ -135,7 +142,8 @@ pub(crate) fn join<K, V>(nodes: &mut Nodes<Links, K, V>, a: NodePointer, b: Node
 /// Sets the chain link of the node at `at`. Nothing else changes.
 pub(crate) fn relink<K, V>(nodes: &mut Nodes<Links, K, V>, at: NodePointer, link: Link)
     requires { IsAt nodes.old.cells at.ptr }
-    ensures { Relinks nodes.old.cells at.ptr link nodes.new.cells }
+    ensures relinked { Relinks nodes.old.cells at.ptr link nodes.new.cells }
+    ensures land { (nodes.new.unused ≡ nodes.old.unused) × (nodes.new.chunks ≡ nodes.old.chunks) }
 {
     let mut links = *nodes.links(at);
     links.link = link;
@@ -155,7 +163,6 @@ impl<K: Drop, V: Drop> Drop for Ring<K, V> {
             let (_, key, value) = self.unlink(at);
             drop(key);
             drop(value);
-            self.drop_spare();
         }
         self.destroy_empty();
     }
