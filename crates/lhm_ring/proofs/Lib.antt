@@ -29,11 +29,13 @@ pub mod NodeBlocks
 pub mod NodesWithBodies
 pub mod OneNodeChanged
 pub mod Options
+pub mod Places
 pub mod PutBackAndUnlink
 pub mod ReadAtPosition
 pub mod Rearranged
 pub mod Retained
 pub mod RingNodes
+pub mod Rooms
 pub mod Rows
 pub mod Searches
 pub mod Sharing

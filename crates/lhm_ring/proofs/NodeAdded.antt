@@ -5,16 +5,13 @@ use Rattle.std.specs.Prelude.{◌==◌}
 use denote.RawPtr.{Ptr}
 use Rattle.lhm_ring.specs.declared.block.NodePointer.{NodePointer}
 use Rattle.lhm_ring.specs.declared.links.Links.{Links}
-use Rattle.lhm_ring.specs.Cells.{Cell, cell, cell_at, same_ptr, pointers, links_of, IsApart}
-use Rattle.lhm_ring.specs.Rings.{links, link_of, guard_of, has_links, is_guard, link_at, is_there, Chained, IsRing, IsJoined, listed, ring_list, RingOk}
-use Rattle.lhm_ring.specs.RingState.{State, state}
+use Rattle.lhm_ring.specs.Cells.{Cell, cell, cell_at, same_ptr, pointers, links_of, links_at, IsApart}
+use Rattle.lhm_ring.specs.Rings.{links, next_of, prev_of, link_of, guard_of, has_links, is_guard, link_at, is_there, Chained, IsRing, follow, listed, ring_list}
 use Rattle.lhm_ring.specs.Targets.{target}
 use Rattle.lhm_ring.specs.declared.link.Link.{Link}
 use Rattle.lhm_ring.proofs.Apart.{IsFresh, same_ptr_eq, same_ptr_refl}
-use Rattle.lhm_ring.proofs.Rows.{all_two, all_both, all_left, all_right, all_from, apart_head, apart_in, edge_made}
-use Rattle.lhm_ring.proofs.RingNodes.{ring_listed}
+use Rattle.lhm_ring.proofs.Rows.{all_two, all_both, all_left, all_right, all_from, apart_head, apart_in}
 use Rattle.lhm_ring.proofs.OneNodeChanged.{row_other, chain_other, held_other, listed_other}
-use Rattle.lhm_ring.proofs.Options.{some_none}
 
 false_true : false ≡ true → ⊥
 false_true e = cc
@@ -84,35 +81,22 @@ module _ {B : Type 0} (cs : List (Cell Links B)) (p : Ptr) (l : Links) (d : IsAp
     pub more_listed : listed ds ps ≡ listed cs ps
     more_listed = listed_other cs ds p cell_at-other ps (all_left P ps ss free.1)
 
--- a ring's fields, with its guard known
-pub record Guarded {B : Type 0} (cs : List (Cell Links B)) (guard : Option NodePointer) (spare : Link) (n m : ℕ) (g : NodePointer) (v : State B) : Type 0 where
-  pub is : guard ≡ Some g
-  pub ok : RingOk cs guard spare n m
-  pub view : state (ring_list cs guard n) m ≡ v
-
 module _ {B : Type 0} where
-  pub guard_made : (cs ds : List (Cell Links B)) (guard : Option NodePointer) (spare : Link) (n m : ℕ) (g : NodePointer) (v : State B) → guard ≡ None → RingOk cs guard spare n m → state (ring_list cs guard n) m ≡ v → IsRing ds g.ptr [] None []
-      → Guarded ds (Some g) spare n m g v
-  unfolding listed
-  guard_made cs ds None spare n m g v e ok w r = record {
-    is = refl;
-    ok = ([], [], subst (λ z. IsRing ds g.ptr [] z []) (sym ok.1) r, sym ok.2, sym ok.3, let a = ok.2 in let b = ok.3 in omega arith);
-    view = ap (λ k. state k m) (ring_listed ds g.ptr [] None [] n r (sym ok.2)) ∙ w;
-  }
-  guard_made cs ds (Some h) spare n m g v e ok w r = absurd (some_none h e)
+  -- a node alone that leads to itself is a ring
+  pub lone_guard : (cs ds : List (Cell Links B)) (g : NodePointer) (l : Links) → cs ≡ [] → ds ≡ cell g.ptr l None ∷ cs → IsApart (pointers ds) → l.next.ptr ≡ g.ptr → l.prev.ptr ≡ g.ptr → (l.guard == 1) ≡ true → IsRing ds g.ptr [] None []
+  lone_guard cs ds g l e f d next prev told =
+      let here : links_at ds g.ptr ≡ Some l = ap (λ zs. links_at zs g.ptr) f ∙ ap links_of (cell_at-added cs g.ptr l (subst (λ zs. IsApart (pointers zs)) f d)) in
+      record {
+        linked = ((ap next_of here ∙ next, ap prev_of here ∙ prev), tt);
+        chained = refl;
+        held = tt;
+        there = (ap has_links here, tt);
+        apart = subst (λ zs. IsApart (pointers zs)) (f ∙ ap (λ zs. cell g.ptr l None ∷ zs) e) d;
+        count = ap length (f ∙ ap (λ zs. cell g.ptr l None ∷ zs) e);
+        guard = ap guard_of here ∙ told;
+        plain = tt;
+      }
 
-  pub first_there : (cs es : List (Cell Links B)) (g : NodePointer) (l : Links) → es ≡ cell g.ptr l None ∷ cs → IsApart (pointers es) → is_there es g.ptr ≡ true
-  first_there cs es g l f d = ap (λ zs. is_there zs g.ptr) f ∙ ap (λ z. has_links (links_of z)) (cell_at-added cs g.ptr l (subst (λ zs. IsApart (pointers zs)) f d))
-
-  -- a node alone is a ring once it is joined to itself
-  pub first_guard : (cs es ds : List (Cell Links B)) (g : NodePointer) (l : Links) → cs ≡ [] → es ≡ cell g.ptr l None ∷ cs → IsApart (pointers es) → (l.guard == 1) ≡ true → IsJoined es ds g.ptr g.ptr → IsRing ds g.ptr [] None []
-  first_guard cs es ds g l e f d s j = record {
-    linked = (edge_made es ds g.ptr g.ptr j, tt);
-    chained = refl;
-    held = tt;
-    there = (j.there g.ptr ∙ first_there cs es g l f d, tt);
-    apart = subst (λ zs. IsApart (pointers zs)) (f ∙ ap (λ zs. cell g.ptr l None ∷ zs) e) d;
-    count = j.count ∙ ap length (f ∙ ap (λ zs. cell g.ptr l None ∷ zs) e);
-    guard = j.guard g.ptr ∙ ap (λ zs. is_guard zs g.ptr) f ∙ ap (λ z. guard_of (links_of z)) (cell_at-added cs g.ptr l (subst (λ zs. IsApart (pointers zs)) f d)) ∙ s;
-    plain = tt;
-  }
+  pub none_listed : (ds : List (Cell Links B)) (g : NodePointer) (n : ℕ) → n ≡ 0 → ring_list ds (Some g) n ≡ []
+  unfolding follow listed
+  none_listed ds g n e = ap (ring_list ds (Some g)) e

@@ -33,10 +33,12 @@ fn fits<T>(count: usize) -> bool
 /// Makes the first unused place the guard of an empty ring, which leads to itself, and returns
 /// where the next place lies.
 fn make_guard<K, V>(nodes: &mut Nodes<Links, K, V>, at: NodePointer) -> NodePointer
+    requires small { nodes.old.node_bytes < 2 ^ 63 }
     requires empty { nodes.old.cells ≡ [] }
     requires unused { (n : ℕ) × (nodes.old.unused ≡ row at.ptr nodes.old.node_bytes (n + 1)) }
     ensures guard { IsRing nodes.new.cells at.ptr [] None [] }
     ensures unused { (n : ℕ) → nodes.old.unused ≡ row at.ptr nodes.old.node_bytes (n + 1) → nodes.new.unused ≡ row result.ptr nodes.new.node_bytes n }
+    ensures node_bytes { nodes.new.node_bytes ≡ nodes.old.node_bytes }
     ensures chunks { nodes.new.chunks ≡ nodes.old.chunks }
 {
     let links = Links {
@@ -58,7 +60,8 @@ fn make_spares<K, V>(
     spare: Link,
     count: usize,
 ) -> Link
-    requires { nodes.old.unused ≡ row at.ptr nodes.old.node_bytes count }
+    requires small { nodes.old.node_bytes < 2 ^ 63 }
+    requires unused { nodes.old.unused ≡ row at.ptr nodes.old.node_bytes count }
     ensures stacked { IsStacked nodes.old.cells guard spare count nodes.new.cells result }
     ensures unused { nodes.new.unused ≡ [] }
     ensures chunks { nodes.new.chunks ≡ nodes.old.chunks }
@@ -92,6 +95,7 @@ fn make_nodes<K, V>(
     places: usize,
 ) -> (NodePointer, Link)
     requires some { 0 < places }
+    requires small { nodes.old.node_bytes < 2 ^ 63 }
     requires empty { guard ≡ None → nodes.old.cells ≡ [] }
     requires unused { nodes.old.unused ≡ row at.ptr nodes.old.node_bytes places }
     ensures made { IsGrown guard nodes.old.cells spare (spares_of guard places) nodes.new.cells result.0 result.1 }
@@ -117,6 +121,7 @@ fn take_chunk<K, V>(
     requires some { 0 < places }
     requires none_unused { nodes.old.unused ≡ [] }
     ensures cells { nodes.new.cells ≡ nodes.old.cells }
+    ensures small { OnOk result (nodes.new.node_bytes < 2 ^ 63) }
     ensures unused { IfOk result (λ first. nodes.new.unused ≡ row first.ptr nodes.new.node_bytes places) }
     ensures chunks { IfOk result (λ first. nodes.new.chunks ≡ nodes.old.chunks ++ (first.ptr, places) ∷ []) }
     ensures kept { IfOk result (λ first. map extent chunks.new.items ≡ map extent chunks.old.items ++ (first.ptr, places) ∷ []) }

@@ -1,0 +1,78 @@
+-- Where the places of chunks lie.
+use Rattle.std.proofs.Common.{◌≡◌, ℕ, zero, suc, ◌+◌, ◌*◌, ◌<◌, ◌≤◌, ◌^◌, List, [], ◌∷◌, ◌++◌, length, length-append, true, refl, sym, ap, ◌∙◌, subst, arith, lt→ltb}
+use Rattle.std.proofs.lemmas.List.{append-nil, append_assoc}
+use Rattle.std.specs.Prelude.{nat_lt}
+use Rattle.std.proofs.Flags.{T_true}
+use Rattle.std.proofs.ptr.Rows.{one_more, next}
+use denote.RawPtr.{Ptr, block_ptr, null_ptr, ◌+ₚ◌}
+use Rattle.lhm_ring.specs.Cells.{is_block, AreBlocks}
+use Rattle.lhm_ring.specs.Chunks.{row, places}
+use Rattle.lhm_ring.specs.Land.{place_count}
+use Rattle.lhm_ring.proofs.Rows.{all_both, all_left, all_right}
+
+pub no_places : (s : ℕ) → [] ≡ places s []
+unfolding places
+no_places s = refl
+
+pub no_row : (p : Ptr) (s n : ℕ) → n ≡ 0 → row p s n ≡ []
+unfolding row
+no_row p s n e = ap (row p s) e
+
+pub row_next : (p : Ptr) (s n : ℕ) → row p s (n + 1) ≡ row (p +ₚ s) s n ++ p ∷ []
+unfolding row
+row_next p s n = let one : n + 1 ≡ suc n = omega arith in ap (row p s) one
+
+pub row-length : (p : Ptr) (s n : ℕ) → length (row p s n) ≡ n
+unfolding row
+row-length p s zero = refl
+row-length p s (suc n) = let a = length-append (row (p +ₚ s) s n) (p ∷ []) in let b = row-length (p +ₚ s) s n in omega arith
+
+pub places_last : (s : ℕ) (cs : List (Ptr × ℕ)) (c : Ptr × ℕ) → places s (cs ++ c ∷ []) ≡ row c.0 s c.1 ++ places s cs
+unfolding places
+places_last s [] c = sym (append-nil (row c.0 s c.1))
+places_last s (x ∷ xs) c = ap (λ ps. ps ++ row x.0 s x.1) (places_last s xs c) ∙ append_assoc (row c.0 s c.1) (places s xs) (row x.0 s x.1)
+
+near : (o : ℕ) → o < 2 ^ 63 → nat_lt o (2 ^ 63) ≡ true
+near o h = T_true (nat_lt o (2 ^ 63)) (lt→ltb o (2 ^ 63) h)
+
+-- places near the start of a block may be compared with null
+pub row_blocks : (b o s n : ℕ) → 0 < s → o + n * s < 2 ^ 63 → AreBlocks (row (block_ptr b o) s n)
+unfolding row
+row_blocks b o s zero some h = tt
+row_blocks b o s (suc n) some h =
+    let more : suc n * s ≡ n * s + s = ap (λ (k : ℕ). k * s) (sym (one_more n)) ∙ next n s in
+    all_both (λ q. is_block q ≡ true) (row (block_ptr b (o + s)) s n) (block_ptr b o ∷ []) (row_blocks b (o + s) s n some (omega (arith, more))) (near o (omega (arith, more)), tt)
+
+-- the first of the places
+pub row_first_block : (p : Ptr) (s n : ℕ) (us : List Ptr) → us ≡ row p s (n + 1) → AreBlocks us → is_block p ≡ true
+row_first_block p s n us e all = (all_right (λ q. is_block q ≡ true) (row (p +ₚ s) s n) (p ∷ []) (subst AreBlocks (e ∙ row_next p s n) all)).0
+
+pub row_other_blocks : (p : Ptr) (s n : ℕ) (us : List Ptr) → us ≡ row p s (n + 1) → AreBlocks us → AreBlocks (row (p +ₚ s) s n)
+row_other_blocks p s n us e all = all_left (λ q. is_block q ≡ true) (row (p +ₚ s) s n) (p ∷ []) (subst AreBlocks (e ∙ row_next p s n) all)
+
+-- the first unused place becomes the newest node
+pub laid_next : (p : Ptr) (s n : ℕ) (us ps ls : List Ptr) → us ≡ row p s (n + 1) → us ++ ps ≡ ls → row (p +ₚ s) s n ++ p ∷ ps ≡ ls
+laid_next p s n us ps ls e h = sym (append_assoc (row (p +ₚ s) s n) (p ∷ []) ps) ∙ ap (λ qs. qs ++ ps) (sym (e ∙ row_next p s n)) ∙ h
+
+-- the same numbers of places
+row_same : (p : Ptr) (s m n : ℕ) → m ≡ n → row p s m ≡ row p s n
+row_same p s m n e = ap (row p s) e
+
+-- how long the rows are tells what is left
+pub row_left : (p : Ptr) (s n m : ℕ) (us : List Ptr) → us ≡ row p s (n + 1) → us ≡ row p s (m + 1) → row (p +ₚ s) s n ≡ row (p +ₚ s) s m
+row_left p s n m us e f =
+    let long : n + 1 ≡ m + 1 = sym (row-length p s (n + 1)) ∙ ap length (sym e ∙ f) ∙ row-length p s (m + 1) in row_same (p +ₚ s) s n m (omega (arith, long))
+
+-- a chunk more
+pub laid_more : (p : Ptr) (s n : ℕ) (us ps : List Ptr) (cs : List (Ptr × ℕ)) → us ++ ps ≡ places s cs → (row p s n ++ us) ++ ps ≡ places s (cs ++ (p, n) ∷ [])
+laid_more p s n us ps cs h = append_assoc (row p s n) us ps ∙ ap (λ qs. row p s n ++ qs) h ∙ sym (places_last s cs (p, n))
+
+pub places-length : (s : ℕ) (cs : List (Ptr × ℕ)) → length (places s cs) ≡ place_count cs
+unfolding places place_count
+places-length s [] = refl
+places-length s (c ∷ cs) = let a = length-append (places s cs) (row c.0 s c.1) in let b = places-length s cs in let d = row-length c.0 s c.1 in omega arith
+
+pub place_count-last : (cs : List (Ptr × ℕ)) (c : Ptr × ℕ) → place_count (cs ++ c ∷ []) ≡ place_count cs + c.1
+unfolding place_count
+place_count-last [] c = refl
+place_count-last (x ∷ cs) c = let a = place_count-last cs c in omega arith

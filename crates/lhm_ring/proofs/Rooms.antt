@@ -1,0 +1,65 @@
+-- The land of nodes is taken apart from them, and the memory of a chunk is cut into places, and made of them again. Assumes `Logic`.
+use Rattle.std.proofs.Common.{◌≡◌, ℕ, zero, suc, ◌+◌, ◌*◌, ◌^◌, Bool, true, List, [], ◌∷◌, ◌++◌, refl, sym, ap}
+use seplogic.Ra.Ura.{Ura}
+use mir.Syntax.{Ty, ty_array}
+use base.Logic.{ent, sep}
+use base.Fml.{Fml, ftrue, fsep, flt, feq, froom}
+use types.Logic.{Logic, sem}
+use types.Kit.{‵, ◌⊛◌, ◌$◌, ◌∵◌, !, qed, by, move, keep, drop, use0, use1, use2, split, fsplit, fjoin, done}
+use denote.RawPtr.{Ptr, block_ptr, room_for}
+use denote.Steps.{nothing}
+use Rattle.lhm_ring.specs.Chunks.{row}
+use Rattle.lhm_ring.specs.Ownership.{node_bytes, places_own, chunk_owns, chunks_own}
+use Rattle.lhm_ring.proofs.Blocks.{block}
+use Rattle.lhm_ring.proofs.Memory.{Three, RL, RK, RV, Node, One, Cells}
+
+module _ {M : Type 1} {𝓤 : Ura M} (𝓛 : Logic 𝓤) (E : Three) where
+  pub land_cut : (Z : Fml) (cs : List (Node E)) → ent 𝓤 (sem 𝓛 (Cells E Z cs)) (sep 𝓤 (sem 𝓛 Z) (sem 𝓛 (Cells E ftrue cs)))
+  land_cut Z [] = qed 𝓛 (‵ Z ∷ []) ∵ nothing ! $ move ! (1 ∷ 0 ∷ []) $ done !
+  land_cut Z (c ∷ cs) = qed 𝓛 (‵ (Cells E Z (c ∷ cs)) ∷ []) ∵ fsplit ! $ move ! (1 ∷ []) $ use1 𝓛 (‵ Z ⊛ ‵ (Cells E ftrue cs)) (land_cut Z cs) $ split ! $ move ! (2 ∷ 1 ∷ []) $ fjoin ! $ move ! (1 ∷ 0 ∷ []) $ done !
+
+  pub land_glue : (Z : Fml) (cs : List (Node E)) → ent 𝓤 (sep 𝓤 (sem 𝓛 Z) (sem 𝓛 (Cells E ftrue cs))) (sem 𝓛 (Cells E Z cs))
+  land_glue Z [] = qed 𝓛 (‵ Z ∷ ‵ ftrue ∷ []) ∵ keep ! (0 ∷ []) $ done !
+  land_glue Z (c ∷ cs) = qed 𝓛 (‵ Z ∷ ‵ (Cells E ftrue (c ∷ cs)) ∷ []) ∵ move ! (1 ∷ []) $ fsplit ! $ move ! (2 ∷ 1 ∷ []) $ use2 𝓛 (‵ (Cells E Z cs)) (land_glue Z cs) $ move ! (1 ∷ 0 ∷ []) $ fjoin ! $ done !
+
+  abbrev pub Places : List Ptr → Fml
+  Places = places_own (RL E) (RK E) (RV E)
+
+  abbrev pub Chunks : List (Ptr × ℕ) → Fml
+  Chunks = chunks_own (RL E) (RK E) (RV E)
+
+  abbrev One_chunk : Ptr × ℕ → Fml
+  One_chunk = chunk_owns (RL E) (RK E) (RV E)
+
+  abbrev pub bytes : ℕ
+  bytes = node_bytes (RL E) (RK E) (RV E)
+
+  pub places_cut : (ps qs : List Ptr) → ent 𝓤 (sem 𝓛 (Places (ps ++ qs))) (sep 𝓤 (sem 𝓛 (Places ps)) (sem 𝓛 (Places qs)))
+  places_cut [] qs = qed 𝓛 (‵ (Places qs) ∷ []) ∵ nothing ! $ done !
+  places_cut (p ∷ ps) qs = qed 𝓛 (‵ (Places (p ∷ ps ++ qs)) ∷ []) ∵ fsplit ! $ move ! (1 ∷ []) $ use1 𝓛 (‵ (Places ps) ⊛ ‵ (Places qs)) (places_cut ps qs) $ split ! $ move ! (2 ∷ 0 ∷ []) $ fjoin ! $ done !
+
+  pub places_glue : (ps qs : List Ptr) → ent 𝓤 (sep 𝓤 (sem 𝓛 (Places ps)) (sem 𝓛 (Places qs))) (sem 𝓛 (Places (ps ++ qs)))
+  places_glue [] qs = qed 𝓛 (‵ ftrue ∷ ‵ (Places qs) ∷ []) ∵ drop ! $ done !
+  places_glue (p ∷ ps) qs = qed 𝓛 (‵ (Places (p ∷ ps)) ∷ ‵ (Places qs) ∷ []) ∵ fsplit ! $ move ! (1 ∷ 2 ∷ []) $ use2 𝓛 (‵ (Places (ps ++ qs))) (places_glue ps qs) $ move ! (1 ∷ 0 ∷ []) $ fjoin ! $ done !
+
+  pub chunks_cut : (cs : List (Ptr × ℕ)) (c : Ptr × ℕ) → ent 𝓤 (sem 𝓛 (Chunks (cs ++ c ∷ []))) (sep 𝓤 (sem 𝓛 (One_chunk c)) (sem 𝓛 (Chunks cs)))
+  chunks_cut [] c = qed 𝓛 (‵ (Chunks (c ∷ [])) ∷ []) ∵ fsplit ! $ done !
+  chunks_cut (x ∷ xs) c = qed 𝓛 (‵ (Chunks (x ∷ xs ++ c ∷ [])) ∷ []) ∵ fsplit ! $ move ! (1 ∷ []) $ use1 𝓛 (‵ (One_chunk c) ⊛ ‵ (Chunks xs)) (chunks_cut xs c) $ split ! $ move ! (2 ∷ 1 ∷ []) $ fjoin ! $ move ! (1 ∷ 0 ∷ []) $ done !
+
+  pub chunks_glue : (cs : List (Ptr × ℕ)) (c : Ptr × ℕ) → ent 𝓤 (sep 𝓤 (sem 𝓛 (One_chunk c)) (sem 𝓛 (Chunks cs))) (sem 𝓛 (Chunks (cs ++ c ∷ [])))
+  chunks_glue [] c = qed 𝓛 (‵ (One_chunk c) ∷ ‵ ftrue ∷ []) ∵ fjoin ! $ done !
+  chunks_glue (x ∷ xs) c = qed 𝓛 (‵ (One_chunk c) ∷ ‵ (Chunks (x ∷ xs)) ∷ []) ∵ move ! (1 ∷ []) $ fsplit ! $ move ! (2 ∷ 1 ∷ []) $ use2 𝓛 (‵ (Chunks (xs ++ c ∷ []))) (chunks_glue xs c) $ move ! (1 ∷ 0 ∷ []) $ fjoin ! $ done !
+
+  pub rooms_cut : (n b o : ℕ) → ent 𝓤 (sem 𝓛 (froom (ty_array (block E) n) b o)) (sem 𝓛 (Places (row (block_ptr b o) bytes n)))
+  unfolding row
+  rooms_cut zero b o = qed 𝓛 (‵ (froom (ty_array (block E) 0) b o) ∷ []) ∵ drop ! $ nothing ! $ done !
+  rooms_cut (suc n) b o = let q : Ptr = block_ptr b (o + bytes) in qed 𝓛 (‵ (froom (ty_array (block E) (suc n)) b o) ∷ []) ∵
+      use1 𝓛 (‵ (froom (block E) b o) ⊛ ‵ (froom (ty_array (block E) n) b (o + bytes))) (𝓛.laws.room_uncons (block E) n b o) $ split ! $ move ! (1 ∷ []) $
+      use1 𝓛 (‵ (Places (row q bytes n))) (rooms_cut n b (o + bytes)) $ nothing ! $ move ! (2 ∷ 0 ∷ []) $ fjoin ! $ move ! (1 ∷ 0 ∷ []) $ by ! (places_glue (row q bytes n) (block_ptr b o ∷ []))
+
+  pub rooms_glue : (n b o : ℕ) → ent 𝓤 (sem 𝓛 (Places (row (block_ptr b o) bytes n))) (sem 𝓛 (froom (ty_array (block E) n) b o))
+  unfolding row
+  rooms_glue zero b o = 𝓛.laws.room_nil (block E) b o
+  rooms_glue (suc n) b o = let q : Ptr = block_ptr b (o + bytes) in qed 𝓛 (‵ (Places (row (block_ptr b o) bytes (suc n))) ∷ []) ∵
+      use1 𝓛 (‵ (Places (row q bytes n)) ⊛ ‵ (Places (block_ptr b o ∷ []))) (places_cut (row q bytes n) (block_ptr b o ∷ [])) $ split ! $
+      use1 𝓛 (‵ (froom (ty_array (block E) n) b (o + bytes))) (rooms_glue n b (o + bytes)) $ move ! (1 ∷ []) $ fsplit ! $ move ! (1 ∷ []) $ drop ! $ by ! (𝓛.laws.room_cons (block E) n b o)
