@@ -32,16 +32,16 @@ unfolding places
 places_last s [] c = sym (append-nil (row c.0 s c.1))
 places_last s (x ∷ xs) c = ap (λ ps. ps ++ row x.0 s x.1) (places_last s xs c) ∙ append_assoc (row c.0 s c.1) (places s xs) (row x.0 s x.1)
 
-near : (o : ℕ) → o < 2 ^ 63 → nat_lt o (2 ^ 63) ≡ true
+pub near : (o : ℕ) → o < 2 ^ 63 → nat_lt o (2 ^ 63) ≡ true
 near o h = T_true (nat_lt o (2 ^ 63)) (lt→ltb o (2 ^ 63) h)
 
 -- places near the start of a block may be compared with null
-pub row_blocks : (b o s n : ℕ) → 0 < s → o + n * s < 2 ^ 63 → AreBlocks (row (block_ptr b o) s n)
+pub row_blocks : (b o s n : ℕ) → o + n * s < 2 ^ 63 → AreBlocks (row (block_ptr b o) s n)
 unfolding row
-row_blocks b o s zero some h = tt
-row_blocks b o s (suc n) some h =
+row_blocks b o s zero h = tt
+row_blocks b o s (suc n) h =
     let more : suc n * s ≡ n * s + s = ap (λ (k : ℕ). k * s) (sym (one_more n)) ∙ next n s in
-    all_both (λ q. is_block q ≡ true) (row (block_ptr b (o + s)) s n) (block_ptr b o ∷ []) (row_blocks b (o + s) s n some (omega (arith, more))) (near o (omega (arith, more)), tt)
+    all_both (λ q. is_block q ≡ true) (row (block_ptr b (o + s)) s n) (block_ptr b o ∷ []) (row_blocks b (o + s) s n (omega (arith, more))) (near o (omega (arith, more)), tt)
 
 -- the first of the places
 pub row_first_block : (p : Ptr) (s n : ℕ) (us : List Ptr) → us ≡ row p s (n + 1) → AreBlocks us → is_block p ≡ true

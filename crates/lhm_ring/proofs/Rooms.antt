@@ -2,16 +2,20 @@
 use Rattle.std.proofs.Common.{◌≡◌, ℕ, zero, suc, ◌+◌, ◌*◌, ◌^◌, Bool, true, List, [], ◌∷◌, ◌++◌, refl, sym, ap}
 use seplogic.Ra.Ura.{Ura}
 use mir.Syntax.{Ty, ty_array}
-use base.Logic.{ent, sep}
+use base.Fraction.{full_share}
+use base.Logic.{ent, sep, never, id⊢}
 use base.Fml.{Fml, ftrue, fsep, flt, feq, froom}
 use types.Logic.{Logic, sem}
-use types.Kit.{‵, ◌⊛◌, ◌$◌, ◌∵◌, !, qed, by, move, keep, drop, use0, use1, use2, split, fsplit, fjoin, done}
-use denote.RawPtr.{Ptr, block_ptr, room_for}
+use types.Kit.{‵, ◌⊛◌, ◌$◌, ◌∵◌, !, qed, by, move, keep, drop, use1, use2, split, rewrite, fsplit, fjoin, fjoin3, done}
+use denote.Param.{layout}
+use denote.RawPtr.{Ptr, block_ptr, room_for, lies_at, in_a_block}
 use denote.Steps.{nothing}
+use Rattle.std.proofs.RawLayout.{as_raw}
+use Rattle.lhm_ring.specs.Cells.{pointers}
 use Rattle.lhm_ring.specs.Chunks.{row}
-use Rattle.lhm_ring.specs.Ownership.{node_bytes, places_own, chunk_owns, chunks_own}
-use Rattle.lhm_ring.proofs.Blocks.{block}
-use Rattle.lhm_ring.proofs.Memory.{Three, RL, RK, RV, Node, One, Cells}
+use Rattle.lhm_ring.specs.Ownership.{links_of, body_owns, deed_owns, node_bytes, places_own, chunk_owns, chunks_own}
+use Rattle.lhm_ring.proofs.Blocks.{block, block_glue}
+use Rattle.lhm_ring.proofs.Memory.{Three, RL, RK, RV, lo, ko, vo, Node, One, Cells, uninit_left, body_uninit}
 
 module _ {M : Type 1} {𝓤 : Ura M} (𝓛 : Logic 𝓤) (E : Three) where
   pub land_cut : (Z : Fml) (cs : List (Node E)) → ent 𝓤 (sem 𝓛 (Cells E Z cs)) (sep 𝓤 (sem 𝓛 Z) (sem 𝓛 (Cells E ftrue cs)))
@@ -63,3 +67,19 @@ module _ {M : Type 1} {𝓤 : Ura M} (𝓛 : Logic 𝓤) (E : Three) where
   rooms_glue (suc n) b o = let q : Ptr = block_ptr b (o + bytes) in qed 𝓛 (‵ (Places (row (block_ptr b o) bytes (suc n))) ∷ []) ∵
       use1 𝓛 (‵ (Places (row q bytes n)) ⊛ ‵ (Places (block_ptr b o ∷ []))) (places_cut (row q bytes n) (block_ptr b o ∷ [])) $ split ! $
       use1 𝓛 (‵ (froom (ty_array (block E) n) b (o + bytes))) (rooms_glue n b (o + bytes)) $ move ! (1 ∷ []) $ fsplit ! $ move ! (1 ∷ []) $ drop ! $ by ! (𝓛.laws.room_cons (block E) n b o)
+
+  -- a node and what it holds are forgotten
+  emptied : (c : Node E) → ent 𝓤 (sem 𝓛 (One E c)) (sem 𝓛 (room_for (block E) c.at))
+  emptied c = qed 𝓛 (‵ (One E c) ∷ []) ∵ fsplit ! $ in_a_block ! c.at (λ q. lies_at (RL E) full_share (links_of (RL E) (RK E) (RV E) q) c.links) (id⊢ 𝓤 (never 𝓤)) (λ b o e.
+      use1 𝓛 (‵ (froom (layout E.links) b (o + lo E))) (uninit_left 𝓛 b (o + lo E) 0 E.links E.links_laws c.links) $ as_raw ! (layout E.links) b (o + lo E) $ move ! (1 ∷ []) $ fsplit ! $
+      rewrite ! 0 (λ (q : Ptr). ‵ (body_owns (RL E) (RK E) (RV E) q c.body)) e refl $ use1 𝓛 (‵ (froom (layout E.key) b (o + ko E)) ⊛ ‵ (froom (layout E.value) b (o + vo E))) (body_uninit 𝓛 E b o c.body) $ split ! $
+      as_raw ! (layout E.key) b (o + ko E) $ move ! (1 ∷ []) $ as_raw ! (layout E.value) b (o + vo E) $
+      -- [the value's memory; the key's; the deed; the links' memory]
+      rewrite ! 2 (λ (q : Ptr). ‵ (deed_owns (RL E) (RK E) (RV E) q)) e refl $ move ! (3 ∷ 1 ∷ 0 ∷ []) $ fjoin3 ! $
+      use2 𝓛 (‵ (froom (block E) b o)) (block_glue E 𝓛 b o) $ rewrite ! 0 (λ (q : Ptr). ‵ (room_for (block E) q)) (sym e) refl $ done !)
+
+  -- all nodes become places
+  pub cells_emptied : (cs : List (Node E)) → ent 𝓤 (sem 𝓛 (Cells E ftrue cs)) (sem 𝓛 (Places (pointers cs)))
+  cells_emptied [] = id⊢ 𝓤 _
+  cells_emptied (c ∷ cs) = qed 𝓛 (‵ (Cells E ftrue (c ∷ cs)) ∷ []) ∵ fsplit ! $ use1 𝓛 (‵ (room_for (block E) c.at)) (emptied c) $ move ! (1 ∷ []) $
+      use1 𝓛 (‵ (Places (pointers cs))) (cells_emptied cs) $ move ! (1 ∷ 0 ∷ []) $ fjoin ! $ done !

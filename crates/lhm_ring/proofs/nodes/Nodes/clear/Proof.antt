@@ -1,0 +1,84 @@
+-- `clear` makes all nodes places: what they hold is forgotten. Assumes `Logic`.
+use Rattle.std.proofs.lemmas.List.{append-nil}
+use Rattle.std.proofs.Common.{◌≡◌, ℕ, ◌+◌, ◌*◌, ◌<◌, ◌^◌, Bool, true, List, [], ◌∷◌, ◌++◌, refl, sym, ap, ◌∙◌, subst, None, arith}
+use base.Fraction.{full_share}
+use mir.Val.{Val, vptr, vunit}
+use mir.Syntax.{Ty, ty_array}
+use mir.MapTy.{inst_fn}
+use base.Logic.{SProp, ent, emp, id⊢, snd∗, via}
+use base.Fml.{Fml, ftrue, fsep, flft, froom}
+use prog.Memory.{size}
+use prog.RawLaws.{size-raw}
+use prog.Wp.{WpFn}
+use types.Logic.{sem}
+use types.Kit.{◌∵◌, ‵, raw, ◌⊛◌, at_ret, ◌$◌, !, qed, by, move, keep, drop, use0, use1, use2, split, join, fsplit, fsplit3, fjoin, fjoin3, flt_l, flt_i, suffices, rewrite, feq_i, feq_l}
+use types.Run.{unit_lit, stop, fld, init, addr, lit, bin, size_lit, of_opd, no_more, and_then, assigns_last, first, blocks, exec, returns, enter}
+use types.ByLocal.{alloc_all, pass_all, free_all, look_at, get, get_in, through, sets, sets_last, is, env}
+use types.Part.{sub, whole, agg}
+use contract.Running.{tables}
+use contract.Monad.{fact, fact_i}
+use denote.Exit.{yes, no}
+use denote.RattleType.{RattleType, owns}
+use denote.Param.{layout}
+use denote.Param.Laws.{param_laws}
+use denote.Signature.{types_at, plain}
+use denote.RawPtr.{Ptr, block_ptr, ptr_val, lies_at, room_for, in_a_block, ◌+ₚ◌}
+use denote.Steps.{nothing, heard, opens, closes}
+use denote.Triple.Walked.{Stays, stay_dropped, stay_ref, walk_of, Goes-dropped, Goes-ref}
+use Rattle.std.proofs.RawLayout.{as_written}
+use Rattle.std.proofs.VecSteps.Shapes.{after}
+use Rattle.std.proofs.RcSteps.{word, word-Good}
+use Rattle.std.proofs.raw_atomic.Walks.{proved_at, leaves}
+use Rattle.lhm_ring.specs.Cells.{cell, is_block, pointers, AreBlocks}
+use Rattle.lhm_ring.specs.Chunks.{row, places}
+use Rattle.lhm_ring.specs.Ownership.{links_of, fields_own, node_bytes}
+use Rattle.lhm_ring.proofs.Apart.{apart_none}
+use Rattle.lhm_ring.proofs.BlockValues.{block_val, block_Good, BlockType, BlockFields, block_made, block_known, pointer_made, knows}
+use Rattle.lhm_ring.proofs.Blocks.{written, block, Rejoins, block_cut}
+use Rattle.lhm_ring.proofs.Memory.{Three, args, RL, RK, RV, lo, Nr, Pl, Land, Cells, pointer_told, alone, value_in}
+use Rattle.lhm_ring.proofs.Rooms.{land_cut, Places, places_glue, cells_emptied}
+use Rattle.std.proofs.alloc.Calls.{Goes-blank}
+use Rattle.std.specs.contracts.alloc.Global as heap
+use Rattle.std.specs.contracts.impls.GlobalAllocator.TheImpl.{ghosts}
+use Rattle.std.specs.Allocator.{array_of}
+use Rattle.lhm_ring.specs.contracts.block.Node as N-type
+use Rattle.lhm_ring.specs.Ownership.{chunk_token, chunk_owns}
+use Rattle.std.proofs.GlobalToken.{dealloc_token_start}
+use Rattle.std.proofs.ptr.Rows.{one_below}
+use Rattle.lhm_ring.proofs.Rows.{all_both}
+use Rattle.lhm_ring.specs.contracts.nodes.Nodes.clear.{ended, clauses}
+use Rattle.lhm_ring.specs.contracts.nodes.Nodes.clear.Key.{name as #self}
+use Rattle.lhm_ring.proofs.nodes.Nodes.clear.Statement.{statement}
+use Rattle.lhm_ring.proofs.nodes.Nodes.clear.Code as code
+
+pub clear_spec : {M : Type 1} → statement M
+clear_spec 𝓤 𝓛 𝓜 𝓡 wired L K V LL LK LV =
+    let H = 𝓛.H in let 𝓣 = tables 𝓤 H 𝓜 𝓡 𝓡.env in let E : Three = record { links = L; links_laws = LL; key = K; key_laws = LK; value = V; value_laws = LV } in let N = Nr E in let R = RL E in let S = RK E in let W = RV E in
+    let En = ended L K V in let c = clauses L K V 𝓛 𝓜.mem 𝓡.returns in let fn = inst_fn (args E) code.function in
+    let hs : Stays En.signature.params En.kept = (stay_ref (0 ∷ []) tt (plain (λ _. N)), tt) in
+    proved_at 𝓛 En hs c 𝓜 𝓡 (Goes-ref 𝓛 4 0 tt (plain (λ _. N)), tt)
+    (#self (args E)) fn (code.unfolded 𝓤 H 𝓜 𝓡 wired (L, (K, (V, tt)))) (λ y are.
+    let κs = y.0.0 in let qs = y.0.1 in let a = y.0.3 in let vss = y.0.4 in let Post : Val → SProp 𝓤 = (walk_of 𝓛 En hs c).post y in
+    let rb : ℕ = a.0.ref_ptr.0 in let ro : ℕ = a.0.ref_ptr.1 in let h : N.Denot = a.0.now in let s : ℕ = h.node_bytes in
+    let others : Fml = fsep (flft κs.1.0 qs.1.0) (fsep (flft κs.1.1.0 qs.1.1.0) (fsep (flft κs.1.1.1.0 qs.1.1.1.0) ftrue)) in
+    qed 𝓛 (((‵ (flft κs.0 qs.0) ⊛ ‵ others) ⊛ ‵ (owns (types_at En.signature.params κs) a vss)) ∷ raw (fact 𝓤 _) ∷ raw (fact 𝓤 _) ∷ raw (fact 𝓤 _) ∷ raw (emp 𝓤) ∷ []) ∵
+    keep ! (0 ∷ []) $ split ! $ split ! $ move ! (2 ∷ []) $ fsplit ! $ fsplit3 ! $ keep ! (1 ∷ 2 ∷ 4 ∷ 5 ∷ []) $
+    -- [self, in two; its token; the other tokens]
+    let us : List Val = vptr rb ro ∷ [] in let Run : List Val → SProp 𝓤 = λ ws. WpFn 𝓤 H 𝓣.C 𝓣.Λ fn ws Post in
+    suffices ! (Run us) (subst (λ (ws : List Val). ent 𝓤 (Run us) (Run ws)) (sym (λ i. are.0.0 i ++ [])) (id⊢ 𝓤 (Run us))) $
+    enter ! 𝓣.C 𝓣.Λ fn us Post $ alloc_all ! (λ l. pass_all ! refl ((tt, tt), tt) $
+    opens ! tt N {h = h} rb ro (λ vs. move ! (1 ∷ []) $ fsplit ! $ move ! (1 ∷ []) $
+    use1 𝓛 (‵ (Land E h) ⊛ ‵ (Cells E ftrue h.cells)) (land_cut 𝓛 E (Land E h) h.cells) $ split ! $ fsplit ! $ feq_l ! (λ sized. fsplit ! $ move ! (2 ∷ []) $
+    -- [the nodes; the unused places; the chunks; the marker; its cell; the open borrow, in three; the other tokens]
+    use1 𝓛 (‵ (Places 𝓛 E (pointers h.cells))) (cells_emptied 𝓛 E h.cells) $ move ! (1 ∷ 0 ∷ []) $
+    use2 𝓛 (‵ (Places 𝓛 E (h.unused ++ pointers h.cells))) (places_glue 𝓛 E h.unused (pointers h.cells)) $ rewrite ! 0 (λ (ps : List Ptr). ‵ (Places 𝓛 E ps)) h.laid refl $ fjoin ! $ feq_i ! ℕ s (node_bytes R S W) sized $ fjoin ! $
+    let all : List Ptr = places s h.chunks in
+    let h' : N.Denot = record { marker = h.marker; cells = []; apart = apart_none; blocks = tt; node_bytes = s; unused = all; chunks = h.chunks;
+      unused_blocks = subst AreBlocks h.laid (all_both (λ q. is_block q ≡ true) h.unused (pointers h.cells) h.unused_blocks h.blocks); laid = append-nil all } in
+    move ! (1 ∷ 0 ∷ []) $ fjoin ! $ move ! (1 ∷ 0 ∷ []) $ closes ! tt N h' vs rb ro $ sets ! (of_opd ! (unit_lit !)) refl (tt, tt) $
+    feq_i ! (List Val) vss.0 (vptr rb ro ∷ []) are.0.0 $ fjoin3 ! $ nothing ! $ move ! (1 ∷ 0 ∷ []) $ fjoin ! $ move ! (1 ∷ 2 ∷ []) $ join ! $
+    let Told : Type 0 = h'.cells ≡ [] in let Unused : Type 0 = all ≡ all in let Bytes : Type 0 = s ≡ s in let Kept : Type 0 = h.chunks ≡ h.chunks in
+    use0 𝓛 (raw (fact 𝓤 Kept)) (fact_i 𝓤 Kept (emp 𝓤) refl) $ use0 𝓛 (raw (fact 𝓤 Bytes)) (fact_i 𝓤 Bytes (emp 𝓤) refl) $ join ! $
+    use0 𝓛 (raw (fact 𝓤 Unused)) (fact_i 𝓤 Unused (emp 𝓤) refl) $ join ! $ use0 𝓛 (raw (fact 𝓤 Told)) (fact_i 𝓤 Told (emp 𝓤) refl) $ join ! $
+    feq_i ! (List Val) (vunit ∷ []) (vunit ∷ []) refl $
+    returns ! (look_at ! 0 refl) $ free_all ! refl $ keep ! (2 ∷ 3 ∷ 0 ∷ 1 ∷ []) $ by ! (leaves 𝓛 En hs c y vunit tt (h', tt) (tt, tt))))))
