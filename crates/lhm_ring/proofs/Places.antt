@@ -76,3 +76,7 @@ pub place_count-last : (cs : List (Ptr × ℕ)) (c : Ptr × ℕ) → place_count
 unfolding place_count
 place_count-last [] c = refl
 place_count-last (x ∷ cs) c = let a = place_count-last cs c in omega arith
+
+pub in_block : (p : Ptr) → is_block p ≡ true → (at : ℕ × ℕ) × (p ≡ block_ptr at.0 at.1)
+in_block (block_ptr b o) e = ((b, o), refl)
+in_block null_ptr e = cc
