@@ -1,5 +1,5 @@
 -- Where the places of chunks lie.
-use Rattle.std.proofs.Common.{◌≡◌, ℕ, zero, suc, ◌+◌, ◌*◌, ◌<◌, ◌≤◌, ◌^◌, List, [], ◌∷◌, ◌++◌, length, length-append, true, refl, sym, ap, ◌∙◌, subst, arith, lt→ltb}
+use Rattle.std.proofs.Common.{◌≡◌, ℕ, zero, suc, ◌+◌, ◌*◌, ◌<◌, ◌≤◌, ◌^◌, List, [], ◌∷◌, ◌++◌, length, length-append, map, true, refl, sym, ap, ◌∙◌, subst, arith, lt→ltb}
 use Rattle.std.proofs.lemmas.List.{append-nil, append_assoc}
 use Rattle.std.specs.Prelude.{nat_lt}
 use Rattle.std.proofs.Flags.{T_true}
@@ -7,7 +7,8 @@ use Rattle.std.proofs.ptr.Rows.{one_more, next}
 use denote.RawPtr.{Ptr, block_ptr, null_ptr, ◌+ₚ◌}
 use Rattle.lhm_ring.specs.Cells.{is_block, AreBlocks}
 use Rattle.lhm_ring.specs.Chunks.{row, places}
-use Rattle.lhm_ring.specs.Land.{place_count}
+use Rattle.lhm_ring.specs.declared.chunk.Chunk.{Chunk}
+use Rattle.lhm_ring.specs.Land.{extent, place_count, IsLaid}
 use Rattle.lhm_ring.proofs.Rows.{all_both, all_left, all_right}
 
 pub no_places : (s : ℕ) → [] ≡ places s []
@@ -80,3 +81,11 @@ place_count-last (x ∷ cs) c = let a = place_count-last cs c in omega arith
 pub in_block : (p : Ptr) → is_block p ≡ true → (at : ℕ × ℕ) × (p ≡ block_ptr at.0 at.1)
 in_block (block_ptr b o) e = ((b, o), refl)
 in_block null_ptr e = cc
+
+-- a ring's chunks stay where its nodes keep theirs
+pub still_laid : {us vs : List Ptr} {cs ds : List (Ptr × ℕ)} {kept : List Chunk} {made : ℕ} → IsLaid us cs kept made → vs ≡ us → ds ≡ cs → IsLaid vs ds kept made
+still_laid l e f = record { none_unused = e ∙ l.none_unused; all_kept = f ∙ l.all_kept; all_made = l.all_made ∙ ap place_count (sym f) }
+
+pub bare_laid : {us : List Ptr} {cs : List (Ptr × ℕ)} {kept : List Chunk} → us ≡ [] → cs ≡ [] → kept ≡ [] → IsLaid us cs kept 0
+unfolding place_count
+bare_laid e f k = record { none_unused = e; all_kept = f ∙ sym (ap (map extent) k); all_made = sym (ap place_count f) }

@@ -1,4 +1,5 @@
 //! All held nodes become spare at once.
+ghost use Rattle.std.specs.Prelude.{◌≡◌};
 ghost use Rattle.lhm_ring.specs.Splices.{HasRow, SparesRow, HasRing, SplicesRing};
 ghost use Rattle.lhm_ring.specs.Targets.{target};
 
@@ -24,7 +25,8 @@ fn spare_row<K, V>(
     spare: Link,
 ) -> Link
     requires { HasRow nodes.old.cells first.ptr count (target spare) }
-    ensures { SparesRow nodes.old.cells first.ptr count (target spare) nodes.new.cells (target result) }
+    ensures spared { SparesRow nodes.old.cells first.ptr count (target spare) nodes.new.cells (target result) }
+    ensures land { (nodes.new.unused ≡ nodes.old.unused) × (nodes.new.chunks ≡ nodes.old.chunks) }
 {
     let mut at = first;
     let mut spare = spare;
@@ -47,7 +49,8 @@ pub(crate) fn splice<K, V>(
     count: usize,
 ) -> Spliced
     requires { HasRing nodes.old.cells guard spare count }
-    ensures { SplicesRing nodes.old.cells guard spare count nodes.new.cells result }
+    ensures spliced { SplicesRing nodes.old.cells guard spare count nodes.new.cells result }
+    ensures land { (nodes.new.unused ≡ nodes.old.unused) × (nodes.new.chunks ≡ nodes.old.chunks) }
 {
     match guard {
         Some(guard) => {
