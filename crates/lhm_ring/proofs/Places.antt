@@ -1,5 +1,5 @@
 -- Where the places of chunks lie.
-use Rattle.std.proofs.Common.{◌≡◌, ℕ, zero, suc, ◌+◌, ◌*◌, ◌<◌, ◌≤◌, ◌^◌, List, [], ◌∷◌, ◌++◌, length, length-append, map, true, refl, sym, ap, ◌∙◌, subst, arith, lt→ltb}
+use Rattle.std.proofs.Common.{◌≡◌, ℕ, zero, suc, ◌+◌, ◌-◌, ◌*◌, ◌<◌, ◌≤◌, ◌^◌, List, [], ◌∷◌, ◌++◌, length, length-append, map, true, refl, sym, ap, ◌∙◌, subst, arith, lt→ltb}
 use Rattle.std.proofs.lemmas.List.{append-nil, append_assoc}
 use Rattle.std.specs.Prelude.{nat_lt}
 use Rattle.std.proofs.Flags.{T_true}
@@ -89,3 +89,28 @@ still_laid l e f = record { none_unused = e ∙ l.none_unused; all_kept = f ∙ 
 pub bare_laid : {us : List Ptr} {cs : List (Ptr × ℕ)} {kept : List Chunk} → us ≡ [] → cs ≡ [] → kept ≡ [] → IsLaid us cs kept 0
 unfolding place_count
 bare_laid e f k = record { none_unused = e; all_kept = f ∙ sym (ap (map extent) k); all_made = sym (ap place_count f) }
+
+pub row_less : (p : Ptr) (s n : ℕ) → 0 < n → row p s n ≡ row p s (n - 1 + 1)
+row_less p s n some = row_same p s n (n - 1 + 1) (omega arith)
+
+pub extents_last : (ks : List Chunk) (k : Chunk) → map extent (ks ++ k ∷ []) ≡ map extent ks ++ extent k ∷ []
+extents_last [] k = refl
+extents_last (x ∷ ks) k = ap (λ cs. extent x ∷ cs) (extents_last ks k)
+
+all_but_last : List (Ptr × ℕ) → List (Ptr × ℕ)
+all_but_last [] = []
+all_but_last (c ∷ []) = []
+all_but_last (c ∷ d ∷ cs) = c ∷ all_but_last (d ∷ cs)
+
+without_last : (cs : List (Ptr × ℕ)) (c : Ptr × ℕ) → all_but_last (cs ++ c ∷ []) ≡ cs
+unfolding all_but_last
+without_last [] c = refl
+without_last (x ∷ []) c = refl
+without_last (x ∷ y ∷ cs) c = ap (λ ds. x ∷ ds) (without_last (y ∷ cs) c)
+
+pub last_same : (cs ds : List (Ptr × ℕ)) (c : Ptr × ℕ) → cs ++ c ∷ [] ≡ ds ++ c ∷ [] → cs ≡ ds
+last_same cs ds c e = sym (without_last cs c) ∙ ap all_but_last e ∙ without_last ds c
+
+pub no_extents : (ks : List Chunk) → length ks ≡ 0 → map extent ks ≡ []
+no_extents [] e = refl
+no_extents (k ∷ ks) e = absurd (omega (arith, e))

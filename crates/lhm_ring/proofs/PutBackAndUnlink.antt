@@ -99,7 +99,7 @@ module _ {B : Type 0} (cs : List (Cell Links B)) (guard : Option NodePointer) (s
 
       pub put_ring : RingOk c₄ guard la.link (n + 1) (m - 1)
       put_ring =
-          let a = r.wide in let b = r.small in
+          let a = r.wide in let b = r.small in let known : m ≡ v.spares = ap (λ (z : State B). z.spares) w in let some = pos in
           subst (λ o. RingOk c₄ o la.link (n + 1) (m - 1)) (sym e) (r.row ++ at.ptr ∷ [], r.others, subst (λ z. IsRing c₄ g.ptr (r.row ++ at.ptr ∷ []) z r.others) (ap link_of ea) made, longer, omega arith, omega arith)
 
       pub put_list : state (ring_list c₄ guard (n + 1)) (m - 1) ≡ state (v.held ++ held at.ptr hash None x ∷ []) (v.spares - 1)

@@ -7,14 +7,13 @@ ghost use Rattle.lhm_ring.specs.Land.{extent, IsLaid};
 ghost use Rattle.lhm_ring.specs.Rings.{IsRing, links};
 ghost use Rattle.lhm_ring.specs.Stacks.{IsStacked, IsGrown, spares_of};
 
-use crate::block::{Node, NodePointer, allocate, deallocate};
+use crate::block::{Node, NodePointer, allocate, deallocate, size};
 use crate::chunk::Chunk;
 use crate::link::Link;
 use crate::links::Links;
 use crate::nodes::Nodes;
 use crate::ring::Ring;
 use std::alloc::{AllocError, Global};
-use std::mem::size_of;
 
 /// The most nodes of a ring, held and spare. Each takes at least 40 bytes, so these would take more
 /// than 2^64 bytes, which no machine has.
@@ -22,9 +21,10 @@ const MOST_NODES: usize = 1 << 59;
 
 /// Returns whether a block for `count` values is small enough to be allocated.
 fn fits<T>(count: usize) -> bool
+    requires { 0 < count }
     ensures { IsTrue result → FitsBlock T.row count }
 {
-    match count.checked_mul(size_of::<T>()) {
+    match count.checked_mul(size::<T>()) {
         Some(bytes) => bytes <= isize::MAX as usize,
         None => false,
     }

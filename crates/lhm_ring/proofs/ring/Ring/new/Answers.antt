@@ -1,4 +1,5 @@
 use Rattle.std.proofs.Common.{refl}
+use Rattle.lhm_ring.proofs.Places.{bare_laid}
 use Rattle.lhm_ring.proofs.ring.Ring.new.Goals as goal
 
 pub invariant_of-result : goal.invariant_of-result

@@ -1,0 +1,44 @@
+use Rattle.std.proofs.Common.{ℕ, ◌≡◌, ◌∙◌, ◌+◌, ◌-◌, ◌<◌, ◌^◌, ap, sym, refl, subst, arith}
+use Rattle.lhm_ring.specs.Chunks.{row}
+use Rattle.lhm_ring.specs.Stacks.{IsStacked}
+use Rattle.lhm_ring.proofs.Places.{no_row, row_less}
+use Rattle.lhm_ring.proofs.Stacking.{nothing_stacked, stacked_one}
+use Rattle.lhm_ring.proofs.grow.make_spares.Goals as goal
+
+pub each-init : goal.each-init
+each-init g c =
+    let none : 0 ≡ c.args.count - c.args.count = omega arith in
+    record {
+      few = omega arith;
+      small = c.requires.small;
+      unused = c.requires.unused;
+      chunks = refl;
+      stacked = subst (λ (n : ℕ). IsStacked c.args.nodes.now.cells c.args.guard c.args.spare n c.args.nodes.now.cells c.args.spare) none (nothing_stacked _ _ _);
+    }
+
+pub add-next-requires : goal.add-next-requires
+add-next-requires g c = (omega arith, (c.each.invariant.small, (c.each.left - 1, c.each.invariant.unused ∙ row_less c.each.at.ptr c.each.nodes.node_bytes c.each.left c.each-test.true)))
+
+pub to-first-requires : goal.to-first-requires
+to-first-requires g c = c.add-next.ensures.block
+
+pub each-preserved : goal.each-preserved
+each-preserved g c =
+    let i = c.each.invariant in let one : c.args.count - c.each.left + 1 ≡ c.args.count - (c.each.left - 1) = let a = i.few in let b = c.each-test.true in omega arith in
+    record {
+      few = let a = i.few in omega arith;
+      small = subst (λ (n : ℕ). n < 2 ^ 63) (sym c.add-next.ensures.node_bytes) i.small;
+      unused = c.add-next.ensures.unused (c.each.left - 1) (i.unused ∙ row_less c.each.at.ptr c.each.nodes.node_bytes c.each.left c.each-test.true) ∙ ap (λ (n : ℕ). row c.add-next.result.ptr n (c.each.left - 1)) (sym c.add-next.ensures.node_bytes);
+      chunks = c.add-next.ensures.chunks ∙ i.chunks;
+      stacked = subst (λ (n : ℕ). IsStacked c.args.nodes.now.cells c.args.guard c.args.spare n c.add-next.new.self.cells c.to-first.result) one
+        (stacked_one _ _ _ (c.args.count - c.each.left) c.each.nodes.cells c.each.first c.each.at c.add-next.new.self.cells c.to-first.result i.stacked c.add-next.ensures.cells c.to-first.ensures);
+    }
+
+pub returns : goal.returns
+returns g c =
+    let i = c.each.invariant in let none : c.each.left ≡ 0 = omega (arith, c.each-test.false) in let all : c.args.count - c.each.left ≡ c.args.count = omega (arith, none) in
+    record {
+      stacked = subst (λ (n : ℕ). IsStacked c.args.nodes.now.cells c.args.guard c.args.spare n c.each.nodes.cells c.each.first) all i.stacked;
+      unused = i.unused ∙ no_row c.each.at.ptr c.each.nodes.node_bytes c.each.left none;
+      chunks = i.chunks;
+    }
