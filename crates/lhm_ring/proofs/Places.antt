@@ -5,7 +5,8 @@ use Rattle.std.specs.Prelude.{nat_lt}
 use Rattle.std.proofs.Flags.{T_true}
 use Rattle.std.proofs.ptr.Rows.{one_more, next}
 use denote.RawPtr.{Ptr, block_ptr, null_ptr, ◌+ₚ◌}
-use Rattle.lhm_ring.specs.Cells.{is_block, AreBlocks}
+use lib.ListN.{length-map}
+use Rattle.lhm_ring.specs.Cells.{Cell, pointers, is_block, AreBlocks}
 use Rattle.lhm_ring.specs.Chunks.{row, places}
 use Rattle.lhm_ring.specs.declared.chunk.Chunk.{Chunk}
 use Rattle.lhm_ring.specs.Land.{extent, place_count, IsLaid}
@@ -114,3 +115,15 @@ last_same cs ds c e = sym (without_last cs c) ∙ ap all_but_last e ∙ without_
 pub no_extents : (ks : List Chunk) → length ks ≡ 0 → map extent ks ≡ []
 no_extents [] e = refl
 no_extents (k ∷ ks) e = absurd (omega (arith, e))
+
+-- if no place is unused, there are as many nodes as places
+pub count_made : {L B : Type 0} (ns : List (Cell L B)) (us : List Ptr) (s : ℕ) (cs : List (Ptr × ℕ)) → us ++ pointers ns ≡ places s cs → us ≡ [] → length ns ≡ place_count cs
+count_made ns us s cs h e = sym (length-map ns (λ n. n.at)) ∙ ap length (ap (λ qs. qs ++ pointers ns) (sym e) ∙ h) ∙ places-length s cs
+
+-- a chunk more
+pub laid_grown : {us vs : List Ptr} {cs ds : List (Ptr × ℕ)} {ks js : List Chunk} {made : ℕ} (c : Ptr × ℕ) → IsLaid us cs ks made → vs ≡ [] → ds ≡ cs ++ c ∷ [] → map extent js ≡ map extent ks ++ c ∷ [] → IsLaid vs ds js (made + c.1)
+laid_grown {cs = cs} {made = made} c l e f k = record {
+  none_unused = e;
+  all_kept = f ∙ ap (λ zs. zs ++ c ∷ []) l.all_kept ∙ sym k;
+  all_made = ap (λ (n : ℕ). n + c.1) l.all_made ∙ sym (place_count-last cs c) ∙ sym (ap place_count f);
+}

@@ -89,7 +89,7 @@ module _ {B : Type 0} where
   ring_length cs (Some g) spare n m v ok w =
       sym ok.3 ∙ sym (length_listed cs ok.0 ok.2.held) ∙ sym (ap length (ring_listed cs g.ptr ok.0 (target spare) ok.1 n ok.2 ok.3)) ∙ ap (λ (z : State B). length z.held) w
 
-  small_of : (cs : List (Cell Links B)) (guard : Option NodePointer) (spare : Link) (n m : ℕ) → RingOk cs guard spare n m → n + m ≤ 2 ^ 59
+  pub small_of : (cs : List (Cell Links B)) (guard : Option NodePointer) (spare : Link) (n m : ℕ) → RingOk cs guard spare n m → n + m ≤ 2 ^ 59
   small_of cs None spare n m ok = let a = ok.2 in let b = ok.3 in omega arith
   small_of cs (Some g) spare n m ok = ok.5
 
