@@ -7,6 +7,7 @@ pub mod Chains
 pub mod ContentChange
 pub mod ContentTaken
 pub mod ContentsSplitOff
+pub mod DroppedRing
 pub mod Ends
 pub mod Entries
 pub mod FilterFills

@@ -30,6 +30,18 @@ fn fits<T>(count: usize) -> bool
     }
 }
 
+/// Returns how many nodes a chunk has at least, for `count` more nodes beside `made`, the guard
+/// included: to grow by one, as many as there are, at most 64, and so that there are at most `most`
+/// nodes, if that can be.
+fn chunk_size(count: usize, made: usize, most: usize) -> usize
+    ensures { result ≤ 64 }
+{
+    if count != 1 || most < made {
+        return 0;
+    }
+    made.min((most - made).min(63) + 1)
+}
+
 /// Makes the first unused place the guard of an empty ring, which leads to itself, and returns
 /// where the next place lies.
 fn make_guard<K, V>(nodes: &mut Nodes<Links, K, V>, at: NodePointer) -> NodePointer
@@ -210,15 +222,15 @@ impl<K, V> Ring<K, V> {
         self.grow_by(count, 0)
     }
 
-    /// Makes one more node spare. If it allocates, it is one chunk, with as many nodes as there
-    /// are, but at most 64, and not more than `most` in all.
-    pub fn grow_by_one(&mut self, most: usize) -> Result<(), AllocError>
+    /// Makes `count` more nodes spare, as `grow` does. To make one, it allocates as many as there
+    /// are, at most 64, and so that there are at most `most` nodes.
+    pub fn grow_within(&mut self, count: usize, most: usize) -> Result<(), AllocError>
         ensures held { OnOk result (self.new.held ≡ self.old.held) }
-        ensures spares { OnOk result (self.new.spares ≡ self.old.spares + 1) }
+        ensures spares { OnOk result (self.new.spares ≡ self.old.spares + count) }
         ensures refused { OnErr result (self.new ≡ self.old) }
     {
-        let least = self.made.min(64).min(most.saturating_add(1).saturating_sub(self.made));
-        self.grow_by(1, least)
+        let least = chunk_size(count, self.made, most);
+        self.grow_by(count, least)
     }
 
     /// Makes no node spare any more. The nodes stay for a later growth. The order and positions

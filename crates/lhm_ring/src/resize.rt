@@ -23,7 +23,7 @@ impl<K, V> Table<K, V> {
     {
         let additional = capacity - self.capacity();
         if capacity <= self.index.buckets() {
-            return self.ring.grow(additional);
+            return self.ring.grow_within(additional, self.index.buckets());
         }
         self.raise_buckets(capacity)
     }
@@ -43,7 +43,7 @@ impl<K, V> Table<K, V> {
     {
         let additional = capacity - self.capacity();
         let (index, filter) = with_filter(self.ring.allocator(), capacity)?;
-        match self.ring.grow(additional) {
+        match self.ring.grow_within(additional, index.buckets()) {
             Ok(()) => {
                 self.rechained += self.index.take_over(index, &mut self.ring);
                 self.filter.take_over(filter, &self.ring);
