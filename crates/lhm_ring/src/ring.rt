@@ -19,9 +19,9 @@ use std::marker::Model;
 /// Triples of a hash, a key and a value, in order, each at a position that stays until it leaves,
 /// and spare nodes for more.
 ///
-/// Each triple and each spare node is one block of memory, and so is the guard. Only `grow` and
-/// `with_spares` allocate; only `free_spares`, `destroy_empty` and dropping the ring free. Dropping
-/// it drops the triples, in O(n) for its nodes.
+/// The nodes of the triples, the spare nodes and the guard are cut from chunks, each one block of
+/// memory. Only `grow`, `grow_within` and `with_spares` allocate; only `destroy_empty` and dropping
+/// the ring free. Dropping it drops the triples, in O(n).
 pub struct Ring<K, V> {
     pub(crate) nodes: Nodes<Links, K, V>,
     pub(crate) alloc: Global,

@@ -31,7 +31,7 @@ each-preserved g c =
       unused = c.add-next.ensures.unused (c.each.left - 1) (i.unused ∙ row_less c.each.at.ptr c.each.nodes.node_bytes c.each.left c.each-test.true) ∙ ap (λ (n : ℕ). row c.add-next.result.ptr n (c.each.left - 1)) (sym c.add-next.ensures.node_bytes);
       chunks = c.add-next.ensures.chunks ∙ i.chunks;
       stacked = subst (λ (n : ℕ). IsStacked c.args.nodes.now.cells c.args.guard c.args.spare n c.add-next.new.self.cells c.to-first.result) one
-        (stacked_one _ _ _ (c.args.count - c.each.left) c.each.nodes.cells c.each.first c.each.at c.add-next.new.self.cells c.to-first.result i.stacked c.add-next.ensures.cells c.to-first.ensures);
+          (stacked_one _ _ _ (c.args.count - c.each.left) c.each.nodes.cells c.each.first c.each.at c.add-next.new.self.cells c.to-first.result i.stacked c.add-next.ensures.cells c.to-first.ensures);
     }
 
 pub returns : goal.returns

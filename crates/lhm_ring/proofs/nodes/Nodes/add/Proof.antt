@@ -80,8 +80,17 @@ add_spec 𝓤 𝓛 𝓜 𝓡 wired L K V LL LK LV =
     move ! (2 ∷ 3 ∷ []) $ fjoin ! $ move ! (1 ∷ 0 ∷ []) $ fjoin ! $ fjoin ! $
     -- [the nodes; the unused places; the chunks; the marker; its cell; the open borrow, in three; the other tokens]
     rewrite ! 0 (λ (r : Ptr). ‵ (Cells E ftrue (cell r new None ∷ h.cells))) (sym e) refl $
-    let h' : N.Denot = record { marker = h.marker; cells = cell p new None ∷ h.cells; apart = subst (λ (r : Ptr). IsApart (r ∷ pointers h.cells)) (sym e) (apart_with q (pointers h.cells) free h.apart); blocks = (row_first_block p s n h.unused given h.unused_blocks, h.blocks);
-      node_bytes = s; unused = left; chunks = h.chunks; unused_blocks = row_other_blocks p s n h.unused given h.unused_blocks; laid = laid_next p s n h.unused (pointers h.cells) (places s h.chunks) given h.laid } in
+    let h' : N.Denot = record {
+      marker = h.marker;
+      cells = cell p new None ∷ h.cells;
+      apart = subst (λ (r : Ptr). IsApart (r ∷ pointers h.cells)) (sym e) (apart_with q (pointers h.cells) free h.apart);
+      blocks = (row_first_block p s n h.unused given h.unused_blocks, h.blocks);
+      node_bytes = s;
+      unused = left;
+      chunks = h.chunks;
+      unused_blocks = row_other_blocks p s n h.unused given h.unused_blocks;
+      laid = laid_next p s n h.unused (pointers h.cells) (places s h.chunks) given h.laid;
+    } in
     move ! (1 ∷ 2 ∷ []) $ fjoin ! $ feq_i ! ℕ s (node_bytes R S W) sized $ fjoin ! $ use2 𝓛 (‵ (Cells E (Land E h') h'.cells)) (land_glue 𝓛 E (Land E h') h'.cells) $
     move ! (1 ∷ 0 ∷ []) $ fjoin ! $ move ! (1 ∷ 0 ∷ []) $ closes ! tt N h' vs rb ro $
     feq_i ! (List Val) vss.0 (vptr rb ro ∷ []) are.0.0 $ fjoin3 ! $ nothing ! $ nothing ! $ fjoin ! $ nothing ! $ fjoin ! $ move ! (1 ∷ 0 ∷ []) $ fjoin ! $ move ! (1 ∷ 2 ∷ []) $ join ! $

@@ -85,9 +85,17 @@ add_chunk_spec 𝓤 𝓛 𝓜 𝓡 wired L K V LL LK LV =
     move ! (8 ∷ 0 ∷ []) $ rewrite ! 0 (λ (k : ℕ). ‵ (Places 𝓛 E (row p k n))) (sym sized) refl $ use2 𝓛 (‵ (Places 𝓛 E us')) (places_glue 𝓛 E new h.unused) $
     move ! (8 ∷ 1 ∷ []) $ feq_i ! Bool (is_block p) true near_p $ fjoin ! $ flt_i ! (n * node_bytes R S W) (2 ^ 63) fits $ fjoin ! $
     use2 𝓛 (‵ (Chunks 𝓛 E (h.chunks ++ (p, n) ∷ []))) (chunks_glue 𝓛 E h.chunks (p, n)) $ move ! (1 ∷ 0 ∷ []) $ fjoin ! $ feq_i ! ℕ s (node_bytes R S W) sized $ fjoin ! $
-    let h' : N.Denot = record { marker = h.marker; cells = h.cells; apart = h.apart; blocks = h.blocks; node_bytes = s; unused = us'; chunks = h.chunks ++ (p, n) ∷ [];
+    let h' : N.Denot = record {
+      marker = h.marker;
+      cells = h.cells;
+      apart = h.apart;
+      blocks = h.blocks;
+      node_bytes = s;
+      unused = us';
+      chunks = h.chunks ++ (p, n) ∷ [];
       unused_blocks = all_both (λ q. is_block q ≡ true) new h.unused (row_blocks b o s n (subst (λ (k : ℕ). o + n * k < 2 ^ 63) (sym sized) (subst (λ (k : ℕ). k + n * node_bytes R S W < 2 ^ 63) (sym starts) (omega (arith, fits))))) h.unused_blocks;
-      laid = laid_more p s n h.unused (pointers h.cells) h.chunks h.laid } in
+      laid = laid_more p s n h.unused (pointers h.cells) h.chunks h.laid;
+    } in
     use2 𝓛 (‵ (Cells E (Land E h') h.cells)) (land_glue 𝓛 E (Land E h') h.cells) $
     move ! (1 ∷ 0 ∷ []) $ fjoin ! $ move ! (1 ∷ 0 ∷ []) $ closes ! tt N h' vs rb ro $
     sets ! (is ! (of_opd ! (get_in ! (fld ! refl (stop !)) (sub ! 0 refl (whole !)))) (ap ptr_val e)) refl (tt, tt) $ sets ! (of_opd ! (get ! refl)) refl (tt, tt) $ sets ! (agg ! (and_then ! (get ! refl) (no_more !))) refl (word-Good [] p) $

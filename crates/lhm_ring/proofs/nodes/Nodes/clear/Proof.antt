@@ -73,8 +73,17 @@ clear_spec 𝓤 𝓛 𝓜 𝓡 wired L K V LL LK LV =
     use1 𝓛 (‵ (Places 𝓛 E (pointers h.cells))) (cells_emptied 𝓛 E h.cells) $ move ! (1 ∷ 0 ∷ []) $
     use2 𝓛 (‵ (Places 𝓛 E (h.unused ++ pointers h.cells))) (places_glue 𝓛 E h.unused (pointers h.cells)) $ rewrite ! 0 (λ (ps : List Ptr). ‵ (Places 𝓛 E ps)) h.laid refl $ fjoin ! $ feq_i ! ℕ s (node_bytes R S W) sized $ fjoin ! $
     let all : List Ptr = places s h.chunks in
-    let h' : N.Denot = record { marker = h.marker; cells = []; apart = apart_none; blocks = tt; node_bytes = s; unused = all; chunks = h.chunks;
-      unused_blocks = subst AreBlocks h.laid (all_both (λ q. is_block q ≡ true) h.unused (pointers h.cells) h.unused_blocks h.blocks); laid = append-nil all } in
+    let h' : N.Denot = record {
+      marker = h.marker;
+      cells = [];
+      apart = apart_none;
+      blocks = tt;
+      node_bytes = s;
+      unused = all;
+      chunks = h.chunks;
+      unused_blocks = subst AreBlocks h.laid (all_both (λ q. is_block q ≡ true) h.unused (pointers h.cells) h.unused_blocks h.blocks);
+      laid = append-nil all;
+    } in
     move ! (1 ∷ 0 ∷ []) $ fjoin ! $ move ! (1 ∷ 0 ∷ []) $ closes ! tt N h' vs rb ro $ sets ! (of_opd ! (unit_lit !)) refl (tt, tt) $
     feq_i ! (List Val) vss.0 (vptr rb ro ∷ []) are.0.0 $ fjoin3 ! $ nothing ! $ move ! (1 ∷ 0 ∷ []) $ fjoin ! $ move ! (1 ∷ 2 ∷ []) $ join ! $
     let Told : Type 0 = h'.cells ≡ [] in let Unused : Type 0 = all ≡ all in let Bytes : Type 0 = s ≡ s in let Kept : Type 0 = h.chunks ≡ h.chunks in

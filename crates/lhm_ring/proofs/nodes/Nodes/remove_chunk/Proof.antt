@@ -80,8 +80,17 @@ remove_chunk_spec 𝓤 𝓛 𝓜 𝓡 wired L K V LL LK LV =
     let e : (at : ℕ × ℕ) × (p ≡ block_ptr at.0 at.1) = in_block p near_p in let b : ℕ = e.0.0 in let o : ℕ = e.0.1 in let q : Ptr = block_ptr b o in
     -- [the token of the chunk; the other chunks; its places; the other places; the marker; its cell; the open borrow, in three; the other tokens]
     move ! (1 ∷ 3 ∷ []) $ move ! (1 ∷ 0 ∷ []) $ fjoin ! $ feq_i ! ℕ s (node_bytes R S W) sized $ fjoin ! $
-    let h' : N.Denot = record { marker = h.marker; cells = []; apart = apart_none; blocks = tt; node_bytes = s; unused = rest; chunks = cs;
-      unused_blocks = all_right (λ r. is_block r ≡ true) new rest (subst AreBlocks cut h.unused_blocks); laid = append-nil rest } in
+    let h' : N.Denot = record {
+      marker = h.marker;
+      cells = [];
+      apart = apart_none;
+      blocks = tt;
+      node_bytes = s;
+      unused = rest;
+      chunks = cs;
+      unused_blocks = all_right (λ r. is_block r ≡ true) new rest (subst AreBlocks cut h.unused_blocks);
+      laid = append-nil rest;
+    } in
     -- [the land; the token of the chunk; its places; the marker; its cell; the open borrow, in three; the other tokens]
     move ! (3 ∷ 0 ∷ []) $ fjoin ! $ move ! (3 ∷ 0 ∷ 4 ∷ 5 ∷ 6 ∷ []) $ closes ! tt N h' vs rb ro $
     -- [self; the token of the chunk; its places; the other tokens]

@@ -68,6 +68,6 @@ set_links_spec 𝓤 𝓛 𝓜 𝓡 wired L K V LL LK LV =
     move ! (1 ∷ 0 ∷ []) $ fjoin ! $ move ! (1 ∷ 0 ∷ []) $ closes ! tt N h' vs rb ro $
     feq_i ! (List Val) vss.0 (vptr rb ro ∷ []) are.0.0 $ fjoin3 ! $ nothing ! $ nothing ! $ fjoin ! $ nothing ! $ fjoin ! $ move ! (1 ∷ 0 ∷ []) $ fjoin ! $ move ! (1 ∷ 2 ∷ []) $ join ! $
     let Told : Type 0 = with_links p new h.cells ≡ with_links p new h.cells in
-    let Stays' : Type 0 = (h.unused ≡ h.unused) × (h.chunks ≡ h.chunks) in use0 𝓛 (raw (fact 𝓤 Stays')) (fact_i 𝓤 Stays' (emp 𝓤) (refl, refl)) $ 
+    let Stays' : Type 0 = (h.unused ≡ h.unused) × (h.chunks ≡ h.chunks) in use0 𝓛 (raw (fact 𝓤 Stays')) (fact_i 𝓤 Stays' (emp 𝓤) (refl, refl)) $
     use0 𝓛 (raw (fact 𝓤 Told)) (fact_i 𝓤 Told (emp 𝓤) refl) $ join ! $ feq_i ! (List Val) (vunit ∷ []) (vunit ∷ []) refl $
     returns ! (look_at ! 0 refl) $ free_all ! refl $ keep ! (2 ∷ 3 ∷ 0 ∷ 1 ∷ []) $ by ! (leaves 𝓛 En hs c y vunit tt (h', (tt, (tt, tt))) (tt, (tt, (tt, tt)))))))))))

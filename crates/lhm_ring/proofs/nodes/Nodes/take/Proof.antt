@@ -77,6 +77,6 @@ take_spec 𝓤 𝓛 𝓜 𝓡 wired L K V LL LK LV =
     -- [the tokens; self; the value's; the key's]
     move ! (3 ∷ 2 ∷ []) $ two_made ! S W x.0 x.1 u w $
     let Told : Type 0 = with_body p None h.cells ≡ with_body p None h.cells in let Got : Type 0 = body_at h.cells p ≡ Some x in
-    let Stays' : Type 0 = (h.unused ≡ h.unused) × (h.chunks ≡ h.chunks) in use0 𝓛 (raw (fact 𝓤 Stays')) (fact_i 𝓤 Stays' (emp 𝓤) (refl, refl)) $ 
+    let Stays' : Type 0 = (h.unused ≡ h.unused) × (h.chunks ≡ h.chunks) in use0 𝓛 (raw (fact 𝓤 Stays')) (fact_i 𝓤 Stays' (emp 𝓤) (refl, refl)) $
     use0 𝓛 (raw (fact 𝓤 Told)) (fact_i 𝓤 Told (emp 𝓤) refl) $ join ! $ use0 𝓛 (raw (fact 𝓤 Got)) (fact_i 𝓤 Got (emp 𝓤) asked.1) $ join ! $
     returns ! (look_at ! 0 refl) $ free_all ! refl $ keep ! (2 ∷ 3 ∷ 1 ∷ 0 ∷ []) $ by ! (leaves 𝓛 En hs c y r x (h', (tt, tt)) (tt, (tt, tt))))))))))))

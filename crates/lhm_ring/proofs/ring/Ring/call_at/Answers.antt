@@ -34,9 +34,11 @@ invariant_of-self g c =
     let l = read_links cs i.guard i.spare i.len i.spares _ c.self.invariant.0 c.self.view_is p h.before h.node h.after h.is h.at_is in
     let x = pair c.take-key.result.0 c.call-kept.new.value in
     let k = held_in cs i.guard i.spare i.len i.spares _ c.self.invariant.0 c.self.view_is p h in
-    let j = body_changes cs p l.0 l.1 h.node (content_at-held cs i.guard i.spare i.len i.spares _ c.self.invariant.0 c.self.view_is p h.before h.node h.after h.is h.at_is) x in
-    (subst (λ ds. RingOk ds i.guard i.spare i.len i.spares) (sym (c.fill.ensures.cells ∙ ap (with_body p (Some x)) c.take-key.ensures.cells ∙ body_twice p x cs))
-    (ring_ok_same cs _ p h.node _ j i.guard i.spare i.len i.spares c.self.invariant.0 k), still_laid c.self.invariant.1 (c.fill.ensures.land.0 ∙ c.take-key.ensures.land.0) (c.fill.ensures.land.1 ∙ c.take-key.ensures.land.1))
+    let j = body_changes cs p l.0 l.1 h.node (content_at-held cs i.guard i.spare i.len i.spares _ c.self.invariant.0 c.self.view_is p h.before h.node h.after h.is h.at_is) x in (
+      subst (λ ds. RingOk ds i.guard i.spare i.len i.spares) (sym (c.fill.ensures.cells ∙ ap (with_body p (Some x)) c.take-key.ensures.cells ∙ body_twice p x cs))
+          (ring_ok_same cs _ p h.node _ j i.guard i.spare i.len i.spares c.self.invariant.0 k),
+      still_laid c.self.invariant.1 (c.fill.ensures.land.0 ∙ c.take-key.ensures.land.0) (c.fill.ensures.land.1 ∙ c.take-key.ensures.land.1),
+    )
 
 pub returns-clause-called : goal.returns-clause-called
 returns-clause-called g c =

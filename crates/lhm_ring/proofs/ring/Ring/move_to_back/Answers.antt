@@ -28,9 +28,10 @@ join-requires-2 g c =
 
 pub invariant_of-self : goal.invariant_of-self
 invariant_of-self g c =
-    let i = c.self.inside in
-    (moved_ring i.nodes.cells i.guard i.spare _ i.len i.spares _ c.unwrap-guard.ensures c.self.invariant.0 c.self.view_is _ _ c.links-links.ensures _ c.join.ensures.joined _ c.links.ensures _ _ c.join-2.ensures.joined c.join-3.ensures.joined c.requires,
-    still_laid c.self.invariant.1 (c.join-3.ensures.land.0 ∙ c.join-2.ensures.land.0 ∙ c.join.ensures.land.0) (c.join-3.ensures.land.1 ∙ c.join-2.ensures.land.1 ∙ c.join.ensures.land.1))
+    let i = c.self.inside in (
+      moved_ring i.nodes.cells i.guard i.spare _ i.len i.spares _ c.unwrap-guard.ensures c.self.invariant.0 c.self.view_is _ _ c.links-links.ensures _ c.join.ensures.joined _ c.links.ensures _ _ c.join-2.ensures.joined c.join-3.ensures.joined c.requires,
+      still_laid c.self.invariant.1 (c.join-3.ensures.land.0 ∙ c.join-2.ensures.land.0 ∙ c.join.ensures.land.0) (c.join-3.ensures.land.1 ∙ c.join-2.ensures.land.1 ∙ c.join.ensures.land.1),
+    )
 
 pub returns : goal.returns
 returns g c =

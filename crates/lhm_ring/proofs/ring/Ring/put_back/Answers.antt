@@ -39,9 +39,10 @@ join-requires-2 g c =
 pub invariant_of-self : goal.invariant_of-self
 invariant_of-self g c =
     let i = c.self.inside in (
-    put_ring i.nodes.cells i.guard i.spare _ _ i.len i.spares _ c.unwrap-guard.ensures c.pointer-at.ensures.pointer c.self.invariant.0 c.self.view_is c.requires _ _ c.links-old.ensures c.links.ensures c.args.hash
-    (c.args.key, c.args.value) _ c.none.ensures _ _ c.set_links.ensures.cells c.fill.ensures.cells _ _ c.join.ensures.joined c.join-2.ensures.joined,
-    still_laid c.self.invariant.1 (c.join-2.ensures.land.0 ∙ c.join.ensures.land.0 ∙ c.fill.ensures.land.0 ∙ c.set_links.ensures.land.0) (c.join-2.ensures.land.1 ∙ c.join.ensures.land.1 ∙ c.fill.ensures.land.1 ∙ c.set_links.ensures.land.1))
+      put_ring i.nodes.cells i.guard i.spare _ _ i.len i.spares _ c.unwrap-guard.ensures c.pointer-at.ensures.pointer c.self.invariant.0 c.self.view_is c.requires _ _ c.links-old.ensures c.links.ensures c.args.hash
+          (c.args.key, c.args.value) _ c.none.ensures _ _ c.set_links.ensures.cells c.fill.ensures.cells _ _ c.join.ensures.joined c.join-2.ensures.joined,
+      still_laid c.self.invariant.1 (c.join-2.ensures.land.0 ∙ c.join.ensures.land.0 ∙ c.fill.ensures.land.0 ∙ c.set_links.ensures.land.0) (c.join-2.ensures.land.1 ∙ c.join.ensures.land.1 ∙ c.fill.ensures.land.1 ∙ c.set_links.ensures.land.1),
+    )
 
 pub returns : goal.returns
 returns g c =

@@ -36,9 +36,10 @@ overflow_sub-self g c =
 
 pub invariant_of-self : goal.invariant_of-self
 invariant_of-self g c =
-    let i = c.self.inside in let k = some_there i.guard (guarded_in i.nodes.cells i.guard i.spare i.len i.spares _ _ c.self.view_is c.requires) in
-    (taken_ring i.nodes.cells i.guard i.spare _ i.len i.spares _ k.1 c.self.invariant.0 c.self.view_is c.args.at.pointer _ c.links-old.ensures _ c.join.ensures.joined _ c.take-key.ensures.body _ _ c.take-key.ensures.cells c.relink.ensures.relinked _ c.to-self-inside.ensures c.requires,
-    still_laid c.self.invariant.1 (c.relink.ensures.land.0 ∙ c.take-key.ensures.land.0 ∙ c.join.ensures.land.0) (c.relink.ensures.land.1 ∙ c.take-key.ensures.land.1 ∙ c.join.ensures.land.1))
+    let i = c.self.inside in let k = some_there i.guard (guarded_in i.nodes.cells i.guard i.spare i.len i.spares _ _ c.self.view_is c.requires) in (
+      taken_ring i.nodes.cells i.guard i.spare _ i.len i.spares _ k.1 c.self.invariant.0 c.self.view_is c.args.at.pointer _ c.links-old.ensures _ c.join.ensures.joined _ c.take-key.ensures.body _ _ c.take-key.ensures.cells c.relink.ensures.relinked _ c.to-self-inside.ensures c.requires,
+      still_laid c.self.invariant.1 (c.relink.ensures.land.0 ∙ c.take-key.ensures.land.0 ∙ c.join.ensures.land.0) (c.relink.ensures.land.1 ∙ c.take-key.ensures.land.1 ∙ c.join.ensures.land.1),
+    )
 
 pub returns : goal.returns
 returns g c =
