@@ -11,6 +11,7 @@ pub(crate) mod value_loan;
 // Safe code over these, with no proof by hand.
 pub(crate) mod access;
 pub(crate) mod chunk;
+pub(crate) mod compact;
 pub(crate) mod drain;
 pub(crate) mod filter;
 pub(crate) mod grow;
