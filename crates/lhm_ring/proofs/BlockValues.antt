@@ -6,23 +6,21 @@ use mir.Val.{Val, vstruct, vcons, vnil, of_list, has_ty, WT}
 use mir.Syntax.{ty_ptr, ty_struct, tcons, tnil}
 use mir.Raw.{raw as bare}
 use base.Logic.{SProp, ent, sep, emp, via, never, never_e, fst∗}
-use base.Fml.{Fml, fat, froom, fwand}
+use base.Fml.{Fml, fat, froom}
 use prog.Memory.{size}
 use prog.Model.{Model}
 use types.Logic.{Logic, sem}
-use contract.Monad.{fact, fact_i, fact_mono, fact_use}
+use contract.Monad.{fact, fact_i, fact_use}
 use types.Kit.{Item, Goal, Seq, mean, prop, ‵, raw, some, given, ◌⊛◌, ◌$◌, ◌∵◌, !, qed, by, move, keep, drop, use1, use2, pick, learn, split, fsplit, fpick, feq_l, done}
 use denote.RattleType.{RattleType}
-use denote.Memory.{lone, part_at}
+use denote.Memory.{part_at}
 use denote.Param.{layout}
 use denote.RawPtr.{Ptr, block_ptr, null_ptr, ptr_val, lies_at, room_for}
 use denote.Shadow.{makes_shadow}
 use denote.Struct.Struct.{Struct}
 use denote.Struct.Owning.{shape}
 use Rattle.std.specs.declared.alloc.Allocator.{Ghosts}
-use Rattle.std.proofs.GlobalToken.{dealloc_token_start}
 use Rattle.std.proofs.RcSteps.{Good, word}
-use Rattle.std.proofs.lemmas.Bool.{eq-eqb}
 use Rattle.lhm_ring.specs.Cells.{same_ptr, pointers}
 use Rattle.lhm_ring.specs.Chunks.{block_owns}
 use Rattle.lhm_ring.specs.Ownership.{links_of}

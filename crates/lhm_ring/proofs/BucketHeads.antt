@@ -2,7 +2,6 @@
 use Rattle.std.proofs.Common.{subst, T, ltb→lt, ◌^◌, ◌≡◌, ℕ, zero, suc, ◌+◌, ◌%◌, ◌<◌, List, [], ◌∷◌, ◌++◌, map, refl, sym, ◌∙◌, ap, arith, length, get_or, set, Option, Some, None, Bool, true}
 use Rattle.std.specs.Prelude.{IsSome, is_some, not}
 use denote.RawPtr.{Ptr, block_ptr, null_ptr, Testable, InBlock}
-use Rattle.std.proofs.lemmas.Bool.{eqb-true}
 use Rattle.lhm_ring.specs.declared.heads.Head.{Head}
 use Rattle.lhm_ring.specs.Cells.{is_block, is_null_or_block}
 use Rattle.lhm_ring.specs.Heads.{leads_to}

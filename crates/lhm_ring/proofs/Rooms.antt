@@ -1,10 +1,10 @@
 -- The land of nodes is taken apart from them, and the memory of a chunk is cut into places, and made of them again. Assumes `Logic`.
-use Rattle.std.proofs.Common.{◌≡◌, ℕ, zero, suc, ◌+◌, ◌*◌, ◌^◌, Bool, true, List, [], ◌∷◌, ◌++◌, refl, sym, ap}
+use Rattle.std.proofs.Common.{ℕ, zero, suc, ◌+◌, List, [], ◌∷◌, ◌++◌, refl, sym}
 use seplogic.Ra.Ura.{Ura}
-use mir.Syntax.{Ty, ty_array}
+use mir.Syntax.{ty_array}
 use base.Fraction.{full_share}
 use base.Logic.{ent, sep, never, id⊢}
-use base.Fml.{Fml, ftrue, fsep, flt, feq, froom}
+use base.Fml.{Fml, ftrue, froom}
 use types.Logic.{Logic, sem}
 use types.Kit.{‵, ◌⊛◌, ◌$◌, ◌∵◌, !, qed, by, move, keep, drop, use1, use2, split, rewrite, fsplit, fjoin, fjoin3, done}
 use denote.Param.{layout}

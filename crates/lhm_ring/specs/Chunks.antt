@@ -1,5 +1,5 @@
 -- The chunks that nodes are cut from: blocks of many places, one behind the other.
-use Rattle.std.specs.Prelude.{◌≡◌, ℕ, zero, suc, ◌*◌, ◌^◌, List, [], ◌∷◌, ◌++◌}
+use Rattle.std.specs.Prelude.{ℕ, zero, suc, ◌*◌, ◌^◌, List, [], ◌∷◌, ◌++◌}
 use Rattle.std.specs.Allocator.{array_of}
 use Rattle.std.specs.Mem.{type_size}
 use mir.Syntax.{Ty}

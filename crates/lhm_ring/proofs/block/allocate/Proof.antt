@@ -1,12 +1,12 @@
 -- `allocate` asks for a block of many values. Assumes `Logic`.
-use Rattle.std.proofs.Common.{◌≡◌, ℕ, ◌+◌, ◌-◌, ◌*◌, ◌<◌, ◌≤◌, ◌^◌, List, [], ◌∷◌, ◌++◌, refl, sym, ap, ◌∙◌, subst, T, lit<, true, false, arith}
+use Rattle.std.proofs.Common.{◌≡◌, ℕ, ◌*◌, ◌<◌, ◌^◌, [], ◌∷◌, refl, ap, ◌∙◌, T, lit<, true, false}
 use mir.Syntax.{Ty, Body, ty_array, named, w64}
 use mir.Val.{Val, vint, vptr, vcons, vnil, vstruct, has_ty, WT}
 use mir.MapTy.{inst_fn}
 use mir.Raw.{raw as bare}
 use base.Logic.{SProp, emp}
 use base.Fml.{Fml, Lft, Share, ftrue, fsep, flft, Incl-trans}
-use prog.Memory.{size, align, capped}
+use prog.Memory.{align, capped}
 use prog.Capped.{capped_is, capped_fits}
 use prog.RawLaws.{size-raw, align-raw}
 use prog.Wp.{Wp, after_seq, at_return}

@@ -1,26 +1,26 @@
 -- `deallocate` gives a block back whose places are all joined. Assumes `Logic`.
-use Rattle.std.proofs.Common.{◌≡◌, ℕ, ◌+◌, ◌-◌, ◌*◌, ◌<◌, ◌^◌, List, [], ◌∷◌, ◌++◌, refl, sym, ap, ◌∙◌, subst, T}
+use Rattle.std.proofs.Common.{◌≡◌, ℕ, ◌*◌, ◌<◌, ◌^◌, List, [], ◌∷◌, ◌++◌, refl, sym, ap, ◌∙◌, subst, T}
 use mir.Syntax.{Ty, ty_unit, ty_array, w64}
 use mir.Val.{Val, vint, vptr, vunit, has_ty, WT}
 use mir.MapTy.{inst_fn}
 use mir.Raw.{raw as bare}
 use base.Logic.{SProp, ent, emp, id⊢}
 use base.Fml.{Fml, Lft, Share, ftrue, fsep, froom, flft, Incl-trans}
-use prog.Memory.{size, align, capped}
+use prog.Memory.{align, capped}
 use prog.Capped.{capped_is, capped_fits}
 use prog.RawLaws.{size-raw, align-raw}
 use prog.Wp.{WpFn}
 use contract.BorrowLft.{◌⊑◌}
 use contract.Running.{tables}
 use contract.Monad.{fact}
-use types.Kit.{◌∵◌, ‵, raw, ◌⊛◌, given, later, at_ret, ◌$◌, !, qed, by, move, keep, drop, use0, use1, learn, await, group, split, join, fsplit, fsplit3, fjoin, suffices, rewrite, feq_i, flt_l}
+use types.Kit.{◌∵◌, ‵, raw, ◌⊛◌, given, later, at_ret, ◌$◌, !, qed, by, move, keep, use0, use1, learn, await, group, split, join, fsplit, fsplit3, fjoin, suffices, rewrite, feq_i, flt_l}
 use types.Run.{stop, fld, unit_lit, of_opd, bin, size_lit, align_word, no_more, and_then, first, blocks, exec, returns, enter}
 use types.ByLocal.{alloc_all, pass_all, free_all, look_at, get, get_in, sets, lands_last, is, env}
 use types.Part.{sub, whole}
 use denote.Builtin.{RefOf, usize}
 use denote.Exit.{yes, no}
-use denote.RattleType.{RattleType, owns}
-use denote.RawPtr.{Ptr, ptr_val, in_a_block, block_ptr, room_for, ◌+ₚ◌}
+use denote.RattleType.{owns}
+use denote.RawPtr.{Ptr, ptr_val, in_a_block, room_for}
 use denote.Signature.{types_at, plain}
 use denote.Steps.{nothing, heard}
 use denote.Triple.Call.{calls_at_last}
@@ -32,7 +32,6 @@ use Rattle.std.proofs.VecSteps.El.{El, R, P, args, elτ, sz, wider}
 use Rattle.std.proofs.VecSteps.Shapes.{after}
 use Rattle.std.proofs.raw_atomic.Walks.{proved_at, leaves}
 use Rattle.std.proofs.ptr.Rows.{one_below}
-use Rattle.lhm_ring.specs.Chunks.{block_owns}
 use Rattle.lhm_ring.proofs.BlockValues.{block_val, block_Good, BlockType, block_known}
 use Rattle.lhm_ring.specs.contracts.block.deallocate.{ended, clauses}
 use Rattle.lhm_ring.specs.contracts.block.deallocate.Key.{name as #self}

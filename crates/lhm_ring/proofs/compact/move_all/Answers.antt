@@ -1,6 +1,6 @@
-use Rattle.std.proofs.Common.{◌≡◌, ℕ, ◌+◌, ◌∙◌, ◌++◌, ◌∷◌, [], Some, length, ap, sym, refl, arith, append_assoc, append-nil}
+use Rattle.std.proofs.Common.{ℕ, ◌∙◌, ◌++◌, ◌∷◌, [], Some, length, ap, sym, refl, arith, append_assoc}
 use Rattle.lhm_ring.specs.RingState.{triples}
-use Rattle.lhm_ring.proofs.DroppedRing.{first_held, no_first, length-removed}
+use Rattle.lhm_ring.proofs.DroppedRing.{first_held, length-removed}
 use Rattle.lhm_ring.proofs.Ends.{first_node, triples-first, triples-pushed}
 use Rattle.lhm_ring.proofs.compact.move_all.Goals as goal
 

@@ -1,4 +1,4 @@
-use Rattle.std.proofs.Common.{refl, ◌∙◌, ◌-◌}
+use Rattle.std.proofs.Common.{◌∙◌, ◌-◌}
 use Rattle.lhm_ring.proofs.Places.{row_less}
 use Rattle.lhm_ring.proofs.grow.make_nodes.Goals as goal
 

@@ -1,50 +1,28 @@
 -- `clear` makes all nodes places: what they hold is forgotten. Assumes `Logic`.
 use Rattle.std.proofs.lemmas.List.{append-nil}
-use Rattle.std.proofs.Common.{◌≡◌, ℕ, ◌+◌, ◌*◌, ◌<◌, ◌^◌, Bool, true, List, [], ◌∷◌, ◌++◌, refl, sym, ap, ◌∙◌, subst, None, arith}
-use base.Fraction.{full_share}
+use Rattle.std.proofs.Common.{◌≡◌, ℕ, true, List, [], ◌∷◌, ◌++◌, refl, sym, subst}
 use mir.Val.{Val, vptr, vunit}
-use mir.Syntax.{Ty, ty_array}
 use mir.MapTy.{inst_fn}
-use base.Logic.{SProp, ent, emp, id⊢, snd∗, via}
-use base.Fml.{Fml, ftrue, fsep, flft, froom}
-use prog.Memory.{size}
-use prog.RawLaws.{size-raw}
+use base.Logic.{SProp, ent, emp, id⊢}
+use base.Fml.{Fml, ftrue, fsep, flft}
 use prog.Wp.{WpFn}
-use types.Logic.{sem}
-use types.Kit.{◌∵◌, ‵, raw, ◌⊛◌, at_ret, ◌$◌, !, qed, by, move, keep, drop, use0, use1, use2, split, join, fsplit, fsplit3, fjoin, fjoin3, flt_l, flt_i, suffices, rewrite, feq_i, feq_l}
-use types.Run.{unit_lit, stop, fld, init, addr, lit, bin, size_lit, of_opd, no_more, and_then, assigns_last, first, blocks, exec, returns, enter}
-use types.ByLocal.{alloc_all, pass_all, free_all, look_at, get, get_in, through, sets, sets_last, is, env}
-use types.Part.{sub, whole, agg}
+use types.Kit.{◌∵◌, ‵, raw, ◌⊛◌, ◌$◌, !, qed, by, move, keep, use0, use1, use2, split, join, fsplit, fsplit3, fjoin, fjoin3, suffices, rewrite, feq_i, feq_l}
+use types.Run.{unit_lit, of_opd, returns, enter}
+use types.ByLocal.{alloc_all, pass_all, free_all, look_at, sets}
 use contract.Running.{tables}
 use contract.Monad.{fact, fact_i}
-use denote.Exit.{yes, no}
-use denote.RattleType.{RattleType, owns}
-use denote.Param.{layout}
-use denote.Param.Laws.{param_laws}
+use denote.RattleType.{owns}
 use denote.Signature.{types_at, plain}
-use denote.RawPtr.{Ptr, block_ptr, ptr_val, lies_at, room_for, in_a_block, ◌+ₚ◌}
-use denote.Steps.{nothing, heard, opens, closes}
-use denote.Triple.Walked.{Stays, stay_dropped, stay_ref, walk_of, Goes-dropped, Goes-ref}
-use Rattle.std.proofs.RawLayout.{as_written}
-use Rattle.std.proofs.VecSteps.Shapes.{after}
-use Rattle.std.proofs.RcSteps.{word, word-Good}
+use denote.RawPtr.{Ptr}
+use denote.Steps.{nothing, opens, closes}
+use denote.Triple.Walked.{Stays, stay_ref, walk_of, Goes-ref}
 use Rattle.std.proofs.raw_atomic.Walks.{proved_at, leaves}
-use Rattle.lhm_ring.specs.Cells.{cell, is_block, pointers, AreBlocks}
-use Rattle.lhm_ring.specs.Chunks.{row, places}
-use Rattle.lhm_ring.specs.Ownership.{links_of, fields_own, node_bytes}
+use Rattle.lhm_ring.specs.Cells.{is_block, pointers, AreBlocks}
+use Rattle.lhm_ring.specs.Chunks.{places}
+use Rattle.lhm_ring.specs.Ownership.{node_bytes}
 use Rattle.lhm_ring.proofs.Apart.{apart_none}
-use Rattle.lhm_ring.proofs.BlockValues.{block_val, block_Good, BlockType, BlockFields, block_made, block_known, pointer_made, knows}
-use Rattle.lhm_ring.proofs.Blocks.{written, block, Rejoins, block_cut}
-use Rattle.lhm_ring.proofs.Memory.{Three, args, RL, RK, RV, lo, Nr, Pl, Land, Cells, pointer_told, alone, value_in}
+use Rattle.lhm_ring.proofs.Memory.{Three, args, RL, RK, RV, Nr, Land, Cells}
 use Rattle.lhm_ring.proofs.Rooms.{land_cut, Places, places_glue, cells_emptied}
-use Rattle.std.proofs.alloc.Calls.{Goes-blank}
-use Rattle.std.specs.contracts.alloc.Global as heap
-use Rattle.std.specs.contracts.impls.GlobalAllocator.TheImpl.{ghosts}
-use Rattle.std.specs.Allocator.{array_of}
-use Rattle.lhm_ring.specs.contracts.block.Node as N-type
-use Rattle.lhm_ring.specs.Ownership.{chunk_token, chunk_owns}
-use Rattle.std.proofs.GlobalToken.{dealloc_token_start}
-use Rattle.std.proofs.ptr.Rows.{one_below}
 use Rattle.lhm_ring.proofs.Rows.{all_both}
 use Rattle.lhm_ring.specs.contracts.nodes.Nodes.clear.{ended, clauses}
 use Rattle.lhm_ring.specs.contracts.nodes.Nodes.clear.Key.{name as #self}

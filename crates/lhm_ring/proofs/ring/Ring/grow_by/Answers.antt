@@ -1,4 +1,4 @@
-use Rattle.std.proofs.Common.{◌≡◌, ℕ, ◌+◌, ◌≤◌, ◌^◌, ◌∙◌, Some, length, ap, sym, subst, arith}
+use Rattle.std.proofs.Common.{◌≡◌, ℕ, ◌+◌, ◌∙◌, Some, length, ap, sym, subst, arith}
 use denote.RawPtr.{Ptr}
 use Rattle.lhm_ring.specs.Land.{place_count}
 use Rattle.lhm_ring.specs.Rings.{ring_list, RingOk}
