@@ -1,10 +1,15 @@
 //! Calls that lower the capacity.
 
-use super::filling::{Map, PAIRS, empty, fill, filled};
+use super::filling::{Map, PAIRS, empty, fill, filled, pair};
 use super::item::{Key, Value};
 use super::stop::Stop;
 use super::sums::total;
+use linked_hash_map::LinkedHashMap;
 use std::alloc::Global;
+
+/// How many maps are kept to the end: the nodes that they had before they were shrunk would take
+/// more memory than `scripts/churn` gives.
+const KEPT: u64 = 128;
 
 /// Shrinks a map with room and no pairs, and fills it again.
 fn without_pairs<K: Key, V: Value>(alloc: Global) -> Result<usize, Stop> {
@@ -24,12 +29,30 @@ fn to_fewer_buckets<K: Key, V: Value>(alloc: Global) -> Result<usize, Stop> {
     Ok(map.len())
 }
 
-/// Shrinks a map that is nearly full, so that it keeps its buckets and frees nodes alone.
+/// Shrinks a map that is nearly full, so that it keeps its buckets and its nodes.
 fn to_as_many_buckets<K: Key, V: Value>(alloc: Global) -> Result<usize, Stop> {
     let mut map: Map<K, V> = filled(alloc)?;
     map.reserve(PAIRS as usize - 10)?;
     map.shrink_to_fit()?;
     Ok(map.len())
+}
+
+/// Shrinks a map with room and a pair.
+fn with_a_pair<K: Key, V: Value>(alloc: Global) -> Result<LinkedHashMap<K, V>, Stop> {
+    let (key, value) = pair(alloc, 0)?;
+    let mut map: LinkedHashMap<K, V> = LinkedHashMap::with_capacity(alloc, PAIRS as usize)?;
+    map.insert(key, value)?;
+    map.shrink_to_fit()?;
+    Ok(map)
+}
+
+/// Shrinks maps with room and a pair, and keeps them all to the end.
+fn kept<K: Key, V: Value>(alloc: Global) -> Result<usize, Stop> {
+    let mut maps: Vec<LinkedHashMap<K, V>> = Vec::new(alloc);
+    for _ in 0..KEPT {
+        maps.push(with_a_pair(alloc)?)?;
+    }
+    Ok(maps.len())
 }
 
 /// Shrinks a map that is full, and one that has no capacity: neither changes.
@@ -47,6 +70,7 @@ pub fn run<K: Key, V: Value>(alloc: Global) -> Result<u64, Stop> {
         without_pairs::<K, V>(alloc)?,
         to_fewer_buckets::<K, V>(alloc)?,
         to_as_many_buckets::<K, V>(alloc)?,
+        kept::<K, V>(alloc)?,
         with_no_room::<K, V>(alloc)?,
     ];
     Ok(total(&seen))

@@ -6,25 +6,24 @@ use mir.Val.{Val, vstruct, vcons, vnil, of_list, has_ty, WT}
 use mir.Syntax.{ty_ptr, ty_struct, tcons, tnil}
 use mir.Raw.{raw as bare}
 use base.Logic.{SProp, ent, sep, emp, via, never, never_e, fst∗}
-use base.Fml.{Fml, fat, froom, fwand}
+use base.Fml.{Fml, fat, froom}
 use prog.Memory.{size}
 use prog.Model.{Model}
 use types.Logic.{Logic, sem}
-use contract.Monad.{fact, fact_i, fact_mono, fact_use}
+use contract.Monad.{fact, fact_i, fact_use}
 use types.Kit.{Item, Goal, Seq, mean, prop, ‵, raw, some, given, ◌⊛◌, ◌$◌, ◌∵◌, !, qed, by, move, keep, drop, use1, use2, pick, learn, split, fsplit, fpick, feq_l, done}
 use denote.RattleType.{RattleType}
-use denote.Memory.{lone, part_at}
+use denote.Memory.{part_at}
 use denote.Param.{layout}
 use denote.RawPtr.{Ptr, block_ptr, null_ptr, ptr_val, lies_at, room_for}
 use denote.Shadow.{makes_shadow}
 use denote.Struct.Struct.{Struct}
 use denote.Struct.Owning.{shape}
 use Rattle.std.specs.declared.alloc.Allocator.{Ghosts}
-use Rattle.std.proofs.GlobalToken.{dealloc_token_start}
 use Rattle.std.proofs.RcSteps.{Good, word}
-use Rattle.std.proofs.lemmas.Bool.{eq-eqb}
-use Rattle.lhm_ring.specs.Cells.{same_ptr, pointers, is_block}
-use Rattle.lhm_ring.specs.Ownership.{links_of, block_owns, deed_owns, chunk_token, node_type, fields_own}
+use Rattle.lhm_ring.specs.Cells.{same_ptr, pointers}
+use Rattle.lhm_ring.specs.Chunks.{block_owns}
+use Rattle.lhm_ring.specs.Ownership.{links_of}
 use Rattle.lhm_ring.specs.contracts.block.Block as R-type
 use Rattle.lhm_ring.proofs.Apart.{same_ptr_eq, IsFresh}
 use Rattle.lhm_ring.proofs.Memory.{Three, RL, RK, RV, lo, Node, Pl, Cells, value_out}
@@ -39,19 +38,19 @@ block_Good null_ptr = (tt, (record { fits = omega arith }, (tt, tt)))
 pub pointer_made : {M : Type 1} {𝓤 : Ura M} (𝓛 : Logic 𝓤) (p : Ptr) → ent 𝓤 (emp 𝓤) (sem 𝓛 (Pl.own_val (record { ptr = p }) (word p ∷ [])))
 pointer_made 𝓛 p = makes_shadow 𝓛 (Pl.own_val (record { ptr = p }) (word p ∷ [])) (λ vss. (tt, (tt, tt))) ((ptr_val p ∷ [], tt), (refl, (refl, tt)))
 
-module _ (R S W Z : RattleType) (g : Ghosts Z.Denot) where
+module _ (T' Z : RattleType) (g : Ghosts Z.Denot) where
   abbrev pub BlockType : RattleType
-  BlockType = R-type.the_row R S W Z g
+  BlockType = R-type.the_row T' Z g
 
   abbrev pub BlockFields : RattleType
-  BlockFields = Struct (shape (R-type.the_type R S W Z g))
+  BlockFields = Struct (shape (R-type.the_type T' Z g))
 
   pub block_made : {M : Type 1} {𝓤 : Ura M} (𝓛 : Logic 𝓤) (p : Ptr) → ent 𝓤 (emp 𝓤) (sem 𝓛 (BlockFields.own_val (p, (record {}, tt)) (block_val p ∷ [])))
   block_made 𝓛 p = makes_shadow 𝓛 (BlockFields.own_val (p, (record {}, tt)) (block_val p ∷ [])) (λ vss. (tt, (tt, ((λ uss. (tt, tt)), tt))))
       ((ptr_val p ∷ [], (vstruct vnil ∷ [], tt)), (refl, (refl, ((tt, (refl, tt)), tt))))
 
   module _ {M : Type 1} {𝓤 : Ura M} {𝓛 : Logic 𝓤} {K : Type 0} {Γ : List (Item 𝓤)} {G : Goal 𝓤 𝓛.H} where
-    pub block_known : K → (r : BlockType.Denot) (vs : List Val) → (vs ≡ block_val r.ptr ∷ [] → Seq K 𝓛 (‵ (block_owns R S W (g.dealloc_token r.alloc) r.ptr) ∷ Γ) G) → Seq K 𝓛 (‵ (BlockType.own_val r vs) ∷ Γ) G
+    pub block_known : K → (r : BlockType.Denot) (vs : List Val) → (vs ≡ block_val r.ptr ∷ [] → Seq K 𝓛 (‵ (block_owns T' (g.dealloc_token r.alloc) r.ptr r.count) ∷ Γ) G) → Seq K 𝓛 (‵ (BlockType.own_val r vs) ∷ Γ) G
     block_known t r vs k = fsplit t $ fpick t (λ vss. fsplit t $ feq_l t (λ ev. fsplit t $ feq_l t (λ ep. fsplit t $ fpick t (λ uss. fsplit t $ feq_l t (λ em. drop t $ drop t $
         k (ev ∙ (λ i. vstruct (of_list (ep i ++ (em i ++ []))) ∷ [])))))))
 
@@ -81,16 +80,8 @@ module _ {M : Type 1} {𝓤 : Ura M} (𝓛 : Logic 𝓤) (𝓜 : Model 𝓤 𝓛
     | false ↦ λ e. fact_i 𝓤 (same_ptr p q ≡ false) (F q) e
   ]) refl
 
-  pub fresh : (p : Ptr) (cs : List (Node E)) → ent 𝓤 (sep 𝓤 (sem 𝓛 (New p)) (sem 𝓛 (Cells E cs))) (fact 𝓤 (IsFresh p (pointers cs)))
-  fresh p [] = fact_i 𝓤 (IsFresh p []) _ tt
-  fresh p (c ∷ cs) = qed 𝓛 (‵ (New p) ∷ ‵ (Cells E (c ∷ cs)) ∷ []) ∵ move ! (1 ∷ []) $ fsplit ! $ fsplit ! $ move ! (3 ∷ 0 ∷ []) $
+  pub fresh : (Z : Fml) (p : Ptr) (cs : List (Node E)) → ent 𝓤 (sep 𝓤 (sem 𝓛 (New p)) (sem 𝓛 (Cells E Z cs))) (fact 𝓤 (IsFresh p (pointers cs)))
+  fresh Z p [] = fact_i 𝓤 (IsFresh p []) _ tt
+  fresh Z p (c ∷ cs) = qed 𝓛 (‵ (New p) ∷ ‵ (Cells E Z (c ∷ cs)) ∷ []) ∵ move ! (1 ∷ []) $ fsplit ! $ fsplit ! $ move ! (3 ∷ 0 ∷ []) $
       knows ! (same_ptr p c.at ≡ false) (differ p c.at (λ r. sep 𝓤 (sem 𝓛 (New p)) (sem 𝓛 (lies_at (RL E) full_share (links_of (RL E) (RK E) (RV E) r) c.links))) (clash p c.links)) (λ here.
-      move ! (0 ∷ 3 ∷ []) $ knows ! (IsFresh p (pointers cs)) (fresh p cs) (λ rest. by ! (fact_i 𝓤 (IsFresh p (c.at ∷ pointers cs)) _ (here, rest))))
-
--- what may be freed is the start of its block
-pub block_starts : {M : Type 1} {𝓤 : Ura M} (𝓛 : Logic 𝓤) (R S W : RattleType) (b o : ℕ)
-    → ent 𝓤 (sep 𝓤 (sem 𝓛 (deed_owns R S W chunk_token (block_ptr b o))) (sem 𝓛 (room_for (bare (lone R.mir)) (links_of R S W (block_ptr b o))))) (fact 𝓤 (is_block (block_ptr b o) ≡ true))
-block_starts {𝓤 = 𝓤} 𝓛 R S W b o =
-    let p : Ptr = block_ptr b o in let token : SProp 𝓤 = sem 𝓛 (chunk_token (node_type R S W) p) in let deed : SProp 𝓤 = sem 𝓛 (deed_owns R S W chunk_token p) in
-    via 𝓤 deed (fst∗ 𝓤 deed (sem 𝓛 (room_for (bare (lone R.mir)) (links_of R S W p)))) (via 𝓤 token (fst∗ 𝓤 token (sem 𝓛 (fwand (fields_own R S W p) (room_for (node_type R S W) p))))
-    (via 𝓤 (fact 𝓤 (o ≡ 0)) (dealloc_token_start 𝓛 (record { memory = record { seal = tt } }) (node_type R S W) p) (fact_mono 𝓤 (o ≡ 0) (is_block p ≡ true) (λ e. eq-eqb o 0 e))))
+      move ! (0 ∷ 3 ∷ []) $ knows ! (IsFresh p (pointers cs)) (fresh Z p cs) (λ rest. by ! (fact_i 𝓤 (IsFresh p (c.at ∷ pointers cs)) _ (here, rest))))

@@ -1,8 +1,7 @@
 -- The heads of the buckets, as positions and as pointers.
-use Rattle.std.proofs.Common.{◌≡◌, ℕ, zero, suc, ◌+◌, ◌%◌, ◌<◌, List, [], ◌∷◌, ◌++◌, map, refl, sym, ◌∙◌, ap, arith, length, get_or, set, Option, Some, None, Bool, true}
+use Rattle.std.proofs.Common.{subst, T, ltb→lt, ◌^◌, ◌≡◌, ℕ, zero, suc, ◌+◌, ◌%◌, ◌<◌, List, [], ◌∷◌, ◌++◌, map, refl, sym, ◌∙◌, ap, arith, length, get_or, set, Option, Some, None, Bool, true}
 use Rattle.std.specs.Prelude.{IsSome, is_some, not}
 use denote.RawPtr.{Ptr, block_ptr, null_ptr, Testable, InBlock}
-use Rattle.std.proofs.lemmas.Bool.{eqb-true}
 use Rattle.lhm_ring.specs.declared.heads.Head.{Head}
 use Rattle.lhm_ring.specs.Cells.{is_block, is_null_or_block}
 use Rattle.lhm_ring.specs.Heads.{leads_to}
@@ -60,7 +59,7 @@ Chains-heads {K} {V} at heads old_head new_head link count hash bucket old new m
 
 -- what may be compared with null, and where it leads
 pub comparable : (p : Ptr) → is_null_or_block p ≡ true → Testable p
-comparable (block_ptr b o) e = let z : o ≡ 0 = eqb-true o 0 e in omega (arith, z)
+comparable (block_ptr b o) e = ltb→lt o (2 ^ 63) (subst T (sym e) tt)
 comparable null_ptr e = omega arith
 
 pub led_there : (p : Ptr) → InBlock p → led_to p ≡ Some p

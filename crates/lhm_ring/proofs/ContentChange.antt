@@ -1,28 +1,25 @@
 -- A ring of which only what is held at one pointer changes.
 use Rattle.std.proofs.Common.{◌≡◌, ℕ, suc, zero, true, false, cond, List, [], ◌∷◌, ◌++◌, map, length, Option, Some, None, refl, sym, ap, ◌∙◌, subst, append_assoc}
-use Rattle.std.specs.Prelude.{◌==◌}
 use Rattle.std.specs.List.{AllByRecursion}
-use denote.RawPtr.{Ptr}
-use Rattle.lhm_ring.specs.declared.block.NodePointer.{NodePointer}
+use denote.RawPtr.{Ptr, null_ptr}
 use Rattle.lhm_ring.specs.declared.links.Links.{Links}
 use Rattle.lhm_ring.specs.Cells.{Cell, cell, same_ptr, links_of, body_of, links_at, body_at, IsApart, with_links, with_body}
-use Rattle.lhm_ring.specs.Rings.{relinked, next_of, prev_of, link_of, has_links, guard_of, next_at, prev_at, link_at, is_there, is_guard, content_of, content_at, Linked, Chained, HasContent, IsRing, follow, listed, one_of, ring_pointers, ring_list, RingOk}
+use Rattle.lhm_ring.specs.Rings.{relinked, next_of, prev_of, link_of, has_links, next_at, prev_at, link_at, is_there, content_of, content_at, Linked, Chained, HasContent, IsRing, follow, listed, one_of, ring_pointers, ring_list, RingOk}
 use Rattle.lhm_ring.specs.RingState.{State, state, Held, held, IsHeld, ChangesOnly, change_at}
 use Rattle.lhm_ring.specs.Targets.{target}
 use Rattle.lhm_ring.specs.declared.link.Link.{Link}
-use Rattle.lhm_ring.proofs.Apart.{IsFresh, apart_none, same_ptr_eq, same_ptr_refl, same_ptr_symm}
+use Rattle.lhm_ring.proofs.Apart.{IsFresh, same_ptr_eq, same_ptr_refl, same_ptr_symm}
 use Rattle.lhm_ring.proofs.Writes.{at_other, length-change, read_kept, links_set, body_kept}
 use Rattle.lhm_ring.proofs.Rows.{all_from, all_right, content_pointer, apart_at, apart_head, apart_left, apart_tail, follow_row}
-use Rattle.lhm_ring.proofs.RingNodes.{ring_listed, none_held, node-listed}
-use Rattle.lhm_ring.proofs.Splicing.{next_relinked, prev_relinked, guard_relinked, link_relinked, hash_relinked}
-use Rattle.lhm_ring.proofs.OneNodeChanged.{links_kept, body_set, content_hash, content_link, content_guard, content_pair, content_holds}
+use Rattle.lhm_ring.proofs.RingNodes.{ring_listed, node-listed}
+use Rattle.lhm_ring.proofs.Splicing.{next_relinked, prev_relinked, link_relinked, hash_relinked}
+use Rattle.lhm_ring.proofs.OneNodeChanged.{links_kept, body_set, content_hash, content_link, content_pair, content_holds}
 
 -- the same nodes and the same order, except that p holds u in place of t
 pub record ChangesAt {B : Type 0} (cs ds : List (Cell Links B)) (p : Ptr) (t u : Held B) : Type 0 where
   pub next : (q : Ptr) → next_at ds q ≡ next_at cs q
   pub prev : (q : Ptr) → prev_at ds q ≡ prev_at cs q
   pub there : (q : Ptr) → is_there ds q ≡ is_there cs q
-  pub guard : (q : Ptr) → is_guard ds q ≡ is_guard cs q
   pub link : (q : Ptr) → same_ptr p q ≡ false → link_at ds q ≡ link_at cs q
   pub content : (q : Ptr) → same_ptr p q ≡ false → content_at ds q ≡ content_at cs q
   pub was : content_at cs p ≡ Some t
@@ -50,36 +47,32 @@ module _ {B : Type 0} (cs ds : List (Cell Links B)) (p : Ptr) (t u : Held B) (j 
     | false ↦ λ n. (h.0, j.content q n ∙ h.1)
   ]) refl
 
-  pub ring_same : (g : Ptr) (ps : List Ptr) (spare : Option Ptr) (ss : List Ptr) → IsFresh p ss → IsRing cs g ps spare ss → IsRing ds g ps spare ss
-  ring_same g ps spare ss f r = record {
-    linked = row_same (g ∷ (ps ++ g ∷ [])) r.linked;
+  pub ring_same : (ps : List Ptr) (spare : Option Ptr) (ss : List Ptr) → IsFresh p ss → IsRing cs ps spare ss → IsRing ds ps spare ss
+  ring_same ps spare ss f r = record {
+    linked = row_same (null_ptr ∷ (ps ++ null_ptr ∷ [])) r.linked;
     chained = chain_same spare ss f r.chained;
     held = all_from (HasContent cs) (HasContent ds) has_new ps r.held;
-    there = all_from (λ q. is_there cs q ≡ true) (λ q. is_there ds q ≡ true) (λ q h. j.there q ∙ h) (g ∷ (ps ++ ss)) r.there;
+    there = all_from (λ q. is_there cs q ≡ true) (λ q. is_there ds q ≡ true) (λ q h. j.there q ∙ h) (null_ptr ∷ (ps ++ ss)) r.there;
     apart = r.apart;
     count = j.count ∙ r.count;
-    guard = j.guard g ∙ r.guard;
-    plain = all_from (λ q. is_guard cs q ≡ false) (λ q. is_guard ds q ≡ false) (λ q h. j.guard q ∙ h) ss r.plain;
   }
 
   -- where p stands in the ring
-  split_at : (guard : Option NodePointer) (spare : Link) (n m : ℕ) → RingOk cs guard spare n m → IsHeld (ring_list cs guard n) p → (us : List Ptr) × (vs : List Ptr) × (ring_pointers cs guard n ≡ us ++ p ∷ vs)
-  split_at None spare n m ok h = absurd (none_held p h)
-  split_at (Some g) spare n m ok h =
-      let f = node-listed cs g spare n m ok h.before h.node h.after h.is in let s = f.pointer in
-      (s.before, s.after, ap (λ k. follow cs k g.ptr) (sym s.long) ∙ follow_row cs g.ptr (s.before ++ h.node.at ∷ s.after) g.ptr s.ring.linked ∙ ap (λ q. s.before ++ q ∷ s.after) h.at_is)
+  split_at : (spare : Link) (n m : ℕ) → RingOk cs spare n m → IsHeld (ring_list cs n) p → (us : List Ptr) × (vs : List Ptr) × (ring_pointers cs n ≡ us ++ p ∷ vs)
+  split_at spare n m ok h =
+      let f = node-listed cs spare n m ok h.before h.node h.after h.is in let s = f.pointer in
+      (s.before, s.after, ap (λ k. follow cs k null_ptr) (sym s.long) ∙ follow_row cs null_ptr (s.before ++ h.node.at ∷ s.after) null_ptr s.ring.linked ∙ ap (λ q. s.before ++ q ∷ s.after) h.at_is)
 
-  free_of : (g : NodePointer) (spare : Link) (n m : ℕ) (ok : RingOk cs (Some g) spare n m) (us vs : List Ptr) → follow cs n g.ptr ≡ us ++ p ∷ vs → IsFresh p ok.1
-  free_of g spare n m ok us vs e =
-      let is : ok.0 ≡ us ++ p ∷ vs = sym (ap (λ k. follow cs k g.ptr) (sym ok.3) ∙ follow_row cs g.ptr ok.0 g.ptr ok.2.linked) ∙ e in
-      let d : IsApart ((g.ptr ∷ us) ++ p ∷ (vs ++ ok.1)) = subst (λ qs. IsApart (g.ptr ∷ qs)) (ap (λ qs. qs ++ ok.1) is ∙ append_assoc us (p ∷ vs) ok.1) ok.2.apart in
-      all_right (λ q. same_ptr p q ≡ false) vs ok.1 (all_right (λ q. same_ptr p q ≡ false) (g.ptr ∷ us) (vs ++ ok.1) (apart_at (g.ptr ∷ us) p (vs ++ ok.1) d))
+  free_of : (spare : Link) (n m : ℕ) (ok : RingOk cs spare n m) (us vs : List Ptr) → follow cs n null_ptr ≡ us ++ p ∷ vs → IsFresh p ok.1
+  free_of spare n m ok us vs e =
+      let is : ok.0 ≡ us ++ p ∷ vs = sym (ap (λ k. follow cs k null_ptr) (sym ok.3) ∙ follow_row cs null_ptr ok.0 null_ptr ok.2.linked) ∙ e in
+      let d : IsApart ((null_ptr ∷ us) ++ p ∷ (vs ++ ok.1)) = subst (λ qs. IsApart (null_ptr ∷ qs)) (ap (λ qs. qs ++ ok.1) is ∙ append_assoc us (p ∷ vs) ok.1) ok.2.apart in
+      all_right (λ q. same_ptr p q ≡ false) vs ok.1 (all_right (λ q. same_ptr p q ≡ false) (null_ptr ∷ us) (vs ++ ok.1) (apart_at (null_ptr ∷ us) p (vs ++ ok.1) d))
 
-  pub ring_ok_same : (guard : Option NodePointer) (spare : Link) (n m : ℕ) → RingOk cs guard spare n m → IsHeld (ring_list cs guard n) p → RingOk ds guard spare n m
-  ring_ok_same None spare n m ok h = absurd (none_held p h)
-  ring_ok_same (Some g) spare n m ok h =
-      let s = split_at (Some g) spare n m ok h in
-      (ok.0, ok.1, ring_same g.ptr ok.0 (target spare) ok.1 (free_of g spare n m ok s.0 s.1 s.2) ok.2, ok.3, ok.4, ok.5)
+  pub ring_ok_same : (spare : Link) (n m : ℕ) → RingOk cs spare n m → IsHeld (ring_list cs n) p → RingOk ds spare n m
+  ring_ok_same spare n m ok h =
+      let s = split_at spare n m ok h in
+      (ok.0, ok.1, ring_same ok.0 (target spare) ok.1 (free_of spare n m ok s.0 s.1 s.2) ok.2, ok.3, ok.4, ok.5)
 
   module _ (f : Held B → Held B) (fx : f t ≡ u) where
     pointer : t.at ≡ p
@@ -108,17 +101,13 @@ module _ {B : Type 0} (cs ds : List (Cell Links B)) (p : Ptr) (t u : Held B) (j 
     listed_changed [] = refl
     listed_changed (q ∷ qs) = (λ i. one_changed q i ++ listed_changed qs i) ∙ sym (change-append (one_of (content_at cs q)) (listed cs qs))
 
-    pub ring_list_changed : (guard : Option NodePointer) (n : ℕ) → ring_list ds guard n ≡ change_at p f (ring_list cs guard n)
-    ring_list_changed None n = refl
-    ring_list_changed (Some g) n = ap (listed ds) (follow_same n g.ptr) ∙ listed_changed (follow cs n g.ptr)
+    pub ring_list_changed : (n : ℕ) → ring_list ds n ≡ change_at p f (ring_list cs n)
+    ring_list_changed n = ap (listed ds) (follow_same n null_ptr) ∙ listed_changed (follow cs n null_ptr)
 
 -- the body of a node is written, or its chain link
 module _ {B : Type 0} (cs : List (Cell Links B)) (p : Ptr) (l : Links) (e : links_at cs p ≡ Some l) (t : Held B) (c : content_at cs p ≡ Some t) where
-  open_guard : (l.guard == 1) ≡ false
-  open_guard = sym (ap guard_of e) ∙ content_guard p (links_at cs p) (body_at cs p) t c
-
-  seen_content : (o : Option Links) (b : Option B) (k : Links) (x : B) → o ≡ Some k → b ≡ Some x → (k.guard == 1) ≡ false → content_of p o b ≡ Some (held p k.hash (link_of (Some k)) x)
-  seen_content o b k x eo eb f = (λ i. content_of p (eo i) (eb i)) ∙ ap (λ y. cond y None (Some (held p k.hash (link_of (Some k)) x))) f
+  seen_content : (o : Option Links) (b : Option B) (k : Links) (x : B) → o ≡ Some k → b ≡ Some x → content_of p o b ≡ Some (held p k.hash (link_of (Some k)) x)
+  seen_content o b k x eo eb = λ i. content_of p (eo i) (eb i)
 
   shown_links : content_of p (Some l) (body_at cs p) ≡ Some t
   shown_links = ap (λ o. content_of p o (body_at cs p)) (sym e) ∙ c
@@ -131,11 +120,10 @@ module _ {B : Type 0} (cs : List (Cell Links B)) (p : Ptr) (l : Links) (e : link
         next = λ q. ap next_of (same q);
         prev = λ q. ap prev_of (same q);
         there = λ q. ap has_links (same q);
-        guard = λ q. ap guard_of (same q);
         link = λ q _. ap link_of (same q);
         content = λ q n. ap (λ z. content_of q (links_of z) (body_of z)) (at_other p (λ c. cell c.at c.links (Some x)) (λ c. refl) q n cs);
         was = c;
-        is = seen_content (links_at (with_body p (Some x) cs) p) (body_at (with_body p (Some x) cs) p) l x (same p ∙ e) (body_set p (Some x) cs l e) open_guard
+        is = seen_content (links_at (with_body p (Some x) cs) p) (body_at (with_body p (Some x) cs) p) l x (same p ∙ e) (body_set p (Some x) cs l e)
             ∙ ap (λ z. Some z) (λ i. held (sym pointer i) (sym (content_hash p l (body_at cs p) t shown_links) i) (sym (content_link p l (body_at cs p) t shown_links) i) x);
         count = length-change p (λ c. cell c.at c.links (Some x)) cs;
       }
@@ -149,11 +137,10 @@ module _ {B : Type 0} (cs : List (Cell Links B)) (p : Ptr) (l : Links) (e : link
         next = read_kept p k next_of cs l e (next_relinked o l);
         prev = read_kept p k prev_of cs l e (prev_relinked o l);
         there = read_kept p k has_links cs l e refl;
-        guard = read_kept p k guard_of cs l e (guard_relinked o l);
         link = λ q n. ap (λ z. link_of (links_of z)) (at_other p (λ c. cell c.at k c.body) (λ c. refl) q n cs);
         content = λ q n. ap (λ z. content_of q (links_of z) (body_of z)) (at_other p (λ c. cell c.at k c.body) (λ c. refl) q n cs);
         was = c;
-        is = seen_content (links_at (with_links p k cs) p) (body_at (with_links p k cs) p) k x.0 e₂ (body_kept p k cs l e p ∙ x.1) (guard_relinked o l ∙ open_guard)
+        is = seen_content (links_at (with_links p k cs) p) (body_at (with_links p k cs) p) k x.0 e₂ (body_kept p k cs l e p ∙ x.1)
             ∙ ap (λ z. Some z) (λ i. held (sym pointer i) ((hash_relinked o l ∙ sym (content_hash p l (body_at cs p) t shown_links)) i) (link_relinked o l i) (sym pair i));
         count = length-change p (λ c. cell c.at k c.body) cs;
       }
@@ -165,10 +152,9 @@ module _ {B : Type 0} where
   pointers_listed cs [] a = refl
   pointers_listed cs (p ∷ ps) a = ap (λ o. map (λ (t : Held B). t.at) (one_of o ++ listed cs ps)) a.0.1 ∙ (λ i. content_pointer p (links_at cs p) (body_at cs p) a.0.0 a.0.1 i ∷ pointers_listed cs ps a.1 i)
 
-  ring_apart : (cs : List (Cell Links B)) (guard : Option NodePointer) (spare : Link) (n m : ℕ) → RingOk cs guard spare n m → IsApart (map (λ (t : Held B). t.at) (ring_list cs guard n))
-  ring_apart cs None spare n m ok = apart_none
-  ring_apart cs (Some g) spare n m ok =
-      subst IsApart (sym (ap (map (λ (t : Held B). t.at)) (ring_listed cs g.ptr ok.0 (target spare) ok.1 n ok.2 ok.3) ∙ pointers_listed cs ok.0 ok.2.held)) (apart_left ok.0 ok.1 (apart_tail g.ptr (ok.0 ++ ok.1) ok.2.apart))
+  ring_apart : (cs : List (Cell Links B)) (spare : Link) (n m : ℕ) → RingOk cs spare n m → IsApart (map (λ (t : Held B). t.at) (ring_list cs n))
+  ring_apart cs spare n m ok =
+      subst IsApart (sym (ap (map (λ (t : Held B). t.at)) (ring_listed cs ok.0 (target spare) ok.1 n ok.2 ok.3) ∙ pointers_listed cs ok.0 ok.2.held)) (apart_left ok.0 ok.1 (apart_tail null_ptr (ok.0 ++ ok.1) ok.2.apart))
 
   unchanged : (p : Ptr) (f : Held B → Held B) (ys : List (Held B)) → IsFresh p (map (λ (t : Held B). t.at) ys) → change_at p f ys ≡ ys
   unchanged p f [] d = refl
@@ -186,6 +172,6 @@ module _ {B : Type 0} where
       let far = apart_head x.at (map (λ (t : Held B). t.at) (xs ++ t ∷ ys)) d in
       λ i. cond (fresh_of x.at p xs t ys at far i) (f x) x ∷ changed_at p f xs t ys at (apart_tail x.at (map (λ (t : Held B). t.at) (xs ++ t ∷ ys)) d) i
 
-  pub changes_only : (cs : List (Cell Links B)) (guard : Option NodePointer) (spare : Link) (n m : ℕ) (v : State B) → RingOk cs guard spare n m → state (ring_list cs guard n) m ≡ v → (p : Ptr) → ChangesOnly v.held p
-  changes_only cs guard spare n m v ok w p xs t ys e at f =
-      ap (change_at p f) e ∙ changed_at p f xs t ys at (subst (λ hs. IsApart (map (λ (t : Held B). t.at) hs)) (ap (λ (z : State B). z.held) w ∙ e) (ring_apart cs guard spare n m ok))
+  pub changes_only : (cs : List (Cell Links B)) (spare : Link) (n m : ℕ) (v : State B) → RingOk cs spare n m → state (ring_list cs n) m ≡ v → (p : Ptr) → ChangesOnly v.held p
+  changes_only cs spare n m v ok w p xs t ys e at f =
+      ap (change_at p f) e ∙ changed_at p f xs t ys at (subst (λ hs. IsApart (map (λ (t : Held B). t.at) hs)) (ap (λ (z : State B). z.held) w ∙ e) (ring_apart cs spare n m ok))

@@ -32,13 +32,13 @@ use denote.Struct.Struct.{Struct, within}
 use Rattle.std.proofs.RawLayout.{as_raw}
 use Rattle.std.specs.contracts.marker.PhantomData as marker
 use Rattle.lhm_ring.specs.Cells.{Cell, cell}
-use Rattle.lhm_ring.specs.Ownership.{links_of, body_owns, deed_owns, chunk_token, cells_own, cell_lent, cells_lent}
+use Rattle.lhm_ring.specs.Ownership.{links_of, body_owns, deed_owns, land_owns, cells_own, cell_lent, cells_lent}
 use Rattle.lhm_ring.specs.ContentLoan.{bodies, Bodies, bodies_of, firsts, seconds, cleared}
 use Rattle.lhm_ring.specs.NodesAfterLoan.{cleared_nodes}
 use Rattle.lhm_ring.specs.contracts.value_loan.Hole as H-type
 use Rattle.lhm_ring.specs.contracts.nodes.Nodes as C
 use Rattle.lhm_ring.specs.contracts.content_loan.ContentLoan as S-type
-use Rattle.lhm_ring.proofs.Memory.{Three, RL, RK, RV, ko, vo, Marker, Nr, marker, body_uninit}
+use Rattle.lhm_ring.proofs.Memory.{Three, RL, RK, RV, ko, vo, Marker, Nr, Land, marker, body_uninit}
 use Rattle.lhm_ring.proofs.Sharing.{cells_lent_laws}
 
 module _ (R S W : RattleType) where
@@ -46,11 +46,12 @@ module _ (R S W : RattleType) where
   Node = Cell R.Denot (S.Denot × W.Denot)
 
   abbrev pub stem : Node → Fml
-  stem c = fsep (lies_at R full_share (links_of R S W c.at) c.links) (deed_owns R S W chunk_token c.at)
+  stem c = fsep (lies_at R full_share (links_of R S W c.at) c.links) (deed_owns R S W c.at)
 
-  abbrev pub stems : List Node → Fml
-  stems [] = ftrue
-  stems (c ∷ cs) = fsep (stem c) (stems cs)
+  -- the nodes without their bodies, and `others` beside them
+  abbrev pub stems : Fml → List Node → Fml
+  stems others [] = others
+  stems others (c ∷ cs) = fsep (stem c) (stems others cs)
 
   abbrev pub stems_lent : List Node → Lft → Fml
   stems_lent [] = nothing
@@ -62,7 +63,7 @@ module _ (R S W : RattleType) where
   abbrev pub HW : RattleType
   HW = H-type.the_row W
 
-module _ (E : Three) {M : Type 1} {𝓤 : Ura M} (𝓛 : Logic 𝓤) where
+module _ (E : Three) {M : Type 1} {𝓤 : Ura M} (𝓛 : Logic 𝓤) (Z : Fml) where
   abbrev Body : Ptr → Option (E.key.Denot × E.value.Denot) → Fml
   Body p o = body_owns (RL E) (RK E) (RV E) p o
 
@@ -70,13 +71,13 @@ module _ (E : Three) {M : Type 1} {𝓤 : Ura M} (𝓛 : Logic 𝓤) where
   Run ps ws = bodies (RL E) (RK E) (RV E) ps ws
 
   abbrev Stems : List (Node (RL E) (RK E) (RV E)) → Fml
-  Stems cs = stems (RL E) (RK E) (RV E) cs
+  Stems cs = stems (RL E) (RK E) (RV E) Z cs
 
   abbrev Cells : List (Node (RL E) (RK E) (RV E)) → Fml
-  Cells cs = cells_own (RL E) (RK E) (RV E) cs
+  Cells cs = cells_own (RL E) (RK E) (RV E) Z cs
 
   pub cells_out : (cs : List (Node (RL E) (RK E) (RV E))) → ent 𝓤 (sem 𝓛 (Cells cs)) (sep 𝓤 (sem 𝓛 (Run (firsts (bodies_of cs)) (seconds (bodies_of cs)))) (sem 𝓛 (Stems cs)))
-  cells_out [] = qed 𝓛 (‵ ftrue ∷ []) ∵ empty ! $ done !
+  cells_out [] = qed 𝓛 (‵ Z ∷ []) ∵ empty ! $ done !
   cells_out (c ∷ cs) = qed 𝓛 (‵ (Cells (c ∷ cs)) ∷ []) ∵ fsplit ! $ fsplit3 ! $ move ! (3 ∷ []) $
       use1 𝓛 (‵ (Run (firsts (bodies_of cs)) (seconds (bodies_of cs))) ⊛ ‵ (Stems cs)) (cells_out cs) $ split ! $
       -- [the bodies; the stems; the links; the body; the deed]
@@ -91,8 +92,8 @@ module _ (E : Three) {M : Type 1} {𝓤 : Ura M} (𝓛 : Logic 𝓤) where
       as_raw ! (layout E.key) b (o + ko E) $ move ! (1 ∷ []) $ as_raw ! (layout E.value) b (o + vo E) $ move ! (1 ∷ 0 ∷ []) $ fjoin ! $ done !
 
   pub cells_in : (cs : List (Node (RL E) (RK E) (RV E))) (ws : List (Option (E.key.Denot × E.value.Denot))) → ent 𝓤 (sep 𝓤 (sem 𝓛 (Run (firsts (bodies_of cs)) ws)) (sem 𝓛 (Stems cs))) (sem 𝓛 (Cells (cleared cs)))
-  cells_in [] [] = qed 𝓛 (‵ ftrue ∷ ‵ ftrue ∷ []) ∵ drop ! $ done !
-  cells_in [] (w ∷ ws) = qed 𝓛 (‵ ffalse ∷ ‵ ftrue ∷ []) ∵ keep ! (0 ∷ []) $ by ! (never_e 𝓤 _)
+  cells_in [] [] = qed 𝓛 (‵ ftrue ∷ ‵ Z ∷ []) ∵ drop ! $ done !
+  cells_in [] (w ∷ ws) = qed 𝓛 (‵ ffalse ∷ ‵ Z ∷ []) ∵ keep ! (0 ∷ []) $ by ! (never_e 𝓤 _)
   cells_in (c ∷ cs) [] = qed 𝓛 (‵ ffalse ∷ ‵ (Stems (c ∷ cs)) ∷ []) ∵ keep ! (0 ∷ []) $ by ! (never_e 𝓤 _)
   cells_in (c ∷ cs) (w ∷ ws) = qed 𝓛 (‵ (Run (firsts (bodies_of (c ∷ cs))) (w ∷ ws)) ∷ ‵ (Stems (c ∷ cs)) ∷ []) ∵ fsplit ! $ move ! (2 ∷ []) $ fsplit ! $ fsplit ! $
       -- [the links; the deed; the stems; the body; the bodies]
@@ -112,22 +113,22 @@ module _ (R S W : RattleType) {M : Type 1} {𝓤 : Ura M} (𝓛 : Logic 𝓤) wh
   nodes_seen κ (c ∷ cs) = qed 𝓛 (‵ (stems_lent R S W (c ∷ cs) κ) ∷ []) ∵ fsplit ! $ use1 𝓛 (‵ (cell_lent R (HS R S W) (HW R S W) c κ)) (seen_one κ c.at c.links c.body) $ move ! (1 ∷ []) $
       use1 𝓛 (‵ (cells_lent R (HS R S W) (HW R S W) cs κ)) (nodes_seen κ cs) $ move ! (1 ∷ 0 ∷ []) $ fjoin ! $ done !
 
-  Lends-stems_lent : (LR : Laws R) (l : Lft) (incR : Incl l R.lives) (cs : List (Node R S W)) → Lends 𝓛 (stems R S W cs) (stems_lent R S W cs) l
-  Lends-stems_lent LR l incR [] = Lends-nothing 𝓛 ftrue l
-  Lends-stems_lent LR l incR (c ∷ cs) = Lends-both 𝓛 (stem R S W c) (stems R S W cs) (lent_at R (links_of R S W c.at) c.links) (stems_lent R S W cs) l
-      (Lends-first 𝓛 (lies_at R full_share (links_of R S W c.at) c.links) (deed_owns R S W chunk_token c.at) (lent_at R (links_of R S W c.at) c.links) l
+  Lends-stems_lent : (Z : Fml) (LR : Laws R) (l : Lft) (incR : Incl l R.lives) (cs : List (Node R S W)) → Lends 𝓛 (stems R S W Z cs) (stems_lent R S W cs) l
+  Lends-stems_lent Z LR l incR [] = Lends-nothing 𝓛 Z l
+  Lends-stems_lent Z LR l incR (c ∷ cs) = Lends-both 𝓛 (stem R S W c) (stems R S W Z cs) (lent_at R (links_of R S W c.at) c.links) (stems_lent R S W cs) l
+      (Lends-first 𝓛 (lies_at R full_share (links_of R S W c.at) c.links) (deed_owns R S W c.at) (lent_at R (links_of R S W c.at) c.links) l
       (Lends-lies 𝓛 R l (links_of R S W c.at) c.links (Shares-less 𝓛 R R.lives l incR (LR.shares 𝓛) c.links)))
-      (Lends-stems_lent LR l incR cs)
+      (Lends-stems_lent Z LR l incR cs)
 
-  pub Lends-stems : (LR : Laws R) (l : Lft) (incR : Incl l R.lives) (cs : List (Node R S W)) → Lends 𝓛 (stems R S W cs) (cells_lent R (HS R S W) (HW R S W) cs) l
-  Lends-stems LR l incR cs κ ts inc sp = qed 𝓛 (‵ (fbor κ (stems R S W cs)) ∷ raw (lfts 𝓛 ts) ∷ []) {P = 𝓛.H.⇛ (sep 𝓤 (sem 𝓛 (cells_lent R (HS R S W) (HW R S W) cs κ)) (lfts 𝓛 ts))} (
-      updating ! $ use2 𝓛 (later (‵ (stems_lent R S W cs κ) ⊛ raw (lfts 𝓛 ts))) (Lends-stems_lent LR l incR cs κ ts inc sp) $ await ! tt $ split ! $
+  pub Lends-stems : (Z : Fml) (LR : Laws R) (l : Lft) (incR : Incl l R.lives) (cs : List (Node R S W)) → Lends 𝓛 (stems R S W Z cs) (cells_lent R (HS R S W) (HW R S W) cs) l
+  Lends-stems Z LR l incR cs κ ts inc sp = qed 𝓛 (‵ (fbor κ (stems R S W Z cs)) ∷ raw (lfts 𝓛 ts) ∷ []) {P = 𝓛.H.⇛ (sep 𝓤 (sem 𝓛 (cells_lent R (HS R S W) (HW R S W) cs κ)) (lfts 𝓛 ts))} (
+      updating ! $ use2 𝓛 (later (‵ (stems_lent R S W cs κ) ⊛ raw (lfts 𝓛 ts))) (Lends-stems_lent Z LR l incR cs κ ts inc sp) $ await ! tt $ split ! $
       use1 𝓛 (‵ (cells_lent R (HS R S W) (HW R S W) cs κ)) (nodes_seen κ cs) $ now ! $ done !)
 
 -- the nodes without bodies, as a type that is shared as nodes of holes are
 module _ (R S W : RattleType) where
   abbrev pub Bare : owning.Owning
-  Bare = owning.lending (C.struct R (HS R S W) (HW R S W)) (C.the_codes R.Denot S.Denot W.Denot R.coded S.coded W.coded (marker.the_row RawPtr).coded) (λ n. stems R S W n.cells) (C.the_lent R (HS R S W) (HW R S W))
+  Bare = owning.lending (C.struct R (HS R S W) (HW R S W)) (C.the_codes R.Denot S.Denot W.Denot R.coded S.coded W.coded (marker.the_row RawPtr).coded) (λ n. stems R S W (land_owns R S W n.node_bytes n.unused n.chunks) n.cells) (C.the_lent R (HS R S W) (HW R S W))
 
   abbrev pub BareRow : RattleType
   BareRow = owning.row Bare
@@ -137,9 +138,9 @@ module _ (R S W : RattleType) where
 
   pub bare_shares : {M : Type 1} {𝓤 : Ura M} (𝓛 : Logic 𝓤) (LR : Laws R) (LS : Laws (HS R S W)) (LW : Laws (HW R S W)) → Shares 𝓛 BareRow BareRow.lives
   bare_shares {M} {𝓤} 𝓛 LR LS LW = let T = R.lives ++ ((HS R S W).lives ++ ((HW R S W).lives ++ [])) in
-      (of_Lends (C.struct R (HS R S W) (HW R S W)) (C.the_codes R.Denot S.Denot W.Denot R.coded S.coded W.coded (marker.the_row RawPtr).coded) (λ n. stems R S W n.cells) (C.the_lent R (HS R S W) (HW R S W))
+      (of_Lends (C.struct R (HS R S W) (HW R S W)) (C.the_codes R.Denot S.Denot W.Denot R.coded S.coded W.coded (marker.the_row RawPtr).coded) (λ n. stems R S W (land_owns R S W n.node_bytes n.unused n.chunks) n.cells) (C.the_lent R (HS R S W) (HW R S W))
       (λ d p. cells_lent_laws R (HS R S W) (HW R S W) LR.shr_laws LS.shr_laws LW.shr_laws d.cells) (copy_shared (marker.the_field RawPtr) (field_copy (marker.the_type RawPtr) tt), tt)
-      (λ M 𝓤 𝓛 d p. Lends-stems R S W 𝓛 LR BareRow.lives (Incl-trans (meet_⊑_left T _) (meet_⊑_left R.lives ((HS R S W).lives ++ ((HW R S W).lives ++ [])))) d.cells)).shares M 𝓤 𝓛
+      (λ M 𝓤 𝓛 d p. Lends-stems R S W 𝓛 (land_owns R S W d.node_bytes d.unused d.chunks) LR BareRow.lives (Incl-trans (meet_⊑_left T _) (meet_⊑_left R.lives ((HS R S W).lives ++ ((HW R S W).lives ++ [])))) d.cells)).shares M 𝓤 𝓛
 
 -- the loan's field, which takes no bytes
 abbrev pub ContentMarker : NamedLft → (R S W : RattleType) → RattleType
@@ -168,16 +169,16 @@ module _ (E : Three) {M : Type 1} {𝓤 : Ura M} (𝓛 : Logic 𝓤) (h : (Nr E)
   abbrev pub Held : SemTy
   Held = Bodies (RL E) (RK E) (RV E) (firsts (bodies_of h.cells))
 
-  pub fields_made : (vs : List Val) → ent 𝓤 (sep 𝓤 (sem 𝓛 ((Marker E).own_val (tt, tt) vs)) (sep 𝓤 (sem 𝓛 (stems (RL E) (RK E) (RV E) h.cells)) (sem 𝓛 (cell_at full_share (Nr E).mir vs rb ro)))) (sem 𝓛 Fields)
+  pub fields_made : (vs : List Val) → ent 𝓤 (sep 𝓤 (sem 𝓛 ((Marker E).own_val (tt, tt) vs)) (sep 𝓤 (sem 𝓛 (stems (RL E) (RK E) (RV E) (Land E h) h.cells)) (sem 𝓛 (cell_at full_share (Nr E).mir vs rb ro)))) (sem 𝓛 Fields)
   unfolding part_of
-  fields_made vs = qed 𝓛 (‵ ((Marker E).own_val (tt, tt) vs) ∷ ‵ (stems (RL E) (RK E) (RV E) h.cells) ∷ ‵ (cell_at full_share (Nr E).mir vs rb ro) ∷ []) ∵
+  fields_made vs = qed 𝓛 (‵ ((Marker E).own_val (tt, tt) vs) ∷ ‵ (stems (RL E) (RK E) (RV E) (Land E h) h.cells) ∷ ‵ (cell_at full_share (Nr E).mir vs rb ro) ∷ []) ∵
       fjoin ! $ move ! (1 ∷ 0 ∷ []) $ fjoin ! $ fpack ! (List Val) (λ us. fsep (cell_at full_share (Nr E).mir us rb ro) ((BareRow (RL E) (RK E) (RV E)).own_val h us)) vs $ done !
 
   pub back : (δ : GName) (w : List ℕ) → ent 𝓤 (sep 𝓤 (sem 𝓛 ((mem Anchor).own_at w rb ro)) (sep 𝓤 (sem 𝓛 (fseps (Borrowed Held 0 0 δ ∷ Fields ∷ []))) (emp 𝓤))) (sem 𝓛 ((mem (Nr E)).own_at (cleared_nodes h) rb ro))
   unfolding fseps part_of
   back δ w = qed 𝓛 (‵ ((mem Anchor).own_at w rb ro) ∷ ‵ (fseps (Borrowed Held 0 0 δ ∷ Fields ∷ [])) ∷ raw (emp 𝓤) ∷ []) ∵ drop ! $ fsplit ! $ fpick ! (λ os. fsplit ! $ move ! (2 ∷ []) $ fsplit ! $ fpick ! (λ vs. fsplit ! $ move ! (1 ∷ []) $ fsplit ! $
       -- [the marker; the stems; the cell; nothing; the bodies; their name; nothing]
-      move ! (4 ∷ 1 ∷ []) $ use2 𝓛 (‵ (cells_own (RL E) (RK E) (RV E) (cleared h.cells))) (cells_in E 𝓛 h.cells os) $ move ! (1 ∷ 0 ∷ []) $ fjoin ! $ move ! (1 ∷ 0 ∷ []) $ fjoin ! $
+      move ! (4 ∷ 1 ∷ []) $ use2 𝓛 (‵ (cells_own (RL E) (RK E) (RV E) (Land E h) (cleared h.cells))) (cells_in E 𝓛 (Land E h) h.cells os) $ move ! (1 ∷ 0 ∷ []) $ fjoin ! $ move ! (1 ∷ 0 ∷ []) $ fjoin ! $
       fpack ! (List Val) (λ us. fsep (cell_at full_share (Nr E).mir us rb ro) ((Nr E).own_val (cleared_nodes h) us)) vs $ keep ! (0 ∷ []) $ done !))
 
 module _ {M : Type 1} {𝓤 : Ura M} {𝓛 : Logic 𝓤} {K : Type 0} {Γ : List (Item 𝓤)} {G : Goal 𝓤 𝓛.H} where

@@ -1,16 +1,17 @@
 -- The first and the last of a ring.
-use Rattle.std.proofs.Common.{◌≡◌, ℕ, List, [], ◌∷◌, ◌++◌, length, Option, Some, refl, sym, ap, ◌∙◌, arith}
+use Rattle.std.proofs.Common.{◌≡◌, false, ℕ, List, [], ◌∷◌, ◌++◌, length, Some, refl, sym, ap, ◌∙◌, arith}
 use Rattle.std.specs.List.{AllByRecursion}
-use denote.RawPtr.{Ptr}
-use Rattle.lhm_ring.specs.declared.block.NodePointer.{NodePointer}
+use denote.RawPtr.{Ptr, null_ptr}
 use Rattle.lhm_ring.specs.declared.links.Links.{Links}
-use Rattle.lhm_ring.specs.Cells.{Cell, links_at, body_at}
-use Rattle.lhm_ring.specs.Rings.{next_of, prev_of, next_at, prev_at, content_at, Linked, HasContent, listed, one_of, ring_list, RingOk}
+use Rattle.lhm_ring.specs.Cells.{Cell, same_ptr, links_at, body_at}
+use Rattle.lhm_ring.specs.Rings.{next_at, prev_at, content_at, Linked, HasContent, listed, one_of, ring_list, RingOk}
 use Rattle.lhm_ring.specs.RingState.{State, state, Held, first_at, last_at, last_of}
-use Rattle.lhm_ring.specs.Targets.{target}
+use Rattle.lhm_ring.specs.Targets.{led_to, target}
 use Rattle.lhm_ring.specs.declared.link.Link.{Link}
-use Rattle.lhm_ring.proofs.Rows.{content_pointer, cut_row, last_from}
-use Rattle.lhm_ring.proofs.RingNodes.{ring_listed, RingOk-guard}
+use Rattle.lhm_ring.proofs.Rows.{content_pointer, cut_row, last_from, all_left, all_last, apart_head}
+use Rattle.lhm_ring.proofs.RingNodes.{ring_listed}
+use Rattle.lhm_ring.proofs.Apart.{IsFresh}
+use Rattle.lhm_ring.proofs.RingCells.{led_apart}
 
 module _ {B : Type 0} (cs : List (Cell Links B)) where
   pointers_of : (p : Ptr) (t : Held B) → content_at cs p ≡ Some t → t.at ≡ p
@@ -32,23 +33,29 @@ module _ {B : Type 0} (cs : List (Cell Links B)) where
   last_is g a [] c l h = absurd (h refl)
   last_is g a (p ∷ ps) c l h = ap (λ z. last_at (one_of z ++ listed cs ps)) c.0.1 ∙ ap (λ q. Some q) (last_listed p c.0 ps c.1 ∙ sym (cut_row cs g (p ∷ ps) a [] l).1.1)
 
-module _ {B : Type 0} (cs : List (Cell Links B)) (guard : Option NodePointer) (spare : Link) (g : NodePointer) (n m : ℕ) (v : State B) (e : guard ≡ Some g) (ok : RingOk cs guard spare n m) (w : state (ring_list cs guard n) m ≡ v) where
-  o : RingOk cs (Some g) spare n m
-  o = RingOk-guard cs guard spare g n m e ok
-
-  shown : listed cs o.0 ≡ v.held
-  shown = sym (ring_listed cs g.ptr o.0 (target spare) o.1 n o.2 o.3) ∙ sym (ap (λ z. ring_list cs z n) e) ∙ ap (λ (z : State B). z.held) w
-
-  empty : (ps : List Ptr) → length ps ≡ 0 → listed cs ps ≡ []
+module _ {B : Type 0} (cs : List (Cell Links B)) where
+  -- the first of a row that ends at null, and the last of one that begins there
+  pub first_led : (p : Ptr) (ps : List Ptr) → AllByRecursion (HasContent cs) ps → IsFresh null_ptr ps → Linked cs (p ∷ (ps ++ null_ptr ∷ [])) → first_at (listed cs ps) ≡ led_to (next_at cs p)
   unfolding listed
-  empty [] h = refl
-  empty (p ∷ ps) h = absurd (omega arith)
+  first_led p [] c f l = sym (ap led_to l.0.0)
+  first_led p (q ∷ qs) c f l = first_of cs p null_ptr (q ∷ qs) c l (λ z. omega (arith, z)) ∙ sym (led_apart (next_at cs p) (ap (same_ptr null_ptr) l.0.0 ∙ f.0))
 
-  pub none_held_at_zero : n ≡ 0 → v.held ≡ []
-  none_held_at_zero h = sym shown ∙ empty o.0 (o.3 ∙ h)
+  pub last_led : (p : Ptr) (ps : List Ptr) → AllByRecursion (HasContent cs) ps → IsFresh null_ptr ps → Linked cs (null_ptr ∷ (ps ++ p ∷ [])) → last_at (listed cs ps) ≡ led_to (prev_at cs p)
+  unfolding listed
+  last_led p [] c f l = sym (ap led_to l.0.1)
+  last_led p (q ∷ qs) c f l =
+      last_is cs null_ptr p (q ∷ qs) c l (λ z. omega (arith, z))
+      ∙ sym (led_apart (prev_at cs p) (ap (same_ptr null_ptr) (cut_row cs null_ptr (q ∷ qs) p [] l).1.1 ∙ all_last (λ r. same_ptr null_ptr r ≡ false) q qs f.0 f.1))
 
-  pub first_found : (l : Links) → links_at cs g.ptr ≡ Some l → (n ≡ 0 → ⊥) → Some l.next.ptr ≡ first_at v.held
-  first_found l k h = sym (ap first_at (sym shown) ∙ first_of cs g.ptr g.ptr o.0 o.2.held o.2.linked (λ z. h (sym o.3 ∙ z)) ∙ ap (λ z. Some (next_of z)) k)
+module _ {B : Type 0} (cs : List (Cell Links B)) (spare : Link) (n m : ℕ) (v : State B) (ok : RingOk cs spare n m) (w : state (ring_list cs n) m ≡ v) where
+  shown : listed cs ok.0 ≡ v.held
+  shown = sym (ring_listed cs ok.0 (target spare) ok.1 n ok.2 ok.3) ∙ ap (λ (z : State B). z.held) w
 
-  pub last_found : (l : Links) → links_at cs g.ptr ≡ Some l → (n ≡ 0 → ⊥) → Some l.prev.ptr ≡ last_at v.held
-  last_found l k h = sym (ap last_at (sym shown) ∙ last_is cs g.ptr g.ptr o.0 o.2.held o.2.linked (λ z. h (sym o.3 ∙ z)) ∙ ap (λ z. Some (prev_of z)) k)
+  free : IsFresh null_ptr ok.0
+  free = all_left (λ q. same_ptr null_ptr q ≡ false) ok.0 ok.1 (apart_head null_ptr (ok.0 ++ ok.1) ok.2.apart)
+
+  pub first_found : led_to (next_at cs null_ptr) ≡ first_at v.held
+  first_found = sym (first_led cs null_ptr ok.0 ok.2.held free ok.2.linked) ∙ ap first_at shown
+
+  pub last_found : led_to (prev_at cs null_ptr) ≡ last_at v.held
+  last_found = sym (last_led cs null_ptr ok.0 ok.2.held free ok.2.linked) ∙ ap last_at shown

@@ -27,15 +27,18 @@ pub mod Neighbours
 pub mod NodeAdded
 pub mod NodeBefore
 pub mod NodeBlocks
-pub mod NodeRemoved
 pub mod NodesWithBodies
 pub mod OneNodeChanged
 pub mod Options
+pub mod Places
 pub mod PutBackAndUnlink
 pub mod ReadAtPosition
 pub mod Rearranged
 pub mod Retained
+pub mod RingCells
 pub mod RingNodes
+pub mod RingSpans
+pub mod Rooms
 pub mod Rows
 pub mod Searches
 pub mod Sharing
@@ -47,4 +50,5 @@ pub mod ValueTaken
 pub mod ValuesInOrder
 pub mod ValuesReplaced
 pub mod ValuesSplitOff
+pub mod Walks
 pub mod Writes

@@ -27,7 +27,7 @@ use borrow.Table.OneValue.{part_in, part_out}
 use Rattle.std.specs.Prelude.{Option, Some, None}
 use Rattle.std.proofs.RcSteps.{Good, word}
 use Rattle.lhm_ring.specs.Cells.{Cell}
-use Rattle.lhm_ring.specs.Ownership.{links_offset, key_offset, value_offset, body_owns, cell_owns, cells_own, cell_lent, cells_lent}
+use Rattle.lhm_ring.specs.Ownership.{links_offset, key_offset, value_offset, body_owns, land_owns, cell_owns, cells_own, cell_lent, cells_lent}
 use Rattle.lhm_ring.specs.contracts.nodes.Nodes as N-type
 use Rattle.lhm_ring.specs.contracts.block.NodePointer as P-type
 
@@ -74,7 +74,11 @@ module _ (E : Three) where
   abbrev pub One : Node → Fml
   One c = cell_owns RL RK RV c
 
-  abbrev pub Cells : List Node → Fml
+  -- what is owned beside the nodes
+  abbrev pub Land : Nr.Denot → Fml
+  Land h = land_owns RL RK RV h.node_bytes h.unused h.chunks
+
+  abbrev pub Cells : Fml → List Node → Fml
   Cells = cells_own RL RK RV
 
 abbrev pub Pl : RattleType
@@ -91,15 +95,15 @@ module _ {M : Type 1} {𝓤 : Ura M} {𝓛 : Logic 𝓤} {K : Type 0} {Γ : List
   word_known t c vs k = fpick t (λ vss. fsplit t $ feq_l t (λ ev. fsplit t $ feq_l t (λ e. drop t $ k (subst (λ (ws : List Val). vs ≡ vstruct (of_list (ws ++ [])) ∷ []) e ev))))
 
 module _ {M : Type 1} {𝓤 : Ura M} (𝓛 : Logic 𝓤) (E : Three) where
-  pub cells_cut : (xs : List (Node E)) (c : Node E) (ys : List (Node E)) → ent 𝓤 (sem 𝓛 (Cells E (xs ++ c ∷ ys))) (sep 𝓤 (sem 𝓛 (One E c)) (sem 𝓛 (Cells E (xs ++ ys))))
-  cells_cut [] c ys = id⊢ 𝓤 _
-  cells_cut (x ∷ xs) c ys = qed 𝓛 (‵ (Cells E (x ∷ xs ++ c ∷ ys)) ∷ []) ∵ fsplit ! $ move ! (1 ∷ []) $
-      use1 𝓛 (‵ (One E c) ⊛ ‵ (Cells E (xs ++ ys))) (cells_cut xs c ys) $ split ! $ move ! (2 ∷ 1 ∷ []) $ fjoin ! $ move ! (1 ∷ []) $ done !
+  pub cells_cut : (Z : Fml) (xs : List (Node E)) (c : Node E) (ys : List (Node E)) → ent 𝓤 (sem 𝓛 (Cells E Z (xs ++ c ∷ ys))) (sep 𝓤 (sem 𝓛 (One E c)) (sem 𝓛 (Cells E Z (xs ++ ys))))
+  cells_cut Z [] c ys = id⊢ 𝓤 _
+  cells_cut Z (x ∷ xs) c ys = qed 𝓛 (‵ (Cells E Z (x ∷ xs ++ c ∷ ys)) ∷ []) ∵ fsplit ! $ move ! (1 ∷ []) $
+      use1 𝓛 (‵ (One E c) ⊛ ‵ (Cells E Z (xs ++ ys))) (cells_cut Z xs c ys) $ split ! $ move ! (2 ∷ 1 ∷ []) $ fjoin ! $ move ! (1 ∷ []) $ done !
 
-  pub cells_glue : (xs : List (Node E)) (c : Node E) (ys : List (Node E)) → ent 𝓤 (sep 𝓤 (sem 𝓛 (One E c)) (sem 𝓛 (Cells E (xs ++ ys)))) (sem 𝓛 (Cells E (xs ++ c ∷ ys)))
-  cells_glue [] c ys = id⊢ 𝓤 _
-  cells_glue (x ∷ xs) c ys = qed 𝓛 (‵ (One E c) ∷ ‵ (Cells E (x ∷ xs ++ ys)) ∷ []) ∵ move ! (1 ∷ []) $ fsplit ! $ move ! (2 ∷ 1 ∷ []) $
-      use2 𝓛 (‵ (Cells E (xs ++ c ∷ ys))) (cells_glue xs c ys) $ move ! (1 ∷ 0 ∷ []) $ fjoin ! $ done !
+  pub cells_glue : (Z : Fml) (xs : List (Node E)) (c : Node E) (ys : List (Node E)) → ent 𝓤 (sep 𝓤 (sem 𝓛 (One E c)) (sem 𝓛 (Cells E Z (xs ++ ys)))) (sem 𝓛 (Cells E Z (xs ++ c ∷ ys)))
+  cells_glue Z [] c ys = id⊢ 𝓤 _
+  cells_glue Z (x ∷ xs) c ys = qed 𝓛 (‵ (One E c) ∷ ‵ (Cells E Z (x ∷ xs ++ ys)) ∷ []) ∵ move ! (1 ∷ []) $ fsplit ! $ move ! (2 ∷ 1 ∷ []) $
+      use2 𝓛 (‵ (Cells E Z (xs ++ c ∷ ys))) (cells_glue Z xs c ys) $ move ! (1 ∷ 0 ∷ []) $ fjoin ! $ done !
 
   pub cell_seen : (κ : Lft) (xs : List (Node E)) (c : Node E) (ys : List (Node E)) → ent 𝓤 (sem 𝓛 (cells_lent (RL E) (RK E) (RV E) (xs ++ c ∷ ys) κ)) (sem 𝓛 (cell_lent (RL E) (RK E) (RV E) c κ))
   cell_seen κ [] c ys = fst∗ 𝓤 _ (sem 𝓛 (cells_lent (RL E) (RK E) (RV E) ys κ))

@@ -1,16 +1,15 @@
 -- A node of a ring moves to the back.
-use Rattle.std.proofs.Common.{◌≡◌, ℕ, suc, ◌+◌, true, false, List, [], ◌∷◌, ◌++◌, length, Option, Some, sym, ap, ◌∙◌, subst, append_assoc, arith, length-append}
+use Rattle.std.proofs.Common.{◌≡◌, ℕ, suc, ◌+◌, true, List, [], ◌∷◌, ◌++◌, length, Option, Some, sym, ap, ◌∙◌, subst, append_assoc, arith, length-append}
 use Rattle.std.specs.List.{AllByRecursion}
-use denote.RawPtr.{Ptr}
-use Rattle.lhm_ring.specs.declared.block.NodePointer.{NodePointer}
+use denote.RawPtr.{Ptr, null_ptr}
 use Rattle.lhm_ring.specs.declared.links.Links.{Links}
 use Rattle.lhm_ring.specs.Cells.{Cell, IsApart, links_at}
-use Rattle.lhm_ring.specs.Rings.{next_of, prev_of, next_at, prev_at, is_there, is_guard, content_at, Linked, Chained, HasContent, IsRing, listed, one_of, IsJoined, ring_list, RingOk}
+use Rattle.lhm_ring.specs.Rings.{next_of, prev_of, next_at, prev_at, is_there, content_at, Linked, Chained, HasContent, IsRing, listed, one_of, IsJoined, ring_list, RingOk}
 use Rattle.lhm_ring.specs.RingState.{state, Held, State, IsHeld, AtHeld}
 use Rattle.lhm_ring.specs.Targets.{target}
 use Rattle.lhm_ring.specs.declared.link.Link.{Link}
 use Rattle.lhm_ring.proofs.Apart.{IsFresh}
-use Rattle.lhm_ring.proofs.Rows.{all_both, all_left, all_right, all_swap, all_last, apart_left, apart_at, apart_out, apart_in, cut_row, chain_kept, held_kept, there_kept, listed_kept, listed-append, out_of_row, into_row, all_from}
+use Rattle.lhm_ring.proofs.Rows.{all_both, all_left, all_right, all_swap, all_last, apart_left, apart_at, apart_out, apart_in, cut_row, chain_kept, held_kept, there_kept, listed_kept, listed-append, out_of_row, into_row}
 use Rattle.lhm_ring.proofs.RingNodes.{NodeAt, found_in, node_in, ring_listed, node_at}
 
 module _ {B : Type 0} where
@@ -19,15 +18,15 @@ module _ {B : Type 0} where
   listed_one cs p t e = ap (λ o. one_of o ++ []) e
 
 -- a node in the middle of a ring
-module _ {B : Type 0} (cs : List (Cell Links B)) (g : Ptr) (spare : Option Ptr) (ss us : List Ptr) (p : Ptr) (vs : List Ptr) (r : IsRing cs g (us ++ p ∷ vs) spare ss) where
+module _ {B : Type 0} (cs : List (Cell Links B)) (spare : Option Ptr) (ss us : List Ptr) (p : Ptr) (vs : List Ptr) (r : IsRing cs (us ++ p ∷ vs) spare ss) where
   abbrev There : Ptr → Type 0
   There q = is_there cs q ≡ true
 
-  row : Linked cs (g ∷ (us ++ p ∷ (vs ++ g ∷ [])))
-  row = subst (λ qs. Linked cs (g ∷ qs)) (append_assoc us (p ∷ vs) (g ∷ [])) r.linked
+  row : Linked cs (null_ptr ∷ (us ++ p ∷ (vs ++ null_ptr ∷ [])))
+  row = subst (λ qs. Linked cs (null_ptr ∷ qs)) (append_assoc us (p ∷ vs) (null_ptr ∷ [])) r.linked
 
-  apart : IsApart (g ∷ (us ++ p ∷ vs))
-  apart = apart_left (g ∷ (us ++ p ∷ vs)) ss r.apart
+  apart : IsApart (null_ptr ∷ (us ++ p ∷ vs))
+  apart = apart_left (null_ptr ∷ (us ++ p ∷ vs)) ss r.apart
 
   there_held : AllByRecursion There (us ++ p ∷ vs)
   there_held = all_left There (us ++ p ∷ vs) ss r.there.1
@@ -36,35 +35,35 @@ module _ {B : Type 0} (cs : List (Cell Links B)) (g : Ptr) (spare : Option Ptr) 
   p_there = (all_right There us (p ∷ vs) there_held).0
 
   pub prev_there : There (prev_at cs p)
-  prev_there = subst There (sym (cut_row cs g us p (vs ++ g ∷ []) row).1.1) (all_last There g us r.there.0 (all_left There us (p ∷ vs) there_held))
+  prev_there = subst There (sym (cut_row cs null_ptr us p (vs ++ null_ptr ∷ []) row).1.1) (all_last There null_ptr us r.there.0 (all_left There us (p ∷ vs) there_held))
 
-  first_there : (ys : List Ptr) → AllByRecursion There ys → Linked cs (p ∷ (ys ++ g ∷ [])) → There (next_at cs p)
+  first_there : (ys : List Ptr) → AllByRecursion There ys → Linked cs (p ∷ (ys ++ null_ptr ∷ [])) → There (next_at cs p)
   first_there [] a l = subst There (sym l.0.0) r.there.0
   first_there (y ∷ ys) a l = subst There (sym l.0.0) a.0
 
   pub next_there : There (next_at cs p)
-  next_there = first_there vs (all_right There us (p ∷ vs) there_held).1 (cut_row cs g us p (vs ++ g ∷ []) row).2
+  next_there = first_there vs (all_right There us (p ∷ vs) there_held).1 (cut_row cs null_ptr us p (vs ++ null_ptr ∷ []) row).2
 
   module _ (ds : List (Cell Links B)) (j : IsJoined cs ds (prev_at cs p) (next_at cs p)) where
-    pub Linked-joined : Linked ds (g ∷ ((us ++ vs) ++ g ∷ []))
-    Linked-joined = subst (λ qs. Linked ds (g ∷ qs)) (sym (append_assoc us vs (g ∷ []))) (out_of_row cs ds g us p vs apart row j)
+    pub Linked-joined : Linked ds (null_ptr ∷ ((us ++ vs) ++ null_ptr ∷ []))
+    Linked-joined = subst (λ qs. Linked ds (null_ptr ∷ qs)) (sym (append_assoc us vs (null_ptr ∷ []))) (out_of_row cs ds null_ptr us p vs apart row j)
 
-    pub last_there : is_there ds (prev_at ds g) ≡ true
+    pub last_there : is_there ds (prev_at ds null_ptr) ≡ true
     last_there =
         let T : Ptr → Type 0 = λ q. is_there ds q ≡ true in
-        subst T (sym (cut_row ds g (us ++ vs) g [] Linked-joined).1.1) (all_last T g (us ++ vs) (j.there g ∙ r.there.0) (there_kept cs ds (prev_at cs p) (next_at cs p) j (us ++ vs) (all_swap There us p vs there_held)))
+        subst T (sym (cut_row ds null_ptr (us ++ vs) null_ptr [] Linked-joined).1.1) (all_last T null_ptr (us ++ vs) (j.there null_ptr ∙ r.there.0) (there_kept cs ds (prev_at cs p) (next_at cs p) j (us ++ vs) (all_swap There us p vs there_held)))
 
-    module _ (es fs : List (Cell Links B)) (k : IsJoined ds es (prev_at ds g) p) (l : IsJoined es fs p g) where
-      free : IsFresh p ((g ∷ us) ++ vs)
-      free = apart_at (g ∷ us) p vs apart
+    module _ (es fs : List (Cell Links B)) (k : IsJoined ds es (prev_at ds null_ptr) p) (l : IsJoined es fs p null_ptr) where
+      free : IsFresh p ((null_ptr ∷ us) ++ vs)
+      free = apart_at (null_ptr ∷ us) p vs apart
 
-      apart_back : IsApart (g ∷ (((us ++ vs) ++ p ∷ []) ++ ss))
+      apart_back : IsApart (null_ptr ∷ (((us ++ vs) ++ p ∷ []) ++ ss))
       apart_back =
-          let whole : IsApart ((g ∷ us) ++ p ∷ (vs ++ ss)) = subst (λ qs. IsApart (g ∷ qs)) (append_assoc us (p ∷ vs) ss) r.apart in
+          let whole : IsApart ((null_ptr ∷ us) ++ p ∷ (vs ++ ss)) = subst (λ qs. IsApart (null_ptr ∷ qs)) (append_assoc us (p ∷ vs) ss) r.apart in
           let same : us ++ (vs ++ ss) ≡ (us ++ vs) ++ ss = sym (append_assoc us vs ss) in
-          let now : IsApart ((g ∷ (us ++ vs)) ++ p ∷ ss) =
-          apart_in (g ∷ (us ++ vs)) p ss (subst (λ qs. IsFresh p (g ∷ qs)) same (apart_at (g ∷ us) p (vs ++ ss) whole)) (subst (λ qs. IsApart (g ∷ qs)) same (apart_out (g ∷ us) p (vs ++ ss) whole)) in
-          subst (λ qs. IsApart (g ∷ qs)) (sym (append_assoc (us ++ vs) (p ∷ []) ss)) now
+          let now : IsApart ((null_ptr ∷ (us ++ vs)) ++ p ∷ ss) =
+          apart_in (null_ptr ∷ (us ++ vs)) p ss (subst (λ qs. IsFresh p (null_ptr ∷ qs)) same (apart_at (null_ptr ∷ us) p (vs ++ ss) whole)) (subst (λ qs. IsApart (null_ptr ∷ qs)) same (apart_out (null_ptr ∷ us) p (vs ++ ss) whole)) in
+          subst (λ qs. IsApart (null_ptr ∷ qs)) (sym (append_assoc (us ++ vs) (p ∷ []) ss)) now
 
       pub length-to_back : length (us ++ p ∷ vs) ≡ length ((us ++ vs) ++ p ∷ [])
       length-to_back = omega (arith, length-append us (p ∷ vs), length-append us vs, length-append (us ++ vs) (p ∷ []))
@@ -75,19 +74,17 @@ module _ {B : Type 0} (cs : List (Cell Links B)) (g : Ptr) (spare : Option Ptr) 
       kept : (P : List (Cell Links B) → Type 0) → (P cs → P ds) → (P ds → P es) → (P es → P fs) → P cs → P fs
       kept P x y z a = z (y (x a))
 
-      pub IsRing-to_back : IsRing fs g ((us ++ vs) ++ p ∷ []) spare ss
+      pub IsRing-to_back : IsRing fs ((us ++ vs) ++ p ∷ []) spare ss
       IsRing-to_back = record {
-        linked = into_row ds es fs g (us ++ vs) p (apart_out (g ∷ us) p vs apart) free Linked-joined k l;
+        linked = into_row ds es fs null_ptr (us ++ vs) p (apart_out (null_ptr ∷ us) p vs apart) free Linked-joined k l;
         chained = kept (λ zs. Chained zs spare ss) (chain_kept cs ds _ _ j spare ss) (chain_kept ds es _ _ k spare ss) (chain_kept es fs _ _ l spare ss) r.chained;
         held = let qs = (us ++ vs) ++ p ∷ [] in
             kept (λ zs. AllByRecursion (HasContent zs) qs) (held_kept cs ds _ _ j qs) (held_kept ds es _ _ k qs) (held_kept es fs _ _ l qs) (moved (HasContent cs) r.held);
-        there = let qs = g ∷ (((us ++ vs) ++ p ∷ []) ++ ss) in
+        there = let qs = null_ptr ∷ (((us ++ vs) ++ p ∷ []) ++ ss) in
             kept (λ zs. AllByRecursion (λ q. is_there zs q ≡ true) qs) (there_kept cs ds _ _ j qs) (there_kept ds es _ _ k qs) (there_kept es fs _ _ l qs)
             (r.there.0, all_both There ((us ++ vs) ++ p ∷ []) ss (moved There there_held) (all_right There (us ++ p ∷ vs) ss r.there.1));
         apart = apart_back;
         count = l.count ∙ k.count ∙ j.count ∙ r.count ∙ ap (λ n. suc (n + length ss)) length-to_back;
-        guard = l.guard g ∙ k.guard g ∙ j.guard g ∙ r.guard;
-        plain = all_from (λ q. is_guard cs q ≡ false) (λ q. is_guard fs q ≡ false) (λ q h. l.guard q ∙ k.guard q ∙ j.guard q ∙ h) ss r.plain;
       }
 
       pub listed-to_back : (t : Held B) → content_at cs p ≡ Some t → listed fs ((us ++ vs) ++ p ∷ []) ≡ (listed cs us ++ listed cs vs) ++ t ∷ []
@@ -96,40 +93,37 @@ module _ {B : Type 0} (cs : List (Cell Links B)) (g : Ptr) (spare : Option Ptr) 
           listed_kept es fs _ _ l qs ∙ listed_kept ds es _ _ k qs ∙ listed_kept cs ds _ _ j qs ∙ listed-append cs (us ++ vs) (p ∷ [])
           ∙ (λ i. listed-append cs us vs i ++ listed_one cs p t e i)
 
--- a node that is moved to the end: those beside it are joined, the last with it, and it with the guard
-module _ {B : Type 0} (cs : List (Cell Links B)) (guard : Option NodePointer) (spare : Link) (g : NodePointer) (n m : ℕ) (v : State B) (e : guard ≡ Some g) (ok : RingOk cs guard spare n m) (w : state (ring_list cs guard n) m ≡ v)
+-- a node that is moved to the end: those beside it are joined, the last with it, and it with the end
+module _ {B : Type 0} (cs : List (Cell Links B)) (spare : Link) (n m : ℕ) (v : State B) (ok : RingOk cs spare n m) (w : state (ring_list cs n) m ≡ v)
     (p : Ptr) (lp : Links) (ep : links_at cs p ≡ Some lp) (ds : List (Cell Links B)) (j : IsJoined cs ds lp.prev.ptr lp.next.ptr) where
   j' : IsJoined cs ds (prev_at cs p) (next_at cs p)
   j' = subst (λ (z : Ptr × Ptr). IsJoined cs ds z.0 z.1) (λ i. (sym (ap prev_of ep) i, sym (ap next_of ep) i)) j
 
-  pub moving_there : IsHeld v.held p → (lg : Links) → links_at ds g.ptr ≡ Some lg → (is_there ds lg.prev.ptr ≡ true) × (is_there ds p ≡ true)
-  moving_there h lg eg =
-      let s = node_in cs guard spare g n m v p e ok w h in
-      (subst (λ q. is_there ds q ≡ true) (ap prev_of eg) (last_there cs g.ptr (target spare) s.others s.before p s.after s.ring ds j'), j'.there p ∙ p_there cs g.ptr (target spare) s.others s.before p s.after s.ring)
+  pub moving_there : IsHeld v.held p → (is_there ds (prev_at ds null_ptr) ≡ true) × (is_there ds p ≡ true)
+  moving_there h =
+      let s = node_in cs spare n m v p ok w h in
+      (last_there cs (target spare) s.others s.before p s.after s.ring ds j', j'.there p ∙ p_there cs (target spare) s.others s.before p s.after s.ring)
 
-  module _ (lg : Links) (eg : links_at ds g.ptr ≡ Some lg) (es fs : List (Cell Links B)) (k : IsJoined ds es lg.prev.ptr p) (l : IsJoined es fs p g.ptr) where
-    k' : IsJoined ds es (prev_at ds g.ptr) p
-    k' = subst (λ z. IsJoined ds es z p) (sym (ap prev_of eg)) k
+  module _ (es fs : List (Cell Links B)) (k : IsJoined ds es (prev_at ds null_ptr) p) (l : IsJoined es fs p null_ptr) where
+    moved_to : (s : NodeAt cs spare n m p) → IsRing fs ((s.before ++ s.after) ++ p ∷ []) (target spare) s.others
+    moved_to s = IsRing-to_back cs (target spare) s.others s.before p s.after s.ring ds j' es fs k l
 
-    moved_to : (s : NodeAt cs g spare n m p) → IsRing fs g.ptr ((s.before ++ s.after) ++ p ∷ []) (target spare) s.others
-    moved_to s = IsRing-to_back cs g.ptr (target spare) s.others s.before p s.after s.ring ds j' es fs k' l
+    long_to : (s : NodeAt cs spare n m p) → length ((s.before ++ s.after) ++ p ∷ []) ≡ n
+    long_to s = sym (length-to_back cs (target spare) s.others s.before p s.after s.ring ds j' es fs k l) ∙ s.long
 
-    long_to : (s : NodeAt cs g spare n m p) → length ((s.before ++ s.after) ++ p ∷ []) ≡ n
-    long_to s = sym (length-to_back cs g.ptr (target spare) s.others s.before p s.after s.ring ds j' es fs k' l) ∙ s.long
-
-    pub moved_ring : IsHeld v.held p → RingOk fs guard spare n m
+    pub moved_ring : IsHeld v.held p → RingOk fs spare n m
     moved_ring h =
-        let s = node_in cs guard spare g n m v p e ok w h in
-        subst (λ o. RingOk fs o spare n m) (sym e) ((s.before ++ s.after) ++ p ∷ [], s.others, moved_to s, long_to s, s.wide, s.small)
+        let s = node_in cs spare n m v p ok w h in
+        ((s.before ++ s.after) ++ p ∷ [], s.others, moved_to s, long_to s, s.wide, s.small)
 
-    list_at : (t : Held B) → content_at cs p ≡ Some t → (s : NodeAt cs g spare n m p) → ring_list fs (Some g) n ≡ (listed cs s.before ++ listed cs s.after) ++ t ∷ []
+    list_at : (t : Held B) → content_at cs p ≡ Some t → (s : NodeAt cs spare n m p) → ring_list fs n ≡ (listed cs s.before ++ listed cs s.after) ++ t ∷ []
     list_at t here s =
-        ring_listed fs g.ptr ((s.before ++ s.after) ++ p ∷ []) (target spare) s.others n (moved_to s) (long_to s) ∙ listed-to_back cs g.ptr (target spare) s.others s.before p s.after s.ring ds j' es fs k' l t here
+        ring_listed fs ((s.before ++ s.after) ++ p ∷ []) (target spare) s.others n (moved_to s) (long_to s) ∙ listed-to_back cs (target spare) s.others s.before p s.after s.ring ds j' es fs k l t here
 
-    pub moved_list : AtHeld v.held p (λ xs t ys. state (ring_list fs guard n) m ≡ state ((xs ++ ys) ++ t ∷ []) v.spares)
+    pub moved_list : AtHeld v.held p (λ xs t ys. state (ring_list fs n) m ≡ state ((xs ++ ys) ++ t ∷ []) v.spares)
     moved_list xs t ys h at =
-        let f = found_in cs guard spare g n m v e ok w xs t ys h in
+        let f = found_in cs spare n m v ok w xs t ys h in
         let here : content_at cs p ≡ Some t = ap (content_at cs) (sym at) ∙ f.here in
         let s = node_at p f at in
-        let q : ring_list fs guard n ≡ (xs ++ ys) ++ t ∷ [] = ap (λ o. ring_list fs o n) e ∙ list_at t here s.0 ∙ (λ i. (s.1 i ++ s.2 i) ++ t ∷ []) in
+        let q : ring_list fs n ≡ (xs ++ ys) ++ t ∷ [] = list_at t here s.0 ∙ (λ i. (s.1 i ++ s.2 i) ++ t ∷ []) in
         λ i. state (q i) (ap (λ (z : State B). z.spares) w i)

@@ -1,10 +1,9 @@
 -- Nodes with the bodies of a run in them, and nodes with none.
 use Rattle.std.proofs.Common.{◌≡◌, ℕ, true, false, cond, List, [], ◌∷◌, length, suc, Option, Some, None, refl, sym, ap, ◌∙◌, subst, arith}
-use denote.RawPtr.{Ptr}
-use Rattle.lhm_ring.specs.declared.block.NodePointer.{NodePointer}
+use denote.RawPtr.{Ptr, null_ptr}
 use Rattle.lhm_ring.specs.declared.links.Links.{Links}
 use Rattle.lhm_ring.specs.Cells.{Cell, cell, cell_at, same_ptr, IsApart, pointers, links_of, body_of, links_at, body_at, change, with_body}
-use Rattle.lhm_ring.specs.Rings.{next_of, prev_of, link_of, guard_of, has_links, link_at, is_there, is_guard, Linked, Chained, IsRing, ring_list, listed, follow, RingOk}
+use Rattle.lhm_ring.specs.Rings.{next_of, prev_of, link_of, has_links, link_at, is_there, Linked, Chained, IsRing, RingOk}
 use Rattle.lhm_ring.specs.ContentLoan.{body_in, without_body, bodies_of, with_bodies, cleared}
 use Rattle.lhm_ring.specs.Targets.{target}
 use Rattle.lhm_ring.specs.declared.link.Link.{Link}
@@ -100,24 +99,16 @@ module _ {B : Type 0} (cs : List (Cell Links B)) where
   chain_cleared h [] k = k
   chain_cleared h (y ∷ ys) k = (k.0, chain_cleared (link_at (cleared cs) y) ys (subst (λ z. Chained cs z ys) (sym (ap link_of (links_cleared cs y))) k.1))
 
-  ring_cleared : (g : Ptr) (ps : List Ptr) (spare : Option Ptr) (ss : List Ptr) → length ps ≡ 0 → IsRing cs g ps spare ss → IsRing (cleared cs) g ps spare ss
-  ring_cleared g (p ∷ ps) spare ss e r = absurd (omega arith)
-  ring_cleared g [] spare ss e r = record {
-    linked = row_cleared (g ∷ g ∷ []) r.linked;
+  ring_cleared : (ps : List Ptr) (spare : Option Ptr) (ss : List Ptr) → length ps ≡ 0 → IsRing cs ps spare ss → IsRing (cleared cs) ps spare ss
+  ring_cleared (p ∷ ps) spare ss e r = absurd (omega arith)
+  ring_cleared [] spare ss e r = record {
+    linked = row_cleared (null_ptr ∷ null_ptr ∷ []) r.linked;
     chained = chain_cleared spare ss r.chained;
     held = tt;
-    there = all_from (λ q. is_there cs q ≡ true) (λ q. is_there (cleared cs) q ≡ true) (λ q h. ap has_links (links_cleared cs q) ∙ h) (g ∷ ss) r.there;
+    there = all_from (λ q. is_there cs q ≡ true) (λ q. is_there (cleared cs) q ≡ true) (λ q h. ap has_links (links_cleared cs q) ∙ h) (null_ptr ∷ ss) r.there;
     apart = r.apart;
     count = length_cleared cs ∙ r.count;
-    guard = ap guard_of (links_cleared cs g) ∙ r.guard;
-    plain = all_from (λ q. is_guard cs q ≡ false) (λ q. is_guard (cleared cs) q ≡ false) (λ q h. ap guard_of (links_cleared cs q) ∙ h) ss r.plain;
   }
 
-  pub ring_ok_cleared : (guard : Option NodePointer) (spare : Link) (n m : ℕ) → n ≡ 0 → RingOk cs guard spare n m → RingOk (cleared cs) guard spare n m
-  ring_ok_cleared None spare n m e ok = (ap cleared ok.0, ok.1, ok.2, ok.3)
-  ring_ok_cleared (Some g) spare n m e ok = (ok.0, ok.1, ring_cleared g.ptr ok.0 (target spare) ok.1 (ok.3 ∙ e) ok.2, ok.3, ok.4, ok.5)
-
-  pub none_cleared : (guard : Option NodePointer) (n : ℕ) → n ≡ 0 → ring_list (cleared cs) guard n ≡ []
-  unfolding listed follow
-  none_cleared None n e = refl
-  none_cleared (Some g) n e = ap (λ k. listed (cleared cs) (follow (cleared cs) k g.ptr)) e
+  pub ring_ok_cleared : (spare : Link) (n m : ℕ) → n ≡ 0 → RingOk cs spare n m → RingOk (cleared cs) spare n m
+  ring_ok_cleared spare n m e ok = (ok.0, ok.1, ring_cleared ok.0 (target spare) ok.1 (ok.3 ∙ e) ok.2, ok.3, ok.4, ok.5)

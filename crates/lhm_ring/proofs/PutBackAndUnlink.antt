@@ -1,12 +1,11 @@
 -- `put_back` and `unlink`, from what their steps ensure.
-use Rattle.std.proofs.Common.{◌≡◌, ℕ, suc, ◌+◌, ◌-◌, ◌<◌, ◌≤◌, ◌^◌, true, false, cond, List, [], ◌∷◌, ◌++◌, length, Option, Some, None, refl, sym, ap, ◌∙◌, subst, arith, length-append}
-use Rattle.std.specs.Prelude.{◌==◌}
+use Rattle.std.proofs.Common.{◌≡◌, ℕ, suc, ◌+◌, ◌-◌, ◌<◌, ◌≤◌, ◌^◌, true, cond, List, [], ◌∷◌, ◌++◌, length, Some, None, refl, sym, ap, ◌∙◌, subst, arith, length-append}
 use Rattle.std.specs.Option.{IsSome}
-use denote.RawPtr.{Ptr}
+use denote.RawPtr.{Ptr, null_ptr}
 use Rattle.lhm_ring.specs.declared.block.NodePointer.{NodePointer}
 use Rattle.lhm_ring.specs.declared.links.Links.{Links}
 use Rattle.lhm_ring.specs.Cells.{Cell, links_at, body_at, IsAt, Holds, with_links, with_body}
-use Rattle.lhm_ring.specs.Rings.{relinked, Relinks, next_of, prev_of, link_of, guard_of, next_at, prev_at, link_at, is_there, is_guard, content_of, content_at, Chained, IsRing, listed, IsJoined, ring_list, RingOk}
+use Rattle.lhm_ring.specs.Rings.{relinked, Relinks, next_of, prev_of, link_of, next_at, prev_at, link_at, is_there, content_of, content_at, Chained, IsRing, listed, IsJoined, ring_list, RingOk}
 use Rattle.lhm_ring.specs.RingState.{State, state, held, IsHeld, AtHeld}
 use Rattle.lhm_ring.specs.Targets.{target}
 use Rattle.lhm_ring.specs.declared.link.Link.{Link}
@@ -14,52 +13,50 @@ use Rattle.lhm_ring.proofs.Apart.{same_ptr_refl}
 use Rattle.lhm_ring.proofs.Options.{some_same}
 use Rattle.lhm_ring.proofs.Writes.{links_set, is_at}
 use Rattle.lhm_ring.proofs.Rows.{all_left, all_last, all_right, cut_row}
-use Rattle.lhm_ring.proofs.RingNodes.{NodeAt, found_in, node_in, node_at, RingOk-guard, ring_listed}
+use Rattle.lhm_ring.proofs.RingNodes.{NodeAt, found_in, node_in, node_at, ring_listed}
 use Rattle.lhm_ring.proofs.Moves.{Linked-joined, p_there}
-use Rattle.lhm_ring.proofs.OneNodeChanged.{OnlyAt, links_kept, body_set, only_links, only_body, only_both, content_hash, content_guard, content_pair, content_holds, IsRing-put_back, listed-put_back, IsRing-unlinked, listed-unlinked}
+use Rattle.lhm_ring.proofs.OneNodeChanged.{OnlyAt, links_kept, body_set, only_links, only_body, only_both, content_hash, content_pair, content_holds, IsRing-put_back, listed-put_back, IsRing-unlinked, listed-unlinked}
 
 -- the links of the node at p once they are written
 here_set : {B : Type 0} (p : Ptr) (l : Links) (cs : List (Cell Links B)) (la : Links) → links_at cs p ≡ Some la → links_at (with_links p l cs) p ≡ Some l
 here_set p l cs la e = links_set p l cs la e p ∙ ap (λ y. cond y (Some l) (links_at cs p)) (same_ptr_refl p)
 
 module _ {B : Type 0} where
-  first : (cs : List (Cell Links B)) (spare : Link) (m : ℕ) (ss : List Ptr) → 0 < m → length ss ≡ m → Chained cs (target spare) ss → IsSome (target spare)
+  first : (cs : List (Cell Links B)) (spare : Link) (m : ℕ) (ss : List Ptr) → 0 < m → m ≤ length ss → Chained cs (target spare) ss → IsSome (target spare)
   first cs spare m [] h e c = absurd (omega arith)
   first cs spare m (p ∷ ss) h e c = subst IsSome (sym c.0) refl
 
-  pub spare_there : (cs : List (Cell Links B)) (guard : Option NodePointer) (spare : Link) (n m : ℕ) (v : State B) → RingOk cs guard spare n m → state (ring_list cs guard n) m ≡ v → 0 < v.spares → IsSome guard × IsSome (target spare)
-  spare_there cs None spare n m v ok w h = let e = ok.3 in let f : m ≡ v.spares = ap (λ (z : State B). z.spares) w in absurd (omega arith)
-  spare_there cs (Some g) spare n m v ok w h = (refl, first cs spare m ok.1 (subst (λ k. 0 < k) (sym (ap (λ (z : State B). z.spares) w)) h) ok.4 ok.2.chained)
+  pub spare_there : (cs : List (Cell Links B)) (spare : Link) (n m : ℕ) (v : State B) → RingOk cs spare n m → state (ring_list cs n) m ≡ v → 0 < v.spares → IsSome (target spare)
+  spare_there cs spare n m v ok w h = first cs spare m ok.1 (subst (λ k. 0 < k) (sym (ap (λ (z : State B). z.spares) w)) h) ok.4 ok.2.chained
 
 -- the first spare node, and the others
-pub record Ready {B : Type 0} (cs : List (Cell Links B)) (g at : NodePointer) (n m : ℕ) : Type 0 where
+pub record Ready {B : Type 0} (cs : List (Cell Links B)) (at : NodePointer) (n m : ℕ) : Type 0 where
   pub row : List Ptr
   pub others : List Ptr
-  pub ring : IsRing cs g.ptr row (Some at.ptr) (at.ptr ∷ others)
+  pub ring : IsRing cs row (Some at.ptr) (at.ptr ∷ others)
   pub long : length row ≡ n
-  pub wide : suc (length others) ≡ m
+  pub wide : m ≤ suc (length others)
   pub small : n + m ≤ 2 ^ 59
 
 module _ {B : Type 0} (cs : List (Cell Links B)) where
-  ready_at : (g at : NodePointer) (n m : ℕ) (ps ss : List Ptr) → IsRing cs g.ptr ps (Some at.ptr) ss → length ps ≡ n → length ss ≡ m → n + m ≤ 2 ^ 59 → 0 < m → Ready cs g at n m
-  ready_at g at n m ps [] r a b c h = absurd (omega arith)
-  ready_at g at n m ps (p ∷ rest) r a b c h =
-      record { row = ps; others = rest; ring = subst (λ q. IsRing cs g.ptr ps (Some at.ptr) (q ∷ rest)) (sym (some_same at.ptr p r.chained.0)) r; long = a; wide = b; small = c }
+  ready_at : (at : NodePointer) (n m : ℕ) (ps ss : List Ptr) → IsRing cs ps (Some at.ptr) ss → length ps ≡ n → m ≤ length ss → n + m ≤ 2 ^ 59 → 0 < m → Ready cs at n m
+  ready_at at n m ps [] r a b c h = absurd (omega arith)
+  ready_at at n m ps (p ∷ rest) r a b c h =
+      record { row = ps; others = rest; ring = subst (λ q. IsRing cs ps (Some at.ptr) (q ∷ rest)) (sym (some_same at.ptr p r.chained.0)) r; long = a; wide = b; small = c }
 
-  pub ready : (guard : Option NodePointer) (spare : Link) (g at : NodePointer) (n m : ℕ) (v : State B) → guard ≡ Some g → target spare ≡ Some at.ptr → RingOk cs guard spare n m → state (ring_list cs guard n) m ≡ v → 0 < v.spares → Ready cs g at n m
-  ready guard spare g at n m v e f ok w h =
-      let o = RingOk-guard cs guard spare g n m e ok in
-      ready_at g at n m o.0 o.1 (subst (λ z. IsRing cs g.ptr o.0 z o.1) f o.2) o.3 o.4 o.5 (subst (λ k. 0 < k) (sym (ap (λ (z : State B). z.spares) w)) h)
+  pub ready : (spare : Link) (at : NodePointer) (n m : ℕ) (v : State B) → target spare ≡ Some at.ptr → RingOk cs spare n m → state (ring_list cs n) m ≡ v → 0 < v.spares → Ready cs at n m
+  ready spare at n m v f ok w h =
+      ready_at at n m ok.0 ok.1 (subst (λ z. IsRing cs ok.0 z ok.1) f ok.2) ok.3 ok.4 ok.5 (subst (λ k. 0 < k) (sym (ap (λ (z : State B). z.spares) w)) h)
 
-module _ {B : Type 0} (cs : List (Cell Links B)) (guard : Option NodePointer) (spare : Link) (g at : NodePointer) (n m : ℕ) (v : State B) (e : guard ≡ Some g) (f : target spare ≡ Some at.ptr) (ok : RingOk cs guard spare n m) (w : state (ring_list cs guard n) m ≡ v)
+module _ {B : Type 0} (cs : List (Cell Links B)) (spare : Link) (at : NodePointer) (n m : ℕ) (v : State B) (f : target spare ≡ Some at.ptr) (ok : RingOk cs spare n m) (w : state (ring_list cs n) m ≡ v)
     (pos : 0 < v.spares) where
-  r : Ready cs g at n m
-  r = ready cs guard spare g at n m v e f ok w pos
+  r : Ready cs at n m
+  r = ready cs spare at n m v f ok w pos
 
   pub first_at : IsAt cs at.ptr
   first_at = is_at cs at.ptr (all_right (λ q. is_there cs q ≡ true) r.row (at.ptr ∷ r.others) r.ring.there.1).0
 
-  module _ (la lg : Links) (ea : links_at cs at.ptr ≡ Some la) (eg : links_at cs g.ptr ≡ Some lg) (hash : ℕ) (x : B) (unlinked : Link) (en : target unlinked ≡ None) (c₁ c₂ : List (Cell Links B))
+  module _ (la : Links) (ea : links_at cs at.ptr ≡ Some la) (hash : ℕ) (x : B) (unlinked : Link) (en : target unlinked ≡ None) (c₁ c₂ : List (Cell Links B))
       (e₁ : c₁ ≡ with_links at.ptr (record la { link = unlinked; hash = hash }) cs) (e₂ : c₂ ≡ with_body at.ptr (Some x) c₁) where
     abbrev l : Links
     l = record la { link = unlinked; hash = hash }
@@ -70,64 +67,57 @@ module _ {B : Type 0} (cs : List (Cell Links B)) (guard : Option NodePointer) (s
     only : OnlyAt cs c₂ at.ptr
     only = only_both cs c₁ c₂ at.ptr (subst (λ z. OnlyAt cs z at.ptr) (sym e₁) (only_links at.ptr l cs la ea)) (subst (λ z. OnlyAt c₁ z at.ptr) (sym e₂) (only_body at.ptr (Some x) c₁ l links_at-filled))
 
-    pub put_there : (is_there c₂ lg.prev.ptr ≡ true) × (is_there c₂ at.ptr ≡ true)
+    pub put_there : (is_there c₂ (prev_at cs null_ptr) ≡ true) × (is_there c₂ at.ptr ≡ true)
     put_there =
         let T : Ptr → Type 0 = λ q. is_there cs q ≡ true in
-        let last : T (prev_at cs g.ptr) = subst T (sym (cut_row cs g.ptr r.row g.ptr [] r.ring.linked).1.1) (all_last T g.ptr r.row r.ring.there.0 (all_left T r.row (at.ptr ∷ r.others) r.ring.there.1)) in
-        (only.there lg.prev.ptr ∙ subst T (ap prev_of eg) last, only.there at.ptr ∙ (all_right T r.row (at.ptr ∷ r.others) r.ring.there.1).0)
-
-    pub put_there_then : (c₃ : List (Cell Links B)) → IsJoined c₂ c₃ lg.prev.ptr at.ptr → (is_there c₃ at.ptr ≡ true) × (is_there c₃ g.ptr ≡ true)
-    put_there_then c₃ j = (j.there at.ptr ∙ put_there.1, j.there g.ptr ∙ only.there g.ptr ∙ r.ring.there.0)
+        let last : T (prev_at cs null_ptr) = subst T (sym (cut_row cs null_ptr r.row null_ptr [] r.ring.linked).1.1) (all_last T null_ptr r.row r.ring.there.0 (all_left T r.row (at.ptr ∷ r.others) r.ring.there.1)) in
+        (only.there (prev_at cs null_ptr) ∙ last, only.there at.ptr ∙ (all_right T r.row (at.ptr ∷ r.others) r.ring.there.1).0)
 
     filled : content_at c₂ at.ptr ≡ Some (held at.ptr hash None x)
     filled =
         let p = at.ptr in
         let k : links_at c₂ p ≡ Some l = ap (λ z. links_at z p) e₂ ∙ links_kept p (Some x) c₁ l links_at-filled p ∙ links_at-filled in
         let b : body_at c₂ p ≡ Some x = ap (λ z. body_at z p) e₂ ∙ body_set p (Some x) c₁ l links_at-filled in
-        let own : (la.guard == 1) ≡ false = sym (ap guard_of ea) ∙ r.ring.plain.0 in
-        (λ i. content_of p (k i) (b i)) ∙ ap (λ y. cond y None (Some (held p hash (target unlinked) x))) own ∙ ap (λ o. Some (held p hash o x)) en
+        (λ i. content_of p (k i) (b i)) ∙ ap (λ o. Some (held p hash o x)) en
 
-    module _ (c₃ c₄ : List (Cell Links B)) (j : IsJoined c₂ c₃ lg.prev.ptr at.ptr) (k : IsJoined c₃ c₄ at.ptr g.ptr) where
-      j₁ : IsJoined c₂ c₃ (prev_at cs g.ptr) at.ptr
-      j₁ = subst (λ z. IsJoined c₂ c₃ z at.ptr) (sym (ap prev_of eg)) j
-
-      made : IsRing c₄ g.ptr (r.row ++ at.ptr ∷ []) (link_at cs at.ptr) r.others
-      made = IsRing-put_back cs c₂ c₃ c₄ g.ptr r.row (Some at.ptr) at.ptr r.others r.ring only j₁ k (held at.ptr hash None x) filled
+    module _ (c₃ c₄ : List (Cell Links B)) (j : IsJoined c₂ c₃ (prev_at cs null_ptr) at.ptr) (k : IsJoined c₃ c₄ at.ptr null_ptr) where
+      made : IsRing c₄ (r.row ++ at.ptr ∷ []) (link_at cs at.ptr) r.others
+      made = IsRing-put_back cs c₂ c₃ c₄ r.row (Some at.ptr) at.ptr r.others r.ring only j k (held at.ptr hash None x) filled
 
       longer : length (r.row ++ at.ptr ∷ []) ≡ n + 1
       longer = let a = r.long in omega (arith, length-append r.row (at.ptr ∷ []))
 
-      pub put_ring : RingOk c₄ guard la.link (n + 1) (m - 1)
+      pub put_ring : RingOk c₄ la.link (n + 1) (m - 1)
       put_ring =
-          let a = r.wide in let b = r.small in
-          subst (λ o. RingOk c₄ o la.link (n + 1) (m - 1)) (sym e) (r.row ++ at.ptr ∷ [], r.others, subst (λ z. IsRing c₄ g.ptr (r.row ++ at.ptr ∷ []) z r.others) (ap link_of ea) made, longer, omega arith, omega arith)
+          let a = r.wide in let b = r.small in let known : m ≡ v.spares = ap (λ (z : State B). z.spares) w in let some = pos in
+          (r.row ++ at.ptr ∷ [], r.others, subst (λ z. IsRing c₄ (r.row ++ at.ptr ∷ []) z r.others) (ap link_of ea) made, longer, omega arith, omega arith)
 
-      pub put_list : state (ring_list c₄ guard (n + 1)) (m - 1) ≡ state (v.held ++ held at.ptr hash None x ∷ []) (v.spares - 1)
+      pub put_list : state (ring_list c₄ (n + 1)) (m - 1) ≡ state (v.held ++ held at.ptr hash None x ∷ []) (v.spares - 1)
       put_list =
           let p = at.ptr in
-          let old : listed cs r.row ≡ v.held = sym (ring_listed cs g.ptr r.row (Some p) (p ∷ r.others) n r.ring r.long) ∙ sym (ap (λ o. ring_list cs o n) e) ∙ ap (λ (z : State B). z.held) w in
-          let new : ring_list c₄ guard (n + 1) ≡ v.held ++ held p hash None x ∷ [] = ap (λ o. ring_list c₄ o (n + 1)) e ∙ ring_listed c₄ g.ptr (r.row ++ p ∷ []) (link_at cs p) r.others (n + 1) made longer
-          ∙ listed-put_back cs c₂ c₃ c₄ g.ptr r.row (Some p) p r.others r.ring only j₁ k (held p hash None x) filled ∙ ap (λ hs. hs ++ held p hash None x ∷ []) old in
+          let old : listed cs r.row ≡ v.held = sym (ring_listed cs r.row (Some p) (p ∷ r.others) n r.ring r.long) ∙ ap (λ (z : State B). z.held) w in
+          let new : ring_list c₄ (n + 1) ≡ v.held ++ held p hash None x ∷ [] = ring_listed c₄ (r.row ++ p ∷ []) (link_at cs p) r.others (n + 1) made longer
+          ∙ listed-put_back cs c₂ c₃ c₄ r.row (Some p) p r.others r.ring only j k (held p hash None x) filled ∙ ap (λ hs. hs ++ held p hash None x ∷ []) old in
           λ i. state (new i) ((ap (λ (z : State B). z.spares) w i) - 1)
 
 -- the node at `at` is joined past, gives its body up, and is the first spare one
-module _ {B : Type 0} (cs : List (Cell Links B)) (guard : Option NodePointer) (spare : Link) (g : NodePointer) (n m : ℕ) (v : State B) (e : guard ≡ Some g) (ok : RingOk cs guard spare n m) (w : state (ring_list cs guard n) m ≡ v)
+module _ {B : Type 0} (cs : List (Cell Links B)) (spare : Link) (n m : ℕ) (v : State B) (ok : RingOk cs spare n m) (w : state (ring_list cs n) m ≡ v)
     (at : NodePointer) (la : Links) (ea : links_at cs at.ptr ≡ Some la) (ds : List (Cell Links B)) (j : IsJoined cs ds la.prev.ptr la.next.ptr) where
   j₂ : IsJoined cs ds (prev_at cs at.ptr) (next_at cs at.ptr)
   j₂ = subst (λ (z : Ptr × Ptr). IsJoined cs ds z.0 z.1) (λ i. (sym (ap prev_of ea) i, sym (ap next_of ea) i)) j
 
   pub taken_holds : IsHeld v.held at.ptr → Holds ds at.ptr
   taken_holds h =
-      let f = found_in cs guard spare g n m v e ok w h.before h.node h.after h.is in
+      let f = found_in cs spare n m v ok w h.before h.node h.after h.is in
       let c : content_at ds at.ptr ≡ Some h.node = j.content at.ptr ∙ ap (content_at cs) (sym h.at_is) ∙ f.here in
       content_holds at.ptr (links_at ds at.ptr) (body_at ds at.ptr) h.node c
 
   pub some_held : IsHeld v.held at.ptr → 1 ≤ n
-  some_held h = let s = node_in cs guard spare g n m v at.ptr e ok w h in let a = s.long in let b = length-append s.before (at.ptr ∷ s.after) in omega arith
+  some_held h = let s = node_in cs spare n m v at.ptr ok w h in let a = s.long in let b = length-append s.before (at.ptr ∷ s.after) in omega arith
 
   module _ (x : B) (ex : body_at ds at.ptr ≡ Some x) (c₁ c₂ : List (Cell Links B)) (e₁ : c₁ ≡ with_body at.ptr None ds) where
     there : IsHeld v.held at.ptr → IsAt ds at.ptr
-    there h = let s = node_in cs guard spare g n m v at.ptr e ok w h in is_at ds at.ptr (j.there at.ptr ∙ p_there cs g.ptr (target spare) s.others s.before at.ptr s.after s.ring)
+    there h = let s = node_in cs spare n m v at.ptr ok w h in is_at ds at.ptr (j.there at.ptr ∙ p_there cs (target spare) s.others s.before at.ptr s.after s.ring)
 
     pub taken_at : IsHeld v.held at.ptr → IsAt c₁ at.ptr
     taken_at h = let a = there h in (a.0, ap (λ z. links_at z at.ptr) e₁ ∙ links_kept at.ptr None ds a.0 a.1 at.ptr ∙ a.1)
@@ -144,31 +134,25 @@ module _ {B : Type 0} (cs : List (Cell Links B)) (guard : Option NodePointer) (s
       spare₂ : IsHeld v.held at.ptr → link_at c₂ at.ptr ≡ target spare
       spare₂ h = let b = taken_at h in ap (λ z. link_of (links_at z at.ptr)) (e₂ h) ∙ ap link_of (here_set at.ptr (relinked spare b.0) c₁ b.0 b.1)
 
-      plain₂ : IsHeld v.held at.ptr → is_guard c₂ at.ptr ≡ false
-      plain₂ h =
-          let a = there h in let b = taken_at h in let f = found_in cs guard spare g n m v e ok w h.before h.node h.after h.is in
-          ap (λ z. guard_of (links_at z at.ptr)) (e₂ h) ∙ ap guard_of (here_set at.ptr (relinked spare b.0) c₁ b.0 b.1) ∙ sym (ap guard_of b.1) ∙ ap (λ z. guard_of (links_at z at.ptr)) e₁
-          ∙ ap guard_of (links_kept at.ptr None ds a.0 a.1 at.ptr) ∙ j.guard at.ptr ∙ content_guard at.ptr (links_at cs at.ptr) (body_at cs at.ptr) h.node (ap (content_at cs) (sym h.at_is) ∙ f.here)
+      left : IsHeld v.held at.ptr → (s : NodeAt cs spare n m at.ptr) → IsRing c₂ (s.before ++ s.after) (Some at.ptr) (at.ptr ∷ s.others)
+      left h s = IsRing-unlinked cs ds c₂ (target spare) s.others s.before at.ptr s.after s.ring _ _ j₂ (Linked-joined cs (target spare) s.others s.before at.ptr s.after s.ring ds j₂) (only₂ h) (spare₂ h)
 
-      left : IsHeld v.held at.ptr → (s : NodeAt cs g spare n m at.ptr) → IsRing c₂ g.ptr (s.before ++ s.after) (Some at.ptr) (at.ptr ∷ s.others)
-      left h s = IsRing-unlinked cs ds c₂ g.ptr (target spare) s.others s.before at.ptr s.after s.ring _ _ j₂ (Linked-joined cs g.ptr (target spare) s.others s.before at.ptr s.after s.ring ds j₂) (only₂ h) (spare₂ h) (plain₂ h)
-
-      shorter : (s : NodeAt cs g spare n m at.ptr) → length (s.before ++ s.after) ≡ n - 1
+      shorter : (s : NodeAt cs spare n m at.ptr) → length (s.before ++ s.after) ≡ n - 1
       shorter s = let a = s.long in omega (arith, length-append s.before (at.ptr ∷ s.after), length-append s.before s.after)
 
-      pub taken_ring : (top : Link) → target top ≡ Some at.ptr → IsHeld v.held at.ptr → RingOk c₂ guard top (n - 1) (m + 1)
+      pub taken_ring : (top : Link) → target top ≡ Some at.ptr → IsHeld v.held at.ptr → RingOk c₂ top (n - 1) (m + 1)
       taken_ring top et h =
-          let s = node_in cs guard spare g n m v at.ptr e ok w h in let a = s.wide in let b = s.small in let some : 1 ≤ n = some_held h in
-          subst (λ o. RingOk c₂ o top (n - 1) (m + 1)) (sym e) (s.before ++ s.after, at.ptr ∷ s.others, subst (λ z. IsRing c₂ g.ptr (s.before ++ s.after) z (at.ptr ∷ s.others)) (sym et) (left h s), shorter s, omega arith, omega arith)
+          let s = node_in cs spare n m v at.ptr ok w h in let a = s.wide in let b = s.small in let some : 1 ≤ n = some_held h in
+          (s.before ++ s.after, at.ptr ∷ s.others, subst (λ z. IsRing c₂ (s.before ++ s.after) z (at.ptr ∷ s.others)) (sym et) (left h s), shorter s, omega arith, omega arith)
 
-      pub taken_list : AtHeld v.held at.ptr (λ xs t ys. (state (ring_list c₂ guard (n - 1)) (m + 1) ≡ state (xs ++ ys) (v.spares + 1)) × (la.hash ≡ t.hash) × (x ≡ t.pair))
+      pub taken_list : AtHeld v.held at.ptr (λ xs t ys. (state (ring_list c₂ (n - 1)) (m + 1) ≡ state (xs ++ ys) (v.spares + 1)) × (la.hash ≡ t.hash) × (x ≡ t.pair))
       taken_list xs t ys k here =
-          let f = found_in cs guard spare g n m v e ok w xs t ys k in let h : IsHeld v.held at.ptr = record { before = xs; node = t; after = ys; is = k; at_is = here } in
+          let f = found_in cs spare n m v ok w xs t ys k in let h : IsHeld v.held at.ptr = record { before = xs; node = t; after = ys; is = k; at_is = here } in
           let c : content_at cs at.ptr ≡ Some t = ap (content_at cs) (sym here) ∙ f.here in
           let q = node_at at.ptr f here in let s = q.0 in
-          let list : ring_list c₂ guard (n - 1) ≡ xs ++ ys = ap (λ o. ring_list c₂ o (n - 1)) e
-          ∙ ring_listed c₂ g.ptr (s.before ++ s.after) (Some at.ptr) (at.ptr ∷ s.others) (n - 1) (left h s) (shorter s)
-          ∙ listed-unlinked cs ds c₂ g.ptr (target spare) s.others s.before at.ptr s.after s.ring _ _ j₂ (Linked-joined cs g.ptr (target spare) s.others s.before at.ptr s.after s.ring ds j₂) (only₂ h) (spare₂ h) (plain₂ h)
+          let list : ring_list c₂ (n - 1) ≡ xs ++ ys =
+          ring_listed c₂ (s.before ++ s.after) (Some at.ptr) (at.ptr ∷ s.others) (n - 1) (left h s) (shorter s)
+          ∙ listed-unlinked cs ds c₂ (target spare) s.others s.before at.ptr s.after s.ring _ _ j₂ (Linked-joined cs (target spare) s.others s.before at.ptr s.after s.ring ds j₂) (only₂ h) (spare₂ h)
           ∙ (λ i. q.1 i ++ q.2 i) in
           let hash : t.hash ≡ la.hash = content_hash at.ptr la (body_at cs at.ptr) t (ap (λ o. content_of at.ptr o (body_at cs at.ptr)) (sym ea) ∙ c) in
           let pair : t.pair ≡ x = content_pair at.ptr (links_at ds at.ptr) x t (ap (λ b. content_of at.ptr (links_at ds at.ptr) b) (sym ex) ∙ j.content at.ptr ∙ c) in

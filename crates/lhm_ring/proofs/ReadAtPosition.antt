@@ -1,27 +1,25 @@
 -- What is read at a held pointer.
-use Rattle.std.proofs.Common.{◌≡◌, ℕ, List, ◌∷◌, ◌++◌, Option, Some, None, sym, ap, ◌∙◌, subst}
+use Rattle.std.proofs.Common.{◌≡◌, ℕ, List, ◌∷◌, ◌++◌, Some, sym, ap, ◌∙◌, subst}
 use denote.RawPtr.{Ptr}
-use Rattle.lhm_ring.specs.declared.block.NodePointer.{NodePointer}
 use Rattle.lhm_ring.specs.declared.links.Links.{Links}
 use Rattle.lhm_ring.specs.Cells.{Cell, links_at, body_at, IsAt, Holds}
 use Rattle.lhm_ring.specs.Rings.{link_of, content_of, content_at, ring_list, RingOk}
 use Rattle.lhm_ring.specs.RingState.{State, state, Held, IsHeld}
 use Rattle.lhm_ring.specs.declared.link.Link.{Link}
-use Rattle.lhm_ring.proofs.RingNodes.{none_split, node-listed}
+use Rattle.lhm_ring.proofs.RingNodes.{node-listed}
 use Rattle.lhm_ring.proofs.OneNodeChanged.{content_hash, content_link, content_pair, content_holds}
 use Rattle.lhm_ring.proofs.Writes.{content_links}
 
 module _ {B : Type 0} where
-  pub held_content : (cs : List (Cell Links B)) (guard : Option NodePointer) (spare : Link) (n m : ℕ) (v : State B) → RingOk cs guard spare n m → state (ring_list cs guard n) m ≡ v
+  pub held_content : (cs : List (Cell Links B)) (spare : Link) (n m : ℕ) (v : State B) → RingOk cs spare n m → state (ring_list cs n) m ≡ v
       → (xs : List (Held B)) (t : Held B) (ys : List (Held B)) → v.held ≡ xs ++ t ∷ ys → content_at cs t.at ≡ Some t
-  held_content cs None spare n m v ok w xs t ys e = absurd (none_split xs t ys (ap (λ (z : State B). z.held) w ∙ e))
-  held_content cs (Some g) spare n m v ok w xs t ys e = (node-listed cs g spare n m ok xs t ys (ap (λ (z : State B). z.held) w ∙ e)).here
+  held_content cs spare n m v ok w xs t ys e = (node-listed cs spare n m ok xs t ys (ap (λ (z : State B). z.held) w ∙ e)).here
 
-module _ {B : Type 0} (cs : List (Cell Links B)) (guard : Option NodePointer) (spare : Link) (n m : ℕ) (v : State B) (ok : RingOk cs guard spare n m) (w : state (ring_list cs guard n) m ≡ v) (p : Ptr) where
+module _ {B : Type 0} (cs : List (Cell Links B)) (spare : Link) (n m : ℕ) (v : State B) (ok : RingOk cs spare n m) (w : state (ring_list cs n) m ≡ v) (p : Ptr) where
   pub content_at-held : (xs : List (Held B)) (t : Held B) (ys : List (Held B)) → v.held ≡ xs ++ t ∷ ys → t.at ≡ p → content_at cs p ≡ Some t
-  content_at-held xs t ys e at = ap (content_at cs) (sym at) ∙ held_content cs guard spare n m v ok w xs t ys e
+  content_at-held xs t ys e at = ap (content_at cs) (sym at) ∙ held_content cs spare n m v ok w xs t ys e
 
-  pub held_in : IsHeld v.held p → IsHeld (ring_list cs guard n) p
+  pub held_in : IsHeld v.held p → IsHeld (ring_list cs n) p
   held_in h = subst (λ hs. IsHeld hs p) (sym (ap (λ (z : State B). z.held) w)) h
 
   pub read_at : IsHeld v.held p → IsAt cs p

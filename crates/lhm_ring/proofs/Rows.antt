@@ -1,24 +1,18 @@
 -- How a join changes a row of links, and what a ring lists.
-use Rattle.std.proofs.Common.{◌≡◌, Bool, true, false, cond, List, [], ◌∷◌, ◌++◌, length, Option, Some, None, refl, sym, ap, ◌∙◌, subst, append_assoc}
-use Rattle.std.specs.Prelude.{◌==◌}
+use Rattle.std.proofs.Common.{◌≡◌, true, false, cond, List, [], ◌∷◌, ◌++◌, length, Option, Some, None, refl, sym, ap, ◌∙◌, subst, append_assoc}
 use Rattle.std.specs.List.{AllByRecursion, IsDistinct}
 use denote.RawPtr.{Ptr}
 use Rattle.lhm_ring.specs.declared.links.Links.{Links}
 use Rattle.lhm_ring.specs.Cells.{Cell, same_ptr, links_at, body_at, IsApart}
 use Rattle.lhm_ring.specs.Rings.{link_of, next_at, prev_at, link_at, is_there, content_of, content_at, Edge, Linked, Chained, HasContent, follow, listed, one_of, IsJoined}
-use Rattle.lhm_ring.specs.RingState.{Held}
+use Rattle.lhm_ring.specs.RingState.{Held, held}
 use Rattle.lhm_ring.proofs.Apart.{IsFresh, same_ptr_refl, same_ptr_symm}
-use Rattle.lhm_ring.proofs.Options.{none_some, some_same}
+use Rattle.lhm_ring.proofs.Options.{some_same}
 
 -- a list that is not empty has a last element
 pub snoc : {X : Type 0} (x : X) (xs : List X) → (zs : List X) × (z : X) × (x ∷ xs ≡ zs ++ z ∷ [])
 snoc x [] = ([], x, refl)
 snoc x (y ∷ ys) = let on = snoc y ys in (x ∷ on.0, on.1, ap (λ r. x ∷ r) on.2)
-
--- what holds something is no guard
-pub not_guard : {X : Type 0} (y : Bool) (x t : X) → cond y None (Some x) ≡ Some t → (y ≡ false) × (x ≡ t)
-not_guard true x t e = absurd (none_some t e)
-not_guard false x t e = (refl, some_same x t e)
 
 -- lists
 abbrev pub last_from : {X : Type 0} → X → List X → X
@@ -203,7 +197,7 @@ module _ {B : Type 0} where
   pub content_pointer : (p : Ptr) (o : Option Links) (b : Option B) (t : Held B) → content_of p o b ≡ Some t → t.at ≡ p
   content_pointer p None b t e = cc
   content_pointer p (Some l) None t e = cc
-  content_pointer p (Some l) (Some b) t e = ap (λ (z : Held B). z.at) (sym (not_guard (l.guard == 1) (record { at = p; hash = l.hash; link = link_of (Some l); pair = b }) t e).1)
+  content_pointer p (Some l) (Some b) t e = ap (λ (z : Held B). z.at) (sym (some_same (held p l.hash (link_of (Some l)) b) t e))
 
   -- where a ring is cut, if what it lists is
   pub record CutAt (cs : List (Cell Links B)) (ps : List Ptr) (us : List (Held B)) (t : Held B) (vs : List (Held B)) : Type 0 where

@@ -2,7 +2,7 @@
 use mathlib.Core.List.{List, [], ◌∷◌}
 use seplogic.Ra.Ura.{Ura}
 use base.Fraction.{full_share}
-use base.Fml.{Lft, Incl, ftrue, fsep}
+use base.Fml.{Lft, Fml, Incl, fsep}
 use types.Logic.{Logic}
 use Rattle.std.specs.Prelude.{Option, Some, None}
 use denote.RattleType.{RattleType, RowLaws}
@@ -13,7 +13,7 @@ use denote.SharingLaws.{beside_shr_laws, nothing_shr_laws}
 use denote.Shares.{Shares-less}
 use denote.Struct.Lending.{Lends, lent_at, lent_at_shr_laws, Lends-lies, Lends-first, Lends-both, Lends-nothing}
 use Rattle.lhm_ring.specs.Cells.{Cell}
-use Rattle.lhm_ring.specs.Ownership.{links_of, key_of, value_of, deed_owns, body_owns, cell_owns, cells_own, body_lent, cell_lent, cells_lent, chunk_token}
+use Rattle.lhm_ring.specs.Ownership.{links_of, key_of, value_of, deed_owns, body_owns, cell_owns, cells_own, body_lent, cell_lent, cells_lent}
 
 module _ (L K V : RattleType) (LL : RowLaws L) (LK : RowLaws K) (LV : RowLaws V) where
   body_lent_laws : (p : Ptr) (x : Option (K.Denot × V.Denot)) → ShrLaws (body_lent L K V p x)
@@ -32,11 +32,11 @@ module _ {M : Type 1} {𝓤 : Ura M} (𝓛 : Logic 𝓤) (l : Lft) (L K V : Ratt
 
   Lends-cell : (c : Cell L.Denot (K.Denot × V.Denot)) → Lends 𝓛 (cell_owns L K V c) (cell_lent L K V c) l
   Lends-cell c =
-      Lends-both 𝓛 (lies_at L full_share (links_of L K V c.at) c.links) (fsep (body_owns L K V c.at c.body) (deed_owns L K V chunk_token c.at))
+      Lends-both 𝓛 (lies_at L full_share (links_of L K V c.at) c.links) (fsep (body_owns L K V c.at c.body) (deed_owns L K V c.at))
       (lent_at L (links_of L K V c.at) c.links) (body_lent L K V c.at c.body) l
       (Lends-lies 𝓛 L l (links_of L K V c.at) c.links (Shares-less 𝓛 L L.lives l incL (LL.shares 𝓛) c.links))
-      (Lends-first 𝓛 (body_owns L K V c.at c.body) (deed_owns L K V chunk_token c.at) (body_lent L K V c.at c.body) l (Lends-body c.at c.body))
+      (Lends-first 𝓛 (body_owns L K V c.at c.body) (deed_owns L K V c.at) (body_lent L K V c.at c.body) l (Lends-body c.at c.body))
 
-  pub Lends-cells : (cs : List (Cell L.Denot (K.Denot × V.Denot))) → Lends 𝓛 (cells_own L K V cs) (cells_lent L K V cs) l
-  Lends-cells [] = Lends-nothing 𝓛 ftrue l
-  Lends-cells (c ∷ cs) = Lends-both 𝓛 (cell_owns L K V c) (cells_own L K V cs) (cell_lent L K V c) (cells_lent L K V cs) l (Lends-cell c) (Lends-cells cs)
+  pub Lends-cells : (Z : Fml) (cs : List (Cell L.Denot (K.Denot × V.Denot))) → Lends 𝓛 (cells_own L K V Z cs) (cells_lent L K V cs) l
+  Lends-cells Z [] = Lends-nothing 𝓛 Z l
+  Lends-cells Z (c ∷ cs) = Lends-both 𝓛 (cell_owns L K V c) (cells_own L K V Z cs) (cell_lent L K V c) (cells_lent L K V cs) l (Lends-cell c) (Lends-cells Z cs)

@@ -1,22 +1,25 @@
--- A row of nodes from one to another, and the first and the last of it moved out.
+-- A row of nodes from one to another: its first and its last, and what is left without them.
 use Rattle.std.proofs.Common.{◌≡◌, ℕ, ◌-◌, false, List, [], ◌∷◌, ◌++◌, length, Some, None, refl, sym, ap, ◌∙◌, subst, arith, length-append}
 use lib.ListN.{length-map}
 use Rattle.std.specs.List.{AllByRecursion}
 use denote.RawPtr.{Ptr}
 use Rattle.lhm_ring.specs.declared.links.Links.{Links}
 use Rattle.lhm_ring.specs.Cells.{Cell, cell, cell_at, same_ptr, links_at, body_at, IsApart, IsAt, Holds, with_body}
-use Rattle.lhm_ring.specs.Rings.{next_of, prev_of, next_at, prev_at, content_of, Linked, HasContent, listed, one_of, last_pointer, HasEnds, pointers_from, span_triples, IsSpan}
-use Rattle.lhm_ring.specs.RingState.{Held, triples}
+use Rattle.lhm_ring.specs.Rings.{next_of, prev_of, link_of, next_at, prev_at, content_of, Linked, HasContent, listed, one_of, last_pointer, HasEnds, pointers_from, span_triples, IsSpan}
+use Rattle.lhm_ring.specs.RingState.{Held, held, triples}
 use Rattle.lhm_ring.proofs.Apart.{IsFresh}
 use Rattle.lhm_ring.proofs.Writes.{at_other, content_links}
 use Rattle.lhm_ring.proofs.Rows.{last_from, all_left, all_right, apart_left, apart_head, apart_tail, apart_at, cut_row, listed-append, snoc}
 use Rattle.lhm_ring.proofs.RingNodes.{length_listed}
-use Rattle.lhm_ring.proofs.OneNodeChanged.{links_kept, held_other, listed_other, content_hash, content_pair, content_holds}
+use Rattle.lhm_ring.proofs.OneNodeChanged.{links_kept, held_other, listed_other, content_holds}
 
 module _ {B : Type 0} (cs : List (Cell Links B)) where
-  pub none_listed : (f : Ptr) → span_triples cs 0 f ≡ []
+  pub none_left : (f : Ptr) → listed cs (pointers_from cs 0 f) ≡ []
   unfolding pointers_from listed
-  none_listed f = refl
+  none_left f = refl
+
+  pub none_listed : (f : Ptr) → span_triples cs 0 f ≡ []
+  none_listed f = ap triples (none_left f)
 
   -- the pointers from f on are those that the row names
   pub from_row : (f b : Ptr) (rs : List Ptr) → Linked cs rs → HasEnds rs f b → pointers_from cs (length rs) f ≡ rs
@@ -28,9 +31,11 @@ module _ {B : Type 0} (cs : List (Cell Links B)) where
   pub span_pointers : (f b : Ptr) (k : ℕ) → (s : IsSpan cs f b k) → pointers_from cs k f ≡ s.0
   span_pointers f b k s = ap (λ z. pointers_from cs z f) (sym s.1) ∙ from_row f b s.0 s.2 s.3
 
+  pub length_left : (f b : Ptr) (k : ℕ) → IsSpan cs f b k → k ≡ length (listed cs (pointers_from cs k f))
+  length_left f b k s = sym (ap (λ ps. length (listed cs ps)) (span_pointers f b k s) ∙ length_listed cs s.0 s.4 ∙ s.1)
+
   pub length_span : (f b : Ptr) (k : ℕ) → IsSpan cs f b k → k ≡ length (span_triples cs k f)
-  length_span f b k s =
-      sym (length-map (listed cs (pointers_from cs k f)) (λ (t : Held B). (t.hash, t.pair)) ∙ ap (λ ps. length (listed cs ps)) (span_pointers f b k s) ∙ length_listed cs s.0 s.4 ∙ s.1)
+  length_span f b k s = length_left f b k s ∙ sym (length-map (listed cs (pointers_from cs k f)) (λ (t : Held B). (t.hash, t.pair)))
 
 pub last_same : (p : Ptr) (ps : List Ptr) → last_pointer p ps ≡ last_from p ps
 last_same p [] = refl
@@ -89,7 +94,7 @@ pub record FirstCut {B : Type 0} (cs : List (Cell Links B)) (f b : Ptr) (rs : Li
   pub ends : HasEnds after (next_at cs f) b
 
 module _ {B : Type 0} (cs : List (Cell Links B)) where
-  ends_behind : (x b : Ptr) (xs : List Ptr) → Linked cs (x ∷ xs) → last_pointer x xs ≡ b → HasEnds xs (next_at cs x) b
+  pub ends_behind : (x b : Ptr) (xs : List Ptr) → Linked cs (x ∷ xs) → last_pointer x xs ≡ b → HasEnds xs (next_at cs x) b
   ends_behind x b [] k e = tt
   ends_behind x b (y ∷ ys) k e = (sym k.0.0, e)
 
@@ -101,6 +106,22 @@ module _ {B : Type 0} (cs : List (Cell Links B)) where
     linked = linked_tail cs x xs k;
     ends = subst (λ q. HasEnds xs (next_at cs q) b) h.0 (ends_behind x b xs k h.1);
   }
+
+module _ {B : Type 0} where
+  triples-append : (xs ys : List (Held B)) → triples (xs ++ ys) ≡ triples xs ++ triples ys
+  triples-append [] ys = refl
+  triples-append (x ∷ xs) ys = ap (λ r. (x.hash, x.pair) ∷ r) (triples-append xs ys)
+
+  holds_here : (cs : List (Cell Links B)) (p : Ptr) → HasContent cs p → Holds cs p
+  holds_here cs p h = content_holds p (links_at cs p) (body_at cs p) h.0 h.1
+
+  there_here : (cs : List (Cell Links B)) (p : Ptr) → HasContent cs p → IsAt cs p
+  there_here cs p h = content_links p (links_at cs p) (body_at cs p) h.0 h.1
+
+  pub one_listed : (cs : List (Cell Links B)) (p : Ptr) → HasContent cs p → (l : Links) → links_at cs p ≡ Some l → (x : B) → body_at cs p ≡ Some x → listed cs (p ∷ []) ≡ held p l.hash (link_of (Some l)) x ∷ []
+  unfolding listed
+  one_listed cs p h l f x e =
+      λ i. one_of (content_of p (f i) (e i)) ++ []
 
 -- what the node p holds is moved out of it
 module _ {B : Type 0} (cs : List (Cell Links B)) (p : Ptr) (la : Links) (ea : links_at cs p ≡ Some la) where
@@ -116,21 +137,18 @@ module _ {B : Type 0} (cs : List (Cell Links B)) (p : Ptr) (la : Links) (ea : li
   row_stays : (s : List Ptr) → Linked cs s → Linked ds s
   row_stays = row_same cs ds (λ q. ap next_of (same_links q)) (λ q. ap prev_of (same_links q))
 
-  one_listed : (x : B) → body_at cs p ≡ Some x → HasContent cs p → triples (listed cs (p ∷ [])) ≡ (la.hash, x) ∷ []
-  unfolding listed
-  one_listed x ex h =
-      let hash : h.0.hash ≡ la.hash = content_hash p la (body_at cs p) h.0 (ap (λ o. content_of p o (body_at cs p)) (sym ea) ∙ h.1) in
-      let pair : h.0.pair ≡ x = content_pair p (links_at cs p) x h.0 (ap (λ o. content_of p (links_at cs p) o) (sym ex) ∙ h.1) in
-      ap (λ o. triples (one_of o ++ [])) h.1 ∙ (λ i. (hash i, pair i) ∷ [])
+  -- a row without p stays
+  span_stays : (f b : Ptr) (k : ℕ) (s : IsSpan cs f b k) → IsFresh p s.0 → IsSpan ds f b k
+  span_stays f b k s free = (s.0, s.1, row_stays s.0 s.2, s.3, held_other cs ds p other s.0 free s.4, s.5)
 
-module _ {B : Type 0} where
-  triples-append : (xs ys : List (Held B)) → triples (xs ++ ys) ≡ triples xs ++ triples ys
-  triples-append [] ys = refl
-  triples-append (x ∷ xs) ys = ap (λ r. (x.hash, x.pair) ∷ r) (triples-append xs ys)
+  listed_stays : (f b : Ptr) (k : ℕ) (s : IsSpan cs f b k) → IsFresh p s.0 → listed cs (pointers_from cs k f) ≡ listed ds (pointers_from ds k f)
+  unfolding span_stays
+  listed_stays f b k s free = ap (listed cs) (span_pointers cs f b k s) ∙ sym (listed_other cs ds p other s.0 free) ∙ ap (listed ds) (sym (span_pointers ds f b k (span_stays f b k s free)))
 
-  holds_here : (cs : List (Cell Links B)) (p : Ptr) → HasContent cs p → Holds cs p
-  holds_here cs p h = content_holds p (links_at cs p) (body_at cs p) h.0 h.1
+  one_triple : (x : B) → body_at cs p ≡ Some x → HasContent cs p → triples (listed cs (p ∷ [])) ≡ (la.hash, x) ∷ []
+  one_triple x ex h = ap triples (one_listed cs p h la ea x ex)
 
+-- the first of a row and the rest, and the last and the rest
 module _ {B : Type 0} (cs : List (Cell Links B)) (f b : Ptr) (k : ℕ) (s : IsSpan cs f b k) (some : k ≡ 0 → ⊥) where
   first : FirstCut cs f b s.0
   first = first_cut cs f b s.0 (λ e. some (sym s.1 ∙ e)) s.2 s.3
@@ -139,7 +157,7 @@ module _ {B : Type 0} (cs : List (Cell Links B)) (f b : Ptr) (k : ℕ) (s : IsSp
   all_first = subst (AllByRecursion (HasContent cs)) first.is s.4
 
   pub first_there : IsAt cs f
-  first_there = content_links f (links_at cs f) (body_at cs f) all_first.0.0 all_first.0.1
+  first_there = there_here cs f all_first.0
 
   pub first_holds : Holds cs f
   first_holds = holds_here cs f all_first.0
@@ -150,26 +168,35 @@ module _ {B : Type 0} (cs : List (Cell Links B)) (f b : Ptr) (k : ℕ) (s : IsSp
   long_first : length first.after ≡ k - 1
   long_first = let e = ap length (sym first.is) ∙ s.1 in omega arith
 
-  module _ (la : Links) (ea : links_at cs f ≡ Some la) where
-    free_first : IsFresh f first.after
+  after_first : IsSpan cs (next_at cs f) b (k - 1)
+  after_first = (first.after, long_first, first.linked, first.ends, all_first.1, apart_tail f first.after apart_first)
+
+  cut_first : listed cs (pointers_from cs k f) ≡ listed cs (f ∷ []) ++ listed cs (pointers_from cs (k - 1) (next_at cs f))
+  unfolding first after_first
+  cut_first = ap (listed cs) (span_pointers cs f b k s ∙ first.is) ∙ listed-append cs (f ∷ []) first.after ∙ ap (λ ps. listed cs (f ∷ []) ++ listed cs ps) (sym (span_pointers cs (next_at cs f) b (k - 1) after_first))
+
+  module _ (la : Links) (ea : links_at cs f ≡ Some la) (q : Ptr) (is : q ≡ la.next.ptr) where
+    on : next_at cs f ≡ q
+    on = ap next_of ea ∙ sym is
+
+    pub behind_first : IsSpan cs q b (k - 1)
+    behind_first = subst (λ r. IsSpan cs r b (k - 1)) on after_first
+
+    pub first_shown : (x : B) → body_at cs f ≡ Some x → listed cs (pointers_from cs k f) ≡ held f la.hash (link_of (Some la)) x ∷ listed cs (pointers_from cs (k - 1) q)
+    first_shown x ex = cut_first ∙ (λ i. one_listed cs f all_first.0 la ea x ex i ++ listed cs (pointers_from cs (k - 1) (on i)))
+
+    free_first : IsFresh f after_first.0
+    unfolding first after_first
     free_first = apart_head f first.after apart_first
 
-    pub rest_of_first : IsSpan (with_body f None cs) la.next.ptr b (k - 1)
-    rest_of_first = (
-      first.after,
-      long_first,
-      row_stays cs f la ea first.after first.linked,
-      subst (λ q. HasEnds first.after q b) (ap next_of ea) first.ends,
-      held_other cs (with_body f None cs) f (other cs f la ea) first.after free_first all_first.1,
-      apart_tail f first.after apart_first,
-    )
+    pub rest_of_first : IsSpan (with_body f None cs) q b (k - 1)
+    rest_of_first = subst (λ r. IsSpan (with_body f None cs) r b (k - 1)) on (span_stays cs f la ea (next_at cs f) b (k - 1) after_first free_first)
 
-    pub first_out : (x : B) → body_at cs f ≡ Some x → span_triples cs k f ≡ (la.hash, x) ∷ span_triples (with_body f None cs) (k - 1) la.next.ptr
-    unfolding first rest_of_first
+    pub first_out : (x : B) → body_at cs f ≡ Some x → span_triples cs k f ≡ (la.hash, x) ∷ span_triples (with_body f None cs) (k - 1) q
     first_out x ex =
-        ap (λ ps. triples (listed cs ps)) (span_pointers cs f b k s ∙ first.is) ∙ ap triples (listed-append cs (f ∷ []) first.after) ∙ triples-append (listed cs (f ∷ [])) (listed cs first.after)
-        ∙ (λ i. one_listed cs f la ea x ex all_first.0 i ++ triples (sym (listed_other cs (with_body f None cs) f (other cs f la ea) first.after free_first) i))
-        ∙ ap (λ ps. (la.hash, x) ∷ triples (listed (with_body f None cs) ps)) (sym (span_pointers (with_body f None cs) la.next.ptr b (k - 1) rest_of_first))
+        ap triples cut_first ∙ triples-append (listed cs (f ∷ [])) (listed cs (pointers_from cs (k - 1) (next_at cs f)))
+        ∙ (λ i. one_triple cs f la ea x ex all_first.0 i ++ triples (listed_stays cs f la ea (next_at cs f) b (k - 1) after_first free_first i))
+        ∙ ap (λ r. (la.hash, x) ∷ span_triples (with_body f None cs) (k - 1) r) on
 
   last : LastCut cs f b s.0
   last = last_cut cs f b s.0 (λ e. some (sym s.1 ∙ e)) s.2 s.3
@@ -181,7 +208,7 @@ module _ {B : Type 0} (cs : List (Cell Links B)) (f b : Ptr) (k : ℕ) (s : IsSp
   mine = (all_right (HasContent cs) last.before (b ∷ []) all_last).0
 
   pub last_there : IsAt cs b
-  last_there = content_links b (links_at cs b) (body_at cs b) mine.0 mine.1
+  last_there = there_here cs b mine
 
   pub last_holds : Holds cs b
   last_holds = holds_here cs b mine
@@ -189,23 +216,34 @@ module _ {B : Type 0} (cs : List (Cell Links B)) (f b : Ptr) (k : ℕ) (s : IsSp
   long_last : length last.before ≡ k - 1
   long_last = let e = ap length (sym last.is) ∙ s.1 in omega (arith, length-append last.before (b ∷ []))
 
-  module _ (la : Links) (ea : links_at cs b ≡ Some la) where
-    free_last : IsFresh b last.before
-    free_last = all_left (λ q. same_ptr b q ≡ false) last.before [] (apart_at last.before b [] (subst IsApart last.is s.5))
+  apart_last : IsApart (last.before ++ b ∷ [])
+  apart_last = subst IsApart last.is s.5
 
-    pub rest_of_last : IsSpan (with_body b None cs) f la.prev.ptr (k - 1)
-    rest_of_last = (
-      last.before,
-      long_last,
-      row_stays cs b la ea last.before last.linked,
-      subst (λ q. HasEnds last.before f q) (ap prev_of ea) last.ends,
-      held_other cs (with_body b None cs) b (other cs b la ea) last.before free_last (all_left (HasContent cs) last.before (b ∷ []) all_last),
-      apart_left last.before (b ∷ []) (subst IsApart last.is s.5),
-    )
+  before_last : IsSpan cs f (prev_at cs b) (k - 1)
+  before_last = (last.before, long_last, last.linked, last.ends, all_left (HasContent cs) last.before (b ∷ []) all_last, apart_left last.before (b ∷ []) apart_last)
+
+  cut_last : listed cs (pointers_from cs k f) ≡ listed cs (pointers_from cs (k - 1) f) ++ listed cs (b ∷ [])
+  unfolding last before_last
+  cut_last = ap (listed cs) (span_pointers cs f b k s ∙ last.is) ∙ listed-append cs last.before (b ∷ []) ∙ ap (λ ps. listed cs ps ++ listed cs (b ∷ [])) (sym (span_pointers cs f (prev_at cs b) (k - 1) before_last))
+
+  module _ (la : Links) (ea : links_at cs b ≡ Some la) (q : Ptr) (is : q ≡ la.prev.ptr) where
+    back : prev_at cs b ≡ q
+    back = ap prev_of ea ∙ sym is
+
+    pub ahead_of_last : IsSpan cs f q (k - 1)
+    ahead_of_last = subst (λ r. IsSpan cs f r (k - 1)) back before_last
+
+    pub last_shown : (x : B) → body_at cs b ≡ Some x → listed cs (pointers_from cs k f) ≡ listed cs (pointers_from cs (k - 1) f) ++ held b la.hash (link_of (Some la)) x ∷ []
+    last_shown x ex = cut_last ∙ ap (λ ts. listed cs (pointers_from cs (k - 1) f) ++ ts) (one_listed cs b mine la ea x ex)
+
+    free_last : IsFresh b before_last.0
+    unfolding last before_last
+    free_last = all_left (λ q. same_ptr b q ≡ false) last.before [] (apart_at last.before b [] apart_last)
+
+    pub rest_of_last : IsSpan (with_body b None cs) f q (k - 1)
+    rest_of_last = subst (λ r. IsSpan (with_body b None cs) f r (k - 1)) back (span_stays cs b la ea f (prev_at cs b) (k - 1) before_last free_last)
 
     pub last_out : (x : B) → body_at cs b ≡ Some x → span_triples cs k f ≡ span_triples (with_body b None cs) (k - 1) f ++ (la.hash, x) ∷ []
-    unfolding last rest_of_last
     last_out x ex =
-        ap (λ ps. triples (listed cs ps)) (span_pointers cs f b k s ∙ last.is) ∙ ap triples (listed-append cs last.before (b ∷ [])) ∙ triples-append (listed cs last.before) (listed cs (b ∷ []))
-        ∙ (λ i. triples (sym (listed_other cs (with_body b None cs) b (other cs b la ea) last.before free_last) i) ++ one_listed cs b la ea x ex mine i)
-        ∙ ap (λ ps. triples (listed (with_body b None cs) ps) ++ (la.hash, x) ∷ []) (sym (span_pointers (with_body b None cs) f la.prev.ptr (k - 1) rest_of_last))
+        ap triples cut_last ∙ triples-append (listed cs (pointers_from cs (k - 1) f)) (listed cs (b ∷ []))
+        ∙ (λ i. triples (listed_stays cs b la ea f (prev_at cs b) (k - 1) before_last free_last i) ++ one_triple cs b la ea x ex mine i)

@@ -1,23 +1,24 @@
 -- All that a ring holds becomes spare.
-use Rattle.std.proofs.Common.{◌≡◌, ℕ, ◌+◌, ◌-◌, ◌<◌, true, false, cond, List, [], ◌∷◌, ◌++◌, length, Option, Some, None, refl, sym, ap, ◌∙◌, subst, arith}
-use Rattle.std.specs.Prelude.{◌==◌}
+use Rattle.std.proofs.Common.{◌≡◌, ℕ, suc, ◌+◌, ◌-◌, ◌<◌, true, false, cond, List, [], ◌∷◌, ◌++◌, length, Option, Some, None, refl, sym, ap, ◌∙◌, subst, arith}
 use Rattle.std.specs.List.{AllByRecursion}
-use denote.RawPtr.{Ptr}
+use denote.RawPtr.{Ptr, null_ptr}
 use Rattle.lhm_ring.specs.declared.block.NodePointer.{NodePointer}
 use Rattle.lhm_ring.specs.declared.links.Links.{Links}
-use Rattle.lhm_ring.specs.Cells.{Cell, cell, same_ptr, links_at, body_at, IsApart, with_links}
-use Rattle.lhm_ring.specs.Rings.{relinked, next_of, prev_of, link_of, has_links, guard_of, next_at, prev_at, link_at, is_there, content_of, content_at, Linked, Chained, HasContent, IsRing, IsJoined, listed, one_of, HasEnds, span_triples, IsSpan, ring_list, RingOk, is_guard}
+use Rattle.lhm_ring.specs.declared.links.Ends.{Ends}
+use Rattle.lhm_ring.specs.Cells.{Cell, cell, cell_at, same_ptr, links_of, body_of, links_at, body_at, IsApart, with_links}
+use Rattle.lhm_ring.specs.Rings.{ends_links, ring_cells, relinked, next_of, prev_of, link_of, has_links, next_at, prev_at, link_at, is_there, content_of, content_at, Linked, Chained, HasContent, IsRing, IsJoined, listed, one_of, HasEnds, span_triples, IsSpan, ring_list, RingOk}
 use Rattle.lhm_ring.specs.RingState.{Held, triples}
 use Rattle.lhm_ring.specs.Splices.{onto, StartsAt, triple_of, SameButLinks, IsRow, HasRow, SparesRow}
 use Rattle.lhm_ring.specs.Targets.{target}
 use Rattle.lhm_ring.specs.declared.link.Link.{Link}
-use Rattle.lhm_ring.proofs.Apart.{IsFresh, apart_none, same_ptr_refl}
+use Rattle.lhm_ring.proofs.Apart.{IsFresh, same_ptr_refl}
 use Rattle.lhm_ring.proofs.Writes.{at_other, length-change, read_kept, links_set, body_kept}
 use Rattle.lhm_ring.proofs.Rows.{last_from, all_left, all_right, all_from, apart_left, apart_head, apart_tail, apart_at, apart_out, apart_in, avoids_all, AvoidsSource, AvoidsTarget, cut_row, row_kept, chain_kept, edge_made, listed_kept}
+use Rattle.lhm_ring.proofs.RingCells.{ring_first, null_there, linked_in_nodes, there_in_nodes, chain_in_nodes, chain_in_ring}
 use Rattle.lhm_ring.proofs.RingNodes.{ring_listed}
-use Rattle.lhm_ring.proofs.OneNodeChanged.{chain_other, content_guard}
+use Rattle.lhm_ring.proofs.OneNodeChanged.{chain_other}
 use Rattle.lhm_ring.proofs.Options.{none_some}
-use Rattle.lhm_ring.proofs.Spans.{last_same, linked_tail, none_listed, row_same, span_pointers}
+use Rattle.lhm_ring.proofs.Spans.{last_same, linked_tail, row_same, span_pointers}
 
 -- the pointers of a row go onto others
 pub all_onto : (P : Ptr → Type 0) (ps ss : List Ptr) → AllByRecursion P ps → AllByRecursion P ss → AllByRecursion P (onto ps ss)
@@ -38,9 +39,6 @@ next_relinked o l = refl
 pub prev_relinked : (o : Link) (l : Links) → prev_of (Some (relinked o l)) ≡ prev_of (Some l)
 prev_relinked o l = refl
 
-pub guard_relinked : (o : Link) (l : Links) → guard_of (Some (relinked o l)) ≡ guard_of (Some l)
-guard_relinked o l = refl
-
 pub link_relinked : (o : Link) (l : Links) → link_of (Some (relinked o l)) ≡ target o
 link_relinked o l = refl
 
@@ -48,12 +46,9 @@ pub hash_relinked : (o : Link) (l : Links) → (relinked o l).hash ≡ l.hash
 hash_relinked o l = refl
 
 module _ {B : Type 0} where
-  triple_shown : (q : Ptr) (l : Links) (x : B) → triple_of (content_of q (Some l) (Some x)) ≡ cond (l.guard == 1) None (Some (l.hash, x))
-  triple_shown q l x = elim (l.guard == 1) as (λ y. triple_of (cond y None (Some (record { at = q; hash = l.hash; link = link_of (Some l); pair = x }))) ≡ cond y None (Some (l.hash, x))) [ true ↦ refl | false ↦ refl ]
-
   triple_relinked : (q : Ptr) (o : Link) (l : Links) (b : Option B) → triple_of (content_of q (Some (relinked o l)) b) ≡ triple_of (content_of q (Some l) b)
   triple_relinked q o l None = refl
-  triple_relinked q o l (Some x) = triple_shown q (relinked o l) x ∙ (λ i. cond (guard_relinked o l i) None (Some (hash_relinked o l i, x))) ∙ sym (triple_shown q l x)
+  triple_relinked q o l (Some x) = ap (λ h. Some (h, x)) (hash_relinked o l)
 
   -- what the write of a chain link keeps
   same_relinked : (cs : List (Cell Links B)) (p : Ptr) (o : Link) (la : Links) → links_at cs p ≡ Some la → SameButLinks cs (with_links p (relinked o la) cs)
@@ -63,7 +58,6 @@ module _ {B : Type 0} where
         next = read_kept p l next_of cs la e (next_relinked o la);
         prev = read_kept p l prev_of cs la e (prev_relinked o la);
         there = read_kept p l has_links cs la e refl;
-        guard = read_kept p l guard_of cs la e (guard_relinked o la);
         triple = λ q. ap (λ b. triple_of (content_of q (links_at (with_links p l cs) q) b)) (body_kept p l cs la e q)
             ∙ read_kept p l (λ z. triple_of (content_of q z (body_at cs q))) cs la e (triple_relinked q o la (body_at cs q)) q;
         count = length-change p (λ c. cell c.at l c.body) cs;
@@ -74,7 +68,6 @@ module _ {B : Type 0} where
     next = λ q. b.next q ∙ a.next q;
     prev = λ q. b.prev q ∙ a.prev q;
     there = λ q. b.there q ∙ a.there q;
-    guard = λ q. b.guard q ∙ a.guard q;
     triple = λ q. b.triple q ∙ a.triple q;
     count = b.count ∙ a.count;
   }
@@ -84,22 +77,22 @@ module _ {B : Type 0} where
   starts_next cs x (y ∷ ys) k = sym k.0.0
 
   -- the first node of a row becomes the first spare one
-  module _ (cs : List (Cell Links B)) (at : NodePointer) (n : ℕ) (spare : Link) (la : Links) (ea : links_at cs at.ptr ≡ Some la) where
+  module _ (cs : List (Cell Links B)) (at : NodePointer) (n : ℕ) (spare : Link) (la : Links) (ea : links_at cs at.ptr ≡ Some la) (next : Ptr) (is : next ≡ la.next.ptr) where
     abbrev after : List (Cell Links B)
     after = with_links at.ptr (relinked spare la) cs
 
     link_now : link_at after at.ptr ≡ target spare
     link_now = ap link_of (links_set at.ptr (relinked spare la) cs la ea at.ptr ∙ ap (λ y. cond y (Some (relinked spare la)) (links_at cs at.ptr)) (same_ptr_refl at.ptr)) ∙ link_relinked spare la
 
-    shorter_row : (p : Ptr) (rs ss : List Ptr) → p ≡ at.ptr → IsRow cs at.ptr n (target spare) (p ∷ rs) ss → IsRow after la.next.ptr (n - 1) (Some at.ptr) rs (at.ptr ∷ ss)
-    shorter_row p rs ss is r =
+    shorter_row : (p : Ptr) (rs ss : List Ptr) → p ≡ at.ptr → IsRow cs at.ptr n (target spare) (p ∷ rs) ss → IsRow after next (n - 1) (Some at.ptr) rs (at.ptr ∷ ss)
+    shorter_row p rs ss here r =
         let same = same_relinked cs at.ptr spare la ea in let long = r.long in
-        let free = subst (λ q. IsFresh q (rs ++ ss)) is (apart_head p (rs ++ ss) r.apart) in
-        let linked : Linked cs (at.ptr ∷ rs) = subst (λ q. Linked cs (q ∷ rs)) is r.linked in
+        let free = subst (λ q. IsFresh q (rs ++ ss)) here (apart_head p (rs ++ ss) r.apart) in
+        let linked : Linked cs (at.ptr ∷ rs) = subst (λ q. Linked cs (q ∷ rs)) here r.linked in
         record {
           long = omega arith;
           linked = row_same cs after same.next same.prev rs (linked_tail cs at.ptr rs linked);
-          starts = subst (StartsAt rs) (ap next_of ea) (starts_next cs at.ptr rs linked);
+          starts = subst (StartsAt rs) (ap next_of ea ∙ sym is) (starts_next cs at.ptr rs linked);
           there = all_from (λ q. is_there cs q ≡ true) (λ q. is_there after q ≡ true) (λ q h. same.there q ∙ h) rs r.there.1;
           apart = apart_in rs at.ptr ss free (apart_tail p (rs ++ ss) r.apart);
           chained = (
@@ -109,20 +102,20 @@ module _ {B : Type 0} where
           );
         }
 
-    row_left : (ps ss : List Ptr) → 0 < n → IsRow cs at.ptr n (target spare) ps ss → HasRow after la.next.ptr (n - 1) (Some at.ptr)
+    row_left : (ps ss : List Ptr) → 0 < n → IsRow cs at.ptr n (target spare) ps ss → HasRow after next (n - 1) (Some at.ptr)
     row_left [] ss h r = let long = r.long in absurd (omega arith)
     row_left (p ∷ rs) ss h r = (rs, at.ptr ∷ ss, shorter_row p rs ss r.starts r)
 
-    pub row_goes_on : 0 < n → HasRow cs at.ptr n (target spare) → HasRow after la.next.ptr (n - 1) (Some at.ptr)
+    pub row_goes_on : 0 < n → HasRow cs at.ptr n (target spare) → HasRow after next (n - 1) (Some at.ptr)
     row_goes_on h r = row_left r.0 r.1 h r.2
 
-    then_all : (ds : List (Cell Links B)) (s : Option Ptr) → 0 < n → SparesRow after la.next.ptr (n - 1) (Some at.ptr) ds s → (ps ss : List Ptr) → IsRow cs at.ptr n (target spare) ps ss → SameButLinks cs ds × Chained ds s (onto ps ss)
+    then_all : (ds : List (Cell Links B)) (s : Option Ptr) → 0 < n → SparesRow after next (n - 1) (Some at.ptr) ds s → (ps ss : List Ptr) → IsRow cs at.ptr n (target spare) ps ss → SameButLinks cs ds × Chained ds s (onto ps ss)
     then_all ds s h k [] ss r = let long = r.long in absurd (omega arith)
     then_all ds s h k (p ∷ rs) ss r =
         let on = k rs (at.ptr ∷ ss) (shorter_row p rs ss r.starts r) in
         (same_both cs after ds (same_relinked cs at.ptr spare la ea) on.0, subst (λ q. Chained ds s (onto rs (q ∷ ss))) (sym r.starts) on.1)
 
-    pub row_ends : (ds : List (Cell Links B)) (s : Option Ptr) → 0 < n → SparesRow after la.next.ptr (n - 1) (Some at.ptr) ds s → SparesRow cs at.ptr n (target spare) ds s
+    pub row_ends : (ds : List (Cell Links B)) (s : Option Ptr) → 0 < n → SparesRow after next (n - 1) (Some at.ptr) ds s → SparesRow cs at.ptr n (target spare) ds s
     row_ends ds s h k ps ss r = then_all ds s h k ps ss r
 
   there_first : (cs : List (Cell Links B)) (at : NodePointer) (n : ℕ) (spare : Option Ptr) (ps ss : List Ptr) → 0 < n → IsRow cs at.ptr n spare ps ss → is_there cs at.ptr ≡ true
@@ -133,7 +126,7 @@ module _ {B : Type 0} where
   row_there cs at n spare h r = there_first cs at n spare r.0 r.1 h r.2
 
   same_all : (cs : List (Cell Links B)) → SameButLinks cs cs
-  same_all cs = record { next = λ q. refl; prev = λ q. refl; there = λ q. refl; guard = λ q. refl; triple = λ q. refl; count = refl }
+  same_all cs = record { next = λ q. refl; prev = λ q. refl; there = λ q. refl; triple = λ q. refl; count = refl }
 
   none_more : (cs : List (Cell Links B)) (f : Ptr) (n : ℕ) (spare : Option Ptr) → n ≡ 0 → (ps ss : List Ptr) → IsRow cs f n spare ps ss → SameButLinks cs cs × Chained cs spare (onto ps ss)
   none_more cs f n spare e [] ss r = (same_all cs, r.chained)
@@ -155,100 +148,113 @@ module _ {B : Type 0} where
   triples_first None hs = refl
   triples_first (Some t) hs = refl
 
--- all that a ring holds becomes spare
-module _ {B : Type 0} (cs : List (Cell Links B)) (g : NodePointer) (spare : Link) (n m : ℕ) (o : RingOk cs (Some g) spare n m) (lg : Links) (eg : links_at cs g.ptr ≡ Some lg) where
-  cut : Linked cs (g.ptr ∷ o.0) × (prev_at cs g.ptr ≡ last_from g.ptr o.0)
-  cut = let k = cut_row cs g.ptr o.0 g.ptr [] o.2.linked in (k.0, k.1.1)
+-- the same nodes of a ring, except for their chain links
+module _ {B : Type 0} (e : Ends) (cs ds : List (Cell Links B)) (same : SameButLinks cs ds) where
+  abbrev null_cell : Cell Links B
+  null_cell = cell null_ptr (ends_links e) None
 
-  whole_row : IsRow cs lg.next.ptr n (target spare) o.0 o.1
-  whole_row = record {
-    long = o.3;
-    linked = linked_tail cs g.ptr o.0 cut.0;
-    starts = subst (StartsAt o.0) (ap next_of eg) (starts_next cs g.ptr o.0 cut.0);
-    there = all_left (λ q. is_there cs q ≡ true) o.0 o.1 o.2.there.1;
-    apart = apart_tail g.ptr (o.0 ++ o.1) o.2.apart;
-    chained = o.2.chained;
+  read_ring : {X : Type 0} (f : Option (Cell Links B) → X) (q : Ptr) → f (cell_at ds q) ≡ f (cell_at cs q) → f (cell_at (ring_cells e ds) q) ≡ f (cell_at (ring_cells e cs) q)
+  unfolding cell_at
+  read_ring f q h = elim (same_ptr null_ptr q) as (λ y. f (cond y (Some null_cell) (cell_at ds q)) ≡ f (cond y (Some null_cell) (cell_at cs q))) [ true ↦ refl | false ↦ h ]
+
+  pub same_in_ring : SameButLinks (ring_cells e cs) (ring_cells e ds)
+  same_in_ring = record {
+    next = λ q. read_ring (λ z. next_of (links_of z)) q (same.next q);
+    prev = λ q. read_ring (λ z. prev_of (links_of z)) q (same.prev q);
+    there = λ q. read_ring (λ z. has_links (links_of z)) q (same.there q);
+    triple = λ q. read_ring (λ z. triple_of (content_of q (links_of z) (body_of z))) q (same.triple q);
+    count = ap suc same.count;
   }
 
-  pub row_of_ring : HasRow cs lg.next.ptr n (target spare)
-  row_of_ring = (o.0, o.1, whole_row)
+-- all that a ring holds becomes spare
+module _ {B : Type 0} (e : Ends) (nodes : List (Cell Links B)) (spare : Link) (n m : ℕ) (o : RingOk (ring_cells e nodes) spare n m) where
+  abbrev cs : List (Cell Links B)
+  cs = ring_cells e nodes
 
-  ends_of : (rs : List Ptr) → Linked cs (g.ptr ∷ rs) → prev_at cs g.ptr ≡ last_from g.ptr rs → HasEnds rs lg.next.ptr lg.prev.ptr
+  cut : Linked cs (null_ptr ∷ o.0) × (prev_at cs null_ptr ≡ last_from null_ptr o.0)
+  cut = let k = cut_row cs null_ptr o.0 null_ptr [] o.2.linked in (k.0, k.1.1)
+
+  free_all : IsFresh null_ptr (o.0 ++ o.1)
+  free_all = apart_head null_ptr (o.0 ++ o.1) o.2.apart
+
+  free_row : IsFresh null_ptr o.0
+  free_row = all_left (λ q. same_ptr null_ptr q ≡ false) o.0 o.1 free_all
+
+  free_spares : IsFresh null_ptr o.1
+  free_spares = all_right (λ q. same_ptr null_ptr q ≡ false) o.0 o.1 free_all
+
+  whole_row : (f : Ptr) → f ≡ e.first.ptr → IsRow nodes f n (target spare) o.0 o.1
+  whole_row f is = record {
+    long = o.3;
+    linked = linked_in_nodes e nodes o.0 free_row (linked_tail cs null_ptr o.0 cut.0);
+    starts = subst (StartsAt o.0) (ring_first e nodes ∙ sym is) (starts_next cs null_ptr o.0 cut.0);
+    there = there_in_nodes e nodes o.0 free_row (all_left (λ q. is_there cs q ≡ true) o.0 o.1 o.2.there.1);
+    apart = apart_tail null_ptr (o.0 ++ o.1) o.2.apart;
+    chained = chain_in_nodes e nodes (target spare) o.1 free_spares o.2.chained;
+  }
+
+  pub row_of_ring : (f : Ptr) → f ≡ e.first.ptr → HasRow nodes f n (target spare)
+  row_of_ring f is = (o.0, o.1, whole_row f is)
+
+  ends_of : (rs : List Ptr) → Linked cs (null_ptr ∷ rs) → prev_at cs null_ptr ≡ last_from null_ptr rs → HasEnds rs (next_at cs null_ptr) (prev_at cs null_ptr)
   ends_of [] k e = tt
-  ends_of (r ∷ rs) k e = (sym k.0.0 ∙ ap next_of eg, last_same r rs ∙ sym e ∙ ap prev_of eg)
+  ends_of (r ∷ rs) k e = (sym k.0.0, last_same r rs ∙ sym e)
 
-  module _ (ds es : List (Cell Links B)) (h : Link) (s : SparesRow cs lg.next.ptr n (target spare) ds (target h)) where
+  module _ (f : Ptr) (is : f ≡ e.first.ptr) (zs es : List (Cell Links B)) (h : Link) (s : SparesRow nodes f n (target spare) zs (target h)) where
+    abbrev ds : List (Cell Links B)
+    ds = ring_cells e zs
+
+    spared : SameButLinks nodes zs × Chained zs (target h) (onto o.0 o.1)
+    spared = s o.0 o.1 (whole_row f is)
+
     same : SameButLinks cs ds
-    same = (s o.0 o.1 whole_row).0
-
-    pub still_there : is_there ds g.ptr ≡ true
-    still_there = same.there g.ptr ∙ o.2.there.0
+    same = same_in_ring e nodes zs spared.0
 
     has_still : (q : Ptr) → HasContent cs q → HasContent ds q
     has_still q k = some_still (content_at ds q) k.0 (same.triple q ∙ ap triple_of k.1)
 
-    module _ (j : IsJoined ds es g.ptr g.ptr) where
-      all_there : AllByRecursion (λ q. is_there es q ≡ true) (g.ptr ∷ onto o.0 o.1)
+    module _ (j : IsJoined ds es null_ptr null_ptr) where
+      all_there : AllByRecursion (λ q. is_there es q ≡ true) (null_ptr ∷ onto o.0 o.1)
       all_there =
           let T : Ptr → Type 0 = λ q. is_there es q ≡ true in
           let on : (qs : List Ptr) → AllByRecursion (λ q. is_there cs q ≡ true) qs → AllByRecursion T qs = all_from (λ q. is_there cs q ≡ true) T (λ q k. j.there q ∙ same.there q ∙ k) in
-          (j.there g.ptr ∙ still_there, all_onto T o.0 o.1 (on o.0 (all_left (λ q. is_there cs q ≡ true) o.0 o.1 o.2.there.1)) (on o.1 (all_right (λ q. is_there cs q ≡ true) o.0 o.1 o.2.there.1)))
+          (j.there null_ptr ∙ null_there e zs, all_onto T o.0 o.1 (on o.0 (all_left (λ q. is_there cs q ≡ true) o.0 o.1 o.2.there.1)) (on o.1 (all_right (λ q. is_there cs q ≡ true) o.0 o.1 o.2.there.1)))
 
-      now : (q : Ptr) → is_guard cs q ≡ false → is_guard es q ≡ false
-      now q h = j.guard q ∙ same.guard q ∙ h
-
-      empty_ring : IsRing es g.ptr [] (target h) (onto o.0 o.1)
+      empty_ring : IsRing es [] (target h) (onto o.0 o.1)
       empty_ring = record {
-        linked = (edge_made ds es g.ptr g.ptr j, tt);
-        chained = chain_kept ds es g.ptr g.ptr j (target h) (onto o.0 o.1) (s o.0 o.1 whole_row).1;
+        linked = (edge_made ds es null_ptr null_ptr j, tt);
+        chained = chain_kept ds es null_ptr null_ptr j (target h) (onto o.0 o.1) (chain_in_ring e zs (target h) (onto o.0 o.1) (all_onto (λ q. same_ptr null_ptr q ≡ false) o.0 o.1 free_row free_spares) spared.1);
         held = tt;
         there = all_there;
-        apart = apart_onto g.ptr o.0 o.1 o.2.apart;
-        count = let e = length_onto o.0 o.1 in let f = j.count ∙ same.count ∙ o.2.count in omega arith;
-        guard = j.guard g.ptr ∙ same.guard g.ptr ∙ o.2.guard;
-        plain = all_onto (λ q. is_guard es q ≡ false) o.0 o.1 (all_from (HasContent cs) (λ q. is_guard es q ≡ false) (λ q k. now q (content_guard q (links_at cs q) (body_at cs q) k.0 k.1)) o.0 o.2.held)
-            (all_from (λ q. is_guard cs q ≡ false) (λ q. is_guard es q ≡ false) now o.1 o.2.plain);
+        apart = apart_onto null_ptr o.0 o.1 o.2.apart;
+        count = let long = length_onto o.0 o.1 in let all = j.count ∙ same.count ∙ o.2.count in omega arith;
       }
 
-      pub spliced_ring : RingOk es (Some g) h 0 (m + n)
+      pub spliced_ring : RingOk es h 0 (m + n)
       spliced_ring = let a = o.3 in let b = o.4 in let c = o.5 in let l = length_onto o.0 o.1 in ([], onto o.0 o.1, empty_ring, refl, omega arith, omega arith)
 
-      free_source : (rs : List Ptr) → IsFresh g.ptr rs → AvoidsSource g.ptr rs
+      free_source : (rs : List Ptr) → IsFresh null_ptr rs → AvoidsSource null_ptr rs
       free_source [] f = tt
-      free_source (r ∷ rs) f = avoids_all g.ptr r rs f
+      free_source (r ∷ rs) f = avoids_all null_ptr r rs f
 
-      free_target : (rs : List Ptr) → IsFresh g.ptr rs → AvoidsTarget g.ptr rs
+      free_target : (rs : List Ptr) → IsFresh null_ptr rs → AvoidsTarget null_ptr rs
       free_target [] f = tt
       free_target (r ∷ rs) f = f.1
 
-      free_row : IsFresh g.ptr o.0
-      free_row = all_left (λ q. same_ptr g.ptr q ≡ false) o.0 o.1 (apart_head g.ptr (o.0 ++ o.1) o.2.apart)
-
       row_now : Linked es o.0
-      row_now = row_kept ds es g.ptr g.ptr j o.0 (free_source o.0 free_row) (free_target o.0 free_row) (row_same cs ds same.next same.prev o.0 (linked_tail cs g.ptr o.0 cut.0))
+      row_now = row_kept ds es null_ptr null_ptr j o.0 (free_source o.0 free_row) (free_target o.0 free_row) (row_same cs ds same.next same.prev o.0 (linked_tail cs null_ptr o.0 cut.0))
 
-      pub spliced_row : IsSpan es lg.next.ptr lg.prev.ptr n
+      pub spliced_row : IsSpan es (next_at cs null_ptr) (prev_at cs null_ptr) n
       spliced_row =
-          (o.0, o.3, row_now, ends_of o.0 cut.0 cut.1, all_from (HasContent cs) (HasContent es) (λ q k. let d = has_still q k in (d.0, j.content q ∙ d.1)) o.0 o.2.held, apart_left o.0 o.1 (apart_tail g.ptr (o.0 ++ o.1) o.2.apart))
+          (o.0, o.3, row_now, ends_of o.0 cut.0 cut.1, all_from (HasContent cs) (HasContent es) (λ q k. let d = has_still q k in (d.0, j.content q ∙ d.1)) o.0 o.2.held, apart_left o.0 o.1 (apart_tail null_ptr (o.0 ++ o.1) o.2.apart))
 
       triples_same : (rs : List Ptr) → triples (listed ds rs) ≡ triples (listed cs rs)
       unfolding listed
       triples_same [] = refl
       triples_same (r ∷ rs) = triples_first (content_at ds r) (listed ds rs) ∙ (λ i. one_triple (same.triple r i) ++ triples_same rs i) ∙ sym (triples_first (content_at cs r) (listed cs rs))
 
-      pub spliced_now : span_triples es n lg.next.ptr ≡ triples (ring_list cs (Some g) n)
+      pub spliced_now : span_triples es n (next_at cs null_ptr) ≡ triples (ring_list cs n)
       unfolding spliced_row
       spliced_now =
-          ap (λ qs. triples (listed es qs)) (span_pointers es lg.next.ptr lg.prev.ptr n spliced_row) ∙ ap triples (listed_kept ds es g.ptr g.ptr j o.0) ∙ triples_same o.0
-          ∙ ap triples (sym (ring_listed cs g.ptr o.0 (target spare) o.1 n o.2 o.3))
-
--- if there is no guard, nothing is held
-module _ {B : Type 0} (cs : List (Cell Links B)) where
-  pub none_spliced : (guard : Option NodePointer) (spare : Link) (n m : ℕ) (f b : Ptr) → guard ≡ None → RingOk cs guard spare n m → RingOk cs guard spare 0 (m + n) × IsSpan cs f b n × (span_triples cs n f ≡ triples (ring_list cs guard n))
-  none_spliced None spare n m f b e ok =
-      let none : n ≡ 0 = ok.2 in (
-        (ok.0, ok.1, refl, ap (λ k. m + k) none ∙ omega (arith, ok.3)),
-        subst (IsSpan cs f b) (sym none) ([], refl, tt, tt, tt, apart_none),
-        ap (λ k. span_triples cs k f) none ∙ none_listed cs f,
-      )
-  none_spliced (Some g) spare n m f b e ok = absurd (none_some g (sym e))
+          ap (λ qs. triples (listed es qs)) (span_pointers es (next_at cs null_ptr) (prev_at cs null_ptr) n spliced_row) ∙ ap triples (listed_kept ds es null_ptr null_ptr j o.0) ∙ triples_same o.0
+          ∙ ap triples (sym (ring_listed cs o.0 (target spare) o.1 n o.2 o.3))

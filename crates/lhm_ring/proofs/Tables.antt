@@ -154,6 +154,10 @@ IfNone_then (Some x) h f = tt
 pub length-same_entries : {K V : Type 0} (hs ks : List (Held (K × V))) → entries hs ≡ entries ks → length hs ≡ length ks
 length-same_entries hs ks e = sym (length-entries hs) ∙ ap length e ∙ length-entries ks
 
+-- those with the same triples too
+pub length-same_triples : {B : Type 0} (hs ks : List (Held B)) → triples hs ≡ triples ks → length hs ≡ length ks
+length-same_triples hs ks e = sym (length-map hs (λ t. (t.hash, t.pair))) ∙ ap length e ∙ length-map ks (λ t. (t.hash, t.pair))
+
 -- a table that is seen as m
 module _ {K V : Type 0} (s : State (K × V)) (r : ℕ) {m : TableState (K × V)} (seen : table_of s r ≡ m) where
   pub held_in : (p : Ptr) → IsHeld m.held p → IsHeld s.held p
@@ -167,11 +171,17 @@ module _ {K V : Type 0} (s : State (K × V)) (r : ℕ) {m : TableState (K × V)}
   pub at_held : (p : Ptr) (P : List (Held (K × V)) → Held (K × V) → List (Held (K × V)) → Type 0) → AtHeld s.held p (λ xs t ys. P (entries xs) (linked_to None t) (entries ys)) → AtHeld m.held p P
   at_held p P h = at_entries s.held refl p P h
 
+  pub next_in : (p : Ptr) (o : Option Ptr) → AtHeld s.held p (λ xs t ys. o ≡ first_at ys) → AtHeld m.held p (λ xs t ys. o ≡ first_at ys)
+  next_in p o next = at_held p (λ xs t ys. o ≡ first_at ys) (λ xs t ys e at. next xs t ys e at ∙ sym (first_at-entries ys))
+
   pub apart_in : IsApart (map (λ t. t.at) s.held) → IsApart (map (λ t. t.at) m.held)
   apart_in h = subst IsApart (sym (pointers-entries s.held) ∙ ap (λ (z : TableState (K × V)). map (λ t. t.at) z.held) seen) h
 
   pub length_in : length s.held ≡ length m.held
   length_in = sym (length-entries s.held) ∙ ap (λ (z : TableState (K × V)). length z.held) seen
+
+  pub triples_in : triples s.held ≡ triples m.held
+  triples_in = sym (triples-entries s.held) ∙ ap (λ (z : TableState (K × V)). triples z.held) seen
 
   pub capacity_in : length s.held + s.spares ≡ m.capacity
   capacity_in = ap (λ (z : TableState (K × V)). z.capacity) seen

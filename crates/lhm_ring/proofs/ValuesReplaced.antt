@@ -1,31 +1,21 @@
 -- The values that a ring holds are lent, and the ring is one again with others in their place.
 use Rattle.std.proofs.Common.{◌≡◌, ℕ, suc, zero, Bool, true, false, cond, List, [], ◌∷◌, ◌++◌, map, length, Option, Some, None, refl, sym, ap, ◌∙◌, subst, arith}
-use Rattle.std.specs.Prelude.{◌==◌}
 use Rattle.std.specs.List.{AllByRecursion}
-use denote.RawPtr.{Ptr}
-use Rattle.lhm_ring.specs.declared.block.NodePointer.{NodePointer}
+use denote.RawPtr.{Ptr, null_ptr}
 use Rattle.lhm_ring.specs.declared.links.Links.{Links}
+use Rattle.lhm_ring.specs.declared.links.Ends.{Ends}
 use Rattle.lhm_ring.specs.Cells.{Cell, cell, cell_at, same_ptr, IsApart, pointers, links_of, body_of, links_at, body_at}
 use Rattle.lhm_ring.specs.ValueLoan.{value_at}
-use Rattle.lhm_ring.specs.Rings.{one_of, next_of, prev_of, link_of, guard_of, has_links, link_at, is_there, content_of, content_at, Linked, Chained, HasContent, IsRing, follow, listed, ring_list, ring_pointers, RingOk, is_guard}
+use Rattle.lhm_ring.specs.Rings.{ends_links, ring_cells, one_of, next_of, prev_of, link_of, has_links, link_at, is_there, content_of, content_at, Linked, Chained, HasContent, IsRing, follow, listed, ring_list, ring_pointers, RingOk}
 use Rattle.lhm_ring.specs.RingState.{State, state, Held, held}
 use Rattle.lhm_ring.specs.RingAfterLoan.{pair, revalued}
-use Rattle.lhm_ring.specs.Iterators.{IsBetween, AreLent}
+use Rattle.lhm_ring.specs.Iterators.{AreLent}
 use Rattle.lhm_ring.specs.Targets.{target}
 use Rattle.lhm_ring.specs.declared.link.Link.{Link}
 use Rattle.lhm_ring.proofs.Apart.{IsFresh, same_ptr_eq, same_ptr_refl, apart_none}
 use Rattle.lhm_ring.proofs.Options.{none_some, some_same}
 use Rattle.lhm_ring.proofs.Rows.{all_from, content_pointer, follow_row, apart_left, apart_head, apart_tail, apart_cons}
-use Rattle.lhm_ring.proofs.OneNodeChanged.{content_holds, content_pair, content_guard}
-
-module _ {B : Type 0} where
-  pub whole_ring : (cs : List (Cell Links B)) (guard : Option NodePointer) (spare : Link) (g : NodePointer) (n m : ℕ) → guard ≡ Some g → RingOk cs guard spare n m → IsBetween cs g.ptr g.ptr n
-  whole_ring cs guard spare g n m e ok =
-      let o : RingOk cs (Some g) spare n m = subst (λ z. RingOk cs z spare n m) e ok in
-      (o.0, o.3, o.2.held, apart_left o.0 o.1 (apart_tail g.ptr (o.0 ++ o.1) o.2.apart), λ z. (o.2.linked, o.2.there.0, o.2.there.0))
-
-  pub nothing_held : (cs : List (Cell Links B)) (guard : Option NodePointer) (n m : ℕ) (v : State B) → guard ≡ None → state (ring_list cs guard n) m ≡ v → [] ≡ v.held
-  nothing_held cs guard n m v e w = ap (λ z. ring_list cs z n) (sym e) ∙ ap (λ (s : State B). s.held) w
+use Rattle.lhm_ring.proofs.OneNodeChanged.{content_holds, content_pair}
 
 -- whether p is one of ps
 abbrev pub among : List Ptr → Ptr → Bool
@@ -157,11 +147,7 @@ module _ {K V : Type 0} where
       → one_of (content_of p o (written_body true hs p b)) ++ r ≡ revalued_by hs (one_of (content_of p o b) ++ s)
   one_written hs p None b r s e = e
   one_written hs p (Some l) None r s e = e
-  one_written hs p (Some l) (Some x) r s e =
-      elim (l.guard == 1) as (λ y. one_of (cond y None (Some (held p l.hash (link_of (Some l)) (pair x.0 (value_in hs p x.1))))) ++ r ≡ revalued_by hs (one_of (cond y None (Some (held p l.hash (link_of (Some l)) x))) ++ s)) [
-        | true ↦ e
-        | false ↦ ap (λ us. held p l.hash (link_of (Some l)) (pair x.0 (value_in hs p x.1)) ∷ us) e
-      ]
+  one_written hs p (Some l) (Some x) r s e = ap (λ us. held p l.hash (link_of (Some l)) (pair x.0 (value_in hs p x.1)) ∷ us) e
 
   module _ (keep : Ptr → Bool) (hs : List (Held (K × V))) (cs : List (Cell Links (K × V))) where
     abbrev ds : List (Cell Links (K × V))
@@ -183,20 +169,17 @@ module _ {K V : Type 0} where
     has_same q h =
         let l = some_links q (links_at cs q) (body_at cs q) h.0 h.1 in let y = full_written (keep q) hs q (body_at cs q) (content_holds q (links_at cs q) (body_at cs q) h.0 h.1) in (
           held q l.0.hash (link_of (Some l.0)) y.0,
-          (λ i. content_of q ((same q ∙ l.1) i) ((body_written keep hs cs q ∙ y.1) i))
-              ∙ ap (λ z. cond z None (Some (held q l.0.hash (link_of (Some l.0)) y.0))) (sym (ap guard_of l.1) ∙ content_guard q (links_at cs q) (body_at cs q) h.0 h.1),
+          λ i. content_of q ((same q ∙ l.1) i) ((body_written keep hs cs q ∙ y.1) i),
         )
 
-    ring_same : (g : Ptr) (ps : List Ptr) (spare : Option Ptr) (ss : List Ptr) → IsRing cs g ps spare ss → IsRing ds g ps spare ss
-    ring_same g ps spare ss r = record {
-      linked = row_same (g ∷ (ps ++ g ∷ [])) r.linked;
+    ring_same : (ps : List Ptr) (spare : Option Ptr) (ss : List Ptr) → IsRing cs ps spare ss → IsRing ds ps spare ss
+    ring_same ps spare ss r = record {
+      linked = row_same (null_ptr ∷ (ps ++ null_ptr ∷ [])) r.linked;
       chained = chain_same spare ss r.chained;
       held = all_from (HasContent cs) (HasContent ds) has_same ps r.held;
-      there = all_from (λ q. is_there cs q ≡ true) (λ q. is_there ds q ≡ true) (λ q h. ap has_links (same q) ∙ h) (g ∷ (ps ++ ss)) r.there;
+      there = all_from (λ q. is_there cs q ≡ true) (λ q. is_there ds q ≡ true) (λ q h. ap has_links (same q) ∙ h) (null_ptr ∷ (ps ++ ss)) r.there;
       apart = r.apart;
       count = length_written keep hs cs ∙ r.count;
-      guard = ap guard_of (same g) ∙ r.guard;
-      plain = all_from (λ q. is_guard cs q ≡ false) (λ q. is_guard ds q ≡ false) (λ q h. ap guard_of (same q) ∙ h) ss r.plain;
     }
 
     follow_same : (n : ℕ) (q : Ptr) → follow ds n q ≡ follow cs n q
@@ -214,31 +197,36 @@ module _ {K V : Type 0} where
         ap (λ o. one_of o ++ listed ds ps) (content_is p ∙ ap (λ k. content_of p (links_at cs p) (written_body k hs p (body_at cs p))) a.0)
         ∙ one_written hs p (links_at cs p) (body_at cs p) (listed ds ps) (listed cs ps) (listed_written ps a.1)
 
-    ring_ok_written : (guard : Option NodePointer) (spare : Link) (n m : ℕ) → RingOk cs guard spare n m → RingOk ds guard spare n m
-    ring_ok_written None spare n m ok = (ap (written keep hs) ok.0, ok.1, ok.2, ok.3)
-    ring_ok_written (Some g) spare n m ok = (ok.0, ok.1, ring_same g.ptr ok.0 (target spare) ok.1 ok.2, ok.3, ok.4, ok.5)
+    ring_ok_written : (spare : Link) (n m : ℕ) → RingOk cs spare n m → RingOk ds spare n m
+    ring_ok_written spare n m ok = (ok.0, ok.1, ring_same ok.0 (target spare) ok.1 ok.2, ok.3, ok.4, ok.5)
 
-    ring_list_by : (guard : Option NodePointer) (n : ℕ) → AllByRecursion (λ p. keep p ≡ true) (ring_pointers cs guard n) → ring_list ds guard n ≡ revalued_by hs (ring_list cs guard n)
-    ring_list_by None n a = refl
-    ring_list_by (Some g) n a = ap (listed ds) (follow_same n g.ptr) ∙ listed_written (follow cs n g.ptr) a
+    ring_list_by : (n : ℕ) → AllByRecursion (λ p. keep p ≡ true) (ring_pointers cs n) → ring_list ds n ≡ revalued_by hs (ring_list cs n)
+    ring_list_by n a = ap (listed ds) (follow_same n null_ptr) ∙ listed_written (follow cs n null_ptr) a
+
+  -- the node at null holds no value
+  pub lent-ring_cells : (keep : Ptr → Bool) (e : Ends) (cs : List (Cell Links (K × V))) → lent keep (ring_cells e cs) ≡ lent keep cs
+  lent-ring_cells keep e cs = elim (keep null_ptr) as (λ y. lent_then y null_ptr None (lent keep cs) ≡ lent keep cs) [ true ↦ refl | false ↦ refl ]
+
+  pub written-ring_cells : (keep : Ptr → Bool) (hs : List (Held (K × V))) (e : Ends) (cs : List (Cell Links (K × V))) → written keep hs (ring_cells e cs) ≡ ring_cells e (written keep hs cs)
+  written-ring_cells keep hs e cs = ap (λ o. cell null_ptr (ends_links e) o ∷ written keep hs cs) (sym (body_none (keep null_ptr) hs null_ptr))
 
   -- the values that the ring holds, each with its pointer
-  abbrev pub held_entries : List (Cell Links (K × V)) → Option NodePointer → ℕ → List (Ptr × (K × V))
-  held_entries cs guard n = lent (among (ring_pointers cs guard n)) cs
+  abbrev pub held_entries : Ends → List (Cell Links (K × V)) → ℕ → List (Ptr × (K × V))
+  held_entries e cs n = lent (among (ring_pointers (ring_cells e cs) n)) cs
 
   -- the nodes, where the ring holds the values that hs has at their pointers
-  abbrev pub held_written : List (Cell Links (K × V)) → Option NodePointer → ℕ → List (Held (K × V)) → List (Cell Links (K × V))
-  held_written cs guard n hs = written (among (ring_pointers cs guard n)) hs cs
+  abbrev pub held_written : Ends → List (Cell Links (K × V)) → ℕ → List (Held (K × V)) → List (Cell Links (K × V))
+  held_written e cs n hs = written (among (ring_pointers (ring_cells e cs) n)) hs cs
 
-  module _ (cs : List (Cell Links (K × V))) (guard : Option NodePointer) (spare : Link) (n m : ℕ) (hs : List (Held (K × V))) where
+  module _ (e : Ends) (cs : List (Cell Links (K × V))) (spare : Link) (n m : ℕ) (hs : List (Held (K × V))) where
     abbrev keeps : Ptr → Bool
-    keeps = among (ring_pointers cs guard n)
+    keeps = among (ring_pointers (ring_cells e cs) n)
 
-    pub still_ring : RingOk cs guard spare n m → RingOk (held_written cs guard n hs) guard spare n m
-    still_ring = ring_ok_written keeps hs cs guard spare n m
+    pub still_ring : RingOk (ring_cells e cs) spare n m → RingOk (ring_cells e (held_written e cs n hs)) spare n m
+    still_ring ok = subst (λ zs. RingOk zs spare n m) (written-ring_cells keeps hs e cs) (ring_ok_written keeps hs (ring_cells e cs) spare n m ok)
 
-    pub list_written : ring_list (held_written cs guard n hs) guard n ≡ revalued_by hs (ring_list cs guard n)
-    list_written = ring_list_by keeps hs cs guard n (among_all (ring_pointers cs guard n))
+    pub list_written : ring_list (ring_cells e (held_written e cs n hs)) n ≡ revalued_by hs (ring_list (ring_cells e cs) n)
+    list_written = ap (λ zs. ring_list zs n) (sym (written-ring_cells keeps hs e cs)) ∙ ring_list_by keeps hs (ring_cells e cs) n (among_all (ring_pointers (ring_cells e cs) n))
 
 -- the values of what is held are all lent at first
 module _ {K V : Type 0} where
@@ -284,20 +272,22 @@ module _ {K V : Type 0} where
   pointers_listed cs [] a = refl
   pointers_listed cs (p ∷ ps) a = ap (λ o. map (λ (t : Held (K × V)). t.at) (one_of o ++ listed cs ps)) a.0.1 ∙ (λ i. content_pointer p (links_at cs p) (body_at cs p) a.0.0 a.0.1 i ∷ pointers_listed cs ps a.1 i)
 
-  pub all_lent : (cs : List (Cell Links (K × V))) (guard : Option NodePointer) (spare : Link) (n m : ℕ) → RingOk cs guard spare n m → AreLent (run_of (held_entries cs guard n)) (ring_list cs guard n)
-  all_lent cs None spare n m ok = (tt, apart_none)
-  all_lent cs (Some g) spare n m ok =
-      let is : ok.0 ≡ follow cs n g.ptr = sym (ap (λ k. follow cs k g.ptr) (sym ok.3) ∙ follow_row cs g.ptr ok.0 g.ptr ok.2.linked) in
-      let has : AllByRecursion (HasContent cs) (follow cs n g.ptr) = subst (AllByRecursion (HasContent cs)) is ok.2.held in (
-        each_lent (among (follow cs n g.ptr)) cs (follow cs n g.ptr) has (among_all (follow cs n g.ptr)),
-        subst IsApart (sym (pointers_listed cs (follow cs n g.ptr) has)) (subst IsApart is (apart_left ok.0 ok.1 (apart_tail g.ptr (ok.0 ++ ok.1) ok.2.apart))),
+  ring_lent : (cs : List (Cell Links (K × V))) (spare : Link) (n m : ℕ) → RingOk cs spare n m → AreLent (run_of (lent (among (ring_pointers cs n)) cs)) (ring_list cs n)
+  ring_lent cs spare n m ok =
+      let is : ok.0 ≡ follow cs n null_ptr = sym (ap (λ k. follow cs k null_ptr) (sym ok.3) ∙ follow_row cs null_ptr ok.0 null_ptr ok.2.linked) in
+      let has : AllByRecursion (HasContent cs) (follow cs n null_ptr) = subst (AllByRecursion (HasContent cs)) is ok.2.held in (
+        each_lent (among (follow cs n null_ptr)) cs (follow cs n null_ptr) has (among_all (follow cs n null_ptr)),
+        subst IsApart (sym (pointers_listed cs (follow cs n null_ptr) has)) (subst IsApart is (apart_left ok.0 ok.1 (apart_tail null_ptr (ok.0 ++ ok.1) ok.2.apart))),
       )
 
-  pub held_pointers : (cs : List (Cell Links (K × V))) (guard : Option NodePointer) (spare : Link) (n m : ℕ) → RingOk cs guard spare n m → map (λ (t : Held (K × V)). t.at) (ring_list cs guard n) ≡ ring_pointers cs guard n
-  held_pointers cs None spare n m ok = refl
-  held_pointers cs (Some g) spare n m ok =
-      let is : ok.0 ≡ follow cs n g.ptr = sym (ap (λ k. follow cs k g.ptr) (sym ok.3) ∙ follow_row cs g.ptr ok.0 g.ptr ok.2.linked) in
-      pointers_listed cs (follow cs n g.ptr) (subst (AllByRecursion (HasContent cs)) is ok.2.held)
+  pub all_lent : (e : Ends) (cs : List (Cell Links (K × V))) (spare : Link) (n m : ℕ) → RingOk (ring_cells e cs) spare n m → AreLent (run_of (held_entries e cs n)) (ring_list (ring_cells e cs) n)
+  all_lent e cs spare n m ok =
+      subst (λ r. AreLent (run_of r) (ring_list (ring_cells e cs) n)) (lent-ring_cells (among (ring_pointers (ring_cells e cs) n)) e cs) (ring_lent (ring_cells e cs) spare n m ok)
 
-  pub ring_apart : (cs : List (Cell Links (K × V))) (guard : Option NodePointer) (spare : Link) (n m : ℕ) (v : State (K × V)) → RingOk cs guard spare n m → state (ring_list cs guard n) m ≡ v → IsApart (map (λ (t : Held (K × V)). t.at) v.held)
-  ring_apart cs guard spare n m v ok w = subst (λ (s : State (K × V)). IsApart (map (λ t. t.at) s.held)) w (all_lent cs guard spare n m ok).1
+  pub held_pointers : (cs : List (Cell Links (K × V))) (spare : Link) (n m : ℕ) → RingOk cs spare n m → map (λ (t : Held (K × V)). t.at) (ring_list cs n) ≡ ring_pointers cs n
+  held_pointers cs spare n m ok =
+      let is : ok.0 ≡ follow cs n null_ptr = sym (ap (λ k. follow cs k null_ptr) (sym ok.3) ∙ follow_row cs null_ptr ok.0 null_ptr ok.2.linked) in
+      pointers_listed cs (follow cs n null_ptr) (subst (AllByRecursion (HasContent cs)) is ok.2.held)
+
+  pub ring_apart : (cs : List (Cell Links (K × V))) (spare : Link) (n m : ℕ) (v : State (K × V)) → RingOk cs spare n m → state (ring_list cs n) m ≡ v → IsApart (map (λ (t : Held (K × V)). t.at) v.held)
+  ring_apart cs spare n m v ok w = subst (λ (s : State (K × V)). IsApart (map (λ t. t.at) s.held)) w (ring_lent cs spare n m ok).1

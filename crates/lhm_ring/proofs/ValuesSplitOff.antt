@@ -36,14 +36,15 @@ use denote.Struct.Owning as owning
 use denote.Struct.Struct.{Shape, Struct, within}
 use denote.Struct.Values.{intos}
 use Rattle.std.specs.contracts.marker.PhantomData as marker
+use Rattle.lhm_ring.specs.Chunks.{places}
 use Rattle.lhm_ring.specs.Cells.{Cell, cell, IsApart, AreBlocks}
 use Rattle.lhm_ring.specs.ValueLoan.{Spread, spread}
-use Rattle.lhm_ring.specs.Ownership.{links_of, key_of, value_of, body_owns, deed_owns, chunk_token, cells_own, cell_lent, cells_lent}
+use Rattle.lhm_ring.specs.Ownership.{links_of, key_of, value_of, body_owns, deed_owns, land_owns, cells_own, cell_lent, cells_lent}
 use Rattle.lhm_ring.specs.RingState.{State, Held, state}
 use Rattle.std.specs.List.{AllByRecursion}
 use Rattle.lhm_ring.specs.RingAfterLoan.{held_values, set_held_values}
 use Rattle.lhm_ring.specs.Iterators.{AreLent}
-use Rattle.lhm_ring.specs.Rings.{ring_pointers}
+use Rattle.lhm_ring.specs.Rings.{ring_cells, ring_pointers}
 use Rattle.lhm_ring.specs.contracts.links.Links as links
 use Rattle.lhm_ring.specs.contracts.value_loan.Hole as H-type
 use Rattle.lhm_ring.specs.contracts.value_loan.ValueLoan as L-type
@@ -73,11 +74,12 @@ module _ (R S W : RattleType) where
   body_frame true p (Some x) = lies_at S full_share (key_of R S W p) x.0
 
   abbrev pub frame : (Ptr → Bool) → Node → Fml
-  frame keep c = fsep (lies_at R full_share (links_of R S W c.at) c.links) (fsep (body_frame (keep c.at) c.at c.body) (deed_owns R S W chunk_token c.at))
+  frame keep c = fsep (lies_at R full_share (links_of R S W c.at) c.links) (fsep (body_frame (keep c.at) c.at c.body) (deed_owns R S W c.at))
 
-  abbrev pub frames : (Ptr → Bool) → List Node → Fml
-  frames keep [] = ftrue
-  frames keep (c ∷ cs) = fsep (frame keep c) (frames keep cs)
+  -- the nodes without the values that are lent, and `others` beside them
+  abbrev pub frames : Fml → (Ptr → Bool) → List Node → Fml
+  frames others keep [] = others
+  frames others keep (c ∷ cs) = fsep (frame keep c) (frames others keep cs)
 
   abbrev pub key_lent : Ptr → Option (S.Denot × W.Denot) → Lft → Fml
   key_lent p None = nothing
@@ -90,7 +92,7 @@ module _ (R S W : RattleType) where
   abbrev pub Hr : RattleType
   Hr = H-type.the_row W
 
-module _ (R S W : RattleType) {M : Type 1} {𝓤 : Ura M} (𝓛 : Logic 𝓤) where
+module _ (R S W : RattleType) {M : Type 1} {𝓤 : Ura M} (𝓛 : Logic 𝓤) (Z : Fml) where
   abbrev Entries : Type 0
   Entries = List (Ptr × (S.Denot × W.Denot))
 
@@ -98,17 +100,17 @@ module _ (R S W : RattleType) {M : Type 1} {𝓤 : Ura M} (𝓛 : Logic 𝓤) wh
   Spr r ws = spread W (at_pointers R S W r) ws
 
   abbrev Cells : List (Node R S W) → Fml
-  Cells = cells_own R S W
+  Cells = cells_own R S W Z
 
   cut_body : (k : Bool) (p : Ptr) (b : Option (S.Denot × W.Denot)) (r : Entries) → ent 𝓤 (sep 𝓤 (sem 𝓛 (body_owns R S W p b)) (sem 𝓛 (Spr r (vals R S W r)))) (sep 𝓤 (sem 𝓛 (Spr (lent_then k p b r) (vals R S W (lent_then k p b r)))) (sem 𝓛 (body_frame R S W k p b)))
   cut_body false p b r = qed 𝓛 (‵ (body_owns R S W p b) ∷ ‵ (Spr r (vals R S W r)) ∷ []) ∵ move ! (1 ∷ []) $ done !
   cut_body true p None r = qed 𝓛 (‵ (body_owns R S W p None) ∷ ‵ (Spr r (vals R S W r)) ∷ []) ∵ move ! (1 ∷ []) $ done !
   cut_body true p (Some x) r = qed 𝓛 (‵ (body_owns R S W p (Some x)) ∷ ‵ (Spr r (vals R S W r)) ∷ []) ∵ fsplit ! $ move ! (1 ∷ 2 ∷ []) $ fjoin ! $ done !
 
-  pub nodes_cut : (keep : Ptr → Bool) (cs : List (Node R S W)) → ent 𝓤 (sem 𝓛 (Cells cs)) (sep 𝓤 (sem 𝓛 (Spr (lent keep cs) (vals R S W (lent keep cs)))) (sem 𝓛 (frames R S W keep cs)))
-  nodes_cut keep [] = qed 𝓛 (‵ ftrue ∷ []) ∵ empty ! $ done !
+  pub nodes_cut : (keep : Ptr → Bool) (cs : List (Node R S W)) → ent 𝓤 (sem 𝓛 (Cells cs)) (sep 𝓤 (sem 𝓛 (Spr (lent keep cs) (vals R S W (lent keep cs)))) (sem 𝓛 (frames R S W Z keep cs)))
+  nodes_cut keep [] = qed 𝓛 (‵ Z ∷ []) ∵ empty ! $ done !
   nodes_cut keep (c ∷ cs) = let r = lent keep cs in let k = keep c.at in qed 𝓛 (‵ (Cells (c ∷ cs)) ∷ []) ∵ fsplit ! $ fsplit3 ! $ move ! (3 ∷ []) $
-      use1 𝓛 (‵ (Spr r (vals R S W r)) ⊛ ‵ (frames R S W keep cs)) (nodes_cut keep cs) $ split ! $ move ! (3 ∷ 0 ∷ []) $
+      use1 𝓛 (‵ (Spr r (vals R S W r)) ⊛ ‵ (frames R S W Z keep cs)) (nodes_cut keep cs) $ split ! $ move ! (3 ∷ 0 ∷ []) $
       use2 𝓛 (‵ (Spr (lent_then k c.at c.body r) (vals R S W (lent_then k c.at c.body r))) ⊛ ‵ (body_frame R S W k c.at c.body)) (cut_body k c.at c.body r) $ split ! $
       -- [the values; the body's frame; the other frames; the links; the deed]
       move ! (1 ∷ 4 ∷ []) $ fjoin ! $ move ! (3 ∷ 0 ∷ []) $ fjoin ! $ move ! (0 ∷ 2 ∷ []) $ fjoin ! $ move ! (1 ∷ 0 ∷ []) $ done !
@@ -119,9 +121,9 @@ module _ (R S W : RattleType) {M : Type 1} {𝓤 : Ura M} (𝓛 : Logic 𝓤) wh
     mend_body true p None r = id⊢ 𝓤 _
     mend_body true p (Some x) r = qed 𝓛 (‵ (Spr ((p, x) ∷ r) (taken hs ((p, x) ∷ r))) ∷ ‵ (body_frame R S W true p (Some x)) ∷ []) ∵ fsplit ! $ move ! (2 ∷ 0 ∷ []) $ fjoin ! $ move ! (1 ∷ 0 ∷ []) $ done !
 
-    pub nodes_mend : (cs : List (Node R S W)) → ent 𝓤 (sep 𝓤 (sem 𝓛 (Spr (lent keep cs) (taken hs (lent keep cs)))) (sem 𝓛 (frames R S W keep cs))) (sem 𝓛 (Cells (written keep hs cs)))
-    nodes_mend [] = qed 𝓛 (‵ ftrue ∷ ‵ ftrue ∷ []) ∵ drop ! $ done !
-    nodes_mend (c ∷ cs) = let r = lent keep cs in let k = keep c.at in qed 𝓛 (‵ (Spr (lent_then k c.at c.body r) (taken hs (lent_then k c.at c.body r))) ∷ ‵ (frames R S W keep (c ∷ cs)) ∷ []) ∵
+    pub nodes_mend : (cs : List (Node R S W)) → ent 𝓤 (sep 𝓤 (sem 𝓛 (Spr (lent keep cs) (taken hs (lent keep cs)))) (sem 𝓛 (frames R S W Z keep cs))) (sem 𝓛 (Cells (written keep hs cs)))
+    nodes_mend [] = qed 𝓛 (‵ ftrue ∷ ‵ Z ∷ []) ∵ drop ! $ done !
+    nodes_mend (c ∷ cs) = let r = lent keep cs in let k = keep c.at in qed 𝓛 (‵ (Spr (lent_then k c.at c.body r) (taken hs (lent_then k c.at c.body r))) ∷ ‵ (frames R S W Z keep (c ∷ cs)) ∷ []) ∵
         move ! (1 ∷ []) $ fsplit ! $ fsplit3 ! $
         -- [the links; the body's frame; the deed; the other frames; the values]
         move ! (4 ∷ 1 ∷ []) $ use2 𝓛 (‵ (Spr r (taken hs r)) ⊛ ‵ (body_owns R S W c.at (written_body k hs c.at c.body))) (mend_body k c.at c.body r) $ split ! $
@@ -149,29 +151,29 @@ module _ (R S W : RattleType) {M : Type 1} {𝓤 : Ura M} (𝓛 : Logic 𝓤) wh
     Lends-body true p None = Lends-nothing 𝓛 (body_owns R S W p None) l
     Lends-body true p (Some x) = Lends-key p x.0
 
-    Lends-frames : (keep : Ptr → Bool) (cs : List (Node R S W)) → Lends 𝓛 (frames R S W keep cs) (frames_lent R S W cs) l
-    Lends-frames keep [] = Lends-nothing 𝓛 ftrue l
-    Lends-frames keep (c ∷ cs) = Lends-both 𝓛 (frame R S W keep c) (frames R S W keep cs) (beside (lent_at R (links_of R S W c.at) c.links) (key_lent R S W c.at c.body)) (frames_lent R S W cs) l
-        (Lends-both 𝓛 (lies_at R full_share (links_of R S W c.at) c.links) (fsep (body_frame R S W (keep c.at) c.at c.body) (deed_owns R S W chunk_token c.at)) (lent_at R (links_of R S W c.at) c.links) (key_lent R S W c.at c.body) l
+    Lends-frames : (keep : Ptr → Bool) (cs : List (Node R S W)) → Lends 𝓛 (frames R S W Z keep cs) (frames_lent R S W cs) l
+    Lends-frames keep [] = Lends-nothing 𝓛 Z l
+    Lends-frames keep (c ∷ cs) = Lends-both 𝓛 (frame R S W keep c) (frames R S W Z keep cs) (beside (lent_at R (links_of R S W c.at) c.links) (key_lent R S W c.at c.body)) (frames_lent R S W cs) l
+        (Lends-both 𝓛 (lies_at R full_share (links_of R S W c.at) c.links) (fsep (body_frame R S W (keep c.at) c.at c.body) (deed_owns R S W c.at)) (lent_at R (links_of R S W c.at) c.links) (key_lent R S W c.at c.body) l
         (Lends-lies 𝓛 R l (links_of R S W c.at) c.links (Shares-less 𝓛 R R.lives l incR (LR.shares 𝓛) c.links))
-        (Lends-first 𝓛 (body_frame R S W (keep c.at) c.at c.body) (deed_owns R S W chunk_token c.at) (key_lent R S W c.at c.body) l (Lends-body (keep c.at) c.at c.body)))
+        (Lends-first 𝓛 (body_frame R S W (keep c.at) c.at c.body) (deed_owns R S W c.at) (key_lent R S W c.at c.body) l (Lends-body (keep c.at) c.at c.body)))
         (Lends-frames keep cs)
 
-    pub Lends-nodes : (keep : Ptr → Bool) (cs : List (Node R S W)) → Lends 𝓛 (frames R S W keep cs) (cells_lent R S (Hr R S W) cs) l
-    Lends-nodes keep cs κ ts inc sp = qed 𝓛 (‵ (base.Fml.fbor κ (frames R S W keep cs)) ∷ raw (lfts 𝓛 ts) ∷ []) {P = 𝓛.H.⇛ (sep 𝓤 (sem 𝓛 (cells_lent R S (Hr R S W) cs κ)) (lfts 𝓛 ts))} (
+    pub Lends-nodes : (keep : Ptr → Bool) (cs : List (Node R S W)) → Lends 𝓛 (frames R S W Z keep cs) (cells_lent R S (Hr R S W) cs) l
+    Lends-nodes keep cs κ ts inc sp = qed 𝓛 (‵ (base.Fml.fbor κ (frames R S W Z keep cs)) ∷ raw (lfts 𝓛 ts) ∷ []) {P = 𝓛.H.⇛ (sep 𝓤 (sem 𝓛 (cells_lent R S (Hr R S W) cs κ)) (lfts 𝓛 ts))} (
         updating ! $ use2 𝓛 (later (‵ (frames_lent R S W cs κ) ⊛ raw (lfts 𝓛 ts))) (Lends-frames keep cs κ ts inc sp) $ await ! tt $ split ! $
         use1 𝓛 (‵ (cells_lent R S (Hr R S W) cs κ)) (nodes_seen κ cs) $ now ! $ done !)
 
 -- the nodes without the values that are lent, as a type that is shared as nodes of holes are
 module _ (R S W : RattleType) (keep : Ptr → Bool) where
   abbrev pub Thin : owning.Owning
-  Thin = owning.lending (C.struct R S (Hr R S W)) (C.the_codes R.Denot S.Denot W.Denot R.coded S.coded W.coded (marker.the_row RawPtr).coded) (λ n. frames R S W keep n.cells) (C.the_lent R S (Hr R S W))
+  Thin = owning.lending (C.struct R S (Hr R S W)) (C.the_codes R.Denot S.Denot W.Denot R.coded S.coded W.coded (marker.the_row RawPtr).coded) (λ n. frames R S W (land_owns R S W n.node_bytes n.unused n.chunks) keep n.cells) (C.the_lent R S (Hr R S W))
 
   pub thin_shared : (LR : Laws R) (LS : Laws S) (LH : Laws (Hr R S W)) → Sharable (owning.field Thin)
   thin_shared LR LS LH = let T = R.lives ++ (S.lives ++ ((Hr R S W).lives ++ [])) in
-      lending_shared Thin (of_Lends (C.struct R S (Hr R S W)) (C.the_codes R.Denot S.Denot W.Denot R.coded S.coded W.coded (marker.the_row RawPtr).coded) (λ n. frames R S W keep n.cells) (C.the_lent R S (Hr R S W))
+      lending_shared Thin (of_Lends (C.struct R S (Hr R S W)) (C.the_codes R.Denot S.Denot W.Denot R.coded S.coded W.coded (marker.the_row RawPtr).coded) (λ n. frames R S W (land_owns R S W n.node_bytes n.unused n.chunks) keep n.cells) (C.the_lent R S (Hr R S W))
       (λ d p. cells_lent_laws R S (Hr R S W) LR.shr_laws LS.shr_laws LH.shr_laws d.cells) (copy_shared (marker.the_field RawPtr) (field_copy (marker.the_type RawPtr) tt), tt)
-      (λ M 𝓤 𝓛 d p. Lends-nodes R S W 𝓛 LR LS (owning.row Thin).lives (Incl-trans (meet_⊑_left T _) (meet_⊑_left R.lives (S.lives ++ ((Hr R S W).lives ++ []))))
+      (λ M 𝓤 𝓛 d p. Lends-nodes R S W 𝓛 (land_owns R S W d.node_bytes d.unused d.chunks) LR LS (owning.row Thin).lives (Incl-trans (meet_⊑_left T _) (meet_⊑_left R.lives (S.lives ++ ((Hr R S W).lives ++ []))))
       (Incl-trans (meet_⊑_left T _) (Incl-trans (meet_⊑_right R.lives (S.lives ++ ((Hr R S W).lives ++ []))) (meet_⊑_left S.lives ((Hr R S W).lives ++ [])))) keep d.cells))
 
 abbrev behind : List Field → List Field
@@ -214,21 +216,21 @@ module _ (S W : RattleType) where
       unfolding part_of
       ring_cut = qed 𝓛 (‵ (part_at Full full_share a b o) ∷ []) ∵ fpick ! (λ vs. fsplit ! $ move ! (1 ∷ []) $ fpick ! (λ vss. fsplit ! $ move ! (1 ∷ []) $ fsplit ! $ fsplit ! $
           -- [the marker; the nodes; the other fields; the value; the cell]
-          move ! (1 ∷ []) $ use1 𝓛 (‵ (spread W (at_pointers R S W passed) (vals R S W passed)) ⊛ ‵ (frames R S W keep a.nodes.cells)) (nodes_cut R S W 𝓛 keep a.nodes.cells) $ split ! $
+          move ! (1 ∷ []) $ use1 𝓛 (‵ (spread W (at_pointers R S W passed) (vals R S W passed)) ⊛ ‵ (frames R S W (land_owns R S W a.nodes.node_bytes a.nodes.unused a.nodes.chunks) keep a.nodes.cells)) (nodes_cut R S W 𝓛 (land_owns R S W a.nodes.node_bytes a.nodes.unused a.nodes.chunks) keep a.nodes.cells) $ split ! $
           move ! (2 ∷ 1 ∷ []) $ fjoin ! $ move ! (0 ∷ 2 ∷ []) $ fjoin ! $ move ! (2 ∷ 0 ∷ []) $ fjoin ! $
           fpack ! (Valss (rows parts)) (within thin_shape (thinned a) vs) vss $ move ! (2 ∷ 0 ∷ []) $ fjoin ! $
           fpack ! (List Val) (λ us. fsep (cell_raw full_share (raw_all Thinned.mir) us b o) (Thinned.own_val (thinned a) us)) vs $ move ! (1 ∷ []) $ done !))
 
       module _ (hs : List (Held (S.Denot × W.Denot))) where
         abbrev pub mended : Inside
-        mended = record a { nodes = record { marker = a.nodes.marker; cells = written keep hs a.nodes.cells; apart = subst IsApart (sym (pointers_written keep hs a.nodes.cells)) a.nodes.apart; blocks = subst AreBlocks (sym (pointers_written keep hs a.nodes.cells)) a.nodes.blocks } }
+        mended = record a { nodes = record { marker = a.nodes.marker; cells = written keep hs a.nodes.cells; apart = subst IsApart (sym (pointers_written keep hs a.nodes.cells)) a.nodes.apart; blocks = subst AreBlocks (sym (pointers_written keep hs a.nodes.cells)) a.nodes.blocks; node_bytes = a.nodes.node_bytes; unused = a.nodes.unused; chunks = a.nodes.chunks; unused_blocks = a.nodes.unused_blocks; laid = subst (λ (ps : List Ptr). a.nodes.unused ++ ps ≡ places a.nodes.node_bytes a.nodes.chunks) (sym (pointers_written keep hs a.nodes.cells)) a.nodes.laid } }
 
         pub ring_mend : ent 𝓤 (sep 𝓤 (sem 𝓛 (spread W (at_pointers R S W passed) (taken hs passed))) (sem 𝓛 (part_at Thinned full_share (thinned a) b o))) (sem 𝓛 (part_at Full full_share mended b o))
         unfolding part_of
         ring_mend = qed 𝓛 (‵ (spread W (at_pointers R S W passed) (taken hs passed)) ∷ ‵ (part_at Thinned full_share (thinned a) b o) ∷ []) ∵
             move ! (1 ∷ []) $ fpick ! (λ vs. fsplit ! $ move ! (1 ∷ []) $ fpick ! (λ vss. fsplit ! $ move ! (1 ∷ []) $ fsplit ! $ fsplit ! $
             -- [the marker; the frames; the other fields; the value; the cell; the values]
-            move ! (5 ∷ 1 ∷ []) $ use2 𝓛 (‵ (cells_own R S W (written keep hs a.nodes.cells))) (nodes_mend R S W 𝓛 keep hs a.nodes.cells) $
+            move ! (5 ∷ 1 ∷ []) $ use2 𝓛 (‵ (cells_own R S W (land_owns R S W a.nodes.node_bytes a.nodes.unused a.nodes.chunks) (written keep hs a.nodes.cells))) (nodes_mend R S W 𝓛 (land_owns R S W a.nodes.node_bytes a.nodes.unused a.nodes.chunks) keep hs a.nodes.cells) $
             move ! (1 ∷ 0 ∷ []) $ fjoin ! $ fjoin ! $ move ! (1 ∷ 0 ∷ []) $ fjoin ! $
             fpack ! (Valss (rows (I-type.struct S W).parts)) (within (declared.shape (I-type.the_type S W)) (values_of mended) vs) vss $ move ! (1 ∷ 0 ∷ []) $ fjoin ! $
             fpack ! (List Val) (λ us. fsep (cell_raw full_share (raw_all Full.mir) us b o) (Full.own_val mended us)) vs $ done !))
@@ -239,10 +241,10 @@ module _ (S W : RattleType) where
   Lr = R-type.the_row S W
 
   abbrev pub kept_by : Inside S W → Ptr → Bool
-  kept_by a = among (ring_pointers a.nodes.cells a.guard a.len)
+  kept_by a = among (ring_pointers (ring_cells a.ends a.nodes.cells) a.len)
 
   abbrev pub entries : Inside S W → List (Ptr × (S.Denot × W.Denot))
-  entries a = held_entries a.nodes.cells a.guard a.len
+  entries a = held_entries a.ends a.nodes.cells a.len
 
   abbrev pub Vals : Inside S W → SemTy
   Vals a = Spread W (at_pointers links.the_row S W (entries a))
@@ -268,7 +270,7 @@ module _ (S W : RattleType) where
     Lent ws = spread W (at_pointers links.the_row S W (entries a)) ws
 
     viewed : (ks : List (Held (S.Denot × W.Denot))) → view (mended S W (kept_by a) 𝓛 a b o ks) ≡ record d { held = revalued_by ks d.held }
-    viewed ks i = state ((list_written a.nodes.cells a.guard a.spare a.len a.spares ks ∙ ap (λ (s : State (S.Denot × W.Denot)). revalued_by ks s.held) seen) i) (seen i).spares
+    viewed ks i = state ((list_written a.ends a.nodes.cells a.spare a.len a.spares ks ∙ ap (λ (s : State (S.Denot × W.Denot)). revalued_by ks s.held) seen) i) (seen i).spares
 
     -- the values that ks has at their pointers come back
     back_by : (ks : List (Held (S.Denot × W.Denot))) → ent 𝓤 (sep 𝓤 (sem 𝓛 (Lent (taken ks (entries a)))) (sep 𝓤 (sem 𝓛 (fseps (Fields ∷ []))) (emp 𝓤))) (sem 𝓛 ((mem Lr).own_at (record d { held = revalued_by ks d.held }) b o))
@@ -278,17 +280,17 @@ module _ (S W : RattleType) where
         use2 𝓛 (‵ (part_at (Full S W) full_share a' b o)) (ring_mend S W (kept_by a) 𝓛 a b o ks) $ keep ! (0 ∷ []) $
         by ! (Plain-in Lr (Full S W) (view_owns (Full S W) (State (S.Denot × W.Denot)) Lr.coded view good) 𝓛 full_share s a'
         (view_made (Full S W) (State (S.Denot × W.Denot)) Lr.coded view good 𝓛 s a'
-        (viewed ks, still_ring a.nodes.cells a.guard a.spare a.len a.spares ks ok)) b o)
+        (viewed ks, (still_ring a.ends a.nodes.cells a.spare a.len a.spares ks ok.0, ok.1))) b o)
 
     pub lent_of : AreLent (run_of (entries a)) d.held
-    lent_of = subst (λ (s : State (S.Denot × W.Denot)). AreLent (run_of (entries a)) s.held) seen (all_lent a.nodes.cells a.guard a.spare a.len a.spares ok)
+    lent_of = subst (λ (s : State (S.Denot × W.Denot)). AreLent (run_of (entries a)) s.held) seen (all_lent a.ends a.nodes.cells a.spare a.len a.spares ok.0)
 
     own : AllByRecursion (HasOwnValue d.held) (entries a)
     own = own_values d.held (entries a) lent_of.0 (apart_lent (kept_by a) a.nodes.cells a.nodes.apart)
 
     in_ring : AllByRecursion (λ c. among (pointers_of d.held) c.0 ≡ true) (entries a)
     in_ring = subst (λ ps. AllByRecursion (λ c. among ps c.0 ≡ true) (entries a))
-        (sym (held_pointers a.nodes.cells a.guard a.spare a.len a.spares ok) ∙ ap (λ (s : State (S.Denot × W.Denot)). pointers_of s.held) seen) (all_kept (kept_by a) a.nodes.cells)
+        (sym (held_pointers (ring_cells a.ends a.nodes.cells) a.spare a.len a.spares ok.0) ∙ ap (λ (s : State (S.Denot × W.Denot)). pointers_of s.held) seen) (all_kept (kept_by a) a.nodes.cells)
 
     -- the values vs, in the order of the ring, at the pointers of the entries
     abbrev pub placed : List W.Denot → List W.Denot

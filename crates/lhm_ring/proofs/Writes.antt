@@ -1,11 +1,10 @@
 -- What a write of links changes, and what it leaves.
 use Rattle.std.proofs.Common.{◌≡◌, suc, Bool, true, false, cond, List, [], ◌∷◌, length, Option, Some, None, refl, sym, ap, ◌∙◌, subst}
-use Rattle.std.specs.Prelude.{◌==◌}
 use denote.RawPtr.{Ptr}
-use Rattle.lhm_ring.specs.declared.block.NodePointer.{NodePointer}
+use Rattle.lhm_ring.specs.declared.link.Link.{Link}
 use Rattle.lhm_ring.specs.declared.links.Links.{Links}
 use Rattle.lhm_ring.specs.Cells.{Cell, cell, same_ptr, cell_at, links_of, body_of, links_at, body_at, IsAt, change, with_links}
-use Rattle.lhm_ring.specs.Rings.{next_of, prev_of, link_of, guard_of, has_links, is_there, content_of, content_at, IsJoined}
+use Rattle.lhm_ring.specs.Rings.{leading_on, leading_back, LeadsOn, LeadsBack, next_of, prev_of, link_of, has_links, is_there, content_of, content_at, IsJoined}
 use Rattle.lhm_ring.specs.RingState.{Held}
 use Rattle.lhm_ring.proofs.Apart.{same_ptr_eq}
 use Rattle.lhm_ring.proofs.Options.{none_some, some_same}
@@ -20,15 +19,11 @@ cond_same false u v h = refl
 
 -- two links that show the same of what a node holds
 abbrev pub ShowsSame : Links → Links → Type 0
-ShowsSame l la = (l.hash ≡ la.hash) × (l.guard ≡ la.guard) × (link_of (Some l) ≡ link_of (Some la))
+ShowsSame l la = (l.hash ≡ la.hash) × (link_of (Some l) ≡ link_of (Some la))
 
 pub shown_same : {B : Type 0} (q : Ptr) (l la : Links) → ShowsSame l la → (b : Option B) → content_of q (Some l) b ≡ content_of q (Some la) b
 shown_same q l la h None = refl
-shown_same q l la h (Some x) = λ i. cond (h.1 i == 1) None (Some (record { at = q; hash = h.0 i; link = h.2 i; pair = x }))
-
-true_false : {X : Type 0} (y : Bool) → y ≡ true → y ≡ false → X
-true_false true e f = absurd cc
-true_false false e f = absurd cc
+shown_same q l la h (Some x) = λ i. Some (record { at = q; hash = h.0 i; link = h.1 i; pair = x })
 
 module _ {L B : Type 0} (p : Ptr) (f : Cell L B → Cell L B) (same : (c : Cell L B) → (f c).at ≡ c.at) where
   pub at_changed : (cs : List (Cell L B)) (c : Cell L B) → cell_at cs p ≡ Some c → cell_at (change p f cs) p ≡ Some (f c)
@@ -106,23 +101,30 @@ module _ {B : Type 0} where
   pub is_at : (cs : List (Cell Links B)) (p : Ptr) → is_there cs p ≡ true → IsAt cs p
   is_at cs p e = there_is (links_at cs p) e
 
-  pub is_still_at : (cs ds : List (Cell Links B)) (p : Ptr) (l la : Links) (q : Ptr) → links_at cs p ≡ Some la → ds ≡ with_links p l cs → is_there cs q ≡ true → IsAt ds q
-  is_still_at cs ds p l la q e d t = is_at ds q (ap (λ es. is_there es q) d ∙ read_kept p l has_links cs la e refl q ∙ t)
+  still_there : (cs ds : List (Cell Links B)) (p : Ptr) (l la : Links) (q : Ptr) → links_at cs p ≡ Some la → ds ≡ with_links p l cs → is_there cs q ≡ true → is_there ds q ≡ true
+  still_there cs ds p l la q e d t = ap (λ es. is_there es q) d ∙ read_kept p l has_links cs la e refl q ∙ t
 
-  pub IsJoined-writes : (cs es ds : List (Cell Links B)) (a b : NodePointer) (la lb : Links)
-      → links_at cs a.ptr ≡ Some la → es ≡ with_links a.ptr (record la { next = b }) cs
-      → links_at es b.ptr ≡ Some lb → ds ≡ with_links b.ptr (record lb { prev = a }) es → IsJoined cs ds a.ptr b.ptr
-  IsJoined-writes cs es ds a b la lb ea e1 eb e2 =
-      let l : Links = record la { next = b } in let m : Links = record lb { prev = a } in
+  joined_writes : (cs es ds : List (Cell Links B)) (a b : Link) (la lb : Links)
+      → links_at cs a.ptr ≡ Some la → es ≡ with_links a.ptr (leading_on b la) cs
+      → links_at es b.ptr ≡ Some lb → ds ≡ with_links b.ptr (leading_back a lb) es → IsJoined cs ds a.ptr b.ptr
+  joined_writes cs es ds a b la lb ea e1 eb e2 =
+      let l : Links = leading_on b la in let m : Links = leading_back a lb in
       let fs : List (Cell Links B) = with_links a.ptr l cs in
       let ef : links_at fs b.ptr ≡ Some lb = sym (ap (λ zs. links_at zs b.ptr) e1) ∙ eb in
       let made : IsJoined cs (with_links b.ptr m fs) a.ptr b.ptr = record {
         next = λ q. read_kept b.ptr m next_of fs lb ef refl q ∙ read_set a.ptr l next_of cs la ea q;
         prev = λ q. read_set b.ptr m prev_of fs lb ef q ∙ ap (λ r. cond (same_ptr b.ptr q) a.ptr r) (read_kept a.ptr l prev_of cs la ea refl q);
         link = λ q. read_kept b.ptr m link_of fs lb ef refl q ∙ read_kept a.ptr l link_of cs la ea refl q;
-        guard = λ q. read_kept b.ptr m guard_of fs lb ef refl q ∙ read_kept a.ptr l guard_of cs la ea refl q;
-        content = λ q. content_kept b.ptr m fs lb ef (refl, refl, refl) q ∙ content_kept a.ptr l cs la ea (refl, refl, refl) q;
+        content = λ q. content_kept b.ptr m fs lb ef (refl, refl) q ∙ content_kept a.ptr l cs la ea (refl, refl) q;
         there = λ q. read_kept b.ptr m has_links fs lb ef refl q ∙ read_kept a.ptr l has_links cs la ea refl q;
         count = length-change b.ptr (λ c. cell c.at m c.body) fs ∙ length-change a.ptr (λ c. cell c.at l c.body) cs;
       } in
       subst (λ zs. IsJoined cs zs a.ptr b.ptr) (sym (e2 ∙ ap (λ zs. with_links b.ptr m zs) e1)) made
+
+  -- a node, where another one leads on to a third
+  pub there_still : (cs ds : List (Cell Links B)) (p : Ptr) (o : Link) → is_there cs p ≡ true → LeadsOn cs p o ds → (q : Ptr) → is_there cs q ≡ true → is_there ds q ≡ true
+  there_still cs ds p o h k q t = let a = is_at cs p h in still_there cs ds p (leading_on o a.0) a.0 q a.1 (k a.0 a.1) t
+
+  pub IsJoined-writes : (cs es ds : List (Cell Links B)) (a b : Link) → is_there cs a.ptr ≡ true → is_there cs b.ptr ≡ true → LeadsOn cs a.ptr b es → LeadsBack es b.ptr a ds → IsJoined cs ds a.ptr b.ptr
+  IsJoined-writes cs es ds a b ha hb k l =
+      let la = is_at cs a.ptr ha in let lb = is_at es b.ptr (there_still cs es a.ptr b ha k b.ptr hb) in joined_writes cs es ds a b la.0 lb.0 la.1 (k la.0 la.1) lb.1 (l lb.0 lb.1)

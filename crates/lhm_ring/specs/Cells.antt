@@ -1,5 +1,5 @@
 -- The nodes that a ring owns, as the proofs see them: a list in no order of its own.
-use Rattle.std.specs.Prelude.{◌≡◌, Bool, true, false, ◌&&◌, ◌==◌, cond, List, [], ◌∷◌, map, Option, Some, None}
+use Rattle.std.specs.Prelude.{◌≡◌, Bool, true, false, ◌&&◌, ◌==◌, cond, nat_lt, ◌^◌, List, [], ◌∷◌, map, Option, Some, None}
 use Rattle.std.specs.List.{IsDistinct, IsDistinct-prop, AllByRecursion, AllByRecursion-prop}
 use mathlib.Core.Bool.{Bool-set}
 use denote.RawPtr.{Ptr, block_ptr, null_ptr}
@@ -24,17 +24,17 @@ IsApart = IsDistinct same_ptr
 pub IsApart-prop : (ps : List Ptr) → IsProp (IsApart ps)
 IsApart-prop = IsDistinct-prop same_ptr
 
--- whether p is the start of a block of memory
+-- whether p lies near enough to the start of its block to be compared with null
 abbrev pub is_block : Ptr → Bool
-is_block (block_ptr b o) = o == 0
+is_block (block_ptr b o) = nat_lt o (2 ^ 63)
 is_block null_ptr = false
 
 -- the same, or null: p may be compared with null
 abbrev pub is_null_or_block : Ptr → Bool
-is_null_or_block (block_ptr b o) = o == 0
+is_null_or_block (block_ptr b o) = nat_lt o (2 ^ 63)
 is_null_or_block null_ptr = true
 
--- all of them are the starts of blocks
+-- all of them may be compared with null
 abbrev pub AreBlocks : List Ptr → Type 0
 AreBlocks = AllByRecursion (λ p. is_block p ≡ true)
 

@@ -1,24 +1,17 @@
--- What an iterator has left: nodes between two others; and what its steps return.
-use Rattle.std.specs.Prelude.{◌≡◌, ℕ, ◌<◌, true, List, [], ◌∷◌, ◌++◌, map, length, Option, Some, None}
+-- What an iterator has left, and what its steps return.
+use Rattle.std.specs.Prelude.{◌≡◌, ℕ, List, [], ◌∷◌, ◌++◌, map, Option, Some, None}
 use Rattle.std.specs.List.{AllByRecursion}
 use Rattle.std.specs.Borrow.{Bor, MutBor}
 use base.Fml.{GName}
 use denote.RawPtr.{Ptr}
-use Rattle.lhm_ring.specs.Cells.{Cell, IsApart}
+use Rattle.lhm_ring.specs.Cells.{IsApart}
 use Rattle.lhm_ring.specs.ValueLoan.{value_at}
-use Rattle.lhm_ring.specs.Rings.{Linked, HasContent, is_there}
 use Rattle.lhm_ring.specs.RingState.{Held, held}
 use Rattle.lhm_ring.specs.declared.block.NodePointer.{NodePointer}
-use Rattle.lhm_ring.specs.declared.links.Links.{Links}
 
-module _ {B : Type 0} where
-  -- what a mutable iterator has left
-  abbrev pub rest_of : List (Held B) × GName → List (Held B)
-  rest_of s = s.0
-
-  -- n nodes that hold something come between b and a
-  abbrev pub IsBetween : List (Cell Links B) → Ptr → Ptr → ℕ → Type 0
-  IsBetween cs b a n = (ps : List Ptr) × (length ps ≡ n) × AllByRecursion (HasContent cs) ps × IsApart ps × (0 < n → Linked cs (b ∷ (ps ++ a ∷ [])) × (is_there cs b ≡ true) × (is_there cs a ≡ true))
+-- what a mutable iterator has left
+abbrev pub rest_of : {B : Type 0} → List (Held B) × GName → List (Held B)
+rest_of s = s.0
 
 module _ {K V : Type 0} where
   -- what a step from the front returns, and what it leaves

@@ -1,5 +1,6 @@
 pub mod Buckets
 pub mod Cells
+pub mod Chunks
 pub mod ContentLoan
 pub mod Drains
 pub mod Filters
@@ -7,6 +8,7 @@ pub mod Heads
 pub mod Index
 pub mod IndexedRing
 pub mod Iterators
+pub mod Land
 pub mod LentRings
 pub mod NodesAfterLoan
 pub mod Ownership

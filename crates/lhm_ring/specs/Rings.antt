@@ -1,21 +1,33 @@
 -- A ring of nodes: how the links lead, and when the fields of a `Ring` are right.
-use Rattle.std.specs.Prelude.{◌≡◌, ℕ, suc, zero, ◌+◌, ◌≤◌, ◌^◌, ◌==◌, Bool, true, false, cond, List, [], ◌∷◌, ◌++◌, length, Option, Some, None}
+-- The nodes are a ring with one more at null, which holds nothing: the first node comes right after it, and it right after the last.
+use Rattle.std.specs.Prelude.{◌≡◌, ℕ, suc, zero, ◌+◌, ◌≤◌, ◌^◌, Bool, true, false, cond, List, [], ◌∷◌, ◌++◌, length, Option, Some, None}
+use Rattle.std.proofs.Common.{refl}
 use Rattle.std.specs.List.{AllByRecursion}
 use denote.RawPtr.{Ptr, null_ptr}
-use Rattle.lhm_ring.specs.Cells.{Cell, same_ptr, links_at, body_at, with_links, IsApart}
+use Rattle.lhm_ring.specs.Cells.{Cell, cell, same_ptr, links_at, body_at, with_links, IsApart}
 use Rattle.lhm_ring.specs.RingState.{Held, triples}
-use Rattle.lhm_ring.specs.declared.block.NodePointer.{NodePointer}
 use Rattle.lhm_ring.specs.declared.link.Link.{Link}
 use Rattle.lhm_ring.specs.declared.links.Links.{Links}
+use Rattle.lhm_ring.specs.declared.links.Ends.{Ends}
 use Rattle.lhm_ring.specs.Targets.{target}
 
--- the links, with the chain link o
+-- the links, with the chain link o, or with the next node o, or with the node before
 abbrev pub relinked : Link → Links → Links
 relinked o l = record l { link = o }
 
--- the links of a spare node: only its chain link is read
-abbrev pub links : NodePointer → Link → Links
-links g o = record { prev = g; next = g; link = o; hash = 0; guard = 0 }
+abbrev pub leading_on : Link → Links → Links
+leading_on o l = record l { next = o }
+
+abbrev pub leading_back : Link → Links → Links
+leading_back o l = record l { prev = o }
+
+-- a link that leads nowhere
+abbrev pub nowhere : Link
+nowhere = record { ptr = null_ptr; comparable = refl }
+
+-- the ends of a ring, as the links of the node at null
+abbrev pub ends_links : Ends → Links
+ends_links e = record { prev = e.last; next = e.first; link = nowhere; hash = 0 }
 
 -- what links say of their node: where it leads, and whether it is there at all
 abbrev pub next_of : Option Links → Ptr
@@ -30,15 +42,15 @@ abbrev pub link_of : Option Links → Option Ptr
 link_of None = None
 link_of (Some l) = target l.link
 
-abbrev pub guard_of : Option Links → Bool
-guard_of None = false
-guard_of (Some l) = l.guard == 1
-
 abbrev pub has_links : Option Links → Bool
 has_links None = false
 has_links (Some l) = true
 
 module _ {B : Type 0} where
+  -- the nodes cs, and at null one that holds nothing, between the last and the first
+  abbrev pub ring_cells : Ends → List (Cell Links B) → List (Cell Links B)
+  ring_cells e cs = cell null_ptr (ends_links e) None ∷ cs
+
   abbrev pub next_at : List (Cell Links B) → Ptr → Ptr
   next_at cs p = next_of (links_at cs p)
 
@@ -49,17 +61,14 @@ module _ {B : Type 0} where
   abbrev pub link_at : List (Cell Links B) → Ptr → Option Ptr
   link_at cs p = link_of (links_at cs p)
 
-  abbrev pub is_guard : List (Cell Links B) → Ptr → Bool
-  is_guard cs p = guard_of (links_at cs p)
-
   abbrev pub is_there : List (Cell Links B) → Ptr → Bool
   is_there cs p = has_links (links_at cs p)
 
-  -- the hash, the chain link, the key and the value at p: none at a guard
+  -- the hash, the chain link, the key and the value at p
   abbrev pub content_of : Ptr → Option Links → Option B → Option (Held B)
   content_of p None b = None
   content_of p (Some l) None = None
-  content_of p (Some l) (Some b) = cond (l.guard == 1) None (Some (record { at = p; hash = l.hash; link = link_of (Some l); pair = b }))
+  content_of p (Some l) (Some b) = Some (record { at = p; hash = l.hash; link = link_of (Some l); pair = b })
 
   abbrev pub content_at : List (Cell Links B) → Ptr → Option (Held B)
   content_at cs p = content_of p (links_at cs p) (body_at cs p)
@@ -67,6 +76,13 @@ module _ {B : Type 0} where
   -- in ds the chain link of the node at p is o, and nothing else differs
   abbrev pub Relinks : List (Cell Links B) → Ptr → Link → List (Cell Links B) → Type 0
   Relinks cs p o ds = (l : Links) → links_at cs p ≡ Some l → ds ≡ with_links p (relinked o l) cs
+
+  -- the same of the next node, and of the node before
+  abbrev pub LeadsOn : List (Cell Links B) → Ptr → Link → List (Cell Links B) → Type 0
+  LeadsOn cs p o ds = (l : Links) → links_at cs p ≡ Some l → ds ≡ with_links p (leading_on o l) cs
+
+  abbrev pub LeadsBack : List (Cell Links B) → Ptr → Link → List (Cell Links B) → Type 0
+  LeadsBack cs p o ds = (l : Links) → links_at cs p ≡ Some l → ds ≡ with_links p (leading_back o l) cs
 
   -- b comes right after a
   abbrev pub Edge : List (Cell Links B) → Ptr → Ptr → Type 0
@@ -86,16 +102,14 @@ module _ {B : Type 0} where
   abbrev pub HasContent : List (Cell Links B) → Ptr → Type 0
   HasContent cs p = (x : Held B) × (content_at cs p ≡ Some x)
 
-  -- the nodes: the guard g, the held ones ps in order, and the spare ones ss
-  pub record IsRing (cs : List (Cell Links B)) (g : Ptr) (ps : List Ptr) (spare : Option Ptr) (ss : List Ptr) : Type 0 where
-    pub linked : Linked cs (g ∷ (ps ++ g ∷ []))
+  -- the nodes: the one at null, the held ones ps in order, and the spare ones ss
+  pub record IsRing (cs : List (Cell Links B)) (ps : List Ptr) (spare : Option Ptr) (ss : List Ptr) : Type 0 where
+    pub linked : Linked cs (null_ptr ∷ (ps ++ null_ptr ∷ []))
     pub chained : Chained cs spare ss
     pub held : AllByRecursion (HasContent cs) ps
-    pub there : AllByRecursion (λ p. is_there cs p ≡ true) (g ∷ (ps ++ ss))
-    pub apart : IsApart (g ∷ (ps ++ ss))
+    pub there : AllByRecursion (λ p. is_there cs p ≡ true) (null_ptr ∷ (ps ++ ss))
+    pub apart : IsApart (null_ptr ∷ (ps ++ ss))
     pub count : length cs ≡ suc (length ps + length ss)
-    pub guard : is_guard cs g ≡ true
-    pub plain : AllByRecursion (λ p. is_guard cs p ≡ false) ss
 
   -- the n pointers after p
   unfoldable pub follow : List (Cell Links B) → ℕ → Ptr → List Ptr
@@ -116,7 +130,6 @@ module _ {B : Type 0} where
     pub next : (q : Ptr) → next_at ds q ≡ cond (same_ptr a q) b (next_at cs q)
     pub prev : (q : Ptr) → prev_at ds q ≡ cond (same_ptr b q) a (prev_at cs q)
     pub link : (q : Ptr) → link_at ds q ≡ link_at cs q
-    pub guard : (q : Ptr) → is_guard ds q ≡ is_guard cs q
     pub content : (q : Ptr) → content_at ds q ≡ content_at cs q
     pub there : (q : Ptr) → is_there ds q ≡ is_there cs q
     pub count : length ds ≡ length cs
@@ -140,20 +153,17 @@ module _ {B : Type 0} where
   abbrev pub span_triples : List (Cell Links B) → ℕ → Ptr → List (ℕ × B)
   span_triples cs n p = triples (listed cs (pointers_from cs n p))
 
-  -- what n nodes hold from the guard on
-  abbrev pub ring_list : List (Cell Links B) → Option NodePointer → ℕ → List (Held B)
-  ring_list cs None n = []
-  ring_list cs (Some g) n = listed cs (follow cs n g.ptr)
+  -- the pointers of what a ring of n nodes holds
+  abbrev pub ring_pointers : List (Cell Links B) → ℕ → List Ptr
+  ring_pointers cs n = follow cs n null_ptr
 
-  -- the nodes are a ring of n held and m spare ones, or there is no node and no guard
-  abbrev pub RingOk : List (Cell Links B) → Option NodePointer → Link → ℕ → ℕ → Type 0
-  RingOk cs None spare n m = (cs ≡ []) × (target spare ≡ None) × (n ≡ 0) × (m ≡ 0)
-  RingOk cs (Some g) spare n m = (ps : List Ptr) × (ss : List Ptr) × IsRing cs g.ptr ps (target spare) ss × (length ps ≡ n) × (length ss ≡ m) × (n + m ≤ 2 ^ 59)
+  -- what it holds
+  abbrev pub ring_list : List (Cell Links B) → ℕ → List (Held B)
+  ring_list cs n = listed cs (ring_pointers cs n)
 
-  -- the pointers of what a ring holds
-  abbrev pub ring_pointers : List (Cell Links B) → Option NodePointer → ℕ → List Ptr
-  ring_pointers cs None n = []
-  ring_pointers cs (Some g) n = follow cs n g.ptr
+  -- the nodes are a ring of n held and at least m spare ones
+  abbrev pub RingOk : List (Cell Links B) → Link → ℕ → ℕ → Type 0
+  RingOk cs spare n m = (ps : List Ptr) × (ss : List Ptr) × IsRing cs ps (target spare) ss × (length ps ≡ n) × (m ≤ length ss) × (n + m ≤ 2 ^ 59)
 
   -- n nodes that hold something, each right after the one before, from f to b
   abbrev pub IsSpan : List (Cell Links B) → Ptr → Ptr → ℕ → Type 0

@@ -3,9 +3,8 @@ use Rattle.std.specs.Prelude.{◌≡◌, ℕ, ◌+◌, true, List, [], ◌∷◌
 use Rattle.std.specs.List.{AllByRecursion}
 use denote.RawPtr.{Ptr}
 use Rattle.lhm_ring.specs.Cells.{Cell, IsApart}
-use Rattle.lhm_ring.specs.Rings.{Linked, Chained, next_at, prev_at, is_there, is_guard, content_at, ring_list, RingOk, IsSpan, span_triples}
+use Rattle.lhm_ring.specs.Rings.{Linked, Chained, next_at, prev_at, is_there, content_at, ring_list, RingOk, IsSpan, span_triples}
 use Rattle.lhm_ring.specs.RingState.{Held, triples}
-use Rattle.lhm_ring.specs.declared.block.NodePointer.{NodePointer}
 use Rattle.lhm_ring.specs.declared.links.Links.{Links}
 use Rattle.lhm_ring.specs.declared.splice.Spliced.{Spliced}
 use Rattle.lhm_ring.specs.declared.link.Link.{Link}
@@ -29,7 +28,6 @@ module _ {B : Type 0} where
     pub next : (q : Ptr) → next_at ds q ≡ next_at cs q
     pub prev : (q : Ptr) → prev_at ds q ≡ prev_at cs q
     pub there : (q : Ptr) → is_there ds q ≡ is_there cs q
-    pub guard : (q : Ptr) → is_guard ds q ≡ is_guard cs q
     pub triple : (q : Ptr) → triple_of (content_at ds q) ≡ triple_of (content_at cs q)
     pub count : length ds ≡ length cs
 
@@ -50,13 +48,16 @@ module _ {B : Type 0} where
   SparesRow cs f n spare ds s = (ps ss : List Ptr) → IsRow cs f n spare ps ss → SameButLinks cs ds × Chained ds s (onto ps ss)
 
   -- the nodes are a ring of n held ones
-  abbrev pub HasRing : List (Cell Links B) → Option NodePointer → Link → ℕ → Type 0
-  HasRing cs guard spare n = (m : ℕ) × RingOk cs guard spare n m
+  abbrev pub HasRing : List (Cell Links B) → Link → ℕ → Type 0
+  HasRing cs spare n = (m : ℕ) × RingOk cs spare n m
 
-  -- in ds all nodes of the ring are spare, and what it held is in those from s.first to s.last
-  abbrev pub SplicesRing : List (Cell Links B) → Option NodePointer → Link → ℕ → List (Cell Links B) → Spliced → Type 0
-  SplicesRing cs guard spare n ds s =
-      (m : ℕ) → RingOk cs guard spare n m → RingOk ds guard s.spare 0 (m + n) × IsSpan ds s.first.ptr s.last.ptr n × (span_triples ds n s.first.ptr ≡ triples (ring_list cs guard n))
+  -- in ds all nodes of the ring are spare
+  abbrev pub SplicesRing : List (Cell Links B) → Link → ℕ → List (Cell Links B) → Spliced → Type 0
+  SplicesRing cs spare n ds s = (m : ℕ) → RingOk cs spare n m → RingOk ds s.spare 0 (m + n)
+
+  -- what the ring held is in the nodes ds, from s.first to s.last
+  abbrev pub KeepsRow : List (Cell Links B) → Link → ℕ → List (Cell Links B) → Spliced → Type 0
+  KeepsRow cs spare n ds s = (m : ℕ) → RingOk cs spare n m → IsSpan ds s.first.ptr s.last.ptr n × (span_triples ds n s.first.ptr ≡ triples (ring_list cs n))
 
 module _ {K V : Type 0} where
   -- r is the first of xs and the others are ys, or there is none

@@ -50,11 +50,7 @@ impl<K, V> Ring<K, V> {
     pub fn first(&self) -> Option<Position<K, V>>
         ensures { pointer_of_some result ≡ first_at self.now.held }
     {
-        let guard = self.guard?;
-        if self.len == 0 {
-            return None;
-        }
-        Some(Position::new(self.nodes.links(guard).next))
+        self.ends.first.get()
     }
 
     /// Returns the position of the back triple, or `None` if nothing is held. No two triples share
@@ -63,11 +59,7 @@ impl<K, V> Ring<K, V> {
         ensures last { pointer_of_some result ≡ last_at self.now.held }
         ensures apart { IsApart (map (λ t. t.at) self.now.held) }
     {
-        let guard = self.guard?;
-        if self.len == 0 {
-            return None;
-        }
-        Some(Position::new(self.nodes.links(guard).prev))
+        self.ends.last.get()
     }
 
     /// Returns the position right behind one, or `None` at the back. No two triples share one.
@@ -76,11 +68,7 @@ impl<K, V> Ring<K, V> {
         ensures next { AtHeld self.now.held (pointer_of at) (λ xs t ys. pointer_of_some result ≡ first_at ys) }
         ensures apart { IsApart (map (λ t. t.at) self.now.held) }
     {
-        let next = self.nodes.links(at.pointer).next;
-        if self.nodes.links(next).guard == 1 {
-            return None;
-        }
-        Some(Position::new(next))
+        self.nodes.links(at.pointer).next.get()
     }
 
     /// Returns the position right before one, or `None` at the front.
@@ -88,11 +76,7 @@ impl<K, V> Ring<K, V> {
         requires { IsHeld self.now.held (pointer_of at) }
         ensures { AtHeld self.now.held (pointer_of at) (λ xs t ys. pointer_of_some result ≡ last_at xs) }
     {
-        let previous = self.nodes.links(at.pointer).prev;
-        if self.nodes.links(previous).guard == 1 {
-            return None;
-        }
-        Some(Position::new(previous))
+        self.nodes.links(at.pointer).prev.get()
     }
 
     /// Returns where the chain link at a position leads, or `None`. The link is its caller's.

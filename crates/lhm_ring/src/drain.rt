@@ -48,7 +48,7 @@ impl<'a, K, V> Remaining<'a, K, V> {
         let at = self.first;
         let links = *self.nodes.links(at);
         let (key, value) = self.contents.take(at);
-        self.first = links.next;
+        self.first = links.next.address();
         self.left -= 1;
         Some((links.hash, key, value))
     }
@@ -63,7 +63,7 @@ impl<'a, K, V> Remaining<'a, K, V> {
         let at = self.last;
         let links = *self.nodes.links(at);
         let (key, value) = self.contents.take(at);
-        self.last = links.prev;
+        self.last = links.prev.address();
         self.left -= 1;
         Some((links.hash, key, value))
     }
@@ -116,7 +116,12 @@ impl<K, V> Ring<K, V> {
         ensures rest { drain_rest result ≡ triples self.old.held }
     {
         let left = self.len;
-        let Spliced { first, last, spare } = splice(&mut self.nodes, self.guard, self.spare, left);
+        let Spliced { first, last, spare } = splice(
+            &mut self.nodes,
+            &mut self.ends,
+            self.spare,
+            left,
+        );
         self.spare = spare;
         self.spares += left;
         self.len = 0;

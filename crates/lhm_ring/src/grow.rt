@@ -1,183 +1,145 @@
-//! Nodes are allocated, all or none, and spare ones are freed.
-ghost use Rattle.std.specs.Prelude.{◌≡◌, ◌+◌, ◌-◌, ◌<◌, [], ◌∷◌, None, Some, IfSome, IfOk, OnOk, OnErr, MatchResult};
-ghost use Rattle.std.specs.Option.{IsSome};
-ghost use Rattle.lhm_ring.specs.Cells.{cell};
-ghost use Rattle.lhm_ring.specs.Rings.{IsRing, links};
-ghost use Rattle.lhm_ring.specs.Stacks.{IsStacked, HasStack, Unstacks, HasGuard, IsGrown};
+//! Nodes are allocated, many in one chunk, and all chunks are freed.
+ghost use Rattle.std.specs.Prelude.{◌≡◌, ℕ, ◌+◌, ◌-◌, ◌<◌, ◌≤◌, ◌^◌, [], ◌∷◌, ◌++◌, None, Some, map, IfSome, IfOk, OnOk, OnErr, IsTrue, IsFalse, true};
+ghost use Rattle.std.specs.Allocator.{FitsBlock};
+ghost use Rattle.lhm_ring.specs.Chunks.{row};
+ghost use Rattle.lhm_ring.specs.Land.{extent, IsLaid};
+ghost use Rattle.lhm_ring.specs.Stacks.{IsStacked};
 
-use crate::block::{NodePointer, allocate, deallocate};
+use crate::block::{Node, NodePointer, allocate, deallocate, size};
+use crate::chunk::Chunk;
 use crate::link::Link;
 use crate::links::Links;
 use crate::nodes::Nodes;
-use crate::ring::{Ring, join, nowhere};
+use crate::ring::Ring;
 use std::alloc::{AllocError, Global};
 
-/// The most nodes of a ring, held and spare. Each takes at least 40 bytes, so these would take more
-/// than 2^64 bytes, which no machine has.
+/// The most nodes of a ring, held and spare. Each takes at least 32 bytes, so these would take 2^64
+/// bytes, which no machine has.
 const MOST_NODES: usize = 1 << 59;
 
-/// Allocates the guard of an empty ring, which leads to itself.
-fn make_guard<K, V>(
-    nodes: &mut Nodes<Links, K, V>,
-    alloc: &Global,
-) -> Result<NodePointer, AllocError>
-    requires { nodes.old.cells ≡ [] }
-    ensures { MatchResult result (λ g. IsRing nodes.new.cells g.ptr [] None []) (λ _. nodes.new.cells ≡ []) }
+/// Returns whether a block for `count` values is small enough to be allocated.
+fn fits<T>(count: usize) -> bool
+    requires { 0 < count }
+    ensures { IsTrue result → FitsBlock T.row count }
 {
-    let block = allocate(alloc)?;
-    let links = Links {
-        prev: nowhere(),
-        next: nowhere(),
-        link: Link::none(),
-        hash: 0,
-        guard: 1,
-    };
-    let at = nodes.add(block, links);
-    join(nodes, at, at);
-    Ok(at)
-}
-
-/// Allocates one more node, with nothing in it.
-fn make_spare<K, V>(
-    nodes: &mut Nodes<Links, K, V>,
-    alloc: &Global,
-    guard: NodePointer,
-    spare: Link,
-) -> Result<NodePointer, AllocError>
-    ensures { MatchResult result (λ p. nodes.new.cells ≡ cell p.ptr (links guard spare) None ∷ nodes.old.cells) (λ _. nodes.new.cells ≡ nodes.old.cells) }
-{
-    let block = allocate(alloc)?;
-    let links = Links {
-        prev: guard,
-        next: guard,
-        link: spare,
-        hash: 0,
-        guard: 0,
-    };
-    Ok(nodes.add(block, links))
-}
-
-/// Returns the guard, and allocates it if there is none.
-fn guard_or_new<K, V>(
-    nodes: &mut Nodes<Links, K, V>,
-    alloc: &Global,
-    guard: Option<NodePointer>,
-) -> Result<NodePointer, AllocError>
-    requires { guard ≡ None → nodes.old.cells ≡ [] }
-    ensures { MatchResult result (HasGuard guard nodes.old.cells nodes.new.cells) (λ _. nodes.new.cells ≡ nodes.old.cells) }
-{
-    match guard {
-        Some(guard) => Ok(guard),
-        None => make_guard(nodes, alloc),
+    match count.checked_mul(size::<T>()) {
+        Some(bytes) => bytes <= isize::MAX as usize,
+        None => false,
     }
 }
 
-/// Sets the guard if there was none before. Otherwise it writes nothing.
-fn note_guard(slot: &mut Option<NodePointer>, guard: NodePointer)
-    requires { IfSome slot.old (λ g. g ≡ guard) }
-    ensures { slot.new ≡ Some guard }
+/// Returns how many nodes a chunk has at least, for `count` more nodes beside `made`: to grow by
+/// one, as many as there are, at most 64, and so that there are at most `most` nodes, if that can
+/// be.
+fn chunk_size(count: usize, made: usize, most: usize) -> usize
+    ensures { result ≤ 64 }
 {
-    match *slot {
-        Some(_) => (),
-        None => *slot = Some(guard),
+    if count != 1 || most < made {
+        return 0;
     }
+    made.min((most - made).min(64))
 }
 
-/// Frees the guard if there was none before, so that no node is left. Otherwise it changes nothing.
-fn undo_guard<K, V>(
-    nodes: &mut Nodes<Links, K, V>,
-    alloc: &Global,
-    before: Option<NodePointer>,
-    guard: NodePointer,
-)
-    requires { before ≡ None → IsRing nodes.old.cells guard.ptr [] None [] }
-    ensures none { before ≡ None → nodes.new.cells ≡ [] }
-    ensures some { IsSome before → nodes.new.cells ≡ nodes.old.cells }
-{
-    match before {
-        Some(_) => (),
-        None => {
-            let block = nodes.remove(guard);
-            deallocate(alloc, block);
-        }
-    }
-}
-
-/// Frees the `count` nodes from `first` on, each of which leads to the next by its chain link.
-fn free_stacked<K, V>(nodes: &mut Nodes<Links, K, V>, alloc: &Global, first: Link, count: usize)
-    requires { HasStack count nodes.old.cells first }
-    ensures { Unstacks count nodes.old.cells first nodes.new.cells }
-{
-    let mut first = first;
-    let mut left = count;
-    'each: while 0 < left {
-        let at = first.pointer();
-        let next = nodes.links(at).link;
-        let block = nodes.remove(at);
-        deallocate(alloc, block);
-        first = next;
-        left -= 1;
-    }
-}
-
-/// Allocates `count` nodes on top of the spare ones, and returns the first of them. If an
-/// allocation fails, it frees those that it made.
+/// Makes the `count` unused places, from `start` on, spare nodes on top of the others, and returns
+/// the first spare one. They are used in the order in which they lie.
 fn make_spares<K, V>(
     nodes: &mut Nodes<Links, K, V>,
-    alloc: &Global,
-    guard: NodePointer,
+    start: NodePointer,
     spare: Link,
     count: usize,
-) -> Result<Link, AllocError>
-    ensures { MatchResult result (λ first. IsStacked nodes.old.cells guard spare count nodes.new.cells first) (λ _. nodes.new.cells ≡ nodes.old.cells) }
+) -> Link
+    requires small { nodes.old.node_bytes < 2 ^ 63 }
+    requires unused { nodes.old.unused ≡ row start.ptr nodes.old.node_bytes count }
+    ensures stacked { IsStacked nodes.old.cells spare count nodes.new.cells result }
+    ensures unused { nodes.new.unused ≡ [] }
+    ensures chunks { nodes.new.chunks ≡ nodes.old.chunks }
 {
     let mut first = spare;
-    let mut made = 0;
-    'more: while made < count {
-        match make_spare(nodes, alloc, guard, first) {
-            Ok(at) => {
-                first = Link::to(at);
-                made += 1;
-            }
-            Err(refused) => {
-                free_stacked(nodes, alloc, first, made);
-                return Err(refused);
-            }
-        }
+    let mut left = count;
+    'each: while 0 < left {
+        left -= 1;
+        let links = Links {
+            prev: Link::none(),
+            next: Link::none(),
+            link: first,
+            hash: 0,
+        };
+        let at = nodes.add(start, left, links);
+        first = Link::to(at);
     }
+    first
+}
+
+/// Allocates a chunk of `places` unused places, and returns where the first of them lies.
+fn take_chunk<K, V>(
+    nodes: &mut Nodes<Links, K, V>,
+    chunks: &mut Vec<Chunk, Global>,
+    alloc: &Global,
+    places: usize,
+) -> Result<NodePointer, AllocError>
+    requires some { 0 < places }
+    requires none_unused { nodes.old.unused ≡ [] }
+    ensures cells { nodes.new.cells ≡ nodes.old.cells }
+    ensures small { OnOk result (nodes.new.node_bytes < 2 ^ 63) }
+    ensures unused { IfOk result (λ first. nodes.new.unused ≡ row first.ptr nodes.new.node_bytes places) }
+    ensures chunks { IfOk result (λ first. nodes.new.chunks ≡ nodes.old.chunks ++ (first.ptr, places) ∷ []) }
+    ensures kept { IfOk result (λ first. map extent chunks.new.items ≡ map extent chunks.old.items ++ (first.ptr, places) ∷ []) }
+    ensures refused { OnErr result ((nodes.new.unused ≡ nodes.old.unused) × (nodes.new.chunks ≡ nodes.old.chunks)) }
+    ensures refused_kept { OnErr result (chunks.new.items ≡ chunks.old.items) }
+{
+    if !fits::<Node<Links, K, V>>(places) {
+        return Err(AllocError);
+    }
+    chunks.reserve(1)?;
+    let block = allocate(alloc, places)?;
+    let first = nodes.add_chunk(block);
+    chunks.push_reserved(Chunk {
+        first,
+        count: places,
+    });
     Ok(first)
 }
 
-/// Allocates `count` nodes on top of the spare ones, and the guard if there is none. It returns the
-/// guard and the first spare node. If an allocation fails, it frees what it made.
-fn make_nodes<K, V>(
+/// Frees all chunks, and forgets what the nodes hold.
+pub(crate) fn free_chunks<K, V>(
     nodes: &mut Nodes<Links, K, V>,
     alloc: &Global,
-    guard: Option<NodePointer>,
-    spare: Link,
-    count: usize,
-) -> Result<(NodePointer, Link), AllocError>
-    requires { guard ≡ None → nodes.old.cells ≡ [] }
-    ensures made { IfOk result (λ made. IsGrown guard nodes.old.cells spare count nodes.new.cells made.0 made.1) }
-    ensures refused { OnErr result (nodes.new.cells ≡ nodes.old.cells) }
+    mut chunks: Vec<Chunk, Global>,
+)
+    requires { nodes.old.chunks ≡ map extent chunks.items }
+    ensures cells { nodes.new.cells ≡ [] }
+    ensures chunks { nodes.new.chunks ≡ [] }
 {
-    let present = guard_or_new(nodes, alloc, guard)?;
-    match make_spares(nodes, alloc, present, spare, count) {
-        Ok(first) => Ok((present, first)),
-        Err(refused) => {
-            undo_guard(nodes, alloc, guard, present);
-            Err(refused)
-        }
+    nodes.clear();
+    'each: while let Some(chunk) = chunks.pop() {
+        let block = nodes.remove_chunk(chunk.first, chunk.count);
+        deallocate(alloc, block, chunk.count);
     }
+    chunks.destroy_empty();
 }
 
 impl<K, V> Ring<K, V> {
-    /// Allocates `count` more spare nodes, and the guard if there is none, in O(n).
-    ///
-    /// Returns an error if an allocation fails, or, without allocating, if there would be more than
-    /// 2^59 nodes; it then frees what it allocated, and nothing changes. The order and positions
-    /// stay.
-    pub fn grow(&mut self, count: usize) -> Result<(), AllocError>
+    /// Makes `count` more nodes spare if the chunks have as many, and returns whether they have.
+    /// Otherwise it changes nothing. It does not allocate.
+    #[inline]
+    fn use_made(&mut self, count: usize) -> bool
+        ensures held { self.new.held ≡ self.old.held }
+        ensures used { IsTrue result → self.new.spares ≡ self.old.spares + count }
+        ensures unchanged { IsFalse result → self.new ≡ self.old }
+    {
+        if self.made.min(MOST_NODES) - self.len - self.spares < count {
+            return false;
+        }
+        self.spares += count;
+        true
+    }
+
+    /// Makes `count` more nodes spare. If it has to allocate, it does so for what is missing, in
+    /// one chunk, which has at least `least` nodes.
+    #[cold]
+    #[inline(never)]
+    fn grow_by(&mut self, count: usize, least: usize) -> Result<(), AllocError>
+        requires { least ≤ 2 ^ 58 }
         ensures held { OnOk result (self.new.held ≡ self.old.held) }
         ensures spares { OnOk result (self.new.spares ≡ self.old.spares + count) }
         ensures refused { OnErr result (self.new ≡ self.old) }
@@ -185,40 +147,52 @@ impl<K, V> Ring<K, V> {
         if MOST_NODES - self.len - self.spares < count {
             return Err(AllocError);
         }
-        let (guard, spare) = make_nodes(
-            &mut self.nodes,
-            &self.alloc,
-            self.guard,
-            self.spare,
-            count,
-        )?;
-        note_guard(&mut self.guard, guard);
-        self.spare = spare;
+        let needed = self.len + self.spares + count;
+        if needed <= self.made {
+            self.spares += count;
+            return Ok(());
+        }
+        let places = (needed - self.made).max(least);
+        let at = take_chunk(&mut self.nodes, &mut self.chunks, &self.alloc, places)?;
+        self.spare = make_spares(&mut self.nodes, at, self.spare, places);
         self.spares += count;
+        self.made += places;
         Ok(())
     }
 
-    /// Frees the first spare node.
-    pub(crate) fn drop_spare(&mut self)
-        requires { 0 < self.old.spares }
-        ensures held { self.new.held ≡ self.old.held }
-        ensures spares { self.new.spares ≡ self.old.spares - 1 }
+    /// Makes `count` more nodes spare. If it allocates, it is one chunk with what is missing, in
+    /// O(n).
+    ///
+    /// Returns an error if an allocation fails, or, without allocating, if there would be more than
+    /// 2^59 nodes; nothing changes then. The order and positions stay.
+    pub fn grow(&mut self, count: usize) -> Result<(), AllocError>
+        ensures held { OnOk result (self.new.held ≡ self.old.held) }
+        ensures spares { OnOk result (self.new.spares ≡ self.old.spares + count) }
+        ensures refused { OnErr result (self.new ≡ self.old) }
     {
-        let at = self.spare.pointer();
-        let next_spare = self.nodes.links(at).link;
-        let block = self.nodes.remove(at);
-        deallocate(&self.alloc, block);
-        self.spare = next_spare;
-        self.spares -= 1;
+        self.grow_by(count, 0)
     }
 
-    /// Frees the spare nodes, in O(n). The guard, the order and positions stay.
+    /// Makes `count` more nodes spare, as `grow` does. To make one, it allocates as many as there
+    /// are, at most 64, and so that there are at most `most` nodes.
+    pub fn grow_within(&mut self, count: usize, most: usize) -> Result<(), AllocError>
+        ensures held { OnOk result (self.new.held ≡ self.old.held) }
+        ensures spares { OnOk result (self.new.spares ≡ self.old.spares + count) }
+        ensures refused { OnErr result (self.new ≡ self.old) }
+    {
+        if self.use_made(count) {
+            return Ok(());
+        }
+        let least = chunk_size(count, self.made, most);
+        self.grow_by(count, least)
+    }
+
+    /// Makes no node spare any more. The nodes stay for a later growth. The order and positions
+    /// stay.
     pub fn free_spares(&mut self)
         ensures held { self.new.held ≡ self.old.held }
         ensures no_spares { self.new.spares ≡ 0 }
     {
-        'spares: while 0 < self.spares() {
-            self.drop_spare();
-        }
+        self.spares = 0;
     }
 }

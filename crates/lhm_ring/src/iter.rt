@@ -7,7 +7,7 @@ ghost use Rattle.lhm_ring.specs.Iterators.{IsFirstStep, IsLastStep, LendsFirstSt
 use crate::block::NodePointer;
 use crate::links::Links;
 use crate::nodes::Nodes;
-use crate::ring::{Ring, nowhere};
+use crate::ring::Ring;
 use crate::value_loan::{Hole, LentValues, ValueLoan};
 use std::alloc::AllocError;
 use std::iter::{DoubleEndedIterator, ExactSizeIterator, Iterator};
@@ -17,24 +17,23 @@ use std::marker::Model;
 /// and none allocates.
 #[derive(Drop)]
 pub struct Iter<'a, K, V> {
-    // What is left is in the `left` nodes between the one at `before` and the one at `after`.
+    // What is left is in the `left` nodes from `first` to `last`.
     pub(crate) nodes: &'a Nodes<Links, K, V>,
-    pub(crate) before: NodePointer,
-    pub(crate) after: NodePointer,
+    pub(crate) first: NodePointer,
+    pub(crate) last: NodePointer,
     pub(crate) left: usize,
 }
 
 impl<'a, K, V> Model for Iter<'a, K, V> {
     ghost use Rattle.std.specs.Prelude.{List};
-    ghost use Rattle.lhm_ring.specs.Rings.{listed, follow};
+    ghost use Rattle.lhm_ring.specs.Rings.{IsSpan, listed, pointers_from};
     ghost use Rattle.lhm_ring.specs.RingState.{Held};
-    ghost use Rattle.lhm_ring.specs.Iterators.{IsBetween};
 
     ghost Value = { List (Held (K × V)) };
 
-    ghost view = { λ w. listed w.nodes.now.cells (follow w.nodes.now.cells w.left w.before.ptr) };
+    ghost view = { λ w. listed w.nodes.now.cells (pointers_from w.nodes.now.cells w.left w.first.ptr) };
 
-    ghost invariant = { λ w. IsBetween w.nodes.now.cells w.before.ptr w.after.ptr w.left };
+    ghost invariant = { λ w. IsSpan w.nodes.now.cells w.first.ptr w.last.ptr w.left };
 }
 
 impl<'a, K, V> Iter<'a, K, V> {
@@ -46,10 +45,11 @@ impl<'a, K, V> Iter<'a, K, V> {
             return None;
         }
         let nodes = self.nodes;
-        let at = nodes.links(self.before).next;
-        self.before = at;
+        let at = self.first;
+        let links = nodes.links(at);
+        self.first = links.next.address();
         self.left -= 1;
-        Some((at, nodes.links(at).hash, nodes.key(at), nodes.value(at)))
+        Some((at, links.hash, nodes.key(at), nodes.value(at)))
     }
 
     /// Returns the last triple left and moves past it, or returns `None` if none is left.
@@ -60,10 +60,11 @@ impl<'a, K, V> Iter<'a, K, V> {
             return None;
         }
         let nodes = self.nodes;
-        let at = nodes.links(self.after).prev;
-        self.after = at;
+        let at = self.last;
+        let links = nodes.links(at);
+        self.last = links.prev.address();
         self.left -= 1;
-        Some((at, nodes.links(at).hash, nodes.key(at), nodes.value(at)))
+        Some((at, links.hash, nodes.key(at), nodes.value(at)))
     }
 }
 
@@ -118,8 +119,8 @@ impl<'a, K, V> Clone for Iter<'a, K, V> {
     fn clone(&self) -> Result<Self, AllocError> {
         Ok(Iter {
             nodes: self.nodes,
-            before: self.before,
-            after: self.after,
+            first: self.first,
+            last: self.last,
             left: self.left,
         })
     }
@@ -227,19 +228,11 @@ impl<K, V> Ring<K, V> {
     pub fn iter(&self) -> Iter<'_, K, V>
         ensures { result ≡ self.now.held }
     {
-        match self.guard {
-            Some(guard) => Iter {
-                nodes: &self.nodes,
-                before: guard,
-                after: guard,
-                left: self.len,
-            },
-            None => Iter {
-                nodes: &self.nodes,
-                before: nowhere(),
-                after: nowhere(),
-                left: 0,
-            },
+        Iter {
+            nodes: &self.nodes,
+            first: self.ends.first.address(),
+            last: self.ends.last.address(),
+            left: self.len,
         }
     }
 

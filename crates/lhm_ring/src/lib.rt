@@ -11,6 +11,8 @@ pub(crate) mod value_loan;
 // Safe code over these, with no proof by hand.
 pub(crate) mod access;
 pub(crate) mod buckets;
+pub(crate) mod chunk;
+pub(crate) mod compact;
 pub(crate) mod drain;
 pub(crate) mod filter;
 pub(crate) mod grow;
@@ -29,3 +31,4 @@ pub mod ring;
 pub(crate) mod search;
 pub(crate) mod splice;
 pub mod table;
+pub(crate) mod walk;

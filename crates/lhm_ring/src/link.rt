@@ -54,6 +54,13 @@ impl Link {
         }
     }
 
+    /// Returns the address that it leads to, which is null if it leads nowhere.
+    pub(crate) fn address(self) -> NodePointer
+        ensures { result.ptr ≡ self.ptr }
+    {
+        NodePointer { ptr: self.ptr }
+    }
+
     /// Returns the pointer that it leads to, if it leads somewhere. Nothing is tested.
     pub(crate) fn pointer(self) -> NodePointer
         requires { IsSome (target self) }

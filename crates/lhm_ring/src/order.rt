@@ -20,12 +20,12 @@ impl<K, V> Ring<K, V> {
         ensures spares { self.new.spares ≡ self.old.spares }
         ensures apart { IsApart (map (λ t. t.at) self.old.held) }
     {
-        let guard = self.guard.unwrap();
         let links = *self.nodes.links(at.pointer);
-        join(&mut self.nodes, links.prev, links.next);
-        let last = self.nodes.links(guard).prev;
-        join(&mut self.nodes, last, at.pointer);
-        join(&mut self.nodes, at.pointer, guard);
+        let moved = Link::to(at.pointer);
+        join(&mut self.nodes, &mut self.ends, links.prev, links.next);
+        let last = self.ends.last;
+        join(&mut self.nodes, &mut self.ends, last, moved);
+        join(&mut self.nodes, &mut self.ends, moved, Link::none());
     }
 
     /// Inserts a triple at the back, into a spare node, and returns its position. Its chain link
@@ -35,11 +35,11 @@ impl<K, V> Ring<K, V> {
         ensures last { self.new.held ≡ self.old.held ++ held (pointer_of result) hash None (pair key value) ∷ [] }
         ensures spares { self.new.spares ≡ self.old.spares - 1 }
     {
-        let guard = self.guard.unwrap();
         let at = self.spare.pointer();
         let old = *self.nodes.links(at);
-        let previous = self.nodes.links(guard).prev;
-        // A spare node is no guard, and `join` writes its other two links.
+        let node = self.spare;
+        let previous = self.ends.last;
+        // `join` writes the other two links.
         let fresh = Links {
             link: Link::none(),
             hash,
@@ -47,8 +47,8 @@ impl<K, V> Ring<K, V> {
         };
         self.nodes.set_links(at, fresh);
         self.nodes.fill(at, key, value);
-        join(&mut self.nodes, previous, at);
-        join(&mut self.nodes, at, guard);
+        join(&mut self.nodes, &mut self.ends, previous, node);
+        join(&mut self.nodes, &mut self.ends, node, Link::none());
         self.spare = old.link;
         self.spares -= 1;
         self.len += 1;
@@ -65,7 +65,7 @@ impl<K, V> Ring<K, V> {
     {
         let at = at.pointer;
         let old = *self.nodes.links(at);
-        join(&mut self.nodes, old.prev, old.next);
+        join(&mut self.nodes, &mut self.ends, old.prev, old.next);
         let (key, value) = self.nodes.take(at);
         relink(&mut self.nodes, at, self.spare);
         self.spare = Link::to(at);

@@ -1,4 +1,4 @@
-//! The pairs of a table that ended, each moved out while its node is freed.
+//! The pairs of a table that ended, to be moved out one by one.
 ghost use Rattle.std.specs.Prelude.{◌≡◌, []};
 ghost use Rattle.lhm_ring.specs.RingState.{triples};
 ghost use Rattle.lhm_ring.specs.Splices.{HandsOutFirst};
@@ -31,17 +31,15 @@ impl<K, V> OwnedPairs<K, V> {
     }
 
     /// Removes the front pair and returns it with its hash, or returns `None` if no pair is left.
-    /// It is O(1), does not allocate, and frees the node of the pair.
+    /// It is O(1), and neither allocates nor frees.
     pub fn take_first(&mut self) -> Option<(u64, K, V)>
         ensures { HandsOutFirst self.old result self.new }
     {
         let at = self.ring.first()?;
-        let triple = self.ring.unlink(at);
-        self.ring.drop_spare();
-        Some(triple)
+        Some(self.ring.unlink(at))
     }
 
-    /// Ends it once no pair is left, and frees the spare nodes, in O(n) for them.
+    /// Ends it once no pair is left, and frees all nodes, in O(n) for their chunks.
     pub fn destroy_empty(self)
         requires { self ≡ [] }
     {

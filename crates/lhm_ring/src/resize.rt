@@ -1,5 +1,6 @@
 //! The capacity of a table is raised and lowered.
 ghost use Rattle.std.specs.Prelude.{◌≡◌, ◌+◌, ◌<◌, ◌≤◌, ◌^◌, [], length, OnOk, OnErr};
+ghost use Rattle.lhm_ring.specs.RingState.{triples};
 ghost use Rattle.lhm_ring.specs.Buckets.{buckets, rechained_raised, rechained_lowered, rechained_fitted};
 
 use crate::buckets::with_filter;
@@ -24,7 +25,7 @@ impl<K, V> Table<K, V> {
     {
         let additional = capacity - self.capacity();
         if capacity <= self.index.buckets() {
-            return self.ring.grow(additional);
+            return self.ring.grow_within(additional, self.index.buckets());
         }
         self.raise_buckets(capacity)
     }
@@ -44,7 +45,7 @@ impl<K, V> Table<K, V> {
     {
         let additional = capacity - self.capacity();
         let (index, filter) = with_filter(self.ring.allocator(), capacity)?;
-        match self.ring.grow(additional) {
+        match self.ring.grow_within(additional, index.buckets()) {
             Ok(()) => {
                 self.rechained += self.index.take_over(index, &mut self.ring);
                 self.filter.take_over(filter, &self.ring);
@@ -60,10 +61,12 @@ impl<K, V> Table<K, V> {
 
     /// Lowers the capacity to the number of pairs, or changes nothing if an allocation fails.
     ///
-    /// It allocates only if there are pairs and are to be fewer buckets, which rehashes all pairs,
-    /// in O(n). An empty table frees all its memory.
+    /// It allocates only if there are pairs and are to be fewer buckets: all pairs then move into
+    /// one block of exactly that many nodes, and are rehashed, in O(n). All positions end. If the
+    /// number of buckets stays, nodes beyond the capacity stay for a later growth. An empty table
+    /// frees all its memory.
     pub fn shrink_to_fit(&mut self) -> Result<(), AllocError>
-        ensures held { self.new.held ≡ self.old.held }
+        ensures triples { triples self.new.held ≡ triples self.old.held }
         ensures capacity { OnOk result (self.new.capacity ≡ length self.old.held) }
         ensures rechained { OnOk result (self.new.rechained
             ≡ rechained_fitted self.old.rechained (length self.old.held) self.old.capacity) }
@@ -80,9 +83,10 @@ impl<K, V> Table<K, V> {
         Ok(())
     }
 
-    /// Lowers the capacity to the number of pairs, with new buckets if there are to be fewer.
+    /// Lowers the capacity to the number of pairs, with new buckets and nodes if there are to be
+    /// fewer buckets.
     fn lower(&mut self) -> Result<(), AllocError>
-        ensures held { self.new.held ≡ self.old.held }
+        ensures triples { triples self.new.held ≡ triples self.old.held }
         ensures capacity { OnOk result (self.new.capacity ≡ length self.old.held) }
         ensures rechained { OnOk result (self.new.rechained ≡ rechained_lowered (length self.old.held) self.old.capacity) }
         ensures refused { OnErr result (self.new ≡ self.old) }
@@ -93,11 +97,30 @@ impl<K, V> Table<K, V> {
             self.rechained = 0;
             return Ok(());
         }
-        let (index, filter) = with_filter(self.ring.allocator(), len)?;
-        self.ring.free_spares();
-        self.rechained = self.index.take_over(index, &mut self.ring);
-        self.filter.take_over(filter, &self.ring);
-        Ok(())
+        self.lower_buckets()
+    }
+
+    /// Allocates buckets and nodes for exactly the pairs, and moves and rehashes them, in O(n). It
+    /// changes nothing if an allocation fails.
+    fn lower_buckets(&mut self) -> Result<(), AllocError>
+        ensures triples { triples self.new.held ≡ triples self.old.held }
+        ensures capacity { OnOk result (self.new.capacity ≡ length self.old.held) }
+        ensures rechained { OnOk result (self.new.rechained ≡ length self.old.held) }
+        ensures refused { OnErr result (self.new ≡ self.old) }
+    {
+        let (index, filter) = with_filter(self.ring.allocator(), self.ring.len())?;
+        match self.ring.compact() {
+            Ok(()) => {
+                self.rechained = self.index.take_over(index, &mut self.ring);
+                self.filter.take_over(filter, &self.ring);
+                Ok(())
+            }
+            Err(refused) => {
+                index.free();
+                filter.free();
+                Err(refused)
+            }
+        }
     }
 
     /// Deallocates all memory of an empty table, in O(n).

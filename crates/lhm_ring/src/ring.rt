@@ -1,47 +1,53 @@
-//! The ring: a guard, the held nodes in order, and the spare ones.
+//! The ring: the held nodes in order, and the spare ones.
 ghost use Rattle.std.specs.Prelude.{◌≡◌, ◌+◌, ◌≤◌, ◌^◌, [], true, length, IfOk, IsOk};
 ghost use Rattle.lhm_ring.specs.Cells.{IsAt};
-ghost use Rattle.lhm_ring.specs.Rings.{IsJoined, Relinks, is_there};
+ghost use Rattle.lhm_ring.specs.Rings.{ring_cells, IsJoined, LeadsOn, LeadsBack, Relinks, is_there};
 
-use crate::block::{NodePointer, deallocate};
+use crate::block::NodePointer;
+use crate::chunk::Chunk;
 pub use crate::drain::Drain;
+use crate::grow::free_chunks;
 pub use crate::iter::{Iter, IterMut};
 use crate::link::Link;
-use crate::links::Links;
+use crate::links::{Ends, Links};
 use crate::nodes::Nodes;
 pub use crate::position::Position;
 pub use crate::value_loan::{Hole, LentValues, ValueLoan};
 use std::alloc::{AllocError, Global};
 use std::marker::Model;
 
-/// Triples of a hash, a key and a value, in order, each at a position that stays until it leaves,
-/// and spare nodes for more.
+/// Triples of a hash, a key and a value, in order, each at a position that stays until the triple
+/// leaves or `compact` moves it, and spare nodes for more.
 ///
-/// Each triple and each spare node is one block of memory, and so is the guard. Only `grow` and
-/// `with_spares` allocate; only `free_spares`, `destroy_empty` and dropping the ring free. Dropping
-/// it drops the triples, in O(n) for its nodes.
+/// The nodes of the triples and the spare nodes are cut from chunks, each one block of memory. Only
+/// `grow`, `grow_within`, `with_spares` and `compact` allocate; only `compact`, `destroy_empty` and
+/// dropping the ring free. Dropping it drops the triples, in O(n).
 pub struct Ring<K, V> {
     pub(crate) nodes: Nodes<Links, K, V>,
     pub(crate) alloc: Global,
-    pub(crate) guard: Option<NodePointer>,
+    pub(crate) chunks: Vec<Chunk, Global>,
+    // How many nodes the chunks have.
+    pub(crate) made: usize,
+    pub(crate) ends: Ends,
     pub(crate) spare: Link,
     pub(crate) len: usize,
     pub(crate) spares: usize,
 }
 
 impl<K, V> Model for Ring<K, V> {
-    ghost use Rattle.lhm_ring.specs.Rings.{ring_list, RingOk};
+    ghost use Rattle.lhm_ring.specs.Rings.{ring_cells, ring_list, RingOk};
     ghost use Rattle.lhm_ring.specs.RingState.{State, state};
+    ghost use Rattle.lhm_ring.specs.Land.{IsLaid};
 
     ghost Value = { State (K × V) };
 
-    ghost view = { λ r. state (ring_list r.nodes.cells r.guard r.len) r.spares };
+    ghost view = { λ r. state (ring_list (ring_cells r.ends r.nodes.cells) r.len) r.spares };
 
-    ghost invariant = { λ r. RingOk r.nodes.cells r.guard r.spare r.len r.spares };
+    ghost invariant = { λ r. RingOk (ring_cells r.ends r.nodes.cells) r.spare r.len r.spares × IsLaid r.nodes.unused r.nodes.chunks r.chunks.items r.made };
 }
 
 impl<K, V> Ring<K, V> {
-    /// Creates an empty ring with no spare nodes. It does not allocate, not even a guard.
+    /// Creates an empty ring with no spare nodes. It does not allocate.
     pub fn new(alloc: Global) -> Ring<K, V>
         ensures empty { result.held ≡ [] }
         ensures no_spares { result.spares ≡ 0 }
@@ -49,7 +55,12 @@ impl<K, V> Ring<K, V> {
         Ring {
             nodes: Nodes::new(),
             alloc,
-            guard: None,
+            chunks: Vec::new(alloc),
+            made: 0,
+            ends: Ends {
+                first: Link::none(),
+                last: Link::none(),
+            },
             spare: Link::none(),
             len: 0,
             spares: 0,
@@ -97,56 +108,82 @@ impl<K, V> Ring<K, V> {
         self.spares
     }
 
-    /// Ends a ring that holds nothing, and frees its nodes, in O(n). Keys and values need no
-    /// `Drop`.
-    pub fn destroy_empty(mut self)
+    /// Ends a ring that holds nothing, and frees its nodes, in O(n) for its chunks. Keys and values
+    /// need no `Drop`.
+    pub fn destroy_empty(self)
         requires { self.held ≡ [] }
     {
-        self.free_spares();
         let Ring {
             mut nodes,
             alloc,
-            guard,
+            chunks,
+            made: _,
+            ends: _,
             spare: _,
             len: _,
             spares: _,
         } = self;
-        if let Some(guard) = guard {
-            let block = nodes.remove(guard);
-            deallocate(&alloc, block);
-        }
+        free_chunks(&mut nodes, &alloc, chunks);
         nodes.end();
     }
 }
 
-/// Makes `b` the node right after `a`.
-pub(crate) fn join<K, V>(nodes: &mut Nodes<Links, K, V>, a: NodePointer, b: NodePointer)
-    requires { (is_there nodes.old.cells a.ptr ≡ true) × (is_there nodes.old.cells b.ptr ≡ true) }
-    ensures { IsJoined nodes.old.cells nodes.new.cells a.ptr b.ptr }
+/// Makes `b` the node right after `a`. A link that leads nowhere stands for the ends of the ring.
+#[inline]
+pub(crate) fn join<K, V>(nodes: &mut Nodes<Links, K, V>, ends: &mut Ends, a: Link, b: Link)
+    requires { (is_there (ring_cells ends.old nodes.old.cells) a.ptr ≡ true) × (is_there (ring_cells ends.old nodes.old.cells) b.ptr ≡ true) }
+    ensures joined { IsJoined (ring_cells ends.old nodes.old.cells) (ring_cells ends.new nodes.new.cells) a.ptr b.ptr }
+    ensures land { (nodes.new.unused ≡ nodes.old.unused) × (nodes.new.chunks ≡ nodes.old.chunks) }
 {
-    let mut links = *nodes.links(a);
-    links.next = b;
-    nodes.set_links(a, links);
-    let mut links = *nodes.links(b);
-    links.prev = a;
-    nodes.set_links(b, links);
+    set_next(nodes, ends, a, b);
+    set_prev(nodes, ends, b, a);
+}
+
+/// Makes the node at `at`, or the start of the ring, lead on to `next`.
+#[inline]
+fn set_next<K, V>(nodes: &mut Nodes<Links, K, V>, ends: &mut Ends, at: Link, next: Link)
+    requires { is_there (ring_cells ends.old nodes.old.cells) at.ptr ≡ true }
+    ensures written { LeadsOn (ring_cells ends.old nodes.old.cells) at.ptr next (ring_cells ends.new nodes.new.cells) }
+    ensures land { (nodes.new.unused ≡ nodes.old.unused) × (nodes.new.chunks ≡ nodes.old.chunks) }
+{
+    let there: Option<Position<K, V>> = at.get();
+    match there {
+        Some(at) => {
+            let mut links = *nodes.links(at.pointer);
+            links.next = next;
+            nodes.set_links(at.pointer, links);
+        }
+        None => ends.first = next,
+    }
+}
+
+/// Makes the node at `at`, or the end of the ring, lead back to `prev`.
+#[inline]
+fn set_prev<K, V>(nodes: &mut Nodes<Links, K, V>, ends: &mut Ends, at: Link, prev: Link)
+    requires { is_there (ring_cells ends.old nodes.old.cells) at.ptr ≡ true }
+    ensures written { LeadsBack (ring_cells ends.old nodes.old.cells) at.ptr prev (ring_cells ends.new nodes.new.cells) }
+    ensures land { (nodes.new.unused ≡ nodes.old.unused) × (nodes.new.chunks ≡ nodes.old.chunks) }
+{
+    let there: Option<Position<K, V>> = at.get();
+    match there {
+        Some(at) => {
+            let mut links = *nodes.links(at.pointer);
+            links.prev = prev;
+            nodes.set_links(at.pointer, links);
+        }
+        None => ends.last = prev,
+    }
 }
 
 /// Sets the chain link of the node at `at`. Nothing else changes.
 pub(crate) fn relink<K, V>(nodes: &mut Nodes<Links, K, V>, at: NodePointer, link: Link)
     requires { IsAt nodes.old.cells at.ptr }
-    ensures { Relinks nodes.old.cells at.ptr link nodes.new.cells }
+    ensures relinked { Relinks nodes.old.cells at.ptr link nodes.new.cells }
+    ensures land { (nodes.new.unused ≡ nodes.old.unused) × (nodes.new.chunks ≡ nodes.old.chunks) }
 {
     let mut links = *nodes.links(at);
     links.link = link;
     nodes.set_links(at, links);
-}
-
-/// Returns a pointer to no node, for links that lead nowhere yet.
-pub(crate) fn nowhere() -> NodePointer {
-    NodePointer {
-        ptr: std::ptr::null(),
-    }
 }
 
 impl<K: Drop, V: Drop> Drop for Ring<K, V> {
@@ -155,7 +192,6 @@ impl<K: Drop, V: Drop> Drop for Ring<K, V> {
             let (_, key, value) = self.unlink(at);
             drop(key);
             drop(value);
-            self.drop_spare();
         }
         self.destroy_empty();
     }

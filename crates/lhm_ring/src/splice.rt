@@ -1,12 +1,14 @@
 //! All held nodes become spare at once.
-ghost use Rattle.lhm_ring.specs.Splices.{HasRow, SparesRow, HasRing, SplicesRing};
+ghost use Rattle.std.specs.Prelude.{◌≡◌};
+ghost use Rattle.lhm_ring.specs.Splices.{HasRow, SparesRow, HasRing, SplicesRing, KeepsRow};
+ghost use Rattle.lhm_ring.specs.Rings.{ring_cells};
 ghost use Rattle.lhm_ring.specs.Targets.{target};
 
 use crate::block::NodePointer;
 use crate::link::Link;
-use crate::links::Links;
+use crate::links::{Ends, Links};
 use crate::nodes::Nodes;
-use crate::ring::{join, nowhere, relink};
+use crate::ring::{join, relink};
 
 /// The nodes that a ring held, from `first` to `last`, and the first spare node after them.
 pub(crate) struct Spliced {
@@ -24,13 +26,14 @@ fn spare_row<K, V>(
     spare: Link,
 ) -> Link
     requires { HasRow nodes.old.cells first.ptr count (target spare) }
-    ensures { SparesRow nodes.old.cells first.ptr count (target spare) nodes.new.cells (target result) }
+    ensures spared { SparesRow nodes.old.cells first.ptr count (target spare) nodes.new.cells (target result) }
+    ensures land { (nodes.new.unused ≡ nodes.old.unused) × (nodes.new.chunks ≡ nodes.old.chunks) }
 {
     let mut at = first;
     let mut spare = spare;
     let mut left = count;
     'row: while 0 < left {
-        let next = nodes.links(at).next;
+        let next = nodes.links(at).next.address();
         relink(nodes, at, spare);
         spare = Link::to(at);
         at = next;
@@ -42,28 +45,18 @@ fn spare_row<K, V>(
 /// Makes all held nodes spare. What they hold stays in them.
 pub(crate) fn splice<K, V>(
     nodes: &mut Nodes<Links, K, V>,
-    guard: Option<NodePointer>,
+    ends: &mut Ends,
     spare: Link,
     count: usize,
 ) -> Spliced
-    requires { HasRing nodes.old.cells guard spare count }
-    ensures { SplicesRing nodes.old.cells guard spare count nodes.new.cells result }
+    requires { HasRing (ring_cells ends.old nodes.old.cells) spare count }
+    ensures spliced { SplicesRing (ring_cells ends.old nodes.old.cells) spare count (ring_cells ends.new nodes.new.cells) result }
+    ensures row { KeepsRow (ring_cells ends.old nodes.old.cells) spare count nodes.new.cells result }
+    ensures land { (nodes.new.unused ≡ nodes.old.unused) × (nodes.new.chunks ≡ nodes.old.chunks) }
 {
-    match guard {
-        Some(guard) => {
-            let links = *nodes.links(guard);
-            let spare = spare_row(nodes, links.next, count, spare);
-            join(nodes, guard, guard);
-            Spliced {
-                first: links.next,
-                last: links.prev,
-                spare,
-            }
-        }
-        None => Spliced {
-            first: nowhere(),
-            last: nowhere(),
-            spare,
-        },
-    }
+    let first = ends.first.address();
+    let last = ends.last.address();
+    let spare = spare_row(nodes, first, count, spare);
+    join(nodes, ends, Link::none(), Link::none());
+    Spliced { first, last, spare }
 }

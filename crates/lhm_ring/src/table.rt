@@ -26,9 +26,9 @@ pub type WithoutValues<K, V> = Ring<K, Hole<V>>;
 
 /// Pairs of a key and a value in insertion order, each with its hash, found by hash and key.
 ///
-/// Each pair has a [`Position`] until it is removed. The capacity is the number of pairs that fit
-/// without an allocation. Only `with_capacity`, `raise` and `shrink_to_fit` allocate; if that
-/// fails, nothing changes.
+/// Each pair has a [`Position`] until it is removed or moved by `shrink_to_fit`. The capacity is
+/// the number of pairs that fit without an allocation. Only `with_capacity`, `raise` and
+/// `shrink_to_fit` allocate; if that fails, nothing changes.
 ///
 /// It is not `Drop`: only `into_pairs` and `into_iter` end it.
 pub struct Table<K, V> {
@@ -150,6 +150,14 @@ impl<K, V> Table<K, V> {
         self.ring.next(at)
     }
 
+    /// Returns the position of the previous pair, or `None` at the front.
+    pub fn previous(&self, at: Position<K, V>) -> Option<Position<K, V>>
+        requires { IsHeld self.now.held (pointer_of at) }
+        ensures { AtHeld self.now.held (pointer_of at) (λ xs t ys. pointer_of_some result ≡ last_at xs) }
+    {
+        self.ring.previous(at)
+    }
+
     /// Returns the key at a position.
     pub fn key(&self, at: Position<K, V>) -> &K
         requires { IsHeld self.now.held (pointer_of at) }
@@ -248,7 +256,7 @@ impl<K, V> Table<K, V> {
     }
 
     /// Ends the table and returns its pairs, front to back, for an owner that drops them. It frees
-    /// the buckets, in O(n) for them; the nodes are freed as the pairs are taken.
+    /// the buckets, in O(n) for them; the nodes are freed when the pairs' owner ends.
     pub fn into_pairs(self) -> OwnedPairs<K, V>
         ensures { result ≡ triples self.held }
     {

@@ -1,6 +1,6 @@
--- A map when its room grows or shrinks, when a pair is put at the back, and when it holds nothing.
+-- A map when its room grows, when a pair is put at the back, and when it holds nothing.
 use Rattle.std.proofs.Common.{◌≡◌, ℕ, zero, suc, ◌+◌, ◌<◌, ◌≤◌, Bool, true, false, cond, List, [], ◌∷◌, ◌++◌, map, length, take, drop, Option, Some, None, refl, sym, ap, ◌∙◌, subst, arith, length-append, true≢false}
-use Rattle.std.specs.Prelude.{is_some, Result, Ok, Err, OnOk, OnErr}
+use Rattle.std.specs.Prelude.{is_some}
 use Rattle.std.specs.List.{list_any, IsDistinct}
 use Rattle.std.specs.Cmp.{IsEquivalence}
 use Rattle.std.specs.Map.{keys_of}
@@ -95,13 +95,6 @@ module _ {K V : Type 0} {eq : K → K → Bool} {hash : K → ℕ} where
     IsKept-room {t} same within limit =
         let of_bare = length-bare s.held in
         record { nodes = subst (λ us. AreKept eq hash us t.capacity mark n current) (sym (ap bare same)) (AreKept-room kept.nodes t.capacity (omega (arith, of_bare, within)) limit) }
-
-    -- the capacity was lowered to the number of pairs, or nothing was changed
-    pub IsKept-fitted : {E : Type 0} {t : TableState (K × V)} (result : Result (Unit {0}) E) → t.held ≡ s.held → OnOk result (t.capacity ≡ length s.held) → OnErr result (t ≡ s) → IsKept eq hash t mark n current
-    IsKept-fitted (Ok _) same room _ =
-        let of_bare = length-bare s.held in
-        IsKept-room same (omega (arith, room)) (omega (arith, room, of_bare, kept.nodes.within, kept.nodes.limit))
-    IsKept-fitted {t = t} (Err _) same _ unchanged = subst (λ u. IsKept eq hash u mark n current) (sym unchanged) kept
 
     module _ (p : Ptr) (hash_key : ℕ) (key : K) (value : V) (t : TableState (K × V)) (last : t.held ≡ s.held ++ held p hash_key None (pair key value) ∷ []) where
       bare_is : bare t.held ≡ bare s.held ++ held p hash_key None key ∷ []

@@ -12,6 +12,7 @@ mod EntryValue
 mod Examples
 pub mod Extends
 pub mod FirstAndLast
+pub mod Fitted
 pub mod Growth
 pub mod HighWater
 pub mod Indexes

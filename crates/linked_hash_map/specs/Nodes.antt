@@ -36,6 +36,13 @@ module _ {B : Type 0} where
   Lies None hs = ⊤
   Lies (Some p) hs = before p hs < length hs
 
+  -- where there is a pointer, the node there has this many behind it; elsewhere there is no count
+  abbrev pub HasBehind : Option Ptr → List (Held B) → Option ℕ → Type 0
+  HasBehind None hs None = ⊤
+  HasBehind None hs (Some n) = ⊥
+  HasBehind (Some p) hs None = ⊥
+  HasBehind (Some p) hs (Some n) = before p hs + n + 1 ≡ length hs
+
 -- where a cursor or an entry stands: nowhere, and with nothing to visit, where there is neither
 module _ {K V : Type 0} where
   abbrev pub mark_of : Visit K V → Option Ptr

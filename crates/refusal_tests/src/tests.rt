@@ -3,10 +3,13 @@
 //! The tests whose names begin with `refused_` hold whichever one of their growths is refused.
 //! Where none was, a test says so, and how many it asks for. That number is counted by hand, from
 //! what the calls promise: a map asks for one growth for its buckets and one for their filter where
-//! the number of buckets changes to another than 0, one for the guard of its nodes where it has
-//! none, and one for each further node. The last growth is one that the test asks for itself,
-//! behind the calls. So a growth whose refusal a call ignores is seen too, as one more or one fewer
-//! than the test says.
+//! the number of buckets changes to another than 0, and one for a chunk of nodes where it has too
+//! few. Its list of chunks takes one at the first chunk, at the fifth and at the ninth. A chunk has
+//! the nodes that are missing. If the capacity rises by one, it has further ones, up to 64 in all
+//! and up to a node for each bucket. If there are to be fewer buckets, the pairs move into one new
+//! chunk, which has a list of its own. The last growth is one that the test asks for itself, behind
+//! the calls. So a growth whose refusal a call ignores is seen too, as one more or one fewer than
+//! the test says.
 
 mod calls;
 mod capacities;
@@ -59,7 +62,8 @@ fn is_given(alloc: Global) -> bool {
     Box::new(alloc, 0).is_ok()
 }
 
-/// Makes a map of this capacity, for which it asks for three growths more.
+/// Makes a map of this capacity. Above 0 it asks for four growths: buckets, a filter, a list of chunks
+/// and a chunk.
 fn with_room(alloc: Global, capacity: usize) -> Result<Map, ReserveError> {
     LinkedHashMap::with_capacity_and_hasher(alloc, capacity, BUILDER)
 }

@@ -3,8 +3,8 @@
 //! The tests named `refused_` run with the Nth growth refused, for each N, until all of them say that every growth was given, and how
 //! many there are. That number is counted by hand. A vector of bytes grows to 8, and one of commands or of pairs to 4, and each doubles
 //! from there. The room of the replies is one growth, and so is the list of a draining. A map asks
-//! for its buckets, a filter, a guard and a node at its first pair, and for its buckets, a filter
-//! and a node at its second.
+//! for its buckets, a filter, a list of chunks and a chunk at its first pair, and for its buckets, a
+//! filter and a chunk at its second.
 
 use super::checks::{check_eq, given};
 use super::fakes::{Sink, Source};

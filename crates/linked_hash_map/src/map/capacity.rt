@@ -58,6 +58,9 @@ impl<K: Eq + Hash, V, S: BuildHasher> LinkedHashMap<K, V, S> {
     /// Lowers the capacity to exactly the number of pairs, in O(capacity) for the old one, hashing
     /// no key. An empty map frees all its memory.
     ///
+    /// With fewer buckets it moves the pairs into one block of exactly as many nodes, and frees the
+    /// old ones. With as many buckets the nodes beyond the capacity stay for a later growth.
+    ///
     /// It allocates only if pairs are left and there are to be fewer buckets. Returns `NoRoom` if
     /// that fails; the map is then unchanged.
     ///
@@ -87,8 +90,12 @@ impl<K: Eq + Hash, V, S: BuildHasher> LinkedHashMap<K, V, S> {
         ensures some { OnErr result (0 < length self.old.pairs) }
         ensures spare { OnErr result (length self.old.pairs < self.old.capacity) }
     {
+        let behind = self.visit.behind(&self.table);
         match self.table.shrink_to_fit() {
-            Ok(()) => Ok(()),
+            Ok(()) => {
+                self.visit = self.visit.moved_to(&self.table, behind);
+                Ok(())
+            }
             Err(_) => Err(NoRoom),
         }
     }

@@ -1,7 +1,7 @@
 //! Where a cursor or an entry stands: the pairs left to visit, and the pair of an entry.
 //!
 //! The contracts speak of indexes into the list of pairs, which no public call does.
-ghost use Rattle.std.specs.Prelude.{◌≡◌, ◌<◌, [], length, option_map, None, ◌∷◌, map, remove, slice_get, Some, IsTrue, IsFalse};
+ghost use Rattle.std.specs.Prelude.{◌≡◌, ◌<◌, [], length, option_map, None, ◌∷◌, map, remove, slice_get, Some, IfSome, IfNone, IsTrue, IsFalse};
 ghost use Rattle.std.specs.Map.{keys_of};
 ghost use Rattle.std.specs.Borrow.{sem};
 ghost use Rattle.linked_hash_map.specs.Pairs.{find, put};
@@ -10,7 +10,7 @@ ghost use Rattle.linked_hash_map.specs.Changes.{Keeps};
 ghost use Rattle.linked_hash_map.specs.Validity.{IsValid};
 ghost use Rattle.linked_hash_map.specs.Hashers.{hash_by};
 ghost use Rattle.linked_hash_map.specs.Indexes.{IsIndex};
-ghost use Rattle.linked_hash_map.specs.Nodes.{mark_of, unvisited_of, current_of};
+ghost use Rattle.linked_hash_map.specs.Nodes.{mark_of, unvisited_of, current_of, Lies, HasBehind};
 ghost use Rattle.lhm_ring.specs.Cells.{IsApart};
 ghost use Rattle.lhm_ring.specs.Positions.{pointer_of, pointer_of_some};
 ghost use Rattle.lhm_ring.specs.RingState.{IsHeld, AtHeld, first_at};
@@ -76,6 +76,38 @@ impl<K, V> Visit<K, V> {
         ensures { pointer_of_some result ≡ current_of self.now }
     {
         if self.active { self.current } else { None }
+    }
+
+    /// Returns how many pairs of the table come behind the next one to visit, or `None` if none is
+    /// left to visit. It is O(n) in an active visit.
+    pub(super) fn behind(&self, table: &Table<K, V>) -> Option<usize>
+        requires { Lies (mark_of self.now) table.now.held }
+        ensures { HasBehind (mark_of self.now) table.now.held result }
+    {
+        match self.mark() {
+            Some(at) => Some(table.behind(at)),
+            None => None,
+        }
+    }
+
+    /// Returns this visit with its mark at the pair of the table that has this many behind it, in
+    /// O(n). No pair is current then.
+    pub(super) fn moved_to(&self, table: &Table<K, V>, behind: Option<usize>) -> Self
+        requires within { IfSome behind (λ n. n < length table.now.held) }
+        requires none { IfNone behind (unvisited_of self.now ≡ 0) }
+        ensures mark { HasBehind (mark_of result) table.now.held behind }
+        ensures unvisited { unvisited_of result ≡ unvisited_of self.now }
+        ensures current { current_of result ≡ None }
+    {
+        match behind {
+            Some(behind) => Visit {
+                active: true,
+                mark: table.nth_back(behind),
+                unvisited: self.unvisited(),
+                current: None,
+            },
+            None => Visit::none(),
+        }
     }
 }
 

@@ -1,5 +1,7 @@
 //! Visits of a map by its own reference.
-use super::calls::{assert_empty, assert_get, check_pop_front, insert_all};
+use super::calls::{
+    assert_empty, assert_get, check_pop_front, check_reserve, check_shrink, insert_all,
+};
 use super::checks::{check, check_eq, given};
 use super::{assert_pairs, map_of};
 use linked_hash_map::LinkedHashMap;
@@ -141,6 +143,29 @@ fn an_extension_by_a_present_key_ends_a_visit(rt: HostRuntime) {
 fn an_extension_by_a_new_key_leaves_a_visit(rt: HostRuntime) {
     let pairs = [(1, 10), (2, 20), (3, 30), (4, 40)];
     check_extended(&rt, rt.alloc(), (4, 40), 2, &pairs);
+}
+
+/// Lowers the capacity in a visit of a map that has room for so many pairs more, which gives it
+/// this capacity.
+fn shrink_in_a_visit(rt: &impl Abort, alloc: Global, additional: usize, capacity: usize) {
+    let mut map = map_of(rt, alloc, &[(1, 10), (2, 20), (3, 30)]);
+    check_reserve(rt, &mut map, additional, capacity);
+    let entries = map.visit();
+    visit(rt, entries, 1, 10);
+    check_shrink(rt, entries, 3);
+    assert_unvisited(rt, entries, 2);
+    visit_remove(rt, entries, 2, 20);
+    visit(rt, entries, 3, 30);
+    check_shrink(rt, entries, 2);
+    assert_ended(rt, entries);
+    assert_pairs(rt, &map, &[(1, 10), (3, 30)]);
+}
+
+#[test]
+fn goes_on_after_a_shrinking(rt: HostRuntime) {
+    // With 4 buckets for 16, so that the pairs move, and with as many.
+    shrink_in_a_visit(&rt, rt.alloc(), 6, 9);
+    shrink_in_a_visit(&rt, rt.alloc(), 1, 4);
 }
 
 /// Notes the key of the next entry, and then takes its pair out, moves it, writes its value or

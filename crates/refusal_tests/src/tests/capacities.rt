@@ -3,17 +3,17 @@
 use super::calls::{
     check_get, check_insert, check_remove, check_reserve, check_shrink, is_inserted, is_reserved,
 };
-use super::checks::check_eq;
+use super::checks::{check_eq, given};
 use super::{BUILDER, Map, assert_map, full_of, insert_new, say_given, say_if_given, with_room};
 use linked_hash_map::{LinkedHashMap, NoRoom, ReserveError};
 use std::process::Abort;
 
 #[test]
 fn refused_capacity_gives_no_map(rt: HostRuntime) {
-    // The growths of each map: buckets, a filter, the guard and two nodes.
+    // The growths of each map: buckets, a filter, a list of chunks and a chunk.
     let made = with_room(rt.alloc(), 2);
     let default = LinkedHashMap::with_capacity(rt.alloc(), 2);
-    say_if_given(&rt, made.is_ok() & default.is_ok(), 11);
+    say_if_given(&rt, made.is_ok() & default.is_ok(), 9);
     assert_made(&rt, made);
     assert_default(&rt, default);
 }
@@ -34,7 +34,7 @@ fn assert_default(rt: &impl Abort, made: Result<LinkedHashMap<u8, u64>, ReserveE
 
 #[test]
 fn refused_reservation_keeps_buckets_and_nodes(rt: HostRuntime) {
-    // The growths: buckets, a filter, the guard and two nodes.
+    // The growths: buckets, a filter, a list of chunks and a chunk.
     reserve_twice(&rt, full_of(&rt, rt.alloc(), &[(1, 10), (2, 20)]));
 }
 
@@ -45,12 +45,12 @@ fn reserve_twice(rt: &(impl Abort + Print + AllocGlobal), made: Result<Map, Rese
 }
 
 fn reserve_four_and_five(rt: &(impl Abort + Print + AllocGlobal), map: &mut Map) {
-    // The growths: 8 buckets for 2, a filter and four nodes; then a node alone.
+    // The growths: 8 buckets for 2, a filter and a chunk of four nodes; then a chunk of two alone.
     let first = reserve_four(rt, map);
     assert_map(rt, map, &[(1, 10), (2, 20)], 6, 2);
     let second = reserve_five(rt, map);
     assert_map(rt, map, &[(1, 10), (2, 20)], 7, 2);
-    say_if_given(rt, first & second, 13);
+    say_if_given(rt, first & second, 9);
 }
 
 /// Reserves room for four pairs more, again where it is refused, and tells whether it was given at once.
@@ -103,11 +103,11 @@ fn refused_first_reservation_leaves_nothing(rt: HostRuntime) {
     reserve_three(&rt, &mut map);
 }
 
-/// The growths: 4 buckets, a filter, the guard and three nodes.
+/// The growths: 4 buckets, a filter, a list of chunks and a chunk.
 fn reserve_three(rt: &(impl Abort + Print + AllocGlobal), map: &mut Map) {
     if is_reserved(rt, map, 3) {
         assert_map(rt, map, &[], 3, 0);
-        say_given(rt, 7);
+        say_given(rt, 5);
     } else {
         reserve_one(rt, map);
     }
@@ -122,7 +122,7 @@ fn reserve_one(rt: &impl Abort, map: &mut Map) {
 
 #[test]
 fn refused_shrink_keeps_buckets_and_nodes(rt: HostRuntime) {
-    // The growths: buckets, a filter, the guard and nine nodes.
+    // The growths: buckets, a filter, a list of chunks and a chunk.
     shrink(&rt, with_room(rt.alloc(), 9));
 }
 
@@ -136,12 +136,12 @@ fn shrink(rt: &(impl Abort + Print + AllocGlobal), made: Result<Map, ReserveErro
     }
 }
 
-/// The growths: 4 buckets for 16, and a filter.
+/// The growths: 4 buckets for 16, a filter, a list of chunks and a chunk of three nodes for nine.
 fn shrink_few(rt: &(impl Abort + Print + AllocGlobal), map: &mut Map) {
     match map.shrink_to_fit() {
         Ok(()) => {
             assert_map(rt, map, &FEW, 3, 3);
-            say_given(rt, 15);
+            say_given(rt, 9);
         }
         Err(NoRoom) => fill_unshrunk(rt, map),
     }
@@ -162,8 +162,33 @@ fn fill_unshrunk(rt: &impl Abort, map: &mut Map) {
 }
 
 #[test]
+fn refused_shrink_leaves_a_visit(rt: HostRuntime) {
+    // The growths: buckets, a filter, a list of chunks and a chunk.
+    shrink_in_a_visit(&rt, with_room(rt.alloc(), 9));
+}
+
+fn shrink_in_a_visit(rt: &(impl Abort + Print + AllocGlobal), made: Result<Map, ReserveError>) {
+    if let Ok(mut map) = made {
+        insert_new(rt, &mut map, &FEW);
+        let entries = map.visit();
+        check_next(rt, entries, 1);
+        // The growths: 4 buckets for 16, a filter, a list of chunks and a chunk.
+        let shrunk = entries.shrink_to_fit().is_ok();
+        check_next(rt, entries, 2);
+        check_next(rt, entries, 3);
+        say_if_given(rt, shrunk, 9);
+    }
+}
+
+/// Checks the key of the next entry of a visit.
+fn check_next(rt: &impl Abort, entries: &mut Map, key: u8) {
+    let entry = given!(rt; entries.next_entry().ok_or("no entry"));
+    check_eq!(rt; *entry.key(), key);
+}
+
+#[test]
 fn refused_growth_is_asked_for_again_after_shrinking(rt: HostRuntime) {
-    // The growths: buckets, a filter, the guard and three nodes.
+    // The growths: buckets, a filter, a list of chunks and a chunk.
     shrink_and_reserve(&rt, with_room(rt.alloc(), 3));
 }
 
@@ -182,8 +207,8 @@ fn insert_once_resized(rt: &(impl Abort + Print + AllocGlobal), map: &mut Map) {
     }
 }
 
-/// What shrinking gives back is asked for again: buckets and a filter, and then buckets, a filter
-/// and two nodes. Tells whether all were given.
+/// What shrinking gives back is asked for again: buckets, a filter, a list of chunks and a chunk of
+/// one node, and then buckets, a filter and a chunk of two. Tells whether all were given.
 fn is_resized(map: &mut Map) -> bool {
     map.shrink_to_fit().is_ok() && map.reserve(2).is_ok()
 }
@@ -195,11 +220,11 @@ fn empty(rt: &impl Abort, map: &mut Map) {
     assert_map(rt, map, &[], 0, 0);
 }
 
-/// The growths: buckets, a filter, the guard and a node.
+/// The growths: buckets, a filter, a list of chunks and a chunk.
 fn insert_second(rt: &(impl Abort + Print + AllocGlobal), map: &mut Map) {
     if is_inserted(rt, map, 2, 20) {
         assert_map(rt, map, &[(2, 20)], 1, 0);
-        say_given(rt, 17);
+        say_given(rt, 16);
     } else {
         assert_map(rt, map, &[], 0, 0);
     }
@@ -207,7 +232,7 @@ fn insert_second(rt: &(impl Abort + Print + AllocGlobal), map: &mut Map) {
 
 #[test]
 fn refused_shrink_within_its_buckets_asks_for_none(rt: HostRuntime) {
-    // The growths: buckets, a filter, the guard and eight nodes.
+    // The growths: buckets, a filter, a list of chunks and a chunk.
     shrink_within(&rt, with_room(rt.alloc(), 8));
 }
 
@@ -223,12 +248,21 @@ fn shrink_within(rt: &(impl Abort + Print + AllocGlobal), made: Result<Map, Rese
     }
 }
 
-/// The growths: three nodes, and no buckets.
+/// The three nodes that the map had beyond its capacity are there, so it asks for none.
 fn raise_within(rt: &(impl Abort + Print + AllocGlobal), map: &mut Map) {
-    if is_reserved(rt, map, 3) {
-        assert_map(rt, map, &FIVE, 8, 0);
-        say_given(rt, 15);
+    check_reserve(rt, map, 3, Ok(()));
+    assert_map(rt, map, &FIVE, 8, 0);
+    insert_new(rt, map, &[(6, 6), (7, 7), (8, 8)]);
+    check_eq!(rt; (map.len(), map.capacity()), (8, 8));
+    raise_above(rt, map);
+}
+
+/// The growths: 16 buckets for 8, a filter and a chunk of eight nodes.
+fn raise_above(rt: &(impl Abort + Print + AllocGlobal), map: &mut Map) {
+    if is_reserved(rt, map, 1) {
+        check_eq!(rt; (map.len(), map.capacity(), map.rechained()), (8, 9, 8));
+        say_given(rt, 8);
     } else {
-        assert_map(rt, map, &FIVE, 5, 0);
+        check_eq!(rt; (map.len(), map.capacity(), map.rechained()), (8, 8, 0));
     }
 }

@@ -11,7 +11,7 @@ use std::rc::Rc;
 
 #[test]
 fn refused_clone_leaves_the_map(rt: HostRuntime) {
-    // The growths of the map and of its clone: buckets, a filter, the guard and two nodes.
+    // The growths of the map and of its clone: buckets, a filter, a list of chunks and a chunk.
     clone_full(&rt, full_of(&rt, rt.alloc(), &[(1, 10), (2, 20)]));
 }
 
@@ -19,7 +19,7 @@ fn clone_full(rt: &(impl Abort + Print + AllocGlobal), made: Result<Map, Reserve
     if let Ok(map) = made {
         if let Ok(clone) = map.clone() {
             assert_map(rt, &clone, &[(1, 10), (2, 20)], 2, 0);
-            say_given(rt, 11);
+            say_given(rt, 9);
         }
         assert_map(rt, &map, &[(1, 10), (2, 20)], 2, 0);
     }
@@ -84,7 +84,7 @@ fn key_of<'a>(rt: &impl Abort, number: u8, counted: &Rc<u8>, left: &'a Cell<u64>
 #[test]
 fn refused_clone_drops_the_clones_made_so_far(rt: HostRuntime) {
     let left = Cell::new(1000);
-    // The growths: the counted value; buckets, a filter, the guard and two nodes; a box.
+    // The growths: the counted value; buckets, a filter, a list of chunks and a chunk; a box.
     clone_boxed(&rt, boxed_of(&rt, rt.alloc(), &left));
 }
 
@@ -97,14 +97,14 @@ fn clone_boxed(rt: &(impl Abort + Print + AllocGlobal), made: Result<Boxed<'_>, 
     }
 }
 
-/// The growths: buckets, a filter, the guard and two nodes; a box, once both keys are cloned.
+/// The growths: buckets, a filter, a list of chunks and a chunk; a box, once both keys are cloned.
 fn clone_and_drop(rt: &(impl Abort + Print + AllocGlobal), counted: &Rc<u8>, map: &BoxedMap<'_>) {
     match map.clone() {
         Ok(clone) => {
             assert_boxed(rt, &clone);
             check!(rt; clone == *map);
             assert_held(rt, counted, 5);
-            say_given(rt, 14);
+            say_given(rt, 12);
         }
         Err(AllocError) => assert_held(rt, counted, 3),
     }
@@ -126,7 +126,7 @@ fn assert_boxed(rt: &impl Abort, map: &BoxedMap<'_>) {
 #[test]
 fn refused_clone_leaves_the_walk(rt: HostRuntime) {
     let left = Cell::new(1000);
-    // The growths: the counted value; buckets, a filter, the guard and two nodes; a box.
+    // The growths: the counted value; buckets, a filter, a list of chunks and a chunk; a box.
     clone_iterator(&rt, boxed_of(&rt, rt.alloc(), &left));
 }
 
@@ -142,7 +142,7 @@ fn clone_iterator(rt: &(impl Abort + Print + AllocGlobal), made: Result<Boxed<'_
     }
 }
 
-/// The growths: the guard and two nodes; a box, once both keys are cloned.
+/// The growths: a list of chunks and a chunk; a box, once both keys are cloned.
 fn clone_and_drop_pairs(
     rt: &(impl Abort + Print + AllocGlobal),
     counted: &Rc<u8>,
@@ -152,7 +152,7 @@ fn clone_and_drop_pairs(
         Ok(copies) => {
             check_eq!(rt; copies.len(), 2);
             assert_held(rt, counted, 5);
-            say_given(rt, 12);
+            say_given(rt, 10);
         }
         Err(AllocError) => assert_held(rt, counted, 3),
     }

@@ -66,9 +66,9 @@ fn collect(
     made: Result<Rc<u8>, AllocError>,
 ) {
     if let Ok(counted) = made {
-        // The growths: buckets, a filter, the guard and three nodes.
+        // The growths: buckets, a filter, a list of chunks and a chunk.
         let made = SharedMap::from_iter(alloc, three_of(rt, &counted));
-        say_if_given(rt, is_collected(rt, &counted, made, 0), 8);
+        say_if_given(rt, is_collected(rt, &counted, made, 0), 6);
     }
 }
 
@@ -84,8 +84,8 @@ fn collect_without_a_hint(
     made: Result<Rc<u8>, AllocError>,
 ) {
     if let Ok(counted) = made {
-        // The iterator hints at no item. The growths: buckets, a filter, the guard and a node;
-        // buckets, a filter and a node, twice.
+        // The iterator hints at no item. The growths: buckets, a filter, a list of chunks and a
+        // chunk; buckets, a filter and a chunk, twice.
         let items = three_of(rt, &counted).into_iter().filter(|_| true);
         let made = SharedMap::from_iter(alloc, items);
         say_if_given(rt, is_collected(rt, &counted, made, 3), 12);

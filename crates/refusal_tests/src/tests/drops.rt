@@ -29,7 +29,7 @@ fn assert_dropped(rt: &impl Abort, tally: &Tally, bits: u64) {
 }
 
 /// Inserts a pair whose bits are 1 and 2, and tells whether each growth was given: buckets, a
-/// filter, the guard and a node.
+/// filter, a list of chunks and a chunk.
 fn insert_first<'a>(tally: &'a Tally, map: &mut CountedMap<'a>) -> bool {
     let (key, value) = pair_of(tally, 1, 1, 2);
     map.insert(key, value).is_ok()

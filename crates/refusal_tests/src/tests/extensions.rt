@@ -10,35 +10,54 @@ type Extended = Result<(), Refused<u8, u64>>;
 
 #[test]
 fn refused_extension_keeps_what_went_in(rt: HostRuntime) {
-    // The growths: buckets, a filter, the guard and a node.
-    extend(&rt, with_room(rt.alloc(), 1));
+    // The growths: buckets, a filter, a list of chunks and a chunk.
+    extend(&rt, with_room(rt.alloc(), 3));
 }
+
+/// The items of an extension, of which two have one key.
+const ITEMS: [(u8, u64); 10] = [
+    (1, 10),
+    (2, 20),
+    (3, 30),
+    (1, 11),
+    (4, 40),
+    (5, 50),
+    (6, 60),
+    (7, 70),
+    (8, 80),
+    (9, 90),
+];
+
+/// The pairs that they leave.
+const EXTENDED: [(u8, u64); 9] = [
+    (2, 20),
+    (3, 30),
+    (1, 11),
+    (4, 40),
+    (5, 50),
+    (6, 60),
+    (7, 70),
+    (8, 80),
+    (9, 90),
+];
 
 fn extend(rt: &(impl Abort + Print + AllocGlobal), made: Result<Map, ReserveError>) {
     if let Ok(mut map) = made {
-        let mut items = [(1, 10), (1, 11), (2, 20), (3, 30), (4, 40)].into_iter();
-        // The growths: buckets, a filter and a node, twice; then a node.
+        let mut items = ITEMS.into_iter();
+        // The growths: a chunk for pair 4; buckets, a filter and a chunk for pairs 5 and 9.
         let extended = map.extend(items.by_ref());
         assert_extended(rt, &map, extended, items.len());
-        say_if_given(rt, map.len() == 4, 12);
+        say_if_given(rt, map.len() == 9, 12);
     }
 }
 
 /// Checks what an extension answers that leaves a map with these pairs, and how many items it leaves.
 fn assert_extended(rt: &impl Abort, map: &Map, extended: Extended, left: usize) {
     let (wanted, pairs, rechained): (_, &[(u8, u64)], _) = match map.len() {
-        1 => ((Err(Refused { key: 2, value: 20 }), 2), &[(1, 11)], 0),
-        2 => (
-            (Err(Refused { key: 3, value: 30 }), 1),
-            &[(1, 11), (2, 20)],
-            1,
-        ),
-        3 => (
-            (Err(Refused { key: 4, value: 40 }), 0),
-            &[(1, 11), (2, 20), (3, 30)],
-            3,
-        ),
-        _ => ((Ok(()), 0), &[(1, 11), (2, 20), (3, 30), (4, 40)], 3),
+        3 => ((Err(Refused { key: 4, value: 40 }), 5), &EXTENDED[..3], 0),
+        4 => ((Err(Refused { key: 5, value: 50 }), 4), &EXTENDED[..4], 0),
+        8 => ((Err(Refused { key: 9, value: 90 }), 0), &EXTENDED[..8], 4),
+        _ => ((Ok(()), 0), &EXTENDED, 12),
     };
     check_eq!(rt; (extended, left), wanted);
     assert_map(rt, map, pairs, pairs.len(), rechained);
@@ -46,14 +65,14 @@ fn assert_extended(rt: &impl Abort, map: &Map, extended: Extended, left: usize) 
 
 #[test]
 fn refused_extension_by_references_keeps_what_went_in(rt: HostRuntime) {
-    // The growths: buckets, a filter, the guard and a node.
+    // The growths: buckets, a filter, a list of chunks and a chunk.
     extend_refs(&rt, with_room(rt.alloc(), 1));
 }
 
 fn extend_refs(rt: &(impl Abort + Print + AllocGlobal), made: Result<Map, ReserveError>) {
     if let Ok(mut map) = made {
         let mut items = [(&1, &10), (&1, &11), (&2, &20), (&3, &30)].into_iter();
-        // The growths: buckets, a filter and a node, twice.
+        // The growths: buckets, a filter and a chunk, twice.
         let extended = map.extend_refs(items.by_ref());
         assert_extended_by_references(rt, &map, extended, items.len());
         say_if_given(rt, map.len() == 3, 11);

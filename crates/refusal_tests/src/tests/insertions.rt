@@ -45,46 +45,63 @@ fn put_into_vacant(map: &mut Map, key: u8, value: u64) -> Result<(), Refused<u8,
 
 #[test]
 fn refused_insertion_by_each_call_changes_nothing(rt: HostRuntime) {
-    let mut map = LinkedHashMap::with_hasher(rt.alloc(), BUILDER);
-    let given = put_by_each_call(&rt, &mut map);
-    say_if_given(&rt, given, 15);
+    let given = put_by_each_call(&rt, rt.alloc());
+    say_if_given(&rt, given, 31);
 }
 
-/// Puts in a pair by each call, and tells whether none was refused.
-fn put_by_each_call(rt: &impl Abort, map: &mut Map) -> bool {
+/// Puts a pair into a full map by each call, and tells whether no growth was refused.
+fn put_by_each_call(rt: &impl Abort, alloc: Global) -> bool {
     let pairs = [(1, 10), (2, 20), (3, 30), (4, 0), (5, 50)];
-    // The growths: buckets, a filter, the guard and a node; buckets, a filter and a node, twice; a
-    // node; buckets, a filter and a node.
-    let calls: [(Call, (u8, u64), &[(u8, u64)], usize); 5] = [
-        (Call::Insert, (1, 10), &pairs[..1], 0),
-        (Call::OrInsert, (2, 20), &pairs[..2], 1),
-        (Call::OrInsertWith, (3, 30), &pairs[..3], 3),
-        (Call::OrDefault, (4, 0), &pairs[..4], 3),
-        (Call::InsertVacant, (5, 50), &pairs[..5], 7),
+    // The growths of the calls: buckets, a filter, a list of chunks and a chunk; buckets, a filter
+    // and a chunk, twice; a chunk; buckets, a filter and a chunk. Before each but the first, those
+    // of a full map: buckets, a filter, a list of chunks and a chunk.
+    let calls: [(Call, (u8, u64), &[(u8, u64)], &[(u8, u64)], usize); 5] = [
+        (Call::Insert, (1, 10), &[], &pairs[..1], 0),
+        (Call::OrInsert, (2, 20), &pairs[..1], &pairs[..2], 1),
+        (Call::OrInsertWith, (3, 30), &pairs[..2], &pairs[..3], 2),
+        (Call::OrDefault, (4, 0), &pairs[..3], &pairs[..4], 0),
+        (Call::InsertVacant, (5, 50), &pairs[..4], &pairs[..5], 4),
     ];
-    let mut before: (&[(u8, u64)], usize) = (&[], 0);
     let mut given = true;
-    for (call, pair, after, rechained) in calls {
-        given &= put_or_put_again(rt, map, call, pair, before);
-        assert_map(rt, map, after, after.len(), rechained);
-        before = (after, rechained);
+    for (call, pair, before, after, rechained) in calls {
+        let made = full_of(rt, alloc, before);
+        given &= put_into_full(rt, made, call, pair, before, (after, rechained));
     }
     given
 }
 
-/// Puts in a pair by a call, twice where it is refused, which changes nothing. Tells whether it was given at once.
+/// Puts a pair into a map that is full of the pairs before, and checks the map after. Tells whether
+/// no growth was refused.
+fn put_into_full(
+    rt: &impl Abort,
+    made: Result<Map, ReserveError>,
+    call: Call,
+    pair: (u8, u64),
+    before: &[(u8, u64)],
+    (after, rechained): (&[(u8, u64)], usize),
+) -> bool {
+    let Ok(mut map) = made else {
+        return false;
+    };
+    let given = put_or_put_again(rt, &mut map, call, pair, before);
+    assert_map(rt, &map, after, after.len(), rechained);
+    given
+}
+
+/// Puts in a pair by a call, twice where it is refused, which changes nothing. Tells whether it was
+/// given at once.
 fn put_or_put_again(
     rt: &impl Abort,
     map: &mut Map,
     call: Call,
     (key, value): (u8, u64),
-    (pairs, rechained): (&[(u8, u64)], usize),
+    before: &[(u8, u64)],
 ) -> bool {
     match put(map, call, key, value) {
         Ok(()) => true,
         Err(refused) => {
             check_eq!(rt; refused, Refused { key, value });
-            assert_map(rt, map, pairs, pairs.len(), rechained);
+            assert_map(rt, map, before, before.len(), 0);
             check_get(rt, map, key, None);
             // There is memory again.
             check_eq!(rt; put(map, call, key, value), Ok(()));
@@ -93,9 +110,55 @@ fn put_or_put_again(
     }
 }
 
+/// How many pairs are inserted one by one.
+const MANY: u8 = 193;
+
+#[test]
+fn refused_insertion_one_by_one_goes_in_again(rt: HostRuntime) {
+    let mut map = LinkedHashMap::with_hasher(rt.alloc(), BUILDER);
+    let given = insert_many(&rt, &mut map);
+    assert_many(&rt, &map);
+    // The growths: buckets, a filter and a chunk for pairs 1, 2, 3, 5, 9, 17, 33, 65 and 129, whose
+    // chunks have 1, 1, 2, 4, 8, 16, 32, 64 and 64 nodes; a chunk for pair 193; a list of chunks for
+    // the first chunk, the fifth and the ninth.
+    say_if_given(&rt, given, 32);
+}
+
+/// Inserts pairs one by one into an empty map, and tells whether none was refused.
+fn insert_many(rt: &impl Abort, map: &mut Map) -> bool {
+    let mut given = true;
+    for key in 0..MANY {
+        given &= insert_or_insert_again(rt, map, key);
+    }
+    given
+}
+
+/// Inserts a pair into a map that is full of those before, twice where it is refused, which changes
+/// nothing. Tells whether it was given at once.
+fn insert_or_insert_again(rt: &impl Abort, map: &mut Map, key: u8) -> bool {
+    let value = u64::from(key);
+    check_eq!(rt; (map.len(), map.capacity()), (usize::from(key), usize::from(key)));
+    let given = is_inserted(rt, map, key, value);
+    if !given {
+        check_eq!(rt; (map.len(), map.capacity()), (usize::from(key), usize::from(key)));
+        // There is memory again.
+        insert_new(rt, map, &[(key, value)]);
+    }
+    given
+}
+
+/// Checks the pairs that `insert_many` leaves, in order.
+fn assert_many(rt: &impl Abort, map: &Map) {
+    check_eq!(rt; (map.len(), map.capacity(), map.rechained()), (193, 193, 255));
+    let mut pairs = map.iter();
+    for key in 0..MANY {
+        check_eq!(rt; pairs.next(), Some((&key, &u64::from(key))));
+    }
+}
+
 #[test]
 fn refused_insertion_leaves_the_calls_that_take_no_memory(rt: HostRuntime) {
-    // The growths: buckets, a filter, the guard and a node.
+    // The growths: buckets, a filter, a list of chunks and a chunk.
     insert_second(&rt, full_of(&rt, rt.alloc(), &[(1, 10)]));
 }
 
@@ -105,7 +168,7 @@ fn insert_second(rt: &(impl Abort + Print + AllocGlobal), made: Result<Map, Rese
     }
 }
 
-/// The growths: buckets, a filter and a node.
+/// The growths: buckets, a filter and a chunk.
 fn insert_or_change(rt: &(impl Abort + Print + AllocGlobal), map: &mut Map) {
     if is_inserted(rt, map, 2, 20) {
         assert_map(rt, map, &[(1, 10), (2, 20)], 2, 1);
@@ -128,7 +191,7 @@ fn change_one(rt: &impl Abort, map: &mut Map) {
 
 #[test]
 fn refused_growth_comes_after_the_closure(rt: HostRuntime) {
-    // The growths: buckets, a filter, the guard and a node.
+    // The growths: buckets, a filter, a list of chunks and a chunk.
     insert_with(&rt, full_of(&rt, rt.alloc(), &[(1, 10)]), rt.alloc());
 }
 
@@ -174,7 +237,7 @@ fn find_without_the_closure(rt: &impl Abort, map: &mut Map) {
 
 #[test]
 fn refused_insertion_goes_in_once_there_is_room(rt: HostRuntime) {
-    // The growths: buckets, a filter, the guard and a node.
+    // The growths: buckets, a filter, a list of chunks and a chunk.
     insert_after_a_removal(&rt, full_of(&rt, rt.alloc(), &[(1, 11)]));
 }
 
@@ -187,7 +250,7 @@ fn insert_after_a_removal(
     }
 }
 
-/// The growths: buckets, a filter and a node.
+/// The growths: buckets, a filter and a chunk.
 fn insert_or_make_room(rt: &(impl Abort + Print + AllocGlobal), map: &mut Map) {
     if is_inserted(rt, map, 2, 20) {
         say_given(rt, 8);
@@ -205,8 +268,8 @@ fn remove_and_insert(rt: &impl Abort, map: &mut Map) {
 
 #[test]
 fn refused_pair_comes_back_from_each_call_of_an_entry(rt: HostRuntime) {
-    // The growths, three times: buckets, a filter, the guard and a node; buckets, a filter and a
-    // node.
+    // The growths, three times: buckets, a filter, a list of chunks and a chunk; buckets, a filter
+    // and a chunk.
     let by_value = put_by_value(&rt, full_of(&rt, rt.alloc(), &[(1, 10)]));
     let by_default = put_by_default(&rt, full_of(&rt, rt.alloc(), &[(1, 10)]));
     let by_closure = put_by_closure(&rt, full_of(&rt, rt.alloc(), &[(1, 10)]));

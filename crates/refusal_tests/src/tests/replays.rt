@@ -38,8 +38,8 @@ fn make_insertions(rt: &(impl Abort + Print + AllocGlobal), map: Map, alloc: Glo
 }
 
 fn replay_insertions(rt: &(impl Abort + Print + AllocGlobal), mut map: Map, commands: Commands) {
-    // The growths: the replies; buckets, a filter, the guard and a node; buckets, a filter and a
-    // node, twice.
+    // The growths: the replies; buckets, a filter, a list of chunks and a chunk; buckets, a filter
+    // and a chunk, twice.
     match replay(&mut map, commands) {
         Ok(replies) => {
             assert_inserted(rt, &map, replies.as_slice());
@@ -113,7 +113,7 @@ const CHANGES: [Command<u8, u64>; 4] = [
 
 #[test]
 fn refused_change_of_a_replay_is_answered(rt: HostRuntime) {
-    // The growths: buckets, a filter, the guard and two nodes; the commands.
+    // The growths: buckets, a filter, a list of chunks and a chunk; the commands.
     let made = full_of(&rt, rt.alloc(), &[(1, 10), (2, 20)]);
     make_changes(&rt, made, rt.alloc());
 }
@@ -131,12 +131,13 @@ fn make_changes(
 }
 
 fn replay_changes(rt: &(impl Abort + Print + AllocGlobal), mut map: Map, commands: Commands) {
-    // The growths: the replies; buckets, a filter and a node; buckets and a filter; the list.
+    // The growths: the replies; buckets, a filter and a chunk; buckets, a filter, a list of chunks
+    // and a chunk; the list of pairs.
     match replay(&mut map, commands) {
         Ok(replies) => {
             let refused = refused_at(replies.as_slice());
             assert_changed(rt, &map, replies.as_slice(), refused);
-            say_if_given(rt, refused.is_none(), 14);
+            say_if_given(rt, refused.is_none(), 15);
         }
         Err(commands) => {
             check_eq!(rt; commands.as_slice(), CHANGES.as_slice());
@@ -181,7 +182,7 @@ fn has_drained(replies: &[Reply<u8, u64>]) -> bool {
 
 #[test]
 fn refused_replay_stops_an_extension(rt: HostRuntime) {
-    // The growths: buckets, a filter, the guard and a node.
+    // The growths: buckets, a filter, a list of chunks and a chunk.
     make_extension(&rt, with_room(rt.alloc(), 1), rt.alloc());
 }
 
@@ -204,7 +205,7 @@ fn extension(alloc: Global) -> Result<Commands, AllocError> {
 }
 
 fn replay_extension(rt: &(impl Abort + Print + AllocGlobal), mut map: Map, commands: Commands) {
-    // The growths: the replies; buckets, a filter and a node, twice.
+    // The growths: the replies; buckets, a filter and a chunk, twice.
     match replay(&mut map, commands) {
         Ok(replies) => {
             assert_stopped(rt, &map, replies.as_slice());

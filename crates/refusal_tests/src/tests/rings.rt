@@ -1,9 +1,9 @@
 //! Growths of a ring.
 
 use super::checks::check;
-use super::say_given;
+use super::{say_given, say_if_given};
 use lhm_ring::ring::Ring;
-use std::alloc::AllocError;
+use std::alloc::{AllocError, Global};
 use std::process::Abort;
 
 /// Tells whether a ring holds exactly these hashes, keys and values, in order, and has this many spare nodes.
@@ -27,11 +27,11 @@ fn refused_growth_leaves_an_empty_ring(rt: HostRuntime) {
 }
 
 fn grow_empty(rt: &(impl Abort + Print + AllocGlobal), mut ring: Ring<char, u64>) {
-    // The growths: the guard and three nodes.
+    // The growths: a list of chunks and a chunk.
     match ring.grow(3) {
         Ok(()) => {
             check!(rt; is_ring(&ring, &[], 3));
-            say_given(rt, 5);
+            say_given(rt, 3);
         }
         Err(AllocError) => check!(rt; is_ring(&ring, &[], 0)),
     }
@@ -43,7 +43,7 @@ fn refused_growth_leaves_what_is_held(rt: HostRuntime) {
 }
 
 fn grow_twice(rt: &(impl Abort + Print + AllocGlobal), mut ring: Ring<char, u64>) {
-    // The growths: the guard and two nodes.
+    // The growths: a list of chunks and a chunk.
     if let Ok(()) = ring.grow(2) {
         ring.put_back(7, 'a', 1);
         grow_held(rt, ring);
@@ -51,12 +51,94 @@ fn grow_twice(rt: &(impl Abort + Print + AllocGlobal), mut ring: Ring<char, u64>
 }
 
 fn grow_held(rt: &(impl Abort + Print + AllocGlobal), mut ring: Ring<char, u64>) {
-    // The growths: three nodes.
+    // The growth: a chunk.
     match ring.grow(3) {
         Ok(()) => {
             check!(rt; is_ring(&ring, &[(7, 'a', 1)], 4));
-            say_given(rt, 7);
+            say_given(rt, 4);
         }
         Err(AllocError) => check!(rt; is_ring(&ring, &[(7, 'a', 1)], 1)),
+    }
+}
+
+#[test]
+fn refused_growth_by_one_is_asked_for_again(rt: HostRuntime) {
+    // The growths: a list of chunks and a chunk.
+    grow_by_one(&rt, Ring::with_spares(rt.alloc(), 3));
+}
+
+fn grow_by_one(rt: &(impl Abort + Print + AllocGlobal), made: Result<Ring<char, u64>, AllocError>) {
+    if let Ok(mut ring) = made {
+        // The growths: a chunk of three nodes for the fourth, a chunk of one for the seventh, the
+        // eighth and the ninth, and a list of chunks for the last, which is the fifth.
+        let given = grow_six_times(rt, &mut ring);
+        check!(rt; is_ring(&ring, &[], 9));
+        say_if_given(rt, given, 8);
+    }
+}
+
+/// Makes nodes spare one by one, in chunks that make at most six nodes in all, if that can be.
+/// Tells whether none was refused.
+fn grow_six_times(rt: &impl Abort, ring: &mut Ring<char, u64>) -> bool {
+    let mut given = true;
+    for spares in 3..9 {
+        given &= grow_or_grow_again(rt, ring, spares);
+    }
+    given
+}
+
+/// Makes one more node spare, twice where it is refused, which changes nothing. Tells whether it was
+/// given at once.
+fn grow_or_grow_again(rt: &impl Abort, ring: &mut Ring<char, u64>, spares: usize) -> bool {
+    check!(rt; is_ring(ring, &[], spares));
+    let given = ring.grow_within(1, 6).is_ok();
+    if !given {
+        check!(rt; is_ring(ring, &[], spares));
+        // There is memory again.
+        check!(rt; ring.grow_within(1, 6).is_ok());
+    }
+    given
+}
+
+#[test]
+fn refused_growth_is_not_asked_for_by_nodes_that_were_spare(rt: HostRuntime) {
+    grow_again(&rt, rt.alloc());
+}
+
+fn grow_again(rt: &(impl Abort + Print + AllocGlobal), alloc: Global) {
+    // The growths: a list of chunks and a chunk.
+    if let Ok(mut ring) = Ring::with_spares(alloc, 3) {
+        ring.put_back(7, 'a', 1);
+        ring.free_spares();
+        check!(rt; is_ring(&ring, &[(7, 'a', 1)], 0));
+        check!(rt; ring.grow(1).is_ok());
+        check!(rt; ring.grow_within(1, 4).is_ok());
+        check!(rt; is_ring(&ring, &[(7, 'a', 1)], 2));
+        say_given(rt, 3);
+    }
+}
+
+#[test]
+fn refused_compaction_leaves_the_ring(rt: HostRuntime) {
+    compact_two(&rt, rt.alloc());
+}
+
+fn compact_two(rt: &(impl Abort + Print + AllocGlobal), alloc: Global) {
+    // The growths: a list of chunks and a chunk.
+    if let Ok(mut ring) = Ring::with_spares(alloc, 3) {
+        ring.put_back(7, 'a', 1);
+        ring.put_back(9, 'b', 2);
+        compact(rt, ring);
+    }
+}
+
+fn compact(rt: &(impl Abort + Print + AllocGlobal), mut ring: Ring<char, u64>) {
+    // The growths: a list of chunks and a chunk.
+    match ring.compact() {
+        Ok(()) => {
+            check!(rt; is_ring(&ring, &[(7, 'a', 1), (9, 'b', 2)], 0));
+            say_given(rt, 5);
+        }
+        Err(AllocError) => check!(rt; is_ring(&ring, &[(7, 'a', 1), (9, 'b', 2)], 1)),
     }
 }

@@ -89,8 +89,8 @@ fn send_first_away(rt: &impl Abort, table: &mut Table) {
     check_eq!(rt; put.gone.as_slice(), [(1, 4, "a")].as_slice());
 }
 
-/// Puts two sessions, and tells whether each growth was given. The growths: buckets, a filter, the
-/// guard and a node; buckets, a filter and a node.
+/// Puts two sessions, and tells whether each growth was given. The growths: buckets, a filter, a
+/// list of chunks and a chunk; buckets, a filter and a chunk.
 fn put_two(rt: &impl Abort, table: &mut Table) -> bool {
     is_put(rt, table, 1, 4, "a") && is_put(rt, table, 2, 4, "b")
 }

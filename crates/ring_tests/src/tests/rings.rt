@@ -13,7 +13,7 @@ use std::process::Abort;
 use std::rc::Rc;
 
 /// Tells whether a ring holds exactly these hashes, keys and values, in order, and has this many spare nodes.
-fn is_ring(ring: &Ring<char, u64>, triples: &[(u64, char, u64)], spares: usize) -> bool {
+pub fn is_ring(ring: &Ring<char, u64>, triples: &[(u64, char, u64)], spares: usize) -> bool {
     if ring.len() != triples.len() || ring.spares() != spares {
         return false;
     }
@@ -28,7 +28,7 @@ fn is_ring(ring: &Ring<char, u64>, triples: &[(u64, char, u64)], spares: usize) 
 }
 
 /// Makes a ring with this many spare nodes.
-fn with_spares(rt: &impl Abort, alloc: Global, count: usize) -> Ring<char, u64>
+pub fn with_spares(rt: &impl Abort, alloc: Global, count: usize) -> Ring<char, u64>
     ensures { result.held ≡ [] }
 {
     let mut ring = Ring::new(alloc);
@@ -39,7 +39,7 @@ fn with_spares(rt: &impl Abort, alloc: Global, count: usize) -> Ring<char, u64>
 }
 
 /// Puts a triple into a spare node, and stops where there is none.
-fn put(
+pub fn put(
     rt: &impl Abort,
     ring: &mut Ring<char, u64>,
     hash: u64,
@@ -272,6 +272,16 @@ fn drops_what_a_ring_holds(rt: HostRuntime) {
 }
 
 #[test]
+fn drops_nothing_that_moves(rt: HostRuntime) {
+    let counted = given!(rt; Rc::new(rt.alloc(), 0));
+    let mut ring = three_of(&rt, rt.alloc(), &counted);
+    check!(rt; ring.compact().is_ok());
+    check_eq!(rt; (ring.len(), ring.spares(), Rc::strong_count(&counted)), (3, 0, 7));
+    drop(ring);
+    check_eq!(rt; Rc::strong_count(&counted), 1);
+}
+
+#[test]
 fn drops_what_was_not_handed_out(rt: HostRuntime) {
     let counted = given!(rt; Rc::new(rt.alloc(), 0));
     let mut ring = three_of(&rt, rt.alloc(), &counted);
@@ -315,9 +325,9 @@ fn ends_with_nothing_held(rt: HostRuntime) {
     drop(empty);
     let spares_only = with_spares(&rt, rt.alloc(), 2);
     drop(spares_only);
-    let guard_only = with_spares(&rt, rt.alloc(), 0);
-    check!(rt; is_ring(&guard_only, &[], 0));
-    let destroyed = with_spares(&rt, guard_only.allocator(), 2);
+    let none_spare = with_spares(&rt, rt.alloc(), 0);
+    check!(rt; is_ring(&none_spare, &[], 0));
+    let destroyed = with_spares(&rt, none_spare.allocator(), 2);
     destroyed.destroy_empty();
 }
 

@@ -1,21 +1,44 @@
-use Rattle.std.proofs.Common.{arith, subst, sym}
-use Rattle.lhm_ring.specs.Cells.{pointers, AreBlocks}
+use Rattle.std.proofs.Common.{ℕ, ◌≡◌, ◌∙◌, ◌+◌, ◌-◌, ◌<◌, ◌^◌, ap, sym, refl, subst, arith}
+use Rattle.lhm_ring.specs.Chunks.{row}
 use Rattle.lhm_ring.specs.Stacks.{IsStacked}
+use Rattle.lhm_ring.proofs.Places.{no_row, row_less}
 use Rattle.lhm_ring.proofs.Stacking.{nothing_stacked, stacked_one}
 use Rattle.lhm_ring.proofs.grow.make_spares.Goals as goal
 
-pub more-init : goal.more-init
-more-init g c = record { stacked = nothing_stacked _ _ _; few = omega arith }
+pub each-init : goal.each-init
+each-init g c =
+    let none : 0 ≡ c.args.count - c.args.count = omega arith in
+    record {
+      few = omega arith;
+      small = c.requires.small;
+      unused = c.requires.unused;
+      chunks = refl;
+      stacked = subst (λ (n : ℕ). IsStacked c.args.nodes.now.cells c.args.spare n c.args.nodes.now.cells c.args.spare) none (nothing_stacked _ _);
+    }
 
-pub more-preserved : goal.more-preserved
-more-preserved g c = record {
-  stacked = stacked_one c.args.nodes.now.cells c.args.guard c.args.spare c.more.made c.more.nodes.cells c.more.first c.in-Ok.at c.make_spare.new.nodes.cells c.to-first.result c.more.invariant.stacked c.in-Ok.ensures c.to-first.ensures;
-  few = omega arith;
-}
+pub add-at-requires : goal.add-at-requires
+add-at-requires g c = (omega arith, (c.each.invariant.small, c.each.invariant.unused ∙ row_less c.args.start.ptr c.each.nodes.node_bytes c.each.left c.each-test.true))
 
 pub to-first-requires : goal.to-first-requires
-to-first-requires g c = (subst (λ zs. AreBlocks (pointers zs)) c.in-Ok.ensures c.make_spare.new.nodes.blocks).0
+to-first-requires g c = c.add-at.ensures.block
 
-pub free_stacked-requires : goal.free_stacked-requires
-free_stacked-requires g c =
-    (_, _, _, subst (λ zs. IsStacked c.args.nodes.now.cells c.args.guard c.args.spare c.more.made zs c.more.first) (sym c.in-Err.ensures) c.more.invariant.stacked)
+pub each-preserved : goal.each-preserved
+each-preserved g c =
+    let i = c.each.invariant in let one : c.args.count - c.each.left + 1 ≡ c.args.count - (c.each.left - 1) = let a = i.few in let b = c.each-test.true in omega arith in
+    record {
+      few = let a = i.few in omega arith;
+      small = subst (λ (n : ℕ). n < 2 ^ 63) (sym c.add-at.ensures.node_bytes) i.small;
+      unused = c.add-at.ensures.unused ∙ ap (λ (n : ℕ). row c.args.start.ptr n (c.each.left - 1)) (sym c.add-at.ensures.node_bytes);
+      chunks = c.add-at.ensures.chunks ∙ i.chunks;
+      stacked = subst (λ (n : ℕ). IsStacked c.args.nodes.now.cells c.args.spare n c.add-at.new.self.cells c.to-first.result) one
+          (stacked_one _ _ (c.args.count - c.each.left) c.each.nodes.cells _ c.add-at.result c.add-at.new.self.cells c.to-first.result i.stacked c.add-at.ensures.cells c.to-first.ensures);
+    }
+
+pub returns : goal.returns
+returns g c =
+    let i = c.each.invariant in let none : c.each.left ≡ 0 = omega (arith, c.each-test.false) in let all : c.args.count - c.each.left ≡ c.args.count = omega (arith, none) in
+    record {
+      stacked = subst (λ (n : ℕ). IsStacked c.args.nodes.now.cells c.args.spare n c.each.nodes.cells c.each.first) all i.stacked;
+      unused = i.unused ∙ no_row c.args.start.ptr c.each.nodes.node_bytes c.each.left none;
+      chunks = i.chunks;
+    }

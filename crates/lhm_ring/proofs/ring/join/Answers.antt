@@ -1,11 +1,12 @@
-use Rattle.lhm_ring.proofs.Writes.{is_at, is_still_at, IsJoined-writes}
+use Rattle.std.proofs.Common.{◌∙◌}
+use Rattle.lhm_ring.proofs.Writes.{there_still, IsJoined-writes}
 use Rattle.lhm_ring.proofs.ring.join.Goals as goal
 
-pub links-links-requires-2 : goal.links-links-requires-2
-links-links-requires-2 g c = is_still_at _ _ _ _ _ _ c.links-links.ensures c.set_links.ensures c.requires.1
+pub set_prev-requires : goal.set_prev-requires
+set_prev-requires g c = there_still _ _ c.args.a.ptr c.args.b c.requires.0 c.set_next.ensures.written c.args.b.ptr c.requires.1
 
 pub returns : goal.returns
-returns g c = IsJoined-writes _ _ _ c.args.a c.args.b _ _ c.links-links.ensures c.set_links.ensures c.links-links-2.ensures c.set_links-2.ensures
-
-pub links-links-requires : goal.links-links-requires
-links-links-requires g c = is_at _ _ c.requires.0
+returns g c = record {
+  joined = IsJoined-writes _ _ _ c.args.a c.args.b c.requires.0 c.requires.1 c.set_next.ensures.written c.set_prev.ensures.written;
+  land = (c.set_prev.ensures.land.0 ∙ c.set_next.ensures.land.0, c.set_prev.ensures.land.1 ∙ c.set_next.ensures.land.1);
+}

@@ -1,4 +1,4 @@
-use Rattle.std.proofs.Common.{◌-◌, Some, sym, subst, arith}
+use Rattle.std.proofs.Common.{◌∙◌, ◌-◌, Some, sym, subst, arith}
 use Rattle.lhm_ring.specs.Splices.{HasRow, SparesRow}
 use Rattle.lhm_ring.proofs.NodeBlocks.{at_block}
 use Rattle.lhm_ring.proofs.Writes.{is_at}
@@ -16,13 +16,15 @@ to-spare-requires g c = at_block c.row.nodes.cells c.row.nodes.blocks c.row.at.p
 
 pub row-preserved : goal.row-preserved
 row-preserved g c =
-    let e = c.links.ensures in let w = c.relink.ensures _ e in let next = c.links.result.now.next.ptr in let zs = c.relink.new.nodes.cells in
+    let e = c.links.ensures in let w = c.relink.ensures.relinked _ e in let next = c.address-next.result.ptr in let zs = c.relink.new.nodes.cells in
     record {
-      row = subst (λ o. HasRow zs next (c.row.left - 1) o) (sym c.to-spare.ensures) (subst (λ zs. HasRow zs next (c.row.left - 1) (Some c.row.at.ptr)) (sym w) (row_goes_on c.row.nodes.cells c.row.at c.row.left c.row.spare _ e c.row-test.true c.row.invariant.row));
+      row = subst (λ o. HasRow zs next (c.row.left - 1) o) (sym c.to-spare.ensures) (subst (λ zs. HasRow zs next (c.row.left - 1) (Some c.row.at.ptr)) (sym w) (row_goes_on c.row.nodes.cells c.row.at c.row.left c.row.spare _ e next c.address-next.ensures c.row-test.true c.row.invariant.row));
       ends = λ ds s h. c.row.invariant.ends ds s
-          (row_ends c.row.nodes.cells c.row.at c.row.left c.row.spare _ e ds s c.row-test.true
+          (row_ends c.row.nodes.cells c.row.at c.row.left c.row.spare _ e next c.address-next.ensures ds s c.row-test.true
           (subst (λ zs. SparesRow zs next (c.row.left - 1) (Some c.row.at.ptr) ds s) w (subst (λ o. SparesRow zs next (c.row.left - 1) o ds s) c.to-spare.ensures h)));
+      unused = c.relink.ensures.land.0 ∙ c.row.invariant.unused;
+      chunks = c.relink.ensures.land.1 ∙ c.row.invariant.chunks;
     }
 
-pub returns : goal.returns
-returns g c = c.row.invariant.ends _ _ (row_done c.row.nodes.cells c.row.at.ptr c.row.left _ (omega arith))
+pub returns-clause-spared : goal.returns-clause-spared
+returns-clause-spared g c = c.row.invariant.ends _ _ (row_done c.row.nodes.cells c.row.at.ptr c.row.left _ (omega arith))

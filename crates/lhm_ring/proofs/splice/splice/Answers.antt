@@ -1,34 +1,35 @@
-use Rattle.std.proofs.Common.{◌∙◌, ◌+◌, ap, sym, subst}
-use Rattle.lhm_ring.specs.Rings.{RingOk, ring_list}
+use Rattle.std.proofs.Common.{◌≡◌, ◌∙◌, ap, sym, subst, true}
+use denote.RawPtr.{Ptr}
+use Rattle.lhm_ring.specs.Rings.{ring_cells, is_there, span_triples, IsSpan}
 use Rattle.lhm_ring.specs.RingState.{triples}
-use Rattle.lhm_ring.proofs.Writes.{is_at}
-use Rattle.lhm_ring.proofs.RingNodes.{RingOk-guard}
-use Rattle.lhm_ring.proofs.Splicing.{none_spliced, row_of_ring, still_there, spliced_ring, spliced_row, spliced_now}
+use Rattle.lhm_ring.proofs.RingCells.{null_there, ring_first, ring_last, led_none, joined_at}
+use Rattle.lhm_ring.proofs.RingSpans.{span_in_nodes, span_listed}
+use Rattle.lhm_ring.proofs.Splicing.{row_of_ring, spliced_ring, spliced_row, spliced_now}
 use Rattle.lhm_ring.proofs.splice.splice.Goals as goal
 
-pub links-links-requires : goal.links-links-requires
-links-links-requires g c =
-    let a = c.args in is_at _ _ (RingOk-guard a.nodes.now.cells a.guard a.spare c.in-Some.guard a.count c.requires.0 c.in-Some.is c.requires.1).2.there.0
-
 pub spare_row-spare-requires : goal.spare_row-spare-requires
-spare_row-spare-requires g c =
-    let a = c.args in let m = c.requires.0 in let ok = RingOk-guard a.nodes.now.cells a.guard a.spare c.in-Some.guard a.count m c.in-Some.is c.requires.1 in
-    row_of_ring a.nodes.now.cells c.in-Some.guard a.spare a.count m ok c.links-links.result.now c.links-links.ensures
+spare_row-spare-requires g c = let a = c.args in row_of_ring a.ends.now a.nodes.now.cells a.spare a.count c.requires.0 c.requires.1 c.address-first.result.ptr c.address-first.ensures
 
 pub join-requires : goal.join-requires
 join-requires g c =
-    let a = c.args in let m = c.requires.0 in let ok = RingOk-guard a.nodes.now.cells a.guard a.spare c.in-Some.guard a.count m c.in-Some.is c.requires.1 in let ds = c.spare_row-spare.new.nodes.cells in
-    let h = still_there a.nodes.now.cells c.in-Some.guard a.spare a.count m ok c.links-links.result.now c.links-links.ensures ds ds c.spare_row-spare.result c.spare_row-spare.ensures in (h, h)
+    let e = c.args.ends.now in let zs = c.spare_row-spare.new.nodes.cells in let there = null_there e zs in
+    (subst (λ q. is_there (ring_cells e zs) q ≡ true) (sym (led_none c.none.result.ptr c.none.ensures)) there, subst (λ q. is_there (ring_cells e zs) q ≡ true) (sym (led_none c.none-2.result.ptr c.none-2.ensures)) there)
 
-pub returns-in-Some : goal.returns-in-Some
-returns-in-Some g c m ok =
-    let a = c.args in let cs = a.nodes.now.cells in let whole = RingOk-guard cs a.guard a.spare c.in-Some.guard a.count m c.in-Some.is ok in
-    let ds = c.spare_row-spare.new.nodes.cells in let l = c.links-links.result.now in let e = c.links-links.ensures in let h = c.spare_row-spare.result in let s = c.spare_row-spare.ensures in
-    let ring = spliced_ring cs c.in-Some.guard a.spare a.count m whole l e ds c.join.new.nodes.cells h s c.join.ensures in
-    let row = spliced_row cs c.in-Some.guard a.spare a.count m whole l e ds c.join.new.nodes.cells h s c.join.ensures in
-    let now = spliced_now cs c.in-Some.guard a.spare a.count m whole l e ds c.join.new.nodes.cells h s c.join.ensures in
-    (subst (λ o. RingOk c.join.new.nodes.cells o h 0 (m + a.count)) (sym c.in-Some.is) ring, row, now ∙ ap (λ o. triples (ring_list cs o a.count)) (sym c.in-Some.is))
+pub returns-clause-spliced : goal.returns-clause-spliced
+returns-clause-spliced g c m ok =
+    let a = c.args in let j = joined_at (led_none c.none.result.ptr c.none.ensures) (led_none c.none-2.result.ptr c.none-2.ensures) c.join.ensures.joined in
+    spliced_ring a.ends.now a.nodes.now.cells a.spare a.count m ok c.address-first.result.ptr c.address-first.ensures c.spare_row-spare.new.nodes.cells _ c.spare_row-spare.result c.spare_row-spare.ensures.spared j
 
-pub returns-in-None : goal.returns-in-None
-returns-in-None g c m ok =
-    let a = c.args in none_spliced a.nodes.now.cells a.guard a.spare a.count m c.nowhere.result.ptr c.nowhere-in-None.result.ptr c.in-None.is ok
+pub returns-clause-row : goal.returns-clause-row
+returns-clause-row g c m ok =
+    let a = c.args in let e = a.ends.now in let cs = a.nodes.now.cells in let first = c.address-first in let last = c.address-last in
+    let j = joined_at (led_none c.none.result.ptr c.none.ensures) (led_none c.none-2.result.ptr c.none-2.ensures) c.join.ensures.joined in
+    let row = spliced_row e cs a.spare a.count m ok first.result.ptr first.ensures c.spare_row-spare.new.nodes.cells _ c.spare_row-spare.result c.spare_row-spare.ensures.spared j in
+    let now = spliced_now e cs a.spare a.count m ok first.result.ptr first.ensures c.spare_row-spare.new.nodes.cells _ c.spare_row-spare.result c.spare_row-spare.ensures.spared j in
+    let ends = c.join.new.ends in let zs = c.join.new.nodes.cells in let f = ring_first e cs ∙ sym first.ensures in let b = ring_last e cs ∙ sym last.ensures in (
+      subst (λ (z : Ptr × Ptr). IsSpan zs z.0 z.1 a.count) (λ i. (f i, b i)) (span_in_nodes ends zs _ _ a.count row),
+      ap (λ q. span_triples zs a.count q) (sym f) ∙ ap triples (span_listed ends zs _ _ a.count row) ∙ now,
+    )
+
+pub returns-clause-land : goal.returns-clause-land
+returns-clause-land g c = (c.join.ensures.land.0 ∙ c.spare_row-spare.ensures.land.0, c.join.ensures.land.1 ∙ c.spare_row-spare.ensures.land.1)

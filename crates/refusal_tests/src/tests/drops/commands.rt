@@ -18,24 +18,47 @@ type Run<'a> = Result<Vec<Reply<Counted<'a>, Counted<'a>>>, Commands<'a>>;
 fn refused_commands_drop_nothing_twice(rt: HostRuntime) {
     let tally = Tally::new();
     let map = LinkedHashMap::new(rt.alloc());
-    let given = run(&rt, &tally, map, commands(&tally, rt.alloc()));
-    say_if_given(&rt, given, 19);
+    let given = run(&rt, &tally, map, insertions(&tally, rt.alloc()));
+    say_if_given(&rt, given, 13);
 }
 
-/// Makes four commands, for which it asks for two growths: the list and the commands.
-fn commands(tally: &Tally, alloc: Global) -> Result<Commands<'_>, AllocError> {
-    let pairs = [pair_of(tally, 5, 256, 512), pair_of(tally, 6, 1024, 2048)];
-    let list = PairList::from_vec(Vec::from_array(alloc, pairs)?);
+/// Makes a command of each kind that inserts a new key, for which it asks for one growth.
+fn insertions(tally: &Tally, alloc: Global) -> Result<Commands<'_>, AllocError> {
     let commands = [
-        Command::Insert(tally.thing(2, 4), tally.thing(2, 8)),
-        Command::OrInsert(tally.thing(3, 16), tally.thing(3, 32)),
-        Command::EntryInsert(tally.thing(4, 64), tally.thing(4, 128)),
-        Command::Extend(list),
+        Command::Insert(tally.thing(1, 1), tally.thing(1, 2)),
+        Command::OrInsert(tally.thing(2, 4), tally.thing(2, 8)),
+        Command::EntryInsert(tally.thing(3, 16), tally.thing(3, 32)),
     ];
     Ok(Vec::from_array(alloc, commands)?)
 }
 
+#[test]
+fn refused_extension_drops_the_pair_behind(rt: HostRuntime) {
+    let tally = Tally::new();
+    let map = LinkedHashMap::new(rt.alloc());
+    let given = extend(&rt, &tally, map, extension(&tally, rt.alloc()));
+    say_if_given(&rt, given, 14);
+}
+
+/// Makes a command that extends by two new keys, for which it asks for two growths: the list and
+/// the commands.
+fn extension(tally: &Tally, alloc: Global) -> Result<Commands<'_>, AllocError> {
+    let pairs = [pair_of(tally, 2, 4, 8), pair_of(tally, 3, 16, 32)];
+    let list = PairList::from_vec(Vec::from_array(alloc, pairs)?);
+    Ok(Vec::from_array(alloc, [Command::Extend(list)])?)
+}
+
 /// Runs the commands on a full map of one pair, and tells whether each growth was given.
+fn extend<'a>(
+    rt: &impl Abort,
+    tally: &'a Tally,
+    mut map: CountedMap<'a>,
+    commands: Result<Commands<'a>, AllocError>,
+) -> bool {
+    insert_first(tally, &mut map) && run(rt, tally, map, commands)
+}
+
+/// Runs the commands, which leave three pairs in all, and tells whether each growth was given.
 fn run<'a>(
     rt: &impl Abort,
     tally: &'a Tally,
@@ -45,17 +68,14 @@ fn run<'a>(
     let Ok(commands) = commands else {
         return false;
     };
-    if !insert_first(tally, &mut map) {
-        return false;
-    }
-    // The growths: the replies; buckets, a filter and a node, twice; a node; buckets, a filter and
-    // a node; a node.
+    // The growths: the replies; in an empty map buckets, a filter, a list of chunks and a chunk; then
+    // buckets, a filter and a chunk, twice.
     let outcome = replay(&mut map, commands);
     assert_dropped(rt, tally, dropped_by(&outcome));
     drop(outcome);
-    let given = map.len() == 6;
+    let given = map.len() == 3;
     drop(map);
-    assert_dropped(rt, tally, 4095);
+    assert_dropped(rt, tally, 63);
     given
 }
 
@@ -64,7 +84,7 @@ fn run<'a>(
 fn dropped_by(outcome: &Run<'_>) -> u64 {
     match outcome {
         Ok(replies) => match replies.last().map(|reply| &reply.answer) {
-            Some(Answer::Stopped(0, _, _)) => 1024 | 2048,
+            Some(Answer::Stopped(0, _, _)) => 16 | 32,
             _ => 0,
         },
         Err(_commands) => 0,

@@ -1,6 +1,6 @@
 //! Keys, values and closures of refused entries.
 
-use super::{CountedMap, assert_dropped, insert_first};
+use super::{CountedMap, assert_dropped};
 use crate::tests::say_if_given;
 use crate::tests::tally::{Counted, Tally};
 use linked_hash_map::{Entry, LinkedHashMap, Refused};
@@ -10,22 +10,20 @@ use std::process::Abort;
 fn refused_entries_drop_nothing(rt: HostRuntime) {
     let tally = Tally::new();
     let given = insert_by_entries(&rt, &tally, LinkedHashMap::new(rt.alloc()));
-    say_if_given(&rt, given, 12);
+    say_if_given(&rt, given, 11);
 }
 
-/// Inserts three new keys into a full map of one pair, each by another call, and tells whether each
-/// growth was given.
+/// Inserts three keys into an empty map, each by another call, and tells whether each growth was
+/// given.
 fn insert_by_entries<'a>(rt: &impl Abort, tally: &'a Tally, mut map: CountedMap<'a>) -> bool {
-    if !insert_first(tally, &mut map) {
-        return false;
-    }
-    // The growths: buckets, a filter and a node, twice; a node.
+    // The growths: buckets, a filter, a list of chunks and a chunk; buckets, a filter and a chunk,
+    // twice.
     let refused = or_insert(rt, tally, &mut map);
     let refused = insert_vacant(rt, tally, &mut map, refused);
     let refused = or_insert_with(rt, tally, &mut map, refused);
     drop(map);
-    assert_dropped(rt, tally, 511);
-    refused == 256
+    assert_dropped(rt, tally, 127);
+    refused == 64
 }
 
 /// Drops what an entry answers, and returns the bits of all that was dropped: those of the pair
@@ -49,8 +47,8 @@ fn drop_put<'a>(
 }
 
 fn or_insert<'a>(rt: &impl Abort, tally: &'a Tally, map: &mut CountedMap<'a>) -> u64 {
-    let put = map.entry(tally.thing(2, 4)).or_insert(tally.thing(2, 8));
-    drop_put(rt, tally, put, 0, 4 | 8)
+    let put = map.entry(tally.thing(1, 1)).or_insert(tally.thing(1, 2));
+    drop_put(rt, tally, put, 0, 1 | 2)
 }
 
 fn insert_vacant<'a>(
@@ -59,15 +57,9 @@ fn insert_vacant<'a>(
     map: &mut CountedMap<'a>,
     dropped: u64,
 ) -> u64 {
-    match map.entry(tally.thing(3, 16)) {
+    match map.entry(tally.thing(2, 4)) {
         Entry::Vacant(entry) => {
-            drop_put(
-                rt,
-                tally,
-                entry.insert(tally.thing(3, 32)),
-                dropped,
-                16 | 32,
-            )
+            drop_put(rt, tally, entry.insert(tally.thing(2, 8)), dropped, 4 | 8)
         }
         Entry::Occupied(_entry) => panic!(rt; "the key is present"),
     }
@@ -80,10 +72,10 @@ fn or_insert_with<'a>(
     map: &mut CountedMap<'a>,
     dropped: u64,
 ) -> u64 {
-    let (value, owned) = (tally.thing(4, 128), tally.thing(0, 256));
-    let put = map.entry(tally.thing(4, 64)).or_insert_with(move || {
+    let (value, owned) = (tally.thing(3, 32), tally.thing(0, 64));
+    let put = map.entry(tally.thing(3, 16)).or_insert_with(move || {
         drop(owned);
         value
     });
-    drop_put(rt, tally, put, dropped | 256, 64 | 128)
+    drop_put(rt, tally, put, dropped | 64, 16 | 32)
 }

@@ -12,11 +12,11 @@ use std::process::Abort;
 fn refused_capacity_drops_the_hasher(rt: HostRuntime) {
     let tally = Tally::new();
     let builder = counted_builder(&tally, 1);
-    // The growths: buckets, a filter, the guard and two nodes.
+    // The growths: buckets, a filter, a list of chunks and a chunk.
     let made = LinkedHashMap::with_capacity_and_hasher(rt.alloc(), 2, builder);
     let given = drop_made(&rt, &tally, made);
     assert_dropped(&rt, &tally, 1);
-    say_if_given(&rt, given, 6);
+    say_if_given(&rt, given, 5);
 }
 
 /// Drops a map with its hasher, or checks that the hasher is dropped where the map was refused.

@@ -19,8 +19,8 @@ fn refused_put_drops_no_payload(rt: HostRuntime) {
 /// Puts three sessions, of which the third sends the first away, and tells whether each growth was
 /// given.
 fn put_three<'a>(rt: &impl Abort, tally: &'a Tally, mut table: Table<'a>) -> bool {
-    // The growths: buckets, a filter, the guard and a node; buckets, a filter and a node; the
-    // vector for the session that goes.
+    // The growths: buckets, a filter, a list of chunks and a chunk; buckets, a filter and a chunk;
+    // the vector for the session that goes.
     let first = table.put(1, 4, tally.thing(1, 1));
     let given = first.is_ok();
     let dropped = drop_put(rt, tally, first, 0, 1);

@@ -13,7 +13,7 @@ type Commands = Vec<Command<u8, u64>>;
 
 #[test]
 fn refused_growth_is_not_asked_for_by_commands(rt: HostRuntime) {
-    // The growths: buckets, a filter, the guard and three nodes; the list and the commands.
+    // The growths: buckets, a filter, a list of chunks and a chunk; the list and the commands.
     let made = full_of(&rt, rt.alloc(), &PAIRS);
     replay_all(&rt, made, commands(rt.alloc()));
 }
@@ -61,7 +61,7 @@ fn replay_all(
         let sizes = replies.iter().map(|reply| (reply.len, reply.capacity));
         check!(rt; sizes.take(18).eq(LENGTHS.map(|len| (len, 3))));
         assert_map(rt, &map, &[], 0, 0);
-        say_given(rt, 10);
+        say_given(rt, 8);
     }
 }
 

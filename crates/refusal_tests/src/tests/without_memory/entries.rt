@@ -10,7 +10,7 @@ use std::process::Abort;
 
 #[test]
 fn refused_growth_is_not_asked_for_by_entries(rt: HostRuntime) {
-    // The growths: buckets, a filter, the guard and three nodes.
+    // The growths: buckets, a filter, a list of chunks and a chunk.
     use_entries(&rt, full_of(&rt, rt.alloc(), &PAIRS));
 }
 
@@ -24,7 +24,7 @@ fn use_entries(rt: &(impl Abort + Print + AllocGlobal), made: Result<Map, Reserv
         use_vacant(rt, &mut map);
         insert_vacant(rt, &mut map);
         assert_map(rt, &map, &[(3, 33), (1, 15), (7, 70)], 3, 0);
-        say_given(rt, 7);
+        say_given(rt, 5);
     }
 }
 

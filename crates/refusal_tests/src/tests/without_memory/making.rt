@@ -14,7 +14,7 @@ fn refused_growth_is_not_asked_for_by_making_and_taking_apart(rt: HostRuntime) {
     make_default(&rt, rt.alloc());
     make_too_large(&rt, rt.alloc());
     make_empty(&rt, rt.alloc());
-    // The growths: buckets, a filter, the guard and three nodes.
+    // The growths: buckets, a filter, a list of chunks and a chunk.
     take_apart(&rt, full_of(&rt, rt.alloc(), &PAIRS));
 }
 
@@ -62,7 +62,7 @@ fn use_empty(rt: &impl Abort, alloc: Global, map: &mut Map) {
 fn take_apart(rt: &(impl Abort + Print + AllocGlobal), made: Result<Map, ReserveError>) {
     if let Ok(map) = made {
         consume(rt, map);
-        say_given(rt, 7);
+        say_given(rt, 5);
     }
 }
 

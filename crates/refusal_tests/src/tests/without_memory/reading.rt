@@ -13,7 +13,7 @@ use std::process::Abort;
 
 #[test]
 fn refused_growth_is_not_asked_for_by_reading(rt: HostRuntime) {
-    // The growths: buckets, a filter, the guard and three nodes.
+    // The growths: buckets, a filter, a list of chunks and a chunk.
     read_all(&rt, full_of(&rt, rt.alloc(), &PAIRS));
 }
 
@@ -29,7 +29,7 @@ fn read_all(rt: &(impl Abort + Print + AllocGlobal), made: Result<Map, ReserveEr
         compare(rt, &map);
         hash(rt, &map);
         show(rt, &map);
-        say_given(rt, 7);
+        say_given(rt, 5);
     }
 }
 

@@ -12,7 +12,7 @@ use std::process::Abort;
 
 #[test]
 fn refused_growth_is_not_asked_for_by_writing(rt: HostRuntime) {
-    // The growths: buckets, a filter, the guard and three nodes.
+    // The growths: buckets, a filter, a list of chunks and a chunk.
     write_all(&rt, full_of(&rt, rt.alloc(), &PAIRS));
 }
 
@@ -28,7 +28,7 @@ fn write_all(rt: &(impl Abort + Print + AllocGlobal), made: Result<Map, ReserveE
         put_in(rt, &mut map);
         drain(rt, &mut map);
         reserve_and_shrink(rt, &mut map);
-        say_given(rt, 7);
+        say_given(rt, 5);
     }
 }
 
@@ -145,14 +145,14 @@ fn reserve_and_shrink(rt: &impl Abort, map: &mut Map) {
     check_reserve(rt, map, 2, Ok(()));
     assert_map(rt, map, &[(1, 1)], 3, 0);
     map.clear();
-    // All spare nodes, the guard, the buckets and their filter go.
+    // All nodes, the buckets and their filter go.
     check_shrink(rt, map);
     assert_map(rt, map, &[], 0, 0);
 }
 
 #[test]
 fn refused_growth_is_not_asked_for_below_the_capacity(rt: HostRuntime) {
-    // The growths: buckets, a filter, the guard and three nodes.
+    // The growths: buckets, a filter, a list of chunks and a chunk.
     fill_again(&rt, with_room(rt.alloc(), 3));
 }
 
@@ -160,7 +160,7 @@ fn fill_again(rt: &(impl Abort + Print + AllocGlobal), made: Result<Map, Reserve
     if let Ok(mut map) = made {
         fill_and_empty(rt, &mut map);
         fill(rt, &mut map);
-        say_given(rt, 7);
+        say_given(rt, 5);
     }
 }
 

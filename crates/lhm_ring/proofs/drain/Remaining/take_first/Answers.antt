@@ -25,7 +25,7 @@ invariant_of-self g c =
     let i = c.self.inside in let p = i.first.ptr in
     let left = ap (with_bodies i.nodes.now.cells) c.take-key.ensures.run ∙ with_bodies_without p i.contents.run i.nodes.now.cells i.nodes.now.apart in
     let e = links_with_bodies i.nodes.now.cells i.contents.run p ∙ c.links-links.ensures in
-    subst (λ zs. IsSpan zs c.links-links.result.now.next.ptr i.last.ptr (i.left - 1)) (sym left) (rest_of_first (with_bodies i.nodes.now.cells i.contents.run) i.first.ptr i.last.ptr i.left c.self.invariant c.if-self-eq0.false _ e)
+    subst (λ zs. IsSpan zs c.address-self-inside.result.ptr i.last.ptr (i.left - 1)) (sym left) (rest_of_first (with_bodies i.nodes.now.cells i.contents.run) i.first.ptr i.last.ptr i.left c.self.invariant c.if-self-eq0.false _ e _ c.address-self-inside.ensures)
 
 pub returns : goal.returns
 returns g c =
@@ -33,4 +33,4 @@ returns g c =
     let left = ap (with_bodies i.nodes.now.cells) c.take-key.ensures.run ∙ with_bodies_without p i.contents.run i.nodes.now.cells i.nodes.now.apart in
     let e = links_with_bodies i.nodes.now.cells i.contents.run p ∙ c.links-links.ensures in
     let b = body_with_bodies i.nodes.now.cells i.contents.run p _ c.links-links.ensures ∙ c.take-key.ensures.body in
-    sym c.self.view_is ∙ first_out (with_bodies i.nodes.now.cells i.contents.run) i.first.ptr i.last.ptr i.left c.self.invariant c.if-self-eq0.false _ e _ b ∙ ap (λ zs. (c.links-links.result.now.hash, c.take-key.result) ∷ span_triples zs (i.left - 1) c.links-links.result.now.next.ptr) (sym left)
+    sym c.self.view_is ∙ first_out (with_bodies i.nodes.now.cells i.contents.run) i.first.ptr i.last.ptr i.left c.self.invariant c.if-self-eq0.false _ e _ c.address-self-inside.ensures _ b ∙ ap (λ zs. (c.links-links.result.now.hash, c.take-key.result) ∷ span_triples zs (i.left - 1) c.address-self-inside.result.ptr) (sym left)

@@ -1,5 +1,6 @@
 use Rattle.std.proofs.Common.{◌≡◌, ℕ, List, [], ◌∷◌, ◌++◌, length, append_assoc, append-nil, sym, ap, ◌∙◌, subst, refl, arith}
 use Rattle.std.specs.List.{AllZip}
+use Rattle.std.proofs.lemmas.Result.{MatchResult-from_err}
 use Rattle.lhm_ring.specs.RingState.{Held, triples}
 use Rattle.lhm_ring.proofs.Ends.{AllZip-last, triples-pushed}
 use Rattle.lhm_ring.proofs.into_iter.IntoIterClone.clone.Goals as goal
@@ -37,3 +38,19 @@ returns g c =
       cases = subst (AllZip (λ t u. (u.0 ≡ t.0) × g.K.Clone.is_clone t.1.0 u.1.0 × g.V.Clone.is_clone t.1.1 u.1.1) c.args.self.now) (sym c.new.ensures)
           (subst (λ (ts : List (ℕ × (g.row.K.Denot × g.row.V.Denot))). AllZip (λ t u. (u.0 ≡ t.0) × g.K.Clone.is_clone t.1.0 u.1.0 × g.V.Clone.is_clone t.1.1 u.1.1) ts (triples c.loop-hash.ring.held)) (sym all) inv.each);
     }
+
+-- something is left to clone, so the clone is not of nothing
+some_left : {B : Type 0} (all first : List (ℕ × B)) (hs : List (Held B)) (t : Held B) (ts : List (Held B)) → all ≡ first ++ triples hs → hs ≡ t ∷ ts → all ≡ [] → ⊥
+some_left all [] [] t ts e h n = absurd (cc)
+some_left all [] (u ∷ us) t ts e h n = absurd (cc)
+some_left all (x ∷ xs) hs t ts e h n = absurd (cc)
+
+pub returns-in_err-clone : goal.returns-in_err-clone
+returns-in_err-clone g c =
+    let some = some_left c.args.self.now c.loop-hash.invariant.first _ _ _ c.loop-hash.invariant.split c.in-Some.ensures.steps.2 in
+    record { cases = MatchResult-from_err _ _ _ c.from_residual-in_err-clone.ensures.0 (λ e. some) }
+
+pub returns-in_err-clone-2 : goal.returns-in_err-clone-2
+returns-in_err-clone-2 g c =
+    let some = some_left c.args.self.now c.loop-hash.invariant.first _ _ _ c.loop-hash.invariant.split c.in-Some.ensures.steps.2 in
+    record { cases = MatchResult-from_err _ _ _ c.from_residual-in_err-clone-2.ensures.0 (λ e. some) }

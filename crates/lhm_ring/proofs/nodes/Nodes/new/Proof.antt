@@ -1,10 +1,10 @@
 -- `new` owns nothing yet. Assumes `Logic`.
-use Rattle.std.proofs.Common.{◌≡◌, [], ◌∷◌, refl}
+use Rattle.std.proofs.Common.{ℕ, ◌≡◌, [], ◌∷◌, refl}
 use mir.Val.{Val}
 use mir.MapTy.{inst_fn}
 use base.Logic.{SProp, emp}
 use base.Fml.{ftrue, flft}
-use types.Kit.{◌∵◌, ‵, raw, ◌⊛◌, ◌$◌, !, qed, by, keep, use0, split, fjoin}
+use types.Kit.{◌∵◌, ‵, raw, ◌⊛◌, ◌$◌, !, qed, by, keep, use0, split, join, fjoin, feq_i}
 use types.Run.{no_more, and_then, returns, enter}
 use types.ByLocal.{alloc_all, pass_all, free_all, look_at, get, sets}
 use types.Part.{agg}
@@ -13,8 +13,10 @@ use contract.Monad.{fact, fact_i}
 use denote.Steps.{nothing}
 use denote.Triple.Walked.{Stays, walk_of}
 use Rattle.std.proofs.raw_atomic.Walks.{proved_at, leaves}
+use Rattle.lhm_ring.specs.Ownership.{node_bytes}
 use Rattle.lhm_ring.proofs.Apart.{apart_none}
-use Rattle.lhm_ring.proofs.Memory.{Three, args, RL, RK, Nr, Marker, marker, marker_made}
+use Rattle.lhm_ring.proofs.Places.{no_places}
+use Rattle.lhm_ring.proofs.Memory.{Three, args, RL, RK, RV, Nr, Marker, marker, marker_made}
 use Rattle.lhm_ring.specs.contracts.nodes.Nodes.new.{ended, clauses}
 use Rattle.lhm_ring.specs.contracts.nodes.Nodes.new.Key.{name as #self}
 use Rattle.lhm_ring.proofs.nodes.Nodes.new.Statement.{statement}
@@ -22,16 +24,17 @@ use Rattle.lhm_ring.proofs.nodes.Nodes.new.Code as code
 
 pub new_spec : {M : Type 1} → statement M
 new_spec 𝓤 𝓛 𝓜 𝓡 wired L K V LL LK LV =
-    let H = 𝓛.H in let 𝓣 = tables 𝓤 H 𝓜 𝓡 𝓡.env in let E : Three = record { links = L; links_laws = LL; key = K; key_laws = LK; value = V; value_laws = LV } in let N = Nr E in let R = RL E in let S = RK E in
+    let H = 𝓛.H in let 𝓣 = tables 𝓤 H 𝓜 𝓡 𝓡.env in let E : Three = record { links = L; links_laws = LL; key = K; key_laws = LK; value = V; value_laws = LV } in let N = Nr E in let R = RL E in let S = RK E in let W = RV E in
     let En = ended L K V in let c = clauses L K V 𝓛 𝓜.mem 𝓡.returns in let fn = inst_fn (args E) code.function in
     let hs : Stays En.signature.params En.kept = tt in
     proved_at 𝓛 En hs c 𝓜 𝓡 tt (#self (args E)) fn (code.unfolded 𝓤 H 𝓜 𝓡 wired (L, (K, (V, tt)))) (λ y are.
     let κs = y.0.0 in let qs = y.0.1 in let Post : Val → SProp 𝓤 = (walk_of 𝓛 En hs c).post y in
     let toks = ‵ (flft κs.0 qs.0) ⊛ ‵ (flft κs.1.0 qs.1.0) ⊛ ‵ (flft κs.1.1.0 qs.1.1.0) ⊛ ‵ ftrue in
-    let out : N.Denot = record { marker = record {}; cells = []; apart = apart_none; blocks = tt } in
+    let out : N.Denot = record { marker = record {}; cells = []; apart = apart_none; blocks = tt; node_bytes = node_bytes R S W; unused = []; chunks = []; unused_blocks = tt; laid = no_places (node_bytes R S W) } in
     qed 𝓛 ((toks ⊛ ‵ ftrue) ∷ raw ((c κs y.0.3).requires y.1) ∷ []) ∵ split ! $ keep ! (0 ∷ []) $
     enter ! 𝓣.C 𝓣.Λ fn [] Post $ alloc_all ! (λ l. pass_all ! refl tt $
     sets ! (agg ! (no_more !)) refl (tt, tt) $ sets ! (agg ! (and_then ! (get ! refl) (no_more !))) refl (tt, (tt, tt)) $
-    let Told : Type 0 = out.cells ≡ [] in use0 𝓛 (raw (fact 𝓤 Told)) (fact_i 𝓤 Told (emp 𝓤) refl) $
-    nothing ! $ use0 𝓛 (‵ ((Marker E).own_val (tt, tt) (marker ∷ []))) (marker_made E 𝓛) $ fjoin ! $ nothing ! $
+    let Told : Type 0 = out.cells ≡ [] in let Bare : Type 0 = (out.unused ≡ []) × (out.chunks ≡ []) in
+    use0 𝓛 (raw (fact 𝓤 Bare)) (fact_i 𝓤 Bare (emp 𝓤) (refl, refl)) $ use0 𝓛 (raw (fact 𝓤 Told)) (fact_i 𝓤 Told (emp 𝓤) refl) $ join ! $
+    nothing ! $ nothing ! $ fjoin ! $ feq_i ! ℕ (node_bytes R S W) (node_bytes R S W) refl $ fjoin ! $ use0 𝓛 (‵ ((Marker E).own_val (tt, tt) (marker ∷ []))) (marker_made E 𝓛) $ fjoin ! $ nothing ! $
     returns ! (look_at ! 0 refl) $ free_all ! refl $ keep ! (3 ∷ 0 ∷ 1 ∷ 2 ∷ []) $ by ! (leaves 𝓛 En hs c y marker out tt tt)))

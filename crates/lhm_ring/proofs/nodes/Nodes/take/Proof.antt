@@ -23,10 +23,11 @@ use denote.Triple.Walked.{Stays, stay_dropped, stay_ref, walk_of, Goes-dropped, 
 use Rattle.std.proofs.VecSteps.Shapes.{after}
 use Rattle.std.proofs.RcSteps.{Good, word, word-Good}
 use Rattle.std.proofs.raw_atomic.Walks.{proved_at, leaves}
+use Rattle.lhm_ring.specs.Chunks.{places}
 use Rattle.lhm_ring.specs.Cells.{cell, IsApart, AreBlocks, Holds, change, body_at, with_body, pointers-change}
 use Rattle.lhm_ring.specs.Ownership.{links_of, body_owns}
 use Rattle.lhm_ring.proofs.Lookup.{Cut, cut_held}
-use Rattle.lhm_ring.proofs.Memory.{Three, args, RL, RK, RV, ko, vo, Node, Nr, Pl, One, Cells, pointer_told, two_made, cells_cut, cells_glue, value_out}
+use Rattle.lhm_ring.proofs.Memory.{Three, args, RL, RK, RV, ko, vo, Node, Nr, Pl, One, Land, Cells, pointer_told, two_made, cells_cut, cells_glue, value_out}
 use Rattle.std.proofs.RawLayout.{as_raw}
 use denote.Struct.Struct.{as_fields}
 use Rattle.lhm_ring.specs.contracts.nodes.Nodes.take.{ended, clauses}
@@ -51,8 +52,8 @@ take_spec 𝓤 𝓛 𝓜 𝓡 wired L K V LL LK LV =
     suffices ! (Run us) (subst (λ (ws : List Val). ent 𝓤 (Run us) (Run ws)) (sym (λ i. are.0.0 i ++ (pointer_told a.1.0 vss.1.0 are.1.0 i ++ []))) (id⊢ 𝓤 (Run us))) $
     enter ! 𝓣.C 𝓣.Λ fn us Post $ alloc_all ! (λ l. pass_all ! refl ((tt, tt), (word-Good [] p, tt)) $ let Ev = env fn.locals l in
     let x = asked.0 in let kh = cut_held h.cells p x asked.1 in let k : Cut h.cells p = kh.0 in let f : Node E = k.node in let f' : Node E = cell f.at f.links None in
-    opens ! tt N {h = h} rb ro (λ vs. move ! (1 ∷ []) $ fsplit ! $ rewrite ! 1 (λ (cs : List (Node E)). ‵ (Cells E cs)) k.is refl $ move ! (1 ∷ []) $
-    use1 𝓛 (‵ (One E f) ⊛ ‵ (Cells E (k.before ++ k.after))) (cells_cut 𝓛 E k.before f k.after) $ split ! $ fsplit ! $
+    opens ! tt N {h = h} rb ro (λ vs. move ! (1 ∷ []) $ fsplit ! $ rewrite ! 1 (λ (cs : List (Node E)). ‵ (Cells E (Land E h) cs)) k.is refl $ move ! (1 ∷ []) $
+    use1 𝓛 (‵ (One E f) ⊛ ‵ (Cells E (Land E h) (k.before ++ k.after))) (cells_cut 𝓛 E (Land E h) k.before f k.after) $ split ! $ fsplit ! $
     in_a_block ! f.at (λ q. lies_at R full_share (links_of R S W q) f.links) (id⊢ 𝓤 (never 𝓤)) (λ pb po e.
     rewrite ! 0 (λ (q : Ptr). ‵ (lies_at R full_share (links_of R S W q) f.links)) (sym e) refl $ move ! (1 ∷ []) $ fsplit ! $
     rewrite ! 0 (λ (z : Ptr × Option (K.Denot × V.Denot)). ‵ (body_owns R S W z.0 z.1)) (λ i. (e i, kh.1 i)) refl $ fsplit ! $
@@ -68,13 +69,14 @@ take_spec 𝓤 𝓛 𝓜 𝓡 wired L K V LL LK LV =
     use1 𝓛 (‵ (froom (layout K) pb (po + ko E))) (𝓛.laws.at_room (layout K) pb (po + ko E) u) $ as_raw ! (layout K) pb (po + ko E) $ fjoin ! $
     -- [the memory of both; what the value owns; what the key owns; the deed; the links; ..]
     rewrite ! 0 (λ (q : Ptr). ‵ (body_owns R S W q None)) (sym e) refl $ move ! (0 ∷ 3 ∷ []) $ fjoin ! $ move ! (3 ∷ 0 ∷ []) $ fjoin ! $ move ! (0 ∷ 3 ∷ []) $
-    use2 𝓛 (‵ (Cells E (k.before ++ f' ∷ k.after))) (cells_glue 𝓛 E k.before f' k.after) $ rewrite ! 0 (λ (cs : List (Node E)). ‵ (Cells E cs)) (sym (k.changed (λ c. cell c.at c.links None))) refl $
-    let h' : N.Denot = record { marker = h.marker; cells = change p (λ c. cell c.at c.links None) h.cells; apart = subst IsApart (sym (pointers-change p (λ c. cell c.at c.links None) (λ c. refl) h.cells)) h.apart; blocks = subst AreBlocks (sym (pointers-change p (λ c. cell c.at c.links None) (λ c. refl) h.cells)) h.blocks } in
+    use2 𝓛 (‵ (Cells E (Land E h) (k.before ++ f' ∷ k.after))) (cells_glue 𝓛 E (Land E h) k.before f' k.after) $ rewrite ! 0 (λ (cs : List (Node E)). ‵ (Cells E (Land E h) cs)) (sym (k.changed (λ c. cell c.at c.links None))) refl $
+    let h' : N.Denot = record { marker = h.marker; cells = change p (λ c. cell c.at c.links None) h.cells; apart = subst IsApart (sym (pointers-change p (λ c. cell c.at c.links None) (λ c. refl) h.cells)) h.apart; blocks = subst AreBlocks (sym (pointers-change p (λ c. cell c.at c.links None) (λ c. refl) h.cells)) h.blocks; node_bytes = h.node_bytes; unused = h.unused; chunks = h.chunks; unused_blocks = h.unused_blocks; laid = subst (λ (ps : List Ptr). h.unused ++ ps ≡ places h.node_bytes h.chunks) (sym (pointers-change p (λ c. cell c.at c.links None) (λ c. refl) h.cells)) h.laid } in
     -- [the nodes; what the value owns; what the key owns; the marker; its cell; the open borrow, in three; the other tokens]
     move ! (3 ∷ 0 ∷ []) $ fjoin ! $ move ! (3 ∷ 0 ∷ 4 ∷ 5 ∷ 6 ∷ []) $ closes ! tt N h' vs rb ro $
     feq_i ! (List Val) vss.0 (vptr rb ro ∷ []) are.0.0 $ fjoin3 ! $ nothing ! $ nothing ! $ fjoin ! $ move ! (1 ∷ 0 ∷ []) $ fjoin ! $ move ! (1 ∷ 4 ∷ []) $ join ! $
     -- [the tokens; self; the value's; the key's]
     move ! (3 ∷ 2 ∷ []) $ two_made ! S W x.0 x.1 u w $
     let Told : Type 0 = with_body p None h.cells ≡ with_body p None h.cells in let Got : Type 0 = body_at h.cells p ≡ Some x in
-    use0 𝓛 (raw (fact 𝓤 Told)) (fact_i 𝓤 Told (emp 𝓤) refl) $ use0 𝓛 (raw (fact 𝓤 Got)) (fact_i 𝓤 Got (emp 𝓤) asked.1) $ join ! $
+    let Stays' : Type 0 = (h.unused ≡ h.unused) × (h.chunks ≡ h.chunks) in use0 𝓛 (raw (fact 𝓤 Stays')) (fact_i 𝓤 Stays' (emp 𝓤) (refl, refl)) $
+    use0 𝓛 (raw (fact 𝓤 Told)) (fact_i 𝓤 Told (emp 𝓤) refl) $ join ! $ use0 𝓛 (raw (fact 𝓤 Got)) (fact_i 𝓤 Got (emp 𝓤) asked.1) $ join ! $
     returns ! (look_at ! 0 refl) $ free_all ! refl $ keep ! (2 ∷ 3 ∷ 1 ∷ 0 ∷ []) $ by ! (leaves 𝓛 En hs c y r x (h', (tt, tt)) (tt, (tt, tt))))))))))))

@@ -36,9 +36,9 @@ use Rattle.std.proofs.VecSteps.Shapes.{after}
 use Rattle.std.proofs.RcSteps.{word, word-Good}
 use Rattle.std.proofs.raw_atomic.Walks.{proved_at, leaves}
 use Rattle.lhm_ring.specs.Cells.{cell, Holds, IsValue, body_at}
-use Rattle.lhm_ring.specs.Ownership.{links_of, key_of, value_of, body_owns, deed_owns, chunk_token}
+use Rattle.lhm_ring.specs.Ownership.{links_of, key_of, value_of, body_owns, deed_owns}
 use Rattle.lhm_ring.proofs.Lookup.{Cut, cut_held}
-use Rattle.lhm_ring.proofs.Memory.{Three, args, RL, RK, RV, vo, Node, Nr, Marker, Pl, One, Cells, pointer_told, cells_cut, cells_glue}
+use Rattle.lhm_ring.proofs.Memory.{Three, args, RL, RK, RV, vo, Node, Nr, Marker, Pl, One, Land, Cells, pointer_told, cells_cut, cells_glue}
 use Rattle.lhm_ring.specs.contracts.nodes.Nodes.value_mut.{ended, clauses}
 use Rattle.lhm_ring.specs.contracts.nodes.Nodes.value_mut.Key.{name as #self}
 use Rattle.lhm_ring.proofs.nodes.Nodes.value_mut.Statement.{statement}
@@ -47,8 +47,8 @@ use Rattle.lhm_ring.proofs.nodes.Nodes.value_mut.Code as code
 module _ (E : Three) {M : Type 1} {𝓤 : Ura M} (𝓛 : Logic 𝓤) (h : (Nr E).Denot) (p : Ptr) (k : Cut h.cells p) (x : E.key.Denot × E.value.Denot) (vs : List Val) (rb ro pb po : ℕ) where
   -- all but the value
   abbrev Rest : Fml
-  Rest = fsep (lies_at (RL E) full_share (links_of (RL E) (RK E) (RV E) k.node.at) k.node.links) (fsep (lies_at (RK E) full_share (key_of (RL E) (RK E) (RV E) k.node.at) x.0) (fsep (deed_owns (RL E) (RK E) (RV E) chunk_token k.node.at)
-      (fsep (Cells E (k.before ++ k.after)) (fsep ((Marker E).own_val (tt, tt) vs) (cell_at full_share (Nr E).mir vs rb ro)))))
+  Rest = fsep (lies_at (RL E) full_share (links_of (RL E) (RK E) (RV E) k.node.at) k.node.links) (fsep (lies_at (RK E) full_share (key_of (RL E) (RK E) (RV E) k.node.at) x.0) (fsep (deed_owns (RL E) (RK E) (RV E) k.node.at)
+      (fsep (Cells E (Land E h) (k.before ++ k.after)) (fsep ((Marker E).own_val (tt, tt) vs) (cell_at full_share (Nr E).mir vs rb ro)))))
 
   back : k.node.at ≡ block_ptr pb po → body_at h.cells p ≡ Some x → (w : E.value.Denot) → ent 𝓤 (sep 𝓤 (sem 𝓛 ((mem (RV E)).own_at w pb (po + vo E))) (sem 𝓛 Rest)) (sem 𝓛 ((mem (Nr E)).own_at (holding h p w) rb ro))
   unfolding part_of
@@ -58,7 +58,7 @@ module _ (E : Three) {M : Type 1} {𝓤 : Ura M} (𝓛 : Logic 𝓤) (h : (Nr E)
       move ! (1 ∷ []) $ fsplit3 ! $ move ! (2 ∷ []) $ fsplit3 ! $ move ! (2 ∷ []) $ fsplit ! $
       -- [the marker; its cell; the deed; the other nodes; the links; the key; the value]
       move ! (5 ∷ 6 ∷ []) $ fjoin ! $ rewrite ! 0 (λ (o : Option (E.key.Denot × E.value.Denot)). ‵ (body_owns (RL E) (RK E) (RV E) f.at (value_set w o))) (sym is) refl $ move ! (0 ∷ 3 ∷ []) $ fjoin ! $ move ! (4 ∷ 0 ∷ []) $ fjoin ! $ move ! (0 ∷ 3 ∷ []) $
-      use2 𝓛 (‵ (Cells E (k.before ++ f' ∷ k.after))) (cells_glue 𝓛 E k.before f' k.after) $ rewrite ! 0 (λ (cs : List (Node E)). ‵ (Cells E cs)) (sym (k.changed (λ c. cell c.at c.links (value_set w (body_at h.cells p))))) refl $
+      use2 𝓛 (‵ (Cells E (Land E h) (k.before ++ f' ∷ k.after))) (cells_glue 𝓛 E (Land E h) k.before f' k.after) $ rewrite ! 0 (λ (cs : List (Node E)). ‵ (Cells E (Land E h) cs)) (sym (k.changed (λ c. cell c.at c.links (value_set w (body_at h.cells p))))) refl $
       move ! (1 ∷ 0 ∷ []) $ fjoin ! $ move ! (1 ∷ 0 ∷ []) $ fjoin ! $ fpack ! (List Val) (λ us. fsep (cell_at full_share (Nr E).mir us rb ro) ((Nr E).own_val (holding h p w) us)) vs $ done !
 
 pub value_mut_spec : {M : Type 1} → statement M
@@ -80,8 +80,8 @@ value_mut_spec 𝓤 𝓛 𝓜 𝓡 wired L K V LL LK LV =
     suffices ! (Run us) (subst (λ (ws : List Val). ent 𝓤 (Run us) (Run ws)) (sym (λ i. are.0.0 i ++ (pointer_told a.1.0 vss.1.0 are.1.0 i ++ []))) (id⊢ 𝓤 (Run us))) $
     enter ! 𝓣.C 𝓣.Λ fn us Post $ alloc_all ! (λ l. pass_all ! refl ((tt, tt), (word-Good [] p, tt)) $ let Ev = env fn.locals l in
     let x = asked.0 in let kh = cut_held h.cells p x asked.1 in let k : Cut h.cells p = kh.0 in let f : Node E = k.node in
-    opens ! tt N {h = h} rb ro (λ vs. move ! (1 ∷ []) $ fsplit ! $ rewrite ! 1 (λ (cs : List (Node E)). ‵ (Cells E cs)) k.is refl $ move ! (1 ∷ []) $
-    use1 𝓛 (‵ (One E f) ⊛ ‵ (Cells E (k.before ++ k.after))) (cells_cut 𝓛 E k.before f k.after) $ split ! $ fsplit ! $
+    opens ! tt N {h = h} rb ro (λ vs. move ! (1 ∷ []) $ fsplit ! $ rewrite ! 1 (λ (cs : List (Node E)). ‵ (Cells E (Land E h) cs)) k.is refl $ move ! (1 ∷ []) $
+    use1 𝓛 (‵ (One E f) ⊛ ‵ (Cells E (Land E h) (k.before ++ k.after))) (cells_cut 𝓛 E (Land E h) k.before f k.after) $ split ! $ fsplit ! $
     in_a_block ! f.at (λ q. lies_at R full_share (links_of R S W q) f.links) (id⊢ 𝓤 (never 𝓤)) (λ pb po e.
     rewrite ! 0 (λ (q : Ptr). ‵ (lies_at R full_share (links_of R S W q) f.links)) (sym e) refl $ move ! (1 ∷ []) $ fsplit ! $
     rewrite ! 0 (λ (z : Option (K.Denot × V.Denot)). ‵ (body_owns R S W f.at z)) kh.1 refl $ fsplit ! $ move ! (1 ∷ []) $

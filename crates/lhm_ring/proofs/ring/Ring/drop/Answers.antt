@@ -1,4 +1,3 @@
-use Rattle.std.proofs.Common.{◌∙◌, arith}
 use Rattle.lhm_ring.proofs.DroppedRing.{first_held, no_first, length-removed}
 use Rattle.lhm_ring.proofs.ring.Ring.drop.Goals as goal
 
@@ -9,10 +8,7 @@ pub held-smaller : goal.held-smaller
 held-smaller g c =
     let h = first_held c.held.self.held c.in-Some.at.pointer.ptr c.in-Some.ensures in
     let u = c.unlink-key.ensures.others h.before h.node h.after h.is h.at_is in
-    length-removed c.held.self.held c.drop_spare.new.self.held h.before h.node h.after h.is (c.drop_spare.ensures.held ∙ u)
+    length-removed c.held.self.held c.unlink-key.new.self.held h.before h.node h.after h.is u
 
 pub destroy_empty-requires : goal.destroy_empty-requires
 destroy_empty-requires g c = no_first c.held.self.held c.in_default.ensures
-
-pub drop_spare-requires : goal.drop_spare-requires
-drop_spare-requires g c = omega (arith, c.unlink-key.ensures.spares)

@@ -1,10 +1,10 @@
-use Rattle.lhm_ring.specs.Rings.{follow, listed}
-use Rattle.lhm_ring.proofs.ValuesReplaced.{whole_ring, nothing_held}
+use Rattle.std.proofs.Common.{◌∙◌, ap}
+use Rattle.lhm_ring.specs.RingState.{State}
+use Rattle.lhm_ring.proofs.RingSpans.{span_of_ring, listed_of_ring}
 use Rattle.lhm_ring.proofs.ring.Ring.iter.Goals as goal
 
-pub invariant_of-t-3 : goal.invariant_of-t-3
-invariant_of-t-3 g c = let i = c.self.inside in whole_ring i.nodes.cells i.guard i.spare c.in-Some.guard i.len i.spares c.in-Some.is c.self.invariant
+pub invariant_of-result : goal.invariant_of-result
+invariant_of-result g c = let i = c.self.inside in span_of_ring i.ends i.nodes.cells i.spare i.len i.spares c.self.invariant.0 c.address.result.ptr c.address-2.result.ptr c.address.ensures c.address-2.ensures
 
-pub returns-in-None : goal.returns-in-None
-unfolding follow listed
-returns-in-None g c = let i = c.self.inside in nothing_held i.nodes.cells i.guard i.len i.spares _ c.in-None.is c.self.view_is
+pub returns : goal.returns
+returns g c = let i = c.self.inside in listed_of_ring i.ends i.nodes.cells i.spare i.len i.spares c.self.invariant.0 c.address.result.ptr c.address-2.result.ptr c.address.ensures ∙ ap (λ (s : State _). s.held) c.self.view_is

@@ -1,45 +1,58 @@
-use Rattle.std.proofs.Common.{◌≡◌, ◌∙◌, ap, subst, true}
-use Rattle.lhm_ring.specs.Rings.{next_of, prev_of, is_there}
-use Rattle.lhm_ring.proofs.Writes.{is_at}
-use Rattle.lhm_ring.proofs.RingNodes.{RingOk-guard, guarded_in, node_in}
-use Rattle.lhm_ring.proofs.Moves.{p_there, prev_there, next_there, moving_there, moved_ring, moved_list}
+use Rattle.std.proofs.Common.{◌≡◌, ◌∙◌, ap, sym, subst, true}
+use Rattle.lhm_ring.specs.Rings.{ring_cells, next_of, prev_of, is_there}
+use Rattle.lhm_ring.proofs.Moves.{prev_there, next_there, moving_there, moved_ring, moved_list}
+use Rattle.lhm_ring.proofs.RingCells.{in_nodes, ring_links, ring_last, null_there, led_some, led_none, joined_at}
+use Rattle.lhm_ring.proofs.RingNodes.{node_in}
+use Rattle.lhm_ring.proofs.ReadAtPosition.{read_at}
 use Rattle.lhm_ring.proofs.ValuesReplaced.{ring_apart}
+use Rattle.lhm_ring.proofs.Places.{still_laid}
 use Rattle.lhm_ring.proofs.ring.Ring.move_to_back.Goals as goal
-
-pub unwrap-guard-requires : goal.unwrap-guard-requires
-unwrap-guard-requires g c = let i = c.self.inside in guarded_in i.nodes.cells i.guard i.spare i.len i.spares _ _ c.self.view_is c.requires
 
 pub links-links-requires : goal.links-links-requires
 links-links-requires g c =
-    let i = c.self.inside in let s = node_in i.nodes.cells i.guard i.spare _ i.len i.spares _ _ c.unwrap-guard.ensures c.self.invariant c.self.view_is c.requires in
-    is_at _ _ (p_there _ _ _ _ _ _ _ s.ring)
+    let i = c.self.inside in let p = c.args.at.pointer.ptr in
+    in_nodes i.ends i.nodes.cells p c.args.at.block (read_at (ring_cells i.ends i.nodes.cells) i.spare i.len i.spares _ c.self.invariant.0 c.self.view_is p c.requires)
 
 pub join-requires : goal.join-requires
 join-requires g c =
-    let i = c.self.inside in let s = node_in i.nodes.cells i.guard i.spare _ i.len i.spares _ _ c.unwrap-guard.ensures c.self.invariant c.self.view_is c.requires in
-    let e = c.links-links.ensures in
-    (subst (λ q. is_there i.nodes.cells q ≡ true) (ap prev_of e) (prev_there _ _ _ _ _ _ _ s.ring), subst (λ q. is_there i.nodes.cells q ≡ true) (ap next_of e) (next_there _ _ _ _ _ _ _ s.ring))
+    let i = c.self.inside in let p = c.args.at.pointer.ptr in let cs = ring_cells i.ends i.nodes.cells in
+    let s = node_in cs i.spare i.len i.spares _ p c.self.invariant.0 c.self.view_is c.requires in
+    let e = ring_links i.ends i.nodes.cells p c.args.at.block ∙ c.links-links.ensures in
+    (subst (λ q. is_there cs q ≡ true) (ap prev_of e) (prev_there _ _ _ _ _ _ s.ring), subst (λ q. is_there cs q ≡ true) (ap next_of e) (next_there _ _ _ _ _ _ s.ring))
 
 pub join-requires-2 : goal.join-requires-2
 join-requires-2 g c =
-    let i = c.self.inside in
-    moving_there i.nodes.cells i.guard i.spare _ i.len i.spares _ c.unwrap-guard.ensures c.self.invariant c.self.view_is _ _ c.links-links.ensures _ c.join.ensures c.requires _ c.links.ensures
+    let i = c.self.inside in let p = c.args.at.pointer.ptr in let cs = ring_cells i.ends i.nodes.cells in let ds = ring_cells c.join.new.ends c.join.new.nodes.cells in
+    let e = ring_links i.ends i.nodes.cells p c.args.at.block ∙ c.links-links.ensures in
+    let t = moving_there cs i.spare i.len i.spares _ c.self.invariant.0 c.self.view_is p _ e ds c.join.ensures.joined c.requires in
+    (subst (λ q. is_there ds q ≡ true) (ring_last c.join.new.ends c.join.new.nodes.cells) t.0, subst (λ q. is_there ds q ≡ true) (sym (led_some c.to-moved.result.ptr p c.to-moved.ensures)) t.1)
+
+pub join-requires-3 : goal.join-requires-3
+join-requires-3 g c =
+    let i = c.self.inside in let p = c.args.at.pointer.ptr in let cs = ring_cells i.ends i.nodes.cells in let ds = ring_cells c.join.new.ends c.join.new.nodes.cells in let es = ring_cells c.join-2.new.ends c.join-2.new.nodes.cells in
+    let e = ring_links i.ends i.nodes.cells p c.args.at.block ∙ c.links-links.ensures in
+    let t = moving_there cs i.spare i.len i.spares _ c.self.invariant.0 c.self.view_is p _ e ds c.join.ensures.joined c.requires in (
+      c.join-2.ensures.joined.there c.to-moved.result.ptr ∙ subst (λ q. is_there ds q ≡ true) (sym (led_some c.to-moved.result.ptr p c.to-moved.ensures)) t.1,
+      subst (λ q. is_there es q ≡ true) (sym (led_none c.none.result.ptr c.none.ensures)) (null_there c.join-2.new.ends c.join-2.new.nodes.cells),
+    )
 
 pub invariant_of-self : goal.invariant_of-self
 invariant_of-self g c =
-    let i = c.self.inside in
-    (moved_ring i.nodes.cells i.guard i.spare _ i.len i.spares _ c.unwrap-guard.ensures c.self.invariant c.self.view_is _ _ c.links-links.ensures _ c.join.ensures _ c.links.ensures _ _ c.join-2.ensures c.join-3.ensures c.requires)
+    let i = c.self.inside in let p = c.args.at.pointer.ptr in let cs = ring_cells i.ends i.nodes.cells in let ds = ring_cells c.join.new.ends c.join.new.nodes.cells in
+    let e = ring_links i.ends i.nodes.cells p c.args.at.block ∙ c.links-links.ensures in let node = led_some c.to-moved.result.ptr p c.to-moved.ensures in
+    let k = joined_at (sym (ring_last c.join.new.ends c.join.new.nodes.cells)) node c.join-2.ensures.joined in let l = joined_at node (led_none c.none.result.ptr c.none.ensures) c.join-3.ensures.joined in (
+      moved_ring cs i.spare i.len i.spares _ c.self.invariant.0 c.self.view_is p _ e ds c.join.ensures.joined _ _ k l c.requires,
+      still_laid c.self.invariant.1 (c.join-3.ensures.land.0 ∙ c.join-2.ensures.land.0 ∙ c.join.ensures.land.0) (c.join-3.ensures.land.1 ∙ c.join-2.ensures.land.1 ∙ c.join.ensures.land.1),
+    )
 
 pub returns : goal.returns
 returns g c =
-    let i = c.self.inside in let h = c.requires in
-    let e = moved_list i.nodes.cells i.guard i.spare _ i.len i.spares _ c.unwrap-guard.ensures c.self.invariant c.self.view_is _ _ c.links-links.ensures _ c.join.ensures _ c.links.ensures _ _ c.join-2.ensures c.join-3.ensures in
+    let i = c.self.inside in let h = c.requires in let p = c.args.at.pointer.ptr in let cs = ring_cells i.ends i.nodes.cells in let ds = ring_cells c.join.new.ends c.join.new.nodes.cells in
+    let e = ring_links i.ends i.nodes.cells p c.args.at.block ∙ c.links-links.ensures in let node = led_some c.to-moved.result.ptr p c.to-moved.ensures in
+    let k = joined_at (sym (ring_last c.join.new.ends c.join.new.nodes.cells)) node c.join-2.ensures.joined in let l = joined_at node (led_none c.none.result.ptr c.none.ensures) c.join-3.ensures.joined in
+    let m = moved_list cs i.spare i.len i.spares _ c.self.invariant.0 c.self.view_is p _ e ds c.join.ensures.joined _ _ k l in
     record {
-      last = λ xs t ys k at. ap (λ z. z.held) (e xs t ys k at);
-      spares = ap (λ z. z.spares) (e h.before h.node h.after h.is h.at_is);
-      apart = ring_apart i.nodes.cells i.guard i.spare i.len i.spares _ c.self.invariant c.self.view_is;
+      last = λ xs t ys q at. ap (λ z. z.held) (m xs t ys q at);
+      spares = ap (λ z. z.spares) (m h.before h.node h.after h.is h.at_is);
+      apart = ring_apart cs i.spare i.len i.spares _ c.self.invariant.0 c.self.view_is;
     }
-
-pub links-requires : goal.links-requires
-links-requires g c =
-    let i = c.self.inside in is_at _ _ (c.join.ensures.there c.unwrap-guard.result.ptr ∙ (RingOk-guard i.nodes.cells i.guard i.spare _ i.len i.spares c.unwrap-guard.ensures c.self.invariant).2.there.0)

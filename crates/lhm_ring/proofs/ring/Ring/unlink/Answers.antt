@@ -1,51 +1,63 @@
-use Rattle.std.proofs.Common.{◌≡◌, ap, subst, true}
-use Rattle.lhm_ring.specs.Rings.{next_of, prev_of, is_there}
-use Rattle.lhm_ring.proofs.Options.{some_there}
-use Rattle.lhm_ring.proofs.Writes.{is_at}
-use Rattle.lhm_ring.proofs.RingNodes.{guarded_in, node_in}
-use Rattle.lhm_ring.proofs.Moves.{p_there, prev_there, next_there}
+use Rattle.std.proofs.Common.{◌∙◌, ◌≡◌, None, ap, subst, true}
+use Rattle.lhm_ring.specs.Rings.{ring_cells, next_of, prev_of, is_there}
+use Rattle.lhm_ring.proofs.ReadAtPosition.{read_at}
+use Rattle.lhm_ring.proofs.RingCells.{in_nodes, holds_in, ring_links, ring_body, ring_with_body, relinks_ring}
+use Rattle.lhm_ring.proofs.RingNodes.{node_in}
+use Rattle.lhm_ring.proofs.Moves.{prev_there, next_there}
 use Rattle.lhm_ring.proofs.PutBackAndUnlink.{taken_holds, taken_at, some_held, taken_ring, taken_list}
+use Rattle.lhm_ring.proofs.Places.{still_laid}
 use Rattle.lhm_ring.proofs.ring.Ring.unlink.Goals as goal
 
 pub links-old-requires : goal.links-old-requires
 links-old-requires g c =
-    let i = c.self.inside in let k = some_there i.guard (guarded_in i.nodes.cells i.guard i.spare i.len i.spares _ _ c.self.view_is c.requires) in let s = node_in i.nodes.cells i.guard i.spare _ i.len i.spares _ _ k.1 c.self.invariant c.self.view_is c.requires in
-    is_at _ _ (p_there _ _ _ _ _ _ _ s.ring)
+    let i = c.self.inside in let p = c.args.at.pointer.ptr in
+    in_nodes i.ends i.nodes.cells p c.args.at.block (read_at (ring_cells i.ends i.nodes.cells) i.spare i.len i.spares _ c.self.invariant.0 c.self.view_is p c.requires)
 
 pub join-requires : goal.join-requires
 join-requires g c =
-    let i = c.self.inside in let k = some_there i.guard (guarded_in i.nodes.cells i.guard i.spare i.len i.spares _ _ c.self.view_is c.requires) in let s = node_in i.nodes.cells i.guard i.spare _ i.len i.spares _ _ k.1 c.self.invariant c.self.view_is c.requires in
-    let e = c.links-old.ensures in
-    (subst (λ q. is_there i.nodes.cells q ≡ true) (ap prev_of e) (prev_there _ _ _ _ _ _ _ s.ring), subst (λ q. is_there i.nodes.cells q ≡ true) (ap next_of e) (next_there _ _ _ _ _ _ _ s.ring))
+    let i = c.self.inside in let p = c.args.at.pointer.ptr in let cs = ring_cells i.ends i.nodes.cells in
+    let s = node_in cs i.spare i.len i.spares _ p c.self.invariant.0 c.self.view_is c.requires in
+    let e = ring_links i.ends i.nodes.cells p c.args.at.block ∙ c.links-old.ensures in
+    (subst (λ q. is_there cs q ≡ true) (ap prev_of e) (prev_there _ _ _ _ _ _ s.ring), subst (λ q. is_there cs q ≡ true) (ap next_of e) (next_there _ _ _ _ _ _ s.ring))
 
 pub take-key-requires : goal.take-key-requires
 take-key-requires g c =
-    let i = c.self.inside in let k = some_there i.guard (guarded_in i.nodes.cells i.guard i.spare i.len i.spares _ _ c.self.view_is c.requires) in
-    taken_holds i.nodes.cells i.guard i.spare _ i.len i.spares _ k.1 c.self.invariant c.self.view_is c.args.at.pointer _ c.links-old.ensures _ c.join.ensures c.requires
+    let i = c.self.inside in let at = c.args.at.pointer in let b = c.args.at.block in
+    let e = ring_links i.ends i.nodes.cells at.ptr b ∙ c.links-old.ensures in
+    holds_in c.join.new.ends c.join.new.nodes.cells at.ptr b (taken_holds (ring_cells i.ends i.nodes.cells) i.spare i.len i.spares _ c.self.invariant.0 c.self.view_is at _ e _ c.join.ensures.joined c.requires)
 
 pub relink-requires : goal.relink-requires
 relink-requires g c =
-    let i = c.self.inside in let k = some_there i.guard (guarded_in i.nodes.cells i.guard i.spare i.len i.spares _ _ c.self.view_is c.requires) in
-    taken_at i.nodes.cells i.guard i.spare _ i.len i.spares _ k.1 c.self.invariant c.self.view_is c.args.at.pointer _ c.links-old.ensures _ c.join.ensures _ c.take-key.ensures.body _ c.take-key.new.self.cells c.take-key.ensures.cells c.requires
+    let i = c.self.inside in let at = c.args.at.pointer in let b = c.args.at.block in let ends = c.join.new.ends in let zs = c.join.new.nodes.cells in let ws = c.take-key.new.self.cells in
+    let e = ring_links i.ends i.nodes.cells at.ptr b ∙ c.links-old.ensures in
+    in_nodes ends ws at.ptr b
+    (taken_at (ring_cells i.ends i.nodes.cells) i.spare i.len i.spares _ c.self.invariant.0 c.self.view_is at _ e _ c.join.ensures.joined _ (ring_body ends zs at.ptr b ∙ c.take-key.ensures.body) _ (ring_cells ends ws)
+    (ring_with_body ends zs at.ptr b None ws c.take-key.ensures.cells) c.requires)
 
 pub overflow_sub-self : goal.overflow_sub-self
 overflow_sub-self g c =
-    let i = c.self.inside in let k = some_there i.guard (guarded_in i.nodes.cells i.guard i.spare i.len i.spares _ _ c.self.view_is c.requires) in
-    some_held i.nodes.cells i.guard i.spare _ i.len i.spares _ k.1 c.self.invariant c.self.view_is c.args.at.pointer _ c.links-old.ensures _ c.join.ensures c.requires
+    let i = c.self.inside in let at = c.args.at.pointer in let e = ring_links i.ends i.nodes.cells at.ptr c.args.at.block ∙ c.links-old.ensures in
+    some_held (ring_cells i.ends i.nodes.cells) i.spare i.len i.spares _ c.self.invariant.0 c.self.view_is at _ e _ c.join.ensures.joined c.requires
 
 pub invariant_of-self : goal.invariant_of-self
 invariant_of-self g c =
-    let i = c.self.inside in let k = some_there i.guard (guarded_in i.nodes.cells i.guard i.spare i.len i.spares _ _ c.self.view_is c.requires) in
-    (taken_ring i.nodes.cells i.guard i.spare _ i.len i.spares _ k.1 c.self.invariant c.self.view_is c.args.at.pointer _ c.links-old.ensures _ c.join.ensures _ c.take-key.ensures.body _ _ c.take-key.ensures.cells c.relink.ensures _ c.to-self-inside.ensures c.requires)
+    let i = c.self.inside in let at = c.args.at.pointer in let b = c.args.at.block in let ends = c.join.new.ends in let zs = c.join.new.nodes.cells in let ws = c.take-key.new.self.cells in
+    let e = ring_links i.ends i.nodes.cells at.ptr b ∙ c.links-old.ensures in (
+      taken_ring (ring_cells i.ends i.nodes.cells) i.spare i.len i.spares _ c.self.invariant.0 c.self.view_is at _ e _ c.join.ensures.joined _ (ring_body ends zs at.ptr b ∙ c.take-key.ensures.body) _ _
+          (ring_with_body ends zs at.ptr b None ws c.take-key.ensures.cells) (relinks_ring ends ws at.ptr b i.spare c.relink.new.nodes.cells c.relink.ensures.relinked) c.to-self-inside.result c.to-self-inside.ensures c.requires,
+      still_laid c.self.invariant.1 (c.relink.ensures.land.0 ∙ c.take-key.ensures.land.0 ∙ c.join.ensures.land.0) (c.relink.ensures.land.1 ∙ c.take-key.ensures.land.1 ∙ c.join.ensures.land.1),
+    )
 
 pub returns : goal.returns
 returns g c =
-    let i = c.self.inside in let k = some_there i.guard (guarded_in i.nodes.cells i.guard i.spare i.len i.spares _ _ c.self.view_is c.requires) in let h = c.requires in
-    let e = taken_list i.nodes.cells i.guard i.spare _ i.len i.spares _ k.1 c.self.invariant c.self.view_is c.args.at.pointer _ c.links-old.ensures _ c.join.ensures _ c.take-key.ensures.body _ _ c.take-key.ensures.cells c.relink.ensures in
+    let i = c.self.inside in let h = c.requires in let at = c.args.at.pointer in let b = c.args.at.block in let ends = c.join.new.ends in let zs = c.join.new.nodes.cells in let ws = c.take-key.new.self.cells in
+    let e = ring_links i.ends i.nodes.cells at.ptr b ∙ c.links-old.ensures in
+    let l = taken_list (ring_cells i.ends i.nodes.cells) i.spare i.len i.spares _ c.self.invariant.0 c.self.view_is at _ e _ c.join.ensures.joined _ (ring_body ends zs at.ptr b ∙ c.take-key.ensures.body) _ _
+    (ring_with_body ends zs at.ptr b None ws c.take-key.ensures.cells) (relinks_ring ends ws at.ptr b i.spare c.relink.new.nodes.cells c.relink.ensures.relinked) in
     record {
-      others = λ xs t ys cut at. ap (λ z. z.held) (e xs t ys cut at).0;
-      triple = λ xs t ys cut at. let q = e xs t ys cut at in λ z. (q.1 z, (q.2 z).0, (q.2 z).1);
-      spares = ap (λ z. z.spares) (e h.before h.node h.after h.is h.at_is).0;
+      others = λ xs t ys cut at. ap (λ z. z.held) (l xs t ys cut at).0;
+      triple = λ xs t ys cut at. let q = l xs t ys cut at in λ z. (q.1 z, (q.2 z).0, (q.2 z).1);
+      spares = ap (λ z. z.spares) (l h.before h.node h.after h.is h.at_is).0;
     }
 
 pub to-self-inside-requires : goal.to-self-inside-requires

@@ -58,3 +58,6 @@ returns-in-Err-clause-no_room g c =
       limit = subst (λ n. n ≤ LIMIT) made.capacity made.valid.limit;
       needed = inr (first_item steps it stopped.given (subst (λ it. YieldsThen steps it stopped.given (Some stopped.item) gives.left) gives.made gives.gives));
     }
+
+pub extend-requires : goal.extend-requires
+extend-requires g c = record { ends = λ it same. c.requires.ends it (subst (g.I.IntoIterator.into_iter_gives c.args.items) (sym same) c.into_iter-items.ensures.into_iter_gives) }

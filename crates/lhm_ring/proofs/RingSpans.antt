@@ -1,0 +1,47 @@
+-- What a ring holds, as a row of its nodes.
+use Rattle.std.proofs.Common.{◌≡◌, ℕ, suc, zero, List, [], ◌∷◌, ◌++◌, refl, sym, ap, ◌∙◌, subst}
+use denote.RawPtr.{Ptr, null_ptr}
+use Rattle.lhm_ring.specs.declared.links.Links.{Links}
+use Rattle.lhm_ring.specs.declared.links.Ends.{Ends}
+use Rattle.lhm_ring.specs.declared.link.Link.{Link}
+use Rattle.lhm_ring.specs.Cells.{Cell}
+use Rattle.lhm_ring.specs.Rings.{ring_cells, next_at, prev_at, follow, listed, HasEnds, pointers_from, ring_list, RingOk, IsSpan}
+use Rattle.lhm_ring.proofs.Rows.{cut_row, apart_left, apart_tail}
+use Rattle.lhm_ring.proofs.RingCells.{ring_first, ring_last, all_apart, held_in_nodes, listed_in_nodes, linked_in_nodes}
+use Rattle.lhm_ring.proofs.Spans.{last_same, linked_tail, ends_behind, span_pointers}
+
+module _ {B : Type 0} where
+  -- what a ring holds is in a row from its front to its back
+  pub whole_ring : (cs : List (Cell Links B)) (spare : Link) (n m : ℕ) → RingOk cs spare n m → IsSpan cs (next_at cs null_ptr) (prev_at cs null_ptr) n
+  whole_ring cs spare n m ok =
+      let k = cut_row cs null_ptr ok.0 null_ptr [] ok.2.linked in
+      let ends : HasEnds ok.0 (next_at cs null_ptr) (prev_at cs null_ptr) = ends_behind cs null_ptr (prev_at cs null_ptr) ok.0 k.0 (last_same null_ptr ok.0 ∙ sym k.1.1) in
+      (ok.0, ok.3, linked_tail cs null_ptr ok.0 k.0, ends, ok.2.held, apart_left ok.0 ok.1 (apart_tail null_ptr (ok.0 ++ ok.1) ok.2.apart))
+
+  follow_from : (cs : List (Cell Links B)) (n : ℕ) (p : Ptr) → follow cs n p ≡ pointers_from cs n (next_at cs p)
+  unfolding follow pointers_from
+  follow_from cs zero p = refl
+  follow_from cs (suc n) p = ap (λ qs. next_at cs p ∷ qs) (follow_from cs n (next_at cs p))
+
+  pub whole_listed : (cs : List (Cell Links B)) (n : ℕ) → listed cs (pointers_from cs n (next_at cs null_ptr)) ≡ ring_list cs n
+  whole_listed cs n = ap (listed cs) (sym (follow_from cs n null_ptr))
+
+-- a row of what a ring holds is one of its nodes
+module _ {B : Type 0} (e : Ends) (cs : List (Cell Links B)) (f b : Ptr) (n : ℕ) (s : IsSpan (ring_cells e cs) f b n) where
+  pub span_in_nodes : IsSpan cs f b n
+  span_in_nodes = let a = all_apart e cs s.0 s.4 in (s.0, s.1, linked_in_nodes e cs s.0 a s.2, s.3, held_in_nodes e cs s.0 s.4, s.5)
+
+  pub span_listed : listed cs (pointers_from cs n f) ≡ listed (ring_cells e cs) (pointers_from (ring_cells e cs) n f)
+  unfolding span_in_nodes
+  span_listed = ap (listed cs) (span_pointers cs f b n span_in_nodes) ∙ sym (listed_in_nodes e cs s.0 (all_apart e cs s.0 s.4)) ∙ sym (ap (listed (ring_cells e cs)) (span_pointers (ring_cells e cs) f b n s))
+
+-- what a ring holds is in the row from one end to the other
+module _ {B : Type 0} (e : Ends) (cs : List (Cell Links B)) (spare : Link) (n m : ℕ) (ok : RingOk (ring_cells e cs) spare n m) (f b : Ptr) (is : f ≡ e.first.ptr) where
+  abbrev row : IsSpan (ring_cells e cs) (next_at (ring_cells e cs) null_ptr) (prev_at (ring_cells e cs) null_ptr) n
+  row = whole_ring (ring_cells e cs) spare n m ok
+
+  pub span_of_ring : b ≡ e.last.ptr → IsSpan cs f b n
+  span_of_ring too = subst (λ (z : Ptr × Ptr). IsSpan cs z.0 z.1 n) (λ i. ((ring_first e cs ∙ sym is) i, (ring_last e cs ∙ sym too) i)) (span_in_nodes e cs _ _ n row)
+
+  pub listed_of_ring : listed cs (pointers_from cs n f) ≡ ring_list (ring_cells e cs) n
+  listed_of_ring = ap (λ q. listed cs (pointers_from cs n q)) (is ∙ sym (ring_first e cs)) ∙ span_listed e cs _ _ n row ∙ whole_listed (ring_cells e cs) n

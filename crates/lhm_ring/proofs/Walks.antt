@@ -1,0 +1,124 @@
+-- How many nodes lie behind one.
+use Rattle.std.proofs.Common.{◌≡◌, ℕ, ◌+◌, ◌<◌, false, List, [], ◌∷◌, ◌++◌, map, length, Option, Some, None, refl, sym, ap, ◌∙◌, subst, arith, true≢false, length-append, append-nil, append_assoc}
+use Rattle.std.specs.Prelude.{IfSome}
+use denote.RawPtr.{Ptr}
+use Rattle.lhm_ring.specs.Cells.{same_ptr, IsApart}
+use Rattle.lhm_ring.specs.declared.position.Position.{Position}
+use Rattle.lhm_ring.specs.Positions.{pointer_of, pointer_of_some}
+use Rattle.lhm_ring.specs.RingState.{Held, IsHeld, AtHeld, first_at, last_at}
+use Rattle.lhm_ring.proofs.Apart.{IsFresh, same_ptr_refl}
+use Rattle.lhm_ring.proofs.DroppedRing.{no_first}
+use Rattle.lhm_ring.proofs.Ends.{Last, first_node, last_node}
+use Rattle.lhm_ring.proofs.Options.{none_some}
+use Rattle.lhm_ring.proofs.Rows.{apart_head, apart_tail}
+
+module _ {B : Type 0} where
+  fresh_mid : (p : Ptr) (xs : List (Held B)) (t : Held B) (ys : List (Held B)) → IsFresh p (map (λ u. u.at) (xs ++ t ∷ ys)) → same_ptr p t.at ≡ false
+  fresh_mid p [] t ys f = f.0
+  fresh_mid p (x ∷ xs) t ys f = fresh_mid p xs t ys f.1
+
+  not_again : (t : Held B) (hs us : List (Held B)) (v : Held B) (ws : List (Held B)) → IsApart (map (λ u. u.at) (t ∷ hs)) → hs ≡ us ++ v ∷ ws → v.at ≡ t.at → ⊥
+  not_again t hs us v ws d e at =
+      let fresh : IsFresh t.at (map (λ u. u.at) (us ++ v ∷ ws)) = subst (λ ks. IsFresh t.at (map (λ u. u.at) ks)) e (apart_head t.at (map (λ u. u.at) hs) d) in
+      true≢false (sym (same_ptr_refl t.at) ∙ ap (same_ptr t.at) (sym at) ∙ fresh_mid t.at us v ws fresh)
+
+  cut_alike : (hs xs : List (Held B)) (t : Held B) (ys us : List (Held B)) (v : Held B) (ws : List (Held B)) → IsApart (map (λ u. u.at) hs) → hs ≡ xs ++ t ∷ ys → hs ≡ us ++ v ∷ ws → t.at ≡ v.at → length ys ≡ length ws
+  cut_alike [] [] t ys us v ws d e f at = absurd (cc)
+  cut_alike [] (x ∷ xs) t ys us v ws d e f at = absurd (cc)
+  cut_alike (h ∷ hs) [] t ys [] v ws d e f at = let same : ys ≡ ws = cc in ap length same
+  cut_alike (h ∷ hs) [] t ys (u ∷ us) v ws d e f at = let rest : hs ≡ us ++ v ∷ ws = cc in let here : v.at ≡ h.at = cc in absurd (not_again h hs us v ws d rest here)
+  cut_alike (h ∷ hs) (x ∷ xs) t ys [] v ws d e f at = let rest : hs ≡ xs ++ t ∷ ys = cc in let here : t.at ≡ h.at = cc in absurd (not_again h hs xs t ys d rest here)
+  cut_alike (h ∷ hs) (x ∷ xs) t ys (u ∷ us) v ws d e f at = cut_alike hs xs t ys us v ws (apart_tail h.at (map (λ z. z.at) hs) d) (cc) (cc) at
+
+  -- no two nodes lie at one pointer, so there is one place for it
+  pub length-behind : {hs : List (Held B)} {p : Ptr} → IsApart (map (λ u. u.at) hs) → (h : IsHeld hs p) → AtHeld hs p (λ xs t ys. length h.after ≡ length ys)
+  length-behind {hs} d h xs t ys e at = cut_alike hs h.before h.node h.after xs t ys d h.is e (h.at_is ∙ sym at)
+
+-- a walk to the back began at one node, has come to another, and has passed so many
+pub record HasPassed {B : Type 0} (hs : List (Held B)) (start here : Ptr) (passed : ℕ) : Type 0 where
+  pub began : IsHeld hs start
+  pub came : IsHeld hs here
+  pub count : passed + length came.after ≡ length began.after
+
+module _ {B : Type 0} {hs : List (Held B)} {start here : Ptr} {passed : ℕ} where
+  pub HasPassed-within : HasPassed hs start here passed → passed < length hs
+  HasPassed-within m =
+      let long = length-append m.began.before (m.began.node ∷ m.began.after) in
+      let all = ap length m.began.is in
+      omega (arith, m.count, long, all)
+
+  pub HasPassed-step : (m : HasPassed hs start here passed) (next : Ptr) → Some next ≡ first_at m.came.after → HasPassed hs start next (passed + 1)
+  HasPassed-step m next is =
+      let at = m.came in
+      let first = first_node at.after (Some next) next is refl in
+      let one = ap length first.is in
+      record {
+        began = m.began;
+        came = record {
+          before = at.before ++ at.node ∷ [];
+          node = first.node;
+          after = first.after;
+          is = at.is ∙ ap (λ ys. at.before ++ at.node ∷ ys) first.is ∙ sym (append_assoc at.before (at.node ∷ []) (first.node ∷ first.after));
+          at_is = first.at_is;
+        };
+        count = omega (arith, one, m.count);
+      }
+
+  pub HasPassed-end : IsApart (map (λ u. u.at) hs) → (m : HasPassed hs start here passed) → None ≡ first_at m.came.after → AtHeld hs start (λ xs t ys. passed ≡ length ys)
+  HasPassed-end d m none xs t ys e at =
+      let ended = ap length (no_first m.came.after none) in
+      let all = length-behind d m.began xs t ys e at in
+      omega (arith, ended, all, m.count)
+
+-- a walk from the back has passed so many, and comes to the one at o next
+pub record HasBehind {B : Type 0} (hs : List (Held B)) (o : Option Ptr) (passed : ℕ) : Type 0 where
+  pub front : List (Held B)
+  pub back : List (Held B)
+  pub is : hs ≡ front ++ back
+  pub count : length back ≡ passed
+  pub next_is : o ≡ last_at front
+
+no_last : {B : Type 0} (hs : List (Held B)) → None ≡ last_at hs → hs ≡ []
+no_last [] h = refl
+no_last (t ∷ hs) h = absurd (none_some _ h)
+
+module _ {B : Type 0} {hs : List (Held B)} {o : Option Ptr} where
+  pub HasBehind-start : o ≡ last_at hs → HasBehind hs o 0
+  HasBehind-start last = record { front = hs; back = []; is = sym (append-nil hs); count = refl; next_is = last }
+
+  module _ {passed : ℕ} (m : HasBehind hs o passed) where
+    pub length-passed : o ≡ None → length hs ≡ passed
+    length-passed none =
+        let ended = ap length (no_last m.front (sym none ∙ m.next_is)) in
+        let all = ap length m.is ∙ length-append m.front m.back in
+        omega (arith, ended, all, m.count)
+
+    module _ {p : Ptr} (some : o ≡ Some p) where
+      abbrev last : Last m.front p
+      last = last_node m.front o p m.next_is some
+
+      abbrev pub next_held : IsHeld hs p
+      next_held = record {
+        before = last.before;
+        node = last.node;
+        after = m.back;
+        is = m.is ∙ ap (λ us. us ++ m.back) last.is ∙ append_assoc last.before (last.node ∷ []) m.back;
+        at_is = last.at_is;
+      }
+
+      pub HasBehind-step : {r : Option Ptr} → AtHeld hs p (λ xs t ys. r ≡ last_at xs) → HasBehind hs r (passed + 1)
+      HasBehind-step previous =
+          let at = next_held in
+          record { front = at.before; back = at.node ∷ at.after; is = at.is; count = omega (arith, m.count); next_is = previous at.before at.node at.after at.is at.at_is }
+
+      pub length-next : IsApart (map (λ u. u.at) hs) → AtHeld hs p (λ xs t ys. length ys ≡ passed)
+      length-next d xs t ys e at = sym (length-behind d next_held xs t ys e at) ∙ m.count
+
+module _ {K V : Type 0} {hs : List (Held (K × V))} {passed : ℕ} where
+  pub IsHeld-next : (o : Option (Position K V)) → HasBehind hs (pointer_of_some o) passed → IfSome o (λ at. IsHeld hs (pointer_of at))
+  IsHeld-next None m = tt
+  IsHeld-next (Some at) m = next_held m refl
+
+  pub AtHeld-next : IsApart (map (λ u. u.at) hs) → (o : Option (Position K V)) → HasBehind hs (pointer_of_some o) passed → IfSome o (λ at. AtHeld hs (pointer_of at) (λ xs t ys. length ys ≡ passed))
+  AtHeld-next d None m = tt
+  AtHeld-next d (Some at) m = length-next m refl d

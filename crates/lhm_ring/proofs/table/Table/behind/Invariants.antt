@@ -1,0 +1,10 @@
+use Rattle.std.proofs.Common.{◌-◌, length}
+use Rattle.lhm_ring.specs.Positions.{pointer_of}
+use Rattle.lhm_ring.proofs.Walks.{HasPassed}
+use Rattle.lhm_ring.proofs.table.Table.behind.Given as goal
+
+abbrev pub invariant-pairs : goal.invariant-pairs
+invariant-pairs g l = HasPassed l.self.held (pointer_of l.fn.at) (pointer_of l.here) l.passed
+
+abbrev pub decreases-pairs : goal.decreases-pairs
+decreases-pairs g l = length l.self.held - l.passed

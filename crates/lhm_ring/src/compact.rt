@@ -1,0 +1,38 @@
+//! All triples of a ring move into nodes that lie side by side.
+ghost use Rattle.std.specs.Prelude.{◌≡◌, ◌+◌, ◌≤◌, ◌++◌, [], length, OnOk, OnErr};
+ghost use Rattle.lhm_ring.specs.RingState.{triples};
+
+use crate::ring::Ring;
+use std::alloc::AllocError;
+use std::mem;
+
+/// Moves all triples of a ring to the back of another, in order. It is O(n) and does not allocate.
+fn move_all<K, V>(from: &mut Ring<K, V>, to: &mut Ring<K, V>)
+    requires { length from.old.held ≤ to.old.spares }
+    ensures moved { triples to.new.held ≡ triples to.old.held ++ triples from.old.held }
+    ensures empty { from.new.held ≡ [] }
+    ensures spares { to.new.spares + length from.old.held ≡ to.old.spares }
+{
+    'each: while let Some(at) = from.first() {
+        let (hash, key, value) = from.unlink(at);
+        to.put_back(hash, key, value);
+    }
+}
+
+impl<K, V> Ring<K, V> {
+    /// Moves the triples, in order, into one chunk with exactly as many nodes, and frees the others,
+    /// in O(n). No node is spare then, all positions end, and chain links lead nowhere.
+    ///
+    /// Returns an error if an allocation fails; nothing changes then. If nothing is held it does
+    /// not allocate.
+    pub fn compact(&mut self) -> Result<(), AllocError>
+        ensures triples { OnOk result (triples self.new.held ≡ triples self.old.held) }
+        ensures spares { OnOk result (self.new.spares ≡ 0) }
+        ensures refused { OnErr result (self.new ≡ self.old) }
+    {
+        let mut fresh = Ring::with_spares(self.alloc, self.len())?;
+        move_all(self, &mut fresh);
+        mem::replace(self, fresh).destroy_empty();
+        Ok(())
+    }
+}

@@ -1,0 +1,106 @@
+-- A map whose pairs moved into other nodes.
+use Rattle.std.proofs.Common.{◌≡◌, ℕ, ◌<◌, ◌≤◌, Bool, List, [], ◌∷◌, map, length, take, drop, Option, Some, None, refl, sym, ap, ◌∙◌, subst, arith, length-append}
+use Rattle.std.specs.Prelude.{IfSome, IfNone}
+use Rattle.std.specs.List.{IsDistinct, AllByRecursion}
+use Rattle.std.specs.Map.{keys_of}
+use denote.RawPtr.{Ptr}
+use Rattle.lhm_ring.specs.Positions.{pointer_of, pointer_of_some}
+use Rattle.lhm_ring.specs.declared.position.Position.{Position}
+use Rattle.lhm_ring.specs.RingState.{Held, IsHeld, AtHeld, triples}
+use Rattle.lhm_ring.specs.Tables.{TableState}
+use Rattle.lhm_ring.proofs.Tables.{length-same_triples}
+use Rattle.linked_hash_map.specs.Nodes.{IsKept, HasBehind, Lies, pairs_of, bare, before, bookmark_at}
+use Rattle.linked_hash_map.proofs.Kept.{CutAt, cut_before, length-bare, keys-bare}
+use Rattle.linked_hash_map.proofs.MarkMoves.{bookmark-bare, marked_held}
+use Rattle.linked_hash_map.proofs.Outside.{before_held}
+
+module _ {B : Type 0} {p : Ptr} {hs : List (Held B)} where
+  -- what is known of each place of a pointer, at the first
+  pub HasBehind-cut : (n : ℕ) (cut : CutAt p hs) → AtHeld hs p (λ xs t ys. length ys ≡ n) → HasBehind (Some p) hs (Some n)
+  HasBehind-cut n cut behind =
+      let at = cut.held in
+      let after = behind at.before at.node at.after at.is at.at_is in
+      let all = ap length at.is in
+      let long = length-append at.before (at.node ∷ at.after) in
+      omega (arith, cut.long, after, all, long)
+
+  held_lies : IsHeld hs p → before p hs < length hs
+  held_lies h = subst (λ (ks : List (Held B)). before p ks < length ks) (sym h.is) (before_held p h.before h.node h.after h.at_is)
+
+module _ {K V : Type 0} (hs : List (Held (K × V))) where
+  -- a position with so many behind it
+  pub HasBehind-nth_back : (n : ℕ) (o : Option (Position K V)) → IfSome o (λ at. IsHeld hs (pointer_of at)) → IfSome o (λ at. AtHeld hs (pointer_of at) (λ xs t ys. length ys ≡ n)) → IfNone o (length hs ≤ n) → n < length hs → HasBehind (pointer_of_some o) hs (Some n)
+  HasBehind-nth_back n None held behind none within = absurd (omega (arith, none, within))
+  HasBehind-nth_back n (Some at) held behind none within = HasBehind-cut n (cut_before (pointer_of at) hs (held_lies held)) behind
+
+module _ {K V : Type 0} where
+  -- the pairs and the hashes are those of the triples
+  second-triples : (hs : List (Held (K × V))) → map (λ z. z.1) (triples hs) ≡ pairs_of hs
+  second-triples [] = refl
+  second-triples (t ∷ hs) = ap (λ ps. t.pair ∷ ps) (second-triples hs)
+
+  pub pairs_of-triples : (hs ks : List (Held (K × V))) → triples ks ≡ triples hs → pairs_of ks ≡ pairs_of hs
+  pairs_of-triples hs ks same = sym (second-triples ks) ∙ ap (map (λ z. z.1)) same ∙ second-triples hs
+
+  hashed-triples : (hash : K → ℕ) (hs ks : List (Held (K × V))) → triples ks ≡ triples hs → AllByRecursion (λ u. u.hash ≡ hash u.pair) (bare hs) → AllByRecursion (λ u. u.hash ≡ hash u.pair) (bare ks)
+  hashed-triples hash [] [] same all = tt
+  hashed-triples hash [] (k ∷ ks) same all = absurd (cc)
+  hashed-triples hash (t ∷ hs) [] same all = absurd (cc)
+  hashed-triples hash (t ∷ hs) (k ∷ ks) same all =
+      let rest : triples ks ≡ triples hs = cc in
+      let first : (k.hash, k.pair) ≡ (t.hash, t.pair) = cc in
+      (ap (λ z. z.0) first ∙ all.0 ∙ ap (λ (z : ℕ × (K × V)). hash z.1.0) (sym first), hashed-triples hash hs ks rest all.1)
+
+  bookmark-behind : (hs ks : List (Held (K × V))) (o q : Option Ptr) (behind : Option ℕ) → length ks ≡ length hs → HasBehind o hs behind → HasBehind q ks behind → bookmark_at q ks ≡ bookmark_at o hs
+  bookmark-behind hs ks None None None long old new = refl
+  bookmark-behind hs ks None None (Some n) long old new = absurd old
+  bookmark-behind hs ks None (Some q) None long old new = absurd new
+  bookmark-behind hs ks None (Some q) (Some n) long old new = absurd old
+  bookmark-behind hs ks (Some p) None None long old new = absurd old
+  bookmark-behind hs ks (Some p) None (Some n) long old new = absurd new
+  bookmark-behind hs ks (Some p) (Some q) None long old new = absurd old
+  bookmark-behind hs ks (Some p) (Some q) (Some n) long old new = omega (arith, long, old, new)
+
+  marked-behind : (hs ks : List (Held (K × V))) (o q : Option Ptr) (behind : Option ℕ) → HasBehind o hs behind → HasBehind q ks behind → q ≡ None → o ≡ None
+  marked-behind hs ks None q behind old new none = refl
+  marked-behind hs ks (Some p) (Some q) behind old new none = absurd (cc)
+  marked-behind hs ks (Some p) None None old new none = absurd old
+  marked-behind hs ks (Some p) None (Some n) old new none = absurd new
+
+-- the pairs that stand in one table stand in another, and what is behind a mark stands behind another
+module _ {K V : Type 0} {eq : K → K → Bool} {hash : K → ℕ} {s : TableState (K × V)} {mark : Option Ptr} {n : ℕ} {current : Option Ptr} (kept : IsKept eq hash s mark n current) (t : TableState (K × V)) (same : triples t.held ≡ triples s.held) (other : Option Ptr) (behind : Option ℕ) (old : HasBehind mark s.held behind) (new : HasBehind other t.held behind) where
+  pub bookmark-fitted : bookmark_at other (bare t.held) ≡ bookmark_at mark (bare s.held)
+  bookmark-fitted =
+      bookmark-bare other t.held ∙ bookmark-behind s.held t.held mark other behind (length-same_triples t.held s.held same) old new ∙ sym (bookmark-bare mark s.held)
+
+  pub to_visit-fitted : take n (drop (bookmark_at other (bare t.held)) (keys_of (pairs_of t.held))) ≡ take n (drop (bookmark_at mark (bare s.held)) (keys_of (pairs_of s.held)))
+  to_visit-fitted = λ i. take n (drop (bookmark-fitted i) (keys_of (pairs_of-triples s.held t.held same i)))
+
+  -- the capacity is then the number of pairs
+  fitted : t.capacity ≡ length s.held → IsKept eq hash t other n None
+  fitted capacity =
+      let k = kept.nodes in
+      let long = length-same_triples t.held s.held same in
+      let of_old = length-bare s.held in
+      let of_new = length-bare t.held in
+      let keys : map (λ u. u.pair) (bare t.held) ≡ map (λ u. u.pair) (bare s.held) = keys-bare t.held ∙ ap keys_of (pairs_of-triples s.held t.held same) ∙ sym (keys-bare s.held) in
+      record {
+        nodes = record {
+          distinct = subst (IsDistinct eq) (sym keys) k.distinct;
+          hashed = hashed-triples hash s.held t.held same k.hashed;
+          within = omega (arith, of_new, long, capacity);
+          limit = omega (arith, capacity, of_old, k.within, k.limit);
+          marked = λ none. k.marked (marked-behind s.held t.held mark other behind old new none);
+          ended = λ none. marked-behind t.held s.held other mark behind new old (k.ended none);
+          in_reach = omega (arith, bookmark-fitted, of_old, of_new, long, k.in_reach);
+          current_lies = tt;
+        };
+      }
+
+  pub IsKept-fitted : t.capacity ≡ length s.held → {k : ℕ} → k ≡ n → {o : Option Ptr} → o ≡ None → IsKept eq hash t other k o
+  IsKept-fitted capacity unvisited left = subst (λ (z : ℕ × Option Ptr). IsKept eq hash t other z.0 z.1) (λ i. (sym unvisited i, sym left i)) (fitted capacity)
+
+-- a mark is at one of the nodes
+pub marked_lies : {K V : Type 0} {eq : K → K → Bool} {hash : K → ℕ} {s : TableState (K × V)} {mark : Option Ptr} {n : ℕ} {current : Option Ptr} → IsKept eq hash s mark n current → Lies mark s.held
+marked_lies {mark = None} kept = tt
+marked_lies {mark = Some p} kept = held_lies (marked_held kept p refl)
