@@ -9,7 +9,7 @@ use std::process::Abort;
 /// A map whose keys and values are counted.
 pub type CountedMap<'a> = LinkedHashMap<Counted<'a>, Counted<'a>>;
 
-/// The number of a key and of its value, the bit of the key, and that of the value.
+/// The numbers of a key and its value, the bit of the key, and that of the value.
 pub type Bits = (u64, u64, u64);
 
 /// Makes a map of these pairs.
