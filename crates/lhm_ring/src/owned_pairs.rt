@@ -1,49 +1,73 @@
 //! The pairs of a table that ended, to be moved out one by one.
 ghost use Rattle.std.specs.Prelude.{◌≡◌, []};
-ghost use Rattle.lhm_ring.specs.RingState.{triples};
 ghost use Rattle.lhm_ring.specs.Splices.{HandsOutFirst};
 
-use crate::ring::Ring;
+use crate::block::NodePointer;
+use crate::chunk::Chunk;
+use crate::grow::free_chunks;
+use crate::links::Links;
+use crate::nodes::Nodes;
+use std::alloc::Global;
 use std::marker::Model;
 
 /// The pairs of a table that ended, with their hashes, front to back.
 ///
+/// It follows the links of the nodes and writes none, so that if keys and values need no drop the
+/// compiler may leave out a loop that takes all pairs.
+///
 /// It is not `Drop`: only `destroy_empty` ends it. No call needs `Drop` of the keys or values, so
 /// none can forget a pair or a node.
 pub struct OwnedPairs<K, V> {
-    ring: Ring<K, V>,
+    pub(crate) nodes: Nodes<Links, K, V>,
+    pub(crate) alloc: Global,
+    pub(crate) chunks: Vec<Chunk, Global>,
+    // The front node of the `left` that still hold a pair.
+    pub(crate) first: NodePointer,
+    pub(crate) left: usize,
 }
 
 impl<K, V> Model for OwnedPairs<K, V> {
-    ghost use Rattle.std.specs.Prelude.{List, ℕ};
-    ghost use Rattle.lhm_ring.specs.RingState.{triples};
+    ghost use Rattle.std.specs.Prelude.{◌≡◌, List, ℕ, map};
+    ghost use Rattle.lhm_ring.specs.Land.{extent};
+    ghost use Rattle.lhm_ring.specs.Rings.{IsSpan, span_triples};
+    ghost use denote.RawPtr.{Ptr};
 
     ghost Value = { List (ℕ × (K × V)) };
 
-    ghost view = { λ p. triples p.ring.held };
+    ghost view = { λ p. span_triples p.nodes.cells p.left p.first.ptr };
+
+    ghost invariant = { λ p. ((b : Ptr) × IsSpan p.nodes.cells p.first.ptr b p.left) × (p.nodes.chunks ≡ map extent p.chunks.items) };
 }
 
 impl<K, V> OwnedPairs<K, V> {
-    pub(crate) fn new(ring: Ring<K, V>) -> OwnedPairs<K, V>
-        ensures { result ≡ triples ring.held }
-    {
-        OwnedPairs { ring }
-    }
-
     /// Removes the front pair and returns it with its hash, or returns `None` if no pair is left.
     /// It is O(1), and neither allocates nor frees.
     pub fn take_first(&mut self) -> Option<(u64, K, V)>
         ensures { HandsOutFirst self.old result self.new }
     {
-        let at = self.ring.first()?;
-        Some(self.ring.unlink(at))
+        if self.left == 0 {
+            return None;
+        }
+        let at = self.first;
+        let links = *self.nodes.links(at);
+        let (key, value) = self.nodes.take(at);
+        self.first = links.next.address();
+        self.left -= 1;
+        Some((links.hash, key, value))
     }
 
     /// Ends it once no pair is left, and frees all nodes, in O(n) for their chunks.
     pub fn destroy_empty(self)
         requires { self ≡ [] }
     {
-        let OwnedPairs { ring } = self;
-        ring.destroy_empty();
+        let OwnedPairs {
+            mut nodes,
+            alloc,
+            chunks,
+            first: _,
+            left: _,
+        } = self;
+        free_chunks(&mut nodes, &alloc, chunks);
+        nodes.end();
     }
 }

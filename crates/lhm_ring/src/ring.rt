@@ -1,6 +1,7 @@
 //! The ring: the held nodes in order, and the spare ones.
 ghost use Rattle.std.specs.Prelude.{◌≡◌, ◌+◌, ◌≤◌, ◌^◌, [], true, length, IfOk, IsOk};
 ghost use Rattle.lhm_ring.specs.Cells.{IsAt};
+ghost use Rattle.lhm_ring.specs.RingState.{triples};
 ghost use Rattle.lhm_ring.specs.Rings.{ring_cells, IsJoined, LeadsOn, LeadsBack, Relinks, is_there};
 
 use crate::block::NodePointer;
@@ -11,6 +12,7 @@ pub use crate::iter::{Iter, IterMut};
 use crate::link::Link;
 use crate::links::{Ends, Links};
 use crate::nodes::Nodes;
+use crate::owned_pairs::OwnedPairs;
 pub use crate::position::Position;
 pub use crate::value_loan::{Hole, LentValues, ValueLoan};
 use std::alloc::{AllocError, Global};
@@ -125,6 +127,30 @@ impl<K, V> Ring<K, V> {
         } = self;
         free_chunks(&mut nodes, &alloc, chunks);
         nodes.end();
+    }
+
+    /// Ends the ring and returns what it held, front to back, for an owner that drops it. It is
+    /// O(1), and neither allocates nor frees.
+    pub(crate) fn into_pairs(self) -> OwnedPairs<K, V>
+        ensures { result ≡ triples self.held }
+    {
+        let Ring {
+            nodes,
+            alloc,
+            chunks,
+            made: _,
+            ends,
+            spare: _,
+            len,
+            spares: _,
+        } = self;
+        OwnedPairs {
+            nodes,
+            alloc,
+            chunks,
+            first: ends.first.address(),
+            left: len,
+        }
     }
 }
 

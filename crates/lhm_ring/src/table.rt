@@ -268,7 +268,7 @@ impl<K, V> Table<K, V> {
         } = self;
         index.free();
         filter.free();
-        OwnedPairs::new(ring)
+        ring.into_pairs()
     }
 
     /// Removes all pairs and returns them as an iterator, front to back. The capacity stays. The

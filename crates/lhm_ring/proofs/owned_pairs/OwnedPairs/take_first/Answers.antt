@@ -1,12 +1,28 @@
-use Rattle.std.proofs.Common.{[], ap, sym, ◌∙◌}
-use Rattle.lhm_ring.specs.Positions.{pointer_of, pointer_of_some}
-use Rattle.lhm_ring.proofs.Ends.{first_node, first_held, triples-first}
+use Rattle.std.proofs.Common.{◌∙◌, ◌-◌, ◌∷◌, ap, sym, subst}
+use denote.RawPtr.{Ptr}
+use Rattle.lhm_ring.specs.Rings.{IsSpan, span_triples}
+use Rattle.lhm_ring.proofs.Spans.{none_listed, first_there, first_holds, rest_of_first, first_out}
 use Rattle.lhm_ring.proofs.owned_pairs.OwnedPairs.take_first.Goals as goal
 
-pub unlink-requires : goal.unlink-requires
-unlink-requires g c = first_held (first_node c.self.inside.ring.held (pointer_of_some c.first.result) (pointer_of c.in_ok-at.at) c.first.ensures (ap pointer_of_some c.in_ok-at.was))
+pub returns-then-self-eq0 : goal.returns-then-self-eq0
+returns-then-self-eq0 g c =
+    let i = c.self.inside in let cs = i.nodes.cells in
+    let e = sym c.self.view_is ∙ ap (λ k. span_triples cs k i.first.ptr) c.if-self-eq0.true ∙ none_listed cs i.first.ptr in (e, e)
+
+pub links-links-requires : goal.links-links-requires
+links-links-requires g c = let i = c.self.inside in let s = c.self.invariant.0 in first_there i.nodes.cells i.first.ptr s.0 i.left s.1 c.if-self-eq0.false
+
+pub take-key-requires : goal.take-key-requires
+take-key-requires g c = let i = c.self.inside in let s = c.self.invariant.0 in first_holds i.nodes.cells i.first.ptr s.0 i.left s.1 c.if-self-eq0.false
+
+pub invariant_of-self : goal.invariant_of-self
+invariant_of-self g c =
+    let i = c.self.inside in let s = c.self.invariant.0 in let out = c.take-key.ensures in
+    let rest = rest_of_first i.nodes.cells i.first.ptr s.0 i.left s.1 c.if-self-eq0.false _ c.links-links.ensures _ c.address-self-inside.ensures in
+    ((s.0, subst (λ zs. IsSpan zs c.address-self-inside.result.ptr s.0 (i.left - 1)) (sym out.cells) rest), out.land.1 ∙ c.self.invariant.1)
 
 pub returns : goal.returns
 returns g c =
-    let n = first_node c.self.inside.ring.held (pointer_of_some c.first.result) (pointer_of c.in_ok-at.at) c.first.ensures (ap pointer_of_some c.in_ok-at.was) in
-    sym c.self.view_is ∙ triples-first n c.unlink.new.self.held c.unlink.result (c.unlink.ensures.others [] n.node n.after n.is n.at_is) (c.unlink.ensures.triple [] n.node n.after n.is n.at_is)
+    let i = c.self.inside in let s = c.self.invariant.0 in let out = c.take-key.ensures in
+    sym c.self.view_is ∙ first_out i.nodes.cells i.first.ptr s.0 i.left s.1 c.if-self-eq0.false _ c.links-links.ensures _ c.address-self-inside.ensures _ out.body
+    ∙ ap (λ zs. (c.links-links.result.now.hash, c.take-key.result) ∷ span_triples zs (i.left - 1) c.address-self-inside.result.ptr) (sym out.cells)

@@ -5,4 +5,4 @@ use Rattle.lhm_ring.proofs.Tables.{triples-entries}
 use Rattle.lhm_ring.proofs.table.Table.into_pairs.Goals as goal
 
 pub returns : goal.returns
-returns g c = c.new.ensures ∙ sym (triples-entries c.self.inside.ring.held) ∙ ap (λ (z : TableState (g.row.K.Denot × g.row.V.Denot)). triples z.held) c.self.view_is
+returns g c = c.into_pairs.ensures ∙ sym (triples-entries c.self.inside.ring.held) ∙ ap (λ (z : TableState (g.row.K.Denot × g.row.V.Denot)). triples z.held) c.self.view_is
