@@ -1,6 +1,6 @@
 -- The heads of the buckets, as positions and as pointers.
 use Rattle.std.proofs.Common.{subst, T, ltb→lt, ◌^◌, ◌≡◌, ℕ, zero, suc, ◌+◌, ◌%◌, ◌<◌, List, [], ◌∷◌, ◌++◌, map, refl, sym, ◌∙◌, ap, arith, length, get_or, set, Option, Some, None, Bool, true}
-use Rattle.std.specs.Prelude.{IsSome, is_some, not}
+use Rattle.std.specs.Prelude.{is_some, not}
 use denote.RawPtr.{Ptr, block_ptr, null_ptr, Testable, InBlock}
 use Rattle.lhm_ring.specs.declared.heads.Head.{Head}
 use Rattle.lhm_ring.specs.Cells.{is_block, is_null_or_block}
@@ -18,11 +18,6 @@ pub head_pointer : (heads : List Head) (b : ℕ) (h : Head) → b < length heads
 head_pointer [] b h l = absurd (omega (arith, l))
 head_pointer (k ∷ heads) zero h l = refl
 head_pointer (k ∷ heads) (suc b) h l = head_pointer heads b h (omega (arith, l))
-
--- a head that is there
-pub is_there : {K V : Type 0} (head : Option (Position K V)) (q : Ptr) → pointer_of_some head ≡ Some q → IsSome head
-is_there None q e = absurd (cc)
-is_there (Some p) q e = refl
 
 -- a position that is not there has no pointer
 pub no_pointer : {K V : Type 0} (at : Option (Position K V)) (empty : Bool) → is_some at ≡ not empty → empty ≡ true → pointer_of_some at ≡ None

@@ -39,8 +39,9 @@ pub(crate) fn chain_one<K, V>(
     ensures buckets { vec_len heads.new ≡ vec_len heads.old }
 {
     let bucket = masked(ring.hash(at), heads.len());
-    ring.set_link(at, heads[bucket].link.get());
+    let link = heads[bucket].link;
     heads[bucket].link = Link::of(Some(at));
+    ring.set_link(at, link.get());
     bucket
 }
 

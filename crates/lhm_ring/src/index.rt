@@ -1,7 +1,7 @@
 //! Bucket chains through the nodes of a ring: the position of each key, by its hash.
 //!
 //! A node's chain link leads to the next node of its chain. Only the index of a ring sets it.
-ghost use Rattle.std.specs.Prelude.{◌≡◌, ◌%◌, ◌<◌, ◌≤◌, ◌^◌, [], map, length, None, IfOk, IsOk, IfSome, IfNone, slice_index_or};
+ghost use Rattle.std.specs.Prelude.{◌≡◌, ◌%◌, ◌<◌, ◌≤◌, ◌^◌, [], map, length, None, Some, IsSome, IfOk, IsOk, IfSome, IfNone, slice_index_or};
 ghost use Rattle.std.specs.Int.{IsNextPowerOfTwo};
 ghost use Rattle.lhm_ring.specs.RingState.{IsHeld};
 ghost use Rattle.lhm_ring.specs.Positions.{pointer_of, pointer_of_some};
@@ -94,6 +94,15 @@ impl<K, V> Index<K, V> {
         self.heads[bucket].link.get()
     }
 
+    /// Returns the head of the chain of a hash, which has one. Nothing is tested.
+    fn first(&self, hash: u64) -> Position<K, V>
+        requires { IsSome (slice_index_or self.now (hash % length self.now) None) }
+        ensures { slice_index_or self.now (hash % length self.now) None ≡ Some (pointer_of result) }
+    {
+        let bucket = masked(hash, self.heads.len());
+        Position::new(self.heads[bucket].link.pointer())
+    }
+
     /// Returns the bucket of a hash, or `None` if there are no buckets, in O(1).
     pub(crate) fn bucket(&self, hash: u64) -> Option<usize>
         ensures bucket { IfSome result (λ b. b ≡ hash % length self.now) }
@@ -164,7 +173,7 @@ impl<K, V> Index<K, V> {
         let link = ring.link(at);
         ring.set_link(at, None);
         let mut before = None;
-        let mut here = self.head(hash).unwrap();
+        let mut here = self.first(hash);
         let mut passed: usize = 0;
         'chain: while let Some(next) = ring.link(here) {
             before = Some(here);

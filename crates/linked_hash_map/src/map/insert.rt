@@ -120,7 +120,7 @@ impl<K: Eq + Hash, V, S: BuildHasher> LinkedHashMap<K, V, S> {
     }
 
     /// Inserts a pair of an absent key, which has this hash, at the back, below the capacity.
-    #[inline(never)]
+    #[inline]
     pub(crate) fn push_back(&mut self, hash: u64, key: K, value: V)
         requires hash { hash ≡ hash_by S.Hasher.finish S.Hasher.write S.build_hasher K.hash_input self.old.hasher key }
         requires room { length self.old.pairs < self.old.capacity }

@@ -1,15 +1,15 @@
 use Rattle.std.proofs.Common.{arith, ap, sym, ◌∙◌}
+use Rattle.std.specs.Prelude.{is_some}
 use Rattle.lhm_ring.specs.Positions.{pointer_of, pointer_of_some}
-use Rattle.lhm_ring.proofs.BucketHeads.{is_there}
 use Rattle.lhm_ring.proofs.NodeBefore.{head_there, towards_start, towards_held, towards_below, towards_next, towards_end, towards_mended, towards_cut_held, same_state}
 use Rattle.lhm_ring.proofs.index.Index.before.Goals as goal
 
-pub unwrap-here-requires : goal.unwrap-here-requires
-unwrap-here-requires g c = let h = head_there c.requires.indexed c.requires.held c.requires.hash in is_there c.head.result h.0 (c.head.ensures ∙ h.1)
+pub first-here-requires : goal.first-here-requires
+first-here-requires g c = let h = head_there c.requires.indexed c.requires.held c.requires.hash in ap is_some h.1
 
 pub chain-init : goal.chain-init
 chain-init g c = (
-  towards_start c.set_link.new.self.held (pointer_of_some c.link-link.result) (pointer_of c.unwrap-here.result) c.requires.indexed c.requires.held c.requires.hash c.link-link.ensures.link c.set_link.ensures.held (ap pointer_of_some (sym c.unwrap-here.ensures) ∙ c.head.ensures),
+  towards_start c.set_link.new.self.held (pointer_of_some c.link-link.result) (pointer_of c.first-here.result) c.requires.indexed c.requires.held c.requires.hash c.link-link.ensures.link c.set_link.ensures.held (sym c.first-here.ensures),
   c.set_link.ensures.spares,
 )
 
