@@ -1,5 +1,5 @@
 //! Pairs in insertion order with a hash index of their keys: a ring and its index, kept in step.
-ghost use Rattle.std.specs.Prelude.{◌≡◌, ◌+◌, ◌<◌, ◌≤◌, ◌^◌, ◌++◌, ◌∷◌, [], length, map, None, IfOk, IsOk, IfSome, IfNone, OnSome, IsFalse};
+ghost use Rattle.std.specs.Prelude.{◌≡◌, ◌+◌, ◌<◌, ◌≤◌, ◌^◌, ◌++◌, ◌∷◌, [], length, map, None, IfOk, IsOk, IfSome, IfNone, OnSome, IsTrue, IsFalse};
 ghost use Rattle.lhm_ring.specs.Cells.{IsApart};
 ghost use Rattle.lhm_ring.specs.RingState.{IsHeld, AtHeld, first_at, last_at, held};
 ghost use Rattle.lhm_ring.specs.RingAfterLoan.{pair};
@@ -115,6 +115,14 @@ impl<K, V> Table<K, V> {
         ensures limit { self.now.capacity ≤ 2 ^ 59 }
     {
         self.ring.len() + self.ring.spares()
+    }
+
+    /// Returns `true` if no further pair fits without an allocation.
+    pub fn is_full(&self) -> bool
+        ensures full { IsTrue result → length self.now.held ≡ self.now.capacity }
+        ensures room { IsFalse result → length self.now.held < self.now.capacity }
+    {
+        self.ring.spares() == 0
     }
 
     /// Returns how many nodes rehashes have moved since `shrink_to_fit` last lowered the capacity,

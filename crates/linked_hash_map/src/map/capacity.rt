@@ -139,10 +139,10 @@ impl<K: Eq + Hash, V, S: BuildHasher> LinkedHashMap<K, V, S> {
         ensures full { IsFalse result → length self.old.pairs ≡ self.old.capacity }
         ensures valid { IsValid K.eq self.old }
     {
-        let capacity = self.capacity();
-        if self.len() < capacity {
+        if !self.table.is_full() {
             return true;
         }
+        let capacity = self.capacity();
         if capacity == LIMIT {
             return false;
         }
