@@ -172,6 +172,6 @@ module _ {B : Type 0} where
       let far = apart_head x.at (map (λ (t : Held B). t.at) (xs ++ t ∷ ys)) d in
       λ i. cond (fresh_of x.at p xs t ys at far i) (f x) x ∷ changed_at p f xs t ys at (apart_tail x.at (map (λ (t : Held B). t.at) (xs ++ t ∷ ys)) d) i
 
-  pub changes_only : (cs : List (Cell Links B)) (spare : Link) (n m : ℕ) (v : State B) → RingOk cs spare n m → state (ring_list cs n) m ≡ v → (p : Ptr) → ChangesOnly v.held p
+  pub changes_only : (cs : List (Cell Links B)) (spare : Link) (n m : ℕ) (v : State B) {total : ℕ} → RingOk cs spare n m → state (ring_list cs n) m total ≡ v → (p : Ptr) → ChangesOnly v.held p
   changes_only cs spare n m v ok w p xs t ys e at f =
       ap (change_at p f) e ∙ changed_at p f xs t ys at (subst (λ hs. IsApart (map (λ (t : Held B). t.at) hs)) (ap (λ (z : State B). z.held) w ∙ e) (ring_apart cs spare n m ok))

@@ -47,7 +47,7 @@ module _ {B : Type 0} (cs : List (Cell Links B)) where
       last_is cs null_ptr p (q ∷ qs) c l (λ z. omega (arith, z))
       ∙ sym (led_apart (prev_at cs p) (ap (same_ptr null_ptr) (cut_row cs null_ptr (q ∷ qs) p [] l).1.1 ∙ all_last (λ r. same_ptr null_ptr r ≡ false) q qs f.0 f.1))
 
-module _ {B : Type 0} (cs : List (Cell Links B)) (spare : Link) (n m : ℕ) (v : State B) (ok : RingOk cs spare n m) (w : state (ring_list cs n) m ≡ v) where
+module _ {B : Type 0} (cs : List (Cell Links B)) (spare : Link) (n m : ℕ) (v : State B) (ok : RingOk cs spare n m) {total : ℕ} (w : state (ring_list cs n) m total ≡ v) where
   shown : listed cs ok.0 ≡ v.held
   shown = sym (ring_listed cs ok.0 (target spare) ok.1 n ok.2 ok.3) ∙ ap (λ (z : State B). z.held) w
 

@@ -58,6 +58,7 @@ module _ {K V : Type 0} where
     indexed = indexed_same heads s (record s { held = set_held_values s.held vs }) table.indexed (spots-values s.held vs) refl;
     few = table.few;
     limit = (let long = length-set_held_values s.held vs in omega (arith, long, table.limit));
+    nodes_within = table.nodes_within;
   }
 
 module _ (K V : RattleType) where

@@ -27,6 +27,7 @@ pub mod Neighbours
 pub mod NodeAdded
 pub mod NodeBefore
 pub mod NodeBlocks
+pub mod NodesGrown
 pub mod NodesWithBodies
 pub mod OneNodeChanged
 pub mod Options

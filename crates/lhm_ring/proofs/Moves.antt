@@ -94,7 +94,7 @@ module _ {B : Type 0} (cs : List (Cell Links B)) (spare : Option Ptr) (ss us : L
           ∙ (λ i. listed-append cs us vs i ++ listed_one cs p t e i)
 
 -- a node that is moved to the end: those beside it are joined, the last with it, and it with the end
-module _ {B : Type 0} (cs : List (Cell Links B)) (spare : Link) (n m : ℕ) (v : State B) (ok : RingOk cs spare n m) (w : state (ring_list cs n) m ≡ v)
+module _ {B : Type 0} (cs : List (Cell Links B)) (spare : Link) (n m : ℕ) (v : State B) (ok : RingOk cs spare n m) {total : ℕ} (w : state (ring_list cs n) m total ≡ v)
     (p : Ptr) (lp : Links) (ep : links_at cs p ≡ Some lp) (ds : List (Cell Links B)) (j : IsJoined cs ds lp.prev.ptr lp.next.ptr) where
   j' : IsJoined cs ds (prev_at cs p) (next_at cs p)
   j' = subst (λ (z : Ptr × Ptr). IsJoined cs ds z.0 z.1) (λ i. (sym (ap prev_of ep) i, sym (ap next_of ep) i)) j
@@ -120,10 +120,10 @@ module _ {B : Type 0} (cs : List (Cell Links B)) (spare : Link) (n m : ℕ) (v :
     list_at t here s =
         ring_listed fs ((s.before ++ s.after) ++ p ∷ []) (target spare) s.others n (moved_to s) (long_to s) ∙ listed-to_back cs (target spare) s.others s.before p s.after s.ring ds j' es fs k l t here
 
-    pub moved_list : AtHeld v.held p (λ xs t ys. state (ring_list fs n) m ≡ state ((xs ++ ys) ++ t ∷ []) v.spares)
+    pub moved_list : AtHeld v.held p (λ xs t ys. state (ring_list fs n) m total ≡ state ((xs ++ ys) ++ t ∷ []) v.spares v.nodes)
     moved_list xs t ys h at =
         let f = found_in cs spare n m v ok w xs t ys h in
         let here : content_at cs p ≡ Some t = ap (content_at cs) (sym at) ∙ f.here in
         let s = node_at p f at in
         let q : ring_list fs n ≡ (xs ++ ys) ++ t ∷ [] = list_at t here s.0 ∙ (λ i. (s.1 i ++ s.2 i) ++ t ∷ []) in
-        λ i. state (q i) (ap (λ (z : State B). z.spares) w i)
+        λ i. state (q i) (ap (λ (z : State B). z.spares) w i) (ap (λ (z : State B). z.nodes) w i)

@@ -25,7 +25,7 @@ module _ {B : Type 0} (cs : List (Cell Links B)) (spare : Option Ptr) (ss us : L
   pub previous_is : last_at (listed cs us) ≡ led_to (prev_at cs p)
   previous_is = last_led cs p us (all_left (HasContent cs) us (p ∷ vs) r.held) (all_left (λ q. same_ptr null_ptr q ≡ false) us (p ∷ vs) free) (glue_row cs null_ptr us p [] row.0 (row.1, row.2) tt)
 
-module _ {B : Type 0} (cs : List (Cell Links B)) (spare : Link) (n m : ℕ) (v : State B) (ok : RingOk cs spare n m) (w : state (ring_list cs n) m ≡ v) (p : Ptr) (l : Links) (el : links_at cs p ≡ Some l) where
+module _ {B : Type 0} (cs : List (Cell Links B)) (spare : Link) (n m : ℕ) (v : State B) (ok : RingOk cs spare n m) {total : ℕ} (w : state (ring_list cs n) m total ≡ v) (p : Ptr) (l : Links) (el : links_at cs p ≡ Some l) where
   pub next_at_is : AtHeld v.held p (λ xs t ys. led_to l.next.ptr ≡ first_at ys)
   next_at_is xs t ys h at =
       let q = node_at p (found_in cs spare n m v ok w xs t ys h) at in let s = q.0 in

@@ -232,5 +232,5 @@ pub towards_cut_held : {K V : Type 0} {heads : List (Option Ptr)} {hash : ℕ} {
 towards_cut_held w = record { before = w.xs; node = linked_to None w.x; after = w.ys; is = w.cut_is; at_is = w.at }
 
 -- states are told by their fields
-pub same_state : {B : Type 0} (s t : State B) → s.held ≡ t.held → s.spares ≡ t.spares → s ≡ t
-same_state s t a b = λ i. record { held = a i; spares = b i }
+pub same_state : {B : Type 0} (s t : State B) → s.held ≡ t.held → s.spares ≡ t.spares → s.nodes ≡ t.nodes → s ≡ t
+same_state s t a b e = λ i. record { held = a i; spares = b i; nodes = e i }

@@ -28,7 +28,7 @@ module _ {B : Type 0} (e : Ends) (nodes : List (Cell Links B)) (all : AreBlocks 
       let here : is_block h.0.0.at ≡ true = ap is_block (content_pointer p (links_at cs p) (body_at cs p) h.0.0 h.0.1) ∙ content_block p h.0 in
       subst (λ o. AreBlocks (map (λ (t : Held B). t.at) (one_of o ++ listed cs ps))) (sym h.0.1) (here, blocks_listed ps h.1)
 
-  pub held_blocks : (spare : Link) (n m : ℕ) (v : State B) → RingOk cs spare n m → state (ring_list cs n) m ≡ v → AreBlocks (map (λ (t : Held B). t.at) v.held)
+  pub held_blocks : (spare : Link) (n m : ℕ) (v : State B) {total : ℕ} → RingOk cs spare n m → state (ring_list cs n) m total ≡ v → AreBlocks (map (λ (t : Held B). t.at) v.held)
   held_blocks spare n m v ok w =
       subst (λ (s : State B). AreBlocks (map (λ (t : Held B). t.at) s.held)) w
       (subst (λ hs. AreBlocks (map (λ (t : Held B). t.at) hs)) (sym (ring_listed cs ok.0 _ ok.1 n ok.2 ok.3)) (blocks_listed ok.0 ok.2.held))

@@ -26,7 +26,7 @@ module _ {B : Type 0} where
   first cs spare m [] h e c = absurd (omega arith)
   first cs spare m (p ∷ ss) h e c = subst IsSome (sym c.0) refl
 
-  pub spare_there : (cs : List (Cell Links B)) (spare : Link) (n m : ℕ) (v : State B) → RingOk cs spare n m → state (ring_list cs n) m ≡ v → 0 < v.spares → IsSome (target spare)
+  pub spare_there : (cs : List (Cell Links B)) (spare : Link) (n m : ℕ) (v : State B) {total : ℕ} → RingOk cs spare n m → state (ring_list cs n) m total ≡ v → 0 < v.spares → IsSome (target spare)
   spare_there cs spare n m v ok w h = first cs spare m ok.1 (subst (λ k. 0 < k) (sym (ap (λ (z : State B). z.spares) w)) h) ok.4 ok.2.chained
 
 -- the first spare node, and the others
@@ -44,11 +44,11 @@ module _ {B : Type 0} (cs : List (Cell Links B)) where
   ready_at at n m ps (p ∷ rest) r a b c h =
       record { row = ps; others = rest; ring = subst (λ q. IsRing cs ps (Some at.ptr) (q ∷ rest)) (sym (some_same at.ptr p r.chained.0)) r; long = a; wide = b; small = c }
 
-  pub ready : (spare : Link) (at : NodePointer) (n m : ℕ) (v : State B) → target spare ≡ Some at.ptr → RingOk cs spare n m → state (ring_list cs n) m ≡ v → 0 < v.spares → Ready cs at n m
+  pub ready : (spare : Link) (at : NodePointer) (n m : ℕ) (v : State B) {total : ℕ} → target spare ≡ Some at.ptr → RingOk cs spare n m → state (ring_list cs n) m total ≡ v → 0 < v.spares → Ready cs at n m
   ready spare at n m v f ok w h =
       ready_at at n m ok.0 ok.1 (subst (λ z. IsRing cs ok.0 z ok.1) f ok.2) ok.3 ok.4 ok.5 (subst (λ k. 0 < k) (sym (ap (λ (z : State B). z.spares) w)) h)
 
-module _ {B : Type 0} (cs : List (Cell Links B)) (spare : Link) (at : NodePointer) (n m : ℕ) (v : State B) (f : target spare ≡ Some at.ptr) (ok : RingOk cs spare n m) (w : state (ring_list cs n) m ≡ v)
+module _ {B : Type 0} (cs : List (Cell Links B)) (spare : Link) (at : NodePointer) (n m : ℕ) (v : State B) (f : target spare ≡ Some at.ptr) (ok : RingOk cs spare n m) {total : ℕ} (w : state (ring_list cs n) m total ≡ v)
     (pos : 0 < v.spares) where
   r : Ready cs at n m
   r = ready cs spare at n m v f ok w pos
@@ -92,16 +92,16 @@ module _ {B : Type 0} (cs : List (Cell Links B)) (spare : Link) (at : NodePointe
           let a = r.wide in let b = r.small in let known : m ≡ v.spares = ap (λ (z : State B). z.spares) w in let some = pos in
           (r.row ++ at.ptr ∷ [], r.others, subst (λ z. IsRing c₄ (r.row ++ at.ptr ∷ []) z r.others) (ap link_of ea) made, longer, omega arith, omega arith)
 
-      pub put_list : state (ring_list c₄ (n + 1)) (m - 1) ≡ state (v.held ++ held at.ptr hash None x ∷ []) (v.spares - 1)
+      pub put_list : state (ring_list c₄ (n + 1)) (m - 1) total ≡ state (v.held ++ held at.ptr hash None x ∷ []) (v.spares - 1) v.nodes
       put_list =
           let p = at.ptr in
           let old : listed cs r.row ≡ v.held = sym (ring_listed cs r.row (Some p) (p ∷ r.others) n r.ring r.long) ∙ ap (λ (z : State B). z.held) w in
           let new : ring_list c₄ (n + 1) ≡ v.held ++ held p hash None x ∷ [] = ring_listed c₄ (r.row ++ p ∷ []) (link_at cs p) r.others (n + 1) made longer
           ∙ listed-put_back cs c₂ c₃ c₄ r.row (Some p) p r.others r.ring only j k (held p hash None x) filled ∙ ap (λ hs. hs ++ held p hash None x ∷ []) old in
-          λ i. state (new i) ((ap (λ (z : State B). z.spares) w i) - 1)
+          λ i. state (new i) (ap (λ (z : State B). z.spares) w i - 1) (ap (λ (z : State B). z.nodes) w i)
 
 -- the node at `at` is joined past, gives its body up, and is the first spare one
-module _ {B : Type 0} (cs : List (Cell Links B)) (spare : Link) (n m : ℕ) (v : State B) (ok : RingOk cs spare n m) (w : state (ring_list cs n) m ≡ v)
+module _ {B : Type 0} (cs : List (Cell Links B)) (spare : Link) (n m : ℕ) (v : State B) (ok : RingOk cs spare n m) {total : ℕ} (w : state (ring_list cs n) m total ≡ v)
     (at : NodePointer) (la : Links) (ea : links_at cs at.ptr ≡ Some la) (ds : List (Cell Links B)) (j : IsJoined cs ds la.prev.ptr la.next.ptr) where
   j₂ : IsJoined cs ds (prev_at cs at.ptr) (next_at cs at.ptr)
   j₂ = subst (λ (z : Ptr × Ptr). IsJoined cs ds z.0 z.1) (λ i. (sym (ap prev_of ea) i, sym (ap next_of ea) i)) j
@@ -145,7 +145,7 @@ module _ {B : Type 0} (cs : List (Cell Links B)) (spare : Link) (n m : ℕ) (v :
           let s = node_in cs spare n m v at.ptr ok w h in let a = s.wide in let b = s.small in let some : 1 ≤ n = some_held h in
           (s.before ++ s.after, at.ptr ∷ s.others, subst (λ z. IsRing c₂ (s.before ++ s.after) z (at.ptr ∷ s.others)) (sym et) (left h s), shorter s, omega arith, omega arith)
 
-      pub taken_list : AtHeld v.held at.ptr (λ xs t ys. (state (ring_list c₂ (n - 1)) (m + 1) ≡ state (xs ++ ys) (v.spares + 1)) × (la.hash ≡ t.hash) × (x ≡ t.pair))
+      pub taken_list : AtHeld v.held at.ptr (λ xs t ys. (state (ring_list c₂ (n - 1)) (m + 1) total ≡ state (xs ++ ys) (v.spares + 1) v.nodes) × (la.hash ≡ t.hash) × (x ≡ t.pair))
       taken_list xs t ys k here =
           let f = found_in cs spare n m v ok w xs t ys k in let h : IsHeld v.held at.ptr = record { before = xs; node = t; after = ys; is = k; at_is = here } in
           let c : content_at cs at.ptr ≡ Some t = ap (content_at cs) (sym here) ∙ f.here in
@@ -156,4 +156,4 @@ module _ {B : Type 0} (cs : List (Cell Links B)) (spare : Link) (n m : ℕ) (v :
           ∙ (λ i. q.1 i ++ q.2 i) in
           let hash : t.hash ≡ la.hash = content_hash at.ptr la (body_at cs at.ptr) t (ap (λ o. content_of at.ptr o (body_at cs at.ptr)) (sym ea) ∙ c) in
           let pair : t.pair ≡ x = content_pair at.ptr (links_at ds at.ptr) x t (ap (λ b. content_of at.ptr (links_at ds at.ptr) b) (sym ex) ∙ j.content at.ptr ∙ c) in
-          ((λ i. state (list i) (ap (λ (z : State B). z.spares) w i + 1)), sym hash, sym pair)
+          ((λ i. state (list i) (ap (λ (z : State B). z.spares) w i + 1) (ap (λ (z : State B). z.nodes) w i)), sym hash, sym pair)

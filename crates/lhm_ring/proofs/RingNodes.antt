@@ -55,12 +55,12 @@ module _ {B : Type 0} where
         listed_after = k.listed_after;
       }
 
-  pub found_in : (cs : List (Cell Links B)) (spare : Link) (n m : ℕ) (v : State B) → RingOk cs spare n m → state (ring_list cs n) m ≡ v
+  pub found_in : (cs : List (Cell Links B)) (spare : Link) (n m : ℕ) (v : State B) {total : ℕ} → RingOk cs spare n m → state (ring_list cs n) m total ≡ v
       → (xs : List (Held B)) (t : Held B) (ys : List (Held B)) → v.held ≡ xs ++ t ∷ ys → Found cs spare n m xs t ys
   found_in cs spare n m v ok w xs t ys h =
       node-listed cs spare n m ok xs t ys (ap (λ (z : State B). z.held) w ∙ h)
 
-  pub node_in : (cs : List (Cell Links B)) (spare : Link) (n m : ℕ) (v : State B) (p : Ptr) → RingOk cs spare n m → state (ring_list cs n) m ≡ v
+  pub node_in : (cs : List (Cell Links B)) (spare : Link) (n m : ℕ) (v : State B) {total : ℕ} (p : Ptr) → RingOk cs spare n m → state (ring_list cs n) m total ≡ v
       → IsHeld v.held p → NodeAt cs spare n m p
   node_in cs spare n m v p ok w h = subst (NodeAt cs spare n m) h.at_is (found_in cs spare n m v ok w h.before h.node h.after h.is).pointer
 
@@ -69,13 +69,18 @@ module _ {B : Type 0} where
   length_listed cs [] h = refl
   length_listed cs (p ∷ ps) h = ap (λ o. length (one_of o ++ listed cs ps)) h.0.1 ∙ ap (λ n. suc n) (length_listed cs ps h.1)
 
-  pub ring_length : (cs : List (Cell Links B)) (spare : Link) (n m : ℕ) (v : State B) → RingOk cs spare n m → state (ring_list cs n) m ≡ v → n ≡ length v.held
+  pub ring_length : (cs : List (Cell Links B)) (spare : Link) (n m : ℕ) (v : State B) {total : ℕ} → RingOk cs spare n m → state (ring_list cs n) m total ≡ v → n ≡ length v.held
   ring_length cs spare n m v ok w =
       sym ok.3 ∙ sym (length_listed cs ok.0 ok.2.held) ∙ sym (ap length (ring_listed cs ok.0 (target spare) ok.1 n ok.2 ok.3)) ∙ ap (λ (z : State B). length z.held) w
 
-  pub ring_bounded : (cs : List (Cell Links B)) (spare : Link) (n m : ℕ) (v : State B) → RingOk cs spare n m → state (ring_list cs n) m ≡ v → length v.held + v.spares ≤ 2 ^ 59
+  pub ring_bounded : (cs : List (Cell Links B)) (spare : Link) (n m : ℕ) (v : State B) {total : ℕ} → RingOk cs spare n m → state (ring_list cs n) m total ≡ v → length v.held + v.spares ≤ 2 ^ 59
   ring_bounded cs spare n m v ok w =
       let a = ring_length cs spare n m v ok w in let b = ap (λ (z : State B). z.spares) w in let c = ok.5 in omega arith
+
+  pub ring_within : (cs : List (Cell Links B)) (spare : Link) (n m : ℕ) (v : State B) {total : ℕ} → length cs ≡ suc total → RingOk cs spare n m → state (ring_list cs n) m total ≡ v → length v.held + v.spares ≤ v.nodes
+  ring_within cs spare n m v {total} all ok w =
+      let a = ring_length cs spare n m v ok w in let b = ap (λ (z : State B). z.spares) w in let c = ap (λ (z : State B). z.nodes) w in
+      let d = ok.2.count in let e = ok.3 in let f = ok.4 in omega arith
 
 -- the same, where the pointer is known by another name
 pub node_at : {B : Type 0} {cs : List (Cell Links B)} {spare : Link} {n m : ℕ} {xs : List (Held B)} {t : Held B} {ys : List (Held B)} (p : Ptr) → Found cs spare n m xs t ys → t.at ≡ p

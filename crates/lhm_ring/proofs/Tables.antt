@@ -203,10 +203,10 @@ module _ {K V : Type 0} (s : State (K × V)) (r : ℕ) {m : TableState (K × V)}
       ∙ ap entries (alone xs t ys e at (revalued w)) ∙ entries-append xs (revalued w t ∷ ys))
 
   -- all that was held is out
-  pub table_of-drained : table_of (state [] (s.spares + length s.held)) r ≡ record m { held = [] }
+  pub table_of-drained : table_of (state [] (s.spares + length s.held) s.nodes) r ≡ record m { held = [] }
   table_of-drained =
       let room : 0 + (s.spares + length s.held) ≡ length s.held + s.spares = omega arith in
-      (λ i. record (table_of (state {B = K × V} [] (s.spares + length s.held)) r) { capacity = room i })
+      (λ i. record (table_of (state {B = K × V} [] (s.spares + length s.held) s.nodes) r) { capacity = room i })
       ∙ ap (λ (z : TableState (K × V)). record z { held = [] }) seen
 
 -- as many buckets do for a higher capacity that is not above their count
@@ -220,14 +220,15 @@ buckets-stay c d up enough =
 -- tables after the calls of the ring and its index
 module _ {K V : Type 0} {heads : List (Option Ptr)} {words : List ℕ} {s : State (K × V)} {r : ℕ} (table : IsTable heads words s r) where
   -- the same pairs in order, except for chain links
-  pub IsTable-rechained : {heads' : List (Option Ptr)} {words' : List ℕ} {t : State (K × V)} {q : ℕ} → entries t.held ≡ entries s.held → length s.held + t.spares ≤ 2 ^ 59 → Indexes heads' (spots t.held) → length heads' ≡ buckets (length s.held + t.spares) → IsFilter words' heads' t.held → q ≤ length heads' → IsTable heads' words' t q
-  IsTable-rechained {heads'} {words'} {t} same within chains count filtered few =
+  pub IsTable-rechained : {heads' : List (Option Ptr)} {words' : List ℕ} {t : State (K × V)} {q : ℕ} → entries t.held ≡ entries s.held → length s.held + t.spares ≤ 2 ^ 59 → Indexes heads' (spots t.held) → length heads' ≡ buckets (length s.held + t.spares) → IsFilter words' heads' t.held → q ≤ length heads' → t.nodes ≤ length heads' → IsTable heads' words' t q
+  IsTable-rechained {heads'} {words'} {t} same within chains count filtered few made =
       let long = length-same_entries t.held s.held same in
       record {
         indexed = record { chains = chains; count = count ∙ ap (λ l. buckets (l + t.spares)) (sym long) };
         filtered = filtered;
         few = few;
         limit = omega (arith, long, within);
+        nodes_within = made;
       }
 
   -- a value was written
@@ -239,6 +240,7 @@ module _ {K V : Type 0} {heads : List (Option Ptr)} {words : List ℕ} {s : Stat
         filtered = IsFilter-spots s.held (change_at p (revalued w) s.held) (spots-value p w s.held) table.filtered;
         few = table.few;
         limit = omega (arith, count, table.limit);
+        nodes_within = table.nodes_within;
       }
 
   -- a pair was moved to the back
@@ -251,8 +253,8 @@ module _ {K V : Type 0} {heads : List (Option Ptr)} {words : List ℕ} {s : Stat
       let k = length-append h.before (h.node ∷ h.after) in
       omega (arith, a, b, f, g, k)
 
-  pub IsTable-to_back : {t : State (K × V)} (p : Ptr) → IsHeld s.held p → AtHeld s.held p (λ xs x ys. t.held ≡ (xs ++ ys) ++ x ∷ []) → t.spares ≡ s.spares → IsTable heads words t r
-  IsTable-to_back {t} p h last spares =
+  pub IsTable-to_back : {t : State (K × V)} (p : Ptr) → IsHeld s.held p → AtHeld s.held p (λ xs x ys. t.held ≡ (xs ++ ys) ++ x ∷ []) → t.spares ≡ s.spares → t.nodes ≡ s.nodes → IsTable heads words t r
+  IsTable-to_back {t} p h last spares made =
       let long = length-moved t p h last in
       let moved = IsFilter-to_back h.before h.node h.after (subst (λ (hs : List (Held (K × V))). IsFilter words heads hs) h.is table.filtered) in
       record {
@@ -260,10 +262,11 @@ module _ {K V : Type 0} {heads : List (Option Ptr)} {words : List ℕ} {s : Stat
         filtered = subst (λ (hs : List (Held (K × V))). IsFilter words heads hs) (sym (last h.before h.node h.after h.is h.at_is)) moved;
         few = table.few;
         limit = omega (arith, long, spares, table.limit);
+        nodes_within = omega (arith, made, table.nodes_within);
       }
 
   -- the node at p was removed from its chain, and then from the ring
-  module _ {chains : List (Option Ptr)} {t w : State (K × V)} {p : Ptr} (same : entries t.held ≡ entries s.held) (spares : t.spares ≡ s.spares) (lacks : HoldsOthers chains t.held p) (others : AtHeld t.held p (λ xs x ys. w.held ≡ xs ++ ys)) (more : w.spares ≡ t.spares + 1) where
+  module _ {chains : List (Option Ptr)} {t w : State (K × V)} {p : Ptr} (same : entries t.held ≡ entries s.held) (spares : t.spares ≡ s.spares) (made : t.nodes ≡ s.nodes) (lacks : HoldsOthers chains t.held p) (others : AtHeld t.held p (λ xs x ys. w.held ≡ xs ++ ys)) (more : w.spares ≡ t.spares + 1) (stay : w.nodes ≡ t.nodes) where
     pub all_nodes : length s.held + s.spares ≡ length w.held + w.spares
     all_nodes =
         let out = ap length (others lacks.before lacks.node lacks.after lacks.is lacks.at) in
@@ -284,6 +287,7 @@ module _ {K V : Type 0} {heads : List (Option Ptr)} {words : List ℕ} {s : Stat
           indexed = record { chains = subst (λ (hs : List (Held (K × V))). Indexes chains (spots hs)) (sym out) lacks.others; count = count ∙ table.indexed.count ∙ ap buckets all };
           few = omega (arith, table.few, count);
           limit = omega (arith, all, table.limit);
+          nodes_within = omega (arith, made, stay, count, table.nodes_within);
         }
 
   -- the capacity rises, and the buckets do for it: no node is rehashed
@@ -294,11 +298,12 @@ module _ {K V : Type 0} {heads : List (Option Ptr)} {words : List ℕ} {s : Stat
     pub rechained-stays : (len : ℕ) → rechained_raised r len (length s.held + s.spares) d ≡ r
     rechained-stays len = ap (λ b. cond b r (r + len)) (eq-eqb (buckets (length s.held + s.spares)) (buckets d) same_buckets)
 
-    pub IsTable-grown : {E : Type 0} {t : State (K × V)} (result : Result (Unit {0}) E) (more : ℕ) → OnOk result (t.held ≡ s.held) → OnOk result (t.spares ≡ s.spares + more) → OnErr result (t ≡ s) → d ≡ length s.held + s.spares + more → d ≤ 2 ^ 59 → IsTable heads words t r
-    IsTable-grown {t = t} (Ok _) more stays spares _ all within =
+    pub IsTable-grown : {E : Type 0} {t : State (K × V)} (result : Result (Unit {0}) E) (more most : ℕ) → most ≡ length heads → OnOk result (t.held ≡ s.held) → OnOk result (t.spares ≡ s.spares + more) → OnOk result (s.nodes ≤ most → length s.held + s.spares + more ≤ most → t.nodes ≤ most) → OnErr result (t ≡ s) → d ≡ length s.held + s.spares + more → d ≤ 2 ^ 59 → IsTable heads words t r
+    IsTable-grown {t = t} (Ok _) more most wide stays spares made _ all within =
+        let few = made (omega (arith, wide, table.nodes_within)) (omega (arith, wide, enough, all)) in
         let sum : length s.held + t.spares ≡ d = omega (arith, spares, all) in
-        IsTable-rechained (ap entries stays) (omega (arith, sum, within)) (subst (λ hs. Indexes heads (spots hs)) (sym stays) table.indexed.chains) (table.indexed.count ∙ same_buckets ∙ ap buckets (sym sum)) (subst (λ (hs : List (Held (K × V))). IsFilter words heads hs) (sym stays) table.filtered) table.few
-    IsTable-grown (Err _) more _ _ unchanged _ _ = subst (λ u. IsTable heads words u r) (sym unchanged) table
+        IsTable-rechained (ap entries stays) (omega (arith, sum, within)) (subst (λ hs. Indexes heads (spots hs)) (sym stays) table.indexed.chains) (table.indexed.count ∙ same_buckets ∙ ap buckets (sym sum)) (subst (λ (hs : List (Held (K × V))). IsFilter words heads hs) (sym stays) table.filtered) table.few (omega (arith, wide, few))
+    IsTable-grown (Err _) more most _ _ _ _ unchanged _ _ = subst (λ u. IsTable heads words u r) (sym unchanged) table
 
   -- it rises above the number of buckets: each node can be rehashed
   module _ (d : ℕ) (up : length s.held + s.spares < d) (few : length heads < d) where

@@ -289,5 +289,5 @@ module _ {K V : Type 0} where
       let is : ok.0 ≡ follow cs n null_ptr = sym (ap (λ k. follow cs k null_ptr) (sym ok.3) ∙ follow_row cs null_ptr ok.0 null_ptr ok.2.linked) in
       pointers_listed cs (follow cs n null_ptr) (subst (AllByRecursion (HasContent cs)) is ok.2.held)
 
-  pub ring_apart : (cs : List (Cell Links (K × V))) (spare : Link) (n m : ℕ) (v : State (K × V)) → RingOk cs spare n m → state (ring_list cs n) m ≡ v → IsApart (map (λ (t : Held (K × V)). t.at) v.held)
+  pub ring_apart : (cs : List (Cell Links (K × V))) (spare : Link) (n m : ℕ) (v : State (K × V)) {total : ℕ} → RingOk cs spare n m → state (ring_list cs n) m total ≡ v → IsApart (map (λ (t : Held (K × V)). t.at) v.held)
   ring_apart cs spare n m v ok w = subst (λ (s : State (K × V)). IsApart (map (λ t. t.at) s.held)) w (ring_lent cs spare n m ok).1

@@ -270,7 +270,7 @@ module _ (S W : RattleType) where
     Lent ws = spread W (at_pointers links.the_row S W (entries a)) ws
 
     viewed : (ks : List (Held (S.Denot × W.Denot))) → view (mended S W (kept_by a) 𝓛 a b o ks) ≡ record d { held = revalued_by ks d.held }
-    viewed ks i = state ((list_written a.ends a.nodes.cells a.spare a.len a.spares ks ∙ ap (λ (s : State (S.Denot × W.Denot)). revalued_by ks s.held) seen) i) (seen i).spares
+    viewed ks i = state ((list_written a.ends a.nodes.cells a.spare a.len a.spares ks ∙ ap (λ (s : State (S.Denot × W.Denot)). revalued_by ks s.held) seen) i) (seen i).spares (seen i).nodes
 
     -- the values that ks has at their pointers come back
     back_by : (ks : List (Held (S.Denot × W.Denot))) → ent 𝓤 (sep 𝓤 (sem 𝓛 (Lent (taken ks (entries a)))) (sep 𝓤 (sem 𝓛 (fseps (Fields ∷ []))) (emp 𝓤))) (sem 𝓛 ((mem Lr).own_at (record d { held = revalued_by ks d.held }) b o))
@@ -321,7 +321,7 @@ module _ (S W : RattleType) where
     As = record { rep = State (S.Denot × W.Denot); coded = Lr.coded; size = 0; own_at = λ m _ _. Lent (placed (held_values m.held)) }
 
     abbrev pub named : List W.Denot → State (S.Denot × W.Denot)
-    named ws = state (ordered ws) 0
+    named ws = state (ordered ws) 0 0
 
 -- the loan's field, which takes no bytes
 abbrev pub LoanMarker : NamedLft → (R S W : RattleType) → RattleType

@@ -1,5 +1,5 @@
 -- The chunks of a ring, as it keeps them and as its nodes know them.
-use Rattle.std.specs.Prelude.{◌≡◌, ℕ, ◌+◌, List, [], ◌∷◌, map}
+use Rattle.std.specs.Prelude.{◌≡◌, ℕ, ◌+◌, ◌-◌, min, max, nat_le, ◌==◌, if◌then◌else◌, List, [], ◌∷◌, map}
 use denote.RawPtr.{Ptr}
 use Rattle.lhm_ring.specs.declared.chunk.Chunk.{Chunk}
 
@@ -17,3 +17,11 @@ pub record IsLaid (unused : List Ptr) (chunks : List (Ptr × ℕ)) (kept : List 
   pub none_unused : unused ≡ []
   pub all_kept : chunks ≡ map extent kept
   pub all_made : made ≡ place_count chunks
+
+-- how many nodes there are once as many as needed are to be there: if there were fewer, at least `least` more
+abbrev pub nodes_grown : ℕ → ℕ → ℕ → ℕ
+nodes_grown nodes needed least = if nat_le needed nodes then nodes else max needed (nodes + least)
+
+-- how many more nodes a growth by one makes at least: as many as there are, at most 64, and so that there are at most `most`
+abbrev pub least_more : ℕ → ℕ → ℕ → ℕ
+least_more count nodes most = if count == 1 then min nodes (min (most - nodes) 64) else 0

@@ -47,7 +47,7 @@ lends_values K V s r = follows (the_row K V) (the_row K V) s.ghost_name r (with_
 
 -- the same nodes, all spare
 abbrev pub all_spare : {B : Type 0} → State B → State B
-all_spare s = state [] (s.spares + length s.held)
+all_spare s = state [] (s.spares + length s.held) s.nodes
 
 -- once the borrow named r ends, which is of no bytes, the ring behind s holds nothing and all its nodes are spare
 abbrev pub lends_spliced : (K V : RattleType) → MutBor (State (K.Denot × V.Denot)) → GName → Fml

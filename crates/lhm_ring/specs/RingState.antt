@@ -11,17 +11,18 @@ pub record Held (B : Type 0) : Type 0 where
   pub link : Option Ptr
   pub pair : B
 
--- what callers see of a ring: what it holds, in order, and how many spare nodes it has
+-- what callers see of a ring: what it holds, in order, how many spare nodes it has, and how many nodes its chunks have
 pub record State (B : Type 0) : Type 0 where
   pub held : List (Held B)
   pub spares : ℕ
+  pub nodes : ℕ
 
 module _ {B : Type 0} where
   abbrev pub held : Ptr → ℕ → Option Ptr → B → Held B
   held p n l x = record { at = p; hash = n; link = l; pair = x }
 
-  abbrev pub state : List (Held B) → ℕ → State B
-  state hs n = record { held = hs; spares = n }
+  abbrev pub state : List (Held B) → ℕ → ℕ → State B
+  state hs n k = record { held = hs; spares = n; nodes = k }
 
   -- the hashes with the keys and values
   abbrev pub triples : List (Held B) → List (ℕ × B)

@@ -93,6 +93,7 @@ impl<K, V> Ring<K, V> {
         requires { IsHeld self.old.held (pointer_of at) }
         ensures held { AtHeld self.old.held (pointer_of at) (λ xs t ys. self.new.held ≡ xs ++ linked_to (pointer_of_some link) t ∷ ys) }
         ensures spares { self.new.spares ≡ self.old.spares }
+        ensures nodes { self.new.nodes ≡ self.old.nodes }
         ensures blocks { AreBlocks (map (λ t. t.at) self.old.held) }
     {
         relink(&mut self.nodes, at.pointer, Link::of(link));

@@ -12,6 +12,7 @@ fn move_all<K, V>(from: &mut Ring<K, V>, to: &mut Ring<K, V>)
     ensures moved { triples to.new.held ≡ triples to.old.held ++ triples from.old.held }
     ensures empty { from.new.held ≡ [] }
     ensures spares { to.new.spares + length from.old.held ≡ to.old.spares }
+    ensures nodes { to.new.nodes ≡ to.old.nodes }
 {
     'each: while let Some(at) = from.first() {
         let (hash, key, value) = from.unlink(at);
@@ -28,6 +29,7 @@ impl<K, V> Ring<K, V> {
     pub fn compact(&mut self) -> Result<(), AllocError>
         ensures triples { OnOk result (triples self.new.held ≡ triples self.old.held) }
         ensures spares { OnOk result (self.new.spares ≡ 0) }
+        ensures nodes { OnOk result (self.new.nodes ≡ length self.old.held) }
         ensures refused { OnErr result (self.new ≡ self.old) }
     {
         let mut fresh = Ring::with_spares(self.alloc, self.len())?;

@@ -1,8 +1,8 @@
 //! Nodes are allocated, many in one chunk, and all chunks are freed.
-ghost use Rattle.std.specs.Prelude.{◌≡◌, ℕ, ◌+◌, ◌-◌, ◌<◌, ◌≤◌, ◌^◌, [], ◌∷◌, ◌++◌, None, Some, map, IfSome, IfOk, OnOk, OnErr, IsTrue, IsFalse, true};
+ghost use Rattle.std.specs.Prelude.{◌≡◌, ℕ, ◌+◌, ◌-◌, ◌<◌, ◌≤◌, max, length, ◌^◌, [], ◌∷◌, ◌++◌, None, Some, map, IfSome, IfOk, OnOk, OnErr, IsTrue, IsFalse, true};
 ghost use Rattle.std.specs.Allocator.{FitsBlock};
 ghost use Rattle.lhm_ring.specs.Chunks.{row};
-ghost use Rattle.lhm_ring.specs.Land.{extent, IsLaid};
+ghost use Rattle.lhm_ring.specs.Land.{extent, IsLaid, nodes_grown, least_more};
 ghost use Rattle.lhm_ring.specs.Stacks.{IsStacked};
 
 use crate::block::{Node, NodePointer, allocate, deallocate, size};
@@ -32,7 +32,8 @@ fn fits<T>(count: usize) -> bool
 /// one, as many as there are, at most 64, and so that there are at most `most` nodes, if that can
 /// be.
 fn chunk_size(count: usize, made: usize, most: usize) -> usize
-    ensures { result ≤ 64 }
+    ensures few { result ≤ 64 }
+    ensures least { result ≡ least_more count made most }
 {
     if count != 1 || most < made {
         return 0;
@@ -124,6 +125,8 @@ impl<K, V> Ring<K, V> {
     #[inline]
     fn use_made(&mut self, count: usize) -> bool
         ensures held { self.new.held ≡ self.old.held }
+        ensures nodes { self.new.nodes ≡ self.old.nodes }
+        ensures enough { IsTrue result → length self.old.held + self.old.spares + count ≤ self.old.nodes }
         ensures used { IsTrue result → self.new.spares ≡ self.old.spares + count }
         ensures unchanged { IsFalse result → self.new ≡ self.old }
     {
@@ -142,6 +145,7 @@ impl<K, V> Ring<K, V> {
         requires { least ≤ 2 ^ 58 }
         ensures held { OnOk result (self.new.held ≡ self.old.held) }
         ensures spares { OnOk result (self.new.spares ≡ self.old.spares + count) }
+        ensures nodes { OnOk result (self.new.nodes ≡ nodes_grown self.old.nodes (length self.old.held + self.old.spares + count) least) }
         ensures refused { OnErr result (self.new ≡ self.old) }
     {
         if MOST_NODES - self.len - self.spares < count {
@@ -168,6 +172,7 @@ impl<K, V> Ring<K, V> {
     pub fn grow(&mut self, count: usize) -> Result<(), AllocError>
         ensures held { OnOk result (self.new.held ≡ self.old.held) }
         ensures spares { OnOk result (self.new.spares ≡ self.old.spares + count) }
+        ensures nodes { OnOk result (self.new.nodes ≡ max self.old.nodes (length self.old.held + self.old.spares + count)) }
         ensures refused { OnErr result (self.new ≡ self.old) }
     {
         self.grow_by(count, 0)
@@ -178,6 +183,9 @@ impl<K, V> Ring<K, V> {
     pub fn grow_within(&mut self, count: usize, most: usize) -> Result<(), AllocError>
         ensures held { OnOk result (self.new.held ≡ self.old.held) }
         ensures spares { OnOk result (self.new.spares ≡ self.old.spares + count) }
+        ensures nodes { OnOk result (self.new.nodes
+            ≡ nodes_grown self.old.nodes (length self.old.held + self.old.spares + count) (least_more count self.old.nodes most)) }
+        ensures nodes_within { OnOk result (self.old.nodes ≤ most → length self.old.held + self.old.spares + count ≤ most → self.new.nodes ≤ most) }
         ensures refused { OnErr result (self.new ≡ self.old) }
     {
         if self.use_made(count) {
@@ -192,6 +200,7 @@ impl<K, V> Ring<K, V> {
     pub fn free_spares(&mut self)
         ensures held { self.new.held ≡ self.old.held }
         ensures no_spares { self.new.spares ≡ 0 }
+        ensures nodes { self.new.nodes ≡ self.old.nodes }
     {
         self.spares = 0;
     }

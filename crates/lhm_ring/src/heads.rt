@@ -36,6 +36,7 @@ pub(crate) fn chain_one<K, V>(
     ensures bucket { OfNodeAt ring.old.held (pointer_of at) (λ x. result ≡ x.hash % vec_len heads.old) }
     ensures chained { Chains (pointer_of at) (map leads_to heads.old.items) (map leads_to heads.new.items) ring.old.held ring.new.held }
     ensures spares { ring.new.spares ≡ ring.old.spares }
+    ensures nodes { ring.new.nodes ≡ ring.old.nodes }
     ensures buckets { vec_len heads.new ≡ vec_len heads.old }
 {
     let bucket = masked(ring.hash(at), heads.len());
@@ -55,6 +56,7 @@ pub(crate) fn chain_all<K, V>(heads: &mut Vec<Head>, ring: &mut Ring<K, V>) -> u
     ensures count { result ≡ length ring.old.held }
     ensures held { entries ring.new.held ≡ entries ring.old.held }
     ensures spares { ring.new.spares ≡ ring.old.spares }
+    ensures nodes { ring.new.nodes ≡ ring.old.nodes }
     ensures buckets { vec_len heads.new ≡ vec_len heads.old }
 {
     let mut count = 0;

@@ -124,6 +124,7 @@ impl<K, V> Index<K, V> {
         ensures indexed { Indexes self.new (spots ring.new.held) }
         ensures held { entries ring.new.held ≡ entries ring.old.held }
         ensures spares { ring.new.spares ≡ ring.old.spares }
+        ensures nodes { ring.new.nodes ≡ ring.old.nodes }
         ensures buckets { length self.new ≡ length self.old }
     {
         chain_one(&mut self.heads, ring, at)
@@ -142,6 +143,7 @@ impl<K, V> Index<K, V> {
         ensures lacks { HoldsOthers self.new ring.new.held (pointer_of found.at) }
         ensures held { entries ring.new.held ≡ entries ring.old.held }
         ensures spares { ring.new.spares ≡ ring.old.spares }
+        ensures nodes { ring.new.nodes ≡ ring.old.nodes }
         ensures buckets { length self.new ≡ length self.old }
     {
         let link = ring.link(found.at);
@@ -195,6 +197,7 @@ impl<K, V> Index<K, V> {
         ensures lacks { HoldsOthers self.new ring.new.held (pointer_of at) }
         ensures held { entries ring.new.held ≡ entries ring.old.held }
         ensures spares { ring.new.spares ≡ ring.old.spares }
+        ensures nodes { ring.new.nodes ≡ ring.old.nodes }
         ensures buckets { length self.new ≡ length self.old }
     {
         let hash = ring.hash(at);
@@ -212,6 +215,7 @@ impl<K, V> Index<K, V> {
         ensures count { result ≡ length ring.old.held }
         ensures held { entries ring.new.held ≡ entries ring.old.held }
         ensures spares { ring.new.spares ≡ ring.old.spares }
+        ensures nodes { ring.new.nodes ≡ ring.old.nodes }
         ensures buckets { length self.new ≡ length fresh }
     {
         mem::replace(self, fresh).free();

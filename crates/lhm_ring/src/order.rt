@@ -18,6 +18,7 @@ impl<K, V> Ring<K, V> {
         requires { IsHeld self.old.held (pointer_of at) }
         ensures last { AtHeld self.old.held (pointer_of at) (λ xs t ys. self.new.held ≡ (xs ++ ys) ++ t ∷ []) }
         ensures spares { self.new.spares ≡ self.old.spares }
+        ensures nodes { self.new.nodes ≡ self.old.nodes }
         ensures apart { IsApart (map (λ t. t.at) self.old.held) }
     {
         let links = *self.nodes.links(at.pointer);
@@ -34,6 +35,7 @@ impl<K, V> Ring<K, V> {
         requires { 0 < self.old.spares }
         ensures last { self.new.held ≡ self.old.held ++ held (pointer_of result) hash None (pair key value) ∷ [] }
         ensures spares { self.new.spares ≡ self.old.spares - 1 }
+        ensures nodes { self.new.nodes ≡ self.old.nodes }
     {
         let at = self.spare.pointer();
         let old = *self.nodes.links(at);
@@ -62,6 +64,7 @@ impl<K, V> Ring<K, V> {
         ensures others { AtHeld self.old.held (pointer_of at) (λ xs t ys. self.new.held ≡ xs ++ ys) }
         ensures triple { AtHeld self.old.held (pointer_of at) (λ xs t ys. result ≡ (t.hash, t.pair.0, t.pair.1)) }
         ensures spares { self.new.spares ≡ self.old.spares + 1 }
+        ensures nodes { self.new.nodes ≡ self.old.nodes }
     {
         let at = at.pointer;
         let old = *self.nodes.links(at);

@@ -43,7 +43,7 @@ impl<K, V> Model for Ring<K, V> {
 
     ghost Value = { State (K × V) };
 
-    ghost view = { λ r. state (ring_list (ring_cells r.ends r.nodes.cells) r.len) r.spares };
+    ghost view = { λ r. state (ring_list (ring_cells r.ends r.nodes.cells) r.len) r.spares r.made };
 
     ghost invariant = { λ r. RingOk (ring_cells r.ends r.nodes.cells) r.spare r.len r.spares × IsLaid r.nodes.unused r.nodes.chunks r.chunks.items r.made };
 }
@@ -53,6 +53,7 @@ impl<K, V> Ring<K, V> {
     pub fn new(alloc: Global) -> Ring<K, V>
         ensures empty { result.held ≡ [] }
         ensures no_spares { result.spares ≡ 0 }
+        ensures no_nodes { result.nodes ≡ 0 }
     {
         Ring {
             nodes: Nodes::new(),
@@ -74,6 +75,7 @@ impl<K, V> Ring<K, V> {
     pub fn with_spares(alloc: Global, count: usize) -> Result<Ring<K, V>, AllocError>
         ensures empty { IfOk result (λ ring. ring.held ≡ []) }
         ensures spares { IfOk result (λ ring. ring.spares ≡ count) }
+        ensures nodes { IfOk result (λ ring. ring.nodes ≡ count) }
         ensures succeeds { count ≡ 0 → IsOk result }
     {
         let mut ring = Ring::new(alloc);
@@ -94,18 +96,22 @@ impl<K, V> Ring<K, V> {
         self.alloc
     }
 
-    /// Returns the number of triples. With the spare nodes they are at most 2^59.
+    /// Returns the number of triples. With the spare nodes they are at most 2^59, and at most the
+    /// nodes of the chunks.
     pub fn len(&self) -> usize
         ensures value { result ≡ length self.now.held }
         ensures bounded { length self.now.held + self.now.spares ≤ 2 ^ 59 }
+        ensures within { length self.now.held + self.now.spares ≤ self.now.nodes }
     {
         self.len
     }
 
-    /// Returns the number of spare nodes. With the held ones they are at most 2^59.
+    /// Returns the number of spare nodes. With the held ones they are at most 2^59, and at most the
+    /// nodes of the chunks.
     pub fn spares(&self) -> usize
         ensures value { result ≡ self.now.spares }
         ensures bounded { length self.now.held + self.now.spares ≤ 2 ^ 59 }
+        ensures within { length self.now.held + self.now.spares ≤ self.now.nodes }
     {
         self.spares
     }

@@ -151,6 +151,7 @@ impl<K: Eq, V> Index<K, V> {
         ensures ring_unchanged { IfNone result (ring.new ≡ ring.old) }
         ensures held { entries ring.new.held ≡ entries ring.old.held }
         ensures spares { ring.new.spares ≡ ring.old.spares }
+        ensures nodes { ring.new.nodes ≡ ring.old.nodes }
         ensures buckets { length self.new ≡ length self.old }
     {
         let (found, _) = self.search(ring, self.head(hash), hash, key);

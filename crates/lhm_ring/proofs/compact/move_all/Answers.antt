@@ -22,4 +22,5 @@ each-preserved g c =
       all = ap (λ xs. xs ++ triples c.unlink-hash.new.self.held) (triples-pushed c.put_back.new.self.held c.each.to.held _ c.put_back.ensures.last)
           ∙ append_assoc (triples c.each.to.held) (taken ∷ []) (triples c.unlink-hash.new.self.held) ∙ ap (λ ys. triples c.each.to.held ++ ys) (sym cut) ∙ c.each.invariant.all;
       room = omega (arith, c.put_back.ensures.spares, c.each.invariant.room, before, after, c.requires);
+      nodes = c.put_back.ensures.nodes ∙ c.each.invariant.nodes;
     }

@@ -8,6 +8,7 @@ abbrev pub invariant-loop-pointer : goal.invariant-loop-pointer
 invariant-loop-pointer g l =
     IsRechained (map leads_to l.heads.items) l.initial.ring.held l.ring.held (pointer_of_some l.pointer) l.count (vec_len l.initial.heads)
     × (l.ring.spares ≡ l.initial.ring.spares)
+    × (l.ring.nodes ≡ l.initial.ring.nodes)
     × (vec_len l.heads ≡ vec_len l.initial.heads)
 
 abbrev pub decreases-loop-pointer : goal.decreases-loop-pointer

@@ -11,6 +11,7 @@ pub chain-init : goal.chain-init
 chain-init g c = (
   towards_start c.set_link.new.self.held (pointer_of_some c.link-link.result) (pointer_of c.first-here.result) c.requires.indexed c.requires.held c.requires.hash c.link-link.ensures.link c.set_link.ensures.held (sym c.first-here.ensures),
   c.set_link.ensures.spares,
+  c.set_link.ensures.nodes,
 )
 
 pub link-requires : goal.link-requires
@@ -26,6 +27,7 @@ pub chain-preserved : goal.chain-preserved
 chain-preserved g c = (
   towards_next (pointer_of_some c.link.result) (pointer_of c.in-Some.next) c.chain.invariant.0 c.link.ensures.link (ap pointer_of_some c.in-Some.is),
   c.chain.invariant.1,
+  c.chain.invariant.2,
 )
 
 pub set_link-requires-2 : goal.set_link-requires-2
@@ -39,3 +41,4 @@ returns-clause-ring g c =
     same_state c.set_link-2.new.self c.args.ring.now
     (towards_mended c.set_link-2.new.self.held c.chain.invariant.0 c.set_link-2.ensures.held)
     (c.set_link-2.ensures.spares ∙ c.chain.invariant.1)
+    (c.set_link-2.ensures.nodes ∙ c.chain.invariant.2)

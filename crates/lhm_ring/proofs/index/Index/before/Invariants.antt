@@ -7,6 +7,7 @@ abbrev pub invariant-chain : goal.invariant-chain
 invariant-chain g l =
     IsTowards l.self l.hash l.fn.ring.held l.ring.held (pointer_of l.at) (pointer_of_some l.link) (pointer_of_some l.before) (pointer_of l.here) l.passed
     × (l.ring.spares ≡ l.fn.ring.spares)
+    × (l.ring.nodes ≡ l.fn.ring.nodes)
 
 abbrev pub decreases-chain : goal.decreases-chain
 decreases-chain g l = length l.fn.ring.held - l.passed

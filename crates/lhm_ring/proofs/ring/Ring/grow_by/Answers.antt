@@ -1,8 +1,11 @@
-use Rattle.std.proofs.Common.{◌≡◌, ℕ, ◌+◌, ◌∙◌, length, ap, sym, subst, arith}
+use Rattle.std.proofs.Common.{◌≡◌, ℕ, ◌+◌, ◌≤◌, ◌<◌, ◌∙◌, length, ap, sym, subst, arith}
+use Rattle.std.specs.Prelude.{max}
 use denote.RawPtr.{Ptr}
 use Rattle.lhm_ring.specs.Land.{place_count}
 use Rattle.lhm_ring.specs.Rings.{ring_cells, ring_list, RingOk}
 use Rattle.lhm_ring.proofs.Places.{count_made, place_count-last, laid_grown}
+use Rattle.lhm_ring.proofs.NodesGrown.{nodes_grown-enough, nodes_grown-fewer}
+use Rattle.lhm_ring.proofs.RingNodes.{ring_length}
 use Rattle.lhm_ring.proofs.Stacking.{raised_ring, stacked_ring, stacked_list}
 use Rattle.lhm_ring.proofs.ring.Ring.grow_by.Goals as goal
 
@@ -30,3 +33,18 @@ returns-clause-held g c =
     let ok = subst (λ zs. RingOk (ring_cells i.ends zs) i.spare i.len i.spares) (sym c.take_chunk.ensures.cells) c.self.invariant.0 in
     stacked_list i.ends cs ds.cells i.spare c.make_spares-self-inside.result i.len i.spares _ ok c.make_spares-self-inside.ensures.stacked ds.apart ds.blocks
     ∙ ap (λ zs. ring_list (ring_cells i.ends zs) i.len) c.take_chunk.ensures.cells ∙ ap (λ z. z.held) c.self.view_is
+
+pub returns-then-needed-self-clause-nodes : goal.returns-then-needed-self-clause-nodes
+returns-then-needed-self-clause-nodes g c =
+    let i = c.self.inside in let old = c.args.self.now in let v = c.self.view_is in
+    let long = ring_length (ring_cells i.ends i.nodes.cells) i.spare i.len i.spares _ c.self.invariant.0 v in let spares = ap (λ z. z.spares) v in let made = ap (λ z. z.nodes) v in
+    let enough : length old.held + old.spares + c.args.count ≤ old.nodes = omega (arith, long, spares, made, c.if-needed-self.true) in
+    made ∙ sym (nodes_grown-enough old.nodes (length old.held + old.spares + c.args.count) c.args.least enough)
+
+pub returns-clause-nodes : goal.returns-clause-nodes
+returns-clause-nodes g c =
+    let i = c.self.inside in let old = c.args.self.now in let v = c.self.view_is in
+    let long = ring_length (ring_cells i.ends i.nodes.cells) i.spare i.len i.spares _ c.self.invariant.0 v in let spares = ap (λ z. z.spares) v in let made = ap (λ z. z.nodes) v in
+    let fewer : old.nodes < length old.held + old.spares + c.args.count = omega (arith, long, spares, made, c.if-needed-self.false) in
+    let more : i.made + c.max-places.result ≡ max (length old.held + old.spares + c.args.count) (old.nodes + c.args.least) = omega (arith, long, spares, made, fewer, c.max-places.ensures) in
+    more ∙ sym (nodes_grown-fewer old.nodes (length old.held + old.spares + c.args.count) c.args.least fewer)

@@ -54,5 +54,6 @@ returns g c =
     record {
       last = λ xs t ys q at. ap (λ z. z.held) (m xs t ys q at);
       spares = ap (λ z. z.spares) (m h.before h.node h.after h.is h.at_is);
+      nodes = ap (λ z. z.nodes) c.self.view_is;
       apart = ring_apart cs i.spare i.len i.spares _ c.self.invariant.0 c.self.view_is;
     }

@@ -71,6 +71,7 @@ returns g c =
     record {
       last = ap (λ z. z.held) made ∙ ap (λ q. c.args.self.now.held ++ held q c.args.hash None x ∷ []) p;
       spares = ap (λ z. z.spares) made;
+      nodes = ap (λ z. z.nodes) c.self.view_is;
     }
 
 pub new-requires : goal.new-requires

@@ -32,5 +32,6 @@ returns g c =
     record {
       held = λ xs t ys q at. e ∙ changes_only cs i.spare i.len i.spares _ c.self.invariant.0 c.self.view_is p xs t ys q at f ∙ ap (λ o. xs ++ linked_to o t ∷ ys) c.of.ensures;
       spares = ap (λ z. z.spares) c.self.view_is;
+      nodes = ap (λ z. z.nodes) c.self.view_is;
       blocks = held_blocks i.ends i.nodes.cells i.nodes.blocks i.spare i.len i.spares _ c.self.invariant.0 c.self.view_is;
     }

@@ -22,7 +22,7 @@ pub returns : goal.returns
 returns g c =
     let i = c.self.inside in let e = c.lend_bodies-anchor.ensures in let nodes = c.splice.new.nodes in let f = c.splice.result.first.ptr in
     let long = ring_length (ring_cells i.ends i.nodes.cells) i.spare i.len i.spares _ c.self.invariant.0 c.self.view_is in let same = (λ j. with_bodies (e.cells j) (e.run j)) ∙ with_own_bodies nodes.cells nodes.apart in (
-      (refl, λ w. λ j. state (nothing_listed (ring_cells c.splice.new.ends (cleared nodes.cells)) 0 refl j) ((c.self.view_is j).spares + long j)),
+      (refl, λ w. λ j. state (nothing_listed (ring_cells c.splice.new.ends (cleared nodes.cells)) 0 refl j) ((c.self.view_is j).spares + long j) (c.self.view_is j).nodes),
       record {
         writes_back = tt;
         rest = ap (λ zs. span_triples zs i.len f) same ∙ (c.splice.ensures.row i.spares c.self.invariant.0).1 ∙ ap (λ z. triples z.held) c.self.view_is;

@@ -58,6 +58,7 @@ returns g c =
       others = λ xs t ys cut at. ap (λ z. z.held) (l xs t ys cut at).0;
       triple = λ xs t ys cut at. let q = l xs t ys cut at in λ z. (q.1 z, (q.2 z).0, (q.2 z).1);
       spares = ap (λ z. z.spares) (l h.before h.node h.after h.is h.at_is).0;
+      nodes = ap (λ z. z.nodes) c.self.view_is;
     }
 
 pub to-self-inside-requires : goal.to-self-inside-requires

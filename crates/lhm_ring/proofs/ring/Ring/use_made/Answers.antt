@@ -1,5 +1,7 @@
-use Rattle.std.proofs.Common.{◌+◌, arith}
+use Rattle.std.proofs.Common.{◌+◌, ◌∙◌, suc, ap, sym, arith}
+use Rattle.lhm_ring.specs.Rings.{ring_cells}
 use Rattle.lhm_ring.proofs.Places.{count_made}
+use Rattle.lhm_ring.proofs.RingNodes.{ring_length, ring_within}
 use Rattle.lhm_ring.proofs.Stacking.{raised_ring}
 use Rattle.lhm_ring.proofs.ring.Ring.use_made.Goals as goal
 
@@ -18,3 +20,10 @@ invariant_of-self g c =
     let i = c.self.inside in let made = count_made i.nodes.cells i.nodes.unused i.nodes.node_bytes i.nodes.chunks i.nodes.laid c.self.invariant.1.none_unused in let all = c.self.invariant.1.all_made in
     let ok = c.self.invariant.0 in let count = ok.2.count in let held = ok.3 in let wide = ok.4 in let small = ok.5 in let least = c.min.ensures in let few = c.if-min-self.false in
     (raised_ring i.ends i.nodes.cells i.spare i.len i.spares (i.spares + c.args.count) ok (omega arith) (omega arith), c.self.invariant.1)
+
+pub returns-clause-enough : goal.returns-clause-enough
+returns-clause-enough g c _ =
+    let i = c.self.inside in let cs = ring_cells i.ends i.nodes.cells in let v = c.self.view_is in
+    let count = count_made i.nodes.cells i.nodes.unused i.nodes.node_bytes i.nodes.chunks i.nodes.laid c.self.invariant.1.none_unused ∙ sym c.self.invariant.1.all_made in
+    let all = ring_within cs i.spare i.len i.spares _ (ap suc count) c.self.invariant.0 v in let long = ring_length cs i.spare i.len i.spares _ c.self.invariant.0 v in
+    let spares = ap (λ z. z.spares) v in let made = ap (λ z. z.nodes) v in let least = c.min.ensures in let few = c.if-min-self.false in omega arith

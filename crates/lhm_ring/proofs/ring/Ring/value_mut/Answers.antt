@@ -38,7 +38,7 @@ returns g c =
             let z = ring_with_body i.ends i.nodes.cells p c.args.at.block _ _ (ap (λ o. with_body p (value_set w o) i.nodes.cells) b.1) in
             let q = ap (λ zs. ring_list zs i.len) z ∙ ring_list_changed cs _ p h.node _ j f same i.len in
             let v = c.self.view_is in
-            λ x. state ((q ∙ ap (λ (z : _). change_at p f z.held) v) x) (v x).spares,
+            λ x. state ((q ∙ ap (λ (z : _). change_at p f z.held) v) x) (v x).spares (v x).nodes,
       ),
       record { writes_back = tt; alone = changes_only cs i.spare i.len i.spares _ c.self.invariant.0 c.self.view_is p; value = λ xs t ys e at. ap (λ (z : g.row.K.Denot × g.row.V.Denot). z.1) (is xs t ys e at) },
     )

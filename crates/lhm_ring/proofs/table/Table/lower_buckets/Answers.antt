@@ -18,6 +18,7 @@ invariant_of-self g c =
       filtered = record { count = filled.buckets ∙ fresh.words ∙ sym rehashed.ensures.buckets; covers = filled.covers };
       few = omega (arith, rehashed.ensures.count, moved, c.len.ensures.value, fresh.enough, rehashed.ensures.buckets);
       limit = omega (arith, sum, c.len.ensures.value, c.len.ensures.bounded);
+      nodes_within = omega (arith, rehashed.ensures.nodes, c.in-Ok.ensures.nodes, c.len.ensures.value, fresh.enough, rehashed.ensures.buckets);
     }
 
 pub returns-in-Ok-clause-triples : goal.returns-in-Ok-clause-triples

@@ -11,7 +11,7 @@ move_to_back-requires g c = held_in c.self.inside.ring c.self.inside.rechained c
 pub invariant_of-self : goal.invariant_of-self
 invariant_of-self g c =
     let moved = c.move_to_back.ensures in
-    IsTable-to_back c.self.invariant (pointer_of c.args.at) (held_in c.self.inside.ring c.self.inside.rechained c.self.view_is (pointer_of c.args.at) c.requires) moved.last moved.spares
+    IsTable-to_back c.self.invariant (pointer_of c.args.at) (held_in c.self.inside.ring c.self.inside.rechained c.self.view_is (pointer_of c.args.at) c.requires) moved.last moved.spares moved.nodes
 
 pub returns-clause-last : goal.returns-clause-last
 returns-clause-last g c =

@@ -42,4 +42,5 @@ invariant_of-self g c =
       filtered = IsFilter-more c.insert.new.self c.put_in-bucket.new.self old.held new.held t (c.put_in-bucket.ensures.held ∙ ap entries c.put_back-at.ensures.last) c.insert.ensures.set c.insert.ensures.others c.insert.ensures.buckets c.put_in-bucket.ensures.buckets table.filtered;
       few = omega (arith, table.few, c.put_in-bucket.ensures.buckets);
       limit = omega (arith, sum, table.limit);
+      nodes_within = omega (arith, table.nodes_within, c.put_in-bucket.ensures.nodes, c.put_back-at.ensures.nodes, c.put_in-bucket.ensures.buckets);
     }

@@ -11,7 +11,7 @@ invariant_of-self g c =
     let all = capacity_in i.ring i.rechained c.self.view_is in
     let up : length i.ring.held + i.ring.spares < c.args.capacity = omega (arith, all, c.requires.higher) in
     let enough : c.args.capacity ≤ length i.index = omega (arith, c.if-capacity-buckets.true, c.buckets.ensures) in
-    IsTable-grown c.self.invariant c.args.capacity up enough c.grow_within.result _ c.grow_within.ensures.held c.grow_within.ensures.spares c.grow_within.ensures.refused (omega (arith, all, up, c.capacity.ensures.value)) c.requires.limit
+    IsTable-grown c.self.invariant c.args.capacity up enough {t = c.grow_within.new.self} c.grow_within.result _ _ c.buckets-then-capacity-buckets.ensures c.grow_within.ensures.held c.grow_within.ensures.spares c.grow_within.ensures.nodes_within c.grow_within.ensures.refused (omega (arith, all, up, c.capacity.ensures.value)) c.requires.limit
 
 pub returns-then-capacity-buckets-clause-rechained : goal.returns-then-capacity-buckets-clause-rechained
 returns-then-capacity-buckets-clause-rechained g c =

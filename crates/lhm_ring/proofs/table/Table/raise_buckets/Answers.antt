@@ -14,5 +14,6 @@ invariant_of-self g c =
     let wide : length c.take_over.new.self ≡ buckets c.args.capacity = c.take_over.ensures.buckets ∙ c.in_ok-index.ensures.buckets in
     let count : c.take_over.result ≡ length i.ring.held = c.take_over.ensures.count ∙ ap length c.in-Ok.ensures.held in
     let filled = c.take_over-in-Ok.ensures in
+    let made = c.in-Ok.ensures.nodes_within (omega (arith, c.self.invariant.nodes_within, few, c.buckets.ensures, c.in_ok-index.ensures.enough)) (omega (arith, all, c.requires.higher, c.capacity.ensures.value, c.buckets.ensures, c.in_ok-index.ensures.enough)) in
     let fits = rechained-fits c.self.invariant c.args.capacity up few in
-    IsTable-rechained c.self.invariant {t = c.take_over.new.ring} (c.take_over.ensures.held ∙ ap entries c.in-Ok.ensures.held) (omega (arith, sum, c.requires.limit)) c.take_over.ensures.indexed (wide ∙ ap buckets (sym sum)) (record { count = filled.buckets ∙ c.in_ok-index.ensures.words ∙ sym c.take_over.ensures.buckets; covers = filled.covers }) (omega (arith, fits, count, wide))
+    IsTable-rechained c.self.invariant {t = c.take_over.new.ring} (c.take_over.ensures.held ∙ ap entries c.in-Ok.ensures.held) (omega (arith, sum, c.requires.limit)) c.take_over.ensures.indexed (wide ∙ ap buckets (sym sum)) (record { count = filled.buckets ∙ c.in_ok-index.ensures.words ∙ sym c.take_over.ensures.buckets; covers = filled.covers }) (omega (arith, fits, count, wide)) (omega (arith, made, c.buckets.ensures, c.take_over.ensures.nodes, c.take_over.ensures.buckets))

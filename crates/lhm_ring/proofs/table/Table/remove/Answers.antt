@@ -22,12 +22,13 @@ invariant_of-self-2 g c =
     let taken = c.in_ok-at.ensures in
     let unlinked = c.unlink-key.ensures in
     let cleared = c.clear_emptied.ensures in
-    let table = IsTable-removed c.self.invariant taken.held taken.spares taken.lacks unlinked.others unlinked.spares taken.buckets in
+    let table = IsTable-removed c.self.invariant taken.held taken.spares taken.nodes taken.lacks unlinked.others unlinked.spares unlinked.nodes taken.buckets in
     record {
       indexed = table.indexed;
       filtered = IsFilter-emptied c.self.inside.filter c.clear_emptied.new.filter c.take_out.new.self c.args.hash c.unlink-key.new.self.held c.in_ok-at.emptied taken.emptied cleared.others cleared.same cleared.words table.indexed.chains table.filtered;
       few = table.few;
       limit = table.limit;
+      nodes_within = table.nodes_within;
     }
 
 pub returns-clause-removed : goal.returns-clause-removed
@@ -50,6 +51,6 @@ pub returns-clause-capacity : goal.returns-clause-capacity
 returns-clause-capacity g c =
     let taken = c.in_ok-at.ensures in
     let unlinked = c.unlink-key.ensures in
-    let all = all_nodes c.self.invariant taken.held taken.spares taken.lacks unlinked.others unlinked.spares in
+    let all = all_nodes c.self.invariant taken.held taken.spares taken.nodes taken.lacks unlinked.others unlinked.spares unlinked.nodes in
     let before = capacity_in c.self.inside.ring c.self.inside.rechained c.self.view_is in
     omega (arith, all, before)

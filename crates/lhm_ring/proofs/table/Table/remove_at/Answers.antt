@@ -19,12 +19,13 @@ invariant_of-self g c =
     let taken = c.take_out_at-emptied.ensures in
     let unlinked = c.unlink-key.ensures in
     let cleared = c.clear_emptied.ensures in
-    let table = IsTable-removed c.self.invariant taken.held taken.spares taken.lacks unlinked.others unlinked.spares taken.buckets in
+    let table = IsTable-removed c.self.invariant taken.held taken.spares taken.nodes taken.lacks unlinked.others unlinked.spares unlinked.nodes taken.buckets in
     record {
       indexed = table.indexed;
       filtered = IsFilter-emptied c.self.inside.filter c.clear_emptied.new.filter c.take_out_at-emptied.new.self h.node.hash c.unlink-key.new.self.held c.take_out_at-emptied.result (taken.emptied h.before h.node h.after h.is h.at_is) cleared.others cleared.same cleared.words table.indexed.chains table.filtered;
       few = table.few;
       limit = table.limit;
+      nodes_within = table.nodes_within;
     }
 
 pub returns-clause-others : goal.returns-clause-others
