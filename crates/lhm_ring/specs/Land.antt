@@ -18,10 +18,12 @@ pub record IsLaid (unused : List Ptr) (chunks : List (Ptr × ℕ)) (kept : List 
   pub all_kept : chunks ≡ map extent kept
   pub all_made : made ≡ place_count chunks
 
--- how many nodes there are once as many as needed are to be there: if there were fewer, at least `least` more
+-- how many nodes there are after a growth to the number needed: if there were fewer, at least
+-- `least` more than there were
 abbrev pub nodes_grown : ℕ → ℕ → ℕ → ℕ
 nodes_grown nodes needed least = if nat_le needed nodes then nodes else max needed (nodes + least)
 
--- how many more nodes a growth by one makes at least: as many as there are, at most 64, and so that there are at most `most`
+-- how many more nodes a growth by one makes at least: as many as there are, at most 64, and so
+-- that there are at most `most`
 abbrev pub least_more : ℕ → ℕ → ℕ → ℕ
 least_more count nodes most = if count == 1 then min nodes (min (most - nodes) 64) else 0

@@ -11,7 +11,8 @@ pub record Held (B : Type 0) : Type 0 where
   pub link : Option Ptr
   pub pair : B
 
--- what callers see of a ring: what it holds, in order, how many spare nodes it has, and how many nodes its chunks have
+-- what callers see of a ring: what it holds, in order, how many spare nodes it has, and how many
+-- nodes its chunks have in all
 pub record State (B : Type 0) : Type 0 where
   pub held : List (Held B)
   pub spares : ℕ

@@ -18,8 +18,8 @@ pub record TableState (B : Type 0) : Type 0 where
 abbrev pub table_of : {K V : Type 0} → State (K × V) → ℕ → TableState (K × V)
 table_of s rechained = record { held = entries s.held; capacity = length s.held + s.spares; rechained = rechained }
 
--- the index and the filter are those of the ring, the count is at most the number of buckets, the pairs and spare nodes are at
--- most as many as a ring may have, and the chunks have at most as many nodes as there are buckets
+-- the index and the filter are those of the ring, the count is at most the number of buckets, the capacity is at most that of a
+-- ring, and the chunks have at most as many nodes as there are buckets
 pub record IsTable {K V : Type 0} (heads : List (Option Ptr)) (words : List ℕ) (s : State (K × V)) (rechained : ℕ) : Type 0 where
   pub indexed : IsIndexed heads s
   pub filtered : IsFilter words heads s.held

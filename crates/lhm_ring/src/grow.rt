@@ -1,5 +1,5 @@
 //! Nodes are allocated, many in one chunk, and all chunks are freed.
-ghost use Rattle.std.specs.Prelude.{◌≡◌, ℕ, ◌+◌, ◌-◌, ◌<◌, ◌≤◌, max, length, ◌^◌, [], ◌∷◌, ◌++◌, None, Some, map, IfSome, IfOk, OnOk, OnErr, IsTrue, IsFalse, true};
+ghost use Rattle.std.specs.Prelude.{◌≡◌, ℕ, ◌+◌, ◌-◌, ◌<◌, ◌≤◌, ◌^◌, [], ◌∷◌, ◌++◌, None, Some, map, max, length, IfSome, IfOk, OnOk, OnErr, IsTrue, IsFalse, true};
 ghost use Rattle.std.specs.Allocator.{FitsBlock};
 ghost use Rattle.lhm_ring.specs.Chunks.{row};
 ghost use Rattle.lhm_ring.specs.Land.{extent, IsLaid, nodes_grown, least_more};
