@@ -31,6 +31,7 @@ impl<K: Eq + Hash, V, S: BuildHasher> LinkedHashMap<K, V, S> {
     /// assert_eq!(rt; map.remove(&'x'), None);
     /// assert_eq!(rt; (map.len(), map.capacity()), (1, 2));
     /// ```
+    #[inline]
     pub fn remove(&mut self, key: &K) -> Option<V>
     where
         K: Drop,
