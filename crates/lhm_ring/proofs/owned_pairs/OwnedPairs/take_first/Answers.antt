@@ -1,5 +1,4 @@
 use Rattle.std.proofs.Common.{◌∙◌, ◌-◌, ◌∷◌, ap, sym, subst}
-use denote.RawPtr.{Ptr}
 use Rattle.lhm_ring.specs.Rings.{IsSpan, span_triples}
 use Rattle.lhm_ring.proofs.Spans.{none_listed, first_there, first_holds, rest_of_first, first_out}
 use Rattle.lhm_ring.proofs.owned_pairs.OwnedPairs.take_first.Goals as goal
