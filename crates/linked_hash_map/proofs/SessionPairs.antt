@@ -114,12 +114,12 @@ module _ {T : Type 0} where
     IsKeptWithin-refreshed {total} {limit} kept payload =
         let now : Weighted T = record { weight = weighted.weight; payload = payload } in
         let there = IsSome-find nat_eq m.pairs id weighted found in
-        let same = length-to_back_present nat_eq_equiv m.pairs id kept.valid.distinct there now in
+        let same = length-to_back_present nat_eq_equiv m.pairs id now kept.valid.distinct there in
         let within = kept.valid.within in
         let others = total_weight-others kept id in
         let after = total_weight-with_last (sessions_of m.pairs) id (weight_of (sessions_of m.pairs) id) payload in
         record {
-          valid = IsValid-to_back_present kept.valid nat_eq_equiv id now there refl (omega arith);
+          valid = IsValid-to_back_present nat_eq_equiv id now kept.valid there refl (omega arith);
           mode = kept.mode;
           sum = omega (arith, ap total_weight (sessions_of-refreshed payload));
           within = kept.within;

@@ -1,16 +1,20 @@
 -- What a put does to the pairs of a table's map.
 use Rattle.std.proofs.Common.{◌≡◌, ℕ, zero, suc, ◌+◌, ◌-◌, ◌<◌, ◌≤◌, List, [], ◌∷◌, ◌++◌, length, drop, nat_eq, Option, Some, None, is_some, option_map, true, false, refl, sym, ap, ◌∙◌, arith, length-append, length-drop}
 use Rattle.std.specs.Cmp.{nat_eq_equiv}
+use Rattle.std.specs.List.{IsDistinct}
+use Rattle.std.specs.Map.{keys_of}
+use Rattle.std.specs.Option.{IsSome}
 use Rattle.std.proofs.lemmas.List.{drop-map, drop-append-le}
 use Rattle.linked_hash_map.specs.Pairs as pairs
 use Rattle.linked_hash_map.specs.SessionTables.{Session, total_weight, session_of, payload_of, without, with_last, fit}
 use Rattle.linked_hash_map.specs.SessionsKept.{sessions_of}
 use Rattle.linked_hash_map.specs.declared.sessions.storage.Weighted.{Weighted}
-use Rattle.linked_hash_map.proofs.Callers.Keys.{find-drop, without-absent, value_at-none, length-without_absent}
-use Rattle.linked_hash_map.proofs.Callers.Lookups.{find-without_here}
+use Rattle.linked_hash_map.proofs.Callers.Keys.{distinct-to_back, find-drop, without-absent, value_at-none, length-without_absent}
+use Rattle.linked_hash_map.proofs.Callers.Lookups.{find-without_here, value_at-to_back_apart}
+use Rattle.linked_hash_map.proofs.Callers.Turns.{find-drop_present}
 use Rattle.linked_hash_map.proofs.LiveKeys.{none_is}
 use Rattle.linked_hash_map.proofs.SessionLists.{total_weight-append, total_weight-last, fit-all, fit-append, session_of-append}
-use Rattle.linked_hash_map.proofs.SessionPairs.{sessions_of-without, length-sessions_of, is_some-session_of, payload_of-sessions_of}
+use Rattle.linked_hash_map.proofs.SessionPairs.{sessions_of-without, sessions_of-to_back, length-sessions_of, is_some-session_of, payload_of-sessions_of}
 
 -- there is room for one more once some are out, or at once
 pub room-left : (count len capacity : ℕ) → count ≤ len → len ≤ capacity → (count ≡ 0 → len < capacity) → len - count < capacity
@@ -34,7 +38,7 @@ module _ {T : Type 0} where
   pub with_last-drop : (ps : List (ℕ × Weighted T)) (count id weight : ℕ) (payload : T) → pairs.find nat_eq ps id ≡ None → count ≤ length ps
       → with_last (sessions_of (drop count ps)) id weight payload ≡ drop count (with_last (sessions_of ps) id weight payload)
   with_last-drop ps count id weight payload none enough =
-      with_last-new (drop count ps) id weight payload (find-drop nat_eq ps id none count)
+      with_last-new (drop count ps) id weight payload (find-drop nat_eq count ps id none)
       ∙ ap (λ l. l ++ (id, weight, payload) ∷ []) (sessions_of-drop count ps)
       ∙ sym (drop-append-le count (sessions_of ps) ((id, weight, payload) ∷ []) (omega (arith, length-sessions_of ps)))
       ∙ ap (drop count) (sym (with_last-new ps id weight payload none))
@@ -55,7 +59,7 @@ module _ {T : Type 0} where
   is_some-weight sessions id known = sym (ap is_some known ∙ some_weight (session_of sessions id))
 
   pub find-drop_new : (ps : List (ℕ × Weighted T)) (count id : ℕ) {left : List (ℕ × Weighted T)} → pairs.find nat_eq ps id ≡ None → left ≡ drop count ps → pairs.find nat_eq left id ≡ None
-  find-drop_new ps count id none oldest = ap (λ l. pairs.find nat_eq l id) oldest ∙ find-drop nat_eq ps id none count
+  find-drop_new ps count id none oldest = ap (λ l. pairs.find nat_eq l id) oldest ∙ find-drop nat_eq count ps id none
 
   pub payload_of-new : (ps : List (ℕ × Weighted T)) (id : ℕ) → pairs.find nat_eq ps id ≡ None → payload_of (sessions_of ps) id ≡ None
   payload_of-new ps id none = payload_of-sessions_of ps id ∙ ap (option_map (λ (weighted : Weighted T). weighted.payload)) (value_at-none nat_eq ps id none)
@@ -74,11 +78,29 @@ module _ {T : Type 0} where
   pub payload_of-put : (ps : List (ℕ × Weighted T)) (count id weight : ℕ) (payload : T) → payload_of (drop count (without (sessions_of ps) id) ++ (id, weight, payload) ∷ []) id ≡ Some payload
   payload_of-put ps count id weight payload =
       let left = drop count (pairs.without nat_eq ps id) in
-      let none = find-drop nat_eq (pairs.without nat_eq ps id) id (find-without_here nat_eq_equiv ps id) count in
+      let none = find-drop nat_eq count (pairs.without nat_eq ps id) id (find-without_here nat_eq_equiv ps id) in
       let absent = none_is (session_of (sessions_of left) id) (is_some-session_of left id ∙ ap is_some none) in
       let same = sessions_of-drop count (pairs.without nat_eq ps id) ∙ ap (drop count) (sessions_of-without ps id) in
       ap (λ l. payload_of (l ++ (id, weight, payload) ∷ []) id) (sym same)
       ∙ ap (option_map (λ (session : Session T). session.2)) (session_of-append (sessions_of left) (id, weight, payload) absent)
+
+  some_payload : (o : Option (Session T)) → is_some (option_map (λ (session : Session T). session.2) o) ≡ is_some o
+  some_payload None = refl
+  some_payload (Some session) = refl
+
+  -- another session that stays has the payload that it had
+  pub payload_of-stays : (ps : List (ℕ × Weighted T)) (count id other weight : ℕ) (payload : T) → IsDistinct nat_eq (keys_of ps) → nat_eq id other ≡ false
+      → IsSome (payload_of (drop count (with_last (sessions_of ps) id weight payload)) other) → payload_of (drop count (with_last (sessions_of ps) id weight payload)) other ≡ payload_of (sessions_of ps) other
+  payload_of-stays ps count id other weight payload distinct apart stays =
+      let weighted : Weighted T = record { weight = weight; payload = payload } in
+      let qs = pairs.to_back nat_eq ps id weighted in
+      let as_pairs : drop count (with_last (sessions_of ps) id weight payload) ≡ sessions_of (drop count qs) = ap (drop count) (sym (sessions_of-to_back ps id weighted)) ∙ sym (sessions_of-drop count qs) in
+      let found : IsSome (pairs.find nat_eq (drop count qs) other) =
+          sym (is_some-session_of (drop count qs) other) ∙ sym (some_payload (session_of (sessions_of (drop count qs)) other)) ∙ ap (λ l. is_some (payload_of l other)) (sym as_pairs) ∙ stays in
+      ap (λ l. payload_of l other) as_pairs
+      ∙ payload_of-sessions_of (drop count qs) other
+      ∙ ap (option_map (λ (w : Weighted T). w.payload)) (ap (option_map (λ (pair : ℕ × Weighted T). pair.1)) (find-drop_present nat_eq_equiv count qs other (distinct-to_back nat_eq_equiv ps id weighted distinct) found) ∙ value_at-to_back_apart nat_eq_equiv ps id other weighted apart)
+      ∙ sym (payload_of-sessions_of ps other)
 
   pub total_weight-put : (weight id : ℕ) (payload : T) (left : List (Session T)) → total_weight (left ++ (id, weight, payload) ∷ []) ≡ total_weight left + weight
   total_weight-put weight id payload left =

@@ -32,7 +32,7 @@
 //! assert_eq!(rt; kept.next(), Some((1, 8, &"page one")));
 //! assert_eq!(rt; kept.next(), None);
 //! ```
-ghost use Rattle.std.specs.Prelude.{◌≡◌, ◌≤◌, ◌<◌, ◌+◌, ◌∷◌, ◌++◌, ◌↔◌, [], Some, length, nat_eq, vec_capacity, IfOk, IfErr, OnOk, OnErr, IsOk, IsSome, IsErrAnd};
+ghost use Rattle.std.specs.Prelude.{◌≡◌, ◌==◌, ◌≤◌, ◌<◌, ◌+◌, ◌∷◌, ◌++◌, ◌↔◌, ℕ, [], Some, false, length, nat_eq, vec_capacity, IfOk, IfErr, OnOk, OnErr, IsOk, IsSome, IsErrAnd};
 ghost use Rattle.std.specs.Borrow.{sem};
 ghost use Rattle.std.specs.Map.Iter.{ShowsInOrder};
 ghost use Rattle.std.specs.Option.{option_copied_mut};
@@ -149,6 +149,8 @@ impl<T> Sessions<T> {
         ensures longest { OnOk result (IsLongestEnd self.old.limit (with_last self.old.sessions id weight payload) self.new.sessions) }
         ensures newest { OnOk result (last self.new.sessions ≡ Some (id, weight, payload)) }
         ensures payload { OnOk result (payload_of self.new.sessions id ≡ Some payload) }
+        ensures others { (other : ℕ) → OnOk result (id == other ≡ false → IsSome (payload_of self.new.sessions other)
+            → payload_of self.new.sessions other ≡ payload_of self.old.sessions other) }
         ensures gone { IfOk result (λ put. put.gone.items ++ self.new.sessions ≡ with_last self.old.sessions id weight payload) }
         ensures exact { IfOk result (λ put. vec_capacity put.gone ≡ length put.gone.items) }
         ensures old { IfOk result (λ put. put.old ≡ payload_of self.old.sessions id) }

@@ -38,7 +38,7 @@ module _ {K V : Type 0} {eq : K → K → Bool} (laws : IsEquivalence eq) where
   value_at-insert_each mode pairs items q = by_last (λ items. value_at eq (insert_each eq mode pairs items) q ≡ option_or (value_at eq (reverse items) q) (value_at eq pairs q))
       (λ items item rest.
       ap (λ es. value_at eq es q) (insert_each-last eq mode pairs items item)
-      ∙ value_at-put laws mode (insert_each eq mode pairs items) item.0 item.1 q
+      ∙ value_at-put laws mode (insert_each eq mode pairs items) item.0 q item.1
       ∙ ap (cond (eq item.0 q) (Some item.1)) rest
       ∙ last_first (eq q item.0) item (find eq (reverse items) q) (value_at eq pairs q) (laws.symm item.0 q)
       ∙ ap (λ es. option_or (value_at eq es q) (value_at eq pairs q)) (sym (reverse-append items (item ∷ []))))
@@ -53,7 +53,7 @@ module _ {K V : Type 0} {eq : K → K → Bool} (laws : IsEquivalence eq) where
   is_some-insert_each mode pairs [] q = or-false (is_some (find eq pairs q))
   is_some-insert_each mode pairs (item ∷ items) q =
       is_some-insert_each mode (put eq mode pairs item.0 item.1) items q
-      ∙ ap (λ o. is_some o || is_some (find eq items q)) (find-put laws mode pairs item.0 item.1 q)
+      ∙ ap (λ o. is_some o || is_some (find eq items q)) (find-put laws mode pairs item.0 q item.1)
       ∙ by_test (eq q item.0) (laws.symm item.0 q) (is_some (find eq pairs q)) refl
     where
       by_test : (b : Bool) → eq item.0 q ≡ b → (h : Bool) → is_some (find eq pairs q) ≡ h → (is_some (cond (eq item.0 q) (Some (key_or item.0 (find eq pairs item.0), item.1)) (find eq pairs q)) || is_some (find eq items q)) ≡ (is_some (find eq pairs q) || is_some (cond b (Some item) (find eq items q)))
@@ -86,16 +86,16 @@ module _ {K V : Type 0} {eq : K → K → Bool} (laws : IsEquivalence eq) where
 
 -- items whose keys differ: a key has the value that came with it, or what it had
 module _ {K V : Type 0} {eq : K → K → Bool} (laws : IsEquivalence eq) (mode : Mode) where
-  pub value_at-insert_each_distinct : (pairs items : List (K × V)) → IsDistinct eq (keys_of items) → (q : K) → value_at eq (insert_each eq mode pairs items) q ≡ option_or (value_at eq items q) (value_at eq pairs q)
-  value_at-insert_each_distinct pairs [] distinct q = refl
-  value_at-insert_each_distinct pairs (item ∷ items) distinct q =
-      value_at-insert_each_distinct (put eq mode pairs item.0 item.1) items (IsDistinct-tail eq item.0 (keys_of items) distinct) q
-      ∙ ap (option_or (value_at eq items q)) (value_at-put laws mode pairs item.0 item.1 q)
+  pub value_at-insert_each_distinct : (pairs items : List (K × V)) (q : K) → IsDistinct eq (keys_of items) → value_at eq (insert_each eq mode pairs items) q ≡ option_or (value_at eq items q) (value_at eq pairs q)
+  value_at-insert_each_distinct pairs [] q distinct = refl
+  value_at-insert_each_distinct pairs (item ∷ items) q distinct =
+      value_at-insert_each_distinct (put eq mode pairs item.0 item.1) items q (IsDistinct-tail eq item.0 (keys_of items) distinct)
+      ∙ ap (option_or (value_at eq items q)) (value_at-put laws mode pairs item.0 q item.1)
       ∙ by_test (eq q item.0) refl
     where
       by_test : (b : Bool) → eq q item.0 ≡ b → option_or (value_at eq items q) (cond (eq item.0 q) (Some item.1) (value_at eq pairs q)) ≡ option_or (option_map (λ (pair : K × V). pair.1) (cond b (Some item) (find eq items q))) (value_at eq pairs q)
       by_test true same =
-          let none = find-others laws item items distinct q same in
+          let none = find-others laws items item q distinct same in
           ap (λ o. option_or (option_map (λ (pair : K × V). pair.1) o) (cond (eq item.0 q) (Some item.1) (value_at eq pairs q))) none
           ∙ ap (λ b. cond b (Some item.1) (value_at eq pairs q)) (laws.symm item.0 q ∙ same)
       by_test false apart = ap (λ b. option_or (value_at eq items q) (cond b (Some item.1) (value_at eq pairs q))) (laws.symm item.0 q ∙ apart)
@@ -108,7 +108,7 @@ filter-alike one other (k ∷ ks) all = ap₂ (λ b rest. cond b (k ∷ rest) re
 module _ {K V : Type 0} {eq : K → K → Bool} (laws : IsEquivalence eq) where
   new-set_or_push : (pairs : List (K × V)) (k : K) (v : V) (ks : List K) → AllByRecursion (λ j. eq k j ≡ false) ks → AllByRecursion (λ j. not (is_some (find eq (set_or_push eq pairs k v) j)) ≡ not (is_some (find eq pairs j))) ks
   new-set_or_push pairs k v [] apart = tt
-  new-set_or_push pairs k v (j ∷ ks) apart = (ap (λ o. not (is_some o)) (find-set_or_push_apart laws pairs k j apart.0 v), new-set_or_push pairs k v ks apart.1)
+  new-set_or_push pairs k v (j ∷ ks) apart = (ap (λ o. not (is_some o)) (find-set_or_push_apart laws pairs k j v apart.0), new-set_or_push pairs k v ks apart.1)
 
   pub keys_of-insert_each_keep : (pairs items : List (K × V)) → IsDistinct eq (keys_of items) → keys_of (insert_each eq Keep pairs items) ≡ keys_of pairs ++ filter (λ k. not (is_some (find eq pairs k))) (keys_of items)
   keys_of-insert_each_keep pairs [] distinct = sym (append-nil (keys_of pairs))

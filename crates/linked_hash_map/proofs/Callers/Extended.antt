@@ -93,7 +93,7 @@ module _ {T K V : Type 0} {becomes : T → List (K × V) → Type 0} {source : T
   pub value_at-InsertsAll_distinct : (q : K) → value_at eq new q ≡ option_or (value_at eq all q) (value_at eq old q)
   value_at-InsertsAll_distinct q =
       ap (λ ps. value_at eq ps q) (pairs-InsertsAll_list all inserts (λ it made. (is it made).0))
-      ∙ value_at-insert_each_distinct laws mode old all (is inserts.gives.iterator inserts.gives.made).1 q
+      ∙ value_at-insert_each_distinct laws mode old all q (is inserts.gives.iterator inserts.gives.made).1
 
   pub keys_of-InsertsAll_keep : mode ≡ Keep → keys_of new ≡ keys_of old ++ filter (λ k. not (is_some (find eq old k))) (keys_of all)
   keys_of-InsertsAll_keep keep =

@@ -50,16 +50,16 @@ module _ {K V : Type 0} (eq : K → K → Bool) (pairs : List (K × V)) (k : K) 
   pub to_back-absent : (v : V) → find eq pairs k ≡ None → to_back eq pairs k v ≡ pairs ++ (k, v) ∷ []
   to_back-absent v none = ap₂ (λ ps o. ps ++ (key_or k o, v) ∷ []) (without-absent none) none
 
-  pub put-absent : (mode : Mode) (v : V) → find eq pairs k ≡ None → put eq mode pairs k v ≡ pairs ++ (k, v) ∷ []
-  put-absent Touch v none = to_back-absent v none
-  put-absent Keep v none = ap (λ o. cond (is_some o) (set_value eq pairs k v) (pairs ++ (k, v) ∷ [])) none
-
   pub set_or_push-absent : (v : V) → find eq pairs k ≡ None → set_or_push eq pairs k v ≡ pairs ++ (k, v) ∷ []
   set_or_push-absent v none = ap (λ o. cond (is_some o) (set_value eq pairs k v) (pairs ++ (k, v) ∷ [])) none
 
   -- and with one that is present
   pub set_or_push-present : (v : V) → IsSome (find eq pairs k) → set_or_push eq pairs k v ≡ set_value eq pairs k v
   set_or_push-present v found = ap (λ b. cond b (set_value eq pairs k v) (pairs ++ (k, v) ∷ [])) found
+
+pub put-absent : {K V : Type 0} (eq : K → K → Bool) (mode : Mode) (pairs : List (K × V)) (k : K) (v : V) → find eq pairs k ≡ None → put eq mode pairs k v ≡ pairs ++ (k, v) ∷ []
+put-absent eq Touch = to_back-absent eq
+put-absent eq Keep = set_or_push-absent eq
 
 -- the keys
 keys_of-filter : {K V : Type 0} (kept : K → Bool) (pairs : List (K × V)) → keys_of (filter (λ pair. kept pair.0) pairs) ≡ filter kept (keys_of pairs)
@@ -79,12 +79,6 @@ module _ {K V : Type 0} (eq : K → K → Bool) where
       map-append (λ (pair : K × V). pair.0) (without eq pairs k) ((key_or k (find eq pairs k), v) ∷ [])
       ∙ ap (λ ks. ks ++ key_or k (find eq pairs k) ∷ []) (keys_of-without pairs k)
 
-  -- where equality decides `≡`, the key that goes to the back is the key of the call
-  pub keys_of-to_back_own : IsEquivalence eq → (pairs : List (K × V)) (k : K) → ((a b : K) → IsTrue (eq a b) → a ≡ b) → (v : V) → keys_of (to_back eq pairs k v) ≡ filter (λ j. not (eq k j)) (keys_of pairs) ++ k ∷ []
-  keys_of-to_back_own laws pairs k decides v =
-      keys_of-to_back pairs k v
-      ∙ ap (λ key. filter (λ j. not (eq k j)) (keys_of pairs) ++ key ∷ []) (sym (decides k (key_or k (find eq pairs k)) (eq-stored laws pairs k)))
-
   pub keys_of-set_value : (pairs : List (K × V)) (k : K) (v : V) → keys_of (set_value eq pairs k v) ≡ keys_of pairs
   keys_of-set_value [] k v = refl
   keys_of-set_value (pair ∷ pairs) k v = ap₂ (λ j ks. j ∷ ks) (by_test (eq k pair.0)) (keys_of-set_value pairs k v)
@@ -99,6 +93,12 @@ module _ {K V : Type 0} (eq : K → K → Bool) where
       by_test : (b : Bool) → keys_of (cond b (set_value eq pairs k v) (pairs ++ (k, v) ∷ [])) ≡ cond b (keys_of pairs) (keys_of pairs ++ k ∷ [])
       by_test true = keys_of-set_value pairs k v
       by_test false = map-append (λ (pair : K × V). pair.0) pairs ((k, v) ∷ [])
+
+-- where equality decides `≡`, the key that goes to the back is the key of the call
+pub keys_of-to_back_own : {K V : Type 0} {eq : K → K → Bool} → IsEquivalence eq → (pairs : List (K × V)) (k : K) (v : V) → ((a b : K) → IsTrue (eq a b) → a ≡ b) → keys_of (to_back eq pairs k v) ≡ filter (λ j. not (eq k j)) (keys_of pairs) ++ k ∷ []
+keys_of-to_back_own {eq = eq} laws pairs k v decides =
+    keys_of-to_back eq pairs k v
+    ∙ ap (λ key. filter (λ j. not (eq k j)) (keys_of pairs) ++ key ∷ []) (sym (decides k (key_or k (find eq pairs k)) (eq-stored laws pairs k)))
 
 -- how many there are
 module _ {K V : Type 0} (eq : K → K → Bool) where
@@ -119,19 +119,19 @@ module _ {K V : Type 0} (eq : K → K → Bool) where
   -- in either mode
   pub length-put_absent : (mode : Mode) (pairs : List (K × V)) (k : K) (v : V) → find eq pairs k ≡ None → length (put eq mode pairs k v) ≡ length pairs + 1
   length-put_absent mode pairs k v none =
-      let pushed = ap length (put-absent eq pairs k mode v none) in
+      let pushed = ap length (put-absent eq mode pairs k v none) in
       let longer = length-append pairs ((k, v) ∷ []) in
       omega arith
 
-module _ {K V : Type 0} {eq : K → K → Bool} (laws : IsEquivalence eq) (pairs : List (K × V)) (k : K) (distinct : IsDistinct eq (keys_of pairs)) (found : IsSome (find eq pairs k)) where
-  pub length-without_present : length (without eq pairs k) + 1 ≡ length pairs
-  length-without_present = subst (λ (b : Bool). length (without eq pairs k) + cond b 1 0 ≡ length pairs) found (length-without laws pairs k distinct)
+module _ {K V : Type 0} {eq : K → K → Bool} (laws : IsEquivalence eq) where
+  pub length-without_present : (pairs : List (K × V)) (k : K) → IsDistinct eq (keys_of pairs) → IsSome (find eq pairs k) → length (without eq pairs k) + 1 ≡ length pairs
+  length-without_present pairs k distinct found = subst (λ (b : Bool). length (without eq pairs k) + cond b 1 0 ≡ length pairs) found (length-without laws pairs k distinct)
 
-  pub length-to_back_present : (v : V) → length (to_back eq pairs k v) ≡ length pairs
-  length-to_back_present v = length-to_back laws pairs k v distinct ∙ ap (λ b. cond b (length pairs) (length pairs + 1)) found
+  pub length-put_present : (mode : Mode) (pairs : List (K × V)) (k : K) (v : V) → IsDistinct eq (keys_of pairs) → IsSome (find eq pairs k) → length (put eq mode pairs k v) ≡ length pairs
+  length-put_present mode pairs k v distinct found = length-put laws mode pairs k v distinct ∙ ap (λ b. cond b (length pairs) (length pairs + 1)) found
 
-  pub length-put_present : (mode : Mode) (v : V) → length (put eq mode pairs k v) ≡ length pairs
-  length-put_present mode v = length-put laws mode pairs k v distinct ∙ ap (λ b. cond b (length pairs) (length pairs + 1)) found
+  pub length-to_back_present : (pairs : List (K × V)) (k : K) (v : V) → IsDistinct eq (keys_of pairs) → IsSome (find eq pairs k) → length (to_back eq pairs k v) ≡ length pairs
+  length-to_back_present = length-put_present Touch
 
 -- one more pair at most
 most : (b : Bool) (n length_after : ℕ) → length_after ≡ cond b n (n + 1) → length_after ≤ n + 1
@@ -145,16 +145,15 @@ pub distinct-nil : {K : Type 0} (V : Type 0) (eq : K → K → Bool) → IsDisti
 unfolding IsDistinct
 distinct-nil V eq = tt
 
-module _ {K V : Type 0} (eq : K → K → Bool) (pairs : List (K × V)) (distinct : IsDistinct eq (keys_of pairs)) where
-  pub distinct-set_value : (k : K) (v : V) → IsDistinct eq (keys_of (set_value eq pairs k v))
-  distinct-set_value k v = subst (IsDistinct eq) (sym (keys_of-set_value eq pairs k v)) distinct
+pub distinct-set_value : {K V : Type 0} (eq : K → K → Bool) (pairs : List (K × V)) (k : K) (v : V) → IsDistinct eq (keys_of pairs) → IsDistinct eq (keys_of (set_value eq pairs k v))
+distinct-set_value eq pairs k v distinct = subst (IsDistinct eq) (sym (keys_of-set_value eq pairs k v)) distinct
 
 pub distinct-set_or_push : {K V : Type 0} {eq : K → K → Bool} → IsEquivalence eq → (pairs : List (K × V)) (k : K) (v : V) → IsDistinct eq (keys_of pairs) → IsDistinct eq (keys_of (set_or_push eq pairs k v))
 distinct-set_or_push {K} {V} {eq} laws pairs k v distinct = by_pair (find eq pairs k) refl
   where
     by_pair : (o : Option (K × V)) → find eq pairs k ≡ o → IsDistinct eq (keys_of (cond (is_some o) (set_value eq pairs k v) (pairs ++ (k, v) ∷ [])))
     by_pair None none = subst (λ ps. IsDistinct eq (keys_of ps)) (to_back-absent eq pairs k v none) (distinct-to_back laws pairs k v distinct)
-    by_pair (Some pair) found = distinct-set_value eq pairs distinct k v
+    by_pair (Some pair) found = distinct-set_value eq pairs k v distinct
 
 -- a new key in place of the oldest: the first pair goes, the others stand, and the new one is last
 find_drop : {K V : Type 0} (test : K → Bool) (n : ℕ) (pairs : List (K × V)) → lookup_entry test pairs ≡ None → lookup_entry test (drop n pairs) ≡ None
@@ -166,6 +165,5 @@ find_drop test (suc n) (pair ∷ pairs) none = find_drop test n pairs (by_test (
     by_test true h = absurd (true≢false (ap is_some h))
     by_test false h = h
 
-module _ {K V : Type 0} (eq : K → K → Bool) (pairs : List (K × V)) (k : K) (absent : find eq pairs k ≡ None) where
-  pub find-drop : (n : ℕ) → find eq (drop n pairs) k ≡ None
-  find-drop n = find_drop (eq k) n pairs absent
+pub find-drop : {K V : Type 0} (eq : K → K → Bool) (n : ℕ) (pairs : List (K × V)) (k : K) → find eq pairs k ≡ None → find eq (drop n pairs) k ≡ None
+find-drop eq n pairs k absent = find_drop (eq k) n pairs absent

@@ -38,6 +38,17 @@ lookup_entry-append test (pair ∷ pairs) others = by_test (test pair.0) (lookup
     by_test true rest = refl
     by_test false rest = rest
 
+option_map-option_or : {X Y : Type 0} (f : X → Y) (x y : Option X) → option_map f (option_or x y) ≡ option_or (option_map f x) (option_map f y)
+option_map-option_or f None y = refl
+option_map-option_or f (Some x) y = refl
+
+-- the value of a key in a list with one pair more at its end: what it has among the others, and else that of the last pair
+pub value_at-append : {K V : Type 0} (eq : K → K → Bool) (pairs : List (K × V)) (k q : K) (v : V) → value_at eq (pairs ++ (k, v) ∷ []) q ≡ option_or (value_at eq pairs q) (cond (eq q k) (Some v) None)
+value_at-append eq pairs k q v =
+    ap (option_map (λ pair. pair.1)) (lookup_entry-append (eq q) pairs ((k, v) ∷ []))
+    ∙ option_map-option_or (λ pair. pair.1) (lookup_entry (eq q) pairs) (cond (eq q k) (Some (k, v)) None)
+    ∙ ap (option_or (value_at eq pairs q)) (option_map-cond (λ pair. pair.1) (eq q k) (Some (k, v)) None)
+
 -- a look-up among the pairs of which a test holds that answers b at each key that the look-up may find
 lookup_entry-filter : {K V : Type 0} (test kept : K → Bool) (b : Bool) → ((k : K) → test k ≡ true → kept k ≡ b) → (pairs : List (K × V)) → lookup_entry test (filter (λ pair. kept pair.0) pairs) ≡ cond b (lookup_entry test pairs) None
 lookup_entry-filter test kept true alike [] = refl
@@ -97,17 +108,17 @@ module _ {K V : Type 0} {eq : K → K → Bool} (laws : IsEquivalence eq) where
   pushed q key v false o same = ap (λ b. option_or o (cond b (Some (key, v)) None)) same ∙ option_or_none o
 
   -- after `insert`
-  pub find-to_back : (pairs : List (K × V)) (k : K) (v : V) (q : K) → find eq (to_back eq pairs k v) q ≡ cond (eq k q) (Some (key_or k (find eq pairs k), v)) (find eq pairs q)
-  find-to_back pairs k v q =
+  pub find-to_back : (pairs : List (K × V)) (k q : K) (v : V) → find eq (to_back eq pairs k v) q ≡ cond (eq k q) (Some (key_or k (find eq pairs k), v)) (find eq pairs q)
+  find-to_back pairs k q v =
       let key = key_or k (find eq pairs k) in
       lookup_entry-append (eq q) (without eq pairs k) ((key, v) ∷ [])
       ∙ ap (λ o. option_or o (lookup_entry (eq q) ((key, v) ∷ []))) (find-without pairs k q)
       ∙ pushed q key v (eq k q) (find eq pairs q) (laws.symm q key ∙ sym (laws.congr k key q (eq-stored pairs k)))
 
   -- after a value is written, as through `get_mut`
-  pub find-set_value : (pairs : List (K × V)) (k : K) (v : V) (q : K) → find eq (set_value eq pairs k v) q ≡ cond (eq k q) (option_map (λ pair. (pair.0, v)) (find eq pairs q)) (find eq pairs q)
-  find-set_value [] k v q = elim (eq k q) as (λ b. None ≡ cond {A = Option (K × V)} b None None) [ true ↦ refl | false ↦ refl ]
-  find-set_value (pair ∷ pairs) k v q = by_test (eq k pair.0) (eq q pair.0) refl refl (find-set_value pairs k v q)
+  pub find-set_value : (pairs : List (K × V)) (k q : K) (v : V) → find eq (set_value eq pairs k v) q ≡ cond (eq k q) (option_map (λ pair. (pair.0, v)) (find eq pairs q)) (find eq pairs q)
+  find-set_value [] k q v = elim (eq k q) as (λ b. None ≡ cond {A = Option (K × V)} b None None) [ true ↦ refl | false ↦ refl ]
+  find-set_value (pair ∷ pairs) k q v = by_test (eq k pair.0) (eq q pair.0) refl refl (find-set_value pairs k q v)
     where
       set : Option (K × V) → Option (K × V)
       set o = option_map (λ p. (p.0, v)) o
@@ -123,8 +134,8 @@ module _ {K V : Type 0} {eq : K → K → Bool} (laws : IsEquivalence eq) where
       by_test false false is passes rest = ap (λ c. cond c (Some pair) (find eq (set_value eq pairs k v) q)) passes ∙ rest
 
   -- after a value is written through what `or_insert` lends
-  pub find-set_or_push : (pairs : List (K × V)) (k : K) (v : V) (q : K) → find eq (set_or_push eq pairs k v) q ≡ cond (eq k q) (Some (key_or k (find eq pairs k), v)) (find eq pairs q)
-  find-set_or_push pairs k v q = by_pair (find eq pairs k) refl
+  pub find-set_or_push : (pairs : List (K × V)) (k q : K) (v : V) → find eq (set_or_push eq pairs k v) q ≡ cond (eq k q) (Some (key_or k (find eq pairs k), v)) (find eq pairs q)
+  find-set_or_push pairs k q v = by_pair (find eq pairs k) refl
     where
       present : (b : Bool) (pair : K × V) → eq k q ≡ b → find eq pairs k ≡ Some pair → cond b (option_map (λ p. (p.0, v)) (find eq pairs q)) (find eq pairs q) ≡ cond b (Some (pair.0, v)) (find eq pairs q)
       present true pair same found = ap (option_map (λ p. (p.0, v))) (sym (find-same pairs k q same) ∙ found)
@@ -139,10 +150,10 @@ module _ {K V : Type 0} {eq : K → K → Bool} (laws : IsEquivalence eq) where
           lookup_entry-append (eq q) pairs ((k, v) ∷ [])
           ∙ ap (λ o. option_or o (lookup_entry (eq q) ((k, v) ∷ []))) (absent (eq k q) refl none)
           ∙ pushed q k v (eq k q) (find eq pairs q) (laws.symm q k)
-      by_pair (Some pair) found = find-set_value pairs k v q ∙ present (eq k q) pair refl found
+      by_pair (Some pair) found = find-set_value pairs k q v ∙ present (eq k q) pair refl found
 
   -- after `insert` in either mode
-  pub find-put : (mode : Mode) (pairs : List (K × V)) (k : K) (v : V) (q : K) → find eq (put eq mode pairs k v) q ≡ cond (eq k q) (Some (key_or k (find eq pairs k), v)) (find eq pairs q)
+  pub find-put : (mode : Mode) (pairs : List (K × V)) (k q : K) (v : V) → find eq (put eq mode pairs k v) q ≡ cond (eq k q) (Some (key_or k (find eq pairs k), v)) (find eq pairs q)
   find-put Touch = find-to_back
   find-put Keep = find-set_or_push
 
@@ -150,17 +161,17 @@ module _ {K V : Type 0} {eq : K → K → Bool} (laws : IsEquivalence eq) where
   pub value_at-without : (pairs : List (K × V)) (k q : K) → value_at eq (without eq pairs k) q ≡ cond (eq k q) None (value_at eq pairs q)
   value_at-without pairs k q = ap (option_map (λ pair. pair.1)) (find-without pairs k q) ∙ option_map-cond (λ pair. pair.1) (eq k q) None (find eq pairs q)
 
-  pub value_at-to_back : (pairs : List (K × V)) (k : K) (v : V) (q : K) → value_at eq (to_back eq pairs k v) q ≡ cond (eq k q) (Some v) (value_at eq pairs q)
-  value_at-to_back pairs k v q =
-      ap (option_map (λ pair. pair.1)) (find-to_back pairs k v q)
+  pub value_at-to_back : (pairs : List (K × V)) (k q : K) (v : V) → value_at eq (to_back eq pairs k v) q ≡ cond (eq k q) (Some v) (value_at eq pairs q)
+  value_at-to_back pairs k q v =
+      ap (option_map (λ pair. pair.1)) (find-to_back pairs k q v)
       ∙ option_map-cond (λ pair. pair.1) (eq k q) (Some (key_or k (find eq pairs k), v)) (find eq pairs q)
 
-  pub value_at-set_or_push : (pairs : List (K × V)) (k : K) (v : V) (q : K) → value_at eq (set_or_push eq pairs k v) q ≡ cond (eq k q) (Some v) (value_at eq pairs q)
-  value_at-set_or_push pairs k v q =
-      ap (option_map (λ pair. pair.1)) (find-set_or_push pairs k v q)
+  pub value_at-set_or_push : (pairs : List (K × V)) (k q : K) (v : V) → value_at eq (set_or_push eq pairs k v) q ≡ cond (eq k q) (Some v) (value_at eq pairs q)
+  value_at-set_or_push pairs k q v =
+      ap (option_map (λ pair. pair.1)) (find-set_or_push pairs k q v)
       ∙ option_map-cond (λ pair. pair.1) (eq k q) (Some (key_or k (find eq pairs k), v)) (find eq pairs q)
 
-  pub value_at-put : (mode : Mode) (pairs : List (K × V)) (k : K) (v : V) (q : K) → value_at eq (put eq mode pairs k v) q ≡ cond (eq k q) (Some v) (value_at eq pairs q)
+  pub value_at-put : (mode : Mode) (pairs : List (K × V)) (k q : K) (v : V) → value_at eq (put eq mode pairs k v) q ≡ cond (eq k q) (Some v) (value_at eq pairs q)
   value_at-put Touch = value_at-to_back
   value_at-put Keep = value_at-set_or_push
 
@@ -173,35 +184,35 @@ module _ {K V : Type 0} {eq : K → K → Bool} (laws : IsEquivalence eq) where
     find-without_here = find-without pairs k k ∙ ap (λ b. cond b None (find eq pairs k)) (laws.refl k)
 
     pub value_at-to_back_here : (v : V) → value_at eq (to_back eq pairs k v) k ≡ Some v
-    value_at-to_back_here v = value_at-to_back pairs k v k ∙ ap (λ b. cond b (Some v) (value_at eq pairs k)) (laws.refl k)
+    value_at-to_back_here v = value_at-to_back pairs k k v ∙ ap (λ b. cond b (Some v) (value_at eq pairs k)) (laws.refl k)
 
     pub value_at-set_or_push_here : (v : V) → value_at eq (set_or_push eq pairs k v) k ≡ Some v
-    value_at-set_or_push_here v = value_at-set_or_push pairs k v k ∙ ap (λ b. cond b (Some v) (value_at eq pairs k)) (laws.refl k)
+    value_at-set_or_push_here v = value_at-set_or_push pairs k k v ∙ ap (λ b. cond b (Some v) (value_at eq pairs k)) (laws.refl k)
 
-    pub value_at-put_here : (mode : Mode) (v : V) → value_at eq (put eq mode pairs k v) k ≡ Some v
-    value_at-put_here Touch v = value_at-to_back_here v
-    value_at-put_here Keep v = value_at-set_or_push_here v
+  pub value_at-put_here : (mode : Mode) (pairs : List (K × V)) (k : K) (v : V) → value_at eq (put eq mode pairs k v) k ≡ Some v
+  value_at-put_here Touch = value_at-to_back_here
+  value_at-put_here Keep = value_at-set_or_push_here
 
   -- at another key
-  module _ (pairs : List (K × V)) (k q : K) (apart : eq k q ≡ false) where
-    pub value_at-without_apart : value_at eq (without eq pairs k) q ≡ value_at eq pairs q
-    value_at-without_apart = value_at-without pairs k q ∙ ap (λ b. cond b None (value_at eq pairs q)) apart
+  pub value_at-without_apart : (pairs : List (K × V)) (k q : K) → eq k q ≡ false → value_at eq (without eq pairs k) q ≡ value_at eq pairs q
+  value_at-without_apart pairs k q apart = value_at-without pairs k q ∙ ap (λ b. cond b None (value_at eq pairs q)) apart
 
-    pub value_at-to_back_apart : (v : V) → value_at eq (to_back eq pairs k v) q ≡ value_at eq pairs q
-    value_at-to_back_apart v = value_at-to_back pairs k v q ∙ ap (λ b. cond b (Some v) (value_at eq pairs q)) apart
+  module _ (pairs : List (K × V)) (k q : K) (v : V) (apart : eq k q ≡ false) where
+    pub value_at-to_back_apart : value_at eq (to_back eq pairs k v) q ≡ value_at eq pairs q
+    value_at-to_back_apart = value_at-to_back pairs k q v ∙ ap (λ b. cond b (Some v) (value_at eq pairs q)) apart
 
-    pub value_at-set_or_push_apart : (v : V) → value_at eq (set_or_push eq pairs k v) q ≡ value_at eq pairs q
-    value_at-set_or_push_apart v = value_at-set_or_push pairs k v q ∙ ap (λ b. cond b (Some v) (value_at eq pairs q)) apart
+    pub value_at-set_or_push_apart : value_at eq (set_or_push eq pairs k v) q ≡ value_at eq pairs q
+    value_at-set_or_push_apart = value_at-set_or_push pairs k q v ∙ ap (λ b. cond b (Some v) (value_at eq pairs q)) apart
 
-    pub find-set_or_push_apart : (v : V) → find eq (set_or_push eq pairs k v) q ≡ find eq pairs q
-    find-set_or_push_apart v = find-set_or_push pairs k v q ∙ ap (λ b. cond b (Some (key_or k (find eq pairs k), v)) (find eq pairs q)) apart
+    pub find-set_or_push_apart : find eq (set_or_push eq pairs k v) q ≡ find eq pairs q
+    find-set_or_push_apart = find-set_or_push pairs k q v ∙ ap (λ b. cond b (Some (key_or k (find eq pairs k), v)) (find eq pairs q)) apart
 
-    pub value_at-put_apart : (mode : Mode) (v : V) → value_at eq (put eq mode pairs k v) q ≡ value_at eq pairs q
-    value_at-put_apart Touch v = value_at-to_back_apart v
-    value_at-put_apart Keep v = value_at-set_or_push_apart v
+  pub value_at-put_apart : (mode : Mode) (pairs : List (K × V)) (k q : K) (v : V) → eq k q ≡ false → value_at eq (put eq mode pairs k v) q ≡ value_at eq pairs q
+  value_at-put_apart Touch = value_at-to_back_apart
+  value_at-put_apart Keep = value_at-set_or_push_apart
 
   -- where the keys differ, a pop takes out what the first or the last key has, as `remove` of that key does
-  module _ (pairs : List (K × V)) (distinct : IsDistinct eq (keys_of pairs)) (pair : K × V) where
+  module _ (pairs : List (K × V)) (pair : K × V) (distinct : IsDistinct eq (keys_of pairs)) where
     pub drop-first : slice_get pairs 0 ≡ Some pair → drop 1 pairs ≡ without eq pairs pair.0
     drop-first there = remove-first pairs ∙ sym (without-own laws pairs distinct 0 pair there)
 

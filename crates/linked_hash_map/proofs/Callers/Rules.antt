@@ -16,15 +16,15 @@ use Rattle.linked_hash_map.proofs.Callers.Visits.{VisitKeeps-passed, VisitKeeps-
 
 -- a key that is absent is absent among the others, once the first pairs went
 pub value_at-drop_absent : {K V : Type 0} (eq : K → K → Bool) (n : ℕ) (pairs : List (K × V)) (k : K) → is_some (find eq pairs k) ≡ false → value_at eq (drop n pairs) k ≡ None
-value_at-drop_absent eq n pairs k absent = value_at-none eq (drop n pairs) k (find-drop eq pairs k (find-absent eq pairs k absent) n)
+value_at-drop_absent eq n pairs k absent = value_at-none eq (drop n pairs) k (find-drop eq n pairs k (find-absent eq pairs k absent))
 
 pub value_at-drop_none : {K V : Type 0} (eq : K → K → Bool) (n : ℕ) (pairs : List (K × V)) (k : K) → find eq pairs k ≡ None → value_at eq (drop n pairs) k ≡ None
-value_at-drop_none eq n pairs k none = value_at-none eq (drop n pairs) k (find-drop eq pairs k none n)
+value_at-drop_none eq n pairs k none = value_at-none eq (drop n pairs) k (find-drop eq n pairs k none)
 
 -- at numbers
 module _ {V : Type 0} (mode : Mode) (pairs : List (ℕ × V)) (k : ℕ) (v : V) where
   pub keys_of-put_number : mode ≡ Touch → (put nat_eq mode pairs k v ≡ put nat_eq mode pairs k v) × (keys_of (put nat_eq mode pairs k v) ≡ filter (λ j. not (nat_eq k j)) (keys_of pairs) ++ k ∷ [])
-  keys_of-put_number touch = (refl, ap (λ m. keys_of (put nat_eq m pairs k v)) touch ∙ keys_of-to_back_own nat_eq nat_eq_equiv pairs k eqb-true v)
+  keys_of-put_number touch = (refl, ap (λ m. keys_of (put nat_eq m pairs k v)) touch ∙ keys_of-to_back_own nat_eq_equiv pairs k v eqb-true)
 
   pub length-put_number : (put nat_eq mode pairs k v ≡ put nat_eq mode pairs k v) × (length (put nat_eq mode pairs k v) ≤ length pairs + 1)
   length-put_number = (refl, length-put_most nat_eq mode pairs k v)

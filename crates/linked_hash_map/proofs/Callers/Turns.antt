@@ -1,10 +1,11 @@
 -- For callers: the first pair taken out and put back behind the others, and turns of this kind one after another.
-use Rattle.std.proofs.Common.{◌≡◌, ℕ, ◌+◌, ◌<◌, Bool, true, false, cond, List, [], ◌∷◌, ◌++◌, length, take, drop, map, get_or, append_assoc, subst, Option, Some, None, is_some, true≢false, refl, sym, ap, ap₂, ◌∙◌}
-use Rattle.std.specs.Option.{option_or}
+use Rattle.std.proofs.Common.{◌≡◌, ℕ, zero, suc, ◌+◌, ◌<◌, Bool, true, false, cond, List, [], ◌∷◌, ◌++◌, length, take, drop, map, get_or, append_assoc, subst, Option, Some, None, is_some, true≢false, refl, sym, ap, ap₂, ◌∙◌}
+use Rattle.std.specs.Option.{option_or, IsSome}
 use Rattle.std.specs.List.{IsDistinct}
 use Rattle.std.specs.Map.{keys_of}
 use Rattle.std.specs.Cmp.{IsEquivalence}
 use Rattle.std.proofs.lemmas.List.{drop_more, take_more, map-append}
+use Rattle.std.proofs.lemmas.Map.Keys.{IsDistinct-tail}
 use Rattle.linked_hash_map.specs.Pairs.{find, put, first, without_first}
 use Rattle.linked_hash_map.specs.declared.map.Mode.{Mode}
 use Rattle.linked_hash_map.proofs.Callers.Lookups.{lookup_entry-append, find-same, find-without_here, drop-first}
@@ -20,19 +21,29 @@ cons-keys_of_first pairs pair there = ap keys_of (cons-without_first pairs pair 
 
 module _ {K V : Type 0} {eq : K → K → Bool} (laws : IsEquivalence eq) where
   -- where the keys differ, that of the first pair is not among the others
-  pub find-others : (pair : K × V) (others : List (K × V)) → IsDistinct eq (keys_of (pair ∷ others)) → (q : K) → eq q pair.0 ≡ true → find eq others q ≡ None
-  find-others pair others distinct q same =
+  pub find-others : (others : List (K × V)) (pair : K × V) (q : K) → IsDistinct eq (keys_of (pair ∷ others)) → eq q pair.0 ≡ true → find eq others q ≡ None
+  find-others others pair q distinct same =
       find-same laws others q pair.0 same
-      ∙ ap (λ ps. find eq ps pair.0) (drop-first laws (pair ∷ others) distinct pair refl)
+      ∙ ap (λ ps. find eq ps pair.0) (drop-first laws (pair ∷ others) pair distinct refl)
       ∙ find-without_here laws (pair ∷ others) pair.0
 
   pub find-without_first : (pairs : List (K × V)) (pair : K × V) → IsDistinct eq (keys_of pairs) → first pairs ≡ Some pair → find eq (without_first pairs) pair.0 ≡ None
   find-without_first pairs pair distinct there =
-      ap (λ ps. find eq ps pair.0) (drop-first laws pairs distinct pair there) ∙ find-without_here laws pairs pair.0
+      ap (λ ps. find eq ps pair.0) (drop-first laws pairs pair distinct there) ∙ find-without_here laws pairs pair.0
+
+  -- and a key that is found among the last pairs has there the pair that it has among all
+  pub find-drop_present : (n : ℕ) (pairs : List (K × V)) (q : K) → IsDistinct eq (keys_of pairs) → IsSome (find eq (drop n pairs) q) → find eq (drop n pairs) q ≡ find eq pairs q
+  find-drop_present zero pairs q distinct found = refl
+  find-drop_present (suc n) [] q distinct found = refl
+  find-drop_present (suc n) (pair ∷ pairs) q distinct found = by_test (eq q pair.0) refl (find-drop_present n pairs q (IsDistinct-tail eq pair.0 (keys_of pairs) distinct) found)
+    where
+      by_test : (b : Bool) → eq q pair.0 ≡ b → find eq (drop n pairs) q ≡ find eq pairs q → find eq (drop n pairs) q ≡ cond b (Some pair) (find eq pairs q)
+      by_test true same rest = absurd (true≢false (sym found ∙ ap is_some (rest ∙ find-others pairs pair q distinct same)))
+      by_test false apart rest = rest
 
   -- so the first pair that is put back goes behind the others, in either mode
   pub put-without_first : (mode : Mode) (pairs : List (K × V)) (pair : K × V) (v : V) → IsDistinct eq (keys_of pairs) → first pairs ≡ Some pair → put eq mode (without_first pairs) pair.0 v ≡ without_first pairs ++ (pair.0, v) ∷ []
-  put-without_first mode pairs pair v distinct there = put-absent eq (without_first pairs) pair.0 mode v (find-without_first pairs pair distinct there)
+  put-without_first mode pairs pair v distinct there = put-absent eq mode (without_first pairs) pair.0 v (find-without_first pairs pair distinct there)
 
 -- after some turns of a renaming the first of the old pairs stand behind the others, the one of `from` with `to` as its key; and
 -- while the pair of `from` is there, `to` is free
@@ -53,22 +64,22 @@ module _ {K V : Type 0} {eq : K → K → Bool} (laws : IsEquivalence eq) (from 
 
       at_new : (b : Bool) → eq from to ≡ b → eq from pair.0 ≡ true → find eq (pair ∷ rest) to ≡ None → is_some (option_or (find eq rest from) (cond b (Some (to, pair.1)) None)) ≡ true → ⊥
       at_new true alike same none found = true≢false (sym same ∙ laws.congr from to pair.0 alike ∙ other (eq to pair.0) refl none)
-      at_new false apart same none found = true≢false (sym found ∙ ap (λ o. is_some (option_or o None)) (find-others laws pair rest distinct from same))
+      at_new false apart same none found = true≢false (sym found ∙ ap (λ o. is_some (option_or o None)) (find-others laws rest pair from distinct same))
 
       by_test : (b : Bool) → eq from pair.0 ≡ b → (is_some (cond b (Some pair) (find eq rest from)) ≡ true → find eq (pair ∷ rest) to ≡ None)
           → (find eq rest (cond b to pair.0) ≡ None)
           × (is_some (find eq (rest ++ (cond b to pair.0, pair.1) ∷ []) from) ≡ true → find eq (rest ++ (cond b to pair.0, pair.1) ∷ []) to ≡ None)
       by_test true same free =
           let none = free refl in (
-            find-drop eq (pair ∷ rest) to none 1,
+            find-drop eq 1 (pair ∷ rest) to none,
             λ found. absurd (at_new (eq from to) refl same none (sym (ap is_some (lookup_entry-append (eq from) rest ((to, pair.1) ∷ []))) ∙ found)),
           )
       by_test false apart free = (
-        find-others laws pair rest distinct pair.0 (laws.refl pair.0),
+        find-others laws rest pair pair.0 distinct (laws.refl pair.0),
         λ found.
             let none = free (here found) in
             lookup_entry-append (eq to) rest (pair ∷ [])
-            ∙ ap₂ (λ o b. option_or o (cond b (Some pair) None)) (find-drop eq (pair ∷ rest) to none 1) (other (eq to pair.0) refl none),
+            ∙ ap₂ (λ o b. option_or o (cond b (Some pair) None)) (find-drop eq 1 (pair ∷ rest) to none) (other (eq to pair.0) refl none),
       )
         where
           or_none : (o : Option (K × V)) → option_or o None ≡ o
@@ -123,7 +134,8 @@ module _ {K V : Type 0} {eq : K → K → Bool} (laws : IsEquivalence eq) (from 
               free = subst (λ ps. is_some (find eq ps from) ≡ true → find eq ps to ≡ None) (sym done) turned.1;
             }
 
-    -- one turn: the first pair goes behind the others, under the new name if it has the old one
-    pub IsRenaming-turn : {rest after : List (K × V)} {name : K} (mode : Mode) → turns < length old → rest ≡ without_first now → name ≡ cond (eq from pair.0) to pair.0 → after ≡ put eq mode rest name pair.1 → IsRenaming eq from to old after (turns + 1)
-    IsRenaming-turn {rest} {after} {name} mode within popped named inserted =
-        IsRenaming-pushed after within (inserted ∙ (λ i. put eq mode (popped i) (named i) pair.1) ∙ put-absent eq (without_first now) (cond (eq from pair.0) to pair.0) mode pair.1 find-renamed)
+-- one turn: the first pair goes behind the others, under the new name if it has the old one
+module _ {K V : Type 0} {eq : K → K → Bool} (laws : IsEquivalence eq) (mode : Mode) where
+  pub IsRenaming-turn : (old now : List (K × V)) {rest after : List (K × V)} (from to : K) {name : K} (turns : ℕ) (pair : K × V) → IsRenaming eq from to old now turns → IsDistinct eq (keys_of now) → first now ≡ Some pair → turns < length old → rest ≡ without_first now → name ≡ cond (eq from pair.0) to pair.0 → after ≡ put eq mode rest name pair.1 → IsRenaming eq from to old after (turns + 1)
+  IsRenaming-turn old now {rest} {after} from to {name} turns pair w distinct there within popped named inserted =
+      IsRenaming-pushed laws from to old now turns pair w distinct there after within (inserted ∙ (λ i. put eq mode (popped i) (named i) pair.1) ∙ put-absent eq mode (without_first now) (cond (eq from pair.0) to pair.0) pair.1 (find-renamed laws from to old now turns pair w distinct there))

@@ -15,7 +15,7 @@ max-length_put {K} {V} {eq} laws mode pairs k v capacity distinct within room = 
   where
     by_pair : (o : Option (K × V)) → find eq pairs k ≡ o → max capacity (length (put eq mode pairs k v)) ≡ capacity
     by_pair None absent = let longer = length-put_absent eq mode pairs k v absent in let below = room absent in omega arith
-    by_pair (Some pair) found = let same = length-put_present laws pairs k distinct (ap is_some found) mode v in omega arith
+    by_pair (Some pair) found = let same = length-put_present laws mode pairs k v distinct (ap is_some found) in omega arith
 
 module _ {K V : Type 0} {eq : K → K → Bool} (laws : IsEquivalence eq) (before after : List (K × V)) (k : K) where
   pub Updates-without : after ≡ without eq before k → Updates eq before after k None
@@ -24,23 +24,22 @@ module _ {K V : Type 0} {eq : K → K → Bool} (laws : IsEquivalence eq) (befor
     others = λ q apart. ap (λ pairs. value_at eq pairs q) is ∙ value_at-without_apart laws before k q apart;
   }
 
-  module _ (v : V) where
-    pub Updates-put : (mode : Mode) → after ≡ put eq mode before k v → Updates eq before after k (Some v)
-    Updates-put mode is = record {
-      here = ap (λ pairs. value_at eq pairs k) is ∙ value_at-put_here laws before k mode v;
-      others = λ q apart. ap (λ pairs. value_at eq pairs q) is ∙ value_at-put_apart laws before k q apart mode v;
-    }
+  pub Updates-set_or_push : (v : V) → after ≡ set_or_push eq before k v → Updates eq before after k (Some v)
+  Updates-set_or_push v is = record {
+    here = ap (λ pairs. value_at eq pairs k) is ∙ value_at-set_or_push_here laws before k v;
+    others = λ q apart. ap (λ pairs. value_at eq pairs q) is ∙ value_at-set_or_push_apart laws before k q v apart;
+  }
 
-    pub Updates-set_or_push : after ≡ set_or_push eq before k v → Updates eq before after k (Some v)
-    Updates-set_or_push is = record {
-      here = ap (λ pairs. value_at eq pairs k) is ∙ value_at-set_or_push_here laws before k v;
-      others = λ q apart. ap (λ pairs. value_at eq pairs q) is ∙ value_at-set_or_push_apart laws before k q apart v;
-    }
+pub Updates-put : {K V : Type 0} {eq : K → K → Bool} → IsEquivalence eq → (mode : Mode) (before after : List (K × V)) (k : K) (v : V) → after ≡ put eq mode before k v → Updates eq before after k (Some v)
+Updates-put {eq = eq} laws mode before after k v is = record {
+  here = ap (λ pairs. value_at eq pairs k) is ∙ value_at-put_here laws mode before k v;
+  others = λ q apart. ap (λ pairs. value_at eq pairs q) is ∙ value_at-put_apart laws mode before k q v apart;
+}
 
 -- a pop takes out the key of the first pair, or of the last
-module _ {K V : Type 0} {eq : K → K → Bool} (laws : IsEquivalence eq) (before after : List (K × V)) (distinct : IsDistinct eq (keys_of before)) (pair : K × V) where
+module _ {K V : Type 0} {eq : K → K → Bool} (laws : IsEquivalence eq) (before after : List (K × V)) (pair : K × V) (distinct : IsDistinct eq (keys_of before)) where
   pub Updates-drop_first : slice_get before 0 ≡ Some pair → after ≡ drop 1 before → Updates eq before after pair.0 None
-  Updates-drop_first there is = Updates-without laws before after pair.0 (is ∙ drop-first laws before distinct pair there)
+  Updates-drop_first there is = Updates-without laws before after pair.0 (is ∙ drop-first laws before pair distinct there)
 
   pub Updates-take_but_last : slice_get before (length before - 1) ≡ Some pair → after ≡ take (length before - 1) before → Updates eq before after pair.0 None
-  Updates-take_but_last there is = Updates-without laws before after pair.0 (is ∙ take-but_last laws before distinct pair there)
+  Updates-take_but_last there is = Updates-without laws before after pair.0 (is ∙ take-but_last laws before pair distinct there)

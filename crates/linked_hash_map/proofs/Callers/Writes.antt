@@ -21,12 +21,12 @@ modified change (Some v) None called leaves = absurd called
 modified change (Some v) (Some w) called leaves = ap Some (leaves v w called)
 
 -- a value that is written as it was changes nothing
-module _ {K V : Type 0} {eq : K → K → Bool} (laws : IsEquivalence eq) (pairs : List (K × V)) (distinct : IsDistinct eq (keys_of pairs)) (k : K) where
-  pub set_value-own : (v : V) → value_at eq pairs k ≡ Some v → set_value eq pairs k v ≡ pairs
-  set_value-own v own = at.set_value-own laws k pairs v distinct own
+module _ {K V : Type 0} {eq : K → K → Bool} (laws : IsEquivalence eq) (pairs : List (K × V)) (k : K) (v : V) (distinct : IsDistinct eq (keys_of pairs)) where
+  pub set_value-own : value_at eq pairs k ≡ Some v → set_value eq pairs k v ≡ pairs
+  set_value-own own = at.set_value-own laws k pairs v distinct own
 
-  pub set_or_push-own : (v : V) → value_at eq pairs k ≡ Some v → set_or_push eq pairs k v ≡ pairs
-  set_or_push-own v own = set_or_push-present eq pairs k v (IsSome-find eq pairs k v own) ∙ set_value-own v own
+  pub set_or_push-own : value_at eq pairs k ≡ Some v → set_or_push eq pairs k v ≡ pairs
+  set_or_push-own own = set_or_push-present eq pairs k v (IsSome-find eq pairs k v own) ∙ set_value-own own
 
 module _ {K V : Type 0} (eq : K → K → Bool) where
   -- with another value for a key, the same keys are still to be visited

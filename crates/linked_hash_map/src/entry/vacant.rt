@@ -1,7 +1,8 @@
 //! The methods of `VacantEntry`.
-ghost use Rattle.std.specs.Prelude.{◌≡◌, ◌<◌, length, None, IfOk, IfErr, OnOk, OnErr};
+ghost use Rattle.std.specs.Prelude.{◌≡◌, ◌<◌, [], ◌∷◌, ◌++◌, length, Some, None, IfOk, IfErr, OnOk, OnErr};
 ghost use Rattle.std.specs.Borrow.{sem};
 ghost use Rattle.linked_hash_map.specs.Pairs.{find};
+ghost use Rattle.linked_hash_map.specs.Updates.{Updates};
 ghost use Rattle.linked_hash_map.specs.Validity.{IsValid};
 ghost use Rattle.linked_hash_map.specs.Entry.{vacant_map, vacant_key, lends_pushed};
 
@@ -56,6 +57,10 @@ impl<'a, K: Eq + Hash, V, S: BuildHasher> VacantEntry<'a, K, V, S> {
         ensures absent { OnErr result (find K.eq (vacant_map self.entry).pairs (vacant_key self.entry) ≡ None) }
         ensures full { OnErr result (length (vacant_map self.entry).pairs ≡ (vacant_map self.entry).capacity) }
         ensures valid { IsValid K.eq (vacant_map self.entry) }
+
+        // A law of the map once a value is written, for the proofs of callers.
+        ensures updates { (v : V) → OnOk result (Updates K.eq (vacant_map self.entry).pairs
+            ((vacant_map self.entry).pairs ++ (vacant_key self.entry, v) ∷ []) (vacant_key self.entry) (Some v)) }
     {
         let VacantEntry { map, key, hash } = self;
         if !map.make_room() {

@@ -39,4 +39,4 @@ returns-clause-stays_valid g c = IsValid-current nowhere c.insert_current.ensure
 pub returns-clause-updates : goal.returns-clause-updates
 returns-clause-updates g c =
     let o = c.args.self.now in
-    Updates-put g.met.K.Eq.laws (occupied_map o).pairs c.insert_current.new.self.pairs (occupied_key o) c.args.value (occupied_map o).mode (returns-clause-pairs g c)
+    Updates-put g.met.K.Eq.laws (occupied_map o).mode (occupied_map o).pairs c.insert_current.new.self.pairs (occupied_key o) c.args.value (returns-clause-pairs g c)

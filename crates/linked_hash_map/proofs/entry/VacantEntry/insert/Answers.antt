@@ -1,5 +1,7 @@
 use Rattle.std.proofs.Common.{◌≡◌, ◌-◌, ◌∷◌, [], ◌++◌, length, length-append, inl, sym, ap, ◌∙◌, option_map, arith}
 use Rattle.linked_hash_map.specs.Counts.{rechained_raised}
+use Rattle.linked_hash_map.proofs.Callers.Keys.{set_or_push-absent}
+use Rattle.linked_hash_map.proofs.Callers.Updates.{Updates-set_or_push}
 use Rattle.linked_hash_map.proofs.Indexes.{set_value_at-pushed, slice_get-pushed}
 use Rattle.linked_hash_map.proofs.EntryFacts.{some_injective}
 use Rattle.linked_hash_map.proofs.entry.VacantEntry.insert.Goals as goal
@@ -37,5 +39,6 @@ returns g c =
         absent = tt;
         full = tt;
         valid = room.ensures.valid;
+        updates = λ v. Updates-set_or_push g.met.K.Eq.laws _ _ _ v (sym (set_or_push-absent g.K.PartialEq.eq m.pairs key v c.args.self.absent));
       },
     )

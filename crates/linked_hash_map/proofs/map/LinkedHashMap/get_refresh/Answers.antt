@@ -37,7 +37,7 @@ returns-in-Some g c =
         writes_back = tt;
         value = value_at-touched c.self.inside.table.held c.move_to_back.new.self.held (pointer_of c.in-Some.at) (key_lies has) g.met.K.Eq.laws (key_index has) distinct Touch (moved.last, moved.apart) c.value_mut.ensures.value;
         valid = IsValid-view c.self.invariant refl refl;
-        updates = λ v. Updates-put g.met.K.Eq.laws _ _ _ v Touch refl;
+        updates = λ v. Updates-put g.met.K.Eq.laws Touch _ _ _ v refl;
       },
     )
 
@@ -53,6 +53,6 @@ returns-in-None g c =
             c.args.key.now c.hash_one-hash.result c.hash_one-hash.ensures m.table.held c.self.invariant.nodes.hashed
             (of-None (IsAbsent g.K.PartialEq.eq c.hash_one-hash.result c.args.key.now m.table.held) c.position.result c.in-None.is c.position.ensures.absent)));
         valid = IsValid-view c.self.invariant refl refl;
-        updates = λ v. Updates-put g.met.K.Eq.laws _ _ _ v Touch refl;
+        updates = λ v. Updates-put g.met.K.Eq.laws Touch _ _ _ v refl;
       },
     )

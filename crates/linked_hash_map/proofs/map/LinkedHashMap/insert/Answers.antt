@@ -20,7 +20,7 @@ returns-clause-to_visit g c =
     ∙ ap to_visit c.in-Err.ensures.unchanged
 
 pub returns-in-Ok-clause-updates : goal.returns-in-Ok-clause-updates
-returns-in-Ok-clause-updates g c = Updates-put g.met.K.Eq.laws c.args.self.now.pairs c.insert_present.new.self.pairs c.args.key c.args.value c.args.self.now.mode c.in-Ok.ensures.pairs
+returns-in-Ok-clause-updates g c = Updates-put g.met.K.Eq.laws c.args.self.now.mode c.args.self.now.pairs c.insert_present.new.self.pairs c.args.key c.args.value c.in-Ok.ensures.pairs
 
 pub returns-clause-updates : goal.returns-clause-updates
-returns-clause-updates g c = Updates-put g.met.K.Eq.laws c.args.self.now.pairs c.push_back.new.self.pairs c.args.key c.args.value c.args.self.now.mode (returns-clause-pairs g c)
+returns-clause-updates g c = Updates-put g.met.K.Eq.laws c.args.self.now.mode c.args.self.now.pairs c.push_back.new.self.pairs c.args.key c.args.value (returns-clause-pairs g c)

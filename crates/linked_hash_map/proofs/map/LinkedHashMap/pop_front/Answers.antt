@@ -40,7 +40,7 @@ pub returns-clause-stays_valid : goal.returns-clause-stays_valid
 returns-clause-stays_valid g c = IsValid-view (invariant_of-self g c) refl refl
 
 pub returns-clause-updates : goal.returns-clause-updates
-returns-clause-updates g c = Updates-drop_first g.met.K.Eq.laws c.args.self.now.pairs (pairs_of c.remove_at.new.self.held) (returns-clause-valid g c).distinct c.remove_at.result (sym (returns-clause-pair g c)) (returns-clause-pairs g c)
+returns-clause-updates g c = Updates-drop_first g.met.K.Eq.laws c.args.self.now.pairs (pairs_of c.remove_at.new.self.held) c.remove_at.result (returns-clause-valid g c).distinct (sym (returns-clause-pair g c)) (returns-clause-pairs g c)
 
 pub returns-clause-gone : goal.returns-clause-gone
 returns-clause-gone g c = find-none g.K.PartialEq.eq (pairs_of c.remove_at.new.self.held) c.remove_at.result.0 (returns-clause-updates g c).here

@@ -6,7 +6,7 @@ use Rattle.linked_hash_map.specs.SessionsKept.{sessions_of}
 use Rattle.linked_hash_map.proofs.Callers.Lookups.{last-append}
 use Rattle.linked_hash_map.proofs.SessionLists.{total_weight-fit, IsLongestEnd-fit}
 use Rattle.linked_hash_map.proofs.SessionPairs.{IsValidTable-kept, total_weight-others}
-use Rattle.linked_hash_map.proofs.SessionPuts.{fit-with_last, payload_of-put, total_weight-put, length-gone, none-leaves, drop-with_last, length-with_last, is_some-weight}
+use Rattle.linked_hash_map.proofs.SessionPuts.{fit-with_last, payload_of-put, payload_of-stays, total_weight-put, length-gone, none-leaves, drop-with_last, length-with_last, is_some-weight}
 use Rattle.linked_hash_map.proofs.sessions.Sessions.put.Goals as goal
 
 pub returns-then-weight-self-clause-valid : goal.returns-then-weight-self-clause-valid
@@ -104,6 +104,13 @@ returns-clause-payload g c =
     let now = rw c.make_room.ensures.pairs at c.store-old.ensures.sessions in
     ap (λ l. payload_of l c.args.id) (now ∙ drop-with_last (sessions_of ps) leaving.result.count c.args.id c.args.weight c.args.payload leaving.ensures.within)
     ∙ payload_of-put ps leaving.result.count c.args.id c.args.weight c.args.payload
+
+pub returns-clause-others : goal.returns-clause-others
+returns-clause-others g c other apart =
+    let leaving = c.find_leaving-leaving in
+    let ps = c.self.inside.map.pairs in
+    let now = rw c.make_room.ensures.pairs at c.store-old.ensures.sessions in
+    rw (← c.self.view_is) (rw now (payload_of-stays ps leaving.result.count c.args.id other c.args.weight c.args.payload c.self.invariant.valid.distinct apart))
 
 pub returns-clause-gone : goal.returns-clause-gone
 returns-clause-gone g c =
