@@ -96,7 +96,7 @@ module _ {T : Type 0} where
       let qs = pairs.to_back nat_eq ps id weighted in
       let as_pairs : drop count (with_last (sessions_of ps) id weight payload) ≡ sessions_of (drop count qs) = ap (drop count) (sym (sessions_of-to_back ps id weighted)) ∙ sym (sessions_of-drop count qs) in
       let found : IsSome (pairs.find nat_eq (drop count qs) other) =
-          sym (is_some-session_of (drop count qs) other) ∙ sym (some_payload (session_of (sessions_of (drop count qs)) other)) ∙ ap (λ l. is_some (payload_of l other)) (sym as_pairs) ∙ stays in
+      sym (is_some-session_of (drop count qs) other) ∙ sym (some_payload (session_of (sessions_of (drop count qs)) other)) ∙ ap (λ l. is_some (payload_of l other)) (sym as_pairs) ∙ stays in
       ap (λ l. payload_of l other) as_pairs
       ∙ payload_of-sessions_of (drop count qs) other
       ∙ ap (option_map (λ (w : Weighted T). w.payload)) (ap (option_map (λ (pair : ℕ × Weighted T). pair.1)) (find-drop_present nat_eq_equiv count qs other (distinct-to_back nat_eq_equiv ps id weighted distinct) found) ∙ value_at-to_back_apart nat_eq_equiv ps id other weighted apart)

@@ -61,7 +61,6 @@ impl<K: Eq + Hash, V> Cache<K, V> {
     }
 
     /// Takes out the pair used least recently and returns it, if the cache is full and does not have the key.
-    #[tactic(auto, using(linked_hash_map::proofs::Callers::Rules::any_keys))]
     fn make_place(&mut self, key: &K) -> Option<(K, V)>
         requires room { 0 < self.old.map.capacity }
         ensures evicts { is_some result ≡ not (is_some (find K.eq self.old.map.pairs key.now)) && (length self.old.map.pairs == self.old.map.capacity) }

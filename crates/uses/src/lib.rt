@@ -9,6 +9,7 @@ pub mod hasher;
 pub mod interner;
 pub mod loops;
 pub mod memory;
+pub mod numbered;
 pub mod pages;
 pub mod queue;
 pub mod refusal;

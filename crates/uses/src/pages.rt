@@ -1,5 +1,5 @@
 //! A cache of pages, over a table of sessions, which together have at most a limit of bytes.
-ghost use Rattle.std.specs.Prelude.{◌≡◌, ◌≤◌, [], Some, length, string_bytes, IfErr, OnOk, OnErr};
+ghost use Rattle.std.specs.Prelude.{◌≡◌, ◌==◌, ◌≤◌, ℕ, [], Some, IsSome, false, length, string_bytes, IfErr, OnOk, OnErr};
 ghost use Rattle.linked_hash_map.specs.SessionTables.{payload_of, without, with_last, total_weight, IsEnd};
 
 use linked_hash_map::sessions::{PutRefused, Sessions};
@@ -23,9 +23,12 @@ impl Pages {
     }
 
     /// Puts a page in as the one used last, in place of the one with its number. Pages that were used least recently leave for
-    /// it, as few as it takes. A page above the limit is handed back, and so is one that found no memory.
+    /// it, as few as it takes, and those that stay keep their texts. A page above the limit is handed
+    /// back, and so is one that found no memory.
     pub fn put(&mut self, number: u64, text: String) -> Result<(), PutRefused<String>>
         ensures stays { OnOk result (payload_of self.new.table.sessions number ≡ Some text) }
+        ensures others { (other : ℕ) → OnOk result (number == other ≡ false → IsSome (payload_of self.new.table.sessions other)
+            → payload_of self.new.table.sessions other ≡ payload_of self.old.table.sessions other) }
         ensures within { total_weight self.new.table.sessions ≤ self.new.table.limit }
         ensures oldest { OnOk result (IsEnd (with_last self.old.table.sessions number (length (string_bytes text)) text) self.new.table.sessions) }
         ensures all { OnOk result (total_weight (with_last self.old.table.sessions number (length (string_bytes text)) text) ≤ self.old.table.limit

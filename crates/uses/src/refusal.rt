@@ -8,7 +8,6 @@ use std::hash::{BuildHasher, Hash};
 
 /// Inserts a pair, at the back if its key is new. If it is refused, the front pair is removed for it
 /// and returned: this never fails.
-#[tactic(auto, using(linked_hash_map::proofs::Callers::Rules::any_keys))]
 pub fn insert_anyway<K: Eq + Hash + Drop, V: Drop, S: BuildHasher>(
     map: &mut LinkedHashMap<K, V, S>,
     key: K,

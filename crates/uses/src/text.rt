@@ -12,7 +12,6 @@ pub fn age_of(ages: &LinkedHashMap<String, u64>, name: &String) -> Option<u64>
 }
 
 /// Notes the age of a person. Where there is no memory for a new name, it is handed back.
-#[tactic(auto, using(linked_hash_map::proofs::Callers::Rules::string_keys))]
 pub fn note_age(
     ages: &mut LinkedHashMap<String, u64>,
     name: String,

@@ -50,14 +50,14 @@ module _ {K : Type 0} {eq : K → K → Bool} (laws : IsEquivalence eq) (pairs :
       ∙ ap (λ seen. seen_with seen item) before
       ∙ sym (fold_more seen_with [] items i d within)
 
--- a step of the loop, as the clauses of `entry` and of `or_insert` say it: the entry's key stands for the item k
+-- a step of the loop, as the clauses of `entry` and of `or_insert` say it: the entry's key stands for the item k, whose count is n
 module _ {K : Type 0} {eq : K → K → Bool} (laws : IsEquivalence eq) (before after : List (K × ℕ)) (items : List K) (i : ℕ) (stored k : K) (n : ℕ)
     (within : i < length items) (item_is : k ≡ get_or items i k) (acts : ActsAs eq before stored k) (written : after ≡ set_or_push eq before stored n) where
   own : after ≡ set_or_push eq before (get_or items i k) n
   own = written ∙ acts.sets_or_pushes n ∙ ap (λ j. set_or_push eq before j n) item_is
 
-  pub count_by-counted : n ≡ unwrap_or (value_at eq before k) 0 + 1 → ((q : K) → unwrap_or (value_at eq before q) 0 ≡ count_by (eq q) (take i items)) → (q : K) → unwrap_or (value_at eq after q) 0 ≡ count_by (eq q) (take (i + 1) items)
-  count_by-counted more so_far q =
+  pub count_by-counted : ((q : K) → unwrap_or (value_at eq before q) 0 ≡ count_by (eq q) (take i items)) → n ≡ unwrap_or (value_at eq before k) 0 + 1 → (q : K) → unwrap_or (value_at eq after q) 0 ≡ count_by (eq q) (take (i + 1) items)
+  count_by-counted so_far more q =
       ap (λ pairs. unwrap_or (value_at eq pairs q) 0) own
       ∙ count_by-set_or_push laws before items i k n within so_far (more ∙ ap (λ j. unwrap_or (value_at eq before j) 0 + 1) item_is) q
 

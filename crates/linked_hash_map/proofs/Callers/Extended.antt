@@ -114,20 +114,20 @@ module _ {T Z K V : Type 0} {becomes : T → _ → Type 0} {source : T} {eq : K 
   pub pairs-InsertsAll_vec : {mode : Mode} {old new : List (K × V)} → InsertsAll becomes into_iter_steps source eq (λ pair. pair) mode old new → new ≡ insert_each eq mode old (vec_items vec)
   pairs-InsertsAll_vec inserts = pairs-InsertsAll inserts (yields becomes source vec is)
 
-  module _ {pairs : List (K × V)} {capacity rechained : ℕ} (collects : Collects becomes into_iter_steps source (λ it. at_most (into_iter_len it)) eq pairs capacity rechained) where
-    pub pairs-Collects_vec : pairs ≡ insert_each eq Touch [] (vec_items vec)
-    pairs-Collects_vec = pairs-InsertsAll_vec (InsertsAll-Collects collects)
+  pub pairs-Collects_vec : {pairs : List (K × V)} {capacity rechained : ℕ} → Collects becomes into_iter_steps source (λ it. at_most (into_iter_len it)) eq pairs capacity rechained → pairs ≡ insert_each eq Touch [] (vec_items vec)
+  pairs-Collects_vec collects = pairs-InsertsAll_vec (InsertsAll-Collects collects)
 
-    -- if the keys of its items differ, the pairs are the items, the capacity is their number, and it
-    -- rehashed what growing to that number does, from room for no more
-    module _ (laws : IsEquivalence eq) (distinct : IsDistinct eq (keys_of (vec_items vec))) where
-      pub pairs-Collects_distinct_vec : pairs ≡ vec_items vec
-      pairs-Collects_distinct_vec = pairs-Collects_vec ∙ insert_each-distinct laws Touch (vec_items vec) distinct
-
-      pub capacity-Collects_distinct_vec : capacity ≡ length (vec_items vec)
-      capacity-Collects_distinct_vec = capacity-Collects_distinct laws collects distinct (yields becomes source vec is) (GivesAtMost-vec becomes source vec is)
-
-      pub rechained-Collects_distinct_vec : (lower : ℕ) × (lower ≤ length (vec_items vec)) × (rechained ≡ rechained_each 0 lower (length (vec_items vec) - lower))
-      rechained-Collects_distinct_vec =
-          let counted = rechained-Collects collects (length (vec_items vec)) (GivesAtMost-vec becomes source vec is) in
-          (counted.0, counted.1, counted.2 ∙ ap (λ room. rechained_each 0 counted.0 (room - counted.0)) capacity-Collects_distinct_vec)
+-- if the keys of its items differ, the pairs are the items, the capacity is their number, and it rehashed what growing to that
+-- number does, from room for no more
+pub Collects_distinct_vec : {T Z K V : Type 0} {becomes : T → _ → Type 0} {source : T} {eq : K → K → Bool} → IsEquivalence eq → (vec : Vec (K × V) Z)
+    → ((it : _) → becomes source it → (into_iter_items {X = K × V} {Z = Z} it ≡ vec_items vec) × (into_iter_len it ≡ vec_len vec))
+    → {pairs : List (K × V)} {capacity rechained : ℕ} → Collects becomes into_iter_steps source (λ it. at_most (into_iter_len it)) eq pairs capacity rechained → IsDistinct eq (keys_of (vec_items vec))
+    → (pairs ≡ vec_items vec) × (capacity ≡ length (vec_items vec)) × ((lower : ℕ) × (lower ≤ length (vec_items vec)) × (rechained ≡ rechained_each 0 lower (length (vec_items vec) - lower)))
+Collects_distinct_vec {becomes = becomes} {source} laws vec is collects distinct =
+    let most = GivesAtMost-vec becomes source vec is in
+    let exact = capacity-Collects_distinct laws collects distinct (yields becomes source vec is) most in
+    let counted = rechained-Collects collects (length (vec_items vec)) most in (
+      pairs-Collects_vec vec is collects ∙ insert_each-distinct laws Touch (vec_items vec) distinct,
+      exact,
+      (counted.0, counted.1, counted.2 ∙ ap (λ room. rechained_each 0 counted.0 (room - counted.0)) exact),
+    )

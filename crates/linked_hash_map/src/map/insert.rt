@@ -1,5 +1,5 @@
 //! Insertion.
-ghost use Rattle.std.specs.Prelude.{◌≡◌, ◌<◌, [], length, max, option_map, None, OnOk, OnErr, IfOk, IfErr, IfNone, OnSome, ◌-◌, ◌+◌, ◌++◌, ◌∷◌, slice_get, Some};
+ghost use Rattle.std.specs.Prelude.{◌≡◌, ◌<◌, [], length, max, option_map, None, OnOk, OnErr, IfOk, IfErr, IfNone, OnSome, ◌-◌, ◌+◌, ◌++◌, ◌∷◌, slice_get, Some, IsSome};
 ghost use Rattle.std.specs.Borrow.{sem};
 ghost use Rattle.linked_hash_map.specs.Pairs.{find, value_at, put};
 ghost use Rattle.linked_hash_map.specs.Cursor.{to_visit};
@@ -73,6 +73,8 @@ impl<K: Eq + Hash, V, S: BuildHasher> LinkedHashMap<K, V, S> {
             → self.new.pairs ≡ self.old.pairs ++ (key, value) ∷ []) }
         ensures more { OnOk result (value_at K.eq self.old.pairs key ≡ None
             → length self.new.pairs ≡ length self.old.pairs + 1) }
+        ensures as_many { OnOk result (IsSome (value_at K.eq self.old.pairs key)
+            → length self.new.pairs ≡ length self.old.pairs) }
         ensures same_room { OnOk result ((find K.eq self.old.pairs key ≡ None
             → length self.old.pairs < self.old.capacity) → self.new.capacity ≡ self.old.capacity) }
 

@@ -1,14 +1,8 @@
-use Rattle.linked_hash_map.proofs.Callers.Extended as made
+use Rattle.linked_hash_map.proofs.Callers.Extended.{Collects_distinct_vec}
 use Rattle.uses.proofs.collecting.collect_all.Goals as goal
 
-pub returns-clause-pairs : goal.returns-clause-pairs
-returns-clause-pairs g c = made.pairs-Collects_distinct_vec c.args.list (λ it m. (m.0, m.1))
-    c.in_ok-map.ensures.all g.met.K.Eq.laws c.requires.differ
-
-pub returns-clause-capacity : goal.returns-clause-capacity
-returns-clause-capacity g c = made.capacity-Collects_distinct_vec c.args.list (λ it m. (m.0, m.1))
-    c.in_ok-map.ensures.all g.met.K.Eq.laws c.requires.differ
-
-pub returns-clause-rechained : goal.returns-clause-rechained
-returns-clause-rechained g c = made.rechained-Collects_distinct_vec c.args.list (λ it m. (m.0, m.1))
-    c.in_ok-map.ensures.all g.met.K.Eq.laws c.requires.differ
+pub returns : goal.returns
+returns g c =
+    let made = Collects_distinct_vec g.met.K.Eq.laws c.args.list (λ it m. (m.0, m.1))
+    c.in_ok-map.ensures.all c.requires.differ in
+    record { pairs = made.0; capacity = made.1; rechained = made.2 }
