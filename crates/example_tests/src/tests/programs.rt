@@ -18,6 +18,7 @@ use uses::loops::{
     oldest_key, reset, sum_by_values, sum_of, take_all, take_out_zeros, visit_by_value,
 };
 use uses::memory::{empty_out, rehashed, reserve_and_extend, reserve_and_insert};
+use uses::numbered::{Numbered, add_both};
 use uses::queue::Queue;
 use uses::refusal::{insert_anyway, insert_if_new};
 use uses::replaying::{Outcome, replay_under_two_hashers, write_refresh_remove};
@@ -43,6 +44,17 @@ fn an_interner_numbers_names_in_order(rt: HostRuntime) {
     check_eq!(rt; names.number_of("apple"), Ok(0));
     check_eq!(rt; names.name_of(1), Some(&"pear"));
     check_eq!(rt; names.name_of(2), None);
+}
+
+#[test]
+fn items_come_under_numbers(rt: HostRuntime) {
+    let mut items = Numbered::new(rt.alloc());
+    check_eq!(rt; items.add("apple"), Ok(0));
+    check_eq!(rt; add_both(&mut items, "pear", "plum"), Ok(1));
+    check_eq!(rt; items.take(2), Some("plum"));
+    check_eq!(rt; items.get(2), None);
+    check_eq!(rt; items.get(1), Some(&"pear"));
+    check_eq!(rt; items.add("quince"), Ok(3));
 }
 
 #[test]
