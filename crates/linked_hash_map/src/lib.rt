@@ -37,11 +37,37 @@
 //! Each example is the body of a function that has `rt: HostRuntime` and returns errors by `?`.
 //! Each is run.
 //!
+//! # Calls by task
+//!
+//! | Task | Calls of [`LinkedHashMap`] |
+//! |---|---|
+//! | create a map | `new`, `with_capacity`, `with_hasher`, `from_iter`, `clone` |
+//! | insert | `insert`, `extend`, `extend_refs`; `entry`, with the calls of [`Entry`] |
+//! | look up | `get`, `get_mut`, `contains_key`, `map[&key]`, `front`, `back` |
+//! | look up and move to the back | `get_refresh` |
+//! | remove | `remove`, `pop_front`, `pop_back`, `retain`, `clear`, `drain` |
+//! | iterate | `iter`, `iter_mut`, `keys`, `values`, `into_iter` |
+//! | iterate, and remove or move on the way | `entries`, `visit` with `next_entry` |
+//! | reserve memory, or give it back | `capacity`, `reserve`, `shrink_to_fit` |
+//! | keep the order at an insertion | `set_mode` |
+//! | run commands, or limit a sum of weights | [`replay::replay`], [`sessions::Sessions`] |
+//!
+//! # Costs and refusals
+//!
+//! A lookup, an insertion and a removal hash their key once. They are O(1) on average, and O(n) if
+//! all keys hash alike or if an insertion changes the number of buckets. No removal allocates or
+//! frees: `shrink_to_fit` and the end of a map free.
+//!
+//! Nothing panics. A call that allocates returns a `Result`: [`Refused`] has the pair that was not
+//! inserted, [`ReserveError`] tells too large a capacity from an allocation that failed, and
+//! [`NoRoom`] is such a failure alone. The map is then as it was, except that an extension keeps
+//! what it inserted before.
+//!
 //! # What is proved
 //!
 //! Each call is proved to do what its contract says, also if it is refused. The contract of
 //! [`replay::replay`] covers any run of commands. `docs/CALLING.md` shows how callers use contracts
-//! in proofs.
+//! in proofs, `README.md` lists each call with its cost, and `docs/PROMISES.md` what is proved.
 #![tactic(auto)]
 
 mod clone;
