@@ -9,8 +9,8 @@ use Rattle.lhm.specs.Grammar.{lines_of}
 use Rattle.lhm.specs.Commands.{AreCommandsOf}
 use Rattle.lhm.specs.Text.{reply_text, list_text}
 
--- the lines say commands, those have replies on a new map of capacity 0 and mode Touch, and the output has a line for each reply and
--- then the pairs that the log at the end defines
+-- the lines say commands, those have replies on a new map of capacity 0 and mode Touch, and the
+-- output has a line for each reply and then the pairs that the log at the end defines
 pub record IsRunOf (bytes output : List ℕ) : Type 0 where
   pub commands : List (Command ℕ ℕ)
   pub replies : List (Reply ℕ ℕ)

@@ -1,11 +1,14 @@
-//! Runs commands on a map of `u64` to `u64` that keeps insertion order, from standard input to standard output.
+//! Runs commands on a map of `u64` to `u64` that keeps insertion order, from standard input to
+//! standard output.
 //!
-//! Each line of input is blank or one command, such as `insert 2 20` or `remove 2`. The output has one line for each
-//! command, with its answer and the map's length and capacity, and a last line with all pairs in order.
+//! Each line of input is blank or one command, such as `insert 2 20` or `remove 2`. The output has
+//! one line for each command, with its answer and the map's length and capacity, and a last line
+//! with all pairs in order.
 //!
-//! The map's hasher has a fixed seed, so whoever writes the input can choose keys that collide, and a lookup is then
-//! O(n) in the number of pairs. A program for keys that strangers choose makes its map with a random seed:
-//! `LinkedHashMap::with_hasher(rt.alloc(), RandomState::new(&rt)?)`, with `std::hash::RandomState`.
+//! The map's hasher has a fixed seed, so whoever writes the input can choose keys that collide, and
+//! a lookup is then O(n) in the number of pairs. A program for keys that strangers choose makes its
+//! map with a random seed: `LinkedHashMap::with_hasher(rt.alloc(), RandomState::new(&rt)?)`, with
+//! `std::hash::RandomState`.
 #![tactic(auto)]
 
 ghost use Rattle.std.specs.Prelude.{◌≡◌, ◌⊎◌, ◌++◌, ◌∷◌, ℕ, List, [], All, OnOk, IfOk, IfErr, IfSome, string_bytes};
@@ -80,7 +83,8 @@ fn write_fault<F: Write>(faults: &mut F, stop: &Stop) -> io::Result<()>
     faults.flush()
 }
 
-/// Tells why the run stopped, and returns the status. A writer of faults that fails changes no status.
+/// Tells why the run stopped, and returns the status. A writer of faults that fails changes no
+/// status.
 fn report<F: Write>(faults: &mut F, stop: &Stop) -> u8
     ensures { result ≡ status_of stop.now }
 {
@@ -88,12 +92,13 @@ fn report<F: Write>(faults: &mut F, stop: &Stop) -> u8
     stop.status()
 }
 
-/// Reads commands from `input` to its end, runs them on a new map and writes the replies and the final list to
-/// `output`. Returns the exit status of the program.
+/// Reads commands from `input` to its end, runs them on a new map and writes the replies and the
+/// final list to `output`. Returns the exit status of the program.
 ///
-/// The status is 0 for a run, 2 where a line is no command, 3 where memory is refused for the input, the commands, the
-/// replies or the output, and 4 where reading or writing fails. A status other than 0 is explained by a line on
-/// `faults`. The output is built whole before its first byte is written.
+/// The status is 0 for a run, 2 where a line is no command, 3 where memory is refused for the
+/// input, the commands, the replies or the output, and 4 where reading or writing fails. A status
+/// other than 0 is explained by a line on `faults`. The output is built whole before its first byte
+/// is written.
 pub fn run<R: Read, W: Write, F: Write>(
     alloc: Global,
     input: &mut R,
@@ -102,7 +107,8 @@ pub fn run<R: Read, W: Write, F: Write>(
 ) -> u8
     ensures statuses { (result ≡ 0) ⊎ (result ≡ 2) ⊎ (result ≡ 3) ⊎ (result ≡ 4) }
 
-    // What is written is the text of a run of the commands in the input, and nothing is told on `faults`.
+    // What is written is the text of a run of the commands in the input, and nothing is told on
+    // `faults`.
     ensures done { result ≡ 0 → IfSome (R.remaining input.old) (λ bytes.
         (text : List ℕ) × (IsRunOf bytes text
         × Appends (W.contents output.old) (W.contents output.new) text)) }

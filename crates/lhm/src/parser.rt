@@ -201,7 +201,8 @@ fn without_number(command: Command<u64, u64>, rest: &[u8]) -> Result<Command<u64
 fn named(alloc: Global, name: Name, rest: &[u8]) -> Result<Command<u64, u64>, LineError>
     ensures name { IfOk result (λ command. command_name command ≡ name) }
     ensures rest { IfOk result (λ command. SayRest command (words_of rest.now)) }
-    ensures err { IsErrOf result LineError.NotACommand → ((command : Command ℕ ℕ) → command_name command ≡ name
+    ensures err { IsErrOf result LineError.NotACommand
+        → ((command : Command ℕ ℕ) → command_name command ≡ name
         → ¬ SayRest command (words_of rest.now)) }
 {
     match name {
@@ -250,9 +251,11 @@ fn command(alloc: Global, line: &[u8]) -> Result<Option<Command<u64, u64>>, Line
     }
 }
 
-/// Returns the commands of all lines in order, or the number of the first line that has words and is no command.
+/// Returns the commands of all lines in order, or the number of the first line that has words and
+/// is no command.
 ///
-/// Lines are counted from 1, and blank lines count. Memory can be refused before that line is found.
+/// Lines are counted from 1, and blank lines count. Memory can be refused before that line is
+/// found.
 pub fn commands(alloc: Global, bytes: &[u8]) -> Result<Vec<Command<u64, u64>>, Stop>
     ensures ok { IfOk result (λ commands. AreCommandsOf (lines_of bytes.now) commands.items) }
     ensures err { IfErr result (StopsLines (lines_of bytes.now)) }

@@ -8,7 +8,8 @@ use std::alloc::AllocError;
 
 /// Appends a pair of a list.
 fn push_pair(text: &mut String, key: u64, value: u64) -> Result<(), AllocError>
-    ensures { OnOk result (string_bytes text.new ≡ string_bytes text.old ++ pair_text (key, value)) }
+    ensures { OnOk result (string_bytes text.new
+        ≡ string_bytes text.old ++ pair_text (key, value)) }
 {
     write!(text, " {key}:{value}")
 }
@@ -26,7 +27,8 @@ fn push_pairs(text: &mut String, pairs: &[(u64, u64)]) -> Result<(), AllocError>
 
 /// Appends an answer.
 fn push_answer(text: &mut String, answer: &Answer<u64, u64>) -> Result<(), AllocError>
-    ensures { OnOk result (string_bytes text.new ≡ string_bytes text.old ++ answer_text answer.now) }
+    ensures { OnOk result (string_bytes text.new
+        ≡ string_bytes text.old ++ answer_text answer.now) }
 {
     match answer {
         Answer::New => write!(text, "new"),

@@ -12,11 +12,13 @@ unfoldable pub row : Ptr → ℕ → ℕ → List Ptr
 row p s zero = []
 row p s (suc n) = p ∷ row (p +ₚ s) s n
 
--- where the places of all chunks lie, those of the last chunk first: c.0 is where a chunk starts, c.1 how many places it has
+-- where the places of all chunks lie, those of the last chunk first: c.0 is where a chunk starts,
+-- c.1 how many places it has
 unfoldable pub places : ℕ → List (Ptr × ℕ) → List Ptr
 places s [] = []
 places s (c ∷ cs) = places s cs ++ row c.0 s c.1
 
--- a block for n values of R, with nothing in it, and the right to free it: they take fewer than 2 ^ 63 bytes
+-- a block for n values of R, with nothing in it, and the right to free it: they take fewer than
+-- 2 ^ 63 bytes
 abbrev pub block_owns : (R : RattleType) → (Ty → Ptr → Fml) → Ptr → ℕ → Fml
 block_owns R token p n = fsep (flt (n * type_size R) (2 ^ 63)) (fsep (token (array_of R n) p) (room_for (array_of R n) p))

@@ -5,7 +5,8 @@ use Rattle.lhm_ring.specs.RingState.{State, Held}
 use Rattle.lhm_ring.specs.Index.{spots, Indexes}
 use Rattle.lhm_ring.specs.Buckets.{buckets}
 
--- every held node is in the chain of its bucket and in no other, and there are as many buckets as the capacity asks for
+-- every held node is in the chain of its bucket and in no other, and there are as many buckets as
+-- the capacity asks for
 pub record IsIndexed {K V : Type 0} (heads : List (Option Ptr)) (s : State (K × V)) : Type 0 where
   pub chains : Indexes heads (spots s.held)
   pub count : length heads ≡ buckets (length s.held + s.spares)

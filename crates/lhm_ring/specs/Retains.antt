@@ -1,5 +1,6 @@
--- What `retain` leaves of what a table holds. T says what a call of a closure at a key and a value does: it may return this, leave
--- this value there, and leave the closure so. Q says that a closure may be called at a key and a value.
+-- What `retain` leaves of what a table holds. T says what a call of a closure at a key and a value
+-- does: it may return this, leave this value there, and leave the closure so. Q says that a closure
+-- may be called at a key and a value.
 use Rattle.std.specs.Prelude.{◌≡◌, ℕ, Bool, cond, List, [], ◌∷◌, ◌++◌, map, length, Option, Some, None}
 use Rattle.std.specs.Map.Calls.{CallableOnEachPair}
 use denote.RawPtr.{Ptr}
@@ -20,13 +21,15 @@ module _ {F K V : Type 0} (T : F → K → V → Bool → V → F → Type 0) wh
   abbrev pub RetainsAt : F → List (Held (K × V)) → Ptr → List (Held (K × V)) → F → Type 0
   RetainsAt f hs p new f' = (b : Bool) × (w : V) × AtHeld hs p (λ xs t ys. T f t.pair.0 t.pair.1 b w f' × (new ≡ xs ++ cond b (revalued w t ∷ ys) ys))
 
-  -- f was called at each pair in turn, and kept has those at which it returned `true`, with the values that it left there
+  -- f was called at each pair in turn, and kept has those at which it returned `true`, with the
+  -- values that it left there
   abbrev pub RetainsHeld : F → List (Held (K × V)) → List (Held (K × V)) → Type 0
   RetainsHeld f [] kept = kept ≡ []
   RetainsHeld f (t ∷ hs) kept =
       (b : Bool) × (w : V) × (f' : F) × (rest : List (Held (K × V))) × T f t.pair.0 t.pair.1 b w f' × RetainsHeld f' hs rest × (kept ≡ cond b (revalued w t ∷ rest) rest)
 
-  -- the closure, which was start, has been called at some of the pairs in old, and is now f; the rest begins at next
+  -- the closure, which was start, has been called at some of the pairs in old, and is now f; the
+  -- rest begins at next
   pub record IsRetaining (Q : F → K → V → Type 0) (start : F) (old : List (Held (K × V))) (f : F) (now : List (Held (K × V))) (next : Option Ptr) : Type 0 where
     pub kept : List (Held (K × V))
     pub rest : List (Held (K × V))

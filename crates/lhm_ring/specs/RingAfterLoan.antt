@@ -1,4 +1,5 @@
--- What a ring ends as once a loan of one of its values, of all of them, or of all that it held has ended.
+-- What a ring ends as once a loan of one of its values, of all of them, or of all that it held has
+-- ended.
 use Rattle.std.specs.Prelude.{◌≡◌, ◌+◌, List, [], ◌∷◌, map, length}
 use Rattle.std.specs.Borrow.{Fml, RattleType, MutBor, GName, Lends, follows, Array, u8}
 use denote.RawPtr.{Ptr}
@@ -49,6 +50,7 @@ lends_values K V s r = follows (the_row K V) (the_row K V) s.ghost_name r (with_
 abbrev pub all_spare : {B : Type 0} → State B → State B
 all_spare s = state [] (s.spares + length s.held) s.nodes
 
--- once the borrow named r ends, which is of no bytes, the ring behind s holds nothing and all its nodes are spare
+-- once the borrow named r ends, which is of no bytes, the ring behind s holds nothing and all its
+-- nodes are spare
 abbrev pub lends_spliced : (K V : RattleType) → MutBor (State (K.Denot × V.Denot)) → GName → Fml
 lends_spliced K V s r = follows (the_row K V) (Array u8 0) s.ghost_name r (λ _. all_spare s.now)

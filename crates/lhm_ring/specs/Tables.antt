@@ -7,8 +7,8 @@ use Rattle.lhm_ring.specs.Search.{HasKey, entries}
 use Rattle.lhm_ring.specs.IndexedRing.{IsIndexed}
 use Rattle.lhm_ring.specs.Filters.{IsFilter}
 
--- the pairs in order, each with its position and its hash and with no chain link; the capacity; and how many nodes rehashes
--- have moved
+-- the pairs in order, each with its position and its hash and with no chain link; the capacity; and
+-- how many nodes rehashes have moved
 pub record TableState (B : Type 0) : Type 0 where
   pub held : List (Held B)
   pub capacity : ℕ
@@ -18,8 +18,9 @@ pub record TableState (B : Type 0) : Type 0 where
 abbrev pub table_of : {K V : Type 0} → State (K × V) → ℕ → TableState (K × V)
 table_of s rechained = record { held = entries s.held; capacity = length s.held + s.spares; rechained = rechained }
 
--- the index and the filter are those of the ring, the count is at most the number of buckets, the capacity is at most that of a
--- ring, and the chunks have at most as many nodes as there are buckets
+-- the index and the filter are those of the ring, the count is at most the number of buckets, the
+-- capacity is at most that of a ring, and the chunks have at most as many nodes as there are
+-- buckets
 pub record IsTable {K V : Type 0} (heads : List (Option Ptr)) (words : List ℕ) (s : State (K × V)) (rechained : ℕ) : Type 0 where
   pub indexed : IsIndexed heads s
   pub filtered : IsFilter words heads s.held

@@ -65,7 +65,8 @@ impl<K, V> Ring<K, V> {
     /// Returns the position right behind one, or `None` at the back. No two triples share one.
     pub fn next(&self, at: Position<K, V>) -> Option<Position<K, V>>
         requires { IsHeld self.now.held (pointer_of at) }
-        ensures next { AtHeld self.now.held (pointer_of at) (λ xs t ys. pointer_of_some result ≡ first_at ys) }
+        ensures next { AtHeld self.now.held (pointer_of at) (λ xs t ys.
+            pointer_of_some result ≡ first_at ys) }
         ensures apart { IsApart (map (λ t. t.at) self.now.held) }
     {
         self.nodes.links(at.pointer).next.get()
@@ -74,7 +75,8 @@ impl<K, V> Ring<K, V> {
     /// Returns the position right before one, or `None` at the front.
     pub fn previous(&self, at: Position<K, V>) -> Option<Position<K, V>>
         requires { IsHeld self.now.held (pointer_of at) }
-        ensures { AtHeld self.now.held (pointer_of at) (λ xs t ys. pointer_of_some result ≡ last_at xs) }
+        ensures { AtHeld self.now.held (pointer_of at) (λ xs t ys.
+            pointer_of_some result ≡ last_at xs) }
     {
         self.nodes.links(at.pointer).prev.get()
     }
@@ -82,7 +84,8 @@ impl<K, V> Ring<K, V> {
     /// Returns where the chain link at a position leads, or `None`. The link is its caller's.
     pub fn link(&self, at: Position<K, V>) -> Option<Position<K, V>>
         requires { IsHeld self.now.held (pointer_of at) }
-        ensures link { AtHeld self.now.held (pointer_of at) (λ xs t ys. pointer_of_some result ≡ t.link) }
+        ensures link { AtHeld self.now.held (pointer_of at) (λ xs t ys.
+            pointer_of_some result ≡ t.link) }
         ensures blocks { AreBlocks (map (λ t. t.at) self.now.held) }
     {
         self.nodes.links(at.pointer).link.get()
@@ -91,7 +94,8 @@ impl<K, V> Ring<K, V> {
     /// Sets the chain link at a position, which the ring never follows. Nothing else changes.
     pub fn set_link(&mut self, at: Position<K, V>, link: Option<Position<K, V>>)
         requires { IsHeld self.old.held (pointer_of at) }
-        ensures held { AtHeld self.old.held (pointer_of at) (λ xs t ys. self.new.held ≡ xs ++ linked_to (pointer_of_some link) t ∷ ys) }
+        ensures held { AtHeld self.old.held (pointer_of at) (λ xs t ys.
+            self.new.held ≡ xs ++ linked_to (pointer_of_some link) t ∷ ys) }
         ensures spares { self.new.spares ≡ self.old.spares }
         ensures nodes { self.new.nodes ≡ self.old.nodes }
         ensures blocks { AreBlocks (map (λ t. t.at) self.old.held) }

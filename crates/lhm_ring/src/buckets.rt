@@ -28,7 +28,9 @@ pub(crate) fn empty_chains<K, V>(index: &mut Index<K, V>, filter: &mut Filter, r
 /// Clears the bits of a bucket that has no node any more.
 pub(crate) fn clear_emptied(filter: &mut Filter, emptied: Option<usize>)
     requires { IfSome emptied (λ b. b < length filter.old) }
-    ensures others { IfSome emptied (λ b. (other : ℕ) → other % length filter.old ≢ b → may_contain filter.new other ≡ may_contain filter.old other) }
+    ensures others { IfSome emptied (λ b.
+        (other : ℕ) → other % length filter.old ≢ b
+        → may_contain filter.new other ≡ may_contain filter.old other) }
     ensures same { IfNone emptied (filter.new ≡ filter.old) }
     ensures words { length filter.new ≡ length filter.old }
 {

@@ -21,8 +21,8 @@ fn move_all<K, V>(from: &mut Ring<K, V>, to: &mut Ring<K, V>)
 }
 
 impl<K, V> Ring<K, V> {
-    /// Moves the triples, in order, into one chunk with exactly as many nodes, and frees the others,
-    /// in O(n). No node is spare then, all positions end, and chain links lead nowhere.
+    /// Moves the triples, in order, into one chunk with exactly as many nodes, and frees the
+    /// others, in O(n). No node is spare then, all positions end, and chain links lead nowhere.
     ///
     /// Returns an error if an allocation fails; nothing changes then. If nothing is held it does
     /// not allocate.

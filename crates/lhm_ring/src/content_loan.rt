@@ -55,7 +55,8 @@ impl<L, K, V> Nodes<L, K, V> {
         &'a Nodes<L, Hole<K>, Hole<V>>,
         ContentLoan<'a, L, K, V>,
     )
-        ensures* writes_back { sem 𝓛 (lends_bodies L.row K.row V.row self.entry result.0.ghost_name) }
+        ensures* writes_back { sem 𝓛
+            (lends_bodies L.row K.row V.row self.entry result.0.ghost_name) }
         ensures cells { result.1.now.cells ≡ self.old.cells }
         ensures run { result.2.run ≡ bodies_of self.old.cells }
     {

@@ -32,9 +32,11 @@ impl<'a, K, V> Model for Remaining<'a, K, V> {
 
     ghost Value = { List (ℕ × (K × V)) };
 
-    ghost view = { λ r. span_triples (with_bodies r.nodes.now.cells r.contents.run) r.left r.first.ptr };
+    ghost view = { λ r. span_triples (with_bodies r.nodes.now.cells r.contents.run) r.left
+        r.first.ptr };
 
-    ghost invariant = { λ r. IsSpan (with_bodies r.nodes.now.cells r.contents.run) r.first.ptr r.last.ptr r.left };
+    ghost invariant = { λ r.
+        IsSpan (with_bodies r.nodes.now.cells r.contents.run) r.first.ptr r.last.ptr r.left };
 }
 
 impl<'a, K, V> Remaining<'a, K, V> {
@@ -155,7 +157,8 @@ impl<'a, K: Drop, V: Drop> Iterator for Drain<'a, K, V> {
     fn size_hint(&self) -> (usize, Option<usize>)
         ensures lower { IsWithinCount result.0 (at_most (length (drain_rest self.now))) }
         ensures upper { IfSome result.1 (UpTo (at_most (length (drain_rest self.now)))) }
-        ensures exact { result ≡ (length (drain_rest self.now), Some (length (drain_rest self.now))) }
+        ensures exact { result
+            ≡ (length (drain_rest self.now), Some (length (drain_rest self.now))) }
     {
         let len = self.len();
         (len, Some(len))

@@ -100,7 +100,8 @@ impl Filter {
         requires within { bucket < length self.old }
         requires of_hash { bucket ≡ hash % length self.old }
         ensures set { IsTrue (may_contain self.new hash) }
-        ensures others { (other : ℕ) → IsTrue (may_contain self.old other) → IsTrue (may_contain self.new other) }
+        ensures others { (other : ℕ) → IsTrue (may_contain self.old other)
+            → IsTrue (may_contain self.new other) }
         ensures buckets { length self.new ≡ length self.old }
     {
         let bits = self.words[bucket].bits;
@@ -110,7 +111,8 @@ impl Filter {
     /// Clears the bits of a bucket, in O(1).
     pub(crate) fn clear_bucket(&mut self, bucket: usize)
         requires { bucket < length self.old }
-        ensures others { (other : ℕ) → other % length self.old ≢ bucket → may_contain self.new other ≡ may_contain self.old other }
+        ensures others { (other : ℕ) → other % length self.old ≢ bucket
+            → may_contain self.new other ≡ may_contain self.old other }
         ensures buckets { length self.new ≡ length self.old }
     {
         self.words[bucket].bits = 0;

@@ -82,10 +82,14 @@ fn take_chunk<K, V>(
     requires none_unused { nodes.old.unused ≡ [] }
     ensures cells { nodes.new.cells ≡ nodes.old.cells }
     ensures small { OnOk result (nodes.new.node_bytes < 2 ^ 63) }
-    ensures unused { IfOk result (λ first. nodes.new.unused ≡ row first.ptr nodes.new.node_bytes places) }
-    ensures chunks { IfOk result (λ first. nodes.new.chunks ≡ nodes.old.chunks ++ (first.ptr, places) ∷ []) }
-    ensures kept { IfOk result (λ first. map extent chunks.new.items ≡ map extent chunks.old.items ++ (first.ptr, places) ∷ []) }
-    ensures refused { OnErr result ((nodes.new.unused ≡ nodes.old.unused) × (nodes.new.chunks ≡ nodes.old.chunks)) }
+    ensures unused { IfOk result (λ first.
+        nodes.new.unused ≡ row first.ptr nodes.new.node_bytes places) }
+    ensures chunks { IfOk result (λ first.
+        nodes.new.chunks ≡ nodes.old.chunks ++ (first.ptr, places) ∷ []) }
+    ensures kept { IfOk result (λ first.
+        map extent chunks.new.items ≡ map extent chunks.old.items ++ (first.ptr, places) ∷ []) }
+    ensures refused { OnErr result
+        ((nodes.new.unused ≡ nodes.old.unused) × (nodes.new.chunks ≡ nodes.old.chunks)) }
     ensures refused_kept { OnErr result (chunks.new.items ≡ chunks.old.items) }
 {
     if !fits::<Node<Links, K, V>>(places) {
@@ -126,7 +130,8 @@ impl<K, V> Ring<K, V> {
     fn use_made(&mut self, count: usize) -> bool
         ensures held { self.new.held ≡ self.old.held }
         ensures nodes { self.new.nodes ≡ self.old.nodes }
-        ensures enough { IsTrue result → length self.old.held + self.old.spares + count ≤ self.old.nodes }
+        ensures enough { IsTrue result
+            → length self.old.held + self.old.spares + count ≤ self.old.nodes }
         ensures used { IsTrue result → self.new.spares ≡ self.old.spares + count }
         ensures unchanged { IsFalse result → self.new ≡ self.old }
     {
@@ -145,7 +150,9 @@ impl<K, V> Ring<K, V> {
         requires { least ≤ 2 ^ 58 }
         ensures held { OnOk result (self.new.held ≡ self.old.held) }
         ensures spares { OnOk result (self.new.spares ≡ self.old.spares + count) }
-        ensures nodes { OnOk result (self.new.nodes ≡ nodes_grown self.old.nodes (length self.old.held + self.old.spares + count) least) }
+        ensures nodes { OnOk result
+            (self.new.nodes ≡ nodes_grown self.old.nodes
+            (length self.old.held + self.old.spares + count) least) }
         ensures refused { OnErr result (self.new ≡ self.old) }
     {
         if MOST_NODES - self.len - self.spares < count {
@@ -172,7 +179,8 @@ impl<K, V> Ring<K, V> {
     pub fn grow(&mut self, count: usize) -> Result<(), AllocError>
         ensures held { OnOk result (self.new.held ≡ self.old.held) }
         ensures spares { OnOk result (self.new.spares ≡ self.old.spares + count) }
-        ensures nodes { OnOk result (self.new.nodes ≡ max self.old.nodes (length self.old.held + self.old.spares + count)) }
+        ensures nodes { OnOk result
+            (self.new.nodes ≡ max self.old.nodes (length self.old.held + self.old.spares + count)) }
         ensures refused { OnErr result (self.new ≡ self.old) }
     {
         self.grow_by(count, 0)
@@ -183,9 +191,13 @@ impl<K, V> Ring<K, V> {
     pub fn grow_within(&mut self, count: usize, most: usize) -> Result<(), AllocError>
         ensures held { OnOk result (self.new.held ≡ self.old.held) }
         ensures spares { OnOk result (self.new.spares ≡ self.old.spares + count) }
-        ensures nodes { OnOk result (self.new.nodes
-            ≡ nodes_grown self.old.nodes (length self.old.held + self.old.spares + count) (least_more count self.old.nodes most)) }
-        ensures nodes_within { OnOk result (self.old.nodes ≤ most → length self.old.held + self.old.spares + count ≤ most → self.new.nodes ≤ most) }
+        ensures nodes { OnOk result
+            (self.new.nodes ≡ nodes_grown self.old.nodes
+            (length self.old.held + self.old.spares + count)
+            (least_more count self.old.nodes most)) }
+        ensures nodes_within { OnOk result
+            (self.old.nodes ≤ most → length self.old.held + self.old.spares + count ≤ most
+            → self.new.nodes ≤ most) }
         ensures refused { OnErr result (self.new ≡ self.old) }
     {
         if self.use_made(count) {

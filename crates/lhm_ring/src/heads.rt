@@ -33,8 +33,10 @@ pub(crate) fn chain_one<K, V>(
     requires some { 0 < vec_len heads.old }
     requires power { IsBucketCount (vec_len heads.old) }
     requires held { IsHeld ring.old.held (pointer_of at) }
-    ensures bucket { OfNodeAt ring.old.held (pointer_of at) (λ x. result ≡ x.hash % vec_len heads.old) }
-    ensures chained { Chains (pointer_of at) (map leads_to heads.old.items) (map leads_to heads.new.items) ring.old.held ring.new.held }
+    ensures bucket { OfNodeAt ring.old.held (pointer_of at) (λ x.
+        result ≡ x.hash % vec_len heads.old) }
+    ensures chained { Chains (pointer_of at) (map leads_to heads.old.items)
+        (map leads_to heads.new.items) ring.old.held ring.new.held }
     ensures spares { ring.new.spares ≡ ring.old.spares }
     ensures nodes { ring.new.nodes ≡ ring.old.nodes }
     ensures buckets { vec_len heads.new ≡ vec_len heads.old }

@@ -120,7 +120,8 @@ impl<K, V> Index<K, V> {
     pub fn put_in(&mut self, ring: &mut Ring<K, V>, at: Position<K, V>) -> usize
         requires some { 0 < length self.old }
         requires lacks { HoldsOthers self.old ring.old.held (pointer_of at) }
-        ensures bucket { OfNodeAt ring.old.held (pointer_of at) (λ x. result ≡ x.hash % length self.old) }
+        ensures bucket { OfNodeAt ring.old.held (pointer_of at) (λ x.
+            result ≡ x.hash % length self.old) }
         ensures indexed { Indexes self.new (spots ring.new.held) }
         ensures held { entries ring.new.held ≡ entries ring.old.held }
         ensures spares { ring.new.spares ≡ ring.old.spares }
@@ -138,7 +139,8 @@ impl<K, V> Index<K, V> {
         found: Found<K, V>,
     ) -> Option<usize>
         requires indexed { Indexes self.old (spots ring.old.held) }
-        requires on_chain { IsOnChain self.old hash (spots ring.old.held) (pointer_of_some found.before) (pointer_of found.at) }
+        requires on_chain { IsOnChain self.old hash (spots ring.old.held)
+            (pointer_of_some found.before) (pointer_of found.at) }
         ensures emptied { IfSome result (IsEmptied self.new hash) }
         ensures lacks { HoldsOthers self.new ring.new.held (pointer_of found.at) }
         ensures held { entries ring.new.held ≡ entries ring.old.held }
@@ -169,7 +171,8 @@ impl<K, V> Index<K, V> {
         requires hash { OfNodeAt ring.old.held (pointer_of at) (λ x. hash ≡ x.hash) }
         requires indexed { Indexes self.now (spots ring.old.held) }
         requires small { length ring.old.held < 2 ^ 64 }
-        ensures on_chain { IsOnChain self.now hash (spots ring.old.held) (pointer_of_some result) (pointer_of at) }
+        ensures on_chain { IsOnChain self.now hash (spots ring.old.held) (pointer_of_some result)
+            (pointer_of at) }
         ensures ring { ring.new ≡ ring.old }
     {
         let link = ring.link(at);
@@ -193,7 +196,8 @@ impl<K, V> Index<K, V> {
         requires held { IsHeld ring.old.held (pointer_of at) }
         requires indexed { Indexes self.old (spots ring.old.held) }
         requires small { length ring.old.held < 2 ^ 64 }
-        ensures emptied { OfNodeAt ring.old.held (pointer_of at) (λ x. IfSome result (IsEmptied self.new x.hash)) }
+        ensures emptied { OfNodeAt ring.old.held (pointer_of at) (λ x.
+            IfSome result (IsEmptied self.new x.hash)) }
         ensures lacks { HoldsOthers self.new ring.new.held (pointer_of at) }
         ensures held { entries ring.new.held ≡ entries ring.old.held }
         ensures spares { ring.new.spares ≡ ring.old.spares }

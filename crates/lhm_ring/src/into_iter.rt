@@ -89,7 +89,8 @@ impl<K: Drop, V: Drop> ExactSizeIterator for IntoIter<K, V> {
 impl<K: Clone, V: Clone> Clone for IntoIter<K, V> {
     ghost use Rattle.std.specs.Prelude.{[]};
 
-    ghost is_clone = { AllZip (λ t u. (u.0 ≡ t.0) × K.is_clone t.1.0 u.1.0 × V.is_clone t.1.1 u.1.1) };
+    ghost is_clone = { AllZip (λ t u.
+        (u.0 ≡ t.0) × K.is_clone t.1.0 u.1.0 × V.is_clone t.1.1 u.1.1) };
 
     ghost is_infallible = { λ s. s ≡ [] };
 

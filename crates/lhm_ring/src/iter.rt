@@ -31,7 +31,8 @@ impl<'a, K, V> Model for Iter<'a, K, V> {
 
     ghost Value = { List (Held (K × V)) };
 
-    ghost view = { λ w. listed w.nodes.now.cells (pointers_from w.nodes.now.cells w.left w.first.ptr) };
+    ghost view = { λ w. listed w.nodes.now.cells
+        (pointers_from w.nodes.now.cells w.left w.first.ptr) };
 
     ghost invariant = { λ w. IsSpan w.nodes.now.cells w.first.ptr w.last.ptr w.left };
 }

@@ -16,7 +16,8 @@ impl<K, V> Ring<K, V> {
     /// is O(1), writes links alone and does not allocate. No two triples have the same position.
     pub fn move_to_back(&mut self, at: Position<K, V>)
         requires { IsHeld self.old.held (pointer_of at) }
-        ensures last { AtHeld self.old.held (pointer_of at) (λ xs t ys. self.new.held ≡ (xs ++ ys) ++ t ∷ []) }
+        ensures last { AtHeld self.old.held (pointer_of at) (λ xs t ys.
+            self.new.held ≡ (xs ++ ys) ++ t ∷ []) }
         ensures spares { self.new.spares ≡ self.old.spares }
         ensures nodes { self.new.nodes ≡ self.old.nodes }
         ensures apart { IsApart (map (λ t. t.at) self.old.held) }
@@ -33,7 +34,8 @@ impl<K, V> Ring<K, V> {
     /// leads nowhere. It is O(1), does not allocate and drops nothing.
     pub fn put_back(&mut self, hash: u64, key: K, value: V) -> Position<K, V>
         requires { 0 < self.old.spares }
-        ensures last { self.new.held ≡ self.old.held ++ held (pointer_of result) hash None (pair key value) ∷ [] }
+        ensures last { self.new.held
+            ≡ self.old.held ++ held (pointer_of result) hash None (pair key value) ∷ [] }
         ensures spares { self.new.spares ≡ self.old.spares - 1 }
         ensures nodes { self.new.nodes ≡ self.old.nodes }
     {
@@ -61,8 +63,10 @@ impl<K, V> Ring<K, V> {
     /// spare, and the position leads nowhere. It is O(1), and neither allocates nor frees.
     pub fn unlink(&mut self, at: Position<K, V>) -> (u64, K, V)
         requires { IsHeld self.old.held (pointer_of at) }
-        ensures others { AtHeld self.old.held (pointer_of at) (λ xs t ys. self.new.held ≡ xs ++ ys) }
-        ensures triple { AtHeld self.old.held (pointer_of at) (λ xs t ys. result ≡ (t.hash, t.pair.0, t.pair.1)) }
+        ensures others { AtHeld self.old.held (pointer_of at) (λ xs t ys.
+            self.new.held ≡ xs ++ ys) }
+        ensures triple { AtHeld self.old.held (pointer_of at) (λ xs t ys.
+            result ≡ (t.hash, t.pair.0, t.pair.1)) }
         ensures spares { self.new.spares ≡ self.old.spares + 1 }
         ensures nodes { self.new.nodes ≡ self.old.nodes }
     {

@@ -19,8 +19,9 @@ impl<K, V> Table<K, V> {
         requires limit { capacity ≤ 2 ^ 59 }
         ensures held { self.new.held ≡ self.old.held }
         ensures capacity { OnOk result (self.new.capacity ≡ capacity) }
-        ensures rechained { OnOk result (self.new.rechained
-            ≡ rechained_raised self.old.rechained (length self.old.held) self.old.capacity capacity) }
+        ensures rechained { OnOk result
+            (self.new.rechained ≡ rechained_raised self.old.rechained (length self.old.held)
+            self.old.capacity capacity) }
         ensures refused { OnErr result (self.new ≡ self.old) }
     {
         let additional = capacity - self.capacity();
@@ -40,7 +41,8 @@ impl<K, V> Table<K, V> {
         requires limit { capacity ≤ 2 ^ 59 }
         ensures held { self.new.held ≡ self.old.held }
         ensures capacity { OnOk result (self.new.capacity ≡ capacity) }
-        ensures rechained { OnOk result (self.new.rechained ≡ self.old.rechained + length self.old.held) }
+        ensures rechained { OnOk result
+            (self.new.rechained ≡ self.old.rechained + length self.old.held) }
         ensures refused { OnErr result (self.new ≡ self.old) }
     {
         let additional = capacity - self.capacity();
@@ -88,7 +90,8 @@ impl<K, V> Table<K, V> {
     fn lower(&mut self) -> Result<(), AllocError>
         ensures triples { triples self.new.held ≡ triples self.old.held }
         ensures capacity { OnOk result (self.new.capacity ≡ length self.old.held) }
-        ensures rechained { OnOk result (self.new.rechained ≡ rechained_lowered (length self.old.held) self.old.capacity) }
+        ensures rechained { OnOk result
+            (self.new.rechained ≡ rechained_lowered (length self.old.held) self.old.capacity) }
         ensures refused { OnErr result (self.new ≡ self.old) }
     {
         let len = self.ring.len();

@@ -25,7 +25,9 @@ impl<K, V> Ring<K, V> {
     /// are moved out of their node for the call. It is O(1) and does not allocate.
     fn call_at<F: FnMut(&K, &mut V) -> bool>(&mut self, at: Position<K, V>, keep: &mut F) -> bool
         requires { TakesAt (TakesPair F.FnMut) keep.old self.old.held (pointer_of at) }
-        ensures called { (value : V) × CallsAt (CalledAtPair F.FnMut) keep.old self.old.held (pointer_of at) result value keep.new
+        ensures called { (value : V)
+            × CallsAt (CalledAtPair F.FnMut) keep.old self.old.held (pointer_of at) result value
+            keep.new
             × (self.new ≡ with_value self.old (pointer_of at) value) }
         ensures alone { ChangesOnly self.old.held (pointer_of at) }
     {
@@ -42,7 +44,9 @@ impl<K, V> Table<K, V> {
     /// Calls a closure with the key and the value at a position, and returns what it returns.
     fn call_at<F: FnMut(&K, &mut V) -> bool>(&mut self, at: Position<K, V>, keep: &mut F) -> bool
         requires { TakesAt (TakesPair F.FnMut) keep.old self.old.held (pointer_of at) }
-        ensures called { (value : V) × CallsAt (CalledAtPair F.FnMut) keep.old self.old.held (pointer_of at) result value keep.new
+        ensures called { (value : V)
+            × CallsAt (CalledAtPair F.FnMut) keep.old self.old.held (pointer_of at) result value
+            keep.new
             × (self.new ≡ with_value self.old (pointer_of at) value) }
         ensures alone { WritesOnly self.old.held (pointer_of at) }
     {
@@ -56,7 +60,8 @@ impl<K, V> Table<K, V> {
         K: Drop,
         V: Drop,
         requires { TakesAt (TakesPair F.FnMut) keep.old self.old.held (pointer_of at) }
-        ensures retained { RetainsAt (CalledAtPair F.FnMut) keep.old self.old.held (pointer_of at) self.new.held keep.new }
+        ensures retained { RetainsAt (CalledAtPair F.FnMut) keep.old self.old.held (pointer_of at)
+            self.new.held keep.new }
         ensures capacity { self.new.capacity ≡ self.old.capacity }
         ensures rechained { self.new.rechained ≡ self.old.rechained }
     {
@@ -73,7 +78,8 @@ impl<K, V> Table<K, V> {
     where
         K: Drop,
         V: Drop,
-        requires { CallableOnEachPair (CalledAtPair F.FnMut) (TakesPair F.FnMut) keep (map (λ t. t.pair) self.old.held) }
+        requires { CallableOnEachPair (CalledAtPair F.FnMut) (TakesPair F.FnMut) keep
+            (map (λ t. t.pair) self.old.held) }
         ensures retained { RetainsHeld (CalledAtPair F.FnMut) keep self.old.held self.new.held }
         ensures capacity { self.new.capacity ≡ self.old.capacity }
         ensures rechained { self.new.rechained ≡ self.old.rechained }

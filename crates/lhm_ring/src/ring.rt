@@ -45,7 +45,9 @@ impl<K, V> Model for Ring<K, V> {
 
     ghost view = { λ r. state (ring_list (ring_cells r.ends r.nodes.cells) r.len) r.spares r.made };
 
-    ghost invariant = { λ r. RingOk (ring_cells r.ends r.nodes.cells) r.spare r.len r.spares × IsLaid r.nodes.unused r.nodes.chunks r.chunks.items r.made };
+    ghost invariant = { λ r.
+        RingOk (ring_cells r.ends r.nodes.cells) r.spare r.len r.spares
+        × IsLaid r.nodes.unused r.nodes.chunks r.chunks.items r.made };
 }
 
 impl<K, V> Ring<K, V> {
@@ -163,8 +165,10 @@ impl<K, V> Ring<K, V> {
 /// Makes `b` the node right after `a`. A link that leads nowhere stands for the ends of the ring.
 #[inline]
 pub(crate) fn join<K, V>(nodes: &mut Nodes<Links, K, V>, ends: &mut Ends, a: Link, b: Link)
-    requires { (is_there (ring_cells ends.old nodes.old.cells) a.ptr ≡ true) × (is_there (ring_cells ends.old nodes.old.cells) b.ptr ≡ true) }
-    ensures joined { IsJoined (ring_cells ends.old nodes.old.cells) (ring_cells ends.new nodes.new.cells) a.ptr b.ptr }
+    requires { (is_there (ring_cells ends.old nodes.old.cells) a.ptr ≡ true)
+        × (is_there (ring_cells ends.old nodes.old.cells) b.ptr ≡ true) }
+    ensures joined { IsJoined (ring_cells ends.old nodes.old.cells)
+        (ring_cells ends.new nodes.new.cells) a.ptr b.ptr }
     ensures land { (nodes.new.unused ≡ nodes.old.unused) × (nodes.new.chunks ≡ nodes.old.chunks) }
 {
     set_next(nodes, ends, a, b);
@@ -175,7 +179,8 @@ pub(crate) fn join<K, V>(nodes: &mut Nodes<Links, K, V>, ends: &mut Ends, a: Lin
 #[inline]
 fn set_next<K, V>(nodes: &mut Nodes<Links, K, V>, ends: &mut Ends, at: Link, next: Link)
     requires { is_there (ring_cells ends.old nodes.old.cells) at.ptr ≡ true }
-    ensures written { LeadsOn (ring_cells ends.old nodes.old.cells) at.ptr next (ring_cells ends.new nodes.new.cells) }
+    ensures written { LeadsOn (ring_cells ends.old nodes.old.cells) at.ptr next
+        (ring_cells ends.new nodes.new.cells) }
     ensures land { (nodes.new.unused ≡ nodes.old.unused) × (nodes.new.chunks ≡ nodes.old.chunks) }
 {
     let there: Option<Position<K, V>> = at.get();
@@ -193,7 +198,8 @@ fn set_next<K, V>(nodes: &mut Nodes<Links, K, V>, ends: &mut Ends, at: Link, nex
 #[inline]
 fn set_prev<K, V>(nodes: &mut Nodes<Links, K, V>, ends: &mut Ends, at: Link, prev: Link)
     requires { is_there (ring_cells ends.old nodes.old.cells) at.ptr ≡ true }
-    ensures written { LeadsBack (ring_cells ends.old nodes.old.cells) at.ptr prev (ring_cells ends.new nodes.new.cells) }
+    ensures written { LeadsBack (ring_cells ends.old nodes.old.cells) at.ptr prev
+        (ring_cells ends.new nodes.new.cells) }
     ensures land { (nodes.new.unused ≡ nodes.old.unused) × (nodes.new.chunks ≡ nodes.old.chunks) }
 {
     let there: Option<Position<K, V>> = at.get();

@@ -50,8 +50,10 @@ fn step<K: Eq, V>(
     requires no_overflow { probe.old.visited + 1 < 2 ^ 64 }
     requires order { probe.old.compared ≤ probe.old.visited }
     ensures visited { probe.new.visited ≡ probe.old.visited + 1 }
-    ensures compared { OfNodeAt ring.now.held (pointer_of at) (λ x. probe.new.compared ≡ probe.old.compared + same (spot x ∷ []) hash) }
-    ensures found { OfNodeAt ring.now.held (pointer_of at) (λ x. Compares K.eq hash key.now x result) }
+    ensures compared { OfNodeAt ring.now.held (pointer_of at) (λ x.
+        probe.new.compared ≡ probe.old.compared + same (spot x ∷ []) hash) }
+    ensures found { OfNodeAt ring.now.held (pointer_of at) (λ x.
+        Compares K.eq hash key.now x result) }
 {
     probe.visited += 1;
     if ring.hash(at) != hash {
@@ -70,11 +72,16 @@ impl<K: Eq, V> Index<K, V> {
         hash: u64,
         key: &K,
     ) -> (Option<Found<K, V>>, Probe)
-        requires head { pointer_of_some head ≡ slice_index_or self.now (hash % length self.now) None }
+        requires head { pointer_of_some head
+            ≡ slice_index_or self.now (hash % length self.now) None }
         requires indexed { Indexes self.now (spots ring.now.held) }
         requires small { length ring.now.held < 2 ^ 64 }
-        ensures found { IfSome result.0 (λ f. FindsKey K.eq hash key.now self.now ring.now.held (pointer_of_some f.before) (pointer_of f.at) result.1.visited result.1.compared) }
-        ensures absent { IfNone result.0 (FindsNone K.eq hash key.now self.now ring.now.held result.1.visited result.1.compared) }
+        ensures found { IfSome result.0 (λ f.
+            FindsKey K.eq hash key.now self.now ring.now.held (pointer_of_some f.before)
+            (pointer_of f.at) result.1.visited result.1.compared) }
+        ensures absent { IfNone result.0
+            (FindsNone K.eq hash key.now self.now ring.now.held result.1.visited
+            result.1.compared) }
     {
         let mut probe = Probe {
             visited: 0,
@@ -99,10 +106,15 @@ impl<K: Eq, V> Index<K, V> {
     pub fn find(&self, ring: &Ring<K, V>, hash: u64, key: &K) -> (Option<Position<K, V>>, Probe)
         requires indexed { Indexes self.now (spots ring.now.held) }
         requires small { length ring.now.held < 2 ^ 64 }
-        ensures found { IfSome result.0 (λ p. HasKey K.eq hash key.now ring.now.held (pointer_of p)) }
+        ensures found { IfSome result.0 (λ p.
+            HasKey K.eq hash key.now ring.now.held (pointer_of p)) }
         ensures absent { IfNone result.0 (IsAbsent K.eq hash key.now ring.now.held) }
-        ensures counts_found { OnSome result.0 (CountsSome (spots ring.now.held) (length self.now) hash result.1.visited result.1.compared) }
-        ensures counts_absent { IfNone result.0 (CountsAll (spots ring.now.held) (length self.now) hash result.1.visited result.1.compared) }
+        ensures counts_found { OnSome result.0
+            (CountsSome (spots ring.now.held) (length self.now) hash result.1.visited
+            result.1.compared) }
+        ensures counts_absent { IfNone result.0
+            (CountsAll (spots ring.now.held) (length self.now) hash result.1.visited
+            result.1.compared) }
     {
         let (found, probe) = self.search(ring, self.head(hash), hash, key);
         match found {
@@ -143,9 +155,11 @@ impl<K: Eq, V> Index<K, V> {
     ) -> Option<(Position<K, V>, Option<usize>)>
         requires indexed { Indexes self.old (spots ring.old.held) }
         requires small { length ring.old.held < 2 ^ 64 }
-        ensures found { IfSome result (λ taken. HasKey K.eq hash key.now ring.new.held (pointer_of taken.0)) }
+        ensures found { IfSome result (λ taken.
+            HasKey K.eq hash key.now ring.new.held (pointer_of taken.0)) }
         ensures emptied { IfSome result (λ taken. IfSome taken.1 (IsEmptied self.new hash)) }
-        ensures lacks { IfSome result (λ taken. HoldsOthers self.new ring.new.held (pointer_of taken.0)) }
+        ensures lacks { IfSome result (λ taken.
+            HoldsOthers self.new ring.new.held (pointer_of taken.0)) }
         ensures absent { IfNone result (IsAbsent K.eq hash key.now ring.old.held) }
         ensures unchanged { IfNone result (self.new ≡ self.old) }
         ensures ring_unchanged { IfNone result (ring.new ≡ ring.old) }

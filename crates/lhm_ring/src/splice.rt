@@ -26,7 +26,8 @@ fn spare_row<K, V>(
     spare: Link,
 ) -> Link
     requires { HasRow nodes.old.cells first.ptr count (target spare) }
-    ensures spared { SparesRow nodes.old.cells first.ptr count (target spare) nodes.new.cells (target result) }
+    ensures spared { SparesRow nodes.old.cells first.ptr count (target spare) nodes.new.cells
+        (target result) }
     ensures land { (nodes.new.unused ≡ nodes.old.unused) × (nodes.new.chunks ≡ nodes.old.chunks) }
 {
     let mut at = first;
@@ -50,8 +51,10 @@ pub(crate) fn splice<K, V>(
     count: usize,
 ) -> Spliced
     requires { HasRing (ring_cells ends.old nodes.old.cells) spare count }
-    ensures spliced { SplicesRing (ring_cells ends.old nodes.old.cells) spare count (ring_cells ends.new nodes.new.cells) result }
-    ensures row { KeepsRow (ring_cells ends.old nodes.old.cells) spare count nodes.new.cells result }
+    ensures spliced { SplicesRing (ring_cells ends.old nodes.old.cells) spare count
+        (ring_cells ends.new nodes.new.cells) result }
+    ensures row { KeepsRow (ring_cells ends.old nodes.old.cells) spare count
+        nodes.new.cells result }
     ensures land { (nodes.new.unused ≡ nodes.old.unused) × (nodes.new.chunks ≡ nodes.old.chunks) }
 {
     let first = ends.first.address();

@@ -152,7 +152,8 @@ impl<K, V> Table<K, V> {
     /// Returns the position of the next pair, or `None` at the back.
     pub fn next(&self, at: Position<K, V>) -> Option<Position<K, V>>
         requires { IsHeld self.now.held (pointer_of at) }
-        ensures next { AtHeld self.now.held (pointer_of at) (λ xs t ys. pointer_of_some result ≡ first_at ys) }
+        ensures next { AtHeld self.now.held (pointer_of at) (λ xs t ys.
+            pointer_of_some result ≡ first_at ys) }
         ensures apart { IsApart (map (λ t. t.at) self.now.held) }
     {
         self.ring.next(at)
@@ -161,7 +162,8 @@ impl<K, V> Table<K, V> {
     /// Returns the position of the previous pair, or `None` at the front.
     pub fn previous(&self, at: Position<K, V>) -> Option<Position<K, V>>
         requires { IsHeld self.now.held (pointer_of at) }
-        ensures { AtHeld self.now.held (pointer_of at) (λ xs t ys. pointer_of_some result ≡ last_at xs) }
+        ensures { AtHeld self.now.held (pointer_of at) (λ xs t ys.
+            pointer_of_some result ≡ last_at xs) }
     {
         self.ring.previous(at)
     }
@@ -195,7 +197,8 @@ impl<K, V> Table<K, V> {
     /// Moves the pair at a position to the back, in O(1). Positions stay.
     pub fn move_to_back(&mut self, at: Position<K, V>)
         requires { IsHeld self.old.held (pointer_of at) }
-        ensures last { AtHeld self.old.held (pointer_of at) (λ xs t ys. self.new.held ≡ (xs ++ ys) ++ t ∷ []) }
+        ensures last { AtHeld self.old.held (pointer_of at) (λ xs t ys.
+            self.new.held ≡ (xs ++ ys) ++ t ∷ []) }
         ensures capacity { self.new.capacity ≡ self.old.capacity }
         ensures rechained { self.new.rechained ≡ self.old.rechained }
         ensures apart { IsApart (map (λ t. t.at) self.old.held) }
@@ -206,7 +209,8 @@ impl<K, V> Table<K, V> {
     /// Inserts a pair at the back and returns its position, in O(1). It does not allocate.
     pub fn push_back(&mut self, hash: u64, key: K, value: V) -> Position<K, V>
         requires { length self.old.held < self.old.capacity }
-        ensures last { self.new.held ≡ self.old.held ++ held (pointer_of result) hash None (pair key value) ∷ [] }
+        ensures last { self.new.held
+            ≡ self.old.held ++ held (pointer_of result) hash None (pair key value) ∷ [] }
         ensures capacity { self.new.capacity ≡ self.old.capacity }
         ensures rechained { self.new.rechained ≡ self.old.rechained }
     {
@@ -220,7 +224,8 @@ impl<K, V> Table<K, V> {
     /// The capacity stays.
     pub fn remove_at(&mut self, at: Position<K, V>) -> (K, V)
         requires { IsHeld self.old.held (pointer_of at) }
-        ensures others { AtHeld self.old.held (pointer_of at) (λ xs t ys. self.new.held ≡ xs ++ ys) }
+        ensures others { AtHeld self.old.held (pointer_of at) (λ xs t ys.
+            self.new.held ≡ xs ++ ys) }
         ensures pair { AtHeld self.old.held (pointer_of at) (λ xs t ys. result ≡ t.pair) }
         ensures capacity { self.new.capacity ≡ self.old.capacity }
         ensures rechained { self.new.rechained ≡ self.old.rechained }
@@ -295,10 +300,15 @@ impl<K: Eq, V> Table<K, V> {
     /// Returns the position of the pair with this hash and this key, and what the lookup counted.
     /// It follows the chain of the bucket, whatever the filter says.
     pub fn find(&self, hash: u64, key: &K) -> (Option<Position<K, V>>, Probe)
-        ensures found { IfSome result.0 (λ p. HasKey K.eq hash key.now self.now.held (pointer_of p)) }
+        ensures found { IfSome result.0 (λ p.
+            HasKey K.eq hash key.now self.now.held (pointer_of p)) }
         ensures absent { IfNone result.0 (IsAbsent K.eq hash key.now self.now.held) }
-        ensures counts_found { OnSome result.0 (CountsSome (spots self.now.held) (buckets self.now.capacity) hash result.1.visited result.1.compared) }
-        ensures counts_absent { IfNone result.0 (CountsAll (spots self.now.held) (buckets self.now.capacity) hash result.1.visited result.1.compared) }
+        ensures counts_found { OnSome result.0
+            (CountsSome (spots self.now.held) (buckets self.now.capacity) hash result.1.visited
+            result.1.compared) }
+        ensures counts_absent { IfNone result.0
+            (CountsAll (spots self.now.held) (buckets self.now.capacity) hash result.1.visited
+            result.1.compared) }
     {
         self.index.find(&self.ring, hash, key)
     }

@@ -24,7 +24,8 @@ impl<K, V> Table<K, V> {
     /// It is O(n) for these.
     pub fn nth_back(&self, behind: usize) -> Option<Position<K, V>>
         ensures held { IfSome result (λ at. IsHeld self.now.held (pointer_of at)) }
-        ensures behind { IfSome result (λ at. AtHeld self.now.held (pointer_of at) (λ xs t ys. length ys ≡ behind)) }
+        ensures behind { IfSome result (λ at.
+            AtHeld self.now.held (pointer_of at) (λ xs t ys. length ys ≡ behind)) }
         ensures none { IfNone result (length self.now.held ≤ behind) }
     {
         let mut here = self.last();

@@ -1,4 +1,5 @@
--- What calls make of a map: updates of what it was, so that they name what changes and nothing else.
+-- What calls make of a map: updates of what it was, so that they name what changes and nothing
+-- else.
 use Rattle.std.specs.Prelude.{◌≡◌, ◌+◌, Bool, max, [], ◌∷◌, ◌++◌, length}
 use Rattle.lhm_ring.specs.Buckets.{rechained_raised}
 use Rattle.linked_hash_map.specs.LinkedMap.{LinkedMap}
@@ -12,7 +13,8 @@ module _ {K V S : Type 0} where
       let capacity = max m.capacity (length m.pairs + 1) in
       record m { pairs = m.pairs ++ (k, v) ∷ []; capacity = capacity; rechained = rechained_raised m.rechained (length m.pairs) m.capacity capacity }
 
-  -- with v as the value of k, in the place of its pair, or at the back if there is none, and room for it
+  -- with v as the value of k, in the place of its pair, or at the back if there is none, and room
+  -- for it
   abbrev pub set_or_pushed : (K → K → Bool) → LinkedMap K V S → K → V → LinkedMap K V S
   set_or_pushed eq m k v =
       let pairs = set_or_push eq m.pairs k v in

@@ -5,7 +5,8 @@ use Rattle.std.specs.declared.cmp.Ordering.{Ordering}
 use Rattle.std.specs.Ordering.{ordering_then, partial_ordering_then}
 use Rattle.std.specs.Hash.{HashWrites}
 
--- the lexicographic order of two lists, given that of their elements, and the same where there may be no order
+-- the lexicographic order of two lists, given that of their elements, and the same where there may
+-- be no order
 module _ {X : Type 0} where
   abbrev pub lexicographic : (X → X → Ordering) → List X → List X → Ordering
   lexicographic order xs ys = slice_cmp order xs ys

@@ -19,7 +19,8 @@ use Rattle.linked_hash_map.specs.declared.entry.VacantEntry.{VacantEntry}
 use Rattle.linked_hash_map.specs.contracts.entry.OccupiedEntry as occupied
 
 module _ {K V S H : Type 0} {g : eq.Ghosts K} {h : hash.Ghosts K} {b : builder.Ghosts S H} {w : hasher.Ghosts H} where
-  -- of an occupied entry: the reference to the map; the map; the pair that it stands for; the stored key and the value
+  -- of an occupied entry: the reference to the map; the map; the pair that it stands for; the
+  -- stored key and the value
   abbrev pub occupied_map_ref : OccupiedEntry K V S H g h b w → MutBor (LinkedMap K V S)
   occupied_map_ref o = o.map
 
@@ -42,7 +43,8 @@ module _ {K V S H : Type 0} {g : eq.Ghosts K} {h : hash.Ghosts K} {b : builder.G
   abbrev pub vacant_key : VacantEntry K V S H g h b w → K
   vacant_key e = e.key
 
-  -- of either kind: the reference to the map, the map, the kind, the key, and the value where there is one
+  -- of either kind: the reference to the map, the map, the kind, the key, and the value where there
+  -- is one
   abbrev pub entry_map_ref : Entry K V S H g h b w → MutBor (LinkedMap K V S)
   entry_map_ref (Occupied o) = occupied_map_ref o
   entry_map_ref (Vacant e) = e.map
@@ -76,20 +78,21 @@ module _ (K V S H : RattleType) (key : HashMembers K.Denot) (build : builder.Gho
   abbrev pub lends_in_entry : MutBor (OccupiedEntry K.Denot V.Denot S.Denot H.Denot g h b w) → MutBor V.Denot → Fml
   lends_in_entry o r = follows (occupied.the_row (record { mir = named 1; lft = [] }) K V S H g h b w) V o.ghost_name r.ghost_name (with_occupied_value o.now)
 
-  -- the map of an occupied entry has the last value written through the reference as the value of its key
+  -- the map of an occupied entry has the last value written through the reference as the value of
+  -- its key
   abbrev pub lends_occupied : OccupiedEntry K.Denot V.Denot S.Denot H.Denot g h b w → MutBor V.Denot → Fml
   lends_occupied o r = follows (map_row K V S H key build hashing) V o.map.ghost_name r.ghost_name
       (λ v. record (occupied_map o) { pairs = set_value key.eq (occupied_map o).pairs (occupied_key o) v })
 
-  -- the map of a vacant entry has the pair of its key and the last value written through the reference at the back, and room
-  -- for it; with no reference it is as it was
+  -- the map of a vacant entry has the pair of its key and the last value written through the
+  -- reference at the back, and room for it; with no reference it is as it was
   abbrev pub lends_pushed : {E : Type 0} → VacantEntry K.Denot V.Denot S.Denot H.Denot g h b w → Result (MutBor V.Denot) E → Fml
   lends_pushed e r = follows_if (map_row K V S H key build hashing) V e.map.ghost_name (name_if_ok (λ lent. lent.ghost_name) r)
       (pushed (vacant_map e) (vacant_key e))
       (vacant_map e)
 
-  -- the map of an entry has the last value written through the reference as the value of its key, in its place or else at the
-  -- back, and room for it; with no reference it is as it was
+  -- the map of an entry has the last value written through the reference as the value of its key,
+  -- in its place or else at the back, and room for it; with no reference it is as it was
   abbrev pub lends_entry : {E : Type 0} → Entry K.Denot V.Denot S.Denot H.Denot g h b w → Result (MutBor V.Denot) E → Fml
   lends_entry e r = follows_if (map_row K V S H key build hashing) V (entry_map_ref e).ghost_name (name_if_ok (λ lent. lent.ghost_name) r)
       (set_or_pushed key.eq (entry_map e) (entry_key e))

@@ -40,7 +40,8 @@ module _ {T I X : Type 0} (becomes : T → I → Type 0) (steps : I → Option X
       pub gives : GivesAll given
       pub pairs : new ≡ insert_each eq mode old (map shows given)
 
-    -- items that it gives went in one by one, in a mode, up to one that shows this key and this value
+    -- items that it gives went in one by one, in a mode, up to one that shows this key and this
+    -- value
     pub record InsertsUntil (mode : Mode) (old new : List (K × V)) (key : K) (value : V) : Type 0 where
       pub given : List X
       pub item : X

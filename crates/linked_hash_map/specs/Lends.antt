@@ -29,11 +29,13 @@ module _ (K V S H : RattleType) (key : HashMembers K.Denot) (build : builder.Gho
     abbrev pub lends_present : K.Denot → MutBor V.Denot → Fml
     lends_present k r = Lends map_row V m r (λ v. record m.now { pairs = set_value key.eq m.now.pairs k v })
 
-    -- the value of k is the last one written through the reference, and with no reference the map is as it was
+    -- the value of k is the last one written through the reference, and with no reference the map
+    -- is as it was
     abbrev pub lends_value : K.Denot → Option (MutBor V.Denot) → Fml
     lends_value k r = LendsIf map_row V m r (λ v. record m.now { pairs = set_value key.eq m.now.pairs k v }) m.now
 
-    -- the map is refreshed by k with the last value written through the reference, and with no reference it is as it was
+    -- the map is refreshed by k with the last value written through the reference, and with no
+    -- reference it is as it was
     abbrev pub lends_refreshed : K.Denot → Option (MutBor V.Denot) → Fml
     lends_refreshed k r = LendsIf map_row V m r (refreshed key.eq m.now k) m.now
 

@@ -81,8 +81,9 @@ module _ {K V : Type 0} where
   abbrev pub map_of : {S : Type 0} → TableState (K × V) → Beside S → LinkedMap K V S
   map_of s b = linked_map (pairs_of s.held) s.capacity b.hasher (cursor_at b.mark b.unvisited b.current (bare s.held)) s.rechained b.mode
 
--- no two keys are the same, each stands with its hash, they are within the capacity and that within the limit; a mark is there as
--- long as pairs are unvisited, and these are there from it on; the pair that an entry stands for is there
+-- no two keys are the same, each stands with its hash, they are within the capacity and that within
+-- the limit; a mark is there as long as pairs are unvisited, and these are there from it on; the
+-- pair that an entry stands for is there
 pub record AreKept {K : Type 0} (eq : K → K → Bool) (hash : K → ℕ) (us : List (Held K)) (capacity : ℕ) (mark : Option Ptr) (unvisited : ℕ) (current : Option Ptr) : Type 0 where
   pub distinct : IsDistinct eq (map (λ u. u.pair) us)
   pub hashed : AllByRecursion (λ u. u.hash ≡ hash u.pair) us

@@ -8,7 +8,8 @@ use Rattle.std.specs.Coded.{Coded, code_by, coded×, coded_list, coded_ℕ}
 abbrev pub Session : Type 0 → Type 0
 Session T = ℕ × ℕ × T
 
--- what a contract sees of a table: its sessions in the order of their last put or touch, and its limit
+-- what a contract sees of a table: its sessions in the order of their last put or touch, and its
+-- limit
 pub record SessionTable (T : Type 0) : Type 0 where
   pub sessions : List (Session T)
   pub limit : ℕ
@@ -50,8 +51,8 @@ module _ {T : Type 0} where
   abbrev pub to_end : List (Session T) → ℕ → T → List (Session T)
   to_end sessions id payload = with_last sessions id (weight_of sessions id) payload
 
-  -- the longest end of the sessions whose weights sum to at most the limit: all of them where theirs do, and else that of the
-  -- sessions behind the first
+  -- the longest end of the sessions whose weights sum to at most the limit: all of them where
+  -- theirs do, and else that of the sessions behind the first
   abbrev pub fit : ℕ → List (Session T) → List (Session T)
   fit limit [] = []
   fit limit (session ∷ sessions) = if nat_le (total_weight (session ∷ sessions)) limit then session ∷ sessions else fit limit sessions
@@ -66,7 +67,8 @@ module _ {T : Type 0} where
     pub fits : total_weight end ≤ limit
     pub longest : (other : List (Session T)) → IsEnd sessions other → total_weight other ≤ limit → length other ≤ length end
 
-  -- what holds of every table: no two sessions have one id, and the weights sum to at most the limit
+  -- what holds of every table: no two sessions have one id, and the weights sum to at most the
+  -- limit
   pub record IsValidTable (table : SessionTable T) : Type 0 where
     pub distinct : IsDistinct nat_eq (ids_of table.sessions)
     pub within : total_weight table.sessions ≤ table.limit

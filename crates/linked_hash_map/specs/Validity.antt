@@ -5,7 +5,8 @@ use Rattle.std.specs.Map.{keys_of}
 use Rattle.linked_hash_map.specs.LinkedMap.{LinkedMap}
 use Rattle.linked_hash_map.specs.declared.map.TheConstants.{LIMIT}
 
--- a map is valid: no two of its keys are the same, it has no more pairs than room, and no more room than the limit
+-- a map is valid: no two of its keys are the same, it has no more pairs than room, and no more room
+-- than the limit
 pub record IsValid {K V S : Type 0} (eq : K → K → Bool) (m : LinkedMap K V S) : Type 0 where
   pub distinct : IsDistinct eq (keys_of m.pairs)
   pub within : length m.pairs ≤ m.capacity

@@ -31,17 +31,23 @@ impl<K: Eq + Hash, V, S: BuildHasher> LinkedHashMap<K, V, S> {
         K: Drop,
         V: Drop,
         I::IntoIter: Drop,
-        requires ends { IsFiniteIterable I.into_iter_gives I.IntoIter.can_next I.IntoIter.remaining items }
-        ensures all { OnOk result (InsertsAll I.into_iter_gives I.IntoIter.next_gives items K.eq (λ pair. pair) self.old.mode self.old.pairs self.new.pairs) }
+        requires ends { IsFiniteIterable I.into_iter_gives I.IntoIter.can_next
+            I.IntoIter.remaining items }
+        ensures all { OnOk result
+            (InsertsAll I.into_iter_gives I.IntoIter.next_gives items K.eq (λ pair. pair)
+            self.old.mode self.old.pairs self.new.pairs) }
         ensures capacity { self.new.capacity ≡ max self.old.capacity (length self.new.pairs) }
         ensures rechained { self.new.rechained
-            ≡ rechained_each self.old.rechained self.old.capacity (self.new.capacity - self.old.capacity) }
+            ≡ rechained_each self.old.rechained self.old.capacity
+            (self.new.capacity - self.old.capacity) }
         ensures hasher { self.new.hasher ≡ self.old.hasher }
         ensures mode { self.new.mode ≡ self.old.mode }
         ensures valid { IsValid K.eq self.old }
         ensures stays_valid { IsValid K.eq self.new }
 
-        ensures stopped { IfErr result (λ refused. InsertsUntil I.into_iter_gives I.IntoIter.next_gives items K.eq (λ pair. pair) self.old.mode self.old.pairs self.new.pairs refused.key refused.value) }
+        ensures stopped { IfErr result (λ refused.
+            InsertsUntil I.into_iter_gives I.IntoIter.next_gives items K.eq (λ pair. pair)
+            self.old.mode self.old.pairs self.new.pairs refused.key refused.value) }
         ensures absent { IfErr result (λ refused. find K.eq self.new.pairs refused.key ≡ None) }
         ensures full { OnErr result (length self.new.pairs ≡ self.new.capacity) }
         // Consequences of `stopped`, `absent` and `full`, for the proofs of callers.
@@ -77,17 +83,23 @@ impl<K: Eq + Hash, V, S: BuildHasher> LinkedHashMap<K, V, S> {
         K: Copy + 'a,
         V: Copy + 'a,
         I::IntoIter: Drop,
-        requires ends { IsFiniteIterable I.into_iter_gives I.IntoIter.can_next I.IntoIter.remaining items }
-        ensures all { OnOk result (InsertsAll I.into_iter_gives I.IntoIter.next_gives items K.eq deref_pair self.old.mode self.old.pairs self.new.pairs) }
+        requires ends { IsFiniteIterable I.into_iter_gives I.IntoIter.can_next
+            I.IntoIter.remaining items }
+        ensures all { OnOk result
+            (InsertsAll I.into_iter_gives I.IntoIter.next_gives items K.eq deref_pair self.old.mode
+            self.old.pairs self.new.pairs) }
         ensures capacity { self.new.capacity ≡ max self.old.capacity (length self.new.pairs) }
         ensures rechained { self.new.rechained
-            ≡ rechained_each self.old.rechained self.old.capacity (self.new.capacity - self.old.capacity) }
+            ≡ rechained_each self.old.rechained self.old.capacity
+            (self.new.capacity - self.old.capacity) }
         ensures hasher { self.new.hasher ≡ self.old.hasher }
         ensures mode { self.new.mode ≡ self.old.mode }
         ensures valid { IsValid K.eq self.old }
         ensures stays_valid { IsValid K.eq self.new }
 
-        ensures stopped { IfErr result (λ refused. InsertsUntil I.into_iter_gives I.IntoIter.next_gives items K.eq deref_pair self.old.mode self.old.pairs self.new.pairs refused.key refused.value) }
+        ensures stopped { IfErr result (λ refused.
+            InsertsUntil I.into_iter_gives I.IntoIter.next_gives items K.eq deref_pair self.old.mode
+            self.old.pairs self.new.pairs refused.key refused.value) }
         ensures absent { IfErr result (λ refused. find K.eq self.new.pairs refused.key ≡ None) }
         ensures full { OnErr result (length self.new.pairs ≡ self.new.capacity) }
         // Consequences of `stopped`, `absent` and `full`, for the proofs of callers.
@@ -117,7 +129,8 @@ impl<K: Eq + Hash, V, S: BuildHasher> LinkedHashMap<K, V, S> {
     /// # Examples
     ///
     /// ```rust
-    /// let map: LinkedHashMap<char, u64> = LinkedHashMap::from_iter(rt.alloc(), [('x', 1), ('y', 2)])?;
+    /// let pairs = [('x', 1), ('y', 2)];
+    /// let map: LinkedHashMap<char, u64> = LinkedHashMap::from_iter(rt.alloc(), pairs)?;
     /// assert_eq!(rt; (map.len(), map.capacity()), (2, 2));
     /// ```
     pub fn from_iter<I: IntoIterator<Item = (K, V)>>(
@@ -129,8 +142,11 @@ impl<K: Eq + Hash, V, S: BuildHasher> LinkedHashMap<K, V, S> {
         V: Drop,
         S: Default + Drop,
         I::IntoIter: Drop,
-        requires ends { IsFiniteIterable I.into_iter_gives I.IntoIter.can_next I.IntoIter.remaining items }
-        ensures all { IfOk result (λ map. Collects I.into_iter_gives I.IntoIter.next_gives items I.IntoIter.remaining K.eq map.pairs map.capacity map.rechained) }
+        requires ends { IsFiniteIterable I.into_iter_gives I.IntoIter.can_next
+            I.IntoIter.remaining items }
+        ensures all { IfOk result (λ map.
+            Collects I.into_iter_gives I.IntoIter.next_gives items I.IntoIter.remaining K.eq
+            map.pairs map.capacity map.rechained) }
         ensures hasher { IfOk result (λ map. S.is_default map.hasher) }
         ensures mode { IfOk result (λ map. map.mode ≡ Mode.Touch) }
         ensures valid { IfOk result (IsValid K.eq) }

@@ -32,7 +32,9 @@ use std::hash::{BuildHasher, Hash, Hasher};
 impl<K: Eq + Hash, V: PartialEq, S: BuildHasher> PartialEq for LinkedHashMap<K, V, S> {
     ghost eq = { λ m n. pointwise (same_pair K.eq V.eq) m.pairs n.pairs };
 
-    ghost laws = { on_per (λ m. m.pairs) (lists_per (and_per (on_per (λ pair. pair.0) K.PartialEq.laws) (on_per (λ pair. pair.1) V.laws))) };
+    ghost laws = { on_per (λ m. m.pairs)
+        (lists_per (and_per (on_per (λ pair. pair.0) K.PartialEq.laws)
+        (on_per (λ pair. pair.1) V.laws))) };
 
     fn eq(&self, other: &LinkedHashMap<K, V, S>) -> bool {
         if self.len() != other.len() {
@@ -53,7 +55,9 @@ impl<K: Eq + Hash, V: PartialEq, S: BuildHasher> PartialEq for LinkedHashMap<K, 
 
 /// Equality of maps is an equivalence if that of the values is.
 impl<K: Eq + Hash, V: Eq, S: BuildHasher> Eq for LinkedHashMap<K, V, S> {
-    ghost laws = { on_equiv (λ m. m.pairs) (lists_equiv (and_equiv (on_equiv (λ pair. pair.0) K.Eq.laws) (on_equiv (λ pair. pair.1) V.Eq.laws))) };
+    ghost laws = { on_equiv (λ m. m.pairs)
+        (lists_equiv (and_equiv (on_equiv (λ pair. pair.0) K.Eq.laws)
+        (on_equiv (λ pair. pair.1) V.Eq.laws))) };
 }
 
 /// Compares the pairs lexicographically, key before value, in O(n) without allocating. There is no
@@ -72,9 +76,12 @@ impl<K: Eq + Hash, V: Eq, S: BuildHasher> Eq for LinkedHashMap<K, V, S> {
 /// ```
 impl<K: Eq + Hash + PartialOrd, V: PartialOrd, S: BuildHasher> PartialOrd
     for LinkedHashMap<K, V, S> {
-    ghost partial_cmp = { λ m n. partial_lexicographic (partial_pair_order K.partial_cmp V.partial_cmp) m.pairs n.pairs };
+    ghost partial_cmp = { λ m n.
+        partial_lexicographic (partial_pair_order K.partial_cmp V.partial_cmp) m.pairs n.pairs };
 
-    ghost laws = { on_po (λ m. m.pairs) (lists_po (then_po (on_po (λ pair. pair.0) K.PartialOrd.laws) (on_po (λ pair. pair.1) V.PartialOrd.laws))) };
+    ghost laws = { on_po (λ m. m.pairs)
+        (lists_po (then_po (on_po (λ pair. pair.0) K.PartialOrd.laws)
+        (on_po (λ pair. pair.1) V.PartialOrd.laws))) };
 
     fn partial_cmp(&self, other: &LinkedHashMap<K, V, S>) -> Option<Ordering> {
         let mut others = other.iter();
@@ -114,14 +121,19 @@ impl<K: Eq + Hash + PartialOrd, V: PartialOrd, S: BuildHasher> PartialOrd
 impl<K: Ord + Hash, V: Ord, S: BuildHasher> Ord for LinkedHashMap<K, V, S> {
     ghost cmp = { λ m n. lexicographic (pair_order K.cmp V.cmp) m.pairs n.pairs };
 
-    ghost total = { on_total (λ m. m.pairs) (lists_total (then_total (on_total (λ pair. pair.0) K.total) (on_total (λ pair. pair.1) V.total))) };
+    ghost total = { on_total (λ m. m.pairs)
+        (lists_total (then_total (on_total (λ pair. pair.0) K.total)
+        (on_total (λ pair. pair.1) V.total))) };
 
-    ghost matches_partial_cmp = { λ m n. lists_agrees (then_agrees (λ p q. K.matches_partial_cmp p.0 q.0) (λ p q. V.matches_partial_cmp p.1 q.1)) m.pairs n.pairs };
+    ghost matches_partial_cmp = { λ m n.
+        lists_agrees (then_agrees (λ p q. K.matches_partial_cmp p.0 q.0)
+        (λ p q. V.matches_partial_cmp p.1 q.1)) m.pairs n.pairs };
 
     ghost matches_eq = { λ m n.
         let key = K.cmp in
         let value = V.cmp in
-        lists_ties (pair_order key value) (λ p q. both_tied _ _ (key p.0 q.0) (value p.1 q.1) (K.matches_eq p.0 q.0) (V.matches_eq p.1 q.1)) m.pairs n.pairs };
+        lists_ties (pair_order key value) (λ p q. both_tied _ _ (key p.0 q.0) (value p.1 q.1)
+        (K.matches_eq p.0 q.0) (V.matches_eq p.1 q.1)) m.pairs n.pairs };
 
     fn cmp(&self, other: &LinkedHashMap<K, V, S>) -> Ordering {
         let mut others = other.iter();
@@ -160,7 +172,11 @@ impl<K: Ord + Hash, V: Ord, S: BuildHasher> Ord for LinkedHashMap<K, V, S> {
 impl<K: Eq + Hash, V: Hash, S: BuildHasher> Hash for LinkedHashMap<K, V, S> {
     ghost hash_input = { λ m. flat_map (pair_writes K.hash_input V.hash_input) m.pairs };
 
-    ghost respects_eq = { λ m n same. ap (drop 1) ((items_Alike (and-Alike (on_Alike (λ pair. pair.0) (record { fed = K.respects_eq })) (on_Alike (λ pair. pair.1) (record { fed = V.respects_eq })))).fed m.pairs n.pairs same) };
+    ghost respects_eq = { λ m n same.
+        ap (drop 1)
+        ((items_Alike (and-Alike (on_Alike (λ pair. pair.0) (record { fed = K.respects_eq }))
+        (on_Alike (λ pair. pair.1) (record { fed = V.respects_eq })))
+        ).fed m.pairs n.pairs same) };
 
     fn hash<H: Hasher>(&self, state: &mut H) {
         for (key, value) in self.iter() {
@@ -214,7 +230,8 @@ fn partial_compare_pairs<K: PartialOrd, V: PartialOrd>(
     pair: (&K, &V),
     other: (&K, &V),
 ) -> Option<Ordering>
-    ensures { result ≡ partial_pair_order K.partial_cmp V.partial_cmp (deref_pair pair.entry) (deref_pair other.entry) }
+    ensures { result ≡ partial_pair_order K.partial_cmp V.partial_cmp (deref_pair pair.entry)
+        (deref_pair other.entry) }
 {
     match pair.0.partial_cmp(other.0)? {
         Ordering::Less => Some(Ordering::Less),

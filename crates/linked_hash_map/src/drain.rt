@@ -68,7 +68,8 @@ impl<'a, K: Drop, V: Drop> Iterator for Drain<'a, K, V> {
     fn size_hint(&self) -> (usize, Option<usize>)
         ensures lower { IsWithinCount result.0 (at_most (length (drain_rest self.now))) }
         ensures upper { IfSome result.1 (UpTo (at_most (length (drain_rest self.now)))) }
-        ensures exact { result ≡ (length (drain_rest self.now), Some (length (drain_rest self.now))) }
+        ensures exact { result
+            ≡ (length (drain_rest self.now), Some (length (drain_rest self.now))) }
     {
         let len = self.len();
         (len, Some(len))

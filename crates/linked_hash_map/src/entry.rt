@@ -82,7 +82,8 @@ pub struct VacantEntry<'a, K: Eq + Hash, V, S: BuildHasher = DefaultHashBuilder>
     key: K,
     hash: u64,
     ghost absent: { find K.eq map.now.pairs key ≡ None },
-    ghost hashed: { hash ≡ hash_by S.Hasher.finish S.Hasher.write S.build_hasher K.hash_input map.now.hasher key },
+    ghost hashed: { hash ≡ hash_by S.Hasher.finish S.Hasher.write S.build_hasher K.hash_input
+        map.now.hasher key },
 }
 
 // By hand, so that callers know what an unused entry leaves.

@@ -137,7 +137,9 @@ impl<K: Eq + Hash, V, S: BuildHasher> Model for LinkedHashMap<K, V, S> {
 
     ghost view = { λ m. map_of m.table (beside m.hasher m.visit m.mode) };
 
-    ghost invariant = { λ m. IsKept K.eq (hash_by S.Hasher.finish S.Hasher.write S.build_hasher K.hash_input m.hasher) m.table (mark_of m.visit) (unvisited_of m.visit) (current_of m.visit) };
+    ghost invariant = { λ m.
+        IsKept K.eq (hash_by S.Hasher.finish S.Hasher.write S.build_hasher K.hash_input m.hasher)
+        m.table (mark_of m.visit) (unvisited_of m.visit) (current_of m.visit) };
 }
 
 impl<K: Eq + Hash, V, S: BuildHasher> LinkedHashMap<K, V, S> {
@@ -256,7 +258,8 @@ impl<K: Eq + Hash, V, S: BuildHasher> LinkedHashMap<K, V, S> {
 
     /// Returns the hash of a key.
     pub(crate) fn hash_of(&self, key: &K) -> u64
-        ensures { result ≡ hash_by S.Hasher.finish S.Hasher.write S.build_hasher K.hash_input self.now.hasher key.now }
+        ensures { result ≡ hash_by S.Hasher.finish S.Hasher.write S.build_hasher K.hash_input
+            self.now.hasher key.now }
     {
         self.hasher.hash_one(key)
     }

@@ -387,10 +387,13 @@ fn reply_to<K: Eq + Hash + Drop, V: Drop, S: BuildHasher>(
     map: &mut LinkedHashMap<K, V, S>,
     command: Command<K, V>,
 ) -> Reply<K, V>
-    ensures reply { (start : ℕ) (log : Log K V) → Defines K.eq start log map.old.pairs map.old.capacity map.old.mode →
-        IsReply K.eq start log command result }
-    ensures defines { (start : ℕ) (log : Log K V) → Defines K.eq start log map.old.pairs map.old.capacity map.old.mode →
-        Defines K.eq start (log_after K.eq log command result.answer) map.new.pairs map.new.capacity map.new.mode }
+    ensures reply { (start : ℕ) (log : Log K V)
+        → Defines K.eq start log map.old.pairs map.old.capacity map.old.mode
+        → IsReply K.eq start log command result }
+    ensures defines { (start : ℕ) (log : Log K V)
+        → Defines K.eq start log map.old.pairs map.old.capacity map.old.mode
+        → Defines K.eq start (log_after K.eq log command result.answer) map.new.pairs
+        map.new.capacity map.new.mode }
     ensures hasher { map.new.hasher ≡ map.old.hasher }
     ensures stays_valid { IsValid K.eq map.new }
 {
@@ -428,23 +431,28 @@ pub fn replay<K: Eq + Hash + Drop, V: Drop, S: BuildHasher>(
 ) -> Result<Vec<Reply<K, V>>, Vec<Command<K, V>>>
     // One reply for each command, by the log that those before it left.
     ensures run { IfOk result (λ replies.
-        IsRun K.eq map.old.capacity (first_log map.old.mode map.old.pairs) commands.items replies.items) }
+        IsRun K.eq map.old.capacity (first_log map.old.mode map.old.pairs)
+        commands.items replies.items) }
 
     // The map at the end, by the last log.
     ensures pairs { IfOk result (λ replies.
-        let last = last_log K.eq (first_log map.old.mode map.old.pairs) commands.items replies.items in
+        let last = last_log K.eq (first_log map.old.mode map.old.pairs)
+        commands.items replies.items in
         map.new.pairs ≡ pairs K.eq last) }
     ensures capacity { IfOk result (λ replies.
-        let last = last_log K.eq (first_log map.old.mode map.old.pairs) commands.items replies.items in
+        let last = last_log K.eq (first_log map.old.mode map.old.pairs)
+        commands.items replies.items in
         map.new.capacity ≡ high K.eq map.old.capacity last) }
     ensures mode { IfOk result (λ replies.
-        let last = last_log K.eq (first_log map.old.mode map.old.pairs) commands.items replies.items in
+        let last = last_log K.eq (first_log map.old.mode map.old.pairs)
+        commands.items replies.items in
         map.new.mode ≡ mode last) }
     ensures hasher { map.new.hasher ≡ map.old.hasher }
     ensures valid { IsValid K.eq map.old }
     ensures stays_valid { IsValid K.eq map.new }
     // The clauses `run`, `pairs`, `capacity` and `mode` in one, for the proofs of callers.
-    ensures replayed { IfOk result (λ replies. Replayed K.eq map.old commands.items replies.items map.new) }
+    ensures replayed { IfOk result (λ replies.
+        Replayed K.eq map.old commands.items replies.items map.new) }
 
     ensures handed_back { IfErr result (λ refused. refused ≡ commands) }
     ensures unchanged { OnErr result (map.new ≡ map.old) }

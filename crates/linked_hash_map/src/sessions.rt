@@ -145,13 +145,19 @@ impl<T> Sessions<T> {
     /// assert_eq!(rt; table.total(), 10);
     /// ```
     pub fn put(&mut self, id: u64, weight: u64, payload: T) -> Result<Put<T>, PutRefused<T>>
-        ensures stay { OnOk result (self.new.sessions ≡ fit self.old.limit (with_last self.old.sessions id weight payload)) }
-        ensures longest { OnOk result (IsLongestEnd self.old.limit (with_last self.old.sessions id weight payload) self.new.sessions) }
+        ensures stay { OnOk result
+            (self.new.sessions ≡ fit self.old.limit
+            (with_last self.old.sessions id weight payload)) }
+        ensures longest { OnOk result
+            (IsLongestEnd self.old.limit (with_last self.old.sessions id weight payload)
+            self.new.sessions) }
         ensures newest { OnOk result (last self.new.sessions ≡ Some (id, weight, payload)) }
         ensures payload { OnOk result (payload_of self.new.sessions id ≡ Some payload) }
-        ensures others { (other : ℕ) → OnOk result (id == other ≡ false → IsSome (payload_of self.new.sessions other)
+        ensures others { (other : ℕ)
+            → OnOk result (id == other ≡ false → IsSome (payload_of self.new.sessions other)
             → payload_of self.new.sessions other ≡ payload_of self.old.sessions other) }
-        ensures gone { IfOk result (λ put. put.gone.items ++ self.new.sessions ≡ with_last self.old.sessions id weight payload) }
+        ensures gone { IfOk result (λ put.
+            put.gone.items ++ self.new.sessions ≡ with_last self.old.sessions id weight payload) }
         ensures exact { IfOk result (λ put. vec_capacity put.gone ≡ length put.gone.items) }
         ensures old { IfOk result (λ put. put.old ≡ payload_of self.old.sessions id) }
         ensures limit { self.new.limit ≡ self.old.limit }
@@ -160,8 +166,10 @@ impl<T> Sessions<T> {
 
         ensures payload_back { IfErr result (λ refused. refused.payload ≡ payload) }
         ensures unchanged { OnErr result (self.new ≡ self.old) }
-        ensures too_heavy { IsErrAnd result (λ refused. refused.reason ≡ PutReason.TooHeavy) ↔ (self.old.limit < weight) }
-        ensures succeeds { IsSome (session_of self.old.sessions id) → total_weight (without self.old.sessions id) + weight ≤ self.old.limit → IsOk result }
+        ensures too_heavy { IsErrAnd result (λ refused. refused.reason ≡ PutReason.TooHeavy) ↔
+            (self.old.limit < weight) }
+        ensures succeeds { IsSome (session_of self.old.sessions id)
+            → total_weight (without self.old.sessions id) + weight ≤ self.old.limit → IsOk result }
     {
         if weight > self.limit {
             return Err(PutRefused {

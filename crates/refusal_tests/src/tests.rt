@@ -62,8 +62,8 @@ fn is_given(alloc: Global) -> bool {
     Box::new(alloc, 0).is_ok()
 }
 
-/// Makes a map of this capacity. Above 0 it asks for four growths: buckets, a filter, a list of chunks
-/// and a chunk.
+/// Makes a map of this capacity. Above 0 it asks for four growths: buckets, a filter, a list of
+/// chunks and a chunk.
 fn with_room(alloc: Global, capacity: usize) -> Result<Map, ReserveError> {
     LinkedHashMap::with_capacity_and_hasher(alloc, capacity, BUILDER)
 }

@@ -9,7 +9,8 @@ use linked_hash_map::{LIMIT, LinkedHashMap, Mode, ReserveError};
 use std::alloc::Global;
 use std::hash::Hash;
 
-/// A cache of a fixed size. Its pairs stand in the order of their last use, the one used least recently first.
+/// A cache of a fixed size. Its pairs stand in the order of their last use, the one used least
+/// recently first.
 #[derive(Drop)]
 pub struct Cache<K: Eq + Hash, V> {
     map: LinkedHashMap<K, V>,
@@ -37,8 +38,8 @@ impl<K: Eq + Hash, V> Cache<K, V> {
         self.map.len()
     }
 
-    /// Puts a pair in as the one used last. It never fails. Where the key is new and the cache is full, the pair used least
-    /// recently leaves, and is returned.
+    /// Puts a pair in as the one used last. It never fails. Where the key is new and the cache is
+    /// full, the pair used least recently leaves, and is returned.
     pub fn put(&mut self, key: K, value: V) -> Option<(K, V)>
     where
         K: Drop,
@@ -47,10 +48,14 @@ impl<K: Eq + Hash, V> Cache<K, V> {
         ensures stored { value_at K.eq self.new.map.pairs key ≡ Some value }
         ensures size { self.new.map.capacity ≡ self.old.map.capacity }
 
-        ensures evicts { is_some result ≡ not (is_some (find K.eq self.old.map.pairs key)) && (length self.old.map.pairs == self.old.map.capacity) }
+        ensures evicts { is_some result
+            ≡ not (is_some (find K.eq self.old.map.pairs key))
+            && (length self.old.map.pairs == self.old.map.capacity) }
         ensures evicted { IsSome result → result ≡ first self.old.map.pairs }
-        ensures others { IsSome result → self.new.map.pairs ≡ without_first self.old.map.pairs ++ (key, value) ∷ [] }
-        ensures all { IsNone result → self.new.map.pairs ≡ put K.eq self.old.map.mode self.old.map.pairs key value }
+        ensures others { IsSome result
+            → self.new.map.pairs ≡ without_first self.old.map.pairs ++ (key, value) ∷ [] }
+        ensures all { IsNone result
+            → self.new.map.pairs ≡ put K.eq self.old.map.mode self.old.map.pairs key value }
         ensures mode { self.new.map.mode ≡ self.old.map.mode }
     {
         let evicted = self.make_place(&key);
@@ -60,15 +65,19 @@ impl<K: Eq + Hash, V> Cache<K, V> {
         }
     }
 
-    /// Takes out the pair used least recently and returns it, if the cache is full and does not have the key.
+    /// Takes out the pair used least recently and returns it, if the cache is full and does not
+    /// have the key.
     fn make_place(&mut self, key: &K) -> Option<(K, V)>
         requires room { 0 < self.old.map.capacity }
-        ensures evicts { is_some result ≡ not (is_some (find K.eq self.old.map.pairs key.now)) && (length self.old.map.pairs == self.old.map.capacity) }
+        ensures evicts { is_some result
+            ≡ not (is_some (find K.eq self.old.map.pairs key.now))
+            && (length self.old.map.pairs == self.old.map.capacity) }
         ensures evicted { IsSome result → result ≡ first self.old.map.pairs }
         ensures others { IsSome result → self.new.map.pairs ≡ without_first self.old.map.pairs }
         ensures all { IsNone result → self.new.map.pairs ≡ self.old.map.pairs }
         ensures absent { IsSome result → value_at K.eq self.new.map.pairs key.now ≡ None }
-        ensures room { find K.eq self.new.map.pairs key.now ≡ None → length self.new.map.pairs < self.new.map.capacity }
+        ensures room { find K.eq self.new.map.pairs key.now ≡ None
+            → length self.new.map.pairs < self.new.map.capacity }
         ensures size { self.new.map.capacity ≡ self.old.map.capacity }
         ensures mode { self.new.map.mode ≡ self.old.map.mode }
     {
@@ -78,8 +87,8 @@ impl<K: Eq + Hash, V> Cache<K, V> {
         self.map.pop_front()
     }
 
-    /// Lends the value of a key for writing, and makes it the one used last, or returns `None` where the key is absent and
-    /// changes nothing.
+    /// Lends the value of a key for writing, and makes it the one used last, or returns `None`
+    /// where the key is absent and changes nothing.
     pub fn get_mut(&mut self, key: &K) -> Option<&mut V>
         ensures* writes_back { sem 𝓛 (lends_recent K.row V.row K.Hash self.entry key.now result) }
         ensures value { option_copied_mut result ≡ value_at K.eq self.old.map.pairs key.now }

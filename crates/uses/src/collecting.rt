@@ -11,12 +11,14 @@ use linked_hash_map::{LinkedHashMap, Mode, Refused, ReserveError};
 use std::alloc::Global;
 use std::hash::{BuildHasher, Hash};
 
-/// Puts in the pairs of a list one by one. The first that finds no memory is handed back, and those before it stay.
+/// Puts in the pairs of a list one by one. The first that finds no memory is handed back, and those
+/// before it stay.
 pub fn insert_all<K: Eq + Hash + Drop, V: Drop, S: BuildHasher>(
     map: &mut LinkedHashMap<K, V, S>,
     list: Vec<(K, V)>,
 ) -> Result<(), Refused<K, V>>
-    ensures all { OnOk result (map.new.pairs ≡ insert_each K.eq map.old.mode map.old.pairs list.items) }
+    ensures all { OnOk result
+        (map.new.pairs ≡ insert_each K.eq map.old.mode map.old.pairs list.items) }
     ensures absent { IfErr result (λ refused. find K.eq map.new.pairs refused.key ≡ None) }
     ensures full { OnErr result (length map.new.pairs ≡ map.new.capacity) }
 {
@@ -24,15 +26,24 @@ pub fn insert_all<K: Eq + Hash + Drop, V: Drop, S: BuildHasher>(
     Ok(())
 }
 
-/// Puts in the pairs of another map, whose values win. In `Keep` the keys of the first map stand in their places, and the new
-/// ones come behind them, in order. The first pair that finds no memory is handed back, and those before it stay.
+/// Puts in the pairs of another map, whose values win. In `Keep` the keys of the first map stand in
+/// their places, and the new ones come behind them, in order. The first pair that finds no memory
+/// is handed back, and those before it stay.
 pub fn merge<K: Eq + Hash + Drop, V: Drop, S: BuildHasher, T: BuildHasher + Drop>(
     map: &mut LinkedHashMap<K, V, S>,
     others: LinkedHashMap<K, V, T>,
 ) -> Result<(), Refused<K, V>>
-    ensures all { OnOk result (map.new.pairs ≡ insert_each K.eq map.old.mode map.old.pairs others.pairs) }
-    ensures values { OnOk result ((key : K) → value_at K.eq map.new.pairs key ≡ option_or (value_at K.eq others.pairs key) (value_at K.eq map.old.pairs key)) }
-    ensures keep { OnOk result (map.old.mode ≡ Mode.Keep → keys_of map.new.pairs ≡ keys_of map.old.pairs ++ filter (λ key. not (is_some (find K.eq map.old.pairs key))) (keys_of others.pairs)) }
+    ensures all { OnOk result
+        (map.new.pairs ≡ insert_each K.eq map.old.mode map.old.pairs others.pairs) }
+    ensures values { OnOk result
+        ((key : K) → value_at K.eq map.new.pairs key
+        ≡ option_or (value_at K.eq others.pairs key) (value_at K.eq map.old.pairs key)) }
+    ensures keep { OnOk result
+        (map.old.mode ≡ Mode.Keep
+        → keys_of map.new.pairs
+        ≡ keys_of map.old.pairs
+        ++ filter (λ key. not (is_some (find K.eq map.old.pairs key)))
+        (keys_of others.pairs)) }
     ensures absent { IfErr result (λ refused. find K.eq map.new.pairs refused.key ≡ None) }
     ensures full { OnErr result (length map.new.pairs ≡ map.new.capacity) }
 {

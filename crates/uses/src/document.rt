@@ -48,14 +48,18 @@ impl<K: Eq + Hash, V> Document<K, V> {
         self.fields[name] = value;
     }
 
-    /// Sets a field: one that is there keeps its place, and a new one goes to the end. Where there is no memory for a new one, it
-    /// is handed back and nothing changes.
+    /// Sets a field: one that is there keeps its place, and a new one goes to the end. Where there
+    /// is no memory for a new one, it is handed back and nothing changes.
     pub fn set(&mut self, name: K, value: V) -> Result<(), Refused<K, V>>
     where
         K: Drop,
         V: Drop,
-        ensures there { OnOk result (IsSome (find K.eq self.old.fields.pairs name) → self.new.fields.pairs ≡ set_value K.eq self.old.fields.pairs name value) }
-        ensures new { OnOk result (find K.eq self.old.fields.pairs name ≡ None → self.new.fields.pairs ≡ self.old.fields.pairs ++ (name, value) ∷ []) }
+        ensures there { OnOk result
+            (IsSome (find K.eq self.old.fields.pairs name)
+            → self.new.fields.pairs ≡ set_value K.eq self.old.fields.pairs name value) }
+        ensures new { OnOk result
+            (find K.eq self.old.fields.pairs name ≡ None
+            → self.new.fields.pairs ≡ self.old.fields.pairs ++ (name, value) ∷ []) }
 
         ensures handed_back { IfErr result (λ refused. refused.key ≡ name) }
         ensures unchanged { OnErr result (self.new ≡ self.old) }
@@ -74,19 +78,27 @@ impl<K: Eq + Hash, V> Document<K, V> {
         K: Drop,
         ensures value { result ≡ value_at K.eq self.old.fields.pairs name.now }
         ensures gone { value_at K.eq self.new.fields.pairs name.now ≡ None }
-        ensures others { (other : K) → K.eq name.now other ≡ false → value_at K.eq self.new.fields.pairs other ≡ value_at K.eq self.old.fields.pairs other }
+        ensures others { (other : K) → K.eq name.now other ≡ false
+            → value_at K.eq self.new.fields.pairs other
+            ≡ value_at K.eq self.old.fields.pairs other }
     {
         self.fields.remove(name)
     }
 
-    /// Gives a field another name, in its place, and tells whether it did: only where the old name is there and the new one is
-    /// not. It takes no memory and never fails: each field goes to the end once, in turn.
+    /// Gives a field another name, in its place, and tells whether it did: only where the old name
+    /// is there and the new one is not. It takes no memory and never fails: each field goes to the
+    /// end once, in turn.
     pub fn rename(&mut self, from: &K, to: K) -> bool
     where
         K: Copy,
         V: Drop,
-        ensures did { Decides result (IsSome (find K.eq self.old.fields.pairs from.now) × (find K.eq self.old.fields.pairs to ≡ None)) }
-        ensures renamed { IsTrue result → self.new.fields.pairs ≡ map (λ field. if K.eq from.now field.0 then (to, field.1) else field) self.old.fields.pairs }
+        ensures did { Decides result
+            (IsSome (find K.eq self.old.fields.pairs from.now)
+            × (find K.eq self.old.fields.pairs to ≡ None)) }
+        ensures renamed { IsTrue result
+            → self.new.fields.pairs
+            ≡ map (λ field. if K.eq from.now field.0 then (to, field.1) else field)
+            self.old.fields.pairs }
         ensures unchanged { IsFalse result → self.new.fields.pairs ≡ self.old.fields.pairs }
     {
         if !self.fields.contains_key(from) || self.fields.contains_key(&to) {

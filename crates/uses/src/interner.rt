@@ -8,7 +8,8 @@ use linked_hash_map::{LinkedHashMap, Refused};
 use std::alloc::Global;
 use std::hash::Hash;
 
-/// Names with their numbers, which are 0, 1, 2 and so on, in the order in which the names first came.
+/// Names with their numbers, which are 0, 1, 2 and so on, in the order in which the names first
+/// came.
 #[derive(Drop)]
 pub struct Interner<K: Eq + Hash> {
     names: LinkedHashMap<K, usize>,
@@ -25,15 +26,21 @@ impl<K: Eq + Hash> Interner<K> {
         }
     }
 
-    /// Returns the number of a name. A name that has none gets the next one, which is how many names
-    /// there are, or is handed back if an allocation fails.
+    /// Returns the number of a name. A name that has none gets the next one, which is how many
+    /// names there are, or is handed back if an allocation fails.
     #[tactic(auto, using(linked_hash_map::proofs::Callers::Rules::dense))]
     pub fn number_of(&mut self, name: K) -> Result<usize, Refused<K, usize>>
     where
         K: Drop,
-        ensures number { IfOk result (λ number. value_at K.eq self.new.names.pairs name ≡ Some number) }
-        ensures known { (number : ℕ) → OnOk result (value_at K.eq self.old.names.pairs name ≡ Some number → self.new.names.pairs ≡ self.old.names.pairs) }
-        ensures new { OnOk result (value_at K.eq self.old.names.pairs name ≡ None → self.new.names.pairs ≡ self.old.names.pairs ++ (name, length self.old.names.pairs) ∷ []) }
+        ensures number { IfOk result (λ number.
+            value_at K.eq self.new.names.pairs name ≡ Some number) }
+        ensures known { (number : ℕ)
+            → OnOk result (value_at K.eq self.old.names.pairs name ≡ Some number
+            → self.new.names.pairs ≡ self.old.names.pairs) }
+        ensures new { OnOk result
+            (value_at K.eq self.old.names.pairs name ≡ None
+            → self.new.names.pairs
+            ≡ self.old.names.pairs ++ (name, length self.old.names.pairs) ∷ []) }
         ensures below { IfOk result (λ number. number < length self.new.names.pairs) }
 
         ensures handed_back { IfErr result (λ refused. refused.key ≡ name) }

@@ -1,4 +1,5 @@
-//! Programs over the public calls of `linked_hash_map`, each proved from the contracts of those calls alone.
+//! Programs over the public calls of `linked_hash_map`, each proved from the contracts of those
+//! calls alone.
 #![tactic(auto)]
 
 pub mod cache;

@@ -29,7 +29,8 @@ pub fn reserve_and_extend<K: Eq + Hash + Drop, V: Drop, S: BuildHasher>(
     map: &mut LinkedHashMap<K, V, S>,
     list: Vec<(K, V)>,
 ) -> Result<(), ReserveError>
-    ensures pairs { OnOk result (map.new.pairs ≡ insert_each K.eq map.old.mode map.old.pairs list.items) }
+    ensures pairs { OnOk result
+        (map.new.pairs ≡ insert_each K.eq map.old.mode map.old.pairs list.items) }
     ensures unchanged { OnErr result (map.new ≡ map.old) }
 {
     map.reserve(list.len())?;
@@ -51,8 +52,8 @@ pub fn empty_out<K: Eq + Hash + Drop, V: Drop, S: BuildHasher>(map: &mut LinkedH
     }
 }
 
-/// Returns how many pairs were rehashed: fewer than two for each pair that there is room for, and at
-/// most one for each if the capacity is a power of two.
+/// Returns how many pairs were rehashed: fewer than two for each pair that there is room for, and
+/// at most one for each if the capacity is a power of two.
 #[tactic(auto, using(linked_hash_map::proofs::Callers::Counts::buckets_power))]
 pub fn rehashed<K: Eq + Hash, V, S: BuildHasher>(map: &LinkedHashMap<K, V, S>) -> usize
     ensures count { result ≡ map.now.rechained }

@@ -32,7 +32,8 @@ impl<V> Numbered<V> {
         V: Drop,
         ensures number { IfOk result (λ number. number ≡ self.old.next) }
         ensures next { OnOk result (self.new.next ≡ self.old.next + 1) }
-        ensures pushed { OnOk result (self.new.items.pairs ≡ self.old.items.pairs ++ (self.old.next, item) ∷ []) }
+        ensures pushed { OnOk result
+            (self.new.items.pairs ≡ self.old.items.pairs ++ (self.old.next, item) ∷ []) }
 
         ensures handed_back { IfErr result (λ refused. refused.value ≡ item) }
         ensures unchanged { OnErr result (self.new.items ≡ self.old.items) }
@@ -74,8 +75,10 @@ pub fn add_both<V: Drop>(
     first: V,
     second: V,
 ) -> Result<u64, Refused<u64, V>>
-    ensures first { IfOk result (λ number. value_at nat_eq table.new.items.pairs number ≡ Some first) }
-    ensures second { IfOk result (λ number. value_at nat_eq table.new.items.pairs (number + 1) ≡ Some second) }
+    ensures first { IfOk result (λ number.
+        value_at nat_eq table.new.items.pairs number ≡ Some first) }
+    ensures second { IfOk result (λ number.
+        value_at nat_eq table.new.items.pairs (number + 1) ≡ Some second) }
 {
     let number = table.add(first)?;
     table.add(second)?;

@@ -5,7 +5,8 @@ ghost use Rattle.linked_hash_map.specs.SessionTables.{payload_of, without, with_
 use linked_hash_map::sessions::{PutRefused, Sessions};
 use std::alloc::Global;
 
-/// Pages of text by their numbers. They stand in the order of their last use, the one used least recently first.
+/// Pages of text by their numbers. They stand in the order of their last use, the one used least
+/// recently first.
 #[derive(Drop)]
 pub struct Pages {
     table: Sessions<String>,
@@ -22,17 +23,26 @@ impl Pages {
         }
     }
 
-    /// Puts a page in as the one used last, in place of the one with its number. Pages that were used least recently leave for
-    /// it, as few as it takes, and those that stay keep their texts. A page above the limit is handed
-    /// back, and so is one that found no memory.
+    /// Puts a page in as the one used last, in place of the one with its number. Pages that were
+    /// used least recently leave for it, as few as it takes, and those that stay keep their texts.
+    /// A page above the limit is handed back, and so is one that found no memory.
     pub fn put(&mut self, number: u64, text: String) -> Result<(), PutRefused<String>>
         ensures stays { OnOk result (payload_of self.new.table.sessions number ≡ Some text) }
-        ensures others { (other : ℕ) → OnOk result (number == other ≡ false → IsSome (payload_of self.new.table.sessions other)
-            → payload_of self.new.table.sessions other ≡ payload_of self.old.table.sessions other) }
+        ensures others { (other : ℕ)
+            → OnOk result (number == other ≡ false
+            → IsSome (payload_of self.new.table.sessions other)
+            → payload_of self.new.table.sessions other
+            ≡ payload_of self.old.table.sessions other) }
         ensures within { total_weight self.new.table.sessions ≤ self.new.table.limit }
-        ensures oldest { OnOk result (IsEnd (with_last self.old.table.sessions number (length (string_bytes text)) text) self.new.table.sessions) }
-        ensures all { OnOk result (total_weight (with_last self.old.table.sessions number (length (string_bytes text)) text) ≤ self.old.table.limit
-            → self.new.table.sessions ≡ with_last self.old.table.sessions number (length (string_bytes text)) text) }
+        ensures oldest { OnOk result
+            (IsEnd (with_last self.old.table.sessions number (length (string_bytes text)) text)
+            self.new.table.sessions) }
+        ensures all { OnOk result
+            (total_weight (with_last self.old.table.sessions number (length (string_bytes text))
+            text)
+            ≤ self.old.table.limit
+            → self.new.table.sessions
+            ≡ with_last self.old.table.sessions number (length (string_bytes text)) text) }
         ensures limit { self.new.table.limit ≡ self.old.table.limit }
 
         ensures handed_back { IfErr result (λ refused. refused.payload ≡ text) }

@@ -24,14 +24,19 @@ impl<J: Eq + Hash> Queue<J> {
         }
     }
 
-    /// Lets a job wait, with its weight, and tells whether it is new. One that waits already keeps its place and its weight. Where
-    /// there is no memory for a new one, it is handed back and nothing changes.
+    /// Lets a job wait, with its weight, and tells whether it is new. One that waits already keeps
+    /// its place and its weight. Where there is no memory for a new one, it is handed back and
+    /// nothing changes.
     pub fn add(&mut self, job: J, weight: u64) -> Result<bool, Refused<J, u64>>
     where
         J: Drop,
         ensures new { IfOk result (λ new. new ≡ not (is_some (find J.eq self.old.jobs.pairs job))) }
-        ensures waits { OnOk result (find J.eq self.old.jobs.pairs job ≡ None → self.new.jobs.pairs ≡ self.old.jobs.pairs ++ (job, weight) ∷ []) }
-        ensures waited { OnOk result (IsSome (find J.eq self.old.jobs.pairs job) → self.new.jobs.pairs ≡ self.old.jobs.pairs) }
+        ensures waits { OnOk result
+            (find J.eq self.old.jobs.pairs job ≡ None
+            → self.new.jobs.pairs ≡ self.old.jobs.pairs ++ (job, weight) ∷ []) }
+        ensures waited { OnOk result
+            (IsSome (find J.eq self.old.jobs.pairs job)
+            → self.new.jobs.pairs ≡ self.old.jobs.pairs) }
 
         ensures handed_back { IfErr result (λ refused. refused.key ≡ job) }
         ensures unchanged { OnErr result (self.new.jobs ≡ self.old.jobs) }

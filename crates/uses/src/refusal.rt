@@ -6,8 +6,8 @@ ghost use Rattle.linked_hash_map.specs.Validity.{IsValid};
 use linked_hash_map::{LIMIT, LinkedHashMap, Refused};
 use std::hash::{BuildHasher, Hash};
 
-/// Inserts a pair, at the back if its key is new. If it is refused, the front pair is removed for it
-/// and returned: this never fails.
+/// Inserts a pair, at the back if its key is new. If it is refused, the front pair is removed for
+/// it and returned: this never fails.
 pub fn insert_anyway<K: Eq + Hash + Drop, V: Drop, S: BuildHasher>(
     map: &mut LinkedHashMap<K, V, S>,
     key: K,
@@ -15,7 +15,8 @@ pub fn insert_anyway<K: Eq + Hash + Drop, V: Drop, S: BuildHasher>(
 ) -> Option<(K, V)>
     requires some { 0 < length map.old.pairs }
     ensures given { IsNone result → map.new.pairs ≡ put K.eq map.old.mode map.old.pairs key value }
-    ensures instead { IsSome result → map.new.pairs ≡ without_first map.old.pairs ++ (key, value) ∷ [] }
+    ensures instead { IsSome result
+        → map.new.pairs ≡ without_first map.old.pairs ++ (key, value) ∷ [] }
     ensures oldest { IsSome result → result ≡ first map.old.pairs }
     ensures capacity { IsSome result → map.new.capacity ≡ map.old.capacity }
     ensures hasher { map.new.hasher ≡ map.old.hasher }
@@ -30,15 +31,16 @@ pub fn insert_anyway<K: Eq + Hash + Drop, V: Drop, S: BuildHasher>(
     }
 }
 
-/// Inserts a pair at the back if its key is new, and else changes nothing. A new pair that is refused
-/// comes back: if an allocation fails, and always from a map of `LIMIT` pairs.
+/// Inserts a pair at the back if its key is new, and else changes nothing. A new pair that is
+/// refused comes back: if an allocation fails, and always from a map of `LIMIT` pairs.
 pub fn insert_if_new<K: Eq + Hash + Drop, V: Drop, S: BuildHasher>(
     map: &mut LinkedHashMap<K, V, S>,
     key: K,
     value: V,
 ) -> Result<(), Refused<K, V>>
     ensures stays_valid { IsValid K.eq map.new }
-    ensures limit { find K.eq map.old.pairs key ≡ None → length map.old.pairs ≡ LIMIT → IsErr result }
+    ensures limit { find K.eq map.old.pairs key ≡ None → length map.old.pairs ≡ LIMIT
+        → IsErr result }
 {
     map.entry(key).or_insert(value)?;
     Ok(())

@@ -8,9 +8,9 @@ use linked_hash_map::replay::{Command, Reply, replay};
 use std::alloc::{AllocError, Global};
 use std::hash::{BuildHasher, Hash};
 
-/// Runs three commands by `replay` and returns the replies: the value of a key is written, another key is moved to the back and
-/// a third is removed, each if it is there. No command is refused; the run is, if the commands or the replies cannot
-/// be allocated.
+/// Runs three commands by `replay` and returns the replies: the value of a key is written, another
+/// key is moved to the back and a third is removed, each if it is there. No command is refused; the
+/// run is, if the commands or the replies cannot be allocated.
 pub fn write_refresh_remove<K: Eq + Hash + Drop, V: Drop, S: BuildHasher>(
     alloc: Global,
     map: &mut LinkedHashMap<K, V, S>,
@@ -20,7 +20,8 @@ pub fn write_refresh_remove<K: Eq + Hash + Drop, V: Drop, S: BuildHasher>(
 ) -> Result<Vec<Reply<K, V>>, AllocError>
     ensures pairs { OnOk result (map.new.pairs ≡ pairs_after_all K.eq map.old.mode map.old.pairs
         (Command.Write pair.0 pair.1 ∷ Command.Refresh used ∷ Command.Remove gone ∷ [])) }
-    ensures replies { IfOk result (λ replies. replies.items ≡ replies_to K.eq map.old.mode map.old.capacity map.old.pairs
+    ensures replies { IfOk result (λ replies.
+        replies.items ≡ replies_to K.eq map.old.mode map.old.capacity map.old.pairs
         (Command.Write pair.0 pair.1 ∷ Command.Refresh used ∷ Command.Remove gone ∷ [])) }
     ensures unchanged { OnErr result (map.new ≡ map.old) }
 {
@@ -55,8 +56,11 @@ pub fn replay_under_two_hashers<K: Eq + Hash + Drop, V: Drop, S: BuildHasher, T:
     requires same_mode { first.old.mode ≡ second.old.mode }
     requires same_commands { commands.items ≡ copies.items }
     ensures answers { RefusesNothing result.0 → RefusesNothing result.1
-        → IfOk result.0 (λ one. IfOk result.1 (λ other. map (λ reply. reply.answer) one.items ≡ map (λ reply. reply.answer) other.items)) }
-    ensures pairs { RefusesNothing result.0 → RefusesNothing result.1 → first.new.pairs ≡ second.new.pairs }
+        → IfOk result.0 (λ one.
+        IfOk result.1 (λ other.
+        map (λ reply. reply.answer) one.items ≡ map (λ reply. reply.answer) other.items)) }
+    ensures pairs { RefusesNothing result.0 → RefusesNothing result.1
+        → first.new.pairs ≡ second.new.pairs }
     ensures first_unchanged { OnErr result.0 (first.new ≡ first.old) }
     ensures second_unchanged { OnErr result.1 (second.new ≡ second.old) }
 {

@@ -18,7 +18,8 @@ pub fn keep_frequent<K: Eq + Hash + Drop, S: BuildHasher>(
 
 /// Halves each count, and keeps the words whose count was above 1.
 pub fn age<K: Eq + Hash + Drop, S: BuildHasher>(counts: &mut LinkedHashMap<K, u64, S>)
-    ensures pairs { counts.new.pairs ≡ map (λ pair. (pair.0, pair.1 / 2)) (filter (λ pair. nat_le 2 pair.1) counts.old.pairs) }
+    ensures pairs { counts.new.pairs
+        ≡ map (λ pair. (pair.0, pair.1 / 2)) (filter (λ pair. nat_le 2 pair.1) counts.old.pairs) }
     ensures keeps { Keeps counts.old counts.new }
 {
     counts.retain(|_word, count| {

@@ -32,8 +32,14 @@ impl Window {
     /// Sees a number, which never fails, and returns the number that leaves, if one does.
     #[tactic(auto, using(linked_hash_map::proofs::Callers::Rules::number_keys))]
     pub fn see(&mut self, number: u64) -> Option<u64>
-        ensures left { IfSome result (λ gone. gone ∷ keys_of self.new.seen.pairs ≡ filter (λ other. not (number == other)) (keys_of self.old.seen.pairs) ++ number ∷ []) }
-        ensures stays { IsNone result → keys_of self.new.seen.pairs ≡ filter (λ other. not (number == other)) (keys_of self.old.seen.pairs) ++ number ∷ [] }
+        ensures left { IfSome result (λ gone.
+            gone ∷ keys_of self.new.seen.pairs
+            ≡ filter (λ other. not (number == other)) (keys_of self.old.seen.pairs)
+            ++ number ∷ []) }
+        ensures stays { IsNone result
+            → keys_of self.new.seen.pairs
+            ≡ filter (λ other. not (number == other)) (keys_of self.old.seen.pairs)
+            ++ number ∷ [] }
         ensures within { length self.new.seen.pairs ≤ self.old.size }
         ensures different { IsDistinct nat_eq (keys_of self.new.seen.pairs) }
         ensures size { self.new.size ≡ self.old.size }

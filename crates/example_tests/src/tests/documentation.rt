@@ -1,7 +1,7 @@
 //! The examples in the documentation of the library's public items, run.
 //!
-//! Each example stands here word for word, in a test that is named for an item that shows it. An example that several
-//! items show, or that is the beginning of another, stands here once.
+//! Each example stands here word for word, in a test that is named for an item that shows it. An
+//! example that several items show, or that is the beginning of another, stands here once.
 
 mod capacity;
 mod comparison;

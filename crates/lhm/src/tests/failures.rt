@@ -46,8 +46,8 @@ fn check_whole_read(rt: &impl Abort, alloc: Global, input: &[u8], output: &[u8])
     check_eq!(rt; writer.bytes.as_slice(), output);
 }
 
-/// Checks a run at each read that can fail. An input of 25,200 bytes has five: three fill the buffer of 8,192, the fourth gives the
-/// rest, and the fifth finds the end.
+/// Checks a run at each read that can fail. An input of 25,200 bytes has five: three fill the
+/// buffer of 8,192, the fourth gives the rest, and the fifth finds the end.
 fn check_failed_reads(rt: &impl Abort, alloc: Global, input: &[u8]) {
     for fails_at in 1..=5usize {
         check_failed_read(rt, alloc, input, fails_at);
@@ -87,10 +87,12 @@ fn interrupted_reads_are_tried_again(rt: HostRuntime) {
     check_each_interrupted(&rt, rt.alloc());
 }
 
-/// A call of a writer at which it fails, how many bytes it has taken by then, and the status and the faults of the run.
+/// A call of a writer at which it fails, how many bytes it has taken by then, and the status and
+/// the faults of the run.
 type FailedWrite = (usize, usize, u8, &'static str);
 
-/// The calls of a writer that takes 42,005 bytes, 10,000 at a time: five writes and a flush. A seventh is never made.
+/// The calls of a writer that takes 42,005 bytes, 10,000 at a time: five writes and a flush. A
+/// seventh is never made.
 const FAILED_WRITES: [FailedWrite; 7] = [
     (1, 0, 4, "output failed\n"),
     (2, 10_000, 4, "output failed\n"),
@@ -165,8 +167,8 @@ const STOPPED: [Stopped; 3] = [
     },
 ];
 
-/// Checks that a run stops with its status and writes no output, and tells a beginning of its fault. Returns how long this is, and how
-/// many calls of the writer of faults it took.
+/// Checks that a run stops with its status and writes no output, and tells a beginning of its
+/// fault. Returns how long this is, and how many calls of the writer of faults it took.
 fn check_stopped(
     rt: &impl Abort,
     alloc: Global,

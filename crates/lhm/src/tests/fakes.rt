@@ -115,7 +115,8 @@ impl Write for Sink {
     }
 }
 
-/// A writer into a vector that takes at most `most` bytes at once and fails at call `fails_at`, where a flush is a call too.
+/// A writer into a vector that takes at most `most` bytes at once and fails at call `fails_at`,
+/// where a flush is a call too.
 #[derive(Drop)]
 pub struct Output {
     pub bytes: Vec<u8>,

@@ -1,10 +1,11 @@
 //! Runs with a growth refused.
 //!
-//! The tests named `refused_` run with the Nth growth refused, for each N, until all of them say that every growth was given, and how
-//! many there are. That number is counted by hand. A vector of bytes grows to 8, and one of commands or of pairs to 4, and each doubles
-//! from there. The room of the replies is one growth, and so is the list of a draining. A map asks
-//! for its buckets, a filter, a list of chunks and a chunk at its first pair, and for its buckets, a
-//! filter and a chunk at its second.
+//! The tests named `refused_` run with the Nth growth refused, for each N, until all of them say
+//! that every growth was given, and how many there are. That number is counted by hand. A vector of
+//! bytes grows to 8, and one of commands or of pairs to 4, and each doubles from there. The room of
+//! the replies is one growth, and so is the list of a draining. A map asks for its buckets, a
+//! filter, a list of chunks and a chunk at its first pair, and for its buckets, a filter and a
+//! chunk at its second.
 
 use super::checks::{check_eq, given};
 use super::fakes::{Sink, Source};
@@ -42,8 +43,8 @@ pub fn say_if_given(rt: &impl Print, given: bool, growths: u64) {
     }
 }
 
-/// Checks that one run over memory ends in one of the ways, and says so where it is the last, in which no growth is
-/// refused.
+/// Checks that one run over memory ends in one of the ways, and says so where it is the last, in
+/// which no growth is refused.
 fn check_ways(rt: &(impl Abort + Print), alloc: Global, input: &[u8], ways: &[Way], growths: u64) {
     let mut reader = Source::new(input);
     let mut output = Sink::new();
@@ -75,7 +76,8 @@ fn refused_growth_before_a_line_that_is_no_command(rt: HostRuntime) {
 fn refused_growth_of_a_run(rt: HostRuntime) {
     let ways = [
         OUT_OF_MEMORY,
-        // The map's own growth is refused at the first insertion, or at the second, or nothing is refused.
+        // The map's own growth is refused at the first insertion, or at the second, or nothing is
+        // refused.
         (
             0,
             "refused 1 10 len=0 cap=0\nnew len=1 cap=1\nnew len=2 cap=2\nold 11 len=1 cap=2\nold 20 len=1 cap=2\nlist 2:21\n",
@@ -93,7 +95,8 @@ fn refused_growth_of_a_run(rt: HostRuntime) {
         ),
     ];
     let input = b"insert 1 10\ninsert 2 20\ninsert 1 11\nremove 1\ninsert 2 21\n";
-    // 57 bytes of input, to 64, five commands, to 8, the replies, two pairs of the map, and 99 bytes of output, to 128.
+    // 57 bytes of input, to 64, five commands, to 8, the replies, two pairs of the map, and 99
+    // bytes of output, to 128.
     check_ways(&rt, rt.alloc(), input, &ways, 19);
 }
 
@@ -105,7 +108,8 @@ fn refused_growth_of_an_extension(rt: HostRuntime) {
         (0, "stopped 1 2 20 len=1 cap=1\nlist 1:10\n", ""),
         (0, "done len=2 cap=2\nlist 1:10 2:20\n", ""),
     ];
-    // 17 bytes of input, to 32, the pairs, a command, the replies, two pairs of the map, and 32 bytes of output.
+    // 17 bytes of input, to 32, the pairs, a command, the replies, two pairs of the map, and 32
+    // bytes of output.
     check_ways(&rt, rt.alloc(), b"extend 1 10 2 20\n", &ways, 16);
 }
 
@@ -117,7 +121,8 @@ fn refused_growth_of_a_draining(rt: HostRuntime) {
         (0, "new len=1 cap=1\nnoroom len=1 cap=1\nlist 1:1\n", ""),
         (0, "new len=1 cap=1\npairs 1:1 len=0 cap=1\nlist\n", ""),
     ];
-    // 17 bytes of input, to 32, the commands, the replies, a pair of the map, its list, and 43 bytes of output, to 64.
+    // 17 bytes of input, to 32, the commands, the replies, a pair of the map, its list, and 43
+    // bytes of output, to 64.
     check_ways(&rt, rt.alloc(), b"insert 1 1\ndrain\n", &ways, 14);
 }
 

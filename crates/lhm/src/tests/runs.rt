@@ -108,8 +108,8 @@ const DONE: [(&str, &str); 28] = [
         "mode keep\ninsert 1 1\ninsert 2 2\nremove 1\ninsert 1 3\n",
         "done len=0 cap=0\nnew len=1 cap=1\nnew len=2 cap=2\nold 1 len=1 cap=2\nnew len=2 cap=2\nlist 2:2 1:3\n",
     ),
-    // Any of the three separators stands between words and at the ends, lines may be blank, and the last line may
-    // lack its newline.
+    // Any of the three separators stands between words and at the ends, lines may be blank, and the
+    // last line may lack its newline.
     (
         "\n \t\r\n\tinsert\r1 \t10\r\n  remove 1",
         "new len=1 cap=1\nold 10 len=0 cap=1\nlist\n",

@@ -118,10 +118,14 @@ impl<K: Eq + Hash, V, S: BuildHasher> LinkedHashMap<K, V, S> {
     /// assert!(rt; entries.next_entry().is_none());
     /// ```
     pub fn next_entry(&mut self) -> Option<OccupiedEntry<'_, K, V, S>>
-        ensures* lends { sem 𝓛 (lends_next_entry K.row V.row S.row S.Hasher.row K.Hash S.BuildHasher S.Hasher.Hasher self.entry result) }
-        ensures same_map { IfSome result (λ entry. (occupied_map_ref entry).ghost_name ≡ self.entry.ghost_name) }
-        ensures visits { IfSome result (λ entry. to_visit self.old ≡ occupied_key entry ∷ to_visit (occupied_map entry)) }
-        ensures value { IfSome result (λ entry. value_at K.eq self.old.pairs (occupied_key entry) ≡ Some (occupied_value entry)) }
+        ensures* lends { sem 𝓛 (lends_next_entry K.row V.row S.row S.Hasher.row K.Hash S.BuildHasher
+            S.Hasher.Hasher self.entry result) }
+        ensures same_map { IfSome result (λ entry.
+            (occupied_map_ref entry).ghost_name ≡ self.entry.ghost_name) }
+        ensures visits { IfSome result (λ entry.
+            to_visit self.old ≡ occupied_key entry ∷ to_visit (occupied_map entry)) }
+        ensures value { IfSome result (λ entry.
+            value_at K.eq self.old.pairs (occupied_key entry) ≡ Some (occupied_value entry)) }
         ensures pairs { IfSome result (λ entry. (occupied_map entry).pairs ≡ self.old.pairs) }
         ensures keeps { IfSome result (λ entry. Keeps self.old (occupied_map entry)) }
         ensures valid { IsValid K.eq self.old }
@@ -151,10 +155,15 @@ impl<'a, K: Eq + Hash, V, S: BuildHasher> Entries<'a, K, V, S> {
     /// }
     /// ```
     pub fn next(&mut self) -> Option<OccupiedEntry<'_, K, V, S>>
-        ensures* lends { sem 𝓛 (lends_next K.row V.row S.row S.Hasher.row K.Hash S.BuildHasher S.Hasher.Hasher self.entry result) }
-        ensures visits { IfSome result (λ entry. to_visit (cursor_map self.old) ≡ occupied_key entry ∷ to_visit (occupied_map entry)) }
-        ensures value { IfSome result (λ entry. value_at K.eq (cursor_map self.old).pairs (occupied_key entry) ≡ Some (occupied_value entry)) }
-        ensures pairs { IfSome result (λ entry. (occupied_map entry).pairs ≡ (cursor_map self.old).pairs) }
+        ensures* lends { sem 𝓛 (lends_next K.row V.row S.row S.Hasher.row K.Hash S.BuildHasher
+            S.Hasher.Hasher self.entry result) }
+        ensures visits { IfSome result (λ entry.
+            to_visit (cursor_map self.old) ≡ occupied_key entry ∷ to_visit (occupied_map entry)) }
+        ensures value { IfSome result (λ entry.
+            value_at K.eq (cursor_map self.old).pairs (occupied_key entry)
+            ≡ Some (occupied_value entry)) }
+        ensures pairs { IfSome result (λ entry.
+            (occupied_map entry).pairs ≡ (cursor_map self.old).pairs) }
         ensures keeps { IfSome result (λ entry. Keeps (cursor_map self.old) (occupied_map entry)) }
         ensures valid { IsValid K.eq (cursor_map self.old) }
         ensures none { IfNone result (to_visit (cursor_map self.old) ≡ []) }
@@ -185,7 +194,8 @@ impl<'a, K: Eq + Hash, V, S: BuildHasher> Entries<'a, K, V, S> {
 
     /// Returns the map.
     fn as_map(&mut self) -> &mut LinkedHashMap<K, V, S>
-        ensures* lends { sem 𝓛 (lends_map K.row V.row S.row S.Hasher.row K.Hash S.BuildHasher S.Hasher.Hasher self.entry result) }
+        ensures* lends { sem 𝓛 (lends_map K.row V.row S.row S.Hasher.row K.Hash S.BuildHasher
+            S.Hasher.Hasher self.entry result) }
         ensures now { result.now ≡ cursor_map self.old }
     {
         &mut *self.map

@@ -39,7 +39,8 @@ impl<K: Eq + Hash, V, S: BuildHasher> LinkedHashMap<K, V, S> {
         ensures value { entry_value result ≡ value_at K.eq self.old.pairs key }
         ensures pairs { (entry_map result).pairs ≡ self.old.pairs }
         ensures keeps { Keeps self.old (entry_map result) }
-        ensures ends_visit { IsTrue (is_occupied result) → entry_map result ≡ without_cursor self.old }
+        ensures ends_visit { IsTrue (is_occupied result)
+            → entry_map result ≡ without_cursor self.old }
         ensures unchanged { entry_value result ≡ None → entry_map result ≡ self.old }
         ensures valid { IsValid K.eq self.old }
     {
@@ -87,13 +88,16 @@ impl<'a, K: Eq + Hash, V, S: BuildHasher> Entry<'a, K, V, S> {
     /// ```
     pub fn and_modify<F: FnOnce(&mut V) + Drop>(self, f: F) -> Self
         requires { (value : MutBor V) → entry_value self ≡ Some value.now → F.pre f value }
-        ensures same_map { (entry_map_ref result).ghost_name ≡ (entry_map_ref self.entry).ghost_name }
+        ensures same_map { (entry_map_ref result).ghost_name
+            ≡ (entry_map_ref self.entry).ghost_name }
         ensures occupied { is_occupied result ≡ is_occupied self.entry }
         ensures key { entry_key result ≡ entry_key self.entry }
         ensures called { ModifiesValue F.FnOnce f (entry_value self.entry) (entry_value result) }
-        ensures map { entry_map result ≡ record (entry_map self.entry) {
-          pairs = set_if_some K.eq (entry_map self.entry).pairs (entry_key self.entry) (entry_value result);
-        } }
+        ensures map { entry_map result
+            ≡ record (entry_map self.entry) {
+              pairs = set_if_some K.eq (entry_map self.entry).pairs (entry_key self.entry)
+                  (entry_value result);
+            } }
         ensures valid { IsValid K.eq (entry_map self.entry) }
     {
         match self {
@@ -125,14 +129,18 @@ impl<'a, K: Eq + Hash, V, S: BuildHasher> Entry<'a, K, V, S> {
     pub fn or_insert(self, value: V) -> Result<&'a mut V, Refused<K, V>>
     where
         V: Drop,
-        ensures* writes_back { sem 𝓛 (lends_entry K.row V.row S.row S.Hasher.row K.Hash S.BuildHasher S.Hasher.Hasher self.entry result) }
+        ensures* writes_back { sem 𝓛
+            (lends_entry K.row V.row S.row S.Hasher.row K.Hash S.BuildHasher S.Hasher.Hasher
+            self.entry result) }
         ensures value { IfOk result (λ lent. lent.now ≡ unwrap_or (entry_value self.entry) value) }
-        ensures limit { OnOk result (entry_value self.entry ≡ None → length (entry_map self.entry).pairs < LIMIT) }
+        ensures limit { OnOk result
+            (entry_value self.entry ≡ None → length (entry_map self.entry).pairs < LIMIT) }
 
         ensures key_back { IfErr result (λ refused. refused.key ≡ entry_key self.entry) }
         ensures value_back { IfErr result (λ refused. refused.value ≡ value) }
         ensures absent { OnErr result (entry_value self.entry ≡ None) }
-        ensures full { OnErr result (length (entry_map self.entry).pairs ≡ (entry_map self.entry).capacity) }
+        ensures full { OnErr result
+            (length (entry_map self.entry).pairs ≡ (entry_map self.entry).capacity) }
         ensures valid { IsValid K.eq (entry_map self.entry) }
     {
         match self {
@@ -156,14 +164,19 @@ impl<'a, K: Eq + Hash, V, S: BuildHasher> Entry<'a, K, V, S> {
     /// ```
     pub fn or_insert_with<F: FnOnce() -> V + Drop>(self, f: F) -> Result<&'a mut V, Refused<K, V>>
         requires { entry_value self ≡ None → F.pre f }
-        ensures* writes_back { sem 𝓛 (lends_entry K.row V.row S.row S.Hasher.row K.Hash S.BuildHasher S.Hasher.Hasher self.entry result) }
-        ensures value { IfOk result (λ lent. UnwrapsOrElse (entry_value self.entry) (F.post f) lent.now) }
-        ensures limit { OnOk result (entry_value self.entry ≡ None → length (entry_map self.entry).pairs < LIMIT) }
+        ensures* writes_back { sem 𝓛
+            (lends_entry K.row V.row S.row S.Hasher.row K.Hash S.BuildHasher S.Hasher.Hasher
+            self.entry result) }
+        ensures value { IfOk result (λ lent.
+            UnwrapsOrElse (entry_value self.entry) (F.post f) lent.now) }
+        ensures limit { OnOk result
+            (entry_value self.entry ≡ None → length (entry_map self.entry).pairs < LIMIT) }
 
         ensures key_back { IfErr result (λ refused. refused.key ≡ entry_key self.entry) }
         ensures value_back { IfErr result (λ refused. F.post f refused.value) }
         ensures absent { OnErr result (entry_value self.entry ≡ None) }
-        ensures full { OnErr result (length (entry_map self.entry).pairs ≡ (entry_map self.entry).capacity) }
+        ensures full { OnErr result
+            (length (entry_map self.entry).pairs ≡ (entry_map self.entry).capacity) }
         ensures valid { IsValid K.eq (entry_map self.entry) }
     {
         let vacant = match self {
@@ -190,14 +203,19 @@ impl<'a, K: Eq + Hash, V, S: BuildHasher> Entry<'a, K, V, S> {
     pub fn or_default(self) -> Result<&'a mut V, Refused<K, V>>
     where
         V: Default,
-        ensures* writes_back { sem 𝓛 (lends_entry K.row V.row S.row S.Hasher.row K.Hash S.BuildHasher S.Hasher.Hasher self.entry result) }
-        ensures value { IfOk result (λ lent. UnwrapsOrElse (entry_value self.entry) V.is_default lent.now) }
-        ensures limit { OnOk result (entry_value self.entry ≡ None → length (entry_map self.entry).pairs < LIMIT) }
+        ensures* writes_back { sem 𝓛
+            (lends_entry K.row V.row S.row S.Hasher.row K.Hash S.BuildHasher S.Hasher.Hasher
+            self.entry result) }
+        ensures value { IfOk result (λ lent.
+            UnwrapsOrElse (entry_value self.entry) V.is_default lent.now) }
+        ensures limit { OnOk result
+            (entry_value self.entry ≡ None → length (entry_map self.entry).pairs < LIMIT) }
 
         ensures key_back { IfErr result (λ refused. refused.key ≡ entry_key self.entry) }
         ensures value_back { IfErr result (λ refused. V.is_default refused.value) }
         ensures absent { OnErr result (entry_value self.entry ≡ None) }
-        ensures full { OnErr result (length (entry_map self.entry).pairs ≡ (entry_map self.entry).capacity) }
+        ensures full { OnErr result
+            (length (entry_map self.entry).pairs ≡ (entry_map self.entry).capacity) }
         ensures valid { IsValid K.eq (entry_map self.entry) }
     {
         match self {

@@ -67,16 +67,22 @@ impl<'a, K: Eq + Hash, V, S: BuildHasher> OccupiedEntry<'a, K, V, S> {
     /// assert!(rt; map.is_empty());
     /// ```
     pub fn get_mut(&mut self) -> &mut V
-        ensures* writes_back { sem 𝓛 (lends_in_entry K.row V.row S.row S.Hasher.row K.Hash S.BuildHasher S.Hasher.Hasher self.entry result) }
+        ensures* writes_back { sem 𝓛
+            (lends_in_entry K.row V.row S.row S.Hasher.row K.Hash S.BuildHasher S.Hasher.Hasher
+            self.entry result) }
         ensures value { result.now ≡ occupied_value self.old }
         ensures valid { IsValid K.eq (occupied_map self.old) }
 
         // Laws of the entry once a value is written, for the proofs of callers.
-        ensures key { (v : V) → occupied_key (with_occupied_value self.old v) ≡ occupied_key self.old }
+        ensures key { (v : V) → occupied_key (with_occupied_value self.old v)
+            ≡ occupied_key self.old }
         ensures written { (v : V) → occupied_value (with_occupied_value self.old v) ≡ v }
         ensures map { (v : V) → occupied_map (with_occupied_value self.old v)
-            ≡ record (occupied_map self.old) { pairs = set_value K.eq (occupied_map self.old).pairs (occupied_key self.old) v } }
-        ensures to_visit { (v : V) → to_visit (occupied_map (with_occupied_value self.old v)) ≡ to_visit (occupied_map self.old) }
+            ≡ record (occupied_map self.old) {
+              pairs = set_value K.eq (occupied_map self.old).pairs (occupied_key self.old) v;
+            } }
+        ensures to_visit { (v : V) → to_visit (occupied_map (with_occupied_value self.old v))
+            ≡ to_visit (occupied_map self.old) }
     {
         self.map.current_value_mut()
     }
@@ -95,7 +101,9 @@ impl<'a, K: Eq + Hash, V, S: BuildHasher> OccupiedEntry<'a, K, V, S> {
     /// assert_eq!(rt; map.get(&'x'), Some(&2));
     /// ```
     pub fn into_mut(self) -> &'a mut V
-        ensures* writes_back { sem 𝓛 (lends_occupied K.row V.row S.row S.Hasher.row K.Hash S.BuildHasher S.Hasher.Hasher self.entry result) }
+        ensures* writes_back { sem 𝓛
+            (lends_occupied K.row V.row S.row S.Hasher.row K.Hash S.BuildHasher S.Hasher.Hasher
+            self.entry result) }
         ensures value { result.now ≡ occupied_value self.entry }
         ensures valid { IsValid K.eq (occupied_map self.entry) }
 
@@ -123,17 +131,21 @@ impl<'a, K: Eq + Hash, V, S: BuildHasher> OccupiedEntry<'a, K, V, S> {
     /// assert_eq!(rt; map.back(), Some((&'x', &3)));
     /// ```
     pub fn insert(&mut self, value: V) -> V
-        ensures same_map { (occupied_map_ref self.new).ghost_name ≡ (occupied_map_ref self.old).ghost_name }
+        ensures same_map { (occupied_map_ref self.new).ghost_name
+            ≡ (occupied_map_ref self.old).ghost_name }
         ensures old { result ≡ occupied_value self.old }
         ensures key { occupied_key self.new ≡ occupied_key self.old }
         ensures value { occupied_value self.new ≡ value }
-        ensures pairs { (occupied_map self.new).pairs ≡ put K.eq (occupied_map self.old).mode (occupied_map self.old).pairs (occupied_key self.old) value }
+        ensures pairs { (occupied_map self.new).pairs
+            ≡ put K.eq (occupied_map self.old).mode (occupied_map self.old).pairs
+            (occupied_key self.old) value }
         ensures keeps { Keeps (occupied_map self.old) (occupied_map self.new) }
         ensures to_visit { to_visit (occupied_map self.new) ≡ to_visit (occupied_map self.old) }
         ensures valid { IsValid K.eq (occupied_map self.old) }
         ensures stays_valid { IsValid K.eq (occupied_map self.new) }
         // A consequence of `pairs`, for the proofs of callers.
-        ensures updates { Updates K.eq (occupied_map self.old).pairs (occupied_map self.new).pairs (occupied_key self.old) (Some value) }
+        ensures updates { Updates K.eq (occupied_map self.old).pairs (occupied_map self.new).pairs
+            (occupied_key self.old) (Some value) }
     {
         self.map.insert_current(value)
     }
@@ -157,13 +169,15 @@ impl<'a, K: Eq + Hash, V, S: BuildHasher> OccupiedEntry<'a, K, V, S> {
     where
         K: Drop,
         ensures value { result ≡ occupied_value self.entry }
-        ensures pairs { self.exit.0.now.pairs ≡ without K.eq (occupied_map self.entry).pairs (occupied_key self.entry) }
+        ensures pairs { self.exit.0.now.pairs
+            ≡ without K.eq (occupied_map self.entry).pairs (occupied_key self.entry) }
         ensures keeps { Keeps (occupied_map self.entry) self.exit.0.now }
         ensures to_visit { to_visit self.exit.0.now ≡ to_visit (occupied_map self.entry) }
         ensures valid { IsValid K.eq (occupied_map self.entry) }
         ensures stays_valid { IsValid K.eq self.exit.0.now }
         // Consequences of `pairs`, for the proofs of callers.
-        ensures updates { Updates K.eq (occupied_map self.entry).pairs self.exit.0.now.pairs (occupied_key self.entry) None }
+        ensures updates { Updates K.eq (occupied_map self.entry).pairs self.exit.0.now.pairs
+            (occupied_key self.entry) None }
         ensures fewer { length self.exit.0.now.pairs + 1 ≡ length (occupied_map self.entry).pairs }
     {
         let (_key, value) = self.map.take_current();

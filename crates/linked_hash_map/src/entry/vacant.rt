@@ -48,19 +48,25 @@ impl<'a, K: Eq + Hash, V, S: BuildHasher> VacantEntry<'a, K, V, S> {
     /// assert_eq!(rt; map.get(&'x'), Some(&2));
     /// ```
     pub fn insert(self, value: V) -> Result<&'a mut V, Refused<K, V>>
-        ensures* writes_back { sem 𝓛 (lends_pushed K.row V.row S.row S.Hasher.row K.Hash S.BuildHasher S.Hasher.Hasher self.entry result) }
+        ensures* writes_back { sem 𝓛
+            (lends_pushed K.row V.row S.row S.Hasher.row K.Hash S.BuildHasher S.Hasher.Hasher
+            self.entry result) }
         ensures value { IfOk result (λ lent. lent.now ≡ value) }
         ensures limit { OnOk result (length (vacant_map self.entry).pairs < LIMIT) }
 
         ensures key_back { IfErr result (λ refused. refused.key ≡ vacant_key self.entry) }
         ensures value_back { IfErr result (λ refused. refused.value ≡ value) }
-        ensures absent { OnErr result (find K.eq (vacant_map self.entry).pairs (vacant_key self.entry) ≡ None) }
-        ensures full { OnErr result (length (vacant_map self.entry).pairs ≡ (vacant_map self.entry).capacity) }
+        ensures absent { OnErr result
+            (find K.eq (vacant_map self.entry).pairs (vacant_key self.entry) ≡ None) }
+        ensures full { OnErr result
+            (length (vacant_map self.entry).pairs ≡ (vacant_map self.entry).capacity) }
         ensures valid { IsValid K.eq (vacant_map self.entry) }
 
         // A law of the map once a value is written, for the proofs of callers.
-        ensures updates { (v : V) → OnOk result (Updates K.eq (vacant_map self.entry).pairs
-            ((vacant_map self.entry).pairs ++ (vacant_key self.entry, v) ∷ []) (vacant_key self.entry) (Some v)) }
+        ensures updates { (v : V) → OnOk result
+            (Updates K.eq (vacant_map self.entry).pairs
+            ((vacant_map self.entry).pairs ++ (vacant_key self.entry, v) ∷ [])
+            (vacant_key self.entry) (Some v)) }
     {
         let VacantEntry { map, key, hash } = self;
         if !map.make_room() {

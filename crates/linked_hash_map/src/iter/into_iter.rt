@@ -102,7 +102,8 @@ impl<K: Drop, V: Drop> FusedIterator for IntoIter<K, V> {}
 impl<K: Clone, V: Clone> Clone for IntoIter<K, V> {
     ghost use Rattle.std.specs.Prelude.{[]};
 
-    ghost is_clone = { AllZip (λ pair clone. K.is_clone pair.0 clone.0 × V.is_clone pair.1 clone.1) };
+    ghost is_clone = { AllZip (λ pair clone.
+        K.is_clone pair.0 clone.0 × V.is_clone pair.1 clone.1) };
 
     ghost is_infallible = { λ s. s ≡ [] };
 
@@ -137,7 +138,8 @@ impl<K: Eq + Hash + Drop, V: Drop, S: BuildHasher + Drop> IntoIterator for Linke
     type IntoIter = IntoIter<K, V>;
 
     // Its last two parts are laws of iterators, for the proofs of callers.
-    ghost into_iter_gives = { λ map walk. (walk ≡ map.pairs) × IsValid K.eq map × GivesInOrder (K × V) × GivesInReverse (K × V) };
+    ghost into_iter_gives = { λ map walk.
+        (walk ≡ map.pairs) × IsValid K.eq map × GivesInOrder (K × V) × GivesInReverse (K × V) };
 
     fn into_iter(self) -> IntoIter<K, V> {
         self.into_pairs()

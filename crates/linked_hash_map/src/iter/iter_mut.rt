@@ -65,7 +65,8 @@ impl<'a, K, V> Iterator for IterMut<'a, K, V> {
     fn size_hint(&self) -> (usize, Option<usize>)
         ensures lower { IsWithinCount result.0 (at_most (length (pairs_left self.now))) }
         ensures upper { IfSome result.1 (UpTo (at_most (length (pairs_left self.now)))) }
-        ensures exact { result ≡ (length (pairs_left self.now), Some (length (pairs_left self.now))) }
+        ensures exact { result
+            ≡ (length (pairs_left self.now), Some (length (pairs_left self.now))) }
     {
         let len = self.len();
         (len, Some(len))
@@ -118,13 +119,20 @@ impl<'a, K: Eq + Hash, V, S: BuildHasher> IntoIterator for &'a mut LinkedHashMap
     type IntoIter = IterMut<'a, K, V>;
 
     // Its last two parts are laws of iterators, for the proofs of callers.
-    ghost into_iter_gives = { λ map walk. (pairs_left walk ≡ map.now.pairs) × IsValid K.eq map.now × LendsValuesInOrder (pairs_left {K = K} {V = V}) × LendsValuesInReverse (pairs_left {K = K} {V = V}) };
+    ghost into_iter_gives = { λ map walk.
+        (pairs_left walk ≡ map.now.pairs) × IsValid K.eq map.now
+        × LendsValuesInOrder (pairs_left {K = K} {V = V})
+        × LendsValuesInReverse (pairs_left {K = K} {V = V}) };
 
     fn into_iter(self) -> IterMut<'a, K, V>
-        ensures* writes_back { sem 𝓛 (lends_values K.row V.row S.row S.Hasher.row K.Hash S.BuildHasher S.Hasher.Hasher self.entry (loan_name result)) }
+        ensures* writes_back { sem 𝓛
+            (lends_values K.row V.row S.row S.Hasher.row K.Hash S.BuildHasher S.Hasher.Hasher
+            self.entry (loan_name result)) }
         // A law of lists, for the proofs of callers.
         ensures keeps { KeysStand self.old.pairs }
-        ensures into_iter_gives { (pairs_left result ≡ self.old.pairs) × IsValid K.eq self.old × LendsValuesInOrder (pairs_left {K = K} {V = V}) × LendsValuesInReverse (pairs_left {K = K} {V = V}) }
+        ensures into_iter_gives { (pairs_left result ≡ self.old.pairs) × IsValid K.eq self.old
+            × LendsValuesInOrder (pairs_left {K = K} {V = V})
+            × LendsValuesInReverse (pairs_left {K = K} {V = V}) }
     {
         self.iter_mut()
     }

@@ -29,14 +29,16 @@ impl<K: Eq + Hash, V, S: BuildHasher> LinkedHashMap<K, V, S> {
         ensures settings { KeepsSettings self.old self.new }
         ensures capacity { OnOk result
             (self.new.capacity ≡ max self.old.capacity (length self.old.pairs + additional)) }
-        ensures rechained { OnOk result (self.new.rechained
-            ≡ rechained_raised self.old.rechained (length self.old.pairs) self.old.capacity self.new.capacity) }
+        ensures rechained { OnOk result
+            (self.new.rechained ≡ rechained_raised self.old.rechained (length self.old.pairs)
+            self.old.capacity self.new.capacity) }
         ensures to_visit { to_visit self.new ≡ to_visit self.old }
         ensures valid { IsValid K.eq self.old }
         ensures stays_valid { IsValid K.eq self.new }
 
         ensures unchanged { OnErr result (self.new ≡ self.old) }
-        ensures too_large { IsErrOf result ReserveError.TooLarge ↔ (LIMIT < length self.old.pairs + additional) }
+        ensures too_large { IsErrOf result ReserveError.TooLarge ↔
+            (LIMIT < length self.old.pairs + additional) }
         ensures no_room { IsErrOf result ReserveError.NoRoom →
             self.old.capacity < length self.old.pairs + additional }
         ensures no_room_within { IsErrOf result ReserveError.NoRoom →
@@ -132,9 +134,11 @@ impl<K: Eq + Hash, V, S: BuildHasher> LinkedHashMap<K, V, S> {
         ensures pairs { self.new.pairs ≡ self.old.pairs }
         ensures settings { KeepsSettings self.old self.new }
         ensures cursor { self.new.cursor ≡ self.old.cursor }
-        ensures made { IsTrue result → self.new.capacity ≡ max self.old.capacity (length self.old.pairs + 1) }
-        ensures rechained { IsTrue result → self.new.rechained
-            ≡ rechained_raised self.old.rechained (length self.old.pairs) self.old.capacity self.new.capacity }
+        ensures made { IsTrue result
+            → self.new.capacity ≡ max self.old.capacity (length self.old.pairs + 1) }
+        ensures rechained { IsTrue result
+            → self.new.rechained ≡ rechained_raised self.old.rechained (length self.old.pairs)
+            self.old.capacity self.new.capacity }
         ensures refused { IsFalse result → self.new ≡ self.old }
         ensures full { IsFalse result → length self.old.pairs ≡ self.old.capacity }
         ensures valid { IsValid K.eq self.old }

@@ -119,7 +119,8 @@ fn mark_behind<K, V>(
 ) -> Option<Position<K, V>>
     requires { IsHeld table.now.held (pointer_of at) }
     ensures none { unvisited ≡ 0 → result ≡ None }
-    ensures next { 0 < unvisited → AtHeld table.now.held (pointer_of at) (λ xs t ys. pointer_of_some result ≡ first_at ys) }
+    ensures next { 0 < unvisited
+        → AtHeld table.now.held (pointer_of at) (λ xs t ys. pointer_of_some result ≡ first_at ys) }
     ensures apart { 0 < unvisited → IsApart (map (λ t. t.at) table.now.held) }
 {
     if unvisited == 0 {
@@ -148,8 +149,9 @@ impl<K: Eq + Hash, V, S: BuildHasher> LinkedHashMap<K, V, S> {
 
     /// Makes the next pair to visit the current one, and returns whether one was left.
     pub(crate) fn visit_next(&mut self) -> bool
-        ensures key { IsTrue result → (key : K) → slice_get (keys_of self.old.pairs) self.new.cursor.current ≡ Some key →
-            to_visit self.old ≡ key ∷ to_visit self.new }
+        ensures key { IsTrue result → (key : K)
+            → slice_get (keys_of self.old.pairs) self.new.cursor.current ≡ Some key
+            → to_visit self.old ≡ key ∷ to_visit self.new }
         ensures within { IsTrue result → self.new.cursor.current < length self.new.pairs }
         ensures outside { IsTrue result → IsOutside self.new.cursor.current self.new }
         ensures pairs { self.new.pairs ≡ self.old.pairs }
@@ -196,8 +198,10 @@ impl<K: Eq + Hash, V, S: BuildHasher> LinkedHashMap<K, V, S> {
     /// Makes the pair of a key the current one, ending a visit, and returns whether there is one.
     #[inline]
     pub(crate) fn seek(&mut self, hash: u64, key: &K) -> bool
-        requires { hash ≡ hash_by S.Hasher.finish S.Hasher.write S.build_hasher K.hash_input self.old.hasher key.now }
-        ensures found { IsTrue result → IsIndex K.eq self.old.pairs key.now self.new.cursor.current }
+        requires { hash ≡ hash_by S.Hasher.finish S.Hasher.write S.build_hasher K.hash_input
+            self.old.hasher key.now }
+        ensures found { IsTrue result
+            → IsIndex K.eq self.old.pairs key.now self.new.cursor.current }
         ensures ends_visit { IsTrue result → without_cursor self.new ≡ without_cursor self.old }
         ensures visited { IsTrue result → self.new.cursor.unvisited ≡ 0 }
         ensures bookmark { IsTrue result → self.new.cursor.bookmark ≡ 0 }
@@ -223,7 +227,8 @@ impl<K: Eq + Hash, V, S: BuildHasher> LinkedHashMap<K, V, S> {
     /// Returns references to the current pair.
     pub(crate) fn current_pair(&self) -> (&K, &V)
         requires { self.now.cursor.current < length self.now.pairs }
-        ensures { slice_get self.now.pairs self.now.cursor.current ≡ Some (result.0.now, result.1.now) }
+        ensures { slice_get self.now.pairs self.now.cursor.current
+            ≡ Some (result.0.now, result.1.now) }
     {
         let at = self.visit.current().unwrap();
         (self.table.key(at), self.table.value(at))
@@ -232,8 +237,12 @@ impl<K: Eq + Hash, V, S: BuildHasher> LinkedHashMap<K, V, S> {
     /// Returns a mutable reference to the value of the current pair.
     pub(crate) fn current_value_mut(&mut self) -> &mut V
         requires { self.old.cursor.current < length self.old.pairs }
-        ensures* writes_back { sem 𝓛 (lends_at K.row V.row S.row S.Hasher.row K.Hash S.BuildHasher S.Hasher.Hasher self.entry self.old.cursor.current result) }
-        ensures value { option_map (λ pair. pair.1) (slice_get self.old.pairs self.old.cursor.current) ≡ Some result.now }
+        ensures* writes_back { sem 𝓛
+            (lends_at K.row V.row S.row S.Hasher.row K.Hash S.BuildHasher S.Hasher.Hasher self.entry
+            self.old.cursor.current result) }
+        ensures value { option_map (λ pair. pair.1)
+            (slice_get self.old.pairs self.old.cursor.current)
+            ≡ Some result.now }
         ensures valid { IsValid K.eq self.old }
     {
         let at = self.visit.current().unwrap();
@@ -243,8 +252,12 @@ impl<K: Eq + Hash, V, S: BuildHasher> LinkedHashMap<K, V, S> {
     /// Returns a mutable reference to the value of the current pair. None is then current.
     pub(crate) fn leave_current(&mut self) -> &mut V
         requires { self.old.cursor.current < length self.old.pairs }
-        ensures* writes_back { sem 𝓛 (lends_left K.row V.row S.row S.Hasher.row K.Hash S.BuildHasher S.Hasher.Hasher self.entry result) }
-        ensures value { option_map (λ pair. pair.1) (slice_get self.old.pairs self.old.cursor.current) ≡ Some result.now }
+        ensures* writes_back { sem 𝓛
+            (lends_left K.row V.row S.row S.Hasher.row K.Hash S.BuildHasher S.Hasher.Hasher
+            self.entry result) }
+        ensures value { option_map (λ pair. pair.1)
+            (slice_get self.old.pairs self.old.cursor.current)
+            ≡ Some result.now }
         ensures valid { IsValid K.eq self.old }
     {
         let at = self.visit.current().unwrap();
@@ -260,9 +273,10 @@ impl<K: Eq + Hash, V, S: BuildHasher> LinkedHashMap<K, V, S> {
         requires outside { IsOutside self.old.cursor.current self.old }
         ensures pairs { (key : K) → IsIndex K.eq self.old.pairs key self.old.cursor.current →
             self.new.pairs ≡ put K.eq self.old.mode self.old.pairs key value }
-        ensures pair { (pair : K × V) → slice_get self.old.pairs self.old.cursor.current ≡ Some pair →
-            slice_get self.new.pairs self.new.cursor.current ≡ Some (pair.0, value) }
-        ensures old { option_map (λ pair. pair.1) (slice_get self.old.pairs self.old.cursor.current) ≡ Some result }
+        ensures pair { (pair : K × V) → slice_get self.old.pairs self.old.cursor.current ≡ Some pair
+            → slice_get self.new.pairs self.new.cursor.current ≡ Some (pair.0, value) }
+        ensures old { option_map (λ pair. pair.1) (slice_get self.old.pairs self.old.cursor.current)
+            ≡ Some result }
         ensures len { length self.new.pairs ≡ length self.old.pairs }
         ensures keeps { Keeps self.old self.new }
         ensures to_visit { to_visit self.new ≡ to_visit self.old }

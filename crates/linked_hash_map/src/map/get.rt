@@ -49,7 +49,9 @@ impl<K: Eq + Hash, V, S: BuildHasher> LinkedHashMap<K, V, S> {
     /// assert_eq!(rt; map.get(&'x'), Some(&3));
     /// ```
     pub fn get_mut(&mut self, key: &K) -> Option<&mut V>
-        ensures* writes_back { sem 𝓛 (lends_value K.row V.row S.row S.Hasher.row K.Hash S.BuildHasher S.Hasher.Hasher self.entry key.now result) }
+        ensures* writes_back { sem 𝓛
+            (lends_value K.row V.row S.row S.Hasher.row K.Hash S.BuildHasher S.Hasher.Hasher
+            self.entry key.now result) }
         ensures value { option_copied_mut result ≡ value_at K.eq self.old.pairs key.now }
         ensures valid { IsValid K.eq self.old }
     {
@@ -75,12 +77,15 @@ impl<K: Eq + Hash, V, S: BuildHasher> LinkedHashMap<K, V, S> {
     /// assert_eq!(rt; map.back(), Some((&'x', &3)));
     /// ```
     pub fn get_refresh(&mut self, key: &K) -> Option<&mut V>
-        ensures* writes_back { sem 𝓛 (lends_refreshed K.row V.row S.row S.Hasher.row K.Hash S.BuildHasher S.Hasher.Hasher self.entry key.now result) }
+        ensures* writes_back { sem 𝓛
+            (lends_refreshed K.row V.row S.row S.Hasher.row K.Hash S.BuildHasher S.Hasher.Hasher
+            self.entry key.now result) }
         ensures value { option_copied_mut result ≡ value_at K.eq self.old.pairs key.now }
         ensures valid { IsValid K.eq self.old }
 
         // A law of the map once a value is written, for the proofs of callers.
-        ensures updates { (v : V) → Updates K.eq self.old.pairs (to_back K.eq self.old.pairs key.now v) key.now (Some v) }
+        ensures updates { (v : V)
+            → Updates K.eq self.old.pairs (to_back K.eq self.old.pairs key.now v) key.now (Some v) }
     {
         let hash = self.hasher.hash_one(key);
         match self.table.position(hash, key) {
@@ -113,18 +118,26 @@ impl<K: Eq + Hash, V, S: BuildHasher> LinkedHashMap<K, V, S> {
         ensures valid { IsValid K.eq self.now }
 
         // If the key is absent.
-        ensures compared { IfNone result.0 (result.1.compared
-            ≡ same (hash_by S.Hasher.finish S.Hasher.write S.build_hasher K.hash_input self.now.hasher) self.now.pairs key.now) }
-        ensures visited { IfNone result.0 (result.1.visited
-            ≡ beside (hash_by S.Hasher.finish S.Hasher.write S.build_hasher K.hash_input self.now.hasher) self.now.pairs self.now.capacity key.now) }
+        ensures compared { IfNone result.0
+            (result.1.compared ≡ same
+            (hash_by S.Hasher.finish S.Hasher.write S.build_hasher K.hash_input self.now.hasher)
+            self.now.pairs key.now) }
+        ensures visited { IfNone result.0
+            (result.1.visited ≡ beside
+            (hash_by S.Hasher.finish S.Hasher.write S.build_hasher K.hash_input self.now.hasher)
+            self.now.pairs self.now.capacity key.now) }
 
         // If it is present.
         ensures compared_some { OnSome result.0 (1 ≤ result.1.compared) }
-        ensures compared_few { OnSome result.0 (result.1.compared
-            ≤ same (hash_by S.Hasher.finish S.Hasher.write S.build_hasher K.hash_input self.now.hasher) self.now.pairs key.now) }
+        ensures compared_few { OnSome result.0
+            (result.1.compared ≤ same
+            (hash_by S.Hasher.finish S.Hasher.write S.build_hasher K.hash_input self.now.hasher)
+            self.now.pairs key.now) }
         ensures visited_all { OnSome result.0 (result.1.compared ≤ result.1.visited) }
-        ensures visited_few { OnSome result.0 (result.1.visited
-            ≤ beside (hash_by S.Hasher.finish S.Hasher.write S.build_hasher K.hash_input self.now.hasher) self.now.pairs self.now.capacity key.now) }
+        ensures visited_few { OnSome result.0
+            (result.1.visited ≤ beside
+            (hash_by S.Hasher.finish S.Hasher.write S.build_hasher K.hash_input self.now.hasher)
+            self.now.pairs self.now.capacity key.now) }
     {
         let hash = self.hasher.hash_one(key);
         let (found, counts) = self.table.find(hash, key);
@@ -232,7 +245,9 @@ impl<'q, K: Eq + Hash, V, S: BuildHasher> IndexMut<&'q K> for LinkedHashMap<K, V
 
     fn index_mut(&mut self, key: &'q K) -> &mut V
         requires { IsSome (find K.eq self.old.pairs key.now) }
-        ensures* writes_back { sem 𝓛 (lends_present K.row V.row S.row S.Hasher.row K.Hash S.BuildHasher S.Hasher.Hasher self.entry key.now result) }
+        ensures* writes_back { sem 𝓛
+            (lends_present K.row V.row S.row S.Hasher.row K.Hash S.BuildHasher S.Hasher.Hasher
+            self.entry key.now result) }
         ensures value { value_at K.eq self.old.pairs key.now ≡ Some result.now }
         ensures valid { IsValid K.eq self.old }
     {

@@ -57,10 +57,13 @@ impl<K: Eq + Hash, V, S: BuildHasher> LinkedHashMap<K, V, S> {
     where
         K: Drop,
         ensures old { IfOk result (λ old. old ≡ value_at K.eq self.old.pairs key) }
-        ensures pairs { OnOk result (self.new.pairs ≡ put K.eq self.old.mode self.old.pairs key value) }
-        ensures capacity { OnOk result (self.new.capacity ≡ max self.old.capacity (length self.new.pairs)) }
-        ensures rechained { OnOk result (self.new.rechained
-            ≡ rechained_raised self.old.rechained (length self.old.pairs) self.old.capacity self.new.capacity) }
+        ensures pairs { OnOk result
+            (self.new.pairs ≡ put K.eq self.old.mode self.old.pairs key value) }
+        ensures capacity { OnOk result
+            (self.new.capacity ≡ max self.old.capacity (length self.new.pairs)) }
+        ensures rechained { OnOk result
+            (self.new.rechained ≡ rechained_raised self.old.rechained (length self.old.pairs)
+            self.old.capacity self.new.capacity) }
         ensures hasher { OnOk result (self.new.hasher ≡ self.old.hasher) }
         ensures mode { OnOk result (self.new.mode ≡ self.old.mode) }
         ensures ends_visit { IfOk result (λ old. OnSome old (to_visit self.new ≡ [])) }
@@ -68,7 +71,8 @@ impl<K: Eq + Hash, V, S: BuildHasher> LinkedHashMap<K, V, S> {
         ensures valid { IsValid K.eq self.old }
         ensures stays_valid { IsValid K.eq self.new }
         // Consequences of `pairs` and `capacity`, for the proofs of callers.
-        ensures updates { OnOk result (Updates K.eq self.old.pairs self.new.pairs key (Some value)) }
+        ensures updates { OnOk result
+            (Updates K.eq self.old.pairs self.new.pairs key (Some value)) }
         ensures pushed { OnOk result (value_at K.eq self.old.pairs key ≡ None
             → self.new.pairs ≡ self.old.pairs ++ (key, value) ∷ []) }
         ensures more { OnOk result (value_at K.eq self.old.pairs key ≡ None
@@ -100,9 +104,11 @@ impl<K: Eq + Hash, V, S: BuildHasher> LinkedHashMap<K, V, S> {
     /// absent. The pair moves to the back, or in `Keep` stays in its place, and a visit ends.
     #[inline]
     pub(crate) fn insert_present(&mut self, hash: u64, key: &K, value: V) -> Result<V, V>
-        requires { hash ≡ hash_by S.Hasher.finish S.Hasher.write S.build_hasher K.hash_input self.old.hasher key.now }
+        requires { hash ≡ hash_by S.Hasher.finish S.Hasher.write S.build_hasher K.hash_input
+            self.old.hasher key.now }
         ensures old { IfOk result (λ old. Some old ≡ value_at K.eq self.old.pairs key.now) }
-        ensures pairs { OnOk result (self.new.pairs ≡ put K.eq self.old.mode self.old.pairs key.now value) }
+        ensures pairs { OnOk result
+            (self.new.pairs ≡ put K.eq self.old.mode self.old.pairs key.now value) }
         ensures len { OnOk result (length self.new.pairs ≡ length self.old.pairs) }
         ensures ends_visit { OnOk result (to_visit self.new ≡ []) }
         ensures keeps { Keeps self.old self.new }
@@ -124,7 +130,8 @@ impl<K: Eq + Hash, V, S: BuildHasher> LinkedHashMap<K, V, S> {
     /// Inserts a pair of an absent key, which has this hash, at the back, below the capacity.
     #[inline]
     pub(crate) fn push_back(&mut self, hash: u64, key: K, value: V)
-        requires hash { hash ≡ hash_by S.Hasher.finish S.Hasher.write S.build_hasher K.hash_input self.old.hasher key }
+        requires hash { hash ≡ hash_by S.Hasher.finish S.Hasher.write S.build_hasher K.hash_input
+            self.old.hasher key }
         requires room { length self.old.pairs < self.old.capacity }
         requires absent { find K.eq self.old.pairs key ≡ None }
         ensures pairs { self.new.pairs ≡ self.old.pairs ++ (key, value) ∷ [] }
@@ -139,8 +146,12 @@ impl<K: Eq + Hash, V, S: BuildHasher> LinkedHashMap<K, V, S> {
     /// Returns a mutable reference to the value of the back pair.
     pub(crate) fn last_value_mut(&mut self) -> &mut V
         requires { 0 < length self.old.pairs }
-        ensures* writes_back { sem 𝓛 (lends_at K.row V.row S.row S.Hasher.row K.Hash S.BuildHasher S.Hasher.Hasher self.entry (length self.old.pairs - 1) result) }
-        ensures value { option_map (λ pair. pair.1) (slice_get self.old.pairs (length self.old.pairs - 1)) ≡ Some result.now }
+        ensures* writes_back { sem 𝓛
+            (lends_at K.row V.row S.row S.Hasher.row K.Hash S.BuildHasher S.Hasher.Hasher self.entry
+            (length self.old.pairs - 1) result) }
+        ensures value { option_map (λ pair. pair.1)
+            (slice_get self.old.pairs (length self.old.pairs - 1))
+            ≡ Some result.now }
         ensures valid { IsValid K.eq self.old }
     {
         let at = self.table.last().unwrap();

@@ -57,7 +57,9 @@ impl<K: Eq + Hash, V, S: BuildHasher> LinkedHashMap<K, V, S> {
     /// assert_eq!(rt; map.get(&'x'), Some(&3));
     /// ```
     pub fn iter_mut(&mut self) -> IterMut<'_, K, V>
-        ensures* writes_back { sem 𝓛 (lends_values K.row V.row S.row S.Hasher.row K.Hash S.BuildHasher S.Hasher.Hasher self.entry (loan_name result)) }
+        ensures* writes_back { sem 𝓛
+            (lends_values K.row V.row S.row S.Hasher.row K.Hash S.BuildHasher S.Hasher.Hasher
+            self.entry (loan_name result)) }
         // A law of lists, for the proofs of callers.
         ensures keeps { KeysStand self.old.pairs }
         ensures rest { pairs_left result ≡ self.old.pairs }
@@ -117,7 +119,9 @@ impl<K: Eq + Hash, V, S: BuildHasher> LinkedHashMap<K, V, S> {
 
     /// Shares the ring except its values, and lends the values.
     pub(crate) fn lend<'a>(&'a mut self) -> LentValues<'a, K, V>
-        ensures* writes_back { sem 𝓛 (lends_values K.row V.row S.row S.Hasher.row K.Hash S.BuildHasher S.Hasher.Hasher self.entry (lent_name result)) }
+        ensures* writes_back { sem 𝓛
+            (lends_values K.row V.row S.row S.Hasher.row K.Hash S.BuildHasher S.Hasher.Hasher
+            self.entry (lent_name result)) }
         ensures pairs { pairs_of (lent_held result) ≡ self.old.pairs }
         ensures lent { IsLent result }
         ensures valid { IsValid K.eq self.old }

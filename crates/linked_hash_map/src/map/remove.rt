@@ -55,7 +55,8 @@ impl<K: Eq + Hash, V, S: BuildHasher> LinkedHashMap<K, V, S> {
     /// Removes and returns the pair of a key, if present, and then ends a visit.
     #[inline]
     pub(crate) fn take_out(&mut self, hash: u64, key: &K) -> Option<(K, V)>
-        requires { hash ≡ hash_by S.Hasher.finish S.Hasher.write S.build_hasher K.hash_input self.old.hasher key.now }
+        requires { hash ≡ hash_by S.Hasher.finish S.Hasher.write S.build_hasher K.hash_input
+            self.old.hasher key.now }
         ensures value { option_map (λ pair. pair.1) result ≡ value_at K.eq self.old.pairs key.now }
         ensures pairs { self.new.pairs ≡ without K.eq self.old.pairs key.now }
         ensures ends_visit { OnSome result (to_visit self.new ≡ []) }
@@ -89,7 +90,8 @@ impl<K: Eq + Hash, V, S: BuildHasher> LinkedHashMap<K, V, S> {
         ensures valid { IsValid K.eq self.old }
         ensures stays_valid { IsValid K.eq self.new }
         // Consequences of `pair` and `pairs`, for the proofs of callers.
-        ensures updates { IfSome result (λ pair. Updates K.eq self.old.pairs self.new.pairs pair.0 None) }
+        ensures updates { IfSome result (λ pair.
+            Updates K.eq self.old.pairs self.new.pairs pair.0 None) }
         ensures gone { IfSome result (λ pair. find K.eq self.new.pairs pair.0 ≡ None) }
     {
         let front = self.table.first()?;
@@ -117,7 +119,8 @@ impl<K: Eq + Hash, V, S: BuildHasher> LinkedHashMap<K, V, S> {
         ensures valid { IsValid K.eq self.old }
         ensures stays_valid { IsValid K.eq self.new }
         // Consequences of `pair` and `pairs`, for the proofs of callers.
-        ensures updates { IfSome result (λ pair. Updates K.eq self.old.pairs self.new.pairs pair.0 None) }
+        ensures updates { IfSome result (λ pair.
+            Updates K.eq self.old.pairs self.new.pairs pair.0 None) }
         ensures gone { IfSome result (λ pair. find K.eq self.new.pairs pair.0 ≡ None) }
     {
         let back = self.table.last()?;
@@ -168,7 +171,9 @@ impl<K: Eq + Hash, V, S: BuildHasher> LinkedHashMap<K, V, S> {
     /// assert_eq!(rt; (map.len(), map.capacity()), (0, 2));
     /// ```
     pub fn drain(&mut self) -> Drain<'_, K, V>
-        ensures* writes_back { sem 𝓛 (lends_drained K.row V.row S.row S.Hasher.row K.Hash S.BuildHasher S.Hasher.Hasher self.entry (drain_name result)) }
+        ensures* writes_back { sem 𝓛
+            (lends_drained K.row V.row S.row S.Hasher.row K.Hash S.BuildHasher S.Hasher.Hasher
+            self.entry (drain_name result)) }
         ensures rest { drain_rest result ≡ self.old.pairs }
         ensures valid { IsValid K.eq self.old }
         // Laws of iterators, for the proofs of callers.

@@ -37,7 +37,8 @@ impl<K: Eq + Hash, V, S: BuildHasher> LinkedHashMap<K, V, S> {
     where
         K: Drop,
         V: Drop,
-        requires { CallableOnEachPair (CalledAtPair F.FnMut) (TakesPair F.FnMut) keep self.old.pairs }
+        requires { CallableOnEachPair (CalledAtPair F.FnMut) (TakesPair F.FnMut) keep
+            self.old.pairs }
         ensures pairs { RetainsPairs (CalledAtPair F.FnMut) keep self.old.pairs self.new.pairs }
         ensures keys { IsSublist (keys_of self.new.pairs) (keys_of self.old.pairs) }
         ensures len { length self.new.pairs ≤ length self.old.pairs }

@@ -44,7 +44,9 @@ impl<T> Sessions<T> {
         self.map.retain(
             |id: &u64, weighted: &mut Weighted<T>|
                 requires { F.IsAlwaysCallable keep }
-                ensures called { CalledAtSession F.FnMut keep.entry (id.now, weighted.old.weight, weighted.old.payload) result weighted.new.payload keep.exit }
+                ensures called { CalledAtSession F.FnMut keep.entry
+                    (id.now, weighted.old.weight, weighted.old.payload) result weighted.new.payload
+                    keep.exit }
                 ensures weight { weighted.new.weight ≡ weighted.old.weight }
             { keep(*id, weighted.weight, &mut weighted.payload) },
         );

@@ -27,7 +27,8 @@ pub(super) struct Leaving {
 
 /// Returns the weight of the session with an id, or `None` if there is none.
 pub(super) fn weight_at<T>(map: &LinkedHashMap<u64, Weighted<T>>, id: u64) -> Option<u64>
-    ensures { result ≡ option_map (λ session. session.1) (session_of (sessions_of map.now.pairs) id) }
+    ensures { result ≡ option_map (λ session. session.1)
+        (session_of (sessions_of map.now.pairs) id) }
 {
     match map.get(&id) {
         Some(weighted) => Some(weighted.weight),
@@ -46,8 +47,10 @@ pub(super) fn find_leaving<T>(
     weight_left: u64,
 ) -> Leaving
     requires { others ≡ total_weight (without (sessions_of map.now.pairs) id) }
-    ensures stay { drop result.count (without (sessions_of map.now.pairs) id) ≡ fit weight_left (without (sessions_of map.now.pairs) id) }
-    ensures staying { result.staying ≡ total_weight (fit weight_left (without (sessions_of map.now.pairs) id)) }
+    ensures stay { drop result.count (without (sessions_of map.now.pairs) id)
+        ≡ fit weight_left (without (sessions_of map.now.pairs) id) }
+    ensures staying { result.staying
+        ≡ total_weight (fit weight_left (without (sessions_of map.now.pairs) id)) }
     ensures within { result.count ≤ length (without (sessions_of map.now.pairs) id) }
 {
     let mut count = 0;
@@ -90,7 +93,8 @@ pub(super) fn make_room<T>(
     ensures stays_valid { IsValid nat_eq map.new }
     ensures empty { IfOk result (λ gone. gone.items ≡ []) }
     ensures exact { IfOk result (λ gone. vec_capacity gone ≡ count) }
-    ensures room { OnOk result (count ≡ 0 → IsTrue is_new → length map.old.pairs < map.new.capacity) }
+    ensures room { OnOk result
+        (count ≡ 0 → IsTrue is_new → length map.old.pairs < map.new.capacity) }
 
     ensures unchanged { OnErr result (map.new ≡ map.old) }
     ensures new { OnErr result (count ≡ 0 → IsTrue is_new) }
@@ -125,8 +129,10 @@ pub(super) fn store<T>(
     requires enough { count ≤ length (without (sessions_of map.old.pairs) session.0) }
     requires space { vec_len gone.old + count ≤ vec_capacity gone.old }
     requires room { count ≡ 0 → IsTrue is_new → length map.old.pairs < map.old.capacity }
-    ensures sessions { sessions_of map.new.pairs ≡ drop count (with_last (sessions_of map.old.pairs) session.0 session.1 session.2) }
-    ensures gone { gone.new.items ++ sessions_of map.new.pairs ≡ gone.old.items ++ with_last (sessions_of map.old.pairs) session.0 session.1 session.2 }
+    ensures sessions { sessions_of map.new.pairs
+        ≡ drop count (with_last (sessions_of map.old.pairs) session.0 session.1 session.2) }
+    ensures gone { gone.new.items ++ sessions_of map.new.pairs
+        ≡ gone.old.items ++ with_last (sessions_of map.old.pairs) session.0 session.1 session.2 }
     ensures same_space { vec_capacity gone.new ≡ vec_capacity gone.old }
     ensures old { result ≡ payload_of (sessions_of map.old.pairs) session.0 }
     ensures mode { map.new.mode ≡ Touch }
@@ -152,7 +158,8 @@ pub(super) fn take_oldest<T>(
     requires enough { count ≤ length map.old.pairs }
     requires space { vec_len gone.old + count ≤ vec_capacity gone.old }
     ensures pairs { map.new.pairs ≡ drop count map.old.pairs }
-    ensures gone { gone.new.items ++ sessions_of map.new.pairs ≡ gone.old.items ++ sessions_of map.old.pairs }
+    ensures gone { gone.new.items ++ sessions_of map.new.pairs
+        ≡ gone.old.items ++ sessions_of map.old.pairs }
     ensures same_space { vec_capacity gone.new ≡ vec_capacity gone.old }
     ensures capacity { map.new.capacity ≡ map.old.capacity }
     ensures mode { map.new.mode ≡ map.old.mode }
@@ -175,8 +182,10 @@ pub(super) fn put_back<T>(
     payload: T,
 ) -> Option<T>
     requires mode { map.old.mode ≡ Touch }
-    requires room { pairs.find nat_eq map.old.pairs id ≡ None → length map.old.pairs < map.old.capacity }
-    ensures sessions { sessions_of map.new.pairs ≡ with_last (sessions_of map.old.pairs) id weight payload }
+    requires room { pairs.find nat_eq map.old.pairs id ≡ None
+        → length map.old.pairs < map.old.capacity }
+    ensures sessions { sessions_of map.new.pairs
+        ≡ with_last (sessions_of map.old.pairs) id weight payload }
     ensures old { result ≡ payload_of (sessions_of map.old.pairs) id }
     ensures mode { map.new.mode ≡ Touch }
     ensures stays_valid { IsValid nat_eq map.new }

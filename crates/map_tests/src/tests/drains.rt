@@ -1,4 +1,5 @@
-//! Callers that drain a map. However its iterator ends, the map is empty then, and keeps its capacity and its hasher.
+//! Callers that drain a map. However its iterator ends, the map is empty then, and keeps its
+//! capacity and its hasher.
 ghost use Rattle.std.specs.Prelude.{◌≡◌, [], slice_get, IfOk};
 
 use super::calls::{assert_get, assert_sizes, check_insert};

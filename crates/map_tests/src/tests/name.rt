@@ -30,7 +30,8 @@ impl<'a> Eq for Name<'a> {
 }
 
 impl<'a> Hash for Name<'a> {
-    ghost hash_input = { λ name. flat_map (λ byte. fed.u8 byte) (map to_ascii_lowercase name.text.now) };
+    ghost hash_input = { λ name.
+        flat_map (λ byte. fed.u8 byte) (map to_ascii_lowercase name.text.now) };
 
     ghost respects_eq = { Prim.search (hashing, rules) };
 

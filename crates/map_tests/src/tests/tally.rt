@@ -50,7 +50,8 @@ impl Tally {
     }
 }
 
-/// A key or a value that tells the tally when it is dropped. It is the same as any other of its number.
+/// A key or a value that tells the tally when it is dropped. It is the same as any other of its
+/// number.
 pub struct Counted<'a> {
     pub number: u64,
     bit: u64,

@@ -20,7 +20,11 @@ impl Written {
     }
 
     fn push(&mut self, byte: u8)
-        ensures { self.new ≡ cond (nat_lt self.old.len 32) (record { bytes = slice_set self.old.bytes self.old.len byte; len = self.old.len + 1 }) self.old }
+        ensures { self.new ≡ cond (nat_lt self.old.len 32)
+            (record {
+              bytes = slice_set self.old.bytes self.old.len byte;
+              len = self.old.len + 1;
+            }) self.old }
     {
         if self.len < 32 {
             self.bytes[self.len] = byte;
@@ -30,7 +34,9 @@ impl Written {
 }
 
 impl Hasher for Written {
-    ghost write = { fold (λ state byte. cond (nat_lt state.len 32) (record { bytes = slice_set state.bytes state.len byte; len = state.len + 1 }) state) };
+    ghost write = { fold (λ state byte.
+        cond (nat_lt state.len 32)
+        (record { bytes = slice_set state.bytes state.len byte; len = state.len + 1 }) state) };
 
     ghost finish = { λ state. state.len };
 

@@ -1,7 +1,7 @@
 //! Calls of a map, most of them with a check of what it returns.
 //!
-//! They have no clauses, and none lends what it returns, so the proof of a test that is a row of them is
-//! short.
+//! They have no clauses, and none lends what it returns, so the proof of a test that is a row of
+//! them is short.
 
 use super::Map;
 use super::checks::{check, check_eq};
@@ -83,7 +83,8 @@ pub fn is_reserved(rt: &impl Abort, map: &mut Map, additional: usize) -> bool {
     }
 }
 
-/// Inserts a new pair, and tells whether it went in. Where it was refused, it checks that it came back.
+/// Inserts a new pair, and tells whether it went in. Where it was refused, it checks that it came
+/// back.
 pub fn is_inserted(rt: &impl Abort, map: &mut Map, key: u8, value: u64) -> bool {
     match map.insert(key, value) {
         Ok(old) => {

@@ -53,7 +53,8 @@ fn reserve_four_and_five(rt: &(impl Abort + Print + AllocGlobal), map: &mut Map)
     say_if_given(rt, first & second, 9);
 }
 
-/// Reserves room for four pairs more, again where it is refused, and tells whether it was given at once.
+/// Reserves room for four pairs more, again where it is refused, and tells whether it was given at
+/// once.
 fn reserve_four(rt: &impl Abort, map: &mut Map) -> bool {
     let is_given = is_reserved(rt, map, 4);
     if !is_given {
@@ -70,7 +71,8 @@ fn reserve_four_again(rt: &impl Abort, map: &mut Map) {
     change_two_back(rt, map);
 }
 
-/// Checks that a map is as any other with the pairs (1, 10) and (2, 20) and no room for more, and leaves (3, 30) and (2, 21).
+/// Checks that a map is as any other with the pairs (1, 10) and (2, 20) and no room for more, and
+/// leaves (3, 30) and (2, 21).
 fn change_two(rt: &impl Abort, map: &mut Map) {
     assert_map(rt, map, &[(1, 10), (2, 20)], 2, 0);
     check_remove(rt, map, 1, Some(10));

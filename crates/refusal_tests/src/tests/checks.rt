@@ -1,7 +1,8 @@
-//! What a test checks, as calls that hand nothing back: a test made of them has no branch, so its proof is short.
+//! What a test checks, as calls that hand nothing back: a test made of them has no branch, so its
+//! proof is short.
 //!
-//! Each crate of tests has this file, and the copies are the same. A failure says which expression was checked, what it gave and
-//! what was wanted.
+//! Each crate of tests has this file, and the copies are the same. A failure says which expression
+//! was checked, what it gave and what was wanted.
 
 use std::fmt::Debug;
 use std::process::Abort;

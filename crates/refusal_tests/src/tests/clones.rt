@@ -31,7 +31,8 @@ type BoxedMap<'a> = LinkedHashMap<Counted<'a>, Option<Box<u8>>>;
 /// A counted value, and a map with the keys 1 and 2, of which the second has a boxed value.
 type Boxed<'a> = (Rc<u8>, BoxedMap<'a>);
 
-/// Makes the counted value and the map. Where a growth for the map is refused, what was made of it is dropped.
+/// Makes the counted value and the map. Where a growth for the map is refused, what was made of it
+/// is dropped.
 fn boxed_of<'a>(
     rt: &impl Abort,
     alloc: Global,
@@ -232,7 +233,8 @@ fn insert_counted<'a>(
     check!(rt; map.insert(key, value).is_ok());
 }
 
-/// Clones a map with each clone refused in turn. The hasher is cloned, and then three times a key and its value.
+/// Clones a map with each clone refused in turn. The hasher is cloned, and then three times a key
+/// and its value.
 fn fail_to_clone_map(rt: &impl Abort, map: &CountedMap<'_>, counted: &Rc<u8>, left: &Cell<u64>) {
     for clones in 0..7 {
         left.set(clones);

@@ -51,7 +51,8 @@ fn extend(rt: &(impl Abort + Print + AllocGlobal), made: Result<Map, ReserveErro
     }
 }
 
-/// Checks what an extension answers that leaves a map with these pairs, and how many items it leaves.
+/// Checks what an extension answers that leaves a map with these pairs, and how many items it
+/// leaves.
 fn assert_extended(rt: &impl Abort, map: &Map, extended: Extended, left: usize) {
     let (wanted, pairs, rechained): (_, &[(u8, u64)], _) = match map.len() {
         3 => ((Err(Refused { key: 4, value: 40 }), 5), &EXTENDED[..3], 0),

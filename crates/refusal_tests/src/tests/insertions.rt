@@ -119,8 +119,8 @@ fn refused_insertion_one_by_one_goes_in_again(rt: HostRuntime) {
     let given = insert_many(&rt, &mut map);
     assert_many(&rt, &map);
     // The growths: buckets, a filter and a chunk for pairs 1, 2, 3, 5, 9, 17, 33, 65 and 129, whose
-    // chunks have 1, 1, 2, 4, 8, 16, 32, 64 and 64 nodes; a chunk for pair 193; a list of chunks for
-    // the first chunk, the fifth and the ninth.
+    // chunks have 1, 1, 2, 4, 8, 16, 32, 64 and 64 nodes; a chunk for pair 193; a list of chunks
+    // for the first chunk, the fifth and the ninth.
     say_if_given(&rt, given, 32);
 }
 

@@ -1,4 +1,5 @@
-//! Keys, values and hashers whose clones are refused at a given call, and count what was not dropped yet.
+//! Keys, values and hashers whose clones are refused at a given call, and count what was not
+//! dropped yet.
 ghost use Rattle.std.specs.Prelude.{◌==◌};
 ghost use Rattle.std.specs.Cmp.Rules.{comparing, hashing};
 ghost use Rattle.std.specs.Hash as fed;

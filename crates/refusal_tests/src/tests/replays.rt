@@ -153,7 +153,8 @@ fn refused_at(replies: &[Reply<u8, u64>]) -> Option<usize> {
         .position(|reply| reply.answer == Answer::NoRoom)
 }
 
-/// Checks the replies to the changes and the map that they leave, where at most the one at `refused` is refused.
+/// Checks the replies to the changes and the map that they leave, where at most the one at
+/// `refused` is refused.
 fn assert_changed(rt: &impl Abort, map: &Map, replies: &[Reply<u8, u64>], refused: Option<usize>) {
     let (sizes, rechained) = match refused {
         None => ([(2, 3), (1, 3), (1, 1), (0, 1)], 1),

@@ -6,7 +6,8 @@ use lhm_ring::ring::Ring;
 use std::alloc::{AllocError, Global};
 use std::process::Abort;
 
-/// Tells whether a ring holds exactly these hashes, keys and values, in order, and has this many spare nodes.
+/// Tells whether a ring holds exactly these hashes, keys and values, in order, and has this many
+/// spare nodes.
 fn is_ring(ring: &Ring<char, u64>, triples: &[(u64, char, u64)], spares: usize) -> bool {
     if ring.len() != triples.len() || ring.spares() != spares {
         return false;
@@ -87,8 +88,8 @@ fn grow_six_times(rt: &impl Abort, ring: &mut Ring<char, u64>) -> bool {
     given
 }
 
-/// Makes one more node spare, twice where it is refused, which changes nothing. Tells whether it was
-/// given at once.
+/// Makes one more node spare, twice where it is refused, which changes nothing. Tells whether it
+/// was given at once.
 fn grow_or_grow_again(rt: &impl Abort, ring: &mut Ring<char, u64>, spares: usize) -> bool {
     check!(rt; is_ring(ring, &[], spares));
     let given = ring.grow_within(1, 6).is_ok();

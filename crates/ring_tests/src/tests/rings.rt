@@ -12,7 +12,8 @@ use std::mem::forget;
 use std::process::Abort;
 use std::rc::Rc;
 
-/// Tells whether a ring holds exactly these hashes, keys and values, in order, and has this many spare nodes.
+/// Tells whether a ring holds exactly these hashes, keys and values, in order, and has this many
+/// spare nodes.
 pub fn is_ring(ring: &Ring<char, u64>, triples: &[(u64, char, u64)], spares: usize) -> bool {
     if ring.len() != triples.len() || ring.spares() != spares {
         return false;
@@ -46,7 +47,8 @@ pub fn put(
     key: char,
     value: u64,
 ) -> Position<char, u64>
-    ensures { ring.new.held ≡ ring.old.held ++ held (pointer_of result) hash None (key, value) ∷ [] }
+    ensures { ring.new.held ≡ ring.old.held
+        ++ held (pointer_of result) hash None (key, value) ∷ [] }
 {
     if ring.spares() == 0 {
         panic!(rt; "no spare node");
@@ -118,7 +120,8 @@ fn drain_from_both_ends(rt: &impl Abort, mut rest: Drain<'_, char, u64>) {
     check_eq!(rt; rest.next_back(), None);
 }
 
-/// Writes each value, and reads the hash at `at`, which is where it was: no value is known, and all else stands.
+/// Writes each value, and reads the hash at `at`, which is where it was: no value is known, and all
+/// else stands.
 fn hash_after_writing(ring: &mut Ring<char, u64>, at: Position<char, u64>) -> u64
     requires { IsHeld ring.old.held (pointer_of at) }
     ensures hash { AtHeld ring.old.held (pointer_of at) (λ xs t ys. result ≡ t.hash) }
@@ -145,7 +148,8 @@ fn last_spliced(ring: &mut Ring<char, u64>) -> u64
 
 /// Hands the first triple out, and drops the others.
 fn first_spliced(ring: &mut Ring<char, u64>) -> Option<(u64, char, u64)>
-    ensures first { IfSome result (λ r. slice_get (triples ring.old.held) 0 ≡ Some (r.0, (r.1, r.2))) }
+    ensures first { IfSome result (λ r.
+        slice_get (triples ring.old.held) 0 ≡ Some (r.0, (r.1, r.2))) }
     ensures held { ring.new.held ≡ [] }
     ensures spares { ring.new.spares ≡ ring.old.spares + length ring.old.held }
 {

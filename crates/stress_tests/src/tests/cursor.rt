@@ -22,7 +22,8 @@ fn plain_four(rt: &impl Abort, alloc: Global) -> PlainMap {
     plain
 }
 
-/// Does with the pair of a key of a plain map what `choice` says: writes its value in its place, inserts it, or takes it out.
+/// Does with the pair of a key of a plain map what `choice` says: writes its value in its place,
+/// inserts it, or takes it out.
 fn edit_plain(rt: &impl Abort, plain: &mut PlainMap, number: u64, choice: u32) {
     let new_number = number.wrapping_add(10);
     match choice {
@@ -95,8 +96,8 @@ fn edit_next<'a>(
     }
 }
 
-/// Visits `steps` of four pairs, does with each what the digits of `mixture` to the base 4 say, the lowest first, and drops the
-/// cursor. Returns the bits of what was made.
+/// Visits `steps` of four pairs, does with each what the digits of `mixture` to the base 4 say, the
+/// lowest first, and drops the cursor. Returns the bits of what was made.
 fn edit_some<'a>(
     rt: &impl Abort,
     tally: &'a Tally,
@@ -133,7 +134,8 @@ fn assert_left(rt: &impl Abort, map: &CountedMap<'_>, plain: &PlainMap, mixture:
     }
 }
 
-/// Edits some of four pairs, drops the cursor, and checks which pairs are left and that each key and value is dropped once.
+/// Edits some of four pairs, drops the cursor, and checks which pairs are left and that each key
+/// and value is dropped once.
 fn assert_edits(rt: &impl Abort, alloc: Global, steps: usize, mixture: u32) {
     let tally = Tally::new();
     let mut map = counted_map_of(rt, alloc, &tally, &PAIRS);

@@ -16,7 +16,8 @@ fn assert_dropped(rt: &impl Abort, tally: &Tally, bits: u64) {
 
 static PAIRS: [Bits; 3] = [(1, 1, 2), (2, 4, 8), (3, 16, 32)];
 
-/// Drops a pair that was handed out. Its key and value are dropped then, and not before. Returns the bits of all that was dropped.
+/// Drops a pair that was handed out. Its key and value are dropped then, and not before. Returns
+/// the bits of all that was dropped.
 fn drop_pair(
     rt: &impl Abort,
     tally: &Tally,
@@ -123,7 +124,8 @@ const AFTER_ENTRY: u64 = AFTER_REMOVALS | 512 | 1024;
 
 const AFTER_POP: u64 = AFTER_ENTRY | 16 | 32;
 
-/// Inserts a present key. The key that is handed in is dropped at once, and the old value is handed out.
+/// Inserts a present key. The key that is handed in is dropped at once, and the old value is handed
+/// out.
 fn insert_present<'a>(rt: &impl Abort, tally: &'a Tally, map: &mut CountedMap<'a>) {
     let old = map.insert(tally.thing(1, 64), tally.thing(7, 128));
     assert_dropped(rt, tally, 64);

@@ -10,7 +10,8 @@ type LargeMap = LinkedHashMap<u64, u64>;
 
 const MANY: usize = 2000;
 
-/// Checks that a map has the keys below `MANY` in order, each with itself as its value, and this capacity.
+/// Checks that a map has the keys below `MANY` in order, each with itself as its value, and this
+/// capacity.
 fn assert_many(rt: &impl Abort, map: &LargeMap, capacity: usize) {
     check_eq!(rt; (map.len(), map.capacity()), (MANY, capacity));
     let mut pairs = map.iter();

@@ -44,7 +44,8 @@ fn count_insert<'a>(map: &mut CountingMap<'a>, key: &Counting<'a>) -> (Option<u6
     (old, key.compared.replace(0))
 }
 
-/// Looks one key up by the calls that leave each place, and compares how many keys each compares with what `get_counted` says.
+/// Looks one key up by the calls that leave each place, and compares how many keys each compares
+/// with what `get_counted` says.
 fn assert_counted<'a>(rt: &impl Abort, map: &mut CountingMap<'a>, key: &Counting<'a>) -> Probe {
     key.compared.set(0);
     let (value, probe) = map.get_counted(key);
@@ -56,7 +57,8 @@ fn assert_counted<'a>(rt: &impl Abort, map: &mut CountingMap<'a>, key: &Counting
     probe
 }
 
-/// Asks for the entry of one key, which is present where it is below 9, and compares the counts in the same way.
+/// Asks for the entry of one key, which is present where it is below 9, and compares the counts in
+/// the same way.
 fn assert_entry<'a>(rt: &impl Abort, map: &mut CountingMap<'a>, key: &Counting<'a>) -> Probe {
     let probe = assert_counted(rt, map, key);
     check_eq!(rt; count_entry(map, key), (key.number < 9, probe.compared));
@@ -91,8 +93,8 @@ fn eight_of<'a>(
     map
 }
 
-/// Checks the counts of all lookups in a map of capacity 8 with the keys 1 to 8, where the absent keys 9 and 10 reach and compare
-/// what `absent` says.
+/// Checks the counts of all lookups in a map of capacity 8 with the keys 1 to 8, where the absent
+/// keys 9 and 10 reach and compare what `absent` says.
 fn assert_counts(rt: &impl Abort, alloc: Global, builder: BuildMultiple, absent: Probe) {
     let compared = Cell::new(0);
     let compared = &compared;

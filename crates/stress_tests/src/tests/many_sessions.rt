@@ -21,7 +21,8 @@ fn many_sessions(rt: &impl Abort, alloc: Global) -> Sessions<u64> {
     table
 }
 
-/// Checks that a session of such a table is the next of those that went, or else of those that stayed.
+/// Checks that a session of such a table is the next of those that went, or else of those that
+/// stayed.
 fn assert_next(
     rt: &impl Abort,
     gone: &mut slice::Iter<'_, (u64, u64, u64)>,

@@ -207,7 +207,8 @@ fn pair_or_empty(pair: Option<(u64, u64)>) -> Answer<u64, u64> {
     }
 }
 
-/// Whether two capacities have different numbers of buckets: none, or the least power of two that is not below.
+/// Whether two capacities have different numbers of buckets: none, or the least power of two that
+/// is not below.
 fn has_other_buckets(capacity: usize, other: usize) -> bool {
     capacity.checked_next_power_of_two() != other.checked_next_power_of_two()
         || (capacity == 0) != (other == 0)

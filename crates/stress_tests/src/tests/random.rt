@@ -144,7 +144,8 @@ fn assert_same_value<S: BuildHasher>(
     check_eq!(rt; (step, map.contains_key(&key)), (step, value.is_some()));
 }
 
-/// Runs one command on a map and on the plain one, and compares the replies. Returns the kind of the answer.
+/// Runs one command on a map and on the plain one, and compares the replies. Returns the kind of
+/// the answer.
 fn assert_reply<S: BuildHasher>(
     rt: &impl Abort,
     alloc: Global,
@@ -166,7 +167,8 @@ fn assert_reply<S: BuildHasher>(
     kind
 }
 
-/// Runs commands one by one on a map and on the plain one, and compares each reply and what is left.
+/// Runs commands one by one on a map and on the plain one, and compares each reply and what is
+/// left.
 fn assert_run<S: BuildHasher + Drop>(
     rt: &impl Abort,
     alloc: Global,

@@ -8,10 +8,12 @@ use std::process::Abort;
 /// An id, a weight and a payload.
 type Session = (u64, u64, &'static str);
 
-/// What a put hands out, which is the payload that its id had and the sessions that go, or `None` where the session is too heavy.
+/// What a put hands out, which is the payload that its id had and the sessions that go, or `None`
+/// where the session is too heavy.
 type Outcome = Option<(Option<&'static str>, &'static [Session])>;
 
-/// A session to put, what comes of it, which sessions there are then, and what these weigh together.
+/// A session to put, what comes of it, which sessions there are then, and what these weigh
+/// together.
 type Step = (Session, Outcome, &'static [Session], u64);
 
 /// Checks which sessions a table has, in order, and what they weigh together.
@@ -207,7 +209,8 @@ fn touches_and_removes_sessions(rt: HostRuntime) {
     assert_sessions(&rt, &table, &[(2, 4, "e")], 4);
 }
 
-// The examples of the documentation of the module, of `new`, `Sessions` and `put`, of `PutRefused` and of `PutReason`, as steps.
+// The examples of the documentation of the module, of `new`, `Sessions` and `put`, of `PutRefused`
+// and of `PutReason`, as steps.
 
 static PAGES: [Step; 2] = [
     (

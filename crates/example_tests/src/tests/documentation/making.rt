@@ -89,7 +89,8 @@ fn with_capacity_and_hasher(rt: HostRuntime) -> Result<(), Fail> {
 /// The example of `from_iter`.
 #[test]
 fn from_iter(rt: HostRuntime) -> Result<(), Fail> {
-    let map: LinkedHashMap<char, u64> = LinkedHashMap::from_iter(rt.alloc(), [('x', 1), ('y', 2)])?;
+    let pairs = [('x', 1), ('y', 2)];
+    let map: LinkedHashMap<char, u64> = LinkedHashMap::from_iter(rt.alloc(), pairs)?;
     assert_eq!(rt; (map.len(), map.capacity()), (2, 2));
     Ok(())
 }

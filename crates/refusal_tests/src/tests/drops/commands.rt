@@ -68,8 +68,8 @@ fn run<'a>(
     let Ok(commands) = commands else {
         return false;
     };
-    // The growths: the replies; in an empty map buckets, a filter, a list of chunks and a chunk; then
-    // buckets, a filter and a chunk, twice.
+    // The growths: the replies; in an empty map buckets, a filter, a list of chunks and a chunk;
+    // then buckets, a filter and a chunk, twice.
     let outcome = replay(&mut map, commands);
     assert_dropped(rt, tally, dropped_by(&outcome));
     drop(outcome);
