@@ -4,7 +4,7 @@ ghost use Rattle.bench.specs.Arguments.{IsNumber, IsNoNumber, number_of};
 
 use std::alloc::{AllocError, Global};
 
-/// Reads a number above 0, or returns `None` where the word is none.
+/// Reads a number above 0, or returns `None` if the word is none.
 fn number(word: &str) -> Option<u64>
     ensures some { IfSome result (λ n. IsNumber word.now) }
     ensures number { IfSome result (λ n. n ≡ number_of word.now) }
@@ -17,7 +17,7 @@ fn number(word: &str) -> Option<u64>
     }
 }
 
-/// Reads all of the words, or returns `None` where one of them is no number above 0.
+/// Reads all of the words, or returns `None` if one of them is no number above 0.
 pub fn numbers(alloc: Global, words: &[String]) -> Result<Option<Vec<u64>>, AllocError> {
     let mut numbers = Vec::new(alloc);
     for word in words {

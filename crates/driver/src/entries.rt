@@ -107,7 +107,7 @@ fn edit(map: &mut Map, line: &mut Line<'_>, text: &mut String) -> Result<(), Sto
     }
 }
 
-/// The first byte of a word, or 0 where there is none.
+/// The first byte of a word, or 0 if there is none.
 fn first_byte(word: &str) -> u8 {
     match word.as_bytes().first() {
         Some(byte) => *byte,

@@ -63,7 +63,7 @@ impl Hasher for KeyHasher {
     }
 }
 
-/// The first byte, or 0 where there is none.
+/// The first byte, or 0 if there is none.
 fn first_of(bytes: &[u8]) -> u64
     ensures { result ≡ get_or bytes.now 0 0 }
 {

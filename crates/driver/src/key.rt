@@ -11,7 +11,7 @@ use std::cmp::Ordering;
 use std::fmt;
 use std::hash::{Hash, Hasher};
 
-/// The first eight bytes of a text. Two keys are the same where they differ in case alone, so what
+/// The first eight bytes of a text. Two keys are the same if they differ in case alone, so what
 /// a map has stored shows which of them it keeps.
 #[derive(Clone, Copy)]
 pub struct Key {

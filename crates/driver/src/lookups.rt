@@ -7,7 +7,7 @@ use super::show::{show, show_and_write};
 use super::stop::Stop;
 use std::alloc::AllocError;
 
-/// Reads by index, where the key is present.
+/// Reads by index, if the key is present.
 fn index(map: &Map, key: Key, text: &mut String) -> Result<(), AllocError> {
     if map.contains_key(&key) {
         write!(text, "{} ", map[&key])
@@ -16,7 +16,7 @@ fn index(map: &Map, key: Key, text: &mut String) -> Result<(), AllocError> {
     }
 }
 
-/// Writes by index, where the key is present.
+/// Writes by index, if the key is present.
 fn index_mut(map: &mut Map, key: Key, value: u64, text: &mut String) -> Result<(), AllocError> {
     if map.contains_key(&key) {
         map[&key] = value;

@@ -34,7 +34,7 @@ use stop::Stop;
 /// The maps that the lines speak of.
 type Map = LinkedHashMap<Key, u64, BuildKeyHasher>;
 
-/// Runs the call of a line, on `map` and where it takes two on `other` too, and appends its answer
+/// Runs the call of a line, on `map` and, if it takes two, on `other` too, and appends its answer
 /// and the list of `map`. The answer to a line that is no call is `unknown`.
 fn run_call(
     alloc: Global,

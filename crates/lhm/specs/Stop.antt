@@ -27,7 +27,7 @@ StopsLines lines InputFailed = ⊥
 StopsLines lines OutputFailed = ⊥
 
 -- why an input gives no output: a failed read, a failed allocation, or the first invalid line of
--- the bytes, where they are known
+-- the bytes, if they are known
 abbrev pub StopsInput : Option (List ℕ) → Stop → Type 0
 StopsInput known (NotACommand n) = IfSome known (λ bytes. IsFirstInvalid (lines_of bytes) n)
 StopsInput known OutOfMemory = ⊤

@@ -38,7 +38,7 @@ fn skip_spaces(line: &[u8]) -> &[u8]
     &line[line.len()..]
 }
 
-/// Splits off the first word, or returns `None` where no word is left.
+/// Splits off the first word, or returns `None` if no word is left.
 pub fn split_word(line: &[u8]) -> Option<(&[u8], &[u8])>
     ensures { MatchOption result (words_of line.now ≡ [])
         (λ parts. words_of line.now ≡ parts.0.now ∷ words_of parts.1.now) }

@@ -95,8 +95,8 @@ fn report<F: Write>(faults: &mut F, stop: &Stop) -> u8
 /// Reads commands from `input` to its end, runs them on a new map and writes the replies and the
 /// final list to `output`. Returns the exit status of the program.
 ///
-/// The status is 0 for a run, 2 where a line is no command, 3 where memory is refused for the
-/// input, the commands, the replies or the output, and 4 where reading or writing fails. A status
+/// The status is 0 for a run, 2 if a line is no command, 3 if memory is refused for the
+/// input, the commands, the replies or the output, and 4 if reading or writing fails. A status
 /// other than 0 is explained by a line on `faults`. The output is built whole before its first byte
 /// is written.
 pub fn run<R: Read, W: Write, F: Write>(
@@ -114,7 +114,7 @@ pub fn run<R: Read, W: Write, F: Write>(
         × Appends (W.contents output.old) (W.contents output.new) text)) }
     ensures no_fault { result ≡ 0 → Keeps (F.contents faults.old) (F.contents faults.new) }
 
-    // After a run every line is blank or a command; a status of 2 comes where a line is neither.
+    // After a run every line is blank or a command; a status of 2 comes if a line is neither.
     ensures valid { result ≡ 0 → IfSome (R.remaining input.old) (λ bytes.
         All IsValid (lines_of bytes)) }
     ensures invalid { result ≡ 2 → IfSome (R.remaining input.old) (λ bytes.

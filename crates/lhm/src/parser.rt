@@ -236,7 +236,7 @@ fn named(alloc: Global, name: Name, rest: &[u8]) -> Result<Command<u64, u64>, Li
     }
 }
 
-/// Returns the command that a line says, or `None` where the line is blank.
+/// Returns the command that a line says, or `None` if the line is blank.
 fn command(alloc: Global, line: &[u8]) -> Result<Option<Command<u64, u64>>, LineError>
     ensures ok { IfOk result (λ found. MatchOption found (words_of line.now ≡ [])
         (λ command. IsSaidBy command (words_of line.now))) }

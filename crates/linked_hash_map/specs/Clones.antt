@@ -19,5 +19,5 @@ pub record IsClone {K V S : Type 0} (eq : K → K → Bool) (IsKeyClone : K → 
   pub hasher : IsHasherClone m.hasher n.hasher
   pub mode : n.mode ≡ m.mode
   pub valid : IsValid eq n
-  -- where a clone of a key is the same key, its list is the clones in order
+  -- if a clone of a key is the same key, its list is the clones in order
   pub in_order : ((k clone : K) → IsKeyClone k clone → IsTrue (eq k clone)) → AreClones IsKeyClone IsValueClone m.pairs n.pairs

@@ -1,4 +1,4 @@
--- What commands answer and leave where nothing is refused, in the words of single calls.
+-- What commands answer and leave if nothing is refused, in the words of single calls.
 use Rattle.std.specs.Prelude.{ℕ, ◌+◌, ◌-◌, max, Bool, true, false, cond, nat_lt, List, [], ◌∷◌, take, drop, length, slice_get, Option, Some, None, is_some}
 use Rattle.linked_hash_map.specs.declared.map.TheConstants.{LIMIT}
 use Rattle.linked_hash_map.specs.declared.map.Mode.{Mode}
@@ -27,7 +27,7 @@ module _ {K V : Type 0} where
   mode_after_all mode [] = mode
   mode_after_all mode (command ∷ commands) = mode_after_all (mode_after mode command) commands
 
-  -- the old value where there is one, and the pair where there is one
+  -- the old value if there is one, and the pair if there is one
   abbrev pub old_or : Answer K V → Option V → Answer K V
   old_or otherwise None = otherwise
   old_or otherwise (Some v) = Old v
@@ -37,7 +37,7 @@ module _ {K V : Type 0} where
   pair_or_empty (Some pair) = Pair pair.0 pair.1
 
 module _ {K V : Type 0} (eq : K → K → Bool) where
-  -- the pairs, with that of k at the back where there is a value for it
+  -- the pairs, with that of k at the back if there is a value for it
   abbrev pub to_back_if_some : List (K × V) → K → Option V → List (K × V)
   to_back_if_some pairs k None = pairs
   to_back_if_some pairs k (Some v) = to_back eq pairs k v

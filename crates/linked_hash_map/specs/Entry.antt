@@ -43,7 +43,7 @@ module _ {K V S H : Type 0} {g : eq.Ghosts K} {h : hash.Ghosts K} {b : builder.G
   abbrev pub vacant_key : VacantEntry K V S H g h b w → K
   vacant_key e = e.key
 
-  -- of either kind: the reference to the map, the map, the kind, the key, and the value where there
+  -- of either kind: the reference to the map, the map, the kind, the key, and the value if there
   -- is one
   abbrev pub entry_map_ref : Entry K V S H g h b w → MutBor (LinkedMap K V S)
   entry_map_ref (Occupied o) = occupied_map_ref o

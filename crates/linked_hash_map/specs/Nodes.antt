@@ -17,7 +17,7 @@ module _ {B : Type 0} where
   before p [] = 0
   before p (t ∷ hs) = cond (same_ptr t.at p) 0 (before p hs + 1)
 
-  -- the index of the next pair to visit, and 0 where there is none
+  -- the index of the next pair to visit, and 0 if there is none
   abbrev pub bookmark_at : Option Ptr → List (Held B) → ℕ
   bookmark_at None hs = 0
   bookmark_at (Some p) hs = before p hs
@@ -31,12 +31,12 @@ module _ {B : Type 0} where
   abbrev pub cursor_at : Option Ptr → ℕ → Option Ptr → List (Held B) → CursorState
   cursor_at mark unvisited current hs = cursor_state (bookmark_at mark hs) unvisited (current_at current hs)
 
-  -- where there is a pointer, a node lies there
+  -- if there is a pointer, a node lies there
   abbrev pub Lies : Option Ptr → List (Held B) → Type 0
   Lies None hs = ⊤
   Lies (Some p) hs = before p hs < length hs
 
-  -- where there is a pointer, the node there has this many behind it; elsewhere there is no count
+  -- if there is a pointer, the node there has this many behind it; elsewhere there is no count
   abbrev pub HasBehind : Option Ptr → List (Held B) → Option ℕ → Type 0
   HasBehind None hs None = ⊤
   HasBehind None hs (Some n) = ⊥

@@ -29,7 +29,7 @@ module _ {T : Type 0} where
   abbrev pub total_weight : List (Session T) → ℕ
   total_weight sessions = sum_by (λ session. session.1) sessions
 
-  -- the session with the id, or none; its payload; and its weight, or 0 where there is none
+  -- the session with the id, or none; its payload; and its weight, or 0 if there is none
   abbrev pub session_of : List (Session T) → ℕ → Option (Session T)
   session_of sessions id = find (λ session. id == session.0) sessions
 
@@ -51,7 +51,7 @@ module _ {T : Type 0} where
   abbrev pub to_end : List (Session T) → ℕ → T → List (Session T)
   to_end sessions id payload = with_last sessions id (weight_of sessions id) payload
 
-  -- the longest end of the sessions whose weights sum to at most the limit: all of them where
+  -- the longest end of the sessions whose weights sum to at most the limit: all of them if
   -- theirs do, and else that of the sessions behind the first
   abbrev pub fit : ℕ → List (Session T) → List (Session T)
   fit limit [] = []

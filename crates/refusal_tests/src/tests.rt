@@ -1,9 +1,9 @@
 //! Each growth refused in turn.
 //!
 //! The tests whose names begin with `refused_` hold whichever one of their growths is refused.
-//! Where none was, a test says so, and how many it asks for. That number is counted by hand, from
-//! what the calls promise: a map asks for one growth for its buckets and one for their filter where
-//! the number of buckets changes to another than 0, and one for a chunk of nodes where it has too
+//! If none was, a test says so, and how many it asks for. That number is counted by hand, from
+//! what the calls promise: a map asks for one growth for its buckets and one for their filter if
+//! the number of buckets changes to another than 0, and one for a chunk of nodes if it has too
 //! few. Its list of chunks takes one at the first chunk, at the fifth and at the ninth. A chunk has
 //! the nodes that are missing. If the capacity rises by one, it has further ones, up to 64 in all
 //! and up to a node for each bucket. If there are to be fewer buckets, the pairs move into one new
@@ -50,7 +50,7 @@ fn say_given(rt: &(impl Print + AllocGlobal), growths: u64) {
     say_if_given(rt, true, growths);
 }
 
-/// Does so where none was refused so far.
+/// Does so if none was refused so far.
 fn say_if_given(rt: &(impl Print + AllocGlobal), given: bool, growths: u64) {
     if given && is_given(rt.alloc()) {
         let _ = println!(rt; "every growth was given, {growths} in all");

@@ -38,7 +38,7 @@ impl<K: Eq + Hash, V> Cache<K, V> {
         self.map.len()
     }
 
-    /// Puts a pair in as the one used last. It never fails. Where the key is new and the cache is
+    /// Puts a pair in as the one used last. It never fails. If the key is new and the cache is
     /// full, the pair used least recently leaves, and is returned.
     pub fn put(&mut self, key: K, value: V) -> Option<(K, V)>
     where
@@ -88,7 +88,7 @@ impl<K: Eq + Hash, V> Cache<K, V> {
     }
 
     /// Lends the value of a key for writing, and makes it the one used last, or returns `None`
-    /// where the key is absent and changes nothing.
+    /// if the key is absent, and changes nothing.
     pub fn get_mut(&mut self, key: &K) -> Option<&mut V>
         ensures* writes_back { sem 𝓛 (lends_recent K.row V.row K.Hash self.entry key.now result) }
         ensures value { option_copied_mut result ≡ value_at K.eq self.old.map.pairs key.now }

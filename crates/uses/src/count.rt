@@ -7,7 +7,7 @@ use linked_hash_map::{LinkedHashMap, Refused};
 use std::alloc::Global;
 use std::hash::Hash;
 
-/// Counts how often each word comes. The words stand in the order in which they first come. Where
+/// Counts how often each word comes. The words stand in the order in which they first come. If
 /// there is no memory for one, that word is handed back.
 #[tactic(auto, using(linked_hash_map::proofs::Callers::Rules::counts))]
 pub fn counts_of<K: Eq + Hash + Copy>(

@@ -48,7 +48,7 @@ impl<K: Eq + Hash, V> Document<K, V> {
         self.fields[name] = value;
     }
 
-    /// Sets a field: one that is there keeps its place, and a new one goes to the end. Where there
+    /// Sets a field: one that is there keeps its place, and a new one goes to the end. If there
     /// is no memory for a new one, it is handed back and nothing changes.
     pub fn set(&mut self, name: K, value: V) -> Result<(), Refused<K, V>>
     where
@@ -85,7 +85,7 @@ impl<K: Eq + Hash, V> Document<K, V> {
         self.fields.remove(name)
     }
 
-    /// Gives a field another name, in its place, and tells whether it did: only where the old name
+    /// Gives a field another name, in its place, and tells whether it did: only if the old name
     /// is there and the new one is not. It takes no memory and never fails: each field goes to the
     /// end once, in turn.
     pub fn rename(&mut self, from: &K, to: K) -> bool

@@ -8,7 +8,7 @@ use std::io;
 use std::random::RandomSource;
 
 /// Makes an empty map for keys that strangers choose: its build hasher has a random seed, so that
-/// nobody can choose keys that collide. It is refused where the system gives no random numbers.
+/// nobody can choose keys that collide. It is refused if the system gives no random numbers.
 pub fn for_strangers<K: Eq + Hash, V>(
     rt: &impl RandomSource,
     alloc: Global,

@@ -68,7 +68,7 @@ pub fn reset<K: Eq + Hash, S: BuildHasher>(counts: &mut LinkedHashMap<K, u64, S>
 }
 
 /// Takes the pairs out into a list, in order: a loop over `drain`. The map is empty then, with the
-/// capacity that it had. So it is where a growth of the list is refused; the pairs that are left
+/// capacity that it had. So it is if a growth of the list is refused; the pairs that are left
 /// are dropped.
 pub fn take_all<K: Eq + Hash + Drop, V: Drop, S: BuildHasher>(
     alloc: Global,

@@ -25,7 +25,7 @@ impl<J: Eq + Hash> Queue<J> {
     }
 
     /// Lets a job wait, with its weight, and tells whether it is new. One that waits already keeps
-    /// its place and its weight. Where there is no memory for a new one, it is handed back and
+    /// its place and its weight. If there is no memory for a new one, it is handed back and
     /// nothing changes.
     pub fn add(&mut self, job: J, weight: u64) -> Result<bool, Refused<J, u64>>
     where

@@ -35,16 +35,16 @@ pub fn write_refresh_remove<K: Eq + Hash + Drop, V: Drop, S: BuildHasher>(
     }
 }
 
-/// What comes of a run: a reply to each command, or the commands where room for the replies was
+/// What comes of a run: a reply to each command, or the commands if room for the replies was
 /// refused.
 pub type Outcome<K, V> = Result<Vec<Reply<K, V>>, Vec<Command<K, V>>>;
 
 /// Runs the same commands on two maps that have the same pairs and the same mode, each with a build
 /// hasher of its own, and returns what comes of each run.
 ///
-/// Where neither run refuses anything, their answers are the same, and the two maps have the same
+/// If neither run refuses anything, their answers are the same, and the two maps have the same
 /// pairs in the same order: no answer and no pair rests on the hasher. A run uses its commands up,
-/// so they are given twice. Where room for the replies of a run was refused, its map is as it was.
+/// so they are given twice. If room for the replies of a run was refused, its map is as it was.
 /// It costs what the two runs cost, and takes the memory that they take.
 pub fn replay_under_two_hashers<K: Eq + Hash + Drop, V: Drop, S: BuildHasher, T: BuildHasher>(
     first: &mut LinkedHashMap<K, V, S>,

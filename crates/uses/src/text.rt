@@ -11,7 +11,7 @@ pub fn age_of(ages: &LinkedHashMap<String, u64>, name: &String) -> Option<u64>
     ages.get(name).copied()
 }
 
-/// Notes the age of a person. Where there is no memory for a new name, it is handed back.
+/// Notes the age of a person. If there is no memory for a new name, it is handed back.
 pub fn note_age(
     ages: &mut LinkedHashMap<String, u64>,
     name: String,

@@ -34,7 +34,7 @@ fn check_failed_read(rt: &impl Abort, alloc: Global, input: &[u8], fails_at: usi
     );
 }
 
-/// Checks that a run reads its whole input where a sixth read would fail.
+/// Checks that a run reads its whole input if a sixth read would fail.
 fn check_whole_read(rt: &impl Abort, alloc: Global, input: &[u8], output: &[u8]) {
     let mut reader = Source::new(input);
     reader.most = usize::MAX;
@@ -202,7 +202,7 @@ fn check_untold(rt: &impl Abort, alloc: Global, stopped: Stopped, fails_at: usiz
     check_eq!(rt; calls, fails_at);
 }
 
-/// Checks a run where its fault is told, and where each call of the writer of faults fails.
+/// Checks a run that tells its fault, and runs in which each call of the writer of faults fails.
 fn check_each_fault(rt: &impl Abort, alloc: Global, stopped: Stopped) {
     for fails_at in 1..=check_told(rt, alloc, stopped) {
         check_untold(rt, alloc, stopped, fails_at);

@@ -43,8 +43,8 @@ impl Read for Source<'_> {
     }
 }
 
-/// A writer into a fixed buffer that takes at most 7 bytes at once and fails at call `fails_at`,
-/// where a flush is a call too. It gives on what was written when it is flushed.
+/// A writer into a fixed buffer that takes at most 7 bytes at once and fails at call `fails_at`. A
+/// flush is a call too, and gives on what was written.
 #[derive(Drop)]
 pub struct Sink {
     buffer: [u8; 256],
@@ -115,8 +115,8 @@ impl Write for Sink {
     }
 }
 
-/// A writer into a vector that takes at most `most` bytes at once and fails at call `fails_at`,
-/// where a flush is a call too.
+/// A writer into a vector that takes at most `most` bytes at once and fails at call `fails_at`. A
+/// flush is a call too.
 #[derive(Drop)]
 pub struct Output {
     pub bytes: Vec<u8>,

@@ -36,14 +36,14 @@ fn find_way(ways: &[Way], status: u8, output: &str, faults: &str) -> (bool, bool
     (found, is_last)
 }
 
-/// Says that no growth was refused, where that is so, and how many there are.
+/// Says that no growth was refused, if that is so, and how many there are.
 pub fn say_if_given(rt: &impl Print, given: bool, growths: u64) {
     if given {
         let _ = println!(rt; "every growth was given, {growths} in all");
     }
 }
 
-/// Checks that one run over memory ends in one of the ways, and says so where it is the last, in
+/// Checks that one run over memory ends in one of the ways, and says so if it is the last, in
 /// which no growth is refused.
 fn check_ways(rt: &(impl Abort + Print), alloc: Global, input: &[u8], ways: &[Way], growths: u64) {
     let mut reader = Source::new(input);

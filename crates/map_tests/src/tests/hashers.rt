@@ -36,7 +36,7 @@ impl BuildHasher for BuildSame {
     }
 }
 
-/// The first byte of a list in lower case, or 0 where the list is empty.
+/// The first byte of a list in lower case, or 0 if the list is empty.
 fn first_in_lower_case(bytes: &[u8]) -> u8
     ensures { result ≡ to_ascii_lowercase (get_or bytes.now 0 0) }
 {
@@ -46,7 +46,7 @@ fn first_in_lower_case(bytes: &[u8]) -> u8
     }
 }
 
-/// The first byte that was written, in lower case, or 0 where none was.
+/// The first byte that was written, in lower case, or 0 if none was.
 #[derive(Clone, Copy)]
 pub struct FirstLetter(u8);
 

@@ -8,7 +8,7 @@ use std::alloc::Global;
 use std::fmt::Debug;
 use std::process::Abort;
 
-/// Makes a call for each of the word's, at the back where it is true, and compares what each gives
+/// Makes a call for each of the word's, at the back if it is true, and compares what each gives
 /// with `items`.
 fn assert_walk<
     T: PartialEq + Debug + Drop,

@@ -40,7 +40,7 @@ impl Tally {
         }
     }
 
-    /// The bits of what was dropped, or `None` where something was dropped twice.
+    /// The bits of what was dropped, or `None` if something was dropped twice.
     pub fn dropped(&self) -> Option<u64> {
         if self.dropped_again.get() == 0 {
             Some(self.dropped.get())

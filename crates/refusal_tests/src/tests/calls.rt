@@ -36,7 +36,7 @@ pub fn check_pop_back(rt: &impl Abort, map: &mut Map, pair: Option<(u8, u64)>) {
     check_eq!(rt; map.pop_back(), pair);
 }
 
-/// Checks what a reservation answers.
+/// Checks what a reservation returns.
 pub fn check_reserve(
     rt: &impl Abort,
     map: &mut Map,
@@ -72,7 +72,7 @@ pub fn or_default(map: &mut Map, key: u8) -> Put {
     map.entry(key).or_default().map(|lent| *lent)
 }
 
-/// Reserves room, and tells whether it was given. Where it was refused, it checks why.
+/// Reserves room, and tells whether it was given. If it was refused, it checks why.
 pub fn is_reserved(rt: &impl Abort, map: &mut Map, additional: usize) -> bool {
     match map.reserve(additional) {
         Ok(()) => true,
@@ -83,7 +83,7 @@ pub fn is_reserved(rt: &impl Abort, map: &mut Map, additional: usize) -> bool {
     }
 }
 
-/// Inserts a new pair, and tells whether it went in. Where it was refused, it checks that it came
+/// Inserts a new pair, and tells whether it went in. If it was refused, it checks that it came
 /// back.
 pub fn is_inserted(rt: &impl Abort, map: &mut Map, key: u8, value: u64) -> bool {
     match map.insert(key, value) {

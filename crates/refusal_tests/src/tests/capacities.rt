@@ -53,7 +53,7 @@ fn reserve_four_and_five(rt: &(impl Abort + Print + AllocGlobal), map: &mut Map)
     say_if_given(rt, first & second, 9);
 }
 
-/// Reserves room for four pairs more, again where it is refused, and tells whether it was given at
+/// Reserves room for four pairs more, again if it is refused, and tells whether it was given at
 /// once.
 fn reserve_four(rt: &impl Abort, map: &mut Map) -> bool {
     let is_given = is_reserved(rt, map, 4);

@@ -25,13 +25,13 @@ fn clone_full(rt: &(impl Abort + Print + AllocGlobal), made: Result<Map, Reserve
     }
 }
 
-/// Keys that hold the counted value, and values whose clones take memory where they are boxed.
+/// Keys that hold the counted value, and values whose clones take memory if they are boxed.
 type BoxedMap<'a> = LinkedHashMap<Counted<'a>, Option<Box<u8>>>;
 
 /// A counted value, and a map with the keys 1 and 2, of which the second has a boxed value.
 type Boxed<'a> = (Rc<u8>, BoxedMap<'a>);
 
-/// Makes the counted value and the map. Where a growth for the map is refused, what was made of it
+/// Makes the counted value and the map. If a growth for the map is refused, what was made of it
 /// is dropped.
 fn boxed_of<'a>(
     rt: &impl Abort,

@@ -1,4 +1,4 @@
-//! Maps that are collected, whose items are dropped where one is refused.
+//! Maps that are collected, whose items are dropped if one is refused.
 
 use super::checks::{check, check_eq, given};
 use super::say_if_given;

@@ -5,7 +5,7 @@ use super::{Map, assert_map, say_if_given, with_room};
 use linked_hash_map::{Refused, ReserveError};
 use std::process::Abort;
 
-/// What an extension answers.
+/// What an extension returns.
 type Extended = Result<(), Refused<u8, u64>>;
 
 #[test]
@@ -51,7 +51,7 @@ fn extend(rt: &(impl Abort + Print + AllocGlobal), made: Result<Map, ReserveErro
     }
 }
 
-/// Checks what an extension answers that leaves a map with these pairs, and how many items it
+/// Checks what an extension returns that leaves a map with these pairs, and how many items it
 /// leaves.
 fn assert_extended(rt: &impl Abort, map: &Map, extended: Extended, left: usize) {
     let (wanted, pairs, rechained): (_, &[(u8, u64)], _) = match map.len() {

@@ -88,7 +88,7 @@ fn put_into_full(
     given
 }
 
-/// Puts in a pair by a call, twice where it is refused, which changes nothing. Tells whether it was
+/// Puts in a pair by a call, twice if it is refused, which changes nothing. Tells whether it was
 /// given at once.
 fn put_or_put_again(
     rt: &impl Abort,
@@ -133,7 +133,7 @@ fn insert_many(rt: &impl Abort, map: &mut Map) -> bool {
     given
 }
 
-/// Inserts a pair into a map that is full of those before, twice where it is refused, which changes
+/// Inserts a pair into a map that is full of those before, twice if it is refused, which changes
 /// nothing. Tells whether it was given at once.
 fn insert_or_insert_again(rt: &impl Abort, map: &mut Map, key: u8) -> bool {
     let value = u64::from(key);

@@ -52,7 +52,7 @@ fn replay_insertions(rt: &(impl Abort + Print + AllocGlobal), mut map: Map, comm
     }
 }
 
-/// Checks the replies to the insertions and the map that they leave, where at most one is refused.
+/// Checks the replies to the insertions and the map that they leave, if at most one is refused.
 fn assert_inserted(rt: &impl Abort, map: &Map, replies: &[Reply<u8, u64>]) {
     let absent = [1, 2, 3].into_iter().find(|key| !map.contains_key(key));
     let (wanted, pairs, rechained): (_, &[(u8, u64)], _) = match absent {
@@ -153,7 +153,7 @@ fn refused_at(replies: &[Reply<u8, u64>]) -> Option<usize> {
         .position(|reply| reply.answer == Answer::NoRoom)
 }
 
-/// Checks the replies to the changes and the map that they leave, where at most the one at
+/// Checks the replies to the changes and the map that they leave, if at most the one at
 /// `refused` is refused.
 fn assert_changed(rt: &impl Abort, map: &Map, replies: &[Reply<u8, u64>], refused: Option<usize>) {
     let (sizes, rechained) = match refused {
@@ -216,7 +216,7 @@ fn replay_extension(rt: &(impl Abort + Print + AllocGlobal), mut map: Map, comma
     }
 }
 
-/// Checks the reply to the extension and the map that it leaves, where at most one pair is refused.
+/// Checks the reply to the extension and the map that it leaves, if at most one pair is refused.
 fn assert_stopped(rt: &impl Abort, map: &Map, replies: &[Reply<u8, u64>]) {
     let (answer, pairs, rechained): (_, &[(u8, u64)], _) = match map.len() {
         1 => (Answer::Stopped(2, 2, 20), &[(1, 11)], 0),

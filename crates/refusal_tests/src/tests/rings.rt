@@ -88,7 +88,7 @@ fn grow_six_times(rt: &impl Abort, ring: &mut Ring<char, u64>) -> bool {
     given
 }
 
-/// Makes one more node spare, twice where it is refused, which changes nothing. Tells whether it
+/// Makes one more node spare, twice if it is refused, which changes nothing. Tells whether it
 /// was given at once.
 fn grow_or_grow_again(rt: &impl Abort, ring: &mut Ring<char, u64>, spares: usize) -> bool {
     check!(rt; is_ring(ring, &[], spares));

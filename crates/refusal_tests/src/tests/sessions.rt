@@ -27,7 +27,7 @@ fn assert_refused(rt: &impl Abort, refused: PutRefused<&'static str>, payload: &
     check_eq!(rt; refused, PutRefused { reason, payload });
 }
 
-/// Puts a session, and tells whether it was given. Where it was refused, it checks so as
+/// Puts a session, and tells whether it was given. If it was refused, it checks so as
 /// `assert_refused` does.
 fn is_put(rt: &impl Abort, table: &mut Table, id: u64, weight: u64, payload: &'static str) -> bool {
     match table.put(id, weight, payload) {

@@ -2,7 +2,7 @@
 //!
 //! The growths that a test names are those of the map that it begins with, and the last, which each
 //! test asks for at its end. Had a call before it asked for one, then the test would say that every
-//! growth was given where that one was refused, and the number would not be the one it says.
+//! growth was given if that one was refused, and the number would not be the one it says.
 
 mod commands;
 mod entries;

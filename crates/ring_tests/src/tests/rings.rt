@@ -39,7 +39,7 @@ pub fn with_spares(rt: &impl Abort, alloc: Global, count: usize) -> Ring<char, u
     }
 }
 
-/// Puts a triple into a spare node, and stops where there is none.
+/// Puts a triple into a spare node, and stops if there is none.
 pub fn put(
     rt: &impl Abort,
     ring: &mut Ring<char, u64>,
@@ -134,7 +134,7 @@ fn hash_after_writing(ring: &mut Ring<char, u64>, at: Position<char, u64>) -> u6
     ring.hash(at)
 }
 
-/// Hands all triples out, and answers the last value.
+/// Hands all triples out, and returns the last value.
 fn last_spliced(ring: &mut Ring<char, u64>) -> u64
     ensures held { ring.new.held ≡ [] }
     ensures spares { ring.new.spares ≡ ring.old.spares + length ring.old.held }
@@ -167,7 +167,7 @@ fn drop_spliced<K: Drop, V: Drop>(ring: &mut Ring<K, V>)
     drop(rest);
 }
 
-/// Forgets all triples, and answers how many are held then.
+/// Forgets all triples, and returns how many are held then.
 fn len_when_forgotten(ring: &mut Ring<char, u64>) -> usize
     ensures none { result ≡ 0 }
     ensures held { ring.new.held ≡ [] }
@@ -246,7 +246,7 @@ fn has_neighbours(ring: &Ring<char, u64>, at: Position<char, u64>) -> (bool, boo
 /// A ring whose keys and values are all the same counted one.
 type CountedRing = Ring<Rc<u8>, Rc<u8>>;
 
-/// Puts a triple into a spare node, where there is one.
+/// Puts a triple into a spare node, if there is one.
 fn put_counted(rt: &impl Abort, ring: &mut CountedRing, hash: u64, counted: &Rc<u8>) {
     let key = given!(rt; counted.clone());
     let value = given!(rt; counted.clone());

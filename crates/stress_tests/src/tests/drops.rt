@@ -55,7 +55,7 @@ impl<'a> CountedPairs<'a> for IntoIter<Counted<'a>, Counted<'a>> {
     }
 }
 
-/// Takes `len` pairs, each from the back where its bit of `word` is set, and drops the rest.
+/// Takes `len` pairs, each from the back if its bit of `word` is set, and drops the rest.
 fn take_by_word<'a, P: CountedPairs<'a> + Drop>(
     rt: &impl Abort,
     tally: &Tally,

@@ -1,4 +1,4 @@
-//! Growths above a thousand, one by one and at once, each of which is given where there is memory.
+//! Growths above a thousand, one by one and at once, each of which is given if there is memory.
 
 use super::checks::{check_eq, given};
 use linked_hash_map::replay::{Answer, Command, Reply, replay};

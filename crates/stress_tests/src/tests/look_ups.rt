@@ -57,7 +57,7 @@ fn assert_counted<'a>(rt: &impl Abort, map: &mut CountingMap<'a>, key: &Counting
     probe
 }
 
-/// Asks for the entry of one key, which is present where it is below 9, and compares the counts in
+/// Asks for the entry of one key, which is present if it is below 9, and compares the counts in
 /// the same way.
 fn assert_entry<'a>(rt: &impl Abort, map: &mut CountingMap<'a>, key: &Counting<'a>) -> Probe {
     let probe = assert_counted(rt, map, key);
@@ -93,7 +93,7 @@ fn eight_of<'a>(
     map
 }
 
-/// Checks the counts of all lookups in a map of capacity 8 with the keys 1 to 8, where the absent
+/// Checks the counts of all lookups in a map of capacity 8 with the keys 1 to 8. The absent
 /// keys 9 and 10 reach and compare what `absent` says.
 fn assert_counts(rt: &impl Abort, alloc: Global, builder: BuildMultiple, absent: Probe) {
     let compared = Cell::new(0);

@@ -191,7 +191,7 @@ impl PlainMap {
     }
 }
 
-/// The answer of a call that hands out the old value where there is one.
+/// The answer of a call that hands out the old value if there is one.
 fn old_or(old: Option<u64>, other: Answer<u64, u64>) -> Answer<u64, u64> {
     match old {
         Some(old) => Answer::Old(old),
@@ -199,7 +199,7 @@ fn old_or(old: Option<u64>, other: Answer<u64, u64>) -> Answer<u64, u64> {
     }
 }
 
-/// The answer of a call that hands out a pair where there is one.
+/// The answer of a call that hands out a pair if there is one.
 fn pair_or_empty(pair: Option<(u64, u64)>) -> Answer<u64, u64> {
     match pair {
         Some((key, value)) => Answer::Pair(key, value),

@@ -83,7 +83,7 @@ impl Generator {
     }
 }
 
-/// One bit for each kind of answer that comes where only a reservation is refused.
+/// One bit for each kind of answer that comes if only a reservation is refused.
 fn kind_of(answer: &Answer<u64, u64>) -> u32 {
     match answer {
         Answer::New => 1,

@@ -9,7 +9,7 @@ use std::process::Abort;
 type Session = (u64, u64, &'static str);
 
 /// What a put hands out, which is the payload that its id had and the sessions that go, or `None`
-/// where the session is too heavy.
+/// if the session is too heavy.
 type Outcome = Option<(Option<&'static str>, &'static [Session])>;
 
 /// A session to put, what comes of it, which sessions there are then, and what these weigh

@@ -11,7 +11,7 @@ use std::process::Abort;
 /// Commands.
 type Commands<'a> = Vec<Command<Counted<'a>, Counted<'a>>>;
 
-/// What a run answers.
+/// What a run returns.
 type Run<'a> = Result<Vec<Reply<Counted<'a>, Counted<'a>>>, Commands<'a>>;
 
 #[test]
@@ -79,7 +79,7 @@ fn run<'a>(
     given
 }
 
-/// Returns the bits of what a run drops: the second pair of the extension, where the first is
+/// Returns the bits of what a run drops: the second pair of the extension, if the first is
 /// refused.
 fn dropped_by(outcome: &Run<'_>) -> u64 {
     match outcome {

@@ -26,8 +26,8 @@ fn insert_by_entries<'a>(rt: &impl Abort, tally: &'a Tally, mut map: CountedMap<
     refused == 64
 }
 
-/// Drops what an entry answers, and returns the bits of all that was dropped: those of the pair
-/// with the answer, where it was refused.
+/// Drops what an entry returns, and returns the bits of all that was dropped: those of the pair
+/// with the answer, if it was refused.
 fn drop_put<'a>(
     rt: &impl Abort,
     tally: &Tally,

@@ -19,7 +19,7 @@ fn refused_capacity_drops_the_hasher(rt: HostRuntime) {
     say_if_given(&rt, given, 5);
 }
 
-/// Drops a map with its hasher, or checks that the hasher is dropped where the map was refused.
+/// Drops a map with its hasher, or checks that the hasher is dropped if the map was refused.
 /// Tells whether it was made.
 fn drop_made(
     rt: &impl Abort,

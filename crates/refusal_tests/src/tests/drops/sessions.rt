@@ -35,7 +35,7 @@ fn put_three<'a>(rt: &impl Abort, tally: &'a Tally, mut table: Table<'a>) -> boo
     given
 }
 
-/// Drops what a put answers, and returns the bits of all that was dropped: that of a refused
+/// Drops what a put returns, and returns the bits of all that was dropped: that of a refused
 /// payload, or those of what is gone.
 fn drop_put<'a>(
     rt: &impl Abort,
