@@ -6,11 +6,9 @@ use Rattle.std.specs.List.{AllByRecursion}
 use Rattle.lhm_ring.specs.Buckets.{buckets, rechained_raised}
 use Rattle.lhm_ring.proofs.BucketCounts.{rechained_raised-same}
 use Rattle.lhm_ring.specs.Index as index
-use Rattle.lhm_ring.specs.Index.{spots}
-use Rattle.lhm_ring.specs.IndexedRing.{AreHashed}
+use Rattle.lhm_ring.specs.Index.{Spot, spot, spots}
 use Rattle.lhm_ring.specs.RingState.{Held}
 use Rattle.lhm_ring.proofs.Chains.{count-cons}
-use Rattle.lhm_ring.proofs.Hashed.{same_hashed, beside_hashed}
 use Rattle.linked_hash_map.specs.Counts.{same, beside, rechained_each}
 use Rattle.linked_hash_map.specs.Nodes.{pairs_of, bare}
 
@@ -39,25 +37,20 @@ rechained_each-put rechained start {capacity} {len} {longer} {capacity'} {so_far
     counted ∙ ap (rechained_raised so_far len capacity) same ∙ rechained_raised-same so_far len capacity ∙ before ∙ ap (λ k. rechained_each rechained start (k - start)) (sym same))
     (cases_lt capacity longer)
 
--- what the index counts, by the pairs
+-- what the index counts, by the pairs: each stored hash is that of its key
 module _ {K V : Type 0} (hash : K → ℕ) where
-  count-pairs : (test : K × V → Bool) (hs : List (Held (K × V))) → count_by (λ x. test x.pair) hs ≡ count_by test (pairs_of hs)
-  count-pairs test [] = refl
-  count-pairs test (t ∷ hs) =
-      let rest = count-pairs test hs in
-      let left : count_by (λ (x : Held (K × V)). test x.pair) (t ∷ hs) ≡ cond (test t.pair) 1 0 + count_by (λ (x : Held (K × V)). test x.pair) hs = count-cons (λ (x : Held (K × V)). test x.pair) t hs in
-      let right : count_by test (t.pair ∷ pairs_of hs) ≡ cond (test t.pair) 1 0 + count_by test (pairs_of hs) = count-cons test t.pair (pairs_of hs) in
-      omega (arith, rest, left, right)
-
-  hashed_bare : (hs : List (Held (K × V))) → AllByRecursion (λ u. u.hash ≡ hash u.pair) (bare hs) → AreHashed hash hs
-  hashed_bare [] h = tt
-  hashed_bare (t ∷ hs) h = (h.0, hashed_bare hs h.1)
+  count-hashed : (test : ℕ → Bool) (hs : List (Held (K × V))) → AllByRecursion (λ u. u.hash ≡ hash u.pair) (bare hs) → count_by (λ (s : Spot). test s.hash) (spots hs) ≡ count_by (λ (pair : K × V). test (hash pair.0)) (pairs_of hs)
+  count-hashed test [] h = refl
+  count-hashed test (t ∷ hs) h =
+      let rest = count-hashed test hs h.1 in
+      let left : count_by (λ (s : Spot). test s.hash) (spots (t ∷ hs)) ≡ cond (test t.hash) 1 0 + count_by (λ (s : Spot). test s.hash) (spots hs) = count-cons (λ (s : Spot). test s.hash) (spot t) (spots hs) in
+      let right : count_by (λ (pair : K × V). test (hash pair.0)) (t.pair ∷ pairs_of hs) ≡ cond (test (hash t.pair.0)) 1 0 + count_by (λ (pair : K × V). test (hash pair.0)) (pairs_of hs) = count-cons (λ (pair : K × V). test (hash pair.0)) t.pair (pairs_of hs) in
+      let same : cond {A = ℕ} (test t.hash) 1 0 ≡ cond {A = ℕ} (test (hash t.pair.0)) 1 0 = ap (λ n. cond {A = ℕ} (test n) 1 0) h.0 in
+      omega (arith, rest, left, right, same)
 
   pub same-pairs : (hs : List (Held (K × V))) (k : K) (hash_k : ℕ) → hash_k ≡ hash k → AllByRecursion (λ u. u.hash ≡ hash u.pair) (bare hs) → index.same (spots hs) hash_k ≡ same hash (pairs_of hs) k
-  same-pairs hs k hash_k its h =
-      ap (index.same (spots hs)) its ∙ same_hashed hash hs (hash k) (hashed_bare hs h) ∙ count-pairs (λ pair. eqb (hash pair.0) (hash k)) hs
+  same-pairs hs k hash_k its h = ap (index.same (spots hs)) its ∙ count-hashed (λ n. eqb n (hash k)) hs h
 
   pub beside-pairs : (hs : List (Held (K × V))) (k : K) (hash_k n capacity : ℕ) → hash_k ≡ hash k → n ≡ buckets capacity → AllByRecursion (λ u. u.hash ≡ hash u.pair) (bare hs) → index.beside (spots hs) n hash_k ≡ beside hash (pairs_of hs) capacity k
   beside-pairs hs k hash_k n capacity its wide h =
-      (λ i. index.beside (spots hs) (wide i) (its i)) ∙ beside_hashed hash hs (buckets capacity) (hash k) (hashed_bare hs h)
-      ∙ count-pairs (λ pair. eqb (hash pair.0 % buckets capacity) (hash k % buckets capacity)) hs
+      (λ i. index.beside (spots hs) (wide i) (its i)) ∙ count-hashed (λ m. eqb (m % buckets capacity) (hash k % buckets capacity)) hs h
