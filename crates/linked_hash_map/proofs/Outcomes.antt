@@ -62,17 +62,17 @@ module _ {K V : Type 0} {eq : K → K → Bool} (laws : IsEquivalence eq) {start
   pairs-last o h = ap (λ ps. slice_get ps (length ps - 1)) (sym defines.same_pairs) ∙ h
 
 -- after insertions one after another
-pub Defines-put_each : {K V : Type 0} {eq : K → K → Bool} (laws : IsEquivalence eq) {start : ℕ} (items : List (K × V)) (log : Log K V) (contents : List (K × V)) (room : ℕ) (mode : Mode) → Defines eq start log contents room mode → Defines eq start (log ++ put_each items) (insert_each eq mode contents items) (max room (length (insert_each eq mode contents items))) mode
-Defines-put_each laws [] log contents room mode defines =
+pub Defines-put_each : {K V : Type 0} {eq : K → K → Bool} (laws : IsEquivalence eq) {start : ℕ} (mode : Mode) (items : List (K × V)) (log : Log K V) (contents : List (K × V)) (room : ℕ) → Defines eq start log contents room mode → Defines eq start (log ++ put_each items) (insert_each eq mode contents items) (max room (length (insert_each eq mode contents items))) mode
+Defines-put_each laws mode [] log contents room defines =
     let within = length-defined laws defines in
     Defines-nothing laws defines refl (omega arith) refl
-Defines-put_each {K} {V} {eq} laws {start} (item ∷ items) log contents room mode defines =
+Defines-put_each {K} {V} {eq} laws {start} mode (item ∷ items) log contents room defines =
     let one = put eq mode contents item.0 item.1 in
     let first = max room (length one) in
     let all = insert_each eq mode contents (item ∷ items) in
     let whole = length all in
     let went_in = Defines-put laws defines item.0 item.1 refl refl refl in
-    let rest = Defines-put_each laws items (log ++ Put item.0 item.1 ∷ []) one first mode went_in in
+    let rest = Defines-put_each laws mode items (log ++ Put item.0 item.1 ∷ []) one first went_in in
     let grows = length-insert_each_least laws mode one items (distinct-defined laws went_in) in
     let most : max first whole ≡ max room whole = omega arith in
     subst (λ later. Defines eq start later all (max room whole) mode) (append_assoc log (Put item.0 item.1 ∷ []) (put_each items))
@@ -185,7 +185,7 @@ module _ {K V : Type 0} {eq : K → K → Bool} (laws : IsEquivalence eq) {start
   drain_outcome _ told given = absurd told
 
   pub extend_outcome : (items : List (K × V)) (answer : Answer K V) → Answers eq start log (request_of (Extend items)) (response_of answer) → is_refusal answer ≡ false → Outcome eq start log contents room mode (Extend items) answer
-  extend_outcome items Done told given = (refl, Defines-put_each laws items log contents room mode defines)
+  extend_outcome items Done told given = (refl, Defines-put_each laws mode items log contents room defines)
   extend_outcome items (Stopped n k v) told given = absurd (true≢false given)
   extend_outcome items _ told given = absurd told
 

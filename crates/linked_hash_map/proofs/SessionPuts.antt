@@ -38,7 +38,7 @@ module _ {T : Type 0} where
   pub with_last-drop : (ps : List (ℕ × Weighted T)) (count id weight : ℕ) (payload : T) → pairs.find nat_eq ps id ≡ None → count ≤ length ps
       → with_last (sessions_of (drop count ps)) id weight payload ≡ drop count (with_last (sessions_of ps) id weight payload)
   with_last-drop ps count id weight payload none enough =
-      with_last-new (drop count ps) id weight payload (find-drop nat_eq count ps id none)
+      with_last-new (drop count ps) id weight payload (find-drop nat_eq ps id count none)
       ∙ ap (λ l. l ++ (id, weight, payload) ∷ []) (sessions_of-drop count ps)
       ∙ sym (drop-append-le count (sessions_of ps) ((id, weight, payload) ∷ []) (omega (arith, length-sessions_of ps)))
       ∙ ap (drop count) (sym (with_last-new ps id weight payload none))
@@ -59,7 +59,7 @@ module _ {T : Type 0} where
   is_some-weight sessions id known = sym (ap is_some known ∙ some_weight (session_of sessions id))
 
   pub find-drop_new : (ps : List (ℕ × Weighted T)) (count id : ℕ) {left : List (ℕ × Weighted T)} → pairs.find nat_eq ps id ≡ None → left ≡ drop count ps → pairs.find nat_eq left id ≡ None
-  find-drop_new ps count id none oldest = ap (λ l. pairs.find nat_eq l id) oldest ∙ find-drop nat_eq count ps id none
+  find-drop_new ps count id none oldest = ap (λ l. pairs.find nat_eq l id) oldest ∙ find-drop nat_eq ps id count none
 
   pub payload_of-new : (ps : List (ℕ × Weighted T)) (id : ℕ) → pairs.find nat_eq ps id ≡ None → payload_of (sessions_of ps) id ≡ None
   payload_of-new ps id none = payload_of-sessions_of ps id ∙ ap (option_map (λ (weighted : Weighted T). weighted.payload)) (value_at-none nat_eq ps id none)
@@ -78,7 +78,7 @@ module _ {T : Type 0} where
   pub payload_of-put : (ps : List (ℕ × Weighted T)) (count id weight : ℕ) (payload : T) → payload_of (drop count (without (sessions_of ps) id) ++ (id, weight, payload) ∷ []) id ≡ Some payload
   payload_of-put ps count id weight payload =
       let left = drop count (pairs.without nat_eq ps id) in
-      let none = find-drop nat_eq count (pairs.without nat_eq ps id) id (find-without_here nat_eq_equiv ps id) in
+      let none = find-drop nat_eq (pairs.without nat_eq ps id) id count (find-without_here nat_eq_equiv ps id) in
       let absent = none_is (session_of (sessions_of left) id) (is_some-session_of left id ∙ ap is_some none) in
       let same = sessions_of-drop count (pairs.without nat_eq ps id) ∙ ap (drop count) (sessions_of-without ps id) in
       ap (λ l. payload_of (l ++ (id, weight, payload) ∷ []) id) (sym same)
@@ -99,7 +99,7 @@ module _ {T : Type 0} where
       sym (is_some-session_of (drop count qs) other) ∙ sym (some_payload (session_of (sessions_of (drop count qs)) other)) ∙ ap (λ l. is_some (payload_of l other)) (sym as_pairs) ∙ stays in
       ap (λ l. payload_of l other) as_pairs
       ∙ payload_of-sessions_of (drop count qs) other
-      ∙ ap (option_map (λ (w : Weighted T). w.payload)) (ap (option_map (λ (pair : ℕ × Weighted T). pair.1)) (find-drop_present nat_eq_equiv count qs other (distinct-to_back nat_eq_equiv ps id weighted distinct) found) ∙ value_at-to_back_apart nat_eq_equiv ps id other weighted apart)
+      ∙ ap (option_map (λ (w : Weighted T). w.payload)) (ap (option_map (λ (pair : ℕ × Weighted T). pair.1)) (find-drop_present nat_eq_equiv qs other count (distinct-to_back nat_eq_equiv ps id weighted distinct) found) ∙ value_at-to_back_apart nat_eq_equiv ps id other weighted apart)
       ∙ sym (payload_of-sessions_of ps other)
 
   pub total_weight-put : (weight id : ℕ) (payload : T) (left : List (Session T)) → total_weight (left ++ (id, weight, payload) ∷ []) ≡ total_weight left + weight

@@ -9,10 +9,10 @@ use Rattle.linked_hash_map.specs.Pairs.{value_at, set_or_push, ActsAs}
 use Rattle.linked_hash_map.proofs.Callers.Lookups.{value_at-same, value_at-set_or_push}
 use Rattle.linked_hash_map.proofs.Callers.Keys.{keys_of-set_or_push, is_some-find}
 
-module _ {K : Type 0} {eq : K → K → Bool} (laws : IsEquivalence eq) (pairs : List (K × ℕ)) (items : List K) (i : ℕ) (d : K) where
+module _ {K : Type 0} {eq : K → K → Bool} (laws : IsEquivalence eq) (pairs : List (K × ℕ)) (items : List K) where
   -- the next item is counted
-  pub count_by-set_or_push : (n : ℕ) → i < length items → ((q : K) → unwrap_or (value_at eq pairs q) 0 ≡ count_by (eq q) (take i items)) → n ≡ unwrap_or (value_at eq pairs (get_or items i d)) 0 + 1 → (q : K) → unwrap_or (value_at eq (set_or_push eq pairs (get_or items i d) n) q) 0 ≡ count_by (eq q) (take (i + 1) items)
-  count_by-set_or_push n within before more q = by_test (eq item q) refl
+  pub count_by-set_or_push : (d q : K) (n i : ℕ) → i < length items → ((q : K) → unwrap_or (value_at eq pairs q) 0 ≡ count_by (eq q) (take i items)) → n ≡ unwrap_or (value_at eq pairs (get_or items i d)) 0 + 1 → unwrap_or (value_at eq (set_or_push eq pairs (get_or items i d) n) q) 0 ≡ count_by (eq q) (take (i + 1) items)
+  count_by-set_or_push d q n i within before more = by_test (eq item q) refl
     where
       item : K
       item = get_or items i d
@@ -32,17 +32,17 @@ module _ {K : Type 0} {eq : K → K → Bool} (laws : IsEquivalence eq) (pairs :
           ∙ sym (count_by_more_no (eq q) items i d within (laws.symm q item ∙ apart))
 
   -- a count is at most the number of items so far
-  pub count-lt-length : i < length items → ((q : K) → unwrap_or (value_at eq pairs q) 0 ≡ count_by (eq q) (take i items)) → unwrap_or (value_at eq pairs (get_or items i d)) 0 < length items
-  count-lt-length within before =
+  pub count-lt-length : (d : K) (i : ℕ) → i < length items → ((q : K) → unwrap_or (value_at eq pairs q) 0 ≡ count_by (eq q) (take i items)) → unwrap_or (value_at eq pairs (get_or items i d)) 0 < length items
+  count-lt-length d i within before =
       let few = count_by-le-length (eq (get_or items i d)) (take i items) in
       let some = length-take i items in
       let same = before (get_or items i d) in
       omega arith
 
   -- and its key stands behind the others, if it is new
-  pub keys_of-set_or_push_first_seen : (n : ℕ) → i < length items → keys_of pairs ≡ fold (λ seen item. if list_any (eq item) seen then seen else seen ++ item ∷ []) [] (take i items)
+  pub keys_of-set_or_push_first_seen : (d : K) (n i : ℕ) → i < length items → keys_of pairs ≡ fold (λ seen item. if list_any (eq item) seen then seen else seen ++ item ∷ []) [] (take i items)
       → keys_of (set_or_push eq pairs (get_or items i d) n) ≡ fold (λ seen item. if list_any (eq item) seen then seen else seen ++ item ∷ []) [] (take (i + 1) items)
-  keys_of-set_or_push_first_seen n within before =
+  keys_of-set_or_push_first_seen d n i within before =
       let seen_with = λ (seen : List K) (item : K). if list_any (eq item) seen then seen else seen ++ item ∷ [] in
       let item = get_or items i d in
       keys_of-set_or_push eq pairs item n
@@ -51,16 +51,17 @@ module _ {K : Type 0} {eq : K → K → Bool} (laws : IsEquivalence eq) (pairs :
       ∙ sym (fold_more seen_with [] items i d within)
 
 -- a step of the loop, as the clauses of `entry` and of `or_insert` say it: the entry's key stands for the item k, whose count is n
-module _ {K : Type 0} {eq : K → K → Bool} (laws : IsEquivalence eq) (before after : List (K × ℕ)) (items : List K) (i : ℕ) (stored k : K) (n : ℕ)
-    (within : i < length items) (item_is : k ≡ get_or items i k) (acts : ActsAs eq before stored k) (written : after ≡ set_or_push eq before stored n) where
-  own : after ≡ set_or_push eq before (get_or items i k) n
-  own = written ∙ acts.sets_or_pushes n ∙ ap (λ j. set_or_push eq before j n) item_is
+module _ {K : Type 0} {eq : K → K → Bool} (laws : IsEquivalence eq) (before after : List (K × ℕ)) (items : List K) (stored k : K) where
+  own : (n i : ℕ) → k ≡ get_or items i k → ActsAs eq before stored k → after ≡ set_or_push eq before stored n → after ≡ set_or_push eq before (get_or items i k) n
+  own n i item_is acts written = written ∙ acts.sets_or_pushes n ∙ ap (λ j. set_or_push eq before j n) item_is
 
-  pub count_by-counted : ((q : K) → unwrap_or (value_at eq before q) 0 ≡ count_by (eq q) (take i items)) → n ≡ unwrap_or (value_at eq before k) 0 + 1 → (q : K) → unwrap_or (value_at eq after q) 0 ≡ count_by (eq q) (take (i + 1) items)
-  count_by-counted so_far more q =
-      ap (λ pairs. unwrap_or (value_at eq pairs q) 0) own
-      ∙ count_by-set_or_push laws before items i k n within so_far (more ∙ ap (λ j. unwrap_or (value_at eq before j) 0 + 1) item_is) q
+  pub count_by-counted : (q : K) (n i : ℕ) → i < length items → k ≡ get_or items i k → ActsAs eq before stored k → after ≡ set_or_push eq before stored n → ((q : K) → unwrap_or (value_at eq before q) 0 ≡ count_by (eq q) (take i items)) → n ≡ unwrap_or (value_at eq before k) 0 + 1
+      → unwrap_or (value_at eq after q) 0 ≡ count_by (eq q) (take (i + 1) items)
+  count_by-counted q n i within item_is acts written so_far more =
+      ap (λ pairs. unwrap_or (value_at eq pairs q) 0) (own n i item_is acts written)
+      ∙ count_by-set_or_push laws before items k q n i within so_far (more ∙ ap (λ j. unwrap_or (value_at eq before j) 0 + 1) item_is)
 
-  pub keys_of-counted : keys_of before ≡ fold (λ seen item. if list_any (eq item) seen then seen else seen ++ item ∷ []) [] (take i items)
+  pub keys_of-counted : (n i : ℕ) → i < length items → k ≡ get_or items i k → ActsAs eq before stored k → after ≡ set_or_push eq before stored n → keys_of before ≡ fold (λ seen item. if list_any (eq item) seen then seen else seen ++ item ∷ []) [] (take i items)
       → keys_of after ≡ fold (λ seen item. if list_any (eq item) seen then seen else seen ++ item ∷ []) [] (take (i + 1) items)
-  keys_of-counted so_far = ap keys_of own ∙ keys_of-set_or_push_first_seen laws before items i k n within so_far
+  keys_of-counted n i within item_is acts written so_far =
+      ap keys_of (own n i item_is acts written) ∙ keys_of-set_or_push_first_seen laws before items k n i within so_far

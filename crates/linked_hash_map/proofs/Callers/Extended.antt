@@ -49,8 +49,8 @@ module _ {T I K V : Type 0} {becomes : T → I → Type 0} {steps : I → Option
 
   -- if at most n items are left to come, it rehashed what growing to the capacity does, from room for
   -- at most n
-  pub rechained-Collects : Collects becomes steps source remaining eq pairs capacity rechained → (n : ℕ) → GivesAtMost becomes remaining source n → (lower : ℕ) × (lower ≤ n) × (rechained ≡ rechained_each 0 lower (capacity - lower))
-  rechained-Collects collects n left =
+  pub rechained-Collects : (n : ℕ) → Collects becomes steps source remaining eq pairs capacity rechained → GivesAtMost becomes remaining source n → (lower : ℕ) × (lower ≤ n) × (rechained ≡ rechained_each 0 lower (capacity - lower))
+  rechained-Collects n collects left =
       let bound = left collects.iterator collects.made in
       let lower = collects.hint bound.0 in
       (collects.lower, omega arith, collects.counted)
@@ -65,19 +65,19 @@ module _ {T I K V : Type 0} {becomes : T → I → Type 0} {steps : I → Option
     capacity-Collects each left =
         let bound = left collects.iterator collects.made in
         let lower = collects.hint bound.0 in
-        let most = length-insert_each_most laws Touch [] all (distinct-nil V eq) in
+        let most = length-insert_each_most laws Touch [] all (distinct-nil eq V) in
         let length_is = ap length (pairs-Collects each) in
         let room = collects.room in
         (omega arith, omega arith)
 
     -- and where their keys differ, it is that number, and the pairs are the items
-    pub pairs-Collects_distinct : IsDistinct eq (keys_of all) → ((it : I) → becomes source it → YieldsList steps (λ pair. pair) it all) → pairs ≡ all
-    pairs-Collects_distinct distinct each = pairs-Collects each ∙ insert_each-distinct laws Touch all distinct
+    pub pairs-Collects_distinct : ((it : I) → becomes source it → YieldsList steps (λ pair. pair) it all) → IsDistinct eq (keys_of all) → pairs ≡ all
+    pairs-Collects_distinct each distinct = pairs-Collects each ∙ insert_each-distinct laws Touch all distinct
 
-    pub capacity-Collects_distinct : IsDistinct eq (keys_of all) → ((it : I) → becomes source it → YieldsList steps (λ pair. pair) it all) → GivesAtMost becomes remaining source (length all) → capacity ≡ length all
-    capacity-Collects_distinct distinct each left =
+    pub capacity-Collects_distinct : ((it : I) → becomes source it → YieldsList steps (λ pair. pair) it all) → IsDistinct eq (keys_of all) → GivesAtMost becomes remaining source (length all) → capacity ≡ length all
+    capacity-Collects_distinct each distinct left =
         let bounds = capacity-Collects each left in
-        let length_is = ap length (pairs-Collects_distinct distinct each) in
+        let length_is = ap length (pairs-Collects_distinct each distinct) in
         omega arith
 
 -- where there is room for each item, as after `with_capacity` of their number, `extend` leaves the capacity
@@ -89,14 +89,14 @@ pub pairs-InsertsAll_list : {T X K V : Type 0} {becomes : T → List (K × V) �
 pairs-InsertsAll_list all inserts is = pairs-InsertsAll inserts (λ it made. YieldsList-from_rest all (is it made))
 
 -- and where the keys of that list differ, as those of a map do: its values win, and in Keep the old keys stand before the new
-module _ {T K V : Type 0} {becomes : T → List (K × V) → Type 0} {source : T} {eq : K → K → Bool} (laws : IsEquivalence eq) {mode : Mode} {old new : List (K × V)} (all : List (K × V)) (inserts : InsertsAll becomes (TakesFirst (λ (pair : K × V). pair)) source eq (λ pair. pair) mode old new) (is : (it : List (K × V)) → becomes source it → (it ≡ all) × IsDistinct eq (keys_of all)) where
-  pub value_at-InsertsAll_distinct : (q : K) → value_at eq new q ≡ option_or (value_at eq all q) (value_at eq old q)
-  value_at-InsertsAll_distinct q =
+module _ {T K V : Type 0} {becomes : T → List (K × V) → Type 0} {source : T} {eq : K → K → Bool} (laws : IsEquivalence eq) {mode : Mode} {old new : List (K × V)} (all : List (K × V)) where
+  pub value_at-InsertsAll_distinct : (q : K) → InsertsAll becomes (TakesFirst (λ (pair : K × V). pair)) source eq (λ pair. pair) mode old new → ((it : List (K × V)) → becomes source it → (it ≡ all) × IsDistinct eq (keys_of all)) → value_at eq new q ≡ option_or (value_at eq all q) (value_at eq old q)
+  value_at-InsertsAll_distinct q inserts is =
       ap (λ ps. value_at eq ps q) (pairs-InsertsAll_list all inserts (λ it made. (is it made).0))
       ∙ value_at-insert_each_distinct laws mode old all q (is inserts.gives.iterator inserts.gives.made).1
 
-  pub keys_of-InsertsAll_keep : mode ≡ Keep → keys_of new ≡ keys_of old ++ filter (λ k. not (is_some (find eq old k))) (keys_of all)
-  keys_of-InsertsAll_keep keep =
+  pub keys_of-InsertsAll_keep : InsertsAll becomes (TakesFirst (λ (pair : K × V). pair)) source eq (λ pair. pair) mode old new → ((it : List (K × V)) → becomes source it → (it ≡ all) × IsDistinct eq (keys_of all)) → mode ≡ Keep → keys_of new ≡ keys_of old ++ filter (λ k. not (is_some (find eq old k))) (keys_of all)
+  keys_of-InsertsAll_keep inserts is keep =
       ap keys_of (pairs-InsertsAll_list all inserts (λ it made. (is it made).0))
       ∙ ap (λ m. keys_of (insert_each eq m old all)) keep
       ∙ keys_of-insert_each_keep laws old all (is inserts.gives.iterator inserts.gives.made).1
@@ -110,24 +110,24 @@ module _ {T Z K V : Type 0} (becomes : T → _ → Type 0) (source : T) (vec : V
   GivesAtMost-vec it made = let told = is it made in (tt, omega (arith, told.1, vec.ok.0))
 
 -- `extend` of a vector, and `from_iter` of one
-module _ {T Z K V : Type 0} {becomes : T → _ → Type 0} {source : T} {eq : K → K → Bool} (vec : Vec (K × V) Z) (is : (it : _) → becomes source it → (into_iter_items {X = K × V} {Z = Z} it ≡ vec_items vec) × (into_iter_len it ≡ vec_len vec)) where
-  pub pairs-InsertsAll_vec : {mode : Mode} {old new : List (K × V)} → InsertsAll becomes into_iter_steps source eq (λ pair. pair) mode old new → new ≡ insert_each eq mode old (vec_items vec)
-  pairs-InsertsAll_vec inserts = pairs-InsertsAll inserts (yields becomes source vec is)
+pub pairs-InsertsAll_vec : {T Z K V : Type 0} {becomes : T → _ → Type 0} {source : T} {eq : K → K → Bool} {mode : Mode} {old new : List (K × V)} (vec : Vec (K × V) Z) → InsertsAll becomes (into_iter_steps {X = K × V} {Z = Z}) source eq (λ pair. pair) mode old new
+    → ((it : _) → becomes source it → (into_iter_items {X = K × V} {Z = Z} it ≡ vec_items vec) × (into_iter_len it ≡ vec_len vec)) → new ≡ insert_each eq mode old (vec_items vec)
+pairs-InsertsAll_vec {becomes = becomes} {source} vec inserts is = pairs-InsertsAll inserts (yields becomes source vec is)
 
-  pub pairs-Collects_vec : {pairs : List (K × V)} {capacity rechained : ℕ} → Collects becomes into_iter_steps source (λ it. at_most (into_iter_len it)) eq pairs capacity rechained → pairs ≡ insert_each eq Touch [] (vec_items vec)
-  pairs-Collects_vec collects = pairs-InsertsAll_vec (InsertsAll-Collects collects)
+pub pairs-Collects_vec : {T Z K V : Type 0} {becomes : T → _ → Type 0} {source : T} {eq : K → K → Bool} {pairs : List (K × V)} {capacity rechained : ℕ} (vec : Vec (K × V) Z) → Collects becomes (into_iter_steps {X = K × V} {Z = Z}) source (λ it. at_most (into_iter_len it)) eq pairs capacity rechained
+    → ((it : _) → becomes source it → (into_iter_items {X = K × V} {Z = Z} it ≡ vec_items vec) × (into_iter_len it ≡ vec_len vec)) → pairs ≡ insert_each eq Touch [] (vec_items vec)
+pairs-Collects_vec vec collects is = pairs-InsertsAll_vec vec (InsertsAll-Collects collects) is
 
 -- if the keys of its items differ, the pairs are the items, the capacity is their number, and it rehashed what growing to that
 -- number does, from room for no more
-pub Collects_distinct_vec : {T Z K V : Type 0} {becomes : T → _ → Type 0} {source : T} {eq : K → K → Bool} → IsEquivalence eq → (vec : Vec (K × V) Z)
-    → ((it : _) → becomes source it → (into_iter_items {X = K × V} {Z = Z} it ≡ vec_items vec) × (into_iter_len it ≡ vec_len vec))
-    → {pairs : List (K × V)} {capacity rechained : ℕ} → Collects becomes into_iter_steps source (λ it. at_most (into_iter_len it)) eq pairs capacity rechained → IsDistinct eq (keys_of (vec_items vec))
+pub Collects_distinct_vec : {T Z K V : Type 0} {becomes : T → _ → Type 0} {source : T} {eq : K → K → Bool} → IsEquivalence eq → {pairs : List (K × V)} {capacity rechained : ℕ} (vec : Vec (K × V) Z) → Collects becomes (into_iter_steps {X = K × V} {Z = Z}) source (λ it. at_most (into_iter_len it)) eq pairs capacity rechained
+    → ((it : _) → becomes source it → (into_iter_items {X = K × V} {Z = Z} it ≡ vec_items vec) × (into_iter_len it ≡ vec_len vec)) → IsDistinct eq (keys_of (vec_items vec))
     → (pairs ≡ vec_items vec) × (capacity ≡ length (vec_items vec)) × ((lower : ℕ) × (lower ≤ length (vec_items vec)) × (rechained ≡ rechained_each 0 lower (length (vec_items vec) - lower)))
-Collects_distinct_vec {becomes = becomes} {source} laws vec is collects distinct =
+Collects_distinct_vec {becomes = becomes} {source} laws vec collects is distinct =
     let most = GivesAtMost-vec becomes source vec is in
-    let exact = capacity-Collects_distinct laws collects distinct (yields becomes source vec is) most in
-    let counted = rechained-Collects collects (length (vec_items vec)) most in (
-      pairs-Collects_vec vec is collects ∙ insert_each-distinct laws Touch (vec_items vec) distinct,
+    let exact = capacity-Collects_distinct laws collects (yields becomes source vec is) distinct most in
+    let counted = rechained-Collects (length (vec_items vec)) collects most in (
+      pairs-Collects_vec vec collects is ∙ insert_each-distinct laws Touch (vec_items vec) distinct,
       exact,
       (counted.0, counted.1, counted.2 ∙ ap (λ room. rechained_each 0 counted.0 (room - counted.0)) exact),
     )

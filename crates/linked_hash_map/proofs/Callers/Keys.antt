@@ -141,9 +141,9 @@ most false n length_after h = omega arith
 pub length-set_or_push_most : {K V : Type 0} (eq : K → K → Bool) (pairs : List (K × V)) (k : K) (v : V) → length (set_or_push eq pairs k v) ≤ length pairs + 1
 length-set_or_push_most eq pairs k v = most (is_some (find eq pairs k)) (length pairs) (length (set_or_push eq pairs k v)) (length-set_or_push eq pairs k v)
 
-pub distinct-nil : {K : Type 0} (V : Type 0) (eq : K → K → Bool) → IsDistinct eq (keys_of {X = V} [])
+pub distinct-nil : {K : Type 0} (eq : K → K → Bool) (V : Type 0) → IsDistinct eq (keys_of {X = V} [])
 unfolding IsDistinct
-distinct-nil V eq = tt
+distinct-nil eq V = tt
 
 pub distinct-set_value : {K V : Type 0} (eq : K → K → Bool) (pairs : List (K × V)) (k : K) (v : V) → IsDistinct eq (keys_of pairs) → IsDistinct eq (keys_of (set_value eq pairs k v))
 distinct-set_value eq pairs k v distinct = subst (IsDistinct eq) (sym (keys_of-set_value eq pairs k v)) distinct
@@ -165,5 +165,5 @@ find_drop test (suc n) (pair ∷ pairs) none = find_drop test n pairs (by_test (
     by_test true h = absurd (true≢false (ap is_some h))
     by_test false h = h
 
-pub find-drop : {K V : Type 0} (eq : K → K → Bool) (n : ℕ) (pairs : List (K × V)) (k : K) → find eq pairs k ≡ None → find eq (drop n pairs) k ≡ None
-find-drop eq n pairs k absent = find_drop (eq k) n pairs absent
+pub find-drop : {K V : Type 0} (eq : K → K → Bool) (pairs : List (K × V)) (k : K) (n : ℕ) → find eq pairs k ≡ None → find eq (drop n pairs) k ≡ None
+find-drop eq pairs k n absent = find_drop (eq k) n pairs absent

@@ -32,10 +32,10 @@ module _ {K V : Type 0} {eq : K → K → Bool} (laws : IsEquivalence eq) where
       ap (λ ps. find eq ps pair.0) (drop-first laws pairs pair distinct there) ∙ find-without_here laws pairs pair.0
 
   -- and a key that is found among the last pairs has there the pair that it has among all
-  pub find-drop_present : (n : ℕ) (pairs : List (K × V)) (q : K) → IsDistinct eq (keys_of pairs) → IsSome (find eq (drop n pairs) q) → find eq (drop n pairs) q ≡ find eq pairs q
-  find-drop_present zero pairs q distinct found = refl
-  find-drop_present (suc n) [] q distinct found = refl
-  find-drop_present (suc n) (pair ∷ pairs) q distinct found = by_test (eq q pair.0) refl (find-drop_present n pairs q (IsDistinct-tail eq pair.0 (keys_of pairs) distinct) found)
+  pub find-drop_present : (pairs : List (K × V)) (q : K) (n : ℕ) → IsDistinct eq (keys_of pairs) → IsSome (find eq (drop n pairs) q) → find eq (drop n pairs) q ≡ find eq pairs q
+  find-drop_present pairs q zero distinct found = refl
+  find-drop_present [] q (suc n) distinct found = refl
+  find-drop_present (pair ∷ pairs) q (suc n) distinct found = by_test (eq q pair.0) refl (find-drop_present pairs q n (IsDistinct-tail eq pair.0 (keys_of pairs) distinct) found)
     where
       by_test : (b : Bool) → eq q pair.0 ≡ b → find eq (drop n pairs) q ≡ find eq pairs q → find eq (drop n pairs) q ≡ cond b (Some pair) (find eq pairs q)
       by_test true same rest = absurd (true≢false (sym found ∙ ap is_some (rest ∙ find-others pairs pair q distinct same)))
@@ -47,7 +47,7 @@ module _ {K V : Type 0} {eq : K → K → Bool} (laws : IsEquivalence eq) where
 
 -- after some turns of a renaming the first of the old pairs stand behind the others, the one of `from` with `to` as its key; and
 -- while the pair of `from` is there, `to` is free
-pub record IsRenaming {K V : Type 0} (eq : K → K → Bool) (from to : K) (old now : List (K × V)) (turns : ℕ) : Type 0 where
+pub record IsRenaming {K V : Type 0} (eq : K → K → Bool) (old now : List (K × V)) (from to : K) (turns : ℕ) : Type 0 where
   pub list : now ≡ drop turns old ++ map (λ pair. cond (eq from pair.0) (to, pair.1) pair) (take turns old)
   pub free : is_some (find eq now from) ≡ true → find eq now to ≡ None
 
@@ -71,7 +71,7 @@ module _ {K V : Type 0} {eq : K → K → Bool} (laws : IsEquivalence eq) (from 
           × (is_some (find eq (rest ++ (cond b to pair.0, pair.1) ∷ []) from) ≡ true → find eq (rest ++ (cond b to pair.0, pair.1) ∷ []) to ≡ None)
       by_test true same free =
           let none = free refl in (
-            find-drop eq 1 (pair ∷ rest) to none,
+            find-drop eq (pair ∷ rest) to 1 none,
             λ found. absurd (at_new (eq from to) refl same none (sym (ap is_some (lookup_entry-append (eq from) rest ((to, pair.1) ∷ []))) ∙ found)),
           )
       by_test false apart free = (
@@ -79,7 +79,7 @@ module _ {K V : Type 0} {eq : K → K → Bool} (laws : IsEquivalence eq) (from 
         λ found.
             let none = free (here found) in
             lookup_entry-append (eq to) rest (pair ∷ [])
-            ∙ ap₂ (λ o b. option_or o (cond b (Some pair) None)) (find-drop eq 1 (pair ∷ rest) to none) (other (eq to pair.0) refl none),
+            ∙ ap₂ (λ o b. option_or o (cond b (Some pair) None)) (find-drop eq (pair ∷ rest) to 1 none) (other (eq to pair.0) refl none),
       )
         where
           or_none : (o : Option (K × V)) → option_or o None ≡ o
@@ -106,36 +106,36 @@ module _ {K V : Type 0} {eq : K → K → Bool} (laws : IsEquivalence eq) (from 
       ∙ append_assoc (drop (turns + 1) old) (map change (take turns old)) (change (get_or old turns pair) ∷ [])
       ∙ ap (λ xs. drop (turns + 1) old ++ xs) (sym (ap (map change) (take_more old turns pair within) ∙ map-append change (take turns old) (get_or old turns pair ∷ [])))
 
-  module _ (old now : List (K × V)) (turns : ℕ) (pair : K × V) (w : IsRenaming eq from to old now turns) (distinct : IsDistinct eq (keys_of now)) (there : first now ≡ Some pair) where
-    -- the name that the first pair takes is free among the others
-    pub find-renamed : find eq (without_first now) (cond (eq from pair.0) to pair.0) ≡ None
-    find-renamed = by_list now distinct there w.free
-      where
-        by_list : (contents : List (K × V)) → IsDistinct eq (keys_of contents) → first contents ≡ Some pair → (is_some (find eq contents from) ≡ true → find eq contents to ≡ None) → find eq (without_first contents) (cond (eq from pair.0) to pair.0) ≡ None
-        by_list [] distinct there free = absurd (let no : Some pair ≡ None = sym there in cc)
-        by_list (one ∷ rest) distinct there free =
-            let same : one ≡ pair = (let some : Some one ≡ Some pair = there in cc) in
-            (free_turn pair rest (subst (λ (p : K × V). IsDistinct eq (keys_of (p ∷ rest))) same distinct)
-            (subst (λ (p : K × V). is_some (find eq (p ∷ rest) from) ≡ true → find eq (p ∷ rest) to ≡ None) same free)).0
+module _ {K V : Type 0} {eq : K → K → Bool} (laws : IsEquivalence eq) (old now : List (K × V)) (from to : K) (pair : K × V) (turns : ℕ) (w : IsRenaming eq old now from to turns) (distinct : IsDistinct eq (keys_of now)) (there : first now ≡ Some pair) where
+  -- the name that the first pair takes is free among the others
+  pub find-renamed : find eq (without_first now) (cond (eq from pair.0) to pair.0) ≡ None
+  find-renamed = by_list now distinct there w.free
+    where
+      by_list : (contents : List (K × V)) → IsDistinct eq (keys_of contents) → first contents ≡ Some pair → (is_some (find eq contents from) ≡ true → find eq contents to ≡ None) → find eq (without_first contents) (cond (eq from pair.0) to pair.0) ≡ None
+      by_list [] distinct there free = absurd (let no : Some pair ≡ None = sym there in cc)
+      by_list (one ∷ rest) distinct there free =
+          let same : one ≡ pair = (let some : Some one ≡ Some pair = there in cc) in
+          (free_turn laws from to pair rest (subst (λ (p : K × V). IsDistinct eq (keys_of (p ∷ rest))) same distinct)
+          (subst (λ (p : K × V). is_some (find eq (p ∷ rest) from) ≡ true → find eq (p ∷ rest) to ≡ None) same free)).0
 
-    IsRenaming-pushed : (after : List (K × V)) → turns < length old → after ≡ without_first now ++ (cond (eq from pair.0) to pair.0, pair.1) ∷ [] → IsRenaming eq from to old after (turns + 1)
-    IsRenaming-pushed after within done = by_list now distinct there w.list w.free done
-      where
-        by_list : (contents : List (K × V)) → IsDistinct eq (keys_of contents) → first contents ≡ Some pair
-            → contents ≡ drop turns old ++ map (λ p. cond (eq from p.0) (to, p.1) p) (take turns old) → (is_some (find eq contents from) ≡ true → find eq contents to ≡ None)
-            → after ≡ without_first contents ++ (cond (eq from pair.0) to pair.0, pair.1) ∷ [] → IsRenaming eq from to old after (turns + 1)
-        by_list [] distinct there list free done = absurd (let no : Some pair ≡ None = sym there in cc)
-        by_list (one ∷ rest) distinct there list free done =
-            let same : one ≡ pair = (let some : Some one ≡ Some pair = there in cc) in
-            let turned = free_turn pair rest (subst (λ (p : K × V). IsDistinct eq (keys_of (p ∷ rest))) same distinct)
-            (subst (λ (p : K × V). is_some (find eq (p ∷ rest) from) ≡ true → find eq (p ∷ rest) to ≡ None) same free) in
-            record {
-              list = done ∙ list_turn old turns pair rest within (ap (λ (p : K × V). p ∷ rest) (sym same) ∙ list);
-              free = subst (λ ps. is_some (find eq ps from) ≡ true → find eq ps to ≡ None) (sym done) turned.1;
-            }
+  IsRenaming-pushed : (after : List (K × V)) → turns < length old → after ≡ without_first now ++ (cond (eq from pair.0) to pair.0, pair.1) ∷ [] → IsRenaming eq old after from to (turns + 1)
+  IsRenaming-pushed after within done = by_list now distinct there w.list w.free done
+    where
+      by_list : (contents : List (K × V)) → IsDistinct eq (keys_of contents) → first contents ≡ Some pair
+          → contents ≡ drop turns old ++ map (λ p. cond (eq from p.0) (to, p.1) p) (take turns old) → (is_some (find eq contents from) ≡ true → find eq contents to ≡ None)
+          → after ≡ without_first contents ++ (cond (eq from pair.0) to pair.0, pair.1) ∷ [] → IsRenaming eq old after from to (turns + 1)
+      by_list [] distinct there list free done = absurd (let no : Some pair ≡ None = sym there in cc)
+      by_list (one ∷ rest) distinct there list free done =
+          let same : one ≡ pair = (let some : Some one ≡ Some pair = there in cc) in
+          let turned = free_turn laws from to pair rest (subst (λ (p : K × V). IsDistinct eq (keys_of (p ∷ rest))) same distinct)
+          (subst (λ (p : K × V). is_some (find eq (p ∷ rest) from) ≡ true → find eq (p ∷ rest) to ≡ None) same free) in
+          record {
+            list = done ∙ list_turn laws from to old turns pair rest within (ap (λ (p : K × V). p ∷ rest) (sym same) ∙ list);
+            free = subst (λ ps. is_some (find eq ps from) ≡ true → find eq ps to ≡ None) (sym done) turned.1;
+          }
 
 -- one turn: the first pair goes behind the others, under the new name if it has the old one
 module _ {K V : Type 0} {eq : K → K → Bool} (laws : IsEquivalence eq) (mode : Mode) where
-  pub IsRenaming-turn : (old now : List (K × V)) {rest after : List (K × V)} (from to : K) {name : K} (turns : ℕ) (pair : K × V) → IsRenaming eq from to old now turns → IsDistinct eq (keys_of now) → first now ≡ Some pair → turns < length old → rest ≡ without_first now → name ≡ cond (eq from pair.0) to pair.0 → after ≡ put eq mode rest name pair.1 → IsRenaming eq from to old after (turns + 1)
-  IsRenaming-turn old now {rest} {after} from to {name} turns pair w distinct there within popped named inserted =
-      IsRenaming-pushed laws from to old now turns pair w distinct there after within (inserted ∙ (λ i. put eq mode (popped i) (named i) pair.1) ∙ put-absent eq mode (without_first now) (cond (eq from pair.0) to pair.0) pair.1 (find-renamed laws from to old now turns pair w distinct there))
+  pub IsRenaming-turn : (old now : List (K × V)) {rest after : List (K × V)} (from to : K) {name : K} (pair : K × V) (turns : ℕ) → IsRenaming eq old now from to turns → IsDistinct eq (keys_of now) → first now ≡ Some pair → turns < length old → rest ≡ without_first now → name ≡ cond (eq from pair.0) to pair.0 → after ≡ put eq mode rest name pair.1 → IsRenaming eq old after from to (turns + 1)
+  IsRenaming-turn old now {rest} {after} from to {name} pair turns w distinct there within popped named inserted =
+      IsRenaming-pushed laws old now from to pair turns w distinct there after within (inserted ∙ (λ i. put eq mode (popped i) (named i) pair.1) ∙ put-absent eq mode (without_first now) (cond (eq from pair.0) to pair.0) pair.1 (find-renamed laws old now from to pair turns w distinct there))

@@ -59,10 +59,10 @@ module _ {K V S : Type 0} {eq : K → K → Bool} (laws : IsEquivalence eq) {m n
 -- after the insertions of an entry, by what their clause `limit` says
 module _ {K V S H : Type 0} {g : eq.Ghosts K} {h : hash.Ghosts K} {b : builder.Ghosts S H} {w : hasher.Ghosts H} where
   -- `or_insert`, `or_insert_with` and `or_default`
-  pub IsValid-set_or_pushed : IsEquivalence g.eq → (e : Entry K V S H g h b w) → IsValid g.eq (entry_map e) → (entry_value e ≡ None → length (entry_map e).pairs < LIMIT) → (v : V)
+  pub IsValid-set_or_pushed : IsEquivalence g.eq → (e : Entry K V S H g h b w) (v : V) → IsValid g.eq (entry_map e) → (entry_value e ≡ None → length (entry_map e).pairs < LIMIT)
       → IsValid g.eq (set_or_pushed g.eq (entry_map e) (entry_key e) v)
-  IsValid-set_or_pushed laws (Occupied o) valid limit v = IsValid-set_or_push_present laws (occupied_key o) v valid (found-occupied o laws) refl refl
-  IsValid-set_or_pushed laws (Vacant e) valid limit v =
+  IsValid-set_or_pushed laws (Occupied o) v valid limit = IsValid-set_or_push_present laws (occupied_key o) v valid (found-occupied o laws) refl refl
+  IsValid-set_or_pushed laws (Vacant e) v valid limit =
       let below = limit refl in
       let most = length-set_or_push_most g.eq (vacant_map e).pairs (vacant_key e) v in
       IsValid-set_or_push laws (vacant_key e) v valid refl refl (omega arith)

@@ -40,29 +40,29 @@ others_given : (a b : Bool) → (a || b) ≡ false → b ≡ false
 others_given true b h = absurd (true≢false h)
 others_given false b h = h
 
-module _ {K V : Type 0} {eq : K → K → Bool} (laws : IsEquivalence eq) (start : ℕ) where
+module _ {K V : Type 0} {eq : K → K → Bool} (laws : IsEquivalence eq) where
   -- a run on a log that defines these pairs and this capacity
-  pub replies-given : (commands : List (Command K V)) (replies : List (Reply K V)) (log : Log K V) (contents : List (K × V)) (room : ℕ) (mode : Mode) → Defines eq start log contents room mode → IsRun eq start log commands replies → NoneRefused replies → replies ≡ replies_to eq mode room contents commands
-  replies-given [] [] log contents room mode defines run given = refl
-  replies-given [] (reply ∷ replies) log contents room mode defines run given = absurd run
-  replies-given (command ∷ commands) [] log contents room mode defines run given = absurd run
-  replies-given (command ∷ commands) (reply ∷ replies) log contents room mode defines run given =
+  pub replies-given : (mode : Mode) (commands : List (Command K V)) (replies : List (Reply K V)) (log : Log K V) (contents : List (K × V)) (start room : ℕ) → Defines eq start log contents room mode → IsRun eq start log commands replies → NoneRefused replies → replies ≡ replies_to eq mode room contents commands
+  replies-given mode [] [] log contents start room defines run given = refl
+  replies-given mode [] (reply ∷ replies) log contents start room defines run given = absurd run
+  replies-given mode (command ∷ commands) [] log contents start room defines run given = absurd run
+  replies-given mode (command ∷ commands) (reply ∷ replies) log contents start room defines run given =
       let refused = is_refusal reply.answer in
       let later = list_any (λ (r : Reply K V). is_refusal r.answer) replies in
-      let replied = Replied-given laws defines command reply run.0 (first_given refused later given) in
+      let replied = Replied-given laws command reply defines run.0 (first_given refused later given) in
       ap₂ (λ r rs. r ∷ rs)
       (λ i. record { answer = replied.answer_is i; len = replied.len_is i; capacity = replied.capacity_is i })
-      (replies-given commands replies (log_after eq log command reply.answer) (pairs_after eq mode contents command) (capacity_after eq mode room contents command) (mode_after mode command) replied.defines run.1 (others_given refused later given))
+      (replies-given (mode_after mode command) commands replies (log_after eq log command reply.answer) (pairs_after eq mode contents command) start (capacity_after eq mode room contents command) replied.defines run.1 (others_given refused later given))
 
-  pub Defines-given : (commands : List (Command K V)) (replies : List (Reply K V)) (log : Log K V) (contents : List (K × V)) (room : ℕ) (mode : Mode) → Defines eq start log contents room mode → IsRun eq start log commands replies → NoneRefused replies → Defines eq start (last_log eq log commands replies) (pairs_after_all eq mode contents commands) (capacity_after_all eq mode room contents commands) (mode_after_all mode commands)
-  Defines-given [] [] log contents room mode defines run given = defines
-  Defines-given [] (reply ∷ replies) log contents room mode defines run given = absurd run
-  Defines-given (command ∷ commands) [] log contents room mode defines run given = absurd run
-  Defines-given (command ∷ commands) (reply ∷ replies) log contents room mode defines run given =
+  pub Defines-given : (mode : Mode) (commands : List (Command K V)) (replies : List (Reply K V)) (log : Log K V) (contents : List (K × V)) (start room : ℕ) → Defines eq start log contents room mode → IsRun eq start log commands replies → NoneRefused replies → Defines eq start (last_log eq log commands replies) (pairs_after_all eq mode contents commands) (capacity_after_all eq mode room contents commands) (mode_after_all mode commands)
+  Defines-given mode [] [] log contents start room defines run given = defines
+  Defines-given mode [] (reply ∷ replies) log contents start room defines run given = absurd run
+  Defines-given mode (command ∷ commands) [] log contents start room defines run given = absurd run
+  Defines-given mode (command ∷ commands) (reply ∷ replies) log contents start room defines run given =
       let refused = is_refusal reply.answer in
       let later = list_any (λ (r : Reply K V). is_refusal r.answer) replies in
-      let replied = Replied-given laws defines command reply run.0 (first_given refused later given) in
-      Defines-given commands replies (log_after eq log command reply.answer) (pairs_after eq mode contents command) (capacity_after eq mode room contents command) (mode_after mode command) replied.defines run.1 (others_given refused later given)
+      let replied = Replied-given laws command reply defines run.0 (first_given refused later given) in
+      Defines-given (mode_after mode command) commands replies (log_after eq log command reply.answer) (pairs_after eq mode contents command) start (capacity_after eq mode room contents command) replied.defines run.1 (others_given refused later given)
 
 both_hold : (a b : Bool) → (a && b) ≡ true → (a ≡ true) × (b ≡ true)
 both_hold true b h = (refl, h)
@@ -71,14 +71,14 @@ both_hold false b h = absurd (true≢false (sym h))
 -- commands that are never refused get no such reply
 module _ {K V : Type 0} {eq : K → K → Bool} (laws : IsEquivalence eq) (start : ℕ) where
   is_refusal-never : {log : Log K V} {contents : List (K × V)} {room : ℕ} {mode : Mode} → Defines eq start log contents room mode → (command : Command K V) (reply : Reply K V) → IsReply eq start log command reply → never_refused command ≡ true → is_refusal reply.answer ≡ false
-  is_refusal-never defines (Write k v) reply is never = is_refusal-write laws defines reply k v is
-  is_refusal-never defines (Refresh k) reply is never = is_refusal-refresh laws defines reply k is
-  is_refusal-never defines (Remove k) reply is never = is_refusal-remove laws defines reply k is
-  is_refusal-never defines (EntryRemove k) reply is never = is_refusal-entry_remove laws defines reply k is
-  is_refusal-never defines PopFront reply is never = is_refusal-pop_front laws defines reply is
-  is_refusal-never defines PopBack reply is never = is_refusal-pop_back laws defines reply is
-  is_refusal-never defines Clear reply is never = is_refusal-clear laws defines reply is
-  is_refusal-never defines (SetMode mode) reply is never = is_refusal-set_mode laws defines reply mode is
+  is_refusal-never defines (Write k v) reply is never = is_refusal-write laws k v reply defines is
+  is_refusal-never defines (Refresh k) reply is never = is_refusal-refresh laws k reply defines is
+  is_refusal-never defines (Remove k) reply is never = is_refusal-remove laws k reply defines is
+  is_refusal-never defines (EntryRemove k) reply is never = is_refusal-entry_remove laws k reply defines is
+  is_refusal-never defines PopFront reply is never = is_refusal-pop_front laws reply defines is
+  is_refusal-never defines PopBack reply is never = is_refusal-pop_back laws reply defines is
+  is_refusal-never defines Clear reply is never = is_refusal-clear laws reply defines is
+  is_refusal-never defines (SetMode mode) reply is never = is_refusal-set_mode laws mode reply defines is
   is_refusal-never defines (Insert k v) reply is never = absurd (true≢false (sym never))
   is_refusal-never defines Drain reply is never = absurd (true≢false (sym never))
   is_refusal-never defines (Extend items) reply is never = absurd (true≢false (sym never))
@@ -94,22 +94,22 @@ module _ {K V : Type 0} {eq : K → K → Bool} (laws : IsEquivalence eq) (start
   NoneRefused-run (command ∷ commands) (reply ∷ replies) log contents room mode defines run never =
       let both = both_hold (never_refused command) (list_all never_refused commands) never in
       let given = is_refusal-never defines command reply run.0 both.0 in
-      let replied = Replied-given laws defines command reply run.0 given in
+      let replied = Replied-given laws command reply defines run.0 given in
       ap₂ (λ a b. a || b) given (NoneRefused-run commands replies (log_after eq log command reply.answer) (pairs_after eq mode contents command) (capacity_after eq mode room contents command) (mode_after mode command) replied.defines run.1 both.1)
 
 module _ {K V S : Type 0} {eq : K → K → Bool} (laws : IsEquivalence eq) {old new : LinkedMap K V S} {commands : List (Command K V)} {replies : List (Reply K V)} (valid : IsValid eq old) (replayed : Replayed eq old commands replies new) where
   -- of a whole run: what `replay` answered, and what the map holds
   pub replies-replayed : NoneRefused replies → replies ≡ replies_to eq old.mode old.capacity old.pairs commands
-  replies-replayed given = replies-given laws old.capacity commands replies (first_log old.mode old.pairs) old.pairs old.capacity old.mode (Defines-first laws valid) replayed.run given
+  replies-replayed given = replies-given laws old.mode commands replies (first_log old.mode old.pairs) old.pairs old.capacity old.capacity (Defines-first laws valid) replayed.run given
 
   pub pairs-replayed : NoneRefused replies → new.pairs ≡ pairs_after_all eq old.mode old.pairs commands
   pairs-replayed given =
       replayed.pairs
-      ∙ (Defines-given laws old.capacity commands replies (first_log old.mode old.pairs) old.pairs old.capacity old.mode (Defines-first laws valid) replayed.run given).same_pairs
+      ∙ (Defines-given laws old.mode commands replies (first_log old.mode old.pairs) old.pairs old.capacity old.capacity (Defines-first laws valid) replayed.run given).same_pairs
 
 -- a run of these commands, each of which is never refused: the replies and the pairs follow from them with no more ado
-module _ {K V S : Type 0} {eq : K → K → Bool} (laws : IsEquivalence eq) {old new : LinkedMap K V S} {commands : List (Command K V)} {replies : List (Reply K V)} (valid : IsValid eq old) (replayed : Replayed eq old commands replies new)
-    (these : List (Command K V)) (are : commands ≡ these) (never : list_all never_refused these ≡ true) where
+module _ {K V S : Type 0} {eq : K → K → Bool} (laws : IsEquivalence eq) {old new : LinkedMap K V S} {commands : List (Command K V)} {replies : List (Reply K V)} (these : List (Command K V)) (valid : IsValid eq old) (replayed : Replayed eq old commands replies new)
+    (are : commands ≡ these) (never : list_all never_refused these ≡ true) where
   NoneRefused-replayed : NoneRefused replies
   NoneRefused-replayed = NoneRefused-run laws old.capacity commands replies (first_log old.mode old.pairs) old.pairs old.capacity old.mode (Defines-first laws valid) replayed.run (ap (list_all never_refused) are ∙ never)
 
@@ -142,11 +142,11 @@ module _ {K V S T : Type 0} {eq : K → K → Bool} (laws : IsEquivalence eq) {o
       ∙ sym (pairs-replayed laws valid' replayed' given')
 
 -- the same of what two calls of `replay` return
-module _ {K V S T E : Type 0} {eq : K → K → Bool} (laws : IsEquivalence eq) {old : LinkedMap K V S} (new : LinkedMap K V S) {old' : LinkedMap K V T} (new' : LinkedMap K V T) {commands copies : List (Command K V)} (valid : IsValid eq old) (valid' : IsValid eq old') (same : old.pairs ≡ old'.pairs) (alike : old.mode ≡ old'.mode) (copied : commands ≡ copies) where
-  pub same_runs : (run run' : Result (Vec (Reply K V) Global) E) → IfOk run (λ replies. Replayed eq old commands replies.items new) → IfOk run' (λ replies. Replayed eq old' copies replies.items new') → IsOkAnd run (λ replies. NoneRefused replies.items) → IsOkAnd run' (λ replies. NoneRefused replies.items)
+module _ {K V S T E : Type 0} {eq : K → K → Bool} (laws : IsEquivalence eq) {old : LinkedMap K V S} (new : LinkedMap K V S) {old' : LinkedMap K V T} (new' : LinkedMap K V T) {commands copies : List (Command K V)} where
+  pub same_runs : (run run' : Result (Vec (Reply K V) Global) E) → IsValid eq old → IsValid eq old' → old.pairs ≡ old'.pairs → old.mode ≡ old'.mode → commands ≡ copies → IfOk run (λ replies. Replayed eq old commands replies.items new) → IfOk run' (λ replies. Replayed eq old' copies replies.items new') → IsOkAnd run (λ replies. NoneRefused replies.items) → IsOkAnd run' (λ replies. NoneRefused replies.items)
       → IfOk run (λ replies. IfOk run' (λ replies'. map (λ reply. reply.answer) replies.items ≡ map (λ reply. reply.answer) replies'.items)) × (new.pairs ≡ new'.pairs)
-  same_runs (Err refused) run' replayed replayed' given given' = absurd given
-  same_runs (Ok replies) (Err refused) replayed replayed' given given' = absurd given'
-  same_runs (Ok replies) (Ok replies') replayed replayed' given given' =
+  same_runs (Err refused) run' valid valid' same alike copied replayed replayed' given given' = absurd given
+  same_runs (Ok replies) (Err refused) valid valid' same alike copied replayed replayed' given given' = absurd given'
+  same_runs (Ok replies) (Ok replies') valid valid' same alike copied replayed replayed' given given' =
       let again = subst (λ cs. Replayed eq old' cs replies'.items new') (sym copied) replayed' in
       (answers-same_run laws valid valid' replayed again same alike given given', pairs-same_run laws valid valid' replayed again same alike given given')

@@ -3,6 +3,6 @@ use Rattle.uses.proofs.collecting.collect_all.Goals as goal
 
 pub returns : goal.returns
 returns g c =
-    let made = Collects_distinct_vec g.met.K.Eq.laws c.args.list (λ it m. (m.0, m.1))
-    c.in_ok-map.ensures.all c.requires.differ in
+    let made = Collects_distinct_vec g.met.K.Eq.laws c.args.list c.in_ok-map.ensures.all
+    (λ it m. (m.0, m.1)) c.requires.differ in
     record { pairs = made.0; capacity = made.1; rechained = made.2 }

@@ -3,4 +3,4 @@ use Rattle.uses.proofs.collecting.insert_all.Goals as goal
 
 pub returns-clause-all : goal.returns-clause-all
 returns-clause-all g c =
-    pairs-InsertsAll_vec c.args.list (λ it m. (m.0, m.1)) c.in_ok-extend.ensures.all
+    pairs-InsertsAll_vec c.args.list c.in_ok-extend.ensures.all (λ it m. (m.0, m.1))

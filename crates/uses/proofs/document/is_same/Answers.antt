@@ -3,4 +3,4 @@ use Rattle.linked_hash_map.proofs.Callers.Equality.{eq-Decides}
 use Rattle.uses.proofs.document.is_same.Goals as goal
 
 pub returns : goal.returns
-returns c = eq-Decides unsigned_Decides unsigned_Decides c.args.a.now.fields c.args.b.now.fields c.eq.result c.eq.ensures
+returns c = eq-Decides c.args.a.now.fields c.args.b.now.fields c.eq.result unsigned_Decides unsigned_Decides c.eq.ensures

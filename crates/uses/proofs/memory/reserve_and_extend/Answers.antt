@@ -10,4 +10,4 @@ unreachable-requires g c = let r = c.in_ok-reserve.ensures in
 
 pub returns-clause-pairs : goal.returns-clause-pairs
 returns-clause-pairs g c = let r = c.in_ok-reserve.ensures in let l = c.args.list in rw (← r.pairs)
-    (rw (← r.settings.mode) (pairs-InsertsAll_vec l (λ it m. (m.0, m.1)) c.in-Ok.ensures.all))
+    (rw (← r.settings.mode) (pairs-InsertsAll_vec l c.in-Ok.ensures.all (λ it m. (m.0, m.1))))

@@ -3,4 +3,4 @@ use Rattle.uses.proofs.document.Document.rename.Given as goal
 
 abbrev pub invariant-loop-turn : goal.invariant-loop-turn
 invariant-loop-turn g l =
-    IsRenaming g.K.PartialEq.eq l.from l.to l.fn.self.fields.pairs l.self.fields.pairs l._turn
+    IsRenaming g.K.PartialEq.eq l.fn.self.fields.pairs l.self.fields.pairs l.from l.to l._turn
