@@ -1,4 +1,5 @@
--- What `allocate` and `deallocate` share: a block is cut into its three fields, and made of them again. Assumes `Logic`.
+-- What `allocate` and `deallocate` share: a block is cut into its three fields, and made of them
+-- again. Assumes `Logic`.
 use Rattle.std.proofs.Common.{ℕ, ◌+◌, [], ◌∷◌}
 use seplogic.Ra.Ura.{Ura}
 use mir.Syntax.{Ty, Tys, Sym, Args, a_type, ty_struct, tcons, tnil, dcons, dnil}

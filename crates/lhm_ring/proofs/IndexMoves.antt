@@ -1,4 +1,5 @@
--- What the ring's own changes leave of the index: a node put last, unlinked, moved, or its value written.
+-- What the ring's own changes leave of the index: a node put last, unlinked, moved, or its value
+-- written.
 use Rattle.std.proofs.Common.{◌≡◌, List, [], ◌∷◌, ◌++◌, refl, sym, ◌∙◌, ap, subst, Bool, true, false, cond, length, Option, append-nil}
 use Rattle.std.specs.Prelude.{filter}
 use denote.RawPtr.{Ptr}

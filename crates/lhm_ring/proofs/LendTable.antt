@@ -1,4 +1,5 @@
--- A table lends the values of its ring: the table as one of fields, and the way back of the loan. Assumes `Logic`.
+-- A table lends the values of its ring: the table as one of fields, and the way back of the loan.
+-- Assumes `Logic`.
 use Rattle.std.proofs.Common.{◌≡◌, ℕ, ◌+◌, List, [], ◌∷◌, Option, None, refl, sym, ap, ◌∙◌, length, arith}
 use Rattle.std.proofs.lemmas.List.{length-map}
 use seplogic.Ra.Ura.{Ura}

@@ -93,7 +93,8 @@ module _ {B : Type 0} (cs : List (Cell Links B)) (spare : Option Ptr) (ss us : L
           listed_kept es fs _ _ l qs ∙ listed_kept ds es _ _ k qs ∙ listed_kept cs ds _ _ j qs ∙ listed-append cs (us ++ vs) (p ∷ [])
           ∙ (λ i. listed-append cs us vs i ++ listed_one cs p t e i)
 
--- a node that is moved to the end: those beside it are joined, the last with it, and it with the end
+-- a node that is moved to the end: those beside it are joined, the last with it, and it with the
+-- end
 module _ {B : Type 0} (cs : List (Cell Links B)) (spare : Link) (n m : ℕ) (v : State B) (ok : RingOk cs spare n m) {total : ℕ} (w : state (ring_list cs n) m total ≡ v)
     (p : Ptr) (lp : Links) (ep : links_at cs p ≡ Some lp) (ds : List (Cell Links B)) (j : IsJoined cs ds lp.prev.ptr lp.next.ptr) where
   j' : IsJoined cs ds (prev_at cs p) (next_at cs p)

@@ -51,7 +51,8 @@ module _ {B : Type 0} where
   apart-removed xs t ys d =
       subst IsApart (sym (pointers-append xs ys)) (apart_out (pointers_of xs) t.at (pointers_of ys) (subst IsApart (pointers-append xs (t ∷ ys)) d))
 
--- a table that is seen as m: where the closure may be called at one of its pairs, it may at that of the ring
+-- a table that is seen as m: where the closure may be called at one of its pairs, it may at that of
+-- the ring
 pub taken_in : {F K V : Type 0} (Q : F → K → V → Type 0) (f : F) {p : Ptr} (s : State (K × V)) (r : ℕ) {m : TableState (K × V)} → table_of s r ≡ m → TakesAt Q f m.held p → TakesAt Q f s.held p
 taken_in {F} {K} {V} Q f {p} s r seen h =
     let at = h.0 in

@@ -1,4 +1,5 @@
--- The land of nodes is taken apart from them, and the memory of a chunk is cut into places, and made of them again. Assumes `Logic`.
+-- The land of nodes is taken apart from them, and the memory of a chunk is cut into places, and
+-- made of them again. Assumes `Logic`.
 use Rattle.std.proofs.Common.{ℕ, zero, suc, ◌+◌, List, [], ◌∷◌, ◌++◌, refl, sym}
 use seplogic.Ra.Ura.{Ura}
 use mir.Syntax.{ty_array}

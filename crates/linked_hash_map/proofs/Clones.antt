@@ -39,7 +39,8 @@ length-insert_each eq pairs (item ∷ items) =
     let rest = length-insert_each eq (to_back eq pairs item.0 item.1) items in
     omega arith
 
--- clones of the first pairs of a map m are inserted into a map n with room for all, and the others are to come
+-- clones of the first pairs of a map m are inserted into a map n with room for all, and the others
+-- are to come
 pub record HasCloned {K V S : Type 0} (eq : K → K → Bool) (IsKeyClone : K → K → Type 0) (IsValueClone : V → V → Type 0) (IsHasherClone : S → S → Type 0) (m : LinkedMap K V S) (others : List (K × V)) (n : LinkedMap K V S) : Type 0 where
   pub first : List (K × V)
   pub clones : List (K × V)

@@ -67,7 +67,8 @@ module _ {K V : Type 0} where
   marked-behind hs ks (Some p) None None old new none = absurd old
   marked-behind hs ks (Some p) None (Some n) old new none = absurd new
 
--- the pairs that stand in one table stand in another, and what is behind a mark stands behind another
+-- the pairs that stand in one table stand in another, and what is behind a mark stands behind
+-- another
 module _ {K V : Type 0} {eq : K → K → Bool} {hash : K → ℕ} {s : TableState (K × V)} {mark : Option Ptr} {n : ℕ} {current : Option Ptr} (kept : IsKept eq hash s mark n current) (t : TableState (K × V)) (same : triples t.held ≡ triples s.held) (other : Option Ptr) (behind : Option ℕ) (old : HasBehind mark s.held behind) (new : HasBehind other t.held behind) where
   pub bookmark-fitted : bookmark_at other (bare t.held) ≡ bookmark_at mark (bare s.held)
   bookmark-fitted =

@@ -7,7 +7,8 @@ use Rattle.linked_hash_map.specs.SessionTables.{Session, total_weight, without, 
 use Rattle.linked_hash_map.proofs.SessionLists.{total_weight-cons, fit-all, fit-more}
 
 module _ {T : Type 0} (id weight_left : ℕ) (all : List (Session T)) where
-  -- count of the sessions except that with the id were passed, all of which go; the rest are to come, and weigh so much
+  -- count of the sessions except that with the id were passed, all of which go; the rest are to
+  -- come, and weigh so much
   pub record IsPast (count weight : ℕ) (rest : List (Session T)) : Type 0 where
     pub left : drop count (without all id) ≡ without rest id
     pub weighs : weight ≡ total_weight (without rest id)

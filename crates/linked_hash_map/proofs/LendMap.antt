@@ -1,4 +1,5 @@
--- A map lends the values of its table: the map as one of fields, and the way back of the loan. Assumes `Logic`.
+-- A map lends the values of its table: the map as one of fields, and the way back of the loan.
+-- Assumes `Logic`.
 use Rattle.std.proofs.Common.{◌≡◌, ℕ, ◌+◌, List, [], ◌∷◌, refl, sym, ap, ◌∙◌, subst}
 use seplogic.Ra.Ura.{Ura}
 use base.Fraction.{full_share}

@@ -26,7 +26,8 @@ take-zero : {X : Type 0} (xs : List X) → take 0 xs ≡ []
 take-zero [] = refl
 take-zero (x ∷ xs) = refl
 
--- n pairs were unvisited, from the index on; the mark is at the next of them now, or there is no more to visit
+-- n pairs were unvisited, from the index on; the mark is at the next of them now, or there is no
+-- more to visit
 pub record Goes (mark len index n : ℕ) (o : Option Ptr) : Type 1 where
   pub marked : o ≡ None → n - 1 ≡ 0
   pub reach : mark + (n - 1) ≤ len

@@ -1,4 +1,5 @@
--- What an answer on a log that defines a map says of the map, and what the log after it defines, in the words of single calls.
+-- What an answer on a log that defines a map says of the map, and what the log after it defines, in
+-- the words of single calls.
 use Rattle.std.proofs.Common.{◌≡◌, ℕ, ◌+◌, ◌-◌, ◌<◌, ◌≤◌, max, Bool, true, false, cond, nat_lt, List, [], ◌∷◌, ◌++◌, length, take, drop, slice_get, append_assoc, Option, Some, None, is_some, option_map, refl, sym, ap, ap₂, ◌∙◌, subst, true≢false, arith}
 use Rattle.std.proofs.lemmas.Bool.{ltb-true, lt-ltb}
 use Rattle.std.specs.Option.{IsSome, option_zip}

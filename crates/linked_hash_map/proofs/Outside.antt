@@ -7,7 +7,8 @@ use Rattle.lhm_ring.specs.RingState.{Held}
 use Rattle.lhm_ring.proofs.Apart.{same_ptr_refl}
 use Rattle.linked_hash_map.specs.Nodes.{bare, bare_node, before, bookmark_at}
 
--- how many nodes come before a pointer, once one of the nodes is out, and where there are more behind
+-- how many nodes come before a pointer, once one of the nodes is out, and where there are more
+-- behind
 module _ {B : Type 0} (p : Ptr) where
   before_earlier : (front : List (Held B)) (t : Held B) (back : List (Held B)) → length front < before p (front ++ t ∷ back) → before p (front ++ back) + 1 ≡ before p (front ++ t ∷ back)
   before_earlier [] t back h = (elim (same_ptr t.at p) as (λ y. 0 < cond y 0 (before p back + 1) → before p back + 1 ≡ cond y 0 (before p back + 1)) [ true ↦ λ k. absurd (omega (arith, k)) | false ↦ λ k. refl ]) h

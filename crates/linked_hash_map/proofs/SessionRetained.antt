@@ -51,7 +51,8 @@ module _ {F T : Type 0} (g : Mut F (ℕ × (ℕ × (MutBor T × Unit {0}))) (Boo
 pub total_weight-next : {T : Type 0} (pairs : List (ℕ × Weighted T)) (pair : ℕ × Weighted T) (rest : List (ℕ × Weighted T)) → pairs ≡ pair ∷ rest → total_weight (sessions_of pairs) ≡ pair.1.weight + total_weight (sessions_of rest)
 total_weight-next pairs pair rest is = ap (λ ps. total_weight (sessions_of ps)) is ∙ total_weight-cons (pair.0, pair.1.weight, pair.1.payload) (sessions_of rest)
 
--- what a closure over the pairs of a map keeps, if each of its calls is one of the closure over sessions
+-- what a closure over the pairs of a map keeps, if each of its calls is one of the closure over
+-- sessions
 module _ {C F T : Type 0} (calls : C → ℕ → Weighted T → Bool → Weighted T → C → Type 0) (g : Mut F (ℕ × (ℕ × (MutBor T × Unit {0}))) (Bool × (MutBor T × Unit {0}))) (inner : C → F)
     (says : (c : C) (id : ℕ) (weighted : Weighted T) (b : Bool) (left : Weighted T) (c' : C) → calls c id weighted b left c' → CalledAtSession g (inner c) (id, weighted.weight, weighted.payload) b left.payload (inner c') × (left.weight ≡ weighted.weight)) where
   sessions_of-cond : (b : Bool) (id : ℕ) (left : Weighted T) (pairs : List (ℕ × Weighted T)) → sessions_of (cond b ((id, left) ∷ pairs) pairs) ≡ cond b ((id, left.weight, left.payload) ∷ sessions_of pairs) (sessions_of pairs)

@@ -48,7 +48,8 @@ module _ {K V : Type 0} where
   names same (Refresh j) = same j
   names same _ = false
 
-  -- the position of an event that names a key stands before the events `later`: the key is live, and none of them names it
+  -- the position of an event that names a key stands before the events `later`: the key is live,
+  -- and none of them names it
   abbrev pub named_stands : (K → K → Bool) → (K → Bool) → Log K V → Option K → List K
   named_stands eq is_live later None = []
   named_stands eq is_live later (Some k) = cond (is_live k && not (list_any (names (eq k)) later)) (k ∷ []) []

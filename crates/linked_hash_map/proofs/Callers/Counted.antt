@@ -1,4 +1,5 @@
--- For callers: a count for each item of a list, one item after another, and the keys in the order in which they first come.
+-- For callers: a count for each item of a list, one item after another, and the keys in the order
+-- in which they first come.
 use Rattle.std.proofs.Common.{◌≡◌, ℕ, ◌+◌, ◌<◌, Bool, true, false, cond, List, [], ◌∷◌, ◌++◌, length, take, get_or, fold, Some, unwrap_or, refl, sym, ap, ◌∙◌, arith, length-take}
 use Rattle.std.specs.Prelude.{if◌then◌else◌}
 use Rattle.std.specs.List.{count_by, list_any}
@@ -50,7 +51,8 @@ module _ {K : Type 0} {eq : K → K → Bool} (laws : IsEquivalence eq) (pairs :
       ∙ ap (λ seen. seen_with seen item) before
       ∙ sym (fold_more seen_with [] items i d within)
 
--- a step of the loop, as the clauses of `entry` and of `or_insert` say it: the entry's key stands for the item k, whose count is n
+-- a step of the loop, as the clauses of `entry` and of `or_insert` say it: the entry's key stands
+-- for the item k, whose count is n
 module _ {K : Type 0} {eq : K → K → Bool} (laws : IsEquivalence eq) (before after : List (K × ℕ)) (items : List K) (stored k : K) where
   own : (n i : ℕ) → k ≡ get_or items i k → ActsAs eq before stored k → after ≡ set_or_push eq before stored n → after ≡ set_or_push eq before (get_or items i k) n
   own n i item_is acts written = written ∙ acts.sets_or_pushes n ∙ ap (λ j. set_or_push eq before j n) item_is

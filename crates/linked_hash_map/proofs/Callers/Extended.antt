@@ -1,5 +1,6 @@
--- For callers: what `extend`, `extend_refs` and `from_iter` leave, where the items that an iterator gives are known. Each lemma takes
--- the clause of the call, and a chain proof, `YieldsList`, that what the source becomes gives the list.
+-- For callers: what `extend`, `extend_refs` and `from_iter` leave, where the items that an iterator
+-- gives are known. Each lemma takes the clause of the call, and a chain proof, `YieldsList`, that
+-- what the source becomes gives the list.
 use Rattle.std.proofs.Common.{◌≡◌, ℕ, ◌+◌, ◌-◌, ◌≤◌, max, Bool, not, List, [], ◌++◌, length, take, filter, slice_get, Option, Some, None, is_some, Vec, vec_items, vec_len, refl, sym, ap, ◌∙◌, arith}
 use Rattle.std.specs.List.{IsDistinct}
 use Rattle.std.specs.Map.{keys_of}
@@ -47,8 +48,8 @@ module _ {T I K V : Type 0} {becomes : T → I → Type 0} {steps : I → Option
     pairs = collects.pairs ∙ ap (insert_each eq Touch []) (sym (map-id collects.given));
   }
 
-  -- if at most n items are left to come, it rehashed what growing to the capacity does, from room for
-  -- at most n
+  -- if at most n items are left to come, it rehashed what growing to the capacity does, from room
+  -- for at most n
   pub rechained-Collects : (n : ℕ) → Collects becomes steps source remaining eq pairs capacity rechained → GivesAtMost becomes remaining source n → (lower : ℕ) × (lower ≤ n) × (rechained ≡ rechained_each 0 lower (capacity - lower))
   rechained-Collects n collects left =
       let bound = left collects.iterator collects.made in
@@ -60,7 +61,8 @@ module _ {T I K V : Type 0} {becomes : T → I → Type 0} {steps : I → Option
     pub pairs-Collects : ((it : I) → becomes source it → YieldsList steps (λ pair. pair) it all) → pairs ≡ insert_each eq Touch [] all
     pairs-Collects each = pairs-InsertsAll (InsertsAll-Collects collects) each
 
-    -- where no more items are left to come than come, the capacity is no more than the number of items
+    -- where no more items are left to come than come, the capacity is no more than the number of
+    -- items
     pub capacity-Collects : ((it : I) → becomes source it → YieldsList steps (λ pair. pair) it all) → GivesAtMost becomes remaining source (length all) → (length pairs ≤ capacity) × (capacity ≤ length all)
     capacity-Collects each left =
         let bound = left collects.iterator collects.made in
@@ -80,15 +82,18 @@ module _ {T I K V : Type 0} {becomes : T → I → Type 0} {steps : I → Option
         let length_is = ap length (pairs-Collects_distinct each distinct) in
         omega arith
 
--- where there is room for each item, as after `with_capacity` of their number, `extend` leaves the capacity
+-- where there is room for each item, as after `with_capacity` of their number, `extend` leaves the
+-- capacity
 pub capacity-insert_each : {K V : Type 0} {eq : K → K → Bool} → IsEquivalence eq → (mode : Mode) (pairs items : List (K × V)) (capacity : ℕ) → IsDistinct eq (keys_of pairs) → length pairs + length items ≤ capacity → max capacity (length (insert_each eq mode pairs items)) ≡ capacity
 capacity-insert_each laws mode pairs items capacity distinct enough = let most = length-insert_each_most laws mode pairs items distinct in omega arith
 
--- `extend` of a map by value, or by reference: of any source that becomes a list which shows what is left
+-- `extend` of a map by value, or by reference: of any source that becomes a list which shows what
+-- is left
 pub pairs-InsertsAll_list : {T X K V : Type 0} {becomes : T → List (K × V) → Type 0} {source : T} {eq : K → K → Bool} {shows : X → K × V} {mode : Mode} {old new : List (K × V)} (all : List (K × V)) → InsertsAll becomes (TakesFirst shows) source eq shows mode old new → ((it : List (K × V)) → becomes source it → it ≡ all) → new ≡ insert_each eq mode old all
 pairs-InsertsAll_list all inserts is = pairs-InsertsAll inserts (λ it made. YieldsList-from_rest all (is it made))
 
--- and where the keys of that list differ, as those of a map do: its values win, and in Keep the old keys stand before the new
+-- and where the keys of that list differ, as those of a map do: its values win, and in Keep the old
+-- keys stand before the new
 module _ {T K V : Type 0} {becomes : T → List (K × V) → Type 0} {source : T} {eq : K → K → Bool} (laws : IsEquivalence eq) {mode : Mode} {old new : List (K × V)} (all : List (K × V)) where
   pub value_at-InsertsAll_distinct : (q : K) → InsertsAll becomes (TakesFirst (λ (pair : K × V). pair)) source eq (λ pair. pair) mode old new → ((it : List (K × V)) → becomes source it → (it ≡ all) × IsDistinct eq (keys_of all)) → value_at eq new q ≡ option_or (value_at eq all q) (value_at eq old q)
   value_at-InsertsAll_distinct q inserts is =
@@ -118,8 +123,8 @@ pub pairs-Collects_vec : {T Z K V : Type 0} {becomes : T → _ → Type 0} {sour
     → ((it : _) → becomes source it → (into_iter_items {X = K × V} {Z = Z} it ≡ vec_items vec) × (into_iter_len it ≡ vec_len vec)) → pairs ≡ insert_each eq Touch [] (vec_items vec)
 pairs-Collects_vec vec collects is = pairs-InsertsAll_vec vec (InsertsAll-Collects collects) is
 
--- if the keys of its items differ, the pairs are the items, the capacity is their number, and it rehashed what growing to that
--- number does, from room for no more
+-- if the keys of its items differ, the pairs are the items, the capacity is their number, and it
+-- rehashed what growing to that number does, from room for no more
 pub Collects_distinct_vec : {T Z K V : Type 0} {becomes : T → _ → Type 0} {source : T} {eq : K → K → Bool} → IsEquivalence eq → {pairs : List (K × V)} {capacity rechained : ℕ} (vec : Vec (K × V) Z) → Collects becomes (into_iter_steps {X = K × V} {Z = Z}) source (λ it. at_most (into_iter_len it)) eq pairs capacity rechained
     → ((it : _) → becomes source it → (into_iter_items {X = K × V} {Z = Z} it ≡ vec_items vec) × (into_iter_len it ≡ vec_len vec)) → IsDistinct eq (keys_of (vec_items vec))
     → (pairs ≡ vec_items vec) × (capacity ≡ length (vec_items vec)) × ((lower : ℕ) × (lower ≤ length (vec_items vec)) × (rechained ≡ rechained_each 0 lower (length (vec_items vec) - lower)))

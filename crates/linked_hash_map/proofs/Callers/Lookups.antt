@@ -42,14 +42,16 @@ option_map-option_or : {X Y : Type 0} (f : X → Y) (x y : Option X) → option_
 option_map-option_or f None y = refl
 option_map-option_or f (Some x) y = refl
 
--- the value of a key in a list with one pair more at its end: what it has among the others, and else that of the last pair
+-- the value of a key in a list with one pair more at its end: what it has among the others, and
+-- else that of the last pair
 pub value_at-append : {K V : Type 0} (eq : K → K → Bool) (pairs : List (K × V)) (k q : K) (v : V) → value_at eq (pairs ++ (k, v) ∷ []) q ≡ option_or (value_at eq pairs q) (cond (eq q k) (Some v) None)
 value_at-append eq pairs k q v =
     ap (option_map (λ pair. pair.1)) (lookup_entry-append (eq q) pairs ((k, v) ∷ []))
     ∙ option_map-option_or (λ pair. pair.1) (lookup_entry (eq q) pairs) (cond (eq q k) (Some (k, v)) None)
     ∙ ap (option_or (value_at eq pairs q)) (option_map-cond (λ pair. pair.1) (eq q k) (Some (k, v)) None)
 
--- a look-up among the pairs of which a test holds that answers b at each key that the look-up may find
+-- a look-up among the pairs of which a test holds that answers b at each key that the look-up may
+-- find
 lookup_entry-filter : {K V : Type 0} (test kept : K → Bool) (b : Bool) → ((k : K) → test k ≡ true → kept k ≡ b) → (pairs : List (K × V)) → lookup_entry test (filter (λ pair. kept pair.0) pairs) ≡ cond b (lookup_entry test pairs) None
 lookup_entry-filter test kept true alike [] = refl
 lookup_entry-filter test kept false alike [] = refl
@@ -211,7 +213,8 @@ module _ {K V : Type 0} {eq : K → K → Bool} (laws : IsEquivalence eq) where
   value_at-put_apart Touch = value_at-to_back_apart
   value_at-put_apart Keep = value_at-set_or_push_apart
 
-  -- where the keys differ, a pop takes out what the first or the last key has, as `remove` of that key does
+  -- where the keys differ, a pop takes out what the first or the last key has, as `remove` of that
+  -- key does
   module _ (pairs : List (K × V)) (pair : K × V) (distinct : IsDistinct eq (keys_of pairs)) where
     pub drop-first : slice_get pairs 0 ≡ Some pair → drop 1 pairs ≡ without eq pairs pair.0
     drop-first there = remove-first pairs ∙ sym (without-own laws pairs distinct 0 pair there)

@@ -1,4 +1,5 @@
--- For callers: what a reply in a run says of the answer and of what the map has then, in the words of single calls.
+-- For callers: what a reply in a run says of the answer and of what the map has then, in the words
+-- of single calls.
 use Rattle.std.proofs.Common.{◌≡◌, ℕ, ◌-◌, Bool, true, false, cond, IsFalse, List, [], length, take, drop, slice_get, Option, Some, None, is_some, refl, ap, ◌∙◌}
 use Rattle.std.specs.Cmp.{IsEquivalence}
 use Rattle.linked_hash_map.specs.LinkedMap.{LinkedMap}
@@ -16,7 +17,8 @@ use Rattle.linked_hash_map.specs.declared.replay.Reply.{Reply}
 use Rattle.linked_hash_map.proofs.Effects.{size-contents}
 use Rattle.linked_hash_map.proofs.Runs.{Defines-first_log}
 use Rattle.linked_hash_map.proofs.Outcomes.{outcome, write_outcome, refresh_outcome, remove_outcome, entry_remove_outcome, pop_front_outcome, pop_back_outcome, clear_outcome, set_mode_outcome}
--- what a log defines fits its capacity, its keys differ, and it goes on over insertions one after another
+-- what a log defines fits its capacity, its keys differ, and it goes on over insertions one after
+-- another
 pub use Rattle.linked_hash_map.proofs.Outcomes.{length-defined, distinct-defined, Defines-put_each}
 
 -- a run begins with a log that defines the map
@@ -31,8 +33,8 @@ is_refusal-pair_or_empty : {K V : Type 0} (o : Option (K × V)) → is_refusal (
 is_refusal-pair_or_empty None = refl
 is_refusal-pair_or_empty (Some pair) = refl
 
--- the reply to a command on a log has this answer, this length and this capacity, and the log after it defines these pairs,
--- this capacity and this mode
+-- the reply to a command on a log has this answer, this length and this capacity, and the log after
+-- it defines these pairs, this capacity and this mode
 pub record Replied {K V : Type 0} (eq : K → K → Bool) (start : ℕ) (log : Log K V) (command : Command K V) (reply : Reply K V) (answer : Answer K V) (contents : List (K × V)) (room : ℕ) (mode : Mode) : Type 0 where
   pub answer_is : reply.answer ≡ answer
   pub len_is : reply.len ≡ length contents

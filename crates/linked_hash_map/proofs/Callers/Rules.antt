@@ -1,6 +1,7 @@
--- For callers: sets of lemmas that an attribute names, as #[tactic(auto, using(linked_hash_map::proofs::Callers::Rules::number_keys))]. At
--- numbers a lemma is stated at their equality, so that `grind` has none to find; the first part of a conclusion shows it
--- the call to match.
+-- For callers: sets of lemmas that an attribute names, as #[tactic(auto,
+-- using(linked_hash_map::proofs::Callers::Rules::number_keys))]. At numbers a lemma is stated at
+-- their equality, so that `grind` has none to find; the first part of a conclusion shows it the
+-- call to match.
 use Rattle.std.proofs.Common.{◌≡◌, ℕ, ◌+◌, ◌≤◌, cond, not, List, [], ◌∷◌, ◌++◌, length, filter, Some, None, refl, ap, ◌∙◌, nat_eq}
 use Rattle.std.specs.Cmp.{nat_eq_equiv}
 use Rattle.std.specs.Map.{keys_of}
@@ -34,7 +35,8 @@ pub ruleset new_numbers = (value_at-append_number)
 -- which keys there are, and how many, at numbers
 pub ruleset number_keys = (keys_of-put_number, length-put_number, cons-keys_of_first)
 
--- a visit that keeps some pairs and takes the others out, and one that lists the keys that it visits
+-- a visit that keeps some pairs and takes the others out, and one that lists the keys that it
+-- visits
 pub ruleset visits = (VisitKeeps-passed, VisitKeeps-removed, append-visited)
 
 -- maps that number their keys from 0 on

@@ -1,4 +1,5 @@
--- For callers: the first pair taken out and put back behind the others, and turns of this kind one after another.
+-- For callers: the first pair taken out and put back behind the others, and turns of this kind one
+-- after another.
 use Rattle.std.proofs.Common.{◌≡◌, ℕ, zero, suc, ◌+◌, ◌<◌, Bool, true, false, cond, List, [], ◌∷◌, ◌++◌, length, take, drop, map, get_or, append_assoc, subst, Option, Some, None, is_some, true≢false, refl, sym, ap, ap₂, ◌∙◌}
 use Rattle.std.specs.Option.{option_or, IsSome}
 use Rattle.std.specs.List.{IsDistinct}
@@ -45,8 +46,8 @@ module _ {K V : Type 0} {eq : K → K → Bool} (laws : IsEquivalence eq) where
   pub put-without_first : (mode : Mode) (pairs : List (K × V)) (pair : K × V) (v : V) → IsDistinct eq (keys_of pairs) → first pairs ≡ Some pair → put eq mode (without_first pairs) pair.0 v ≡ without_first pairs ++ (pair.0, v) ∷ []
   put-without_first mode pairs pair v distinct there = put-absent eq mode (without_first pairs) pair.0 v (find-without_first pairs pair distinct there)
 
--- after some turns of a renaming the first of the old pairs stand behind the others, the one of `from` with `to` as its key; and
--- while the pair of `from` is there, `to` is free
+-- after some turns of a renaming the first of the old pairs stand behind the others, the one of
+-- `from` with `to` as its key; and while the pair of `from` is there, `to` is free
 pub record IsRenaming {K V : Type 0} (eq : K → K → Bool) (old now : List (K × V)) (from to : K) (turns : ℕ) : Type 0 where
   pub list : now ≡ drop turns old ++ map (λ pair. cond (eq from pair.0) (to, pair.1) pair) (take turns old)
   pub free : is_some (find eq now from) ≡ true → find eq now to ≡ None

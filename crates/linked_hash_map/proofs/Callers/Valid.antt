@@ -1,5 +1,5 @@
--- For callers: a map stays valid through each change. The map after it is one whose pairs and whose capacity are as the clauses
--- of the call say.
+-- For callers: a map stays valid through each change. The map after it is one whose pairs and whose
+-- capacity are as the clauses of the call say.
 use Rattle.std.proofs.Common.{◌≡◌, ◌+◌, ◌<◌, ◌≤◌, max, Bool, cond, List, length, None, refl, sym, ap, ◌∙◌, subst, arith}
 use Rattle.std.specs.Option.{IsSome}
 use Rattle.std.specs.List.{IsDistinct}

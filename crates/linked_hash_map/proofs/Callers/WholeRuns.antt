@@ -1,5 +1,5 @@
--- For callers: whole runs in which nothing is refused. The replies, the pairs and the capacity then follow from the commands and
--- the first map, and two such runs answer alike.
+-- For callers: whole runs in which nothing is refused. The replies, the pairs and the capacity then
+-- follow from the commands and the first map, and two such runs answer alike.
 use Rattle.std.proofs.Common.{◌≡◌, ℕ, Bool, true, false, Result, Ok, Err, IfOk, IsOkAnd, Vec, Global, ◌||◌, ◌&&◌, IsFalse, List, [], ◌∷◌, map, refl, sym, ap, ap₂, ◌∙◌, subst, true≢false}
 use Rattle.std.specs.List.{list_any, list_all}
 use Rattle.std.specs.Cmp.{IsEquivalence}
@@ -107,7 +107,8 @@ module _ {K V S : Type 0} {eq : K → K → Bool} (laws : IsEquivalence eq) {old
       replayed.pairs
       ∙ (Defines-given laws old.mode commands replies (first_log old.mode old.pairs) old.pairs old.capacity old.capacity (Defines-first laws valid) replayed.run given).same_pairs
 
--- a run of these commands, each of which is never refused: the replies and the pairs follow from them with no more ado
+-- a run of these commands, each of which is never refused: the replies and the pairs follow from
+-- them with no more ado
 module _ {K V S : Type 0} {eq : K → K → Bool} (laws : IsEquivalence eq) {old new : LinkedMap K V S} {commands : List (Command K V)} {replies : List (Reply K V)} (these : List (Command K V)) (valid : IsValid eq old) (replayed : Replayed eq old commands replies new)
     (are : commands ≡ these) (never : list_all never_refused these ≡ true) where
   NoneRefused-replayed : NoneRefused replies
@@ -127,7 +128,8 @@ answers-replies_to eq (command ∷ commands) contents room other mode =
     (answers-replies_to eq commands (pairs_after eq mode contents command) (capacity_after eq mode room contents command) (capacity_after eq mode other contents command) (mode_after mode command))
 
 module _ {K V S T : Type 0} {eq : K → K → Bool} (laws : IsEquivalence eq) {old new : LinkedMap K V S} {old' new' : LinkedMap K V T} {commands : List (Command K V)} {replies replies' : List (Reply K V)} (valid : IsValid eq old) (valid' : IsValid eq old') (replayed : Replayed eq old commands replies new) (replayed' : Replayed eq old' commands replies' new') (same : old.pairs ≡ old'.pairs) (alike : old.mode ≡ old'.mode) (given : NoneRefused replies) (given' : NoneRefused replies') where
-  -- two runs of the same commands on maps with the same pairs and the same mode, whatever their hashers, have the same answers and leave the same pairs
+  -- two runs of the same commands on maps with the same pairs and the same mode, whatever their
+  -- hashers, have the same answers and leave the same pairs
   pub answers-same_run : map (λ reply. reply.answer) replies ≡ map (λ reply. reply.answer) replies'
   answers-same_run =
       ap (map (λ (reply : Reply K V). reply.answer)) (replies-replayed laws valid replayed given)

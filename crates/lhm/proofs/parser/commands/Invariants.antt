@@ -4,7 +4,8 @@ use Rattle.lhm.specs.Grammar.{lines_of}
 use Rattle.lhm.specs.Commands.{AreCommandsOf, IsFirstInvalid}
 use Rattle.lhm.proofs.parser.commands.Given as goal
 
--- whatever the rest says, the whole says these commands and then that; and the lines so far are valid
+-- whatever the rest says, the whole says these commands and then that; and the lines so far are
+-- valid
 pub record IsParsedTo (bytes rest : List ℕ) (line_number : ℕ) (commands : List (Command ℕ ℕ)) : Type 0 where
   pub said : (cs : List (Command ℕ ℕ)) → AreCommandsOf (lines_of rest) cs → AreCommandsOf (lines_of bytes) (commands ++ cs)
   pub first_invalid : (n : ℕ) → IsFirstInvalid (lines_of rest) n → IsFirstInvalid (lines_of bytes) (line_number + n)

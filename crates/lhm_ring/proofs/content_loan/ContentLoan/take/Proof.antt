@@ -67,7 +67,8 @@ take_spec 𝓤 𝓛 𝓜 𝓡 wired L K V LL LK LV =
     move ! (1 ∷ []) $ rewrite ! 0 (λ (q : Ptr). ‵ (lies_at W full_share (value_of R S W q) x.1)) e refl $ move ! (1 ∷ []) $
     use1 𝓛 (some (λ (u : Val). given (Good (layout K) u) (‵ (fat full_share (layout K) pb (po + ko E) u) ⊛ ‵ (K.own_val x.0 (u ∷ []))))) (value_out 1 K LK 𝓛 x.0 pb (po + ko E)) $ pick ! (λ u. learn ! (λ good. split ! $ move ! (2 ∷ []) $
     use1 𝓛 (some (λ (u : Val). given (Good (layout V) u) (‵ (fat full_share (layout V) pb (po + vo E) u) ⊛ ‵ (V.own_val x.1 (u ∷ []))))) (value_out 2 V LV 𝓛 x.1 pb (po + vo E)) $ pick ! (λ w. learn ! (λ fine. split ! $
-    -- [the value's cell; what it owns; the key's cell; what it owns; the other bodies; their open borrow, in three; the marker; its cell; the open borrow, in three; the other tokens]
+    -- [the value's cell; what it owns; the key's cell; what it owns; the other bodies; their open
+    -- borrow, in three; the marker; its cell; the open borrow, in three; the other tokens]
     sets ! (is ! (of_opd ! (get_in ! (fld ! refl (stop !)) (sub ! 0 refl (whole !)))) (ap ptr_val (sym k.at_is ∙ e))) refl (tt, tt) $ first ! $ blocks ! $
     sets ! (addr ! (through ! refl (fld ! refl (stop !)))) refl (tt, tt) $ sets_last ! (of_opd ! (load ! (through ! refl (stop !)) (look ! 2 refl))) refl good $ exec ! 𝓣.C 𝓣.Λ Ev (after 2 fn.body) (at_ret Ev Post) $ sets ! (of_opd ! (get ! refl)) refl good $ first ! $ blocks ! $
     sets ! (addr ! (through ! refl (fld ! refl (stop !)))) refl (tt, tt) $ sets_last ! (of_opd ! (load ! (through ! refl (stop !)) (look ! 0 refl))) refl fine $ exec ! 𝓣.C 𝓣.Λ Ev (after 4 fn.body) (at_ret Ev Post) $ sets ! (of_opd ! (get ! refl)) refl fine $
@@ -75,15 +76,18 @@ take_spec 𝓤 𝓛 𝓜 𝓡 wired L K V LL LK LV =
     sets ! (of_opd ! (get ! refl)) refl good $ sets ! (of_opd ! (get ! refl)) refl fine $ sets ! (agg ! (and_then ! (get ! refl) (and_then ! (get ! refl) (no_more !)))) refl (as_fields (layout K ∷ layout V ∷ []) (u ∷ w ∷ []) (good, (fine, tt))) $
     use1 𝓛 (‵ (froom (layout V) pb (po + vo E))) (𝓛.laws.at_room (layout V) pb (po + vo E) w) $ as_raw ! (layout V) pb (po + vo E) $ move ! (2 ∷ []) $
     use1 𝓛 (‵ (froom (layout K) pb (po + ko E))) (𝓛.laws.at_room (layout K) pb (po + ko E) u) $ as_raw ! (layout K) pb (po + ko E) $ fjoin ! $
-    -- [the memory of both; what the value owns; what the key owns; the other bodies; their open borrow, in three; the marker; ..]
+    -- [the memory of both; what the value owns; what the key owns; the other bodies; their open
+    -- borrow, in three; the marker; ..]
     rewrite ! 0 (λ (q : Ptr). ‵ (body_owns R S W q None)) (sym e) refl $ move ! (0 ∷ 3 ∷ []) $ use2 𝓛 (‵ (Run E 𝓛 left)) (bodies_glue E 𝓛 xs k.pointer None ys) $
     rewrite ! 0 (λ (ps : List Ptr). ‵ (bodies R S W ps (seconds left))) same refl $ move ! (0 ∷ 3 ∷ 4 ∷ 5 ∷ []) $ close_ref ! tt Bs (seconds left) {b = 0} {o = 0} $
-    -- [the bodies' name; their borrow; the loan's token; what the value owns; what the key owns; the marker; its cell; the open borrow, in three; the other tokens]
+    -- [the bodies' name; their borrow; the loan's token; what the value owns; what the key owns;
+    -- the marker; its cell; the open borrow, in three; the other tokens]
     rewrite ! 1 (λ (ps : List Ptr). ‵ (fbor κ (Borrowed (Bodies R S W ps) 0 0 d.name))) (sym same) refl $ fjoin ! $
     rewrite ! 0 (λ (cs : List (Ptr × Option (K.Denot × V.Denot))). ‵ (borrows_bodies R S W κ d.name cs)) (sym k.taken) refl $
     let new : ContentLoan L.Denot K.Denot V.Denot = record { marker = d.marker; name = d.name; run = without_body p d.run } in
     move ! (4 ∷ 0 ∷ []) $ fjoin ! $ move ! (4 ∷ 0 ∷ 5 ∷ 6 ∷ 7 ∷ []) $ closes ! tt It new vs rb ro $
-    -- [self's name; its borrow; its token; the loan's token; what the value owns; what the key owns; the other tokens]
+    -- [self's name; its borrow; its token; the loan's token; what the value owns; what the key
+    -- owns; the other tokens]
     feq_i ! (List Val) vss.0 (vptr rb ro ∷ []) are.0.0 $ fjoin3 ! $ nothing ! $ nothing ! $ fjoin ! $ move ! (1 ∷ 0 ∷ []) $ fjoin ! $
     -- [self and the pointer; its token; the loan's token; the value's; the key's; the other tokens]
     move ! (2 ∷ 5 ∷ []) $ join ! $ move ! (2 ∷ 0 ∷ []) $ join ! $

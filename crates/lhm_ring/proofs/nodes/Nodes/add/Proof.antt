@@ -1,4 +1,5 @@
--- `add` writes the links into the last unused place, which lies apart from the nodes. Assumes `Logic`.
+-- `add` writes the links into the last unused place, which lies apart from the nodes. Assumes
+-- `Logic`.
 use Rattle.std.proofs.Common.{◌≡◌, ℕ, ◌+◌, ◌*◌, ◌<◌, ◌^◌, true, List, [], ◌∷◌, ◌++◌, refl, sym, ap, ◌∙◌, subst, T, ltb→lt, None, arith}
 use base.Fraction.{full_share}
 use mir.Val.{Val, vptr, vint}
@@ -65,7 +66,8 @@ add_spec 𝓤 𝓛 𝓜 𝓡 wired L K V LL LK LV =
     let at : (at : ℕ × ℕ) × (p ≡ block_ptr at.0 at.1) = in_block p (row_first_block p s n h.unused given h.unused_blocks) in let pb : ℕ = at.0.0 in let po : ℕ = at.0.1 in
     opens ! tt N {h = h} rb ro (λ vs. move ! (1 ∷ []) $ fsplit ! $ move ! (1 ∷ []) $
     use1 𝓛 (‵ (Land E h) ⊛ ‵ (Cells E ftrue h.cells)) (land_cut 𝓛 E (Land E h) h.cells) $ split ! $ fsplit ! $ feq_l ! (λ sized. fsplit ! $
-    -- [the unused places; the chunks; the nodes; the marker; its cell; the open borrow, in three; the new links; the other tokens]
+    -- [the unused places; the chunks; the nodes; the marker; its cell; the open borrow, in three;
+    -- the new links; the other tokens]
     rewrite ! 0 (λ (ps : List Ptr). ‵ (Places 𝓛 E ps)) (given ∙ row-last p s n) refl $ use1 𝓛 (‵ (Places 𝓛 E left) ⊛ ‵ (Places 𝓛 E (last ∷ []))) (places_cut 𝓛 E left (last ∷ [])) $ split ! $ move ! (1 ∷ []) $ fsplit ! $ move ! (1 ∷ []) $ drop ! $
     let size_is : size (written E) ≡ s = sym (size-raw (written E)) ∙ sym sized in let no : ℕ = n * size (written E) + po in let q : Ptr = block_ptr pb no in
     let here : last ≡ q = ap (λ (r : Ptr). r +ₚ (n * s)) at.1 ∙ ap (λ (k : ℕ). block_ptr pb (po + n * k)) (sym size_is) ∙ ap (λ (k : ℕ). block_ptr pb k) (omega arith) in
@@ -73,7 +75,8 @@ add_spec 𝓤 𝓛 𝓜 𝓡 wired L K V LL LK LV =
     let low : no < 2 ^ 63 = ltb→lt no (2 ^ 63) (subst T (sym near_q) tt) in
     rewrite ! 0 (λ (r : Ptr). ‵ (room_for (block E) r)) here refl $
     use1 𝓛 (‵ (fields_own R S W q) ⊛ ‵ (Rejoins E q)) (block_cut E 𝓛 pb no) $ split ! $ fsplit ! $ move ! (0 ∷ 5 ∷ []) $
-    -- [the links' memory; the nodes; the pair's memory; the deed; the unused places; the chunks; the marker; its cell; the open borrow, in three; the new links; the other tokens]
+    -- [the links' memory; the nodes; the pair's memory; the deed; the unused places; the chunks;
+    -- the marker; its cell; the open borrow, in three; the new links; the other tokens]
     knows ! (IsFresh q (pointers h.cells)) (fresh 𝓛 𝓜 E asked.0 ftrue q h.cells) (λ free. as_written ! (layout L) pb (no + lo E) $
     let tiny : size (written E) < 2 ^ 64 = let small = asked.1.0 in omega (arith, size_is) in let fits : n * size (written E) < 2 ^ 64 = omega (arith, low) in
     sets ! (is ! (of_opd ! (get_in ! (fld ! refl (stop !)) (sub ! 0 refl (whole !)))) (ap ptr_val at.1)) refl (tt, tt) $ first ! $ blocks ! $
@@ -84,7 +87,8 @@ add_spec 𝓤 𝓛 𝓜 𝓡 wired L K V LL LK LV =
     sets ! (of_opd ! (get ! refl)) refl (tt, tt) $ sets ! (agg ! (and_then ! (get ! refl) (no_more !))) refl (word-Good [] q) $
     move ! (0 ∷ 11 ∷ []) $ use2 𝓛 (‵ (lies_at R full_share (links_of R S W q) new)) (value_in 0 L LL 𝓛 new pb (no + lo E) v) $
     move ! (2 ∷ 3 ∷ []) $ fjoin ! $ move ! (1 ∷ 0 ∷ []) $ fjoin ! $ fjoin ! $
-    -- [the nodes; the unused places; the chunks; the marker; its cell; the open borrow, in three; the other tokens]
+    -- [the nodes; the unused places; the chunks; the marker; its cell; the open borrow, in three;
+    -- the other tokens]
     let h' : N.Denot = record {
       marker = h.marker;
       cells = cell q new None ∷ h.cells;

@@ -71,7 +71,8 @@ add_chunk_spec 𝓤 𝓛 𝓜 𝓡 wired L K V LL LK LV =
     enter ! 𝓣.C 𝓣.Λ fn us Post $ alloc_all ! (λ l. pass_all ! refl ((tt, tt), (block_Good given.ptr, tt)) $
     move ! (2 ∷ 3 ∷ 4 ∷ []) $ opens ! tt N {h = h} rb ro (λ vs. move ! (1 ∷ []) $ fsplit ! $ move ! (1 ∷ []) $
     use1 𝓛 (‵ (Land E h) ⊛ ‵ (Cells E ftrue h.cells)) (land_cut 𝓛 E (Land E h) h.cells) $ split ! $ fsplit ! $ feq_l ! (λ sized. fsplit ! $
-    -- [the unused places; the chunks; the nodes; the marker; its cell; the open borrow, in three; the new places; the token of the chunk; the other tokens]
+    -- [the unused places; the chunks; the nodes; the marker; its cell; the open borrow, in three;
+    -- the new places; the token of the chunk; the other tokens]
     let fits : n * node_bytes R S W < 2 ^ 63 = subst (λ (k : ℕ). n * k < 2 ^ 63) (sym (size-raw (written E))) fit in
     let low : s < 2 ^ 63 = subst (λ (k : ℕ). k < 2 ^ 63) (sym sized) (one_below n (node_bytes R S W) (2 ^ 63) some fits) in
     let new : List Ptr = row p s n in let us' : List Ptr = new ++ h.unused in let near_p : is_block p ≡ true = near o (subst (λ (k : ℕ). k < 2 ^ 63) (sym starts) (omega arith)) in

@@ -47,7 +47,8 @@ clear_spec 𝓤 𝓛 𝓜 𝓡 wired L K V LL LK LV =
     enter ! 𝓣.C 𝓣.Λ fn us Post $ alloc_all ! (λ l. pass_all ! refl ((tt, tt), tt) $
     opens ! tt N {h = h} rb ro (λ vs. move ! (1 ∷ []) $ fsplit ! $ move ! (1 ∷ []) $
     use1 𝓛 (‵ (Land E h) ⊛ ‵ (Cells E ftrue h.cells)) (land_cut 𝓛 E (Land E h) h.cells) $ split ! $ fsplit ! $ feq_l ! (λ sized. fsplit ! $ move ! (2 ∷ []) $
-    -- [the nodes; the unused places; the chunks; the marker; its cell; the open borrow, in three; the other tokens]
+    -- [the nodes; the unused places; the chunks; the marker; its cell; the open borrow, in three;
+    -- the other tokens]
     use1 𝓛 (‵ (Places 𝓛 E (pointers h.cells))) (cells_emptied 𝓛 E h.cells) $ move ! (1 ∷ 0 ∷ []) $
     use2 𝓛 (‵ (Places 𝓛 E (h.unused ++ pointers h.cells))) (places_glue 𝓛 E h.unused (pointers h.cells)) $ rewrite ! 0 (λ (ps : List Ptr). ‵ (Places 𝓛 E ps)) h.laid refl $ fjoin ! $ feq_i ! ℕ s (node_bytes R S W) sized $ fjoin ! $
     let all : List Ptr = places s h.chunks in

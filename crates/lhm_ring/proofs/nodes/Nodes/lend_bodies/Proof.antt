@@ -66,26 +66,31 @@ lend_bodies_spec 𝓤 𝓛 𝓜 𝓡 wired L K V LL LK LV =
     -- [the bodies; the stems; the marker; its cell; the open borrow, in three; the other tokens]
     move ! (2 ∷ 1 ∷ 3 ∷ []) $ use3 𝓛 (‵ Fs) (fields_made E 𝓛 h rb ro vs) $
     name_new ! tt (Bs.coded.code os) (λ δ.
-    -- [the bodies' name, in two; the fields; the bodies; the open borrow, in three; the other tokens]
+    -- [the bodies' name, in two; the fields; the bodies; the open borrow, in three; the other
+    -- tokens]
     move ! (3 ∷ 1 ∷ []) $ fjoin ! $ fpack ! (List (Option (K.Denot × V.Denot))) (λ w. fsep (Bs.own_at w 0 0) (fauth δ (Bs.coded.code w))) os $
     nothing ! $ move ! (3 ∷ 0 ∷ []) $ fjoin ! $ move ! (1 ∷ 0 ∷ []) $ fjoin ! $
     -- [what is borrowed beside; the bodies' name; the open borrow, in three; the other tokens]
     use0 𝓛 (‵ ((mem Anchor).own_at [] rb ro)) (anchor_made 𝓛 rb ro) $ nothing ! $ move ! (4 ∷ 5 ∷ 6 ∷ 1 ∷ 2 ∷ 0 ∷ []) $ group ! 6 $
     use1 𝓛 (later (some (λ (ν : ℕ). ‵ (fobs ν (Anchor.coded.code [])) ⊛ ‵ (fbor κ (Borrowed (mem Anchor) rb ro ν)) ⊛ ‵ (flft κ q) ⊛ ‵ (follows N Anchor γ ν (λ _. cleared_nodes h)) ⊛ ‵ (fbor κ (Borrowed Bs 0 0 δ)) ⊛ ‵ (fbor κ Fs) ⊛ ‵ ftrue)))
     (takes_beside 𝓛 (mem N) (mem Anchor) (λ _. cleared_nodes h) κ q rb ro rb ro γ (Borrowed Bs 0 0 δ ∷ Fs ∷ []) (emp 𝓤) (back E 𝓛 h rb ro δ) hcode hcode []) $ await ! tt $ pick ! (λ ν. split3 ! $ move ! (2 ∷ []) $ split3 ! $ move ! (2 ∷ []) $ split3 ! $
-    -- [the bodies' borrow; the fields'; nothing; the token; what follows; the anchor's name; its borrow; the bodies' name; the other tokens]
+    -- [the bodies' borrow; the fields'; nothing; the token; what follows; the anchor's name; its
+    -- borrow; the bodies' name; the other tokens]
     feq_i ! (List Val) (vptr rb ro ∷ []) (vptr rb ro ∷ []) refl $ move ! (0 ∷ 6 ∷ 7 ∷ []) $ fjoin3 ! $
-    -- [the anchor; the bodies' borrow; the fields'; nothing; the token; what follows; the bodies' name; the other tokens]
+    -- [the anchor; the bodies' borrow; the fields'; nothing; the token; what follows; the bodies'
+    -- name; the other tokens]
     let top : MutBor (List ℕ) = record { ref_ptr = (rb, ro); ghost_name = ν; now = [] } in let seen : Bor N.Denot = record { ref_ptr = (rb, ro); now = h } in
     let lent : ContentLoan L.Denot K.Denot V.Denot = record { marker = record {}; name = δ; run = bodies_of h.cells } in
     move ! (6 ∷ 1 ∷ []) $ fjoin ! $ use0 𝓛 (‵ (sm.own_val (tt, tt) (marker ∷ []))) (content_loan_made (named_lft 4 0 tt κs) R S W 𝓛) $ fjoin ! $
-    -- [the loan of the contents; the anchor; the fields' borrow; nothing; the token; what follows; the other tokens]
+    -- [the loan of the contents; the anchor; the fields' borrow; nothing; the token; what follows;
+    -- the other tokens]
     move ! (2 ∷ 4 ∷ []) $
     use2 𝓛 (later (‵ ((BareRow R S W).shr_at h rb ro κ) ⊛ ‵ (flft κ q)))
     (bare_shares R S W 𝓛 (param_laws 0 L LL) (H-laws.the_row_laws S (param_laws 1 K LK)) (H-laws.the_row_laws W (param_laws 2 V LV)) h κ ((κ, q) ∷ []) rb ro
     (N-laws.the_within R (HS R S W) (HW R S W) κ (Incl-trans bounds.0 inL) (H-laws.the_within S κ (Incl-trans bounds.1.0 inK)) (H-laws.the_within W κ (Incl-trans bounds.1.1.0 inV))) (Incl-refl κ)) $ await ! tt $ split ! $
     use1 𝓛 (‵ (Hr.shr_at h rb ro κ)) (id⊢ 𝓤 _) $ hide ! $ feq_i ! (List Val) (vptr rb ro ∷ []) (vptr rb ro ∷ []) refl $ fjoin ! $
-    -- [the nodes, shared; the token; the loan of the contents; the anchor; nothing; what follows; the other tokens]
+    -- [the nodes, shared; the token; the loan of the contents; the anchor; nothing; what follows;
+    -- the other tokens]
     move ! (3 ∷ 0 ∷ 2 ∷ []) $ three_made ! (MutRef (named 0) κ Anchor) (ShrRef (named 0) κ Hr) It top seen lent (vptr rb ro) (vptr rb ro) marker $
     let out : Val = vstruct (vcons (vptr rb ro) (vcons (vptr rb ro) (vcons marker vnil))) in
     sets ! (addr ! (through ! refl (stop !))) refl (tt, tt) $ sets ! (addr ! (through ! refl (stop !))) refl (tt, tt) $ first ! $ blocks ! $ sets_last ! (addr ! (through ! refl (stop !))) refl (tt, tt) $

@@ -64,11 +64,13 @@ remove_chunk_spec 𝓤 𝓛 𝓜 𝓡 wired L K V LL LK LV =
     let cs : List (Ptr × ℕ) = asked.1.0 in let last : h.chunks ≡ cs ++ (p, n) ∷ [] = asked.1.1 in let new : List Ptr = row p s n in let rest : List Ptr = places s cs in
     let cut : h.unused ≡ new ++ rest = sym (append-nil h.unused) ∙ ap (λ (ds : List (Node E)). h.unused ++ pointers ds) (sym asked.0) ∙ h.laid ∙ ap (places s) last ∙ places_last s cs (p, n) in
     opens ! tt N {h = h} rb ro (λ vs. move ! (1 ∷ []) $ fsplit ! $ move ! (1 ∷ []) $ rewrite ! 0 (λ (ds : List (Node E)). ‵ (Cells E (Land E h) ds)) asked.0 refl $ fsplit ! $ feq_l ! (λ sized. fsplit ! $
-    -- [the unused places; the chunks; the marker; its cell; the open borrow, in three; the other tokens]
+    -- [the unused places; the chunks; the marker; its cell; the open borrow, in three; the other
+    -- tokens]
     rewrite ! 0 (λ (ps : List Ptr). ‵ (Places 𝓛 E ps)) cut refl $ use1 𝓛 (‵ (Places 𝓛 E new) ⊛ ‵ (Places 𝓛 E rest)) (places_cut 𝓛 E new rest) $ split ! $ move ! (2 ∷ []) $
     rewrite ! 0 (λ (ds : List (Ptr × ℕ)). ‵ (Chunks 𝓛 E ds)) last refl $ use1 𝓛 (‵ (chunk_owns R S W (p, n)) ⊛ ‵ (Chunks 𝓛 E cs)) (chunks_cut 𝓛 E cs (p, n)) $ split ! $ fsplit3 ! $ flt_l ! (λ fits. feq_l ! (λ near_p.
     let e : (at : ℕ × ℕ) × (p ≡ block_ptr at.0 at.1) = in_block p near_p in let b : ℕ = e.0.0 in let o : ℕ = e.0.1 in let q : Ptr = block_ptr b o in
-    -- [the token of the chunk; the other chunks; its places; the other places; the marker; its cell; the open borrow, in three; the other tokens]
+    -- [the token of the chunk; the other chunks; its places; the other places; the marker; its
+    -- cell; the open borrow, in three; the other tokens]
     move ! (1 ∷ 3 ∷ []) $ move ! (1 ∷ 0 ∷ []) $ fjoin ! $ feq_i ! ℕ s (node_bytes R S W) sized $ fjoin ! $
     let h' : N.Denot = record {
       marker = h.marker;
@@ -81,7 +83,8 @@ remove_chunk_spec 𝓤 𝓛 𝓜 𝓡 wired L K V LL LK LV =
       unused_blocks = all_right (λ r. is_block r ≡ true) new rest (subst AreBlocks cut h.unused_blocks);
       laid = append-nil rest;
     } in
-    -- [the land; the token of the chunk; its places; the marker; its cell; the open borrow, in three; the other tokens]
+    -- [the land; the token of the chunk; its places; the marker; its cell; the open borrow, in
+    -- three; the other tokens]
     move ! (3 ∷ 0 ∷ []) $ fjoin ! $ move ! (3 ∷ 0 ∷ 4 ∷ 5 ∷ 6 ∷ []) $ closes ! tt N h' vs rb ro $
     -- [self; the token of the chunk; its places; the other tokens]
     feq_i ! (List Val) vss.0 (vptr rb ro ∷ []) are.0.0 $ fjoin3 ! $ nothing ! $ nothing ! $ fjoin ! $ nothing ! $ fjoin ! $ move ! (1 ∷ 0 ∷ []) $ fjoin ! $ move ! (1 ∷ 4 ∷ []) $ join ! $

@@ -57,7 +57,8 @@ set_links_spec 𝓤 𝓛 𝓜 𝓡 wired L K V LL LK LV =
     use1 𝓛 (‵ (One E f) ⊛ ‵ (Cells E (Land E h) (k.before ++ k.after))) (cells_cut 𝓛 E (Land E h) k.before f k.after) $ split ! $ fsplit ! $
     in_a_block ! f.at (λ q. lies_at R full_share (links_of R S W q) f.links) (id⊢ 𝓤 (never 𝓤)) (λ pb po e.
     use1 𝓛 (some (λ (u : Val). given (Good (layout L) u) (‵ (fat full_share (layout L) pb (po + lo E) u) ⊛ ‵ (L.own_val f.links (u ∷ []))))) (value_out 0 L LL 𝓛 f.links pb (po + lo E)) $ pick ! (λ u. learn ! (λ _. split ! $ move ! (1 ∷ []) $ drop ! $
-    -- [the old links; the rest of the node; the other nodes; the marker; its cell; the open borrow, in three; the new links; the other tokens]
+    -- [the old links; the rest of the node; the other nodes; the marker; its cell; the open borrow,
+    -- in three; the new links; the other tokens]
     sets ! (is ! (of_opd ! (get_in ! (fld ! refl (stop !)) (sub ! 0 refl (whole !)))) (ap ptr_val (sym k.at_is ∙ e))) refl (tt, tt) $ first ! $ blocks ! $
     sets ! (addr ! (through ! refl (fld ! refl (stop !)))) refl (tt, tt) $ sets ! (of_opd ! (get ! refl)) refl got.1.1 $ assigns_last ! (of_opd ! (get ! refl)) (through ! refl (stop !)) (store ! 0 refl got.1.1) $
     exec ! 𝓣.C 𝓣.Λ Ev (after 2 fn.body) (at_ret Ev Post) $ sets ! (of_opd ! (unit_lit !)) refl (tt, tt) $

@@ -59,7 +59,8 @@ take_spec 𝓤 𝓛 𝓜 𝓡 wired L K V LL LK LV =
     rewrite ! 0 (λ (z : Ptr × Option (K.Denot × V.Denot)). ‵ (body_owns R S W z.0 z.1)) (λ i. (e i, kh.1 i)) refl $ fsplit ! $
     use1 𝓛 (some (λ (u : Val). given (Good (layout K) u) (‵ (fat full_share (layout K) pb (po + ko E) u) ⊛ ‵ (K.own_val x.0 (u ∷ []))))) (value_out 1 K LK 𝓛 x.0 pb (po + ko E)) $ pick ! (λ u. learn ! (λ good. split ! $ move ! (2 ∷ []) $
     use1 𝓛 (some (λ (u : Val). given (Good (layout V) u) (‵ (fat full_share (layout V) pb (po + vo E) u) ⊛ ‵ (V.own_val x.1 (u ∷ []))))) (value_out 2 V LV 𝓛 x.1 pb (po + vo E)) $ pick ! (λ w. learn ! (λ fine. split ! $
-    -- [the value's cell; what it owns; the key's cell; what it owns; the deed; the links; the other nodes; the marker; its cell; the open borrow, in three; the other tokens]
+    -- [the value's cell; what it owns; the key's cell; what it owns; the deed; the links; the other
+    -- nodes; the marker; its cell; the open borrow, in three; the other tokens]
     sets ! (is ! (of_opd ! (get_in ! (fld ! refl (stop !)) (sub ! 0 refl (whole !)))) (ap ptr_val (sym k.at_is ∙ e))) refl (tt, tt) $ first ! $ blocks ! $
     sets ! (addr ! (through ! refl (fld ! refl (stop !)))) refl (tt, tt) $ sets_last ! (of_opd ! (load ! (through ! refl (stop !)) (look ! 2 refl))) refl good $ exec ! 𝓣.C 𝓣.Λ Ev (after 2 fn.body) (at_ret Ev Post) $ sets ! (of_opd ! (get ! refl)) refl good $ first ! $ blocks ! $
     sets ! (addr ! (through ! refl (fld ! refl (stop !)))) refl (tt, tt) $ sets_last ! (of_opd ! (load ! (through ! refl (stop !)) (look ! 0 refl))) refl fine $ exec ! 𝓣.C 𝓣.Λ Ev (after 4 fn.body) (at_ret Ev Post) $ sets ! (of_opd ! (get ! refl)) refl fine $
@@ -71,7 +72,8 @@ take_spec 𝓤 𝓛 𝓜 𝓡 wired L K V LL LK LV =
     rewrite ! 0 (λ (q : Ptr). ‵ (body_owns R S W q None)) (sym e) refl $ move ! (0 ∷ 3 ∷ []) $ fjoin ! $ move ! (3 ∷ 0 ∷ []) $ fjoin ! $ move ! (0 ∷ 3 ∷ []) $
     use2 𝓛 (‵ (Cells E (Land E h) (k.before ++ f' ∷ k.after))) (cells_glue 𝓛 E (Land E h) k.before f' k.after) $ rewrite ! 0 (λ (cs : List (Node E)). ‵ (Cells E (Land E h) cs)) (sym (k.changed (λ c. cell c.at c.links None))) refl $
     let h' : N.Denot = record { marker = h.marker; cells = change p (λ c. cell c.at c.links None) h.cells; apart = subst IsApart (sym (pointers-change p (λ c. cell c.at c.links None) (λ c. refl) h.cells)) h.apart; blocks = subst AreBlocks (sym (pointers-change p (λ c. cell c.at c.links None) (λ c. refl) h.cells)) h.blocks; node_bytes = h.node_bytes; unused = h.unused; chunks = h.chunks; unused_blocks = h.unused_blocks; laid = subst (λ (ps : List Ptr). h.unused ++ ps ≡ places h.node_bytes h.chunks) (sym (pointers-change p (λ c. cell c.at c.links None) (λ c. refl) h.cells)) h.laid } in
-    -- [the nodes; what the value owns; what the key owns; the marker; its cell; the open borrow, in three; the other tokens]
+    -- [the nodes; what the value owns; what the key owns; the marker; its cell; the open borrow, in
+    -- three; the other tokens]
     move ! (3 ∷ 0 ∷ []) $ fjoin ! $ move ! (3 ∷ 0 ∷ 4 ∷ 5 ∷ 6 ∷ []) $ closes ! tt N h' vs rb ro $
     feq_i ! (List Val) vss.0 (vptr rb ro ∷ []) are.0.0 $ fjoin3 ! $ nothing ! $ nothing ! $ fjoin ! $ move ! (1 ∷ 0 ∷ []) $ fjoin ! $ move ! (1 ∷ 4 ∷ []) $ join ! $
     -- [the tokens; self; the value's; the key's]

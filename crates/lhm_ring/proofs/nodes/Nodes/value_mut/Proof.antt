@@ -86,7 +86,8 @@ value_mut_spec 𝓤 𝓛 𝓜 𝓡 wired L K V LL LK LV =
     rewrite ! 0 (λ (q : Ptr). ‵ (lies_at R full_share (links_of R S W q) f.links)) (sym e) refl $ move ! (1 ∷ []) $ fsplit ! $
     rewrite ! 0 (λ (z : Option (K.Denot × V.Denot)). ‵ (body_owns R S W f.at z)) kh.1 refl $ fsplit ! $ move ! (1 ∷ []) $
     rewrite ! 0 (λ (q : Ptr). ‵ (lies_at W full_share (value_of R S W q) x.1)) e refl $
-    -- [the value; the key; the deed; the links; the other nodes; the marker; its cell; the open borrow, in three; the other tokens]
+    -- [the value; the key; the deed; the links; the other nodes; the marker; its cell; the open
+    -- borrow, in three; the other tokens]
     sets ! (is ! (of_opd ! (get_in ! (fld ! refl (stop !)) (sub ! 0 refl (whole !)))) (ap ptr_val (sym k.at_is ∙ e))) refl (tt, tt) $ first ! $ blocks ! $
     sets_last ! (addr ! (through ! refl (fld ! refl (stop !)))) refl (tt, tt) $ exec ! 𝓣.C 𝓣.Λ Ev (after 2 fn.body) (at_ret Ev Post) $ sets ! (of_opd ! (get ! refl)) refl (tt, tt) $
     move ! (4 ∷ 5 ∷ 6 ∷ []) $ fjoin3 ! $ move ! (3 ∷ 0 ∷ []) $ fjoin ! $ move ! (3 ∷ 2 ∷ 0 ∷ []) $ fjoin3 ! $ move ! (2 ∷ 3 ∷ 4 ∷ 1 ∷ 0 ∷ []) $ group ! 5 $

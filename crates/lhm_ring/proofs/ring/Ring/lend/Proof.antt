@@ -100,7 +100,8 @@ lend_spec 𝓤 𝓛 𝓜 𝓡 wired K V LK LV =
     (I-laws.the_within S Hr κ (Incl-trans bounds.0 inK) (H-laws.the_within W κ (Incl-trans bounds.1.0 inV))) (Incl-refl κ)) $ await ! tt $ split ! $
     use1 𝓛 (‵ (Holed.shr_at d rb ro κ)) (view-Hides (I-type.the_row S Hr) (State (K.Denot × V.Denot)) Holed.coded (R-type.the_view S Hr) (R-type.the_invariant S Hr) _ 𝓤 𝓛 d i (seen, ok) rb ro κ) $
     hide ! $ feq_i ! (List Val) (vptr rb ro ∷ []) (vptr rb ro ∷ []) refl $ fjoin ! $
-    -- [the ring, shared; the token; nothing; the second name's; the loan; what follows; the other tokens]
+    -- [the ring, shared; the token; nothing; the second name's; the loan; what follows; the other
+    -- tokens]
     move ! (0 ∷ 4 ∷ []) $ struct_made ! (declared.shape (T-type.the_type (named_lft 3 0 tt κs) S W)) (ShrRef (named 0) κ Holed) It top lent (vptr rb ro) marker $
     let out : Val = vstruct (vcons (vptr rb ro) (vcons marker vnil)) in
     sets ! (addr ! (through ! refl (stop !))) refl (tt, tt) $ first ! $ blocks ! $ sets_last ! (addr ! (through ! refl (stop !))) refl (tt, tt) $

@@ -69,7 +69,8 @@ take_spec 𝓤 𝓛 𝓜 𝓡 wired L K V LL LK LV =
     use1 𝓛 (‵ (lies_at W full_share (f k.pointer) v) ⊛ ‵ (spread W (ats (xs ++ ys)) (ofs (xs ++ ys)))) (run_cut 𝓛 W f k.pointer xs v ys) $ split ! $
     in_a_block ! k.pointer (λ q. lies_at W full_share (value_of R S W q) v) (id⊢ 𝓤 (never 𝓤)) (λ pb po e.
     let F : V.Denot → List V.Denot → List V.Denot = λ w ws. take (length xs) ws ++ w ∷ drop_l (length xs) ws in let at : f k.pointer ≡ block_ptr pb (po + vo E) = ap f e in
-    -- [the value; the other values; their open borrow, in three; the marker; its cell; the open borrow, in three; the other tokens]
+    -- [the value; the other values; their open borrow, in three; the marker; its cell; the open
+    -- borrow, in three; the other tokens]
     nothing ! $ move ! (3 ∷ 4 ∷ 5 ∷ 1 ∷ 2 ∷ 0 ∷ []) $ group ! 6 $
     use1 𝓛 (later (some (λ (γs : ℕ × ℕ). (‵ (fobs γs.0 (W.coded.code v)) ⊛ ‵ (fbor κ (Borrowed (mem W) pb (po + vo E) γs.0))) ⊛ (‵ (fobs γs.1 ((coded_list W.coded).code (ofs (xs ++ ys)))) ⊛ ‵ (fbor κ (Borrowed (Spread W (ats (xs ++ ys))) 0 0 γs.1)))
     ⊛ ‵ (flft κ q) ⊛ ‵ (after₂ (Spread W (ats all)) (mem W) (Spread W (ats (xs ++ ys))) d.name γs.0 γs.1 F))))
@@ -77,13 +78,16 @@ take_spec 𝓤 𝓛 𝓜 𝓡 wired L K V LL LK LV =
     let r : Val = vptr pb (po + vo E) in let out : MutBor V.Denot = record { ref_ptr = (pb, po + vo E); ghost_name = γs.0; now = v } in
     let new : ValueLoan L.Denot K.Denot V.Denot = record { marker = d.marker; name = γs.1; tie = d.tie; run = without_value p d.run } in
     split ! $ feq_i ! (List Val) (r ∷ []) (r ∷ []) refl $ fjoin3 ! $ move ! (1 ∷ []) $ split ! $ fjoin ! $ move ! (2 ∷ []) $ split ! $
-    -- [the loan's token; the two names'; the other values; the value; the marker; its cell; the open borrow, in three; the other tokens]
+    -- [the loan's token; the two names'; the other values; the value; the marker; its cell; the
+    -- open borrow, in three; the other tokens]
     rewrite ! 2 (λ (cs : List (Ptr × V.Denot)). ‵ (borrowed κ R S W γs.1 cs)) (sym k.taken) refl $ move ! (4 ∷ 2 ∷ []) $ fjoin ! $ move ! (4 ∷ 0 ∷ 5 ∷ 6 ∷ 7 ∷ []) $ closes ! tt It new vs rb ro $
-    -- [self's name; its borrow; its token; the loan's token; the two names'; the value; the other tokens]
+    -- [self's name; its borrow; its token; the loan's token; the two names'; the value; the other
+    -- tokens]
     sets ! (is ! (of_opd ! (get_in ! (fld ! refl (stop !)) (sub ! 0 refl (whole !)))) (ap ptr_val (sym k.at_is ∙ e))) refl (tt, tt) $ first ! $ blocks ! $
     sets_last ! (addr ! (through ! refl (fld ! refl (stop !)))) refl (tt, tt) $ exec ! 𝓣.C 𝓣.Λ Ev (after 2 fn.body) (at_ret Ev Post) $ sets ! (of_opd ! (get ! refl)) refl (tt, tt) $
     feq_i ! (List Val) vss.0 (vptr rb ro ∷ []) are.0.0 $ fjoin3 ! $ nothing ! $ nothing ! $ fjoin ! $ move ! (1 ∷ 0 ∷ []) $ fjoin ! $
-    -- [self and the pointer; its token; the loan's token; the two names'; the value; the other tokens]
+    -- [self and the pointer; its token; the loan's token; the two names'; the value; the other
+    -- tokens]
     move ! (2 ∷ 5 ∷ []) $ join ! $ move ! (2 ∷ 0 ∷ []) $ join ! $
     let Told : Type 0 = value_at d.run p ≡ Some v in let Left : Type 0 = without_value p d.run ≡ without_value p d.run in let Tied : Type 0 = d.tie ≡ d.tie in
     use0 𝓛 (raw (fact 𝓤 Tied)) (fact_i 𝓤 Tied (emp 𝓤) refl) $ use0 𝓛 (raw (fact 𝓤 Left)) (fact_i 𝓤 Left (emp 𝓤) refl) $ join ! $ use0 𝓛 (raw (fact 𝓤 Told)) (fact_i 𝓤 Told (emp 𝓤) asked.1) $ join ! $

@@ -99,7 +99,8 @@ lend_spec 𝓤 𝓛 𝓜 𝓡 wired K₀ V₀ S₀ H₀ LK LV LS LH b₀ d₀ b�
     let new = lending.new K₀ V₀ S₀ H₀ b₁ b₂ b₃ b₄ 𝓛 i rb ro d seen ok t tseen tok r rseen rok in let named' = lending.named K₀ V₀ S₀ H₀ b₁ b₂ b₃ b₄ 𝓛 i rb ro d seen ok t tseen tok r rseen rok in
     let is = lending.placed-own K₀ V₀ S₀ H₀ b₁ b₂ b₃ b₄ 𝓛 i rb ro d seen ok t tseen tok r rseen rok in
     use1 𝓛 (‵ (spread V ps ws) ⊛ ‵ Fs) (ring.ring_cut K V kb 𝓛 r rb fo) $ split ! $
-    -- [the values; the fields; the rest of the table; that of the map; the open borrow, in three; the other tokens]
+    -- [the values; the fields; the rest of the table; that of the map; the open borrow, in three;
+    -- the other tokens]
     rewrite ! 0 (λ (l : List V.Denot). ‵ (spread V ps l)) (sym is) refl $ nothing ! $ move ! (2 ∷ 0 ∷ []) $ fjoin ! $ move ! (2 ∷ 3 ∷ []) $ join ! $ move ! (3 ∷ 4 ∷ 5 ∷ 2 ∷ 1 ∷ 0 ∷ []) $ group ! 6 $
     use1 𝓛 (later (some (λ (ν : ℕ). ‵ (fobs ν dcode) ⊛ ‵ (fbor κ (Borrowed As' 0 0 ν)) ⊛ ‵ (flft κ q) ⊛ ‵ (follows Map Map γ ν new) ⊛ ‵ (fbor κ Fs) ⊛ ‵ ftrue)))
     (takes_beside 𝓛 (mem Map) As' new κ q rb ro 0 0 γ (Fs ∷ []) (lending.Others K₀ V₀ S₀ H₀ b₁ b₂ b₃ b₄ 𝓛 i rb ro d seen ok t tseen tok r rseen rok) (lending.back K₀ V₀ S₀ H₀ b₁ b₂ b₃ b₄ 𝓛 i rb ro d seen ok t tseen tok r rseen rok) dcode dcode d) $ await ! tt $ pick ! (λ ν. split3 ! $ move ! (2 ∷ []) $ split3 ! $ move ! (3 ∷ 4 ∷ 0 ∷ []) $
@@ -118,7 +119,8 @@ lend_spec 𝓤 𝓛 𝓜 𝓡 wired K₀ V₀ S₀ H₀ LK LV LS LH b₀ d₀ b�
     (RI-laws.the_within K Hr κ (Incl-trans bounds.0 inK) (H-laws.the_within V κ (Incl-trans bounds.1.0 inV))) (Incl-refl κ)) $ await ! tt $ split ! $
     use1 𝓛 (‵ (Holed.shr_at t.ring rb fo κ)) (view-Hides (RI-type.the_row K Hr) (State (K.Denot × V.Denot)) Holed.coded (R-type.the_view K Hr) (R-type.the_invariant K Hr) _ 𝓤 𝓛 t.ring r (rseen, rok) rb fo κ) $
     hide ! $ feq_i ! (List Val) (vptr rb fo ∷ []) (vptr rb fo ∷ []) refl $ fjoin ! $
-    -- [the ring, shared; the token; nothing; the second name's; the loan; what follows; the other tokens]
+    -- [the ring, shared; the token; nothing; the second name's; the loan; what follows; the other
+    -- tokens]
     move ! (0 ∷ 4 ∷ []) $ struct_made ! (declared.shape (T-type.the_type (named_lft 5 0 tt κs) K V)) (ShrRef (named 0) κ Holed) It top lent (vptr rb fo) marker $
     let out : Val = vstruct (vcons (vptr rb fo) (vcons marker vnil)) in
     sets ! (addr ! (through ! refl (fld ! refl (fld ! refl (stop !))))) refl (tt, tt) $ first ! $ blocks ! $ sets_last ! (addr ! (through ! refl (stop !))) refl (tt, tt) $

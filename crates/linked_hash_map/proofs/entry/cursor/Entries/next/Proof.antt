@@ -1,5 +1,6 @@
--- `next` lends the map of the cursor, by `as_map`, and hands on what the map's own `next_entry` returns. By hand, since the borrow
--- checker proves no loan from a type that names a lifetime to an entry in an `Option`.
+-- `next` lends the map of the cursor, by `as_map`, and hands on what the map's own `next_entry`
+-- returns. By hand, since the borrow checker proves no loan from a type that names a lifetime to an
+-- entry in an `Option`.
 use mathlib.Core.Option as maybe
 use mathlib.Core.Path.{subst}
 use seplogic.Ra.Ura.{Ura}
@@ -64,7 +65,8 @@ use Rattle.linked_hash_map.proofs.map.LinkedHashMap.next_entry.Met as next_entry
 use Rattle.linked_hash_map.proofs.entry.cursor.Entries.next.Statement.{statement}
 use Rattle.linked_hash_map.proofs.entry.cursor.Entries.next.Code as code
 
--- where a lender follows a part, and the part is handed on whole or rests at v, the lender follows what is handed on, or rests
+-- where a lender follows a part, and the part is handed on whole or rests at v, the lender follows
+-- what is handed on, or rests
 handed_on : {M : Type 1} {𝓤 : Ura M} (𝓛 : Logic 𝓤) (R U : RattleType) (γ γ' : GName) (F : U.Denot → R.Denot) (v : U.Denot) (n : maybe.Option GName) → ((δ : GName) → n ≡ maybe.some δ → δ ≡ γ')
     → ent 𝓤 (sep 𝓤 (sem 𝓛 (follows R U γ γ' F)) (sem 𝓛 (follows_if U U γ' n (λ w. w) v))) (sem 𝓛 (follows_if R U γ n F (F v)))
 unfolding follows_by
@@ -74,7 +76,8 @@ handed_on {𝓤 = 𝓤} 𝓛 R U γ γ' F v (maybe.some δ) same =
     (fst∗ 𝓤 (sem 𝓛 (follows R U γ γ' F)) (sem 𝓛 (follows U U γ' δ (λ w. w))))
 
 module _ {K V S H : Type 0} {g : eq.Ghosts K} {h : hash.Ghosts K} {b : builder.Ghosts S H} {w : hasher.Ghosts H} (e : Option (OccupiedEntry K V S H g h b w)) where
-  -- what `next_entry` says of its result: of the name of its reference, and of the map that was lent
+  -- what `next_entry` says of its result: of the name of its reference, and of the map that was
+  -- lent
   abbrev Named : GName → Type 0
   Named γ = IfSome e (λ o. o.map.ghost_name ≡ γ)
 
@@ -196,7 +199,8 @@ next_spec 𝓤 𝓛 𝓜 𝓡 wired K V S H LK LV LS LH b₀ d₀ b₁ d₁ b₂
     ⊛ raw (fact 𝓤 (Visits e r.now)) ⊛ raw (fact 𝓤 (Value e r.now b₁.eq)) ⊛ raw (fact 𝓤 (SamePairs e r.now)) ⊛ raw (fact 𝓤 (Kept e r.now)) ⊛ raw (fact 𝓤 (IsValid b₁.eq r.now)) ⊛ raw (fact 𝓤 (NoneLeft e r.now))))))) (id⊢ 𝓤 _) $
     await ! tt $ pick ! (λ e. split ! $ split ! $ split ! $ move ! (3 ∷ []) $ pick ! (λ ws'. split ! $ drop ! $ split ! $ move ! (1 ∷ []) $
     split ! $ heard ! _ (λ name. split ! $ heard ! _ (λ visits. split ! $ heard ! _ (λ value. split ! $ heard ! _ (λ pairs. split ! $ heard ! _ (λ keeps. split ! $ heard ! _ (λ valid. heard ! _ (λ none.
-    -- [where it rests; the token of κs.0; the tokens of the parameters; the result; the token of κs.1; what follows]
+    -- [where it rests; the token of κs.0; the tokens of the parameters; the result; the token of
+    -- κs.1; what follows]
     move ! (3 ∷ []) $ peeks ! Given (Is Given) (shows 𝓛 Given) e (w ∷ []) (λ it.
     let laws = entry-laws.the_row_laws (record { mir = named 0; lft = κs.0 }) (param 0 K) (param 1 V) (param 2 S) (param 3 H) b₁ b₂ b₃ b₄ (param_laws 0 K LK) (param_laws 1 V LV) (param_laws 2 S LS) (param_laws 3 H LH) in
     lands_as ! refl refl (((option_laws (Entry K V S H B κs.0) laws).lawful 𝓛).typed e (w ∷ []) it).0 $
@@ -205,7 +209,8 @@ next_spec 𝓤 𝓛 𝓜 𝓡 wired K V S H LK LV LS LH b₀ d₀ b₁ d₁ b₂
     move ! (5 ∷ 1 ∷ []) $ use2 𝓛 (‵ (follows_if Whole Part a.0.ghost_name (name_if_some (λ o. o.map.ghost_name) e) (with_cursor_map lent_to) (with_cursor_map lent_to r.now)))
     (handed_on 𝓛 Whole Part a.0.ghost_name r.ghost_name (with_cursor_map lent_to) r.now (name_if_some (λ o. o.map.ghost_name) e) (same_name e r.ghost_name name)) $
     rewrite ! 0 (λ (m : Part.Denot). ‵ (follows_if Whole Part a.0.ghost_name (name_if_some (λ o. o.map.ghost_name) e) (with_cursor_map lent_to) (with_cursor_map lent_to m))) as_lent_to refl $
-    -- [what follows; the result; the token of κs.0; the tokens of the parameters; the token of κs.1]
+    -- [what follows; the result; the token of κs.0; the tokens of the parameters; the token of
+    -- κs.1]
     nothing ! $ nothing ! $ join ! $ move ! (5 ∷ 4 ∷ []) $ join ! $ move ! (4 ∷ 0 ∷ []) $ join ! $ move ! (0 ∷ 1 ∷ 3 ∷ []) $ group ! 3 $ frame ! $ frame ! $
     use0 𝓛 (raw (fact 𝓤 (Visits e lent_to.map.now))) (fact_i 𝓤 _ (emp 𝓤) (subst (Visits e) as_lent_to visits)) $ frame ! $
     use0 𝓛 (raw (fact 𝓤 (Value e lent_to.map.now b₁.eq))) (fact_i 𝓤 _ (emp 𝓤) (subst (λ m. Value e m b₁.eq) as_lent_to value)) $ frame ! $
