@@ -25,16 +25,22 @@ or-false false = refl
 
 module _ {K V : Type 0} (eq : K → K → Bool) where
   -- one more item goes in last
-  pub insert_each-snoc : (mode : Mode) (pairs items : List (K × V)) (item : K × V) → insert_each eq mode pairs (items ++ item ∷ []) ≡ put eq mode (insert_each eq mode pairs items) item.0 item.1
+  pub insert_each-snoc : (mode : Mode) (pairs items : List (K × V)) (item : K × V)
+      → insert_each eq mode pairs (items ++ item ∷ [])
+      ≡ put eq mode (insert_each eq mode pairs items) item.0 item.1
   insert_each-snoc mode pairs items item = insert_each-last eq mode pairs items item
 
-  pub insert_each-append : (mode : Mode) (pairs items others : List (K × V)) → insert_each eq mode pairs (items ++ others) ≡ insert_each eq mode (insert_each eq mode pairs items) others
+  pub insert_each-append : (mode : Mode) (pairs items others : List (K × V))
+      → insert_each eq mode pairs (items ++ others)
+      ≡ insert_each eq mode (insert_each eq mode pairs items) others
   insert_each-append mode pairs [] others = refl
   insert_each-append mode pairs (item ∷ items) others = insert_each-append mode (put eq mode pairs item.0 item.1) items others
 
 module _ {K V : Type 0} {eq : K → K → Bool} (laws : IsEquivalence eq) where
   -- a key has the last value that came with it, or what it had
-  pub value_at-insert_each : (mode : Mode) (pairs items : List (K × V)) (q : K) → value_at eq (insert_each eq mode pairs items) q ≡ option_or (value_at eq (reverse items) q) (value_at eq pairs q)
+  pub value_at-insert_each : (mode : Mode) (pairs items : List (K × V)) (q : K)
+      → value_at eq (insert_each eq mode pairs items) q
+      ≡ option_or (value_at eq (reverse items) q) (value_at eq pairs q)
   value_at-insert_each mode pairs items q = by_last (λ items. value_at eq (insert_each eq mode pairs items) q ≡ option_or (value_at eq (reverse items) q) (value_at eq pairs q))
       (λ items item rest.
       ap (λ es. value_at eq es q) (insert_each-last eq mode pairs items item)
@@ -49,7 +55,9 @@ module _ {K V : Type 0} {eq : K → K → Bool} (laws : IsEquivalence eq) where
       last_first false item o older same = ap (λ b. cond b (Some item.1) (option_or (option_map (λ (pair : K × V). pair.1) o) older)) same
 
   -- a key is present if it was, or came with some item
-  pub is_some-insert_each : (mode : Mode) (pairs items : List (K × V)) (q : K) → is_some (find eq (insert_each eq mode pairs items) q) ≡ (is_some (find eq pairs q) || is_some (find eq items q))
+  pub is_some-insert_each : (mode : Mode) (pairs items : List (K × V)) (q : K)
+      → is_some (find eq (insert_each eq mode pairs items) q)
+      ≡ (is_some (find eq pairs q) || is_some (find eq items q))
   is_some-insert_each mode pairs [] q = or-false (is_some (find eq pairs q))
   is_some-insert_each mode pairs (item ∷ items) q =
       is_some-insert_each mode (put eq mode pairs item.0 item.1) items q
@@ -62,7 +70,8 @@ module _ {K V : Type 0} {eq : K → K → Bool} (laws : IsEquivalence eq) where
       by_test false same h older = ap (λ b. is_some (cond b (Some (key_or item.0 (find eq pairs item.0), item.1)) (find eq pairs q)) || is_some (find eq items q)) same
 
   -- so one that is absent then was absent
-  pub find-insert_each_absent : (mode : Mode) (pairs items : List (K × V)) (q : K) → find eq (insert_each eq mode pairs items) q ≡ None → find eq pairs q ≡ None
+  pub find-insert_each_absent : (mode : Mode) (pairs items : List (K × V)) (q : K)
+      → find eq (insert_each eq mode pairs items) q ≡ None → find eq pairs q ≡ None
   find-insert_each_absent mode pairs items q absent = none_is (find eq pairs q) (none_of (is_some (find eq pairs q)) (sym (is_some-insert_each mode pairs items q) ∙ ap is_some absent))
     where
       none_of : (b : Bool) → (b || is_some (find eq items q)) ≡ false → b ≡ false
@@ -70,14 +79,17 @@ module _ {K V : Type 0} {eq : K → K → Bool} (laws : IsEquivalence eq) where
       none_of false h = refl
 
   -- no pair goes, and one for each item comes at most
-  pub length-insert_each_least : (mode : Mode) (pairs items : List (K × V)) → IsDistinct eq (keys_of pairs) → length pairs ≤ length (insert_each eq mode pairs items)
+  pub length-insert_each_least : (mode : Mode) (pairs items : List (K × V))
+      → IsDistinct eq (keys_of pairs) → length pairs ≤ length (insert_each eq mode pairs items)
   length-insert_each_least mode pairs [] distinct = omega arith
   length-insert_each_least mode pairs (item ∷ items) distinct =
       let rest = length-insert_each_least mode (put eq mode pairs item.0 item.1) items (distinct-put laws mode pairs item.0 item.1 distinct) in
       let grows = length-grows laws mode pairs item.0 item.1 distinct in
       omega arith
 
-  pub length-insert_each_most : (mode : Mode) (pairs items : List (K × V)) → IsDistinct eq (keys_of pairs) → length (insert_each eq mode pairs items) ≤ length pairs + length items
+  pub length-insert_each_most : (mode : Mode) (pairs items : List (K × V))
+      → IsDistinct eq (keys_of pairs)
+      → length (insert_each eq mode pairs items) ≤ length pairs + length items
   length-insert_each_most mode pairs [] distinct = omega arith
   length-insert_each_most mode pairs (item ∷ items) distinct =
       let rest = length-insert_each_most mode (put eq mode pairs item.0 item.1) items (distinct-put laws mode pairs item.0 item.1 distinct) in
@@ -86,7 +98,10 @@ module _ {K V : Type 0} {eq : K → K → Bool} (laws : IsEquivalence eq) where
 
 -- items whose keys differ: a key has the value that came with it, or what it had
 module _ {K V : Type 0} {eq : K → K → Bool} (laws : IsEquivalence eq) (mode : Mode) where
-  pub value_at-insert_each_distinct : (pairs items : List (K × V)) (q : K) → IsDistinct eq (keys_of items) → value_at eq (insert_each eq mode pairs items) q ≡ option_or (value_at eq items q) (value_at eq pairs q)
+  pub value_at-insert_each_distinct : (pairs items : List (K × V)) (q : K)
+      → IsDistinct eq (keys_of items)
+      → value_at eq (insert_each eq mode pairs items) q
+      ≡ option_or (value_at eq items q) (value_at eq pairs q)
   value_at-insert_each_distinct pairs [] q distinct = refl
   value_at-insert_each_distinct pairs (item ∷ items) q distinct =
       value_at-insert_each_distinct (put eq mode pairs item.0 item.1) items q (IsDistinct-tail eq item.0 (keys_of items) distinct)
@@ -110,7 +125,9 @@ module _ {K V : Type 0} {eq : K → K → Bool} (laws : IsEquivalence eq) where
   new-set_or_push pairs k v [] apart = tt
   new-set_or_push pairs k v (j ∷ ks) apart = (ap (λ o. not (is_some o)) (find-set_or_push_apart laws pairs k j v apart.0), new-set_or_push pairs k v ks apart.1)
 
-  pub keys_of-insert_each_keep : (pairs items : List (K × V)) → IsDistinct eq (keys_of items) → keys_of (insert_each eq Keep pairs items) ≡ keys_of pairs ++ filter (λ k. not (is_some (find eq pairs k))) (keys_of items)
+  pub keys_of-insert_each_keep : (pairs items : List (K × V)) → IsDistinct eq (keys_of items)
+      → keys_of (insert_each eq Keep pairs items)
+      ≡ keys_of pairs ++ filter (λ k. not (is_some (find eq pairs k))) (keys_of items)
   keys_of-insert_each_keep pairs [] distinct = sym (append-nil (keys_of pairs))
   keys_of-insert_each_keep pairs (item ∷ items) distinct =
       let apart = IsDistinct-head eq item.0 (keys_of items) distinct in

@@ -12,7 +12,11 @@ use Rattle.linked_hash_map.proofs.Callers.Keys.{keys_of-set_or_push, is_some-fin
 
 module _ {K : Type 0} {eq : K → K → Bool} (laws : IsEquivalence eq) (pairs : List (K × ℕ)) (items : List K) where
   -- the next item is counted
-  pub count_by-set_or_push : (d q : K) (n i : ℕ) → i < length items → ((q : K) → unwrap_or (value_at eq pairs q) 0 ≡ count_by (eq q) (take i items)) → n ≡ unwrap_or (value_at eq pairs (get_or items i d)) 0 + 1 → unwrap_or (value_at eq (set_or_push eq pairs (get_or items i d) n) q) 0 ≡ count_by (eq q) (take (i + 1) items)
+  pub count_by-set_or_push : (d q : K) (n i : ℕ) → i < length items
+      → ((q : K) → unwrap_or (value_at eq pairs q) 0 ≡ count_by (eq q) (take i items))
+      → n ≡ unwrap_or (value_at eq pairs (get_or items i d)) 0 + 1
+      → unwrap_or (value_at eq (set_or_push eq pairs (get_or items i d) n) q) 0
+      ≡ count_by (eq q) (take (i + 1) items)
   count_by-set_or_push d q n i within before more = by_test (eq item q) refl
     where
       item : K
@@ -33,7 +37,9 @@ module _ {K : Type 0} {eq : K → K → Bool} (laws : IsEquivalence eq) (pairs :
           ∙ sym (count_by_more_no (eq q) items i d within (laws.symm q item ∙ apart))
 
   -- a count is at most the number of items so far
-  pub count-lt-length : (d : K) (i : ℕ) → i < length items → ((q : K) → unwrap_or (value_at eq pairs q) 0 ≡ count_by (eq q) (take i items)) → unwrap_or (value_at eq pairs (get_or items i d)) 0 < length items
+  pub count-lt-length : (d : K) (i : ℕ) → i < length items
+      → ((q : K) → unwrap_or (value_at eq pairs q) 0 ≡ count_by (eq q) (take i items))
+      → unwrap_or (value_at eq pairs (get_or items i d)) 0 < length items
   count-lt-length d i within before =
       let few = count_by-le-length (eq (get_or items i d)) (take i items) in
       let some = length-take i items in
@@ -41,7 +47,9 @@ module _ {K : Type 0} {eq : K → K → Bool} (laws : IsEquivalence eq) (pairs :
       omega arith
 
   -- and its key stands behind the others, if it is new
-  pub keys_of-set_or_push_first_seen : (d : K) (n i : ℕ) → i < length items → keys_of pairs ≡ fold (λ seen item. if list_any (eq item) seen then seen else seen ++ item ∷ []) [] (take i items)
+  pub keys_of-set_or_push_first_seen : (d : K) (n i : ℕ) → i < length items
+      → keys_of pairs ≡ fold (λ seen item.
+      if list_any (eq item) seen then seen else seen ++ item ∷ []) [] (take i items)
       → keys_of (set_or_push eq pairs (get_or items i d) n) ≡ fold (λ seen item. if list_any (eq item) seen then seen else seen ++ item ∷ []) [] (take (i + 1) items)
   keys_of-set_or_push_first_seen d n i within before =
       let seen_with = λ (seen : List K) (item : K). if list_any (eq item) seen then seen else seen ++ item ∷ [] in
@@ -57,13 +65,19 @@ module _ {K : Type 0} {eq : K → K → Bool} (laws : IsEquivalence eq) (before 
   own : (n i : ℕ) → k ≡ get_or items i k → ActsAs eq before stored k → after ≡ set_or_push eq before stored n → after ≡ set_or_push eq before (get_or items i k) n
   own n i item_is acts written = written ∙ acts.sets_or_pushes n ∙ ap (λ j. set_or_push eq before j n) item_is
 
-  pub count_by-counted : (q : K) (n i : ℕ) → i < length items → k ≡ get_or items i k → ActsAs eq before stored k → after ≡ set_or_push eq before stored n → ((q : K) → unwrap_or (value_at eq before q) 0 ≡ count_by (eq q) (take i items)) → n ≡ unwrap_or (value_at eq before k) 0 + 1
+  pub count_by-counted : (q : K) (n i : ℕ) → i < length items → k ≡ get_or items i k
+      → ActsAs eq before stored k → after ≡ set_or_push eq before stored n
+      → ((q : K) → unwrap_or (value_at eq before q) 0 ≡ count_by (eq q) (take i items))
+      → n ≡ unwrap_or (value_at eq before k) 0 + 1
       → unwrap_or (value_at eq after q) 0 ≡ count_by (eq q) (take (i + 1) items)
   count_by-counted q n i within item_is acts written so_far more =
       ap (λ pairs. unwrap_or (value_at eq pairs q) 0) (own n i item_is acts written)
       ∙ count_by-set_or_push laws before items k q n i within so_far (more ∙ ap (λ j. unwrap_or (value_at eq before j) 0 + 1) item_is)
 
-  pub keys_of-counted : (n i : ℕ) → i < length items → k ≡ get_or items i k → ActsAs eq before stored k → after ≡ set_or_push eq before stored n → keys_of before ≡ fold (λ seen item. if list_any (eq item) seen then seen else seen ++ item ∷ []) [] (take i items)
+  pub keys_of-counted : (n i : ℕ) → i < length items → k ≡ get_or items i k
+      → ActsAs eq before stored k → after ≡ set_or_push eq before stored n
+      → keys_of before ≡ fold (λ seen item.
+      if list_any (eq item) seen then seen else seen ++ item ∷ []) [] (take i items)
       → keys_of after ≡ fold (λ seen item. if list_any (eq item) seen then seen else seen ++ item ∷ []) [] (take (i + 1) items)
   keys_of-counted n i within item_is acts written so_far =
       ap keys_of (own n i item_is acts written) ∙ keys_of-set_or_push_first_seen laws before items k n i within so_far

@@ -4,7 +4,8 @@ use Rattle.std.specs.List.{range_with_len}
 use Rattle.std.specs.Map.{values_of}
 use Rattle.linked_hash_map.specs.Pairs.{find, value_at}
 
-pub values_of-push : {K V : Type 0} (pairs : List (K × V)) (k : K) (v : V) → values_of (pairs ++ (k, v) ∷ []) ≡ values_of pairs ++ v ∷ []
+pub values_of-push : {K V : Type 0} (pairs : List (K × V)) (k : K) (v : V)
+    → values_of (pairs ++ (k, v) ∷ []) ≡ values_of pairs ++ v ∷ []
 values_of-push [] k v = refl
 values_of-push (pair ∷ pairs) k v = ap (λ vs. pair.1 ∷ vs) (values_of-push pairs k v)
 
@@ -16,7 +17,10 @@ range_with_len-push a (suc n) =
     ap (λ (i : ℕ). a ∷ (range_with_len (a + 1) n ++ i ∷ [])) next ∙ ap (λ xs. a ∷ xs) (range_with_len-push (a + 1) n) ∙ ap (range_with_len a) one
 
 -- the next number at the back. The first part shows `grind` the call to match
-pub values_of_dense_push : {K : Type 0} (pairs : List (K × ℕ)) (k : K) (n : ℕ) → n ≡ length pairs → values_of pairs ≡ range_with_len 0 (length pairs) → (pairs ++ (k, n) ∷ [] ≡ pairs ++ (k, n) ∷ []) × (values_of (pairs ++ (k, n) ∷ []) ≡ range_with_len 0 (length (pairs ++ (k, n) ∷ [])))
+pub values_of_dense_push : {K : Type 0} (pairs : List (K × ℕ)) (k : K) (n : ℕ) → n ≡ length pairs
+    → values_of pairs ≡ range_with_len 0 (length pairs)
+    → (pairs ++ (k, n) ∷ [] ≡ pairs ++ (k, n) ∷ [])
+    × (values_of (pairs ++ (k, n) ∷ []) ≡ range_with_len 0 (length (pairs ++ (k, n) ∷ [])))
 values_of_dense_push pairs k n next dense =
     let zero_more : n ≡ 0 + length pairs = omega arith in
     let longer : length pairs + 1 ≡ length (pairs ++ (k, n) ∷ []) = omega (arith, length-append pairs ((k, n) ∷ [])) in (
@@ -47,7 +51,9 @@ below {K = K} eq a (pair ∷ pairs) k dense = by_test (eq k pair.0) (below eq (a
     by_test true less = let is_own = own in omega arith
     by_test false less = weaker (find eq pairs k) less
 
-pub value_at_dense_below : {K : Type 0} (eq : K → K → Bool) (pairs : List (K × ℕ)) (k : K) → values_of pairs ≡ range_with_len 0 (length pairs) → IfSome (value_at eq pairs k) (λ n. n < length pairs)
+pub value_at_dense_below : {K : Type 0} (eq : K → K → Bool) (pairs : List (K × ℕ)) (k : K)
+    → values_of pairs ≡ range_with_len 0 (length pairs)
+    → IfSome (value_at eq pairs k) (λ n. n < length pairs)
 value_at_dense_below {K = K} eq pairs k dense = at_zero (find eq pairs k) (below eq 0 pairs k dense)
   where
     at_zero : (o : Option (K × ℕ)) → IfSome (option_map (λ (p : K × ℕ). p.1) o) (λ n. n < 0 + length pairs) → IfSome (option_map (λ (p : K × ℕ). p.1) o) (λ n. n < length pairs)
@@ -55,5 +61,8 @@ value_at_dense_below {K = K} eq pairs k dense = at_zero (find eq pairs k) (below
     at_zero (Some p) less = omega arith
 
 -- at every key at once; the first part shows `grind` the call to match
-pub value_at_dense_each : {K : Type 0} (eq : K → K → Bool) (pairs : List (K × ℕ)) (k : K) → values_of pairs ≡ range_with_len 0 (length pairs) → (value_at eq pairs k ≡ value_at eq pairs k) × ((n : ℕ) → value_at eq pairs k ≡ Some n → n < length pairs)
+pub value_at_dense_each : {K : Type 0} (eq : K → K → Bool) (pairs : List (K × ℕ)) (k : K)
+    → values_of pairs ≡ range_with_len 0 (length pairs)
+    → (value_at eq pairs k ≡ value_at eq pairs k)
+    × ((n : ℕ) → value_at eq pairs k ≡ Some n → n < length pairs)
 value_at_dense_each eq pairs k dense = (refl, λ n found. subst (λ (p : Option ℕ). IfSome p (λ m. m < length pairs)) found (value_at_dense_below eq pairs k dense))

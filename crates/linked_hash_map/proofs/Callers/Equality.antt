@@ -18,11 +18,17 @@ module _ {K V : Type 0} {eq : K → K → Bool} {value_eq : V → V → Bool} wh
       by_key false is same = absurd (true≢false (sym same))
 
   -- where `==` of keys and of values decides `≡`, that of maps decides it of their lists
-  pub eq-Decides : {S : Type 0} (m n : LinkedMap K V S) (r : Bool) → ((a b : K) → Decides (eq a b) (a ≡ b)) → ((a b : V) → Decides (value_eq a b) (a ≡ b)) → r ≡ pointwise (same_pair eq value_eq) m.pairs n.pairs → Decides r (m.pairs ≡ n.pairs)
+  pub eq-Decides : {S : Type 0} (m n : LinkedMap K V S) (r : Bool)
+      → ((a b : K) → Decides (eq a b) (a ≡ b)) → ((a b : V) → Decides (value_eq a b) (a ≡ b))
+      → r ≡ pointwise (same_pair eq value_eq) m.pairs n.pairs → Decides r (m.pairs ≡ n.pairs)
   eq-Decides m n r keys values told = slice_eq-Decides (same_pair-Decides keys values) m.pairs n.pairs r told
 
 -- where clones of keys and values are what they were made from, a clone has the same list
-pub pairs-clone : {K V S : Type 0} {eq : K → K → Bool} → IsEquivalence eq → {IsKeyClone : K → K → Type 0} {IsValueClone : V → V → Type 0} {IsHasherClone : S → S → Type 0} → ((k clone : K) → IsKeyClone k clone → clone ≡ k) → ((v clone : V) → IsValueClone v clone → clone ≡ v) → {m n : LinkedMap K V S} → IsClone eq IsKeyClone IsValueClone IsHasherClone m n → n.pairs ≡ m.pairs
+pub pairs-clone : {K V S : Type 0} {eq : K → K → Bool} → IsEquivalence eq
+    → {IsKeyClone : K → K → Type 0} {IsValueClone : V → V → Type 0} {IsHasherClone : S → S → Type 0}
+    → ((k clone : K) → IsKeyClone k clone → clone ≡ k)
+    → ((v clone : V) → IsValueClone v clone → clone ≡ v) → {m n : LinkedMap K V S}
+    → IsClone eq IsKeyClone IsValueClone IsHasherClone m n → n.pairs ≡ m.pairs
 pairs-clone {eq = eq} laws {IsKeyClone} {IsValueClone} keys values {m} {n} cloned =
     entries_from_clone IsKeyClone IsValueClone keys values m.pairs n.pairs
     (cloned.in_order (λ k clone is. subst (λ j. eq k j ≡ true) (sym (keys k clone is)) (laws.refl k)))

@@ -23,14 +23,21 @@ use Rattle.linked_hash_map.proofs.Callers.Collected.{insert_each-distinct, lengt
 
 module _ {T I X K V : Type 0} {becomes : T → I → Type 0} {steps : I → Option X → I → Type 0} {source : T} {eq : K → K → Bool} {shows : X → K × V} {all : List (K × V)} where
   -- `extend` of any source whose items are known
-  pub pairs-InsertsAll : {mode : Mode} {old new : List (K × V)} → InsertsAll becomes steps source eq shows mode old new → ((it : I) → becomes source it → YieldsList steps shows it all) → new ≡ insert_each eq mode old all
+  pub pairs-InsertsAll : {mode : Mode} {old new : List (K × V)}
+      → InsertsAll becomes steps source eq shows mode old new
+      → ((it : I) → becomes source it → YieldsList steps shows it all)
+      → new ≡ insert_each eq mode old all
   pairs-InsertsAll {mode} {old} inserts each =
       let gives = inserts.gives in
       let drains = gives.gives.1 in
       inserts.pairs ∙ ap (insert_each eq mode old) (YieldsList-end (each gives.iterator gives.made) inserts.given drains.0 drains.1 None gives.gives.0 refl drains.2).0
 
   -- and where it was refused: the first items went in, and the next is the one that came back
-  pub pairs-InsertsUntil : {mode : Mode} {old new : List (K × V)} {key : K} {value : V} (inserts : InsertsUntil becomes steps source eq shows mode old new key value) → ((it : I) → becomes source it → YieldsList steps shows it all) → (new ≡ insert_each eq mode old (take (length inserts.given) all)) × (slice_get all (length inserts.given) ≡ Some (key, value))
+  pub pairs-InsertsUntil : {mode : Mode} {old new : List (K × V)} {key : K} {value : V}
+      (inserts : InsertsUntil becomes steps source eq shows mode old new key value)
+      → ((it : I) → becomes source it → YieldsList steps shows it all)
+      → (new ≡ insert_each eq mode old (take (length inserts.given) all))
+      × (slice_get all (length inserts.given) ≡ Some (key, value))
   pairs-InsertsUntil {mode} {old} inserts each =
       let gives = inserts.gives in
       let yields = gives.gives in
@@ -41,7 +48,8 @@ module _ {T I X K V : Type 0} {becomes : T → I → Type 0} {steps : I → Opti
 
 module _ {T I K V : Type 0} {becomes : T → I → Type 0} {steps : I → Option (K × V) → I → Type 0} {source : T} {remaining : I → Count} {eq : K → K → Bool} {pairs : List (K × V)} {capacity rechained : ℕ} where
   -- `from_iter` inserts as `extend` of a new map does
-  pub InsertsAll-Collects : Collects becomes steps source remaining eq pairs capacity rechained → InsertsAll becomes steps source eq (λ pair. pair) Touch [] pairs
+  pub InsertsAll-Collects : Collects becomes steps source remaining eq pairs capacity rechained
+      → InsertsAll becomes steps source eq (λ pair. pair) Touch [] pairs
   InsertsAll-Collects collects = record {
     given = collects.given;
     gives = record { iterator = collects.iterator; made = collects.made; gives = collects.gives };
@@ -50,7 +58,10 @@ module _ {T I K V : Type 0} {becomes : T → I → Type 0} {steps : I → Option
 
   -- if at most n items are left to come, it rehashed what growing to the capacity does, from room
   -- for at most n
-  pub rechained-Collects : (n : ℕ) → Collects becomes steps source remaining eq pairs capacity rechained → GivesAtMost becomes remaining source n → (lower : ℕ) × (lower ≤ n) × (rechained ≡ rechained_each 0 lower (capacity - lower))
+  pub rechained-Collects : (n : ℕ)
+      → Collects becomes steps source remaining eq pairs capacity rechained
+      → GivesAtMost becomes remaining source n
+      → (lower : ℕ) × (lower ≤ n) × (rechained ≡ rechained_each 0 lower (capacity - lower))
   rechained-Collects n collects left =
       let bound = left collects.iterator collects.made in
       let lower = collects.hint bound.0 in
@@ -58,12 +69,15 @@ module _ {T I K V : Type 0} {becomes : T → I → Type 0} {steps : I → Option
 
   module _ {all : List (K × V)} (laws : IsEquivalence eq) (collects : Collects becomes steps source remaining eq pairs capacity rechained) where
     -- `from_iter` of any source whose items are known
-    pub pairs-Collects : ((it : I) → becomes source it → YieldsList steps (λ pair. pair) it all) → pairs ≡ insert_each eq Touch [] all
+    pub pairs-Collects : ((it : I) → becomes source it → YieldsList steps (λ pair. pair) it all)
+        → pairs ≡ insert_each eq Touch [] all
     pairs-Collects each = pairs-InsertsAll (InsertsAll-Collects collects) each
 
     -- where no more items are left to come than come, the capacity is no more than the number of
     -- items
-    pub capacity-Collects : ((it : I) → becomes source it → YieldsList steps (λ pair. pair) it all) → GivesAtMost becomes remaining source (length all) → (length pairs ≤ capacity) × (capacity ≤ length all)
+    pub capacity-Collects : ((it : I) → becomes source it → YieldsList steps (λ pair. pair) it all)
+        → GivesAtMost becomes remaining source (length all)
+        → (length pairs ≤ capacity) × (capacity ≤ length all)
     capacity-Collects each left =
         let bound = left collects.iterator collects.made in
         let lower = collects.hint bound.0 in
@@ -73,10 +87,15 @@ module _ {T I K V : Type 0} {becomes : T → I → Type 0} {steps : I → Option
         (omega arith, omega arith)
 
     -- and where their keys differ, it is that number, and the pairs are the items
-    pub pairs-Collects_distinct : ((it : I) → becomes source it → YieldsList steps (λ pair. pair) it all) → IsDistinct eq (keys_of all) → pairs ≡ all
+    pub pairs-Collects_distinct : ((it : I) → becomes source it
+        → YieldsList steps (λ pair. pair) it all)
+        → IsDistinct eq (keys_of all) → pairs ≡ all
     pairs-Collects_distinct each distinct = pairs-Collects each ∙ insert_each-distinct laws Touch all distinct
 
-    pub capacity-Collects_distinct : ((it : I) → becomes source it → YieldsList steps (λ pair. pair) it all) → IsDistinct eq (keys_of all) → GivesAtMost becomes remaining source (length all) → capacity ≡ length all
+    pub capacity-Collects_distinct : ((it : I) → becomes source it
+        → YieldsList steps (λ pair. pair) it all)
+        → IsDistinct eq (keys_of all) → GivesAtMost becomes remaining source (length all)
+        → capacity ≡ length all
     capacity-Collects_distinct each distinct left =
         let bounds = capacity-Collects each left in
         let length_is = ap length (pairs-Collects_distinct each distinct) in
@@ -84,23 +103,38 @@ module _ {T I K V : Type 0} {becomes : T → I → Type 0} {steps : I → Option
 
 -- where there is room for each item, as after `with_capacity` of their number, `extend` leaves the
 -- capacity
-pub capacity-insert_each : {K V : Type 0} {eq : K → K → Bool} → IsEquivalence eq → (mode : Mode) (pairs items : List (K × V)) (capacity : ℕ) → IsDistinct eq (keys_of pairs) → length pairs + length items ≤ capacity → max capacity (length (insert_each eq mode pairs items)) ≡ capacity
+pub capacity-insert_each : {K V : Type 0} {eq : K → K → Bool} → IsEquivalence eq
+    → (mode : Mode) (pairs items : List (K × V)) (capacity : ℕ) → IsDistinct eq (keys_of pairs)
+    → length pairs + length items ≤ capacity
+    → max capacity (length (insert_each eq mode pairs items)) ≡ capacity
 capacity-insert_each laws mode pairs items capacity distinct enough = let most = length-insert_each_most laws mode pairs items distinct in omega arith
 
 -- `extend` of a map by value, or by reference: of any source that becomes a list which shows what
 -- is left
-pub pairs-InsertsAll_list : {T X K V : Type 0} {becomes : T → List (K × V) → Type 0} {source : T} {eq : K → K → Bool} {shows : X → K × V} {mode : Mode} {old new : List (K × V)} (all : List (K × V)) → InsertsAll becomes (TakesFirst shows) source eq shows mode old new → ((it : List (K × V)) → becomes source it → it ≡ all) → new ≡ insert_each eq mode old all
+pub pairs-InsertsAll_list : {T X K V : Type 0} {becomes : T → List (K × V) → Type 0} {source : T}
+    {eq : K → K → Bool} {shows : X → K × V} {mode : Mode} {old new : List (K × V)}
+    (all : List (K × V))
+    → InsertsAll becomes (TakesFirst shows) source eq shows mode old new
+    → ((it : List (K × V)) → becomes source it → it ≡ all) → new ≡ insert_each eq mode old all
 pairs-InsertsAll_list all inserts is = pairs-InsertsAll inserts (λ it made. YieldsList-from_rest all (is it made))
 
 -- and where the keys of that list differ, as those of a map do: its values win, and in Keep the old
 -- keys stand before the new
 module _ {T K V : Type 0} {becomes : T → List (K × V) → Type 0} {source : T} {eq : K → K → Bool} (laws : IsEquivalence eq) {mode : Mode} {old new : List (K × V)} (all : List (K × V)) where
-  pub value_at-InsertsAll_distinct : (q : K) → InsertsAll becomes (TakesFirst (λ (pair : K × V). pair)) source eq (λ pair. pair) mode old new → ((it : List (K × V)) → becomes source it → (it ≡ all) × IsDistinct eq (keys_of all)) → value_at eq new q ≡ option_or (value_at eq all q) (value_at eq old q)
+  pub value_at-InsertsAll_distinct : (q : K)
+      → InsertsAll becomes (TakesFirst (λ (pair : K × V). pair)) source eq (λ pair. pair)
+      mode old new
+      → ((it : List (K × V)) → becomes source it → (it ≡ all) × IsDistinct eq (keys_of all))
+      → value_at eq new q ≡ option_or (value_at eq all q) (value_at eq old q)
   value_at-InsertsAll_distinct q inserts is =
       ap (λ ps. value_at eq ps q) (pairs-InsertsAll_list all inserts (λ it made. (is it made).0))
       ∙ value_at-insert_each_distinct laws mode old all q (is inserts.gives.iterator inserts.gives.made).1
 
-  pub keys_of-InsertsAll_keep : InsertsAll becomes (TakesFirst (λ (pair : K × V). pair)) source eq (λ pair. pair) mode old new → ((it : List (K × V)) → becomes source it → (it ≡ all) × IsDistinct eq (keys_of all)) → mode ≡ Keep → keys_of new ≡ keys_of old ++ filter (λ k. not (is_some (find eq old k))) (keys_of all)
+  pub keys_of-InsertsAll_keep : InsertsAll becomes (TakesFirst (λ (pair : K × V). pair)) source eq
+      (λ pair. pair) mode old new
+      → ((it : List (K × V)) → becomes source it → (it ≡ all) × IsDistinct eq (keys_of all))
+      → mode ≡ Keep
+      → keys_of new ≡ keys_of old ++ filter (λ k. not (is_some (find eq old k))) (keys_of all)
   keys_of-InsertsAll_keep inserts is keep =
       ap keys_of (pairs-InsertsAll_list all inserts (λ it made. (is it made).0))
       ∙ ap (λ m. keys_of (insert_each eq m old all)) keep
@@ -111,7 +145,8 @@ module _ {T Z K V : Type 0} (becomes : T → _ → Type 0) (source : T) (vec : V
   yields : (it : _) → becomes source it → YieldsList into_iter_steps (λ pair. pair) it (vec_items vec)
   yields it made = let told = is it made in YieldsList-from_vec {s = it} (vec_items vec) told.0 (omega (arith, told.1, vec.ok.0))
 
-  pub GivesAtMost-vec : GivesAtMost becomes (λ it. at_most (into_iter_len it)) source (length (vec_items vec))
+  pub GivesAtMost-vec : GivesAtMost becomes (λ it. at_most (into_iter_len it)) source
+      (length (vec_items vec))
   GivesAtMost-vec it made = let told = is it made in (tt, omega (arith, told.1, vec.ok.0))
 
 -- `extend` of a vector, and `from_iter` of one

@@ -47,17 +47,22 @@ module _ {K V : Type 0} (eq : K → K → Bool) (pairs : List (K × V)) (k : K) 
   pub without-absent : find eq pairs k ≡ None → without eq pairs k ≡ pairs
   without-absent none = filter-none (eq k) pairs none
 
-  pub to_back-absent : (v : V) → find eq pairs k ≡ None → to_back eq pairs k v ≡ pairs ++ (k, v) ∷ []
+  pub to_back-absent : (v : V) → find eq pairs k ≡ None
+      → to_back eq pairs k v ≡ pairs ++ (k, v) ∷ []
   to_back-absent v none = ap₂ (λ ps o. ps ++ (key_or k o, v) ∷ []) (without-absent none) none
 
-  pub set_or_push-absent : (v : V) → find eq pairs k ≡ None → set_or_push eq pairs k v ≡ pairs ++ (k, v) ∷ []
+  pub set_or_push-absent : (v : V) → find eq pairs k ≡ None
+      → set_or_push eq pairs k v ≡ pairs ++ (k, v) ∷ []
   set_or_push-absent v none = ap (λ o. cond (is_some o) (set_value eq pairs k v) (pairs ++ (k, v) ∷ [])) none
 
   -- and with one that is present
-  pub set_or_push-present : (v : V) → IsSome (find eq pairs k) → set_or_push eq pairs k v ≡ set_value eq pairs k v
+  pub set_or_push-present : (v : V) → IsSome (find eq pairs k)
+      → set_or_push eq pairs k v ≡ set_value eq pairs k v
   set_or_push-present v found = ap (λ b. cond b (set_value eq pairs k v) (pairs ++ (k, v) ∷ [])) found
 
-pub put-absent : {K V : Type 0} (eq : K → K → Bool) (mode : Mode) (pairs : List (K × V)) (k : K) (v : V) → find eq pairs k ≡ None → put eq mode pairs k v ≡ pairs ++ (k, v) ∷ []
+pub put-absent : {K V : Type 0} (eq : K → K → Bool) (mode : Mode) (pairs : List (K × V))
+    (k : K) (v : V)
+    → find eq pairs k ≡ None → put eq mode pairs k v ≡ pairs ++ (k, v) ∷ []
 put-absent eq Touch = to_back-absent eq
 put-absent eq Keep = set_or_push-absent eq
 
@@ -71,15 +76,19 @@ keys_of-filter kept (pair ∷ pairs) = by_test (kept pair.0) (keys_of-filter kep
     by_test false rest = rest
 
 module _ {K V : Type 0} (eq : K → K → Bool) where
-  pub keys_of-without : (pairs : List (K × V)) (k : K) → keys_of (without eq pairs k) ≡ filter (λ j. not (eq k j)) (keys_of pairs)
+  pub keys_of-without : (pairs : List (K × V)) (k : K)
+      → keys_of (without eq pairs k) ≡ filter (λ j. not (eq k j)) (keys_of pairs)
   keys_of-without pairs k = keys_of-filter (λ j. not (eq k j)) pairs
 
-  pub keys_of-to_back : (pairs : List (K × V)) (k : K) (v : V) → keys_of (to_back eq pairs k v) ≡ filter (λ j. not (eq k j)) (keys_of pairs) ++ key_or k (find eq pairs k) ∷ []
+  pub keys_of-to_back : (pairs : List (K × V)) (k : K) (v : V)
+      → keys_of (to_back eq pairs k v)
+      ≡ filter (λ j. not (eq k j)) (keys_of pairs) ++ key_or k (find eq pairs k) ∷ []
   keys_of-to_back pairs k v =
       map-append (λ (pair : K × V). pair.0) (without eq pairs k) ((key_or k (find eq pairs k), v) ∷ [])
       ∙ ap (λ ks. ks ++ key_or k (find eq pairs k) ∷ []) (keys_of-without pairs k)
 
-  pub keys_of-set_value : (pairs : List (K × V)) (k : K) (v : V) → keys_of (set_value eq pairs k v) ≡ keys_of pairs
+  pub keys_of-set_value : (pairs : List (K × V)) (k : K) (v : V)
+      → keys_of (set_value eq pairs k v) ≡ keys_of pairs
   keys_of-set_value [] k v = refl
   keys_of-set_value (pair ∷ pairs) k v = ap₂ (λ j ks. j ∷ ks) (by_test (eq k pair.0)) (keys_of-set_value pairs k v)
     where
@@ -87,7 +96,9 @@ module _ {K V : Type 0} (eq : K → K → Bool) where
       by_test true = refl
       by_test false = refl
 
-  pub keys_of-set_or_push : (pairs : List (K × V)) (k : K) (v : V) → keys_of (set_or_push eq pairs k v) ≡ cond (is_some (find eq pairs k)) (keys_of pairs) (keys_of pairs ++ k ∷ [])
+  pub keys_of-set_or_push : (pairs : List (K × V)) (k : K) (v : V)
+      → keys_of (set_or_push eq pairs k v)
+      ≡ cond (is_some (find eq pairs k)) (keys_of pairs) (keys_of pairs ++ k ∷ [])
   keys_of-set_or_push pairs k v = by_test (is_some (find eq pairs k))
     where
       by_test : (b : Bool) → keys_of (cond b (set_value eq pairs k v) (pairs ++ (k, v) ∷ [])) ≡ cond b (keys_of pairs) (keys_of pairs ++ k ∷ [])
@@ -95,42 +106,54 @@ module _ {K V : Type 0} (eq : K → K → Bool) where
       by_test false = map-append (λ (pair : K × V). pair.0) pairs ((k, v) ∷ [])
 
 -- where equality decides `≡`, the key that goes to the back is the key of the call
-pub keys_of-to_back_own : {K V : Type 0} {eq : K → K → Bool} → IsEquivalence eq → (pairs : List (K × V)) (k : K) (v : V) → ((a b : K) → IsTrue (eq a b) → a ≡ b) → keys_of (to_back eq pairs k v) ≡ filter (λ j. not (eq k j)) (keys_of pairs) ++ k ∷ []
+pub keys_of-to_back_own : {K V : Type 0} {eq : K → K → Bool} → IsEquivalence eq
+    → (pairs : List (K × V)) (k : K) (v : V) → ((a b : K) → IsTrue (eq a b) → a ≡ b)
+    → keys_of (to_back eq pairs k v) ≡ filter (λ j. not (eq k j)) (keys_of pairs) ++ k ∷ []
 keys_of-to_back_own {eq = eq} laws pairs k v decides =
     keys_of-to_back eq pairs k v
     ∙ ap (λ key. filter (λ j. not (eq k j)) (keys_of pairs) ++ key ∷ []) (sym (decides k (key_or k (find eq pairs k)) (eq-stored laws pairs k)))
 
 -- how many there are
 module _ {K V : Type 0} (eq : K → K → Bool) where
-  pub length-set_value : (pairs : List (K × V)) (k : K) (v : V) → length (set_value eq pairs k v) ≡ length pairs
+  pub length-set_value : (pairs : List (K × V)) (k : K) (v : V)
+      → length (set_value eq pairs k v) ≡ length pairs
   length-set_value [] k v = refl
   length-set_value (pair ∷ pairs) k v = ap suc (length-set_value pairs k v)
 
-  pub length-set_or_push : (pairs : List (K × V)) (k : K) (v : V) → length (set_or_push eq pairs k v) ≡ cond (is_some (find eq pairs k)) (length pairs) (length pairs + 1)
+  pub length-set_or_push : (pairs : List (K × V)) (k : K) (v : V)
+      → length (set_or_push eq pairs k v)
+      ≡ cond (is_some (find eq pairs k)) (length pairs) (length pairs + 1)
   length-set_or_push pairs k v = by_test (is_some (find eq pairs k))
     where
       by_test : (b : Bool) → length (cond b (set_value eq pairs k v) (pairs ++ (k, v) ∷ [])) ≡ cond b (length pairs) (length pairs + 1)
       by_test true = length-set_value pairs k v
       by_test false = let longer = length-append pairs ((k, v) ∷ []) in omega arith
 
-  pub length-without_absent : (pairs : List (K × V)) (k : K) → find eq pairs k ≡ None → length (without eq pairs k) ≡ length pairs
+  pub length-without_absent : (pairs : List (K × V)) (k : K) → find eq pairs k ≡ None
+      → length (without eq pairs k) ≡ length pairs
   length-without_absent pairs k none = ap length (without-absent eq pairs k none)
 
   -- in either mode
-  pub length-put_absent : (mode : Mode) (pairs : List (K × V)) (k : K) (v : V) → find eq pairs k ≡ None → length (put eq mode pairs k v) ≡ length pairs + 1
+  pub length-put_absent : (mode : Mode) (pairs : List (K × V)) (k : K) (v : V)
+      → find eq pairs k ≡ None → length (put eq mode pairs k v) ≡ length pairs + 1
   length-put_absent mode pairs k v none =
       let pushed = ap length (put-absent eq mode pairs k v none) in
       let longer = length-append pairs ((k, v) ∷ []) in
       omega arith
 
 module _ {K V : Type 0} {eq : K → K → Bool} (laws : IsEquivalence eq) where
-  pub length-without_present : (pairs : List (K × V)) (k : K) → IsDistinct eq (keys_of pairs) → IsSome (find eq pairs k) → length (without eq pairs k) + 1 ≡ length pairs
+  pub length-without_present : (pairs : List (K × V)) (k : K) → IsDistinct eq (keys_of pairs)
+      → IsSome (find eq pairs k) → length (without eq pairs k) + 1 ≡ length pairs
   length-without_present pairs k distinct found = subst (λ (b : Bool). length (without eq pairs k) + cond b 1 0 ≡ length pairs) found (length-without laws pairs k distinct)
 
-  pub length-put_present : (mode : Mode) (pairs : List (K × V)) (k : K) (v : V) → IsDistinct eq (keys_of pairs) → IsSome (find eq pairs k) → length (put eq mode pairs k v) ≡ length pairs
+  pub length-put_present : (mode : Mode) (pairs : List (K × V)) (k : K) (v : V)
+      → IsDistinct eq (keys_of pairs) → IsSome (find eq pairs k)
+      → length (put eq mode pairs k v) ≡ length pairs
   length-put_present mode pairs k v distinct found = length-put laws mode pairs k v distinct ∙ ap (λ b. cond b (length pairs) (length pairs + 1)) found
 
-  pub length-to_back_present : (pairs : List (K × V)) (k : K) (v : V) → IsDistinct eq (keys_of pairs) → IsSome (find eq pairs k) → length (to_back eq pairs k v) ≡ length pairs
+  pub length-to_back_present : (pairs : List (K × V)) (k : K) (v : V)
+      → IsDistinct eq (keys_of pairs) → IsSome (find eq pairs k)
+      → length (to_back eq pairs k v) ≡ length pairs
   length-to_back_present = length-put_present Touch
 
 -- one more pair at most
@@ -138,17 +161,22 @@ most : (b : Bool) (n length_after : ℕ) → length_after ≡ cond b n (n + 1) �
 most true n length_after h = omega arith
 most false n length_after h = omega arith
 
-pub length-set_or_push_most : {K V : Type 0} (eq : K → K → Bool) (pairs : List (K × V)) (k : K) (v : V) → length (set_or_push eq pairs k v) ≤ length pairs + 1
+pub length-set_or_push_most : {K V : Type 0} (eq : K → K → Bool) (pairs : List (K × V))
+    (k : K) (v : V)
+    → length (set_or_push eq pairs k v) ≤ length pairs + 1
 length-set_or_push_most eq pairs k v = most (is_some (find eq pairs k)) (length pairs) (length (set_or_push eq pairs k v)) (length-set_or_push eq pairs k v)
 
 pub distinct-nil : {K : Type 0} (eq : K → K → Bool) (V : Type 0) → IsDistinct eq (keys_of {X = V} [])
 unfolding IsDistinct
 distinct-nil eq V = tt
 
-pub distinct-set_value : {K V : Type 0} (eq : K → K → Bool) (pairs : List (K × V)) (k : K) (v : V) → IsDistinct eq (keys_of pairs) → IsDistinct eq (keys_of (set_value eq pairs k v))
+pub distinct-set_value : {K V : Type 0} (eq : K → K → Bool) (pairs : List (K × V)) (k : K) (v : V)
+    → IsDistinct eq (keys_of pairs) → IsDistinct eq (keys_of (set_value eq pairs k v))
 distinct-set_value eq pairs k v distinct = subst (IsDistinct eq) (sym (keys_of-set_value eq pairs k v)) distinct
 
-pub distinct-set_or_push : {K V : Type 0} {eq : K → K → Bool} → IsEquivalence eq → (pairs : List (K × V)) (k : K) (v : V) → IsDistinct eq (keys_of pairs) → IsDistinct eq (keys_of (set_or_push eq pairs k v))
+pub distinct-set_or_push : {K V : Type 0} {eq : K → K → Bool} → IsEquivalence eq
+    → (pairs : List (K × V)) (k : K) (v : V) → IsDistinct eq (keys_of pairs)
+    → IsDistinct eq (keys_of (set_or_push eq pairs k v))
 distinct-set_or_push {K} {V} {eq} laws pairs k v distinct = by_pair (find eq pairs k) refl
   where
     by_pair : (o : Option (K × V)) → find eq pairs k ≡ o → IsDistinct eq (keys_of (cond (is_some o) (set_value eq pairs k v) (pairs ++ (k, v) ∷ [])))
@@ -165,5 +193,6 @@ find_drop test (suc n) (pair ∷ pairs) none = find_drop test n pairs (by_test (
     by_test true h = absurd (true≢false (ap is_some h))
     by_test false h = h
 
-pub find-drop : {K V : Type 0} (eq : K → K → Bool) (pairs : List (K × V)) (k : K) (n : ℕ) → find eq pairs k ≡ None → find eq (drop n pairs) k ≡ None
+pub find-drop : {K V : Type 0} (eq : K → K → Bool) (pairs : List (K × V)) (k : K) (n : ℕ)
+    → find eq pairs k ≡ None → find eq (drop n pairs) k ≡ None
 find-drop eq pairs k n absent = find_drop (eq k) n pairs absent

@@ -30,7 +30,9 @@ option_map-cond f true x y = refl
 option_map-cond f false x y = refl
 
 -- a look-up in two lists, one after the other
-pub lookup_entry-append : {K V : Type 0} (test : K → Bool) (pairs others : List (K × V)) → lookup_entry test (pairs ++ others) ≡ option_or (lookup_entry test pairs) (lookup_entry test others)
+pub lookup_entry-append : {K V : Type 0} (test : K → Bool) (pairs others : List (K × V))
+    → lookup_entry test (pairs ++ others)
+    ≡ option_or (lookup_entry test pairs) (lookup_entry test others)
 lookup_entry-append test [] others = refl
 lookup_entry-append test (pair ∷ pairs) others = by_test (test pair.0) (lookup_entry-append test pairs others)
   where
@@ -44,7 +46,9 @@ option_map-option_or f (Some x) y = refl
 
 -- the value of a key in a list with one pair more at its end: what it has among the others, and
 -- else that of the last pair
-pub value_at-append : {K V : Type 0} (eq : K → K → Bool) (pairs : List (K × V)) (k q : K) (v : V) → value_at eq (pairs ++ (k, v) ∷ []) q ≡ option_or (value_at eq pairs q) (cond (eq q k) (Some v) None)
+pub value_at-append : {K V : Type 0} (eq : K → K → Bool) (pairs : List (K × V)) (k q : K) (v : V)
+    → value_at eq (pairs ++ (k, v) ∷ []) q
+    ≡ option_or (value_at eq pairs q) (cond (eq q k) (Some v) None)
 value_at-append eq pairs k q v =
     ap (option_map (λ pair. pair.1)) (lookup_entry-append (eq q) pairs ((k, v) ∷ []))
     ∙ option_map-option_or (λ pair. pair.1) (lookup_entry (eq q) pairs) (cond (eq q k) (Some (k, v)) None)
@@ -76,14 +80,17 @@ alike laws k q j same = laws.symm k j ∙ sym (laws.congr q j k same) ∙ laws.s
 
 module _ {K V : Type 0} {eq : K → K → Bool} (laws : IsEquivalence eq) where
   -- two names of one key find one pair, and one value
-  pub find-same : (pairs : List (K × V)) (j k : K) → eq j k ≡ true → find eq pairs j ≡ find eq pairs k
+  pub find-same : (pairs : List (K × V)) (j k : K) → eq j k ≡ true
+      → find eq pairs j ≡ find eq pairs k
   find-same pairs j k same = ap (λ test. lookup_entry test pairs) (same_test laws j k same)
 
-  pub value_at-same : (pairs : List (K × V)) (j k : K) → eq j k ≡ true → value_at eq pairs j ≡ value_at eq pairs k
+  pub value_at-same : (pairs : List (K × V)) (j k : K) → eq j k ≡ true
+      → value_at eq pairs j ≡ value_at eq pairs k
   value_at-same pairs j k same = ap (option_map (λ pair. pair.1)) (find-same pairs j k same)
 
   -- the key of the pair that is found is the key asked for
-  pub eq-find : (pairs : List (K × V)) (k : K) (pair : K × V) → find eq pairs k ≡ Some pair → eq k pair.0 ≡ true
+  pub eq-find : (pairs : List (K × V)) (k : K) (pair : K × V) → find eq pairs k ≡ Some pair
+      → eq k pair.0 ≡ true
   eq-find [] k pair found = absurd (true≢false (sym (ap is_some found)))
   eq-find (first ∷ pairs) k pair found = by_test (eq k first.0) refl found (eq-find pairs k pair)
     where
@@ -100,7 +107,8 @@ module _ {K V : Type 0} {eq : K → K → Bool} (laws : IsEquivalence eq) where
   eq-stored pairs k = eq-key_or k (find eq pairs k) (eq-find pairs k)
 
   -- after `remove`
-  pub find-without : (pairs : List (K × V)) (k q : K) → find eq (without eq pairs k) q ≡ cond (eq k q) None (find eq pairs q)
+  pub find-without : (pairs : List (K × V)) (k q : K)
+      → find eq (without eq pairs k) q ≡ cond (eq k q) None (find eq pairs q)
   find-without pairs k q =
       lookup_entry-filter (eq q) (λ j. not (eq k j)) (not (eq k q)) (λ j same. ap not (alike laws k q j same)) pairs
       ∙ cond-none (eq k q) (find eq pairs q)
@@ -110,7 +118,9 @@ module _ {K V : Type 0} {eq : K → K → Bool} (laws : IsEquivalence eq) where
   pushed q key v false o same = ap (λ b. option_or o (cond b (Some (key, v)) None)) same ∙ option_or_none o
 
   -- after `insert`
-  pub find-to_back : (pairs : List (K × V)) (k q : K) (v : V) → find eq (to_back eq pairs k v) q ≡ cond (eq k q) (Some (key_or k (find eq pairs k), v)) (find eq pairs q)
+  pub find-to_back : (pairs : List (K × V)) (k q : K) (v : V)
+      → find eq (to_back eq pairs k v) q
+      ≡ cond (eq k q) (Some (key_or k (find eq pairs k), v)) (find eq pairs q)
   find-to_back pairs k q v =
       let key = key_or k (find eq pairs k) in
       lookup_entry-append (eq q) (without eq pairs k) ((key, v) ∷ [])
@@ -118,7 +128,9 @@ module _ {K V : Type 0} {eq : K → K → Bool} (laws : IsEquivalence eq) where
       ∙ pushed q key v (eq k q) (find eq pairs q) (laws.symm q key ∙ sym (laws.congr k key q (eq-stored pairs k)))
 
   -- after a value is written, as through `get_mut`
-  pub find-set_value : (pairs : List (K × V)) (k q : K) (v : V) → find eq (set_value eq pairs k v) q ≡ cond (eq k q) (option_map (λ pair. (pair.0, v)) (find eq pairs q)) (find eq pairs q)
+  pub find-set_value : (pairs : List (K × V)) (k q : K) (v : V)
+      → find eq (set_value eq pairs k v) q
+      ≡ cond (eq k q) (option_map (λ pair. (pair.0, v)) (find eq pairs q)) (find eq pairs q)
   find-set_value [] k q v = elim (eq k q) as (λ b. None ≡ cond {A = Option (K × V)} b None None) [ true ↦ refl | false ↦ refl ]
   find-set_value (pair ∷ pairs) k q v = by_test (eq k pair.0) (eq q pair.0) refl refl (find-set_value pairs k q v)
     where
@@ -136,7 +148,9 @@ module _ {K V : Type 0} {eq : K → K → Bool} (laws : IsEquivalence eq) where
       by_test false false is passes rest = ap (λ c. cond c (Some pair) (find eq (set_value eq pairs k v) q)) passes ∙ rest
 
   -- after a value is written through what `or_insert` lends
-  pub find-set_or_push : (pairs : List (K × V)) (k q : K) (v : V) → find eq (set_or_push eq pairs k v) q ≡ cond (eq k q) (Some (key_or k (find eq pairs k), v)) (find eq pairs q)
+  pub find-set_or_push : (pairs : List (K × V)) (k q : K) (v : V)
+      → find eq (set_or_push eq pairs k v) q
+      ≡ cond (eq k q) (Some (key_or k (find eq pairs k), v)) (find eq pairs q)
   find-set_or_push pairs k q v = by_pair (find eq pairs k) refl
     where
       present : (b : Bool) (pair : K × V) → eq k q ≡ b → find eq pairs k ≡ Some pair → cond b (option_map (λ p. (p.0, v)) (find eq pairs q)) (find eq pairs q) ≡ cond b (Some (pair.0, v)) (find eq pairs q)
@@ -155,25 +169,31 @@ module _ {K V : Type 0} {eq : K → K → Bool} (laws : IsEquivalence eq) where
       by_pair (Some pair) found = find-set_value pairs k q v ∙ present (eq k q) pair refl found
 
   -- after `insert` in either mode
-  pub find-put : (mode : Mode) (pairs : List (K × V)) (k q : K) (v : V) → find eq (put eq mode pairs k v) q ≡ cond (eq k q) (Some (key_or k (find eq pairs k), v)) (find eq pairs q)
+  pub find-put : (mode : Mode) (pairs : List (K × V)) (k q : K) (v : V)
+      → find eq (put eq mode pairs k v) q
+      ≡ cond (eq k q) (Some (key_or k (find eq pairs k), v)) (find eq pairs q)
   find-put Touch = find-to_back
   find-put Keep = find-set_or_push
 
   -- the value that a key has after each of these
-  pub value_at-without : (pairs : List (K × V)) (k q : K) → value_at eq (without eq pairs k) q ≡ cond (eq k q) None (value_at eq pairs q)
+  pub value_at-without : (pairs : List (K × V)) (k q : K)
+      → value_at eq (without eq pairs k) q ≡ cond (eq k q) None (value_at eq pairs q)
   value_at-without pairs k q = ap (option_map (λ pair. pair.1)) (find-without pairs k q) ∙ option_map-cond (λ pair. pair.1) (eq k q) None (find eq pairs q)
 
-  pub value_at-to_back : (pairs : List (K × V)) (k q : K) (v : V) → value_at eq (to_back eq pairs k v) q ≡ cond (eq k q) (Some v) (value_at eq pairs q)
+  pub value_at-to_back : (pairs : List (K × V)) (k q : K) (v : V)
+      → value_at eq (to_back eq pairs k v) q ≡ cond (eq k q) (Some v) (value_at eq pairs q)
   value_at-to_back pairs k q v =
       ap (option_map (λ pair. pair.1)) (find-to_back pairs k q v)
       ∙ option_map-cond (λ pair. pair.1) (eq k q) (Some (key_or k (find eq pairs k), v)) (find eq pairs q)
 
-  pub value_at-set_or_push : (pairs : List (K × V)) (k q : K) (v : V) → value_at eq (set_or_push eq pairs k v) q ≡ cond (eq k q) (Some v) (value_at eq pairs q)
+  pub value_at-set_or_push : (pairs : List (K × V)) (k q : K) (v : V)
+      → value_at eq (set_or_push eq pairs k v) q ≡ cond (eq k q) (Some v) (value_at eq pairs q)
   value_at-set_or_push pairs k q v =
       ap (option_map (λ pair. pair.1)) (find-set_or_push pairs k q v)
       ∙ option_map-cond (λ pair. pair.1) (eq k q) (Some (key_or k (find eq pairs k), v)) (find eq pairs q)
 
-  pub value_at-put : (mode : Mode) (pairs : List (K × V)) (k q : K) (v : V) → value_at eq (put eq mode pairs k v) q ≡ cond (eq k q) (Some v) (value_at eq pairs q)
+  pub value_at-put : (mode : Mode) (pairs : List (K × V)) (k q : K) (v : V)
+      → value_at eq (put eq mode pairs k v) q ≡ cond (eq k q) (Some v) (value_at eq pairs q)
   value_at-put Touch = value_at-to_back
   value_at-put Keep = value_at-set_or_push
 
@@ -191,12 +211,14 @@ module _ {K V : Type 0} {eq : K → K → Bool} (laws : IsEquivalence eq) where
     pub value_at-set_or_push_here : (v : V) → value_at eq (set_or_push eq pairs k v) k ≡ Some v
     value_at-set_or_push_here v = value_at-set_or_push pairs k k v ∙ ap (λ b. cond b (Some v) (value_at eq pairs k)) (laws.refl k)
 
-  pub value_at-put_here : (mode : Mode) (pairs : List (K × V)) (k : K) (v : V) → value_at eq (put eq mode pairs k v) k ≡ Some v
+  pub value_at-put_here : (mode : Mode) (pairs : List (K × V)) (k : K) (v : V)
+      → value_at eq (put eq mode pairs k v) k ≡ Some v
   value_at-put_here Touch = value_at-to_back_here
   value_at-put_here Keep = value_at-set_or_push_here
 
   -- at another key
-  pub value_at-without_apart : (pairs : List (K × V)) (k q : K) → eq k q ≡ false → value_at eq (without eq pairs k) q ≡ value_at eq pairs q
+  pub value_at-without_apart : (pairs : List (K × V)) (k q : K) → eq k q ≡ false
+      → value_at eq (without eq pairs k) q ≡ value_at eq pairs q
   value_at-without_apart pairs k q apart = value_at-without pairs k q ∙ ap (λ b. cond b None (value_at eq pairs q)) apart
 
   module _ (pairs : List (K × V)) (k q : K) (v : V) (apart : eq k q ≡ false) where
@@ -209,7 +231,8 @@ module _ {K V : Type 0} {eq : K → K → Bool} (laws : IsEquivalence eq) where
     pub find-set_or_push_apart : find eq (set_or_push eq pairs k v) q ≡ find eq pairs q
     find-set_or_push_apart = find-set_or_push pairs k q v ∙ ap (λ b. cond b (Some (key_or k (find eq pairs k), v)) (find eq pairs q)) apart
 
-  pub value_at-put_apart : (mode : Mode) (pairs : List (K × V)) (k q : K) (v : V) → eq k q ≡ false → value_at eq (put eq mode pairs k v) q ≡ value_at eq pairs q
+  pub value_at-put_apart : (mode : Mode) (pairs : List (K × V)) (k q : K) (v : V) → eq k q ≡ false
+      → value_at eq (put eq mode pairs k v) q ≡ value_at eq pairs q
   value_at-put_apart Touch = value_at-to_back_apart
   value_at-put_apart Keep = value_at-set_or_push_apart
 
@@ -219,5 +242,6 @@ module _ {K V : Type 0} {eq : K → K → Bool} (laws : IsEquivalence eq) where
     pub drop-first : slice_get pairs 0 ≡ Some pair → drop 1 pairs ≡ without eq pairs pair.0
     drop-first there = remove-first pairs ∙ sym (without-own laws pairs distinct 0 pair there)
 
-    pub take-but_last : slice_get pairs (length pairs - 1) ≡ Some pair → take (length pairs - 1) pairs ≡ without eq pairs pair.0
+    pub take-but_last : slice_get pairs (length pairs - 1) ≡ Some pair
+        → take (length pairs - 1) pairs ≡ without eq pairs pair.0
     take-but_last there = sym (remove-last pairs) ∙ sym (without-own laws pairs distinct (length pairs - 1) pair there)

@@ -18,7 +18,10 @@ module _ {F K V : Type 0} (T : F → K → V → Bool → V → F → Type 0) (t
   cond-changed true pair pairs = refl
   cond-changed false pair pairs = refl
 
-  pub map-filter_from_retain_pairs : (pairs kept : List (K × V)) → ((k : K) (v : V) (b : Bool) (w : V) (g : F) → T f k v b w g → (b ≡ test (k, v)) × (w ≡ change (k, v)) × (g ≡ f)) → RetainsPairs T f pairs kept → kept ≡ map changed (filter test pairs)
+  pub map-filter_from_retain_pairs : (pairs kept : List (K × V))
+      → ((k : K) (v : V) (b : Bool) (w : V) (g : F) → T f k v b w g
+      → (b ≡ test (k, v)) × (w ≡ change (k, v)) × (g ≡ f))
+      → RetainsPairs T f pairs kept → kept ≡ map changed (filter test pairs)
   map-filter_from_retain_pairs [] kept says r = r
   map-filter_from_retain_pairs (pair ∷ pairs) kept says r =
       let said = says pair.0 pair.1 r.0 r.1 r.2 r.4 in
@@ -28,18 +31,35 @@ module _ {F K V : Type 0} (T : F → K → V → Bool → V → F → Type 0) (t
 -- and one that leaves each value as it was, or keeps each pair: what std's lemmas say, with the
 -- arguments in the order of all lemmas here
 module _ {F K V : Type 0} (T : F → K → V → Bool → V → F → Type 0) where
-  pub filter_same_pairs : (test : K × V → Bool) (f : F) (pairs kept : List (K × V)) → ((k : K) (v : V) (b : Bool) (w : V) (g : F) → T f k v b w g → (b ≡ test (k, v)) × (w ≡ v) × (g ≡ f)) → RetainsPairs T f pairs kept → kept ≡ filter test pairs
+  pub filter_same_pairs : (test : K × V → Bool) (f : F) (pairs kept : List (K × V))
+      → ((k : K) (v : V) (b : Bool) (w : V) (g : F) → T f k v b w g
+      → (b ≡ test (k, v)) × (w ≡ v) × (g ≡ f))
+      → RetainsPairs T f pairs kept → kept ≡ filter test pairs
   filter_same_pairs test f pairs kept says r = made.filter_same_pairs T test f says pairs kept r
 
-  pub map_same_pairs : (change : V → V) (f : F) (pairs kept : List (K × V)) → ((k : K) (v : V) (b : Bool) (w : V) (g : F) → T f k v b w g → (b ≡ true) × (w ≡ change v) × (g ≡ f)) → RetainsPairs T f pairs kept → kept ≡ map (λ pair. (pair.0, change pair.1)) pairs
+  pub map_same_pairs : (change : V → V) (f : F) (pairs kept : List (K × V))
+      → ((k : K) (v : V) (b : Bool) (w : V) (g : F) → T f k v b w g
+      → (b ≡ true) × (w ≡ change v) × (g ≡ f))
+      → RetainsPairs T f pairs kept → kept ≡ map (λ pair. (pair.0, change pair.1)) pairs
   map_same_pairs change f pairs kept says r = made.map_same_pairs T change f says pairs kept r
 
   -- where I holds of the closure before each call and after it
-  pub All-from_retain_pairs : (I : F → Type 0) (P : K × V → Type 0) (f : F) (pairs kept : List (K × V)) → ((g : F) (k : K) (v : V) (b : Bool) (w : V) (after : F) → I g → T g k v b w after → (b ≡ true → P (k, w)) × I after) → I f → RetainsPairs T f pairs kept → All P kept
+  pub All-from_retain_pairs : (I : F → Type 0) (P : K × V → Type 0) (f : F)
+      (pairs kept : List (K × V))
+      → ((g : F) (k : K) (v : V) (b : Bool) (w : V) (after : F) → I g → T g k v b w after
+      → (b ≡ true → P (k, w)) × I after)
+      → I f → RetainsPairs T f pairs kept → All P kept
   All-from_retain_pairs I P f pairs kept says start r = entries.All-from_retain_pairs T I P says f pairs kept start r
 
-  pub filter_from_retain_pairs : (I : F → Type 0) (test : K × V → Bool) (f : F) (pairs kept : List (K × V)) → ((g : F) (k : K) (v : V) (b : Bool) (w : V) (after : F) → I g → T g k v b w after → (b ≡ test (k, v)) × (w ≡ v) × I after) → I f → RetainsPairs T f pairs kept → kept ≡ filter test pairs
+  pub filter_from_retain_pairs : (I : F → Type 0) (test : K × V → Bool) (f : F)
+      (pairs kept : List (K × V))
+      → ((g : F) (k : K) (v : V) (b : Bool) (w : V) (after : F) → I g → T g k v b w after
+      → (b ≡ test (k, v)) × (w ≡ v) × I after)
+      → I f → RetainsPairs T f pairs kept → kept ≡ filter test pairs
   filter_from_retain_pairs I test f pairs kept says start r = entries.filter_from_retain_pairs T I test says f pairs kept start r
 
-  pub keys_from_retain_pairs : (I : F → Type 0) (f : F) (pairs kept : List (K × V)) → ((g : F) (k : K) (v : V) (b : Bool) (w : V) (after : F) → I g → T g k v b w after → (b ≡ true) × I after) → I f → RetainsPairs T f pairs kept → keys_of kept ≡ keys_of pairs
+  pub keys_from_retain_pairs : (I : F → Type 0) (f : F) (pairs kept : List (K × V))
+      → ((g : F) (k : K) (v : V) (b : Bool) (w : V) (after : F) → I g → T g k v b w after
+      → (b ≡ true) × I after)
+      → I f → RetainsPairs T f pairs kept → keys_of kept ≡ keys_of pairs
   keys_from_retain_pairs I f pairs kept says start r = entries.keys_from_retain_pairs T I says f pairs kept start r

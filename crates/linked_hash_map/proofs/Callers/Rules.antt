@@ -19,14 +19,21 @@ use Rattle.linked_hash_map.proofs.Callers.Visits.{VisitKeeps-passed, VisitKeeps-
 
 -- at numbers
 module _ {V : Type 0} (mode : Mode) (pairs : List (ℕ × V)) (k : ℕ) (v : V) where
-  pub keys_of-put_number : mode ≡ Touch → (put nat_eq mode pairs k v ≡ put nat_eq mode pairs k v) × (keys_of (put nat_eq mode pairs k v) ≡ filter (λ j. not (nat_eq k j)) (keys_of pairs) ++ k ∷ [])
+  pub keys_of-put_number : mode ≡ Touch
+      → (put nat_eq mode pairs k v ≡ put nat_eq mode pairs k v)
+      × (keys_of (put nat_eq mode pairs k v)
+      ≡ filter (λ j. not (nat_eq k j)) (keys_of pairs) ++ k ∷ [])
   keys_of-put_number touch = (refl, ap (λ m. keys_of (put nat_eq m pairs k v)) touch ∙ keys_of-to_back_own nat_eq_equiv pairs k v eqb-true)
 
-  pub length-put_number : (put nat_eq mode pairs k v ≡ put nat_eq mode pairs k v) × (length (put nat_eq mode pairs k v) ≤ length pairs + 1)
+  pub length-put_number : (put nat_eq mode pairs k v ≡ put nat_eq mode pairs k v)
+      × (length (put nat_eq mode pairs k v) ≤ length pairs + 1)
   length-put_number = (refl, length-put_most nat_eq mode pairs k v)
 
 -- a new number at the back, for each number that is looked up
-pub value_at-append_number : {V : Type 0} (pairs : List (ℕ × V)) (k : ℕ) (v : V) → (pairs ++ (k, v) ∷ [] ≡ pairs ++ (k, v) ∷ []) × ((q : ℕ) → value_at nat_eq (pairs ++ (k, v) ∷ []) q ≡ option_or (value_at nat_eq pairs q) (cond (nat_eq q k) (Some v) None))
+pub value_at-append_number : {V : Type 0} (pairs : List (ℕ × V)) (k : ℕ) (v : V)
+    → (pairs ++ (k, v) ∷ [] ≡ pairs ++ (k, v) ∷ [])
+    × ((q : ℕ) → value_at nat_eq (pairs ++ (k, v) ∷ []) q
+    ≡ option_or (value_at nat_eq pairs q) (cond (nat_eq q k) (Some v) None))
 value_at-append_number pairs k v = (refl, λ q. value_at-append nat_eq pairs k q v)
 
 -- what a number has after one that is new went to the back

@@ -13,27 +13,32 @@ use Rattle.linked_hash_map.proofs.Callers.Lookups.{lookup_entry-append, find-sam
 use Rattle.linked_hash_map.proofs.Callers.Keys.{find-drop, put-absent}
 
 -- a list with a first pair is that pair and the others, and so are its keys
-pub cons-without_first : {X : Type 0} (xs : List X) (x : X) → first xs ≡ Some x → x ∷ without_first xs ≡ xs
+pub cons-without_first : {X : Type 0} (xs : List X) (x : X) → first xs ≡ Some x
+    → x ∷ without_first xs ≡ xs
 cons-without_first [] x there = cc
 cons-without_first (y ∷ xs) x there = let same : y ≡ x = cc in ap (λ z. z ∷ xs) (sym same)
 
-pub cons-keys_of_first : {K V : Type 0} (pairs : List (K × V)) (pair : K × V) → first pairs ≡ Some pair → pair.0 ∷ keys_of (without_first pairs) ≡ keys_of pairs
+pub cons-keys_of_first : {K V : Type 0} (pairs : List (K × V)) (pair : K × V)
+    → first pairs ≡ Some pair → pair.0 ∷ keys_of (without_first pairs) ≡ keys_of pairs
 cons-keys_of_first pairs pair there = ap keys_of (cons-without_first pairs pair there)
 
 module _ {K V : Type 0} {eq : K → K → Bool} (laws : IsEquivalence eq) where
   -- where the keys differ, that of the first pair is not among the others
-  pub find-others : (others : List (K × V)) (pair : K × V) (q : K) → IsDistinct eq (keys_of (pair ∷ others)) → eq q pair.0 ≡ true → find eq others q ≡ None
+  pub find-others : (others : List (K × V)) (pair : K × V) (q : K)
+      → IsDistinct eq (keys_of (pair ∷ others)) → eq q pair.0 ≡ true → find eq others q ≡ None
   find-others others pair q distinct same =
       find-same laws others q pair.0 same
       ∙ ap (λ ps. find eq ps pair.0) (drop-first laws (pair ∷ others) pair distinct refl)
       ∙ find-without_here laws (pair ∷ others) pair.0
 
-  pub find-without_first : (pairs : List (K × V)) (pair : K × V) → IsDistinct eq (keys_of pairs) → first pairs ≡ Some pair → find eq (without_first pairs) pair.0 ≡ None
+  pub find-without_first : (pairs : List (K × V)) (pair : K × V) → IsDistinct eq (keys_of pairs)
+      → first pairs ≡ Some pair → find eq (without_first pairs) pair.0 ≡ None
   find-without_first pairs pair distinct there =
       ap (λ ps. find eq ps pair.0) (drop-first laws pairs pair distinct there) ∙ find-without_here laws pairs pair.0
 
   -- and a key that is found among the last pairs has there the pair that it has among all
-  pub find-drop_present : (pairs : List (K × V)) (q : K) (n : ℕ) → IsDistinct eq (keys_of pairs) → IsSome (find eq (drop n pairs) q) → find eq (drop n pairs) q ≡ find eq pairs q
+  pub find-drop_present : (pairs : List (K × V)) (q : K) (n : ℕ) → IsDistinct eq (keys_of pairs)
+      → IsSome (find eq (drop n pairs) q) → find eq (drop n pairs) q ≡ find eq pairs q
   find-drop_present pairs q zero distinct found = refl
   find-drop_present [] q (suc n) distinct found = refl
   find-drop_present (pair ∷ pairs) q (suc n) distinct found = by_test (eq q pair.0) refl (find-drop_present pairs q n (IsDistinct-tail eq pair.0 (keys_of pairs) distinct) found)
@@ -43,13 +48,17 @@ module _ {K V : Type 0} {eq : K → K → Bool} (laws : IsEquivalence eq) where
       by_test false apart rest = rest
 
   -- so the first pair that is put back goes behind the others, in either mode
-  pub put-without_first : (mode : Mode) (pairs : List (K × V)) (pair : K × V) (v : V) → IsDistinct eq (keys_of pairs) → first pairs ≡ Some pair → put eq mode (without_first pairs) pair.0 v ≡ without_first pairs ++ (pair.0, v) ∷ []
+  pub put-without_first : (mode : Mode) (pairs : List (K × V)) (pair : K × V) (v : V)
+      → IsDistinct eq (keys_of pairs) → first pairs ≡ Some pair
+      → put eq mode (without_first pairs) pair.0 v ≡ without_first pairs ++ (pair.0, v) ∷ []
   put-without_first mode pairs pair v distinct there = put-absent eq mode (without_first pairs) pair.0 v (find-without_first pairs pair distinct there)
 
 -- after some turns of a renaming the first of the old pairs stand behind the others, the one of
 -- `from` with `to` as its key; and while the pair of `from` is there, `to` is free
-pub record IsRenaming {K V : Type 0} (eq : K → K → Bool) (old now : List (K × V)) (from to : K) (turns : ℕ) : Type 0 where
-  pub list : now ≡ drop turns old ++ map (λ pair. cond (eq from pair.0) (to, pair.1) pair) (take turns old)
+pub record IsRenaming {K V : Type 0} (eq : K → K → Bool) (old now : List (K × V)) (from to : K)
+    (turns : ℕ) : Type 0 where
+  pub list : now ≡ drop turns old
+      ++ map (λ pair. cond (eq from pair.0) (to, pair.1) pair) (take turns old)
   pub free : is_some (find eq now from) ≡ true → find eq now to ≡ None
 
 module _ {K V : Type 0} {eq : K → K → Bool} (laws : IsEquivalence eq) (from to : K) where
@@ -137,6 +146,10 @@ module _ {K V : Type 0} {eq : K → K → Bool} (laws : IsEquivalence eq) (old n
 
 -- one turn: the first pair goes behind the others, under the new name if it has the old one
 module _ {K V : Type 0} {eq : K → K → Bool} (laws : IsEquivalence eq) (mode : Mode) where
-  pub IsRenaming-turn : (old now : List (K × V)) {rest after : List (K × V)} (from to : K) {name : K} (pair : K × V) (turns : ℕ) → IsRenaming eq old now from to turns → IsDistinct eq (keys_of now) → first now ≡ Some pair → turns < length old → rest ≡ without_first now → name ≡ cond (eq from pair.0) to pair.0 → after ≡ put eq mode rest name pair.1 → IsRenaming eq old after from to (turns + 1)
+  pub IsRenaming-turn : (old now : List (K × V)) {rest after : List (K × V)} (from to : K)
+      {name : K} (pair : K × V) (turns : ℕ)
+      → IsRenaming eq old now from to turns → IsDistinct eq (keys_of now) → first now ≡ Some pair
+      → turns < length old → rest ≡ without_first now → name ≡ cond (eq from pair.0) to pair.0
+      → after ≡ put eq mode rest name pair.1 → IsRenaming eq old after from to (turns + 1)
   IsRenaming-turn old now {rest} {after} from to {name} pair turns w distinct there within popped named inserted =
       IsRenaming-pushed laws old now from to pair turns w distinct there after within (inserted ∙ (λ i. put eq mode (popped i) (named i) pair.1) ∙ put-absent eq mode (without_first now) (cond (eq from pair.0) to pair.0) pair.1 (find-renamed laws old now from to pair turns w distinct there))

@@ -10,7 +10,11 @@ use Rattle.linked_hash_map.proofs.Callers.Lookups.{value_at-put_here, value_at-p
 use Rattle.linked_hash_map.proofs.Callers.Keys.{length-put_absent, length-put_present}
 
 -- an insertion of a key that is present, or that has room, leaves the capacity
-pub max-length_put : {K V : Type 0} {eq : K → K → Bool} → IsEquivalence eq → (mode : Mode) (pairs : List (K × V)) (k : K) (v : V) (capacity : ℕ) → IsDistinct eq (keys_of pairs) → length pairs ≤ capacity → (find eq pairs k ≡ None → length pairs < capacity) → max capacity (length (put eq mode pairs k v)) ≡ capacity
+pub max-length_put : {K V : Type 0} {eq : K → K → Bool} → IsEquivalence eq
+    → (mode : Mode) (pairs : List (K × V)) (k : K) (v : V) (capacity : ℕ)
+    → IsDistinct eq (keys_of pairs) → length pairs ≤ capacity
+    → (find eq pairs k ≡ None → length pairs < capacity)
+    → max capacity (length (put eq mode pairs k v)) ≡ capacity
 max-length_put {K} {V} {eq} laws mode pairs k v capacity distinct within room = by_pair (find eq pairs k) refl
   where
     by_pair : (o : Option (K × V)) → find eq pairs k ≡ o → max capacity (length (put eq mode pairs k v)) ≡ capacity
@@ -24,13 +28,16 @@ module _ {K V : Type 0} {eq : K → K → Bool} (laws : IsEquivalence eq) (befor
     others = λ q apart. ap (λ pairs. value_at eq pairs q) is ∙ value_at-without_apart laws before k q apart;
   }
 
-  pub Updates-set_or_push : (v : V) → after ≡ set_or_push eq before k v → Updates eq before after k (Some v)
+  pub Updates-set_or_push : (v : V) → after ≡ set_or_push eq before k v
+      → Updates eq before after k (Some v)
   Updates-set_or_push v is = record {
     here = ap (λ pairs. value_at eq pairs k) is ∙ value_at-set_or_push_here laws before k v;
     others = λ q apart. ap (λ pairs. value_at eq pairs q) is ∙ value_at-set_or_push_apart laws before k q v apart;
   }
 
-pub Updates-put : {K V : Type 0} {eq : K → K → Bool} → IsEquivalence eq → (mode : Mode) (before after : List (K × V)) (k : K) (v : V) → after ≡ put eq mode before k v → Updates eq before after k (Some v)
+pub Updates-put : {K V : Type 0} {eq : K → K → Bool} → IsEquivalence eq
+    → (mode : Mode) (before after : List (K × V)) (k : K) (v : V) → after ≡ put eq mode before k v
+    → Updates eq before after k (Some v)
 Updates-put {eq = eq} laws mode before after k v is = record {
   here = ap (λ pairs. value_at eq pairs k) is ∙ value_at-put_here laws mode before k v;
   others = λ q apart. ap (λ pairs. value_at eq pairs q) is ∙ value_at-put_apart laws mode before k q v apart;
@@ -38,8 +45,10 @@ Updates-put {eq = eq} laws mode before after k v is = record {
 
 -- a pop takes out the key of the first pair, or of the last
 module _ {K V : Type 0} {eq : K → K → Bool} (laws : IsEquivalence eq) (before after : List (K × V)) (pair : K × V) (distinct : IsDistinct eq (keys_of before)) where
-  pub Updates-drop_first : slice_get before 0 ≡ Some pair → after ≡ drop 1 before → Updates eq before after pair.0 None
+  pub Updates-drop_first : slice_get before 0 ≡ Some pair → after ≡ drop 1 before
+      → Updates eq before after pair.0 None
   Updates-drop_first there is = Updates-without laws before after pair.0 (is ∙ drop-first laws before pair distinct there)
 
-  pub Updates-take_but_last : slice_get before (length before - 1) ≡ Some pair → after ≡ take (length before - 1) before → Updates eq before after pair.0 None
+  pub Updates-take_but_last : slice_get before (length before - 1) ≡ Some pair
+      → after ≡ take (length before - 1) before → Updates eq before after pair.0 None
   Updates-take_but_last there is = Updates-without laws before after pair.0 (is ∙ take-but_last laws before pair distinct there)

@@ -28,11 +28,14 @@ module _ {K V S : Type 0} {eq : K → K → Bool} (laws : IsEquivalence eq) {m n
       record { distinct = subst (λ ps. IsDistinct eq (keys_of ps)) (sym changed) distinct; within = omega arith; limit = omega arith }
 
   -- after `insert`, where the pairs are within the limit
-  pub IsValid-to_back : (k : K) (v : V) → IsValid eq m → n.pairs ≡ to_back eq m.pairs k v → n.capacity ≡ max m.capacity (length n.pairs) → length n.pairs ≤ LIMIT → IsValid eq n
+  pub IsValid-to_back : (k : K) (v : V) → IsValid eq m → n.pairs ≡ to_back eq m.pairs k v
+      → n.capacity ≡ max m.capacity (length n.pairs) → length n.pairs ≤ LIMIT → IsValid eq n
   IsValid-to_back k v valid = raised valid (distinct-to_back laws m.pairs k v valid.distinct)
 
   -- as they are where the key was present
-  pub IsValid-to_back_present : (k : K) (v : V) → IsValid eq m → IsSome (find eq m.pairs k) → n.pairs ≡ to_back eq m.pairs k v → n.capacity ≡ max m.capacity (length n.pairs) → IsValid eq n
+  pub IsValid-to_back_present : (k : K) (v : V) → IsValid eq m → IsSome (find eq m.pairs k)
+      → n.pairs ≡ to_back eq m.pairs k v → n.capacity ≡ max m.capacity (length n.pairs)
+      → IsValid eq n
   IsValid-to_back_present k v valid found changed more =
       let same = length-to_back_present laws m.pairs k v valid.distinct found in
       let counted : length n.pairs ≡ length (to_back eq m.pairs k v) = ap length changed in
@@ -41,14 +44,18 @@ module _ {K V S : Type 0} {eq : K → K → Bool} (laws : IsEquivalence eq) {m n
       IsValid-to_back k v valid changed more (omega arith)
 
   -- and in either mode
-  pub IsValid-put : (mode : Mode) (k : K) (v : V) → IsValid eq m → n.pairs ≡ put eq mode m.pairs k v → n.capacity ≡ max m.capacity (length n.pairs) → length n.pairs ≤ LIMIT → IsValid eq n
+  pub IsValid-put : (mode : Mode) (k : K) (v : V) → IsValid eq m → n.pairs ≡ put eq mode m.pairs k v
+      → n.capacity ≡ max m.capacity (length n.pairs) → length n.pairs ≤ LIMIT → IsValid eq n
   IsValid-put mode k v valid = raised valid (distinct-put laws mode m.pairs k v valid.distinct)
 
   -- after `or_insert`
-  pub IsValid-set_or_push : (k : K) (v : V) → IsValid eq m → n.pairs ≡ set_or_push eq m.pairs k v → n.capacity ≡ max m.capacity (length n.pairs) → length n.pairs ≤ LIMIT → IsValid eq n
+  pub IsValid-set_or_push : (k : K) (v : V) → IsValid eq m → n.pairs ≡ set_or_push eq m.pairs k v
+      → n.capacity ≡ max m.capacity (length n.pairs) → length n.pairs ≤ LIMIT → IsValid eq n
   IsValid-set_or_push k v valid = raised valid (distinct-set_or_push laws m.pairs k v valid.distinct)
 
-  pub IsValid-set_or_push_present : (k : K) (v : V) → IsValid eq m → IsSome (find eq m.pairs k) → n.pairs ≡ set_or_push eq m.pairs k v → n.capacity ≡ max m.capacity (length n.pairs) → IsValid eq n
+  pub IsValid-set_or_push_present : (k : K) (v : V) → IsValid eq m → IsSome (find eq m.pairs k)
+      → n.pairs ≡ set_or_push eq m.pairs k v → n.capacity ≡ max m.capacity (length n.pairs)
+      → IsValid eq n
   IsValid-set_or_push_present k v valid found changed more =
       let same : length (set_or_push eq m.pairs k v) ≡ length m.pairs = length-set_or_push eq m.pairs k v ∙ ap (λ b. cond b (length m.pairs) (length m.pairs + 1)) found in
       let counted : length n.pairs ≡ length (set_or_push eq m.pairs k v) = ap length changed in
@@ -59,7 +66,8 @@ module _ {K V S : Type 0} {eq : K → K → Bool} (laws : IsEquivalence eq) {m n
 -- after the insertions of an entry, by what their clause `limit` says
 module _ {K V S H : Type 0} {g : eq.Ghosts K} {h : hash.Ghosts K} {b : builder.Ghosts S H} {w : hasher.Ghosts H} where
   -- `or_insert`, `or_insert_with` and `or_default`
-  pub IsValid-set_or_pushed : IsEquivalence g.eq → (e : Entry K V S H g h b w) (v : V) → IsValid g.eq (entry_map e) → (entry_value e ≡ None → length (entry_map e).pairs < LIMIT)
+  pub IsValid-set_or_pushed : IsEquivalence g.eq → (e : Entry K V S H g h b w) (v : V)
+      → IsValid g.eq (entry_map e) → (entry_value e ≡ None → length (entry_map e).pairs < LIMIT)
       → IsValid g.eq (set_or_pushed g.eq (entry_map e) (entry_key e) v)
   IsValid-set_or_pushed laws (Occupied o) v valid limit = IsValid-set_or_push_present laws (occupied_key o) v valid (found-occupied o laws) refl refl
   IsValid-set_or_pushed laws (Vacant e) v valid limit =

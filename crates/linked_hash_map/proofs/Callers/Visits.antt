@@ -70,7 +70,10 @@ module _ {K V : Type 0} {eq : K → K → Bool} (laws : IsEquivalence eq) (keeps
   }
 
 -- the keys visited and those still to visit stay what they are at the start
-pub append-visited : {X : Type 0} (seen later : List X) {now left rest keys : List X} {pushed key : X} → now ≡ seen ++ pushed ∷ [] → pushed ≡ key → left ≡ key ∷ later → rest ≡ later → seen ++ left ≡ keys → now ++ rest ≡ keys
+pub append-visited : {X : Type 0} (seen later : List X) {now left rest keys : List X}
+    {pushed key : X}
+    → now ≡ seen ++ pushed ∷ [] → pushed ≡ key → left ≡ key ∷ later → rest ≡ later
+    → seen ++ left ≡ keys → now ++ rest ≡ keys
 append-visited seen later {key = key} grown is visits stays all =
     (λ i. grown i ++ stays i) ∙ append_assoc seen (_ ∷ []) later ∙ ap (λ k. seen ++ k ∷ later) is ∙ ap (λ keys. seen ++ keys) (sym visits) ∙ all
 
@@ -80,12 +83,15 @@ module _ {K V : Type 0} {eq : K → K → Bool} (laws : IsEquivalence eq) {keeps
   before : VisitKeeps keeps start now (k ∷ left)
   before = subst (λ ks. VisitKeeps keeps start now ks) visits w
 
-  pub VisitKeeps-passed : {after : List (K × V)} {to_come_after : List K} → keeps (k, v) ≡ true → after ≡ pairs → to_come_after ≡ left → VisitKeeps keeps start after to_come_after
+  pub VisitKeeps-passed : {after : List (K × V)} {to_come_after : List K} → keeps (k, v) ≡ true
+      → after ≡ pairs → to_come_after ≡ left → VisitKeeps keeps start after to_come_after
   VisitKeeps-passed {after} {to_come_after} kept stands stays =
       let r : VisitKeeps keeps start after left = subst (λ ps. VisitKeeps keeps start ps left) (sym (stands ∙ same)) (VisitKeeps-pass laws keeps before distinct has kept) in
       subst (λ ks. VisitKeeps keeps start after ks) (sym stays) r
 
-  pub VisitKeeps-removed : {after : List (K × V)} {to_come_after : List K} → keeps (k, v) ≡ false → after ≡ without eq pairs k → to_come_after ≡ left → VisitKeeps keeps start after to_come_after
+  pub VisitKeeps-removed : {after : List (K × V)} {to_come_after : List K} → keeps (k, v) ≡ false
+      → after ≡ without eq pairs k → to_come_after ≡ left
+      → VisitKeeps keeps start after to_come_after
   VisitKeeps-removed {after} {to_come_after} gone removed stays =
       let r : VisitKeeps keeps start (without eq now k) left = VisitKeeps-remove laws keeps before distinct has gone in
       let s : VisitKeeps keeps start after left = subst (λ ps. VisitKeeps keeps start ps left) (sym (removed ∙ ap (λ ps. without eq ps k) same)) r in

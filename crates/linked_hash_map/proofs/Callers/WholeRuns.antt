@@ -42,7 +42,10 @@ others_given false b h = h
 
 module _ {K V : Type 0} {eq : K → K → Bool} (laws : IsEquivalence eq) where
   -- a run on a log that defines these pairs and this capacity
-  pub replies-given : (mode : Mode) (commands : List (Command K V)) (replies : List (Reply K V)) (log : Log K V) (contents : List (K × V)) (start room : ℕ) → Defines eq start log contents room mode → IsRun eq start log commands replies → NoneRefused replies → replies ≡ replies_to eq mode room contents commands
+  pub replies-given : (mode : Mode) (commands : List (Command K V)) (replies : List (Reply K V))
+      (log : Log K V) (contents : List (K × V)) (start room : ℕ)
+      → Defines eq start log contents room mode → IsRun eq start log commands replies
+      → NoneRefused replies → replies ≡ replies_to eq mode room contents commands
   replies-given mode [] [] log contents start room defines run given = refl
   replies-given mode [] (reply ∷ replies) log contents start room defines run given = absurd run
   replies-given mode (command ∷ commands) [] log contents start room defines run given = absurd run
@@ -54,7 +57,13 @@ module _ {K V : Type 0} {eq : K → K → Bool} (laws : IsEquivalence eq) where
       (λ i. record { answer = replied.answer_is i; len = replied.len_is i; capacity = replied.capacity_is i })
       (replies-given (mode_after mode command) commands replies (log_after eq log command reply.answer) (pairs_after eq mode contents command) start (capacity_after eq mode room contents command) replied.defines run.1 (others_given refused later given))
 
-  pub Defines-given : (mode : Mode) (commands : List (Command K V)) (replies : List (Reply K V)) (log : Log K V) (contents : List (K × V)) (start room : ℕ) → Defines eq start log contents room mode → IsRun eq start log commands replies → NoneRefused replies → Defines eq start (last_log eq log commands replies) (pairs_after_all eq mode contents commands) (capacity_after_all eq mode room contents commands) (mode_after_all mode commands)
+  pub Defines-given : (mode : Mode) (commands : List (Command K V)) (replies : List (Reply K V))
+      (log : Log K V) (contents : List (K × V)) (start room : ℕ)
+      → Defines eq start log contents room mode → IsRun eq start log commands replies
+      → NoneRefused replies
+      → Defines eq start (last_log eq log commands replies)
+      (pairs_after_all eq mode contents commands)
+      (capacity_after_all eq mode room contents commands) (mode_after_all mode commands)
   Defines-given mode [] [] log contents start room defines run given = defines
   Defines-given mode [] (reply ∷ replies) log contents start room defines run given = absurd run
   Defines-given mode (command ∷ commands) [] log contents start room defines run given = absurd run
@@ -99,10 +108,12 @@ module _ {K V : Type 0} {eq : K → K → Bool} (laws : IsEquivalence eq) (start
 
 module _ {K V S : Type 0} {eq : K → K → Bool} (laws : IsEquivalence eq) {old new : LinkedMap K V S} {commands : List (Command K V)} {replies : List (Reply K V)} (valid : IsValid eq old) (replayed : Replayed eq old commands replies new) where
   -- of a whole run: what `replay` answered, and what the map holds
-  pub replies-replayed : NoneRefused replies → replies ≡ replies_to eq old.mode old.capacity old.pairs commands
+  pub replies-replayed : NoneRefused replies
+      → replies ≡ replies_to eq old.mode old.capacity old.pairs commands
   replies-replayed given = replies-given laws old.mode commands replies (first_log old.mode old.pairs) old.pairs old.capacity old.capacity (Defines-first laws valid) replayed.run given
 
-  pub pairs-replayed : NoneRefused replies → new.pairs ≡ pairs_after_all eq old.mode old.pairs commands
+  pub pairs-replayed : NoneRefused replies
+      → new.pairs ≡ pairs_after_all eq old.mode old.pairs commands
   pairs-replayed given =
       replayed.pairs
       ∙ (Defines-given laws old.mode commands replies (first_log old.mode old.pairs) old.pairs old.capacity old.capacity (Defines-first laws valid) replayed.run given).same_pairs
@@ -145,7 +156,12 @@ module _ {K V S T : Type 0} {eq : K → K → Bool} (laws : IsEquivalence eq) {o
 
 -- the same of what two calls of `replay` return
 module _ {K V S T E : Type 0} {eq : K → K → Bool} (laws : IsEquivalence eq) {old : LinkedMap K V S} (new : LinkedMap K V S) {old' : LinkedMap K V T} (new' : LinkedMap K V T) {commands copies : List (Command K V)} where
-  pub same_runs : (run run' : Result (Vec (Reply K V) Global) E) → IsValid eq old → IsValid eq old' → old.pairs ≡ old'.pairs → old.mode ≡ old'.mode → commands ≡ copies → IfOk run (λ replies. Replayed eq old commands replies.items new) → IfOk run' (λ replies. Replayed eq old' copies replies.items new') → IsOkAnd run (λ replies. NoneRefused replies.items) → IsOkAnd run' (λ replies. NoneRefused replies.items)
+  pub same_runs : (run run' : Result (Vec (Reply K V) Global) E) → IsValid eq old → IsValid eq old'
+      → old.pairs ≡ old'.pairs → old.mode ≡ old'.mode → commands ≡ copies
+      → IfOk run (λ replies. Replayed eq old commands replies.items new)
+      → IfOk run' (λ replies. Replayed eq old' copies replies.items new')
+      → IsOkAnd run (λ replies. NoneRefused replies.items)
+      → IsOkAnd run' (λ replies. NoneRefused replies.items)
       → IfOk run (λ replies. IfOk run' (λ replies'. map (λ reply. reply.answer) replies.items ≡ map (λ reply. reply.answer) replies'.items)) × (new.pairs ≡ new'.pairs)
   same_runs (Err refused) run' valid valid' same alike copied replayed replayed' given given' = absurd given
   same_runs (Ok replies) (Err refused) valid valid' same alike copied replayed replayed' given given' = absurd given'

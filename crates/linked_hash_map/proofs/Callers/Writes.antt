@@ -15,7 +15,10 @@ use Rattle.linked_hash_map.proofs.Indexes as at
 use Rattle.linked_hash_map.proofs.Callers.Keys.{keys_of-set_value, IsSome-find, set_or_push-present}
 
 -- where a call leaves `change v` for a value v, `and_modify` changes the value of a key so
-pub modified : {F X R : Type 0} {g : Once F (MutBor X × Unit {0}) (R × (MutBor X × Unit {0}))} {f : F} (change : X → X) (old new : Option X) → ModifiesValue g f old new → ((v w : X) → MayWrite g f v w → w ≡ change v) → new ≡ option_map change old
+pub modified : {F X R : Type 0} {g : Once F (MutBor X × Unit {0}) (R × (MutBor X × Unit {0}))}
+    {f : F} (change : X → X) (old new : Option X)
+    → ModifiesValue g f old new → ((v w : X) → MayWrite g f v w → w ≡ change v)
+    → new ≡ option_map change old
 modified change None new called leaves = called
 modified change (Some v) None called leaves = absurd called
 modified change (Some v) (Some w) called leaves = ap Some (leaves v w called)
@@ -34,7 +37,8 @@ module _ {K V : Type 0} (eq : K → K → Bool) where
   to_visit-set_value m k v = ap (λ keys. take m.cursor.unvisited (drop m.cursor.bookmark keys)) (keys_of-set_value eq m.pairs k v)
 
   -- the later of two writes counts
-  pub set_value-set_value : (pairs : List (K × V)) (k : K) (w v : V) → set_value eq (set_value eq pairs k w) k v ≡ set_value eq pairs k v
+  pub set_value-set_value : (pairs : List (K × V)) (k : K) (w v : V)
+      → set_value eq (set_value eq pairs k w) k v ≡ set_value eq pairs k v
   set_value-set_value [] k w v = refl
   set_value-set_value (pair ∷ pairs) k w v = ap₂ (λ p ps. p ∷ ps) (by_test (eq k pair.0) refl) (set_value-set_value pairs k w v)
     where
@@ -51,7 +55,8 @@ module _ {K V : Type 0} (eq : K → K → Bool) where
       by_test false h rest = ap (λ b. is_some (cond b (Some pair) (find eq (set_value eq pairs k w) k))) h ∙ rest
 
   -- a write after `and_modify`, as by entry(k).and_modify(f).or_insert(v), counts alone
-  pub set_or_push-set_if_some : (pairs : List (K × V)) (k : K) (o : Option V) (v : V) → set_or_push eq (set_if_some eq pairs k o) k v ≡ set_or_push eq pairs k v
+  pub set_or_push-set_if_some : (pairs : List (K × V)) (k : K) (o : Option V) (v : V)
+      → set_or_push eq (set_if_some eq pairs k o) k v ≡ set_or_push eq pairs k v
   set_or_push-set_if_some pairs k None v = refl
   set_or_push-set_if_some pairs k (Some w) v = by_test (is_some (find eq pairs k)) refl
     where
