@@ -13,7 +13,6 @@ pub mod Entries
 pub mod FilterFills
 pub mod Filters
 pub mod FirstAndLast
-pub mod Hashed
 pub mod IndexMoves
 pub mod IndexPuts
 pub mod IndexTakes

@@ -1,7 +1,7 @@
 -- A ring with an index: when they fit.
-use Rattle.std.specs.Prelude.{◌≡◌, ℕ, ◌+◌, List, [], ◌∷◌, length, Option}
+use Rattle.std.specs.Prelude.{◌≡◌, ◌+◌, List, length, Option}
 use denote.RawPtr.{Ptr}
-use Rattle.lhm_ring.specs.RingState.{State, Held}
+use Rattle.lhm_ring.specs.RingState.{State}
 use Rattle.lhm_ring.specs.Index.{spots, Indexes}
 use Rattle.lhm_ring.specs.Buckets.{buckets}
 
@@ -10,8 +10,3 @@ use Rattle.lhm_ring.specs.Buckets.{buckets}
 pub record IsIndexed {K V : Type 0} (heads : List (Option Ptr)) (s : State (K × V)) : Type 0 where
   pub chains : Indexes heads (spots s.held)
   pub count : length heads ≡ buckets (length s.held + s.spares)
-
--- each stored hash is the hash of the key
-abbrev pub AreHashed : {K V : Type 0} → (K → ℕ) → List (Held (K × V)) → Type 0
-AreHashed hash_of [] = Unit {0}
-AreHashed hash_of (x ∷ xs) = (x.hash ≡ hash_of x.pair.0) × AreHashed hash_of xs
