@@ -31,8 +31,10 @@ pub struct Ring<K, V> {
     // How many nodes the chunks have.
     pub(crate) made: usize,
     pub(crate) ends: Ends,
-    pub(crate) spare: Link,
+    // The counts are not side by side: LLVM would read both as one vector, which waits for the
+    // writes of each.
     pub(crate) len: usize,
+    pub(crate) spare: Link,
     pub(crate) spares: usize,
 }
 
