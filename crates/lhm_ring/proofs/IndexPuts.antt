@@ -1,13 +1,15 @@
 -- A node is put into its chain, and all nodes are, one after another.
-use Rattle.std.proofs.Common.{◌≡◌, ℕ, ◌+◌, ◌%◌, ◌<◌, ◌≤◌, List, [], ◌∷◌, ◌++◌, inl, inr, refl, sym, ◌∙◌, ap, subst, length, get_or, set, arith, Option, Some, None, append_assoc, length-append, append-nil}
+use Rattle.std.proofs.Common.{◌≡◌, ℕ, ◌+◌, ◌%◌, ◌<◌, ◌≤◌, List, [], ◌∷◌, ◌++◌, inl, inr, refl, sym, ◌∙◌, ap, subst, length, get_or, set, arith, Option, Some, None, true, append_assoc, length-append, append-nil}
 use Rattle.std.proofs.lemmas.Bool.{cases_lt}
 use Rattle.std.proofs.lemmas.List.{length-map, length-set}
 use denote.RawPtr.{Ptr}
 use Rattle.lhm_ring.specs.RingState.{Held, IsHeld, AtHeld, linked_to, first_at}
 use Rattle.lhm_ring.specs.Index.{spot, spots, Indexes}
-use Rattle.lhm_ring.specs.Search.{entries, HoldsOthers, HasNoChain, IsChained, Chains, IsRechained}
+use Rattle.lhm_ring.specs.Search.{OfNodeAt, entries, HoldsOthers, HasNoChain, IsChained, Chains, IsRechained}
+use Rattle.lhm_ring.specs.Filters.{may_contain, CoversAll}
 use Rattle.lhm_ring.proofs.Ends.{First, first_node}
 use Rattle.lhm_ring.proofs.Chains.{PutsIn-spots, Indexes-put, Indexes-none}
+use Rattle.lhm_ring.proofs.Filters.{CoversAll-more, CoversAll-append}
 use Rattle.lhm_ring.proofs.Entries.{IsHeld-kept, entries-link}
 
 pub put_indexes : {K V : Type 0} (p : Ptr) (heads heads' : List (Option Ptr)) (nodes nodes' : List (Held (K × V))) → Chains p heads heads' nodes nodes' → HoldsOthers heads nodes p → 0 < length heads → Indexes heads' (spots nodes')
@@ -36,15 +38,19 @@ put_buckets p heads heads' nodes nodes' c h =
 
 -- ---- all nodes are rehashed
 
-pub rechain_start : {K V : Type 0} (heads : List (Option Ptr)) (nodes : List (Held (K × V))) (pointer : Option Ptr) (buckets : ℕ) → HasNoChain heads → pointer ≡ first_at nodes → length heads ≡ buckets → IsRechained heads nodes nodes pointer 0 buckets
-rechain_start heads nodes pointer buckets h e n = record { done = []; rest = nodes; is = refl; indexed = Indexes-none heads h; pointer_is = e; count_is = refl; kept = refl; buckets_is = n }
+first_none : {B : Type 0} (hs : List (Held B)) → None ≡ first_at hs → hs ≡ []
+first_none [] e = refl
+first_none (t ∷ hs) e = absurd (cc)
 
-rechain_is : {K V : Type 0} {heads : List (Option Ptr)} {old nodes : List (Held (K × V))} {pointer : Option Ptr} {count buckets : ℕ} (p : Ptr) → pointer ≡ Some p → (w : IsRechained heads old nodes pointer count buckets) → (g : First w.rest p) × (nodes ≡ w.done ++ g.node ∷ g.after)
+pub rechain_start : {K V : Type 0} (heads : List (Option Ptr)) (words : List ℕ) (nodes : List (Held (K × V))) (pointer : Option Ptr) (buckets : ℕ) → HasNoChain heads → pointer ≡ first_at nodes → length heads ≡ buckets → IsRechained heads words nodes nodes pointer 0 buckets
+rechain_start heads words nodes pointer buckets h e n = record { done = []; rest = nodes; is = refl; indexed = Indexes-none heads h; covers = λ _. tt; pointer_is = e; count_is = refl; kept = refl; buckets_is = n }
+
+rechain_is : {K V : Type 0} {heads : List (Option Ptr)} {words : List ℕ} {old nodes : List (Held (K × V))} {pointer : Option Ptr} {count buckets : ℕ} (p : Ptr) → pointer ≡ Some p → (w : IsRechained heads words old nodes pointer count buckets) → (g : First w.rest p) × (nodes ≡ w.done ++ g.node ∷ g.after)
 rechain_is {K} {V} {pointer = pointer} p e w =
     let g : First w.rest p = first_node w.rest pointer p w.pointer_is e in
     (g, w.is ∙ ap (λ (v : List (Held (K × V))). w.done ++ v) g.is)
 
-pub rechain_held : {K V : Type 0} {heads : List (Option Ptr)} {old nodes : List (Held (K × V))} {pointer : Option Ptr} {count buckets : ℕ} (p : Ptr) → pointer ≡ Some p → IsRechained heads old nodes pointer count buckets → IsHeld nodes p
+pub rechain_held : {K V : Type 0} {heads : List (Option Ptr)} {words : List ℕ} {old nodes : List (Held (K × V))} {pointer : Option Ptr} {count buckets : ℕ} (p : Ptr) → pointer ≡ Some p → IsRechained heads words old nodes pointer count buckets → IsHeld nodes p
 rechain_held p e w =
     let g = rechain_is p e w in
     record { before = w.done; node = g.0.node; after = g.0.after; is = g.1; at_is = g.0.at_is }
@@ -52,8 +58,8 @@ rechain_held p e w =
 length-kept : {K V : Type 0} (old new : List (Held (K × V))) → entries new ≡ entries old → length new ≡ length old
 length-kept old new e = sym (length-map new (linked_to None)) ∙ ap length e ∙ length-map old (linked_to None)
 
-pub rechain_below : {K V : Type 0} {heads : List (Option Ptr)} {old nodes : List (Held (K × V))} {pointer : Option Ptr} {count buckets : ℕ} (p : Ptr) → pointer ≡ Some p → IsRechained heads old nodes pointer count buckets → count + 1 ≤ length old
-rechain_below {K} {V} {heads} {old} {nodes} p e w =
+pub rechain_below : {K V : Type 0} {heads : List (Option Ptr)} {words : List ℕ} {old nodes : List (Held (K × V))} {pointer : Option Ptr} {count buckets : ℕ} (p : Ptr) → pointer ≡ Some p → IsRechained heads words old nodes pointer count buckets → count + 1 ≤ length old
+rechain_below {K} {V} {heads} {words} {old} {nodes} p e w =
     let g = rechain_is p e w in
     let a : length nodes ≡ length old = length-kept old nodes w.kept in
     let b : length nodes ≡ length (w.done ++ g.0.node ∷ g.0.after) = ap length g.1 in
@@ -61,8 +67,8 @@ rechain_below {K} {V} {heads} {old} {nodes} p e w =
     let d = w.count_is in
     omega (arith, a, b, c, d)
 
-pub rechain_some : {K V : Type 0} {heads : List (Option Ptr)} {old nodes : List (Held (K × V))} {pointer : Option Ptr} {count buckets : ℕ} (p : Ptr) → pointer ≡ Some p → (buckets ≡ 0 → old ≡ []) → IsRechained heads old nodes pointer count buckets → 0 < length heads
-rechain_some {K} {V} {heads} {old} {nodes} {pointer} {count} {buckets} p e none w =
+pub rechain_some : {K V : Type 0} {heads : List (Option Ptr)} {words : List ℕ} {old nodes : List (Held (K × V))} {pointer : Option Ptr} {count buckets : ℕ} (p : Ptr) → pointer ≡ Some p → (buckets ≡ 0 → old ≡ []) → IsRechained heads words old nodes pointer count buckets → 0 < length heads
+rechain_some {K} {V} {heads} {words} {old} {nodes} {pointer} {count} {buckets} p e none w =
     let r : count + 1 ≤ length old = rechain_below p e w in
     let b : length heads ≡ buckets = w.buckets_is in
     elim (cases_lt 0 buckets) [
@@ -70,8 +76,14 @@ rechain_some {K} {V} {heads} {old} {nodes} {pointer} {count} {buckets} p e none 
       | inr l ↦ absurd (let z : length old ≡ 0 = ap length (none (omega arith)) in omega arith)
     ]
 
-pub rechain_more : {K V : Type 0} {heads : List (Option Ptr)} {old nodes : List (Held (K × V))} {pointer : Option Ptr} {count buckets : ℕ} (p : Ptr) (heads' : List (Option Ptr)) (nodes' : List (Held (K × V))) (next : Option Ptr) → pointer ≡ Some p → 0 < length heads → IsRechained heads old nodes pointer count buckets → Chains p heads heads' nodes nodes' → AtHeld nodes' p (λ before x after. next ≡ first_at after) → IsRechained heads' old nodes' next (count + 1) buckets
-rechain_more {K} {V} {heads} {old} {nodes} {pointer} {count} {buckets} p heads' nodes' next e some w c nx =
+-- a filter with a word for each bucket gets the bit of a hash, and keeps the others
+pub record SetsBit (words words' : List ℕ) (hash buckets : ℕ) : Type 0 where
+  pub all : length words ≡ buckets
+  pub set : may_contain words' hash ≡ true
+  pub others : (other : ℕ) → may_contain words other ≡ true → may_contain words' other ≡ true
+
+pub rechain_more : {K V : Type 0} {heads : List (Option Ptr)} {words : List ℕ} {old nodes : List (Held (K × V))} {pointer : Option Ptr} {count buckets : ℕ} (p : Ptr) (heads' : List (Option Ptr)) (words' : List ℕ) (nodes' : List (Held (K × V))) (next : Option Ptr) (hash : ℕ) → pointer ≡ Some p → 0 < length heads → IsRechained heads words old nodes pointer count buckets → Chains p heads heads' nodes nodes' → AtHeld nodes p (λ before x after. hash ≡ x.hash) → (length words' ≡ buckets → SetsBit words words' hash buckets) → AtHeld nodes' p (λ before x after. next ≡ first_at after) → IsRechained heads' words' old nodes' next (count + 1) buckets
+rechain_more {K} {V} {heads} {words} {old} {nodes} {pointer} {count} {buckets} p heads' words' nodes' next hash e some w c own sets nx =
     let g = rechain_is p e w in
     let x : Held (K × V) = g.0.node in
     let k : IsChained p heads heads' nodes' w.done x g.0.after = c w.done x g.0.after g.1 g.0.at_is in
@@ -85,18 +97,32 @@ rechain_more {K} {V} {heads} {old} {nodes} {pointer} {count} {buckets} p heads' 
     let long : length (w.done ++ x' ∷ []) ≡ length w.done + 1 = length-append w.done (x' ∷ []) in
     let d : count ≡ length w.done = w.count_is in
     let held : IsHeld nodes p = record { before = w.done; node = x; after = g.0.after; is = g.1; at_is = g.0.at_is } in
+    let own_hash : x.hash ≡ hash = sym (own w.done x g.0.after g.1 g.0.at_is) in
     record {
       done = w.done ++ x' ∷ [];
       rest = g.0.after;
       is = split;
       indexed = subst (λ (v : List (Option Ptr)). Indexes v (spots (w.done ++ x' ∷ []))) (sym heads_are) put;
+      covers = λ all. let m = sets all in CoversAll-append words' w.done (x' ∷ []) (CoversAll-more words words' m.others w.done (w.covers m.all)) (ap (may_contain words') own_hash ∙ m.set, tt);
       pointer_is = nx w.done x' g.0.after k.nodes_is g.0.at_is;
       count_is = (omega (arith, long, d));
       kept = put_keeps p heads heads' nodes nodes' c held ∙ w.kept;
       buckets_is = put_buckets p heads heads' nodes nodes' c held ∙ w.buckets_is;
     }
 
-pub rechain_next_held : {K V : Type 0} {heads : List (Option Ptr)} {old nodes : List (Held (K × V))} {pointer : Option Ptr} {count buckets : ℕ} (p : Ptr) {heads' : List (Option Ptr)} {nodes' : List (Held (K × V))} → pointer ≡ Some p → IsRechained heads old nodes pointer count buckets → Chains p heads heads' nodes nodes' → IsHeld nodes' p
-rechain_next_held {K} {V} {heads} {old} {nodes} {pointer} {count} {buckets} p {heads'} {nodes'} e w c =
+pub rechain_next_held : {K V : Type 0} {heads : List (Option Ptr)} {words : List ℕ} {old nodes : List (Held (K × V))} {pointer : Option Ptr} {count buckets : ℕ} (p : Ptr) {heads' : List (Option Ptr)} {nodes' : List (Held (K × V))} → pointer ≡ Some p → IsRechained heads words old nodes pointer count buckets → Chains p heads heads' nodes nodes' → IsHeld nodes' p
+rechain_next_held {K} {V} {heads} {words} {old} {nodes} {pointer} {count} {buckets} p {heads'} {nodes'} e w c =
     let h : IsHeld nodes p = rechain_held p e w in
     IsHeld-kept nodes nodes' p (put_keeps p heads heads' nodes nodes' c h) h
+
+-- the bucket that was returned is that of the hash that was read
+pub rechain_bucket : {K V : Type 0} {heads : List (Option Ptr)} {words : List ℕ} {old nodes : List (Held (K × V))} {pointer : Option Ptr} {count buckets : ℕ} (p : Ptr) → pointer ≡ Some p → IsRechained heads words old nodes pointer count buckets → (bucket hash n : ℕ) → OfNodeAt nodes p (λ x. bucket ≡ x.hash % n) → AtHeld nodes p (λ before x after. hash ≡ x.hash) → bucket ≡ hash % n
+rechain_bucket p e w bucket hash n is own =
+    let g = rechain_is p e w in
+    is w.done g.0.node g.0.after g.1 g.0.at_is ∙ ap (λ h. h % n) (sym (own w.done g.0.node g.0.after g.1 g.0.at_is))
+
+-- the bits of all nodes are set, if there is a word for each bucket
+pub rechain_covers : {K V : Type 0} {heads : List (Option Ptr)} {words : List ℕ} {old nodes : List (Held (K × V))} {pointer : Option Ptr} {count buckets : ℕ} → pointer ≡ None → IsRechained heads words old nodes pointer count buckets → length words ≡ buckets → CoversAll words nodes
+rechain_covers {K} {V} {heads} {words} e w all =
+    let none : w.rest ≡ [] = first_none w.rest (sym e ∙ w.pointer_is) in
+    subst (λ (zs : List (Held (K × V))). CoversAll words zs) (sym (w.is ∙ ap (λ zs. w.done ++ zs) none)) (CoversAll-append words w.done [] (w.covers all) tt)

@@ -10,7 +10,6 @@ pub mod ContentsSplitOff
 pub mod DroppedRing
 pub mod Ends
 pub mod Entries
-pub mod FilterFills
 pub mod Filters
 pub mod FirstAndLast
 pub mod IndexMoves

@@ -1,8 +1,8 @@
 -- A filter: a word of 16 bits for each bucket, with the bits of the hashes that its nodes may have.
-use Rattle.std.specs.Prelude.{◌≡◌, ◌≢◌, ℕ, ◌/◌, ◌%◌, ◌^◌, ◌==◌, Bool, true, List, [], ◌∷◌, ◌++◌, length, Option, slice_index_or}
+use Rattle.std.specs.Prelude.{◌≡◌, ◌≢◌, ℕ, ◌/◌, ◌%◌, ◌^◌, ◌==◌, Bool, true, List, [], ◌∷◌, length, Option, slice_index_or}
 use Rattle.std.specs.Int.{bit_at}
 use denote.RawPtr.{Ptr}
-use Rattle.lhm_ring.specs.RingState.{Held, first_at}
+use Rattle.lhm_ring.specs.RingState.{Held}
 
 -- in the word of the hash's bucket, the bit of the hash is set: that of its upper four bits
 abbrev pub may_contain : List ℕ → ℕ → Bool
@@ -22,11 +22,3 @@ CoversAll words (x ∷ xs) = (may_contain words x.hash ≡ true) × CoversAll wo
 pub record IsFilter {B : Type 0} (words : List ℕ) (heads : List (Option Ptr)) (nodes : List (Held B)) : Type 0 where
   pub count : length words ≡ length heads
   pub covers : CoversAll words nodes
-
--- the bits of the first nodes are set, and the rest begins at pointer
-pub record IsCoveredUpTo {B : Type 0} (words : List ℕ) (nodes : List (Held B)) (pointer : Option Ptr) : Type 0 where
-  pub done : List (Held B)
-  pub rest : List (Held B)
-  pub is : nodes ≡ done ++ rest
-  pub covers : CoversAll words done
-  pub pointer_is : pointer ≡ first_at rest

@@ -3,6 +3,7 @@ use Rattle.std.specs.Prelude.{◌≡◌, ℕ, ◌%◌, ◌<◌, ◌≤◌, ◌==
 use denote.RawPtr.{Ptr}
 use Rattle.lhm_ring.specs.RingState.{Held, IsHeld, AtHeld, linked_to, first_at}
 use Rattle.lhm_ring.specs.Index.{Spot, spots, IsChain, IsRearranged, is_in, same, beside, Indexes}
+use Rattle.lhm_ring.specs.Filters.{CoversAll}
 
 -- what is true of the node at p
 abbrev pub OfNodeAt : {K V : Type 0} → List (Held (K × V)) → Ptr → (Held (K × V) → Type 0) → Type 0
@@ -105,12 +106,14 @@ pub record IsChained {K V : Type 0} (p : Ptr) (heads heads' : List (Option Ptr))
 abbrev pub Chains : {K V : Type 0} → Ptr → List (Option Ptr) → List (Option Ptr) → List (Held (K × V)) → List (Held (K × V)) → Type 0
 Chains {K} {V} p heads heads' nodes nodes' = AtHeld nodes p (λ before x after. IsChained p heads heads' nodes' before x after)
 
--- the first nodes are rehashed, and the rest begins at pointer
-pub record IsRechained {K V : Type 0} (heads : List (Option Ptr)) (old nodes : List (Held (K × V))) (pointer : Option Ptr) (count buckets : ℕ) : Type 0 where
+-- the first nodes are rehashed, their bits are set if the filter has a word for each bucket, and the
+-- rest begins at pointer
+pub record IsRechained {K V : Type 0} (heads : List (Option Ptr)) (words : List ℕ) (old nodes : List (Held (K × V))) (pointer : Option Ptr) (count buckets : ℕ) : Type 0 where
   pub done : List (Held (K × V))
   pub rest : List (Held (K × V))
   pub is : nodes ≡ done ++ rest
   pub indexed : Indexes heads (spots done)
+  pub covers : length words ≡ buckets → CoversAll words done
   pub pointer_is : pointer ≡ first_at rest
   pub count_is : count ≡ length done
   pub kept : entries nodes ≡ entries old

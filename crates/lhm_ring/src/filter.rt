@@ -1,10 +1,8 @@
 //! The filter of a table: which hashes the nodes of each bucket may have.
 ghost use Rattle.std.specs.Prelude.{◌≡◌, ◌≢◌, ◌%◌, ◌<◌, [], length, ◌/◌, ◌^◌, IfOk, IsOk, IsTrue, ℕ, vec_len, vec_capacity};
 ghost use Rattle.lhm_ring.specs.Buckets.{IsBucketCount};
-ghost use Rattle.lhm_ring.specs.Filters.{may_contain, CoversAll};
+ghost use Rattle.lhm_ring.specs.Filters.{may_contain};
 
-use crate::heads::masked;
-use crate::ring::Ring;
 use std::alloc::{AllocError, Global};
 use std::marker::Model;
 use std::mem::{self, size_of};
@@ -85,6 +83,13 @@ impl Filter {
         })
     }
 
+    /// Returns the number of words.
+    pub(crate) fn len(&self) -> usize
+        ensures { result ≡ length self.now }
+    {
+        self.words.len()
+    }
+
     /// Returns whether a node may have a hash, whose bucket is given: `false` if none has it, in
     /// O(1).
     pub(crate) fn may_contain(&self, bucket: usize, hash: u64) -> bool
@@ -129,21 +134,11 @@ impl Filter {
         }
     }
 
-    /// Replaces the words by fresh ones, sets the bits of all held nodes, in O(n), and frees the
-    /// old words.
-    pub(crate) fn take_over<K, V>(&mut self, fresh: Filter, ring: &Ring<K, V>)
-        requires some { length fresh ≡ 0 → ring.now.held ≡ [] }
-        ensures covers { CoversAll self.new ring.now.held }
-        ensures buckets { length self.new ≡ length fresh }
+    /// Replaces the words by fresh ones, and frees the old words.
+    pub(crate) fn replace(&mut self, fresh: Filter)
+        ensures { self.new ≡ fresh }
     {
         mem::replace(self, fresh).free();
-        let mut pointer = ring.first();
-        while let Some(at) = pointer {
-            let hash = ring.hash(at);
-            let bucket = masked(hash, self.words.len());
-            self.insert(bucket, hash);
-            pointer = ring.next(at);
-        }
     }
 
     /// Ends the filter and frees its words, in O(n).

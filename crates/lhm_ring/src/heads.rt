@@ -6,7 +6,9 @@ ghost use Rattle.lhm_ring.specs.Heads.{leads_to};
 ghost use Rattle.lhm_ring.specs.Index.{spots, Indexes};
 ghost use Rattle.lhm_ring.specs.Search.{OfNodeAt, entries, Chains, HasNoChain};
 ghost use Rattle.lhm_ring.specs.Buckets.{IsBucketCount};
+ghost use Rattle.lhm_ring.specs.Filters.{CoversAll};
 
+use crate::filter::Filter;
 use crate::link::Link;
 use crate::position::Position;
 use crate::ring::Ring;
@@ -48,23 +50,36 @@ pub(crate) fn chain_one<K, V>(
     bucket
 }
 
-/// Chains all held nodes into empty buckets, and counts them.
-pub(crate) fn chain_all<K, V>(heads: &mut Vec<Head>, ring: &mut Ring<K, V>) -> usize
+/// Chains all held nodes into empty buckets, and counts them. It sets the bits of their hashes in a
+/// filter with a word for each bucket, and leaves any other filter as it is. One loop does both,
+/// since a loop over the nodes waits for a link each.
+pub(crate) fn chain_all<K, V>(
+    heads: &mut Vec<Head>,
+    filter: &mut Filter,
+    ring: &mut Ring<K, V>,
+) -> usize
     requires empty { HasNoChain (map leads_to heads.old.items) }
     requires power { IsBucketCount (vec_len heads.old) }
     requires some { vec_len heads.old ≡ 0 → ring.old.held ≡ [] }
     requires small { length ring.old.held < 2 ^ 64 }
     ensures indexed { Indexes (map leads_to heads.new.items) (spots ring.new.held) }
+    ensures covers { length filter.old ≡ vec_len heads.old → CoversAll filter.new ring.new.held }
     ensures count { result ≡ length ring.old.held }
     ensures held { entries ring.new.held ≡ entries ring.old.held }
     ensures spares { ring.new.spares ≡ ring.old.spares }
     ensures nodes { ring.new.nodes ≡ ring.old.nodes }
     ensures buckets { vec_len heads.new ≡ vec_len heads.old }
+    ensures words_stay { length filter.new ≡ length filter.old }
 {
+    let fits = filter.len() == heads.len();
     let mut count = 0;
     let mut pointer = ring.first();
     while let Some(at) = pointer {
-        chain_one(heads, ring, at);
+        let hash = ring.hash(at);
+        let bucket = chain_one(heads, ring, at);
+        if fits {
+            filter.insert(bucket, hash);
+        }
         count += 1;
         pointer = ring.next(at);
     }

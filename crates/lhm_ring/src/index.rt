@@ -8,7 +8,9 @@ ghost use Rattle.lhm_ring.specs.Positions.{pointer_of, pointer_of_some};
 ghost use Rattle.lhm_ring.specs.Index.{spots, Indexes};
 ghost use Rattle.lhm_ring.specs.Search.{OfNodeAt, entries, HoldsOthers, IsEmptied, IsOnChain, HasNoChain};
 ghost use Rattle.lhm_ring.specs.Buckets.{buckets, IsBucketCount};
+ghost use Rattle.lhm_ring.specs.Filters.{CoversAll};
 
+use crate::filter::Filter;
 use crate::heads::{Head, chain_all, chain_one, clear_heads, empty_heads, free_heads, masked};
 use crate::link::Link;
 use crate::position::Position;
@@ -222,8 +224,34 @@ impl<K, V> Index<K, V> {
         ensures nodes { ring.new.nodes ≡ ring.old.nodes }
         ensures buckets { length self.new ≡ length fresh }
     {
+        let mut none = Filter::new(ring.allocator());
+        let count = self.rehash(fresh, &mut none, ring);
+        none.free();
+        count
+    }
+
+    /// Rehashes all held nodes as `take_over` does, and sets the bits of their hashes in a filter
+    /// with a word for each of the fresh buckets.
+    pub(crate) fn rehash(
+        &mut self,
+        fresh: Index<K, V>,
+        filter: &mut Filter,
+        ring: &mut Ring<K, V>,
+    ) -> usize
+        requires empty { HasNoChain fresh }
+        requires some { length fresh ≡ 0 → ring.old.held ≡ [] }
+        requires small { length ring.old.held < 2 ^ 64 }
+        ensures indexed { Indexes self.new (spots ring.new.held) }
+        ensures covers { length filter.old ≡ length fresh → CoversAll filter.new ring.new.held }
+        ensures count { result ≡ length ring.old.held }
+        ensures held { entries ring.new.held ≡ entries ring.old.held }
+        ensures spares { ring.new.spares ≡ ring.old.spares }
+        ensures nodes { ring.new.nodes ≡ ring.old.nodes }
+        ensures buckets { length self.new ≡ length fresh }
+        ensures words_stay { length filter.new ≡ length filter.old }
+    {
         mem::replace(self, fresh).free();
-        chain_all(&mut self.heads, ring)
+        chain_all(&mut self.heads, filter, ring)
     }
 
     /// Empties all chains, for a ring that holds nothing any more. The buckets stay. It is O(n) in

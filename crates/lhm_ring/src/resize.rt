@@ -49,8 +49,8 @@ impl<K, V> Table<K, V> {
         let (index, filter) = with_filter(self.ring.allocator(), capacity)?;
         match self.ring.grow_within(additional, index.buckets()) {
             Ok(()) => {
-                self.rechained += self.index.take_over(index, &mut self.ring);
-                self.filter.take_over(filter, &self.ring);
+                self.filter.replace(filter);
+                self.rechained += self.index.rehash(index, &mut self.filter, &mut self.ring);
                 Ok(())
             }
             Err(refused) => {
@@ -114,8 +114,8 @@ impl<K, V> Table<K, V> {
         let (index, filter) = with_filter(self.ring.allocator(), self.ring.len())?;
         match self.ring.compact() {
             Ok(()) => {
-                self.rechained = self.index.take_over(index, &mut self.ring);
-                self.filter.take_over(filter, &self.ring);
+                self.filter.replace(filter);
+                self.rechained = self.index.rehash(index, &mut self.filter, &mut self.ring);
                 Ok(())
             }
             Err(refused) => {
