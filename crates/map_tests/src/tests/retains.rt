@@ -167,7 +167,7 @@ fn retain_under<S: BuildHasher + Drop>(rt: &impl Abort, alloc: Global, builder: 
 
 #[test]
 fn keeps_one_chain(rt: HostRuntime) {
-    retain_under(&rt, rt.alloc(), BuildSame { number: 7 });
+    retain_under(&rt, rt.alloc(), BuildSame { hash: 7 });
 }
 
 /// Keeps some of the pairs in a mode, and checks the mode and what an insertion does then.
