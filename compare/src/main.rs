@@ -5,12 +5,12 @@ mod changes;
 mod comparisons;
 mod entries;
 mod hasher;
+mod iterators;
 mod key;
 mod line;
 mod list;
 mod lookups;
 mod making;
-mod walks;
 
 use hasher::BuildKeyHasher;
 use key::Key;
@@ -38,7 +38,7 @@ fn run_call(
         || changes::run(name, line, map, text)?
         || making::run(name, line, map, other, text)?
         || entries::run(name, line, map, text)?
-        || walks::run(name, line, map, text)?
+        || iterators::run(name, line, map, text)?
         || comparisons::run(name, line, map, other, text)?;
     if !known {
         write!(text, "unknown ")?;

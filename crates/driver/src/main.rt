@@ -12,6 +12,7 @@ mod changes;
 mod comparisons;
 mod entries;
 mod hasher;
+mod iterators;
 mod key;
 mod line;
 mod list;
@@ -19,7 +20,6 @@ mod lookups;
 mod making;
 mod show;
 mod stop;
-mod walks;
 
 use hasher::BuildKeyHasher;
 use key::Key;
@@ -48,7 +48,7 @@ fn run_call(
         || changes::run(name, line, map, text)?
         || making::run(alloc, name, line, map, other, text)?
         || entries::run(name, line, map, text)?
-        || walks::run(alloc, name, line, map, text)?
+        || iterators::run(alloc, name, line, map, text)?
         || comparisons::run(alloc, name, line, map, other, text)?;
     if !known {
         write!(text, "unknown ")?;

@@ -125,7 +125,7 @@ fn assert_boxed(rt: &impl Abort, map: &BoxedMap<'_>) {
 }
 
 #[test]
-fn refused_clone_leaves_the_walk(rt: HostRuntime) {
+fn refused_clone_leaves_the_iterator(rt: HostRuntime) {
     let left = Cell::new(1000);
     // The growths: the counted value; buckets, a filter, a list of chunks and a chunk; a box.
     clone_iterator(&rt, boxed_of(&rt, rt.alloc(), &left));
