@@ -4,7 +4,7 @@ ghost use Rattle.linked_hash_map.specs.Pairs.{value_at};
 
 use linked_hash_map::{LinkedHashMap, Refused};
 
-/// Returns the age of a person. The look-up takes a `&String`, and no `&str`.
+/// Returns the age of a person. The lookup takes a `&String`, and no `&str`.
 pub fn age_of(ages: &LinkedHashMap<String, u64>, name: &String) -> Option<u64>
     ensures { result ≡ value_at string_eq ages.now.pairs name.now }
 {

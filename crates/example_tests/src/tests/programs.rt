@@ -193,7 +193,7 @@ fn check_insertions<S: BuildHasher + Drop>(
 }
 
 #[test]
-fn two_hashers_answer_the_same(rt: HostRuntime) {
+fn two_hashers_give_the_same_replies(rt: HostRuntime) {
     let mut map = LinkedHashMap::new(rt.alloc());
     let mut other = LinkedHashMap::with_hasher(rt.alloc(), given!(rt; RandomState::new(&rt)));
     let commands = three_insertions(&rt, rt.alloc());
