@@ -195,7 +195,7 @@ fn drops_the_clones_made_before_one_fails(rt: HostRuntime) {
     fail_to_clone_map(&rt, &map, &counted, &left);
     let copy = clone_map(&rt, &map, &counted, &left);
     drop(map);
-    // The hasher goes at once.
+    // The hasher is dropped at once.
     clone_pairs_of(&rt, copy.into_iter(), &counted, &left);
     assert_held(&rt, &counted, 1);
 }

@@ -66,7 +66,7 @@ fn drops_what_a_closure_replaces(rt: HostRuntime) {
     assert_dropped(&rt, &tally, 255);
 }
 
-/// The closure goes at once, and the key with its entry.
+/// The closure is dropped at once, and the key with its entry.
 fn modify_absent<'a>(rt: &impl Abort, tally: &'a Tally, map: &mut CountedMap<'a>) {
     let entry = and_modify(map, tally.thing(4, KEY), tally.thing(4, VALUE));
     assert_dropped(rt, tally, VALUE);
