@@ -10,6 +10,7 @@ use crate::tests::multiple::KEY;
 use linked_hash_map::LinkedHashMap;
 use std::alloc::Global;
 use std::cell::Cell;
+use std::hash::Hash;
 use std::process::Abort;
 use std::rc::Rc;
 
@@ -118,17 +119,22 @@ fn copy_map_of_kind<'a>(
     map
 }
 
-/// Extends a map by one reference, which is to compare so many keys and to build one hasher.
-fn extend_refs<'a>(
+/// Extends a map by a reference to one pair.
+fn extend_refs<K: Eq + Hash + Copy>(map: &mut LinkedHashMap<K, u64, Builder>, key: &K) -> bool {
+    map.extend_refs([(key, &1)]).is_ok()
+}
+
+/// Extends a map by a reference, which is to compare so many keys and to build one hasher.
+fn extend_refs_by<'a>(
     rt: &impl Abort,
     map: &mut CopyMap<'a>,
     counts: &Rc<Counts>,
-    key: Counting<'a>,
+    key: &Counting<'a>,
     compared: usize,
 ) {
     key.compared.set(0);
     let wanted = Calls { built: 1, ..NONE };
-    check_calls!(rt; counts, map.extend_refs([(&key, &1)]).is_ok(), wanted);
+    check_calls!(rt; counts, extend_refs(map, key), wanted);
     check_eq!(rt; key.compared.get(), compared);
 }
 
@@ -137,10 +143,10 @@ fn extend_refs_present<'a>(
     rt: &impl Abort,
     map: &mut CopyMap<'a>,
     counts: &Rc<Counts>,
-    key: Counting<'a>,
+    key: &Counting<'a>,
 ) {
-    let compared = map.get_counted(&key).1.compared;
-    extend_refs(rt, map, counts, key, compared);
+    let compared = map.get_counted(key).1.compared;
+    extend_refs_by(rt, map, counts, key, compared);
 }
 
 /// Extends a map of a kind by references to each of its keys, and to an absent one, which then is
@@ -150,14 +156,14 @@ fn extend_refs_each(rt: &impl Abort, alloc: Global, kind: &Kind) {
     let compared = &Cell::new(0);
     let mut map = copy_map_of_kind(rt, alloc, kind, &counts, compared);
     for number in 0..kind.len {
-        extend_refs_present(rt, &mut map, &counts, Counting { number, compared });
+        extend_refs_present(rt, &mut map, &counts, &Counting { number, compared });
     }
     let key = Counting {
         number: 99,
         compared,
     };
-    extend_refs(rt, &mut map, &counts, key, kind.same);
-    extend_refs_present(rt, &mut map, &counts, key);
+    extend_refs_by(rt, &mut map, &counts, &key, kind.same);
+    extend_refs_present(rt, &mut map, &counts, &key);
 }
 
 fn extend_refs_in_each(rt: &impl Abort, alloc: Global) {
