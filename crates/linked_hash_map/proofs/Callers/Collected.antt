@@ -1,5 +1,5 @@
 -- For callers: insertions one after another.
-use Rattle.std.proofs.Common.{◌≡◌, ◌+◌, ◌≤◌, Bool, true, false, cond, not, ◌||◌, List, [], ◌∷◌, ◌++◌, length, filter, reverse, append_assoc, append-nil, Option, Some, None, is_some, true≢false, option_map, refl, sym, ap, ap₂, ◌∙◌, arith}
+use Rattle.std.proofs.Common.{◌≡◌, ◌+◌, ◌≤◌, Bool, true, false, cond, not, ◌||◌, List, [], ◌∷◌, ◌++◌, length, filter, reverse, append_assoc, append-nil, Option, Some, is_some, option_map, refl, sym, ap, ap₂, ◌∙◌, arith}
 use Rattle.std.specs.Option.{option_or}
 use Rattle.std.specs.List.{IsDistinct, AllByRecursion}
 use Rattle.std.specs.Map.{keys_of}
@@ -11,13 +11,12 @@ use Rattle.linked_hash_map.specs.declared.map.Mode.TheVariants.{Keep}
 use Rattle.linked_hash_map.specs.Pairs.{key_or, find, value_at, set_or_push, put}
 use Rattle.linked_hash_map.specs.Inserts.{insert_each}
 use Rattle.linked_hash_map.proofs.Lists.{by_last}
-use Rattle.linked_hash_map.proofs.LiveKeys.{none_is}
-use Rattle.linked_hash_map.proofs.Inserts.{insert_each-last, length-grows, length-put_most, distinct-put}
+use Rattle.linked_hash_map.proofs.Inserts.{insert_each-last, length-put_most, distinct-put}
 use Rattle.linked_hash_map.proofs.Callers.Keys.{keys_of-set_or_push}
 use Rattle.linked_hash_map.proofs.Callers.Lookups.{value_at-put, find-put, find-set_or_push_apart}
 use Rattle.linked_hash_map.proofs.Callers.Turns.{find-others}
--- keys that differ still do, and items with keys that differ, inserted into nothing, are the pairs
-pub use Rattle.linked_hash_map.proofs.Inserts.{distinct-insert_each, insert_each-distinct}
+-- items with keys that differ, inserted into nothing, are the pairs
+pub use Rattle.linked_hash_map.proofs.Inserts.{insert_each-distinct}
 
 or-false : (b : Bool) → b ≡ (b || false)
 or-false true = refl
@@ -69,24 +68,7 @@ module _ {K V : Type 0} {eq : K → K → Bool} (laws : IsEquivalence eq) where
       by_test true same false older = ap (λ b. is_some (cond b (Some (key_or item.0 (find eq pairs item.0), item.1)) (find eq pairs q)) || is_some (find eq items q)) same ∙ sym (ap (λ h. h || true) older)
       by_test false same h older = ap (λ b. is_some (cond b (Some (key_or item.0 (find eq pairs item.0), item.1)) (find eq pairs q)) || is_some (find eq items q)) same
 
-  -- so one that is absent then was absent
-  pub find-insert_each_absent : (mode : Mode) (pairs items : List (K × V)) (q : K)
-      → find eq (insert_each eq mode pairs items) q ≡ None → find eq pairs q ≡ None
-  find-insert_each_absent mode pairs items q absent = none_is (find eq pairs q) (none_of (is_some (find eq pairs q)) (sym (is_some-insert_each mode pairs items q) ∙ ap is_some absent))
-    where
-      none_of : (b : Bool) → (b || is_some (find eq items q)) ≡ false → b ≡ false
-      none_of true h = absurd (true≢false h)
-      none_of false h = refl
-
-  -- no pair goes, and one for each item comes at most
-  pub length-insert_each_least : (mode : Mode) (pairs items : List (K × V))
-      → IsDistinct eq (keys_of pairs) → length pairs ≤ length (insert_each eq mode pairs items)
-  length-insert_each_least mode pairs [] distinct = omega arith
-  length-insert_each_least mode pairs (item ∷ items) distinct =
-      let rest = length-insert_each_least mode (put eq mode pairs item.0 item.1) items (distinct-put laws mode pairs item.0 item.1 distinct) in
-      let grows = length-grows laws mode pairs item.0 item.1 distinct in
-      omega arith
-
+  -- one pair for each item comes at most
   pub length-insert_each_most : (mode : Mode) (pairs items : List (K × V))
       → IsDistinct eq (keys_of pairs)
       → length (insert_each eq mode pairs items) ≤ length pairs + length items
@@ -110,7 +92,7 @@ module _ {K V : Type 0} {eq : K → K → Bool} (laws : IsEquivalence eq) (mode 
     where
       by_test : (b : Bool) → eq q item.0 ≡ b → option_or (value_at eq items q) (cond (eq item.0 q) (Some item.1) (value_at eq pairs q)) ≡ option_or (option_map (λ (pair : K × V). pair.1) (cond b (Some item) (find eq items q))) (value_at eq pairs q)
       by_test true same =
-          let none = find-others laws items item q distinct same in
+          let none = find-others laws items q item distinct same in
           ap (λ o. option_or (option_map (λ (pair : K × V). pair.1) o) (cond (eq item.0 q) (Some item.1) (value_at eq pairs q))) none
           ∙ ap (λ b. cond b (Some item.1) (value_at eq pairs q)) (laws.symm item.0 q ∙ same)
       by_test false apart = ap (λ b. option_or (value_at eq items q) (cond b (Some item.1) (value_at eq pairs q))) (laws.symm item.0 q ∙ apart)

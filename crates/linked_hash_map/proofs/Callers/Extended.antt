@@ -81,7 +81,7 @@ module _ {T I K V : Type 0} {becomes : T → I → Type 0} {steps : I → Option
     capacity-Collects each left =
         let bound = left collects.iterator collects.made in
         let lower = collects.hint bound.0 in
-        let most = length-insert_each_most laws Touch [] all (distinct-nil eq V) in
+        let most = length-insert_each_most laws Touch [] all (distinct-nil eq) in
         let length_is = ap length (pairs-Collects each) in
         let room = collects.room in
         (omega arith, omega arith)
@@ -141,7 +141,7 @@ module _ {T K V : Type 0} {becomes : T → List (K × V) → Type 0} {source : T
       ∙ keys_of-insert_each_keep laws old all (is inserts.gives.iterator inserts.gives.made).1
 
 -- what a vector becomes gives its items, and has as many left
-module _ {T Z K V : Type 0} (becomes : T → _ → Type 0) (source : T) (vec : Vec (K × V) Z) (is : (it : _) → becomes source it → (into_iter_items {X = K × V} {Z = Z} it ≡ vec_items vec) × (into_iter_len it ≡ vec_len vec)) where
+module _ {T Z K V : Type 0} (becomes : T → _ → Type 0) (vec : Vec (K × V) Z) (source : T) (is : (it : _) → becomes source it → (into_iter_items {X = K × V} {Z = Z} it ≡ vec_items vec) × (into_iter_len it ≡ vec_len vec)) where
   yields : (it : _) → becomes source it → YieldsList into_iter_steps (λ pair. pair) it (vec_items vec)
   yields it made = let told = is it made in YieldsList-from_vec {s = it} (vec_items vec) told.0 (omega (arith, told.1, vec.ok.0))
 
@@ -152,7 +152,7 @@ module _ {T Z K V : Type 0} (becomes : T → _ → Type 0) (source : T) (vec : V
 -- `extend` of a vector, and `from_iter` of one
 pub pairs-InsertsAll_vec : {T Z K V : Type 0} {becomes : T → _ → Type 0} {source : T} {eq : K → K → Bool} {mode : Mode} {old new : List (K × V)} (vec : Vec (K × V) Z) → InsertsAll becomes (into_iter_steps {X = K × V} {Z = Z}) source eq (λ pair. pair) mode old new
     → ((it : _) → becomes source it → (into_iter_items {X = K × V} {Z = Z} it ≡ vec_items vec) × (into_iter_len it ≡ vec_len vec)) → new ≡ insert_each eq mode old (vec_items vec)
-pairs-InsertsAll_vec {becomes = becomes} {source} vec inserts is = pairs-InsertsAll inserts (yields becomes source vec is)
+pairs-InsertsAll_vec {becomes = becomes} {source} vec inserts is = pairs-InsertsAll inserts (yields becomes vec source is)
 
 pub pairs-Collects_vec : {T Z K V : Type 0} {becomes : T → _ → Type 0} {source : T} {eq : K → K → Bool} {pairs : List (K × V)} {capacity rechained : ℕ} (vec : Vec (K × V) Z) → Collects becomes (into_iter_steps {X = K × V} {Z = Z}) source (λ it. at_most (into_iter_len it)) eq pairs capacity rechained
     → ((it : _) → becomes source it → (into_iter_items {X = K × V} {Z = Z} it ≡ vec_items vec) × (into_iter_len it ≡ vec_len vec)) → pairs ≡ insert_each eq Touch [] (vec_items vec)
@@ -164,8 +164,8 @@ pub Collects_distinct_vec : {T Z K V : Type 0} {becomes : T → _ → Type 0} {s
     → ((it : _) → becomes source it → (into_iter_items {X = K × V} {Z = Z} it ≡ vec_items vec) × (into_iter_len it ≡ vec_len vec)) → IsDistinct eq (keys_of (vec_items vec))
     → (pairs ≡ vec_items vec) × (capacity ≡ length (vec_items vec)) × ((lower : ℕ) × (lower ≤ length (vec_items vec)) × (rechained ≡ rechained_each 0 lower (length (vec_items vec) - lower)))
 Collects_distinct_vec {becomes = becomes} {source} laws vec collects is distinct =
-    let most = GivesAtMost-vec becomes source vec is in
-    let exact = capacity-Collects_distinct laws collects (yields becomes source vec is) distinct most in
+    let most = GivesAtMost-vec becomes vec source is in
+    let exact = capacity-Collects_distinct laws collects (yields becomes vec source is) distinct most in
     let counted = rechained-Collects (length (vec_items vec)) collects most in (
       pairs-Collects_vec vec collects is ∙ insert_each-distinct laws Touch (vec_items vec) distinct,
       exact,
