@@ -18,15 +18,25 @@ module _ {F K V : Type 0} (T : F → K → V → Bool → V → F → Type 0) wh
   CallsAt f hs p b w f' = AtHeld hs p (λ xs t ys. T f t.pair.0 t.pair.1 b w f')
 
   -- and the pair stayed with that value, or was removed
-  abbrev pub RetainsAt : F → List (Held (K × V)) → Ptr → List (Held (K × V)) → F → Type 0
-  RetainsAt f hs p new f' = (b : Bool) × (w : V) × AtHeld hs p (λ xs t ys. T f t.pair.0 t.pair.1 b w f' × (new ≡ xs ++ cond b (revalued w t ∷ ys) ys))
+  pub record RetainsAt (f : F) (hs : List (Held (K × V))) (p : Ptr) (new : List (Held (K × V))) (f' : F) : Type 0 where
+    pub returned : Bool
+    pub value : V
+    pub leaves : AtHeld hs p (λ xs t ys. T f t.pair.0 t.pair.1 returned value f' × (new ≡ xs ++ cond returned (revalued value t ∷ ys) ys))
 
   -- f was called at each pair in turn, and kept has those at which it returned `true`, with the
-  -- values that it left there
+  -- values that it left there: the first call returned this, and left the value and the closure so,
+  -- and rest is what is kept of the other pairs
   abbrev pub RetainsHeld : F → List (Held (K × V)) → List (Held (K × V)) → Type 0
   RetainsHeld f [] kept = kept ≡ []
-  RetainsHeld f (t ∷ hs) kept =
-      (b : Bool) × (w : V) × (f' : F) × (rest : List (Held (K × V))) × T f t.pair.0 t.pair.1 b w f' × RetainsHeld f' hs rest × (kept ≡ cond b (revalued w t ∷ rest) rest)
+  RetainsHeld f (t ∷ hs) kept = record {
+    returned : Bool;
+    value : V;
+    closure : F;
+    rest : List (Held (K × V));
+    called : T f t.pair.0 t.pair.1 returned value closure;
+    retained : RetainsHeld closure hs rest;
+    kept_is : kept ≡ cond returned (revalued value t ∷ rest) rest;
+  }
 
   -- the closure, which was start, has been called at some of the pairs in old, and is now f; the
   -- rest begins at next
