@@ -21,7 +21,7 @@ module _ {B : Type 0} where
   pub stacked_one : (cs : List (Cell Links B)) (s : Link) (n : ℕ) (ds : List (Cell Links B)) (l : Links) (p : NodePointer) (es : List (Cell Links B)) (top : Link)
       → IsStacked cs s n ds l.link → es ≡ cell p.ptr l None ∷ ds → target top ≡ Some p.ptr → IsStacked cs s (n + 1) es top
   unfolding IsStacked
-  stacked_one cs s n ds l p es top k e et = let count : suc n ≡ n + 1 = omega arith in subst (λ m. IsStacked cs s m es top) count (p.ptr, ds, l, et, e, k)
+  stacked_one cs s n ds l p es top k e et = let count : suc n ≡ n + 1 = omega arith in subst (λ m. IsStacked cs s m es top) count (record { pointer = p.ptr; below = ds; links = l; top_is = et; nodes_are = e; stacked = k })
 
 module _ {B : Type 0} (e : Ends) where
   -- a ring with spare nodes more
@@ -31,16 +31,16 @@ module _ {B : Type 0} (e : Ends) where
   IsRing-stacked zero cs s ds f ps ss k d b r =
       (ss, subst (λ (z : List (Cell Links B) × Link). IsRing (ring_cells e z.0) ps (target z.1) ss) (λ i. (sym k.0 i, sym k.1 i)) r, omega arith, ap (λ zs. listed (ring_cells e zs) ps) k.0)
   IsRing-stacked (suc n) cs s ds f ps ss k d b r =
-      let p = k.0 in let es = k.1 in let l = k.2 in
-      let d' : IsApart (pointers (cell p l None ∷ es)) = subst (λ zs. IsApart (pointers zs)) k.4 d in
-      let b' : AreBlocks (pointers (cell p l None ∷ es)) = subst (λ zs. AreBlocks (pointers zs)) k.4 b in
-      let on = IsRing-stacked n cs s es l.link ps ss k.5 (apart_tail p (pointers es) d') b'.1 r in
+      let p = k.pointer in let es = k.below in let l = k.links in
+      let d' : IsApart (pointers (cell p l None ∷ es)) = subst (λ zs. IsApart (pointers zs)) k.nodes_are d in
+      let b' : AreBlocks (pointers (cell p l None ∷ es)) = subst (λ zs. AreBlocks (pointers zs)) k.nodes_are b in
+      let on = IsRing-stacked n cs s es l.link ps ss k.stacked (apart_tail p (pointers es) d') b'.1 r in
       let ring : IsRing (ring_cells e (cell p l None ∷ es)) ps (Some p) (p ∷ on.0) = IsRing-added e es p l b'.0 d' ps (target l.link) on.0 on.1 refl in
       let long = on.2 in (
         p ∷ on.0,
-        subst (λ (z : List (Cell Links B) × Option Ptr). IsRing (ring_cells e z.0) ps z.1 (p ∷ on.0)) (λ i. (sym k.4 i, sym k.3 i)) ring,
+        subst (λ (z : List (Cell Links B) × Option Ptr). IsRing (ring_cells e z.0) ps z.1 (p ∷ on.0)) (λ i. (sym k.nodes_are i, sym k.top_is i)) ring,
         omega arith,
-        ap (λ zs. listed (ring_cells e zs) ps) k.4 ∙ more_listed e es p l b'.0 d' ps (target l.link) on.0 on.1 refl ∙ on.3,
+        ap (λ zs. listed (ring_cells e zs) ps) k.nodes_are ∙ more_listed e es p l b'.0 d' ps (target l.link) on.0 on.1 refl ∙ on.3,
       )
 
   -- more of the spare nodes are counted
