@@ -245,8 +245,14 @@ module _ {B : Type 0} (e : Ends) (nodes : List (Cell Links B)) (spare : Link) (n
       row_now = row_kept ds es null_ptr null_ptr j o.0 (free_source o.0 free_row) (free_target o.0 free_row) (row_same cs ds same.next same.prev o.0 (linked_tail cs null_ptr o.0 cut.0))
 
       pub spliced_row : IsSpan es (next_at cs null_ptr) (prev_at cs null_ptr) n
-      spliced_row =
-          (o.0, o.3, row_now, ends_of o.0 cut.0 cut.1, all_from (HasContent cs) (HasContent es) (λ q k. let d = has_still q k in (d.0, j.content q ∙ d.1)) o.0 o.2.held, apart_left o.0 o.1 (apart_tail null_ptr (o.0 ++ o.1) o.2.apart))
+      spliced_row = record {
+        pointers = o.0;
+        count = o.3;
+        linked = row_now;
+        ends = ends_of o.0 cut.0 cut.1;
+        held = all_from (HasContent cs) (HasContent es) (λ q k. let d = has_still q k in (d.0, j.content q ∙ d.1)) o.0 o.2.held;
+        apart = apart_left o.0 o.1 (apart_tail null_ptr (o.0 ++ o.1) o.2.apart);
+      }
 
       triples_same : (rs : List Ptr) → triples (listed ds rs) ≡ triples (listed cs rs)
       unfolding listed

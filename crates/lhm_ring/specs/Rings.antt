@@ -167,5 +167,11 @@ module _ {B : Type 0} where
   RingOk cs spare n m = (ps : List Ptr) × (ss : List Ptr) × IsRing cs ps (target spare) ss × (length ps ≡ n) × (m ≤ length ss) × (n + m ≤ 2 ^ 59)
 
   -- n nodes that hold something, each right after the one before, from f to b
-  abbrev pub IsSpan : List (Cell Links B) → Ptr → Ptr → ℕ → Type 0
-  IsSpan cs f b n = (rs : List Ptr) × (length rs ≡ n) × Linked cs rs × HasEnds rs f b × AllByRecursion (HasContent cs) rs × IsApart rs
+  pub record IsSpan (cs : List (Cell Links B)) (f b : Ptr) (n : ℕ) : Type 0 where
+    -- where they lie, in order
+    pub pointers : List Ptr
+    pub count : length pointers ≡ n
+    pub linked : Linked cs pointers
+    pub ends : HasEnds pointers f b
+    pub held : AllByRecursion (HasContent cs) pointers
+    pub apart : IsApart pointers
