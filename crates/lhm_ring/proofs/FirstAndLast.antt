@@ -48,14 +48,14 @@ module _ {B : Type 0} (cs : List (Cell Links B)) where
       ∙ sym (led_apart (prev_at cs p) (ap (same_ptr null_ptr) (cut_row cs null_ptr (q ∷ qs) p [] l).1.1 ∙ all_last (λ r. same_ptr null_ptr r ≡ false) q qs f.0 f.1))
 
 module _ {B : Type 0} (cs : List (Cell Links B)) (spare : Link) (n m : ℕ) (v : State B) (ok : RingOk cs spare n m) {total : ℕ} (w : state (ring_list cs n) m total ≡ v) where
-  shown : listed cs ok.0 ≡ v.held
-  shown = sym (ring_listed cs ok.0 (target spare) ok.1 n ok.2 ok.3) ∙ ap (λ (z : State B). z.held) w
+  shown : listed cs ok.held_pointers ≡ v.held
+  shown = sym (ring_listed cs ok.held_pointers (target spare) ok.spare_pointers n ok.ring ok.held_count) ∙ ap (λ (z : State B). z.held) w
 
-  free : IsFresh null_ptr ok.0
-  free = all_left (λ q. same_ptr null_ptr q ≡ false) ok.0 ok.1 (apart_head null_ptr (ok.0 ++ ok.1) ok.2.apart)
+  free : IsFresh null_ptr ok.held_pointers
+  free = all_left (λ q. same_ptr null_ptr q ≡ false) ok.held_pointers ok.spare_pointers (apart_head null_ptr (ok.held_pointers ++ ok.spare_pointers) ok.ring.apart)
 
   pub first_found : led_to (next_at cs null_ptr) ≡ first_at v.held
-  first_found = sym (first_led cs null_ptr ok.0 ok.2.held free ok.2.linked) ∙ ap first_at shown
+  first_found = sym (first_led cs null_ptr ok.held_pointers ok.ring.held free ok.ring.linked) ∙ ap first_at shown
 
   pub last_found : led_to (prev_at cs null_ptr) ≡ last_at v.held
-  last_found = sym (last_led cs null_ptr ok.0 ok.2.held free ok.2.linked) ∙ ap last_at shown
+  last_found = sym (last_led cs null_ptr ok.held_pointers ok.ring.held free ok.ring.linked) ∙ ap last_at shown

@@ -110,12 +110,19 @@ module _ {B : Type 0} (cs : List (Cell Links B)) (spare : Link) (n m : ℕ) (v :
     moved_to s = IsRing-to_back cs (target spare) s.others s.before p s.after s.ring ds j' es fs k l
 
     long_to : (s : NodeAt cs spare n m p) → length ((s.before ++ s.after) ++ p ∷ []) ≡ n
-    long_to s = sym (length-to_back cs (target spare) s.others s.before p s.after s.ring ds j' es fs k l) ∙ s.long
+    long_to s = sym (length-to_back cs (target spare) s.others s.before p s.after s.ring ds j' es fs k l) ∙ s.held_count
 
     pub moved_ring : IsHeld v.held p → RingOk fs spare n m
     moved_ring h =
         let s = node_in cs spare n m v p ok w h in
-        ((s.before ++ s.after) ++ p ∷ [], s.others, moved_to s, long_to s, s.wide, s.small)
+        record {
+          held_pointers = (s.before ++ s.after) ++ p ∷ [];
+          spare_pointers = s.others;
+          ring = moved_to s;
+          held_count = long_to s;
+          enough_spares = s.enough_spares;
+          bounded = s.bounded;
+        }
 
     list_at : (t : Held B) → content_at cs p ≡ Some t → (s : NodeAt cs spare n m p) → ring_list fs n ≡ (listed cs s.before ++ listed cs s.after) ++ t ∷ []
     list_at t here s =

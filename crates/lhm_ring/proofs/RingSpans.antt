@@ -14,15 +14,15 @@ module _ {B : Type 0} where
   -- what a ring holds is in a row from its front to its back
   pub whole_ring : (cs : List (Cell Links B)) (spare : Link) (n m : ℕ) → RingOk cs spare n m → IsSpan cs (next_at cs null_ptr) (prev_at cs null_ptr) n
   whole_ring cs spare n m ok =
-      let k = cut_row cs null_ptr ok.0 null_ptr [] ok.2.linked in
-      let ends : HasEnds ok.0 (next_at cs null_ptr) (prev_at cs null_ptr) = ends_behind cs null_ptr (prev_at cs null_ptr) ok.0 k.0 (last_same null_ptr ok.0 ∙ sym k.1.1) in
+      let k = cut_row cs null_ptr ok.held_pointers null_ptr [] ok.ring.linked in
+      let ends : HasEnds ok.held_pointers (next_at cs null_ptr) (prev_at cs null_ptr) = ends_behind cs null_ptr (prev_at cs null_ptr) ok.held_pointers k.0 (last_same null_ptr ok.held_pointers ∙ sym k.1.1) in
       record {
-        pointers = ok.0;
-        count = ok.3;
-        linked = linked_tail cs null_ptr ok.0 k.0;
+        pointers = ok.held_pointers;
+        count = ok.held_count;
+        linked = linked_tail cs null_ptr ok.held_pointers k.0;
         ends = ends;
-        held = ok.2.held;
-        apart = apart_left ok.0 ok.1 (apart_tail null_ptr (ok.0 ++ ok.1) ok.2.apart);
+        held = ok.ring.held;
+        apart = apart_left ok.held_pointers ok.spare_pointers (apart_tail null_ptr (ok.held_pointers ++ ok.spare_pointers) ok.ring.apart);
       }
 
   follow_from : (cs : List (Cell Links B)) (n : ℕ) (p : Ptr) → follow cs n p ≡ pointers_from cs n (next_at cs p)

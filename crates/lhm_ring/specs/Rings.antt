@@ -163,8 +163,14 @@ module _ {B : Type 0} where
   ring_list cs n = listed cs (ring_pointers cs n)
 
   -- the nodes are a ring of n held and at least m spare ones
-  abbrev pub RingOk : List (Cell Links B) → Link → ℕ → ℕ → Type 0
-  RingOk cs spare n m = (ps : List Ptr) × (ss : List Ptr) × IsRing cs ps (target spare) ss × (length ps ≡ n) × (m ≤ length ss) × (n + m ≤ 2 ^ 59)
+  pub record RingOk (cs : List (Cell Links B)) (spare : Link) (n m : ℕ) : Type 0 where
+    -- where the held nodes lie, in order, and the spare ones, from the first on
+    pub held_pointers : List Ptr
+    pub spare_pointers : List Ptr
+    pub ring : IsRing cs held_pointers (target spare) spare_pointers
+    pub held_count : length held_pointers ≡ n
+    pub enough_spares : m ≤ length spare_pointers
+    pub bounded : n + m ≤ 2 ^ 59
 
   -- n nodes that hold something, each right after the one before, from f to b
   pub record IsSpan (cs : List (Cell Links B)) (f b : Ptr) (n : ℕ) : Type 0 where

@@ -12,7 +12,7 @@ use Rattle.lhm_ring.proofs.ring.Ring.grow_by.Goals as goal
 pub invariant_of-self : goal.invariant_of-self
 invariant_of-self g c =
     let i = c.self.inside in let made = count_made i.nodes.cells i.nodes.unused i.nodes.node_bytes i.nodes.chunks i.nodes.laid c.self.invariant.1.none_unused in let all = c.self.invariant.1.all_made in
-    let few = c.if-self-count.false in let small = c.self.invariant.0.5 in let enough = c.if-needed-self.true in
+    let few = c.if-self-count.false in let small = c.self.invariant.0.bounded in let enough = c.if-needed-self.true in
     (raised_ring i.ends i.nodes.cells i.spare i.len i.spares (i.spares + c.args.count) c.self.invariant.0 (omega arith) (omega arith), c.self.invariant.1)
 
 pub invariant_of-self-2 : goal.invariant_of-self-2
@@ -22,7 +22,7 @@ invariant_of-self-2 g c =
     let ring = stacked_ring i.ends cs ds.cells i.spare first i.len i.spares _ ok c.make_spares-self-inside.ensures.stacked ds.apart ds.blocks in
     let more = c.make_spares-self-inside.ensures.chunks ∙ c.in_ok-at.ensures.chunks in let all = c.self.invariant.1.all_made in
     let made : length ds.cells ≡ i.made + c.max-places.result = count_made ds.cells ds.unused ds.node_bytes ds.chunks ds.laid c.make_spares-self-inside.ensures.unused ∙ ap place_count more ∙ place_count-last i.nodes.chunks chunk ∙ ap (λ n. n + c.max-places.result) (sym all) in
-    let few = c.if-self-count.false in let small = c.self.invariant.0.5 in let less = c.if-needed-self.false in let places = c.max-places.ensures in (
+    let few = c.if-self-count.false in let small = c.self.invariant.0.bounded in let less = c.if-needed-self.false in let places = c.max-places.ensures in (
       raised_ring i.ends ds.cells first i.len i.spares (i.spares + c.args.count) ring (omega arith) (omega arith),
       laid_grown chunk c.self.invariant.1 c.make_spares-self-inside.ensures.unused more c.in_ok-at.ensures.kept,
     )
