@@ -56,11 +56,12 @@ returns-clause-called g c =
     let f : Held (g.row.K.Denot × g.row.V.Denot) → Held (g.row.K.Denot × g.row.V.Denot) = revalued w in
     let same = ap (λ (z : g.row.K.Denot × g.row.V.Denot). record h.node { pair = pair z.0 w }) (sym (is h.before h.node h.after h.is h.at_is)) in
     let z = c.fill.ensures.cells ∙ ap (with_body p (Some x)) c.take-key.ensures.cells ∙ body_twice p x i.nodes.cells in
-    let q = ap (λ ds. ring_list ds i.len) (ring_with_body i.ends i.nodes.cells p c.args.at.block (Some x) c.fill.new.self.cells z) ∙ ring_list_changed cs _ p h.node _ j f same i.len in (
-      w,
-      λ xs t ys e at. subst (λ (z : g.row.K.Denot × g.row.V.Denot). CalledAtPair g.F.FnMut c.args.keep.now z.0 z.1 c.call-kept.result w c.call-kept.new.keep) (is xs t ys e at) c.call-kept.ensures,
-      λ y. state ((q ∙ ap (λ (z : _). change_at p f z.held) v) y) (v y).spares (v y).nodes,
-    )
+    let q = ap (λ ds. ring_list ds i.len) (ring_with_body i.ends i.nodes.cells p c.args.at.block (Some x) c.fill.new.self.cells z) ∙ ring_list_changed cs _ p h.node _ j f same i.len in
+    record {
+      value = w;
+      at_pair = λ xs t ys e at. subst (λ (z : g.row.K.Denot × g.row.V.Denot). CalledAtPair g.F.FnMut c.args.keep.now z.0 z.1 c.call-kept.result w c.call-kept.new.keep) (is xs t ys e at) c.call-kept.ensures;
+      new_is = λ y. state ((q ∙ ap (λ (z : _). change_at p f z.held) v) y) (v y).spares (v y).nodes;
+    }
 
 pub returns-clause-alone : goal.returns-clause-alone
 returns-clause-alone g c =
