@@ -49,11 +49,11 @@ HasBefore = SplitLast (λ s. s.at)
 
 has_before : (before : Option Ptr) (done : List Spot) (q : Ptr) → before ≡ Some q → IsLast before done → HasBefore done q
 has_before before done q e (inl h) = absurd (let f : before ≡ None = h.1 in cc)
-has_before before done q e (inr h) = record { before = h.0; node = h.1; is = h.2; at_is = (let f : before ≡ Some h.1.at = h.3 in cc) }
+has_before before done q e (inr h) = record { before = h.before; node = h.node; is = h.is; at_is = (let f : Some h.node.at ≡ before = h.at_is in cc) }
 
 has_none : (before : Option Ptr) (done : List Spot) → before ≡ None → IsLast before done → done ≡ []
 has_none before done e (inl h) = h.0
-has_none before done e (inr h) = absurd (let f : before ≡ Some h.1.at = h.3 in cc)
+has_none before done e (inr h) = absurd (let f : Some h.node.at ≡ before = h.at_is in cc)
 
 -- the chain, split at the one before
 before_chain : (done : List Spot) (q : Ptr) (b : HasBefore done q) (s : Spot) (rest : List Spot) → done ++ s ∷ rest ≡ b.before ++ b.node ∷ s ∷ rest

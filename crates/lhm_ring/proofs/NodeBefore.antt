@@ -205,7 +205,7 @@ towards_next {K} {V} {heads} {hash} {nodes} {cut} {p} {link} {before} {here} {pa
       todo = b.after;
       whole = w.whole ∙ ap (λ (v : List Spot). w.done ++ w.node ∷ v) b.is ∙ sym (append_assoc w.done (w.node ∷ []) (b.node ∷ b.after));
       at_is = b.at_is;
-      behind = inr (w.done, w.node, refl, ap Some (sym w.at_is));
+      behind = inr (record { before = w.done; node = w.node; is = refl; at_is = ap Some w.at_is });
       passed_is = (omega (arith, k, m));
     }
 

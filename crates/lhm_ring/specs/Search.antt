@@ -2,6 +2,7 @@
 use Rattle.std.specs.Prelude.{◌≡◌, ℕ, ◌%◌, ◌<◌, ◌≤◌, ◌==◌, ◌&&◌, Bool, true, false, List, [], ◌∷◌, ◌++◌, map, length, Option, Some, None, ◌⊎◌, filter, slice_index_or, slice_set}
 use denote.RawPtr.{Ptr}
 use Rattle.lhm_ring.specs.RingState.{Held, IsHeld, AtHeld, linked_to, first_at}
+use Rattle.lhm_ring.specs.Splits.{SplitLast}
 use Rattle.lhm_ring.specs.Index.{Spot, spots, IsChain, IsRearranged, is_in, same, beside, Indexes}
 use Rattle.lhm_ring.specs.Filters.{CoversAll}
 
@@ -40,7 +41,7 @@ pub record CountsSome (xs : List Spot) (n hash visited compared : ℕ) : Type 0 
 
 -- r is the pointer of the last of these, or None if there is none
 abbrev pub IsLast : Option Ptr → List Spot → Type 0
-IsLast r xs = ((xs ≡ []) × (r ≡ None)) ⊎ ((front : List Spot) × (y : Spot) × (xs ≡ front ++ y ∷ []) × (r ≡ Some y.at))
+IsLast r xs = ((xs ≡ []) × (r ≡ None)) ⊎ SplitLast (λ s. Some s.at) xs r
 
 -- on the chain of the hash, the spot at p comes right after the one at before, or first
 pub record IsOnChain (heads : List (Option Ptr)) (hash : ℕ) (xs : List Spot) (before : Option Ptr) (p : Ptr) : Type 0 where
