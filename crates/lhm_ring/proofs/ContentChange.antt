@@ -6,6 +6,7 @@ use Rattle.lhm_ring.specs.declared.links.Links.{Links}
 use Rattle.lhm_ring.specs.Cells.{Cell, cell, same_ptr, links_of, body_of, links_at, body_at, IsApart, with_links, with_body}
 use Rattle.lhm_ring.specs.Rings.{relinked, next_of, prev_of, link_of, has_links, next_at, prev_at, link_at, is_there, content_of, content_at, Linked, Chained, HasContent, IsRing, follow, listed, one_of, ring_pointers, ring_list, RingOk}
 use Rattle.lhm_ring.specs.RingState.{State, state, Held, held, IsHeld, ChangesOnly, change_at}
+use Rattle.lhm_ring.specs.Splits.{SplitAround}
 use Rattle.lhm_ring.specs.Targets.{target}
 use Rattle.lhm_ring.specs.declared.link.Link.{Link}
 use Rattle.lhm_ring.proofs.Apart.{IsFresh, same_ptr_eq, same_ptr_refl, same_ptr_symm}
@@ -58,10 +59,14 @@ module _ {B : Type 0} (cs ds : List (Cell Links B)) (p : Ptr) (t u : Held B) (j 
   }
 
   -- where p stands in the ring
-  split_at : (spare : Link) (n m : ℕ) → RingOk cs spare n m → IsHeld (ring_list cs n) p → (us : List Ptr) × (vs : List Ptr) × (ring_pointers cs n ≡ us ++ p ∷ vs)
+  split_at : (spare : Link) (n m : ℕ) → RingOk cs spare n m → IsHeld (ring_list cs n) p → SplitAround (ring_pointers cs n) p
   split_at spare n m ok h =
       let f = node-listed cs spare n m ok h.before h.node h.after h.is in let s = f.pointer in
-      (s.before, s.after, ap (λ k. follow cs k null_ptr) (sym s.held_count) ∙ follow_row cs null_ptr (s.before ++ h.node.at ∷ s.after) null_ptr s.ring.linked ∙ ap (λ q. s.before ++ q ∷ s.after) h.at_is)
+      record {
+        before = s.before;
+        after = s.after;
+        is = ap (λ k. follow cs k null_ptr) (sym s.held_count) ∙ follow_row cs null_ptr (s.before ++ h.node.at ∷ s.after) null_ptr s.ring.linked ∙ ap (λ q. s.before ++ q ∷ s.after) h.at_is;
+      }
 
   free_of : (spare : Link) (n m : ℕ) (ok : RingOk cs spare n m) (us vs : List Ptr) → follow cs n null_ptr ≡ us ++ p ∷ vs → IsFresh p ok.spare_pointers
   free_of spare n m ok us vs e =
@@ -75,7 +80,7 @@ module _ {B : Type 0} (cs ds : List (Cell Links B)) (p : Ptr) (t u : Held B) (j 
       record {
         held_pointers = ok.held_pointers;
         spare_pointers = ok.spare_pointers;
-        ring = ring_same ok.held_pointers (target spare) ok.spare_pointers (free_of spare n m ok s.0 s.1 s.2) ok.ring;
+        ring = ring_same ok.held_pointers (target spare) ok.spare_pointers (free_of spare n m ok s.before s.after s.is) ok.ring;
         held_count = ok.held_count;
         enough_spares = ok.enough_spares;
         bounded = ok.bounded;

@@ -70,7 +70,7 @@ module _ {B : Type 0} (cs : List (Cell Links B)) (spare : Link) (at : NodePointe
     pub put_there : (is_there c₂ (prev_at cs null_ptr) ≡ true) × (is_there c₂ at.ptr ≡ true)
     put_there =
         let T : Ptr → Type 0 = λ q. is_there cs q ≡ true in
-        let last : T (prev_at cs null_ptr) = subst T (sym (cut_row cs null_ptr r.row null_ptr [] r.ring.linked).1.1) (all_last T null_ptr r.row r.ring.there.0 (all_left T r.row (at.ptr ∷ r.others) r.ring.there.1)) in
+        let last : T (prev_at cs null_ptr) = subst T (sym (cut_row cs null_ptr r.row null_ptr [] r.ring.linked).edge.1) (all_last T null_ptr r.row r.ring.there.0 (all_left T r.row (at.ptr ∷ r.others) r.ring.there.1)) in
         (only.there (prev_at cs null_ptr) ∙ last, only.there at.ptr ∙ (all_right T r.row (at.ptr ∷ r.others) r.ring.there.1).0)
 
     filled : content_at c₂ at.ptr ≡ Some (held at.ptr hash None x)
@@ -159,15 +159,15 @@ module _ {B : Type 0} (cs : List (Cell Links B)) (spare : Link) (n m : ℕ) (v :
             bounded = omega arith;
           }
 
-      pub taken_list : AtHeld v.held at.ptr (λ xs t ys. (state (ring_list c₂ (n - 1)) (m + 1) total ≡ state (xs ++ ys) (v.spares + 1) v.nodes) × (la.hash ≡ t.hash) × (x ≡ t.pair))
+      pub taken_list : AtHeld v.held at.ptr (λ xs t ys. record { left : state (ring_list c₂ (n - 1)) (m + 1) total ≡ state (xs ++ ys) (v.spares + 1) v.nodes; hash : la.hash ≡ t.hash; pair : x ≡ t.pair })
       taken_list xs t ys k here =
           let f = found_in cs spare n m v ok w xs t ys k in let h : IsHeld v.held at.ptr = record { before = xs; node = t; after = ys; is = k; at_is = here } in
           let c : content_at cs at.ptr ≡ Some t = ap (content_at cs) (sym here) ∙ f.here in
-          let q = node_at at.ptr f here in let s = q.0 in
+          let q = node_at at.ptr f here in let s = q.node in
           let list : ring_list c₂ (n - 1) ≡ xs ++ ys =
           ring_listed c₂ (s.before ++ s.after) (Some at.ptr) (at.ptr ∷ s.others) (n - 1) (left h s) (shorter s)
           ∙ listed-unlinked cs ds c₂ (target spare) s.others s.before at.ptr s.after s.ring _ _ j₂ (Linked-joined cs (target spare) s.others s.before at.ptr s.after s.ring ds j₂) (only₂ h) (spare₂ h)
-          ∙ (λ i. q.1 i ++ q.2 i) in
+          ∙ (λ i. q.listed_before i ++ q.listed_after i) in
           let hash : t.hash ≡ la.hash = content_hash at.ptr la (body_at cs at.ptr) t (ap (λ o. content_of at.ptr o (body_at cs at.ptr)) (sym ea) ∙ c) in
           let pair : t.pair ≡ x = content_pair at.ptr (links_at ds at.ptr) x t (ap (λ b. content_of at.ptr (links_at ds at.ptr) b) (sym ex) ∙ j.content at.ptr ∙ c) in
-          ((λ i. state (list i) (ap (λ (z : State B). z.spares) w i + 1) (ap (λ (z : State B). z.nodes) w i)), sym hash, sym pair)
+          record { left = λ i. state (list i) (ap (λ (z : State B). z.spares) w i + 1) (ap (λ (z : State B). z.nodes) w i); hash = sym hash; pair = sym pair }

@@ -82,8 +82,14 @@ module _ {B : Type 0} where
       let a = ring_length cs spare n m v ok w in let b = ap (λ (z : State B). z.spares) w in let c = ap (λ (z : State B). z.nodes) w in
       let d = ok.ring.count in let e = ok.held_count in let f = ok.enough_spares in omega arith
 
--- the same, where the pointer is known by another name
+-- the node at p, where xs are held before it and ys after it
+pub record NodeBetween {B : Type 0} (cs : List (Cell Links B)) (spare : Link) (n m : ℕ) (xs ys : List (Held B)) (p : Ptr) : Type 0 where
+  pub node : NodeAt cs spare n m p
+  pub listed_before : listed cs node.before ≡ xs
+  pub listed_after : listed cs node.after ≡ ys
+
+-- a node that was found, where its pointer is known by another name
 pub node_at : {B : Type 0} {cs : List (Cell Links B)} {spare : Link} {n m : ℕ} {xs : List (Held B)} {t : Held B} {ys : List (Held B)} (p : Ptr) → Found cs spare n m xs t ys → t.at ≡ p
-    → (s : NodeAt cs spare n m p) × (listed cs s.before ≡ xs) × (listed cs s.after ≡ ys)
+    → NodeBetween cs spare n m xs ys p
 node_at {cs = cs} {spare = spare} {n = n} {m = m} {xs = xs} {ys = ys} p f at =
-    subst (λ q. (s : NodeAt cs spare n m q) × (listed cs s.before ≡ xs) × (listed cs s.after ≡ ys)) at (f.pointer, f.listed_before, f.listed_after)
+    subst (NodeBetween cs spare n m xs ys) at (record { node = f.pointer; listed_before = f.listed_before; listed_after = f.listed_after })

@@ -15,11 +15,11 @@ module _ {B : Type 0} where
   pub whole_ring : (cs : List (Cell Links B)) (spare : Link) (n m : ℕ) → RingOk cs spare n m → IsSpan cs (next_at cs null_ptr) (prev_at cs null_ptr) n
   whole_ring cs spare n m ok =
       let k = cut_row cs null_ptr ok.held_pointers null_ptr [] ok.ring.linked in
-      let ends : HasEnds ok.held_pointers (next_at cs null_ptr) (prev_at cs null_ptr) = ends_behind cs null_ptr (prev_at cs null_ptr) ok.held_pointers k.0 (last_same null_ptr ok.held_pointers ∙ sym k.1.1) in
+      let ends : HasEnds ok.held_pointers (next_at cs null_ptr) (prev_at cs null_ptr) = ends_behind cs null_ptr (prev_at cs null_ptr) ok.held_pointers k.before (last_same null_ptr ok.held_pointers ∙ sym k.edge.1) in
       record {
         pointers = ok.held_pointers;
         count = ok.held_count;
-        linked = linked_tail cs null_ptr ok.held_pointers k.0;
+        linked = linked_tail cs null_ptr ok.held_pointers k.before;
         ends = ends;
         held = ok.ring.held;
         apart = apart_left ok.held_pointers ok.spare_pointers (apart_tail null_ptr (ok.held_pointers ++ ok.spare_pointers) ok.ring.apart);

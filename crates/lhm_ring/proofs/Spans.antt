@@ -62,7 +62,7 @@ pub record LastCut {B : Type 0} (cs : List (Cell Links B)) (f b : Ptr) (rs : Lis
 module _ {B : Type 0} (cs : List (Cell Links B)) where
   ends_before : (f : Ptr) (zs : List Ptr) (z : Ptr) → Linked cs (zs ++ z ∷ []) → ((r : Ptr) (rs : List Ptr) → zs ≡ r ∷ rs → r ≡ f) → Linked cs zs × HasEnds zs f (prev_at cs z)
   ends_before f [] z k h = (tt, tt)
-  ends_before f (x ∷ xs) z k h = let c = cut_row cs x xs z [] k in (c.0, (h x xs refl, last_same x xs ∙ sym c.1.1))
+  ends_before f (x ∷ xs) z k h = let c = cut_row cs x xs z [] k in (c.before, (h x xs refl, last_same x xs ∙ sym c.edge.1))
 
   first_is : (f b : Ptr) (rs zs : List Ptr) (z : Ptr) → rs ≡ zs ++ z ∷ [] → HasEnds rs f b → (r : Ptr) (qs : List Ptr) → zs ≡ r ∷ qs → r ≡ f
   first_is f b [] zs z e h r qs d = absurd (let k = ap length e in omega (arith, length-append zs (z ∷ [])))
@@ -84,7 +84,7 @@ module _ {B : Type 0} (cs : List (Cell Links B)) where
 
   pub last_cut : (f b : Ptr) (rs : List Ptr) → (length rs ≡ 0 → ⊥) → Linked cs rs → HasEnds rs f b → LastCut cs f b rs
   last_cut f b [] n k h = absurd (n refl)
-  last_cut f b (x ∷ xs) n k h = let s = snoc x xs in cut_at_last f b (x ∷ xs) s.0 s.1 s.2 k h
+  last_cut f b (x ∷ xs) n k h = let s = snoc x xs in cut_at_last f b (x ∷ xs) s.before s.node s.is k h
 
 -- the first of a row, with those after it
 pub record FirstCut {B : Type 0} (cs : List (Cell Links B)) (f b : Ptr) (rs : List Ptr) : Type 0 where

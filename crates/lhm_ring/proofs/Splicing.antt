@@ -104,10 +104,10 @@ module _ {B : Type 0} where
 
     row_left : (ps ss : List Ptr) → 0 < n → IsRow cs at.ptr n (target spare) ps ss → HasRow after next (n - 1) (Some at.ptr)
     row_left [] ss h r = let long = r.long in absurd (omega arith)
-    row_left (p ∷ rs) ss h r = (rs, at.ptr ∷ ss, shorter_row p rs ss r.starts r)
+    row_left (p ∷ rs) ss h r = record { pointers = rs; spare_pointers = at.ptr ∷ ss; row = shorter_row p rs ss r.starts r }
 
     pub row_goes_on : 0 < n → HasRow cs at.ptr n (target spare) → HasRow after next (n - 1) (Some at.ptr)
-    row_goes_on h r = row_left r.0 r.1 h r.2
+    row_goes_on h r = row_left r.pointers r.spare_pointers h r.row
 
     then_all : (ds : List (Cell Links B)) (s : Option Ptr) → 0 < n → SparesRow after next (n - 1) (Some at.ptr) ds s → (ps ss : List Ptr) → IsRow cs at.ptr n (target spare) ps ss → SameButLinks cs ds × Chained ds s (onto ps ss)
     then_all ds s h k [] ss r = let long = r.long in absurd (omega arith)
@@ -123,7 +123,7 @@ module _ {B : Type 0} where
   there_first cs at n spare (p ∷ ps) ss h r = subst (λ q. is_there cs q ≡ true) r.starts r.there.0
 
   pub row_there : (cs : List (Cell Links B)) (at : NodePointer) (n : ℕ) (spare : Option Ptr) → 0 < n → HasRow cs at.ptr n spare → is_there cs at.ptr ≡ true
-  row_there cs at n spare h r = there_first cs at n spare r.0 r.1 h r.2
+  row_there cs at n spare h r = there_first cs at n spare r.pointers r.spare_pointers h r.row
 
   same_all : (cs : List (Cell Links B)) → SameButLinks cs cs
   same_all cs = record { next = λ q. refl; prev = λ q. refl; there = λ q. refl; triple = λ q. refl; count = refl }
@@ -172,7 +172,7 @@ module _ {B : Type 0} (e : Ends) (nodes : List (Cell Links B)) (spare : Link) (n
   cs = ring_cells e nodes
 
   cut : Linked cs (null_ptr ∷ o.held_pointers) × (prev_at cs null_ptr ≡ last_from null_ptr o.held_pointers)
-  cut = let k = cut_row cs null_ptr o.held_pointers null_ptr [] o.ring.linked in (k.0, k.1.1)
+  cut = let k = cut_row cs null_ptr o.held_pointers null_ptr [] o.ring.linked in (k.before, k.edge.1)
 
   free_all : IsFresh null_ptr (o.held_pointers ++ o.spare_pointers)
   free_all = apart_head null_ptr (o.held_pointers ++ o.spare_pointers) o.ring.apart
@@ -194,7 +194,7 @@ module _ {B : Type 0} (e : Ends) (nodes : List (Cell Links B)) (spare : Link) (n
   }
 
   pub row_of_ring : (f : Ptr) → f ≡ e.first.ptr → HasRow nodes f n (target spare)
-  row_of_ring f is = (o.held_pointers, o.spare_pointers, whole_row f is)
+  row_of_ring f is = record { pointers = o.held_pointers; spare_pointers = o.spare_pointers; row = whole_row f is }
 
   ends_of : (rs : List Ptr) → Linked cs (null_ptr ∷ rs) → prev_at cs null_ptr ≡ last_from null_ptr rs → HasEnds rs (next_at cs null_ptr) (prev_at cs null_ptr)
   ends_of [] k e = tt

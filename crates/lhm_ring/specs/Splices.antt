@@ -40,8 +40,10 @@ module _ {B : Type 0} where
     pub apart : IsApart (ps ++ ss)
     pub chained : Chained cs spare ss
 
-  abbrev pub HasRow : List (Cell Links B) → Ptr → ℕ → Option Ptr → Type 0
-  HasRow cs f n spare = (ps : List Ptr) × (ss : List Ptr) × IsRow cs f n spare ps ss
+  pub record HasRow (cs : List (Cell Links B)) (f : Ptr) (n : ℕ) (spare : Option Ptr) : Type 0 where
+    pub pointers : List Ptr
+    pub spare_pointers : List Ptr
+    pub row : IsRow cs f n spare pointers spare_pointers
 
   -- in ds the nodes of the row are spare too, and s is the first spare one
   abbrev pub SparesRow : List (Cell Links B) → Ptr → ℕ → Option Ptr → List (Cell Links B) → Option Ptr → Type 0

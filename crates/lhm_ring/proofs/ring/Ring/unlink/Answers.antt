@@ -56,9 +56,9 @@ returns g c =
     let l = taken_list (ring_cells i.ends i.nodes.cells) i.spare i.len i.spares _ c.self.invariant.ring c.self.view_is at _ e _ c.join.ensures.joined _ (ring_body ends zs at.ptr b ∙ c.take-key.ensures.body) _ _
     (ring_with_body ends zs at.ptr b None ws c.take-key.ensures.cells) (relinks_ring ends ws at.ptr b i.spare c.relink.new.nodes.cells c.relink.ensures.relinked) in
     record {
-      others = λ xs t ys cut at. ap (λ z. z.held) (l xs t ys cut at).0;
-      triple = λ xs t ys cut at. let q = l xs t ys cut at in λ z. (q.1 z, (q.2 z).0, (q.2 z).1);
-      spares = ap (λ z. z.spares) (l h.before h.node h.after h.is h.at_is).0;
+      others = λ xs t ys cut at. ap (λ z. z.held) (l xs t ys cut at).left;
+      triple = λ xs t ys cut at. let q = l xs t ys cut at in λ z. (q.hash z, (q.pair z).0, (q.pair z).1);
+      spares = ap (λ z. z.spares) (l h.before h.node h.after h.is h.at_is).left;
       nodes = ap (λ z. z.nodes) c.self.view_is;
     }
 
