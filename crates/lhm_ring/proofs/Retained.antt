@@ -67,14 +67,16 @@ module _ {F K V : Type 0} (T : F → K → V → Bool → V → F → Type 0) {f
   RetainsAt-kept called alone written kept = record {
     returned = b;
     value = w;
-    leaves = λ xs t ys e at. (called xs t ys e at, written ∙ alone xs t ys e at w ∙ ap (λ c. xs ++ cond c (revalued w t ∷ ys) ys) (sym kept));
+    called = called;
+    new_is = λ xs t ys e at. written ∙ alone xs t ys e at w ∙ ap (λ c. xs ++ cond c (revalued w t ∷ ys) ys) (sym kept);
   }
 
   pub RetainsAt-removed : {new : List (Held (K × V))} → CallsAt T f old p b w f' → WritesOnly old p → now ≡ change_at p (revalued w) old → b ≡ false → AtHeld now p (λ xs t ys. new ≡ xs ++ ys) → RetainsAt T f old p new f'
   RetainsAt-removed called alone written removed others = record {
     returned = b;
     value = w;
-    leaves = λ xs t ys e at. (called xs t ys e at, others xs (revalued w t) ys (written ∙ alone xs t ys e at w) at ∙ ap (λ c. xs ++ cond c (revalued w t ∷ ys) ys) (sym removed));
+    called = called;
+    new_is = λ xs t ys e at. others xs (revalued w t) ys (written ∙ alone xs t ys e at w) at ∙ ap (λ c. xs ++ cond c (revalued w t ∷ ys) ys) (sym removed);
   }
 
 pub held-written : {K V : Type 0} {old now : List (Held (K × V))} {p : Ptr} (w : V) → WritesOnly old p → now ≡ change_at p (revalued w) old → IsHeld old p → IsHeld now p
@@ -123,10 +125,10 @@ module _ {F K V : Type 0} (T : F → K → V → Bool → V → F → Type 0) (Q
         kept' = cond made.returned (m.kept ++ revalued made.value n.node ∷ []) m.kept
 
         call : T f n.node.pair.0 n.node.pair.1 made.returned made.value f'
-        call = (made.leaves m.kept n.node n.after now_cut n.at_is).0
+        call = made.called m.kept n.node n.after now_cut n.at_is
 
         new_is : new ≡ m.kept ++ cond made.returned (revalued made.value n.node ∷ n.after) n.after
-        new_is = (made.leaves m.kept n.node n.after now_cut n.at_is).1
+        new_is = made.new_is m.kept n.node n.after now_cut n.at_is
 
         joined : (b : Bool) (u : Held (K × V)) (ys : List (Held (K × V))) → cond b (m.kept ++ u ∷ []) m.kept ++ ys ≡ m.kept ++ cond b (u ∷ ys) ys
         joined true u ys = append_assoc m.kept (u ∷ []) ys

@@ -21,7 +21,8 @@ module _ {F K V : Type 0} (T : F → K → V → Bool → V → F → Type 0) wh
   pub record RetainsAt (f : F) (hs : List (Held (K × V))) (p : Ptr) (new : List (Held (K × V))) (f' : F) : Type 0 where
     pub returned : Bool
     pub value : V
-    pub leaves : AtHeld hs p (λ xs t ys. T f t.pair.0 t.pair.1 returned value f' × (new ≡ xs ++ cond returned (revalued value t ∷ ys) ys))
+    pub called : CallsAt f hs p returned value f'
+    pub new_is : AtHeld hs p (λ xs t ys. new ≡ xs ++ cond returned (revalued value t ∷ ys) ys)
 
   -- f was called at each pair in turn, and kept has those at which it returned `true`, with the
   -- values that it left there: the first call returned this, and left the value and the closure so,
