@@ -18,7 +18,7 @@ loop-hash-init g c =
 pub loop-hash-preserved : goal.loop-hash-preserved
 loop-hash-preserved g c =
     let inv = c.loop-hash.invariant in
-    let step = c.in-Some.ensures.steps.2 in
+    let step = c.in-Some.ensures.steps.is in
     let triple : ℕ × (g.row.K.Denot × g.row.V.Denot) = (c.in-Some.hash, (c.in-Some.key.now, c.in-Some.value.now)) in
     let long = ap length step in
     record {
@@ -47,10 +47,10 @@ some_left all (x ∷ xs) hs t ts e h n = absurd (cc)
 
 pub returns-in_err-clone : goal.returns-in_err-clone
 returns-in_err-clone g c =
-    let some = some_left c.args.self.now c.loop-hash.invariant.first _ _ _ c.loop-hash.invariant.split c.in-Some.ensures.steps.2 in
+    let some = some_left c.args.self.now c.loop-hash.invariant.first _ _ _ c.loop-hash.invariant.split c.in-Some.ensures.steps.is in
     record { cases = MatchResult-from_err _ _ _ c.from_residual-in_err-clone.ensures.0 (λ e. some) }
 
 pub returns-in_err-clone-2 : goal.returns-in_err-clone-2
 returns-in_err-clone-2 g c =
-    let some = some_left c.args.self.now c.loop-hash.invariant.first _ _ _ c.loop-hash.invariant.split c.in-Some.ensures.steps.2 in
+    let some = some_left c.args.self.now c.loop-hash.invariant.first _ _ _ c.loop-hash.invariant.split c.in-Some.ensures.steps.is in
     record { cases = MatchResult-from_err _ _ _ c.from_residual-in_err-clone-2.ensures.0 (λ e. some) }
