@@ -1,7 +1,7 @@
 use Rattle.std.proofs.Common.{◌≡◌, ℕ, List, [], ◌∷◌, ◌++◌, length, append_assoc, append-nil, sym, ap, ◌∙◌, subst, refl, arith}
 use Rattle.std.specs.List.{AllZip}
 use Rattle.std.proofs.lemmas.Result.{MatchResult-from_err}
-use Rattle.lhm_ring.specs.RingState.{Held, triples}
+use Rattle.lhm_ring.specs.RingState.{Held, triples, IsTripleClone}
 use Rattle.lhm_ring.proofs.Ends.{AllZip-last, triples-pushed}
 use Rattle.lhm_ring.proofs.into_iter.IntoIterClone.clone.Goals as goal
 
@@ -11,7 +11,7 @@ loop-hash-init g c =
     record {
       first = [];
       split = sym c.self.view_is ∙ ap triples (sym all);
-      each = subst (λ (hs : List (Held (g.row.K.Denot × g.row.V.Denot))). AllZip {A = ℕ × (g.row.K.Denot × g.row.V.Denot)} (λ t u. (u.0 ≡ t.0) × g.K.Clone.is_clone t.1.0 u.1.0 × g.V.Clone.is_clone t.1.1 u.1.1) [] (triples hs)) (sym c.in_ok-ring.ensures.empty) tt;
+      each = subst (λ (hs : List (Held (g.row.K.Denot × g.row.V.Denot))). AllZip {A = ℕ × (g.row.K.Denot × g.row.V.Denot)} (IsTripleClone g.K.Clone.is_clone g.V.Clone.is_clone) [] (triples hs)) (sym c.in_ok-ring.ensures.empty) tt;
       room = c.in_ok-ring.ensures.spares ∙ c.len.ensures.value ∙ ap length (sym all);
     }
 
@@ -24,9 +24,10 @@ loop-hash-preserved g c =
     record {
       first = inv.first ++ triple ∷ [];
       split = inv.split ∙ ap (λ hs. inv.first ++ triples hs) step ∙ sym (append_assoc inv.first (triple ∷ []) (triples c.next.new.self));
-      each = subst (AllZip {B = ℕ × (g.row.K.Denot × g.row.V.Denot)} (λ t u. (u.0 ≡ t.0) × g.K.Clone.is_clone t.1.0 u.1.0 × g.V.Clone.is_clone t.1.1 u.1.1) (inv.first ++ triple ∷ []))
+      each = subst (AllZip {B = ℕ × (g.row.K.Denot × g.row.V.Denot)} (IsTripleClone g.K.Clone.is_clone g.V.Clone.is_clone) (inv.first ++ triple ∷ []))
           (sym (triples-pushed c.put_back.new.self.held c.loop-hash.ring.held _ c.put_back.ensures.last))
-          (AllZip-last _ inv.first (triples c.loop-hash.ring.held) triple (c.in-Some.hash, (c.in_ok-clone.field-0, c.in_ok-clone-2.field-0)) inv.each (refl, c.in_ok-clone.ensures.cases, c.in_ok-clone-2.ensures.cases));
+          (AllZip-last _ inv.first (triples c.loop-hash.ring.held) triple (c.in-Some.hash, (c.in_ok-clone.field-0, c.in_ok-clone-2.field-0)) inv.each
+          (record { hash = refl; key = c.in_ok-clone.ensures.cases; value = c.in_ok-clone-2.ensures.cases }));
       room = omega (arith, c.put_back.ensures.spares, inv.room, long);
     }
 
@@ -35,8 +36,8 @@ returns g c =
     let inv = c.loop-hash.invariant in
     let all = inv.split ∙ ap (λ hs. inv.first ++ triples hs) c.in-None.ensures.steps.0 ∙ append-nil inv.first in
     record {
-      cases = subst (AllZip (λ t u. (u.0 ≡ t.0) × g.K.Clone.is_clone t.1.0 u.1.0 × g.V.Clone.is_clone t.1.1 u.1.1) c.args.self.now) (sym c.new.ensures)
-          (subst (λ (ts : List (ℕ × (g.row.K.Denot × g.row.V.Denot))). AllZip (λ t u. (u.0 ≡ t.0) × g.K.Clone.is_clone t.1.0 u.1.0 × g.V.Clone.is_clone t.1.1 u.1.1) ts (triples c.loop-hash.ring.held)) (sym all) inv.each);
+      cases = subst (AllZip (IsTripleClone g.K.Clone.is_clone g.V.Clone.is_clone) c.args.self.now) (sym c.new.ensures)
+          (subst (λ (ts : List (ℕ × (g.row.K.Denot × g.row.V.Denot))). AllZip (IsTripleClone g.K.Clone.is_clone g.V.Clone.is_clone) ts (triples c.loop-hash.ring.held)) (sym all) inv.each);
     }
 
 -- something is left to clone, so the clone is not of nothing
