@@ -282,10 +282,11 @@ module _ {K V : Type 0} where
   ring_lent : (cs : List (Cell Links (K × V))) (spare : Link) (n m : ℕ) → RingOk cs spare n m → AreLent (run_of (lent (among (ring_pointers cs n)) cs)) (ring_list cs n)
   ring_lent cs spare n m ok =
       let is : ok.held_pointers ≡ follow cs n null_ptr = sym (ap (λ k. follow cs k null_ptr) (sym ok.held_count) ∙ follow_row cs null_ptr ok.held_pointers null_ptr ok.ring.linked) in
-      let has : AllByRecursion (HasContent cs) (follow cs n null_ptr) = subst (AllByRecursion (HasContent cs)) is ok.ring.held in (
-        each_lent (among (follow cs n null_ptr)) cs (follow cs n null_ptr) has (among_all (follow cs n null_ptr)),
-        subst IsApart (sym (pointers_listed cs (follow cs n null_ptr) has)) (subst IsApart is (apart_left ok.held_pointers ok.spare_pointers (apart_tail null_ptr (ok.held_pointers ++ ok.spare_pointers) ok.ring.apart))),
-      )
+      let has : AllByRecursion (HasContent cs) (follow cs n null_ptr) = subst (AllByRecursion (HasContent cs)) is ok.ring.held in
+      record {
+        lent = each_lent (among (follow cs n null_ptr)) cs (follow cs n null_ptr) has (among_all (follow cs n null_ptr));
+        apart = subst IsApart (sym (pointers_listed cs (follow cs n null_ptr) has)) (subst IsApart is (apart_left ok.held_pointers ok.spare_pointers (apart_tail null_ptr (ok.held_pointers ++ ok.spare_pointers) ok.ring.apart)));
+      }
 
   pub all_lent : (e : Ends) (cs : List (Cell Links (K × V))) (spare : Link) (n m : ℕ) → RingOk (ring_cells e cs) spare n m → AreLent (run_of (held_entries e cs n)) (ring_list (ring_cells e cs) n)
   all_lent e cs spare n m ok =
@@ -297,4 +298,4 @@ module _ {K V : Type 0} where
       pointers_listed cs (follow cs n null_ptr) (subst (AllByRecursion (HasContent cs)) is ok.ring.held)
 
   pub ring_apart : (cs : List (Cell Links (K × V))) (spare : Link) (n m : ℕ) (v : State (K × V)) {total : ℕ} → RingOk cs spare n m → state (ring_list cs n) m total ≡ v → IsApart (map (λ (t : Held (K × V)). t.at) v.held)
-  ring_apart cs spare n m v ok w = subst (λ (s : State (K × V)). IsApart (map (λ t. t.at) s.held)) w (ring_lent cs spare n m ok).1
+  ring_apart cs spare n m v ok w = subst (λ (s : State (K × V)). IsApart (map (λ t. t.at) s.held)) w (ring_lent cs spare n m ok).apart

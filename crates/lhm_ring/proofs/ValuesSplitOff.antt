@@ -286,7 +286,7 @@ module _ (S W : RattleType) where
     lent_of = subst (λ (s : State (S.Denot × W.Denot)). AreLent (run_of (entries a)) s.held) seen (all_lent a.ends a.nodes.cells a.spare a.len a.spares ok.ring)
 
     own : AllByRecursion (HasOwnValue d.held) (entries a)
-    own = own_values d.held (entries a) lent_of.0 (apart_lent (kept_by a) a.nodes.cells a.nodes.apart)
+    own = own_values d.held (entries a) lent_of.lent (apart_lent (kept_by a) a.nodes.cells a.nodes.apart)
 
     in_ring : AllByRecursion (λ c. among (pointers_of d.held) c.0 ≡ true) (entries a)
     in_ring = subst (λ ps. AllByRecursion (λ c. among ps c.0 ≡ true) (entries a))
@@ -298,7 +298,7 @@ module _ (S W : RattleType) where
 
     pub back : (vs : List W.Denot) → ent 𝓤 (sep 𝓤 (sem 𝓛 (Lent (placed vs))) (sep 𝓤 (sem 𝓛 (fseps (Fields ∷ []))) (emp 𝓤))) (sem 𝓛 ((mem Lr).own_at (record d { held = set_held_values d.held vs }) b o))
     back vs = subst (λ (hs : List (Held (S.Denot × W.Denot))). ent 𝓤 (sep 𝓤 (sem 𝓛 (Lent (placed vs))) (sep 𝓤 (sem 𝓛 (fseps (Fields ∷ []))) (emp 𝓤))) (sem 𝓛 ((mem Lr).own_at (record d { held = hs }) b o)))
-        (revalued_by-set_held_values d.held vs lent_of.1) (back_by (set_held_values d.held vs))
+        (revalued_by-set_held_values d.held vs lent_of.apart) (back_by (set_held_values d.held vs))
 
     pub placed-own : placed (held_values d.held) ≡ vals links.the_row S W (entries a)
     placed-own = ap (λ ks. taken ks (entries a)) (set_held_values-own d.held) ∙ taken-own d.held (entries a) own

@@ -41,8 +41,9 @@ module _ {K V : Type 0} where
   }
 
   -- the values of the nodes left are still to be lent
-  abbrev pub AreLent : List (Ptr × V) → List (Held (K × V)) → Type 0
-  AreLent run hs = AllByRecursion (λ t. value_at run t.at ≡ Some t.pair.1) hs × IsApart (map (λ t. t.at) hs)
+  pub record AreLent (run : List (Ptr × V)) (hs : List (Held (K × V))) : Type 0 where
+    pub lent : AllByRecursion (λ t. value_at run t.at ≡ Some t.pair.1) hs
+    pub apart : IsApart (map (λ t. t.at) hs)
 
   -- the same of pairs with a shared reference to the value
   abbrev pub ShowsFirstStep : List (Held (K × V)) → Option (ℕ × Bor K × Bor V) → List (Held (K × V)) → Type 0
