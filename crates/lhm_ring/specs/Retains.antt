@@ -25,8 +25,8 @@ module _ {F K V : Type 0} (T : F → K → V → Bool → V → F → Type 0) wh
     pub new_is : AtHeld hs p (λ xs t ys. new ≡ xs ++ cond returned (revalued value t ∷ ys) ys)
 
   -- f was called at each pair in turn, and kept has those at which it returned `true`, with the
-  -- values that it left there: the first call returned this, and left the value and the closure so,
-  -- and rest is what is kept of the other pairs
+  -- values that it left there. Of the first pair: what the call returned, the value and the closure
+  -- that it left, and the rest, which is what is kept of the pairs after it
   abbrev pub RetainsHeld : F → List (Held (K × V)) → List (Held (K × V)) → Type 0
   RetainsHeld f [] kept = kept ≡ []
   RetainsHeld f (t ∷ hs) kept = record {

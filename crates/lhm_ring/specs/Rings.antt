@@ -169,6 +169,7 @@ module _ {B : Type 0} where
     pub spare_pointers : List Ptr
     pub ring : IsRing cs held_pointers (target spare) spare_pointers
     pub held_count : length held_pointers ≡ n
+    -- there may be more spare nodes than are counted
     pub enough_spares : m ≤ length spare_pointers
     pub bounded : n + m ≤ 2 ^ 59
 
@@ -180,4 +181,5 @@ module _ {B : Type 0} where
     pub linked : Linked cs pointers
     pub ends : HasEnds pointers f b
     pub held : AllByRecursion (HasContent cs) pointers
+    -- no pointer comes twice
     pub apart : IsApart pointers

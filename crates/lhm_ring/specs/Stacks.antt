@@ -7,8 +7,8 @@ use Rattle.lhm_ring.specs.Targets.{target}
 use Rattle.lhm_ring.specs.declared.link.Link.{Link}
 
 module _ {B : Type 0} where
-  -- ds has n nodes more than cs, the first of them f, and the last with a link to s: the node on
-  -- top of the nodes below has the pointer and the links
+  -- ds has n nodes more than cs, the first of them f, and the last with a link to s. The one on top
+  -- lies at the pointer and has the links, and below are the others
   unfoldable pub IsStacked : List (Cell Links B) → Link → ℕ → List (Cell Links B) → Link → Type 0
   IsStacked cs s zero ds f = (ds ≡ cs) × (f ≡ s)
   IsStacked cs s (suc n) ds f = record {
