@@ -1,4 +1,5 @@
 pub mod Apart
+pub mod Behind
 pub mod BlockValues
 pub mod Blocks
 pub mod BucketCounts
@@ -49,5 +50,4 @@ pub mod ValueTaken
 pub mod ValuesInOrder
 pub mod ValuesReplaced
 pub mod ValuesSplitOff
-pub mod Walks
 pub mod Writes

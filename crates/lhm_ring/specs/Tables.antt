@@ -1,4 +1,4 @@
--- What callers see of a table: a ring and its index, kept in step.
+-- What callers see of a table: a ring, its index and its filter.
 use Rattle.std.specs.Prelude.{◌≡◌, ℕ, ◌+◌, ◌≤◌, ◌^◌, Bool, List, ◌∷◌, ◌++◌, length, Option}
 use denote.RawPtr.{Ptr}
 use Rattle.lhm_ring.specs.RingState.{State, Held, AtHeld, change_at}

@@ -64,7 +64,7 @@ fn step<K: Eq, V>(
 }
 
 impl<K: Eq, V> Index<K, V> {
-    /// Follows the chain of the hash from its head to the node with the key, as every lookup does.
+    /// Follows the chain of the hash from its head to the node with the key.
     fn search(
         &self,
         ring: &Ring<K, V>,

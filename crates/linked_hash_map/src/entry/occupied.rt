@@ -117,7 +117,8 @@ impl<'a, K: Eq + Hash, V, S: BuildHasher> OccupiedEntry<'a, K, V, S> {
     }
 
     /// Replaces the value and returns the old one, in O(1) without allocating. The pair moves to
-    /// the back, or in [`Mode::Keep`](crate::Mode::Keep) stays in its place, and stays the entry's.
+    /// the back, or in [`Mode::Keep`](crate::Mode::Keep) stays in its place. The entry
+    /// still stands for it.
     ///
     /// # Examples
     ///
