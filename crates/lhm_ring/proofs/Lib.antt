@@ -1,5 +1,4 @@
 pub mod Apart
-pub mod Behind
 pub mod BlockValues
 pub mod Blocks
 pub mod BucketCounts
@@ -26,6 +25,7 @@ pub mod Neighbours
 pub mod NodeAdded
 pub mod NodeBefore
 pub mod NodeBlocks
+pub mod NodesBehind
 pub mod NodesGrown
 pub mod NodesWithBodies
 pub mod OneNodeChanged

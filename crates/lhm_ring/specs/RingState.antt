@@ -34,8 +34,11 @@ module _ {B : Type 0} where
   IsHeld = SplitAt (λ t. t.at)
 
   -- P holds of what is held at p, with what is before it and after it
-  abbrev pub AtHeld : List (Held B) → Ptr → (List (Held B) → Held B → List (Held B) → Type 0) → Type 0
-  AtHeld hs p P = (xs : List (Held B)) (t : Held B) (ys : List (Held B)) → hs ≡ xs ++ t ∷ ys → t.at ≡ p → P xs t ys
+  abbrev pub AtHeld : List (Held B) → Ptr → (List (Held B) → Held B → List (Held B) → Type 0)
+      → Type 0
+  AtHeld hs p P =
+      (xs : List (Held B)) (t : Held B) (ys : List (Held B)) → hs ≡ xs ++ t ∷ ys → t.at ≡ p
+      → P xs t ys
 
   -- the pointer of the first of hs, if there is one
   abbrev pub first_at : List (Held B) → Option Ptr

@@ -2,7 +2,7 @@ use Rattle.std.proofs.Common.{◌≡◌, ap, subst, arith, length}
 use Rattle.std.specs.Prelude.{IfSome}
 use Rattle.lhm_ring.specs.Positions.{pointer_of, pointer_of_some}
 use Rattle.lhm_ring.specs.RingState.{AtHeld}
-use Rattle.lhm_ring.proofs.Behind.{HasBehind-step, next_held, IsHeld-next, AtHeld-next}
+use Rattle.lhm_ring.proofs.NodesBehind.{HasBehind-step, next_held, IsHeld-next, AtHeld-next}
 use Rattle.lhm_ring.proofs.table.Table.nth_back.Goals as goal
 
 pub previous-here-requires : goal.previous-here-requires

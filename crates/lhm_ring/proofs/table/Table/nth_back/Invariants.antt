@@ -1,6 +1,6 @@
 use Rattle.std.proofs.Common.{◌-◌, ◌≤◌}
 use Rattle.lhm_ring.specs.Positions.{pointer_of_some}
-use Rattle.lhm_ring.proofs.Behind.{HasBehind}
+use Rattle.lhm_ring.proofs.NodesBehind.{HasBehind}
 use Rattle.lhm_ring.proofs.table.Table.nth_back.Given as goal
 
 abbrev pub invariant-pairs : goal.invariant-pairs
