@@ -263,14 +263,6 @@ impl<T> Sessions<T> {
     }
 
     /// Returns the number of sessions. It is O(1) and does not allocate.
-    ///
-    /// # Examples
-    ///
-    /// ```rust
-    /// let mut table = Sessions::new(rt.alloc(), 10);
-    /// table.put(1, 4, "a")?;
-    /// assert_eq!(rt; (table.len(), table.total()), (1, 4));
-    /// ```
     pub fn len(&self) -> usize
         ensures len { result ≡ length self.now.sessions }
         ensures valid { IsValidTable self.now }
