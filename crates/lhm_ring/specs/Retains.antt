@@ -9,7 +9,8 @@ use Rattle.lhm_ring.specs.RingState.{Held, IsHeld, AtHeld, first_at}
 use Rattle.lhm_ring.specs.RingAfterLoan.{revalued}
 
 -- a pair is held at p, and f may be called at it
-abbrev pub TakesAt : {F K V : Type 0} → (F → K → V → Type 0) → F → List (Held (K × V)) → Ptr → Type 0
+abbrev pub TakesAt : {F K V : Type 0} → (F → K → V → Type 0) → F → List (Held (K × V)) → Ptr
+    → Type 0
 TakesAt Q f hs p = (h : IsHeld hs p) × Q f h.node.pair.0 h.node.pair.1
 
 module _ {F K V : Type 0} (T : F → K → V → Bool → V → F → Type 0) where
@@ -18,7 +19,8 @@ module _ {F K V : Type 0} (T : F → K → V → Bool → V → F → Type 0) wh
   CallsAt f hs p b w f' = AtHeld hs p (λ xs t ys. T f t.pair.0 t.pair.1 b w f')
 
   -- and the pair stayed with that value, or was removed
-  pub record RetainsAt (f : F) (hs : List (Held (K × V))) (p : Ptr) (new : List (Held (K × V))) (f' : F) : Type 0 where
+  pub record RetainsAt (f : F) (hs : List (Held (K × V))) (p : Ptr) (new : List (Held (K × V)))
+      (f' : F) : Type 0 where
     pub returned : Bool
     pub value : V
     pub called : CallsAt f hs p returned value f'
@@ -41,13 +43,15 @@ module _ {F K V : Type 0} (T : F → K → V → Bool → V → F → Type 0) wh
 
   -- the closure, which was start, has been called at some of the pairs in old, and is now f; the
   -- rest begins at next
-  pub record IsRetaining (Q : F → K → V → Type 0) (start : F) (old : List (Held (K × V))) (f : F) (now : List (Held (K × V))) (next : Option Ptr) : Type 0 where
+  pub record IsRetaining (Q : F → K → V → Type 0) (start : F) (old : List (Held (K × V))) (f : F)
+      (now : List (Held (K × V))) (next : Option Ptr) : Type 0 where
     pub kept : List (Held (K × V))
     pub rest : List (Held (K × V))
     pub now_is : now ≡ kept ++ rest
     pub next_is : next ≡ first_at rest
     pub callable : CallableOnEachPair T Q f (map (λ t. t.pair) rest)
-    pub ends : (last : List (Held (K × V))) → RetainsHeld f rest last → RetainsHeld start old (kept ++ last)
+    pub ends : (last : List (Held (K × V))) → RetainsHeld f rest last
+        → RetainsHeld start old (kept ++ last)
 
 -- how many are held from the one at a pointer on
 abbrev pub left_from : {B : Type 0} → Option Ptr → List (Held B) → ℕ

@@ -69,7 +69,8 @@ module _ {B : Type 0} where
   abbrev pub content_of : Ptr → Option Links → Option B → Option (Held B)
   content_of p None b = None
   content_of p (Some l) None = None
-  content_of p (Some l) (Some b) = Some (record { at = p; hash = l.hash; link = link_of (Some l); pair = b })
+  content_of p (Some l) (Some b) =
+      Some (record { at = p; hash = l.hash; link = link_of (Some l); pair = b })
 
   abbrev pub content_at : List (Cell Links B) → Ptr → Option (Held B)
   content_at cs p = content_of p (links_at cs p) (body_at cs p)
@@ -83,7 +84,8 @@ module _ {B : Type 0} where
   LeadsOn cs p o ds = (l : Links) → links_at cs p ≡ Some l → ds ≡ with_links p (leading_on o l) cs
 
   abbrev pub LeadsBack : List (Cell Links B) → Ptr → Link → List (Cell Links B) → Type 0
-  LeadsBack cs p o ds = (l : Links) → links_at cs p ≡ Some l → ds ≡ with_links p (leading_back o l) cs
+  LeadsBack cs p o ds =
+      (l : Links) → links_at cs p ≡ Some l → ds ≡ with_links p (leading_back o l) cs
 
   -- b comes right after a
   abbrev pub Edge : List (Cell Links B) → Ptr → Ptr → Type 0
@@ -104,7 +106,8 @@ module _ {B : Type 0} where
   HasContent cs p = (x : Held B) × (content_at cs p ≡ Some x)
 
   -- the nodes: the one at null, the held ones ps in order, and the spare ones ss
-  pub record IsRing (cs : List (Cell Links B)) (ps : List Ptr) (spare : Option Ptr) (ss : List Ptr) : Type 0 where
+  pub record IsRing (cs : List (Cell Links B)) (ps : List Ptr) (spare : Option Ptr) (ss : List Ptr)
+      : Type 0 where
     pub linked : Linked cs (null_ptr ∷ (ps ++ null_ptr ∷ []))
     pub chained : Chained cs spare ss
     pub held : AllByRecursion (HasContent cs) ps

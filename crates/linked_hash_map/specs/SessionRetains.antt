@@ -13,7 +13,8 @@ module _ {F T : Type 0} (g : Mut F (ℕ × (ℕ × (MutBor T × Unit {0}))) (Boo
   where
     -- a call of f at the id, the weight and a `&mut` to the payload of a session may return b, and
     -- leave this payload there and f as f'
-    pub record CalledAtSession (f : F) (session : Session T) (b : Bool) (payload : T) (f' : F) : Type
+    pub record CalledAtSession (f : F) (session : Session T) (b : Bool) (payload : T) (f' : F) :
+        Type
         0 where
       pub lent : MutBor T
       pub shows : lent.now ≡ session.2
