@@ -23,7 +23,7 @@ use uses::queue::Queue;
 use uses::refusal::{insert_anyway, insert_if_new};
 use uses::replaying::{Outcome, replay_under_two_hashers, write_refresh_remove};
 use uses::retains::{age, keep_frequent};
-use uses::text::{age_of, note_age};
+use uses::text::{age_of, first_page, note_age};
 use uses::window::Window;
 
 /// Returns the value of an `Ok`, as `given` does, and tells a proof which value it is.
@@ -330,6 +330,9 @@ fn text_is_a_key(rt: HostRuntime) {
     let ann = given!(rt; String::from_str(rt.alloc(), "ann"));
     given!(rt; note_age(&mut ages, given!(rt; ann.clone()), 3));
     check_eq!(rt; age_of(&ages, &ann), Some(3));
+    let mut pages = LinkedHashMap::new(rt.alloc());
+    check_eq!(rt; first_page(&mut pages, "ant", 3), Ok(3));
+    check_eq!(rt; first_page(&mut pages, "ant", 5), Ok(3));
 }
 
 #[test]
