@@ -103,7 +103,8 @@ module _ {L B : Type 0} where
   unfolding change
   pointers-change p f same [] = λ i. []
   pointers-change p f same (c ∷ cs) =
-      elim (same_ptr c.at p) as (λ y. pointers (cond y (f c ∷ cs) (c ∷ change p f cs)) ≡ c.at ∷ pointers cs) [
+      elim (same_ptr c.at p)
+      as (λ y. pointers (cond y (f c ∷ cs) (c ∷ change p f cs)) ≡ c.at ∷ pointers cs) [
         | true ↦ λ i. same c i ∷ pointers cs
         | false ↦ λ i. c.at ∷ pointers-change p f same cs i
       ]

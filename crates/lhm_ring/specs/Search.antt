@@ -126,8 +126,8 @@ abbrev pub Chains : {K V : Type 0} → Ptr → List (Option Ptr) → List (Optio
 Chains {K} {V} p heads heads' nodes nodes' =
     AtHeld nodes p (λ before x after. IsChained p heads heads' nodes' before x after)
 
--- the first nodes are rehashed, their bits are set if the filter has a word for each bucket, and the
--- rest begins at pointer
+-- the first nodes are rehashed, their bits are set if the filter has a word for each bucket, and
+-- the rest begins at pointer
 pub record IsRechained {K V : Type 0} (heads : List (Option Ptr)) (words : List ℕ)
     (old nodes : List (Held (K × V))) (pointer : Option Ptr) (count buckets : ℕ) : Type 0 where
   pub done : List (Held (K × V))

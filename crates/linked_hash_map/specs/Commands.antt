@@ -107,7 +107,9 @@ module _ {K V : Type 0} (eq : K → K → Bool) where
   abbrev pub replies_to : Mode → ℕ → List (K × V) → List (Command K V) → List (Reply K V)
   replies_to mode capacity pairs [] = []
   replies_to mode capacity pairs (command ∷ commands) =
-      reply_to mode capacity pairs command ∷ replies_to (mode_after mode command) (capacity_after mode capacity pairs command) (pairs_after mode pairs command) commands
+      reply_to mode capacity pairs command
+      ∷ replies_to (mode_after mode command) (capacity_after mode capacity pairs command)
+      (pairs_after mode pairs command) commands
 
   abbrev pub pairs_after_all : Mode → List (K × V) → List (Command K V) → List (K × V)
   pairs_after_all mode pairs [] = pairs
@@ -117,4 +119,5 @@ module _ {K V : Type 0} (eq : K → K → Bool) where
   abbrev pub capacity_after_all : Mode → ℕ → List (K × V) → List (Command K V) → ℕ
   capacity_after_all mode capacity pairs [] = capacity
   capacity_after_all mode capacity pairs (command ∷ commands) =
-      capacity_after_all (mode_after mode command) (capacity_after mode capacity pairs command) (pairs_after mode pairs command) commands
+      capacity_after_all (mode_after mode command) (capacity_after mode capacity pairs command)
+      (pairs_after mode pairs command) commands

@@ -93,7 +93,9 @@ module _ (K V S H : RattleType) (key : HashMembers K.Denot) (build : builder.Gho
   abbrev pub lends_occupied : OccupiedEntry K.Denot V.Denot S.Denot H.Denot g h b w → MutBor V.Denot
       → Fml
   lends_occupied o r = follows (map_row K V S H key build hashing) V o.map.ghost_name r.ghost_name
-      (λ v. record (occupied_map o) { pairs = set_value key.eq (occupied_map o).pairs (occupied_key o) v })
+      (λ v. record (occupied_map o) {
+        pairs = set_value key.eq (occupied_map o).pairs (occupied_key o) v;
+      })
 
   -- the map of a vacant entry has the pair of its key and the last value written through the
   -- reference at the back, and room for it; with no reference it is as it was

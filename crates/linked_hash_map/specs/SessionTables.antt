@@ -84,5 +84,5 @@ module _ {T : Type 0} where
 
   abbrev pub session_table_code : Coded T → Coded (SessionTable T)
   session_table_code payload =
-      code_by (List (Session T) × ℕ) (coded× (coded_list (session_code payload)) coded_ℕ) (λ table. (table.sessions, table.limit))
-      (λ p. session_table p.0 p.1) (λ _. refl)
+      code_by (List (Session T) × ℕ) (coded× (coded_list (session_code payload)) coded_ℕ)
+      (λ table. (table.sessions, table.limit)) (λ p. session_table p.0 p.1) (λ _. refl)
