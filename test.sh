@@ -21,7 +21,8 @@ run_part() {
 # Shows what a part said, and its result.
 show_part() {
     cat "$work/$1"
-    read -r status seconds <"$work/$1.end"
+    status=1 seconds=0
+    [ ! -e "$work/$1.end" ] || read -r status seconds <"$work/$1.end"
     [ "$status" = 0 ] || failed="$failed $1"
     echo "$1: $seconds s, $([ "$status" = 0 ] && echo passed || echo FAILED)"
 }
@@ -49,7 +50,9 @@ wait
 for part in built-program larger-run churn; do
     [ -n "$failed" ] || run_part $part "scripts/$part"
 done
-for part in refused-growths wrong-bodies-self-test built-program larger-run churn; do
+show_part refused-growths
+show_part wrong-bodies-self-test
+for part in built-program larger-run churn; do
     [ ! -e "$work/$part.end" ] || show_part $part
 done
 if [ -n "$failed" ]; then

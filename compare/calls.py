@@ -40,7 +40,7 @@ CALLS = (
     ("new", 1, "value"),
 )
 
-# Those whose answer has every pair.
+# Those that print every pair.
 LONG_CALLS = (
     ("loop", 1, ""),
     ("loop_mut", 1, "value"),

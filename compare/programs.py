@@ -58,8 +58,8 @@ class Original:
     def __init__(self, registry=REGISTRY):
         self.program = built_by_cargo(COMPARE, ["linked-hash-map-0.5.6"], registry) / "compare"
 
-    def answers(self, runs):
-        """Returns the lines that each run answers."""
+    def outputs(self, runs):
+        """Returns the lines that each run prints."""
         return [run_program(self.program, lines) for lines in runs]
 
 
@@ -73,27 +73,27 @@ class Port:
             if not shutil.which("rt"):
                 stop("put rt, the command of the Rattle kit, on the PATH")
 
-    def answers(self, runs):
-        """Returns the lines that each run answers."""
+    def outputs(self, runs):
+        """Returns the lines that each run prints."""
         if self.program:
             return [run_program(self.program, lines) for lines in runs]
         # Each half builds the program once more, and takes a processor of its own.
         halves = [half for half in (runs[::2], runs[1::2]) if half]
         with concurrent.futures.ThreadPoolExecutor() as pool:
-            answers = list(pool.map(tried, halves))
-        return [answers[number % len(answers)][number // len(answers)]
+            outputs = list(pool.map(tried, halves))
+        return [outputs[number % len(outputs)][number // len(outputs)]
                 for number in range(len(runs))]
 
 
 def tried(runs):
-    """Runs the port without a proof, and returns the lines that each run answers."""
+    """Runs the port without a proof, and returns the lines that each run prints."""
     with tempfile.TemporaryDirectory() as folder:
         for number, lines in enumerate(runs):
             (pathlib.Path(folder) / f"{number:06}").write_text(text_of(lines))
         ran = subprocess.run(
             ["rt", "try", "--cases", folder, "--steps", "1"],
             cwd=DRIVER, capture_output=True, text=True)
-    return answers_of_cases(ran.stdout, ran.stderr, len(runs))
+    return outputs_of_cases(ran.stdout, ran.stderr, len(runs))
 
 
 def is_up_to_date(program, crate):
@@ -111,28 +111,28 @@ def text_of(lines):
 
 
 def run_program(program, lines):
-    """Runs a program on some lines, and returns the lines that it answers."""
+    """Runs a program on some lines, and returns the lines that it prints."""
     ran = subprocess.run([str(program)], input=text_of(lines), capture_output=True, text=True)
-    answers = ran.stdout.splitlines()
+    output = ran.stdout.splitlines()
     if ran.returncode != 0:
-        answers.append(f"(it ended with status {ran.returncode}: {ran.stderr.strip()[:200]})")
-    return answers
+        output.append(f"(it ended with status {ran.returncode}: {ran.stderr.strip()[:200]})")
+    return output
 
 
-def answers_of_cases(output, outcomes, count):
+def outputs_of_cases(output, outcomes, count):
     """Takes apart what `rt try --cases` printed."""
-    answers = {}
+    outputs = {}
     current = None
     for line in output.splitlines():
         if line.startswith("== "):
-            current = answers.setdefault(int(line[3:]), [])
+            current = outputs.setdefault(int(line[3:]), [])
         elif current is not None:
             current.append(line)
     for line in outcomes.splitlines():
         if line.startswith("case="):
             name, outcome = line[5:].split(" ", 1)
             if not outcome.startswith("run=ended status=0"):
-                answers.setdefault(int(name), []).append(f"({outcome})")
-    if len(answers) != count:
+                outputs.setdefault(int(name), []).append(f"({outcome})")
+    if len(outputs) != count:
         stop("rt try gave no answer:\n" + (output + outcomes)[-2000:])
-    return [answers[number] for number in range(count)]
+    return [outputs[number] for number in range(count)]

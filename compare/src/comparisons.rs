@@ -39,7 +39,7 @@ fn partial_compare<M: PartialOrd>(map: &M, other: &M, text: &mut String) -> std:
     write!(text, "{} {} ", *map > *other, *map >= *other)
 }
 
-/// Returns the number that a hasher gives a map.
+/// Returns the hash that a hasher gives a map.
 fn hash_of(map: &Map) -> u64 {
     let choice = Choice::Spread;
     let mut hasher = BuildKeyHasher { choice }.build_hasher();

@@ -5,12 +5,12 @@ mod changes;
 mod comparisons;
 mod entries;
 mod hasher;
+mod iterators;
 mod key;
 mod line;
 mod list;
 mod lookups;
 mod making;
-mod walks;
 
 use hasher::BuildKeyHasher;
 use key::Key;
@@ -25,8 +25,8 @@ type Map = LinkedHashMap<Key, u64, BuildKeyHasher>;
 /// Whether there is a call of a name. If there is one, it has run.
 type Known = Result<bool, std::fmt::Error>;
 
-/// Runs the call of a line, on `map` and where it takes two on `other` too, and appends its answer
-/// and the list of `map`. The answer to a line that is no call is `unknown`.
+/// Runs the call of a line, on `map` and where it takes two on `other` too, and appends what it
+/// returns and the list of `map`. For a line that is no call it appends `unknown`, and that list.
 fn run_call(
     name: &str,
     line: &mut Line<'_>,
@@ -38,7 +38,7 @@ fn run_call(
         || changes::run(name, line, map, text)?
         || making::run(name, line, map, other, text)?
         || entries::run(name, line, map, text)?
-        || walks::run(name, line, map, text)?
+        || iterators::run(name, line, map, text)?
         || comparisons::run(name, line, map, other, text)?;
     if !known {
         write!(text, "unknown ")?;

@@ -7,9 +7,9 @@ use std::hash::{BuildHasher, Hasher};
 /// What a hasher makes of the bytes that are written.
 #[derive(Clone, Copy, Debug)]
 pub enum Choice {
-    /// A number that differs for most keys.
+    /// A hash that differs for most keys.
     Spread,
-    /// The same number for every key.
+    /// The same hash for every key.
     Same,
     /// The first byte.
     Letter,

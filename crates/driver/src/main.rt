@@ -1,6 +1,6 @@
 //! Runs calls of the map's public API from standard input to standard output, one a line.
 //!
-//! `compare/run` compares the answers with those of the Rust crate linked-hash-map 0.5.6, and
+//! `compare/run` compares the output with that of the Rust crate linked-hash-map 0.5.6, and
 //! `compare/run --help` says what the lines are. What is proved of this program is that it is safe
 //! and ends.
 //!
@@ -12,6 +12,7 @@ mod changes;
 mod comparisons;
 mod entries;
 mod hasher;
+mod iterators;
 mod key;
 mod line;
 mod list;
@@ -19,7 +20,6 @@ mod lookups;
 mod making;
 mod show;
 mod stop;
-mod walks;
 
 use hasher::BuildKeyHasher;
 use key::Key;
@@ -34,8 +34,8 @@ use stop::Stop;
 /// The maps that the lines speak of.
 type Map = LinkedHashMap<Key, u64, BuildKeyHasher>;
 
-/// Runs the call of a line, on `map` and, if it takes two, on `other` too, and appends its answer
-/// and the list of `map`. The answer to a line that is no call is `unknown`.
+/// Runs the call of a line, on `map` and, if it takes two, on `other` too, and appends what it
+/// returns and the list of `map`. For a line that is no call it appends `unknown`, and that list.
 fn run_call(
     alloc: Global,
     name: &str,
@@ -48,7 +48,7 @@ fn run_call(
         || changes::run(name, line, map, text)?
         || making::run(alloc, name, line, map, other, text)?
         || entries::run(name, line, map, text)?
-        || walks::run(alloc, name, line, map, text)?
+        || iterators::run(alloc, name, line, map, text)?
         || comparisons::run(alloc, name, line, map, other, text)?;
     if !known {
         write!(text, "unknown ")?;
@@ -73,7 +73,7 @@ fn respond(alloc: Global, lines: &str) -> Result<String, Stop> {
     Ok(text)
 }
 
-/// Reads all lines, runs them and writes the answers.
+/// Reads all lines, runs them and writes the output.
 fn run<R: Read + Drop, W: Write>(alloc: Global, input: R, output: &mut W) -> Result<(), Stop> {
     let lines = io::read_to_string(alloc, input)?;
     let text = respond(alloc, lines.as_str())?;

@@ -1,4 +1,4 @@
-//! What several calls append to the text of the answers.
+//! What several calls append to the text of the output.
 
 use super::key::Key;
 use std::alloc::AllocError;

@@ -16,4 +16,5 @@ pub record IsRunOf (bytes output : List ℕ) : Type 0 where
   pub replies : List (Reply ℕ ℕ)
   pub said : AreCommandsOf (lines_of bytes) commands
   pub run : IsRun nat_eq 0 (first_log Touch []) commands replies
-  pub text : output ≡ flat_map reply_text replies ++ list_text (pairs nat_eq (last_log nat_eq (first_log Touch []) commands replies))
+  pub text : output ≡ flat_map reply_text replies
+      ++ list_text (pairs nat_eq (last_log nat_eq (first_log Touch []) commands replies))

@@ -30,7 +30,9 @@ answer_text NoRoom = codes "noroom"
 
 -- the line of a reply
 abbrev pub reply_text : Reply ℕ ℕ → List ℕ
-reply_text reply = answer_text reply.answer ++ codes " len=" ++ decimal reply.len ++ codes " cap=" ++ decimal reply.capacity ++ 10 ∷ []
+reply_text reply =
+    answer_text reply.answer ++ codes " len=" ++ decimal reply.len ++ codes " cap="
+    ++ decimal reply.capacity ++ 10 ∷ []
 
 -- the line of the final list
 abbrev pub list_text : List (ℕ × ℕ) → List ℕ

@@ -6,6 +6,7 @@ use Rattle.lhm_ring.specs.declared.links.Links.{Links}
 use Rattle.lhm_ring.specs.Cells.{Cell, cell, same_ptr, links_of, body_of, links_at, body_at, IsApart, with_links, with_body}
 use Rattle.lhm_ring.specs.Rings.{relinked, next_of, prev_of, link_of, has_links, next_at, prev_at, link_at, is_there, content_of, content_at, Linked, Chained, HasContent, IsRing, follow, listed, one_of, ring_pointers, ring_list, RingOk}
 use Rattle.lhm_ring.specs.RingState.{State, state, Held, held, IsHeld, ChangesOnly, change_at}
+use Rattle.lhm_ring.specs.Splits.{SplitAround}
 use Rattle.lhm_ring.specs.Targets.{target}
 use Rattle.lhm_ring.specs.declared.link.Link.{Link}
 use Rattle.lhm_ring.proofs.Apart.{IsFresh, same_ptr_eq, same_ptr_refl, same_ptr_symm}
@@ -58,21 +59,32 @@ module _ {B : Type 0} (cs ds : List (Cell Links B)) (p : Ptr) (t u : Held B) (j 
   }
 
   -- where p stands in the ring
-  split_at : (spare : Link) (n m : ℕ) → RingOk cs spare n m → IsHeld (ring_list cs n) p → (us : List Ptr) × (vs : List Ptr) × (ring_pointers cs n ≡ us ++ p ∷ vs)
+  split_at : (spare : Link) (n m : ℕ) → RingOk cs spare n m → IsHeld (ring_list cs n) p → SplitAround (ring_pointers cs n) p
   split_at spare n m ok h =
       let f = node-listed cs spare n m ok h.before h.node h.after h.is in let s = f.pointer in
-      (s.before, s.after, ap (λ k. follow cs k null_ptr) (sym s.long) ∙ follow_row cs null_ptr (s.before ++ h.node.at ∷ s.after) null_ptr s.ring.linked ∙ ap (λ q. s.before ++ q ∷ s.after) h.at_is)
+      record {
+        before = s.before;
+        after = s.after;
+        is = ap (λ k. follow cs k null_ptr) (sym s.held_count) ∙ follow_row cs null_ptr (s.before ++ h.node.at ∷ s.after) null_ptr s.ring.linked ∙ ap (λ q. s.before ++ q ∷ s.after) h.at_is;
+      }
 
-  free_of : (spare : Link) (n m : ℕ) (ok : RingOk cs spare n m) (us vs : List Ptr) → follow cs n null_ptr ≡ us ++ p ∷ vs → IsFresh p ok.1
+  free_of : (spare : Link) (n m : ℕ) (ok : RingOk cs spare n m) (us vs : List Ptr) → follow cs n null_ptr ≡ us ++ p ∷ vs → IsFresh p ok.spare_pointers
   free_of spare n m ok us vs e =
-      let is : ok.0 ≡ us ++ p ∷ vs = sym (ap (λ k. follow cs k null_ptr) (sym ok.3) ∙ follow_row cs null_ptr ok.0 null_ptr ok.2.linked) ∙ e in
-      let d : IsApart ((null_ptr ∷ us) ++ p ∷ (vs ++ ok.1)) = subst (λ qs. IsApart (null_ptr ∷ qs)) (ap (λ qs. qs ++ ok.1) is ∙ append_assoc us (p ∷ vs) ok.1) ok.2.apart in
-      all_right (λ q. same_ptr p q ≡ false) vs ok.1 (all_right (λ q. same_ptr p q ≡ false) (null_ptr ∷ us) (vs ++ ok.1) (apart_at (null_ptr ∷ us) p (vs ++ ok.1) d))
+      let is : ok.held_pointers ≡ us ++ p ∷ vs = sym (ap (λ k. follow cs k null_ptr) (sym ok.held_count) ∙ follow_row cs null_ptr ok.held_pointers null_ptr ok.ring.linked) ∙ e in
+      let d : IsApart ((null_ptr ∷ us) ++ p ∷ (vs ++ ok.spare_pointers)) = subst (λ qs. IsApart (null_ptr ∷ qs)) (ap (λ qs. qs ++ ok.spare_pointers) is ∙ append_assoc us (p ∷ vs) ok.spare_pointers) ok.ring.apart in
+      all_right (λ q. same_ptr p q ≡ false) vs ok.spare_pointers (all_right (λ q. same_ptr p q ≡ false) (null_ptr ∷ us) (vs ++ ok.spare_pointers) (apart_at (null_ptr ∷ us) p (vs ++ ok.spare_pointers) d))
 
   pub ring_ok_same : (spare : Link) (n m : ℕ) → RingOk cs spare n m → IsHeld (ring_list cs n) p → RingOk ds spare n m
   ring_ok_same spare n m ok h =
       let s = split_at spare n m ok h in
-      (ok.0, ok.1, ring_same ok.0 (target spare) ok.1 (free_of spare n m ok s.0 s.1 s.2) ok.2, ok.3, ok.4, ok.5)
+      record {
+        held_pointers = ok.held_pointers;
+        spare_pointers = ok.spare_pointers;
+        ring = ring_same ok.held_pointers (target spare) ok.spare_pointers (free_of spare n m ok s.before s.after s.is) ok.ring;
+        held_count = ok.held_count;
+        enough_spares = ok.enough_spares;
+        bounded = ok.bounded;
+      }
 
   module _ (f : Held B → Held B) (fx : f t ≡ u) where
     pointer : t.at ≡ p
@@ -154,7 +166,7 @@ module _ {B : Type 0} where
 
   ring_apart : (cs : List (Cell Links B)) (spare : Link) (n m : ℕ) → RingOk cs spare n m → IsApart (map (λ (t : Held B). t.at) (ring_list cs n))
   ring_apart cs spare n m ok =
-      subst IsApart (sym (ap (map (λ (t : Held B). t.at)) (ring_listed cs ok.0 (target spare) ok.1 n ok.2 ok.3) ∙ pointers_listed cs ok.0 ok.2.held)) (apart_left ok.0 ok.1 (apart_tail null_ptr (ok.0 ++ ok.1) ok.2.apart))
+      subst IsApart (sym (ap (map (λ (t : Held B). t.at)) (ring_listed cs ok.held_pointers (target spare) ok.spare_pointers n ok.ring ok.held_count) ∙ pointers_listed cs ok.held_pointers ok.ring.held)) (apart_left ok.held_pointers ok.spare_pointers (apart_tail null_ptr (ok.held_pointers ++ ok.spare_pointers) ok.ring.apart))
 
   unchanged : (p : Ptr) (f : Held B → Held B) (ys : List (Held B)) → IsFresh p (map (λ (t : Held B). t.at) ys) → change_at p f ys ≡ ys
   unchanged p f [] d = refl

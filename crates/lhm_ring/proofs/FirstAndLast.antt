@@ -31,7 +31,7 @@ module _ {B : Type 0} (cs : List (Cell Links B)) where
   pub last_is : (g a : Ptr) (ps : List Ptr) → AllByRecursion (HasContent cs) ps → Linked cs (g ∷ (ps ++ a ∷ [])) → (length ps ≡ 0 → ⊥) → last_at (listed cs ps) ≡ Some (prev_at cs a)
   unfolding listed
   last_is g a [] c l h = absurd (h refl)
-  last_is g a (p ∷ ps) c l h = ap (λ z. last_at (one_of z ++ listed cs ps)) c.0.1 ∙ ap (λ q. Some q) (last_listed p c.0 ps c.1 ∙ sym (cut_row cs g (p ∷ ps) a [] l).1.1)
+  last_is g a (p ∷ ps) c l h = ap (λ z. last_at (one_of z ++ listed cs ps)) c.0.1 ∙ ap (λ q. Some q) (last_listed p c.0 ps c.1 ∙ sym (cut_row cs g (p ∷ ps) a [] l).edge.1)
 
 module _ {B : Type 0} (cs : List (Cell Links B)) where
   -- the first of a row that ends at null, and the last of one that begins there
@@ -45,17 +45,17 @@ module _ {B : Type 0} (cs : List (Cell Links B)) where
   last_led p [] c f l = sym (ap led_to l.0.1)
   last_led p (q ∷ qs) c f l =
       last_is cs null_ptr p (q ∷ qs) c l (λ z. omega (arith, z))
-      ∙ sym (led_apart (prev_at cs p) (ap (same_ptr null_ptr) (cut_row cs null_ptr (q ∷ qs) p [] l).1.1 ∙ all_last (λ r. same_ptr null_ptr r ≡ false) q qs f.0 f.1))
+      ∙ sym (led_apart (prev_at cs p) (ap (same_ptr null_ptr) (cut_row cs null_ptr (q ∷ qs) p [] l).edge.1 ∙ all_last (λ r. same_ptr null_ptr r ≡ false) q qs f.0 f.1))
 
 module _ {B : Type 0} (cs : List (Cell Links B)) (spare : Link) (n m : ℕ) (v : State B) (ok : RingOk cs spare n m) {total : ℕ} (w : state (ring_list cs n) m total ≡ v) where
-  shown : listed cs ok.0 ≡ v.held
-  shown = sym (ring_listed cs ok.0 (target spare) ok.1 n ok.2 ok.3) ∙ ap (λ (z : State B). z.held) w
+  shown : listed cs ok.held_pointers ≡ v.held
+  shown = sym (ring_listed cs ok.held_pointers (target spare) ok.spare_pointers n ok.ring ok.held_count) ∙ ap (λ (z : State B). z.held) w
 
-  free : IsFresh null_ptr ok.0
-  free = all_left (λ q. same_ptr null_ptr q ≡ false) ok.0 ok.1 (apart_head null_ptr (ok.0 ++ ok.1) ok.2.apart)
+  free : IsFresh null_ptr ok.held_pointers
+  free = all_left (λ q. same_ptr null_ptr q ≡ false) ok.held_pointers ok.spare_pointers (apart_head null_ptr (ok.held_pointers ++ ok.spare_pointers) ok.ring.apart)
 
   pub first_found : led_to (next_at cs null_ptr) ≡ first_at v.held
-  first_found = sym (first_led cs null_ptr ok.0 ok.2.held free ok.2.linked) ∙ ap first_at shown
+  first_found = sym (first_led cs null_ptr ok.held_pointers ok.ring.held free ok.ring.linked) ∙ ap first_at shown
 
   pub last_found : led_to (prev_at cs null_ptr) ≡ last_at v.held
-  last_found = sym (last_led cs null_ptr ok.0 ok.2.held free ok.2.linked) ∙ ap last_at shown
+  last_found = sym (last_led cs null_ptr ok.held_pointers ok.ring.held free ok.ring.linked) ∙ ap last_at shown

@@ -9,7 +9,7 @@ use Rattle.lhm_ring.specs.Splits.{SplitLast}
 use Rattle.lhm_ring.specs.Index.{Spot, spot, spots, PutsIn, IsRearranged, IsChain, is_in, Indexes}
 use Rattle.lhm_ring.specs.Search.{OfNodeAt, IsLast, IsOnChain, HoldsOthers}
 use Rattle.lhm_ring.proofs.Rearranged.{PutsIn-middle, IsRearranged-less}
-use Rattle.lhm_ring.proofs.Chains.{NodeOf, node_of_spot, held_of, PutsIn-later, IsRearranged-member, PutsIn-unfilter, PutsIn-filter_in, PutsIn-spots, Indexes-take_first, Indexes-take_next}
+use Rattle.lhm_ring.proofs.Chains.{PutsPassing, NodeOf, node_of_spot, held_of, PutsIn-later, IsRearranged-member, PutsIn-unfilter, PutsIn-filter_in, PutsIn-spots, Indexes-take_first, Indexes-take_next}
 
 -- a spot of a chain is a held node's
 pub record OnNode {K V : Type 0} (n b : ℕ) (done : List Spot) (s : Spot) (rest : List Spot) (nodes : List (Held (K × V))) : Type 0 where
@@ -22,8 +22,8 @@ pub on_node : {K V : Type 0} (n b : ℕ) (done : List Spot) (s : Spot) (rest : L
 on_node n b done s rest nodes h =
     let q : Spot → Bool = is_in n b in
     let m : (ws : List Spot) × PutsIn s ws (filter q (spots nodes)) = IsRearranged-member done s rest (filter q (spots nodes)) h in
-    let t : (ws : List Spot) × PutsIn s ws (spots nodes) × (q s ≡ true) = PutsIn-unfilter q s m.0 (spots nodes) m.1 in
-    record { ws = t.0; puts = t.1; passes = t.2; of = node_of_spot s t.0 nodes t.1 }
+    let t : PutsPassing q s (spots nodes) = PutsIn-unfilter q s m.0 (spots nodes) m.1 in
+    record { ws = t.without; puts = t.puts; passes = t.passes; of = node_of_spot s t.without nodes t.puts }
 
 pub on_held : {K V : Type 0} {heads : List (Option Ptr)} {hash : ℕ} {nodes : List (Held (K × V))} {before : Option Ptr} {p : Ptr} → IsOnChain heads hash (spots nodes) before p → IsHeld nodes p
 on_held {K} {V} {heads} {hash} {nodes} {before} {p} w =
@@ -37,10 +37,10 @@ pub on_some : {heads : List (Option Ptr)} {hash : ℕ} {xs : List Spot} {before 
 on_some {heads} {hash} {xs} {before} {p} h w =
     let f : Spot → Bool = is_in (length heads) (hash % length heads) in
     let m : (ws : List Spot) × PutsIn w.here ws (filter f xs) = IsRearranged-member w.done w.here w.rest (filter f xs) w.holds in
-    let t : (ws : List Spot) × PutsIn w.here ws xs × (f w.here ≡ true) = PutsIn-unfilter f w.here m.0 xs m.1 in
+    let t : PutsPassing f w.here xs = PutsIn-unfilter f w.here m.0 xs m.1 in
     elim (cases_lt 0 (length heads)) [
       | inl l ↦ l
-      | inr l ↦ absurd (PutsIn-some w.here t.0 (subst (λ (v : List Spot). PutsIn w.here t.0 v) (h.none (omega arith)) t.1))
+      | inr l ↦ absurd (PutsIn-some w.here t.without (subst (λ (v : List Spot). PutsIn w.here t.without v) (h.none (omega arith)) t.puts))
     ]
 
 -- the one before, where there is one
@@ -49,11 +49,11 @@ HasBefore = SplitLast (λ s. s.at)
 
 has_before : (before : Option Ptr) (done : List Spot) (q : Ptr) → before ≡ Some q → IsLast before done → HasBefore done q
 has_before before done q e (inl h) = absurd (let f : before ≡ None = h.1 in cc)
-has_before before done q e (inr h) = record { before = h.0; node = h.1; is = h.2; at_is = (let f : before ≡ Some h.1.at = h.3 in cc) }
+has_before before done q e (inr h) = record { before = h.before; node = h.node; is = h.is; at_is = (let f : Some h.node.at ≡ before = h.at_is in cc) }
 
 has_none : (before : Option Ptr) (done : List Spot) → before ≡ None → IsLast before done → done ≡ []
 has_none before done e (inl h) = h.0
-has_none before done e (inr h) = absurd (let f : before ≡ Some h.1.at = h.3 in cc)
+has_none before done e (inr h) = absurd (let f : Some h.node.at ≡ before = h.at_is in cc)
 
 -- the chain, split at the one before
 before_chain : (done : List Spot) (q : Ptr) (b : HasBefore done q) (s : Spot) (rest : List Spot) → done ++ s ∷ rest ≡ b.before ++ b.node ∷ s ∷ rest
@@ -117,8 +117,8 @@ take_next {K} {V} {heads} {hash} {nodes} {before} {p} nodes' q link e h w l sets
     (subst (λ (v : List (Held (K × V))). PutsIn y' (spots (y.of.before ++ y.of.after)) (spots v)) (sym nodes_are) (PutsIn-spots y.of.before (linked_to link y.of.node) y.of.after)) in
     let less : IsRearranged (b.before ++ w.here ∷ w.rest) (filter f y.ws) = IsRearranged-less b.node (b.before ++ w.here ∷ w.rest) (b.before ++ b.node ∷ w.here ∷ w.rest) (filter f y.ws) (filter f (spots nodes)) (PutsIn-middle b.before b.node (w.here ∷ w.rest)) (PutsIn-filter_in f b.node y.ws (spots nodes) y.puts y.passes) holds in
     let m : (ws : List Spot) × PutsIn w.here ws (filter f y.ws) = IsRearranged-member b.before w.here w.rest (filter f y.ws) less in
-    let t : (ws : List Spot) × PutsIn w.here ws y.ws × (f w.here ≡ true) = PutsIn-unfilter f w.here m.0 y.ws m.1 in
-    let s : (ws : List Spot) × PutsIn w.here ws (spots nodes') = PutsIn-later w.here y' t.0 y.ws (spots nodes') t.1 put' in
+    let t : PutsPassing f w.here y.ws = PutsIn-unfilter f w.here m.0 y.ws m.1 in
+    let s : (ws : List Spot) × PutsIn w.here ws (spots nodes') = PutsIn-later w.here y' t.without y.ws (spots nodes') t.puts put' in
     let of : NodeOf w.here s.0 nodes' = node_of_spot w.here s.0 nodes' s.1 in
     let i : Indexes heads s.0 = Indexes-take_next heads bucket b.before b.node y' w.here w.rest y.ws (spots nodes) (spots nodes') s.0 h (mod-lt hash (on_some h w)) linked holds (ap (λ v. v.at) y.of.spot_is) (ap (λ v. v.hash) y.of.spot_is) link_is y.puts put' s.1 in
     record {

@@ -40,7 +40,8 @@ module _ {K V : Type 0} where
   all_still p run (t ∷ ts) f a = (value_at-other p t.at f.0 run ∙ a.0, all_still p run ts f.1 a.1)
 
   pub first_lent : (run : List (Ptr × V)) (s : List (Held (K × V))) (t : Held (K × V)) (ts : List (Held (K × V))) → s ≡ t ∷ ts → AreLent run s → (value_at run t.at ≡ Some t.pair.1) × AreLent (without_value t.at run) ts
-  first_lent run s t ts e a = let b = subst (AreLent run) e a in (b.0.0, (all_still t.at run ts (apart_head t.at (map At ts) b.1) b.0.1, apart_tail t.at (map At ts) b.1))
+  first_lent run s t ts e a = let b = subst (AreLent run) e a in
+      (b.lent.0, record { lent = all_still t.at run ts (apart_head t.at (map At ts) b.apart) b.lent.1; apart = apart_tail t.at (map At ts) b.apart })
 
   map_push : (ts : List (Held (K × V))) (t : Held (K × V)) → map At (ts ++ t ∷ []) ≡ map At ts ++ t.at ∷ []
   map_push [] t = refl
@@ -49,5 +50,10 @@ module _ {K V : Type 0} where
   pub last_lent : (run : List (Ptr × V)) (s : List (Held (K × V))) (t : Held (K × V)) (ts : List (Held (K × V))) → s ≡ ts ++ t ∷ [] → AreLent run s → (value_at run t.at ≡ Some t.pair.1) × AreLent (without_value t.at run) ts
   last_lent run s t ts e a =
       let P = λ (u : Held (K × V)). value_at run u.at ≡ Some u.pair.1 in
-      let b = subst (AreLent run) e a in let d = subst IsApart (map_push ts t) b.1 in
-      ((all_right P ts (t ∷ []) b.0).0, (all_still t.at run ts (turned t.at (map At ts) (apart_across (map At ts) (t.at ∷ []) d)) (all_left P ts (t ∷ []) b.0), apart_left (map At ts) (t.at ∷ []) d))
+      let b = subst (AreLent run) e a in let d = subst IsApart (map_push ts t) b.apart in (
+        (all_right P ts (t ∷ []) b.lent).0,
+        record {
+          lent = all_still t.at run ts (turned t.at (map At ts) (apart_across (map At ts) (t.at ∷ []) d)) (all_left P ts (t ∷ []) b.lent);
+          apart = apart_left (map At ts) (t.at ∷ []) d;
+        },
+      )

@@ -25,6 +25,7 @@ pub mod Neighbours
 pub mod NodeAdded
 pub mod NodeBefore
 pub mod NodeBlocks
+pub mod NodesBehind
 pub mod NodesGrown
 pub mod NodesWithBodies
 pub mod OneNodeChanged
@@ -49,5 +50,4 @@ pub mod ValueTaken
 pub mod ValuesInOrder
 pub mod ValuesReplaced
 pub mod ValuesSplitOff
-pub mod Walks
 pub mod Writes

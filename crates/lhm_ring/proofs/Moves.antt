@@ -35,14 +35,14 @@ module _ {B : Type 0} (cs : List (Cell Links B)) (spare : Option Ptr) (ss us : L
   p_there = (all_right There us (p ∷ vs) there_held).0
 
   pub prev_there : There (prev_at cs p)
-  prev_there = subst There (sym (cut_row cs null_ptr us p (vs ++ null_ptr ∷ []) row).1.1) (all_last There null_ptr us r.there.0 (all_left There us (p ∷ vs) there_held))
+  prev_there = subst There (sym (cut_row cs null_ptr us p (vs ++ null_ptr ∷ []) row).edge.1) (all_last There null_ptr us r.there.0 (all_left There us (p ∷ vs) there_held))
 
   first_there : (ys : List Ptr) → AllByRecursion There ys → Linked cs (p ∷ (ys ++ null_ptr ∷ [])) → There (next_at cs p)
   first_there [] a l = subst There (sym l.0.0) r.there.0
   first_there (y ∷ ys) a l = subst There (sym l.0.0) a.0
 
   pub next_there : There (next_at cs p)
-  next_there = first_there vs (all_right There us (p ∷ vs) there_held).1 (cut_row cs null_ptr us p (vs ++ null_ptr ∷ []) row).2
+  next_there = first_there vs (all_right There us (p ∷ vs) there_held).1 (cut_row cs null_ptr us p (vs ++ null_ptr ∷ []) row).after
 
   module _ (ds : List (Cell Links B)) (j : IsJoined cs ds (prev_at cs p) (next_at cs p)) where
     pub Linked-joined : Linked ds (null_ptr ∷ ((us ++ vs) ++ null_ptr ∷ []))
@@ -51,7 +51,7 @@ module _ {B : Type 0} (cs : List (Cell Links B)) (spare : Option Ptr) (ss us : L
     pub last_there : is_there ds (prev_at ds null_ptr) ≡ true
     last_there =
         let T : Ptr → Type 0 = λ q. is_there ds q ≡ true in
-        subst T (sym (cut_row ds null_ptr (us ++ vs) null_ptr [] Linked-joined).1.1) (all_last T null_ptr (us ++ vs) (j.there null_ptr ∙ r.there.0) (there_kept cs ds (prev_at cs p) (next_at cs p) j (us ++ vs) (all_swap There us p vs there_held)))
+        subst T (sym (cut_row ds null_ptr (us ++ vs) null_ptr [] Linked-joined).edge.1) (all_last T null_ptr (us ++ vs) (j.there null_ptr ∙ r.there.0) (there_kept cs ds (prev_at cs p) (next_at cs p) j (us ++ vs) (all_swap There us p vs there_held)))
 
     module _ (es fs : List (Cell Links B)) (k : IsJoined ds es (prev_at ds null_ptr) p) (l : IsJoined es fs p null_ptr) where
       free : IsFresh p ((null_ptr ∷ us) ++ vs)
@@ -110,12 +110,19 @@ module _ {B : Type 0} (cs : List (Cell Links B)) (spare : Link) (n m : ℕ) (v :
     moved_to s = IsRing-to_back cs (target spare) s.others s.before p s.after s.ring ds j' es fs k l
 
     long_to : (s : NodeAt cs spare n m p) → length ((s.before ++ s.after) ++ p ∷ []) ≡ n
-    long_to s = sym (length-to_back cs (target spare) s.others s.before p s.after s.ring ds j' es fs k l) ∙ s.long
+    long_to s = sym (length-to_back cs (target spare) s.others s.before p s.after s.ring ds j' es fs k l) ∙ s.held_count
 
     pub moved_ring : IsHeld v.held p → RingOk fs spare n m
     moved_ring h =
         let s = node_in cs spare n m v p ok w h in
-        ((s.before ++ s.after) ++ p ∷ [], s.others, moved_to s, long_to s, s.wide, s.small)
+        record {
+          held_pointers = (s.before ++ s.after) ++ p ∷ [];
+          spare_pointers = s.others;
+          ring = moved_to s;
+          held_count = long_to s;
+          enough_spares = s.enough_spares;
+          bounded = s.bounded;
+        }
 
     list_at : (t : Held B) → content_at cs p ≡ Some t → (s : NodeAt cs spare n m p) → ring_list fs n ≡ (listed cs s.before ++ listed cs s.after) ++ t ∷ []
     list_at t here s =
@@ -125,6 +132,6 @@ module _ {B : Type 0} (cs : List (Cell Links B)) (spare : Link) (n m : ℕ) (v :
     moved_list xs t ys h at =
         let f = found_in cs spare n m v ok w xs t ys h in
         let here : content_at cs p ≡ Some t = ap (content_at cs) (sym at) ∙ f.here in
-        let s = node_at p f at in
-        let q : ring_list fs n ≡ (xs ++ ys) ++ t ∷ [] = list_at t here s.0 ∙ (λ i. (s.1 i ++ s.2 i) ++ t ∷ []) in
+        let b = node_at p f at in
+        let q : ring_list fs n ≡ (xs ++ ys) ++ t ∷ [] = list_at t here b.node ∙ (λ i. (b.listed_before i ++ b.listed_after i) ++ t ∷ []) in
         λ i. state (q i) (ap (λ (z : State B). z.spares) w i) (ap (λ (z : State B). z.nodes) w i)

@@ -8,6 +8,7 @@ use Rattle.std.proofs.Math.Nat.{mod-lt}
 use denote.RawPtr.{Ptr}
 use Rattle.lhm_ring.specs.RingState.{State, Held, IsHeld, AtHeld, linked_to}
 use Rattle.lhm_ring.specs.Index.{Spot, spot, spots, PutsIn, IsRearranged, IsChain, is_in, HasChain, Indexes}
+use Rattle.lhm_ring.specs.Splits.{SplitAround}
 use Rattle.lhm_ring.specs.Search.{OfNodeAt, IsLast, IsOnChain}
 use Rattle.lhm_ring.proofs.Rearranged.{PutsIn-middle, IsRearranged-less, IsRearranged-more}
 use Rattle.lhm_ring.proofs.Chains.{held_of, ChainFirst, chain_begins, chain_none, IsRearranged-back, PutsIn-filter_in, PutsIn-spots, length-IsRearranged}
@@ -88,12 +89,12 @@ its_chain {K} {V} heads hash nodes xs x ys h is e =
     let c : HasChain (get_or heads (hash % n) None) n (hash % n) (spots nodes) = h.chains (hash % n) (mod-lt hash some) in
     let inside : f (spot x) ≡ true = eq-eqb (x.hash % n) (hash % n) (ap (λ v. v % n) (sym e)) in
     let q : PutsIn (spot x) (filter f (spots (xs ++ ys))) (filter f (spots nodes)) = PutsIn-filter_in f (spot x) (spots (xs ++ ys)) (spots nodes) p inside in
-    let m : (us : List Spot) × (vs : List Spot) × (c.chain ≡ us ++ spot x ∷ vs) = IsRearranged-back c.chain (spot x) (filter f (spots (xs ++ ys))) (filter f (spots nodes)) c.holds q in
+    let m : SplitAround c.chain (spot x) = IsRearranged-back c.chain (spot x) (filter f (spots (xs ++ ys))) (filter f (spots nodes)) c.holds q in
     record {
-      us = m.0;
-      vs = m.1;
-      linked = subst (λ (v : List Spot). IsChain (get_or heads (hash % n) None) v) m.2 c.linked;
-      holds = subst (λ (v : List Spot). IsRearranged v (filter f (spots nodes))) m.2 c.holds;
+      us = m.before;
+      vs = m.after;
+      linked = subst (λ (v : List Spot). IsChain (get_or heads (hash % n) None) v) m.is c.linked;
+      holds = subst (λ (v : List Spot). IsRearranged v (filter f (spots nodes))) m.is c.holds;
     }
   where
     no_puts : (s : Spot) (ss : List Spot) → PutsIn s ss [] → ⊥
@@ -205,7 +206,7 @@ towards_next {K} {V} {heads} {hash} {nodes} {cut} {p} {link} {before} {here} {pa
       todo = b.after;
       whole = w.whole ∙ ap (λ (v : List Spot). w.done ++ w.node ∷ v) b.is ∙ sym (append_assoc w.done (w.node ∷ []) (b.node ∷ b.after));
       at_is = b.at_is;
-      behind = inr (w.done, w.node, refl, ap Some (sym w.at_is));
+      behind = inr (record { before = w.done; node = w.node; is = refl; at_is = ap Some w.at_is });
       passed_is = (omega (arith, k, m));
     }
 

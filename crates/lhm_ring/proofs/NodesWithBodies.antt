@@ -111,4 +111,11 @@ module _ {B : Type 0} (cs : List (Cell Links B)) where
   }
 
   pub ring_ok_cleared : (spare : Link) (n m : ℕ) → n ≡ 0 → RingOk cs spare n m → RingOk (cleared cs) spare n m
-  ring_ok_cleared spare n m e ok = (ok.0, ok.1, ring_cleared ok.0 (target spare) ok.1 (ok.3 ∙ e) ok.2, ok.3, ok.4, ok.5)
+  ring_ok_cleared spare n m e ok = record {
+    held_pointers = ok.held_pointers;
+    spare_pointers = ok.spare_pointers;
+    ring = ring_cleared ok.held_pointers (target spare) ok.spare_pointers (ok.held_count ∙ e) ok.ring;
+    held_count = ok.held_count;
+    enough_spares = ok.enough_spares;
+    bounded = ok.bounded;
+  }

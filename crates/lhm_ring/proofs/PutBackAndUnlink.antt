@@ -27,26 +27,26 @@ module _ {B : Type 0} where
   first cs spare m (p ∷ ss) h e c = subst IsSome (sym c.0) refl
 
   pub spare_there : (cs : List (Cell Links B)) (spare : Link) (n m : ℕ) (v : State B) {total : ℕ} → RingOk cs spare n m → state (ring_list cs n) m total ≡ v → 0 < v.spares → IsSome (target spare)
-  spare_there cs spare n m v ok w h = first cs spare m ok.1 (subst (λ k. 0 < k) (sym (ap (λ (z : State B). z.spares) w)) h) ok.4 ok.2.chained
+  spare_there cs spare n m v ok w h = first cs spare m ok.spare_pointers (subst (λ k. 0 < k) (sym (ap (λ (z : State B). z.spares) w)) h) ok.enough_spares ok.ring.chained
 
 -- the first spare node, and the others
 pub record Ready {B : Type 0} (cs : List (Cell Links B)) (at : NodePointer) (n m : ℕ) : Type 0 where
   pub row : List Ptr
   pub others : List Ptr
   pub ring : IsRing cs row (Some at.ptr) (at.ptr ∷ others)
-  pub long : length row ≡ n
-  pub wide : m ≤ suc (length others)
-  pub small : n + m ≤ 2 ^ 59
+  pub held_count : length row ≡ n
+  pub enough_spares : m ≤ suc (length others)
+  pub bounded : n + m ≤ 2 ^ 59
 
 module _ {B : Type 0} (cs : List (Cell Links B)) where
   ready_at : (at : NodePointer) (n m : ℕ) (ps ss : List Ptr) → IsRing cs ps (Some at.ptr) ss → length ps ≡ n → m ≤ length ss → n + m ≤ 2 ^ 59 → 0 < m → Ready cs at n m
   ready_at at n m ps [] r a b c h = absurd (omega arith)
   ready_at at n m ps (p ∷ rest) r a b c h =
-      record { row = ps; others = rest; ring = subst (λ q. IsRing cs ps (Some at.ptr) (q ∷ rest)) (sym (some_same at.ptr p r.chained.0)) r; long = a; wide = b; small = c }
+      record { row = ps; others = rest; ring = subst (λ q. IsRing cs ps (Some at.ptr) (q ∷ rest)) (sym (some_same at.ptr p r.chained.0)) r; held_count = a; enough_spares = b; bounded = c }
 
   pub ready : (spare : Link) (at : NodePointer) (n m : ℕ) (v : State B) {total : ℕ} → target spare ≡ Some at.ptr → RingOk cs spare n m → state (ring_list cs n) m total ≡ v → 0 < v.spares → Ready cs at n m
   ready spare at n m v f ok w h =
-      ready_at at n m ok.0 ok.1 (subst (λ z. IsRing cs ok.0 z ok.1) f ok.2) ok.3 ok.4 ok.5 (subst (λ k. 0 < k) (sym (ap (λ (z : State B). z.spares) w)) h)
+      ready_at at n m ok.held_pointers ok.spare_pointers (subst (λ z. IsRing cs ok.held_pointers z ok.spare_pointers) f ok.ring) ok.held_count ok.enough_spares ok.bounded (subst (λ k. 0 < k) (sym (ap (λ (z : State B). z.spares) w)) h)
 
 module _ {B : Type 0} (cs : List (Cell Links B)) (spare : Link) (at : NodePointer) (n m : ℕ) (v : State B) (f : target spare ≡ Some at.ptr) (ok : RingOk cs spare n m) {total : ℕ} (w : state (ring_list cs n) m total ≡ v)
     (pos : 0 < v.spares) where
@@ -70,7 +70,7 @@ module _ {B : Type 0} (cs : List (Cell Links B)) (spare : Link) (at : NodePointe
     pub put_there : (is_there c₂ (prev_at cs null_ptr) ≡ true) × (is_there c₂ at.ptr ≡ true)
     put_there =
         let T : Ptr → Type 0 = λ q. is_there cs q ≡ true in
-        let last : T (prev_at cs null_ptr) = subst T (sym (cut_row cs null_ptr r.row null_ptr [] r.ring.linked).1.1) (all_last T null_ptr r.row r.ring.there.0 (all_left T r.row (at.ptr ∷ r.others) r.ring.there.1)) in
+        let last : T (prev_at cs null_ptr) = subst T (sym (cut_row cs null_ptr r.row null_ptr [] r.ring.linked).edge.1) (all_last T null_ptr r.row r.ring.there.0 (all_left T r.row (at.ptr ∷ r.others) r.ring.there.1)) in
         (only.there (prev_at cs null_ptr) ∙ last, only.there at.ptr ∙ (all_right T r.row (at.ptr ∷ r.others) r.ring.there.1).0)
 
     filled : content_at c₂ at.ptr ≡ Some (held at.ptr hash None x)
@@ -85,17 +85,24 @@ module _ {B : Type 0} (cs : List (Cell Links B)) (spare : Link) (at : NodePointe
       made = IsRing-put_back cs c₂ c₃ c₄ r.row (Some at.ptr) at.ptr r.others r.ring only j k (held at.ptr hash None x) filled
 
       longer : length (r.row ++ at.ptr ∷ []) ≡ n + 1
-      longer = let a = r.long in omega (arith, length-append r.row (at.ptr ∷ []))
+      longer = let a = r.held_count in omega (arith, length-append r.row (at.ptr ∷ []))
 
       pub put_ring : RingOk c₄ la.link (n + 1) (m - 1)
       put_ring =
-          let a = r.wide in let b = r.small in let known : m ≡ v.spares = ap (λ (z : State B). z.spares) w in let some = pos in
-          (r.row ++ at.ptr ∷ [], r.others, subst (λ z. IsRing c₄ (r.row ++ at.ptr ∷ []) z r.others) (ap link_of ea) made, longer, omega arith, omega arith)
+          let a = r.enough_spares in let b = r.bounded in let known : m ≡ v.spares = ap (λ (z : State B). z.spares) w in let some = pos in
+          record {
+            held_pointers = r.row ++ at.ptr ∷ [];
+            spare_pointers = r.others;
+            ring = subst (λ z. IsRing c₄ (r.row ++ at.ptr ∷ []) z r.others) (ap link_of ea) made;
+            held_count = longer;
+            enough_spares = omega arith;
+            bounded = omega arith;
+          }
 
       pub put_list : state (ring_list c₄ (n + 1)) (m - 1) total ≡ state (v.held ++ held at.ptr hash None x ∷ []) (v.spares - 1) v.nodes
       put_list =
           let p = at.ptr in
-          let old : listed cs r.row ≡ v.held = sym (ring_listed cs r.row (Some p) (p ∷ r.others) n r.ring r.long) ∙ ap (λ (z : State B). z.held) w in
+          let old : listed cs r.row ≡ v.held = sym (ring_listed cs r.row (Some p) (p ∷ r.others) n r.ring r.held_count) ∙ ap (λ (z : State B). z.held) w in
           let new : ring_list c₄ (n + 1) ≡ v.held ++ held p hash None x ∷ [] = ring_listed c₄ (r.row ++ p ∷ []) (link_at cs p) r.others (n + 1) made longer
           ∙ listed-put_back cs c₂ c₃ c₄ r.row (Some p) p r.others r.ring only j k (held p hash None x) filled ∙ ap (λ hs. hs ++ held p hash None x ∷ []) old in
           λ i. state (new i) (ap (λ (z : State B). z.spares) w i - 1) (ap (λ (z : State B). z.nodes) w i)
@@ -113,7 +120,7 @@ module _ {B : Type 0} (cs : List (Cell Links B)) (spare : Link) (n m : ℕ) (v :
       content_holds at.ptr (links_at ds at.ptr) (body_at ds at.ptr) h.node c
 
   pub some_held : IsHeld v.held at.ptr → 1 ≤ n
-  some_held h = let s = node_in cs spare n m v at.ptr ok w h in let a = s.long in let b = length-append s.before (at.ptr ∷ s.after) in omega arith
+  some_held h = let s = node_in cs spare n m v at.ptr ok w h in let a = s.held_count in let b = length-append s.before (at.ptr ∷ s.after) in omega arith
 
   module _ (x : B) (ex : body_at ds at.ptr ≡ Some x) (c₁ c₂ : List (Cell Links B)) (e₁ : c₁ ≡ with_body at.ptr None ds) where
     there : IsHeld v.held at.ptr → IsAt ds at.ptr
@@ -138,22 +145,29 @@ module _ {B : Type 0} (cs : List (Cell Links B)) (spare : Link) (n m : ℕ) (v :
       left h s = IsRing-unlinked cs ds c₂ (target spare) s.others s.before at.ptr s.after s.ring _ _ j₂ (Linked-joined cs (target spare) s.others s.before at.ptr s.after s.ring ds j₂) (only₂ h) (spare₂ h)
 
       shorter : (s : NodeAt cs spare n m at.ptr) → length (s.before ++ s.after) ≡ n - 1
-      shorter s = let a = s.long in omega (arith, length-append s.before (at.ptr ∷ s.after), length-append s.before s.after)
+      shorter s = let a = s.held_count in omega (arith, length-append s.before (at.ptr ∷ s.after), length-append s.before s.after)
 
       pub taken_ring : (top : Link) → target top ≡ Some at.ptr → IsHeld v.held at.ptr → RingOk c₂ top (n - 1) (m + 1)
       taken_ring top et h =
-          let s = node_in cs spare n m v at.ptr ok w h in let a = s.wide in let b = s.small in let some : 1 ≤ n = some_held h in
-          (s.before ++ s.after, at.ptr ∷ s.others, subst (λ z. IsRing c₂ (s.before ++ s.after) z (at.ptr ∷ s.others)) (sym et) (left h s), shorter s, omega arith, omega arith)
+          let s = node_in cs spare n m v at.ptr ok w h in let a = s.enough_spares in let b = s.bounded in let some : 1 ≤ n = some_held h in
+          record {
+            held_pointers = s.before ++ s.after;
+            spare_pointers = at.ptr ∷ s.others;
+            ring = subst (λ z. IsRing c₂ (s.before ++ s.after) z (at.ptr ∷ s.others)) (sym et) (left h s);
+            held_count = shorter s;
+            enough_spares = omega arith;
+            bounded = omega arith;
+          }
 
-      pub taken_list : AtHeld v.held at.ptr (λ xs t ys. (state (ring_list c₂ (n - 1)) (m + 1) total ≡ state (xs ++ ys) (v.spares + 1) v.nodes) × (la.hash ≡ t.hash) × (x ≡ t.pair))
+      pub taken_list : AtHeld v.held at.ptr (λ xs t ys. record { left : state (ring_list c₂ (n - 1)) (m + 1) total ≡ state (xs ++ ys) (v.spares + 1) v.nodes; hash : la.hash ≡ t.hash; pair : x ≡ t.pair })
       taken_list xs t ys k here =
           let f = found_in cs spare n m v ok w xs t ys k in let h : IsHeld v.held at.ptr = record { before = xs; node = t; after = ys; is = k; at_is = here } in
           let c : content_at cs at.ptr ≡ Some t = ap (content_at cs) (sym here) ∙ f.here in
-          let q = node_at at.ptr f here in let s = q.0 in
+          let q = node_at at.ptr f here in let s = q.node in
           let list : ring_list c₂ (n - 1) ≡ xs ++ ys =
           ring_listed c₂ (s.before ++ s.after) (Some at.ptr) (at.ptr ∷ s.others) (n - 1) (left h s) (shorter s)
           ∙ listed-unlinked cs ds c₂ (target spare) s.others s.before at.ptr s.after s.ring _ _ j₂ (Linked-joined cs (target spare) s.others s.before at.ptr s.after s.ring ds j₂) (only₂ h) (spare₂ h)
-          ∙ (λ i. q.1 i ++ q.2 i) in
+          ∙ (λ i. q.listed_before i ++ q.listed_after i) in
           let hash : t.hash ≡ la.hash = content_hash at.ptr la (body_at cs at.ptr) t (ap (λ o. content_of at.ptr o (body_at cs at.ptr)) (sym ea) ∙ c) in
           let pair : t.pair ≡ x = content_pair at.ptr (links_at ds at.ptr) x t (ap (λ b. content_of at.ptr (links_at ds at.ptr) b) (sym ex) ∙ j.content at.ptr ∙ c) in
-          ((λ i. state (list i) (ap (λ (z : State B). z.spares) w i + 1) (ap (λ (z : State B). z.nodes) w i)), sym hash, sym pair)
+          record { left = λ i. state (list i) (ap (λ (z : State B). z.spares) w i + 1) (ap (λ (z : State B). z.nodes) w i); hash = sym hash; pair = sym pair }

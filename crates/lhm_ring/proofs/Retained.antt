@@ -64,18 +64,20 @@ taken_in {F} {K} {V} Q f {p} s r seen h =
 -- one call, after which the pair stays with its value or is removed
 module _ {F K V : Type 0} (T : F → K → V → Bool → V → F → Type 0) {f f' : F} {old now : List (Held (K × V))} {p : Ptr} {b : Bool} {w : V} where
   pub RetainsAt-kept : CallsAt T f old p b w f' → WritesOnly old p → now ≡ change_at p (revalued w) old → b ≡ true → RetainsAt T f old p now f'
-  RetainsAt-kept called alone written kept = (
-    b,
-    w,
-    λ xs t ys e at. (called xs t ys e at, written ∙ alone xs t ys e at w ∙ ap (λ c. xs ++ cond c (revalued w t ∷ ys) ys) (sym kept)),
-  )
+  RetainsAt-kept called alone written kept = record {
+    returned = b;
+    value = w;
+    called = called;
+    new_is = λ xs t ys e at. written ∙ alone xs t ys e at w ∙ ap (λ c. xs ++ cond c (revalued w t ∷ ys) ys) (sym kept);
+  }
 
   pub RetainsAt-removed : {new : List (Held (K × V))} → CallsAt T f old p b w f' → WritesOnly old p → now ≡ change_at p (revalued w) old → b ≡ false → AtHeld now p (λ xs t ys. new ≡ xs ++ ys) → RetainsAt T f old p new f'
-  RetainsAt-removed called alone written removed others = (
-    b,
-    w,
-    λ xs t ys e at. (called xs t ys e at, others xs (revalued w t) ys (written ∙ alone xs t ys e at w) at ∙ ap (λ c. xs ++ cond c (revalued w t ∷ ys) ys) (sym removed)),
-  )
+  RetainsAt-removed called alone written removed others = record {
+    returned = b;
+    value = w;
+    called = called;
+    new_is = λ xs t ys e at. others xs (revalued w t) ys (written ∙ alone xs t ys e at w) at ∙ ap (λ c. xs ++ cond c (revalued w t ∷ ys) ys) (sym removed);
+  }
 
 pub held-written : {K V : Type 0} {old now : List (Held (K × V))} {p : Ptr} (w : V) → WritesOnly old p → now ≡ change_at p (revalued w) old → IsHeld old p → IsHeld now p
 held-written w alone written h =
@@ -120,20 +122,20 @@ module _ {F K V : Type 0} (T : F → K → V → Bool → V → F → Type 0) (Q
 
       module _ {f' : F} {new : List (Held (K × V))} {next' : Option Ptr} (made : RetainsAt T f now p new f') (follows : AtHeld now p (λ xs t ys. next' ≡ first_at ys)) where
         abbrev kept' : List (Held (K × V))
-        kept' = cond made.0 (m.kept ++ revalued made.1 n.node ∷ []) m.kept
+        kept' = cond made.returned (m.kept ++ revalued made.value n.node ∷ []) m.kept
 
-        call : T f n.node.pair.0 n.node.pair.1 made.0 made.1 f'
-        call = (made.2 m.kept n.node n.after now_cut n.at_is).0
+        call : T f n.node.pair.0 n.node.pair.1 made.returned made.value f'
+        call = made.called m.kept n.node n.after now_cut n.at_is
 
-        new_is : new ≡ m.kept ++ cond made.0 (revalued made.1 n.node ∷ n.after) n.after
-        new_is = (made.2 m.kept n.node n.after now_cut n.at_is).1
+        new_is : new ≡ m.kept ++ cond made.returned (revalued made.value n.node ∷ n.after) n.after
+        new_is = made.new_is m.kept n.node n.after now_cut n.at_is
 
         joined : (b : Bool) (u : Held (K × V)) (ys : List (Held (K × V))) → cond b (m.kept ++ u ∷ []) m.kept ++ ys ≡ m.kept ++ cond b (u ∷ ys) ys
         joined true u ys = append_assoc m.kept (u ∷ []) ys
         joined false u ys = refl
 
         now_new : new ≡ kept' ++ n.after
-        now_new = new_is ∙ sym (joined made.0 (revalued made.1 n.node) n.after)
+        now_new = new_is ∙ sym (joined made.returned (revalued made.value n.node) n.after)
 
         next_new : next' ≡ first_at n.after
         next_new = follows m.kept n.node n.after now_cut n.at_is
@@ -144,11 +146,11 @@ module _ {F K V : Type 0} (T : F → K → V → Bool → V → F → Type 0) (Q
           rest = n.after;
           now_is = now_new;
           next_is = next_new;
-          callable = callable-rest callable_now (made.0, made.1, call);
+          callable = callable-rest callable_now (made.returned, made.value, call);
           ends = λ last r.
-              subst (RetainsHeld T start old) (sym (joined made.0 (revalued made.1 n.node) last))
-              (m.ends (cond made.0 (revalued made.1 n.node ∷ last) last)
-              (subst (λ l. RetainsHeld T f l (cond made.0 (revalued made.1 n.node ∷ last) last)) (sym n.is) (made.0, made.1, f', last, call, r, refl)));
+              subst (RetainsHeld T start old) (sym (joined made.returned (revalued made.value n.node) last))
+              (m.ends (cond made.returned (revalued made.value n.node ∷ last) last)
+              (subst (λ l. RetainsHeld T f l (cond made.returned (revalued made.value n.node ∷ last) last)) (sym n.is) (record { returned = made.returned; value = made.value; closure = f'; rest = last; called = call; retained = r; kept_is = refl })));
         }
 
         apart_new : (b : Bool) (w : V) → IsApart (pointers_of (m.kept ++ n.node ∷ n.after)) → IsApart (pointers_of (m.kept ++ cond b (revalued w n.node ∷ n.after) n.after))
@@ -161,7 +163,7 @@ module _ {F K V : Type 0} (T : F → K → V → Bool → V → F → Type 0) (Q
             let before : left_from next now ≡ length (n.node ∷ n.after) =
             ap (λ o. left_from o now) (m.next_is ∙ ap first_at n.is) ∙ ap (left_from (Some n.node.at)) now_cut ∙ left_from-append m.kept (n.node ∷ n.after) cut in
             let apart : IsApart (pointers_of (kept' ++ n.after)) =
-            subst (λ l. IsApart (pointers_of l)) (sym (joined made.0 (revalued made.1 n.node) n.after)) (apart_new made.0 made.1 cut) in
+            subst (λ l. IsApart (pointers_of l)) (sym (joined made.returned (revalued made.value n.node) n.after)) (apart_new made.returned made.value cut) in
             let after : left_from next' new ≡ length n.after =
             ap (λ o. left_from o new) next_new ∙ ap (left_from (first_at n.after)) now_new ∙ left_from-append kept' n.after apart in
             omega (arith, before, after)

@@ -171,4 +171,5 @@ module _ {B : Type 0} (e : Ends) (cs : List (Cell Links B)) (spare : Link) (none
   }
 
   pub bare_ring : RingOk (ring_cells e cs) spare 0 0
-  bare_ring = subst (λ zs. RingOk (ring_cells e zs) spare 0 0) (sym none) ([], [], bare, refl, omega arith, omega arith)
+  bare_ring = subst (λ zs. RingOk (ring_cells e zs) spare 0 0) (sym none)
+      (record { held_pointers = []; spare_pointers = []; ring = bare; held_count = refl; enough_spares = omega arith; bounded = omega arith })

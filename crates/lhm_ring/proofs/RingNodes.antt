@@ -25,9 +25,9 @@ pub record NodeAt {B : Type 0} (cs : List (Cell Links B)) (spare : Link) (n m : 
   pub after : List Ptr
   pub others : List Ptr
   pub ring : IsRing cs (before ++ p ∷ after) (target spare) others
-  pub long : length (before ++ p ∷ after) ≡ n
-  pub wide : m ≤ length others
-  pub small : n + m ≤ 2 ^ 59
+  pub held_count : length (before ++ p ∷ after) ≡ n
+  pub enough_spares : m ≤ length others
+  pub bounded : n + m ≤ 2 ^ 59
 
 module _ {B : Type 0} where
   pub record Found (cs : List (Cell Links B)) (spare : Link) (n m : ℕ) (xs : List (Held B)) (t : Held B) (ys : List (Held B)) : Type 0 where
@@ -39,16 +39,16 @@ module _ {B : Type 0} where
   pub node-listed : (cs : List (Cell Links B)) (spare : Link) (n m : ℕ) → RingOk cs spare n m → (xs : List (Held B)) (t : Held B) (ys : List (Held B))
       → ring_list cs n ≡ xs ++ t ∷ ys → Found cs spare n m xs t ys
   node-listed cs spare n m ok xs t ys e =
-      let k = cut_listed cs ok.0 ok.2.held xs t ys (sym (ring_listed cs ok.0 (target spare) ok.1 n ok.2 ok.3) ∙ e) in
+      let k = cut_listed cs ok.held_pointers ok.ring.held xs t ys (sym (ring_listed cs ok.held_pointers (target spare) ok.spare_pointers n ok.ring ok.held_count) ∙ e) in
       record {
         pointer = record {
           before = k.before;
           after = k.after;
-          others = ok.1;
-          ring = subst (λ qs. IsRing cs qs (target spare) ok.1) k.is ok.2;
-          long = sym (ap length k.is) ∙ ok.3;
-          wide = ok.4;
-          small = ok.5;
+          others = ok.spare_pointers;
+          ring = subst (λ qs. IsRing cs qs (target spare) ok.spare_pointers) k.is ok.ring;
+          held_count = sym (ap length k.is) ∙ ok.held_count;
+          enough_spares = ok.enough_spares;
+          bounded = ok.bounded;
         };
         here = k.here;
         listed_before = k.listed_before;
@@ -71,19 +71,25 @@ module _ {B : Type 0} where
 
   pub ring_length : (cs : List (Cell Links B)) (spare : Link) (n m : ℕ) (v : State B) {total : ℕ} → RingOk cs spare n m → state (ring_list cs n) m total ≡ v → n ≡ length v.held
   ring_length cs spare n m v ok w =
-      sym ok.3 ∙ sym (length_listed cs ok.0 ok.2.held) ∙ sym (ap length (ring_listed cs ok.0 (target spare) ok.1 n ok.2 ok.3)) ∙ ap (λ (z : State B). length z.held) w
+      sym ok.held_count ∙ sym (length_listed cs ok.held_pointers ok.ring.held) ∙ sym (ap length (ring_listed cs ok.held_pointers (target spare) ok.spare_pointers n ok.ring ok.held_count)) ∙ ap (λ (z : State B). length z.held) w
 
   pub ring_bounded : (cs : List (Cell Links B)) (spare : Link) (n m : ℕ) (v : State B) {total : ℕ} → RingOk cs spare n m → state (ring_list cs n) m total ≡ v → length v.held + v.spares ≤ 2 ^ 59
   ring_bounded cs spare n m v ok w =
-      let a = ring_length cs spare n m v ok w in let b = ap (λ (z : State B). z.spares) w in let c = ok.5 in omega arith
+      let a = ring_length cs spare n m v ok w in let b = ap (λ (z : State B). z.spares) w in let c = ok.bounded in omega arith
 
   pub ring_within : (cs : List (Cell Links B)) (spare : Link) (n m : ℕ) (v : State B) {total : ℕ} → length cs ≡ suc total → RingOk cs spare n m → state (ring_list cs n) m total ≡ v → length v.held + v.spares ≤ v.nodes
   ring_within cs spare n m v {total} all ok w =
       let a = ring_length cs spare n m v ok w in let b = ap (λ (z : State B). z.spares) w in let c = ap (λ (z : State B). z.nodes) w in
-      let d = ok.2.count in let e = ok.3 in let f = ok.4 in omega arith
+      let d = ok.ring.count in let e = ok.held_count in let f = ok.enough_spares in omega arith
 
--- the same, where the pointer is known by another name
+-- the node at p, where xs are held before it and ys after it
+pub record NodeBetween {B : Type 0} (cs : List (Cell Links B)) (spare : Link) (n m : ℕ) (xs ys : List (Held B)) (p : Ptr) : Type 0 where
+  pub node : NodeAt cs spare n m p
+  pub listed_before : listed cs node.before ≡ xs
+  pub listed_after : listed cs node.after ≡ ys
+
+-- a node that was found, where its pointer is known by another name
 pub node_at : {B : Type 0} {cs : List (Cell Links B)} {spare : Link} {n m : ℕ} {xs : List (Held B)} {t : Held B} {ys : List (Held B)} (p : Ptr) → Found cs spare n m xs t ys → t.at ≡ p
-    → (s : NodeAt cs spare n m p) × (listed cs s.before ≡ xs) × (listed cs s.after ≡ ys)
+    → NodeBetween cs spare n m xs ys p
 node_at {cs = cs} {spare = spare} {n = n} {m = m} {xs = xs} {ys = ys} p f at =
-    subst (λ q. (s : NodeAt cs spare n m q) × (listed cs s.before ≡ xs) × (listed cs s.after ≡ ys)) at (f.pointer, f.listed_before, f.listed_after)
+    subst (NodeBetween cs spare n m xs ys) at (record { node = f.pointer; listed_before = f.listed_before; listed_after = f.listed_after })

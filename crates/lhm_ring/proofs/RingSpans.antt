@@ -14,9 +14,16 @@ module _ {B : Type 0} where
   -- what a ring holds is in a row from its front to its back
   pub whole_ring : (cs : List (Cell Links B)) (spare : Link) (n m : ℕ) → RingOk cs spare n m → IsSpan cs (next_at cs null_ptr) (prev_at cs null_ptr) n
   whole_ring cs spare n m ok =
-      let k = cut_row cs null_ptr ok.0 null_ptr [] ok.2.linked in
-      let ends : HasEnds ok.0 (next_at cs null_ptr) (prev_at cs null_ptr) = ends_behind cs null_ptr (prev_at cs null_ptr) ok.0 k.0 (last_same null_ptr ok.0 ∙ sym k.1.1) in
-      (ok.0, ok.3, linked_tail cs null_ptr ok.0 k.0, ends, ok.2.held, apart_left ok.0 ok.1 (apart_tail null_ptr (ok.0 ++ ok.1) ok.2.apart))
+      let k = cut_row cs null_ptr ok.held_pointers null_ptr [] ok.ring.linked in
+      let ends : HasEnds ok.held_pointers (next_at cs null_ptr) (prev_at cs null_ptr) = ends_behind cs null_ptr (prev_at cs null_ptr) ok.held_pointers k.before (last_same null_ptr ok.held_pointers ∙ sym k.edge.1) in
+      record {
+        pointers = ok.held_pointers;
+        count = ok.held_count;
+        linked = linked_tail cs null_ptr ok.held_pointers k.before;
+        ends = ends;
+        held = ok.ring.held;
+        apart = apart_left ok.held_pointers ok.spare_pointers (apart_tail null_ptr (ok.held_pointers ++ ok.spare_pointers) ok.ring.apart);
+      }
 
   follow_from : (cs : List (Cell Links B)) (n : ℕ) (p : Ptr) → follow cs n p ≡ pointers_from cs n (next_at cs p)
   unfolding follow pointers_from
@@ -29,11 +36,18 @@ module _ {B : Type 0} where
 -- a row of what a ring holds is one of its nodes
 module _ {B : Type 0} (e : Ends) (cs : List (Cell Links B)) (f b : Ptr) (n : ℕ) (s : IsSpan (ring_cells e cs) f b n) where
   pub span_in_nodes : IsSpan cs f b n
-  span_in_nodes = let a = all_apart e cs s.0 s.4 in (s.0, s.1, linked_in_nodes e cs s.0 a s.2, s.3, held_in_nodes e cs s.0 s.4, s.5)
+  span_in_nodes = record {
+    pointers = s.pointers;
+    count = s.count;
+    linked = linked_in_nodes e cs s.pointers (all_apart e cs s.pointers s.held) s.linked;
+    ends = s.ends;
+    held = held_in_nodes e cs s.pointers s.held;
+    apart = s.apart;
+  }
 
   pub span_listed : listed cs (pointers_from cs n f) ≡ listed (ring_cells e cs) (pointers_from (ring_cells e cs) n f)
   unfolding span_in_nodes
-  span_listed = ap (listed cs) (span_pointers cs f b n span_in_nodes) ∙ sym (listed_in_nodes e cs s.0 (all_apart e cs s.0 s.4)) ∙ sym (ap (listed (ring_cells e cs)) (span_pointers (ring_cells e cs) f b n s))
+  span_listed = ap (listed cs) (span_pointers cs f b n span_in_nodes) ∙ sym (listed_in_nodes e cs s.pointers (all_apart e cs s.pointers s.held)) ∙ sym (ap (listed (ring_cells e cs)) (span_pointers (ring_cells e cs) f b n s))
 
 -- what a ring holds is in the row from one end to the other
 module _ {B : Type 0} (e : Ends) (cs : List (Cell Links B)) (spare : Link) (n m : ℕ) (ok : RingOk (ring_cells e cs) spare n m) (f b : Ptr) (is : f ≡ e.first.ptr) where

@@ -6,18 +6,19 @@ use Rattle.lhm_ring.specs.declared.links.Links.{Links}
 use Rattle.lhm_ring.specs.Cells.{Cell, same_ptr, links_at, body_at, IsApart}
 use Rattle.lhm_ring.specs.Rings.{link_of, next_at, prev_at, link_at, is_there, content_of, content_at, Edge, Linked, Chained, HasContent, follow, listed, one_of, IsJoined}
 use Rattle.lhm_ring.specs.RingState.{Held, held}
+use Rattle.lhm_ring.specs.Splits.{SplitLast}
 use Rattle.lhm_ring.proofs.Apart.{IsFresh, same_ptr_refl, same_ptr_symm}
 use Rattle.lhm_ring.proofs.Options.{some_same}
-
--- a list that is not empty has a last element
-pub snoc : {X : Type 0} (x : X) (xs : List X) → (zs : List X) × (z : X) × (x ∷ xs ≡ zs ++ z ∷ [])
-snoc x [] = ([], x, refl)
-snoc x (y ∷ ys) = let on = snoc y ys in (x ∷ on.0, on.1, ap (λ r. x ∷ r) on.2)
 
 -- lists
 abbrev pub last_from : {X : Type 0} → X → List X → X
 last_from x [] = x
 last_from x (y ∷ ys) = last_from y ys
+
+-- a list that is not empty has a last element
+pub snoc : {X : Type 0} (x : X) (xs : List X) → SplitLast (λ z. z) (x ∷ xs) (last_from x xs)
+snoc x [] = record { before = []; node = x; is = refl; at_is = refl }
+snoc x (y ∷ ys) = let on = snoc y ys in record { before = x ∷ on.before; node = on.node; is = ap (λ r. x ∷ r) on.is; at_is = on.at_is }
 
 pub all_both : {X : Type 0} (P : X → Type 0) (xs ys : List X) → AllByRecursion P xs → AllByRecursion P ys → AllByRecursion P (xs ++ ys)
 all_both P [] ys a b = b
@@ -107,11 +108,17 @@ avoids_last x (y ∷ ys) d =
     let f = apart_head x (y ∷ ys) d in
     (flip x (last_from y ys) (all_last (λ q. same_ptr x q ≡ false) y ys f.0 f.1), avoids_last y ys (apart_tail x (y ∷ ys) d))
 
+-- a row of links, cut before p
+pub record RowCut {B : Type 0} (cs : List (Cell Links B)) (x : Ptr) (xs : List Ptr) (p : Ptr) (ys : List Ptr) : Type 0 where
+  pub before : Linked cs (x ∷ xs)
+  pub edge : Edge cs (last_from x xs) p
+  pub after : Linked cs (p ∷ ys)
+
 module _ {B : Type 0} where
   module _ (cs : List (Cell Links B)) where
-    pub cut_row : (x : Ptr) (xs : List Ptr) (p : Ptr) (ys : List Ptr) → Linked cs (x ∷ (xs ++ p ∷ ys)) → Linked cs (x ∷ xs) × Edge cs (last_from x xs) p × Linked cs (p ∷ ys)
-    cut_row x [] p ys l = (tt, l.0, l.1)
-    cut_row x (y ∷ xs) p ys l = let on = cut_row y xs p ys l.1 in ((l.0, on.0), on.1, on.2)
+    pub cut_row : (x : Ptr) (xs : List Ptr) (p : Ptr) (ys : List Ptr) → Linked cs (x ∷ (xs ++ p ∷ ys)) → RowCut cs x xs p ys
+    cut_row x [] p ys l = record { before = tt; edge = l.0; after = l.1 }
+    cut_row x (y ∷ xs) p ys l = let on = cut_row y xs p ys l.1 in record { before = (l.0, on.before); edge = on.edge; after = on.after }
 
     pub glue_row : (x : Ptr) (xs : List Ptr) (p : Ptr) (ys : List Ptr) → Linked cs (x ∷ xs) → Edge cs (last_from x xs) p → Linked cs (p ∷ ys) → Linked cs (x ∷ (xs ++ p ∷ ys))
     glue_row x [] p ys l e m = (e, m)
@@ -171,26 +178,26 @@ module _ {B : Type 0} where
       → IsJoined cs ds (prev_at cs p) (next_at cs p) → Linked ds (g ∷ (xs ++ (ys ++ g ∷ [])))
   out_of_row cs ds g xs p [] d l j =
       let cut = cut_row cs g xs p (g ∷ []) l in let a = last_from g xs in
-      let k : IsJoined cs ds a g = subst (λ (z : Ptr × Ptr). IsJoined cs ds z.0 z.1) (λ i. (cut.1.1 i, cut.2.0.0 i)) j in
+      let k : IsJoined cs ds a g = subst (λ (z : Ptr × Ptr). IsJoined cs ds z.0 z.1) (λ i. (cut.edge.1 i, cut.after.0.0 i)) j in
       let whole = apart_left (g ∷ xs) (p ∷ []) d in
-      glue_row ds g xs g [] (row_kept cs ds a g k (g ∷ xs) (avoids_last g xs whole) (apart_head g xs whole) cut.0) (edge_made cs ds a g k) tt
+      glue_row ds g xs g [] (row_kept cs ds a g k (g ∷ xs) (avoids_last g xs whole) (apart_head g xs whole) cut.before) (edge_made cs ds a g k) tt
   out_of_row cs ds g xs p (y ∷ r) d l j =
       let cut = cut_row cs g xs p (y ∷ (r ++ g ∷ [])) l in let a = last_from g xs in
-      let k : IsJoined cs ds a y = subst (λ (z : Ptr × Ptr). IsJoined cs ds z.0 z.1) (λ i. (cut.1.1 i, cut.2.0.0 i)) j in
+      let k : IsJoined cs ds a y = subst (λ (z : Ptr × Ptr). IsJoined cs ds z.0 z.1) (λ i. (cut.edge.1 i, cut.after.0.0 i)) j in
       let whole = apart_left (g ∷ xs) (p ∷ y ∷ r) d in let less = apart_out (g ∷ xs) p (y ∷ r) d in
       let free = apart_at (g ∷ xs) y r less in let P : Ptr → Type 0 = λ q. same_ptr y q ≡ false in
       let across = apart_across (g ∷ xs) (y ∷ r) less in
-      glue_row ds g xs y (r ++ g ∷ []) (row_kept cs ds a y k (g ∷ xs) (avoids_last g xs whole) (all_left P xs r free.1) cut.0) (edge_made cs ds a y k)
-      (row_kept cs ds a y k (y ∷ (r ++ g ∷ [])) (avoids_but_last a y r g (all_last (λ x. IsFresh x (y ∷ r)) g xs across.0 across.1)) (all_both P r (g ∷ []) (all_right P xs r free.1) (free.0, tt)) cut.2.1)
+      glue_row ds g xs y (r ++ g ∷ []) (row_kept cs ds a y k (g ∷ xs) (avoids_last g xs whole) (all_left P xs r free.1) cut.before) (edge_made cs ds a y k)
+      (row_kept cs ds a y k (y ∷ (r ++ g ∷ [])) (avoids_but_last a y r g (all_last (λ x. IsFresh x (y ∷ r)) g xs across.0 across.1)) (all_both P r (g ∷ []) (all_right P xs r free.1) (free.0, tt)) cut.after.1)
 
   -- a node p comes last
   pub into_row : (cs ds es : List (Cell Links B)) (g : Ptr) (ps : List Ptr) (p : Ptr) → IsApart (g ∷ ps) → IsFresh p (g ∷ ps) → Linked cs (g ∷ (ps ++ g ∷ []))
       → IsJoined cs ds (prev_at cs g) p → IsJoined ds es p g → Linked es (g ∷ ((ps ++ p ∷ []) ++ g ∷ []))
   into_row cs ds es g ps p d free l j k =
       let cut = cut_row cs g ps g [] l in let a = last_from g ps in
-      let j' : IsJoined cs ds a p = subst (λ z. IsJoined cs ds z p) cut.1.1 j in
+      let j' : IsJoined cs ds a p = subst (λ z. IsJoined cs ds z p) cut.edge.1 j in
       let P : Ptr → Type 0 = λ q. same_ptr g q ≡ false in
-      let first : Linked ds (g ∷ (ps ++ p ∷ [])) = glue_row ds g ps p [] (row_kept cs ds a p j' (g ∷ ps) (avoids_last g ps d) free.1 cut.0) (edge_made cs ds a p j') tt in
+      let first : Linked ds (g ∷ (ps ++ p ∷ [])) = glue_row ds g ps p [] (row_kept cs ds a p j' (g ∷ ps) (avoids_last g ps d) free.1 cut.before) (edge_made cs ds a p j') tt in
       let second : Linked es (g ∷ (ps ++ p ∷ [])) = row_kept ds es p g k (g ∷ (ps ++ p ∷ [])) (avoids_but_last p g ps p free) (all_both P ps (p ∷ []) (apart_head g ps d) (flip p g free.0, tt)) first in
       glue_row es g (ps ++ p ∷ []) g [] second (subst (λ z. Edge es z g) (sym (last_push g ps p)) (edge_made ds es p g k)) tt
 

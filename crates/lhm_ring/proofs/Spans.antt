@@ -28,11 +28,11 @@ module _ {B : Type 0} (cs : List (Cell Links B)) where
   from_row f b (r ∷ []) k e = ap (λ z. z ∷ []) (sym e.0)
   from_row f b (r ∷ s ∷ rs) k e = λ i. sym e.0 i ∷ (ap (λ z. pointers_from cs (length (s ∷ rs)) z) (ap (next_at cs) (sym e.0) ∙ k.0.0) ∙ from_row s b (s ∷ rs) k.1 (refl, e.1)) i
 
-  pub span_pointers : (f b : Ptr) (k : ℕ) → (s : IsSpan cs f b k) → pointers_from cs k f ≡ s.0
-  span_pointers f b k s = ap (λ z. pointers_from cs z f) (sym s.1) ∙ from_row f b s.0 s.2 s.3
+  pub span_pointers : (f b : Ptr) (k : ℕ) → (s : IsSpan cs f b k) → pointers_from cs k f ≡ s.pointers
+  span_pointers f b k s = ap (λ z. pointers_from cs z f) (sym s.count) ∙ from_row f b s.pointers s.linked s.ends
 
   pub length_left : (f b : Ptr) (k : ℕ) → IsSpan cs f b k → k ≡ length (listed cs (pointers_from cs k f))
-  length_left f b k s = sym (ap (λ ps. length (listed cs ps)) (span_pointers f b k s) ∙ length_listed cs s.0 s.4 ∙ s.1)
+  length_left f b k s = sym (ap (λ ps. length (listed cs ps)) (span_pointers f b k s) ∙ length_listed cs s.pointers s.held ∙ s.count)
 
   pub length_span : (f b : Ptr) (k : ℕ) → IsSpan cs f b k → k ≡ length (span_triples cs k f)
   length_span f b k s = length_left f b k s ∙ sym (length-map (listed cs (pointers_from cs k f)) (λ (t : Held B). (t.hash, t.pair)))
@@ -62,7 +62,7 @@ pub record LastCut {B : Type 0} (cs : List (Cell Links B)) (f b : Ptr) (rs : Lis
 module _ {B : Type 0} (cs : List (Cell Links B)) where
   ends_before : (f : Ptr) (zs : List Ptr) (z : Ptr) → Linked cs (zs ++ z ∷ []) → ((r : Ptr) (rs : List Ptr) → zs ≡ r ∷ rs → r ≡ f) → Linked cs zs × HasEnds zs f (prev_at cs z)
   ends_before f [] z k h = (tt, tt)
-  ends_before f (x ∷ xs) z k h = let c = cut_row cs x xs z [] k in (c.0, (h x xs refl, last_same x xs ∙ sym c.1.1))
+  ends_before f (x ∷ xs) z k h = let c = cut_row cs x xs z [] k in (c.before, (h x xs refl, last_same x xs ∙ sym c.edge.1))
 
   first_is : (f b : Ptr) (rs zs : List Ptr) (z : Ptr) → rs ≡ zs ++ z ∷ [] → HasEnds rs f b → (r : Ptr) (qs : List Ptr) → zs ≡ r ∷ qs → r ≡ f
   first_is f b [] zs z e h r qs d = absurd (let k = ap length e in omega (arith, length-append zs (z ∷ [])))
@@ -84,7 +84,7 @@ module _ {B : Type 0} (cs : List (Cell Links B)) where
 
   pub last_cut : (f b : Ptr) (rs : List Ptr) → (length rs ≡ 0 → ⊥) → Linked cs rs → HasEnds rs f b → LastCut cs f b rs
   last_cut f b [] n k h = absurd (n refl)
-  last_cut f b (x ∷ xs) n k h = let s = snoc x xs in cut_at_last f b (x ∷ xs) s.0 s.1 s.2 k h
+  last_cut f b (x ∷ xs) n k h = let s = snoc x xs in cut_at_last f b (x ∷ xs) s.before s.node s.is k h
 
 -- the first of a row, with those after it
 pub record FirstCut {B : Type 0} (cs : List (Cell Links B)) (f b : Ptr) (rs : List Ptr) : Type 0 where
@@ -138,23 +138,30 @@ module _ {B : Type 0} (cs : List (Cell Links B)) (p : Ptr) (la : Links) (ea : li
   row_stays = row_same cs ds (λ q. ap next_of (same_links q)) (λ q. ap prev_of (same_links q))
 
   -- a row without p stays
-  span_stays : (f b : Ptr) (k : ℕ) (s : IsSpan cs f b k) → IsFresh p s.0 → IsSpan ds f b k
-  span_stays f b k s free = (s.0, s.1, row_stays s.0 s.2, s.3, held_other cs ds p other s.0 free s.4, s.5)
+  span_stays : (f b : Ptr) (k : ℕ) (s : IsSpan cs f b k) → IsFresh p s.pointers → IsSpan ds f b k
+  span_stays f b k s free = record {
+    pointers = s.pointers;
+    count = s.count;
+    linked = row_stays s.pointers s.linked;
+    ends = s.ends;
+    held = held_other cs ds p other s.pointers free s.held;
+    apart = s.apart;
+  }
 
-  listed_stays : (f b : Ptr) (k : ℕ) (s : IsSpan cs f b k) → IsFresh p s.0 → listed cs (pointers_from cs k f) ≡ listed ds (pointers_from ds k f)
+  listed_stays : (f b : Ptr) (k : ℕ) (s : IsSpan cs f b k) → IsFresh p s.pointers → listed cs (pointers_from cs k f) ≡ listed ds (pointers_from ds k f)
   unfolding span_stays
-  listed_stays f b k s free = ap (listed cs) (span_pointers cs f b k s) ∙ sym (listed_other cs ds p other s.0 free) ∙ ap (listed ds) (sym (span_pointers ds f b k (span_stays f b k s free)))
+  listed_stays f b k s free = ap (listed cs) (span_pointers cs f b k s) ∙ sym (listed_other cs ds p other s.pointers free) ∙ ap (listed ds) (sym (span_pointers ds f b k (span_stays f b k s free)))
 
   one_triple : (x : B) → body_at cs p ≡ Some x → HasContent cs p → triples (listed cs (p ∷ [])) ≡ (la.hash, x) ∷ []
   one_triple x ex h = ap triples (one_listed cs p h la ea x ex)
 
 -- the first of a row and the rest, and the last and the rest
 module _ {B : Type 0} (cs : List (Cell Links B)) (f b : Ptr) (k : ℕ) (s : IsSpan cs f b k) (some : k ≡ 0 → ⊥) where
-  first : FirstCut cs f b s.0
-  first = first_cut cs f b s.0 (λ e. some (sym s.1 ∙ e)) s.2 s.3
+  first : FirstCut cs f b s.pointers
+  first = first_cut cs f b s.pointers (λ e. some (sym s.count ∙ e)) s.linked s.ends
 
   all_first : AllByRecursion (HasContent cs) (f ∷ first.after)
-  all_first = subst (AllByRecursion (HasContent cs)) first.is s.4
+  all_first = subst (AllByRecursion (HasContent cs)) first.is s.held
 
   pub first_there : IsAt cs f
   first_there = there_here cs f all_first.0
@@ -163,13 +170,20 @@ module _ {B : Type 0} (cs : List (Cell Links B)) (f b : Ptr) (k : ℕ) (s : IsSp
   first_holds = holds_here cs f all_first.0
 
   apart_first : IsApart (f ∷ first.after)
-  apart_first = subst IsApart first.is s.5
+  apart_first = subst IsApart first.is s.apart
 
   long_first : length first.after ≡ k - 1
-  long_first = let e = ap length (sym first.is) ∙ s.1 in omega arith
+  long_first = let e = ap length (sym first.is) ∙ s.count in omega arith
 
   after_first : IsSpan cs (next_at cs f) b (k - 1)
-  after_first = (first.after, long_first, first.linked, first.ends, all_first.1, apart_tail f first.after apart_first)
+  after_first = record {
+    pointers = first.after;
+    count = long_first;
+    linked = first.linked;
+    ends = first.ends;
+    held = all_first.1;
+    apart = apart_tail f first.after apart_first;
+  }
 
   cut_first : listed cs (pointers_from cs k f) ≡ listed cs (f ∷ []) ++ listed cs (pointers_from cs (k - 1) (next_at cs f))
   unfolding first after_first
@@ -185,7 +199,7 @@ module _ {B : Type 0} (cs : List (Cell Links B)) (f b : Ptr) (k : ℕ) (s : IsSp
     pub first_shown : (x : B) → body_at cs f ≡ Some x → listed cs (pointers_from cs k f) ≡ held f la.hash (link_of (Some la)) x ∷ listed cs (pointers_from cs (k - 1) q)
     first_shown x ex = cut_first ∙ (λ i. one_listed cs f all_first.0 la ea x ex i ++ listed cs (pointers_from cs (k - 1) (on i)))
 
-    free_first : IsFresh f after_first.0
+    free_first : IsFresh f after_first.pointers
     unfolding first after_first
     free_first = apart_head f first.after apart_first
 
@@ -198,11 +212,11 @@ module _ {B : Type 0} (cs : List (Cell Links B)) (f b : Ptr) (k : ℕ) (s : IsSp
         ∙ (λ i. one_triple cs f la ea x ex all_first.0 i ++ triples (listed_stays cs f la ea (next_at cs f) b (k - 1) after_first free_first i))
         ∙ ap (λ r. (la.hash, x) ∷ span_triples (with_body f None cs) (k - 1) r) on
 
-  last : LastCut cs f b s.0
-  last = last_cut cs f b s.0 (λ e. some (sym s.1 ∙ e)) s.2 s.3
+  last : LastCut cs f b s.pointers
+  last = last_cut cs f b s.pointers (λ e. some (sym s.count ∙ e)) s.linked s.ends
 
   all_last : AllByRecursion (HasContent cs) (last.before ++ b ∷ [])
-  all_last = subst (AllByRecursion (HasContent cs)) last.is s.4
+  all_last = subst (AllByRecursion (HasContent cs)) last.is s.held
 
   mine : HasContent cs b
   mine = (all_right (HasContent cs) last.before (b ∷ []) all_last).0
@@ -214,13 +228,20 @@ module _ {B : Type 0} (cs : List (Cell Links B)) (f b : Ptr) (k : ℕ) (s : IsSp
   last_holds = holds_here cs b mine
 
   long_last : length last.before ≡ k - 1
-  long_last = let e = ap length (sym last.is) ∙ s.1 in omega (arith, length-append last.before (b ∷ []))
+  long_last = let e = ap length (sym last.is) ∙ s.count in omega (arith, length-append last.before (b ∷ []))
 
   apart_last : IsApart (last.before ++ b ∷ [])
-  apart_last = subst IsApart last.is s.5
+  apart_last = subst IsApart last.is s.apart
 
   before_last : IsSpan cs f (prev_at cs b) (k - 1)
-  before_last = (last.before, long_last, last.linked, last.ends, all_left (HasContent cs) last.before (b ∷ []) all_last, apart_left last.before (b ∷ []) apart_last)
+  before_last = record {
+    pointers = last.before;
+    count = long_last;
+    linked = last.linked;
+    ends = last.ends;
+    held = all_left (HasContent cs) last.before (b ∷ []) all_last;
+    apart = apart_left last.before (b ∷ []) apart_last;
+  }
 
   cut_last : listed cs (pointers_from cs k f) ≡ listed cs (pointers_from cs (k - 1) f) ++ listed cs (b ∷ [])
   unfolding last before_last
@@ -236,7 +257,7 @@ module _ {B : Type 0} (cs : List (Cell Links B)) (f b : Ptr) (k : ℕ) (s : IsSp
     pub last_shown : (x : B) → body_at cs b ≡ Some x → listed cs (pointers_from cs k f) ≡ listed cs (pointers_from cs (k - 1) f) ++ held b la.hash (link_of (Some la)) x ∷ []
     last_shown x ex = cut_last ∙ ap (λ ts. listed cs (pointers_from cs (k - 1) f) ++ ts) (one_listed cs b mine la ea x ex)
 
-    free_last : IsFresh b before_last.0
+    free_last : IsFresh b before_last.pointers
     unfolding last before_last
     free_last = all_left (λ q. same_ptr b q ≡ false) last.before [] (apart_at last.before b [] apart_last)
 

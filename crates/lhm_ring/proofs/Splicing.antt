@@ -104,10 +104,10 @@ module _ {B : Type 0} where
 
     row_left : (ps ss : List Ptr) → 0 < n → IsRow cs at.ptr n (target spare) ps ss → HasRow after next (n - 1) (Some at.ptr)
     row_left [] ss h r = let long = r.long in absurd (omega arith)
-    row_left (p ∷ rs) ss h r = (rs, at.ptr ∷ ss, shorter_row p rs ss r.starts r)
+    row_left (p ∷ rs) ss h r = record { pointers = rs; spare_pointers = at.ptr ∷ ss; row = shorter_row p rs ss r.starts r }
 
     pub row_goes_on : 0 < n → HasRow cs at.ptr n (target spare) → HasRow after next (n - 1) (Some at.ptr)
-    row_goes_on h r = row_left r.0 r.1 h r.2
+    row_goes_on h r = row_left r.pointers r.spare_pointers h r.row
 
     then_all : (ds : List (Cell Links B)) (s : Option Ptr) → 0 < n → SparesRow after next (n - 1) (Some at.ptr) ds s → (ps ss : List Ptr) → IsRow cs at.ptr n (target spare) ps ss → SameButLinks cs ds × Chained ds s (onto ps ss)
     then_all ds s h k [] ss r = let long = r.long in absurd (omega arith)
@@ -123,7 +123,7 @@ module _ {B : Type 0} where
   there_first cs at n spare (p ∷ ps) ss h r = subst (λ q. is_there cs q ≡ true) r.starts r.there.0
 
   pub row_there : (cs : List (Cell Links B)) (at : NodePointer) (n : ℕ) (spare : Option Ptr) → 0 < n → HasRow cs at.ptr n spare → is_there cs at.ptr ≡ true
-  row_there cs at n spare h r = there_first cs at n spare r.0 r.1 h r.2
+  row_there cs at n spare h r = there_first cs at n spare r.pointers r.spare_pointers h r.row
 
   same_all : (cs : List (Cell Links B)) → SameButLinks cs cs
   same_all cs = record { next = λ q. refl; prev = λ q. refl; there = λ q. refl; triple = λ q. refl; count = refl }
@@ -171,30 +171,30 @@ module _ {B : Type 0} (e : Ends) (nodes : List (Cell Links B)) (spare : Link) (n
   abbrev cs : List (Cell Links B)
   cs = ring_cells e nodes
 
-  cut : Linked cs (null_ptr ∷ o.0) × (prev_at cs null_ptr ≡ last_from null_ptr o.0)
-  cut = let k = cut_row cs null_ptr o.0 null_ptr [] o.2.linked in (k.0, k.1.1)
+  cut : Linked cs (null_ptr ∷ o.held_pointers) × (prev_at cs null_ptr ≡ last_from null_ptr o.held_pointers)
+  cut = let k = cut_row cs null_ptr o.held_pointers null_ptr [] o.ring.linked in (k.before, k.edge.1)
 
-  free_all : IsFresh null_ptr (o.0 ++ o.1)
-  free_all = apart_head null_ptr (o.0 ++ o.1) o.2.apart
+  free_all : IsFresh null_ptr (o.held_pointers ++ o.spare_pointers)
+  free_all = apart_head null_ptr (o.held_pointers ++ o.spare_pointers) o.ring.apart
 
-  free_row : IsFresh null_ptr o.0
-  free_row = all_left (λ q. same_ptr null_ptr q ≡ false) o.0 o.1 free_all
+  free_row : IsFresh null_ptr o.held_pointers
+  free_row = all_left (λ q. same_ptr null_ptr q ≡ false) o.held_pointers o.spare_pointers free_all
 
-  free_spares : IsFresh null_ptr o.1
-  free_spares = all_right (λ q. same_ptr null_ptr q ≡ false) o.0 o.1 free_all
+  free_spares : IsFresh null_ptr o.spare_pointers
+  free_spares = all_right (λ q. same_ptr null_ptr q ≡ false) o.held_pointers o.spare_pointers free_all
 
-  whole_row : (f : Ptr) → f ≡ e.first.ptr → IsRow nodes f n (target spare) o.0 o.1
+  whole_row : (f : Ptr) → f ≡ e.first.ptr → IsRow nodes f n (target spare) o.held_pointers o.spare_pointers
   whole_row f is = record {
-    long = o.3;
-    linked = linked_in_nodes e nodes o.0 free_row (linked_tail cs null_ptr o.0 cut.0);
-    starts = subst (StartsAt o.0) (ring_first e nodes ∙ sym is) (starts_next cs null_ptr o.0 cut.0);
-    there = there_in_nodes e nodes o.0 free_row (all_left (λ q. is_there cs q ≡ true) o.0 o.1 o.2.there.1);
-    apart = apart_tail null_ptr (o.0 ++ o.1) o.2.apart;
-    chained = chain_in_nodes e nodes (target spare) o.1 free_spares o.2.chained;
+    long = o.held_count;
+    linked = linked_in_nodes e nodes o.held_pointers free_row (linked_tail cs null_ptr o.held_pointers cut.0);
+    starts = subst (StartsAt o.held_pointers) (ring_first e nodes ∙ sym is) (starts_next cs null_ptr o.held_pointers cut.0);
+    there = there_in_nodes e nodes o.held_pointers free_row (all_left (λ q. is_there cs q ≡ true) o.held_pointers o.spare_pointers o.ring.there.1);
+    apart = apart_tail null_ptr (o.held_pointers ++ o.spare_pointers) o.ring.apart;
+    chained = chain_in_nodes e nodes (target spare) o.spare_pointers free_spares o.ring.chained;
   }
 
   pub row_of_ring : (f : Ptr) → f ≡ e.first.ptr → HasRow nodes f n (target spare)
-  row_of_ring f is = (o.0, o.1, whole_row f is)
+  row_of_ring f is = record { pointers = o.held_pointers; spare_pointers = o.spare_pointers; row = whole_row f is }
 
   ends_of : (rs : List Ptr) → Linked cs (null_ptr ∷ rs) → prev_at cs null_ptr ≡ last_from null_ptr rs → HasEnds rs (next_at cs null_ptr) (prev_at cs null_ptr)
   ends_of [] k e = tt
@@ -204,8 +204,8 @@ module _ {B : Type 0} (e : Ends) (nodes : List (Cell Links B)) (spare : Link) (n
     abbrev ds : List (Cell Links B)
     ds = ring_cells e zs
 
-    spared : SameButLinks nodes zs × Chained zs (target h) (onto o.0 o.1)
-    spared = s o.0 o.1 (whole_row f is)
+    spared : SameButLinks nodes zs × Chained zs (target h) (onto o.held_pointers o.spare_pointers)
+    spared = s o.held_pointers o.spare_pointers (whole_row f is)
 
     same : SameButLinks cs ds
     same = same_in_ring e nodes zs spared.0
@@ -214,24 +214,32 @@ module _ {B : Type 0} (e : Ends) (nodes : List (Cell Links B)) (spare : Link) (n
     has_still q k = some_still (content_at ds q) k.0 (same.triple q ∙ ap triple_of k.1)
 
     module _ (j : IsJoined ds es null_ptr null_ptr) where
-      all_there : AllByRecursion (λ q. is_there es q ≡ true) (null_ptr ∷ onto o.0 o.1)
+      all_there : AllByRecursion (λ q. is_there es q ≡ true) (null_ptr ∷ onto o.held_pointers o.spare_pointers)
       all_there =
           let T : Ptr → Type 0 = λ q. is_there es q ≡ true in
           let on : (qs : List Ptr) → AllByRecursion (λ q. is_there cs q ≡ true) qs → AllByRecursion T qs = all_from (λ q. is_there cs q ≡ true) T (λ q k. j.there q ∙ same.there q ∙ k) in
-          (j.there null_ptr ∙ null_there e zs, all_onto T o.0 o.1 (on o.0 (all_left (λ q. is_there cs q ≡ true) o.0 o.1 o.2.there.1)) (on o.1 (all_right (λ q. is_there cs q ≡ true) o.0 o.1 o.2.there.1)))
+          (j.there null_ptr ∙ null_there e zs, all_onto T o.held_pointers o.spare_pointers (on o.held_pointers (all_left (λ q. is_there cs q ≡ true) o.held_pointers o.spare_pointers o.ring.there.1)) (on o.spare_pointers (all_right (λ q. is_there cs q ≡ true) o.held_pointers o.spare_pointers o.ring.there.1)))
 
-      empty_ring : IsRing es [] (target h) (onto o.0 o.1)
+      empty_ring : IsRing es [] (target h) (onto o.held_pointers o.spare_pointers)
       empty_ring = record {
         linked = (edge_made ds es null_ptr null_ptr j, tt);
-        chained = chain_kept ds es null_ptr null_ptr j (target h) (onto o.0 o.1) (chain_in_ring e zs (target h) (onto o.0 o.1) (all_onto (λ q. same_ptr null_ptr q ≡ false) o.0 o.1 free_row free_spares) spared.1);
+        chained = chain_kept ds es null_ptr null_ptr j (target h) (onto o.held_pointers o.spare_pointers) (chain_in_ring e zs (target h) (onto o.held_pointers o.spare_pointers) (all_onto (λ q. same_ptr null_ptr q ≡ false) o.held_pointers o.spare_pointers free_row free_spares) spared.1);
         held = tt;
         there = all_there;
-        apart = apart_onto null_ptr o.0 o.1 o.2.apart;
-        count = let long = length_onto o.0 o.1 in let all = j.count ∙ same.count ∙ o.2.count in omega arith;
+        apart = apart_onto null_ptr o.held_pointers o.spare_pointers o.ring.apart;
+        count = let long = length_onto o.held_pointers o.spare_pointers in let all = j.count ∙ same.count ∙ o.ring.count in omega arith;
       }
 
       pub spliced_ring : RingOk es h 0 (m + n)
-      spliced_ring = let a = o.3 in let b = o.4 in let c = o.5 in let l = length_onto o.0 o.1 in ([], onto o.0 o.1, empty_ring, refl, omega arith, omega arith)
+      spliced_ring = let a = o.held_count in let b = o.enough_spares in let c = o.bounded in let l = length_onto o.held_pointers o.spare_pointers in
+          record {
+            held_pointers = [];
+            spare_pointers = onto o.held_pointers o.spare_pointers;
+            ring = empty_ring;
+            held_count = refl;
+            enough_spares = omega arith;
+            bounded = omega arith;
+          }
 
       free_source : (rs : List Ptr) → IsFresh null_ptr rs → AvoidsSource null_ptr rs
       free_source [] f = tt
@@ -241,12 +249,18 @@ module _ {B : Type 0} (e : Ends) (nodes : List (Cell Links B)) (spare : Link) (n
       free_target [] f = tt
       free_target (r ∷ rs) f = f.1
 
-      row_now : Linked es o.0
-      row_now = row_kept ds es null_ptr null_ptr j o.0 (free_source o.0 free_row) (free_target o.0 free_row) (row_same cs ds same.next same.prev o.0 (linked_tail cs null_ptr o.0 cut.0))
+      row_now : Linked es o.held_pointers
+      row_now = row_kept ds es null_ptr null_ptr j o.held_pointers (free_source o.held_pointers free_row) (free_target o.held_pointers free_row) (row_same cs ds same.next same.prev o.held_pointers (linked_tail cs null_ptr o.held_pointers cut.0))
 
       pub spliced_row : IsSpan es (next_at cs null_ptr) (prev_at cs null_ptr) n
-      spliced_row =
-          (o.0, o.3, row_now, ends_of o.0 cut.0 cut.1, all_from (HasContent cs) (HasContent es) (λ q k. let d = has_still q k in (d.0, j.content q ∙ d.1)) o.0 o.2.held, apart_left o.0 o.1 (apart_tail null_ptr (o.0 ++ o.1) o.2.apart))
+      spliced_row = record {
+        pointers = o.held_pointers;
+        count = o.held_count;
+        linked = row_now;
+        ends = ends_of o.held_pointers cut.0 cut.1;
+        held = all_from (HasContent cs) (HasContent es) (λ q k. let d = has_still q k in (d.0, j.content q ∙ d.1)) o.held_pointers o.ring.held;
+        apart = apart_left o.held_pointers o.spare_pointers (apart_tail null_ptr (o.held_pointers ++ o.spare_pointers) o.ring.apart);
+      }
 
       triples_same : (rs : List Ptr) → triples (listed ds rs) ≡ triples (listed cs rs)
       unfolding listed
@@ -256,5 +270,5 @@ module _ {B : Type 0} (e : Ends) (nodes : List (Cell Links B)) (spare : Link) (n
       pub spliced_now : span_triples es n (next_at cs null_ptr) ≡ triples (ring_list cs n)
       unfolding spliced_row
       spliced_now =
-          ap (λ qs. triples (listed es qs)) (span_pointers es (next_at cs null_ptr) (prev_at cs null_ptr) n spliced_row) ∙ ap triples (listed_kept ds es null_ptr null_ptr j o.0) ∙ triples_same o.0
-          ∙ ap triples (sym (ring_listed cs o.0 (target spare) o.1 n o.2 o.3))
+          ap (λ qs. triples (listed es qs)) (span_pointers es (next_at cs null_ptr) (prev_at cs null_ptr) n spliced_row) ∙ ap triples (listed_kept ds es null_ptr null_ptr j o.held_pointers) ∙ triples_same o.held_pointers
+          ∙ ap triples (sym (ring_listed cs o.held_pointers (target spare) o.spare_pointers n o.ring o.held_count))

@@ -198,7 +198,14 @@ module _ {K V : Type 0} where
         ∙ one_written hs p (links_at cs p) (body_at cs p) (listed ds ps) (listed cs ps) (listed_written ps a.1)
 
     ring_ok_written : (spare : Link) (n m : ℕ) → RingOk cs spare n m → RingOk ds spare n m
-    ring_ok_written spare n m ok = (ok.0, ok.1, ring_same ok.0 (target spare) ok.1 ok.2, ok.3, ok.4, ok.5)
+    ring_ok_written spare n m ok = record {
+      held_pointers = ok.held_pointers;
+      spare_pointers = ok.spare_pointers;
+      ring = ring_same ok.held_pointers (target spare) ok.spare_pointers ok.ring;
+      held_count = ok.held_count;
+      enough_spares = ok.enough_spares;
+      bounded = ok.bounded;
+    }
 
     ring_list_by : (n : ℕ) → AllByRecursion (λ p. keep p ≡ true) (ring_pointers cs n) → ring_list ds n ≡ revalued_by hs (ring_list cs n)
     ring_list_by n a = ap (listed ds) (follow_same n null_ptr) ∙ listed_written (follow cs n null_ptr) a
@@ -274,11 +281,12 @@ module _ {K V : Type 0} where
 
   ring_lent : (cs : List (Cell Links (K × V))) (spare : Link) (n m : ℕ) → RingOk cs spare n m → AreLent (run_of (lent (among (ring_pointers cs n)) cs)) (ring_list cs n)
   ring_lent cs spare n m ok =
-      let is : ok.0 ≡ follow cs n null_ptr = sym (ap (λ k. follow cs k null_ptr) (sym ok.3) ∙ follow_row cs null_ptr ok.0 null_ptr ok.2.linked) in
-      let has : AllByRecursion (HasContent cs) (follow cs n null_ptr) = subst (AllByRecursion (HasContent cs)) is ok.2.held in (
-        each_lent (among (follow cs n null_ptr)) cs (follow cs n null_ptr) has (among_all (follow cs n null_ptr)),
-        subst IsApart (sym (pointers_listed cs (follow cs n null_ptr) has)) (subst IsApart is (apart_left ok.0 ok.1 (apart_tail null_ptr (ok.0 ++ ok.1) ok.2.apart))),
-      )
+      let is : ok.held_pointers ≡ follow cs n null_ptr = sym (ap (λ k. follow cs k null_ptr) (sym ok.held_count) ∙ follow_row cs null_ptr ok.held_pointers null_ptr ok.ring.linked) in
+      let has : AllByRecursion (HasContent cs) (follow cs n null_ptr) = subst (AllByRecursion (HasContent cs)) is ok.ring.held in
+      record {
+        lent = each_lent (among (follow cs n null_ptr)) cs (follow cs n null_ptr) has (among_all (follow cs n null_ptr));
+        apart = subst IsApart (sym (pointers_listed cs (follow cs n null_ptr) has)) (subst IsApart is (apart_left ok.held_pointers ok.spare_pointers (apart_tail null_ptr (ok.held_pointers ++ ok.spare_pointers) ok.ring.apart)));
+      }
 
   pub all_lent : (e : Ends) (cs : List (Cell Links (K × V))) (spare : Link) (n m : ℕ) → RingOk (ring_cells e cs) spare n m → AreLent (run_of (held_entries e cs n)) (ring_list (ring_cells e cs) n)
   all_lent e cs spare n m ok =
@@ -286,8 +294,8 @@ module _ {K V : Type 0} where
 
   pub held_pointers : (cs : List (Cell Links (K × V))) (spare : Link) (n m : ℕ) → RingOk cs spare n m → map (λ (t : Held (K × V)). t.at) (ring_list cs n) ≡ ring_pointers cs n
   held_pointers cs spare n m ok =
-      let is : ok.0 ≡ follow cs n null_ptr = sym (ap (λ k. follow cs k null_ptr) (sym ok.3) ∙ follow_row cs null_ptr ok.0 null_ptr ok.2.linked) in
-      pointers_listed cs (follow cs n null_ptr) (subst (AllByRecursion (HasContent cs)) is ok.2.held)
+      let is : ok.held_pointers ≡ follow cs n null_ptr = sym (ap (λ k. follow cs k null_ptr) (sym ok.held_count) ∙ follow_row cs null_ptr ok.held_pointers null_ptr ok.ring.linked) in
+      pointers_listed cs (follow cs n null_ptr) (subst (AllByRecursion (HasContent cs)) is ok.ring.held)
 
   pub ring_apart : (cs : List (Cell Links (K × V))) (spare : Link) (n m : ℕ) (v : State (K × V)) {total : ℕ} → RingOk cs spare n m → state (ring_list cs n) m total ≡ v → IsApart (map (λ (t : Held (K × V)). t.at) v.held)
-  ring_apart cs spare n m v ok w = subst (λ (s : State (K × V)). IsApart (map (λ t. t.at) s.held)) w (ring_lent cs spare n m ok).1
+  ring_apart cs spare n m v ok w = subst (λ (s : State (K × V)). IsApart (map (λ t. t.at) s.held)) w (ring_lent cs spare n m ok).apart

@@ -280,17 +280,17 @@ module _ (S W : RattleType) where
         use2 𝓛 (‵ (part_at (Full S W) full_share a' b o)) (ring_mend S W (kept_by a) 𝓛 a b o ks) $ keep ! (0 ∷ []) $
         by ! (Plain-in Lr (Full S W) (view_owns (Full S W) (State (S.Denot × W.Denot)) Lr.coded view good) 𝓛 full_share s a'
         (view_made (Full S W) (State (S.Denot × W.Denot)) Lr.coded view good 𝓛 s a'
-        (viewed ks, (still_ring a.ends a.nodes.cells a.spare a.len a.spares ks ok.0, ok.1))) b o)
+        (viewed ks, record { ring = still_ring a.ends a.nodes.cells a.spare a.len a.spares ks ok.ring; laid = ok.laid })) b o)
 
     pub lent_of : AreLent (run_of (entries a)) d.held
-    lent_of = subst (λ (s : State (S.Denot × W.Denot)). AreLent (run_of (entries a)) s.held) seen (all_lent a.ends a.nodes.cells a.spare a.len a.spares ok.0)
+    lent_of = subst (λ (s : State (S.Denot × W.Denot)). AreLent (run_of (entries a)) s.held) seen (all_lent a.ends a.nodes.cells a.spare a.len a.spares ok.ring)
 
     own : AllByRecursion (HasOwnValue d.held) (entries a)
-    own = own_values d.held (entries a) lent_of.0 (apart_lent (kept_by a) a.nodes.cells a.nodes.apart)
+    own = own_values d.held (entries a) lent_of.lent (apart_lent (kept_by a) a.nodes.cells a.nodes.apart)
 
     in_ring : AllByRecursion (λ c. among (pointers_of d.held) c.0 ≡ true) (entries a)
     in_ring = subst (λ ps. AllByRecursion (λ c. among ps c.0 ≡ true) (entries a))
-        (sym (held_pointers (ring_cells a.ends a.nodes.cells) a.spare a.len a.spares ok.0) ∙ ap (λ (s : State (S.Denot × W.Denot)). pointers_of s.held) seen) (all_kept (kept_by a) a.nodes.cells)
+        (sym (held_pointers (ring_cells a.ends a.nodes.cells) a.spare a.len a.spares ok.ring) ∙ ap (λ (s : State (S.Denot × W.Denot)). pointers_of s.held) seen) (all_kept (kept_by a) a.nodes.cells)
 
     -- the values vs, in the order of the ring, at the pointers of the entries
     abbrev pub placed : List W.Denot → List W.Denot
@@ -298,7 +298,7 @@ module _ (S W : RattleType) where
 
     pub back : (vs : List W.Denot) → ent 𝓤 (sep 𝓤 (sem 𝓛 (Lent (placed vs))) (sep 𝓤 (sem 𝓛 (fseps (Fields ∷ []))) (emp 𝓤))) (sem 𝓛 ((mem Lr).own_at (record d { held = set_held_values d.held vs }) b o))
     back vs = subst (λ (hs : List (Held (S.Denot × W.Denot))). ent 𝓤 (sep 𝓤 (sem 𝓛 (Lent (placed vs))) (sep 𝓤 (sem 𝓛 (fseps (Fields ∷ []))) (emp 𝓤))) (sem 𝓛 ((mem Lr).own_at (record d { held = hs }) b o)))
-        (revalued_by-set_held_values d.held vs lent_of.1) (back_by (set_held_values d.held vs))
+        (revalued_by-set_held_values d.held vs lent_of.apart) (back_by (set_held_values d.held vs))
 
     pub placed-own : placed (held_values d.held) ≡ vals links.the_row S W (entries a)
     placed-own = ap (λ ks. taken ks (entries a)) (set_held_values-own d.held) ∙ taken-own d.held (entries a) own

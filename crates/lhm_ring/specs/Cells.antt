@@ -98,11 +98,13 @@ module _ {L B : Type 0} where
   without p [] = []
   without p (c ∷ cs) = cond (same_ptr c.at p) cs (c ∷ without p cs)
 
-  pub pointers-change : (p : Ptr) (f : Cell L B → Cell L B) → ((c : Cell L B) → (f c).at ≡ c.at) → (cs : List (Cell L B)) → pointers (change p f cs) ≡ pointers cs
+  pub pointers-change : (p : Ptr) (f : Cell L B → Cell L B) → ((c : Cell L B) → (f c).at ≡ c.at)
+      → (cs : List (Cell L B)) → pointers (change p f cs) ≡ pointers cs
   unfolding change
   pointers-change p f same [] = λ i. []
   pointers-change p f same (c ∷ cs) =
-      elim (same_ptr c.at p) as (λ y. pointers (cond y (f c ∷ cs) (c ∷ change p f cs)) ≡ c.at ∷ pointers cs) [
+      elim (same_ptr c.at p)
+      as (λ y. pointers (cond y (f c ∷ cs) (c ∷ change p f cs)) ≡ c.at ∷ pointers cs) [
         | true ↦ λ i. same c i ∷ pointers cs
         | false ↦ λ i. c.at ∷ pointers-change p f same cs i
       ]

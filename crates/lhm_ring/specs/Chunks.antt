@@ -21,4 +21,6 @@ places s (c ∷ cs) = places s cs ++ row c.0 s c.1
 -- a block for n values of R, with nothing in it, and the right to free it: they take fewer than
 -- 2 ^ 63 bytes
 abbrev pub block_owns : (R : RattleType) → (Ty → Ptr → Fml) → Ptr → ℕ → Fml
-block_owns R token p n = fsep (flt (n * type_size R) (2 ^ 63)) (fsep (token (array_of R n) p) (room_for (array_of R n) p))
+block_owns R token p n =
+    fsep (flt (n * type_size R) (2 ^ 63))
+    (fsep (token (array_of R n) p) (room_for (array_of R n) p))

@@ -75,8 +75,16 @@ module _ (L K V : RattleType) where
   bodies (p ∷ ps) (w ∷ ws) = fsep (body_owns L K V p w) (bodies ps ws)
 
   abbrev pub Bodies : List Ptr → SemTy
-  Bodies ps = record { rep = List (Option (K.Denot × V.Denot)); coded = coded_list (coded_body (coded× K.coded V.coded)); size = 0; own_at = λ ws _ _. bodies ps ws }
+  Bodies ps =
+      record {
+        rep = List (Option (K.Denot × V.Denot));
+        coded = coded_list (coded_body (coded× K.coded V.coded));
+        size = 0;
+        own_at = λ ws _ _.
+            bodies ps ws;
+      }
 
   -- a `&mut` to what nodes hold
   abbrev pub borrows_bodies : Lft → GName → List (Ptr × Option (K.Denot × V.Denot)) → Fml
-  borrows_bodies κ γ cs = fsep (fobs γ ((Bodies []).coded.code (seconds cs))) (fbor κ (Body (Bodies (firsts cs)) 0 0 γ))
+  borrows_bodies κ γ cs =
+      fsep (fobs γ ((Bodies []).coded.code (seconds cs))) (fbor κ (Body (Bodies (firsts cs)) 0 0 γ))

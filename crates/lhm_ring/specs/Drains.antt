@@ -17,4 +17,5 @@ module _ {K V : Type 0} where
   DrainSteps d r e = HandsOutFirst (drain_rest d) r (drain_rest e) × (drain_name e ≡ drain_name d)
 
   abbrev pub DrainStepsBack : Drain K V → Option (ℕ × K × V) → Drain K V → Type 0
-  DrainStepsBack d r e = HandsOutLast (drain_rest d) r (drain_rest e) × (drain_name e ≡ drain_name d)
+  DrainStepsBack d r e =
+      HandsOutLast (drain_rest d) r (drain_rest e) × (drain_name e ≡ drain_name d)

@@ -19,6 +19,7 @@ CoversAll words [] = Unit {0}
 CoversAll words (x ∷ xs) = (may_contain words x.hash ≡ true) × CoversAll words xs
 
 -- there is a word for each bucket, and the bit of the hash of each node is set
-pub record IsFilter {B : Type 0} (words : List ℕ) (heads : List (Option Ptr)) (nodes : List (Held B)) : Type 0 where
+pub record IsFilter {B : Type 0} (words : List ℕ) (heads : List (Option Ptr))
+    (nodes : List (Held B)) : Type 0 where
   pub count : length words ≡ length heads
   pub covers : CoversAll words nodes

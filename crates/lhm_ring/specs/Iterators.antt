@@ -15,32 +15,55 @@ rest_of s = s.0
 
 module _ {K V : Type 0} where
   -- what a step from the front returns, and what it leaves
-  abbrev pub IsFirstStep : List (Held (K × V)) → Option (NodePointer × ℕ × Bor K × Bor V) → List (Held (K × V)) → Type 0
+  abbrev pub IsFirstStep : List (Held (K × V)) → Option (NodePointer × ℕ × Bor K × Bor V)
+      → List (Held (K × V)) → Type 0
   IsFirstStep s None t = (s ≡ []) × (t ≡ [])
   IsFirstStep s (Some r) t = (l : Option Ptr) × (s ≡ held r.0.ptr r.1 l (r.2.now, r.3.now) ∷ t)
 
-  abbrev pub IsLastStep : List (Held (K × V)) → Option (NodePointer × ℕ × Bor K × Bor V) → List (Held (K × V)) → Type 0
+  abbrev pub IsLastStep : List (Held (K × V)) → Option (NodePointer × ℕ × Bor K × Bor V)
+      → List (Held (K × V)) → Type 0
   IsLastStep s None t = (s ≡ []) × (t ≡ [])
   IsLastStep s (Some r) t = (l : Option Ptr) × (s ≡ t ++ held r.0.ptr r.1 l (r.2.now, r.3.now) ∷ [])
 
   -- the same of pairs with a mutable reference to the value
-  abbrev pub LendsFirstStep : List (Held (K × V)) → Option (ℕ × Bor K × MutBor V) → List (Held (K × V)) → Type 0
+  abbrev pub LendsFirstStep : List (Held (K × V)) → Option (ℕ × Bor K × MutBor V)
+      → List (Held (K × V)) → Type 0
   LendsFirstStep s None t = (s ≡ []) × (t ≡ [])
-  LendsFirstStep s (Some r) t = (p : Ptr) × (l : Option Ptr) × (s ≡ held p r.0 l (r.1.now, r.2.now) ∷ t)
+  LendsFirstStep s (Some r) t = record {
+    at : Ptr;
+    link : Option Ptr;
+    is : s ≡ held at r.0 link (r.1.now, r.2.now) ∷ t;
+  }
 
-  abbrev pub LendsLastStep : List (Held (K × V)) → Option (ℕ × Bor K × MutBor V) → List (Held (K × V)) → Type 0
+  abbrev pub LendsLastStep : List (Held (K × V)) → Option (ℕ × Bor K × MutBor V)
+      → List (Held (K × V)) → Type 0
   LendsLastStep s None t = (s ≡ []) × (t ≡ [])
-  LendsLastStep s (Some r) t = (p : Ptr) × (l : Option Ptr) × (s ≡ t ++ held p r.0 l (r.1.now, r.2.now) ∷ [])
+  LendsLastStep s (Some r) t = record {
+    at : Ptr;
+    link : Option Ptr;
+    is : s ≡ t ++ held at r.0 link (r.1.now, r.2.now) ∷ [];
+  }
 
   -- the values of the nodes left are still to be lent
-  abbrev pub AreLent : List (Ptr × V) → List (Held (K × V)) → Type 0
-  AreLent run hs = AllByRecursion (λ t. value_at run t.at ≡ Some t.pair.1) hs × IsApart (map (λ t. t.at) hs)
+  pub record AreLent (run : List (Ptr × V)) (hs : List (Held (K × V))) : Type 0 where
+    pub lent : AllByRecursion (λ t. value_at run t.at ≡ Some t.pair.1) hs
+    pub apart : IsApart (map (λ t. t.at) hs)
 
   -- the same of pairs with a shared reference to the value
-  abbrev pub ShowsFirstStep : List (Held (K × V)) → Option (ℕ × Bor K × Bor V) → List (Held (K × V)) → Type 0
+  abbrev pub ShowsFirstStep : List (Held (K × V)) → Option (ℕ × Bor K × Bor V) → List (Held (K × V))
+      → Type 0
   ShowsFirstStep s None t = (s ≡ []) × (t ≡ [])
-  ShowsFirstStep s (Some r) t = (p : Ptr) × (l : Option Ptr) × (s ≡ held p r.0 l (r.1.now, r.2.now) ∷ t)
+  ShowsFirstStep s (Some r) t = record {
+    at : Ptr;
+    link : Option Ptr;
+    is : s ≡ held at r.0 link (r.1.now, r.2.now) ∷ t;
+  }
 
-  abbrev pub ShowsLastStep : List (Held (K × V)) → Option (ℕ × Bor K × Bor V) → List (Held (K × V)) → Type 0
+  abbrev pub ShowsLastStep : List (Held (K × V)) → Option (ℕ × Bor K × Bor V) → List (Held (K × V))
+      → Type 0
   ShowsLastStep s None t = (s ≡ []) × (t ≡ [])
-  ShowsLastStep s (Some r) t = (p : Ptr) × (l : Option Ptr) × (s ≡ t ++ held p r.0 l (r.1.now, r.2.now) ∷ [])
+  ShowsLastStep s (Some r) t = record {
+    at : Ptr;
+    link : Option Ptr;
+    is : s ≡ t ++ held at r.0 link (r.1.now, r.2.now) ∷ [];
+  }

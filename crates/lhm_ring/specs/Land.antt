@@ -13,7 +13,8 @@ place_count [] = 0
 place_count (c ∷ cs) = place_count cs + c.1
 
 -- all places are nodes, of which the ring has made this many, and it keeps all chunks
-pub record IsLaid (unused : List Ptr) (chunks : List (Ptr × ℕ)) (kept : List Chunk) (made : ℕ) : Type 0 where
+pub record IsLaid (unused : List Ptr) (chunks : List (Ptr × ℕ)) (kept : List Chunk) (made : ℕ) :
+    Type 0 where
   pub none_unused : unused ≡ []
   pub all_kept : chunks ≡ map extent kept
   pub all_made : made ≡ place_count chunks

@@ -9,7 +9,8 @@ use Rattle.lhm_ring.specs.RingState.{Held, IsHeld, AtHeld, first_at}
 use Rattle.lhm_ring.specs.RingAfterLoan.{revalued}
 
 -- a pair is held at p, and f may be called at it
-abbrev pub TakesAt : {F K V : Type 0} → (F → K → V → Type 0) → F → List (Held (K × V)) → Ptr → Type 0
+abbrev pub TakesAt : {F K V : Type 0} → (F → K → V → Type 0) → F → List (Held (K × V)) → Ptr
+    → Type 0
 TakesAt Q f hs p = (h : IsHeld hs p) × Q f h.node.pair.0 h.node.pair.1
 
 module _ {F K V : Type 0} (T : F → K → V → Bool → V → F → Type 0) where
@@ -18,25 +19,39 @@ module _ {F K V : Type 0} (T : F → K → V → Bool → V → F → Type 0) wh
   CallsAt f hs p b w f' = AtHeld hs p (λ xs t ys. T f t.pair.0 t.pair.1 b w f')
 
   -- and the pair stayed with that value, or was removed
-  abbrev pub RetainsAt : F → List (Held (K × V)) → Ptr → List (Held (K × V)) → F → Type 0
-  RetainsAt f hs p new f' = (b : Bool) × (w : V) × AtHeld hs p (λ xs t ys. T f t.pair.0 t.pair.1 b w f' × (new ≡ xs ++ cond b (revalued w t ∷ ys) ys))
+  pub record RetainsAt (f : F) (hs : List (Held (K × V))) (p : Ptr) (new : List (Held (K × V)))
+      (f' : F) : Type 0 where
+    pub returned : Bool
+    pub value : V
+    pub called : CallsAt f hs p returned value f'
+    pub new_is : AtHeld hs p (λ xs t ys. new ≡ xs ++ cond returned (revalued value t ∷ ys) ys)
 
   -- f was called at each pair in turn, and kept has those at which it returned `true`, with the
-  -- values that it left there
+  -- values that it left there. Of the first pair: what the call returned, the value and the closure
+  -- that it left, and the rest, which is what is kept of the pairs after it
   abbrev pub RetainsHeld : F → List (Held (K × V)) → List (Held (K × V)) → Type 0
   RetainsHeld f [] kept = kept ≡ []
-  RetainsHeld f (t ∷ hs) kept =
-      (b : Bool) × (w : V) × (f' : F) × (rest : List (Held (K × V))) × T f t.pair.0 t.pair.1 b w f' × RetainsHeld f' hs rest × (kept ≡ cond b (revalued w t ∷ rest) rest)
+  RetainsHeld f (t ∷ hs) kept = record {
+    returned : Bool;
+    value : V;
+    closure : F;
+    rest : List (Held (K × V));
+    called : T f t.pair.0 t.pair.1 returned value closure;
+    retained : RetainsHeld closure hs rest;
+    kept_is : kept ≡ cond returned (revalued value t ∷ rest) rest;
+  }
 
   -- the closure, which was start, has been called at some of the pairs in old, and is now f; the
   -- rest begins at next
-  pub record IsRetaining (Q : F → K → V → Type 0) (start : F) (old : List (Held (K × V))) (f : F) (now : List (Held (K × V))) (next : Option Ptr) : Type 0 where
+  pub record IsRetaining (Q : F → K → V → Type 0) (start : F) (old : List (Held (K × V))) (f : F)
+      (now : List (Held (K × V))) (next : Option Ptr) : Type 0 where
     pub kept : List (Held (K × V))
     pub rest : List (Held (K × V))
     pub now_is : now ≡ kept ++ rest
     pub next_is : next ≡ first_at rest
     pub callable : CallableOnEachPair T Q f (map (λ t. t.pair) rest)
-    pub ends : (last : List (Held (K × V))) → RetainsHeld f rest last → RetainsHeld start old (kept ++ last)
+    pub ends : (last : List (Held (K × V))) → RetainsHeld f rest last
+        → RetainsHeld start old (kept ++ last)
 
 -- how many are held from the one at a pointer on
 abbrev pub left_from : {B : Type 0} → Option Ptr → List (Held B) → ℕ

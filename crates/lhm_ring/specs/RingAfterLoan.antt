@@ -17,7 +17,8 @@ revalued w t = held t.at t.hash t.link (pair t.pair.0 w)
 abbrev pub with_value : {K V : Type 0} → State (K × V) → Ptr → V → State (K × V)
 with_value s p w = record s { held = change_at p (revalued w) s.held }
 
-abbrev pub lends_value : (K V : RattleType) → MutBor (State (K.Denot × V.Denot)) → Ptr → MutBor V.Denot → Fml
+abbrev pub lends_value : (K V : RattleType) → MutBor (State (K.Denot × V.Denot)) → Ptr
+    → MutBor V.Denot → Fml
 lends_value K V s p r = Lends (the_row K V) V s r (with_value s.now p)
 
 -- the values of what is held, in order
@@ -40,7 +41,8 @@ unvalued t = record { at = t.at; hash = t.hash; link = t.link; pair = t.pair.0 }
 
 -- whatever values are written, the pointers, hashes, chain links and keys stay, in their order
 abbrev pub KeepsAllButValues : {K V : Type 0} → State (K × V) → Type 0
-KeepsAllButValues {K} {V} s = (vs : List V) → map unvalued (set_held_values s.held vs) ≡ map unvalued s.held
+KeepsAllButValues {K} {V} s =
+    (vs : List V) → map unvalued (set_held_values s.held vs) ≡ map unvalued s.held
 
 -- the ring behind s has the values that the loan named r ends at, and all else as it was
 abbrev pub lends_values : (K V : RattleType) → MutBor (State (K.Denot × V.Denot)) → GName → Fml

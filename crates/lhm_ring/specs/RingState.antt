@@ -34,8 +34,11 @@ module _ {B : Type 0} where
   IsHeld = SplitAt (λ t. t.at)
 
   -- P holds of what is held at p, with what is before it and after it
-  abbrev pub AtHeld : List (Held B) → Ptr → (List (Held B) → Held B → List (Held B) → Type 0) → Type 0
-  AtHeld hs p P = (xs : List (Held B)) (t : Held B) (ys : List (Held B)) → hs ≡ xs ++ t ∷ ys → t.at ≡ p → P xs t ys
+  abbrev pub AtHeld : List (Held B) → Ptr → (List (Held B) → Held B → List (Held B) → Type 0)
+      → Type 0
+  AtHeld hs p P =
+      (xs : List (Held B)) (t : Held B) (ys : List (Held B)) → hs ≡ xs ++ t ∷ ys → t.at ≡ p
+      → P xs t ys
 
   -- the pointer of the first of hs, if there is one
   abbrev pub first_at : List (Held B) → Option Ptr
@@ -63,4 +66,12 @@ module _ {B : Type 0} where
 
   -- a change at p changes one triple, and no other
   abbrev pub ChangesOnly : List (Held B) → Ptr → Type 0
-  ChangesOnly hs p = AtHeld hs p (λ xs t ys. (f : Held B → Held B) → change_at p f hs ≡ xs ++ f t ∷ ys)
+  ChangesOnly hs p =
+      AtHeld hs p (λ xs t ys. (f : Held B → Held B) → change_at p f hs ≡ xs ++ f t ∷ ys)
+
+-- u is a clone of the triple t of a hash, a key and a value
+pub record IsTripleClone {K V : Type 0} (IsKeyClone : K → K → Type 0)
+    (IsValueClone : V → V → Type 0) (t u : ℕ × (K × V)) : Type 0 where
+  pub hash : u.0 ≡ t.0
+  pub key : IsKeyClone t.1.0 u.1.0
+  pub value : IsValueClone t.1.1 u.1.1

@@ -69,7 +69,8 @@ module _ {B : Type 0} where
   abbrev pub content_of : Ptr → Option Links → Option B → Option (Held B)
   content_of p None b = None
   content_of p (Some l) None = None
-  content_of p (Some l) (Some b) = Some (record { at = p; hash = l.hash; link = link_of (Some l); pair = b })
+  content_of p (Some l) (Some b) =
+      Some (record { at = p; hash = l.hash; link = link_of (Some l); pair = b })
 
   abbrev pub content_at : List (Cell Links B) → Ptr → Option (Held B)
   content_at cs p = content_of p (links_at cs p) (body_at cs p)
@@ -83,7 +84,8 @@ module _ {B : Type 0} where
   LeadsOn cs p o ds = (l : Links) → links_at cs p ≡ Some l → ds ≡ with_links p (leading_on o l) cs
 
   abbrev pub LeadsBack : List (Cell Links B) → Ptr → Link → List (Cell Links B) → Type 0
-  LeadsBack cs p o ds = (l : Links) → links_at cs p ≡ Some l → ds ≡ with_links p (leading_back o l) cs
+  LeadsBack cs p o ds =
+      (l : Links) → links_at cs p ≡ Some l → ds ≡ with_links p (leading_back o l) cs
 
   -- b comes right after a
   abbrev pub Edge : List (Cell Links B) → Ptr → Ptr → Type 0
@@ -104,7 +106,8 @@ module _ {B : Type 0} where
   HasContent cs p = (x : Held B) × (content_at cs p ≡ Some x)
 
   -- the nodes: the one at null, the held ones ps in order, and the spare ones ss
-  pub record IsRing (cs : List (Cell Links B)) (ps : List Ptr) (spare : Option Ptr) (ss : List Ptr) : Type 0 where
+  pub record IsRing (cs : List (Cell Links B)) (ps : List Ptr) (spare : Option Ptr) (ss : List Ptr)
+      : Type 0 where
     pub linked : Linked cs (null_ptr ∷ (ps ++ null_ptr ∷ []))
     pub chained : Chained cs spare ss
     pub held : AllByRecursion (HasContent cs) ps
@@ -163,9 +166,23 @@ module _ {B : Type 0} where
   ring_list cs n = listed cs (ring_pointers cs n)
 
   -- the nodes are a ring of n held and at least m spare ones
-  abbrev pub RingOk : List (Cell Links B) → Link → ℕ → ℕ → Type 0
-  RingOk cs spare n m = (ps : List Ptr) × (ss : List Ptr) × IsRing cs ps (target spare) ss × (length ps ≡ n) × (m ≤ length ss) × (n + m ≤ 2 ^ 59)
+  pub record RingOk (cs : List (Cell Links B)) (spare : Link) (n m : ℕ) : Type 0 where
+    -- where the held nodes lie, in order, and the spare ones, from the first on
+    pub held_pointers : List Ptr
+    pub spare_pointers : List Ptr
+    pub ring : IsRing cs held_pointers (target spare) spare_pointers
+    pub held_count : length held_pointers ≡ n
+    -- there may be more spare nodes than are counted
+    pub enough_spares : m ≤ length spare_pointers
+    pub bounded : n + m ≤ 2 ^ 59
 
   -- n nodes that hold something, each right after the one before, from f to b
-  abbrev pub IsSpan : List (Cell Links B) → Ptr → Ptr → ℕ → Type 0
-  IsSpan cs f b n = (rs : List Ptr) × (length rs ≡ n) × Linked cs rs × HasEnds rs f b × AllByRecursion (HasContent cs) rs × IsApart rs
+  pub record IsSpan (cs : List (Cell Links B)) (f b : Ptr) (n : ℕ) : Type 0 where
+    -- where they lie, in order
+    pub pointers : List Ptr
+    pub count : length pointers ≡ n
+    pub linked : Linked cs pointers
+    pub ends : HasEnds pointers f b
+    pub held : AllByRecursion (HasContent cs) pointers
+    -- no pointer comes twice
+    pub apart : IsApart pointers

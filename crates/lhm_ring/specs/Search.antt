@@ -2,6 +2,7 @@
 use Rattle.std.specs.Prelude.{◌≡◌, ℕ, ◌%◌, ◌<◌, ◌≤◌, ◌==◌, ◌&&◌, Bool, true, false, List, [], ◌∷◌, ◌++◌, map, length, Option, Some, None, ◌⊎◌, filter, slice_index_or, slice_set}
 use denote.RawPtr.{Ptr}
 use Rattle.lhm_ring.specs.RingState.{Held, IsHeld, AtHeld, linked_to, first_at}
+use Rattle.lhm_ring.specs.Splits.{SplitLast}
 use Rattle.lhm_ring.specs.Index.{Spot, spots, IsChain, IsRearranged, is_in, same, beside, Indexes}
 use Rattle.lhm_ring.specs.Filters.{CoversAll}
 
@@ -19,10 +20,13 @@ Compares eq hash key x r = r ≡ ((x.hash == hash) && eq key x.pair.0)
 
 -- no node has both the hash and the key
 abbrev pub IsAbsent : {K V : Type 0} → (K → K → Bool) → ℕ → K → List (Held (K × V)) → Type 0
-IsAbsent {K} {V} eq hash key nodes = (before : List (Held (K × V))) (x : Held (K × V)) (after : List (Held (K × V))) → nodes ≡ before ++ x ∷ after → Compares eq hash key x false
+IsAbsent {K} {V} eq hash key nodes =
+    (before : List (Held (K × V))) (x : Held (K × V)) (after : List (Held (K × V)))
+    → nodes ≡ before ++ x ∷ after → Compares eq hash key x false
 
 -- the node at p is held, and has the hash and the key
-pub record HasKey {K V : Type 0} (eq : K → K → Bool) (hash : ℕ) (key : K) (nodes : List (Held (K × V))) (p : Ptr) : Type 0 where
+pub record HasKey {K V : Type 0} (eq : K → K → Bool) (hash : ℕ) (key : K)
+    (nodes : List (Held (K × V))) (p : Ptr) : Type 0 where
   pub held : IsHeld nodes p
   pub hash_is : OfNodeAt nodes p (λ x. x.hash ≡ hash)
   pub key_is : OfNodeAt nodes p (λ x. eq key x.pair.0 ≡ true)
@@ -40,39 +44,49 @@ pub record CountsSome (xs : List Spot) (n hash visited compared : ℕ) : Type 0 
 
 -- r is the pointer of the last of these, or None if there is none
 abbrev pub IsLast : Option Ptr → List Spot → Type 0
-IsLast r xs = ((xs ≡ []) × (r ≡ None)) ⊎ ((front : List Spot) × (y : Spot) × (xs ≡ front ++ y ∷ []) × (r ≡ Some y.at))
+IsLast r xs = ((xs ≡ []) × (r ≡ None)) ⊎ SplitLast (λ s. Some s.at) xs r
 
 -- on the chain of the hash, the spot at p comes right after the one at before, or first
-pub record IsOnChain (heads : List (Option Ptr)) (hash : ℕ) (xs : List Spot) (before : Option Ptr) (p : Ptr) : Type 0 where
+pub record IsOnChain (heads : List (Option Ptr)) (hash : ℕ) (xs : List Spot) (before : Option Ptr)
+    (p : Ptr) : Type 0 where
   pub done : List Spot
   pub here : Spot
   pub rest : List Spot
   pub linked : IsChain (slice_index_or heads (hash % length heads) None) (done ++ here ∷ rest)
-  pub holds : IsRearranged (done ++ here ∷ rest) (filter (is_in (length heads) (hash % length heads)) xs)
+  pub holds : IsRearranged (done ++ here ∷ rest)
+      (filter (is_in (length heads) (hash % length heads)) xs)
   pub behind : IsLast before done
   pub at_is : here.at ≡ p
 
 -- a search that ended at p, and one that ended with nothing
-pub record FindsKey {K V : Type 0} (eq : K → K → Bool) (hash : ℕ) (key : K) (heads : List (Option Ptr)) (nodes : List (Held (K × V))) (before : Option Ptr) (p : Ptr) (visited compared : ℕ) : Type 0 where
+pub record FindsKey {K V : Type 0} (eq : K → K → Bool) (hash : ℕ) (key : K)
+    (heads : List (Option Ptr)) (nodes : List (Held (K × V))) (before : Option Ptr) (p : Ptr)
+    (visited compared : ℕ) : Type 0 where
   pub on : IsOnChain heads hash (spots nodes) before p
   pub has : HasKey eq hash key nodes p
   pub counts : CountsSome (spots nodes) (length heads) hash visited compared
 
-pub record FindsNone {K V : Type 0} (eq : K → K → Bool) (hash : ℕ) (key : K) (heads : List (Option Ptr)) (nodes : List (Held (K × V))) (visited compared : ℕ) : Type 0 where
+pub record FindsNone {K V : Type 0} (eq : K → K → Bool) (hash : ℕ) (key : K)
+    (heads : List (Option Ptr)) (nodes : List (Held (K × V))) (visited compared : ℕ) : Type 0 where
   pub absent : IsAbsent eq hash key nodes
   pub counts : CountsAll (spots nodes) (length heads) hash visited compared
 
 -- no node of these spots has both the hash and the key
-abbrev pub DifferAll : {K V : Type 0} → (K → K → Bool) → ℕ → K → List (Held (K × V)) → List Spot → Type 0
+abbrev pub DifferAll : {K V : Type 0} → (K → K → Bool) → ℕ → K → List (Held (K × V)) → List Spot
+    → Type 0
 DifferAll eq hash key nodes [] = Unit {0}
-DifferAll eq hash key nodes (s ∷ ss) = OfNodeAt nodes s.at (λ x. Compares eq hash key x false) × DifferAll eq hash key nodes ss
+DifferAll eq hash key nodes (s ∷ ss) =
+    OfNodeAt nodes s.at (λ x. Compares eq hash key x false) × DifferAll eq hash key nodes ss
 
 -- a search that has passed some spots of the chain and stands before the rest
-pub record IsPart {K V : Type 0} (eq : K → K → Bool) (hash : ℕ) (key : K) (heads : List (Option Ptr)) (nodes : List (Held (K × V))) (before pointer : Option Ptr) (visited compared : ℕ) : Type 0 where
+pub record IsPart {K V : Type 0} (eq : K → K → Bool) (hash : ℕ) (key : K)
+    (heads : List (Option Ptr)) (nodes : List (Held (K × V))) (before pointer : Option Ptr)
+    (visited compared : ℕ) : Type 0 where
   pub done : List Spot
   pub rest : List Spot
   pub linked : IsChain (slice_index_or heads (hash % length heads) None) (done ++ rest)
-  pub holds : IsRearranged (done ++ rest) (filter (is_in (length heads) (hash % length heads)) (spots nodes))
+  pub holds : IsRearranged (done ++ rest)
+      (filter (is_in (length heads) (hash % length heads)) (spots nodes))
   pub next_is : IsChain pointer rest
   pub behind : IsLast before done
   pub visited_is : visited ≡ length done
@@ -80,7 +94,8 @@ pub record IsPart {K V : Type 0} (eq : K → K → Bool) (hash : ℕ) (key : K) 
   pub differ : DifferAll eq hash key nodes done
 
 -- the index holds every node except the one at p
-pub record HoldsOthers {K V : Type 0} (heads : List (Option Ptr)) (nodes : List (Held (K × V))) (p : Ptr) : Type 0 where
+pub record HoldsOthers {K V : Type 0} (heads : List (Option Ptr)) (nodes : List (Held (K × V)))
+    (p : Ptr) : Type 0 where
   pub before : List (Held (K × V))
   pub node : Held (K × V)
   pub after : List (Held (K × V))
@@ -99,16 +114,22 @@ abbrev pub HasNoChain : {X : Type 0} → List (Option X) → Type 0
 HasNoChain heads = (b : ℕ) → b < length heads → slice_index_or heads b None ≡ None
 
 -- the node at p gets the head of its bucket as its link, and becomes the head
-pub record IsChained {K V : Type 0} (p : Ptr) (heads heads' : List (Option Ptr)) (nodes' : List (Held (K × V))) (before : List (Held (K × V))) (x : Held (K × V)) (after : List (Held (K × V))) : Type 0 where
-  pub nodes_is : nodes' ≡ before ++ linked_to (slice_index_or heads (x.hash % length heads) None) x ∷ after
+pub record IsChained {K V : Type 0} (p : Ptr) (heads heads' : List (Option Ptr))
+    (nodes' : List (Held (K × V))) (before : List (Held (K × V))) (x : Held (K × V))
+    (after : List (Held (K × V))) : Type 0 where
+  pub nodes_is : nodes' ≡ before
+      ++ linked_to (slice_index_or heads (x.hash % length heads) None) x ∷ after
   pub heads_is : heads' ≡ slice_set heads (x.hash % length heads) (Some p)
 
-abbrev pub Chains : {K V : Type 0} → Ptr → List (Option Ptr) → List (Option Ptr) → List (Held (K × V)) → List (Held (K × V)) → Type 0
-Chains {K} {V} p heads heads' nodes nodes' = AtHeld nodes p (λ before x after. IsChained p heads heads' nodes' before x after)
+abbrev pub Chains : {K V : Type 0} → Ptr → List (Option Ptr) → List (Option Ptr)
+    → List (Held (K × V)) → List (Held (K × V)) → Type 0
+Chains {K} {V} p heads heads' nodes nodes' =
+    AtHeld nodes p (λ before x after. IsChained p heads heads' nodes' before x after)
 
--- the first nodes are rehashed, their bits are set if the filter has a word for each bucket, and the
--- rest begins at pointer
-pub record IsRechained {K V : Type 0} (heads : List (Option Ptr)) (words : List ℕ) (old nodes : List (Held (K × V))) (pointer : Option Ptr) (count buckets : ℕ) : Type 0 where
+-- the first nodes are rehashed, their bits are set if the filter has a word for each bucket, and
+-- the rest begins at pointer
+pub record IsRechained {K V : Type 0} (heads : List (Option Ptr)) (words : List ℕ)
+    (old nodes : List (Held (K × V))) (pointer : Option Ptr) (count buckets : ℕ) : Type 0 where
   pub done : List (Held (K × V))
   pub rest : List (Held (K × V))
   pub is : nodes ≡ done ++ rest

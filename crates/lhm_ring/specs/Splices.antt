@@ -32,7 +32,8 @@ module _ {B : Type 0} where
     pub count : length ds ≡ length cs
 
   -- the n nodes ps from f on, and the spare nodes ss, none of them among ps
-  pub record IsRow (cs : List (Cell Links B)) (f : Ptr) (n : ℕ) (spare : Option Ptr) (ps ss : List Ptr) : Type 0 where
+  pub record IsRow (cs : List (Cell Links B)) (f : Ptr) (n : ℕ) (spare : Option Ptr)
+      (ps ss : List Ptr) : Type 0 where
     pub long : length ps ≡ n
     pub linked : Linked cs ps
     pub starts : StartsAt ps f
@@ -40,12 +41,16 @@ module _ {B : Type 0} where
     pub apart : IsApart (ps ++ ss)
     pub chained : Chained cs spare ss
 
-  abbrev pub HasRow : List (Cell Links B) → Ptr → ℕ → Option Ptr → Type 0
-  HasRow cs f n spare = (ps : List Ptr) × (ss : List Ptr) × IsRow cs f n spare ps ss
+  pub record HasRow (cs : List (Cell Links B)) (f : Ptr) (n : ℕ) (spare : Option Ptr) : Type 0 where
+    pub pointers : List Ptr
+    pub spare_pointers : List Ptr
+    pub row : IsRow cs f n spare pointers spare_pointers
 
   -- in ds the nodes of the row are spare too, and s is the first spare one
-  abbrev pub SparesRow : List (Cell Links B) → Ptr → ℕ → Option Ptr → List (Cell Links B) → Option Ptr → Type 0
-  SparesRow cs f n spare ds s = (ps ss : List Ptr) → IsRow cs f n spare ps ss → SameButLinks cs ds × Chained ds s (onto ps ss)
+  abbrev pub SparesRow : List (Cell Links B) → Ptr → ℕ → Option Ptr → List (Cell Links B)
+      → Option Ptr → Type 0
+  SparesRow cs f n spare ds s =
+      (ps ss : List Ptr) → IsRow cs f n spare ps ss → SameButLinks cs ds × Chained ds s (onto ps ss)
 
   -- the nodes are a ring of n held ones
   abbrev pub HasRing : List (Cell Links B) → Link → ℕ → Type 0
@@ -57,7 +62,10 @@ module _ {B : Type 0} where
 
   -- what the ring held is in the nodes ds, from s.first to s.last
   abbrev pub KeepsRow : List (Cell Links B) → Link → ℕ → List (Cell Links B) → Spliced → Type 0
-  KeepsRow cs spare n ds s = (m : ℕ) → RingOk cs spare n m → IsSpan ds s.first.ptr s.last.ptr n × (span_triples ds n s.first.ptr ≡ triples (ring_list cs n))
+  KeepsRow cs spare n ds s =
+      (m : ℕ) → RingOk cs spare n m
+      → IsSpan ds s.first.ptr s.last.ptr n
+      × (span_triples ds n s.first.ptr ≡ triples (ring_list cs n))
 
 module _ {K V : Type 0} where
   -- r is the first of xs and the others are ys, or there is none

@@ -11,10 +11,13 @@ use Rattle.lhm_ring.specs.contracts.table.Table.{the_row}
 abbrev pub with_value : {K V : Type 0} → TableState (K × V) → Ptr → V → TableState (K × V)
 with_value s p w = record s { held = change_at p (revalued w) s.held }
 
-abbrev pub lends_value : (K V : RattleType) → MutBor (TableState (K.Denot × V.Denot)) → Ptr → MutBor V.Denot → Fml
+abbrev pub lends_value : (K V : RattleType) → MutBor (TableState (K.Denot × V.Denot)) → Ptr
+    → MutBor V.Denot → Fml
 lends_value K V s p r = Lends (the_row K V) V s r (with_value s.now p)
 
 -- once the borrow named r ends, which is of no bytes, the table holds nothing, and all else is as
 -- it was
-abbrev pub lends_drained : (K V : RattleType) → MutBor (TableState (K.Denot × V.Denot)) → GName → Fml
-lends_drained K V s r = follows (the_row K V) (Array u8 0) s.ghost_name r (λ _. record s.now { held = [] })
+abbrev pub lends_drained : (K V : RattleType) → MutBor (TableState (K.Denot × V.Denot)) → GName
+    → Fml
+lends_drained K V s r =
+    follows (the_row K V) (Array u8 0) s.ghost_name r (λ _. record s.now { held = [] })

@@ -81,7 +81,8 @@ impl<K, V> Ring<K, V> {
         self.nodes.links(at.pointer).prev.get()
     }
 
-    /// Returns where the chain link at a position leads, or `None`. The link is its caller's.
+    /// Returns where the chain link at a position leads, or `None`. The link belongs to
+    /// the caller.
     pub fn link(&self, at: Position<K, V>) -> Option<Position<K, V>>
         requires { IsHeld self.now.held (pointer_of at) }
         ensures link { AtHeld self.now.held (pointer_of at) (λ xs t ys.

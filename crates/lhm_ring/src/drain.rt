@@ -1,4 +1,4 @@
-//! What a ring held is yielded, while its nodes are spare.
+//! The iterator over what a ring held, whose nodes are spare.
 ghost use Rattle.std.specs.Prelude.{◌≡◌, Some, IfSome, length};
 ghost use Rattle.std.specs.Borrow.{sem};
 ghost use Rattle.std.specs.Iterator.{at_most, UpTo};
@@ -99,7 +99,7 @@ impl<K: Drop, V: Drop> Drop for Remaining<'_, K, V> {
 /// drops the triples left, in O(n); forgetting it leaks them, and nothing else. Each item is O(1),
 /// and none allocates.
 pub struct Drain<'a, K, V> {
-    // A borrow of no bytes, at whose end the ring is what it is then.
+    // A borrow of no bytes. When it ends, the ring holds nothing and all its nodes are spare.
     anchor: &'a mut [u8; 0],
     remaining: Remaining<'a, K, V>,
 }

@@ -7,8 +7,8 @@ use std::alloc::{AllocError, Global};
 use std::marker::Model;
 use std::mem::{self, size_of};
 
-/// The bits of a bucket: a bit is set if a node in the bucket may have a hash with its number as
-/// the upper four bits.
+/// The bits of a bucket: a bit is set if a node in the bucket may have a hash whose upper four
+/// bits are the number of that bit.
 ///
 /// It is not `Drop`, so a vector of words is not either: only `Filter::free` ends it.
 struct Word {
@@ -90,8 +90,8 @@ impl Filter {
         self.words.len()
     }
 
-    /// Returns whether a node may have a hash, whose bucket is given: `false` if none has it, in
-    /// O(1).
+    /// Returns whether a node may have a hash, whose bucket is given: `false` only if none has it.
+    /// It is O(1).
     pub(crate) fn may_contain(&self, bucket: usize, hash: u64) -> bool
         requires within { bucket < length self.now }
         requires of_hash { bucket ≡ hash % length self.now }

@@ -1,4 +1,4 @@
-//! Nodes are allocated, many in one chunk, and all chunks are freed.
+//! Allocates nodes, many in one chunk, and frees all chunks.
 ghost use Rattle.std.specs.Prelude.{◌≡◌, ℕ, ◌+◌, ◌-◌, ◌<◌, ◌≤◌, ◌^◌, [], ◌∷◌, ◌++◌, None, Some, map, max, length, IfSome, IfOk, OnOk, OnErr, IsTrue, IsFalse, true};
 ghost use Rattle.std.specs.Allocator.{FitsBlock};
 ghost use Rattle.lhm_ring.specs.Chunks.{row};
@@ -28,9 +28,8 @@ fn fits<T>(count: usize) -> bool
     }
 }
 
-/// Returns how many nodes a chunk has at least, for `count` more nodes beside `made`: to grow by
-/// one, as many as there are, at most 64, and so that there are at most `most` nodes, if that can
-/// be.
+/// Returns the least number of nodes of a new chunk. For one more node it is as many as there are,
+/// `made`, at most 64 and at most `most - made`; otherwise it is 0.
 fn chunk_size(count: usize, made: usize, most: usize) -> usize
     ensures few { result ≤ 64 }
     ensures least { result ≡ least_more count made most }

@@ -56,8 +56,8 @@ impl<K, V> Index<K, V> {
         }
     }
 
-    /// Allocates an index of empty buckets for a capacity, in O(n): all that a resize allocates.
-    /// For capacity 0 it has no buckets, does not allocate, and never fails.
+    /// Allocates an index of empty buckets for a capacity, in O(n). For capacity 0 it has no buckets,
+    /// does not allocate, and never fails.
     pub fn with_buckets(alloc: Global, capacity: usize) -> Result<Index<K, V>, AllocError>
         requires { capacity ≤ 2 ^ 59 }
         ensures buckets { IfOk result (λ i. length i ≡ buckets capacity) }
@@ -117,8 +117,8 @@ impl<K, V> Index<K, V> {
         Some(masked(hash, self.heads.len()))
     }
 
-    /// Puts the one node that the index lacks at the head of its chain, in O(1), and returns its
-    /// bucket. It does not allocate. Of the ring only that node's chain link changes.
+    /// Inserts a node that is in no chain at the head of its bucket's chain, and returns the bucket.
+    /// It is O(1) and does not allocate. Of the ring only that node's chain link changes.
     pub fn put_in(&mut self, ring: &mut Ring<K, V>, at: Position<K, V>) -> usize
         requires some { 0 < length self.old }
         requires lacks { HoldsOthers self.old ring.old.held (pointer_of at) }
@@ -270,7 +270,7 @@ impl<K, V> Index<K, V> {
     }
 }
 
-/// Returns the number of buckets of a capacity: 0 for 0, and else the least power of two not below
+/// Returns the number of buckets of a capacity: 0 for 0, otherwise the least power of two not below
 /// it.
 pub fn buckets_for(capacity: usize) -> usize
     requires { capacity ≤ 2 ^ 59 }

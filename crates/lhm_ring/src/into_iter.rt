@@ -3,7 +3,7 @@ ghost use Rattle.std.specs.Prelude.{◌≡◌, Some, IfSome, length};
 ghost use Rattle.std.specs.Iterator.{at_most, UpTo};
 ghost use Rattle.std.specs.Iterator.SizeHint.{IsWithinCount};
 ghost use Rattle.std.specs.List.{AllZip};
-ghost use Rattle.lhm_ring.specs.RingState.{triples};
+ghost use Rattle.lhm_ring.specs.RingState.{triples, IsTripleClone};
 ghost use Rattle.lhm_ring.specs.Splices.{HandsOutFirst, HandsOutLast};
 
 use crate::ring::Ring;
@@ -89,8 +89,7 @@ impl<K: Drop, V: Drop> ExactSizeIterator for IntoIter<K, V> {
 impl<K: Clone, V: Clone> Clone for IntoIter<K, V> {
     ghost use Rattle.std.specs.Prelude.{[]};
 
-    ghost is_clone = { AllZip (λ t u.
-        (u.0 ≡ t.0) × K.is_clone t.1.0 u.1.0 × V.is_clone t.1.1 u.1.1) };
+    ghost is_clone = { AllZip (IsTripleClone K.is_clone V.is_clone) };
 
     ghost is_infallible = { λ s. s ≡ [] };
 

@@ -238,7 +238,7 @@ impl<K, V> Ring<K, V> {
     }
 
     /// Returns a double-ended iterator over the triples, front to back, with mutable references to
-    /// the values. It does not allocate, and nothing but the values changes.
+    /// the values. It does not allocate, and only the values change.
     pub fn iter_mut(&mut self) -> IterMut<'_, K, V>
         ensures* writes_back { sem 𝓛 (lends_values K.row V.row self.entry result.1) }
         ensures keeps { KeepsAllButValues self.old }

@@ -1,5 +1,5 @@
-//! Raw nodes in a ring, for a hash map in insertion order: see `ring::Ring`, and `index::Index` for
-//! lookups by key.
+//! Raw nodes in a ring with a hash index, for a hash map in insertion order: see `table::Table`, and
+//! below it `ring::Ring` and `index::Index`.
 #![tactic(auto)]
 
 // Unsafe code: each function that reads or writes raw memory, or lends it, is proved by hand.
@@ -10,6 +10,7 @@ pub(crate) mod value_loan;
 
 // Safe code over these, with no proof by hand.
 pub(crate) mod access;
+pub(crate) mod behind;
 pub(crate) mod buckets;
 pub(crate) mod chunk;
 pub(crate) mod compact;
@@ -31,4 +32,3 @@ pub mod ring;
 pub(crate) mod search;
 pub(crate) mod splice;
 pub mod table;
-pub(crate) mod walk;

@@ -7,7 +7,8 @@ use std::mem::size_of;
 /// The links of a node for the order, its chain link, and the hash of its key.
 ///
 /// `prev` of the front node and `next` of the back node lead nowhere. `link`, the chain link, leads
-/// to the next spare node while the node is spare, and is its caller's while the node is held.
+/// to the next spare node while the node is spare, and belongs to the caller of the ring while the
+/// node is held.
 #[derive(Clone, Copy)]
 pub struct Links {
     pub(crate) prev: Link,

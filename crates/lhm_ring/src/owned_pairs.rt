@@ -36,9 +36,11 @@ impl<K, V> Model for OwnedPairs<K, V> {
 
     ghost view = { λ p. span_triples p.nodes.cells p.left p.first.ptr };
 
-    ghost invariant = { λ p.
-        ((b : Ptr) × IsSpan p.nodes.cells p.first.ptr b p.left)
-        × (p.nodes.chunks ≡ map extent p.chunks.items) };
+    ghost invariant = { λ p. record {
+      last : Ptr;
+      span : IsSpan p.nodes.cells p.first.ptr last p.left;
+      all_kept : p.nodes.chunks ≡ map extent p.chunks.items;
+    } };
 }
 
 impl<K, V> OwnedPairs<K, V> {

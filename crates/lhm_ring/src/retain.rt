@@ -25,10 +25,12 @@ impl<K, V> Ring<K, V> {
     /// are moved out of their node for the call. It is O(1) and does not allocate.
     fn call_at<F: FnMut(&K, &mut V) -> bool>(&mut self, at: Position<K, V>, keep: &mut F) -> bool
         requires { TakesAt (TakesPair F.FnMut) keep.old self.old.held (pointer_of at) }
-        ensures called { (value : V)
-            × CallsAt (CalledAtPair F.FnMut) keep.old self.old.held (pointer_of at) result value
-            keep.new
-            × (self.new ≡ with_value self.old (pointer_of at) value) }
+        ensures called { record {
+          value : V;
+          at_pair : CallsAt (CalledAtPair F.FnMut) keep.old self.old.held (pointer_of at) result
+              value keep.new;
+          new_is : self.new ≡ with_value self.old (pointer_of at) value;
+        } }
         ensures alone { ChangesOnly self.old.held (pointer_of at) }
     {
         let (key, mut value) = self.nodes.take(at.pointer);
@@ -44,10 +46,12 @@ impl<K, V> Table<K, V> {
     /// Calls a closure with the key and the value at a position, and returns what it returns.
     fn call_at<F: FnMut(&K, &mut V) -> bool>(&mut self, at: Position<K, V>, keep: &mut F) -> bool
         requires { TakesAt (TakesPair F.FnMut) keep.old self.old.held (pointer_of at) }
-        ensures called { (value : V)
-            × CallsAt (CalledAtPair F.FnMut) keep.old self.old.held (pointer_of at) result value
-            keep.new
-            × (self.new ≡ with_value self.old (pointer_of at) value) }
+        ensures called { record {
+          value : V;
+          at_pair : CallsAt (CalledAtPair F.FnMut) keep.old self.old.held (pointer_of at) result
+              value keep.new;
+          new_is : self.new ≡ with_value self.old (pointer_of at) value;
+        } }
         ensures alone { WritesOnly self.old.held (pointer_of at) }
     {
         self.ring.call_at(at, keep)

@@ -47,9 +47,10 @@ impl<K, V> Model for Ring<K, V> {
 
     ghost view = { λ r. state (ring_list (ring_cells r.ends r.nodes.cells) r.len) r.spares r.made };
 
-    ghost invariant = { λ r.
-        RingOk (ring_cells r.ends r.nodes.cells) r.spare r.len r.spares
-        × IsLaid r.nodes.unused r.nodes.chunks r.chunks.items r.made };
+    ghost invariant = { λ r. record {
+      ring : RingOk (ring_cells r.ends r.nodes.cells) r.spare r.len r.spares;
+      laid : IsLaid r.nodes.unused r.nodes.chunks r.chunks.items r.made;
+    } };
 }
 
 impl<K, V> Ring<K, V> {

@@ -10,17 +10,6 @@ use crate::position::Position;
 use crate::ring::Ring;
 
 /// The counts of a lookup.
-///
-/// # Examples
-///
-/// ```rust
-/// use linked_hash_map::LinkedHashMap;
-///
-/// let mut map = LinkedHashMap::new(rt.alloc());
-/// map.insert('x', 1)?;
-/// let (value, probe) = map.get_counted(&'x');
-/// assert_eq!(rt; (value, probe.visited, probe.compared), (Some(&1), 1, 1));
-/// ```
 #[derive(Clone, Copy, Debug, PartialEq)]
 pub struct Probe {
     /// The number of nodes reached along the chain.
@@ -64,7 +53,7 @@ fn step<K: Eq, V>(
 }
 
 impl<K: Eq, V> Index<K, V> {
-    /// Follows the chain of the hash from its head to the node with the key, as every lookup does.
+    /// Follows the chain of the hash from its head to the node with the key.
     fn search(
         &self,
         ring: &Ring<K, V>,

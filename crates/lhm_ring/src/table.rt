@@ -1,4 +1,4 @@
-//! Pairs in insertion order with a hash index of their keys: a ring and its index, kept in step.
+//! Pairs in insertion order with a hash index of their keys: a ring, its index and its filter.
 ghost use Rattle.std.specs.Prelude.{◌≡◌, ◌+◌, ◌<◌, ◌≤◌, ◌^◌, ◌++◌, ◌∷◌, [], length, map, None, IfOk, IsOk, IfSome, IfNone, OnSome, IsTrue, IsFalse};
 ghost use Rattle.lhm_ring.specs.Cells.{IsApart};
 ghost use Rattle.lhm_ring.specs.RingState.{IsHeld, AtHeld, first_at, last_at, held};
@@ -236,7 +236,8 @@ impl<K, V> Table<K, V> {
         (key, value)
     }
 
-    /// Returns `false` if no pair has a hash, by the filter alone, in O(1).
+    /// Returns whether a pair may have a hash, by the filter alone: `false` only if none has it. It
+    /// is O(1).
     fn may_contain(&self, hash: u64) -> bool
         ensures { IsFalse result → LacksHash hash self.now.held }
     {
@@ -286,7 +287,7 @@ impl<K, V> Table<K, V> {
 
     /// Removes all pairs and returns them as an iterator, front to back. The capacity stays. The
     /// table is empty from the call on, also if the iterator is forgotten. The call is O(1) for an
-    /// empty table, and else O(n) in the pairs and the buckets.
+    /// empty table, otherwise O(n) in the pairs and the buckets.
     pub fn drain(&mut self) -> Drain<'_, K, V>
         ensures* writes_back { sem 𝓛 (lends_drained K.row V.row self.entry (drain_name result)) }
         ensures rest { drain_rest result ≡ triples self.old.held }

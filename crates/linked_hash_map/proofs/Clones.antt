@@ -3,6 +3,7 @@ use Rattle.std.proofs.Common.{◌≡◌, ℕ, map, ◌+◌, ◌≤◌, Bool, tru
 use Rattle.std.specs.List.{AllZip, AllByRecursion, IsDistinct}
 use Rattle.std.specs.Map.{keys_of}
 use Rattle.std.specs.Cmp.{IsEquivalence}
+use Rattle.lhm_ring.specs.RingState.{IsTripleClone}
 use Rattle.lhm_ring.proofs.Ends.{AllZip-last}
 use Rattle.linked_hash_map.specs.declared.map.Mode.TheVariants.{Touch}
 use Rattle.linked_hash_map.specs.LinkedMap.{LinkedMap}
@@ -16,11 +17,11 @@ use Rattle.linked_hash_map.proofs.Inserts.{insert_each-last, insert_each-distinc
 
 -- triples of a hash and a pair, and clones of them: their pairs
 module _ {K V : Type 0} (IsKeyClone : K → K → Type 0) (IsValueClone : V → V → Type 0) where
-  pub AreClones-of : (ts us : List (ℕ × (K × V))) → AllZip (λ t u. (u.0 ≡ t.0) × IsKeyClone t.1.0 u.1.0 × IsValueClone t.1.1 u.1.1) ts us → AreClones IsKeyClone IsValueClone (map (λ t. t.1) ts) (map (λ u. u.1) us)
+  pub AreClones-of : (ts us : List (ℕ × (K × V))) → AllZip (IsTripleClone IsKeyClone IsValueClone) ts us → AreClones IsKeyClone IsValueClone (map (λ t. t.1) ts) (map (λ u. u.1) us)
   AreClones-of [] [] all = tt
   AreClones-of [] (u ∷ us) all = absurd all
   AreClones-of (t ∷ ts) [] all = absurd all
-  AreClones-of (t ∷ ts) (u ∷ us) all = ((all.0.1, all.0.2), AreClones-of ts us all.1)
+  AreClones-of (t ∷ ts) (u ∷ us) all = ((all.0.key, all.0.value), AreClones-of ts us all.1)
 
 pub none-of : {K V : Type 0} (ts : List (ℕ × (K × V))) → map (λ t. t.1) ts ≡ [] → ts ≡ []
 none-of [] e = refl

@@ -80,13 +80,20 @@ module _ {K V : Type 0} {eq : K → K → Bool} (laws : IsEquivalence eq) where
   distinct-insert_each m pairs [] distinct = distinct
   distinct-insert_each m pairs (item ∷ items) distinct = distinct-insert_each m (put eq m pairs item.0 item.1) items (distinct-put m pairs item.0 item.1 distinct)
 
-  -- an insertion takes no pair away
+  -- an insertion takes no pair away, nor do many
   pub length-grows : (m : Mode) (pairs : List (K × V)) (k : K) (v : V) → IsDistinct eq (keys_of pairs) → length pairs ≤ length (put eq m pairs k v)
   length-grows m pairs k v distinct = by_test (is_some (find eq pairs k)) (length-put laws m pairs k v distinct)
     where
       by_test : (b : Bool) → length (put eq m pairs k v) ≡ cond b (length pairs) (length pairs + 1) → length pairs ≤ length (put eq m pairs k v)
       by_test true h = omega arith
       by_test false h = omega arith
+
+  pub length-insert_each_least : (m : Mode) (pairs items : List (K × V)) → IsDistinct eq (keys_of pairs) → length pairs ≤ length (insert_each eq m pairs items)
+  length-insert_each_least m pairs [] distinct = omega arith
+  length-insert_each_least m pairs (item ∷ items) distinct =
+      let rest = length-insert_each_least m (put eq m pairs item.0 item.1) items (distinct-put m pairs item.0 item.1 distinct) in
+      let grows = length-grows m pairs item.0 item.1 distinct in
+      omega arith
 
   -- none went in yet
   pub HasInserted-none : {S : Type 0} (start : LinkedMap K V S) → IsValid eq start → HasInserted eq start [] start

@@ -27,6 +27,7 @@ pub mod MovedNode
 pub mod Outcomes
 pub mod Outside
 pub mod Pairs
+pub mod Pops
 pub mod PutPair
 pub mod Retained
 pub mod Runs

@@ -23,8 +23,8 @@ use Rattle.linked_hash_map.proofs.Pairs.{is_some-value_at, set_value-none, to_ba
 use Rattle.linked_hash_map.proofs.Distinct.{distinct-pairs}
 use Rattle.linked_hash_map.proofs.HighWater.{size-high}
 use Rattle.linked_hash_map.proofs.Effects.{size-contents, the_pair, live-found, Defines-nothing, Defines-put, Defines-remove, Defines-write, Defines-refresh, Defines-remove_all, Defines-reserve, Defines-shrink, Defines-pop_front, Defines-pop_back, Defines-set_mode}
+use Rattle.linked_hash_map.proofs.Inserts.{length-insert_each_least}
 use Rattle.linked_hash_map.proofs.Callers.Keys.{without-absent}
-use Rattle.linked_hash_map.proofs.Callers.Collected.{length-insert_each_least}
 
 value_of_zip : {K V : Type 0} (s : Option K) (w : Option V) (v : V) → is_some s ≡ true → w ≡ Some v → option_map (λ pair. pair.1) (option_zip s w) ≡ Some v
 value_of_zip None w v there h = absurd (true≢false (sym there))

@@ -41,11 +41,11 @@ module _ {F K V : Type 0} (T : F → K → V → Bool → V → F → Type 0) wh
   pub bare-retained : (f : F) (hs ks : List (Held (K × V))) → RetainsHeld T f hs ks → IsSublist (bare ks) (bare hs)
   bare-retained f [] ks r = ap bare r
   bare-retained f (t ∷ hs) ks r =
-      let rest = bare-retained r.2 hs r.3 r.5 in
-      (elim r.0 as (λ b. ks ≡ cond b (revalued r.1 t ∷ r.3) r.3 → IsSublist (bare ks) (bare_node t ∷ bare hs)) [
-        | true ↦ λ is. inr (bare r.3, ap bare is, rest)
+      let rest = bare-retained r.closure hs r.rest r.retained in
+      (elim r.returned as (λ b. ks ≡ cond b (revalued r.value t ∷ r.rest) r.rest → IsSublist (bare ks) (bare_node t ∷ bare hs)) [
+        | true ↦ λ is. inr (bare r.rest, ap bare is, rest)
         | false ↦ λ is. inl (subst (λ (l : List (Held (K × V))). IsSublist (bare l) (bare hs)) (sym is) rest)
-      ]) r.6
+      ]) r.kept_is
 
   pairs-cond : (b : Bool) (t : Held (K × V)) (ks : List (Held (K × V))) → pairs_of (cond b (t ∷ ks) ks) ≡ cond b (t.pair ∷ pairs_of ks) (pairs_of ks)
   pairs-cond true t ks = refl
@@ -54,7 +54,7 @@ module _ {F K V : Type 0} (T : F → K → V → Bool → V → F → Type 0) wh
   pub pairs-retained : (f : F) (hs ks : List (Held (K × V))) → RetainsHeld T f hs ks → RetainsPairs T f (pairs_of hs) (pairs_of ks)
   pairs-retained f [] ks r = ap pairs_of r
   pairs-retained f (t ∷ hs) ks r =
-      (r.0, r.1, r.2, pairs_of r.3, r.4, pairs-retained r.2 hs r.3 r.5, ap pairs_of r.6 ∙ pairs-cond r.0 (revalued r.1 t) r.3)
+      (r.returned, r.value, r.closure, pairs_of r.rest, r.called, pairs-retained r.closure hs r.rest r.retained, ap pairs_of r.kept_is ∙ pairs-cond r.returned (revalued r.value t) r.rest)
 
 -- the keys and the number of the pairs in some of the nodes
 module _ {K V : Type 0} (hs ks : List (Held (K × V))) (some : IsSublist (bare ks) (bare hs)) where

@@ -7,6 +7,7 @@ use Rattle.std.specs.Map.{keys_of}
 use Rattle.std.proofs.lemmas.Bool.{eqb-true}
 use Rattle.std.proofs.lemmas.List.{map-append}
 use Rattle.linked_hash_map.specs.LinkedMap.{LinkedMap}
+use Rattle.linked_hash_map.specs.declared.map.Mode.TheVariants.{Touch}
 use Rattle.linked_hash_map.specs.Pairs as pairs
 use Rattle.linked_hash_map.specs.Validity.{IsValid}
 use Rattle.linked_hash_map.specs.SessionTables.{Session, session_table, ids_of, total_weight, session_of, payload_of, weight_of, without, with_last, to_end, IsValidTable}
@@ -15,7 +16,7 @@ use Rattle.linked_hash_map.specs.declared.sessions.storage.Weighted.{Weighted}
 use Rattle.linked_hash_map.specs.Changes.{refreshed}
 use Rattle.linked_hash_map.proofs.Callers.Keys.{IsSome-find, length-to_back_present}
 use Rattle.linked_hash_map.proofs.Callers.Lookups.{eq-stored}
-use Rattle.linked_hash_map.proofs.Callers.Valid.{IsValid-to_back_present}
+use Rattle.linked_hash_map.proofs.Callers.Valid.{IsValid-put}
 use Rattle.linked_hash_map.proofs.SessionLists.{total_weight-without, total_weight-with_last}
 
 module _ {T : Type 0} where
@@ -116,10 +117,11 @@ module _ {T : Type 0} where
         let there = IsSome-find nat_eq m.pairs id weighted found in
         let same = length-to_back_present nat_eq_equiv m.pairs id now kept.valid.distinct there in
         let within = kept.valid.within in
+        let limited = kept.valid.limit in
         let others = total_weight-others kept id in
         let after = total_weight-with_last (sessions_of m.pairs) id (weight_of (sessions_of m.pairs) id) payload in
         record {
-          valid = IsValid-to_back_present nat_eq_equiv id now kept.valid there refl (omega arith);
+          valid = IsValid-put nat_eq_equiv Touch id now kept.valid refl (omega arith) (omega arith);
           mode = kept.mode;
           sum = omega (arith, ap total_weight (sessions_of-refreshed payload));
           within = kept.within;

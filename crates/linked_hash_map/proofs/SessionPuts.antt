@@ -1,20 +1,31 @@
 -- What a put does to the pairs of a table's map.
-use Rattle.std.proofs.Common.{◌≡◌, ℕ, zero, suc, ◌+◌, ◌-◌, ◌<◌, ◌≤◌, List, [], ◌∷◌, ◌++◌, length, drop, nat_eq, Option, Some, None, is_some, option_map, true, false, refl, sym, ap, ◌∙◌, arith, length-append, length-drop}
-use Rattle.std.specs.Cmp.{nat_eq_equiv}
+use Rattle.std.proofs.Common.{◌≡◌, ℕ, zero, suc, ◌+◌, ◌-◌, ◌<◌, ◌≤◌, Bool, true, false, cond, List, [], ◌∷◌, ◌++◌, length, drop, nat_eq, Option, Some, None, is_some, option_map, true≢false, refl, sym, ap, ◌∙◌, arith, length-append, length-drop}
+use Rattle.std.specs.Cmp.{IsEquivalence, nat_eq_equiv}
 use Rattle.std.specs.List.{IsDistinct}
 use Rattle.std.specs.Map.{keys_of}
 use Rattle.std.specs.Option.{IsSome}
 use Rattle.std.proofs.lemmas.List.{drop-map, drop-append-le}
+use Rattle.std.proofs.lemmas.Map.Keys.{IsDistinct-tail}
 use Rattle.linked_hash_map.specs.Pairs as pairs
 use Rattle.linked_hash_map.specs.SessionTables.{Session, total_weight, session_of, payload_of, without, with_last, fit}
 use Rattle.linked_hash_map.specs.SessionsKept.{sessions_of}
 use Rattle.linked_hash_map.specs.declared.sessions.storage.Weighted.{Weighted}
-use Rattle.linked_hash_map.proofs.Callers.Keys.{distinct-to_back, find-drop, without-absent, value_at-none, length-without_absent}
+use Rattle.linked_hash_map.proofs.Callers.Keys.{distinct-to_back, find-drop, without-absent}
 use Rattle.linked_hash_map.proofs.Callers.Lookups.{find-without_here, value_at-to_back_apart}
-use Rattle.linked_hash_map.proofs.Callers.Turns.{find-drop_present}
+use Rattle.linked_hash_map.proofs.Callers.Turns.{find-others}
 use Rattle.linked_hash_map.proofs.LiveKeys.{none_is}
 use Rattle.linked_hash_map.proofs.SessionLists.{total_weight-append, total_weight-last, fit-all, fit-append, session_of-append}
 use Rattle.linked_hash_map.proofs.SessionPairs.{sessions_of-without, sessions_of-to_back, length-sessions_of, is_some-session_of, payload_of-sessions_of}
+
+-- a key that is found among the last pairs has there the pair that it has among all
+find-drop_present : {K V : Type 0} {eq : K → K → Bool} → IsEquivalence eq → (ps : List (K × V)) (q : K) (n : ℕ) → IsDistinct eq (keys_of ps) → IsSome (pairs.find eq (drop n ps) q) → pairs.find eq (drop n ps) q ≡ pairs.find eq ps q
+find-drop_present laws ps q zero distinct found = refl
+find-drop_present laws [] q (suc n) distinct found = refl
+find-drop_present {K} {V} {eq} laws (pair ∷ ps) q (suc n) distinct found = by_test (eq q pair.0) refl (find-drop_present laws ps q n (IsDistinct-tail eq pair.0 (keys_of ps) distinct) found)
+  where
+    by_test : (b : Bool) → eq q pair.0 ≡ b → pairs.find eq (drop n ps) q ≡ pairs.find eq ps q → pairs.find eq (drop n ps) q ≡ cond b (Some pair) (pairs.find eq ps q)
+    by_test true same rest = absurd (true≢false (sym found ∙ ap is_some (rest ∙ find-others laws ps q pair distinct same)))
+    by_test false apart rest = rest
 
 -- there is room for one more once some are out, or at once
 pub room-left : (count len capacity : ℕ) → count ≤ len → len ≤ capacity → (count ≡ 0 → len < capacity) → len - count < capacity
@@ -45,7 +56,7 @@ module _ {T : Type 0} where
 
   pub length-without_new : (ps : List (ℕ × Weighted T)) (id : ℕ) → pairs.find nat_eq ps id ≡ None → length (without (sessions_of ps) id) ≡ length ps
   length-without_new ps id none =
-      ap length (sym (sessions_of-without ps id)) ∙ length-sessions_of (pairs.without nat_eq ps id) ∙ length-without_absent nat_eq ps id none
+      ap length (sym (sessions_of-without ps id)) ∙ length-sessions_of (pairs.without nat_eq ps id) ∙ ap length (without-absent nat_eq ps id none)
 
   -- whether an id is new
   pub find-new : (ps : List (ℕ × Weighted T)) (id : ℕ) → is_some (session_of (sessions_of ps) id) ≡ false → pairs.find nat_eq ps id ≡ None
@@ -62,7 +73,7 @@ module _ {T : Type 0} where
   find-drop_new ps count id none oldest = ap (λ l. pairs.find nat_eq l id) oldest ∙ find-drop nat_eq ps id count none
 
   pub payload_of-new : (ps : List (ℕ × Weighted T)) (id : ℕ) → pairs.find nat_eq ps id ≡ None → payload_of (sessions_of ps) id ≡ None
-  payload_of-new ps id none = payload_of-sessions_of ps id ∙ ap (option_map (λ (weighted : Weighted T). weighted.payload)) (value_at-none nat_eq ps id none)
+  payload_of-new ps id none = payload_of-sessions_of ps id ∙ ap (option_map (λ (weighted : Weighted T). weighted.payload)) (ap (option_map (λ pair. pair.1)) none)
 
   -- a put adds no more than one
   pub length-with_last : (sessions : List (Session T)) (id weight : ℕ) (payload : T) → length (with_last sessions id weight payload) ≡ length (without sessions id) + 1

@@ -17,22 +17,22 @@ module _ {F T : Type 0} (g : Mut F (ℕ × (ℕ × (MutBor T × Unit {0}))) (Boo
   pub weights-retained : (f : F) (sessions kept : List (Session T)) → RetainsSessions g f sessions kept → IsSublist (weights_of kept) (weights_of sessions)
   weights-retained f [] kept r = ap weights_of r
   weights-retained f (session ∷ sessions) kept r =
-      let rest = weights-retained r.2 sessions r.3 r.5 in
-      (elim r.0 as (λ b. kept ≡ cond b ((session.0, session.1, r.1) ∷ r.3) r.3 → IsSublist (weights_of kept) ((session.0, session.1) ∷ weights_of sessions)) [
-        | true ↦ λ is. inr (weights_of r.3, ap weights_of is, rest)
+      let rest = weights-retained r.closure sessions r.rest r.retained in
+      (elim r.returned as (λ b. kept ≡ cond b ((session.0, session.1, r.payload) ∷ r.rest) r.rest → IsSublist (weights_of kept) ((session.0, session.1) ∷ weights_of sessions)) [
+        | true ↦ λ is. inr (weights_of r.rest, ap weights_of is, rest)
         | false ↦ λ is. inl (subst (λ (l : List (Session T)). IsSublist (weights_of l) (weights_of sessions)) (sym is) rest)
-      ]) r.6
+      ]) r.kept_is
 
   -- and they weigh no more
   pub total_weight-retained : (f : F) (sessions kept : List (Session T)) → RetainsSessions g f sessions kept → total_weight kept ≤ total_weight sessions
   total_weight-retained f [] kept r = let none = ap total_weight r in omega (arith, none)
   total_weight-retained f (session ∷ sessions) kept r =
-      let rest = total_weight-retained r.2 sessions r.3 r.5 in
+      let rest = total_weight-retained r.closure sessions r.rest r.retained in
       let all = total_weight-cons session sessions in
-      (elim r.0 as (λ b. kept ≡ cond b ((session.0, session.1, r.1) ∷ r.3) r.3 → total_weight kept ≤ total_weight (session ∷ sessions)) [
-        | true ↦ λ is. let some = ap total_weight is in let stays = total_weight-cons (session.0, session.1, r.1) r.3 in omega (arith, rest, all, some, stays)
+      (elim r.returned as (λ b. kept ≡ cond b ((session.0, session.1, r.payload) ∷ r.rest) r.rest → total_weight kept ≤ total_weight (session ∷ sessions)) [
+        | true ↦ λ is. let some = ap total_weight is in let stays = total_weight-cons (session.0, session.1, r.payload) r.rest in omega (arith, rest, all, some, stays)
         | false ↦ λ is. let some = ap total_weight is in omega (arith, rest, all, some)
-      ]) r.6
+      ]) r.kept_is
 
   -- a closure that may always be called may be called again after each call
   pub always-called : (f : F) (session : Session T) (b : Bool) (payload : T) (f' : F) → CalledAtSession g f session b payload f' → always_mut g f → always_mut g f'
@@ -43,9 +43,9 @@ module _ {F T : Type 0} (g : Mut F (ℕ × (ℕ × (MutBor T × Unit {0}))) (Boo
     pub filter-retained_sessions : (sessions kept : List (Session T)) → RetainsSessions g f sessions kept → kept ≡ filter test sessions
     filter-retained_sessions [] kept r = r
     filter-retained_sessions (session ∷ sessions) kept r =
-        let said = says session r.0 r.1 r.2 r.4 in
-        let rest = filter-retained_sessions sessions r.3 (subst (λ f'. RetainsSessions g f' sessions r.3) said.2 r.5) in
-        r.6 ∙ (λ i. cond (said.0 i) ((session.0, session.1, said.1 i) ∷ rest i) (rest i))
+        let said = says session r.returned r.payload r.closure r.called in
+        let rest = filter-retained_sessions sessions r.rest (subst (λ f'. RetainsSessions g f' sessions r.rest) said.2 r.retained) in
+        r.kept_is ∙ (λ i. cond (said.0 i) ((session.0, session.1, said.1 i) ∷ rest i) (rest i))
 
 -- the weight of the first of the sessions that pairs stand for, and of the others
 pub total_weight-next : {T : Type 0} (pairs : List (ℕ × Weighted T)) (pair : ℕ × Weighted T) (rest : List (ℕ × Weighted T)) → pairs ≡ pair ∷ rest → total_weight (sessions_of pairs) ≡ pair.1.weight + total_weight (sessions_of rest)
@@ -62,15 +62,15 @@ module _ {C F T : Type 0} (calls : C → ℕ → Weighted T → Bool → Weighte
   pub sessions-retained : (c : C) (pairs kept : List (ℕ × Weighted T)) → RetainsPairs calls c pairs kept → RetainsSessions g (inner c) (sessions_of pairs) (sessions_of kept)
   sessions-retained c [] kept r = ap sessions_of r
   sessions-retained c (pair ∷ pairs) kept r =
-      let said = says c pair.0 pair.1 r.0 r.1 r.2 r.4 in (
-        r.0,
-        r.1.payload,
-        inner r.2,
-        sessions_of r.3,
-        said.0,
-        sessions-retained r.2 pairs r.3 r.5,
-        ap sessions_of r.6 ∙ sessions_of-cond r.0 pair.0 r.1 r.3 ∙ (λ i. cond r.0 ((pair.0, said.1 i, r.1.payload) ∷ sessions_of r.3) (sessions_of r.3)),
-      )
+      let said = says c pair.0 pair.1 r.0 r.1 r.2 r.4 in record {
+        returned = r.0;
+        payload = r.1.payload;
+        closure = inner r.2;
+        rest = sessions_of r.3;
+        called = said.0;
+        retained = sessions-retained r.2 pairs r.3 r.5;
+        kept_is = ap sessions_of r.6 ∙ sessions_of-cond r.0 pair.0 r.1 r.3 ∙ (λ i. cond r.0 ((pair.0, said.1 i, r.1.payload) ∷ sessions_of r.3) (sessions_of r.3));
+      }
 
   pub lighter-retained : (c : C) (pairs kept : List (ℕ × Weighted T)) → RetainsPairs calls c pairs kept → total_weight (sessions_of kept) ≤ total_weight (sessions_of pairs)
   lighter-retained c pairs kept r = total_weight-retained g (inner c) (sessions_of pairs) (sessions_of kept) (sessions-retained c pairs kept r)

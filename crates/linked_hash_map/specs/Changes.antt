@@ -11,7 +11,11 @@ module _ {K V S : Type 0} where
   abbrev pub pushed : LinkedMap K V S → K → V → LinkedMap K V S
   pushed m k v =
       let capacity = max m.capacity (length m.pairs + 1) in
-      record m { pairs = m.pairs ++ (k, v) ∷ []; capacity = capacity; rechained = rechained_raised m.rechained (length m.pairs) m.capacity capacity }
+      record m {
+        pairs = m.pairs ++ (k, v) ∷ [];
+        capacity = capacity;
+        rechained = rechained_raised m.rechained (length m.pairs) m.capacity capacity;
+      }
 
   -- with v as the value of k, in the place of its pair, or at the back if there is none, and room
   -- for it
@@ -19,7 +23,11 @@ module _ {K V S : Type 0} where
   set_or_pushed eq m k v =
       let pairs = set_or_push eq m.pairs k v in
       let capacity = max m.capacity (length pairs) in
-      record m { pairs = pairs; capacity = capacity; rechained = rechained_raised m.rechained (length m.pairs) m.capacity capacity }
+      record m {
+        pairs = pairs;
+        capacity = capacity;
+        rechained = rechained_raised m.rechained (length m.pairs) m.capacity capacity;
+      }
 
   -- with the pair of k at the back, and v as its value; nothing is left for a cursor to visit
   abbrev pub refreshed : (K → K → Bool) → LinkedMap K V S → K → V → LinkedMap K V S

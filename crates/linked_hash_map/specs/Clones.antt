@@ -7,17 +7,22 @@ use Rattle.linked_hash_map.specs.Inserts.{insert_each}
 use Rattle.linked_hash_map.specs.Validity.{IsValid}
 
 -- these pairs are clones of those, in order
-abbrev pub AreClones : {K V : Type 0} → (K → K → Type 0) → (V → V → Type 0) → List (K × V) → List (K × V) → Type 0
+abbrev pub AreClones : {K V : Type 0} → (K → K → Type 0) → (V → V → Type 0) → List (K × V)
+    → List (K × V) → Type 0
 AreClones IsKeyClone IsValueClone = AllZip (λ p q. IsKeyClone p.0 q.0 × IsValueClone p.1 q.1)
 
 -- a map n has clones of the pairs of a map m, inserted in order, room for as many, a clone of the
 -- hasher, and its mode
-pub record IsClone {K V S : Type 0} (eq : K → K → Bool) (IsKeyClone : K → K → Type 0) (IsValueClone : V → V → Type 0) (IsHasherClone : S → S → Type 0) (m n : LinkedMap K V S) : Type 0 where
-  pub pairs : (clones : List (K × V)) × AreClones IsKeyClone IsValueClone m.pairs clones × (n.pairs ≡ insert_each eq Touch [] clones)
+pub record IsClone {K V S : Type 0} (eq : K → K → Bool) (IsKeyClone : K → K → Type 0)
+    (IsValueClone : V → V → Type 0) (IsHasherClone : S → S → Type 0) (m n : LinkedMap K V S) : Type
+    0 where
+  pub pairs : (clones : List (K × V)) × AreClones IsKeyClone IsValueClone m.pairs clones
+      × (n.pairs ≡ insert_each eq Touch [] clones)
   pub capacity : n.capacity ≡ length m.pairs
   pub rechained : n.rechained ≡ 0
   pub hasher : IsHasherClone m.hasher n.hasher
   pub mode : n.mode ≡ m.mode
   pub valid : IsValid eq n
   -- if a clone of a key is the same key, its list is the clones in order
-  pub in_order : ((k clone : K) → IsKeyClone k clone → IsTrue (eq k clone)) → AreClones IsKeyClone IsValueClone m.pairs n.pairs
+  pub in_order : ((k clone : K) → IsKeyClone k clone → IsTrue (eq k clone))
+      → AreClones IsKeyClone IsValueClone m.pairs n.pairs

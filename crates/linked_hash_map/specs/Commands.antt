@@ -56,7 +56,8 @@ module _ {K V : Type 0} (eq : K → K → Bool) where
   answer_to pairs (OrInsert k v) = cond (is_some (find eq pairs k)) Found New
   answer_to pairs (EntryInsert k v) = old_or New (value_at eq pairs k)
   answer_to pairs (EntryRemove k) = old_or Missing (value_at eq pairs k)
-  answer_to pairs (Reserve additional) = cond (nat_lt LIMIT (length pairs + additional)) TooLarge Done
+  answer_to pairs (Reserve additional) =
+      cond (nat_lt LIMIT (length pairs + additional)) TooLarge Done
   answer_to pairs Shrink = Done
   answer_to pairs (SetMode m) = Done
 
@@ -71,7 +72,8 @@ module _ {K V : Type 0} (eq : K → K → Bool) where
   pairs_after mode pairs Clear = []
   pairs_after mode pairs Drain = []
   pairs_after mode pairs (Extend items) = insert_each eq mode pairs items
-  pairs_after mode pairs (OrInsert k v) = cond (is_some (find eq pairs k)) pairs (to_back eq pairs k v)
+  pairs_after mode pairs (OrInsert k v) =
+      cond (is_some (find eq pairs k)) pairs (to_back eq pairs k v)
   pairs_after mode pairs (EntryInsert k v) = put eq mode pairs k v
   pairs_after mode pairs (EntryRemove k) = without eq pairs k
   pairs_after mode pairs (Reserve additional) = pairs
@@ -81,10 +83,15 @@ module _ {K V : Type 0} (eq : K → K → Bool) where
   -- and the capacity
   abbrev pub capacity_after : Mode → ℕ → List (K × V) → Command K V → ℕ
   capacity_after mode capacity pairs (Insert k v) = max capacity (length (put eq mode pairs k v))
-  capacity_after mode capacity pairs (Extend items) = max capacity (length (insert_each eq mode pairs items))
-  capacity_after mode capacity pairs (OrInsert k v) = max capacity (length (cond (is_some (find eq pairs k)) pairs (to_back eq pairs k v)))
-  capacity_after mode capacity pairs (EntryInsert k v) = max capacity (length (put eq mode pairs k v))
-  capacity_after mode capacity pairs (Reserve additional) = cond (nat_lt LIMIT (length pairs + additional)) capacity (max capacity (length pairs + additional))
+  capacity_after mode capacity pairs (Extend items) =
+      max capacity (length (insert_each eq mode pairs items))
+  capacity_after mode capacity pairs (OrInsert k v) =
+      max capacity (length (cond (is_some (find eq pairs k)) pairs (to_back eq pairs k v)))
+  capacity_after mode capacity pairs (EntryInsert k v) =
+      max capacity (length (put eq mode pairs k v))
+  capacity_after mode capacity pairs (Reserve additional) =
+      cond (nat_lt LIMIT (length pairs + additional)) capacity
+      (max capacity (length pairs + additional))
   capacity_after mode capacity pairs Shrink = length pairs
   capacity_after mode capacity pairs _ = capacity
 
@@ -100,13 +107,17 @@ module _ {K V : Type 0} (eq : K → K → Bool) where
   abbrev pub replies_to : Mode → ℕ → List (K × V) → List (Command K V) → List (Reply K V)
   replies_to mode capacity pairs [] = []
   replies_to mode capacity pairs (command ∷ commands) =
-      reply_to mode capacity pairs command ∷ replies_to (mode_after mode command) (capacity_after mode capacity pairs command) (pairs_after mode pairs command) commands
+      reply_to mode capacity pairs command
+      ∷ replies_to (mode_after mode command) (capacity_after mode capacity pairs command)
+      (pairs_after mode pairs command) commands
 
   abbrev pub pairs_after_all : Mode → List (K × V) → List (Command K V) → List (K × V)
   pairs_after_all mode pairs [] = pairs
-  pairs_after_all mode pairs (command ∷ commands) = pairs_after_all (mode_after mode command) (pairs_after mode pairs command) commands
+  pairs_after_all mode pairs (command ∷ commands) =
+      pairs_after_all (mode_after mode command) (pairs_after mode pairs command) commands
 
   abbrev pub capacity_after_all : Mode → ℕ → List (K × V) → List (Command K V) → ℕ
   capacity_after_all mode capacity pairs [] = capacity
   capacity_after_all mode capacity pairs (command ∷ commands) =
-      capacity_after_all (mode_after mode command) (capacity_after mode capacity pairs command) (pairs_after mode pairs command) commands
+      capacity_after_all (mode_after mode command) (capacity_after mode capacity pairs command)
+      (pairs_after mode pairs command) commands

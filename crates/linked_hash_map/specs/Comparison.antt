@@ -24,7 +24,8 @@ module _ {K V : Type 0} where
   pair_order key value p q = ordering_then (key p.0 q.0) (value p.1 q.1)
 
   -- the same, if there may be no order
-  abbrev pub partial_pair_order : (K → K → Option Ordering) → (V → V → Option Ordering) → K × V → K × V → Option Ordering
+  abbrev pub partial_pair_order : (K → K → Option Ordering) → (V → V → Option Ordering) → K × V
+      → K × V → Option Ordering
   partial_pair_order key value p q = partial_ordering_then (key p.0 q.0) (value p.1 q.1)
 
   -- what the key writes to a hasher, and then the value

@@ -10,10 +10,12 @@ module _ {K V : Type 0} (hash : K → ℕ) where
 
   -- how many have a hash in the bucket of that of k, at this capacity
   abbrev pub beside : List (K × V) → ℕ → K → ℕ
-  beside pairs capacity k = count_by (λ pair. (hash pair.0 % buckets capacity) == (hash k % buckets capacity)) pairs
+  beside pairs capacity k =
+      count_by (λ pair. (hash pair.0 % buckets capacity) == (hash k % buckets capacity)) pairs
 
 -- the nodes rehashed, once the capacity was raised n times by one, from c on, each time at full
 -- capacity
 abbrev pub rechained_each : ℕ → ℕ → ℕ → ℕ
 rechained_each rechained c zero = rechained
-rechained_each rechained c (suc n) = rechained_each (rechained_raised rechained c c (c + 1)) (c + 1) n
+rechained_each rechained c (suc n) =
+    rechained_each (rechained_raised rechained c c (c + 1)) (c + 1) n

@@ -8,7 +8,8 @@ use Rattle.linked_hash_map.specs.LinkedMap.{LinkedMap, no_cursor}
 
 -- no index is before a stretch and behind it
 not_before_and_behind : {index start : ℕ} (len : ℕ) → index < start → start + len ≤ index → ⊥
-not_before_and_behind {index} {start} len before behind = not-suc-le_self index (le_trans before (le_trans (le-add_right start len) behind))
+not_before_and_behind {index} {start} len before behind =
+    not-suc-le_self index (le_trans before (le_trans (le-add_right start len) behind))
 
 module _ {K V S : Type 0} where
   -- the keys that a cursor has still to visit, in order

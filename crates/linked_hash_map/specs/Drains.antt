@@ -17,12 +17,16 @@ module _ {K V : Type 0} where
 
   -- a call of `next` at s gave r, the first of the pairs to come, and left t
   abbrev pub DrainSteps : Drain K V → Option (K × V) → Drain K V → Type 0
-  DrainSteps s r t = TakesFirst (λ pair. pair) (drain_rest s) r (drain_rest t) × (drain_name t ≡ drain_name s)
+  DrainSteps s r t =
+      TakesFirst (λ pair. pair) (drain_rest s) r (drain_rest t) × (drain_name t ≡ drain_name s)
 
   -- the same of `next_back` and the last
   abbrev pub DrainStepsBack : Drain K V → Option (K × V) → Drain K V → Type 0
-  DrainStepsBack s r t = TakesLast (λ pair. pair) (drain_rest s) r (drain_rest t) × (drain_name t ≡ drain_name s)
+  DrainStepsBack s r t =
+      TakesLast (λ pair. pair) (drain_rest s) r (drain_rest t) × (drain_name t ≡ drain_name s)
 
   -- each `Drain` that steps from d lead to ends the same borrow
-  abbrev pub DrainKeepsAlong : (Drain K V → Option (K × V) → Drain K V → Type 0) → Drain K V → Type 0
-  DrainKeepsAlong steps d = (pairs : List (K × V)) (e : Drain K V) → Yields steps d pairs e → drain_name e ≡ drain_name d
+  abbrev pub DrainKeepsAlong : (Drain K V → Option (K × V) → Drain K V → Type 0) → Drain K V
+      → Type 0
+  DrainKeepsAlong steps d =
+      (pairs : List (K × V)) (e : Drain K V) → Yields steps d pairs e → drain_name e ≡ drain_name d

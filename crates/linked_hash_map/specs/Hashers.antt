@@ -11,5 +11,6 @@ IsDefaultHashBuilder builder = initial_hasher builder ≡ initial
 
 -- the hash that a build hasher gives a key: that of its hasher, once it was fed what the key is
 -- hashed by
-abbrev pub hash_by : {K S H : Type 0} → (H → ℕ) → (H → List ℕ → H) → (S → H) → (K → List (List ℕ)) → S → K → ℕ
+abbrev pub hash_by : {K S H : Type 0} → (H → ℕ) → (H → List ℕ → H) → (S → H) → (K → List (List ℕ))
+    → S → K → ℕ
 hash_by finish write build input hasher key = finish (fold write (build hasher) (input key))

@@ -9,16 +9,20 @@ use Rattle.linked_hash_map.specs.declared.map.Mode.{Mode}
 use Rattle.linked_hash_map.specs.declared.map.Mode.TheVariants.{Touch}
 
 -- the pairs once the items went in one by one, in a mode
-abbrev pub insert_each : {K V : Type 0} → (K → K → Bool) → Mode → List (K × V) → List (K × V) → List (K × V)
+abbrev pub insert_each : {K V : Type 0} → (K → K → Bool) → Mode → List (K × V) → List (K × V)
+    → List (K × V)
 insert_each eq mode pairs [] = pairs
-insert_each eq mode pairs (item ∷ items) = insert_each eq mode (put eq mode pairs item.0 item.1) items
+insert_each eq mode pairs (item ∷ items) =
+    insert_each eq mode (put eq mode pairs item.0 item.1) items
 
 -- whichever iterator it becomes, that has at most n items left
 abbrev pub GivesAtMost : {T I : Type 0} → (T → I → Type 0) → (I → Count) → T → ℕ → Type 0
-GivesAtMost {I = I} becomes remaining source n = (it : I) → becomes source it → UpTo (remaining it) n
+GivesAtMost {I = I} becomes remaining source n =
+    (it : I) → becomes source it → UpTo (remaining it) n
 
 -- given what becomes an iterator, and the steps of that iterator
-module _ {T I X : Type 0} (becomes : T → I → Type 0) (steps : I → Option X → I → Type 0) (source : T) where
+module _ {T I X : Type 0} (becomes : T → I → Type 0) (steps : I → Option X → I → Type 0)
+    (source : T) where
   -- it gives these items, and no more
   pub record GivesAll (given : List X) : Type 0 where
     pub iterator : I
@@ -42,19 +46,22 @@ module _ {T I X : Type 0} (becomes : T → I → Type 0) (steps : I → Option X
 
     -- items that it gives went in one by one, in a mode, up to one that shows this key and this
     -- value
-    pub record InsertsUntil (mode : Mode) (old new : List (K × V)) (key : K) (value : V) : Type 0 where
-      pub given : List X
-      pub item : X
-      pub gives : GivesThen given item
-      pub shown : shows item ≡ (key, value)
-      pub pairs : new ≡ insert_each eq mode old (map shows given)
+    pub record InsertsUntil (mode : Mode) (old new : List (K × V)) (key : K) (value : V) : Type 0
+      where
+        pub given : List X
+        pub item : X
+        pub gives : GivesThen given item
+        pub shown : shows item ≡ (key, value)
+        pub pairs : new ≡ insert_each eq mode old (map shows given)
 
 -- given what becomes an iterator of pairs, the steps of that iterator, and how many items it has
 -- left at most
-module _ {T I K V : Type 0} (becomes : T → I → Type 0) (steps : I → Option (K × V) → I → Type 0) (source : T) (remaining : I → Count) where
+module _ {T I K V : Type 0} (becomes : T → I → Type 0) (steps : I → Option (K × V) → I → Type 0)
+    (source : T) (remaining : I → Count) where
   -- it becomes one iterator: a new map got room for as many pairs as a lower bound that the hint of
   -- this iterator may answer, and then all items of this iterator, one by one
-  pub record Collects (eq : K → K → Bool) (contents : List (K × V)) (capacity rechained : ℕ) : Type 0 where
+  pub record Collects (eq : K → K → Bool) (contents : List (K × V)) (capacity rechained : ℕ) : Type
+      0 where
     pub iterator : I
     pub made : becomes source iterator
     pub lower : ℕ

@@ -11,28 +11,38 @@ use Rattle.linked_hash_map.specs.Pairs.{set_value, set_values}
 use Rattle.linked_hash_map.specs.Indexes.{set_value_at}
 use Rattle.linked_hash_map.specs.contracts.map.LinkedHashMap.{the_row}
 
-module _ (K V S H : RattleType) (key : HashMembers K.Denot) (build : builder.Ghosts S.Denot H.Denot) (hash : hasher.Ghosts H.Denot) where
+module _ (K V S H : RattleType) (key : HashMembers K.Denot) (build : builder.Ghosts S.Denot H.Denot)
+    (hash : hasher.Ghosts H.Denot) where
   -- the map's type, as the logic holds it
   abbrev pub map_row : RattleType
-  map_row = the_row K V S H (record { eq = key.eq }) (record { hash_input = key.hash_input }) build hash
+  map_row =
+      the_row K V S H (record { eq = key.eq }) (record { hash_input = key.hash_input }) build hash
 
   module _ (m : MutBor (LinkedMap K.Denot V.Denot S.Denot)) where
     -- the value at the index is the last one written through the reference
     abbrev pub lends_at : ℕ → MutBor V.Denot → Fml
-    lends_at index r = Lends map_row V m r (λ v. record m.now { pairs = set_value_at m.now.pairs index v })
+    lends_at index r =
+        Lends map_row V m r (λ v. record m.now { pairs = set_value_at m.now.pairs index v })
 
     -- the value of the pair that an entry stood for is the last one written through the reference
     abbrev pub lends_left : MutBor V.Denot → Fml
-    lends_left r = Lends map_row V m r (λ v. record m.now { pairs = set_value_at m.now.pairs m.now.cursor.current v; cursor = without_entry m.now.cursor })
+    lends_left r =
+        Lends map_row V m r (λ v.
+        record m.now {
+          pairs = set_value_at m.now.pairs m.now.cursor.current v;
+          cursor = without_entry m.now.cursor;
+        })
 
     -- the value of k, which is present, is the last one written through the reference
     abbrev pub lends_present : K.Denot → MutBor V.Denot → Fml
-    lends_present k r = Lends map_row V m r (λ v. record m.now { pairs = set_value key.eq m.now.pairs k v })
+    lends_present k r =
+        Lends map_row V m r (λ v. record m.now { pairs = set_value key.eq m.now.pairs k v })
 
     -- the value of k is the last one written through the reference, and with no reference the map
     -- is as it was
     abbrev pub lends_value : K.Denot → Option (MutBor V.Denot) → Fml
-    lends_value k r = LendsIf map_row V m r (λ v. record m.now { pairs = set_value key.eq m.now.pairs k v }) m.now
+    lends_value k r =
+        LendsIf map_row V m r (λ v. record m.now { pairs = set_value key.eq m.now.pairs k v }) m.now
 
     -- the map is refreshed by k with the last value written through the reference, and with no
     -- reference it is as it was
@@ -41,7 +51,9 @@ module _ (K V S H : RattleType) (key : HashMembers K.Denot) (build : builder.Gho
 
     -- the values are those that the loan with this name ends at, in order
     abbrev pub lends_values : GName → Fml
-    lends_values name = follows map_row map_row m.ghost_name name (λ n. record m.now { pairs = set_values m.now.pairs (values_of n.pairs) })
+    lends_values name =
+        follows map_row map_row m.ghost_name name (λ n.
+        record m.now { pairs = set_values m.now.pairs (values_of n.pairs) })
 
     -- the map is empty once the borrow with this name ends, which is of no bytes
     abbrev pub lends_drained : GName → Fml

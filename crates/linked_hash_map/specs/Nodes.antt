@@ -29,7 +29,8 @@ module _ {B : Type 0} where
 
   -- where a cursor and an entry stand among these nodes
   abbrev pub cursor_at : Option Ptr → ℕ → Option Ptr → List (Held B) → CursorState
-  cursor_at mark unvisited current hs = cursor_state (bookmark_at mark hs) unvisited (current_at current hs)
+  cursor_at mark unvisited current hs =
+      cursor_state (bookmark_at mark hs) unvisited (current_at current hs)
 
   -- if there is a pointer, a node lies there
   abbrev pub Lies : Option Ptr → List (Held B) → Type 0
@@ -75,16 +76,26 @@ module _ {K V : Type 0} where
   bare = map bare_node
 
   abbrev pub beside : {S : Type 0} → S → Visit K V → Mode → Beside S
-  beside hasher visit mode = record { hasher = hasher; mark = mark_of visit; unvisited = unvisited_of visit; current = current_of visit; mode = mode }
+  beside hasher visit mode =
+      record {
+        hasher = hasher;
+        mark = mark_of visit;
+        unvisited = unvisited_of visit;
+        current = current_of visit;
+        mode = mode;
+      }
 
   -- what a contract sees of a map that keeps its pairs in this table
   abbrev pub map_of : {S : Type 0} → TableState (K × V) → Beside S → LinkedMap K V S
-  map_of s b = linked_map (pairs_of s.held) s.capacity b.hasher (cursor_at b.mark b.unvisited b.current (bare s.held)) s.rechained b.mode
+  map_of s b =
+      linked_map (pairs_of s.held) s.capacity b.hasher
+      (cursor_at b.mark b.unvisited b.current (bare s.held)) s.rechained b.mode
 
 -- no two keys are the same, each stands with its hash, they are within the capacity and that within
 -- the limit; a mark is there as long as pairs are unvisited, and these are there from it on; the
 -- pair that an entry stands for is there
-pub record AreKept {K : Type 0} (eq : K → K → Bool) (hash : K → ℕ) (us : List (Held K)) (capacity : ℕ) (mark : Option Ptr) (unvisited : ℕ) (current : Option Ptr) : Type 0 where
+pub record AreKept {K : Type 0} (eq : K → K → Bool) (hash : K → ℕ) (us : List (Held K))
+    (capacity : ℕ) (mark : Option Ptr) (unvisited : ℕ) (current : Option Ptr) : Type 0 where
   pub distinct : IsDistinct eq (map (λ u. u.pair) us)
   pub hashed : AllByRecursion (λ u. u.hash ≡ hash u.pair) us
   pub within : length us ≤ capacity
@@ -95,5 +106,6 @@ pub record AreKept {K : Type 0} (eq : K → K → Bool) (hash : K → ℕ) (us :
   pub current_lies : Lies current us
 
 -- the pairs of a table are kept so
-pub record IsKept {K V : Type 0} (eq : K → K → Bool) (hash : K → ℕ) (s : TableState (K × V)) (mark : Option Ptr) (unvisited : ℕ) (current : Option Ptr) : Type 0 where
+pub record IsKept {K V : Type 0} (eq : K → K → Bool) (hash : K → ℕ) (s : TableState (K × V))
+    (mark : Option Ptr) (unvisited : ℕ) (current : Option Ptr) : Type 0 where
   pub nodes : AreKept eq hash (bare s.held) s.capacity mark unvisited current

@@ -8,4 +8,6 @@ module _ (T : RattleType) where
   -- the session of the id is at the end, with its weight and the last payload written through the
   -- reference, and with no reference the table is as it was
   abbrev pub lends_payload : MutBor (SessionTable T.Denot) → ℕ → Option (MutBor T.Denot) → Fml
-  lends_payload table id r = LendsIf (the_row T) T table r (λ payload. record table.now { sessions = to_end table.now.sessions id payload }) table.now
+  lends_payload table id r =
+      LendsIf (the_row T) T table r (λ payload.
+      record table.now { sessions = to_end table.now.sessions id payload }) table.now

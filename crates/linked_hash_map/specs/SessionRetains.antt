@@ -9,19 +9,30 @@ use Rattle.linked_hash_map.specs.SessionTables.{Session}
 abbrev pub weights_of : {T : Type 0} → List (Session T) → List (ℕ × ℕ)
 weights_of sessions = map (λ session. (session.0, session.1)) sessions
 
-module _ {F T : Type 0} (g : Mut F (ℕ × (ℕ × (MutBor T × Unit {0}))) (Bool × (MutBor T × Unit {0}))) where
-  -- a call of f at the id, the weight and a `&mut` to the payload of a session may return b, and
-  -- leave this payload there and f as f'
-  pub record CalledAtSession (f : F) (session : Session T) (b : Bool) (payload : T) (f' : F) : Type 0 where
-    pub lent : MutBor T
-    pub shows : lent.now ≡ session.2
-    pub left : MutBor T
-    pub called : Called g f (session.0, (session.1, (lent, tt))) (b, (left, tt)) f'
-    pub leaves : left.now ≡ payload
+module _ {F T : Type 0} (g : Mut F (ℕ × (ℕ × (MutBor T × Unit {0}))) (Bool × (MutBor T × Unit {0})))
+  where
+    -- a call of f at the id, the weight and a `&mut` to the payload of a session may return b, and
+    -- leave this payload there and f as f'
+    pub record CalledAtSession (f : F) (session : Session T) (b : Bool) (payload : T) (f' : F) :
+        Type
+        0 where
+      pub lent : MutBor T
+      pub shows : lent.now ≡ session.2
+      pub left : MutBor T
+      pub called : Called g f (session.0, (session.1, (lent, tt))) (b, (left, tt)) f'
+      pub leaves : left.now ≡ payload
 
-  -- f was called at each session in turn, and the last argument has those at which it returned
-  -- `true`, in order, with their weights and the payloads that it left there
-  abbrev pub RetainsSessions : F → List (Session T) → List (Session T) → Type 0
-  RetainsSessions f [] kept = kept ≡ []
-  RetainsSessions f (session ∷ sessions) kept =
-      (b : Bool) × (payload : T) × (f' : F) × (rest : List (Session T)) × CalledAtSession f session b payload f' × RetainsSessions f' sessions rest × (kept ≡ cond b ((session.0, session.1, payload) ∷ rest) rest)
+    -- f was called at each session in turn, and the last argument has those at which it returned
+    -- `true`, in order, with their weights and the payloads that it left there. Of the first session:
+    -- what the call returned, the payload and the closure that it left, and what is kept of the rest
+    abbrev pub RetainsSessions : F → List (Session T) → List (Session T) → Type 0
+    RetainsSessions f [] kept = kept ≡ []
+    RetainsSessions f (session ∷ sessions) kept = record {
+      returned : Bool;
+      payload : T;
+      closure : F;
+      rest : List (Session T);
+      called : CalledAtSession f session returned payload closure;
+      retained : RetainsSessions closure sessions rest;
+      kept_is : kept ≡ cond returned ((session.0, session.1, payload) ∷ rest) rest;
+    }

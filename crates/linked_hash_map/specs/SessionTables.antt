@@ -55,7 +55,9 @@ module _ {T : Type 0} where
   -- theirs do, and else that of the sessions behind the first
   abbrev pub fit : ℕ → List (Session T) → List (Session T)
   fit limit [] = []
-  fit limit (session ∷ sessions) = if nat_le (total_weight (session ∷ sessions)) limit then session ∷ sessions else fit limit sessions
+  fit limit (session ∷ sessions) =
+      if nat_le (total_weight (session ∷ sessions)) limit then session
+      ∷ sessions else fit limit sessions
 
   -- some sessions come before this end of the list, and the two make the list
   abbrev pub IsEnd : List (Session T) → List (Session T) → Type 0
@@ -65,7 +67,8 @@ module _ {T : Type 0} where
   pub record IsLongestEnd (limit : ℕ) (sessions end : List (Session T)) : Type 0 where
     pub is_end : IsEnd sessions end
     pub fits : total_weight end ≤ limit
-    pub longest : (other : List (Session T)) → IsEnd sessions other → total_weight other ≤ limit → length other ≤ length end
+    pub longest : (other : List (Session T)) → IsEnd sessions other → total_weight other ≤ limit
+        → length other ≤ length end
 
   -- what holds of every table: no two sessions have one id, and the weights sum to at most the
   -- limit
@@ -75,9 +78,11 @@ module _ {T : Type 0} where
 
   -- a table is stored as the pair of its fields
   abbrev pub session_code : Coded T → Coded (Session T)
-  session_code payload = code_by (ℕ × (ℕ × T)) (coded× coded_ℕ (coded× coded_ℕ payload)) (λ s. (s.0, (s.1, s.2))) (λ p. (p.0, p.1.0, p.1.1)) (λ _. refl)
+  session_code payload =
+      code_by (ℕ × (ℕ × T)) (coded× coded_ℕ (coded× coded_ℕ payload)) (λ s. (s.0, (s.1, s.2))) (λ p.
+      (p.0, p.1.0, p.1.1)) (λ _. refl)
 
   abbrev pub session_table_code : Coded T → Coded (SessionTable T)
   session_table_code payload =
-      code_by (List (Session T) × ℕ) (coded× (coded_list (session_code payload)) coded_ℕ) (λ table. (table.sessions, table.limit))
-      (λ p. session_table p.0 p.1) (λ _. refl)
+      code_by (List (Session T) × ℕ) (coded× (coded_list (session_code payload)) coded_ℕ)
+      (λ table. (table.sessions, table.limit)) (λ p. session_table p.0 p.1) (λ _. refl)

@@ -12,8 +12,9 @@ module _ {T : Type 0} where
   sessions_of pairs = map (λ pair. (pair.0, pair.1.weight, pair.1.payload)) pairs
 
   -- the map is valid and in Touch, the total is the sum of the weights, and it is at most the limit
-  pub record IsKeptWithin {S : Type 0} (m : LinkedMap ℕ (Weighted T) S) (total limit : ℕ) : Type 0 where
-    pub valid : IsValid nat_eq m
-    pub mode : m.mode ≡ Touch
-    pub sum : total ≡ total_weight (sessions_of m.pairs)
-    pub within : total ≤ limit
+  pub record IsKeptWithin {S : Type 0} (m : LinkedMap ℕ (Weighted T) S) (total limit : ℕ) : Type 0
+    where
+      pub valid : IsValid nat_eq m
+      pub mode : m.mode ≡ Touch
+      pub sum : total ≡ total_weight (sessions_of m.pairs)
+      pub within : total ≤ limit

@@ -8,5 +8,6 @@ use Rattle.linked_hash_map.specs.declared.map.Mode.TheVariants.{Touch, Keep}
 
 -- ks are the nodes hs: in Touch with the one at p behind the others, in Keep as they were
 abbrev pub IsTouched : {B : Type 0} → Mode → Ptr → List (Held B) → List (Held B) → Type 0
-IsTouched Touch p hs ks = AtHeld hs p (λ xs t ys. ks ≡ (xs ++ ys) ++ t ∷ []) × IsApart (map (λ t. t.at) hs)
+IsTouched Touch p hs ks =
+    AtHeld hs p (λ xs t ys. ks ≡ (xs ++ ys) ++ t ∷ []) × IsApart (map (λ t. t.at) hs)
 IsTouched Keep p hs ks = ks ≡ hs

@@ -16,7 +16,7 @@ impl<K: Eq + Hash, V, S: BuildHasher> LinkedHashMap<K, V, S> {
     /// Inserts the items one by one, as `insert` does, until one is refused.
     ///
     /// The error has the key and the value of that item; the pairs before it stay, and no later
-    /// item is taken.
+    /// item is taken. Each item costs and allocates what its insertion does.
     ///
     /// # Examples
     ///
@@ -66,7 +66,8 @@ impl<K: Eq + Hash, V, S: BuildHasher> LinkedHashMap<K, V, S> {
         Ok(())
     }
 
-    /// Inserts copies of the referenced pairs, as `extend` does. The error has copies too.
+    /// Inserts copies of the referenced pairs, as `extend` does, at the same cost. The error has
+    /// copies too.
     ///
     /// # Examples
     ///

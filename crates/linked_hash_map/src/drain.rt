@@ -10,19 +10,6 @@ use std::iter::FusedIterator;
 ///
 /// Its methods are O(1) and do not allocate. Dropping it drops the pairs left, in O(n); forgetting
 /// it leaks them, and nothing else.
-///
-/// # Examples
-///
-/// ```rust
-/// let mut map = LinkedHashMap::new(rt.alloc());
-/// map.insert('x', 1)?;
-/// map.insert('y', 2)?;
-/// let mut pairs = map.drain();
-/// assert_eq!(rt; pairs.next(), Some(('x', 1)));
-/// assert_eq!(rt; pairs.len(), 1);
-/// drop(pairs);
-/// assert_eq!(rt; (map.len(), map.capacity()), (0, 2));
-/// ```
 pub struct Drain<'a, K, V> {
     nodes: table::Drain<'a, K, V>,
 }

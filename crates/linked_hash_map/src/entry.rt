@@ -36,8 +36,8 @@ pub enum Entry<'a, K: Eq + Hash, V, S: BuildHasher = DefaultHashBuilder> {
     Vacant(VacantEntry<'a, K, V, S>),
 }
 
-/// The entry of a present key. Its methods neither hash or compare a key, nor allocate, nor end the
-/// visit of a cursor.
+/// The entry of a present key. Its methods hash and compare no key, do not allocate, and do not end
+/// the visit of a cursor.
 ///
 /// # Examples
 ///

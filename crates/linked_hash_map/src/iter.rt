@@ -27,19 +27,6 @@ pub use values::Values;
 
 /// A fused double-ended iterator over the pairs of a map, returned by `iter` or a loop over `&map`.
 /// Its methods are O(1) and do not allocate.
-///
-/// # Examples
-///
-/// ```rust
-/// let mut map = LinkedHashMap::new(rt.alloc());
-/// map.insert('x', 1)?;
-/// map.insert('y', 2)?;
-/// let mut pairs = map.iter();
-/// assert_eq!(rt; pairs.next(), Some((&'x', &1)));
-/// let mut rest = pairs.clone()?;
-/// assert_eq!(rt; rest.next_back(), Some((&'y', &2)));
-/// assert_eq!(rt; (pairs.len(), rest.len()), (1, 0));
-/// ```
 #[derive(Drop)]
 pub struct Iter<'a, K, V> {
     nodes: table::Iter<'a, K, V>,

@@ -56,7 +56,8 @@
 //!
 //! A call that takes a key hashes it once; pops and rehashes hash no key. Lookups, insertions and
 //! removals are O(1) on average, and O(n) if all keys hash alike or if an insertion changes the
-//! number of buckets. No removal allocates or frees: `shrink_to_fit` and the end of a map free.
+//! number of buckets. No removal allocates or frees; `shrink_to_fit` and the end of a map give memory
+//! back.
 //!
 //! Nothing panics. A call that allocates returns a `Result`: [`Refused`] has the pair that was not
 //! inserted, [`ReserveError`] tells too large a capacity from an allocation that failed, and

@@ -37,17 +37,6 @@ pub const LIMIT: usize = 576460752303423488;
 ///
 /// Whoever chooses the keys can make them collide: use a random seed for untrusted keys, as
 /// `RandomState` and the original's default have.
-///
-/// # Examples
-///
-/// ```rust
-/// use linked_hash_map::{DefaultHashBuilder, LinkedHashMap};
-///
-/// let builder = DefaultHashBuilder::new();
-/// let mut map = LinkedHashMap::with_capacity_and_hasher(rt.alloc(), 2, builder)?;
-/// map.insert('x', 1)?;
-/// assert_eq!(rt; (map.len(), map.capacity()), (1, 2));
-/// ```
 pub type DefaultHashBuilder = BuildHasherDefault<FoldHasher>;
 
 /// Whether inserting a present key moves its pair to the back. A new map is in `Touch`, as the

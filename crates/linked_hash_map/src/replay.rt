@@ -411,20 +411,6 @@ fn reply_to<K: Eq + Hash + Drop, V: Drop, S: BuildHasher>(
 /// the refused one. The replies are allocated first: if that fails, nothing runs and the error is
 /// the commands. An empty list is never refused. Besides, each command costs and allocates what its
 /// call does.
-///
-/// # Examples
-///
-/// ```rust
-/// use linked_hash_map::LinkedHashMap;
-/// use linked_hash_map::replay::{Answer, Command, replay};
-///
-/// let mut map = LinkedHashMap::new(rt.alloc());
-/// let commands = Vec::from_array(rt.alloc(), [Command::Insert('x', 1), Command::PopFront])?;
-/// let mut replies = replay(&mut map, commands)?.into_iter();
-/// assert_eq!(rt; replies.next().map(|reply| reply.answer), Some(Answer::New));
-/// assert_eq!(rt; replies.next().map(|reply| reply.answer), Some(Answer::Pair('x', 1)));
-/// assert_eq!(rt; (map.len(), map.capacity()), (0, 1));
-/// ```
 pub fn replay<K: Eq + Hash + Drop, V: Drop, S: BuildHasher>(
     map: &mut LinkedHashMap<K, V, S>,
     commands: Vec<Command<K, V>>,

@@ -126,10 +126,10 @@ impl<T> Sessions<T> {
     /// the longest end of the order that fits, always with the new session. The replaced one does
     /// not count.
     ///
-    /// Returns `TooHeavy` exactly if the weight is above the limit, and else `NoRoom` if an
+    /// Returns `TooHeavy` exactly if the weight is above the limit, otherwise `NoRoom` if an
     /// allocation fails or the map is full, with the payload; the table is then unchanged. It
-    /// allocates at most once: a vector of exactly the sessions removed, or, if there are none,
-    /// room for a new id. A present id that removes none is never refused as `NoRoom`. It is O(n)
+    /// allocates before it changes anything: a vector of exactly the sessions removed, or, if there
+    /// are none, room for a new id. It looks the id up twice. A present id that removes none is never refused as `NoRoom`. It is O(n)
     /// for n sessions removed, or, if the number of buckets changes, for n sessions in the table.
     ///
     /// # Examples
@@ -195,7 +195,7 @@ impl<T> Sessions<T> {
     }
 
     /// Moves the session with an id, if present, to the back and returns a mutable reference to its
-    /// payload; else nothing changes. It is O(1) on average and does not allocate.
+    /// payload; otherwise nothing changes. It is O(1) on average and does not allocate.
     ///
     /// # Examples
     ///
@@ -263,14 +263,6 @@ impl<T> Sessions<T> {
     }
 
     /// Returns the number of sessions. It is O(1) and does not allocate.
-    ///
-    /// # Examples
-    ///
-    /// ```rust
-    /// let mut table = Sessions::new(rt.alloc(), 10);
-    /// table.put(1, 4, "a")?;
-    /// assert_eq!(rt; (table.len(), table.total()), (1, 4));
-    /// ```
     pub fn len(&self) -> usize
         ensures len { result ≡ length self.now.sessions }
         ensures valid { IsValidTable self.now }

@@ -6,7 +6,7 @@ mod counting;
 mod cursor;
 mod drops;
 mod large;
-mod look_ups;
+mod lookups;
 mod many_sessions;
 mod multiple;
 mod plain_map;

@@ -10,8 +10,10 @@ has_count pair = not (pair.1 == 0)
 module _ {K : Type 0} (eq : K → K → Bool) where
   -- each word has as its count how often it comes among the words, which is 0 if it has none
   abbrev pub HasCounts : List (K × ℕ) → List K → Type 0
-  HasCounts counts words = (word : K) → unwrap_or (value_at eq counts word) 0 ≡ count_by (eq word) words
+  HasCounts counts words =
+      (word : K) → unwrap_or (value_at eq counts word) 0 ≡ count_by (eq word) words
 
   -- each word once, in the order in which the words first come
   abbrev pub first_seen : List K → List K
-  first_seen words = fold (λ seen word. if list_any (eq word) seen then seen else seen ++ word ∷ []) [] words
+  first_seen words =
+      fold (λ seen word. if list_any (eq word) seen then seen else seen ++ word ∷ []) [] words

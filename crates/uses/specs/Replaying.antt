@@ -7,4 +7,5 @@ use Rattle.linked_hash_map.specs.declared.replay.Reply.{Reply}
 
 -- a run gave replies, and none is a refusal
 abbrev pub RefusesNothing : {K V E : Type 0} → Result (Vec (Reply K V)) E → Type 0
-RefusesNothing run = IsOkAnd run (λ replies. IsFalse (list_any (λ reply. is_refusal reply.answer) replies.items))
+RefusesNothing run =
+    IsOkAnd run (λ replies. IsFalse (list_any (λ reply. is_refusal reply.answer) replies.items))

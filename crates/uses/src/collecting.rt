@@ -1,10 +1,10 @@
 //! Maps that take in what others have.
-ghost use Rattle.std.specs.Prelude.{◌≡◌, ◌≤◌, ◌-◌, ◌++◌, ℕ, [], length, filter, not, is_some, None, IfOk, IfErr, OnOk, OnErr};
+ghost use Rattle.std.specs.Prelude.{◌≡◌, ◌≤◌, ◌-◌, ◌++◌, ℕ, [], length, map, filter, not, is_some, None, IfOk, IfErr, OnOk, OnErr};
 ghost use Rattle.std.specs.List.{IsDistinct};
 ghost use Rattle.std.specs.Map.{keys_of};
 ghost use Rattle.std.specs.Option.{option_or};
 ghost use Rattle.linked_hash_map.specs.Counts.{rechained_each};
-ghost use Rattle.linked_hash_map.specs.Pairs.{find, value_at};
+ghost use Rattle.linked_hash_map.specs.Pairs.{key_or, find, value_at};
 ghost use Rattle.linked_hash_map.specs.Inserts.{insert_each};
 
 use linked_hash_map::{LinkedHashMap, Mode, Refused, ReserveError};
@@ -27,27 +27,34 @@ pub fn insert_all<K: Eq + Hash + Drop, V: Drop, S: BuildHasher>(
 }
 
 /// Puts in the pairs of another map, whose values win. In `Keep` the keys of the first map stand in
-/// their places, and the new ones come behind them, in order. The first pair that finds no memory
-/// is handed back, and those before it stay.
+/// their places, and the new ones come behind them, in order. In `Touch` all keys of the other map
+/// come behind those that it does not have, each as the first map stores it. The first pair that
+/// finds no memory is handed back, and those before it stay.
 pub fn merge<K: Eq + Hash + Drop, V: Drop, S: BuildHasher, T: BuildHasher + Drop>(
-    map: &mut LinkedHashMap<K, V, S>,
+    target: &mut LinkedHashMap<K, V, S>,
     others: LinkedHashMap<K, V, T>,
 ) -> Result<(), Refused<K, V>>
     ensures all { OnOk result
-        (map.new.pairs ≡ insert_each K.eq map.old.mode map.old.pairs others.pairs) }
+        (target.new.pairs ≡ insert_each K.eq target.old.mode target.old.pairs others.pairs) }
     ensures values { OnOk result
-        ((key : K) → value_at K.eq map.new.pairs key
-        ≡ option_or (value_at K.eq others.pairs key) (value_at K.eq map.old.pairs key)) }
+        ((key : K) → value_at K.eq target.new.pairs key
+        ≡ option_or (value_at K.eq others.pairs key) (value_at K.eq target.old.pairs key)) }
     ensures keep { OnOk result
-        (map.old.mode ≡ Mode.Keep
-        → keys_of map.new.pairs
-        ≡ keys_of map.old.pairs
-        ++ filter (λ key. not (is_some (find K.eq map.old.pairs key)))
+        (target.old.mode ≡ Mode.Keep
+        → keys_of target.new.pairs
+        ≡ keys_of target.old.pairs
+        ++ filter (λ key. not (is_some (find K.eq target.old.pairs key)))
         (keys_of others.pairs)) }
-    ensures absent { IfErr result (λ refused. find K.eq map.new.pairs refused.key ≡ None) }
-    ensures full { OnErr result (length map.new.pairs ≡ map.new.capacity) }
+    ensures touch { OnOk result
+        (target.old.mode ≡ Mode.Touch
+        → keys_of target.new.pairs
+        ≡ filter (λ key. not (is_some (find K.eq others.pairs key)))
+        (keys_of target.old.pairs)
+        ++ map (λ key. key_or key (find K.eq target.old.pairs key)) (keys_of others.pairs)) }
+    ensures absent { IfErr result (λ refused. find K.eq target.new.pairs refused.key ≡ None) }
+    ensures full { OnErr result (length target.new.pairs ≡ target.new.capacity) }
 {
-    map.extend(others)?;
+    target.extend(others)?;
     Ok(())
 }
 

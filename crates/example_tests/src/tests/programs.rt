@@ -23,7 +23,7 @@ use uses::queue::Queue;
 use uses::refusal::{insert_anyway, insert_if_new};
 use uses::replaying::{Outcome, replay_under_two_hashers, write_refresh_remove};
 use uses::retains::{age, keep_frequent};
-use uses::text::{age_of, note_age};
+use uses::text::{age_of, first_page, note_age};
 use uses::window::Window;
 
 /// Returns the value of an `Ok`, as `given` does, and tells a proof which value it is.
@@ -193,7 +193,7 @@ fn check_insertions<S: BuildHasher + Drop>(
 }
 
 #[test]
-fn two_hashers_answer_the_same(rt: HostRuntime) {
+fn two_hashers_give_the_same_replies(rt: HostRuntime) {
     let mut map = LinkedHashMap::new(rt.alloc());
     let mut other = LinkedHashMap::with_hasher(rt.alloc(), given!(rt; RandomState::new(&rt)));
     let commands = three_insertions(&rt, rt.alloc());
@@ -330,6 +330,9 @@ fn text_is_a_key(rt: HostRuntime) {
     let ann = given!(rt; String::from_str(rt.alloc(), "ann"));
     given!(rt; note_age(&mut ages, given!(rt; ann.clone()), 3));
     check_eq!(rt; age_of(&ages, &ann), Some(3));
+    let mut pages = LinkedHashMap::new(rt.alloc());
+    check_eq!(rt; first_page(&mut pages, "ant", 3), Ok(3));
+    check_eq!(rt; first_page(&mut pages, "ant", 5), Ok(3));
 }
 
 #[test]

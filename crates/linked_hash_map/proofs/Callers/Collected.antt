@@ -1,23 +1,23 @@
 -- For callers: insertions one after another.
-use Rattle.std.proofs.Common.{◌≡◌, ◌+◌, ◌≤◌, Bool, true, false, cond, not, ◌||◌, List, [], ◌∷◌, ◌++◌, length, filter, reverse, append_assoc, append-nil, Option, Some, None, is_some, true≢false, option_map, refl, sym, ap, ap₂, ◌∙◌, arith}
+use Rattle.std.proofs.Common.{◌≡◌, ◌+◌, ◌≤◌, Bool, true, false, cond, not, ◌||◌, List, [], ◌∷◌, ◌++◌, length, map, filter, reverse, append_assoc, append-nil, Option, Some, is_some, option_map, IsTrue, refl, sym, ap, ap₂, ◌∙◌, arith}
 use Rattle.std.specs.Option.{option_or}
 use Rattle.std.specs.List.{IsDistinct, AllByRecursion}
 use Rattle.std.specs.Map.{keys_of}
 use Rattle.std.proofs.lemmas.List.{reverse-append}
+use Rattle.std.proofs.lemmas.List.Elements.{filter-append}
 use Rattle.std.specs.Cmp.{IsEquivalence}
 use Rattle.std.proofs.lemmas.Map.Keys.{IsDistinct-head, IsDistinct-tail}
 use Rattle.linked_hash_map.specs.declared.map.Mode.{Mode}
-use Rattle.linked_hash_map.specs.declared.map.Mode.TheVariants.{Keep}
-use Rattle.linked_hash_map.specs.Pairs.{key_or, find, value_at, set_or_push, put}
+use Rattle.linked_hash_map.specs.declared.map.Mode.TheVariants.{Touch, Keep}
+use Rattle.linked_hash_map.specs.Pairs.{key_or, find, value_at, to_back, set_or_push, put}
 use Rattle.linked_hash_map.specs.Inserts.{insert_each}
 use Rattle.linked_hash_map.proofs.Lists.{by_last}
-use Rattle.linked_hash_map.proofs.LiveKeys.{none_is}
-use Rattle.linked_hash_map.proofs.Inserts.{insert_each-last, length-grows, length-put_most, distinct-put}
-use Rattle.linked_hash_map.proofs.Callers.Keys.{keys_of-set_or_push}
-use Rattle.linked_hash_map.proofs.Callers.Lookups.{value_at-put, find-put, find-set_or_push_apart}
+use Rattle.linked_hash_map.proofs.Inserts.{insert_each-last, length-put_most, distinct-put}
+use Rattle.linked_hash_map.proofs.Callers.Keys.{keys_of-to_back, keys_of-set_or_push}
+use Rattle.linked_hash_map.proofs.Callers.Lookups.{eq-stored, value_at-put, find-put, find-to_back, find-set_or_push_apart}
 use Rattle.linked_hash_map.proofs.Callers.Turns.{find-others}
--- keys that differ still do, and items with keys that differ, inserted into nothing, are the pairs
-pub use Rattle.linked_hash_map.proofs.Inserts.{distinct-insert_each, insert_each-distinct}
+-- items with keys that differ, inserted into nothing, are the pairs
+pub use Rattle.linked_hash_map.proofs.Inserts.{insert_each-distinct}
 
 or-false : (b : Bool) → b ≡ (b || false)
 or-false true = refl
@@ -69,24 +69,7 @@ module _ {K V : Type 0} {eq : K → K → Bool} (laws : IsEquivalence eq) where
       by_test true same false older = ap (λ b. is_some (cond b (Some (key_or item.0 (find eq pairs item.0), item.1)) (find eq pairs q)) || is_some (find eq items q)) same ∙ sym (ap (λ h. h || true) older)
       by_test false same h older = ap (λ b. is_some (cond b (Some (key_or item.0 (find eq pairs item.0), item.1)) (find eq pairs q)) || is_some (find eq items q)) same
 
-  -- so one that is absent then was absent
-  pub find-insert_each_absent : (mode : Mode) (pairs items : List (K × V)) (q : K)
-      → find eq (insert_each eq mode pairs items) q ≡ None → find eq pairs q ≡ None
-  find-insert_each_absent mode pairs items q absent = none_is (find eq pairs q) (none_of (is_some (find eq pairs q)) (sym (is_some-insert_each mode pairs items q) ∙ ap is_some absent))
-    where
-      none_of : (b : Bool) → (b || is_some (find eq items q)) ≡ false → b ≡ false
-      none_of true h = absurd (true≢false h)
-      none_of false h = refl
-
-  -- no pair goes, and one for each item comes at most
-  pub length-insert_each_least : (mode : Mode) (pairs items : List (K × V))
-      → IsDistinct eq (keys_of pairs) → length pairs ≤ length (insert_each eq mode pairs items)
-  length-insert_each_least mode pairs [] distinct = omega arith
-  length-insert_each_least mode pairs (item ∷ items) distinct =
-      let rest = length-insert_each_least mode (put eq mode pairs item.0 item.1) items (distinct-put laws mode pairs item.0 item.1 distinct) in
-      let grows = length-grows laws mode pairs item.0 item.1 distinct in
-      omega arith
-
+  -- one pair for each item comes at most
   pub length-insert_each_most : (mode : Mode) (pairs items : List (K × V))
       → IsDistinct eq (keys_of pairs)
       → length (insert_each eq mode pairs items) ≤ length pairs + length items
@@ -110,7 +93,7 @@ module _ {K V : Type 0} {eq : K → K → Bool} (laws : IsEquivalence eq) (mode 
     where
       by_test : (b : Bool) → eq q item.0 ≡ b → option_or (value_at eq items q) (cond (eq item.0 q) (Some item.1) (value_at eq pairs q)) ≡ option_or (option_map (λ (pair : K × V). pair.1) (cond b (Some item) (find eq items q))) (value_at eq pairs q)
       by_test true same =
-          let none = find-others laws items item q distinct same in
+          let none = find-others laws items q item distinct same in
           ap (λ o. option_or (option_map (λ (pair : K × V). pair.1) o) (cond (eq item.0 q) (Some item.1) (value_at eq pairs q))) none
           ∙ ap (λ b. cond b (Some item.1) (value_at eq pairs q)) (laws.symm item.0 q ∙ same)
       by_test false apart = ap (λ b. option_or (value_at eq items q) (cond b (Some item.1) (value_at eq pairs q))) (laws.symm item.0 q ∙ apart)
@@ -138,3 +121,65 @@ module _ {K V : Type 0} {eq : K → K → Bool} (laws : IsEquivalence eq) where
       by_test : (b : Bool) → cond b (keys_of pairs) (keys_of pairs ++ item.0 ∷ []) ++ filter (λ k. not (is_some (find eq pairs k))) (keys_of items) ≡ keys_of pairs ++ cond (not b) (item.0 ∷ filter (λ k. not (is_some (find eq pairs k))) (keys_of items)) (filter (λ k. not (is_some (find eq pairs k))) (keys_of items))
       by_test true = refl
       by_test false = append_assoc (keys_of pairs) (item.0 ∷ []) (filter (λ k. not (is_some (find eq pairs k))) (keys_of items))
+
+-- in Touch the old keys that do not come again stand before those that come, each as it is stored
+filter-filter : {K : Type 0} (one other both : K → Bool) → ((k : K) → cond (other k) (one k) false ≡ both k) → (ks : List K) → filter one (filter other ks) ≡ filter both ks
+filter-filter one other both says [] = refl
+filter-filter one other both says (k ∷ ks) = by_test (other k) (says k) (filter-filter one other both says ks)
+  where
+    by_test : (b : Bool) → cond b (one k) false ≡ both k → filter one (filter other ks) ≡ filter both ks → filter one (cond b (k ∷ filter other ks) (filter other ks)) ≡ cond (both k) (k ∷ filter both ks) (filter both ks)
+    by_test true same rest = ap₂ (λ c xs. cond c (k ∷ xs) xs) same rest
+    by_test false same rest = rest ∙ ap (λ c. cond c (k ∷ filter both ks) (filter both ks)) same
+
+filter-last : {K : Type 0} (test : K → Bool) (ks : List K) (k : K) → test k ≡ true → filter test (ks ++ k ∷ []) ≡ filter test ks ++ k ∷ []
+filter-last test ks k passes = filter-append test ks (k ∷ []) ∙ ap (λ b. filter test ks ++ cond b (k ∷ []) []) passes
+
+module _ {K V : Type 0} {eq : K → K → Bool} (laws : IsEquivalence eq) where
+  stored-to_back : (pairs : List (K × V)) (k : K) (v : V) (ks : List K) → AllByRecursion (λ j. eq k j ≡ false) ks → map (λ j. key_or j (find eq (to_back eq pairs k v) j)) ks ≡ map (λ j. key_or j (find eq pairs j)) ks
+  stored-to_back pairs k v [] apart = refl
+  stored-to_back pairs k v (j ∷ ks) apart = ap₂ (λ i rest. i ∷ rest)
+      (ap (key_or j) (find-to_back laws pairs k j v ∙ ap (λ b. cond b (Some (key_or k (find eq pairs k), v)) (find eq pairs j)) apart.0))
+      (stored-to_back pairs k v ks apart.1)
+
+  -- a key does not come again if it is not the first item's and none of the others
+  not_again : (items : List (K × V)) (item : K × V) (j : K) → cond (not (eq item.0 j)) (not (is_some (find eq items j))) false ≡ not (is_some (cond (eq j item.0) (Some item) (find eq items j)))
+  not_again items item j = by_test (eq item.0 j) (laws.symm j item.0)
+    where
+      by_test : (b : Bool) → eq j item.0 ≡ b → cond (not b) (not (is_some (find eq items j))) false ≡ not (is_some (cond (eq j item.0) (Some item) (find eq items j)))
+      by_test true same = sym (ap (λ b. not (is_some (cond b (Some item) (find eq items j)))) same)
+      by_test false apart = sym (ap (λ b. not (is_some (cond b (Some item) (find eq items j)))) apart)
+
+  pub keys_of-insert_each_touch : (pairs items : List (K × V)) → IsDistinct eq (keys_of items)
+      → keys_of (insert_each eq Touch pairs items)
+      ≡ filter (λ k. not (is_some (find eq items k))) (keys_of pairs)
+      ++ map (λ k. key_or k (find eq pairs k)) (keys_of items)
+  keys_of-insert_each_touch pairs [] distinct = sym (append-nil (filter (λ k. true) (keys_of pairs)) ∙ filter-all (keys_of pairs))
+    where
+      filter-all : (ks : List K) → filter (λ k. true) ks ≡ ks
+      filter-all [] = refl
+      filter-all (k ∷ ks) = ap (λ xs. k ∷ xs) (filter-all ks)
+  keys_of-insert_each_touch pairs (item ∷ items) distinct =
+      let apart = IsDistinct-head eq item.0 (keys_of items) distinct in
+      let stored = key_or item.0 (find eq pairs item.0) in
+      let again : K → Bool = λ k. not (is_some (find eq items k)) in
+      let old = filter (λ j. not (eq item.0 j)) (keys_of pairs) in
+      let come = map (λ j. key_or j (find eq pairs j)) (keys_of items) in
+      let gone = find-others laws items stored item distinct (laws.symm stored item.0 ∙ eq-stored laws pairs item.0) in
+      keys_of-insert_each_touch (to_back eq pairs item.0 item.1) items (IsDistinct-tail eq item.0 (keys_of items) distinct)
+      ∙ ap₂ (λ ks js. filter again ks ++ js) (keys_of-to_back eq pairs item.0 item.1) (stored-to_back pairs item.0 item.1 (keys_of items) apart)
+      ∙ ap (λ ks. ks ++ come) (filter-last again old stored (ap (λ o. not (is_some o)) gone))
+      ∙ append_assoc (filter again old) (stored ∷ []) come
+      ∙ ap (λ ks. ks ++ stored ∷ come) (filter-filter again (λ j. not (eq item.0 j)) (λ j. not (is_some (find eq (item ∷ items) j))) (not_again items item) (keys_of pairs))
+
+  -- where equality decides `≡`, those that come stand as they came
+  pub keys_of-insert_each_touch_own : (pairs items : List (K × V)) → IsDistinct eq (keys_of items)
+      → ((a b : K) → IsTrue (eq a b) → a ≡ b)
+      → keys_of (insert_each eq Touch pairs items)
+      ≡ filter (λ k. not (is_some (find eq items k))) (keys_of pairs) ++ keys_of items
+  keys_of-insert_each_touch_own pairs items distinct decides =
+      keys_of-insert_each_touch pairs items distinct
+      ∙ ap (λ ks. filter (λ k. not (is_some (find eq items k))) (keys_of pairs) ++ ks) (own (keys_of items))
+    where
+      own : (ks : List K) → map (λ k. key_or k (find eq pairs k)) ks ≡ ks
+      own [] = refl
+      own (k ∷ ks) = ap₂ (λ j js. j ∷ js) (sym (decides k (key_or k (find eq pairs k)) (eq-stored laws pairs k))) (own ks)

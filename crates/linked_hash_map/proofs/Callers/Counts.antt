@@ -1,5 +1,5 @@
 -- For callers: how many buckets a capacity has.
-use Rattle.std.proofs.Common.{ℕ, ◌*◌, ◌<◌, ◌≤◌, ◌≡◌, inl, inr, sym, arith}
+use Rattle.std.proofs.Common.{ℕ, ◌<◌, ◌≤◌, ◌≡◌, inl, inr, sym, arith}
 use Rattle.std.proofs.lemmas.Nat.{pow_pos}
 use Rattle.std.specs.Int.{IsPowerOfTwo}
 use Rattle.lhm_ring.proofs.BucketCounts as ring
@@ -23,10 +23,6 @@ buckets_least c some =
           let own : m ≡ buckets m = ring.buckets_is m m power (omega arith) (omega arith) (omega arith) in
           elim (ring.buckets_raised c m enough) [ inl same ↦ omega arith | inr more ↦ omega arith ];
     }
-
--- there are fewer buckets than twice the capacity
-pub buckets_lt : (c : ℕ) → 0 < c → buckets c < 2 * c
-buckets_lt = ring.buckets_lt
 
 -- a power of two has as many buckets as it is
 pub buckets_power : (c : ℕ) → IsPowerOfTwo c → buckets c ≡ c

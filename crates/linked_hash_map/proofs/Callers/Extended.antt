@@ -1,7 +1,7 @@
 -- For callers: what `extend`, `extend_refs` and `from_iter` leave, where the items that an iterator
 -- gives are known. Each lemma takes the clause of the call, and a chain proof, `YieldsList`, that
 -- what the source becomes gives the list.
-use Rattle.std.proofs.Common.{◌≡◌, ℕ, ◌+◌, ◌-◌, ◌≤◌, max, Bool, not, List, [], ◌++◌, length, take, filter, slice_get, Option, Some, None, is_some, Vec, vec_items, vec_len, refl, sym, ap, ◌∙◌, arith}
+use Rattle.std.proofs.Common.{◌≡◌, ℕ, ◌+◌, ◌-◌, ◌≤◌, max, Bool, not, List, [], ◌++◌, length, map, take, filter, slice_get, Option, Some, None, is_some, Vec, vec_items, vec_len, refl, sym, ap, ◌∙◌, arith}
 use Rattle.std.specs.List.{IsDistinct}
 use Rattle.std.specs.Map.{keys_of}
 use Rattle.std.specs.Option.{option_or}
@@ -16,10 +16,10 @@ use Rattle.std.proofs.lemmas.List.{map-id}
 use Rattle.linked_hash_map.specs.Counts.{rechained_each}
 use Rattle.linked_hash_map.specs.declared.map.Mode.{Mode}
 use Rattle.linked_hash_map.specs.declared.map.Mode.TheVariants.{Touch, Keep}
-use Rattle.linked_hash_map.specs.Pairs.{find, value_at}
+use Rattle.linked_hash_map.specs.Pairs.{key_or, find, value_at}
 use Rattle.linked_hash_map.specs.Inserts.{insert_each, GivesAtMost, InsertsAll, InsertsUntil, Collects}
 use Rattle.linked_hash_map.proofs.Callers.Keys.{distinct-nil}
-use Rattle.linked_hash_map.proofs.Callers.Collected.{insert_each-distinct, length-insert_each_most, value_at-insert_each_distinct, keys_of-insert_each_keep}
+use Rattle.linked_hash_map.proofs.Callers.Collected.{insert_each-distinct, length-insert_each_most, value_at-insert_each_distinct, keys_of-insert_each_keep, keys_of-insert_each_touch}
 
 module _ {T I X K V : Type 0} {becomes : T → I → Type 0} {steps : I → Option X → I → Type 0} {source : T} {eq : K → K → Bool} {shows : X → K × V} {all : List (K × V)} where
   -- `extend` of any source whose items are known
@@ -81,7 +81,7 @@ module _ {T I K V : Type 0} {becomes : T → I → Type 0} {steps : I → Option
     capacity-Collects each left =
         let bound = left collects.iterator collects.made in
         let lower = collects.hint bound.0 in
-        let most = length-insert_each_most laws Touch [] all (distinct-nil eq V) in
+        let most = length-insert_each_most laws Touch [] all (distinct-nil eq) in
         let length_is = ap length (pairs-Collects each) in
         let room = collects.room in
         (omega arith, omega arith)
@@ -118,8 +118,8 @@ pub pairs-InsertsAll_list : {T X K V : Type 0} {becomes : T → List (K × V) �
     → ((it : List (K × V)) → becomes source it → it ≡ all) → new ≡ insert_each eq mode old all
 pairs-InsertsAll_list all inserts is = pairs-InsertsAll inserts (λ it made. YieldsList-from_rest all (is it made))
 
--- and where the keys of that list differ, as those of a map do: its values win, and in Keep the old
--- keys stand before the new
+-- and where the keys of that list differ, as those of a map do: its values win, in Keep the old keys
+-- stand before the new, and in Touch before those that came
 module _ {T K V : Type 0} {becomes : T → List (K × V) → Type 0} {source : T} {eq : K → K → Bool} (laws : IsEquivalence eq) {mode : Mode} {old new : List (K × V)} (all : List (K × V)) where
   pub value_at-InsertsAll_distinct : (q : K)
       → InsertsAll becomes (TakesFirst (λ (pair : K × V). pair)) source eq (λ pair. pair)
@@ -140,8 +140,19 @@ module _ {T K V : Type 0} {becomes : T → List (K × V) → Type 0} {source : T
       ∙ ap (λ m. keys_of (insert_each eq m old all)) keep
       ∙ keys_of-insert_each_keep laws old all (is inserts.gives.iterator inserts.gives.made).1
 
+  pub keys_of-InsertsAll_touch : InsertsAll becomes (TakesFirst (λ (pair : K × V). pair)) source eq
+      (λ pair. pair) mode old new
+      → ((it : List (K × V)) → becomes source it → (it ≡ all) × IsDistinct eq (keys_of all))
+      → mode ≡ Touch
+      → keys_of new ≡ filter (λ k. not (is_some (find eq all k))) (keys_of old)
+      ++ map (λ k. key_or k (find eq old k)) (keys_of all)
+  keys_of-InsertsAll_touch inserts is touch =
+      ap keys_of (pairs-InsertsAll_list all inserts (λ it made. (is it made).0))
+      ∙ ap (λ m. keys_of (insert_each eq m old all)) touch
+      ∙ keys_of-insert_each_touch laws old all (is inserts.gives.iterator inserts.gives.made).1
+
 -- what a vector becomes gives its items, and has as many left
-module _ {T Z K V : Type 0} (becomes : T → _ → Type 0) (source : T) (vec : Vec (K × V) Z) (is : (it : _) → becomes source it → (into_iter_items {X = K × V} {Z = Z} it ≡ vec_items vec) × (into_iter_len it ≡ vec_len vec)) where
+module _ {T Z K V : Type 0} (becomes : T → _ → Type 0) (vec : Vec (K × V) Z) (source : T) (is : (it : _) → becomes source it → (into_iter_items {X = K × V} {Z = Z} it ≡ vec_items vec) × (into_iter_len it ≡ vec_len vec)) where
   yields : (it : _) → becomes source it → YieldsList into_iter_steps (λ pair. pair) it (vec_items vec)
   yields it made = let told = is it made in YieldsList-from_vec {s = it} (vec_items vec) told.0 (omega (arith, told.1, vec.ok.0))
 
@@ -152,7 +163,7 @@ module _ {T Z K V : Type 0} (becomes : T → _ → Type 0) (source : T) (vec : V
 -- `extend` of a vector, and `from_iter` of one
 pub pairs-InsertsAll_vec : {T Z K V : Type 0} {becomes : T → _ → Type 0} {source : T} {eq : K → K → Bool} {mode : Mode} {old new : List (K × V)} (vec : Vec (K × V) Z) → InsertsAll becomes (into_iter_steps {X = K × V} {Z = Z}) source eq (λ pair. pair) mode old new
     → ((it : _) → becomes source it → (into_iter_items {X = K × V} {Z = Z} it ≡ vec_items vec) × (into_iter_len it ≡ vec_len vec)) → new ≡ insert_each eq mode old (vec_items vec)
-pairs-InsertsAll_vec {becomes = becomes} {source} vec inserts is = pairs-InsertsAll inserts (yields becomes source vec is)
+pairs-InsertsAll_vec {becomes = becomes} {source} vec inserts is = pairs-InsertsAll inserts (yields becomes vec source is)
 
 pub pairs-Collects_vec : {T Z K V : Type 0} {becomes : T → _ → Type 0} {source : T} {eq : K → K → Bool} {pairs : List (K × V)} {capacity rechained : ℕ} (vec : Vec (K × V) Z) → Collects becomes (into_iter_steps {X = K × V} {Z = Z}) source (λ it. at_most (into_iter_len it)) eq pairs capacity rechained
     → ((it : _) → becomes source it → (into_iter_items {X = K × V} {Z = Z} it ≡ vec_items vec) × (into_iter_len it ≡ vec_len vec)) → pairs ≡ insert_each eq Touch [] (vec_items vec)
@@ -164,8 +175,8 @@ pub Collects_distinct_vec : {T Z K V : Type 0} {becomes : T → _ → Type 0} {s
     → ((it : _) → becomes source it → (into_iter_items {X = K × V} {Z = Z} it ≡ vec_items vec) × (into_iter_len it ≡ vec_len vec)) → IsDistinct eq (keys_of (vec_items vec))
     → (pairs ≡ vec_items vec) × (capacity ≡ length (vec_items vec)) × ((lower : ℕ) × (lower ≤ length (vec_items vec)) × (rechained ≡ rechained_each 0 lower (length (vec_items vec) - lower)))
 Collects_distinct_vec {becomes = becomes} {source} laws vec collects is distinct =
-    let most = GivesAtMost-vec becomes source vec is in
-    let exact = capacity-Collects_distinct laws collects (yields becomes source vec is) distinct most in
+    let most = GivesAtMost-vec becomes vec source is in
+    let exact = capacity-Collects_distinct laws collects (yields becomes vec source is) distinct most in
     let counted = rechained-Collects (length (vec_items vec)) collects most in (
       pairs-Collects_vec vec collects is ∙ insert_each-distinct laws Touch (vec_items vec) distinct,
       exact,

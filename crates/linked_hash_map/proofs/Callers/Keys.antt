@@ -1,5 +1,5 @@
 -- For callers: which pairs and keys there are after each call, and how many.
-use Rattle.std.proofs.Common.{◌≡◌, ℕ, zero, suc, ◌+◌, ◌≤◌, Bool, true, false, cond, not, ◌||◌, IsTrue, List, [], ◌∷◌, ◌++◌, length, drop, filter, Option, Some, None, is_some, option_map, refl, sym, ap, ap₂, ◌∙◌, subst, true≢false, arith, length-append}
+use Rattle.std.proofs.Common.{◌≡◌, ℕ, zero, suc, ◌+◌, ◌≤◌, Bool, true, false, cond, not, ◌||◌, IsTrue, List, [], ◌∷◌, ◌++◌, length, drop, filter, Option, Some, None, is_some, refl, sym, ap, ap₂, ◌∙◌, subst, true≢false, arith, length-append}
 use Rattle.std.specs.Option.{IsSome}
 use Rattle.std.specs.List.{IsDistinct, list_any}
 use Rattle.std.specs.Map.{lookup_entry, keys_of}
@@ -12,7 +12,7 @@ use Rattle.linked_hash_map.proofs.LiveKeys.{none_is}
 use Rattle.linked_hash_map.proofs.Callers.Lookups.{eq-stored}
 use Rattle.linked_hash_map.proofs.Pairs.{is_some-value_at, filter-none}
 -- one pair fewer exactly where the key has one; one more exactly where it has none
-pub use Rattle.linked_hash_map.proofs.Pairs.{length-without, length-to_back, length-put}
+pub use Rattle.linked_hash_map.proofs.Pairs.{length-without, length-put}
 -- keys that differ still do after an insertion
 pub use Rattle.linked_hash_map.proofs.Inserts.{distinct-to_back, distinct-put, length-put_most}
 
@@ -25,13 +25,6 @@ is_some-lookup_entry test (pair ∷ pairs) = by_test (test pair.0) (is_some-look
     by_test false rest = rest
 
 module _ {K V : Type 0} (eq : K → K → Bool) (pairs : List (K × V)) (k : K) where
-  -- a key that has no value has no pair, and so on
-  pub find-none : value_at eq pairs k ≡ None → find eq pairs k ≡ None
-  find-none none = none_is (find eq pairs k) (sym (is_some-value_at eq pairs k) ∙ ap is_some none)
-
-  pub value_at-none : find eq pairs k ≡ None → value_at eq pairs k ≡ None
-  value_at-none none = ap (option_map (λ pair. pair.1)) none
-
   -- as after a `contains_key` that returned false
   pub find-absent : is_some (find eq pairs k) ≡ false → find eq pairs k ≡ None
   find-absent absent = none_is (find eq pairs k) absent
@@ -129,10 +122,6 @@ module _ {K V : Type 0} (eq : K → K → Bool) where
       by_test true = length-set_value pairs k v
       by_test false = let longer = length-append pairs ((k, v) ∷ []) in omega arith
 
-  pub length-without_absent : (pairs : List (K × V)) (k : K) → find eq pairs k ≡ None
-      → length (without eq pairs k) ≡ length pairs
-  length-without_absent pairs k none = ap length (without-absent eq pairs k none)
-
   -- in either mode
   pub length-put_absent : (mode : Mode) (pairs : List (K × V)) (k : K) (v : V)
       → find eq pairs k ≡ None → length (put eq mode pairs k v) ≡ length pairs + 1
@@ -166,9 +155,9 @@ pub length-set_or_push_most : {K V : Type 0} (eq : K → K → Bool) (pairs : Li
     → length (set_or_push eq pairs k v) ≤ length pairs + 1
 length-set_or_push_most eq pairs k v = most (is_some (find eq pairs k)) (length pairs) (length (set_or_push eq pairs k v)) (length-set_or_push eq pairs k v)
 
-pub distinct-nil : {K : Type 0} (eq : K → K → Bool) (V : Type 0) → IsDistinct eq (keys_of {X = V} [])
+pub distinct-nil : {K : Type 0} (eq : K → K → Bool) → IsDistinct eq []
 unfolding IsDistinct
-distinct-nil eq V = tt
+distinct-nil eq = tt
 
 pub distinct-set_value : {K V : Type 0} (eq : K → K → Bool) (pairs : List (K × V)) (k : K) (v : V)
     → IsDistinct eq (keys_of pairs) → IsDistinct eq (keys_of (set_value eq pairs k v))

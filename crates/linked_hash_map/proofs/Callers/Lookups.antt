@@ -1,5 +1,5 @@
 -- For callers: what a map has at a key after each call.
-use Rattle.std.proofs.Common.{◌≡◌, ◌-◌, Bool, true, false, cond, not, List, [], ◌∷◌, ◌++◌, length, length-append, take, drop, remove, slice_get, filter, Option, Some, None, is_some, option_map, refl, sym, ap, ◌∙◌, true≢false, arith}
+use Rattle.std.proofs.Common.{◌≡◌, ◌-◌, Bool, true, false, cond, not, List, [], ◌∷◌, ◌++◌, length, length-append, drop, remove, slice_get, filter, Option, Some, None, is_some, option_map, refl, sym, ap, ◌∙◌, true≢false, arith}
 use Rattle.std.specs.List.{IsDistinct}
 use Rattle.std.specs.Option.{option_or}
 use Rattle.std.specs.Map.{lookup_entry, keys_of}
@@ -9,10 +9,7 @@ use Rattle.linked_hash_map.specs.declared.map.Mode.TheVariants.{Touch, Keep}
 use Rattle.linked_hash_map.specs.Pairs.{last, key_or, find, value_at, without, to_back, set_value, set_or_push, put}
 use Rattle.linked_hash_map.proofs.Lists.{option_or_none}
 use Rattle.linked_hash_map.proofs.LiveKeys.{same_test}
-use Rattle.linked_hash_map.proofs.Effects.{remove-last}
 use Rattle.linked_hash_map.proofs.Indexes.{without-own, slice_get-last}
--- a key has a value exactly where it has a pair
-pub use Rattle.linked_hash_map.proofs.Pairs.{is_some-value_at}
 
 -- what stands behind the others is the last
 pub last-append : {X : Type 0} (xs : List X) (x : X) → last (xs ++ x ∷ []) ≡ Some x
@@ -236,12 +233,7 @@ module _ {K V : Type 0} {eq : K → K → Bool} (laws : IsEquivalence eq) where
   value_at-put_apart Touch = value_at-to_back_apart
   value_at-put_apart Keep = value_at-set_or_push_apart
 
-  -- where the keys differ, a pop takes out what the first or the last key has, as `remove` of that
-  -- key does
-  module _ (pairs : List (K × V)) (pair : K × V) (distinct : IsDistinct eq (keys_of pairs)) where
-    pub drop-first : slice_get pairs 0 ≡ Some pair → drop 1 pairs ≡ without eq pairs pair.0
-    drop-first there = remove-first pairs ∙ sym (without-own laws pairs distinct 0 pair there)
-
-    pub take-but_last : slice_get pairs (length pairs - 1) ≡ Some pair
-        → take (length pairs - 1) pairs ≡ without eq pairs pair.0
-    take-but_last there = sym (remove-last pairs) ∙ sym (without-own laws pairs distinct (length pairs - 1) pair there)
+  -- where the keys differ, a pop takes out what the first key has, as `remove` of that key does
+  pub drop-first : (pairs : List (K × V)) (pair : K × V) → IsDistinct eq (keys_of pairs)
+      → slice_get pairs 0 ≡ Some pair → drop 1 pairs ≡ without eq pairs pair.0
+  drop-first pairs pair distinct there = remove-first pairs ∙ sym (without-own laws pairs distinct 0 pair there)

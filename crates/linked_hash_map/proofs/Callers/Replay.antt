@@ -17,9 +17,6 @@ use Rattle.linked_hash_map.specs.declared.replay.Reply.{Reply}
 use Rattle.linked_hash_map.proofs.Effects.{size-contents}
 use Rattle.linked_hash_map.proofs.Runs.{Defines-first_log}
 use Rattle.linked_hash_map.proofs.Outcomes.{outcome, write_outcome, refresh_outcome, remove_outcome, entry_remove_outcome, pop_front_outcome, pop_back_outcome, clear_outcome, set_mode_outcome}
--- what a log defines fits its capacity, its keys differ, and it goes on over insertions one after
--- another
-pub use Rattle.linked_hash_map.proofs.Outcomes.{length-defined, distinct-defined, Defines-put_each}
 
 -- a run begins with a log that defines the map
 pub Defines-first : {K V S : Type 0} {eq : K → K → Bool} → IsEquivalence eq → {m : LinkedMap K V S}

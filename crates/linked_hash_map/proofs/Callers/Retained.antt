@@ -1,12 +1,8 @@
 -- For callers: what `retain` keeps, by what the closure's contract says of each call. T says what a
 -- call does: it may return this, leave this value there, and leave the closure so.
 use Rattle.std.proofs.Common.{◌≡◌, Bool, true, false, cond, List, [], ◌∷◌, map, filter, refl, ◌∙◌, subst}
-use Rattle.std.specs.List.{All}
-use Rattle.std.specs.Map.{keys_of}
 use Rattle.std.specs.Map.Calls.{RetainsPairs}
 use Rattle.std.proofs.lemmas.Map.Made as made
-use Rattle.std.proofs.lemmas.Map.Entries as entries
-pub use Rattle.linked_hash_map.proofs.Retained.{all-sublist, distinct-sublist, length-sublist}
 
 -- a closure that stays as it was, and whose answer and the value that it leaves depend on the pair
 -- alone
@@ -28,38 +24,11 @@ module _ {F K V : Type 0} (T : F → K → V → Bool → V → F → Type 0) (t
       let rest = map-filter_from_retain_pairs pairs r.3 says (subst (λ g. RetainsPairs T g pairs r.3) said.2 r.5) in
       r.6 ∙ (λ i. cond (said.0 i) ((pair.0, said.1 i) ∷ rest i) (rest i)) ∙ cond-changed (test pair) pair (filter test pairs)
 
--- and one that leaves each value as it was, or keeps each pair: what std's lemmas say, with the
--- arguments in the order of all lemmas here
+-- and one that leaves each value as it was: what std's lemma says, with the arguments in the order
+-- of all lemmas here
 module _ {F K V : Type 0} (T : F → K → V → Bool → V → F → Type 0) where
   pub filter_same_pairs : (test : K × V → Bool) (f : F) (pairs kept : List (K × V))
       → ((k : K) (v : V) (b : Bool) (w : V) (g : F) → T f k v b w g
       → (b ≡ test (k, v)) × (w ≡ v) × (g ≡ f))
       → RetainsPairs T f pairs kept → kept ≡ filter test pairs
   filter_same_pairs test f pairs kept says r = made.filter_same_pairs T test f says pairs kept r
-
-  pub map_same_pairs : (change : V → V) (f : F) (pairs kept : List (K × V))
-      → ((k : K) (v : V) (b : Bool) (w : V) (g : F) → T f k v b w g
-      → (b ≡ true) × (w ≡ change v) × (g ≡ f))
-      → RetainsPairs T f pairs kept → kept ≡ map (λ pair. (pair.0, change pair.1)) pairs
-  map_same_pairs change f pairs kept says r = made.map_same_pairs T change f says pairs kept r
-
-  -- where I holds of the closure before each call and after it
-  pub All-from_retain_pairs : (I : F → Type 0) (P : K × V → Type 0) (f : F)
-      (pairs kept : List (K × V))
-      → ((g : F) (k : K) (v : V) (b : Bool) (w : V) (after : F) → I g → T g k v b w after
-      → (b ≡ true → P (k, w)) × I after)
-      → I f → RetainsPairs T f pairs kept → All P kept
-  All-from_retain_pairs I P f pairs kept says start r = entries.All-from_retain_pairs T I P says f pairs kept start r
-
-  pub filter_from_retain_pairs : (I : F → Type 0) (test : K × V → Bool) (f : F)
-      (pairs kept : List (K × V))
-      → ((g : F) (k : K) (v : V) (b : Bool) (w : V) (after : F) → I g → T g k v b w after
-      → (b ≡ test (k, v)) × (w ≡ v) × I after)
-      → I f → RetainsPairs T f pairs kept → kept ≡ filter test pairs
-  filter_from_retain_pairs I test f pairs kept says start r = entries.filter_from_retain_pairs T I test says f pairs kept start r
-
-  pub keys_from_retain_pairs : (I : F → Type 0) (f : F) (pairs kept : List (K × V))
-      → ((g : F) (k : K) (v : V) (b : Bool) (w : V) (after : F) → I g → T g k v b w after
-      → (b ≡ true) × I after)
-      → I f → RetainsPairs T f pairs kept → keys_of kept ≡ keys_of pairs
-  keys_from_retain_pairs I f pairs kept says start r = entries.keys_from_retain_pairs T I says f pairs kept start r

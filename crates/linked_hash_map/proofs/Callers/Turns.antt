@@ -1,12 +1,11 @@
 -- For callers: the first pair taken out and put back behind the others, and turns of this kind one
 -- after another.
-use Rattle.std.proofs.Common.{◌≡◌, ℕ, zero, suc, ◌+◌, ◌<◌, Bool, true, false, cond, List, [], ◌∷◌, ◌++◌, length, take, drop, map, get_or, append_assoc, subst, Option, Some, None, is_some, true≢false, refl, sym, ap, ap₂, ◌∙◌}
-use Rattle.std.specs.Option.{option_or, IsSome}
+use Rattle.std.proofs.Common.{◌≡◌, ℕ, ◌+◌, ◌<◌, Bool, true, false, cond, List, [], ◌∷◌, ◌++◌, length, take, drop, map, get_or, append_assoc, subst, Option, Some, None, is_some, true≢false, refl, sym, ap, ap₂, ◌∙◌}
+use Rattle.std.specs.Option.{option_or}
 use Rattle.std.specs.List.{IsDistinct}
 use Rattle.std.specs.Map.{keys_of}
 use Rattle.std.specs.Cmp.{IsEquivalence}
 use Rattle.std.proofs.lemmas.List.{drop_more, take_more, map-append}
-use Rattle.std.proofs.lemmas.Map.Keys.{IsDistinct-tail}
 use Rattle.linked_hash_map.specs.Pairs.{find, put, first, without_first}
 use Rattle.linked_hash_map.specs.declared.map.Mode.{Mode}
 use Rattle.linked_hash_map.proofs.Callers.Lookups.{lookup_entry-append, find-same, find-without_here, drop-first}
@@ -24,9 +23,9 @@ cons-keys_of_first pairs pair there = ap keys_of (cons-without_first pairs pair 
 
 module _ {K V : Type 0} {eq : K → K → Bool} (laws : IsEquivalence eq) where
   -- where the keys differ, that of the first pair is not among the others
-  pub find-others : (others : List (K × V)) (pair : K × V) (q : K)
+  pub find-others : (others : List (K × V)) (q : K) (pair : K × V)
       → IsDistinct eq (keys_of (pair ∷ others)) → eq q pair.0 ≡ true → find eq others q ≡ None
-  find-others others pair q distinct same =
+  find-others others q pair distinct same =
       find-same laws others q pair.0 same
       ∙ ap (λ ps. find eq ps pair.0) (drop-first laws (pair ∷ others) pair distinct refl)
       ∙ find-without_here laws (pair ∷ others) pair.0
@@ -35,17 +34,6 @@ module _ {K V : Type 0} {eq : K → K → Bool} (laws : IsEquivalence eq) where
       → first pairs ≡ Some pair → find eq (without_first pairs) pair.0 ≡ None
   find-without_first pairs pair distinct there =
       ap (λ ps. find eq ps pair.0) (drop-first laws pairs pair distinct there) ∙ find-without_here laws pairs pair.0
-
-  -- and a key that is found among the last pairs has there the pair that it has among all
-  pub find-drop_present : (pairs : List (K × V)) (q : K) (n : ℕ) → IsDistinct eq (keys_of pairs)
-      → IsSome (find eq (drop n pairs) q) → find eq (drop n pairs) q ≡ find eq pairs q
-  find-drop_present pairs q zero distinct found = refl
-  find-drop_present [] q (suc n) distinct found = refl
-  find-drop_present (pair ∷ pairs) q (suc n) distinct found = by_test (eq q pair.0) refl (find-drop_present pairs q n (IsDistinct-tail eq pair.0 (keys_of pairs) distinct) found)
-    where
-      by_test : (b : Bool) → eq q pair.0 ≡ b → find eq (drop n pairs) q ≡ find eq pairs q → find eq (drop n pairs) q ≡ cond b (Some pair) (find eq pairs q)
-      by_test true same rest = absurd (true≢false (sym found ∙ ap is_some (rest ∙ find-others pairs pair q distinct same)))
-      by_test false apart rest = rest
 
   -- so the first pair that is put back goes behind the others, in either mode
   pub put-without_first : (mode : Mode) (pairs : List (K × V)) (pair : K × V) (v : V)
@@ -74,7 +62,7 @@ module _ {K V : Type 0} {eq : K → K → Bool} (laws : IsEquivalence eq) (from 
 
       at_new : (b : Bool) → eq from to ≡ b → eq from pair.0 ≡ true → find eq (pair ∷ rest) to ≡ None → is_some (option_or (find eq rest from) (cond b (Some (to, pair.1)) None)) ≡ true → ⊥
       at_new true alike same none found = true≢false (sym same ∙ laws.congr from to pair.0 alike ∙ other (eq to pair.0) refl none)
-      at_new false apart same none found = true≢false (sym found ∙ ap (λ o. is_some (option_or o None)) (find-others laws rest pair from distinct same))
+      at_new false apart same none found = true≢false (sym found ∙ ap (λ o. is_some (option_or o None)) (find-others laws rest from pair distinct same))
 
       by_test : (b : Bool) → eq from pair.0 ≡ b → (is_some (cond b (Some pair) (find eq rest from)) ≡ true → find eq (pair ∷ rest) to ≡ None)
           → (find eq rest (cond b to pair.0) ≡ None)
@@ -85,7 +73,7 @@ module _ {K V : Type 0} {eq : K → K → Bool} (laws : IsEquivalence eq) (from 
             λ found. absurd (at_new (eq from to) refl same none (sym (ap is_some (lookup_entry-append (eq from) rest ((to, pair.1) ∷ []))) ∙ found)),
           )
       by_test false apart free = (
-        find-others laws rest pair pair.0 distinct (laws.refl pair.0),
+        find-others laws rest pair.0 pair distinct (laws.refl pair.0),
         λ found.
             let none = free (here found) in
             lookup_entry-append (eq to) rest (pair ∷ [])

@@ -1,12 +1,12 @@
 -- For callers: what a call changes, at its key and at the others.
-use Rattle.std.proofs.Common.{◌≡◌, ℕ, ◌-◌, ◌<◌, ◌≤◌, max, Bool, List, length, take, drop, slice_get, Option, Some, None, is_some, refl, ap, ◌∙◌, arith}
+use Rattle.std.proofs.Common.{◌≡◌, ℕ, ◌<◌, ◌≤◌, max, Bool, List, length, Option, Some, None, is_some, refl, ap, ◌∙◌, arith}
 use Rattle.std.specs.Cmp.{IsEquivalence}
 use Rattle.std.specs.List.{IsDistinct}
 use Rattle.std.specs.Map.{keys_of}
 use Rattle.linked_hash_map.specs.declared.map.Mode.{Mode}
 use Rattle.linked_hash_map.specs.Pairs.{find, value_at, put, without, set_or_push}
 use Rattle.linked_hash_map.specs.Updates.{Updates}
-use Rattle.linked_hash_map.proofs.Callers.Lookups.{value_at-put_here, value_at-put_apart, value_at-without_here, value_at-without_apart, value_at-set_or_push_here, value_at-set_or_push_apart, drop-first, take-but_last}
+use Rattle.linked_hash_map.proofs.Callers.Lookups.{value_at-put_here, value_at-put_apart, value_at-without_here, value_at-without_apart, value_at-set_or_push_here, value_at-set_or_push_apart}
 use Rattle.linked_hash_map.proofs.Callers.Keys.{length-put_absent, length-put_present}
 
 -- an insertion of a key that is present, or that has room, leaves the capacity
@@ -42,13 +42,3 @@ Updates-put {eq = eq} laws mode before after k v is = record {
   here = ap (λ pairs. value_at eq pairs k) is ∙ value_at-put_here laws mode before k v;
   others = λ q apart. ap (λ pairs. value_at eq pairs q) is ∙ value_at-put_apart laws mode before k q v apart;
 }
-
--- a pop takes out the key of the first pair, or of the last
-module _ {K V : Type 0} {eq : K → K → Bool} (laws : IsEquivalence eq) (before after : List (K × V)) (pair : K × V) (distinct : IsDistinct eq (keys_of before)) where
-  pub Updates-drop_first : slice_get before 0 ≡ Some pair → after ≡ drop 1 before
-      → Updates eq before after pair.0 None
-  Updates-drop_first there is = Updates-without laws before after pair.0 (is ∙ drop-first laws before pair distinct there)
-
-  pub Updates-take_but_last : slice_get before (length before - 1) ≡ Some pair
-      → after ≡ take (length before - 1) before → Updates eq before after pair.0 None
-  Updates-take_but_last there is = Updates-without laws before after pair.0 (is ∙ take-but_last laws before pair distinct there)

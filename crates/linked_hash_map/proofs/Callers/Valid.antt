@@ -13,11 +13,11 @@ use Rattle.linked_hash_map.specs.LinkedMap.{LinkedMap}
 use Rattle.linked_hash_map.specs.declared.map.TheConstants.{LIMIT}
 use Rattle.linked_hash_map.specs.Validity.{IsValid}
 use Rattle.linked_hash_map.specs.declared.map.Mode.{Mode}
-use Rattle.linked_hash_map.specs.Pairs.{find, to_back, set_or_push, put}
+use Rattle.linked_hash_map.specs.Pairs.{find, set_or_push, put}
 use Rattle.linked_hash_map.specs.Changes.{set_or_pushed}
 use Rattle.linked_hash_map.specs.Entry.{Occupied, Vacant, occupied_key, vacant_map, vacant_key, entry_map, entry_key, entry_value}
 use Rattle.linked_hash_map.specs.declared.entry.Entry.{Entry}
-use Rattle.linked_hash_map.proofs.Callers.Keys.{distinct-to_back, distinct-put, distinct-set_or_push, length-set_or_push, length-to_back_present, length-set_or_push_most}
+use Rattle.linked_hash_map.proofs.Callers.Keys.{distinct-put, distinct-set_or_push, length-set_or_push, length-set_or_push_most}
 use Rattle.linked_hash_map.proofs.EntryFacts.{found-occupied}
 
 module _ {K V S : Type 0} {eq : K → K → Bool} (laws : IsEquivalence eq) {m n : LinkedMap K V S} where
@@ -27,23 +27,7 @@ module _ {K V S : Type 0} {eq : K → K → Bool} (laws : IsEquivalence eq) {m n
       let limit = valid.limit in
       record { distinct = subst (λ ps. IsDistinct eq (keys_of ps)) (sym changed) distinct; within = omega arith; limit = omega arith }
 
-  -- after `insert`, where the pairs are within the limit
-  pub IsValid-to_back : (k : K) (v : V) → IsValid eq m → n.pairs ≡ to_back eq m.pairs k v
-      → n.capacity ≡ max m.capacity (length n.pairs) → length n.pairs ≤ LIMIT → IsValid eq n
-  IsValid-to_back k v valid = raised valid (distinct-to_back laws m.pairs k v valid.distinct)
-
-  -- as they are where the key was present
-  pub IsValid-to_back_present : (k : K) (v : V) → IsValid eq m → IsSome (find eq m.pairs k)
-      → n.pairs ≡ to_back eq m.pairs k v → n.capacity ≡ max m.capacity (length n.pairs)
-      → IsValid eq n
-  IsValid-to_back_present k v valid found changed more =
-      let same = length-to_back_present laws m.pairs k v valid.distinct found in
-      let counted : length n.pairs ≡ length (to_back eq m.pairs k v) = ap length changed in
-      let within = valid.within in
-      let limit = valid.limit in
-      IsValid-to_back k v valid changed more (omega arith)
-
-  -- and in either mode
+  -- after `insert` in either mode, where the pairs are within the limit
   pub IsValid-put : (mode : Mode) (k : K) (v : V) → IsValid eq m → n.pairs ≡ put eq mode m.pairs k v
       → n.capacity ≡ max m.capacity (length n.pairs) → length n.pairs ≤ LIMIT → IsValid eq n
   IsValid-put mode k v valid = raised valid (distinct-put laws mode m.pairs k v valid.distinct)

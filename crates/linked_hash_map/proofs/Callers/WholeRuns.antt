@@ -118,18 +118,22 @@ module _ {K V S : Type 0} {eq : K → K → Bool} (laws : IsEquivalence eq) {old
       replayed.pairs
       ∙ (Defines-given laws old.mode commands replies (first_log old.mode old.pairs) old.pairs old.capacity old.capacity (Defines-first laws valid) replayed.run given).same_pairs
 
+  -- of commands each of which is never refused, no reply is a refusal
+  pub NoneRefused-replayed : list_all never_refused commands ≡ true → NoneRefused replies
+  NoneRefused-replayed never = NoneRefused-run laws old.capacity commands replies (first_log old.mode old.pairs) old.pairs old.capacity old.mode (Defines-first laws valid) replayed.run never
+
 -- a run of these commands, each of which is never refused: the replies and the pairs follow from
 -- them with no more ado
 module _ {K V S : Type 0} {eq : K → K → Bool} (laws : IsEquivalence eq) {old new : LinkedMap K V S} {commands : List (Command K V)} {replies : List (Reply K V)} (these : List (Command K V)) (valid : IsValid eq old) (replayed : Replayed eq old commands replies new)
     (are : commands ≡ these) (never : list_all never_refused these ≡ true) where
-  NoneRefused-replayed : NoneRefused replies
-  NoneRefused-replayed = NoneRefused-run laws old.capacity commands replies (first_log old.mode old.pairs) old.pairs old.capacity old.mode (Defines-first laws valid) replayed.run (ap (list_all never_refused) are ∙ never)
+  none : NoneRefused replies
+  none = NoneRefused-replayed laws valid replayed (ap (list_all never_refused) are ∙ never)
 
   pub pairs-replayed_never_refused : new.pairs ≡ pairs_after_all eq old.mode old.pairs these
-  pairs-replayed_never_refused = pairs-replayed laws valid replayed NoneRefused-replayed ∙ ap (pairs_after_all eq old.mode old.pairs) are
+  pairs-replayed_never_refused = pairs-replayed laws valid replayed none ∙ ap (pairs_after_all eq old.mode old.pairs) are
 
   pub replies-replayed_never_refused : replies ≡ replies_to eq old.mode old.capacity old.pairs these
-  replies-replayed_never_refused = replies-replayed laws valid replayed NoneRefused-replayed ∙ ap (replies_to eq old.mode old.capacity old.pairs) are
+  replies-replayed_never_refused = replies-replayed laws valid replayed none ∙ ap (replies_to eq old.mode old.capacity old.pairs) are
 
 -- the answers do not rest on the capacity
 answers-replies_to : {K V : Type 0} (eq : K → K → Bool) (commands : List (Command K V)) (contents : List (K × V)) (room other : ℕ) (mode : Mode) → map (λ reply. reply.answer) (replies_to eq mode room contents commands) ≡ map (λ reply. reply.answer) (replies_to eq mode other contents commands)

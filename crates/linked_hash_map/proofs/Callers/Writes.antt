@@ -1,18 +1,16 @@
 -- For callers: values that are written, and calls one after another by the same key.
-use Rattle.std.proofs.Common.{◌≡◌, Bool, true, false, cond, List, [], ◌∷◌, take, drop, Option, Some, None, is_some, option_map, refl, sym, ap, ap₂, ◌∙◌}
+use Rattle.std.proofs.Common.{◌≡◌, Bool, true, false, cond, List, [], ◌∷◌, Option, Some, None, is_some, option_map, refl, sym, ap, ap₂, ◌∙◌}
 use Rattle.std.specs.Borrow.{MutBor}
 use Rattle.std.specs.Fn.{Once}
 use Rattle.std.specs.List.{IsDistinct}
 use Rattle.std.specs.Map.{keys_of}
 use Rattle.std.specs.Map.Calls.{MayWrite, ModifiesValue}
 use Rattle.std.specs.Cmp.{IsEquivalence}
-use Rattle.linked_hash_map.specs.LinkedMap.{LinkedMap}
-use Rattle.linked_hash_map.specs.Cursor.{to_visit}
 use Rattle.linked_hash_map.specs.Pairs.{find, value_at, set_value, set_or_push, set_if_some}
 use Rattle.linked_hash_map.proofs.LiveKeys.{none_is}
 use Rattle.linked_hash_map.proofs.Pairs.{set_value-none}
 use Rattle.linked_hash_map.proofs.Indexes as at
-use Rattle.linked_hash_map.proofs.Callers.Keys.{keys_of-set_value, IsSome-find, set_or_push-present}
+use Rattle.linked_hash_map.proofs.Callers.Keys.{IsSome-find, set_or_push-present}
 
 -- where a call leaves `change v` for a value v, `and_modify` changes the value of a key so
 pub modified : {F X R : Type 0} {g : Once F (MutBor X × Unit {0}) (R × (MutBor X × Unit {0}))}
@@ -32,10 +30,6 @@ module _ {K V : Type 0} {eq : K → K → Bool} (laws : IsEquivalence eq) (pairs
   set_or_push-own own = set_or_push-present eq pairs k v (IsSome-find eq pairs k v own) ∙ set_value-own own
 
 module _ {K V : Type 0} (eq : K → K → Bool) where
-  -- with another value for a key, the same keys are still to be visited
-  pub to_visit-set_value : {S : Type 0} (m : LinkedMap K V S) (k : K) (v : V) → to_visit (record m { pairs = set_value eq m.pairs k v }) ≡ to_visit m
-  to_visit-set_value m k v = ap (λ keys. take m.cursor.unvisited (drop m.cursor.bookmark keys)) (keys_of-set_value eq m.pairs k v)
-
   -- the later of two writes counts
   pub set_value-set_value : (pairs : List (K × V)) (k : K) (w v : V)
       → set_value eq (set_value eq pairs k w) k v ≡ set_value eq pairs k v

@@ -13,19 +13,6 @@ use std::hash::{BuildHasher, Hash};
 
 impl<'a, K: Eq + Hash, V, S: BuildHasher> OccupiedEntry<'a, K, V, S> {
     /// Returns a reference to the stored key, in O(1) without allocating.
-    ///
-    /// # Examples
-    ///
-    /// ```rust
-    /// let mut map = LinkedHashMap::new(rt.alloc());
-    /// map.insert('x', 1)?;
-    /// if let Entry::Occupied(mut entry) = map.entry('x') {
-    ///     assert_eq!(rt; (*entry.key(), *entry.get()), ('x', 1));
-    ///     *entry.get_mut() = 2;
-    ///     assert_eq!(rt; entry.remove(), 2);
-    /// }
-    /// assert!(rt; map.is_empty());
-    /// ```
     pub fn key(&self) -> &K
         ensures { result.now ≡ occupied_key self.now }
     {
@@ -33,19 +20,6 @@ impl<'a, K: Eq + Hash, V, S: BuildHasher> OccupiedEntry<'a, K, V, S> {
     }
 
     /// Returns a reference to the value, in O(1) without allocating.
-    ///
-    /// # Examples
-    ///
-    /// ```rust
-    /// let mut map = LinkedHashMap::new(rt.alloc());
-    /// map.insert('x', 1)?;
-    /// if let Entry::Occupied(mut entry) = map.entry('x') {
-    ///     assert_eq!(rt; (*entry.key(), *entry.get()), ('x', 1));
-    ///     *entry.get_mut() = 2;
-    ///     assert_eq!(rt; entry.remove(), 2);
-    /// }
-    /// assert!(rt; map.is_empty());
-    /// ```
     pub fn get(&self) -> &V
         ensures { result.now ≡ occupied_value self.now }
     {
@@ -53,19 +27,6 @@ impl<'a, K: Eq + Hash, V, S: BuildHasher> OccupiedEntry<'a, K, V, S> {
     }
 
     /// Returns a mutable reference to the value, in O(1) without allocating.
-    ///
-    /// # Examples
-    ///
-    /// ```rust
-    /// let mut map = LinkedHashMap::new(rt.alloc());
-    /// map.insert('x', 1)?;
-    /// if let Entry::Occupied(mut entry) = map.entry('x') {
-    ///     assert_eq!(rt; (*entry.key(), *entry.get()), ('x', 1));
-    ///     *entry.get_mut() = 2;
-    ///     assert_eq!(rt; entry.remove(), 2);
-    /// }
-    /// assert!(rt; map.is_empty());
-    /// ```
     pub fn get_mut(&mut self) -> &mut V
         ensures* writes_back { sem 𝓛
             (lends_in_entry K.row V.row S.row S.Hasher.row K.Hash S.BuildHasher S.Hasher.Hasher
@@ -117,7 +78,8 @@ impl<'a, K: Eq + Hash, V, S: BuildHasher> OccupiedEntry<'a, K, V, S> {
     }
 
     /// Replaces the value and returns the old one, in O(1) without allocating. The pair moves to
-    /// the back, or in [`Mode::Keep`](crate::Mode::Keep) stays in its place, and stays the entry's.
+    /// the back, or in [`Mode::Keep`](crate::Mode::Keep) stays in its place. The entry
+    /// still stands for it.
     ///
     /// # Examples
     ///
@@ -152,19 +114,6 @@ impl<'a, K: Eq + Hash, V, S: BuildHasher> OccupiedEntry<'a, K, V, S> {
 
     /// Removes the pair, drops the stored key and returns the value, in O(1) on average. It hashes
     /// and compares no key and does not allocate; the order of the others and the capacity stay.
-    ///
-    /// # Examples
-    ///
-    /// ```rust
-    /// let mut map = LinkedHashMap::new(rt.alloc());
-    /// map.insert('x', 1)?;
-    /// if let Entry::Occupied(mut entry) = map.entry('x') {
-    ///     assert_eq!(rt; (*entry.key(), *entry.get()), ('x', 1));
-    ///     *entry.get_mut() = 2;
-    ///     assert_eq!(rt; entry.remove(), 2);
-    /// }
-    /// assert!(rt; map.is_empty());
-    /// ```
     pub fn remove(self) -> V
     where
         K: Drop,

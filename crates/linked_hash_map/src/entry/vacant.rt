@@ -32,8 +32,8 @@ impl<'a, K: Eq + Hash, V, S: BuildHasher> VacantEntry<'a, K, V, S> {
 
     /// Inserts the key and a value at the back, and returns a mutable reference to the value.
     ///
-    /// Only at full capacity does it allocate: it raises the capacity by one or is refused, always
-    /// so at [`LIMIT`] pairs. The error has the key and this value, and the map is unchanged. It is
+    /// Only at full capacity does it allocate: it raises the capacity by one or is refused, as it
+    /// always is at [`LIMIT`] pairs. The error has the key and this value, and the map is unchanged. It is
     /// O(1), or O(n) if the number of buckets changes.
     ///
     /// # Examples

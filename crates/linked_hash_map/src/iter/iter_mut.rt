@@ -12,18 +12,6 @@ use std::iter::FusedIterator;
 
 /// A fused double-ended iterator over the pairs of a map, with mutable references to the values,
 /// returned by `iter_mut` or a loop over `&mut map`. Its methods are O(1) and do not allocate.
-///
-/// # Examples
-///
-/// ```rust
-/// let mut map = LinkedHashMap::new(rt.alloc());
-/// map.insert('x', 1)?;
-/// let mut pairs = map.iter_mut();
-/// if let Some((_key, value)) = pairs.next() {
-///     *value = 3;
-/// }
-/// assert_eq!(rt; map.get(&'x'), Some(&3));
-/// ```
 #[derive(Drop)]
 pub struct IterMut<'a, K, V> {
     nodes: table::IterMut<'a, K, V>,

@@ -12,18 +12,6 @@ use std::marker::Model;
 
 /// A fused double-ended iterator over the keys of a map, returned by `keys`. Its methods are O(1)
 /// and do not allocate.
-///
-/// # Examples
-///
-/// ```rust
-/// let mut map = LinkedHashMap::new(rt.alloc());
-/// map.insert('x', 1)?;
-/// map.insert('y', 2)?;
-/// let mut keys = map.keys();
-/// assert_eq!(rt; keys.next(), Some(&'x'));
-/// assert_eq!(rt; keys.next(), Some(&'y'));
-/// assert_eq!(rt; keys.next(), None);
-/// ```
 #[derive(Drop)]
 pub struct Keys<'a, K, V> {
     pairs: Iter<'a, K, V>,

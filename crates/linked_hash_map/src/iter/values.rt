@@ -12,18 +12,6 @@ use std::marker::Model;
 
 /// A fused double-ended iterator over the values of a map, returned by `values`. Its methods are
 /// O(1) and do not allocate.
-///
-/// # Examples
-///
-/// ```rust
-/// let mut map = LinkedHashMap::new(rt.alloc());
-/// map.insert('x', 1)?;
-/// map.insert('y', 2)?;
-/// let mut values = map.values();
-/// assert_eq!(rt; values.next_back(), Some(&2));
-/// assert_eq!(rt; values.next_back(), Some(&1));
-/// assert_eq!(rt; values.next_back(), None);
-/// ```
 #[derive(Drop)]
 pub struct Values<'a, K, V> {
     pairs: Iter<'a, K, V>,

@@ -64,7 +64,7 @@ impl<K: Eq + Hash, V, S: BuildHasher> LinkedHashMap<K, V, S> {
     /// old ones. With as many buckets the nodes beyond the capacity stay for a later growth.
     ///
     /// It allocates only if pairs are left and there are to be fewer buckets. Returns `NoRoom` if
-    /// that fails; the map is then unchanged.
+    /// an allocation fails; the map is then unchanged.
     ///
     /// # Examples
     ///
@@ -102,8 +102,8 @@ impl<K: Eq + Hash, V, S: BuildHasher> LinkedHashMap<K, V, S> {
         }
     }
 
-    /// Returns how many nodes were rehashed since [`shrink_to_fit`] last lowered the capacity, its
-    /// own included, in O(1) without allocating.
+    /// Returns how many nodes were rehashed since [`shrink_to_fit`] last lowered the capacity, that
+    /// call included, in O(1) without allocating.
     ///
     /// Only a change of the number of buckets rehashes, and it rehashes all pairs. The count is at
     /// most the number of buckets.

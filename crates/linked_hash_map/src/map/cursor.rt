@@ -22,7 +22,7 @@ use std::alloc::AllocError;
 use std::hash::{BuildHasher, Hash};
 use std::mem;
 
-/// Where a cursor or an entry stands. Most calls end a visit by one write, that of `active`.
+/// Where a cursor or an entry stands. A call that ends a visit writes `active` alone.
 pub(super) struct Visit<K, V> {
     /// Whether there is a cursor or an entry; if not, the other fields mean nothing.
     pub(super) active: bool,

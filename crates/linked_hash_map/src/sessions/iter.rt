@@ -12,17 +12,6 @@ use std::marker::Model;
 
 /// An iterator over the sessions of a table, front to back, each as its id, weight and payload. It
 /// is returned by `Sessions::iter`. Its calls are O(1) and do not allocate.
-///
-/// # Examples
-///
-/// ```rust
-/// let mut table = Sessions::new(rt.alloc(), 10);
-/// table.put(1, 4, "a")?;
-/// table.put(2, 4, "b")?;
-/// let mut sessions = table.iter();
-/// assert_eq!(rt; sessions.next(), Some((1, 4, &"a")));
-/// assert_eq!(rt; sessions.len(), 1);
-/// ```
 #[derive(Drop)]
 pub struct SessionIter<'a, T> {
     pairs: Iter<'a, u64, Weighted<T>>,

@@ -36,14 +36,6 @@ pub struct PutRefused<T> {
 }
 
 /// Why a put was refused.
-///
-/// # Examples
-///
-/// ```rust
-/// let mut table = Sessions::new(rt.alloc(), 10);
-/// let refused = table.put(3, 11, "d");
-/// assert_eq!(rt; refused, Err(PutRefused { reason: PutReason::TooHeavy, payload: "d" }));
-/// ```
 #[derive(Debug, PartialEq, Drop)]
 pub enum PutReason {
     /// The weight is above the limit.

@@ -11,7 +11,7 @@ mod commands;
 mod comparisons;
 mod entries;
 mod lookups;
-mod walks;
+mod without_keys;
 
 use super::checks::{check, check_eq, given};
 use super::counted_calls::{Builder, Calls, Counts, Key, builder_of, key_of, lookup};

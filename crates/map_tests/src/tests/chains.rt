@@ -82,7 +82,7 @@ fn assert_chains(rt: &impl Abort, alloc: Global) {
 }
 
 #[test]
-fn chains_a_walk(rt: HostRuntime) {
+fn chains_iterators(rt: HostRuntime) {
     assert_chains(&rt, rt.alloc());
 }
 

@@ -47,8 +47,8 @@ fn counts_along_a_chain(rt: HostRuntime) {
 }
 
 #[test]
-fn compares_every_key_of_one_number(rt: HostRuntime) {
-    let builder = BuildSame { number: 0 };
+fn compares_every_key_if_all_hashes_are_equal(rt: HostRuntime) {
+    let builder = BuildSame { hash: 0 };
     let mut map = given!(rt; LinkedHashMap::with_capacity_and_hasher(rt.alloc(), 4, builder));
     insert_all(&rt, &mut map, &[(1, 1), (2, 2), (3, 3), (4, 4)]);
     let (value, probe) = map.get_counted(&9);

@@ -120,10 +120,10 @@ fn assert_names<S: BuildHasher + Drop>(
 }
 
 #[test]
-fn answers_the_same_under_each_hasher(rt: HostRuntime) {
+fn gives_the_same_replies_under_each_hasher(rt: HostRuntime) {
     let map = LinkedHashMap::new(rt.alloc());
     assert_names(&rt, map, name_commands(&rt, rt.alloc()));
-    let map = LinkedHashMap::with_hasher(rt.alloc(), BuildSame { number: 0 });
+    let map = LinkedHashMap::with_hasher(rt.alloc(), BuildSame { hash: 0 });
     assert_names(&rt, map, name_commands(&rt, rt.alloc()));
     let map = LinkedHashMap::with_hasher(rt.alloc(), BuildLastByte { first: 0 });
     assert_names(&rt, map, name_commands(&rt, rt.alloc()));

@@ -194,7 +194,7 @@ fn does_every_call_under_a_good_hasher(rt: HostRuntime) {
 }
 
 #[test]
-fn does_every_call_where_all_numbers_agree(rt: HostRuntime) {
-    let build = BuildSame { number: 7 };
+fn does_every_call_if_all_hashes_are_equal(rt: HostRuntime) {
+    let build = BuildSame { hash: 7 };
     assert_calls(&rt, LinkedHashMap::with_hasher(rt.alloc(), build));
 }

@@ -4,7 +4,7 @@ ghost use Rattle.std.specs.Char.{to_ascii_lowercase};
 
 use std::hash::{BuildHasher, Hasher};
 
-/// A hasher whose number is the same for every key.
+/// A hasher that gives every key the same hash.
 #[derive(Clone, Copy)]
 pub struct Same(u64);
 
@@ -20,19 +20,19 @@ impl Hasher for Same {
     fn write(&mut self, _bytes: &[u8]) {}
 }
 
-/// Makes hashers that all answer one number.
+/// Makes hashers that all give one hash.
 #[derive(Clone, Copy, Debug, PartialEq)]
 pub struct BuildSame {
-    pub number: u64,
+    pub hash: u64,
 }
 
 impl BuildHasher for BuildSame {
     type Hasher = Same;
 
-    ghost build_hasher = { λ build. record { 0 = build.number } };
+    ghost build_hasher = { λ build. record { 0 = build.hash } };
 
     fn build_hasher(&self) -> Same {
-        Same(self.number)
+        Same(self.hash)
     }
 }
 
@@ -68,7 +68,7 @@ impl Hasher for FirstLetter {
     }
 }
 
-/// Makes hashers whose number is the first letter of a text, in lower case.
+/// Makes hashers whose hash is the first letter of a text, in lower case.
 #[derive(Clone, Copy)]
 pub struct BuildFirstLetter;
 

@@ -10,20 +10,20 @@ use std::process::Abort;
 
 /// Makes a call for each of the word's, at the back if it is true, and compares what each gives
 /// with `items`.
-fn assert_walk<
+fn assert_iterator<
     T: PartialEq + Debug + Drop,
     I: DoubleEndedIterator<Item = T> + ExactSizeIterator + Drop,
->(rt: &impl Abort, mut walk: I, word: &[bool], items: &[T])
-    requires { (walk : I) → I.can_next walk × I.can_next_back walk }
+>(rt: &impl Abort, mut iterator: I, word: &[bool], items: &[T])
+    requires { (iterator : I) → I.can_next iterator × I.can_next_back iterator }
 {
     let mut left = items;
     for back in word {
         let len = left.len();
-        check_eq!(rt; (walk.len(), walk.size_hint()), (len, (len, Some(len))));
+        check_eq!(rt; (iterator.len(), iterator.size_hint()), (len, (len, Some(len))));
         let (expected, item) = if *back {
-            (left.split_last(), walk.next_back())
+            (left.split_last(), iterator.next_back())
         } else {
-            (left.split_first(), walk.next())
+            (left.split_first(), iterator.next())
         };
         match expected {
             Some((next, rest)) => {
@@ -38,18 +38,18 @@ fn assert_walk<
 /// Checks the iterators that borrow a map of three pairs.
 fn assert_borrowed(rt: &impl Abort, map: &LinkedHashMap<u64, u64>, word: &[bool]) {
     let lent = [(&1, &10), (&2, &20), (&3, &30)];
-    assert_walk(rt, map.iter(), word, &lent);
-    assert_walk(rt, given!(rt; map.iter().clone()), word, &lent);
-    assert_walk(rt, map.keys(), word, &[&1, &2, &3]);
-    assert_walk(rt, map.values(), word, &[&10, &20, &30]);
+    assert_iterator(rt, map.iter(), word, &lent);
+    assert_iterator(rt, given!(rt; map.iter().clone()), word, &lent);
+    assert_iterator(rt, map.keys(), word, &[&1, &2, &3]);
+    assert_iterator(rt, map.values(), word, &[&10, &20, &30]);
 }
 
 /// Checks the iterators that hand out the pairs of such a map.
 fn assert_owned(rt: &impl Abort, alloc: Global, mut map: LinkedHashMap<u64, u64>, word: &[bool]) {
     let owned = [(1, 10), (2, 20), (3, 30)];
-    assert_walk(rt, map.drain(), word, &owned);
+    assert_iterator(rt, map.drain(), word, &owned);
     assert_sizes(rt, &map, 0, 3);
-    assert_walk(rt, map_of(rt, alloc, &owned).into_iter(), word, &owned);
+    assert_iterator(rt, map_of(rt, alloc, &owned).into_iter(), word, &owned);
 }
 
 /// Checks each iterator by each word of five calls.
@@ -63,7 +63,7 @@ fn assert_words(rt: &impl Abort, alloc: Global) {
 }
 
 #[test]
-fn walks_from_both_ends(rt: HostRuntime) {
+fn iterates_from_both_ends(rt: HostRuntime) {
     assert_words(&rt, rt.alloc());
 }
 
@@ -145,7 +145,7 @@ fn write_keys(map: &mut LinkedHashMap<u64, u64>) {
 }
 
 #[test]
-fn writes_along_a_walk(rt: HostRuntime) {
+fn writes_values_by_iterators_and_loops(rt: HostRuntime) {
     let mut map = map_of(&rt, rt.alloc(), &[(1, 10), (2, 20), (3, 30)]);
     write_front(&rt, &mut map);
     assert_pairs(&rt, &map, &[(1, 17), (2, 20), (3, 30)]);
@@ -200,7 +200,7 @@ fn shows_keys_with_their_values(rt: HostRuntime) {
 }
 
 #[test]
-fn walks_over_keys_of_text(rt: HostRuntime) {
+fn iterates_over_keys_of_text(rt: HostRuntime) {
     let mut map = LinkedHashMap::new(rt.alloc());
     insert_all(&rt, &mut map, &[("a", 10), ("c", 30), ("b", 20)]);
     let mut pairs = map.iter();

@@ -1,4 +1,4 @@
-//! A hasher whose number is a multiple of a key, taken modulo another number.
+//! A hasher whose hash is a multiple of a key, which is taken modulo a number.
 ghost use Rattle.std.specs.Prelude.{◌≡◌, ◌+◌, ◌*◌, ◌/◌, ◌%◌, fold};
 
 use std::hash::{BuildHasher, Hasher};
@@ -41,26 +41,26 @@ impl Hasher for Multiple {
     }
 }
 
-/// Makes hashers whose number is `factor` times the key, taken modulo `largest + 1` first.
+/// Makes hashers whose hash is `factor` times the key, taken modulo `largest + 1` first.
 #[derive(Clone, Copy)]
 pub struct BuildMultiple {
     pub largest: u32,
     pub factor: u32,
 }
 
-/// The number is the key, of keys of 32 bits.
+/// The hash is the key, of keys of 32 bits.
 pub const KEY: BuildMultiple = BuildMultiple {
     largest: u32::MAX,
     factor: 1,
 };
 
-/// The number is the key modulo 2.
+/// The hash is the key modulo 2.
 pub const PARITY: BuildMultiple = BuildMultiple {
     largest: 1,
     factor: 1,
 };
 
-/// The number is eight times the key, of keys of 32 bits.
+/// The hash is eight times the key, of keys of 32 bits.
 pub const EIGHTFOLD: BuildMultiple = BuildMultiple {
     largest: u32::MAX,
     factor: 8,

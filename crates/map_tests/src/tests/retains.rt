@@ -136,17 +136,22 @@ fn drops_each_removed_pair_before_the_next_call(rt: HostRuntime) {
     assert_dropped(&rt, &tally, 63);
 }
 
+/// Inserts the keys from 1 to 4, whose uses are counted.
+fn insert_watched<'a>(
+    rt: &impl Abort,
+    map: &mut LinkedHashMap<Watched<'a>, u64>,
+    used: &'a Cell<usize>,
+) {
+    for number in [1, 2, 3, 4] {
+        check!(rt; map.insert(Watched { number, used }, number).is_ok());
+    }
+}
+
 #[test]
 fn compares_and_hashes_no_key(rt: HostRuntime) {
     let used = Cell::new(0);
     let mut map = LinkedHashMap::new(rt.alloc());
-    for number in [1, 2, 3, 4] {
-        let key = Watched {
-            number,
-            used: &used,
-        };
-        check!(rt; map.insert(key, number).is_ok());
-    }
+    insert_watched(&rt, &mut map, &used);
     used.set(0);
     map.retain(|key, _value| key.number % 2 == 0);
     check_eq!(rt; (used.get(), map.len()), (0, 2));
@@ -167,7 +172,7 @@ fn retain_under<S: BuildHasher + Drop>(rt: &impl Abort, alloc: Global, builder: 
 
 #[test]
 fn keeps_one_chain(rt: HostRuntime) {
-    retain_under(&rt, rt.alloc(), BuildSame { number: 7 });
+    retain_under(&rt, rt.alloc(), BuildSame { hash: 7 });
 }
 
 /// Keeps some of the pairs in a mode, and checks the mode and what an insertion does then.

@@ -47,7 +47,7 @@ fn insert_eight<'a>(
 }
 
 #[test]
-fn compares_no_key_of_another_number(rt: HostRuntime) {
+fn compares_no_key_if_the_hashes_differ(rt: HostRuntime) {
     let compared = Cell::new(0);
     let mut map = LinkedHashMap::with_hasher(rt.alloc(), KEY);
     insert_eight(&rt, &mut map, &compared);

@@ -41,9 +41,9 @@ pub fn check_reserve(
     rt: &impl Abort,
     map: &mut Map,
     additional: usize,
-    answer: Result<(), ReserveError>,
+    wanted: Result<(), ReserveError>,
 ) {
-    check_eq!(rt; map.reserve(additional), answer);
+    check_eq!(rt; map.reserve(additional), wanted);
 }
 
 /// Lowers the capacity, which is not refused.

@@ -125,7 +125,7 @@ fn assert_boxed(rt: &impl Abort, map: &BoxedMap<'_>) {
 }
 
 #[test]
-fn refused_clone_leaves_the_walk(rt: HostRuntime) {
+fn refused_clone_leaves_the_iterator(rt: HostRuntime) {
     let left = Cell::new(1000);
     // The growths: the counted value; buckets, a filter, a list of chunks and a chunk; a box.
     clone_iterator(&rt, boxed_of(&rt, rt.alloc(), &left));
@@ -195,7 +195,7 @@ fn drops_the_clones_made_before_one_fails(rt: HostRuntime) {
     fail_to_clone_map(&rt, &map, &counted, &left);
     let copy = clone_map(&rt, &map, &counted, &left);
     drop(map);
-    // The hasher goes at once.
+    // The hasher is dropped at once.
     clone_pairs_of(&rt, copy.into_iter(), &counted, &left);
     assert_held(&rt, &counted, 1);
 }

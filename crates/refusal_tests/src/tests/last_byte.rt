@@ -1,4 +1,4 @@
-//! A hasher whose number is the last byte of a key.
+//! A hasher whose hash is the last byte of a key.
 ghost use Rattle.std.specs.Prelude.{fold};
 
 use std::hash::{BuildHasher, Hasher};

@@ -112,7 +112,7 @@ const CHANGES: [Command<u8, u64>; 4] = [
 ];
 
 #[test]
-fn refused_change_of_a_replay_is_answered(rt: HostRuntime) {
+fn refused_change_of_a_replay_is_in_its_reply(rt: HostRuntime) {
     // The growths: buckets, a filter, a list of chunks and a chunk; the commands.
     let made = full_of(&rt, rt.alloc(), &[(1, 10), (2, 20)]);
     make_changes(&rt, made, rt.alloc());

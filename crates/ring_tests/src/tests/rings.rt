@@ -202,7 +202,7 @@ fn holds_nothing_however_a_drain_ends(rt: HostRuntime) {
 }
 
 #[test]
-fn stands_but_for_values_after_writing(rt: HostRuntime) {
+fn stays_except_for_values_after_writing(rt: HostRuntime) {
     let mut ring = with_spares(&rt, rt.alloc(), 3);
     put(&rt, &mut ring, 7, 'a', 1);
     let b = put(&rt, &mut ring, 9, 'b', 2);

@@ -114,7 +114,7 @@ fn drops_each_pair_once_by_every_word(rt: HostRuntime) {
     take_by_each_word(&rt, rt.alloc(), 3, 8);
 }
 
-// What is dropped after each part of `drops_what_each_call_lets_go_of`.
+// What is dropped after each part of `drops_what_each_call_removes`.
 
 const AFTER_INSERTION: u64 = 64 | 2;
 
@@ -169,7 +169,7 @@ fn pop_first(rt: &impl Abort, tally: &Tally, map: &mut CountedMap<'_>) {
 }
 
 #[test]
-fn drops_what_each_call_lets_go_of(rt: HostRuntime) {
+fn drops_what_each_call_removes(rt: HostRuntime) {
     let tally = Tally::new();
     let mut map = counted_map_of(&rt, rt.alloc(), &tally, &PAIRS);
     insert_present(&rt, &tally, &mut map);

@@ -189,12 +189,12 @@ fn assert_run<S: BuildHasher + Drop>(
 }
 
 #[test]
-fn answers_as_a_plain_map_does(rt: HostRuntime) {
+fn does_what_a_plain_map_does(rt: HostRuntime) {
     assert_run(&rt, rt.alloc(), LinkedHashMap::new(rt.alloc()));
 }
 
 #[test]
-fn answers_as_a_plain_map_does_under_a_bad_hasher(rt: HostRuntime) {
+fn does_what_a_plain_map_does_under_a_bad_hasher(rt: HostRuntime) {
     assert_run(
         &rt,
         rt.alloc(),

@@ -72,7 +72,7 @@ fn or_default(rt: HostRuntime) -> Result<(), Fail> {
     Ok(())
 }
 
-/// The example of `OccupiedEntry` and of its `key`, `get`, `get_mut` and `remove`.
+/// The example of `OccupiedEntry`.
 #[test]
 fn occupied_entry(rt: HostRuntime) -> Result<(), Fail> {
     let mut map = LinkedHashMap::new(rt.alloc());

@@ -2,7 +2,7 @@
 use linked_hash_map::LinkedHashMap;
 use std::test::Fail;
 
-/// The example of `iter` and of `Iter`.
+/// The example of `iter`.
 #[test]
 fn iter(rt: HostRuntime) -> Result<(), Fail> {
     let mut map = LinkedHashMap::new(rt.alloc());
@@ -30,7 +30,7 @@ fn loop_over_a_borrowed_map(rt: HostRuntime) -> Result<(), Fail> {
     Ok(())
 }
 
-/// The example of `keys` and of `Keys`.
+/// The example of `keys`.
 #[test]
 fn keys(rt: HostRuntime) -> Result<(), Fail> {
     let mut map = LinkedHashMap::new(rt.alloc());
@@ -43,7 +43,7 @@ fn keys(rt: HostRuntime) -> Result<(), Fail> {
     Ok(())
 }
 
-/// The example of `values` and of `Values`.
+/// The example of `values`.
 #[test]
 fn values(rt: HostRuntime) -> Result<(), Fail> {
     let mut map = LinkedHashMap::new(rt.alloc());
@@ -56,7 +56,7 @@ fn values(rt: HostRuntime) -> Result<(), Fail> {
     Ok(())
 }
 
-/// The example of `iter_mut` and of `IterMut`.
+/// The example of `iter_mut`.
 #[test]
 fn iter_mut(rt: HostRuntime) -> Result<(), Fail> {
     let mut map = LinkedHashMap::new(rt.alloc());

@@ -76,7 +76,7 @@ fn hasher(rt: HostRuntime) -> Result<(), Fail> {
     Ok(())
 }
 
-/// The example of `with_capacity_and_hasher` and of `DefaultHashBuilder`.
+/// The example of `with_capacity_and_hasher`.
 #[test]
 fn with_capacity_and_hasher(rt: HostRuntime) -> Result<(), Fail> {
     let builder = DefaultHashBuilder::new();

@@ -46,7 +46,7 @@ fn clear(rt: HostRuntime) -> Result<(), Fail> {
     Ok(())
 }
 
-/// The example of `drain` and of `Drain`.
+/// The example of `drain`.
 #[test]
 fn drain(rt: HostRuntime) -> Result<(), Fail> {
     let mut map = LinkedHashMap::new(rt.alloc());

@@ -3,7 +3,7 @@ use linked_hash_map::LinkedHashMap;
 use linked_hash_map::replay::{Answer, Command, PairList, replay};
 use std::test::Fail;
 
-/// The example of `replay` and of its module. Those of `Command` and `Answer` are its beginnings.
+/// The example of the module `replay`. Those of `Command` and `Answer` are its beginnings.
 #[test]
 fn commands(rt: HostRuntime) -> Result<(), Fail> {
     let mut map = LinkedHashMap::new(rt.alloc());
@@ -30,7 +30,7 @@ fn reply(rt: HostRuntime) -> Result<(), Fail> {
     Ok(())
 }
 
-/// The example of `PairList`. Those of its `from_vec`, `len` and `is_empty` are its beginning.
+/// The example of `PairList`.
 #[test]
 fn pair_list(rt: HostRuntime) -> Result<(), Fail> {
     let list = PairList::from_vec(Vec::from_array(rt.alloc(), [('x', 1), ('y', 2)])?);
@@ -63,7 +63,7 @@ fn vector_from(rt: HostRuntime) -> Result<(), Fail> {
     Ok(())
 }
 
-/// The example of `From` and of `PartialEq` of `PairList`.
+/// The example of `From` of `PairList`.
 #[test]
 fn from(rt: HostRuntime) -> Result<(), Fail> {
     let list = PairList::from_vec(Vec::from_array(rt.alloc(), [('x', 1), ('y', 2)])?);

@@ -78,7 +78,7 @@ fn put_over_a_session(rt: HostRuntime) -> Result<(), Fail> {
     Ok(())
 }
 
-/// The example of `PutRefused` and of `PutReason`.
+/// The example of `PutRefused`.
 #[test]
 fn put_refused(rt: HostRuntime) -> Result<(), Fail> {
     let mut table = Sessions::new(rt.alloc(), 10);
@@ -117,7 +117,7 @@ fn remove(rt: HostRuntime) -> Result<(), Fail> {
     Ok(())
 }
 
-/// The example of `total` and of `len`.
+/// The example of `total`.
 #[test]
 fn total(rt: HostRuntime) -> Result<(), Fail> {
     let mut table = Sessions::new(rt.alloc(), 10);
@@ -126,7 +126,7 @@ fn total(rt: HostRuntime) -> Result<(), Fail> {
     Ok(())
 }
 
-/// The example of `iter` and of `SessionIter`.
+/// The example of `iter`.
 #[test]
 fn iter(rt: HostRuntime) -> Result<(), Fail> {
     let mut table = Sessions::new(rt.alloc(), 10);

@@ -3,7 +3,10 @@ use Rattle.std.specs.Vec.{vec_capacity}
 use Rattle.lhm_ring.proofs.filter.empty_words.Given as goal
 
 abbrev pub invariant-words : goal.invariant-words
-invariant-words l = (vec_len l.words ≤ l.count) × (vec_capacity l.words ≡ l.count)
+invariant-words l = record {
+  few : vec_len l.words ≤ l.count;
+  capacity : vec_capacity l.words ≡ l.count;
+}
 
 abbrev pub decreases-words : goal.decreases-words
 decreases-words l = l.count - vec_len l.words

@@ -5,12 +5,13 @@ use Rattle.lhm_ring.specs.Search.{IsRechained}
 use Rattle.lhm_ring.proofs.heads.chain_all.Given as goal
 
 abbrev pub invariant-loop-pointer : goal.invariant-loop-pointer
-invariant-loop-pointer g l =
-    IsRechained (map leads_to l.heads.items) l.filter l.initial.ring.held l.ring.held (pointer_of_some l.pointer) l.count (vec_len l.initial.heads)
-    × (l.ring.spares ≡ l.initial.ring.spares)
-    × (l.ring.nodes ≡ l.initial.ring.nodes)
-    × (vec_len l.heads ≡ vec_len l.initial.heads)
-    × (length l.filter ≡ length l.initial.filter)
+invariant-loop-pointer g l = record {
+  rechained : IsRechained (map leads_to l.heads.items) l.filter l.initial.ring.held l.ring.held (pointer_of_some l.pointer) l.count (vec_len l.initial.heads);
+  spares : l.ring.spares ≡ l.initial.ring.spares;
+  nodes : l.ring.nodes ≡ l.initial.ring.nodes;
+  buckets : vec_len l.heads ≡ vec_len l.initial.heads;
+  words : length l.filter ≡ length l.initial.filter;
+}
 
 abbrev pub decreases-loop-pointer : goal.decreases-loop-pointer
 decreases-loop-pointer g l = length l.initial.ring.held - l.count

@@ -3,7 +3,10 @@ use Rattle.lhm_ring.specs.Heads.{leads_to}
 use Rattle.lhm_ring.proofs.heads.clear_heads.Given as goal
 
 abbrev pub invariant-heads : goal.invariant-heads
-invariant-heads l = ((b : ℕ) → b < l.next → get_or (map leads_to l.heads.items) b None ≡ None) × (vec_len l.heads ≡ vec_len l.fn.heads)
+invariant-heads l = record {
+  cleared : (b : ℕ) → b < l.next → get_or (map leads_to l.heads.items) b None ≡ None;
+  buckets : vec_len l.heads ≡ vec_len l.fn.heads;
+}
 
 abbrev pub decreases-heads : goal.decreases-heads
 decreases-heads l = vec_len l.heads - l.next

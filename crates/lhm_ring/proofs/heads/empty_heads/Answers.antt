@@ -5,11 +5,11 @@ use Rattle.lhm_ring.proofs.BucketHeads.{none_more}
 use Rattle.lhm_ring.proofs.heads.empty_heads.Goals as goal
 
 pub heads-preserved : goal.heads-preserved
-heads-preserved c = (
-  subst (λ (xs : List Head). (b : ℕ) → get_or (map leads_to xs) b None ≡ None) (sym c.push_reserved.ensures.items) (none_more c.heads.heads.items (record { link = c.none.result }) c.none.ensures c.heads.invariant.0),
-  omega (arith, c.push_reserved.ensures.len, c.len.ensures, c.heads-test.true),
-  c.push_reserved.ensures.capacity ∙ c.heads.invariant.2,
-)
+heads-preserved c = record {
+  empty = subst (λ (xs : List Head). (b : ℕ) → get_or (map leads_to xs) b None ≡ None) (sym c.push_reserved.ensures.items) (none_more c.heads.heads.items (record { link = c.none.result }) c.none.ensures c.heads.invariant.empty);
+  few = omega (arith, c.push_reserved.ensures.len, c.len.ensures, c.heads-test.true);
+  capacity = c.push_reserved.ensures.capacity ∙ c.heads.invariant.capacity;
+}
 
 pub returns-clause-empty : goal.returns-clause-empty
-returns-clause-empty c = λ b l. c.heads.invariant.0 b
+returns-clause-empty c = λ b l. c.heads.invariant.empty b

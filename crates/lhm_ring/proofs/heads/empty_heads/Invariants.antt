@@ -4,7 +4,11 @@ use Rattle.lhm_ring.specs.Heads.{leads_to}
 use Rattle.lhm_ring.proofs.heads.empty_heads.Given as goal
 
 abbrev pub invariant-heads : goal.invariant-heads
-invariant-heads l = ((b : ℕ) → get_or (map leads_to l.heads.items) b None ≡ None) × (vec_len l.heads ≤ l.count) × (vec_capacity l.heads ≡ l.count)
+invariant-heads l = record {
+  empty : (b : ℕ) → get_or (map leads_to l.heads.items) b None ≡ None;
+  few : vec_len l.heads ≤ l.count;
+  capacity : vec_capacity l.heads ≡ l.count;
+}
 
 abbrev pub decreases-heads : goal.decreases-heads
 decreases-heads l = l.count - vec_len l.heads

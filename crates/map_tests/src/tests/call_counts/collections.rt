@@ -1,12 +1,16 @@
 //! Extensions and collections, which look each item up once, and clones.
 
-use super::{CallMap, KINDS, Kind, SAME, check_calls, map_of_kind};
+use super::{CallMap, KINDS, Kind, SAME, check_calls, lookup_of, map_of_kind};
+use crate::tests::checks::{check, check_eq, given};
 use crate::tests::counted_calls::{
-    Builder, Calls, Counts, Key, NONE, builder_of, key_of, new_counts,
+    Builder, Calls, Counts, Key, NONE, builder_of, key_of, lookup, new_counts,
 };
+use crate::tests::counting::Counting;
 use crate::tests::multiple::KEY;
 use linked_hash_map::LinkedHashMap;
 use std::alloc::Global;
+use std::cell::Cell;
+use std::hash::Hash;
 use std::process::Abort;
 use std::rc::Rc;
 
@@ -58,6 +62,119 @@ fn looks_each_reference_of_an_extension_up_once(rt: HostRuntime) {
     let wanted = Calls { built: 3, ..NONE };
     let items = [(&1, &1), (&2, &2), (&1, &3)];
     check_calls!(rt; counts, map.extend_refs(items).is_ok(), wanted);
+}
+
+/// Extends a map by one pair.
+fn extend(rt: &impl Abort, map: &mut CallMap, key: &Key, wanted: Calls) {
+    let items = [(key.again(rt), 1)];
+    check_calls!(rt; key.counts, map.extend(items).is_ok(), wanted);
+}
+
+/// Extends a map by a pair of a present key.
+fn extend_present(rt: &impl Abort, map: &mut CallMap, key: &Key) {
+    let wanted = lookup_of(rt, map, key);
+    extend(rt, map, key, wanted);
+}
+
+/// Extends a map of a kind by each of its keys, and by an absent one, which then is present.
+fn extend_each(rt: &impl Abort, alloc: Global, kind: &Kind) {
+    let counts = new_counts(rt, alloc);
+    let mut map = map_of_kind(rt, alloc, kind, &counts);
+    for number in 0..kind.len {
+        extend_present(rt, &mut map, &key_of(rt, &counts, number));
+    }
+    let key = key_of(rt, &counts, 99);
+    extend(rt, &mut map, &key, lookup(kind.same));
+    extend_present(rt, &mut map, &key);
+}
+
+fn extend_in_each(rt: &impl Abort, alloc: Global) {
+    for kind in &KINDS {
+        extend_each(rt, alloc, kind);
+    }
+}
+
+#[test]
+fn looks_the_key_of_an_extension_up_once(rt: HostRuntime) {
+    extend_in_each(&rt, rt.alloc());
+}
+
+/// A map whose keys are copied: their comparisons are counted, and the hashers that are built.
+type CopyMap<'a> = LinkedHashMap<Counting<'a>, u64, Builder>;
+
+/// Makes a map of a kind, whose keys are copied.
+fn copy_map_of_kind<'a>(
+    rt: &impl Abort,
+    alloc: Global,
+    kind: &Kind,
+    counts: &Rc<Counts>,
+    compared: &'a Cell<usize>,
+) -> CopyMap<'a> {
+    let builder = builder_of(rt, counts, kind.build);
+    let mut map =
+        given!(rt; LinkedHashMap::with_capacity_and_hasher(alloc, kind.capacity, builder));
+    for number in 0..kind.len {
+        check!(rt; map.insert(Counting { number, compared }, number).is_ok());
+    }
+    map
+}
+
+/// Extends a map by a reference to one pair.
+fn extend_refs<K: Eq + Hash + Copy>(map: &mut LinkedHashMap<K, u64, Builder>, key: &K) -> bool {
+    map.extend_refs([(key, &1)]).is_ok()
+}
+
+/// Extends a map by a reference, which is to compare so many keys and to build one hasher.
+fn extend_refs_by<'a>(
+    rt: &impl Abort,
+    map: &mut CopyMap<'a>,
+    counts: &Rc<Counts>,
+    key: &Counting<'a>,
+    compared: usize,
+) {
+    key.compared.set(0);
+    let wanted = Calls { built: 1, ..NONE };
+    check_calls!(rt; counts, extend_refs(map, key), wanted);
+    check_eq!(rt; key.compared.get(), compared);
+}
+
+/// Extends a map by a reference to a present key, which compares what `get_counted` says.
+fn extend_refs_present<'a>(
+    rt: &impl Abort,
+    map: &mut CopyMap<'a>,
+    counts: &Rc<Counts>,
+    key: &Counting<'a>,
+) {
+    let compared = map.get_counted(key).1.compared;
+    extend_refs_by(rt, map, counts, key, compared);
+}
+
+/// Extends a map of a kind by references to each of its keys, and to an absent one, which then is
+/// present.
+fn extend_refs_each(rt: &impl Abort, alloc: Global, kind: &Kind) {
+    let counts = new_counts(rt, alloc);
+    let compared = &Cell::new(0);
+    let mut map = copy_map_of_kind(rt, alloc, kind, &counts, compared);
+    for number in 0..kind.len {
+        extend_refs_present(rt, &mut map, &counts, &Counting { number, compared });
+    }
+    let key = Counting {
+        number: 99,
+        compared,
+    };
+    extend_refs_by(rt, &mut map, &counts, &key, kind.same);
+    extend_refs_present(rt, &mut map, &counts, &key);
+}
+
+fn extend_refs_in_each(rt: &impl Abort, alloc: Global) {
+    for kind in &KINDS {
+        extend_refs_each(rt, alloc, kind);
+    }
+}
+
+#[test]
+fn looks_the_key_of_a_reference_up_once(rt: HostRuntime) {
+    extend_refs_in_each(&rt, rt.alloc());
 }
 
 /// A map of the default hasher, which is not counted.

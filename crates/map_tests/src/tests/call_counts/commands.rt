@@ -2,7 +2,7 @@
 
 use super::{CallMap, KINDS, Kind, check_calls, lookup_of, map_of_kind};
 use crate::tests::checks::{check, given};
-use crate::tests::counted_calls::{Calls, Counts, Key, NONE, key_of, new_counts};
+use crate::tests::counted_calls::{Calls, Counts, Key, NONE, key_of, lookup, new_counts};
 use linked_hash_map::Mode;
 use linked_hash_map::replay::{Command, PairList, replay};
 use std::alloc::Global;
@@ -131,6 +131,86 @@ fn run_changing(rt: &impl Abort, alloc: Global, map: &mut CallMap, key: &Key) {
     );
 }
 
+/// Runs the commands that leave an absent key absent.
+fn run_absent(rt: &impl Abort, alloc: Global, map: &mut CallMap, key: &Key, wanted: Calls) {
+    let counts = &key.counts;
+    run(
+        rt,
+        alloc,
+        map,
+        counts,
+        Command::Write(key.again(rt), 1),
+        wanted,
+    );
+    run(
+        rt,
+        alloc,
+        map,
+        counts,
+        Command::Refresh(key.again(rt)),
+        wanted,
+    );
+    run(
+        rt,
+        alloc,
+        map,
+        counts,
+        Command::Remove(key.again(rt)),
+        wanted,
+    );
+    run(
+        rt,
+        alloc,
+        map,
+        counts,
+        Command::EntryRemove(key.again(rt)),
+        wanted,
+    );
+}
+
+/// Runs a command that inserts an absent key, and removes the key again.
+fn run_inserting(
+    rt: &impl Abort,
+    alloc: Global,
+    map: &mut CallMap,
+    key: &Key,
+    command: CallCommand,
+    wanted: Calls,
+) {
+    run(rt, alloc, map, &key.counts, command, wanted);
+    check!(rt; map.remove(key).is_some());
+}
+
+/// Runs each command that inserts an absent key.
+fn run_each_inserting(rt: &impl Abort, alloc: Global, map: &mut CallMap, key: &Key, wanted: Calls) {
+    run_inserting(
+        rt,
+        alloc,
+        map,
+        key,
+        Command::Insert(key.again(rt), 1),
+        wanted,
+    );
+    run_inserting(
+        rt,
+        alloc,
+        map,
+        key,
+        Command::OrInsert(key.again(rt), 1),
+        wanted,
+    );
+    run_inserting(
+        rt,
+        alloc,
+        map,
+        key,
+        Command::EntryInsert(key.again(rt), 1),
+        wanted,
+    );
+    let extension = extension(rt, alloc, key.again(rt));
+    run_inserting(rt, alloc, map, key, extension, wanted);
+}
+
 /// Runs the commands that have no key.
 fn run_without_a_key(rt: &impl Abort, alloc: Global, map: &mut CallMap, counts: &Rc<Counts>) {
     run(rt, alloc, map, counts, Command::Reserve(100), NONE);
@@ -146,6 +226,9 @@ fn run_without_a_key(rt: &impl Abort, alloc: Global, map: &mut CallMap, counts: 
 fn run_each(rt: &impl Abort, alloc: Global, kind: &Kind) {
     let counts = new_counts(rt, alloc);
     let mut map = map_of_kind(rt, alloc, kind, &counts);
+    let absent = key_of(rt, &counts, 99);
+    run_absent(rt, alloc, &mut map, &absent, lookup(kind.same));
+    run_each_inserting(rt, alloc, &mut map, &absent, lookup(kind.same));
     for number in 0..kind.len {
         let key = key_of(rt, &counts, number);
         run_keeping(rt, alloc, &mut map, &key);

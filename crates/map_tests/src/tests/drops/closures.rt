@@ -5,6 +5,7 @@ use crate::tests::checks::check;
 use crate::tests::counted_map::{CountedMap, counted_map_of};
 use crate::tests::tally::{Counted, Tally};
 use linked_hash_map::Entry;
+use linked_hash_map::sessions::Sessions;
 use std::mem::replace;
 use std::process::Abort;
 
@@ -66,7 +67,7 @@ fn drops_what_a_closure_replaces(rt: HostRuntime) {
     assert_dropped(&rt, &tally, 255);
 }
 
-/// The closure goes at once, and the key with its entry.
+/// The closure is dropped at once, and the key with its entry.
 fn modify_absent<'a>(rt: &impl Abort, tally: &'a Tally, map: &mut CountedMap<'a>) {
     let entry = and_modify(map, tally.thing(4, KEY), tally.thing(4, VALUE));
     assert_dropped(rt, tally, VALUE);
@@ -81,4 +82,61 @@ fn drops_a_closure_that_has_nothing_to_modify(rt: HostRuntime) {
     modify_absent(&rt, &tally, &mut map);
     drop(map);
     assert_dropped(&rt, &tally, 255);
+}
+
+/// Removes the pair of a key by a closure, which owns a key of that number.
+fn retain<'a>(map: &mut CountedMap<'a>, owned: Counted<'a>) {
+    map.retain(move |key, _value| *key != owned);
+}
+
+#[test]
+fn drops_the_closure_that_keeps_pairs(rt: HostRuntime) {
+    let tally = Tally::new();
+    let mut map = counted_map_of(&rt, rt.alloc(), &tally, &PAIRS);
+    retain(&mut map, tally.thing(2, OWNED));
+    assert_dropped(&rt, &tally, 12 | OWNED);
+    drop(map);
+    assert_dropped(&rt, &tally, 63 | OWNED);
+}
+
+#[test]
+fn drops_the_closure_that_has_no_pair_to_keep(rt: HostRuntime) {
+    let tally = Tally::new();
+    let mut map = counted_map_of(&rt, rt.alloc(), &tally, &[]);
+    retain(&mut map, tally.thing(2, OWNED));
+    assert_dropped(&rt, &tally, OWNED);
+    drop(map);
+    assert_dropped(&rt, &tally, OWNED);
+}
+
+/// Removes the session of a payload by a closure, which owns a payload of that number.
+fn retain_sessions<'a>(table: &mut Sessions<Counted<'a>>, owned: Counted<'a>) {
+    table.retain(move |_id, _weight, payload| *payload != owned);
+}
+
+/// Puts two sessions, whose payloads have the bits 1 and 2.
+fn put_two<'a>(rt: &impl Abort, tally: &'a Tally, table: &mut Sessions<Counted<'a>>) {
+    check!(rt; table.put(1, 4, tally.thing(1, 1)).is_ok());
+    check!(rt; table.put(2, 4, tally.thing(2, 2)).is_ok());
+}
+
+#[test]
+fn drops_the_closure_that_keeps_sessions(rt: HostRuntime) {
+    let tally = Tally::new();
+    let mut table = Sessions::new(rt.alloc(), 10);
+    put_two(&rt, &tally, &mut table);
+    retain_sessions(&mut table, tally.thing(2, OWNED));
+    assert_dropped(&rt, &tally, 2 | OWNED);
+    drop(table);
+    assert_dropped(&rt, &tally, 3 | OWNED);
+}
+
+#[test]
+fn drops_the_closure_that_has_no_session_to_keep(rt: HostRuntime) {
+    let tally = Tally::new();
+    let mut table = Sessions::new(rt.alloc(), 10);
+    retain_sessions(&mut table, tally.thing(2, OWNED));
+    assert_dropped(&rt, &tally, OWNED);
+    drop(table);
+    assert_dropped(&rt, &tally, OWNED);
 }

@@ -82,8 +82,8 @@ fn occupied<'m, 'a>(
     }
 }
 
-/// Replaces the first value, in both modes, and takes the pair out. Values are handed out, and the
-/// stored key is dropped at once.
+/// Replaces the first value, and takes the pair out. Values are handed out, and the stored key is
+/// dropped at once.
 fn insert_and_remove<'a>(rt: &impl Abort, tally: &'a Tally, map: &mut CountedMap<'a>) {
     let mut entry = occupied(rt, map, tally.thing(1, KEY));
     let old = entry.insert(tally.thing(1, VALUE));

@@ -27,7 +27,7 @@ fn insert_by_entries<'a>(rt: &impl Abort, tally: &'a Tally, mut map: CountedMap<
 }
 
 /// Drops what an entry returns, and returns the bits of all that was dropped: those of the pair
-/// with the answer, if it was refused.
+/// with the result, if it was refused.
 fn drop_put<'a>(
     rt: &impl Abort,
     tally: &Tally,

@@ -85,7 +85,7 @@ fn five_items(tally: &Tally) -> [CountedPair<'_>; 5] {
 }
 
 /// Drops what an extension returns that left so many pairs. It dropped the present key, the value
-/// that was replaced and the items behind the refused one, which is dropped with the answer.
+/// that was replaced and the items behind the refused one, which is dropped with the result.
 fn drop_refused(
     rt: &impl Abort,
     tally: &Tally,

@@ -59,7 +59,7 @@ fn find_occupied(rt: &impl Abort, map: &mut Map) {
     check_eq!(rt; *map.entry(1).and_modify(|value| *value = 15).key(), 1);
 }
 
-/// Goes over the entries of a map that has two.
+/// Edits the entries of a map that has two, by a cursor.
 fn use_cursor(rt: &impl Abort, map: &mut Map) {
     let mut entries = map.entries();
     check_eq!(rt; entries.remaining(), 2);

@@ -51,7 +51,7 @@ fn index(rt: &impl Abort, map: &Map, key: u8, value: u64) {
     }
 }
 
-/// Goes over a map that has `PAIRS`, and over a clone of its iterator.
+/// Iterates over a map that has `PAIRS`, and by a clone of the iterator.
 fn iterate_pairs(rt: &impl Abort, map: &Map) {
     let mut pairs = map.iter();
     check_eq!(rt; (pairs.next(), pairs.next_back()), (Some((&1, &10)), Some((&3, &30))));
@@ -78,7 +78,7 @@ fn iterate_values(rt: &impl Abort, map: &Map) {
     check_eq!(rt; (values.len(), values.next(), values.next()), (1, Some(&20), None));
 }
 
-/// Goes over a map by a loop.
+/// Loops over a map.
 fn loop_over(rt: &impl Abort, map: &Map) {
     for (key, value) in map {
         check_get(rt, map, *key, Some(value));

@@ -145,7 +145,7 @@ fn reserve_and_shrink(rt: &impl Abort, map: &mut Map) {
     check_reserve(rt, map, 2, Ok(()));
     assert_map(rt, map, &[(1, 1)], 3, 0);
     map.clear();
-    // All nodes, the buckets and their filter go.
+    // All nodes, the buckets and their filter are freed.
     check_shrink(rt, map);
     assert_map(rt, map, &[], 0, 0);
 }

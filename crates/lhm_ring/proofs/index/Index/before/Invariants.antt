@@ -4,10 +4,11 @@ use Rattle.lhm_ring.proofs.NodeBefore.{IsTowards}
 use Rattle.lhm_ring.proofs.index.Index.before.Given as goal
 
 abbrev pub invariant-chain : goal.invariant-chain
-invariant-chain g l =
-    IsTowards l.self l.hash l.fn.ring.held l.ring.held (pointer_of l.at) (pointer_of_some l.link) (pointer_of_some l.before) (pointer_of l.here) l.passed
-    × (l.ring.spares ≡ l.fn.ring.spares)
-    × (l.ring.nodes ≡ l.fn.ring.nodes)
+invariant-chain g l = record {
+  towards : IsTowards l.self l.hash l.fn.ring.held l.ring.held (pointer_of l.at) (pointer_of_some l.link) (pointer_of_some l.before) (pointer_of l.here) l.passed;
+  spares : l.ring.spares ≡ l.fn.ring.spares;
+  nodes : l.ring.nodes ≡ l.fn.ring.nodes;
+}
 
 abbrev pub decreases-chain : goal.decreases-chain
 decreases-chain g l = length l.fn.ring.held - l.passed

@@ -1,7 +1,7 @@
 use Rattle.std.proofs.Common.{◌≡◌, ℕ, List, [], ◌∷◌, ◌++◌, length, append_assoc, append-nil, sym, ap, ◌∙◌, subst, refl, arith}
 use Rattle.std.specs.List.{AllZip}
 use Rattle.std.proofs.lemmas.Result.{MatchResult-from_err}
-use Rattle.lhm_ring.specs.RingState.{Held, triples}
+use Rattle.lhm_ring.specs.RingState.{Held, triples, IsTripleClone}
 use Rattle.lhm_ring.proofs.Ends.{AllZip-last, triples-pushed}
 use Rattle.lhm_ring.proofs.into_iter.IntoIterClone.clone.Goals as goal
 
@@ -11,22 +11,23 @@ loop-hash-init g c =
     record {
       first = [];
       split = sym c.self.view_is ∙ ap triples (sym all);
-      each = subst (λ (hs : List (Held (g.row.K.Denot × g.row.V.Denot))). AllZip {A = ℕ × (g.row.K.Denot × g.row.V.Denot)} (λ t u. (u.0 ≡ t.0) × g.K.Clone.is_clone t.1.0 u.1.0 × g.V.Clone.is_clone t.1.1 u.1.1) [] (triples hs)) (sym c.in_ok-ring.ensures.empty) tt;
+      each = subst (λ (hs : List (Held (g.row.K.Denot × g.row.V.Denot))). AllZip {A = ℕ × (g.row.K.Denot × g.row.V.Denot)} (IsTripleClone g.K.Clone.is_clone g.V.Clone.is_clone) [] (triples hs)) (sym c.in_ok-ring.ensures.empty) tt;
       room = c.in_ok-ring.ensures.spares ∙ c.len.ensures.value ∙ ap length (sym all);
     }
 
 pub loop-hash-preserved : goal.loop-hash-preserved
 loop-hash-preserved g c =
     let inv = c.loop-hash.invariant in
-    let step = c.in-Some.ensures.steps.2 in
+    let step = c.in-Some.ensures.steps.is in
     let triple : ℕ × (g.row.K.Denot × g.row.V.Denot) = (c.in-Some.hash, (c.in-Some.key.now, c.in-Some.value.now)) in
     let long = ap length step in
     record {
       first = inv.first ++ triple ∷ [];
       split = inv.split ∙ ap (λ hs. inv.first ++ triples hs) step ∙ sym (append_assoc inv.first (triple ∷ []) (triples c.next.new.self));
-      each = subst (AllZip {B = ℕ × (g.row.K.Denot × g.row.V.Denot)} (λ t u. (u.0 ≡ t.0) × g.K.Clone.is_clone t.1.0 u.1.0 × g.V.Clone.is_clone t.1.1 u.1.1) (inv.first ++ triple ∷ []))
+      each = subst (AllZip {B = ℕ × (g.row.K.Denot × g.row.V.Denot)} (IsTripleClone g.K.Clone.is_clone g.V.Clone.is_clone) (inv.first ++ triple ∷ []))
           (sym (triples-pushed c.put_back.new.self.held c.loop-hash.ring.held _ c.put_back.ensures.last))
-          (AllZip-last _ inv.first (triples c.loop-hash.ring.held) triple (c.in-Some.hash, (c.in_ok-clone.field-0, c.in_ok-clone-2.field-0)) inv.each (refl, c.in_ok-clone.ensures.cases, c.in_ok-clone-2.ensures.cases));
+          (AllZip-last _ inv.first (triples c.loop-hash.ring.held) triple (c.in-Some.hash, (c.in_ok-clone.field-0, c.in_ok-clone-2.field-0)) inv.each
+          (record { hash = refl; key = c.in_ok-clone.ensures.cases; value = c.in_ok-clone-2.ensures.cases }));
       room = omega (arith, c.put_back.ensures.spares, inv.room, long);
     }
 
@@ -35,8 +36,8 @@ returns g c =
     let inv = c.loop-hash.invariant in
     let all = inv.split ∙ ap (λ hs. inv.first ++ triples hs) c.in-None.ensures.steps.0 ∙ append-nil inv.first in
     record {
-      cases = subst (AllZip (λ t u. (u.0 ≡ t.0) × g.K.Clone.is_clone t.1.0 u.1.0 × g.V.Clone.is_clone t.1.1 u.1.1) c.args.self.now) (sym c.new.ensures)
-          (subst (λ (ts : List (ℕ × (g.row.K.Denot × g.row.V.Denot))). AllZip (λ t u. (u.0 ≡ t.0) × g.K.Clone.is_clone t.1.0 u.1.0 × g.V.Clone.is_clone t.1.1 u.1.1) ts (triples c.loop-hash.ring.held)) (sym all) inv.each);
+      cases = subst (AllZip (IsTripleClone g.K.Clone.is_clone g.V.Clone.is_clone) c.args.self.now) (sym c.new.ensures)
+          (subst (λ (ts : List (ℕ × (g.row.K.Denot × g.row.V.Denot))). AllZip (IsTripleClone g.K.Clone.is_clone g.V.Clone.is_clone) ts (triples c.loop-hash.ring.held)) (sym all) inv.each);
     }
 
 -- something is left to clone, so the clone is not of nothing
@@ -47,10 +48,10 @@ some_left all (x ∷ xs) hs t ts e h n = absurd (cc)
 
 pub returns-in_err-clone : goal.returns-in_err-clone
 returns-in_err-clone g c =
-    let some = some_left c.args.self.now c.loop-hash.invariant.first _ _ _ c.loop-hash.invariant.split c.in-Some.ensures.steps.2 in
+    let some = some_left c.args.self.now c.loop-hash.invariant.first _ _ _ c.loop-hash.invariant.split c.in-Some.ensures.steps.is in
     record { cases = MatchResult-from_err _ _ _ c.from_residual-in_err-clone.ensures.0 (λ e. some) }
 
 pub returns-in_err-clone-2 : goal.returns-in_err-clone-2
 returns-in_err-clone-2 g c =
-    let some = some_left c.args.self.now c.loop-hash.invariant.first _ _ _ c.loop-hash.invariant.split c.in-Some.ensures.steps.2 in
+    let some = some_left c.args.self.now c.loop-hash.invariant.first _ _ _ c.loop-hash.invariant.split c.in-Some.ensures.steps.is in
     record { cases = MatchResult-from_err _ _ _ c.from_residual-in_err-clone-2.ensures.0 (λ e. some) }

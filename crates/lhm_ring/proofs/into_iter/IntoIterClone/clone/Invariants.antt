@@ -1,12 +1,12 @@
 use Rattle.std.proofs.Common.{◌≡◌, ℕ, List, ◌++◌, length}
 use Rattle.std.specs.List.{AllZip}
-use Rattle.lhm_ring.specs.RingState.{triples}
+use Rattle.lhm_ring.specs.RingState.{triples, IsTripleClone}
 use Rattle.lhm_ring.proofs.into_iter.IntoIterClone.clone.Given as goal
 
 abbrev pub invariant-loop-hash : goal.invariant-loop-hash
 invariant-loop-hash g l = record {
   first : List (ℕ × (g.row.K.Denot × g.row.V.Denot));
   split : l.self ≡ first ++ triples l.hash-iterator;
-  each : AllZip (λ t u. (u.0 ≡ t.0) × g.K.Clone.is_clone t.1.0 u.1.0 × g.V.Clone.is_clone t.1.1 u.1.1) first (triples l.ring.held);
+  each : AllZip (IsTripleClone g.K.Clone.is_clone g.V.Clone.is_clone) first (triples l.ring.held);
   room : l.ring.spares ≡ length l.hash-iterator;
 }

@@ -13,4 +13,8 @@ pub returns-in-Some : goal.returns-in-Some
 returns-in-Some g c =
     let i = c.self.inside in let l = first_lent i.loan.run i.holes _ c.step.new.self c.in-Some.ensures.1 c.self.invariant in
     let same = same_value _ _ _ l.0 c.take.ensures.value in
-    (c.in-Some.at.ptr, c.in-Some.ensures.0, sym (ap (λ s. s.0) c.self.view_is) ∙ c.in-Some.ensures.1 ∙ ap (λ w. record { at = c.in-Some.at.ptr; hash = c.in-Some.hash; link = c.in-Some.ensures.0; pair = (c.in-Some.key.now, w) } ∷ c.step.new.self) same)
+    record {
+      at = c.in-Some.at.ptr;
+      link = c.in-Some.ensures.0;
+      is = sym (ap (λ s. s.0) c.self.view_is) ∙ c.in-Some.ensures.1 ∙ ap (λ w. record { at = c.in-Some.at.ptr; hash = c.in-Some.hash; link = c.in-Some.ensures.0; pair = (c.in-Some.key.now, w) } ∷ c.step.new.self) same;
+    }

@@ -15,53 +15,55 @@ use Rattle.lhm_ring.proofs.ring.Ring.call_at.Goals as goal
 pub take-key-requires : goal.take-key-requires
 take-key-requires g c =
     let i = c.self.inside in let p = c.args.at.pointer.ptr in
-    holds_in i.ends i.nodes.cells p c.args.at.block (read_held (ring_cells i.ends i.nodes.cells) i.spare i.len i.spares _ c.self.invariant.0 c.self.view_is p c.requires.0)
+    holds_in i.ends i.nodes.cells p c.args.at.block (read_held (ring_cells i.ends i.nodes.cells) i.spare i.len i.spares _ c.self.invariant.ring c.self.view_is p c.requires.0)
 
 pub call-kept-requires : goal.call-kept-requires
 call-kept-requires g c =
     let i = c.self.inside in let h = c.requires.0 in let p = c.args.at.pointer.ptr in let b = ring_body i.ends i.nodes.cells p c.args.at.block ∙ c.take-key.ensures.body in
-    let is = read_pair (ring_cells i.ends i.nodes.cells) i.spare i.len i.spares _ c.self.invariant.0 c.self.view_is p _ b h.before h.node h.after h.is h.at_is in
+    let is = read_pair (ring_cells i.ends i.nodes.cells) i.spare i.len i.spares _ c.self.invariant.ring c.self.view_is p _ b h.before h.node h.after h.is h.at_is in
     λ p q key value. c.requires.1 p q (key ∙ ap (λ z. z.0) is) (value ∙ ap (λ z. z.1) is)
 
 pub fill-requires : goal.fill-requires
 fill-requires g c =
     let i = c.self.inside in let h = c.requires.0 in let p = c.args.at.pointer.ptr in let zs = i.nodes.cells in
-    let l = read_links (ring_cells i.ends zs) i.spare i.len i.spares _ c.self.invariant.0 c.self.view_is p h.before h.node h.after h.is h.at_is in
+    let l = read_links (ring_cells i.ends zs) i.spare i.len i.spares _ c.self.invariant.ring c.self.view_is p h.before h.node h.after h.is h.at_is in
     let e = sym (ring_links i.ends zs p c.args.at.block) ∙ l.1 in
     (l.0, ap (λ ds. links_at ds p) c.take-key.ensures.cells ∙ links_kept p None zs l.0 e p ∙ e)
 
 pub invariant_of-self : goal.invariant_of-self
 invariant_of-self g c =
     let i = c.self.inside in let h = c.requires.0 in let p = c.args.at.pointer.ptr in let cs = ring_cells i.ends i.nodes.cells in
-    let l = read_links cs i.spare i.len i.spares _ c.self.invariant.0 c.self.view_is p h.before h.node h.after h.is h.at_is in
+    let l = read_links cs i.spare i.len i.spares _ c.self.invariant.ring c.self.view_is p h.before h.node h.after h.is h.at_is in
     let x = pair c.take-key.result.0 c.call-kept.new.value in
-    let k = held_in cs i.spare i.len i.spares _ c.self.invariant.0 c.self.view_is p h in
-    let j = body_changes cs p l.0 l.1 h.node (content_at-held cs i.spare i.len i.spares _ c.self.invariant.0 c.self.view_is p h.before h.node h.after h.is h.at_is) x in
-    let z = c.fill.ensures.cells ∙ ap (with_body p (Some x)) c.take-key.ensures.cells ∙ body_twice p x i.nodes.cells in (
-      subst (λ ds. RingOk ds i.spare i.len i.spares) (sym (ring_with_body i.ends i.nodes.cells p c.args.at.block (Some x) c.fill.new.self.cells z))
-          (ring_ok_same cs _ p h.node _ j i.spare i.len i.spares c.self.invariant.0 k),
-      still_laid c.self.invariant.1 (c.fill.ensures.land.0 ∙ c.take-key.ensures.land.0) (c.fill.ensures.land.1 ∙ c.take-key.ensures.land.1),
-    )
+    let k = held_in cs i.spare i.len i.spares _ c.self.invariant.ring c.self.view_is p h in
+    let j = body_changes cs p l.0 l.1 h.node (content_at-held cs i.spare i.len i.spares _ c.self.invariant.ring c.self.view_is p h.before h.node h.after h.is h.at_is) x in
+    let z = c.fill.ensures.cells ∙ ap (with_body p (Some x)) c.take-key.ensures.cells ∙ body_twice p x i.nodes.cells in
+    record {
+      ring = subst (λ ds. RingOk ds i.spare i.len i.spares) (sym (ring_with_body i.ends i.nodes.cells p c.args.at.block (Some x) c.fill.new.self.cells z))
+          (ring_ok_same cs _ p h.node _ j i.spare i.len i.spares c.self.invariant.ring k);
+      laid = still_laid c.self.invariant.laid (c.fill.ensures.land.0 ∙ c.take-key.ensures.land.0) (c.fill.ensures.land.1 ∙ c.take-key.ensures.land.1);
+    }
 
 pub returns-clause-called : goal.returns-clause-called
 returns-clause-called g c =
     let i = c.self.inside in let h = c.requires.0 in let p = c.args.at.pointer.ptr in let cs = ring_cells i.ends i.nodes.cells in
     let v = c.self.view_is in
-    let l = read_links cs i.spare i.len i.spares _ c.self.invariant.0 v p h.before h.node h.after h.is h.at_is in
+    let l = read_links cs i.spare i.len i.spares _ c.self.invariant.ring v p h.before h.node h.after h.is h.at_is in
     let w = c.call-kept.new.value in
     let x = pair c.take-key.result.0 w in
-    let is = read_pair cs i.spare i.len i.spares _ c.self.invariant.0 v p _ (ring_body i.ends i.nodes.cells p c.args.at.block ∙ c.take-key.ensures.body) in
-    let j = body_changes cs p l.0 l.1 h.node (content_at-held cs i.spare i.len i.spares _ c.self.invariant.0 v p h.before h.node h.after h.is h.at_is) x in
+    let is = read_pair cs i.spare i.len i.spares _ c.self.invariant.ring v p _ (ring_body i.ends i.nodes.cells p c.args.at.block ∙ c.take-key.ensures.body) in
+    let j = body_changes cs p l.0 l.1 h.node (content_at-held cs i.spare i.len i.spares _ c.self.invariant.ring v p h.before h.node h.after h.is h.at_is) x in
     let f : Held (g.row.K.Denot × g.row.V.Denot) → Held (g.row.K.Denot × g.row.V.Denot) = revalued w in
     let same = ap (λ (z : g.row.K.Denot × g.row.V.Denot). record h.node { pair = pair z.0 w }) (sym (is h.before h.node h.after h.is h.at_is)) in
     let z = c.fill.ensures.cells ∙ ap (with_body p (Some x)) c.take-key.ensures.cells ∙ body_twice p x i.nodes.cells in
-    let q = ap (λ ds. ring_list ds i.len) (ring_with_body i.ends i.nodes.cells p c.args.at.block (Some x) c.fill.new.self.cells z) ∙ ring_list_changed cs _ p h.node _ j f same i.len in (
-      w,
-      λ xs t ys e at. subst (λ (z : g.row.K.Denot × g.row.V.Denot). CalledAtPair g.F.FnMut c.args.keep.now z.0 z.1 c.call-kept.result w c.call-kept.new.keep) (is xs t ys e at) c.call-kept.ensures,
-      λ y. state ((q ∙ ap (λ (z : _). change_at p f z.held) v) y) (v y).spares (v y).nodes,
-    )
+    let q = ap (λ ds. ring_list ds i.len) (ring_with_body i.ends i.nodes.cells p c.args.at.block (Some x) c.fill.new.self.cells z) ∙ ring_list_changed cs _ p h.node _ j f same i.len in
+    record {
+      value = w;
+      at_pair = λ xs t ys e at. subst (λ (z : g.row.K.Denot × g.row.V.Denot). CalledAtPair g.F.FnMut c.args.keep.now z.0 z.1 c.call-kept.result w c.call-kept.new.keep) (is xs t ys e at) c.call-kept.ensures;
+      new_is = λ y. state ((q ∙ ap (λ (z : _). change_at p f z.held) v) y) (v y).spares (v y).nodes;
+    }
 
 pub returns-clause-alone : goal.returns-clause-alone
 returns-clause-alone g c =
     let i = c.self.inside in
-    changes_only (ring_cells i.ends i.nodes.cells) i.spare i.len i.spares _ c.self.invariant.0 c.self.view_is c.args.at.pointer.ptr
+    changes_only (ring_cells i.ends i.nodes.cells) i.spare i.len i.spares _ c.self.invariant.ring c.self.view_is c.args.at.pointer.ptr

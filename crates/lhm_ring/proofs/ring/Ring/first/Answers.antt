@@ -8,4 +8,4 @@ use Rattle.lhm_ring.proofs.ring.Ring.first.Goals as goal
 pub returns : goal.returns
 returns g c =
     let i = c.self.inside in
-    c.get.ensures ∙ sym (ap led_to (ring_first i.ends i.nodes.cells)) ∙ first_found (ring_cells i.ends i.nodes.cells) i.spare i.len i.spares _ c.self.invariant.0 c.self.view_is
+    c.get.ensures ∙ sym (ap led_to (ring_first i.ends i.nodes.cells)) ∙ first_found (ring_cells i.ends i.nodes.cells) i.spare i.len i.spares _ c.self.invariant.ring c.self.view_is

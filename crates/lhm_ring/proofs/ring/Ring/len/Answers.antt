@@ -7,7 +7,7 @@ use Rattle.lhm_ring.proofs.ring.Ring.len.Goals as goal
 pub returns : goal.returns
 returns g c =
     let i = c.self.inside in record {
-      value = ring_length (ring_cells i.ends i.nodes.cells) i.spare i.len i.spares _ c.self.invariant.0 c.self.view_is;
-      bounded = ring_bounded (ring_cells i.ends i.nodes.cells) i.spare i.len i.spares _ c.self.invariant.0 c.self.view_is;
-      within = ring_within (ring_cells i.ends i.nodes.cells) i.spare i.len i.spares _ (ap suc (count_made i.nodes.cells i.nodes.unused i.nodes.node_bytes i.nodes.chunks i.nodes.laid c.self.invariant.1.none_unused ∙ sym c.self.invariant.1.all_made)) c.self.invariant.0 c.self.view_is;
+      value = ring_length (ring_cells i.ends i.nodes.cells) i.spare i.len i.spares _ c.self.invariant.ring c.self.view_is;
+      bounded = ring_bounded (ring_cells i.ends i.nodes.cells) i.spare i.len i.spares _ c.self.invariant.ring c.self.view_is;
+      within = ring_within (ring_cells i.ends i.nodes.cells) i.spare i.len i.spares _ (ap suc (count_made i.nodes.cells i.nodes.unused i.nodes.node_bytes i.nodes.chunks i.nodes.laid c.self.invariant.laid.none_unused ∙ sym c.self.invariant.laid.all_made)) c.self.invariant.ring c.self.view_is;
     }

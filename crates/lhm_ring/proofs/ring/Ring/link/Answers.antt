@@ -7,11 +7,11 @@ use Rattle.lhm_ring.proofs.ring.Ring.link.Goals as goal
 
 pub links-requires : goal.links-requires
 links-requires g c = let i = c.self.inside in
-    in_nodes i.ends i.nodes.cells c.args.at.pointer.ptr c.args.at.block (read_at (ring_cells i.ends i.nodes.cells) i.spare i.len i.spares _ c.self.invariant.0 c.self.view_is c.args.at.pointer.ptr c.requires)
+    in_nodes i.ends i.nodes.cells c.args.at.pointer.ptr c.args.at.block (read_at (ring_cells i.ends i.nodes.cells) i.spare i.len i.spares _ c.self.invariant.ring c.self.view_is c.args.at.pointer.ptr c.requires)
 
 pub returns : goal.returns
 returns g c =
     let i = c.self.inside in record {
-      link = λ xs t ys h at. c.get.ensures ∙ read_link (ring_cells i.ends i.nodes.cells) i.spare i.len i.spares _ c.self.invariant.0 c.self.view_is c.args.at.pointer.ptr _ (ring_links i.ends i.nodes.cells c.args.at.pointer.ptr c.args.at.block ∙ c.links.ensures) xs t ys h at;
-      blocks = held_blocks i.ends i.nodes.cells i.nodes.blocks i.spare i.len i.spares _ c.self.invariant.0 c.self.view_is;
+      link = λ xs t ys h at. c.get.ensures ∙ read_link (ring_cells i.ends i.nodes.cells) i.spare i.len i.spares _ c.self.invariant.ring c.self.view_is c.args.at.pointer.ptr _ (ring_links i.ends i.nodes.cells c.args.at.pointer.ptr c.args.at.block ∙ c.links.ensures) xs t ys h at;
+      blocks = held_blocks i.ends i.nodes.cells i.nodes.blocks i.spare i.len i.spares _ c.self.invariant.ring c.self.view_is;
     }

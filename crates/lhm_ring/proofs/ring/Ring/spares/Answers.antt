@@ -5,7 +5,7 @@ use Rattle.lhm_ring.proofs.Places.{count_made}
 use Rattle.lhm_ring.proofs.ring.Ring.spares.Goals as goal
 
 pub returns-clause-bounded : goal.returns-clause-bounded
-returns-clause-bounded g c = let i = c.self.inside in ring_bounded (ring_cells i.ends i.nodes.cells) i.spare i.len i.spares _ c.self.invariant.0 c.self.view_is
+returns-clause-bounded g c = let i = c.self.inside in ring_bounded (ring_cells i.ends i.nodes.cells) i.spare i.len i.spares _ c.self.invariant.ring c.self.view_is
 
 pub returns-clause-within : goal.returns-clause-within
-returns-clause-within g c = let i = c.self.inside in ring_within (ring_cells i.ends i.nodes.cells) i.spare i.len i.spares _ (ap suc (count_made i.nodes.cells i.nodes.unused i.nodes.node_bytes i.nodes.chunks i.nodes.laid c.self.invariant.1.none_unused ∙ sym c.self.invariant.1.all_made)) c.self.invariant.0 c.self.view_is
+returns-clause-within g c = let i = c.self.inside in ring_within (ring_cells i.ends i.nodes.cells) i.spare i.len i.spares _ (ap suc (count_made i.nodes.cells i.nodes.unused i.nodes.node_bytes i.nodes.chunks i.nodes.laid c.self.invariant.laid.none_unused ∙ sym c.self.invariant.laid.all_made)) c.self.invariant.ring c.self.view_is

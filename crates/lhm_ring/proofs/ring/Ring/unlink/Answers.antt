@@ -11,12 +11,12 @@ use Rattle.lhm_ring.proofs.ring.Ring.unlink.Goals as goal
 pub links-old-requires : goal.links-old-requires
 links-old-requires g c =
     let i = c.self.inside in let p = c.args.at.pointer.ptr in
-    in_nodes i.ends i.nodes.cells p c.args.at.block (read_at (ring_cells i.ends i.nodes.cells) i.spare i.len i.spares _ c.self.invariant.0 c.self.view_is p c.requires)
+    in_nodes i.ends i.nodes.cells p c.args.at.block (read_at (ring_cells i.ends i.nodes.cells) i.spare i.len i.spares _ c.self.invariant.ring c.self.view_is p c.requires)
 
 pub join-requires : goal.join-requires
 join-requires g c =
     let i = c.self.inside in let p = c.args.at.pointer.ptr in let cs = ring_cells i.ends i.nodes.cells in
-    let s = node_in cs i.spare i.len i.spares _ p c.self.invariant.0 c.self.view_is c.requires in
+    let s = node_in cs i.spare i.len i.spares _ p c.self.invariant.ring c.self.view_is c.requires in
     let e = ring_links i.ends i.nodes.cells p c.args.at.block ∙ c.links-old.ensures in
     (subst (λ q. is_there cs q ≡ true) (ap prev_of e) (prev_there _ _ _ _ _ _ s.ring), subst (λ q. is_there cs q ≡ true) (ap next_of e) (next_there _ _ _ _ _ _ s.ring))
 
@@ -24,40 +24,41 @@ pub take-key-requires : goal.take-key-requires
 take-key-requires g c =
     let i = c.self.inside in let at = c.args.at.pointer in let b = c.args.at.block in
     let e = ring_links i.ends i.nodes.cells at.ptr b ∙ c.links-old.ensures in
-    holds_in c.join.new.ends c.join.new.nodes.cells at.ptr b (taken_holds (ring_cells i.ends i.nodes.cells) i.spare i.len i.spares _ c.self.invariant.0 c.self.view_is at _ e _ c.join.ensures.joined c.requires)
+    holds_in c.join.new.ends c.join.new.nodes.cells at.ptr b (taken_holds (ring_cells i.ends i.nodes.cells) i.spare i.len i.spares _ c.self.invariant.ring c.self.view_is at _ e _ c.join.ensures.joined c.requires)
 
 pub relink-requires : goal.relink-requires
 relink-requires g c =
     let i = c.self.inside in let at = c.args.at.pointer in let b = c.args.at.block in let ends = c.join.new.ends in let zs = c.join.new.nodes.cells in let ws = c.take-key.new.self.cells in
     let e = ring_links i.ends i.nodes.cells at.ptr b ∙ c.links-old.ensures in
     in_nodes ends ws at.ptr b
-    (taken_at (ring_cells i.ends i.nodes.cells) i.spare i.len i.spares _ c.self.invariant.0 c.self.view_is at _ e _ c.join.ensures.joined _ (ring_body ends zs at.ptr b ∙ c.take-key.ensures.body) _ (ring_cells ends ws)
+    (taken_at (ring_cells i.ends i.nodes.cells) i.spare i.len i.spares _ c.self.invariant.ring c.self.view_is at _ e _ c.join.ensures.joined _ (ring_body ends zs at.ptr b ∙ c.take-key.ensures.body) _ (ring_cells ends ws)
     (ring_with_body ends zs at.ptr b None ws c.take-key.ensures.cells) c.requires)
 
 pub overflow_sub-self : goal.overflow_sub-self
 overflow_sub-self g c =
     let i = c.self.inside in let at = c.args.at.pointer in let e = ring_links i.ends i.nodes.cells at.ptr c.args.at.block ∙ c.links-old.ensures in
-    some_held (ring_cells i.ends i.nodes.cells) i.spare i.len i.spares _ c.self.invariant.0 c.self.view_is at _ e _ c.join.ensures.joined c.requires
+    some_held (ring_cells i.ends i.nodes.cells) i.spare i.len i.spares _ c.self.invariant.ring c.self.view_is at _ e _ c.join.ensures.joined c.requires
 
 pub invariant_of-self : goal.invariant_of-self
 invariant_of-self g c =
     let i = c.self.inside in let at = c.args.at.pointer in let b = c.args.at.block in let ends = c.join.new.ends in let zs = c.join.new.nodes.cells in let ws = c.take-key.new.self.cells in
-    let e = ring_links i.ends i.nodes.cells at.ptr b ∙ c.links-old.ensures in (
-      taken_ring (ring_cells i.ends i.nodes.cells) i.spare i.len i.spares _ c.self.invariant.0 c.self.view_is at _ e _ c.join.ensures.joined _ (ring_body ends zs at.ptr b ∙ c.take-key.ensures.body) _ _
-          (ring_with_body ends zs at.ptr b None ws c.take-key.ensures.cells) (relinks_ring ends ws at.ptr b i.spare c.relink.new.nodes.cells c.relink.ensures.relinked) c.to-self-inside.result c.to-self-inside.ensures c.requires,
-      still_laid c.self.invariant.1 (c.relink.ensures.land.0 ∙ c.take-key.ensures.land.0 ∙ c.join.ensures.land.0) (c.relink.ensures.land.1 ∙ c.take-key.ensures.land.1 ∙ c.join.ensures.land.1),
-    )
+    let e = ring_links i.ends i.nodes.cells at.ptr b ∙ c.links-old.ensures in
+    record {
+      ring = taken_ring (ring_cells i.ends i.nodes.cells) i.spare i.len i.spares _ c.self.invariant.ring c.self.view_is at _ e _ c.join.ensures.joined _ (ring_body ends zs at.ptr b ∙ c.take-key.ensures.body) _ _
+          (ring_with_body ends zs at.ptr b None ws c.take-key.ensures.cells) (relinks_ring ends ws at.ptr b i.spare c.relink.new.nodes.cells c.relink.ensures.relinked) c.to-self-inside.result c.to-self-inside.ensures c.requires;
+      laid = still_laid c.self.invariant.laid (c.relink.ensures.land.0 ∙ c.take-key.ensures.land.0 ∙ c.join.ensures.land.0) (c.relink.ensures.land.1 ∙ c.take-key.ensures.land.1 ∙ c.join.ensures.land.1);
+    }
 
 pub returns : goal.returns
 returns g c =
     let i = c.self.inside in let h = c.requires in let at = c.args.at.pointer in let b = c.args.at.block in let ends = c.join.new.ends in let zs = c.join.new.nodes.cells in let ws = c.take-key.new.self.cells in
     let e = ring_links i.ends i.nodes.cells at.ptr b ∙ c.links-old.ensures in
-    let l = taken_list (ring_cells i.ends i.nodes.cells) i.spare i.len i.spares _ c.self.invariant.0 c.self.view_is at _ e _ c.join.ensures.joined _ (ring_body ends zs at.ptr b ∙ c.take-key.ensures.body) _ _
+    let l = taken_list (ring_cells i.ends i.nodes.cells) i.spare i.len i.spares _ c.self.invariant.ring c.self.view_is at _ e _ c.join.ensures.joined _ (ring_body ends zs at.ptr b ∙ c.take-key.ensures.body) _ _
     (ring_with_body ends zs at.ptr b None ws c.take-key.ensures.cells) (relinks_ring ends ws at.ptr b i.spare c.relink.new.nodes.cells c.relink.ensures.relinked) in
     record {
-      others = λ xs t ys cut at. ap (λ z. z.held) (l xs t ys cut at).0;
-      triple = λ xs t ys cut at. let q = l xs t ys cut at in λ z. (q.1 z, (q.2 z).0, (q.2 z).1);
-      spares = ap (λ z. z.spares) (l h.before h.node h.after h.is h.at_is).0;
+      others = λ xs t ys cut at. ap (λ z. z.held) (l xs t ys cut at).left;
+      triple = λ xs t ys cut at. let q = l xs t ys cut at in λ z. (q.hash z, (q.pair z).0, (q.pair z).1);
+      spares = ap (λ z. z.spares) (l h.before h.node h.after h.is h.at_is).left;
       nodes = ap (λ z. z.nodes) c.self.view_is;
     }
 

@@ -12,27 +12,30 @@ use Rattle.lhm_ring.proofs.ring.Ring.value_mut.Goals as goal
 pub value_mut-requires : goal.value_mut-requires
 value_mut-requires g c =
     let i = c.self.inside in let p = c.args.at.pointer.ptr in
-    holds_in i.ends i.nodes.cells p c.args.at.block (read_held (ring_cells i.ends i.nodes.cells) i.spare i.len i.spares _ c.self.invariant.0 c.self.view_is p c.requires)
+    holds_in i.ends i.nodes.cells p c.args.at.block (read_held (ring_cells i.ends i.nodes.cells) i.spare i.len i.spares _ c.self.invariant.ring c.self.view_is p c.requires)
 
 pub invariant_of-self-lent : goal.invariant_of-self-lent
 invariant_of-self-lent g c w =
     let i = c.self.inside in let h = c.requires in let p = c.args.at.pointer.ptr in let cs = ring_cells i.ends i.nodes.cells in
-    let l = read_links cs i.spare i.len i.spares _ c.self.invariant.0 c.self.view_is p h.before h.node h.after h.is h.at_is in
-    let b = c.value_mut.ensures.value in let k = held_in cs i.spare i.len i.spares _ c.self.invariant.0 c.self.view_is p h in
-    let j = body_changes cs p l.0 l.1 h.node (content_at-held cs i.spare i.len i.spares _ c.self.invariant.0 c.self.view_is p h.before h.node h.after h.is h.at_is) (pair b.0 w) in
+    let l = read_links cs i.spare i.len i.spares _ c.self.invariant.ring c.self.view_is p h.before h.node h.after h.is h.at_is in
+    let b = c.value_mut.ensures.value in let k = held_in cs i.spare i.len i.spares _ c.self.invariant.ring c.self.view_is p h in
+    let j = body_changes cs p l.0 l.1 h.node (content_at-held cs i.spare i.len i.spares _ c.self.invariant.ring c.self.view_is p h.before h.node h.after h.is h.at_is) (pair b.0 w) in
     let z = ring_with_body i.ends i.nodes.cells p c.args.at.block _ _ (ap (λ o. with_body p (value_set w o) i.nodes.cells) b.1) in
-    (subst (λ zs. RingOk zs i.spare i.len i.spares) (sym z) (ring_ok_same cs _ p h.node _ j i.spare i.len i.spares c.self.invariant.0 k), c.self.invariant.1)
+    record {
+      ring = subst (λ zs. RingOk zs i.spare i.len i.spares) (sym z) (ring_ok_same cs _ p h.node _ j i.spare i.len i.spares c.self.invariant.ring k);
+      laid = c.self.invariant.laid;
+    }
 
 pub returns : goal.returns
 returns g c =
     let i = c.self.inside in let h = c.requires in let p = c.args.at.pointer.ptr in let cs = ring_cells i.ends i.nodes.cells in
-    let l = read_links cs i.spare i.len i.spares _ c.self.invariant.0 c.self.view_is p h.before h.node h.after h.is h.at_is in
+    let l = read_links cs i.spare i.len i.spares _ c.self.invariant.ring c.self.view_is p h.before h.node h.after h.is h.at_is in
     let b = c.value_mut.ensures.value in
-    let is = read_pair cs i.spare i.len i.spares _ c.self.invariant.0 c.self.view_is p _ (ring_body i.ends i.nodes.cells p c.args.at.block ∙ b.1) in (
+    let is = read_pair cs i.spare i.len i.spares _ c.self.invariant.ring c.self.view_is p _ (ring_body i.ends i.nodes.cells p c.args.at.block ∙ b.1) in (
       (
         refl,
         λ w.
-            let j = body_changes cs p l.0 l.1 h.node (content_at-held cs i.spare i.len i.spares _ c.self.invariant.0 c.self.view_is p h.before h.node h.after h.is h.at_is) (pair b.0 w) in
+            let j = body_changes cs p l.0 l.1 h.node (content_at-held cs i.spare i.len i.spares _ c.self.invariant.ring c.self.view_is p h.before h.node h.after h.is h.at_is) (pair b.0 w) in
             let f : Held (g.row.K.Denot × g.row.V.Denot) → Held (g.row.K.Denot × g.row.V.Denot) = revalued w in
             let same = ap (λ (z : g.row.K.Denot × g.row.V.Denot). record h.node { pair = pair z.0 w }) (sym (is h.before h.node h.after h.is h.at_is)) in
             let z = ring_with_body i.ends i.nodes.cells p c.args.at.block _ _ (ap (λ o. with_body p (value_set w o) i.nodes.cells) b.1) in
@@ -40,5 +43,5 @@ returns g c =
             let v = c.self.view_is in
             λ x. state ((q ∙ ap (λ (z : _). change_at p f z.held) v) x) (v x).spares (v x).nodes,
       ),
-      record { writes_back = tt; alone = changes_only cs i.spare i.len i.spares _ c.self.invariant.0 c.self.view_is p; value = λ xs t ys e at. ap (λ (z : g.row.K.Denot × g.row.V.Denot). z.1) (is xs t ys e at) },
+      record { writes_back = tt; alone = changes_only cs i.spare i.len i.spares _ c.self.invariant.ring c.self.view_is p; value = λ xs t ys e at. ap (λ (z : g.row.K.Denot × g.row.V.Denot). z.1) (is xs t ys e at) },
     )

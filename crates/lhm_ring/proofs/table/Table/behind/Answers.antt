@@ -1,7 +1,7 @@
 use Rattle.std.proofs.Common.{sym, ap, ◌∙◌, arith}
 use Rattle.lhm_ring.specs.Positions.{pointer_of, pointer_of_some}
 use Rattle.lhm_ring.proofs.Tables.{held_in, next_in, apart_in, length_in}
-use Rattle.lhm_ring.proofs.Walks.{HasPassed-within, HasPassed-step, HasPassed-end}
+use Rattle.lhm_ring.proofs.NodesBehind.{HasPassed-within, HasPassed-step, HasPassed-end}
 use Rattle.lhm_ring.proofs.table.Table.behind.Goals as goal
 
 pub pairs-init : goal.pairs-init

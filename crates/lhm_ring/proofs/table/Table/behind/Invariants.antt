@@ -1,6 +1,6 @@
 use Rattle.std.proofs.Common.{◌-◌, length}
 use Rattle.lhm_ring.specs.Positions.{pointer_of}
-use Rattle.lhm_ring.proofs.Walks.{HasPassed}
+use Rattle.lhm_ring.proofs.NodesBehind.{HasPassed}
 use Rattle.lhm_ring.proofs.table.Table.behind.Given as goal
 
 abbrev pub invariant-pairs : goal.invariant-pairs

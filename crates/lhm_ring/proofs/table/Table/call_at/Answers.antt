@@ -12,17 +12,18 @@ call_at-requires g c = taken_in (TakesPair g.F.FnMut) c.args.keep.now c.self.ins
 pub invariant_of-self : goal.invariant_of-self
 invariant_of-self g c =
     let called = c.call_at.ensures.called in
-    subst (λ s. IsTable c.self.inside.index c.self.inside.filter s c.self.inside.rechained) (sym called.2) (IsTable-value c.self.invariant (pointer_of c.args.at) called.0)
+    subst (λ s. IsTable c.self.inside.index c.self.inside.filter s c.self.inside.rechained) (sym called.new_is) (IsTable-value c.self.invariant (pointer_of c.args.at) called.value)
 
 pub returns-clause-called : goal.returns-clause-called
 returns-clause-called g c =
     let i = c.self.inside in
     let p = pointer_of c.args.at in
-    let called = c.call_at.ensures.called in (
-      called.0,
-      at_held i.ring i.rechained c.self.view_is p (λ xs t ys. CalledAtPair g.F.FnMut c.args.keep.now t.pair.0 t.pair.1 c.call_at.result called.0 c.call_at.new.keep) called.1,
-      ap (λ s. table_of s i.rechained) called.2 ∙ table_of-value i.ring i.rechained c.self.view_is p called.0,
-    )
+    let called = c.call_at.ensures.called in
+    record {
+      value = called.value;
+      at_pair = at_held i.ring i.rechained c.self.view_is p (λ xs t ys. CalledAtPair g.F.FnMut c.args.keep.now t.pair.0 t.pair.1 c.call_at.result called.value c.call_at.new.keep) called.at_pair;
+      new_is = ap (λ s. table_of s i.rechained) called.new_is ∙ table_of-value i.ring i.rechained c.self.view_is p called.value;
+    }
 
 pub returns-clause-alone : goal.returns-clause-alone
 returns-clause-alone g c = writes_only c.self.inside.ring c.self.inside.rechained c.self.view_is (pointer_of c.args.at) c.call_at.ensures.alone

@@ -1,10 +1,13 @@
 use Rattle.std.proofs.Common.{◌-◌, ◌≤◌}
 use Rattle.lhm_ring.specs.Positions.{pointer_of_some}
-use Rattle.lhm_ring.proofs.Walks.{HasBehind}
+use Rattle.lhm_ring.proofs.NodesBehind.{HasBehind}
 use Rattle.lhm_ring.proofs.table.Table.nth_back.Given as goal
 
 abbrev pub invariant-pairs : goal.invariant-pairs
-invariant-pairs g l = HasBehind l.self.held (pointer_of_some l.here) l.passed × (l.passed ≤ l.behind)
+invariant-pairs g l = record {
+  behind : HasBehind l.self.held (pointer_of_some l.here) l.passed;
+  few : l.passed ≤ l.behind;
+}
 
 abbrev pub decreases-pairs : goal.decreases-pairs
 decreases-pairs g l = l.behind - l.passed

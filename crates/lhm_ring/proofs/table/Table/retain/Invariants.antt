@@ -5,10 +5,11 @@ use Rattle.lhm_ring.specs.Retains.{IsRetaining, left_from}
 use Rattle.lhm_ring.proofs.table.Table.retain.Given as goal
 
 abbrev pub invariant-loop-next : goal.invariant-loop-next
-invariant-loop-next g l =
-    IsRetaining (CalledAtPair g.F.FnMut) (TakesPair g.F.FnMut) l.initial.keep l.initial.self.held l.keep l.self.held (pointer_of_some l.next)
-    × (l.self.capacity ≡ l.initial.self.capacity)
-    × (l.self.rechained ≡ l.initial.self.rechained)
+invariant-loop-next g l = record {
+  retaining : IsRetaining (CalledAtPair g.F.FnMut) (TakesPair g.F.FnMut) l.initial.keep l.initial.self.held l.keep l.self.held (pointer_of_some l.next);
+  capacity : l.self.capacity ≡ l.initial.self.capacity;
+  rechained : l.self.rechained ≡ l.initial.self.rechained;
+}
 
 abbrev pub decreases-loop-next : goal.decreases-loop-next
 decreases-loop-next g l = left_from (pointer_of_some l.next) l.self.held

@@ -1,8 +1,8 @@
-use Rattle.std.proofs.Common.{refl, sym, ap}
-use Rattle.linked_hash_map.specs.Entry.{occupied_map, occupied_key}
+use Rattle.std.proofs.Common.{take, drop, refl, sym, ap}
+use Rattle.linked_hash_map.specs.Entry.{occupied_key}
 use Rattle.linked_hash_map.specs.LinkedMap.{nowhere, without_entry}
 use Rattle.linked_hash_map.proofs.Indexes.{set_value-index}
-use Rattle.linked_hash_map.proofs.Callers.Writes.{to_visit-set_value}
+use Rattle.linked_hash_map.proofs.Callers.Keys.{keys_of-set_value}
 use Rattle.linked_hash_map.proofs.EntryFacts.{occupied_value-is, IsIndex-occupied, IsValid-current}
 use Rattle.linked_hash_map.proofs.entry.OccupiedEntry.into_mut.Goals as goal
 
@@ -16,6 +16,6 @@ returns g c =
         writes_back = tt;
         value = occupied_value-is o c.leave_current.result.now lent.value;
         valid = IsValid-current nowhere lent.valid;
-        to_visit = to_visit-set_value g.K.PartialEq.eq (occupied_map o) (occupied_key o);
+        to_visit = λ v. ap (λ keys. take m.cursor.unvisited (drop m.cursor.bookmark keys)) (keys_of-set_value g.K.PartialEq.eq m.pairs (occupied_key o) v);
       },
     )

@@ -3,7 +3,8 @@ use Rattle.std.proofs.lemmas.List.{length-map}
 use Rattle.linked_hash_map.specs.Pairs.{find}
 use Rattle.std.specs.Map.Iter.{deref_pair}
 use Rattle.linked_hash_map.proofs.Inserts.{HasInserted-none, HasInserted-shown, AreWithinBound-next}
-use Rattle.linked_hash_map.proofs.Callers.Collected.{find-insert_each_absent, length-insert_each_most}
+use Rattle.linked_hash_map.proofs.Extends.{find-insert_each_absent}
+use Rattle.linked_hash_map.proofs.Callers.Collected.{length-insert_each_most}
 use Rattle.linked_hash_map.proofs.map.LinkedHashMap.extend_refs.Goals as goal
 
 pub loop-key-preserved : goal.loop-key-preserved

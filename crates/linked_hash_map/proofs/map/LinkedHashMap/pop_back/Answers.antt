@@ -1,11 +1,10 @@
 use Rattle.std.proofs.Common.{◌-◌, remove, slice_get, refl, sym, ap, ◌∙◌}
 use Rattle.lhm_ring.specs.Positions.{pointer_of}
 use Rattle.linked_hash_map.specs.Nodes.{pairs_of}
-use Rattle.linked_hash_map.proofs.Callers.Keys.{find-none}
-use Rattle.linked_hash_map.proofs.Callers.Updates.{Updates-take_but_last}
 use Rattle.linked_hash_map.proofs.Kept.{IsValid-view, length-pairs_of, cut_before}
 use Rattle.linked_hash_map.proofs.Current.{last_lies, last_index}
 use Rattle.linked_hash_map.proofs.Effects.{remove-last}
+use Rattle.linked_hash_map.proofs.Pops.{find-none, Updates-take_but_last}
 use Rattle.linked_hash_map.proofs.TakenNode.{pair-removed, pairs-removed, IsKept-removed}
 use Rattle.linked_hash_map.proofs.map.LinkedHashMap.pop_back.Goals as goal
 

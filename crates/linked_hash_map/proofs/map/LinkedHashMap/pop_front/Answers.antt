@@ -2,11 +2,10 @@ use Rattle.std.proofs.Common.{remove, slice_get, refl, sym, ap, ◌∙◌}
 use Rattle.lhm_ring.specs.Positions.{pointer_of}
 use Rattle.lhm_ring.proofs.DroppedRing.{first_held}
 use Rattle.linked_hash_map.specs.Nodes.{pairs_of}
-use Rattle.linked_hash_map.proofs.Callers.Keys.{find-none}
-use Rattle.linked_hash_map.proofs.Callers.Updates.{Updates-drop_first}
 use Rattle.linked_hash_map.proofs.Kept.{IsValid-view}
 use Rattle.linked_hash_map.proofs.Current.{first_lies, first_index}
 use Rattle.linked_hash_map.proofs.Effects.{remove-first}
+use Rattle.linked_hash_map.proofs.Pops.{find-none, Updates-drop_first}
 use Rattle.linked_hash_map.proofs.TakenNode.{pair-removed, pairs-removed, IsKept-removed}
 use Rattle.linked_hash_map.proofs.map.LinkedHashMap.pop_front.Goals as goal
 

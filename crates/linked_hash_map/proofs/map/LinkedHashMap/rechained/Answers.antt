@@ -1,5 +1,5 @@
 use Rattle.std.proofs.Common.{refl, arith}
-use Rattle.linked_hash_map.proofs.Callers.Counts.{buckets_lt}
+use Rattle.lhm_ring.proofs.BucketCounts.{buckets_lt}
 use Rattle.linked_hash_map.proofs.Kept.{IsValid-view}
 use Rattle.linked_hash_map.proofs.map.LinkedHashMap.rechained.Goals as goal
 

@@ -31,7 +31,7 @@ fn read(rt: &impl Abort, map: &CallMap, counts: &Rc<Counts>) {
     check_calls!(rt; counts, sum(map), NONE);
 }
 
-/// Goes over a map by a loop.
+/// Adds up the keys and values, in a loop over the map.
 fn sum(map: &CallMap) -> u64 {
     let mut sum = 0u64;
     for (key, value) in map {
@@ -90,7 +90,7 @@ fn consume(rt: &impl Abort, alloc: Global, kind: &Kind, counts: &Rc<Counts>) {
     check_calls!(rt; counts, map, NONE);
 }
 
-fn walk_each(rt: &impl Abort, alloc: Global, kind: &Kind) {
+fn call_each(rt: &impl Abort, alloc: Global, kind: &Kind) {
     let counts = new_counts(rt, alloc);
     make(rt, alloc, kind, &counts);
     let mut map = map_of_kind(rt, alloc, kind, &counts);
@@ -102,13 +102,13 @@ fn walk_each(rt: &impl Abort, alloc: Global, kind: &Kind) {
     consume(rt, alloc, kind, &counts);
 }
 
-fn walk_in_each(rt: &impl Abort, alloc: Global) {
+fn call_in_each(rt: &impl Abort, alloc: Global) {
     for kind in &KINDS {
-        walk_each(rt, alloc, kind);
+        call_each(rt, alloc, kind);
     }
 }
 
 #[test]
 fn looks_no_key_up_that_it_is_not_handed(rt: HostRuntime) {
-    walk_in_each(&rt, rt.alloc());
+    call_in_each(&rt, rt.alloc());
 }

@@ -1,4 +1,4 @@
-//! Walks along the order of a table, to its back and from there.
+//! Positions by how many pairs come behind them.
 ghost use Rattle.std.specs.Prelude.{◌≡◌, ◌≤◌, length, IfSome, IfNone};
 ghost use Rattle.lhm_ring.specs.RingState.{IsHeld, AtHeld};
 ghost use Rattle.lhm_ring.specs.Positions.{pointer_of};

@@ -1,4 +1,4 @@
-//! Calls that walk over the pairs.
+//! Iterators and loops over the pairs.
 
 use super::Map;
 use super::hasher::BuildKeyHasher;
@@ -31,7 +31,7 @@ fn show_left(
 }
 
 /// Makes a step for each letter, and appends what each gives and how much is left.
-fn walk<T: Debug + Drop, I: DoubleEndedIterator<Item = T> + ExactSizeIterator>(
+fn iterate<T: Debug + Drop, I: DoubleEndedIterator<Item = T> + ExactSizeIterator>(
     items: &mut I,
     steps: &str,
     text: &mut String,
@@ -46,20 +46,20 @@ fn walk<T: Debug + Drop, I: DoubleEndedIterator<Item = T> + ExactSizeIterator>(
     Ok(())
 }
 
-/// Walks, clones the iterator, and walks by the clone and then by what it was cloned from.
-fn walk_and_clone<
+/// Iterates, clones the iterator, and iterates by the clone and then by the iterator itself.
+fn iterate_and_clone<
     T: Debug + Drop,
     I: DoubleEndedIterator<Item = T> + ExactSizeIterator + Clone + Drop,
 >(items: I, line: &mut Line<'_>, text: &mut String) -> Result<(), AllocError>
     requires { (items : I) → I.can_next items × I.can_next_back items }
 {
     let mut items = items;
-    walk(&mut items, line.word(), text)?;
+    iterate(&mut items, line.word(), text)?;
     let mut copy = items.clone()?;
     let steps = line.word();
-    walk(&mut copy, steps, text)?;
+    iterate(&mut copy, steps, text)?;
     write!(text, "/ ")?;
-    walk(&mut items, steps, text)
+    iterate(&mut items, steps, text)
 }
 
 /// Appends a pair, and writes its value.
@@ -69,8 +69,8 @@ fn write_pair(key: &Key, lent: &mut u64, value: u64, text: &mut String) -> Resul
     Ok(())
 }
 
-/// Walks along `iter_mut`, and writes each value that is lent.
-fn walk_and_write(
+/// Iterates by `iter_mut`, and writes each value that is lent.
+fn iterate_and_write(
     map: &mut Map,
     steps: &str,
     value: u64,
@@ -112,38 +112,38 @@ fn take(alloc: Global, map: &mut Map) -> Map {
     mem::replace(map, Map::with_hasher(alloc, BuildKeyHasher::default()))
 }
 
-/// Walks along a draining, and lets it go or forgets it.
+/// Iterates by `drain`, and drops or forgets the iterator.
 fn drain(map: &mut Map, line: &mut Line<'_>, text: &mut String) -> Result<(), AllocError> {
     let mut pairs = map.drain();
-    walk(&mut pairs, line.word(), text)?;
+    iterate(&mut pairs, line.word(), text)?;
     if line.word() == "forget" {
         mem::forget(pairs);
     }
     Ok(())
 }
 
-/// Walks along a map that is taken, and forgets what is left.
-fn walk_and_forget(map: Map, steps: &str, text: &mut String) -> Result<(), AllocError> {
+/// Iterates over a map that is taken, and forgets what is left.
+fn iterate_and_forget(map: Map, steps: &str, text: &mut String) -> Result<(), AllocError> {
     let mut pairs = map.into_iter();
-    walk(&mut pairs, steps, text)?;
+    iterate(&mut pairs, steps, text)?;
     mem::forget(pairs);
     Ok(())
 }
 
 fn iter(map: &Map, line: &mut Line<'_>, text: &mut String) -> Result<(), AllocError> {
-    walk_and_clone(map.iter(), line, text)
+    iterate_and_clone(map.iter(), line, text)
 }
 
 fn keys(map: &Map, line: &mut Line<'_>, text: &mut String) -> Result<(), AllocError> {
-    walk_and_clone(map.keys(), line, text)
+    iterate_and_clone(map.keys(), line, text)
 }
 
 fn values(map: &Map, line: &mut Line<'_>, text: &mut String) -> Result<(), AllocError> {
-    walk_and_clone(map.values(), line, text)
+    iterate_and_clone(map.values(), line, text)
 }
 
 fn into_iter(map: Map, line: &mut Line<'_>, text: &mut String) -> Result<(), AllocError> {
-    walk_and_clone(map.into_iter(), line, text)
+    iterate_and_clone(map.into_iter(), line, text)
 }
 
 /// Runs the call of this name, and tells whether there is one.
@@ -158,9 +158,9 @@ pub fn run(
         "iter" => iter(map, line, text)?,
         "keys" => keys(map, line, text)?,
         "values" => values(map, line, text)?,
-        "iter_mut" => walk_and_write(map, line.word(), line.number(), text)?,
+        "iter_mut" => iterate_and_write(map, line.word(), line.number(), text)?,
         "into_iter" => into_iter(take(alloc, map), line, text)?,
-        "into_iter_forget" => walk_and_forget(take(alloc, map), line.word(), text)?,
+        "into_iter_forget" => iterate_and_forget(take(alloc, map), line.word(), text)?,
         "drain" => drain(map, line, text)?,
         "loop" => show_all(map, text)?,
         "loop_mut" => add(map, line.number()),

@@ -1,4 +1,4 @@
-//! Calls that walk over the pairs.
+//! Iterators and loops over the pairs.
 
 use crate::line::Line;
 use crate::{Known, Map};
@@ -15,7 +15,7 @@ fn step<T>(items: &mut impl DoubleEndedIterator<Item = T>, letter: u8) -> Option
 }
 
 /// Makes a step for each letter, and appends what each gives and how much is left.
-fn walk<T: Debug>(
+fn iterate<T: Debug>(
     items: &mut (impl DoubleEndedIterator<Item = T> + ExactSizeIterator),
     steps: &str,
     text: &mut String,
@@ -27,22 +27,22 @@ fn walk<T: Debug>(
     Ok(())
 }
 
-/// Walks, clones the iterator, and walks by the clone and then by what it was cloned from.
-fn walk_and_clone<T: Debug>(
+/// Iterates, clones the iterator, and iterates by the clone and then by the iterator itself.
+fn iterate_and_clone<T: Debug>(
     mut items: impl DoubleEndedIterator<Item = T> + ExactSizeIterator + Clone,
     line: &mut Line<'_>,
     text: &mut String,
 ) -> Result {
-    walk(&mut items, line.word(), text)?;
+    iterate(&mut items, line.word(), text)?;
     let mut copy = items.clone();
     let steps = line.word();
-    walk(&mut copy, steps, text)?;
+    iterate(&mut copy, steps, text)?;
     write!(text, "/ ")?;
-    walk(&mut items, steps, text)
+    iterate(&mut items, steps, text)
 }
 
-/// Walks along `iter_mut`, and writes each value that is lent.
-fn walk_and_write(map: &mut Map, steps: &str, value: u64, text: &mut String) -> Result {
+/// Iterates by `iter_mut`, and writes each value that is lent.
+fn iterate_and_write(map: &mut Map, steps: &str, value: u64, text: &mut String) -> Result {
     let mut pairs = map.iter_mut();
     for letter in steps.bytes() {
         match step(&mut pairs, letter) {
@@ -57,18 +57,18 @@ fn walk_and_write(map: &mut Map, steps: &str, value: u64, text: &mut String) -> 
     Ok(())
 }
 
-/// Walks along a map that is taken, and forgets what is left.
-fn walk_and_forget(map: Map, steps: &str, text: &mut String) -> Result {
+/// Iterates over a map that is taken, and forgets what is left.
+fn iterate_and_forget(map: Map, steps: &str, text: &mut String) -> Result {
     let mut pairs = map.into_iter();
-    walk(&mut pairs, steps, text)?;
+    iterate(&mut pairs, steps, text)?;
     mem::forget(pairs);
     Ok(())
 }
 
-/// Walks along a draining, and lets it go or forgets it.
+/// Iterates by `drain`, and drops or forgets the iterator.
 fn drain(map: &mut Map, line: &mut Line<'_>, text: &mut String) -> Result {
     let mut pairs = map.drain();
-    walk(&mut pairs, line.word(), text)?;
+    iterate(&mut pairs, line.word(), text)?;
     if line.word() == "forget" {
         mem::forget(pairs);
     }
@@ -78,12 +78,12 @@ fn drain(map: &mut Map, line: &mut Line<'_>, text: &mut String) -> Result {
 /// Runs the call of this name, and tells whether there is one.
 pub fn run(name: &str, line: &mut Line<'_>, map: &mut Map, text: &mut String) -> Known {
     match name {
-        "iter" => walk_and_clone(map.iter(), line, text)?,
-        "keys" => walk_and_clone(map.keys(), line, text)?,
-        "values" => walk_and_clone(map.values(), line, text)?,
-        "iter_mut" => walk_and_write(map, line.word(), line.number(), text)?,
-        "into_iter" => walk_and_clone(mem::take(map).into_iter(), line, text)?,
-        "into_iter_forget" => walk_and_forget(mem::take(map), line.word(), text)?,
+        "iter" => iterate_and_clone(map.iter(), line, text)?,
+        "keys" => iterate_and_clone(map.keys(), line, text)?,
+        "values" => iterate_and_clone(map.values(), line, text)?,
+        "iter_mut" => iterate_and_write(map, line.word(), line.number(), text)?,
+        "into_iter" => iterate_and_clone(mem::take(map).into_iter(), line, text)?,
+        "into_iter_forget" => iterate_and_forget(mem::take(map), line.word(), text)?,
         "drain" => drain(map, line, text)?,
         "loop" => {
             for (key, value) in &*map {

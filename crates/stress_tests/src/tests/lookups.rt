@@ -182,7 +182,7 @@ fn assert_taken(rt: &impl Abort, mut map: CountingMap<'_>, compared: &Cell<usize
     check_eq!(rt; (map.len(), compared.get()), (0, 0));
 }
 
-/// Four pairs each are in one bucket and have one number.
+/// Each bucket that is not empty has four pairs, and they have one hash.
 #[test]
 fn compares_no_key_where_a_pair_is_taken_out(rt: HostRuntime) {
     let compared = Cell::new(0);

@@ -34,7 +34,7 @@ module _ {B : Type 0} where
   pub length-behind : {hs : List (Held B)} {p : Ptr} → IsApart (map (λ u. u.at) hs) → (h : IsHeld hs p) → AtHeld hs p (λ xs t ys. length h.after ≡ length ys)
   length-behind {hs} d h xs t ys e at = cut_alike hs h.before h.node h.after xs t ys d h.is e (h.at_is ∙ sym at)
 
--- a walk to the back began at one node, has come to another, and has passed so many
+-- a loop to the back began at one node, has come to another, and has passed so many
 pub record HasPassed {B : Type 0} (hs : List (Held B)) (start here : Ptr) (passed : ℕ) : Type 0 where
   pub began : IsHeld hs start
   pub came : IsHeld hs here
@@ -70,7 +70,7 @@ module _ {B : Type 0} {hs : List (Held B)} {start here : Ptr} {passed : ℕ} whe
       let all = length-behind d m.began xs t ys e at in
       omega (arith, ended, all, m.count)
 
--- a walk from the back has passed so many, and comes to the one at o next
+-- a loop from the back has passed so many, and comes to the one at o next
 pub record HasBehind {B : Type 0} (hs : List (Held B)) (o : Option Ptr) (passed : ℕ) : Type 0 where
   pub front : List (Held B)
   pub back : List (Held B)

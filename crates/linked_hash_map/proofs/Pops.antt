@@ -1,0 +1,27 @@
+-- What a pop takes out: the key of the first pair, or of the last.
+use Rattle.std.proofs.Common.{◌≡◌, ◌-◌, Bool, List, length, take, drop, slice_get, Some, None, is_some, sym, ap, ◌∙◌}
+use Rattle.std.specs.Cmp.{IsEquivalence}
+use Rattle.std.specs.List.{IsDistinct}
+use Rattle.std.specs.Map.{keys_of}
+use Rattle.linked_hash_map.specs.Pairs.{find, value_at, without}
+use Rattle.linked_hash_map.specs.Updates.{Updates}
+use Rattle.linked_hash_map.proofs.Effects.{remove-last}
+use Rattle.linked_hash_map.proofs.Indexes.{without-own}
+use Rattle.linked_hash_map.proofs.LiveKeys.{none_is}
+use Rattle.linked_hash_map.proofs.Pairs.{is_some-value_at}
+use Rattle.linked_hash_map.proofs.Callers.Lookups.{drop-first}
+use Rattle.linked_hash_map.proofs.Callers.Updates.{Updates-without}
+
+module _ {K V : Type 0} {eq : K → K → Bool} (laws : IsEquivalence eq) (before after : List (K × V)) (pair : K × V) (distinct : IsDistinct eq (keys_of before)) where
+  pub Updates-drop_first : slice_get before 0 ≡ Some pair → after ≡ drop 1 before → Updates eq before after pair.0 None
+  Updates-drop_first there is = Updates-without laws before after pair.0 (is ∙ drop-first laws before pair distinct there)
+
+  take-but_last : slice_get before (length before - 1) ≡ Some pair → take (length before - 1) before ≡ without eq before pair.0
+  take-but_last there = sym (remove-last before) ∙ sym (without-own laws before distinct (length before - 1) pair there)
+
+  pub Updates-take_but_last : slice_get before (length before - 1) ≡ Some pair → after ≡ take (length before - 1) before → Updates eq before after pair.0 None
+  Updates-take_but_last there is = Updates-without laws before after pair.0 (is ∙ take-but_last there)
+
+-- a key that has no value has no pair
+pub find-none : {K V : Type 0} (eq : K → K → Bool) (pairs : List (K × V)) (k : K) → value_at eq pairs k ≡ None → find eq pairs k ≡ None
+find-none eq pairs k none = none_is (find eq pairs k) (sym (is_some-value_at eq pairs k) ∙ ap is_some none)
