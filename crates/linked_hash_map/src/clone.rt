@@ -6,12 +6,10 @@ use crate::map::LinkedHashMap;
 use std::alloc::AllocError;
 use std::hash::{BuildHasher, Hash};
 
-/// Clones the hasher and the pairs, in order, in O(n) on average. The clone has the same mode, and
-/// its capacity is its source's length.
+/// Clones the hasher and the pairs, in order, in O(n). The mode stays, and the capacity is the
+/// number of pairs. Hashes each cloned key once; if two are equal, the later replaces the earlier.
 ///
-/// If clones of two keys are equal, the later replaces the earlier. Returns an error if an
-/// allocation or the clone of the hasher, a key or a value fails. Without pairs only the clone of
-/// the hasher can allocate or fail.
+/// Returns an error if an allocation or a clone fails: without pairs, only that of the hasher can.
 ///
 /// # Examples
 ///

@@ -13,10 +13,9 @@ use std::alloc::Global;
 use std::hash::{BuildHasher, Hash};
 
 impl<K: Eq + Hash, V, S: BuildHasher> LinkedHashMap<K, V, S> {
-    /// Inserts the items one by one, as `insert` does, until one is refused.
+    /// Inserts the items one by one, each as `insert` does, hashing its key once.
     ///
-    /// The error has the key and the value of that item; the pairs before it stay, and no later
-    /// item is taken. Each item costs and allocates what its insertion does.
+    /// The first refused is the error: the pairs before it stay, and no later item is taken.
     ///
     /// # Examples
     ///
@@ -66,8 +65,7 @@ impl<K: Eq + Hash, V, S: BuildHasher> LinkedHashMap<K, V, S> {
         Ok(())
     }
 
-    /// Inserts copies of the referenced pairs, as `extend` does, at the same cost. The error has
-    /// copies too.
+    /// Inserts copies of the referenced pairs, as `extend` does.
     ///
     /// # Examples
     ///
@@ -119,13 +117,13 @@ impl<K: Eq + Hash, V, S: BuildHasher> LinkedHashMap<K, V, S> {
         Ok(())
     }
 
-    /// Creates a map with the default hasher of its type and inserts the items, each at the cost of
-    /// `insert`.
+    /// Creates a map with the default hasher of its type and inserts the items, each as `insert`
+    /// does, hashing its key once. The capacity is the number of pairs or, if larger, the lower
+    /// bound of `size_hint`; at 0 it does not allocate.
     ///
-    /// Its capacity is the larger of the lower bound of the iterator's `size_hint` and the number
-    /// of pairs. Returns `TooLarge` exactly if that bound is above [`LIMIT`](crate::LIMIT), before
-    /// an item is taken, and `NoRoom` if an allocation fails or an insertion is refused; all items
-    /// taken are then dropped. It does not allocate if the bound is 0 and no item comes.
+    /// Returns `TooLarge` exactly if that bound is above [`LIMIT`](crate::LIMIT), with no item
+    /// taken, and `NoRoom` if an allocation fails or an insertion is refused. An error drops the
+    /// items taken.
     ///
     /// # Examples
     ///

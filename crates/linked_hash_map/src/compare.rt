@@ -1,4 +1,4 @@
-//! Equality, order, hash and debug text of maps: those of their pairs in order.
+//! Equality, order, hash and debug text: those of the pairs in order.
 ghost use Rattle.std.specs.Prelude.{◌≡◌, drop};
 ghost use Rattle.std.specs.List.{flat_map};
 ghost use Rattle.std.specs.Cmp.Lexicographic.{pointwise, lists_equiv, lists_agrees, lists_total, lists_ties, lists_per, lists_po};
@@ -13,8 +13,8 @@ use std::cmp::Ordering;
 use std::fmt;
 use std::hash::{BuildHasher, Hash, Hasher};
 
-/// Maps are equal if their pairs are, in order. Hashers, modes and capacities are not compared. It
-/// is O(n) and does not allocate.
+/// Maps are equal if their pairs are, in order; hashers, modes and capacities do not count. It is
+/// O(n), compares each key at most once, or none if the lengths differ, and hashes none.
 ///
 /// # Examples
 ///
@@ -53,15 +53,15 @@ impl<K: Eq + Hash, V: PartialEq, S: BuildHasher> PartialEq for LinkedHashMap<K, 
     }
 }
 
-/// Equality of maps is an equivalence if that of the values is.
+/// An equivalence if equality of the values is.
 impl<K: Eq + Hash, V: Eq, S: BuildHasher> Eq for LinkedHashMap<K, V, S> {
     ghost laws = { on_equiv (λ m. m.pairs)
         (lists_equiv (and_equiv (on_equiv (λ pair. pair.0) K.Eq.laws)
         (on_equiv (λ pair. pair.1) V.Eq.laws))) };
 }
 
-/// Compares the pairs lexicographically, key before value, in O(n) without allocating. There is no
-/// order if the first keys or values that differ have none.
+/// Compares the pairs lexicographically, key before value, in O(n): each key at most once, hashing
+/// none. Returns `None` if the first keys or values that differ have no order.
 ///
 /// # Examples
 ///
@@ -103,7 +103,8 @@ impl<K: Eq + Hash + PartialOrd, V: PartialOrd, S: BuildHasher> PartialOrd
     }
 }
 
-/// Compares the pairs lexicographically, key before value, in O(n) without allocating.
+/// Compares the pairs lexicographically, key before value, in O(n): each key at most once, hashing
+/// none.
 ///
 /// # Examples
 ///
@@ -154,8 +155,7 @@ impl<K: Ord + Hash, V: Ord, S: BuildHasher> Ord for LinkedHashMap<K, V, S> {
     }
 }
 
-/// Feeds a hasher each pair in order, key then value, and no length, in O(n) without allocating.
-/// Equal maps hash alike.
+/// Feeds a hasher each pair once, in order, key then value, and no length, in O(n).
 ///
 /// # Examples
 ///
@@ -186,7 +186,7 @@ impl<K: Eq + Hash, V: Hash, S: BuildHasher> Hash for LinkedHashMap<K, V, S> {
     }
 }
 
-/// Formats the pairs in order, as std formats maps, in O(n). The map itself does not allocate.
+/// Formats each pair once, in order, as std formats maps, in O(n). It does not allocate itself.
 ///
 /// # Examples
 ///

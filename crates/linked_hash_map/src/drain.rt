@@ -6,10 +6,8 @@ ghost use Rattle.std.specs.Iterator.SizeHint.{IsWithinCount};
 use lhm_ring::table;
 use std::iter::FusedIterator;
 
-/// A fused double-ended iterator over the pairs removed by `drain`, which returns it.
-///
-/// Its methods are O(1) and do not allocate. Dropping it drops the pairs left, in O(n); forgetting
-/// it leaks them, and nothing else.
+/// A fused double-ended iterator over the pairs removed by `drain`. Its methods are O(1). Dropping
+/// it drops the pairs left, in O(n); forgetting it leaks them.
 pub struct Drain<'a, K, V> {
     nodes: table::Drain<'a, K, V>,
 }
@@ -18,7 +16,7 @@ impl<'a, K, V> Drain<'a, K, V> {
     ghost use Rattle.lhm_ring.specs.Drains as ring;
     ghost use Rattle.linked_hash_map.specs.Drains.{drain_rest, drain_name};
 
-    /// Returns an iterator over the pairs removed from a table.
+    /// Returns an iterator over the pairs of a table.
     pub(crate) fn new(nodes: table::Drain<'a, K, V>) -> Self
         ensures rest { drain_rest result ≡ map (λ t. t.1) (ring.drain_rest nodes.entry) }
         ensures name { drain_name result ≡ ring.drain_name nodes.entry }
@@ -35,7 +33,6 @@ impl<'a, K: Drop, V: Drop> Drop for Drain<'a, K, V> {
     }
 }
 
-/// `next` yields the front pair left; the size hint is exact.
 impl<'a, K: Drop, V: Drop> Iterator for Drain<'a, K, V> {
     ghost use Rattle.linked_hash_map.specs.Drains.{drain_rest, DrainSteps};
 

@@ -1,4 +1,4 @@
-//! Entries: the pair of a present key, or an absent key, without a second lookup.
+//! Entries: a key, present or absent, without a second lookup.
 ghost use Rattle.std.specs.Prelude.{◌≡◌, ◌<◌, None, length};
 ghost use Rattle.linked_hash_map.specs.Pairs.{find};
 ghost use Rattle.linked_hash_map.specs.Cursor.{IsOutside, IsOutside-prop};
@@ -13,7 +13,7 @@ use crate::map::{DefaultHashBuilder, LinkedHashMap};
 pub use cursor::Entries;
 use std::hash::{BuildHasher, Hash};
 
-/// The entry of a key, returned by `entry`. Dropping it leaves the pairs in their order.
+/// The entry of a key, returned by `entry`. Dropping it keeps the order.
 ///
 /// # Examples
 ///
@@ -36,8 +36,7 @@ pub enum Entry<'a, K: Eq + Hash, V, S: BuildHasher = DefaultHashBuilder> {
     Vacant(VacantEntry<'a, K, V, S>),
 }
 
-/// The entry of a present key. Its methods hash and compare no key, do not allocate, and do not end
-/// the visit of a cursor.
+/// The entry of a present key. Its methods are O(1), hash and compare no key, and end no visit.
 ///
 /// # Examples
 ///
@@ -61,8 +60,7 @@ pub struct OccupiedEntry<'a, K: Eq + Hash, V, S: BuildHasher = DefaultHashBuilde
     ghost outside: { IsOutside map.now.cursor.current map.now } by { IsOutside-prop map.now.cursor.current map.now },
 }
 
-/// The entry of an absent key. It owns the key, which is dropped with it. Its methods hash and
-/// compare no key.
+/// The entry of an absent key, which it owns. Its methods hash and compare no key.
 ///
 /// # Examples
 ///

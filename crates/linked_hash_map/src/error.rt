@@ -1,6 +1,6 @@
 //! The errors of calls that allocate.
 
-/// The error of a refused insertion: its key and value. The map is unchanged.
+/// The error of a refused insertion: its key and value.
 ///
 /// # Examples
 ///

@@ -1,7 +1,4 @@
-//! The double-ended iterators over a map.
-//!
-//! A contract sees an iterator as the list of items left: `next` and `next_back`, in any mixture,
-//! yield each once and then return `None` for good. Size hints are exact.
+//! The double-ended iterators over a map. A contract sees one as the list of items left.
 ghost use Rattle.std.specs.Prelude.{◌≡◌, Some, IfSome, length, ⊤};
 ghost use Rattle.std.specs.Iterator.{at_most, UpTo};
 ghost use Rattle.std.specs.Iterator.SizeHint.{IsWithinCount};
@@ -25,8 +22,8 @@ pub use iter_mut::IterMut;
 pub use keys::Keys;
 pub use values::Values;
 
-/// A fused double-ended iterator over the pairs of a map, returned by `iter` or a loop over `&map`.
-/// Its methods are O(1) and do not allocate.
+/// A fused double-ended iterator over the pairs, returned by `iter` or a loop over `&map`. Its
+/// methods are O(1).
 #[derive(Drop)]
 pub struct Iter<'a, K, V> {
     nodes: table::Iter<'a, K, V>,
@@ -97,7 +94,7 @@ impl<'a, K, V> ExactSizeIterator for Iter<'a, K, V> {
 
 impl<'a, K, V> FusedIterator for Iter<'a, K, V> {}
 
-/// A clone has the same pairs left. It does not allocate and never fails.
+/// Clones the iterator, without failing or allocating, in O(1).
 impl<'a, K, V> Clone for Iter<'a, K, V> {
     ghost is_clone = { λ s t. t ≡ s };
 

@@ -33,14 +33,12 @@ use std::marker::Model;
 /// ```
 pub const LIMIT: usize = 576460752303423488;
 
-/// The default build hasher: that of std's `HashMap`, with a fixed seed.
-///
-/// Whoever chooses the keys can make them collide: use a random seed for untrusted keys, as
-/// `RandomState` and the original's default have.
+/// The default build hasher: that of std's `HashMap`, with a fixed seed, unlike the original's. For
+/// keys that strangers choose use `RandomState`.
 pub type DefaultHashBuilder = BuildHasherDefault<FoldHasher>;
 
 /// Whether inserting a present key moves its pair to the back. A new map is in `Touch`, as the
-/// original always is; a clone has the mode of its source.
+/// original always is.
 ///
 /// # Examples
 ///
@@ -65,13 +63,18 @@ pub enum Mode {
 
 /// A hash map that keeps its pairs in insertion order.
 ///
-/// A new key goes to the back. Inserting a present key moves its pair to the back, or in
-/// [`Mode::Keep`] leaves it in its place. The length is at most the capacity, which is at most
-/// [`LIMIT`].
+/// A new key goes to the back, and so does a present key that is inserted again, except in
+/// [`Mode::Keep`].
 ///
-/// A lookup is O(1) on average: it hashes its key once and compares only keys with the same hash in
-/// one bucket. There are as many buckets as the capacity, rounded up to a power of two, and none at
-/// capacity 0. Dropping a map drops its pairs, in O(capacity).
+/// For all calls, with n the number of pairs:
+///
+/// - Only calls that return a `Result` allocate. An error changes nothing, except that an extension
+///   keeps what it inserted before. Nothing panics.
+/// - A lookup compares its key only with those of its bucket that have its hash. Costs are
+///   averages: if all keys hash alike, a call that takes a key or removes a pair is O(n).
+/// - Only insertions, `reserve` and `shrink_to_fit` change the capacity, and no removal frees
+///   memory. There are as many buckets as the capacity, rounded up to a power of two. A change of
+///   their number rehashes all pairs, in O(n), hashing no key.
 ///
 /// # Examples
 ///
@@ -95,7 +98,7 @@ pub struct LinkedHashMap<K: Eq + Hash, V, S: BuildHasher = DefaultHashBuilder> {
     mode: Mode,
 }
 
-/// Drops the pairs, front to back, and the hasher, and frees all memory, in O(capacity).
+/// Drops the pairs and the hasher, and frees all memory, in O(capacity).
 impl<K: Eq + Hash + Drop, V: Drop, S: BuildHasher + Drop> Drop for LinkedHashMap<K, V, S> {
     fn drop(self) {
         let LinkedHashMap {
@@ -113,8 +116,8 @@ impl<K: Eq + Hash + Drop, V: Drop, S: BuildHasher + Drop> Drop for LinkedHashMap
     }
 }
 
-/// A contract sees a map as its pairs, front to back, its capacity, hasher and mode, and the pairs
-/// left to visit.
+/// A contract sees the pairs, front to back, capacity, hasher, mode, `rechained` and the pairs left
+/// to visit.
 impl<K: Eq + Hash, V, S: BuildHasher> Model for LinkedHashMap<K, V, S> {
     ghost use Rattle.linked_hash_map.specs.LinkedMap.{LinkedMap, linked_map_code};
     ghost use Rattle.linked_hash_map.specs.Nodes.{IsKept, map_of, beside, mark_of, unvisited_of, current_of};
@@ -168,7 +171,7 @@ impl<K: Eq + Hash, V, S: BuildHasher> LinkedHashMap<K, V, S> {
         IntoIter::new(table.into_iter())
     }
 
-    /// Returns the number of pairs, in O(1) without allocating.
+    /// Returns the number of pairs, in O(1).
     ///
     /// # Examples
     ///
@@ -184,7 +187,7 @@ impl<K: Eq + Hash, V, S: BuildHasher> LinkedHashMap<K, V, S> {
         self.table.len()
     }
 
-    /// Returns `true` if the map has no pairs, in O(1) without allocating.
+    /// Returns `true` if the map has no pairs, in O(1).
     ///
     /// # Examples
     ///
@@ -201,8 +204,7 @@ impl<K: Eq + Hash, V, S: BuildHasher> LinkedHashMap<K, V, S> {
         self.len() == 0
     }
 
-    /// Returns how many pairs fit before an insertion allocates or is refused, in O(1) without
-    /// allocating.
+    /// Returns how many pairs the map can hold without allocating, in O(1).
     ///
     /// # Examples
     ///
@@ -220,7 +222,7 @@ impl<K: Eq + Hash, V, S: BuildHasher> LinkedHashMap<K, V, S> {
         self.table.capacity()
     }
 
-    /// Returns a reference to the build hasher, in O(1) without allocating.
+    /// Returns a reference to the build hasher, in O(1).
     ///
     /// # Examples
     ///
@@ -253,7 +255,7 @@ impl<K: Eq + Hash, V, S: BuildHasher> LinkedHashMap<K, V, S> {
         self.hasher.hash_one(key)
     }
 
-    /// Returns the mode, in O(1) without allocating.
+    /// Returns the mode, in O(1).
     ///
     /// # Examples
     ///
@@ -271,8 +273,7 @@ impl<K: Eq + Hash, V, S: BuildHasher> LinkedHashMap<K, V, S> {
         self.mode
     }
 
-    /// Sets whether inserting a present key moves its pair to the back, in O(1) without allocating.
-    /// Nothing else changes.
+    /// Sets the mode, in O(1). The order stays.
     ///
     /// # Examples
     ///

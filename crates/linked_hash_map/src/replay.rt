@@ -1,10 +1,7 @@
 //! Runs of commands, and the theorem about them.
 //!
-//! [`replay`] runs a list of [`Command`]s on a map and returns a [`Reply`] for each: the
-//! [`Answer`], and the length and the capacity after it. By its contract the map has, after any
-//! run, exactly the pairs that the log of the answers' effects defines, in the order of each key's
-//! last touch: a refresh, or an insertion that moves the pair. `specs/Log.antt` has the events and
-//! what a log defines, `specs/Requests.antt` the effects and the allowed answers.
+//! After any run the map has exactly the pairs that the log of the answers' effects defines, as in
+//! `specs/Log.antt`; `specs/Requests.antt` has the effects and the allowed answers.
 //!
 //! # Examples
 //!
@@ -34,7 +31,7 @@ mod pair_list;
 
 pub use pair_list::PairList;
 
-/// A command to a map. It costs what the calls that it names cost.
+/// A command to a map: the call that it makes, at its cost, and the answers.
 ///
 /// # Examples
 ///
@@ -49,40 +46,40 @@ pub use pair_list::PairList;
 /// ```
 #[derive(Debug, PartialEq, Drop)]
 pub enum Command<K, V> {
-    /// Inserts a pair, as `insert` does: `New`, `Old` or `Refused`.
+    /// `insert`: `New`, `Old` or `Refused`.
     Insert(K, V),
-    /// Replaces the value of a key, as through `get_mut`: `Old` or `Absent`.
+    /// Replaces a value through `get_mut`: `Old` or `Absent`.
     Write(K, V),
-    /// Moves the pair of a key to the back, as `get_refresh` does: `Found` or `Missing`.
+    /// `get_refresh`: `Found` or `Missing`.
     Refresh(K),
-    /// Removes the pair of a key, as `remove` does: `Old` or `Missing`.
+    /// `remove`: `Old` or `Missing`.
     Remove(K),
-    /// Removes the front pair, as `pop_front` does: `Pair` or `Empty`.
+    /// `pop_front`: `Pair` or `Empty`.
     PopFront,
-    /// Removes the back pair, as `pop_back` does: `Pair` or `Empty`.
+    /// `pop_back`: `Pair` or `Empty`.
     PopBack,
-    /// Drops all pairs, as `clear` does: `Done`.
+    /// `clear`: `Done`.
     Clear,
-    /// Removes all pairs, as `drain` does: `Pairs` or `NoRoom`. The answer's list is allocated
-    /// first, and not for an empty map.
+    /// `drain`: `Pairs`, or `NoRoom` if their list cannot be allocated.
     Drain,
-    /// Inserts pairs as `insert` does, up to the first that is refused: `Done` or `Stopped`.
+    /// `insert` of each pair, up to the first refused: `Done` or `Stopped`.
     Extend(PairList<K, V>),
-    /// Inserts a pair if the key is absent, as `or_insert` does: `New`, `Found` or `Refused`.
+    /// `or_insert`: `New`, `Found` or `Refused`.
     OrInsert(K, V),
-    /// Inserts a pair, as `insert` of either kind of entry does: `New`, `Old` or `Refused`.
+    /// `insert` of either kind of entry: `New`, `Old` or `Refused`.
     EntryInsert(K, V),
-    /// Removes the pair of a key, as `OccupiedEntry::remove` does: `Old` or `Missing`.
+    /// `OccupiedEntry::remove`: `Old` or `Missing`.
     EntryRemove(K),
-    /// Reserves room for more pairs, as `reserve` does: `Done`, `TooLarge` or `NoRoom`.
+    /// `reserve`: `Done`, `TooLarge` or `NoRoom`.
     Reserve(usize),
-    /// Lowers the capacity to the number of pairs, as `shrink_to_fit` does: `Done` or `NoRoom`.
+    /// `shrink_to_fit`: `Done` or `NoRoom`.
     Shrink,
-    /// Sets the mode, as `set_mode` does: `Done`.
+    /// `set_mode`: `Done`.
     SetMode(Mode),
 }
 
-/// The answer to a command.
+/// The answer to a command. A failed command changes nothing, but a `Stopped` one keeps the pairs
+/// inserted.
 ///
 /// # Examples
 ///
@@ -104,26 +101,25 @@ pub enum Answer<K, V> {
     Old(V),
     /// The key was present.
     Found,
-    /// The key is absent, and nothing changed.
+    /// The key is absent.
     Missing,
-    /// The key is absent, and nothing changed. It has the pair given.
+    /// The key is absent, and this was to be written.
     Absent(K, V),
-    /// The key was absent and the insertion was refused; nothing changed. It has the pair given.
+    /// The key is absent, and this pair was refused.
     Refused(K, V),
     /// The pair removed, with its stored key.
     Pair(K, V),
-    /// The map is empty, and nothing changed.
+    /// The map is empty.
     Empty,
-    /// The pairs removed, with their stored keys, front to back.
+    /// The pairs removed, front to back.
     Pairs(PairList<K, V>),
-    /// The number of pairs inserted, and the next one, which is new and was refused. Later pairs
-    /// are dropped.
+    /// How many pairs were inserted, and the one refused. Later pairs are dropped.
     Stopped(usize, K, V),
     /// The command was run.
     Done,
-    /// The capacity would be above `LIMIT`, and nothing changed.
+    /// The capacity would be above `LIMIT`.
     TooLarge,
-    /// An allocation failed, and nothing changed.
+    /// An allocation failed.
     NoRoom,
 }
 
@@ -152,7 +148,8 @@ pub struct Reply<K, V> {
     pub capacity: usize,
 }
 
-/// Runs `Insert`.
+// Each of these functions runs the command of its name.
+
 fn insert<K: Eq + Hash + Drop, V: Drop, S: BuildHasher>(
     map: &mut LinkedHashMap<K, V, S>,
     key: K,
@@ -167,7 +164,6 @@ fn insert<K: Eq + Hash + Drop, V: Drop, S: BuildHasher>(
     }
 }
 
-/// Runs `Write`.
 fn write<K: Eq + Hash + Drop, V: Drop, S: BuildHasher>(
     map: &mut LinkedHashMap<K, V, S>,
     key: K,
@@ -181,7 +177,6 @@ fn write<K: Eq + Hash + Drop, V: Drop, S: BuildHasher>(
     }
 }
 
-/// Runs `Refresh`.
 fn refresh<K: Eq + Hash + Drop, V: Drop, S: BuildHasher>(
     map: &mut LinkedHashMap<K, V, S>,
     key: K,
@@ -194,7 +189,6 @@ fn refresh<K: Eq + Hash + Drop, V: Drop, S: BuildHasher>(
     }
 }
 
-/// Runs `Remove`.
 fn remove<K: Eq + Hash + Drop, V: Drop, S: BuildHasher>(
     map: &mut LinkedHashMap<K, V, S>,
     key: K,
@@ -207,7 +201,6 @@ fn remove<K: Eq + Hash + Drop, V: Drop, S: BuildHasher>(
     }
 }
 
-/// Runs `PopFront`.
 fn pop_front<K: Eq + Hash + Drop, V: Drop, S: BuildHasher>(
     map: &mut LinkedHashMap<K, V, S>,
 ) -> Answer<K, V>
@@ -219,7 +212,6 @@ fn pop_front<K: Eq + Hash + Drop, V: Drop, S: BuildHasher>(
     }
 }
 
-/// Runs `PopBack`.
 fn pop_back<K: Eq + Hash + Drop, V: Drop, S: BuildHasher>(
     map: &mut LinkedHashMap<K, V, S>,
 ) -> Answer<K, V>
@@ -231,7 +223,6 @@ fn pop_back<K: Eq + Hash + Drop, V: Drop, S: BuildHasher>(
     }
 }
 
-/// Runs `Clear`.
 fn clear<K: Eq + Hash + Drop, V: Drop, S: BuildHasher>(
     map: &mut LinkedHashMap<K, V, S>,
 ) -> Answer<K, V>
@@ -241,7 +232,6 @@ fn clear<K: Eq + Hash + Drop, V: Drop, S: BuildHasher>(
     Answer::Done
 }
 
-/// Runs `Drain`.
 fn drain<K: Eq + Hash + Drop, V: Drop, S: BuildHasher>(
     map: &mut LinkedHashMap<K, V, S>,
 ) -> Answer<K, V>
@@ -256,7 +246,6 @@ fn drain<K: Eq + Hash + Drop, V: Drop, S: BuildHasher>(
     Answer::Pairs(PairList::from_vec(pairs))
 }
 
-/// Runs `Extend`.
 fn extend<K: Eq + Hash + Drop, V: Drop, S: BuildHasher>(
     map: &mut LinkedHashMap<K, V, S>,
     pairs: PairList<K, V>,
@@ -273,7 +262,6 @@ fn extend<K: Eq + Hash + Drop, V: Drop, S: BuildHasher>(
     Answer::Done
 }
 
-/// Runs `OrInsert`.
 fn or_insert<K: Eq + Hash + Drop, V: Drop, S: BuildHasher>(
     map: &mut LinkedHashMap<K, V, S>,
     key: K,
@@ -289,7 +277,6 @@ fn or_insert<K: Eq + Hash + Drop, V: Drop, S: BuildHasher>(
     }
 }
 
-/// Runs `EntryInsert`.
 fn entry_insert<K: Eq + Hash + Drop, V: Drop, S: BuildHasher>(
     map: &mut LinkedHashMap<K, V, S>,
     key: K,
@@ -306,7 +293,6 @@ fn entry_insert<K: Eq + Hash + Drop, V: Drop, S: BuildHasher>(
     }
 }
 
-/// Runs `EntryRemove`.
 fn entry_remove<K: Eq + Hash + Drop, V: Drop, S: BuildHasher>(
     map: &mut LinkedHashMap<K, V, S>,
     key: K,
@@ -319,7 +305,6 @@ fn entry_remove<K: Eq + Hash + Drop, V: Drop, S: BuildHasher>(
     }
 }
 
-/// Runs `Reserve`.
 fn reserve<K: Eq + Hash + Drop, V: Drop, S: BuildHasher>(
     map: &mut LinkedHashMap<K, V, S>,
     additional: usize,
@@ -333,7 +318,6 @@ fn reserve<K: Eq + Hash + Drop, V: Drop, S: BuildHasher>(
     }
 }
 
-/// Runs `Shrink`.
 fn shrink<K: Eq + Hash + Drop, V: Drop, S: BuildHasher>(
     map: &mut LinkedHashMap<K, V, S>,
 ) -> Answer<K, V>
@@ -345,7 +329,6 @@ fn shrink<K: Eq + Hash + Drop, V: Drop, S: BuildHasher>(
     }
 }
 
-/// Runs `SetMode`.
 fn set_mode<K: Eq + Hash + Drop, V: Drop, S: BuildHasher>(
     map: &mut LinkedHashMap<K, V, S>,
     mode: Mode,
@@ -382,7 +365,7 @@ fn answer_to<K: Eq + Hash + Drop, V: Drop, S: BuildHasher>(
     }
 }
 
-/// Runs one command and returns its answer, with the length and the capacity after it.
+/// Runs one command and returns its reply.
 fn reply_to<K: Eq + Hash + Drop, V: Drop, S: BuildHasher>(
     map: &mut LinkedHashMap<K, V, S>,
     command: Command<K, V>,
@@ -405,12 +388,11 @@ fn reply_to<K: Eq + Hash + Drop, V: Drop, S: BuildHasher>(
     }
 }
 
-/// Runs the commands in order and returns one reply for each.
+/// Runs the commands in order and returns one reply for each, at the cost of its call, hashing each
+/// of its keys once. A refusal does not stop the run.
 ///
-/// A refused command changes nothing and does not stop the run; an extension keeps the pairs before
-/// the refused one. The replies are allocated first: if that fails, nothing runs and the error is
-/// the commands. An empty list is never refused. Besides, each command costs and allocates what its
-/// call does.
+/// The replies are allocated first: if that fails, the error is the commands, and none is run. No
+/// commands are never refused.
 pub fn replay<K: Eq + Hash + Drop, V: Drop, S: BuildHasher>(
     map: &mut LinkedHashMap<K, V, S>,
     commands: Vec<Command<K, V>>,

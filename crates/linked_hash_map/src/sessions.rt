@@ -1,8 +1,6 @@
-//! A table of sessions with a limit on the sum of their weights, on the map's public calls alone.
+//! [`Sessions`], a table with a limit on a sum of weights.
 //!
-//! A session has an id, a weight and a payload. A put or a touch moves a session to the back, and a
-//! put removes sessions from the front until the weights sum to at most the limit. It returns those
-//! it removed, and the payload that it replaced or refused.
+//! A session has an id, a weight and a payload.
 //!
 //! # Examples
 //!
@@ -51,14 +49,12 @@ pub use outcome::{Put, PutReason, PutRefused};
 use std::alloc::Global;
 use std::marker::Model;
 
-/// A table of sessions with a limit on the sum of their weights.
+/// A table of sessions with a limit on the sum of their weights, in the order of their last put or
+/// touch.
 ///
-/// Ids are distinct, and sessions are in the order of their last put or touch. A call with an id
-/// looks it up in O(1) on average. Dropping a table drops its payloads, in O(n).
-///
-/// The hasher of a table has a fixed seed, so whoever chooses the ids can make them collide, and a
-/// lookup is then O(n). For ids that strangers choose use a [`LinkedHashMap`] itself, with a random
-/// seed: `LinkedHashMap::with_hasher(rt.alloc(), RandomState::new(&rt)?)`.
+/// Only `put` allocates. Only `put`, `touch` and `remove` hash an id, with a fixed seed: whoever
+/// chooses ids can make them collide, and these calls are then O(n). For such ids use a
+/// [`LinkedHashMap`] with `RandomState`.
 ///
 /// # Examples
 ///
@@ -80,7 +76,7 @@ pub struct Sessions<T> {
     alloc: Global,
 }
 
-/// A contract sees the sessions, in the order of their last put or touch, and the limit.
+/// A contract sees the sessions, in order, and the limit.
 impl<T> Model for Sessions<T> {
     ghost use Rattle.linked_hash_map.specs.SessionTables.{SessionTable, session_table, session_table_code};
     ghost use Rattle.linked_hash_map.specs.SessionsKept.{sessions_of, IsKeptWithin};
@@ -97,8 +93,7 @@ impl<T> Model for Sessions<T> {
 impl<T> Sessions<T> {
     ghost use Rattle.linked_hash_map.specs.SessionLends.{lends_payload};
 
-    /// Creates an empty table with a limit on the sum of the weights. It is O(1) and does not
-    /// allocate.
+    /// Creates an empty table with this limit, in O(1).
     ///
     /// # Examples
     ///
@@ -119,18 +114,17 @@ impl<T> Sessions<T> {
         }
     }
 
-    /// Puts a session at the back, in place of the one with its id, if any, and removes others from
-    /// the front until the weights sum to at most the limit.
-    ///
-    /// Returns the payload that the id had and the sessions removed, front to back. What stays is
-    /// the longest end of the order that fits, always with the new session. The replaced one does
-    /// not count.
+    /// Puts a session at the back, in place of the one with its id, and removes others from the
+    /// front until the weights sum to at most the limit. Returns the payload that the id had, and
+    /// those removed, front to back. Hashes the id at most twice.
     ///
     /// Returns `TooHeavy` exactly if the weight is above the limit, otherwise `NoRoom` if an
-    /// allocation fails or the map is full, with the payload; the table is then unchanged. It
-    /// allocates before it changes anything: a vector of exactly the sessions removed, or, if there
-    /// are none, room for a new id. It looks the id up twice. A present id that removes none is never refused as `NoRoom`. It is O(n)
-    /// for n sessions removed, or, if the number of buckets changes, for n sessions in the table.
+    /// allocation fails or at `LIMIT` sessions, with the payload, and changes nothing. A present id
+    /// that removes none is never out of room.
+    ///
+    /// It allocates first: a vector of exactly the sessions removed, or, for none, room for a new
+    /// id. It is O(1), and O(1) more for each session removed, or O(n) if the number of buckets
+    /// changes.
     ///
     /// # Examples
     ///
@@ -194,8 +188,8 @@ impl<T> Sessions<T> {
         Ok(Put { old, gone })
     }
 
-    /// Moves the session with an id, if present, to the back and returns a mutable reference to its
-    /// payload; otherwise nothing changes. It is O(1) on average and does not allocate.
+    /// Returns a mutable reference to the payload of an id, if present, and moves its session to
+    /// the back, in O(1). Hashes the id once.
     ///
     /// # Examples
     ///
@@ -220,8 +214,8 @@ impl<T> Sessions<T> {
         }
     }
 
-    /// Removes the session with an id and returns its payload, if present. The order of the others
-    /// stays. It is O(1) on average and does not allocate.
+    /// Removes the session of an id and returns its payload, if present, in O(1). The others keep
+    /// their order. Hashes the id once.
     ///
     /// # Examples
     ///
@@ -245,7 +239,7 @@ impl<T> Sessions<T> {
         Some(weighted.payload)
     }
 
-    /// Returns the sum of the weights, at most the limit. It is O(1) and does not allocate.
+    /// Returns the sum of the weights, at most the limit, in O(1).
     ///
     /// # Examples
     ///
@@ -262,7 +256,7 @@ impl<T> Sessions<T> {
         self.total
     }
 
-    /// Returns the number of sessions. It is O(1) and does not allocate.
+    /// Returns the number of sessions, in O(1).
     pub fn len(&self) -> usize
         ensures len { result ≡ length self.now.sessions }
         ensures valid { IsValidTable self.now }
@@ -270,8 +264,7 @@ impl<T> Sessions<T> {
         self.map.len()
     }
 
-    /// Returns an iterator over the sessions, front to back, each as its id, weight and payload, in
-    /// O(1) without allocating.
+    /// Returns an iterator over the ids, weights and payloads, front to back, in O(1).
     ///
     /// # Examples
     ///

@@ -13,10 +13,8 @@ use super::OccupiedEntry;
 use crate::map::{DefaultHashBuilder, LinkedHashMap};
 use std::hash::{BuildHasher, Hash};
 
-/// A cursor over the entries of a map, front to back, returned by `entries`.
-///
-/// It visits each pair that the map had at that call once, whatever its entry does with it.
-/// Dropping it leaves the map as it is.
+/// A cursor over the entries of a map, front to back, returned by `entries`. It visits each pair of
+/// that moment once, whatever its entry does.
 ///
 /// # Examples
 ///
@@ -37,8 +35,8 @@ pub struct Entries<'a, K: Eq + Hash, V, S: BuildHasher = DefaultHashBuilder> {
 }
 
 impl<K: Eq + Hash, V, S: BuildHasher> LinkedHashMap<K, V, S> {
-    /// Returns a cursor over the entries, front to back, in O(1) without allocating. A loop that
-    /// counts its entries by [`remaining`](Entries::remaining) is known to end.
+    /// Returns a cursor over the entries, front to back, in O(1). A loop that counts by
+    /// [`remaining`](Entries::remaining) is known to end.
     ///
     /// # Examples
     ///
@@ -67,13 +65,12 @@ impl<K: Eq + Hash, V, S: BuildHasher> LinkedHashMap<K, V, S> {
         Entries { map: self }
     }
 
-    /// Begins a visit of every pair, front to back, in O(1) without allocating, and returns the
-    /// map.
+    /// Begins a visit of every pair, front to back, and returns the map, in O(1).
+    /// [`next_entry`](LinkedHashMap::next_entry) returns the entries, none of a new key.
     ///
-    /// [`next_entry`](LinkedHashMap::next_entry) returns the entries one by one. Another visit ends
-    /// it, and so does each call that may remove or move a pair: `insert`, `extend`, `entry`,
-    /// `remove` and `get_refresh` of a present key, the pops, `retain`, `clear` and `drain`. No
-    /// other call does. New keys are not visited.
+    /// Another visit ends it, and each call, except an entry's, that may remove or move a pair:
+    /// `insert`, `extend`, `entry`, `remove` and `get_refresh` of a present key, the pops,
+    /// `retain`, `clear`, `drain`.
     ///
     /// # Examples
     ///
@@ -100,9 +97,8 @@ impl<K: Eq + Hash, V, S: BuildHasher> LinkedHashMap<K, V, S> {
         self
     }
 
-    /// Returns the entry of the next pair to visit, in O(1) without allocating, or `None` if none
-    /// is left, a call ended the visit or none was begun. No pair is visited twice, whatever its
-    /// entry does with it.
+    /// Returns the entry of the next pair to visit, or `None` if none is left or there is no visit,
+    /// in O(1). No pair comes twice, whatever its entry does.
     ///
     /// # Examples
     ///
@@ -140,8 +136,8 @@ impl<K: Eq + Hash, V, S: BuildHasher> LinkedHashMap<K, V, S> {
 }
 
 impl<'a, K: Eq + Hash, V, S: BuildHasher> Entries<'a, K, V, S> {
-    /// Returns the entry of the next pair, lent until the cursor is used again, or `None` if
-    /// none is left to visit. It is O(1) and does not allocate.
+    /// Returns the entry of the next pair, lent until the cursor is used again, or `None` if none
+    /// is left, in O(1).
     ///
     /// # Examples
     ///
@@ -172,7 +168,7 @@ impl<'a, K: Eq + Hash, V, S: BuildHasher> Entries<'a, K, V, S> {
         map.next_entry()
     }
 
-    /// Returns the number of pairs left to visit, in O(1) without allocating.
+    /// Returns the number of pairs left to visit, in O(1).
     ///
     /// # Examples
     ///

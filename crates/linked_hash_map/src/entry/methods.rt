@@ -15,8 +15,8 @@ use crate::map::{LIMIT, LinkedHashMap};
 use std::hash::{BuildHasher, Hash};
 
 impl<K: Eq + Hash, V, S: BuildHasher> LinkedHashMap<K, V, S> {
-    /// Returns the entry of a key, with one hash of it, in O(1) on average without allocating. An
-    /// occupied entry has the stored key, and `key` is dropped; a vacant one owns `key`.
+    /// Returns the entry of a key, in O(1). Hashes the key once. An occupied entry has the stored
+    /// key, and the given one is dropped.
     ///
     /// # Examples
     ///
@@ -58,7 +58,7 @@ impl<K: Eq + Hash, V, S: BuildHasher> LinkedHashMap<K, V, S> {
 }
 
 impl<'a, K: Eq + Hash, V, S: BuildHasher> Entry<'a, K, V, S> {
-    /// Returns the key, the stored one if occupied, in O(1) without allocating.
+    /// Returns the key, the stored one if occupied, in O(1).
     ///
     /// # Examples
     ///
@@ -76,7 +76,7 @@ impl<'a, K: Eq + Hash, V, S: BuildHasher> Entry<'a, K, V, S> {
         }
     }
 
-    /// Calls `f` on the value if occupied. Except for `f`, it is O(1) and does not allocate.
+    /// Calls `f` on the value if occupied. Except for `f` it is O(1).
     ///
     /// # Examples
     ///
@@ -113,10 +113,8 @@ impl<'a, K: Eq + Hash, V, S: BuildHasher> Entry<'a, K, V, S> {
         }
     }
 
-    /// Inserts `value` if vacant, as [`VacantEntry::insert`] does, and returns a mutable reference
-    /// to the value.
-    ///
-    /// An occupied entry keeps its place and drops `value`, in O(1) without allocating.
+    /// Returns a mutable reference to the value, inserting `value` if vacant, as
+    /// [`VacantEntry::insert`] does. An occupied entry keeps its place and drops `value`, in O(1).
     ///
     /// # Examples
     ///
@@ -149,11 +147,8 @@ impl<'a, K: Eq + Hash, V, S: BuildHasher> Entry<'a, K, V, S> {
         }
     }
 
-    /// Inserts the result of `f` if vacant, as `or_insert` does, and returns a mutable reference to
-    /// the value.
-    ///
-    /// `f` is called only if vacant, once, before any allocation. The error has the key and that
-    /// result.
+    /// Does what `or_insert` does, with the result of `f`, which is called only if vacant, before
+    /// an allocation.
     ///
     /// # Examples
     ///
@@ -187,11 +182,8 @@ impl<'a, K: Eq + Hash, V, S: BuildHasher> Entry<'a, K, V, S> {
         vacant.insert(value)
     }
 
-    /// Inserts the default if vacant, as `or_insert` does, and returns a mutable reference to the
-    /// value.
-    ///
-    /// The default is made only if vacant, before any allocation. The error has the key and the
-    /// default.
+    /// Does what `or_insert` does, with the default, which is made only if vacant, before an
+    /// allocation.
     ///
     /// # Examples
     ///

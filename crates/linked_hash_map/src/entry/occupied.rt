@@ -12,21 +12,21 @@ use super::OccupiedEntry;
 use std::hash::{BuildHasher, Hash};
 
 impl<'a, K: Eq + Hash, V, S: BuildHasher> OccupiedEntry<'a, K, V, S> {
-    /// Returns a reference to the stored key, in O(1) without allocating.
+    /// Returns a reference to the stored key.
     pub fn key(&self) -> &K
         ensures { result.now ≡ occupied_key self.now }
     {
         self.map.current_pair().0
     }
 
-    /// Returns a reference to the value, in O(1) without allocating.
+    /// Returns a reference to the value.
     pub fn get(&self) -> &V
         ensures { result.now ≡ occupied_value self.now }
     {
         self.map.current_pair().1
     }
 
-    /// Returns a mutable reference to the value, in O(1) without allocating.
+    /// Returns a mutable reference to the value.
     pub fn get_mut(&mut self) -> &mut V
         ensures* writes_back { sem 𝓛
             (lends_in_entry K.row V.row S.row S.Hasher.row K.Hash S.BuildHasher S.Hasher.Hasher
@@ -48,8 +48,7 @@ impl<'a, K: Eq + Hash, V, S: BuildHasher> OccupiedEntry<'a, K, V, S> {
         self.map.current_value_mut()
     }
 
-    /// Returns a mutable reference to the value that lives as long as the borrow of the map, in
-    /// O(1) without allocating.
+    /// Returns a mutable reference to the value that lives as long as the borrow of the map.
     ///
     /// # Examples
     ///
@@ -77,9 +76,8 @@ impl<'a, K: Eq + Hash, V, S: BuildHasher> OccupiedEntry<'a, K, V, S> {
         map.leave_current()
     }
 
-    /// Replaces the value and returns the old one, in O(1) without allocating. The pair moves to
-    /// the back, or in [`Mode::Keep`](crate::Mode::Keep) stays in its place. The entry
-    /// still stands for it.
+    /// Replaces the value and returns the old one. The pair moves to the back, except in
+    /// [`Mode::Keep`](crate::Mode::Keep), and stays that of the entry.
     ///
     /// # Examples
     ///
@@ -112,8 +110,7 @@ impl<'a, K: Eq + Hash, V, S: BuildHasher> OccupiedEntry<'a, K, V, S> {
         self.map.insert_current(value)
     }
 
-    /// Removes the pair, drops the stored key and returns the value, in O(1) on average. It hashes
-    /// and compares no key and does not allocate; the order of the others and the capacity stay.
+    /// Removes the pair, drops the stored key and returns the value. The others keep their order.
     pub fn remove(self) -> V
     where
         K: Drop,

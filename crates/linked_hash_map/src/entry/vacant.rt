@@ -12,7 +12,7 @@ use crate::map::LIMIT;
 use std::hash::{BuildHasher, Hash};
 
 impl<'a, K: Eq + Hash, V, S: BuildHasher> VacantEntry<'a, K, V, S> {
-    /// Returns a reference to the key, in O(1) without allocating.
+    /// Returns a reference to the key, in O(1).
     ///
     /// # Examples
     ///
@@ -30,11 +30,8 @@ impl<'a, K: Eq + Hash, V, S: BuildHasher> VacantEntry<'a, K, V, S> {
         &self.key
     }
 
-    /// Inserts the key and a value at the back, and returns a mutable reference to the value.
-    ///
-    /// Only at full capacity does it allocate: it raises the capacity by one or is refused, as it
-    /// always is at [`LIMIT`] pairs. The error has the key and this value, and the map is unchanged. It is
-    /// O(1), or O(n) if the number of buckets changes.
+    /// Inserts the key and a value at the back, and returns a mutable reference to the value. It
+    /// allocates, costs and is refused as [`insert`](crate::LinkedHashMap::insert) of a new key.
     ///
     /// # Examples
     ///

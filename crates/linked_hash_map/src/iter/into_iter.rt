@@ -12,11 +12,10 @@ use std::hash::{BuildHasher, Hash};
 use std::iter::FusedIterator;
 use std::marker::Model;
 
-/// A fused double-ended iterator that owns the pairs of a map, returned by `into_iter` or a loop
-/// over it.
+/// A fused double-ended iterator that owns the pairs, returned by `into_iter` or a loop over a map.
 ///
-/// Except for `clone`, its methods are O(1) and do not allocate. Dropping it drops the pairs left,
-/// in O(n).
+/// Except for `clone`, its methods are O(1). Dropping it drops the pairs left and frees the nodes,
+/// in O(capacity).
 ///
 /// # Examples
 ///
@@ -95,10 +94,8 @@ impl<K: Drop, V: Drop> ExactSizeIterator for IntoIter<K, V> {
 
 impl<K: Drop, V: Drop> FusedIterator for IntoIter<K, V> {}
 
-/// Clones the pairs left, in O(n), with the source's allocator.
-///
-/// Returns an error if an allocation or the clone of a key or a value fails; the clones made so far
-/// are dropped. With no pair left it does not allocate and never fails.
+/// Clones the pairs left, in O(n), hashing no key. Returns an error if an allocation or a clone
+/// fails, and never if no pair is left.
 impl<K: Clone, V: Clone> Clone for IntoIter<K, V> {
     ghost use Rattle.std.specs.Prelude.{[]};
 
@@ -114,8 +111,7 @@ impl<K: Clone, V: Clone> Clone for IntoIter<K, V> {
     }
 }
 
-/// A loop over the map, in O(capacity) without allocating: the hasher is dropped, and the buckets
-/// are freed.
+/// A loop over the map, which drops the hasher and frees the buckets, in O(capacity).
 ///
 /// # Examples
 ///

@@ -10,8 +10,8 @@ use lhm_ring::table::LentValues;
 use std::hash::{BuildHasher, Hash};
 use std::iter::FusedIterator;
 
-/// A fused double-ended iterator over the pairs of a map, with mutable references to the values,
-/// returned by `iter_mut` or a loop over `&mut map`. Its methods are O(1) and do not allocate.
+/// A fused double-ended iterator over the pairs, with mutable references to the values, returned by
+/// `iter_mut` or a loop over `&mut map`. Its methods are O(1).
 #[derive(Drop)]
 pub struct IterMut<'a, K, V> {
     nodes: table::IterMut<'a, K, V>,

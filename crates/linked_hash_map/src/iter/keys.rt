@@ -10,8 +10,7 @@ use std::alloc::AllocError;
 use std::iter::FusedIterator;
 use std::marker::Model;
 
-/// A fused double-ended iterator over the keys of a map, returned by `keys`. Its methods are O(1)
-/// and do not allocate.
+/// A fused double-ended iterator over the keys, returned by `keys`. Its methods are O(1).
 #[derive(Drop)]
 pub struct Keys<'a, K, V> {
     pairs: Iter<'a, K, V>,
@@ -73,7 +72,7 @@ impl<'a, K, V> ExactSizeIterator for Keys<'a, K, V> {
 
 impl<'a, K, V> FusedIterator for Keys<'a, K, V> {}
 
-/// A clone has the same keys left. It does not allocate and never fails.
+/// Clones the iterator, without failing or allocating, in O(1).
 impl<'a, K, V> Clone for Keys<'a, K, V> {
     ghost is_clone = { λ s t. t ≡ s };
 

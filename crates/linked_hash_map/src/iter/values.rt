@@ -10,8 +10,7 @@ use std::alloc::AllocError;
 use std::iter::FusedIterator;
 use std::marker::Model;
 
-/// A fused double-ended iterator over the values of a map, returned by `values`. Its methods are
-/// O(1) and do not allocate.
+/// A fused double-ended iterator over the values, returned by `values`. Its methods are O(1).
 #[derive(Drop)]
 pub struct Values<'a, K, V> {
     pairs: Iter<'a, K, V>,
@@ -73,7 +72,7 @@ impl<'a, K, V> ExactSizeIterator for Values<'a, K, V> {
 
 impl<'a, K, V> FusedIterator for Values<'a, K, V> {}
 
-/// A clone has the same values left. It does not allocate and never fails.
+/// Clones the iterator, without failing or allocating, in O(1).
 impl<'a, K, V> Clone for Values<'a, K, V> {
     ghost is_clone = { λ s t. t ≡ s };
 

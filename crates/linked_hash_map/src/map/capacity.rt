@@ -12,9 +12,9 @@ use std::hash::{BuildHasher, Hash};
 impl<K: Eq + Hash, V, S: BuildHasher> LinkedHashMap<K, V, S> {
     /// Raises the capacity to exactly the number of pairs plus `additional`, if it is below that.
     ///
-    /// Returns `TooLarge` exactly if that sum is above [`LIMIT`] or overflows, and `NoRoom` if an
-    /// allocation fails; the map is then unchanged. It is O(capacity) for the new capacity and
-    /// hashes no key. Within the old one it does not allocate and is never refused.
+    /// Returns `TooLarge` exactly if the sum is above [`LIMIT`] or overflows, and `NoRoom` if an
+    /// allocation fails. It is O(capacity), the new one, or O(1) without allocating if the old one
+    /// suffices.
     ///
     /// # Examples
     ///
@@ -57,14 +57,10 @@ impl<K: Eq + Hash, V, S: BuildHasher> LinkedHashMap<K, V, S> {
         }
     }
 
-    /// Lowers the capacity to exactly the number of pairs, in O(capacity) for the old one, hashing
-    /// no key. An empty map frees all its memory.
+    /// Lowers the capacity to exactly the number of pairs, in O(capacity), the old one.
     ///
-    /// With fewer buckets it moves the pairs into one block of exactly as many nodes, and frees the
-    /// old ones. With as many buckets the nodes beyond the capacity stay for a later growth.
-    ///
-    /// It allocates only if pairs are left and there are to be fewer buckets. Returns `NoRoom` if
-    /// an allocation fails; the map is then unchanged.
+    /// It frees memory only if the number of buckets falls. It then allocates first, unless the map
+    /// is empty, and returns `NoRoom` if that fails.
     ///
     /// # Examples
     ///
@@ -102,13 +98,8 @@ impl<K: Eq + Hash, V, S: BuildHasher> LinkedHashMap<K, V, S> {
         }
     }
 
-    /// Returns how many nodes were rehashed since [`shrink_to_fit`] last lowered the capacity, that
-    /// call included, in O(1) without allocating.
-    ///
-    /// Only a change of the number of buckets rehashes, and it rehashes all pairs. The count is at
-    /// most the number of buckets.
-    ///
-    /// [`shrink_to_fit`]: LinkedHashMap::shrink_to_fit
+    /// Returns how many nodes rehashes have moved since `shrink_to_fit` last lowered the capacity,
+    /// that call included, in O(1).
     ///
     /// # Examples
     ///

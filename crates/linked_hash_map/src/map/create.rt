@@ -29,10 +29,10 @@ impl<K: Eq + Hash, V> LinkedHashMap<K, V> {
         Self::with_hasher(alloc, BuildHasherDefault::new())
     }
 
-    /// Creates an empty map of exactly this capacity with the default hasher.
+    /// Creates an empty map of exactly this capacity with the default hasher, in O(capacity).
     ///
-    /// Returns `TooLarge` exactly if it is above [`LIMIT`], and `NoRoom` if an allocation fails. It
-    /// is O(capacity), and does not allocate for capacity 0.
+    /// Returns `TooLarge` exactly if it is above [`LIMIT`], and `NoRoom` if an allocation fails.
+    /// Capacity 0 does not allocate.
     ///
     /// # Examples
     ///
@@ -80,10 +80,8 @@ impl<K: Eq + Hash, V, S: BuildHasher> LinkedHashMap<K, V, S> {
         Self::of_empty(Table::new(alloc), hasher)
     }
 
-    /// Creates an empty map of exactly this capacity with a build hasher.
-    ///
-    /// Returns `TooLarge` exactly if it is above [`LIMIT`], and `NoRoom` if an allocation fails;
-    /// the hasher is then dropped. It is O(capacity), and does not allocate for capacity 0.
+    /// Creates an empty map of exactly this capacity with a build hasher, as `with_capacity` does.
+    /// An error drops the hasher.
     ///
     /// # Examples
     ///

@@ -1,6 +1,4 @@
-//! Where a cursor or an entry stands: the pairs left to visit, and the pair of an entry.
-//!
-//! The contracts speak of indexes into the list of pairs, which no public call does.
+//! Where a cursor or an entry stands. Contracts speak of indexes into the list of pairs.
 ghost use Rattle.std.specs.Prelude.{◌≡◌, ◌<◌, [], length, option_map, None, ◌∷◌, map, remove, slice_get, Some, IfSome, IfNone, IsTrue, IsFalse};
 ghost use Rattle.std.specs.Map.{keys_of};
 ghost use Rattle.std.specs.Borrow.{sem};
@@ -22,15 +20,15 @@ use std::alloc::AllocError;
 use std::hash::{BuildHasher, Hash};
 use std::mem;
 
-/// Where a cursor or an entry stands. A call that ends a visit writes `active` alone.
+/// Where a cursor or an entry stands.
 pub(super) struct Visit<K, V> {
-    /// Whether there is a cursor or an entry; if not, the other fields mean nothing.
+    /// Whether the other fields mean anything. To end a visit clears this alone.
     pub(super) active: bool,
-    /// The position of the next pair to visit.
+    /// The next pair to visit.
     pub(super) mark: Option<Position<K, V>>,
-    /// The number of pairs left to visit, from `mark` on.
+    /// The number of pairs left to visit.
     pub(super) unvisited: usize,
-    /// The position of the pair of an occupied entry.
+    /// The pair of an occupied entry.
     pub(super) current: Option<Position<K, V>>,
 }
 
@@ -43,7 +41,7 @@ impl<K, V> Clone for Visit<K, V> {
 impl<K, V> Copy for Visit<K, V> {}
 
 impl<K, V> Visit<K, V> {
-    /// Returns the state of no cursor and no entry.
+    /// Returns the state without cursor and entry.
     pub(super) fn none() -> Self
         ensures mark { mark_of result ≡ None }
         ensures unvisited { unvisited_of result ≡ 0 }
@@ -57,7 +55,7 @@ impl<K, V> Visit<K, V> {
         }
     }
 
-    /// Returns the position of the next pair to visit.
+    /// Returns the next pair to visit.
     pub(super) fn mark(&self) -> Option<Position<K, V>>
         ensures { pointer_of_some result ≡ mark_of self.now }
     {
@@ -71,15 +69,14 @@ impl<K, V> Visit<K, V> {
         if self.active { self.unvisited } else { 0 }
     }
 
-    /// Returns the position of the pair of an occupied entry.
+    /// Returns the pair of an occupied entry.
     pub(super) fn current(&self) -> Option<Position<K, V>>
         ensures { pointer_of_some result ≡ current_of self.now }
     {
         if self.active { self.current } else { None }
     }
 
-    /// Returns how many pairs of the table come behind the next one to visit, or `None` if none is
-    /// left to visit. It is O(n) in an active visit.
+    /// Returns how many pairs come behind the next one to visit, in O(n).
     pub(super) fn behind(&self, table: &Table<K, V>) -> Option<usize>
         requires { Lies (mark_of self.now) table.now.held }
         ensures { HasBehind (mark_of self.now) table.now.held result }
@@ -90,8 +87,7 @@ impl<K, V> Visit<K, V> {
         }
     }
 
-    /// Returns this visit with its mark at the pair of the table that has this many behind it, in
-    /// O(n). No pair is current then.
+    /// Returns this visit at the pair with this many behind it, in O(n).
     pub(super) fn moved_to(&self, table: &Table<K, V>, behind: Option<usize>) -> Self
         requires within { IfSome behind (λ n. n < length table.now.held) }
         requires none { IfNone behind (unvisited_of self.now ≡ 0) }
@@ -111,7 +107,7 @@ impl<K, V> Visit<K, V> {
     }
 }
 
-/// Returns the position of the pair behind this one, or `None` if none is left to visit.
+/// Returns the pair behind this one, if it is left to visit.
 fn mark_behind<K, V>(
     table: &Table<K, V>,
     at: Position<K, V>,
@@ -147,7 +143,7 @@ impl<K: Eq + Hash, V, S: BuildHasher> LinkedHashMap<K, V, S> {
         };
     }
 
-    /// Makes the next pair to visit the current one, and returns whether one was left.
+    /// Makes the next pair to visit, if any, the current one.
     pub(crate) fn visit_next(&mut self) -> bool
         ensures key { IsTrue result → (key : K)
             → slice_get (keys_of self.old.pairs) self.new.cursor.current ≡ Some key
@@ -174,8 +170,7 @@ impl<K: Eq + Hash, V, S: BuildHasher> LinkedHashMap<K, V, S> {
         true
     }
 
-    /// Returns the number of pairs left to visit, or 0 if there is no visit, in O(1) without
-    /// allocating.
+    /// Returns the number of pairs left to visit, 0 without a visit, in O(1).
     ///
     /// # Examples
     ///
@@ -265,8 +260,8 @@ impl<K: Eq + Hash, V, S: BuildHasher> LinkedHashMap<K, V, S> {
         self.table.value_mut(at)
     }
 
-    /// Replaces the value of the current pair and returns the old one. The pair stays current and
-    /// moves to the back, or in `Keep` stays in its place.
+    /// Replaces the value of the current pair, which moves as the mode says, and returns the old
+    /// one.
     #[inline]
     pub(crate) fn insert_current(&mut self, value: V) -> V
         requires within { self.old.cursor.current < length self.old.pairs }

@@ -16,8 +16,7 @@ use std::ops::{Index, IndexMut};
 impl<K: Eq + Hash, V, S: BuildHasher> LinkedHashMap<K, V, S> {
     ghost use Rattle.linked_hash_map.specs.Lends.{lends_value, lends_refreshed};
 
-    /// Returns the value of a key, if present. It hashes the key once, is O(1) on average and does
-    /// not allocate.
+    /// Returns the value of a key, if present, in O(1). Hashes the key once.
     ///
     /// # Examples
     ///
@@ -35,8 +34,7 @@ impl<K: Eq + Hash, V, S: BuildHasher> LinkedHashMap<K, V, S> {
         Some(self.table.value(at))
     }
 
-    /// Returns a mutable reference to the value of a key, if present. It hashes the key once, is
-    /// O(1) on average and does not allocate.
+    /// Returns a mutable reference to the value of a key, if present, in O(1). Hashes the key once.
     ///
     /// # Examples
     ///
@@ -62,8 +60,8 @@ impl<K: Eq + Hash, V, S: BuildHasher> LinkedHashMap<K, V, S> {
         }
     }
 
-    /// Moves the pair of a key, if present, to the back in both modes, and returns a mutable
-    /// reference to its value. It hashes the key once, is O(1) on average and does not allocate.
+    /// Returns a mutable reference to the value of a key, if present, and moves its pair to the
+    /// back, in both modes, in O(1). Hashes the key once.
     ///
     /// # Examples
     ///
@@ -98,12 +96,11 @@ impl<K: Eq + Hash, V, S: BuildHasher> LinkedHashMap<K, V, S> {
         }
     }
 
-    /// Returns the value of a key, if present, and the counts of the lookup. It hashes the key
-    /// once, is O(1) on average and does not allocate.
+    /// Returns the value of a key, if present, and the counts of the lookup, in O(1). Hashes the
+    /// key once.
     ///
-    /// For an absent key it reaches each node of the bucket's chain and compares each key with the
-    /// same hash; for a present key it does no more. Any other lookup searches so too, except that
-    /// it reaches no node if a filter of the bucket's hashes shows that none has the hash.
+    /// An absent key counts all nodes of its bucket and all keys with its hash, a present one no
+    /// more. Other lookups compare the same keys; a filter spares most absent keys the nodes.
     ///
     /// # Examples
     ///
@@ -151,8 +148,7 @@ impl<K: Eq + Hash, V, S: BuildHasher> LinkedHashMap<K, V, S> {
         }
     }
 
-    /// Returns `true` if a key is present. It hashes the key once, is O(1) on average and does not
-    /// allocate.
+    /// Returns `true` if a key is present, in O(1). Hashes the key once.
     ///
     /// # Examples
     ///
@@ -168,7 +164,7 @@ impl<K: Eq + Hash, V, S: BuildHasher> LinkedHashMap<K, V, S> {
         self.get(key).is_some()
     }
 
-    /// Returns the front pair, if any, in O(1) without allocating.
+    /// Returns the front pair, if any, in O(1). Hashes no key.
     ///
     /// # Examples
     ///
@@ -185,7 +181,7 @@ impl<K: Eq + Hash, V, S: BuildHasher> LinkedHashMap<K, V, S> {
         Some((self.table.key(at), self.table.value(at)))
     }
 
-    /// Returns the back pair, if any, in O(1) without allocating.
+    /// Returns the back pair, if any, in O(1). Hashes no key.
     ///
     /// # Examples
     ///
@@ -203,8 +199,8 @@ impl<K: Eq + Hash, V, S: BuildHasher> LinkedHashMap<K, V, S> {
     }
 }
 
-/// `map[&key]`, for a key that has to be proved present, as by `contains_key`; the original panics
-/// if it is absent. It hashes the key once, is O(1) on average and does not allocate.
+/// `map[&key]`, in O(1), for a key that is proved present: the original panics on others. Hashes it
+/// once.
 ///
 /// # Examples
 ///
@@ -227,8 +223,7 @@ impl<'q, K: Eq + Hash, V, S: BuildHasher> Index<&'q K> for LinkedHashMap<K, V, S
     }
 }
 
-/// `map[&key] = value`, for a key that has to be proved present, with one hash of the key, in O(1)
-/// on average without allocating.
+/// `map[&key] = value`, in O(1), for a key that is proved present. Hashes it once.
 ///
 /// # Examples
 ///

@@ -18,7 +18,7 @@ use lhm_ring::table::{Position, Table};
 use std::hash::{BuildHasher, Hash};
 use std::mem;
 
-/// Moves the pair at a position to the back, or in `Keep` leaves it in its place.
+/// Moves the pair at a position to the back, except in `Keep`.
 #[inline]
 pub(super) fn touch<K, V>(table: &mut Table<K, V>, at: Position<K, V>, mode: Mode)
     requires { IsHeld table.old.held (pointer_of at) }
@@ -35,13 +35,12 @@ pub(super) fn touch<K, V>(table: &mut Table<K, V>, at: Position<K, V>, mode: Mod
 impl<K: Eq + Hash, V, S: BuildHasher> LinkedHashMap<K, V, S> {
     ghost use Rattle.linked_hash_map.specs.Lends.{lends_at};
 
-    /// Inserts a pair and returns the old value of its key, or `None` if the key is new.
+    /// Inserts a pair at the back and returns the old value of its key, or `None` if the key is
+    /// new. A present key keeps the stored key and, in [`Mode::Keep`], its place. Hashes the key
+    /// once.
     ///
-    /// A present key is never refused: its pair keeps the stored key and moves to the back, or in
-    /// [`Mode::Keep`] stays in its place, and `key` is dropped. A new key goes to the back. Only a
-    /// new key at full capacity allocates: it raises the capacity by one or is refused, and the
-    /// error then has this key and this value, and the map is unchanged. It hashes `key` once and
-    /// is O(1) on average, or O(n) if the number of buckets changes.
+    /// Only a new key at full capacity allocates: it raises the capacity by one, or is refused and
+    /// handed back with its value. It is O(1), or up to O(n) at full capacity.
     ///
     /// # Examples
     ///
@@ -127,7 +126,7 @@ impl<K: Eq + Hash, V, S: BuildHasher> LinkedHashMap<K, V, S> {
         Ok(mem::replace(self.table.value_mut(found), value))
     }
 
-    /// Inserts a pair of an absent key, which has this hash, at the back, below the capacity.
+    /// Inserts a pair of an absent key, with its hash, at the back.
     #[inline]
     pub(crate) fn push_back(&mut self, hash: u64, key: K, value: V)
         requires hash { hash ≡ hash_by S.Hasher.finish S.Hasher.write S.build_hasher K.hash_input

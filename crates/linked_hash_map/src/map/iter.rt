@@ -1,4 +1,4 @@
-//! The iterators over the pairs, the keys and the values.
+//! The iterators.
 ghost use Rattle.std.specs.Prelude.{◌≡◌};
 ghost use Rattle.std.specs.Map.{keys_of, values_of};
 ghost use Rattle.std.specs.Map.Iter.{deref, deref_pair, ShowsInOrder, ShowsInReverse, LendsValuesInOrder, LendsValuesInReverse};
@@ -18,7 +18,7 @@ impl<K: Eq + Hash, V, S: BuildHasher> LinkedHashMap<K, V, S> {
     ghost use Rattle.linked_hash_map.specs.Lends.{lends_values};
     ghost use Rattle.linked_hash_map.specs.ValueWalks.{pairs_left, loan_name};
 
-    /// Returns a double-ended iterator over the pairs, front to back, in O(1) without allocating.
+    /// Returns a double-ended iterator over the pairs, front to back, in O(1).
     ///
     /// # Examples
     ///
@@ -43,7 +43,7 @@ impl<K: Eq + Hash, V, S: BuildHasher> LinkedHashMap<K, V, S> {
     }
 
     /// Returns a double-ended iterator over the pairs, front to back, with mutable references to
-    /// the values, in O(1) without allocating.
+    /// the values, in O(1).
     ///
     /// # Examples
     ///
@@ -71,7 +71,7 @@ impl<K: Eq + Hash, V, S: BuildHasher> LinkedHashMap<K, V, S> {
         IterMut::new(self.lend())
     }
 
-    /// Returns a double-ended iterator over the keys, front to back, in O(1) without allocating.
+    /// Returns a double-ended iterator over the keys, front to back, in O(1).
     ///
     /// # Examples
     ///
@@ -94,7 +94,7 @@ impl<K: Eq + Hash, V, S: BuildHasher> LinkedHashMap<K, V, S> {
         Keys::new(self.iter())
     }
 
-    /// Returns a double-ended iterator over the values, front to back, in O(1) without allocating.
+    /// Returns a double-ended iterator over the values, front to back, in O(1).
     ///
     /// # Examples
     ///

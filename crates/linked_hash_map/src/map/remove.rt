@@ -17,9 +17,8 @@ impl<K: Eq + Hash, V, S: BuildHasher> LinkedHashMap<K, V, S> {
     ghost use Rattle.std.specs.Iterator.Runs.{YieldsInOrder, YieldsInReverse};
     ghost use Rattle.linked_hash_map.specs.Lends.{lends_drained};
 
-    /// Removes the pair of a key and returns its value, if present, with one hash of the key, in
-    /// O(1) on average without allocating. The stored key is dropped; the order of the others and
-    /// the capacity stay.
+    /// Removes the pair of a key and returns its value, if present, in O(1). The others keep their
+    /// order. Hashes the key once.
     ///
     /// # Examples
     ///
@@ -70,8 +69,7 @@ impl<K: Eq + Hash, V, S: BuildHasher> LinkedHashMap<K, V, S> {
         Some(pair)
     }
 
-    /// Removes and returns the front pair, if any, in O(1) on average. It hashes and compares no
-    /// key and does not allocate; the capacity stays.
+    /// Removes and returns the front pair, if any, in O(1). Hashes no key.
     ///
     /// # Examples
     ///
@@ -99,8 +97,7 @@ impl<K: Eq + Hash, V, S: BuildHasher> LinkedHashMap<K, V, S> {
         Some(self.table.remove_at(front))
     }
 
-    /// Removes and returns the back pair, if any, in O(1) on average. It hashes and compares no key
-    /// and does not allocate; the capacity stays.
+    /// Removes and returns the back pair, if any, in O(1). Hashes no key.
     ///
     /// # Examples
     ///
@@ -128,8 +125,7 @@ impl<K: Eq + Hash, V, S: BuildHasher> LinkedHashMap<K, V, S> {
         Some(self.table.remove_at(back))
     }
 
-    /// Drops all pairs and keeps the capacity, in O(capacity), or O(1) if the map is empty. It does
-    /// not allocate.
+    /// Drops all pairs, in O(capacity), or O(1) if the map is empty.
     ///
     /// # Examples
     ///
@@ -153,10 +149,8 @@ impl<K: Eq + Hash, V, S: BuildHasher> LinkedHashMap<K, V, S> {
         drop(self.table.drain());
     }
 
-    /// Removes all pairs and returns them as a double-ended iterator, front to back.
-    ///
-    /// The map is empty and keeps its capacity from the call on. Forgetting the iterator leaks the
-    /// pairs left. It is O(capacity), or O(1) if the map is empty, and does not allocate.
+    /// Removes all pairs and returns them as a double-ended iterator, front to back, in
+    /// O(capacity), or O(1) if the map is empty. Forgetting the iterator leaks the pairs left.
     ///
     /// # Examples
     ///

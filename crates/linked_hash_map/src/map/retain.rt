@@ -1,4 +1,4 @@
-//! `retain`, which removes the pairs that a closure rejects.
+//! `retain`.
 ghost use Rattle.std.specs.Prelude.{◌≡◌, ◌≤◌, [], length};
 ghost use Rattle.std.specs.Map.{keys_of};
 ghost use Rattle.std.specs.Map.Calls.{CallableOnEachPair, CalledAtPair, TakesPair, RetainsPairs};
@@ -11,12 +11,10 @@ use super::LinkedHashMap;
 use std::hash::{BuildHasher, Hash};
 
 impl<K: Eq + Hash, V, S: BuildHasher> LinkedHashMap<K, V, S> {
-    /// Keeps the pairs for which a closure returns `true`, in order, and drops the others.
+    /// Keeps the pairs for which a closure returns `true`, in order, and drops the others, in O(n).
+    /// Hashes no key.
     ///
-    /// The closure is called once with each pair, front to back, and may change the value. Each
-    /// pair that it rejects is dropped before the next call. Whatever it does, the keys that stay
-    /// are some of the old ones, in their order, and the capacity, the hasher and the mode stay. It
-    /// ends a visit. It is O(n) on average, compares and hashes no key and does not allocate.
+    /// The closure is called once with each pair, front to back, and may change the value.
     ///
     /// # Examples
     ///

@@ -10,14 +10,14 @@ use crate::iter::Iter;
 use std::iter::FusedIterator;
 use std::marker::Model;
 
-/// An iterator over the sessions of a table, front to back, each as its id, weight and payload. It
-/// is returned by `Sessions::iter`. Its calls are O(1) and do not allocate.
+/// A fused iterator over the sessions of a table, returned by `Sessions::iter`. Its methods are
+/// O(1).
 #[derive(Drop)]
 pub struct SessionIter<'a, T> {
     pairs: Iter<'a, u64, Weighted<T>>,
 }
 
-/// A contract sees the sessions that are left, in their order.
+/// A contract sees the sessions left, in order.
 impl<'a, T> Model for SessionIter<'a, T> {
     ghost use Rattle.std.specs.Prelude.{List};
     ghost use Rattle.linked_hash_map.specs.SessionTables.{Session};
@@ -39,7 +39,6 @@ impl<'a, T> SessionIter<'a, T> {
     }
 }
 
-/// `next` yields the front session left; the size hint is exact.
 impl<'a, T> Iterator for SessionIter<'a, T> {
     type Item = (u64, u64, &'a T);
 
@@ -61,12 +60,10 @@ impl<'a, T> Iterator for SessionIter<'a, T> {
     }
 }
 
-/// `len` is the number of sessions left.
 impl<'a, T> ExactSizeIterator for SessionIter<'a, T> {
     fn len(&self) -> usize {
         self.pairs.len()
     }
 }
 
-/// Once no session is left, `next` returns `None` for good.
 impl<'a, T> FusedIterator for SessionIter<'a, T> {}

@@ -1,6 +1,6 @@
 //! What a put of a session returns.
 
-/// The result of a put: the payload that it replaced, and the sessions that it removed.
+/// The result of a put.
 ///
 /// # Examples
 ///
@@ -12,13 +12,13 @@
 /// ```
 #[derive(Debug, PartialEq, Drop)]
 pub struct Put<T> {
-    /// The payload that the id had, or `None` if the id was new.
+    /// The payload that the id had, if any.
     pub old: Option<T>,
-    /// The sessions removed, front to back, each as its id, weight and payload.
+    /// The sessions removed, front to back: id, weight and payload.
     pub gone: Vec<(u64, u64, T)>,
 }
 
-/// The error of a put: why it was refused, and the payload. The table is unchanged.
+/// The error of a put, which changed nothing.
 ///
 /// # Examples
 ///
@@ -31,7 +31,7 @@ pub struct Put<T> {
 pub struct PutRefused<T> {
     /// Why the session was refused.
     pub reason: PutReason,
-    /// The payload that was given.
+    /// The given payload.
     pub payload: T,
 }
 
@@ -40,6 +40,6 @@ pub struct PutRefused<T> {
 pub enum PutReason {
     /// The weight is above the limit.
     TooHeavy = 1,
-    /// An allocation failed, or there are as many sessions as a map can hold.
+    /// An allocation failed, or there are `LIMIT` sessions.
     NoRoom = 2,
 }

@@ -1,4 +1,4 @@
-//! `retain`, which removes the sessions that a closure rejects.
+//! `retain` of a table.
 ghost use Rattle.std.specs.Prelude.{◌≡◌, ◌≤◌, length};
 ghost use Rattle.linked_hash_map.specs.Retains.{IsSublist};
 ghost use Rattle.linked_hash_map.specs.SessionRetains.{weights_of, CalledAtSession, RetainsSessions};
@@ -8,13 +8,11 @@ use super::Sessions;
 use super::storage::{Weighted, total_of};
 
 impl<T> Sessions<T> {
-    /// Keeps the sessions for which a closure returns `true`, in order, and drops the payloads of
-    /// the others.
+    /// Keeps the sessions for which a closure returns `true`, in order, and drops the other
+    /// payloads, in O(n). Hashes no id.
     ///
     /// The closure is called once with each id, weight and payload, front to back, and may change
-    /// the payload. Each payload that it rejects is dropped before the next call. Whatever it does,
-    /// the sessions that stay are some of the old ones, in their order, each with its weight, and
-    /// the limit stays. It is O(n) on average and does not allocate.
+    /// the payload.
     ///
     /// # Examples
     ///

@@ -1,5 +1,4 @@
-//! How the sessions of a table are stored: in a map, by their ids, in order. None of these
-//! functions drops a payload.
+//! How the sessions of a table are stored. No function here drops a payload.
 ghost use Rattle.std.specs.Prelude.{◌≡◌, ◌+◌, ◌-◌, ◌<◌, ◌≤◌, ◌++◌, [], length, drop, nat_eq, not, is_some, None, option_map, IsTrue, IfOk, OnOk, OnErr, vec_len, vec_capacity};
 ghost use Rattle.linked_hash_map.specs.Pairs as pairs;
 ghost use Rattle.linked_hash_map.specs.SessionTables.{session_of, payload_of, total_weight, without, with_last, fit};
@@ -18,14 +17,14 @@ pub(super) struct Weighted<T> {
     pub(super) payload: T,
 }
 
-/// How many sessions at the front a put removes, and the sum of the weights of those that stay.
+/// How many sessions a put removes, and what the others weigh.
 #[derive(Drop)]
 pub(super) struct Leaving {
     pub(super) count: usize,
     pub(super) staying: u64,
 }
 
-/// Returns the weight of the session with an id, or `None` if there is none.
+/// Returns the weight of the session of an id, if any.
 pub(super) fn weight_at<T>(map: &LinkedHashMap<u64, Weighted<T>>, id: u64) -> Option<u64>
     ensures { result ≡ option_map (λ session. session.1)
         (session_of (sessions_of map.now.pairs) id) }
@@ -36,10 +35,8 @@ pub(super) fn weight_at<T>(map: &LinkedHashMap<u64, Weighted<T>>, id: u64) -> Op
     }
 }
 
-/// Returns which sessions to remove, except the one with the id, so that the weights of the others
-/// sum to at most `weight_left`. `others` is the sum of all of them.
-///
-/// It reaches each session to remove, and at most two more.
+/// Returns which sessions to remove so that all but that of the id, which weigh `others`, weigh at
+/// most `weight_left`.
 pub(super) fn find_leaving<T>(
     map: &LinkedHashMap<u64, Weighted<T>>,
     id: u64,
@@ -79,8 +76,8 @@ pub(super) fn total_of<T>(map: &LinkedHashMap<u64, Weighted<T>>) -> u64
     total
 }
 
-/// Allocates what a put needs, and nothing else of it allocates: a vector for the sessions to
-/// remove, or, if there are none and the id is new, room for one more.
+/// Makes all allocations of a put: a vector for the sessions to remove, or, for none and a new id,
+/// room for one more.
 pub(super) fn make_room<T>(
     map: &mut LinkedHashMap<u64, Weighted<T>>,
     alloc: Global,
@@ -114,8 +111,7 @@ pub(super) fn make_room<T>(
     }
 }
 
-/// Puts a session at the back, in place of the one with its id, and removes sessions from the
-/// front. Returns the payload that the id had. It looks the id up once, and does not allocate.
+/// Puts a session at the back and removes some from the front. Returns the payload that the id had.
 pub(super) fn store<T>(
     map: &mut LinkedHashMap<u64, Weighted<T>>,
     session: (u64, u64, T),
@@ -148,7 +144,7 @@ pub(super) fn store<T>(
     old
 }
 
-/// Removes sessions from the front, in order, into a vector that has room for them.
+/// Removes sessions from the front into a vector with room for them.
 pub(super) fn take_oldest<T>(
     map: &mut LinkedHashMap<u64, Weighted<T>>,
     count: usize,
@@ -173,8 +169,8 @@ pub(super) fn take_oldest<T>(
     }
 }
 
-/// Puts a session at the back, in place of the one with its id, and returns the payload that the id
-/// had. A new id has room, so it does not allocate.
+/// Puts a session at the back in place of that with its id, whose payload it returns. It does not
+/// allocate.
 pub(super) fn put_back<T>(
     map: &mut LinkedHashMap<u64, Weighted<T>>,
     id: u64,
