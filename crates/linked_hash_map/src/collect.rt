@@ -122,8 +122,7 @@ impl<K: Eq + Hash, V, S: BuildHasher> LinkedHashMap<K, V, S> {
     /// bound of `size_hint`; at 0 it does not allocate.
     ///
     /// Returns `TooLarge` exactly if that bound is above [`LIMIT`](crate::LIMIT), with no item
-    /// taken, and `NoRoom` if an allocation fails or an insertion is refused. An error drops the
-    /// items taken.
+    /// taken, and `NoRoom` if an allocation fails or an insertion is refused.
     ///
     /// # Examples
     ///

@@ -391,8 +391,8 @@ fn reply_to<K: Eq + Hash + Drop, V: Drop, S: BuildHasher>(
 /// Runs the commands in order and returns one reply for each, at the cost of its call, hashing each
 /// of its keys once. A refusal does not stop the run.
 ///
-/// The replies are allocated first: if that fails, the error is the commands, and none is run. No
-/// commands are never refused.
+/// The replies are allocated first: if that fails, the error is the commands, and none is run. An
+/// empty list is never refused.
 pub fn replay<K: Eq + Hash + Drop, V: Drop, S: BuildHasher>(
     map: &mut LinkedHashMap<K, V, S>,
     commands: Vec<Command<K, V>>,

@@ -68,9 +68,9 @@ impl<K: Eq + Hash, V, S: BuildHasher> LinkedHashMap<K, V, S> {
     /// Begins a visit of every pair, front to back, and returns the map, in O(1).
     /// [`next_entry`](LinkedHashMap::next_entry) returns the entries, none of a new key.
     ///
-    /// Another visit ends it, and each call, except an entry's, that may remove or move a pair:
-    /// `insert`, `extend`, `entry`, `remove` and `get_refresh` of a present key, the pops,
-    /// `retain`, `clear`, `drain`.
+    /// Another visit ends it, and so does each call, except an entry's, that may remove or move a
+    /// pair: `insert`, `extend`, `entry`, `remove` and `get_refresh` of a present key, the pops,
+    /// `retain`, `clear` and `drain`.
     ///
     /// # Examples
     ///

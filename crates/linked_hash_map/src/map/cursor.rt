@@ -22,7 +22,7 @@ use std::mem;
 
 /// Where a cursor or an entry stands.
 pub(super) struct Visit<K, V> {
-    /// Whether the other fields mean anything. To end a visit clears this alone.
+    /// Whether the other fields mean anything. A call that ends a visit clears this alone.
     pub(super) active: bool,
     /// The next pair to visit.
     pub(super) mark: Option<Position<K, V>>,
@@ -143,7 +143,7 @@ impl<K: Eq + Hash, V, S: BuildHasher> LinkedHashMap<K, V, S> {
         };
     }
 
-    /// Makes the next pair to visit, if any, the current one.
+    /// Makes the next pair to visit the current one, and returns whether there was one.
     pub(crate) fn visit_next(&mut self) -> bool
         ensures key { IsTrue result → (key : K)
             → slice_get (keys_of self.old.pairs) self.new.cursor.current ≡ Some key

@@ -10,8 +10,7 @@ use crate::iter::Iter;
 use std::iter::FusedIterator;
 use std::marker::Model;
 
-/// A fused iterator over the sessions of a table, returned by `Sessions::iter`. Its methods are
-/// O(1).
+/// A fused iterator over the sessions, returned by `Sessions::iter`. Its methods are O(1).
 #[derive(Drop)]
 pub struct SessionIter<'a, T> {
     pairs: Iter<'a, u64, Weighted<T>>,
