@@ -1,4 +1,4 @@
-//! What is at a position, and the positions beside it. Each call is O(1) and does not allocate.
+//! What is at a position, and beside it.
 ghost use Rattle.std.specs.Prelude.{◌≡◌, ◌∷◌, ◌++◌, map};
 ghost use Rattle.lhm_ring.specs.Cells.{IsApart, AreBlocks};
 ghost use Rattle.std.specs.Borrow.{sem};
@@ -46,15 +46,14 @@ impl<K, V> Ring<K, V> {
         self.nodes.value_mut(at.pointer)
     }
 
-    /// Returns the position of the front triple, or `None` if nothing is held.
+    /// Returns the position of the front triple, if any.
     pub fn first(&self) -> Option<Position<K, V>>
         ensures { pointer_of_some result ≡ first_at self.now.held }
     {
         self.ends.first.get()
     }
 
-    /// Returns the position of the back triple, or `None` if nothing is held. No two triples share
-    /// one.
+    /// Returns the position of the back triple, if any.
     pub fn last(&self) -> Option<Position<K, V>>
         ensures last { pointer_of_some result ≡ last_at self.now.held }
         ensures apart { IsApart (map (λ t. t.at) self.now.held) }
@@ -62,7 +61,7 @@ impl<K, V> Ring<K, V> {
         self.ends.last.get()
     }
 
-    /// Returns the position right behind one, or `None` at the back. No two triples share one.
+    /// Returns the position behind one, if any.
     pub fn next(&self, at: Position<K, V>) -> Option<Position<K, V>>
         requires { IsHeld self.now.held (pointer_of at) }
         ensures next { AtHeld self.now.held (pointer_of at) (λ xs t ys.
@@ -72,7 +71,7 @@ impl<K, V> Ring<K, V> {
         self.nodes.links(at.pointer).next.get()
     }
 
-    /// Returns the position right before one, or `None` at the front.
+    /// Returns the position before one, if any.
     pub fn previous(&self, at: Position<K, V>) -> Option<Position<K, V>>
         requires { IsHeld self.now.held (pointer_of at) }
         ensures { AtHeld self.now.held (pointer_of at) (λ xs t ys.
@@ -81,8 +80,7 @@ impl<K, V> Ring<K, V> {
         self.nodes.links(at.pointer).prev.get()
     }
 
-    /// Returns where the chain link at a position leads, or `None`. The link belongs to
-    /// the caller.
+    /// Returns where the chain link at a position leads, if anywhere.
     pub fn link(&self, at: Position<K, V>) -> Option<Position<K, V>>
         requires { IsHeld self.now.held (pointer_of at) }
         ensures link { AtHeld self.now.held (pointer_of at) (λ xs t ys.
@@ -92,7 +90,7 @@ impl<K, V> Ring<K, V> {
         self.nodes.links(at.pointer).link.get()
     }
 
-    /// Sets the chain link at a position, which the ring never follows. Nothing else changes.
+    /// Sets the chain link at a position, which the ring ignores.
     pub fn set_link(&mut self, at: Position<K, V>, link: Option<Position<K, V>>)
         requires { IsHeld self.old.held (pointer_of at) }
         ensures held { AtHeld self.old.held (pointer_of at) (λ xs t ys.

@@ -1,4 +1,4 @@
-//! Positions by how many pairs come behind them.
+//! Positions by the pairs behind them.
 ghost use Rattle.std.specs.Prelude.{◌≡◌, ◌≤◌, length, IfSome, IfNone};
 ghost use Rattle.lhm_ring.specs.RingState.{IsHeld, AtHeld};
 ghost use Rattle.lhm_ring.specs.Positions.{pointer_of};
@@ -6,7 +6,7 @@ ghost use Rattle.lhm_ring.specs.Positions.{pointer_of};
 use crate::table::{Position, Table};
 
 impl<K, V> Table<K, V> {
-    /// Returns how many pairs come behind the one at a position, in O(n) for these.
+    /// Returns the number of pairs behind a position, in O(n) for these.
     pub fn behind(&self, at: Position<K, V>) -> usize
         requires { IsHeld self.now.held (pointer_of at) }
         ensures { AtHeld self.now.held (pointer_of at) (λ xs t ys. result ≡ length ys) }
@@ -20,8 +20,7 @@ impl<K, V> Table<K, V> {
         passed
     }
 
-    /// Returns the position of the pair that has this many pairs behind it, or `None` if none has.
-    /// It is O(n) for these.
+    /// Returns the position with this many pairs behind it, if any, in O(n) for these.
     pub fn nth_back(&self, behind: usize) -> Option<Position<K, V>>
         ensures held { IfSome result (λ at. IsHeld self.now.held (pointer_of at)) }
         ensures behind { IfSome result (λ at.

@@ -1,4 +1,4 @@
-//! The buckets of a table: their chains and their filter, which have one number of buckets.
+//! Chains and filter of a table.
 ghost use Rattle.std.specs.Prelude.{◌≡◌, ◌≢◌, ◌%◌, ◌<◌, ◌≤◌, ◌^◌, length, IfOk, IsOk, IfSome, IfNone, ℕ};
 ghost use Rattle.lhm_ring.specs.Index.{spots, Indexes};
 ghost use Rattle.lhm_ring.specs.Search.{HasNoChain};
@@ -10,8 +10,7 @@ use crate::index::Index;
 use crate::ring::Ring;
 use std::alloc::{AllocError, Global};
 
-/// Empties the chains of an index and clears its filter, in O(n) for the buckets. If the ring is
-/// empty, so are the chains.
+/// Empties the chains of an index and clears its filter, in O(n).
 pub(crate) fn empty_chains<K, V>(index: &mut Index<K, V>, filter: &mut Filter, ring: &Ring<K, V>)
     requires { Indexes index.old (spots ring.now.held) }
     ensures empty { HasNoChain index.new }
@@ -25,7 +24,7 @@ pub(crate) fn empty_chains<K, V>(index: &mut Index<K, V>, filter: &mut Filter, r
     filter.clear();
 }
 
-/// Clears the bits of a bucket that has no node any more.
+/// Clears the bits of a bucket that was emptied.
 pub(crate) fn clear_emptied(filter: &mut Filter, emptied: Option<usize>)
     requires { IfSome emptied (λ b. b < length filter.old) }
     ensures others { IfSome emptied (λ b.
@@ -40,8 +39,7 @@ pub(crate) fn clear_emptied(filter: &mut Filter, emptied: Option<usize>)
     }
 }
 
-/// Allocates an index of empty buckets for a capacity, and its filter, in O(n). For capacity 0 it
-/// does not allocate and never fails.
+/// Allocates empty buckets for a capacity, and their filter, in O(n). For 0 it never fails.
 pub(crate) fn with_filter<K, V>(
     alloc: Global,
     capacity: usize,

@@ -1,9 +1,9 @@
-//! A block of memory that nodes are cut from, for the ring that frees it.
+//! A chunk of nodes.
 ghost use Rattle.std.specs.Prelude.{◌<◌};
 
 use crate::block::NodePointer;
 
-/// A chunk: where its first node lies, and how many nodes it has.
+/// A block of memory for nodes: where the first lies, and how many there are.
 #[derive(Clone, Copy)]
 pub struct Chunk {
     pub(crate) first: NodePointer,

@@ -1,4 +1,4 @@
-//! All triples of a ring move into nodes that lie side by side.
+//! Moves all triples side by side.
 ghost use Rattle.std.specs.Prelude.{◌≡◌, ◌+◌, ◌≤◌, ◌++◌, [], length, OnOk, OnErr};
 ghost use Rattle.lhm_ring.specs.RingState.{triples};
 
@@ -6,7 +6,7 @@ use crate::ring::Ring;
 use std::alloc::AllocError;
 use std::mem;
 
-/// Moves all triples of a ring to the back of another, in order. It is O(n) and does not allocate.
+/// Moves all triples to the back of another ring, in order, in O(n).
 fn move_all<K, V>(from: &mut Ring<K, V>, to: &mut Ring<K, V>)
     requires { length from.old.held ≤ to.old.spares }
     ensures moved { triples to.new.held ≡ triples to.old.held ++ triples from.old.held }
@@ -21,11 +21,9 @@ fn move_all<K, V>(from: &mut Ring<K, V>, to: &mut Ring<K, V>)
 }
 
 impl<K, V> Ring<K, V> {
-    /// Moves the triples, in order, into one chunk with exactly as many nodes, and frees the
-    /// others, in O(n). No node is spare then, all positions end, and chain links lead nowhere.
-    ///
-    /// Returns an error if an allocation fails; nothing changes then. If nothing is held it does
-    /// not allocate.
+    /// Moves the triples, in order, into one new chunk of exactly as many nodes, and frees the
+    /// others, in O(n). Positions end, and chain links lead nowhere. If an allocation fails,
+    /// nothing changes. An empty ring does not allocate.
     pub fn compact(&mut self) -> Result<(), AllocError>
         ensures triples { OnOk result (triples self.new.held ≡ triples self.old.held) }
         ensures spares { OnOk result (self.new.spares ≡ 0) }

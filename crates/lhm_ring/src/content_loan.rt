@@ -1,4 +1,4 @@
-//! The keys and values of nodes are moved out one by one, while the links are shared.
+//! Moves keys and values out one by one, while links are shared.
 ghost use Rattle.std.specs.Prelude.{◌≡◌, List as Seq, Option, Some};
 ghost use Rattle.std.specs.Borrow.{sem};
 ghost use base.Fml.{GName, ftrue};
@@ -10,7 +10,7 @@ use crate::nodes::Nodes;
 use crate::value_loan::Hole;
 use std::marker::{Model, PhantomData};
 
-/// The right to move out what the nodes of `run` hold, each known by its pointer.
+/// The right to move out what the nodes of `run` hold.
 pub(crate) struct ContentLoan<'a, L, K, V> {
     marker: PhantomData<&'a mut Node<L, K, V>>,
     ghost name: { GName },
@@ -30,7 +30,7 @@ impl<L, K, V> Drop for ContentLoan<'_, L, K, V> {
 }
 
 impl<'a, L, K, V> ContentLoan<'a, L, K, V> {
-    /// Moves out the key and the value of the node at `at`.
+    /// Moves out key and value of the node at `at`.
     pub(crate) fn take(&mut self, at: NodePointer) -> (K, V)
         requires { HasBody self.old.run at.ptr }
         ensures body { body_in self.old.run at.ptr ≡ Some result }
@@ -46,8 +46,7 @@ impl<'a, L, K, V> ContentLoan<'a, L, K, V> {
 impl<L, K, V> Nodes<L, K, V> {
     ghost use Rattle.lhm_ring.specs.NodesAfterLoan.{lends_bodies};
 
-    /// Shares the links, and lends the keys and values. Once the borrow of the empty array ends,
-    /// the nodes hold nothing, whatever was moved out.
+    /// Shares the links, and lends the keys and values. When the loan ends, the nodes hold nothing.
     pub(crate) fn lend_bodies<'a>(
         &'a mut self,
     ) -> (

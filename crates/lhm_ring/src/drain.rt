@@ -1,4 +1,4 @@
-//! The iterator over what a ring held, whose nodes are spare.
+//! The iterator over what a ring held.
 ghost use Rattle.std.specs.Prelude.{◌≡◌, Some, IfSome, length};
 ghost use Rattle.std.specs.Borrow.{sem};
 ghost use Rattle.std.specs.Iterator.{at_most, UpTo};
@@ -16,7 +16,7 @@ use crate::value_loan::Hole;
 use std::iter::{DoubleEndedIterator, ExactSizeIterator, Iterator};
 use std::marker::Model;
 
-/// What is left to yield, in the `left` nodes from `first` to `last`.
+/// What is left to yield: `left` nodes, from `first` to `last`.
 struct Remaining<'a, K, V> {
     nodes: &'a Nodes<Links, Hole<K>, Hole<V>>,
     contents: ContentLoan<'a, Links, K, V>,
@@ -40,7 +40,6 @@ impl<'a, K, V> Model for Remaining<'a, K, V> {
 }
 
 impl<'a, K, V> Remaining<'a, K, V> {
-    /// Moves the front triple out.
     fn take_first(&mut self) -> Option<(u64, K, V)>
         ensures { HandsOutFirst self.old result self.new }
     {
@@ -55,7 +54,6 @@ impl<'a, K, V> Remaining<'a, K, V> {
         Some((links.hash, key, value))
     }
 
-    /// Moves the back triple out.
     fn take_last(&mut self) -> Option<(u64, K, V)>
         ensures { HandsOutLast self.old result self.new }
     {
@@ -93,11 +91,8 @@ impl<K: Drop, V: Drop> Drop for Remaining<'_, K, V> {
     }
 }
 
-/// A double-ended iterator over the triples that a ring held, returned by `Ring::splice_all`.
-///
-/// From that call on the ring holds nothing and all its nodes are spare. Dropping the iterator
-/// drops the triples left, in O(n); forgetting it leaks them, and nothing else. Each item is O(1),
-/// and none allocates.
+/// A double-ended iterator over the triples removed by `Ring::splice_all`, each in O(1). Dropping
+/// it drops those left, in O(n); forgetting it leaks them.
 pub struct Drain<'a, K, V> {
     // A borrow of no bytes. When it ends, the ring holds nothing and all its nodes are spare.
     anchor: &'a mut [u8; 0],
@@ -108,11 +103,8 @@ impl<K, V> Ring<K, V> {
     ghost use Rattle.lhm_ring.specs.RingAfterLoan.{lends_spliced};
     ghost use Rattle.lhm_ring.specs.Drains.{drain_name, drain_rest};
 
-    /// Removes all triples and returns them as a double-ended iterator, front to back.
-    ///
-    /// From the call on, the ring holds nothing and all its nodes are spare, also if the [`Drain`]
-    /// is forgotten. Positions of what it held lead nowhere then. It is O(n), and neither allocates
-    /// nor frees.
+    /// Removes all triples and returns them as a double-ended iterator, front to back, in O(n).
+    /// Positions end, and the nodes are spare, also if the [`Drain`] is forgotten.
     pub fn splice_all(&mut self) -> Drain<'_, K, V>
         ensures* writes_back { sem 𝓛 (lends_spliced K.row V.row self.entry (drain_name result)) }
         ensures rest { drain_rest result ≡ triples self.old.held }

@@ -1,4 +1,4 @@
-//! The filter of a table: which hashes the nodes of each bucket may have.
+//! The filter of a table: which hashes a bucket may have.
 ghost use Rattle.std.specs.Prelude.{◌≡◌, ◌≢◌, ◌%◌, ◌<◌, [], length, ◌/◌, ◌^◌, IfOk, IsOk, IsTrue, ℕ, vec_len, vec_capacity};
 ghost use Rattle.lhm_ring.specs.Buckets.{IsBucketCount};
 ghost use Rattle.lhm_ring.specs.Filters.{may_contain};
@@ -7,10 +7,8 @@ use std::alloc::{AllocError, Global};
 use std::marker::Model;
 use std::mem::{self, size_of};
 
-/// The bits of a bucket: a bit is set if a node in the bucket may have a hash whose upper four
-/// bits are the number of that bit.
-///
-/// It is not `Drop`, so a vector of words is not either: only `Filter::free` ends it.
+/// The bits of a bucket: one is set if a node there may have a hash with its number in the upper
+/// four bits. Not `Drop`, nor is a vector of words.
 struct Word {
     bits: u16,
 }
@@ -18,12 +16,8 @@ struct Word {
 // A bucket takes two bytes of the filter.
 const _: () = prove!(size_of::<Word>() == 2);
 
-/// A word for each bucket.
-///
-/// The bit of each held node's hash is set, so a lookup of a hash whose bit is not set reads no
-/// node. Bits stay set until the bucket has no node.
-///
-/// It is not `Drop`: only `free` ends it.
+/// A word for each bucket. A hash without its bit is that of no node. It is not `Drop`: only `free`
+/// ends it.
 pub(crate) struct Filter {
     words: Vec<Word>,
 }
@@ -40,7 +34,7 @@ impl Model for Filter {
     ghost invariant = { λ f. IsBucketCount (length f.words.items) };
 }
 
-/// Returns the number of the bit of a hash.
+/// Returns the bit of a hash.
 fn bit(hash: u64) -> u32
     ensures value { result ≡ hash / 2 ^ 60 }
     ensures small { result < 16 }
@@ -62,7 +56,7 @@ fn empty_words(alloc: Global, count: usize) -> Result<Vec<Word>, AllocError>
 }
 
 impl Filter {
-    /// Creates a filter without words. It does not allocate.
+    /// Creates a filter without words.
     pub(crate) fn new(alloc: Global) -> Filter
         ensures { result ≡ [] }
     {
@@ -71,8 +65,7 @@ impl Filter {
         }
     }
 
-    /// Allocates a word without bits for each bucket, in O(n). For no buckets it does not allocate
-    /// and never fails.
+    /// Allocates a word without bits for each bucket, in O(n). For none it never fails.
     pub(crate) fn with_buckets(alloc: Global, count: usize) -> Result<Filter, AllocError>
         requires { IsBucketCount count }
         ensures len { IfOk result (λ filter. length filter ≡ count) }
@@ -90,8 +83,7 @@ impl Filter {
         self.words.len()
     }
 
-    /// Returns whether a node may have a hash, whose bucket is given: `false` only if none has it.
-    /// It is O(1).
+    /// Returns whether a node may have a hash, in its bucket: `false` only if none has it.
     pub(crate) fn may_contain(&self, bucket: usize, hash: u64) -> bool
         requires within { bucket < length self.now }
         requires of_hash { bucket ≡ hash % length self.now }
@@ -100,7 +92,7 @@ impl Filter {
         (self.words[bucket].bits >> bit(hash)) & 1 == 1
     }
 
-    /// Sets the bit of a hash, whose bucket is given, in O(1).
+    /// Sets the bit of a hash in its bucket.
     pub(crate) fn insert(&mut self, bucket: usize, hash: u64)
         requires within { bucket < length self.old }
         requires of_hash { bucket ≡ hash % length self.old }
@@ -113,7 +105,7 @@ impl Filter {
         self.words[bucket].bits = bits | (1u16 << bit(hash));
     }
 
-    /// Clears the bits of a bucket, in O(1).
+    /// Clears the bits of a bucket.
     pub(crate) fn clear_bucket(&mut self, bucket: usize)
         requires { bucket < length self.old }
         ensures others { (other : ℕ) → other % length self.old ≢ bucket
@@ -123,7 +115,7 @@ impl Filter {
         self.words[bucket].bits = 0;
     }
 
-    /// Clears all bits, in O(n) for the buckets.
+    /// Clears all bits, in O(n).
     pub(crate) fn clear(&mut self)
         ensures buckets { length self.new ≡ length self.old }
     {
@@ -134,14 +126,14 @@ impl Filter {
         }
     }
 
-    /// Replaces the words by fresh ones, and frees the old words.
+    /// Replaces the words, and frees the old ones.
     pub(crate) fn replace(&mut self, fresh: Filter)
         ensures { self.new ≡ fresh }
     {
         mem::replace(self, fresh).free();
     }
 
-    /// Ends the filter and frees its words, in O(n).
+    /// Ends the filter and frees its words.
     pub(crate) fn free(self) {
         let Filter { mut words } = self;
         'words: while let Some(Word { bits: _ }) = words.pop() {}

@@ -1,4 +1,4 @@
-//! Allocates nodes, many in one chunk, and frees all chunks.
+//! Allocates nodes in chunks, and frees all chunks.
 ghost use Rattle.std.specs.Prelude.{◌≡◌, ℕ, ◌+◌, ◌-◌, ◌<◌, ◌≤◌, ◌^◌, [], ◌∷◌, ◌++◌, None, Some, map, max, length, IfSome, IfOk, OnOk, OnErr, IsTrue, IsFalse, true};
 ghost use Rattle.std.specs.Allocator.{FitsBlock};
 ghost use Rattle.lhm_ring.specs.Chunks.{row};
@@ -13,11 +13,10 @@ use crate::nodes::Nodes;
 use crate::ring::Ring;
 use std::alloc::{AllocError, Global};
 
-/// The most nodes of a ring, held and spare. Each takes at least 32 bytes, so these would take 2^64
-/// bytes, which no machine has.
+/// The most nodes of a ring. At 32 bytes or more, no machine has so many.
 const MOST_NODES: usize = 1 << 59;
 
-/// Returns whether a block for `count` values is small enough to be allocated.
+/// Returns whether a block for `count` values may be allocated.
 fn fits<T>(count: usize) -> bool
     requires { 0 < count }
     ensures { IsTrue result → FitsBlock T.row count }
@@ -28,8 +27,8 @@ fn fits<T>(count: usize) -> bool
     }
 }
 
-/// Returns the least number of nodes of a new chunk. For one more node it is as many as there are,
-/// `made`, at most 64 and at most `most - made`; otherwise it is 0.
+/// Returns the least size of a new chunk: for one more node as many as are `made`, at most 64 and
+/// at most `most - made`; otherwise 0.
 fn chunk_size(count: usize, made: usize, most: usize) -> usize
     ensures few { result ≤ 64 }
     ensures least { result ≡ least_more count made most }
@@ -40,8 +39,7 @@ fn chunk_size(count: usize, made: usize, most: usize) -> usize
     made.min((most - made).min(64))
 }
 
-/// Makes the `count` unused places, from `start` on, spare nodes on top of the others, and returns
-/// the first spare one. They are used in the order in which they lie.
+/// Makes the `count` unused places from `start` on spare nodes, and returns the first spare one.
 fn make_spares<K, V>(
     nodes: &mut Nodes<Links, K, V>,
     start: NodePointer,
@@ -70,7 +68,7 @@ fn make_spares<K, V>(
     first
 }
 
-/// Allocates a chunk of `places` unused places, and returns where the first of them lies.
+/// Allocates a chunk of `places` unused places, and returns the first.
 fn take_chunk<K, V>(
     nodes: &mut Nodes<Links, K, V>,
     chunks: &mut Vec<Chunk, Global>,
@@ -124,7 +122,6 @@ pub(crate) fn free_chunks<K, V>(
 
 impl<K, V> Ring<K, V> {
     /// Makes `count` more nodes spare if the chunks have as many, and returns whether they have.
-    /// Otherwise it changes nothing. It does not allocate.
     #[inline]
     fn use_made(&mut self, count: usize) -> bool
         ensures held { self.new.held ≡ self.old.held }
@@ -141,8 +138,7 @@ impl<K, V> Ring<K, V> {
         true
     }
 
-    /// Makes `count` more nodes spare. If it has to allocate, it does so for what is missing, in
-    /// one chunk, which has at least `least` nodes.
+    /// Makes `count` more nodes spare, allocating what is missing as one chunk of at least `least`.
     #[cold]
     #[inline(never)]
     fn grow_by(&mut self, count: usize, least: usize) -> Result<(), AllocError>
@@ -170,11 +166,8 @@ impl<K, V> Ring<K, V> {
         Ok(())
     }
 
-    /// Makes `count` more nodes spare. If it allocates, it is one chunk with what is missing, in
-    /// O(n).
-    ///
-    /// Returns an error if an allocation fails, or, without allocating, if there would be more than
-    /// 2^59 nodes; nothing changes then. The order and positions stay.
+    /// Makes `count` more nodes spare, in O(n), allocating what is missing as one chunk. If that
+    /// fails, or there would be more than 2^59 nodes, nothing changes.
     pub fn grow(&mut self, count: usize) -> Result<(), AllocError>
         ensures held { OnOk result (self.new.held ≡ self.old.held) }
         ensures spares { OnOk result (self.new.spares ≡ self.old.spares + count) }
@@ -185,8 +178,8 @@ impl<K, V> Ring<K, V> {
         self.grow_by(count, 0)
     }
 
-    /// Makes `count` more nodes spare, as `grow` does. To make one, it allocates as many as there
-    /// are, at most 64, and so that there are at most `most` nodes.
+    /// Makes `count` more nodes spare, as `grow` does. For one it allocates as many as there are,
+    /// at most 64, and at most `most` in all.
     pub fn grow_within(&mut self, count: usize, most: usize) -> Result<(), AllocError>
         ensures held { OnOk result (self.new.held ≡ self.old.held) }
         ensures spares { OnOk result (self.new.spares ≡ self.old.spares + count) }
@@ -206,8 +199,7 @@ impl<K, V> Ring<K, V> {
         self.grow_by(count, least)
     }
 
-    /// Makes no node spare any more. The nodes stay for a later growth. The order and positions
-    /// stay.
+    /// Makes no node spare any more. All stay.
     pub fn free_spares(&mut self)
         ensures held { self.new.held ≡ self.old.held }
         ensures no_spares { self.new.spares ≡ 0 }

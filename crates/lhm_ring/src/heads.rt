@@ -1,4 +1,4 @@
-//! The heads of the buckets' chains, as a vector.
+//! The heads of chains.
 ghost use Rattle.std.specs.Prelude.{◌≡◌, ◌%◌, ◌<◌, ◌^◌, [], map, length, IfOk, IsOk, vec_len, vec_capacity};
 ghost use Rattle.lhm_ring.specs.RingState.{IsHeld};
 ghost use Rattle.lhm_ring.specs.Positions.{pointer_of};
@@ -15,10 +15,7 @@ use crate::ring::Ring;
 use std::alloc::{AllocError, Global};
 use std::mem::size_of;
 
-/// The head of a bucket's chain.
-///
-/// It is not `Drop`, so a vector of heads is not either: `mem::forget`, `ManuallyDrop::new` and
-/// `Vec::leak` do not accept one, and only `free_heads` ends it.
+/// The head of a chain. It is not `Drop`, so only `free_heads` ends a vector of heads.
 pub(crate) struct Head {
     pub(crate) link: Link,
 }
@@ -26,7 +23,7 @@ pub(crate) struct Head {
 // A bucket of the index is one pointer.
 const _: () = prove!(size_of::<Head>() == 8);
 
-/// Puts a node at the head of the chain of its hash, and returns its bucket.
+/// Puts a node at the head of its chain, and returns its bucket.
 pub(crate) fn chain_one<K, V>(
     heads: &mut Vec<Head>,
     ring: &mut Ring<K, V>,
@@ -50,9 +47,8 @@ pub(crate) fn chain_one<K, V>(
     bucket
 }
 
-/// Chains all held nodes into empty buckets, and counts them. It sets the bits of their hashes in a
-/// filter with a word for each bucket, and leaves any other filter as it is. One loop does both,
-/// since a loop over the nodes waits for a link each.
+/// Chains all held nodes into empty buckets, sets their bits in a filter of as many words, and
+/// counts them. One loop does both, since it waits for each link.
 pub(crate) fn chain_all<K, V>(
     heads: &mut Vec<Head>,
     filter: &mut Filter,
@@ -86,7 +82,6 @@ pub(crate) fn chain_all<K, V>(
     count
 }
 
-/// Allocates `count` empty buckets.
 pub(crate) fn empty_heads(alloc: Global, count: usize) -> Result<Vec<Head>, AllocError>
     ensures empty { IfOk result (λ v. HasNoChain (map leads_to v.items)) }
     ensures len { IfOk result (λ v. vec_len v ≡ count) }
@@ -100,7 +95,6 @@ pub(crate) fn empty_heads(alloc: Global, count: usize) -> Result<Vec<Head>, Allo
     Ok(heads)
 }
 
-/// Empties every bucket.
 pub(crate) fn clear_heads(heads: &mut Vec<Head>)
     ensures empty { HasNoChain (map leads_to heads.new.items) }
     ensures buckets { vec_len heads.new ≡ vec_len heads.old }
@@ -112,7 +106,6 @@ pub(crate) fn clear_heads(heads: &mut Vec<Head>)
     }
 }
 
-/// Frees the buckets.
 pub(crate) fn free_heads(heads: Vec<Head>) {
     let mut heads = heads;
     'heads: while let Some(Head { link: _ }) = heads.pop() {}

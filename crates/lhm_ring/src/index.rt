@@ -1,6 +1,4 @@
-//! Bucket chains through the nodes of a ring: the position of each key, by its hash.
-//!
-//! A node's chain link leads to the next node of its chain. Only the index of a ring sets it.
+//! The position of each key, by its hash: chains through the nodes.
 ghost use Rattle.std.specs.Prelude.{◌≡◌, ◌%◌, ◌<◌, ◌≤◌, ◌^◌, [], map, length, None, Some, IsSome, IfOk, IsOk, IfSome, IfNone, slice_index_or};
 ghost use Rattle.std.specs.Int.{IsNextPowerOfTwo};
 ghost use Rattle.lhm_ring.specs.RingState.{IsHeld};
@@ -21,12 +19,12 @@ use std::alloc::{AllocError, Global};
 use std::marker::{Model, PhantomData};
 use std::mem;
 
-/// The bucket chains of a ring, by their heads.
+/// The chains of a ring, by their heads. Each call is given the ring, and changes its chain links
+/// alone.
 ///
-/// Each call is given the ring. The bucket of a hash is the hash modulo the number of buckets,
-/// which is 0 or a power of two. A lookup is O(1) on average: it follows one chain.
-///
-/// It is not `Drop`: only `free` ends it.
+/// The bucket of a hash is the hash modulo the number of buckets, 0 or a power of two. Calls are
+/// O(1), on average if they search or remove, unless they say otherwise. Only `with_buckets`
+/// allocates. It is not `Drop`: only `free` ends it.
 pub struct Index<K, V> {
     heads: Vec<Head>,
     marker: PhantomData<*mut (K, V)>,
@@ -46,7 +44,7 @@ impl<K, V> Model for Index<K, V> {
 }
 
 impl<K, V> Index<K, V> {
-    /// Creates an index without buckets, for a ring that holds nothing. It does not allocate.
+    /// Creates an index without buckets, for an empty ring.
     pub fn new(alloc: Global) -> Index<K, V>
         ensures { result ≡ [] }
     {
@@ -56,8 +54,7 @@ impl<K, V> Index<K, V> {
         }
     }
 
-    /// Allocates an index of empty buckets for a capacity, in O(n). For capacity 0 it has no buckets,
-    /// does not allocate, and never fails.
+    /// Allocates empty buckets for a capacity, in O(n). For 0 it never fails.
     pub fn with_buckets(alloc: Global, capacity: usize) -> Result<Index<K, V>, AllocError>
         requires { capacity ≤ 2 ^ 59 }
         ensures buckets { IfOk result (λ i. length i ≡ buckets capacity) }
@@ -78,7 +75,7 @@ impl<K, V> Index<K, V> {
         self.heads.len()
     }
 
-    /// Returns the head of the chain of a hash.
+    /// Returns the head of a hash's chain.
     pub(crate) fn head(&self, hash: u64) -> Option<Position<K, V>>
         ensures { pointer_of_some result ≡ slice_index_or self.now (hash % length self.now) None }
     {
@@ -88,7 +85,7 @@ impl<K, V> Index<K, V> {
         }
     }
 
-    /// Returns the head of the chain of a bucket.
+    /// Returns the head of a bucket's chain.
     pub(crate) fn head_of(&self, bucket: usize) -> Option<Position<K, V>>
         requires { bucket < length self.now }
         ensures { pointer_of_some result ≡ slice_index_or self.now bucket None }
@@ -96,7 +93,7 @@ impl<K, V> Index<K, V> {
         self.heads[bucket].link.get()
     }
 
-    /// Returns the head of the chain of a hash, which has one. Nothing is tested.
+    /// Returns the head of a hash's chain, untested: it has one.
     fn first(&self, hash: u64) -> Position<K, V>
         requires { IsSome (slice_index_or self.now (hash % length self.now) None) }
         ensures { slice_index_or self.now (hash % length self.now) None ≡ Some (pointer_of result) }
@@ -105,7 +102,7 @@ impl<K, V> Index<K, V> {
         Position::new(self.heads[bucket].link.pointer())
     }
 
-    /// Returns the bucket of a hash, or `None` if there are no buckets, in O(1).
+    /// Returns the bucket of a hash, if there are buckets.
     pub(crate) fn bucket(&self, hash: u64) -> Option<usize>
         ensures bucket { IfSome result (λ b. b ≡ hash % length self.now) }
         ensures within { IfSome result (λ b. b < length self.now) }
@@ -117,8 +114,7 @@ impl<K, V> Index<K, V> {
         Some(masked(hash, self.heads.len()))
     }
 
-    /// Inserts a node that is in no chain at the head of its bucket's chain, and returns the bucket.
-    /// It is O(1) and does not allocate. Of the ring only that node's chain link changes.
+    /// Puts a node that is in no chain at the head of its chain, and returns its bucket.
     pub fn put_in(&mut self, ring: &mut Ring<K, V>, at: Position<K, V>) -> usize
         requires some { 0 < length self.old }
         requires lacks { HoldsOthers self.old ring.old.held (pointer_of at) }
@@ -133,7 +129,7 @@ impl<K, V> Index<K, V> {
         chain_one(&mut self.heads, ring, at)
     }
 
-    /// Removes a node from its chain, and returns its bucket if that has no node any more.
+    /// Removes a node from its chain, and returns its bucket if that is now empty.
     pub(crate) fn unchain(
         &mut self,
         ring: &mut Ring<K, V>,
@@ -164,10 +160,8 @@ impl<K, V> Index<K, V> {
         }
     }
 
-    /// Returns the position before `at` on the chain of `hash`, or `None` if it is the first.
-    ///
-    /// Pointers to two blocks cannot be compared: the chain is cut behind the node, which is then
-    /// its last, until it is found. All links are then as they were.
+    /// Returns the position before `at` on its chain, if any. Positions cannot be compared: it cuts
+    /// the chain behind the node until it has found the last one.
     fn before(&self, ring: &mut Ring<K, V>, hash: u64, at: Position<K, V>) -> Option<Position<K, V>>
         requires held { IsHeld ring.old.held (pointer_of at) }
         requires hash { OfNodeAt ring.old.held (pointer_of at) (λ x. hash ≡ x.hash) }
@@ -191,9 +185,8 @@ impl<K, V> Index<K, V> {
         before
     }
 
-    /// Removes the node at a position from its chain, and returns its bucket if that has no node
-    /// any more. No key is compared. It is O(1) on average and does not allocate. Of the ring only
-    /// chain links change.
+    /// Removes the node at a position from its chain, and returns its bucket if that is now empty.
+    /// Compares no key.
     pub fn take_out_at(&mut self, ring: &mut Ring<K, V>, at: Position<K, V>) -> Option<usize>
         requires held { IsHeld ring.old.held (pointer_of at) }
         requires indexed { Indexes self.old (spots ring.old.held) }
@@ -211,8 +204,7 @@ impl<K, V> Index<K, V> {
         self.unchain(ring, hash, Found { before, at })
     }
 
-    /// Replaces the buckets by fresh ones, rehashes all held nodes, and returns how many. It is
-    /// O(n), does not allocate, and frees the old buckets. Of the ring only chain links change.
+    /// Replaces the buckets by fresh ones, rehashes all held nodes, and returns how many, in O(n).
     pub fn take_over(&mut self, fresh: Index<K, V>, ring: &mut Ring<K, V>) -> usize
         requires empty { HasNoChain fresh }
         requires some { length fresh ≡ 0 → ring.old.held ≡ [] }
@@ -230,8 +222,7 @@ impl<K, V> Index<K, V> {
         count
     }
 
-    /// Rehashes all held nodes as `take_over` does, and sets the bits of their hashes in a filter
-    /// with a word for each of the fresh buckets.
+    /// Does what `take_over` does, and sets the bits of the hashes in a filter of as many words.
     pub(crate) fn rehash(
         &mut self,
         fresh: Index<K, V>,
@@ -254,8 +245,7 @@ impl<K, V> Index<K, V> {
         chain_all(&mut self.heads, filter, ring)
     }
 
-    /// Empties all chains, for a ring that holds nothing any more. The buckets stay. It is O(n) in
-    /// them and does not allocate.
+    /// Empties all chains, for an empty ring, in O(n).
     pub fn forget_all(&mut self)
         ensures empty { HasNoChain self.new }
         ensures buckets { length self.new ≡ length self.old }
@@ -263,15 +253,14 @@ impl<K, V> Index<K, V> {
         clear_heads(&mut self.heads);
     }
 
-    /// Ends the index and frees its buckets, in O(n) for them. The nodes of its ring stay.
+    /// Ends the index and frees its buckets, in O(n).
     pub fn free(self) {
         let Index { heads, marker: _ } = self;
         free_heads(heads);
     }
 }
 
-/// Returns the number of buckets of a capacity: 0 for 0, otherwise the least power of two not below
-/// it.
+/// Returns the buckets of a capacity: 0 for 0, otherwise the least power of two not below it.
 pub fn buckets_for(capacity: usize) -> usize
     requires { capacity ≤ 2 ^ 59 }
     ensures value { result ≡ buckets capacity }

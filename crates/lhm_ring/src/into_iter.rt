@@ -11,10 +11,8 @@ use std::alloc::AllocError;
 use std::iter::{DoubleEndedIterator, ExactSizeIterator, Iterator};
 use std::marker::Model;
 
-/// A double-ended iterator that owns triples of a hash, a key and a value.
-///
-/// Each item is O(1), and none allocates. Dropping it drops what is left. A clone allocates, and
-/// has clones of what is left.
+/// A double-ended iterator that owns the triples, each in O(1). Dropping it drops those left, in
+/// O(n). Only a clone allocates.
 #[derive(Drop)]
 pub struct IntoIter<K, V> {
     ring: Ring<K, V>,

@@ -13,8 +13,7 @@ use std::alloc::AllocError;
 use std::iter::{DoubleEndedIterator, ExactSizeIterator, Iterator};
 use std::marker::Model;
 
-/// A double-ended iterator over the triples of a ring, returned by `Ring::iter`. Each item is O(1),
-/// and none allocates.
+/// A double-ended iterator over the triples, each in O(1).
 #[derive(Drop)]
 pub struct Iter<'a, K, V> {
     // What is left is in the `left` nodes from `first` to `last`.
@@ -38,7 +37,6 @@ impl<'a, K, V> Model for Iter<'a, K, V> {
 }
 
 impl<'a, K, V> Iter<'a, K, V> {
-    /// Returns the first triple left and moves past it, or returns `None` if none is left.
     pub(crate) fn step(&mut self) -> Option<(NodePointer, u64, &'a K, &'a V)>
         ensures { IsFirstStep self.old result self.new }
     {
@@ -53,7 +51,6 @@ impl<'a, K, V> Iter<'a, K, V> {
         Some((at, links.hash, nodes.key(at), nodes.value(at)))
     }
 
-    /// Returns the last triple left and moves past it, or returns `None` if none is left.
     pub(crate) fn step_back(&mut self) -> Option<(NodePointer, u64, &'a K, &'a V)>
         ensures { IsLastStep self.old result self.new }
     {
@@ -109,7 +106,7 @@ impl<'a, K, V> DoubleEndedIterator for Iter<'a, K, V> {
     }
 }
 
-/// A clone has the same triples left. It does not allocate and never fails.
+/// Clones the iterator, without failing or allocating.
 impl<'a, K, V> Clone for Iter<'a, K, V> {
     ghost use Rattle.std.specs.Prelude.{◌≡◌, ⊤};
 
@@ -127,8 +124,7 @@ impl<'a, K, V> Clone for Iter<'a, K, V> {
     }
 }
 
-/// A double-ended iterator over the triples of a ring, with mutable references to the values,
-/// returned by `Ring::iter_mut`. Each item is O(1), and none allocates.
+/// A double-ended iterator over the triples, with mutable references to the values, each in O(1).
 #[derive(Drop)]
 pub struct IterMut<'a, K, V> {
     // The links and the keys are shared, and each value is taken from a loan.
@@ -152,7 +148,7 @@ impl<'a, K, V> Model for IterMut<'a, K, V> {
 impl<'a, K, V> IterMut<'a, K, V> {
     ghost use Rattle.lhm_ring.specs.LentRings.{lent_held, lent_name, IsLent};
 
-    /// Returns an iterator over a ring whose values are lent. It is O(1) and does not allocate.
+    /// Returns an iterator over a ring whose values are lent.
     pub fn of(lent: LentValues<'a, K, V>) -> IterMut<'a, K, V>
         requires { IsLent lent }
         ensures rest { rest_of result ≡ lent_held lent.entry }
@@ -165,7 +161,6 @@ impl<'a, K, V> IterMut<'a, K, V> {
         }
     }
 
-    /// Returns the first triple left and moves past it, or returns `None` if none is left.
     fn step(&mut self) -> Option<(u64, &'a K, &'a mut V)>
         ensures { LendsFirstStep (rest_of self.old) result (rest_of self.new) }
     {
@@ -175,7 +170,6 @@ impl<'a, K, V> IterMut<'a, K, V> {
         }
     }
 
-    /// Returns the last triple left and moves past it, or returns `None` if none is left.
     fn step_back(&mut self) -> Option<(u64, &'a K, &'a mut V)>
         ensures { LendsLastStep (rest_of self.old) result (rest_of self.new) }
     {
@@ -225,7 +219,7 @@ impl<K, V> Ring<K, V> {
     ghost use Rattle.std.specs.Borrow.{sem};
     ghost use Rattle.lhm_ring.specs.RingAfterLoan.{lends_values, KeepsAllButValues};
 
-    /// Returns a double-ended iterator over the triples, front to back. It does not allocate.
+    /// Returns a double-ended iterator over the triples, front to back.
     pub fn iter(&self) -> Iter<'_, K, V>
         ensures { result ≡ self.now.held }
     {
@@ -238,7 +232,7 @@ impl<K, V> Ring<K, V> {
     }
 
     /// Returns a double-ended iterator over the triples, front to back, with mutable references to
-    /// the values. It does not allocate, and only the values change.
+    /// the values.
     pub fn iter_mut(&mut self) -> IterMut<'_, K, V>
         ensures* writes_back { sem 𝓛 (lends_values K.row V.row self.entry result.1) }
         ensures keeps { KeepsAllButValues self.old }

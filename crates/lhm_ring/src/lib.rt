@@ -1,5 +1,4 @@
-//! Raw nodes in a ring with a hash index, for a hash map in insertion order: see `table::Table`, and
-//! below it `ring::Ring` and `index::Index`.
+//! Raw nodes in a ring with a hash index, for a map in insertion order: see `table::Table`.
 #![tactic(auto)]
 
 // Unsafe code: each function that reads or writes raw memory, or lends it, is proved by hand.

@@ -19,14 +19,12 @@ impl Link {
     ghost use Rattle.lhm_ring.specs.Positions.{pointer_of_some};
     ghost use Rattle.lhm_ring.specs.Targets.{target};
 
-    /// Creates a link that leads nowhere.
     pub(crate) fn none() -> Link
         ensures { target result ≡ None }
     {
         Link { ptr: null() }
     }
 
-    /// Creates a link to a pointer.
     pub(crate) fn to(pointer: NodePointer) -> Link
         requires { is_block pointer.ptr ≡ true }
         ensures { target result ≡ Some pointer.ptr }
@@ -34,7 +32,7 @@ impl Link {
         Link { ptr: pointer.ptr }
     }
 
-    /// Creates a link to a position, or for `None` one that leads nowhere.
+    /// Creates a link to a position, or to nowhere.
     pub(crate) fn of<K, V>(at: Option<Position<K, V>>) -> Link
         ensures { target result ≡ pointer_of_some at }
     {
@@ -44,7 +42,7 @@ impl Link {
         }
     }
 
-    /// Returns the position that it leads to, or `None` if it leads nowhere.
+    /// Returns the position that it leads to, if any.
     pub(crate) fn get<K, V>(self) -> Option<Position<K, V>>
         ensures { pointer_of_some result ≡ target self }
     {
@@ -54,14 +52,14 @@ impl Link {
         }
     }
 
-    /// Returns the address that it leads to, which is null if it leads nowhere.
+    /// Returns the address that it leads to, or null.
     pub(crate) fn address(self) -> NodePointer
         ensures { result.ptr ≡ self.ptr }
     {
         NodePointer { ptr: self.ptr }
     }
 
-    /// Returns the pointer that it leads to, if it leads somewhere. Nothing is tested.
+    /// Returns the pointer that it leads to, untested: it leads somewhere.
     pub(crate) fn pointer(self) -> NodePointer
         requires { IsSome (target self) }
         ensures pointer { target self ≡ Some result.ptr }

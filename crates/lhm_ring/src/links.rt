@@ -1,14 +1,13 @@
-//! What a node of the ring has beside its key and its value, and where the ring begins and ends.
+//! What a node has beside its key and value, and the ends.
 
 use crate::block::Node;
 use crate::link::Link;
 use std::mem::size_of;
 
-/// The links of a node for the order, its chain link, and the hash of its key.
+/// The links of a node for the order, its chain link, and its hash.
 ///
-/// `prev` of the front node and `next` of the back node lead nowhere. `link`, the chain link, leads
-/// to the next spare node while the node is spare, and belongs to the caller of the ring while the
-/// node is held.
+/// `prev` of the front and `next` of the back node lead nowhere. `link` of a spare node leads to
+/// the next one; that of a held node belongs to the caller.
 #[derive(Clone, Copy)]
 pub struct Links {
     pub(crate) prev: Link,
@@ -20,7 +19,7 @@ pub struct Links {
 // A node with a `u64` as key and as value: six words.
 const _: () = prove!(size_of::<Node<Links, u64, u64>>() == 48);
 
-/// The front and the back node of a ring. Both lead nowhere if nothing is held.
+/// The front and the back node of a ring, if any.
 #[derive(Clone, Copy)]
 pub(crate) struct Ends {
     pub(crate) first: Link,

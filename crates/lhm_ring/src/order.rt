@@ -1,4 +1,4 @@
-//! The calls that change the order: a triple is inserted, moved to the back, or removed.
+//! The calls that change the order.
 ghost use Rattle.std.specs.Prelude.{◌≡◌, ◌+◌, ◌-◌, ◌<◌, [], ◌∷◌, ◌++◌, None, map};
 ghost use Rattle.lhm_ring.specs.Cells.{IsApart};
 ghost use Rattle.lhm_ring.specs.RingState.{held, IsHeld, AtHeld};
@@ -12,8 +12,7 @@ impl<K, V> Ring<K, V> {
     ghost use Rattle.lhm_ring.specs.Positions.{pointer_of};
     ghost use Rattle.lhm_ring.specs.RingAfterLoan.{pair};
 
-    /// Moves the triple at a position to the back. The others stay in order, and positions stay. It
-    /// is O(1), writes links alone and does not allocate. No two triples have the same position.
+    /// Moves the triple at a position to the back. The others keep their order, and positions stay.
     pub fn move_to_back(&mut self, at: Position<K, V>)
         requires { IsHeld self.old.held (pointer_of at) }
         ensures last { AtHeld self.old.held (pointer_of at) (λ xs t ys.
@@ -30,8 +29,8 @@ impl<K, V> Ring<K, V> {
         join(&mut self.nodes, &mut self.ends, moved, Link::none());
     }
 
-    /// Inserts a triple at the back, into a spare node, and returns its position. Its chain link
-    /// leads nowhere. It is O(1), does not allocate and drops nothing.
+    /// Puts a triple into a spare node at the back, and returns its position. Its chain link leads
+    /// nowhere.
     pub fn put_back(&mut self, hash: u64, key: K, value: V) -> Position<K, V>
         requires { 0 < self.old.spares }
         ensures last { self.new.held
@@ -59,8 +58,7 @@ impl<K, V> Ring<K, V> {
         Position::new(at)
     }
 
-    /// Removes the triple at a position and returns it. The others stay in order. Its node is then
-    /// spare, and the position leads nowhere. It is O(1), and neither allocates nor frees.
+    /// Removes and returns the triple at a position, which ends. The others keep their order.
     pub fn unlink(&mut self, at: Position<K, V>) -> (u64, K, V)
         requires { IsHeld self.old.held (pointer_of at) }
         ensures others { AtHeld self.old.held (pointer_of at) (λ xs t ys.

@@ -1,4 +1,4 @@
-//! The pairs of a table that ended, to be moved out one by one.
+//! The pairs of a table that ended.
 ghost use Rattle.std.specs.Prelude.{◌≡◌, []};
 ghost use Rattle.lhm_ring.specs.Splices.{HandsOutFirst};
 
@@ -12,11 +12,8 @@ use std::marker::Model;
 
 /// The pairs of a table that ended, with their hashes, front to back.
 ///
-/// It follows the links of the nodes and writes none, so that if keys and values need no drop the
-/// compiler may leave out a loop that takes all pairs.
-///
-/// It is not `Drop`: only `destroy_empty` ends it. No call needs `Drop` of the keys or values, so
-/// none can forget a pair or a node.
+/// It writes no links, so the compiler may leave out a loop that drops nothing. It is not `Drop`,
+/// and no call needs keys or values that are, so none can forget a pair or a node.
 pub struct OwnedPairs<K, V> {
     pub(crate) nodes: Nodes<Links, K, V>,
     pub(crate) alloc: Global,
@@ -44,8 +41,7 @@ impl<K, V> Model for OwnedPairs<K, V> {
 }
 
 impl<K, V> OwnedPairs<K, V> {
-    /// Removes the front pair and returns it with its hash, or returns `None` if no pair is left.
-    /// It is O(1), and neither allocates nor frees.
+    /// Removes and returns the front pair with its hash, if any, in O(1).
     pub fn take_first(&mut self) -> Option<(u64, K, V)>
         ensures { HandsOutFirst self.old result self.new }
     {
@@ -60,7 +56,7 @@ impl<K, V> OwnedPairs<K, V> {
         Some((links.hash, key, value))
     }
 
-    /// Ends it once no pair is left, and frees all nodes, in O(n) for their chunks.
+    /// Ends it once no pair is left, and frees the nodes, in O(n).
     pub fn destroy_empty(self)
         requires { self ≡ [] }
     {

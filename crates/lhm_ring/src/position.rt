@@ -1,4 +1,4 @@
-//! The position of a triple in a ring, for callers.
+//! The position of a triple.
 ghost use Rattle.std.specs.Prelude.{◌≡◌, ⊤, true};
 ghost use mathlib.Core.Bool.{Bool-set};
 ghost use Rattle.lhm_ring.specs.Cells.{is_block};
@@ -7,8 +7,8 @@ use crate::block::NodePointer;
 use std::alloc::AllocError;
 use std::marker::PhantomData;
 
-/// The position of a triple in a `Ring`, until that triple leaves the ring or `compact` moves it. It
-/// owns nothing and gives no access without the ring. Two of them cannot be compared.
+/// The position of a triple, until that leaves or `compact` moves it. It owns nothing, and two
+/// cannot be compared.
 pub struct Position<K, V> {
     pub(crate) pointer: NodePointer,
     marker: PhantomData<(K, V)>,

@@ -1,4 +1,4 @@
-//! The capacity of a table is raised and lowered.
+//! Raises and lowers the capacity.
 ghost use Rattle.std.specs.Prelude.{◌≡◌, ◌+◌, ◌<◌, ◌≤◌, ◌^◌, [], length, OnOk, OnErr};
 ghost use Rattle.lhm_ring.specs.RingState.{triples};
 ghost use Rattle.lhm_ring.specs.Buckets.{buckets, rechained_raised, rechained_lowered, rechained_fitted};
@@ -61,12 +61,11 @@ impl<K, V> Table<K, V> {
         }
     }
 
-    /// Lowers the capacity to the number of pairs, or changes nothing if an allocation fails.
+    /// Lowers the capacity to the number of pairs, in O(n), or changes nothing if an allocation
+    /// fails.
     ///
-    /// It allocates only if there are pairs and are to be fewer buckets: all pairs then move into
-    /// one block of exactly that many nodes, and are rehashed, in O(n). All positions end. If the
-    /// number of buckets stays, nodes beyond the capacity stay for a later growth. An empty table
-    /// frees all its memory.
+    /// It allocates if the number of buckets falls: all pairs then move into one block of exactly
+    /// as many nodes, and positions end. Otherwise the nodes stay. An empty table frees all.
     pub fn shrink_to_fit(&mut self) -> Result<(), AllocError>
         ensures triples { triples self.new.held ≡ triples self.old.held }
         ensures capacity { OnOk result (self.new.capacity ≡ length self.old.held) }
@@ -85,8 +84,7 @@ impl<K, V> Table<K, V> {
         Ok(())
     }
 
-    /// Lowers the capacity to the number of pairs, with new buckets and nodes if there are to be
-    /// fewer buckets.
+    /// Lowers the capacity, by `lower_buckets` if the number of buckets falls.
     fn lower(&mut self) -> Result<(), AllocError>
         ensures triples { triples self.new.held ≡ triples self.old.held }
         ensures capacity { OnOk result (self.new.capacity ≡ length self.old.held) }
@@ -103,8 +101,7 @@ impl<K, V> Table<K, V> {
         self.lower_buckets()
     }
 
-    /// Allocates buckets and nodes for exactly the pairs, and moves and rehashes them, in O(n). It
-    /// changes nothing if an allocation fails.
+    /// Moves and rehashes the pairs into new buckets and nodes, in O(n).
     fn lower_buckets(&mut self) -> Result<(), AllocError>
         ensures triples { triples self.new.held ≡ triples self.old.held }
         ensures capacity { OnOk result (self.new.capacity ≡ length self.old.held) }
@@ -126,7 +123,7 @@ impl<K, V> Table<K, V> {
         }
     }
 
-    /// Deallocates all memory of an empty table, in O(n).
+    /// Frees all memory of an empty table, in O(n).
     fn free(&mut self)
         requires { self.old.held ≡ [] }
         ensures held { self.new.held ≡ [] }

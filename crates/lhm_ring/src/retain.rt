@@ -1,4 +1,4 @@
-//! `retain`, which removes the pairs that a closure rejects.
+//! `retain`.
 ghost use Rattle.std.specs.Prelude.{◌≡◌, map};
 ghost use Rattle.std.specs.Map.Calls.{CallableOnEachPair, CalledAtPair, TakesPair};
 ghost use Rattle.lhm_ring.specs.RingState.{ChangesOnly};
@@ -10,7 +10,7 @@ use crate::position::Position;
 use crate::ring::Ring;
 use crate::table::Table;
 
-/// Calls a closure with a key and a value. Both references have one lifetime.
+/// Calls a closure, with one lifetime for both references.
 fn call<'a, K, V, F: FnMut(&K, &mut V) -> bool>(keep: &mut F, key: &'a K, value: &'a mut V) -> bool
     requires { TakesPair F.FnMut keep.old key.now value.old }
     ensures { CalledAtPair F.FnMut keep.old key.now value.old result value.new keep.new }
@@ -21,8 +21,7 @@ fn call<'a, K, V, F: FnMut(&K, &mut V) -> bool>(keep: &mut F, key: &'a K, value:
 impl<K, V> Ring<K, V> {
     ghost use Rattle.lhm_ring.specs.RingAfterLoan.{with_value};
 
-    /// Calls a closure with the key and the value at a position, and returns what it returns. Both
-    /// are moved out of their node for the call. It is O(1) and does not allocate.
+    /// Calls a closure with the key and value at a position, moved out for the call.
     fn call_at<F: FnMut(&K, &mut V) -> bool>(&mut self, at: Position<K, V>, keep: &mut F) -> bool
         requires { TakesAt (TakesPair F.FnMut) keep.old self.old.held (pointer_of at) }
         ensures called { record {
@@ -43,7 +42,7 @@ impl<K, V> Ring<K, V> {
 impl<K, V> Table<K, V> {
     ghost use Rattle.lhm_ring.specs.TableAfterLoan.{with_value};
 
-    /// Calls a closure with the key and the value at a position, and returns what it returns.
+    /// Calls a closure with the key and the value at a position.
     fn call_at<F: FnMut(&K, &mut V) -> bool>(&mut self, at: Position<K, V>, keep: &mut F) -> bool
         requires { TakesAt (TakesPair F.FnMut) keep.old self.old.held (pointer_of at) }
         ensures called { record {
@@ -57,8 +56,7 @@ impl<K, V> Table<K, V> {
         self.ring.call_at(at, keep)
     }
 
-    /// Calls a closure with the key and the value at a position, and drops the pair if it returns
-    /// `false`.
+    /// Drops the pair at a position if a closure rejects it.
     fn retain_at<F: FnMut(&K, &mut V) -> bool>(&mut self, at: Position<K, V>, keep: &mut F)
     where
         K: Drop,
@@ -74,10 +72,8 @@ impl<K, V> Table<K, V> {
         }
     }
 
-    /// Keeps the pairs for which a closure returns `true`, in order, and drops the others.
-    ///
-    /// The closure is called once with each pair, front to back, and may change the value. No key
-    /// is compared. The capacity stays. It is O(n) on average and does not allocate.
+    /// Keeps the pairs for which a closure returns `true`, in order, and drops the others, in O(n).
+    /// It calls that once with each pair, front to back. Compares no key.
     pub fn retain<F: FnMut(&K, &mut V) -> bool>(&mut self, mut keep: F)
     where
         K: Drop,

@@ -18,12 +18,11 @@ pub use crate::value_loan::{Hole, LentValues, ValueLoan};
 use std::alloc::{AllocError, Global};
 use std::marker::Model;
 
-/// Triples of a hash, a key and a value, in order, each at a position that stays until the triple
-/// leaves or `compact` moves it, and spare nodes for more.
+/// Triples of a hash, a key and a value, in order, and spare nodes for more. A position stays until
+/// its triple leaves or `compact` moves it.
 ///
-/// The nodes of the triples and the spare nodes are cut from chunks, each one block of memory. Only
-/// `grow`, `grow_within`, `with_spares` and `compact` allocate; only `compact`, `destroy_empty` and
-/// dropping the ring free. Dropping it drops the triples, in O(n).
+/// Calls are O(1) unless they say otherwise. Only `grow`, `grow_within`, `with_spares` and
+/// `compact` allocate. Only `compact`, `destroy_empty` and dropping the ring, in O(n), free.
 pub struct Ring<K, V> {
     pub(crate) nodes: Nodes<Links, K, V>,
     pub(crate) alloc: Global,
@@ -54,7 +53,7 @@ impl<K, V> Model for Ring<K, V> {
 }
 
 impl<K, V> Ring<K, V> {
-    /// Creates an empty ring with no spare nodes. It does not allocate.
+    /// Creates an empty ring without spare nodes.
     pub fn new(alloc: Global) -> Ring<K, V>
         ensures empty { result.held ≡ [] }
         ensures no_spares { result.spares ≡ 0 }
@@ -75,8 +74,7 @@ impl<K, V> Ring<K, V> {
         }
     }
 
-    /// Creates an empty ring with this many spare nodes. For none it does not allocate and never
-    /// fails.
+    /// Creates an empty ring with so many spare nodes, in O(n). For none it never fails.
     pub fn with_spares(alloc: Global, count: usize) -> Result<Ring<K, V>, AllocError>
         ensures empty { IfOk result (λ ring. ring.held ≡ []) }
         ensures spares { IfOk result (λ ring. ring.spares ≡ count) }
@@ -96,13 +94,12 @@ impl<K, V> Ring<K, V> {
         }
     }
 
-    /// Returns the allocator that the ring was made with.
+    /// Returns the allocator.
     pub fn allocator(&self) -> Global {
         self.alloc
     }
 
-    /// Returns the number of triples. With the spare nodes they are at most 2^59, and at most the
-    /// nodes of the chunks.
+    /// Returns the number of triples.
     pub fn len(&self) -> usize
         ensures value { result ≡ length self.now.held }
         ensures bounded { length self.now.held + self.now.spares ≤ 2 ^ 59 }
@@ -111,8 +108,7 @@ impl<K, V> Ring<K, V> {
         self.len
     }
 
-    /// Returns the number of spare nodes. With the held ones they are at most 2^59, and at most the
-    /// nodes of the chunks.
+    /// Returns the number of spare nodes.
     pub fn spares(&self) -> usize
         ensures value { result ≡ self.now.spares }
         ensures bounded { length self.now.held + self.now.spares ≤ 2 ^ 59 }
@@ -121,8 +117,7 @@ impl<K, V> Ring<K, V> {
         self.spares
     }
 
-    /// Ends a ring that holds nothing, and frees its nodes, in O(n) for its chunks. Keys and values
-    /// need no `Drop`.
+    /// Ends an empty ring and frees its nodes, in O(n).
     pub fn destroy_empty(self)
         requires { self.held ≡ [] }
     {
@@ -140,8 +135,7 @@ impl<K, V> Ring<K, V> {
         nodes.end();
     }
 
-    /// Ends the ring and returns what it held, front to back, for an owner that drops it. It is
-    /// O(1), and neither allocates nor frees.
+    /// Ends the ring and returns what it held, front to back.
     pub(crate) fn into_pairs(self) -> OwnedPairs<K, V>
         ensures { result ≡ triples self.held }
     {
@@ -165,7 +159,7 @@ impl<K, V> Ring<K, V> {
     }
 }
 
-/// Makes `b` the node right after `a`. A link that leads nowhere stands for the ends of the ring.
+/// Makes `b` the node behind `a`. A link to nowhere stands for the ends.
 #[inline]
 pub(crate) fn join<K, V>(nodes: &mut Nodes<Links, K, V>, ends: &mut Ends, a: Link, b: Link)
     requires { (is_there (ring_cells ends.old nodes.old.cells) a.ptr ≡ true)
@@ -178,7 +172,7 @@ pub(crate) fn join<K, V>(nodes: &mut Nodes<Links, K, V>, ends: &mut Ends, a: Lin
     set_prev(nodes, ends, b, a);
 }
 
-/// Makes the node at `at`, or the start of the ring, lead on to `next`.
+/// Makes the node at `at`, or the front, lead on to `next`.
 #[inline]
 fn set_next<K, V>(nodes: &mut Nodes<Links, K, V>, ends: &mut Ends, at: Link, next: Link)
     requires { is_there (ring_cells ends.old nodes.old.cells) at.ptr ≡ true }
@@ -197,7 +191,7 @@ fn set_next<K, V>(nodes: &mut Nodes<Links, K, V>, ends: &mut Ends, at: Link, nex
     }
 }
 
-/// Makes the node at `at`, or the end of the ring, lead back to `prev`.
+/// Makes the node at `at`, or the back, lead back to `prev`.
 #[inline]
 fn set_prev<K, V>(nodes: &mut Nodes<Links, K, V>, ends: &mut Ends, at: Link, prev: Link)
     requires { is_there (ring_cells ends.old nodes.old.cells) at.ptr ≡ true }
@@ -216,7 +210,7 @@ fn set_prev<K, V>(nodes: &mut Nodes<Links, K, V>, ends: &mut Ends, at: Link, pre
     }
 }
 
-/// Sets the chain link of the node at `at`. Nothing else changes.
+/// Sets the chain link of the node at `at`.
 pub(crate) fn relink<K, V>(nodes: &mut Nodes<Links, K, V>, at: NodePointer, link: Link)
     requires { IsAt nodes.old.cells at.ptr }
     ensures relinked { Relinks nodes.old.cells at.ptr link nodes.new.cells }

@@ -1,4 +1,4 @@
-//! Searches along the chain of a hash for a key, and what they count.
+//! Searches along a chain for a key.
 ghost use Rattle.std.specs.Prelude.{◌≡◌, ◌+◌, ◌%◌, ◌<◌, ◌≤◌, ◌^◌, ◌∷◌, [], length, None, IfSome, IfNone, OnSome, slice_index_or};
 ghost use Rattle.lhm_ring.specs.RingState.{IsHeld};
 ghost use Rattle.lhm_ring.specs.Positions.{pointer_of, pointer_of_some};
@@ -12,7 +12,7 @@ use crate::ring::Ring;
 /// The counts of a lookup.
 #[derive(Clone, Copy, Debug, PartialEq)]
 pub struct Probe {
-    /// The number of nodes reached along the chain.
+    /// The number of nodes reached.
     pub visited: usize,
     /// The number of comparisons of keys.
     pub compared: usize,
@@ -21,13 +21,12 @@ pub struct Probe {
 /// A node that a search found.
 #[derive(Drop)]
 pub(crate) struct Found<K, V> {
-    /// The node before it on its chain, or `None` if it is the first.
+    /// The node before it on its chain, if any.
     pub(crate) before: Option<Position<K, V>>,
     pub(crate) at: Position<K, V>,
 }
 
-/// Counts a node that is reached, and returns whether it has the hash and the key. Keys are
-/// compared only if the hashes are equal.
+/// Counts a node, and returns whether it has the hash and, asked after it, the key.
 fn step<K: Eq, V>(
     ring: &Ring<K, V>,
     at: Position<K, V>,
@@ -53,7 +52,7 @@ fn step<K: Eq, V>(
 }
 
 impl<K: Eq, V> Index<K, V> {
-    /// Follows the chain of the hash from its head to the node with the key.
+    /// Follows a chain from its head to the node with the key.
     fn search(
         &self,
         ring: &Ring<K, V>,
@@ -88,10 +87,8 @@ impl<K: Eq, V> Index<K, V> {
         (None, probe)
     }
 
-    /// Returns the position of the node with this hash and this key, and the counts of the lookup.
-    ///
-    /// For an absent key each node of the chain is reached, and each with this hash compared. It
-    /// does not allocate.
+    /// Returns the position of the node with this hash and key, if any, and the counts. An absent
+    /// key reaches the whole chain, and each key with its hash is compared.
     pub fn find(&self, ring: &Ring<K, V>, hash: u64, key: &K) -> (Option<Position<K, V>>, Probe)
         requires indexed { Indexes self.now (spots ring.now.held) }
         requires small { length ring.now.held < 2 ^ 64 }
@@ -112,7 +109,7 @@ impl<K: Eq, V> Index<K, V> {
         }
     }
 
-    /// Returns the position of the node with this hash, whose bucket is given, and this key.
+    /// Returns the position of the node with this hash, of this bucket, and key.
     pub(crate) fn find_in(
         &self,
         ring: &Ring<K, V>,
@@ -133,9 +130,8 @@ impl<K: Eq, V> Index<K, V> {
         }
     }
 
-    /// Removes the node with this hash and this key from its chain, and returns its position, and
-    /// its bucket if that has no node any more. Of the ring only chain links change, and nothing if
-    /// the key is absent. It does not allocate.
+    /// Removes the node with this hash and key from its chain, if any, and returns its position,
+    /// and its bucket if that is now empty.
     pub fn take_out(
         &mut self,
         ring: &mut Ring<K, V>,

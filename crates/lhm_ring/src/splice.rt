@@ -1,4 +1,4 @@
-//! All held nodes become spare at once.
+//! Makes all held nodes spare at once.
 ghost use Rattle.std.specs.Prelude.{◌≡◌};
 ghost use Rattle.lhm_ring.specs.Splices.{HasRow, SparesRow, HasRing, SplicesRing, KeepsRow};
 ghost use Rattle.lhm_ring.specs.Rings.{ring_cells};
@@ -10,15 +10,14 @@ use crate::links::{Ends, Links};
 use crate::nodes::Nodes;
 use crate::ring::{join, relink};
 
-/// The nodes that a ring held, from `first` to `last`, and the first spare node after them.
+/// The nodes from `first` to `last`, and the first spare node after them.
 pub(crate) struct Spliced {
     pub(crate) first: NodePointer,
     pub(crate) last: NodePointer,
     pub(crate) spare: Link,
 }
 
-/// Makes the `count` nodes from `first` on spare, and returns the first spare one. The last of them
-/// comes first. What they hold and their links for the order stay.
+/// Makes the `count` nodes from `first` on spare, the last first, and returns the first spare one.
 fn spare_row<K, V>(
     nodes: &mut Nodes<Links, K, V>,
     first: NodePointer,
@@ -43,7 +42,7 @@ fn spare_row<K, V>(
     spare
 }
 
-/// Makes all held nodes spare. What they hold stays in them.
+/// Makes all held nodes spare, with what they hold.
 pub(crate) fn splice<K, V>(
     nodes: &mut Nodes<Links, K, V>,
     ends: &mut Ends,

@@ -1,4 +1,4 @@
-//! Pairs in insertion order with a hash index of their keys: a ring, its index and its filter.
+//! Pairs in insertion order with a hash index of their keys.
 ghost use Rattle.std.specs.Prelude.{◌≡◌, ◌+◌, ◌<◌, ◌≤◌, ◌^◌, ◌++◌, ◌∷◌, [], length, map, None, IfOk, IsOk, IfSome, IfNone, OnSome, IsTrue, IsFalse};
 ghost use Rattle.lhm_ring.specs.Cells.{IsApart};
 ghost use Rattle.lhm_ring.specs.RingState.{IsHeld, AtHeld, first_at, last_at, held};
@@ -24,15 +24,14 @@ use std::marker::Model;
 /// The ring of a table, while the values are lent.
 pub type WithoutValues<K, V> = Ring<K, Hole<V>>;
 
-/// Pairs of a key and a value in insertion order, each with its hash, found by hash and key.
+/// Pairs in insertion order, each with its hash, found by hash and key. A [`Position`] stays until
+/// its pair leaves or `shrink_to_fit` moves it.
 ///
-/// Each pair has a [`Position`] until it is removed or moved by `shrink_to_fit`. The capacity is
-/// the number of pairs that fit without an allocation. Only `with_capacity`, `raise` and
-/// `shrink_to_fit` allocate; if that fails, nothing changes.
-///
-/// It is not `Drop`: only `into_pairs` and `into_iter` end it.
+/// Calls are O(1), on average if they search or remove, unless they say otherwise. Only
+/// `with_capacity`, `raise` and `shrink_to_fit` allocate; if that fails, nothing changes. It is not
+/// `Drop`: only `into_pairs` and `into_iter` end it.
 pub struct Table<K, V> {
-    /// Public for a type that keeps a table in a field and lends its values.
+    /// Public for a type that lends a table's values.
     pub ring: Ring<K, V>,
     pub(crate) index: Index<K, V>,
     pub(crate) filter: Filter,
@@ -56,7 +55,7 @@ impl<K, V> Table<K, V> {
     ghost use Rattle.lhm_ring.specs.Drains.{drain_name, drain_rest};
     ghost use Rattle.lhm_ring.specs.RingState.{triples};
 
-    /// Creates an empty table of capacity 0. It does not allocate.
+    /// Creates an empty table of capacity 0.
     pub fn new(alloc: Global) -> Table<K, V>
         ensures held { result.held ≡ [] }
         ensures capacity { result.capacity ≡ 0 }
@@ -70,7 +69,7 @@ impl<K, V> Table<K, V> {
         }
     }
 
-    /// Creates an empty table of exactly this capacity, in O(n). Capacity 0 does not allocate.
+    /// Creates an empty table of exactly this capacity, in O(n). At 0 it never fails.
     pub fn with_capacity(alloc: Global, capacity: usize) -> Result<Table<K, V>, AllocError>
         requires { capacity ≤ 2 ^ 59 }
         ensures held { IfOk result (λ table. table.held ≡ []) }
@@ -94,7 +93,7 @@ impl<K, V> Table<K, V> {
         }
     }
 
-    /// Returns the allocator that the table was made with.
+    /// Returns the allocator.
     pub fn allocator(&self) -> Global {
         self.ring.allocator()
     }
@@ -108,7 +107,7 @@ impl<K, V> Table<K, V> {
         self.ring.len()
     }
 
-    /// Returns the number of pairs that fit without an allocation.
+    /// Returns how many pairs fit without an allocation.
     pub fn capacity(&self) -> usize
         ensures value { result ≡ self.now.capacity }
         ensures within { length self.now.held ≤ self.now.capacity }
@@ -117,7 +116,7 @@ impl<K, V> Table<K, V> {
         self.ring.len() + self.ring.spares()
     }
 
-    /// Returns `true` if no further pair fits without an allocation.
+    /// Returns `true` if the pairs are as many as the capacity.
     pub fn is_full(&self) -> bool
         ensures full { IsTrue result → length self.now.held ≡ self.now.capacity }
         ensures room { IsFalse result → length self.now.held < self.now.capacity }
@@ -126,7 +125,7 @@ impl<K, V> Table<K, V> {
     }
 
     /// Returns how many nodes rehashes have moved since `shrink_to_fit` last lowered the capacity,
-    /// that call included.
+    /// inclusive.
     pub fn rechained(&self) -> usize
         ensures value { result ≡ self.now.rechained }
         ensures few { self.now.rechained ≤ buckets self.now.capacity }
@@ -134,14 +133,14 @@ impl<K, V> Table<K, V> {
         self.rechained
     }
 
-    /// Returns the position of the front pair, or `None` if the table is empty.
+    /// Returns the position of the front pair, if any.
     pub fn first(&self) -> Option<Position<K, V>>
         ensures { pointer_of_some result ≡ first_at self.now.held }
     {
         self.ring.first()
     }
 
-    /// Returns the position of the back pair, or `None` if the table is empty.
+    /// Returns the position of the back pair, if any.
     pub fn last(&self) -> Option<Position<K, V>>
         ensures last { pointer_of_some result ≡ last_at self.now.held }
         ensures apart { IsApart (map (λ t. t.at) self.now.held) }
@@ -149,7 +148,7 @@ impl<K, V> Table<K, V> {
         self.ring.last()
     }
 
-    /// Returns the position of the next pair, or `None` at the back.
+    /// Returns the position of the next pair, if any.
     pub fn next(&self, at: Position<K, V>) -> Option<Position<K, V>>
         requires { IsHeld self.now.held (pointer_of at) }
         ensures next { AtHeld self.now.held (pointer_of at) (λ xs t ys.
@@ -159,7 +158,7 @@ impl<K, V> Table<K, V> {
         self.ring.next(at)
     }
 
-    /// Returns the position of the previous pair, or `None` at the front.
+    /// Returns the position of the previous pair, if any.
     pub fn previous(&self, at: Position<K, V>) -> Option<Position<K, V>>
         requires { IsHeld self.now.held (pointer_of at) }
         ensures { AtHeld self.now.held (pointer_of at) (λ xs t ys.
@@ -194,7 +193,7 @@ impl<K, V> Table<K, V> {
         self.ring.value_mut(at)
     }
 
-    /// Moves the pair at a position to the back, in O(1). Positions stay.
+    /// Moves the pair at a position to the back. Positions stay.
     pub fn move_to_back(&mut self, at: Position<K, V>)
         requires { IsHeld self.old.held (pointer_of at) }
         ensures last { AtHeld self.old.held (pointer_of at) (λ xs t ys.
@@ -206,7 +205,7 @@ impl<K, V> Table<K, V> {
         self.ring.move_to_back(at);
     }
 
-    /// Inserts a pair at the back and returns its position, in O(1). It does not allocate.
+    /// Inserts a pair at the back and returns its position.
     pub fn push_back(&mut self, hash: u64, key: K, value: V) -> Position<K, V>
         requires { length self.old.held < self.old.capacity }
         ensures last { self.new.held
@@ -220,8 +219,7 @@ impl<K, V> Table<K, V> {
         at
     }
 
-    /// Removes the pair at a position and returns it. No key is compared. It is O(1) on average.
-    /// The capacity stays.
+    /// Removes and returns the pair at a position. The others keep their order. Compares no key.
     pub fn remove_at(&mut self, at: Position<K, V>) -> (K, V)
         requires { IsHeld self.old.held (pointer_of at) }
         ensures others { AtHeld self.old.held (pointer_of at) (λ xs t ys.
@@ -236,8 +234,7 @@ impl<K, V> Table<K, V> {
         (key, value)
     }
 
-    /// Returns whether a pair may have a hash, by the filter alone: `false` only if none has it. It
-    /// is O(1).
+    /// Returns whether a pair may have a hash: `false` only if none has it.
     fn may_contain(&self, hash: u64) -> bool
         ensures { IsFalse result → LacksHash hash self.now.held }
     {
@@ -254,7 +251,7 @@ impl<K, V> Table<K, V> {
         self.ring.iter()
     }
 
-    /// Returns an iterator that owns the pairs, with their hashes, front to back.
+    /// Returns an iterator that owns the pairs, front to back. It frees the buckets, in O(n).
     pub fn into_iter(self) -> IntoIter<K, V>
         ensures { result ≡ triples self.held }
     {
@@ -269,8 +266,8 @@ impl<K, V> Table<K, V> {
         IntoIter::new(ring)
     }
 
-    /// Ends the table and returns its pairs, front to back, for an owner that drops them. It frees
-    /// the buckets, in O(n) for them; the nodes are freed when the pairs' owner ends.
+    /// Returns the pairs, front to back, for an owner that drops them. It frees the buckets, in
+    /// O(n).
     pub fn into_pairs(self) -> OwnedPairs<K, V>
         ensures { result ≡ triples self.held }
     {
@@ -285,9 +282,8 @@ impl<K, V> Table<K, V> {
         ring.into_pairs()
     }
 
-    /// Removes all pairs and returns them as an iterator, front to back. The capacity stays. The
-    /// table is empty from the call on, also if the iterator is forgotten. The call is O(1) for an
-    /// empty table, otherwise O(n) in the pairs and the buckets.
+    /// Removes all pairs and returns them as an iterator, front to back, in O(n) for pairs and
+    /// buckets, or O(1) if there are none. The table is empty, also if the iterator is forgotten.
     pub fn drain(&mut self) -> Drain<'_, K, V>
         ensures* writes_back { sem 𝓛 (lends_drained K.row V.row self.entry (drain_name result)) }
         ensures rest { drain_rest result ≡ triples self.old.held }
@@ -298,8 +294,8 @@ impl<K, V> Table<K, V> {
 }
 
 impl<K: Eq, V> Table<K, V> {
-    /// Returns the position of the pair with this hash and this key, and what the lookup counted.
-    /// It follows the chain of the bucket, whatever the filter says.
+    /// Returns the position of the pair with this hash and key, if any, and the counts. Asks no
+    /// filter.
     pub fn find(&self, hash: u64, key: &K) -> (Option<Position<K, V>>, Probe)
         ensures found { IfSome result.0 (λ p.
             HasKey K.eq hash key.now self.now.held (pointer_of p)) }
@@ -314,8 +310,8 @@ impl<K: Eq, V> Table<K, V> {
         self.index.find(&self.ring, hash, key)
     }
 
-    /// Returns the position of the pair with this hash and this key, or `None` if there is none. It
-    /// reads no pair if the filter says that none has the hash.
+    /// Returns the position of the pair with this hash and key, if any. It reads no pair if the
+    /// filter lacks the hash.
     pub fn position(&self, hash: u64, key: &K) -> Option<Position<K, V>>
         ensures found { IfSome result (λ p. HasKey K.eq hash key.now self.now.held (pointer_of p)) }
         ensures absent { IfNone result (IsAbsent K.eq hash key.now self.now.held) }
@@ -327,8 +323,7 @@ impl<K: Eq, V> Table<K, V> {
         self.index.find_in(&self.ring, bucket, hash, key)
     }
 
-    /// Removes the pair with this hash and this key and returns it, or returns `None` if there is
-    /// none.
+    /// Removes and returns the pair with this hash and key, if any. Asks the filter first.
     pub fn remove(&mut self, hash: u64, key: &K) -> Option<(K, V)>
         ensures removed { IfSome result (Removes K.eq hash key.now self.old.held self.new.held) }
         ensures absent { IfNone result (IsAbsent K.eq hash key.now self.old.held) }

@@ -1,4 +1,4 @@
-//! The values of nodes are lent one by one, while the links and the keys are shared.
+//! Lends values one by one, while links and keys are shared.
 ghost use Rattle.std.specs.Prelude.{◌≡◌, List as Seq, Some};
 ghost use Rattle.std.specs.Borrow.{sem};
 ghost use base.Fml.{GName, ftrue, ffalse};
@@ -11,7 +11,7 @@ use crate::ring::Ring;
 use std::cell::UnsafeCell;
 use std::marker::{Model, Move, Owns, PhantomData};
 
-/// What stands for a value while it is lent. None is ever made, and a `&` to one shows nothing.
+/// What stands for a lent value. None is ever made.
 pub struct Hole<V> {
     cell: UnsafeCell<V>,
 }
@@ -28,8 +28,7 @@ impl<V> Move for Hole<V> {
     ghost own_val = { λ _ _. ffalse };
 }
 
-/// The right to write the values that are still to be taken, `run`, each with the pointer of its
-/// node.
+/// The right to write the values of `run`, each with its node's pointer.
 #[derive(Drop)]
 pub struct ValueLoan<'a, L, K, V> {
     pub marker: PhantomData<&'a mut Node<L, K, V>>,
@@ -45,7 +44,7 @@ impl<'a, L, K, V> Model for ValueLoan<'a, L, K, V> {
 }
 
 impl<'a, L, K, V> ValueLoan<'a, L, K, V> {
-    /// Returns a mutable reference to the value of the node at `at`, until the loan ends.
+    /// Returns a mutable reference to the value of the node at `at`.
     pub(crate) fn take(&mut self, at: NodePointer) -> &'a mut V
         requires { Lies self.old.run at.ptr }
         ensures value { value_at self.old.run at.ptr ≡ Some result.now }
@@ -57,8 +56,8 @@ impl<'a, L, K, V> ValueLoan<'a, L, K, V> {
     }
 }
 
-/// A ring whose values are lent, while all else of it is shared. A type that keeps a ring in a
-/// field makes it, proves that the loan is there, and turns it into an `IterMut` by `IterMut::of`.
+/// A ring whose values are lent: made, with a proof of the loan, by a type that keeps a ring, for
+/// `IterMut::of`.
 pub struct LentValues<'a, K, V> {
     pub ring: &'a Ring<K, Hole<V>>,
     pub loan: ValueLoan<'a, Links, K, V>,
