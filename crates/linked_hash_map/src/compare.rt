@@ -1,4 +1,4 @@
-//! Equality, order, hash and debug text: those of the pairs in order.
+//! Equality, order, hash and debug text, pair by pair.
 ghost use Rattle.std.specs.Prelude.{◌≡◌, drop};
 ghost use Rattle.std.specs.List.{flat_map};
 ghost use Rattle.std.specs.Cmp.Lexicographic.{pointwise, lists_equiv, lists_agrees, lists_total, lists_ties, lists_per, lists_po};

@@ -94,7 +94,7 @@ impl<'a, K, V> ExactSizeIterator for Iter<'a, K, V> {
 
 impl<'a, K, V> FusedIterator for Iter<'a, K, V> {}
 
-/// Clones the iterator, without failing or allocating, in O(1).
+/// Clones the iterator, without failing or allocating.
 impl<'a, K, V> Clone for Iter<'a, K, V> {
     ghost is_clone = { λ s t. t ≡ s };
 

@@ -72,7 +72,7 @@ impl<'a, K, V> ExactSizeIterator for Keys<'a, K, V> {
 
 impl<'a, K, V> FusedIterator for Keys<'a, K, V> {}
 
-/// Clones the iterator, without failing or allocating, in O(1).
+/// Clones the iterator, without failing or allocating.
 impl<'a, K, V> Clone for Keys<'a, K, V> {
     ghost is_clone = { λ s t. t ≡ s };
 

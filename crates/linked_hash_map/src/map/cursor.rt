@@ -41,7 +41,7 @@ impl<K, V> Clone for Visit<K, V> {
 impl<K, V> Copy for Visit<K, V> {}
 
 impl<K, V> Visit<K, V> {
-    /// Returns the state without cursor and entry.
+    /// Returns no visit.
     pub(super) fn none() -> Self
         ensures mark { mark_of result ≡ None }
         ensures unvisited { unvisited_of result ≡ 0 }

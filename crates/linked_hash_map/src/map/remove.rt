@@ -150,7 +150,8 @@ impl<K: Eq + Hash, V, S: BuildHasher> LinkedHashMap<K, V, S> {
     }
 
     /// Removes all pairs and returns them as a double-ended iterator, front to back, in
-    /// O(capacity), or O(1) if the map is empty. Forgetting the iterator leaks the pairs left.
+    /// O(capacity), or O(1) if the map is empty. The map is empty from then on; forgetting the
+    /// iterator leaks the pairs left.
     ///
     /// # Examples
     ///

@@ -1,4 +1,4 @@
-//! `retain` of a table.
+//! `retain`.
 ghost use Rattle.std.specs.Prelude.{◌≡◌, ◌≤◌, length};
 ghost use Rattle.linked_hash_map.specs.Retains.{IsSublist};
 ghost use Rattle.linked_hash_map.specs.SessionRetains.{weights_of, CalledAtSession, RetainsSessions};

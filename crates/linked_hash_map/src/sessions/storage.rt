@@ -10,7 +10,7 @@ use crate::error::NoRoom;
 use crate::map::LinkedHashMap;
 use std::alloc::Global;
 
-/// What the map has for an id: a weight and a payload.
+/// The weight and the payload of an id.
 #[derive(Drop)]
 pub(super) struct Weighted<T> {
     pub(super) weight: u64,
