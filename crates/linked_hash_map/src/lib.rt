@@ -41,7 +41,13 @@
 //! - Memory: `capacity`, `reserve`, `shrink_to_fit`.
 //! - Besides: [`replay`] runs commands, and [`sessions`] limit a sum of weights.
 //!
-//! `docs/PROMISES.md` says what is proved of them, and `docs/CALLING.md` how callers use contracts.
+//! # Costs and refusals
+//!
+//! Lookups, insertions and removals are O(1) on average, and O(n) if all keys hash alike. Below the
+//! capacity no insertion allocates or fails. A call that allocates returns a `Result`; a refused
+//! one hands back its pair, and changes nothing. Nothing panics. [`LinkedHashMap`] says more.
+//!
+//! `docs/PROMISES.md` says what is proved, and `docs/CALLING.md` how callers use contracts.
 #![tactic(auto)]
 
 mod clone;

@@ -53,8 +53,8 @@ use std::marker::Model;
 /// touch.
 ///
 /// Only `put` allocates. Only `put`, `touch` and `remove` hash an id, with a fixed seed: whoever
-/// chooses ids can make them collide, and these calls are then O(n). For such ids use a
-/// [`LinkedHashMap`] with `RandomState`.
+/// chooses ids can make them collide, and these calls are then O(n). For ids that strangers choose
+/// use a map: `LinkedHashMap::with_hasher(rt.alloc(), RandomState::new(&rt)?)`.
 ///
 /// # Examples
 ///
