@@ -9,38 +9,27 @@ use denote.RawPtr.{Ptr}
 use Rattle.lhm_ring.specs.Cells.{same_ptr}
 use Rattle.lhm_ring.specs.Ownership.{body_owns}
 use Rattle.lhm_ring.specs.ContentLoan.{body_in, without_body, bodies, firsts, seconds}
+use Rattle.lhm_ring.specs.Splits.{SplitAround}
 use Rattle.lhm_ring.proofs.Apart.{same_ptr_eq}
 use Rattle.lhm_ring.proofs.Memory.{Three, RL, RK, RV}
 use Rattle.lhm_ring.proofs.Options.{none_some}
 
 module _ {B : Type 0} where
   pub record CutBody (cs : List (Ptr × Option B)) (p : Ptr) (x : B) : Type 0 where
-    pub before : List (Ptr × Option B)
-    pub pointer : Ptr
-    pub after : List (Ptr × Option B)
-    pub is : cs ≡ before ++ (pointer, Some x) ∷ after
-    pub at_is : pointer ≡ p
-    pub taken : without_body p cs ≡ before ++ (pointer, None) ∷ after
+    pub split : SplitAround cs (p, Some x)
+    pub taken : without_body p cs ≡ split.before ++ (p, None) ∷ split.after
 
   pub cut_body : (cs : List (Ptr × Option B)) (p : Ptr) (x : B) → body_in cs p ≡ Some x → CutBody cs p x
   unfolding body_in without_body
   cut_body [] p x e = absurd (none_some x e)
   cut_body (c ∷ cs) p x e =
       (elim (same_ptr c.0 p) as (λ y. same_ptr c.0 p ≡ y → CutBody (c ∷ cs) p x) [
-        | true ↦ λ t. record {
-          before = [];
-          pointer = c.0;
-          after = cs;
-          is = ap (λ z. (c.0, z) ∷ cs) (sym (ap (λ y. cond y c.1 (body_in cs p)) t) ∙ e);
-          at_is = same_ptr_eq c.0 p t;
-          taken = ap (λ y. cond y ((c.0, None) ∷ cs) (c ∷ without_body p cs)) t;
+        | true ↦ λ t. let at = same_ptr_eq c.0 p t in let held = sym (ap (λ y. cond y c.1 (body_in cs p)) t) ∙ e in record {
+          split = record { before = []; after = cs; is = λ i. (at i, held i) ∷ cs };
+          taken = ap (λ y. cond y ((c.0, None) ∷ cs) (c ∷ without_body p cs)) t ∙ ap (λ q. (q, None) ∷ cs) at;
         }
         | false ↦ λ t. let on = cut_body cs p x (sym (ap (λ y. cond y c.1 (body_in cs p)) t) ∙ e) in record {
-          before = c ∷ on.before;
-          pointer = on.pointer;
-          after = on.after;
-          is = ap (λ xs. c ∷ xs) on.is;
-          at_is = on.at_is;
+          split = record { before = c ∷ on.split.before; after = on.split.after; is = ap (λ xs. c ∷ xs) on.split.is };
           taken = ap (λ y. cond y ((c.0, None) ∷ cs) (c ∷ without_body p cs)) t ∙ ap (λ xs. c ∷ xs) on.taken;
         }
       ]) refl

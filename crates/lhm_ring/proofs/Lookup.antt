@@ -2,6 +2,7 @@
 use Rattle.std.proofs.Common.{◌≡◌, true, false, cond, List, [], ◌∷◌, ◌++◌, Option, Some, None, refl, sym, ap, ◌∙◌, subst}
 use denote.RawPtr.{Ptr}
 use Rattle.lhm_ring.specs.Cells.{Cell, IsApart, same_ptr, pointers, cell_at, links_of, body_of, links_at, body_at, change, without}
+use Rattle.lhm_ring.specs.Splits.{SplitAt}
 use Rattle.std.specs.List.{IsDistinct, AllByRecursion}
 use Rattle.lhm_ring.proofs.Apart.{same_ptr_eq}
 use Rattle.lhm_ring.proofs.Options.{none_some}
@@ -9,14 +10,10 @@ use Rattle.lhm_ring.proofs.Options.{none_some}
 module _ {L B : Type 0} where
   -- where the list is cut, and what a change or a removal there does
   pub record Cut (cs : List (Cell L B)) (p : Ptr) : Type 0 where
-    pub before : List (Cell L B)
-    pub node : Cell L B
-    pub after : List (Cell L B)
-    pub is : cs ≡ before ++ node ∷ after
-    pub at_is : node.at ≡ p
-    pub here : cell_at cs p ≡ Some node
-    pub changed : (f : Cell L B → Cell L B) → change p f cs ≡ before ++ f node ∷ after
-    pub taken : without p cs ≡ before ++ after
+    pub split : SplitAt (λ c. c.at) cs p
+    pub here : cell_at cs p ≡ Some split.node
+    pub changed : (f : Cell L B → Cell L B) → change p f cs ≡ split.before ++ f split.node ∷ split.after
+    pub taken : without p cs ≡ split.before ++ split.after
 
   pub cut : (cs : List (Cell L B)) (p : Ptr) (l : L) → links_at cs p ≡ Some l → Cut cs p
   unfolding cell_at change without
@@ -24,21 +21,13 @@ module _ {L B : Type 0} where
   cut (c ∷ cs) p l e =
       (elim (same_ptr c.at p) as (λ y. same_ptr c.at p ≡ y → Cut (c ∷ cs) p) [
         | true ↦ λ t. record {
-          before = [];
-          node = c;
-          after = cs;
-          is = refl;
-          at_is = same_ptr_eq c.at p t;
+          split = record { before = []; node = c; after = cs; is = refl; at_is = same_ptr_eq c.at p t };
           here = ap (λ y. cond y (Some c) (cell_at cs p)) t;
           changed = λ f. ap (λ y. cond y (f c ∷ cs) (c ∷ change p f cs)) t;
           taken = ap (λ y. cond y cs (c ∷ without p cs)) t;
         }
         | false ↦ λ t. let on = cut cs p l (sym (ap (λ y. links_of (cond y (Some c) (cell_at cs p))) t) ∙ e) in record {
-          before = c ∷ on.before;
-          node = on.node;
-          after = on.after;
-          is = ap (λ xs. c ∷ xs) on.is;
-          at_is = on.at_is;
+          split = record { before = c ∷ on.split.before; node = on.split.node; after = on.split.after; is = ap (λ xs. c ∷ xs) on.split.is; at_is = on.split.at_is };
           here = ap (λ y. cond y (Some c) (cell_at cs p)) t ∙ on.here;
           changed = λ f. ap (λ y. cond y (f c ∷ cs) (c ∷ change p f cs)) t ∙ ap (λ xs. c ∷ xs) (on.changed f);
           taken = ap (λ y. cond y cs (c ∷ without p cs)) t ∙ ap (λ xs. c ∷ xs) on.taken;
@@ -50,9 +39,11 @@ module _ {L B : Type 0} where
   holds_at (Some c) b e = (c, refl)
 
   -- where something is held
-  pub cut_held : (cs : List (Cell L B)) (p : Ptr) (b : B) → body_at cs p ≡ Some b → (k : Cut cs p) × (k.node.body ≡ Some b)
-  cut_held cs p b e =
-      let h = holds_at (cell_at cs p) b e in let k = cut cs p h.0.links (ap links_of h.1) in (k, sym (ap body_of k.here) ∙ e)
+  pub cut_held : (cs : List (Cell L B)) (p : Ptr) (b : B) → body_at cs p ≡ Some b → Cut cs p
+  cut_held cs p b e = let h = holds_at (cell_at cs p) b e in cut cs p h.0.links (ap links_of h.1)
+
+  pub held_here : {cs : List (Cell L B)} {p : Ptr} {b : B} (k : Cut cs p) → body_at cs p ≡ Some b → k.split.node.body ≡ Some b
+  held_here k e = sym (ap body_of k.here) ∙ e
 
   pub all_without : (P : Ptr → Type 0) (p : Ptr) (cs : List (Cell L B)) → AllByRecursion P (pointers cs) → AllByRecursion P (pointers (without p cs))
   unfolding without

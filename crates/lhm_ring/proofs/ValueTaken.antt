@@ -12,17 +12,14 @@ use denote.Memory.{mem}
 use denote.RawPtr.{Ptr, block_ptr, lies_at}
 use Rattle.lhm_ring.specs.Cells.{same_ptr}
 use Rattle.lhm_ring.specs.ValueLoan.{value_at, without_value, spread}
+use Rattle.lhm_ring.specs.Splits.{SplitAround}
 use Rattle.lhm_ring.proofs.Apart.{same_ptr_eq}
 use Rattle.lhm_ring.proofs.Options.{none_some}
 
 module _ {V : Type 0} where
   pub record CutValue (cs : List (Ptr × V)) (p : Ptr) (v : V) : Type 0 where
-    pub before : List (Ptr × V)
-    pub pointer : Ptr
-    pub after : List (Ptr × V)
-    pub is : cs ≡ before ++ (pointer, v) ∷ after
-    pub at_is : pointer ≡ p
-    pub taken : without_value p cs ≡ before ++ after
+    pub split : SplitAround cs (p, v)
+    pub taken : without_value p cs ≡ split.before ++ split.after
 
   some_is : (v w : V) → Some v ≡ Some w → v ≡ w
   some_is v w e = cc
@@ -32,20 +29,12 @@ module _ {V : Type 0} where
   cut_value [] p v e = absurd (none_some v e)
   cut_value (c ∷ cs) p v e =
       (elim (same_ptr c.0 p) as (λ y. same_ptr c.0 p ≡ y → CutValue (c ∷ cs) p v) [
-        | true ↦ λ t. record {
-          before = [];
-          pointer = c.0;
-          after = cs;
-          is = ap (λ z. (c.0, z) ∷ cs) (some_is c.1 v (sym (ap (λ y. cond y (Some c.1) (value_at cs p)) t) ∙ e));
-          at_is = same_ptr_eq c.0 p t;
+        | true ↦ λ t. let at = same_ptr_eq c.0 p t in let held = some_is c.1 v (sym (ap (λ y. cond y (Some c.1) (value_at cs p)) t) ∙ e) in record {
+          split = record { before = []; after = cs; is = λ i. (at i, held i) ∷ cs };
           taken = ap (λ y. cond y cs (c ∷ without_value p cs)) t;
         }
         | false ↦ λ t. let on = cut_value cs p v (sym (ap (λ y. cond y (Some c.1) (value_at cs p)) t) ∙ e) in record {
-          before = c ∷ on.before;
-          pointer = on.pointer;
-          after = on.after;
-          is = ap (λ xs. c ∷ xs) on.is;
-          at_is = on.at_is;
+          split = record { before = c ∷ on.split.before; after = on.split.after; is = ap (λ xs. c ∷ xs) on.split.is };
           taken = ap (λ y. cond y cs (c ∷ without_value p cs)) t ∙ ap (λ xs. c ∷ xs) on.taken;
         }
       ]) refl

@@ -1,5 +1,5 @@
 -- `take` moves out what one node holds, of what is lent. Assumes `Logic`.
-use Rattle.std.proofs.Common.{◌≡◌, ℕ, ◌+◌, List, [], ◌∷◌, ◌++◌, refl, sym, ap, ◌∙◌, subst, Some, None, Option}
+use Rattle.std.proofs.Common.{◌≡◌, ℕ, ◌+◌, List, [], ◌∷◌, ◌++◌, refl, sym, ap, subst, Some, None, Option}
 use base.Fraction.{full_share}
 use mir.Val.{Val, vptr, vstruct, vcons, vnil}
 use mir.MapTy.{inst_fn}
@@ -54,22 +54,22 @@ take_spec 𝓤 𝓛 𝓜 𝓡 wired L K V LL LK LV =
     let us : List Val = vptr rb ro ∷ word p ∷ [] in let Runs : List Val → SProp 𝓤 = λ ws. WpFn 𝓤 H 𝓣.C 𝓣.Λ fn ws Post in
     suffices ! (Runs us) (subst (λ (ws : List Val). ent 𝓤 (Runs us) (Runs ws)) (sym (λ i. are.0.0 i ++ (pointer_told a.1.0 vss.1.0 are.1.0 i ++ []))) (id⊢ 𝓤 (Runs us))) $
     enter ! 𝓣.C 𝓣.Λ fn us Post $ alloc_all ! (λ l. pass_all ! refl ((tt, tt), (word-Good [] p, tt)) $ let Ev = env fn.locals l in
-    let x = asked.0 in let k : CutBody d.run p x = cut_body d.run p x asked.1 in let xs = k.before in let ys = k.after in
-    let all : List (Ptr × Option (K.Denot × V.Denot)) = xs ++ (k.pointer, Some x) ∷ ys in let left : List (Ptr × Option (K.Denot × V.Denot)) = xs ++ (k.pointer, None) ∷ ys in
-    let same : firsts left ≡ firsts all = same_firsts xs k.pointer None (Some x) ys in let Bs : SemTy = Bodies R S W (firsts all) in
+    let x = asked.0 in let k : CutBody d.run p x = cut_body d.run p x asked.1 in let xs = k.split.before in let ys = k.split.after in
+    let all : List (Ptr × Option (K.Denot × V.Denot)) = xs ++ (p, Some x) ∷ ys in let left : List (Ptr × Option (K.Denot × V.Denot)) = xs ++ (p, None) ∷ ys in
+    let same : firsts left ≡ firsts all = same_firsts xs p None (Some x) ys in let Bs : SemTy = Bodies R S W (firsts all) in
     move ! (3 ∷ []) $ fsplit ! $ move ! (2 ∷ 3 ∷ 4 ∷ []) $
     -- [self's name; its borrow; its token; the loan's token; the other tokens]
     opens ! tt It {h = d} rb ro (λ vs. move ! (1 ∷ []) $ fsplit ! $ move ! (1 ∷ 6 ∷ []) $
-    rewrite ! 0 (λ (cs : List (Ptr × Option (K.Denot × V.Denot))). ‵ (borrows_bodies R S W κ d.name cs)) k.is refl $ fsplit ! $
+    rewrite ! 0 (λ (cs : List (Ptr × Option (K.Denot × V.Denot))). ‵ (borrows_bodies R S W κ d.name cs)) k.split.is refl $ fsplit ! $
     open_ref ! tt Bs {x = seconds all} {b = 0} {o = 0} $
-    use1 𝓛 (‵ (body_owns R S W k.pointer (Some x)) ⊛ ‵ (Run E 𝓛 (xs ++ ys))) (bodies_cut E 𝓛 xs k.pointer (Some x) ys) $ split ! $ fsplit ! $
-    in_a_block ! k.pointer (λ q. lies_at S full_share (key_of R S W q) x.0) (id⊢ 𝓤 (never 𝓤)) (λ pb po e.
+    use1 𝓛 (‵ (body_owns R S W p (Some x)) ⊛ ‵ (Run E 𝓛 (xs ++ ys))) (bodies_cut E 𝓛 xs p (Some x) ys) $ split ! $ fsplit ! $
+    in_a_block ! p (λ q. lies_at S full_share (key_of R S W q) x.0) (id⊢ 𝓤 (never 𝓤)) (λ pb po e.
     move ! (1 ∷ []) $ rewrite ! 0 (λ (q : Ptr). ‵ (lies_at W full_share (value_of R S W q) x.1)) e refl $ move ! (1 ∷ []) $
     use1 𝓛 (some (λ (u : Val). given (Good (layout K) u) (‵ (fat full_share (layout K) pb (po + ko E) u) ⊛ ‵ (K.own_val x.0 (u ∷ []))))) (value_out 1 K LK 𝓛 x.0 pb (po + ko E)) $ pick ! (λ u. learn ! (λ good. split ! $ move ! (2 ∷ []) $
     use1 𝓛 (some (λ (u : Val). given (Good (layout V) u) (‵ (fat full_share (layout V) pb (po + vo E) u) ⊛ ‵ (V.own_val x.1 (u ∷ []))))) (value_out 2 V LV 𝓛 x.1 pb (po + vo E)) $ pick ! (λ w. learn ! (λ fine. split ! $
     -- [the value's cell; what it owns; the key's cell; what it owns; the other bodies; their open
     -- borrow, in three; the marker; its cell; the open borrow, in three; the other tokens]
-    sets ! (is ! (of_opd ! (get_in ! (fld ! refl (stop !)) (sub ! 0 refl (whole !)))) (ap ptr_val (sym k.at_is ∙ e))) refl (tt, tt) $ first ! $ blocks ! $
+    sets ! (is ! (of_opd ! (get_in ! (fld ! refl (stop !)) (sub ! 0 refl (whole !)))) (ap ptr_val e)) refl (tt, tt) $ first ! $ blocks ! $
     sets ! (addr ! (through ! refl (fld ! refl (stop !)))) refl (tt, tt) $ sets_last ! (of_opd ! (load ! (through ! refl (stop !)) (look ! 2 refl))) refl good $ exec ! 𝓣.C 𝓣.Λ Ev (after 2 fn.body) (at_ret Ev Post) $ sets ! (of_opd ! (get ! refl)) refl good $ first ! $ blocks ! $
     sets ! (addr ! (through ! refl (fld ! refl (stop !)))) refl (tt, tt) $ sets_last ! (of_opd ! (load ! (through ! refl (stop !)) (look ! 0 refl))) refl fine $ exec ! 𝓣.C 𝓣.Λ Ev (after 4 fn.body) (at_ret Ev Post) $ sets ! (of_opd ! (get ! refl)) refl fine $
     let r : Val = vstruct (vcons u (vcons w vnil)) in
@@ -78,7 +78,7 @@ take_spec 𝓤 𝓛 𝓜 𝓡 wired L K V LL LK LV =
     use1 𝓛 (‵ (froom (layout K) pb (po + ko E))) (𝓛.laws.at_room (layout K) pb (po + ko E) u) $ as_raw ! (layout K) pb (po + ko E) $ fjoin ! $
     -- [the memory of both; what the value owns; what the key owns; the other bodies; their open
     -- borrow, in three; the marker; ..]
-    rewrite ! 0 (λ (q : Ptr). ‵ (body_owns R S W q None)) (sym e) refl $ move ! (0 ∷ 3 ∷ []) $ use2 𝓛 (‵ (Run E 𝓛 left)) (bodies_glue E 𝓛 xs k.pointer None ys) $
+    rewrite ! 0 (λ (q : Ptr). ‵ (body_owns R S W q None)) (sym e) refl $ move ! (0 ∷ 3 ∷ []) $ use2 𝓛 (‵ (Run E 𝓛 left)) (bodies_glue E 𝓛 xs p None ys) $
     rewrite ! 0 (λ (ps : List Ptr). ‵ (bodies R S W ps (seconds left))) same refl $ move ! (0 ∷ 3 ∷ 4 ∷ 5 ∷ []) $ close_ref ! tt Bs (seconds left) {b = 0} {o = 0} $
     -- [the bodies' name; their borrow; the loan's token; what the value owns; what the key owns;
     -- the marker; its cell; the open borrow, in three; the other tokens]

@@ -52,19 +52,19 @@ set_links_spec 𝓤 𝓛 𝓜 𝓡 wired L K V LL LK LV =
     let us : List Val = vptr rb ro ∷ word p ∷ v ∷ [] in let Run : List Val → SProp 𝓤 = λ ws. WpFn 𝓤 H 𝓣.C 𝓣.Λ fn ws Post in
     suffices ! (Run us) (subst (λ (ws : List Val). ent 𝓤 (Run us) (Run ws)) (sym (λ i. are.0.0 i ++ (pointer_told a.1.0 vss.1.0 are.1.0 i ++ (got.1.0 i ++ [])))) (id⊢ 𝓤 (Run us))) $
     enter ! 𝓣.C 𝓣.Λ fn us Post $ alloc_all ! (λ l. pass_all ! refl ((tt, tt), (word-Good [] p, (got.1.1, tt))) $ let Ev = env fn.locals l in
-    let k : Cut h.cells p = cut h.cells p asked.0 asked.1 in let f : Node E = k.node in let f' : Node E = cell f.at new f.body in
-    opens ! tt N {h = h} rb ro (λ vs. move ! (1 ∷ []) $ fsplit ! $ rewrite ! 1 (λ (cs : List (Node E)). ‵ (Cells E (Land E h) cs)) k.is refl $ move ! (1 ∷ []) $
-    use1 𝓛 (‵ (One E f) ⊛ ‵ (Cells E (Land E h) (k.before ++ k.after))) (cells_cut 𝓛 E (Land E h) k.before f k.after) $ split ! $ fsplit ! $
+    let k : Cut h.cells p = cut h.cells p asked.0 asked.1 in let f : Node E = k.split.node in let f' : Node E = cell f.at new f.body in
+    opens ! tt N {h = h} rb ro (λ vs. move ! (1 ∷ []) $ fsplit ! $ rewrite ! 1 (λ (cs : List (Node E)). ‵ (Cells E (Land E h) cs)) k.split.is refl $ move ! (1 ∷ []) $
+    use1 𝓛 (‵ (One E f) ⊛ ‵ (Cells E (Land E h) (k.split.before ++ k.split.after))) (cells_cut 𝓛 E (Land E h) k.split.before f k.split.after) $ split ! $ fsplit ! $
     in_a_block ! f.at (λ q. lies_at R full_share (links_of R S W q) f.links) (id⊢ 𝓤 (never 𝓤)) (λ pb po e.
     use1 𝓛 (some (λ (u : Val). given (Good (layout L) u) (‵ (fat full_share (layout L) pb (po + lo E) u) ⊛ ‵ (L.own_val f.links (u ∷ []))))) (value_out 0 L LL 𝓛 f.links pb (po + lo E)) $ pick ! (λ u. learn ! (λ _. split ! $ move ! (1 ∷ []) $ drop ! $
     -- [the old links; the rest of the node; the other nodes; the marker; its cell; the open borrow,
     -- in three; the new links; the other tokens]
-    sets ! (is ! (of_opd ! (get_in ! (fld ! refl (stop !)) (sub ! 0 refl (whole !)))) (ap ptr_val (sym k.at_is ∙ e))) refl (tt, tt) $ first ! $ blocks ! $
+    sets ! (is ! (of_opd ! (get_in ! (fld ! refl (stop !)) (sub ! 0 refl (whole !)))) (ap ptr_val (sym k.split.at_is ∙ e))) refl (tt, tt) $ first ! $ blocks ! $
     sets ! (addr ! (through ! refl (fld ! refl (stop !)))) refl (tt, tt) $ sets ! (of_opd ! (get ! refl)) refl got.1.1 $ assigns_last ! (of_opd ! (get ! refl)) (through ! refl (stop !)) (store ! 0 refl got.1.1) $
     exec ! 𝓣.C 𝓣.Λ Ev (after 2 fn.body) (at_ret Ev Post) $ sets ! (of_opd ! (unit_lit !)) refl (tt, tt) $
     move ! (0 ∷ 8 ∷ []) $ use2 𝓛 (‵ (part_at R full_share new pb (po + lo E))) (value_in 0 L LL 𝓛 new pb (po + lo E) v) $
     rewrite ! 0 (λ (q : Ptr). ‵ (lies_at R full_share (links_of R S W q) new)) (sym e) refl $ fjoin ! $
-    use2 𝓛 (‵ (Cells E (Land E h) (k.before ++ f' ∷ k.after))) (cells_glue 𝓛 E (Land E h) k.before f' k.after) $ rewrite ! 0 (λ (cs : List (Node E)). ‵ (Cells E (Land E h) cs)) (sym (k.changed (λ c. cell c.at new c.body))) refl $
+    use2 𝓛 (‵ (Cells E (Land E h) (k.split.before ++ f' ∷ k.split.after))) (cells_glue 𝓛 E (Land E h) k.split.before f' k.split.after) $ rewrite ! 0 (λ (cs : List (Node E)). ‵ (Cells E (Land E h) cs)) (sym (k.changed (λ c. cell c.at new c.body))) refl $
     let h' : N.Denot = record { marker = h.marker; cells = change p (λ c. cell c.at new c.body) h.cells; apart = subst IsApart (sym (pointers-change p (λ c. cell c.at new c.body) (λ c. refl) h.cells)) h.apart; blocks = subst AreBlocks (sym (pointers-change p (λ c. cell c.at new c.body) (λ c. refl) h.cells)) h.blocks; node_bytes = h.node_bytes; unused = h.unused; chunks = h.chunks; unused_blocks = h.unused_blocks; laid = subst (λ (ps : List Ptr). h.unused ++ ps ≡ places h.node_bytes h.chunks) (sym (pointers-change p (λ c. cell c.at new c.body) (λ c. refl) h.cells)) h.laid } in
     move ! (1 ∷ 0 ∷ []) $ fjoin ! $ move ! (1 ∷ 0 ∷ []) $ closes ! tt N h' vs rb ro $
     feq_i ! (List Val) vss.0 (vptr rb ro ∷ []) are.0.0 $ fjoin3 ! $ nothing ! $ nothing ! $ fjoin ! $ nothing ! $ fjoin ! $ move ! (1 ∷ 0 ∷ []) $ fjoin ! $ move ! (1 ∷ 2 ∷ []) $ join ! $

@@ -26,7 +26,7 @@ use Rattle.std.proofs.raw_atomic.Walks.{proved_at, leaves}
 use Rattle.lhm_ring.specs.Chunks.{places}
 use Rattle.lhm_ring.specs.Cells.{cell, IsApart, AreBlocks, Holds, change, body_at, with_body, pointers-change}
 use Rattle.lhm_ring.specs.Ownership.{links_of, body_owns}
-use Rattle.lhm_ring.proofs.Lookup.{Cut, cut_held}
+use Rattle.lhm_ring.proofs.Lookup.{Cut, cut_held, held_here}
 use Rattle.lhm_ring.proofs.Memory.{Three, args, RL, RK, RV, ko, vo, Node, Nr, Pl, One, Land, Cells, pointer_told, two_made, cells_cut, cells_glue, value_out}
 use Rattle.std.proofs.RawLayout.{as_raw}
 use denote.Struct.Struct.{as_fields}
@@ -51,17 +51,17 @@ take_spec 𝓤 𝓛 𝓜 𝓡 wired L K V LL LK LV =
     let us : List Val = vptr rb ro ∷ word p ∷ [] in let Run : List Val → SProp 𝓤 = λ ws. WpFn 𝓤 H 𝓣.C 𝓣.Λ fn ws Post in
     suffices ! (Run us) (subst (λ (ws : List Val). ent 𝓤 (Run us) (Run ws)) (sym (λ i. are.0.0 i ++ (pointer_told a.1.0 vss.1.0 are.1.0 i ++ []))) (id⊢ 𝓤 (Run us))) $
     enter ! 𝓣.C 𝓣.Λ fn us Post $ alloc_all ! (λ l. pass_all ! refl ((tt, tt), (word-Good [] p, tt)) $ let Ev = env fn.locals l in
-    let x = asked.0 in let kh = cut_held h.cells p x asked.1 in let k : Cut h.cells p = kh.0 in let f : Node E = k.node in let f' : Node E = cell f.at f.links None in
-    opens ! tt N {h = h} rb ro (λ vs. move ! (1 ∷ []) $ fsplit ! $ rewrite ! 1 (λ (cs : List (Node E)). ‵ (Cells E (Land E h) cs)) k.is refl $ move ! (1 ∷ []) $
-    use1 𝓛 (‵ (One E f) ⊛ ‵ (Cells E (Land E h) (k.before ++ k.after))) (cells_cut 𝓛 E (Land E h) k.before f k.after) $ split ! $ fsplit ! $
+    let x = asked.0 in let k : Cut h.cells p = cut_held h.cells p x asked.1 in let f : Node E = k.split.node in let f' : Node E = cell f.at f.links None in
+    opens ! tt N {h = h} rb ro (λ vs. move ! (1 ∷ []) $ fsplit ! $ rewrite ! 1 (λ (cs : List (Node E)). ‵ (Cells E (Land E h) cs)) k.split.is refl $ move ! (1 ∷ []) $
+    use1 𝓛 (‵ (One E f) ⊛ ‵ (Cells E (Land E h) (k.split.before ++ k.split.after))) (cells_cut 𝓛 E (Land E h) k.split.before f k.split.after) $ split ! $ fsplit ! $
     in_a_block ! f.at (λ q. lies_at R full_share (links_of R S W q) f.links) (id⊢ 𝓤 (never 𝓤)) (λ pb po e.
     rewrite ! 0 (λ (q : Ptr). ‵ (lies_at R full_share (links_of R S W q) f.links)) (sym e) refl $ move ! (1 ∷ []) $ fsplit ! $
-    rewrite ! 0 (λ (z : Ptr × Option (K.Denot × V.Denot)). ‵ (body_owns R S W z.0 z.1)) (λ i. (e i, kh.1 i)) refl $ fsplit ! $
+    rewrite ! 0 (λ (z : Ptr × Option (K.Denot × V.Denot)). ‵ (body_owns R S W z.0 z.1)) (λ i. (e i, (held_here k asked.1) i)) refl $ fsplit ! $
     use1 𝓛 (some (λ (u : Val). given (Good (layout K) u) (‵ (fat full_share (layout K) pb (po + ko E) u) ⊛ ‵ (K.own_val x.0 (u ∷ []))))) (value_out 1 K LK 𝓛 x.0 pb (po + ko E)) $ pick ! (λ u. learn ! (λ good. split ! $ move ! (2 ∷ []) $
     use1 𝓛 (some (λ (u : Val). given (Good (layout V) u) (‵ (fat full_share (layout V) pb (po + vo E) u) ⊛ ‵ (V.own_val x.1 (u ∷ []))))) (value_out 2 V LV 𝓛 x.1 pb (po + vo E)) $ pick ! (λ w. learn ! (λ fine. split ! $
     -- [the value's cell; what it owns; the key's cell; what it owns; the deed; the links; the other
     -- nodes; the marker; its cell; the open borrow, in three; the other tokens]
-    sets ! (is ! (of_opd ! (get_in ! (fld ! refl (stop !)) (sub ! 0 refl (whole !)))) (ap ptr_val (sym k.at_is ∙ e))) refl (tt, tt) $ first ! $ blocks ! $
+    sets ! (is ! (of_opd ! (get_in ! (fld ! refl (stop !)) (sub ! 0 refl (whole !)))) (ap ptr_val (sym k.split.at_is ∙ e))) refl (tt, tt) $ first ! $ blocks ! $
     sets ! (addr ! (through ! refl (fld ! refl (stop !)))) refl (tt, tt) $ sets_last ! (of_opd ! (load ! (through ! refl (stop !)) (look ! 2 refl))) refl good $ exec ! 𝓣.C 𝓣.Λ Ev (after 2 fn.body) (at_ret Ev Post) $ sets ! (of_opd ! (get ! refl)) refl good $ first ! $ blocks ! $
     sets ! (addr ! (through ! refl (fld ! refl (stop !)))) refl (tt, tt) $ sets_last ! (of_opd ! (load ! (through ! refl (stop !)) (look ! 0 refl))) refl fine $ exec ! 𝓣.C 𝓣.Λ Ev (after 4 fn.body) (at_ret Ev Post) $ sets ! (of_opd ! (get ! refl)) refl fine $
     let r : Val = vstruct (vcons u (vcons w vnil)) in
@@ -70,7 +70,7 @@ take_spec 𝓤 𝓛 𝓜 𝓡 wired L K V LL LK LV =
     use1 𝓛 (‵ (froom (layout K) pb (po + ko E))) (𝓛.laws.at_room (layout K) pb (po + ko E) u) $ as_raw ! (layout K) pb (po + ko E) $ fjoin ! $
     -- [the memory of both; what the value owns; what the key owns; the deed; the links; ..]
     rewrite ! 0 (λ (q : Ptr). ‵ (body_owns R S W q None)) (sym e) refl $ move ! (0 ∷ 3 ∷ []) $ fjoin ! $ move ! (3 ∷ 0 ∷ []) $ fjoin ! $ move ! (0 ∷ 3 ∷ []) $
-    use2 𝓛 (‵ (Cells E (Land E h) (k.before ++ f' ∷ k.after))) (cells_glue 𝓛 E (Land E h) k.before f' k.after) $ rewrite ! 0 (λ (cs : List (Node E)). ‵ (Cells E (Land E h) cs)) (sym (k.changed (λ c. cell c.at c.links None))) refl $
+    use2 𝓛 (‵ (Cells E (Land E h) (k.split.before ++ f' ∷ k.split.after))) (cells_glue 𝓛 E (Land E h) k.split.before f' k.split.after) $ rewrite ! 0 (λ (cs : List (Node E)). ‵ (Cells E (Land E h) cs)) (sym (k.changed (λ c. cell c.at c.links None))) refl $
     let h' : N.Denot = record { marker = h.marker; cells = change p (λ c. cell c.at c.links None) h.cells; apart = subst IsApart (sym (pointers-change p (λ c. cell c.at c.links None) (λ c. refl) h.cells)) h.apart; blocks = subst AreBlocks (sym (pointers-change p (λ c. cell c.at c.links None) (λ c. refl) h.cells)) h.blocks; node_bytes = h.node_bytes; unused = h.unused; chunks = h.chunks; unused_blocks = h.unused_blocks; laid = subst (λ (ps : List Ptr). h.unused ++ ps ≡ places h.node_bytes h.chunks) (sym (pointers-change p (λ c. cell c.at c.links None) (λ c. refl) h.cells)) h.laid } in
     -- [the nodes; what the value owns; what the key owns; the marker; its cell; the open borrow, in
     -- three; the other tokens]

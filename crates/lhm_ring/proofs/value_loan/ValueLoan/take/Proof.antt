@@ -1,5 +1,5 @@
 -- `pull` cuts the value of one node out of those that are lent. Assumes `Logic`.
-use Rattle.std.proofs.Common.{◌≡◌, ℕ, ◌+◌, List, [], ◌∷◌, ◌++◌, refl, sym, ap, ◌∙◌, subst, Some, map}
+use Rattle.std.proofs.Common.{◌≡◌, ℕ, ◌+◌, List, [], ◌∷◌, ◌++◌, refl, sym, ap, subst, Some, map}
 use base.Fraction.{full_share}
 use mir.Val.{Val, vptr}
 use mir.MapTy.{inst_fn}
@@ -59,22 +59,22 @@ take_spec 𝓤 𝓛 𝓜 𝓡 wired L K V LL LK LV =
     let us : List Val = vptr rb ro ∷ word p ∷ [] in let Run : List Val → SProp 𝓤 = λ ws. WpFn 𝓤 H 𝓣.C 𝓣.Λ fn ws Post in
     suffices ! (Run us) (subst (λ (ws : List Val). ent 𝓤 (Run us) (Run ws)) (sym (λ i. are.0.0 i ++ (pointer_told a.1.0 vss.1.0 are.1.0 i ++ []))) (id⊢ 𝓤 (Run us))) $
     enter ! 𝓣.C 𝓣.Λ fn us Post $ alloc_all ! (λ l. pass_all ! refl ((tt, tt), (word-Good [] p, tt)) $ let Ev = env fn.locals l in
-    let v : V.Denot = asked.0 in let k : CutValue d.run p v = cut_value d.run p v asked.1 in let xs = k.before in let ys = k.after in
-    let all : List (Ptr × V.Denot) = xs ++ (k.pointer, v) ∷ ys in let ats : List (Ptr × V.Denot) → List Ptr = λ cs. map (λ c. f c.0) cs in let ofs : List (Ptr × V.Denot) → List V.Denot = λ cs. map (λ c. c.1) cs in
+    let v : V.Denot = asked.0 in let k : CutValue d.run p v = cut_value d.run p v asked.1 in let xs = k.split.before in let ys = k.split.after in
+    let all : List (Ptr × V.Denot) = xs ++ (p, v) ∷ ys in let ats : List (Ptr × V.Denot) → List Ptr = λ cs. map (λ c. f c.0) cs in let ofs : List (Ptr × V.Denot) → List V.Denot = λ cs. map (λ c. c.1) cs in
     move ! (3 ∷ []) $ fsplit ! $ move ! (2 ∷ 3 ∷ 4 ∷ []) $
     -- [self's name; its borrow; its token; the loan's token; the other tokens]
     opens ! tt It {h = d} rb ro (λ vs. move ! (1 ∷ []) $ fsplit ! $ move ! (1 ∷ 6 ∷ []) $
-    rewrite ! 0 (λ (cs : List (Ptr × V.Denot)). ‵ (borrowed κ R S W d.name cs)) k.is refl $ fsplit ! $
+    rewrite ! 0 (λ (cs : List (Ptr × V.Denot)). ‵ (borrowed κ R S W d.name cs)) k.split.is refl $ fsplit ! $
     open_ref ! tt (Spread W (ats all)) {x = ofs all} {b = 0} {o = 0} $
-    use1 𝓛 (‵ (lies_at W full_share (f k.pointer) v) ⊛ ‵ (spread W (ats (xs ++ ys)) (ofs (xs ++ ys)))) (run_cut 𝓛 W f k.pointer xs v ys) $ split ! $
-    in_a_block ! k.pointer (λ q. lies_at W full_share (value_of R S W q) v) (id⊢ 𝓤 (never 𝓤)) (λ pb po e.
-    let F : V.Denot → List V.Denot → List V.Denot = λ w ws. take (length xs) ws ++ w ∷ drop_l (length xs) ws in let at : f k.pointer ≡ block_ptr pb (po + vo E) = ap f e in
+    use1 𝓛 (‵ (lies_at W full_share (f p) v) ⊛ ‵ (spread W (ats (xs ++ ys)) (ofs (xs ++ ys)))) (run_cut 𝓛 W f p xs v ys) $ split ! $
+    in_a_block ! p (λ q. lies_at W full_share (value_of R S W q) v) (id⊢ 𝓤 (never 𝓤)) (λ pb po e.
+    let F : V.Denot → List V.Denot → List V.Denot = λ w ws. take (length xs) ws ++ w ∷ drop_l (length xs) ws in let at : f p ≡ block_ptr pb (po + vo E) = ap f e in
     -- [the value; the other values; their open borrow, in three; the marker; its cell; the open
     -- borrow, in three; the other tokens]
     nothing ! $ move ! (3 ∷ 4 ∷ 5 ∷ 1 ∷ 2 ∷ 0 ∷ []) $ group ! 6 $
     use1 𝓛 (later (some (λ (γs : ℕ × ℕ). (‵ (fobs γs.0 (W.coded.code v)) ⊛ ‵ (fbor κ (Borrowed (mem W) pb (po + vo E) γs.0))) ⊛ (‵ (fobs γs.1 ((coded_list W.coded).code (ofs (xs ++ ys)))) ⊛ ‵ (fbor κ (Borrowed (Spread W (ats (xs ++ ys))) 0 0 γs.1)))
     ⊛ ‵ (flft κ q) ⊛ ‵ (after₂ (Spread W (ats all)) (mem W) (Spread W (ats (xs ++ ys))) d.name γs.0 γs.1 F))))
-    (takes_two 𝓛 (Spread W (ats all)) (mem W) (Spread W (ats (xs ++ ys))) F κ q 0 0 pb (po + vo E) 0 0 d.name (emp 𝓤) (run_mend 𝓛 W f k.pointer pb (po + vo E) at xs v ys) ((coded_list W.coded).code (ofs all)) ((coded_list W.coded).code (ofs all)) v (ofs (xs ++ ys))) $ await ! tt $ pick ! (λ γs. split3 ! $
+    (takes_two 𝓛 (Spread W (ats all)) (mem W) (Spread W (ats (xs ++ ys))) F κ q 0 0 pb (po + vo E) 0 0 d.name (emp 𝓤) (run_mend 𝓛 W f p pb (po + vo E) at xs v ys) ((coded_list W.coded).code (ofs all)) ((coded_list W.coded).code (ofs all)) v (ofs (xs ++ ys))) $ await ! tt $ pick ! (λ γs. split3 ! $
     let r : Val = vptr pb (po + vo E) in let out : MutBor V.Denot = record { ref_ptr = (pb, po + vo E); ghost_name = γs.0; now = v } in
     let new : ValueLoan L.Denot K.Denot V.Denot = record { marker = d.marker; name = γs.1; tie = d.tie; run = without_value p d.run } in
     split ! $ feq_i ! (List Val) (r ∷ []) (r ∷ []) refl $ fjoin3 ! $ move ! (1 ∷ []) $ split ! $ fjoin ! $ move ! (2 ∷ []) $ split ! $
@@ -83,7 +83,7 @@ take_spec 𝓤 𝓛 𝓜 𝓡 wired L K V LL LK LV =
     rewrite ! 2 (λ (cs : List (Ptr × V.Denot)). ‵ (borrowed κ R S W γs.1 cs)) (sym k.taken) refl $ move ! (4 ∷ 2 ∷ []) $ fjoin ! $ move ! (4 ∷ 0 ∷ 5 ∷ 6 ∷ 7 ∷ []) $ closes ! tt It new vs rb ro $
     -- [self's name; its borrow; its token; the loan's token; the two names'; the value; the other
     -- tokens]
-    sets ! (is ! (of_opd ! (get_in ! (fld ! refl (stop !)) (sub ! 0 refl (whole !)))) (ap ptr_val (sym k.at_is ∙ e))) refl (tt, tt) $ first ! $ blocks ! $
+    sets ! (is ! (of_opd ! (get_in ! (fld ! refl (stop !)) (sub ! 0 refl (whole !)))) (ap ptr_val e)) refl (tt, tt) $ first ! $ blocks ! $
     sets_last ! (addr ! (through ! refl (fld ! refl (stop !)))) refl (tt, tt) $ exec ! 𝓣.C 𝓣.Λ Ev (after 2 fn.body) (at_ret Ev Post) $ sets ! (of_opd ! (get ! refl)) refl (tt, tt) $
     feq_i ! (List Val) vss.0 (vptr rb ro ∷ []) are.0.0 $ fjoin3 ! $ nothing ! $ nothing ! $ fjoin ! $ move ! (1 ∷ 0 ∷ []) $ fjoin ! $
     -- [self and the pointer; its token; the loan's token; the two names'; the value; the other
