@@ -13,12 +13,13 @@ use Rattle.lhm_ring.proofs.Filters.{CoversAll-more, CoversAll-append}
 use Rattle.lhm_ring.proofs.Entries.{IsHeld-kept, entries-link}
 
 pub put_indexes : {K V : Type 0} (p : Ptr) (heads heads' : List (Option Ptr)) (nodes nodes' : List (Held (K × V))) → Chains p heads heads' nodes nodes' → HoldsOthers heads nodes p → 0 < length heads → Indexes heads' (spots nodes')
-put_indexes {K} {V} p heads heads' nodes nodes' c h l =
-    let k : IsChained p heads heads' nodes' h.before h.node h.after = c h.before h.node h.after h.is h.at in
+put_indexes {K} {V} p heads heads' nodes nodes' c lacks l =
+    let h : IsHeld nodes p = lacks.held in
+    let k : IsChained p heads heads' nodes' h.before h.node h.after = c h.before h.node h.after h.is h.at_is in
     let head : Option Ptr = get_or heads (h.node.hash % length heads) None in
     let x : Held (K × V) = linked_to head h.node in
-    let i : Indexes (set heads (h.node.hash % length heads) (Some h.node.at)) (spots (h.before ++ x ∷ h.after)) = Indexes-put heads (spot x) (spots (h.before ++ h.after)) (spots (h.before ++ x ∷ h.after)) h.others l refl (PutsIn-spots h.before x h.after) in
-    let e : heads' ≡ set heads (h.node.hash % length heads) (Some h.node.at) = k.heads_is ∙ ap (λ (v : Ptr). set heads (h.node.hash % length heads) (Some v)) (sym h.at) in
+    let i : Indexes (set heads (h.node.hash % length heads) (Some h.node.at)) (spots (h.before ++ x ∷ h.after)) = Indexes-put heads (spot x) (spots (h.before ++ h.after)) (spots (h.before ++ x ∷ h.after)) lacks.others l refl (PutsIn-spots h.before x h.after) in
+    let e : heads' ≡ set heads (h.node.hash % length heads) (Some h.node.at) = k.heads_is ∙ ap (λ (v : Ptr). set heads (h.node.hash % length heads) (Some v)) (sym h.at_is) in
     subst (λ (v : List (Option Ptr)). Indexes v (spots nodes')) (sym e)
     (subst (λ (v : List (Held (K × V))). Indexes (set heads (h.node.hash % length heads) (Some h.node.at)) (spots v)) (sym k.nodes_is) i)
 

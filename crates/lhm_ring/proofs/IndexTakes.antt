@@ -76,16 +76,12 @@ take_first {K} {V} {heads} {hash} {nodes} {before} {p} link e h w l =
     let linked : IsChain (get_or heads bucket None) (w.here ∷ w.rest) = subst (λ (v : List Spot). IsChain (get_or heads bucket None) (v ++ w.here ∷ w.rest)) none w.linked in
     let holds : IsRearranged (w.here ∷ w.rest) (filter f (spots nodes)) = subst (λ (v : List Spot). IsRearranged (v ++ w.here ∷ w.rest) (filter f (spots nodes))) none w.holds in
     let o : OnNode n bucket w.done w.here w.rest nodes = on_node n bucket w.done w.here w.rest nodes w.holds in
-    let there : o.of.node.at ≡ p = ap (λ v. v.at) o.of.spot_is ∙ w.at_is in
-    let link_is : link ≡ w.here.link = l o.of.before o.of.node o.of.after o.of.is there ∙ ap (λ v. v.link) o.of.spot_is in
+    let held : IsHeld nodes p = held_of o.of w.at_is in
+    let link_is : link ≡ w.here.link = l held.before held.node held.after held.is held.at_is ∙ ap (λ v. v.link) o.of.split.at_is in
     let i : Indexes (set heads bucket w.here.link) o.ws = Indexes-take_first heads bucket w.here w.rest o.ws (spots nodes) h (mod-lt hash (on_some h w)) linked holds o.puts in
     record {
-      before = o.of.before;
-      node = o.of.node;
-      after = o.of.after;
-      is = o.of.is;
-      at = there;
-      others = subst (λ (v : Option Ptr). Indexes (set heads bucket v) (spots (o.of.before ++ o.of.after))) (sym link_is) (subst (λ (v : List Spot). Indexes (set heads bucket w.here.link) v) o.of.others i);
+      held = held;
+      others = subst (λ (v : Option Ptr). Indexes (set heads bucket v) (spots (held.before ++ held.after))) (sym link_is) (subst (λ (v : List Spot). Indexes (set heads bucket w.here.link) v) o.of.others i);
     }
 
 -- the same, with the heads and their count as the code has them
@@ -106,26 +102,19 @@ take_next {K} {V} {heads} {hash} {nodes} {before} {p} nodes' q link e h w l sets
     let linked : IsChain (get_or heads bucket None) (b.before ++ b.node ∷ w.here ∷ w.rest) = subst (λ (v : List Spot). IsChain (get_or heads bucket None) v) split w.linked in
     let holds : IsRearranged (b.before ++ b.node ∷ w.here ∷ w.rest) (filter f (spots nodes)) = subst (λ (v : List Spot). IsRearranged v (filter f (spots nodes))) split w.holds in
     let o : OnNode n bucket w.done w.here w.rest nodes = on_node n bucket w.done w.here w.rest nodes w.holds in
-    let there : o.of.node.at ≡ p = ap (λ v. v.at) o.of.spot_is ∙ w.at_is in
-    let link_is : link ≡ w.here.link = l o.of.before o.of.node o.of.after o.of.is there ∙ ap (λ v. v.link) o.of.spot_is in
+    let held : IsHeld nodes p = held_of o.of w.at_is in
+    let link_is : link ≡ w.here.link = l held.before held.node held.after held.is held.at_is ∙ ap (λ v. v.link) o.of.split.at_is in
     let y : OnNode n bucket b.before b.node (w.here ∷ w.rest) nodes = on_node n bucket b.before b.node (w.here ∷ w.rest) nodes holds in
-    let y_there : y.of.node.at ≡ q = ap (λ v. v.at) y.of.spot_is ∙ b.at_is in
-    let nodes_are : nodes' ≡ y.of.before ++ linked_to link y.of.node ∷ y.of.after = sets y.of.before y.of.node y.of.after y.of.is y_there in
-    let y' : Spot = spot (linked_to link y.of.node) in
+    let z : IsHeld nodes q = held_of y.of b.at_is in
+    let nodes_are : nodes' ≡ z.before ++ linked_to link z.node ∷ z.after = sets z.before z.node z.after z.is z.at_is in
+    let y' : Spot = spot (linked_to link z.node) in
     let put' : PutsIn y' y.ws (spots nodes') =
     subst (λ (v : List Spot). PutsIn y' v (spots nodes')) (sym y.of.others)
-    (subst (λ (v : List (Held (K × V))). PutsIn y' (spots (y.of.before ++ y.of.after)) (spots v)) (sym nodes_are) (PutsIn-spots y.of.before (linked_to link y.of.node) y.of.after)) in
+    (subst (λ (v : List (Held (K × V))). PutsIn y' (spots (z.before ++ z.after)) (spots v)) (sym nodes_are) (PutsIn-spots z.before (linked_to link z.node) z.after)) in
     let less : IsRearranged (b.before ++ w.here ∷ w.rest) (filter f y.ws) = IsRearranged-less b.node (b.before ++ w.here ∷ w.rest) (b.before ++ b.node ∷ w.here ∷ w.rest) (filter f y.ws) (filter f (spots nodes)) (PutsIn-middle b.before b.node (w.here ∷ w.rest)) (PutsIn-filter_in f b.node y.ws (spots nodes) y.puts y.passes) holds in
     let m : (ws : List Spot) × PutsIn w.here ws (filter f y.ws) = IsRearranged-member b.before w.here w.rest (filter f y.ws) less in
     let t : PutsPassing f w.here y.ws = PutsIn-unfilter f w.here m.0 y.ws m.1 in
     let s : (ws : List Spot) × PutsIn w.here ws (spots nodes') = PutsIn-later w.here y' t.without y.ws (spots nodes') t.puts put' in
     let of : NodeOf w.here s.0 nodes' = node_of_spot w.here s.0 nodes' s.1 in
-    let i : Indexes heads s.0 = Indexes-take_next heads bucket b.before b.node y' w.here w.rest y.ws (spots nodes) (spots nodes') s.0 h (mod-lt hash (on_some h w)) linked holds (ap (λ v. v.at) y.of.spot_is) (ap (λ v. v.hash) y.of.spot_is) link_is y.puts put' s.1 in
-    record {
-      before = of.before;
-      node = of.node;
-      after = of.after;
-      is = of.is;
-      at = ap (λ v. v.at) of.spot_is ∙ w.at_is;
-      others = subst (λ (v : List Spot). Indexes heads v) of.others i;
-    }
+    let i : Indexes heads s.0 = Indexes-take_next heads bucket b.before b.node y' w.here w.rest y.ws (spots nodes) (spots nodes') s.0 h (mod-lt hash (on_some h w)) linked holds (ap (λ v. v.at) y.of.split.at_is) (ap (λ v. v.hash) y.of.split.at_is) link_is y.puts put' s.1 in
+    record { held = held_of of w.at_is; others = subst (λ (v : List Spot). Indexes heads v) of.others i }

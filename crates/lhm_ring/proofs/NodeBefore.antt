@@ -163,7 +163,8 @@ towards_held {K} {V} {heads} {hash} {nodes} {cut} w =
 rest_on : {K V : Type 0} {heads : List (Option Ptr)} {hash : ℕ} {nodes cut : List (Held (K × V))} {p : Ptr} {link before : Option Ptr} {here : Ptr} {passed : ℕ} (read : Option Ptr) (w : IsTowards heads hash nodes cut p link before here passed) → OfNodeAt cut here (λ x. read ≡ x.link) → IsChain read w.todo
 rest_on {K} {V} {heads} {hash} {nodes} {cut} {p} {link} {before} {here} read w r =
     let o : OnNode (length heads) (hash % length heads) w.done w.node (w.todo ++ w.vs) cut = here_on w in
-    let e : read ≡ w.node.link = r o.of.before o.of.node o.of.after o.of.is (ap (λ v. v.at) o.of.spot_is ∙ w.at_is) ∙ ap (λ v. v.link) o.of.spot_is in
+    let k : IsHeld cut here = held_of o.of w.at_is in
+    let e : read ≡ w.node.link = r k.before k.node k.after k.is k.at_is ∙ ap (λ v. v.link) o.of.split.at_is in
     let head : Option Ptr = get_or heads (hash % length heads) None in
     let c : IsChain head (w.us ++ spot (linked_to None w.x) ∷ []) = cut_chain head w.us (spot w.x) (spot (linked_to None w.x)) w.vs refl refl w.linked in
     let d : IsChain head (w.done ++ w.node ∷ w.todo) = subst (λ (v : List Spot). IsChain head v) w.whole c in

@@ -269,19 +269,21 @@ module _ {K V : Type 0} {heads : List (Option Ptr)} {words : List ℕ} {s : Stat
   module _ {chains : List (Option Ptr)} {t w : State (K × V)} {p : Ptr} (same : entries t.held ≡ entries s.held) (spares : t.spares ≡ s.spares) (made : t.nodes ≡ s.nodes) (lacks : HoldsOthers chains t.held p) (others : AtHeld t.held p (λ xs x ys. w.held ≡ xs ++ ys)) (more : w.spares ≡ t.spares + 1) (stay : w.nodes ≡ t.nodes) where
     pub all_nodes : length s.held + s.spares ≡ length w.held + w.spares
     all_nodes =
-        let out = ap length (others lacks.before lacks.node lacks.after lacks.is lacks.at) in
-        let of_rest = length-append lacks.before lacks.after in
-        let of_held = ap length lacks.is in
-        let of_all = length-append lacks.before (lacks.node ∷ lacks.after) in
+        let h = lacks.held in
+        let out = ap length (others h.before h.node h.after h.is h.at_is) in
+        let of_rest = length-append h.before h.after in
+        let of_held = ap length h.is in
+        let of_all = length-append h.before (h.node ∷ h.after) in
         let long = length-same_entries t.held s.held same in
         omega (arith, out, of_rest, of_held, of_all, long, spares, more)
 
     pub IsTable-removed : length chains ≡ length heads → IsTable chains words w r
     IsTable-removed count =
-        let out = others lacks.before lacks.node lacks.after lacks.is lacks.at in
+        let h = lacks.held in
+        let out = others h.before h.node h.after h.is h.at_is in
         let all = all_nodes in
         let kept : IsFilter words chains t.held = IsFilter-entries chains s.held t.held same count table.filtered in
-        let rest = IsFilter-removed lacks.before lacks.node lacks.after (subst (λ (hs : List (Held (K × V))). IsFilter words chains hs) lacks.is kept) in
+        let rest = IsFilter-removed h.before h.node h.after (subst (λ (hs : List (Held (K × V))). IsFilter words chains hs) h.is kept) in
         record {
           filtered = subst (λ (hs : List (Held (K × V))). IsFilter words chains hs) (sym out) rest;
           indexed = record { chains = subst (λ (hs : List (Held (K × V))). Indexes chains (spots hs)) (sym out) lacks.others; count = count ∙ table.indexed.count ∙ ap buckets all };

@@ -96,12 +96,8 @@ pub record IsPart {K V : Type 0} (eq : K → K → Bool) (hash : ℕ) (key : K)
 -- the index holds every node except the one at p
 pub record HoldsOthers {K V : Type 0} (heads : List (Option Ptr)) (nodes : List (Held (K × V)))
     (p : Ptr) : Type 0 where
-  pub before : List (Held (K × V))
-  pub node : Held (K × V)
-  pub after : List (Held (K × V))
-  pub is : nodes ≡ before ++ node ∷ after
-  pub at : node.at ≡ p
-  pub others : Indexes heads (spots (before ++ after))
+  pub held : IsHeld nodes p
+  pub others : Indexes heads (spots (held.before ++ held.after))
 
 -- b is the bucket of the hash, and has no chain
 pub record IsEmptied (heads : List (Option Ptr)) (hash b : ℕ) : Type 0 where
