@@ -4,14 +4,14 @@ use Rattle.std.specs.List.{AllByRecursion}
 use denote.RawPtr.{Ptr, null_ptr}
 use Rattle.lhm_ring.specs.declared.links.Links.{Links}
 use Rattle.lhm_ring.specs.Cells.{Cell, cell, same_ptr, links_of, body_of, links_at, body_at, IsApart, with_links, with_body}
-use Rattle.lhm_ring.specs.Rings.{relinked, next_of, prev_of, link_of, has_links, next_at, prev_at, link_at, is_there, content_of, content_at, Linked, Chained, HasContent, IsRing, follow, listed, one_of, ring_pointers, ring_list, RingOk}
+use Rattle.lhm_ring.specs.Rings.{relinked, next_of, prev_of, link_of, has_links, next_at, prev_at, link_at, is_there, content_of, content_at, Linked, Chained, HasContent, IsRing, follow, listed, one_of, ring_list, RingOk}
 use Rattle.lhm_ring.specs.RingState.{State, state, Held, held, IsHeld, ChangesOnly, change_at}
 use Rattle.lhm_ring.specs.Splits.{SplitAround}
 use Rattle.lhm_ring.specs.Targets.{target}
 use Rattle.lhm_ring.specs.declared.link.Link.{Link}
 use Rattle.lhm_ring.proofs.Apart.{IsFresh, same_ptr_eq, same_ptr_refl, same_ptr_symm}
 use Rattle.lhm_ring.proofs.Writes.{at_other, length-change, read_kept, links_set, body_kept}
-use Rattle.lhm_ring.proofs.Rows.{all_from, all_right, content_pointer, apart_at, apart_head, apart_left, apart_tail, follow_row}
+use Rattle.lhm_ring.proofs.Rows.{all_from, all_right, content_pointer, apart_at, apart_head, apart_left, apart_tail}
 use Rattle.lhm_ring.proofs.RingNodes.{ring_listed, node-listed}
 use Rattle.lhm_ring.proofs.Splicing.{next_relinked, prev_relinked, link_relinked, hash_relinked}
 use Rattle.lhm_ring.proofs.OneNodeChanged.{links_kept, body_set, content_hash, content_link, content_pair, content_holds}
@@ -58,29 +58,18 @@ module _ {B : Type 0} (cs ds : List (Cell Links B)) (p : Ptr) (t u : Held B) (j 
     count = j.count ∙ r.count;
   }
 
-  -- where p stands in the ring
-  split_at : (spare : Link) (n m : ℕ) → RingOk cs spare n m → IsHeld (ring_list cs n) p → SplitAround (ring_pointers cs n) p
-  split_at spare n m ok h =
-      let f = node-listed cs spare n m ok h.before h.node h.after h.is in let s = f.pointer in
-      record {
-        before = s.before;
-        after = s.after;
-        is = ap (λ k. follow cs k null_ptr) (sym s.held_count) ∙ follow_row cs null_ptr (s.before ++ h.node.at ∷ s.after) null_ptr s.ring.linked ∙ ap (λ q. s.before ++ q ∷ s.after) h.at_is;
-      }
-
-  free_of : (spare : Link) (n m : ℕ) (ok : RingOk cs spare n m) (us vs : List Ptr) → follow cs n null_ptr ≡ us ++ p ∷ vs → IsFresh p ok.spare_pointers
-  free_of spare n m ok us vs e =
-      let is : ok.held_pointers ≡ us ++ p ∷ vs = sym (ap (λ k. follow cs k null_ptr) (sym ok.held_count) ∙ follow_row cs null_ptr ok.held_pointers null_ptr ok.ring.linked) ∙ e in
-      let d : IsApart ((null_ptr ∷ us) ++ p ∷ (vs ++ ok.spare_pointers)) = subst (λ qs. IsApart (null_ptr ∷ qs)) (ap (λ qs. qs ++ ok.spare_pointers) is ∙ append_assoc us (p ∷ vs) ok.spare_pointers) ok.ring.apart in
-      all_right (λ q. same_ptr p q ≡ false) vs ok.spare_pointers (all_right (λ q. same_ptr p q ≡ false) (null_ptr ∷ us) (vs ++ ok.spare_pointers) (apart_at (null_ptr ∷ us) p (vs ++ ok.spare_pointers) d))
+  free_of : (spare : Link) (n m : ℕ) (ok : RingOk cs spare n m) → SplitAround ok.held_pointers p → IsFresh p ok.spare_pointers
+  free_of spare n m ok s =
+      let d : IsApart ((null_ptr ∷ s.before) ++ p ∷ (s.after ++ ok.spare_pointers)) = subst (λ qs. IsApart (null_ptr ∷ qs)) (ap (λ qs. qs ++ ok.spare_pointers) s.is ∙ append_assoc s.before (p ∷ s.after) ok.spare_pointers) ok.ring.apart in
+      all_right (λ q. same_ptr p q ≡ false) s.after ok.spare_pointers (all_right (λ q. same_ptr p q ≡ false) (null_ptr ∷ s.before) (s.after ++ ok.spare_pointers) (apart_at (null_ptr ∷ s.before) p (s.after ++ ok.spare_pointers) d))
 
   pub ring_ok_same : (spare : Link) (n m : ℕ) → RingOk cs spare n m → IsHeld (ring_list cs n) p → RingOk ds spare n m
   ring_ok_same spare n m ok h =
-      let s = split_at spare n m ok h in
+      let s = (node-listed cs spare n m ok p h.before h.node h.after h.is h.at_is).split in
       record {
         held_pointers = ok.held_pointers;
         spare_pointers = ok.spare_pointers;
-        ring = ring_same ok.held_pointers (target spare) ok.spare_pointers (free_of spare n m ok s.before s.after s.is) ok.ring;
+        ring = ring_same ok.held_pointers (target spare) ok.spare_pointers (free_of spare n m ok s) ok.ring;
         held_count = ok.held_count;
         enough_spares = ok.enough_spares;
         bounded = ok.bounded;

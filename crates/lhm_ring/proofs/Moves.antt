@@ -6,11 +6,12 @@ use Rattle.lhm_ring.specs.declared.links.Links.{Links}
 use Rattle.lhm_ring.specs.Cells.{Cell, IsApart, links_at}
 use Rattle.lhm_ring.specs.Rings.{next_of, prev_of, next_at, prev_at, is_there, content_at, Linked, Chained, HasContent, IsRing, listed, one_of, IsJoined, ring_list, RingOk}
 use Rattle.lhm_ring.specs.RingState.{state, Held, State, IsHeld, AtHeld}
+use Rattle.lhm_ring.specs.Splits.{SplitAround}
 use Rattle.lhm_ring.specs.Targets.{target}
 use Rattle.lhm_ring.specs.declared.link.Link.{Link}
 use Rattle.lhm_ring.proofs.Apart.{IsFresh}
 use Rattle.lhm_ring.proofs.Rows.{all_both, all_left, all_right, all_swap, all_last, apart_left, apart_at, apart_out, apart_in, cut_row, chain_kept, held_kept, there_kept, listed_kept, listed-append, out_of_row, into_row}
-use Rattle.lhm_ring.proofs.RingNodes.{NodeAt, found_in, node_in, ring_listed, node_at}
+use Rattle.lhm_ring.proofs.RingNodes.{found_in, node_in, ring_listed, ring_split}
 
 module _ {B : Type 0} where
   pub listed_one : (cs : List (Cell Links B)) (p : Ptr) (t : Held B) → content_at cs p ≡ Some t → listed cs (p ∷ []) ≡ t ∷ []
@@ -102,36 +103,34 @@ module _ {B : Type 0} (cs : List (Cell Links B)) (spare : Link) (n m : ℕ) (v :
 
   pub moving_there : IsHeld v.held p → (is_there ds (prev_at ds null_ptr) ≡ true) × (is_there ds p ≡ true)
   moving_there h =
-      let s = node_in cs spare n m v p ok w h in
-      (last_there cs (target spare) s.others s.before p s.after s.ring ds j', j'.there p ∙ p_there cs (target spare) s.others s.before p s.after s.ring)
+      let s = node_in cs spare n m v p ok w h in let r = ring_split ok.ring s in
+      (last_there cs (target spare) ok.spare_pointers s.before p s.after r ds j', j'.there p ∙ p_there cs (target spare) ok.spare_pointers s.before p s.after r)
 
   module _ (es fs : List (Cell Links B)) (k : IsJoined ds es (prev_at ds null_ptr) p) (l : IsJoined es fs p null_ptr) where
-    moved_to : (s : NodeAt cs spare n m p) → IsRing fs ((s.before ++ s.after) ++ p ∷ []) (target spare) s.others
-    moved_to s = IsRing-to_back cs (target spare) s.others s.before p s.after s.ring ds j' es fs k l
+    moved_to : (s : SplitAround ok.held_pointers p) → IsRing fs ((s.before ++ s.after) ++ p ∷ []) (target spare) ok.spare_pointers
+    moved_to s = IsRing-to_back cs (target spare) ok.spare_pointers s.before p s.after (ring_split ok.ring s) ds j' es fs k l
 
-    long_to : (s : NodeAt cs spare n m p) → length ((s.before ++ s.after) ++ p ∷ []) ≡ n
-    long_to s = sym (length-to_back cs (target spare) s.others s.before p s.after s.ring ds j' es fs k l) ∙ s.held_count
+    long_to : (s : SplitAround ok.held_pointers p) → length ((s.before ++ s.after) ++ p ∷ []) ≡ n
+    long_to s = sym (ap length s.is ∙ length-to_back cs (target spare) ok.spare_pointers s.before p s.after (ring_split ok.ring s) ds j' es fs k l) ∙ ok.held_count
 
     pub moved_ring : IsHeld v.held p → RingOk fs spare n m
     moved_ring h =
         let s = node_in cs spare n m v p ok w h in
         record {
           held_pointers = (s.before ++ s.after) ++ p ∷ [];
-          spare_pointers = s.others;
+          spare_pointers = ok.spare_pointers;
           ring = moved_to s;
           held_count = long_to s;
-          enough_spares = s.enough_spares;
-          bounded = s.bounded;
+          enough_spares = ok.enough_spares;
+          bounded = ok.bounded;
         }
 
-    list_at : (t : Held B) → content_at cs p ≡ Some t → (s : NodeAt cs spare n m p) → ring_list fs n ≡ (listed cs s.before ++ listed cs s.after) ++ t ∷ []
+    list_at : (t : Held B) → content_at cs p ≡ Some t → (s : SplitAround ok.held_pointers p) → ring_list fs n ≡ (listed cs s.before ++ listed cs s.after) ++ t ∷ []
     list_at t here s =
-        ring_listed fs ((s.before ++ s.after) ++ p ∷ []) (target spare) s.others n (moved_to s) (long_to s) ∙ listed-to_back cs (target spare) s.others s.before p s.after s.ring ds j' es fs k l t here
+        ring_listed fs ((s.before ++ s.after) ++ p ∷ []) (target spare) ok.spare_pointers n (moved_to s) (long_to s) ∙ listed-to_back cs (target spare) ok.spare_pointers s.before p s.after (ring_split ok.ring s) ds j' es fs k l t here
 
     pub moved_list : AtHeld v.held p (λ xs t ys. state (ring_list fs n) m total ≡ state ((xs ++ ys) ++ t ∷ []) v.spares v.nodes)
     moved_list xs t ys h at =
-        let f = found_in cs spare n m v ok w xs t ys h in
-        let here : content_at cs p ≡ Some t = ap (content_at cs) (sym at) ∙ f.here in
-        let b = node_at p f at in
-        let q : ring_list fs n ≡ (xs ++ ys) ++ t ∷ [] = list_at t here b.node ∙ (λ i. (b.listed_before i ++ b.listed_after i) ++ t ∷ []) in
+        let b = found_in cs spare n m v p ok w xs t ys h at in
+        let q : ring_list fs n ≡ (xs ++ ys) ++ t ∷ [] = list_at t b.here b.split ∙ (λ i. (b.listed_before i ++ b.listed_after i) ++ t ∷ []) in
         λ i. state (q i) (ap (λ (z : State B). z.spares) w i) (ap (λ (z : State B). z.nodes) w i)

@@ -9,7 +9,7 @@ use Rattle.lhm_ring.specs.Targets.{led_to, target}
 use Rattle.lhm_ring.specs.declared.link.Link.{Link}
 use Rattle.lhm_ring.proofs.Apart.{IsFresh}
 use Rattle.lhm_ring.proofs.Rows.{all_left, all_right, apart_head, RowCut, cut_row, glue_row}
-use Rattle.lhm_ring.proofs.RingNodes.{found_in, node_at}
+use Rattle.lhm_ring.proofs.RingNodes.{found_in, ring_split}
 use Rattle.lhm_ring.proofs.FirstAndLast.{first_led, last_led}
 
 module _ {B : Type 0} (cs : List (Cell Links B)) (spare : Option Ptr) (ss us : List Ptr) (p : Ptr) (vs : List Ptr) (r : IsRing cs (us ++ p ∷ vs) spare ss) where
@@ -28,10 +28,10 @@ module _ {B : Type 0} (cs : List (Cell Links B)) (spare : Option Ptr) (ss us : L
 module _ {B : Type 0} (cs : List (Cell Links B)) (spare : Link) (n m : ℕ) (v : State B) (ok : RingOk cs spare n m) {total : ℕ} (w : state (ring_list cs n) m total ≡ v) (p : Ptr) (l : Links) (el : links_at cs p ≡ Some l) where
   pub next_at_is : AtHeld v.held p (λ xs t ys. led_to l.next.ptr ≡ first_at ys)
   next_at_is xs t ys h at =
-      let q = node_at p (found_in cs spare n m v ok w xs t ys h) at in let s = q.node in
-      sym (ap first_at (sym q.listed_after) ∙ next_is cs (target spare) s.others s.before p s.after s.ring ∙ ap (λ o. led_to (next_of o)) el)
+      let q = found_in cs spare n m v p ok w xs t ys h at in let s = q.split in
+      sym (ap first_at (sym q.listed_after) ∙ next_is cs (target spare) ok.spare_pointers s.before p s.after (ring_split ok.ring s) ∙ ap (λ o. led_to (next_of o)) el)
 
   pub previous_at_is : AtHeld v.held p (λ xs t ys. led_to l.prev.ptr ≡ last_at xs)
   previous_at_is xs t ys h at =
-      let q = node_at p (found_in cs spare n m v ok w xs t ys h) at in let s = q.node in
-      sym (ap last_at (sym q.listed_before) ∙ previous_is cs (target spare) s.others s.before p s.after s.ring ∙ ap (λ o. led_to (prev_of o)) el)
+      let q = found_in cs spare n m v p ok w xs t ys h at in let s = q.split in
+      sym (ap last_at (sym q.listed_before) ∙ previous_is cs (target spare) ok.spare_pointers s.before p s.after (ring_split ok.ring s) ∙ ap (λ o. led_to (prev_of o)) el)

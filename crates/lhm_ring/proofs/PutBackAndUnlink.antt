@@ -7,13 +7,14 @@ use Rattle.lhm_ring.specs.declared.links.Links.{Links}
 use Rattle.lhm_ring.specs.Cells.{Cell, links_at, body_at, IsAt, Holds, with_links, with_body}
 use Rattle.lhm_ring.specs.Rings.{relinked, Relinks, next_of, prev_of, link_of, next_at, prev_at, link_at, is_there, content_of, content_at, Chained, IsRing, listed, IsJoined, ring_list, RingOk}
 use Rattle.lhm_ring.specs.RingState.{State, state, held, IsHeld, AtHeld}
+use Rattle.lhm_ring.specs.Splits.{SplitAround}
 use Rattle.lhm_ring.specs.Targets.{target}
 use Rattle.lhm_ring.specs.declared.link.Link.{Link}
 use Rattle.lhm_ring.proofs.Apart.{same_ptr_refl}
 use Rattle.lhm_ring.proofs.Options.{some_same}
 use Rattle.lhm_ring.proofs.Writes.{links_set, is_at}
 use Rattle.lhm_ring.proofs.Rows.{all_left, all_last, all_right, cut_row}
-use Rattle.lhm_ring.proofs.RingNodes.{NodeAt, found_in, node_in, node_at, ring_listed}
+use Rattle.lhm_ring.proofs.RingNodes.{found_in, node_in, ring_listed, ring_split}
 use Rattle.lhm_ring.proofs.Moves.{Linked-joined, p_there}
 use Rattle.lhm_ring.proofs.OneNodeChanged.{OnlyAt, links_kept, body_set, only_links, only_body, only_both, content_hash, content_pair, content_holds, IsRing-put_back, listed-put_back, IsRing-unlinked, listed-unlinked}
 
@@ -115,16 +116,15 @@ module _ {B : Type 0} (cs : List (Cell Links B)) (spare : Link) (n m : ℕ) (v :
 
   pub taken_holds : IsHeld v.held at.ptr → Holds ds at.ptr
   taken_holds h =
-      let f = found_in cs spare n m v ok w h.before h.node h.after h.is in
-      let c : content_at ds at.ptr ≡ Some h.node = j.content at.ptr ∙ ap (content_at cs) (sym h.at_is) ∙ f.here in
+      let c : content_at ds at.ptr ≡ Some h.node = j.content at.ptr ∙ (found_in cs spare n m v at.ptr ok w h.before h.node h.after h.is h.at_is).here in
       content_holds at.ptr (links_at ds at.ptr) (body_at ds at.ptr) h.node c
 
   pub some_held : IsHeld v.held at.ptr → 1 ≤ n
-  some_held h = let s = node_in cs spare n m v at.ptr ok w h in let a = s.held_count in let b = length-append s.before (at.ptr ∷ s.after) in omega arith
+  some_held h = let s = node_in cs spare n m v at.ptr ok w h in let a = sym (ap length s.is) ∙ ok.held_count in let b = length-append s.before (at.ptr ∷ s.after) in omega arith
 
   module _ (x : B) (ex : body_at ds at.ptr ≡ Some x) (c₁ c₂ : List (Cell Links B)) (e₁ : c₁ ≡ with_body at.ptr None ds) where
     there : IsHeld v.held at.ptr → IsAt ds at.ptr
-    there h = let s = node_in cs spare n m v at.ptr ok w h in is_at ds at.ptr (j.there at.ptr ∙ p_there cs (target spare) s.others s.before at.ptr s.after s.ring)
+    there h = let s = node_in cs spare n m v at.ptr ok w h in is_at ds at.ptr (j.there at.ptr ∙ p_there cs (target spare) ok.spare_pointers s.before at.ptr s.after (ring_split ok.ring s))
 
     pub taken_at : IsHeld v.held at.ptr → IsAt c₁ at.ptr
     taken_at h = let a = there h in (a.0, ap (λ z. links_at z at.ptr) e₁ ∙ links_kept at.ptr None ds a.0 a.1 at.ptr ∙ a.1)
@@ -141,19 +141,21 @@ module _ {B : Type 0} (cs : List (Cell Links B)) (spare : Link) (n m : ℕ) (v :
       spare₂ : IsHeld v.held at.ptr → link_at c₂ at.ptr ≡ target spare
       spare₂ h = let b = taken_at h in ap (λ z. link_of (links_at z at.ptr)) (e₂ h) ∙ ap link_of (here_set at.ptr (relinked spare b.0) c₁ b.0 b.1)
 
-      left : IsHeld v.held at.ptr → (s : NodeAt cs spare n m at.ptr) → IsRing c₂ (s.before ++ s.after) (Some at.ptr) (at.ptr ∷ s.others)
-      left h s = IsRing-unlinked cs ds c₂ (target spare) s.others s.before at.ptr s.after s.ring _ _ j₂ (Linked-joined cs (target spare) s.others s.before at.ptr s.after s.ring ds j₂) (only₂ h) (spare₂ h)
+      left : IsHeld v.held at.ptr → (s : SplitAround ok.held_pointers at.ptr) → IsRing c₂ (s.before ++ s.after) (Some at.ptr) (at.ptr ∷ ok.spare_pointers)
+      left h s =
+          let r = ring_split ok.ring s in
+          IsRing-unlinked cs ds c₂ (target spare) ok.spare_pointers s.before at.ptr s.after r _ _ j₂ (Linked-joined cs (target spare) ok.spare_pointers s.before at.ptr s.after r ds j₂) (only₂ h) (spare₂ h)
 
-      shorter : (s : NodeAt cs spare n m at.ptr) → length (s.before ++ s.after) ≡ n - 1
-      shorter s = let a = s.held_count in omega (arith, length-append s.before (at.ptr ∷ s.after), length-append s.before s.after)
+      shorter : (s : SplitAround ok.held_pointers at.ptr) → length (s.before ++ s.after) ≡ n - 1
+      shorter s = let a = sym (ap length s.is) ∙ ok.held_count in omega (arith, length-append s.before (at.ptr ∷ s.after), length-append s.before s.after)
 
       pub taken_ring : (top : Link) → target top ≡ Some at.ptr → IsHeld v.held at.ptr → RingOk c₂ top (n - 1) (m + 1)
       taken_ring top et h =
-          let s = node_in cs spare n m v at.ptr ok w h in let a = s.enough_spares in let b = s.bounded in let some : 1 ≤ n = some_held h in
+          let s = node_in cs spare n m v at.ptr ok w h in let a = ok.enough_spares in let b = ok.bounded in let some : 1 ≤ n = some_held h in
           record {
             held_pointers = s.before ++ s.after;
-            spare_pointers = at.ptr ∷ s.others;
-            ring = subst (λ z. IsRing c₂ (s.before ++ s.after) z (at.ptr ∷ s.others)) (sym et) (left h s);
+            spare_pointers = at.ptr ∷ ok.spare_pointers;
+            ring = subst (λ z. IsRing c₂ (s.before ++ s.after) z (at.ptr ∷ ok.spare_pointers)) (sym et) (left h s);
             held_count = shorter s;
             enough_spares = omega arith;
             bounded = omega arith;
@@ -161,13 +163,12 @@ module _ {B : Type 0} (cs : List (Cell Links B)) (spare : Link) (n m : ℕ) (v :
 
       pub taken_list : AtHeld v.held at.ptr (λ xs t ys. record { left : state (ring_list c₂ (n - 1)) (m + 1) total ≡ state (xs ++ ys) (v.spares + 1) v.nodes; hash : la.hash ≡ t.hash; pair : x ≡ t.pair })
       taken_list xs t ys k here =
-          let f = found_in cs spare n m v ok w xs t ys k in let h : IsHeld v.held at.ptr = record { before = xs; node = t; after = ys; is = k; at_is = here } in
-          let c : content_at cs at.ptr ≡ Some t = ap (content_at cs) (sym here) ∙ f.here in
-          let q = node_at at.ptr f here in let s = q.node in
+          let h : IsHeld v.held at.ptr = record { before = xs; node = t; after = ys; is = k; at_is = here } in
+          let q = found_in cs spare n m v at.ptr ok w xs t ys k here in let s = q.split in let r = ring_split ok.ring s in
           let list : ring_list c₂ (n - 1) ≡ xs ++ ys =
-          ring_listed c₂ (s.before ++ s.after) (Some at.ptr) (at.ptr ∷ s.others) (n - 1) (left h s) (shorter s)
-          ∙ listed-unlinked cs ds c₂ (target spare) s.others s.before at.ptr s.after s.ring _ _ j₂ (Linked-joined cs (target spare) s.others s.before at.ptr s.after s.ring ds j₂) (only₂ h) (spare₂ h)
+          ring_listed c₂ (s.before ++ s.after) (Some at.ptr) (at.ptr ∷ ok.spare_pointers) (n - 1) (left h s) (shorter s)
+          ∙ listed-unlinked cs ds c₂ (target spare) ok.spare_pointers s.before at.ptr s.after r _ _ j₂ (Linked-joined cs (target spare) ok.spare_pointers s.before at.ptr s.after r ds j₂) (only₂ h) (spare₂ h)
           ∙ (λ i. q.listed_before i ++ q.listed_after i) in
-          let hash : t.hash ≡ la.hash = content_hash at.ptr la (body_at cs at.ptr) t (ap (λ o. content_of at.ptr o (body_at cs at.ptr)) (sym ea) ∙ c) in
-          let pair : t.pair ≡ x = content_pair at.ptr (links_at ds at.ptr) x t (ap (λ b. content_of at.ptr (links_at ds at.ptr) b) (sym ex) ∙ j.content at.ptr ∙ c) in
+          let hash : t.hash ≡ la.hash = content_hash at.ptr la (body_at cs at.ptr) t (ap (λ o. content_of at.ptr o (body_at cs at.ptr)) (sym ea) ∙ q.here) in
+          let pair : t.pair ≡ x = content_pair at.ptr (links_at ds at.ptr) x t (ap (λ b. content_of at.ptr (links_at ds at.ptr) b) (sym ex) ∙ j.content at.ptr ∙ q.here) in
           record { left = λ i. state (list i) (ap (λ (z : State B). z.spares) w i + 1) (ap (λ (z : State B). z.nodes) w i); hash = sym hash; pair = sym pair }

@@ -6,18 +6,13 @@ use Rattle.lhm_ring.specs.Cells.{Cell, links_at, body_at, IsAt, Holds}
 use Rattle.lhm_ring.specs.Rings.{link_of, content_of, content_at, ring_list, RingOk}
 use Rattle.lhm_ring.specs.RingState.{State, state, Held, IsHeld}
 use Rattle.lhm_ring.specs.declared.link.Link.{Link}
-use Rattle.lhm_ring.proofs.RingNodes.{node-listed}
+use Rattle.lhm_ring.proofs.RingNodes.{found_in}
 use Rattle.lhm_ring.proofs.OneNodeChanged.{content_hash, content_link, content_pair, content_holds}
 use Rattle.lhm_ring.proofs.Writes.{content_links}
 
-module _ {B : Type 0} where
-  pub held_content : (cs : List (Cell Links B)) (spare : Link) (n m : ℕ) (v : State B) {total : ℕ} → RingOk cs spare n m → state (ring_list cs n) m total ≡ v
-      → (xs : List (Held B)) (t : Held B) (ys : List (Held B)) → v.held ≡ xs ++ t ∷ ys → content_at cs t.at ≡ Some t
-  held_content cs spare n m v ok w xs t ys e = (node-listed cs spare n m ok xs t ys (ap (λ (z : State B). z.held) w ∙ e)).here
-
 module _ {B : Type 0} (cs : List (Cell Links B)) (spare : Link) (n m : ℕ) (v : State B) (ok : RingOk cs spare n m) {total : ℕ} (w : state (ring_list cs n) m total ≡ v) (p : Ptr) where
   pub content_at-held : (xs : List (Held B)) (t : Held B) (ys : List (Held B)) → v.held ≡ xs ++ t ∷ ys → t.at ≡ p → content_at cs p ≡ Some t
-  content_at-held xs t ys e at = ap (content_at cs) (sym at) ∙ held_content cs spare n m v ok w xs t ys e
+  content_at-held xs t ys e at = (found_in cs spare n m v p ok w xs t ys e at).here
 
   pub held_in : IsHeld v.held p → IsHeld (ring_list cs n) p
   held_in h = subst (λ hs. IsHeld hs p) (sym (ap (λ (z : State B). z.held) w)) h

@@ -1,14 +1,15 @@
 -- The nodes of a ring, and what it lists.
-use Rattle.std.proofs.Common.{◌≡◌, ℕ, suc, ◌+◌, ◌≤◌, ◌^◌, List, [], ◌∷◌, ◌++◌, length, Option, Some, refl, sym, ap, ◌∙◌, subst, arith}
+use Rattle.std.proofs.Common.{◌≡◌, ℕ, suc, ◌+◌, ◌≤◌, ◌^◌, List, [], ◌∷◌, ◌++◌, length, Option, refl, sym, ap, ◌∙◌, subst, arith}
 use Rattle.std.specs.List.{AllByRecursion}
 use denote.RawPtr.{Ptr, null_ptr}
 use Rattle.lhm_ring.specs.declared.links.Links.{Links}
 use Rattle.lhm_ring.specs.Cells.{Cell}
-use Rattle.lhm_ring.specs.Rings.{content_at, HasContent, IsRing, follow, listed, one_of, ring_list, RingOk}
-use Rattle.lhm_ring.specs.RingState.{state, Held, State, IsHeld}
+use Rattle.lhm_ring.specs.Rings.{HasContent, IsRing, follow, listed, one_of, ring_list, RingOk}
+use Rattle.lhm_ring.specs.RingState.{state, State, IsHeld, AtHeld}
+use Rattle.lhm_ring.specs.Splits.{SplitAround}
 use Rattle.lhm_ring.specs.Targets.{target}
 use Rattle.lhm_ring.specs.declared.link.Link.{Link}
-use Rattle.lhm_ring.proofs.Rows.{follow_row, cut_listed}
+use Rattle.lhm_ring.proofs.Rows.{CutAt, follow_row, cut_listed}
 
 -- what a ring lists
 module _ {B : Type 0} where
@@ -19,50 +20,21 @@ module _ {B : Type 0} where
   unfolding follow listed
   nothing_listed cs n e = ap (ring_list cs) e
 
--- a held node at p, with those before it and after it
-pub record NodeAt {B : Type 0} (cs : List (Cell Links B)) (spare : Link) (n m : ℕ) (p : Ptr) : Type 0 where
-  pub before : List Ptr
-  pub after : List Ptr
-  pub others : List Ptr
-  pub ring : IsRing cs (before ++ p ∷ after) (target spare) others
-  pub held_count : length (before ++ p ∷ after) ≡ n
-  pub enough_spares : m ≤ length others
-  pub bounded : n + m ≤ 2 ^ 59
-
+-- the held nodes of a ring, split at p
 module _ {B : Type 0} where
-  pub record Found (cs : List (Cell Links B)) (spare : Link) (n m : ℕ) (xs : List (Held B)) (t : Held B) (ys : List (Held B)) : Type 0 where
-    pub pointer : NodeAt cs spare n m t.at
-    pub here : content_at cs t.at ≡ Some t
-    pub listed_before : listed cs pointer.before ≡ xs
-    pub listed_after : listed cs pointer.after ≡ ys
+  pub ring_split : {cs : List (Cell Links B)} {ps : List Ptr} {spare : Option Ptr} {ss : List Ptr} {p : Ptr} → IsRing cs ps spare ss → (s : SplitAround ps p) → IsRing cs (s.before ++ p ∷ s.after) spare ss
+  ring_split {cs} {ps} {spare} {ss} r s = subst (λ qs. IsRing cs qs spare ss) s.is r
 
-  pub node-listed : (cs : List (Cell Links B)) (spare : Link) (n m : ℕ) → RingOk cs spare n m → (xs : List (Held B)) (t : Held B) (ys : List (Held B))
-      → ring_list cs n ≡ xs ++ t ∷ ys → Found cs spare n m xs t ys
-  node-listed cs spare n m ok xs t ys e =
-      let k = cut_listed cs ok.held_pointers ok.ring.held xs t ys (sym (ring_listed cs ok.held_pointers (target spare) ok.spare_pointers n ok.ring ok.held_count) ∙ e) in
-      record {
-        pointer = record {
-          before = k.before;
-          after = k.after;
-          others = ok.spare_pointers;
-          ring = subst (λ qs. IsRing cs qs (target spare) ok.spare_pointers) k.is ok.ring;
-          held_count = sym (ap length k.is) ∙ ok.held_count;
-          enough_spares = ok.enough_spares;
-          bounded = ok.bounded;
-        };
-        here = k.here;
-        listed_before = k.listed_before;
-        listed_after = k.listed_after;
-      }
+  pub node-listed : (cs : List (Cell Links B)) (spare : Link) (n m : ℕ) (ok : RingOk cs spare n m) (p : Ptr) → AtHeld (ring_list cs n) p (λ xs t ys. CutAt cs ok.held_pointers xs t ys p)
+  node-listed cs spare n m ok p xs t ys e at =
+      subst (CutAt cs ok.held_pointers xs t ys) at
+      (cut_listed cs ok.held_pointers ok.ring.held xs t ys (sym (ring_listed cs ok.held_pointers (target spare) ok.spare_pointers n ok.ring ok.held_count) ∙ e))
 
-  pub found_in : (cs : List (Cell Links B)) (spare : Link) (n m : ℕ) (v : State B) {total : ℕ} → RingOk cs spare n m → state (ring_list cs n) m total ≡ v
-      → (xs : List (Held B)) (t : Held B) (ys : List (Held B)) → v.held ≡ xs ++ t ∷ ys → Found cs spare n m xs t ys
-  found_in cs spare n m v ok w xs t ys h =
-      node-listed cs spare n m ok xs t ys (ap (λ (z : State B). z.held) w ∙ h)
+  pub found_in : (cs : List (Cell Links B)) (spare : Link) (n m : ℕ) (v : State B) {total : ℕ} (p : Ptr) (ok : RingOk cs spare n m) → state (ring_list cs n) m total ≡ v → AtHeld v.held p (λ xs t ys. CutAt cs ok.held_pointers xs t ys p)
+  found_in cs spare n m v p ok w xs t ys h = node-listed cs spare n m ok p xs t ys (ap (λ (z : State B). z.held) w ∙ h)
 
-  pub node_in : (cs : List (Cell Links B)) (spare : Link) (n m : ℕ) (v : State B) {total : ℕ} (p : Ptr) → RingOk cs spare n m → state (ring_list cs n) m total ≡ v
-      → IsHeld v.held p → NodeAt cs spare n m p
-  node_in cs spare n m v p ok w h = subst (NodeAt cs spare n m) h.at_is (found_in cs spare n m v ok w h.before h.node h.after h.is).pointer
+  pub node_in : (cs : List (Cell Links B)) (spare : Link) (n m : ℕ) (v : State B) {total : ℕ} (p : Ptr) (ok : RingOk cs spare n m) → state (ring_list cs n) m total ≡ v → IsHeld v.held p → SplitAround ok.held_pointers p
+  node_in cs spare n m v p ok w h = (found_in cs spare n m v p ok w h.before h.node h.after h.is h.at_is).split
 
   pub length_listed : (cs : List (Cell Links B)) (ps : List Ptr) → AllByRecursion (HasContent cs) ps → length (listed cs ps) ≡ length ps
   unfolding listed
@@ -81,15 +53,3 @@ module _ {B : Type 0} where
   ring_within cs spare n m v {total} all ok w =
       let a = ring_length cs spare n m v ok w in let b = ap (λ (z : State B). z.spares) w in let c = ap (λ (z : State B). z.nodes) w in
       let d = ok.ring.count in let e = ok.held_count in let f = ok.enough_spares in omega arith
-
--- the node at p, where xs are held before it and ys after it
-pub record NodeBetween {B : Type 0} (cs : List (Cell Links B)) (spare : Link) (n m : ℕ) (xs ys : List (Held B)) (p : Ptr) : Type 0 where
-  pub node : NodeAt cs spare n m p
-  pub listed_before : listed cs node.before ≡ xs
-  pub listed_after : listed cs node.after ≡ ys
-
--- a node that was found, where its pointer is known by another name
-pub node_at : {B : Type 0} {cs : List (Cell Links B)} {spare : Link} {n m : ℕ} {xs : List (Held B)} {t : Held B} {ys : List (Held B)} (p : Ptr) → Found cs spare n m xs t ys → t.at ≡ p
-    → NodeBetween cs spare n m xs ys p
-node_at {cs = cs} {spare = spare} {n = n} {m = m} {xs = xs} {ys = ys} p f at =
-    subst (NodeBetween cs spare n m xs ys) at (record { node = f.pointer; listed_before = f.listed_before; listed_after = f.listed_after })

@@ -6,7 +6,7 @@ use Rattle.lhm_ring.specs.declared.links.Links.{Links}
 use Rattle.lhm_ring.specs.Cells.{Cell, same_ptr, links_at, body_at, IsApart}
 use Rattle.lhm_ring.specs.Rings.{link_of, next_at, prev_at, link_at, is_there, content_of, content_at, Edge, Linked, Chained, HasContent, follow, listed, one_of, IsJoined}
 use Rattle.lhm_ring.specs.RingState.{Held, held}
-use Rattle.lhm_ring.specs.Splits.{SplitLast}
+use Rattle.lhm_ring.specs.Splits.{SplitAround, SplitLast}
 use Rattle.lhm_ring.proofs.Apart.{IsFresh, same_ptr_refl, same_ptr_symm}
 use Rattle.lhm_ring.proofs.Options.{some_same}
 
@@ -206,16 +206,14 @@ module _ {B : Type 0} where
   content_pointer p (Some l) None t e = cc
   content_pointer p (Some l) (Some b) t e = ap (λ (z : Held B). z.at) (sym (some_same (held p l.hash (link_of (Some l)) b) t e))
 
-  -- where a ring is cut, if what it lists is
-  pub record CutAt (cs : List (Cell Links B)) (ps : List Ptr) (us : List (Held B)) (t : Held B) (vs : List (Held B)) : Type 0 where
-    pub before : List Ptr
-    pub after : List Ptr
-    pub is : ps ≡ before ++ t.at ∷ after
-    pub here : content_at cs t.at ≡ Some t
-    pub listed_before : listed cs before ≡ us
-    pub listed_after : listed cs after ≡ vs
+  -- where a ring is cut at p, if what it lists is
+  pub record CutAt (cs : List (Cell Links B)) (ps : List Ptr) (us : List (Held B)) (t : Held B) (vs : List (Held B)) (p : Ptr) : Type 0 where
+    pub split : SplitAround ps p
+    pub here : content_at cs p ≡ Some t
+    pub listed_before : listed cs split.before ≡ us
+    pub listed_after : listed cs split.after ≡ vs
 
-  pub cut_listed : (cs : List (Cell Links B)) (ps : List Ptr) → AllByRecursion (HasContent cs) ps → (us : List (Held B)) (t : Held B) (vs : List (Held B)) → listed cs ps ≡ us ++ t ∷ vs → CutAt cs ps us t vs
+  pub cut_listed : (cs : List (Cell Links B)) (ps : List Ptr) → AllByRecursion (HasContent cs) ps → (us : List (Held B)) (t : Held B) (vs : List (Held B)) → listed cs ps ≡ us ++ t ∷ vs → CutAt cs ps us t vs t.at
   unfolding listed
   cut_listed cs [] h [] t vs e = absurd cc
   cut_listed cs [] h (a ∷ us) t vs e = absurd cc
@@ -224,9 +222,7 @@ module _ {B : Type 0} where
       let first : h.0.0 ≡ t = cc in let rest : listed cs ps ≡ vs = cc in
       let at : p ≡ t.at = sym (content_pointer p (links_at cs p) (body_at cs p) h.0.0 h.0.1) ∙ ap (λ (z : Held B). z.at) first in
       record {
-        before = [];
-        after = ps;
-        is = ap (λ q. q ∷ ps) at;
+        split = record { before = []; after = ps; is = ap (λ q. q ∷ ps) at };
         here = ap (content_at cs) (sym at) ∙ h.0.1 ∙ ap (λ z. Some z) first;
         listed_before = refl;
         listed_after = rest;
@@ -236,10 +232,8 @@ module _ {B : Type 0} where
       let first : h.0.0 ≡ a = cc in let rest : listed cs ps ≡ us ++ t ∷ vs = cc in
       let on = cut_listed cs ps h.1 us t vs rest in
       record {
-        before = p ∷ on.before;
-        after = on.after;
-        is = ap (λ qs. p ∷ qs) on.is;
+        split = record { before = p ∷ on.split.before; after = on.split.after; is = ap (λ qs. p ∷ qs) on.split.is };
         here = on.here;
-        listed_before = ap (λ o. one_of o ++ listed cs on.before) h.0.1 ∙ ap (λ l. h.0.0 ∷ l) on.listed_before ∙ ap (λ z. z ∷ us) first;
+        listed_before = ap (λ o. one_of o ++ listed cs on.split.before) h.0.1 ∙ ap (λ l. h.0.0 ∷ l) on.listed_before ∙ ap (λ z. z ∷ us) first;
         listed_after = on.listed_after;
       }

@@ -2,7 +2,7 @@ use Rattle.std.proofs.Common.{◌≡◌, ◌∙◌, ap, sym, subst, true}
 use Rattle.lhm_ring.specs.Rings.{ring_cells, next_of, prev_of, is_there}
 use Rattle.lhm_ring.proofs.Moves.{prev_there, next_there, moving_there, moved_ring, moved_list}
 use Rattle.lhm_ring.proofs.RingCells.{in_nodes, ring_links, ring_last, null_there, led_some, led_none, joined_at}
-use Rattle.lhm_ring.proofs.RingNodes.{node_in}
+use Rattle.lhm_ring.proofs.RingNodes.{node_in, ring_split}
 use Rattle.lhm_ring.proofs.ReadAtPosition.{read_at}
 use Rattle.lhm_ring.proofs.ValuesReplaced.{ring_apart}
 use Rattle.lhm_ring.proofs.Places.{still_laid}
@@ -16,9 +16,9 @@ links-links-requires g c =
 pub join-requires : goal.join-requires
 join-requires g c =
     let i = c.self.inside in let p = c.args.at.pointer.ptr in let cs = ring_cells i.ends i.nodes.cells in
-    let s = node_in cs i.spare i.len i.spares _ p c.self.invariant.ring c.self.view_is c.requires in
+    let r = ring_split c.self.invariant.ring.ring (node_in cs i.spare i.len i.spares _ p c.self.invariant.ring c.self.view_is c.requires) in
     let e = ring_links i.ends i.nodes.cells p c.args.at.block ∙ c.links-links.ensures in
-    (subst (λ q. is_there cs q ≡ true) (ap prev_of e) (prev_there _ _ _ _ _ _ s.ring), subst (λ q. is_there cs q ≡ true) (ap next_of e) (next_there _ _ _ _ _ _ s.ring))
+    (subst (λ q. is_there cs q ≡ true) (ap prev_of e) (prev_there _ _ _ _ _ _ r), subst (λ q. is_there cs q ≡ true) (ap next_of e) (next_there _ _ _ _ _ _ r))
 
 pub join-requires-2 : goal.join-requires-2
 join-requires-2 g c =

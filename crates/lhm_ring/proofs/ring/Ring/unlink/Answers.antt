@@ -2,7 +2,7 @@ use Rattle.std.proofs.Common.{◌∙◌, ◌≡◌, None, ap, subst, true}
 use Rattle.lhm_ring.specs.Rings.{ring_cells, next_of, prev_of, is_there}
 use Rattle.lhm_ring.proofs.ReadAtPosition.{read_at}
 use Rattle.lhm_ring.proofs.RingCells.{in_nodes, holds_in, ring_links, ring_body, ring_with_body, relinks_ring}
-use Rattle.lhm_ring.proofs.RingNodes.{node_in}
+use Rattle.lhm_ring.proofs.RingNodes.{node_in, ring_split}
 use Rattle.lhm_ring.proofs.Moves.{prev_there, next_there}
 use Rattle.lhm_ring.proofs.PutBackAndUnlink.{taken_holds, taken_at, some_held, taken_ring, taken_list}
 use Rattle.lhm_ring.proofs.Places.{still_laid}
@@ -16,9 +16,9 @@ links-old-requires g c =
 pub join-requires : goal.join-requires
 join-requires g c =
     let i = c.self.inside in let p = c.args.at.pointer.ptr in let cs = ring_cells i.ends i.nodes.cells in
-    let s = node_in cs i.spare i.len i.spares _ p c.self.invariant.ring c.self.view_is c.requires in
+    let r = ring_split c.self.invariant.ring.ring (node_in cs i.spare i.len i.spares _ p c.self.invariant.ring c.self.view_is c.requires) in
     let e = ring_links i.ends i.nodes.cells p c.args.at.block ∙ c.links-old.ensures in
-    (subst (λ q. is_there cs q ≡ true) (ap prev_of e) (prev_there _ _ _ _ _ _ s.ring), subst (λ q. is_there cs q ≡ true) (ap next_of e) (next_there _ _ _ _ _ _ s.ring))
+    (subst (λ q. is_there cs q ≡ true) (ap prev_of e) (prev_there _ _ _ _ _ _ r), subst (λ q. is_there cs q ≡ true) (ap next_of e) (next_there _ _ _ _ _ _ r))
 
 pub take-key-requires : goal.take-key-requires
 take-key-requires g c =
