@@ -7,6 +7,7 @@ use Rattle.lhm_ring.specs.declared.links.Links.{Links}
 use Rattle.lhm_ring.specs.Cells.{Cell, cell, cell_at, same_ptr, links_at, body_at, IsApart, IsAt, Holds, with_body}
 use Rattle.lhm_ring.specs.Rings.{next_of, prev_of, link_of, next_at, prev_at, content_of, Linked, HasContent, listed, one_of, last_pointer, HasEnds, pointers_from, span_triples, IsSpan}
 use Rattle.lhm_ring.specs.RingState.{Held, held, triples}
+use Rattle.lhm_ring.specs.Splits.{SplitFirst, SplitLast}
 use Rattle.lhm_ring.proofs.Apart.{IsFresh}
 use Rattle.lhm_ring.proofs.Writes.{at_other, content_links}
 use Rattle.lhm_ring.proofs.Rows.{last_from, all_left, all_right, apart_left, apart_head, apart_tail, apart_at, cut_row, listed-append, snoc}
@@ -54,10 +55,9 @@ module _ {B : Type 0} where
 
 -- the last of a row, with those before it
 pub record LastCut {B : Type 0} (cs : List (Cell Links B)) (f b : Ptr) (rs : List Ptr) : Type 0 where
-  pub before : List Ptr
-  pub is : rs ≡ before ++ b ∷ []
-  pub linked : Linked cs before
-  pub ends : HasEnds before f (prev_at cs b)
+  pub split : SplitLast (λ q. q) rs b
+  pub linked : Linked cs split.before
+  pub ends : HasEnds split.before f (prev_at cs b)
 
 module _ {B : Type 0} (cs : List (Cell Links B)) where
   ends_before : (f : Ptr) (zs : List Ptr) (z : Ptr) → Linked cs (zs ++ z ∷ []) → ((r : Ptr) (rs : List Ptr) → zs ≡ r ∷ rs → r ≡ f) → Linked cs zs × HasEnds zs f (prev_at cs z)
@@ -69,29 +69,23 @@ module _ {B : Type 0} (cs : List (Cell Links B)) where
   first_is f b (x ∷ xs) [] z e h r qs d = absurd cc
   first_is f b (x ∷ xs) (y ∷ ys) z e h r qs d = let same : x ≡ y = cc in let too : y ≡ r = cc in sym (same ∙ too) ∙ h.0
 
-  last_of_all : (x : Ptr) (xs zs : List Ptr) (z : Ptr) → x ∷ xs ≡ zs ++ z ∷ [] → last_from x xs ≡ z
-  last_of_all x [] [] z e = cc
-  last_of_all x [] (y ∷ ys) z e = absurd (let k = ap length e in omega (arith, length-append ys (z ∷ [])))
-  last_of_all x (w ∷ ws) [] z e = absurd (let k = ap length e in omega arith)
-  last_of_all x (w ∷ ws) (y ∷ ys) z e = let rest : w ∷ ws ≡ ys ++ z ∷ [] = cc in last_of_all w ws ys z rest
-
-  cut_at_last : (f b : Ptr) (rs zs : List Ptr) (z : Ptr) → rs ≡ zs ++ z ∷ [] → Linked cs rs → HasEnds rs f b → LastCut cs f b rs
-  cut_at_last f b [] zs z e k h = absurd (let l = ap length e in omega (arith, length-append zs (z ∷ [])))
-  cut_at_last f b (x ∷ xs) zs z e k h =
-      let is : z ≡ b = sym (last_of_all x xs zs z e) ∙ sym (last_same x xs) ∙ h.1 in
-      let p = ends_before f zs z (subst (Linked cs) e k) (first_is f b (x ∷ xs) zs z e h) in
-      record { before = zs; is = e ∙ ap (λ q. zs ++ q ∷ []) is; linked = p.0; ends = subst (λ q. HasEnds zs f (prev_at cs q)) is p.1 }
-
   pub last_cut : (f b : Ptr) (rs : List Ptr) → (length rs ≡ 0 → ⊥) → Linked cs rs → HasEnds rs f b → LastCut cs f b rs
   last_cut f b [] n k h = absurd (n refl)
-  last_cut f b (x ∷ xs) n k h = let s = snoc x xs in cut_at_last f b (x ∷ xs) s.before s.node s.is k h
+  last_cut f b (x ∷ xs) n k h =
+      let s = snoc x xs in
+      let at : s.node ≡ b = s.at_is ∙ sym (last_same x xs) ∙ h.1 in
+      let p = ends_before f s.before s.node (subst (Linked cs) s.is k) (first_is f b (x ∷ xs) s.before s.node s.is h) in
+      record {
+        split = record { before = s.before; node = s.node; is = s.is; at_is = at };
+        linked = p.0;
+        ends = subst (λ q. HasEnds s.before f (prev_at cs q)) at p.1;
+      }
 
 -- the first of a row, with those after it
 pub record FirstCut {B : Type 0} (cs : List (Cell Links B)) (f b : Ptr) (rs : List Ptr) : Type 0 where
-  pub after : List Ptr
-  pub is : rs ≡ f ∷ after
-  pub linked : Linked cs after
-  pub ends : HasEnds after (next_at cs f) b
+  pub split : SplitFirst (λ q. q) rs f
+  pub linked : Linked cs split.after
+  pub ends : HasEnds split.after (next_at cs f) b
 
 module _ {B : Type 0} (cs : List (Cell Links B)) where
   pub ends_behind : (x b : Ptr) (xs : List Ptr) → Linked cs (x ∷ xs) → last_pointer x xs ≡ b → HasEnds xs (next_at cs x) b
@@ -101,8 +95,7 @@ module _ {B : Type 0} (cs : List (Cell Links B)) where
   pub first_cut : (f b : Ptr) (rs : List Ptr) → (length rs ≡ 0 → ⊥) → Linked cs rs → HasEnds rs f b → FirstCut cs f b rs
   first_cut f b [] n k h = absurd (n refl)
   first_cut f b (x ∷ xs) n k h = record {
-    after = xs;
-    is = ap (λ q. q ∷ xs) h.0;
+    split = record { node = x; after = xs; is = refl; at_is = h.0 };
     linked = linked_tail cs x xs k;
     ends = subst (λ q. HasEnds xs (next_at cs q) b) h.0 (ends_behind x b xs k h.1);
   }
@@ -160,8 +153,11 @@ module _ {B : Type 0} (cs : List (Cell Links B)) (f b : Ptr) (k : ℕ) (s : IsSp
   first : FirstCut cs f b s.pointers
   first = first_cut cs f b s.pointers (λ e. some (sym s.count ∙ e)) s.linked s.ends
 
-  all_first : AllByRecursion (HasContent cs) (f ∷ first.after)
-  all_first = subst (AllByRecursion (HasContent cs)) first.is s.held
+  row_first : s.pointers ≡ f ∷ first.split.after
+  row_first = first.split.is ∙ ap (λ q. q ∷ first.split.after) first.split.at_is
+
+  all_first : AllByRecursion (HasContent cs) (f ∷ first.split.after)
+  all_first = subst (AllByRecursion (HasContent cs)) row_first s.held
 
   pub first_there : IsAt cs f
   first_there = there_here cs f all_first.0
@@ -169,25 +165,25 @@ module _ {B : Type 0} (cs : List (Cell Links B)) (f b : Ptr) (k : ℕ) (s : IsSp
   pub first_holds : Holds cs f
   first_holds = holds_here cs f all_first.0
 
-  apart_first : IsApart (f ∷ first.after)
-  apart_first = subst IsApart first.is s.apart
+  apart_first : IsApart (f ∷ first.split.after)
+  apart_first = subst IsApart row_first s.apart
 
-  long_first : length first.after ≡ k - 1
-  long_first = let e = ap length (sym first.is) ∙ s.count in omega arith
+  long_first : length first.split.after ≡ k - 1
+  long_first = let e = ap length (sym row_first) ∙ s.count in omega arith
 
   after_first : IsSpan cs (next_at cs f) b (k - 1)
   after_first = record {
-    pointers = first.after;
+    pointers = first.split.after;
     count = long_first;
     linked = first.linked;
     ends = first.ends;
     held = all_first.1;
-    apart = apart_tail f first.after apart_first;
+    apart = apart_tail f first.split.after apart_first;
   }
 
   cut_first : listed cs (pointers_from cs k f) ≡ listed cs (f ∷ []) ++ listed cs (pointers_from cs (k - 1) (next_at cs f))
   unfolding first after_first
-  cut_first = ap (listed cs) (span_pointers cs f b k s ∙ first.is) ∙ listed-append cs (f ∷ []) first.after ∙ ap (λ ps. listed cs (f ∷ []) ++ listed cs ps) (sym (span_pointers cs (next_at cs f) b (k - 1) after_first))
+  cut_first = ap (listed cs) (span_pointers cs f b k s ∙ row_first) ∙ listed-append cs (f ∷ []) first.split.after ∙ ap (λ ps. listed cs (f ∷ []) ++ listed cs ps) (sym (span_pointers cs (next_at cs f) b (k - 1) after_first))
 
   module _ (la : Links) (ea : links_at cs f ≡ Some la) (q : Ptr) (is : q ≡ la.next.ptr) where
     on : next_at cs f ≡ q
@@ -201,7 +197,7 @@ module _ {B : Type 0} (cs : List (Cell Links B)) (f b : Ptr) (k : ℕ) (s : IsSp
 
     free_first : IsFresh f after_first.pointers
     unfolding first after_first
-    free_first = apart_head f first.after apart_first
+    free_first = apart_head f first.split.after apart_first
 
     pub rest_of_first : IsSpan (with_body f None cs) q b (k - 1)
     rest_of_first = subst (λ r. IsSpan (with_body f None cs) r b (k - 1)) on (span_stays cs f la ea (next_at cs f) b (k - 1) after_first free_first)
@@ -215,11 +211,14 @@ module _ {B : Type 0} (cs : List (Cell Links B)) (f b : Ptr) (k : ℕ) (s : IsSp
   last : LastCut cs f b s.pointers
   last = last_cut cs f b s.pointers (λ e. some (sym s.count ∙ e)) s.linked s.ends
 
-  all_last : AllByRecursion (HasContent cs) (last.before ++ b ∷ [])
-  all_last = subst (AllByRecursion (HasContent cs)) last.is s.held
+  row_last : s.pointers ≡ last.split.before ++ b ∷ []
+  row_last = last.split.is ∙ ap (λ q. last.split.before ++ q ∷ []) last.split.at_is
+
+  all_last : AllByRecursion (HasContent cs) (last.split.before ++ b ∷ [])
+  all_last = subst (AllByRecursion (HasContent cs)) row_last s.held
 
   mine : HasContent cs b
-  mine = (all_right (HasContent cs) last.before (b ∷ []) all_last).0
+  mine = (all_right (HasContent cs) last.split.before (b ∷ []) all_last).0
 
   pub last_there : IsAt cs b
   last_there = there_here cs b mine
@@ -227,25 +226,25 @@ module _ {B : Type 0} (cs : List (Cell Links B)) (f b : Ptr) (k : ℕ) (s : IsSp
   pub last_holds : Holds cs b
   last_holds = holds_here cs b mine
 
-  long_last : length last.before ≡ k - 1
-  long_last = let e = ap length (sym last.is) ∙ s.count in omega (arith, length-append last.before (b ∷ []))
+  long_last : length last.split.before ≡ k - 1
+  long_last = let e = ap length (sym row_last) ∙ s.count in omega (arith, length-append last.split.before (b ∷ []))
 
-  apart_last : IsApart (last.before ++ b ∷ [])
-  apart_last = subst IsApart last.is s.apart
+  apart_last : IsApart (last.split.before ++ b ∷ [])
+  apart_last = subst IsApart row_last s.apart
 
   before_last : IsSpan cs f (prev_at cs b) (k - 1)
   before_last = record {
-    pointers = last.before;
+    pointers = last.split.before;
     count = long_last;
     linked = last.linked;
     ends = last.ends;
-    held = all_left (HasContent cs) last.before (b ∷ []) all_last;
-    apart = apart_left last.before (b ∷ []) apart_last;
+    held = all_left (HasContent cs) last.split.before (b ∷ []) all_last;
+    apart = apart_left last.split.before (b ∷ []) apart_last;
   }
 
   cut_last : listed cs (pointers_from cs k f) ≡ listed cs (pointers_from cs (k - 1) f) ++ listed cs (b ∷ [])
   unfolding last before_last
-  cut_last = ap (listed cs) (span_pointers cs f b k s ∙ last.is) ∙ listed-append cs last.before (b ∷ []) ∙ ap (λ ps. listed cs ps ++ listed cs (b ∷ [])) (sym (span_pointers cs f (prev_at cs b) (k - 1) before_last))
+  cut_last = ap (listed cs) (span_pointers cs f b k s ∙ row_last) ∙ listed-append cs last.split.before (b ∷ []) ∙ ap (λ ps. listed cs ps ++ listed cs (b ∷ [])) (sym (span_pointers cs f (prev_at cs b) (k - 1) before_last))
 
   module _ (la : Links) (ea : links_at cs b ≡ Some la) (q : Ptr) (is : q ≡ la.prev.ptr) where
     back : prev_at cs b ≡ q
@@ -259,7 +258,7 @@ module _ {B : Type 0} (cs : List (Cell Links B)) (f b : Ptr) (k : ℕ) (s : IsSp
 
     free_last : IsFresh b before_last.pointers
     unfolding last before_last
-    free_last = all_left (λ q. same_ptr b q ≡ false) last.before [] (apart_at last.before b [] apart_last)
+    free_last = all_left (λ q. same_ptr b q ≡ false) last.split.before [] (apart_at last.split.before b [] apart_last)
 
     pub rest_of_last : IsSpan (with_body b None cs) f q (k - 1)
     rest_of_last = subst (λ r. IsSpan (with_body b None cs) f r (k - 1)) back (span_stays cs b la ea f (prev_at cs b) (k - 1) before_last free_last)
