@@ -56,9 +56,9 @@ module _ {B : Type 0} where
 pub taken_in : {F K V : Type 0} (Q : F → K → V → Type 0) (f : F) {p : Ptr} (s : State (K × V)) (r : ℕ) {m : TableState (K × V)} → table_of s r ≡ m → TakesAt Q f m.held p → TakesAt Q f s.held p
 taken_in {F} {K} {V} Q f {p} s r seen h =
     let at = h.0 in
-    let i = entries_cut s.held at.before at.node at.after (ap (λ (z : TableState (K × V)). z.held) seen ∙ at.is) in (
-      record { before = i.before; node = i.node; after = i.after; is = i.is; at_is = ap (λ (t : Held (K × V)). t.at) i.node_is ∙ at.at_is },
-      subst (λ (t : Held (K × V)). Q f t.pair.0 t.pair.1) (sym i.node_is) h.1,
+    let i = (entries_cut s.held at.before at.node at.after (ap (λ (z : TableState (K × V)). z.held) seen ∙ at.is)).split in (
+      record { before = i.before; node = i.node; after = i.after; is = i.is; at_is = ap (λ (t : Held (K × V)). t.at) i.at_is ∙ at.at_is },
+      subst (λ (t : Held (K × V)). Q f t.pair.0 t.pair.1) (sym i.at_is) h.1,
     )
 
 -- one call, after which the pair stays with its value or is removed

@@ -7,6 +7,7 @@ use denote.RawPtr.{Ptr}
 use Rattle.lhm_ring.specs.Cells.{same_ptr, IsApart}
 use Rattle.lhm_ring.specs.RingState.{Held, State, state, IsHeld, AtHeld, ChangesOnly, linked_to, first_at, last_at, last_of, change_at, triples}
 use Rattle.lhm_ring.specs.RingAfterLoan.{revalued, with_value}
+use Rattle.lhm_ring.specs.Splits.{SplitAt}
 use Rattle.lhm_ring.specs.Index.{spot, spots, same, beside, Indexes}
 use Rattle.lhm_ring.specs.Search.{entries, HasKey, IsAbsent, Compares, CountsSome, CountsAll, HoldsOthers}
 use Rattle.lhm_ring.specs.Buckets.{buckets, rechained_raised}
@@ -61,29 +62,22 @@ module _ {K V : Type 0} where
 
   -- nodes whose entries are cut at one of them are cut there too
   pub record EntriesCut (hs xs : List (Held (K × V))) (t : Held (K × V)) (ys : List (Held (K × V))) : Type 0 where
-    pub before : List (Held (K × V))
-    pub node : Held (K × V)
-    pub after : List (Held (K × V))
-    pub is : hs ≡ before ++ node ∷ after
-    pub before_is : entries before ≡ xs
-    pub node_is : linked_to None node ≡ t
-    pub after_is : entries after ≡ ys
+    pub split : SplitAt (linked_to None) hs t
+    pub before_is : entries split.before ≡ xs
+    pub after_is : entries split.after ≡ ys
 
   pub entries_cut : (hs xs : List (Held (K × V))) (t : Held (K × V)) (ys : List (Held (K × V))) → entries hs ≡ xs ++ t ∷ ys → EntriesCut hs xs t ys
   entries_cut [] [] t ys e = absurd (cc)
   entries_cut [] (x ∷ xs) t ys e = absurd (cc)
-  entries_cut (h ∷ hs) [] t ys e = record { before = []; node = h; after = hs; is = refl; before_is = refl; node_is = (cc); after_is = (cc) }
+  entries_cut (h ∷ hs) [] t ys e = record { split = record { before = []; node = h; after = hs; is = refl; at_is = (cc) }; before_is = refl; after_is = (cc) }
   entries_cut (h ∷ hs) (x ∷ xs) t ys e =
       let rest : entries hs ≡ xs ++ t ∷ ys = cc in
       let first : linked_to None h ≡ x = cc in
       let i : EntriesCut hs xs t ys = entries_cut hs xs t ys rest in
+      let k = i.split in
       record {
-        before = h ∷ i.before;
-        node = i.node;
-        after = i.after;
-        is = ap (λ zs. h ∷ zs) i.is;
+        split = record { before = h ∷ k.before; node = k.node; after = k.after; is = ap (λ zs. h ∷ zs) k.is; at_is = k.at_is };
         before_is = (λ j. first j ∷ i.before_is j);
-        node_is = i.node_is;
         after_is = i.after_is;
       }
 
@@ -94,8 +88,9 @@ module _ {K V : Type 0} where
   pub AtHeld-entries : (hs : List (Held (K × V))) (p : Ptr) (P : List (Held (K × V)) → Held (K × V) → List (Held (K × V)) → Type 0) → AtHeld hs p (λ xs t ys. P (entries xs) (linked_to None t) (entries ys)) → AtHeld (entries hs) p P
   AtHeld-entries hs p P h xs t ys e at =
       let i : EntriesCut hs xs t ys = entries_cut hs xs t ys e in
-      let seen : P (entries i.before) (linked_to None i.node) (entries i.after) = h i.before i.node i.after i.is (ap (λ (u : Held (K × V)). u.at) i.node_is ∙ at) in
-      subst (λ (z : List (Held (K × V)) × (Held (K × V) × List (Held (K × V)))). P z.0 z.1.0 z.1.1) (λ j. (i.before_is j, (i.node_is j, i.after_is j))) seen
+      let k = i.split in
+      let seen : P (entries k.before) (linked_to None k.node) (entries k.after) = h k.before k.node k.after k.is (ap (λ (u : Held (K × V)). u.at) k.at_is ∙ at) in
+      subst (λ (z : List (Held (K × V)) × (Held (K × V) × List (Held (K × V)))). P z.0 z.1.0 z.1.1) (λ j. (i.before_is j, (k.at_is j, i.after_is j))) seen
 
   -- searches
   pub HasKey-entries : (eq : K → K → Bool) (hash : ℕ) (key : K) (hs : List (Held (K × V))) (p : Ptr) → HasKey eq hash key hs p → HasKey eq hash key (entries hs) p
@@ -103,8 +98,8 @@ module _ {K V : Type 0} where
 
   pub IsAbsent-entries : (eq : K → K → Bool) (hash : ℕ) (key : K) (hs : List (Held (K × V))) → IsAbsent eq hash key hs → IsAbsent eq hash key (entries hs)
   IsAbsent-entries eq hash key hs none xs t ys e =
-      let i : EntriesCut hs xs t ys = entries_cut hs xs t ys e in
-      subst (λ (u : Held (K × V)). Compares eq hash key u false) i.node_is (none i.before i.node i.after i.is)
+      let k = (entries_cut hs xs t ys e).split in
+      subst (λ (u : Held (K × V)). Compares eq hash key u false) k.at_is (none k.before k.node k.after k.is)
 
   count_by-entries : (test : ℕ → Bool) (hs : List (Held (K × V))) → count_by (λ s. test s.hash) (spots (entries hs)) ≡ count_by (λ s. test s.hash) (spots hs)
   count_by-entries test [] = refl
