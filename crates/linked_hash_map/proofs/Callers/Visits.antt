@@ -4,6 +4,7 @@ use Rattle.std.specs.Cmp.{IsEquivalence}
 use Rattle.std.specs.List.{IsDistinct, remove}
 use Rattle.std.specs.Map.{keys_of}
 use Rattle.std.proofs.lemmas.List.Elements.{filter-append}
+use Rattle.lhm_ring.specs.Splits.{SplitFirst}
 use Rattle.linked_hash_map.specs.Pairs.{value_at, without}
 use Rattle.linked_hash_map.specs.Visits.{VisitKeeps}
 use Rattle.linked_hash_map.proofs.EntryFacts.{some_injective}
@@ -13,60 +14,60 @@ use Rattle.linked_hash_map.proofs.Lists.{slice_get-seam}
 
 -- the first pair to come has the key that is next, and the others are to come behind it
 record Next {K V : Type 0} (k : K) (left : List K) (rest : List (K × V)) : Type 0 where
-  pair : K × V
-  others : List (K × V)
-  is : rest ≡ pair ∷ others
-  key : k ≡ pair.0
-  behind : left ≡ keys_of others
+  split : SplitFirst (λ pair. pair.0) rest k
+  behind : left ≡ keys_of split.after
 
 next_of : {K V : Type 0} (k : K) (left : List K) (rest : List (K × V)) → k ∷ left ≡ keys_of rest → Next k left rest
 next_of k left [] h = absurd (let no : k ∷ left ≡ [] = h in cc)
-next_of k left (pair ∷ others) h = record { pair = pair; others = others; is = refl; key = cc; behind = cc }
+next_of k left (pair ∷ others) h = record { split = record { node = pair; after = others; is = refl; at_is = cc }; behind = cc }
 
 module _ {K V : Type 0} {eq : K → K → Bool} (laws : IsEquivalence eq) (keeps : K × V → Bool) {start now : List (K × V)} {k : K} {left : List K} {v : V}
     (w : VisitKeeps keeps start now (k ∷ left)) (distinct : IsDistinct eq (keys_of now)) (has : value_at eq now k ≡ Some v) where
-  n : Next k left w.rest
-  n = next_of k left w.rest w.left_is
+  next : Next k left w.rest
+  next = next_of k left w.rest w.left_is
 
-  now-seam : now ≡ filter keeps w.passed ++ n.pair ∷ n.others
+  abbrev n : SplitFirst (λ pair. pair.0) w.rest k
+  n = next.split
+
+  now-seam : now ≡ filter keeps w.passed ++ n.node ∷ n.after
   now-seam = w.now_is ∙ ap (λ r. filter keeps w.passed ++ r) n.is
 
-  start-seam : start ≡ (w.passed ++ n.pair ∷ []) ++ n.others
-  start-seam = w.start_is ∙ ap (λ r. w.passed ++ r) n.is ∙ sym (append_assoc w.passed (n.pair ∷ []) n.others)
+  start-seam : start ≡ (w.passed ++ n.node ∷ []) ++ n.after
+  start-seam = w.start_is ∙ ap (λ r. w.passed ++ r) n.is ∙ sym (append_assoc w.passed (n.node ∷ []) n.after)
 
-  there : slice_get now (length (filter keeps w.passed)) ≡ Some n.pair
-  there = ap (λ ps. slice_get ps (length (filter keeps w.passed))) now-seam ∙ slice_get-seam (filter keeps w.passed) n.pair n.others
+  there : slice_get now (length (filter keeps w.passed)) ≡ Some n.node
+  there = ap (λ ps. slice_get ps (length (filter keeps w.passed))) now-seam ∙ slice_get-seam (filter keeps w.passed) n.node n.after
 
-  value : v ≡ n.pair.1
-  value = some_injective (sym has ∙ ap (value_at eq now) n.key ∙ ap (option_map (λ p. p.1)) (find-own laws now distinct (length (filter keeps w.passed)) n.pair there))
+  value : v ≡ n.node.1
+  value = some_injective (sym has ∙ ap (value_at eq now) (sym n.at_is) ∙ ap (option_map (λ p. p.1)) (find-own laws now distinct (length (filter keeps w.passed)) n.node there))
 
-  pair_is : (k, v) ≡ n.pair
-  pair_is = λ i. (n.key i, value i)
+  pair_is : (k, v) ≡ n.node
+  pair_is = λ i. (sym n.at_is i, value i)
 
-  filtered : filter keeps (w.passed ++ n.pair ∷ []) ≡ filter keeps w.passed ++ cond (keeps n.pair) (n.pair ∷ []) []
-  filtered = filter-append keeps w.passed (n.pair ∷ [])
+  filtered : filter keeps (w.passed ++ n.node ∷ []) ≡ filter keeps w.passed ++ cond (keeps n.node) (n.node ∷ []) []
+  filtered = filter-append keeps w.passed (n.node ∷ [])
 
   -- a pair that is kept is passed as it is
   VisitKeeps-pass : keeps (k, v) ≡ true → VisitKeeps keeps start now left
   VisitKeeps-pass kept = record {
-    passed = w.passed ++ n.pair ∷ [];
-    rest = n.others;
+    passed = w.passed ++ n.node ∷ [];
+    rest = n.after;
     start_is = start-seam;
-    now_is = now-seam ∙ sym (append_assoc (filter keeps w.passed) (n.pair ∷ []) n.others)
-        ∙ ap (λ (ps : List (K × V)). ps ++ n.others) (sym (filtered ∙ ap (λ b. filter keeps w.passed ++ cond b (n.pair ∷ []) []) (ap keeps (sym pair_is) ∙ kept)));
-    left_is = n.behind;
+    now_is = now-seam ∙ sym (append_assoc (filter keeps w.passed) (n.node ∷ []) n.after)
+        ∙ ap (λ (ps : List (K × V)). ps ++ n.after) (sym (filtered ∙ ap (λ b. filter keeps w.passed ++ cond b (n.node ∷ []) []) (ap keeps (sym pair_is) ∙ kept)));
+    left_is = next.behind;
   }
 
   -- one that is not kept is taken out
   VisitKeeps-remove : keeps (k, v) ≡ false → VisitKeeps keeps start (without eq now k) left
   VisitKeeps-remove gone = record {
-    passed = w.passed ++ n.pair ∷ [];
-    rest = n.others;
+    passed = w.passed ++ n.node ∷ [];
+    rest = n.after;
     start_is = start-seam;
-    now_is = ap (without eq now) n.key ∙ without-own laws now distinct (length (filter keeps w.passed)) n.pair there
-        ∙ ap (λ ps. remove ps (length (filter keeps w.passed))) now-seam ∙ remove-cut (filter keeps w.passed) n.pair n.others
-        ∙ ap (λ (ps : List (K × V)). ps ++ n.others) (sym (filtered ∙ ap (λ b. filter keeps w.passed ++ cond b (n.pair ∷ []) []) (ap keeps (sym pair_is) ∙ gone) ∙ append-nil (filter keeps w.passed)));
-    left_is = n.behind;
+    now_is = ap (without eq now) (sym n.at_is) ∙ without-own laws now distinct (length (filter keeps w.passed)) n.node there
+        ∙ ap (λ ps. remove ps (length (filter keeps w.passed))) now-seam ∙ remove-cut (filter keeps w.passed) n.node n.after
+        ∙ ap (λ (ps : List (K × V)). ps ++ n.after) (sym (filtered ∙ ap (λ b. filter keeps w.passed ++ cond b (n.node ∷ []) []) (ap keeps (sym pair_is) ∙ gone) ∙ append-nil (filter keeps w.passed)));
+    left_is = next.behind;
   }
 
 -- the keys visited and those still to visit stay what they are at the start
