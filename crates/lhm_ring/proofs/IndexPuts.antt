@@ -46,25 +46,20 @@ first_none (t ∷ hs) e = absurd (cc)
 pub rechain_start : {K V : Type 0} (heads : List (Option Ptr)) (words : List ℕ) (nodes : List (Held (K × V))) (pointer : Option Ptr) (buckets : ℕ) → HasNoChain heads → pointer ≡ first_at nodes → length heads ≡ buckets → IsRechained heads words nodes nodes pointer 0 buckets
 rechain_start heads words nodes pointer buckets h e n = record { done = []; rest = nodes; is = refl; indexed = Indexes-none heads h; covers = λ _. tt; pointer_is = e; count_is = refl; kept = refl; buckets_is = n }
 
-rechain_is : {K V : Type 0} {heads : List (Option Ptr)} {words : List ℕ} {old nodes : List (Held (K × V))} {pointer : Option Ptr} {count buckets : ℕ} (p : Ptr) → pointer ≡ Some p → (w : IsRechained heads words old nodes pointer count buckets) → (g : First w.rest p) × (nodes ≡ w.done ++ g.node ∷ g.after)
-rechain_is {K} {V} {pointer = pointer} p e w =
+abbrev pub rechain_held : {K V : Type 0} {heads : List (Option Ptr)} {words : List ℕ} {old nodes : List (Held (K × V))} {pointer : Option Ptr} {count buckets : ℕ} (p : Ptr) → pointer ≡ Some p → IsRechained heads words old nodes pointer count buckets → IsHeld nodes p
+rechain_held {K} {V} {pointer = pointer} p e w =
     let g : First w.rest p = first_node w.rest pointer p w.pointer_is e in
-    (g, w.is ∙ ap (λ (v : List (Held (K × V))). w.done ++ v) g.is)
-
-pub rechain_held : {K V : Type 0} {heads : List (Option Ptr)} {words : List ℕ} {old nodes : List (Held (K × V))} {pointer : Option Ptr} {count buckets : ℕ} (p : Ptr) → pointer ≡ Some p → IsRechained heads words old nodes pointer count buckets → IsHeld nodes p
-rechain_held p e w =
-    let g = rechain_is p e w in
-    record { before = w.done; node = g.0.node; after = g.0.after; is = g.1; at_is = g.0.at_is }
+    record { before = w.done; node = g.node; after = g.after; is = w.is ∙ ap (λ (v : List (Held (K × V))). w.done ++ v) g.is; at_is = g.at_is }
 
 length-kept : {K V : Type 0} (old new : List (Held (K × V))) → entries new ≡ entries old → length new ≡ length old
 length-kept old new e = sym (length-map new (linked_to None)) ∙ ap length e ∙ length-map old (linked_to None)
 
 pub rechain_below : {K V : Type 0} {heads : List (Option Ptr)} {words : List ℕ} {old nodes : List (Held (K × V))} {pointer : Option Ptr} {count buckets : ℕ} (p : Ptr) → pointer ≡ Some p → IsRechained heads words old nodes pointer count buckets → count + 1 ≤ length old
 rechain_below {K} {V} {heads} {words} {old} {nodes} p e w =
-    let g = rechain_is p e w in
+    let g : IsHeld nodes p = rechain_held p e w in
     let a : length nodes ≡ length old = length-kept old nodes w.kept in
-    let b : length nodes ≡ length (w.done ++ g.0.node ∷ g.0.after) = ap length g.1 in
-    let c : length (w.done ++ g.0.node ∷ g.0.after) ≡ length w.done + length (g.0.node ∷ g.0.after) = length-append w.done (g.0.node ∷ g.0.after) in
+    let b : length nodes ≡ length (w.done ++ g.node ∷ g.after) = ap length g.is in
+    let c : length (w.done ++ g.node ∷ g.after) ≡ length w.done + length (g.node ∷ g.after) = length-append w.done (g.node ∷ g.after) in
     let d = w.count_is in
     omega (arith, a, b, c, d)
 
@@ -85,30 +80,29 @@ pub record SetsBit (words words' : List ℕ) (hash buckets : ℕ) : Type 0 where
 
 pub rechain_more : {K V : Type 0} {heads : List (Option Ptr)} {words : List ℕ} {old nodes : List (Held (K × V))} {pointer : Option Ptr} {count buckets : ℕ} (p : Ptr) (heads' : List (Option Ptr)) (words' : List ℕ) (nodes' : List (Held (K × V))) (next : Option Ptr) (hash : ℕ) → pointer ≡ Some p → 0 < length heads → IsRechained heads words old nodes pointer count buckets → Chains p heads heads' nodes nodes' → AtHeld nodes p (λ before x after. hash ≡ x.hash) → (length words' ≡ buckets → SetsBit words words' hash buckets) → AtHeld nodes' p (λ before x after. next ≡ first_at after) → IsRechained heads' words' old nodes' next (count + 1) buckets
 rechain_more {K} {V} {heads} {words} {old} {nodes} {pointer} {count} {buckets} p heads' words' nodes' next hash e some w c own sets nx =
-    let g = rechain_is p e w in
-    let x : Held (K × V) = g.0.node in
-    let k : IsChained p heads heads' nodes' w.done x g.0.after = c w.done x g.0.after g.1 g.0.at_is in
+    let g : IsHeld nodes p = rechain_held p e w in
+    let x : Held (K × V) = g.node in
+    let k : IsChained p heads heads' nodes' w.done x g.after = c w.done x g.after g.is g.at_is in
     let n : ℕ = length heads in
     let head : Option Ptr = get_or heads (x.hash % n) None in
     let x' : Held (K × V) = linked_to head x in
-    let split : nodes' ≡ (w.done ++ x' ∷ []) ++ g.0.after = k.nodes_is ∙ sym (append_assoc w.done (x' ∷ []) g.0.after) in
+    let split : nodes' ≡ (w.done ++ x' ∷ []) ++ g.after = k.nodes_is ∙ sym (append_assoc w.done (x' ∷ []) g.after) in
     let put : Indexes (set heads (x.hash % n) (Some x.at)) (spots (w.done ++ x' ∷ [])) =
     Indexes-put heads (spot x') (spots (w.done ++ [])) (spots (w.done ++ x' ∷ [])) (subst (λ (v : List (Held (K × V))). Indexes heads (spots v)) (sym (append-nil w.done)) w.indexed) some refl (PutsIn-spots w.done x' []) in
-    let heads_are : heads' ≡ set heads (x.hash % n) (Some x.at) = k.heads_is ∙ ap (λ (v : Ptr). set heads (x.hash % n) (Some v)) (sym g.0.at_is) in
+    let heads_are : heads' ≡ set heads (x.hash % n) (Some x.at) = k.heads_is ∙ ap (λ (v : Ptr). set heads (x.hash % n) (Some v)) (sym g.at_is) in
     let long : length (w.done ++ x' ∷ []) ≡ length w.done + 1 = length-append w.done (x' ∷ []) in
     let d : count ≡ length w.done = w.count_is in
-    let held : IsHeld nodes p = record { before = w.done; node = x; after = g.0.after; is = g.1; at_is = g.0.at_is } in
-    let own_hash : x.hash ≡ hash = sym (own w.done x g.0.after g.1 g.0.at_is) in
+    let own_hash : x.hash ≡ hash = sym (own w.done x g.after g.is g.at_is) in
     record {
       done = w.done ++ x' ∷ [];
-      rest = g.0.after;
+      rest = g.after;
       is = split;
       indexed = subst (λ (v : List (Option Ptr)). Indexes v (spots (w.done ++ x' ∷ []))) (sym heads_are) put;
       covers = λ all. let m = sets all in CoversAll-append words' w.done (x' ∷ []) (CoversAll-more words words' m.others w.done (w.covers m.all)) (ap (may_contain words') own_hash ∙ m.set, tt);
-      pointer_is = nx w.done x' g.0.after k.nodes_is g.0.at_is;
+      pointer_is = nx w.done x' g.after k.nodes_is g.at_is;
       count_is = (omega (arith, long, d));
-      kept = put_keeps p heads heads' nodes nodes' c held ∙ w.kept;
-      buckets_is = put_buckets p heads heads' nodes nodes' c held ∙ w.buckets_is;
+      kept = put_keeps p heads heads' nodes nodes' c g ∙ w.kept;
+      buckets_is = put_buckets p heads heads' nodes nodes' c g ∙ w.buckets_is;
     }
 
 pub rechain_next_held : {K V : Type 0} {heads : List (Option Ptr)} {words : List ℕ} {old nodes : List (Held (K × V))} {pointer : Option Ptr} {count buckets : ℕ} (p : Ptr) {heads' : List (Option Ptr)} {nodes' : List (Held (K × V))} → pointer ≡ Some p → IsRechained heads words old nodes pointer count buckets → Chains p heads heads' nodes nodes' → IsHeld nodes' p
@@ -119,8 +113,8 @@ rechain_next_held {K} {V} {heads} {words} {old} {nodes} {pointer} {count} {bucke
 -- the bucket that was returned is that of the hash that was read
 pub rechain_bucket : {K V : Type 0} {heads : List (Option Ptr)} {words : List ℕ} {old nodes : List (Held (K × V))} {pointer : Option Ptr} {count buckets : ℕ} (p : Ptr) → pointer ≡ Some p → IsRechained heads words old nodes pointer count buckets → (bucket hash n : ℕ) → OfNodeAt nodes p (λ x. bucket ≡ x.hash % n) → AtHeld nodes p (λ before x after. hash ≡ x.hash) → bucket ≡ hash % n
 rechain_bucket p e w bucket hash n is own =
-    let g = rechain_is p e w in
-    is w.done g.0.node g.0.after g.1 g.0.at_is ∙ ap (λ h. h % n) (sym (own w.done g.0.node g.0.after g.1 g.0.at_is))
+    let g = rechain_held p e w in
+    is w.done g.node g.after g.is g.at_is ∙ ap (λ h. h % n) (sym (own w.done g.node g.after g.is g.at_is))
 
 -- the bits of all nodes are set, if there is a word for each bucket
 pub rechain_covers : {K V : Type 0} {heads : List (Option Ptr)} {words : List ℕ} {old nodes : List (Held (K × V))} {pointer : Option Ptr} {count buckets : ℕ} → pointer ≡ None → IsRechained heads words old nodes pointer count buckets → length words ≡ buckets → CoversAll words nodes
