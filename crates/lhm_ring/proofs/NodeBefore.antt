@@ -8,33 +8,29 @@ use Rattle.std.proofs.Math.Nat.{mod-lt}
 use denote.RawPtr.{Ptr}
 use Rattle.lhm_ring.specs.RingState.{State, Held, IsHeld, AtHeld, linked_to}
 use Rattle.lhm_ring.specs.Index.{Spot, spot, spots, PutsIn, IsRearranged, IsChain, is_in, HasChain, Indexes}
-use Rattle.lhm_ring.specs.Splits.{SplitAround}
+use Rattle.lhm_ring.specs.Splits.{SplitAt, SplitAround}
 use Rattle.lhm_ring.specs.Search.{OfNodeAt, IsLast, IsOnChain}
 use Rattle.lhm_ring.proofs.Rearranged.{PutsIn-middle, IsRearranged-less, IsRearranged-more}
 use Rattle.lhm_ring.proofs.Chains.{held_of, ChainFirst, chain_begins, chain_none, IsRearranged-back, PutsIn-filter_in, PutsIn-spots, length-IsRearranged}
 use Rattle.lhm_ring.proofs.IndexTakes.{OnNode, on_node}
 
--- on the way to the node at p, along its chain, which is cut behind it: here comes after before
-pub record IsTowards {K V : Type 0} (heads : List (Option Ptr)) (hash : ℕ) (nodes cut : List (Held (K × V))) (p : Ptr) (link before : Option Ptr) (here : Ptr) (passed : ℕ) : Type 0 where
-  pub xs : List (Held (K × V))
-  pub x : Held (K × V)
-  pub ys : List (Held (K × V))
-  pub is : nodes ≡ xs ++ x ∷ ys
-  pub at : x.at ≡ p
-  pub hash_is : hash ≡ x.hash
-  pub link_is : link ≡ x.link
-  pub cut_is : cut ≡ xs ++ linked_to None x ∷ ys
+-- the chain of the held node x: us come before it there, and vs after it
+pub record OnItsChain {K V : Type 0} (heads : List (Option Ptr)) (hash : ℕ) (nodes : List (Held (K × V))) (x : Held (K × V)) : Type 0 where
   pub us : List Spot
   pub vs : List Spot
   pub linked : IsChain (get_or heads (hash % length heads) None) (us ++ spot x ∷ vs)
   pub holds : IsRearranged (us ++ spot x ∷ vs) (filter (is_in (length heads) (hash % length heads)) (spots nodes))
-  pub done : List Spot
-  pub node : Spot
-  pub todo : List Spot
-  pub whole : us ++ spot (linked_to None x) ∷ [] ≡ done ++ node ∷ todo
-  pub at_is : node.at ≡ here
-  pub behind : IsLast before done
-  pub passed_is : passed ≡ length done
+
+-- on the way to the node at p, along its chain, which is cut behind it: here comes after before
+pub record IsTowards {K V : Type 0} (heads : List (Option Ptr)) (hash : ℕ) (nodes cut : List (Held (K × V))) (p : Ptr) (link before : Option Ptr) (here : Ptr) (passed : ℕ) : Type 0 where
+  pub held : IsHeld nodes p
+  pub hash_is : hash ≡ held.node.hash
+  pub link_is : link ≡ held.node.link
+  pub cut_is : cut ≡ held.before ++ linked_to None held.node ∷ held.after
+  pub chain : OnItsChain heads hash nodes held.node
+  pub on : SplitAt (λ s. s.at) (chain.us ++ spot (linked_to None held.node) ∷ []) here
+  pub behind : IsLast before on.before
+  pub passed_is : passed ≡ length on.before
 
 -- ---- lists
 
@@ -70,12 +66,6 @@ first_of here [] s t vs a c = record { node = t; after = []; is = refl; at_is = 
 first_of here (u ∷ us) s t vs a c = record { node = u; after = us ++ t ∷ []; is = refl; at_is = (let e : Some here ≡ Some u.at = c.0 in cc) }
 
 -- ---- the chain of a held node
-
-pub record OnItsChain {K V : Type 0} (heads : List (Option Ptr)) (hash : ℕ) (nodes : List (Held (K × V))) (x : Held (K × V)) : Type 0 where
-  pub us : List Spot
-  pub vs : List Spot
-  pub linked : IsChain (get_or heads (hash % length heads) None) (us ++ spot x ∷ vs)
-  pub holds : IsRearranged (us ++ spot x ∷ vs) (filter (is_in (length heads) (hash % length heads)) (spots nodes))
 
 its_chain : {K V : Type 0} (heads : List (Option Ptr)) (hash : ℕ) (nodes xs : List (Held (K × V))) (x : Held (K × V)) (ys : List (Held (K × V))) → Indexes heads (spots nodes) → nodes ≡ xs ++ x ∷ ys → hash ≡ x.hash → OnItsChain heads hash nodes x
 its_chain {K} {V} heads hash nodes xs x ys h is e =
@@ -117,121 +107,105 @@ towards_start {K} {V} {heads} {hash} {nodes} {p} cut link here h w e l d a =
     let c : OnItsChain heads hash nodes w.node = its_chain heads hash nodes w.before w.node w.after h w.is (e w.before w.node w.after w.is w.at_is) in
     let f : ChainFirst (c.us ++ spot (linked_to None w.node) ∷ []) here = first_of here c.us (spot w.node) (spot (linked_to None w.node)) c.vs refl (subst (λ (v : Option Ptr). IsChain v (c.us ++ spot w.node ∷ c.vs)) (sym a) c.linked) in
     record {
-      xs = w.before;
-      x = w.node;
-      ys = w.after;
-      is = w.is;
-      at = w.at_is;
+      held = w;
       hash_is = e w.before w.node w.after w.is w.at_is;
       link_is = l w.before w.node w.after w.is w.at_is;
       cut_is = d w.before w.node w.after w.is w.at_is;
-      us = c.us;
-      vs = c.vs;
-      linked = c.linked;
-      holds = c.holds;
-      done = [];
-      node = f.node;
-      todo = f.after;
-      whole = f.is;
-      at_is = f.at_is;
+      chain = c;
+      on = record { before = []; node = f.node; after = f.after; is = f.is; at_is = f.at_is };
       behind = inl (refl, refl);
       passed_is = refl;
     }
 
 -- the node on the way is one of the ring that is cut
-here_on : {K V : Type 0} {heads : List (Option Ptr)} {hash : ℕ} {nodes cut : List (Held (K × V))} {p : Ptr} {link before : Option Ptr} {here : Ptr} {passed : ℕ} (w : IsTowards heads hash nodes cut p link before here passed) → OnNode (length heads) (hash % length heads) w.done w.node (w.todo ++ w.vs) cut
+here_on : {K V : Type 0} {heads : List (Option Ptr)} {hash : ℕ} {nodes cut : List (Held (K × V))} {p : Ptr} {link before : Option Ptr} {here : Ptr} {passed : ℕ} (w : IsTowards heads hash nodes cut p link before here passed) → OnNode (length heads) (hash % length heads) w.on.before w.on.node (w.on.after ++ w.chain.vs) cut
 here_on {K} {V} {heads} {hash} {nodes} {cut} {p} {link} {before} {here} {passed} w =
     let n : ℕ = length heads in
     let f : Spot → Bool = is_in n (hash % n) in
-    let s : Spot = spot w.x in
-    let t : Spot = spot (linked_to None w.x) in
-    let others : List Spot = spots (w.xs ++ w.ys) in
-    let inside : f s ≡ true = eq-eqb (w.x.hash % n) (hash % n) (ap (λ v. v % n) (sym w.hash_is)) in
-    let ps : PutsIn s others (spots nodes) = subst (λ (v : List (Held (K × V))). PutsIn s others (spots v)) (sym w.is) (PutsIn-spots w.xs w.x w.ys) in
-    let pt : PutsIn t others (spots cut) = subst (λ (v : List (Held (K × V))). PutsIn t others (spots v)) (sym w.cut_is) (PutsIn-spots w.xs (linked_to None w.x) w.ys) in
-    let less : IsRearranged (w.us ++ w.vs) (filter f others) = IsRearranged-less s (w.us ++ w.vs) (w.us ++ s ∷ w.vs) (filter f others) (filter f (spots nodes)) (PutsIn-middle w.us s w.vs) (PutsIn-filter_in f s others (spots nodes) ps inside) w.holds in
-    let more : IsRearranged (w.us ++ t ∷ w.vs) (filter f (spots cut)) = IsRearranged-more t (w.us ++ w.vs) (w.us ++ t ∷ w.vs) (filter f others) (filter f (spots cut)) (PutsIn-middle w.us t w.vs) (PutsIn-filter_in f t others (spots cut) pt inside) less in
-    let all : w.us ++ t ∷ w.vs ≡ w.done ++ w.node ∷ (w.todo ++ w.vs) = sym (append_assoc w.us (t ∷ []) w.vs) ∙ ap (λ (v : List Spot). v ++ w.vs) w.whole ∙ append_assoc w.done (w.node ∷ w.todo) w.vs in
-    on_node n (hash % n) w.done w.node (w.todo ++ w.vs) cut (subst (λ (v : List Spot). IsRearranged v (filter f (spots cut))) all more)
+    let s : Spot = spot w.held.node in
+    let t : Spot = spot (linked_to None w.held.node) in
+    let others : List Spot = spots (w.held.before ++ w.held.after) in
+    let inside : f s ≡ true = eq-eqb (w.held.node.hash % n) (hash % n) (ap (λ v. v % n) (sym w.hash_is)) in
+    let ps : PutsIn s others (spots nodes) = subst (λ (v : List (Held (K × V))). PutsIn s others (spots v)) (sym w.held.is) (PutsIn-spots w.held.before w.held.node w.held.after) in
+    let pt : PutsIn t others (spots cut) = subst (λ (v : List (Held (K × V))). PutsIn t others (spots v)) (sym w.cut_is) (PutsIn-spots w.held.before (linked_to None w.held.node) w.held.after) in
+    let less : IsRearranged (w.chain.us ++ w.chain.vs) (filter f others) = IsRearranged-less s (w.chain.us ++ w.chain.vs) (w.chain.us ++ s ∷ w.chain.vs) (filter f others) (filter f (spots nodes)) (PutsIn-middle w.chain.us s w.chain.vs) (PutsIn-filter_in f s others (spots nodes) ps inside) w.chain.holds in
+    let more : IsRearranged (w.chain.us ++ t ∷ w.chain.vs) (filter f (spots cut)) = IsRearranged-more t (w.chain.us ++ w.chain.vs) (w.chain.us ++ t ∷ w.chain.vs) (filter f others) (filter f (spots cut)) (PutsIn-middle w.chain.us t w.chain.vs) (PutsIn-filter_in f t others (spots cut) pt inside) less in
+    let all : w.chain.us ++ t ∷ w.chain.vs ≡ w.on.before ++ w.on.node ∷ (w.on.after ++ w.chain.vs) = sym (append_assoc w.chain.us (t ∷ []) w.chain.vs) ∙ ap (λ (v : List Spot). v ++ w.chain.vs) w.on.is ∙ append_assoc w.on.before (w.on.node ∷ w.on.after) w.chain.vs in
+    on_node n (hash % n) w.on.before w.on.node (w.on.after ++ w.chain.vs) cut (subst (λ (v : List Spot). IsRearranged v (filter f (spots cut))) all more)
 
 pub towards_held : {K V : Type 0} {heads : List (Option Ptr)} {hash : ℕ} {nodes cut : List (Held (K × V))} {p : Ptr} {link before : Option Ptr} {here : Ptr} {passed : ℕ} → IsTowards heads hash nodes cut p link before here passed → IsHeld cut here
 towards_held {K} {V} {heads} {hash} {nodes} {cut} w =
-    let o : OnNode (length heads) (hash % length heads) w.done w.node (w.todo ++ w.vs) cut = here_on w in
-    held_of o.of w.at_is
+    let o : OnNode (length heads) (hash % length heads) w.on.before w.on.node (w.on.after ++ w.chain.vs) cut = here_on w in
+    held_of o.of w.on.at_is
 
 -- the rest of the chain, by the link that is read
-rest_on : {K V : Type 0} {heads : List (Option Ptr)} {hash : ℕ} {nodes cut : List (Held (K × V))} {p : Ptr} {link before : Option Ptr} {here : Ptr} {passed : ℕ} (read : Option Ptr) (w : IsTowards heads hash nodes cut p link before here passed) → OfNodeAt cut here (λ x. read ≡ x.link) → IsChain read w.todo
+rest_on : {K V : Type 0} {heads : List (Option Ptr)} {hash : ℕ} {nodes cut : List (Held (K × V))} {p : Ptr} {link before : Option Ptr} {here : Ptr} {passed : ℕ} (read : Option Ptr) (w : IsTowards heads hash nodes cut p link before here passed) → OfNodeAt cut here (λ x. read ≡ x.link) → IsChain read w.on.after
 rest_on {K} {V} {heads} {hash} {nodes} {cut} {p} {link} {before} {here} read w r =
-    let o : OnNode (length heads) (hash % length heads) w.done w.node (w.todo ++ w.vs) cut = here_on w in
-    let k : IsHeld cut here = held_of o.of w.at_is in
-    let e : read ≡ w.node.link = r k.before k.node k.after k.is k.at_is ∙ ap (λ v. v.link) o.of.split.at_is in
+    let o : OnNode (length heads) (hash % length heads) w.on.before w.on.node (w.on.after ++ w.chain.vs) cut = here_on w in
+    let k : IsHeld cut here = held_of o.of w.on.at_is in
+    let e : read ≡ w.on.node.link = r k.before k.node k.after k.is k.at_is ∙ ap (λ v. v.link) o.of.split.at_is in
     let head : Option Ptr = get_or heads (hash % length heads) None in
-    let c : IsChain head (w.us ++ spot (linked_to None w.x) ∷ []) = cut_chain head w.us (spot w.x) (spot (linked_to None w.x)) w.vs refl refl w.linked in
-    let d : IsChain head (w.done ++ w.node ∷ w.todo) = subst (λ (v : List Spot). IsChain head v) w.whole c in
-    subst (λ (v : Option Ptr). IsChain v w.todo) (sym e) (chain_tail head w.done w.node w.todo d)
+    let c : IsChain head (w.chain.us ++ spot (linked_to None w.held.node) ∷ []) = cut_chain head w.chain.us (spot w.held.node) (spot (linked_to None w.held.node)) w.chain.vs refl refl w.chain.linked in
+    let d : IsChain head (w.on.before ++ w.on.node ∷ w.on.after) = subst (λ (v : List Spot). IsChain head v) w.on.is c in
+    subst (λ (v : Option Ptr). IsChain v w.on.after) (sym e) (chain_tail head w.on.before w.on.node w.on.after d)
 
 pub towards_below : {K V : Type 0} {heads : List (Option Ptr)} {hash : ℕ} {nodes cut : List (Held (K × V))} {p : Ptr} {link before : Option Ptr} {here : Ptr} {passed : ℕ} → IsTowards heads hash nodes cut p link before here passed → passed + 1 ≤ length nodes
 towards_below {K} {V} {heads} {hash} {nodes} w =
     let f : Spot → Bool = is_in (length heads) (hash % length heads) in
-    let a : length (w.us ++ spot w.x ∷ w.vs) ≡ length (filter f (spots nodes)) = length-IsRearranged (w.us ++ spot w.x ∷ w.vs) (filter f (spots nodes)) w.holds in
+    let a : length (w.chain.us ++ spot w.held.node ∷ w.chain.vs) ≡ length (filter f (spots nodes)) = length-IsRearranged (w.chain.us ++ spot w.held.node ∷ w.chain.vs) (filter f (spots nodes)) w.chain.holds in
     let b = length-filter f (spots nodes) in
     let c = count_by-le-length f (spots nodes) in
     let d : length (spots nodes) ≡ length nodes = length-map nodes spot in
-    let e : length (w.us ++ spot w.x ∷ w.vs) ≡ length w.us + length (spot w.x ∷ w.vs) = length-append w.us (spot w.x ∷ w.vs) in
-    let k : length (w.us ++ spot (linked_to None w.x) ∷ []) ≡ length w.us + 1 = length-append w.us (spot (linked_to None w.x) ∷ []) in
-    let m : length (w.done ++ w.node ∷ w.todo) ≡ length w.done + length (w.node ∷ w.todo) = length-append w.done (w.node ∷ w.todo) in
-    let q : length (w.us ++ spot (linked_to None w.x) ∷ []) ≡ length (w.done ++ w.node ∷ w.todo) = ap length w.whole in
+    let e : length (w.chain.us ++ spot w.held.node ∷ w.chain.vs) ≡ length w.chain.us + length (spot w.held.node ∷ w.chain.vs) = length-append w.chain.us (spot w.held.node ∷ w.chain.vs) in
+    let k : length (w.chain.us ++ spot (linked_to None w.held.node) ∷ []) ≡ length w.chain.us + 1 = length-append w.chain.us (spot (linked_to None w.held.node) ∷ []) in
+    let m : length (w.on.before ++ w.on.node ∷ w.on.after) ≡ length w.on.before + length (w.on.node ∷ w.on.after) = length-append w.on.before (w.on.node ∷ w.on.after) in
+    let q : length (w.chain.us ++ spot (linked_to None w.held.node) ∷ []) ≡ length (w.on.before ++ w.on.node ∷ w.on.after) = ap length w.on.is in
     let r = w.passed_is in
     omega (arith, a, b, c, d, e, k, m, q, r)
 
 pub towards_next : {K V : Type 0} {heads : List (Option Ptr)} {hash : ℕ} {nodes cut : List (Held (K × V))} {p : Ptr} {link before : Option Ptr} {here : Ptr} {passed : ℕ} (read : Option Ptr) (next : Ptr) → IsTowards heads hash nodes cut p link before here passed → OfNodeAt cut here (λ x. read ≡ x.link) → read ≡ Some next → IsTowards heads hash nodes cut p link (Some here) next (passed + 1)
 towards_next {K} {V} {heads} {hash} {nodes} {cut} {p} {link} {before} {here} {passed} read next w r e =
-    let b : ChainFirst w.todo next = chain_begins next w.todo (subst (λ (v : Option Ptr). IsChain v w.todo) e (rest_on read w r)) in
-    let k : length (w.done ++ w.node ∷ []) ≡ length w.done + 1 = length-append w.done (w.node ∷ []) in
+    let b : ChainFirst w.on.after next = chain_begins next w.on.after (subst (λ (v : Option Ptr). IsChain v w.on.after) e (rest_on read w r)) in
+    let k : length (w.on.before ++ w.on.node ∷ []) ≡ length w.on.before + 1 = length-append w.on.before (w.on.node ∷ []) in
     let m = w.passed_is in
     record {
-      xs = w.xs;
-      x = w.x;
-      ys = w.ys;
-      is = w.is;
-      at = w.at;
+      held = w.held;
       hash_is = w.hash_is;
       link_is = w.link_is;
       cut_is = w.cut_is;
-      us = w.us;
-      vs = w.vs;
-      linked = w.linked;
-      holds = w.holds;
-      done = w.done ++ w.node ∷ [];
-      node = b.node;
-      todo = b.after;
-      whole = w.whole ∙ ap (λ (v : List Spot). w.done ++ w.node ∷ v) b.is ∙ sym (append_assoc w.done (w.node ∷ []) (b.node ∷ b.after));
-      at_is = b.at_is;
-      behind = inr (record { before = w.done; node = w.node; is = refl; at_is = ap Some w.at_is });
+      chain = w.chain;
+      on = record {
+        before = w.on.before ++ w.on.node ∷ [];
+        node = b.node;
+        after = b.after;
+        is = w.on.is ∙ ap (λ (v : List Spot). w.on.before ++ w.on.node ∷ v) b.is ∙ sym (append_assoc w.on.before (w.on.node ∷ []) (b.node ∷ b.after));
+        at_is = b.at_is;
+      };
+      behind = inr (record { before = w.on.before; node = w.on.node; is = refl; at_is = ap Some w.on.at_is });
       passed_is = (omega (arith, k, m));
     }
 
 pub towards_end : {K V : Type 0} {heads : List (Option Ptr)} {hash : ℕ} {nodes cut : List (Held (K × V))} {p : Ptr} {link before : Option Ptr} {here : Ptr} {passed : ℕ} (read : Option Ptr) → IsTowards heads hash nodes cut p link before here passed → OfNodeAt cut here (λ x. read ≡ x.link) → read ≡ None → IsOnChain heads hash (spots nodes) before p
 towards_end {K} {V} {heads} {hash} {nodes} {cut} {p} {link} {before} read w r e =
-    let z : w.todo ≡ [] = chain_none w.todo (subst (λ (v : Option Ptr). IsChain v w.todo) e (rest_on read w r)) in
-    let same : w.us ≡ w.done = fronts w.us (spot (linked_to None w.x)) w.done w.node (w.whole ∙ ap (λ (v : List Spot). w.done ++ w.node ∷ v) z) in
+    let z : w.on.after ≡ [] = chain_none w.on.after (subst (λ (v : Option Ptr). IsChain v w.on.after) e (rest_on read w r)) in
+    let same : w.chain.us ≡ w.on.before = fronts w.chain.us (spot (linked_to None w.held.node)) w.on.before w.on.node (w.on.is ∙ ap (λ (v : List Spot). w.on.before ++ w.on.node ∷ v) z) in
     record {
-      done = w.us;
-      here = spot w.x;
-      rest = w.vs;
-      linked = w.linked;
-      holds = w.holds;
+      done = w.chain.us;
+      here = spot w.held.node;
+      rest = w.chain.vs;
+      linked = w.chain.linked;
+      holds = w.chain.holds;
       behind = subst (λ (v : List Spot). IsLast before v) (sym same) w.behind;
-      at_is = w.at;
+      at_is = w.held.at_is;
     }
 
 -- the link is put back
 pub towards_mended : {K V : Type 0} {heads : List (Option Ptr)} {hash : ℕ} {nodes cut : List (Held (K × V))} {p : Ptr} {link before : Option Ptr} {here : Ptr} {passed : ℕ} (new : List (Held (K × V))) → IsTowards heads hash nodes cut p link before here passed → AtHeld cut p (λ before' x after. new ≡ before' ++ linked_to link x ∷ after) → new ≡ nodes
 towards_mended {K} {V} {heads} {hash} {nodes} {cut} {p} {link} new w s =
-    s w.xs (linked_to None w.x) w.ys w.cut_is w.at ∙ ap (λ (l : Option Ptr). w.xs ++ linked_to l w.x ∷ w.ys) w.link_is ∙ sym w.is
+    s w.held.before (linked_to None w.held.node) w.held.after w.cut_is w.held.at_is ∙ ap (λ (l : Option Ptr). w.held.before ++ linked_to l w.held.node ∷ w.held.after) w.link_is ∙ sym w.held.is
 
 pub towards_cut_held : {K V : Type 0} {heads : List (Option Ptr)} {hash : ℕ} {nodes cut : List (Held (K × V))} {p : Ptr} {link before : Option Ptr} {here : Ptr} {passed : ℕ} → IsTowards heads hash nodes cut p link before here passed → IsHeld cut p
-towards_cut_held w = record { before = w.xs; node = linked_to None w.x; after = w.ys; is = w.cut_is; at_is = w.at }
+towards_cut_held w = record { before = w.held.before; node = linked_to None w.held.node; after = w.held.after; is = w.cut_is; at_is = w.held.at_is }
 
 -- states are told by their fields
 pub same_state : {B : Type 0} (s t : State B) → s.held ≡ t.held → s.spares ≡ t.spares → s.nodes ≡ t.nodes → s ≡ t
