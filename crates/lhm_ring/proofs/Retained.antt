@@ -55,11 +55,12 @@ module _ {B : Type 0} where
 -- the ring
 pub taken_in : {F K V : Type 0} (Q : F → K → V → Type 0) (f : F) {p : Ptr} (s : State (K × V)) (r : ℕ) {m : TableState (K × V)} → table_of s r ≡ m → TakesAt Q f m.held p → TakesAt Q f s.held p
 taken_in {F} {K} {V} Q f {p} s r seen h =
-    let at = h.0 in
-    let i = (entries_cut s.held at.before at.node at.after (ap (λ (z : TableState (K × V)). z.held) seen ∙ at.is)).split in (
-      record { before = i.before; node = i.node; after = i.after; is = i.is; at_is = ap (λ (t : Held (K × V)). t.at) i.at_is ∙ at.at_is },
-      subst (λ (t : Held (K × V)). Q f t.pair.0 t.pair.1) (sym i.at_is) h.1,
-    )
+    let at = h.held in
+    let i = (entries_cut s.held at.before at.node at.after (ap (λ (z : TableState (K × V)). z.held) seen ∙ at.is)).split in
+    record {
+      held = record { before = i.before; node = i.node; after = i.after; is = i.is; at_is = ap (λ (t : Held (K × V)). t.at) i.at_is ∙ at.at_is };
+      takes = subst (λ (t : Held (K × V)). Q f t.pair.0 t.pair.1) (sym i.at_is) h.takes;
+    }
 
 -- one call, after which the pair stays with its value or is removed
 module _ {F K V : Type 0} (T : F → K → V → Bool → V → F → Type 0) {f f' : F} {old now : List (Held (K × V))} {p : Ptr} {b : Bool} {w : V} where
@@ -118,7 +119,7 @@ module _ {F K V : Type 0} (T : F → K → V → Bool → V → F → Type 0) (Q
       callable_now = subst (λ l. CallableOnEachPair T Q f (map (λ t. t.pair) l)) n.is m.callable
 
       pub next_taken : TakesAt Q f now p
-      next_taken = (next_held, callable-first callable_now)
+      next_taken = record { held = next_held; takes = callable-first callable_now }
 
       module _ {f' : F} {new : List (Held (K × V))} {next' : Option Ptr} (made : RetainsAt T f now p new f') (follows : AtHeld now p (λ xs t ys. next' ≡ first_at ys)) where
         abbrev kept' : List (Held (K × V))

@@ -9,9 +9,10 @@ use Rattle.lhm_ring.specs.RingState.{Held, IsHeld, AtHeld, first_at}
 use Rattle.lhm_ring.specs.RingAfterLoan.{revalued}
 
 -- a pair is held at p, and f may be called at it
-abbrev pub TakesAt : {F K V : Type 0} → (F → K → V → Type 0) → F → List (Held (K × V)) → Ptr
-    → Type 0
-TakesAt Q f hs p = (h : IsHeld hs p) × Q f h.node.pair.0 h.node.pair.1
+pub record TakesAt {F K V : Type 0} (Q : F → K → V → Type 0) (f : F) (hs : List (Held (K × V)))
+    (p : Ptr) : Type 0 where
+  pub held : IsHeld hs p
+  pub takes : Q f held.node.pair.0 held.node.pair.1
 
 module _ {F K V : Type 0} (T : F → K → V → Bool → V → F → Type 0) where
   -- f was called at the pair at p, returned b, and left the value w there

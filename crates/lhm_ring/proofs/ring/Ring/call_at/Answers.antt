@@ -15,24 +15,24 @@ use Rattle.lhm_ring.proofs.ring.Ring.call_at.Goals as goal
 pub take-key-requires : goal.take-key-requires
 take-key-requires g c =
     let i = c.self.inside in let p = c.args.at.pointer.ptr in
-    holds_in i.ends i.nodes.cells p c.args.at.block (read_held (ring_cells i.ends i.nodes.cells) i.spare i.len i.spares _ c.self.invariant.ring c.self.view_is p c.requires.0)
+    holds_in i.ends i.nodes.cells p c.args.at.block (read_held (ring_cells i.ends i.nodes.cells) i.spare i.len i.spares _ c.self.invariant.ring c.self.view_is p c.requires.held)
 
 pub call-kept-requires : goal.call-kept-requires
 call-kept-requires g c =
-    let i = c.self.inside in let h = c.requires.0 in let p = c.args.at.pointer.ptr in let b = ring_body i.ends i.nodes.cells p c.args.at.block ∙ c.take-key.ensures.body in
+    let i = c.self.inside in let h = c.requires.held in let p = c.args.at.pointer.ptr in let b = ring_body i.ends i.nodes.cells p c.args.at.block ∙ c.take-key.ensures.body in
     let is = read_pair (ring_cells i.ends i.nodes.cells) i.spare i.len i.spares _ c.self.invariant.ring c.self.view_is p _ b h.before h.node h.after h.is h.at_is in
-    λ p q key value. c.requires.1 p q (key ∙ ap (λ z. z.0) is) (value ∙ ap (λ z. z.1) is)
+    λ p q key value. c.requires.takes p q (key ∙ ap (λ z. z.0) is) (value ∙ ap (λ z. z.1) is)
 
 pub fill-requires : goal.fill-requires
 fill-requires g c =
-    let i = c.self.inside in let h = c.requires.0 in let p = c.args.at.pointer.ptr in let zs = i.nodes.cells in
+    let i = c.self.inside in let h = c.requires.held in let p = c.args.at.pointer.ptr in let zs = i.nodes.cells in
     let l = read_links (ring_cells i.ends zs) i.spare i.len i.spares _ c.self.invariant.ring c.self.view_is p h.before h.node h.after h.is h.at_is in
     let e = sym (ring_links i.ends zs p c.args.at.block) ∙ l.1 in
     (l.0, ap (λ ds. links_at ds p) c.take-key.ensures.cells ∙ links_kept p None zs l.0 e p ∙ e)
 
 pub invariant_of-self : goal.invariant_of-self
 invariant_of-self g c =
-    let i = c.self.inside in let h = c.requires.0 in let p = c.args.at.pointer.ptr in let cs = ring_cells i.ends i.nodes.cells in
+    let i = c.self.inside in let h = c.requires.held in let p = c.args.at.pointer.ptr in let cs = ring_cells i.ends i.nodes.cells in
     let l = read_links cs i.spare i.len i.spares _ c.self.invariant.ring c.self.view_is p h.before h.node h.after h.is h.at_is in
     let x = pair c.take-key.result.0 c.call-kept.new.value in
     let k = held_in cs i.spare i.len i.spares _ c.self.invariant.ring c.self.view_is p h in
@@ -46,7 +46,7 @@ invariant_of-self g c =
 
 pub returns-clause-called : goal.returns-clause-called
 returns-clause-called g c =
-    let i = c.self.inside in let h = c.requires.0 in let p = c.args.at.pointer.ptr in let cs = ring_cells i.ends i.nodes.cells in
+    let i = c.self.inside in let h = c.requires.held in let p = c.args.at.pointer.ptr in let cs = ring_cells i.ends i.nodes.cells in
     let v = c.self.view_is in
     let l = read_links cs i.spare i.len i.spares _ c.self.invariant.ring v p h.before h.node h.after h.is h.at_is in
     let w = c.call-kept.new.value in
