@@ -10,6 +10,7 @@ pub mod Effects
 pub mod EntryFacts
 mod EntryValue
 mod Examples
+pub mod ExtendSteps
 pub mod Extends
 pub mod FirstAndLast
 pub mod Fitted
