@@ -1,3 +1,4 @@
+pub mod AbsentKeys
 pub mod Bridge
 pub mod Callers
 pub mod Clones

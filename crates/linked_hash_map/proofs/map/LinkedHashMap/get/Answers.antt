@@ -1,7 +1,7 @@
-use Rattle.std.proofs.Common.{Some, option_map, fold, sym, ap, ◌∙◌}
-use Rattle.linked_hash_map.specs.Hashers.{hash_by}
+use Rattle.std.proofs.Common.{Some, sym, ap, ◌∙◌}
 use Rattle.linked_hash_map.proofs.Indexes.{value_at-index}
-use Rattle.linked_hash_map.proofs.Kept.{index_of-key, pair_there, node, front, back, distinct_keys, absent_key}
+use Rattle.linked_hash_map.proofs.Kept.{index_of-key, pair_there, node, front, back, distinct_keys}
+use Rattle.linked_hash_map.proofs.AbsentKeys.{value_at-IsAbsent}
 use Rattle.linked_hash_map.proofs.map.LinkedHashMap.get.Goals as goal
 
 pub returns : goal.returns
@@ -15,7 +15,6 @@ returns g c =
 pub returns-in_err-at : goal.returns-in_err-at
 returns-in_err-at g c =
     let m = c.self.inside in
-    rw (c.from_residual.ensures, ← c.self.view_is) (sym (ap (option_map (λ p. p.1)) (absent_key g.K.PartialEq.eq (hash_by g.S.Hasher.Hasher.finish g.S.Hasher.Hasher.write g.S.BuildHasher.build_hasher g.K.Hash.hash_input m.hasher)
-    (λ x y h. ap (λ ws. g.S.Hasher.Hasher.finish (fold g.S.Hasher.Hasher.write (g.S.BuildHasher.build_hasher m.hasher) ws)) (g.met.K.Hash.respects_eq x y h))
-    c.args.key.now c.hash_one-hash.result c.hash_one-hash.ensures m.table.held c.self.invariant.nodes.hashed
-    c.in_err-at.ensures.absent)))
+    rw (c.from_residual.ensures, ← c.self.view_is) (sym (value_at-IsAbsent g.K.PartialEq.eq g.S.Hasher.Hasher.finish g.S.Hasher.Hasher.write g.S.BuildHasher.build_hasher g.K.Hash.hash_input g.met.K.Hash.respects_eq m.hasher
+    c.args.key.now c.hash_one-hash.ensures m.table.held c.self.invariant.nodes.hashed
+    c.in_err-at.ensures.absent))

@@ -1,4 +1,4 @@
-use Rattle.std.proofs.Common.{◌≤◌, Some, option_map, refl, fold, sym, ap, ◌∙◌, subst}
+use Rattle.std.proofs.Common.{◌≤◌, Some, refl, sym, ap, ◌∙◌, subst}
 use Rattle.lhm_ring.specs.Buckets.{buckets}
 use Rattle.lhm_ring.specs.Index.{spots}
 use Rattle.lhm_ring.specs.Positions.{pointer_of}
@@ -6,7 +6,8 @@ use Rattle.lhm_ring.specs.Search.{HasKey, IsAbsent, CountsSome, CountsAll}
 use Rattle.linked_hash_map.specs.Hashers.{hash_by}
 use Rattle.linked_hash_map.proofs.Counts.{same-pairs, beside-pairs}
 use Rattle.linked_hash_map.proofs.Indexes.{value_at-index}
-use Rattle.linked_hash_map.proofs.Kept.{IsValid-view, of-Some, of-None, of-OnSome, index_of-key, pair_there, node, front, back, distinct_keys, absent_key}
+use Rattle.linked_hash_map.proofs.Kept.{IsValid-view, of-Some, of-None, of-OnSome, index_of-key, pair_there, node, front, back, distinct_keys}
+use Rattle.linked_hash_map.proofs.AbsentKeys.{value_at-IsAbsent}
 use Rattle.linked_hash_map.proofs.map.LinkedHashMap.get_counted.Goals as goal
 
 pub returns-in-Some-clause-value : goal.returns-in-Some-clause-value
@@ -40,10 +41,9 @@ returns-in-Some-clause-visited_few g c =
 pub returns-in-None-clause-value : goal.returns-in-None-clause-value
 returns-in-None-clause-value g c =
     let m = c.self.inside in
-    rw (← c.self.view_is) (sym (ap (option_map (λ p. p.1)) (absent_key g.K.PartialEq.eq (hash_by g.S.Hasher.Hasher.finish g.S.Hasher.Hasher.write g.S.BuildHasher.build_hasher g.K.Hash.hash_input m.hasher)
-    (λ x y h. ap (λ ws. g.S.Hasher.Hasher.finish (fold g.S.Hasher.Hasher.write (g.S.BuildHasher.build_hasher m.hasher) ws)) (g.met.K.Hash.respects_eq x y h))
-    c.args.key.now c.hash_one-hash.result c.hash_one-hash.ensures m.table.held c.self.invariant.nodes.hashed
-    (of-None (IsAbsent g.K.PartialEq.eq c.hash_one-hash.result c.args.key.now m.table.held) c.find-found.result.0 c.in-None.is c.find-found.ensures.absent))))
+    rw (← c.self.view_is) (sym (value_at-IsAbsent g.K.PartialEq.eq g.S.Hasher.Hasher.finish g.S.Hasher.Hasher.write g.S.BuildHasher.build_hasher g.K.Hash.hash_input g.met.K.Hash.respects_eq m.hasher
+    c.args.key.now c.hash_one-hash.ensures m.table.held c.self.invariant.nodes.hashed
+    (of-None (IsAbsent g.K.PartialEq.eq c.hash_one-hash.result c.args.key.now m.table.held) c.find-found.result.0 c.in-None.is c.find-found.ensures.absent)))
 
 pub returns-in-None-clause-valid : goal.returns-in-None-clause-valid
 returns-in-None-clause-valid g c = rw (← c.self.view_is) (IsValid-view c.self.invariant refl refl)

@@ -1,13 +1,13 @@
-use Rattle.std.proofs.Common.{Some, option_map, fold, refl, inl, ap, sym, ◌∙◌}
+use Rattle.std.proofs.Common.{Some, refl, inl, ap, sym, ◌∙◌}
 use Rattle.lhm_ring.specs.Positions.{pointer_of}
 use Rattle.lhm_ring.specs.Search.{HasKey, IsAbsent}
 use Rattle.lhm_ring.specs.RingState.{change_at}
 use Rattle.lhm_ring.specs.RingAfterLoan.{revalued}
 use Rattle.linked_hash_map.specs.Nodes.{beside}
-use Rattle.linked_hash_map.specs.Hashers.{hash_by}
-use Rattle.linked_hash_map.proofs.Kept.{IsValid-view, of-Some, of-None, index_of-key, pair_there, node, front, back, pairs_set, map_of-revalued, bare-change, distinct_keys, absent_key}
+use Rattle.linked_hash_map.proofs.Kept.{IsValid-view, of-Some, of-None, index_of-key, pair_there, node, front, back, pairs_set, map_of-revalued, bare-change, distinct_keys}
 use Rattle.linked_hash_map.proofs.Current.{IsKept-with_value}
 use Rattle.linked_hash_map.proofs.Indexes.{value_at-index, set_value-index}
+use Rattle.linked_hash_map.proofs.AbsentKeys.{value_at-IsAbsent}
 use Rattle.linked_hash_map.proofs.map.LinkedHashMap.get_mut.Goals as goal
 
 pub invariant_of-self-lent : goal.invariant_of-self-lent
@@ -39,10 +39,9 @@ returns-in-None g c =
       refl,
       record {
         writes_back = tt;
-        value = sym (ap (option_map (λ p. p.1)) (absent_key g.K.PartialEq.eq (hash_by g.S.Hasher.Hasher.finish g.S.Hasher.Hasher.write g.S.BuildHasher.build_hasher g.K.Hash.hash_input m.hasher)
-            (λ x y h. ap (λ ws. g.S.Hasher.Hasher.finish (fold g.S.Hasher.Hasher.write (g.S.BuildHasher.build_hasher m.hasher) ws)) (g.met.K.Hash.respects_eq x y h))
-            c.args.key.now c.hash_one-hash.result c.hash_one-hash.ensures m.table.held c.self.invariant.nodes.hashed
-            (of-None (IsAbsent g.K.PartialEq.eq c.hash_one-hash.result c.args.key.now m.table.held) c.position.result c.in-None.is c.position.ensures.absent)));
+        value = sym (value_at-IsAbsent g.K.PartialEq.eq g.S.Hasher.Hasher.finish g.S.Hasher.Hasher.write g.S.BuildHasher.build_hasher g.K.Hash.hash_input g.met.K.Hash.respects_eq m.hasher
+            c.args.key.now c.hash_one-hash.ensures m.table.held c.self.invariant.nodes.hashed
+            (of-None (IsAbsent g.K.PartialEq.eq c.hash_one-hash.result c.args.key.now m.table.held) c.position.result c.in-None.is c.position.ensures.absent));
         valid = IsValid-view c.self.invariant refl refl;
       },
     )

@@ -1,13 +1,13 @@
-use Rattle.std.proofs.Common.{None, option_map, fold, refl, inl, ap, sym}
+use Rattle.std.proofs.Common.{None, refl, inl, sym}
 use Rattle.lhm_ring.specs.Positions.{pointer_of}
 use Rattle.lhm_ring.specs.Search.{HasKey, IsAbsent}
 use Rattle.linked_hash_map.specs.declared.map.Mode.TheVariants.{Touch}
 use Rattle.linked_hash_map.specs.Nodes.{map_of, beside}
-use Rattle.linked_hash_map.specs.Hashers.{hash_by}
 use Rattle.linked_hash_map.proofs.Callers.Updates.{Updates-put}
-use Rattle.linked_hash_map.proofs.Kept.{IsValid-view, of-Some, of-None, absent_key, distinct_keys}
+use Rattle.linked_hash_map.proofs.Kept.{IsValid-view, of-Some, of-None, distinct_keys}
 use Rattle.linked_hash_map.proofs.Current.{key_lies, key_index, found_lies}
 use Rattle.linked_hash_map.proofs.PutPair.{touched_cut, pairs-put, value_at-touched, IsKept-put}
+use Rattle.linked_hash_map.proofs.AbsentKeys.{value_at-IsAbsent}
 use Rattle.linked_hash_map.proofs.map.LinkedHashMap.get_refresh.Goals as goal
 
 pub value_mut-requires : goal.value_mut-requires
@@ -48,10 +48,9 @@ returns-in-None g c =
       refl,
       record {
         writes_back = tt;
-        value = sym (ap (option_map (λ p. p.1)) (absent_key g.K.PartialEq.eq (hash_by g.S.Hasher.Hasher.finish g.S.Hasher.Hasher.write g.S.BuildHasher.build_hasher g.K.Hash.hash_input m.hasher)
-            (λ x y h. ap (λ ws. g.S.Hasher.Hasher.finish (fold g.S.Hasher.Hasher.write (g.S.BuildHasher.build_hasher m.hasher) ws)) (g.met.K.Hash.respects_eq x y h))
-            c.args.key.now c.hash_one-hash.result c.hash_one-hash.ensures m.table.held c.self.invariant.nodes.hashed
-            (of-None (IsAbsent g.K.PartialEq.eq c.hash_one-hash.result c.args.key.now m.table.held) c.position.result c.in-None.is c.position.ensures.absent)));
+        value = sym (value_at-IsAbsent g.K.PartialEq.eq g.S.Hasher.Hasher.finish g.S.Hasher.Hasher.write g.S.BuildHasher.build_hasher g.K.Hash.hash_input g.met.K.Hash.respects_eq m.hasher
+            c.args.key.now c.hash_one-hash.ensures m.table.held c.self.invariant.nodes.hashed
+            (of-None (IsAbsent g.K.PartialEq.eq c.hash_one-hash.result c.args.key.now m.table.held) c.position.result c.in-None.is c.position.ensures.absent));
         valid = IsValid-view c.self.invariant refl refl;
         updates = λ v. Updates-put g.met.K.Eq.laws Touch _ _ _ v refl;
       },
