@@ -1,13 +1,14 @@
 -- For callers: what a call changes, at its key and at the others.
-use Rattle.std.proofs.Common.{◌≡◌, ℕ, ◌<◌, ◌≤◌, max, Bool, List, length, Option, Some, None, is_some, refl, ap, ◌∙◌, arith}
+use Rattle.std.proofs.Common.{◌≡◌, ℕ, ◌<◌, ◌≤◌, max, Bool, List, length, Option, Some, None, is_some, refl, sym, ap, ◌∙◌, arith}
 use Rattle.std.specs.Cmp.{IsEquivalence}
 use Rattle.std.specs.List.{IsDistinct}
 use Rattle.std.specs.Map.{keys_of}
+use Rattle.std.specs.Option.{IsSome}
 use Rattle.linked_hash_map.specs.declared.map.Mode.{Mode}
-use Rattle.linked_hash_map.specs.Pairs.{find, value_at, put, without, set_or_push}
+use Rattle.linked_hash_map.specs.Pairs.{find, value_at, put, without, set_value, set_or_push}
 use Rattle.linked_hash_map.specs.Updates.{Updates}
 use Rattle.linked_hash_map.proofs.Callers.Lookups.{value_at-put_here, value_at-put_apart, value_at-without_here, value_at-without_apart, value_at-set_or_push_here, value_at-set_or_push_apart}
-use Rattle.linked_hash_map.proofs.Callers.Keys.{length-put_absent, length-put_present}
+use Rattle.linked_hash_map.proofs.Callers.Keys.{length-put_absent, length-put_present, set_or_push-present}
 
 -- an insertion of a key that is present, or that has room, leaves the capacity
 pub max-length_put : {K V : Type 0} {eq : K → K → Bool} → IsEquivalence eq
@@ -34,6 +35,10 @@ module _ {K V : Type 0} {eq : K → K → Bool} (laws : IsEquivalence eq) (befor
     here = ap (λ pairs. value_at eq pairs k) is ∙ value_at-set_or_push_here laws before k v;
     others = λ q apart. ap (λ pairs. value_at eq pairs q) is ∙ value_at-set_or_push_apart laws before k q v apart;
   }
+
+  pub Updates-set_value : IsSome (find eq before k) → (v : V) → after ≡ set_value eq before k v
+      → Updates eq before after k (Some v)
+  Updates-set_value there v is = Updates-set_or_push v (is ∙ sym (set_or_push-present eq before k v there))
 
 pub Updates-put : {K V : Type 0} {eq : K → K → Bool} → IsEquivalence eq
     → (mode : Mode) (before after : List (K × V)) (k : K) (v : V) → after ≡ put eq mode before k v

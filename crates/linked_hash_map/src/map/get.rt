@@ -3,7 +3,7 @@ ghost use Rattle.std.specs.Prelude.{◌≡◌, ◌≤◌, option_copied, option_
 ghost use Rattle.std.specs.Map.Iter.{deref_pair};
 ghost use Rattle.std.specs.Borrow.{sem};
 ghost use Rattle.std.specs.Option.{option_copied_mut};
-ghost use Rattle.linked_hash_map.specs.Pairs.{find, value_at, to_back, first, last};
+ghost use Rattle.linked_hash_map.specs.Pairs.{find, value_at, to_back, set_value, first, last};
 ghost use Rattle.linked_hash_map.specs.Updates.{Updates};
 ghost use Rattle.linked_hash_map.specs.Validity.{IsValid};
 ghost use Rattle.linked_hash_map.specs.Hashers.{hash_by};
@@ -52,6 +52,11 @@ impl<K: Eq + Hash, V, S: BuildHasher> LinkedHashMap<K, V, S> {
             self.entry key.now result) }
         ensures value { option_copied_mut result ≡ value_at K.eq self.old.pairs key.now }
         ensures valid { IsValid K.eq self.old }
+
+        // A law of the map once a value is written, for the proofs of callers.
+        ensures updates { (v : V) → OnSome result
+            (Updates K.eq self.old.pairs (set_value K.eq self.old.pairs key.now v) key.now
+            (Some v)) }
     {
         let hash = self.hasher.hash_one(key);
         match self.table.position(hash, key) {
@@ -245,6 +250,11 @@ impl<'q, K: Eq + Hash, V, S: BuildHasher> IndexMut<&'q K> for LinkedHashMap<K, V
             self.entry key.now result) }
         ensures value { value_at K.eq self.old.pairs key.now ≡ Some result.now }
         ensures valid { IsValid K.eq self.old }
+
+        // A law of the map once a value is written, for the proofs of callers.
+        ensures updates { (v : V)
+            → Updates K.eq self.old.pairs (set_value K.eq self.old.pairs key.now v) key.now
+            (Some v) }
     {
         match self.get_mut(key) {
             Some(value) => value,

@@ -4,9 +4,10 @@ use Rattle.lhm_ring.specs.Search.{HasKey, IsAbsent}
 use Rattle.lhm_ring.specs.RingState.{change_at}
 use Rattle.lhm_ring.specs.RingAfterLoan.{revalued}
 use Rattle.linked_hash_map.specs.Nodes.{beside}
+use Rattle.linked_hash_map.proofs.Callers.Updates.{Updates-set_value}
 use Rattle.linked_hash_map.proofs.Kept.{IsValid-view, of-Some, of-None, index_of-key, pair_there, node, front, back, pairs_set, map_of-revalued, bare-change, distinct_keys}
 use Rattle.linked_hash_map.proofs.Current.{IsKept-with_value}
-use Rattle.linked_hash_map.proofs.Indexes.{value_at-index, set_value-index}
+use Rattle.linked_hash_map.proofs.Indexes.{value_at-index, set_value-index, is_some-index}
 use Rattle.linked_hash_map.proofs.AbsentKeys.{value_at-IsAbsent}
 use Rattle.linked_hash_map.proofs.map.LinkedHashMap.get_mut.Goals as goal
 
@@ -29,6 +30,7 @@ returns-in-Some g c =
         writes_back = tt;
         value = ap Some (c.value_mut.ensures.value (front h.held) (node h.held) (back h.held) h.held.is h.held.at_is) ∙ value_at-index g.met.K.Eq.laws distinct (index_of-key h) (pair_there h.held);
         valid = IsValid-view c.self.invariant refl refl;
+        updates = λ v. Updates-set_value g.met.K.Eq.laws _ _ _ (is_some-index g.met.K.Eq.laws distinct (index_of-key h)) v refl;
       },
     )
 
@@ -43,5 +45,6 @@ returns-in-None g c =
             c.args.key.now c.hash_one-hash.ensures m.table.held c.self.invariant.nodes.hashed
             (of-None (IsAbsent g.K.PartialEq.eq c.hash_one-hash.result c.args.key.now m.table.held) c.position.result c.in-None.is c.position.ensures.absent));
         valid = IsValid-view c.self.invariant refl refl;
+        updates = λ v. tt;
       },
     )
