@@ -3,9 +3,10 @@ ghost use Rattle.std.specs.Prelude.{◌≡◌, ◌<◌, length, is_some, Some, N
 ghost use Rattle.std.specs.Borrow.{sem, MutBor};
 ghost use Rattle.std.specs.Map.Calls.{ModifiesValue};
 ghost use Rattle.std.specs.Option.{UnwrapsOrElse};
-ghost use Rattle.linked_hash_map.specs.Pairs.{key_or, find, value_at, set_if_some, ActsAs};
+ghost use Rattle.linked_hash_map.specs.Pairs.{key_or, find, value_at, without, set_or_push, set_if_some, put, ActsAs};
 ghost use Rattle.linked_hash_map.specs.Cursor.{without_cursor};
 ghost use Rattle.linked_hash_map.specs.Changes.{Keeps};
+ghost use Rattle.linked_hash_map.specs.Updates.{Updates};
 ghost use Rattle.linked_hash_map.specs.Validity.{IsValid};
 ghost use Rattle.linked_hash_map.specs.Entry.{entry_map_ref, entry_map, is_occupied, entry_key, entry_value, lends_entry};
 
@@ -43,6 +44,15 @@ impl<K: Eq + Hash, V, S: BuildHasher> LinkedHashMap<K, V, S> {
             → entry_map result ≡ without_cursor self.old }
         ensures unchanged { entry_value result ≡ None → entry_map result ≡ self.old }
         ensures valid { IsValid K.eq self.old }
+
+        // Laws of the map once the entry writes, inserts or removes a value, for the proofs of
+        // callers.
+        ensures updates { (v : V) → Updates K.eq self.old.pairs
+            (set_or_push K.eq self.old.pairs (entry_key result) v) key (Some v) }
+        ensures inserts { (v : V) → Updates K.eq self.old.pairs
+            (put K.eq self.old.mode self.old.pairs (entry_key result) v) key (Some v) }
+        ensures removes { Updates K.eq self.old.pairs
+            (without K.eq self.old.pairs (entry_key result)) key None }
     {
         let hash = self.hash_of(&key);
         if self.seek(hash, &key) {
