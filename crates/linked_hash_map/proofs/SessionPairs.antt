@@ -15,7 +15,7 @@ use Rattle.linked_hash_map.specs.SessionsKept.{sessions_of, IsKeptWithin}
 use Rattle.linked_hash_map.specs.declared.sessions.storage.Weighted.{Weighted}
 use Rattle.linked_hash_map.specs.Changes.{refreshed}
 use Rattle.linked_hash_map.proofs.Callers.Keys.{IsSome-find, length-to_back_present}
-use Rattle.linked_hash_map.proofs.Callers.Lookups.{eq-stored}
+use Rattle.linked_hash_map.proofs.Callers.Lookups.{eq-stored, value_at-to_back_here, value_at-to_back_apart}
 use Rattle.linked_hash_map.proofs.Callers.Valid.{IsValid-put}
 use Rattle.linked_hash_map.proofs.SessionLists.{total_weight-without, total_weight-with_last}
 
@@ -77,6 +77,22 @@ module _ {T : Type 0} where
       let own : id ≡ stored = eqb-true id stored (eq-stored nat_eq_equiv ps id) in
       map-append session (pairs.without nat_eq ps id) ((stored, weighted) ∷ [])
       ∙ ap₂ (λ l j. l ++ (j, weighted.weight, weighted.payload) ∷ []) (sessions_of-without ps id) (sym own)
+
+  -- what an id has once the session of one is at the back
+  pub payload_of-with_last_here : (ps : List (ℕ × Weighted T)) (id weight : ℕ) (payload : T) → payload_of (with_last (sessions_of ps) id weight payload) id ≡ Some payload
+  payload_of-with_last_here ps id weight payload =
+      let weighted : Weighted T = record { weight = weight; payload = payload } in
+      ap (λ l. payload_of l id) (sym (sessions_of-to_back ps id weighted))
+      ∙ payload_of-sessions_of (pairs.to_back nat_eq ps id weighted) id
+      ∙ ap (option_map (λ (w : Weighted T). w.payload)) (value_at-to_back_here nat_eq_equiv ps id weighted)
+
+  pub payload_of-with_last_apart : (ps : List (ℕ × Weighted T)) (id other weight : ℕ) (payload : T) → nat_eq id other ≡ false → payload_of (with_last (sessions_of ps) id weight payload) other ≡ payload_of (sessions_of ps) other
+  payload_of-with_last_apart ps id other weight payload apart =
+      let weighted : Weighted T = record { weight = weight; payload = payload } in
+      ap (λ l. payload_of l other) (sym (sessions_of-to_back ps id weighted))
+      ∙ payload_of-sessions_of (pairs.to_back nat_eq ps id weighted) other
+      ∙ ap (option_map (λ (w : Weighted T). w.payload)) (value_at-to_back_apart nat_eq_equiv ps id other weighted apart)
+      ∙ sym (payload_of-sessions_of ps other)
 
   pub length-sessions_of : (ps : List (ℕ × Weighted T)) → length (sessions_of ps) ≡ length ps
   length-sessions_of [] = refl

@@ -30,7 +30,7 @@
 //! assert_eq!(rt; kept.next(), Some((1, 8, &"page one")));
 //! assert_eq!(rt; kept.next(), None);
 //! ```
-ghost use Rattle.std.specs.Prelude.{◌≡◌, ◌==◌, ◌≤◌, ◌<◌, ◌+◌, ◌∷◌, ◌++◌, ◌↔◌, ℕ, [], Some, false, length, nat_eq, vec_capacity, IfOk, IfErr, OnOk, OnErr, IsOk, IsSome, IsErrAnd};
+ghost use Rattle.std.specs.Prelude.{◌≡◌, ◌==◌, ◌≤◌, ◌<◌, ◌+◌, ◌∷◌, ◌++◌, ◌↔◌, ℕ, [], Some, None, false, length, nat_eq, vec_capacity, IfOk, IfErr, OnOk, OnErr, OnSome, IsOk, IsSome, IsErrAnd};
 ghost use Rattle.std.specs.Borrow.{sem};
 ghost use Rattle.std.specs.Map.Iter.{ShowsInOrder};
 ghost use Rattle.std.specs.Option.{option_copied_mut};
@@ -207,6 +207,13 @@ impl<T> Sessions<T> {
         ensures* writes_back { sem 𝓛 (lends_payload T.row self.entry id result) }
         ensures payload { option_copied_mut result ≡ payload_of self.old.sessions id }
         ensures valid { IsValidTable self.old }
+
+        // Laws of the table once a payload is written, for the proofs of callers.
+        ensures written { (payload : T)
+            → payload_of (to_end self.old.sessions id payload) id ≡ Some payload }
+        ensures others { (payload : T) (other : ℕ) → id == other ≡ false
+            → payload_of (to_end self.old.sessions id payload) other
+            ≡ payload_of self.old.sessions other }
     {
         match self.map.get_refresh(&id) {
             Some(weighted) => Some(&mut weighted.payload),
@@ -231,6 +238,11 @@ impl<T> Sessions<T> {
         ensures limit { self.new.limit ≡ self.old.limit }
         ensures valid { IsValidTable self.old }
         ensures stays_valid { IsValidTable self.new }
+        // Consequences of `payload` and `sessions`, for the proofs of callers.
+        ensures gone { payload_of self.new.sessions id ≡ None }
+        ensures others { (other : ℕ) → id == other ≡ false
+            → payload_of self.new.sessions other ≡ payload_of self.old.sessions other }
+        ensures fewer { OnSome result (length self.new.sessions + 1 ≡ length self.old.sessions) }
     {
         let Some(weighted) = self.map.remove(&id) else {
             return None;

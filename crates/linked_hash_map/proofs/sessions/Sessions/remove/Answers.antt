@@ -1,7 +1,7 @@
 use Rattle.std.proofs.Common.{◌≡◌, ◌-◌, option_map, sym, ap, ◌∙◌, subst, arith}
 use Rattle.std.specs.Prelude.{unwrap_or}
 use Rattle.linked_hash_map.specs.SessionsKept.{sessions_of, IsKeptWithin}
-use Rattle.linked_hash_map.proofs.SessionPairs.{IsValidTable-kept, IsKeptWithin-without, total_weight-others, sessions_of-without, weight_of-sessions_of, payload_of-sessions_of}
+use Rattle.linked_hash_map.proofs.SessionPairs.{IsValidTable-kept, IsKeptWithin-without, total_weight-others, sessions_of-without, weight_of-sessions_of, payload_of-sessions_of, length-sessions_of}
 use Rattle.linked_hash_map.proofs.sessions.Sessions.remove.Goals as goal
 
 pub invariant_of-self : goal.invariant_of-self
@@ -54,3 +54,29 @@ returns-clause-valid g c = rw (← c.self.view_is) (IsValidTable-kept c.self.inv
 
 pub returns-clause-stays_valid : goal.returns-clause-stays_valid
 returns-clause-stays_valid g c = IsValidTable-kept (invariant_of-self-2 g c)
+
+pub returns-in_default-clause-gone : goal.returns-in_default-clause-gone
+returns-in_default-clause-gone g c = payload_of-sessions_of c.remove.new.self.pairs c.args.id ∙ ap (option_map (λ weighted. weighted.payload)) c.remove.ensures.updates.here
+
+pub returns-in_default-clause-others : goal.returns-in_default-clause-others
+returns-in_default-clause-others g c other apart =
+    rw (← c.self.view_is) (
+    payload_of-sessions_of c.remove.new.self.pairs other
+    ∙ ap (option_map (λ weighted. weighted.payload)) (c.remove.ensures.updates.others other apart)
+    ∙ sym (payload_of-sessions_of c.self.inside.map.pairs other)
+    )
+
+pub returns-clause-gone : goal.returns-clause-gone
+returns-clause-gone g c = payload_of-sessions_of c.remove.new.self.pairs c.args.id ∙ ap (option_map (λ weighted. weighted.payload)) c.remove.ensures.updates.here
+
+pub returns-clause-others : goal.returns-clause-others
+returns-clause-others g c other apart =
+    rw (← c.self.view_is) (
+    payload_of-sessions_of c.remove.new.self.pairs other
+    ∙ ap (option_map (λ weighted. weighted.payload)) (c.remove.ensures.updates.others other apart)
+    ∙ sym (payload_of-sessions_of c.self.inside.map.pairs other)
+    )
+
+pub returns-clause-fewer : goal.returns-clause-fewer
+returns-clause-fewer g c =
+    rw (← c.self.view_is) (omega (arith, length-sessions_of c.remove.new.self.pairs, length-sessions_of c.self.inside.map.pairs, c.in-Some.ensures.fewer))

@@ -1,6 +1,6 @@
 use Rattle.std.proofs.Common.{option_map, refl, sym, ap, ◌∙◌}
 use Rattle.linked_hash_map.specs.SessionTables.{session_table}
-use Rattle.linked_hash_map.proofs.SessionPairs.{IsValidTable-kept, IsKeptWithin-refreshed, sessions_of-refreshed, lends_alike, payload_of-sessions_of}
+use Rattle.linked_hash_map.proofs.SessionPairs.{IsValidTable-kept, IsKeptWithin-refreshed, sessions_of-refreshed, lends_alike, payload_of-sessions_of, payload_of-with_last_here, payload_of-with_last_apart}
 use Rattle.linked_hash_map.proofs.sessions.Sessions.touch.Goals as goal
 
 pub invariant_of-self-lent : goal.invariant_of-self-lent
@@ -15,6 +15,8 @@ returns-in-Some g c =
         writes_back = tt;
         payload = ap (option_map (λ weighted. weighted.payload)) c.in-Some.ensures.value ∙ sym (payload_of-sessions_of m.map.pairs c.args.id);
         valid = IsValidTable-kept c.self.invariant;
+        written = λ payload. payload_of-with_last_here m.map.pairs c.args.id _ payload;
+        others = λ payload other apart. payload_of-with_last_apart m.map.pairs c.args.id other _ payload apart;
       },
     )
 
@@ -27,5 +29,7 @@ returns-in-None g c =
         writes_back = tt;
         payload = ap (option_map (λ weighted. weighted.payload)) c.in-None.ensures.value ∙ sym (payload_of-sessions_of m.map.pairs c.args.id);
         valid = IsValidTable-kept c.self.invariant;
+        written = λ payload. payload_of-with_last_here m.map.pairs c.args.id _ payload;
+        others = λ payload other apart. payload_of-with_last_apart m.map.pairs c.args.id other _ payload apart;
       },
     )
