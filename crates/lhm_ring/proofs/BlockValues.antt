@@ -25,7 +25,7 @@ use Rattle.lhm_ring.specs.Cells.{same_ptr, pointers}
 use Rattle.lhm_ring.specs.Chunks.{block_owns}
 use Rattle.lhm_ring.specs.Ownership.{links_of}
 use Rattle.lhm_ring.specs.contracts.block.Block as R-type
-use Rattle.lhm_ring.proofs.Apart.{same_ptr_eq, IsFresh}
+use Rattle.lhm_ring.proofs.Apart.{same_ptr-equal, IsFresh}
 use Rattle.lhm_ring.proofs.Memory.{Three, RL, RK, RV, lo, Node, Pl, Cells, value_out}
 
 abbrev pub block_val : Ptr → Val
@@ -76,7 +76,7 @@ module _ {M : Type 1} {𝓤 : Ura M} (𝓛 : Logic 𝓤) (𝓜 : Model 𝓤 𝓛
   -- what cannot be owned at one pointer shows two
   differ : (p q : Ptr) (F : Ptr → SProp 𝓤) → ent 𝓤 (F p) (never 𝓤) → ent 𝓤 (F q) (fact 𝓤 (same_ptr p q ≡ false))
   differ p q F h = (elim (same_ptr p q) as (λ y. same_ptr p q ≡ y → ent 𝓤 (F q) (fact 𝓤 (same_ptr p q ≡ false))) [
-    | true ↦ λ e. via 𝓤 (never 𝓤) (subst (λ r. ent 𝓤 (F r) (never 𝓤)) (same_ptr_eq p q e) h) (never_e 𝓤 _)
+    | true ↦ λ e. via 𝓤 (never 𝓤) (subst (λ r. ent 𝓤 (F r) (never 𝓤)) (same_ptr-equal p q e) h) (never_e 𝓤 _)
     | false ↦ λ e. fact_i 𝓤 (same_ptr p q ≡ false) (F q) e
   ]) refl
 

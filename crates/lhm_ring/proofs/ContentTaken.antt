@@ -10,7 +10,7 @@ use Rattle.lhm_ring.specs.Cells.{same_ptr}
 use Rattle.lhm_ring.specs.Ownership.{body_owns}
 use Rattle.lhm_ring.specs.ContentLoan.{body_in, without_body, bodies, firsts, seconds}
 use Rattle.lhm_ring.specs.Splits.{SplitAround}
-use Rattle.lhm_ring.proofs.Apart.{same_ptr_eq}
+use Rattle.lhm_ring.proofs.Apart.{same_ptr-equal}
 use Rattle.lhm_ring.proofs.Memory.{Three, RL, RK, RV}
 use Rattle.lhm_ring.proofs.Options.{none_some}
 
@@ -19,24 +19,24 @@ module _ {B : Type 0} where
     pub split : SplitAround cs (p, Some x)
     pub taken : without_body p cs ≡ split.before ++ (p, None) ∷ split.after
 
-  pub cut_body : (cs : List (Ptr × Option B)) (p : Ptr) (x : B) → body_in cs p ≡ Some x → CutBody cs p x
+  pub CutBody-some : (cs : List (Ptr × Option B)) (p : Ptr) (x : B) → body_in cs p ≡ Some x → CutBody cs p x
   unfolding body_in without_body
-  cut_body [] p x e = absurd (none_some x e)
-  cut_body (c ∷ cs) p x e =
+  CutBody-some [] p x e = absurd (none_some x e)
+  CutBody-some (c ∷ cs) p x e =
       (elim (same_ptr c.0 p) as (λ y. same_ptr c.0 p ≡ y → CutBody (c ∷ cs) p x) [
-        | true ↦ λ t. let at = same_ptr_eq c.0 p t in let held = sym (ap (λ y. cond y c.1 (body_in cs p)) t) ∙ e in record {
+        | true ↦ λ t. let at = same_ptr-equal c.0 p t in let held = sym (ap (λ y. cond y c.1 (body_in cs p)) t) ∙ e in record {
           split = record { before = []; after = cs; is = λ i. (at i, held i) ∷ cs };
           taken = ap (λ y. cond y ((c.0, None) ∷ cs) (c ∷ without_body p cs)) t ∙ ap (λ q. (q, None) ∷ cs) at;
         }
-        | false ↦ λ t. let on = cut_body cs p x (sym (ap (λ y. cond y c.1 (body_in cs p)) t) ∙ e) in record {
+        | false ↦ λ t. let on = CutBody-some cs p x (sym (ap (λ y. cond y c.1 (body_in cs p)) t) ∙ e) in record {
           split = record { before = c ∷ on.split.before; after = on.split.after; is = ap (λ xs. c ∷ xs) on.split.is };
           taken = ap (λ y. cond y ((c.0, None) ∷ cs) (c ∷ without_body p cs)) t ∙ ap (λ xs. c ∷ xs) on.taken;
         }
       ]) refl
 
-  pub same_firsts : (xs : List (Ptr × Option B)) (p : Ptr) (o u : Option B) (ys : List (Ptr × Option B)) → firsts (xs ++ (p, o) ∷ ys) ≡ firsts (xs ++ (p, u) ∷ ys)
-  same_firsts [] p o u ys = refl
-  same_firsts (x ∷ xs) p o u ys = ap (λ ps. x.0 ∷ ps) (same_firsts xs p o u ys)
+  pub firsts-same : (xs : List (Ptr × Option B)) (p : Ptr) (o u : Option B) (ys : List (Ptr × Option B)) → firsts (xs ++ (p, o) ∷ ys) ≡ firsts (xs ++ (p, u) ∷ ys)
+  firsts-same [] p o u ys = refl
+  firsts-same (x ∷ xs) p o u ys = ap (λ ps. x.0 ∷ ps) (firsts-same xs p o u ys)
 
 module _ (E : Three) {M : Type 1} {𝓤 : Ura M} (𝓛 : Logic 𝓤) where
   abbrev Body : Ptr → Option (E.key.Denot × E.value.Denot) → Fml

@@ -137,8 +137,8 @@ module _ (R S W : RattleType) where
   abbrev pub Holed : RattleType
   Holed = C.the_row R (HS R S W) (HW R S W)
 
-  pub bare_shares : {M : Type 1} {𝓤 : Ura M} (𝓛 : Logic 𝓤) (LR : Laws R) (LS : Laws (HS R S W)) (LW : Laws (HW R S W)) → Shares 𝓛 BareRow BareRow.lives
-  bare_shares {M} {𝓤} 𝓛 LR LS LW = let T = R.lives ++ ((HS R S W).lives ++ ((HW R S W).lives ++ [])) in
+  pub Shares-bare : {M : Type 1} {𝓤 : Ura M} (𝓛 : Logic 𝓤) (LR : Laws R) (LS : Laws (HS R S W)) (LW : Laws (HW R S W)) → Shares 𝓛 BareRow BareRow.lives
+  Shares-bare {M} {𝓤} 𝓛 LR LS LW = let T = R.lives ++ ((HS R S W).lives ++ ((HW R S W).lives ++ [])) in
       (of_Lends (C.struct R (HS R S W) (HW R S W)) (C.the_codes R.Denot S.Denot W.Denot R.coded S.coded W.coded (marker.the_row RawPtr).coded) (λ n. stems R S W (land_owns R S W n.node_bytes n.unused n.chunks) n.cells) (C.the_lent R (HS R S W) (HW R S W))
       (λ d p. cells_lent_laws R (HS R S W) (HW R S W) LR.shr_laws LS.shr_laws LW.shr_laws d.cells) (copy_shared (marker.the_field RawPtr) (field_copy (marker.the_type RawPtr) tt), tt)
       (λ M 𝓤 𝓛 d p. Lends-stems R S W 𝓛 (land_owns R S W d.node_bytes d.unused d.chunks) LR BareRow.lives (Incl-trans (meet_⊑_left T _) (meet_⊑_left R.lives ((HS R S W).lives ++ ((HW R S W).lives ++ [])))) d.cells)).shares M 𝓤 𝓛

@@ -13,27 +13,27 @@ First = SplitFirst (λ t. t.at)
 abbrev pub Last : {B : Type 0} → List (Held B) → Ptr → Type 0
 Last = SplitLast (λ t. t.at)
 
-some_pointer : (p q : Ptr) → Some p ≡ Some q → p ≡ q
-some_pointer p q e = cc
+Some-injective : (p q : Ptr) → Some p ≡ Some q → p ≡ q
+Some-injective p q e = cc
 
 module _ {B : Type 0} where
-  pub first_node : (hs : List (Held B)) (o : Option Ptr) (p : Ptr) → o ≡ first_at hs → o ≡ Some p → First hs p
-  first_node [] o p e h = absurd (let no : None ≡ Some p = sym e ∙ h in cc)
-  first_node (t ∷ hs) o p e h = record { node = t; after = hs; is = refl; at_is = some_pointer t.at p (sym e ∙ h) }
+  pub First-first_at : (hs : List (Held B)) (o : Option Ptr) (p : Ptr) → o ≡ first_at hs → o ≡ Some p → First hs p
+  First-first_at [] o p e h = absurd (let no : None ≡ Some p = sym e ∙ h in cc)
+  First-first_at (t ∷ hs) o p e h = record { node = t; after = hs; is = refl; at_is = Some-injective t.at p (sym e ∙ h) }
 
-  pub triples-none : (hs : List (Held B)) → triples hs ≡ [] → hs ≡ []
-  triples-none [] e = refl
-  triples-none (t ∷ hs) e = absurd (cc)
+  pub none-triples : (hs : List (Held B)) → triples hs ≡ [] → hs ≡ []
+  none-triples [] e = refl
+  none-triples (t ∷ hs) e = absurd (cc)
 
-  last_cut : (t : Held B) (hs : List (Held B)) → Last (t ∷ hs) (last_of t hs)
-  last_cut t [] = record { before = []; node = t; is = refl; at_is = refl }
-  last_cut t (u ∷ hs) = let r = last_cut u hs in record { before = t ∷ r.before; node = r.node; is = ap (λ l. t ∷ l) r.is; at_is = r.at_is }
+  Last-last_of : (t : Held B) (hs : List (Held B)) → Last (t ∷ hs) (last_of t hs)
+  Last-last_of t [] = record { before = []; node = t; is = refl; at_is = refl }
+  Last-last_of t (u ∷ hs) = let r = Last-last_of u hs in record { before = t ∷ r.before; node = r.node; is = ap (λ l. t ∷ l) r.is; at_is = r.at_is }
 
-  pub last_node : (hs : List (Held B)) (o : Option Ptr) (p : Ptr) → o ≡ last_at hs → o ≡ Some p → Last hs p
-  last_node [] o p e h = absurd (let no : None ≡ Some p = sym e ∙ h in cc)
-  last_node (t ∷ hs) o p e h =
-      let r = last_cut t hs in
-      record { before = r.before; node = r.node; is = r.is; at_is = r.at_is ∙ some_pointer (last_of t hs) p (sym e ∙ h) }
+  pub Last-last_at : (hs : List (Held B)) (o : Option Ptr) (p : Ptr) → o ≡ last_at hs → o ≡ Some p → Last hs p
+  Last-last_at [] o p e h = absurd (let no : None ≡ Some p = sym e ∙ h in cc)
+  Last-last_at (t ∷ hs) o p e h =
+      let r = Last-last_of t hs in
+      record { before = r.before; node = r.node; is = r.is; at_is = r.at_is ∙ Some-injective (last_of t hs) p (sym e ∙ h) }
 
   -- the node, cut out of what is held
   module _ {hs : List (Held B)} {p : Ptr} where

@@ -70,19 +70,19 @@ module _ (items : List Word) (bucket hash number : ℕ) (old : Word) (is : bucke
   within : hash % length (map bits_of items) < length (map bits_of items)
   within = subst (λ b. b < length (map bits_of items)) is inside
 
-  word_read : old.bits ≡ get_or (map bits_of items) (hash % length (map bits_of items)) 0
-  word_read =
+  bits-read : old.bits ≡ get_or (map bits_of items) (hash % length (map bits_of items)) 0
+  bits-read =
       ap bits_of read ∙ sym (get_or-map bits_of items bucket old 0 (let l = length-map items bits_of in omega (arith, l, inside)))
       ∙ ap (λ b. get_or (map bits_of items) b 0) is
 
-  written : map bits_of (set items bucket word) ≡ marked (map bits_of items) hash
-  written = map-set bits_of items bucket word ∙ (λ i. set (map bits_of items) (is i) (bit_or (word_read i) (1 * 2 ^ bit i % 2 ^ 16)))
+  map-written : map bits_of (set items bucket word) ≡ marked (map bits_of items) hash
+  map-written = map-set bits_of items bucket word ∙ (λ i. set (map bits_of items) (is i) (bit_or (bits-read i) (1 * 2 ^ bit i % 2 ^ 16)))
 
   pub may_contain-set_bit : may_contain (map bits_of (set items bucket word)) hash ≡ true
-  may_contain-set_bit = ap (λ ws. may_contain ws hash) written ∙ may_contain-inserted (map bits_of items) hash (subst (λ n. n < 16) bit small) within
+  may_contain-set_bit = ap (λ ws. may_contain ws hash) map-written ∙ may_contain-inserted (map bits_of items) hash (subst (λ n. n < 16) bit small) within
 
   pub may_contain-set_bit_other : (other : ℕ) → may_contain (map bits_of items) other ≡ true → may_contain (map bits_of (set items bucket word)) other ≡ true
-  may_contain-set_bit_other other may = ap (λ ws. may_contain ws other) written ∙ may_contain-inserted_other (map bits_of items) hash (subst (λ n. n < 16) bit small) within other may
+  may_contain-set_bit_other other may = ap (λ ws. may_contain ws other) map-written ∙ may_contain-inserted_other (map bits_of items) hash (subst (λ n. n < 16) bit small) within other may
 
 -- the nodes whose bits are set
 module _ {B : Type 0} where
@@ -175,37 +175,37 @@ module _ {K V : Type 0} {words : List ℕ} {heads : List (Option Ptr)} where
   }
 
 -- a bucket with no chain holds no node
-no_chain : (chain : List Spot) → IsChain None chain → chain ≡ []
-no_chain [] l = refl
-no_chain (s ∷ chain) l = absurd (let e = l.0 in cc)
+none-IsChain : (chain : List Spot) → IsChain None chain → chain ≡ []
+none-IsChain [] l = refl
+none-IsChain (s ∷ chain) l = absurd (let e = l.0 in cc)
 
-rearranged_none : (chain ys : List Spot) → chain ≡ [] → IsRearranged chain ys → ys ≡ []
-rearranged_none [] ys e r = r
-rearranged_none (s ∷ chain) ys e r = absurd (cc)
+none-IsRearranged : (chain ys : List Spot) → chain ≡ [] → IsRearranged chain ys → ys ≡ []
+none-IsRearranged [] ys e r = r
+none-IsRearranged (s ∷ chain) ys e r = absurd (cc)
 
-not_kept : (b : Bool) (s : Spot) (rest : List Spot) → cond b (s ∷ rest) rest ≡ [] → b ≡ false
-not_kept true s rest e = absurd (cc)
-not_kept false s rest e = refl
+false-cond : (b : Bool) (s : Spot) (rest : List Spot) → cond b (s ∷ rest) rest ≡ [] → b ≡ false
+false-cond true s rest e = absurd (cc)
+false-cond false s rest e = refl
 
-rest_none : (b : Bool) (s : Spot) (rest : List Spot) → cond b (s ∷ rest) rest ≡ [] → rest ≡ []
-rest_none true s rest e = absurd (cc)
-rest_none false s rest e = e
+none-cond : (b : Bool) (s : Spot) (rest : List Spot) → cond b (s ∷ rest) rest ≡ [] → rest ≡ []
+none-cond true s rest e = absurd (cc)
+none-cond false s rest e = e
 
-filter_none : (p : Spot → Bool) (xs : List Spot) (s : Spot) (ys : List Spot) → filter p (xs ++ s ∷ ys) ≡ [] → p s ≡ false
-filter_none p [] s ys e = not_kept (p s) s (filter p ys) e
-filter_none p (x ∷ xs) s ys e = filter_none p xs s ys (rest_none (p x) x (filter p (xs ++ s ∷ ys)) e)
+false-filter : (p : Spot → Bool) (xs : List Spot) (s : Spot) (ys : List Spot) → filter p (xs ++ s ∷ ys) ≡ [] → p s ≡ false
+false-filter p [] s ys e = false-cond (p s) s (filter p ys) e
+false-filter p (x ∷ xs) s ys e = false-filter p xs s ys (none-cond (p x) x (filter p (xs ++ s ∷ ys)) e)
 
 module _ {K V : Type 0} where
   pub IsFilter-cleared : (words new : List ℕ) (heads : List (Option Ptr)) (b : ℕ) (nodes : List (Held (K × V))) → b < length heads → get_or heads b None ≡ None → Indexes heads (spots nodes) → IsFilter words heads nodes
       → ((other : ℕ) → other % length words ≢ b → may_contain new other ≡ may_contain words other) → length new ≡ length words → IsFilter new heads nodes
   IsFilter-cleared words new heads b nodes within empty indexed f others same =
       let h : HasChain (get_or heads b None) (length heads) b (spots nodes) = indexed.chains b within in
-      let none : filter (is_in (length heads) b) (spots nodes) ≡ [] = rearranged_none h.chain _ (no_chain h.chain (subst (λ o. IsChain o h.chain) empty h.linked)) h.holds in
+      let none : filter (is_in (length heads) b) (spots nodes) ≡ [] = none-IsRearranged h.chain _ (none-IsChain h.chain (subst (λ o. IsChain o h.chain) empty h.linked)) h.holds in
       record {
         count = same ∙ f.count;
         covers = CoversAll-cleared words new (length words) b others nodes
             (λ before t after e at.
-            let out : is_in (length heads) b (spot t) ≡ false = filter_none (is_in (length heads) b) (spots before) (spot t) (spots after) (ap (filter (is_in (length heads) b)) (sym (ap spots e ∙ map-append spot before (t ∷ after))) ∙ none) in
+            let out : is_in (length heads) b (spot t) ≡ false = false-filter (is_in (length heads) b) (spots before) (spot t) (spots after) (ap (filter (is_in (length heads) b)) (sym (ap spots e ∙ map-append spot before (t ∷ after))) ∙ none) in
             eqb-false (t.hash % length heads) b out (ap (λ n. t.hash % n) (sym f.count) ∙ at))
             f.covers;
       }
@@ -226,19 +226,19 @@ module _ {K V : Type 0} where
   LacksHash-entries hash [] h = tt
   LacksHash-entries hash (x ∷ xs) h = (h.0, LacksHash-entries hash xs h.1)
 
-  LacksHash-at : (hash : ℕ) (xs : List (Held (K × V))) (t : Held (K × V)) (ys : List (Held (K × V))) → LacksHash hash (xs ++ t ∷ ys) → t.hash ≢ hash
-  LacksHash-at hash [] t ys h = h.0
-  LacksHash-at hash (x ∷ xs) t ys h = LacksHash-at hash xs t ys h.1
+  hash-lacks : (hash : ℕ) (xs : List (Held (K × V))) (t : Held (K × V)) (ys : List (Held (K × V))) → LacksHash hash (xs ++ t ∷ ys) → t.hash ≢ hash
+  hash-lacks hash [] t ys h = h.0
+  hash-lacks hash (x ∷ xs) t ys h = hash-lacks hash xs t ys h.1
 
   pub IsAbsent-lacks : (eq : K → K → Bool) (hash : ℕ) (key : K) (nodes : List (Held (K × V))) → LacksHash hash nodes → IsAbsent eq hash key nodes
   IsAbsent-lacks eq hash key nodes lacks before x after e =
-      let other : x.hash ≢ hash = LacksHash-at hash before x after (subst (λ (zs : List (Held (K × V))). LacksHash hash zs) e lacks) in
+      let other : x.hash ≢ hash = hash-lacks hash before x after (subst (λ (zs : List (Held (K × V))). LacksHash hash zs) e lacks) in
       sym (ap (λ b. b && eq key x.pair.0) (ne_eqb x.hash hash other))
 
 -- the bucket that lost its last node is one of the filter's
-pub emptied_within : (words : List ℕ) (heads chains : List (Option Ptr)) (hash : ℕ) (emptied : Option ℕ) → IfSome emptied (IsEmptied chains hash) → length chains ≡ length heads → length words ≡ length heads → IfSome emptied (λ b. b < length words)
-emptied_within words heads chains hash None is count many = tt
-emptied_within words heads chains hash (Some b) is count many = omega (arith, is.within, count, many)
+pub IfSome-emptied_within : (words : List ℕ) (heads chains : List (Option Ptr)) (hash : ℕ) (emptied : Option ℕ) → IfSome emptied (IsEmptied chains hash) → length chains ≡ length heads → length words ≡ length heads → IfSome emptied (λ b. b < length words)
+IfSome-emptied_within words heads chains hash None is count many = tt
+IfSome-emptied_within words heads chains hash (Some b) is count many = omega (arith, is.within, count, many)
 
 -- a bucket whose new head is none
 pub IsEmptied-head : (heads : List (Option Ptr)) (count hash b : ℕ) (link : Option Ptr) (empty : Bool) → count ≡ length heads → 0 < count → b ≡ hash % count → (empty ≡ true → link ≡ None) → IfSome (then_some empty b) (IsEmptied (set heads b link) hash)

@@ -8,7 +8,7 @@ use Rattle.lhm_ring.specs.RingAfterLoan.{revalued, set_held_values}
 use Rattle.lhm_ring.specs.Index.{Spot, spot, spots, PutsIn, IsRearranged, is_in, Indexes}
 use Rattle.lhm_ring.proofs.Rearranged.{IsRearranged-again}
 use Rattle.lhm_ring.specs.Cells.{same_ptr}
-use Rattle.lhm_ring.proofs.Chains.{PutsIn-spots, PutsIn-filter_in, PutsIn-filter_out}
+use Rattle.lhm_ring.proofs.Chains.{PutsIn-spots, PutsIn-filter_in, filter-PutsIn}
 
 -- a spot that stands elsewhere in the list
 Indexes-elsewhere : (heads : List (Option Ptr)) (s : Spot) (zs xs ys : List Spot) → PutsIn s zs xs → PutsIn s zs ys → Indexes heads xs → Indexes heads ys
@@ -19,7 +19,7 @@ Indexes-elsewhere heads s zs xs ys p q h = record {
       let choose : (t : Bool) → f s ≡ t → IsRearranged c.chain (filter f ys) =
       elim [
         | true ↦ λ e. IsRearranged-again s c.chain (filter f zs) (filter f xs) (filter f ys) c.holds (PutsIn-filter_in f s zs xs p e) (PutsIn-filter_in f s zs ys q e)
-        | false ↦ λ e. subst (λ (v : List Spot). IsRearranged c.chain v) (PutsIn-filter_out f s zs xs p e ∙ sym (PutsIn-filter_out f s zs ys q e)) c.holds
+        | false ↦ λ e. subst (λ (v : List Spot). IsRearranged c.chain v) (filter-PutsIn f s zs xs p e ∙ sym (filter-PutsIn f s zs ys q e)) c.holds
       ] in
       record { chain = c.chain; linked = c.linked; holds = choose (f s) refl };
   none = λ z. absurd (some s zs xs p (h.none z));

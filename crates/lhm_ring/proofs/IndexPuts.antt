@@ -7,13 +7,13 @@ use Rattle.lhm_ring.specs.RingState.{Held, IsHeld, AtHeld, linked_to, first_at}
 use Rattle.lhm_ring.specs.Index.{spot, spots, Indexes}
 use Rattle.lhm_ring.specs.Search.{OfNodeAt, entries, HoldsOthers, HasNoChain, IsChained, Chains, IsRechained}
 use Rattle.lhm_ring.specs.Filters.{may_contain, CoversAll}
-use Rattle.lhm_ring.proofs.Ends.{First, first_node}
+use Rattle.lhm_ring.proofs.Ends.{First, First-first_at}
 use Rattle.lhm_ring.proofs.Chains.{PutsIn-spots, Indexes-put, Indexes-none}
 use Rattle.lhm_ring.proofs.Filters.{CoversAll-more, CoversAll-append}
 use Rattle.lhm_ring.proofs.Entries.{IsHeld-kept, entries-link}
 
-pub put_indexes : {K V : Type 0} (p : Ptr) (heads heads' : List (Option Ptr)) (nodes nodes' : List (Held (K × V))) → Chains p heads heads' nodes nodes' → HoldsOthers heads nodes p → 0 < length heads → Indexes heads' (spots nodes')
-put_indexes {K} {V} p heads heads' nodes nodes' c lacks l =
+pub Indexes-chained : {K V : Type 0} (p : Ptr) (heads heads' : List (Option Ptr)) (nodes nodes' : List (Held (K × V))) → Chains p heads heads' nodes nodes' → HoldsOthers heads nodes p → 0 < length heads → Indexes heads' (spots nodes')
+Indexes-chained {K} {V} p heads heads' nodes nodes' c lacks l =
     let h : IsHeld nodes p = lacks.held in
     let k : IsChained p heads heads' nodes' h.before h.node h.after = c h.before h.node h.after h.is h.at_is in
     let head : Option Ptr = get_or heads (h.node.hash % length heads) None in
@@ -23,49 +23,49 @@ put_indexes {K} {V} p heads heads' nodes nodes' c lacks l =
     subst (λ (v : List (Option Ptr)). Indexes v (spots nodes')) (sym e)
     (subst (λ (v : List (Held (K × V))). Indexes (set heads (h.node.hash % length heads) (Some h.node.at)) (spots v)) (sym k.nodes_is) i)
 
-pub put_indexes_at : {K V : Type 0} (p : Ptr) (items heads heads' : List (Option Ptr)) (nodes nodes' : List (Held (K × V))) → items ≡ heads → Chains p items heads' nodes nodes' → HoldsOthers heads nodes p → 0 < length heads → Indexes heads' (spots nodes')
-put_indexes_at {K} {V} p items heads heads' nodes nodes' is c h l =
-    put_indexes p heads heads' nodes nodes' (subst (λ (v : List (Option Ptr)). Chains p v heads' nodes nodes') is c) h l
+pub Indexes-chained_items : {K V : Type 0} (p : Ptr) (items heads heads' : List (Option Ptr)) (nodes nodes' : List (Held (K × V))) → items ≡ heads → Chains p items heads' nodes nodes' → HoldsOthers heads nodes p → 0 < length heads → Indexes heads' (spots nodes')
+Indexes-chained_items {K} {V} p items heads heads' nodes nodes' is c h l =
+    Indexes-chained p heads heads' nodes nodes' (subst (λ (v : List (Option Ptr)). Chains p v heads' nodes nodes') is c) h l
 
-pub put_keeps : {K V : Type 0} (p : Ptr) (heads heads' : List (Option Ptr)) (nodes nodes' : List (Held (K × V))) → Chains p heads heads' nodes nodes' → IsHeld nodes p → entries nodes' ≡ entries nodes
-put_keeps p heads heads' nodes nodes' c h =
+pub entries-chained : {K V : Type 0} (p : Ptr) (heads heads' : List (Option Ptr)) (nodes nodes' : List (Held (K × V))) → Chains p heads heads' nodes nodes' → IsHeld nodes p → entries nodes' ≡ entries nodes
+entries-chained p heads heads' nodes nodes' c h =
     let k : IsChained p heads heads' nodes' h.before h.node h.after = c h.before h.node h.after h.is h.at_is in
     ap entries k.nodes_is ∙ entries-link h.before h.node h.after _ ∙ ap entries (sym h.is)
 
-pub put_buckets : {K V : Type 0} (p : Ptr) (heads heads' : List (Option Ptr)) (nodes nodes' : List (Held (K × V))) → Chains p heads heads' nodes nodes' → IsHeld nodes p → length heads' ≡ length heads
-put_buckets p heads heads' nodes nodes' c h =
+pub length-chained : {K V : Type 0} (p : Ptr) (heads heads' : List (Option Ptr)) (nodes nodes' : List (Held (K × V))) → Chains p heads heads' nodes nodes' → IsHeld nodes p → length heads' ≡ length heads
+length-chained p heads heads' nodes nodes' c h =
     let k : IsChained p heads heads' nodes' h.before h.node h.after = c h.before h.node h.after h.is h.at_is in
     ap length k.heads_is ∙ length-set heads _ _
 
 -- ---- all nodes are rehashed
 
-first_none : {B : Type 0} (hs : List (Held B)) → None ≡ first_at hs → hs ≡ []
-first_none [] e = refl
-first_none (t ∷ hs) e = absurd (cc)
+none-first_at : {B : Type 0} (hs : List (Held B)) → None ≡ first_at hs → hs ≡ []
+none-first_at [] e = refl
+none-first_at (t ∷ hs) e = absurd (cc)
 
-pub rechain_start : {K V : Type 0} (heads : List (Option Ptr)) (words : List ℕ) (nodes : List (Held (K × V))) (pointer : Option Ptr) (buckets : ℕ) → HasNoChain heads → pointer ≡ first_at nodes → length heads ≡ buckets → IsRechained heads words nodes nodes pointer 0 buckets
-rechain_start heads words nodes pointer buckets h e n = record { done = []; rest = nodes; is = refl; indexed = Indexes-none heads h; covers = λ _. tt; pointer_is = e; count_is = refl; kept = refl; buckets_is = n }
+pub IsRechained-start : {K V : Type 0} (heads : List (Option Ptr)) (words : List ℕ) (nodes : List (Held (K × V))) (pointer : Option Ptr) (buckets : ℕ) → HasNoChain heads → pointer ≡ first_at nodes → length heads ≡ buckets → IsRechained heads words nodes nodes pointer 0 buckets
+IsRechained-start heads words nodes pointer buckets h e n = record { done = []; rest = nodes; is = refl; indexed = Indexes-none heads h; covers = λ _. tt; pointer_is = e; count_is = refl; kept = refl; buckets_is = n }
 
-abbrev pub rechain_held : {K V : Type 0} {heads : List (Option Ptr)} {words : List ℕ} {old nodes : List (Held (K × V))} {pointer : Option Ptr} {count buckets : ℕ} (p : Ptr) → pointer ≡ Some p → IsRechained heads words old nodes pointer count buckets → IsHeld nodes p
-rechain_held {K} {V} {pointer = pointer} p e w =
-    let g : First w.rest p = first_node w.rest pointer p w.pointer_is e in
+abbrev pub IsHeld-rechained : {K V : Type 0} {heads : List (Option Ptr)} {words : List ℕ} {old nodes : List (Held (K × V))} {pointer : Option Ptr} {count buckets : ℕ} (p : Ptr) → pointer ≡ Some p → IsRechained heads words old nodes pointer count buckets → IsHeld nodes p
+IsHeld-rechained {K} {V} {pointer = pointer} p e w =
+    let g : First w.rest p = First-first_at w.rest pointer p w.pointer_is e in
     record { before = w.done; node = g.node; after = g.after; is = w.is ∙ ap (λ (v : List (Held (K × V))). w.done ++ v) g.is; at_is = g.at_is }
 
 length-kept : {K V : Type 0} (old new : List (Held (K × V))) → entries new ≡ entries old → length new ≡ length old
 length-kept old new e = sym (length-map new (linked_to None)) ∙ ap length e ∙ length-map old (linked_to None)
 
-pub rechain_below : {K V : Type 0} {heads : List (Option Ptr)} {words : List ℕ} {old nodes : List (Held (K × V))} {pointer : Option Ptr} {count buckets : ℕ} (p : Ptr) → pointer ≡ Some p → IsRechained heads words old nodes pointer count buckets → count + 1 ≤ length old
-rechain_below {K} {V} {heads} {words} {old} {nodes} p e w =
-    let g : IsHeld nodes p = rechain_held p e w in
+pub count-rechained : {K V : Type 0} {heads : List (Option Ptr)} {words : List ℕ} {old nodes : List (Held (K × V))} {pointer : Option Ptr} {count buckets : ℕ} (p : Ptr) → pointer ≡ Some p → IsRechained heads words old nodes pointer count buckets → count + 1 ≤ length old
+count-rechained {K} {V} {heads} {words} {old} {nodes} p e w =
+    let g : IsHeld nodes p = IsHeld-rechained p e w in
     let a : length nodes ≡ length old = length-kept old nodes w.kept in
     let b : length nodes ≡ length (w.done ++ g.node ∷ g.after) = ap length g.is in
     let c : length (w.done ++ g.node ∷ g.after) ≡ length w.done + length (g.node ∷ g.after) = length-append w.done (g.node ∷ g.after) in
     let d = w.count_is in
     omega (arith, a, b, c, d)
 
-pub rechain_some : {K V : Type 0} {heads : List (Option Ptr)} {words : List ℕ} {old nodes : List (Held (K × V))} {pointer : Option Ptr} {count buckets : ℕ} (p : Ptr) → pointer ≡ Some p → (buckets ≡ 0 → old ≡ []) → IsRechained heads words old nodes pointer count buckets → 0 < length heads
-rechain_some {K} {V} {heads} {words} {old} {nodes} {pointer} {count} {buckets} p e none w =
-    let r : count + 1 ≤ length old = rechain_below p e w in
+pub length-rechained : {K V : Type 0} {heads : List (Option Ptr)} {words : List ℕ} {old nodes : List (Held (K × V))} {pointer : Option Ptr} {count buckets : ℕ} (p : Ptr) → pointer ≡ Some p → (buckets ≡ 0 → old ≡ []) → IsRechained heads words old nodes pointer count buckets → 0 < length heads
+length-rechained {K} {V} {heads} {words} {old} {nodes} {pointer} {count} {buckets} p e none w =
+    let r : count + 1 ≤ length old = count-rechained p e w in
     let b : length heads ≡ buckets = w.buckets_is in
     elim (cases_lt 0 buckets) [
       | inl l ↦ omega arith
@@ -78,9 +78,9 @@ pub record SetsBit (words words' : List ℕ) (hash buckets : ℕ) : Type 0 where
   pub set : may_contain words' hash ≡ true
   pub others : (other : ℕ) → may_contain words other ≡ true → may_contain words' other ≡ true
 
-pub rechain_more : {K V : Type 0} {heads : List (Option Ptr)} {words : List ℕ} {old nodes : List (Held (K × V))} {pointer : Option Ptr} {count buckets : ℕ} (p : Ptr) (heads' : List (Option Ptr)) (words' : List ℕ) (nodes' : List (Held (K × V))) (next : Option Ptr) (hash : ℕ) → pointer ≡ Some p → 0 < length heads → IsRechained heads words old nodes pointer count buckets → Chains p heads heads' nodes nodes' → AtHeld nodes p (λ before x after. hash ≡ x.hash) → (length words' ≡ buckets → SetsBit words words' hash buckets) → AtHeld nodes' p (λ before x after. next ≡ first_at after) → IsRechained heads' words' old nodes' next (count + 1) buckets
-rechain_more {K} {V} {heads} {words} {old} {nodes} {pointer} {count} {buckets} p heads' words' nodes' next hash e some w c own sets nx =
-    let g : IsHeld nodes p = rechain_held p e w in
+pub IsRechained-step : {K V : Type 0} {heads : List (Option Ptr)} {words : List ℕ} {old nodes : List (Held (K × V))} {pointer : Option Ptr} {count buckets : ℕ} (p : Ptr) (heads' : List (Option Ptr)) (words' : List ℕ) (nodes' : List (Held (K × V))) (next : Option Ptr) (hash : ℕ) → pointer ≡ Some p → 0 < length heads → IsRechained heads words old nodes pointer count buckets → Chains p heads heads' nodes nodes' → AtHeld nodes p (λ before x after. hash ≡ x.hash) → (length words' ≡ buckets → SetsBit words words' hash buckets) → AtHeld nodes' p (λ before x after. next ≡ first_at after) → IsRechained heads' words' old nodes' next (count + 1) buckets
+IsRechained-step {K} {V} {heads} {words} {old} {nodes} {pointer} {count} {buckets} p heads' words' nodes' next hash e some w c own sets nx =
+    let g : IsHeld nodes p = IsHeld-rechained p e w in
     let x : Held (K × V) = g.node in
     let k : IsChained p heads heads' nodes' w.done x g.after = c w.done x g.after g.is g.at_is in
     let n : ℕ = length heads in
@@ -101,23 +101,23 @@ rechain_more {K} {V} {heads} {words} {old} {nodes} {pointer} {count} {buckets} p
       covers = λ all. let m = sets all in CoversAll-append words' w.done (x' ∷ []) (CoversAll-more words words' m.others w.done (w.covers m.all)) (ap (may_contain words') own_hash ∙ m.set, tt);
       pointer_is = nx w.done x' g.after k.nodes_is g.at_is;
       count_is = (omega (arith, long, d));
-      kept = put_keeps p heads heads' nodes nodes' c g ∙ w.kept;
-      buckets_is = put_buckets p heads heads' nodes nodes' c g ∙ w.buckets_is;
+      kept = entries-chained p heads heads' nodes nodes' c g ∙ w.kept;
+      buckets_is = length-chained p heads heads' nodes nodes' c g ∙ w.buckets_is;
     }
 
-pub rechain_next_held : {K V : Type 0} {heads : List (Option Ptr)} {words : List ℕ} {old nodes : List (Held (K × V))} {pointer : Option Ptr} {count buckets : ℕ} (p : Ptr) {heads' : List (Option Ptr)} {nodes' : List (Held (K × V))} → pointer ≡ Some p → IsRechained heads words old nodes pointer count buckets → Chains p heads heads' nodes nodes' → IsHeld nodes' p
-rechain_next_held {K} {V} {heads} {words} {old} {nodes} {pointer} {count} {buckets} p {heads'} {nodes'} e w c =
-    let h : IsHeld nodes p = rechain_held p e w in
-    IsHeld-kept nodes nodes' p (put_keeps p heads heads' nodes nodes' c h) h
+pub IsHeld-rechained_next : {K V : Type 0} {heads : List (Option Ptr)} {words : List ℕ} {old nodes : List (Held (K × V))} {pointer : Option Ptr} {count buckets : ℕ} (p : Ptr) {heads' : List (Option Ptr)} {nodes' : List (Held (K × V))} → pointer ≡ Some p → IsRechained heads words old nodes pointer count buckets → Chains p heads heads' nodes nodes' → IsHeld nodes' p
+IsHeld-rechained_next {K} {V} {heads} {words} {old} {nodes} {pointer} {count} {buckets} p {heads'} {nodes'} e w c =
+    let h : IsHeld nodes p = IsHeld-rechained p e w in
+    IsHeld-kept nodes nodes' p (entries-chained p heads heads' nodes nodes' c h) h
 
 -- the bucket that was returned is that of the hash that was read
-pub rechain_bucket : {K V : Type 0} {heads : List (Option Ptr)} {words : List ℕ} {old nodes : List (Held (K × V))} {pointer : Option Ptr} {count buckets : ℕ} (p : Ptr) → pointer ≡ Some p → IsRechained heads words old nodes pointer count buckets → (bucket hash n : ℕ) → OfNodeAt nodes p (λ x. bucket ≡ x.hash % n) → AtHeld nodes p (λ before x after. hash ≡ x.hash) → bucket ≡ hash % n
-rechain_bucket p e w bucket hash n is own =
-    let g = rechain_held p e w in
+pub bucket-rechained : {K V : Type 0} {heads : List (Option Ptr)} {words : List ℕ} {old nodes : List (Held (K × V))} {pointer : Option Ptr} {count buckets : ℕ} (p : Ptr) → pointer ≡ Some p → IsRechained heads words old nodes pointer count buckets → (bucket hash n : ℕ) → OfNodeAt nodes p (λ x. bucket ≡ x.hash % n) → AtHeld nodes p (λ before x after. hash ≡ x.hash) → bucket ≡ hash % n
+bucket-rechained p e w bucket hash n is own =
+    let g = IsHeld-rechained p e w in
     is w.done g.node g.after g.is g.at_is ∙ ap (λ h. h % n) (sym (own w.done g.node g.after g.is g.at_is))
 
 -- the bits of all nodes are set, if there is a word for each bucket
-pub rechain_covers : {K V : Type 0} {heads : List (Option Ptr)} {words : List ℕ} {old nodes : List (Held (K × V))} {pointer : Option Ptr} {count buckets : ℕ} → pointer ≡ None → IsRechained heads words old nodes pointer count buckets → length words ≡ buckets → CoversAll words nodes
-rechain_covers {K} {V} {heads} {words} e w all =
-    let none : w.rest ≡ [] = first_none w.rest (sym e ∙ w.pointer_is) in
+pub CoversAll-rechained : {K V : Type 0} {heads : List (Option Ptr)} {words : List ℕ} {old nodes : List (Held (K × V))} {pointer : Option Ptr} {count buckets : ℕ} → pointer ≡ None → IsRechained heads words old nodes pointer count buckets → length words ≡ buckets → CoversAll words nodes
+CoversAll-rechained {K} {V} {heads} {words} e w all =
+    let none : w.rest ≡ [] = none-first_at w.rest (sym e ∙ w.pointer_is) in
     subst (λ (zs : List (Held (K × V))). CoversAll words zs) (sym (w.is ∙ ap (λ zs. w.done ++ zs) none)) (CoversAll-append words w.done [] (w.covers all) tt)

@@ -8,13 +8,13 @@ use Rattle.lhm_ring.specs.Buckets.{buckets}
 use Rattle.lhm_ring.specs.Index.{spot, spots, Indexes}
 use Rattle.lhm_ring.specs.Search.{HasNoChain}
 use Rattle.lhm_ring.specs.IndexedRing.{IsIndexed}
-use Rattle.lhm_ring.proofs.BucketCounts.{buckets_zero, capacity_le}
+use Rattle.lhm_ring.proofs.BucketCounts.{buckets-zero, buckets-at_least}
 use Rattle.lhm_ring.proofs.Chains.{Indexes-none}
 use Rattle.lhm_ring.proofs.IndexMoves.{Indexes-to_back, spots-value}
 
 -- nothing is held
-pub indexed_none : {K V : Type 0} (heads : List (Option Ptr)) (s : State (K × V)) → HasNoChain heads → s.held ≡ [] → length heads ≡ buckets s.spares → IsIndexed heads s
-indexed_none {K} {V} heads s h e n =
+pub IsIndexed-none : {K V : Type 0} (heads : List (Option Ptr)) (s : State (K × V)) → HasNoChain heads → s.held ≡ [] → length heads ≡ buckets s.spares → IsIndexed heads s
+IsIndexed-none {K} {V} heads s h e n =
     let zero_held : length s.held ≡ 0 = ap length e in
     let all : length s.held + s.spares ≡ s.spares = omega (arith, zero_held) in
     record {
@@ -22,13 +22,13 @@ indexed_none {K} {V} heads s h e n =
       count = n ∙ ap buckets (sym all);
     }
 
-pub indexed_new : {K V : Type 0} (heads : List (Option Ptr)) (s : State (K × V)) → heads ≡ [] → s.held ≡ [] → s.spares ≡ 0 → IsIndexed heads s
-indexed_new {K} {V} heads s h e z =
-    indexed_none heads s (λ b l. absurd (let f : length heads ≡ 0 = ap length h in omega (arith, f, l))) e (ap length h ∙ sym (ap buckets z ∙ buckets_zero))
+pub IsIndexed-new : {K V : Type 0} (heads : List (Option Ptr)) (s : State (K × V)) → heads ≡ [] → s.held ≡ [] → s.spares ≡ 0 → IsIndexed heads s
+IsIndexed-new {K} {V} heads s h e z =
+    IsIndexed-none heads s (λ b l. absurd (let f : length heads ≡ 0 = ap length h in omega (arith, f, l))) e (ap length h ∙ sym (ap buckets z ∙ buckets-zero))
 
 -- what the index reads is as before
-pub indexed_same : {K V : Type 0} (heads : List (Option Ptr)) (s t : State (K × V)) → IsIndexed heads s → spots t.held ≡ spots s.held → t.spares ≡ s.spares → IsIndexed heads t
-indexed_same heads s t i e m =
+pub IsIndexed-same_spots : {K V : Type 0} (heads : List (Option Ptr)) (s t : State (K × V)) → IsIndexed heads s → spots t.held ≡ spots s.held → t.spares ≡ s.spares → IsIndexed heads t
+IsIndexed-same_spots heads s t i e m =
     let a : length (spots t.held) ≡ length t.held = length-map t.held spot in
     let b : length (spots s.held) ≡ length s.held = length-map s.held spot in
     let c : length (spots t.held) ≡ length (spots s.held) = ap length e in
@@ -36,12 +36,12 @@ indexed_same heads s t i e m =
     record { chains = subst (λ v. Indexes heads v) (sym e) i.chains; count = i.count ∙ ap buckets all }
 
 -- a value was written, or all of them
-pub indexed_value : {K V : Type 0} (heads : List (Option Ptr)) (s : State (K × V)) (p : Ptr) (w : V) → IsIndexed heads s → IsIndexed heads (with_value s p w)
-indexed_value heads s p w i = indexed_same heads s (with_value s p w) i (spots-value p w s.held) refl
+pub IsIndexed-value : {K V : Type 0} (heads : List (Option Ptr)) (s : State (K × V)) (p : Ptr) (w : V) → IsIndexed heads s → IsIndexed heads (with_value s p w)
+IsIndexed-value heads s p w i = IsIndexed-same_spots heads s (with_value s p w) i (spots-value p w s.held) refl
 
 -- a triple was moved to the back
-pub indexed_to_back : {K V : Type 0} (heads : List (Option Ptr)) (s t : State (K × V)) (p : Ptr) → IsIndexed heads s → IsHeld s.held p → AtHeld s.held p (λ xs x ys. t.held ≡ (xs ++ ys) ++ x ∷ []) → t.spares ≡ s.spares → IsIndexed heads t
-indexed_to_back {K} {V} heads s t p i h last m =
+pub IsIndexed-to_back : {K V : Type 0} (heads : List (Option Ptr)) (s t : State (K × V)) (p : Ptr) → IsIndexed heads s → IsHeld s.held p → AtHeld s.held p (λ xs x ys. t.held ≡ (xs ++ ys) ++ x ∷ []) → t.spares ≡ s.spares → IsIndexed heads t
+IsIndexed-to_back {K} {V} heads s t p i h last m =
     let e : t.held ≡ (h.before ++ h.after) ++ h.node ∷ [] = last h.before h.node h.after h.is h.at_is in
     let c : Indexes heads (spots (h.before ++ h.node ∷ h.after)) = subst (λ (v : List (Held (K × V))). Indexes heads (spots v)) h.is i.chains in
     let d : Indexes heads (spots t.held) = subst (λ (v : List (Held (K × V))). Indexes heads (spots v)) (sym e) (Indexes-to_back heads h.before h.node h.after c) in
@@ -54,5 +54,5 @@ indexed_to_back {K} {V} heads s t p i h last m =
     record { chains = d; count = i.count ∙ ap buckets all }
 
 -- if a node is held, there is a bucket
-pub indexed_some : {K V : Type 0} (heads : List (Option Ptr)) (s : State (K × V)) → IsIndexed heads s → 0 < s.spares → 0 < length heads
-indexed_some heads s i l = let c = capacity_le (length s.held + s.spares) in let n = i.count in omega (arith, c, n, l)
+pub length-indexed : {K V : Type 0} (heads : List (Option Ptr)) (s : State (K × V)) → IsIndexed heads s → 0 < s.spares → 0 < length heads
+length-indexed heads s i l = let c = buckets-at_least (length s.held + s.spares) in let n = i.count in omega (arith, c, n, l)

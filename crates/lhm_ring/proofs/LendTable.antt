@@ -33,7 +33,7 @@ use Rattle.lhm_ring.specs.contracts.table.Table as T-type
 use Rattle.lhm_ring.specs.contracts.table.Table.TheInside as I-type
 use Rattle.lhm_ring.proofs.Filters.{IsFilter-spots}
 use Rattle.lhm_ring.proofs.IndexMoves.{spots-values}
-use Rattle.lhm_ring.proofs.IndexedRing.{indexed_same}
+use Rattle.lhm_ring.proofs.IndexedRing.{IsIndexed-same_spots}
 use Rattle.lhm_ring.proofs.filter.Filter.TheLaws as F-laws
 use Rattle.lhm_ring.proofs.index.Index.TheLaws as N-laws
 use Rattle.lhm_ring.proofs.ring.Ring.TheLaws as R-laws
@@ -56,7 +56,7 @@ module _ {K V : Type 0} where
   pub IsTable-values : {heads : List (Option Ptr)} {words : List ℕ} {s : State (K × V)} {r : ℕ} (vs : List V) → IsTable heads words s r → IsTable heads words (record s { held = set_held_values s.held vs }) r
   IsTable-values {heads} {words} {s} vs table = record {
     filtered = IsFilter-spots s.held (set_held_values s.held vs) (spots-values s.held vs) table.filtered;
-    indexed = indexed_same heads s (record s { held = set_held_values s.held vs }) table.indexed (spots-values s.held vs) refl;
+    indexed = IsIndexed-same_spots heads s (record s { held = set_held_values s.held vs }) table.indexed (spots-values s.held vs) refl;
     few = table.few;
     limit = (let long = length-set_held_values s.held vs in omega (arith, long, table.limit));
     nodes_within = table.nodes_within;
@@ -131,8 +131,8 @@ module _ (K V : RattleType) where
         abbrev after : State (K.Denot × V.Denot)
         after = record i.ring { held = set_held_values i.ring.held vs }
 
-        viewed : view (record i { ring = after }) ≡ new vs
-        viewed =
+        view-lent : view (record i { ring = after }) ≡ new vs
+        view-lent =
             (λ j. record { held = entries-set_held_values i.ring.held vs j; capacity = length-set_held_values i.ring.held vs j + i.ring.spares; rechained = i.rechained })
             ∙ ap (λ (t : Seen). record t { held = set_held_values t.held vs }) seen
 
@@ -143,7 +143,7 @@ module _ (K V : RattleType) where
           use3 𝓛 (‵ (part_at Rg full_share (after vs) rb (field_at ro))) (ring.back K V 𝓛 a i.ring rseen rok rb (field_at ro) vs) $
           use2 𝓛 (‵ (part_at Whole full_share (record i { ring = after vs }) rb ro)) (of_field (after vs)) $
           by ! (Plain-in Table Whole (view_owns Whole Seen Table.coded view good) 𝓛 full_share (new vs) (record i { ring = after vs })
-          (view_made Whole Seen Table.coded view good 𝓛 (new vs) (record i { ring = after vs }) (viewed vs, IsTable-values vs ok)) rb ro)
+          (view_made Whole Seen Table.coded view good 𝓛 (new vs) (record i { ring = after vs }) (view-lent vs, IsTable-values vs ok)) rb ro)
 
       -- the values ws of the entries, as the table would list them
       abbrev pub ordered : List V.Denot → List (Held (K.Denot × V.Denot))

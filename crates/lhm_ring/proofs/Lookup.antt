@@ -4,7 +4,7 @@ use denote.RawPtr.{Ptr}
 use Rattle.lhm_ring.specs.Cells.{Cell, IsApart, same_ptr, pointers, cell_at, links_of, body_of, links_at, body_at, change, without}
 use Rattle.lhm_ring.specs.Splits.{SplitAt}
 use Rattle.std.specs.List.{IsDistinct, AllByRecursion}
-use Rattle.lhm_ring.proofs.Apart.{same_ptr_eq}
+use Rattle.lhm_ring.proofs.Apart.{same_ptr-equal}
 use Rattle.lhm_ring.proofs.Options.{none_some}
 
 module _ {L B : Type 0} where
@@ -15,18 +15,18 @@ module _ {L B : Type 0} where
     pub changed : (f : Cell L B → Cell L B) → change p f cs ≡ split.before ++ f split.node ∷ split.after
     pub taken : without p cs ≡ split.before ++ split.after
 
-  pub cut : (cs : List (Cell L B)) (p : Ptr) (l : L) → links_at cs p ≡ Some l → Cut cs p
+  pub Cut-links_at : (cs : List (Cell L B)) (p : Ptr) (l : L) → links_at cs p ≡ Some l → Cut cs p
   unfolding cell_at change without
-  cut [] p l e = absurd (none_some l e)
-  cut (c ∷ cs) p l e =
+  Cut-links_at [] p l e = absurd (none_some l e)
+  Cut-links_at (c ∷ cs) p l e =
       (elim (same_ptr c.at p) as (λ y. same_ptr c.at p ≡ y → Cut (c ∷ cs) p) [
         | true ↦ λ t. record {
-          split = record { before = []; node = c; after = cs; is = refl; at_is = same_ptr_eq c.at p t };
+          split = record { before = []; node = c; after = cs; is = refl; at_is = same_ptr-equal c.at p t };
           here = ap (λ y. cond y (Some c) (cell_at cs p)) t;
           changed = λ f. ap (λ y. cond y (f c ∷ cs) (c ∷ change p f cs)) t;
           taken = ap (λ y. cond y cs (c ∷ without p cs)) t;
         }
-        | false ↦ λ t. let on = cut cs p l (sym (ap (λ y. links_of (cond y (Some c) (cell_at cs p))) t) ∙ e) in record {
+        | false ↦ λ t. let on = Cut-links_at cs p l (sym (ap (λ y. links_of (cond y (Some c) (cell_at cs p))) t) ∙ e) in record {
           split = record { before = c ∷ on.split.before; node = on.split.node; after = on.split.after; is = ap (λ xs. c ∷ xs) on.split.is; at_is = on.split.at_is };
           here = ap (λ y. cond y (Some c) (cell_at cs p)) t ∙ on.here;
           changed = λ f. ap (λ y. cond y (f c ∷ cs) (c ∷ change p f cs)) t ∙ ap (λ xs. c ∷ xs) (on.changed f);
@@ -39,36 +39,36 @@ module _ {L B : Type 0} where
   holds_at (Some c) b e = (c, refl)
 
   -- where something is held
-  pub cut_held : (cs : List (Cell L B)) (p : Ptr) (b : B) → body_at cs p ≡ Some b → Cut cs p
-  cut_held cs p b e = let h = holds_at (cell_at cs p) b e in cut cs p h.0.links (ap links_of h.1)
+  pub Cut-held : (cs : List (Cell L B)) (p : Ptr) (b : B) → body_at cs p ≡ Some b → Cut cs p
+  Cut-held cs p b e = let h = holds_at (cell_at cs p) b e in Cut-links_at cs p h.0.links (ap links_of h.1)
 
   pub held_here : {cs : List (Cell L B)} {p : Ptr} {b : B} (k : Cut cs p) → body_at cs p ≡ Some b → k.split.node.body ≡ Some b
   held_here k e = sym (ap body_of k.here) ∙ e
 
-  pub all_without : (P : Ptr → Type 0) (p : Ptr) (cs : List (Cell L B)) → AllByRecursion P (pointers cs) → AllByRecursion P (pointers (without p cs))
+  pub AllByRecursion-without : (P : Ptr → Type 0) (p : Ptr) (cs : List (Cell L B)) → AllByRecursion P (pointers cs) → AllByRecursion P (pointers (without p cs))
   unfolding without
-  all_without P p [] h = tt
-  all_without P p (c ∷ cs) h =
+  AllByRecursion-without P p [] h = tt
+  AllByRecursion-without P p (c ∷ cs) h =
       elim (same_ptr c.at p) as (λ y. AllByRecursion P (pointers (cond y cs (c ∷ without p cs)))) [
         | true ↦ h.1
-        | false ↦ (h.0, all_without P p cs h.1)
+        | false ↦ (h.0, AllByRecursion-without P p cs h.1)
       ]
 
-  pub apart_without : (p : Ptr) (cs : List (Cell L B)) → IsApart (pointers cs) → IsApart (pointers (without p cs))
+  pub IsApart-without : (p : Ptr) (cs : List (Cell L B)) → IsApart (pointers cs) → IsApart (pointers (without p cs))
   unfolding without IsDistinct
-  apart_without p [] d = d
-  apart_without p (c ∷ cs) d =
+  IsApart-without p [] d = d
+  IsApart-without p (c ∷ cs) d =
       elim (same_ptr c.at p) as (λ y. IsApart (pointers (cond y cs (c ∷ without p cs)))) [
         | true ↦ d.1
-        | false ↦ (all_without (λ q. same_ptr c.at q ≡ false) p cs d.0, apart_without p cs d.1)
+        | false ↦ (AllByRecursion-without (λ q. same_ptr c.at q ≡ false) p cs d.0, IsApart-without p cs d.1)
       ]
 
   -- what holds of all pointers holds where a node is found
-  pub all_at : (P : Ptr → Type 0) (cs : List (Cell L B)) (p : Ptr) (l : L) → AllByRecursion P (pointers cs) → links_at cs p ≡ Some l → P p
+  pub AllByRecursion-at : (P : Ptr → Type 0) (cs : List (Cell L B)) (p : Ptr) (l : L) → AllByRecursion P (pointers cs) → links_at cs p ≡ Some l → P p
   unfolding cell_at
-  all_at P [] p l h e = absurd (none_some l e)
-  all_at P (c ∷ cs) p l h e =
+  AllByRecursion-at P [] p l h e = absurd (none_some l e)
+  AllByRecursion-at P (c ∷ cs) p l h e =
       (elim (same_ptr c.at p) as (λ y. same_ptr c.at p ≡ y → links_of (cond y (Some c) (cell_at cs p)) ≡ Some l → P p) [
-        | true ↦ λ t _. subst P (same_ptr_eq c.at p t) h.0
-        | false ↦ λ n k. all_at P cs p l h.1 k
+        | true ↦ λ t _. subst P (same_ptr-equal c.at p t) h.0
+        | false ↦ λ n k. AllByRecursion-at P cs p l h.1 k
       ]) refl e

@@ -135,8 +135,8 @@ module _ (i : ℕ) (Y : RattleType) (L : Laws Y) {M : Type 1} {𝓤 : Ura M} (�
   value_in x b o v = part_in 𝓛 (param i Y) refl full_share x b o v
 
 -- the machine value of a pointer
-pub pointer_told : (x : Pl.Denot) (vs : List Val) → Is Pl x vs → vs ≡ word x.ptr ∷ []
-pointer_told x vs is = is.1.0 ∙ ap (λ (ws : List Val). vstruct (of_list (ws ++ [])) ∷ []) is.1.1.0
+pub word-pointer : (x : Pl.Denot) (vs : List Val) → Is Pl x vs → vs ≡ word x.ptr ∷ []
+word-pointer x vs is = is.1.0 ∙ ap (λ (ws : List Val). vstruct (of_list (ws ++ [])) ∷ []) is.1.1.0
 
 module _ {M : Type 1} {𝓤 : Ura M} (𝓛 : Logic 𝓤) (b o : ℕ) where
   -- a value that is forgotten leaves uninitialised memory

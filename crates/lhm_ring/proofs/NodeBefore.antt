@@ -11,8 +11,8 @@ use Rattle.lhm_ring.specs.Index.{Spot, spot, spots, PutsIn, IsRearranged, IsChai
 use Rattle.lhm_ring.specs.Splits.{SplitAt, SplitAround}
 use Rattle.lhm_ring.specs.Search.{OfNodeAt, IsLast, IsOnChain}
 use Rattle.lhm_ring.proofs.Rearranged.{PutsIn-middle, IsRearranged-less, IsRearranged-more}
-use Rattle.lhm_ring.proofs.Chains.{held_of, ChainFirst, chain_begins, chain_none, IsRearranged-back, PutsIn-filter_in, PutsIn-spots, length-IsRearranged}
-use Rattle.lhm_ring.proofs.IndexTakes.{OnNode, on_node}
+use Rattle.lhm_ring.proofs.Chains.{IsHeld-spot, ChainFirst, ChainFirst-some, none-IsChain, SplitAround-rearranged, PutsIn-filter_in, PutsIn-spots, length-IsRearranged}
+use Rattle.lhm_ring.proofs.IndexTakes.{OnNode, OnNode-rearranged}
 
 -- the chain of the held node x: us come before it there, and vs after it
 pub record OnItsChain {K V : Type 0} (heads : List (Option Ptr)) (hash : ℕ) (nodes : List (Held (K × V))) (x : Held (K × V)) : Type 0 where
@@ -39,36 +39,36 @@ some_there [] x ys e = absurd (cc)
 some_there (y ∷ xs) x ys e = absurd (cc)
 
 -- the same except for the last
-fronts : {X : Type 0} (us : List X) (u : X) (vs : List X) (v : X) → us ++ u ∷ [] ≡ vs ++ v ∷ [] → us ≡ vs
-fronts [] u [] v e = refl
-fronts [] u (w ∷ []) v e = absurd (cc)
-fronts [] u (w ∷ z ∷ vs) v e = absurd (cc)
-fronts (w ∷ []) u [] v e = absurd (cc)
-fronts (w ∷ z ∷ us) u [] v e = absurd (cc)
-fronts (w ∷ us) u (z ∷ vs) v e =
+push-injective : {X : Type 0} (us : List X) (u : X) (vs : List X) (v : X) → us ++ u ∷ [] ≡ vs ++ v ∷ [] → us ≡ vs
+push-injective [] u [] v e = refl
+push-injective [] u (w ∷ []) v e = absurd (cc)
+push-injective [] u (w ∷ z ∷ vs) v e = absurd (cc)
+push-injective (w ∷ []) u [] v e = absurd (cc)
+push-injective (w ∷ z ∷ us) u [] v e = absurd (cc)
+push-injective (w ∷ us) u (z ∷ vs) v e =
     let f : us ++ u ∷ [] ≡ vs ++ v ∷ [] = cc in
     let g : w ≡ z = cc in
-    let i : us ≡ vs = fronts us u vs v f in
+    let i : us ≡ vs = push-injective us u vs v f in
     cc
 
 -- ---- chains
 
-cut_chain : (h : Option Ptr) (us : List Spot) (s t : Spot) (vs : List Spot) → t.at ≡ s.at → t.link ≡ None → IsChain h (us ++ s ∷ vs) → IsChain h (us ++ t ∷ [])
-cut_chain h [] s t vs a l c = (c.0 ∙ ap Some (sym a), l)
-cut_chain h (u ∷ us) s t vs a l c = (c.0, cut_chain u.link us s t vs a l c.1)
+IsChain-cut : (h : Option Ptr) (us : List Spot) (s t : Spot) (vs : List Spot) → t.at ≡ s.at → t.link ≡ None → IsChain h (us ++ s ∷ vs) → IsChain h (us ++ t ∷ [])
+IsChain-cut h [] s t vs a l c = (c.0 ∙ ap Some (sym a), l)
+IsChain-cut h (u ∷ us) s t vs a l c = (c.0, IsChain-cut u.link us s t vs a l c.1)
 
-chain_tail : (h : Option Ptr) (us : List Spot) (s : Spot) (vs : List Spot) → IsChain h (us ++ s ∷ vs) → IsChain s.link vs
-chain_tail h [] s vs c = c.1
-chain_tail h (u ∷ us) s vs c = chain_tail u.link us s vs c.1
+IsChain-tail : (h : Option Ptr) (us : List Spot) (s : Spot) (vs : List Spot) → IsChain h (us ++ s ∷ vs) → IsChain s.link vs
+IsChain-tail h [] s vs c = c.1
+IsChain-tail h (u ∷ us) s vs c = IsChain-tail u.link us s vs c.1
 
-first_of : (here : Ptr) (us : List Spot) (s t : Spot) (vs : List Spot) → t.at ≡ s.at → IsChain (Some here) (us ++ s ∷ vs) → ChainFirst (us ++ t ∷ []) here
-first_of here [] s t vs a c = record { node = t; after = []; is = refl; at_is = (let e : Some here ≡ Some s.at = c.0 in cc) }
-first_of here (u ∷ us) s t vs a c = record { node = u; after = us ++ t ∷ []; is = refl; at_is = (let e : Some here ≡ Some u.at = c.0 in cc) }
+ChainFirst-cut : (here : Ptr) (us : List Spot) (s t : Spot) (vs : List Spot) → t.at ≡ s.at → IsChain (Some here) (us ++ s ∷ vs) → ChainFirst (us ++ t ∷ []) here
+ChainFirst-cut here [] s t vs a c = record { node = t; after = []; is = refl; at_is = (let e : Some here ≡ Some s.at = c.0 in cc) }
+ChainFirst-cut here (u ∷ us) s t vs a c = record { node = u; after = us ++ t ∷ []; is = refl; at_is = (let e : Some here ≡ Some u.at = c.0 in cc) }
 
 -- ---- the chain of a held node
 
-its_chain : {K V : Type 0} (heads : List (Option Ptr)) (hash : ℕ) (nodes xs : List (Held (K × V))) (x : Held (K × V)) (ys : List (Held (K × V))) → Indexes heads (spots nodes) → nodes ≡ xs ++ x ∷ ys → hash ≡ x.hash → OnItsChain heads hash nodes x
-its_chain {K} {V} heads hash nodes xs x ys h is e =
+OnItsChain-node : {K V : Type 0} (heads : List (Option Ptr)) (hash : ℕ) (nodes xs : List (Held (K × V))) (x : Held (K × V)) (ys : List (Held (K × V))) → Indexes heads (spots nodes) → nodes ≡ xs ++ x ∷ ys → hash ≡ x.hash → OnItsChain heads hash nodes x
+OnItsChain-node {K} {V} heads hash nodes xs x ys h is e =
     let n : ℕ = length heads in
     let f : Spot → Bool = is_in n (hash % n) in
     let p : PutsIn (spot x) (spots (xs ++ ys)) (spots nodes) = subst (λ (v : List (Held (K × V))). PutsIn (spot x) (spots (xs ++ ys)) (spots v)) (sym is) (PutsIn-spots xs x ys) in
@@ -79,7 +79,7 @@ its_chain {K} {V} heads hash nodes xs x ys h is e =
     let c : HasChain (get_or heads (hash % n) None) n (hash % n) (spots nodes) = h.chains (hash % n) (mod-lt hash some) in
     let inside : f (spot x) ≡ true = eq-eqb (x.hash % n) (hash % n) (ap (λ v. v % n) (sym e)) in
     let q : PutsIn (spot x) (filter f (spots (xs ++ ys))) (filter f (spots nodes)) = PutsIn-filter_in f (spot x) (spots (xs ++ ys)) (spots nodes) p inside in
-    let m : SplitAround c.chain (spot x) = IsRearranged-back c.chain (spot x) (filter f (spots (xs ++ ys))) (filter f (spots nodes)) c.holds q in
+    let m : SplitAround c.chain (spot x) = SplitAround-rearranged c.chain (spot x) (filter f (spots (xs ++ ys))) (filter f (spots nodes)) c.holds q in
     record {
       us = m.before;
       vs = m.after;
@@ -95,17 +95,17 @@ has_head : (h : Option Ptr) (us : List Spot) (s : Spot) (vs : List Spot) → IsC
 has_head h [] s vs c = (s.at, c.0)
 has_head h (u ∷ us) s vs c = (u.at, c.0)
 
-pub head_there : {K V : Type 0} {heads : List (Option Ptr)} {hash : ℕ} {nodes : List (Held (K × V))} {p : Ptr} → Indexes heads (spots nodes) → IsHeld nodes p → OfNodeAt nodes p (λ x. hash ≡ x.hash) → (q : Ptr) × (get_or heads (hash % length heads) None ≡ Some q)
-head_there {K} {V} {heads} {hash} {nodes} {p} h w e =
-    let c : OnItsChain heads hash nodes w.node = its_chain heads hash nodes w.before w.node w.after h w.is (e w.before w.node w.after w.is w.at_is) in
+pub get_or-head : {K V : Type 0} {heads : List (Option Ptr)} {hash : ℕ} {nodes : List (Held (K × V))} {p : Ptr} → Indexes heads (spots nodes) → IsHeld nodes p → OfNodeAt nodes p (λ x. hash ≡ x.hash) → (q : Ptr) × (get_or heads (hash % length heads) None ≡ Some q)
+get_or-head {K} {V} {heads} {hash} {nodes} {p} h w e =
+    let c : OnItsChain heads hash nodes w.node = OnItsChain-node heads hash nodes w.before w.node w.after h w.is (e w.before w.node w.after w.is w.at_is) in
     has_head (get_or heads (hash % length heads) None) c.us (spot w.node) c.vs c.linked
 
 -- ---- the way
 
-pub towards_start : {K V : Type 0} {heads : List (Option Ptr)} {hash : ℕ} {nodes : List (Held (K × V))} {p : Ptr} (cut : List (Held (K × V))) (link : Option Ptr) (here : Ptr) → Indexes heads (spots nodes) → IsHeld nodes p → OfNodeAt nodes p (λ x. hash ≡ x.hash) → OfNodeAt nodes p (λ x. link ≡ x.link) → AtHeld nodes p (λ before x after. cut ≡ before ++ linked_to None x ∷ after) → Some here ≡ get_or heads (hash % length heads) None → IsTowards heads hash nodes cut p link None here 0
-towards_start {K} {V} {heads} {hash} {nodes} {p} cut link here h w e l d a =
-    let c : OnItsChain heads hash nodes w.node = its_chain heads hash nodes w.before w.node w.after h w.is (e w.before w.node w.after w.is w.at_is) in
-    let f : ChainFirst (c.us ++ spot (linked_to None w.node) ∷ []) here = first_of here c.us (spot w.node) (spot (linked_to None w.node)) c.vs refl (subst (λ (v : Option Ptr). IsChain v (c.us ++ spot w.node ∷ c.vs)) (sym a) c.linked) in
+pub IsTowards-start : {K V : Type 0} {heads : List (Option Ptr)} {hash : ℕ} {nodes : List (Held (K × V))} {p : Ptr} (cut : List (Held (K × V))) (link : Option Ptr) (here : Ptr) → Indexes heads (spots nodes) → IsHeld nodes p → OfNodeAt nodes p (λ x. hash ≡ x.hash) → OfNodeAt nodes p (λ x. link ≡ x.link) → AtHeld nodes p (λ before x after. cut ≡ before ++ linked_to None x ∷ after) → Some here ≡ get_or heads (hash % length heads) None → IsTowards heads hash nodes cut p link None here 0
+IsTowards-start {K} {V} {heads} {hash} {nodes} {p} cut link here h w e l d a =
+    let c : OnItsChain heads hash nodes w.node = OnItsChain-node heads hash nodes w.before w.node w.after h w.is (e w.before w.node w.after w.is w.at_is) in
+    let f : ChainFirst (c.us ++ spot (linked_to None w.node) ∷ []) here = ChainFirst-cut here c.us (spot w.node) (spot (linked_to None w.node)) c.vs refl (subst (λ (v : Option Ptr). IsChain v (c.us ++ spot w.node ∷ c.vs)) (sym a) c.linked) in
     record {
       held = w;
       hash_is = e w.before w.node w.after w.is w.at_is;
@@ -118,8 +118,8 @@ towards_start {K} {V} {heads} {hash} {nodes} {p} cut link here h w e l d a =
     }
 
 -- the node on the way is one of the ring that is cut
-here_on : {K V : Type 0} {heads : List (Option Ptr)} {hash : ℕ} {nodes cut : List (Held (K × V))} {p : Ptr} {link before : Option Ptr} {here : Ptr} {passed : ℕ} (w : IsTowards heads hash nodes cut p link before here passed) → OnNode (length heads) (hash % length heads) w.on.before w.on.node (w.on.after ++ w.chain.vs) cut
-here_on {K} {V} {heads} {hash} {nodes} {cut} {p} {link} {before} {here} {passed} w =
+OnNode-here : {K V : Type 0} {heads : List (Option Ptr)} {hash : ℕ} {nodes cut : List (Held (K × V))} {p : Ptr} {link before : Option Ptr} {here : Ptr} {passed : ℕ} (w : IsTowards heads hash nodes cut p link before here passed) → OnNode (length heads) (hash % length heads) w.on.before w.on.node (w.on.after ++ w.chain.vs) cut
+OnNode-here {K} {V} {heads} {hash} {nodes} {cut} {p} {link} {before} {here} {passed} w =
     let n : ℕ = length heads in
     let f : Spot → Bool = is_in n (hash % n) in
     let s : Spot = spot w.held.node in
@@ -131,26 +131,26 @@ here_on {K} {V} {heads} {hash} {nodes} {cut} {p} {link} {before} {here} {passed}
     let less : IsRearranged (w.chain.us ++ w.chain.vs) (filter f others) = IsRearranged-less s (w.chain.us ++ w.chain.vs) (w.chain.us ++ s ∷ w.chain.vs) (filter f others) (filter f (spots nodes)) (PutsIn-middle w.chain.us s w.chain.vs) (PutsIn-filter_in f s others (spots nodes) ps inside) w.chain.holds in
     let more : IsRearranged (w.chain.us ++ t ∷ w.chain.vs) (filter f (spots cut)) = IsRearranged-more t (w.chain.us ++ w.chain.vs) (w.chain.us ++ t ∷ w.chain.vs) (filter f others) (filter f (spots cut)) (PutsIn-middle w.chain.us t w.chain.vs) (PutsIn-filter_in f t others (spots cut) pt inside) less in
     let all : w.chain.us ++ t ∷ w.chain.vs ≡ w.on.before ++ w.on.node ∷ (w.on.after ++ w.chain.vs) = sym (append_assoc w.chain.us (t ∷ []) w.chain.vs) ∙ ap (λ (v : List Spot). v ++ w.chain.vs) w.on.is ∙ append_assoc w.on.before (w.on.node ∷ w.on.after) w.chain.vs in
-    on_node n (hash % n) w.on.before w.on.node (w.on.after ++ w.chain.vs) cut (subst (λ (v : List Spot). IsRearranged v (filter f (spots cut))) all more)
+    OnNode-rearranged n (hash % n) w.on.before w.on.node (w.on.after ++ w.chain.vs) cut (subst (λ (v : List Spot). IsRearranged v (filter f (spots cut))) all more)
 
-pub towards_held : {K V : Type 0} {heads : List (Option Ptr)} {hash : ℕ} {nodes cut : List (Held (K × V))} {p : Ptr} {link before : Option Ptr} {here : Ptr} {passed : ℕ} → IsTowards heads hash nodes cut p link before here passed → IsHeld cut here
-towards_held {K} {V} {heads} {hash} {nodes} {cut} w =
-    let o : OnNode (length heads) (hash % length heads) w.on.before w.on.node (w.on.after ++ w.chain.vs) cut = here_on w in
-    held_of o.of w.on.at_is
+pub IsHeld-towards : {K V : Type 0} {heads : List (Option Ptr)} {hash : ℕ} {nodes cut : List (Held (K × V))} {p : Ptr} {link before : Option Ptr} {here : Ptr} {passed : ℕ} → IsTowards heads hash nodes cut p link before here passed → IsHeld cut here
+IsHeld-towards {K} {V} {heads} {hash} {nodes} {cut} w =
+    let o : OnNode (length heads) (hash % length heads) w.on.before w.on.node (w.on.after ++ w.chain.vs) cut = OnNode-here w in
+    IsHeld-spot o.of w.on.at_is
 
 -- the rest of the chain, by the link that is read
-rest_on : {K V : Type 0} {heads : List (Option Ptr)} {hash : ℕ} {nodes cut : List (Held (K × V))} {p : Ptr} {link before : Option Ptr} {here : Ptr} {passed : ℕ} (read : Option Ptr) (w : IsTowards heads hash nodes cut p link before here passed) → OfNodeAt cut here (λ x. read ≡ x.link) → IsChain read w.on.after
-rest_on {K} {V} {heads} {hash} {nodes} {cut} {p} {link} {before} {here} read w r =
-    let o : OnNode (length heads) (hash % length heads) w.on.before w.on.node (w.on.after ++ w.chain.vs) cut = here_on w in
-    let k : IsHeld cut here = held_of o.of w.on.at_is in
+IsChain-todo : {K V : Type 0} {heads : List (Option Ptr)} {hash : ℕ} {nodes cut : List (Held (K × V))} {p : Ptr} {link before : Option Ptr} {here : Ptr} {passed : ℕ} (read : Option Ptr) (w : IsTowards heads hash nodes cut p link before here passed) → OfNodeAt cut here (λ x. read ≡ x.link) → IsChain read w.on.after
+IsChain-todo {K} {V} {heads} {hash} {nodes} {cut} {p} {link} {before} {here} read w r =
+    let o : OnNode (length heads) (hash % length heads) w.on.before w.on.node (w.on.after ++ w.chain.vs) cut = OnNode-here w in
+    let k : IsHeld cut here = IsHeld-spot o.of w.on.at_is in
     let e : read ≡ w.on.node.link = r k.before k.node k.after k.is k.at_is ∙ ap (λ v. v.link) o.of.split.at_is in
     let head : Option Ptr = get_or heads (hash % length heads) None in
-    let c : IsChain head (w.chain.us ++ spot (linked_to None w.held.node) ∷ []) = cut_chain head w.chain.us (spot w.held.node) (spot (linked_to None w.held.node)) w.chain.vs refl refl w.chain.linked in
+    let c : IsChain head (w.chain.us ++ spot (linked_to None w.held.node) ∷ []) = IsChain-cut head w.chain.us (spot w.held.node) (spot (linked_to None w.held.node)) w.chain.vs refl refl w.chain.linked in
     let d : IsChain head (w.on.before ++ w.on.node ∷ w.on.after) = subst (λ (v : List Spot). IsChain head v) w.on.is c in
-    subst (λ (v : Option Ptr). IsChain v w.on.after) (sym e) (chain_tail head w.on.before w.on.node w.on.after d)
+    subst (λ (v : Option Ptr). IsChain v w.on.after) (sym e) (IsChain-tail head w.on.before w.on.node w.on.after d)
 
-pub towards_below : {K V : Type 0} {heads : List (Option Ptr)} {hash : ℕ} {nodes cut : List (Held (K × V))} {p : Ptr} {link before : Option Ptr} {here : Ptr} {passed : ℕ} → IsTowards heads hash nodes cut p link before here passed → passed + 1 ≤ length nodes
-towards_below {K} {V} {heads} {hash} {nodes} w =
+pub passed-below : {K V : Type 0} {heads : List (Option Ptr)} {hash : ℕ} {nodes cut : List (Held (K × V))} {p : Ptr} {link before : Option Ptr} {here : Ptr} {passed : ℕ} → IsTowards heads hash nodes cut p link before here passed → passed + 1 ≤ length nodes
+passed-below {K} {V} {heads} {hash} {nodes} w =
     let f : Spot → Bool = is_in (length heads) (hash % length heads) in
     let a : length (w.chain.us ++ spot w.held.node ∷ w.chain.vs) ≡ length (filter f (spots nodes)) = length-IsRearranged (w.chain.us ++ spot w.held.node ∷ w.chain.vs) (filter f (spots nodes)) w.chain.holds in
     let b = length-filter f (spots nodes) in
@@ -163,9 +163,9 @@ towards_below {K} {V} {heads} {hash} {nodes} w =
     let r = w.passed_is in
     omega (arith, a, b, c, d, e, k, m, q, r)
 
-pub towards_next : {K V : Type 0} {heads : List (Option Ptr)} {hash : ℕ} {nodes cut : List (Held (K × V))} {p : Ptr} {link before : Option Ptr} {here : Ptr} {passed : ℕ} (read : Option Ptr) (next : Ptr) → IsTowards heads hash nodes cut p link before here passed → OfNodeAt cut here (λ x. read ≡ x.link) → read ≡ Some next → IsTowards heads hash nodes cut p link (Some here) next (passed + 1)
-towards_next {K} {V} {heads} {hash} {nodes} {cut} {p} {link} {before} {here} {passed} read next w r e =
-    let b : ChainFirst w.on.after next = chain_begins next w.on.after (subst (λ (v : Option Ptr). IsChain v w.on.after) e (rest_on read w r)) in
+pub IsTowards-next : {K V : Type 0} {heads : List (Option Ptr)} {hash : ℕ} {nodes cut : List (Held (K × V))} {p : Ptr} {link before : Option Ptr} {here : Ptr} {passed : ℕ} (read : Option Ptr) (next : Ptr) → IsTowards heads hash nodes cut p link before here passed → OfNodeAt cut here (λ x. read ≡ x.link) → read ≡ Some next → IsTowards heads hash nodes cut p link (Some here) next (passed + 1)
+IsTowards-next {K} {V} {heads} {hash} {nodes} {cut} {p} {link} {before} {here} {passed} read next w r e =
+    let b : ChainFirst w.on.after next = ChainFirst-some next w.on.after (subst (λ (v : Option Ptr). IsChain v w.on.after) e (IsChain-todo read w r)) in
     let k : length (w.on.before ++ w.on.node ∷ []) ≡ length w.on.before + 1 = length-append w.on.before (w.on.node ∷ []) in
     let m = w.passed_is in
     record {
@@ -185,10 +185,10 @@ towards_next {K} {V} {heads} {hash} {nodes} {cut} {p} {link} {before} {here} {pa
       passed_is = (omega (arith, k, m));
     }
 
-pub towards_end : {K V : Type 0} {heads : List (Option Ptr)} {hash : ℕ} {nodes cut : List (Held (K × V))} {p : Ptr} {link before : Option Ptr} {here : Ptr} {passed : ℕ} (read : Option Ptr) → IsTowards heads hash nodes cut p link before here passed → OfNodeAt cut here (λ x. read ≡ x.link) → read ≡ None → IsOnChain heads hash (spots nodes) before p
-towards_end {K} {V} {heads} {hash} {nodes} {cut} {p} {link} {before} read w r e =
-    let z : w.on.after ≡ [] = chain_none w.on.after (subst (λ (v : Option Ptr). IsChain v w.on.after) e (rest_on read w r)) in
-    let same : w.chain.us ≡ w.on.before = fronts w.chain.us (spot (linked_to None w.held.node)) w.on.before w.on.node (w.on.is ∙ ap (λ (v : List Spot). w.on.before ++ w.on.node ∷ v) z) in
+pub IsOnChain-towards : {K V : Type 0} {heads : List (Option Ptr)} {hash : ℕ} {nodes cut : List (Held (K × V))} {p : Ptr} {link before : Option Ptr} {here : Ptr} {passed : ℕ} (read : Option Ptr) → IsTowards heads hash nodes cut p link before here passed → OfNodeAt cut here (λ x. read ≡ x.link) → read ≡ None → IsOnChain heads hash (spots nodes) before p
+IsOnChain-towards {K} {V} {heads} {hash} {nodes} {cut} {p} {link} {before} read w r e =
+    let z : w.on.after ≡ [] = none-IsChain w.on.after (subst (λ (v : Option Ptr). IsChain v w.on.after) e (IsChain-todo read w r)) in
+    let same : w.chain.us ≡ w.on.before = push-injective w.chain.us (spot (linked_to None w.held.node)) w.on.before w.on.node (w.on.is ∙ ap (λ (v : List Spot). w.on.before ++ w.on.node ∷ v) z) in
     record {
       done = w.chain.us;
       here = spot w.held.node;
@@ -200,13 +200,13 @@ towards_end {K} {V} {heads} {hash} {nodes} {cut} {p} {link} {before} read w r e 
     }
 
 -- the link is put back
-pub towards_mended : {K V : Type 0} {heads : List (Option Ptr)} {hash : ℕ} {nodes cut : List (Held (K × V))} {p : Ptr} {link before : Option Ptr} {here : Ptr} {passed : ℕ} (new : List (Held (K × V))) → IsTowards heads hash nodes cut p link before here passed → AtHeld cut p (λ before' x after. new ≡ before' ++ linked_to link x ∷ after) → new ≡ nodes
-towards_mended {K} {V} {heads} {hash} {nodes} {cut} {p} {link} new w s =
+pub nodes-mended : {K V : Type 0} {heads : List (Option Ptr)} {hash : ℕ} {nodes cut : List (Held (K × V))} {p : Ptr} {link before : Option Ptr} {here : Ptr} {passed : ℕ} (new : List (Held (K × V))) → IsTowards heads hash nodes cut p link before here passed → AtHeld cut p (λ before' x after. new ≡ before' ++ linked_to link x ∷ after) → new ≡ nodes
+nodes-mended {K} {V} {heads} {hash} {nodes} {cut} {p} {link} new w s =
     s w.held.before (linked_to None w.held.node) w.held.after w.cut_is w.held.at_is ∙ ap (λ (l : Option Ptr). w.held.before ++ linked_to l w.held.node ∷ w.held.after) w.link_is ∙ sym w.held.is
 
-pub towards_cut_held : {K V : Type 0} {heads : List (Option Ptr)} {hash : ℕ} {nodes cut : List (Held (K × V))} {p : Ptr} {link before : Option Ptr} {here : Ptr} {passed : ℕ} → IsTowards heads hash nodes cut p link before here passed → IsHeld cut p
-towards_cut_held w = record { before = w.held.before; node = linked_to None w.held.node; after = w.held.after; is = w.cut_is; at_is = w.held.at_is }
+pub IsHeld-towards_cut : {K V : Type 0} {heads : List (Option Ptr)} {hash : ℕ} {nodes cut : List (Held (K × V))} {p : Ptr} {link before : Option Ptr} {here : Ptr} {passed : ℕ} → IsTowards heads hash nodes cut p link before here passed → IsHeld cut p
+IsHeld-towards_cut w = record { before = w.held.before; node = linked_to None w.held.node; after = w.held.after; is = w.cut_is; at_is = w.held.at_is }
 
 -- states are told by their fields
-pub same_state : {B : Type 0} (s t : State B) → s.held ≡ t.held → s.spares ≡ t.spares → s.nodes ≡ t.nodes → s ≡ t
-same_state s t a b e = λ i. record { held = a i; spares = b i; nodes = e i }
+pub State-equal : {B : Type 0} (s t : State B) → s.held ≡ t.held → s.spares ≡ t.spares → s.nodes ≡ t.nodes → s ≡ t
+State-equal s t a b e = λ i. record { held = a i; spares = b i; nodes = e i }

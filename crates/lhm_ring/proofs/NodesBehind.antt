@@ -6,33 +6,33 @@ use Rattle.lhm_ring.specs.Cells.{same_ptr, IsApart}
 use Rattle.lhm_ring.specs.declared.position.Position.{Position}
 use Rattle.lhm_ring.specs.Positions.{pointer_of, pointer_of_some}
 use Rattle.lhm_ring.specs.RingState.{Held, IsHeld, AtHeld, first_at, last_at}
-use Rattle.lhm_ring.proofs.Apart.{IsFresh, same_ptr_refl}
-use Rattle.lhm_ring.proofs.DroppedRing.{no_first}
-use Rattle.lhm_ring.proofs.Ends.{Last, first_node, last_node}
+use Rattle.lhm_ring.proofs.Apart.{IsFresh, same_ptr-reflexive}
+use Rattle.lhm_ring.proofs.DroppedRing.{none-first_at}
+use Rattle.lhm_ring.proofs.Ends.{Last, First-first_at, Last-last_at}
 use Rattle.lhm_ring.proofs.Options.{none_some}
-use Rattle.lhm_ring.proofs.Rows.{apart_head, apart_tail}
+use Rattle.lhm_ring.proofs.Rows.{IsFresh-head, IsApart-tail}
 
 module _ {B : Type 0} where
-  fresh_mid : (p : Ptr) (xs : List (Held B)) (t : Held B) (ys : List (Held B)) → IsFresh p (map (λ u. u.at) (xs ++ t ∷ ys)) → same_ptr p t.at ≡ false
-  fresh_mid p [] t ys f = f.0
-  fresh_mid p (x ∷ xs) t ys f = fresh_mid p xs t ys f.1
+  same_ptr-fresh : (p : Ptr) (xs : List (Held B)) (t : Held B) (ys : List (Held B)) → IsFresh p (map (λ u. u.at) (xs ++ t ∷ ys)) → same_ptr p t.at ≡ false
+  same_ptr-fresh p [] t ys f = f.0
+  same_ptr-fresh p (x ∷ xs) t ys f = same_ptr-fresh p xs t ys f.1
 
   not_again : (t : Held B) (hs us : List (Held B)) (v : Held B) (ws : List (Held B)) → IsApart (map (λ u. u.at) (t ∷ hs)) → hs ≡ us ++ v ∷ ws → v.at ≡ t.at → ⊥
   not_again t hs us v ws d e at =
-      let fresh : IsFresh t.at (map (λ u. u.at) (us ++ v ∷ ws)) = subst (λ ks. IsFresh t.at (map (λ u. u.at) ks)) e (apart_head t.at (map (λ u. u.at) hs) d) in
-      true≢false (sym (same_ptr_refl t.at) ∙ ap (same_ptr t.at) (sym at) ∙ fresh_mid t.at us v ws fresh)
+      let fresh : IsFresh t.at (map (λ u. u.at) (us ++ v ∷ ws)) = subst (λ ks. IsFresh t.at (map (λ u. u.at) ks)) e (IsFresh-head t.at (map (λ u. u.at) hs) d) in
+      true≢false (sym (same_ptr-reflexive t.at) ∙ ap (same_ptr t.at) (sym at) ∙ same_ptr-fresh t.at us v ws fresh)
 
-  cut_alike : (hs xs : List (Held B)) (t : Held B) (ys us : List (Held B)) (v : Held B) (ws : List (Held B)) → IsApart (map (λ u. u.at) hs) → hs ≡ xs ++ t ∷ ys → hs ≡ us ++ v ∷ ws → t.at ≡ v.at → length ys ≡ length ws
-  cut_alike [] [] t ys us v ws d e f at = absurd (cc)
-  cut_alike [] (x ∷ xs) t ys us v ws d e f at = absurd (cc)
-  cut_alike (h ∷ hs) [] t ys [] v ws d e f at = let same : ys ≡ ws = cc in ap length same
-  cut_alike (h ∷ hs) [] t ys (u ∷ us) v ws d e f at = let rest : hs ≡ us ++ v ∷ ws = cc in let here : v.at ≡ h.at = cc in absurd (not_again h hs us v ws d rest here)
-  cut_alike (h ∷ hs) (x ∷ xs) t ys [] v ws d e f at = let rest : hs ≡ xs ++ t ∷ ys = cc in let here : t.at ≡ h.at = cc in absurd (not_again h hs xs t ys d rest here)
-  cut_alike (h ∷ hs) (x ∷ xs) t ys (u ∷ us) v ws d e f at = cut_alike hs xs t ys us v ws (apart_tail h.at (map (λ z. z.at) hs) d) (cc) (cc) at
+  length-alike : (hs xs : List (Held B)) (t : Held B) (ys us : List (Held B)) (v : Held B) (ws : List (Held B)) → IsApart (map (λ u. u.at) hs) → hs ≡ xs ++ t ∷ ys → hs ≡ us ++ v ∷ ws → t.at ≡ v.at → length ys ≡ length ws
+  length-alike [] [] t ys us v ws d e f at = absurd (cc)
+  length-alike [] (x ∷ xs) t ys us v ws d e f at = absurd (cc)
+  length-alike (h ∷ hs) [] t ys [] v ws d e f at = let same : ys ≡ ws = cc in ap length same
+  length-alike (h ∷ hs) [] t ys (u ∷ us) v ws d e f at = let rest : hs ≡ us ++ v ∷ ws = cc in let here : v.at ≡ h.at = cc in absurd (not_again h hs us v ws d rest here)
+  length-alike (h ∷ hs) (x ∷ xs) t ys [] v ws d e f at = let rest : hs ≡ xs ++ t ∷ ys = cc in let here : t.at ≡ h.at = cc in absurd (not_again h hs xs t ys d rest here)
+  length-alike (h ∷ hs) (x ∷ xs) t ys (u ∷ us) v ws d e f at = length-alike hs xs t ys us v ws (IsApart-tail h.at (map (λ z. z.at) hs) d) (cc) (cc) at
 
   -- no two nodes lie at one pointer, so there is one place for it
-  pub length-behind : {hs : List (Held B)} {p : Ptr} → IsApart (map (λ u. u.at) hs) → (h : IsHeld hs p) → AtHeld hs p (λ xs t ys. length h.after ≡ length ys)
-  length-behind {hs} d h xs t ys e at = cut_alike hs h.before h.node h.after xs t ys d h.is e (h.at_is ∙ sym at)
+  pub AtHeld-behind : {hs : List (Held B)} {p : Ptr} → IsApart (map (λ u. u.at) hs) → (h : IsHeld hs p) → AtHeld hs p (λ xs t ys. length h.after ≡ length ys)
+  AtHeld-behind {hs} d h xs t ys e at = length-alike hs h.before h.node h.after xs t ys d h.is e (h.at_is ∙ sym at)
 
 -- a loop to the back began at one node, has come to another, and has passed so many
 pub record HasPassed {B : Type 0} (hs : List (Held B)) (start here : Ptr) (passed : ℕ) : Type 0 where
@@ -41,8 +41,8 @@ pub record HasPassed {B : Type 0} (hs : List (Held B)) (start here : Ptr) (passe
   pub count : passed + length came.after ≡ length began.after
 
 module _ {B : Type 0} {hs : List (Held B)} {start here : Ptr} {passed : ℕ} where
-  pub HasPassed-within : HasPassed hs start here passed → passed < length hs
-  HasPassed-within m =
+  pub passed-within : HasPassed hs start here passed → passed < length hs
+  passed-within m =
       let long = length-append m.began.before (m.began.node ∷ m.began.after) in
       let all = ap length m.began.is in
       omega (arith, m.count, long, all)
@@ -50,7 +50,7 @@ module _ {B : Type 0} {hs : List (Held B)} {start here : Ptr} {passed : ℕ} whe
   pub HasPassed-step : (m : HasPassed hs start here passed) (next : Ptr) → Some next ≡ first_at m.came.after → HasPassed hs start next (passed + 1)
   HasPassed-step m next is =
       let at = m.came in
-      let first = first_node at.after (Some next) next is refl in
+      let first = First-first_at at.after (Some next) next is refl in
       let one = ap length first.is in
       record {
         began = m.began;
@@ -64,10 +64,10 @@ module _ {B : Type 0} {hs : List (Held B)} {start here : Ptr} {passed : ℕ} whe
         count = omega (arith, one, m.count);
       }
 
-  pub HasPassed-end : IsApart (map (λ u. u.at) hs) → (m : HasPassed hs start here passed) → None ≡ first_at m.came.after → AtHeld hs start (λ xs t ys. passed ≡ length ys)
-  HasPassed-end d m none xs t ys e at =
-      let ended = ap length (no_first m.came.after none) in
-      let all = length-behind d m.began xs t ys e at in
+  pub AtHeld-end : IsApart (map (λ u. u.at) hs) → (m : HasPassed hs start here passed) → None ≡ first_at m.came.after → AtHeld hs start (λ xs t ys. passed ≡ length ys)
+  AtHeld-end d m none xs t ys e at =
+      let ended = ap length (none-first_at m.came.after none) in
+      let all = AtHeld-behind d m.began xs t ys e at in
       omega (arith, ended, all, m.count)
 
 -- a loop from the back has passed so many, and comes to the one at o next
@@ -78,9 +78,9 @@ pub record HasBehind {B : Type 0} (hs : List (Held B)) (o : Option Ptr) (passed 
   pub count : length back ≡ passed
   pub next_is : o ≡ last_at front
 
-no_last : {B : Type 0} (hs : List (Held B)) → None ≡ last_at hs → hs ≡ []
-no_last [] h = refl
-no_last (t ∷ hs) h = absurd (none_some _ h)
+none-last_at : {B : Type 0} (hs : List (Held B)) → None ≡ last_at hs → hs ≡ []
+none-last_at [] h = refl
+none-last_at (t ∷ hs) h = absurd (none_some _ h)
 
 module _ {B : Type 0} {hs : List (Held B)} {o : Option Ptr} where
   pub HasBehind-start : o ≡ last_at hs → HasBehind hs o 0
@@ -89,13 +89,13 @@ module _ {B : Type 0} {hs : List (Held B)} {o : Option Ptr} where
   module _ {passed : ℕ} (m : HasBehind hs o passed) where
     pub length-passed : o ≡ None → length hs ≡ passed
     length-passed none =
-        let ended = ap length (no_last m.front (sym none ∙ m.next_is)) in
+        let ended = ap length (none-last_at m.front (sym none ∙ m.next_is)) in
         let all = ap length m.is ∙ length-append m.front m.back in
         omega (arith, ended, all, m.count)
 
     module _ {p : Ptr} (some : o ≡ Some p) where
       abbrev last : Last m.front p
-      last = last_node m.front o p m.next_is some
+      last = Last-last_at m.front o p m.next_is some
 
       abbrev pub next_held : IsHeld hs p
       next_held = record {
@@ -111,8 +111,8 @@ module _ {B : Type 0} {hs : List (Held B)} {o : Option Ptr} where
           let at = next_held in
           record { front = at.before; back = at.node ∷ at.after; is = at.is; count = omega (arith, m.count); next_is = previous at.before at.node at.after at.is at.at_is }
 
-      pub length-next : IsApart (map (λ u. u.at) hs) → AtHeld hs p (λ xs t ys. length ys ≡ passed)
-      length-next d xs t ys e at = sym (length-behind d next_held xs t ys e at) ∙ m.count
+      pub AtHeld-passed : IsApart (map (λ u. u.at) hs) → AtHeld hs p (λ xs t ys. length ys ≡ passed)
+      AtHeld-passed d xs t ys e at = sym (AtHeld-behind d next_held xs t ys e at) ∙ m.count
 
 module _ {K V : Type 0} {hs : List (Held (K × V))} {passed : ℕ} where
   pub IsHeld-next : (o : Option (Position K V)) → HasBehind hs (pointer_of_some o) passed → IfSome o (λ at. IsHeld hs (pointer_of at))
@@ -121,4 +121,4 @@ module _ {K V : Type 0} {hs : List (Held (K × V))} {passed : ℕ} where
 
   pub AtHeld-next : IsApart (map (λ u. u.at) hs) → (o : Option (Position K V)) → HasBehind hs (pointer_of_some o) passed → IfSome o (λ at. AtHeld hs (pointer_of at) (λ xs t ys. length ys ≡ passed))
   AtHeld-next d None m = tt
-  AtHeld-next d (Some at) m = length-next m refl d
+  AtHeld-next d (Some at) m = AtHeld-passed m refl d

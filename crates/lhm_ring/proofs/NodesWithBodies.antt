@@ -7,114 +7,115 @@ use Rattle.lhm_ring.specs.Rings.{next_of, prev_of, link_of, has_links, link_at, 
 use Rattle.lhm_ring.specs.ContentLoan.{body_in, without_body, bodies_of, with_bodies, cleared}
 use Rattle.lhm_ring.specs.Targets.{target}
 use Rattle.lhm_ring.specs.declared.link.Link.{Link}
-use Rattle.lhm_ring.proofs.Apart.{IsFresh, same_ptr_eq, same_ptr_refl, same_ptr_symm}
+use Rattle.lhm_ring.proofs.Apart.{IsFresh, same_ptr-equal, same_ptr-reflexive, same_ptr-symmetric}
 use Rattle.lhm_ring.proofs.Options.{none_some}
-use Rattle.lhm_ring.proofs.Rows.{all_from, apart_head, apart_tail}
+use Rattle.lhm_ring.proofs.Rows.{AllByRecursion-map, IsFresh-head, IsApart-tail}
 
 module _ {B : Type 0} where
-  none_left : (p : Ptr) (run : List (Ptr × Option B)) → body_in (without_body p run) p ≡ None
+  body_in-without_body : (p : Ptr) (run : List (Ptr × Option B))
+      → body_in (without_body p run) p ≡ None
   unfolding body_in without_body
-  none_left p [] = refl
-  none_left p (c ∷ run) =
+  body_in-without_body p [] = refl
+  body_in-without_body p (c ∷ run) =
       (elim (same_ptr c.0 p) as (λ y. same_ptr c.0 p ≡ y → body_in (cond y ((c.0, None) ∷ run) (c ∷ without_body p run)) p ≡ None) [
         | true ↦ λ t. ap (λ z. cond z None (body_in run p)) t
-        | false ↦ λ n. ap (λ z. cond z c.1 (body_in (without_body p run) p)) n ∙ none_left p run
+        | false ↦ λ n. ap (λ z. cond z c.1 (body_in (without_body p run) p)) n ∙ body_in-without_body p run
       ]) refl
 
-  others_left : (p q : Ptr) (run : List (Ptr × Option B)) → same_ptr p q ≡ false → body_in (without_body p run) q ≡ body_in run q
+  body_in-without_body_other : (p q : Ptr) (run : List (Ptr × Option B)) → same_ptr p q ≡ false → body_in (without_body p run) q ≡ body_in run q
   unfolding body_in without_body
-  others_left p q [] n = refl
-  others_left p q (c ∷ run) n =
+  body_in-without_body_other p q [] n = refl
+  body_in-without_body_other p q (c ∷ run) n =
       (elim (same_ptr c.0 p) as (λ y. same_ptr c.0 p ≡ y → body_in (cond y ((c.0, None) ∷ run) (c ∷ without_body p run)) q ≡ cond (same_ptr c.0 q) c.1 (body_in run q)) [
-        | true ↦ λ t. let far = ap (λ r. same_ptr r q) (same_ptr_eq c.0 p t) ∙ n in ap (λ z. cond z None (body_in run q)) far ∙ sym (ap (λ z. cond z c.1 (body_in run q)) far)
-        | false ↦ λ _. ap (λ r. cond (same_ptr c.0 q) c.1 r) (others_left p q run n)
+        | true ↦ λ t. let far = ap (λ r. same_ptr r q) (same_ptr-equal c.0 p t) ∙ n in ap (λ z. cond z None (body_in run q)) far ∙ sym (ap (λ z. cond z c.1 (body_in run q)) far)
+        | false ↦ λ _. ap (λ r. cond (same_ptr c.0 q) c.1 r) (body_in-without_body_other p q run n)
       ]) refl
 
 module _ {L B : Type 0} where
-  pub links_with_bodies : (cs : List (Cell L B)) (run : List (Ptr × Option B)) (q : Ptr) → links_at (with_bodies cs run) q ≡ links_at cs q
+  pub links_at-with_bodies : (cs : List (Cell L B)) (run : List (Ptr × Option B)) (q : Ptr) → links_at (with_bodies cs run) q ≡ links_at cs q
   unfolding cell_at
-  links_with_bodies [] run q = refl
-  links_with_bodies (c ∷ cs) run q =
+  links_at-with_bodies [] run q = refl
+  links_at-with_bodies (c ∷ cs) run q =
       elim (same_ptr c.at q) as (λ y. links_of (cond y (Some (cell c.at c.links (body_in run c.at))) (cell_at (with_bodies cs run) q)) ≡ links_of (cond y (Some c) (cell_at cs q))) [
         | true ↦ refl
-        | false ↦ links_with_bodies cs run q
+        | false ↦ links_at-with_bodies cs run q
       ]
 
-  pub body_with_bodies : (cs : List (Cell L B)) (run : List (Ptr × Option B)) (q : Ptr) (l : L) → links_at cs q ≡ Some l → body_at (with_bodies cs run) q ≡ body_in run q
+  pub body_at-with_bodies : (cs : List (Cell L B)) (run : List (Ptr × Option B)) (q : Ptr) (l : L) → links_at cs q ≡ Some l → body_at (with_bodies cs run) q ≡ body_in run q
   unfolding cell_at
-  body_with_bodies [] run q l e = absurd (none_some l e)
-  body_with_bodies (c ∷ cs) run q l e =
+  body_at-with_bodies [] run q l e = absurd (none_some l e)
+  body_at-with_bodies (c ∷ cs) run q l e =
       (elim (same_ptr c.at q) as (λ y. same_ptr c.at q ≡ y → links_of (cond y (Some c) (cell_at cs q)) ≡ Some l → body_of (cond y (Some (cell c.at c.links (body_in run c.at))) (cell_at (with_bodies cs run) q)) ≡ body_in run q) [
-        | true ↦ λ t _. ap (body_in run) (same_ptr_eq c.at q t)
-        | false ↦ λ n h. body_with_bodies cs run q l h
+        | true ↦ λ t _. ap (body_in run) (same_ptr-equal c.at q t)
+        | false ↦ λ n h. body_at-with_bodies cs run q l h
       ]) refl e
 
-  with_bodies_skip : (p : Ptr) (o : Option B) (run : List (Ptr × Option B)) (cs : List (Cell L B)) → IsFresh p (pointers cs) → with_bodies cs ((p, o) ∷ run) ≡ with_bodies cs run
+  with_bodies-skip : (p : Ptr) (o : Option B) (run : List (Ptr × Option B)) (cs : List (Cell L B)) → IsFresh p (pointers cs) → with_bodies cs ((p, o) ∷ run) ≡ with_bodies cs run
   unfolding body_in
-  with_bodies_skip p o run [] f = refl
-  with_bodies_skip p o run (c ∷ cs) f = λ i. cell c.at c.links (cond (f.0 i) o (body_in run c.at)) ∷ with_bodies_skip p o run cs f.1 i
+  with_bodies-skip p o run [] f = refl
+  with_bodies-skip p o run (c ∷ cs) f = λ i. cell c.at c.links (cond (f.0 i) o (body_in run c.at)) ∷ with_bodies-skip p o run cs f.1 i
 
-  pub with_own_bodies : (cs : List (Cell L B)) → IsApart (pointers cs) → with_bodies cs (bodies_of cs) ≡ cs
+  pub with_bodies-own : (cs : List (Cell L B)) → IsApart (pointers cs) → with_bodies cs (bodies_of cs) ≡ cs
   unfolding body_in
-  with_own_bodies [] d = refl
-  with_own_bodies (c ∷ cs) d =
-      let on = with_bodies_skip c.at c.body (bodies_of cs) cs (apart_head c.at (pointers cs) d) ∙ with_own_bodies cs (apart_tail c.at (pointers cs) d) in
-      λ i. cell c.at c.links (cond (same_ptr_refl c.at i) c.body (body_in (bodies_of cs) c.at)) ∷ on i
+  with_bodies-own [] d = refl
+  with_bodies-own (c ∷ cs) d =
+      let on = with_bodies-skip c.at c.body (bodies_of cs) cs (IsFresh-head c.at (pointers cs) d) ∙ with_bodies-own cs (IsApart-tail c.at (pointers cs) d) in
+      λ i. cell c.at c.links (cond (same_ptr-reflexive c.at i) c.body (body_in (bodies_of cs) c.at)) ∷ on i
 
-  with_bodies_far : (p : Ptr) (run : List (Ptr × Option B)) (cs : List (Cell L B)) → IsFresh p (pointers cs) → with_bodies cs (without_body p run) ≡ with_bodies cs run
-  with_bodies_far p run [] f = refl
-  with_bodies_far p run (c ∷ cs) f = λ i. cell c.at c.links (others_left p c.at run f.0 i) ∷ with_bodies_far p run cs f.1 i
+  with_bodies-far : (p : Ptr) (run : List (Ptr × Option B)) (cs : List (Cell L B)) → IsFresh p (pointers cs) → with_bodies cs (without_body p run) ≡ with_bodies cs run
+  with_bodies-far p run [] f = refl
+  with_bodies-far p run (c ∷ cs) f = λ i. cell c.at c.links (body_in-without_body_other p c.at run f.0 i) ∷ with_bodies-far p run cs f.1 i
 
-  pub with_bodies_without : (p : Ptr) (run : List (Ptr × Option B)) (cs : List (Cell L B)) → IsApart (pointers cs) → with_bodies cs (without_body p run) ≡ with_body p None (with_bodies cs run)
+  pub with_bodies-without_body : (p : Ptr) (run : List (Ptr × Option B)) (cs : List (Cell L B)) → IsApart (pointers cs) → with_bodies cs (without_body p run) ≡ with_body p None (with_bodies cs run)
   unfolding change
-  with_bodies_without p run [] d = refl
-  with_bodies_without p run (c ∷ cs) d =
+  with_bodies-without_body p run [] d = refl
+  with_bodies-without_body p run (c ∷ cs) d =
       (elim (same_ptr c.at p) as (λ y. same_ptr c.at p ≡ y → with_bodies (c ∷ cs) (without_body p run) ≡ cond y (cell c.at c.links None ∷ with_bodies cs run) (cell c.at c.links (body_in run c.at) ∷ with_body p None (with_bodies cs run))) [
         | true ↦ λ t.
-            let here = ap (body_in (without_body p run)) (same_ptr_eq c.at p t) ∙ none_left p run in let far = subst (λ q. IsFresh q (pointers cs)) (same_ptr_eq c.at p t) (apart_head c.at (pointers cs) d) in
-            λ i. cell c.at c.links (here i) ∷ with_bodies_far p run cs far i
-        | false ↦ λ n. λ i. cell c.at c.links (others_left p c.at run (same_ptr_symm p c.at ∙ n) i) ∷ with_bodies_without p run cs (apart_tail c.at (pointers cs) d) i
+            let here = ap (body_in (without_body p run)) (same_ptr-equal c.at p t) ∙ body_in-without_body p run in let far = subst (λ q. IsFresh q (pointers cs)) (same_ptr-equal c.at p t) (IsFresh-head c.at (pointers cs) d) in
+            λ i. cell c.at c.links (here i) ∷ with_bodies-far p run cs far i
+        | false ↦ λ n. λ i. cell c.at c.links (body_in-without_body_other p c.at run (same_ptr-symmetric p c.at ∙ n) i) ∷ with_bodies-without_body p run cs (IsApart-tail c.at (pointers cs) d) i
       ]) refl
 
-  pub links_cleared : (cs : List (Cell L B)) (q : Ptr) → links_at (cleared cs) q ≡ links_at cs q
+  pub links_at-cleared : (cs : List (Cell L B)) (q : Ptr) → links_at (cleared cs) q ≡ links_at cs q
   unfolding cell_at
-  links_cleared [] q = refl
-  links_cleared (c ∷ cs) q =
+  links_at-cleared [] q = refl
+  links_at-cleared (c ∷ cs) q =
       elim (same_ptr c.at q) as (λ y. links_of (cond y (Some (cell c.at c.links None)) (cell_at (cleared cs) q)) ≡ links_of (cond y (Some c) (cell_at cs q))) [
         | true ↦ refl
-        | false ↦ links_cleared cs q
+        | false ↦ links_at-cleared cs q
       ]
 
-  length_cleared : (cs : List (Cell L B)) → length (cleared cs) ≡ length cs
-  length_cleared [] = refl
-  length_cleared (c ∷ cs) = ap suc (length_cleared cs)
+  length-cleared : (cs : List (Cell L B)) → length (cleared cs) ≡ length cs
+  length-cleared [] = refl
+  length-cleared (c ∷ cs) = ap suc (length-cleared cs)
 
 module _ {B : Type 0} (cs : List (Cell Links B)) where
-  row_cleared : (s : List Ptr) → Linked cs s → Linked (cleared cs) s
-  row_cleared [] k = tt
-  row_cleared (y ∷ []) k = tt
-  row_cleared (y ∷ z ∷ r) k = ((ap next_of (links_cleared cs y) ∙ k.0.0, ap prev_of (links_cleared cs z) ∙ k.0.1), row_cleared (z ∷ r) k.1)
+  Linked-cleared : (s : List Ptr) → Linked cs s → Linked (cleared cs) s
+  Linked-cleared [] k = tt
+  Linked-cleared (y ∷ []) k = tt
+  Linked-cleared (y ∷ z ∷ r) k = ((ap next_of (links_at-cleared cs y) ∙ k.0.0, ap prev_of (links_at-cleared cs z) ∙ k.0.1), Linked-cleared (z ∷ r) k.1)
 
-  chain_cleared : (h : Option Ptr) (ss : List Ptr) → Chained cs h ss → Chained (cleared cs) h ss
-  chain_cleared h [] k = k
-  chain_cleared h (y ∷ ys) k = (k.0, chain_cleared (link_at (cleared cs) y) ys (subst (λ z. Chained cs z ys) (sym (ap link_of (links_cleared cs y))) k.1))
+  Chained-cleared : (h : Option Ptr) (ss : List Ptr) → Chained cs h ss → Chained (cleared cs) h ss
+  Chained-cleared h [] k = k
+  Chained-cleared h (y ∷ ys) k = (k.0, Chained-cleared (link_at (cleared cs) y) ys (subst (λ z. Chained cs z ys) (sym (ap link_of (links_at-cleared cs y))) k.1))
 
-  ring_cleared : (ps : List Ptr) (spare : Option Ptr) (ss : List Ptr) → length ps ≡ 0 → IsRing cs ps spare ss → IsRing (cleared cs) ps spare ss
-  ring_cleared (p ∷ ps) spare ss e r = absurd (omega arith)
-  ring_cleared [] spare ss e r = record {
-    linked = row_cleared (null_ptr ∷ null_ptr ∷ []) r.linked;
-    chained = chain_cleared spare ss r.chained;
+  IsRing-cleared : (ps : List Ptr) (spare : Option Ptr) (ss : List Ptr) → length ps ≡ 0 → IsRing cs ps spare ss → IsRing (cleared cs) ps spare ss
+  IsRing-cleared (p ∷ ps) spare ss e r = absurd (omega arith)
+  IsRing-cleared [] spare ss e r = record {
+    linked = Linked-cleared (null_ptr ∷ null_ptr ∷ []) r.linked;
+    chained = Chained-cleared spare ss r.chained;
     held = tt;
-    there = all_from (λ q. is_there cs q ≡ true) (λ q. is_there (cleared cs) q ≡ true) (λ q h. ap has_links (links_cleared cs q) ∙ h) (null_ptr ∷ ss) r.there;
+    there = AllByRecursion-map (λ q. is_there cs q ≡ true) (λ q. is_there (cleared cs) q ≡ true) (λ q h. ap has_links (links_at-cleared cs q) ∙ h) (null_ptr ∷ ss) r.there;
     apart = r.apart;
-    count = length_cleared cs ∙ r.count;
+    count = length-cleared cs ∙ r.count;
   }
 
-  pub ring_ok_cleared : (spare : Link) (n m : ℕ) → n ≡ 0 → RingOk cs spare n m → RingOk (cleared cs) spare n m
-  ring_ok_cleared spare n m e ok = record {
+  pub RingOk-cleared : (spare : Link) (n m : ℕ) → n ≡ 0 → RingOk cs spare n m → RingOk (cleared cs) spare n m
+  RingOk-cleared spare n m e ok = record {
     held_pointers = ok.held_pointers;
     spare_pointers = ok.spare_pointers;
-    ring = ring_cleared ok.held_pointers (target spare) ok.spare_pointers (ok.held_count ∙ e) ok.ring;
+    ring = IsRing-cleared ok.held_pointers (target spare) ok.spare_pointers (ok.held_count ∙ e) ok.ring;
     held_count = ok.held_count;
     enough_spares = ok.enough_spares;
     bounded = ok.bounded;

@@ -1,8 +1,8 @@
 -- What is there, and what is not.
 use Rattle.std.proofs.Common.{◌≡◌, Some, None}
 
-pub some_same : {X : Type 0} (x y : X) → Some x ≡ Some y → x ≡ y
-some_same x y e = cc
+pub Some-injective : {X : Type 0} (x y : X) → Some x ≡ Some y → x ≡ y
+Some-injective x y e = cc
 
 pub none_some : {X : Type 0} (x : X) → None ≡ Some x → ⊥
 none_some x e = cc

@@ -10,15 +10,15 @@ use Rattle.lhm_ring.specs.Cells.{Cell, pointers, is_block, AreBlocks}
 use Rattle.lhm_ring.specs.Chunks.{row, places}
 use Rattle.lhm_ring.specs.declared.chunk.Chunk.{Chunk}
 use Rattle.lhm_ring.specs.Land.{extent, place_count, IsLaid}
-use Rattle.lhm_ring.proofs.Rows.{all_left, all_right}
+use Rattle.lhm_ring.proofs.Rows.{AllByRecursion-left, AllByRecursion-right}
 
-pub no_places : (s : ℕ) → [] ≡ places s []
+pub places-none : (s : ℕ) → [] ≡ places s []
 unfolding places
-no_places s = refl
+places-none s = refl
 
-pub no_row : (p : Ptr) (s n : ℕ) → n ≡ 0 → row p s n ≡ []
+pub row-none : (p : Ptr) (s n : ℕ) → n ≡ 0 → row p s n ≡ []
 unfolding row
-no_row p s n e = ap (row p s) e
+row-none p s n e = ap (row p s) e
 
 -- the place behind n others
 plus-zero : (p : Ptr) (s : ℕ) → p +ₚ (0 * s) ≡ p
@@ -37,108 +37,108 @@ row-suc p s (suc n) = ap (λ qs. p ∷ qs) (row-suc (p +ₚ s) s n) ∙ ap (λ q
 pub row-last : (p : Ptr) (s n : ℕ) → row p s (n + 1) ≡ row p s n ++ (p +ₚ (n * s)) ∷ []
 row-last p s n = let one : n + 1 ≡ suc n = omega arith in ap (row p s) one ∙ row-suc p s n
 
-pub row-length : (p : Ptr) (s n : ℕ) → length (row p s n) ≡ n
+pub length-row : (p : Ptr) (s n : ℕ) → length (row p s n) ≡ n
 unfolding row
-row-length p s zero = refl
-row-length p s (suc n) = ap (λ (k : ℕ). suc k) (row-length (p +ₚ s) s n)
+length-row p s zero = refl
+length-row p s (suc n) = ap (λ (k : ℕ). suc k) (length-row (p +ₚ s) s n)
 
-pub places_last : (s : ℕ) (cs : List (Ptr × ℕ)) (c : Ptr × ℕ) → places s (cs ++ c ∷ []) ≡ row c.0 s c.1 ++ places s cs
+pub places-last : (s : ℕ) (cs : List (Ptr × ℕ)) (c : Ptr × ℕ) → places s (cs ++ c ∷ []) ≡ row c.0 s c.1 ++ places s cs
 unfolding places
-places_last s [] c = sym (append-nil (row c.0 s c.1))
-places_last s (x ∷ xs) c = ap (λ ps. ps ++ row x.0 s x.1) (places_last s xs c) ∙ append_assoc (row c.0 s c.1) (places s xs) (row x.0 s x.1)
+places-last s [] c = sym (append-nil (row c.0 s c.1))
+places-last s (x ∷ xs) c = ap (λ ps. ps ++ row x.0 s x.1) (places-last s xs c) ∙ append_assoc (row c.0 s c.1) (places s xs) (row x.0 s x.1)
 
-pub near : (o : ℕ) → o < 2 ^ 63 → nat_lt o (2 ^ 63) ≡ true
-near o h = T_true (nat_lt o (2 ^ 63)) (lt→ltb o (2 ^ 63) h)
+pub nat_lt-near : (o : ℕ) → o < 2 ^ 63 → nat_lt o (2 ^ 63) ≡ true
+nat_lt-near o h = T_true (nat_lt o (2 ^ 63)) (lt→ltb o (2 ^ 63) h)
 
 -- places near the start of a block may be compared with null
-pub row_blocks : (b o s n : ℕ) → o + n * s < 2 ^ 63 → AreBlocks (row (block_ptr b o) s n)
+pub AreBlocks-row : (b o s n : ℕ) → o + n * s < 2 ^ 63 → AreBlocks (row (block_ptr b o) s n)
 unfolding row
-row_blocks b o s zero h = tt
-row_blocks b o s (suc n) h =
+AreBlocks-row b o s zero h = tt
+AreBlocks-row b o s (suc n) h =
     let more : suc n * s ≡ n * s + s = ap (λ (k : ℕ). k * s) (sym (one_more n)) ∙ next n s in
-    (near o (omega (arith, more)), row_blocks b (o + s) s n (omega (arith, more)))
+    (nat_lt-near o (omega (arith, more)), AreBlocks-row b (o + s) s n (omega (arith, more)))
 
-first_block : (p : Ptr) (s n : ℕ) → AreBlocks (row p s (suc n)) → is_block p ≡ true
+is_block-first : (p : Ptr) (s n : ℕ) → AreBlocks (row p s (suc n)) → is_block p ≡ true
 unfolding row
-first_block p s n all = all.0
+is_block-first p s n all = all.0
 
 -- the first of the places
-pub row_first_block : (p : Ptr) (s n : ℕ) (us : List Ptr) → us ≡ row p s (n + 1) → AreBlocks us → is_block p ≡ true
-row_first_block p s n us e all = let one : n + 1 ≡ suc n = omega arith in first_block p s n (subst AreBlocks (e ∙ ap (row p s) one) all)
+pub is_block-row_first : (p : Ptr) (s n : ℕ) (us : List Ptr) → us ≡ row p s (n + 1) → AreBlocks us → is_block p ≡ true
+is_block-row_first p s n us e all = let one : n + 1 ≡ suc n = omega arith in is_block-first p s n (subst AreBlocks (e ∙ ap (row p s) one) all)
 
 -- the last of the places, and the others
-pub row_last_block : (p : Ptr) (s n : ℕ) (us : List Ptr) → us ≡ row p s (n + 1) → AreBlocks us → is_block (p +ₚ (n * s)) ≡ true
-row_last_block p s n us e all = (all_right (λ q. is_block q ≡ true) (row p s n) ((p +ₚ (n * s)) ∷ []) (subst AreBlocks (e ∙ row-last p s n) all)).0
+pub is_block-row_last : (p : Ptr) (s n : ℕ) (us : List Ptr) → us ≡ row p s (n + 1) → AreBlocks us → is_block (p +ₚ (n * s)) ≡ true
+is_block-row_last p s n us e all = (AllByRecursion-right (λ q. is_block q ≡ true) (row p s n) ((p +ₚ (n * s)) ∷ []) (subst AreBlocks (e ∙ row-last p s n) all)).0
 
-pub row_other_blocks : (p : Ptr) (s n : ℕ) (us : List Ptr) → us ≡ row p s (n + 1) → AreBlocks us → AreBlocks (row p s n)
-row_other_blocks p s n us e all = all_left (λ q. is_block q ≡ true) (row p s n) ((p +ₚ (n * s)) ∷ []) (subst AreBlocks (e ∙ row-last p s n) all)
+pub AreBlocks-row_other : (p : Ptr) (s n : ℕ) (us : List Ptr) → us ≡ row p s (n + 1) → AreBlocks us → AreBlocks (row p s n)
+AreBlocks-row_other p s n us e all = AllByRecursion-left (λ q. is_block q ≡ true) (row p s n) ((p +ₚ (n * s)) ∷ []) (subst AreBlocks (e ∙ row-last p s n) all)
 
 -- the last unused place becomes the newest node
-pub laid_next : (p : Ptr) (s n : ℕ) (us ps ls : List Ptr) → us ≡ row p s (n + 1) → us ++ ps ≡ ls → row p s n ++ (p +ₚ (n * s)) ∷ ps ≡ ls
-laid_next p s n us ps ls e h = sym (append_assoc (row p s n) ((p +ₚ (n * s)) ∷ []) ps) ∙ ap (λ qs. qs ++ ps) (sym (e ∙ row-last p s n)) ∙ h
+pub row-next : (p : Ptr) (s n : ℕ) (us ps ls : List Ptr) → us ≡ row p s (n + 1) → us ++ ps ≡ ls → row p s n ++ (p +ₚ (n * s)) ∷ ps ≡ ls
+row-next p s n us ps ls e h = sym (append_assoc (row p s n) ((p +ₚ (n * s)) ∷ []) ps) ∙ ap (λ qs. qs ++ ps) (sym (e ∙ row-last p s n)) ∙ h
 
 -- the same numbers of places
-row_same : (p : Ptr) (s m n : ℕ) → m ≡ n → row p s m ≡ row p s n
-row_same p s m n e = ap (row p s) e
+row-same : (p : Ptr) (s m n : ℕ) → m ≡ n → row p s m ≡ row p s n
+row-same p s m n e = ap (row p s) e
 
 -- a chunk more
-pub laid_more : (p : Ptr) (s n : ℕ) (us ps : List Ptr) (cs : List (Ptr × ℕ)) → us ++ ps ≡ places s cs → (row p s n ++ us) ++ ps ≡ places s (cs ++ (p, n) ∷ [])
-laid_more p s n us ps cs h = append_assoc (row p s n) us ps ∙ ap (λ qs. row p s n ++ qs) h ∙ sym (places_last s cs (p, n))
+pub row-more : (p : Ptr) (s n : ℕ) (us ps : List Ptr) (cs : List (Ptr × ℕ)) → us ++ ps ≡ places s cs → (row p s n ++ us) ++ ps ≡ places s (cs ++ (p, n) ∷ [])
+row-more p s n us ps cs h = append_assoc (row p s n) us ps ∙ ap (λ qs. row p s n ++ qs) h ∙ sym (places-last s cs (p, n))
 
-pub places-length : (s : ℕ) (cs : List (Ptr × ℕ)) → length (places s cs) ≡ place_count cs
+pub length-places : (s : ℕ) (cs : List (Ptr × ℕ)) → length (places s cs) ≡ place_count cs
 unfolding places place_count
-places-length s [] = refl
-places-length s (c ∷ cs) = let a = length-append (places s cs) (row c.0 s c.1) in let b = places-length s cs in let d = row-length c.0 s c.1 in omega arith
+length-places s [] = refl
+length-places s (c ∷ cs) = let a = length-append (places s cs) (row c.0 s c.1) in let b = length-places s cs in let d = length-row c.0 s c.1 in omega arith
 
 pub place_count-last : (cs : List (Ptr × ℕ)) (c : Ptr × ℕ) → place_count (cs ++ c ∷ []) ≡ place_count cs + c.1
 unfolding place_count
 place_count-last [] c = refl
 place_count-last (x ∷ cs) c = let a = place_count-last cs c in omega arith
 
-pub in_block : (p : Ptr) → is_block p ≡ true → (at : ℕ × ℕ) × (p ≡ block_ptr at.0 at.1)
-in_block (block_ptr b o) e = ((b, o), refl)
-in_block null_ptr e = cc
+pub block_ptr-in_block : (p : Ptr) → is_block p ≡ true → (at : ℕ × ℕ) × (p ≡ block_ptr at.0 at.1)
+block_ptr-in_block (block_ptr b o) e = ((b, o), refl)
+block_ptr-in_block null_ptr e = cc
 
 -- a ring's chunks stay where its nodes keep theirs
-pub still_laid : {us vs : List Ptr} {cs ds : List (Ptr × ℕ)} {kept : List Chunk} {made : ℕ} → IsLaid us cs kept made → vs ≡ us → ds ≡ cs → IsLaid vs ds kept made
-still_laid l e f = record { none_unused = e ∙ l.none_unused; all_kept = f ∙ l.all_kept; all_made = l.all_made ∙ ap place_count (sym f) }
+pub IsLaid-same : {us vs : List Ptr} {cs ds : List (Ptr × ℕ)} {kept : List Chunk} {made : ℕ} → IsLaid us cs kept made → vs ≡ us → ds ≡ cs → IsLaid vs ds kept made
+IsLaid-same l e f = record { none_unused = e ∙ l.none_unused; all_kept = f ∙ l.all_kept; all_made = l.all_made ∙ ap place_count (sym f) }
 
-pub bare_laid : {us : List Ptr} {cs : List (Ptr × ℕ)} {kept : List Chunk} → us ≡ [] → cs ≡ [] → kept ≡ [] → IsLaid us cs kept 0
+pub IsLaid-none : {us : List Ptr} {cs : List (Ptr × ℕ)} {kept : List Chunk} → us ≡ [] → cs ≡ [] → kept ≡ [] → IsLaid us cs kept 0
 unfolding place_count
-bare_laid e f k = record { none_unused = e; all_kept = f ∙ sym (ap (map extent) k); all_made = sym (ap place_count f) }
+IsLaid-none e f k = record { none_unused = e; all_kept = f ∙ sym (ap (map extent) k); all_made = sym (ap place_count f) }
 
-pub row_less : (p : Ptr) (s n : ℕ) → 0 < n → row p s n ≡ row p s (n - 1 + 1)
-row_less p s n some = row_same p s n (n - 1 + 1) (omega arith)
+pub row-less : (p : Ptr) (s n : ℕ) → 0 < n → row p s n ≡ row p s (n - 1 + 1)
+row-less p s n some = row-same p s n (n - 1 + 1) (omega arith)
 
-pub extents_last : (ks : List Chunk) (k : Chunk) → map extent (ks ++ k ∷ []) ≡ map extent ks ++ extent k ∷ []
-extents_last [] k = refl
-extents_last (x ∷ ks) k = ap (λ cs. extent x ∷ cs) (extents_last ks k)
+pub map-extent_last : (ks : List Chunk) (k : Chunk) → map extent (ks ++ k ∷ []) ≡ map extent ks ++ extent k ∷ []
+map-extent_last [] k = refl
+map-extent_last (x ∷ ks) k = ap (λ cs. extent x ∷ cs) (map-extent_last ks k)
 
 all_but_last : List (Ptr × ℕ) → List (Ptr × ℕ)
 all_but_last [] = []
 all_but_last (c ∷ []) = []
 all_but_last (c ∷ d ∷ cs) = c ∷ all_but_last (d ∷ cs)
 
-without_last : (cs : List (Ptr × ℕ)) (c : Ptr × ℕ) → all_but_last (cs ++ c ∷ []) ≡ cs
+all_but_last-push : (cs : List (Ptr × ℕ)) (c : Ptr × ℕ) → all_but_last (cs ++ c ∷ []) ≡ cs
 unfolding all_but_last
-without_last [] c = refl
-without_last (x ∷ []) c = refl
-without_last (x ∷ y ∷ cs) c = ap (λ ds. x ∷ ds) (without_last (y ∷ cs) c)
+all_but_last-push [] c = refl
+all_but_last-push (x ∷ []) c = refl
+all_but_last-push (x ∷ y ∷ cs) c = ap (λ ds. x ∷ ds) (all_but_last-push (y ∷ cs) c)
 
-pub last_same : (cs ds : List (Ptr × ℕ)) (c : Ptr × ℕ) → cs ++ c ∷ [] ≡ ds ++ c ∷ [] → cs ≡ ds
-last_same cs ds c e = sym (without_last cs c) ∙ ap all_but_last e ∙ without_last ds c
+pub push-injective : (cs ds : List (Ptr × ℕ)) (c : Ptr × ℕ) → cs ++ c ∷ [] ≡ ds ++ c ∷ [] → cs ≡ ds
+push-injective cs ds c e = sym (all_but_last-push cs c) ∙ ap all_but_last e ∙ all_but_last-push ds c
 
-pub no_extents : (ks : List Chunk) → length ks ≡ 0 → map extent ks ≡ []
-no_extents [] e = refl
-no_extents (k ∷ ks) e = absurd (omega (arith, e))
+pub map-extent_none : (ks : List Chunk) → length ks ≡ 0 → map extent ks ≡ []
+map-extent_none [] e = refl
+map-extent_none (k ∷ ks) e = absurd (omega (arith, e))
 
 -- if no place is unused, there are as many nodes as places
-pub count_made : {L B : Type 0} (ns : List (Cell L B)) (us : List Ptr) (s : ℕ) (cs : List (Ptr × ℕ)) → us ++ pointers ns ≡ places s cs → us ≡ [] → length ns ≡ place_count cs
-count_made ns us s cs h e = sym (length-map ns (λ n. n.at)) ∙ ap length (ap (λ qs. qs ++ pointers ns) (sym e) ∙ h) ∙ places-length s cs
+pub length-made : {L B : Type 0} (ns : List (Cell L B)) (us : List Ptr) (s : ℕ) (cs : List (Ptr × ℕ)) → us ++ pointers ns ≡ places s cs → us ≡ [] → length ns ≡ place_count cs
+length-made ns us s cs h e = sym (length-map ns (λ n. n.at)) ∙ ap length (ap (λ qs. qs ++ pointers ns) (sym e) ∙ h) ∙ length-places s cs
 
 -- a chunk more
-pub laid_grown : {us vs : List Ptr} {cs ds : List (Ptr × ℕ)} {ks js : List Chunk} {made : ℕ} (c : Ptr × ℕ) → IsLaid us cs ks made → vs ≡ [] → ds ≡ cs ++ c ∷ [] → map extent js ≡ map extent ks ++ c ∷ [] → IsLaid vs ds js (made + c.1)
-laid_grown {cs = cs} {made = made} c l e f k = record {
+pub IsLaid-grown : {us vs : List Ptr} {cs ds : List (Ptr × ℕ)} {ks js : List Chunk} {made : ℕ} (c : Ptr × ℕ) → IsLaid us cs ks made → vs ≡ [] → ds ≡ cs ++ c ∷ [] → map extent js ≡ map extent ks ++ c ∷ [] → IsLaid vs ds js (made + c.1)
+IsLaid-grown {cs = cs} {made = made} c l e f k = record {
   none_unused = e;
   all_kept = f ∙ ap (λ zs. zs ++ c ∷ []) l.all_kept ∙ sym k;
   all_made = ap (λ (n : ℕ). n + c.1) l.all_made ∙ sym (place_count-last cs c) ∙ sym (ap place_count f);

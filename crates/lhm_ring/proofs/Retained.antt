@@ -8,55 +8,55 @@ use Rattle.lhm_ring.specs.RingState.{State, Held, IsHeld, AtHeld, first_at, chan
 use Rattle.lhm_ring.specs.RingAfterLoan.{revalued}
 use Rattle.lhm_ring.specs.Tables.{TableState, table_of, WritesOnly}
 use Rattle.lhm_ring.specs.Retains.{TakesAt, CallsAt, RetainsAt, RetainsHeld, IsRetaining, left_from}
-use Rattle.lhm_ring.proofs.Apart.{IsFresh, same_ptr_refl}
-use Rattle.lhm_ring.proofs.Rows.{apart_head, apart_tail, apart_out}
-use Rattle.lhm_ring.proofs.Ends.{First, first_node}
-use Rattle.lhm_ring.proofs.Tables.{entries_cut}
+use Rattle.lhm_ring.proofs.Apart.{IsFresh, same_ptr-reflexive}
+use Rattle.lhm_ring.proofs.Rows.{IsFresh-head, IsApart-tail, IsApart-removed}
+use Rattle.lhm_ring.proofs.Ends.{First, First-first_at}
+use Rattle.lhm_ring.proofs.Tables.{EntriesCut-split}
 
 -- what a node holds is written twice
 module _ {L B : Type 0} where
-  change_twice : (p : Ptr) (f g : Cell L B → Cell L B) → ((c : Cell L B) → (f c).at ≡ c.at) → ((c : Cell L B) → g (f c) ≡ g c) → (cs : List (Cell L B)) → change p g (change p f cs) ≡ change p g cs
+  change-twice : (p : Ptr) (f g : Cell L B → Cell L B) → ((c : Cell L B) → (f c).at ≡ c.at) → ((c : Cell L B) → g (f c) ≡ g c) → (cs : List (Cell L B)) → change p g (change p f cs) ≡ change p g cs
   unfolding change
-  change_twice p f g same over [] = refl
-  change_twice p f g same over (c ∷ cs) =
+  change-twice p f g same over [] = refl
+  change-twice p f g same over (c ∷ cs) =
       (elim (same_ptr c.at p) as (λ y. same_ptr c.at p ≡ y → change p g (cond y (f c ∷ cs) (c ∷ change p f cs)) ≡ cond y (g c ∷ cs) (c ∷ change p g cs)) [
         | true ↦ λ t. ap (λ y. cond y (g (f c) ∷ cs) (f c ∷ change p g cs)) (ap (λ q. same_ptr q p) (same c) ∙ t) ∙ ap (λ d. d ∷ cs) (over c)
-        | false ↦ λ t. ap (λ y. cond y (g c ∷ change p f cs) (c ∷ change p g (change p f cs))) t ∙ ap (λ l. c ∷ l) (change_twice p f g same over cs)
+        | false ↦ λ t. ap (λ y. cond y (g c ∷ change p f cs) (c ∷ change p g (change p f cs))) t ∙ ap (λ l. c ∷ l) (change-twice p f g same over cs)
       ]) refl
 
-  pub body_twice : (p : Ptr) (x : B) (cs : List (Cell L B)) → with_body p (Some x) (with_body p None cs) ≡ with_body p (Some x) cs
-  body_twice p x cs = change_twice p (λ c. cell c.at c.links None) (λ c. cell c.at c.links (Some x)) (λ c. refl) (λ c. refl) cs
+  pub with_body-twice : (p : Ptr) (x : B) (cs : List (Cell L B)) → with_body p (Some x) (with_body p None cs) ≡ with_body p (Some x) cs
+  with_body-twice p x cs = change-twice p (λ c. cell c.at c.links None) (λ c. cell c.at c.links (Some x)) (λ c. refl) (λ c. refl) cs
 
 -- how many are left, where no two lie at one pointer
 module _ {B : Type 0} where
   abbrev pub pointers_of : List (Held B) → List Ptr
   pointers_of hs = map (λ t. t.at) hs
 
-  fresh_in : (p : Ptr) (xs : List (Held B)) (y : Held B) (ys : List (Held B)) → IsFresh p (pointers_of (xs ++ y ∷ ys)) → same_ptr p y.at ≡ false
-  fresh_in p [] y ys f = f.0
-  fresh_in p (x ∷ xs) y ys f = fresh_in p xs y ys f.1
+  same_ptr-fresh : (p : Ptr) (xs : List (Held B)) (y : Held B) (ys : List (Held B)) → IsFresh p (pointers_of (xs ++ y ∷ ys)) → same_ptr p y.at ≡ false
+  same_ptr-fresh p [] y ys f = f.0
+  same_ptr-fresh p (x ∷ xs) y ys f = same_ptr-fresh p xs y ys f.1
 
   pub left_from-append : (xs ys : List (Held B)) → IsApart (pointers_of (xs ++ ys)) → left_from (first_at ys) (xs ++ ys) ≡ length ys
   left_from-append xs [] d = refl
-  left_from-append [] (y ∷ ys) d = ap (λ b. cond b (length (y ∷ ys)) (left_from (Some y.at) ys)) (same_ptr_refl y.at)
+  left_from-append [] (y ∷ ys) d = ap (λ b. cond b (length (y ∷ ys)) (left_from (Some y.at) ys)) (same_ptr-reflexive y.at)
   left_from-append (x ∷ xs) (y ∷ ys) d =
-      ap (λ b. cond b (length (x ∷ (xs ++ y ∷ ys))) (left_from (Some y.at) (xs ++ y ∷ ys))) (fresh_in x.at xs y ys (apart_head x.at (pointers_of (xs ++ y ∷ ys)) d))
-      ∙ left_from-append xs (y ∷ ys) (apart_tail x.at (pointers_of (xs ++ y ∷ ys)) d)
+      ap (λ b. cond b (length (x ∷ (xs ++ y ∷ ys))) (left_from (Some y.at) (xs ++ y ∷ ys))) (same_ptr-fresh x.at xs y ys (IsFresh-head x.at (pointers_of (xs ++ y ∷ ys)) d))
+      ∙ left_from-append xs (y ∷ ys) (IsApart-tail x.at (pointers_of (xs ++ y ∷ ys)) d)
 
-  pub pointers-append : (xs ys : List (Held B)) → pointers_of (xs ++ ys) ≡ pointers_of xs ++ pointers_of ys
-  pointers-append xs ys = map-append (λ (t : Held B). t.at) xs ys
+  pub pointers_of-append : (xs ys : List (Held B)) → pointers_of (xs ++ ys) ≡ pointers_of xs ++ pointers_of ys
+  pointers_of-append xs ys = map-append (λ (t : Held B). t.at) xs ys
 
   -- without one of them
-  pub apart-removed : (xs : List (Held B)) (t : Held B) (ys : List (Held B)) → IsApart (pointers_of (xs ++ t ∷ ys)) → IsApart (pointers_of (xs ++ ys))
-  apart-removed xs t ys d =
-      subst IsApart (sym (pointers-append xs ys)) (apart_out (pointers_of xs) t.at (pointers_of ys) (subst IsApart (pointers-append xs (t ∷ ys)) d))
+  pub IsApart-without_node : (xs : List (Held B)) (t : Held B) (ys : List (Held B)) → IsApart (pointers_of (xs ++ t ∷ ys)) → IsApart (pointers_of (xs ++ ys))
+  IsApart-without_node xs t ys d =
+      subst IsApart (sym (pointers_of-append xs ys)) (IsApart-removed (pointers_of xs) t.at (pointers_of ys) (subst IsApart (pointers_of-append xs (t ∷ ys)) d))
 
 -- a table that is seen as m: where the closure may be called at one of its pairs, it may at that of
 -- the ring
-pub taken_in : {F K V : Type 0} (Q : F → K → V → Type 0) (f : F) {p : Ptr} (s : State (K × V)) (r : ℕ) {m : TableState (K × V)} → table_of s r ≡ m → TakesAt Q f m.held p → TakesAt Q f s.held p
-taken_in {F} {K} {V} Q f {p} s r seen h =
+pub TakesAt-table_of : {F K V : Type 0} (Q : F → K → V → Type 0) (f : F) {p : Ptr} (s : State (K × V)) (r : ℕ) {m : TableState (K × V)} → table_of s r ≡ m → TakesAt Q f m.held p → TakesAt Q f s.held p
+TakesAt-table_of {F} {K} {V} Q f {p} s r seen h =
     let at = h.held in
-    let i = (entries_cut s.held at.before at.node at.after (ap (λ (z : TableState (K × V)). z.held) seen ∙ at.is)).split in
+    let i = (EntriesCut-split s.held at.before at.node at.after (ap (λ (z : TableState (K × V)). z.held) seen ∙ at.is)).split in
     record {
       held = record { before = i.before; node = i.node; after = i.after; is = i.is; at_is = ap (λ (t : Held (K × V)). t.at) i.at_is ∙ at.at_is };
       takes = subst (λ (t : Held (K × V)). Q f t.pair.0 t.pair.1) (sym i.at_is) h.takes;
@@ -80,8 +80,8 @@ module _ {F K V : Type 0} (T : F → K → V → Bool → V → F → Type 0) {f
     new_is = λ xs t ys e at. others xs (revalued w t) ys (written ∙ alone xs t ys e at w) at ∙ ap (λ c. xs ++ cond c (revalued w t ∷ ys) ys) (sym removed);
   }
 
-pub held-written : {K V : Type 0} {old now : List (Held (K × V))} {p : Ptr} (w : V) → WritesOnly old p → now ≡ change_at p (revalued w) old → IsHeld old p → IsHeld now p
-held-written w alone written h =
+pub IsHeld-written : {K V : Type 0} {old now : List (Held (K × V))} {p : Ptr} (w : V) → WritesOnly old p → now ≡ change_at p (revalued w) old → IsHeld old p → IsHeld now p
+IsHeld-written w alone written h =
     record { before = h.before; node = revalued w h.node; after = h.after; is = written ∙ alone h.before h.node h.after h.is h.at_is w; at_is = h.at_is }
 
 -- the closure may be called at the pairs behind the first
@@ -89,82 +89,82 @@ module _ {F K V : Type 0} (T : F → K → V → Bool → V → F → Type 0) (Q
   callable-first : {f : F} {pair : K × V} {pairs : List (K × V)} → CallableOnEachPair T Q f (pair ∷ pairs) → Q f pair.0 pair.1
   callable-first {f} {pair} {pairs} c = c.at [] pairs f pair.0 pair.1 refl refl
 
-  callable-rest : {f f' : F} {pair : K × V} {pairs : List (K × V)} → CallableOnEachPair T Q f (pair ∷ pairs) → SomeCallAtPair T f pair f' → CallableOnEachPair T Q f' pairs
-  callable-rest {f} {f'} {pair} {pairs} c called = record { at = λ before after g k v is run. c.at (pair ∷ before) after g k v (ap (λ l. pair ∷ l) is) (f', called, run) }
+  CallableOnEachPair-rest : {f f' : F} {pair : K × V} {pairs : List (K × V)} → CallableOnEachPair T Q f (pair ∷ pairs) → SomeCallAtPair T f pair f' → CallableOnEachPair T Q f' pairs
+  CallableOnEachPair-rest {f} {f'} {pair} {pairs} c called = record { at = λ before after g k v is run. c.at (pair ∷ before) after g k v (ap (λ l. pair ∷ l) is) (f', called, run) }
 
   pub IsRetaining-start : {f : F} {hs : List (Held (K × V))} {next : Option Ptr} → CallableOnEachPair T Q f (map (λ t. t.pair) hs) → next ≡ first_at hs → IsRetaining T Q f hs f hs next
   IsRetaining-start {f} {hs} c is = record { kept = []; rest = hs; now_is = refl; next_is = is; callable = c; ends = λ last r. r }
 
   module _ {start f : F} {old now : List (Held (K × V))} {next : Option Ptr} (m : IsRetaining T Q start old f now next) where
     -- no pair is left
-    pub IsRetaining-end : next ≡ None → RetainsHeld T start old now
-    IsRetaining-end none = by m.rest refl
+    pub RetainsHeld-end : next ≡ None → RetainsHeld T start old now
+    RetainsHeld-end none = by m.rest refl
       where
         by : (rest : List (Held (K × V))) → m.rest ≡ rest → RetainsHeld T start old now
         by [] is = subst (RetainsHeld T start old) (sym (m.now_is ∙ ap (λ l. m.kept ++ l) is)) (m.ends [] (subst (λ l. RetainsHeld T f l []) (sym is) refl))
         by (t ∷ ys) is = absurd (let no : Some t.at ≡ None = sym (m.next_is ∙ ap first_at is) ∙ none in cc)
 
     -- the pair at p is the next
-    pub next_of : {p : Ptr} → next ≡ Some p → First m.rest p
-    next_of {p} some = first_node m.rest next p m.next_is some
+    pub First-next : {p : Ptr} → next ≡ Some p → First m.rest p
+    First-next {p} some = First-first_at m.rest next p m.next_is some
 
     module _ {p : Ptr} (n : First m.rest p) where
-      pub now_cut : now ≡ m.kept ++ n.node ∷ n.after
-      now_cut = m.now_is ∙ ap (λ l. m.kept ++ l) n.is
+      pub now-cut : now ≡ m.kept ++ n.node ∷ n.after
+      now-cut = m.now_is ∙ ap (λ l. m.kept ++ l) n.is
 
       abbrev pub next_held : IsHeld now p
-      next_held = record { before = m.kept; node = n.node; after = n.after; is = now_cut; at_is = n.at_is }
+      next_held = record { before = m.kept; node = n.node; after = n.after; is = now-cut; at_is = n.at_is }
 
-      callable_now : CallableOnEachPair T Q f (n.node.pair ∷ map (λ t. t.pair) n.after)
-      callable_now = subst (λ l. CallableOnEachPair T Q f (map (λ t. t.pair) l)) n.is m.callable
+      CallableOnEachPair-now : CallableOnEachPair T Q f (n.node.pair ∷ map (λ t. t.pair) n.after)
+      CallableOnEachPair-now = subst (λ l. CallableOnEachPair T Q f (map (λ t. t.pair) l)) n.is m.callable
 
-      pub next_taken : TakesAt Q f now p
-      next_taken = record { held = next_held; takes = callable-first callable_now }
+      pub TakesAt-next : TakesAt Q f now p
+      TakesAt-next = record { held = next_held; takes = callable-first CallableOnEachPair-now }
 
       module _ {f' : F} {new : List (Held (K × V))} {next' : Option Ptr} (made : RetainsAt T f now p new f') (follows : AtHeld now p (λ xs t ys. next' ≡ first_at ys)) where
         abbrev kept' : List (Held (K × V))
         kept' = cond made.returned (m.kept ++ revalued made.value n.node ∷ []) m.kept
 
         call : T f n.node.pair.0 n.node.pair.1 made.returned made.value f'
-        call = made.called m.kept n.node n.after now_cut n.at_is
+        call = made.called m.kept n.node n.after now-cut n.at_is
 
-        new_is : new ≡ m.kept ++ cond made.returned (revalued made.value n.node ∷ n.after) n.after
-        new_is = made.new_is m.kept n.node n.after now_cut n.at_is
+        new-cut : new ≡ m.kept ++ cond made.returned (revalued made.value n.node ∷ n.after) n.after
+        new-cut = made.new_is m.kept n.node n.after now-cut n.at_is
 
-        joined : (b : Bool) (u : Held (K × V)) (ys : List (Held (K × V))) → cond b (m.kept ++ u ∷ []) m.kept ++ ys ≡ m.kept ++ cond b (u ∷ ys) ys
-        joined true u ys = append_assoc m.kept (u ∷ []) ys
-        joined false u ys = refl
+        append-cond : (b : Bool) (u : Held (K × V)) (ys : List (Held (K × V))) → cond b (m.kept ++ u ∷ []) m.kept ++ ys ≡ m.kept ++ cond b (u ∷ ys) ys
+        append-cond true u ys = append_assoc m.kept (u ∷ []) ys
+        append-cond false u ys = refl
 
-        now_new : new ≡ kept' ++ n.after
-        now_new = new_is ∙ sym (joined made.returned (revalued made.value n.node) n.after)
+        new-kept : new ≡ kept' ++ n.after
+        new-kept = new-cut ∙ sym (append-cond made.returned (revalued made.value n.node) n.after)
 
-        next_new : next' ≡ first_at n.after
-        next_new = follows m.kept n.node n.after now_cut n.at_is
+        next-new : next' ≡ first_at n.after
+        next-new = follows m.kept n.node n.after now-cut n.at_is
 
         pub IsRetaining-step : IsRetaining T Q start old f' new next'
         IsRetaining-step = record {
           kept = kept';
           rest = n.after;
-          now_is = now_new;
-          next_is = next_new;
-          callable = callable-rest callable_now (made.returned, made.value, call);
+          now_is = new-kept;
+          next_is = next-new;
+          callable = CallableOnEachPair-rest CallableOnEachPair-now (made.returned, made.value, call);
           ends = λ last r.
-              subst (RetainsHeld T start old) (sym (joined made.returned (revalued made.value n.node) last))
+              subst (RetainsHeld T start old) (sym (append-cond made.returned (revalued made.value n.node) last))
               (m.ends (cond made.returned (revalued made.value n.node ∷ last) last)
               (subst (λ l. RetainsHeld T f l (cond made.returned (revalued made.value n.node ∷ last) last)) (sym n.is) (record { returned = made.returned; value = made.value; closure = f'; rest = last; called = call; retained = r; kept_is = refl })));
         }
 
-        apart_new : (b : Bool) (w : V) → IsApart (pointers_of (m.kept ++ n.node ∷ n.after)) → IsApart (pointers_of (m.kept ++ cond b (revalued w n.node ∷ n.after) n.after))
-        apart_new true w d = subst IsApart (pointers-append m.kept (n.node ∷ n.after) ∙ sym (pointers-append m.kept (revalued w n.node ∷ n.after))) d
-        apart_new false w d = apart-removed m.kept n.node n.after d
+        IsApart-new : (b : Bool) (w : V) → IsApart (pointers_of (m.kept ++ n.node ∷ n.after)) → IsApart (pointers_of (m.kept ++ cond b (revalued w n.node ∷ n.after) n.after))
+        IsApart-new true w d = subst IsApart (pointers_of-append m.kept (n.node ∷ n.after) ∙ sym (pointers_of-append m.kept (revalued w n.node ∷ n.after))) d
+        IsApart-new false w d = IsApart-without_node m.kept n.node n.after d
 
         pub left_from-smaller : IsApart (pointers_of now) → left_from next' new < left_from next now
         left_from-smaller d =
-            let cut = subst (λ l. IsApart (pointers_of l)) now_cut d in
+            let cut = subst (λ l. IsApart (pointers_of l)) now-cut d in
             let before : left_from next now ≡ length (n.node ∷ n.after) =
-            ap (λ o. left_from o now) (m.next_is ∙ ap first_at n.is) ∙ ap (left_from (Some n.node.at)) now_cut ∙ left_from-append m.kept (n.node ∷ n.after) cut in
+            ap (λ o. left_from o now) (m.next_is ∙ ap first_at n.is) ∙ ap (left_from (Some n.node.at)) now-cut ∙ left_from-append m.kept (n.node ∷ n.after) cut in
             let apart : IsApart (pointers_of (kept' ++ n.after)) =
-            subst (λ l. IsApart (pointers_of l)) (sym (joined made.returned (revalued made.value n.node) n.after)) (apart_new made.returned made.value cut) in
+            subst (λ l. IsApart (pointers_of l)) (sym (append-cond made.returned (revalued made.value n.node) n.after)) (IsApart-new made.returned made.value cut) in
             let after : left_from next' new ≡ length n.after =
-            ap (λ o. left_from o new) next_new ∙ ap (left_from (first_at n.after)) now_new ∙ left_from-append kept' n.after apart in
+            ap (λ o. left_from o new) next-new ∙ ap (left_from (first_at n.after)) new-kept ∙ left_from-append kept' n.after apart in
             omega (arith, before, after)

@@ -14,12 +14,12 @@ use Rattle.lhm_ring.specs.Buckets.{buckets, rechained_raised}
 use Rattle.lhm_ring.specs.Filters.{IsFilter}
 use Rattle.lhm_ring.specs.TableAfterLoan.{with_value as write}
 use Rattle.lhm_ring.specs.Tables.{IsTable, TableState, WritesOnly, table_of}
-use Rattle.lhm_ring.proofs.BucketCounts.{buckets_raised, buckets_lt, capacity_le, raised_more}
-use Rattle.lhm_ring.proofs.Chains.{count-cons}
+use Rattle.lhm_ring.proofs.BucketCounts.{buckets-raised, buckets-below, buckets-at_least, rechained-within}
+use Rattle.lhm_ring.proofs.Chains.{count_by-cons}
 use Rattle.lhm_ring.proofs.Entries.{IsHeld-kept, HasKey-kept}
 use Rattle.lhm_ring.proofs.Filters.{IsFilter-spots, IsFilter-entries, IsFilter-removed, IsFilter-to_back}
 use Rattle.lhm_ring.proofs.IndexMoves.{spots-value}
-use Rattle.lhm_ring.proofs.IndexedRing.{indexed_value, indexed_to_back}
+use Rattle.lhm_ring.proofs.IndexedRing.{IsIndexed-value, IsIndexed-to_back}
 
 module _ {K V : Type 0} where
   pub entries-append : (xs ys : List (Held (K × V))) → entries (xs ++ ys) ≡ entries xs ++ entries ys
@@ -66,14 +66,14 @@ module _ {K V : Type 0} where
     pub before_is : entries split.before ≡ xs
     pub after_is : entries split.after ≡ ys
 
-  pub entries_cut : (hs xs : List (Held (K × V))) (t : Held (K × V)) (ys : List (Held (K × V))) → entries hs ≡ xs ++ t ∷ ys → EntriesCut hs xs t ys
-  entries_cut [] [] t ys e = absurd (cc)
-  entries_cut [] (x ∷ xs) t ys e = absurd (cc)
-  entries_cut (h ∷ hs) [] t ys e = record { split = record { before = []; node = h; after = hs; is = refl; at_is = (cc) }; before_is = refl; after_is = (cc) }
-  entries_cut (h ∷ hs) (x ∷ xs) t ys e =
+  pub EntriesCut-split : (hs xs : List (Held (K × V))) (t : Held (K × V)) (ys : List (Held (K × V))) → entries hs ≡ xs ++ t ∷ ys → EntriesCut hs xs t ys
+  EntriesCut-split [] [] t ys e = absurd (cc)
+  EntriesCut-split [] (x ∷ xs) t ys e = absurd (cc)
+  EntriesCut-split (h ∷ hs) [] t ys e = record { split = record { before = []; node = h; after = hs; is = refl; at_is = (cc) }; before_is = refl; after_is = (cc) }
+  EntriesCut-split (h ∷ hs) (x ∷ xs) t ys e =
       let rest : entries hs ≡ xs ++ t ∷ ys = cc in
       let first : linked_to None h ≡ x = cc in
-      let i : EntriesCut hs xs t ys = entries_cut hs xs t ys rest in
+      let i : EntriesCut hs xs t ys = EntriesCut-split hs xs t ys rest in
       let k = i.split in
       record {
         split = record { before = h ∷ k.before; node = k.node; after = k.after; is = ap (λ zs. h ∷ zs) k.is; at_is = k.at_is };
@@ -87,7 +87,7 @@ module _ {K V : Type 0} where
 
   pub AtHeld-entries : (hs : List (Held (K × V))) (p : Ptr) (P : List (Held (K × V)) → Held (K × V) → List (Held (K × V)) → Type 0) → AtHeld hs p (λ xs t ys. P (entries xs) (linked_to None t) (entries ys)) → AtHeld (entries hs) p P
   AtHeld-entries hs p P h xs t ys e at =
-      let i : EntriesCut hs xs t ys = entries_cut hs xs t ys e in
+      let i : EntriesCut hs xs t ys = EntriesCut-split hs xs t ys e in
       let k = i.split in
       let seen : P (entries k.before) (linked_to None k.node) (entries k.after) = h k.before k.node k.after k.is (ap (λ (u : Held (K × V)). u.at) k.at_is ∙ at) in
       subst (λ (z : List (Held (K × V)) × (Held (K × V) × List (Held (K × V)))). P z.0 z.1.0 z.1.1) (λ j. (i.before_is j, (k.at_is j, i.after_is j))) seen
@@ -98,15 +98,15 @@ module _ {K V : Type 0} where
 
   pub IsAbsent-entries : (eq : K → K → Bool) (hash : ℕ) (key : K) (hs : List (Held (K × V))) → IsAbsent eq hash key hs → IsAbsent eq hash key (entries hs)
   IsAbsent-entries eq hash key hs none xs t ys e =
-      let k = (entries_cut hs xs t ys e).split in
+      let k = (EntriesCut-split hs xs t ys e).split in
       subst (λ (u : Held (K × V)). Compares eq hash key u false) k.at_is (none k.before k.node k.after k.is)
 
   count_by-entries : (test : ℕ → Bool) (hs : List (Held (K × V))) → count_by (λ s. test s.hash) (spots (entries hs)) ≡ count_by (λ s. test s.hash) (spots hs)
   count_by-entries test [] = refl
   count_by-entries test (t ∷ hs) =
       let rest = count_by-entries test hs in
-      let left = count-cons (λ s. test s.hash) (spot (linked_to None t)) (spots (entries hs)) in
-      let right = count-cons (λ s. test s.hash) (spot t) (spots hs) in
+      let left = count_by-cons (λ s. test s.hash) (spot (linked_to None t)) (spots (entries hs)) in
+      let right = count_by-cons (λ s. test s.hash) (spot t) (spots hs) in
       omega (arith, rest, left, right)
 
   pub same-entries : (hs : List (Held (K × V))) (hash : ℕ) → same (spots (entries hs)) hash ≡ same (spots hs) hash
@@ -129,21 +129,21 @@ module _ {K V : Type 0} where
   }
 
 -- what is said of a result, by what follows from it
-pub OnSome_then : {X P Q : Type 0} (r : Option X) → OnSome r P → (P → Q) → OnSome r Q
-OnSome_then None h f = tt
-OnSome_then (Some x) h f = f h
+pub OnSome-then : {X P Q : Type 0} (r : Option X) → OnSome r P → (P → Q) → OnSome r Q
+OnSome-then None h f = tt
+OnSome-then (Some x) h f = f h
 
-pub OnOk_always : {X E P : Type 0} (r : Result X E) → P → OnOk r P
-OnOk_always (Ok x) h = h
-OnOk_always (Err e) h = tt
+pub OnOk-always : {X E P : Type 0} (r : Result X E) → P → OnOk r P
+OnOk-always (Ok x) h = h
+OnOk-always (Err e) h = tt
 
-pub OnOk_then : {X E P Q : Type 0} (r : Result X E) → OnOk r P → (P → Q) → OnOk r Q
-OnOk_then (Ok x) h f = f h
-OnOk_then (Err e) h f = tt
+pub OnOk-then : {X E P Q : Type 0} (r : Result X E) → OnOk r P → (P → Q) → OnOk r Q
+OnOk-then (Ok x) h f = f h
+OnOk-then (Err e) h f = tt
 
-pub IfNone_then : {X P Q : Type 0} (r : Option X) → IfNone r P → (P → Q) → IfNone r Q
-IfNone_then None h f = f h
-IfNone_then (Some x) h f = tt
+pub IfNone-then : {X P Q : Type 0} (r : Option X) → IfNone r P → (P → Q) → IfNone r Q
+IfNone-then None h f = f h
+IfNone-then (Some x) h f = tt
 
 -- nodes with the same entries are as many
 pub length-same_entries : {K V : Type 0} (hs ks : List (Held (K × V))) → entries hs ≡ entries ks → length hs ≡ length ks
@@ -155,34 +155,34 @@ length-same_triples hs ks e = sym (length-map hs (λ t. (t.hash, t.pair))) ∙ a
 
 -- a table that is seen as m
 module _ {K V : Type 0} (s : State (K × V)) (r : ℕ) {m : TableState (K × V)} (seen : table_of s r ≡ m) where
-  pub held_in : (p : Ptr) → IsHeld m.held p → IsHeld s.held p
-  held_in p h = IsHeld-entries s.held p (subst (λ (z : TableState (K × V)). IsHeld z.held p) (sym seen) h)
+  pub IsHeld-table : (p : Ptr) → IsHeld m.held p → IsHeld s.held p
+  IsHeld-table p h = IsHeld-entries s.held p (subst (λ (z : TableState (K × V)). IsHeld z.held p) (sym seen) h)
 
   -- what holds at a position of nodes with the entries of the table
-  pub at_entries : (ks : List (Held (K × V))) → entries ks ≡ entries s.held → (p : Ptr) (P : List (Held (K × V)) → Held (K × V) → List (Held (K × V)) → Type 0)
+  pub AtHeld-same_entries : (ks : List (Held (K × V))) → entries ks ≡ entries s.held → (p : Ptr) (P : List (Held (K × V)) → Held (K × V) → List (Held (K × V)) → Type 0)
       → AtHeld ks p (λ xs t ys. P (entries xs) (linked_to None t) (entries ys)) → AtHeld m.held p P
-  at_entries ks same p P h = subst (λ (hs : List (Held (K × V))). AtHeld hs p P) (same ∙ ap (λ (z : TableState (K × V)). z.held) seen) (AtHeld-entries ks p P h)
+  AtHeld-same_entries ks same p P h = subst (λ (hs : List (Held (K × V))). AtHeld hs p P) (same ∙ ap (λ (z : TableState (K × V)). z.held) seen) (AtHeld-entries ks p P h)
 
-  pub at_held : (p : Ptr) (P : List (Held (K × V)) → Held (K × V) → List (Held (K × V)) → Type 0) → AtHeld s.held p (λ xs t ys. P (entries xs) (linked_to None t) (entries ys)) → AtHeld m.held p P
-  at_held p P h = at_entries s.held refl p P h
+  pub AtHeld-table : (p : Ptr) (P : List (Held (K × V)) → Held (K × V) → List (Held (K × V)) → Type 0) → AtHeld s.held p (λ xs t ys. P (entries xs) (linked_to None t) (entries ys)) → AtHeld m.held p P
+  AtHeld-table p P h = AtHeld-same_entries s.held refl p P h
 
-  pub next_in : (p : Ptr) (o : Option Ptr) → AtHeld s.held p (λ xs t ys. o ≡ first_at ys) → AtHeld m.held p (λ xs t ys. o ≡ first_at ys)
-  next_in p o next = at_held p (λ xs t ys. o ≡ first_at ys) (λ xs t ys e at. next xs t ys e at ∙ sym (first_at-entries ys))
+  pub AtHeld-table_next : (p : Ptr) (o : Option Ptr) → AtHeld s.held p (λ xs t ys. o ≡ first_at ys) → AtHeld m.held p (λ xs t ys. o ≡ first_at ys)
+  AtHeld-table_next p o next = AtHeld-table p (λ xs t ys. o ≡ first_at ys) (λ xs t ys e at. next xs t ys e at ∙ sym (first_at-entries ys))
 
-  pub apart_in : IsApart (map (λ t. t.at) s.held) → IsApart (map (λ t. t.at) m.held)
-  apart_in h = subst IsApart (sym (pointers-entries s.held) ∙ ap (λ (z : TableState (K × V)). map (λ t. t.at) z.held) seen) h
+  pub IsApart-table : IsApart (map (λ t. t.at) s.held) → IsApart (map (λ t. t.at) m.held)
+  IsApart-table h = subst IsApart (sym (pointers-entries s.held) ∙ ap (λ (z : TableState (K × V)). map (λ t. t.at) z.held) seen) h
 
-  pub length_in : length s.held ≡ length m.held
-  length_in = sym (length-entries s.held) ∙ ap (λ (z : TableState (K × V)). length z.held) seen
+  pub length-table : length s.held ≡ length m.held
+  length-table = sym (length-entries s.held) ∙ ap (λ (z : TableState (K × V)). length z.held) seen
 
-  pub triples_in : triples s.held ≡ triples m.held
-  triples_in = sym (triples-entries s.held) ∙ ap (λ (z : TableState (K × V)). triples z.held) seen
+  pub triples-table : triples s.held ≡ triples m.held
+  triples-table = sym (triples-entries s.held) ∙ ap (λ (z : TableState (K × V)). triples z.held) seen
 
-  pub capacity_in : length s.held + s.spares ≡ m.capacity
-  capacity_in = ap (λ (z : TableState (K × V)). z.capacity) seen
+  pub length-capacity : length s.held + s.spares ≡ m.capacity
+  length-capacity = ap (λ (z : TableState (K × V)). z.capacity) seen
 
-  pub spares_in : length m.held < m.capacity → 0 < s.spares
-  spares_in room = let l = length_in in let c = capacity_in in omega (arith, l, c, room)
+  pub spares-table : length m.held < m.capacity → 0 < s.spares
+  spares-table room = let l = length-table in let c = length-capacity in omega (arith, l, c, room)
 
   -- a value was written at p
   pub table_of-value : (p : Ptr) (w : V) → table_of (with_value s p w) r ≡ write m p w
@@ -191,8 +191,8 @@ module _ {K V : Type 0} (s : State (K × V)) (r : ℕ) {m : TableState (K × V)}
       (λ i. record { held = entries-change_at p w s.held i; capacity = count i + s.spares; rechained = r })
       ∙ ap (λ (z : TableState (K × V)). write z p w) seen
 
-  pub writes_only : (p : Ptr) → ChangesOnly s.held p → WritesOnly m.held p
-  writes_only p alone = at_held p (λ xs t ys. (w : V) → change_at p (revalued w) m.held ≡ xs ++ revalued w t ∷ ys)
+  pub WritesOnly-table : (p : Ptr) → ChangesOnly s.held p → WritesOnly m.held p
+  WritesOnly-table p alone = AtHeld-table p (λ xs t ys. (w : V) → change_at p (revalued w) m.held ≡ xs ++ revalued w t ∷ ys)
       (λ xs t ys e at w.
       ap (λ (z : TableState (K × V)). change_at p (revalued w) z.held) (sym seen) ∙ sym (entries-change_at p w s.held)
       ∙ ap entries (alone xs t ys e at (revalued w)) ∙ entries-append xs (revalued w t ∷ ys))
@@ -207,9 +207,9 @@ module _ {K V : Type 0} (s : State (K × V)) (r : ℕ) {m : TableState (K × V)}
 -- as many buckets do for a higher capacity that is not above their count
 buckets-stay : (c d : ℕ) → c < d → d ≤ buckets c → buckets c ≡ buckets d
 buckets-stay c d up enough =
-    elim (buckets_raised c d (omega (arith, up))) [
+    elim (buckets-raised c d (omega (arith, up))) [
       | inl e ↦ sym e
-      | inr twice ↦ let below = buckets_lt d (omega (arith, up)) in absurd (omega (arith, twice, below, enough))
+      | inr twice ↦ let below = buckets-below d (omega (arith, up)) in absurd (omega (arith, twice, below, enough))
     ]
 
 -- tables after the calls of the ring and its index
@@ -231,7 +231,7 @@ module _ {K V : Type 0} {heads : List (Option Ptr)} {words : List ℕ} {s : Stat
   IsTable-value p w =
       let count = sym (length-map (change_at p (revalued w) s.held) spot) ∙ ap length (spots-value p w s.held) ∙ length-map s.held spot in
       record {
-        indexed = indexed_value heads s p w table.indexed;
+        indexed = IsIndexed-value heads s p w table.indexed;
         filtered = IsFilter-spots s.held (change_at p (revalued w) s.held) (spots-value p w s.held) table.filtered;
         few = table.few;
         limit = omega (arith, count, table.limit);
@@ -253,7 +253,7 @@ module _ {K V : Type 0} {heads : List (Option Ptr)} {words : List ℕ} {s : Stat
       let long = length-moved t p h last in
       let moved = IsFilter-to_back h.before h.node h.after (subst (λ (hs : List (Held (K × V))). IsFilter words heads hs) h.is table.filtered) in
       record {
-        indexed = indexed_to_back heads s t p table.indexed h last spares;
+        indexed = IsIndexed-to_back heads s t p table.indexed h last spares;
         filtered = subst (λ (hs : List (Held (K × V))). IsFilter words heads hs) (sym (last h.before h.node h.after h.is h.at_is)) moved;
         few = table.few;
         limit = omega (arith, long, spares, table.limit);
@@ -262,8 +262,8 @@ module _ {K V : Type 0} {heads : List (Option Ptr)} {words : List ℕ} {s : Stat
 
   -- the node at p was removed from its chain, and then from the ring
   module _ {chains : List (Option Ptr)} {t w : State (K × V)} {p : Ptr} (same : entries t.held ≡ entries s.held) (spares : t.spares ≡ s.spares) (made : t.nodes ≡ s.nodes) (lacks : HoldsOthers chains t.held p) (others : AtHeld t.held p (λ xs x ys. w.held ≡ xs ++ ys)) (more : w.spares ≡ t.spares + 1) (stay : w.nodes ≡ t.nodes) where
-    pub all_nodes : length s.held + s.spares ≡ length w.held + w.spares
-    all_nodes =
+    pub length-with_spares : length s.held + s.spares ≡ length w.held + w.spares
+    length-with_spares =
         let h = lacks.held in
         let out = ap length (others h.before h.node h.after h.is h.at_is) in
         let of_rest = length-append h.before h.after in
@@ -276,7 +276,7 @@ module _ {K V : Type 0} {heads : List (Option Ptr)} {words : List ℕ} {s : Stat
     IsTable-removed count =
         let h = lacks.held in
         let out = others h.before h.node h.after h.is h.at_is in
-        let all = all_nodes in
+        let all = length-with_spares in
         let kept : IsFilter words chains t.held = IsFilter-entries chains s.held t.held same count table.filtered in
         let rest = IsFilter-removed h.before h.node h.after (subst (λ (hs : List (Held (K × V))). IsFilter words chains hs) h.is kept) in
         record {
@@ -289,28 +289,29 @@ module _ {K V : Type 0} {heads : List (Option Ptr)} {words : List ℕ} {s : Stat
 
   -- the capacity rises, and the buckets do for it: no node is rehashed
   module _ (d : ℕ) (up : length s.held + s.spares < d) (enough : d ≤ length heads) where
-    same_buckets : buckets (length s.held + s.spares) ≡ buckets d
-    same_buckets = buckets-stay (length s.held + s.spares) d up (omega (arith, enough, table.indexed.count))
+    buckets-same : buckets (length s.held + s.spares) ≡ buckets d
+    buckets-same = buckets-stay (length s.held + s.spares) d up (omega (arith, enough, table.indexed.count))
 
-    pub rechained-stays : (len : ℕ) → rechained_raised r len (length s.held + s.spares) d ≡ r
-    rechained-stays len = ap (λ b. cond b r (r + len)) (eq-eqb (buckets (length s.held + s.spares)) (buckets d) same_buckets)
+    pub rechained_raised-stays : (len : ℕ) → rechained_raised r len (length s.held + s.spares) d ≡ r
+    rechained_raised-stays len = ap (λ b. cond b r (r + len)) (eq-eqb (buckets (length s.held + s.spares)) (buckets d) buckets-same)
 
     pub IsTable-grown : {E : Type 0} {t : State (K × V)} (result : Result (Unit {0}) E) (more most : ℕ) → most ≡ length heads → OnOk result (t.held ≡ s.held) → OnOk result (t.spares ≡ s.spares + more) → OnOk result (s.nodes ≤ most → length s.held + s.spares + more ≤ most → t.nodes ≤ most) → OnErr result (t ≡ s) → d ≡ length s.held + s.spares + more → d ≤ 2 ^ 59 → IsTable heads words t r
     IsTable-grown {t = t} (Ok _) more most wide stays spares made _ all within =
         let few = made (omega (arith, wide, table.nodes_within)) (omega (arith, wide, enough, all)) in
         let sum : length s.held + t.spares ≡ d = omega (arith, spares, all) in
-        IsTable-rechained (ap entries stays) (omega (arith, sum, within)) (subst (λ hs. Indexes heads (spots hs)) (sym stays) table.indexed.chains) (table.indexed.count ∙ same_buckets ∙ ap buckets (sym sum)) (subst (λ (hs : List (Held (K × V))). IsFilter words heads hs) (sym stays) table.filtered) table.few (omega (arith, wide, few))
+        IsTable-rechained (ap entries stays) (omega (arith, sum, within)) (subst (λ hs. Indexes heads (spots hs)) (sym stays) table.indexed.chains) (table.indexed.count ∙ buckets-same ∙ ap buckets (sym sum)) (subst (λ (hs : List (Held (K × V))). IsFilter words heads hs) (sym stays) table.filtered) table.few (omega (arith, wide, few))
     IsTable-grown (Err _) more most _ _ _ _ unchanged _ _ = subst (λ u. IsTable heads words u r) (sym unchanged) table
 
   -- it rises above the number of buckets: each node can be rehashed
   module _ (d : ℕ) (up : length s.held + s.spares < d) (few : length heads < d) where
-    differ : buckets (length s.held + s.spares) ≢ buckets d
-    differ e = let fits = capacity_le d in let count = table.indexed.count in absurd (omega (arith, few, count, e, fits))
+    buckets-differ : buckets (length s.held + s.spares) ≢ buckets d
+    buckets-differ e = let fits = buckets-at_least d in let count = table.indexed.count in absurd (omega (arith, few, count, e, fits))
 
     pub rechained-fits : r + length s.held ≤ buckets d
     rechained-fits =
         let count : length heads ≡ buckets (length s.held + s.spares) = table.indexed.count in
-        raised_more r (length s.held) (length s.held + s.spares) d (omega (arith, table.few, count)) (omega arith) (omega (arith, up)) differ
+        rechained-within r (length s.held) (length s.held + s.spares) d (omega (arith, table.few, count)) (omega arith) (omega (arith, up)) buckets-differ
 
-    pub rechained-moves : (len : ℕ) → rechained_raised r len (length s.held + s.spares) d ≡ r + len
-    rechained-moves len = ap (λ b. cond b r (r + len)) (ne_eqb (buckets (length s.held + s.spares)) (buckets d) differ)
+    pub rechained_raised-moves : (len : ℕ)
+        → rechained_raised r len (length s.held + s.spares) d ≡ r + len
+    rechained_raised-moves len = ap (λ b. cond b r (r + len)) (ne_eqb (buckets (length s.held + s.spares)) (buckets d) buckets-differ)

@@ -13,7 +13,7 @@ use denote.RawPtr.{Ptr, block_ptr, lies_at}
 use Rattle.lhm_ring.specs.Cells.{same_ptr}
 use Rattle.lhm_ring.specs.ValueLoan.{value_at, without_value, spread}
 use Rattle.lhm_ring.specs.Splits.{SplitAround}
-use Rattle.lhm_ring.proofs.Apart.{same_ptr_eq}
+use Rattle.lhm_ring.proofs.Apart.{same_ptr-equal}
 use Rattle.lhm_ring.proofs.Options.{none_some}
 
 module _ {V : Type 0} where
@@ -21,19 +21,20 @@ module _ {V : Type 0} where
     pub split : SplitAround cs (p, v)
     pub taken : without_value p cs ≡ split.before ++ split.after
 
-  some_is : (v w : V) → Some v ≡ Some w → v ≡ w
-  some_is v w e = cc
+  Some-injective : (v w : V) → Some v ≡ Some w → v ≡ w
+  Some-injective v w e = cc
 
-  pub cut_value : (cs : List (Ptr × V)) (p : Ptr) (v : V) → value_at cs p ≡ Some v → CutValue cs p v
+  pub CutValue-some : (cs : List (Ptr × V)) (p : Ptr) (v : V) → value_at cs p ≡ Some v
+      → CutValue cs p v
   unfolding value_at without_value
-  cut_value [] p v e = absurd (none_some v e)
-  cut_value (c ∷ cs) p v e =
+  CutValue-some [] p v e = absurd (none_some v e)
+  CutValue-some (c ∷ cs) p v e =
       (elim (same_ptr c.0 p) as (λ y. same_ptr c.0 p ≡ y → CutValue (c ∷ cs) p v) [
-        | true ↦ λ t. let at = same_ptr_eq c.0 p t in let held = some_is c.1 v (sym (ap (λ y. cond y (Some c.1) (value_at cs p)) t) ∙ e) in record {
+        | true ↦ λ t. let at = same_ptr-equal c.0 p t in let held = Some-injective c.1 v (sym (ap (λ y. cond y (Some c.1) (value_at cs p)) t) ∙ e) in record {
           split = record { before = []; after = cs; is = λ i. (at i, held i) ∷ cs };
           taken = ap (λ y. cond y cs (c ∷ without_value p cs)) t;
         }
-        | false ↦ λ t. let on = cut_value cs p v (sym (ap (λ y. cond y (Some c.1) (value_at cs p)) t) ∙ e) in record {
+        | false ↦ λ t. let on = CutValue-some cs p v (sym (ap (λ y. cond y (Some c.1) (value_at cs p)) t) ∙ e) in record {
           split = record { before = c ∷ on.split.before; after = on.split.after; is = ap (λ xs. c ∷ xs) on.split.is };
           taken = ap (λ y. cond y cs (c ∷ without_value p cs)) t ∙ ap (λ xs. c ∷ xs) on.taken;
         }

@@ -12,22 +12,22 @@ use Rattle.lhm_ring.specs.RingAfterLoan.{pair, revalued}
 use Rattle.lhm_ring.specs.Iterators.{AreLent}
 use Rattle.lhm_ring.specs.Targets.{target}
 use Rattle.lhm_ring.specs.declared.link.Link.{Link}
-use Rattle.lhm_ring.proofs.Apart.{IsFresh, same_ptr_eq, same_ptr_refl, apart_none}
-use Rattle.lhm_ring.proofs.Options.{none_some, some_same}
-use Rattle.lhm_ring.proofs.Rows.{all_from, content_pointer, follow_row, apart_left, apart_head, apart_tail, apart_cons}
-use Rattle.lhm_ring.proofs.OneNodeChanged.{content_holds, content_pair}
+use Rattle.lhm_ring.proofs.Apart.{IsFresh, same_ptr-equal, same_ptr-reflexive, IsApart-none}
+use Rattle.lhm_ring.proofs.Options.{none_some, Some-injective}
+use Rattle.lhm_ring.proofs.Rows.{AllByRecursion-map, at-content_of, follow-row, IsApart-left, IsFresh-head, IsApart-tail, IsApart-cons}
+use Rattle.lhm_ring.proofs.OneNodeChanged.{content_of-holds, pair-content_of}
 
 -- whether p is one of ps
 abbrev pub among : List Ptr → Ptr → Bool
 among [] p = false
 among (q ∷ ps) p = cond (same_ptr p q) true (among ps p)
 
-among_more : (q p : Ptr) (ps : List Ptr) → among ps p ≡ true → among (q ∷ ps) p ≡ true
-among_more q p ps h = elim (same_ptr p q) as (λ y. cond y true (among ps p) ≡ true) [ true ↦ refl | false ↦ h ]
+among-more : (q p : Ptr) (ps : List Ptr) → among ps p ≡ true → among (q ∷ ps) p ≡ true
+among-more q p ps h = elim (same_ptr p q) as (λ y. cond y true (among ps p) ≡ true) [ true ↦ refl | false ↦ h ]
 
-pub among_all : (ps : List Ptr) → AllByRecursion (λ p. among ps p ≡ true) ps
-among_all [] = tt
-among_all (q ∷ ps) = (ap (λ y. cond y true (among ps q)) (same_ptr_refl q), all_from (λ p. among ps p ≡ true) (λ p. among (q ∷ ps) p ≡ true) (λ p. among_more q p ps) ps (among_all ps))
+pub AllByRecursion-among : (ps : List Ptr) → AllByRecursion (λ p. among ps p ≡ true) ps
+AllByRecursion-among [] = tt
+AllByRecursion-among (q ∷ ps) = (ap (λ y. cond y true (among ps q)) (same_ptr-reflexive q), AllByRecursion-map (λ p. among ps p ≡ true) (λ p. among (q ∷ ps) p ≡ true) (λ p. among-more q p ps) ps (AllByRecursion-among ps))
 
 -- the value that hs has at p, and v where it has none there
 abbrev pub value_in : {K V : Type 0} → List (Held (K × V)) → Ptr → V → V
@@ -49,19 +49,20 @@ module _ {K V : Type 0} where
   written_body true hs p None = None
   written_body true hs p (Some x) = Some (pair x.0 (value_in hs p x.1))
 
-  fresh_then : (q : Ptr) (k : Bool) (p : Ptr) (b : Option (K × V)) (r : List (Ptr × (K × V))) → same_ptr q p ≡ false → IsFresh q (map (λ c. c.0) r) → IsFresh q (map (λ c. c.0) (lent_then k p b r))
-  fresh_then q false p b r n f = f
-  fresh_then q true p None r n f = f
-  fresh_then q true p (Some x) r n f = (n, f)
+  IsFresh-lent_then : (q : Ptr) (k : Bool) (p : Ptr) (b : Option (K × V)) (r : List (Ptr × (K × V))) → same_ptr q p ≡ false → IsFresh q (map (λ c. c.0) r) → IsFresh q (map (λ c. c.0) (lent_then k p b r))
+  IsFresh-lent_then q false p b r n f = f
+  IsFresh-lent_then q true p None r n f = f
+  IsFresh-lent_then q true p (Some x) r n f = (n, f)
 
-  apart_then : (k : Bool) (p : Ptr) (b : Option (K × V)) (r : List (Ptr × (K × V))) → IsFresh p (map (λ c. c.0) r) → IsApart (map (λ c. c.0) r) → IsApart (map (λ c. c.0) (lent_then k p b r))
-  apart_then false p b r f d = d
-  apart_then true p None r f d = d
-  apart_then true p (Some x) r f d = apart_cons p (map (λ c. c.0) r) f d
+  IsApart-lent_then : (k : Bool) (p : Ptr) (b : Option (K × V)) (r : List (Ptr × (K × V))) → IsFresh p (map (λ c. c.0) r) → IsApart (map (λ c. c.0) r) → IsApart (map (λ c. c.0) (lent_then k p b r))
+  IsApart-lent_then false p b r f d = d
+  IsApart-lent_then true p None r f d = d
+  IsApart-lent_then true p (Some x) r f d = IsApart-cons p (map (λ c. c.0) r) f d
 
-  body_none : (k : Bool) (hs : List (Held (K × V))) (q : Ptr) → None ≡ written_body k hs q None
-  body_none false hs q = refl
-  body_none true hs q = refl
+  written_body-none : (k : Bool) (hs : List (Held (K × V))) (q : Ptr)
+      → None ≡ written_body k hs q None
+  written_body-none false hs q = refl
+  written_body-none true hs q = refl
 
 module _ {L K V : Type 0} where
   -- what the nodes hold whose pointers pass the test, each with its pointer
@@ -73,38 +74,38 @@ module _ {L K V : Type 0} where
   abbrev pub written : (Ptr → Bool) → List (Held (K × V)) → List (Cell L (K × V)) → List (Cell L (K × V))
   written keep hs = map (λ c. cell c.at c.links (written_body (keep c.at) hs c.at c.body))
 
-  pub pointers_written : (keep : Ptr → Bool) (hs : List (Held (K × V))) (cs : List (Cell L (K × V))) → pointers (written keep hs cs) ≡ pointers cs
-  pointers_written keep hs [] = refl
-  pointers_written keep hs (c ∷ cs) = ap (λ ps. c.at ∷ ps) (pointers_written keep hs cs)
+  pub pointers-written : (keep : Ptr → Bool) (hs : List (Held (K × V))) (cs : List (Cell L (K × V))) → pointers (written keep hs cs) ≡ pointers cs
+  pointers-written keep hs [] = refl
+  pointers-written keep hs (c ∷ cs) = ap (λ ps. c.at ∷ ps) (pointers-written keep hs cs)
 
-  pub length_written : (keep : Ptr → Bool) (hs : List (Held (K × V))) (cs : List (Cell L (K × V))) → length (written keep hs cs) ≡ length cs
-  length_written keep hs [] = refl
-  length_written keep hs (c ∷ cs) = ap suc (length_written keep hs cs)
+  pub length-written : (keep : Ptr → Bool) (hs : List (Held (K × V))) (cs : List (Cell L (K × V))) → length (written keep hs cs) ≡ length cs
+  length-written keep hs [] = refl
+  length-written keep hs (c ∷ cs) = ap suc (length-written keep hs cs)
 
-  fresh_lent : (q : Ptr) (keep : Ptr → Bool) (cs : List (Cell L (K × V))) → IsFresh q (pointers cs) → IsFresh q (map (λ c. c.0) (lent keep cs))
-  fresh_lent q keep [] f = tt
-  fresh_lent q keep (c ∷ cs) f = fresh_then q (keep c.at) c.at c.body (lent keep cs) f.0 (fresh_lent q keep cs f.1)
+  IsFresh-lent : (q : Ptr) (keep : Ptr → Bool) (cs : List (Cell L (K × V))) → IsFresh q (pointers cs) → IsFresh q (map (λ c. c.0) (lent keep cs))
+  IsFresh-lent q keep [] f = tt
+  IsFresh-lent q keep (c ∷ cs) f = IsFresh-lent_then q (keep c.at) c.at c.body (lent keep cs) f.0 (IsFresh-lent q keep cs f.1)
 
-  pub apart_lent : (keep : Ptr → Bool) (cs : List (Cell L (K × V))) → IsApart (pointers cs) → IsApart (map (λ c. c.0) (lent keep cs))
-  apart_lent keep [] d = apart_none
-  apart_lent keep (c ∷ cs) d = apart_then (keep c.at) c.at c.body (lent keep cs) (fresh_lent c.at keep cs (apart_head c.at (pointers cs) d)) (apart_lent keep cs (apart_tail c.at (pointers cs) d))
+  pub IsApart-lent : (keep : Ptr → Bool) (cs : List (Cell L (K × V))) → IsApart (pointers cs) → IsApart (map (λ c. c.0) (lent keep cs))
+  IsApart-lent keep [] d = IsApart-none
+  IsApart-lent keep (c ∷ cs) d = IsApart-lent_then (keep c.at) c.at c.body (lent keep cs) (IsFresh-lent c.at keep cs (IsFresh-head c.at (pointers cs) d)) (IsApart-lent keep cs (IsApart-tail c.at (pointers cs) d))
 
-  links_written : (keep : Ptr → Bool) (hs : List (Held (K × V))) (cs : List (Cell L (K × V))) (q : Ptr) → links_at (written keep hs cs) q ≡ links_at cs q
+  links_at-written : (keep : Ptr → Bool) (hs : List (Held (K × V))) (cs : List (Cell L (K × V))) (q : Ptr) → links_at (written keep hs cs) q ≡ links_at cs q
   unfolding cell_at
-  links_written keep hs [] q = refl
-  links_written keep hs (c ∷ cs) q =
+  links_at-written keep hs [] q = refl
+  links_at-written keep hs (c ∷ cs) q =
       elim (same_ptr c.at q) as (λ y. links_of (cond y (Some (cell c.at c.links (written_body (keep c.at) hs c.at c.body))) (cell_at (written keep hs cs) q)) ≡ links_of (cond y (Some c) (cell_at cs q))) [
         | true ↦ refl
-        | false ↦ links_written keep hs cs q
+        | false ↦ links_at-written keep hs cs q
       ]
 
-  body_written : (keep : Ptr → Bool) (hs : List (Held (K × V))) (cs : List (Cell L (K × V))) (q : Ptr) → body_at (written keep hs cs) q ≡ written_body (keep q) hs q (body_at cs q)
+  body_at-written : (keep : Ptr → Bool) (hs : List (Held (K × V))) (cs : List (Cell L (K × V))) (q : Ptr) → body_at (written keep hs cs) q ≡ written_body (keep q) hs q (body_at cs q)
   unfolding cell_at
-  body_written keep hs [] q = body_none (keep q) hs q
-  body_written keep hs (c ∷ cs) q =
+  body_at-written keep hs [] q = written_body-none (keep q) hs q
+  body_at-written keep hs (c ∷ cs) q =
       (elim (same_ptr c.at q) as (λ y. same_ptr c.at q ≡ y → body_of (cond y (Some (cell c.at c.links (written_body (keep c.at) hs c.at c.body))) (cell_at (written keep hs cs) q)) ≡ written_body (keep q) hs q (body_of (cond y (Some c) (cell_at cs q)))) [
-        | true ↦ λ t. ap (λ p. written_body (keep p) hs p c.body) (same_ptr_eq c.at q t)
-        | false ↦ λ n. body_written keep hs cs q
+        | true ↦ λ t. ap (λ p. written_body (keep p) hs p c.body) (same_ptr-equal c.at q t)
+        | false ↦ λ n. body_at-written keep hs cs q
       ]) refl
 
 module _ {K V : Type 0} where
@@ -118,104 +119,104 @@ module _ {K V : Type 0} where
   listing (c ∷ r) [] = []
   listing (c ∷ r) (w ∷ ws) = held c.0 0 None (pair c.1.0 w) ∷ listing r ws
 
-  taken_skip : (t : Held (K × V)) (hs : List (Held (K × V))) (r : List (Ptr × (K × V))) → IsFresh t.at (map (λ c. c.0) r) → taken (t ∷ hs) r ≡ taken hs r
-  taken_skip t hs [] f = refl
-  taken_skip t hs (c ∷ r) f = λ i. cond (f.0 i) t.pair.1 (value_in hs c.0 c.1.1) ∷ taken_skip t hs r f.1 i
+  taken-skip : (t : Held (K × V)) (hs : List (Held (K × V))) (r : List (Ptr × (K × V))) → IsFresh t.at (map (λ c. c.0) r) → taken (t ∷ hs) r ≡ taken hs r
+  taken-skip t hs [] f = refl
+  taken-skip t hs (c ∷ r) f = λ i. cond (f.0 i) t.pair.1 (value_in hs c.0 c.1.1) ∷ taken-skip t hs r f.1 i
 
-  pub taken_listing : (r : List (Ptr × (K × V))) (ws : List V) → IsApart (map (λ c. c.0) r) → length ws ≡ length r → taken (listing r ws) r ≡ ws
-  taken_listing [] [] d e = refl
-  taken_listing [] (w ∷ ws) d e = absurd (omega arith)
-  taken_listing (c ∷ r) [] d e = absurd (omega arith)
-  taken_listing (c ∷ r) (w ∷ ws) d e =
-      let on = taken_skip (held c.0 0 None (pair c.1.0 w)) (listing r ws) r (apart_head c.0 (map (λ z. z.0) r) d) ∙ taken_listing r ws (apart_tail c.0 (map (λ z. z.0) r) d) (omega arith) in
-      λ i. cond (same_ptr_refl c.0 i) w (value_in (listing r ws) c.0 c.1.1) ∷ on i
+  pub taken-listing : (r : List (Ptr × (K × V))) (ws : List V) → IsApart (map (λ c. c.0) r) → length ws ≡ length r → taken (listing r ws) r ≡ ws
+  taken-listing [] [] d e = refl
+  taken-listing [] (w ∷ ws) d e = absurd (omega arith)
+  taken-listing (c ∷ r) [] d e = absurd (omega arith)
+  taken-listing (c ∷ r) (w ∷ ws) d e =
+      let on = taken-skip (held c.0 0 None (pair c.1.0 w)) (listing r ws) r (IsFresh-head c.0 (map (λ z. z.0) r) d) ∙ taken-listing r ws (IsApart-tail c.0 (map (λ z. z.0) r) d) (omega arith) in
+      λ i. cond (same_ptr-reflexive c.0 i) w (value_in (listing r ws) c.0 c.1.1) ∷ on i
 
 module _ {K V : Type 0} where
   abbrev Full : Option (K × V) → Type 0
   Full o = (y : K × V) × (o ≡ Some y)
 
-  full_written : (k : Bool) (hs : List (Held (K × V))) (q : Ptr) (b : Option (K × V)) → Full b → Full (written_body k hs q b)
-  full_written false hs q b f = f
-  full_written true hs q None f = absurd (none_some f.0 f.1)
-  full_written true hs q (Some x) f = (pair x.0 (value_in hs q x.1), refl)
+  Full-written : (k : Bool) (hs : List (Held (K × V))) (q : Ptr) (b : Option (K × V)) → Full b → Full (written_body k hs q b)
+  Full-written false hs q b f = f
+  Full-written true hs q None f = absurd (none_some f.0 f.1)
+  Full-written true hs q (Some x) f = (pair x.0 (value_in hs q x.1), refl)
 
   some_links : (q : Ptr) (o : Option Links) (b : Option (K × V)) (t : Held (K × V)) → content_of q o b ≡ Some t → (l : Links) × (o ≡ Some l)
   some_links q None b t e = absurd (none_some t e)
   some_links q (Some l) b t e = (l, refl)
 
-  one_written : (hs : List (Held (K × V))) (p : Ptr) (o : Option Links) (b : Option (K × V)) (r s : List (Held (K × V))) → r ≡ revalued_by hs s
+  one_of-written : (hs : List (Held (K × V))) (p : Ptr) (o : Option Links) (b : Option (K × V)) (r s : List (Held (K × V))) → r ≡ revalued_by hs s
       → one_of (content_of p o (written_body true hs p b)) ++ r ≡ revalued_by hs (one_of (content_of p o b) ++ s)
-  one_written hs p None b r s e = e
-  one_written hs p (Some l) None r s e = e
-  one_written hs p (Some l) (Some x) r s e = ap (λ us. held p l.hash (link_of (Some l)) (pair x.0 (value_in hs p x.1)) ∷ us) e
+  one_of-written hs p None b r s e = e
+  one_of-written hs p (Some l) None r s e = e
+  one_of-written hs p (Some l) (Some x) r s e = ap (λ us. held p l.hash (link_of (Some l)) (pair x.0 (value_in hs p x.1)) ∷ us) e
 
   module _ (keep : Ptr → Bool) (hs : List (Held (K × V))) (cs : List (Cell Links (K × V))) where
     abbrev ds : List (Cell Links (K × V))
     ds = written keep hs cs
 
     same : (q : Ptr) → links_at ds q ≡ links_at cs q
-    same = links_written keep hs cs
+    same = links_at-written keep hs cs
 
-    row_same : (s : List Ptr) → Linked cs s → Linked ds s
-    row_same [] k = tt
-    row_same (y ∷ []) k = tt
-    row_same (y ∷ z ∷ r) k = ((ap next_of (same y) ∙ k.0.0, ap prev_of (same z) ∙ k.0.1), row_same (z ∷ r) k.1)
+    Linked-written : (s : List Ptr) → Linked cs s → Linked ds s
+    Linked-written [] k = tt
+    Linked-written (y ∷ []) k = tt
+    Linked-written (y ∷ z ∷ r) k = ((ap next_of (same y) ∙ k.0.0, ap prev_of (same z) ∙ k.0.1), Linked-written (z ∷ r) k.1)
 
-    chain_same : (h : Option Ptr) (ss : List Ptr) → Chained cs h ss → Chained ds h ss
-    chain_same h [] k = k
-    chain_same h (y ∷ ys) k = (k.0, chain_same (link_at ds y) ys (subst (λ z. Chained cs z ys) (sym (ap link_of (same y))) k.1))
+    Chained-written : (h : Option Ptr) (ss : List Ptr) → Chained cs h ss → Chained ds h ss
+    Chained-written h [] k = k
+    Chained-written h (y ∷ ys) k = (k.0, Chained-written (link_at ds y) ys (subst (λ z. Chained cs z ys) (sym (ap link_of (same y))) k.1))
 
-    has_same : (q : Ptr) → HasContent cs q → HasContent ds q
-    has_same q h =
-        let l = some_links q (links_at cs q) (body_at cs q) h.0 h.1 in let y = full_written (keep q) hs q (body_at cs q) (content_holds q (links_at cs q) (body_at cs q) h.0 h.1) in (
+    HasContent-written : (q : Ptr) → HasContent cs q → HasContent ds q
+    HasContent-written q h =
+        let l = some_links q (links_at cs q) (body_at cs q) h.0 h.1 in let y = Full-written (keep q) hs q (body_at cs q) (content_of-holds q (links_at cs q) (body_at cs q) h.0 h.1) in (
           held q l.0.hash (link_of (Some l.0)) y.0,
-          λ i. content_of q ((same q ∙ l.1) i) ((body_written keep hs cs q ∙ y.1) i),
+          λ i. content_of q ((same q ∙ l.1) i) ((body_at-written keep hs cs q ∙ y.1) i),
         )
 
-    ring_same : (ps : List Ptr) (spare : Option Ptr) (ss : List Ptr) → IsRing cs ps spare ss → IsRing ds ps spare ss
-    ring_same ps spare ss r = record {
-      linked = row_same (null_ptr ∷ (ps ++ null_ptr ∷ [])) r.linked;
-      chained = chain_same spare ss r.chained;
-      held = all_from (HasContent cs) (HasContent ds) has_same ps r.held;
-      there = all_from (λ q. is_there cs q ≡ true) (λ q. is_there ds q ≡ true) (λ q h. ap has_links (same q) ∙ h) (null_ptr ∷ (ps ++ ss)) r.there;
+    IsRing-written : (ps : List Ptr) (spare : Option Ptr) (ss : List Ptr) → IsRing cs ps spare ss → IsRing ds ps spare ss
+    IsRing-written ps spare ss r = record {
+      linked = Linked-written (null_ptr ∷ (ps ++ null_ptr ∷ [])) r.linked;
+      chained = Chained-written spare ss r.chained;
+      held = AllByRecursion-map (HasContent cs) (HasContent ds) HasContent-written ps r.held;
+      there = AllByRecursion-map (λ q. is_there cs q ≡ true) (λ q. is_there ds q ≡ true) (λ q h. ap has_links (same q) ∙ h) (null_ptr ∷ (ps ++ ss)) r.there;
       apart = r.apart;
-      count = length_written keep hs cs ∙ r.count;
+      count = length-written keep hs cs ∙ r.count;
     }
 
-    follow_same : (n : ℕ) (q : Ptr) → follow ds n q ≡ follow cs n q
+    follow-written : (n : ℕ) (q : Ptr) → follow ds n q ≡ follow cs n q
     unfolding follow
-    follow_same zero q = refl
-    follow_same (suc n) q = (λ i. next_of (same q i) ∷ follow ds n (next_of (same q i))) ∙ ap (λ r. next_of (links_at cs q) ∷ r) (follow_same n (next_of (links_at cs q)))
+    follow-written zero q = refl
+    follow-written (suc n) q = (λ i. next_of (same q i) ∷ follow ds n (next_of (same q i))) ∙ ap (λ r. next_of (links_at cs q) ∷ r) (follow-written n (next_of (links_at cs q)))
 
-    content_is : (p : Ptr) → content_at ds p ≡ content_of p (links_at cs p) (written_body (keep p) hs p (body_at cs p))
-    content_is p = λ i. content_of p (same p i) (body_written keep hs cs p i)
+    content_at-written : (p : Ptr) → content_at ds p ≡ content_of p (links_at cs p) (written_body (keep p) hs p (body_at cs p))
+    content_at-written p = λ i. content_of p (same p i) (body_at-written keep hs cs p i)
 
-    listed_written : (ps : List Ptr) → AllByRecursion (λ p. keep p ≡ true) ps → listed ds ps ≡ revalued_by hs (listed cs ps)
+    listed-written : (ps : List Ptr) → AllByRecursion (λ p. keep p ≡ true) ps → listed ds ps ≡ revalued_by hs (listed cs ps)
     unfolding listed
-    listed_written [] a = refl
-    listed_written (p ∷ ps) a =
-        ap (λ o. one_of o ++ listed ds ps) (content_is p ∙ ap (λ k. content_of p (links_at cs p) (written_body k hs p (body_at cs p))) a.0)
-        ∙ one_written hs p (links_at cs p) (body_at cs p) (listed ds ps) (listed cs ps) (listed_written ps a.1)
+    listed-written [] a = refl
+    listed-written (p ∷ ps) a =
+        ap (λ o. one_of o ++ listed ds ps) (content_at-written p ∙ ap (λ k. content_of p (links_at cs p) (written_body k hs p (body_at cs p))) a.0)
+        ∙ one_of-written hs p (links_at cs p) (body_at cs p) (listed ds ps) (listed cs ps) (listed-written ps a.1)
 
-    ring_ok_written : (spare : Link) (n m : ℕ) → RingOk cs spare n m → RingOk ds spare n m
-    ring_ok_written spare n m ok = record {
+    RingOk-written : (spare : Link) (n m : ℕ) → RingOk cs spare n m → RingOk ds spare n m
+    RingOk-written spare n m ok = record {
       held_pointers = ok.held_pointers;
       spare_pointers = ok.spare_pointers;
-      ring = ring_same ok.held_pointers (target spare) ok.spare_pointers ok.ring;
+      ring = IsRing-written ok.held_pointers (target spare) ok.spare_pointers ok.ring;
       held_count = ok.held_count;
       enough_spares = ok.enough_spares;
       bounded = ok.bounded;
     }
 
-    ring_list_by : (n : ℕ) → AllByRecursion (λ p. keep p ≡ true) (ring_pointers cs n) → ring_list ds n ≡ revalued_by hs (ring_list cs n)
-    ring_list_by n a = ap (listed ds) (follow_same n null_ptr) ∙ listed_written (follow cs n null_ptr) a
+    ring_list-written : (n : ℕ) → AllByRecursion (λ p. keep p ≡ true) (ring_pointers cs n) → ring_list ds n ≡ revalued_by hs (ring_list cs n)
+    ring_list-written n a = ap (listed ds) (follow-written n null_ptr) ∙ listed-written (follow cs n null_ptr) a
 
   -- the node at null holds no value
   pub lent-ring_cells : (keep : Ptr → Bool) (e : Ends) (cs : List (Cell Links (K × V))) → lent keep (ring_cells e cs) ≡ lent keep cs
   lent-ring_cells keep e cs = elim (keep null_ptr) as (λ y. lent_then y null_ptr None (lent keep cs) ≡ lent keep cs) [ true ↦ refl | false ↦ refl ]
 
   pub written-ring_cells : (keep : Ptr → Bool) (hs : List (Held (K × V))) (e : Ends) (cs : List (Cell Links (K × V))) → written keep hs (ring_cells e cs) ≡ ring_cells e (written keep hs cs)
-  written-ring_cells keep hs e cs = ap (λ o. cell null_ptr (ends_links e) o ∷ written keep hs cs) (sym (body_none (keep null_ptr) hs null_ptr))
+  written-ring_cells keep hs e cs = ap (λ o. cell null_ptr (ends_links e) o ∷ written keep hs cs) (sym (written_body-none (keep null_ptr) hs null_ptr))
 
   -- the values that the ring holds, each with its pointer
   abbrev pub held_entries : Ends → List (Cell Links (K × V)) → ℕ → List (Ptr × (K × V))
@@ -229,11 +230,11 @@ module _ {K V : Type 0} where
     abbrev keeps : Ptr → Bool
     keeps = among (ring_pointers (ring_cells e cs) n)
 
-    pub still_ring : RingOk (ring_cells e cs) spare n m → RingOk (ring_cells e (held_written e cs n hs)) spare n m
-    still_ring ok = subst (λ zs. RingOk zs spare n m) (written-ring_cells keeps hs e cs) (ring_ok_written keeps hs (ring_cells e cs) spare n m ok)
+    pub RingOk-held_written : RingOk (ring_cells e cs) spare n m → RingOk (ring_cells e (held_written e cs n hs)) spare n m
+    RingOk-held_written ok = subst (λ zs. RingOk zs spare n m) (written-ring_cells keeps hs e cs) (RingOk-written keeps hs (ring_cells e cs) spare n m ok)
 
-    pub list_written : ring_list (ring_cells e (held_written e cs n hs)) n ≡ revalued_by hs (ring_list (ring_cells e cs) n)
-    list_written = ap (λ zs. ring_list zs n) (sym (written-ring_cells keeps hs e cs)) ∙ ring_list_by keeps hs (ring_cells e cs) n (among_all (ring_pointers (ring_cells e cs) n))
+    pub ring_list-held_written : ring_list (ring_cells e (held_written e cs n hs)) n ≡ revalued_by hs (ring_list (ring_cells e cs) n)
+    ring_list-held_written = ap (λ zs. ring_list zs n) (sym (written-ring_cells keeps hs e cs)) ∙ ring_list-written keeps hs (ring_cells e cs) n (AllByRecursion-among (ring_pointers (ring_cells e cs) n))
 
 -- the values of what is held are all lent at first
 module _ {K V : Type 0} where
@@ -241,61 +242,61 @@ module _ {K V : Type 0} where
   abbrev pub run_of : List (Ptr × (K × V)) → List (Ptr × V)
   run_of = map (λ c. (c.0, c.1.1))
 
-  past : (k : Bool) (p : Ptr) (b : Option (K × V)) (r : List (Ptr × (K × V))) (q : Ptr) → same_ptr p q ≡ false → value_at (run_of (lent_then k p b r)) q ≡ value_at (run_of r) q
+  value_at-past : (k : Bool) (p : Ptr) (b : Option (K × V)) (r : List (Ptr × (K × V))) (q : Ptr) → same_ptr p q ≡ false → value_at (run_of (lent_then k p b r)) q ≡ value_at (run_of r) q
   unfolding value_at
-  past false p b r q n = refl
-  past true p None r q n = refl
-  past true p (Some x) r q n = ap (λ y. cond y (Some x.1) (value_at (run_of r) q)) n
+  value_at-past false p b r q n = refl
+  value_at-past true p None r q n = refl
+  value_at-past true p (Some x) r q n = ap (λ y. cond y (Some x.1) (value_at (run_of r) q)) n
 
-  here : (k : Bool) (p : Ptr) (b : Option (K × V)) (r : List (Ptr × (K × V))) (q : Ptr) (x : K × V) → k ≡ true → same_ptr p q ≡ true → b ≡ Some x → value_at (run_of (lent_then k p b r)) q ≡ Some x.1
+  value_at-here : (k : Bool) (p : Ptr) (b : Option (K × V)) (r : List (Ptr × (K × V))) (q : Ptr) (x : K × V) → k ≡ true → same_ptr p q ≡ true → b ≡ Some x → value_at (run_of (lent_then k p b r)) q ≡ Some x.1
   unfolding value_at
-  here false p b r q x k t e = cc
-  here true p None r q x k t e = absurd (none_some x e)
-  here true p (Some z) r q x k t e = ap (λ y. cond y (Some z.1) (value_at (run_of r) q)) t ∙ ap (λ (u : K × V). Some u.1) (some_same z x e)
+  value_at-here false p b r q x k t e = cc
+  value_at-here true p None r q x k t e = absurd (none_some x e)
+  value_at-here true p (Some z) r q x k t e = ap (λ y. cond y (Some z.1) (value_at (run_of r) q)) t ∙ ap (λ (u : K × V). Some u.1) (Some-injective z x e)
 
-  value_found : (keep : Ptr → Bool) (cs : List (Cell Links (K × V))) (q : Ptr) (x : K × V) → keep q ≡ true → body_at cs q ≡ Some x → value_at (run_of (lent keep cs)) q ≡ Some x.1
+  value_at-lent : (keep : Ptr → Bool) (cs : List (Cell Links (K × V))) (q : Ptr) (x : K × V) → keep q ≡ true → body_at cs q ≡ Some x → value_at (run_of (lent keep cs)) q ≡ Some x.1
   unfolding cell_at
-  value_found keep [] q x k e = absurd (none_some x e)
-  value_found keep (c ∷ cs) q x k e =
+  value_at-lent keep [] q x k e = absurd (none_some x e)
+  value_at-lent keep (c ∷ cs) q x k e =
       (elim (same_ptr c.at q) as (λ y. same_ptr c.at q ≡ y → body_of (cond y (Some c) (cell_at cs q)) ≡ Some x → value_at (run_of (lent keep (c ∷ cs))) q ≡ Some x.1) [
-        | true ↦ λ t z. here (keep c.at) c.at c.body (lent keep cs) q x (ap keep (same_ptr_eq c.at q t) ∙ k) t z
-        | false ↦ λ n z. past (keep c.at) c.at c.body (lent keep cs) q n ∙ value_found keep cs q x k z
+        | true ↦ λ t z. value_at-here (keep c.at) c.at c.body (lent keep cs) q x (ap keep (same_ptr-equal c.at q t) ∙ k) t z
+        | false ↦ λ n z. value_at-past (keep c.at) c.at c.body (lent keep cs) q n ∙ value_at-lent keep cs q x k z
       ]) refl e
 
   module _ (keep : Ptr → Bool) (cs : List (Cell Links (K × V))) where
-    one_lent : (p : Ptr) (h : HasContent cs p) → keep p ≡ true → value_at (run_of (lent keep cs)) h.0.at ≡ Some h.0.pair.1
-    one_lent p h k =
-        let x = content_holds p (links_at cs p) (body_at cs p) h.0 h.1 in
-        let same : h.0.pair ≡ x.0 = content_pair p (links_at cs p) x.0 h.0 (ap (λ o. content_of p (links_at cs p) o) (sym x.1) ∙ h.1) in
-        ap (value_at (run_of (lent keep cs))) (content_pointer p (links_at cs p) (body_at cs p) h.0 h.1) ∙ value_found keep cs p x.0 k x.1 ∙ ap (λ (u : K × V). Some u.1) (sym same)
+    value_at-one_lent : (p : Ptr) (h : HasContent cs p) → keep p ≡ true → value_at (run_of (lent keep cs)) h.0.at ≡ Some h.0.pair.1
+    value_at-one_lent p h k =
+        let x = content_of-holds p (links_at cs p) (body_at cs p) h.0 h.1 in
+        let same : h.0.pair ≡ x.0 = pair-content_of p (links_at cs p) x.0 h.0 (ap (λ o. content_of p (links_at cs p) o) (sym x.1) ∙ h.1) in
+        ap (value_at (run_of (lent keep cs))) (at-content_of p (links_at cs p) (body_at cs p) h.0 h.1) ∙ value_at-lent keep cs p x.0 k x.1 ∙ ap (λ (u : K × V). Some u.1) (sym same)
 
-    each_lent : (ps : List Ptr) → AllByRecursion (HasContent cs) ps → AllByRecursion (λ p. keep p ≡ true) ps → AllByRecursion (λ t. value_at (run_of (lent keep cs)) t.at ≡ Some t.pair.1) (listed cs ps)
+    AllByRecursion-lent : (ps : List Ptr) → AllByRecursion (HasContent cs) ps → AllByRecursion (λ p. keep p ≡ true) ps → AllByRecursion (λ t. value_at (run_of (lent keep cs)) t.at ≡ Some t.pair.1) (listed cs ps)
     unfolding listed
-    each_lent [] a k = tt
-    each_lent (p ∷ ps) a k = subst (λ o. AllByRecursion (λ t. value_at (run_of (lent keep cs)) t.at ≡ Some t.pair.1) (one_of o ++ listed cs ps)) (sym a.0.1) (one_lent p a.0 k.0, each_lent ps a.1 k.1)
+    AllByRecursion-lent [] a k = tt
+    AllByRecursion-lent (p ∷ ps) a k = subst (λ o. AllByRecursion (λ t. value_at (run_of (lent keep cs)) t.at ≡ Some t.pair.1) (one_of o ++ listed cs ps)) (sym a.0.1) (value_at-one_lent p a.0 k.0, AllByRecursion-lent ps a.1 k.1)
 
-  pointers_listed : (cs : List (Cell Links (K × V))) (ps : List Ptr) → AllByRecursion (HasContent cs) ps → map (λ (t : Held (K × V)). t.at) (listed cs ps) ≡ ps
+  pointers-listed : (cs : List (Cell Links (K × V))) (ps : List Ptr) → AllByRecursion (HasContent cs) ps → map (λ (t : Held (K × V)). t.at) (listed cs ps) ≡ ps
   unfolding listed
-  pointers_listed cs [] a = refl
-  pointers_listed cs (p ∷ ps) a = ap (λ o. map (λ (t : Held (K × V)). t.at) (one_of o ++ listed cs ps)) a.0.1 ∙ (λ i. content_pointer p (links_at cs p) (body_at cs p) a.0.0 a.0.1 i ∷ pointers_listed cs ps a.1 i)
+  pointers-listed cs [] a = refl
+  pointers-listed cs (p ∷ ps) a = ap (λ o. map (λ (t : Held (K × V)). t.at) (one_of o ++ listed cs ps)) a.0.1 ∙ (λ i. at-content_of p (links_at cs p) (body_at cs p) a.0.0 a.0.1 i ∷ pointers-listed cs ps a.1 i)
 
-  ring_lent : (cs : List (Cell Links (K × V))) (spare : Link) (n m : ℕ) → RingOk cs spare n m → AreLent (run_of (lent (among (ring_pointers cs n)) cs)) (ring_list cs n)
-  ring_lent cs spare n m ok =
-      let is : ok.held_pointers ≡ follow cs n null_ptr = sym (ap (λ k. follow cs k null_ptr) (sym ok.held_count) ∙ follow_row cs null_ptr ok.held_pointers null_ptr ok.ring.linked) in
+  AreLent-ring_list : (cs : List (Cell Links (K × V))) (spare : Link) (n m : ℕ) → RingOk cs spare n m → AreLent (run_of (lent (among (ring_pointers cs n)) cs)) (ring_list cs n)
+  AreLent-ring_list cs spare n m ok =
+      let is : ok.held_pointers ≡ follow cs n null_ptr = sym (ap (λ k. follow cs k null_ptr) (sym ok.held_count) ∙ follow-row cs null_ptr ok.held_pointers null_ptr ok.ring.linked) in
       let has : AllByRecursion (HasContent cs) (follow cs n null_ptr) = subst (AllByRecursion (HasContent cs)) is ok.ring.held in
       record {
-        lent = each_lent (among (follow cs n null_ptr)) cs (follow cs n null_ptr) has (among_all (follow cs n null_ptr));
-        apart = subst IsApart (sym (pointers_listed cs (follow cs n null_ptr) has)) (subst IsApart is (apart_left ok.held_pointers ok.spare_pointers (apart_tail null_ptr (ok.held_pointers ++ ok.spare_pointers) ok.ring.apart)));
+        lent = AllByRecursion-lent (among (follow cs n null_ptr)) cs (follow cs n null_ptr) has (AllByRecursion-among (follow cs n null_ptr));
+        apart = subst IsApart (sym (pointers-listed cs (follow cs n null_ptr) has)) (subst IsApart is (IsApart-left ok.held_pointers ok.spare_pointers (IsApart-tail null_ptr (ok.held_pointers ++ ok.spare_pointers) ok.ring.apart)));
       }
 
-  pub all_lent : (e : Ends) (cs : List (Cell Links (K × V))) (spare : Link) (n m : ℕ) → RingOk (ring_cells e cs) spare n m → AreLent (run_of (held_entries e cs n)) (ring_list (ring_cells e cs) n)
-  all_lent e cs spare n m ok =
-      subst (λ r. AreLent (run_of r) (ring_list (ring_cells e cs) n)) (lent-ring_cells (among (ring_pointers (ring_cells e cs) n)) e cs) (ring_lent (ring_cells e cs) spare n m ok)
+  pub AreLent-held_entries : (e : Ends) (cs : List (Cell Links (K × V))) (spare : Link) (n m : ℕ) → RingOk (ring_cells e cs) spare n m → AreLent (run_of (held_entries e cs n)) (ring_list (ring_cells e cs) n)
+  AreLent-held_entries e cs spare n m ok =
+      subst (λ r. AreLent (run_of r) (ring_list (ring_cells e cs) n)) (lent-ring_cells (among (ring_pointers (ring_cells e cs) n)) e cs) (AreLent-ring_list (ring_cells e cs) spare n m ok)
 
-  pub held_pointers : (cs : List (Cell Links (K × V))) (spare : Link) (n m : ℕ) → RingOk cs spare n m → map (λ (t : Held (K × V)). t.at) (ring_list cs n) ≡ ring_pointers cs n
-  held_pointers cs spare n m ok =
-      let is : ok.held_pointers ≡ follow cs n null_ptr = sym (ap (λ k. follow cs k null_ptr) (sym ok.held_count) ∙ follow_row cs null_ptr ok.held_pointers null_ptr ok.ring.linked) in
-      pointers_listed cs (follow cs n null_ptr) (subst (AllByRecursion (HasContent cs)) is ok.ring.held)
+  pub pointers-ring_list : (cs : List (Cell Links (K × V))) (spare : Link) (n m : ℕ) → RingOk cs spare n m → map (λ (t : Held (K × V)). t.at) (ring_list cs n) ≡ ring_pointers cs n
+  pointers-ring_list cs spare n m ok =
+      let is : ok.held_pointers ≡ follow cs n null_ptr = sym (ap (λ k. follow cs k null_ptr) (sym ok.held_count) ∙ follow-row cs null_ptr ok.held_pointers null_ptr ok.ring.linked) in
+      pointers-listed cs (follow cs n null_ptr) (subst (AllByRecursion (HasContent cs)) is ok.ring.held)
 
-  pub ring_apart : (cs : List (Cell Links (K × V))) (spare : Link) (n m : ℕ) (v : State (K × V)) {total : ℕ} → RingOk cs spare n m → state (ring_list cs n) m total ≡ v → IsApart (map (λ (t : Held (K × V)). t.at) v.held)
-  ring_apart cs spare n m v ok w = subst (λ (s : State (K × V)). IsApart (map (λ t. t.at) s.held)) w (ring_lent cs spare n m ok).apart
+  pub IsApart-held : (cs : List (Cell Links (K × V))) (spare : Link) (n m : ℕ) (v : State (K × V)) {total : ℕ} → RingOk cs spare n m → state (ring_list cs n) m total ≡ v → IsApart (map (λ (t : Held (K × V)). t.at) v.held)
+  IsApart-held cs spare n m v ok w = subst (λ (s : State (K × V)). IsApart (map (λ t. t.at) s.held)) w (AreLent-ring_list cs spare n m ok).apart

@@ -53,8 +53,8 @@ use Rattle.lhm_ring.specs.contracts.ring.Ring as R-type
 use Rattle.lhm_ring.specs.contracts.ring.Ring.TheInside as I-type
 use Rattle.lhm_ring.specs.declared.ring.Ring.TheInside as D-type
 use Rattle.lhm_ring.proofs.Memory.{marker}
-use Rattle.lhm_ring.proofs.ValuesReplaced.{lent_then, lent, written_body, written, taken, listing, run_of, pointers_written, taken_listing, apart_lent, among, revalued_by, held_entries, still_ring, list_written, all_lent, held_pointers}
-use Rattle.lhm_ring.proofs.ValuesInOrder.{pointers_of, HasOwnValue, own_values, taken-own, taken-by, all_kept, set_held_values-own, set_held_values-by, revalued_by-set_held_values}
+use Rattle.lhm_ring.proofs.ValuesReplaced.{lent_then, lent, written_body, written, taken, listing, run_of, pointers-written, taken-listing, IsApart-lent, among, revalued_by, held_entries, RingOk-held_written, ring_list-held_written, AreLent-held_entries, pointers-ring_list}
+use Rattle.lhm_ring.proofs.ValuesInOrder.{pointers_of, HasOwnValue, AllByRecursion-own_values, taken-own, taken-by, AllByRecursion-kept, set_held_values-own, set_held_values-by, revalued_by-set_held_values}
 use Rattle.lhm_ring.proofs.Sharing.{cells_lent_laws}
 
 module _ (R S W : RattleType) where
@@ -169,8 +169,8 @@ module _ (R S W : RattleType) (keep : Ptr → Bool) where
   abbrev pub Thin : owning.Owning
   Thin = owning.lending (C.struct R S (Hr R S W)) (C.the_codes R.Denot S.Denot W.Denot R.coded S.coded W.coded (marker.the_row RawPtr).coded) (λ n. frames R S W (land_owns R S W n.node_bytes n.unused n.chunks) keep n.cells) (C.the_lent R S (Hr R S W))
 
-  pub thin_shared : (LR : Laws R) (LS : Laws S) (LH : Laws (Hr R S W)) → Sharable (owning.field Thin)
-  thin_shared LR LS LH = let T = R.lives ++ (S.lives ++ ((Hr R S W).lives ++ [])) in
+  pub Sharable-thin : (LR : Laws R) (LS : Laws S) (LH : Laws (Hr R S W)) → Sharable (owning.field Thin)
+  Sharable-thin LR LS LH = let T = R.lives ++ (S.lives ++ ((Hr R S W).lives ++ [])) in
       lending_shared Thin (of_Lends (C.struct R S (Hr R S W)) (C.the_codes R.Denot S.Denot W.Denot R.coded S.coded W.coded (marker.the_row RawPtr).coded) (λ n. frames R S W (land_owns R S W n.node_bytes n.unused n.chunks) keep n.cells) (C.the_lent R S (Hr R S W))
       (λ d p. cells_lent_laws R S (Hr R S W) LR.shr_laws LS.shr_laws LH.shr_laws d.cells) (copy_shared (marker.the_field RawPtr) (field_copy (marker.the_type RawPtr) tt), tt)
       (λ M 𝓤 𝓛 d p. Lends-nodes R S W 𝓛 (land_owns R S W d.node_bytes d.unused d.chunks) LR LS (owning.row Thin).lives (Incl-trans (meet_⊑_left T _) (meet_⊑_left R.lives (S.lives ++ ((Hr R S W).lives ++ []))))
@@ -223,7 +223,7 @@ module _ (S W : RattleType) where
 
       module _ (hs : List (Held (S.Denot × W.Denot))) where
         abbrev pub mended : Inside
-        mended = record a { nodes = record { marker = a.nodes.marker; cells = written keep hs a.nodes.cells; apart = subst IsApart (sym (pointers_written keep hs a.nodes.cells)) a.nodes.apart; blocks = subst AreBlocks (sym (pointers_written keep hs a.nodes.cells)) a.nodes.blocks; node_bytes = a.nodes.node_bytes; unused = a.nodes.unused; chunks = a.nodes.chunks; unused_blocks = a.nodes.unused_blocks; laid = subst (λ (ps : List Ptr). a.nodes.unused ++ ps ≡ places a.nodes.node_bytes a.nodes.chunks) (sym (pointers_written keep hs a.nodes.cells)) a.nodes.laid } }
+        mended = record a { nodes = record { marker = a.nodes.marker; cells = written keep hs a.nodes.cells; apart = subst IsApart (sym (pointers-written keep hs a.nodes.cells)) a.nodes.apart; blocks = subst AreBlocks (sym (pointers-written keep hs a.nodes.cells)) a.nodes.blocks; node_bytes = a.nodes.node_bytes; unused = a.nodes.unused; chunks = a.nodes.chunks; unused_blocks = a.nodes.unused_blocks; laid = subst (λ (ps : List Ptr). a.nodes.unused ++ ps ≡ places a.nodes.node_bytes a.nodes.chunks) (sym (pointers-written keep hs a.nodes.cells)) a.nodes.laid } }
 
         pub ring_mend : ent 𝓤 (sep 𝓤 (sem 𝓛 (spread W (at_pointers R S W passed) (taken hs passed))) (sem 𝓛 (part_at Thinned full_share (thinned a) b o))) (sem 𝓛 (part_at Full full_share mended b o))
         unfolding part_of
@@ -269,8 +269,8 @@ module _ (S W : RattleType) where
     abbrev pub Lent : List W.Denot → Fml
     Lent ws = spread W (at_pointers links.the_row S W (entries a)) ws
 
-    viewed : (ks : List (Held (S.Denot × W.Denot))) → view (mended S W (kept_by a) 𝓛 a b o ks) ≡ record d { held = revalued_by ks d.held }
-    viewed ks i = state ((list_written a.ends a.nodes.cells a.spare a.len a.spares ks ∙ ap (λ (s : State (S.Denot × W.Denot)). revalued_by ks s.held) seen) i) (seen i).spares (seen i).nodes
+    view-mended : (ks : List (Held (S.Denot × W.Denot))) → view (mended S W (kept_by a) 𝓛 a b o ks) ≡ record d { held = revalued_by ks d.held }
+    view-mended ks i = state ((ring_list-held_written a.ends a.nodes.cells a.spare a.len a.spares ks ∙ ap (λ (s : State (S.Denot × W.Denot)). revalued_by ks s.held) seen) i) (seen i).spares (seen i).nodes
 
     -- the values that ks has at their pointers come back
     back_by : (ks : List (Held (S.Denot × W.Denot))) → ent 𝓤 (sep 𝓤 (sem 𝓛 (Lent (taken ks (entries a)))) (sep 𝓤 (sem 𝓛 (fseps (Fields ∷ []))) (emp 𝓤))) (sem 𝓛 ((mem Lr).own_at (record d { held = revalued_by ks d.held }) b o))
@@ -280,17 +280,17 @@ module _ (S W : RattleType) where
         use2 𝓛 (‵ (part_at (Full S W) full_share a' b o)) (ring_mend S W (kept_by a) 𝓛 a b o ks) $ keep ! (0 ∷ []) $
         by ! (Plain-in Lr (Full S W) (view_owns (Full S W) (State (S.Denot × W.Denot)) Lr.coded view good) 𝓛 full_share s a'
         (view_made (Full S W) (State (S.Denot × W.Denot)) Lr.coded view good 𝓛 s a'
-        (viewed ks, record { ring = still_ring a.ends a.nodes.cells a.spare a.len a.spares ks ok.ring; laid = ok.laid })) b o)
+        (view-mended ks, record { ring = RingOk-held_written a.ends a.nodes.cells a.spare a.len a.spares ks ok.ring; laid = ok.laid })) b o)
 
-    pub lent_of : AreLent (run_of (entries a)) d.held
-    lent_of = subst (λ (s : State (S.Denot × W.Denot)). AreLent (run_of (entries a)) s.held) seen (all_lent a.ends a.nodes.cells a.spare a.len a.spares ok.ring)
+    pub AreLent-entries : AreLent (run_of (entries a)) d.held
+    AreLent-entries = subst (λ (s : State (S.Denot × W.Denot)). AreLent (run_of (entries a)) s.held) seen (AreLent-held_entries a.ends a.nodes.cells a.spare a.len a.spares ok.ring)
 
-    own : AllByRecursion (HasOwnValue d.held) (entries a)
-    own = own_values d.held (entries a) lent_of.lent (apart_lent (kept_by a) a.nodes.cells a.nodes.apart)
+    AllByRecursion-own : AllByRecursion (HasOwnValue d.held) (entries a)
+    AllByRecursion-own = AllByRecursion-own_values d.held (entries a) AreLent-entries.lent (IsApart-lent (kept_by a) a.nodes.cells a.nodes.apart)
 
-    in_ring : AllByRecursion (λ c. among (pointers_of d.held) c.0 ≡ true) (entries a)
-    in_ring = subst (λ ps. AllByRecursion (λ c. among ps c.0 ≡ true) (entries a))
-        (sym (held_pointers (ring_cells a.ends a.nodes.cells) a.spare a.len a.spares ok.ring) ∙ ap (λ (s : State (S.Denot × W.Denot)). pointers_of s.held) seen) (all_kept (kept_by a) a.nodes.cells)
+    AllByRecursion-in_ring : AllByRecursion (λ c. among (pointers_of d.held) c.0 ≡ true) (entries a)
+    AllByRecursion-in_ring = subst (λ ps. AllByRecursion (λ c. among ps c.0 ≡ true) (entries a))
+        (sym (pointers-ring_list (ring_cells a.ends a.nodes.cells) a.spare a.len a.spares ok.ring) ∙ ap (λ (s : State (S.Denot × W.Denot)). pointers_of s.held) seen) (AllByRecursion-kept (kept_by a) a.nodes.cells)
 
     -- the values vs, in the order of the ring, at the pointers of the entries
     abbrev pub placed : List W.Denot → List W.Denot
@@ -298,22 +298,22 @@ module _ (S W : RattleType) where
 
     pub back : (vs : List W.Denot) → ent 𝓤 (sep 𝓤 (sem 𝓛 (Lent (placed vs))) (sep 𝓤 (sem 𝓛 (fseps (Fields ∷ []))) (emp 𝓤))) (sem 𝓛 ((mem Lr).own_at (record d { held = set_held_values d.held vs }) b o))
     back vs = subst (λ (hs : List (Held (S.Denot × W.Denot))). ent 𝓤 (sep 𝓤 (sem 𝓛 (Lent (placed vs))) (sep 𝓤 (sem 𝓛 (fseps (Fields ∷ []))) (emp 𝓤))) (sem 𝓛 ((mem Lr).own_at (record d { held = hs }) b o)))
-        (revalued_by-set_held_values d.held vs lent_of.apart) (back_by (set_held_values d.held vs))
+        (revalued_by-set_held_values d.held vs AreLent-entries.apart) (back_by (set_held_values d.held vs))
 
     pub placed-own : placed (held_values d.held) ≡ vals links.the_row S W (entries a)
-    placed-own = ap (λ ks. taken ks (entries a)) (set_held_values-own d.held) ∙ taken-own d.held (entries a) own
+    placed-own = ap (λ ks. taken ks (entries a)) (set_held_values-own d.held) ∙ taken-own d.held (entries a) AllByRecursion-own
 
     -- the values ws of the entries, in the order of the ring
     abbrev pub ordered : List W.Denot → List (Held (S.Denot × W.Denot))
     ordered ws = revalued_by (listing (entries a) ws) d.held
 
     placed-ordered : (ws : List W.Denot) → placed (held_values (ordered ws)) ≡ taken (listing (entries a) ws) (entries a)
-    placed-ordered ws = ap (λ ks. taken ks (entries a)) (set_held_values-by (listing (entries a) ws) d.held) ∙ taken-by (listing (entries a) ws) d.held (entries a) own in_ring
+    placed-ordered ws = ap (λ ks. taken ks (entries a)) (set_held_values-by (listing (entries a) ws) d.held) ∙ taken-by (listing (entries a) ws) d.held (entries a) AllByRecursion-own AllByRecursion-in_ring
 
     pub ordered_back : (ws : List W.Denot) → ent 𝓤 (sep 𝓤 (sem 𝓛 (Lent ws)) (emp 𝓤)) (sem 𝓛 (Lent (placed (held_values (ordered ws)))))
     ordered_back ws = let ps = at_pointers links.the_row S W (entries a) in
         fact_use 𝓤 (length ws ≡ length ps) (via 𝓤 _ (fst∗ 𝓤 (sem 𝓛 (Lent ws)) (emp 𝓤)) (spread-length ps ws)) (λ long.
-        let listed = taken_listing (entries a) ws (apart_lent (kept_by a) a.nodes.cells a.nodes.apart) (long ∙ length-map (run_of (entries a)) _ ∙ length-map (entries a) _) in
+        let listed = taken-listing (entries a) ws (IsApart-lent (kept_by a) a.nodes.cells a.nodes.apart) (long ∙ length-map (run_of (entries a)) _ ∙ length-map (entries a) _) in
         qed 𝓛 (‵ (Lent ws) ∷ raw (emp 𝓤) ∷ []) ∵ rewrite ! 0 (λ (l : List W.Denot). ‵ (Lent l)) (sym (placed-ordered ws ∙ listed)) refl $ keep ! (0 ∷ []) $ done !)
 
     -- the values, as the ring names them

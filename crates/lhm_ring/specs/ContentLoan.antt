@@ -18,12 +18,12 @@ module _ {X : Type 0} where
   first_in [] = None
   first_in (x ∷ xs) = Some x
 
-  as_list-first : (o : Option X) → first_in (as_list o) ≡ o
-  as_list-first None = refl
-  as_list-first (Some x) = refl
+  first_in-as_list : (o : Option X) → first_in (as_list o) ≡ o
+  first_in-as_list None = refl
+  first_in-as_list (Some x) = refl
 
   pub as_list-inj : (o u : Option X) → as_list o ≡ as_list u → o ≡ u
-  as_list-inj o u e = sym (as_list-first o) ∙ ap first_in e ∙ as_list-first u
+  as_list-inj o u e = sym (first_in-as_list o) ∙ ap first_in e ∙ first_in-as_list u
 
 -- what a node holds, as a list of at most one
 abbrev pub coded_body : {X : Type 0} → Coded X → Coded (Option X)

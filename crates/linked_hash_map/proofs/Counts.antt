@@ -8,7 +8,7 @@ use Rattle.lhm_ring.proofs.BucketCounts.{rechained_raised-same}
 use Rattle.lhm_ring.specs.Index as index
 use Rattle.lhm_ring.specs.Index.{Spot, spot, spots}
 use Rattle.lhm_ring.specs.RingState.{Held}
-use Rattle.lhm_ring.proofs.Chains.{count-cons}
+use Rattle.lhm_ring.proofs.Chains.{count_by-cons}
 use Rattle.linked_hash_map.specs.Counts.{same, beside, rechained_each}
 use Rattle.linked_hash_map.specs.Nodes.{pairs_of, bare}
 
@@ -43,8 +43,8 @@ module _ {K V : Type 0} (hash : K → ℕ) where
   count-hashed test [] h = refl
   count-hashed test (t ∷ hs) h =
       let rest = count-hashed test hs h.1 in
-      let left : count_by (λ (s : Spot). test s.hash) (spots (t ∷ hs)) ≡ cond (test t.hash) 1 0 + count_by (λ (s : Spot). test s.hash) (spots hs) = count-cons (λ (s : Spot). test s.hash) (spot t) (spots hs) in
-      let right : count_by (λ (pair : K × V). test (hash pair.0)) (t.pair ∷ pairs_of hs) ≡ cond (test (hash t.pair.0)) 1 0 + count_by (λ (pair : K × V). test (hash pair.0)) (pairs_of hs) = count-cons (λ (pair : K × V). test (hash pair.0)) t.pair (pairs_of hs) in
+      let left : count_by (λ (s : Spot). test s.hash) (spots (t ∷ hs)) ≡ cond (test t.hash) 1 0 + count_by (λ (s : Spot). test s.hash) (spots hs) = count_by-cons (λ (s : Spot). test s.hash) (spot t) (spots hs) in
+      let right : count_by (λ (pair : K × V). test (hash pair.0)) (t.pair ∷ pairs_of hs) ≡ cond (test (hash t.pair.0)) 1 0 + count_by (λ (pair : K × V). test (hash pair.0)) (pairs_of hs) = count_by-cons (λ (pair : K × V). test (hash pair.0)) t.pair (pairs_of hs) in
       let same : cond {A = ℕ} (test t.hash) 1 0 ≡ cond {A = ℕ} (test (hash t.pair.0)) 1 0 = ap (λ n. cond {A = ℕ} (test n) 1 0) h.0 in
       omega (arith, rest, left, right, same)
 

@@ -7,8 +7,8 @@ use Rattle.lhm_ring.specs.RingState.{Held, first_at, last_of, last_at}
 use Rattle.lhm_ring.specs.Tables.{TableState}
 use Rattle.lhm_ring.specs.TableAfterLoan.{with_value}
 use Rattle.lhm_ring.specs.Search.{HasKey}
-use Rattle.lhm_ring.proofs.Apart.{IsFresh, same_ptr_refl}
-use Rattle.lhm_ring.proofs.Rows.{apart_head, apart_tail}
+use Rattle.lhm_ring.proofs.Apart.{IsFresh, same_ptr-reflexive}
+use Rattle.lhm_ring.proofs.Rows.{IsFresh-head, IsApart-tail}
 use Rattle.lhm_ring.specs.declared.position.Position.{Position}
 use Rattle.linked_hash_map.specs.LinkedMap.{LinkedMap, CursorState}
 use Rattle.linked_hash_map.specs.Cursor.{IsOutside}
@@ -104,7 +104,7 @@ pub first_index : {B : Type 0} {p : Ptr} (hs : List (Held B)) → Some p ≡ fir
 first_index {B} {p} [] is = absurd (let no : None ≡ Some p = sym is in cc)
 first_index {B} {p} (t ∷ hs) is =
     let at : t.at ≡ p = cc in
-    ap (λ y. cond y 0 (before p hs + 1)) (subst (λ q. same_ptr t.at q ≡ true) at (same_ptr_refl t.at))
+    ap (λ y. cond y 0 (before p hs + 1)) (subst (λ q. same_ptr t.at q ≡ true) at (same_ptr-reflexive t.at))
 
 pub first_lies : {B : Type 0} {p : Ptr} (hs : List (Held B)) → Some p ≡ first_at hs → before p hs < length hs
 first_lies {B} {p} [] is = absurd (let no : None ≡ Some p = sym is in cc)
@@ -116,11 +116,11 @@ fresh-last_of q t [] f = f.0
 fresh-last_of q t (u ∷ hs) f = fresh-last_of q u hs f.1
 
 before-last_of : {B : Type 0} (t : Held B) (hs : List (Held B)) → IsApart (map (λ u. u.at) (t ∷ hs)) → before (last_of t hs) (t ∷ hs) ≡ length hs
-before-last_of t [] d = ap (λ y. cond y 0 1) (same_ptr_refl t.at)
+before-last_of t [] d = ap (λ y. cond y 0 1) (same_ptr-reflexive t.at)
 before-last_of t (u ∷ hs) d =
-    let on = before-last_of u hs (apart_tail t.at (map (λ u. u.at) (u ∷ hs)) d) in
+    let on = before-last_of u hs (IsApart-tail t.at (map (λ u. u.at) (u ∷ hs)) d) in
     let one : before (last_of u hs) (u ∷ hs) + 1 ≡ suc (length hs) = omega (arith, on) in
-    ap (λ y. cond y 0 (before (last_of u hs) (u ∷ hs) + 1)) (fresh-last_of t.at u hs (apart_head t.at (map (λ u. u.at) (u ∷ hs)) d)) ∙ one
+    ap (λ y. cond y 0 (before (last_of u hs) (u ∷ hs) + 1)) (fresh-last_of t.at u hs (IsFresh-head t.at (map (λ u. u.at) (u ∷ hs)) d)) ∙ one
 
 module _ {K V : Type 0} where
   pub last_index : {p : Ptr} (hs : List (Held (K × V))) → IsApart (map (λ t. t.at) hs) → Some p ≡ last_at hs → before p hs ≡ length hs - 1

@@ -10,8 +10,8 @@ use Rattle.lhm_ring.specs.RingState.{Held, change_at, IsHeld}
 use Rattle.lhm_ring.specs.Tables.{TableState, WritesOnly}
 use Rattle.lhm_ring.specs.RingAfterLoan.{revalued, set_held_values}
 use Rattle.lhm_ring.specs.Search.{entries, HasKey, IsAbsent}
-use Rattle.lhm_ring.proofs.Apart.{IsFresh, same_ptr_eq, same_ptr_refl}
-use Rattle.lhm_ring.proofs.Rows.{apart_head, apart_tail}
+use Rattle.lhm_ring.proofs.Apart.{IsFresh, same_ptr-equal, same_ptr-reflexive}
+use Rattle.lhm_ring.proofs.Rows.{IsFresh-head, IsApart-tail}
 use Rattle.linked_hash_map.specs.LinkedMap.{LinkedMap}
 use Rattle.linked_hash_map.specs.Nodes.{pairs_of, bare, bare_node, before, Beside, cursor_at, map_of, IsKept}
 use Rattle.linked_hash_map.specs.Indexes.{IsIndex, set_value_at}
@@ -164,7 +164,7 @@ pub cut_before : {B : Type 0} (p : Ptr) (hs : List (Held B)) → before p hs < l
 cut_before p [] h = absurd (omega (arith, h))
 cut_before {B} p (t ∷ hs) h =
     (elim (same_ptr t.at p) as (λ y. same_ptr t.at p ≡ y → cond y 0 (before p hs + 1) < suc (length hs) → CutAt p (t ∷ hs)) [
-      | true ↦ λ e k. record { held = record { before = []; node = t; after = hs; is = refl; at_is = same_ptr_eq t.at p e }; long = sym (ap (λ y. cond y 0 (before p hs + 1)) e) }
+      | true ↦ λ e k. record { held = record { before = []; node = t; after = hs; is = refl; at_is = same_ptr-equal t.at p e }; long = sym (ap (λ y. cond y 0 (before p hs + 1)) e) }
       | false ↦ λ e k.
           let r = cut_before p hs (omega (arith, k)) in
           let long : length (t ∷ r.held.before) ≡ before p hs + 1 = omega (arith, r.long) in
@@ -178,8 +178,8 @@ module _ {K V : Type 0} where
   fresh_mid p (x ∷ xs) t ys f = fresh_mid p xs t ys f.1
 
   pub before_at : (xs : List (Held (K × V))) (t : Held (K × V)) (ys : List (Held (K × V))) → IsApart (map (λ u. u.at) (xs ++ t ∷ ys)) → before t.at (xs ++ t ∷ ys) ≡ length xs
-  before_at [] t ys d = ap (λ y. cond y 0 (before t.at ys + 1)) (same_ptr_refl t.at)
+  before_at [] t ys d = ap (λ y. cond y 0 (before t.at ys + 1)) (same_ptr-reflexive t.at)
   before_at (x ∷ xs) t ys d =
-      let on = before_at xs t ys (apart_tail x.at (map (λ u. u.at) (xs ++ t ∷ ys)) d) in
+      let on = before_at xs t ys (IsApart-tail x.at (map (λ u. u.at) (xs ++ t ∷ ys)) d) in
       let one : before t.at (xs ++ t ∷ ys) + 1 ≡ suc (length xs) = omega (arith, on) in
-      ap (λ y. cond y 0 (before t.at (xs ++ t ∷ ys) + 1)) (fresh_mid x.at xs t ys (apart_head x.at (map (λ u. u.at) (xs ++ t ∷ ys)) d)) ∙ one
+      ap (λ y. cond y 0 (before t.at (xs ++ t ∷ ys) + 1)) (fresh_mid x.at xs t ys (IsFresh-head x.at (map (λ u. u.at) (xs ++ t ∷ ys)) d)) ∙ one

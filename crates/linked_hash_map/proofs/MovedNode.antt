@@ -8,8 +8,8 @@ use Rattle.std.proofs.lemmas.Map.Keys.{IsDistinct-head, IsDistinct-tail, IsDisti
 use denote.RawPtr.{Ptr}
 use Rattle.lhm_ring.specs.Cells.{same_ptr, IsApart}
 use Rattle.lhm_ring.specs.RingState.{Held, AtHeld}
-use Rattle.lhm_ring.proofs.Apart.{IsFresh, same_ptr_refl, same_ptr_symm}
-use Rattle.lhm_ring.proofs.Rows.{all_right, all_both, all_swap, apart_at}
+use Rattle.lhm_ring.proofs.Apart.{IsFresh, same_ptr-reflexive, same_ptr-symmetric}
+use Rattle.lhm_ring.proofs.Rows.{AllByRecursion-right, AllByRecursion-append, AllByRecursion-removed, IsFresh-middle}
 use Rattle.linked_hash_map.specs.Nodes.{pairs_of, bare, bare_node, before, bookmark_at, AreKept}
 use Rattle.linked_hash_map.proofs.DistinctLists.{none_from_all}
 use Rattle.linked_hash_map.proofs.Kept.{CutAt, cut_before, keys-bare, pairs_of-append, pair_there, pairs_removed}
@@ -20,16 +20,16 @@ use Rattle.linked_hash_map.proofs.TakenNode.{distinct_keys-out}
 list_any-others : {K : Type 0} {eq : K → K → Bool} → IsEquivalence eq → (xs : List K) (x : K) (ys : List K) → IsDistinct eq (xs ++ x ∷ ys) → list_any (eq x) (xs ++ ys) ≡ false
 list_any-others {K} {eq} laws [] x ys h = none_from_all (eq x) ys (IsDistinct-head eq x ys h)
 list_any-others {K} {eq} laws (q ∷ xs) x ys h =
-    let at = all_right (λ y. eq q y ≡ false) xs (x ∷ ys) (IsDistinct-head eq q (xs ++ x ∷ ys) h) in
+    let at = AllByRecursion-right (λ y. eq q y ≡ false) xs (x ∷ ys) (IsDistinct-head eq q (xs ++ x ∷ ys) h) in
     ap (λ b. b || list_any (eq x) (xs ++ ys)) (laws.symm x q ∙ at.0) ∙ list_any-others laws xs x ys (IsDistinct-tail eq q (xs ++ x ∷ ys) h)
 
 -- before a node that lies last come all others
 before-last : {B : Type 0} (p : Ptr) (hs : List (Held B)) (t : Held B) → t.at ≡ p → IsFresh p (map (λ u. u.at) hs) → before p (hs ++ t ∷ []) ≡ length hs
-before-last p [] t at fresh = ap (λ y. cond y 0 1) (subst (λ q. same_ptr t.at q ≡ true) at (same_ptr_refl t.at))
+before-last p [] t at fresh = ap (λ y. cond y 0 1) (subst (λ q. same_ptr t.at q ≡ true) at (same_ptr-reflexive t.at))
 before-last p (x ∷ hs) t at fresh =
     let on = before-last p hs t at fresh.1 in
     let one : before p (hs ++ t ∷ []) + 1 ≡ suc (length hs) = omega (arith, on) in
-    ap (λ y. cond y 0 (before p (hs ++ t ∷ []) + 1)) (same_ptr_symm x.at p ∙ fresh.0) ∙ one
+    ap (λ y. cond y 0 (before p (hs ++ t ∷ []) + 1)) (same_ptr-symmetric x.at p ∙ fresh.0) ∙ one
 
 -- the nodes with one that is not to be visited moved behind the others
 module _ {K : Type 0} {eq : K → K → Bool} (laws : IsEquivalence eq) {hash : K → ℕ} (front : List (Held K)) (u : Held K) (back : List (Held K)) {capacity n : ℕ} {mark : Option Ptr} {p : Ptr} (kept : AreKept eq hash (front ++ u ∷ back) capacity mark n (Some p)) (clear : IsClear front u back mark n) where
@@ -47,7 +47,7 @@ module _ {K : Type 0} {eq : K → K → Bool} (laws : IsEquivalence eq) {hash : 
       let bookmark = bookmark-moved front u back mark n kept.ended reach in
       record {
         distinct = subst (IsDistinct eq) (sym (map-append (λ (t : Held K). t.pair) (front ++ back) (u ∷ []))) (IsDistinct-push laws (keys (front ++ back)) u.pair (distinct_keys-out front u back kept clear) differs);
-        hashed = all_both P (front ++ back) (u ∷ []) (all_swap P front u back kept.hashed) ((all_right P front (u ∷ back) kept.hashed).0, tt);
+        hashed = AllByRecursion-append P (front ++ back) (u ∷ []) (AllByRecursion-removed P front u back kept.hashed) ((AllByRecursion-right P front (u ∷ back) kept.hashed).0, tt);
         within = omega (arith, of_all, of_rest, of_moved, kept.within);
         limit = kept.limit;
         marked = kept.marked;
@@ -101,7 +101,7 @@ module _ {K V : Type 0} (hs ks : List (Held (K × V))) {p : Ptr} (last : AtHeld 
       let h = cut_moved.held in
       let pointers : List (Held (K × V)) → List Ptr = map (λ t. t.at) in
       let cut = subst IsApart (ap pointers h.is ∙ map-append (λ (t : Held (K × V)). t.at) h.before (h.node ∷ h.after)) apart in
-      let fresh = subst (λ q. IsFresh q (pointers h.before ++ pointers h.after)) h.at_is (apart_at (pointers h.before) h.node.at (pointers h.after) cut) in
+      let fresh = subst (λ q. IsFresh q (pointers h.before ++ pointers h.after)) h.at_is (IsFresh-middle (pointers h.before) h.node.at (pointers h.after) cut) in
       ap (before p) moved ∙ before-last p (h.before ++ h.after) h.node h.at_is (subst (IsFresh p) (sym (map-append (λ (t : Held (K × V)). t.at) h.before h.after)) fresh)
 
   pub before-at_back : IsApart (map (λ t. t.at) hs) → before p ks ≡ length hs - 1

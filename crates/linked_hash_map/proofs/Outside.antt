@@ -4,7 +4,7 @@ use Rattle.std.proofs.lemmas.List.{map-append, length-map}
 use denote.RawPtr.{Ptr}
 use Rattle.lhm_ring.specs.Cells.{same_ptr}
 use Rattle.lhm_ring.specs.RingState.{Held}
-use Rattle.lhm_ring.proofs.Apart.{same_ptr_refl}
+use Rattle.lhm_ring.proofs.Apart.{same_ptr-reflexive}
 use Rattle.linked_hash_map.specs.Nodes.{bare, bare_node, before, bookmark_at}
 
 -- how many nodes come before a pointer, once one of the nodes is out, and where there are more
@@ -37,7 +37,7 @@ module _ {B : Type 0} (p : Ptr) where
 -- a node lies at its pointer
 pub before_held : {B : Type 0} (p : Ptr) (front : List (Held B)) (t : Held B) (back : List (Held B)) → t.at ≡ p → before p (front ++ t ∷ back) < length (front ++ t ∷ back)
 before_held p [] t back at =
-    let here : before p (t ∷ back) ≡ 0 = ap (λ y. cond y 0 (before p back + 1)) (subst (λ q. same_ptr t.at q ≡ true) at (same_ptr_refl t.at)) in
+    let here : before p (t ∷ back) ≡ 0 = ap (λ y. cond y 0 (before p back + 1)) (subst (λ q. same_ptr t.at q ≡ true) at (same_ptr-reflexive t.at)) in
     omega (arith, here)
 before_held p (x ∷ front) t back at =
     let on = before_held p front t back at in

@@ -6,7 +6,7 @@ use Rattle.std.proofs.lemmas.List.{map-append}
 use denote.RawPtr.{Ptr}
 use Rattle.lhm_ring.specs.RingState.{Held, AtHeld}
 use Rattle.lhm_ring.specs.Tables.{TableState}
-use Rattle.lhm_ring.proofs.Rows.{all_swap}
+use Rattle.lhm_ring.proofs.Rows.{AllByRecursion-removed}
 use Rattle.linked_hash_map.specs.Nodes.{pairs_of, bare, bare_node, before, bookmark_at, AreKept, IsKept}
 use Rattle.linked_hash_map.proofs.DistinctLists.{distinct_removed}
 use Rattle.linked_hash_map.proofs.Kept.{CutAt, cut_before, keys-bare, remove-cut, pair_there, pairs_removed}
@@ -30,7 +30,7 @@ module _ {K : Type 0} {eq : K → K → Bool} {hash : K → ℕ} (front : List (
       let of_rest = length-append front back in
       record {
         distinct = distinct_keys-out;
-        hashed = all_swap (λ t. t.hash ≡ hash t.pair) front u back kept.hashed;
+        hashed = AllByRecursion-removed (λ t. t.hash ≡ hash t.pair) front u back kept.hashed;
         within = omega (arith, of_all, of_rest, kept.within);
         limit = kept.limit;
         marked = kept.marked;

@@ -14,14 +14,14 @@ pub record IsLeastPower (c n : ℕ) : Type 0 where
 -- the least power of two that is not below the capacity
 pub buckets_least : (c : ℕ) → 0 < c → IsLeastPower c (buckets c)
 buckets_least c some =
-    let next = ring.buckets_least c some in
+    let next = ring.IsNextPowerOfTwo-buckets c some in
     record {
       power = next.0;
       enough = next.1;
       least = λ m power enough.
           -- m has m buckets, and a higher capacity has no fewer
-          let own : m ≡ buckets m = ring.buckets_is m m power (omega arith) (omega arith) (omega arith) in
-          elim (ring.buckets_raised c m enough) [ inl same ↦ omega arith | inr more ↦ omega arith ];
+          let own : m ≡ buckets m = ring.buckets-least_power m m power (omega arith) (omega arith) (omega arith) in
+          elim (ring.buckets-raised c m enough) [ inl same ↦ omega arith | inr more ↦ omega arith ];
     }
 
 -- a power of two has as many buckets as it is
@@ -29,5 +29,5 @@ pub buckets_power : (c : ℕ) → IsPowerOfTwo c → buckets c ≡ c
 buckets_power c power =
     let some = pow_pos power.0 in
     let is = power.1 in
-    let own : c ≡ buckets c = ring.buckets_is c c power (omega arith) (omega arith) (omega arith) in
+    let own : c ≡ buckets c = ring.buckets-least_power c c power (omega arith) (omega arith) (omega arith) in
     sym own

@@ -1,20 +1,20 @@
 use Rattle.std.proofs.Common.{◌∙◌, map, sym, ap, arith}
 use Rattle.lhm_ring.specs.Land.{extent}
-use Rattle.lhm_ring.proofs.Places.{extents_last, last_same, no_extents}
+use Rattle.lhm_ring.proofs.Places.{map-extent_last, push-injective, map-extent_none}
 use Rattle.lhm_ring.proofs.grow.free_chunks.Goals as goal
 
 pub remove_chunk-block-requires : goal.remove_chunk-block-requires
 remove_chunk-block-requires g c =
-    (c.each.invariant.cells, (map extent c.pop.new.self.items, c.each.invariant.chunks ∙ ap (map extent) c.in-Some.ensures.items ∙ extents_last c.pop.new.self.items c.in-Some.chunk))
+    (c.each.invariant.cells, (map extent c.pop.new.self.items, c.each.invariant.chunks ∙ ap (map extent) c.in-Some.ensures.items ∙ map-extent_last c.pop.new.self.items c.in-Some.chunk))
 
 pub each-preserved : goal.each-preserved
 each-preserved g c = record {
   cells = c.remove_chunk-block.ensures.cells;
-  chunks = last_same _ _ _ (sym c.remove_chunk-block.ensures.chunks ∙ c.each.invariant.chunks ∙ ap (map extent) c.in-Some.ensures.items ∙ extents_last c.pop.new.self.items c.in-Some.chunk);
+  chunks = push-injective _ _ _ (sym c.remove_chunk-block.ensures.chunks ∙ c.each.invariant.chunks ∙ ap (map extent) c.in-Some.ensures.items ∙ map-extent_last c.pop.new.self.items c.in-Some.chunk);
 }
 
 pub returns : goal.returns
 returns g c = record {
   cells = c.each.invariant.cells;
-  chunks = c.each.invariant.chunks ∙ no_extents c.each.chunks.items (let n = c.each.chunks.ok.0 in let z = c.in_default.ensures.cases.0 in omega arith);
+  chunks = c.each.invariant.chunks ∙ map-extent_none c.each.chunks.items (let n = c.each.chunks.ok.0 in let z = c.in_default.ensures.cases.0 in omega arith);
 }

@@ -1,8 +1,8 @@
 use Rattle.std.proofs.Common.{ℕ, ◌≡◌, ◌∙◌, ◌+◌, ◌-◌, ◌<◌, ◌^◌, ap, sym, refl, subst, arith}
 use Rattle.lhm_ring.specs.Chunks.{row}
 use Rattle.lhm_ring.specs.Stacks.{IsStacked}
-use Rattle.lhm_ring.proofs.Places.{no_row, row_less}
-use Rattle.lhm_ring.proofs.Stacking.{nothing_stacked, stacked_one}
+use Rattle.lhm_ring.proofs.Places.{row-none, row-less}
+use Rattle.lhm_ring.proofs.Stacking.{IsStacked-none, IsStacked-push}
 use Rattle.lhm_ring.proofs.grow.make_spares.Goals as goal
 
 pub each-init : goal.each-init
@@ -13,11 +13,11 @@ each-init g c =
       small = c.requires.small;
       unused = c.requires.unused;
       chunks = refl;
-      stacked = subst (λ (n : ℕ). IsStacked c.args.nodes.now.cells c.args.spare n c.args.nodes.now.cells c.args.spare) none (nothing_stacked _ _);
+      stacked = subst (λ (n : ℕ). IsStacked c.args.nodes.now.cells c.args.spare n c.args.nodes.now.cells c.args.spare) none (IsStacked-none _ _);
     }
 
 pub add-at-requires : goal.add-at-requires
-add-at-requires g c = (omega arith, (c.each.invariant.small, c.each.invariant.unused ∙ row_less c.args.start.ptr c.each.nodes.node_bytes c.each.left c.each-test.true))
+add-at-requires g c = (omega arith, (c.each.invariant.small, c.each.invariant.unused ∙ row-less c.args.start.ptr c.each.nodes.node_bytes c.each.left c.each-test.true))
 
 pub to-first-requires : goal.to-first-requires
 to-first-requires g c = c.add-at.ensures.block
@@ -31,7 +31,7 @@ each-preserved g c =
       unused = c.add-at.ensures.unused ∙ ap (λ (n : ℕ). row c.args.start.ptr n (c.each.left - 1)) (sym c.add-at.ensures.node_bytes);
       chunks = c.add-at.ensures.chunks ∙ i.chunks;
       stacked = subst (λ (n : ℕ). IsStacked c.args.nodes.now.cells c.args.spare n c.add-at.new.self.cells c.to-first.result) one
-          (stacked_one _ _ (c.args.count - c.each.left) c.each.nodes.cells _ c.add-at.result c.add-at.new.self.cells c.to-first.result i.stacked c.add-at.ensures.cells c.to-first.ensures);
+          (IsStacked-push _ _ (c.args.count - c.each.left) c.each.nodes.cells _ c.add-at.result c.add-at.new.self.cells c.to-first.result i.stacked c.add-at.ensures.cells c.to-first.ensures);
     }
 
 pub returns : goal.returns
@@ -39,6 +39,6 @@ returns g c =
     let i = c.each.invariant in let none : c.each.left ≡ 0 = omega (arith, c.each-test.false) in let all : c.args.count - c.each.left ≡ c.args.count = omega (arith, none) in
     record {
       stacked = subst (λ (n : ℕ). IsStacked c.args.nodes.now.cells c.args.spare n c.each.nodes.cells c.each.first) all i.stacked;
-      unused = i.unused ∙ no_row c.args.start.ptr c.each.nodes.node_bytes c.each.left none;
+      unused = i.unused ∙ row-none c.args.start.ptr c.each.nodes.node_bytes c.each.left none;
       chunks = i.chunks;
     }

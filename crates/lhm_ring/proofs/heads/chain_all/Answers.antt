@@ -4,13 +4,13 @@ use Rattle.std.proofs.lemmas.List.{length-map}
 use Rattle.lhm_ring.specs.Heads.{leads_to}
 use Rattle.lhm_ring.specs.Positions.{pointer_of, pointer_of_some}
 use Rattle.lhm_ring.specs.Filters.{may_contain}
-use Rattle.lhm_ring.proofs.IndexPuts.{rechain_start, rechain_held, rechain_below, rechain_some, rechain_more, rechain_next_held, rechain_bucket, rechain_covers, SetsBit}
+use Rattle.lhm_ring.proofs.IndexPuts.{IsRechained-start, IsHeld-rechained, count-rechained, length-rechained, IsRechained-step, IsHeld-rechained_next, bucket-rechained, CoversAll-rechained, SetsBit}
 use Rattle.lhm_ring.proofs.heads.chain_all.Goals as goal
 use Rattle.lhm_ring.proofs.heads.chain_all.Goals.{then-fits, else-fits}
 
 pub loop-pointer-init : goal.loop-pointer-init
 loop-pointer-init g c = record {
-  rechained = rechain_start (map leads_to c.args.heads.now.items) c.args.filter.now c.args.ring.now.held (pointer_of_some c.first-pointer.result) _ c.requires.empty c.first-pointer.ensures (omega (arith, length-map c.args.heads.now.items leads_to, c.args.heads.now.ok));
+  rechained = IsRechained-start (map leads_to c.args.heads.now.items) c.args.filter.now c.args.ring.now.held (pointer_of_some c.first-pointer.result) _ c.requires.empty c.first-pointer.ensures (omega (arith, length-map c.args.heads.now.items leads_to, c.args.heads.now.ok));
   spares = refl;
   nodes = refl;
   buckets = refl;
@@ -18,32 +18,32 @@ loop-pointer-init g c = record {
 }
 
 pub hash-hash-requires : goal.hash-hash-requires
-hash-hash-requires g c = rechain_held (pointer_of c.in-Some.at) (ap pointer_of_some c.in-Some.is) c.loop-pointer.invariant.rechained
+hash-hash-requires g c = IsHeld-rechained (pointer_of c.in-Some.at) (ap pointer_of_some c.in-Some.is) c.loop-pointer.invariant.rechained
 
 pub chain_one-bucket-requires-clause-held : goal.chain_one-bucket-requires-clause-held
-chain_one-bucket-requires-clause-held g c = rechain_held (pointer_of c.in-Some.at) (ap pointer_of_some c.in-Some.is) c.loop-pointer.invariant.rechained
+chain_one-bucket-requires-clause-held g c = IsHeld-rechained (pointer_of c.in-Some.at) (ap pointer_of_some c.in-Some.is) c.loop-pointer.invariant.rechained
 
 pub insert-requires-clause-of_hash : goal.insert-requires-clause-of_hash
 insert-requires-clause-of_hash g c =
     let many : vec_len c.loop-pointer.heads ≡ length c.loop-pointer.filter = omega (arith, c.loop-pointer.invariant.buckets, c.loop-pointer.invariant.words, c.if-fits.true, c.len.ensures, c.len-2.ensures) in
-    rechain_bucket (pointer_of c.in-Some.at) (ap pointer_of_some c.in-Some.is) c.loop-pointer.invariant.rechained c.chain_one-bucket.result c.hash-hash.result (vec_len c.loop-pointer.heads) c.chain_one-bucket.ensures.bucket c.hash-hash.ensures
+    bucket-rechained (pointer_of c.in-Some.at) (ap pointer_of_some c.in-Some.is) c.loop-pointer.invariant.rechained c.chain_one-bucket.result c.hash-hash.result (vec_len c.loop-pointer.heads) c.chain_one-bucket.ensures.bucket c.hash-hash.ensures
     ∙ ap (λ n. c.hash-hash.result % n) many
 
 pub insert-requires-clause-within : goal.insert-requires-clause-within
 insert-requires-clause-within g c =
-    let some = rechain_some (pointer_of c.in-Some.at) (ap pointer_of_some c.in-Some.is) c.requires.some c.loop-pointer.invariant.rechained in
+    let some = length-rechained (pointer_of c.in-Some.at) (ap pointer_of_some c.in-Some.is) c.requires.some c.loop-pointer.invariant.rechained in
     let is = insert-requires-clause-of_hash g c in
     let many : 0 < length c.loop-pointer.filter = omega (arith, some, length-map c.loop-pointer.heads.items leads_to, c.loop-pointer.heads.ok, c.loop-pointer.invariant.buckets, c.loop-pointer.invariant.words, c.if-fits.true, c.len.ensures, c.len-2.ensures) in
     omega (arith, is, mod-lt c.hash-hash.result many)
 
 pub overflow_add-count : goal.overflow_add-count
-overflow_add-count g c = omega (arith, rechain_below (pointer_of c.in-Some.at) (ap pointer_of_some c.in-Some.is) c.loop-pointer.invariant.rechained, c.requires.small)
+overflow_add-count g c = omega (arith, count-rechained (pointer_of c.in-Some.at) (ap pointer_of_some c.in-Some.is) c.loop-pointer.invariant.rechained, c.requires.small)
 
 pub next-pointer-requires : goal.next-pointer-requires
-next-pointer-requires g c = rechain_next_held (pointer_of c.in-Some.at) (ap pointer_of_some c.in-Some.is) c.loop-pointer.invariant.rechained c.chain_one-bucket.ensures.chained
+next-pointer-requires g c = IsHeld-rechained_next (pointer_of c.in-Some.at) (ap pointer_of_some c.in-Some.is) c.loop-pointer.invariant.rechained c.chain_one-bucket.ensures.chained
 
 pub loop-pointer-smaller : goal.loop-pointer-smaller
-loop-pointer-smaller g c = omega (arith, rechain_below (pointer_of c.in-Some.at) (ap pointer_of_some c.in-Some.is) c.loop-pointer.invariant.rechained)
+loop-pointer-smaller g c = omega (arith, count-rechained (pointer_of c.in-Some.at) (ap pointer_of_some c.in-Some.is) c.loop-pointer.invariant.rechained)
 
 pub loop-pointer-preserved : goal.loop-pointer-preserved
 loop-pointer-preserved g c =
@@ -63,7 +63,7 @@ loop-pointer-preserved g c =
       | else-fits w ↦ λ all. absurd (w.if-fits.false (omega (arith, all, same_length, c.len.ensures, c.len-2.ensures)))
     ] in
     record {
-      rechained = rechain_more (pointer_of c.in-Some.at) (map leads_to c.chain_one-bucket.new.heads.items) c.if-fits.filter c.chain_one-bucket.new.ring.held (pointer_of_some c.next-pointer.result) hash (ap pointer_of_some c.in-Some.is) (rechain_some (pointer_of c.in-Some.at) (ap pointer_of_some c.in-Some.is) c.requires.some rechained) rechained c.chain_one-bucket.ensures.chained c.hash-hash.ensures sets c.next-pointer.ensures.next;
+      rechained = IsRechained-step (pointer_of c.in-Some.at) (map leads_to c.chain_one-bucket.new.heads.items) c.if-fits.filter c.chain_one-bucket.new.ring.held (pointer_of_some c.next-pointer.result) hash (ap pointer_of_some c.in-Some.is) (length-rechained (pointer_of c.in-Some.at) (ap pointer_of_some c.in-Some.is) c.requires.some rechained) rechained c.chain_one-bucket.ensures.chained c.hash-hash.ensures sets c.next-pointer.ensures.next;
       spares = c.chain_one-bucket.ensures.spares ∙ c.loop-pointer.invariant.spares;
       nodes = c.chain_one-bucket.ensures.nodes ∙ c.loop-pointer.invariant.nodes;
       buckets = c.chain_one-bucket.ensures.buckets ∙ c.loop-pointer.invariant.buckets;
@@ -71,4 +71,4 @@ loop-pointer-preserved g c =
     }
 
 pub returns-clause-covers : goal.returns-clause-covers
-returns-clause-covers g c = λ all. rechain_covers (ap pointer_of_some c.in_default.is) c.loop-pointer.invariant.rechained (c.loop-pointer.invariant.words ∙ all)
+returns-clause-covers g c = λ all. CoversAll-rechained (ap pointer_of_some c.in_default.is) c.loop-pointer.invariant.rechained (c.loop-pointer.invariant.words ∙ all)

@@ -1,12 +1,12 @@
 use Rattle.std.proofs.Common.{arith}
 use Rattle.std.proofs.lemmas.List.{length-map}
 use Rattle.lhm_ring.specs.Heads.{leads_to}
-use Rattle.lhm_ring.proofs.BucketHeads.{leads_to-cleared}
+use Rattle.lhm_ring.proofs.BucketHeads.{get_or-cleared}
 use Rattle.lhm_ring.proofs.heads.clear_heads.Goals as goal
 
 pub heads-preserved : goal.heads-preserved
 heads-preserved c = record {
-  cleared = leads_to-cleared c.heads.heads.items c.heads.next (record { link = c.none.result }) c.none.ensures c.heads.invariant.cleared;
+  cleared = get_or-cleared c.heads.heads.items c.heads.next (record { link = c.none.result }) c.none.ensures c.heads.invariant.cleared;
   buckets = c.heads.invariant.buckets;
 }
 

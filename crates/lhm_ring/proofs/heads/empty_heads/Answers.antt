@@ -1,12 +1,12 @@
 use Rattle.std.proofs.Common.{◌≡◌, ◌∙◌, ℕ, List, arith, get_or, map, None, sym, subst}
 use Rattle.lhm_ring.specs.declared.heads.Head.{Head}
 use Rattle.lhm_ring.specs.Heads.{leads_to}
-use Rattle.lhm_ring.proofs.BucketHeads.{none_more}
+use Rattle.lhm_ring.proofs.BucketHeads.{get_or-pushed}
 use Rattle.lhm_ring.proofs.heads.empty_heads.Goals as goal
 
 pub heads-preserved : goal.heads-preserved
 heads-preserved c = record {
-  empty = subst (λ (xs : List Head). (b : ℕ) → get_or (map leads_to xs) b None ≡ None) (sym c.push_reserved.ensures.items) (none_more c.heads.heads.items (record { link = c.none.result }) c.none.ensures c.heads.invariant.empty);
+  empty = subst (λ (xs : List Head). (b : ℕ) → get_or (map leads_to xs) b None ≡ None) (sym c.push_reserved.ensures.items) (get_or-pushed c.heads.heads.items (record { link = c.none.result }) c.none.ensures c.heads.invariant.empty);
   few = omega (arith, c.push_reserved.ensures.len, c.len.ensures, c.heads-test.true);
   capacity = c.push_reserved.ensures.capacity ∙ c.heads.invariant.capacity;
 }

@@ -1,30 +1,30 @@
 use Rattle.std.proofs.Common.{◌∙◌, ◌-◌, Some, sym, subst, arith}
 use Rattle.lhm_ring.specs.Splices.{HasRow, SparesRow}
-use Rattle.lhm_ring.proofs.NodeBlocks.{at_block}
-use Rattle.lhm_ring.proofs.Writes.{is_at}
-use Rattle.lhm_ring.proofs.Splicing.{row_there, row_goes_on, row_ends, row_done}
+use Rattle.lhm_ring.proofs.NodeBlocks.{is_block-links_at}
+use Rattle.lhm_ring.proofs.Writes.{IsAt-there}
+use Rattle.lhm_ring.proofs.Splicing.{is_there-row, HasRow-next, SparesRow-step, SparesRow-done}
 use Rattle.lhm_ring.proofs.splice.spare_row.Goals as goal
 
 pub links-requires : goal.links-requires
-links-requires g c = is_at _ _ (row_there c.row.nodes.cells c.row.at c.row.left _ c.row-test.true c.row.invariant.row)
+links-requires g c = IsAt-there _ _ (is_there-row c.row.nodes.cells c.row.at c.row.left _ c.row-test.true c.row.invariant.row)
 
 pub relink-requires : goal.relink-requires
-relink-requires g c = is_at _ _ (row_there c.row.nodes.cells c.row.at c.row.left _ c.row-test.true c.row.invariant.row)
+relink-requires g c = IsAt-there _ _ (is_there-row c.row.nodes.cells c.row.at c.row.left _ c.row-test.true c.row.invariant.row)
 
 pub to-spare-requires : goal.to-spare-requires
-to-spare-requires g c = at_block c.row.nodes.cells c.row.nodes.blocks c.row.at.ptr _ c.links.ensures
+to-spare-requires g c = is_block-links_at c.row.nodes.cells c.row.nodes.blocks c.row.at.ptr _ c.links.ensures
 
 pub row-preserved : goal.row-preserved
 row-preserved g c =
     let e = c.links.ensures in let w = c.relink.ensures.relinked _ e in let next = c.address-next.result.ptr in let zs = c.relink.new.nodes.cells in
     record {
-      row = subst (λ o. HasRow zs next (c.row.left - 1) o) (sym c.to-spare.ensures) (subst (λ zs. HasRow zs next (c.row.left - 1) (Some c.row.at.ptr)) (sym w) (row_goes_on c.row.nodes.cells c.row.at c.row.left c.row.spare _ e next c.address-next.ensures c.row-test.true c.row.invariant.row));
+      row = subst (λ o. HasRow zs next (c.row.left - 1) o) (sym c.to-spare.ensures) (subst (λ zs. HasRow zs next (c.row.left - 1) (Some c.row.at.ptr)) (sym w) (HasRow-next c.row.nodes.cells c.row.at c.row.left c.row.spare _ e next c.address-next.ensures c.row-test.true c.row.invariant.row));
       ends = λ ds s h. c.row.invariant.ends ds s
-          (row_ends c.row.nodes.cells c.row.at c.row.left c.row.spare _ e next c.address-next.ensures ds s c.row-test.true
+          (SparesRow-step c.row.nodes.cells c.row.at c.row.left c.row.spare _ e next c.address-next.ensures ds s c.row-test.true
           (subst (λ zs. SparesRow zs next (c.row.left - 1) (Some c.row.at.ptr) ds s) w (subst (λ o. SparesRow zs next (c.row.left - 1) o ds s) c.to-spare.ensures h)));
       unused = c.relink.ensures.land.0 ∙ c.row.invariant.unused;
       chunks = c.relink.ensures.land.1 ∙ c.row.invariant.chunks;
     }
 
 pub returns-clause-spared : goal.returns-clause-spared
-returns-clause-spared g c = c.row.invariant.ends _ _ (row_done c.row.nodes.cells c.row.at.ptr c.row.left _ (omega arith))
+returns-clause-spared g c = c.row.invariant.ends _ _ (SparesRow-done c.row.nodes.cells c.row.at.ptr c.row.left _ (omega arith))

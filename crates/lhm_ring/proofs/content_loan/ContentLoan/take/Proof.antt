@@ -30,8 +30,8 @@ use Rattle.lhm_ring.specs.Ownership.{key_of, value_of, body_owns}
 use Rattle.lhm_ring.specs.ContentLoan.{Bodies, bodies, borrows_bodies, body_in, without_body, HasBody, firsts, seconds}
 use Rattle.lhm_ring.specs.declared.content_loan.ContentLoan.{ContentLoan}
 use Rattle.lhm_ring.specs.contracts.content_loan.ContentLoan as S-type
-use Rattle.lhm_ring.proofs.Memory.{Three, args, RL, RK, RV, ko, vo, Pl, pointer_told, two_made, value_out}
-use Rattle.lhm_ring.proofs.ContentTaken.{CutBody, cut_body, same_firsts, Run, bodies_cut, bodies_glue}
+use Rattle.lhm_ring.proofs.Memory.{Three, args, RL, RK, RV, ko, vo, Pl, word-pointer, two_made, value_out}
+use Rattle.lhm_ring.proofs.ContentTaken.{CutBody, CutBody-some, firsts-same, Run, bodies_cut, bodies_glue}
 use Rattle.lhm_ring.specs.contracts.content_loan.ContentLoan.take.{ended, clauses}
 use Rattle.lhm_ring.specs.contracts.content_loan.ContentLoan.take.Key.{name as #self}
 use Rattle.lhm_ring.proofs.content_loan.ContentLoan.take.Statement.{statement}
@@ -52,11 +52,11 @@ take_spec 𝓤 𝓛 𝓜 𝓡 wired L K V LL LK LV =
     qed 𝓛 (((‵ (flft κs.0 qs.0) ⊛ ‵ others) ⊛ ‵ (owns (types_at En.signature.params κs) a vss)) ∷ raw (fact 𝓤 _) ∷ raw (fact 𝓤 _) ∷ raw (fact 𝓤 _) ∷ raw (fact 𝓤 Asked) ∷ []) ∵
     keep ! (4 ∷ 0 ∷ []) $ heard ! Asked (λ asked. split ! $ split ! $ move ! (2 ∷ []) $ fsplit ! $ fsplit3 ! $ keep ! (1 ∷ 2 ∷ 4 ∷ 5 ∷ []) $
     let us : List Val = vptr rb ro ∷ word p ∷ [] in let Runs : List Val → SProp 𝓤 = λ ws. WpFn 𝓤 H 𝓣.C 𝓣.Λ fn ws Post in
-    suffices ! (Runs us) (subst (λ (ws : List Val). ent 𝓤 (Runs us) (Runs ws)) (sym (λ i. are.0.0 i ++ (pointer_told a.1.0 vss.1.0 are.1.0 i ++ []))) (id⊢ 𝓤 (Runs us))) $
+    suffices ! (Runs us) (subst (λ (ws : List Val). ent 𝓤 (Runs us) (Runs ws)) (sym (λ i. are.0.0 i ++ (word-pointer a.1.0 vss.1.0 are.1.0 i ++ []))) (id⊢ 𝓤 (Runs us))) $
     enter ! 𝓣.C 𝓣.Λ fn us Post $ alloc_all ! (λ l. pass_all ! refl ((tt, tt), (word-Good [] p, tt)) $ let Ev = env fn.locals l in
-    let x = asked.0 in let k : CutBody d.run p x = cut_body d.run p x asked.1 in let xs = k.split.before in let ys = k.split.after in
+    let x = asked.0 in let k : CutBody d.run p x = CutBody-some d.run p x asked.1 in let xs = k.split.before in let ys = k.split.after in
     let all : List (Ptr × Option (K.Denot × V.Denot)) = xs ++ (p, Some x) ∷ ys in let left : List (Ptr × Option (K.Denot × V.Denot)) = xs ++ (p, None) ∷ ys in
-    let same : firsts left ≡ firsts all = same_firsts xs p None (Some x) ys in let Bs : SemTy = Bodies R S W (firsts all) in
+    let same : firsts left ≡ firsts all = firsts-same xs p None (Some x) ys in let Bs : SemTy = Bodies R S W (firsts all) in
     move ! (3 ∷ []) $ fsplit ! $ move ! (2 ∷ 3 ∷ 4 ∷ []) $
     -- [self's name; its borrow; its token; the loan's token; the other tokens]
     opens ! tt It {h = d} rb ro (λ vs. move ! (1 ∷ []) $ fsplit ! $ move ! (1 ∷ 6 ∷ []) $

@@ -1,36 +1,36 @@
 use Rattle.std.proofs.Common.{◌∙◌, ◌-◌, ◌∷◌, ap, sym, subst}
 use Rattle.lhm_ring.specs.Rings.{IsSpan, span_triples}
 use Rattle.lhm_ring.specs.ContentLoan.{with_bodies}
-use Rattle.lhm_ring.proofs.Spans.{none_listed, first_there, first_holds, rest_of_first, first_out}
-use Rattle.lhm_ring.proofs.NodesWithBodies.{links_with_bodies, body_with_bodies, with_bodies_without}
+use Rattle.lhm_ring.proofs.Spans.{span_triples-none, IsAt-first, Holds-first, IsSpan-rest_of_first, span_triples-first}
+use Rattle.lhm_ring.proofs.NodesWithBodies.{links_at-with_bodies, body_at-with_bodies, with_bodies-without_body}
 use Rattle.lhm_ring.proofs.drain.Remaining.take_first.Goals as goal
 
 pub returns-then-self-eq0 : goal.returns-then-self-eq0
 returns-then-self-eq0 g c =
     let i = c.self.inside in let ms = with_bodies i.nodes.now.cells i.contents.run in
-    let e = sym c.self.view_is ∙ ap (λ k. span_triples ms k i.first.ptr) c.if-self-eq0.true ∙ none_listed ms i.first.ptr in (e, e)
+    let e = sym c.self.view_is ∙ ap (λ k. span_triples ms k i.first.ptr) c.if-self-eq0.true ∙ span_triples-none ms i.first.ptr in (e, e)
 
 pub links-links-requires : goal.links-links-requires
 links-links-requires g c =
-    let i = c.self.inside in let h = first_there (with_bodies i.nodes.now.cells i.contents.run) i.first.ptr i.last.ptr i.left c.self.invariant c.if-self-eq0.false in
-    (h.0, sym (links_with_bodies i.nodes.now.cells i.contents.run i.first.ptr) ∙ h.1)
+    let i = c.self.inside in let h = IsAt-first (with_bodies i.nodes.now.cells i.contents.run) i.first.ptr i.last.ptr i.left c.self.invariant c.if-self-eq0.false in
+    (h.0, sym (links_at-with_bodies i.nodes.now.cells i.contents.run i.first.ptr) ∙ h.1)
 
 pub take-key-requires : goal.take-key-requires
 take-key-requires g c =
-    let i = c.self.inside in let h = first_holds (with_bodies i.nodes.now.cells i.contents.run) i.first.ptr i.last.ptr i.left c.self.invariant c.if-self-eq0.false in
-    (h.0, sym (body_with_bodies i.nodes.now.cells i.contents.run i.first.ptr _ c.links-links.ensures) ∙ h.1)
+    let i = c.self.inside in let h = Holds-first (with_bodies i.nodes.now.cells i.contents.run) i.first.ptr i.last.ptr i.left c.self.invariant c.if-self-eq0.false in
+    (h.0, sym (body_at-with_bodies i.nodes.now.cells i.contents.run i.first.ptr _ c.links-links.ensures) ∙ h.1)
 
 pub invariant_of-self : goal.invariant_of-self
 invariant_of-self g c =
     let i = c.self.inside in let p = i.first.ptr in
-    let left = ap (with_bodies i.nodes.now.cells) c.take-key.ensures.run ∙ with_bodies_without p i.contents.run i.nodes.now.cells i.nodes.now.apart in
-    let e = links_with_bodies i.nodes.now.cells i.contents.run p ∙ c.links-links.ensures in
-    subst (λ zs. IsSpan zs c.address-self-inside.result.ptr i.last.ptr (i.left - 1)) (sym left) (rest_of_first (with_bodies i.nodes.now.cells i.contents.run) i.first.ptr i.last.ptr i.left c.self.invariant c.if-self-eq0.false _ e _ c.address-self-inside.ensures)
+    let left = ap (with_bodies i.nodes.now.cells) c.take-key.ensures.run ∙ with_bodies-without_body p i.contents.run i.nodes.now.cells i.nodes.now.apart in
+    let e = links_at-with_bodies i.nodes.now.cells i.contents.run p ∙ c.links-links.ensures in
+    subst (λ zs. IsSpan zs c.address-self-inside.result.ptr i.last.ptr (i.left - 1)) (sym left) (IsSpan-rest_of_first (with_bodies i.nodes.now.cells i.contents.run) i.first.ptr i.last.ptr i.left c.self.invariant c.if-self-eq0.false _ e _ c.address-self-inside.ensures)
 
 pub returns : goal.returns
 returns g c =
     let i = c.self.inside in let p = i.first.ptr in
-    let left = ap (with_bodies i.nodes.now.cells) c.take-key.ensures.run ∙ with_bodies_without p i.contents.run i.nodes.now.cells i.nodes.now.apart in
-    let e = links_with_bodies i.nodes.now.cells i.contents.run p ∙ c.links-links.ensures in
-    let b = body_with_bodies i.nodes.now.cells i.contents.run p _ c.links-links.ensures ∙ c.take-key.ensures.body in
-    sym c.self.view_is ∙ first_out (with_bodies i.nodes.now.cells i.contents.run) i.first.ptr i.last.ptr i.left c.self.invariant c.if-self-eq0.false _ e _ c.address-self-inside.ensures _ b ∙ ap (λ zs. (c.links-links.result.now.hash, c.take-key.result) ∷ span_triples zs (i.left - 1) c.address-self-inside.result.ptr) (sym left)
+    let left = ap (with_bodies i.nodes.now.cells) c.take-key.ensures.run ∙ with_bodies-without_body p i.contents.run i.nodes.now.cells i.nodes.now.apart in
+    let e = links_at-with_bodies i.nodes.now.cells i.contents.run p ∙ c.links-links.ensures in
+    let b = body_at-with_bodies i.nodes.now.cells i.contents.run p _ c.links-links.ensures ∙ c.take-key.ensures.body in
+    sym c.self.view_is ∙ span_triples-first (with_bodies i.nodes.now.cells i.contents.run) i.first.ptr i.last.ptr i.left c.self.invariant c.if-self-eq0.false _ e _ c.address-self-inside.ensures _ b ∙ ap (λ zs. (c.links-links.result.now.hash, c.take-key.result) ∷ span_triples zs (i.left - 1) c.address-self-inside.result.ptr) (sym left)

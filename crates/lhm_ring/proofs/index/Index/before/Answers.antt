@@ -1,44 +1,44 @@
 use Rattle.std.proofs.Common.{arith, ap, sym, ◌∙◌}
 use Rattle.std.specs.Prelude.{is_some}
 use Rattle.lhm_ring.specs.Positions.{pointer_of, pointer_of_some}
-use Rattle.lhm_ring.proofs.NodeBefore.{head_there, towards_start, towards_held, towards_below, towards_next, towards_end, towards_mended, towards_cut_held, same_state}
+use Rattle.lhm_ring.proofs.NodeBefore.{get_or-head, IsTowards-start, IsHeld-towards, passed-below, IsTowards-next, IsOnChain-towards, nodes-mended, IsHeld-towards_cut, State-equal}
 use Rattle.lhm_ring.proofs.index.Index.before.Goals as goal
 
 pub first-here-requires : goal.first-here-requires
-first-here-requires g c = let h = head_there c.requires.indexed c.requires.held c.requires.hash in ap is_some h.1
+first-here-requires g c = let h = get_or-head c.requires.indexed c.requires.held c.requires.hash in ap is_some h.1
 
 pub chain-init : goal.chain-init
 chain-init g c = record {
-  towards = towards_start c.set_link.new.self.held (pointer_of_some c.link-link.result) (pointer_of c.first-here.result) c.requires.indexed c.requires.held c.requires.hash c.link-link.ensures.link c.set_link.ensures.held (sym c.first-here.ensures);
+  towards = IsTowards-start c.set_link.new.self.held (pointer_of_some c.link-link.result) (pointer_of c.first-here.result) c.requires.indexed c.requires.held c.requires.hash c.link-link.ensures.link c.set_link.ensures.held (sym c.first-here.ensures);
   spares = c.set_link.ensures.spares;
   nodes = c.set_link.ensures.nodes;
 }
 
 pub link-requires : goal.link-requires
-link-requires g c = towards_held c.chain.invariant.towards
+link-requires g c = IsHeld-towards c.chain.invariant.towards
 
 pub overflow_add-passed : goal.overflow_add-passed
-overflow_add-passed g c = omega (arith, towards_below c.chain.invariant.towards, c.requires.small)
+overflow_add-passed g c = omega (arith, passed-below c.chain.invariant.towards, c.requires.small)
 
 pub chain-smaller : goal.chain-smaller
-chain-smaller g c = omega (arith, towards_below c.chain.invariant.towards)
+chain-smaller g c = omega (arith, passed-below c.chain.invariant.towards)
 
 pub chain-preserved : goal.chain-preserved
 chain-preserved g c = record {
-  towards = towards_next (pointer_of_some c.link.result) (pointer_of c.in-Some.next) c.chain.invariant.towards c.link.ensures.link (ap pointer_of_some c.in-Some.is);
+  towards = IsTowards-next (pointer_of_some c.link.result) (pointer_of c.in-Some.next) c.chain.invariant.towards c.link.ensures.link (ap pointer_of_some c.in-Some.is);
   spares = c.chain.invariant.spares;
   nodes = c.chain.invariant.nodes;
 }
 
 pub set_link-requires-2 : goal.set_link-requires-2
-set_link-requires-2 g c = towards_cut_held c.chain.invariant.towards
+set_link-requires-2 g c = IsHeld-towards_cut c.chain.invariant.towards
 
 pub returns-clause-on_chain : goal.returns-clause-on_chain
-returns-clause-on_chain g c = towards_end (pointer_of_some c.link.result) c.chain.invariant.towards c.link.ensures.link (ap pointer_of_some c.in_default.is)
+returns-clause-on_chain g c = IsOnChain-towards (pointer_of_some c.link.result) c.chain.invariant.towards c.link.ensures.link (ap pointer_of_some c.in_default.is)
 
 pub returns-clause-ring : goal.returns-clause-ring
 returns-clause-ring g c =
-    same_state c.set_link-2.new.self c.args.ring.now
-    (towards_mended c.set_link-2.new.self.held c.chain.invariant.towards c.set_link-2.ensures.held)
+    State-equal c.set_link-2.new.self c.args.ring.now
+    (nodes-mended c.set_link-2.new.self.held c.chain.invariant.towards c.set_link-2.ensures.held)
     (c.set_link-2.ensures.spares ∙ c.chain.invariant.spares)
     (c.set_link-2.ensures.nodes ∙ c.chain.invariant.nodes)

@@ -1,12 +1,12 @@
 use Rattle.std.proofs.Common.{[], ap, sym, ◌∙◌}
 use Rattle.lhm_ring.specs.Positions.{pointer_of, pointer_of_some}
-use Rattle.lhm_ring.proofs.Ends.{last_node, last_held, triples-last}
+use Rattle.lhm_ring.proofs.Ends.{Last-last_at, last_held, triples-last}
 use Rattle.lhm_ring.proofs.into_iter.IntoIter.take_last.Goals as goal
 
 pub unlink-requires : goal.unlink-requires
-unlink-requires g c = last_held (last_node c.self.inside.ring.held (pointer_of_some c.last.result) (pointer_of c.in_ok-at.at) c.last.ensures.last (ap pointer_of_some c.in_ok-at.was))
+unlink-requires g c = last_held (Last-last_at c.self.inside.ring.held (pointer_of_some c.last.result) (pointer_of c.in_ok-at.at) c.last.ensures.last (ap pointer_of_some c.in_ok-at.was))
 
 pub returns : goal.returns
 returns g c =
-    let n = last_node c.self.inside.ring.held (pointer_of_some c.last.result) (pointer_of c.in_ok-at.at) c.last.ensures.last (ap pointer_of_some c.in_ok-at.was) in
+    let n = Last-last_at c.self.inside.ring.held (pointer_of_some c.last.result) (pointer_of c.in_ok-at.at) c.last.ensures.last (ap pointer_of_some c.in_ok-at.was) in
     sym c.self.view_is ∙ triples-last n c.unlink.new.self.held c.unlink.result (c.unlink.ensures.others n.before n.node [] n.is n.at_is) (c.unlink.ensures.triple n.before n.node [] n.is n.at_is)

@@ -1,24 +1,24 @@
 use Rattle.std.proofs.Common.{◌∙◌, ap, sym}
 use Rattle.lhm_ring.specs.Rings.{listed, pointers_from}
-use Rattle.lhm_ring.proofs.IteratorSteps.{read_both}
-use Rattle.lhm_ring.proofs.Spans.{none_left, last_there, last_holds, ahead_of_last, last_shown}
+use Rattle.lhm_ring.proofs.IteratorSteps.{Some-both}
+use Rattle.lhm_ring.proofs.Spans.{listed-none, IsAt-last, Holds-last, IsSpan-ahead_of_last, listed-last}
 use Rattle.lhm_ring.proofs.iter.Iter.step_back.Goals as goal
 
 pub returns-then-self-eq0 : goal.returns-then-self-eq0
 returns-then-self-eq0 g c =
     let i = c.self.inside in let cs = i.nodes.now.cells in
-    let e = sym c.self.view_is ∙ ap (λ k. listed cs (pointers_from cs k i.first.ptr)) c.if-self-eq0.true ∙ none_left cs i.first.ptr in (e, e)
+    let e = sym c.self.view_is ∙ ap (λ k. listed cs (pointers_from cs k i.first.ptr)) c.if-self-eq0.true ∙ listed-none cs i.first.ptr in (e, e)
 
 pub links-links-requires : goal.links-links-requires
-links-links-requires g c = let i = c.self.inside in last_there i.nodes.now.cells i.first.ptr i.last.ptr i.left c.self.invariant c.if-self-eq0.false
+links-links-requires g c = let i = c.self.inside in IsAt-last i.nodes.now.cells i.first.ptr i.last.ptr i.left c.self.invariant c.if-self-eq0.false
 
 pub key-requires : goal.key-requires
-key-requires g c = let i = c.self.inside in last_holds i.nodes.now.cells i.first.ptr i.last.ptr i.left c.self.invariant c.if-self-eq0.false
+key-requires g c = let i = c.self.inside in Holds-last i.nodes.now.cells i.first.ptr i.last.ptr i.left c.self.invariant c.if-self-eq0.false
 
 pub invariant_of-self : goal.invariant_of-self
-invariant_of-self g c = let i = c.self.inside in ahead_of_last i.nodes.now.cells i.first.ptr i.last.ptr i.left c.self.invariant c.if-self-eq0.false _ c.links-links.ensures _ c.address-self-inside.ensures
+invariant_of-self g c = let i = c.self.inside in IsSpan-ahead_of_last i.nodes.now.cells i.first.ptr i.last.ptr i.left c.self.invariant c.if-self-eq0.false _ c.links-links.ensures _ c.address-self-inside.ensures
 
 pub returns : goal.returns
 returns g c =
     let i = c.self.inside in let k = c.key.ensures in let v = c.value.ensures in
-    (_, sym c.self.view_is ∙ last_shown i.nodes.now.cells i.first.ptr i.last.ptr i.left c.self.invariant c.if-self-eq0.false _ c.links-links.ensures _ c.address-self-inside.ensures _ (read_both _ c.key.result.now v.0 k.0 c.value.result.now k.1 v.1))
+    (_, sym c.self.view_is ∙ listed-last i.nodes.now.cells i.first.ptr i.last.ptr i.left c.self.invariant c.if-self-eq0.false _ c.links-links.ensures _ c.address-self-inside.ensures _ (Some-both _ c.key.result.now v.0 k.0 c.value.result.now k.1 v.1))

@@ -32,11 +32,11 @@ use Rattle.std.proofs.raw_atomic.Walks.{proved_at, leaves}
 use Rattle.lhm_ring.specs.Cells.{cell, is_block, pointers}
 use Rattle.lhm_ring.specs.Chunks.{row, places}
 use Rattle.lhm_ring.specs.Ownership.{links_of, fields_own, node_bytes}
-use Rattle.lhm_ring.proofs.Apart.{IsFresh, apart_with}
+use Rattle.lhm_ring.proofs.Apart.{IsFresh, IsApart-added}
 use Rattle.lhm_ring.proofs.BlockValues.{pointer_made, knows, fresh}
 use Rattle.lhm_ring.proofs.Blocks.{written, block, Rejoins, block_cut}
-use Rattle.lhm_ring.proofs.Memory.{Three, args, RL, RK, RV, lo, Nr, Pl, Land, Cells, pointer_told, alone, value_in}
-use Rattle.lhm_ring.proofs.Places.{row-last, row_first_block, row_last_block, row_other_blocks, laid_next, in_block}
+use Rattle.lhm_ring.proofs.Memory.{Three, args, RL, RK, RV, lo, Nr, Pl, Land, Cells, word-pointer, alone, value_in}
+use Rattle.lhm_ring.proofs.Places.{row-last, is_block-row_first, is_block-row_last, AreBlocks-row_other, row-next, block_ptr-in_block}
 use Rattle.lhm_ring.proofs.Rooms.{land_cut, land_glue, Places, places_cut}
 use Rattle.lhm_ring.specs.contracts.nodes.Nodes.add.{ended, clauses}
 use Rattle.lhm_ring.specs.contracts.nodes.Nodes.add.Key.{name as #self}
@@ -60,10 +60,10 @@ add_spec 𝓤 𝓛 𝓜 𝓡 wired L K V LL LK LV =
     keep ! (4 ∷ 0 ∷ []) $ heard ! Asked (λ asked. split ! $ split ! $ move ! (2 ∷ []) $ fsplit3 ! $ fsplit3 ! $ move ! (4 ∷ []) $ fsplit3 ! $ keep ! (4 ∷ 5 ∷ 7 ∷ 1 ∷ 8 ∷ []) $
     rewrite ! 3 (λ (ws : List Val). ‵ (R.own_val new ws)) got.1.0 refl $
     let us : List Val = vptr rb ro ∷ word p ∷ vint w64 n ∷ v ∷ [] in let Run : List Val → SProp 𝓤 = λ ws. WpFn 𝓤 H 𝓣.C 𝓣.Λ fn ws Post in
-    suffices ! (Run us) (subst (λ (ws : List Val). ent 𝓤 (Run us) (Run ws)) (sym (λ i. are.0.0 i ++ (pointer_told a.1.0 vss.1.0 are.1.0 i ++ (are.1.1.0.0 i ++ (got.1.0 i ++ []))))) (id⊢ 𝓤 (Run us))) $
+    suffices ! (Run us) (subst (λ (ws : List Val). ent 𝓤 (Run us) (Run ws)) (sym (λ i. are.0.0 i ++ (word-pointer a.1.0 vss.1.0 are.1.0 i ++ (are.1.1.0.0 i ++ (got.1.0 i ++ []))))) (id⊢ 𝓤 (Run us))) $
     enter ! 𝓣.C 𝓣.Λ fn us Post $ alloc_all ! (λ l. pass_all ! refl ((tt, tt), (word-Good [] p, ((tt, record { fits = are.1.1.0.1 }), (got.1.1, tt)))) $ let Ev = env fn.locals l in
     let left : List Ptr = row p s n in let last : Ptr = p +ₚ (n * s) in let given : h.unused ≡ row p s (n + 1) = asked.1.1 in
-    let at : (at : ℕ × ℕ) × (p ≡ block_ptr at.0 at.1) = in_block p (row_first_block p s n h.unused given h.unused_blocks) in let pb : ℕ = at.0.0 in let po : ℕ = at.0.1 in
+    let at : (at : ℕ × ℕ) × (p ≡ block_ptr at.0 at.1) = block_ptr-in_block p (is_block-row_first p s n h.unused given h.unused_blocks) in let pb : ℕ = at.0.0 in let po : ℕ = at.0.1 in
     opens ! tt N {h = h} rb ro (λ vs. move ! (1 ∷ []) $ fsplit ! $ move ! (1 ∷ []) $
     use1 𝓛 (‵ (Land E h) ⊛ ‵ (Cells E ftrue h.cells)) (land_cut 𝓛 E (Land E h) h.cells) $ split ! $ fsplit ! $ feq_l ! (λ sized. fsplit ! $
     -- [the unused places; the chunks; the nodes; the marker; its cell; the open borrow, in three;
@@ -71,7 +71,7 @@ add_spec 𝓤 𝓛 𝓜 𝓡 wired L K V LL LK LV =
     rewrite ! 0 (λ (ps : List Ptr). ‵ (Places 𝓛 E ps)) (given ∙ row-last p s n) refl $ use1 𝓛 (‵ (Places 𝓛 E left) ⊛ ‵ (Places 𝓛 E (last ∷ []))) (places_cut 𝓛 E left (last ∷ [])) $ split ! $ move ! (1 ∷ []) $ fsplit ! $ move ! (1 ∷ []) $ drop ! $
     let size_is : size (written E) ≡ s = sym (size-raw (written E)) ∙ sym sized in let no : ℕ = n * size (written E) + po in let q : Ptr = block_ptr pb no in
     let here : last ≡ q = ap (λ (r : Ptr). r +ₚ (n * s)) at.1 ∙ ap (λ (k : ℕ). block_ptr pb (po + n * k)) (sym size_is) ∙ ap (λ (k : ℕ). block_ptr pb k) (omega arith) in
-    let near_q : is_block q ≡ true = ap is_block (sym here) ∙ row_last_block p s n h.unused given h.unused_blocks in
+    let near_q : is_block q ≡ true = ap is_block (sym here) ∙ is_block-row_last p s n h.unused given h.unused_blocks in
     let low : no < 2 ^ 63 = ltb→lt no (2 ^ 63) (subst T (sym near_q) tt) in
     rewrite ! 0 (λ (r : Ptr). ‵ (room_for (block E) r)) here refl $
     use1 𝓛 (‵ (fields_own R S W q) ⊛ ‵ (Rejoins E q)) (block_cut E 𝓛 pb no) $ split ! $ fsplit ! $ move ! (0 ∷ 5 ∷ []) $
@@ -92,13 +92,13 @@ add_spec 𝓤 𝓛 𝓜 𝓡 wired L K V LL LK LV =
     let h' : N.Denot = record {
       marker = h.marker;
       cells = cell q new None ∷ h.cells;
-      apart = apart_with q (pointers h.cells) free h.apart;
+      apart = IsApart-added q (pointers h.cells) free h.apart;
       blocks = (near_q, h.blocks);
       node_bytes = s;
       unused = left;
       chunks = h.chunks;
-      unused_blocks = row_other_blocks p s n h.unused given h.unused_blocks;
-      laid = subst (λ (r : Ptr). left ++ r ∷ pointers h.cells ≡ places s h.chunks) here (laid_next p s n h.unused (pointers h.cells) (places s h.chunks) given h.laid);
+      unused_blocks = AreBlocks-row_other p s n h.unused given h.unused_blocks;
+      laid = subst (λ (r : Ptr). left ++ r ∷ pointers h.cells ≡ places s h.chunks) here (row-next p s n h.unused (pointers h.cells) (places s h.chunks) given h.laid);
     } in
     move ! (1 ∷ 2 ∷ []) $ fjoin ! $ feq_i ! ℕ s (node_bytes R S W) sized $ fjoin ! $ use2 𝓛 (‵ (Cells E (Land E h') h'.cells)) (land_glue 𝓛 E (Land E h') h'.cells) $
     move ! (1 ∷ 0 ∷ []) $ fjoin ! $ move ! (1 ∷ 0 ∷ []) $ closes ! tt N h' vs rb ro $

@@ -28,7 +28,7 @@ use Rattle.lhm_ring.specs.Ownership.{node_bytes}
 use Rattle.lhm_ring.proofs.BlockValues.{block_val, block_Good, BlockType, block_known, pointer_made, knows}
 use Rattle.lhm_ring.proofs.Blocks.{written, block}
 use Rattle.lhm_ring.proofs.Memory.{Three, args, RL, RK, RV, Nr, Pl, Land, Cells}
-use Rattle.lhm_ring.proofs.Places.{row_blocks, laid_more, near}
+use Rattle.lhm_ring.proofs.Places.{AreBlocks-row, row-more, nat_lt-near}
 use Rattle.lhm_ring.proofs.Rooms.{land_cut, land_glue, Places, Chunks, places_glue, chunks_glue, rooms_cut}
 use Rattle.std.proofs.alloc.Calls.{Goes-blank}
 use Rattle.std.specs.contracts.alloc.Global as heap
@@ -38,7 +38,7 @@ use Rattle.lhm_ring.specs.contracts.block.Node as N-type
 use Rattle.lhm_ring.specs.Ownership.{chunk_token}
 use Rattle.std.proofs.GlobalToken.{dealloc_token_start}
 use Rattle.std.proofs.ptr.Rows.{one_below}
-use Rattle.lhm_ring.proofs.Rows.{all_both}
+use Rattle.lhm_ring.proofs.Rows.{AllByRecursion-append}
 use Rattle.lhm_ring.specs.contracts.nodes.Nodes.add_chunk.{ended, clauses}
 use Rattle.lhm_ring.specs.contracts.nodes.Nodes.add_chunk.Key.{name as #self}
 use Rattle.lhm_ring.proofs.nodes.Nodes.add_chunk.Statement.{statement}
@@ -75,7 +75,7 @@ add_chunk_spec 𝓤 𝓛 𝓜 𝓡 wired L K V LL LK LV =
     -- the new places; the token of the chunk; the other tokens]
     let fits : n * node_bytes R S W < 2 ^ 63 = subst (λ (k : ℕ). n * k < 2 ^ 63) (sym (size-raw (written E))) fit in
     let low : s < 2 ^ 63 = subst (λ (k : ℕ). k < 2 ^ 63) (sym sized) (one_below n (node_bytes R S W) (2 ^ 63) some fits) in
-    let new : List Ptr = row p s n in let us' : List Ptr = new ++ h.unused in let near_p : is_block p ≡ true = near o (subst (λ (k : ℕ). k < 2 ^ 63) (sym starts) (omega arith)) in
+    let new : List Ptr = row p s n in let us' : List Ptr = new ++ h.unused in let near_p : is_block p ≡ true = nat_lt-near o (subst (λ (k : ℕ). k < 2 ^ 63) (sym starts) (omega arith)) in
     move ! (8 ∷ 0 ∷ []) $ rewrite ! 0 (λ (k : ℕ). ‵ (Places 𝓛 E (row p k n))) (sym sized) refl $ use2 𝓛 (‵ (Places 𝓛 E us')) (places_glue 𝓛 E new h.unused) $
     move ! (8 ∷ 1 ∷ []) $ feq_i ! Bool (is_block p) true near_p $ fjoin ! $ flt_i ! (n * node_bytes R S W) (2 ^ 63) fits $ fjoin ! $
     use2 𝓛 (‵ (Chunks 𝓛 E (h.chunks ++ (p, n) ∷ []))) (chunks_glue 𝓛 E h.chunks (p, n)) $ move ! (1 ∷ 0 ∷ []) $ fjoin ! $ feq_i ! ℕ s (node_bytes R S W) sized $ fjoin ! $
@@ -87,8 +87,8 @@ add_chunk_spec 𝓤 𝓛 𝓜 𝓡 wired L K V LL LK LV =
       node_bytes = s;
       unused = us';
       chunks = h.chunks ++ (p, n) ∷ [];
-      unused_blocks = all_both (λ q. is_block q ≡ true) new h.unused (row_blocks b o s n (subst (λ (k : ℕ). o + n * k < 2 ^ 63) (sym sized) (subst (λ (k : ℕ). k + n * node_bytes R S W < 2 ^ 63) (sym starts) (omega (arith, fits))))) h.unused_blocks;
-      laid = laid_more p s n h.unused (pointers h.cells) h.chunks h.laid;
+      unused_blocks = AllByRecursion-append (λ q. is_block q ≡ true) new h.unused (AreBlocks-row b o s n (subst (λ (k : ℕ). o + n * k < 2 ^ 63) (sym sized) (subst (λ (k : ℕ). k + n * node_bytes R S W < 2 ^ 63) (sym starts) (omega (arith, fits))))) h.unused_blocks;
+      laid = row-more p s n h.unused (pointers h.cells) h.chunks h.laid;
     } in
     use2 𝓛 (‵ (Cells E (Land E h') h.cells)) (land_glue 𝓛 E (Land E h') h.cells) $
     move ! (1 ∷ 0 ∷ []) $ fjoin ! $ move ! (1 ∷ 0 ∷ []) $ closes ! tt N h' vs rb ro $

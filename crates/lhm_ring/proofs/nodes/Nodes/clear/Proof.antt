@@ -20,10 +20,10 @@ use Rattle.std.proofs.raw_atomic.Walks.{proved_at, leaves}
 use Rattle.lhm_ring.specs.Cells.{is_block, pointers, AreBlocks}
 use Rattle.lhm_ring.specs.Chunks.{places}
 use Rattle.lhm_ring.specs.Ownership.{node_bytes}
-use Rattle.lhm_ring.proofs.Apart.{apart_none}
+use Rattle.lhm_ring.proofs.Apart.{IsApart-none}
 use Rattle.lhm_ring.proofs.Memory.{Three, args, RL, RK, RV, Nr, Land, Cells}
 use Rattle.lhm_ring.proofs.Rooms.{land_cut, Places, places_glue, cells_emptied}
-use Rattle.lhm_ring.proofs.Rows.{all_both}
+use Rattle.lhm_ring.proofs.Rows.{AllByRecursion-append}
 use Rattle.lhm_ring.specs.contracts.nodes.Nodes.clear.{ended, clauses}
 use Rattle.lhm_ring.specs.contracts.nodes.Nodes.clear.Key.{name as #self}
 use Rattle.lhm_ring.proofs.nodes.Nodes.clear.Statement.{statement}
@@ -55,12 +55,12 @@ clear_spec 𝓤 𝓛 𝓜 𝓡 wired L K V LL LK LV =
     let h' : N.Denot = record {
       marker = h.marker;
       cells = [];
-      apart = apart_none;
+      apart = IsApart-none;
       blocks = tt;
       node_bytes = s;
       unused = all;
       chunks = h.chunks;
-      unused_blocks = subst AreBlocks h.laid (all_both (λ q. is_block q ≡ true) h.unused (pointers h.cells) h.unused_blocks h.blocks);
+      unused_blocks = subst AreBlocks h.laid (AllByRecursion-append (λ q. is_block q ≡ true) h.unused (pointers h.cells) h.unused_blocks h.blocks);
       laid = append-nil all;
     } in
     move ! (1 ∷ 0 ∷ []) $ fjoin ! $ move ! (1 ∷ 0 ∷ []) $ closes ! tt N h' vs rb ro $ sets ! (of_opd ! (unit_lit !)) refl (tt, tt) $

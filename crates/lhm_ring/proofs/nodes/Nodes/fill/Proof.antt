@@ -27,8 +27,8 @@ use Rattle.std.proofs.raw_atomic.Walks.{proved_at, leaves}
 use Rattle.lhm_ring.specs.Chunks.{places}
 use Rattle.lhm_ring.specs.Cells.{cell, IsApart, AreBlocks, IsAt, change, with_body, pointers-change}
 use Rattle.lhm_ring.specs.Ownership.{links_of, body_owns}
-use Rattle.lhm_ring.proofs.Lookup.{Cut, cut}
-use Rattle.lhm_ring.proofs.Memory.{Three, args, RL, RK, RV, ko, vo, Node, Nr, Pl, One, Land, Cells, pointer_told, alone, body_uninit, cells_cut, cells_glue, value_in}
+use Rattle.lhm_ring.proofs.Lookup.{Cut, Cut-links_at}
+use Rattle.lhm_ring.proofs.Memory.{Three, args, RL, RK, RV, ko, vo, Node, Nr, Pl, One, Land, Cells, word-pointer, alone, body_uninit, cells_cut, cells_glue, value_in}
 use Rattle.lhm_ring.specs.contracts.nodes.Nodes.fill.{ended, clauses}
 use Rattle.lhm_ring.specs.contracts.nodes.Nodes.fill.Key.{name as #self}
 use Rattle.lhm_ring.proofs.nodes.Nodes.fill.Statement.{statement}
@@ -51,9 +51,9 @@ fill_spec 𝓤 𝓛 𝓜 𝓡 wired L K V LL LK LV =
     keep ! (4 ∷ 0 ∷ []) $ heard ! Asked (λ asked. split ! $ split ! $ move ! (2 ∷ []) $ fsplit3 ! $ fsplit3 ! $ move ! (4 ∷ []) $ fsplit3 ! $ keep ! (4 ∷ 5 ∷ 7 ∷ 0 ∷ 1 ∷ 8 ∷ []) $
     rewrite ! 3 (λ (ws : List Val). ‵ (S.own_val new ws)) got.1.0 refl $ rewrite ! 4 (λ (ws : List Val). ‵ (W.own_val val ws)) had.1.0 refl $
     let us : List Val = vptr rb ro ∷ word p ∷ v ∷ w ∷ [] in let Run : List Val → SProp 𝓤 = λ ws. WpFn 𝓤 H 𝓣.C 𝓣.Λ fn ws Post in
-    suffices ! (Run us) (subst (λ (ws : List Val). ent 𝓤 (Run us) (Run ws)) (sym (λ i. are.0.0 i ++ (pointer_told a.1.0 vss.1.0 are.1.0 i ++ (got.1.0 i ++ (had.1.0 i ++ []))))) (id⊢ 𝓤 (Run us))) $
+    suffices ! (Run us) (subst (λ (ws : List Val). ent 𝓤 (Run us) (Run ws)) (sym (λ i. are.0.0 i ++ (word-pointer a.1.0 vss.1.0 are.1.0 i ++ (got.1.0 i ++ (had.1.0 i ++ []))))) (id⊢ 𝓤 (Run us))) $
     enter ! 𝓣.C 𝓣.Λ fn us Post $ alloc_all ! (λ l. pass_all ! refl ((tt, tt), (word-Good [] p, (got.1.1, (had.1.1, tt)))) $ let Ev = env fn.locals l in
-    let k : Cut h.cells p = cut h.cells p asked.0 asked.1 in let f : Node E = k.split.node in let f' : Node E = cell f.at f.links (Some (new, val)) in
+    let k : Cut h.cells p = Cut-links_at h.cells p asked.0 asked.1 in let f : Node E = k.split.node in let f' : Node E = cell f.at f.links (Some (new, val)) in
     opens ! tt N {h = h} rb ro (λ vs. move ! (1 ∷ []) $ fsplit ! $ rewrite ! 1 (λ (cs : List (Node E)). ‵ (Cells E (Land E h) cs)) k.split.is refl $ move ! (1 ∷ []) $
     use1 𝓛 (‵ (One E f) ⊛ ‵ (Cells E (Land E h) (k.split.before ++ k.split.after))) (cells_cut 𝓛 E (Land E h) k.split.before f k.split.after) $ split ! $ fsplit ! $
     in_a_block ! f.at (λ q. lies_at R full_share (links_of R S W q) f.links) (id⊢ 𝓤 (never 𝓤)) (λ pb po e.

@@ -36,7 +36,7 @@ use Rattle.lhm_ring.proofs.value_loan.Hole.TheLaws as H-laws
 use Rattle.lhm_ring.proofs.nodes.Nodes.TheLaws as N-laws
 use denote.Param.Laws.{param_laws}
 use Rattle.lhm_ring.proofs.Memory.{Three, args, RL, RK, RV, Nr, Land, marker}
-use Rattle.lhm_ring.proofs.ContentsSplitOff.{HS, HW, stems, cells_out, Fields, Held, fields_made, back, BareRow, Holed, bare_shares, ContentMarker, content_loan_made, Anchor, anchor_made, three_made}
+use Rattle.lhm_ring.proofs.ContentsSplitOff.{HS, HW, stems, cells_out, Fields, Held, fields_made, back, BareRow, Holed, Shares-bare, ContentMarker, content_loan_made, Anchor, anchor_made, three_made}
 use Rattle.lhm_ring.specs.contracts.nodes.Nodes.lend_bodies.{ended, clauses}
 use Rattle.lhm_ring.specs.contracts.nodes.Nodes.lend_bodies.Key.{name as #self}
 use Rattle.lhm_ring.proofs.nodes.Nodes.lend_bodies.Statement.{statement}
@@ -86,7 +86,7 @@ lend_bodies_spec 𝓤 𝓛 𝓜 𝓡 wired L K V LL LK LV =
     -- the other tokens]
     move ! (2 ∷ 4 ∷ []) $
     use2 𝓛 (later (‵ ((BareRow R S W).shr_at h rb ro κ) ⊛ ‵ (flft κ q)))
-    (bare_shares R S W 𝓛 (param_laws 0 L LL) (H-laws.the_row_laws S (param_laws 1 K LK)) (H-laws.the_row_laws W (param_laws 2 V LV)) h κ ((κ, q) ∷ []) rb ro
+    (Shares-bare R S W 𝓛 (param_laws 0 L LL) (H-laws.the_row_laws S (param_laws 1 K LK)) (H-laws.the_row_laws W (param_laws 2 V LV)) h κ ((κ, q) ∷ []) rb ro
     (N-laws.the_within R (HS R S W) (HW R S W) κ (Incl-trans bounds.0 inL) (H-laws.the_within S κ (Incl-trans bounds.1.0 inK)) (H-laws.the_within W κ (Incl-trans bounds.1.1.0 inV))) (Incl-refl κ)) $ await ! tt $ split ! $
     use1 𝓛 (‵ (Hr.shr_at h rb ro κ)) (id⊢ 𝓤 _) $ hide ! $ feq_i ! (List Val) (vptr rb ro ∷ []) (vptr rb ro ∷ []) refl $ fjoin ! $
     -- [the nodes, shared; the token; the loan of the contents; the anchor; nothing; what follows;

@@ -14,8 +14,8 @@ use denote.Steps.{nothing}
 use denote.Triple.Walked.{Stays, walk_of}
 use Rattle.std.proofs.raw_atomic.Walks.{proved_at, leaves}
 use Rattle.lhm_ring.specs.Ownership.{node_bytes}
-use Rattle.lhm_ring.proofs.Apart.{apart_none}
-use Rattle.lhm_ring.proofs.Places.{no_places}
+use Rattle.lhm_ring.proofs.Apart.{IsApart-none}
+use Rattle.lhm_ring.proofs.Places.{places-none}
 use Rattle.lhm_ring.proofs.Memory.{Three, args, RL, RK, RV, Nr, Marker, marker, marker_made}
 use Rattle.lhm_ring.specs.contracts.nodes.Nodes.new.{ended, clauses}
 use Rattle.lhm_ring.specs.contracts.nodes.Nodes.new.Key.{name as #self}
@@ -30,7 +30,7 @@ new_spec 𝓤 𝓛 𝓜 𝓡 wired L K V LL LK LV =
     proved_at 𝓛 En hs c 𝓜 𝓡 tt (#self (args E)) fn (code.unfolded 𝓤 H 𝓜 𝓡 wired (L, (K, (V, tt)))) (λ y are.
     let κs = y.0.0 in let qs = y.0.1 in let Post : Val → SProp 𝓤 = (walk_of 𝓛 En hs c).post y in
     let toks = ‵ (flft κs.0 qs.0) ⊛ ‵ (flft κs.1.0 qs.1.0) ⊛ ‵ (flft κs.1.1.0 qs.1.1.0) ⊛ ‵ ftrue in
-    let out : N.Denot = record { marker = record {}; cells = []; apart = apart_none; blocks = tt; node_bytes = node_bytes R S W; unused = []; chunks = []; unused_blocks = tt; laid = no_places (node_bytes R S W) } in
+    let out : N.Denot = record { marker = record {}; cells = []; apart = IsApart-none; blocks = tt; node_bytes = node_bytes R S W; unused = []; chunks = []; unused_blocks = tt; laid = places-none (node_bytes R S W) } in
     qed 𝓛 ((toks ⊛ ‵ ftrue) ∷ raw ((c κs y.0.3).requires y.1) ∷ []) ∵ split ! $ keep ! (0 ∷ []) $
     enter ! 𝓣.C 𝓣.Λ fn [] Post $ alloc_all ! (λ l. pass_all ! refl tt $
     sets ! (agg ! (no_more !)) refl (tt, tt) $ sets ! (agg ! (and_then ! (get ! refl) (no_more !))) refl (tt, (tt, tt)) $

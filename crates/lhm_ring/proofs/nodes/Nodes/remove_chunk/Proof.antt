@@ -27,17 +27,17 @@ use Rattle.std.proofs.raw_atomic.Walks.{proved_at, leaves}
 use Rattle.lhm_ring.specs.Cells.{is_block, pointers, AreBlocks}
 use Rattle.lhm_ring.specs.Chunks.{row, places}
 use Rattle.lhm_ring.specs.Ownership.{node_bytes}
-use Rattle.lhm_ring.proofs.Apart.{apart_none}
+use Rattle.lhm_ring.proofs.Apart.{IsApart-none}
 use Rattle.lhm_ring.proofs.BlockValues.{block_val, block_Good, BlockType, BlockFields, block_made}
 use Rattle.lhm_ring.proofs.Blocks.{written, block}
-use Rattle.lhm_ring.proofs.Memory.{Three, args, RL, RK, RV, Node, Nr, Pl, Land, Cells, pointer_told}
-use Rattle.lhm_ring.proofs.Places.{places_last, in_block}
+use Rattle.lhm_ring.proofs.Memory.{Three, args, RL, RK, RV, Node, Nr, Pl, Land, Cells, word-pointer}
+use Rattle.lhm_ring.proofs.Places.{places-last, block_ptr-in_block}
 use Rattle.lhm_ring.proofs.Rooms.{Places, Chunks, places_cut, chunks_cut, rooms_glue}
 use Rattle.std.specs.contracts.alloc.Global as heap
 use Rattle.std.specs.contracts.impls.GlobalAllocator.TheImpl.{ghosts}
 use Rattle.lhm_ring.specs.contracts.block.Node as N-type
 use Rattle.lhm_ring.specs.Ownership.{chunk_token, chunk_owns}
-use Rattle.lhm_ring.proofs.Rows.{all_right}
+use Rattle.lhm_ring.proofs.Rows.{AllByRecursion-right}
 use Rattle.lhm_ring.specs.contracts.nodes.Nodes.remove_chunk.{ended, clauses}
 use Rattle.lhm_ring.specs.contracts.nodes.Nodes.remove_chunk.Key.{name as #self}
 use Rattle.lhm_ring.proofs.nodes.Nodes.remove_chunk.Statement.{statement}
@@ -59,28 +59,28 @@ remove_chunk_spec 𝓤 𝓛 𝓜 𝓡 wired L K V LL LK LV =
     keep ! (4 ∷ 0 ∷ []) $ heard ! Asked (λ asked. split ! $ split ! $ move ! (2 ∷ []) $ fsplit ! $ fsplit3 ! $ keep ! (1 ∷ 2 ∷ 4 ∷ 5 ∷ []) $
     -- [self, in two; its token; the other tokens]
     let us : List Val = vptr rb ro ∷ word p ∷ vint w64 n ∷ [] in let Run : List Val → SProp 𝓤 = λ ws. WpFn 𝓤 H 𝓣.C 𝓣.Λ fn ws Post in
-    suffices ! (Run us) (subst (λ (ws : List Val). ent 𝓤 (Run us) (Run ws)) (sym (λ i. are.0.0 i ++ (pointer_told a.1.0 vss.1.0 are.1.0 i ++ (are.1.1.0.0 i ++ [])))) (id⊢ 𝓤 (Run us))) $
+    suffices ! (Run us) (subst (λ (ws : List Val). ent 𝓤 (Run us) (Run ws)) (sym (λ i. are.0.0 i ++ (word-pointer a.1.0 vss.1.0 are.1.0 i ++ (are.1.1.0.0 i ++ [])))) (id⊢ 𝓤 (Run us))) $
     enter ! 𝓣.C 𝓣.Λ fn us Post $ alloc_all ! (λ l. pass_all ! refl ((tt, tt), (word-Good [] p, ((tt, record { fits = are.1.1.0.1 }), tt))) $
     let cs : List (Ptr × ℕ) = asked.1.0 in let last : h.chunks ≡ cs ++ (p, n) ∷ [] = asked.1.1 in let new : List Ptr = row p s n in let rest : List Ptr = places s cs in
-    let cut : h.unused ≡ new ++ rest = sym (append-nil h.unused) ∙ ap (λ (ds : List (Node E)). h.unused ++ pointers ds) (sym asked.0) ∙ h.laid ∙ ap (places s) last ∙ places_last s cs (p, n) in
+    let cut : h.unused ≡ new ++ rest = sym (append-nil h.unused) ∙ ap (λ (ds : List (Node E)). h.unused ++ pointers ds) (sym asked.0) ∙ h.laid ∙ ap (places s) last ∙ places-last s cs (p, n) in
     opens ! tt N {h = h} rb ro (λ vs. move ! (1 ∷ []) $ fsplit ! $ move ! (1 ∷ []) $ rewrite ! 0 (λ (ds : List (Node E)). ‵ (Cells E (Land E h) ds)) asked.0 refl $ fsplit ! $ feq_l ! (λ sized. fsplit ! $
     -- [the unused places; the chunks; the marker; its cell; the open borrow, in three; the other
     -- tokens]
     rewrite ! 0 (λ (ps : List Ptr). ‵ (Places 𝓛 E ps)) cut refl $ use1 𝓛 (‵ (Places 𝓛 E new) ⊛ ‵ (Places 𝓛 E rest)) (places_cut 𝓛 E new rest) $ split ! $ move ! (2 ∷ []) $
     rewrite ! 0 (λ (ds : List (Ptr × ℕ)). ‵ (Chunks 𝓛 E ds)) last refl $ use1 𝓛 (‵ (chunk_owns R S W (p, n)) ⊛ ‵ (Chunks 𝓛 E cs)) (chunks_cut 𝓛 E cs (p, n)) $ split ! $ fsplit3 ! $ flt_l ! (λ fits. feq_l ! (λ near_p.
-    let e : (at : ℕ × ℕ) × (p ≡ block_ptr at.0 at.1) = in_block p near_p in let b : ℕ = e.0.0 in let o : ℕ = e.0.1 in let q : Ptr = block_ptr b o in
+    let e : (at : ℕ × ℕ) × (p ≡ block_ptr at.0 at.1) = block_ptr-in_block p near_p in let b : ℕ = e.0.0 in let o : ℕ = e.0.1 in let q : Ptr = block_ptr b o in
     -- [the token of the chunk; the other chunks; its places; the other places; the marker; its
     -- cell; the open borrow, in three; the other tokens]
     move ! (1 ∷ 3 ∷ []) $ move ! (1 ∷ 0 ∷ []) $ fjoin ! $ feq_i ! ℕ s (node_bytes R S W) sized $ fjoin ! $
     let h' : N.Denot = record {
       marker = h.marker;
       cells = [];
-      apart = apart_none;
+      apart = IsApart-none;
       blocks = tt;
       node_bytes = s;
       unused = rest;
       chunks = cs;
-      unused_blocks = all_right (λ r. is_block r ≡ true) new rest (subst AreBlocks cut h.unused_blocks);
+      unused_blocks = AllByRecursion-right (λ r. is_block r ≡ true) new rest (subst AreBlocks cut h.unused_blocks);
       laid = append-nil rest;
     } in
     -- [the land; the token of the chunk; its places; the marker; its cell; the open borrow, in

@@ -27,8 +27,8 @@ use Rattle.std.proofs.raw_atomic.Walks.{proved_at, leaves}
 use Rattle.lhm_ring.specs.Chunks.{places}
 use Rattle.lhm_ring.specs.Cells.{cell, IsApart, AreBlocks, IsAt, change, with_links, pointers-change}
 use Rattle.lhm_ring.specs.Ownership.{links_of}
-use Rattle.lhm_ring.proofs.Lookup.{Cut, cut}
-use Rattle.lhm_ring.proofs.Memory.{Three, args, RL, RK, RV, lo, Node, Nr, Pl, One, Land, Cells, pointer_told, alone, cells_cut, cells_glue, value_out, value_in}
+use Rattle.lhm_ring.proofs.Lookup.{Cut, Cut-links_at}
+use Rattle.lhm_ring.proofs.Memory.{Three, args, RL, RK, RV, lo, Node, Nr, Pl, One, Land, Cells, word-pointer, alone, cells_cut, cells_glue, value_out, value_in}
 use Rattle.lhm_ring.specs.contracts.nodes.Nodes.set_links.{ended, clauses}
 use Rattle.lhm_ring.specs.contracts.nodes.Nodes.set_links.Key.{name as #self}
 use Rattle.lhm_ring.proofs.nodes.Nodes.set_links.Statement.{statement}
@@ -50,9 +50,9 @@ set_links_spec 𝓤 𝓛 𝓜 𝓡 wired L K V LL LK LV =
     keep ! (4 ∷ 0 ∷ []) $ heard ! Asked (λ asked. split ! $ split ! $ move ! (2 ∷ []) $ fsplit3 ! $ fsplit3 ! $ move ! (4 ∷ []) $ fsplit ! $ keep ! (3 ∷ 4 ∷ 6 ∷ 0 ∷ 7 ∷ []) $
     rewrite ! 3 (λ (ws : List Val). ‵ (R.own_val new ws)) got.1.0 refl $
     let us : List Val = vptr rb ro ∷ word p ∷ v ∷ [] in let Run : List Val → SProp 𝓤 = λ ws. WpFn 𝓤 H 𝓣.C 𝓣.Λ fn ws Post in
-    suffices ! (Run us) (subst (λ (ws : List Val). ent 𝓤 (Run us) (Run ws)) (sym (λ i. are.0.0 i ++ (pointer_told a.1.0 vss.1.0 are.1.0 i ++ (got.1.0 i ++ [])))) (id⊢ 𝓤 (Run us))) $
+    suffices ! (Run us) (subst (λ (ws : List Val). ent 𝓤 (Run us) (Run ws)) (sym (λ i. are.0.0 i ++ (word-pointer a.1.0 vss.1.0 are.1.0 i ++ (got.1.0 i ++ [])))) (id⊢ 𝓤 (Run us))) $
     enter ! 𝓣.C 𝓣.Λ fn us Post $ alloc_all ! (λ l. pass_all ! refl ((tt, tt), (word-Good [] p, (got.1.1, tt))) $ let Ev = env fn.locals l in
-    let k : Cut h.cells p = cut h.cells p asked.0 asked.1 in let f : Node E = k.split.node in let f' : Node E = cell f.at new f.body in
+    let k : Cut h.cells p = Cut-links_at h.cells p asked.0 asked.1 in let f : Node E = k.split.node in let f' : Node E = cell f.at new f.body in
     opens ! tt N {h = h} rb ro (λ vs. move ! (1 ∷ []) $ fsplit ! $ rewrite ! 1 (λ (cs : List (Node E)). ‵ (Cells E (Land E h) cs)) k.split.is refl $ move ! (1 ∷ []) $
     use1 𝓛 (‵ (One E f) ⊛ ‵ (Cells E (Land E h) (k.split.before ++ k.split.after))) (cells_cut 𝓛 E (Land E h) k.split.before f k.split.after) $ split ! $ fsplit ! $
     in_a_block ! f.at (λ q. lies_at R full_share (links_of R S W q) f.links) (id⊢ 𝓤 (never 𝓤)) (λ pb po e.

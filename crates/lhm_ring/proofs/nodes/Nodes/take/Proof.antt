@@ -26,8 +26,8 @@ use Rattle.std.proofs.raw_atomic.Walks.{proved_at, leaves}
 use Rattle.lhm_ring.specs.Chunks.{places}
 use Rattle.lhm_ring.specs.Cells.{cell, IsApart, AreBlocks, Holds, change, body_at, with_body, pointers-change}
 use Rattle.lhm_ring.specs.Ownership.{links_of, body_owns}
-use Rattle.lhm_ring.proofs.Lookup.{Cut, cut_held, held_here}
-use Rattle.lhm_ring.proofs.Memory.{Three, args, RL, RK, RV, ko, vo, Node, Nr, Pl, One, Land, Cells, pointer_told, two_made, cells_cut, cells_glue, value_out}
+use Rattle.lhm_ring.proofs.Lookup.{Cut, Cut-held, held_here}
+use Rattle.lhm_ring.proofs.Memory.{Three, args, RL, RK, RV, ko, vo, Node, Nr, Pl, One, Land, Cells, word-pointer, two_made, cells_cut, cells_glue, value_out}
 use Rattle.std.proofs.RawLayout.{as_raw}
 use denote.Struct.Struct.{as_fields}
 use Rattle.lhm_ring.specs.contracts.nodes.Nodes.take.{ended, clauses}
@@ -49,9 +49,9 @@ take_spec 𝓤 𝓛 𝓜 𝓡 wired L K V LL LK LV =
     qed 𝓛 (((‵ (flft κs.0 qs.0) ⊛ ‵ others) ⊛ ‵ (owns (types_at En.signature.params κs) a vss)) ∷ raw (fact 𝓤 _) ∷ raw (fact 𝓤 _) ∷ raw (fact 𝓤 _) ∷ raw (fact 𝓤 Asked) ∷ []) ∵
     keep ! (4 ∷ 0 ∷ []) $ heard ! Asked (λ asked. split ! $ split ! $ move ! (2 ∷ []) $ fsplit ! $ fsplit3 ! $ keep ! (1 ∷ 2 ∷ 4 ∷ 5 ∷ []) $
     let us : List Val = vptr rb ro ∷ word p ∷ [] in let Run : List Val → SProp 𝓤 = λ ws. WpFn 𝓤 H 𝓣.C 𝓣.Λ fn ws Post in
-    suffices ! (Run us) (subst (λ (ws : List Val). ent 𝓤 (Run us) (Run ws)) (sym (λ i. are.0.0 i ++ (pointer_told a.1.0 vss.1.0 are.1.0 i ++ []))) (id⊢ 𝓤 (Run us))) $
+    suffices ! (Run us) (subst (λ (ws : List Val). ent 𝓤 (Run us) (Run ws)) (sym (λ i. are.0.0 i ++ (word-pointer a.1.0 vss.1.0 are.1.0 i ++ []))) (id⊢ 𝓤 (Run us))) $
     enter ! 𝓣.C 𝓣.Λ fn us Post $ alloc_all ! (λ l. pass_all ! refl ((tt, tt), (word-Good [] p, tt)) $ let Ev = env fn.locals l in
-    let x = asked.0 in let k : Cut h.cells p = cut_held h.cells p x asked.1 in let f : Node E = k.split.node in let f' : Node E = cell f.at f.links None in
+    let x = asked.0 in let k : Cut h.cells p = Cut-held h.cells p x asked.1 in let f : Node E = k.split.node in let f' : Node E = cell f.at f.links None in
     opens ! tt N {h = h} rb ro (λ vs. move ! (1 ∷ []) $ fsplit ! $ rewrite ! 1 (λ (cs : List (Node E)). ‵ (Cells E (Land E h) cs)) k.split.is refl $ move ! (1 ∷ []) $
     use1 𝓛 (‵ (One E f) ⊛ ‵ (Cells E (Land E h) (k.split.before ++ k.split.after))) (cells_cut 𝓛 E (Land E h) k.split.before f k.split.after) $ split ! $ fsplit ! $
     in_a_block ! f.at (λ q. lies_at R full_share (links_of R S W q) f.links) (id⊢ 𝓤 (never 𝓤)) (λ pb po e.

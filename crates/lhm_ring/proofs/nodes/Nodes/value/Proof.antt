@@ -28,8 +28,8 @@ use Rattle.std.proofs.RcSteps.{word, word-Good}
 use Rattle.std.proofs.raw_atomic.Walks.{proved_at, leaves}
 use Rattle.lhm_ring.specs.Cells.{Holds, IsValue, body_at}
 use Rattle.lhm_ring.specs.Ownership.{value_of, body_lent, cell_lent, cells_lent}
-use Rattle.lhm_ring.proofs.Lookup.{Cut, cut_held, held_here}
-use Rattle.lhm_ring.proofs.Memory.{Three, args, RL, RK, RV, vo, Node, Nr, Pl, pointer_told, cell_seen}
+use Rattle.lhm_ring.proofs.Lookup.{Cut, Cut-held, held_here}
+use Rattle.lhm_ring.proofs.Memory.{Three, args, RL, RK, RV, vo, Node, Nr, Pl, word-pointer, cell_seen}
 use Rattle.lhm_ring.specs.contracts.nodes.Nodes.value.{ended, clauses}
 use Rattle.lhm_ring.specs.contracts.nodes.Nodes.value.Key.{name as #self}
 use Rattle.lhm_ring.proofs.nodes.Nodes.value.Statement.{statement}
@@ -50,9 +50,9 @@ value_spec 𝓤 𝓛 𝓜 𝓡 wired L K V LL LK LV =
     qed 𝓛 (((‵ (flft κs.0 qs.0) ⊛ ‵ others) ⊛ ‵ (owns (types_at En.signature.params κs) a vss)) ∷ raw (fact 𝓤 _) ∷ raw (fact 𝓤 _) ∷ raw (fact 𝓤 _) ∷ raw (fact 𝓤 Asked) ∷ []) ∵
     keep ! (4 ∷ 0 ∷ []) $ heard ! Asked (λ asked. split ! $ split ! $ move ! (2 ∷ []) $ fsplit ! $ fsplit ! $ keep ! (1 ∷ 3 ∷ 4 ∷ []) $
     let us : List Val = vptr rb ro ∷ word p ∷ [] in let Run : List Val → SProp 𝓤 = λ ws. WpFn 𝓤 H 𝓣.C 𝓣.Λ fn ws Post in
-    suffices ! (Run us) (subst (λ (ws : List Val). ent 𝓤 (Run us) (Run ws)) (sym (λ i. are.0.0 i ++ (pointer_told a.1.0 vss.1.0 are.1.0 i ++ []))) (id⊢ 𝓤 (Run us))) $
+    suffices ! (Run us) (subst (λ (ws : List Val). ent 𝓤 (Run us) (Run ws)) (sym (λ i. are.0.0 i ++ (word-pointer a.1.0 vss.1.0 are.1.0 i ++ []))) (id⊢ 𝓤 (Run us))) $
     enter ! 𝓣.C 𝓣.Λ fn us Post $ alloc_all ! (λ l. pass_all ! refl ((tt, tt), (word-Good [] p, tt)) $ let Ev = env fn.locals l in
-    let x = asked.0 in let k : Cut h.cells p = cut_held h.cells p x asked.1 in let f : Node E = k.split.node in
+    let x = asked.0 in let k : Cut h.cells p = Cut-held h.cells p x asked.1 in let f : Node E = k.split.node in
     unhide ! $ fsplit ! $ drop ! $ rewrite ! 0 (λ (cs : List (Node E)). ‵ (cells_lent R S W cs κ)) k.split.is refl $
     use1 𝓛 (‵ (cell_lent R S W f κ)) (cell_seen 𝓛 E κ k.split.before f k.split.after) $ fsplit ! $ drop ! $ rewrite ! 0 (λ (z : Option (K.Denot × V.Denot)). ‵ (body_lent R S W f.at z κ)) (held_here k asked.1) refl $ fsplit ! $ drop ! $
     in_a_block ! f.at (λ q. lent_at W (value_of R S W q) x.1 κ) (fst∗ 𝓤 (never 𝓤) (sem 𝓛 (shared_of W x.1 0 0 κ))) (λ pb po e. fsplit ! $ drop ! $ hide ! $

@@ -4,59 +4,59 @@ use Rattle.lhm_ring.specs.Cells.{links_at, with_body}
 use Rattle.lhm_ring.specs.RingState.{Held, state, change_at}
 use Rattle.lhm_ring.specs.RingAfterLoan.{pair, revalued}
 use Rattle.lhm_ring.specs.Rings.{ring_cells, RingOk, ring_list}
-use Rattle.lhm_ring.proofs.ReadAtPosition.{content_at-held, read_held, read_links, read_pair, held_in}
-use Rattle.lhm_ring.proofs.OneNodeChanged.{links_kept}
-use Rattle.lhm_ring.proofs.ContentChange.{body_changes, ring_ok_same, ring_list_changed, changes_only}
-use Rattle.lhm_ring.proofs.RingCells.{holds_in, ring_links, ring_body, ring_with_body}
-use Rattle.lhm_ring.proofs.Retained.{body_twice}
-use Rattle.lhm_ring.proofs.Places.{still_laid}
+use Rattle.lhm_ring.proofs.ReadAtPosition.{content_at-held, Holds-held, links_at-held, pair-held, IsHeld-ring_list}
+use Rattle.lhm_ring.proofs.OneNodeChanged.{links_at-with_body}
+use Rattle.lhm_ring.proofs.ContentChange.{ChangesAt-with_body, RingOk-changed, ring_list-changed, ChangesOnly-held}
+use Rattle.lhm_ring.proofs.RingCells.{Holds-in_nodes, links_at-ring_cells, body_at-ring_cells, ring_cells-with_body}
+use Rattle.lhm_ring.proofs.Retained.{with_body-twice}
+use Rattle.lhm_ring.proofs.Places.{IsLaid-same}
 use Rattle.lhm_ring.proofs.ring.Ring.call_at.Goals as goal
 
 pub take-key-requires : goal.take-key-requires
 take-key-requires g c =
     let i = c.self.inside in let p = c.args.at.pointer.ptr in
-    holds_in i.ends i.nodes.cells p c.args.at.block (read_held (ring_cells i.ends i.nodes.cells) i.spare i.len i.spares _ c.self.invariant.ring c.self.view_is p c.requires.held)
+    Holds-in_nodes i.ends i.nodes.cells p c.args.at.block (Holds-held (ring_cells i.ends i.nodes.cells) i.spare i.len i.spares _ c.self.invariant.ring c.self.view_is p c.requires.held)
 
 pub call-kept-requires : goal.call-kept-requires
 call-kept-requires g c =
-    let i = c.self.inside in let h = c.requires.held in let p = c.args.at.pointer.ptr in let b = ring_body i.ends i.nodes.cells p c.args.at.block ∙ c.take-key.ensures.body in
-    let is = read_pair (ring_cells i.ends i.nodes.cells) i.spare i.len i.spares _ c.self.invariant.ring c.self.view_is p _ b h.before h.node h.after h.is h.at_is in
+    let i = c.self.inside in let h = c.requires.held in let p = c.args.at.pointer.ptr in let b = body_at-ring_cells i.ends i.nodes.cells p c.args.at.block ∙ c.take-key.ensures.body in
+    let is = pair-held (ring_cells i.ends i.nodes.cells) i.spare i.len i.spares _ c.self.invariant.ring c.self.view_is p _ b h.before h.node h.after h.is h.at_is in
     λ p q key value. c.requires.takes p q (key ∙ ap (λ z. z.0) is) (value ∙ ap (λ z. z.1) is)
 
 pub fill-requires : goal.fill-requires
 fill-requires g c =
     let i = c.self.inside in let h = c.requires.held in let p = c.args.at.pointer.ptr in let zs = i.nodes.cells in
-    let l = read_links (ring_cells i.ends zs) i.spare i.len i.spares _ c.self.invariant.ring c.self.view_is p h.before h.node h.after h.is h.at_is in
-    let e = sym (ring_links i.ends zs p c.args.at.block) ∙ l.1 in
-    (l.0, ap (λ ds. links_at ds p) c.take-key.ensures.cells ∙ links_kept p None zs l.0 e p ∙ e)
+    let l = links_at-held (ring_cells i.ends zs) i.spare i.len i.spares _ c.self.invariant.ring c.self.view_is p h.before h.node h.after h.is h.at_is in
+    let e = sym (links_at-ring_cells i.ends zs p c.args.at.block) ∙ l.1 in
+    (l.0, ap (λ ds. links_at ds p) c.take-key.ensures.cells ∙ links_at-with_body p None zs l.0 e p ∙ e)
 
 pub invariant_of-self : goal.invariant_of-self
 invariant_of-self g c =
     let i = c.self.inside in let h = c.requires.held in let p = c.args.at.pointer.ptr in let cs = ring_cells i.ends i.nodes.cells in
-    let l = read_links cs i.spare i.len i.spares _ c.self.invariant.ring c.self.view_is p h.before h.node h.after h.is h.at_is in
+    let l = links_at-held cs i.spare i.len i.spares _ c.self.invariant.ring c.self.view_is p h.before h.node h.after h.is h.at_is in
     let x = pair c.take-key.result.0 c.call-kept.new.value in
-    let k = held_in cs i.spare i.len i.spares _ c.self.invariant.ring c.self.view_is p h in
-    let j = body_changes cs p l.0 l.1 h.node (content_at-held cs i.spare i.len i.spares _ c.self.invariant.ring c.self.view_is p h.before h.node h.after h.is h.at_is) x in
-    let z = c.fill.ensures.cells ∙ ap (with_body p (Some x)) c.take-key.ensures.cells ∙ body_twice p x i.nodes.cells in
+    let k = IsHeld-ring_list cs i.spare i.len i.spares _ c.self.invariant.ring c.self.view_is p h in
+    let j = ChangesAt-with_body cs p l.0 l.1 h.node (content_at-held cs i.spare i.len i.spares _ c.self.invariant.ring c.self.view_is p h.before h.node h.after h.is h.at_is) x in
+    let z = c.fill.ensures.cells ∙ ap (with_body p (Some x)) c.take-key.ensures.cells ∙ with_body-twice p x i.nodes.cells in
     record {
-      ring = subst (λ ds. RingOk ds i.spare i.len i.spares) (sym (ring_with_body i.ends i.nodes.cells p c.args.at.block (Some x) c.fill.new.self.cells z))
-          (ring_ok_same cs _ p h.node _ j i.spare i.len i.spares c.self.invariant.ring k);
-      laid = still_laid c.self.invariant.laid (c.fill.ensures.land.0 ∙ c.take-key.ensures.land.0) (c.fill.ensures.land.1 ∙ c.take-key.ensures.land.1);
+      ring = subst (λ ds. RingOk ds i.spare i.len i.spares) (sym (ring_cells-with_body i.ends i.nodes.cells p c.args.at.block (Some x) c.fill.new.self.cells z))
+          (RingOk-changed cs _ p h.node _ j i.spare i.len i.spares c.self.invariant.ring k);
+      laid = IsLaid-same c.self.invariant.laid (c.fill.ensures.land.0 ∙ c.take-key.ensures.land.0) (c.fill.ensures.land.1 ∙ c.take-key.ensures.land.1);
     }
 
 pub returns-clause-called : goal.returns-clause-called
 returns-clause-called g c =
     let i = c.self.inside in let h = c.requires.held in let p = c.args.at.pointer.ptr in let cs = ring_cells i.ends i.nodes.cells in
     let v = c.self.view_is in
-    let l = read_links cs i.spare i.len i.spares _ c.self.invariant.ring v p h.before h.node h.after h.is h.at_is in
+    let l = links_at-held cs i.spare i.len i.spares _ c.self.invariant.ring v p h.before h.node h.after h.is h.at_is in
     let w = c.call-kept.new.value in
     let x = pair c.take-key.result.0 w in
-    let is = read_pair cs i.spare i.len i.spares _ c.self.invariant.ring v p _ (ring_body i.ends i.nodes.cells p c.args.at.block ∙ c.take-key.ensures.body) in
-    let j = body_changes cs p l.0 l.1 h.node (content_at-held cs i.spare i.len i.spares _ c.self.invariant.ring v p h.before h.node h.after h.is h.at_is) x in
+    let is = pair-held cs i.spare i.len i.spares _ c.self.invariant.ring v p _ (body_at-ring_cells i.ends i.nodes.cells p c.args.at.block ∙ c.take-key.ensures.body) in
+    let j = ChangesAt-with_body cs p l.0 l.1 h.node (content_at-held cs i.spare i.len i.spares _ c.self.invariant.ring v p h.before h.node h.after h.is h.at_is) x in
     let f : Held (g.row.K.Denot × g.row.V.Denot) → Held (g.row.K.Denot × g.row.V.Denot) = revalued w in
     let same = ap (λ (z : g.row.K.Denot × g.row.V.Denot). record h.node { pair = pair z.0 w }) (sym (is h.before h.node h.after h.is h.at_is)) in
-    let z = c.fill.ensures.cells ∙ ap (with_body p (Some x)) c.take-key.ensures.cells ∙ body_twice p x i.nodes.cells in
-    let q = ap (λ ds. ring_list ds i.len) (ring_with_body i.ends i.nodes.cells p c.args.at.block (Some x) c.fill.new.self.cells z) ∙ ring_list_changed cs _ p h.node _ j f same i.len in
+    let z = c.fill.ensures.cells ∙ ap (with_body p (Some x)) c.take-key.ensures.cells ∙ with_body-twice p x i.nodes.cells in
+    let q = ap (λ ds. ring_list ds i.len) (ring_cells-with_body i.ends i.nodes.cells p c.args.at.block (Some x) c.fill.new.self.cells z) ∙ ring_list-changed cs _ p h.node _ j f same i.len in
     record {
       value = w;
       at_pair = λ xs t ys e at. subst (λ (z : g.row.K.Denot × g.row.V.Denot). CalledAtPair g.F.FnMut c.args.keep.now z.0 z.1 c.call-kept.result w c.call-kept.new.keep) (is xs t ys e at) c.call-kept.ensures;
@@ -66,4 +66,4 @@ returns-clause-called g c =
 pub returns-clause-alone : goal.returns-clause-alone
 returns-clause-alone g c =
     let i = c.self.inside in
-    changes_only (ring_cells i.ends i.nodes.cells) i.spare i.len i.spares _ c.self.invariant.ring c.self.view_is c.args.at.pointer.ptr
+    ChangesOnly-held (ring_cells i.ends i.nodes.cells) i.spare i.len i.spares _ c.self.invariant.ring c.self.view_is c.args.at.pointer.ptr

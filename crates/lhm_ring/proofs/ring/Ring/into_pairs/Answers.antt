@@ -1,6 +1,6 @@
 use Rattle.std.proofs.Common.{◌∙◌, ap, refl}
 use Rattle.lhm_ring.specs.RingState.{State, triples}
-use Rattle.lhm_ring.proofs.RingSpans.{span_of_ring, listed_of_ring}
+use Rattle.lhm_ring.proofs.RingSpans.{IsSpan-ring, listed-ring}
 use Rattle.lhm_ring.proofs.ring.Ring.into_pairs.Goals as goal
 
 pub invariant_of-result : goal.invariant_of-result
@@ -8,12 +8,12 @@ invariant_of-result g c =
     let i = c.self.inside in let last = i.ends.last.ptr in
     record {
       last = last;
-      span = span_of_ring i.ends i.nodes.cells i.spare i.len i.spares c.self.invariant.ring c.address.result.ptr last c.address.ensures refl;
+      span = IsSpan-ring i.ends i.nodes.cells i.spare i.len i.spares c.self.invariant.ring c.address.result.ptr last c.address.ensures refl;
       all_kept = c.self.invariant.laid.all_kept;
     }
 
 pub returns : goal.returns
 returns g c =
     let i = c.self.inside in
-    ap triples (listed_of_ring i.ends i.nodes.cells i.spare i.len i.spares c.self.invariant.ring c.address.result.ptr i.ends.last.ptr c.address.ensures)
+    ap triples (listed-ring i.ends i.nodes.cells i.spare i.len i.spares c.self.invariant.ring c.address.result.ptr i.ends.last.ptr c.address.ensures)
     ∙ ap (λ (s : State (g.row.K.Denot × g.row.V.Denot)). triples s.held) c.self.view_is

@@ -1,10 +1,10 @@
 use Rattle.std.proofs.Common.{◌∙◌, ap}
 use Rattle.lhm_ring.specs.RingState.{State}
-use Rattle.lhm_ring.proofs.RingSpans.{span_of_ring, listed_of_ring}
+use Rattle.lhm_ring.proofs.RingSpans.{IsSpan-ring, listed-ring}
 use Rattle.lhm_ring.proofs.ring.Ring.iter.Goals as goal
 
 pub invariant_of-result : goal.invariant_of-result
-invariant_of-result g c = let i = c.self.inside in span_of_ring i.ends i.nodes.cells i.spare i.len i.spares c.self.invariant.ring c.address.result.ptr c.address-2.result.ptr c.address.ensures c.address-2.ensures
+invariant_of-result g c = let i = c.self.inside in IsSpan-ring i.ends i.nodes.cells i.spare i.len i.spares c.self.invariant.ring c.address.result.ptr c.address-2.result.ptr c.address.ensures c.address-2.ensures
 
 pub returns : goal.returns
-returns g c = let i = c.self.inside in listed_of_ring i.ends i.nodes.cells i.spare i.len i.spares c.self.invariant.ring c.address.result.ptr c.address-2.result.ptr c.address.ensures ∙ ap (λ (s : State _). s.held) c.self.view_is
+returns g c = let i = c.self.inside in listed-ring i.ends i.nodes.cells i.spare i.len i.spares c.self.invariant.ring c.address.result.ptr c.address-2.result.ptr c.address.ensures ∙ ap (λ (s : State _). s.held) c.self.view_is

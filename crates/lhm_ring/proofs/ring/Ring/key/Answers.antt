@@ -1,12 +1,12 @@
 use Rattle.std.proofs.Common.{◌∙◌, ap}
 use Rattle.lhm_ring.specs.Rings.{ring_cells}
-use Rattle.lhm_ring.proofs.RingCells.{holds_in, ring_body}
-use Rattle.lhm_ring.proofs.ReadAtPosition.{read_held, read_pair}
+use Rattle.lhm_ring.proofs.RingCells.{Holds-in_nodes, body_at-ring_cells}
+use Rattle.lhm_ring.proofs.ReadAtPosition.{Holds-held, pair-held}
 use Rattle.lhm_ring.proofs.ring.Ring.key.Goals as goal
 
 pub key-requires : goal.key-requires
 key-requires g c = let i = c.self.inside in
-    holds_in i.ends i.nodes.cells c.args.at.pointer.ptr c.args.at.block (read_held (ring_cells i.ends i.nodes.cells) i.spare i.len i.spares _ c.self.invariant.ring c.self.view_is c.args.at.pointer.ptr c.requires)
+    Holds-in_nodes i.ends i.nodes.cells c.args.at.pointer.ptr c.args.at.block (Holds-held (ring_cells i.ends i.nodes.cells) i.spare i.len i.spares _ c.self.invariant.ring c.self.view_is c.args.at.pointer.ptr c.requires)
 
 pub returns : goal.returns
-returns g c xs t ys h at = let i = c.self.inside in ap (λ (z : g.row.K.Denot × g.row.V.Denot). z.0) (read_pair (ring_cells i.ends i.nodes.cells) i.spare i.len i.spares _ c.self.invariant.ring c.self.view_is c.args.at.pointer.ptr _ (ring_body i.ends i.nodes.cells c.args.at.pointer.ptr c.args.at.block ∙ c.key.ensures.1) xs t ys h at)
+returns g c xs t ys h at = let i = c.self.inside in ap (λ (z : g.row.K.Denot × g.row.V.Denot). z.0) (pair-held (ring_cells i.ends i.nodes.cells) i.spare i.len i.spares _ c.self.invariant.ring c.self.view_is c.args.at.pointer.ptr _ (body_at-ring_cells i.ends i.nodes.cells c.args.at.pointer.ptr c.args.at.block ∙ c.key.ensures.1) xs t ys h at)

@@ -1,13 +1,13 @@
 use Rattle.std.proofs.Common.{suc, ap, sym, ◌∙◌}
 use Rattle.lhm_ring.specs.Rings.{ring_cells}
-use Rattle.lhm_ring.proofs.RingNodes.{ring_length, ring_bounded, ring_within}
-use Rattle.lhm_ring.proofs.Places.{count_made}
+use Rattle.lhm_ring.proofs.RingNodes.{length-held, length-bounded, length-within}
+use Rattle.lhm_ring.proofs.Places.{length-made}
 use Rattle.lhm_ring.proofs.ring.Ring.len.Goals as goal
 
 pub returns : goal.returns
 returns g c =
     let i = c.self.inside in record {
-      value = ring_length (ring_cells i.ends i.nodes.cells) i.spare i.len i.spares _ c.self.invariant.ring c.self.view_is;
-      bounded = ring_bounded (ring_cells i.ends i.nodes.cells) i.spare i.len i.spares _ c.self.invariant.ring c.self.view_is;
-      within = ring_within (ring_cells i.ends i.nodes.cells) i.spare i.len i.spares _ (ap suc (count_made i.nodes.cells i.nodes.unused i.nodes.node_bytes i.nodes.chunks i.nodes.laid c.self.invariant.laid.none_unused ∙ sym c.self.invariant.laid.all_made)) c.self.invariant.ring c.self.view_is;
+      value = length-held (ring_cells i.ends i.nodes.cells) i.spare i.len i.spares _ c.self.invariant.ring c.self.view_is;
+      bounded = length-bounded (ring_cells i.ends i.nodes.cells) i.spare i.len i.spares _ c.self.invariant.ring c.self.view_is;
+      within = length-within (ring_cells i.ends i.nodes.cells) i.spare i.len i.spares _ (ap suc (length-made i.nodes.cells i.nodes.unused i.nodes.node_bytes i.nodes.chunks i.nodes.laid c.self.invariant.laid.none_unused ∙ sym c.self.invariant.laid.all_made)) c.self.invariant.ring c.self.view_is;
     }

@@ -51,7 +51,7 @@ use Rattle.lhm_ring.proofs.value_loan.Hole.TheLaws as H-laws
 use Rattle.lhm_ring.proofs.ring.Ring.TheInside.TheLaws as I-laws
 use Rattle.lhm_ring.proofs.Memory.{marker, struct_made}
 use Rattle.lhm_ring.proofs.ValuesReplaced.{run_of}
-use Rattle.lhm_ring.proofs.ValuesSplitOff.{Inside, Full, parts, thin_shape, Thinned, thinned, thin_shared, at_pointers, vals, kept_by, entries, As, Vals, named as listed_as, view, good, Fields, ring_cut, back, placed, placed-own, ordered_back, lent_of, LoanMarker, loan_made}
+use Rattle.lhm_ring.proofs.ValuesSplitOff.{Inside, Full, parts, thin_shape, Thinned, thinned, Sharable-thin, at_pointers, vals, kept_by, entries, As, Vals, named as listed_as, view, good, Fields, ring_cut, back, placed, placed-own, ordered_back, AreLent-entries, LoanMarker, loan_made}
 use Rattle.lhm_ring.specs.contracts.ring.Ring.lend.{ended, clauses}
 use Rattle.lhm_ring.specs.contracts.ring.Ring.lend.Key.{name as #self}
 use Rattle.lhm_ring.proofs.ring.Ring.lend.Statement.{statement}
@@ -96,7 +96,7 @@ lend_spec 𝓤 𝓛 𝓜 𝓡 wired K V LK LV =
     -- [the fields; nothing; the token; the second name's; the loan; what follows; the other tokens]
     move ! (0 ∷ 2 ∷ []) $ let LS = param_laws 0 K LK in let LH = H-laws.the_row_laws W (param_laws 1 V LV) in
     use2 𝓛 (later (‵ ((Thinned S W kb).shr_at (thinned S W kb i) rb ro κ) ⊛ ‵ (flft κ q)))
-    (parts_share 𝓛 (parts S W kb) (thin_shape S W kb).name (thin_shape S W kb).args (thin_shape S W kb).types (thin_shared Q S W kb links-laws.the_row_laws LS LH, (I-laws.the_shared S Hr LS LH).1) (thinned S W kb i) κ ((κ, q) ∷ []) rb ro
+    (parts_share 𝓛 (parts S W kb) (thin_shape S W kb).name (thin_shape S W kb).args (thin_shape S W kb).types (Sharable-thin Q S W kb links-laws.the_row_laws LS LH, (I-laws.the_shared S Hr LS LH).1) (thinned S W kb i) κ ((κ, q) ∷ []) rb ro
     (I-laws.the_within S Hr κ (Incl-trans bounds.0 inK) (H-laws.the_within W κ (Incl-trans bounds.1.0 inV))) (Incl-refl κ)) $ await ! tt $ split ! $
     use1 𝓛 (‵ (Holed.shr_at d rb ro κ)) (view-Hides (I-type.the_row S Hr) (State (K.Denot × V.Denot)) Holed.coded (R-type.the_view S Hr) (R-type.the_invariant S Hr) _ 𝓤 𝓛 d i (seen, ok) rb ro κ) $
     hide ! $ feq_i ! (List Val) (vptr rb ro ∷ []) (vptr rb ro ∷ []) refl $ fjoin ! $
@@ -109,7 +109,7 @@ lend_spec 𝓤 𝓛 𝓜 𝓡 wired K V LK LV =
     sets ! (agg ! (and_then ! (get ! refl) (no_more !))) refl (tt, (tt, tt)) $ sets ! (agg ! (and_then ! (get ! refl) (and_then ! (get ! refl) (no_more !)))) refl (tt, (tt, ((tt, tt), tt))) $
     -- [the pair; the token; nothing; the second name's; what follows; the other tokens]
     let Same : Type 0 = d.held ≡ d.held in let Lent' : Type 0 = AreLent (run_of es) d.held in
-    use0 𝓛 (raw (fact 𝓤 Lent')) (fact_i 𝓤 Lent' (emp 𝓤) (lent_of S W 𝓛 i d seen ok rb ro)) $
+    use0 𝓛 (raw (fact 𝓤 Lent')) (fact_i 𝓤 Lent' (emp 𝓤) (AreLent-entries S W 𝓛 i d seen ok rb ro)) $
     use0 𝓛 (raw (fact 𝓤 Same)) (fact_i 𝓤 Same (emp 𝓤) refl) $ join ! $ move ! (5 ∷ 0 ∷ []) $ join ! $ move ! (2 ∷ 5 ∷ []) $ join ! $
     nothing ! $ nothing ! $ fjoin ! $
     returns ! (look_at ! 0 refl) $ free_all ! refl $ keep ! (1 ∷ 0 ∷ 3 ∷ 2 ∷ []) $ by ! (leaves 𝓛 En hs c y out (record { ring = top; loan = lent }) (tt, tt) (tt, tt)))))))))

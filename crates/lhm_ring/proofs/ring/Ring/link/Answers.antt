@@ -1,17 +1,17 @@
 use Rattle.std.proofs.Common.{◌∙◌}
-use Rattle.lhm_ring.proofs.NodeBlocks.{held_blocks}
+use Rattle.lhm_ring.proofs.NodeBlocks.{AreBlocks-held}
 use Rattle.lhm_ring.specs.Rings.{ring_cells}
-use Rattle.lhm_ring.proofs.RingCells.{in_nodes, ring_links}
-use Rattle.lhm_ring.proofs.ReadAtPosition.{read_at, read_link}
+use Rattle.lhm_ring.proofs.RingCells.{IsAt-in_nodes, links_at-ring_cells}
+use Rattle.lhm_ring.proofs.ReadAtPosition.{IsAt-held, link_of-held}
 use Rattle.lhm_ring.proofs.ring.Ring.link.Goals as goal
 
 pub links-requires : goal.links-requires
 links-requires g c = let i = c.self.inside in
-    in_nodes i.ends i.nodes.cells c.args.at.pointer.ptr c.args.at.block (read_at (ring_cells i.ends i.nodes.cells) i.spare i.len i.spares _ c.self.invariant.ring c.self.view_is c.args.at.pointer.ptr c.requires)
+    IsAt-in_nodes i.ends i.nodes.cells c.args.at.pointer.ptr c.args.at.block (IsAt-held (ring_cells i.ends i.nodes.cells) i.spare i.len i.spares _ c.self.invariant.ring c.self.view_is c.args.at.pointer.ptr c.requires)
 
 pub returns : goal.returns
 returns g c =
     let i = c.self.inside in record {
-      link = λ xs t ys h at. c.get.ensures ∙ read_link (ring_cells i.ends i.nodes.cells) i.spare i.len i.spares _ c.self.invariant.ring c.self.view_is c.args.at.pointer.ptr _ (ring_links i.ends i.nodes.cells c.args.at.pointer.ptr c.args.at.block ∙ c.links.ensures) xs t ys h at;
-      blocks = held_blocks i.ends i.nodes.cells i.nodes.blocks i.spare i.len i.spares _ c.self.invariant.ring c.self.view_is;
+      link = λ xs t ys h at. c.get.ensures ∙ link_of-held (ring_cells i.ends i.nodes.cells) i.spare i.len i.spares _ c.self.invariant.ring c.self.view_is c.args.at.pointer.ptr _ (links_at-ring_cells i.ends i.nodes.cells c.args.at.pointer.ptr c.args.at.block ∙ c.links.ensures) xs t ys h at;
+      blocks = AreBlocks-held i.ends i.nodes.cells i.nodes.blocks i.spare i.len i.spares _ c.self.invariant.ring c.self.view_is;
     }

@@ -1,20 +1,20 @@
 use Rattle.std.proofs.Common.{◌∙◌}
 use Rattle.lhm_ring.specs.Rings.{ring_cells}
-use Rattle.lhm_ring.proofs.Neighbours.{next_at_is}
-use Rattle.lhm_ring.proofs.ReadAtPosition.{read_at}
-use Rattle.lhm_ring.proofs.RingCells.{in_nodes, ring_links}
-use Rattle.lhm_ring.proofs.ValuesReplaced.{ring_apart}
+use Rattle.lhm_ring.proofs.Neighbours.{AtHeld-next}
+use Rattle.lhm_ring.proofs.ReadAtPosition.{IsAt-held}
+use Rattle.lhm_ring.proofs.RingCells.{IsAt-in_nodes, links_at-ring_cells}
+use Rattle.lhm_ring.proofs.ValuesReplaced.{IsApart-held}
 use Rattle.lhm_ring.proofs.ring.Ring.next.Goals as goal
 
 pub links-requires : goal.links-requires
 links-requires g c =
     let i = c.self.inside in let p = c.args.at.pointer.ptr in
-    in_nodes i.ends i.nodes.cells p c.args.at.block (read_at (ring_cells i.ends i.nodes.cells) i.spare i.len i.spares _ c.self.invariant.ring c.self.view_is p c.requires)
+    IsAt-in_nodes i.ends i.nodes.cells p c.args.at.block (IsAt-held (ring_cells i.ends i.nodes.cells) i.spare i.len i.spares _ c.self.invariant.ring c.self.view_is p c.requires)
 
 pub returns-clause-next : goal.returns-clause-next
 returns-clause-next g c xs t ys h at =
     let i = c.self.inside in let p = c.args.at.pointer.ptr in
-    c.get.ensures ∙ next_at_is (ring_cells i.ends i.nodes.cells) i.spare i.len i.spares _ c.self.invariant.ring c.self.view_is p _ (ring_links i.ends i.nodes.cells p c.args.at.block ∙ c.links.ensures) xs t ys h at
+    c.get.ensures ∙ AtHeld-next (ring_cells i.ends i.nodes.cells) i.spare i.len i.spares _ c.self.invariant.ring c.self.view_is p _ (links_at-ring_cells i.ends i.nodes.cells p c.args.at.block ∙ c.links.ensures) xs t ys h at
 
 pub returns-clause-apart : goal.returns-clause-apart
-returns-clause-apart g c = let i = c.self.inside in ring_apart (ring_cells i.ends i.nodes.cells) i.spare i.len i.spares _ c.self.invariant.ring c.self.view_is
+returns-clause-apart g c = let i = c.self.inside in IsApart-held (ring_cells i.ends i.nodes.cells) i.spare i.len i.spares _ c.self.invariant.ring c.self.view_is

@@ -1,60 +1,60 @@
 use Rattle.std.proofs.Common.{◌∙◌, ◌≡◌, None, ap, subst, true}
 use Rattle.lhm_ring.specs.Rings.{ring_cells, next_of, prev_of, is_there}
-use Rattle.lhm_ring.proofs.ReadAtPosition.{read_at}
-use Rattle.lhm_ring.proofs.RingCells.{in_nodes, holds_in, ring_links, ring_body, ring_with_body, relinks_ring}
-use Rattle.lhm_ring.proofs.RingNodes.{node_in, ring_split}
-use Rattle.lhm_ring.proofs.Moves.{prev_there, next_there}
-use Rattle.lhm_ring.proofs.PutBackAndUnlink.{taken_holds, taken_at, some_held, taken_ring, taken_list}
-use Rattle.lhm_ring.proofs.Places.{still_laid}
+use Rattle.lhm_ring.proofs.ReadAtPosition.{IsAt-held}
+use Rattle.lhm_ring.proofs.RingCells.{IsAt-in_nodes, Holds-in_nodes, links_at-ring_cells, body_at-ring_cells, ring_cells-with_body, Relinks-ring_cells}
+use Rattle.lhm_ring.proofs.RingNodes.{NodeAt-held, ring_split}
+use Rattle.lhm_ring.proofs.Moves.{There-prev, There-next}
+use Rattle.lhm_ring.proofs.PutBackAndUnlink.{Holds-unlinked, IsAt-unlinked, count-held, RingOk-unlinked, AtHeld-unlinked}
+use Rattle.lhm_ring.proofs.Places.{IsLaid-same}
 use Rattle.lhm_ring.proofs.ring.Ring.unlink.Goals as goal
 
 pub links-old-requires : goal.links-old-requires
 links-old-requires g c =
     let i = c.self.inside in let p = c.args.at.pointer.ptr in
-    in_nodes i.ends i.nodes.cells p c.args.at.block (read_at (ring_cells i.ends i.nodes.cells) i.spare i.len i.spares _ c.self.invariant.ring c.self.view_is p c.requires)
+    IsAt-in_nodes i.ends i.nodes.cells p c.args.at.block (IsAt-held (ring_cells i.ends i.nodes.cells) i.spare i.len i.spares _ c.self.invariant.ring c.self.view_is p c.requires)
 
 pub join-requires : goal.join-requires
 join-requires g c =
     let i = c.self.inside in let p = c.args.at.pointer.ptr in let cs = ring_cells i.ends i.nodes.cells in
-    let r = ring_split c.self.invariant.ring.ring (node_in cs i.spare i.len i.spares _ p c.self.invariant.ring c.self.view_is c.requires) in
-    let e = ring_links i.ends i.nodes.cells p c.args.at.block ∙ c.links-old.ensures in
-    (subst (λ q. is_there cs q ≡ true) (ap prev_of e) (prev_there _ _ _ _ _ _ r), subst (λ q. is_there cs q ≡ true) (ap next_of e) (next_there _ _ _ _ _ _ r))
+    let r = ring_split c.self.invariant.ring.ring (NodeAt-held cs i.spare i.len i.spares _ p c.self.invariant.ring c.self.view_is c.requires) in
+    let e = links_at-ring_cells i.ends i.nodes.cells p c.args.at.block ∙ c.links-old.ensures in
+    (subst (λ q. is_there cs q ≡ true) (ap prev_of e) (There-prev _ _ _ _ _ _ r), subst (λ q. is_there cs q ≡ true) (ap next_of e) (There-next _ _ _ _ _ _ r))
 
 pub take-key-requires : goal.take-key-requires
 take-key-requires g c =
     let i = c.self.inside in let at = c.args.at.pointer in let b = c.args.at.block in
-    let e = ring_links i.ends i.nodes.cells at.ptr b ∙ c.links-old.ensures in
-    holds_in c.join.new.ends c.join.new.nodes.cells at.ptr b (taken_holds (ring_cells i.ends i.nodes.cells) i.spare i.len i.spares _ c.self.invariant.ring c.self.view_is at _ e _ c.join.ensures.joined c.requires)
+    let e = links_at-ring_cells i.ends i.nodes.cells at.ptr b ∙ c.links-old.ensures in
+    Holds-in_nodes c.join.new.ends c.join.new.nodes.cells at.ptr b (Holds-unlinked (ring_cells i.ends i.nodes.cells) i.spare i.len i.spares _ c.self.invariant.ring c.self.view_is at _ e _ c.join.ensures.joined c.requires)
 
 pub relink-requires : goal.relink-requires
 relink-requires g c =
     let i = c.self.inside in let at = c.args.at.pointer in let b = c.args.at.block in let ends = c.join.new.ends in let zs = c.join.new.nodes.cells in let ws = c.take-key.new.self.cells in
-    let e = ring_links i.ends i.nodes.cells at.ptr b ∙ c.links-old.ensures in
-    in_nodes ends ws at.ptr b
-    (taken_at (ring_cells i.ends i.nodes.cells) i.spare i.len i.spares _ c.self.invariant.ring c.self.view_is at _ e _ c.join.ensures.joined _ (ring_body ends zs at.ptr b ∙ c.take-key.ensures.body) _ (ring_cells ends ws)
-    (ring_with_body ends zs at.ptr b None ws c.take-key.ensures.cells) c.requires)
+    let e = links_at-ring_cells i.ends i.nodes.cells at.ptr b ∙ c.links-old.ensures in
+    IsAt-in_nodes ends ws at.ptr b
+    (IsAt-unlinked (ring_cells i.ends i.nodes.cells) i.spare i.len i.spares _ c.self.invariant.ring c.self.view_is at _ e _ c.join.ensures.joined _ (body_at-ring_cells ends zs at.ptr b ∙ c.take-key.ensures.body) _ (ring_cells ends ws)
+    (ring_cells-with_body ends zs at.ptr b None ws c.take-key.ensures.cells) c.requires)
 
 pub overflow_sub-self : goal.overflow_sub-self
 overflow_sub-self g c =
-    let i = c.self.inside in let at = c.args.at.pointer in let e = ring_links i.ends i.nodes.cells at.ptr c.args.at.block ∙ c.links-old.ensures in
-    some_held (ring_cells i.ends i.nodes.cells) i.spare i.len i.spares _ c.self.invariant.ring c.self.view_is at _ e _ c.join.ensures.joined c.requires
+    let i = c.self.inside in let at = c.args.at.pointer in let e = links_at-ring_cells i.ends i.nodes.cells at.ptr c.args.at.block ∙ c.links-old.ensures in
+    count-held (ring_cells i.ends i.nodes.cells) i.spare i.len i.spares _ c.self.invariant.ring c.self.view_is at _ e _ c.join.ensures.joined c.requires
 
 pub invariant_of-self : goal.invariant_of-self
 invariant_of-self g c =
     let i = c.self.inside in let at = c.args.at.pointer in let b = c.args.at.block in let ends = c.join.new.ends in let zs = c.join.new.nodes.cells in let ws = c.take-key.new.self.cells in
-    let e = ring_links i.ends i.nodes.cells at.ptr b ∙ c.links-old.ensures in
+    let e = links_at-ring_cells i.ends i.nodes.cells at.ptr b ∙ c.links-old.ensures in
     record {
-      ring = taken_ring (ring_cells i.ends i.nodes.cells) i.spare i.len i.spares _ c.self.invariant.ring c.self.view_is at _ e _ c.join.ensures.joined _ (ring_body ends zs at.ptr b ∙ c.take-key.ensures.body) _ _
-          (ring_with_body ends zs at.ptr b None ws c.take-key.ensures.cells) (relinks_ring ends ws at.ptr b i.spare c.relink.new.nodes.cells c.relink.ensures.relinked) c.to-self-inside.result c.to-self-inside.ensures c.requires;
-      laid = still_laid c.self.invariant.laid (c.relink.ensures.land.0 ∙ c.take-key.ensures.land.0 ∙ c.join.ensures.land.0) (c.relink.ensures.land.1 ∙ c.take-key.ensures.land.1 ∙ c.join.ensures.land.1);
+      ring = RingOk-unlinked (ring_cells i.ends i.nodes.cells) i.spare i.len i.spares _ c.self.invariant.ring c.self.view_is at _ e _ c.join.ensures.joined _ (body_at-ring_cells ends zs at.ptr b ∙ c.take-key.ensures.body) _ _
+          (ring_cells-with_body ends zs at.ptr b None ws c.take-key.ensures.cells) (Relinks-ring_cells ends ws at.ptr b i.spare c.relink.new.nodes.cells c.relink.ensures.relinked) c.to-self-inside.result c.to-self-inside.ensures c.requires;
+      laid = IsLaid-same c.self.invariant.laid (c.relink.ensures.land.0 ∙ c.take-key.ensures.land.0 ∙ c.join.ensures.land.0) (c.relink.ensures.land.1 ∙ c.take-key.ensures.land.1 ∙ c.join.ensures.land.1);
     }
 
 pub returns : goal.returns
 returns g c =
     let i = c.self.inside in let h = c.requires in let at = c.args.at.pointer in let b = c.args.at.block in let ends = c.join.new.ends in let zs = c.join.new.nodes.cells in let ws = c.take-key.new.self.cells in
-    let e = ring_links i.ends i.nodes.cells at.ptr b ∙ c.links-old.ensures in
-    let l = taken_list (ring_cells i.ends i.nodes.cells) i.spare i.len i.spares _ c.self.invariant.ring c.self.view_is at _ e _ c.join.ensures.joined _ (ring_body ends zs at.ptr b ∙ c.take-key.ensures.body) _ _
-    (ring_with_body ends zs at.ptr b None ws c.take-key.ensures.cells) (relinks_ring ends ws at.ptr b i.spare c.relink.new.nodes.cells c.relink.ensures.relinked) in
+    let e = links_at-ring_cells i.ends i.nodes.cells at.ptr b ∙ c.links-old.ensures in
+    let l = AtHeld-unlinked (ring_cells i.ends i.nodes.cells) i.spare i.len i.spares _ c.self.invariant.ring c.self.view_is at _ e _ c.join.ensures.joined _ (body_at-ring_cells ends zs at.ptr b ∙ c.take-key.ensures.body) _ _
+    (ring_cells-with_body ends zs at.ptr b None ws c.take-key.ensures.cells) (Relinks-ring_cells ends ws at.ptr b i.spare c.relink.new.nodes.cells c.relink.ensures.relinked) in
     record {
       others = λ xs t ys cut at. ap (λ z. z.held) (l xs t ys cut at).left;
       triple = λ xs t ys cut at. let q = l xs t ys cut at in λ z. (q.hash z, (q.pair z).0, (q.pair z).1);

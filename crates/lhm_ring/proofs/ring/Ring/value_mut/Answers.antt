@@ -4,44 +4,44 @@ use Rattle.lhm_ring.specs.RingState.{Held, state, change_at}
 use Rattle.lhm_ring.specs.RingAfterLoan.{pair, revalued}
 use Rattle.lhm_ring.specs.NodesAfterLoan.{value_set}
 use Rattle.lhm_ring.specs.Cells.{with_body}
-use Rattle.lhm_ring.proofs.ReadAtPosition.{content_at-held, read_held, read_links, read_pair, held_in}
-use Rattle.lhm_ring.proofs.RingCells.{holds_in, ring_body, ring_with_body}
-use Rattle.lhm_ring.proofs.ContentChange.{body_changes, ring_ok_same, ring_list_changed, changes_only}
+use Rattle.lhm_ring.proofs.ReadAtPosition.{content_at-held, Holds-held, links_at-held, pair-held, IsHeld-ring_list}
+use Rattle.lhm_ring.proofs.RingCells.{Holds-in_nodes, body_at-ring_cells, ring_cells-with_body}
+use Rattle.lhm_ring.proofs.ContentChange.{ChangesAt-with_body, RingOk-changed, ring_list-changed, ChangesOnly-held}
 use Rattle.lhm_ring.proofs.ring.Ring.value_mut.Goals as goal
 
 pub value_mut-requires : goal.value_mut-requires
 value_mut-requires g c =
     let i = c.self.inside in let p = c.args.at.pointer.ptr in
-    holds_in i.ends i.nodes.cells p c.args.at.block (read_held (ring_cells i.ends i.nodes.cells) i.spare i.len i.spares _ c.self.invariant.ring c.self.view_is p c.requires)
+    Holds-in_nodes i.ends i.nodes.cells p c.args.at.block (Holds-held (ring_cells i.ends i.nodes.cells) i.spare i.len i.spares _ c.self.invariant.ring c.self.view_is p c.requires)
 
 pub invariant_of-self-lent : goal.invariant_of-self-lent
 invariant_of-self-lent g c w =
     let i = c.self.inside in let h = c.requires in let p = c.args.at.pointer.ptr in let cs = ring_cells i.ends i.nodes.cells in
-    let l = read_links cs i.spare i.len i.spares _ c.self.invariant.ring c.self.view_is p h.before h.node h.after h.is h.at_is in
-    let b = c.value_mut.ensures.value in let k = held_in cs i.spare i.len i.spares _ c.self.invariant.ring c.self.view_is p h in
-    let j = body_changes cs p l.0 l.1 h.node (content_at-held cs i.spare i.len i.spares _ c.self.invariant.ring c.self.view_is p h.before h.node h.after h.is h.at_is) (pair b.0 w) in
-    let z = ring_with_body i.ends i.nodes.cells p c.args.at.block _ _ (ap (λ o. with_body p (value_set w o) i.nodes.cells) b.1) in
+    let l = links_at-held cs i.spare i.len i.spares _ c.self.invariant.ring c.self.view_is p h.before h.node h.after h.is h.at_is in
+    let b = c.value_mut.ensures.value in let k = IsHeld-ring_list cs i.spare i.len i.spares _ c.self.invariant.ring c.self.view_is p h in
+    let j = ChangesAt-with_body cs p l.0 l.1 h.node (content_at-held cs i.spare i.len i.spares _ c.self.invariant.ring c.self.view_is p h.before h.node h.after h.is h.at_is) (pair b.0 w) in
+    let z = ring_cells-with_body i.ends i.nodes.cells p c.args.at.block _ _ (ap (λ o. with_body p (value_set w o) i.nodes.cells) b.1) in
     record {
-      ring = subst (λ zs. RingOk zs i.spare i.len i.spares) (sym z) (ring_ok_same cs _ p h.node _ j i.spare i.len i.spares c.self.invariant.ring k);
+      ring = subst (λ zs. RingOk zs i.spare i.len i.spares) (sym z) (RingOk-changed cs _ p h.node _ j i.spare i.len i.spares c.self.invariant.ring k);
       laid = c.self.invariant.laid;
     }
 
 pub returns : goal.returns
 returns g c =
     let i = c.self.inside in let h = c.requires in let p = c.args.at.pointer.ptr in let cs = ring_cells i.ends i.nodes.cells in
-    let l = read_links cs i.spare i.len i.spares _ c.self.invariant.ring c.self.view_is p h.before h.node h.after h.is h.at_is in
+    let l = links_at-held cs i.spare i.len i.spares _ c.self.invariant.ring c.self.view_is p h.before h.node h.after h.is h.at_is in
     let b = c.value_mut.ensures.value in
-    let is = read_pair cs i.spare i.len i.spares _ c.self.invariant.ring c.self.view_is p _ (ring_body i.ends i.nodes.cells p c.args.at.block ∙ b.1) in (
+    let is = pair-held cs i.spare i.len i.spares _ c.self.invariant.ring c.self.view_is p _ (body_at-ring_cells i.ends i.nodes.cells p c.args.at.block ∙ b.1) in (
       (
         refl,
         λ w.
-            let j = body_changes cs p l.0 l.1 h.node (content_at-held cs i.spare i.len i.spares _ c.self.invariant.ring c.self.view_is p h.before h.node h.after h.is h.at_is) (pair b.0 w) in
+            let j = ChangesAt-with_body cs p l.0 l.1 h.node (content_at-held cs i.spare i.len i.spares _ c.self.invariant.ring c.self.view_is p h.before h.node h.after h.is h.at_is) (pair b.0 w) in
             let f : Held (g.row.K.Denot × g.row.V.Denot) → Held (g.row.K.Denot × g.row.V.Denot) = revalued w in
             let same = ap (λ (z : g.row.K.Denot × g.row.V.Denot). record h.node { pair = pair z.0 w }) (sym (is h.before h.node h.after h.is h.at_is)) in
-            let z = ring_with_body i.ends i.nodes.cells p c.args.at.block _ _ (ap (λ o. with_body p (value_set w o) i.nodes.cells) b.1) in
-            let q = ap (λ zs. ring_list zs i.len) z ∙ ring_list_changed cs _ p h.node _ j f same i.len in
+            let z = ring_cells-with_body i.ends i.nodes.cells p c.args.at.block _ _ (ap (λ o. with_body p (value_set w o) i.nodes.cells) b.1) in
+            let q = ap (λ zs. ring_list zs i.len) z ∙ ring_list-changed cs _ p h.node _ j f same i.len in
             let v = c.self.view_is in
             λ x. state ((q ∙ ap (λ (z : _). change_at p f z.held) v) x) (v x).spares (v x).nodes,
       ),
-      record { writes_back = tt; alone = changes_only cs i.spare i.len i.spares _ c.self.invariant.ring c.self.view_is p; value = λ xs t ys e at. ap (λ (z : g.row.K.Denot × g.row.V.Denot). z.1) (is xs t ys e at) },
+      record { writes_back = tt; alone = ChangesOnly-held cs i.spare i.len i.spares _ c.self.invariant.ring c.self.view_is p; value = λ xs t ys e at. ap (λ (z : g.row.K.Denot × g.row.V.Denot). z.1) (is xs t ys e at) },
     )

@@ -2,12 +2,12 @@ use Rattle.std.proofs.Common.{ap, subst, sym, ◌∙◌}
 use Rattle.std.specs.Map.Calls.{CalledAtPair, TakesPair}
 use Rattle.lhm_ring.specs.Positions.{pointer_of}
 use Rattle.lhm_ring.specs.Tables.{IsTable, table_of}
-use Rattle.lhm_ring.proofs.Tables.{at_held, table_of-value, writes_only, IsTable-value}
-use Rattle.lhm_ring.proofs.Retained.{taken_in}
+use Rattle.lhm_ring.proofs.Tables.{AtHeld-table, table_of-value, WritesOnly-table, IsTable-value}
+use Rattle.lhm_ring.proofs.Retained.{TakesAt-table_of}
 use Rattle.lhm_ring.proofs.table.Table.call_at.Goals as goal
 
 pub call_at-requires : goal.call_at-requires
-call_at-requires g c = taken_in (TakesPair g.F.FnMut) c.args.keep.now c.self.inside.ring c.self.inside.rechained c.self.view_is c.requires
+call_at-requires g c = TakesAt-table_of (TakesPair g.F.FnMut) c.args.keep.now c.self.inside.ring c.self.inside.rechained c.self.view_is c.requires
 
 pub invariant_of-self : goal.invariant_of-self
 invariant_of-self g c =
@@ -21,9 +21,9 @@ returns-clause-called g c =
     let called = c.call_at.ensures.called in
     record {
       value = called.value;
-      at_pair = at_held i.ring i.rechained c.self.view_is p (λ xs t ys. CalledAtPair g.F.FnMut c.args.keep.now t.pair.0 t.pair.1 c.call_at.result called.value c.call_at.new.keep) called.at_pair;
+      at_pair = AtHeld-table i.ring i.rechained c.self.view_is p (λ xs t ys. CalledAtPair g.F.FnMut c.args.keep.now t.pair.0 t.pair.1 c.call_at.result called.value c.call_at.new.keep) called.at_pair;
       new_is = ap (λ s. table_of s i.rechained) called.new_is ∙ table_of-value i.ring i.rechained c.self.view_is p called.value;
     }
 
 pub returns-clause-alone : goal.returns-clause-alone
-returns-clause-alone g c = writes_only c.self.inside.ring c.self.inside.rechained c.self.view_is (pointer_of c.args.at) c.call_at.ensures.alone
+returns-clause-alone g c = WritesOnly-table c.self.inside.ring c.self.inside.rechained c.self.view_is (pointer_of c.args.at) c.call_at.ensures.alone

@@ -1,11 +1,11 @@
 use Rattle.std.proofs.Common.{sym, ap, ◌∙◌}
 use Rattle.lhm_ring.specs.RingState.{last_at}
 use Rattle.lhm_ring.specs.Tables.{TableState}
-use Rattle.lhm_ring.proofs.Tables.{last_at-entries, apart_in}
+use Rattle.lhm_ring.proofs.Tables.{last_at-entries, IsApart-table}
 use Rattle.lhm_ring.proofs.table.Table.last.Goals as goal
 
 pub returns-clause-last : goal.returns-clause-last
 returns-clause-last g c = c.last.ensures.last ∙ sym (last_at-entries c.self.inside.ring.held) ∙ ap (λ (z : TableState (g.row.K.Denot × g.row.V.Denot)). last_at z.held) c.self.view_is
 
 pub returns-clause-apart : goal.returns-clause-apart
-returns-clause-apart g c = apart_in c.self.inside.ring c.self.inside.rechained c.self.view_is c.last.ensures.apart
+returns-clause-apart g c = IsApart-table c.self.inside.ring c.self.inside.rechained c.self.view_is c.last.ensures.apart

@@ -1,7 +1,7 @@
 use Rattle.std.proofs.Common.{◌≡◌, ◌+◌, length, ap, sym, ◌∙◌, arith}
 use Rattle.lhm_ring.specs.Buckets.{buckets}
 use Rattle.lhm_ring.specs.RingState.{triples}
-use Rattle.lhm_ring.proofs.Tables.{length-same_entries, length-same_triples, length_in, triples-entries, triples_in}
+use Rattle.lhm_ring.proofs.Tables.{length-same_entries, length-same_triples, length-table, triples-entries, triples-table}
 use Rattle.lhm_ring.proofs.table.Table.lower_buckets.Goals as goal
 
 pub invariant_of-self : goal.invariant_of-self
@@ -23,12 +23,12 @@ invariant_of-self g c =
 pub returns-in-Ok-clause-triples : goal.returns-in-Ok-clause-triples
 returns-in-Ok-clause-triples g c =
     ap triples c.rehash-self-inside.ensures.held ∙ triples-entries c.compact.new.self.held ∙ c.in-Ok.ensures.triples
-    ∙ triples_in c.self.inside.ring c.self.inside.rechained c.self.view_is
+    ∙ triples-table c.self.inside.ring c.self.inside.rechained c.self.view_is
 
 pub returns-in-Ok-clause-capacity : goal.returns-in-Ok-clause-capacity
 returns-in-Ok-clause-capacity g c =
     let rehashed = c.rehash-self-inside in
     let long = length-same_entries rehashed.new.ring.held c.compact.new.self.held rehashed.ensures.held in
     let moved = length-same_triples c.compact.new.self.held c.self.inside.ring.held c.in-Ok.ensures.triples in
-    let seen = length_in c.self.inside.ring c.self.inside.rechained c.self.view_is in
+    let seen = length-table c.self.inside.ring c.self.inside.rechained c.self.view_is in
     omega (arith, long, moved, seen, rehashed.ensures.spares, c.in-Ok.ensures.spares)

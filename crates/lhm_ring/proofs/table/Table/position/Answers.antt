@@ -3,7 +3,7 @@ use Rattle.std.proofs.lemmas.Option.{IfSome_then}
 use Rattle.lhm_ring.specs.Positions.{pointer_of}
 use Rattle.lhm_ring.specs.Search.{entries}
 use Rattle.lhm_ring.proofs.Filters.{LacksHash-lacks, LacksHash-entries, IsAbsent-lacks}
-use Rattle.lhm_ring.proofs.Tables.{HasKey-entries, IsAbsent-entries, IfNone_then}
+use Rattle.lhm_ring.proofs.Tables.{HasKey-entries, IsAbsent-entries, IfNone-then}
 use Rattle.lhm_ring.proofs.table.Table.position.Goals as goal
 
 pub returns-then-not-may_contain-clause-absent : goal.returns-then-not-may_contain-clause-absent
@@ -16,4 +16,4 @@ pub returns-clause-found : goal.returns-clause-found
 returns-clause-found g c = rw (← c.self.view_is) (IfSome_then c.find_in.result c.find_in.ensures.found (λ p h. HasKey-entries g.K.PartialEq.eq c.args.hash c.args.key.now c.self.inside.ring.held (pointer_of p) h))
 
 pub returns-clause-absent : goal.returns-clause-absent
-returns-clause-absent g c = rw (← c.self.view_is) (IfNone_then c.find_in.result c.find_in.ensures.absent (λ h. IsAbsent-entries g.K.PartialEq.eq c.args.hash c.args.key.now c.self.inside.ring.held h))
+returns-clause-absent g c = rw (← c.self.view_is) (IfNone-then c.find_in.result c.find_in.ensures.absent (λ h. IsAbsent-entries g.K.PartialEq.eq c.args.hash c.args.key.now c.self.inside.ring.held h))

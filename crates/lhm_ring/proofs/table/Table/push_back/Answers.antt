@@ -7,12 +7,12 @@ use Rattle.lhm_ring.specs.RingAfterLoan.{pair}
 use Rattle.lhm_ring.specs.RingState.{held}
 use Rattle.lhm_ring.specs.Search.{entries}
 use Rattle.lhm_ring.proofs.Filters.{IsFilter-more}
-use Rattle.lhm_ring.proofs.IndexedRing.{indexed_some}
-use Rattle.lhm_ring.proofs.Tables.{spares_in, length-same_entries}
+use Rattle.lhm_ring.proofs.IndexedRing.{length-indexed}
+use Rattle.lhm_ring.proofs.Tables.{spares-table, length-same_entries}
 use Rattle.lhm_ring.proofs.table.Table.push_back.Goals as goal
 
 pub put_in-bucket-requires-clause-some : goal.put_in-bucket-requires-clause-some
-put_in-bucket-requires-clause-some g c = indexed_some c.self.inside.index c.self.inside.ring c.self.invariant.indexed (spares_in c.self.inside.ring c.self.inside.rechained c.self.view_is c.requires)
+put_in-bucket-requires-clause-some g c = length-indexed c.self.inside.index c.self.inside.ring c.self.invariant.indexed (spares-table c.self.inside.ring c.self.inside.rechained c.self.view_is c.requires)
 
 pub put_in-bucket-requires-clause-lacks : goal.put_in-bucket-requires-clause-lacks
 put_in-bucket-requires-clause-lacks g c =
@@ -32,7 +32,7 @@ insert-requires-clause-of_hash g c =
 pub insert-requires-clause-within : goal.insert-requires-clause-within
 insert-requires-clause-within g c =
     let is = insert-requires-clause-of_hash g c in
-    let some = indexed_some c.self.inside.index c.self.inside.ring c.self.invariant.indexed (spares_in c.self.inside.ring c.self.inside.rechained c.self.view_is c.requires) in
+    let some = length-indexed c.self.inside.index c.self.inside.ring c.self.invariant.indexed (spares-table c.self.inside.ring c.self.inside.rechained c.self.view_is c.requires) in
     let below = mod-lt c.args.hash some in
     omega (arith, is, below, c.self.invariant.filtered.count)
 
@@ -45,7 +45,7 @@ invariant_of-self g c =
     let long = length-same_entries new.held c.put_back-at.new.self.held c.put_in-bucket.ensures.held in
     let last = ap length c.put_back-at.ensures.last in
     let one_more = length-append old.held (t ∷ []) in
-    let some = spares_in old c.self.inside.rechained c.self.view_is c.requires in
+    let some = spares-table old c.self.inside.rechained c.self.view_is c.requires in
     let sum : length new.held + new.spares ≡ length old.held + old.spares = omega (arith, some, long, last, one_more, c.put_in-bucket.ensures.spares, c.put_back-at.ensures.spares) in
     record {
       indexed = record { chains = c.put_in-bucket.ensures.indexed; count = c.put_in-bucket.ensures.buckets ∙ table.indexed.count ∙ ap buckets (sym sum) };

@@ -2,13 +2,13 @@ use Rattle.std.proofs.Common.{◌≡◌, ◌+◌, ◌<◌, ◌≤◌, ◌∙◌,
 use Rattle.lhm_ring.specs.Buckets.{buckets, rechained_raised}
 use Rattle.lhm_ring.specs.Search.{entries}
 use Rattle.lhm_ring.specs.Tables.{TableState}
-use Rattle.lhm_ring.proofs.Tables.{capacity_in, OnOk_always, OnOk_then, IsTable-grown, rechained-stays, rechained-moves}
+use Rattle.lhm_ring.proofs.Tables.{length-capacity, OnOk-always, OnOk-then, IsTable-grown, rechained_raised-stays, rechained_raised-moves}
 use Rattle.lhm_ring.proofs.table.Table.raise.Goals as goal
 
 pub invariant_of-self : goal.invariant_of-self
 invariant_of-self g c =
     let i = c.self.inside in
-    let all = capacity_in i.ring i.rechained c.self.view_is in
+    let all = length-capacity i.ring i.rechained c.self.view_is in
     let up : length i.ring.held + i.ring.spares < c.args.capacity = omega (arith, all, c.requires.higher) in
     let enough : c.args.capacity ≤ length i.index = omega (arith, c.if-capacity-buckets.true, c.buckets.ensures) in
     IsTable-grown c.self.invariant c.args.capacity up enough {t = c.grow_within.new.self} c.grow_within.result _ _ c.buckets-then-capacity-buckets.ensures c.grow_within.ensures.held c.grow_within.ensures.spares c.grow_within.ensures.nodes_within c.grow_within.ensures.refused (omega (arith, all, up, c.capacity.ensures.value)) c.requires.limit
@@ -16,21 +16,21 @@ invariant_of-self g c =
 pub returns-then-capacity-buckets-clause-rechained : goal.returns-then-capacity-buckets-clause-rechained
 returns-then-capacity-buckets-clause-rechained g c =
     let i = c.self.inside in
-    let all = capacity_in i.ring i.rechained c.self.view_is in
+    let all = length-capacity i.ring i.rechained c.self.view_is in
     let up : length i.ring.held + i.ring.spares < c.args.capacity = omega (arith, all, c.requires.higher) in
     let enough : c.args.capacity ≤ length i.index = omega (arith, c.if-capacity-buckets.true, c.buckets.ensures) in
-    rw (← c.self.view_is) (OnOk_always c.grow_within.result (sym (rechained-stays c.self.invariant c.args.capacity up enough _)))
+    rw (← c.self.view_is) (OnOk-always c.grow_within.result (sym (rechained_raised-stays c.self.invariant c.args.capacity up enough _)))
 
 pub raise_buckets-requires-clause-more : goal.raise_buckets-requires-clause-more
 raise_buckets-requires-clause-more g c =
-    let all = capacity_in c.self.inside.ring c.self.inside.rechained c.self.view_is in
+    let all = length-capacity c.self.inside.ring c.self.inside.rechained c.self.view_is in
     omega (arith, ap buckets all, c.self.invariant.indexed.count, c.buckets.ensures, c.if-capacity-buckets.false)
 
 pub returns-clause-rechained : goal.returns-clause-rechained
 returns-clause-rechained g c =
     let i = c.self.inside in
-    let all = capacity_in i.ring i.rechained c.self.view_is in
+    let all = length-capacity i.ring i.rechained c.self.view_is in
     let up : length i.ring.held + i.ring.spares < c.args.capacity = omega (arith, all, c.requires.higher) in
     let few : length i.index < c.args.capacity = omega (arith, c.if-capacity-buckets.false, c.buckets.ensures) in
-    let moves = subst (λ (z : TableState (g.row.K.Denot × g.row.V.Denot)). rechained_raised z.rechained (length z.held) z.capacity c.args.capacity ≡ z.rechained + length z.held) c.self.view_is (rechained-moves c.self.invariant c.args.capacity up few (length (entries i.ring.held))) in
-    OnOk_then c.raise_buckets.result c.raise_buckets.ensures.rechained (λ e. e ∙ sym moves)
+    let moves = subst (λ (z : TableState (g.row.K.Denot × g.row.V.Denot)). rechained_raised z.rechained (length z.held) z.capacity c.args.capacity ≡ z.rechained + length z.held) c.self.view_is (rechained_raised-moves c.self.invariant c.args.capacity up few (length (entries i.ring.held))) in
+    OnOk-then c.raise_buckets.result c.raise_buckets.ensures.rechained (λ e. e ∙ sym moves)

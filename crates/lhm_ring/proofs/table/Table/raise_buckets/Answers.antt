@@ -1,13 +1,13 @@
 use Rattle.std.proofs.Common.{◌≡◌, ◌+◌, ◌<◌, ◌∙◌, length, ap, sym, arith}
 use Rattle.lhm_ring.specs.Buckets.{buckets}
 use Rattle.lhm_ring.specs.Search.{entries}
-use Rattle.lhm_ring.proofs.Tables.{capacity_in, IsTable-rechained, rechained-fits}
+use Rattle.lhm_ring.proofs.Tables.{length-capacity, IsTable-rechained, rechained-fits}
 use Rattle.lhm_ring.proofs.table.Table.raise_buckets.Goals as goal
 
 pub invariant_of-self : goal.invariant_of-self
 invariant_of-self g c =
     let i = c.self.inside in
-    let all = capacity_in i.ring i.rechained c.self.view_is in
+    let all = length-capacity i.ring i.rechained c.self.view_is in
     let up : length i.ring.held + i.ring.spares < c.args.capacity = omega (arith, all, c.requires.higher) in
     let few : length i.index < c.args.capacity = omega (arith, c.requires.more, ap buckets all, c.self.invariant.indexed.count) in
     let sum : length i.ring.held + c.rehash.new.ring.spares ≡ c.args.capacity = omega (arith, all, c.requires.higher, c.capacity.ensures.value, c.in-Ok.ensures.spares, c.rehash.ensures.spares) in

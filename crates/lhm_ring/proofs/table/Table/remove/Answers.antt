@@ -2,8 +2,8 @@ use Rattle.std.proofs.Common.{◌≡◌, ◌++◌, sym, ap, ◌∙◌, arith}
 use Rattle.lhm_ring.specs.Positions.{pointer_of}
 use Rattle.lhm_ring.specs.Search.{entries}
 use Rattle.lhm_ring.proofs.Entries.{HasKey-kept}
-use Rattle.lhm_ring.proofs.Filters.{IsAbsent-lacks, IsFilter-emptied, emptied_within}
-use Rattle.lhm_ring.proofs.Tables.{IsAbsent-entries, HasKey-entries, at_entries, capacity_in, entries-append, IsTable-removed, all_nodes}
+use Rattle.lhm_ring.proofs.Filters.{IsAbsent-lacks, IsFilter-emptied, IfSome-emptied_within}
+use Rattle.lhm_ring.proofs.Tables.{IsAbsent-entries, HasKey-entries, AtHeld-same_entries, length-capacity, entries-append, IsTable-removed, length-with_spares}
 use Rattle.lhm_ring.proofs.table.Table.remove.Goals as goal
 
 pub returns-in_err-at-clause-absent : goal.returns-in_err-at-clause-absent
@@ -15,7 +15,7 @@ returns-then-not-may_contain-clause-absent g c = IsAbsent-lacks g.K.PartialEq.eq
 
 pub clear_emptied-requires : goal.clear_emptied-requires
 clear_emptied-requires g c =
-    emptied_within c.self.inside.filter c.self.inside.index c.take_out.new.self c.args.hash c.in_ok-at.emptied c.in_ok-at.ensures.emptied c.in_ok-at.ensures.buckets c.self.invariant.filtered.count
+    IfSome-emptied_within c.self.inside.filter c.self.inside.index c.take_out.new.self c.args.hash c.in_ok-at.emptied c.in_ok-at.ensures.emptied c.in_ok-at.ensures.buckets c.self.invariant.filtered.count
 
 pub invariant_of-self-2 : goal.invariant_of-self-2
 invariant_of-self-2 g c =
@@ -41,9 +41,9 @@ returns-clause-removed g c =
     record {
       at = p;
       has = rw (← c.self.view_is) (HasKey-entries g.K.PartialEq.eq c.args.hash c.args.key.now i.ring.held p has);
-      others = at_entries i.ring i.rechained c.self.view_is ks taken.held p (λ xs t ys. entries c.unlink-key.new.self.held ≡ xs ++ ys)
+      others = AtHeld-same_entries i.ring i.rechained c.self.view_is ks taken.held p (λ xs t ys. entries c.unlink-key.new.self.held ≡ xs ++ ys)
           (λ xs t ys e at. ap entries (c.unlink-key.ensures.others xs t ys e at) ∙ entries-append xs ys);
-      pair_is = at_entries i.ring i.rechained c.self.view_is ks taken.held p (λ xs t ys. (c.unlink-key.result.1, c.unlink-key.result.2) ≡ t.pair)
+      pair_is = AtHeld-same_entries i.ring i.rechained c.self.view_is ks taken.held p (λ xs t ys. (c.unlink-key.result.1, c.unlink-key.result.2) ≡ t.pair)
           (λ xs t ys e at. ap (λ z. (z.1, z.2)) (c.unlink-key.ensures.triple xs t ys e at));
     }
 
@@ -51,6 +51,6 @@ pub returns-clause-capacity : goal.returns-clause-capacity
 returns-clause-capacity g c =
     let taken = c.in_ok-at.ensures in
     let unlinked = c.unlink-key.ensures in
-    let all = all_nodes c.self.invariant taken.held taken.spares taken.nodes taken.lacks unlinked.others unlinked.spares unlinked.nodes in
-    let before = capacity_in c.self.inside.ring c.self.inside.rechained c.self.view_is in
+    let all = length-with_spares c.self.invariant taken.held taken.spares taken.nodes taken.lacks unlinked.others unlinked.spares unlinked.nodes in
+    let before = length-capacity c.self.inside.ring c.self.inside.rechained c.self.view_is in
     omega (arith, all, before)

@@ -1,21 +1,21 @@
 use Rattle.std.proofs.Common.{◌≡◌, ◌++◌, ap, ◌∙◌}
 use Rattle.lhm_ring.specs.Positions.{pointer_of}
 use Rattle.lhm_ring.specs.Search.{entries}
-use Rattle.lhm_ring.proofs.Filters.{IsFilter-emptied, emptied_within}
-use Rattle.lhm_ring.proofs.Tables.{held_in, at_entries, entries-append, IsTable-removed}
+use Rattle.lhm_ring.proofs.Filters.{IsFilter-emptied, IfSome-emptied_within}
+use Rattle.lhm_ring.proofs.Tables.{IsHeld-table, AtHeld-same_entries, entries-append, IsTable-removed}
 use Rattle.lhm_ring.proofs.table.Table.remove_at.Goals as goal
 
 pub take_out_at-emptied-requires-clause-held : goal.take_out_at-emptied-requires-clause-held
-take_out_at-emptied-requires-clause-held g c = held_in c.self.inside.ring c.self.inside.rechained c.self.view_is (pointer_of c.args.at) c.requires
+take_out_at-emptied-requires-clause-held g c = IsHeld-table c.self.inside.ring c.self.inside.rechained c.self.view_is (pointer_of c.args.at) c.requires
 
 pub clear_emptied-requires : goal.clear_emptied-requires
 clear_emptied-requires g c =
-    let h = held_in c.self.inside.ring c.self.inside.rechained c.self.view_is (pointer_of c.args.at) c.requires in
-    emptied_within c.self.inside.filter c.self.inside.index c.take_out_at-emptied.new.self h.node.hash c.take_out_at-emptied.result (c.take_out_at-emptied.ensures.emptied h.before h.node h.after h.is h.at_is) c.take_out_at-emptied.ensures.buckets c.self.invariant.filtered.count
+    let h = IsHeld-table c.self.inside.ring c.self.inside.rechained c.self.view_is (pointer_of c.args.at) c.requires in
+    IfSome-emptied_within c.self.inside.filter c.self.inside.index c.take_out_at-emptied.new.self h.node.hash c.take_out_at-emptied.result (c.take_out_at-emptied.ensures.emptied h.before h.node h.after h.is h.at_is) c.take_out_at-emptied.ensures.buckets c.self.invariant.filtered.count
 
 pub invariant_of-self : goal.invariant_of-self
 invariant_of-self g c =
-    let h = held_in c.self.inside.ring c.self.inside.rechained c.self.view_is (pointer_of c.args.at) c.requires in
+    let h = IsHeld-table c.self.inside.ring c.self.inside.rechained c.self.view_is (pointer_of c.args.at) c.requires in
     let taken = c.take_out_at-emptied.ensures in
     let unlinked = c.unlink-key.ensures in
     let cleared = c.clear_emptied.ensures in
@@ -30,10 +30,10 @@ invariant_of-self g c =
 
 pub returns-clause-others : goal.returns-clause-others
 returns-clause-others g c =
-    at_entries c.self.inside.ring c.self.inside.rechained c.self.view_is c.take_out_at-emptied.new.ring.held c.take_out_at-emptied.ensures.held (pointer_of c.args.at) (λ xs t ys. entries c.unlink-key.new.self.held ≡ xs ++ ys)
+    AtHeld-same_entries c.self.inside.ring c.self.inside.rechained c.self.view_is c.take_out_at-emptied.new.ring.held c.take_out_at-emptied.ensures.held (pointer_of c.args.at) (λ xs t ys. entries c.unlink-key.new.self.held ≡ xs ++ ys)
     (λ xs t ys e at. ap entries (c.unlink-key.ensures.others xs t ys e at) ∙ entries-append xs ys)
 
 pub returns-clause-pair : goal.returns-clause-pair
 returns-clause-pair g c =
-    at_entries c.self.inside.ring c.self.inside.rechained c.self.view_is c.take_out_at-emptied.new.ring.held c.take_out_at-emptied.ensures.held (pointer_of c.args.at) (λ xs t ys. (c.unlink-key.result.1, c.unlink-key.result.2) ≡ t.pair)
+    AtHeld-same_entries c.self.inside.ring c.self.inside.rechained c.self.view_is c.take_out_at-emptied.new.ring.held c.take_out_at-emptied.ensures.held (pointer_of c.args.at) (λ xs t ys. (c.unlink-key.result.1, c.unlink-key.result.2) ≡ t.pair)
     (λ xs t ys e at. ap (λ z. (z.1, z.2)) (c.unlink-key.ensures.triple xs t ys e at))

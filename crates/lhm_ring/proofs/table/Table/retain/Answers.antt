@@ -1,7 +1,7 @@
 use Rattle.std.proofs.Common.{ap, refl, ◌∙◌}
 use Rattle.std.specs.Map.Calls.{CalledAtPair, TakesPair}
 use Rattle.lhm_ring.specs.Positions.{pointer_of_some}
-use Rattle.lhm_ring.proofs.Retained.{IsRetaining-start, IsRetaining-end, IsRetaining-step, next_of, next_held, next_taken, left_from-smaller}
+use Rattle.lhm_ring.proofs.Retained.{IsRetaining-start, RetainsHeld-end, IsRetaining-step, First-next, next_held, TakesAt-next, left_from-smaller}
 use Rattle.lhm_ring.proofs.table.Table.retain.Goals as goal
 
 pub loop-next-init : goal.loop-next-init
@@ -10,19 +10,19 @@ loop-next-init g c = record { retaining = IsRetaining-start (CalledAtPair g.F.Fn
 pub next-next-requires : goal.next-next-requires
 next-next-requires g c =
     let m = c.loop-next.invariant.retaining in
-    next_held (CalledAtPair g.F.FnMut) (TakesPair g.F.FnMut) m (next_of (CalledAtPair g.F.FnMut) (TakesPair g.F.FnMut) m (ap pointer_of_some c.in-Some.is))
+    next_held (CalledAtPair g.F.FnMut) (TakesPair g.F.FnMut) m (First-next (CalledAtPair g.F.FnMut) (TakesPair g.F.FnMut) m (ap pointer_of_some c.in-Some.is))
 
 pub retain_at-requires : goal.retain_at-requires
 retain_at-requires g c =
     let m = c.loop-next.invariant.retaining in
-    next_taken (CalledAtPair g.F.FnMut) (TakesPair g.F.FnMut) m (next_of (CalledAtPair g.F.FnMut) (TakesPair g.F.FnMut) m (ap pointer_of_some c.in-Some.is))
+    TakesAt-next (CalledAtPair g.F.FnMut) (TakesPair g.F.FnMut) m (First-next (CalledAtPair g.F.FnMut) (TakesPair g.F.FnMut) m (ap pointer_of_some c.in-Some.is))
 
 pub loop-next-preserved : goal.loop-next-preserved
 loop-next-preserved g c =
     let m = c.loop-next.invariant.retaining in
     let kept = c.retain_at.ensures in
     record {
-      retaining = IsRetaining-step (CalledAtPair g.F.FnMut) (TakesPair g.F.FnMut) m (next_of (CalledAtPair g.F.FnMut) (TakesPair g.F.FnMut) m (ap pointer_of_some c.in-Some.is)) kept.retained c.next-next.ensures.next;
+      retaining = IsRetaining-step (CalledAtPair g.F.FnMut) (TakesPair g.F.FnMut) m (First-next (CalledAtPair g.F.FnMut) (TakesPair g.F.FnMut) m (ap pointer_of_some c.in-Some.is)) kept.retained c.next-next.ensures.next;
       capacity = kept.capacity ∙ c.loop-next.invariant.capacity;
       rechained = kept.rechained ∙ c.loop-next.invariant.rechained;
     }
@@ -31,7 +31,7 @@ pub loop-next-smaller : goal.loop-next-smaller
 loop-next-smaller g c =
     let m = c.loop-next.invariant.retaining in
     let some = ap pointer_of_some c.in-Some.is in
-    left_from-smaller (CalledAtPair g.F.FnMut) (TakesPair g.F.FnMut) m (next_of (CalledAtPair g.F.FnMut) (TakesPair g.F.FnMut) m some) c.retain_at.ensures.retained c.next-next.ensures.next c.next-next.ensures.apart
+    left_from-smaller (CalledAtPair g.F.FnMut) (TakesPair g.F.FnMut) m (First-next (CalledAtPair g.F.FnMut) (TakesPair g.F.FnMut) m some) c.retain_at.ensures.retained c.next-next.ensures.next c.next-next.ensures.apart
 
 pub returns-clause-retained : goal.returns-clause-retained
-returns-clause-retained g c = IsRetaining-end (CalledAtPair g.F.FnMut) (TakesPair g.F.FnMut) c.loop-next.invariant.retaining (ap pointer_of_some c.in_default.is)
+returns-clause-retained g c = RetainsHeld-end (CalledAtPair g.F.FnMut) (TakesPair g.F.FnMut) c.loop-next.invariant.retaining (ap pointer_of_some c.in_default.is)

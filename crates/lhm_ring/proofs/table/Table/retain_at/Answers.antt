@@ -1,12 +1,12 @@
 use Rattle.std.proofs.Common.{ap}
 use Rattle.std.specs.Map.Calls.{CalledAtPair}
-use Rattle.lhm_ring.proofs.Retained.{held-written, RetainsAt-kept, RetainsAt-removed}
+use Rattle.lhm_ring.proofs.Retained.{IsHeld-written, RetainsAt-kept, RetainsAt-removed}
 use Rattle.lhm_ring.proofs.table.Table.retain_at.Goals as goal
 
 pub remove_at-requires : goal.remove_at-requires
 remove_at-requires g c =
     let called = c.call_at.ensures.called in
-    held-written called.value c.call_at.ensures.alone (ap (λ s. s.held) called.new_is) c.requires.held
+    IsHeld-written called.value c.call_at.ensures.alone (ap (λ s. s.held) called.new_is) c.requires.held
 
 pub returns-then-not-call_at-clause-retained : goal.returns-then-not-call_at-clause-retained
 returns-then-not-call_at-clause-retained g c =

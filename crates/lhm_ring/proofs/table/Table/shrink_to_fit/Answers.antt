@@ -1,7 +1,7 @@
 use Rattle.std.proofs.Common.{◌≡◌, ◌+◌, length, ap, sym, ◌∙◌, arith}
 use Rattle.lhm_ring.specs.Buckets.{buckets, rechained_fitted}
 use Rattle.lhm_ring.specs.Search.{entries}
-use Rattle.lhm_ring.proofs.BucketCounts.{buckets_zero, rechained_fitted-none}
+use Rattle.lhm_ring.proofs.BucketCounts.{buckets-zero, rechained_fitted-none}
 use Rattle.lhm_ring.proofs.Tables.{length-entries}
 use Rattle.lhm_ring.proofs.table.Table.shrink_to_fit.Goals as goal
 
@@ -13,7 +13,7 @@ returns-then-len-eq0-clause-rechained g c =
     rw (← c.self.view_is) (
     c.free.ensures.rechained
     ∙ sym (ap (λ n. rechained_fitted i.rechained n capacity) none ∙ rechained_fitted-none i.rechained capacity (λ e.
-    let no_buckets = ap buckets e ∙ buckets_zero in
+    let no_buckets = ap buckets e ∙ buckets-zero in
     let few = c.self.invariant.few in
     let count = c.self.invariant.indexed.count in
     omega (arith, few, count, no_buckets)))

@@ -1,10 +1,10 @@
 use Rattle.std.proofs.Common.{◌≡◌}
 use Rattle.lhm_ring.specs.Positions.{pointer_of}
-use Rattle.lhm_ring.proofs.Tables.{held_in, at_held}
+use Rattle.lhm_ring.proofs.Tables.{IsHeld-table, AtHeld-table}
 use Rattle.lhm_ring.proofs.table.Table.value.Goals as goal
 
 pub value-requires : goal.value-requires
-value-requires g c = held_in c.self.inside.ring c.self.inside.rechained c.self.view_is (pointer_of c.args.at) c.requires
+value-requires g c = IsHeld-table c.self.inside.ring c.self.inside.rechained c.self.view_is (pointer_of c.args.at) c.requires
 
 pub returns : goal.returns
-returns g c = at_held c.self.inside.ring c.self.inside.rechained c.self.view_is (pointer_of c.args.at) (λ xs t ys. c.value.result.now ≡ t.pair.1) c.value.ensures
+returns g c = AtHeld-table c.self.inside.ring c.self.inside.rechained c.self.view_is (pointer_of c.args.at) (λ xs t ys. c.value.result.now ≡ t.pair.1) c.value.ensures

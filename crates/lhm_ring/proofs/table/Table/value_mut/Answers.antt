@@ -1,10 +1,10 @@
 use Rattle.std.proofs.Common.{◌≡◌, refl}
 use Rattle.lhm_ring.specs.Positions.{pointer_of}
-use Rattle.lhm_ring.proofs.Tables.{held_in, at_held, table_of-value, writes_only, IsTable-value}
+use Rattle.lhm_ring.proofs.Tables.{IsHeld-table, AtHeld-table, table_of-value, WritesOnly-table, IsTable-value}
 use Rattle.lhm_ring.proofs.table.Table.value_mut.Goals as goal
 
 pub value_mut-requires : goal.value_mut-requires
-value_mut-requires g c = held_in c.self.inside.ring c.self.inside.rechained c.self.view_is (pointer_of c.args.at) c.requires
+value_mut-requires g c = IsHeld-table c.self.inside.ring c.self.inside.rechained c.self.view_is (pointer_of c.args.at) c.requires
 
 pub invariant_of-self-lent : goal.invariant_of-self-lent
 invariant_of-self-lent g c w = IsTable-value c.self.invariant (pointer_of c.args.at) w
@@ -16,7 +16,7 @@ returns g c =
       (refl, λ w. table_of-value i.ring i.rechained c.self.view_is p w),
       record {
         writes_back = tt;
-        value = at_held i.ring i.rechained c.self.view_is p (λ xs t ys. c.value_mut.result.now ≡ t.pair.1) c.value_mut.ensures.value;
-        alone = writes_only i.ring i.rechained c.self.view_is p c.value_mut.ensures.alone;
+        value = AtHeld-table i.ring i.rechained c.self.view_is p (λ xs t ys. c.value_mut.result.now ≡ t.pair.1) c.value_mut.ensures.value;
+        alone = WritesOnly-table i.ring i.rechained c.self.view_is p c.value_mut.ensures.alone;
       },
     )

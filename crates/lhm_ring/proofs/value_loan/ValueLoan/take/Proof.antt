@@ -23,7 +23,7 @@ use Rattle.std.proofs.Common.{length}
 use Rattle.lhm_ring.specs.ValueLoan.{borrowed, spread, Spread, value_at, without_value, Lies}
 use Rattle.lhm_ring.specs.declared.value_loan.ValueLoan.{ValueLoan}
 use Rattle.lhm_ring.specs.contracts.value_loan.ValueLoan as L-type
-use Rattle.lhm_ring.proofs.ValueTaken.{CutValue, cut_value, run_cut, run_mend}
+use Rattle.lhm_ring.proofs.ValueTaken.{CutValue, CutValue-some, run_cut, run_mend}
 use contract.Monad.{fact, fact_i}
 use denote.Exit.{yes}
 use denote.RattleType.{RattleType, owns}
@@ -36,7 +36,7 @@ use Rattle.std.proofs.VecSteps.Shapes.{after}
 use Rattle.std.proofs.RcSteps.{word, word-Good}
 use Rattle.std.proofs.raw_atomic.Walks.{proved_at, leaves}
 use Rattle.lhm_ring.specs.Ownership.{value_of}
-use Rattle.lhm_ring.proofs.Memory.{Three, args, RL, RK, RV, vo, Nr, Pl, pointer_told}
+use Rattle.lhm_ring.proofs.Memory.{Three, args, RL, RK, RV, vo, Nr, Pl, word-pointer}
 use Rattle.lhm_ring.specs.contracts.value_loan.ValueLoan.take.{ended, clauses}
 use Rattle.lhm_ring.specs.contracts.value_loan.ValueLoan.take.Key.{name as #self}
 use Rattle.lhm_ring.proofs.value_loan.ValueLoan.take.Statement.{statement}
@@ -57,9 +57,9 @@ take_spec 𝓤 𝓛 𝓜 𝓡 wired L K V LL LK LV =
     qed 𝓛 (((‵ (flft κs.0 qs.0) ⊛ ‵ others) ⊛ ‵ (owns (types_at En.signature.params κs) a vss)) ∷ raw (fact 𝓤 _) ∷ raw (fact 𝓤 _) ∷ raw (fact 𝓤 _) ∷ raw (fact 𝓤 Asked) ∷ []) ∵
     keep ! (4 ∷ 0 ∷ []) $ heard ! Asked (λ asked. split ! $ split ! $ move ! (2 ∷ []) $ fsplit ! $ fsplit3 ! $ keep ! (1 ∷ 2 ∷ 4 ∷ 5 ∷ []) $
     let us : List Val = vptr rb ro ∷ word p ∷ [] in let Run : List Val → SProp 𝓤 = λ ws. WpFn 𝓤 H 𝓣.C 𝓣.Λ fn ws Post in
-    suffices ! (Run us) (subst (λ (ws : List Val). ent 𝓤 (Run us) (Run ws)) (sym (λ i. are.0.0 i ++ (pointer_told a.1.0 vss.1.0 are.1.0 i ++ []))) (id⊢ 𝓤 (Run us))) $
+    suffices ! (Run us) (subst (λ (ws : List Val). ent 𝓤 (Run us) (Run ws)) (sym (λ i. are.0.0 i ++ (word-pointer a.1.0 vss.1.0 are.1.0 i ++ []))) (id⊢ 𝓤 (Run us))) $
     enter ! 𝓣.C 𝓣.Λ fn us Post $ alloc_all ! (λ l. pass_all ! refl ((tt, tt), (word-Good [] p, tt)) $ let Ev = env fn.locals l in
-    let v : V.Denot = asked.0 in let k : CutValue d.run p v = cut_value d.run p v asked.1 in let xs = k.split.before in let ys = k.split.after in
+    let v : V.Denot = asked.0 in let k : CutValue d.run p v = CutValue-some d.run p v asked.1 in let xs = k.split.before in let ys = k.split.after in
     let all : List (Ptr × V.Denot) = xs ++ (p, v) ∷ ys in let ats : List (Ptr × V.Denot) → List Ptr = λ cs. map (λ c. f c.0) cs in let ofs : List (Ptr × V.Denot) → List V.Denot = λ cs. map (λ c. c.1) cs in
     move ! (3 ∷ []) $ fsplit ! $ move ! (2 ∷ 3 ∷ 4 ∷ []) $
     -- [self's name; its borrow; its token; the loan's token; the other tokens]

@@ -2,7 +2,7 @@ use Rattle.std.proofs.Common.{◌≡◌, ◌-◌, ◌∙◌, [], ◌∷◌, leng
 use Rattle.lhm_ring.specs.Positions.{pointer_of, pointer_of_some}
 use Rattle.lhm_ring.specs.RingState.{change_at}
 use Rattle.lhm_ring.specs.RingAfterLoan.{revalued}
-use Rattle.lhm_ring.proofs.Ends.{last_node, last_held}
+use Rattle.lhm_ring.proofs.Ends.{Last-last_at, last_held}
 use Rattle.linked_hash_map.specs.Indexes.{set_value_at}
 use Rattle.linked_hash_map.specs.Nodes.{pairs_of}
 use Rattle.linked_hash_map.proofs.Current.{IsKept-with_value}
@@ -13,7 +13,7 @@ use Rattle.linked_hash_map.proofs.map.LinkedHashMap.last_value_mut.Goals as goal
 pub value_mut-requires : goal.value_mut-requires
 value_mut-requires g c =
     let m = c.self.inside in
-    let last = last_node m.table.held (pointer_of_some c.last.result) (pointer_of c.unwrap-at.result) c.last.ensures.last (ap pointer_of_some c.unwrap-at.ensures) in
+    let last = Last-last_at m.table.held (pointer_of_some c.last.result) (pointer_of c.unwrap-at.result) c.last.ensures.last (ap pointer_of_some c.unwrap-at.ensures) in
     last_held last
 
 pub invariant_of-self-lent : goal.invariant_of-self-lent
@@ -23,7 +23,7 @@ pub returns : goal.returns
 returns g c =
     let m = c.self.inside in
     let at = pointer_of c.unwrap-at.result in
-    let last = last_node m.table.held (pointer_of_some c.last.result) at c.last.ensures.last (ap pointer_of_some c.unwrap-at.ensures) in
+    let last = Last-last_at m.table.held (pointer_of_some c.last.result) at c.last.ensures.last (ap pointer_of_some c.unwrap-at.ensures) in
     let of_pairs = length-pairs_of m.table.held in
     let long = ap length last.is in
     let cut = length-append last.before (last.node ∷ []) in

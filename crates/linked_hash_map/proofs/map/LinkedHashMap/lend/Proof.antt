@@ -115,7 +115,7 @@ lend_spec 𝓤 𝓛 𝓜 𝓡 wired K₀ V₀ S₀ H₀ LK LV LS LH b₀ d₀ b�
     -- [the fields; nothing; the token; the second name's; the loan; what follows; the other tokens]
     move ! (0 ∷ 2 ∷ []) $ let LS' = param_laws 0 K₀ LK in let LH' = H-laws.the_row_laws V (param_laws 1 V₀ LV) in
     use2 𝓛 (later (‵ ((ring.Thinned K V kb).shr_at (ring.thinned K V kb r) rb fo κ) ⊛ ‵ (flft κ q)))
-    (parts_share 𝓛 (ring.parts K V kb) (ring.thin_shape K V kb).name (ring.thin_shape K V kb).args (ring.thin_shape K V kb).types (ring.thin_shared Q K V kb links-laws.the_row_laws LS' LH', (RI-laws.the_shared K Hr LS' LH').1) (ring.thinned K V kb r) κ ((κ, q) ∷ []) rb fo
+    (parts_share 𝓛 (ring.parts K V kb) (ring.thin_shape K V kb).name (ring.thin_shape K V kb).args (ring.thin_shape K V kb).types (ring.Sharable-thin Q K V kb links-laws.the_row_laws LS' LH', (RI-laws.the_shared K Hr LS' LH').1) (ring.thinned K V kb r) κ ((κ, q) ∷ []) rb fo
     (RI-laws.the_within K Hr κ (Incl-trans bounds.0 inK) (H-laws.the_within V κ (Incl-trans bounds.1.0 inV))) (Incl-refl κ)) $ await ! tt $ split ! $
     use1 𝓛 (‵ (Holed.shr_at t.ring rb fo κ)) (view-Hides (RI-type.the_row K Hr) (State (K.Denot × V.Denot)) Holed.coded (R-type.the_view K Hr) (R-type.the_invariant K Hr) _ 𝓤 𝓛 t.ring r (rseen, rok) rb fo κ) $
     hide ! $ feq_i ! (List Val) (vptr rb fo ∷ []) (vptr rb fo ∷ []) refl $ fjoin ! $
@@ -129,7 +129,7 @@ lend_spec 𝓤 𝓛 𝓜 𝓡 wired K₀ V₀ S₀ H₀ LK LV LS LH b₀ d₀ b�
     -- [the pair; the token; nothing; the second name's; what follows; the other tokens]
     let Pairs : Type 0 = pairs_of t.ring.held ≡ d.pairs in let Lent' : Type 0 = AreLent (run_of es) t.ring.held in let Valid : Type 0 = IsValid b₁.eq d in
     use0 𝓛 (raw (fact 𝓤 Valid)) (fact_i 𝓤 Valid (emp 𝓤) (lending.valid K₀ V₀ S₀ H₀ b₁ b₂ b₃ b₄ 𝓛 i rb ro d seen ok t tseen tok r rseen rok)) $
-    use0 𝓛 (raw (fact 𝓤 Lent')) (fact_i 𝓤 Lent' (emp 𝓤) (ring.lent_of K V 𝓛 r t.ring rseen rok rb fo)) $ join ! $
+    use0 𝓛 (raw (fact 𝓤 Lent')) (fact_i 𝓤 Lent' (emp 𝓤) (ring.AreLent-entries K V 𝓛 r t.ring rseen rok rb fo)) $ join ! $
     use0 𝓛 (raw (fact 𝓤 Pairs)) (fact_i 𝓤 Pairs (emp 𝓤) (lending.pairs_are K₀ V₀ S₀ H₀ b₁ b₂ b₃ b₄ 𝓛 i rb ro d seen ok t tseen tok r rseen rok)) $ join ! $ move ! (5 ∷ 0 ∷ []) $ join ! $ move ! (2 ∷ 5 ∷ []) $ join ! $
     nothing ! $ nothing ! $ fjoin ! $
     returns ! (look_at ! 0 refl) $ free_all ! refl $ keep ! (1 ∷ 0 ∷ 3 ∷ 2 ∷ []) $ by ! (leaves 𝓛 En hs c y out (record { ring = top; loan = lent }) (tt, tt) (tt, tt)))))))))))

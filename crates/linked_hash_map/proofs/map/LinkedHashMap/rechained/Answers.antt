@@ -1,5 +1,5 @@
 use Rattle.std.proofs.Common.{refl, arith}
-use Rattle.lhm_ring.proofs.BucketCounts.{buckets_lt}
+use Rattle.lhm_ring.proofs.BucketCounts.{buckets-below}
 use Rattle.linked_hash_map.proofs.Kept.{IsValid-view}
 use Rattle.linked_hash_map.proofs.map.LinkedHashMap.rechained.Goals as goal
 
@@ -8,6 +8,6 @@ returns-clause-valid g c = rw (← c.self.view_is) (IsValid-view c.self.invarian
 
 pub returns-clause-below : goal.returns-clause-below
 returns-clause-below g c = rw (← c.self.view_is) (λ some.
-    let below = buckets_lt _ some in
+    let below = buckets-below _ some in
     let few = c.rechained.ensures.few in
     omega arith)

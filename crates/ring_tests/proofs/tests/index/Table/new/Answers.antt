@@ -1,5 +1,5 @@
-use Rattle.lhm_ring.proofs.IndexedRing.{indexed_new}
+use Rattle.lhm_ring.proofs.IndexedRing.{IsIndexed-new}
 use Rattle.ring_tests.proofs.tests.index.Table.new.Goals as goal
 
 pub invariant_of-result : goal.invariant_of-result
-invariant_of-result g c = indexed_new c.new-2.result c.new.result c.new-2.ensures c.new.ensures.empty c.new.ensures.no_spares
+invariant_of-result g c = IsIndexed-new c.new-2.result c.new.result c.new-2.ensures c.new.ensures.empty c.new.ensures.no_spares

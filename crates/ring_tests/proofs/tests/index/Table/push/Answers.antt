@@ -1,6 +1,6 @@
 use Rattle.std.proofs.Common.{sym, subst, ◌<◌}
-use Rattle.lhm_ring.proofs.IndexedRing.{indexed_some}
+use Rattle.lhm_ring.proofs.IndexedRing.{length-indexed}
 use Rattle.ring_tests.proofs.tests.index.Table.push.Goals as goal
 
 pub put_in-requires-clause-some : goal.put_in-requires-clause-some
-put_in-requires-clause-some g c = indexed_some c.self.inside.index c.self.inside.ring c.self.invariant (subst (λ s. 0 < s.spares) (sym c.self.view_is) c.requires)
+put_in-requires-clause-some g c = length-indexed c.self.inside.index c.self.inside.ring c.self.invariant (subst (λ s. 0 < s.spares) (sym c.self.view_is) c.requires)
