@@ -7,7 +7,7 @@ use std::alloc::{AllocError, Global};
 use std::process::Abort;
 
 /// Inputs of commands, and the output of each run.
-const DONE: [(&str, &str); 28] = [
+const DONE: [(&str, &str); 29] = [
     ("", "list\n"),
     (
         "insert 2 20\ninsert 1 10\ninsert 3 30\n",
@@ -113,6 +113,11 @@ const DONE: [(&str, &str); 28] = [
     (
         "\n \t\r\n\tinsert\r1 \t10\r\n  remove 1",
         "new len=1 cap=1\nold 10 len=0 cap=1\nlist\n",
+    ),
+    // The longest answers of one pair.
+    (
+        "write 18446744073709551615 18446744073709551614\norinsert 18446744073709551615 18446744073709551614\npopback\n",
+        "absent 18446744073709551615 18446744073709551614 len=0 cap=0\nnew len=1 cap=1\npair 18446744073709551615 18446744073709551614 len=0 cap=1\nlist\n",
     ),
     // The largest number, with a leading zero.
     (
@@ -225,4 +230,31 @@ fn check_long_run(rt: &impl Abort, alloc: Global, input: &[u8], output: &[u8]) {
 fn a_thousand_pairs_come_and_go_in_room_for_two(rt: HostRuntime) {
     let (input, output) = given!(rt; thousand_pairs(rt.alloc()));
     check_long_run(&rt, rt.alloc(), input.as_slice(), output.as_slice());
+}
+
+/// The first of a thousand numbers of 20 digits.
+const LARGE: u64 = 18_446_744_073_709_550_000;
+
+/// A line that puts a thousand pairs of numbers of 20 digits in, a drain, and the first line again,
+/// and the output of their run: a list of 42,000 bytes in an answer, and one at the end.
+fn long_lines(alloc: Global) -> Result<(String, String), AllocError> {
+    let mut words = String::new(alloc);
+    let mut pairs = String::new(alloc);
+    for key in LARGE..LARGE + 1000 {
+        let value = key + 500;
+        write!(words, " {key} {value}")?;
+        write!(pairs, " {key}:{value}")?;
+    }
+    let words = words.as_str();
+    let pairs = pairs.as_str();
+    let input = format!(in alloc; "extend{words}\ndrain\nextend{words}\n")?;
+    let done = "done len=1000 cap=1000\n";
+    let output = format!(in alloc; "{done}pairs{pairs} len=0 cap=1000\n{done}list{pairs}\n")?;
+    Ok((input, output))
+}
+
+#[test]
+fn long_lines_have_long_answers(rt: HostRuntime) {
+    let (input, output) = given!(rt; long_lines(rt.alloc()));
+    check_long_run(&rt, rt.alloc(), input.as_bytes(), output.as_bytes());
 }
