@@ -3,7 +3,7 @@
 use super::calls::{
     assert_contains, assert_get, assert_sizes, check_insert, check_pop_front, check_remove,
 };
-use super::checks::given;
+use super::checks::{check, given};
 use linked_hash_map::LinkedHashMap;
 use std::process::Abort;
 
@@ -58,4 +58,21 @@ fn gives_a_million_pairs_back(rt: HostRuntime) {
     check_pop_front(&rt, &mut map, None);
     given!(rt; map.shrink_to_fit());
     assert_sizes(&rt, &map, 0, 0);
+}
+
+/// Clears and drains an empty map over and over.
+fn empty_often(rt: &impl Abort, map: &mut LinkedHashMap<u64, u64>) {
+    for _ in 0..ALL {
+        map.clear();
+        check!(rt; map.drain().next().is_none());
+    }
+}
+
+/// If either call went over the buckets, a million of them would take hours, and a test has a
+/// minute.
+#[test]
+fn empties_an_empty_map_in_constant_time(rt: HostRuntime) {
+    let mut map = given!(rt; LinkedHashMap::with_capacity(rt.alloc(), 1_048_576));
+    empty_often(&rt, &mut map);
+    assert_sizes(&rt, &map, 0, 1_048_576);
 }

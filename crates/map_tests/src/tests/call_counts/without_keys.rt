@@ -1,5 +1,5 @@
-//! Calls that look no key up: making and dropping, the ends, iterators, cursors, capacities and
-//! settings.
+//! Calls that look no key up: making and dropping, the ends, iterators and their sizes, cursors,
+//! capacities and settings.
 
 use super::{CallMap, KINDS, Kind, check_calls, map_of_kind};
 use crate::tests::counted_calls::{Counts, NONE, builder_of, new_counts};
@@ -23,7 +23,6 @@ fn read(rt: &impl Abort, map: &CallMap, counts: &Rc<Counts>) {
     check_calls!(rt; counts, (map.rechained(), map.unvisited(), map.mode()), NONE);
     check_calls!(rt; counts, map.hasher(), NONE);
     check_calls!(rt; counts, (map.iter().next(), map.iter().next_back()), NONE);
-    check_calls!(rt; counts, (map.iter().len(), map.iter().size_hint()), NONE);
     check_calls!(rt; counts, (map.keys().next(), map.keys().next_back()), NONE);
     check_calls!(rt; counts, (map.values().next(), map.values().next_back()), NONE);
     check_calls!(rt; counts, map.iter().clone().is_ok(), NONE);
@@ -69,6 +68,21 @@ fn change(rt: &impl Abort, map: &mut CallMap, counts: &Rc<Counts>) {
     check_calls!(rt; counts, visit_all(map), NONE);
 }
 
+/// Returns what an iterator says of how many items are left.
+fn sizes(iterator: &impl ExactSizeIterator) -> (usize, (usize, Option<usize>)) {
+    (iterator.len(), iterator.size_hint())
+}
+
+/// Asks each iterator how many items are left.
+fn ask_sizes(rt: &impl Abort, mut map: CallMap, counts: &Rc<Counts>) {
+    check_calls!(rt; counts, sizes(&map.iter()), NONE);
+    check_calls!(rt; counts, sizes(&map.keys()), NONE);
+    check_calls!(rt; counts, sizes(&map.values()), NONE);
+    check_calls!(rt; counts, sizes(&map.iter_mut()), NONE);
+    let pairs = map.into_iter();
+    check_calls!(rt; counts, sizes(&pairs), NONE);
+}
+
 /// Takes pairs out by each call that is handed no key.
 fn take_out(rt: &impl Abort, map: &mut CallMap, counts: &Rc<Counts>) {
     check_calls!(rt; counts, map.pop_front(), NONE);
@@ -86,6 +100,8 @@ fn consume(rt: &impl Abort, alloc: Global, kind: &Kind, counts: &Rc<Counts>) {
     check_calls!(rt; counts, map.into_iter().next_back(), NONE);
     let mut map = map_of_kind(rt, alloc, kind, counts);
     check_calls!(rt; counts, map.drain().next_back(), NONE);
+    let mut map = map_of_kind(rt, alloc, kind, counts);
+    check_calls!(rt; counts, sizes(&map.drain()), NONE);
     let map = map_of_kind(rt, alloc, kind, counts);
     check_calls!(rt; counts, map, NONE);
 }
@@ -100,6 +116,7 @@ fn call_each(rt: &impl Abort, alloc: Global, kind: &Kind) {
     let mut map = map_of_kind(rt, alloc, kind, &counts);
     check_calls!(rt; counts, map.clear(), NONE);
     consume(rt, alloc, kind, &counts);
+    ask_sizes(rt, map_of_kind(rt, alloc, kind, &counts), &counts);
 }
 
 fn call_in_each(rt: &impl Abort, alloc: Global) {
