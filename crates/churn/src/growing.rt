@@ -2,6 +2,7 @@
 
 use super::filling::{Map, PAIRS, empty, fill, filled, list};
 use super::item::{Key, Value};
+use super::large::raise;
 use super::stop::Stop;
 use super::sums::sum;
 use linked_hash_map::LIMIT;
@@ -45,6 +46,7 @@ pub fn run<K: Key, V: Value>(alloc: Global) -> Result<u64, Stop> {
         at_once::<K, V>(alloc)?,
         extended::<K, V>(alloc)?,
         refused::<K, V>(alloc)?,
+        raise::<K>(alloc)?,
     ];
     Ok(sum(&seen))
 }

@@ -17,6 +17,7 @@ mod filling;
 mod growing;
 mod hasher;
 mod item;
+mod large;
 mod making;
 mod numbers;
 mod part;

@@ -3,6 +3,7 @@
 use super::filling::{Map, PAIRS, empty, filled, list, pair};
 use super::hasher::BuildOwner;
 use super::item::{Key, Value};
+use super::large::create;
 use super::stop::Stop;
 use super::sums::{sum, total};
 use linked_hash_map::{LIMIT, LinkedHashMap};
@@ -58,6 +59,7 @@ pub fn run<K: Key, V: Value>(alloc: Global) -> Result<u64, Stop> {
         // Those of the first are refused without asking, and those of the second by the allocator.
         refused::<K, V>(alloc, LIMIT + 1)?,
         refused::<K, V>(alloc, LIMIT)?,
+        create::<K>(alloc)?,
     ];
     Ok(sum(&seen))
 }
