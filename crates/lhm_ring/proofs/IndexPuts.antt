@@ -12,6 +12,13 @@ use Rattle.lhm_ring.proofs.Chains.{PutsIn-spots, Indexes-put, Indexes-none}
 use Rattle.lhm_ring.proofs.Filters.{CoversAll-more, CoversAll-append}
 use Rattle.lhm_ring.proofs.Entries.{IsHeld-kept, entries-link}
 
+-- the node that comes last is the one that the index lacks
+pub HoldsOthers-last : {K V : Type 0} {heads : List (Option Ptr)} {nodes : List (Held (K × V))} (old : List (Held (K × V))) (t : Held (K × V)) → nodes ≡ old ++ t ∷ [] → Indexes heads (spots old) → HoldsOthers heads nodes t.at
+HoldsOthers-last {heads = heads} old t last indexed = record {
+  held = record { before = old; node = t; after = []; is = last; at_is = refl };
+  others = subst (λ hs. Indexes heads (spots hs)) (sym (append-nil old)) indexed;
+}
+
 pub Indexes-chained : {K V : Type 0} (p : Ptr) (heads heads' : List (Option Ptr)) (nodes nodes' : List (Held (K × V))) → Chains p heads heads' nodes nodes' → HoldsOthers heads nodes p → 0 < length heads → Indexes heads' (spots nodes')
 Indexes-chained {K} {V} p heads heads' nodes nodes' c lacks l =
     let h : IsHeld nodes p = lacks.held in

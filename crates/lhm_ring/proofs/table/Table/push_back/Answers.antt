@@ -1,13 +1,13 @@
-use Rattle.std.proofs.Common.{◌≡◌, ◌+◌, ◌%◌, ◌∷◌, [], None, refl, sym, ap, ◌∙◌, subst, length, length-append, append-nil, arith}
+use Rattle.std.proofs.Common.{◌≡◌, ◌+◌, ◌%◌, ◌∷◌, [], None, refl, sym, ap, ◌∙◌, length, length-append, arith}
 use Rattle.std.proofs.Math.Nat.{mod-lt}
 use Rattle.lhm_ring.specs.Buckets.{buckets}
-use Rattle.lhm_ring.specs.Index.{spots, Indexes}
 use Rattle.lhm_ring.specs.Positions.{pointer_of}
 use Rattle.lhm_ring.specs.RingAfterLoan.{pair}
 use Rattle.lhm_ring.specs.RingState.{held}
 use Rattle.lhm_ring.specs.Search.{entries}
 use Rattle.lhm_ring.proofs.Filters.{IsFilter-more}
 use Rattle.lhm_ring.proofs.IndexedRing.{length-indexed}
+use Rattle.lhm_ring.proofs.IndexPuts.{HoldsOthers-last}
 use Rattle.lhm_ring.proofs.Tables.{spares-table, length-same_entries}
 use Rattle.lhm_ring.proofs.table.Table.push_back.Goals as goal
 
@@ -15,13 +15,7 @@ pub put_in-bucket-requires-clause-some : goal.put_in-bucket-requires-clause-some
 put_in-bucket-requires-clause-some g c = length-indexed c.self.inside.index c.self.inside.ring c.self.invariant.indexed (spares-table c.self.inside.ring c.self.inside.rechained c.self.view_is c.requires)
 
 pub put_in-bucket-requires-clause-lacks : goal.put_in-bucket-requires-clause-lacks
-put_in-bucket-requires-clause-lacks g c =
-    let t = held (pointer_of c.put_back-at.result) c.args.hash None (pair c.args.key c.args.value) in
-    let old = c.self.inside.ring.held in
-    record {
-      held = record { before = old; node = t; after = []; is = c.put_back-at.ensures.last; at_is = refl };
-      others = subst (λ hs. Indexes c.self.inside.index (spots hs)) (sym (append-nil old)) c.self.invariant.indexed.chains;
-    }
+put_in-bucket-requires-clause-lacks g c = HoldsOthers-last _ _ c.put_back-at.ensures.last c.self.invariant.indexed.chains
 
 -- the bucket that was returned is that of the hash
 pub insert-requires-clause-of_hash : goal.insert-requires-clause-of_hash
