@@ -28,14 +28,15 @@ impl<K, V> Table<K, V> {
         if capacity <= self.index.buckets() {
             return self.ring.grow_within(additional, self.index.buckets());
         }
-        self.raise_buckets(capacity)
+        self.raise_buckets(capacity, additional)
     }
 
-    /// Raises the capacity above the number of buckets, and rehashes all pairs, in O(n). It changes
-    /// nothing if an allocation fails.
+    /// Raises the capacity by `additional`, above the number of buckets, and rehashes all pairs, in
+    /// O(n). It changes nothing if an allocation fails.
     #[cold]
     #[inline(never)]
-    fn raise_buckets(&mut self, capacity: usize) -> Result<(), AllocError>
+    fn raise_buckets(&mut self, capacity: usize, additional: usize) -> Result<(), AllocError>
+        requires sum { self.old.capacity + additional ≡ capacity }
         requires more { buckets self.old.capacity < capacity }
         requires higher { self.old.capacity < capacity }
         requires limit { capacity ≤ 2 ^ 59 }
@@ -45,7 +46,6 @@ impl<K, V> Table<K, V> {
             (self.new.rechained ≡ self.old.rechained + length self.old.held) }
         ensures refused { OnErr result (self.new ≡ self.old) }
     {
-        let additional = capacity - self.capacity();
         let (index, filter) = with_filter(self.ring.allocator(), capacity)?;
         match self.ring.grow_within(additional, index.buckets()) {
             Ok(()) => {
