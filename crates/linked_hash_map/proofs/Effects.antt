@@ -173,14 +173,14 @@ module _ {K V : Type 0} {eq : K → K → Bool} (laws : IsEquivalence eq) {start
   distinct-contents = subst (λ es. IsDistinct eq (keys_of es)) defines.same_pairs (distinct-pairs laws log)
 
   -- after the pair at an index is taken out
-  Defines-take_out : (i : ℕ) (pair : K × V) {later : List (K × V)} {capacity' : ℕ} {m' : Mode} → slice_get contents i ≡ Some pair → later ≡ remove contents i → capacity' ≡ capacity → m' ≡ m → Defines eq start (log ++ Remove pair.0 ∷ []) later capacity' m'
-  Defines-take_out i pair there h m o = Defines-remove pair.0 (h ∙ sym (without-own laws contents distinct-contents i pair there)) m o
+  Defines-remove_at : (i : ℕ) (pair : K × V) {later : List (K × V)} {capacity' : ℕ} {m' : Mode} → slice_get contents i ≡ Some pair → later ≡ remove contents i → capacity' ≡ capacity → m' ≡ m → Defines eq start (log ++ Remove pair.0 ∷ []) later capacity' m'
+  Defines-remove_at i pair there h m o = Defines-remove pair.0 (h ∙ sym (without-own laws contents distinct-contents i pair there)) m o
 
   pub Defines-pop_front : (k : K) (v : V) {later : List (K × V)} {capacity' : ℕ} {m' : Mode} → Some (k, v) ≡ slice_get contents 0 → later ≡ drop 1 contents → capacity' ≡ capacity → m' ≡ m → Defines eq start (log ++ Remove k ∷ []) later capacity' m'
-  Defines-pop_front k v there h m o = Defines-take_out 0 (k, v) (sym there) h m o
+  Defines-pop_front k v there h m o = Defines-remove_at 0 (k, v) (sym there) h m o
 
   pub Defines-pop_back : (k : K) (v : V) {later : List (K × V)} {capacity' : ℕ} {m' : Mode} → Some (k, v) ≡ slice_get contents (length contents - 1) → later ≡ take (length contents - 1) contents → capacity' ≡ capacity → m' ≡ m → Defines eq start (log ++ Remove k ∷ []) later capacity' m'
-  Defines-pop_back k v there h m o = Defines-take_out (length contents - 1) (k, v) (sym there) (h ∙ sym (remove-last contents)) m o
+  Defines-pop_back k v there h m o = Defines-remove_at (length contents - 1) (k, v) (sym there) (h ∙ sym (remove-last contents)) m o
 
   -- the pair at an index of the map is that of the log
   pub slice_get-contents : (i : ℕ) {o : Option (K × V)} → o ≡ slice_get contents i → slice_get (pairs eq log) i ≡ o

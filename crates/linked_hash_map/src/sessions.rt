@@ -42,7 +42,7 @@ mod outcome;
 mod retain;
 mod storage;
 
-use self::storage::{Weighted, find_leaving, make_room, store, weight_at};
+use self::storage::{Weighted, allocate_for_put, find_leaving, store, weight_at};
 use crate::map::LinkedHashMap;
 pub use iter::SessionIter;
 pub use outcome::{Put, PutReason, PutRefused};
@@ -176,7 +176,7 @@ impl<T> Sessions<T> {
         // No sum can overflow: the weight is subtracted from the limit, not added to the total.
         let others = self.total - replaced.unwrap_or(0);
         let leaving = find_leaving(&self.map, id, others, self.limit - weight);
-        let Ok(mut gone) = make_room(&mut self.map, self.alloc, is_new, leaving.count) else {
+        let Ok(mut gone) = allocate_for_put(&mut self.map, self.alloc, is_new, leaving.count) else {
             return Err(PutRefused {
                 reason: PutReason::NoRoom,
                 payload,

@@ -126,7 +126,7 @@ impl<'a, K: Eq + Hash, V, S: BuildHasher> OccupiedEntry<'a, K, V, S> {
             (occupied_key self.entry) None }
         ensures fewer { length self.exit.0.now.pairs + 1 ≡ length (occupied_map self.entry).pairs }
     {
-        let (_key, value) = self.map.take_current();
+        let (_key, value) = self.map.remove_current();
         value
     }
 }

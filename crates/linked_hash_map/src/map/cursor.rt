@@ -286,7 +286,7 @@ impl<K: Eq + Hash, V, S: BuildHasher> LinkedHashMap<K, V, S> {
 
     /// Removes and returns the current pair. None is then current.
     #[inline]
-    pub(crate) fn take_current(&mut self) -> (K, V)
+    pub(crate) fn remove_current(&mut self) -> (K, V)
         requires within { self.old.cursor.current < length self.old.pairs }
         requires outside { IsOutside self.old.cursor.current self.old }
         ensures pair { slice_get self.old.pairs self.old.cursor.current ≡ Some result }

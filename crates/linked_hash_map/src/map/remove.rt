@@ -47,13 +47,13 @@ impl<K: Eq + Hash, V, S: BuildHasher> LinkedHashMap<K, V, S> {
         ensures same { IfNone result (self.new.pairs ≡ self.old.pairs) }
     {
         let hash = self.hash_of(key);
-        let (_stored, value) = self.take_out(hash, key)?;
+        let (_stored, value) = self.remove_hashed(hash, key)?;
         Some(value)
     }
 
     /// Removes and returns the pair of a key, if present, and then ends a visit.
     #[inline]
-    pub(crate) fn take_out(&mut self, hash: u64, key: &K) -> Option<(K, V)>
+    pub(crate) fn remove_hashed(&mut self, hash: u64, key: &K) -> Option<(K, V)>
         requires { hash ≡ hash_by S.Hasher.finish S.Hasher.write S.build_hasher K.hash_input
             self.old.hasher key.now }
         ensures value { option_map (λ pair. pair.1) result ≡ value_at K.eq self.old.pairs key.now }

@@ -78,7 +78,7 @@ pub(super) fn total_of<T>(map: &LinkedHashMap<u64, Weighted<T>>) -> u64
 
 /// Makes all allocations of a put: a vector for the sessions to remove, or, for none and a new id,
 /// room for one more.
-pub(super) fn make_room<T>(
+pub(super) fn allocate_for_put<T>(
     map: &mut LinkedHashMap<u64, Weighted<T>>,
     alloc: Global,
     is_new: bool,
@@ -136,16 +136,16 @@ pub(super) fn store<T>(
 {
     let (id, weight, payload) = session;
     if is_new {
-        take_oldest(map, count, gone);
-        return put_back(map, id, weight, payload);
+        remove_oldest(map, count, gone);
+        return insert_newest(map, id, weight, payload);
     }
-    let old = put_back(map, id, weight, payload);
-    take_oldest(map, count, gone);
+    let old = insert_newest(map, id, weight, payload);
+    remove_oldest(map, count, gone);
     old
 }
 
 /// Removes sessions from the front into a vector with room for them.
-pub(super) fn take_oldest<T>(
+pub(super) fn remove_oldest<T>(
     map: &mut LinkedHashMap<u64, Weighted<T>>,
     count: usize,
     gone: &mut Vec<(u64, u64, T)>,
@@ -171,7 +171,7 @@ pub(super) fn take_oldest<T>(
 
 /// Puts a session at the back in place of that with its id, whose payload it returns. It does not
 /// allocate.
-pub(super) fn put_back<T>(
+pub(super) fn insert_newest<T>(
     map: &mut LinkedHashMap<u64, Weighted<T>>,
     id: u64,
     weight: u64,

@@ -60,23 +60,23 @@ fn remove_occupied(rt: &impl Abort, map: &mut CallMap, key: &Key) -> bool {
     }
 }
 
-/// Takes a present key out.
-fn take_out(rt: &impl Abort, map: &mut CallMap, key: &Key) {
+/// Removes the pair of a present key.
+fn remove_by_entry(rt: &impl Abort, map: &mut CallMap, key: &Key) {
     let wanted = lookup_of(rt, map, key);
     check_calls!(rt; key.counts, remove_occupied(rt, map, key), wanted);
 }
 
-/// Inserts an absent key by each call, and takes it out again.
+/// Inserts an absent key by each call, and removes it again.
 fn enter_absent(rt: &impl Abort, map: &mut CallMap, key: &Key, wanted: Calls) {
     enter(rt, map, key, wanted);
     or_insert(rt, map, key, wanted);
-    take_out(rt, map, key);
+    remove_by_entry(rt, map, key);
     or_insert_with(rt, map, key, wanted);
-    take_out(rt, map, key);
+    remove_by_entry(rt, map, key);
     or_default(rt, map, key, wanted);
-    take_out(rt, map, key);
+    remove_by_entry(rt, map, key);
     check_calls!(rt; key.counts, insert_vacant(rt, map, key), wanted);
-    take_out(rt, map, key);
+    remove_by_entry(rt, map, key);
 }
 
 /// Makes each call of an occupied entry on a present key.
@@ -87,7 +87,7 @@ fn enter_present(rt: &impl Abort, map: &mut CallMap, key: &Key) {
     or_insert_with(rt, map, key, wanted);
     or_default(rt, map, key, wanted);
     check_calls!(rt; key.counts, use_occupied(rt, map, key), wanted);
-    take_out(rt, map, key);
+    remove_by_entry(rt, map, key);
     check!(rt; insert_vacant(rt, map, key));
 }
 

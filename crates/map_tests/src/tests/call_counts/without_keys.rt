@@ -83,8 +83,8 @@ fn ask_sizes(rt: &impl Abort, mut map: CallMap, counts: &Rc<Counts>) {
     check_calls!(rt; counts, sizes(&pairs), NONE);
 }
 
-/// Takes pairs out by each call that is handed no key.
-fn take_out(rt: &impl Abort, map: &mut CallMap, counts: &Rc<Counts>) {
+/// Removes pairs by each call that is handed no key.
+fn remove_without_keys(rt: &impl Abort, map: &mut CallMap, counts: &Rc<Counts>) {
     check_calls!(rt; counts, map.pop_front(), NONE);
     check_calls!(rt; counts, map.pop_back(), NONE);
     check_calls!(rt; counts, remove_first(map), NONE);
@@ -112,7 +112,7 @@ fn call_each(rt: &impl Abort, alloc: Global, kind: &Kind) {
     let mut map = map_of_kind(rt, alloc, kind, &counts);
     read(rt, &map, &counts);
     change(rt, &mut map, &counts);
-    take_out(rt, &mut map, &counts);
+    remove_without_keys(rt, &mut map, &counts);
     let mut map = map_of_kind(rt, alloc, kind, &counts);
     check_calls!(rt; counts, map.clear(), NONE);
     consume(rt, alloc, kind, &counts);

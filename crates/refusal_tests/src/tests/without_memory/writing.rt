@@ -24,7 +24,7 @@ fn write_all(rt: &(impl Abort + Print + AllocGlobal), made: Result<Map, ReserveE
         write_all_but_first(rt, &mut map);
         loop_over(&mut map);
         insert_present(rt, &mut map);
-        take_out(rt, &mut map);
+        remove_pairs(rt, &mut map);
         put_in(rt, &mut map);
         drain(rt, &mut map);
         reserve_and_shrink(rt, &mut map);
@@ -101,9 +101,9 @@ fn insert_present(rt: &impl Abort, map: &mut Map) {
     assert_map(rt, map, &[(2, 22), (3, 33), (1, 12)], 3, 0);
 }
 
-/// Takes all pairs out of a map that `insert_present` left, in three ways, keeps two of three, and
+/// Removes all pairs of a map that `insert_present` left, in three ways, keeps two of three, and
 /// clears it.
-fn take_out(rt: &impl Abort, map: &mut Map) {
+fn remove_pairs(rt: &impl Abort, map: &mut Map) {
     check_remove(rt, map, 3, Some(33));
     check_remove(rt, map, 4, None);
     check_pop_front(rt, map, Some((2, 22)));

@@ -30,7 +30,7 @@ returns-in_default-clause-valid g c = rw (← c.self.view_is) (IsValidTable-kept
 
 pub returns-in_default-clause-stays_valid : goal.returns-in_default-clause-stays_valid
 returns-in_default-clause-stays_valid g c =
-    subst (λ ps. IsValidTable (session_table (sessions_of ps) c.self.inside.limit)) (sym c.make_room.ensures.pairs) (IsValidTable-kept c.self.invariant)
+    subst (λ ps. IsValidTable (session_table (sessions_of ps) c.self.inside.limit)) (sym c.allocate_for_put.ensures.pairs) (IsValidTable-kept c.self.invariant)
 
 pub returns-in_default-clause-succeeds : goal.returns-in_default-clause-succeeds
 returns-in_default-clause-succeeds g c =
@@ -44,13 +44,13 @@ returns-in_default-clause-succeeds g c =
 
 pub store-old-requires-clause-present : goal.store-old-requires-clause-present
 store-old-requires-clause-present g c =
-    rw c.make_room.ensures.pairs (is_some-weight (sessions_of c.self.inside.map.pairs) c.args.id c.weight_at-replaced.ensures ∙ c.is_none-is_new.ensures)
+    rw c.allocate_for_put.ensures.pairs (is_some-weight (sessions_of c.self.inside.map.pairs) c.args.id c.weight_at-replaced.ensures ∙ c.is_none-is_new.ensures)
 
 pub store-old-requires-clause-enough : goal.store-old-requires-clause-enough
-store-old-requires-clause-enough g c = rw c.make_room.ensures.pairs c.find_leaving-leaving.ensures.within
+store-old-requires-clause-enough g c = rw c.allocate_for_put.ensures.pairs c.find_leaving-leaving.ensures.within
 
 pub store-old-requires-clause-room : goal.store-old-requires-clause-room
-store-old-requires-clause-room g c = rw c.make_room.ensures.pairs c.in-Ok.ensures.room
+store-old-requires-clause-room g c = rw c.allocate_for_put.ensures.pairs c.in-Ok.ensures.room
 
 pub overflow_add-self : goal.overflow_add-self
 overflow_add-self g c =
@@ -65,7 +65,7 @@ invariant_of-self-2 g c =
     let others = without (sessions_of m.map.pairs) c.args.id in
     let left = drop leaving.result.count others in
     let few = total_weight-fit (m.limit - c.args.weight) others in
-    let now = rw c.make_room.ensures.pairs at c.store-old.ensures.sessions in
+    let now = rw c.allocate_for_put.ensures.pairs at c.store-old.ensures.sessions in
     record {
       valid = c.store-old.ensures.stays_valid;
       mode = c.store-old.ensures.mode;
@@ -80,7 +80,7 @@ returns-clause-stay g c =
     let m = c.self.inside in
     let leaving = c.find_leaving-leaving in
     let all = sessions_of m.map.pairs in
-    let now = rw c.make_room.ensures.pairs at c.store-old.ensures.sessions in
+    let now = rw c.allocate_for_put.ensures.pairs at c.store-old.ensures.sessions in
     rw (← c.self.view_is) (
     now
     ∙ drop-with_last all leaving.result.count c.args.id c.args.weight c.args.payload leaving.ensures.within
@@ -93,7 +93,7 @@ pub returns-clause-newest : goal.returns-clause-newest
 returns-clause-newest g c =
     let leaving = c.find_leaving-leaving in
     let all = sessions_of c.self.inside.map.pairs in
-    let now = rw c.make_room.ensures.pairs at c.store-old.ensures.sessions in
+    let now = rw c.allocate_for_put.ensures.pairs at c.store-old.ensures.sessions in
     ap last (now ∙ drop-with_last all leaving.result.count c.args.id c.args.weight c.args.payload leaving.ensures.within)
     ∙ last-append (drop leaving.result.count (without all c.args.id)) (c.args.id, c.args.weight, c.args.payload)
 
@@ -101,7 +101,7 @@ pub returns-clause-payload : goal.returns-clause-payload
 returns-clause-payload g c =
     let leaving = c.find_leaving-leaving in
     let ps = c.self.inside.map.pairs in
-    let now = rw c.make_room.ensures.pairs at c.store-old.ensures.sessions in
+    let now = rw c.allocate_for_put.ensures.pairs at c.store-old.ensures.sessions in
     ap (λ l. payload_of l c.args.id) (now ∙ drop-with_last (sessions_of ps) leaving.result.count c.args.id c.args.weight c.args.payload leaving.ensures.within)
     ∙ payload_of-put ps leaving.result.count c.args.id c.args.weight c.args.payload
 
@@ -109,27 +109,27 @@ pub returns-clause-others : goal.returns-clause-others
 returns-clause-others g c other apart =
     let leaving = c.find_leaving-leaving in
     let ps = c.self.inside.map.pairs in
-    let now = rw c.make_room.ensures.pairs at c.store-old.ensures.sessions in
+    let now = rw c.allocate_for_put.ensures.pairs at c.store-old.ensures.sessions in
     rw (← c.self.view_is) (rw now (payload_of-stays ps leaving.result.count c.args.id other c.args.weight c.args.payload c.self.invariant.valid.distinct apart))
 
 pub returns-clause-gone : goal.returns-clause-gone
 returns-clause-gone g c =
-    let all = rw c.make_room.ensures.pairs at c.store-old.ensures.gone in
+    let all = rw c.allocate_for_put.ensures.pairs at c.store-old.ensures.gone in
     rw (← c.self.view_is) (all ∙ ap (λ l. l ++ with_last (sessions_of c.self.inside.map.pairs) c.args.id c.args.weight c.args.payload) c.in-Ok.ensures.empty)
 
 pub returns-clause-exact : goal.returns-clause-exact
 returns-clause-exact g c =
     let leaving = c.find_leaving-leaving in
     let all = with_last (sessions_of c.self.inside.map.pairs) c.args.id c.args.weight c.args.payload in
-    let now = rw c.make_room.ensures.pairs at c.store-old.ensures.sessions in
-    let gone = rw c.make_room.ensures.pairs at c.store-old.ensures.gone in
+    let now = rw c.allocate_for_put.ensures.pairs at c.store-old.ensures.sessions in
+    let gone = rw c.allocate_for_put.ensures.pairs at c.store-old.ensures.gone in
     let more = length-with_last (sessions_of c.self.inside.map.pairs) c.args.id c.args.weight c.args.payload in
     let as_many = length-gone leaving.result.count c.store-old.new.gone.items (sessions_of c.store-old.new.map.pairs) all
     (gone ∙ ap (λ l. l ++ all) c.in-Ok.ensures.empty) now (omega (arith, leaving.ensures.within)) in
     c.store-old.ensures.same_space ∙ c.in-Ok.ensures.exact ∙ sym as_many
 
 pub returns-clause-old : goal.returns-clause-old
-returns-clause-old g c = rw (← c.self.view_is) (rw c.make_room.ensures.pairs at c.store-old.ensures.old)
+returns-clause-old g c = rw (← c.self.view_is) (rw c.allocate_for_put.ensures.pairs at c.store-old.ensures.old)
 
 pub returns-clause-valid : goal.returns-clause-valid
 returns-clause-valid g c = rw (← c.self.view_is) (IsValidTable-kept c.self.invariant)

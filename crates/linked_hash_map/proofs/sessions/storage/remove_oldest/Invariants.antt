@@ -1,7 +1,7 @@
 use Rattle.std.proofs.Common.{◌≡◌, ◌+◌, ◌++◌, drop, nat_eq, vec_len, vec_capacity}
 use Rattle.linked_hash_map.specs.Validity.{IsValid}
 use Rattle.linked_hash_map.specs.SessionsKept.{sessions_of}
-use Rattle.linked_hash_map.proofs.sessions.storage.take_oldest.Given as goal
+use Rattle.linked_hash_map.proofs.sessions.storage.remove_oldest.Given as goal
 
 -- those that are gone so far and those that are left are all
 abbrev pub invariant-loop : goal.invariant-loop

@@ -4,7 +4,7 @@ use Rattle.linked_hash_map.specs.Hashers.{hash_by}
 use Rattle.linked_hash_map.proofs.Kept.{IsValid-view}
 use Rattle.linked_hash_map.proofs.Current.{current_of-Some, current_lies, current_cut, current_at-Some, current_elsewhere, IsKept-left}
 use Rattle.linked_hash_map.proofs.TakenNode.{pair-removed, pairs-removed, to_visit-removed, AreKept-removed}
-use Rattle.linked_hash_map.proofs.map.LinkedHashMap.take_current.Goals as goal
+use Rattle.linked_hash_map.proofs.map.LinkedHashMap.remove_current.Goals as goal
 
 pub remove_at-requires : goal.remove_at-requires
 remove_at-requires g c = (current_cut c.self.invariant (current_of-Some c.current.ensures c.unwrap-at.ensures)).held

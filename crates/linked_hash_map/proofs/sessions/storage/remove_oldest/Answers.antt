@@ -2,7 +2,7 @@ use Rattle.std.proofs.Common.{◌++◌, length, drop, sym, ap, ◌∙◌, arith,
 use Rattle.std.proofs.lemmas.List.{append_assoc, drop-drop}
 use Rattle.linked_hash_map.specs.SessionsKept.{sessions_of}
 use Rattle.linked_hash_map.proofs.SessionPairs.{first-none, first-some}
-use Rattle.linked_hash_map.proofs.sessions.storage.take_oldest.Goals as goal
+use Rattle.linked_hash_map.proofs.sessions.storage.remove_oldest.Goals as goal
 
 pub unreachable-requires : goal.unreachable-requires
 unreachable-requires g c =

@@ -11,7 +11,7 @@ use Rattle.linked_hash_map.proofs.Kept.{absent_key, distinct_keys, IsValid-view}
 use Rattle.linked_hash_map.proofs.Indexes.{without-index, value_at-slice_get}
 use Rattle.linked_hash_map.proofs.Current.{key_lies, key_index}
 use Rattle.linked_hash_map.proofs.TakenNode.{pair-removed, pairs-removed, IsKept-removed}
-use Rattle.linked_hash_map.proofs.map.LinkedHashMap.take_out.Goals as goal
+use Rattle.linked_hash_map.proofs.map.LinkedHashMap.remove_hashed.Goals as goal
 
 -- a key that is not found is absent
 absent : (g : _) (c : goal.After-from_residual g) → find g.K.PartialEq.eq (pairs_of c.self.inside.table.held) c.args.key.now ≡ None

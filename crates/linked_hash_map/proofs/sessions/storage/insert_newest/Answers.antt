@@ -2,7 +2,7 @@ use Rattle.std.proofs.Common.{nat_eq, option_map, sym, ap, ◌∙◌}
 use Rattle.linked_hash_map.specs.Pairs as pairs
 use Rattle.linked_hash_map.specs.SessionsKept.{sessions_of}
 use Rattle.linked_hash_map.proofs.SessionPairs.{sessions_of-to_back, payload_of-sessions_of}
-use Rattle.linked_hash_map.proofs.sessions.storage.put_back.Goals as goal
+use Rattle.linked_hash_map.proofs.sessions.storage.insert_newest.Goals as goal
 
 pub returns-in-Ok-Some-clause-sessions : goal.returns-in-Ok-Some-clause-sessions
 returns-in-Ok-Some-clause-sessions g c =
