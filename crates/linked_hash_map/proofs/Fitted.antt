@@ -11,7 +11,7 @@ use Rattle.lhm_ring.specs.Tables.{TableState}
 use Rattle.lhm_ring.proofs.Tables.{length-same_triples}
 use Rattle.linked_hash_map.specs.Nodes.{IsKept, HasBehind, Lies, pairs_of, bare, before, bookmark_at}
 use Rattle.linked_hash_map.proofs.Kept.{CutAt, cut_before, length-bare, keys-bare}
-use Rattle.linked_hash_map.proofs.MarkMoves.{bookmark-bare, marked_held}
+use Rattle.linked_hash_map.proofs.BookmarkMoves.{bookmark-bare, bookmarked_held}
 use Rattle.linked_hash_map.proofs.Outside.{before_held}
 
 module _ {B : Type 0} {p : Ptr} {hs : List (Held B)} where
@@ -61,20 +61,20 @@ module _ {K V : Type 0} where
   bookmark-behind hs ks (Some p) (Some q) None long old new = absurd old
   bookmark-behind hs ks (Some p) (Some q) (Some n) long old new = omega (arith, long, old, new)
 
-  marked-behind : (hs ks : List (Held (K × V))) (o q : Option Ptr) (behind : Option ℕ) → HasBehind o hs behind → HasBehind q ks behind → q ≡ None → o ≡ None
-  marked-behind hs ks None q behind old new none = refl
-  marked-behind hs ks (Some p) (Some q) behind old new none = absurd (cc)
-  marked-behind hs ks (Some p) None None old new none = absurd old
-  marked-behind hs ks (Some p) None (Some n) old new none = absurd new
+  bookmarked-behind : (hs ks : List (Held (K × V))) (o q : Option Ptr) (behind : Option ℕ) → HasBehind o hs behind → HasBehind q ks behind → q ≡ None → o ≡ None
+  bookmarked-behind hs ks None q behind old new none = refl
+  bookmarked-behind hs ks (Some p) (Some q) behind old new none = absurd (cc)
+  bookmarked-behind hs ks (Some p) None None old new none = absurd old
+  bookmarked-behind hs ks (Some p) None (Some n) old new none = absurd new
 
--- the pairs that stand in one table stand in another, and what is behind a mark stands behind
+-- the pairs that stand in one table stand in another, and what is behind a bookmark stands behind
 -- another
-module _ {K V : Type 0} {eq : K → K → Bool} {hash : K → ℕ} {s : TableState (K × V)} {mark : Option Ptr} {n : ℕ} {current : Option Ptr} (kept : IsKept eq hash s mark n current) (t : TableState (K × V)) (same : triples t.held ≡ triples s.held) (other : Option Ptr) (behind : Option ℕ) (old : HasBehind mark s.held behind) (new : HasBehind other t.held behind) where
-  pub bookmark-fitted : bookmark_at other (bare t.held) ≡ bookmark_at mark (bare s.held)
+module _ {K V : Type 0} {eq : K → K → Bool} {hash : K → ℕ} {s : TableState (K × V)} {bookmark : Option Ptr} {n : ℕ} {current : Option Ptr} (kept : IsKept eq hash s bookmark n current) (t : TableState (K × V)) (same : triples t.held ≡ triples s.held) (other : Option Ptr) (behind : Option ℕ) (old : HasBehind bookmark s.held behind) (new : HasBehind other t.held behind) where
+  pub bookmark-fitted : bookmark_at other (bare t.held) ≡ bookmark_at bookmark (bare s.held)
   bookmark-fitted =
-      bookmark-bare other t.held ∙ bookmark-behind s.held t.held mark other behind (length-same_triples t.held s.held same) old new ∙ sym (bookmark-bare mark s.held)
+      bookmark-bare other t.held ∙ bookmark-behind s.held t.held bookmark other behind (length-same_triples t.held s.held same) old new ∙ sym (bookmark-bare bookmark s.held)
 
-  pub to_visit-fitted : take n (drop (bookmark_at other (bare t.held)) (keys_of (pairs_of t.held))) ≡ take n (drop (bookmark_at mark (bare s.held)) (keys_of (pairs_of s.held)))
+  pub to_visit-fitted : take n (drop (bookmark_at other (bare t.held)) (keys_of (pairs_of t.held))) ≡ take n (drop (bookmark_at bookmark (bare s.held)) (keys_of (pairs_of s.held)))
   to_visit-fitted = λ i. take n (drop (bookmark-fitted i) (keys_of (pairs_of-triples s.held t.held same i)))
 
   -- the capacity is then the number of pairs
@@ -91,8 +91,8 @@ module _ {K V : Type 0} {eq : K → K → Bool} {hash : K → ℕ} {s : TableSta
           hashed = hashed-triples hash s.held t.held same k.hashed;
           within = omega (arith, of_new, long, capacity);
           limit = omega (arith, capacity, of_old, k.within, k.limit);
-          marked = λ none. k.marked (marked-behind s.held t.held mark other behind old new none);
-          ended = λ none. marked-behind t.held s.held other mark behind new old (k.ended none);
+          bookmarked = λ none. k.bookmarked (bookmarked-behind s.held t.held bookmark other behind old new none);
+          ended = λ none. bookmarked-behind t.held s.held other bookmark behind new old (k.ended none);
           in_reach = omega (arith, bookmark-fitted, of_old, of_new, long, k.in_reach);
           current_lies = tt;
         };
@@ -101,7 +101,7 @@ module _ {K V : Type 0} {eq : K → K → Bool} {hash : K → ℕ} {s : TableSta
   pub IsKept-fitted : t.capacity ≡ length s.held → {k : ℕ} → k ≡ n → {o : Option Ptr} → o ≡ None → IsKept eq hash t other k o
   IsKept-fitted capacity unvisited left = subst (λ (z : ℕ × Option Ptr). IsKept eq hash t other z.0 z.1) (λ i. (sym unvisited i, sym left i)) (fitted capacity)
 
--- a mark is at one of the nodes
-pub marked_lies : {K V : Type 0} {eq : K → K → Bool} {hash : K → ℕ} {s : TableState (K × V)} {mark : Option Ptr} {n : ℕ} {current : Option Ptr} → IsKept eq hash s mark n current → Lies mark s.held
-marked_lies {mark = None} kept = tt
-marked_lies {mark = Some p} kept = held_lies (marked_held kept p refl)
+-- a bookmark is at one of the nodes
+pub bookmarked_lies : {K V : Type 0} {eq : K → K → Bool} {hash : K → ℕ} {s : TableState (K × V)} {bookmark : Option Ptr} {n : ℕ} {current : Option Ptr} → IsKept eq hash s bookmark n current → Lies bookmark s.held
+bookmarked_lies {bookmark = None} kept = tt
+bookmarked_lies {bookmark = Some p} kept = held_lies (bookmarked_held kept p refl)

@@ -42,37 +42,37 @@ pub AreKept-none : {K : Type 0} (eq : K → K → Bool) (hash : K → ℕ) (us :
 unfolding IsDistinct
 AreKept-none {K} eq hash us capacity none limit =
     subst (λ (vs : List (Held K)). AreKept eq hash vs capacity None 0 None) (sym none)
-    (record { distinct = tt; hashed = tt; within = omega arith; limit = limit; marked = λ _. refl; ended = λ _. refl; in_reach = omega arith; current_lies = tt })
+    (record { distinct = tt; hashed = tt; within = omega arith; limit = limit; bookmarked = λ _. refl; ended = λ _. refl; in_reach = omega arith; current_lies = tt })
 
 -- another capacity
-pub AreKept-room : {K : Type 0} {eq : K → K → Bool} {hash : K → ℕ} {us : List (Held K)} {capacity : ℕ} {mark : Option Ptr} {n : ℕ} {current : Option Ptr} → AreKept eq hash us capacity mark n current → (other : ℕ) → length us ≤ other → other ≤ LIMIT → AreKept eq hash us other mark n current
-AreKept-room k other within limit = record { distinct = k.distinct; hashed = k.hashed; within = within; limit = limit; marked = k.marked; ended = k.ended; in_reach = k.in_reach; current_lies = k.current_lies }
+pub AreKept-room : {K : Type 0} {eq : K → K → Bool} {hash : K → ℕ} {us : List (Held K)} {capacity : ℕ} {bookmark : Option Ptr} {n : ℕ} {current : Option Ptr} → AreKept eq hash us capacity bookmark n current → (other : ℕ) → length us ≤ other → other ≤ LIMIT → AreKept eq hash us other bookmark n current
+AreKept-room k other within limit = record { distinct = k.distinct; hashed = k.hashed; within = within; limit = limit; bookmarked = k.bookmarked; ended = k.ended; in_reach = k.in_reach; current_lies = k.current_lies }
 
 -- one node more, the last
-module _ {K : Type 0} {eq : K → K → Bool} {hash : K → ℕ} {us : List (Held K)} {capacity : ℕ} {mark : Option Ptr} {n : ℕ} {current : Option Ptr} (k : AreKept eq hash us capacity mark n current) where
-  pub bookmark_at-append : (vs : List (Held K)) → bookmark_at mark (us ++ vs) ≡ bookmark_at mark us
-  bookmark_at-append vs = by_mark mark k.ended k.in_reach
+module _ {K : Type 0} {eq : K → K → Bool} {hash : K → ℕ} {us : List (Held K)} {capacity : ℕ} {bookmark : Option Ptr} {n : ℕ} {current : Option Ptr} (k : AreKept eq hash us capacity bookmark n current) where
+  pub bookmark_at-append : (vs : List (Held K)) → bookmark_at bookmark (us ++ vs) ≡ bookmark_at bookmark us
+  bookmark_at-append vs = by_bookmark bookmark k.ended k.in_reach
     where
-      by_mark : (o : Option Ptr) → (n ≡ 0 → o ≡ None) → bookmark_at o us + n ≤ length us → bookmark_at o (us ++ vs) ≡ bookmark_at o us
-      by_mark None ended reach = refl
-      by_mark (Some p) ended reach = before-append p us vs (by_count n ended reach)
+      by_bookmark : (o : Option Ptr) → (n ≡ 0 → o ≡ None) → bookmark_at o us + n ≤ length us → bookmark_at o (us ++ vs) ≡ bookmark_at o us
+      by_bookmark None ended reach = refl
+      by_bookmark (Some p) ended reach = before-append p us vs (by_count n ended reach)
         where
           by_count : (m : ℕ) → (m ≡ 0 → Some p ≡ None) → before p us + m ≤ length us → before p us < length us
           by_count zero e r = absurd (true≢false (ap is_some (e refl)))
           by_count (suc m) e r = omega (arith, r)
 
-  pub AreKept-push : IsEquivalence eq → (u : Held K) → u.hash ≡ hash u.pair → list_any (eq u.pair) (map (λ t. t.pair) us) ≡ false → length us < capacity → AreKept eq hash (us ++ u ∷ []) capacity mark n current
+  pub AreKept-push : IsEquivalence eq → (u : Held K) → u.hash ≡ hash u.pair → list_any (eq u.pair) (map (λ t. t.pair) us) ≡ false → length us < capacity → AreKept eq hash (us ++ u ∷ []) capacity bookmark n current
   AreKept-push laws u hashed absent room =
       let long = length-append us (u ∷ []) in
-      let mark_stands = bookmark_at-append (u ∷ []) in
+      let bookmark_stands = bookmark_at-append (u ∷ []) in
       record {
         distinct = subst (IsDistinct eq) (sym (map-append (λ (t : Held K). t.pair) us (u ∷ []))) (IsDistinct-push laws (map (λ t. t.pair) us) u.pair k.distinct absent);
         hashed = AllByRecursion-append (λ (t : Held K). t.hash ≡ hash t.pair) us (u ∷ []) k.hashed (hashed, tt);
         within = omega (arith, long, room);
         limit = k.limit;
-        marked = k.marked;
+        bookmarked = k.bookmarked;
         ended = k.ended;
-        in_reach = omega (arith, long, mark_stands, k.in_reach);
+        in_reach = omega (arith, long, bookmark_stands, k.in_reach);
         current_lies = lies-append current us (u ∷ []) k.current_lies;
       }
 
@@ -89,39 +89,39 @@ module _ {K V : Type 0} {eq : K → K → Bool} {hash : K → ℕ} where
   pub IsKept-none : {s : TableState (K × V)} → s.held ≡ [] → s.capacity ≤ LIMIT → IsKept eq hash s None 0 None
   IsKept-none {s} none limit = record { nodes = AreKept-none eq hash (bare s.held) s.capacity (ap bare none) limit }
 
-  module _ {s : TableState (K × V)} {mark : Option Ptr} {n : ℕ} {current : Option Ptr} (kept : IsKept eq hash s mark n current) where
+  module _ {s : TableState (K × V)} {bookmark : Option Ptr} {n : ℕ} {current : Option Ptr} (kept : IsKept eq hash s bookmark n current) where
     -- the same pairs in another capacity
-    pub IsKept-room : {t : TableState (K × V)} → t.held ≡ s.held → length s.held ≤ t.capacity → t.capacity ≤ LIMIT → IsKept eq hash t mark n current
+    pub IsKept-room : {t : TableState (K × V)} → t.held ≡ s.held → length s.held ≤ t.capacity → t.capacity ≤ LIMIT → IsKept eq hash t bookmark n current
     IsKept-room {t} same within limit =
         let of_bare = length-bare s.held in
-        record { nodes = subst (λ us. AreKept eq hash us t.capacity mark n current) (sym (ap bare same)) (AreKept-room kept.nodes t.capacity (omega (arith, of_bare, within)) limit) }
+        record { nodes = subst (λ us. AreKept eq hash us t.capacity bookmark n current) (sym (ap bare same)) (AreKept-room kept.nodes t.capacity (omega (arith, of_bare, within)) limit) }
 
     module _ (p : Ptr) (hash_key : ℕ) (key : K) (value : V) (t : TableState (K × V)) (last : t.held ≡ s.held ++ held p hash_key None (pair key value) ∷ []) where
       bare_is : bare t.held ≡ bare s.held ++ held p hash_key None key ∷ []
       bare_is = bare-push s t p hash_key key value last
 
-      pub bookmark_at-push : bookmark_at mark (bare t.held) ≡ bookmark_at mark (bare s.held)
-      bookmark_at-push = ap (bookmark_at mark) bare_is ∙ bookmark_at-append kept.nodes (held p hash_key None key ∷ [])
+      pub bookmark_at-push : bookmark_at bookmark (bare t.held) ≡ bookmark_at bookmark (bare s.held)
+      bookmark_at-push = ap (bookmark_at bookmark) bare_is ∙ bookmark_at-append kept.nodes (held p hash_key None key ∷ [])
 
       -- what is still to be visited ends before it
-      pub to_visit-push : take n (drop (bookmark_at mark (bare t.held)) (keys_of (pairs_of t.held))) ≡ take n (drop (bookmark_at mark (bare s.held)) (keys_of (pairs_of s.held)))
+      pub to_visit-push : take n (drop (bookmark_at bookmark (bare t.held)) (keys_of (pairs_of t.held))) ≡ take n (drop (bookmark_at bookmark (bare s.held)) (keys_of (pairs_of s.held)))
       to_visit-push =
           let keys = λ (us : List (Held K)). map (λ u. u.pair) us in
           let long = length-map (bare s.held) (λ u. u.pair) in
-          ap (λ ks. take n (drop (bookmark_at mark (bare t.held)) ks)) (sym (keys-bare t.held))
+          ap (λ ks. take n (drop (bookmark_at bookmark (bare t.held)) ks)) (sym (keys-bare t.held))
           ∙ (λ i. take n (drop (bookmark_at-push i) (keys (bare_is i))))
-          ∙ ap (λ ks. take n (drop (bookmark_at mark (bare s.held)) ks)) (map-append (λ (u : Held K). u.pair) (bare s.held) (held p hash_key None key ∷ []))
-          ∙ stretch-front (keys (bare s.held)) (key ∷ []) (bookmark_at mark (bare s.held)) n (omega (arith, long, kept.nodes.in_reach))
-          ∙ ap (λ ks. take n (drop (bookmark_at mark (bare s.held)) ks)) (keys-bare s.held)
+          ∙ ap (λ ks. take n (drop (bookmark_at bookmark (bare s.held)) ks)) (map-append (λ (u : Held K). u.pair) (bare s.held) (held p hash_key None key ∷ []))
+          ∙ stretch-front (keys (bare s.held)) (key ∷ []) (bookmark_at bookmark (bare s.held)) n (omega (arith, long, kept.nodes.in_reach))
+          ∙ ap (λ ks. take n (drop (bookmark_at bookmark (bare s.held)) ks)) (keys-bare s.held)
 
       pub current_at-push : current_at current (bare t.held) ≡ current_at current (bare s.held)
       current_at-push = ap (current_at current) bare_is ∙ current_at-append current (bare s.held) (held p hash_key None key ∷ []) kept.nodes.current_lies
 
-      pub IsKept-push : IsEquivalence eq → hash_key ≡ hash key → find eq (pairs_of s.held) key ≡ None → length s.held < s.capacity → t.capacity ≡ s.capacity → IsKept eq hash t mark n current
+      pub IsKept-push : IsEquivalence eq → hash_key ≡ hash key → find eq (pairs_of s.held) key ≡ None → length s.held < s.capacity → t.capacity ≡ s.capacity → IsKept eq hash t bookmark n current
       IsKept-push laws hashed absent room capacity =
           let of_bare = length-bare s.held in
           let none : list_any (eq key) (map (λ u. u.pair) (bare s.held)) ≡ false = ap (list_any (eq key)) (keys-bare s.held) ∙ list_any-none (eq key) (pairs_of s.held) absent in
-          let grown : AreKept eq hash (bare s.held ++ held p hash_key None key ∷ []) s.capacity mark n current = AreKept-push kept.nodes laws (held p hash_key None key) hashed none (omega (arith, of_bare, room)) in
+          let grown : AreKept eq hash (bare s.held ++ held p hash_key None key ∷ []) s.capacity bookmark n current = AreKept-push kept.nodes laws (held p hash_key None key) hashed none (omega (arith, of_bare, room)) in
           record {
-            nodes = subst (λ us. AreKept eq hash us t.capacity mark n current) (sym bare_is) (subst (λ m. AreKept eq hash (bare s.held ++ held p hash_key None key ∷ []) m mark n current) (sym capacity) grown);
+            nodes = subst (λ us. AreKept eq hash us t.capacity bookmark n current) (sym bare_is) (subst (λ m. AreKept eq hash (bare s.held ++ held p hash_key None key ∷ []) m bookmark n current) (sym capacity) grown);
           }

@@ -1,4 +1,5 @@
 pub mod AbsentKeys
+pub mod BookmarkMoves
 pub mod Bridge
 pub mod Callers
 pub mod Clones
@@ -24,7 +25,6 @@ pub mod LeavingSessions
 pub mod LendMap
 pub mod Lists
 pub mod LiveKeys
-pub mod MarkMoves
 pub mod MovedNode
 pub mod Outcomes
 pub mod Outside

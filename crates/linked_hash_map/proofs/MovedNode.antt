@@ -32,8 +32,8 @@ before-last p (x ∷ hs) t at fresh =
     ap (λ y. cond y 0 (before p (hs ++ t ∷ []) + 1)) (same_ptr-symmetric x.at p ∙ fresh.0) ∙ one
 
 -- the nodes with one that is not to be visited moved behind the others
-module _ {K : Type 0} {eq : K → K → Bool} (laws : IsEquivalence eq) {hash : K → ℕ} (front : List (Held K)) (u : Held K) (back : List (Held K)) {capacity n : ℕ} {mark : Option Ptr} {p : Ptr} (kept : AreKept eq hash (front ++ u ∷ back) capacity mark n (Some p)) (clear : IsClear front u back mark n) where
-  AreKept-to_back : u.at ≡ p → AreKept eq hash ((front ++ back) ++ u ∷ []) capacity mark n (Some p)
+module _ {K : Type 0} {eq : K → K → Bool} (laws : IsEquivalence eq) {hash : K → ℕ} (front : List (Held K)) (u : Held K) (back : List (Held K)) {capacity n : ℕ} {bookmark : Option Ptr} {p : Ptr} (kept : AreKept eq hash (front ++ u ∷ back) capacity bookmark n (Some p)) (clear : IsClear front u back bookmark n) where
+  AreKept-to_back : u.at ≡ p → AreKept eq hash ((front ++ back) ++ u ∷ []) capacity bookmark n (Some p)
   AreKept-to_back at =
       let of_all = length-append front (u ∷ back) in
       let of_rest = length-append front back in
@@ -43,33 +43,33 @@ module _ {K : Type 0} {eq : K → K → Bool} (laws : IsEquivalence eq) {hash : 
       let cut = map-append (λ (t : Held K). t.pair) front (u ∷ back) in
       let joined = map-append (λ (t : Held K). t.pair) front back in
       let differs : list_any (eq u.pair) (keys (front ++ back)) ≡ false = ap (list_any (eq u.pair)) joined ∙ list_any-others laws (keys front) u.pair (keys back) (subst (IsDistinct eq) cut kept.distinct) in
-      let reach = in_reach-out front u back mark n kept.marked kept.ended kept.in_reach clear in
-      let bookmark = bookmark-moved front u back mark n kept.ended reach in
+      let reach = in_reach-out front u back bookmark n kept.bookmarked kept.ended kept.in_reach clear in
+      let same_bookmark = bookmark-moved front u back bookmark n kept.ended reach in
       record {
         distinct = subst (IsDistinct eq) (sym (map-append (λ (t : Held K). t.pair) (front ++ back) (u ∷ []))) (IsDistinct-push laws (keys (front ++ back)) u.pair (distinct_keys-out front u back kept clear) differs);
         hashed = AllByRecursion-append P (front ++ back) (u ∷ []) (AllByRecursion-removed P front u back kept.hashed) ((AllByRecursion-right P front (u ∷ back) kept.hashed).0, tt);
         within = omega (arith, of_all, of_rest, of_moved, kept.within);
         limit = kept.limit;
-        marked = kept.marked;
+        bookmarked = kept.bookmarked;
         ended = kept.ended;
-        in_reach = omega (arith, reach, bookmark, of_moved);
+        in_reach = omega (arith, reach, same_bookmark, of_moved);
         current_lies = before_held p (front ++ back) u [] at;
       }
 
   -- the bookmark and what is to be visited stay out of its way
-  behind-back : bookmark_at mark ((front ++ back) ++ u ∷ []) + n ≤ length (front ++ back)
+  behind-back : bookmark_at bookmark ((front ++ back) ++ u ∷ []) + n ≤ length (front ++ back)
   behind-back =
-      let reach = in_reach-out front u back mark n kept.marked kept.ended kept.in_reach clear in
-      let bookmark = bookmark-moved front u back mark n kept.ended reach in
-      omega (arith, reach, bookmark)
+      let reach = in_reach-out front u back bookmark n kept.bookmarked kept.ended kept.in_reach clear in
+      let same_bookmark = bookmark-moved front u back bookmark n kept.ended reach in
+      omega (arith, reach, same_bookmark)
 
-  to_visit-back : take n (drop (bookmark_at mark ((front ++ back) ++ u ∷ [])) (map (λ t. t.pair) ((front ++ back) ++ u ∷ []))) ≡ take n (drop (bookmark_at mark (front ++ u ∷ back)) (map (λ t. t.pair) (front ++ u ∷ back)))
+  to_visit-back : take n (drop (bookmark_at bookmark ((front ++ back) ++ u ∷ [])) (map (λ t. t.pair) ((front ++ back) ++ u ∷ []))) ≡ take n (drop (bookmark_at bookmark (front ++ u ∷ back)) (map (λ t. t.pair) (front ++ u ∷ back)))
   to_visit-back =
-      let reach = in_reach-out front u back mark n kept.marked kept.ended kept.in_reach clear in
+      let reach = in_reach-out front u back bookmark n kept.bookmarked kept.ended kept.in_reach clear in
       let of_keys = length-map (front ++ back) (λ t. t.pair) in
-      ap₂ (λ b ks. take n (drop b ks)) (bookmark-moved front u back mark n kept.ended reach) (map-append (λ (t : Held K). t.pair) (front ++ back) (u ∷ []))
-      ∙ stretch-front (map (λ t. t.pair) (front ++ back)) (u.pair ∷ []) (bookmark_at mark (front ++ back)) n (omega (arith, reach, of_keys))
-      ∙ to_visit-out front u back mark n kept.marked clear
+      ap₂ (λ b ks. take n (drop b ks)) (bookmark-moved front u back bookmark n kept.ended reach) (map-append (λ (t : Held K). t.pair) (front ++ back) (u ∷ []))
+      ∙ stretch-front (map (λ t. t.pair) (front ++ back)) (u.pair ∷ []) (bookmark_at bookmark (front ++ back)) n (omega (arith, reach, of_keys))
+      ∙ to_visit-out front u back bookmark n kept.bookmarked clear
 
 -- hs are the nodes before, and ks those where the one at p is behind the others
 module _ {K V : Type 0} (hs ks : List (Held (K × V))) {p : Ptr} (last : AtHeld hs p (λ xs x ys. ks ≡ (xs ++ ys) ++ x ∷ [])) (lies : before p hs < length hs) where
@@ -120,28 +120,28 @@ module _ {K V : Type 0} (hs ks : List (Held (K × V))) {p : Ptr} (last : AtHeld 
   bare_moved = let h = cut_moved.held in ap bare moved ∙ map-append bare_node (h.before ++ h.after) (h.node ∷ []) ∙ ap (λ us. us ++ bare_node h.node ∷ []) (map-append bare_node h.before h.after)
 
   -- the node is none of those that are still to be visited
-  module _ {eq : K → K → Bool} (laws : IsEquivalence eq) {hash : K → ℕ} {capacity : ℕ} {mark : Option Ptr} {n : ℕ} (kept : AreKept eq hash (bare hs) capacity mark n (Some p)) (elsewhere : IsElsewhere p hs mark n) where
-    kept_cut : AreKept eq hash (bare cut_moved.held.before ++ bare_node cut_moved.held.node ∷ bare cut_moved.held.after) capacity mark n (Some p)
-    kept_cut = subst (λ us. AreKept eq hash us capacity mark n (Some p)) bare_cut kept
+  module _ {eq : K → K → Bool} (laws : IsEquivalence eq) {hash : K → ℕ} {capacity : ℕ} {bookmark : Option Ptr} {n : ℕ} (kept : AreKept eq hash (bare hs) capacity bookmark n (Some p)) (elsewhere : IsElsewhere p hs bookmark n) where
+    kept_cut : AreKept eq hash (bare cut_moved.held.before ++ bare_node cut_moved.held.node ∷ bare cut_moved.held.after) capacity bookmark n (Some p)
+    kept_cut = subst (λ us. AreKept eq hash us capacity bookmark n (Some p)) bare_cut kept
 
-    clear : IsClear (bare cut_moved.held.before) (bare_node cut_moved.held.node) (bare cut_moved.held.after) mark n
-    clear = clear-elsewhere p hs mark n cut_moved.held.before cut_moved.held.node cut_moved.held.after bare_cut cut_moved.long elsewhere
+    clear : IsClear (bare cut_moved.held.before) (bare_node cut_moved.held.node) (bare cut_moved.held.after) bookmark n
+    clear = clear-elsewhere p hs bookmark n cut_moved.held.before cut_moved.held.node cut_moved.held.after bare_cut cut_moved.long elsewhere
 
-    pub AreKept-moved : AreKept eq hash (bare ks) capacity mark n (Some p)
+    pub AreKept-moved : AreKept eq hash (bare ks) capacity bookmark n (Some p)
     AreKept-moved =
         let h = cut_moved.held in
-        subst (λ us. AreKept eq hash us capacity mark n (Some p)) (sym bare_moved) (AreKept-to_back laws (bare h.before) (bare_node h.node) (bare h.after) kept_cut clear h.at_is)
+        subst (λ us. AreKept eq hash us capacity bookmark n (Some p)) (sym bare_moved) (AreKept-to_back laws (bare h.before) (bare_node h.node) (bare h.after) kept_cut clear h.at_is)
 
-    pub to_visit-moved : take n (drop (bookmark_at mark (bare ks)) (keys_of (pairs_of ks))) ≡ take n (drop (bookmark_at mark (bare hs)) (keys_of (pairs_of hs)))
+    pub to_visit-moved : take n (drop (bookmark_at bookmark (bare ks)) (keys_of (pairs_of ks))) ≡ take n (drop (bookmark_at bookmark (bare hs)) (keys_of (pairs_of hs)))
     to_visit-moved =
         let h = cut_moved.held in
-        ap (λ ys. take n (drop (bookmark_at mark (bare ks)) ys)) (sym (keys-bare ks))
-        ∙ ap (λ us. take n (drop (bookmark_at mark us) (map (λ u. u.pair) us))) bare_moved
+        ap (λ ys. take n (drop (bookmark_at bookmark (bare ks)) ys)) (sym (keys-bare ks))
+        ∙ ap (λ us. take n (drop (bookmark_at bookmark us) (map (λ u. u.pair) us))) bare_moved
         ∙ to_visit-back laws (bare h.before) (bare_node h.node) (bare h.after) kept_cut clear
-        ∙ ap (λ us. take n (drop (bookmark_at mark us) (map (λ u. u.pair) us))) (sym bare_cut)
-        ∙ ap (λ ys. take n (drop (bookmark_at mark (bare hs)) ys)) (keys-bare hs)
+        ∙ ap (λ us. take n (drop (bookmark_at bookmark us) (map (λ u. u.pair) us))) (sym bare_cut)
+        ∙ ap (λ ys. take n (drop (bookmark_at bookmark (bare hs)) ys)) (keys-bare hs)
 
-    pub behind-moved : IsApart (map (λ t. t.at) hs) → bookmark_at mark (bare ks) + n ≤ before p ks
+    pub behind-moved : IsApart (map (λ t. t.at) hs) → bookmark_at bookmark (bare ks) + n ≤ before p ks
     behind-moved apart =
         let h = cut_moved.held in
         let index = before-moved apart in
@@ -149,6 +149,6 @@ module _ {K V : Type 0} (hs ks : List (Held (K × V))) {p : Ptr} (last : AtHeld 
         let of_bare = length-append (bare h.before) (bare h.after) in
         let of_front = length-map h.before bare_node in
         let of_back = length-map h.after bare_node in
-        let bookmark = ap (bookmark_at mark) bare_moved in
+        let same_bookmark = ap (bookmark_at bookmark) bare_moved in
         let behind = behind-back laws (bare h.before) (bare_node h.node) (bare h.after) kept_cut clear in
-        omega (arith, index, of_rest, of_bare, of_front, of_back, bookmark, behind)
+        omega (arith, index, of_rest, of_bare, of_front, of_back, same_bookmark, behind)

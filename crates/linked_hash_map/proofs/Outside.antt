@@ -70,33 +70,33 @@ module _ {K : Type 0} (front : List (Held K)) (u : Held K) (back : List (Held K)
 
   -- u is before the nodes that are still to be visited, or behind them
   abbrev pub IsClear : Option Ptr → ℕ → Type 0
-  IsClear mark n = (length front < bookmark_at mark (front ++ u ∷ back)) ⊎ (bookmark_at mark (front ++ u ∷ back) + n ≤ length front)
+  IsClear bookmark n = (length front < bookmark_at bookmark (front ++ u ∷ back)) ⊎ (bookmark_at bookmark (front ++ u ∷ back) + n ≤ length front)
 
-  pub in_reach-out : (mark : Option Ptr) (n : ℕ) → (mark ≡ None → n ≡ 0) → (n ≡ 0 → mark ≡ None) → bookmark_at mark (front ++ u ∷ back) + n ≤ length (front ++ u ∷ back) → IsClear mark n → bookmark_at mark (front ++ back) + n ≤ length (front ++ back)
-  in_reach-out None n marked ended reach clear = let none = marked refl in omega (arith, none)
-  in_reach-out (Some p) zero marked ended reach clear = absurd (true≢false (ap is_some (ended refl)))
-  in_reach-out (Some p) (suc n) marked ended reach (inl h) =
+  pub in_reach-out : (bookmark : Option Ptr) (n : ℕ) → (bookmark ≡ None → n ≡ 0) → (n ≡ 0 → bookmark ≡ None) → bookmark_at bookmark (front ++ u ∷ back) + n ≤ length (front ++ u ∷ back) → IsClear bookmark n → bookmark_at bookmark (front ++ back) + n ≤ length (front ++ back)
+  in_reach-out None n bookmarked ended reach clear = let none = bookmarked refl in omega (arith, none)
+  in_reach-out (Some p) zero bookmarked ended reach clear = absurd (true≢false (ap is_some (ended refl)))
+  in_reach-out (Some p) (suc n) bookmarked ended reach (inl h) =
       let one = before_earlier p front u back h in
       let of_all = length-append front (u ∷ back) in
       let of_rest = length-append front back in
       omega (arith, one, of_all, of_rest, reach)
-  in_reach-out (Some p) (suc n) marked ended reach (inr h) =
+  in_reach-out (Some p) (suc n) bookmarked ended reach (inr h) =
       let same = before_later p front u back (omega (arith, h)) in
       let of_rest = length-append front back in
       omega (arith, same, of_rest, h)
 
   -- the same keys are to be visited without u
-  pub to_visit-out : (mark : Option Ptr) (n : ℕ) → (mark ≡ None → n ≡ 0) → IsClear mark n → take n (drop (bookmark_at mark (front ++ back)) (keys (front ++ back))) ≡ take n (drop (bookmark_at mark (front ++ u ∷ back)) (keys (front ++ u ∷ back)))
-  to_visit-out mark zero marked clear = take-none (drop (bookmark_at mark (front ++ back)) (keys (front ++ back))) ∙ sym (take-none (drop (bookmark_at mark (front ++ u ∷ back)) (keys (front ++ u ∷ back))))
-  to_visit-out None (suc n) marked clear = let none = marked refl in absurd (omega (arith, none))
-  to_visit-out (Some p) (suc n) marked (inl h) =
+  pub to_visit-out : (bookmark : Option Ptr) (n : ℕ) → (bookmark ≡ None → n ≡ 0) → IsClear bookmark n → take n (drop (bookmark_at bookmark (front ++ back)) (keys (front ++ back))) ≡ take n (drop (bookmark_at bookmark (front ++ u ∷ back)) (keys (front ++ u ∷ back)))
+  to_visit-out bookmark zero bookmarked clear = take-none (drop (bookmark_at bookmark (front ++ back)) (keys (front ++ back))) ∙ sym (take-none (drop (bookmark_at bookmark (front ++ u ∷ back)) (keys (front ++ u ∷ back))))
+  to_visit-out None (suc n) bookmarked clear = let none = bookmarked refl in absurd (omega (arith, none))
+  to_visit-out (Some p) (suc n) bookmarked (inl h) =
       let one = before_earlier p front u back h in
       let of_keys = length-map front (λ t. t.pair) in
       let next : suc (before p (front ++ back)) ≡ before p (front ++ u ∷ back) = omega (arith, one) in
       ap (λ ks. take (suc n) (drop (before p (front ++ back)) ks)) (map-append (λ (t : Held K). t.pair) front back)
       ∙ ap (take (suc n)) (drop-behind (keys front) u.pair (keys back) (before p (front ++ back)) (omega (arith, one, of_keys, h)))
       ∙ ap₂ (λ b ks. take (suc n) (drop b ks)) next (sym (map-append (λ (t : Held K). t.pair) front (u ∷ back)))
-  to_visit-out (Some p) (suc n) marked (inr h) =
+  to_visit-out (Some p) (suc n) bookmarked (inr h) =
       let same = before_later p front u back (omega (arith, h)) in
       let of_keys = length-map front (λ t. t.pair) in
       ap₂ (λ b ks. take (suc n) (drop b ks)) same (map-append (λ (t : Held K). t.pair) front back)
@@ -104,18 +104,18 @@ module _ {K : Type 0} (front : List (Held K)) (u : Held K) (back : List (Held K)
       ∙ sym (ap (λ ks. take (suc n) (drop (before p (front ++ u ∷ back)) ks)) (map-append (λ (t : Held K). t.pair) front (u ∷ back))
       ∙ stretch-front (keys front) (u.pair ∷ keys back) (before p (front ++ u ∷ back)) (suc n) (omega (arith, of_keys, h)))
 
-  -- a mark among them stays where u is put behind the others
-  pub bookmark-moved : (mark : Option Ptr) (n : ℕ) → (n ≡ 0 → mark ≡ None) → bookmark_at mark (front ++ back) + n ≤ length (front ++ back) → bookmark_at mark ((front ++ back) ++ u ∷ []) ≡ bookmark_at mark (front ++ back)
+  -- a bookmark among them stays where u is put behind the others
+  pub bookmark-moved : (bookmark : Option Ptr) (n : ℕ) → (n ≡ 0 → bookmark ≡ None) → bookmark_at bookmark (front ++ back) + n ≤ length (front ++ back) → bookmark_at bookmark ((front ++ back) ++ u ∷ []) ≡ bookmark_at bookmark (front ++ back)
   bookmark-moved None n ended reach = refl
   bookmark-moved (Some p) zero ended reach = absurd (true≢false (ap is_some (ended refl)))
   bookmark-moved (Some p) (suc n) ended reach = before_within p (front ++ back) (u ∷ []) (omega (arith, reach))
 
 -- the node at p is before those that are still to be visited, or behind them
 abbrev pub IsElsewhere : {K V : Type 0} → Ptr → List (Held (K × V)) → Option Ptr → ℕ → Type 0
-IsElsewhere p hs mark n = (before p hs < bookmark_at mark (bare hs)) ⊎ (bookmark_at mark (bare hs) + n ≤ before p hs)
+IsElsewhere p hs bookmark n = (before p hs < bookmark_at bookmark (bare hs)) ⊎ (bookmark_at bookmark (bare hs) + n ≤ before p hs)
 
-pub clear-elsewhere : {K V : Type 0} (p : Ptr) (hs : List (Held (K × V))) (mark : Option Ptr) (n : ℕ) (front : List (Held (K × V))) (t : Held (K × V)) (back : List (Held (K × V))) → bare hs ≡ bare front ++ bare_node t ∷ bare back → length front ≡ before p hs → IsElsewhere p hs mark n → IsClear (bare front) (bare_node t) (bare back) mark n
-clear-elsewhere p hs mark n front t back cut long elsewhere =
+pub clear-elsewhere : {K V : Type 0} (p : Ptr) (hs : List (Held (K × V))) (bookmark : Option Ptr) (n : ℕ) (front : List (Held (K × V))) (t : Held (K × V)) (back : List (Held (K × V))) → bare hs ≡ bare front ++ bare_node t ∷ bare back → length front ≡ before p hs → IsElsewhere p hs bookmark n → IsClear (bare front) (bare_node t) (bare back) bookmark n
+clear-elsewhere p hs bookmark n front t back cut long elsewhere =
     let of_front : before p hs ≡ length (bare front) = sym (length-map front bare_node ∙ long) in
-    let of_bookmark : bookmark_at mark (bare hs) ≡ bookmark_at mark (bare front ++ bare_node t ∷ bare back) = ap (bookmark_at mark) cut in
+    let of_bookmark : bookmark_at bookmark (bare hs) ≡ bookmark_at bookmark (bare front ++ bare_node t ∷ bare back) = ap (bookmark_at bookmark) cut in
     subst (λ (x : ℕ × ℕ). (x.0 < x.1) ⊎ (x.1 + n ≤ x.0)) (λ i. (of_front i, of_bookmark i)) elsewhere

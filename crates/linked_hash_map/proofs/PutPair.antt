@@ -86,10 +86,10 @@ module _ {K V : Type 0} (hs ks : List (Held (K × V))) (p : Ptr) (lies : before 
 
 -- the current pair is none of those to visit
 abbrev pub IsOutsideAt : {K : Type 0} → Option Ptr → Option Ptr → ℕ → List (Held K) → Type 0
-IsOutsideAt current mark n us = (current_at current us < bookmark_at mark us) ⊎ (bookmark_at mark us + n ≤ current_at current us)
+IsOutsideAt current bookmark n us = (current_at current us < bookmark_at bookmark us) ⊎ (bookmark_at bookmark us + n ≤ current_at current us)
 
 -- the same pairs in as much room
-same_room : {K V : Type 0} {eq : K → K → Bool} {hash : K → ℕ} {s t : TableState (K × V)} {mark current : Option Ptr} {n : ℕ} → IsKept eq hash s mark n current → t.held ≡ s.held → t.capacity ≡ s.capacity → IsKept eq hash t mark n current
+same_room : {K V : Type 0} {eq : K → K → Bool} {hash : K → ℕ} {s t : TableState (K × V)} {bookmark current : Option Ptr} {n : ℕ} → IsKept eq hash s bookmark n current → t.held ≡ s.held → t.capacity ≡ s.capacity → IsKept eq hash t bookmark n current
 same_room {s = s} kept same capacity =
     let within = kept.nodes.within in
     let limit = kept.nodes.limit in
@@ -97,39 +97,39 @@ same_room {s = s} kept same capacity =
     IsKept-room kept same (omega (arith, within, of_bare, capacity)) (omega (arith, limit, capacity))
 
 -- the current pair, which is none of those to visit
-module _ {K V : Type 0} {eq : K → K → Bool} (laws : IsEquivalence eq) {hash : K → ℕ} {s : TableState (K × V)} (t : TableState (K × V)) {mark current : Option Ptr} {n : ℕ} {p : Ptr} (kept : IsKept eq hash s mark n current) (is : current ≡ Some p) (elsewhere : IsElsewhere p s.held mark n) where
-  IsKept-touched : (mode : Mode) → IsTouched mode p s.held t.held → t.capacity ≡ s.capacity → IsKept eq hash t mark n current
+module _ {K V : Type 0} {eq : K → K → Bool} (laws : IsEquivalence eq) {hash : K → ℕ} {s : TableState (K × V)} (t : TableState (K × V)) {bookmark current : Option Ptr} {n : ℕ} {p : Ptr} (kept : IsKept eq hash s bookmark n current) (is : current ≡ Some p) (elsewhere : IsElsewhere p s.held bookmark n) where
+  IsKept-touched : (mode : Mode) → IsTouched mode p s.held t.held → t.capacity ≡ s.capacity → IsKept eq hash t bookmark n current
   IsKept-touched Touch moved capacity = record {
-    nodes = subst (λ o. AreKept eq hash (bare t.held) t.capacity mark n o) (sym is)
-        (subst (λ k. AreKept eq hash (bare t.held) k mark n (Some p)) (sym capacity) (AreKept-moved s.held t.held moved.0 (current_lies kept is) laws (current_nodes kept is) elsewhere));
+    nodes = subst (λ o. AreKept eq hash (bare t.held) t.capacity bookmark n o) (sym is)
+        (subst (λ k. AreKept eq hash (bare t.held) k bookmark n (Some p)) (sym capacity) (AreKept-moved s.held t.held moved.0 (current_lies kept is) laws (current_nodes kept is) elsewhere));
   }
   IsKept-touched Keep same capacity = same_room kept same capacity
 
-  pub IsKept-put_current : (mode : Mode) → IsTouched mode p s.held t.held → t.capacity ≡ s.capacity → (w : V) → IsKept eq hash (with_value t p w) mark n current
+  pub IsKept-put_current : (mode : Mode) → IsTouched mode p s.held t.held → t.capacity ≡ s.capacity → (w : V) → IsKept eq hash (with_value t p w) bookmark n current
   IsKept-put_current mode touched capacity w = IsKept-with_value (IsKept-touched mode touched capacity) p w
 
-  to_visit-touched : (mode : Mode) → IsTouched mode p s.held t.held → take n (drop (bookmark_at mark (bare t.held)) (keys_of (pairs_of t.held))) ≡ take n (drop (bookmark_at mark (bare s.held)) (keys_of (pairs_of s.held)))
+  to_visit-touched : (mode : Mode) → IsTouched mode p s.held t.held → take n (drop (bookmark_at bookmark (bare t.held)) (keys_of (pairs_of t.held))) ≡ take n (drop (bookmark_at bookmark (bare s.held)) (keys_of (pairs_of s.held)))
   to_visit-touched Touch moved = to_visit-moved s.held t.held moved.0 (current_lies kept is) laws (current_nodes kept is) elsewhere
-  to_visit-touched Keep same = ap (λ (ns : List (Held (K × V))). take n (drop (bookmark_at mark (bare ns)) (keys_of (pairs_of ns)))) same
+  to_visit-touched Keep same = ap (λ (ns : List (Held (K × V))). take n (drop (bookmark_at bookmark (bare ns)) (keys_of (pairs_of ns)))) same
 
-  pub to_visit-put : (mode : Mode) → IsTouched mode p s.held t.held → (w : V) → take n (drop (bookmark_at mark (bare (change_at p (revalued w) t.held))) (keys_of (pairs_of (change_at p (revalued w) t.held)))) ≡ take n (drop (bookmark_at mark (bare s.held)) (keys_of (pairs_of s.held)))
+  pub to_visit-put : (mode : Mode) → IsTouched mode p s.held t.held → (w : V) → take n (drop (bookmark_at bookmark (bare (change_at p (revalued w) t.held))) (keys_of (pairs_of (change_at p (revalued w) t.held)))) ≡ take n (drop (bookmark_at bookmark (bare s.held)) (keys_of (pairs_of s.held)))
   to_visit-put mode touched w =
       let ls = change_at p (revalued w) t.held in
-      ap (λ ks. take n (drop (bookmark_at mark (bare ls)) ks)) (sym (keys-bare ls))
-      ∙ ap (λ (us : List (Held K)). take n (drop (bookmark_at mark us) (map (λ u. u.pair) us))) (bare-change p w t.held)
-      ∙ ap (λ ks. take n (drop (bookmark_at mark (bare t.held)) ks)) (keys-bare t.held)
+      ap (λ ks. take n (drop (bookmark_at bookmark (bare ls)) ks)) (sym (keys-bare ls))
+      ∙ ap (λ (us : List (Held K)). take n (drop (bookmark_at bookmark us) (map (λ u. u.pair) us))) (bare-change p w t.held)
+      ∙ ap (λ ks. take n (drop (bookmark_at bookmark (bare t.held)) ks)) (keys-bare t.held)
       ∙ to_visit-touched mode touched
 
-  elsewhere-touched : (mode : Mode) → IsTouched mode p s.held t.held → IsElsewhere p t.held mark n
+  elsewhere-touched : (mode : Mode) → IsTouched mode p s.held t.held → IsElsewhere p t.held bookmark n
   elsewhere-touched Touch moved = inr (behind-moved s.held t.held moved.0 (current_lies kept is) laws (current_nodes kept is) elsewhere moved.1)
-  elsewhere-touched Keep same = subst (λ (ns : List (Held (K × V))). IsElsewhere p ns mark n) (sym same) elsewhere
+  elsewhere-touched Keep same = subst (λ (ns : List (Held (K × V))). IsElsewhere p ns bookmark n) (sym same) elsewhere
 
-  pub outside-put : (mode : Mode) → IsTouched mode p s.held t.held → (w : V) → IsOutsideAt current mark n (bare (change_at p (revalued w) t.held))
+  pub outside-put : (mode : Mode) → IsTouched mode p s.held t.held → (w : V) → IsOutsideAt current bookmark n (bare (change_at p (revalued w) t.held))
   outside-put mode touched w =
-      subst (λ (us : List (Held K)). IsOutsideAt current mark n us) (sym (bare-change p w t.held))
-      (subst (λ k. (k < bookmark_at mark (bare t.held)) ⊎ (bookmark_at mark (bare t.held) + n ≤ k)) (sym (current_at-Some is t.held)) (elsewhere-touched mode touched))
+      subst (λ (us : List (Held K)). IsOutsideAt current bookmark n us) (sym (bare-change p w t.held))
+      (subst (λ k. (k < bookmark_at bookmark (bare t.held)) ⊎ (bookmark_at bookmark (bare t.held) + n ≤ k)) (sym (current_at-Some is t.held)) (elsewhere-touched mode touched))
 
 -- with nothing to visit, and no current pair
-pub IsKept-put : {K V : Type 0} {eq : K → K → Bool} → IsEquivalence eq → {hash : K → ℕ} {s : TableState (K × V)} (t : TableState (K × V)) {mark current : Option Ptr} {n : ℕ} (p : Ptr) → IsKept eq hash s mark n current → before p (bare s.held) < length (bare s.held) → (mode : Mode) → IsTouched mode p s.held t.held → t.capacity ≡ s.capacity → (w : V) → IsKept eq hash (with_value t p w) None 0 None
+pub IsKept-put : {K V : Type 0} {eq : K → K → Bool} → IsEquivalence eq → {hash : K → ℕ} {s : TableState (K × V)} (t : TableState (K × V)) {bookmark current : Option Ptr} {n : ℕ} (p : Ptr) → IsKept eq hash s bookmark n current → before p (bare s.held) < length (bare s.held) → (mode : Mode) → IsTouched mode p s.held t.held → t.capacity ≡ s.capacity → (w : V) → IsKept eq hash (with_value t p w) None 0 None
 IsKept-put laws t p kept lies mode touched capacity w =
     IsKept-visited (IsKept-put_current laws t (IsKept-visited kept (Some p) lies) refl (inr (omega arith)) mode touched capacity w) None tt

@@ -71,7 +71,7 @@ module _ {K V : Type 0} (hs ks : List (Held (K × V))) (some : IsSublist (bare k
       omega (arith, few, of_ks, of_hs, as_many, as_many_hs)
 
 -- some of the nodes are kept as all were, where nothing is to be visited
-pub IsKept-some : {K V : Type 0} {eq : K → K → Bool} {hash : K → ℕ} {s t : TableState (K × V)} {mark current : Option Ptr} {n : ℕ} → IsKept eq hash s mark n current → IsSublist (bare t.held) (bare s.held) → t.capacity ≡ s.capacity
+pub IsKept-some : {K V : Type 0} {eq : K → K → Bool} {hash : K → ℕ} {s t : TableState (K × V)} {bookmark current : Option Ptr} {n : ℕ} → IsKept eq hash s bookmark n current → IsSublist (bare t.held) (bare s.held) → t.capacity ≡ s.capacity
     → IsKept eq hash t None 0 None
 IsKept-some {K} {V} {eq} {hash} {s} {t} kept some capacity =
     let k = kept.nodes in
@@ -82,7 +82,7 @@ IsKept-some {K} {V} {eq} {hash} {s} {t} kept some capacity =
         hashed = all-sublist (λ (u : Held K). u.hash ≡ hash u.pair) (bare t.held) (bare s.held) some k.hashed;
         within = omega (arith, few, capacity, k.within);
         limit = omega (arith, capacity, k.limit);
-        marked = λ _. refl;
+        bookmarked = λ _. refl;
         ended = λ _. refl;
         in_reach = omega arith;
         current_lies = tt;

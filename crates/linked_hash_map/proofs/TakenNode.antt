@@ -18,13 +18,13 @@ pub distinct-out : {K : Type 0} (eq : K → K → Bool) (xs : List K) (x : K) (y
 distinct-out eq xs x ys h = subst (IsDistinct eq) (remove-cut xs x ys) (distinct_removed eq (xs ++ x ∷ ys) (length xs) h)
 
 -- the nodes without one that is not to be visited, which is spare
-module _ {K : Type 0} {eq : K → K → Bool} {hash : K → ℕ} (front : List (Held K)) (u : Held K) (back : List (Held K)) {capacity n : ℕ} {mark current : Option Ptr} (kept : AreKept eq hash (front ++ u ∷ back) capacity mark n current) (clear : IsClear front u back mark n) where
+module _ {K : Type 0} {eq : K → K → Bool} {hash : K → ℕ} (front : List (Held K)) (u : Held K) (back : List (Held K)) {capacity n : ℕ} {bookmark current : Option Ptr} (kept : AreKept eq hash (front ++ u ∷ back) capacity bookmark n current) (clear : IsClear front u back bookmark n) where
   pub distinct_keys-out : IsDistinct eq (map (λ t. t.pair) (front ++ back))
   distinct_keys-out =
       subst (IsDistinct eq) (sym (map-append (λ (t : Held K). t.pair) front back))
       (distinct-out eq (map (λ t. t.pair) front) u.pair (map (λ t. t.pair) back) (subst (IsDistinct eq) (map-append (λ (t : Held K). t.pair) front (u ∷ back)) kept.distinct))
 
-  pub AreKept-out : AreKept eq hash (front ++ back) capacity mark n None
+  pub AreKept-out : AreKept eq hash (front ++ back) capacity bookmark n None
   AreKept-out =
       let of_all = length-append front (u ∷ back) in
       let of_rest = length-append front back in
@@ -33,9 +33,9 @@ module _ {K : Type 0} {eq : K → K → Bool} {hash : K → ℕ} (front : List (
         hashed = AllByRecursion-removed (λ t. t.hash ≡ hash t.pair) front u back kept.hashed;
         within = omega (arith, of_all, of_rest, kept.within);
         limit = kept.limit;
-        marked = kept.marked;
+        bookmarked = kept.bookmarked;
         ended = kept.ended;
-        in_reach = in_reach-out front u back mark n kept.marked kept.ended kept.in_reach clear;
+        in_reach = in_reach-out front u back bookmark n kept.bookmarked kept.ended kept.in_reach clear;
         current_lies = tt;
       }
 
@@ -63,26 +63,26 @@ module _ {K V : Type 0} (hs ws : List (Held (K × V))) {p : Ptr} (others : AtHel
   bare_rest = ap bare rest ∙ map-append bare_node cut_removed.held.before cut_removed.held.after
 
   -- the node is none of those that are still to be visited
-  module _ (mark : Option Ptr) (n : ℕ) (elsewhere : IsElsewhere p hs mark n) where
-    clear : IsClear (bare cut_removed.held.before) (bare_node cut_removed.held.node) (bare cut_removed.held.after) mark n
-    clear = clear-elsewhere p hs mark n cut_removed.held.before cut_removed.held.node cut_removed.held.after bare_cut cut_removed.long elsewhere
+  module _ (bookmark : Option Ptr) (n : ℕ) (elsewhere : IsElsewhere p hs bookmark n) where
+    clear : IsClear (bare cut_removed.held.before) (bare_node cut_removed.held.node) (bare cut_removed.held.after) bookmark n
+    clear = clear-elsewhere p hs bookmark n cut_removed.held.before cut_removed.held.node cut_removed.held.after bare_cut cut_removed.long elsewhere
 
-    pub to_visit-removed : (mark ≡ None → n ≡ 0) → take n (drop (bookmark_at mark (bare ws)) (keys_of (pairs_of ws))) ≡ take n (drop (bookmark_at mark (bare hs)) (keys_of (pairs_of hs)))
-    to_visit-removed marked =
-        ap (λ ks. take n (drop (bookmark_at mark (bare ws)) ks)) (sym (keys-bare ws))
-        ∙ ap (λ us. take n (drop (bookmark_at mark us) (map (λ u. u.pair) us))) bare_rest
-        ∙ to_visit-out (bare cut_removed.held.before) (bare_node cut_removed.held.node) (bare cut_removed.held.after) mark n marked clear
-        ∙ ap (λ us. take n (drop (bookmark_at mark us) (map (λ u. u.pair) us))) (sym bare_cut)
-        ∙ ap (λ ks. take n (drop (bookmark_at mark (bare hs)) ks)) (keys-bare hs)
+    pub to_visit-removed : (bookmark ≡ None → n ≡ 0) → take n (drop (bookmark_at bookmark (bare ws)) (keys_of (pairs_of ws))) ≡ take n (drop (bookmark_at bookmark (bare hs)) (keys_of (pairs_of hs)))
+    to_visit-removed bookmarked =
+        ap (λ ks. take n (drop (bookmark_at bookmark (bare ws)) ks)) (sym (keys-bare ws))
+        ∙ ap (λ us. take n (drop (bookmark_at bookmark us) (map (λ u. u.pair) us))) bare_rest
+        ∙ to_visit-out (bare cut_removed.held.before) (bare_node cut_removed.held.node) (bare cut_removed.held.after) bookmark n bookmarked clear
+        ∙ ap (λ us. take n (drop (bookmark_at bookmark us) (map (λ u. u.pair) us))) (sym bare_cut)
+        ∙ ap (λ ks. take n (drop (bookmark_at bookmark (bare hs)) ks)) (keys-bare hs)
 
-    pub AreKept-removed : {eq : K → K → Bool} {hash : K → ℕ} {capacity : ℕ} {current : Option Ptr} → AreKept eq hash (bare hs) capacity mark n current → AreKept eq hash (bare ws) capacity mark n None
+    pub AreKept-removed : {eq : K → K → Bool} {hash : K → ℕ} {capacity : ℕ} {current : Option Ptr} → AreKept eq hash (bare hs) capacity bookmark n current → AreKept eq hash (bare ws) capacity bookmark n None
     AreKept-removed {eq} {hash} {capacity} {current} kept =
         let h = cut_removed.held in
-        subst (λ us. AreKept eq hash us capacity mark n None) (sym bare_rest)
-        (AreKept-out (bare h.before) (bare_node h.node) (bare h.after) (subst (λ us. AreKept eq hash us capacity mark n current) bare_cut kept) clear)
+        subst (λ us. AreKept eq hash us capacity bookmark n None) (sym bare_rest)
+        (AreKept-out (bare h.before) (bare_node h.node) (bare h.after) (subst (λ us. AreKept eq hash us capacity bookmark n current) bare_cut kept) clear)
 
 -- and no pair is to be visited, nor is there a current one
-pub IsKept-removed : {K V : Type 0} {eq : K → K → Bool} {hash : K → ℕ} {s w : TableState (K × V)} {mark current : Option Ptr} {n : ℕ} {p : Ptr} → IsKept eq hash s mark n current → before p s.held < length s.held → AtHeld s.held p (λ xs x ys. w.held ≡ xs ++ ys) → w.capacity ≡ s.capacity → IsKept eq hash w None 0 None
+pub IsKept-removed : {K V : Type 0} {eq : K → K → Bool} {hash : K → ℕ} {s w : TableState (K × V)} {bookmark current : Option Ptr} {n : ℕ} {p : Ptr} → IsKept eq hash s bookmark n current → before p s.held < length s.held → AtHeld s.held p (λ xs x ys. w.held ≡ xs ++ ys) → w.capacity ≡ s.capacity → IsKept eq hash w None 0 None
 IsKept-removed {eq = eq} {hash} {s} {w} kept lies others capacity =
     let cleared = (IsKept-visited kept None tt).nodes in
     record { nodes = subst (λ k. AreKept eq hash (bare w.held) k None 0 None) (sym capacity) (AreKept-removed s.held w.held others lies None 0 (inr (omega arith)) cleared) }

@@ -29,8 +29,8 @@ module _ {B : Type 0} where
 
   -- where a cursor and an entry stand among these nodes
   abbrev pub cursor_at : Option Ptr → ℕ → Option Ptr → List (Held B) → CursorState
-  cursor_at mark unvisited current hs =
-      cursor_state (bookmark_at mark hs) unvisited (current_at current hs)
+  cursor_at bookmark unvisited current hs =
+      cursor_state (bookmark_at bookmark hs) unvisited (current_at current hs)
 
   -- if there is a pointer, a node lies there
   abbrev pub Lies : Option Ptr → List (Held B) → Type 0
@@ -46,8 +46,8 @@ module _ {B : Type 0} where
 
 -- where a cursor or an entry stands: nowhere, and with nothing to visit, where there is neither
 module _ {K V : Type 0} where
-  abbrev pub mark_of : Visit K V → Option Ptr
-  mark_of visit = cond visit.active (pointer_of_some visit.mark) None
+  abbrev pub bookmark_of : Visit K V → Option Ptr
+  bookmark_of visit = cond visit.active (pointer_of_some visit.bookmark) None
 
   abbrev pub unvisited_of : Visit K V → ℕ
   unvisited_of visit = cond visit.active visit.unvisited 0
@@ -58,7 +58,7 @@ module _ {K V : Type 0} where
 -- what a map has beside its table: the hasher, where a cursor and an entry stand, and the mode
 pub record Beside (S : Type 0) : Type 0 where
   pub hasher : S
-  pub mark : Option Ptr
+  pub bookmark : Option Ptr
   pub unvisited : ℕ
   pub current : Option Ptr
   pub mode : Mode
@@ -79,7 +79,7 @@ module _ {K V : Type 0} where
   beside hasher visit mode =
       record {
         hasher = hasher;
-        mark = mark_of visit;
+        bookmark = bookmark_of visit;
         unvisited = unvisited_of visit;
         current = current_of visit;
         mode = mode;
@@ -89,23 +89,23 @@ module _ {K V : Type 0} where
   abbrev pub map_of : {S : Type 0} → TableState (K × V) → Beside S → LinkedMap K V S
   map_of s b =
       linked_map (pairs_of s.held) s.capacity b.hasher
-      (cursor_at b.mark b.unvisited b.current (bare s.held)) s.rechained b.mode
+      (cursor_at b.bookmark b.unvisited b.current (bare s.held)) s.rechained b.mode
 
 -- no two keys are the same, each stands with its hash, they are within the capacity and that within
--- the limit; a mark is there as long as pairs are unvisited, and these are there from it on; the
--- pair that an entry stands for is there
+-- the limit; there is a bookmark as long as pairs are unvisited, and these are there from it on;
+-- the pair that an entry stands for is there
 pub record AreKept {K : Type 0} (eq : K → K → Bool) (hash : K → ℕ) (us : List (Held K))
-    (capacity : ℕ) (mark : Option Ptr) (unvisited : ℕ) (current : Option Ptr) : Type 0 where
+    (capacity : ℕ) (bookmark : Option Ptr) (unvisited : ℕ) (current : Option Ptr) : Type 0 where
   pub distinct : IsDistinct eq (map (λ u. u.pair) us)
   pub hashed : AllByRecursion (λ u. u.hash ≡ hash u.pair) us
   pub within : length us ≤ capacity
   pub limit : capacity ≤ LIMIT
-  pub marked : mark ≡ None → unvisited ≡ 0
-  pub ended : unvisited ≡ 0 → mark ≡ None
-  pub in_reach : bookmark_at mark us + unvisited ≤ length us
+  pub bookmarked : bookmark ≡ None → unvisited ≡ 0
+  pub ended : unvisited ≡ 0 → bookmark ≡ None
+  pub in_reach : bookmark_at bookmark us + unvisited ≤ length us
   pub current_lies : Lies current us
 
 -- the pairs of a table are kept so
 pub record IsKept {K V : Type 0} (eq : K → K → Bool) (hash : K → ℕ) (s : TableState (K × V))
-    (mark : Option Ptr) (unvisited : ℕ) (current : Option Ptr) : Type 0 where
-  pub nodes : AreKept eq hash (bare s.held) s.capacity mark unvisited current
+    (bookmark : Option Ptr) (unvisited : ℕ) (current : Option Ptr) : Type 0 where
+  pub nodes : AreKept eq hash (bare s.held) s.capacity bookmark unvisited current

@@ -8,7 +8,7 @@ ghost use Rattle.linked_hash_map.specs.Changes.{Keeps};
 ghost use Rattle.linked_hash_map.specs.Validity.{IsValid};
 ghost use Rattle.linked_hash_map.specs.Hashers.{hash_by};
 ghost use Rattle.linked_hash_map.specs.Indexes.{IsIndex};
-ghost use Rattle.linked_hash_map.specs.Nodes.{mark_of, unvisited_of, current_of, Lies, HasBehind};
+ghost use Rattle.linked_hash_map.specs.Nodes.{bookmark_of, unvisited_of, current_of, Lies, HasBehind};
 ghost use Rattle.lhm_ring.specs.Cells.{IsApart};
 ghost use Rattle.lhm_ring.specs.Positions.{pointer_of, pointer_of_some};
 ghost use Rattle.lhm_ring.specs.RingState.{IsHeld, AtHeld, first_at};
@@ -25,7 +25,7 @@ pub(super) struct Visit<K, V> {
     /// Whether the other fields mean anything. A call that ends a visit clears this alone.
     pub(super) active: bool,
     /// The next pair to visit.
-    pub(super) mark: Option<Position<K, V>>,
+    pub(super) bookmark: Option<Position<K, V>>,
     /// The number of pairs left to visit.
     pub(super) unvisited: usize,
     /// The pair of an occupied entry.
@@ -43,23 +43,23 @@ impl<K, V> Copy for Visit<K, V> {}
 impl<K, V> Visit<K, V> {
     /// Returns no visit.
     pub(super) fn none() -> Self
-        ensures mark { mark_of result ≡ None }
+        ensures bookmark { bookmark_of result ≡ None }
         ensures unvisited { unvisited_of result ≡ 0 }
         ensures current { current_of result ≡ None }
     {
         Visit {
             active: false,
-            mark: None,
+            bookmark: None,
             unvisited: 0,
             current: None,
         }
     }
 
     /// Returns the next pair to visit.
-    pub(super) fn mark(&self) -> Option<Position<K, V>>
-        ensures { pointer_of_some result ≡ mark_of self.now }
+    pub(super) fn bookmark(&self) -> Option<Position<K, V>>
+        ensures { pointer_of_some result ≡ bookmark_of self.now }
     {
-        if self.active { self.mark } else { None }
+        if self.active { self.bookmark } else { None }
     }
 
     /// Returns the number of pairs left to visit.
@@ -78,10 +78,10 @@ impl<K, V> Visit<K, V> {
 
     /// Returns how many pairs come behind the next one to visit, in O(n).
     pub(super) fn behind(&self, table: &Table<K, V>) -> Option<usize>
-        requires { Lies (mark_of self.now) table.now.held }
-        ensures { HasBehind (mark_of self.now) table.now.held result }
+        requires { Lies (bookmark_of self.now) table.now.held }
+        ensures { HasBehind (bookmark_of self.now) table.now.held result }
     {
-        match self.mark() {
+        match self.bookmark() {
             Some(at) => Some(table.behind(at)),
             None => None,
         }
@@ -91,14 +91,14 @@ impl<K, V> Visit<K, V> {
     pub(super) fn moved_to(&self, table: &Table<K, V>, behind: Option<usize>) -> Self
         requires within { IfSome behind (λ n. n < length table.now.held) }
         requires none { IfNone behind (unvisited_of self.now ≡ 0) }
-        ensures mark { HasBehind (mark_of result) table.now.held behind }
+        ensures bookmark { HasBehind (bookmark_of result) table.now.held behind }
         ensures unvisited { unvisited_of result ≡ unvisited_of self.now }
         ensures current { current_of result ≡ None }
     {
         match behind {
             Some(behind) => Visit {
                 active: true,
-                mark: table.nth_back(behind),
+                bookmark: table.nth_back(behind),
                 unvisited: self.unvisited(),
                 current: None,
             },
@@ -108,7 +108,7 @@ impl<K, V> Visit<K, V> {
 }
 
 /// Returns the pair behind this one, if it is left to visit.
-fn mark_behind<K, V>(
+fn bookmark_behind<K, V>(
     table: &Table<K, V>,
     at: Position<K, V>,
     unvisited: usize,
@@ -137,7 +137,7 @@ impl<K: Eq + Hash, V, S: BuildHasher> LinkedHashMap<K, V, S> {
     {
         self.visit = Visit {
             active: true,
-            mark: self.table.first(),
+            bookmark: self.table.first(),
             unvisited: self.table.len(),
             current: None,
         };
@@ -157,13 +157,13 @@ impl<K: Eq + Hash, V, S: BuildHasher> LinkedHashMap<K, V, S> {
         ensures none { IsFalse result → to_visit self.old ≡ [] }
         ensures unchanged { IsFalse result → self.new ≡ self.old }
     {
-        let Some(at) = self.visit.mark() else {
+        let Some(at) = self.visit.bookmark() else {
             return false;
         };
         let unvisited = self.visit.unvisited() - 1;
         self.visit = Visit {
             active: true,
-            mark: mark_behind(&self.table, at, unvisited),
+            bookmark: bookmark_behind(&self.table, at, unvisited),
             unvisited,
             current: Some(at),
         };
@@ -209,7 +209,7 @@ impl<K: Eq + Hash, V, S: BuildHasher> LinkedHashMap<K, V, S> {
             Some(at) => {
                 self.visit = Visit {
                     active: true,
-                    mark: None,
+                    bookmark: None,
                     unvisited: 0,
                     current: Some(at),
                 };

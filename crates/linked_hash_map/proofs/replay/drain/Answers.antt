@@ -1,7 +1,7 @@
 use Rattle.std.proofs.Common.{◌≡◌, ◌<◌, ◌++◌, ◌∷◌, [], length, refl, sym, ap, ◌∙◌, true≢false, arith, length-append}
 use Rattle.std.proofs.lemmas.List.{append-nil, append_assoc}
 use Rattle.linked_hash_map.specs.Drains.{drain_rest}
-use Rattle.linked_hash_map.proofs.MarkMoves.{positive}
+use Rattle.linked_hash_map.proofs.BookmarkMoves.{positive}
 use Rattle.linked_hash_map.proofs.Effects.{size-contents, Defines-nothing, Defines-remove_all}
 use Rattle.linked_hash_map.proofs.replay.drain.Goals as goal
 

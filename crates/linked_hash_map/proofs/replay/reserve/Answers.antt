@@ -31,7 +31,7 @@ returns-in-Err-NoRoom g c =
     record {
       answers = λ start log defines.
           let size_is = size-contents g.met.K.Eq.laws defines in
-          let mark = defines.same_capacity in
+          let high_water = defines.same_capacity in
           let over = refused.no_room told in
           let within = refused.no_room_within told in
           (omega arith, omega arith);

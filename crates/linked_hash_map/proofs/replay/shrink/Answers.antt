@@ -17,7 +17,7 @@ returns-in-Err g c =
     record {
       answers = λ start log defines.
           let size_is = size-contents g.met.K.Eq.laws defines in
-          let mark = defines.same_capacity in
+          let high_water = defines.same_capacity in
           let some = refused.some in
           let spare = refused.spare in
           (omega arith, omega arith);

@@ -27,7 +27,7 @@ returns-in-Some g c =
     rw (← c.self.view_is) (
       (λ i. inl (
         c.value_mut.result.ghost_name,
-        λ w. record (map_of m.table (record (beside m.hasher m.visit m.mode) { mark = None; unvisited = 0; current = None })) {
+        λ w. record (map_of m.table (record (beside m.hasher m.visit m.mode) { bookmark = None; unvisited = 0; current = None })) {
           pairs = pairs-put c.self.inside.table.held c.move_to_back.new.self.held (pointer_of c.in-Some.at) (key_lies has) g.met.K.Eq.laws (key_index has) distinct Touch (moved.last, moved.apart) c.value_mut.ensures.alone w i;
           capacity = moved.capacity i;
           rechained = moved.rechained i;

@@ -1,7 +1,7 @@
 use Rattle.std.proofs.Common.{slice_get, refl, sym, ap, ◌∙◌}
 use Rattle.std.specs.Map.{keys_of}
 use Rattle.linked_hash_map.proofs.EntryValue.{value-occupied}
-use Rattle.linked_hash_map.proofs.MarkMoves.{occupied_key_there}
+use Rattle.linked_hash_map.proofs.BookmarkMoves.{occupied_key_there}
 use Rattle.linked_hash_map.proofs.map.LinkedHashMap.next_entry.Goals as goal
 
 pub returns-then-visit_next : goal.returns-then-visit_next

@@ -2,7 +2,7 @@ use Rattle.std.proofs.Common.{◌≡◌, take, drop, None, option_map, refl, sym
 use Rattle.lhm_ring.specs.Tables.{TableState}
 use Rattle.linked_hash_map.specs.LinkedMap.{LinkedMap}
 use Rattle.std.specs.Map.{keys_of}
-use Rattle.linked_hash_map.specs.Nodes.{pairs_of, bare, bookmark_at, map_of, beside, mark_of, unvisited_of}
+use Rattle.linked_hash_map.specs.Nodes.{pairs_of, bare, bookmark_at, map_of, beside, bookmark_of, unvisited_of}
 use Rattle.linked_hash_map.specs.Pairs.{find}
 use Rattle.linked_hash_map.specs.Validity.{IsValid}
 use Rattle.linked_hash_map.specs.Hashers.{hash_by}
@@ -36,7 +36,7 @@ returns-in_err-pair-clause-pairs g c =
 pub returns-in_err-pair-clause-to_visit : goal.returns-in_err-pair-clause-to_visit
 returns-in_err-pair-clause-to_visit g c =
     let m = c.self.inside in
-    rw (c.from_residual.ensures, ← c.self.view_is) (ap (λ (s : TableState _). take (unvisited_of m.visit) (drop (bookmark_at (mark_of m.visit) (bare s.held)) (keys_of (pairs_of s.held)))) c.in_err-pair.ensures.unchanged)
+    rw (c.from_residual.ensures, ← c.self.view_is) (ap (λ (s : TableState _). take (unvisited_of m.visit) (drop (bookmark_at (bookmark_of m.visit) (bare s.held)) (keys_of (pairs_of s.held)))) c.in_err-pair.ensures.unchanged)
 
 pub returns-in_err-pair-clause-valid : goal.returns-in_err-pair-clause-valid
 returns-in_err-pair-clause-valid g c = rw (← c.self.view_is) (IsValid-view c.self.invariant refl refl)

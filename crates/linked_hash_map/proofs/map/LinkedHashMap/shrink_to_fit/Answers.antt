@@ -1,18 +1,18 @@
 use Rattle.std.proofs.Common.{take, drop, refl, ap, ◌∙◌}
 use Rattle.std.specs.Map.{keys_of}
 use Rattle.lhm_ring.specs.Tables.{TableState}
-use Rattle.linked_hash_map.specs.Nodes.{mark_of, pairs_of, bare, bookmark_at}
-use Rattle.linked_hash_map.proofs.Fitted.{IsKept-fitted, to_visit-fitted, pairs_of-triples, marked_lies}
+use Rattle.linked_hash_map.specs.Nodes.{bookmark_of, pairs_of, bare, bookmark_at}
+use Rattle.linked_hash_map.proofs.Fitted.{IsKept-fitted, to_visit-fitted, pairs_of-triples, bookmarked_lies}
 use Rattle.linked_hash_map.proofs.Kept.{IsValid-view}
 use Rattle.linked_hash_map.proofs.map.LinkedHashMap.shrink_to_fit.Goals as goal
 
 pub behind-behind-requires : goal.behind-behind-requires
-behind-behind-requires g c = marked_lies c.self.invariant
+behind-behind-requires g c = bookmarked_lies c.self.invariant
 
 pub invariant_of-self : goal.invariant_of-self
 invariant_of-self g c =
     let moved = c.moved_to-self-inside.ensures in
-    IsKept-fitted c.self.invariant c.shrink_to_fit.new.self c.in-Ok.ensures.triples (mark_of c.moved_to-self-inside.result) c.behind-behind.result c.behind-behind.ensures moved.mark c.in-Ok.ensures.capacity moved.unvisited moved.current
+    IsKept-fitted c.self.invariant c.shrink_to_fit.new.self c.in-Ok.ensures.triples (bookmark_of c.moved_to-self-inside.result) c.behind-behind.result c.behind-behind.ensures moved.bookmark c.in-Ok.ensures.capacity moved.unvisited moved.current
 
 pub returns-in-Ok-clause-pairs : goal.returns-in-Ok-clause-pairs
 returns-in-Ok-clause-pairs g c = rw (← c.self.view_is) (pairs_of-triples c.self.inside.table.held c.shrink_to_fit.new.self.held c.in-Ok.ensures.triples)
@@ -22,8 +22,8 @@ returns-in-Ok-clause-to_visit g c =
     let moved = c.moved_to-self-inside in
     let hs = c.shrink_to_fit.new.self.held in
     rw (← c.self.view_is) (
-    ap (λ n. take n (drop (bookmark_at (mark_of moved.result) (bare hs)) (keys_of (pairs_of hs)))) moved.ensures.unvisited
-    ∙ to_visit-fitted c.self.invariant c.shrink_to_fit.new.self c.in-Ok.ensures.triples (mark_of moved.result) c.behind-behind.result c.behind-behind.ensures moved.ensures.mark)
+    ap (λ n. take n (drop (bookmark_at (bookmark_of moved.result) (bare hs)) (keys_of (pairs_of hs)))) moved.ensures.unvisited
+    ∙ to_visit-fitted c.self.invariant c.shrink_to_fit.new.self c.in-Ok.ensures.triples (bookmark_of moved.result) c.behind-behind.result c.behind-behind.ensures moved.ensures.bookmark)
 
 pub returns-in-Ok-clause-valid : goal.returns-in-Ok-clause-valid
 returns-in-Ok-clause-valid g c = rw (← c.self.view_is) (IsValid-view c.self.invariant refl refl)

@@ -5,8 +5,8 @@ use Rattle.linked_hash_map.proofs.Fitted.{HasBehind-nth_back}
 use Rattle.linked_hash_map.proofs.Kept.{of-Some}
 use Rattle.linked_hash_map.proofs.map.cursor.Visit.moved_to.Goals as goal
 
-pub returns-in-Some-clause-mark : goal.returns-in-Some-clause-mark
-returns-in-Some-clause-mark g c =
+pub returns-in-Some-clause-bookmark : goal.returns-in-Some-clause-bookmark
+returns-in-Some-clause-bookmark g c =
     let hs = c.args.table.now.held in
     let within = of-Some (λ n. n < length hs) c.args.behind c.in-Some.behind c.in-Some.is c.requires.within in
     let nth = c.nth_back.ensures in

@@ -1,4 +1,4 @@
--- The mark of a cursor: it goes from one pair on to the next.
+-- The bookmark of a cursor: it goes from one pair on to the next.
 use Rattle.std.proofs.Common.{◌≡◌, ℕ, zero, suc, ◌+◌, ◌-◌, ◌<◌, ◌≤◌, ◌⊎◌, inl, inr, Bool, List, [], ◌∷◌, ◌++◌, map, length, take, drop, slice_get, Option, Some, None, refl, sym, ap, ◌∙◌, subst, arith, length-append}
 use Rattle.std.proofs.Math.Nat.{le_of_suc-le-suc}
 use Rattle.std.proofs.lemmas.List.{append_assoc}
@@ -26,17 +26,17 @@ take-zero : {X : Type 0} (xs : List X) → take 0 xs ≡ []
 take-zero [] = refl
 take-zero (x ∷ xs) = refl
 
--- n pairs were unvisited, from the index on; the mark is at the next of them now, or there is no
--- more to visit
-pub record Goes (mark len index n : ℕ) (o : Option Ptr) : Type 1 where
-  pub marked : o ≡ None → n - 1 ≡ 0
-  pub reach : mark + (n - 1) ≤ len
-  pub stretch : {X : Type 0} (ks : List X) → take (n - 1) (drop mark ks) ≡ take (n - 1) (drop (index + 1) ks)
-  pub outside : (index < mark) ⊎ (mark + (n - 1) ≤ index)
+-- n pairs were unvisited, from the index on; the bookmark is at the next of them now, or none is
+-- left
+pub record Goes (bookmark len index n : ℕ) (o : Option Ptr) : Type 1 where
+  pub bookmarked : o ≡ None → n - 1 ≡ 0
+  pub reach : bookmark + (n - 1) ≤ len
+  pub stretch : {X : Type 0} (ks : List X) → take (n - 1) (drop bookmark ks) ≡ take (n - 1) (drop (index + 1) ks)
+  pub outside : (index < bookmark) ⊎ (bookmark + (n - 1) ≤ index)
 
 goes_none : (len index n : ℕ) → n - 1 ≡ 0 → Goes 0 len index n None
 goes_none len index n none = record {
-  marked = λ _. none;
+  bookmarked = λ _. none;
   reach = omega (arith, none);
   stretch = λ ks. ap (λ k. take k (drop 0 ks)) none ∙ take-zero (drop 0 ks) ∙ sym (ap (λ k. take k (drop (index + 1) ks)) none ∙ take-zero (drop (index + 1) ks));
   outside = inr (omega (arith, none));
@@ -55,7 +55,7 @@ module _ {K V : Type 0} where
       let long = length-append front (t ∷ []) in
       let is : before u.at (front ++ t ∷ u ∷ back) ≡ length front + 1 = ap (before u.at) on ∙ before_at (front ++ t ∷ []) u back (subst (λ l. IsApart (map (λ v. v.at) l)) on d) ∙ long in
       record {
-        marked = λ no. absurd (let h : Some u.at ≡ None = no in cc);
+        bookmarked = λ no. absurd (let h : Some u.at ≡ None = no in cc);
         reach = omega (arith, is, reach, some);
         stretch = λ ks. ap (λ k. take (n - 1) (drop k ks)) is;
         outside = inl (omega (arith, is));
@@ -76,24 +76,24 @@ module _ {K V : Type 0} where
       (subst (λ (z : ℕ). Goes (bookmark_at (first_at back) hs) (length hs) z n (first_at back)) cut.long
       (subst (λ (z : List (Held (K × V))). Goes (bookmark_at (first_at back) z) (length z) (length front) n (first_at back)) (sym is) at))
 
--- a map with a mark on what lies at p
-module _ {K V : Type 0} {eq : K → K → Bool} {hash : K → ℕ} {s : TableState (K × V)} {mark : Option Ptr} {n : ℕ} {current : Option Ptr} (kept : IsKept eq hash s mark n current) (p : Ptr) (marked : mark ≡ Some p) where
+-- a map with a bookmark on what lies at p
+module _ {K V : Type 0} {eq : K → K → Bool} {hash : K → ℕ} {s : TableState (K × V)} {bookmark : Option Ptr} {n : ℕ} {current : Option Ptr} (kept : IsKept eq hash s bookmark n current) (p : Ptr) (bookmarked : bookmark ≡ Some p) where
   pub unvisited_some : 0 < n
-  unvisited_some = positive n (λ z. let h : Some p ≡ None = sym marked ∙ kept.nodes.ended z in cc)
+  unvisited_some = positive n (λ z. let h : Some p ≡ None = sym bookmarked ∙ kept.nodes.ended z in cc)
 
   reach : before p s.held + n ≤ length s.held
   reach =
-      let at_mark : bookmark_at mark (bare s.held) ≡ before p s.held = bookmark-bare mark s.held ∙ ap (λ o. bookmark_at o s.held) marked in
+      let at_bookmark : bookmark_at bookmark (bare s.held) ≡ before p s.held = bookmark-bare bookmark s.held ∙ ap (λ o. bookmark_at o s.held) bookmarked in
       let long = length-bare s.held in
-      omega (arith, at_mark, long, kept.nodes.in_reach)
+      omega (arith, at_bookmark, long, kept.nodes.in_reach)
 
   cut : CutAt p s.held
   cut = cut_before p s.held (let some = unvisited_some in omega (arith, reach, some))
 
-  pub marked_held : IsHeld s.held p
-  marked_held = cut.held
+  pub bookmarked_held : IsHeld s.held p
+  bookmarked_held = cut.held
 
-  -- o is where the mark goes on to
+  -- o is where the bookmark goes on to
   module _ (o : Option Ptr) (none : n - 1 ≡ 0 → o ≡ None) (next : 0 < n - 1 → AtHeld s.held p (λ xs t ys. o ≡ first_at ys)) (apart : 0 < n - 1 → IsApart (map (λ u. u.at) s.held)) where
     pub goes : Goes (bookmark_at o (bare s.held)) (length (bare s.held)) (before p (bare s.held)) n o
     goes =
@@ -114,15 +114,15 @@ module _ {K V : Type 0} {eq : K → K → Bool} {hash : K → ℕ} {s : TableSta
             hashed = kept.nodes.hashed;
             within = kept.nodes.within;
             limit = kept.nodes.limit;
-            marked = goes.marked;
+            bookmarked = goes.bookmarked;
             ended = none;
             in_reach = goes.reach;
             current_lies = omega (arith, of_bare, at, reach, some);
           };
         }
 
-    pub to_visit_on : {X : Type 0} (ks : List X) (k : X) → slice_get ks (before p (bare s.held)) ≡ Some k → take n (drop (bookmark_at mark (bare s.held)) ks) ≡ k ∷ take (n - 1) (drop (bookmark_at o (bare s.held)) ks)
-    to_visit_on ks k there = ap (λ m. take n (drop (bookmark_at m (bare s.held)) ks)) marked ∙ stretch-step ks (before p (bare s.held)) n k there unvisited_some ∙ ap (λ l. k ∷ l) (sym (goes.stretch ks))
+    pub to_visit_on : {X : Type 0} (ks : List X) (k : X) → slice_get ks (before p (bare s.held)) ≡ Some k → take n (drop (bookmark_at bookmark (bare s.held)) ks) ≡ k ∷ take (n - 1) (drop (bookmark_at o (bare s.held)) ks)
+    to_visit_on ks k there = ap (λ m. take n (drop (bookmark_at m (bare s.held)) ks)) bookmarked ∙ stretch-step ks (before p (bare s.held)) n k there unvisited_some ∙ ap (λ l. k ∷ l) (sym (goes.stretch ks))
 
 module _ {K V : Type 0} where
   slice_get-keys : (pairs : List (K × V)) (index : ℕ) (within : index < length pairs) → slice_get (keys_of pairs) index ≡ Some (pair_at pairs index within).0
