@@ -20,6 +20,7 @@ pub mod Growth
 pub mod HighWater
 pub mod Indexes
 pub mod Inserts
+mod IteratorLaws
 pub mod Kept
 pub mod LeavingSessions
 pub mod LendMap
@@ -40,5 +41,4 @@ pub mod SessionRetained
 pub mod Standing
 pub mod Stretches
 pub mod TakenNode
-mod Walks
 mod WithoutModes

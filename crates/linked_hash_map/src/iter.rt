@@ -130,8 +130,8 @@ impl<'a, K: Eq + Hash, V, S: BuildHasher> IntoIterator for &'a LinkedHashMap<K, 
     type IntoIter = Iter<'a, K, V>;
 
     // Its last two parts are laws of iterators, for the proofs of callers.
-    ghost into_iter_gives = { λ map walk.
-        (walk ≡ map.now.pairs) × IsValid K.eq map.now × ShowsInOrder (deref_pair {K = K} {X = V})
+    ghost into_iter_gives = { λ map iter.
+        (iter ≡ map.now.pairs) × IsValid K.eq map.now × ShowsInOrder (deref_pair {K = K} {X = V})
         × ShowsInReverse (deref_pair {K = K} {X = V}) };
 
     fn into_iter(self) -> Iter<'a, K, V> {

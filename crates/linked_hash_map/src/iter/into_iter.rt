@@ -134,8 +134,8 @@ impl<K: Eq + Hash + Drop, V: Drop, S: BuildHasher + Drop> IntoIterator for Linke
     type IntoIter = IntoIter<K, V>;
 
     // Its last two parts are laws of iterators, for the proofs of callers.
-    ghost into_iter_gives = { λ map walk.
-        (walk ≡ map.pairs) × IsValid K.eq map × GivesInOrder (K × V) × GivesInReverse (K × V) };
+    ghost into_iter_gives = { λ map iter.
+        (iter ≡ map.pairs) × IsValid K.eq map × GivesInOrder (K × V) × GivesInReverse (K × V) };
 
     fn into_iter(self) -> IntoIter<K, V> {
         self.into_pairs()

@@ -18,7 +18,7 @@ pub struct IterMut<'a, K, V> {
 }
 
 impl<'a, K, V> IterMut<'a, K, V> {
-    ghost use Rattle.linked_hash_map.specs.ValueWalks.{pairs_left, loan_name};
+    ghost use Rattle.linked_hash_map.specs.ValueIterators.{pairs_left, loan_name};
     ghost use Rattle.linked_hash_map.specs.Nodes.{pairs_of};
     ghost use Rattle.lhm_ring.specs.LentRings.{lent_held, lent_name, IsLent};
 
@@ -35,7 +35,7 @@ impl<'a, K, V> IterMut<'a, K, V> {
 }
 
 impl<'a, K, V> Iterator for IterMut<'a, K, V> {
-    ghost use Rattle.linked_hash_map.specs.ValueWalks.{pairs_left};
+    ghost use Rattle.linked_hash_map.specs.ValueIterators.{pairs_left};
 
     type Item = (&'a K, &'a mut V);
 
@@ -62,7 +62,7 @@ impl<'a, K, V> Iterator for IterMut<'a, K, V> {
 }
 
 impl<'a, K, V> DoubleEndedIterator for IterMut<'a, K, V> {
-    ghost use Rattle.linked_hash_map.specs.ValueWalks.{pairs_left};
+    ghost use Rattle.linked_hash_map.specs.ValueIterators.{pairs_left};
 
     ghost next_back_gives = { LendsLast pairs_left };
 
@@ -100,15 +100,15 @@ impl<'a, K: Eq + Hash, V, S: BuildHasher> IntoIterator for &'a mut LinkedHashMap
     ghost use Rattle.linked_hash_map.specs.Lends.{lends_values};
     ghost use Rattle.linked_hash_map.specs.Pairs.{KeysStand};
     ghost use Rattle.linked_hash_map.specs.Validity.{IsValid};
-    ghost use Rattle.linked_hash_map.specs.ValueWalks.{pairs_left, loan_name};
+    ghost use Rattle.linked_hash_map.specs.ValueIterators.{pairs_left, loan_name};
 
     type Item = (&'a K, &'a mut V);
 
     type IntoIter = IterMut<'a, K, V>;
 
     // Its last two parts are laws of iterators, for the proofs of callers.
-    ghost into_iter_gives = { λ map walk.
-        (pairs_left walk ≡ map.now.pairs) × IsValid K.eq map.now
+    ghost into_iter_gives = { λ map iter.
+        (pairs_left iter ≡ map.now.pairs) × IsValid K.eq map.now
         × LendsValuesInOrder (pairs_left {K = K} {V = V})
         × LendsValuesInReverse (pairs_left {K = K} {V = V}) };
 

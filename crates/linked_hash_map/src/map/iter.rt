@@ -16,7 +16,7 @@ use std::marker::PhantomData;
 
 impl<K: Eq + Hash, V, S: BuildHasher> LinkedHashMap<K, V, S> {
     ghost use Rattle.linked_hash_map.specs.Lends.{lends_values};
-    ghost use Rattle.linked_hash_map.specs.ValueWalks.{pairs_left, loan_name};
+    ghost use Rattle.linked_hash_map.specs.ValueIterators.{pairs_left, loan_name};
 
     /// Returns a double-ended iterator over the pairs, front to back, in O(1).
     ///

@@ -1,5 +1,5 @@
 use Rattle.std.proofs.Common.{refl, sym, ◌∙◌}
-use Rattle.linked_hash_map.proofs.Walks.{keys_stand, lends_in_order, lends_in_reverse}
+use Rattle.linked_hash_map.proofs.IteratorLaws.{keys_stand, lends_in_order, lends_in_reverse}
 use Rattle.linked_hash_map.proofs.map.LinkedHashMap.iter_mut.Goals as goal
 
 pub returns : goal.returns

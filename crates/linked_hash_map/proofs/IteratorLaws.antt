@@ -1,4 +1,4 @@
--- Steps and runs of the iterators.
+-- The laws of the iterators, for the proofs of callers.
 use Rattle.std.proofs.Common.{List, [], ◌∷◌, length, refl, ap, ◌∙◌}
 use Rattle.std.specs.Map.{values_of}
 use Rattle.std.specs.Map.Iter.{TakesFirst, TakesLast, ShowsInOrder, ShowsInReverse, GivesInOrder, GivesInReverse, LendsFirst, LendsLast, LendsValuesInOrder, LendsValuesInReverse}
