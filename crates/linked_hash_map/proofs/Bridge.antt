@@ -14,7 +14,7 @@ use Rattle.linked_hash_map.proofs.Pairs.{filter-none, to_back-absent, put-absent
 use Rattle.linked_hash_map.proofs.Standing.{live-snoc, stored-snoc, value-snoc, standing-snoc, keeps}
 use Rattle.linked_hash_map.proofs.LiveKeys.{stored-live, pair_of-live, stored-same, pair_of-same, same_test, any-standing, none_is}
 
--- a lookup in what g gives of keys, where g tells the same of one key whatever its name
+-- a lookup in what g gives of keys, if g tells the same of one key whatever its name
 module _ {K V : Type 0} (same : K → Bool) (g : K → Option (K × V)) (mine : Option (K × V)) (one : (q : K) → same q ≡ true → g q ≡ mine) (keyed : (q : K) (y : K × V) → g q ≡ Some y → same y.0 ≡ same q) where
   lookup_step : (q : K) (ks : List K) (o : Option (K × V)) (b : Bool) → g q ≡ o → same q ≡ b → lookup_entry same (filter_map g ks) ≡ cond (list_any same ks) mine None → lookup_entry same (cons_option o (filter_map g ks)) ≡ cond (b || list_any same ks) mine None
   lookup_step q ks None true e h i = let m : mine ≡ None = sym (one q h) ∙ e in i ∙ rw m (elim (list_any same ks) as (λ x. cond {A = Option (K × V)} x None None ≡ None) [ true ↦ refl | false ↦ refl ])

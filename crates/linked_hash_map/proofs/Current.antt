@@ -44,7 +44,7 @@ module _ {K V : Type 0} {eq : K → K → Bool} {hash : K → ℕ} {s : TableSta
   pub current_nodes : AreKept eq hash (bare s.held) s.capacity bookmark n (Some p)
   current_nodes = subst (λ z. AreKept eq hash (bare s.held) s.capacity bookmark n z) is kept.nodes
 
-  -- where the index is outside the pairs to visit, the node is
+  -- if the index is outside the pairs to visit, the node is
   pub current_elsewhere : {S : Type 0} (m : LinkedMap K V S) → cursor_at bookmark n o (bare s.held) ≡ m.cursor → IsOutside m.cursor.current m → IsElsewhere p s.held bookmark n
   current_elsewhere m view outside =
       subst (λ k. (k < bookmark_at bookmark (bare s.held)) ⊎ (bookmark_at bookmark (bare s.held) + n ≤ k)) (current_at-Some is s.held)

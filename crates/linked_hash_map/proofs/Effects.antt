@@ -1,4 +1,4 @@
--- What the map's calls answer and leave, on a log that defines the map.
+-- What the map's calls return and leave, on a log that defines the map.
 use Rattle.std.proofs.Common.{◌≡◌, ℕ, zero, suc, ◌+◌, ◌-◌, ◌<◌, ◌≤◌, max, Bool, take, drop, remove, slice_get, subst, arith, drop_of_length-le, List, [], ◌∷◌, ◌++◌, length, Option, Some, None, is_some, option_map, refl, sym, ap, ap₂, ◌∙◌, true≢false, append-nil, append_assoc}
 use Rattle.std.specs.Option.{option_zip}
 use Rattle.std.specs.List.{IsDistinct}

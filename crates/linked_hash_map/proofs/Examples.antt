@@ -12,7 +12,7 @@ use Rattle.linked_hash_map.specs.declared.replay.Command.TheVariants as command
 use Rattle.linked_hash_map.specs.declared.replay.Answer.TheVariants.{New, Old, Missing}
 use Rattle.linked_hash_map.specs.declared.replay.Reply.{Reply}
 
--- numbers are the same key where they end in the same digit
+-- numbers are the same key if they end in the same digit
 same_digit : ℕ → ℕ → Bool
 same_digit j k = nat_eq (j % 10) (k % 10)
 

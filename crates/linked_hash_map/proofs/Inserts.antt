@@ -123,7 +123,7 @@ module _ {K V : Type 0} {eq : K → K → Bool} (laws : IsEquivalence eq) where
         mode = same_mode ∙ so_far.mode;
       }
 
-  -- the same, where the items are what others show
+  -- the same, if the items are what others show
   pub HasInserted-shown : {S X : Type 0} (shows : X → K × V) (start : LinkedMap K V S) (taken : List X) (item : X) {before after : LinkedMap K V S} → IsDistinct eq (keys_of start.pairs) → HasInserted eq start (map shows taken) before → after.pairs ≡ put eq before.mode before.pairs (shows item).0 (shows item).1 → after.capacity ≡ max before.capacity (length after.pairs) → after.rechained ≡ rechained_raised before.rechained (length before.pairs) before.capacity after.capacity → after.hasher ≡ before.hasher → after.mode ≡ before.mode → HasInserted eq start (map shows (taken ++ item ∷ [])) after
   HasInserted-shown shows start taken item {before} {after} distinct so_far pairs_are raised counted same same_mode =
       subst (λ items. HasInserted eq start items after) (sym (map-append shows taken (item ∷ [])))

@@ -70,7 +70,7 @@ module _ {K V : Type 0} (hs ks : List (Held (K × V))) (some : IsSublist (bare k
       let as_many_hs = length-pairs_of hs in
       omega (arith, few, of_ks, of_hs, as_many, as_many_hs)
 
--- some of the nodes are kept as all were, where nothing is to be visited
+-- some of the nodes are kept as all were, if nothing is to be visited
 pub IsKept-some : {K V : Type 0} {eq : K → K → Bool} {hash : K → ℕ} {s t : TableState (K × V)} {bookmark current : Option Ptr} {n : ℕ} → IsKept eq hash s bookmark n current → IsSublist (bare t.held) (bare s.held) → t.capacity ≡ s.capacity
     → IsKept eq hash t None 0 None
 IsKept-some {K} {V} {eq} {hash} {s} {t} kept some capacity =

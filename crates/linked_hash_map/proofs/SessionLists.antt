@@ -24,14 +24,14 @@ module _ {T : Type 0} where
       total_weight-append (without sessions id) ((id, weight, payload) ∷ [])
       ∙ ap (λ w. total_weight (without sessions id) + w) (total_weight-last (id, weight, payload))
 
-  -- a session behind the others is the one of its id, where no other has it
+  -- a session behind the others is the one of its id, if no other has it
   pub session_of-append : (sessions : List (Session T)) (session : Session T) → session_of sessions session.0 ≡ None → session_of (sessions ++ session ∷ []) session.0 ≡ Some session
   session_of-append sessions session none =
       find-append (λ (other : Session T). nat_eq session.0 other.0) sessions (session ∷ [])
       ∙ ap (λ o. option_or o (session_of (session ∷ []) session.0)) none
       ∙ ap (λ b. cond b (Some session) None) (eq-eqb session.0 session.0 refl)
 
-  -- the longest end that fits: all, where all fit, and else that of the others
+  -- the longest end that fits: all, if all fit, and else that of the others
   pub fit-all : (limit : ℕ) (sessions : List (Session T)) → total_weight sessions ≤ limit → fit limit sessions ≡ sessions
   fit-all limit [] fits = refl
   fit-all limit (session ∷ sessions) fits =

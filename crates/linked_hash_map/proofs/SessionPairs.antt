@@ -152,7 +152,7 @@ pub first-some : {X : Type 0} (xs : List X) (x : X) → Some x ≡ pairs.first x
 first-some [] x found = cc
 first-some (y ∷ xs) x found = cc
 
--- two tables that a reference is lent out of are alike where each value written leaves the two
+-- two tables that a reference is lent out of are alike if each value written leaves the two
 -- alike
 pub lends_alike : {N A B C : Type 0} {name : N} {f g : A → B} → ((x : A) → f x ≡ g x) → ◌≡◌ {A = (N × (A → B)) ⊎ C} (inl (name, f)) (inl (name, g))
 lends_alike {name = name} alike = λ i. inl (name, λ x. alike x i)

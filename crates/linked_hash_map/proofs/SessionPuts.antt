@@ -121,7 +121,7 @@ module _ {T : Type 0} where
   pub length-gone : (count : ℕ) (gone left sessions : List (Session T)) → gone ++ left ≡ sessions → left ≡ drop count sessions → count ≤ length sessions → length gone ≡ count
   length-gone count gone left sessions all rest within = omega (arith, ap length all, ap length rest, length-append gone left, length-drop count sessions)
 
-  -- where all fit, none goes
+  -- if all fit, none goes
   pub none-leaves : (count weight_left : ℕ) (sessions : List (Session T)) → drop count sessions ≡ fit weight_left sessions → count ≤ length sessions → total_weight sessions ≤ weight_left → count ≡ 0
   none-leaves count weight_left sessions stay within light = omega (arith, ap length (stay ∙ fit-all weight_left sessions light), length-drop count sessions)
 

@@ -30,7 +30,7 @@ elements-moments {X} = by_last (λ xs. map (λ m. m.1) (moments xs) ≡ xs)
     (λ xs x h. ap (map (λ m. m.1)) (moments-snoc xs x) ∙ map-append (λ (m : List X × X). m.1) (moments xs) ((xs, x) ∷ []) ∙ ap (λ ys. ys ++ x ∷ []) h)
     refl
 
--- the words for what a touch is, and which positions stand, where there is no mode
+-- the words for what a touch is, and which positions stand, if there is no mode
 module _ {K V : Type 0} where
   -- the event sets the mode
   abbrev pub sets_mode : Event K V → Bool

@@ -59,7 +59,7 @@ module _ {T I X : Type 0} (becomes : T → I → Type 0) (steps : I → Option X
 module _ {T I K V : Type 0} (becomes : T → I → Type 0) (steps : I → Option (K × V) → I → Type 0)
     (source : T) (remaining : I → Count) where
   -- it becomes one iterator: a new map got room for as many pairs as a lower bound that the hint of
-  -- this iterator may answer, and then all items of this iterator, one by one
+  -- this iterator may return, and then all items of this iterator, one by one
   pub record Collects (eq : K → K → Bool) (contents : List (K × V)) (capacity rechained : ℕ) : Type
       0 where
     pub iterator : I
@@ -73,7 +73,7 @@ module _ {T I K V : Type 0} (becomes : T → I → Type 0) (steps : I → Option
     pub room : capacity ≡ max lower (length contents)
     pub counted : rechained ≡ rechained_each 0 lower (capacity - lower)
 
-  -- it becomes an iterator whose hint may answer a lower bound above `LIMIT`
+  -- it becomes an iterator whose hint may be a lower bound above `LIMIT`
   pub record HintsAboveLimit : Type 0 where
     pub iterator : I
     pub made : becomes source iterator
@@ -81,8 +81,8 @@ module _ {T I K V : Type 0} (becomes : T → I → Type 0) (steps : I → Option
     pub hint : IsWithinCount lower (remaining iterator)
     pub above : LIMIT < lower
 
-  -- it becomes an iterator whose hint may answer a lower bound of at most `LIMIT`, and that bound
-  -- is above 0, or this iterator gives an item
+  -- it becomes an iterator whose hint may be a lower bound of at most `LIMIT`, and that bound is
+  -- above 0, or this iterator gives an item
   pub record NeedsRoom : Type 0 where
     pub iterator : I
     pub made : becomes source iterator

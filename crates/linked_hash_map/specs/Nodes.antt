@@ -12,7 +12,7 @@ use Rattle.linked_hash_map.specs.declared.map.TheConstants.{LIMIT}
 use Rattle.linked_hash_map.specs.declared.map.cursor.Visit.{Visit}
 
 module _ {B : Type 0} where
-  -- how many nodes come before the one at p: all, where none lies there
+  -- how many nodes come before the one at p: all, if none lies there
   abbrev pub before : Ptr → List (Held B) → ℕ
   before p [] = 0
   before p (t ∷ hs) = cond (same_ptr t.at p) 0 (before p hs + 1)
@@ -37,14 +37,14 @@ module _ {B : Type 0} where
   Lies None hs = ⊤
   Lies (Some p) hs = before p hs < length hs
 
-  -- if there is a pointer, the node there has this many behind it; elsewhere there is no count
+  -- if there is a pointer, the node there has this many behind it; if not, there is no count
   abbrev pub HasBehind : Option Ptr → List (Held B) → Option ℕ → Type 0
   HasBehind None hs None = ⊤
   HasBehind None hs (Some n) = ⊥
   HasBehind (Some p) hs None = ⊥
   HasBehind (Some p) hs (Some n) = before p hs + n + 1 ≡ length hs
 
--- where a cursor or an entry stands: nowhere, and with nothing to visit, where there is neither
+-- where a cursor or an entry stands: nowhere, and with nothing to visit, if there is neither
 module _ {K V : Type 0} where
   abbrev pub bookmark_of : Visit K V → Option Ptr
   bookmark_of visit = cond visit.active (pointer_of_some visit.bookmark) None

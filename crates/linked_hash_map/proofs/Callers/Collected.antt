@@ -171,7 +171,7 @@ module _ {K V : Type 0} {eq : K → K → Bool} (laws : IsEquivalence eq) where
       ∙ append_assoc (filter again old) (stored ∷ []) come
       ∙ ap (λ ks. ks ++ stored ∷ come) (filter-filter again (λ j. not (eq item.0 j)) (λ j. not (is_some (find eq (item ∷ items) j))) (not_again items item) (keys_of pairs))
 
-  -- where equality decides `≡`, those that come stand as they came
+  -- if equality decides `≡`, those that come stand as they came
   pub keys_of-insert_each_touch_own : (pairs items : List (K × V)) → IsDistinct eq (keys_of items)
       → ((a b : K) → IsTrue (eq a b) → a ≡ b)
       → keys_of (insert_each eq Touch pairs items)

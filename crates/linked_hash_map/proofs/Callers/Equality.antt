@@ -17,13 +17,13 @@ module _ {K V : Type 0} {eq : K → K → Bool} {value_eq : V → V → Bool} wh
       by_key true is same = λ i. ((keys p.0 q.0).0 is i, (values p.1 q.1).0 same i)
       by_key false is same = absurd (true≢false (sym same))
 
-  -- where `==` of keys and of values decides `≡`, that of maps decides it of their lists
+  -- if `==` of keys and of values decides `≡`, that of maps decides it of their lists
   pub eq-Decides : {S : Type 0} (m n : LinkedMap K V S) (r : Bool)
       → ((a b : K) → Decides (eq a b) (a ≡ b)) → ((a b : V) → Decides (value_eq a b) (a ≡ b))
       → r ≡ pointwise (same_pair eq value_eq) m.pairs n.pairs → Decides r (m.pairs ≡ n.pairs)
   eq-Decides m n r keys values told = slice_eq-Decides (same_pair-Decides keys values) m.pairs n.pairs r told
 
--- where clones of keys and values are what they were made from, a clone has the same list
+-- if clones of keys and values are what they were made from, a clone has the same list
 pub pairs-clone : {K V S : Type 0} {eq : K → K → Bool} → IsEquivalence eq
     → {IsKeyClone : K → K → Type 0} {IsValueClone : V → V → Type 0} {IsHasherClone : S → S → Type 0}
     → ((k clone : K) → IsKeyClone k clone → clone ≡ k)

@@ -1,4 +1,4 @@
--- For callers: what `extend`, `extend_refs` and `from_iter` leave, where the items that an iterator
+-- For callers: what `extend`, `extend_refs` and `from_iter` leave, if the items that an iterator
 -- gives are known. Each lemma takes the clause of the call, and a chain proof, `YieldsList`, that
 -- what the source becomes gives the list.
 use Rattle.std.proofs.Common.{◌≡◌, ℕ, ◌+◌, ◌-◌, ◌≤◌, max, Bool, not, List, [], ◌++◌, length, map, take, filter, slice_get, Option, Some, None, is_some, Vec, vec_items, vec_len, refl, sym, ap, ◌∙◌, arith}
@@ -32,7 +32,7 @@ module _ {T I X K V : Type 0} {becomes : T → I → Type 0} {steps : I → Opti
       let drains = gives.gives.1 in
       inserts.pairs ∙ ap (insert_each eq mode old) (YieldsList-end (each gives.iterator gives.made) inserts.given drains.0 drains.1 None gives.gives.0 refl drains.2).0
 
-  -- and where it was refused: the first items went in, and the next is the one that came back
+  -- and if it was refused: the first items went in, and the next is the one that came back
   pub pairs-InsertsUntil : {mode : Mode} {old new : List (K × V)} {key : K} {value : V}
       (inserts : InsertsUntil becomes steps source eq shows mode old new key value)
       → ((it : I) → becomes source it → YieldsList steps shows it all)
@@ -73,7 +73,7 @@ module _ {T I K V : Type 0} {becomes : T → I → Type 0} {steps : I → Option
         → pairs ≡ insert_each eq Touch [] all
     pairs-Collects each = pairs-InsertsAll (InsertsAll-Collects collects) each
 
-    -- where no more items are left to come than come, the capacity is no more than the number of
+    -- if no more items are left to come than come, the capacity is no more than the number of
     -- items
     pub capacity-Collects : ((it : I) → becomes source it → YieldsList steps (λ pair. pair) it all)
         → GivesAtMost becomes remaining source (length all)
@@ -86,7 +86,7 @@ module _ {T I K V : Type 0} {becomes : T → I → Type 0} {steps : I → Option
         let room = collects.room in
         (omega arith, omega arith)
 
-    -- and where their keys differ, it is that number, and the pairs are the items
+    -- and if their keys differ, it is that number, and the pairs are the items
     pub pairs-Collects_distinct : ((it : I) → becomes source it
         → YieldsList steps (λ pair. pair) it all)
         → IsDistinct eq (keys_of all) → pairs ≡ all
@@ -101,7 +101,7 @@ module _ {T I K V : Type 0} {becomes : T → I → Type 0} {steps : I → Option
         let length_is = ap length (pairs-Collects_distinct each distinct) in
         omega arith
 
--- where there is room for each item, as after `with_capacity` of their number, `extend` leaves the
+-- if there is room for each item, as after `with_capacity` of their number, `extend` leaves the
 -- capacity
 pub capacity-insert_each : {K V : Type 0} {eq : K → K → Bool} → IsEquivalence eq
     → (mode : Mode) (pairs items : List (K × V)) (capacity : ℕ) → IsDistinct eq (keys_of pairs)
@@ -118,7 +118,7 @@ pub pairs-InsertsAll_list : {T X K V : Type 0} {becomes : T → List (K × V) �
     → ((it : List (K × V)) → becomes source it → it ≡ all) → new ≡ insert_each eq mode old all
 pairs-InsertsAll_list all inserts is = pairs-InsertsAll inserts (λ it made. YieldsList-from_rest all (is it made))
 
--- and where the keys of that list differ, as those of a map do: its values win, in Keep the old keys
+-- and if the keys of that list differ, as those of a map do: its values win, in Keep the old keys
 -- stand before the new, and in Touch before those that came
 module _ {T K V : Type 0} {becomes : T → List (K × V) → Type 0} {source : T} {eq : K → K → Bool} (laws : IsEquivalence eq) {mode : Mode} {old new : List (K × V)} (all : List (K × V)) where
   pub value_at-InsertsAll_distinct : (q : K)

@@ -11,7 +11,7 @@ use Rattle.linked_hash_map.specs.Pairs.{key_or, find, value_at, without, to_back
 use Rattle.linked_hash_map.proofs.LiveKeys.{none_is}
 use Rattle.linked_hash_map.proofs.Callers.Lookups.{eq-stored}
 use Rattle.linked_hash_map.proofs.Pairs.{is_some-value_at, filter-none}
--- one pair fewer exactly where the key has one; one more exactly where it has none
+-- one pair fewer exactly if the key has one; one more exactly if it has none
 pub use Rattle.linked_hash_map.proofs.Pairs.{length-without, length-put}
 -- keys that differ still do after an insertion
 pub use Rattle.linked_hash_map.proofs.Inserts.{distinct-to_back, distinct-put, length-put_most}
@@ -98,7 +98,7 @@ module _ {K V : Type 0} (eq : K → K → Bool) where
       by_test true = keys_of-set_value pairs k v
       by_test false = map-append (λ (pair : K × V). pair.0) pairs ((k, v) ∷ [])
 
--- where equality decides `≡`, the key that goes to the back is the key of the call
+-- if equality decides `≡`, the key that goes to the back is the key of the call
 pub keys_of-to_back_own : {K V : Type 0} {eq : K → K → Bool} → IsEquivalence eq
     → (pairs : List (K × V)) (k : K) (v : V) → ((a b : K) → IsTrue (eq a b) → a ≡ b)
     → keys_of (to_back eq pairs k v) ≡ filter (λ j. not (eq k j)) (keys_of pairs) ++ k ∷ []

@@ -51,7 +51,7 @@ value_at-append eq pairs k q v =
     ∙ option_map-option_or (λ pair. pair.1) (lookup_entry (eq q) pairs) (cond (eq q k) (Some (k, v)) None)
     ∙ ap (option_or (value_at eq pairs q)) (option_map-cond (λ pair. pair.1) (eq q k) (Some (k, v)) None)
 
--- a look-up among the pairs of which a test holds that answers b at each key that the look-up may
+-- a look-up among the pairs of which a test holds that returns b at each key that the look-up may
 -- find
 lookup_entry-filter : {K V : Type 0} (test kept : K → Bool) (b : Bool) → ((k : K) → test k ≡ true → kept k ≡ b) → (pairs : List (K × V)) → lookup_entry test (filter (λ pair. kept pair.0) pairs) ≡ cond b (lookup_entry test pairs) None
 lookup_entry-filter test kept true alike [] = refl
@@ -233,7 +233,7 @@ module _ {K V : Type 0} {eq : K → K → Bool} (laws : IsEquivalence eq) where
   value_at-put_apart Touch = value_at-to_back_apart
   value_at-put_apart Keep = value_at-set_or_push_apart
 
-  -- where the keys differ, a pop takes out what the first key has, as `remove` of that key does
+  -- if the keys differ, a pop removes what the first key has, as `remove` of that key does
   pub drop-first : (pairs : List (K × V)) (pair : K × V) → IsDistinct eq (keys_of pairs)
       → slice_get pairs 0 ≡ Some pair → drop 1 pairs ≡ without eq pairs pair.0
   drop-first pairs pair distinct there = remove-first pairs ∙ sym (without-own laws pairs distinct 0 pair there)

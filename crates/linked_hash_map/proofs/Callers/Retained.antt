@@ -4,7 +4,7 @@ use Rattle.std.proofs.Common.{◌≡◌, Bool, true, false, cond, List, [], ◌�
 use Rattle.std.specs.Map.Calls.{RetainsPairs}
 use Rattle.std.proofs.lemmas.Map.Made as made
 
--- a closure that stays as it was, and whose answer and the value that it leaves depend on the pair
+-- a closure that stays as it was, and whose result and the value that it leaves depend on the pair
 -- alone
 module _ {F K V : Type 0} (T : F → K → V → Bool → V → F → Type 0) (test : K × V → Bool) (change : K × V → V) (f : F) where
   abbrev changed : K × V → K × V

@@ -22,7 +22,7 @@ pub cons-keys_of_first : {K V : Type 0} (pairs : List (K × V)) (pair : K × V)
 cons-keys_of_first pairs pair there = ap keys_of (cons-without_first pairs pair there)
 
 module _ {K V : Type 0} {eq : K → K → Bool} (laws : IsEquivalence eq) where
-  -- where the keys differ, that of the first pair is not among the others
+  -- if the keys differ, that of the first pair is not among the others
   pub find-others : (others : List (K × V)) (q : K) (pair : K × V)
       → IsDistinct eq (keys_of (pair ∷ others)) → eq q pair.0 ≡ true → find eq others q ≡ None
   find-others others q pair distinct same =

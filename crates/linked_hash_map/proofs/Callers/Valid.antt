@@ -27,7 +27,7 @@ module _ {K V S : Type 0} {eq : K → K → Bool} (laws : IsEquivalence eq) {m n
       let limit = valid.limit in
       record { distinct = subst (λ ps. IsDistinct eq (keys_of ps)) (sym changed) distinct; within = omega arith; limit = omega arith }
 
-  -- after `insert` in either mode, where the pairs are within the limit
+  -- after `insert` in either mode, if the pairs are within the limit
   pub IsValid-put : (mode : Mode) (k : K) (v : V) → IsValid eq m → n.pairs ≡ put eq mode m.pairs k v
       → n.capacity ≡ max m.capacity (length n.pairs) → length n.pairs ≤ LIMIT → IsValid eq n
   IsValid-put mode k v valid = raised valid (distinct-put laws mode m.pairs k v valid.distinct)

@@ -12,7 +12,7 @@ use Rattle.linked_hash_map.proofs.Pairs.{set_value-none}
 use Rattle.linked_hash_map.proofs.Indexes as at
 use Rattle.linked_hash_map.proofs.Callers.Keys.{IsSome-find, set_or_push-present}
 
--- where a call leaves `change v` for a value v, `and_modify` changes the value of a key so
+-- if a call leaves `change v` for a value v, `and_modify` changes the value of a key so
 pub modified : {F X R : Type 0} {g : Once F (MutBor X × Unit {0}) (R × (MutBor X × Unit {0}))}
     {f : F} (change : X → X) (old new : Option X)
     → ModifiesValue g f old new → ((v w : X) → MayWrite g f v w → w ≡ change v)

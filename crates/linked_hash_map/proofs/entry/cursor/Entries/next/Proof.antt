@@ -65,7 +65,7 @@ use Rattle.linked_hash_map.proofs.map.LinkedHashMap.next_entry.Met as next_entry
 use Rattle.linked_hash_map.proofs.entry.cursor.Entries.next.Statement.{statement}
 use Rattle.linked_hash_map.proofs.entry.cursor.Entries.next.Code as code
 
--- where a lender follows a part, and the part is handed on whole or rests at v, the lender follows
+-- if a lender follows a part, and the part is handed on whole or rests at v, the lender follows
 -- what is handed on, or rests
 handed_on : {M : Type 1} {𝓤 : Ura M} (𝓛 : Logic 𝓤) (R U : RattleType) (γ γ' : GName) (F : U.Denot → R.Denot) (v : U.Denot) (n : maybe.Option GName) → ((δ : GName) → n ≡ maybe.some δ → δ ≡ γ')
     → ent 𝓤 (sep 𝓤 (sem 𝓛 (follows R U γ γ' F)) (sem 𝓛 (follows_if U U γ' n (λ w. w) v))) (sem 𝓛 (follows_if R U γ n F (F v)))
