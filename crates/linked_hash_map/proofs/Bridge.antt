@@ -212,18 +212,18 @@ module _ {K V : Type 0} {eq : K → K → Bool} (laws : IsEquivalence eq) where
   stored_live : (log : Log K V) (k q : K) → live (eq k) log ≡ true → eq q k ≡ true → is_some (stored (eq q) log) ≡ true
   stored_live log k q is_live same = stored-live (eq q) log ∙ ap (λ t. live t log) (same_test laws q k same) ∙ is_live
 
-  kept_pair : (log : Log K V) (k : K) (v : V) (q : K) → live (eq k) log ≡ true → pair_of (eq q) (log ++ Put k v ∷ []) ≡ option_map (λ e. cond (eq k e.0) (e.0, v) e) (pair_of (eq q) log)
+  pair_in_place : (log : Log K V) (k : K) (v : V) (q : K) → live (eq k) log ≡ true → pair_of (eq q) (log ++ Put k v ∷ []) ≡ option_map (λ e. cond (eq k e.0) (e.0, v) e) (pair_of (eq q) log)
   unfolding pair_of
-  kept_pair log k v q is_live =
+  pair_in_place log k v q is_live =
       rw (stored-snoc (eq q) log (Put k v), value-snoc (eq q) log (Put k v), stored_stays k (stored (eq q) log) (eq q k) (stored_live log k q is_live))
       (write_zip k q v (eq q k) (stored (eq q) log) (value (eq q) log) refl (pair_of-live (eq q) log ∙ sym (stored-live (eq q) log)) (stored-same (eq q) log))
 
   -- a Put that moves nothing is a Write
-  pairs-put_kept : (log : Log K V) (k : K) (v : V) → moves (mode log) (live (eq k) log) ≡ false → pairs eq (log ++ Put k v ∷ []) ≡ set_value eq (pairs eq log) k v
+  pairs-put_in_place : (log : Log K V) (k : K) (v : V) → moves (mode log) (live (eq k) log) ≡ false → pairs eq (log ++ Put k v ∷ []) ≡ set_value eq (pairs eq log) k v
   unfolding pairs
-  pairs-put_kept log k v unmoved =
+  pairs-put_in_place log k v unmoved =
       ap (filter_map (λ q. pair_of (eq q) (log ++ Put k v ∷ []))) same_standing
-      ∙ map-filter_map (λ q. pair_of (eq q) (log ++ Put k v ∷ [])) (λ q. pair_of (eq q) log) (λ e. cond (eq k e.0) (e.0, v) e) (λ q. kept_pair log k v q (moves-live (mode log) (live (eq k) log) unmoved)) (standing eq log)
+      ∙ map-filter_map (λ q. pair_of (eq q) (log ++ Put k v ∷ [])) (λ q. pair_of (eq q) log) (λ e. cond (eq k e.0) (e.0, v) e) (λ q. pair_in_place log k v q (moves-live (mode log) (live (eq k) log) unmoved)) (standing eq log)
     where
       nothing_new : stands {V = V} eq (λ q. live (eq q) (log ++ Put k v ∷ [])) [] (touched eq (log, Put k v)) ≡ []
       nothing_new = rw unmoved refl
@@ -246,7 +246,7 @@ module _ {K V : Type 0} {eq : K → K → Bool} (laws : IsEquivalence eq) where
       by_mode : (m : Mode) (l : Bool) → mode log ≡ m → live (eq k) log ≡ l → pairs eq (log ++ Put k v ∷ []) ≡ put eq m (pairs eq log) k v
       by_mode Touch l is at_k = pairs-put_moved laws log k v (ap (λ m. moves m (live (eq k) log)) is)
       by_mode Keep true is at_k =
-          pairs-put_kept log k v (rw (is, at_k) refl) ∙ put-present eq (pairs eq log) k v (there ∙ at_k)
+          pairs-put_in_place log k v (rw (is, at_k) refl) ∙ put-present eq (pairs eq log) k v (there ∙ at_k)
       by_mode Keep false is at_k =
           let absent = none_is (find eq (pairs eq log) k) (there ∙ at_k) in
           pairs-put_moved laws log k v (rw (is, at_k) refl)

@@ -79,7 +79,7 @@ module _ {K V : Type 0} where
     -- the room that this takes
     room-present : (capacity : ℕ) → is_some (find eq pairs k) ≡ true → length pairs ≤ capacity → capacity ≡ max capacity (length (set_or_push eq pairs k v))
     room-present capacity there within =
-        let kept : length (set_or_push eq pairs k v) ≡ length pairs = ap length (sym (set_or_push-present there)) ∙ length-set_value eq pairs k v in
+        let same_length : length (set_or_push eq pairs k v) ≡ length pairs = ap length (sym (set_or_push-present there)) ∙ length-set_value eq pairs k v in
         omega arith
 
     room-absent : (capacity : ℕ) → find eq pairs k ≡ None → max capacity (length pairs + 1) ≡ max capacity (length (set_or_push eq pairs k v))

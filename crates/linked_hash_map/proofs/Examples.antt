@@ -167,24 +167,24 @@ unfolding commands replies mode live standing_in standing size
 commands-last_log = refl
 
 -- mode keep, insert 1 10, insert 2 20, insert 1 11: the pair of 1 stays in its place
-kept : Log ℕ ℕ
-kept = SetMode Keep ∷ Put 1 10 ∷ Put 2 20 ∷ Put 1 11 ∷ []
+in_keep : Log ℕ ℕ
+in_keep = SetMode Keep ∷ Put 1 10 ∷ Put 2 20 ∷ Put 1 11 ∷ []
 
-kept-pairs : pairs nat_eq kept ≡ (1, 11) ∷ (2, 20) ∷ []
-unfolding kept mode live stored value standing_in standing pair_of pairs
-kept-pairs = refl
+in_keep-pairs : pairs nat_eq in_keep ≡ (1, 11) ∷ (2, 20) ∷ []
+unfolding in_keep mode live stored value standing_in standing pair_of pairs
+in_keep-pairs = refl
 
 -- and then refresh 1: it moves
-kept-refreshed : pairs {V = ℕ} nat_eq (SetMode Keep ∷ Put 1 10 ∷ Put 2 20 ∷ Put 1 11 ∷ Refresh 1 ∷ []) ≡ (2, 20) ∷ (1, 11) ∷ []
+in_keep-refreshed : pairs {V = ℕ} nat_eq (SetMode Keep ∷ Put 1 10 ∷ Put 2 20 ∷ Put 1 11 ∷ Refresh 1 ∷ []) ≡ (2, 20) ∷ (1, 11) ∷ []
 unfolding mode live stored value standing_in standing pair_of pairs
-kept-refreshed = refl
+in_keep-refreshed = refl
 
 -- a key that was removed goes to the back in Keep too
-kept-removed : pairs {V = ℕ} nat_eq (SetMode Keep ∷ Put 1 1 ∷ Put 2 2 ∷ Remove 1 ∷ Put 1 3 ∷ []) ≡ (2, 2) ∷ (1, 3) ∷ []
+in_keep-removed : pairs {V = ℕ} nat_eq (SetMode Keep ∷ Put 1 1 ∷ Put 2 2 ∷ Remove 1 ∷ Put 1 3 ∷ []) ≡ (2, 2) ∷ (1, 3) ∷ []
 unfolding mode live stored value standing_in standing pair_of pairs
-kept-removed = refl
+in_keep-removed = refl
 
 -- each position has the mode of the last SetMode before it
-kept-touched : pairs {V = ℕ} nat_eq (Put 1 1 ∷ Put 2 2 ∷ SetMode Keep ∷ Put 1 5 ∷ Put 2 9 ∷ Put 3 3 ∷ SetMode Touch ∷ Put 1 6 ∷ []) ≡ (2, 9) ∷ (3, 3) ∷ (1, 6) ∷ []
+in_keep-touched : pairs {V = ℕ} nat_eq (Put 1 1 ∷ Put 2 2 ∷ SetMode Keep ∷ Put 1 5 ∷ Put 2 9 ∷ Put 3 3 ∷ SetMode Touch ∷ Put 1 6 ∷ []) ≡ (2, 9) ∷ (3, 3) ∷ (1, 6) ∷ []
 unfolding mode live stored value standing_in standing pair_of pairs
-kept-touched = refl
+in_keep-touched = refl

@@ -39,7 +39,7 @@ returns-in-Ok g c =
     let lent_map = c.in-Vacant.entry.map.now in
     let key = c.in-Vacant.entry.key in
     let value = c.in-Ok._lent.now in
-    let kept = entry.unchanged refl in
+    let same_map = entry.unchanged refl in
     let absent = none_is (find eq m.pairs c.args.key) (sym entry.occupied) in
     let same_key : key ≡ c.args.key = entry.key ∙ ap (key_or c.args.key) absent in
     let left = pushed lent_map key value in
@@ -60,10 +60,10 @@ returns-in-Err g c =
     let m = c.args.map.now in
     let entry = c.in-Vacant.ensures in
     let refused = c.in-Err.ensures in
-    let kept = entry.unchanged refl in
+    let same_map = entry.unchanged refl in
     let absent = none_is (find eq m.pairs c.args.key) (sym entry.occupied) in
     let same_key = entry.key ∙ ap (key_or c.args.key) absent in
-    let full : length m.pairs ≡ m.capacity = sym (ap (λ n. length n.pairs) kept) ∙ refused.full ∙ ap (λ n. n.capacity) kept in
+    let full : length m.pairs ≡ m.capacity = sym (ap (λ n. length n.pairs) same_map) ∙ refused.full ∙ ap (λ n. n.capacity) same_map in
     Serves-same m (search rules)
     (record {
       answers = λ start log defines.

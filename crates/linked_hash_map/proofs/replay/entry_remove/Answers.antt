@@ -22,10 +22,10 @@ returns-in-Occupied g c =
 pub returns-in-Vacant : goal.returns-in-Vacant
 returns-in-Vacant g c =
     let entry = c.in-Vacant.ensures in
-    let kept = c.drop-entry.ensures ∙ entry.unchanged refl in
+    let same_map = c.drop-entry.ensures ∙ entry.unchanged refl in
     Serves-same c.drop-entry.new.self.0 (search rules)
     (record {
       answers = λ start log defines. IsAbsent-value g.met.K.Eq.laws defines c.args.key (sym entry.value);
-      defines = λ start log defines. Defines-nothing g.met.K.Eq.laws defines (ap (λ m. m.pairs) kept) (ap (λ m. m.capacity) kept) (ap (λ m. m.mode) kept);
-      hasher = ap (λ m. m.hasher) kept;
+      defines = λ start log defines. Defines-nothing g.met.K.Eq.laws defines (ap (λ m. m.pairs) same_map) (ap (λ m. m.capacity) same_map) (ap (λ m. m.mode) same_map);
+      hasher = ap (λ m. m.hasher) same_map;
     })

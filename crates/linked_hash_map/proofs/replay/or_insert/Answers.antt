@@ -24,16 +24,16 @@ returns-then-present g c =
     let own : value_at eq m.pairs k ≡ Some value =
     some_unwrapped (value_at eq m.pairs k) c.args.value value (is_some-value_at eq m.pairs k ∙ there) (c.in-Ok.ensures.value ∙ ap (λ o. unwrap_or o c.args.value) entry.value) in
     let left = set_or_pushed eq lent_map key value in
-    let kept : left.pairs ≡ m.pairs =
+    let pairs_stay : left.pairs ≡ m.pairs =
     ap (λ ps. set_or_push eq ps key value) entry.pairs
     ∙ entry.acts.sets_or_pushes value
     ∙ sym (set_or_push-present eq m.pairs k value there)
     ∙ set_value-own g.met.K.Eq.laws k m.pairs value entry.valid.distinct own in
-    let room : left.capacity ≡ m.capacity = let as_long = ap length kept in let same = entry.keeps.capacity in omega (arith, entry.valid.within) in
+    let room : left.capacity ≡ m.capacity = let as_long = ap length pairs_stay in let same = entry.keeps.capacity in omega (arith, entry.valid.within) in
     Serves-same left (search rules)
     (record {
       answers = λ start log defines. (HasValue-value g.met.K.Eq.laws defines k own).0;
-      defines = λ start log defines. Defines-nothing g.met.K.Eq.laws defines kept room entry.keeps.mode;
+      defines = λ start log defines. Defines-nothing g.met.K.Eq.laws defines pairs_stay room entry.keeps.mode;
       hasher = entry.keeps.hasher;
     })
 
@@ -74,12 +74,12 @@ returns-in-Err g c =
     let lent_map = entry_map c.entry-entry.result in
     let none : value_at eq m.pairs k ≡ None = sym entry.value ∙ refused.absent in
     let absent = none_is (find eq m.pairs k) (sym (is_some-value_at eq m.pairs k) ∙ ap is_some none) in
-    let kept = entry.unchanged refused.absent in
-    let full : length m.pairs ≡ m.capacity = sym (ap (λ n. length n.pairs) kept) ∙ refused.full ∙ ap (λ n. n.capacity) kept in
+    let same_map = entry.unchanged refused.absent in
+    let full : length m.pairs ≡ m.capacity = sym (ap (λ n. length n.pairs) same_map) ∙ refused.full ∙ ap (λ n. n.capacity) same_map in
     Serves-same lent_map (search rules)
     (record {
       answers = λ start log defines.
           ((IsAbsent-value g.met.K.Eq.laws defines k none, IsFull-contents g.met.K.Eq.laws defines full), refused.key_back ∙ entry.key ∙ ap (key_or k) absent, refused.value_back);
-      defines = λ start log defines. Defines-nothing g.met.K.Eq.laws defines (ap (λ n. n.pairs) kept) (ap (λ n. n.capacity) kept) (ap (λ n. n.mode) kept);
-      hasher = ap (λ n. n.hasher) kept;
+      defines = λ start log defines. Defines-nothing g.met.K.Eq.laws defines (ap (λ n. n.pairs) same_map) (ap (λ n. n.capacity) same_map) (ap (λ n. n.mode) same_map);
+      hasher = ap (λ n. n.hasher) same_map;
     })
