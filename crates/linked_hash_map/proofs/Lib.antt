@@ -9,6 +9,7 @@ pub mod Distinct
 pub mod DistinctLists
 pub mod Drained
 pub mod Effects
+pub mod EmptyMap
 pub mod EntryFacts
 mod EntryValue
 mod Examples
@@ -16,7 +17,6 @@ pub mod ExtendSteps
 pub mod Extends
 pub mod FirstAndLast
 pub mod Fitted
-pub mod Growth
 pub mod HighWater
 pub mod Indexes
 pub mod Inserts
@@ -31,6 +31,7 @@ pub mod Outcomes
 pub mod Outside
 pub mod Pairs
 pub mod Pops
+pub mod PushedPair
 pub mod PutPair
 pub mod Retained
 pub mod Runs

@@ -16,10 +16,9 @@ use Rattle.linked_hash_map.specs.Pairs.{value_at, put}
 use Rattle.linked_hash_map.specs.Indexes.{IsIndex, set_value_at}
 use Rattle.linked_hash_map.specs.Touches.{IsTouched}
 use Rattle.linked_hash_map.proofs.EntryFacts.{slice_get-set_value_at}
-use Rattle.linked_hash_map.proofs.Growth.{IsKept-room}
 use Rattle.linked_hash_map.proofs.Pairs.{put-present}
 use Rattle.linked_hash_map.proofs.Indexes.{length-others, set_value_at-pushed, slice_get-pushed, set_value-index, is_some-index, to_back-index, value_at-slice_get}
-use Rattle.linked_hash_map.proofs.Kept.{CutAt, cut_before, bare-change, before-bare, keys-bare, length-bare, length-pairs_of, length-same, pair_there, pairs_set}
+use Rattle.linked_hash_map.proofs.Kept.{CutAt, cut_before, bare-change, before-bare, keys-bare, length-pairs_of, length-same, pair_there, pairs_set}
 use Rattle.linked_hash_map.proofs.Current.{current_at-Some, current_lies, current_nodes, IsKept-visited, IsKept-with_value}
 use Rattle.linked_hash_map.proofs.MovedNode.{pairs-moved, length-to_back, before-at_back, AreKept-moved, to_visit-moved, behind-moved}
 use Rattle.linked_hash_map.proofs.Outside.{IsElsewhere}
@@ -88,13 +87,12 @@ module _ {K V : Type 0} (hs ks : List (Held (K × V))) (p : Ptr) (lies : before 
 abbrev pub IsOutsideAt : {K : Type 0} → Option Ptr → Option Ptr → ℕ → List (Held K) → Type 0
 IsOutsideAt current bookmark n us = (current_at current us < bookmark_at bookmark us) ⊎ (bookmark_at bookmark us + n ≤ current_at current us)
 
--- the same pairs in as much room
-same_room : {K V : Type 0} {eq : K → K → Bool} {hash : K → ℕ} {s t : TableState (K × V)} {bookmark current : Option Ptr} {n : ℕ} → IsKept eq hash s bookmark n current → t.held ≡ s.held → t.capacity ≡ s.capacity → IsKept eq hash t bookmark n current
-same_room {s = s} kept same capacity =
-    let within = kept.nodes.within in
-    let limit = kept.nodes.limit in
-    let of_bare = length-bare s.held in
-    IsKept-room kept same (omega (arith, within, of_bare, capacity)) (omega (arith, limit, capacity))
+-- the same pairs in the same capacity
+IsKept-same : {K V : Type 0} {eq : K → K → Bool} {hash : K → ℕ} {s t : TableState (K × V)} {bookmark current : Option Ptr} {n : ℕ} → IsKept eq hash s bookmark n current → t.held ≡ s.held → t.capacity ≡ s.capacity → IsKept eq hash t bookmark n current
+IsKept-same {eq = eq} {hash = hash} {s = s} {t = t} {bookmark = bookmark} {current = current} {n = n} kept same capacity = record {
+  nodes = subst (λ us. AreKept eq hash us t.capacity bookmark n current) (sym (ap bare same))
+      (subst (λ k. AreKept eq hash (bare s.held) k bookmark n current) (sym capacity) kept.nodes);
+}
 
 -- the current pair, which is none of those to visit
 module _ {K V : Type 0} {eq : K → K → Bool} (laws : IsEquivalence eq) {hash : K → ℕ} {s : TableState (K × V)} (t : TableState (K × V)) {bookmark current : Option Ptr} {n : ℕ} {p : Ptr} (kept : IsKept eq hash s bookmark n current) (is : current ≡ Some p) (elsewhere : IsElsewhere p s.held bookmark n) where
@@ -103,7 +101,7 @@ module _ {K V : Type 0} {eq : K → K → Bool} (laws : IsEquivalence eq) {hash 
     nodes = subst (λ o. AreKept eq hash (bare t.held) t.capacity bookmark n o) (sym is)
         (subst (λ k. AreKept eq hash (bare t.held) k bookmark n (Some p)) (sym capacity) (AreKept-moved s.held t.held moved.0 (current_lies kept is) laws (current_nodes kept is) elsewhere));
   }
-  IsKept-touched Keep same capacity = same_room kept same capacity
+  IsKept-touched Keep same capacity = IsKept-same kept same capacity
 
   pub IsKept-put_current : (mode : Mode) → IsTouched mode p s.held t.held → t.capacity ≡ s.capacity → (w : V) → IsKept eq hash (with_value t p w) bookmark n current
   IsKept-put_current mode touched capacity w = IsKept-with_value (IsKept-touched mode touched capacity) p w

@@ -1,5 +1,5 @@
 use Rattle.std.proofs.Common.{refl}
-use Rattle.linked_hash_map.proofs.Growth.{IsKept-none}
+use Rattle.linked_hash_map.proofs.EmptyMap.{IsKept-none}
 use Rattle.linked_hash_map.proofs.Kept.{IsValid-view}
 use Rattle.linked_hash_map.proofs.map.LinkedHashMap.of_empty.Goals as goal
 

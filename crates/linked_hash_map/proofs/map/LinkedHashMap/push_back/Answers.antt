@@ -4,7 +4,7 @@ use Rattle.linked_hash_map.specs.LinkedMap.{LinkedMap, cursor_state}
 use Rattle.linked_hash_map.specs.Nodes.{pairs_of, unvisited_of}
 use Rattle.linked_hash_map.specs.Hashers.{hash_by}
 use Rattle.linked_hash_map.specs.Pairs.{find}
-use Rattle.linked_hash_map.proofs.Growth.{IsKept-push, pairs_of-push, bookmark_at-push, current_at-push, to_visit-push}
+use Rattle.linked_hash_map.proofs.PushedPair.{IsKept-push, pairs_of-push, bookmark_at-push, current_at-push, to_visit-push}
 use Rattle.linked_hash_map.proofs.Kept.{IsValid-view, length-pairs_of}
 use Rattle.linked_hash_map.proofs.map.LinkedHashMap.push_back.Goals as goal
 

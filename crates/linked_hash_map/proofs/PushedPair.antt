@@ -1,0 +1,103 @@
+-- A pair that is put at the back.
+use Rattle.std.proofs.Common.{◌≡◌, ℕ, zero, suc, ◌+◌, ◌<◌, ◌≤◌, Bool, true, false, cond, List, [], ◌∷◌, ◌++◌, map, length, take, drop, Option, Some, None, refl, sym, ap, ◌∙◌, subst, arith, length-append, true≢false}
+use Rattle.std.specs.Prelude.{is_some}
+use Rattle.std.specs.List.{list_any, IsDistinct}
+use Rattle.std.specs.Cmp.{IsEquivalence}
+use Rattle.std.specs.Map.{keys_of}
+use Rattle.std.proofs.lemmas.List.{map-append, length-map}
+use Rattle.std.proofs.lemmas.Map.Keys.{IsDistinct-push}
+use denote.RawPtr.{Ptr}
+use Rattle.lhm_ring.specs.Cells.{same_ptr}
+use Rattle.lhm_ring.specs.RingState.{Held, held}
+use Rattle.lhm_ring.specs.RingAfterLoan.{pair}
+use Rattle.lhm_ring.specs.Tables.{TableState}
+use Rattle.lhm_ring.proofs.Rows.{all_both}
+use Rattle.linked_hash_map.specs.Nodes.{AreKept, IsKept, Lies, pairs_of, bare, bare_node, before, bookmark_at, current_at}
+use Rattle.linked_hash_map.specs.Pairs.{find}
+use Rattle.linked_hash_map.proofs.Kept.{length-bare, keys-bare, pairs_of-append}
+use Rattle.linked_hash_map.proofs.Pairs.{list_any-none}
+use Rattle.linked_hash_map.proofs.Outside.{stretch-front}
+
+-- what lies among the first nodes is where it was
+module _ {B : Type 0} where
+  before-append : (p : Ptr) (us vs : List (Held B)) → before p us < length us → before p (us ++ vs) ≡ before p us
+  before-append p [] vs h = absurd (omega (arith, h))
+  before-append p (u ∷ us) vs h =
+      (elim (same_ptr u.at p) as (λ y. same_ptr u.at p ≡ y → cond y 0 (before p us + 1) < suc (length us) → cond y 0 (before p (us ++ vs) + 1) ≡ cond y 0 (before p us + 1)) [
+        | true ↦ λ e k. refl
+        | false ↦ λ e k. ap (λ n. n + 1) (before-append p us vs (omega (arith, k)))
+      ]) refl h
+
+  pub current_at-append : (current : Option Ptr) (us vs : List (Held B)) → Lies current us → current_at current (us ++ vs) ≡ current_at current us
+  current_at-append None us vs h = refl
+  current_at-append (Some p) us vs h = before-append p us vs h
+
+  lies-append : (current : Option Ptr) (us vs : List (Held B)) → Lies current us → Lies current (us ++ vs)
+  lies-append None us vs h = tt
+  lies-append (Some p) us vs h = let same = before-append p us vs h in let long = length-append us vs in omega (arith, same, long, h)
+
+-- one node more, the last
+module _ {K : Type 0} {eq : K → K → Bool} {hash : K → ℕ} {us : List (Held K)} {capacity : ℕ} {bookmark : Option Ptr} {n : ℕ} {current : Option Ptr} (k : AreKept eq hash us capacity bookmark n current) where
+  pub bookmark_at-append : (vs : List (Held K)) → bookmark_at bookmark (us ++ vs) ≡ bookmark_at bookmark us
+  bookmark_at-append vs = by_bookmark bookmark k.ended k.in_reach
+    where
+      by_bookmark : (o : Option Ptr) → (n ≡ 0 → o ≡ None) → bookmark_at o us + n ≤ length us → bookmark_at o (us ++ vs) ≡ bookmark_at o us
+      by_bookmark None ended reach = refl
+      by_bookmark (Some p) ended reach = before-append p us vs (by_count n ended reach)
+        where
+          by_count : (m : ℕ) → (m ≡ 0 → Some p ≡ None) → before p us + m ≤ length us → before p us < length us
+          by_count zero e r = absurd (true≢false (ap is_some (e refl)))
+          by_count (suc m) e r = omega (arith, r)
+
+  pub AreKept-push : IsEquivalence eq → (u : Held K) → u.hash ≡ hash u.pair → list_any (eq u.pair) (map (λ t. t.pair) us) ≡ false → length us < capacity → AreKept eq hash (us ++ u ∷ []) capacity bookmark n current
+  AreKept-push laws u hashed absent room =
+      let long = length-append us (u ∷ []) in
+      let bookmark_stands = bookmark_at-append (u ∷ []) in
+      record {
+        distinct = subst (IsDistinct eq) (sym (map-append (λ (t : Held K). t.pair) us (u ∷ []))) (IsDistinct-push laws (map (λ t. t.pair) us) u.pair k.distinct absent);
+        hashed = all_both (λ (t : Held K). t.hash ≡ hash t.pair) us (u ∷ []) k.hashed (hashed, tt);
+        within = omega (arith, long, room);
+        limit = k.limit;
+        bookmarked = k.bookmarked;
+        ended = k.ended;
+        in_reach = omega (arith, long, bookmark_stands, k.in_reach);
+        current_lies = lies-append current us (u ∷ []) k.current_lies;
+      }
+
+-- a pair was put at the back
+module _ {K V : Type 0} (s t : TableState (K × V)) (p : Ptr) (hash : ℕ) (key : K) (value : V) (last : t.held ≡ s.held ++ held p hash None (pair key value) ∷ []) where
+  pub pairs_of-push : pairs_of t.held ≡ pairs_of s.held ++ (key, value) ∷ []
+  pairs_of-push = ap pairs_of last ∙ pairs_of-append s.held (held p hash None (pair key value) ∷ [])
+
+  bare-push : bare t.held ≡ bare s.held ++ held p hash None key ∷ []
+  bare-push = ap bare last ∙ map-append (bare_node {K = K} {V = V}) s.held (held p hash None (pair key value) ∷ [])
+
+module _ {K V : Type 0} {eq : K → K → Bool} {hash : K → ℕ} {s : TableState (K × V)} {bookmark : Option Ptr} {n : ℕ} {current : Option Ptr} (kept : IsKept eq hash s bookmark n current) (p : Ptr) (hash_key : ℕ) (key : K) (value : V) (t : TableState (K × V)) (last : t.held ≡ s.held ++ held p hash_key None (pair key value) ∷ []) where
+  bare_is : bare t.held ≡ bare s.held ++ held p hash_key None key ∷ []
+  bare_is = bare-push s t p hash_key key value last
+
+  pub bookmark_at-push : bookmark_at bookmark (bare t.held) ≡ bookmark_at bookmark (bare s.held)
+  bookmark_at-push = ap (bookmark_at bookmark) bare_is ∙ bookmark_at-append kept.nodes (held p hash_key None key ∷ [])
+
+  -- what is still to be visited ends before it
+  pub to_visit-push : take n (drop (bookmark_at bookmark (bare t.held)) (keys_of (pairs_of t.held))) ≡ take n (drop (bookmark_at bookmark (bare s.held)) (keys_of (pairs_of s.held)))
+  to_visit-push =
+      let keys = λ (us : List (Held K)). map (λ u. u.pair) us in
+      let long = length-map (bare s.held) (λ u. u.pair) in
+      ap (λ ks. take n (drop (bookmark_at bookmark (bare t.held)) ks)) (sym (keys-bare t.held))
+      ∙ (λ i. take n (drop (bookmark_at-push i) (keys (bare_is i))))
+      ∙ ap (λ ks. take n (drop (bookmark_at bookmark (bare s.held)) ks)) (map-append (λ (u : Held K). u.pair) (bare s.held) (held p hash_key None key ∷ []))
+      ∙ stretch-front (keys (bare s.held)) (key ∷ []) (bookmark_at bookmark (bare s.held)) n (omega (arith, long, kept.nodes.in_reach))
+      ∙ ap (λ ks. take n (drop (bookmark_at bookmark (bare s.held)) ks)) (keys-bare s.held)
+
+  pub current_at-push : current_at current (bare t.held) ≡ current_at current (bare s.held)
+  current_at-push = ap (current_at current) bare_is ∙ current_at-append current (bare s.held) (held p hash_key None key ∷ []) kept.nodes.current_lies
+
+  pub IsKept-push : IsEquivalence eq → hash_key ≡ hash key → find eq (pairs_of s.held) key ≡ None → length s.held < s.capacity → t.capacity ≡ s.capacity → IsKept eq hash t bookmark n current
+  IsKept-push laws hashed absent room capacity =
+      let of_bare = length-bare s.held in
+      let none : list_any (eq key) (map (λ u. u.pair) (bare s.held)) ≡ false = ap (list_any (eq key)) (keys-bare s.held) ∙ list_any-none (eq key) (pairs_of s.held) absent in
+      let grown : AreKept eq hash (bare s.held ++ held p hash_key None key ∷ []) s.capacity bookmark n current = AreKept-push kept.nodes laws (held p hash_key None key) hashed none (omega (arith, of_bare, room)) in
+      record {
+        nodes = subst (λ us. AreKept eq hash us t.capacity bookmark n current) (sym bare_is) (subst (λ m. AreKept eq hash (bare s.held ++ held p hash_key None key ∷ []) m bookmark n current) (sym capacity) grown);
+      }
