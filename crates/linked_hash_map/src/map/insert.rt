@@ -88,42 +88,16 @@ impl<K: Eq + Hash, V, S: BuildHasher> LinkedHashMap<K, V, S> {
         ensures full { OnErr result (length self.old.pairs ≡ self.old.capacity) }
     {
         let hash = self.hash_of(&key);
-        let value = match self.insert_present(hash, &key, value) {
-            Ok(old) => return Ok(Some(old)),
-            Err(value) => value,
-        };
+        if let Some(at) = self.table.position(hash, &key) {
+            self.visit.active = false;
+            touch(&mut self.table, at, self.mode);
+            return Ok(Some(mem::replace(self.table.value_mut(at), value)));
+        }
         if !self.make_room() {
             return Err(Refused { key, value });
         }
         self.push_back(hash, key, value);
         Ok(None)
-    }
-
-    /// Replaces the value of a present key and returns the old one, or `Err(value)` if it is
-    /// absent. The pair moves to the back, or in `Keep` stays in its place, and a visit ends.
-    #[inline]
-    pub(crate) fn insert_present(&mut self, hash: u64, key: &K, value: V) -> Result<V, V>
-        requires { hash ≡ hash_by S.Hasher.finish S.Hasher.write S.build_hasher K.hash_input
-            self.old.hasher key.now }
-        ensures old { IfOk result (λ old. Some old ≡ value_at K.eq self.old.pairs key.now) }
-        ensures pairs { OnOk result
-            (self.new.pairs ≡ put K.eq self.old.mode self.old.pairs key.now value) }
-        ensures len { OnOk result (length self.new.pairs ≡ length self.old.pairs) }
-        ensures ends_visit { OnOk result (to_visit self.new ≡ []) }
-        ensures keeps { Keeps self.old self.new }
-        ensures valid { IsValid K.eq self.old }
-        ensures stays_valid { IsValid K.eq self.new }
-
-        ensures value_back { IfErr result (λ back. back ≡ value) }
-        ensures unchanged { OnErr result (self.new ≡ self.old) }
-        ensures absent { OnErr result (find K.eq self.old.pairs key.now ≡ None) }
-    {
-        let Some(found) = self.table.position(hash, key) else {
-            return Err(value);
-        };
-        self.visit.active = false;
-        touch(&mut self.table, found, self.mode);
-        Ok(mem::replace(self.table.value_mut(found), value))
     }
 
     /// Inserts a pair of an absent key, with its hash, at the back.
