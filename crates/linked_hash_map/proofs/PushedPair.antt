@@ -11,7 +11,7 @@ use Rattle.lhm_ring.specs.Cells.{same_ptr}
 use Rattle.lhm_ring.specs.RingState.{Held, held}
 use Rattle.lhm_ring.specs.RingAfterLoan.{pair}
 use Rattle.lhm_ring.specs.Tables.{TableState}
-use Rattle.lhm_ring.proofs.Rows.{all_both}
+use Rattle.lhm_ring.proofs.Rows.{AllByRecursion-append}
 use Rattle.linked_hash_map.specs.Nodes.{AreKept, IsKept, Lies, pairs_of, bare, bare_node, before, bookmark_at, current_at}
 use Rattle.linked_hash_map.specs.Pairs.{find}
 use Rattle.linked_hash_map.proofs.Kept.{length-bare, keys-bare, pairs_of-append}
@@ -55,7 +55,7 @@ module _ {K : Type 0} {eq : K → K → Bool} {hash : K → ℕ} {us : List (Hel
       let bookmark_stands = bookmark_at-append (u ∷ []) in
       record {
         distinct = subst (IsDistinct eq) (sym (map-append (λ (t : Held K). t.pair) us (u ∷ []))) (IsDistinct-push laws (map (λ t. t.pair) us) u.pair k.distinct absent);
-        hashed = all_both (λ (t : Held K). t.hash ≡ hash t.pair) us (u ∷ []) k.hashed (hashed, tt);
+        hashed = AllByRecursion-append (λ (t : Held K). t.hash ≡ hash t.pair) us (u ∷ []) k.hashed (hashed, tt);
         within = omega (arith, long, room);
         limit = k.limit;
         bookmarked = k.bookmarked;
