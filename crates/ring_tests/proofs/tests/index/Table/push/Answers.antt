@@ -1,6 +1,10 @@
 use Rattle.std.proofs.Common.{sym, subst, ◌<◌}
 use Rattle.lhm_ring.proofs.IndexedRing.{length-indexed}
+use Rattle.lhm_ring.proofs.IndexPuts.{HoldsOthers-last}
 use Rattle.ring_tests.proofs.tests.index.Table.push.Goals as goal
 
 pub put_in-requires-clause-some : goal.put_in-requires-clause-some
 put_in-requires-clause-some g c = length-indexed c.self.inside.index c.self.inside.ring c.self.invariant (subst (λ s. 0 < s.spares) (sym c.self.view_is) c.requires)
+
+pub put_in-requires-clause-lacks : goal.put_in-requires-clause-lacks
+put_in-requires-clause-lacks g c = HoldsOthers-last _ _ c.put_back-at.ensures.last c.self.invariant.chains
