@@ -118,11 +118,12 @@ impl<K: Eq + Hash, V, S: BuildHasher> LinkedHashMap<K, V, S> {
     }
 
     /// Creates a map with the default hasher of its type and inserts the items, each as `insert`
-    /// does, hashing its key once. The capacity is the number of pairs or, if larger, the lower
-    /// bound of `size_hint`; at 0 it does not allocate.
+    /// does, hashing its key once. It first reserves the lower bound of `size_hint`, in O(bound),
+    /// and the capacity is that or, if larger, the number of pairs; at 0 it does not allocate.
     ///
     /// Returns `TooLarge` exactly if that bound is above [`LIMIT`](crate::LIMIT), with no item
-    /// taken, and `NoRoom` if an allocation fails or an insertion is refused.
+    /// taken, and `NoRoom` if an allocation fails or an insertion is refused; the items taken are
+    /// dropped.
     ///
     /// # Examples
     ///

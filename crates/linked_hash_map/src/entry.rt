@@ -13,7 +13,7 @@ use crate::map::{DefaultHashBuilder, LinkedHashMap};
 pub use cursor::Entries;
 use std::hash::{BuildHasher, Hash};
 
-/// The entry of a key, returned by `entry`. Dropping it keeps the order.
+/// The entry of a key, returned by `entry`. Dropping it leaves the map as it is.
 ///
 /// # Examples
 ///

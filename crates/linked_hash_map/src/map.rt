@@ -72,7 +72,7 @@ pub enum Mode {
 ///   keeps what it inserted before. Nothing panics.
 /// - A lookup compares its key only with those of its bucket that have its hash. A call that is
 ///   handed no key hashes and compares none, except `clone`, comparisons and `hash`.
-/// - Costs are averages: if all keys hash alike, a call that takes a key or removes a pair is O(n).
+/// - Costs are averages: if all keys hash alike, each lookup and each removal of a pair is O(n).
 /// - Only insertions, `reserve` and `shrink_to_fit` change the capacity, and no removal frees
 ///   memory. There are as many buckets as the capacity, rounded up to a power of two. A change of
 ///   their number rehashes all pairs, in O(n).

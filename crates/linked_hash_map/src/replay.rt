@@ -31,7 +31,7 @@ mod pair_list;
 
 pub use pair_list::PairList;
 
-/// A command to a map: the call that it makes, at its cost, and the answers.
+/// A command to a map. Each variant names its call, whose cost it has, and its answers.
 ///
 /// # Examples
 ///

@@ -53,8 +53,9 @@ use std::marker::Model;
 /// touch.
 ///
 /// Only `put` allocates. Only `put`, `touch` and `remove` hash an id, with a fixed seed: whoever
-/// chooses ids can make them collide, and these calls are then O(n). For ids that strangers choose
-/// use a map: `LinkedHashMap::with_hasher(rt.alloc(), RandomState::new(&rt)?)`.
+/// chooses ids can make them collide, and each lookup and removal is then O(n). For ids that
+/// strangers choose use a map: `LinkedHashMap::with_hasher(rt.alloc(), RandomState::new(&rt)?)`.
+/// Dropping a table drops the payloads, in O(n).
 ///
 /// # Examples
 ///
@@ -119,8 +120,8 @@ impl<T> Sessions<T> {
     /// those removed, front to back. Hashes the id at most twice.
     ///
     /// Returns `TooHeavy` exactly if the weight is above the limit, otherwise `NoRoom` if an
-    /// allocation fails or at `LIMIT` sessions, with the payload, and changes nothing. A present id
-    /// that removes none is never out of room.
+    /// allocation fails, or at `LIMIT` sessions if none goes, with the payload, and changes
+    /// nothing. A present id that removes none is never out of room.
     ///
     /// It allocates first: a vector of exactly the sessions removed, or, for none, room for a new
     /// id. It is O(1), and O(1) more for each session removed, or O(n) if the number of buckets

@@ -13,8 +13,8 @@ use super::OccupiedEntry;
 use crate::map::{DefaultHashBuilder, LinkedHashMap};
 use std::hash::{BuildHasher, Hash};
 
-/// A cursor over the entries of a map, front to back, returned by `entries`. It visits each pair of
-/// that moment once, whatever its entry does.
+/// A cursor over the entries of a map, front to back, returned by `entries`. It visits each pair
+/// that the map had at that call once, whatever its entry does.
 ///
 /// # Examples
 ///
@@ -66,11 +66,12 @@ impl<K: Eq + Hash, V, S: BuildHasher> LinkedHashMap<K, V, S> {
     }
 
     /// Begins a visit of every pair, front to back, and returns the map, in O(1).
-    /// [`next_entry`](LinkedHashMap::next_entry) returns the entries, none of a new key.
+    /// [`next_entry`](LinkedHashMap::next_entry) returns the entries. Later keys are not visited.
     ///
-    /// Another visit ends it, and so does each call, except an entry's, that may remove or move a
-    /// pair: `insert`, `extend`, `entry`, `remove` and `get_refresh` of a present key, the pops,
-    /// `retain`, `clear` and `drain`.
+    /// Another visit, by this call or by `entries`, ends it, and so does each call, except an
+    /// entry's, that may remove or move a pair: in both modes `insert`, the extensions, `entry`,
+    /// `remove` and `get_refresh` of a present key, the pops, `retain`, `clear`, `drain` and
+    /// `replay` of such a command.
     ///
     /// # Examples
     ///

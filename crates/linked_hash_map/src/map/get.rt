@@ -104,8 +104,9 @@ impl<K: Eq + Hash, V, S: BuildHasher> LinkedHashMap<K, V, S> {
     /// Returns the value of a key, if present, and the counts of the lookup, in O(1). Hashes the
     /// key once.
     ///
-    /// An absent key counts all nodes of its bucket and all keys with its hash, a present one no
-    /// more. Other lookups compare the same keys; a filter spares most absent keys the nodes.
+    /// For an absent key these are all nodes of its bucket and all keys with its hash, for a
+    /// present one no more. Other lookups compare the same keys, and read no node of most absent
+    /// ones.
     ///
     /// # Examples
     ///

@@ -36,8 +36,8 @@ impl<K: Eq + Hash, V, S: BuildHasher> LinkedHashMap<K, V, S> {
     ghost use Rattle.linked_hash_map.specs.Lends.{lends_at};
 
     /// Inserts a pair at the back and returns the old value of its key, or `None` if the key is
-    /// new. A present key keeps the stored key and, in [`Mode::Keep`], its place. Hashes the key
-    /// once.
+    /// new. For a present key the stored key stays, `key` is dropped, and in [`Mode::Keep`] the
+    /// pair keeps its place. Hashes the key once.
     ///
     /// Only a new key at full capacity allocates: it raises the capacity by one, or is refused and
     /// handed back with its value. It is O(1), or up to O(n) at full capacity.

@@ -17,8 +17,8 @@ impl<K: Eq + Hash, V, S: BuildHasher> LinkedHashMap<K, V, S> {
     ghost use Rattle.std.specs.Iterator.Runs.{YieldsInOrder, YieldsInReverse};
     ghost use Rattle.linked_hash_map.specs.Lends.{lends_drained};
 
-    /// Removes the pair of a key and returns its value, if present, in O(1). The others keep their
-    /// order. Hashes the key once.
+    /// Removes the pair of a key, drops the stored key and returns the value, if present, in O(1).
+    /// The others keep their order. Hashes the key once.
     ///
     /// # Examples
     ///
@@ -125,7 +125,7 @@ impl<K: Eq + Hash, V, S: BuildHasher> LinkedHashMap<K, V, S> {
         Some(self.table.remove_at(back))
     }
 
-    /// Drops all pairs, in O(capacity), or O(1) if the map is empty.
+    /// Drops all pairs, in O(capacity), or O(1) if the map is empty. The capacity stays.
     ///
     /// # Examples
     ///
@@ -150,8 +150,8 @@ impl<K: Eq + Hash, V, S: BuildHasher> LinkedHashMap<K, V, S> {
     }
 
     /// Removes all pairs and returns them as a double-ended iterator, front to back, in
-    /// O(capacity), or O(1) if the map is empty. The map is empty from then on; forgetting the
-    /// iterator leaks the pairs left.
+    /// O(capacity), or O(1) if the map is empty. The map is empty at once and keeps its capacity;
+    /// forgetting the iterator leaks the pairs left.
     ///
     /// # Examples
     ///

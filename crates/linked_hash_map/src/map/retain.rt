@@ -14,7 +14,9 @@ impl<K: Eq + Hash, V, S: BuildHasher> LinkedHashMap<K, V, S> {
     /// Keeps the pairs for which a closure returns `true`, in order, and drops the others, in O(n).
     /// Hashes no key.
     ///
-    /// The closure is called once with each pair, front to back, and may change the value.
+    /// The closure is called once with each pair, front to back, and may change the value. Whatever
+    /// it does, the keys that stay are some of the old ones, in order, and all else of the map
+    /// stays, except that a visit ends.
     ///
     /// # Examples
     ///

@@ -12,7 +12,8 @@ impl<T> Sessions<T> {
     /// payloads, in O(n). Hashes no id.
     ///
     /// The closure is called once with each id, weight and payload, front to back, and may change
-    /// the payload.
+    /// the payload. Whatever it does, what stays is some of the old sessions, in order, with their
+    /// weights, and the limit.
     ///
     /// # Examples
     ///
