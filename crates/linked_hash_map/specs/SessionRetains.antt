@@ -24,8 +24,8 @@ module _ {F T : Type 0} (g : Mut F (ℕ × (ℕ × (MutBor T × Unit {0}))) (Boo
 
     -- f was called at each session in turn, and the last argument has those at which it returned
     -- `true`, in order, with their weights and the payloads that it left there. Of the first
-    -- session: what the call returned, the payload and the closure that it left, and what is kept of
-    -- the rest
+    -- session: what the call returned, the payload and the closure that it left, and what is kept
+    -- of the rest
     abbrev pub RetainsSessions : F → List (Session T) → List (Session T) → Type 0
     RetainsSessions f [] kept = kept ≡ []
     RetainsSessions f (session ∷ sessions) kept = record {
