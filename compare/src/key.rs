@@ -4,7 +4,7 @@ use std::cmp::Ordering;
 use std::fmt;
 use std::hash::{Hash, Hasher};
 
-/// The first eight bytes of a text. Two keys are the same where they differ in case alone.
+/// The first eight bytes of a text. Two keys are the same if they differ in case alone.
 #[derive(Clone, Copy)]
 pub struct Key {
     text: [u8; 8],

@@ -18,7 +18,7 @@ fn digest(map: &Map) -> u64 {
     })
 }
 
-/// Appends the pairs in order, or where they are many a digest of them, and ends the line.
+/// Appends the pairs in order, or a digest of them if they are many, and ends the line.
 pub fn push_list(map: &Map, text: &mut String) -> Result {
     let len = map.len();
     write!(text, "| {len}")?;

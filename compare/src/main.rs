@@ -25,7 +25,7 @@ type Map = LinkedHashMap<Key, u64, BuildKeyHasher>;
 /// Whether there is a call of a name. If there is one, it has run.
 type Known = Result<bool, std::fmt::Error>;
 
-/// Runs the call of a line, on `map` and where it takes two on `other` too, and appends what it
+/// Runs the call of a line, on `map` and, if it takes two, on `other` too, and appends what it
 /// returns and the list of `map`. For a line that is no call it appends `unknown`, and that list.
 fn run_call(
     name: &str,

@@ -210,7 +210,7 @@ module _ {K V : Type 0} where
             f.covers;
       }
 
-  -- the same where a bucket may have lost its last node
+  -- the same if a bucket may have lost its last node
   pub IsFilter-emptied : (words new : List ℕ) (heads : List (Option Ptr)) (hash : ℕ) (nodes : List (Held (K × V))) (emptied : Option ℕ) → IfSome emptied (IsEmptied heads hash)
       → IfSome emptied (λ b. (other : ℕ) → other % length words ≢ b → may_contain new other ≡ may_contain words other) → IfNone emptied (new ≡ words) → length new ≡ length words
       → Indexes heads (spots nodes) → IsFilter words heads nodes → IsFilter new heads nodes

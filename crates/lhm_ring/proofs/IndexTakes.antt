@@ -43,7 +43,7 @@ length-on_chain {heads} {hash} {xs} {before} {p} h w =
       | inr l ↦ absurd (PutsIn-some w.here t.without (subst (λ (v : List Spot). PutsIn w.here t.without v) (h.none (omega arith)) t.puts))
     ]
 
--- the one before, where there is one
+-- the one before, if there is one
 abbrev HasBefore : List Spot → Ptr → Type 0
 HasBefore = SplitLast (λ s. s.at)
 

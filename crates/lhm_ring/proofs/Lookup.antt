@@ -63,7 +63,7 @@ module _ {L B : Type 0} where
         | false ↦ (AllByRecursion-without (λ q. same_ptr c.at q ≡ false) p cs d.0, IsApart-without p cs d.1)
       ]
 
-  -- what holds of all pointers holds where a node is found
+  -- what holds of all pointers holds of one that is found
   pub AllByRecursion-at : (P : Ptr → Type 0) (cs : List (Cell L B)) (p : Ptr) (l : L) → AllByRecursion P (pointers cs) → links_at cs p ≡ Some l → P p
   unfolding cell_at
   AllByRecursion-at P [] p l h e = absurd (none_some l e)

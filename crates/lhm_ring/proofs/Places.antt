@@ -99,7 +99,7 @@ pub block_ptr-in_block : (p : Ptr) → is_block p ≡ true → (at : ℕ × ℕ)
 block_ptr-in_block (block_ptr b o) e = ((b, o), refl)
 block_ptr-in_block null_ptr e = cc
 
--- a ring's chunks stay where its nodes keep theirs
+-- a ring's chunks stay if its nodes keep theirs
 pub IsLaid-same : {us vs : List Ptr} {cs ds : List (Ptr × ℕ)} {kept : List Chunk} {made : ℕ} → IsLaid us cs kept made → vs ≡ us → ds ≡ cs → IsLaid vs ds kept made
 IsLaid-same l e f = record { none_unused = e ∙ l.none_unused; all_kept = f ∙ l.all_kept; all_made = l.all_made ∙ ap place_count (sym f) }
 

@@ -27,7 +27,7 @@ module _ {L B : Type 0} where
   pub with_body-twice : (p : Ptr) (x : B) (cs : List (Cell L B)) → with_body p (Some x) (with_body p None cs) ≡ with_body p (Some x) cs
   with_body-twice p x cs = change-twice p (λ c. cell c.at c.links None) (λ c. cell c.at c.links (Some x)) (λ c. refl) (λ c. refl) cs
 
--- how many are left, where no two lie at one pointer
+-- how many are left, if no two lie at one pointer
 module _ {B : Type 0} where
   abbrev pub pointers_of : List (Held B) → List Ptr
   pointers_of hs = map (λ t. t.at) hs
@@ -51,7 +51,7 @@ module _ {B : Type 0} where
   IsApart-without_node xs t ys d =
       subst IsApart (sym (pointers_of-append xs ys)) (IsApart-removed (pointers_of xs) t.at (pointers_of ys) (subst IsApart (pointers_of-append xs (t ∷ ys)) d))
 
--- a table that is seen as m: where the closure may be called at one of its pairs, it may at that of
+-- a table that is seen as m: if the closure may be called at one of its pairs, it may at that of
 -- the ring
 pub TakesAt-table_of : {F K V : Type 0} (Q : F → K → V → Type 0) (f : F) {p : Ptr} (s : State (K × V)) (r : ℕ) {m : TableState (K × V)} → table_of s r ≡ m → TakesAt Q f m.held p → TakesAt Q f s.held p
 TakesAt-table_of {F} {K} {V} Q f {p} s r seen h =

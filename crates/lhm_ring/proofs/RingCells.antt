@@ -31,7 +31,7 @@ pub same_ptr-null : (q : Ptr) → is_block q ≡ true → same_ptr null_ptr q �
 same_ptr-null (block_ptr c o) h = refl
 same_ptr-null null_ptr h = cc
 
--- a join, where its nodes are known by other names
+-- a join, if its nodes are known by other names
 pub IsJoined-same : {B : Type 0} {cs ds : List (Cell Links B)} {a b c d : Ptr} → a ≡ c → b ≡ d → IsJoined cs ds a b → IsJoined cs ds c d
 IsJoined-same {cs = cs} {ds = ds} e f = subst (λ (z : Ptr × Ptr). IsJoined cs ds z.0 z.1) (λ i. (e i, f i))
 

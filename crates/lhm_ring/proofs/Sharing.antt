@@ -1,4 +1,4 @@
--- A `&` to the nodes is made where one to their links, keys and values is. Assumes `Logic`.
+-- A `&` to the nodes is made if one to their links, keys and values is. Assumes `Logic`.
 use mathlib.Core.List.{List, [], ◌∷◌}
 use seplogic.Ra.Ura.{Ura}
 use base.Fraction.{full_share}

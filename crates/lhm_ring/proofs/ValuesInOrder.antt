@@ -21,7 +21,7 @@ module _ {K V : Type 0} where
   unvalued-set_held_values (t ∷ hs) [] = refl
   unvalued-set_held_values (t ∷ hs) (v ∷ vs) = ap (λ us. unvalued t ∷ us) (unvalued-set_held_values hs vs)
 
-  -- what is held at p is still held there where only values differ
+  -- what is held at p is still held there if only values differ
   SplitAt-unvalued : (us xs : List (Held (K × V))) (t : Held (K × V)) (ys : List (Held (K × V))) → map unvalued us ≡ map unvalued (xs ++ t ∷ ys)
       → SplitAt unvalued us (unvalued t)
   SplitAt-unvalued [] [] t ys e = absurd cc

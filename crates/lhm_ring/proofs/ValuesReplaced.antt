@@ -29,7 +29,7 @@ pub AllByRecursion-among : (ps : List Ptr) → AllByRecursion (λ p. among ps p 
 AllByRecursion-among [] = tt
 AllByRecursion-among (q ∷ ps) = (ap (λ y. cond y true (among ps q)) (same_ptr-reflexive q), AllByRecursion-map (λ p. among ps p ≡ true) (λ p. among (q ∷ ps) p ≡ true) (λ p. among-more q p ps) ps (AllByRecursion-among ps))
 
--- the value that hs has at p, and v where it has none there
+-- the value that hs has at p, and v if it has none there
 abbrev pub value_in : {K V : Type 0} → List (Held (K × V)) → Ptr → V → V
 value_in [] p v = v
 value_in (t ∷ hs) p v = cond (same_ptr t.at p) t.pair.1 (value_in hs p v)
@@ -222,7 +222,7 @@ module _ {K V : Type 0} where
   abbrev pub held_entries : Ends → List (Cell Links (K × V)) → ℕ → List (Ptr × (K × V))
   held_entries e cs n = lent (among (ring_pointers (ring_cells e cs) n)) cs
 
-  -- the nodes, where the ring holds the values that hs has at their pointers
+  -- the nodes, if the ring holds the values that hs has at their pointers
   abbrev pub held_written : Ends → List (Cell Links (K × V)) → ℕ → List (Held (K × V)) → List (Cell Links (K × V))
   held_written e cs n hs = written (among (ring_pointers (ring_cells e cs) n)) hs cs
 

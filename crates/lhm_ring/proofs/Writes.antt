@@ -121,7 +121,7 @@ module _ {B : Type 0} where
       } in
       subst (λ zs. IsJoined cs zs a.ptr b.ptr) (sym (e2 ∙ ap (λ zs. with_links b.ptr m zs) e1)) made
 
-  -- a node, where another one leads on to a third
+  -- a node, if another one leads on to a third
   pub is_there-leading_on : (cs ds : List (Cell Links B)) (p : Ptr) (o : Link) → is_there cs p ≡ true → LeadsOn cs p o ds → (q : Ptr) → is_there cs q ≡ true → is_there ds q ≡ true
   is_there-leading_on cs ds p o h k q t = let a = IsAt-there cs p h in is_there-with_links cs ds p (leading_on o a.0) a.0 q a.1 (k a.0 a.1) t
 

@@ -1,4 +1,4 @@
-//! Readers and writers over memory, which move a few bytes at once and fail where they are told to.
+//! Readers and writers over memory, which move a few bytes at once and fail when they are told to.
 
 use std::alloc::Global;
 use std::io;

@@ -3,7 +3,7 @@ use Rattle.lhm.specs.Grammar.{words_of}
 use Rattle.lhm.specs.Commands.{SpellNumbers, numbers_of}
 use Rattle.lhm.proofs.parser.pairs.Given as goal
 
--- whatever pairs the rest spells, the whole spells these and then those; and where the whole spells
+-- whatever pairs the rest spells, the whole spells these and then those; and if the whole spells
 -- pairs, so does the rest
 pub record IsSpelledTo (whole rest : List (List ℕ)) (pairs : List (ℕ × ℕ)) : Type 0 where
   pub spell : (others : List (ℕ × ℕ)) → SpellNumbers rest (numbers_of others) → SpellNumbers whole (numbers_of (pairs ++ others))
