@@ -13,7 +13,7 @@ use Rattle.lhm_ring.specs.RingState.{Held, IsHeld, AtHeld, first_at}
 use Rattle.lhm_ring.specs.Tables.{TableState}
 use Rattle.linked_hash_map.specs.Entry.{occupied_pair, occupied_key}
 use Rattle.linked_hash_map.specs.Indexes.{pair_at}
-use Rattle.linked_hash_map.specs.Nodes.{IsKept, before, bookmark_at, bare}
+use Rattle.linked_hash_map.specs.Nodes.{VisitState, IsKept, before, bookmark_at, bare}
 use Rattle.linked_hash_map.specs.declared.entry.OccupiedEntry.{OccupiedEntry}
 use Rattle.linked_hash_map.proofs.Kept.{CutAt, cut_before, before_at, before-bare, length-bare}
 use Rattle.linked_hash_map.proofs.Stretches.{stretch-step}
@@ -77,13 +77,13 @@ module _ {K V : Type 0} where
       (subst (λ (z : List (Held (K × V))). Goes (bookmark_at (first_at back) z) (length z) (length front) n (first_at back)) (sym is) at))
 
 -- a map with a bookmark on what lies at p
-module _ {K V : Type 0} {eq : K → K → Bool} {hash : K → ℕ} {s : TableState (K × V)} {bookmark : Option Ptr} {n : ℕ} {current : Option Ptr} (kept : IsKept eq hash s bookmark n current) (p : Ptr) (bookmarked : bookmark ≡ Some p) where
-  pub unvisited_some : 0 < n
-  unvisited_some = positive n (λ z. let h : Some p ≡ None = sym bookmarked ∙ kept.nodes.ended z in cc)
+module _ {K V : Type 0} {eq : K → K → Bool} {hash : K → ℕ} {s : TableState (K × V)} {visit : VisitState} (kept : IsKept eq hash s visit) (p : Ptr) (bookmarked : visit.bookmark ≡ Some p) where
+  pub unvisited_some : 0 < visit.unvisited
+  unvisited_some = positive visit.unvisited (λ z. let h : Some p ≡ None = sym bookmarked ∙ kept.nodes.ended z in cc)
 
-  reach : before p s.held + n ≤ length s.held
+  reach : before p s.held + visit.unvisited ≤ length s.held
   reach =
-      let at_bookmark : bookmark_at bookmark (bare s.held) ≡ before p s.held = bookmark-bare bookmark s.held ∙ ap (λ o. bookmark_at o s.held) bookmarked in
+      let at_bookmark : bookmark_at visit.bookmark (bare s.held) ≡ before p s.held = bookmark-bare visit.bookmark s.held ∙ ap (λ o. bookmark_at o s.held) bookmarked in
       let long = length-bare s.held in
       omega (arith, at_bookmark, long, kept.nodes.in_reach)
 
@@ -94,16 +94,16 @@ module _ {K V : Type 0} {eq : K → K → Bool} {hash : K → ℕ} {s : TableSta
   bookmarked_held = cut.held
 
   -- o is where the bookmark goes on to
-  module _ (o : Option Ptr) (none : n - 1 ≡ 0 → o ≡ None) (next : 0 < n - 1 → AtHeld s.held p (λ xs t ys. o ≡ first_at ys)) (apart : 0 < n - 1 → IsApart (map (λ u. u.at) s.held)) where
-    pub goes : Goes (bookmark_at o (bare s.held)) (length (bare s.held)) (before p (bare s.held)) n o
+  module _ (o : Option Ptr) (none : visit.unvisited - 1 ≡ 0 → o ≡ None) (next : 0 < visit.unvisited - 1 → AtHeld s.held p (λ xs t ys. o ≡ first_at ys)) (apart : 0 < visit.unvisited - 1 → IsApart (map (λ u. u.at) s.held)) where
+    pub goes : Goes (bookmark_at o (bare s.held)) (length (bare s.held)) (before p (bare s.held)) visit.unvisited o
     goes =
         let t = cut.held in
-        subst (λ (z : ℕ). Goes (bookmark_at o (bare s.held)) (length (bare s.held)) z n o) (sym (before-bare p s.held))
-        (subst (λ (z : ℕ). Goes (bookmark_at o (bare s.held)) z (before p s.held) n o) (sym (length-bare s.held))
-        (subst (λ (z : ℕ). Goes z (length s.held) (before p s.held) n o) (sym (bookmark-bare o s.held))
-        (goes_by (n - 1) p s.held cut o n refl none (λ some. next some t.before t.node t.after t.is t.at_is) apart reach)))
+        subst (λ (z : ℕ). Goes (bookmark_at o (bare s.held)) (length (bare s.held)) z visit.unvisited o) (sym (before-bare p s.held))
+        (subst (λ (z : ℕ). Goes (bookmark_at o (bare s.held)) z (before p s.held) visit.unvisited o) (sym (length-bare s.held))
+        (subst (λ (z : ℕ). Goes z (length s.held) (before p s.held) visit.unvisited o) (sym (bookmark-bare o s.held))
+        (goes_by (visit.unvisited - 1) p s.held cut o visit.unvisited refl none (λ some. next some t.before t.node t.after t.is t.at_is) apart reach)))
 
-    pub kept_on : IsKept eq hash s o (n - 1) (Some p)
+    pub kept_on : IsKept eq hash s (record { bookmark = o; unvisited = visit.unvisited - 1; current = Some p })
     kept_on =
         let some = unvisited_some in
         let of_bare = length-bare s.held in
@@ -121,8 +121,8 @@ module _ {K V : Type 0} {eq : K → K → Bool} {hash : K → ℕ} {s : TableSta
           };
         }
 
-    pub to_visit_on : {X : Type 0} (ks : List X) (k : X) → slice_get ks (before p (bare s.held)) ≡ Some k → take n (drop (bookmark_at bookmark (bare s.held)) ks) ≡ k ∷ take (n - 1) (drop (bookmark_at o (bare s.held)) ks)
-    to_visit_on ks k there = ap (λ m. take n (drop (bookmark_at m (bare s.held)) ks)) bookmarked ∙ stretch-step ks (before p (bare s.held)) n k there unvisited_some ∙ ap (λ l. k ∷ l) (sym (goes.stretch ks))
+    pub to_visit_on : {X : Type 0} (ks : List X) (k : X) → slice_get ks (before p (bare s.held)) ≡ Some k → take visit.unvisited (drop (bookmark_at visit.bookmark (bare s.held)) ks) ≡ k ∷ take (visit.unvisited - 1) (drop (bookmark_at o (bare s.held)) ks)
+    to_visit_on ks k there = ap (λ m. take visit.unvisited (drop (bookmark_at m (bare s.held)) ks)) bookmarked ∙ stretch-step ks (before p (bare s.held)) visit.unvisited k there unvisited_some ∙ ap (λ l. k ∷ l) (sym (goes.stretch ks))
 
 module _ {K V : Type 0} where
   slice_get-keys : (pairs : List (K × V)) (index : ℕ) (within : index < length pairs) → slice_get (keys_of pairs) index ≡ Some (pair_at pairs index within).0

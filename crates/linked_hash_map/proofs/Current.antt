@@ -13,7 +13,7 @@ use Rattle.lhm_ring.specs.declared.position.Position.{Position}
 use Rattle.linked_hash_map.specs.LinkedMap.{LinkedMap, CursorState}
 use Rattle.linked_hash_map.specs.Cursor.{IsOutside}
 use Rattle.linked_hash_map.specs.Indexes.{IsIndex}
-use Rattle.linked_hash_map.specs.Nodes.{pairs_of, bare, before, bookmark_at, current_at, cursor_at, Lies, AreKept, IsKept}
+use Rattle.linked_hash_map.specs.Nodes.{VisitState, no_visit, pairs_of, bare, before, bookmark_at, current_at, cursor_at, Lies, AreKept, IsKept}
 use Rattle.linked_hash_map.proofs.Kept.{CutAt, cut_before, bare-change, length-bare, before-bare, pair_there}
 use Rattle.linked_hash_map.proofs.Outside.{IsElsewhere, before_held}
 
@@ -29,7 +29,7 @@ cond-None false = refl
 pub current_of-Some : {K V : Type 0} {current : Option Ptr} {o : Option (Position K V)} {p : Position K V} → pointer_of_some o ≡ current → o ≡ Some p → current ≡ Some (pointer_of p)
 current_of-Some of is = sym of ∙ ap pointer_of_some is
 
-module _ {K V : Type 0} {eq : K → K → Bool} {hash : K → ℕ} {s : TableState (K × V)} {bookmark : Option Ptr} {n : ℕ} {o : Option Ptr} (kept : IsKept eq hash s bookmark n o) {p : Ptr} (is : o ≡ Some p) where
+module _ {K V : Type 0} {eq : K → K → Bool} {hash : K → ℕ} {s : TableState (K × V)} {visit : VisitState} (kept : IsKept eq hash s visit) {p : Ptr} (is : visit.current ≡ Some p) where
   -- a node lies there
   pub current_lies : before p s.held < length s.held
   current_lies =
@@ -41,38 +41,35 @@ module _ {K V : Type 0} {eq : K → K → Bool} {hash : K → ℕ} {s : TableSta
   pub current_cut : CutAt p s.held
   current_cut = cut_before p s.held current_lies
 
-  pub current_nodes : AreKept eq hash (bare s.held) s.capacity bookmark n (Some p)
-  current_nodes = subst (λ z. AreKept eq hash (bare s.held) s.capacity bookmark n z) is kept.nodes
-
   -- if the index is outside the pairs to visit, the node is
-  pub current_elsewhere : {S : Type 0} (m : LinkedMap K V S) → cursor_at bookmark n o (bare s.held) ≡ m.cursor → IsOutside m.cursor.current m → IsElsewhere p s.held bookmark n
+  pub current_elsewhere : {S : Type 0} (m : LinkedMap K V S) → cursor_at visit (bare s.held) ≡ m.cursor → IsOutside m.cursor.current m → IsElsewhere p s.held visit.bookmark visit.unvisited
   current_elsewhere m view outside =
-      subst (λ k. (k < bookmark_at bookmark (bare s.held)) ⊎ (bookmark_at bookmark (bare s.held) + n ≤ k)) (current_at-Some is s.held)
+      subst (λ k. (k < bookmark_at visit.bookmark (bare s.held)) ⊎ (bookmark_at visit.bookmark (bare s.held) + visit.unvisited ≤ k)) (current_at-Some is s.held)
       (subst (λ (c : CursorState). (c.current < c.bookmark) ⊎ (c.bookmark + c.unvisited ≤ c.current)) (sym view) outside)
 
 -- another pair becomes the current one, or a value is written
-module _ {K V : Type 0} {eq : K → K → Bool} {hash : K → ℕ} {s : TableState (K × V)} {bookmark current : Option Ptr} {n : ℕ} (kept : IsKept eq hash s bookmark n current) where
-  pub IsKept-current : (o : Option Ptr) → Lies o (bare s.held) → IsKept eq hash s bookmark n o
+module _ {K V : Type 0} {eq : K → K → Bool} {hash : K → ℕ} {s : TableState (K × V)} {visit : VisitState} (kept : IsKept eq hash s visit) where
+  pub IsKept-current : (o : Option Ptr) → Lies o (bare s.held) → IsKept eq hash s (record visit { current = o })
   IsKept-current o lies =
       let k = kept.nodes in
       record { nodes = record { distinct = k.distinct; hashed = k.hashed; within = k.within; limit = k.limit; bookmarked = k.bookmarked; ended = k.ended; in_reach = k.in_reach; current_lies = lies } }
 
   -- and nothing is to be visited
-  pub IsKept-visited : (o : Option Ptr) → Lies o (bare s.held) → IsKept eq hash s None 0 o
+  pub IsKept-visited : (o : Option Ptr) → Lies o (bare s.held) → IsKept eq hash s (record no_visit { current = o })
   IsKept-visited o lies =
       let k = kept.nodes in
       record { nodes = record { distinct = k.distinct; hashed = k.hashed; within = k.within; limit = k.limit; bookmarked = λ _. refl; ended = λ _. refl; in_reach = omega arith; current_lies = lies } }
 
   -- an entry is done with
-  pub IsKept-left : (active : Bool) → IsKept eq hash s bookmark n (cond active None None)
+  pub IsKept-left : (active : Bool) → IsKept eq hash s (record visit { current = cond active None None })
   IsKept-left true = IsKept-current None tt
   IsKept-left false = IsKept-current None tt
 
-  pub IsKept-count : {k : ℕ} → k ≡ n → IsKept eq hash s bookmark k current
-  IsKept-count is = subst (λ (k : ℕ). IsKept eq hash s bookmark k current) (sym is) kept
+  pub IsKept-count : {k : ℕ} → k ≡ visit.unvisited → IsKept eq hash s (record visit { unvisited = k })
+  IsKept-count is = subst (λ (k : ℕ). IsKept eq hash s (record visit { unvisited = k })) (sym is) kept
 
-  pub IsKept-with_value : (p : Ptr) (w : V) → IsKept eq hash (with_value s p w) bookmark n current
-  IsKept-with_value p w = record { nodes = subst (λ us. AreKept eq hash us s.capacity bookmark n current) (sym (bare-change p w s.held)) kept.nodes }
+  pub IsKept-with_value : (p : Ptr) (w : V) → IsKept eq hash (with_value s p w) visit
+  IsKept-with_value p w = record { nodes = subst (λ us. AreKept eq hash us s.capacity visit) (sym (bare-change p w s.held)) kept.nodes }
 
 -- a key that was looked for is at the index of its node
 module _ {K V : Type 0} {eq : K → K → Bool} {hash : ℕ} {k : K} {hs : List (Held (K × V))} {p : Ptr} (h : HasKey eq hash k hs p) where

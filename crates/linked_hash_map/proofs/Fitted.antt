@@ -9,7 +9,7 @@ use Rattle.lhm_ring.specs.declared.position.Position.{Position}
 use Rattle.lhm_ring.specs.RingState.{Held, IsHeld, AtHeld, triples}
 use Rattle.lhm_ring.specs.Tables.{TableState}
 use Rattle.lhm_ring.proofs.Tables.{length-same_triples}
-use Rattle.linked_hash_map.specs.Nodes.{IsKept, HasBehind, Lies, pairs_of, bare, before, bookmark_at}
+use Rattle.linked_hash_map.specs.Nodes.{VisitState, IsKept, HasBehind, Lies, pairs_of, bare, before, bookmark_at}
 use Rattle.linked_hash_map.proofs.Kept.{CutAt, cut_before, length-bare, keys-bare}
 use Rattle.linked_hash_map.proofs.BookmarkMoves.{bookmark-bare, bookmarked_held}
 use Rattle.linked_hash_map.proofs.Outside.{before_held}
@@ -69,17 +69,17 @@ module _ {K V : Type 0} where
 
 -- the pairs that stand in one table stand in another, and what is behind a bookmark stands behind
 -- another
-module _ {K V : Type 0} {eq : K → K → Bool} {hash : K → ℕ} {s : TableState (K × V)} {bookmark : Option Ptr} {n : ℕ} {current : Option Ptr} (kept : IsKept eq hash s bookmark n current) (t : TableState (K × V)) (same : triples t.held ≡ triples s.held) (other : Option Ptr) (behind : Option ℕ) (old : HasBehind bookmark s.held behind) (new : HasBehind other t.held behind) where
-  pub bookmark-fitted : bookmark_at other (bare t.held) ≡ bookmark_at bookmark (bare s.held)
+module _ {K V : Type 0} {eq : K → K → Bool} {hash : K → ℕ} {s : TableState (K × V)} {visit : VisitState} (kept : IsKept eq hash s visit) (t : TableState (K × V)) (same : triples t.held ≡ triples s.held) (moved : VisitState) (behind : Option ℕ) (old : HasBehind visit.bookmark s.held behind) (new : HasBehind moved.bookmark t.held behind) where
+  pub bookmark-fitted : bookmark_at moved.bookmark (bare t.held) ≡ bookmark_at visit.bookmark (bare s.held)
   bookmark-fitted =
-      bookmark-bare other t.held ∙ bookmark-behind s.held t.held bookmark other behind (length-same_triples t.held s.held same) old new ∙ sym (bookmark-bare bookmark s.held)
+      bookmark-bare moved.bookmark t.held ∙ bookmark-behind s.held t.held visit.bookmark moved.bookmark behind (length-same_triples t.held s.held same) old new ∙ sym (bookmark-bare visit.bookmark s.held)
 
-  pub to_visit-fitted : take n (drop (bookmark_at other (bare t.held)) (keys_of (pairs_of t.held))) ≡ take n (drop (bookmark_at bookmark (bare s.held)) (keys_of (pairs_of s.held)))
-  to_visit-fitted = λ i. take n (drop (bookmark-fitted i) (keys_of (pairs_of-triples s.held t.held same i)))
+  pub to_visit-fitted : take visit.unvisited (drop (bookmark_at moved.bookmark (bare t.held)) (keys_of (pairs_of t.held))) ≡ take visit.unvisited (drop (bookmark_at visit.bookmark (bare s.held)) (keys_of (pairs_of s.held)))
+  to_visit-fitted = λ i. take visit.unvisited (drop (bookmark-fitted i) (keys_of (pairs_of-triples s.held t.held same i)))
 
   -- the capacity is then the number of pairs
-  fitted : t.capacity ≡ length s.held → IsKept eq hash t other n None
-  fitted capacity =
+  pub IsKept-fitted : t.capacity ≡ length s.held → moved.unvisited ≡ visit.unvisited → moved.current ≡ None → IsKept eq hash t moved
+  IsKept-fitted capacity unvisited left =
       let k = kept.nodes in
       let long = length-same_triples t.held s.held same in
       let of_old = length-bare s.held in
@@ -91,17 +91,18 @@ module _ {K V : Type 0} {eq : K → K → Bool} {hash : K → ℕ} {s : TableSta
           hashed = hashed-triples hash s.held t.held same k.hashed;
           within = omega (arith, of_new, long, capacity);
           limit = omega (arith, capacity, of_old, k.within, k.limit);
-          bookmarked = λ none. k.bookmarked (bookmarked-behind s.held t.held bookmark other behind old new none);
-          ended = λ none. bookmarked-behind t.held s.held other bookmark behind new old (k.ended none);
-          in_reach = omega (arith, bookmark-fitted, of_old, of_new, long, k.in_reach);
-          current_lies = tt;
+          bookmarked = λ none. unvisited ∙ k.bookmarked (bookmarked-behind s.held t.held visit.bookmark moved.bookmark behind old new none);
+          ended = λ none. bookmarked-behind t.held s.held moved.bookmark visit.bookmark behind new old (k.ended (sym unvisited ∙ none));
+          in_reach = omega (arith, bookmark-fitted, unvisited, of_old, of_new, long, k.in_reach);
+          current_lies = subst (λ o. Lies o (bare t.held)) (sym left) tt;
         };
       }
 
-  pub IsKept-fitted : t.capacity ≡ length s.held → {k : ℕ} → k ≡ n → {o : Option Ptr} → o ≡ None → IsKept eq hash t other k o
-  IsKept-fitted capacity unvisited left = subst (λ (z : ℕ × Option Ptr). IsKept eq hash t other z.0 z.1) (λ i. (sym unvisited i, sym left i)) (fitted capacity)
-
 -- a bookmark is at one of the nodes
-pub bookmarked_lies : {K V : Type 0} {eq : K → K → Bool} {hash : K → ℕ} {s : TableState (K × V)} {bookmark : Option Ptr} {n : ℕ} {current : Option Ptr} → IsKept eq hash s bookmark n current → Lies bookmark s.held
-bookmarked_lies {bookmark = None} kept = tt
-bookmarked_lies {bookmark = Some p} kept = held_lies (bookmarked_held kept p refl)
+module _ {K V : Type 0} {eq : K → K → Bool} {hash : K → ℕ} {s : TableState (K × V)} {visit : VisitState} (kept : IsKept eq hash s visit) where
+  at_bookmark : (o : Option Ptr) → visit.bookmark ≡ o → Lies o s.held
+  at_bookmark None is = tt
+  at_bookmark (Some p) is = held_lies (bookmarked_held kept p is)
+
+  pub bookmarked_lies : Lies visit.bookmark s.held
+  bookmarked_lies = at_bookmark visit.bookmark refl

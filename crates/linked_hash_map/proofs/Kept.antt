@@ -13,7 +13,7 @@ use Rattle.lhm_ring.specs.Search.{entries, HasKey, IsAbsent}
 use Rattle.lhm_ring.proofs.Apart.{IsFresh, same_ptr-equal, same_ptr-reflexive}
 use Rattle.lhm_ring.proofs.Rows.{IsFresh-head, IsApart-tail}
 use Rattle.linked_hash_map.specs.LinkedMap.{LinkedMap}
-use Rattle.linked_hash_map.specs.Nodes.{pairs_of, bare, bare_node, before, Beside, cursor_at, map_of, IsKept}
+use Rattle.linked_hash_map.specs.Nodes.{VisitState, pairs_of, bare, bare_node, before, Beside, cursor_at, map_of, IsKept}
 use Rattle.linked_hash_map.specs.Indexes.{IsIndex, set_value_at}
 use Rattle.linked_hash_map.specs.Pairs.{find}
 use Rattle.linked_hash_map.specs.Validity.{IsValid}
@@ -71,7 +71,7 @@ module _ {K V : Type 0} where
   pairs_of-append xs ys = map-append (λ (t : Held (K × V)). t.pair) xs ys
 
 -- what is kept so is a valid map
-module _ {K V : Type 0} {eq : K → K → Bool} {hash : K → ℕ} {s : TableState (K × V)} {bookmark : Option Ptr} {n : ℕ} {current : Option Ptr} (kept : IsKept eq hash s bookmark n current) where
+module _ {K V : Type 0} {eq : K → K → Bool} {hash : K → ℕ} {s : TableState (K × V)} {visit : VisitState} (kept : IsKept eq hash s visit) where
   pub distinct_keys : IsDistinct eq (keys_of (pairs_of s.held))
   distinct_keys = subst (IsDistinct eq) (keys-bare s.held) kept.nodes.distinct
 
@@ -90,7 +90,7 @@ module _ {K V : Type 0} {eq : K → K → Bool} {hash : K → ℕ} {s : TableSta
 pub map_of-revalued : {K V S : Type 0} (s : TableState (K × V)) (hs : List (Held (K × V))) (b : Beside S) → bare hs ≡ bare s.held → {ps : List (K × V)} → pairs_of hs ≡ ps → map_of (record s { held = hs }) b ≡ record (map_of s b) { pairs = ps }
 map_of-revalued s hs b same pairs = λ i. record (map_of s b) {
   pairs = pairs i;
-  cursor = cursor_at b.bookmark b.unvisited b.current (same i);
+  cursor = cursor_at b.visit (same i);
 }
 
 -- a list with one element in the midst

@@ -33,7 +33,7 @@ use Rattle.lhm_ring.proofs.LendTable as table
 use Rattle.lhm_ring.proofs.table.Table.TheLaws as T-laws
 use Rattle.lhm_ring.proofs.ValuesSplitOff as ring
 use Rattle.linked_hash_map.specs.LinkedMap.{LinkedMap}
-use Rattle.linked_hash_map.specs.Nodes.{pairs_of, bare, AreKept, bookmark_of, unvisited_of, current_of}
+use Rattle.linked_hash_map.specs.Nodes.{pairs_of, bare, AreKept, visit_of}
 use Rattle.linked_hash_map.specs.Hashers.{hash_by}
 use Rattle.linked_hash_map.specs.Pairs.{set_values}
 use Rattle.linked_hash_map.specs.Validity.{IsValid}
@@ -153,7 +153,7 @@ module _ (K₀ V₀ S₀ H₀ : RattleType) (g : eq.Ghosts K₀.Denot) (h : hash
 
         still_good : good (record i { table = after })
         still_good = record {
-          nodes = subst (λ us. AreKept g.eq (hash_by w.finish w.write b.build_hasher h.hash_input i.hasher) us i.table.capacity (bookmark_of i.visit) (unvisited_of i.visit) (current_of i.visit)) (sym same_bare) ok.nodes;
+          nodes = subst (λ us. AreKept g.eq (hash_by w.finish w.write b.build_hasher h.hash_input i.hasher) us i.table.capacity (visit_of i.visit)) (sym same_bare) ok.nodes;
         }
 
       -- what is left of the table and of the map

@@ -1,5 +1,5 @@
 -- A node that is moved behind the others.
-use Rattle.std.proofs.Common.{◌≡◌, ℕ, suc, ◌+◌, ◌-◌, ◌<◌, ◌≤◌, Bool, true, false, ◌||◌, cond, List, [], ◌∷◌, ◌++◌, map, length, take, drop, slice_get, remove, Option, Some, sym, ap, ap₂, ◌∙◌, subst, arith, length-append}
+use Rattle.std.proofs.Common.{◌≡◌, ℕ, suc, ◌+◌, ◌-◌, ◌<◌, ◌≤◌, Bool, true, false, ◌||◌, cond, List, [], ◌∷◌, ◌++◌, map, length, take, drop, slice_get, remove, Some, sym, ap, ap₂, ◌∙◌, subst, arith, length-append}
 use Rattle.std.specs.List.{list_any, IsDistinct}
 use Rattle.std.specs.Map.{keys_of}
 use Rattle.std.specs.Cmp.{IsEquivalence}
@@ -10,7 +10,7 @@ use Rattle.lhm_ring.specs.Cells.{same_ptr, IsApart}
 use Rattle.lhm_ring.specs.RingState.{Held, AtHeld}
 use Rattle.lhm_ring.proofs.Apart.{IsFresh, same_ptr-reflexive, same_ptr-symmetric}
 use Rattle.lhm_ring.proofs.Rows.{AllByRecursion-right, AllByRecursion-append, AllByRecursion-removed, IsFresh-middle}
-use Rattle.linked_hash_map.specs.Nodes.{pairs_of, bare, bare_node, before, bookmark_at, AreKept}
+use Rattle.linked_hash_map.specs.Nodes.{VisitState, Lies, pairs_of, bare, bare_node, before, bookmark_at, AreKept}
 use Rattle.linked_hash_map.proofs.DistinctLists.{none_from_all}
 use Rattle.linked_hash_map.proofs.Kept.{CutAt, cut_before, keys-bare, pairs_of-append, pair_there, pairs_removed}
 use Rattle.linked_hash_map.proofs.Outside.{IsClear, IsElsewhere, clear-elsewhere, before_held, stretch-front, in_reach-out, to_visit-out, bookmark-moved}
@@ -32,8 +32,8 @@ before-last p (x ∷ hs) t at fresh =
     ap (λ y. cond y 0 (before p (hs ++ t ∷ []) + 1)) (same_ptr-symmetric x.at p ∙ fresh.0) ∙ one
 
 -- the nodes with one that is not to be visited moved behind the others
-module _ {K : Type 0} {eq : K → K → Bool} (laws : IsEquivalence eq) {hash : K → ℕ} (front : List (Held K)) (u : Held K) (back : List (Held K)) {capacity n : ℕ} {bookmark : Option Ptr} {p : Ptr} (kept : AreKept eq hash (front ++ u ∷ back) capacity bookmark n (Some p)) (clear : IsClear front u back bookmark n) where
-  AreKept-to_back : u.at ≡ p → AreKept eq hash ((front ++ back) ++ u ∷ []) capacity bookmark n (Some p)
+module _ {K : Type 0} {eq : K → K → Bool} (laws : IsEquivalence eq) {hash : K → ℕ} (front : List (Held K)) (u : Held K) (back : List (Held K)) {capacity : ℕ} {visit : VisitState} {p : Ptr} (kept : AreKept eq hash (front ++ u ∷ back) capacity visit) (is : visit.current ≡ Some p) (clear : IsClear front u back visit.bookmark visit.unvisited) where
+  AreKept-to_back : u.at ≡ p → AreKept eq hash ((front ++ back) ++ u ∷ []) capacity visit
   AreKept-to_back at =
       let of_all = length-append front (u ∷ back) in
       let of_rest = length-append front back in
@@ -43,8 +43,8 @@ module _ {K : Type 0} {eq : K → K → Bool} (laws : IsEquivalence eq) {hash : 
       let cut = map-append (λ (t : Held K). t.pair) front (u ∷ back) in
       let joined = map-append (λ (t : Held K). t.pair) front back in
       let differs : list_any (eq u.pair) (keys (front ++ back)) ≡ false = ap (list_any (eq u.pair)) joined ∙ list_any-others laws (keys front) u.pair (keys back) (subst (IsDistinct eq) cut kept.distinct) in
-      let reach = in_reach-out front u back bookmark n kept.bookmarked kept.ended kept.in_reach clear in
-      let same_bookmark = bookmark-moved front u back bookmark n kept.ended reach in
+      let reach = in_reach-out front u back visit.bookmark visit.unvisited kept.bookmarked kept.ended kept.in_reach clear in
+      let same_bookmark = bookmark-moved front u back visit.bookmark visit.unvisited kept.ended reach in
       record {
         distinct = subst (IsDistinct eq) (sym (map-append (λ (t : Held K). t.pair) (front ++ back) (u ∷ []))) (IsDistinct-push laws (keys (front ++ back)) u.pair (distinct_keys-out front u back kept clear) differs);
         hashed = AllByRecursion-append P (front ++ back) (u ∷ []) (AllByRecursion-removed P front u back kept.hashed) ((AllByRecursion-right P front (u ∷ back) kept.hashed).0, tt);
@@ -53,23 +53,23 @@ module _ {K : Type 0} {eq : K → K → Bool} (laws : IsEquivalence eq) {hash : 
         bookmarked = kept.bookmarked;
         ended = kept.ended;
         in_reach = omega (arith, reach, same_bookmark, of_moved);
-        current_lies = before_held p (front ++ back) u [] at;
+        current_lies = subst (λ o. Lies o ((front ++ back) ++ u ∷ [])) (sym is) (before_held p (front ++ back) u [] at);
       }
 
   -- the bookmark and what is to be visited stay out of its way
-  behind-back : bookmark_at bookmark ((front ++ back) ++ u ∷ []) + n ≤ length (front ++ back)
+  behind-back : bookmark_at visit.bookmark ((front ++ back) ++ u ∷ []) + visit.unvisited ≤ length (front ++ back)
   behind-back =
-      let reach = in_reach-out front u back bookmark n kept.bookmarked kept.ended kept.in_reach clear in
-      let same_bookmark = bookmark-moved front u back bookmark n kept.ended reach in
+      let reach = in_reach-out front u back visit.bookmark visit.unvisited kept.bookmarked kept.ended kept.in_reach clear in
+      let same_bookmark = bookmark-moved front u back visit.bookmark visit.unvisited kept.ended reach in
       omega (arith, reach, same_bookmark)
 
-  to_visit-back : take n (drop (bookmark_at bookmark ((front ++ back) ++ u ∷ [])) (map (λ t. t.pair) ((front ++ back) ++ u ∷ []))) ≡ take n (drop (bookmark_at bookmark (front ++ u ∷ back)) (map (λ t. t.pair) (front ++ u ∷ back)))
+  to_visit-back : take visit.unvisited (drop (bookmark_at visit.bookmark ((front ++ back) ++ u ∷ [])) (map (λ t. t.pair) ((front ++ back) ++ u ∷ []))) ≡ take visit.unvisited (drop (bookmark_at visit.bookmark (front ++ u ∷ back)) (map (λ t. t.pair) (front ++ u ∷ back)))
   to_visit-back =
-      let reach = in_reach-out front u back bookmark n kept.bookmarked kept.ended kept.in_reach clear in
+      let reach = in_reach-out front u back visit.bookmark visit.unvisited kept.bookmarked kept.ended kept.in_reach clear in
       let of_keys = length-map (front ++ back) (λ t. t.pair) in
-      ap₂ (λ b ks. take n (drop b ks)) (bookmark-moved front u back bookmark n kept.ended reach) (map-append (λ (t : Held K). t.pair) (front ++ back) (u ∷ []))
-      ∙ stretch-front (map (λ t. t.pair) (front ++ back)) (u.pair ∷ []) (bookmark_at bookmark (front ++ back)) n (omega (arith, reach, of_keys))
-      ∙ to_visit-out front u back bookmark n kept.bookmarked clear
+      ap₂ (λ b ks. take visit.unvisited (drop b ks)) (bookmark-moved front u back visit.bookmark visit.unvisited kept.ended reach) (map-append (λ (t : Held K). t.pair) (front ++ back) (u ∷ []))
+      ∙ stretch-front (map (λ t. t.pair) (front ++ back)) (u.pair ∷ []) (bookmark_at visit.bookmark (front ++ back)) visit.unvisited (omega (arith, reach, of_keys))
+      ∙ to_visit-out front u back visit.bookmark visit.unvisited kept.bookmarked clear
 
 -- hs are the nodes before, and ks those where the one at p is behind the others
 module _ {K V : Type 0} (hs ks : List (Held (K × V))) {p : Ptr} (last : AtHeld hs p (λ xs x ys. ks ≡ (xs ++ ys) ++ x ∷ [])) (lies : before p hs < length hs) where
@@ -120,28 +120,28 @@ module _ {K V : Type 0} (hs ks : List (Held (K × V))) {p : Ptr} (last : AtHeld 
   bare_moved = let h = cut_moved.held in ap bare moved ∙ map-append bare_node (h.before ++ h.after) (h.node ∷ []) ∙ ap (λ us. us ++ bare_node h.node ∷ []) (map-append bare_node h.before h.after)
 
   -- the node is none of those that are still to be visited
-  module _ {eq : K → K → Bool} (laws : IsEquivalence eq) {hash : K → ℕ} {capacity : ℕ} {bookmark : Option Ptr} {n : ℕ} (kept : AreKept eq hash (bare hs) capacity bookmark n (Some p)) (elsewhere : IsElsewhere p hs bookmark n) where
-    kept_cut : AreKept eq hash (bare cut_moved.held.before ++ bare_node cut_moved.held.node ∷ bare cut_moved.held.after) capacity bookmark n (Some p)
-    kept_cut = subst (λ us. AreKept eq hash us capacity bookmark n (Some p)) bare_cut kept
+  module _ {eq : K → K → Bool} (laws : IsEquivalence eq) {hash : K → ℕ} {capacity : ℕ} {visit : VisitState} (kept : AreKept eq hash (bare hs) capacity visit) (is : visit.current ≡ Some p) (elsewhere : IsElsewhere p hs visit.bookmark visit.unvisited) where
+    kept_cut : AreKept eq hash (bare cut_moved.held.before ++ bare_node cut_moved.held.node ∷ bare cut_moved.held.after) capacity visit
+    kept_cut = subst (λ us. AreKept eq hash us capacity visit) bare_cut kept
 
-    clear : IsClear (bare cut_moved.held.before) (bare_node cut_moved.held.node) (bare cut_moved.held.after) bookmark n
-    clear = clear-elsewhere p hs bookmark n cut_moved.held.before cut_moved.held.node cut_moved.held.after bare_cut cut_moved.long elsewhere
+    clear : IsClear (bare cut_moved.held.before) (bare_node cut_moved.held.node) (bare cut_moved.held.after) visit.bookmark visit.unvisited
+    clear = clear-elsewhere p hs visit.bookmark visit.unvisited cut_moved.held.before cut_moved.held.node cut_moved.held.after bare_cut cut_moved.long elsewhere
 
-    pub AreKept-moved : AreKept eq hash (bare ks) capacity bookmark n (Some p)
+    pub AreKept-moved : AreKept eq hash (bare ks) capacity visit
     AreKept-moved =
         let h = cut_moved.held in
-        subst (λ us. AreKept eq hash us capacity bookmark n (Some p)) (sym bare_moved) (AreKept-to_back laws (bare h.before) (bare_node h.node) (bare h.after) kept_cut clear h.at_is)
+        subst (λ us. AreKept eq hash us capacity visit) (sym bare_moved) (AreKept-to_back laws (bare h.before) (bare_node h.node) (bare h.after) kept_cut is clear h.at_is)
 
-    pub to_visit-moved : take n (drop (bookmark_at bookmark (bare ks)) (keys_of (pairs_of ks))) ≡ take n (drop (bookmark_at bookmark (bare hs)) (keys_of (pairs_of hs)))
+    pub to_visit-moved : take visit.unvisited (drop (bookmark_at visit.bookmark (bare ks)) (keys_of (pairs_of ks))) ≡ take visit.unvisited (drop (bookmark_at visit.bookmark (bare hs)) (keys_of (pairs_of hs)))
     to_visit-moved =
         let h = cut_moved.held in
-        ap (λ ys. take n (drop (bookmark_at bookmark (bare ks)) ys)) (sym (keys-bare ks))
-        ∙ ap (λ us. take n (drop (bookmark_at bookmark us) (map (λ u. u.pair) us))) bare_moved
-        ∙ to_visit-back laws (bare h.before) (bare_node h.node) (bare h.after) kept_cut clear
-        ∙ ap (λ us. take n (drop (bookmark_at bookmark us) (map (λ u. u.pair) us))) (sym bare_cut)
-        ∙ ap (λ ys. take n (drop (bookmark_at bookmark (bare hs)) ys)) (keys-bare hs)
+        ap (λ ys. take visit.unvisited (drop (bookmark_at visit.bookmark (bare ks)) ys)) (sym (keys-bare ks))
+        ∙ ap (λ us. take visit.unvisited (drop (bookmark_at visit.bookmark us) (map (λ u. u.pair) us))) bare_moved
+        ∙ to_visit-back laws (bare h.before) (bare_node h.node) (bare h.after) kept_cut is clear
+        ∙ ap (λ us. take visit.unvisited (drop (bookmark_at visit.bookmark us) (map (λ u. u.pair) us))) (sym bare_cut)
+        ∙ ap (λ ys. take visit.unvisited (drop (bookmark_at visit.bookmark (bare hs)) ys)) (keys-bare hs)
 
-    pub behind-moved : IsApart (map (λ t. t.at) hs) → bookmark_at bookmark (bare ks) + n ≤ before p ks
+    pub behind-moved : IsApart (map (λ t. t.at) hs) → bookmark_at visit.bookmark (bare ks) + visit.unvisited ≤ before p ks
     behind-moved apart =
         let h = cut_moved.held in
         let index = before-moved apart in
@@ -149,6 +149,6 @@ module _ {K V : Type 0} (hs ks : List (Held (K × V))) {p : Ptr} (last : AtHeld 
         let of_bare = length-append (bare h.before) (bare h.after) in
         let of_front = length-map h.before bare_node in
         let of_back = length-map h.after bare_node in
-        let same_bookmark = ap (bookmark_at bookmark) bare_moved in
-        let behind = behind-back laws (bare h.before) (bare_node h.node) (bare h.after) kept_cut clear in
+        let same_bookmark = ap (bookmark_at visit.bookmark) bare_moved in
+        let behind = behind-back laws (bare h.before) (bare_node h.node) (bare h.after) kept_cut is clear in
         omega (arith, index, of_rest, of_bare, of_front, of_back, same_bookmark, behind)

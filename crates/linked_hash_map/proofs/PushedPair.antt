@@ -12,7 +12,7 @@ use Rattle.lhm_ring.specs.RingState.{Held, held}
 use Rattle.lhm_ring.specs.RingAfterLoan.{pair}
 use Rattle.lhm_ring.specs.Tables.{TableState}
 use Rattle.lhm_ring.proofs.Rows.{AllByRecursion-append}
-use Rattle.linked_hash_map.specs.Nodes.{AreKept, IsKept, Lies, pairs_of, bare, bare_node, before, bookmark_at, current_at}
+use Rattle.linked_hash_map.specs.Nodes.{VisitState, AreKept, IsKept, Lies, pairs_of, bare, bare_node, before, bookmark_at, current_at}
 use Rattle.linked_hash_map.specs.Pairs.{find}
 use Rattle.linked_hash_map.proofs.Kept.{length-bare, keys-bare, pairs_of-append}
 use Rattle.linked_hash_map.proofs.Pairs.{list_any-none}
@@ -37,19 +37,19 @@ module _ {B : Type 0} where
   lies-append (Some p) us vs h = let same = before-append p us vs h in let long = length-append us vs in omega (arith, same, long, h)
 
 -- one node more, the last
-module _ {K : Type 0} {eq : K → K → Bool} {hash : K → ℕ} {us : List (Held K)} {capacity : ℕ} {bookmark : Option Ptr} {n : ℕ} {current : Option Ptr} (k : AreKept eq hash us capacity bookmark n current) where
-  pub bookmark_at-append : (vs : List (Held K)) → bookmark_at bookmark (us ++ vs) ≡ bookmark_at bookmark us
-  bookmark_at-append vs = by_bookmark bookmark k.ended k.in_reach
+module _ {K : Type 0} {eq : K → K → Bool} {hash : K → ℕ} {us : List (Held K)} {capacity : ℕ} {visit : VisitState} (k : AreKept eq hash us capacity visit) where
+  pub bookmark_at-append : (vs : List (Held K)) → bookmark_at visit.bookmark (us ++ vs) ≡ bookmark_at visit.bookmark us
+  bookmark_at-append vs = by_bookmark visit.bookmark k.ended k.in_reach
     where
-      by_bookmark : (o : Option Ptr) → (n ≡ 0 → o ≡ None) → bookmark_at o us + n ≤ length us → bookmark_at o (us ++ vs) ≡ bookmark_at o us
+      by_bookmark : (o : Option Ptr) → (visit.unvisited ≡ 0 → o ≡ None) → bookmark_at o us + visit.unvisited ≤ length us → bookmark_at o (us ++ vs) ≡ bookmark_at o us
       by_bookmark None ended reach = refl
-      by_bookmark (Some p) ended reach = before-append p us vs (by_count n ended reach)
+      by_bookmark (Some p) ended reach = before-append p us vs (by_count visit.unvisited ended reach)
         where
           by_count : (m : ℕ) → (m ≡ 0 → Some p ≡ None) → before p us + m ≤ length us → before p us < length us
           by_count zero e r = absurd (true≢false (ap is_some (e refl)))
           by_count (suc m) e r = omega (arith, r)
 
-  pub AreKept-push : IsEquivalence eq → (u : Held K) → u.hash ≡ hash u.pair → list_any (eq u.pair) (map (λ t. t.pair) us) ≡ false → length us < capacity → AreKept eq hash (us ++ u ∷ []) capacity bookmark n current
+  pub AreKept-push : IsEquivalence eq → (u : Held K) → u.hash ≡ hash u.pair → list_any (eq u.pair) (map (λ t. t.pair) us) ≡ false → length us < capacity → AreKept eq hash (us ++ u ∷ []) capacity visit
   AreKept-push laws u hashed absent room =
       let long = length-append us (u ∷ []) in
       let bookmark_stands = bookmark_at-append (u ∷ []) in
@@ -61,7 +61,7 @@ module _ {K : Type 0} {eq : K → K → Bool} {hash : K → ℕ} {us : List (Hel
         bookmarked = k.bookmarked;
         ended = k.ended;
         in_reach = omega (arith, long, bookmark_stands, k.in_reach);
-        current_lies = lies-append current us (u ∷ []) k.current_lies;
+        current_lies = lies-append visit.current us (u ∷ []) k.current_lies;
       }
 
 -- a pair was put at the back
@@ -72,32 +72,32 @@ module _ {K V : Type 0} (s t : TableState (K × V)) (p : Ptr) (hash : ℕ) (key 
   bare-push : bare t.held ≡ bare s.held ++ held p hash None key ∷ []
   bare-push = ap bare last ∙ map-append (bare_node {K = K} {V = V}) s.held (held p hash None (pair key value) ∷ [])
 
-module _ {K V : Type 0} {eq : K → K → Bool} {hash : K → ℕ} {s : TableState (K × V)} {bookmark : Option Ptr} {n : ℕ} {current : Option Ptr} (kept : IsKept eq hash s bookmark n current) (p : Ptr) (hash_key : ℕ) (key : K) (value : V) (t : TableState (K × V)) (last : t.held ≡ s.held ++ held p hash_key None (pair key value) ∷ []) where
+module _ {K V : Type 0} {eq : K → K → Bool} {hash : K → ℕ} {s : TableState (K × V)} {visit : VisitState} (kept : IsKept eq hash s visit) (p : Ptr) (hash_key : ℕ) (key : K) (value : V) (t : TableState (K × V)) (last : t.held ≡ s.held ++ held p hash_key None (pair key value) ∷ []) where
   bare_is : bare t.held ≡ bare s.held ++ held p hash_key None key ∷ []
   bare_is = bare-push s t p hash_key key value last
 
-  pub bookmark_at-push : bookmark_at bookmark (bare t.held) ≡ bookmark_at bookmark (bare s.held)
-  bookmark_at-push = ap (bookmark_at bookmark) bare_is ∙ bookmark_at-append kept.nodes (held p hash_key None key ∷ [])
+  pub bookmark_at-push : bookmark_at visit.bookmark (bare t.held) ≡ bookmark_at visit.bookmark (bare s.held)
+  bookmark_at-push = ap (bookmark_at visit.bookmark) bare_is ∙ bookmark_at-append kept.nodes (held p hash_key None key ∷ [])
 
   -- what is still to be visited ends before it
-  pub to_visit-push : take n (drop (bookmark_at bookmark (bare t.held)) (keys_of (pairs_of t.held))) ≡ take n (drop (bookmark_at bookmark (bare s.held)) (keys_of (pairs_of s.held)))
+  pub to_visit-push : take visit.unvisited (drop (bookmark_at visit.bookmark (bare t.held)) (keys_of (pairs_of t.held))) ≡ take visit.unvisited (drop (bookmark_at visit.bookmark (bare s.held)) (keys_of (pairs_of s.held)))
   to_visit-push =
       let keys = λ (us : List (Held K)). map (λ u. u.pair) us in
       let long = length-map (bare s.held) (λ u. u.pair) in
-      ap (λ ks. take n (drop (bookmark_at bookmark (bare t.held)) ks)) (sym (keys-bare t.held))
-      ∙ (λ i. take n (drop (bookmark_at-push i) (keys (bare_is i))))
-      ∙ ap (λ ks. take n (drop (bookmark_at bookmark (bare s.held)) ks)) (map-append (λ (u : Held K). u.pair) (bare s.held) (held p hash_key None key ∷ []))
-      ∙ stretch-front (keys (bare s.held)) (key ∷ []) (bookmark_at bookmark (bare s.held)) n (omega (arith, long, kept.nodes.in_reach))
-      ∙ ap (λ ks. take n (drop (bookmark_at bookmark (bare s.held)) ks)) (keys-bare s.held)
+      ap (λ ks. take visit.unvisited (drop (bookmark_at visit.bookmark (bare t.held)) ks)) (sym (keys-bare t.held))
+      ∙ (λ i. take visit.unvisited (drop (bookmark_at-push i) (keys (bare_is i))))
+      ∙ ap (λ ks. take visit.unvisited (drop (bookmark_at visit.bookmark (bare s.held)) ks)) (map-append (λ (u : Held K). u.pair) (bare s.held) (held p hash_key None key ∷ []))
+      ∙ stretch-front (keys (bare s.held)) (key ∷ []) (bookmark_at visit.bookmark (bare s.held)) visit.unvisited (omega (arith, long, kept.nodes.in_reach))
+      ∙ ap (λ ks. take visit.unvisited (drop (bookmark_at visit.bookmark (bare s.held)) ks)) (keys-bare s.held)
 
-  pub current_at-push : current_at current (bare t.held) ≡ current_at current (bare s.held)
-  current_at-push = ap (current_at current) bare_is ∙ current_at-append current (bare s.held) (held p hash_key None key ∷ []) kept.nodes.current_lies
+  pub current_at-push : current_at visit.current (bare t.held) ≡ current_at visit.current (bare s.held)
+  current_at-push = ap (current_at visit.current) bare_is ∙ current_at-append visit.current (bare s.held) (held p hash_key None key ∷ []) kept.nodes.current_lies
 
-  pub IsKept-push : IsEquivalence eq → hash_key ≡ hash key → find eq (pairs_of s.held) key ≡ None → length s.held < s.capacity → t.capacity ≡ s.capacity → IsKept eq hash t bookmark n current
+  pub IsKept-push : IsEquivalence eq → hash_key ≡ hash key → find eq (pairs_of s.held) key ≡ None → length s.held < s.capacity → t.capacity ≡ s.capacity → IsKept eq hash t visit
   IsKept-push laws hashed absent room capacity =
       let of_bare = length-bare s.held in
       let none : list_any (eq key) (map (λ u. u.pair) (bare s.held)) ≡ false = ap (list_any (eq key)) (keys-bare s.held) ∙ list_any-none (eq key) (pairs_of s.held) absent in
-      let grown : AreKept eq hash (bare s.held ++ held p hash_key None key ∷ []) s.capacity bookmark n current = AreKept-push kept.nodes laws (held p hash_key None key) hashed none (omega (arith, of_bare, room)) in
+      let grown : AreKept eq hash (bare s.held ++ held p hash_key None key ∷ []) s.capacity visit = AreKept-push kept.nodes laws (held p hash_key None key) hashed none (omega (arith, of_bare, room)) in
       record {
-        nodes = subst (λ us. AreKept eq hash us t.capacity bookmark n current) (sym bare_is) (subst (λ m. AreKept eq hash (bare s.held ++ held p hash_key None key ∷ []) m bookmark n current) (sym capacity) grown);
+        nodes = subst (λ us. AreKept eq hash us t.capacity visit) (sym bare_is) (subst (λ m. AreKept eq hash (bare s.held ++ held p hash_key None key ∷ []) m visit) (sym capacity) grown);
       }

@@ -1,5 +1,5 @@
 -- The pair at a position, once it is moved by a mode and its value is written.
-use Rattle.std.proofs.Common.{◌≡◌, ℕ, ◌+◌, ◌-◌, ◌<◌, ◌≤◌, ◌⊎◌, inr, Bool, List, [], ◌∷◌, ◌++◌, map, length, take, drop, slice_get, remove, Option, Some, None, option_map, refl, sym, ap, ◌∙◌, subst, arith}
+use Rattle.std.proofs.Common.{◌≡◌, ℕ, ◌+◌, ◌-◌, ◌<◌, ◌≤◌, ◌⊎◌, inr, Bool, List, [], ◌∷◌, ◌++◌, map, length, take, drop, slice_get, remove, Some, None, option_map, refl, sym, ap, ◌∙◌, subst, arith}
 use Rattle.std.specs.List.{IsDistinct}
 use Rattle.std.specs.Map.{keys_of}
 use Rattle.std.specs.Cmp.{IsEquivalence}
@@ -11,7 +11,7 @@ use Rattle.lhm_ring.specs.Tables.{TableState, WritesOnly}
 use Rattle.lhm_ring.specs.TableAfterLoan.{with_value}
 use Rattle.linked_hash_map.specs.declared.map.Mode.{Mode}
 use Rattle.linked_hash_map.specs.declared.map.Mode.TheVariants.{Touch, Keep}
-use Rattle.linked_hash_map.specs.Nodes.{pairs_of, bare, before, bookmark_at, current_at, AreKept, IsKept}
+use Rattle.linked_hash_map.specs.Nodes.{VisitState, no_visit, pairs_of, bare, before, bookmark_at, current_at, AreKept, IsKept}
 use Rattle.linked_hash_map.specs.Pairs.{value_at, put}
 use Rattle.linked_hash_map.specs.Indexes.{IsIndex, set_value_at}
 use Rattle.linked_hash_map.specs.Touches.{IsTouched}
@@ -19,7 +19,7 @@ use Rattle.linked_hash_map.proofs.EntryFacts.{slice_get-set_value_at}
 use Rattle.linked_hash_map.proofs.Pairs.{put-present}
 use Rattle.linked_hash_map.proofs.Indexes.{length-others, set_value_at-pushed, slice_get-pushed, set_value-index, is_some-index, to_back-index, value_at-slice_get}
 use Rattle.linked_hash_map.proofs.Kept.{CutAt, cut_before, bare-change, before-bare, keys-bare, length-pairs_of, length-same, pair_there, pairs_set}
-use Rattle.linked_hash_map.proofs.Current.{current_at-Some, current_lies, current_nodes, IsKept-visited, IsKept-with_value}
+use Rattle.linked_hash_map.proofs.Current.{current_at-Some, current_lies, IsKept-visited, IsKept-with_value}
 use Rattle.linked_hash_map.proofs.MovedNode.{pairs-moved, length-to_back, before-at_back, AreKept-moved, to_visit-moved, behind-moved}
 use Rattle.linked_hash_map.proofs.Outside.{IsElsewhere}
 
@@ -84,50 +84,49 @@ module _ {K V : Type 0} (hs ks : List (Held (K × V))) (p : Ptr) (lies : before 
     value_at-touched mode touched at = sym (value_at-slice_get laws distinct index ∙ value-touched mode touched at)
 
 -- the current pair is none of those to visit
-abbrev pub IsOutsideAt : {K : Type 0} → Option Ptr → Option Ptr → ℕ → List (Held K) → Type 0
-IsOutsideAt current bookmark n us = (current_at current us < bookmark_at bookmark us) ⊎ (bookmark_at bookmark us + n ≤ current_at current us)
+abbrev pub IsOutsideAt : {K : Type 0} → VisitState → List (Held K) → Type 0
+IsOutsideAt visit us = (current_at visit.current us < bookmark_at visit.bookmark us) ⊎ (bookmark_at visit.bookmark us + visit.unvisited ≤ current_at visit.current us)
 
 -- the same pairs in the same capacity
-IsKept-same : {K V : Type 0} {eq : K → K → Bool} {hash : K → ℕ} {s t : TableState (K × V)} {bookmark current : Option Ptr} {n : ℕ} → IsKept eq hash s bookmark n current → t.held ≡ s.held → t.capacity ≡ s.capacity → IsKept eq hash t bookmark n current
-IsKept-same {eq = eq} {hash = hash} {s = s} {t = t} {bookmark = bookmark} {current = current} {n = n} kept same capacity = record {
-  nodes = subst (λ us. AreKept eq hash us t.capacity bookmark n current) (sym (ap bare same))
-      (subst (λ k. AreKept eq hash (bare s.held) k bookmark n current) (sym capacity) kept.nodes);
+IsKept-same : {K V : Type 0} {eq : K → K → Bool} {hash : K → ℕ} {s t : TableState (K × V)} {visit : VisitState} → IsKept eq hash s visit → t.held ≡ s.held → t.capacity ≡ s.capacity → IsKept eq hash t visit
+IsKept-same {eq = eq} {hash = hash} {s = s} {t = t} {visit = visit} kept same capacity = record {
+  nodes = subst (λ us. AreKept eq hash us t.capacity visit) (sym (ap bare same))
+      (subst (λ k. AreKept eq hash (bare s.held) k visit) (sym capacity) kept.nodes);
 }
 
 -- the current pair, which is none of those to visit
-module _ {K V : Type 0} {eq : K → K → Bool} (laws : IsEquivalence eq) {hash : K → ℕ} {s : TableState (K × V)} (t : TableState (K × V)) {bookmark current : Option Ptr} {n : ℕ} {p : Ptr} (kept : IsKept eq hash s bookmark n current) (is : current ≡ Some p) (elsewhere : IsElsewhere p s.held bookmark n) where
-  IsKept-touched : (mode : Mode) → IsTouched mode p s.held t.held → t.capacity ≡ s.capacity → IsKept eq hash t bookmark n current
+module _ {K V : Type 0} {eq : K → K → Bool} (laws : IsEquivalence eq) {hash : K → ℕ} {s : TableState (K × V)} (t : TableState (K × V)) {visit : VisitState} {p : Ptr} (kept : IsKept eq hash s visit) (is : visit.current ≡ Some p) (elsewhere : IsElsewhere p s.held visit.bookmark visit.unvisited) where
+  IsKept-touched : (mode : Mode) → IsTouched mode p s.held t.held → t.capacity ≡ s.capacity → IsKept eq hash t visit
   IsKept-touched Touch moved capacity = record {
-    nodes = subst (λ o. AreKept eq hash (bare t.held) t.capacity bookmark n o) (sym is)
-        (subst (λ k. AreKept eq hash (bare t.held) k bookmark n (Some p)) (sym capacity) (AreKept-moved s.held t.held moved.0 (current_lies kept is) laws (current_nodes kept is) elsewhere));
+    nodes = subst (λ k. AreKept eq hash (bare t.held) k visit) (sym capacity) (AreKept-moved s.held t.held moved.0 (current_lies kept is) laws kept.nodes is elsewhere);
   }
   IsKept-touched Keep same capacity = IsKept-same kept same capacity
 
-  pub IsKept-put_current : (mode : Mode) → IsTouched mode p s.held t.held → t.capacity ≡ s.capacity → (w : V) → IsKept eq hash (with_value t p w) bookmark n current
+  pub IsKept-put_current : (mode : Mode) → IsTouched mode p s.held t.held → t.capacity ≡ s.capacity → (w : V) → IsKept eq hash (with_value t p w) visit
   IsKept-put_current mode touched capacity w = IsKept-with_value (IsKept-touched mode touched capacity) p w
 
-  to_visit-touched : (mode : Mode) → IsTouched mode p s.held t.held → take n (drop (bookmark_at bookmark (bare t.held)) (keys_of (pairs_of t.held))) ≡ take n (drop (bookmark_at bookmark (bare s.held)) (keys_of (pairs_of s.held)))
-  to_visit-touched Touch moved = to_visit-moved s.held t.held moved.0 (current_lies kept is) laws (current_nodes kept is) elsewhere
-  to_visit-touched Keep same = ap (λ (ns : List (Held (K × V))). take n (drop (bookmark_at bookmark (bare ns)) (keys_of (pairs_of ns)))) same
+  to_visit-touched : (mode : Mode) → IsTouched mode p s.held t.held → take visit.unvisited (drop (bookmark_at visit.bookmark (bare t.held)) (keys_of (pairs_of t.held))) ≡ take visit.unvisited (drop (bookmark_at visit.bookmark (bare s.held)) (keys_of (pairs_of s.held)))
+  to_visit-touched Touch moved = to_visit-moved s.held t.held moved.0 (current_lies kept is) laws kept.nodes is elsewhere
+  to_visit-touched Keep same = ap (λ (ns : List (Held (K × V))). take visit.unvisited (drop (bookmark_at visit.bookmark (bare ns)) (keys_of (pairs_of ns)))) same
 
-  pub to_visit-put : (mode : Mode) → IsTouched mode p s.held t.held → (w : V) → take n (drop (bookmark_at bookmark (bare (change_at p (revalued w) t.held))) (keys_of (pairs_of (change_at p (revalued w) t.held)))) ≡ take n (drop (bookmark_at bookmark (bare s.held)) (keys_of (pairs_of s.held)))
+  pub to_visit-put : (mode : Mode) → IsTouched mode p s.held t.held → (w : V) → take visit.unvisited (drop (bookmark_at visit.bookmark (bare (change_at p (revalued w) t.held))) (keys_of (pairs_of (change_at p (revalued w) t.held)))) ≡ take visit.unvisited (drop (bookmark_at visit.bookmark (bare s.held)) (keys_of (pairs_of s.held)))
   to_visit-put mode touched w =
       let ls = change_at p (revalued w) t.held in
-      ap (λ ks. take n (drop (bookmark_at bookmark (bare ls)) ks)) (sym (keys-bare ls))
-      ∙ ap (λ (us : List (Held K)). take n (drop (bookmark_at bookmark us) (map (λ u. u.pair) us))) (bare-change p w t.held)
-      ∙ ap (λ ks. take n (drop (bookmark_at bookmark (bare t.held)) ks)) (keys-bare t.held)
+      ap (λ ks. take visit.unvisited (drop (bookmark_at visit.bookmark (bare ls)) ks)) (sym (keys-bare ls))
+      ∙ ap (λ (us : List (Held K)). take visit.unvisited (drop (bookmark_at visit.bookmark us) (map (λ u. u.pair) us))) (bare-change p w t.held)
+      ∙ ap (λ ks. take visit.unvisited (drop (bookmark_at visit.bookmark (bare t.held)) ks)) (keys-bare t.held)
       ∙ to_visit-touched mode touched
 
-  elsewhere-touched : (mode : Mode) → IsTouched mode p s.held t.held → IsElsewhere p t.held bookmark n
-  elsewhere-touched Touch moved = inr (behind-moved s.held t.held moved.0 (current_lies kept is) laws (current_nodes kept is) elsewhere moved.1)
-  elsewhere-touched Keep same = subst (λ (ns : List (Held (K × V))). IsElsewhere p ns bookmark n) (sym same) elsewhere
+  elsewhere-touched : (mode : Mode) → IsTouched mode p s.held t.held → IsElsewhere p t.held visit.bookmark visit.unvisited
+  elsewhere-touched Touch moved = inr (behind-moved s.held t.held moved.0 (current_lies kept is) laws kept.nodes is elsewhere moved.1)
+  elsewhere-touched Keep same = subst (λ (ns : List (Held (K × V))). IsElsewhere p ns visit.bookmark visit.unvisited) (sym same) elsewhere
 
-  pub outside-put : (mode : Mode) → IsTouched mode p s.held t.held → (w : V) → IsOutsideAt current bookmark n (bare (change_at p (revalued w) t.held))
+  pub outside-put : (mode : Mode) → IsTouched mode p s.held t.held → (w : V) → IsOutsideAt visit (bare (change_at p (revalued w) t.held))
   outside-put mode touched w =
-      subst (λ (us : List (Held K)). IsOutsideAt current bookmark n us) (sym (bare-change p w t.held))
-      (subst (λ k. (k < bookmark_at bookmark (bare t.held)) ⊎ (bookmark_at bookmark (bare t.held) + n ≤ k)) (sym (current_at-Some is t.held)) (elsewhere-touched mode touched))
+      subst (λ (us : List (Held K)). IsOutsideAt visit us) (sym (bare-change p w t.held))
+      (subst (λ k. (k < bookmark_at visit.bookmark (bare t.held)) ⊎ (bookmark_at visit.bookmark (bare t.held) + visit.unvisited ≤ k)) (sym (current_at-Some is t.held)) (elsewhere-touched mode touched))
 
 -- with nothing to visit, and no current pair
-pub IsKept-put : {K V : Type 0} {eq : K → K → Bool} → IsEquivalence eq → {hash : K → ℕ} {s : TableState (K × V)} (t : TableState (K × V)) {bookmark current : Option Ptr} {n : ℕ} (p : Ptr) → IsKept eq hash s bookmark n current → before p (bare s.held) < length (bare s.held) → (mode : Mode) → IsTouched mode p s.held t.held → t.capacity ≡ s.capacity → (w : V) → IsKept eq hash (with_value t p w) None 0 None
+pub IsKept-put : {K V : Type 0} {eq : K → K → Bool} → IsEquivalence eq → {hash : K → ℕ} {s : TableState (K × V)} (t : TableState (K × V)) {visit : VisitState} (p : Ptr) → IsKept eq hash s visit → before p (bare s.held) < length (bare s.held) → (mode : Mode) → IsTouched mode p s.held t.held → t.capacity ≡ s.capacity → (w : V) → IsKept eq hash (with_value t p w) no_visit
 IsKept-put laws t p kept lies mode touched capacity w =
     IsKept-visited (IsKept-put_current laws t (IsKept-visited kept (Some p) lies) refl (inr (omega arith)) mode touched capacity w) None tt

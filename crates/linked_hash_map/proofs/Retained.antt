@@ -1,14 +1,13 @@
 -- The map once a closure has gone over its pairs and kept some.
-use Rattle.std.proofs.Common.{◌≡◌, ℕ, ◌≤◌, inl, inr, Bool, true, false, cond, List, [], ◌∷◌, map, length, Option, None, refl, sym, ap, ◌∙◌, subst, arith}
+use Rattle.std.proofs.Common.{◌≡◌, ℕ, ◌≤◌, inl, inr, Bool, true, false, cond, List, [], ◌∷◌, map, length, refl, sym, ap, ◌∙◌, subst, arith}
 use Rattle.std.specs.List.{IsDistinct, AllByRecursion}
 use Rattle.std.specs.Map.{keys_of}
 use Rattle.std.specs.Map.Calls.{RetainsPairs}
-use denote.RawPtr.{Ptr}
 use Rattle.lhm_ring.specs.RingState.{Held}
 use Rattle.lhm_ring.specs.RingAfterLoan.{revalued}
 use Rattle.lhm_ring.specs.Tables.{TableState}
 use Rattle.lhm_ring.specs.Retains.{RetainsHeld}
-use Rattle.linked_hash_map.specs.Nodes.{pairs_of, bare, bare_node, IsKept}
+use Rattle.linked_hash_map.specs.Nodes.{VisitState, no_visit, pairs_of, bare, bare_node, IsKept}
 use Rattle.linked_hash_map.specs.Retains.{IsSublist}
 use Rattle.linked_hash_map.proofs.Kept.{keys-bare, length-bare, length-pairs_of}
 
@@ -71,8 +70,8 @@ module _ {K V : Type 0} (hs ks : List (Held (K × V))) (some : IsSublist (bare k
       omega (arith, few, of_ks, of_hs, as_many, as_many_hs)
 
 -- some of the nodes are kept as all were, if nothing is to be visited
-pub IsKept-some : {K V : Type 0} {eq : K → K → Bool} {hash : K → ℕ} {s t : TableState (K × V)} {bookmark current : Option Ptr} {n : ℕ} → IsKept eq hash s bookmark n current → IsSublist (bare t.held) (bare s.held) → t.capacity ≡ s.capacity
-    → IsKept eq hash t None 0 None
+pub IsKept-some : {K V : Type 0} {eq : K → K → Bool} {hash : K → ℕ} {s t : TableState (K × V)} {visit : VisitState} → IsKept eq hash s visit → IsSublist (bare t.held) (bare s.held) → t.capacity ≡ s.capacity
+    → IsKept eq hash t no_visit
 IsKept-some {K} {V} {eq} {hash} {s} {t} kept some capacity =
     let k = kept.nodes in
     let few = length-sublist (bare t.held) (bare s.held) some in

@@ -1,5 +1,5 @@
 -- A pair that is removed.
-use Rattle.std.proofs.Common.{◌≡◌, ℕ, ◌<◌, inr, Bool, List, ◌∷◌, ◌++◌, map, length, take, drop, slice_get, remove, Option, Some, None, sym, ap, ◌∙◌, subst, arith, length-append}
+use Rattle.std.proofs.Common.{◌≡◌, ℕ, ◌<◌, inr, Bool, List, ◌∷◌, ◌++◌, map, length, take, drop, slice_get, remove, Some, None, sym, ap, ◌∙◌, subst, arith, length-append}
 use Rattle.std.specs.List.{IsDistinct}
 use Rattle.std.specs.Map.{keys_of}
 use Rattle.std.proofs.lemmas.List.{map-append}
@@ -7,7 +7,7 @@ use denote.RawPtr.{Ptr}
 use Rattle.lhm_ring.specs.RingState.{Held, AtHeld}
 use Rattle.lhm_ring.specs.Tables.{TableState}
 use Rattle.lhm_ring.proofs.Rows.{AllByRecursion-removed}
-use Rattle.linked_hash_map.specs.Nodes.{pairs_of, bare, bare_node, before, bookmark_at, AreKept, IsKept}
+use Rattle.linked_hash_map.specs.Nodes.{VisitState, no_visit, pairs_of, bare, bare_node, before, bookmark_at, AreKept, IsKept}
 use Rattle.linked_hash_map.proofs.DistinctLists.{distinct_removed}
 use Rattle.linked_hash_map.proofs.Kept.{CutAt, cut_before, keys-bare, remove-cut, pair_there, pairs_removed}
 use Rattle.linked_hash_map.proofs.Current.{IsKept-visited}
@@ -18,13 +18,13 @@ pub distinct-out : {K : Type 0} (eq : K → K → Bool) (xs : List K) (x : K) (y
 distinct-out eq xs x ys h = subst (IsDistinct eq) (remove-cut xs x ys) (distinct_removed eq (xs ++ x ∷ ys) (length xs) h)
 
 -- the nodes without one that is not to be visited, which is spare
-module _ {K : Type 0} {eq : K → K → Bool} {hash : K → ℕ} (front : List (Held K)) (u : Held K) (back : List (Held K)) {capacity n : ℕ} {bookmark current : Option Ptr} (kept : AreKept eq hash (front ++ u ∷ back) capacity bookmark n current) (clear : IsClear front u back bookmark n) where
+module _ {K : Type 0} {eq : K → K → Bool} {hash : K → ℕ} (front : List (Held K)) (u : Held K) (back : List (Held K)) {capacity : ℕ} {visit : VisitState} (kept : AreKept eq hash (front ++ u ∷ back) capacity visit) (clear : IsClear front u back visit.bookmark visit.unvisited) where
   pub distinct_keys-out : IsDistinct eq (map (λ t. t.pair) (front ++ back))
   distinct_keys-out =
       subst (IsDistinct eq) (sym (map-append (λ (t : Held K). t.pair) front back))
       (distinct-out eq (map (λ t. t.pair) front) u.pair (map (λ t. t.pair) back) (subst (IsDistinct eq) (map-append (λ (t : Held K). t.pair) front (u ∷ back)) kept.distinct))
 
-  pub AreKept-out : AreKept eq hash (front ++ back) capacity bookmark n None
+  pub AreKept-out : AreKept eq hash (front ++ back) capacity (record visit { current = None })
   AreKept-out =
       let of_all = length-append front (u ∷ back) in
       let of_rest = length-append front back in
@@ -35,7 +35,7 @@ module _ {K : Type 0} {eq : K → K → Bool} {hash : K → ℕ} (front : List (
         limit = kept.limit;
         bookmarked = kept.bookmarked;
         ended = kept.ended;
-        in_reach = in_reach-out front u back bookmark n kept.bookmarked kept.ended kept.in_reach clear;
+        in_reach = in_reach-out front u back visit.bookmark visit.unvisited kept.bookmarked kept.ended kept.in_reach clear;
         current_lies = tt;
       }
 
@@ -63,26 +63,26 @@ module _ {K V : Type 0} (hs ws : List (Held (K × V))) {p : Ptr} (others : AtHel
   bare_rest = ap bare rest ∙ map-append bare_node cut_removed.held.before cut_removed.held.after
 
   -- the node is none of those that are still to be visited
-  module _ (bookmark : Option Ptr) (n : ℕ) (elsewhere : IsElsewhere p hs bookmark n) where
-    clear : IsClear (bare cut_removed.held.before) (bare_node cut_removed.held.node) (bare cut_removed.held.after) bookmark n
-    clear = clear-elsewhere p hs bookmark n cut_removed.held.before cut_removed.held.node cut_removed.held.after bare_cut cut_removed.long elsewhere
+  module _ (visit : VisitState) (elsewhere : IsElsewhere p hs visit.bookmark visit.unvisited) where
+    clear : IsClear (bare cut_removed.held.before) (bare_node cut_removed.held.node) (bare cut_removed.held.after) visit.bookmark visit.unvisited
+    clear = clear-elsewhere p hs visit.bookmark visit.unvisited cut_removed.held.before cut_removed.held.node cut_removed.held.after bare_cut cut_removed.long elsewhere
 
-    pub to_visit-removed : (bookmark ≡ None → n ≡ 0) → take n (drop (bookmark_at bookmark (bare ws)) (keys_of (pairs_of ws))) ≡ take n (drop (bookmark_at bookmark (bare hs)) (keys_of (pairs_of hs)))
+    pub to_visit-removed : (visit.bookmark ≡ None → visit.unvisited ≡ 0) → take visit.unvisited (drop (bookmark_at visit.bookmark (bare ws)) (keys_of (pairs_of ws))) ≡ take visit.unvisited (drop (bookmark_at visit.bookmark (bare hs)) (keys_of (pairs_of hs)))
     to_visit-removed bookmarked =
-        ap (λ ks. take n (drop (bookmark_at bookmark (bare ws)) ks)) (sym (keys-bare ws))
-        ∙ ap (λ us. take n (drop (bookmark_at bookmark us) (map (λ u. u.pair) us))) bare_rest
-        ∙ to_visit-out (bare cut_removed.held.before) (bare_node cut_removed.held.node) (bare cut_removed.held.after) bookmark n bookmarked clear
-        ∙ ap (λ us. take n (drop (bookmark_at bookmark us) (map (λ u. u.pair) us))) (sym bare_cut)
-        ∙ ap (λ ks. take n (drop (bookmark_at bookmark (bare hs)) ks)) (keys-bare hs)
+        ap (λ ks. take visit.unvisited (drop (bookmark_at visit.bookmark (bare ws)) ks)) (sym (keys-bare ws))
+        ∙ ap (λ us. take visit.unvisited (drop (bookmark_at visit.bookmark us) (map (λ u. u.pair) us))) bare_rest
+        ∙ to_visit-out (bare cut_removed.held.before) (bare_node cut_removed.held.node) (bare cut_removed.held.after) visit.bookmark visit.unvisited bookmarked clear
+        ∙ ap (λ us. take visit.unvisited (drop (bookmark_at visit.bookmark us) (map (λ u. u.pair) us))) (sym bare_cut)
+        ∙ ap (λ ks. take visit.unvisited (drop (bookmark_at visit.bookmark (bare hs)) ks)) (keys-bare hs)
 
-    pub AreKept-removed : {eq : K → K → Bool} {hash : K → ℕ} {capacity : ℕ} {current : Option Ptr} → AreKept eq hash (bare hs) capacity bookmark n current → AreKept eq hash (bare ws) capacity bookmark n None
-    AreKept-removed {eq} {hash} {capacity} {current} kept =
+    pub AreKept-removed : {eq : K → K → Bool} {hash : K → ℕ} {capacity : ℕ} → AreKept eq hash (bare hs) capacity visit → AreKept eq hash (bare ws) capacity (record visit { current = None })
+    AreKept-removed {eq} {hash} {capacity} kept =
         let h = cut_removed.held in
-        subst (λ us. AreKept eq hash us capacity bookmark n None) (sym bare_rest)
-        (AreKept-out (bare h.before) (bare_node h.node) (bare h.after) (subst (λ us. AreKept eq hash us capacity bookmark n current) bare_cut kept) clear)
+        subst (λ us. AreKept eq hash us capacity (record visit { current = None })) (sym bare_rest)
+        (AreKept-out (bare h.before) (bare_node h.node) (bare h.after) (subst (λ us. AreKept eq hash us capacity visit) bare_cut kept) clear)
 
 -- and no pair is to be visited, nor is there a current one
-pub IsKept-removed : {K V : Type 0} {eq : K → K → Bool} {hash : K → ℕ} {s w : TableState (K × V)} {bookmark current : Option Ptr} {n : ℕ} {p : Ptr} → IsKept eq hash s bookmark n current → before p s.held < length s.held → AtHeld s.held p (λ xs x ys. w.held ≡ xs ++ ys) → w.capacity ≡ s.capacity → IsKept eq hash w None 0 None
+pub IsKept-removed : {K V : Type 0} {eq : K → K → Bool} {hash : K → ℕ} {s w : TableState (K × V)} {visit : VisitState} {p : Ptr} → IsKept eq hash s visit → before p s.held < length s.held → AtHeld s.held p (λ xs x ys. w.held ≡ xs ++ ys) → w.capacity ≡ s.capacity → IsKept eq hash w no_visit
 IsKept-removed {eq = eq} {hash} {s} {w} kept lies others capacity =
     let cleared = (IsKept-visited kept None tt).nodes in
-    record { nodes = subst (λ k. AreKept eq hash (bare w.held) k None 0 None) (sym capacity) (AreKept-removed s.held w.held others lies None 0 (inr (omega arith)) cleared) }
+    record { nodes = subst (λ k. AreKept eq hash (bare w.held) k no_visit) (sym capacity) (AreKept-removed s.held w.held others lies no_visit (inr (omega arith)) cleared) }

@@ -11,6 +11,15 @@ use Rattle.linked_hash_map.specs.declared.map.Mode.{Mode}
 use Rattle.linked_hash_map.specs.declared.map.TheConstants.{LIMIT}
 use Rattle.linked_hash_map.specs.declared.map.cursor.Visit.{Visit}
 
+-- where a cursor and an entry stand: the next pair to visit, how many are left, and an entry's pair
+pub record VisitState : Type 0 where
+  pub bookmark : Option Ptr
+  pub unvisited : ℕ
+  pub current : Option Ptr
+
+abbrev pub no_visit : VisitState
+no_visit = record { bookmark = None; unvisited = 0; current = None }
+
 module _ {B : Type 0} where
   -- how many nodes come before the one at p: all, if none lies there
   abbrev pub before : Ptr → List (Held B) → ℕ
@@ -28,9 +37,9 @@ module _ {B : Type 0} where
   current_at (Some p) hs = before p hs
 
   -- where a cursor and an entry stand among these nodes
-  abbrev pub cursor_at : Option Ptr → ℕ → Option Ptr → List (Held B) → CursorState
-  cursor_at bookmark unvisited current hs =
-      cursor_state (bookmark_at bookmark hs) unvisited (current_at current hs)
+  abbrev pub cursor_at : VisitState → List (Held B) → CursorState
+  cursor_at visit hs =
+      cursor_state (bookmark_at visit.bookmark hs) visit.unvisited (current_at visit.current hs)
 
   -- if there is a pointer, a node lies there
   abbrev pub Lies : Option Ptr → List (Held B) → Type 0
@@ -55,12 +64,18 @@ module _ {K V : Type 0} where
   abbrev pub current_of : Visit K V → Option Ptr
   current_of visit = cond visit.active (pointer_of_some visit.current) None
 
+  abbrev pub visit_of : Visit K V → VisitState
+  visit_of visit =
+      record {
+        bookmark = bookmark_of visit;
+        unvisited = unvisited_of visit;
+        current = current_of visit;
+      }
+
 -- what a map has beside its table: the hasher, where a cursor and an entry stand, and the mode
 pub record Beside (S : Type 0) : Type 0 where
   pub hasher : S
-  pub bookmark : Option Ptr
-  pub unvisited : ℕ
-  pub current : Option Ptr
+  pub visit : VisitState
   pub mode : Mode
 
 module _ {K V : Type 0} where
@@ -76,36 +91,29 @@ module _ {K V : Type 0} where
   bare = map bare_node
 
   abbrev pub beside : {S : Type 0} → S → Visit K V → Mode → Beside S
-  beside hasher visit mode =
-      record {
-        hasher = hasher;
-        bookmark = bookmark_of visit;
-        unvisited = unvisited_of visit;
-        current = current_of visit;
-        mode = mode;
-      }
+  beside hasher visit mode = record { hasher = hasher; visit = visit_of visit; mode = mode }
 
   -- what a contract sees of a map that keeps its pairs in this table
   abbrev pub map_of : {S : Type 0} → TableState (K × V) → Beside S → LinkedMap K V S
   map_of s b =
-      linked_map (pairs_of s.held) s.capacity b.hasher
-      (cursor_at b.bookmark b.unvisited b.current (bare s.held)) s.rechained b.mode
+      linked_map (pairs_of s.held) s.capacity b.hasher (cursor_at b.visit (bare s.held))
+      s.rechained b.mode
 
 -- no two keys are the same, each stands with its hash, they are within the capacity and that within
 -- the limit; there is a bookmark as long as pairs are unvisited, and these are there from it on;
 -- the pair that an entry stands for is there
 pub record AreKept {K : Type 0} (eq : K → K → Bool) (hash : K → ℕ) (us : List (Held K))
-    (capacity : ℕ) (bookmark : Option Ptr) (unvisited : ℕ) (current : Option Ptr) : Type 0 where
+    (capacity : ℕ) (visit : VisitState) : Type 0 where
   pub distinct : IsDistinct eq (map (λ u. u.pair) us)
   pub hashed : AllByRecursion (λ u. u.hash ≡ hash u.pair) us
   pub within : length us ≤ capacity
   pub limit : capacity ≤ LIMIT
-  pub bookmarked : bookmark ≡ None → unvisited ≡ 0
-  pub ended : unvisited ≡ 0 → bookmark ≡ None
-  pub in_reach : bookmark_at bookmark us + unvisited ≤ length us
-  pub current_lies : Lies current us
+  pub bookmarked : visit.bookmark ≡ None → visit.unvisited ≡ 0
+  pub ended : visit.unvisited ≡ 0 → visit.bookmark ≡ None
+  pub in_reach : bookmark_at visit.bookmark us + visit.unvisited ≤ length us
+  pub current_lies : Lies visit.current us
 
 -- the pairs of a table are kept so
 pub record IsKept {K V : Type 0} (eq : K → K → Bool) (hash : K → ℕ) (s : TableState (K × V))
-    (bookmark : Option Ptr) (unvisited : ℕ) (current : Option Ptr) : Type 0 where
-  pub nodes : AreKept eq hash (bare s.held) s.capacity bookmark unvisited current
+    (visit : VisitState) : Type 0 where
+  pub nodes : AreKept eq hash (bare s.held) s.capacity visit

@@ -121,7 +121,7 @@ impl<K: Eq + Hash + Drop, V: Drop, S: BuildHasher + Drop> Drop for LinkedHashMap
 /// to visit.
 impl<K: Eq + Hash, V, S: BuildHasher> Model for LinkedHashMap<K, V, S> {
     ghost use Rattle.linked_hash_map.specs.LinkedMap.{LinkedMap, linked_map_code};
-    ghost use Rattle.linked_hash_map.specs.Nodes.{IsKept, map_of, beside, bookmark_of, unvisited_of, current_of};
+    ghost use Rattle.linked_hash_map.specs.Nodes.{IsKept, map_of, beside, visit_of};
     ghost use Rattle.linked_hash_map.specs.Hashers.{hash_by};
 
     ghost Value = { LinkedMap K V S };
@@ -132,7 +132,7 @@ impl<K: Eq + Hash, V, S: BuildHasher> Model for LinkedHashMap<K, V, S> {
 
     ghost invariant = { λ m.
         IsKept K.eq (hash_by S.Hasher.finish S.Hasher.write S.build_hasher K.hash_input m.hasher)
-        m.table (bookmark_of m.visit) (unvisited_of m.visit) (current_of m.visit) };
+        m.table (visit_of m.visit) };
 }
 
 impl<K: Eq + Hash, V, S: BuildHasher> LinkedHashMap<K, V, S> {

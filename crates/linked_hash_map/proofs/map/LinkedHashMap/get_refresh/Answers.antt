@@ -1,8 +1,8 @@
-use Rattle.std.proofs.Common.{None, refl, inl, sym}
+use Rattle.std.proofs.Common.{refl, inl, sym}
 use Rattle.lhm_ring.specs.Positions.{pointer_of}
 use Rattle.lhm_ring.specs.Search.{HasKey, IsAbsent}
 use Rattle.linked_hash_map.specs.declared.map.Mode.TheVariants.{Touch}
-use Rattle.linked_hash_map.specs.Nodes.{map_of, beside}
+use Rattle.linked_hash_map.specs.Nodes.{map_of, beside, no_visit}
 use Rattle.linked_hash_map.proofs.Callers.Updates.{Updates-put}
 use Rattle.linked_hash_map.proofs.Kept.{IsValid-view, of-Some, of-None, distinct_keys}
 use Rattle.linked_hash_map.proofs.Current.{key_lies, key_index, found_lies}
@@ -27,7 +27,7 @@ returns-in-Some g c =
     rw (← c.self.view_is) (
       (λ i. inl (
         c.value_mut.result.ghost_name,
-        λ w. record (map_of m.table (record (beside m.hasher m.visit m.mode) { bookmark = None; unvisited = 0; current = None })) {
+        λ w. record (map_of m.table (record (beside m.hasher m.visit m.mode) { visit = no_visit })) {
           pairs = pairs-put c.self.inside.table.held c.move_to_back.new.self.held (pointer_of c.in-Some.at) (key_lies has) g.met.K.Eq.laws (key_index has) distinct Touch (moved.last, moved.apart) c.value_mut.ensures.alone w i;
           capacity = moved.capacity i;
           rechained = moved.rechained i;

@@ -1,7 +1,7 @@
 use Rattle.std.proofs.Common.{take, drop, refl, ap, ◌∙◌}
 use Rattle.std.specs.Map.{keys_of}
 use Rattle.lhm_ring.specs.Tables.{TableState}
-use Rattle.linked_hash_map.specs.Nodes.{bookmark_of, pairs_of, bare, bookmark_at}
+use Rattle.linked_hash_map.specs.Nodes.{bookmark_of, visit_of, pairs_of, bare, bookmark_at}
 use Rattle.linked_hash_map.proofs.Fitted.{IsKept-fitted, to_visit-fitted, pairs_of-triples, bookmarked_lies}
 use Rattle.linked_hash_map.proofs.Kept.{IsValid-view}
 use Rattle.linked_hash_map.proofs.map.LinkedHashMap.shrink_to_fit.Goals as goal
@@ -12,7 +12,7 @@ behind-behind-requires g c = bookmarked_lies c.self.invariant
 pub invariant_of-self : goal.invariant_of-self
 invariant_of-self g c =
     let moved = c.moved_to-self-inside.ensures in
-    IsKept-fitted c.self.invariant c.shrink_to_fit.new.self c.in-Ok.ensures.triples (bookmark_of c.moved_to-self-inside.result) c.behind-behind.result c.behind-behind.ensures moved.bookmark c.in-Ok.ensures.capacity moved.unvisited moved.current
+    IsKept-fitted c.self.invariant c.shrink_to_fit.new.self c.in-Ok.ensures.triples (visit_of c.moved_to-self-inside.result) c.behind-behind.result c.behind-behind.ensures moved.bookmark c.in-Ok.ensures.capacity moved.unvisited moved.current
 
 pub returns-in-Ok-clause-pairs : goal.returns-in-Ok-clause-pairs
 returns-in-Ok-clause-pairs g c = rw (← c.self.view_is) (pairs_of-triples c.self.inside.table.held c.shrink_to_fit.new.self.held c.in-Ok.ensures.triples)
@@ -23,7 +23,7 @@ returns-in-Ok-clause-to_visit g c =
     let hs = c.shrink_to_fit.new.self.held in
     rw (← c.self.view_is) (
     ap (λ n. take n (drop (bookmark_at (bookmark_of moved.result) (bare hs)) (keys_of (pairs_of hs)))) moved.ensures.unvisited
-    ∙ to_visit-fitted c.self.invariant c.shrink_to_fit.new.self c.in-Ok.ensures.triples (bookmark_of moved.result) c.behind-behind.result c.behind-behind.ensures moved.ensures.bookmark)
+    ∙ to_visit-fitted c.self.invariant c.shrink_to_fit.new.self c.in-Ok.ensures.triples (visit_of moved.result) c.behind-behind.result c.behind-behind.ensures moved.ensures.bookmark)
 
 pub returns-in-Ok-clause-valid : goal.returns-in-Ok-clause-valid
 returns-in-Ok-clause-valid g c = rw (← c.self.view_is) (IsValid-view c.self.invariant refl refl)
