@@ -2,16 +2,15 @@
 -- again. Assumes `Logic`.
 use Rattle.std.proofs.Common.{ℕ, ◌+◌, [], ◌∷◌}
 use seplogic.Ra.Ura.{Ura}
-use mir.Syntax.{Ty, Tys, Sym, Args, a_type, ty_struct, tcons, tnil, dcons, dnil}
+use mir.Syntax.{Ty, Tys, Sym, ty_struct, tcons, tnil}
 use base.Logic.{SProp, ent, sep, wand, apply∗}
 use base.Fml.{Fml, ftrue, fwand, froom}
 use prog.Model.{rooms_at}
 use types.Logic.{Logic, sem}
 use types.Kit.{‵, raw, ◌⊛◌, ◌$◌, ◌∵◌, !, qed, by, move, keep, use1, use2, group, split, split3, assume, fsplit3, fjoin3, done}
-use denote.Param.{layout, bounded}
+use denote.Param.{layout}
 use denote.RawPtr.{Ptr, block_ptr, room_for}
 use denote.Steps.{nothing}
-use Rattle.std.proofs.alloc.Calls.{Al}
 use Rattle.std.proofs.RawLayout.{as_raw, as_written}
 use Rattle.lhm_ring.specs.Ownership.{node_type, fields_own}
 use Rattle.lhm_ring.specs.contracts.block.Node as N-type
@@ -27,9 +26,6 @@ module _ (E : Three) where
 
   abbrev pub Rejoins : Ptr → Fml
   Rejoins p = fwand (fields_own (RL E) (RK E) (RV E) p) (room_for block p)
-
-  abbrev pub block_args : Al → Args
-  block_args Z = bounded (a_type ∷ a_type ∷ a_type ∷ a_type ∷ []) (E.links, (E.key, (E.value, (Z.row, tt)))) (dcons Z.d (dcons Z.drops dnil))
 
 module _ (E : Three) {M : Type 1} {𝓤 : Ura M} (𝓛 : Logic 𝓤) (b o : ℕ) where
   open 𝓛 use {H}

@@ -21,10 +21,6 @@ module _ {B : Type 0} where
   First-first_at [] o p e h = absurd (let no : None ≡ Some p = sym e ∙ h in cc)
   First-first_at (t ∷ hs) o p e h = record { node = t; after = hs; is = refl; at_is = Some-injective t.at p (sym e ∙ h) }
 
-  pub none-triples : (hs : List (Held B)) → triples hs ≡ [] → hs ≡ []
-  none-triples [] e = refl
-  none-triples (t ∷ hs) e = absurd (cc)
-
   Last-last_of : (t : Held B) (hs : List (Held B)) → Last (t ∷ hs) (last_of t hs)
   Last-last_of t [] = record { before = []; node = t; is = refl; at_is = refl }
   Last-last_of t (u ∷ hs) = let r = Last-last_of u hs in record { before = t ∷ r.before; node = r.node; is = ap (λ l. t ∷ l) r.is; at_is = r.at_is }

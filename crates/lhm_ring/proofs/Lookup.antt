@@ -1,22 +1,21 @@
 -- A node that is found at a pointer cuts the list in two there.
 use Rattle.std.proofs.Common.{◌≡◌, true, false, cond, List, [], ◌∷◌, ◌++◌, Option, Some, None, refl, sym, ap, ◌∙◌, subst}
 use denote.RawPtr.{Ptr}
-use Rattle.lhm_ring.specs.Cells.{Cell, IsApart, same_ptr, pointers, cell_at, links_of, body_of, links_at, body_at, change, without}
+use Rattle.lhm_ring.specs.Cells.{Cell, same_ptr, pointers, cell_at, links_of, body_of, links_at, body_at, change}
 use Rattle.lhm_ring.specs.Splits.{SplitAt}
-use Rattle.std.specs.List.{IsDistinct, AllByRecursion}
+use Rattle.std.specs.List.{AllByRecursion}
 use Rattle.lhm_ring.proofs.Apart.{same_ptr-equal}
 use Rattle.lhm_ring.proofs.Options.{none_some}
 
 module _ {L B : Type 0} where
-  -- where the list is cut, and what a change or a removal there does
+  -- where the list is cut, and what a change there does
   pub record Cut (cs : List (Cell L B)) (p : Ptr) : Type 0 where
     pub split : SplitAt (λ c. c.at) cs p
     pub here : cell_at cs p ≡ Some split.node
     pub changed : (f : Cell L B → Cell L B) → change p f cs ≡ split.before ++ f split.node ∷ split.after
-    pub taken : without p cs ≡ split.before ++ split.after
 
   pub Cut-links_at : (cs : List (Cell L B)) (p : Ptr) (l : L) → links_at cs p ≡ Some l → Cut cs p
-  unfolding cell_at change without
+  unfolding cell_at change
   Cut-links_at [] p l e = absurd (none_some l e)
   Cut-links_at (c ∷ cs) p l e =
       (elim (same_ptr c.at p) as (λ y. same_ptr c.at p ≡ y → Cut (c ∷ cs) p) [
@@ -24,13 +23,11 @@ module _ {L B : Type 0} where
           split = record { before = []; node = c; after = cs; is = refl; at_is = same_ptr-equal c.at p t };
           here = ap (λ y. cond y (Some c) (cell_at cs p)) t;
           changed = λ f. ap (λ y. cond y (f c ∷ cs) (c ∷ change p f cs)) t;
-          taken = ap (λ y. cond y cs (c ∷ without p cs)) t;
         }
         | false ↦ λ t. let on = Cut-links_at cs p l (sym (ap (λ y. links_of (cond y (Some c) (cell_at cs p))) t) ∙ e) in record {
           split = record { before = c ∷ on.split.before; node = on.split.node; after = on.split.after; is = ap (λ xs. c ∷ xs) on.split.is; at_is = on.split.at_is };
           here = ap (λ y. cond y (Some c) (cell_at cs p)) t ∙ on.here;
           changed = λ f. ap (λ y. cond y (f c ∷ cs) (c ∷ change p f cs)) t ∙ ap (λ xs. c ∷ xs) (on.changed f);
-          taken = ap (λ y. cond y cs (c ∷ without p cs)) t ∙ ap (λ xs. c ∷ xs) on.taken;
         }
       ]) refl
 
@@ -44,24 +41,6 @@ module _ {L B : Type 0} where
 
   pub held_here : {cs : List (Cell L B)} {p : Ptr} {b : B} (k : Cut cs p) → body_at cs p ≡ Some b → k.split.node.body ≡ Some b
   held_here k e = sym (ap body_of k.here) ∙ e
-
-  pub AllByRecursion-without : (P : Ptr → Type 0) (p : Ptr) (cs : List (Cell L B)) → AllByRecursion P (pointers cs) → AllByRecursion P (pointers (without p cs))
-  unfolding without
-  AllByRecursion-without P p [] h = tt
-  AllByRecursion-without P p (c ∷ cs) h =
-      elim (same_ptr c.at p) as (λ y. AllByRecursion P (pointers (cond y cs (c ∷ without p cs)))) [
-        | true ↦ h.1
-        | false ↦ (h.0, AllByRecursion-without P p cs h.1)
-      ]
-
-  pub IsApart-without : (p : Ptr) (cs : List (Cell L B)) → IsApart (pointers cs) → IsApart (pointers (without p cs))
-  unfolding without IsDistinct
-  IsApart-without p [] d = d
-  IsApart-without p (c ∷ cs) d =
-      elim (same_ptr c.at p) as (λ y. IsApart (pointers (cond y cs (c ∷ without p cs)))) [
-        | true ↦ d.1
-        | false ↦ (AllByRecursion-without (λ q. same_ptr c.at q ≡ false) p cs d.0, IsApart-without p cs d.1)
-      ]
 
   -- what holds of all pointers holds of one that is found
   pub AllByRecursion-at : (P : Ptr → Type 0) (cs : List (Cell L B)) (p : Ptr) (l : L) → AllByRecursion P (pointers cs) → links_at cs p ≡ Some l → P p

@@ -34,10 +34,6 @@ pub record IsTowards {K V : Type 0} (heads : List (Option Ptr)) (hash : ℕ) (no
 
 -- ---- lists
 
-some_there : {X : Type 0} (xs : List X) (x : X) (ys : List X) → xs ++ x ∷ ys ≡ [] → ⊥
-some_there [] x ys e = absurd (cc)
-some_there (y ∷ xs) x ys e = absurd (cc)
-
 -- the same except for the last
 push-injective : {X : Type 0} (us : List X) (u : X) (vs : List X) (v : X) → us ++ u ∷ [] ≡ vs ++ v ∷ [] → us ≡ vs
 push-injective [] u [] v e = refl

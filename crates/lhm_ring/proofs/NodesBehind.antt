@@ -1,5 +1,5 @@
 -- How many nodes lie behind one.
-use Rattle.std.proofs.Common.{◌≡◌, ℕ, ◌+◌, ◌<◌, false, List, [], ◌∷◌, ◌++◌, map, length, Option, Some, None, refl, sym, ap, ◌∙◌, subst, arith, true≢false, length-append, append-nil, append_assoc}
+use Rattle.std.proofs.Common.{◌≡◌, ℕ, ◌+◌, ◌<◌, false, List, [], ◌∷◌, ◌++◌, map, length, Option, Some, None, refl, sym, ap, ◌∙◌, subst, arith, true≢false, length-append, append_assoc}
 use Rattle.std.specs.Prelude.{IfSome}
 use denote.RawPtr.{Ptr}
 use Rattle.lhm_ring.specs.Cells.{same_ptr, IsApart}
@@ -83,16 +83,7 @@ none-last_at [] h = refl
 none-last_at (t ∷ hs) h = absurd (none_some _ h)
 
 module _ {B : Type 0} {hs : List (Held B)} {o : Option Ptr} where
-  pub HasBehind-start : o ≡ last_at hs → HasBehind hs o 0
-  HasBehind-start last = record { front = hs; back = []; is = sym (append-nil hs); count = refl; next_is = last }
-
   module _ {passed : ℕ} (m : HasBehind hs o passed) where
-    pub length-passed : o ≡ None → length hs ≡ passed
-    length-passed none =
-        let ended = ap length (none-last_at m.front (sym none ∙ m.next_is)) in
-        let all = ap length m.is ∙ length-append m.front m.back in
-        omega (arith, ended, all, m.count)
-
     module _ {p : Ptr} (some : o ≡ Some p) where
       abbrev last : Last m.front p
       last = Last-last_at m.front o p m.next_is some

@@ -93,11 +93,6 @@ module _ {L B : Type 0} where
   abbrev pub with_body : Ptr → Option B → List (Cell L B) → List (Cell L B)
   with_body p b = change p (λ c. cell c.at c.links b)
 
-  -- the nodes without the one at p
-  unfoldable pub without : Ptr → List (Cell L B) → List (Cell L B)
-  without p [] = []
-  without p (c ∷ cs) = cond (same_ptr c.at p) cs (c ∷ without p cs)
-
   pub pointers-change : (p : Ptr) (f : Cell L B → Cell L B) → ((c : Cell L B) → (f c).at ≡ c.at)
       → (cs : List (Cell L B)) → pointers (change p f cs) ≡ pointers cs
   unfolding change
