@@ -1,16 +1,13 @@
 -- How a ring is dropped: its first triple leaves, and then the next.
-use Rattle.std.proofs.Common.{◌≡◌, suc, ◌≤◌, List, [], ◌∷◌, ◌++◌, length, Some, None, refl, ap, arith, length-append}
+use Rattle.std.proofs.Common.{◌≡◌, suc, ◌≤◌, List, [], ◌∷◌, ◌++◌, length, Some, None, refl, sym, ap, arith, length-append}
 use denote.RawPtr.{Ptr}
 use Rattle.lhm_ring.specs.RingState.{Held, IsHeld, first_at}
-use Rattle.lhm_ring.proofs.Options.{none_some, some_none}
-
-Some-injective_back : (p q : Ptr) → Some p ≡ Some q → q ≡ p
-Some-injective_back p q e = cc
+use Rattle.lhm_ring.proofs.Options.{none_some, some_none, Some-injective}
 
 module _ {B : Type 0} where
   pub IsHeld-first : (hs : List (Held B)) (p : Ptr) → Some p ≡ first_at hs → IsHeld hs p
   IsHeld-first [] p h = absurd (some_none p h)
-  IsHeld-first (t ∷ hs) p h = record { before = []; node = t; after = hs; is = refl; at_is = Some-injective_back p t.at h }
+  IsHeld-first (t ∷ hs) p h = record { before = []; node = t; after = hs; is = refl; at_is = sym (Some-injective p t.at h) }
 
   pub none-first_at : (hs : List (Held B)) → None ≡ first_at hs → hs ≡ []
   none-first_at [] h = refl

@@ -5,6 +5,7 @@ use Rattle.std.proofs.lemmas.List.{map-append}
 use denote.RawPtr.{Ptr}
 use Rattle.lhm_ring.specs.Splits.{SplitFirst, SplitLast}
 use Rattle.lhm_ring.specs.RingState.{Held, IsHeld, first_at, last_at, last_of, triples}
+use Rattle.lhm_ring.proofs.Options.{Some-injective}
 
 -- a node at p comes first, or last
 abbrev pub First : {B : Type 0} → List (Held B) → Ptr → Type 0
@@ -12,9 +13,6 @@ First = SplitFirst (λ t. t.at)
 
 abbrev pub Last : {B : Type 0} → List (Held B) → Ptr → Type 0
 Last = SplitLast (λ t. t.at)
-
-Some-injective : (p q : Ptr) → Some p ≡ Some q → p ≡ q
-Some-injective p q e = cc
 
 module _ {B : Type 0} where
   pub First-first_at : (hs : List (Held B)) (o : Option Ptr) (p : Ptr) → o ≡ first_at hs → o ≡ Some p → First hs p

@@ -14,6 +14,7 @@ use Rattle.lhm_ring.specs.RingState.{Held}
 use Rattle.lhm_ring.specs.Filters.{may_contain, LacksHash, CoversAll, IsFilter}
 use Rattle.lhm_ring.specs.Index.{Spot, spot, spots, is_in, IsChain, IsRearranged, HasChain, Indexes}
 use Rattle.lhm_ring.specs.Search.{entries, IsAbsent, IsEmptied}
+use Rattle.lhm_ring.proofs.Chains.{none-IsChain}
 
 -- the bit of the hash in a word
 abbrev has_bit : ℕ → ℕ → Bool
@@ -175,10 +176,6 @@ module _ {K V : Type 0} {words : List ℕ} {heads : List (Option Ptr)} where
   }
 
 -- a bucket with no chain holds no node
-none-IsChain : (chain : List Spot) → IsChain None chain → chain ≡ []
-none-IsChain [] l = refl
-none-IsChain (s ∷ chain) l = absurd (let e = l.0 in cc)
-
 none-IsRearranged : (chain ys : List Spot) → chain ≡ [] → IsRearranged chain ys → ys ≡ []
 none-IsRearranged [] ys e r = r
 none-IsRearranged (s ∷ chain) ys e r = absurd (cc)

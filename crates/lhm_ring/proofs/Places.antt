@@ -114,20 +114,6 @@ pub map-extent_last : (ks : List Chunk) (k : Chunk) → map extent (ks ++ k ∷ 
 map-extent_last [] k = refl
 map-extent_last (x ∷ ks) k = ap (λ cs. extent x ∷ cs) (map-extent_last ks k)
 
-all_but_last : List (Ptr × ℕ) → List (Ptr × ℕ)
-all_but_last [] = []
-all_but_last (c ∷ []) = []
-all_but_last (c ∷ d ∷ cs) = c ∷ all_but_last (d ∷ cs)
-
-all_but_last-push : (cs : List (Ptr × ℕ)) (c : Ptr × ℕ) → all_but_last (cs ++ c ∷ []) ≡ cs
-unfolding all_but_last
-all_but_last-push [] c = refl
-all_but_last-push (x ∷ []) c = refl
-all_but_last-push (x ∷ y ∷ cs) c = ap (λ ds. x ∷ ds) (all_but_last-push (y ∷ cs) c)
-
-pub push-injective : (cs ds : List (Ptr × ℕ)) (c : Ptr × ℕ) → cs ++ c ∷ [] ≡ ds ++ c ∷ [] → cs ≡ ds
-push-injective cs ds c e = sym (all_but_last-push cs c) ∙ ap all_but_last e ∙ all_but_last-push ds c
-
 pub map-extent_none : (ks : List Chunk) → length ks ≡ 0 → map extent ks ≡ []
 map-extent_none [] e = refl
 map-extent_none (k ∷ ks) e = absurd (omega (arith, e))

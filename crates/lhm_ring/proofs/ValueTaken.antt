@@ -14,15 +14,12 @@ use Rattle.lhm_ring.specs.Cells.{same_ptr}
 use Rattle.lhm_ring.specs.ValueLoan.{value_at, without_value, spread}
 use Rattle.lhm_ring.specs.Splits.{SplitAround}
 use Rattle.lhm_ring.proofs.Apart.{same_ptr-equal}
-use Rattle.lhm_ring.proofs.Options.{none_some}
+use Rattle.lhm_ring.proofs.Options.{none_some, Some-injective}
 
 module _ {V : Type 0} where
   pub record CutValue (cs : List (Ptr × V)) (p : Ptr) (v : V) : Type 0 where
     pub split : SplitAround cs (p, v)
     pub taken : without_value p cs ≡ split.before ++ split.after
-
-  Some-injective : (v w : V) → Some v ≡ Some w → v ≡ w
-  Some-injective v w e = cc
 
   pub CutValue-some : (cs : List (Ptr × V)) (p : Ptr) (v : V) → value_at cs p ≡ Some v
       → CutValue cs p v

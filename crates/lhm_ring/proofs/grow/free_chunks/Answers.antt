@@ -1,6 +1,7 @@
 use Rattle.std.proofs.Common.{◌∙◌, map, sym, ap, arith}
+use Rattle.std.proofs.lemmas.List.{append_cancel_right}
 use Rattle.lhm_ring.specs.Land.{extent}
-use Rattle.lhm_ring.proofs.Places.{map-extent_last, push-injective, map-extent_none}
+use Rattle.lhm_ring.proofs.Places.{map-extent_last, map-extent_none}
 use Rattle.lhm_ring.proofs.grow.free_chunks.Goals as goal
 
 pub remove_chunk-block-requires : goal.remove_chunk-block-requires
@@ -10,7 +11,7 @@ remove_chunk-block-requires g c =
 pub each-preserved : goal.each-preserved
 each-preserved g c = record {
   cells = c.remove_chunk-block.ensures.cells;
-  chunks = push-injective _ _ _ (sym c.remove_chunk-block.ensures.chunks ∙ c.each.invariant.chunks ∙ ap (map extent) c.in-Some.ensures.items ∙ map-extent_last c.pop.new.self.items c.in-Some.chunk);
+  chunks = append_cancel_right _ _ _ (sym c.remove_chunk-block.ensures.chunks ∙ c.each.invariant.chunks ∙ ap (map extent) c.in-Some.ensures.items ∙ map-extent_last c.pop.new.self.items c.in-Some.chunk);
 }
 
 pub returns : goal.returns
