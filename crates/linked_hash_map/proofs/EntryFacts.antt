@@ -20,10 +20,8 @@ use Rattle.linked_hash_map.specs.Entry.{occupied_pair, occupied_key, with_occupi
 use Rattle.linked_hash_map.specs.Validity.{IsValid}
 use Rattle.linked_hash_map.specs.declared.entry.OccupiedEntry.{OccupiedEntry}
 use Rattle.lhm_ring.proofs.BucketCounts.{rechained_raised-same}
+use Rattle.lhm_ring.proofs.Options.{Some-injective}
 use Rattle.linked_hash_map.proofs.LiveKeys.{same_test}
-
-pub some_injective : {X : Type 0} {x y : X} → Some x ≡ Some y → x ≡ y
-some_injective h = cc
 
 pub on_ok_given : {A E : Type 0} (Given P : Type 0) (r : Result A E) → OnOk r P → OnOk r (Given → P)
 on_ok_given Given P (Ok x) p = λ _. p
@@ -45,7 +43,7 @@ module _ {K V : Type 0} where
 
   pub slice_get-set_value_at : (pairs : List (K × V)) (index : ℕ) (v : V) (pair : K × V) → slice_get pairs index ≡ Some pair → slice_get (set_value_at pairs index v) index ≡ Some (pair.0, v)
   slice_get-set_value_at [] index v pair there = absurd (true≢false (sym (ap is_some there)))
-  slice_get-set_value_at (first ∷ pairs) zero v pair there = ap (λ p. Some (p.0, v)) (some_injective there)
+  slice_get-set_value_at (first ∷ pairs) zero v pair there = ap (λ p. Some (p.0, v)) (Some-injective _ _ there)
   slice_get-set_value_at (first ∷ pairs) (suc index) v pair there = slice_get-set_value_at pairs index v pair there
 
   -- a value that is set changes not how many there are
@@ -56,7 +54,7 @@ module _ {K V : Type 0} where
   -- a key that is at an index is found
   found_at : (eq : K → K → Bool) (pairs : List (K × V)) (index : ℕ) (k : K) (pair : K × V) → slice_get pairs index ≡ Some pair → eq k pair.0 ≡ true → is_some (find eq pairs k) ≡ true
   found_at eq [] index k pair there same = absurd (true≢false (sym (ap is_some there)))
-  found_at eq (first ∷ pairs) zero k pair there same = ap (λ b. is_some (cond b (Some first) (find eq pairs k))) (ap (λ p. eq k p.0) (some_injective there) ∙ same)
+  found_at eq (first ∷ pairs) zero k pair there same = ap (λ b. is_some (cond b (Some first) (find eq pairs k))) (ap (λ p. eq k p.0) (Some-injective _ _ there) ∙ same)
   found_at eq (first ∷ pairs) (suc index) k pair there same = by_test (found_at eq pairs index k pair there same) (eq k first.0)
     where
       by_test : is_some (find eq pairs k) ≡ true → (b : Bool) → is_some (cond b (Some first) (find eq pairs k)) ≡ true
@@ -139,10 +137,10 @@ module _ {K V S H : Type 0} {g : eq.Ghosts K} {h : hash.Ghosts K} {b : builder.G
 
   -- the pair at the index
   pub occupied_pair-is : (pair : K × V) → slice_get o.map.now.pairs o.map.now.cursor.current ≡ Some pair → pair ≡ occupied_pair o
-  occupied_pair-is pair there = some_injective (sym there ∙ slice_get-occupied)
+  occupied_pair-is pair there = Some-injective _ _ (sym there ∙ slice_get-occupied)
 
   pub occupied_value-is : (v : V) → option_map (λ pair. pair.1) (slice_get o.map.now.pairs o.map.now.cursor.current) ≡ Some v → v ≡ (occupied_pair o).1
-  occupied_value-is v there = some_injective (sym there ∙ ap (option_map (λ pair. pair.1)) slice_get-occupied)
+  occupied_value-is v there = Some-injective _ _ (sym there ∙ ap (option_map (λ pair. pair.1)) slice_get-occupied)
 
   pub IsIndex-occupied : {eq : K → K → Bool} → IsEquivalence eq → IsIndex eq o.map.now.pairs (occupied_key o) o.map.now.cursor.current
   IsIndex-occupied laws = record { pair = occupied_pair o; there = slice_get-occupied; same = laws.refl (occupied_key o) }
@@ -153,7 +151,7 @@ module _ {K V S H : Type 0} {g : eq.Ghosts K} {h : hash.Ghosts K} {b : builder.G
   -- once a value is written
   pub occupied_pair-written : (v : V) → occupied_pair (with_occupied_value o v) ≡ (occupied_key o, v)
   unfolding occupied_pair
-  occupied_pair-written v = some_injective
+  occupied_pair-written v = Some-injective _ _
       (sym (slice_get-pair_at (set_value_at o.map.now.pairs o.map.now.cursor.current v) o.map.now.cursor.current (with_occupied_value o v).within)
       ∙ slice_get-set_value_at o.map.now.pairs o.map.now.cursor.current v (occupied_pair o) slice_get-occupied)
 

@@ -1,25 +1,14 @@
 -- A log that sets no mode: each Put and each Refresh is a touch, wherever it stands.
-use Rattle.std.proofs.Common.{◌≡◌, Bool, true, false, cond, not, ◌&&◌, ◌||◌, List, [], ◌∷◌, ◌++◌, map, Option, Some, None, is_some, unwrap_or, filter_map, refl, sym, ap, ap₂, ◌∙◌, subst, true≢false}
+use Rattle.std.proofs.Common.{◌≡◌, Bool, true, false, cond, not, ◌&&◌, ◌||◌, List, [], ◌∷◌, ◌++◌, map, Option, Some, None, is_some, unwrap_or, filter_map, refl, sym, ap, ap₂, ◌∙◌, subst}
 use Rattle.std.specs.List.{list_any, AllByRecursion}
 use Rattle.std.specs.Option.{option_or}
 use Rattle.std.proofs.lemmas.List.{map-append}
 use Rattle.std.proofs.lemmas.List.Folds.{list_any-append}
+use Rattle.std.proofs.Math.Bool.{and-true}
 use Rattle.linked_hash_map.specs.declared.map.Mode.TheVariants.{Touch}
 use Rattle.linked_hash_map.specs.Log.{Event, Put, Write, Refresh, Remove, RemoveAll, Need, Fit, SetMode, Log, last_some, moments, moves, mode_set, mode, live, pair_of, touches, touched, stands, standing_in, standing, pairs}
 use Rattle.linked_hash_map.proofs.LiveKeys.{none_is}
-use Rattle.linked_hash_map.proofs.Lists.{by_last, moments-snoc}
-
-none_first : (a b : Bool) → (a || b) ≡ false → a ≡ false
-none_first true b h = absurd (true≢false h)
-none_first false b h = refl
-
-none_later : (a b : Bool) → (a || b) ≡ false → b ≡ false
-none_later true b h = absurd (true≢false h)
-none_later false b h = h
-
-and_true : (b : Bool) → (b && true) ≡ b
-and_true true = refl
-and_true false = refl
+use Rattle.linked_hash_map.proofs.Lists.{by_last, none_first, none_later, moments-snoc}
 
 all_last : {X : Type 0} (P : X → Type 0) (xs : List X) (x : X) → AllByRecursion P xs → P x → AllByRecursion P (xs ++ x ∷ [])
 all_last P [] x all h = (h, tt)
@@ -79,7 +68,7 @@ module _ {K V : Type 0} where
       (λ none. tt)
 
   touches-unset : (same : K → Bool) (before : Log K V) (event : Event K V) → mode before ≡ Touch → touches same (before, event) ≡ names same event
-  touches-unset same before (Put j v) unset = ap (λ m. same j && moves m (live same before)) unset ∙ and_true (same j)
+  touches-unset same before (Put j v) unset = ap (λ m. same j && moves m (live same before)) unset ∙ and-true (same j)
   touches-unset same before (Write j v) unset = refl
   touches-unset same before (Refresh j) unset = refl
   touches-unset same before (Remove j) unset = refl

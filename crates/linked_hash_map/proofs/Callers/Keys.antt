@@ -6,11 +6,11 @@ use Rattle.std.specs.Map.{lookup_entry, keys_of}
 use Rattle.std.specs.Cmp.{IsEquivalence}
 use Rattle.std.proofs.lemmas.List.{map-append}
 use Rattle.linked_hash_map.specs.declared.map.Mode.{Mode}
-use Rattle.linked_hash_map.specs.declared.map.Mode.TheVariants.{Touch, Keep}
+use Rattle.linked_hash_map.specs.declared.map.Mode.TheVariants.{Touch}
 use Rattle.linked_hash_map.specs.Pairs.{key_or, find, value_at, without, to_back, set_value, set_or_push, put}
 use Rattle.linked_hash_map.proofs.LiveKeys.{none_is}
 use Rattle.linked_hash_map.proofs.Callers.Lookups.{eq-stored}
-use Rattle.linked_hash_map.proofs.Pairs.{is_some-value_at, filter-none}
+use Rattle.linked_hash_map.proofs.Pairs.{is_some-value_at, filter-none, to_back-absent as absent-to_back, put-absent as absent-put}
 -- one pair fewer exactly if the key has one; one more exactly if it has none
 pub use Rattle.linked_hash_map.proofs.Pairs.{length-without, length-put}
 -- keys that differ still do after an insertion
@@ -42,7 +42,7 @@ module _ {K V : Type 0} (eq : K → K → Bool) (pairs : List (K × V)) (k : K) 
 
   pub to_back-absent : (v : V) → find eq pairs k ≡ None
       → to_back eq pairs k v ≡ pairs ++ (k, v) ∷ []
-  to_back-absent v none = ap₂ (λ ps o. ps ++ (key_or k o, v) ∷ []) (without-absent none) none
+  to_back-absent v none = sym (absent-to_back eq pairs k v none)
 
   pub set_or_push-absent : (v : V) → find eq pairs k ≡ None
       → set_or_push eq pairs k v ≡ pairs ++ (k, v) ∷ []
@@ -56,8 +56,7 @@ module _ {K V : Type 0} (eq : K → K → Bool) (pairs : List (K × V)) (k : K) 
 pub put-absent : {K V : Type 0} (eq : K → K → Bool) (mode : Mode) (pairs : List (K × V))
     (k : K) (v : V)
     → find eq pairs k ≡ None → put eq mode pairs k v ≡ pairs ++ (k, v) ∷ []
-put-absent eq Touch = to_back-absent eq
-put-absent eq Keep = set_or_push-absent eq
+put-absent eq mode pairs k v none = sym (absent-put eq mode pairs k v none)
 
 -- the keys
 keys_of-filter : {K V : Type 0} (kept : K → Bool) (pairs : List (K × V)) → keys_of (filter (λ pair. kept pair.0) pairs) ≡ filter kept (keys_of pairs)

@@ -5,9 +5,9 @@ use Rattle.std.specs.List.{IsDistinct, remove}
 use Rattle.std.specs.Map.{keys_of}
 use Rattle.std.proofs.lemmas.List.Elements.{filter-append}
 use Rattle.lhm_ring.specs.Splits.{SplitFirst}
+use Rattle.lhm_ring.proofs.Options.{Some-injective}
 use Rattle.linked_hash_map.specs.Pairs.{value_at, without}
 use Rattle.linked_hash_map.specs.Visits.{VisitKeeps}
-use Rattle.linked_hash_map.proofs.EntryFacts.{some_injective}
 use Rattle.linked_hash_map.proofs.Indexes.{find-own, without-own}
 use Rattle.linked_hash_map.proofs.Kept.{remove-cut}
 use Rattle.linked_hash_map.proofs.Lists.{slice_get-seam}
@@ -39,7 +39,7 @@ module _ {K V : Type 0} {eq : K → K → Bool} (laws : IsEquivalence eq) (keeps
   there = ap (λ ps. slice_get ps (length (filter keeps w.passed))) now-seam ∙ slice_get-seam (filter keeps w.passed) n.node n.after
 
   value : v ≡ n.node.1
-  value = some_injective (sym has ∙ ap (value_at eq now) (sym n.at_is) ∙ ap (option_map (λ p. p.1)) (find-own laws now distinct (length (filter keeps w.passed)) n.node there))
+  value = Some-injective _ _ (sym has ∙ ap (value_at eq now) (sym n.at_is) ∙ ap (option_map (λ p. p.1)) (find-own laws now distinct (length (filter keeps w.passed)) n.node there))
 
   pair_is : (k, v) ≡ n.node
   pair_is = λ i. (sym n.at_is i, value i)

@@ -13,6 +13,7 @@ use Rattle.linked_hash_map.specs.declared.replay.Command.{Command}
 use Rattle.linked_hash_map.specs.declared.replay.Command.TheVariants.{Insert, Write, Refresh, Remove, PopFront, PopBack, Clear, Drain, Extend, OrInsert, EntryInsert, EntryRemove, Reserve, Shrink, SetMode}
 use Rattle.linked_hash_map.specs.declared.replay.Reply.{Reply}
 use Rattle.linked_hash_map.proofs.Callers.Replay.{Replied-given, Defines-first, is_refusal-write, is_refusal-refresh, is_refusal-remove, is_refusal-entry_remove, is_refusal-pop_front, is_refusal-pop_back, is_refusal-clear, is_refusal-set_mode}
+use Rattle.linked_hash_map.proofs.Lists.{none_first, none_later}
 -- what `replay` says if it returns replies
 pub use Rattle.linked_hash_map.specs.Run.{Replayed}
 
@@ -32,14 +33,6 @@ never_refused Clear = true
 never_refused (SetMode mode) = true
 never_refused _ = false
 
-first_given : (a b : Bool) → (a || b) ≡ false → a ≡ false
-first_given true b h = absurd (true≢false h)
-first_given false b h = refl
-
-others_given : (a b : Bool) → (a || b) ≡ false → b ≡ false
-others_given true b h = absurd (true≢false h)
-others_given false b h = h
-
 module _ {K V : Type 0} {eq : K → K → Bool} (laws : IsEquivalence eq) where
   -- a run on a log that defines these pairs and this capacity
   pub replies-given : (mode : Mode) (commands : List (Command K V)) (replies : List (Reply K V))
@@ -52,10 +45,10 @@ module _ {K V : Type 0} {eq : K → K → Bool} (laws : IsEquivalence eq) where
   replies-given mode (command ∷ commands) (reply ∷ replies) log contents start room defines run given =
       let refused = is_refusal reply.answer in
       let later = list_any (λ (r : Reply K V). is_refusal r.answer) replies in
-      let replied = Replied-given laws command reply defines run.0 (first_given refused later given) in
+      let replied = Replied-given laws command reply defines run.0 (none_first refused later given) in
       ap₂ (λ r rs. r ∷ rs)
       (λ i. record { answer = replied.answer_is i; len = replied.len_is i; capacity = replied.capacity_is i })
-      (replies-given (mode_after mode command) commands replies (log_after eq log command reply.answer) (pairs_after eq mode contents command) start (capacity_after eq mode room contents command) replied.defines run.1 (others_given refused later given))
+      (replies-given (mode_after mode command) commands replies (log_after eq log command reply.answer) (pairs_after eq mode contents command) start (capacity_after eq mode room contents command) replied.defines run.1 (none_later refused later given))
 
   pub Defines-given : (mode : Mode) (commands : List (Command K V)) (replies : List (Reply K V))
       (log : Log K V) (contents : List (K × V)) (start room : ℕ)
@@ -70,8 +63,8 @@ module _ {K V : Type 0} {eq : K → K → Bool} (laws : IsEquivalence eq) where
   Defines-given mode (command ∷ commands) (reply ∷ replies) log contents start room defines run given =
       let refused = is_refusal reply.answer in
       let later = list_any (λ (r : Reply K V). is_refusal r.answer) replies in
-      let replied = Replied-given laws command reply defines run.0 (first_given refused later given) in
-      Defines-given (mode_after mode command) commands replies (log_after eq log command reply.answer) (pairs_after eq mode contents command) start (capacity_after eq mode room contents command) replied.defines run.1 (others_given refused later given)
+      let replied = Replied-given laws command reply defines run.0 (none_first refused later given) in
+      Defines-given (mode_after mode command) commands replies (log_after eq log command reply.answer) (pairs_after eq mode contents command) start (capacity_after eq mode room contents command) replied.defines run.1 (none_later refused later given)
 
 both_hold : (a b : Bool) → (a && b) ≡ true → (a ≡ true) × (b ≡ true)
 both_hold true b h = (refl, h)

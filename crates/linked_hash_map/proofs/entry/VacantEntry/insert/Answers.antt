@@ -1,9 +1,9 @@
 use Rattle.std.proofs.Common.{◌≡◌, ◌-◌, ◌∷◌, [], ◌++◌, length, length-append, inl, sym, ap, ◌∙◌, option_map, arith}
+use Rattle.lhm_ring.proofs.Options.{Some-injective}
 use Rattle.linked_hash_map.specs.Counts.{rechained_raised}
 use Rattle.linked_hash_map.proofs.Callers.Keys.{set_or_push-absent}
 use Rattle.linked_hash_map.proofs.Callers.Updates.{Updates-set_or_push}
 use Rattle.linked_hash_map.proofs.Indexes.{set_value_at-pushed, slice_get-pushed}
-use Rattle.linked_hash_map.proofs.EntryFacts.{some_injective}
 use Rattle.linked_hash_map.proofs.entry.VacantEntry.insert.Goals as goal
 
 pub returns : goal.returns
@@ -32,7 +32,7 @@ returns g c =
       )),
       record {
         writes_back = tt;
-        value = some_injective (sym c.last_value_mut.ensures.value ∙ ap (option_map (λ pair. pair.1)) last);
+        value = Some-injective _ _ (sym c.last_value_mut.ensures.value ∙ ap (option_map (λ pair. pair.1)) last);
         limit = omega (arith, longer, one, ap length room.ensures.pairs, pushed.ensures.stays_valid.within, pushed.ensures.stays_valid.limit);
         key_back = tt;
         value_back = tt;
