@@ -1,9 +1,10 @@
 #!/bin/sh
-# Passes every proof and test of the repository, and says for each part the seconds that it took and its result.
+# Passes every proof and test of the repository, and says for each part the seconds that it took and
+# its result.
 #
-# The parts are the scripts in scripts/, each of which runs by itself too, and the gate, `rt ci`. What needs no proof runs beside the
-# gate, on what the gate leaves of the processors. RT_CI is a word for `rt ci`, as `--anew`. The last line is that of the
-# gate, or says what failed.
+# The parts are the scripts in scripts/, each of which runs by itself too, and the gate, `rt ci`.
+# What needs no proof runs beside the gate, on what the gate leaves of the processors. RT_CI is a
+# word for `rt ci`, as `--anew`. The last line is that of the gate, or says what failed.
 set -u
 cd "$(dirname "$0")" || exit 2
 work=$(mktemp -d) || exit 2

@@ -1,7 +1,9 @@
 -- What nodes hold is cut out of them, and they are whole again with nothing in them. Assumes
 -- `Logic`.
---     cells_out, cells_in      all bodies are taken from the nodes, and whatever comes back leaves uninitialised memory
---     Bare      the nodes without bodies, as a type: what a `&` to nodes of holes shows is what a `&` to it shows
+--     cells_out, cells_in      all bodies are taken from the nodes, and whatever comes back leaves
+--     uninitialised memory
+--     Bare      the nodes without bodies, as a type: what a `&` to nodes of holes shows is what a
+--     `&` to it shows
 use Rattle.std.proofs.Common.{ℕ, ◌+◌, List, [], ◌∷◌, ◌++◌, Option, Some, None, refl}
 use seplogic.Ra.Ura.{Ura}
 use base.Fraction.{full_share}

@@ -1,7 +1,9 @@
 -- What the proofs by hand over the nodes share. Assumes `Logic`.
---     Three, args          the rows of the links, of the keys and of the values, and what a call passes for them
+--     Three, args          the rows of the links, of the keys and of the values, and what a call
+--     passes for them
 --     word_made, marker_made      a value of one pointer, and one of no bytes
---     cells_cut, cells_glue, cell_seen      one node is taken out of the others, put back, and seen through a `&`
+--     cells_cut, cells_glue, cell_seen      one node is taken out of the others, put back, and seen
+--     through a `&`
 use mathlib.Core.Path.{◌≡◌, refl, ap, ◌∙◌}
 use Prim.Native.Nat.{ℕ, ◌+◌}
 use mathlib.Core.List.{List, [], ◌∷◌, ◌++◌}

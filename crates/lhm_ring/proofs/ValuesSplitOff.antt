@@ -1,10 +1,12 @@
 -- A ring is cut into its values and the rest, and made of them again. Assumes `Logic`.
 --     entries are what the ring holds, each with its pointer (`ValuesReplaced.antt`'s `lent`)
---     nodes_cut, nodes_mend      the values of the nodes that pass the test are taken out, and others are put in their places
---     Thin      the nodes without those values, as a type: what a `&` to nodes of holes shows is what a `&` to it shows
+--     nodes_cut, nodes_mend      the values of the nodes that pass the test are taken out, and
+--     others are put in their places
+--     Thin      the nodes without those values, as a type: what a `&` to nodes of holes shows is
+--     what a `&` to it shows
 --     ring_cut, ring_mend      the same of a whole ring in memory
---     back, ordered_back      the way back of a loan of a ring's values: the values in the order of the ring. A type that keeps a ring
---     in a field shares both
+--     back, ordered_back      the way back of a loan of a ring's values: the values in the order of
+--     the ring. A type that keeps a ring in a field shares both
 use Rattle.std.proofs.Common.{◌≡◌, ℕ, Bool, true, false, List, [], ◌∷◌, ◌++◌, map, length, suc, Option, Some, None, refl, sym, ap, ◌∙◌, subst}
 use seplogic.Ra.Ura.{Ura}
 use base.Fraction.{full_share}
