@@ -1,4 +1,4 @@
--- What commands answer and leave if nothing is refused, in the words of single calls.
+-- What commands return and leave if nothing is refused, in the words of single calls.
 use Rattle.std.specs.Prelude.{ℕ, ◌+◌, ◌-◌, max, Bool, true, false, cond, nat_lt, List, [], ◌∷◌, take, drop, length, slice_get, Option, Some, None, is_some}
 use Rattle.linked_hash_map.specs.declared.map.TheConstants.{LIMIT}
 use Rattle.linked_hash_map.specs.declared.map.Mode.{Mode}

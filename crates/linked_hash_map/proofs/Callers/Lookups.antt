@@ -26,7 +26,7 @@ option_map-cond : {X Y : Type 0} (f : X → Y) (b : Bool) (x y : Option X) → o
 option_map-cond f true x y = refl
 option_map-cond f false x y = refl
 
--- a look-up in two lists, one after the other
+-- a lookup in two lists, one after the other
 pub lookup_entry-append : {K V : Type 0} (test : K → Bool) (pairs others : List (K × V))
     → lookup_entry test (pairs ++ others)
     ≡ option_or (lookup_entry test pairs) (lookup_entry test others)
@@ -51,7 +51,7 @@ value_at-append eq pairs k q v =
     ∙ option_map-option_or (λ pair. pair.1) (lookup_entry (eq q) pairs) (cond (eq q k) (Some (k, v)) None)
     ∙ ap (option_or (value_at eq pairs q)) (option_map-cond (λ pair. pair.1) (eq q k) (Some (k, v)) None)
 
--- a look-up among the pairs of which a test holds that returns b at each key that the look-up may
+-- a lookup among the pairs of which a test holds that returns b at each key that the lookup may
 -- find
 lookup_entry-filter : {K V : Type 0} (test kept : K → Bool) (b : Bool) → ((k : K) → test k ≡ true → kept k ≡ b) → (pairs : List (K × V)) → lookup_entry test (filter (λ pair. kept pair.0) pairs) ≡ cond b (lookup_entry test pairs) None
 lookup_entry-filter test kept true alike [] = refl

@@ -1,5 +1,5 @@
 -- For callers: whole runs in which nothing is refused. The replies, the pairs and the capacity then
--- follow from the commands and the first map, and two such runs answer alike.
+-- follow from the commands and the first map, and two such runs have the same answers.
 use Rattle.std.proofs.Common.{◌≡◌, ℕ, Bool, true, false, Result, Ok, Err, IfOk, IsOkAnd, Vec, Global, ◌||◌, ◌&&◌, IsFalse, List, [], ◌∷◌, map, refl, sym, ap, ap₂, ◌∙◌, subst, true≢false}
 use Rattle.std.specs.List.{list_any, list_all}
 use Rattle.std.specs.Cmp.{IsEquivalence}
@@ -100,7 +100,7 @@ module _ {K V : Type 0} {eq : K → K → Bool} (laws : IsEquivalence eq) (start
       ap₂ (λ a b. a || b) given (NoneRefused-run commands replies (log_after eq log command reply.answer) (pairs_after eq mode contents command) (capacity_after eq mode room contents command) (mode_after mode command) replied.defines run.1 both.1)
 
 module _ {K V S : Type 0} {eq : K → K → Bool} (laws : IsEquivalence eq) {old new : LinkedMap K V S} {commands : List (Command K V)} {replies : List (Reply K V)} (valid : IsValid eq old) (replayed : Replayed eq old commands replies new) where
-  -- of a whole run: what `replay` answered, and what the map holds
+  -- of a whole run: what `replay` returned, and what the map holds
   pub replies-replayed : NoneRefused replies
       → replies ≡ replies_to eq old.mode old.capacity old.pairs commands
   replies-replayed given = replies-given laws old.mode commands replies (first_log old.mode old.pairs) old.pairs old.capacity old.capacity (Defines-first laws valid) replayed.run given
