@@ -2,10 +2,10 @@
 
 use super::{KEY, PAIRS, VALUE, assert_dropped};
 use crate::tests::checks::given;
-use crate::tests::counted_map::counted_map_of;
+use crate::tests::counted_map::{CountedMap, counted_map_of};
 use crate::tests::tally::{Counted, Tally};
-use linked_hash_map::Mode;
 use linked_hash_map::replay::{Command, PairList, replay};
+use linked_hash_map::{LIMIT, Mode};
 use std::alloc::Global;
 use std::process::Abort;
 
@@ -146,9 +146,35 @@ fn drops_the_pairs_of_a_command(rt: HostRuntime) {
     extend(&rt, rt.alloc(), [KEY | 2, 0, 1023]);
 }
 
-fn reserve(rt: &impl Abort, alloc: Global, dropped: [u64; 3]) {
+/// Takes a pair or all pairs out of an empty map, which drops nothing more, and inserts a pair.
+fn run_on_empty<'a>(rt: &impl Abort, alloc: Global, tally: &'a Tally, map: &mut CountedMap<'a>) {
+    let commands: [CountedCommand<'a>; 5] = [
+        Command::PopFront,
+        Command::PopBack,
+        Command::Clear,
+        Command::Drain,
+        Command::Insert(tally.thing(4, KEY), tally.thing(4, VALUE)),
+    ];
+    let replies = replay(map, given!(rt; Vec::from_array(alloc, commands)));
+    assert_dropped(rt, tally, 63);
+    drop(replies);
+    assert_dropped(rt, tally, 63);
+}
+
+/// The map had pairs before, so one that is dropped or handed out again is counted twice.
+#[test]
+fn drops_nothing_again_of_an_empty_map(rt: HostRuntime) {
     let tally = Tally::new();
-    assert_run(rt, alloc, &tally, Command::Reserve(9), dropped);
+    let mut map = counted_map_of(&rt, rt.alloc(), &tally, &PAIRS);
+    map.clear();
+    run_on_empty(&rt, rt.alloc(), &tally, &mut map);
+    drop(map);
+    assert_dropped(&rt, &tally, ALL);
+}
+
+fn reserve(rt: &impl Abort, alloc: Global, additional: usize, dropped: [u64; 3]) {
+    let tally = Tally::new();
+    assert_run(rt, alloc, &tally, Command::Reserve(additional), dropped);
 }
 
 fn shrink(rt: &impl Abort, alloc: Global, dropped: [u64; 3]) {
@@ -163,7 +189,8 @@ fn set_mode(rt: &impl Abort, alloc: Global, dropped: [u64; 3]) {
 
 #[test]
 fn drops_nothing_by_a_change_of_the_settings(rt: HostRuntime) {
-    reserve(&rt, rt.alloc(), [0, 0, 63]);
+    reserve(&rt, rt.alloc(), 9, [0, 0, 63]);
+    reserve(&rt, rt.alloc(), LIMIT, [0, 0, 63]);
     shrink(&rt, rt.alloc(), [0, 0, 63]);
     set_mode(&rt, rt.alloc(), [0, 0, 63]);
 }

@@ -90,3 +90,63 @@ fn dropped_by(outcome: &Run<'_>) -> u64 {
         Err(_commands) => 0,
     }
 }
+
+#[test]
+fn refused_changes_drop_nothing(rt: HostRuntime) {
+    let tally = Tally::new();
+    let map = LinkedHashMap::new(rt.alloc());
+    let given = change(&rt, &tally, map, changes(rt.alloc()));
+    say_if_given(&rt, given, 15);
+}
+
+/// Makes a command of each kind that asks for memory and is handed no key, for which it asks for
+/// one growth.
+fn changes<'a>(alloc: Global) -> Result<Commands<'a>, AllocError> {
+    Ok(Vec::from_array(
+        alloc,
+        [Command::Reserve(2), Command::Shrink, Command::Drain],
+    )?)
+}
+
+/// Runs the changes on a full map of one pair, and tells whether each growth was given.
+fn change<'a>(
+    rt: &impl Abort,
+    tally: &'a Tally,
+    mut map: CountedMap<'a>,
+    commands: Result<Commands<'a>, AllocError>,
+) -> bool {
+    let (true, Ok(commands)) = (insert_first(tally, &mut map), commands) else {
+        return false;
+    };
+    // The growths: the replies; buckets, a filter and a chunk; buckets, a filter, a list of chunks
+    // and a chunk; the list of the pair.
+    let outcome = replay(&mut map, commands);
+    assert_dropped(rt, tally, 0);
+    let (drained, given) = (drained_by(&outcome), is_room_given(&outcome));
+    drop(outcome);
+    assert_dropped(rt, tally, drained);
+    drop(map);
+    assert_dropped(rt, tally, 3);
+    given
+}
+
+/// Returns the bits of what the replies to the changes own: the pair, if its list was given.
+fn drained_by(outcome: &Run<'_>) -> u64 {
+    match outcome {
+        Ok(replies) => match replies.last().map(|reply| &reply.answer) {
+            Some(Answer::Pairs(_list)) => 1 | 2,
+            _ => 0,
+        },
+        Err(_commands) => 0,
+    }
+}
+
+/// Tells whether the changes were run, and none was refused.
+fn is_room_given(outcome: &Run<'_>) -> bool {
+    match outcome {
+        Ok(replies) => replies
+            .iter()
+            .all(|reply| !matches!(&reply.answer, Answer::NoRoom)),
+        Err(_commands) => false,
+    }
+}
