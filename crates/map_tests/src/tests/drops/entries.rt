@@ -8,12 +8,16 @@ use linked_hash_map::{Entry, Mode, OccupiedEntry, VacantEntry};
 use std::mem::forget;
 use std::process::Abort;
 
-/// Asks for the entry of an absent key, which owns it.
+/// Asks for the entry of an absent key, which owns it, as an `Entry` and as a `VacantEntry`.
 fn drop_vacant<'a>(rt: &impl Abort, tally: &'a Tally, map: &mut CountedMap<'a>) {
     let entry = map.entry(tally.thing(4, KEY));
     assert_dropped(rt, tally, 0);
     drop(entry);
     assert_dropped(rt, tally, KEY);
+    let entry = vacant(rt, map, tally.thing(4, 256));
+    assert_dropped(rt, tally, KEY);
+    drop(entry);
+    assert_dropped(rt, tally, KEY | 256);
     check_eq!(rt; map.len(), 3);
 }
 
@@ -23,7 +27,7 @@ fn drops_the_key_of_a_vacant_entry(rt: HostRuntime) {
     let mut map = counted_map_of(&rt, rt.alloc(), &tally, &PAIRS);
     drop_vacant(&rt, &tally, &mut map);
     drop(map);
-    assert_dropped(&rt, &tally, 63 | KEY);
+    assert_dropped(&rt, &tally, 63 | KEY | 256);
 }
 
 /// The key of a forgotten entry is leaked, and nothing else is.
@@ -36,12 +40,17 @@ fn leaks_the_key_of_a_forgotten_entry(rt: HostRuntime) {
     assert_dropped(&rt, &tally, 63);
 }
 
-/// Asks for the entry of a present key, which drops the key that is handed in, and drops the entry.
+/// Asks for the entry of a present key, which drops the key that is handed in, and drops the entry,
+/// as an `Entry` and as an `OccupiedEntry`.
 fn drop_occupied<'a>(rt: &impl Abort, tally: &'a Tally, map: &mut CountedMap<'a>) {
     let entry = map.entry(tally.thing(1, KEY));
     assert_dropped(rt, tally, KEY);
     drop(entry);
     assert_dropped(rt, tally, KEY);
+    let entry = occupied(rt, map, tally.thing(1, 256));
+    assert_dropped(rt, tally, KEY | 256);
+    drop(entry);
+    assert_dropped(rt, tally, KEY | 256);
 }
 
 #[test]
@@ -50,7 +59,7 @@ fn drops_the_key_that_finds_an_entry(rt: HostRuntime) {
     let mut map = counted_map_of(&rt, rt.alloc(), &tally, &PAIRS);
     drop_occupied(&rt, &tally, &mut map);
     drop(map);
-    assert_dropped(&rt, &tally, 63 | KEY);
+    assert_dropped(&rt, &tally, 63 | KEY | 256);
 }
 
 /// Inserts a value into a map that has the key, and one into a map that has not.

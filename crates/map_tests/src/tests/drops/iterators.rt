@@ -38,11 +38,13 @@ fn drops_a_pair_once_it_is_taken_out(rt: HostRuntime) {
     assert_dropped(&rt, &tally, 63);
 }
 
-/// Borrows a map in each way, which drops nothing.
+/// Borrows a map in each way, by a key that is present and by one that is absent, which drops
+/// nothing.
 fn borrow_all<'a>(rt: &impl Abort, tally: &'a Tally, map: &CountedMap<'a>) {
     check_eq!(rt; (map.iter().len(), map.keys().len(), map.values().len()), (3, 3, 3));
-    let key = tally.thing(1, KEY);
-    check_eq!(rt; (map.contains_key(&key), map.get(&key).is_some()), (true, true));
+    let (key, absent) = (tally.thing(1, KEY), tally.thing(4, 1024));
+    check_eq!(rt; (map.contains_key(&key), map.contains_key(&absent)), (true, false));
+    check_eq!(rt; (map.get(&key).is_some(), map.get(&absent).is_some()), (true, false));
     check_eq!(rt; (map.front().is_some(), map.back().is_some(), *map == *map), (true, true, true));
     assert_dropped(rt, tally, 0);
 }
@@ -52,7 +54,7 @@ fn borrow_mutably<'a>(rt: &impl Abort, tally: &'a Tally, map: &mut CountedMap<'a
     let (key, absent) = (tally.thing(1, 256), tally.thing(4, 512));
     check_eq!(rt; (map.get_mut(&key).is_some(), map.get_mut(&absent).is_some()), (true, false));
     check_eq!(rt; (map.get_refresh(&key).is_some(), map.get_refresh(&absent).is_some()), (true, false));
-    assert_dropped(rt, tally, KEY);
+    assert_dropped(rt, tally, KEY | 1024);
 }
 
 /// Writes over the first value in place.
@@ -61,7 +63,7 @@ fn write_first<'a>(rt: &impl Abort, tally: &'a Tally, map: &mut CountedMap<'a>) 
         check_eq!(rt; key.number, 2);
         drop(replace(value, tally.thing(2, VALUE)));
     }
-    assert_dropped(rt, tally, KEY | 256 | 512 | 8);
+    assert_dropped(rt, tally, KEY | 256 | 512 | 1024 | 8);
 }
 
 #[test]
@@ -72,5 +74,5 @@ fn drops_nothing_that_it_lends(rt: HostRuntime) {
     borrow_mutably(&rt, &tally, &mut map);
     write_first(&rt, &tally, &mut map);
     drop(map);
-    assert_dropped(&rt, &tally, 1023);
+    assert_dropped(&rt, &tally, 2047);
 }
