@@ -145,14 +145,14 @@ fn counts_along_one_chain(rt: HostRuntime) {
     check_eq!(rt; counts(&empty, 1, 1), (false, 0, 0));
 }
 
+/// Makes a table of five keys on one chain.
+fn chain_of_five(rt: &impl Abort, alloc: Global) -> Table<u64, u64> {
+    filled(rt, alloc, 5, &[(7, 0), (7, 1), (7, 2), (7, 3), (7, 4)])
+}
+
 #[test]
 fn takes_from_anywhere_on_a_chain(rt: HostRuntime) {
-    let mut table = filled(
-        &rt,
-        rt.alloc(),
-        5,
-        &[(7, 0), (7, 1), (7, 2), (7, 3), (7, 4)],
-    );
+    let mut table = chain_of_five(&rt, rt.alloc());
     check_eq!(rt; counts(&table, 7, 9), (false, 5, 5));
     check_eq!(rt; counts(&table, 15, 9), (false, 5, 0));
     check_eq!(rt; table.pop_front(), Some((7, 0, 0)));
@@ -160,6 +160,14 @@ fn takes_from_anywhere_on_a_chain(rt: HostRuntime) {
     check_eq!(rt; table.remove(7, &4), Some((7, 4, 40)));
     check_eq!(rt; table.remove(7, &4), None);
     check_eq!(rt; counts(&table, 7, 9), (false, 2, 2));
+}
+
+#[test]
+fn takes_the_last_nodes_of_a_chain(rt: HostRuntime) {
+    let mut table = chain_of_five(&rt, rt.alloc());
+    let _first = table.pop_front();
+    let _third = table.remove(7, &2);
+    let _last = table.remove(7, &4);
     check_eq!(rt; table.pop_front(), Some((7, 1, 10)));
     check_eq!(rt; counts(&table, 7, 3), (true, 1, 1));
     check_eq!(rt; table.pop_front(), Some((7, 3, 30)));

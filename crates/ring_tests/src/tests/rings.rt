@@ -217,7 +217,11 @@ fn reads_and_writes_at_a_position(rt: HostRuntime) {
     let a = put(&rt, &mut ring, 7, 'a', 1);
     let b = put(&rt, &mut ring, 9, 'b', 2);
     check_eq!(rt; triple_at(&ring, b), (9, 'b', 2));
-    check_eq!(rt; (has_neighbours(&ring, a), has_neighbours(&ring, b)), ((false, true), (true, false)));
+    check_eq!(
+        rt;
+        (has_neighbours(&ring, a), has_neighbours(&ring, b)),
+        ((false, true), (true, false))
+    );
     check_eq!(rt; has_ends(&ring), (true, true));
     ring.set_link(b, Some(a));
     check_eq!(rt; (ring.link(a).is_some(), ring.link(b).is_some()), (false, true));
