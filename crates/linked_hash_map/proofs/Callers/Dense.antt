@@ -4,12 +4,12 @@ use Rattle.std.specs.List.{range_with_len}
 use Rattle.std.specs.Map.{values_of}
 use Rattle.linked_hash_map.specs.Pairs.{find, value_at}
 
-pub values_of-push : {K V : Type 0} (pairs : List (K × V)) (k : K) (v : V)
+values_of-push : {K V : Type 0} (pairs : List (K × V)) (k : K) (v : V)
     → values_of (pairs ++ (k, v) ∷ []) ≡ values_of pairs ++ v ∷ []
 values_of-push [] k v = refl
 values_of-push (pair ∷ pairs) k v = ap (λ vs. pair.1 ∷ vs) (values_of-push pairs k v)
 
-pub range_with_len-push : (a n : ℕ) → range_with_len a n ++ (a + n) ∷ [] ≡ range_with_len a (n + 1)
+range_with_len-push : (a n : ℕ) → range_with_len a n ++ (a + n) ∷ [] ≡ range_with_len a (n + 1)
 range_with_len-push a zero = let same : a + 0 ≡ a = omega arith in ap (λ (i : ℕ). i ∷ []) same
 range_with_len-push a (suc n) =
     let one : suc (n + 1) ≡ suc n + 1 = omega arith in
@@ -51,7 +51,7 @@ below {K = K} eq a (pair ∷ pairs) k dense = by_test (eq k pair.0) (below eq (a
     by_test true less = let is_own = own in omega arith
     by_test false less = weaker (find eq pairs k) less
 
-pub value_at_dense_below : {K : Type 0} (eq : K → K → Bool) (pairs : List (K × ℕ)) (k : K)
+value_at_dense_below : {K : Type 0} (eq : K → K → Bool) (pairs : List (K × ℕ)) (k : K)
     → values_of pairs ≡ range_with_len 0 (length pairs)
     → IfSome (value_at eq pairs k) (λ n. n < length pairs)
 value_at_dense_below {K = K} eq pairs k dense = at_zero (find eq pairs k) (below eq 0 pairs k dense)

@@ -23,7 +23,7 @@ use Rattle.linked_hash_map.proofs.Callers.Collected.{insert_each-distinct, lengt
 
 module _ {T I X K V : Type 0} {becomes : T → I → Type 0} {steps : I → Option X → I → Type 0} {source : T} {eq : K → K → Bool} {shows : X → K × V} {all : List (K × V)} where
   -- `extend` of any source whose items are known
-  pub pairs-InsertsAll : {mode : Mode} {old new : List (K × V)}
+  pairs-InsertsAll : {mode : Mode} {old new : List (K × V)}
       → InsertsAll becomes steps source eq shows mode old new
       → ((it : I) → becomes source it → YieldsList steps shows it all)
       → new ≡ insert_each eq mode old all
@@ -48,7 +48,7 @@ module _ {T I X K V : Type 0} {becomes : T → I → Type 0} {steps : I → Opti
 
 module _ {T I K V : Type 0} {becomes : T → I → Type 0} {steps : I → Option (K × V) → I → Type 0} {source : T} {remaining : I → Count} {eq : K → K → Bool} {pairs : List (K × V)} {capacity rechained : ℕ} where
   -- `from_iter` inserts as `extend` of a new map does
-  pub InsertsAll-Collects : Collects becomes steps source remaining eq pairs capacity rechained
+  InsertsAll-Collects : Collects becomes steps source remaining eq pairs capacity rechained
       → InsertsAll becomes steps source eq (λ pair. pair) Touch [] pairs
   InsertsAll-Collects collects = record {
     given = collects.given;
@@ -58,7 +58,7 @@ module _ {T I K V : Type 0} {becomes : T → I → Type 0} {steps : I → Option
 
   -- if at most n items are left to come, it rehashed what growing to the capacity does, from room
   -- for at most n
-  pub rechained-Collects : (n : ℕ)
+  rechained-Collects : (n : ℕ)
       → Collects becomes steps source remaining eq pairs capacity rechained
       → GivesAtMost becomes remaining source n
       → (lower : ℕ) × (lower ≤ n) × (rechained ≡ rechained_each 0 lower (capacity - lower))
@@ -69,13 +69,13 @@ module _ {T I K V : Type 0} {becomes : T → I → Type 0} {steps : I → Option
 
   module _ {all : List (K × V)} (laws : IsEquivalence eq) (collects : Collects becomes steps source remaining eq pairs capacity rechained) where
     -- `from_iter` of any source whose items are known
-    pub pairs-Collects : ((it : I) → becomes source it → YieldsList steps (λ pair. pair) it all)
+    pairs-Collects : ((it : I) → becomes source it → YieldsList steps (λ pair. pair) it all)
         → pairs ≡ insert_each eq Touch [] all
     pairs-Collects each = pairs-InsertsAll (InsertsAll-Collects collects) each
 
     -- if no more items are left to come than come, the capacity is no more than the number of
     -- items
-    pub capacity-Collects : ((it : I) → becomes source it → YieldsList steps (λ pair. pair) it all)
+    capacity-Collects : ((it : I) → becomes source it → YieldsList steps (λ pair. pair) it all)
         → GivesAtMost becomes remaining source (length all)
         → (length pairs ≤ capacity) × (capacity ≤ length all)
     capacity-Collects each left =
@@ -87,12 +87,12 @@ module _ {T I K V : Type 0} {becomes : T → I → Type 0} {steps : I → Option
         (omega arith, omega arith)
 
     -- and if their keys differ, it is that number, and the pairs are the items
-    pub pairs-Collects_distinct : ((it : I) → becomes source it
+    pairs-Collects_distinct : ((it : I) → becomes source it
         → YieldsList steps (λ pair. pair) it all)
         → IsDistinct eq (keys_of all) → pairs ≡ all
     pairs-Collects_distinct each distinct = pairs-Collects each ∙ insert_each-distinct laws Touch all distinct
 
-    pub capacity-Collects_distinct : ((it : I) → becomes source it
+    capacity-Collects_distinct : ((it : I) → becomes source it
         → YieldsList steps (λ pair. pair) it all)
         → IsDistinct eq (keys_of all) → GivesAtMost becomes remaining source (length all)
         → capacity ≡ length all
@@ -165,7 +165,7 @@ pub pairs-InsertsAll_vec : {T Z K V : Type 0} {becomes : T → _ → Type 0} {so
     → ((it : _) → becomes source it → (into_iter_items {X = K × V} {Z = Z} it ≡ vec_items vec) × (into_iter_len it ≡ vec_len vec)) → new ≡ insert_each eq mode old (vec_items vec)
 pairs-InsertsAll_vec {becomes = becomes} {source} vec inserts is = pairs-InsertsAll inserts (yields becomes vec source is)
 
-pub pairs-Collects_vec : {T Z K V : Type 0} {becomes : T → _ → Type 0} {source : T} {eq : K → K → Bool} {pairs : List (K × V)} {capacity rechained : ℕ} (vec : Vec (K × V) Z) → Collects becomes (into_iter_steps {X = K × V} {Z = Z}) source (λ it. at_most (into_iter_len it)) eq pairs capacity rechained
+pairs-Collects_vec : {T Z K V : Type 0} {becomes : T → _ → Type 0} {source : T} {eq : K → K → Bool} {pairs : List (K × V)} {capacity rechained : ℕ} (vec : Vec (K × V) Z) → Collects becomes (into_iter_steps {X = K × V} {Z = Z}) source (λ it. at_most (into_iter_len it)) eq pairs capacity rechained
     → ((it : _) → becomes source it → (into_iter_items {X = K × V} {Z = Z} it ≡ vec_items vec) × (into_iter_len it ≡ vec_len vec)) → pairs ≡ insert_each eq Touch [] (vec_items vec)
 pairs-Collects_vec vec collects is = pairs-InsertsAll_vec vec (InsertsAll-Collects collects) is
 

@@ -68,7 +68,7 @@ keys_of-filter kept (pair ∷ pairs) = by_test (kept pair.0) (keys_of-filter kep
     by_test false rest = rest
 
 module _ {K V : Type 0} (eq : K → K → Bool) where
-  pub keys_of-without : (pairs : List (K × V)) (k : K)
+  keys_of-without : (pairs : List (K × V)) (k : K)
       → keys_of (without eq pairs k) ≡ filter (λ j. not (eq k j)) (keys_of pairs)
   keys_of-without pairs k = keys_of-filter (λ j. not (eq k j)) pairs
 
@@ -158,7 +158,7 @@ pub distinct-nil : {K : Type 0} (eq : K → K → Bool) → IsDistinct eq []
 unfolding IsDistinct
 distinct-nil eq = tt
 
-pub distinct-set_value : {K V : Type 0} (eq : K → K → Bool) (pairs : List (K × V)) (k : K) (v : V)
+distinct-set_value : {K V : Type 0} (eq : K → K → Bool) (pairs : List (K × V)) (k : K) (v : V)
     → IsDistinct eq (keys_of pairs) → IsDistinct eq (keys_of (set_value eq pairs k v))
 distinct-set_value eq pairs k v distinct = subst (IsDistinct eq) (sym (keys_of-set_value eq pairs k v)) distinct
 

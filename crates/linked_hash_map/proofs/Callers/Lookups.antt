@@ -86,7 +86,7 @@ module _ {K V : Type 0} {eq : K → K → Bool} (laws : IsEquivalence eq) where
   value_at-same pairs j k same = ap (option_map (λ pair. pair.1)) (find-same pairs j k same)
 
   -- the key of the pair that is found is the key asked for
-  pub eq-find : (pairs : List (K × V)) (k : K) (pair : K × V) → find eq pairs k ≡ Some pair
+  eq-find : (pairs : List (K × V)) (k : K) (pair : K × V) → find eq pairs k ≡ Some pair
       → eq k pair.0 ≡ true
   eq-find [] k pair found = absurd (true≢false (sym (ap is_some found)))
   eq-find (first ∷ pairs) k pair found = by_test (eq k first.0) refl found (eq-find pairs k pair)
@@ -104,7 +104,7 @@ module _ {K V : Type 0} {eq : K → K → Bool} (laws : IsEquivalence eq) where
   eq-stored pairs k = eq-key_or k (find eq pairs k) (eq-find pairs k)
 
   -- after `remove`
-  pub find-without : (pairs : List (K × V)) (k q : K)
+  find-without : (pairs : List (K × V)) (k q : K)
       → find eq (without eq pairs k) q ≡ cond (eq k q) None (find eq pairs q)
   find-without pairs k q =
       lookup_entry-filter (eq q) (λ j. not (eq k j)) (not (eq k q)) (λ j same. ap not (alike laws k q j same)) pairs
@@ -125,7 +125,7 @@ module _ {K V : Type 0} {eq : K → K → Bool} (laws : IsEquivalence eq) where
       ∙ pushed q key v (eq k q) (find eq pairs q) (laws.symm q key ∙ sym (laws.congr k key q (eq-stored pairs k)))
 
   -- after a value is written, as through `get_mut`
-  pub find-set_value : (pairs : List (K × V)) (k q : K) (v : V)
+  find-set_value : (pairs : List (K × V)) (k q : K) (v : V)
       → find eq (set_value eq pairs k v) q
       ≡ cond (eq k q) (option_map (λ pair. (pair.0, v)) (find eq pairs q)) (find eq pairs q)
   find-set_value [] k q v = elim (eq k q) as (λ b. None ≡ cond {A = Option (K × V)} b None None) [ true ↦ refl | false ↦ refl ]
@@ -145,7 +145,7 @@ module _ {K V : Type 0} {eq : K → K → Bool} (laws : IsEquivalence eq) where
       by_test false false is passes rest = ap (λ c. cond c (Some pair) (find eq (set_value eq pairs k v) q)) passes ∙ rest
 
   -- after a value is written through what `or_insert` lends
-  pub find-set_or_push : (pairs : List (K × V)) (k q : K) (v : V)
+  find-set_or_push : (pairs : List (K × V)) (k q : K) (v : V)
       → find eq (set_or_push eq pairs k v) q
       ≡ cond (eq k q) (Some (key_or k (find eq pairs k), v)) (find eq pairs q)
   find-set_or_push pairs k q v = by_pair (find eq pairs k) refl
@@ -173,11 +173,11 @@ module _ {K V : Type 0} {eq : K → K → Bool} (laws : IsEquivalence eq) where
   find-put Keep = find-set_or_push
 
   -- the value that a key has after each of these
-  pub value_at-without : (pairs : List (K × V)) (k q : K)
+  value_at-without : (pairs : List (K × V)) (k q : K)
       → value_at eq (without eq pairs k) q ≡ cond (eq k q) None (value_at eq pairs q)
   value_at-without pairs k q = ap (option_map (λ pair. pair.1)) (find-without pairs k q) ∙ option_map-cond (λ pair. pair.1) (eq k q) None (find eq pairs q)
 
-  pub value_at-to_back : (pairs : List (K × V)) (k q : K) (v : V)
+  value_at-to_back : (pairs : List (K × V)) (k q : K) (v : V)
       → value_at eq (to_back eq pairs k v) q ≡ cond (eq k q) (Some v) (value_at eq pairs q)
   value_at-to_back pairs k q v =
       ap (option_map (λ pair. pair.1)) (find-to_back pairs k q v)

@@ -63,48 +63,48 @@ module _ {K V : Type 0} {eq : K → K → Bool} (laws : IsEquivalence eq) {start
       replied laws command reply is done.0 done.1
 
   -- the commands that are never refused
-  pub Replied-write : (k : K) (v : V) (reply : Reply K V) → Defines eq start log contents room mode
+  Replied-write : (k : K) (v : V) (reply : Reply K V) → Defines eq start log contents room mode
       → IsReply eq start log (Write k v) reply
       → Replied eq start log (Write k v) reply (old_or (Absent k v) (value_at eq contents k))
       (set_value eq contents k v) room mode
   Replied-write k v reply defines is = let done = write_outcome laws defines k v reply.answer is.allowed.answers in replied laws (Write k v) reply is done.0 done.1
 
-  pub Replied-refresh : (k : K) (reply : Reply K V) → Defines eq start log contents room mode
+  Replied-refresh : (k : K) (reply : Reply K V) → Defines eq start log contents room mode
       → IsReply eq start log (Refresh k) reply
       → Replied eq start log (Refresh k) reply (cond (is_some (find eq contents k)) Found Missing)
       (to_back_if_some eq contents k (value_at eq contents k)) room mode
   Replied-refresh k reply defines is = let done = refresh_outcome laws defines k reply.answer is.allowed.answers in replied laws (Refresh k) reply is done.0 done.1
 
-  pub Replied-remove : (k : K) (reply : Reply K V) → Defines eq start log contents room mode
+  Replied-remove : (k : K) (reply : Reply K V) → Defines eq start log contents room mode
       → IsReply eq start log (Remove k) reply
       → Replied eq start log (Remove k) reply (old_or Missing (value_at eq contents k))
       (without eq contents k) room mode
   Replied-remove k reply defines is = let done = remove_outcome laws defines k reply.answer is.allowed.answers in replied laws (Remove k) reply is done.0 done.1
 
-  pub Replied-entry_remove : (k : K) (reply : Reply K V) → Defines eq start log contents room mode
+  Replied-entry_remove : (k : K) (reply : Reply K V) → Defines eq start log contents room mode
       → IsReply eq start log (EntryRemove k) reply
       → Replied eq start log (EntryRemove k) reply (old_or Missing (value_at eq contents k))
       (without eq contents k) room mode
   Replied-entry_remove k reply defines is = let done = entry_remove_outcome laws defines k reply.answer is.allowed.answers in replied laws (EntryRemove k) reply is done.0 done.1
 
-  pub Replied-pop_front : (reply : Reply K V) → Defines eq start log contents room mode
+  Replied-pop_front : (reply : Reply K V) → Defines eq start log contents room mode
       → IsReply eq start log PopFront reply
       → Replied eq start log PopFront reply (pair_or_empty (slice_get contents 0))
       (drop 1 contents) room mode
   Replied-pop_front reply defines is = let done = pop_front_outcome laws defines reply.answer is.allowed.answers in replied laws PopFront reply is done.0 done.1
 
-  pub Replied-pop_back : (reply : Reply K V) → Defines eq start log contents room mode
+  Replied-pop_back : (reply : Reply K V) → Defines eq start log contents room mode
       → IsReply eq start log PopBack reply
       → Replied eq start log PopBack reply
       (pair_or_empty (slice_get contents (length contents - 1)))
       (take (length contents - 1) contents) room mode
   Replied-pop_back reply defines is = let done = pop_back_outcome laws defines reply.answer is.allowed.answers in replied laws PopBack reply is done.0 done.1
 
-  pub Replied-clear : (reply : Reply K V) → Defines eq start log contents room mode
+  Replied-clear : (reply : Reply K V) → Defines eq start log contents room mode
       → IsReply eq start log Clear reply → Replied eq start log Clear reply Done [] room mode
   Replied-clear reply defines is = let done = clear_outcome laws defines reply.answer is.allowed.answers in replied laws Clear reply is done.0 done.1
 
-  pub Replied-set_mode : (m : Mode) (reply : Reply K V) → Defines eq start log contents room mode
+  Replied-set_mode : (m : Mode) (reply : Reply K V) → Defines eq start log contents room mode
       → IsReply eq start log (SetMode m) reply
       → Replied eq start log (SetMode m) reply Done contents room m
   Replied-set_mode m reply defines is = let done = set_mode_outcome laws defines m reply.answer is.allowed.answers in replied laws (SetMode m) reply is done.0 done.1

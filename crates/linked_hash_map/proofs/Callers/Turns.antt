@@ -12,7 +12,7 @@ use Rattle.linked_hash_map.proofs.Callers.Lookups.{lookup_entry-append, find-sam
 use Rattle.linked_hash_map.proofs.Callers.Keys.{find-drop, put-absent}
 
 -- a list with a first pair is that pair and the others, and so are its keys
-pub cons-without_first : {X : Type 0} (xs : List X) (x : X) → first xs ≡ Some x
+cons-without_first : {X : Type 0} (xs : List X) (x : X) → first xs ≡ Some x
     → x ∷ without_first xs ≡ xs
 cons-without_first [] x there = cc
 cons-without_first (y ∷ xs) x there = let same : y ≡ x = cc in ap (λ z. z ∷ xs) (sym same)
@@ -30,7 +30,7 @@ module _ {K V : Type 0} {eq : K → K → Bool} (laws : IsEquivalence eq) where
       ∙ ap (λ ps. find eq ps pair.0) (drop-first laws (pair ∷ others) pair distinct refl)
       ∙ find-without_here laws (pair ∷ others) pair.0
 
-  pub find-without_first : (pairs : List (K × V)) (pair : K × V) → IsDistinct eq (keys_of pairs)
+  find-without_first : (pairs : List (K × V)) (pair : K × V) → IsDistinct eq (keys_of pairs)
       → first pairs ≡ Some pair → find eq (without_first pairs) pair.0 ≡ None
   find-without_first pairs pair distinct there =
       ap (λ ps. find eq ps pair.0) (drop-first laws pairs pair distinct there) ∙ find-without_here laws pairs pair.0
@@ -106,7 +106,7 @@ module _ {K V : Type 0} {eq : K → K → Bool} (laws : IsEquivalence eq) (from 
 
 module _ {K V : Type 0} {eq : K → K → Bool} (laws : IsEquivalence eq) (old now : List (K × V)) (from to : K) (pair : K × V) (turns : ℕ) (w : IsRenaming eq old now from to turns) (distinct : IsDistinct eq (keys_of now)) (there : first now ≡ Some pair) where
   -- the name that the first pair takes is free among the others
-  pub find-renamed : find eq (without_first now) (cond (eq from pair.0) to pair.0) ≡ None
+  find-renamed : find eq (without_first now) (cond (eq from pair.0) to pair.0) ≡ None
   find-renamed = by_list now distinct there w.free
     where
       by_list : (contents : List (K × V)) → IsDistinct eq (keys_of contents) → first contents ≡ Some pair → (is_some (find eq contents from) ≡ true → find eq contents to ≡ None) → find eq (without_first contents) (cond (eq from pair.0) to pair.0) ≡ None

@@ -33,11 +33,11 @@ module _ {K V S : Type 0} {eq : K → K → Bool} (laws : IsEquivalence eq) {m n
   IsValid-put mode k v valid = raised valid (distinct-put laws mode m.pairs k v valid.distinct)
 
   -- after `or_insert`
-  pub IsValid-set_or_push : (k : K) (v : V) → IsValid eq m → n.pairs ≡ set_or_push eq m.pairs k v
+  IsValid-set_or_push : (k : K) (v : V) → IsValid eq m → n.pairs ≡ set_or_push eq m.pairs k v
       → n.capacity ≡ max m.capacity (length n.pairs) → length n.pairs ≤ LIMIT → IsValid eq n
   IsValid-set_or_push k v valid = raised valid (distinct-set_or_push laws m.pairs k v valid.distinct)
 
-  pub IsValid-set_or_push_present : (k : K) (v : V) → IsValid eq m → IsSome (find eq m.pairs k)
+  IsValid-set_or_push_present : (k : K) (v : V) → IsValid eq m → IsSome (find eq m.pairs k)
       → n.pairs ≡ set_or_push eq m.pairs k v → n.capacity ≡ max m.capacity (length n.pairs)
       → IsValid eq n
   IsValid-set_or_push_present k v valid found changed more =

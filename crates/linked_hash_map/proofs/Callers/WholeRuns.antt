@@ -35,7 +35,7 @@ never_refused _ = false
 
 module _ {K V : Type 0} {eq : K → K → Bool} (laws : IsEquivalence eq) where
   -- a run on a log that defines these pairs and this capacity
-  pub replies-given : (mode : Mode) (commands : List (Command K V)) (replies : List (Reply K V))
+  replies-given : (mode : Mode) (commands : List (Command K V)) (replies : List (Reply K V))
       (log : Log K V) (contents : List (K × V)) (start room : ℕ)
       → Defines eq start log contents room mode → IsRun eq start log commands replies
       → NoneRefused replies → replies ≡ replies_to eq mode room contents commands
@@ -50,7 +50,7 @@ module _ {K V : Type 0} {eq : K → K → Bool} (laws : IsEquivalence eq) where
       (λ i. record { answer = replied.answer_is i; len = replied.len_is i; capacity = replied.capacity_is i })
       (replies-given (mode_after mode command) commands replies (log_after eq log command reply.answer) (pairs_after eq mode contents command) start (capacity_after eq mode room contents command) replied.defines run.1 (none_later refused later given))
 
-  pub Defines-given : (mode : Mode) (commands : List (Command K V)) (replies : List (Reply K V))
+  Defines-given : (mode : Mode) (commands : List (Command K V)) (replies : List (Reply K V))
       (log : Log K V) (contents : List (K × V)) (start room : ℕ)
       → Defines eq start log contents room mode → IsRun eq start log commands replies
       → NoneRefused replies
@@ -101,7 +101,7 @@ module _ {K V : Type 0} {eq : K → K → Bool} (laws : IsEquivalence eq) (start
 
 module _ {K V S : Type 0} {eq : K → K → Bool} (laws : IsEquivalence eq) {old new : LinkedMap K V S} {commands : List (Command K V)} {replies : List (Reply K V)} (valid : IsValid eq old) (replayed : Replayed eq old commands replies new) where
   -- of a whole run: what `replay` returned, and what the map holds
-  pub replies-replayed : NoneRefused replies
+  replies-replayed : NoneRefused replies
       → replies ≡ replies_to eq old.mode old.capacity old.pairs commands
   replies-replayed given = replies-given laws old.mode commands replies (first_log old.mode old.pairs) old.pairs old.capacity old.capacity (Defines-first laws valid) replayed.run given
 
@@ -138,14 +138,14 @@ answers-replies_to eq (command ∷ commands) contents room other mode =
 module _ {K V S T : Type 0} {eq : K → K → Bool} (laws : IsEquivalence eq) {old new : LinkedMap K V S} {old' new' : LinkedMap K V T} {commands : List (Command K V)} {replies replies' : List (Reply K V)} (valid : IsValid eq old) (valid' : IsValid eq old') (replayed : Replayed eq old commands replies new) (replayed' : Replayed eq old' commands replies' new') (same : old.pairs ≡ old'.pairs) (alike : old.mode ≡ old'.mode) (given : NoneRefused replies) (given' : NoneRefused replies') where
   -- two runs of the same commands on maps with the same pairs and the same mode, whatever their
   -- hashers, have the same answers and leave the same pairs
-  pub answers-same_run : map (λ reply. reply.answer) replies ≡ map (λ reply. reply.answer) replies'
+  answers-same_run : map (λ reply. reply.answer) replies ≡ map (λ reply. reply.answer) replies'
   answers-same_run =
       ap (map (λ (reply : Reply K V). reply.answer)) (replies-replayed laws valid replayed given)
       ∙ answers-replies_to eq commands old.pairs old.capacity old'.capacity old.mode
       ∙ ap₂ (λ mode contents. map (λ (reply : Reply K V). reply.answer) (replies_to eq mode old'.capacity contents commands)) alike same
       ∙ sym (ap (map (λ (reply : Reply K V). reply.answer)) (replies-replayed laws valid' replayed' given'))
 
-  pub pairs-same_run : new.pairs ≡ new'.pairs
+  pairs-same_run : new.pairs ≡ new'.pairs
   pairs-same_run =
       pairs-replayed laws valid replayed given
       ∙ ap₂ (λ mode contents. pairs_after_all eq mode contents commands) alike same

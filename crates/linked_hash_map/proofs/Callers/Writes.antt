@@ -31,7 +31,7 @@ module _ {K V : Type 0} {eq : K → K → Bool} (laws : IsEquivalence eq) (pairs
 
 module _ {K V : Type 0} (eq : K → K → Bool) where
   -- the later of two writes counts
-  pub set_value-set_value : (pairs : List (K × V)) (k : K) (w v : V)
+  set_value-set_value : (pairs : List (K × V)) (k : K) (w v : V)
       → set_value eq (set_value eq pairs k w) k v ≡ set_value eq pairs k v
   set_value-set_value [] k w v = refl
   set_value-set_value (pair ∷ pairs) k w v = ap₂ (λ p ps. p ∷ ps) (by_test (eq k pair.0) refl) (set_value-set_value pairs k w v)
