@@ -1,13 +1,13 @@
 //! The arguments: numbers above 0.
 ghost use Rattle.std.specs.Prelude.{◌≡◌, IfNone, IfSome};
-ghost use Rattle.bench.specs.Arguments.{IsNumber, IsNoNumber, number_of};
+ghost use Rattle.bench.specs.Arguments.{IsNumber, IsNoNumber, decimal_value};
 
 use std::alloc::{AllocError, Global};
 
 /// Reads a number above 0, or returns `None` if the word is none.
 fn number(word: &str) -> Option<u64>
     ensures some { IfSome result (λ n. IsNumber word.now) }
-    ensures number { IfSome result (λ n. n ≡ number_of word.now) }
+    ensures number { IfSome result (λ n. n ≡ decimal_value word.now) }
     ensures none { IfNone result (IsNoNumber word.now) }
 {
     match word.parse::<u64>() {

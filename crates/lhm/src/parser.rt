@@ -55,7 +55,7 @@ fn no_number(rest: &[u8]) -> Result<(), NotACommand>
 }
 
 /// Returns the number that a word is.
-fn number_of(word: &[u8]) -> Result<u64, NotACommand>
+fn parse_number(word: &[u8]) -> Result<u64, NotACommand>
     ensures ok { IfOk result (λ n. SpellsNumber word.now n) }
     ensures err { OnErr result ((n : ℕ) → ¬ SpellsNumber word.now n) }
 {
@@ -75,7 +75,7 @@ fn split_number(rest: &[u8]) -> Result<(u64, &[u8]), NotACommand>
     let Some((word, after)) = split_word(rest) else {
         return Err(NotACommand);
     };
-    Ok((number_of(word)?, after))
+    Ok((parse_number(word)?, after))
 }
 
 /// Returns the number that the only word is.
@@ -107,7 +107,7 @@ fn pairs(alloc: Global, rest: &[u8]) -> Result<Vec<(u64, u64)>, LineError>
     let mut pairs = Vec::new(alloc);
     let mut rest = rest;
     while let Some((word, after)) = split_word(rest) {
-        let k = number_of(word)?;
+        let k = parse_number(word)?;
         let (v, after) = split_number(after)?;
         pairs.push((k, v))?;
         rest = after;

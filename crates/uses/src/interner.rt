@@ -29,7 +29,7 @@ impl<K: Eq + Hash> Interner<K> {
     /// Returns the number of a name. A name that has none gets the next one, which is how many
     /// names there are, or is handed back if an allocation fails.
     #[tactic(auto, using(linked_hash_map::proofs::Callers::Rules::dense))]
-    pub fn number_of(&mut self, name: K) -> Result<usize, Refused<K, usize>>
+    pub fn intern(&mut self, name: K) -> Result<usize, Refused<K, usize>>
     where
         K: Drop,
         ensures number { IfOk result (λ number.

@@ -39,9 +39,9 @@ pub fn value_in<T, E: Debug + Drop>(rt: &impl Abort, outcome: Result<T, E>) -> T
 #[test]
 fn an_interner_numbers_names_in_order(rt: HostRuntime) {
     let mut names = Interner::new(rt.alloc());
-    check_eq!(rt; names.number_of("apple"), Ok(0));
-    check_eq!(rt; names.number_of("pear"), Ok(1));
-    check_eq!(rt; names.number_of("apple"), Ok(0));
+    check_eq!(rt; names.intern("apple"), Ok(0));
+    check_eq!(rt; names.intern("pear"), Ok(1));
+    check_eq!(rt; names.intern("apple"), Ok(0));
     check_eq!(rt; names.name_of(1), Some(&"pear"));
     check_eq!(rt; names.name_of(2), None);
 }

@@ -41,13 +41,13 @@ fn drops_the_values_that_a_collection_replaces(rt: HostRuntime) {
     assert_dropped(&rt, &tally, 63);
 }
 
-fn number_of(thing: &Counted<'_>) -> u64 {
+fn read_number(thing: &Counted<'_>) -> u64 {
     thing.number
 }
 
 /// Collects from an iterator that hints at more items than a map can hold, and owns something.
 fn collect_too_many(rt: &impl Abort, alloc: Global, owned: Counted<'_>) {
-    let items = (0..LIMIT + 1).map(move |key| (key, number_of(&owned)));
+    let items = (0..LIMIT + 1).map(move |key| (key, read_number(&owned)));
     let made: Result<LinkedHashMap<usize, u64>, _> = LinkedHashMap::from_iter(alloc, items);
     check!(rt; made.is_err_and(|error| error == ReserveError::TooLarge));
 }

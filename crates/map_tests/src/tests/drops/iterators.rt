@@ -53,7 +53,11 @@ fn borrow_all<'a>(rt: &impl Abort, tally: &'a Tally, map: &CountedMap<'a>) {
 fn borrow_mutably<'a>(rt: &impl Abort, tally: &'a Tally, map: &mut CountedMap<'a>) {
     let (key, absent) = (tally.thing(1, 256), tally.thing(4, 512));
     check_eq!(rt; (map.get_mut(&key).is_some(), map.get_mut(&absent).is_some()), (true, false));
-    check_eq!(rt; (map.get_refresh(&key).is_some(), map.get_refresh(&absent).is_some()), (true, false));
+    check_eq!(
+        rt;
+        (map.get_refresh(&key).is_some(), map.get_refresh(&absent).is_some()),
+        (true, false)
+    );
     assert_dropped(rt, tally, KEY | 1024);
 }
 
