@@ -6,7 +6,6 @@ use Rattle.linked_hash_map.specs.LinkedMap.{LinkedMap}
 use Rattle.linked_hash_map.specs.Nodes.{pairs_of}
 use Rattle.linked_hash_map.specs.Hashers.{hash_by}
 use Rattle.linked_hash_map.specs.Pairs.{find, put}
-use Rattle.linked_hash_map.specs.Cursor.{to_visit}
 use Rattle.linked_hash_map.proofs.Callers.Updates.{Updates-put}
 use Rattle.linked_hash_map.proofs.Pairs.{put-absent}
 use Rattle.linked_hash_map.proofs.Kept.{of-Some, of-None, absent_key, distinct_keys, IsValid-view}
