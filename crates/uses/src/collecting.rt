@@ -1,5 +1,5 @@
 //! Maps that take in what others have.
-ghost use Rattle.std.specs.Prelude.{◌≡◌, ◌≤◌, ◌-◌, ◌++◌, ℕ, [], length, map, filter, not, is_some, None, IfOk, IfErr, OnOk, OnErr};
+ghost use Rattle.std.specs.Prelude.{◌≡◌, ◌≤◌, ◌+◌, ◌-◌, ◌∷◌, ◌++◌, ℕ, [], length, map, filter, not, is_some, None, IsOk, IfOk, IfErr, OnOk, OnErr};
 ghost use Rattle.std.specs.List.{IsDistinct};
 ghost use Rattle.std.specs.Map.{keys_of};
 ghost use Rattle.std.specs.Option.{option_or};
@@ -12,17 +12,40 @@ use std::alloc::Global;
 use std::hash::{BuildHasher, Hash};
 
 /// Puts in the pairs of a list one by one. The first that finds no memory is handed back, and those
-/// before it stay.
+/// before it stay. If there is room for all, none is refused.
 pub fn insert_all<K: Eq + Hash + Drop, V: Drop, S: BuildHasher>(
     map: &mut LinkedHashMap<K, V, S>,
     list: Vec<(K, V)>,
 ) -> Result<(), Refused<K, V>>
     ensures all { OnOk result
         (map.new.pairs ≡ insert_each K.eq map.old.mode map.old.pairs list.items) }
+    ensures mode { map.new.mode ≡ map.old.mode }
+    ensures succeeds { length map.old.pairs + length list.items ≤ map.old.capacity → IsOk result }
     ensures absent { IfErr result (λ refused. find K.eq map.new.pairs refused.key ≡ None) }
     ensures full { OnErr result (length map.new.pairs ≡ map.new.capacity) }
 {
-    map.extend(list)?;
+    match map.extend(list) {
+        Ok(()) => Ok(()),
+        Err(refused) => Err(refused),
+    }
+}
+
+/// Puts in the pairs of two lists, one list after the other, and then one more pair. The first pair
+/// that finds no memory is handed back, and those before it stay.
+#[tactic(auto, using(crate::proofs::Rules::insertions))]
+pub fn insert_both<K: Eq + Hash + Drop, V: Drop, S: BuildHasher>(
+    map: &mut LinkedHashMap<K, V, S>,
+    list: Vec<(K, V)>,
+    more: Vec<(K, V)>,
+    last: (K, V),
+) -> Result<(), Refused<K, V>>
+    ensures all { OnOk result
+        (map.new.pairs ≡ insert_each K.eq map.old.mode map.old.pairs
+        ((list.items ++ more.items) ++ last ∷ [])) }
+{
+    insert_all(map, list)?;
+    insert_all(map, more)?;
+    map.insert(last.0, last.1)?;
     Ok(())
 }
 

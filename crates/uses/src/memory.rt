@@ -4,6 +4,7 @@ ghost use Rattle.std.specs.Int.{IsPowerOfTwo};
 ghost use Rattle.linked_hash_map.specs.Pairs.{value_at, put};
 ghost use Rattle.linked_hash_map.specs.Inserts.{insert_each};
 
+use crate::collecting::insert_all;
 use linked_hash_map::{LinkedHashMap, NoRoom, ReserveError};
 use std::hash::{BuildHasher, Hash};
 
@@ -34,7 +35,7 @@ pub fn reserve_and_extend<K: Eq + Hash + Drop, V: Drop, S: BuildHasher>(
     ensures unchanged { OnErr result (map.new ≡ map.old) }
 {
     map.reserve(list.len())?;
-    match map.extend(list) {
+    match insert_all(map, list) {
         Ok(()) => Ok(()),
         Err(_refused) => unreachable!(),
     }

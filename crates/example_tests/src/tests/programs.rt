@@ -8,7 +8,7 @@ use std::alloc::Global;
 use std::fmt::Debug;
 use std::hash::{BuildHasher, RandomState};
 use std::process::Abort;
-use uses::collecting::{collect_all, insert_all, merge};
+use uses::collecting::{collect_all, insert_all, insert_both, merge};
 use uses::count::counts_of;
 use uses::document::{Document, copy_of, is_same};
 use uses::hasher::for_strangers;
@@ -314,6 +314,16 @@ fn maps_are_merged(rt: HostRuntime) {
     given!(rt; merge(&mut map, others));
     let list = given!(rt; into_list(rt.alloc(), map));
     check_eq!(rt; list.as_slice(), [(1, 11), (2, 21)].as_slice());
+}
+
+#[test]
+fn two_lists_and_a_pair_go_in(rt: HostRuntime) {
+    let mut map = LinkedHashMap::new(rt.alloc());
+    let list = given!(rt; Vec::from_array(rt.alloc(), [(1, 10), (2, 20)]));
+    let more = given!(rt; Vec::from_array(rt.alloc(), [(1, 11), (3, 30)]));
+    given!(rt; insert_both(&mut map, list, more, (2, 21)));
+    let pairs = given!(rt; into_list(rt.alloc(), map));
+    check_eq!(rt; pairs.as_slice(), [(1, 11), (3, 30), (2, 21)].as_slice());
 }
 
 #[test]
