@@ -13,7 +13,7 @@ use Rattle.lhm_ring.proofs.Options.{none_some}
 use Rattle.lhm_ring.proofs.Rows.{IsFresh-head, IsApart-tail}
 
 module _ {B : Type 0} where
-  same_ptr-fresh : (p : Ptr) (xs : List (Held B)) (t : Held B) (ys : List (Held B)) → IsFresh p (map (λ u. u.at) (xs ++ t ∷ ys)) → same_ptr p t.at ≡ false
+  pub same_ptr-fresh : (p : Ptr) (xs : List (Held B)) (t : Held B) (ys : List (Held B)) → IsFresh p (map (λ u. u.at) (xs ++ t ∷ ys)) → same_ptr p t.at ≡ false
   same_ptr-fresh p [] t ys f = f.0
   same_ptr-fresh p (x ∷ xs) t ys f = same_ptr-fresh p xs t ys f.1
 

@@ -1,18 +1,41 @@
 -- A key that a lookup does not find.
-use Rattle.std.proofs.Common.{◌≡◌, ℕ, Bool, List, fold, None, option_map, IsTrue, ap}
-use Rattle.std.specs.List.{AllByRecursion}
+use Rattle.std.proofs.Common.{◌≡◌, ℕ, Bool, true, false, ◌||◌, ◌&&◌, eqb, List, [], ◌∷◌, fold, None, option_map, IsTrue, refl, sym, ap, ◌∙◌, subst}
+use Rattle.std.specs.List.{list_any, AllByRecursion}
+use Rattle.std.specs.Map.{keys_of}
+use Rattle.std.proofs.lemmas.Bool.{eq-eqb}
 use Rattle.lhm_ring.specs.RingState.{Held}
 use Rattle.lhm_ring.specs.Search.{IsAbsent}
+use Rattle.lhm_ring.specs.Tables.{TableState}
 use Rattle.linked_hash_map.specs.Hashers.{hash_by}
-use Rattle.linked_hash_map.specs.Nodes.{pairs_of, bare}
+use Rattle.linked_hash_map.specs.LinkedMap.{LinkedMap}
+use Rattle.linked_hash_map.specs.Nodes.{Beside, IsKept, pairs_of, bare, map_of}
 use Rattle.linked_hash_map.specs.Pairs.{find, value_at}
-use Rattle.linked_hash_map.proofs.Kept.{absent_key}
+use Rattle.linked_hash_map.proofs.Pairs.{lookup_entry-none}
 
--- no node has a key that is the same as k, if the nodes have the hashes of their keys and keys that
--- are the same are hashed by the same
-module _ {K V S H : Type 0} (eq : K → K → Bool) (finish : H → ℕ) (write : H → List ℕ → H) (build : S → H) (input : K → List (List ℕ)) (respects : (x y : K) → IsTrue (eq x y) → input x ≡ input y) (hasher : S) (k : K) {n : ℕ} (is : n ≡ hash_by finish write build input hasher k) (hs : List (Held (K × V))) (hashed : AllByRecursion (λ u. u.hash ≡ hash_by finish write build input hasher u.pair) (bare hs)) where
-  pub find-IsAbsent : IsAbsent eq n k hs → find eq (pairs_of hs) k ≡ None
-  find-IsAbsent = absent_key eq (hash_by finish write build input hasher) (λ x y same. ap (λ words. finish (fold write (build hasher) words)) (respects x y same)) k n is hs hashed
+-- no node with the hash of a key has that key
+module _ {K V : Type 0} (eq : K → K → Bool) (hash : K → ℕ) (respects : (x y : K) → IsTrue (eq x y) → hash x ≡ hash y) (k : K) {n : ℕ} (is : n ≡ hash k) where
+  eq-other_hash : (t : Held (K × V)) → t.hash ≡ hash t.pair.0 → false ≡ (eqb t.hash n && eq k t.pair.0) → (b : Bool) → eq k t.pair.0 ≡ b → eq k t.pair.0 ≡ false
+  eq-other_hash t h none false differs = differs
+  eq-other_hash t h none true same =
+      let same_hash : eqb t.hash n ≡ true = eq-eqb t.hash n (h ∙ sym (respects k t.pair.0 same) ∙ sym is) in
+      sym (none ∙ ap (λ b. b && eq k t.pair.0) same_hash)
 
-  pub value_at-IsAbsent : IsAbsent eq n k hs → value_at eq (pairs_of hs) k ≡ None
-  value_at-IsAbsent none = ap (option_map (λ pair. pair.1)) (find-IsAbsent none)
+  list_any-IsAbsent : (hs : List (Held (K × V))) → AllByRecursion (λ u. u.hash ≡ hash u.pair) (bare hs) → IsAbsent eq n k hs → list_any (eq k) (keys_of (pairs_of hs)) ≡ false
+  list_any-IsAbsent [] h none = refl
+  list_any-IsAbsent (t ∷ hs) h none =
+      ap (λ b. b || list_any (eq k) (keys_of (pairs_of hs))) (eq-other_hash t h.0 (none [] t hs refl) (eq k t.pair.0) refl)
+      ∙ list_any-IsAbsent hs h.1 (λ xs x ys e. none (t ∷ xs) x ys (ap (λ l. t ∷ l) e))
+
+-- so a map of these nodes has no such key, if keys that are the same are hashed by the same
+module _ {K V S H : Type 0} (eq : K → K → Bool) (finish : H → ℕ) (write : H → List ℕ → H) (build : S → H) (input : K → List (List ℕ)) (respects : (x y : K) → IsTrue (eq x y) → input x ≡ input y) where
+  pub find-IsAbsent : (hasher : S) (k : K) {n : ℕ} → n ≡ hash_by finish write build input hasher k → (hs : List (Held (K × V))) → AllByRecursion (λ u. u.hash ≡ hash_by finish write build input hasher u.pair) (bare hs) → IsAbsent eq n k hs → find eq (pairs_of hs) k ≡ None
+  find-IsAbsent hasher k is hs hashed none =
+      lookup_entry-none (eq k) (pairs_of hs) (list_any-IsAbsent eq (hash_by finish write build input hasher) (λ x y same. ap (λ words. finish (fold write (build hasher) words)) (respects x y same)) k is hs hashed none)
+
+  pub value_at-IsAbsent : (hasher : S) (k : K) {n : ℕ} → n ≡ hash_by finish write build input hasher k → (hs : List (Held (K × V))) → AllByRecursion (λ u. u.hash ≡ hash_by finish write build input hasher u.pair) (bare hs) → IsAbsent eq n k hs → value_at eq (pairs_of hs) k ≡ None
+  value_at-IsAbsent hasher k is hs hashed none = ap (option_map (λ pair. pair.1)) (find-IsAbsent hasher k is hs hashed none)
+
+  pub find-IsAbsent_map : {m : LinkedMap K V S} (s : TableState (K × V)) (b : Beside S) → map_of s b ≡ m → IsKept eq (hash_by finish write build input b.hasher) s b.visit → (k : K) {n : ℕ} → n ≡ hash_by finish write build input m.hasher k → IsAbsent eq n k s.held → find eq m.pairs k ≡ None
+  find-IsAbsent_map s b seen kept k {n} =
+      subst (λ (z : LinkedMap K V S). n ≡ hash_by finish write build input z.hasher k → IsAbsent eq n k s.held → find eq z.pairs k ≡ None) seen
+      (λ is none. find-IsAbsent b.hasher k is s.held kept.nodes.hashed none)

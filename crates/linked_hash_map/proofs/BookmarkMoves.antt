@@ -15,7 +15,8 @@ use Rattle.linked_hash_map.specs.Entry.{occupied_pair, occupied_key}
 use Rattle.linked_hash_map.specs.Indexes.{pair_at}
 use Rattle.linked_hash_map.specs.Nodes.{VisitState, IsKept, before, bookmark_at, bare}
 use Rattle.linked_hash_map.specs.declared.entry.OccupiedEntry.{OccupiedEntry}
-use Rattle.linked_hash_map.proofs.Kept.{CutAt, cut_before, before_at, before-bare, length-bare}
+use Rattle.linked_hash_map.proofs.HeldPairs.{before-bare, length-bare}
+use Rattle.linked_hash_map.proofs.CutNodes.{CutAt, CutAt-before, before-append}
 use Rattle.linked_hash_map.proofs.Stretches.{stretch-step}
 
 pub positive : (n : ℕ) → (n ≡ 0 → ⊥) → 0 < n
@@ -53,7 +54,7 @@ module _ {K V : Type 0} where
   goes_next front t (u ∷ back) d n reach some =
       let on : front ++ t ∷ u ∷ back ≡ (front ++ t ∷ []) ++ u ∷ back = sym (append_assoc front (t ∷ []) (u ∷ back)) in
       let long = length-append front (t ∷ []) in
-      let is : before u.at (front ++ t ∷ u ∷ back) ≡ length front + 1 = ap (before u.at) on ∙ before_at (front ++ t ∷ []) u back (subst (λ l. IsApart (map (λ v. v.at) l)) on d) ∙ long in
+      let is : before u.at (front ++ t ∷ u ∷ back) ≡ length front + 1 = ap (before u.at) on ∙ before-append (front ++ t ∷ []) u back (subst (λ l. IsApart (map (λ v. v.at) l)) on d) ∙ long in
       record {
         bookmarked = λ no. absurd (let h : Some u.at ≡ None = no in cc);
         reach = omega (arith, is, reach, some);
@@ -88,7 +89,7 @@ module _ {K V : Type 0} {eq : K → K → Bool} {hash : K → ℕ} {s : TableSta
       omega (arith, at_bookmark, long, kept.nodes.in_reach)
 
   cut : CutAt p s.held
-  cut = cut_before p s.held (let some = unvisited_some in omega (arith, reach, some))
+  cut = CutAt-before p s.held (let some = unvisited_some in omega (arith, reach, some))
 
   pub bookmarked_held : IsHeld s.held p
   bookmarked_held = cut.held

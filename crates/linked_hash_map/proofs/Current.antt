@@ -14,7 +14,8 @@ use Rattle.linked_hash_map.specs.LinkedMap.{LinkedMap, CursorState}
 use Rattle.linked_hash_map.specs.Cursor.{IsOutside}
 use Rattle.linked_hash_map.specs.Indexes.{IsIndex}
 use Rattle.linked_hash_map.specs.Nodes.{VisitState, no_visit, pairs_of, bare, before, bookmark_at, current_at, cursor_at, Lies, AreKept, IsKept}
-use Rattle.linked_hash_map.proofs.Kept.{CutAt, cut_before, bare-change, length-bare, before-bare, pair_there}
+use Rattle.linked_hash_map.proofs.HeldPairs.{bare-change, length-bare, before-bare}
+use Rattle.linked_hash_map.proofs.CutNodes.{CutAt, CutAt-before, slice_get-held}
 use Rattle.linked_hash_map.proofs.Outside.{IsElsewhere, before_held}
 
 -- the index is the number of nodes before the pointer
@@ -39,7 +40,7 @@ module _ {K V : Type 0} {eq : K → K → Bool} {hash : K → ℕ} {s : TableSta
       omega (arith, lies, of_before, of_bare)
 
   pub current_cut : CutAt p s.held
-  current_cut = cut_before p s.held current_lies
+  current_cut = CutAt-before p s.held current_lies
 
   -- if the index is outside the pairs to visit, the node is
   pub current_elsewhere : {S : Type 0} (m : LinkedMap K V S) → cursor_at visit (bare s.held) ≡ m.cursor → IsOutside m.cursor.current m → IsElsewhere p s.held visit.bookmark visit.unvisited
@@ -85,11 +86,11 @@ module _ {K V : Type 0} {eq : K → K → Bool} {hash : ℕ} {k : K} {hs : List 
 
   pub key_index : IsIndex eq (pairs_of hs) k (before p hs)
   key_index =
-      let cut = cut_before p hs key_lies in
+      let cut = CutAt-before p hs key_lies in
       let at = cut.held in
       record {
         pair = at.node.pair;
-        there = ap (slice_get (pairs_of hs)) (sym cut.long) ∙ pair_there at;
+        there = ap (slice_get (pairs_of hs)) (sym cut.long) ∙ slice_get-held at;
         same = h.key_is at.before at.node at.after at.is at.at_is;
       }
 

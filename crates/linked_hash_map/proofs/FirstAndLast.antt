@@ -5,7 +5,8 @@ use Rattle.lhm_ring.specs.RingState.{Held}
 use Rattle.lhm_ring.proofs.Ends.{First, Last, last_held}
 use Rattle.linked_hash_map.specs.Nodes.{pairs_of}
 use Rattle.linked_hash_map.specs.Pairs.{first, last}
-use Rattle.linked_hash_map.proofs.Kept.{length-pairs_of, pair_there}
+use Rattle.linked_hash_map.proofs.HeldPairs.{length-pairs_of}
+use Rattle.linked_hash_map.proofs.CutNodes.{slice_get-held}
 
 -- its pair is the first, or the last
 module _ {K V : Type 0} {hs : List (Held (K × V))} {p : Ptr} where
@@ -18,7 +19,7 @@ module _ {K V : Type 0} {hs : List (Held (K × V))} {p : Ptr} where
       let cut = length-append l.before (l.node ∷ []) in
       let as_many = length-pairs_of hs in
       let at_end : length (pairs_of hs) - 1 ≡ length l.before = omega (arith, long, cut, as_many) in
-      ap (slice_get (pairs_of hs)) at_end ∙ pair_there (last_held l)
+      ap (slice_get (pairs_of hs)) at_end ∙ slice_get-held (last_held l)
 
   pub Some-first : (f : First hs p) (k : K) (v : V) → k ≡ f.node.pair.0 → v ≡ f.node.pair.1 → Some (k, v) ≡ first (pairs_of hs)
   Some-first f k v key value = (λ i. Some (key i, value i)) ∙ sym (first-pairs f)

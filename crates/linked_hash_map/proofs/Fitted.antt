@@ -10,7 +10,8 @@ use Rattle.lhm_ring.specs.RingState.{Held, IsHeld, AtHeld, triples}
 use Rattle.lhm_ring.specs.Tables.{TableState}
 use Rattle.lhm_ring.proofs.Tables.{length-same_triples}
 use Rattle.linked_hash_map.specs.Nodes.{VisitState, IsKept, HasBehind, Lies, pairs_of, bare, before, bookmark_at}
-use Rattle.linked_hash_map.proofs.Kept.{CutAt, cut_before, length-bare, keys-bare}
+use Rattle.linked_hash_map.proofs.HeldPairs.{length-bare, keys-bare}
+use Rattle.linked_hash_map.proofs.CutNodes.{CutAt, CutAt-before}
 use Rattle.linked_hash_map.proofs.BookmarkMoves.{bookmark-bare, bookmarked_held}
 use Rattle.linked_hash_map.proofs.Outside.{before_held}
 
@@ -31,7 +32,7 @@ module _ {K V : Type 0} (hs : List (Held (K × V))) where
   -- a position with so many behind it
   pub HasBehind-nth_back : (n : ℕ) (o : Option (Position K V)) → IfSome o (λ at. IsHeld hs (pointer_of at)) → IfSome o (λ at. AtHeld hs (pointer_of at) (λ xs t ys. length ys ≡ n)) → IfNone o (length hs ≤ n) → n < length hs → HasBehind (pointer_of_some o) hs (Some n)
   HasBehind-nth_back n None held behind none within = absurd (omega (arith, none, within))
-  HasBehind-nth_back n (Some at) held behind none within = HasBehind-cut n (cut_before (pointer_of at) hs (held_lies held)) behind
+  HasBehind-nth_back n (Some at) held behind none within = HasBehind-cut n (CutAt-before (pointer_of at) hs (held_lies held)) behind
 
 module _ {K V : Type 0} where
   -- the pairs and the hashes are those of the triples

@@ -41,7 +41,8 @@ use Rattle.linked_hash_map.specs.contracts.map.LinkedHashMap as M-type
 use Rattle.linked_hash_map.specs.contracts.map.Mode as O-type
 use Rattle.linked_hash_map.specs.contracts.map.cursor.Visit as V-type
 use Rattle.linked_hash_map.specs.contracts.map.LinkedHashMap.TheInside as I-type
-use Rattle.linked_hash_map.proofs.Kept.{IsValid-view, map_of-revalued, bare-values, pairs_of-of-entries}
+use Rattle.linked_hash_map.proofs.HeldPairs.{bare-values, pairs_of-of-entries}
+use Rattle.linked_hash_map.proofs.Kept.{IsValid-view, map_of-revalued}
 use Rattle.linked_hash_map.proofs.map.Mode.TheLaws as O-laws
 use Rattle.linked_hash_map.proofs.map.cursor.Visit.TheLaws as V-laws
 

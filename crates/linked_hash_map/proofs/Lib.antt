@@ -5,6 +5,7 @@ pub mod Callers
 pub mod Clones
 pub mod Counts
 pub mod Current
+pub mod CutNodes
 pub mod Distinct
 pub mod DistinctLists
 pub mod Drained
@@ -17,6 +18,7 @@ pub mod ExtendSteps
 pub mod Extends
 pub mod FirstAndLast
 pub mod Fitted
+pub mod HeldPairs
 pub mod HighWater
 pub mod Indexes
 pub mod Inserts
@@ -27,6 +29,7 @@ pub mod LendMap
 pub mod Lists
 pub mod LiveKeys
 pub mod MovedNode
+pub mod Options
 pub mod Outcomes
 pub mod Outside
 pub mod Pairs

@@ -12,7 +12,8 @@ use Rattle.lhm_ring.proofs.Apart.{IsFresh, same_ptr-reflexive, same_ptr-symmetri
 use Rattle.lhm_ring.proofs.Rows.{AllByRecursion-right, AllByRecursion-append, AllByRecursion-removed, IsFresh-middle}
 use Rattle.linked_hash_map.specs.Nodes.{VisitState, Lies, pairs_of, bare, bare_node, before, bookmark_at, AreKept}
 use Rattle.linked_hash_map.proofs.DistinctLists.{none_from_all}
-use Rattle.linked_hash_map.proofs.Kept.{CutAt, cut_before, keys-bare, pairs_of-append, pair_there, pairs_removed}
+use Rattle.linked_hash_map.proofs.HeldPairs.{keys-bare, pairs_of-append}
+use Rattle.linked_hash_map.proofs.CutNodes.{CutAt, CutAt-before, slice_get-held, pairs_of-removed}
 use Rattle.linked_hash_map.proofs.Outside.{IsClear, IsElsewhere, clear-elsewhere, before_held, stretch-front, in_reach-out, to_visit-out, bookmark-moved}
 use Rattle.linked_hash_map.proofs.TakenNode.{distinct_keys-out}
 
@@ -74,7 +75,7 @@ module _ {K : Type 0} {eq : K → K → Bool} (laws : IsEquivalence eq) {hash : 
 -- hs are the nodes before, and ks those where the one at p is behind the others
 module _ {K V : Type 0} (hs ks : List (Held (K × V))) {p : Ptr} (last : AtHeld hs p (λ xs x ys. ks ≡ (xs ++ ys) ++ x ∷ [])) (lies : before p hs < length hs) where
   cut_moved : CutAt p hs
-  cut_moved = cut_before p hs lies
+  cut_moved = CutAt-before p hs lies
 
   moved : ks ≡ (cut_moved.held.before ++ cut_moved.held.after) ++ cut_moved.held.node ∷ []
   moved = let h = cut_moved.held in last h.before h.node h.after h.is h.at_is
@@ -82,9 +83,9 @@ module _ {K V : Type 0} (hs ks : List (Held (K × V))) {p : Ptr} (last : AtHeld 
   pub pairs-moved : (pair : K × V) → slice_get (pairs_of hs) (before p hs) ≡ Some pair → pairs_of ks ≡ remove (pairs_of hs) (before p hs) ++ pair ∷ []
   pairs-moved pair there =
       let h = cut_moved.held in
-      let same : h.node.pair ≡ pair = let a = sym (pair_there h) ∙ ap (slice_get (pairs_of hs)) cut_moved.long ∙ there in cc in
+      let same : h.node.pair ≡ pair = let a = sym (slice_get-held h) ∙ ap (slice_get (pairs_of hs)) cut_moved.long ∙ there in cc in
       ap pairs_of moved ∙ pairs_of-append (h.before ++ h.after) (h.node ∷ [])
-      ∙ ap₂ (λ ps q. ps ++ q ∷ []) (pairs_removed h ∙ ap (remove (pairs_of hs)) cut_moved.long) same
+      ∙ ap₂ (λ ps q. ps ++ q ∷ []) (pairs_of-removed h ∙ ap (remove (pairs_of hs)) cut_moved.long) same
 
   pub length-to_back : length ks ≡ length hs
   length-to_back =

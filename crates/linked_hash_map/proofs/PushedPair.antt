@@ -14,7 +14,7 @@ use Rattle.lhm_ring.specs.Tables.{TableState}
 use Rattle.lhm_ring.proofs.Rows.{AllByRecursion-append}
 use Rattle.linked_hash_map.specs.Nodes.{VisitState, AreKept, IsKept, Lies, pairs_of, bare, bare_node, before, bookmark_at, current_at}
 use Rattle.linked_hash_map.specs.Pairs.{find}
-use Rattle.linked_hash_map.proofs.Kept.{length-bare, keys-bare, pairs_of-append}
+use Rattle.linked_hash_map.proofs.HeldPairs.{length-bare, keys-bare, pairs_of-append}
 use Rattle.linked_hash_map.proofs.Pairs.{list_any-none}
 use Rattle.linked_hash_map.proofs.Outside.{stretch-front}
 

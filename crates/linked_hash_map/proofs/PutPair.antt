@@ -18,7 +18,8 @@ use Rattle.linked_hash_map.specs.Touches.{IsTouched}
 use Rattle.linked_hash_map.proofs.EntryFacts.{slice_get-set_value_at}
 use Rattle.linked_hash_map.proofs.Pairs.{put-present}
 use Rattle.linked_hash_map.proofs.Indexes.{length-others, set_value_at-pushed, slice_get-pushed, set_value-index, is_some-index, to_back-index, value_at-slice_get}
-use Rattle.linked_hash_map.proofs.Kept.{CutAt, cut_before, bare-change, before-bare, keys-bare, length-pairs_of, length-same, pair_there, pairs_set}
+use Rattle.linked_hash_map.proofs.HeldPairs.{bare-change, before-bare, keys-bare, length-pairs_of, length-same}
+use Rattle.linked_hash_map.proofs.CutNodes.{CutAt, CutAt-before, slice_get-held, pairs_of-change_at}
 use Rattle.linked_hash_map.proofs.Current.{current_at-Some, current_lies, IsKept-visited, IsKept-with_value}
 use Rattle.linked_hash_map.proofs.MovedNode.{pairs-moved, length-to_back, before-at_back, AreKept-moved, to_visit-moved, behind-moved}
 use Rattle.linked_hash_map.proofs.Outside.{IsElsewhere}
@@ -32,8 +33,8 @@ module _ {K V : Type 0} (hs ks : List (Held (K × V))) (p : Ptr) (lies : before 
   touched_cut Touch moved =
       let at_back = before-at_back hs ks moved.0 lies moved.1 in
       let long = length-to_back hs ks moved.0 lies in
-      cut_before p ks (omega (arith, at_back, long, lies))
-  touched_cut Keep same = subst (CutAt p) (sym same) (cut_before p hs lies)
+      CutAt-before p ks (omega (arith, at_back, long, lies))
+  touched_cut Keep same = subst (CutAt p) (sym same) (CutAt-before p hs lies)
 
   length-touched : (mode : Mode) → IsTouched mode p hs ks → length ks ≡ length hs
   length-touched Touch moved = length-to_back hs ks moved.0 lies
@@ -47,16 +48,16 @@ module _ {K V : Type 0} (hs ks : List (Held (K × V))) (p : Ptr) (lies : before 
     -- the value that is read is that of the pair
     pub value-touched : {v : V} → AtHeld ks p (λ xs t ys. v ≡ t.pair.1) → option_map (λ pair. pair.1) (slice_get (pairs_of hs) (before p hs)) ≡ Some v
     value-touched at =
-        let old = cut_before p hs lies in
+        let old = CutAt-before p hs lies in
         let new = touched_cut mode touched in
         let g = old.held in
         let h = new.held in
-        let here = ap (slice_get (pairs_of hs)) (sym old.long) ∙ pair_there g in
-        let own = ap (slice_get (pairs_of ks)) (sym new.long) ∙ pair_there h in
+        let here = ap (slice_get (pairs_of hs)) (sym old.long) ∙ slice_get-held g in
+        let own = ap (slice_get (pairs_of ks)) (sym new.long) ∙ slice_get-held h in
         ap (option_map (λ pair. pair.1)) (here ∙ sym (slice_get-touched mode touched g.node.pair here) ∙ own) ∙ ap Some (sym (at h.before h.node h.after h.is h.at_is))
 
     set-touched : WritesOnly ks p → (w : V) → pairs_of (change_at p (revalued w) ks) ≡ set_value_at (pairs_of ks) (before p ks) w
-    set-touched alone w = let cut = touched_cut mode touched in pairs_set cut.held alone w ∙ ap (λ i. set_value_at (pairs_of ks) i w) cut.long
+    set-touched alone w = let cut = touched_cut mode touched in pairs_of-change_at cut.held alone w ∙ ap (λ i. set_value_at (pairs_of ks) i w) cut.long
 
     -- the pair has the value that is written
     pub pair-touched : WritesOnly ks p → (w : V) (pair : K × V) → slice_get (pairs_of hs) (before p hs) ≡ Some pair → slice_get (pairs_of (change_at p (revalued w) ks)) (before p (change_at p (revalued w) ks)) ≡ Some (pair.0, w)

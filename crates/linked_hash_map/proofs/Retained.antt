@@ -9,7 +9,7 @@ use Rattle.lhm_ring.specs.Tables.{TableState}
 use Rattle.lhm_ring.specs.Retains.{RetainsHeld}
 use Rattle.linked_hash_map.specs.Nodes.{VisitState, no_visit, pairs_of, bare, bare_node, IsKept}
 use Rattle.linked_hash_map.specs.Retains.{IsSublist}
-use Rattle.linked_hash_map.proofs.Kept.{keys-bare, length-bare, length-pairs_of}
+use Rattle.linked_hash_map.proofs.HeldPairs.{keys-bare, length-bare, length-pairs_of}
 
 -- what holds of a list holds of some of its elements
 module _ {X : Type 0} where

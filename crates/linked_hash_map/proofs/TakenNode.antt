@@ -9,13 +9,15 @@ use Rattle.lhm_ring.specs.Tables.{TableState}
 use Rattle.lhm_ring.proofs.Rows.{AllByRecursion-removed}
 use Rattle.linked_hash_map.specs.Nodes.{VisitState, no_visit, pairs_of, bare, bare_node, before, bookmark_at, AreKept, IsKept}
 use Rattle.linked_hash_map.proofs.DistinctLists.{distinct_removed}
-use Rattle.linked_hash_map.proofs.Kept.{CutAt, cut_before, keys-bare, remove-cut, pair_there, pairs_removed}
+use Rattle.linked_hash_map.proofs.HeldPairs.{keys-bare}
+use Rattle.linked_hash_map.proofs.CutNodes.{CutAt, CutAt-before, slice_get-held, pairs_of-removed}
+use Rattle.linked_hash_map.proofs.Lists.{remove-append}
 use Rattle.linked_hash_map.proofs.Current.{IsKept-visited}
 use Rattle.linked_hash_map.proofs.Outside.{IsClear, IsElsewhere, clear-elsewhere, in_reach-out, to_visit-out}
 
 -- keys that differ still do when one in the midst goes
 pub distinct-out : {K : Type 0} (eq : K → K → Bool) (xs : List K) (x : K) (ys : List K) → IsDistinct eq (xs ++ x ∷ ys) → IsDistinct eq (xs ++ ys)
-distinct-out eq xs x ys h = subst (IsDistinct eq) (remove-cut xs x ys) (distinct_removed eq (xs ++ x ∷ ys) (length xs) h)
+distinct-out eq xs x ys h = subst (IsDistinct eq) (remove-append xs x ys) (distinct_removed eq (xs ++ x ∷ ys) (length xs) h)
 
 -- the nodes without one that is not to be visited, which is spare
 module _ {K : Type 0} {eq : K → K → Bool} {hash : K → ℕ} (front : List (Held K)) (u : Held K) (back : List (Held K)) {capacity : ℕ} {visit : VisitState} (kept : AreKept eq hash (front ++ u ∷ back) capacity visit) (clear : IsClear front u back visit.bookmark visit.unvisited) where
@@ -42,19 +44,19 @@ module _ {K : Type 0} {eq : K → K → Bool} {hash : K → ℕ} (front : List (
 -- hs are the nodes before, and ws those without the one at p
 module _ {K V : Type 0} (hs ws : List (Held (K × V))) {p : Ptr} (others : AtHeld hs p (λ xs x ys. ws ≡ xs ++ ys)) (lies : before p hs < length hs) where
   cut_removed : CutAt p hs
-  cut_removed = cut_before p hs lies
+  cut_removed = CutAt-before p hs lies
 
   -- what was removed is the pair that was there
   pub pair-removed : {pair : K × V} → AtHeld hs p (λ xs x ys. pair ≡ x.pair) → slice_get (pairs_of hs) (before p hs) ≡ Some pair
   pair-removed is =
       let h = cut_removed.held in
-      ap (slice_get (pairs_of hs)) (sym cut_removed.long) ∙ pair_there h ∙ ap Some (sym (is h.before h.node h.after h.is h.at_is))
+      ap (slice_get (pairs_of hs)) (sym cut_removed.long) ∙ slice_get-held h ∙ ap Some (sym (is h.before h.node h.after h.is h.at_is))
 
   rest : ws ≡ cut_removed.held.before ++ cut_removed.held.after
   rest = let h = cut_removed.held in others h.before h.node h.after h.is h.at_is
 
   pub pairs-removed : pairs_of ws ≡ remove (pairs_of hs) (before p hs)
-  pairs-removed = ap pairs_of rest ∙ pairs_removed cut_removed.held ∙ ap (remove (pairs_of hs)) cut_removed.long
+  pairs-removed = ap pairs_of rest ∙ pairs_of-removed cut_removed.held ∙ ap (remove (pairs_of hs)) cut_removed.long
 
   bare_cut : bare hs ≡ bare cut_removed.held.before ++ bare_node cut_removed.held.node ∷ bare cut_removed.held.after
   bare_cut = let h = cut_removed.held in ap bare h.is ∙ map-append bare_node h.before (h.node ∷ h.after)

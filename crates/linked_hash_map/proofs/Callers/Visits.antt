@@ -9,8 +9,7 @@ use Rattle.lhm_ring.proofs.Options.{Some-injective}
 use Rattle.linked_hash_map.specs.Pairs.{value_at, without}
 use Rattle.linked_hash_map.specs.Visits.{VisitKeeps}
 use Rattle.linked_hash_map.proofs.Indexes.{find-own, without-own}
-use Rattle.linked_hash_map.proofs.Kept.{remove-cut}
-use Rattle.linked_hash_map.proofs.Lists.{slice_get-seam}
+use Rattle.linked_hash_map.proofs.Lists.{slice_get-append, remove-append}
 
 -- the first pair to come has the key that is next, and the others are to come behind it
 record Next {K V : Type 0} (k : K) (left : List K) (rest : List (K × V)) : Type 0 where
@@ -36,7 +35,7 @@ module _ {K V : Type 0} {eq : K → K → Bool} (laws : IsEquivalence eq) (keeps
   start-seam = w.start_is ∙ ap (λ r. w.passed ++ r) n.is ∙ sym (append_assoc w.passed (n.node ∷ []) n.after)
 
   there : slice_get now (length (filter keeps w.passed)) ≡ Some n.node
-  there = ap (λ ps. slice_get ps (length (filter keeps w.passed))) now-seam ∙ slice_get-seam (filter keeps w.passed) n.node n.after
+  there = ap (λ ps. slice_get ps (length (filter keeps w.passed))) now-seam ∙ slice_get-append (filter keeps w.passed) n.node n.after
 
   value : v ≡ n.node.1
   value = Some-injective _ _ (sym has ∙ ap (value_at eq now) (sym n.at_is) ∙ ap (option_map (λ p. p.1)) (find-own laws now distinct (length (filter keeps w.passed)) n.node there))
@@ -65,7 +64,7 @@ module _ {K V : Type 0} {eq : K → K → Bool} (laws : IsEquivalence eq) (keeps
     rest = n.after;
     start_is = start-seam;
     now_is = ap (without eq now) (sym n.at_is) ∙ without-own laws now distinct (length (filter keeps w.passed)) n.node there
-        ∙ ap (λ ps. remove ps (length (filter keeps w.passed))) now-seam ∙ remove-cut (filter keeps w.passed) n.node n.after
+        ∙ ap (λ ps. remove ps (length (filter keeps w.passed))) now-seam ∙ remove-append (filter keeps w.passed) n.node n.after
         ∙ ap (λ (ps : List (K × V)). ps ++ n.after) (sym (filtered ∙ ap (λ b. filter keeps w.passed ++ cond b (n.node ∷ []) []) (ap keeps (sym pair_is) ∙ gone) ∙ append-nil (filter keeps w.passed)));
     left_is = next.behind;
   }

@@ -55,6 +55,21 @@ impl<K, V> Visit<K, V> {
         }
     }
 
+    /// Returns no visit, with a pair as the current one.
+    #[inline]
+    pub(super) fn at(current: Position<K, V>) -> Self
+        ensures bookmark { bookmark_of result ≡ None }
+        ensures unvisited { unvisited_of result ≡ 0 }
+        ensures current { current_of result ≡ Some (pointer_of current) }
+    {
+        Visit {
+            active: true,
+            bookmark: None,
+            unvisited: 0,
+            current: Some(current),
+        }
+    }
+
     /// Returns the next pair to visit.
     pub(super) fn bookmark(&self) -> Option<Position<K, V>>
         ensures { pointer_of_some result ≡ bookmark_of self.now }
@@ -205,18 +220,11 @@ impl<K: Eq + Hash, V, S: BuildHasher> LinkedHashMap<K, V, S> {
         ensures unchanged { IsFalse result → self.new ≡ self.old }
         ensures valid { IsValid K.eq self.old }
     {
-        match self.table.position(hash, key) {
-            Some(at) => {
-                self.visit = Visit {
-                    active: true,
-                    bookmark: None,
-                    unvisited: 0,
-                    current: Some(at),
-                };
-                true
-            }
-            None => false,
-        }
+        let Some(at) = self.table.position(hash, key) else {
+            return false;
+        };
+        self.visit = Visit::at(at);
+        true
     }
 
     /// Returns references to the current pair.

@@ -1,6 +1,6 @@
 use Rattle.std.proofs.Common.{Some, slice_get, sym, ap, ◌∙◌}
 use Rattle.linked_hash_map.specs.Nodes.{pairs_of}
-use Rattle.linked_hash_map.proofs.Kept.{pair_there}
+use Rattle.linked_hash_map.proofs.CutNodes.{slice_get-held}
 use Rattle.linked_hash_map.proofs.Current.{current_of-Some, current_at-Some, current_cut}
 use Rattle.linked_hash_map.proofs.map.LinkedHashMap.current_pair.Goals as goal
 
@@ -19,5 +19,5 @@ returns g c =
     let value = c.value.ensures h.before h.node h.after h.is h.at_is in
     rw (← c.self.view_is) (
     ap (slice_get (pairs_of m.table.held)) (current_at-Some (current_of-Some c.current.ensures c.unwrap-at.ensures) m.table.held ∙ sym cut.long)
-    ∙ pair_there h ∙ (λ i. Some (sym key i, sym value i))
+    ∙ slice_get-held h ∙ (λ i. Some (sym key i, sym value i))
     )

@@ -4,7 +4,9 @@ use Rattle.lhm_ring.specs.RingState.{change_at}
 use Rattle.lhm_ring.specs.RingAfterLoan.{revalued}
 use Rattle.linked_hash_map.specs.Indexes.{set_value_at}
 use Rattle.linked_hash_map.specs.Nodes.{pairs_of}
-use Rattle.linked_hash_map.proofs.Kept.{IsValid-view, map_of-revalued, bare-change, pair_there, pairs_set}
+use Rattle.linked_hash_map.proofs.HeldPairs.{bare-change}
+use Rattle.linked_hash_map.proofs.CutNodes.{slice_get-held, pairs_of-change_at}
+use Rattle.linked_hash_map.proofs.Kept.{IsValid-view, map_of-revalued}
 use Rattle.linked_hash_map.proofs.Current.{current_of-Some, current_at-Some, current_cut, IsKept-with_value}
 use Rattle.linked_hash_map.proofs.map.LinkedHashMap.current_value_mut.Goals as goal
 
@@ -26,11 +28,11 @@ returns g c =
       (
         refl,
         λ w. map_of-revalued m.table (change_at p (revalued w) hs) _ (bare-change p w hs)
-            (pairs_set h c.value_mut.ensures.alone w ∙ ap (λ k. set_value_at (pairs_of hs) k w) (sym index)),
+            (pairs_of-change_at h c.value_mut.ensures.alone w ∙ ap (λ k. set_value_at (pairs_of hs) k w) (sym index)),
       ),
       record {
         writes_back = tt;
-        value = ap (λ k. option_map (λ pair. pair.1) (slice_get (pairs_of hs) k)) index ∙ ap (option_map (λ pair. pair.1)) (pair_there h) ∙ ap Some (sym (c.value_mut.ensures.value h.before h.node h.after h.is h.at_is));
+        value = ap (λ k. option_map (λ pair. pair.1) (slice_get (pairs_of hs) k)) index ∙ ap (option_map (λ pair. pair.1)) (slice_get-held h) ∙ ap Some (sym (c.value_mut.ensures.value h.before h.node h.after h.is h.at_is));
         valid = IsValid-view c.self.invariant refl refl;
       },
     )

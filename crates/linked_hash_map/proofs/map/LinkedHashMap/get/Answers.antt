@@ -1,6 +1,7 @@
 use Rattle.std.proofs.Common.{Some, sym, ap, ◌∙◌}
 use Rattle.linked_hash_map.proofs.Indexes.{value_at-index}
-use Rattle.linked_hash_map.proofs.Kept.{index_of-key, pair_there, node, front, back, distinct_keys}
+use Rattle.linked_hash_map.proofs.CutNodes.{IsIndex-HasKey, slice_get-held}
+use Rattle.linked_hash_map.proofs.Kept.{distinct_keys}
 use Rattle.linked_hash_map.proofs.AbsentKeys.{value_at-IsAbsent}
 use Rattle.linked_hash_map.proofs.map.LinkedHashMap.get.Goals as goal
 
@@ -8,8 +9,8 @@ pub returns : goal.returns
 returns g c =
     let h = c.in_ok-at.ensures.found in
     rw (← c.self.view_is) (
-    ap Some (c.value.ensures (front h.held) (node h.held) (back h.held) h.held.is h.held.at_is)
-    ∙ value_at-index g.met.K.Eq.laws (distinct_keys c.self.invariant) (index_of-key h) (pair_there h.held)
+    ap Some (c.value.ensures h.held.before h.held.node h.held.after h.held.is h.held.at_is)
+    ∙ value_at-index g.met.K.Eq.laws (distinct_keys c.self.invariant) (IsIndex-HasKey h) (slice_get-held h.held)
     )
 
 pub returns-in_err-at : goal.returns-in_err-at

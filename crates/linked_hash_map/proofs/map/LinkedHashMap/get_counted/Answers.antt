@@ -6,7 +6,9 @@ use Rattle.lhm_ring.specs.Search.{HasKey, IsAbsent, CountsSome, CountsAll}
 use Rattle.linked_hash_map.specs.Hashers.{hash_by}
 use Rattle.linked_hash_map.proofs.Counts.{same-pairs, beside-pairs}
 use Rattle.linked_hash_map.proofs.Indexes.{value_at-index}
-use Rattle.linked_hash_map.proofs.Kept.{IsValid-view, of-Some, of-None, of-OnSome, index_of-key, pair_there, node, front, back, distinct_keys}
+use Rattle.linked_hash_map.proofs.Options.{of-Some, of-None, of-OnSome}
+use Rattle.linked_hash_map.proofs.CutNodes.{IsIndex-HasKey, slice_get-held}
+use Rattle.linked_hash_map.proofs.Kept.{IsValid-view, distinct_keys}
 use Rattle.linked_hash_map.proofs.AbsentKeys.{value_at-IsAbsent}
 use Rattle.linked_hash_map.proofs.map.LinkedHashMap.get_counted.Goals as goal
 
@@ -15,8 +17,8 @@ returns-in-Some-clause-value g c =
     let m = c.self.inside in
     let h = of-Some (λ p. HasKey g.K.PartialEq.eq c.hash_one-hash.result c.args.key.now m.table.held (pointer_of p)) c.find-found.result.0 c.in-Some.at c.in-Some.is c.find-found.ensures.found in
     rw (← c.self.view_is) (
-    ap Some (c.value.ensures (front h.held) (node h.held) (back h.held) h.held.is h.held.at_is)
-    ∙ value_at-index g.met.K.Eq.laws (distinct_keys c.self.invariant) (index_of-key h) (pair_there h.held)
+    ap Some (c.value.ensures h.held.before h.held.node h.held.after h.held.is h.held.at_is)
+    ∙ value_at-index g.met.K.Eq.laws (distinct_keys c.self.invariant) (IsIndex-HasKey h) (slice_get-held h.held)
     )
 
 pub returns-in-Some-clause-valid : goal.returns-in-Some-clause-valid

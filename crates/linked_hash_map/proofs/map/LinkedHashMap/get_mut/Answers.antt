@@ -5,7 +5,10 @@ use Rattle.lhm_ring.specs.RingState.{change_at}
 use Rattle.lhm_ring.specs.RingAfterLoan.{revalued}
 use Rattle.linked_hash_map.specs.Nodes.{beside}
 use Rattle.linked_hash_map.proofs.Callers.Updates.{Updates-set_value}
-use Rattle.linked_hash_map.proofs.Kept.{IsValid-view, of-Some, of-None, index_of-key, pair_there, node, front, back, pairs_set, map_of-revalued, bare-change, distinct_keys}
+use Rattle.linked_hash_map.proofs.Options.{of-Some, of-None}
+use Rattle.linked_hash_map.proofs.HeldPairs.{bare-change}
+use Rattle.linked_hash_map.proofs.CutNodes.{IsIndex-HasKey, slice_get-held, pairs_of-change_at}
+use Rattle.linked_hash_map.proofs.Kept.{IsValid-view, map_of-revalued, distinct_keys}
 use Rattle.linked_hash_map.proofs.Current.{IsKept-with_value}
 use Rattle.linked_hash_map.proofs.Indexes.{value_at-index, set_value-index, is_some-index}
 use Rattle.linked_hash_map.proofs.AbsentKeys.{value_at-IsAbsent}
@@ -24,13 +27,13 @@ returns-in-Some g c =
       (λ i. inl (
         c.value_mut.result.ghost_name,
         λ w. map_of-revalued m.table (change_at at (revalued w) m.table.held) (beside m.hasher m.visit m.mode) (bare-change at w m.table.held)
-            (pairs_set h.held c.value_mut.ensures.alone w ∙ sym (set_value-index g.met.K.Eq.laws distinct (index_of-key h) w)) i,
+            (pairs_of-change_at h.held c.value_mut.ensures.alone w ∙ sym (set_value-index g.met.K.Eq.laws distinct (IsIndex-HasKey h) w)) i,
       )),
       record {
         writes_back = tt;
-        value = ap Some (c.value_mut.ensures.value (front h.held) (node h.held) (back h.held) h.held.is h.held.at_is) ∙ value_at-index g.met.K.Eq.laws distinct (index_of-key h) (pair_there h.held);
+        value = ap Some (c.value_mut.ensures.value h.held.before h.held.node h.held.after h.held.is h.held.at_is) ∙ value_at-index g.met.K.Eq.laws distinct (IsIndex-HasKey h) (slice_get-held h.held);
         valid = IsValid-view c.self.invariant refl refl;
-        updates = λ v. Updates-set_value g.met.K.Eq.laws _ _ _ (is_some-index g.met.K.Eq.laws distinct (index_of-key h)) v refl;
+        updates = λ v. Updates-set_value g.met.K.Eq.laws _ _ _ (is_some-index g.met.K.Eq.laws distinct (IsIndex-HasKey h)) v refl;
       },
     )
 

@@ -4,7 +4,8 @@ use Rattle.lhm_ring.specs.Search.{HasKey, IsAbsent}
 use Rattle.linked_hash_map.specs.declared.map.Mode.TheVariants.{Touch}
 use Rattle.linked_hash_map.specs.Nodes.{map_of, beside, no_visit}
 use Rattle.linked_hash_map.proofs.Callers.Updates.{Updates-put}
-use Rattle.linked_hash_map.proofs.Kept.{IsValid-view, of-Some, of-None, distinct_keys}
+use Rattle.linked_hash_map.proofs.Options.{of-Some, of-None}
+use Rattle.linked_hash_map.proofs.Kept.{IsValid-view, distinct_keys}
 use Rattle.linked_hash_map.proofs.Current.{key_lies, key_index, found_lies}
 use Rattle.linked_hash_map.proofs.PutPair.{touched_cut, pairs-put, value_at-touched, IsKept-put}
 use Rattle.linked_hash_map.proofs.AbsentKeys.{value_at-IsAbsent}

@@ -1,14 +1,14 @@
-use Rattle.std.proofs.Common.{◌≡◌, ◌++◌, ◌∷◌, [], take, drop, Some, None, IsSome, subst, option_map, fold, refl, sym, ap, ◌∙◌, arith, true≢false}
+use Rattle.std.proofs.Common.{◌≡◌, ◌++◌, ◌∷◌, [], take, drop, Some, None, IsSome, subst, option_map, refl, sym, ap, ◌∙◌, arith, true≢false}
 use Rattle.std.specs.Map.{keys_of}
 use Rattle.lhm_ring.specs.Positions.{pointer_of}
 use Rattle.lhm_ring.specs.Search.{HasKey, IsAbsent}
-use Rattle.linked_hash_map.specs.LinkedMap.{LinkedMap}
-use Rattle.linked_hash_map.specs.Nodes.{pairs_of}
-use Rattle.linked_hash_map.specs.Hashers.{hash_by}
+use Rattle.linked_hash_map.specs.Nodes.{beside, pairs_of}
 use Rattle.linked_hash_map.specs.Pairs.{find, put}
 use Rattle.linked_hash_map.proofs.Callers.Updates.{Updates-put}
 use Rattle.linked_hash_map.proofs.Pairs.{put-absent}
-use Rattle.linked_hash_map.proofs.Kept.{of-Some, of-None, absent_key, distinct_keys, IsValid-view}
+use Rattle.linked_hash_map.proofs.Options.{of-Some, of-None}
+use Rattle.linked_hash_map.proofs.Kept.{distinct_keys, IsValid-view}
+use Rattle.linked_hash_map.proofs.AbsentKeys.{find-IsAbsent_map}
 use Rattle.linked_hash_map.proofs.Current.{key_lies, key_index, found_lies}
 use Rattle.linked_hash_map.proofs.PutPair.{touched_cut, value_at-touched, pairs-put, length-put, IsKept-put}
 use Rattle.linked_hash_map.proofs.map.LinkedHashMap.insert.Goals as goal
@@ -21,10 +21,8 @@ has g c = of-Some (λ p. HasKey g.K.PartialEq.eq c.hash_of-hash.result c.args.ke
 absent : (g : _) (c : goal.After-push_back g) → find g.K.PartialEq.eq c.args.self.now.pairs c.args.key ≡ None
 absent g c =
     let m = c.self.inside in
-    rw (← c.self.view_is) (absent_key g.K.PartialEq.eq (hash_by g.S.Hasher.Hasher.finish g.S.Hasher.Hasher.write g.S.BuildHasher.build_hasher g.K.Hash.hash_input m.hasher)
-    (λ x y h. ap (λ ws. g.S.Hasher.Hasher.finish (fold g.S.Hasher.Hasher.write (g.S.BuildHasher.build_hasher m.hasher) ws)) (g.met.K.Hash.respects_eq x y h))
-    c.args.key c.hash_of-hash.result (subst (λ (z : LinkedMap _ _ _). c.hash_of-hash.result ≡ hash_by g.S.Hasher.Hasher.finish g.S.Hasher.Hasher.write g.S.BuildHasher.build_hasher g.K.Hash.hash_input z.hasher c.args.key) (sym c.self.view_is) c.hash_of-hash.ensures) m.table.held c.self.invariant.nodes.hashed
-    (of-None (IsAbsent g.K.PartialEq.eq c.hash_of-hash.result c.args.key m.table.held) c.position.result c.in_default.is c.position.ensures.absent))
+    find-IsAbsent_map g.K.PartialEq.eq g.S.Hasher.Hasher.finish g.S.Hasher.Hasher.write g.S.BuildHasher.build_hasher g.K.Hash.hash_input g.met.K.Hash.respects_eq m.table (beside m.hasher m.visit m.mode) c.self.view_is c.self.invariant c.args.key c.hash_of-hash.ensures
+    (of-None (IsAbsent g.K.PartialEq.eq c.hash_of-hash.result c.args.key m.table.held) c.position.result c.in_default.is c.position.ensures.absent)
 
 pub value_mut-requires : goal.value_mut-requires
 value_mut-requires g c = (touched_cut c.self.inside.table.held c.touch.new.table.held (pointer_of c.in-Some.at) (key_lies (of-Some (λ p. HasKey g.K.PartialEq.eq c.hash_of-hash.result c.args.key c.self.inside.table.held (pointer_of p)) c.position.result c.in-Some.at c.in-Some.is c.position.ensures.found)) c.self.inside.mode c.touch.ensures.touched).held
@@ -76,19 +74,15 @@ returns-in-Some-clause-more g c = λ none. absurd (let no : Some c.replace.resul
 pub returns-then-not-make_room-clause-absent : goal.returns-then-not-make_room-clause-absent
 returns-then-not-make_room-clause-absent g c =
     let m = c.self.inside in
-    rw (← c.self.view_is) (absent_key g.K.PartialEq.eq (hash_by g.S.Hasher.Hasher.finish g.S.Hasher.Hasher.write g.S.BuildHasher.build_hasher g.K.Hash.hash_input m.hasher)
-    (λ x y h. ap (λ ws. g.S.Hasher.Hasher.finish (fold g.S.Hasher.Hasher.write (g.S.BuildHasher.build_hasher m.hasher) ws)) (g.met.K.Hash.respects_eq x y h))
-    c.args.key c.hash_of-hash.result (subst (λ (z : LinkedMap _ _ _). c.hash_of-hash.result ≡ hash_by g.S.Hasher.Hasher.finish g.S.Hasher.Hasher.write g.S.BuildHasher.build_hasher g.K.Hash.hash_input z.hasher c.args.key) (sym c.self.view_is) c.hash_of-hash.ensures) m.table.held c.self.invariant.nodes.hashed
-    (of-None (IsAbsent g.K.PartialEq.eq c.hash_of-hash.result c.args.key m.table.held) c.position.result c.in_default.is c.position.ensures.absent))
+    find-IsAbsent_map g.K.PartialEq.eq g.S.Hasher.Hasher.finish g.S.Hasher.Hasher.write g.S.BuildHasher.build_hasher g.K.Hash.hash_input g.met.K.Hash.respects_eq m.table (beside m.hasher m.visit m.mode) c.self.view_is c.self.invariant c.args.key c.hash_of-hash.ensures
+    (of-None (IsAbsent g.K.PartialEq.eq c.hash_of-hash.result c.args.key m.table.held) c.position.result c.in_default.is c.position.ensures.absent)
 
 pub push_back-requires-clause-absent : goal.push_back-requires-clause-absent
 push_back-requires-clause-absent g c =
     let m = c.self.inside in
     ap (λ pairs. find g.K.PartialEq.eq pairs c.args.key) c.make_room.ensures.pairs
-    ∙ rw (← c.self.view_is) (absent_key g.K.PartialEq.eq (hash_by g.S.Hasher.Hasher.finish g.S.Hasher.Hasher.write g.S.BuildHasher.build_hasher g.K.Hash.hash_input m.hasher)
-    (λ x y h. ap (λ ws. g.S.Hasher.Hasher.finish (fold g.S.Hasher.Hasher.write (g.S.BuildHasher.build_hasher m.hasher) ws)) (g.met.K.Hash.respects_eq x y h))
-    c.args.key c.hash_of-hash.result (subst (λ (z : LinkedMap _ _ _). c.hash_of-hash.result ≡ hash_by g.S.Hasher.Hasher.finish g.S.Hasher.Hasher.write g.S.BuildHasher.build_hasher g.K.Hash.hash_input z.hasher c.args.key) (sym c.self.view_is) c.hash_of-hash.ensures) m.table.held c.self.invariant.nodes.hashed
-    (of-None (IsAbsent g.K.PartialEq.eq c.hash_of-hash.result c.args.key m.table.held) c.position.result c.in_default.is c.position.ensures.absent))
+    ∙ find-IsAbsent_map g.K.PartialEq.eq g.S.Hasher.Hasher.finish g.S.Hasher.Hasher.write g.S.BuildHasher.build_hasher g.K.Hash.hash_input g.met.K.Hash.respects_eq m.table (beside m.hasher m.visit m.mode) c.self.view_is c.self.invariant c.args.key c.hash_of-hash.ensures
+    (of-None (IsAbsent g.K.PartialEq.eq c.hash_of-hash.result c.args.key m.table.held) c.position.result c.in_default.is c.position.ensures.absent)
 
 pub returns-clause-old : goal.returns-clause-old
 returns-clause-old g c = sym (ap (option_map (λ pair. pair.1)) (absent g c))

@@ -7,7 +7,9 @@ use Rattle.linked_hash_map.specs.Indexes.{set_value_at}
 use Rattle.linked_hash_map.specs.Nodes.{pairs_of}
 use Rattle.linked_hash_map.proofs.Current.{IsKept-with_value}
 use Rattle.linked_hash_map.proofs.FirstAndLast.{last-pairs}
-use Rattle.linked_hash_map.proofs.Kept.{IsValid-view, map_of-revalued, bare-change, length-pairs_of, pairs_set}
+use Rattle.linked_hash_map.proofs.HeldPairs.{bare-change, length-pairs_of}
+use Rattle.linked_hash_map.proofs.CutNodes.{pairs_of-change_at}
+use Rattle.linked_hash_map.proofs.Kept.{IsValid-view, map_of-revalued}
 use Rattle.linked_hash_map.proofs.map.LinkedHashMap.last_value_mut.Goals as goal
 
 pub value_mut-requires : goal.value_mut-requires
@@ -32,7 +34,7 @@ returns g c =
       (
         refl,
         λ w. map_of-revalued m.table (change_at at (revalued w) m.table.held) _ (bare-change at w m.table.held)
-            (pairs_set (last_held last) c.value_mut.ensures.alone w ∙ ap (λ n. set_value_at (pairs_of m.table.held) n w) index),
+            (pairs_of-change_at (last_held last) c.value_mut.ensures.alone w ∙ ap (λ n. set_value_at (pairs_of m.table.held) n w) index),
       ),
       record {
         writes_back = tt;

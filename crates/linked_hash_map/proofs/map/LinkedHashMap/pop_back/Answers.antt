@@ -1,7 +1,9 @@
 use Rattle.std.proofs.Common.{◌-◌, remove, slice_get, refl, sym, ap, ◌∙◌}
 use Rattle.lhm_ring.specs.Positions.{pointer_of}
 use Rattle.linked_hash_map.specs.Nodes.{pairs_of}
-use Rattle.linked_hash_map.proofs.Kept.{IsValid-view, length-pairs_of, cut_before}
+use Rattle.linked_hash_map.proofs.HeldPairs.{length-pairs_of}
+use Rattle.linked_hash_map.proofs.CutNodes.{CutAt-before}
+use Rattle.linked_hash_map.proofs.Kept.{IsValid-view}
 use Rattle.linked_hash_map.proofs.Current.{last_lies, last_index}
 use Rattle.linked_hash_map.proofs.Effects.{remove-last}
 use Rattle.linked_hash_map.proofs.Pops.{find-none, Updates-take_but_last}
@@ -9,7 +11,7 @@ use Rattle.linked_hash_map.proofs.TakenNode.{pair-removed, pairs-removed, IsKept
 use Rattle.linked_hash_map.proofs.map.LinkedHashMap.pop_back.Goals as goal
 
 pub remove_at-requires : goal.remove_at-requires
-remove_at-requires g c = (cut_before (pointer_of c.in_ok-back.back) c.self.inside.table.held (last_lies c.self.inside.table.held c.last.ensures.apart c.in_ok-back.ensures.last)).held
+remove_at-requires g c = (CutAt-before (pointer_of c.in_ok-back.back) c.self.inside.table.held (last_lies c.self.inside.table.held c.last.ensures.apart c.in_ok-back.ensures.last)).held
 
 pub invariant_of-self : goal.invariant_of-self
 invariant_of-self g c = IsKept-removed c.self.invariant (last_lies c.self.inside.table.held c.last.ensures.apart c.in_ok-back.ensures.last) c.remove_at.ensures.others c.remove_at.ensures.capacity

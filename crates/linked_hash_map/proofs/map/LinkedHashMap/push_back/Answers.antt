@@ -5,7 +5,8 @@ use Rattle.linked_hash_map.specs.Nodes.{pairs_of, unvisited_of}
 use Rattle.linked_hash_map.specs.Hashers.{hash_by}
 use Rattle.linked_hash_map.specs.Pairs.{find}
 use Rattle.linked_hash_map.proofs.PushedPair.{IsKept-push, pairs_of-push, bookmark_at-push, current_at-push, to_visit-push}
-use Rattle.linked_hash_map.proofs.Kept.{IsValid-view, length-pairs_of}
+use Rattle.linked_hash_map.proofs.HeldPairs.{length-pairs_of}
+use Rattle.linked_hash_map.proofs.Kept.{IsValid-view}
 use Rattle.linked_hash_map.proofs.map.LinkedHashMap.push_back.Goals as goal
 
 pub push_back-requires : goal.push_back-requires

@@ -1,37 +1,30 @@
-use Rattle.std.proofs.Common.{◌≡◌, take, drop, None, option_map, refl, sym, ap, ◌∙◌, subst, fold}
+use Rattle.std.proofs.Common.{◌≡◌, take, drop, None, option_map, refl, sym, ap, ◌∙◌, subst}
 use Rattle.lhm_ring.specs.Tables.{TableState}
-use Rattle.linked_hash_map.specs.LinkedMap.{LinkedMap}
 use Rattle.std.specs.Map.{keys_of}
 use Rattle.linked_hash_map.specs.Nodes.{pairs_of, bare, bookmark_at, map_of, beside, bookmark_of, unvisited_of}
 use Rattle.linked_hash_map.specs.Pairs.{find}
 use Rattle.linked_hash_map.specs.Validity.{IsValid}
-use Rattle.linked_hash_map.specs.Hashers.{hash_by}
 use Rattle.linked_hash_map.proofs.Pairs.{filter-none}
-use Rattle.linked_hash_map.proofs.Kept.{absent_key, distinct_keys, IsValid-view}
+use Rattle.linked_hash_map.proofs.Kept.{distinct_keys, IsValid-view}
+use Rattle.linked_hash_map.proofs.AbsentKeys.{find-IsAbsent_map}
 use Rattle.linked_hash_map.proofs.Indexes.{without-index, value_at-slice_get}
 use Rattle.linked_hash_map.proofs.Current.{key_lies, key_index}
 use Rattle.linked_hash_map.proofs.TakenNode.{pair-removed, pairs-removed, IsKept-removed}
 use Rattle.linked_hash_map.proofs.map.LinkedHashMap.remove_hashed.Goals as goal
 
 -- a key that is not found is absent
-absent : (g : _) (c : goal.After-from_residual g) → find g.K.PartialEq.eq (pairs_of c.self.inside.table.held) c.args.key.now ≡ None
+absent : (g : _) (c : goal.After-from_residual g) → find g.K.PartialEq.eq c.args.self.now.pairs c.args.key.now ≡ None
 absent g c =
     let m = c.self.inside in
-    absent_key g.K.PartialEq.eq (hash_by g.S.Hasher.Hasher.finish g.S.Hasher.Hasher.write g.S.BuildHasher.build_hasher g.K.Hash.hash_input m.hasher)
-    (λ x y h. ap (λ ws. g.S.Hasher.Hasher.finish (fold g.S.Hasher.Hasher.write (g.S.BuildHasher.build_hasher m.hasher) ws)) (g.met.K.Hash.respects_eq x y h))
-    c.args.key.now c.args.hash (subst (λ (z : LinkedMap _ _ _). c.args.hash ≡ hash_by g.S.Hasher.Hasher.finish g.S.Hasher.Hasher.write g.S.BuildHasher.build_hasher g.K.Hash.hash_input z.hasher c.args.key.now) (sym c.self.view_is) c.requires) m.table.held c.self.invariant.nodes.hashed
-    c.in_err-pair.ensures.absent
+    find-IsAbsent_map g.K.PartialEq.eq g.S.Hasher.Hasher.finish g.S.Hasher.Hasher.write g.S.BuildHasher.build_hasher g.K.Hash.hash_input g.met.K.Hash.respects_eq m.table (beside m.hasher m.visit m.mode) c.self.view_is c.self.invariant c.args.key.now c.requires c.in_err-pair.ensures.absent
 
 pub returns-in_err-pair-clause-value : goal.returns-in_err-pair-clause-value
-returns-in_err-pair-clause-value g c = ap (option_map (λ pair. pair.1)) c.from_residual.ensures ∙ rw (← c.self.view_is) (sym (ap (option_map (λ pair. pair.1)) (absent g c)))
+returns-in_err-pair-clause-value g c = ap (option_map (λ pair. pair.1)) c.from_residual.ensures ∙ sym (ap (option_map (λ pair. pair.1)) (absent g c))
 
 pub returns-in_err-pair-clause-pairs : goal.returns-in_err-pair-clause-pairs
 returns-in_err-pair-clause-pairs g c =
-    let m = c.self.inside in
-    rw (← c.self.view_is) (
-    ap (λ s. pairs_of s.held) c.in_err-pair.ensures.unchanged
-    ∙ sym (filter-none (g.K.PartialEq.eq c.args.key.now) (pairs_of m.table.held) (absent g c))
-    )
+    rw (← c.self.view_is) (ap (λ s. pairs_of s.held) c.in_err-pair.ensures.unchanged)
+    ∙ sym (filter-none (g.K.PartialEq.eq c.args.key.now) c.args.self.now.pairs (absent g c))
 
 pub returns-in_err-pair-clause-to_visit : goal.returns-in_err-pair-clause-to_visit
 returns-in_err-pair-clause-to_visit g c =

@@ -1,34 +1,33 @@
-use Rattle.std.proofs.Common.{◌≡◌, Some, refl, sym, ap, subst, fold}
+use Rattle.std.proofs.Common.{Some, refl}
 use Rattle.lhm_ring.specs.Positions.{pointer_of}
 use Rattle.lhm_ring.specs.Search.{HasKey, IsAbsent}
-use Rattle.linked_hash_map.specs.LinkedMap.{LinkedMap}
-use Rattle.linked_hash_map.specs.Hashers.{hash_by}
-use Rattle.linked_hash_map.proofs.Kept.{of-Some, of-None, absent_key, IsValid-view}
+use Rattle.linked_hash_map.specs.Nodes.{beside}
+use Rattle.linked_hash_map.proofs.Options.{of-Some, of-None}
+use Rattle.linked_hash_map.proofs.Kept.{IsValid-view}
+use Rattle.linked_hash_map.proofs.AbsentKeys.{find-IsAbsent_map}
 use Rattle.linked_hash_map.proofs.Current.{IsKept-visited, found_lies, found_index}
 use Rattle.linked_hash_map.proofs.map.LinkedHashMap.seek.Goals as goal
 
+-- a position that is found is that of the key
+has : (g : _) (c : goal.After-self-1 g) → HasKey g.K.PartialEq.eq c.args.hash c.args.key.now c.self.inside.table.held (pointer_of c.in-Some.at)
+has g c = of-Some (λ p. HasKey g.K.PartialEq.eq c.args.hash c.args.key.now c.self.inside.table.held (pointer_of p)) c.position.result c.in-Some.at c.in-Some.is c.position.ensures.found
+
 pub invariant_of-self : goal.invariant_of-self
 invariant_of-self g c =
+    let at = c.at-self-inside.ensures in
+    rw (at.bookmark, at.unvisited, at.current) (IsKept-visited c.self.invariant (Some (pointer_of c.in-Some.at)) (found_lies (has g c)))
+
+pub returns-clause-found : goal.returns-clause-found
+returns-clause-found g c found = rw (← c.self.view_is, c.at-self-inside.ensures.current) (found_index (has g c))
+
+pub returns-clause-valid : goal.returns-clause-valid
+returns-clause-valid g c = rw (← c.self.view_is) (IsValid-view c.self.invariant refl refl)
+
+pub returns-in_default-clause-absent : goal.returns-in_default-clause-absent
+returns-in_default-clause-absent g c none =
     let m = c.self.inside in
-    let h = of-Some (λ p. HasKey g.K.PartialEq.eq c.args.hash c.args.key.now m.table.held (pointer_of p)) c.position.result c.in-Some.at c.in-Some.is c.position.ensures.found in
-    IsKept-visited c.self.invariant (Some (pointer_of c.in-Some.at)) (found_lies h)
+    find-IsAbsent_map g.K.PartialEq.eq g.S.Hasher.Hasher.finish g.S.Hasher.Hasher.write g.S.BuildHasher.build_hasher g.K.Hash.hash_input g.met.K.Hash.respects_eq m.table (beside m.hasher m.visit m.mode) c.self.view_is c.self.invariant c.args.key.now c.requires
+    (of-None (IsAbsent g.K.PartialEq.eq c.args.hash c.args.key.now m.table.held) c.position.result c.in_default.is c.position.ensures.absent)
 
-pub returns-in-Some-clause-found : goal.returns-in-Some-clause-found
-returns-in-Some-clause-found g c found =
-    let m = c.self.inside in
-    let h = of-Some (λ p. HasKey g.K.PartialEq.eq c.args.hash c.args.key.now m.table.held (pointer_of p)) c.position.result c.in-Some.at c.in-Some.is c.position.ensures.found in
-    rw (← c.self.view_is) (found_index h)
-
-pub returns-in-Some-clause-valid : goal.returns-in-Some-clause-valid
-returns-in-Some-clause-valid g c = rw (← c.self.view_is) (IsValid-view c.self.invariant refl refl)
-
-pub returns-in-None-clause-absent : goal.returns-in-None-clause-absent
-returns-in-None-clause-absent g c none =
-    let m = c.self.inside in
-    rw (← c.self.view_is) (absent_key g.K.PartialEq.eq (hash_by g.S.Hasher.Hasher.finish g.S.Hasher.Hasher.write g.S.BuildHasher.build_hasher g.K.Hash.hash_input m.hasher)
-    (λ x y h. ap (λ ws. g.S.Hasher.Hasher.finish (fold g.S.Hasher.Hasher.write (g.S.BuildHasher.build_hasher m.hasher) ws)) (g.met.K.Hash.respects_eq x y h))
-    c.args.key.now c.args.hash (subst (λ (z : LinkedMap _ _ _). c.args.hash ≡ hash_by g.S.Hasher.Hasher.finish g.S.Hasher.Hasher.write g.S.BuildHasher.build_hasher g.K.Hash.hash_input z.hasher c.args.key.now) (sym c.self.view_is) c.requires) m.table.held c.self.invariant.nodes.hashed
-    (of-None (IsAbsent g.K.PartialEq.eq c.args.hash c.args.key.now m.table.held) c.position.result c.in-None.is c.position.ensures.absent))
-
-pub returns-in-None-clause-valid : goal.returns-in-None-clause-valid
-returns-in-None-clause-valid g c = rw (← c.self.view_is) (IsValid-view c.self.invariant refl refl)
+pub returns-in_default-clause-valid : goal.returns-in_default-clause-valid
+returns-in_default-clause-valid g c = rw (← c.self.view_is) (IsValid-view c.self.invariant refl refl)

@@ -2,7 +2,7 @@ use Rattle.std.proofs.Common.{◌<◌, length, sym, subst}
 use Rattle.lhm_ring.specs.Positions.{pointer_of_some}
 use Rattle.linked_hash_map.specs.Nodes.{HasBehind}
 use Rattle.linked_hash_map.proofs.Fitted.{HasBehind-nth_back}
-use Rattle.linked_hash_map.proofs.Kept.{of-Some}
+use Rattle.linked_hash_map.proofs.Options.{of-Some}
 use Rattle.linked_hash_map.proofs.map.cursor.Visit.moved_to.Goals as goal
 
 pub returns-in-Some-clause-bookmark : goal.returns-in-Some-clause-bookmark

@@ -1,0 +1,51 @@
+-- The pairs of held nodes, and the nodes with their keys alone.
+use Rattle.std.proofs.Common.{◌≡◌, suc, ◌+◌, true, false, cond, List, [], ◌∷◌, ◌++◌, map, length, refl, sym, ap, ◌∙◌}
+use Rattle.std.specs.Map.{keys_of}
+use Rattle.std.proofs.lemmas.List.{map-append}
+use denote.RawPtr.{Ptr}
+use Rattle.lhm_ring.specs.Cells.{same_ptr}
+use Rattle.lhm_ring.specs.RingState.{Held, change_at}
+use Rattle.lhm_ring.specs.RingAfterLoan.{revalued, set_held_values}
+use Rattle.lhm_ring.specs.Search.{entries}
+use Rattle.linked_hash_map.specs.Nodes.{pairs_of, bare, bare_node, before}
+
+-- what is the same of nodes with the same entries, and of nodes with other values
+module _ {K V : Type 0} where
+  pub pairs_of-of-entries : (hs : List (Held (K × V))) → pairs_of (entries hs) ≡ pairs_of hs
+  pairs_of-of-entries [] = refl
+  pairs_of-of-entries (t ∷ hs) = ap (λ ps. t.pair ∷ ps) (pairs_of-of-entries hs)
+
+  pub bare-change : (p : Ptr) (w : V) (hs : List (Held (K × V))) → bare (change_at p (revalued w) hs) ≡ bare hs
+  bare-change p w [] = refl
+  bare-change p w (t ∷ hs) =
+      elim (same_ptr t.at p) as (λ y. bare_node (cond y (revalued w t) t) ∷ bare (change_at p (revalued w) hs) ≡ bare_node t ∷ bare hs) [
+        | true ↦ ap (λ us. bare_node t ∷ us) (bare-change p w hs)
+        | false ↦ ap (λ us. bare_node t ∷ us) (bare-change p w hs)
+      ]
+
+  pub bare-values : (hs : List (Held (K × V))) (vs : List V) → bare (set_held_values hs vs) ≡ bare hs
+  bare-values [] vs = refl
+  bare-values (t ∷ hs) [] = refl
+  bare-values (t ∷ hs) (v ∷ vs) = ap (λ us. bare_node t ∷ us) (bare-values hs vs)
+
+  pub length-bare : (hs : List (Held (K × V))) → length (bare hs) ≡ length hs
+  length-bare [] = refl
+  length-bare (t ∷ hs) = ap suc (length-bare hs)
+
+  pub length-pairs_of : (hs : List (Held (K × V))) → length (pairs_of hs) ≡ length hs
+  length-pairs_of [] = refl
+  length-pairs_of (t ∷ hs) = ap suc (length-pairs_of hs)
+
+  pub length-same : (hs ks : List (Held (K × V))) → bare hs ≡ bare ks → length hs ≡ length ks
+  length-same hs ks e = sym (length-bare hs) ∙ ap length e ∙ length-bare ks
+
+  pub keys-bare : (hs : List (Held (K × V))) → map (λ u. u.pair) (bare hs) ≡ keys_of (pairs_of hs)
+  keys-bare [] = refl
+  keys-bare (t ∷ hs) = ap (λ ks. t.pair.0 ∷ ks) (keys-bare hs)
+
+  pub before-bare : (p : Ptr) (hs : List (Held (K × V))) → before p (bare hs) ≡ before p hs
+  before-bare p [] = refl
+  before-bare p (t ∷ hs) = ap (λ n. cond (same_ptr t.at p) 0 (n + 1)) (before-bare p hs)
+
+  pub pairs_of-append : (xs ys : List (Held (K × V))) → pairs_of (xs ++ ys) ≡ pairs_of xs ++ pairs_of ys
+  pairs_of-append xs ys = map-append (λ (t : Held (K × V)). t.pair) xs ys
