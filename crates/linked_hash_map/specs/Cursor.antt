@@ -24,7 +24,7 @@ module _ {K V S : Type 0} where
   abbrev pub IsOutside : ℕ → LinkedMap K V S → Type 0
   IsOutside index m = (index < m.cursor.bookmark) ⊎ (m.cursor.bookmark + m.cursor.unvisited ≤ index)
 
-  -- an index is so in one way
+  -- `IsOutside` has at most one proof
   pub IsOutside-prop : (index : ℕ) (m : LinkedMap K V S) → IsProp (IsOutside index m)
   IsOutside-prop index m (inl h) (inl k) = ap inl (le_prop h k)
   IsOutside-prop index m (inl h) (inr k) = absurd (not_before_and_behind m.cursor.unvisited h k)

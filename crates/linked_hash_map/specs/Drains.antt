@@ -25,7 +25,7 @@ module _ {K V : Type 0} where
   DrainStepsBack s r t =
       TakesLast (λ pair. pair) (drain_rest s) r (drain_rest t) × (drain_name t ≡ drain_name s)
 
-  -- each `Drain` that steps from d lead to ends the same borrow
+  -- every `Drain` that steps from d lead to ends the same borrow as d
   abbrev pub DrainKeepsAlong : (Drain K V → Option (K × V) → Drain K V → Type 0) → Drain K V
       → Type 0
   DrainKeepsAlong steps d =

@@ -2,8 +2,8 @@
 use Rattle.std.specs.Prelude.{◌≡◌, Bool, List, ◌++◌, filter}
 use Rattle.std.specs.Map.{keys_of}
 
--- of the pairs at the start some were passed, and the rest, by its keys, is still to visit; the
--- pairs now are those of the passed that are kept, and the rest
+-- the pairs at the start are those passed and the rest, whose keys are left to visit; the pairs now
+-- are those of the passed that are kept, and the rest
 pub record VisitKeeps {K V : Type 0} (keeps : K × V → Bool) (start now : List (K × V))
     (left : List K) : Type 0 where
   pub passed : List (K × V)

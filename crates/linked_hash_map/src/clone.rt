@@ -9,7 +9,8 @@ use std::hash::{BuildHasher, Hash};
 /// Clones the hasher and the pairs, in order, in O(n). The mode stays, and the capacity is the
 /// number of pairs. Hashes each cloned key once; if two are equal, the later replaces the earlier.
 ///
-/// Returns an error if an allocation or a clone fails: without pairs, only that of the hasher can.
+/// Returns an error if an allocation or a clone fails. Without pairs it allocates nothing, and only
+/// the clone of the hasher can fail.
 ///
 /// # Examples
 ///

@@ -20,8 +20,7 @@ pub fn is_ring(ring: &Ring<char, u64>, triples: &[(u64, char, u64)], spares: usi
     }
     let mut held = ring.iter();
     for triple in triples {
-        let (hash, key, value) = *triple;
-        if held.next() != Some((hash, &key, &value)) {
+        if held.next() != Some((triple.0, &triple.1, &triple.2)) {
             return false;
         }
     }
