@@ -5,6 +5,7 @@ use Rattle.std.specs.Map.{keys_of}
 use Rattle.std.specs.Cmp.{IsEquivalence}
 use Rattle.lhm_ring.specs.RingState.{IsTripleClone}
 use Rattle.lhm_ring.proofs.Ends.{AllZip-last}
+use Rattle.linked_hash_map.specs.Changes.{KeepsSettings}
 use Rattle.linked_hash_map.specs.declared.map.Mode.TheVariants.{Touch}
 use Rattle.linked_hash_map.specs.LinkedMap.{LinkedMap}
 use Rattle.linked_hash_map.specs.Pairs.{to_back, put}
@@ -59,8 +60,8 @@ module _ {K V S : Type 0} {eq : K → K → Bool} {IsKeyClone : K → K → Type
   HasCloned-none all empty room uncounted of_hasher touch = record { first = []; clones = []; split = all; each = tt; inserted = empty; capacity = room; rechained = uncounted; hasher = of_hasher; mode = touch }
 
   -- one more clone is inserted; there are then no more pairs than are cloned
-  pub HasCloned-put : {m before after : LinkedMap K V S} {these others : List (K × V)} → HasCloned eq IsKeyClone IsValueClone IsHasherClone m these before → (pair : K × V) → these ≡ pair ∷ others → (k : K) (v : V) → IsKeyClone pair.0 k → IsValueClone pair.1 v → after.pairs ≡ put eq before.mode before.pairs k v → after.capacity ≡ max before.capacity (length after.pairs) → after.rechained ≡ rechained_raised before.rechained (length before.pairs) before.capacity after.capacity → after.hasher ≡ before.hasher → after.mode ≡ before.mode → HasCloned eq IsKeyClone IsValueClone IsHasherClone m others after
-  HasCloned-put {m} {before} {after} {these} {others} so_far pair next k v of_key of_value went_in raised counted same same_mode =
+  pub HasCloned-put : {m before after : LinkedMap K V S} {these others : List (K × V)} → HasCloned eq IsKeyClone IsValueClone IsHasherClone m these before → (pair : K × V) → these ≡ pair ∷ others → (k : K) (v : V) → IsKeyClone pair.0 k → IsValueClone pair.1 v → after.pairs ≡ put eq before.mode before.pairs k v → after.capacity ≡ max before.capacity (length after.pairs) → after.rechained ≡ rechained_raised before.rechained (length before.pairs) before.capacity after.capacity → KeepsSettings before after → HasCloned eq IsKeyClone IsValueClone IsHasherClone m others after
+  HasCloned-put {m} {before} {after} {these} {others} so_far pair next k v of_key of_value went_in raised counted same =
       let put = went_in ∙ ap (λ mode. put eq mode before.pairs k v) so_far.mode in
       let inserted_is = ap length so_far.inserted in
       let bound = length-insert_each eq [] so_far.clones in
@@ -80,8 +81,8 @@ module _ {K V S : Type 0} {eq : K → K → Bool} {IsKeyClone : K → K → Type
         inserted = put ∙ ap (λ es. to_back eq es k v) so_far.inserted ∙ sym (insert_each-last eq Touch [] so_far.clones (k, v));
         capacity = room ∙ so_far.capacity;
         rechained = counted ∙ ap (rechained_raised before.rechained (length before.pairs) before.capacity) room ∙ rechained_raised-same before.rechained (length before.pairs) before.capacity ∙ so_far.rechained;
-        hasher = subst (IsHasherClone m.hasher) (sym same) so_far.hasher;
-        mode = same_mode ∙ so_far.mode;
+        hasher = subst (IsHasherClone m.hasher) (sym same.hasher) so_far.hasher;
+        mode = same.mode ∙ so_far.mode;
       }
 
 module _ {K V : Type 0} {eq : K → K → Bool} (laws : IsEquivalence eq) {IsKeyClone : K → K → Type 0} (IsValueClone : V → V → Type 0) (same : (k clone : K) → IsKeyClone k clone → IsTrue (eq k clone)) where

@@ -5,6 +5,7 @@ use Rattle.std.specs.Map.{keys_of}
 use Rattle.std.specs.Iterator.{Count, IsFinite, size, MakesProgress, YieldsThen}
 use Rattle.std.specs.Cmp.{IsEquivalence}
 use Rattle.std.proofs.lemmas.List.{length-map}
+use Rattle.linked_hash_map.specs.Changes.{KeepsSettings}
 use Rattle.linked_hash_map.specs.LinkedMap.{LinkedMap}
 use Rattle.linked_hash_map.specs.Counts.{rechained_raised}
 use Rattle.linked_hash_map.specs.Inserts.{InsertsUntil}
@@ -28,9 +29,9 @@ module _ {I X K V S : Type 0} {eq : K → K → Bool} (laws : IsEquivalence eq) 
 
   -- one more comes
   module _ (came : List X) (item : X) {can : I → Type 0} {now later : I} {before : LinkedMap K V S} (distinct : IsDistinct eq (keys_of old.pairs)) (so_far : IsExtended eq shows remaining old start now came before) (goes : MakesProgress can remaining now (Some item) later) where
-    pub IsExtended-put : {after : LinkedMap K V S} → after.pairs ≡ put eq before.mode before.pairs (shows item).0 (shows item).1 → after.capacity ≡ max before.capacity (length after.pairs) → after.rechained ≡ rechained_raised before.rechained (length before.pairs) before.capacity after.capacity → after.hasher ≡ before.hasher → after.mode ≡ before.mode → IsValid eq after → IsExtended eq shows remaining old start later (came ++ item ∷ []) after
-    IsExtended-put pairs capacity rechained hasher mode valid = record {
-      inserted = HasInserted-shown laws shows old came item distinct so_far.inserted pairs capacity rechained hasher mode;
+    pub IsExtended-put : {after : LinkedMap K V S} → after.pairs ≡ put eq before.mode before.pairs (shows item).0 (shows item).1 → after.capacity ≡ max before.capacity (length after.pairs) → after.rechained ≡ rechained_raised before.rechained (length before.pairs) before.capacity after.capacity → KeepsSettings before after → IsValid eq after → IsExtended eq shows remaining old start later (came ++ item ∷ []) after
+    IsExtended-put pairs capacity rechained settings valid = record {
+      inserted = HasInserted-shown laws shows old came item distinct so_far.inserted pairs capacity rechained settings;
       valid = valid;
       bound = AreWithinBound-next can remaining came item so_far.bound goes;
     }

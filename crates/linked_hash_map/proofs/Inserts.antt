@@ -5,6 +5,7 @@ use Rattle.std.specs.Map.{keys_of}
 use Rattle.std.specs.Iterator.{Count, IsFinite, size, MakesProgress}
 use Rattle.std.specs.Cmp.{IsEquivalence}
 use Rattle.std.proofs.lemmas.List.{map-append, length-map}
+use Rattle.linked_hash_map.specs.Changes.{KeepsSettings}
 use Rattle.linked_hash_map.specs.LinkedMap.{LinkedMap}
 use Rattle.linked_hash_map.specs.Counts.{rechained_raised, rechained_each}
 use Rattle.linked_hash_map.specs.Log.{Put}
@@ -51,8 +52,7 @@ pub record HasInserted {K V S : Type 0} (eq : K → K → Bool) (old : LinkedMap
   pub pairs : new.pairs ≡ insert_each eq old.mode old.pairs items
   pub capacity : new.capacity ≡ max old.capacity (length new.pairs)
   pub rechained : new.rechained ≡ rechained_each old.rechained old.capacity (new.capacity - old.capacity)
-  pub hasher : new.hasher ≡ old.hasher
-  pub mode : new.mode ≡ old.mode
+  pub settings : KeepsSettings old new
 
 -- the items that came, and those left to come, are no more than were left at the start
 pub record AreWithinBound {I : Type 0} (remaining : I → Count) (start now : I) (came : ℕ) : Type 0 where
@@ -103,31 +103,29 @@ module _ {K V : Type 0} {eq : K → K → Bool} (laws : IsEquivalence eq) where
         pairs = refl;
         capacity = omega (arith, valid.within);
         rechained = sym (ap (rechained_each start.rechained start.capacity) none);
-        hasher = refl;
-        mode = refl;
+        settings = record { hasher = refl; mode = refl };
       }
 
   -- one more insertion, after those of some items
-  pub HasInserted-put : {S : Type 0} (start : LinkedMap K V S) (items : List (K × V)) (k : K) (v : V) {before after : LinkedMap K V S} → IsDistinct eq (keys_of start.pairs) → HasInserted eq start items before → after.pairs ≡ put eq before.mode before.pairs k v → after.capacity ≡ max before.capacity (length after.pairs) → after.rechained ≡ rechained_raised before.rechained (length before.pairs) before.capacity after.capacity → after.hasher ≡ before.hasher → after.mode ≡ before.mode → HasInserted eq start (items ++ (k, v) ∷ []) after
-  HasInserted-put start items k v {before} {after} distinct so_far pairs_are raised counted same same_mode =
+  pub HasInserted-put : {S : Type 0} (start : LinkedMap K V S) (items : List (K × V)) (k : K) (v : V) {before after : LinkedMap K V S} → IsDistinct eq (keys_of start.pairs) → HasInserted eq start items before → after.pairs ≡ put eq before.mode before.pairs k v → after.capacity ≡ max before.capacity (length after.pairs) → after.rechained ≡ rechained_raised before.rechained (length before.pairs) before.capacity after.capacity → KeepsSettings before after → HasInserted eq start (items ++ (k, v) ∷ []) after
+  HasInserted-put start items k v {before} {after} distinct so_far pairs_are raised counted same =
       let distinct_before = subst (λ es. IsDistinct eq (keys_of es)) (sym so_far.pairs) (distinct-insert_each start.mode start.pairs items distinct) in
       let grows = length-grows before.mode before.pairs k v distinct_before in
       let one : length after.pairs ≤ length before.pairs + 1 = subst (λ es. length es ≤ length before.pairs + 1) (sym pairs_are) (length-put_most eq before.mode before.pairs k v) in
       let longer : length before.pairs ≤ length after.pairs = subst (λ es. length before.pairs ≤ length es) (sym pairs_are) grows in
       let capacity_before = so_far.capacity in
       record {
-        pairs = pairs_are ∙ (λ i. put eq (so_far.mode i) (so_far.pairs i) k v) ∙ sym (insert_each-last eq start.mode start.pairs items (k, v));
+        pairs = pairs_are ∙ (λ i. put eq (so_far.settings.mode i) (so_far.pairs i) k v) ∙ sym (insert_each-last eq start.mode start.pairs items (k, v));
         capacity = omega arith;
         rechained = rechained_each-put start.rechained start.capacity (omega arith) so_far.rechained (omega arith) one raised counted;
-        hasher = same ∙ so_far.hasher;
-        mode = same_mode ∙ so_far.mode;
+        settings = record { hasher = same.hasher ∙ so_far.settings.hasher; mode = same.mode ∙ so_far.settings.mode };
       }
 
   -- the same, if the items are what others show
-  pub HasInserted-shown : {S X : Type 0} (shows : X → K × V) (start : LinkedMap K V S) (taken : List X) (item : X) {before after : LinkedMap K V S} → IsDistinct eq (keys_of start.pairs) → HasInserted eq start (map shows taken) before → after.pairs ≡ put eq before.mode before.pairs (shows item).0 (shows item).1 → after.capacity ≡ max before.capacity (length after.pairs) → after.rechained ≡ rechained_raised before.rechained (length before.pairs) before.capacity after.capacity → after.hasher ≡ before.hasher → after.mode ≡ before.mode → HasInserted eq start (map shows (taken ++ item ∷ [])) after
-  HasInserted-shown shows start taken item {before} {after} distinct so_far pairs_are raised counted same same_mode =
+  pub HasInserted-shown : {S X : Type 0} (shows : X → K × V) (start : LinkedMap K V S) (taken : List X) (item : X) {before after : LinkedMap K V S} → IsDistinct eq (keys_of start.pairs) → HasInserted eq start (map shows taken) before → after.pairs ≡ put eq before.mode before.pairs (shows item).0 (shows item).1 → after.capacity ≡ max before.capacity (length after.pairs) → after.rechained ≡ rechained_raised before.rechained (length before.pairs) before.capacity after.capacity → KeepsSettings before after → HasInserted eq start (map shows (taken ++ item ∷ [])) after
+  HasInserted-shown shows start taken item {before} {after} distinct so_far pairs_are raised counted same =
       subst (λ items. HasInserted eq start items after) (sym (map-append shows taken (item ∷ [])))
-      (HasInserted-put start (map shows taken) (shows item).0 (shows item).1 distinct so_far pairs_are raised counted same same_mode)
+      (HasInserted-put start (map shows taken) (shows item).0 (shows item).1 distinct so_far pairs_are raised counted same)
 
   -- pairs with keys that differ stay as they are inserted
   pub insert_each-distinct : (m : Mode) (pairs : List (K × V)) → IsDistinct eq (keys_of pairs) → insert_each eq m [] pairs ≡ pairs

@@ -3,6 +3,7 @@ ghost use Rattle.std.specs.Prelude.{◌≡◌, ℕ, ◌+◌, ◌-◌, ◌≤◌,
 ghost use Rattle.std.specs.Iterator.{IsFiniteIterable};
 ghost use Rattle.std.specs.Map.Iter.{deref_pair};
 ghost use Rattle.linked_hash_map.specs.Pairs.{find};
+ghost use Rattle.linked_hash_map.specs.Changes.{KeepsSettings};
 ghost use Rattle.linked_hash_map.specs.Validity.{IsValid};
 ghost use Rattle.linked_hash_map.specs.Counts.{rechained_each};
 ghost use Rattle.linked_hash_map.specs.Inserts.{GivesAtMost, InsertsAll, InsertsUntil, Collects, HintsAboveLimit, NeedsRoom};
@@ -39,8 +40,7 @@ impl<K: Eq + Hash, V, S: BuildHasher> LinkedHashMap<K, V, S> {
         ensures rechained { self.new.rechained
             ≡ rechained_each self.old.rechained self.old.capacity
             (self.new.capacity - self.old.capacity) }
-        ensures hasher { self.new.hasher ≡ self.old.hasher }
-        ensures mode { self.new.mode ≡ self.old.mode }
+        ensures settings { KeepsSettings self.old self.new }
         ensures valid { IsValid K.eq self.old }
         ensures stays_valid { IsValid K.eq self.new }
 
@@ -91,8 +91,7 @@ impl<K: Eq + Hash, V, S: BuildHasher> LinkedHashMap<K, V, S> {
         ensures rechained { self.new.rechained
             ≡ rechained_each self.old.rechained self.old.capacity
             (self.new.capacity - self.old.capacity) }
-        ensures hasher { self.new.hasher ≡ self.old.hasher }
-        ensures mode { self.new.mode ≡ self.old.mode }
+        ensures settings { KeepsSettings self.old self.new }
         ensures valid { IsValid K.eq self.old }
         ensures stays_valid { IsValid K.eq self.new }
 

@@ -3,7 +3,7 @@ ghost use Rattle.std.specs.Prelude.{◌≡◌, ◌<◌, [], length, max, option_
 ghost use Rattle.std.specs.Borrow.{sem};
 ghost use Rattle.linked_hash_map.specs.Pairs.{find, value_at, put};
 ghost use Rattle.linked_hash_map.specs.Cursor.{to_visit};
-ghost use Rattle.linked_hash_map.specs.Changes.{Keeps};
+ghost use Rattle.linked_hash_map.specs.Changes.{Keeps, KeepsSettings};
 ghost use Rattle.linked_hash_map.specs.Validity.{IsValid};
 ghost use Rattle.linked_hash_map.specs.Hashers.{hash_by};
 ghost use Rattle.linked_hash_map.specs.Counts.{rechained_raised};
@@ -63,8 +63,7 @@ impl<K: Eq + Hash, V, S: BuildHasher> LinkedHashMap<K, V, S> {
         ensures rechained { OnOk result
             (self.new.rechained ≡ rechained_raised self.old.rechained (length self.old.pairs)
             self.old.capacity self.new.capacity) }
-        ensures hasher { OnOk result (self.new.hasher ≡ self.old.hasher) }
-        ensures mode { OnOk result (self.new.mode ≡ self.old.mode) }
+        ensures settings { KeepsSettings self.old self.new }
         ensures ends_visit { IfOk result (λ old. OnSome old (to_visit self.new ≡ [])) }
         ensures to_visit { IfOk result (λ old. IfNone old (to_visit self.new ≡ to_visit self.old)) }
         ensures valid { IsValid K.eq self.old }

@@ -8,12 +8,12 @@ use Rattle.linked_hash_map.proofs.replay.extend.Goals as goal
 pub loop-key-preserved-in-Ok : goal.loop-key-preserved-in-Ok
 loop-key-preserved-in-Ok g c =
     let put = c.in-Ok.ensures in
-    HasExtended-put g.met.K.Eq.laws c.loop-key.invariant c.in-Some.key c.in-Some.value (into_iter_items c.next.new.self) c.in-Some.ensures.steps.0 put.pairs put.capacity put.hasher put.mode
+    HasExtended-put g.met.K.Eq.laws c.loop-key.invariant c.in-Some.key c.in-Some.value (into_iter_items c.next.new.self) c.in-Some.ensures.steps.0 put.pairs put.capacity put.settings
 
 pub loop-key-preserved : goal.loop-key-preserved
 loop-key-preserved g c =
     let put = c.in-Ok.ensures in
-    HasExtended-put g.met.K.Eq.laws c.loop-key.invariant c.in-Some.key c.in-Some.value (into_iter_items c.next.new.self) c.in-Some.ensures.steps.0 put.pairs put.capacity put.hasher put.mode
+    HasExtended-put g.met.K.Eq.laws c.loop-key.invariant c.in-Some.key c.in-Some.value (into_iter_items c.next.new.self) c.in-Some.ensures.steps.0 put.pairs put.capacity put.settings
 
 pub returns-in-Err : goal.returns-in-Err
 returns-in-Err g c =

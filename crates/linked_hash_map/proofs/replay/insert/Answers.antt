@@ -7,8 +7,8 @@ returns-in-Ok-None g c =
     let done = c.in-Ok-None.ensures in
     record {
       answers = λ start log defines. IsAbsent-value g.met.K.Eq.laws defines c.args.key (sym done.old ∙ c.in-Ok-None.field-0-is);
-      defines = λ start log defines. Defines-put g.met.K.Eq.laws defines c.args.key c.args.value done.pairs done.capacity done.mode;
-      hasher = done.hasher;
+      defines = λ start log defines. Defines-put g.met.K.Eq.laws defines c.args.key c.args.value done.pairs done.capacity done.settings.mode;
+      hasher = done.settings.hasher;
     }
 
 pub returns-in-Ok-Some : goal.returns-in-Ok-Some
@@ -16,8 +16,8 @@ returns-in-Ok-Some g c =
     let done = c.in-Ok-Some.ensures in
     record {
       answers = λ start log defines. HasValue-value g.met.K.Eq.laws defines c.args.key (sym done.old ∙ c.in-Ok-Some.field-0-is);
-      defines = λ start log defines. Defines-put g.met.K.Eq.laws defines c.args.key c.args.value done.pairs done.capacity done.mode;
-      hasher = done.hasher;
+      defines = λ start log defines. Defines-put g.met.K.Eq.laws defines c.args.key c.args.value done.pairs done.capacity done.settings.mode;
+      hasher = done.settings.hasher;
     }
 
 pub returns-in-Err : goal.returns-in-Err

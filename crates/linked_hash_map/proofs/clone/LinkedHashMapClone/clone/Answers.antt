@@ -15,7 +15,7 @@ pub loop-key-preserved-in-Ok-insert : goal.loop-key-preserved-in-Ok-insert
 loop-key-preserved-in-Ok-insert g c =
     let put = c.in-Ok-insert.ensures in
     record {
-      cloned = HasCloned-put c.loop-key.invariant.cloned (c.in-Some.key.now, c.in-Some.value.now) c.in-Some.ensures.steps _ _ c.in_ok-key.ensures.cases c.in_ok-clone.ensures.cases put.pairs put.capacity put.rechained put.hasher put.mode;
+      cloned = HasCloned-put c.loop-key.invariant.cloned (c.in-Some.key.now, c.in-Some.value.now) c.in-Some.ensures.steps _ _ c.in_ok-key.ensures.cases c.in_ok-clone.ensures.cases put.pairs put.capacity put.rechained put.settings;
       valid = put.stays_valid;
     }
 
@@ -23,7 +23,7 @@ pub loop-key-preserved : goal.loop-key-preserved
 loop-key-preserved g c =
     let put = c.in-Ok-insert.ensures in
     record {
-      cloned = HasCloned-put c.loop-key.invariant.cloned (c.in-Some.key.now, c.in-Some.value.now) c.in-Some.ensures.steps _ _ c.in_ok-key.ensures.cases c.in_ok-clone.ensures.cases put.pairs put.capacity put.rechained put.hasher put.mode;
+      cloned = HasCloned-put c.loop-key.invariant.cloned (c.in-Some.key.now, c.in-Some.value.now) c.in-Some.ensures.steps _ _ c.in_ok-key.ensures.cases c.in_ok-clone.ensures.cases put.pairs put.capacity put.rechained put.settings;
       valid = put.stays_valid;
     }
 
