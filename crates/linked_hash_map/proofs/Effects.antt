@@ -8,7 +8,7 @@ use Rattle.std.specs.Cmp.{IsEquivalence}
 use Rattle.linked_hash_map.specs.declared.map.Mode.{Mode}
 use Rattle.linked_hash_map.specs.Log.{Log, Put, Write, Refresh, Remove, RemoveAll, Need, Fit, SetMode, put_each, mode, live, stored, value, pair_of, pairs, size, high, IsFull, Defines}
 use Rattle.linked_hash_map.specs.Pairs.{find, value_at, without, to_back, set_value, put}
-use Rattle.linked_hash_map.specs.Requests.{IsAbsent, HasValue}
+use Rattle.linked_hash_map.specs.AllowedAnswers.{IsAbsent, HasValue}
 use Rattle.linked_hash_map.proofs.LiveKeys.{pair_of-live}
 use Rattle.linked_hash_map.proofs.Pairs.{is_some-value_at}
 use Rattle.linked_hash_map.proofs.Bridge.{find-pairs, pairs-put, pairs-write, pairs-refresh, pairs-remove, pairs-remove_all, pairs-need, pairs-fit, pairs-set_mode}

@@ -3,13 +3,12 @@ use Rattle.std.proofs.Common.{◌≡◌, ℕ, ◌%◌, Bool, false, List, [], �
 use Rattle.linked_hash_map.specs.declared.map.Mode.TheVariants.{Touch, Keep}
 use Rattle.linked_hash_map.specs.Log.{Log, Put, Write, Refresh, Remove, RemoveAll, Need, Fit, SetMode, mode, live, stored, value, pair_of, standing_in, standing, pairs, size, high}
 use Rattle.linked_hash_map.specs.Pairs.{find, value_at, without, to_back, set_value}
-use Rattle.linked_hash_map.specs.Requests.{effects, IsAllowed}
-use Rattle.linked_hash_map.specs.Requests as spec
+use Rattle.linked_hash_map.specs.AllowedAnswers.{effects, IsAllowed}
 use Rattle.linked_hash_map.specs.Run.{last_log, IsRun}
 use Rattle.linked_hash_map.specs.declared.replay.Command.{Command}
-use Rattle.linked_hash_map.specs.declared.replay.Command.TheVariants.{Insert}
+use Rattle.linked_hash_map.specs.declared.replay.Command.TheVariants.{Insert, PopBack, Drain, Extend, Reserve}
 use Rattle.linked_hash_map.specs.declared.replay.Command.TheVariants as command
-use Rattle.linked_hash_map.specs.declared.replay.Answer.TheVariants.{New, Old, Missing}
+use Rattle.linked_hash_map.specs.declared.replay.Answer.TheVariants.{New, Old, Missing, Absent, Refused, Pair, Pairs, Stopped, Done}
 use Rattle.linked_hash_map.specs.declared.replay.Reply.{Reply}
 
 -- numbers are the same key if they end in the same digit
@@ -112,32 +111,32 @@ unfolding two
 two-set_value = refl
 
 -- what answers add to the log
-extend-effects : effects {K = ℕ} {V = ℕ} 1 (spec.Extend ((2, 2) ∷ (1, 3) ∷ [])) spec.Done ≡ Put 2 2 ∷ Put 1 3 ∷ []
+extend-effects : effects {K = ℕ} {V = ℕ} 1 (Extend ((2, 2) ∷ (1, 3) ∷ [])) Done ≡ Put 2 2 ∷ Put 1 3 ∷ []
 extend-effects = refl
 
-stopped-effects : effects {K = ℕ} {V = ℕ} 0 (spec.Extend ((1, 10) ∷ (1, 11) ∷ (2, 20) ∷ (3, 30) ∷ [])) (spec.Stopped 2 2 20) ≡ Put 1 10 ∷ Put 1 11 ∷ []
+stopped-effects : effects {K = ℕ} {V = ℕ} 0 (Extend ((1, 10) ∷ (1, 11) ∷ (2, 20) ∷ (3, 30) ∷ [])) (Stopped 2 2 20) ≡ Put 1 10 ∷ Put 1 11 ∷ []
 stopped-effects = refl
 
-reserve-effects : effects {K = ℕ} {V = ℕ} 2 (spec.Reserve 5) spec.Done ≡ Need 7 ∷ []
+reserve-effects : effects {K = ℕ} {V = ℕ} 2 (Reserve 5) Done ≡ Need 7 ∷ []
 reserve-effects = refl
 
-refused-effects : effects {K = ℕ} {V = ℕ} 1 (spec.Insert 2 20) (spec.Refused 2 20) ≡ []
+refused-effects : effects {K = ℕ} {V = ℕ} 1 (Insert 2 20) (Refused 2 20) ≡ []
 refused-effects = refl
 
 -- what a log allows: the second pair of an extension at capacity 1 is refused
-stopped-allowed : IsAllowed {V = ℕ} nat_eq 1 [] (spec.Extend ((1, 10) ∷ (1, 11) ∷ (2, 20) ∷ [])) (spec.Stopped 2 2 20)
+stopped-allowed : IsAllowed {V = ℕ} nat_eq 1 [] (Extend ((1, 10) ∷ (1, 11) ∷ (2, 20) ∷ [])) (Stopped 2 2 20)
 unfolding mode live standing_in standing size high
 stopped-allowed = record { answers = (refl, (refl, refl)); limit = omega arith }
 
-drained-allowed : IsAllowed {V = ℕ} nat_eq 0 (Put 1 1 ∷ Put 2 2 ∷ []) spec.Drain (spec.Pairs ((1, 1) ∷ (2, 2) ∷ []))
+drained-allowed : IsAllowed {V = ℕ} nat_eq 0 (Put 1 1 ∷ Put 2 2 ∷ []) Drain (Pairs ((1, 1) ∷ (2, 2) ∷ []))
 unfolding mode live stored value standing_in standing pair_of pairs size high
 drained-allowed = record { answers = refl; limit = omega arith }
 
-popped-allowed : IsAllowed {V = ℕ} nat_eq 0 (Put 1 1 ∷ Put 2 2 ∷ []) spec.PopBack (spec.Pair 2 2)
+popped-allowed : IsAllowed {V = ℕ} nat_eq 0 (Put 1 1 ∷ Put 2 2 ∷ []) PopBack (Pair 2 2)
 unfolding mode live stored value standing_in standing pair_of pairs size high
 popped-allowed = record { answers = refl; limit = omega arith }
 
-written_absent-allowed : IsAllowed {V = ℕ} nat_eq 0 [] (spec.Write 9 0) (spec.Absent 9 0)
+written_absent-allowed : IsAllowed {V = ℕ} nat_eq 0 [] (command.Write 9 0) (Absent 9 0)
 unfolding mode live standing_in standing size high
 written_absent-allowed = record { answers = (refl, refl, refl); limit = omega arith }
 

@@ -11,8 +11,7 @@ use Rattle.linked_hash_map.specs.Log.{Log, Put, put_each, stored, value, pair_of
 use Rattle.linked_hash_map.specs.declared.map.Mode.{Mode}
 use Rattle.linked_hash_map.specs.Pairs.{find, value_at, to_back, put}
 use Rattle.linked_hash_map.specs.Inserts.{insert_each}
-use Rattle.linked_hash_map.specs.Requests.{IsLive, IsAbsent, HasValue, Answers}
-use Rattle.linked_hash_map.specs.Run.{request_of, response_of, log_after}
+use Rattle.linked_hash_map.specs.AllowedAnswers.{log_after, IsLive, IsAbsent, HasValue, Answers}
 use Rattle.linked_hash_map.specs.Commands.{is_refusal, old_or, pair_or_empty, to_back_if_some, answer_to, pairs_after, capacity_after, mode_after}
 use Rattle.linked_hash_map.specs.declared.replay.Command.{Command}
 use Rattle.linked_hash_map.specs.declared.replay.Command.TheVariants.{Insert, Write, Refresh, Remove, PopFront, PopBack, Clear, Drain, Extend, OrInsert, EntryInsert, EntryRemove, Reserve, Shrink, SetMode}
@@ -96,19 +95,19 @@ module _ {K V : Type 0} {eq : K → K → Bool} (laws : IsEquivalence eq) {start
   no_value k told = ap (option_map (λ pair. pair.1)) (find-absent laws defines k told)
 
   -- an answer that is no refusal, to each command
-  pub insert_outcome : (k : K) (v : V) (answer : Answer K V) → Answers eq start log (request_of (Insert k v)) (response_of answer) → is_refusal answer ≡ false → Outcome eq start log contents room mode (Insert k v) answer
+  pub insert_outcome : (k : K) (v : V) (answer : Answer K V) → Answers eq start log (Insert k v) answer → is_refusal answer ≡ false → Outcome eq start log contents room mode (Insert k v) answer
   insert_outcome k v New told given = (ap (old_or New) (sym (no_value k told)), Defines-put laws defines k v refl refl refl)
   insert_outcome k v (Old w) told given = (ap (old_or New) (sym (value_at-HasValue laws defines k w told)), Defines-put laws defines k v refl refl refl)
   insert_outcome k v (Refused j w) told given = absurd (true≢false given)
   insert_outcome k v _ told given = absurd told
 
-  pub entry_insert_outcome : (k : K) (v : V) (answer : Answer K V) → Answers eq start log (request_of (EntryInsert k v)) (response_of answer) → is_refusal answer ≡ false → Outcome eq start log contents room mode (EntryInsert k v) answer
+  pub entry_insert_outcome : (k : K) (v : V) (answer : Answer K V) → Answers eq start log (EntryInsert k v) answer → is_refusal answer ≡ false → Outcome eq start log contents room mode (EntryInsert k v) answer
   entry_insert_outcome k v New told given = (ap (old_or New) (sym (no_value k told)), Defines-put laws defines k v refl refl refl)
   entry_insert_outcome k v (Old w) told given = (ap (old_or New) (sym (value_at-HasValue laws defines k w told)), Defines-put laws defines k v refl refl refl)
   entry_insert_outcome k v (Refused j w) told given = absurd (true≢false given)
   entry_insert_outcome k v _ told given = absurd told
 
-  pub or_insert_outcome : (k : K) (v : V) (answer : Answer K V) → Answers eq start log (request_of (OrInsert k v)) (response_of answer) → is_refusal answer ≡ false → Outcome eq start log contents room mode (OrInsert k v) answer
+  pub or_insert_outcome : (k : K) (v : V) (answer : Answer K V) → Answers eq start log (OrInsert k v) answer → is_refusal answer ≡ false → Outcome eq start log contents room mode (OrInsert k v) answer
   or_insert_outcome k v New told given =
       let absent = find-absent laws defines k told in
       let none = ap is_some absent in
@@ -122,7 +121,7 @@ module _ {K V : Type 0} {eq : K → K → Bool} (laws : IsEquivalence eq) {start
   or_insert_outcome k v (Refused j w) told given = absurd (true≢false given)
   or_insert_outcome k v _ told given = absurd told
 
-  pub write_outcome : (k : K) (v : V) (answer : Answer K V) → Answers eq start log (request_of (Write k v)) (response_of answer) → Outcome eq start log contents room mode (Write k v) answer
+  pub write_outcome : (k : K) (v : V) (answer : Answer K V) → Answers eq start log (Write k v) answer → Outcome eq start log contents room mode (Write k v) answer
   write_outcome k v (Old w) told = (ap (old_or (Absent k v)) (sym (value_at-HasValue laws defines k w told)), Defines-write laws defines k v refl refl refl)
   write_outcome k v (Absent j w) told = (
     ap₂ (λ key value. Absent key value) told.1 told.2 ∙ ap (old_or (Absent k v)) (sym (no_value k told.0)),
@@ -130,17 +129,17 @@ module _ {K V : Type 0} {eq : K → K → Bool} (laws : IsEquivalence eq) {start
   )
   write_outcome k v _ told = absurd told
 
-  pub remove_outcome : (k : K) (answer : Answer K V) → Answers eq start log (request_of (Remove k)) (response_of answer) → Outcome eq start log contents room mode (Remove k) answer
+  pub remove_outcome : (k : K) (answer : Answer K V) → Answers eq start log (Remove k) answer → Outcome eq start log contents room mode (Remove k) answer
   remove_outcome k (Old w) told = (ap (old_or Missing) (sym (value_at-HasValue laws defines k w told)), Defines-remove laws defines k refl refl refl)
   remove_outcome k Missing told = (ap (old_or Missing) (sym (no_value k told)), Defines-nothing laws defines (without-absent eq contents k (find-absent laws defines k told)) refl refl)
   remove_outcome k _ told = absurd told
 
-  pub entry_remove_outcome : (k : K) (answer : Answer K V) → Answers eq start log (request_of (EntryRemove k)) (response_of answer) → Outcome eq start log contents room mode (EntryRemove k) answer
+  pub entry_remove_outcome : (k : K) (answer : Answer K V) → Answers eq start log (EntryRemove k) answer → Outcome eq start log contents room mode (EntryRemove k) answer
   entry_remove_outcome k (Old w) told = (ap (old_or Missing) (sym (value_at-HasValue laws defines k w told)), Defines-remove laws defines k refl refl refl)
   entry_remove_outcome k Missing told = (ap (old_or Missing) (sym (no_value k told)), Defines-nothing laws defines (without-absent eq contents k (find-absent laws defines k told)) refl refl)
   entry_remove_outcome k _ told = absurd told
 
-  pub refresh_outcome : (k : K) (answer : Answer K V) → Answers eq start log (request_of (Refresh k)) (response_of answer) → Outcome eq start log contents room mode (Refresh k) answer
+  pub refresh_outcome : (k : K) (answer : Answer K V) → Answers eq start log (Refresh k) answer → Outcome eq start log contents room mode (Refresh k) answer
   refresh_outcome k Found told = (ap (λ b. cond b Found Missing) (sym there), by_value (value_at eq contents k) refl (is_some-value_at eq contents k ∙ there))
     where
       there : is_some (find eq contents k) ≡ true
@@ -158,7 +157,7 @@ module _ {K V : Type 0} {eq : K → K → Bool} (laws : IsEquivalence eq) {start
   held-nil : pairs eq log ≡ [] → contents ≡ []
   held-nil none = sym defines.same_pairs ∙ none
 
-  pub pop_front_outcome : (answer : Answer K V) → Answers eq start log (request_of PopFront) (response_of answer) → Outcome eq start log contents room mode PopFront answer
+  pub pop_front_outcome : (answer : Answer K V) → Answers eq start log PopFront answer → Outcome eq start log contents room mode PopFront answer
   pop_front_outcome (Pair k v) told =
       let first = pairs-first laws defines (Some (k, v)) told in
       (ap pair_or_empty (sym first), Defines-pop_front laws defines k v (sym first) refl refl refl)
@@ -167,7 +166,7 @@ module _ {K V : Type 0} {eq : K → K → Bool} (laws : IsEquivalence eq) {start
       (ap (λ ps. pair_or_empty (slice_get ps 0)) (sym none), Defines-nothing laws defines (ap (drop 1) none ∙ sym none) refl refl)
   pop_front_outcome _ told = absurd told
 
-  pub pop_back_outcome : (answer : Answer K V) → Answers eq start log (request_of PopBack) (response_of answer) → Outcome eq start log contents room mode PopBack answer
+  pub pop_back_outcome : (answer : Answer K V) → Answers eq start log PopBack answer → Outcome eq start log contents room mode PopBack answer
   pop_back_outcome (Pair k v) told =
       let last = pairs-last laws defines (Some (k, v)) told in
       (ap pair_or_empty (sym last), Defines-pop_back laws defines k v (sym last) refl refl refl)
@@ -176,21 +175,21 @@ module _ {K V : Type 0} {eq : K → K → Bool} (laws : IsEquivalence eq) {start
       (ap (λ ps. pair_or_empty (slice_get ps (length ps - 1))) (sym none), Defines-nothing laws defines (ap (λ ps. take (length ps - 1) ps) none ∙ sym none) refl refl)
   pop_back_outcome _ told = absurd told
 
-  pub clear_outcome : (answer : Answer K V) → Answers eq start log (request_of Clear) (response_of answer) → Outcome eq start log contents room mode Clear answer
+  pub clear_outcome : (answer : Answer K V) → Answers eq start log Clear answer → Outcome eq start log contents room mode Clear answer
   clear_outcome Done told = (refl, Defines-remove_all laws defines refl refl refl)
   clear_outcome _ told = absurd told
 
-  pub drain_outcome : (answer : Answer K V) → Answers eq start log (request_of Drain) (response_of answer) → is_refusal answer ≡ false → Outcome eq start log contents room mode Drain answer
+  pub drain_outcome : (answer : Answer K V) → Answers eq start log Drain answer → is_refusal answer ≡ false → Outcome eq start log contents room mode Drain answer
   drain_outcome (Pairs drained) told given = (ap (λ ps. Pairs ps) (told ∙ defines.same_pairs), Defines-remove_all laws defines refl refl refl)
   drain_outcome NoRoom told given = absurd (true≢false given)
   drain_outcome _ told given = absurd told
 
-  pub extend_outcome : (items : List (K × V)) (answer : Answer K V) → Answers eq start log (request_of (Extend items)) (response_of answer) → is_refusal answer ≡ false → Outcome eq start log contents room mode (Extend items) answer
+  pub extend_outcome : (items : List (K × V)) (answer : Answer K V) → Answers eq start log (Extend items) answer → is_refusal answer ≡ false → Outcome eq start log contents room mode (Extend items) answer
   extend_outcome items Done told given = (refl, Defines-put_each laws mode items log contents room defines)
   extend_outcome items (Stopped n k v) told given = absurd (true≢false given)
   extend_outcome items _ told given = absurd told
 
-  pub reserve_outcome : (additional : ℕ) (answer : Answer K V) → Answers eq start log (request_of (Reserve additional)) (response_of answer) → is_refusal answer ≡ false → Outcome eq start log contents room mode (Reserve additional) answer
+  pub reserve_outcome : (additional : ℕ) (answer : Answer K V) → Answers eq start log (Reserve additional) answer → is_refusal answer ≡ false → Outcome eq start log contents room mode (Reserve additional) answer
   reserve_outcome additional Done told given =
       let size_is = size-contents laws defines in
       let within : nat_lt LIMIT (length contents + additional) ≡ false = not_above LIMIT (length contents + additional) (subst (λ n. n + additional ≤ LIMIT) size_is told) in
@@ -202,16 +201,16 @@ module _ {K V : Type 0} {eq : K → K → Bool} (laws : IsEquivalence eq) {start
   reserve_outcome additional NoRoom told given = absurd (true≢false given)
   reserve_outcome additional _ told given = absurd told
 
-  pub shrink_outcome : (answer : Answer K V) → Answers eq start log (request_of Shrink) (response_of answer) → is_refusal answer ≡ false → Outcome eq start log contents room mode Shrink answer
+  pub shrink_outcome : (answer : Answer K V) → Answers eq start log Shrink answer → is_refusal answer ≡ false → Outcome eq start log contents room mode Shrink answer
   shrink_outcome Done told given = (refl, Defines-shrink laws defines refl refl refl)
   shrink_outcome NoRoom told given = absurd (true≢false given)
   shrink_outcome _ told given = absurd told
 
-  pub set_mode_outcome : (m : Mode) (answer : Answer K V) → Answers eq start log (request_of (SetMode m)) (response_of answer) → Outcome eq start log contents room mode (SetMode m) answer
+  pub set_mode_outcome : (m : Mode) (answer : Answer K V) → Answers eq start log (SetMode m) answer → Outcome eq start log contents room mode (SetMode m) answer
   set_mode_outcome m Done told = (refl, Defines-set_mode laws defines m refl refl refl)
   set_mode_outcome m _ told = absurd told
 
-  pub outcome : (command : Command K V) (answer : Answer K V) → Answers eq start log (request_of command) (response_of answer) → is_refusal answer ≡ false → Outcome eq start log contents room mode command answer
+  pub outcome : (command : Command K V) (answer : Answer K V) → Answers eq start log command answer → is_refusal answer ≡ false → Outcome eq start log contents room mode command answer
   outcome (Insert k v) answer told given = insert_outcome k v answer told given
   outcome (Write k v) answer told given = write_outcome k v answer told
   outcome (Refresh k) answer told given = refresh_outcome k answer told

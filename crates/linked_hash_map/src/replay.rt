@@ -1,7 +1,7 @@
 //! Runs of commands, and the theorem about them.
 //!
 //! After any run the map has exactly the pairs that the log of the answers' effects defines, as in
-//! `specs/Log.antt`; `specs/Requests.antt` has the effects and the allowed answers.
+//! `specs/Log.antt`; `specs/AllowedAnswers.antt` has the effects and the allowed answers.
 //!
 //! # Examples
 //!
@@ -19,7 +19,8 @@
 ghost use Rattle.std.specs.Prelude.{◌≡◌, ℕ, [], IfOk, IfErr, OnErr, IsOk};
 ghost use Rattle.linked_hash_map.specs.Log.{Log, mode, pairs, high, Defines};
 ghost use Rattle.linked_hash_map.specs.Validity.{IsValid};
-ghost use Rattle.linked_hash_map.specs.Run.{log_after, first_log, last_log, Serves, IsReply, IsRun, Replayed};
+ghost use Rattle.linked_hash_map.specs.AllowedAnswers.{log_after};
+ghost use Rattle.linked_hash_map.specs.Run.{first_log, last_log, Serves, IsReply, IsRun, Replayed};
 
 use crate::entry::Entry;
 use crate::error::{NoRoom, ReserveError};

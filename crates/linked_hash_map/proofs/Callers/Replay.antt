@@ -7,7 +7,8 @@ use Rattle.linked_hash_map.specs.Validity.{IsValid}
 use Rattle.linked_hash_map.specs.Log.{Log, Defines}
 use Rattle.linked_hash_map.specs.declared.map.Mode.{Mode}
 use Rattle.linked_hash_map.specs.Pairs.{find, value_at, without, set_value}
-use Rattle.linked_hash_map.specs.Run.{first_log, log_after, IsReply}
+use Rattle.linked_hash_map.specs.AllowedAnswers.{log_after}
+use Rattle.linked_hash_map.specs.Run.{first_log, IsReply}
 use Rattle.linked_hash_map.specs.Commands.{is_refusal, old_or, pair_or_empty, to_back_if_some, answer_to, pairs_after, capacity_after, mode_after}
 use Rattle.linked_hash_map.specs.declared.replay.Command.{Command}
 use Rattle.linked_hash_map.specs.declared.replay.Command.TheVariants.{Write, Refresh, Remove, PopFront, PopBack, Clear, EntryRemove, SetMode}

@@ -7,7 +7,8 @@ use Rattle.linked_hash_map.specs.declared.map.Mode.{Mode}
 use Rattle.linked_hash_map.specs.LinkedMap.{LinkedMap}
 use Rattle.linked_hash_map.specs.Validity.{IsValid}
 use Rattle.linked_hash_map.specs.Log.{Log, mode, Defines}
-use Rattle.linked_hash_map.specs.Run.{first_log, log_after, last_log, IsReply, IsRun}
+use Rattle.linked_hash_map.specs.AllowedAnswers.{log_after}
+use Rattle.linked_hash_map.specs.Run.{first_log, last_log, IsReply, IsRun}
 use Rattle.linked_hash_map.specs.Commands.{is_refusal, pairs_after, capacity_after, mode_after, mode_after_all, reply_to, replies_to, pairs_after_all, capacity_after_all}
 use Rattle.linked_hash_map.specs.declared.replay.Command.{Command}
 use Rattle.linked_hash_map.specs.declared.replay.Command.TheVariants.{Insert, Write, Refresh, Remove, PopFront, PopBack, Clear, Drain, Extend, OrInsert, EntryInsert, EntryRemove, Reserve, Shrink, SetMode}

@@ -1,7 +1,7 @@
 use Rattle.std.proofs.Common.{◌++◌, ◌∙◌, sym, ap, ap₂, subst, take, Some}
 use Rattle.std.specs.Vec.Iter.{into_iter_items}
 use Rattle.linked_hash_map.specs.Log.{put_each}
-use Rattle.linked_hash_map.specs.Requests.{HasNoRoom}
+use Rattle.linked_hash_map.specs.AllowedAnswers.{HasNoRoom}
 use Rattle.linked_hash_map.proofs.Extends.{HasExtended-put, next-there, HasNoRoom-next, Defines-taken}
 use Rattle.linked_hash_map.proofs.replay.extend.Goals as goal
 

@@ -1,5 +1,5 @@
 use Rattle.std.proofs.Common.{length, sym, ◌∙◌, ap}
-use Rattle.linked_hash_map.specs.Run.{log_after}
+use Rattle.linked_hash_map.specs.AllowedAnswers.{log_after}
 use Rattle.linked_hash_map.proofs.HighWater.{size-pairs}
 use Rattle.linked_hash_map.proofs.replay.reply_to.Goals as goal
 
