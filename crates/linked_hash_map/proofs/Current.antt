@@ -13,7 +13,7 @@ use Rattle.lhm_ring.specs.declared.position.Position.{Position}
 use Rattle.linked_hash_map.specs.LinkedMap.{LinkedMap, CursorState}
 use Rattle.linked_hash_map.specs.Cursor.{IsOutside}
 use Rattle.linked_hash_map.specs.Indexes.{IsIndex}
-use Rattle.linked_hash_map.specs.Nodes.{VisitState, no_visit, pairs_of, bare, before, bookmark_at, current_at, cursor_at, Lies, AreKept, IsKept}
+use Rattle.linked_hash_map.specs.Nodes.{VisitState, no_visit, pairs_of, bare, before, current_at, cursor_at, Lies, AreKept, IsKept}
 use Rattle.linked_hash_map.proofs.HeldPairs.{bare-change, length-bare, before-bare}
 use Rattle.linked_hash_map.proofs.CutNodes.{CutAt, CutAt-before, slice_get-held}
 use Rattle.linked_hash_map.proofs.Outside.{IsElsewhere, before_held}
@@ -43,17 +43,18 @@ module _ {K V : Type 0} {eq : K → K → Bool} {hash : K → ℕ} {s : TableSta
   current_cut = CutAt-before p s.held current_lies
 
   -- if the index is outside the pairs to visit, the node is
-  pub current_elsewhere : {S : Type 0} (m : LinkedMap K V S) → cursor_at visit (bare s.held) ≡ m.cursor → IsOutside m.cursor.current m → IsElsewhere p s.held visit.bookmark visit.unvisited
+  pub current_elsewhere : {S : Type 0} (m : LinkedMap K V S) → cursor_at visit (bare s.held) ≡ m.cursor → IsOutside m.cursor.current m → IsElsewhere (before p s.held) visit (bare s.held)
   current_elsewhere m view outside =
-      subst (λ k. (k < bookmark_at visit.bookmark (bare s.held)) ⊎ (bookmark_at visit.bookmark (bare s.held) + visit.unvisited ≤ k)) (current_at-Some is s.held)
+      subst (λ k. IsElsewhere k visit (bare s.held)) (current_at-Some is s.held)
       (subst (λ (c : CursorState). (c.current < c.bookmark) ⊎ (c.bookmark + c.unvisited ≤ c.current)) (sym view) outside)
 
 -- another pair becomes the current one, or a value is written
+pub AreKept-current : {K : Type 0} {eq : K → K → Bool} {hash : K → ℕ} {us : List (Held K)} {capacity : ℕ} {visit : VisitState} → AreKept eq hash us capacity visit → (o : Option Ptr) → Lies o us → AreKept eq hash us capacity (record visit { current = o })
+AreKept-current k o lies = record { distinct = k.distinct; hashed = k.hashed; within = k.within; limit = k.limit; bookmarked = k.bookmarked; ended = k.ended; in_reach = k.in_reach; current_lies = lies }
+
 module _ {K V : Type 0} {eq : K → K → Bool} {hash : K → ℕ} {s : TableState (K × V)} {visit : VisitState} (kept : IsKept eq hash s visit) where
   pub IsKept-current : (o : Option Ptr) → Lies o (bare s.held) → IsKept eq hash s (record visit { current = o })
-  IsKept-current o lies =
-      let k = kept.nodes in
-      record { nodes = record { distinct = k.distinct; hashed = k.hashed; within = k.within; limit = k.limit; bookmarked = k.bookmarked; ended = k.ended; in_reach = k.in_reach; current_lies = lies } }
+  IsKept-current o lies = record { nodes = AreKept-current kept.nodes o lies }
 
   -- and nothing is to be visited
   pub IsKept-visited : (o : Option Ptr) → Lies o (bare s.held) → IsKept eq hash s (record no_visit { current = o })
@@ -65,9 +66,6 @@ module _ {K V : Type 0} {eq : K → K → Bool} {hash : K → ℕ} {s : TableSta
   pub IsKept-left : (active : Bool) → IsKept eq hash s (record visit { current = cond active None None })
   IsKept-left true = IsKept-current None tt
   IsKept-left false = IsKept-current None tt
-
-  pub IsKept-count : {k : ℕ} → k ≡ visit.unvisited → IsKept eq hash s (record visit { unvisited = k })
-  IsKept-count is = subst (λ (k : ℕ). IsKept eq hash s (record visit { unvisited = k })) (sym is) kept
 
   pub IsKept-with_value : (p : Ptr) (w : V) → IsKept eq hash (with_value s p w) visit
   IsKept-with_value p w = record { nodes = subst (λ us. AreKept eq hash us s.capacity visit) (sym (bare-change p w s.held)) kept.nodes }

@@ -2,8 +2,9 @@
 use Rattle.std.proofs.Common.{◌≡◌, ℕ, zero, suc, ◌+◌, ◌<◌, ◌≤◌, max, Bool, true, false, cond, not, filter, List, [], ◌∷◌, ◌++◌, length, slice_get, Option, Some, None, Result, Ok, Err, OnOk, OnErr, is_some, map, option_map, refl, sym, ap, ap₂, ◌∙◌, true≢false, arith, length-append, unwrap_or}
 use Rattle.std.proofs.Math.Bridge.{le_prop}
 use Rattle.std.proofs.Math.Nat.{le_of_suc-le-suc}
+use Rattle.std.proofs.lemmas.Option.{slice_get-map}
 use Rattle.std.specs.Cmp.{IsEquivalence}
-use Rattle.std.specs.Map.{lookup_entry}
+use Rattle.std.specs.Map.{lookup_entry, keys_of}
 use Rattle.std.specs.declared.cmp.PartialEq as eq
 use Rattle.std.specs.declared.hash.Hash as hash
 use Rattle.std.specs.declared.hash.Hasher as hasher
@@ -134,6 +135,9 @@ module _ {K V S H : Type 0} {g : eq.Ghosts K} {h : hash.Ghosts K} {b : builder.G
   pub slice_get-occupied : slice_get o.map.now.pairs o.map.now.cursor.current ≡ Some (occupied_pair o)
   unfolding occupied_pair
   slice_get-occupied = slice_get-pair_at o.map.now.pairs o.map.now.cursor.current o.within
+
+  pub slice_get-occupied_key : slice_get (keys_of o.map.now.pairs) o.map.now.cursor.current ≡ Some (occupied_key o)
+  slice_get-occupied_key = slice_get-map (λ pair. pair.0) o.map.now.pairs o.map.now.cursor.current ∙ ap (option_map (λ pair. pair.0)) slice_get-occupied
 
   -- the pair at the index
   pub occupied_pair-is : (pair : K × V) → slice_get o.map.now.pairs o.map.now.cursor.current ≡ Some pair → pair ≡ occupied_pair o

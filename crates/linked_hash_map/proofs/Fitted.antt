@@ -12,8 +12,8 @@ use Rattle.lhm_ring.proofs.Tables.{length-same_triples}
 use Rattle.linked_hash_map.specs.Nodes.{VisitState, IsKept, HasBehind, Lies, pairs_of, bare, before, bookmark_at}
 use Rattle.linked_hash_map.proofs.HeldPairs.{length-bare, keys-bare}
 use Rattle.linked_hash_map.proofs.CutNodes.{CutAt, CutAt-before}
-use Rattle.linked_hash_map.proofs.BookmarkMoves.{bookmark-bare, bookmarked_held}
-use Rattle.linked_hash_map.proofs.Outside.{before_held}
+use Rattle.linked_hash_map.proofs.BookmarkMoves.{bookmark-bare, bookmarked_cut}
+use Rattle.linked_hash_map.proofs.Outside.{before_held, to_visit_of}
 
 module _ {B : Type 0} {p : Ptr} {hs : List (Held B)} where
   -- what is known of each place of a pointer, at the first
@@ -75,8 +75,8 @@ module _ {K V : Type 0} {eq : K → K → Bool} {hash : K → ℕ} {s : TableSta
   bookmark-fitted =
       bookmark-bare moved.bookmark t.held ∙ bookmark-behind s.held t.held visit.bookmark moved.bookmark behind (length-same_triples t.held s.held same) old new ∙ sym (bookmark-bare visit.bookmark s.held)
 
-  pub to_visit-fitted : take visit.unvisited (drop (bookmark_at moved.bookmark (bare t.held)) (keys_of (pairs_of t.held))) ≡ take visit.unvisited (drop (bookmark_at visit.bookmark (bare s.held)) (keys_of (pairs_of s.held)))
-  to_visit-fitted = λ i. take visit.unvisited (drop (bookmark-fitted i) (keys_of (pairs_of-triples s.held t.held same i)))
+  pub to_visit-fitted : moved.unvisited ≡ visit.unvisited → to_visit_of moved t.held ≡ to_visit_of visit s.held
+  to_visit-fitted unvisited = λ i. take (unvisited i) (drop (bookmark-fitted i) (keys_of (pairs_of-triples s.held t.held same i)))
 
   -- the capacity is then the number of pairs
   pub IsKept-fitted : t.capacity ≡ length s.held → moved.unvisited ≡ visit.unvisited → moved.current ≡ None → IsKept eq hash t moved
@@ -103,7 +103,7 @@ module _ {K V : Type 0} {eq : K → K → Bool} {hash : K → ℕ} {s : TableSta
 module _ {K V : Type 0} {eq : K → K → Bool} {hash : K → ℕ} {s : TableState (K × V)} {visit : VisitState} (kept : IsKept eq hash s visit) where
   at_bookmark : (o : Option Ptr) → visit.bookmark ≡ o → Lies o s.held
   at_bookmark None is = tt
-  at_bookmark (Some p) is = held_lies (bookmarked_held kept p is)
+  at_bookmark (Some p) is = held_lies (bookmarked_cut kept is).held
 
   pub bookmarked_lies : Lies visit.bookmark s.held
   bookmarked_lies = at_bookmark visit.bookmark refl

@@ -1,11 +1,16 @@
--- What a cursor has still to visit, once a node elsewhere is out or has moved.
-use Rattle.std.proofs.Common.{◌≡◌, ℕ, zero, suc, ◌+◌, ◌<◌, ◌≤◌, ◌⊎◌, inl, inr, true, false, cond, List, [], ◌∷◌, ◌++◌, map, length, take, drop, Option, Some, None, is_some, refl, sym, ap, ap₂, ◌∙◌, true≢false, arith, subst, length-append}
+-- What a cursor has still to visit, and nodes elsewhere: once one of them is out.
+use Rattle.std.proofs.Common.{◌≡◌, ℕ, suc, ◌+◌, ◌<◌, ◌≤◌, ◌⊎◌, inl, inr, ⊎_elim, Bool, true, false, cond, List, [], ◌∷◌, ◌++◌, map, length, take, drop, Option, Some, None, refl, sym, ap, ◌∙◌, arith, subst, length-append}
+use Rattle.std.specs.Map.{keys_of}
+use Rattle.std.proofs.Math.Nat.{pos_of_ne-zero}
 use Rattle.std.proofs.lemmas.List.{map-append, length-map}
 use denote.RawPtr.{Ptr}
 use Rattle.lhm_ring.specs.Cells.{same_ptr}
 use Rattle.lhm_ring.specs.RingState.{Held}
 use Rattle.lhm_ring.proofs.Apart.{same_ptr-reflexive}
-use Rattle.linked_hash_map.specs.Nodes.{bare, bare_node, before, bookmark_at}
+use Rattle.linked_hash_map.specs.Nodes.{VisitState, AreKept, pairs_of, bare, bare_node, before, bookmark_at}
+use Rattle.linked_hash_map.proofs.HeldPairs.{keys-bare, length-bare}
+use Rattle.linked_hash_map.proofs.CutNodes.{CutAt}
+use Rattle.linked_hash_map.proofs.Stretches.{stretch-out}
 
 -- how many nodes come before a pointer, once one of the nodes is out, and where there are more
 -- behind
@@ -44,78 +49,74 @@ before_held p (x ∷ front) t back at =
     elim (same_ptr x.at p) as (λ y. cond y 0 (before p (front ++ t ∷ back) + 1) < suc (length (front ++ t ∷ back))) [ true ↦ omega arith | false ↦ omega (arith, on) ]
 
 -- a stretch that ends before an element is out, and what is behind that element
-module _ {X : Type 0} where
-  take-none : (xs : List X) → take 0 xs ≡ []
-  take-none [] = refl
-  take-none (x ∷ xs) = refl
+module _ {B : Type 0} where
+  -- the index is before the nodes that are still to be visited, or behind them
+  abbrev pub IsElsewhere : ℕ → VisitState → List (Held B) → Type 0
+  IsElsewhere index visit us = (index < bookmark_at visit.bookmark us) ⊎ (bookmark_at visit.bookmark us + visit.unvisited ≤ index)
 
-  pub stretch-front : (xs ys : List X) (b n : ℕ) → b + n ≤ length xs → take n (drop b (xs ++ ys)) ≡ take n (drop b xs)
-  stretch-front [] ys zero zero h = take-none ys
-  stretch-front [] ys zero (suc n) h = absurd (omega (arith, h))
-  stretch-front [] ys (suc b) n h = absurd (omega (arith, h))
-  stretch-front (x ∷ xs) ys zero zero h = refl
-  stretch-front (x ∷ xs) ys zero (suc n) h = ap (λ l. x ∷ l) (stretch-front xs ys zero n (omega (arith, h)))
-  stretch-front (x ∷ xs) ys (suc b) n h = stretch-front xs ys b n (omega (arith, h))
+  -- the keys that are still to be visited, among bare nodes
+  abbrev pub to_visit_at : VisitState → List (Held B) → List B
+  to_visit_at visit us = take visit.unvisited (drop (bookmark_at visit.bookmark us) (map (λ u. u.pair) us))
 
-  drop-behind : (xs : List X) (x : X) (ys : List X) (b : ℕ) → length xs ≤ b → drop b (xs ++ ys) ≡ drop (suc b) (xs ++ x ∷ ys)
-  drop-behind [] x ys zero h = refl
-  drop-behind [] x ys (suc b) h = refl
-  drop-behind (y ∷ xs) x ys zero h = absurd (omega (arith, h))
-  drop-behind (y ∷ xs) x ys (suc b) h = drop-behind xs x ys b (omega (arith, h))
+-- and among nodes with values
+module _ {K V : Type 0} where
+  abbrev pub to_visit_of : VisitState → List (Held (K × V)) → List K
+  to_visit_of visit hs = take visit.unvisited (drop (bookmark_at visit.bookmark (bare hs)) (keys_of (pairs_of hs)))
 
--- the nodes, of which u is neither to be visited nor beyond reach
-module _ {K : Type 0} (front : List (Held K)) (u : Held K) (back : List (Held K)) where
-  abbrev keys : List (Held K) → List K
-  keys us = map (λ t. t.pair) us
+  pub to_visit-bare : (visit : VisitState) (hs : List (Held (K × V))) → to_visit_at visit (bare hs) ≡ to_visit_of visit hs
+  to_visit-bare visit hs = ap (λ ks. take visit.unvisited (drop (bookmark_at visit.bookmark (bare hs)) ks)) (keys-bare hs)
 
-  -- u is before the nodes that are still to be visited, or behind them
-  abbrev pub IsClear : Option Ptr → ℕ → Type 0
-  IsClear bookmark n = (length front < bookmark_at bookmark (front ++ u ∷ back)) ⊎ (bookmark_at bookmark (front ++ u ∷ back) + n ≤ length front)
+-- a bookmark is at a node, and pairs are unvisited
+module _ {K : Type 0} {eq : K → K → Bool} {hash : K → ℕ} {us : List (Held K)} {capacity : ℕ} {visit : VisitState} (kept : AreKept eq hash us capacity visit) {p : Ptr} (is : visit.bookmark ≡ Some p) where
+  pub unvisited_some : 0 < visit.unvisited
+  unvisited_some = pos_of_ne-zero (λ z. let h : Some p ≡ None = sym is ∙ kept.ended z in cc)
 
-  pub in_reach-out : (bookmark : Option Ptr) (n : ℕ) → (bookmark ≡ None → n ≡ 0) → (n ≡ 0 → bookmark ≡ None) → bookmark_at bookmark (front ++ u ∷ back) + n ≤ length (front ++ u ∷ back) → IsClear bookmark n → bookmark_at bookmark (front ++ back) + n ≤ length (front ++ back)
-  in_reach-out None n bookmarked ended reach clear = let none = bookmarked refl in omega (arith, none)
-  in_reach-out (Some p) zero bookmarked ended reach clear = absurd (true≢false (ap is_some (ended refl)))
-  in_reach-out (Some p) (suc n) bookmarked ended reach (inl h) =
-      let one = before_earlier p front u back h in
+  pub bookmark_lies : before p us < length us
+  bookmark_lies =
+      let some = unvisited_some in
+      let at = ap (λ o. bookmark_at o us) is in
+      omega (arith, some, at, kept.in_reach)
+
+-- the nodes, of which u is none to visit
+module _ {K : Type 0} {eq : K → K → Bool} {hash : K → ℕ} (front : List (Held K)) (u : Held K) (back : List (Held K)) {capacity : ℕ} {visit : VisitState} (kept : AreKept eq hash (front ++ u ∷ back) capacity visit) (elsewhere : IsElsewhere (length front) visit (front ++ u ∷ back)) where
+  abbrev Shifts : ℕ → Option Ptr → Type 0
+  Shifts index o =
+      ((index < bookmark_at o (front ++ u ∷ back)) × (bookmark_at o (front ++ back) + 1 ≡ bookmark_at o (front ++ u ∷ back)))
+      ⊎ ((bookmark_at o (front ++ u ∷ back) + visit.unvisited ≤ index) × (bookmark_at o (front ++ back) ≡ bookmark_at o (front ++ u ∷ back)))
+
+  -- without u the index of the bookmark is less by one if it was behind u, else the same
+  shifts : Shifts (length front) visit.bookmark
+  shifts = by_bookmark visit.bookmark refl elsewhere
+    where
+      by_bookmark : (o : Option Ptr) → visit.bookmark ≡ o → IsElsewhere (length front) (record visit { bookmark = o }) (front ++ u ∷ back) → Shifts (length front) o
+      by_bookmark None is h = let none = kept.bookmarked is in inr (omega (arith, none), refl)
+      by_bookmark (Some p) is (inl h) = inl (h, before_earlier p front u back h)
+      by_bookmark (Some p) is (inr h) = let some = unvisited_some kept is in inr (h, before_later p front u back (omega (arith, some, h)))
+
+  pub in_reach-out : bookmark_at visit.bookmark (front ++ back) + visit.unvisited ≤ length (front ++ back)
+  in_reach-out =
       let of_all = length-append front (u ∷ back) in
       let of_rest = length-append front back in
-      omega (arith, one, of_all, of_rest, reach)
-  in_reach-out (Some p) (suc n) bookmarked ended reach (inr h) =
-      let same = before_later p front u back (omega (arith, h)) in
-      let of_rest = length-append front back in
-      omega (arith, same, of_rest, h)
+      ⊎_elim (λ s. omega (arith, s.1, of_all, of_rest, kept.in_reach)) (λ s. omega (arith, s.0, s.1, of_rest)) shifts
 
   -- the same keys are to be visited without u
-  pub to_visit-out : (bookmark : Option Ptr) (n : ℕ) → (bookmark ≡ None → n ≡ 0) → IsClear bookmark n → take n (drop (bookmark_at bookmark (front ++ back)) (keys (front ++ back))) ≡ take n (drop (bookmark_at bookmark (front ++ u ∷ back)) (keys (front ++ u ∷ back)))
-  to_visit-out bookmark zero bookmarked clear = take-none (drop (bookmark_at bookmark (front ++ back)) (keys (front ++ back))) ∙ sym (take-none (drop (bookmark_at bookmark (front ++ u ∷ back)) (keys (front ++ u ∷ back))))
-  to_visit-out None (suc n) bookmarked clear = let none = bookmarked refl in absurd (omega (arith, none))
-  to_visit-out (Some p) (suc n) bookmarked (inl h) =
-      let one = before_earlier p front u back h in
-      let of_keys = length-map front (λ t. t.pair) in
-      let next : suc (before p (front ++ back)) ≡ before p (front ++ u ∷ back) = omega (arith, one) in
-      ap (λ ks. take (suc n) (drop (before p (front ++ back)) ks)) (map-append (λ (t : Held K). t.pair) front back)
-      ∙ ap (take (suc n)) (drop-behind (keys front) u.pair (keys back) (before p (front ++ back)) (omega (arith, one, of_keys, h)))
-      ∙ ap₂ (λ b ks. take (suc n) (drop b ks)) next (sym (map-append (λ (t : Held K). t.pair) front (u ∷ back)))
-  to_visit-out (Some p) (suc n) bookmarked (inr h) =
-      let same = before_later p front u back (omega (arith, h)) in
-      let of_keys = length-map front (λ t. t.pair) in
-      ap₂ (λ b ks. take (suc n) (drop b ks)) same (map-append (λ (t : Held K). t.pair) front back)
-      ∙ stretch-front (keys front) (keys back) (before p (front ++ u ∷ back)) (suc n) (omega (arith, of_keys, h))
-      ∙ sym (ap (λ ks. take (suc n) (drop (before p (front ++ u ∷ back)) ks)) (map-append (λ (t : Held K). t.pair) front (u ∷ back))
-      ∙ stretch-front (keys front) (u.pair ∷ keys back) (before p (front ++ u ∷ back)) (suc n) (omega (arith, of_keys, h)))
+  pub to_visit-out : to_visit_at visit (front ++ back) ≡ to_visit_at visit (front ++ u ∷ back)
+  to_visit-out =
+      let keys : List (Held K) → List K = map (λ t. t.pair) in
+      let long = length-map front (λ t. t.pair) in
+      ap (λ ks. take visit.unvisited (drop (bookmark_at visit.bookmark (front ++ back)) ks)) (map-append (λ (t : Held K). t.pair) front back)
+      ∙ stretch-out (keys front) u.pair (keys back) visit.unvisited (subst (λ index. Shifts index visit.bookmark) (sym long) shifts)
+      ∙ sym (ap (λ ks. take visit.unvisited (drop (bookmark_at visit.bookmark (front ++ u ∷ back)) ks)) (map-append (λ (t : Held K). t.pair) front (u ∷ back)))
 
-  -- a bookmark among them stays where u is put behind the others
-  pub bookmark-moved : (bookmark : Option Ptr) (n : ℕ) → (n ≡ 0 → bookmark ≡ None) → bookmark_at bookmark (front ++ back) + n ≤ length (front ++ back) → bookmark_at bookmark ((front ++ back) ++ u ∷ []) ≡ bookmark_at bookmark (front ++ back)
-  bookmark-moved None n ended reach = refl
-  bookmark-moved (Some p) zero ended reach = absurd (true≢false (ap is_some (ended refl)))
-  bookmark-moved (Some p) (suc n) ended reach = before_within p (front ++ back) (u ∷ []) (omega (arith, reach))
+-- nodes with values, cut at the first at a pointer
+module _ {K V : Type 0} {p : Ptr} {hs : List (Held (K × V))} (cut : CutAt p hs) where
+  pub bare-cut : bare hs ≡ bare cut.held.before ++ bare_node cut.held.node ∷ bare cut.held.after
+  bare-cut = let h = cut.held in ap bare h.is ∙ map-append bare_node h.before (h.node ∷ h.after)
 
--- the node at p is before those that are still to be visited, or behind them
-abbrev pub IsElsewhere : {K V : Type 0} → Ptr → List (Held (K × V)) → Option Ptr → ℕ → Type 0
-IsElsewhere p hs bookmark n = (before p hs < bookmark_at bookmark (bare hs)) ⊎ (bookmark_at bookmark (bare hs) + n ≤ before p hs)
+  pub AreKept-cut : {eq : K → K → Bool} {hash : K → ℕ} {capacity : ℕ} {visit : VisitState} → AreKept eq hash (bare hs) capacity visit → AreKept eq hash (bare cut.held.before ++ bare_node cut.held.node ∷ bare cut.held.after) capacity visit
+  AreKept-cut {eq} {hash} {capacity} {visit} kept = subst (λ us. AreKept eq hash us capacity visit) bare-cut kept
 
-pub clear-elsewhere : {K V : Type 0} (p : Ptr) (hs : List (Held (K × V))) (bookmark : Option Ptr) (n : ℕ) (front : List (Held (K × V))) (t : Held (K × V)) (back : List (Held (K × V))) → bare hs ≡ bare front ++ bare_node t ∷ bare back → length front ≡ before p hs → IsElsewhere p hs bookmark n → IsClear (bare front) (bare_node t) (bare back) bookmark n
-clear-elsewhere p hs bookmark n front t back cut long elsewhere =
-    let of_front : before p hs ≡ length (bare front) = sym (length-map front bare_node ∙ long) in
-    let of_bookmark : bookmark_at bookmark (bare hs) ≡ bookmark_at bookmark (bare front ++ bare_node t ∷ bare back) = ap (bookmark_at bookmark) cut in
-    subst (λ (x : ℕ × ℕ). (x.0 < x.1) ⊎ (x.1 + n ≤ x.0)) (λ i. (of_front i, of_bookmark i)) elsewhere
+  pub IsElsewhere-cut : (visit : VisitState) → IsElsewhere (before p hs) visit (bare hs) → IsElsewhere (length (bare cut.held.before)) visit (bare cut.held.before ++ bare_node cut.held.node ∷ bare cut.held.after)
+  IsElsewhere-cut visit elsewhere =
+      let index = length-bare cut.held.before ∙ cut.long in
+      subst (λ (x : ℕ × List (Held K)). IsElsewhere x.0 visit x.1) (λ i. (sym index i, bare-cut i)) elsewhere

@@ -1,53 +1,47 @@
 -- A pair that is put at the back.
-use Rattle.std.proofs.Common.{◌≡◌, ℕ, zero, suc, ◌+◌, ◌<◌, ◌≤◌, Bool, true, false, cond, List, [], ◌∷◌, ◌++◌, map, length, take, drop, Option, Some, None, refl, sym, ap, ◌∙◌, subst, arith, length-append, true≢false}
-use Rattle.std.specs.Prelude.{is_some}
+use Rattle.std.proofs.Common.{◌≡◌, ℕ, ◌<◌, Bool, false, List, [], ◌∷◌, ◌++◌, map, length, take, drop, Option, Some, None, refl, sym, ap, ap₂, ◌∙◌, subst, arith, length-append}
 use Rattle.std.specs.List.{list_any, IsDistinct}
 use Rattle.std.specs.Cmp.{IsEquivalence}
-use Rattle.std.specs.Map.{keys_of}
 use Rattle.std.proofs.lemmas.List.{map-append, length-map}
 use Rattle.std.proofs.lemmas.Map.Keys.{IsDistinct-push}
 use denote.RawPtr.{Ptr}
-use Rattle.lhm_ring.specs.Cells.{same_ptr}
 use Rattle.lhm_ring.specs.RingState.{Held, held}
 use Rattle.lhm_ring.specs.RingAfterLoan.{pair}
 use Rattle.lhm_ring.specs.Tables.{TableState}
 use Rattle.lhm_ring.proofs.Rows.{AllByRecursion-append}
-use Rattle.linked_hash_map.specs.Nodes.{VisitState, AreKept, IsKept, Lies, pairs_of, bare, bare_node, before, bookmark_at, current_at}
+use Rattle.linked_hash_map.specs.Nodes.{VisitState, AreKept, IsKept, Lies, pairs_of, bare, bare_node, bookmark_at, current_at}
 use Rattle.linked_hash_map.specs.Pairs.{find}
 use Rattle.linked_hash_map.proofs.HeldPairs.{length-bare, keys-bare, pairs_of-append}
 use Rattle.linked_hash_map.proofs.Pairs.{list_any-none}
-use Rattle.linked_hash_map.proofs.Outside.{stretch-front}
+use Rattle.linked_hash_map.proofs.Outside.{before_within, bookmark_lies, to_visit_at, to_visit_of, to_visit-bare}
+use Rattle.linked_hash_map.proofs.Stretches.{stretch-front}
 
 -- what lies among the first nodes is where it was
 module _ {B : Type 0} where
-  before-append : (p : Ptr) (us vs : List (Held B)) → before p us < length us → before p (us ++ vs) ≡ before p us
-  before-append p [] vs h = absurd (omega (arith, h))
-  before-append p (u ∷ us) vs h =
-      (elim (same_ptr u.at p) as (λ y. same_ptr u.at p ≡ y → cond y 0 (before p us + 1) < suc (length us) → cond y 0 (before p (us ++ vs) + 1) ≡ cond y 0 (before p us + 1)) [
-        | true ↦ λ e k. refl
-        | false ↦ λ e k. ap (λ n. n + 1) (before-append p us vs (omega (arith, k)))
-      ]) refl h
-
   pub current_at-append : (current : Option Ptr) (us vs : List (Held B)) → Lies current us → current_at current (us ++ vs) ≡ current_at current us
   current_at-append None us vs h = refl
-  current_at-append (Some p) us vs h = before-append p us vs h
+  current_at-append (Some p) us vs h = before_within p us vs h
 
   lies-append : (current : Option Ptr) (us vs : List (Held B)) → Lies current us → Lies current (us ++ vs)
   lies-append None us vs h = tt
-  lies-append (Some p) us vs h = let same = before-append p us vs h in let long = length-append us vs in omega (arith, same, long, h)
+  lies-append (Some p) us vs h = let same = before_within p us vs h in let long = length-append us vs in omega (arith, same, long, h)
 
 -- one node more, the last
 module _ {K : Type 0} {eq : K → K → Bool} {hash : K → ℕ} {us : List (Held K)} {capacity : ℕ} {visit : VisitState} (k : AreKept eq hash us capacity visit) where
   pub bookmark_at-append : (vs : List (Held K)) → bookmark_at visit.bookmark (us ++ vs) ≡ bookmark_at visit.bookmark us
-  bookmark_at-append vs = by_bookmark visit.bookmark k.ended k.in_reach
+  bookmark_at-append vs = by_bookmark visit.bookmark refl
     where
-      by_bookmark : (o : Option Ptr) → (visit.unvisited ≡ 0 → o ≡ None) → bookmark_at o us + visit.unvisited ≤ length us → bookmark_at o (us ++ vs) ≡ bookmark_at o us
-      by_bookmark None ended reach = refl
-      by_bookmark (Some p) ended reach = before-append p us vs (by_count visit.unvisited ended reach)
-        where
-          by_count : (m : ℕ) → (m ≡ 0 → Some p ≡ None) → before p us + m ≤ length us → before p us < length us
-          by_count zero e r = absurd (true≢false (ap is_some (e refl)))
-          by_count (suc m) e r = omega (arith, r)
+      by_bookmark : (o : Option Ptr) → visit.bookmark ≡ o → bookmark_at o (us ++ vs) ≡ bookmark_at o us
+      by_bookmark None is = refl
+      by_bookmark (Some p) is = before_within p us vs (bookmark_lies k is)
+
+  -- what is still to be visited ends before it
+  pub to_visit-append : (vs : List (Held K)) → to_visit_at visit (us ++ vs) ≡ to_visit_at visit us
+  to_visit-append vs =
+      let keys : List (Held K) → List K = map (λ u. u.pair) in
+      let long = length-map us (λ u. u.pair) in
+      ap₂ (λ b ks. take visit.unvisited (drop b ks)) (bookmark_at-append vs) (map-append (λ (u : Held K). u.pair) us vs)
+      ∙ stretch-front (keys us) (keys vs) (bookmark_at visit.bookmark us) visit.unvisited (omega (arith, long, k.in_reach))
 
   pub AreKept-push : IsEquivalence eq → (u : Held K) → u.hash ≡ hash u.pair → list_any (eq u.pair) (map (λ t. t.pair) us) ≡ false → length us < capacity → AreKept eq hash (us ++ u ∷ []) capacity visit
   AreKept-push laws u hashed absent room =
@@ -79,16 +73,8 @@ module _ {K V : Type 0} {eq : K → K → Bool} {hash : K → ℕ} {s : TableSta
   pub bookmark_at-push : bookmark_at visit.bookmark (bare t.held) ≡ bookmark_at visit.bookmark (bare s.held)
   bookmark_at-push = ap (bookmark_at visit.bookmark) bare_is ∙ bookmark_at-append kept.nodes (held p hash_key None key ∷ [])
 
-  -- what is still to be visited ends before it
-  pub to_visit-push : take visit.unvisited (drop (bookmark_at visit.bookmark (bare t.held)) (keys_of (pairs_of t.held))) ≡ take visit.unvisited (drop (bookmark_at visit.bookmark (bare s.held)) (keys_of (pairs_of s.held)))
-  to_visit-push =
-      let keys = λ (us : List (Held K)). map (λ u. u.pair) us in
-      let long = length-map (bare s.held) (λ u. u.pair) in
-      ap (λ ks. take visit.unvisited (drop (bookmark_at visit.bookmark (bare t.held)) ks)) (sym (keys-bare t.held))
-      ∙ (λ i. take visit.unvisited (drop (bookmark_at-push i) (keys (bare_is i))))
-      ∙ ap (λ ks. take visit.unvisited (drop (bookmark_at visit.bookmark (bare s.held)) ks)) (map-append (λ (u : Held K). u.pair) (bare s.held) (held p hash_key None key ∷ []))
-      ∙ stretch-front (keys (bare s.held)) (key ∷ []) (bookmark_at visit.bookmark (bare s.held)) visit.unvisited (omega (arith, long, kept.nodes.in_reach))
-      ∙ ap (λ ks. take visit.unvisited (drop (bookmark_at visit.bookmark (bare s.held)) ks)) (keys-bare s.held)
+  pub to_visit-push : to_visit_of visit t.held ≡ to_visit_of visit s.held
+  to_visit-push = sym (to_visit-bare visit t.held) ∙ ap (to_visit_at visit) bare_is ∙ to_visit-append kept.nodes (held p hash_key None key ∷ []) ∙ to_visit-bare visit s.held
 
   pub current_at-push : current_at visit.current (bare t.held) ≡ current_at visit.current (bare s.held)
   current_at-push = ap (current_at visit.current) bare_is ∙ current_at-append visit.current (bare s.held) (held p hash_key None key ∷ []) kept.nodes.current_lies

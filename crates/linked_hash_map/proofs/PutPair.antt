@@ -1,5 +1,5 @@
 -- The pair at a position, once it is moved by a mode and its value is written.
-use Rattle.std.proofs.Common.{◌≡◌, ℕ, ◌+◌, ◌-◌, ◌<◌, ◌≤◌, ◌⊎◌, inr, Bool, List, [], ◌∷◌, ◌++◌, map, length, take, drop, slice_get, remove, Some, None, option_map, refl, sym, ap, ◌∙◌, subst, arith}
+use Rattle.std.proofs.Common.{◌≡◌, ℕ, ◌-◌, ◌<◌, inr, Bool, List, [], ◌∷◌, ◌++◌, map, length, slice_get, remove, Some, None, option_map, refl, sym, ap, ◌∙◌, subst, arith}
 use Rattle.std.specs.List.{IsDistinct}
 use Rattle.std.specs.Map.{keys_of}
 use Rattle.std.specs.Cmp.{IsEquivalence}
@@ -11,18 +11,18 @@ use Rattle.lhm_ring.specs.Tables.{TableState, WritesOnly}
 use Rattle.lhm_ring.specs.TableAfterLoan.{with_value}
 use Rattle.linked_hash_map.specs.declared.map.Mode.{Mode}
 use Rattle.linked_hash_map.specs.declared.map.Mode.TheVariants.{Touch, Keep}
-use Rattle.linked_hash_map.specs.Nodes.{VisitState, no_visit, pairs_of, bare, before, bookmark_at, current_at, AreKept, IsKept}
+use Rattle.linked_hash_map.specs.Nodes.{VisitState, no_visit, pairs_of, bare, before, current_at, AreKept, IsKept}
 use Rattle.linked_hash_map.specs.Pairs.{value_at, put}
 use Rattle.linked_hash_map.specs.Indexes.{IsIndex, set_value_at}
 use Rattle.linked_hash_map.specs.Touches.{IsTouched}
 use Rattle.linked_hash_map.proofs.EntryFacts.{slice_get-set_value_at}
 use Rattle.linked_hash_map.proofs.Pairs.{put-present}
 use Rattle.linked_hash_map.proofs.Indexes.{length-others, set_value_at-pushed, slice_get-pushed, set_value-index, is_some-index, to_back-index, value_at-slice_get}
-use Rattle.linked_hash_map.proofs.HeldPairs.{bare-change, before-bare, keys-bare, length-pairs_of, length-same}
+use Rattle.linked_hash_map.proofs.HeldPairs.{bare-change, before-bare, length-pairs_of, length-same}
 use Rattle.linked_hash_map.proofs.CutNodes.{CutAt, CutAt-before, slice_get-held, pairs_of-change_at}
 use Rattle.linked_hash_map.proofs.Current.{current_at-Some, current_lies, IsKept-visited, IsKept-with_value}
 use Rattle.linked_hash_map.proofs.MovedNode.{pairs-moved, length-to_back, before-at_back, AreKept-moved, to_visit-moved, behind-moved}
-use Rattle.linked_hash_map.proofs.Outside.{IsElsewhere}
+use Rattle.linked_hash_map.proofs.Outside.{IsElsewhere, to_visit_at, to_visit_of, to_visit-bare}
 
 -- hs are the nodes before, and ks those after
 module _ {K V : Type 0} (hs ks : List (Held (K × V))) (p : Ptr) (lies : before p hs < length hs) where
@@ -84,10 +84,6 @@ module _ {K V : Type 0} (hs ks : List (Held (K × V))) (p : Ptr) (lies : before 
     pub value_at-touched : (mode : Mode) → IsTouched mode p hs ks → {v : V} → AtHeld ks p (λ xs t ys. v ≡ t.pair.1) → Some v ≡ value_at eq (pairs_of hs) k
     value_at-touched mode touched at = sym (value_at-slice_get laws distinct index ∙ value-touched mode touched at)
 
--- the current pair is none of those to visit
-abbrev pub IsOutsideAt : {K : Type 0} → VisitState → List (Held K) → Type 0
-IsOutsideAt visit us = (current_at visit.current us < bookmark_at visit.bookmark us) ⊎ (bookmark_at visit.bookmark us + visit.unvisited ≤ current_at visit.current us)
-
 -- the same pairs in the same capacity
 IsKept-same : {K V : Type 0} {eq : K → K → Bool} {hash : K → ℕ} {s t : TableState (K × V)} {visit : VisitState} → IsKept eq hash s visit → t.held ≡ s.held → t.capacity ≡ s.capacity → IsKept eq hash t visit
 IsKept-same {eq = eq} {hash = hash} {s = s} {t = t} {visit = visit} kept same capacity = record {
@@ -96,36 +92,32 @@ IsKept-same {eq = eq} {hash = hash} {s = s} {t = t} {visit = visit} kept same ca
 }
 
 -- the current pair, which is none of those to visit
-module _ {K V : Type 0} {eq : K → K → Bool} (laws : IsEquivalence eq) {hash : K → ℕ} {s : TableState (K × V)} (t : TableState (K × V)) {visit : VisitState} {p : Ptr} (kept : IsKept eq hash s visit) (is : visit.current ≡ Some p) (elsewhere : IsElsewhere p s.held visit.bookmark visit.unvisited) where
+module _ {K V : Type 0} {eq : K → K → Bool} (laws : IsEquivalence eq) {hash : K → ℕ} {s : TableState (K × V)} (t : TableState (K × V)) {visit : VisitState} {p : Ptr} (kept : IsKept eq hash s visit) (is : visit.current ≡ Some p) (elsewhere : IsElsewhere (before p s.held) visit (bare s.held)) where
   IsKept-touched : (mode : Mode) → IsTouched mode p s.held t.held → t.capacity ≡ s.capacity → IsKept eq hash t visit
   IsKept-touched Touch moved capacity = record {
-    nodes = subst (λ k. AreKept eq hash (bare t.held) k visit) (sym capacity) (AreKept-moved s.held t.held moved.0 (current_lies kept is) laws kept.nodes is elsewhere);
+    nodes = subst (λ k. AreKept eq hash (bare t.held) k visit) (sym capacity) (AreKept-moved s.held t.held moved.0 (current_lies kept is) kept.nodes elsewhere laws is);
   }
   IsKept-touched Keep same capacity = IsKept-same kept same capacity
 
   pub IsKept-put_current : (mode : Mode) → IsTouched mode p s.held t.held → t.capacity ≡ s.capacity → (w : V) → IsKept eq hash (with_value t p w) visit
   IsKept-put_current mode touched capacity w = IsKept-with_value (IsKept-touched mode touched capacity) p w
 
-  to_visit-touched : (mode : Mode) → IsTouched mode p s.held t.held → take visit.unvisited (drop (bookmark_at visit.bookmark (bare t.held)) (keys_of (pairs_of t.held))) ≡ take visit.unvisited (drop (bookmark_at visit.bookmark (bare s.held)) (keys_of (pairs_of s.held)))
-  to_visit-touched Touch moved = to_visit-moved s.held t.held moved.0 (current_lies kept is) laws kept.nodes is elsewhere
-  to_visit-touched Keep same = ap (λ (ns : List (Held (K × V))). take visit.unvisited (drop (bookmark_at visit.bookmark (bare ns)) (keys_of (pairs_of ns)))) same
+  to_visit-touched : (mode : Mode) → IsTouched mode p s.held t.held → to_visit_of visit t.held ≡ to_visit_of visit s.held
+  to_visit-touched Touch moved = to_visit-moved s.held t.held moved.0 (current_lies kept is) kept.nodes elsewhere
+  to_visit-touched Keep same = ap (to_visit_of visit) same
 
-  pub to_visit-put : (mode : Mode) → IsTouched mode p s.held t.held → (w : V) → take visit.unvisited (drop (bookmark_at visit.bookmark (bare (change_at p (revalued w) t.held))) (keys_of (pairs_of (change_at p (revalued w) t.held)))) ≡ take visit.unvisited (drop (bookmark_at visit.bookmark (bare s.held)) (keys_of (pairs_of s.held)))
+  pub to_visit-put : (mode : Mode) → IsTouched mode p s.held t.held → (w : V) → to_visit_of visit (change_at p (revalued w) t.held) ≡ to_visit_of visit s.held
   to_visit-put mode touched w =
-      let ls = change_at p (revalued w) t.held in
-      ap (λ ks. take visit.unvisited (drop (bookmark_at visit.bookmark (bare ls)) ks)) (sym (keys-bare ls))
-      ∙ ap (λ (us : List (Held K)). take visit.unvisited (drop (bookmark_at visit.bookmark us) (map (λ u. u.pair) us))) (bare-change p w t.held)
-      ∙ ap (λ ks. take visit.unvisited (drop (bookmark_at visit.bookmark (bare t.held)) ks)) (keys-bare t.held)
-      ∙ to_visit-touched mode touched
+      sym (to_visit-bare visit (change_at p (revalued w) t.held)) ∙ ap (to_visit_at visit) (bare-change p w t.held) ∙ to_visit-bare visit t.held ∙ to_visit-touched mode touched
 
-  elsewhere-touched : (mode : Mode) → IsTouched mode p s.held t.held → IsElsewhere p t.held visit.bookmark visit.unvisited
-  elsewhere-touched Touch moved = inr (behind-moved s.held t.held moved.0 (current_lies kept is) laws kept.nodes is elsewhere moved.1)
-  elsewhere-touched Keep same = subst (λ (ns : List (Held (K × V))). IsElsewhere p ns visit.bookmark visit.unvisited) (sym same) elsewhere
+  elsewhere-touched : (mode : Mode) → IsTouched mode p s.held t.held → IsElsewhere (before p t.held) visit (bare t.held)
+  elsewhere-touched Touch moved = inr (behind-moved s.held t.held moved.0 (current_lies kept is) kept.nodes elsewhere moved.1)
+  elsewhere-touched Keep same = subst (λ (ns : List (Held (K × V))). IsElsewhere (before p ns) visit (bare ns)) (sym same) elsewhere
 
-  pub outside-put : (mode : Mode) → IsTouched mode p s.held t.held → (w : V) → IsOutsideAt visit (bare (change_at p (revalued w) t.held))
+  pub outside-put : (mode : Mode) → IsTouched mode p s.held t.held → (w : V) → IsElsewhere (current_at visit.current (bare (change_at p (revalued w) t.held))) visit (bare (change_at p (revalued w) t.held))
   outside-put mode touched w =
-      subst (λ (us : List (Held K)). IsOutsideAt visit us) (sym (bare-change p w t.held))
-      (subst (λ k. (k < bookmark_at visit.bookmark (bare t.held)) ⊎ (bookmark_at visit.bookmark (bare t.held) + visit.unvisited ≤ k)) (sym (current_at-Some is t.held)) (elsewhere-touched mode touched))
+      subst (λ us. IsElsewhere (current_at visit.current us) visit us) (sym (bare-change p w t.held))
+      (subst (λ k. IsElsewhere k visit (bare t.held)) (sym (current_at-Some is t.held)) (elsewhere-touched mode touched))
 
 -- with nothing to visit, and no current pair
 pub IsKept-put : {K V : Type 0} {eq : K → K → Bool} → IsEquivalence eq → {hash : K → ℕ} {s : TableState (K × V)} (t : TableState (K × V)) {visit : VisitState} (p : Ptr) → IsKept eq hash s visit → before p (bare s.held) < length (bare s.held) → (mode : Mode) → IsTouched mode p s.held t.held → t.capacity ≡ s.capacity → (w : V) → IsKept eq hash (with_value t p w) no_visit

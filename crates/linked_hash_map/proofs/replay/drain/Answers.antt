@@ -1,14 +1,14 @@
 use Rattle.std.proofs.Common.{◌≡◌, ◌<◌, ◌++◌, ◌∷◌, [], length, refl, sym, ap, ◌∙◌, true≢false, arith, length-append}
+use Rattle.std.proofs.Math.Nat.{pos_of_ne-zero}
 use Rattle.std.proofs.lemmas.List.{append-nil, append_assoc}
 use Rattle.linked_hash_map.specs.Drains.{drain_rest}
-use Rattle.linked_hash_map.proofs.BookmarkMoves.{positive}
 use Rattle.linked_hash_map.proofs.Effects.{size-contents, Defines-nothing, Defines-remove_all}
 use Rattle.linked_hash_map.proofs.replay.drain.Goals as goal
 
 pub returns-in_default : goal.returns-in_default
 returns-in_default g c = record {
   answers = λ start log defines.
-      let some : 0 < c.len.result = positive c.len.result (λ none. true≢false (sym (c.in_default.ensures.succeeds none))) in
+      let some : 0 < c.len.result = pos_of_ne-zero (λ none. true≢false (sym (c.in_default.ensures.succeeds none))) in
       let length_is = size-contents g.met.K.Eq.laws defines in
       omega (arith, c.len.ensures.len);
   defines = λ start log defines. Defines-nothing g.met.K.Eq.laws defines refl refl refl;

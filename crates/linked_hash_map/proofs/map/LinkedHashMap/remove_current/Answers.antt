@@ -18,7 +18,7 @@ invariant_of-self g c =
     record {
       nodes = subst (λ k. AreKept g.K.PartialEq.eq (hash_by g.S.Hasher.Hasher.finish g.S.Hasher.Hasher.write g.S.BuildHasher.build_hasher g.K.Hash.hash_input m.hasher) (bare c.remove_at.new.self.held) k (record (visit_of m.visit) { current = None }))
           (sym removed.capacity)
-          (AreKept-removed m.table.held c.remove_at.new.self.held removed.others (current_lies c.self.invariant (current_of-Some c.current.ensures c.unwrap-at.ensures)) (visit_of m.visit) elsewhere c.self.invariant.nodes);
+          (AreKept-removed m.table.held c.remove_at.new.self.held removed.others (current_lies c.self.invariant (current_of-Some c.current.ensures c.unwrap-at.ensures)) c.self.invariant.nodes elsewhere);
     }
     ) m.visit.active
 
@@ -42,7 +42,7 @@ pub returns-clause-to_visit : goal.returns-clause-to_visit
 returns-clause-to_visit g c =
     let m = c.self.inside in
     let elsewhere = current_elsewhere c.self.invariant (current_of-Some c.current.ensures c.unwrap-at.ensures) c.args.self.now (ap (λ m. m.cursor) c.self.view_is) c.requires.outside in
-    rw (← c.self.view_is) (to_visit-removed m.table.held c.remove_at.new.self.held c.remove_at.ensures.others (current_lies c.self.invariant (current_of-Some c.current.ensures c.unwrap-at.ensures)) (visit_of m.visit) elsewhere c.self.invariant.nodes.bookmarked)
+    rw (← c.self.view_is) (to_visit-removed m.table.held c.remove_at.new.self.held c.remove_at.ensures.others (current_lies c.self.invariant (current_of-Some c.current.ensures c.unwrap-at.ensures)) c.self.invariant.nodes elsewhere)
 
 pub returns-clause-valid : goal.returns-clause-valid
 returns-clause-valid g c = rw (← c.self.view_is) (IsValid-view c.self.invariant refl refl)

@@ -1,7 +1,6 @@
-use Rattle.std.proofs.Common.{take, drop, refl, ap, ◌∙◌}
-use Rattle.std.specs.Map.{keys_of}
+use Rattle.std.proofs.Common.{refl, ap}
 use Rattle.lhm_ring.specs.Tables.{TableState}
-use Rattle.linked_hash_map.specs.Nodes.{bookmark_of, visit_of, pairs_of, bare, bookmark_at}
+use Rattle.linked_hash_map.specs.Nodes.{visit_of, pairs_of}
 use Rattle.linked_hash_map.proofs.Fitted.{IsKept-fitted, to_visit-fitted, pairs_of-triples, bookmarked_lies}
 use Rattle.linked_hash_map.proofs.Kept.{IsValid-view}
 use Rattle.linked_hash_map.proofs.map.LinkedHashMap.shrink_to_fit.Goals as goal
@@ -20,10 +19,7 @@ returns-in-Ok-clause-pairs g c = rw (← c.self.view_is) (pairs_of-triples c.sel
 pub returns-in-Ok-clause-to_visit : goal.returns-in-Ok-clause-to_visit
 returns-in-Ok-clause-to_visit g c =
     let moved = c.moved_to-self-inside in
-    let hs = c.shrink_to_fit.new.self.held in
-    rw (← c.self.view_is) (
-    ap (λ n. take n (drop (bookmark_at (bookmark_of moved.result) (bare hs)) (keys_of (pairs_of hs)))) moved.ensures.unvisited
-    ∙ to_visit-fitted c.self.invariant c.shrink_to_fit.new.self c.in-Ok.ensures.triples (visit_of moved.result) c.behind-behind.result c.behind-behind.ensures moved.ensures.bookmark)
+    rw (← c.self.view_is) (to_visit-fitted c.self.invariant c.shrink_to_fit.new.self c.in-Ok.ensures.triples (visit_of moved.result) c.behind-behind.result c.behind-behind.ensures moved.ensures.bookmark moved.ensures.unvisited)
 
 pub returns-in-Ok-clause-valid : goal.returns-in-Ok-clause-valid
 returns-in-Ok-clause-valid g c = rw (← c.self.view_is) (IsValid-view c.self.invariant refl refl)
