@@ -14,6 +14,11 @@ pub record TableState (B : Type 0) : Type 0 where
   pub capacity : ℕ
   pub rechained : ℕ
 
+-- the capacity and the count of moved nodes stay
+pub record KeepsCounts {B : Type 0} (old new : TableState B) : Type 0 where
+  pub capacity : new.capacity ≡ old.capacity
+  pub rechained : new.rechained ≡ old.rechained
+
 -- a table with this ring and this count
 abbrev pub table_of : {K V : Type 0} → State (K × V) → ℕ → TableState (K × V)
 table_of s rechained =

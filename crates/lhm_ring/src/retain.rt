@@ -3,7 +3,7 @@ ghost use Rattle.std.specs.Prelude.{◌≡◌, map};
 ghost use Rattle.std.specs.Map.Calls.{CallableOnEachPair, CalledAtPair, TakesPair};
 ghost use Rattle.lhm_ring.specs.RingState.{ChangesOnly};
 ghost use Rattle.lhm_ring.specs.Positions.{pointer_of};
-ghost use Rattle.lhm_ring.specs.Tables.{WritesOnly};
+ghost use Rattle.lhm_ring.specs.Tables.{KeepsCounts, WritesOnly};
 ghost use Rattle.lhm_ring.specs.Retains.{TakesAt, CallsAt, RetainsAt, RetainsHeld};
 
 use crate::position::Position;
@@ -64,8 +64,7 @@ impl<K, V> Table<K, V> {
         requires { TakesAt (TakesPair F.FnMut) keep.old self.old.held (pointer_of at) }
         ensures retained { RetainsAt (CalledAtPair F.FnMut) keep.old self.old.held (pointer_of at)
             self.new.held keep.new }
-        ensures capacity { self.new.capacity ≡ self.old.capacity }
-        ensures rechained { self.new.rechained ≡ self.old.rechained }
+        ensures keeps { KeepsCounts self.old self.new }
     {
         if !self.call_at(at, keep) {
             self.remove_at(at);
@@ -81,8 +80,7 @@ impl<K, V> Table<K, V> {
         requires { CallableOnEachPair (CalledAtPair F.FnMut) (TakesPair F.FnMut) keep
             (map (λ t. t.pair) self.old.held) }
         ensures retained { RetainsHeld (CalledAtPair F.FnMut) keep self.old.held self.new.held }
-        ensures capacity { self.new.capacity ≡ self.old.capacity }
-        ensures rechained { self.new.rechained ≡ self.old.rechained }
+        ensures keeps { KeepsCounts self.old self.new }
     {
         let mut next = self.first();
         while let Some(at) = next {

@@ -8,7 +8,7 @@ ghost use Rattle.lhm_ring.specs.Index.{spots};
 ghost use Rattle.lhm_ring.specs.Search.{entries, HasKey, IsAbsent, CountsSome, CountsAll};
 ghost use Rattle.lhm_ring.specs.Buckets.{buckets};
 ghost use Rattle.lhm_ring.specs.Filters.{may_contain, LacksHash};
-ghost use Rattle.lhm_ring.specs.Tables.{Removes, WritesOnly};
+ghost use Rattle.lhm_ring.specs.Tables.{KeepsCounts, Removes, WritesOnly};
 
 use crate::buckets::{clear_emptied, empty_chains, with_filter};
 use crate::filter::Filter;
@@ -198,8 +198,7 @@ impl<K, V> Table<K, V> {
         requires { IsHeld self.old.held (pointer_of at) }
         ensures last { AtHeld self.old.held (pointer_of at) (λ xs t ys.
             self.new.held ≡ (xs ++ ys) ++ t ∷ []) }
-        ensures capacity { self.new.capacity ≡ self.old.capacity }
-        ensures rechained { self.new.rechained ≡ self.old.rechained }
+        ensures keeps { KeepsCounts self.old self.new }
         ensures apart { IsApart (map (λ t. t.at) self.old.held) }
     {
         self.ring.move_to_back(at);
@@ -210,8 +209,7 @@ impl<K, V> Table<K, V> {
         requires { length self.old.held < self.old.capacity }
         ensures last { self.new.held
             ≡ self.old.held ++ held (pointer_of result) hash None (pair key value) ∷ [] }
-        ensures capacity { self.new.capacity ≡ self.old.capacity }
-        ensures rechained { self.new.rechained ≡ self.old.rechained }
+        ensures keeps { KeepsCounts self.old self.new }
     {
         let at = self.ring.put_back(hash, key, value);
         let bucket = self.index.put_in(&mut self.ring, at);
@@ -225,8 +223,7 @@ impl<K, V> Table<K, V> {
         ensures others { AtHeld self.old.held (pointer_of at) (λ xs t ys.
             self.new.held ≡ xs ++ ys) }
         ensures pair { AtHeld self.old.held (pointer_of at) (λ xs t ys. result ≡ t.pair) }
-        ensures capacity { self.new.capacity ≡ self.old.capacity }
-        ensures rechained { self.new.rechained ≡ self.old.rechained }
+        ensures keeps { KeepsCounts self.old self.new }
     {
         let emptied = self.index.take_out_at(&mut self.ring, at);
         clear_emptied(&mut self.filter, emptied);
@@ -328,8 +325,7 @@ impl<K: Eq, V> Table<K, V> {
         ensures removed { IfSome result (Removes K.eq hash key.now self.old.held self.new.held) }
         ensures absent { IfNone result (IsAbsent K.eq hash key.now self.old.held) }
         ensures unchanged { IfNone result (self.new ≡ self.old) }
-        ensures capacity { self.new.capacity ≡ self.old.capacity }
-        ensures rechained { self.new.rechained ≡ self.old.rechained }
+        ensures keeps { KeepsCounts self.old self.new }
     {
         if !self.may_contain(hash) {
             return None;

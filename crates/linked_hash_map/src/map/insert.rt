@@ -11,6 +11,7 @@ ghost use Rattle.linked_hash_map.specs.Touches.{IsTouched};
 ghost use Rattle.linked_hash_map.specs.Updates.{Updates};
 ghost use Rattle.lhm_ring.specs.Positions.{pointer_of};
 ghost use Rattle.lhm_ring.specs.RingState.{IsHeld};
+ghost use Rattle.lhm_ring.specs.Tables.{KeepsCounts};
 
 use super::{LinkedHashMap, Mode};
 use crate::error::Refused;
@@ -23,8 +24,7 @@ use std::mem;
 pub(super) fn touch<K, V>(table: &mut Table<K, V>, at: Position<K, V>, mode: Mode)
     requires { IsHeld table.old.held (pointer_of at) }
     ensures touched { IsTouched mode (pointer_of at) table.old.held table.new.held }
-    ensures capacity { table.new.capacity ≡ table.old.capacity }
-    ensures rechained { table.new.rechained ≡ table.old.rechained }
+    ensures keeps { KeepsCounts table.old table.new }
 {
     match mode {
         Mode::Touch => table.move_to_back(at),

@@ -18,12 +18,12 @@ returns-clause-last g c =
     AtHeld-table c.self.inside.ring c.self.inside.rechained c.self.view_is (pointer_of c.args.at) (λ xs t ys. entries c.move_to_back.new.self.held ≡ (xs ++ ys) ++ t ∷ [])
     (λ xs t ys e at. ap entries (c.move_to_back.ensures.last xs t ys e at) ∙ entries-append (xs ++ ys) (t ∷ []) ∙ ap (λ zs. zs ++ linked_to None t ∷ []) (entries-append xs ys))
 
-pub returns-clause-capacity : goal.returns-clause-capacity
-returns-clause-capacity g c =
+pub returns-clause-keeps : goal.returns-clause-keeps
+returns-clause-keeps g c =
     let moved = c.move_to_back.ensures in
     let long = length-moved c.self.invariant c.move_to_back.new.self (pointer_of c.args.at) (IsHeld-table c.self.inside.ring c.self.inside.rechained c.self.view_is (pointer_of c.args.at) c.requires) moved.last in
     let all = length-capacity c.self.inside.ring c.self.inside.rechained c.self.view_is in
-    omega (arith, long, moved.spares, all)
+    record { capacity = omega (arith, long, moved.spares, all); rechained = ap (λ s. s.rechained) c.self.view_is }
 
 pub returns-clause-apart : goal.returns-clause-apart
 returns-clause-apart g c = IsApart-table c.self.inside.ring c.self.inside.rechained c.self.view_is c.move_to_back.ensures.apart

@@ -47,10 +47,10 @@ returns-clause-removed g c =
           (λ xs t ys e at. ap (λ z. (z.1, z.2)) (c.unlink-key.ensures.triple xs t ys e at));
     }
 
-pub returns-clause-capacity : goal.returns-clause-capacity
-returns-clause-capacity g c =
+pub returns-clause-keeps : goal.returns-clause-keeps
+returns-clause-keeps g c =
     let taken = c.in_ok-at.ensures in
     let unlinked = c.unlink-key.ensures in
     let all = length-with_spares c.self.invariant taken.held taken.spares taken.nodes taken.lacks unlinked.others unlinked.spares unlinked.nodes in
     let before = length-capacity c.self.inside.ring c.self.inside.rechained c.self.view_is in
-    omega (arith, all, before)
+    record { capacity = omega (arith, all, before); rechained = ap (λ s. s.rechained) c.self.view_is }

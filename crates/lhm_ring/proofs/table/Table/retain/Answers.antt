@@ -5,7 +5,7 @@ use Rattle.lhm_ring.proofs.Retained.{IsRetaining-start, RetainsHeld-end, IsRetai
 use Rattle.lhm_ring.proofs.table.Table.retain.Goals as goal
 
 pub loop-next-init : goal.loop-next-init
-loop-next-init g c = record { retaining = IsRetaining-start (CalledAtPair g.F.FnMut) (TakesPair g.F.FnMut) c.requires c.first-next.ensures; capacity = refl; rechained = refl }
+loop-next-init g c = record { retaining = IsRetaining-start (CalledAtPair g.F.FnMut) (TakesPair g.F.FnMut) c.requires c.first-next.ensures; keeps = record { capacity = refl; rechained = refl } }
 
 pub next-next-requires : goal.next-next-requires
 next-next-requires g c =
@@ -23,8 +23,7 @@ loop-next-preserved g c =
     let kept = c.retain_at.ensures in
     record {
       retaining = IsRetaining-step (CalledAtPair g.F.FnMut) (TakesPair g.F.FnMut) m (First-next (CalledAtPair g.F.FnMut) (TakesPair g.F.FnMut) m (ap pointer_of_some c.in-Some.is)) kept.retained c.next-next.ensures.next;
-      capacity = kept.capacity ∙ c.loop-next.invariant.capacity;
-      rechained = kept.rechained ∙ c.loop-next.invariant.rechained;
+      keeps = record { capacity = kept.keeps.capacity ∙ c.loop-next.invariant.keeps.capacity; rechained = kept.keeps.rechained ∙ c.loop-next.invariant.keeps.rechained };
     }
 
 pub loop-next-smaller : goal.loop-next-smaller

@@ -1,14 +1,13 @@
-use Rattle.std.proofs.Common.{◌≡◌}
 use Rattle.std.specs.Map.Calls.{CalledAtPair, TakesPair}
 use Rattle.lhm_ring.specs.Positions.{pointer_of_some}
 use Rattle.lhm_ring.specs.Retains.{IsRetaining, left_from}
+use Rattle.lhm_ring.specs.Tables.{KeepsCounts}
 use Rattle.lhm_ring.proofs.table.Table.retain.Given as goal
 
 abbrev pub invariant-loop-next : goal.invariant-loop-next
 invariant-loop-next g l = record {
   retaining : IsRetaining (CalledAtPair g.F.FnMut) (TakesPair g.F.FnMut) l.initial.keep l.initial.self.held l.keep l.self.held (pointer_of_some l.next);
-  capacity : l.self.capacity ≡ l.initial.self.capacity;
-  rechained : l.self.rechained ≡ l.initial.self.rechained;
+  keeps : KeepsCounts l.initial.self l.self;
 }
 
 abbrev pub decreases-loop-next : goal.decreases-loop-next

@@ -17,7 +17,7 @@ value_mut-requires g c = (touched_cut c.self.inside.table.held c.move_to_back.ne
 pub invariant_of-self-lent : goal.invariant_of-self-lent
 invariant_of-self-lent g c w =
     let moved = c.move_to_back.ensures in
-    IsKept-put g.met.K.Eq.laws c.move_to_back.new.self (pointer_of c.in-Some.at) c.self.invariant (found_lies (of-Some (λ p. HasKey g.K.PartialEq.eq c.hash_one-hash.result c.args.key.now c.self.inside.table.held (pointer_of p)) c.position.result c.in-Some.at c.in-Some.is c.position.ensures.found)) Touch (moved.last, moved.apart) moved.capacity w
+    IsKept-put g.met.K.Eq.laws c.move_to_back.new.self (pointer_of c.in-Some.at) c.self.invariant (found_lies (of-Some (λ p. HasKey g.K.PartialEq.eq c.hash_one-hash.result c.args.key.now c.self.inside.table.held (pointer_of p)) c.position.result c.in-Some.at c.in-Some.is c.position.ensures.found)) Touch (moved.last, moved.apart) moved.keeps.capacity w
 
 pub returns-in-Some : goal.returns-in-Some
 returns-in-Some g c =
@@ -30,8 +30,8 @@ returns-in-Some g c =
         c.value_mut.result.ghost_name,
         λ w. record (map_of m.table (record (beside m.hasher m.visit m.mode) { visit = no_visit })) {
           pairs = pairs-put c.self.inside.table.held c.move_to_back.new.self.held (pointer_of c.in-Some.at) (key_lies has) g.met.K.Eq.laws (key_index has) distinct Touch (moved.last, moved.apart) c.value_mut.ensures.alone w i;
-          capacity = moved.capacity i;
-          rechained = moved.rechained i;
+          capacity = moved.keeps.capacity i;
+          rechained = moved.keeps.rechained i;
         },
       )),
       record {

@@ -28,7 +28,7 @@ pub value_mut-requires : goal.value_mut-requires
 value_mut-requires g c = (touched_cut c.self.inside.table.held c.touch.new.table.held (pointer_of c.in-Some.at) (key_lies (of-Some (λ p. HasKey g.K.PartialEq.eq c.hash_of-hash.result c.args.key c.self.inside.table.held (pointer_of p)) c.position.result c.in-Some.at c.in-Some.is c.position.ensures.found)) c.self.inside.mode c.touch.ensures.touched).held
 
 pub invariant_of-self : goal.invariant_of-self
-invariant_of-self g c = IsKept-put g.met.K.Eq.laws c.touch.new.table (pointer_of c.in-Some.at) c.self.invariant (found_lies (has g c)) c.self.inside.mode c.touch.ensures.touched c.touch.ensures.capacity c.replace.new.dest
+invariant_of-self g c = IsKept-put g.met.K.Eq.laws c.touch.new.table (pointer_of c.in-Some.at) c.self.invariant (found_lies (has g c)) c.self.inside.mode c.touch.ensures.touched c.touch.ensures.keeps.capacity c.replace.new.dest
 
 pub returns-in-Some-clause-old : goal.returns-in-Some-clause-old
 returns-in-Some-clause-old g c =
@@ -62,7 +62,7 @@ pub returns-in-Some-clause-capacity : goal.returns-in-Some-clause-capacity
 returns-in-Some-clause-capacity g c =
     let within = (returns-in-Some-clause-valid g c).within in
     let len = returns-in-Some-clause-as_many g c (subst IsSome (returns-in-Some-clause-old g c) refl) in
-    let same : c.touch.new.table.capacity ≡ c.args.self.now.capacity = rw (← c.self.view_is) c.touch.ensures.capacity in
+    let same : c.touch.new.table.capacity ≡ c.args.self.now.capacity = rw (← c.self.view_is) c.touch.ensures.keeps.capacity in
     omega (arith, within, len, same)
 
 pub returns-in-Some-clause-pushed : goal.returns-in-Some-clause-pushed

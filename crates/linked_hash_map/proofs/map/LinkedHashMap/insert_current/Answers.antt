@@ -20,7 +20,7 @@ pub invariant_of-self : goal.invariant_of-self
 invariant_of-self g c =
     let is = current_of-Some c.current.ensures c.unwrap-at.ensures in
     let elsewhere = current_elsewhere c.self.invariant is c.args.self.now (ap (λ m. m.cursor) c.self.view_is) c.requires.outside in
-    IsKept-put_current g.met.K.Eq.laws c.touch.new.table c.self.invariant is elsewhere c.self.inside.mode c.touch.ensures.touched c.touch.ensures.capacity c.replace.new.dest
+    IsKept-put_current g.met.K.Eq.laws c.touch.new.table c.self.invariant is elsewhere c.self.inside.mode c.touch.ensures.touched c.touch.ensures.keeps.capacity c.replace.new.dest
 
 pub returns-clause-pairs : goal.returns-clause-pairs
 returns-clause-pairs g c =

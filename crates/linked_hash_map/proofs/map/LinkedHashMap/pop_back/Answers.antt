@@ -14,7 +14,7 @@ pub remove_at-requires : goal.remove_at-requires
 remove_at-requires g c = (CutAt-before (pointer_of c.in_ok-back.back) c.self.inside.table.held (last_lies c.self.inside.table.held c.last.ensures.apart c.in_ok-back.ensures.last)).held
 
 pub invariant_of-self : goal.invariant_of-self
-invariant_of-self g c = IsKept-removed c.self.invariant (last_lies c.self.inside.table.held c.last.ensures.apart c.in_ok-back.ensures.last) c.remove_at.ensures.others c.remove_at.ensures.capacity
+invariant_of-self g c = IsKept-removed c.self.invariant (last_lies c.self.inside.table.held c.last.ensures.apart c.in_ok-back.ensures.last) c.remove_at.ensures.others c.remove_at.ensures.keeps.capacity
 
 pub returns-clause-pair : goal.returns-clause-pair
 returns-clause-pair g c =

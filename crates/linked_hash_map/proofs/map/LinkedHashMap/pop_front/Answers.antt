@@ -13,7 +13,7 @@ pub remove_at-requires : goal.remove_at-requires
 remove_at-requires g c = IsHeld-first c.self.inside.table.held (pointer_of c.in_ok-front.front) c.in_ok-front.ensures
 
 pub invariant_of-self : goal.invariant_of-self
-invariant_of-self g c = IsKept-removed c.self.invariant (first_lies c.self.inside.table.held c.in_ok-front.ensures) c.remove_at.ensures.others c.remove_at.ensures.capacity
+invariant_of-self g c = IsKept-removed c.self.invariant (first_lies c.self.inside.table.held c.in_ok-front.ensures) c.remove_at.ensures.others c.remove_at.ensures.keeps.capacity
 
 pub returns-clause-pair : goal.returns-clause-pair
 returns-clause-pair g c =

@@ -25,7 +25,7 @@ invariant_of-self g c =
     let hash = hash_by g.S.Hasher.Hasher.finish g.S.Hasher.Hasher.write g.S.BuildHasher.build_hasher g.K.Hash.hash_input in
     let hashed : c.args.hash ≡ hash m.hasher c.args.key = subst (λ (z : LinkedMap g.row.K.Denot g.row.V.Denot g.row.S.Denot). c.args.hash ≡ hash z.hasher c.args.key) (sym c.self.view_is) c.requires.hash in
     IsKept-push c.self.invariant (pointer_of c.push_back.result) c.args.hash c.args.key c.args.value c.push_back.new.self c.push_back.ensures.last
-    g.met.K.Eq.laws hashed absent (omega (arith, room, of_pairs)) c.push_back.ensures.capacity
+    g.met.K.Eq.laws hashed absent (omega (arith, room, of_pairs)) c.push_back.ensures.keeps.capacity
 
 pub returns-clause-pairs : goal.returns-clause-pairs
 returns-clause-pairs g c = rw (← c.self.view_is) (pairs_of-push c.self.inside.table c.push_back.new.self (pointer_of c.push_back.result) c.args.hash c.args.key c.args.value c.push_back.ensures.last)

@@ -17,7 +17,7 @@ invariant_of-self g c =
     IsKept-left (
     record {
       nodes = subst (λ k. AreKept g.K.PartialEq.eq (hash_by g.S.Hasher.Hasher.finish g.S.Hasher.Hasher.write g.S.BuildHasher.build_hasher g.K.Hash.hash_input m.hasher) (bare c.remove_at.new.self.held) k (record (visit_of m.visit) { current = None }))
-          (sym removed.capacity)
+          (sym removed.keeps.capacity)
           (AreKept-removed m.table.held c.remove_at.new.self.held removed.others (current_lies c.self.invariant (current_of-Some c.current.ensures c.unwrap-at.ensures)) c.self.invariant.nodes elsewhere);
     }
     ) m.visit.active

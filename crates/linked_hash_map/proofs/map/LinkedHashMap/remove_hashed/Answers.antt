@@ -43,7 +43,7 @@ returns-in_err-pair-clause-stays_valid g c =
 pub invariant_of-self-2 : goal.invariant_of-self-2
 invariant_of-self-2 g c =
     let removed = c.in_ok-pair.ensures.removed in
-    IsKept-removed c.self.invariant (key_lies removed.has) removed.others c.in_ok-pair.ensures.capacity
+    IsKept-removed c.self.invariant (key_lies removed.has) removed.others c.in_ok-pair.ensures.keeps.capacity
 
 pub returns-clause-value : goal.returns-clause-value
 returns-clause-value g c =

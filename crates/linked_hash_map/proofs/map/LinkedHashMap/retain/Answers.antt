@@ -9,7 +9,7 @@ retain-requires g c = subst (λ m. CallableOnEachPair (CalledAtPair g.F.FnMut) (
 
 pub invariant_of-self : goal.invariant_of-self
 invariant_of-self g c =
-    IsKept-some c.self.invariant (bare-retained (CalledAtPair g.F.FnMut) c.args.keep c.self.inside.table.held c.retain.new.self.held c.retain.ensures.retained) c.retain.ensures.capacity
+    IsKept-some c.self.invariant (bare-retained (CalledAtPair g.F.FnMut) c.args.keep c.self.inside.table.held c.retain.new.self.held c.retain.ensures.retained) c.retain.ensures.keeps.capacity
 
 pub returns-clause-pairs : goal.returns-clause-pairs
 returns-clause-pairs g c =
