@@ -10,6 +10,7 @@ pub mod ContentsSplitOff
 pub mod DroppedRing
 pub mod Ends
 pub mod Entries
+pub mod FieldSeen
 pub mod Filters
 pub mod FirstAndLast
 pub mod IndexMoves
