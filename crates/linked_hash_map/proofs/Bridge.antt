@@ -250,4 +250,4 @@ module _ {K V : Type 0} {eq : K → K → Bool} (laws : IsEquivalence eq) where
       by_mode Keep false is at_k =
           let absent = none_is (find eq (pairs eq log) k) (there ∙ at_k) in
           pairs-put_moved laws log k v (rw (is, at_k) refl)
-          ∙ sym (to_back-absent eq (pairs eq log) k v absent) ∙ put-absent eq Keep (pairs eq log) k v absent
+          ∙ to_back-absent eq (pairs eq log) k v absent ∙ sym (put-absent eq Keep (pairs eq log) k v absent)

@@ -1,11 +1,12 @@
 -- Runs of a `Drain`, and what is left of one.
-use Rattle.std.proofs.Common.{◌≡◌, ℕ, List, [], ◌∷◌, map, length, Option, refl, sym, ap, ◌∙◌}
+use Rattle.std.proofs.Common.{◌≡◌, ℕ, List, [], ◌∷◌, map, length, Option, sym, ap, ◌∙◌}
 use Rattle.std.specs.Iterator.Runs.{YieldsInOrder, YieldsInReverse}
 use Rattle.std.proofs.iter.runs.Sources.{from_front, from_back, as_is, as_is_back}
 use Rattle.lhm_ring.specs.RingState.{Held, triples}
 use Rattle.linked_hash_map.specs.Drains.{drain_rest, drain_name, DrainSteps, DrainStepsBack, DrainKeepsAlong}
 use Rattle.linked_hash_map.specs.Nodes.{pairs_of}
 use Rattle.linked_hash_map.specs.declared.drain.Drain.{Drain}
+use Rattle.linked_hash_map.proofs.HeldPairs.{pairs-triples}
 
 module _ {K V : Type 0} where
   pub drains_in_order : YieldsInOrder (DrainSteps {K = K} {V = V}) drain_rest
@@ -25,11 +26,6 @@ module _ {K V : Type 0} where
 
   pub stays_back : (d : Drain K V) → DrainKeepsAlong DrainStepsBack d
   stays_back = along DrainStepsBack (λ s t r h. h.1)
-
--- the pairs of what is drained with hashes
-pub pairs-triples : {K V : Type 0} (hs : List (Held (K × V))) → map (λ t. t.1) (triples hs) ≡ pairs_of hs
-pairs-triples [] = refl
-pairs-triples (t ∷ hs) = ap (λ ps. t.pair ∷ ps) (pairs-triples hs)
 
 -- what is left of a `Drain` that was made of a table
 pub rest_drained : {K V : Type 0} (d : Drain K V) (ts : List (ℕ × (K × V))) (hs : List (Held (K × V))) → drain_rest d ≡ map (λ t. t.1) ts → ts ≡ triples hs → drain_rest d ≡ pairs_of hs

@@ -23,6 +23,7 @@ use Rattle.linked_hash_map.specs.declared.entry.OccupiedEntry.{OccupiedEntry}
 use Rattle.lhm_ring.proofs.BucketCounts.{rechained_raised-same}
 use Rattle.lhm_ring.proofs.Options.{Some-injective}
 use Rattle.linked_hash_map.proofs.LiveKeys.{same_test}
+use Rattle.linked_hash_map.proofs.Pairs.{set_or_push-present, set_or_push-absent, length-set_value}
 
 pub on_ok_given : {A E : Type 0} (Given P : Type 0) (r : Result A E) → OnOk r P → OnOk r (Given → P)
 on_ok_given Given P (Ok x) p = λ _. p
@@ -47,11 +48,6 @@ module _ {K V : Type 0} where
   slice_get-set_value_at (first ∷ pairs) zero v pair there = ap (λ p. Some (p.0, v)) (Some-injective _ _ there)
   slice_get-set_value_at (first ∷ pairs) (suc index) v pair there = slice_get-set_value_at pairs index v pair there
 
-  -- a value that is set changes not how many there are
-  pub length-set_value : (eq : K → K → Bool) (pairs : List (K × V)) (k : K) (v : V) → length (set_value eq pairs k v) ≡ length pairs
-  length-set_value eq [] k v = refl
-  length-set_value eq (pair ∷ pairs) k v = ap suc (length-set_value eq pairs k v)
-
   -- a key that is at an index is found
   found_at : (eq : K → K → Bool) (pairs : List (K × V)) (index : ℕ) (k : K) (pair : K × V) → slice_get pairs index ≡ Some pair → eq k pair.0 ≡ true → is_some (find eq pairs k) ≡ true
   found_at eq [] index k pair there same = absurd (true≢false (sym (ap is_some there)))
@@ -67,23 +63,15 @@ module _ {K V : Type 0} where
   key_or-some q k (Some pair) h = refl
 
   module _ (eq : K → K → Bool) (pairs : List (K × V)) (k : K) (v : V) where
-    -- the value of a key that is present is set in its place
-    pub set_or_push-present : is_some (find eq pairs k) ≡ true → set_value eq pairs k v ≡ set_or_push eq pairs k v
-    set_or_push-present there = sym (ap (λ b. cond b (set_value eq pairs k v) (pairs ++ (k, v) ∷ [])) there)
-
-    -- that of an absent one is pushed
-    pub set_or_push-absent : find eq pairs k ≡ None → pairs ++ (k, v) ∷ [] ≡ set_or_push eq pairs k v
-    set_or_push-absent none = sym (ap (λ o. cond (is_some o) (set_value eq pairs k v) (pairs ++ (k, v) ∷ [])) none)
-
     -- the room that this takes
     room-present : (capacity : ℕ) → is_some (find eq pairs k) ≡ true → length pairs ≤ capacity → capacity ≡ max capacity (length (set_or_push eq pairs k v))
     room-present capacity there within =
-        let same_length : length (set_or_push eq pairs k v) ≡ length pairs = ap length (sym (set_or_push-present there)) ∙ length-set_value eq pairs k v in
+        let same_length : length (set_or_push eq pairs k v) ≡ length pairs = ap length (set_or_push-present eq pairs k v there) ∙ length-set_value eq pairs k v in
         omega arith
 
     room-absent : (capacity : ℕ) → find eq pairs k ≡ None → max capacity (length pairs + 1) ≡ max capacity (length (set_or_push eq pairs k v))
     room-absent capacity none =
-        let pushed : length (set_or_push eq pairs k v) ≡ length (pairs ++ (k, v) ∷ []) = ap length (sym (set_or_push-absent none)) in
+        let pushed : length (set_or_push eq pairs k v) ≡ length (pairs ++ (k, v) ∷ []) = ap length (set_or_push-absent eq pairs k v none) in
         let longer = length-append pairs ((k, v) ∷ []) in
         omega arith
 
@@ -91,14 +79,14 @@ module _ {K V : Type 0} where
   module _ {S : Type 0} (eq : K → K → Bool) (m : LinkedMap K V S) (k : K) (v : V) where
     pub set_or_pushed-present : is_some (find eq m.pairs k) ≡ true → length m.pairs ≤ m.capacity → record m { pairs = set_value eq m.pairs k v } ≡ set_or_pushed eq m k v
     set_or_pushed-present there within = λ i. record m {
-      pairs = set_or_push-present eq m.pairs k v there i;
+      pairs = sym (set_or_push-present eq m.pairs k v there) i;
       capacity = room-present eq m.pairs k v m.capacity there within i;
       rechained = (sym (rechained_raised-same m.rechained (length m.pairs) m.capacity) ∙ ap (rechained_raised m.rechained (length m.pairs) m.capacity) (room-present eq m.pairs k v m.capacity there within)) i;
     }
 
     pub set_or_pushed-absent : find eq m.pairs k ≡ None → pushed m k v ≡ set_or_pushed eq m k v
     set_or_pushed-absent none = λ i. record m {
-      pairs = set_or_push-absent eq m.pairs k v none i;
+      pairs = sym (set_or_push-absent eq m.pairs k v none) i;
       capacity = room-absent eq m.pairs k v m.capacity none i;
       rechained = rechained_raised m.rechained (length m.pairs) m.capacity (room-absent eq m.pairs k v m.capacity none i);
     }
@@ -119,7 +107,7 @@ module _ {K V : Type 0} where
         removes = ap (λ (t : K → Bool). filter (λ pair. not (t pair.0)) pairs) test;
         moves = λ v. ap₂ (λ ps key. ps ++ (key, v) ∷ []) (ap (λ (t : K → Bool). filter (λ pair. not (t pair.0)) pairs) test) (ap (key_or q) finds ∙ key_or-some q k (find eq pairs k) there);
         sets = sets;
-        sets_or_pushes = λ v. sym (set_or_push-present eq pairs q v (ap is_some finds ∙ there)) ∙ sets v ∙ set_or_push-present eq pairs k v there;
+        sets_or_pushes = λ v. set_or_push-present eq pairs q v (ap is_some finds ∙ there) ∙ sets v ∙ sym (set_or_push-present eq pairs k v there);
         sets_if_some = by_value sets;
       }
     where

@@ -10,7 +10,7 @@ use Rattle.lhm_ring.specs.RingState.{Held, IsHeld, AtHeld, triples}
 use Rattle.lhm_ring.specs.Tables.{TableState}
 use Rattle.lhm_ring.proofs.Tables.{length-same_triples}
 use Rattle.linked_hash_map.specs.Nodes.{VisitState, IsKept, HasBehind, Lies, pairs_of, bare, before, bookmark_at}
-use Rattle.linked_hash_map.proofs.HeldPairs.{length-bare, keys-bare}
+use Rattle.linked_hash_map.proofs.HeldPairs.{length-bare, keys-bare, pairs-triples}
 use Rattle.linked_hash_map.proofs.CutNodes.{CutAt, CutAt-before}
 use Rattle.linked_hash_map.proofs.BookmarkMoves.{bookmark-bare, bookmarked_cut}
 use Rattle.linked_hash_map.proofs.Outside.{before_held, to_visit_of}
@@ -36,12 +36,8 @@ module _ {K V : Type 0} (hs : List (Held (K × V))) where
 
 module _ {K V : Type 0} where
   -- the pairs and the hashes are those of the triples
-  second-triples : (hs : List (Held (K × V))) → map (λ z. z.1) (triples hs) ≡ pairs_of hs
-  second-triples [] = refl
-  second-triples (t ∷ hs) = ap (λ ps. t.pair ∷ ps) (second-triples hs)
-
   pub pairs_of-triples : (hs ks : List (Held (K × V))) → triples ks ≡ triples hs → pairs_of ks ≡ pairs_of hs
-  pairs_of-triples hs ks same = sym (second-triples ks) ∙ ap (map (λ z. z.1)) same ∙ second-triples hs
+  pairs_of-triples hs ks same = sym (pairs-triples ks) ∙ ap (map (λ z. z.1)) same ∙ pairs-triples hs
 
   hashed-triples : (hash : K → ℕ) (hs ks : List (Held (K × V))) → triples ks ≡ triples hs → AllByRecursion (λ u. u.hash ≡ hash u.pair) (bare hs) → AllByRecursion (λ u. u.hash ≡ hash u.pair) (bare ks)
   hashed-triples hash [] [] same all = tt

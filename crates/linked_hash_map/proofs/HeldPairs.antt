@@ -4,7 +4,7 @@ use Rattle.std.specs.Map.{keys_of}
 use Rattle.std.proofs.lemmas.List.{map-append}
 use denote.RawPtr.{Ptr}
 use Rattle.lhm_ring.specs.Cells.{same_ptr}
-use Rattle.lhm_ring.specs.RingState.{Held, change_at}
+use Rattle.lhm_ring.specs.RingState.{Held, change_at, triples}
 use Rattle.lhm_ring.specs.RingAfterLoan.{revalued, set_held_values}
 use Rattle.lhm_ring.specs.Search.{entries}
 use Rattle.linked_hash_map.specs.Nodes.{pairs_of, bare, bare_node, before}
@@ -46,6 +46,11 @@ module _ {K V : Type 0} where
   pub before-bare : (p : Ptr) (hs : List (Held (K × V))) → before p (bare hs) ≡ before p hs
   before-bare p [] = refl
   before-bare p (t ∷ hs) = ap (λ n. cond (same_ptr t.at p) 0 (n + 1)) (before-bare p hs)
+
+  -- with their hashes
+  pub pairs-triples : (hs : List (Held (K × V))) → map (λ t. t.1) (triples hs) ≡ pairs_of hs
+  pairs-triples [] = refl
+  pairs-triples (t ∷ hs) = ap (λ ps. t.pair ∷ ps) (pairs-triples hs)
 
   pub pairs_of-append : (xs ys : List (Held (K × V))) → pairs_of (xs ++ ys) ≡ pairs_of xs ++ pairs_of ys
   pairs_of-append xs ys = map-append (λ (t : Held (K × V)). t.pair) xs ys

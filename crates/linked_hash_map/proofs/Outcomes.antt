@@ -18,12 +18,11 @@ use Rattle.linked_hash_map.specs.declared.replay.Command.TheVariants.{Insert, Wr
 use Rattle.linked_hash_map.specs.declared.replay.Answer.{Answer}
 use Rattle.linked_hash_map.specs.declared.replay.Answer.TheVariants.{New, Old, Found, Missing, Absent, Refused, Pair, Empty, Pairs, Stopped, Done, TooLarge, NoRoom}
 use Rattle.linked_hash_map.proofs.LiveKeys.{none_is, stored-live}
-use Rattle.linked_hash_map.proofs.Pairs.{is_some-value_at, set_value-none, to_back-absent, put-absent}
+use Rattle.linked_hash_map.proofs.Pairs.{is_some-value_at, set_value-none, without-absent, to_back-absent, put-absent}
 use Rattle.linked_hash_map.proofs.Distinct.{distinct-pairs}
 use Rattle.linked_hash_map.proofs.HighWater.{size-high}
 use Rattle.linked_hash_map.proofs.Effects.{size-contents, the_pair, live-found, Defines-nothing, Defines-put, Defines-remove, Defines-write, Defines-refresh, Defines-remove_all, Defines-reserve, Defines-shrink, Defines-pop_front, Defines-pop_back, Defines-set_mode}
 use Rattle.linked_hash_map.proofs.Inserts.{length-insert_each_least}
-use Rattle.linked_hash_map.proofs.Callers.Keys.{without-absent}
 
 value_of_zip : {K V : Type 0} (s : Option K) (w : Option V) (v : V) → is_some s ≡ true → w ≡ Some v → option_map (λ pair. pair.1) (option_zip s w) ≡ Some v
 value_of_zip None w v there h = absurd (true≢false (sym there))
@@ -43,8 +42,8 @@ module _ {K V : Type 0} {eq : K → K → Bool} (laws : IsEquivalence eq) {start
   distinct-defined = subst (λ ps. IsDistinct eq (keys_of ps)) defines.same_pairs (distinct-pairs laws log)
 
   -- what the log says of a key, the pairs say
-  pub find-absent : (k : K) → IsAbsent eq log k → find eq contents k ≡ None
-  find-absent k absent = none_is (find eq contents k) (sym (live-found laws defines k) ∙ absent)
+  pub find-absent_in_log : (k : K) → IsAbsent eq log k → find eq contents k ≡ None
+  find-absent_in_log k absent = none_is (find eq contents k) (sym (live-found laws defines k) ∙ absent)
 
   pub find-live : (k : K) → IsLive eq log k → IsSome (find eq contents k)
   find-live k is_live = sym (live-found laws defines k) ∙ is_live
@@ -92,7 +91,7 @@ not_above limit n most = by_test (nat_lt limit n) refl
 
 module _ {K V : Type 0} {eq : K → K → Bool} (laws : IsEquivalence eq) {start : ℕ} {log : Log K V} {contents : List (K × V)} {room : ℕ} {mode : Mode} (defines : Defines eq start log contents room mode) where
   no_value : (k : K) → IsAbsent eq log k → value_at eq contents k ≡ None
-  no_value k told = ap (option_map (λ pair. pair.1)) (find-absent laws defines k told)
+  no_value k told = ap (option_map (λ pair. pair.1)) (find-absent_in_log laws defines k told)
 
   -- an answer that is no refusal, to each command
   pub insert_outcome : (k : K) (v : V) (answer : Answer K V) → Answers eq start log (Insert k v) answer → is_refusal answer ≡ false → Outcome eq start log contents room mode (Insert k v) answer
@@ -101,17 +100,11 @@ module _ {K V : Type 0} {eq : K → K → Bool} (laws : IsEquivalence eq) {start
   insert_outcome k v (Refused j w) told given = absurd (true≢false given)
   insert_outcome k v _ told given = absurd told
 
-  pub entry_insert_outcome : (k : K) (v : V) (answer : Answer K V) → Answers eq start log (EntryInsert k v) answer → is_refusal answer ≡ false → Outcome eq start log contents room mode (EntryInsert k v) answer
-  entry_insert_outcome k v New told given = (ap (old_or New) (sym (no_value k told)), Defines-put laws defines k v refl refl refl)
-  entry_insert_outcome k v (Old w) told given = (ap (old_or New) (sym (value_at-HasValue laws defines k w told)), Defines-put laws defines k v refl refl refl)
-  entry_insert_outcome k v (Refused j w) told given = absurd (true≢false given)
-  entry_insert_outcome k v _ told given = absurd told
-
   pub or_insert_outcome : (k : K) (v : V) (answer : Answer K V) → Answers eq start log (OrInsert k v) answer → is_refusal answer ≡ false → Outcome eq start log contents room mode (OrInsert k v) answer
   or_insert_outcome k v New told given =
-      let absent = find-absent laws defines k told in
+      let absent = find-absent_in_log laws defines k told in
       let none = ap is_some absent in
-      (ap (λ b. cond b Found New) (sym none), Defines-put laws defines k v (ap (λ b. cond b contents (to_back eq contents k v)) none ∙ sym (to_back-absent eq contents k v absent) ∙ put-absent eq mode contents k v absent) refl refl)
+      (ap (λ b. cond b Found New) (sym none), Defines-put laws defines k v (ap (λ b. cond b contents (to_back eq contents k v)) none ∙ to_back-absent eq contents k v absent ∙ sym (put-absent eq mode contents k v absent)) refl refl)
   or_insert_outcome k v Found told given =
       let there = find-live laws defines k told in
       let same : cond (is_some (find eq contents k)) contents (to_back eq contents k v) ≡ contents = ap (λ b. cond b contents (to_back eq contents k v)) there in
@@ -125,19 +118,14 @@ module _ {K V : Type 0} {eq : K → K → Bool} (laws : IsEquivalence eq) {start
   write_outcome k v (Old w) told = (ap (old_or (Absent k v)) (sym (value_at-HasValue laws defines k w told)), Defines-write laws defines k v refl refl refl)
   write_outcome k v (Absent j w) told = (
     ap₂ (λ key value. Absent key value) told.1 told.2 ∙ ap (old_or (Absent k v)) (sym (no_value k told.0)),
-    Defines-nothing laws defines (set_value-none eq contents k v (find-absent laws defines k told.0)) refl refl,
+    Defines-nothing laws defines (set_value-none eq contents k v (find-absent_in_log laws defines k told.0)) refl refl,
   )
   write_outcome k v _ told = absurd told
 
   pub remove_outcome : (k : K) (answer : Answer K V) → Answers eq start log (Remove k) answer → Outcome eq start log contents room mode (Remove k) answer
   remove_outcome k (Old w) told = (ap (old_or Missing) (sym (value_at-HasValue laws defines k w told)), Defines-remove laws defines k refl refl refl)
-  remove_outcome k Missing told = (ap (old_or Missing) (sym (no_value k told)), Defines-nothing laws defines (without-absent eq contents k (find-absent laws defines k told)) refl refl)
+  remove_outcome k Missing told = (ap (old_or Missing) (sym (no_value k told)), Defines-nothing laws defines (without-absent eq contents k (find-absent_in_log laws defines k told)) refl refl)
   remove_outcome k _ told = absurd told
-
-  pub entry_remove_outcome : (k : K) (answer : Answer K V) → Answers eq start log (EntryRemove k) answer → Outcome eq start log contents room mode (EntryRemove k) answer
-  entry_remove_outcome k (Old w) told = (ap (old_or Missing) (sym (value_at-HasValue laws defines k w told)), Defines-remove laws defines k refl refl refl)
-  entry_remove_outcome k Missing told = (ap (old_or Missing) (sym (no_value k told)), Defines-nothing laws defines (without-absent eq contents k (find-absent laws defines k told)) refl refl)
-  entry_remove_outcome k _ told = absurd told
 
   pub refresh_outcome : (k : K) (answer : Answer K V) → Answers eq start log (Refresh k) answer → Outcome eq start log contents room mode (Refresh k) answer
   refresh_outcome k Found told = (ap (λ b. cond b Found Missing) (sym there), by_value (value_at eq contents k) refl (is_some-value_at eq contents k ∙ there))
@@ -149,7 +137,7 @@ module _ {K V : Type 0} {eq : K → K → Bool} (laws : IsEquivalence eq) {start
       by_value None is some = absurd (true≢false (sym some ∙ ap is_some is))
       by_value (Some v) is some = Defines-refresh laws defines k v (sym is) (ap (to_back_if_some eq contents k) is) refl refl
   refresh_outcome k Missing told = (
-    ap (λ b. cond b Found Missing) (sym (ap is_some (find-absent laws defines k told))),
+    ap (λ b. cond b Found Missing) (sym (ap is_some (find-absent_in_log laws defines k told))),
     Defines-nothing laws defines (ap (to_back_if_some eq contents k) (no_value k told)) refl refl,
   )
   refresh_outcome k _ told = absurd told
@@ -221,8 +209,8 @@ module _ {K V : Type 0} {eq : K → K → Bool} (laws : IsEquivalence eq) {start
   outcome Drain answer told given = drain_outcome answer told given
   outcome (Extend items) answer told given = extend_outcome items answer told given
   outcome (OrInsert k v) answer told given = or_insert_outcome k v answer told given
-  outcome (EntryInsert k v) answer told given = entry_insert_outcome k v answer told given
-  outcome (EntryRemove k) answer told given = entry_remove_outcome k answer told
+  outcome (EntryInsert k v) answer told given = insert_outcome k v answer told given
+  outcome (EntryRemove k) answer told given = remove_outcome k answer told
   outcome (Reserve additional) answer told given = reserve_outcome additional answer told given
   outcome Shrink answer told given = shrink_outcome answer told given
   outcome (SetMode m) answer told given = set_mode_outcome m answer told

@@ -1,14 +1,12 @@
 -- What a pop takes out: the key of the first pair, or of the last.
-use Rattle.std.proofs.Common.{◌≡◌, ◌-◌, Bool, List, length, take, drop, slice_get, Some, None, is_some, sym, ap, ◌∙◌}
+use Rattle.std.proofs.Common.{◌≡◌, ◌-◌, Bool, List, length, take, drop, slice_get, Some, None, sym, ◌∙◌}
 use Rattle.std.specs.Cmp.{IsEquivalence}
 use Rattle.std.specs.List.{IsDistinct}
 use Rattle.std.specs.Map.{keys_of}
-use Rattle.linked_hash_map.specs.Pairs.{find, value_at, without}
+use Rattle.linked_hash_map.specs.Pairs.{without}
 use Rattle.linked_hash_map.specs.Updates.{Updates}
 use Rattle.linked_hash_map.proofs.Effects.{remove-last}
 use Rattle.linked_hash_map.proofs.Indexes.{without-own}
-use Rattle.linked_hash_map.proofs.LiveKeys.{none_is}
-use Rattle.linked_hash_map.proofs.Pairs.{is_some-value_at}
 use Rattle.linked_hash_map.proofs.Callers.Lookups.{drop-first}
 use Rattle.linked_hash_map.proofs.Callers.Updates.{Updates-without}
 
@@ -21,7 +19,3 @@ module _ {K V : Type 0} {eq : K → K → Bool} (laws : IsEquivalence eq) (befor
 
   pub Updates-take_but_last : slice_get before (length before - 1) ≡ Some pair → after ≡ take (length before - 1) before → Updates eq before after pair.0 None
   Updates-take_but_last there is = Updates-without laws before after pair.0 (is ∙ take-but_last there)
-
--- a key that has no value has no pair
-pub find-none : {K V : Type 0} (eq : K → K → Bool) (pairs : List (K × V)) (k : K) → value_at eq pairs k ≡ None → find eq pairs k ≡ None
-find-none eq pairs k none = none_is (find eq pairs k) (sym (is_some-value_at eq pairs k) ∙ ap is_some none)

@@ -10,9 +10,11 @@ use Rattle.linked_hash_map.specs.declared.map.Mode.TheVariants.{Touch}
 use Rattle.linked_hash_map.specs.Pairs.{key_or, find, value_at, without, to_back, set_value, set_or_push, put}
 use Rattle.linked_hash_map.proofs.LiveKeys.{none_is}
 use Rattle.linked_hash_map.proofs.Callers.Lookups.{eq-stored}
-use Rattle.linked_hash_map.proofs.Pairs.{is_some-value_at, filter-none, to_back-absent as absent-to_back, put-absent as absent-put}
--- one pair fewer exactly if the key has one; one more exactly if it has none
-pub use Rattle.linked_hash_map.proofs.Pairs.{length-without, length-put}
+use Rattle.linked_hash_map.proofs.Pairs.{is_some-value_at}
+-- calls with a key that is absent, and one with a key that is present
+pub use Rattle.linked_hash_map.proofs.Pairs.{without-absent, to_back-absent, set_or_push-absent, put-absent, set_or_push-present}
+-- how many pairs there are: one fewer exactly if the key has one; one more exactly if it has none
+pub use Rattle.linked_hash_map.proofs.Pairs.{length-without, length-set_value, length-set_or_push, length-put}
 -- keys that differ still do after an insertion
 pub use Rattle.linked_hash_map.proofs.Inserts.{distinct-to_back, distinct-put, length-put_most}
 
@@ -35,28 +37,6 @@ module _ {K V : Type 0} (eq : K → K → Bool) (pairs : List (K × V)) (k : K) 
 
   pub IsSome-find : (v : V) → value_at eq pairs k ≡ Some v → IsSome (find eq pairs k)
   IsSome-find v found = sym (is_some-value_at eq pairs k) ∙ ap is_some found
-
-  -- a call with a key that is absent
-  pub without-absent : find eq pairs k ≡ None → without eq pairs k ≡ pairs
-  without-absent none = filter-none (eq k) pairs none
-
-  pub to_back-absent : (v : V) → find eq pairs k ≡ None
-      → to_back eq pairs k v ≡ pairs ++ (k, v) ∷ []
-  to_back-absent v none = sym (absent-to_back eq pairs k v none)
-
-  pub set_or_push-absent : (v : V) → find eq pairs k ≡ None
-      → set_or_push eq pairs k v ≡ pairs ++ (k, v) ∷ []
-  set_or_push-absent v none = ap (λ o. cond (is_some o) (set_value eq pairs k v) (pairs ++ (k, v) ∷ [])) none
-
-  -- and with one that is present
-  pub set_or_push-present : (v : V) → IsSome (find eq pairs k)
-      → set_or_push eq pairs k v ≡ set_value eq pairs k v
-  set_or_push-present v found = ap (λ b. cond b (set_value eq pairs k v) (pairs ++ (k, v) ∷ [])) found
-
-pub put-absent : {K V : Type 0} (eq : K → K → Bool) (mode : Mode) (pairs : List (K × V))
-    (k : K) (v : V)
-    → find eq pairs k ≡ None → put eq mode pairs k v ≡ pairs ++ (k, v) ∷ []
-put-absent eq mode pairs k v none = sym (absent-put eq mode pairs k v none)
 
 -- the keys
 keys_of-filter : {K V : Type 0} (kept : K → Bool) (pairs : List (K × V)) → keys_of (filter (λ pair. kept pair.0) pairs) ≡ filter kept (keys_of pairs)
@@ -107,20 +87,6 @@ keys_of-to_back_own {eq = eq} laws pairs k v decides =
 
 -- how many there are
 module _ {K V : Type 0} (eq : K → K → Bool) where
-  pub length-set_value : (pairs : List (K × V)) (k : K) (v : V)
-      → length (set_value eq pairs k v) ≡ length pairs
-  length-set_value [] k v = refl
-  length-set_value (pair ∷ pairs) k v = ap suc (length-set_value pairs k v)
-
-  pub length-set_or_push : (pairs : List (K × V)) (k : K) (v : V)
-      → length (set_or_push eq pairs k v)
-      ≡ cond (is_some (find eq pairs k)) (length pairs) (length pairs + 1)
-  length-set_or_push pairs k v = by_test (is_some (find eq pairs k))
-    where
-      by_test : (b : Bool) → length (cond b (set_value eq pairs k v) (pairs ++ (k, v) ∷ [])) ≡ cond b (length pairs) (length pairs + 1)
-      by_test true = length-set_value pairs k v
-      by_test false = let longer = length-append pairs ((k, v) ∷ []) in omega arith
-
   -- in either mode
   pub length-put_absent : (mode : Mode) (pairs : List (K × V)) (k : K) (v : V)
       → find eq pairs k ≡ None → length (put eq mode pairs k v) ≡ length pairs + 1

@@ -17,7 +17,7 @@ use Rattle.linked_hash_map.specs.declared.replay.Answer.TheVariants.{Found, Miss
 use Rattle.linked_hash_map.specs.declared.replay.Reply.{Reply}
 use Rattle.linked_hash_map.proofs.Effects.{size-contents}
 use Rattle.linked_hash_map.proofs.Runs.{Defines-first_log}
-use Rattle.linked_hash_map.proofs.Outcomes.{outcome, write_outcome, refresh_outcome, remove_outcome, entry_remove_outcome, pop_front_outcome, pop_back_outcome, clear_outcome, set_mode_outcome}
+use Rattle.linked_hash_map.proofs.Outcomes.{outcome, write_outcome, refresh_outcome, remove_outcome, pop_front_outcome, pop_back_outcome, clear_outcome, set_mode_outcome}
 
 -- a run begins with a log that defines the map
 pub Defines-first : {K V S : Type 0} {eq : K → K → Bool} → IsEquivalence eq → {m : LinkedMap K V S}
@@ -86,7 +86,7 @@ module _ {K V : Type 0} {eq : K → K → Bool} (laws : IsEquivalence eq) {start
       → IsReply eq start log (EntryRemove k) reply
       → Replied eq start log (EntryRemove k) reply (old_or Missing (value_at eq contents k))
       (without eq contents k) room mode
-  Replied-entry_remove k reply defines is = let done = entry_remove_outcome laws defines k reply.answer is.allowed.answers in replied laws (EntryRemove k) reply is done.0 done.1
+  Replied-entry_remove k reply defines is = let done = remove_outcome laws defines k reply.answer is.allowed.answers in replied laws (EntryRemove k) reply is done.0 done.1
 
   Replied-pop_front : (reply : Reply K V) → Defines eq start log contents room mode
       → IsReply eq start log PopFront reply

@@ -9,8 +9,9 @@ use Rattle.std.specs.Cmp.{IsEquivalence}
 use Rattle.linked_hash_map.specs.Pairs.{find, value_at, set_value, set_or_push, set_if_some}
 use Rattle.linked_hash_map.proofs.LiveKeys.{none_is}
 use Rattle.linked_hash_map.proofs.Pairs.{set_value-none}
-use Rattle.linked_hash_map.proofs.Indexes as at
 use Rattle.linked_hash_map.proofs.Callers.Keys.{IsSome-find, set_or_push-present}
+-- a value that is set as it was changes nothing
+pub use Rattle.linked_hash_map.proofs.Indexes.{set_value-own}
 
 -- if a call leaves `change v` for a value v, `and_modify` changes the value of a key so
 pub modified : {F X R : Type 0} {g : Once F (MutBor X × Unit {0}) (R × (MutBor X × Unit {0}))}
@@ -21,13 +22,10 @@ modified change None new called leaves = called
 modified change (Some v) None called leaves = absurd called
 modified change (Some v) (Some w) called leaves = ap Some (leaves v w called)
 
--- a value that is written as it was changes nothing
+-- nor does one that is written so
 module _ {K V : Type 0} {eq : K → K → Bool} (laws : IsEquivalence eq) (pairs : List (K × V)) (k : K) (v : V) (distinct : IsDistinct eq (keys_of pairs)) where
-  pub set_value-own : value_at eq pairs k ≡ Some v → set_value eq pairs k v ≡ pairs
-  set_value-own own = at.set_value-own laws k pairs v distinct own
-
   pub set_or_push-own : value_at eq pairs k ≡ Some v → set_or_push eq pairs k v ≡ pairs
-  set_or_push-own own = set_or_push-present eq pairs k v (IsSome-find eq pairs k v own) ∙ set_value-own own
+  set_or_push-own own = set_or_push-present eq pairs k v (IsSome-find eq pairs k v own) ∙ set_value-own laws pairs k v distinct own
 
 module _ {K V : Type 0} (eq : K → K → Bool) where
   -- the later of two writes counts

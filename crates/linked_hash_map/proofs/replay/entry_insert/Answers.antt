@@ -44,7 +44,7 @@ returns-in-Ok g c =
     let same_key : key ≡ c.args.key = entry.key ∙ ap (key_or c.args.key) absent in
     let left = pushed lent_map key value in
     let went_in : left.pairs ≡ put eq m.mode m.pairs c.args.key c.args.value =
-    (λ i. entry.pairs i ++ (same_key i, c.in-Ok.ensures.value i) ∷ []) ∙ put-absent eq m.mode m.pairs c.args.key c.args.value absent in
+    (λ i. entry.pairs i ++ (same_key i, c.in-Ok.ensures.value i) ∷ []) ∙ sym (put-absent eq m.mode m.pairs c.args.key c.args.value absent) in
     let room : left.capacity ≡ max m.capacity (length left.pairs) =
     let longer = length-append lent_map.pairs ((key, value) ∷ []) in let same = entry.keeps.capacity in omega arith in
     Serves-same left (search rules)

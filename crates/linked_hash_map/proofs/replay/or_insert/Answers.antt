@@ -3,9 +3,9 @@ use Rattle.linked_hash_map.specs.Changes.{set_or_pushed}
 use Rattle.linked_hash_map.specs.Pairs.{key_or, find, value_at, put, set_or_push}
 use Rattle.linked_hash_map.specs.Entry.{is_occupied, entry_map, entry_key}
 use Rattle.linked_hash_map.proofs.LiveKeys.{none_is}
-use Rattle.linked_hash_map.proofs.Pairs.{is_some-value_at, put-absent}
+use Rattle.linked_hash_map.proofs.Pairs.{is_some-value_at, find-none, set_or_push-present, set_or_push-absent, put-absent}
 use Rattle.linked_hash_map.proofs.Indexes.{set_value-own}
-use Rattle.linked_hash_map.proofs.EntryFacts.{some_unwrapped, set_or_push-present, set_or_push-absent}
+use Rattle.linked_hash_map.proofs.EntryFacts.{some_unwrapped}
 use Rattle.linked_hash_map.proofs.Effects.{IsFull-contents, IsAbsent-found, IsAbsent-value, HasValue-value, Defines-put, Defines-nothing}
 use Rattle.linked_hash_map.proofs.Runs.{Serves-same}
 use Rattle.linked_hash_map.proofs.replay.or_insert.Goals as goal
@@ -27,8 +27,8 @@ returns-then-present g c =
     let pairs_stay : left.pairs ≡ m.pairs =
     ap (λ ps. set_or_push eq ps key value) entry.pairs
     ∙ entry.acts.sets_or_pushes value
-    ∙ sym (set_or_push-present eq m.pairs k value there)
-    ∙ set_value-own g.met.K.Eq.laws k m.pairs value entry.valid.distinct own in
+    ∙ set_or_push-present eq m.pairs k value there
+    ∙ set_value-own g.met.K.Eq.laws m.pairs k value entry.valid.distinct own in
     let room : left.capacity ≡ m.capacity = let as_long = ap length pairs_stay in let same = entry.keeps.capacity in omega (arith, entry.valid.within) in
     Serves-same left (search rules)
     (record {
@@ -54,8 +54,8 @@ returns-else-present g c =
     let pushed : left.pairs ≡ put eq m.mode m.pairs k c.args.value =
     ap (λ ps. set_or_push eq ps key value) entry.pairs
     ∙ entry.acts.sets_or_pushes value
-    ∙ sym (set_or_push-absent eq m.pairs k value absent)
-    ∙ put-absent eq m.mode m.pairs k value absent
+    ∙ set_or_push-absent eq m.pairs k value absent
+    ∙ sym (put-absent eq m.mode m.pairs k value absent)
     ∙ ap (put eq m.mode m.pairs k) given in
     Serves-same left (search rules)
     (record {
@@ -73,7 +73,7 @@ returns-in-Err g c =
     let refused = c.in-Err.ensures in
     let lent_map = entry_map c.entry-entry.result in
     let none : value_at eq m.pairs k ≡ None = sym entry.value ∙ refused.absent in
-    let absent = none_is (find eq m.pairs k) (sym (is_some-value_at eq m.pairs k) ∙ ap is_some none) in
+    let absent = find-none eq m.pairs k none in
     let same_map = entry.unchanged refused.absent in
     let full : length m.pairs ≡ m.capacity = sym (ap (λ n. length n.pairs) same_map) ∙ refused.full ∙ ap (λ n. n.capacity) same_map in
     Serves-same lent_map (search rules)

@@ -1,5 +1,5 @@
 use Rattle.std.proofs.Common.{sym, ◌∙◌}
-use Rattle.linked_hash_map.proofs.Pairs.{without-absent}
+use Rattle.linked_hash_map.proofs.Pairs.{find-none, without-absent}
 use Rattle.linked_hash_map.proofs.Effects.{IsAbsent-value, HasValue-value, Defines-remove, Defines-nothing}
 use Rattle.linked_hash_map.proofs.replay.remove.Goals as goal
 
@@ -15,8 +15,10 @@ returns-in-Some g c =
 pub returns : goal.returns
 returns g c =
     let done = c.in-None.ensures in
+    let none = find-none g.K.PartialEq.eq c.args.map.now.pairs c.args.key (sym done.value) in
+    let same = without-absent g.K.PartialEq.eq c.args.map.now.pairs c.args.key none in
     record {
       answers = λ start log defines. IsAbsent-value g.met.K.Eq.laws defines c.args.key (sym done.value);
-      defines = λ start log defines. Defines-nothing g.met.K.Eq.laws defines (done.pairs ∙ without-absent g.K.PartialEq.eq c.args.map.now.pairs c.args.key (sym done.value)) done.keeps.capacity done.keeps.mode;
+      defines = λ start log defines. Defines-nothing g.met.K.Eq.laws defines (done.pairs ∙ same) done.keeps.capacity done.keeps.mode;
       hasher = done.keeps.hasher;
     }

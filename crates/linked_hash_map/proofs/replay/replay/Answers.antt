@@ -1,8 +1,7 @@
-use Rattle.std.proofs.Common.{refl, ◌≡◌, ◌∷◌, [], ◌∙◌, sym, subst, map-id, arith, length-append}
+use Rattle.std.proofs.Common.{refl, ◌∷◌, [], ◌∙◌, sym, subst, map-id, arith, length-append}
 use Rattle.std.proofs.lemmas.Iterator.Adapters.{YieldsList-from_vec}
 use Rattle.std.proofs.lemmas.Iterator.Consumers.{YieldsList-end}
-use Rattle.linked_hash_map.specs.Log.{pairs, high, mode}
-use Rattle.linked_hash_map.specs.Run.{IsRun, first_log, last_log}
+use Rattle.linked_hash_map.specs.Run.{Replayed, first_log, last_log}
 use Rattle.linked_hash_map.proofs.Runs.{IsRun-snoc, last_log-snoc, Defines-first_log}
 use Rattle.linked_hash_map.proofs.replay.replay.Goals as goal
 
@@ -36,33 +35,23 @@ loop-command-preserved g c =
       room = rw c.push_reserved.ensures.capacity i.room;
     }
 
-pub returns-clause-run : goal.returns-clause-run
-returns-clause-run g c =
+-- what holds of the commands that the loop took holds of all of them
+pub returns-clause-replayed : goal.returns-clause-replayed
+returns-clause-replayed g c =
     let gives = c.into_iter-command-iterator.ensures.into_iter_gives in
     let end = YieldsList-end (YieldsList-from_vec c.args.commands.items gives.0 (gives.1 ∙ c.args.commands.ok.0)) c.loop-command.yielded c.loop-command.command-iterator c.loop-command.yielded_by c.next.result c.next.new.self c.in-None.is c.next.ensures.steps in
-    let first = first_log c.args.map.now.mode c.args.map.now.pairs in
-    subst (λ cs. IsRun g.K.PartialEq.eq c.args.map.now.capacity first cs c.loop-command.replies.items) (sym (map-id c.loop-command.yielded) ∙ end.0) c.loop-command.invariant.run
+    let i = c.loop-command.invariant in
+    subst (λ cs. Replayed g.K.PartialEq.eq c.args.map.now cs c.loop-command.replies.items c.loop-command.map) (sym (map-id c.loop-command.yielded) ∙ end.0)
+    (record { run = i.run; pairs = sym i.defines.same_pairs; capacity = sym i.defines.same_capacity; mode = sym i.defines.same_mode })
+
+pub returns-clause-run : goal.returns-clause-run
+returns-clause-run g c = (returns-clause-replayed g c).run
 
 pub returns-clause-pairs : goal.returns-clause-pairs
-returns-clause-pairs g c =
-    let gives = c.into_iter-command-iterator.ensures.into_iter_gives in
-    let end = YieldsList-end (YieldsList-from_vec c.args.commands.items gives.0 (gives.1 ∙ c.args.commands.ok.0)) c.loop-command.yielded c.loop-command.command-iterator c.loop-command.yielded_by c.next.result c.next.new.self c.in-None.is c.next.ensures.steps in
-    let first = first_log c.args.map.now.mode c.args.map.now.pairs in
-    subst (λ cs. c.loop-command.map.pairs ≡ pairs g.K.PartialEq.eq (last_log g.K.PartialEq.eq first cs c.loop-command.replies.items)) (sym (map-id c.loop-command.yielded) ∙ end.0) (sym c.loop-command.invariant.defines.same_pairs)
+returns-clause-pairs g c = (returns-clause-replayed g c).pairs
 
 pub returns-clause-capacity : goal.returns-clause-capacity
-returns-clause-capacity g c =
-    let gives = c.into_iter-command-iterator.ensures.into_iter_gives in
-    let end = YieldsList-end (YieldsList-from_vec c.args.commands.items gives.0 (gives.1 ∙ c.args.commands.ok.0)) c.loop-command.yielded c.loop-command.command-iterator c.loop-command.yielded_by c.next.result c.next.new.self c.in-None.is c.next.ensures.steps in
-    let first = first_log c.args.map.now.mode c.args.map.now.pairs in
-    subst (λ cs. c.loop-command.map.capacity ≡ high g.K.PartialEq.eq c.args.map.now.capacity (last_log g.K.PartialEq.eq first cs c.loop-command.replies.items)) (sym (map-id c.loop-command.yielded) ∙ end.0) (sym c.loop-command.invariant.defines.same_capacity)
+returns-clause-capacity g c = (returns-clause-replayed g c).capacity
 
 pub returns-clause-mode : goal.returns-clause-mode
-returns-clause-mode g c =
-    let gives = c.into_iter-command-iterator.ensures.into_iter_gives in
-    let end = YieldsList-end (YieldsList-from_vec c.args.commands.items gives.0 (gives.1 ∙ c.args.commands.ok.0)) c.loop-command.yielded c.loop-command.command-iterator c.loop-command.yielded_by c.next.result c.next.new.self c.in-None.is c.next.ensures.steps in
-    let first = first_log c.args.map.now.mode c.args.map.now.pairs in
-    subst (λ cs. c.loop-command.map.mode ≡ mode (last_log g.K.PartialEq.eq first cs c.loop-command.replies.items)) (sym (map-id c.loop-command.yielded) ∙ end.0) (sym c.loop-command.invariant.defines.same_mode)
-
-pub returns-clause-replayed : goal.returns-clause-replayed
-returns-clause-replayed g c = record { run = returns-clause-run g c; pairs = returns-clause-pairs g c; capacity = returns-clause-capacity g c; mode = returns-clause-mode g c }
+returns-clause-mode g c = (returns-clause-replayed g c).mode

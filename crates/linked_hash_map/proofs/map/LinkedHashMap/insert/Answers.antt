@@ -97,7 +97,7 @@ pub returns-clause-pairs : goal.returns-clause-pairs
 returns-clause-pairs g c =
     c.push_back.ensures.pairs
     ∙ ap (λ pairs. pairs ++ (c.args.key, c.args.value) ∷ []) c.make_room.ensures.pairs
-    ∙ put-absent g.K.PartialEq.eq c.args.self.now.mode c.args.self.now.pairs c.args.key c.args.value (absent g c)
+    ∙ sym (put-absent g.K.PartialEq.eq c.args.self.now.mode c.args.self.now.pairs c.args.key c.args.value (absent g c))
 
 pub returns-clause-to_visit : goal.returns-clause-to_visit
 returns-clause-to_visit g c =

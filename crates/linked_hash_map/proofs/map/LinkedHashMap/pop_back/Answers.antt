@@ -6,7 +6,8 @@ use Rattle.linked_hash_map.proofs.CutNodes.{CutAt-before}
 use Rattle.linked_hash_map.proofs.Kept.{IsValid-view}
 use Rattle.linked_hash_map.proofs.Current.{last_lies, last_index}
 use Rattle.linked_hash_map.proofs.Effects.{remove-last}
-use Rattle.linked_hash_map.proofs.Pops.{find-none, Updates-take_but_last}
+use Rattle.linked_hash_map.proofs.Pairs.{find-none}
+use Rattle.linked_hash_map.proofs.Pops.{Updates-take_but_last}
 use Rattle.linked_hash_map.proofs.TakenNode.{pair-removed, pairs-removed, IsKept-removed}
 use Rattle.linked_hash_map.proofs.map.LinkedHashMap.pop_back.Goals as goal
 

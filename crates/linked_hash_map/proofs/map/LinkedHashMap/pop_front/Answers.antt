@@ -5,7 +5,8 @@ use Rattle.linked_hash_map.specs.Nodes.{pairs_of}
 use Rattle.linked_hash_map.proofs.Kept.{IsValid-view}
 use Rattle.linked_hash_map.proofs.Current.{first_lies, first_index}
 use Rattle.linked_hash_map.proofs.Effects.{remove-first}
-use Rattle.linked_hash_map.proofs.Pops.{find-none, Updates-drop_first}
+use Rattle.linked_hash_map.proofs.Pairs.{find-none}
+use Rattle.linked_hash_map.proofs.Pops.{Updates-drop_first}
 use Rattle.linked_hash_map.proofs.TakenNode.{pair-removed, pairs-removed, IsKept-removed}
 use Rattle.linked_hash_map.proofs.map.LinkedHashMap.pop_front.Goals as goal
 
