@@ -1,18 +1,19 @@
 -- A ring of which only what is held at one pointer changes.
-use Rattle.std.proofs.Common.{◌≡◌, ℕ, suc, zero, true, false, cond, List, [], ◌∷◌, ◌++◌, map, length, Option, Some, None, refl, sym, ap, ◌∙◌, subst, append_assoc}
-use Rattle.std.specs.List.{AllByRecursion}
+use Rattle.std.proofs.Common.{◌≡◌, ℕ, true, false, cond, List, [], ◌∷◌, ◌++◌, length, Option, Some, None, refl, sym, ap, ◌∙◌, subst, append_assoc}
 use denote.RawPtr.{Ptr, null_ptr}
 use Rattle.lhm_ring.specs.declared.links.Links.{Links}
 use Rattle.lhm_ring.specs.Cells.{Cell, cell, same_ptr, links_of, body_of, links_at, body_at, IsApart, with_links, with_body}
-use Rattle.lhm_ring.specs.Rings.{relinked, next_of, prev_of, link_of, has_links, next_at, prev_at, link_at, is_there, content_of, content_at, Linked, Chained, HasContent, IsRing, follow, listed, one_of, ring_list, RingOk}
+use Rattle.lhm_ring.specs.Rings.{relinked, next_of, prev_of, link_of, has_links, next_at, prev_at, link_at, is_there, content_of, content_at, HasContent, follow, listed, one_of, ring_list, RingOk}
 use Rattle.lhm_ring.specs.RingState.{State, state, Held, held, IsHeld, ChangesOnly, change_at}
 use Rattle.lhm_ring.specs.Splits.{SplitAround}
 use Rattle.lhm_ring.specs.Targets.{target}
 use Rattle.lhm_ring.specs.declared.link.Link.{Link}
 use Rattle.lhm_ring.proofs.Apart.{IsFresh, same_ptr-equal, same_ptr-reflexive, same_ptr-symmetric}
 use Rattle.lhm_ring.proofs.Writes.{cell_at-change_other, length-change, reader-with_links_same, links_at-with_links, body_at-with_links}
-use Rattle.lhm_ring.proofs.Rows.{AllByRecursion-map, AllByRecursion-right, at-content_of, IsFresh-middle, IsFresh-head, IsApart-left, IsApart-tail}
-use Rattle.lhm_ring.proofs.RingNodes.{ring_list-listed, Found-listed}
+use Rattle.lhm_ring.proofs.Rows.{AllByRecursion-map, AllByRecursion-right, at-content_of, IsFresh-middle, IsFresh-head, IsApart-tail}
+use Rattle.lhm_ring.proofs.RingNodes.{Found-listed}
+use Rattle.lhm_ring.proofs.HeldPointers.{pointers_of, same_ptr-fresh, IsApart-ring_list}
+use Rattle.lhm_ring.proofs.SameNodes.{SameLink, follow-same, RingOk-same}
 use Rattle.lhm_ring.proofs.Splicing.{next_of-relinked, prev_of-relinked, link_of-relinked, hash-relinked}
 use Rattle.lhm_ring.proofs.OneNodeChanged.{links_at-with_body, body_at-with_body, hash-content_of, link-content_of, pair-content_of, content_of-holds}
 
@@ -28,36 +29,11 @@ pub record ChangesAt {B : Type 0} (cs ds : List (Cell Links B)) (p : Ptr) (t u :
   pub count : length ds ≡ length cs
 
 module _ {B : Type 0} (cs ds : List (Cell Links B)) (p : Ptr) (t u : Held B) (j : ChangesAt cs ds p t u) where
-  Linked-changed : (s : List Ptr) → Linked cs s → Linked ds s
-  Linked-changed [] k = tt
-  Linked-changed (y ∷ []) k = tt
-  Linked-changed (y ∷ z ∷ r) k = ((j.next y ∙ k.0.0, j.prev z ∙ k.0.1), Linked-changed (z ∷ r) k.1)
-
-  Chained-changed : (h : Option Ptr) (ss : List Ptr) → IsFresh p ss → Chained cs h ss
-      → Chained ds h ss
-  Chained-changed h [] f k = k
-  Chained-changed h (y ∷ ys) f k = (k.0, Chained-changed (link_at ds y) ys f.1 (subst (λ z. Chained cs z ys) (sym (j.link y f.0)) k.1))
-
-  pub follow-changed : (n : ℕ) (q : Ptr) → follow ds n q ≡ follow cs n q
-  unfolding follow
-  follow-changed zero q = refl
-  follow-changed (suc n) q = (λ i. j.next q i ∷ follow ds n (j.next q i)) ∙ ap (λ r. next_at cs q ∷ r) (follow-changed n (next_at cs q))
-
   HasContent-changed : (q : Ptr) → HasContent cs q → HasContent ds q
   HasContent-changed q h = (elim (same_ptr p q) as (λ y. same_ptr p q ≡ y → HasContent ds q) [
     | true ↦ λ s. subst (HasContent ds) (same_ptr-equal p q s) (u, j.is)
     | false ↦ λ n. (h.0, j.content q n ∙ h.1)
   ]) refl
-
-  pub IsRing-changed : (ps : List Ptr) (spare : Option Ptr) (ss : List Ptr) → IsFresh p ss → IsRing cs ps spare ss → IsRing ds ps spare ss
-  IsRing-changed ps spare ss f r = record {
-    linked = Linked-changed (null_ptr ∷ (ps ++ null_ptr ∷ [])) r.linked;
-    chained = Chained-changed spare ss f r.chained;
-    held = AllByRecursion-map (HasContent cs) (HasContent ds) HasContent-changed ps r.held;
-    there = AllByRecursion-map (λ q. is_there cs q ≡ true) (λ q. is_there ds q ≡ true) (λ q h. j.there q ∙ h) (null_ptr ∷ (ps ++ ss)) r.there;
-    apart = r.apart;
-    count = j.count ∙ r.count;
-  }
 
   IsFresh-spare : (spare : Link) (n m : ℕ) (ok : RingOk cs spare n m) → SplitAround ok.held_pointers p → IsFresh p ok.spare_pointers
   IsFresh-spare spare n m ok s =
@@ -67,14 +43,8 @@ module _ {B : Type 0} (cs ds : List (Cell Links B)) (p : Ptr) (t u : Held B) (j 
   pub RingOk-changed : (spare : Link) (n m : ℕ) → RingOk cs spare n m → IsHeld (ring_list cs n) p → RingOk ds spare n m
   RingOk-changed spare n m ok h =
       let s = (Found-listed cs spare n m ok p h.before h.node h.after h.is h.at_is).split in
-      record {
-        held_pointers = ok.held_pointers;
-        spare_pointers = ok.spare_pointers;
-        ring = IsRing-changed ok.held_pointers (target spare) ok.spare_pointers (IsFresh-spare spare n m ok s) ok.ring;
-        held_count = ok.held_count;
-        enough_spares = ok.enough_spares;
-        bounded = ok.bounded;
-      }
+      RingOk-same cs ds j.next j.prev j.there j.count spare n m ok (AllByRecursion-map (HasContent cs) (HasContent ds) HasContent-changed ok.held_pointers ok.ring.held)
+      (AllByRecursion-map (λ q. same_ptr p q ≡ false) (SameLink cs ds) j.link ok.spare_pointers (IsFresh-spare spare n m ok s))
 
   module _ (f : Held B → Held B) (fx : f t ≡ u) where
     pointer : t.at ≡ p
@@ -104,7 +74,7 @@ module _ {B : Type 0} (cs ds : List (Cell Links B)) (p : Ptr) (t u : Held B) (j 
     listed-changed (q ∷ qs) = (λ i. one_of-changed q i ++ listed-changed qs i) ∙ sym (change_at-append (one_of (content_at cs q)) (listed cs qs))
 
     pub ring_list-changed : (n : ℕ) → ring_list ds n ≡ change_at p f (ring_list cs n)
-    ring_list-changed n = ap (listed ds) (follow-changed n null_ptr) ∙ listed-changed (follow cs n null_ptr)
+    ring_list-changed n = ap (listed ds) (follow-same cs ds j.next n null_ptr) ∙ listed-changed (follow cs n null_ptr)
 
 -- the body of a node is written, or its chain link
 module _ {B : Type 0} (cs : List (Cell Links B)) (p : Ptr) (l : Links) (e : links_at cs p ≡ Some l) (t : Held B) (c : content_at cs p ≡ Some t) where
@@ -149,31 +119,18 @@ module _ {B : Type 0} (cs : List (Cell Links B)) (p : Ptr) (l : Links) (e : link
 
 -- what is held lies at pointers that are apart, so that a change of one is a change of no other
 module _ {B : Type 0} where
-  pointers-listed : (cs : List (Cell Links B)) (ps : List Ptr) → AllByRecursion (HasContent cs) ps → map (λ (t : Held B). t.at) (listed cs ps) ≡ ps
-  unfolding listed
-  pointers-listed cs [] a = refl
-  pointers-listed cs (p ∷ ps) a = ap (λ o. map (λ (t : Held B). t.at) (one_of o ++ listed cs ps)) a.0.1 ∙ (λ i. at-content_of p (links_at cs p) (body_at cs p) a.0.0 a.0.1 i ∷ pointers-listed cs ps a.1 i)
-
-  IsApart-ring_list : (cs : List (Cell Links B)) (spare : Link) (n m : ℕ) → RingOk cs spare n m → IsApart (map (λ (t : Held B). t.at) (ring_list cs n))
-  IsApart-ring_list cs spare n m ok =
-      subst IsApart (sym (ap (map (λ (t : Held B). t.at)) (ring_list-listed cs ok.held_pointers (target spare) ok.spare_pointers n ok.ring ok.held_count) ∙ pointers-listed cs ok.held_pointers ok.ring.held)) (IsApart-left ok.held_pointers ok.spare_pointers (IsApart-tail null_ptr (ok.held_pointers ++ ok.spare_pointers) ok.ring.apart))
-
-  change_at-fresh : (p : Ptr) (f : Held B → Held B) (ys : List (Held B)) → IsFresh p (map (λ (t : Held B). t.at) ys) → change_at p f ys ≡ ys
+  change_at-fresh : (p : Ptr) (f : Held B → Held B) (ys : List (Held B)) → IsFresh p (pointers_of ys) → change_at p f ys ≡ ys
   change_at-fresh p f [] d = refl
   change_at-fresh p f (y ∷ ys) d = λ i. cond ((same_ptr-symmetric y.at p ∙ d.0) i) (f y) y ∷ change_at-fresh p f ys d.1 i
 
-  same_ptr-fresh : (q p : Ptr) (xs : List (Held B)) (t : Held B) (ys : List (Held B)) → t.at ≡ p → IsFresh q (map (λ (t : Held B). t.at) (xs ++ t ∷ ys)) → same_ptr q p ≡ false
-  same_ptr-fresh q p [] t ys at d = ap (same_ptr q) (sym at) ∙ d.0
-  same_ptr-fresh q p (x ∷ xs) t ys at d = same_ptr-fresh q p xs t ys at d.1
-
-  change_at-split : (p : Ptr) (f : Held B → Held B) (xs : List (Held B)) (t : Held B) (ys : List (Held B)) → t.at ≡ p → IsApart (map (λ (t : Held B). t.at) (xs ++ t ∷ ys)) → change_at p f (xs ++ t ∷ ys) ≡ xs ++ f t ∷ ys
+  change_at-split : (p : Ptr) (f : Held B → Held B) (xs : List (Held B)) (t : Held B) (ys : List (Held B)) → t.at ≡ p → IsApart (pointers_of (xs ++ t ∷ ys)) → change_at p f (xs ++ t ∷ ys) ≡ xs ++ f t ∷ ys
   change_at-split p f [] t ys at d =
-      let free = subst (λ q. IsFresh q (map (λ (t : Held B). t.at) ys)) at (IsFresh-head t.at (map (λ (t : Held B). t.at) ys) d) in
+      let free = subst (λ q. IsFresh q (pointers_of ys)) at (IsFresh-head t.at (pointers_of ys) d) in
       λ i. cond ((ap (λ q. same_ptr q p) at ∙ same_ptr-reflexive p) i) (f t) t ∷ change_at-fresh p f ys free i
   change_at-split p f (x ∷ xs) t ys at d =
-      let far = IsFresh-head x.at (map (λ (t : Held B). t.at) (xs ++ t ∷ ys)) d in
-      λ i. cond (same_ptr-fresh x.at p xs t ys at far i) (f x) x ∷ change_at-split p f xs t ys at (IsApart-tail x.at (map (λ (t : Held B). t.at) (xs ++ t ∷ ys)) d) i
+      let far = IsFresh-head x.at (pointers_of (xs ++ t ∷ ys)) d in
+      λ i. cond ((ap (same_ptr x.at) (sym at) ∙ same_ptr-fresh x.at xs t ys far) i) (f x) x ∷ change_at-split p f xs t ys at (IsApart-tail x.at (pointers_of (xs ++ t ∷ ys)) d) i
 
   pub ChangesOnly-held : (cs : List (Cell Links B)) (spare : Link) (n m : ℕ) (v : State B) {total : ℕ} → RingOk cs spare n m → state (ring_list cs n) m total ≡ v → (p : Ptr) → ChangesOnly v.held p
   ChangesOnly-held cs spare n m v ok w p xs t ys e at f =
-      ap (change_at p f) e ∙ change_at-split p f xs t ys at (subst (λ hs. IsApart (map (λ (t : Held B). t.at) hs)) (ap (λ (z : State B). z.held) w ∙ e) (IsApart-ring_list cs spare n m ok))
+      ap (change_at p f) e ∙ change_at-split p f xs t ys at (subst (λ hs. IsApart (pointers_of hs)) (ap (λ (z : State B). z.held) w ∙ e) (IsApart-ring_list cs spare n m ok))

@@ -1,11 +1,11 @@
 -- The node at an end of what a ring holds.
-use Rattle.std.proofs.Common.{◌≡◌, ℕ, List, [], ◌∷◌, ◌++◌, Option, Some, None, refl, sym, ap, ◌∙◌, append-nil}
+use Rattle.std.proofs.Common.{◌≡◌, ℕ, suc, ◌≤◌, List, [], ◌∷◌, ◌++◌, length, Option, Some, None, refl, sym, ap, ◌∙◌, arith, append-nil, length-append}
 use Rattle.std.specs.List.{AllZip}
 use Rattle.std.proofs.lemmas.List.{map-append}
 use denote.RawPtr.{Ptr}
 use Rattle.lhm_ring.specs.Splits.{SplitFirst, SplitLast}
 use Rattle.lhm_ring.specs.RingState.{Held, IsHeld, first_at, last_at, last_of, triples}
-use Rattle.lhm_ring.proofs.Options.{Some-injective}
+use Rattle.lhm_ring.proofs.Options.{none_some, Some-injective}
 
 -- a node at p comes first, or last
 abbrev pub First : {B : Type 0} → List (Held B) → Ptr → Type 0
@@ -29,6 +29,10 @@ module _ {B : Type 0} where
       let r = Last-last_of t hs in
       record { before = r.before; node = r.node; is = r.is; at_is = r.at_is ∙ Some-injective (last_of t hs) p (sym e ∙ h) }
 
+  pub none-first_at : (hs : List (Held B)) → None ≡ first_at hs → hs ≡ []
+  none-first_at [] h = refl
+  none-first_at (t ∷ hs) h = absurd (none_some t.at h)
+
   -- the node, cut out of what is held
   module _ {hs : List (Held B)} {p : Ptr} where
     abbrev pub first_held : First hs p → IsHeld hs p
@@ -36,6 +40,10 @@ module _ {B : Type 0} where
 
     abbrev pub last_held : Last hs p → IsHeld hs p
     last_held l = record { before = l.before; node = l.node; after = []; is = l.is; at_is = l.at_is }
+
+  -- one less is held once a triple was removed
+  pub length-removed : (hs us xs : List (Held B)) (t : Held B) (ys : List (Held B)) → hs ≡ xs ++ t ∷ ys → us ≡ xs ++ ys → suc (length us) ≤ length hs
+  length-removed hs us xs t ys e f = let a = ap length e in let b = ap length f in omega (arith, length-append xs (t ∷ ys), length-append xs ys)
 
 -- the triples, once that at an end was removed
 module _ {K V : Type 0} {hs : List (Held (K × V))} {p : Ptr} where

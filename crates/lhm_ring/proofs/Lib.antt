@@ -7,12 +7,12 @@ pub mod Chains
 pub mod ContentChange
 pub mod ContentTaken
 pub mod ContentsSplitOff
-pub mod DroppedRing
 pub mod Ends
 pub mod Entries
 pub mod FieldSeen
 pub mod Filters
 pub mod FirstAndLast
+pub mod HeldPointers
 pub mod IndexMoves
 pub mod IndexPuts
 pub mod IndexTakes
@@ -41,6 +41,7 @@ pub mod RingNodes
 pub mod RingSpans
 pub mod Rooms
 pub mod Rows
+pub mod SameNodes
 pub mod Searches
 pub mod Sharing
 pub mod Spans

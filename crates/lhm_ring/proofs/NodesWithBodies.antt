@@ -1,15 +1,16 @@
 -- Nodes with the bodies of a run in them, and nodes with none.
 use Rattle.std.proofs.Common.{◌≡◌, ℕ, true, false, cond, List, [], ◌∷◌, length, suc, Option, Some, None, refl, sym, ap, ◌∙◌, subst, arith}
-use denote.RawPtr.{Ptr, null_ptr}
+use Rattle.std.specs.List.{AllByRecursion}
+use denote.RawPtr.{Ptr}
 use Rattle.lhm_ring.specs.declared.links.Links.{Links}
 use Rattle.lhm_ring.specs.Cells.{Cell, cell, cell_at, same_ptr, IsApart, pointers, links_of, body_of, links_at, body_at, change, with_body}
-use Rattle.lhm_ring.specs.Rings.{next_of, prev_of, link_of, has_links, link_at, is_there, Linked, Chained, IsRing, RingOk}
+use Rattle.lhm_ring.specs.Rings.{next_of, prev_of, link_of, has_links, HasContent, RingOk}
 use Rattle.lhm_ring.specs.ContentLoan.{body_in, without_body, bodies_of, with_bodies, cleared}
-use Rattle.lhm_ring.specs.Targets.{target}
 use Rattle.lhm_ring.specs.declared.link.Link.{Link}
 use Rattle.lhm_ring.proofs.Apart.{IsFresh, same_ptr-equal, same_ptr-reflexive, same_ptr-symmetric}
 use Rattle.lhm_ring.proofs.Options.{none_some}
-use Rattle.lhm_ring.proofs.Rows.{AllByRecursion-map, IsFresh-head, IsApart-tail}
+use Rattle.lhm_ring.proofs.SameNodes.{SameLink, RingOk-same}
+use Rattle.lhm_ring.proofs.Rows.{AllByRecursion-always, IsFresh-head, IsApart-tail}
 
 module _ {B : Type 0} where
   body_in-without_body : (p : Ptr) (run : List (Ptr × Option B))
@@ -90,33 +91,13 @@ module _ {L B : Type 0} where
   length-cleared [] = refl
   length-cleared (c ∷ cs) = ap suc (length-cleared cs)
 
+AllByRecursion-none : {X : Type 0} (P : X → Type 0) (xs : List X) → length xs ≡ 0 → AllByRecursion P xs
+AllByRecursion-none P [] e = tt
+AllByRecursion-none P (x ∷ xs) e = absurd (omega arith)
+
 module _ {B : Type 0} (cs : List (Cell Links B)) where
-  Linked-cleared : (s : List Ptr) → Linked cs s → Linked (cleared cs) s
-  Linked-cleared [] k = tt
-  Linked-cleared (y ∷ []) k = tt
-  Linked-cleared (y ∷ z ∷ r) k = ((ap next_of (links_at-cleared cs y) ∙ k.0.0, ap prev_of (links_at-cleared cs z) ∙ k.0.1), Linked-cleared (z ∷ r) k.1)
-
-  Chained-cleared : (h : Option Ptr) (ss : List Ptr) → Chained cs h ss → Chained (cleared cs) h ss
-  Chained-cleared h [] k = k
-  Chained-cleared h (y ∷ ys) k = (k.0, Chained-cleared (link_at (cleared cs) y) ys (subst (λ z. Chained cs z ys) (sym (ap link_of (links_at-cleared cs y))) k.1))
-
-  IsRing-cleared : (ps : List Ptr) (spare : Option Ptr) (ss : List Ptr) → length ps ≡ 0 → IsRing cs ps spare ss → IsRing (cleared cs) ps spare ss
-  IsRing-cleared (p ∷ ps) spare ss e r = absurd (omega arith)
-  IsRing-cleared [] spare ss e r = record {
-    linked = Linked-cleared (null_ptr ∷ null_ptr ∷ []) r.linked;
-    chained = Chained-cleared spare ss r.chained;
-    held = tt;
-    there = AllByRecursion-map (λ q. is_there cs q ≡ true) (λ q. is_there (cleared cs) q ≡ true) (λ q h. ap has_links (links_at-cleared cs q) ∙ h) (null_ptr ∷ ss) r.there;
-    apart = r.apart;
-    count = length-cleared cs ∙ r.count;
-  }
-
   pub RingOk-cleared : (spare : Link) (n m : ℕ) → n ≡ 0 → RingOk cs spare n m → RingOk (cleared cs) spare n m
-  RingOk-cleared spare n m e ok = record {
-    held_pointers = ok.held_pointers;
-    spare_pointers = ok.spare_pointers;
-    ring = IsRing-cleared ok.held_pointers (target spare) ok.spare_pointers (ok.held_count ∙ e) ok.ring;
-    held_count = ok.held_count;
-    enough_spares = ok.enough_spares;
-    bounded = ok.bounded;
-  }
+  RingOk-cleared spare n m e ok =
+      let same = links_at-cleared cs in
+      RingOk-same cs (cleared cs) (λ q. ap next_of (same q)) (λ q. ap prev_of (same q)) (λ q. ap has_links (same q)) (length-cleared cs) spare n m ok
+      (AllByRecursion-none (HasContent (cleared cs)) ok.held_pointers (ok.held_count ∙ e)) (AllByRecursion-always (SameLink cs (cleared cs)) (λ q. ap link_of (same q)) ok.spare_pointers)

@@ -9,7 +9,8 @@ use Rattle.lhm_ring.specs.RingState.{Held, held}
 use Rattle.lhm_ring.proofs.Apart.{IsFresh, same_ptr-equal}
 use Rattle.lhm_ring.proofs.Options.{none_some, Some-injective}
 use Rattle.lhm_ring.proofs.Writes.{cell_at-change, cell_at-change_other, length-change, reader-with_links_same, links_of-seen}
-use Rattle.lhm_ring.proofs.Rows.{AllByRecursion-append, AllByRecursion-left, AllByRecursion-right, AllByRecursion-removed, IsApart-left, IsFresh-middle, IsApart-removed, IsApart-inserted, Chained-kept, AllByRecursion-content_kept, AllByRecursion-there_kept, listed-kept, listed-append, Linked-pushed}
+use Rattle.lhm_ring.proofs.Rows.{AllByRecursion-map, AllByRecursion-append, AllByRecursion-left, AllByRecursion-right, AllByRecursion-removed, IsApart-left, IsFresh-middle, IsApart-removed, IsApart-inserted, Chained-kept, AllByRecursion-content_kept, AllByRecursion-there_kept, listed-kept, listed-append, Linked-pushed}
+use Rattle.lhm_ring.proofs.SameNodes.{SameLink, Chained-same}
 use Rattle.lhm_ring.proofs.Moves.{listed-one}
 
 -- every node except the one at p is as it was
@@ -54,8 +55,7 @@ module _ {B : Type 0} where
     Linked-other (x ∷ y ∷ r) f l = ((ap (λ z. next_of (links_of z)) (other x f.0) ∙ l.0.0, ap (λ z. prev_of (links_of z)) (other y f.1.0) ∙ l.0.1), Linked-other (y ∷ r) f.1 l.1)
 
     pub Chained-other : (h : Option Ptr) (ss : List Ptr) → IsFresh p ss → Chained cs h ss → Chained ds h ss
-    Chained-other h [] f c = c
-    Chained-other h (x ∷ xs) f c = (c.0, Chained-other (link_at ds x) xs f.1 (subst (λ z. Chained cs z xs) (sym (ap (λ z. link_of (links_of z)) (other x f.0))) c.1))
+    Chained-other h ss f = Chained-same cs ds h ss (AllByRecursion-map (λ q. same_ptr p q ≡ false) (SameLink cs ds) (λ q n. ap (λ z. link_of (links_of z)) (other q n)) ss f)
 
     content_at-other : (q : Ptr) → same_ptr p q ≡ false → content_at ds q ≡ content_at cs q
     content_at-other q n = ap (λ z. content_of q (links_of z) (body_of z)) (other q n)

@@ -1,6 +1,5 @@
 -- A table as a closure goes over its pairs and keeps some.
 use Rattle.std.proofs.Common.{◌≡◌, ℕ, ◌<◌, Bool, true, false, cond, List, [], ◌∷◌, ◌++◌, map, length, Option, Some, None, refl, sym, ap, ◌∙◌, subst, append_assoc, arith}
-use Rattle.std.proofs.lemmas.List.{map-append}
 use Rattle.std.specs.Map.Calls.{CallableOnEachPair, SomeCallAtPair}
 use denote.RawPtr.{Ptr}
 use Rattle.lhm_ring.specs.Cells.{Cell, cell, same_ptr, IsApart, change, with_body}
@@ -8,8 +7,9 @@ use Rattle.lhm_ring.specs.RingState.{State, Held, IsHeld, AtHeld, first_at, chan
 use Rattle.lhm_ring.specs.RingAfterLoan.{revalued}
 use Rattle.lhm_ring.specs.Tables.{TableState, table_of, WritesOnly}
 use Rattle.lhm_ring.specs.Retains.{TakesAt, CallsAt, RetainsAt, RetainsHeld, IsRetaining, left_from}
-use Rattle.lhm_ring.proofs.Apart.{IsFresh, same_ptr-reflexive}
-use Rattle.lhm_ring.proofs.Rows.{IsFresh-head, IsApart-tail, IsApart-removed}
+use Rattle.lhm_ring.proofs.Apart.{same_ptr-reflexive}
+use Rattle.lhm_ring.proofs.Rows.{IsFresh-head, IsApart-tail}
+use Rattle.lhm_ring.proofs.HeldPointers.{pointers_of, pointers_of-append, same_ptr-fresh, IsApart-without_node}
 use Rattle.lhm_ring.proofs.Ends.{First, First-first_at}
 use Rattle.lhm_ring.proofs.Tables.{EntriesCut-split}
 
@@ -29,27 +29,12 @@ module _ {L B : Type 0} where
 
 -- how many are left, if no two lie at one pointer
 module _ {B : Type 0} where
-  abbrev pub pointers_of : List (Held B) → List Ptr
-  pointers_of hs = map (λ t. t.at) hs
-
-  same_ptr-fresh : (p : Ptr) (xs : List (Held B)) (y : Held B) (ys : List (Held B)) → IsFresh p (pointers_of (xs ++ y ∷ ys)) → same_ptr p y.at ≡ false
-  same_ptr-fresh p [] y ys f = f.0
-  same_ptr-fresh p (x ∷ xs) y ys f = same_ptr-fresh p xs y ys f.1
-
   pub left_from-append : (xs ys : List (Held B)) → IsApart (pointers_of (xs ++ ys)) → left_from (first_at ys) (xs ++ ys) ≡ length ys
   left_from-append xs [] d = refl
   left_from-append [] (y ∷ ys) d = ap (λ b. cond b (length (y ∷ ys)) (left_from (Some y.at) ys)) (same_ptr-reflexive y.at)
   left_from-append (x ∷ xs) (y ∷ ys) d =
       ap (λ b. cond b (length (x ∷ (xs ++ y ∷ ys))) (left_from (Some y.at) (xs ++ y ∷ ys))) (same_ptr-fresh x.at xs y ys (IsFresh-head x.at (pointers_of (xs ++ y ∷ ys)) d))
       ∙ left_from-append xs (y ∷ ys) (IsApart-tail x.at (pointers_of (xs ++ y ∷ ys)) d)
-
-  pub pointers_of-append : (xs ys : List (Held B)) → pointers_of (xs ++ ys) ≡ pointers_of xs ++ pointers_of ys
-  pointers_of-append xs ys = map-append (λ (t : Held B). t.at) xs ys
-
-  -- without one of them
-  pub IsApart-without_node : (xs : List (Held B)) (t : Held B) (ys : List (Held B)) → IsApart (pointers_of (xs ++ t ∷ ys)) → IsApart (pointers_of (xs ++ ys))
-  IsApart-without_node xs t ys d =
-      subst IsApart (sym (pointers_of-append xs ys)) (IsApart-removed (pointers_of xs) t.at (pointers_of ys) (subst IsApart (pointers_of-append xs (t ∷ ys)) d))
 
 -- a table that is seen as m: if the closure may be called at one of its pairs, it may at that of
 -- the ring

@@ -44,9 +44,9 @@ pub AllByRecursion-map : {X : Type 0} (P Q : X → Type 0) → ((x : X) → P x 
 AllByRecursion-map P Q f [] a = tt
 AllByRecursion-map P Q f (x ∷ xs) a = (f x a.0, AllByRecursion-map P Q f xs a.1)
 
-pub AllByRecursion-both : {X : Type 0} (P Q R : X → Type 0) → ((x : X) → P x → Q x → R x) → (xs : List X) → AllByRecursion P xs → AllByRecursion Q xs → AllByRecursion R xs
-AllByRecursion-both P Q R f [] a b = tt
-AllByRecursion-both P Q R f (x ∷ xs) a b = (f x a.0 b.0, AllByRecursion-both P Q R f xs a.1 b.1)
+pub AllByRecursion-always : {X : Type 0} (P : X → Type 0) → ((x : X) → P x) → (xs : List X) → AllByRecursion P xs
+AllByRecursion-always P f [] = tt
+AllByRecursion-always P f (x ∷ xs) = (f x, AllByRecursion-always P f xs)
 
 -- a fresh pointer, either way round
 same_ptr-flip : (p q : Ptr) → same_ptr p q ≡ false → same_ptr q p ≡ false

@@ -12,6 +12,7 @@ use Rattle.lhm_ring.proofs.Apart.{IsFresh}
 use Rattle.lhm_ring.proofs.Writes.{cell_at-change_other, content_of-links}
 use Rattle.lhm_ring.proofs.Rows.{last_from, AllByRecursion-left, AllByRecursion-right, IsApart-left, IsFresh-head, IsApart-tail, IsFresh-middle, RowCut-linked, listed-append, SplitLast-last_from}
 use Rattle.lhm_ring.proofs.RingNodes.{length-listed}
+use Rattle.lhm_ring.proofs.SameNodes.{Linked-same}
 use Rattle.lhm_ring.proofs.OneNodeChanged.{links_at-with_body, AllByRecursion-content_other, listed-other, content_of-holds}
 
 module _ {B : Type 0} (cs : List (Cell Links B)) where
@@ -43,12 +44,6 @@ last_pointer-last_from p [] = refl
 last_pointer-last_from p (q ∷ qs) = last_pointer-last_from q qs
 
 module _ {B : Type 0} where
-  module _ (cs ds : List (Cell Links B)) (next : (q : Ptr) → next_at ds q ≡ next_at cs q) (prev : (q : Ptr) → prev_at ds q ≡ prev_at cs q) where
-    pub Linked-same : (s : List Ptr) → Linked cs s → Linked ds s
-    Linked-same [] k = tt
-    Linked-same (y ∷ []) k = tt
-    Linked-same (y ∷ z ∷ r) k = ((next y ∙ k.0.0, prev z ∙ k.0.1), Linked-same (z ∷ r) k.1)
-
   pub Linked-tail : (cs : List (Cell Links B)) (x : Ptr) (xs : List Ptr) → Linked cs (x ∷ xs) → Linked cs xs
   Linked-tail cs x [] k = tt
   Linked-tail cs x (y ∷ ys) k = k.1

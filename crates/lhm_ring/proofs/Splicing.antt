@@ -18,7 +18,8 @@ use Rattle.lhm_ring.proofs.RingCells.{next_at-null, is_there-null, Linked-in_nod
 use Rattle.lhm_ring.proofs.RingNodes.{ring_list-listed}
 use Rattle.lhm_ring.proofs.OneNodeChanged.{Chained-other}
 use Rattle.lhm_ring.proofs.Options.{none_some}
-use Rattle.lhm_ring.proofs.Spans.{last_pointer-last_from, Linked-tail, Linked-same, pointers_from-span}
+use Rattle.lhm_ring.proofs.Spans.{last_pointer-last_from, Linked-tail, pointers_from-span}
+use Rattle.lhm_ring.proofs.SameNodes.{Linked-same}
 
 -- the pointers of a row go onto others
 pub AllByRecursion-onto : (P : Ptr → Type 0) (ps ss : List Ptr) → AllByRecursion P ps → AllByRecursion P ss → AllByRecursion P (onto ps ss)

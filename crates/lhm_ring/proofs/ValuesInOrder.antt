@@ -10,12 +10,10 @@ use Rattle.lhm_ring.specs.RingAfterLoan.{revalued, unvalued, held_values, set_he
 use Rattle.lhm_ring.proofs.Apart.{IsFresh, same_ptr-equal, same_ptr-reflexive, same_ptr-symmetric}
 use Rattle.lhm_ring.proofs.Options.{Some-injective}
 use Rattle.lhm_ring.proofs.Rows.{IsFresh-head, IsApart-tail}
+use Rattle.lhm_ring.proofs.HeldPointers.{pointers_of}
 use Rattle.lhm_ring.proofs.ValuesReplaced.{among, lent, lent_then, run_of, taken, value_in, revalued_by}
 
 module _ {K V : Type 0} where
-  abbrev pub pointers_of : List (Held (K × V)) → List Ptr
-  pointers_of = map (λ t. t.at)
-
   pub unvalued-set_held_values : (hs : List (Held (K × V))) (vs : List V) → map unvalued (set_held_values hs vs) ≡ map unvalued hs
   unvalued-set_held_values [] vs = refl
   unvalued-set_held_values (t ∷ hs) [] = refl

@@ -1,20 +1,21 @@
 -- The values that a ring holds are lent, and the ring is one again with others in their place.
-use Rattle.std.proofs.Common.{◌≡◌, ℕ, suc, zero, Bool, true, false, cond, List, [], ◌∷◌, ◌++◌, map, length, Option, Some, None, refl, sym, ap, ◌∙◌, subst, arith}
+use Rattle.std.proofs.Common.{◌≡◌, ℕ, suc, Bool, true, false, cond, List, [], ◌∷◌, ◌++◌, map, length, Option, Some, None, refl, sym, ap, ◌∙◌, subst, arith}
 use Rattle.std.specs.List.{AllByRecursion}
 use denote.RawPtr.{Ptr, null_ptr}
 use Rattle.lhm_ring.specs.declared.links.Links.{Links}
 use Rattle.lhm_ring.specs.declared.links.Ends.{Ends}
 use Rattle.lhm_ring.specs.Cells.{Cell, cell, cell_at, same_ptr, IsApart, pointers, links_of, body_of, links_at, body_at}
 use Rattle.lhm_ring.specs.ValueLoan.{value_at}
-use Rattle.lhm_ring.specs.Rings.{ends_links, ring_cells, one_of, next_of, prev_of, link_of, has_links, link_at, is_there, content_of, content_at, Linked, Chained, HasContent, IsRing, follow, listed, ring_list, ring_pointers, RingOk}
-use Rattle.lhm_ring.specs.RingState.{State, state, Held, held}
+use Rattle.lhm_ring.specs.Rings.{ends_links, ring_cells, one_of, next_of, prev_of, link_of, has_links, content_of, content_at, HasContent, follow, listed, ring_list, ring_pointers, RingOk}
+use Rattle.lhm_ring.specs.RingState.{Held, held}
 use Rattle.lhm_ring.specs.RingAfterLoan.{pair, revalued}
 use Rattle.lhm_ring.specs.Iterators.{AreLent}
-use Rattle.lhm_ring.specs.Targets.{target}
 use Rattle.lhm_ring.specs.declared.link.Link.{Link}
 use Rattle.lhm_ring.proofs.Apart.{IsFresh, same_ptr-equal, same_ptr-reflexive, IsApart-none}
+use Rattle.lhm_ring.proofs.HeldPointers.{AllByRecursion-followed, IsApart-ring_list}
+use Rattle.lhm_ring.proofs.SameNodes.{SameLink, follow-same, RingOk-same}
 use Rattle.lhm_ring.proofs.Options.{none_some, Some-injective}
-use Rattle.lhm_ring.proofs.Rows.{AllByRecursion-map, at-content_of, follow-row, IsApart-left, IsFresh-head, IsApart-tail, IsApart-cons}
+use Rattle.lhm_ring.proofs.Rows.{AllByRecursion-map, AllByRecursion-always, at-content_of, IsFresh-head, IsApart-tail, IsApart-cons}
 use Rattle.lhm_ring.proofs.OneNodeChanged.{content_of-holds, pair-content_of}
 
 -- whether p is one of ps
@@ -157,36 +158,12 @@ module _ {K V : Type 0} where
     same : (q : Ptr) → links_at ds q ≡ links_at cs q
     same = links_at-written keep hs cs
 
-    Linked-written : (s : List Ptr) → Linked cs s → Linked ds s
-    Linked-written [] k = tt
-    Linked-written (y ∷ []) k = tt
-    Linked-written (y ∷ z ∷ r) k = ((ap next_of (same y) ∙ k.0.0, ap prev_of (same z) ∙ k.0.1), Linked-written (z ∷ r) k.1)
-
-    Chained-written : (h : Option Ptr) (ss : List Ptr) → Chained cs h ss → Chained ds h ss
-    Chained-written h [] k = k
-    Chained-written h (y ∷ ys) k = (k.0, Chained-written (link_at ds y) ys (subst (λ z. Chained cs z ys) (sym (ap link_of (same y))) k.1))
-
     HasContent-written : (q : Ptr) → HasContent cs q → HasContent ds q
     HasContent-written q h =
         let l = some_links q (links_at cs q) (body_at cs q) h.0 h.1 in let y = Full-written (keep q) hs q (body_at cs q) (content_of-holds q (links_at cs q) (body_at cs q) h.0 h.1) in (
           held q l.0.hash (link_of (Some l.0)) y.0,
           λ i. content_of q ((same q ∙ l.1) i) ((body_at-written keep hs cs q ∙ y.1) i),
         )
-
-    IsRing-written : (ps : List Ptr) (spare : Option Ptr) (ss : List Ptr) → IsRing cs ps spare ss → IsRing ds ps spare ss
-    IsRing-written ps spare ss r = record {
-      linked = Linked-written (null_ptr ∷ (ps ++ null_ptr ∷ [])) r.linked;
-      chained = Chained-written spare ss r.chained;
-      held = AllByRecursion-map (HasContent cs) (HasContent ds) HasContent-written ps r.held;
-      there = AllByRecursion-map (λ q. is_there cs q ≡ true) (λ q. is_there ds q ≡ true) (λ q h. ap has_links (same q) ∙ h) (null_ptr ∷ (ps ++ ss)) r.there;
-      apart = r.apart;
-      count = length-written keep hs cs ∙ r.count;
-    }
-
-    follow-written : (n : ℕ) (q : Ptr) → follow ds n q ≡ follow cs n q
-    unfolding follow
-    follow-written zero q = refl
-    follow-written (suc n) q = (λ i. next_of (same q i) ∷ follow ds n (next_of (same q i))) ∙ ap (λ r. next_of (links_at cs q) ∷ r) (follow-written n (next_of (links_at cs q)))
 
     content_at-written : (p : Ptr) → content_at ds p ≡ content_of p (links_at cs p) (written_body (keep p) hs p (body_at cs p))
     content_at-written p = λ i. content_of p (same p i) (body_at-written keep hs cs p i)
@@ -199,17 +176,12 @@ module _ {K V : Type 0} where
         ∙ one_of-written hs p (links_at cs p) (body_at cs p) (listed ds ps) (listed cs ps) (listed-written ps a.1)
 
     RingOk-written : (spare : Link) (n m : ℕ) → RingOk cs spare n m → RingOk ds spare n m
-    RingOk-written spare n m ok = record {
-      held_pointers = ok.held_pointers;
-      spare_pointers = ok.spare_pointers;
-      ring = IsRing-written ok.held_pointers (target spare) ok.spare_pointers ok.ring;
-      held_count = ok.held_count;
-      enough_spares = ok.enough_spares;
-      bounded = ok.bounded;
-    }
+    RingOk-written spare n m ok =
+        RingOk-same cs ds (λ q. ap next_of (same q)) (λ q. ap prev_of (same q)) (λ q. ap has_links (same q)) (length-written keep hs cs) spare n m ok
+        (AllByRecursion-map (HasContent cs) (HasContent ds) HasContent-written ok.held_pointers ok.ring.held) (AllByRecursion-always (SameLink cs ds) (λ q. ap link_of (same q)) ok.spare_pointers)
 
     ring_list-written : (n : ℕ) → AllByRecursion (λ p. keep p ≡ true) (ring_pointers cs n) → ring_list ds n ≡ revalued_by hs (ring_list cs n)
-    ring_list-written n a = ap (listed ds) (follow-written n null_ptr) ∙ listed-written (follow cs n null_ptr) a
+    ring_list-written n a = ap (listed ds) (follow-same cs ds (λ q. ap next_of (same q)) n null_ptr) ∙ listed-written (follow cs n null_ptr) a
 
   -- the node at null holds no value
   pub lent-ring_cells : (keep : Ptr → Bool) (e : Ends) (cs : List (Cell Links (K × V))) → lent keep (ring_cells e cs) ≡ lent keep cs
@@ -275,28 +247,13 @@ module _ {K V : Type 0} where
     AllByRecursion-lent [] a k = tt
     AllByRecursion-lent (p ∷ ps) a k = subst (λ o. AllByRecursion (λ t. value_at (run_of (lent keep cs)) t.at ≡ Some t.pair.1) (one_of o ++ listed cs ps)) (sym a.0.1) (value_at-one_lent p a.0 k.0, AllByRecursion-lent ps a.1 k.1)
 
-  pointers-listed : (cs : List (Cell Links (K × V))) (ps : List Ptr) → AllByRecursion (HasContent cs) ps → map (λ (t : Held (K × V)). t.at) (listed cs ps) ≡ ps
-  unfolding listed
-  pointers-listed cs [] a = refl
-  pointers-listed cs (p ∷ ps) a = ap (λ o. map (λ (t : Held (K × V)). t.at) (one_of o ++ listed cs ps)) a.0.1 ∙ (λ i. at-content_of p (links_at cs p) (body_at cs p) a.0.0 a.0.1 i ∷ pointers-listed cs ps a.1 i)
-
   AreLent-ring_list : (cs : List (Cell Links (K × V))) (spare : Link) (n m : ℕ) → RingOk cs spare n m → AreLent (run_of (lent (among (ring_pointers cs n)) cs)) (ring_list cs n)
   AreLent-ring_list cs spare n m ok =
-      let is : ok.held_pointers ≡ follow cs n null_ptr = sym (ap (λ k. follow cs k null_ptr) (sym ok.held_count) ∙ follow-row cs null_ptr ok.held_pointers null_ptr ok.ring.linked) in
-      let has : AllByRecursion (HasContent cs) (follow cs n null_ptr) = subst (AllByRecursion (HasContent cs)) is ok.ring.held in
       record {
-        lent = AllByRecursion-lent (among (follow cs n null_ptr)) cs (follow cs n null_ptr) has (AllByRecursion-among (follow cs n null_ptr));
-        apart = subst IsApart (sym (pointers-listed cs (follow cs n null_ptr) has)) (subst IsApart is (IsApart-left ok.held_pointers ok.spare_pointers (IsApart-tail null_ptr (ok.held_pointers ++ ok.spare_pointers) ok.ring.apart)));
+        lent = AllByRecursion-lent (among (follow cs n null_ptr)) cs (follow cs n null_ptr) (AllByRecursion-followed cs spare n m ok) (AllByRecursion-among (follow cs n null_ptr));
+        apart = IsApart-ring_list cs spare n m ok;
       }
 
   pub AreLent-held_entries : (e : Ends) (cs : List (Cell Links (K × V))) (spare : Link) (n m : ℕ) → RingOk (ring_cells e cs) spare n m → AreLent (run_of (held_entries e cs n)) (ring_list (ring_cells e cs) n)
   AreLent-held_entries e cs spare n m ok =
       subst (λ r. AreLent (run_of r) (ring_list (ring_cells e cs) n)) (lent-ring_cells (among (ring_pointers (ring_cells e cs) n)) e cs) (AreLent-ring_list (ring_cells e cs) spare n m ok)
-
-  pub pointers-ring_list : (cs : List (Cell Links (K × V))) (spare : Link) (n m : ℕ) → RingOk cs spare n m → map (λ (t : Held (K × V)). t.at) (ring_list cs n) ≡ ring_pointers cs n
-  pointers-ring_list cs spare n m ok =
-      let is : ok.held_pointers ≡ follow cs n null_ptr = sym (ap (λ k. follow cs k null_ptr) (sym ok.held_count) ∙ follow-row cs null_ptr ok.held_pointers null_ptr ok.ring.linked) in
-      pointers-listed cs (follow cs n null_ptr) (subst (AllByRecursion (HasContent cs)) is ok.ring.held)
-
-  pub IsApart-held : (cs : List (Cell Links (K × V))) (spare : Link) (n m : ℕ) (v : State (K × V)) {total : ℕ} → RingOk cs spare n m → state (ring_list cs n) m total ≡ v → IsApart (map (λ (t : Held (K × V)). t.at) v.held)
-  IsApart-held cs spare n m v ok w = subst (λ (s : State (K × V)). IsApart (map (λ t. t.at) s.held)) w (AreLent-ring_list cs spare n m ok).apart

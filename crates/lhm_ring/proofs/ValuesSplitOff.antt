@@ -55,8 +55,9 @@ use Rattle.lhm_ring.specs.contracts.ring.Ring as R-type
 use Rattle.lhm_ring.specs.contracts.ring.Ring.TheInside as I-type
 use Rattle.lhm_ring.specs.declared.ring.Ring.TheInside as D-type
 use Rattle.lhm_ring.proofs.Memory.{marker}
-use Rattle.lhm_ring.proofs.ValuesReplaced.{lent_then, lent, written_body, written, taken, listing, run_of, pointers-written, taken-listing, IsApart-lent, among, revalued_by, held_entries, RingOk-held_written, ring_list-held_written, AreLent-held_entries, pointers-ring_list}
-use Rattle.lhm_ring.proofs.ValuesInOrder.{pointers_of, HasOwnValue, AllByRecursion-own_values, taken-own, taken-by, AllByRecursion-kept, set_held_values-own, set_held_values-by, revalued_by-set_held_values}
+use Rattle.lhm_ring.proofs.HeldPointers.{pointers_of, pointers-ring_list}
+use Rattle.lhm_ring.proofs.ValuesReplaced.{lent_then, lent, written_body, written, taken, listing, run_of, pointers-written, taken-listing, IsApart-lent, among, revalued_by, held_entries, RingOk-held_written, ring_list-held_written, AreLent-held_entries}
+use Rattle.lhm_ring.proofs.ValuesInOrder.{HasOwnValue, AllByRecursion-own_values, taken-own, taken-by, AllByRecursion-kept, set_held_values-own, set_held_values-by, revalued_by-set_held_values}
 use Rattle.lhm_ring.proofs.Sharing.{cells_lent_laws}
 
 module _ (R S W : RattleType) where

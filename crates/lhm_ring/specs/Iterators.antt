@@ -25,45 +25,43 @@ module _ {K V : Type 0} where
   IsLastStep s None t = (s ≡ []) × (t ≡ [])
   IsLastStep s (Some r) t = (l : Option Ptr) × (s ≡ t ++ held r.0.ptr r.1 l (r.2.now, r.3.now) ∷ [])
 
-  -- the same of pairs with a mutable reference to the value
+  -- the same of pairs with a reference R to the value, of whatever kind
+  module _ {R : Type 0} (value : R → V) where
+    abbrev FirstStep : List (Held (K × V)) → Option (ℕ × Bor K × R) → List (Held (K × V)) → Type 0
+    FirstStep s None t = (s ≡ []) × (t ≡ [])
+    FirstStep s (Some r) t = record {
+      at : Ptr;
+      link : Option Ptr;
+      is : s ≡ held at r.0 link (r.1.now, value r.2) ∷ t;
+    }
+
+    abbrev LastStep : List (Held (K × V)) → Option (ℕ × Bor K × R) → List (Held (K × V)) → Type 0
+    LastStep s None t = (s ≡ []) × (t ≡ [])
+    LastStep s (Some r) t = record {
+      at : Ptr;
+      link : Option Ptr;
+      is : s ≡ t ++ held at r.0 link (r.1.now, value r.2) ∷ [];
+    }
+
+  -- with a mutable reference
   abbrev pub LendsFirstStep : List (Held (K × V)) → Option (ℕ × Bor K × MutBor V)
       → List (Held (K × V)) → Type 0
-  LendsFirstStep s None t = (s ≡ []) × (t ≡ [])
-  LendsFirstStep s (Some r) t = record {
-    at : Ptr;
-    link : Option Ptr;
-    is : s ≡ held at r.0 link (r.1.now, r.2.now) ∷ t;
-  }
+  LendsFirstStep = FirstStep (λ v. v.now)
 
   abbrev pub LendsLastStep : List (Held (K × V)) → Option (ℕ × Bor K × MutBor V)
       → List (Held (K × V)) → Type 0
-  LendsLastStep s None t = (s ≡ []) × (t ≡ [])
-  LendsLastStep s (Some r) t = record {
-    at : Ptr;
-    link : Option Ptr;
-    is : s ≡ t ++ held at r.0 link (r.1.now, r.2.now) ∷ [];
-  }
+  LendsLastStep = LastStep (λ v. v.now)
+
+  -- with a shared reference
+  abbrev pub ShowsFirstStep : List (Held (K × V)) → Option (ℕ × Bor K × Bor V) → List (Held (K × V))
+      → Type 0
+  ShowsFirstStep = FirstStep (λ v. v.now)
+
+  abbrev pub ShowsLastStep : List (Held (K × V)) → Option (ℕ × Bor K × Bor V) → List (Held (K × V))
+      → Type 0
+  ShowsLastStep = LastStep (λ v. v.now)
 
   -- the values of the nodes left are still to be lent
   pub record AreLent (run : List (Ptr × V)) (hs : List (Held (K × V))) : Type 0 where
     pub lent : AllByRecursion (λ t. value_at run t.at ≡ Some t.pair.1) hs
     pub apart : IsApart (map (λ t. t.at) hs)
-
-  -- the same of pairs with a shared reference to the value
-  abbrev pub ShowsFirstStep : List (Held (K × V)) → Option (ℕ × Bor K × Bor V) → List (Held (K × V))
-      → Type 0
-  ShowsFirstStep s None t = (s ≡ []) × (t ≡ [])
-  ShowsFirstStep s (Some r) t = record {
-    at : Ptr;
-    link : Option Ptr;
-    is : s ≡ held at r.0 link (r.1.now, r.2.now) ∷ t;
-  }
-
-  abbrev pub ShowsLastStep : List (Held (K × V)) → Option (ℕ × Bor K × Bor V) → List (Held (K × V))
-      → Type 0
-  ShowsLastStep s None t = (s ≡ []) × (t ≡ [])
-  ShowsLastStep s (Some r) t = record {
-    at : Ptr;
-    link : Option Ptr;
-    is : s ≡ t ++ held at r.0 link (r.1.now, r.2.now) ∷ [];
-  }

@@ -1,15 +1,14 @@
 use Rattle.std.proofs.Common.{ℕ, ◌∙◌, ◌++◌, ◌∷◌, [], Some, length, ap, sym, refl, arith, append_assoc}
 use Rattle.lhm_ring.specs.RingState.{triples}
-use Rattle.lhm_ring.proofs.DroppedRing.{IsHeld-first, length-removed}
-use Rattle.lhm_ring.proofs.Ends.{First-first_at, triples-first, triples-pushed}
+use Rattle.lhm_ring.proofs.Ends.{First-first_at, first_held, length-removed, triples-first, triples-pushed}
 use Rattle.lhm_ring.proofs.compact.move_all.Goals as goal
 
 pub unlink-hash-requires : goal.unlink-hash-requires
-unlink-hash-requires g c = IsHeld-first c.each.from.held c.in-Some.at.pointer.ptr c.in-Some.ensures
+unlink-hash-requires g c = let p = c.in-Some.at.pointer.ptr in first_held (First-first_at c.each.from.held (Some p) p c.in-Some.ensures refl)
 
 pub each-smaller : goal.each-smaller
 each-smaller g c =
-    let h = IsHeld-first c.each.from.held c.in-Some.at.pointer.ptr c.in-Some.ensures in
+    let p = c.in-Some.at.pointer.ptr in let h = first_held (First-first_at c.each.from.held (Some p) p c.in-Some.ensures refl) in
     length-removed c.each.from.held c.unlink-hash.new.self.held h.before h.node h.after h.is (c.unlink-hash.ensures.others h.before h.node h.after h.is h.at_is)
 
 pub each-preserved : goal.each-preserved

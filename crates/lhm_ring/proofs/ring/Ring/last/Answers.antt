@@ -3,7 +3,7 @@ use Rattle.lhm_ring.specs.Rings.{ring_cells}
 use Rattle.lhm_ring.specs.Targets.{led_to}
 use Rattle.lhm_ring.proofs.FirstAndLast.{led_to-last}
 use Rattle.lhm_ring.proofs.RingCells.{prev_at-null}
-use Rattle.lhm_ring.proofs.ValuesReplaced.{IsApart-held}
+use Rattle.lhm_ring.proofs.HeldPointers.{IsApart-held}
 use Rattle.lhm_ring.proofs.ring.Ring.last.Goals as goal
 
 pub returns-clause-last : goal.returns-clause-last

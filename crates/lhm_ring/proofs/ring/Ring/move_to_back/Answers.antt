@@ -4,7 +4,7 @@ use Rattle.lhm_ring.proofs.Moves.{There-prev, There-next, is_there-moving, RingO
 use Rattle.lhm_ring.proofs.RingCells.{IsAt-in_nodes, links_at-ring_cells, prev_at-null, is_there-null, led_to-some, led_to-none, IsJoined-same}
 use Rattle.lhm_ring.proofs.RingNodes.{NodeAt-held, ring_split}
 use Rattle.lhm_ring.proofs.ReadAtPosition.{IsAt-held}
-use Rattle.lhm_ring.proofs.ValuesReplaced.{IsApart-held}
+use Rattle.lhm_ring.proofs.HeldPointers.{IsApart-held}
 use Rattle.lhm_ring.proofs.Places.{IsLaid-same}
 use Rattle.lhm_ring.proofs.ring.Ring.move_to_back.Goals as goal
 

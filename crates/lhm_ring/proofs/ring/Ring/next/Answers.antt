@@ -3,7 +3,7 @@ use Rattle.lhm_ring.specs.Rings.{ring_cells}
 use Rattle.lhm_ring.proofs.Neighbours.{AtHeld-next}
 use Rattle.lhm_ring.proofs.ReadAtPosition.{IsAt-held}
 use Rattle.lhm_ring.proofs.RingCells.{IsAt-in_nodes, links_at-ring_cells}
-use Rattle.lhm_ring.proofs.ValuesReplaced.{IsApart-held}
+use Rattle.lhm_ring.proofs.HeldPointers.{IsApart-held}
 use Rattle.lhm_ring.proofs.ring.Ring.next.Goals as goal
 
 pub links-requires : goal.links-requires

@@ -1,6 +1,6 @@
-use Rattle.std.proofs.Common.{remove, slice_get, refl, sym, ap, ◌∙◌}
+use Rattle.std.proofs.Common.{remove, slice_get, Some, refl, sym, ap, ◌∙◌}
 use Rattle.lhm_ring.specs.Positions.{pointer_of}
-use Rattle.lhm_ring.proofs.DroppedRing.{IsHeld-first}
+use Rattle.lhm_ring.proofs.Ends.{First-first_at, first_held}
 use Rattle.linked_hash_map.specs.Nodes.{pairs_of}
 use Rattle.linked_hash_map.proofs.Kept.{IsValid-view}
 use Rattle.linked_hash_map.proofs.Current.{first_lies, first_index}
@@ -11,7 +11,7 @@ use Rattle.linked_hash_map.proofs.TakenNode.{pair-removed, pairs-removed, IsKept
 use Rattle.linked_hash_map.proofs.map.LinkedHashMap.pop_front.Goals as goal
 
 pub remove_at-requires : goal.remove_at-requires
-remove_at-requires g c = IsHeld-first c.self.inside.table.held (pointer_of c.in_ok-front.front) c.in_ok-front.ensures
+remove_at-requires g c = let p = pointer_of c.in_ok-front.front in first_held (First-first_at c.self.inside.table.held (Some p) p c.in_ok-front.ensures refl)
 
 pub invariant_of-self : goal.invariant_of-self
 invariant_of-self g c = IsKept-removed c.self.invariant (first_lies c.self.inside.table.held c.in_ok-front.ensures) c.remove_at.ensures.others c.remove_at.ensures.keeps.capacity
