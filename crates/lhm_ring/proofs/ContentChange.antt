@@ -3,7 +3,7 @@ use Rattle.std.proofs.Common.{◌≡◌, ℕ, true, false, cond, List, [], ◌�
 use denote.RawPtr.{Ptr, null_ptr}
 use Rattle.lhm_ring.specs.declared.links.Links.{Links}
 use Rattle.lhm_ring.specs.Cells.{Cell, cell, same_ptr, links_of, body_of, links_at, body_at, IsApart, with_links, with_body}
-use Rattle.lhm_ring.specs.Rings.{relinked, next_of, prev_of, link_of, has_links, next_at, prev_at, link_at, is_there, content_of, content_at, HasContent, follow, listed, one_of, ring_list, RingOk}
+use Rattle.lhm_ring.specs.Rings.{chaining_to, next_of, prev_of, link_of, has_links, next_at, prev_at, link_at, is_there, content_of, content_at, HasContent, follow, listed, one_of, ring_list, RingOk}
 use Rattle.lhm_ring.specs.RingState.{State, state, Held, held, IsHeld, ChangesOnly, change_at}
 use Rattle.lhm_ring.specs.Splits.{SplitAround}
 use Rattle.lhm_ring.specs.Targets.{target}
@@ -14,7 +14,7 @@ use Rattle.lhm_ring.proofs.Rows.{AllByRecursion-map, AllByRecursion-right, at-co
 use Rattle.lhm_ring.proofs.RingNodes.{Found-listed}
 use Rattle.lhm_ring.proofs.HeldPointers.{pointers_of, same_ptr-fresh, IsApart-ring_list}
 use Rattle.lhm_ring.proofs.SameNodes.{SameLink, follow-same, RingOk-same}
-use Rattle.lhm_ring.proofs.Splicing.{next_of-relinked, prev_of-relinked, link_of-relinked, hash-relinked}
+use Rattle.lhm_ring.proofs.Splicing.{next_of-chaining_to, prev_of-chaining_to, link_of-chaining_to, hash-chaining_to}
 use Rattle.lhm_ring.proofs.OneNodeChanged.{links_at-with_body, body_at-with_body, hash-content_of, link-content_of, pair-content_of, content_of-holds}
 
 -- the same nodes and the same order, except that p holds u in place of t
@@ -100,20 +100,20 @@ module _ {B : Type 0} (cs : List (Cell Links B)) (p : Ptr) (l : Links) (e : link
         count = length-change p (λ c. cell c.at c.links (Some x)) cs;
       }
 
-  pub ChangesAt-with_links : (o : Link) → ChangesAt cs (with_links p (relinked o l) cs) p t (held t.at t.hash (target o) t.pair)
+  pub ChangesAt-with_links : (o : Link) → ChangesAt cs (with_links p (chaining_to o l) cs) p t (held t.at t.hash (target o) t.pair)
   ChangesAt-with_links o =
-      let k : Links = relinked o l in let e₂ : links_at (with_links p k cs) p ≡ Some k = links_at-with_links p k cs l e p ∙ ap (λ y. cond y (Some k) (links_at cs p)) (same_ptr-reflexive p) in
+      let k : Links = chaining_to o l in let e₂ : links_at (with_links p k cs) p ≡ Some k = links_at-with_links p k cs l e p ∙ ap (λ y. cond y (Some k) (links_at cs p)) (same_ptr-reflexive p) in
       let pointer : t.at ≡ p = at-content_of p (links_at cs p) (body_at cs p) t c in let x = content_of-holds p (links_at cs p) (body_at cs p) t c in
       let pair : t.pair ≡ x.0 = pair-content_of p (links_at cs p) x.0 t (ap (λ b. content_of p (links_at cs p) b) (sym x.1) ∙ c) in
       record {
-        next = reader-with_links_same p k next_of cs l e (next_of-relinked o l);
-        prev = reader-with_links_same p k prev_of cs l e (prev_of-relinked o l);
+        next = reader-with_links_same p k next_of cs l e (next_of-chaining_to o l);
+        prev = reader-with_links_same p k prev_of cs l e (prev_of-chaining_to o l);
         there = reader-with_links_same p k has_links cs l e refl;
         link = λ q n. ap (λ z. link_of (links_of z)) (cell_at-change_other p (λ c. cell c.at k c.body) (λ c. refl) q n cs);
         content = λ q n. ap (λ z. content_of q (links_of z) (body_of z)) (cell_at-change_other p (λ c. cell c.at k c.body) (λ c. refl) q n cs);
         was = c;
         is = content_of-some (links_at (with_links p k cs) p) (body_at (with_links p k cs) p) k x.0 e₂ (body_at-with_links p k cs l e p ∙ x.1)
-            ∙ ap (λ z. Some z) (λ i. held (sym pointer i) ((hash-relinked o l ∙ sym (hash-content_of p l (body_at cs p) t content_of-here)) i) (link_of-relinked o l i) (sym pair i));
+            ∙ ap (λ z. Some z) (λ i. held (sym pointer i) ((hash-chaining_to o l ∙ sym (hash-content_of p l (body_at cs p) t content_of-here)) i) (link_of-chaining_to o l i) (sym pair i));
         count = length-change p (λ c. cell c.at k c.body) cs;
       }
 

@@ -169,17 +169,17 @@ module _ (E : Three) {M : Type 1} {𝓤 : Ura M} (𝓛 : Logic 𝓤) (h : (Nr E)
   abbrev pub Fields : Fml
   Fields = part_at (BareRow (RL E) (RK E) (RV E)) full_share h rb ro
 
-  abbrev pub Held : SemTy
-  Held = Bodies (RL E) (RK E) (RV E) (firsts (bodies_of h.cells))
+  abbrev pub LentBodies : SemTy
+  LentBodies = Bodies (RL E) (RK E) (RV E) (firsts (bodies_of h.cells))
 
   pub fields_made : (vs : List Val) → ent 𝓤 (sep 𝓤 (sem 𝓛 ((Marker E).own_val (tt, tt) vs)) (sep 𝓤 (sem 𝓛 (stems (RL E) (RK E) (RV E) (Land E h) h.cells)) (sem 𝓛 (cell_at full_share (Nr E).mir vs rb ro)))) (sem 𝓛 Fields)
   unfolding part_of
   fields_made vs = qed 𝓛 (‵ ((Marker E).own_val (tt, tt) vs) ∷ ‵ (stems (RL E) (RK E) (RV E) (Land E h) h.cells) ∷ ‵ (cell_at full_share (Nr E).mir vs rb ro) ∷ []) ∵
       fjoin ! $ move ! (1 ∷ 0 ∷ []) $ fjoin ! $ fpack ! (List Val) (λ us. fsep (cell_at full_share (Nr E).mir us rb ro) ((BareRow (RL E) (RK E) (RV E)).own_val h us)) vs $ done !
 
-  pub back : (δ : GName) (w : List ℕ) → ent 𝓤 (sep 𝓤 (sem 𝓛 ((mem Anchor).own_at w rb ro)) (sep 𝓤 (sem 𝓛 (fseps (Borrowed Held 0 0 δ ∷ Fields ∷ []))) (emp 𝓤))) (sem 𝓛 ((mem (Nr E)).own_at (cleared_nodes h) rb ro))
+  pub back : (δ : GName) (w : List ℕ) → ent 𝓤 (sep 𝓤 (sem 𝓛 ((mem Anchor).own_at w rb ro)) (sep 𝓤 (sem 𝓛 (fseps (Borrowed LentBodies 0 0 δ ∷ Fields ∷ []))) (emp 𝓤))) (sem 𝓛 ((mem (Nr E)).own_at (cleared_nodes h) rb ro))
   unfolding fseps part_of
-  back δ w = qed 𝓛 (‵ ((mem Anchor).own_at w rb ro) ∷ ‵ (fseps (Borrowed Held 0 0 δ ∷ Fields ∷ [])) ∷ raw (emp 𝓤) ∷ []) ∵ drop ! $ fsplit ! $ fpick ! (λ os. fsplit ! $ move ! (2 ∷ []) $ fsplit ! $ fpick ! (λ vs. fsplit ! $ move ! (1 ∷ []) $ fsplit ! $
+  back δ w = qed 𝓛 (‵ ((mem Anchor).own_at w rb ro) ∷ ‵ (fseps (Borrowed LentBodies 0 0 δ ∷ Fields ∷ [])) ∷ raw (emp 𝓤) ∷ []) ∵ drop ! $ fsplit ! $ fpick ! (λ os. fsplit ! $ move ! (2 ∷ []) $ fsplit ! $ fpick ! (λ vs. fsplit ! $ move ! (1 ∷ []) $ fsplit ! $
       -- [the marker; the stems; the cell; nothing; the bodies; their name; nothing]
       move ! (4 ∷ 1 ∷ []) $ use2 𝓛 (‵ (cells_own (RL E) (RK E) (RV E) (Land E h) (cleared h.cells))) (cells_in E 𝓛 (Land E h) h.cells os) $ move ! (1 ∷ 0 ∷ []) $ fjoin ! $ move ! (1 ∷ 0 ∷ []) $ fjoin ! $
       fpack ! (List Val) (λ us. fsep (cell_at full_share (Nr E).mir us rb ro) ((Nr E).own_val (cleared_nodes h) us)) vs $ keep ! (0 ∷ []) $ done !))

@@ -9,8 +9,8 @@ pub entries-link : {K V : Type 0} (before : List (Held (K × V))) (x : Held (K �
 entries-link [] x after l = refl
 entries-link (y ∷ before) x after l = ap (λ v. linked_to None y ∷ v) (entries-link before x after l)
 
-pub entries-relinked : {K V : Type 0} (old new : List (Held (K × V))) (p : Ptr) (l : Option Ptr) → IsHeld old p → AtHeld old p (λ before x after. new ≡ before ++ linked_to l x ∷ after) → entries new ≡ entries old
-entries-relinked old new p l h s =
+pub entries-linked_to : {K V : Type 0} (old new : List (Held (K × V))) (p : Ptr) (l : Option Ptr) → IsHeld old p → AtHeld old p (λ before x after. new ≡ before ++ linked_to l x ∷ after) → entries new ≡ entries old
+entries-linked_to old new p l h s =
     ap entries (s h.before h.node h.after h.is h.at_is) ∙ entries-link h.before h.node h.after l ∙ ap entries (sym h.is)
 
 abbrev SplitLike : {K V : Type 0} → List (Held (K × V)) → Held (K × V) → Type 0

@@ -35,21 +35,21 @@ module _ (words : List ℕ) (b word : ℕ) where
 
 -- the bit of a hash is set
 module _ (words : List ℕ) (hash : ℕ) where
-  abbrev marked : List ℕ
-  marked = set words (hash % length words) (bit_or (get_or words (hash % length words) 0) (1 * 2 ^ (hash / 2 ^ 60) % 2 ^ 16))
+  abbrev with_bit : List ℕ
+  with_bit = set words (hash % length words) (bit_or (get_or words (hash % length words) 0) (1 * 2 ^ (hash / 2 ^ 60) % 2 ^ 16))
 
 module _ (words : List ℕ) (hash : ℕ) (small : hash / 2 ^ 60 < 16) (within : hash % length words < length words) where
-  pub may_contain-inserted : may_contain (marked words hash) hash ≡ true
+  pub may_contain-inserted : may_contain (with_bit words hash) hash ≡ true
   may_contain-inserted =
       may_contain-set_same words (hash % length words) _ hash refl within
       ∙ eq-eqb _ 1 (bit_at_set_same w16 (get_or words (hash % length words) 0) (hash / 2 ^ 60) small)
 
-  pub may_contain-inserted_other : (other : ℕ) → may_contain words other ≡ true → may_contain (marked words hash) other ≡ true
+  pub may_contain-inserted_other : (other : ℕ) → may_contain words other ≡ true → may_contain (with_bit words hash) other ≡ true
   may_contain-inserted_other other may =
       elim (cases_eq (other % length words) (hash % length words)) [
         | inr away ↦ may_contain-set_other words (hash % length words) _ other away ∙ may
         | inl here ↦
-            let same_word : may_contain (marked words hash) other ≡ has_bit (bit_or (get_or words (hash % length words) 0) (1 * 2 ^ (hash / 2 ^ 60) % 2 ^ 16)) other =
+            let same_word : may_contain (with_bit words hash) other ≡ has_bit (bit_or (get_or words (hash % length words) 0) (1 * 2 ^ (hash / 2 ^ 60) % 2 ^ 16)) other =
             may_contain-set_same words (hash % length words) _ other here within in
             same_word ∙ (elim (cases_eq (other / 2 ^ 60) (hash / 2 ^ 60)) [
               | inl bit ↦ eq-eqb _ 1 (ap (bit_at (bit_or (get_or words (hash % length words) 0) (1 * 2 ^ (hash / 2 ^ 60) % 2 ^ 16))) bit ∙ bit_at_set_same w16 (get_or words (hash % length words) 0) (hash / 2 ^ 60) small)
@@ -76,7 +76,7 @@ module _ (items : List Word) (bucket hash number : ℕ) (old : Word) (is : bucke
       ap bits_of read ∙ sym (get_or-map bits_of items bucket old 0 (let l = length-map items bits_of in omega (arith, l, inside)))
       ∙ ap (λ b. get_or (map bits_of items) b 0) is
 
-  map-written : map bits_of (set items bucket word) ≡ marked (map bits_of items) hash
+  map-written : map bits_of (set items bucket word) ≡ with_bit (map bits_of items) hash
   map-written = map-set bits_of items bucket word ∙ (λ i. set (map bits_of items) (is i) (bit_or (bits-read i) (1 * 2 ^ bit i % 2 ^ 16)))
 
   pub may_contain-set_bit : may_contain (map bits_of (set items bucket word)) hash ≡ true

@@ -4,6 +4,7 @@ pub mod Blocks
 pub mod BucketCounts
 pub mod BucketHeads
 pub mod Chains
+pub mod ChunkPlaces
 pub mod ContentChange
 pub mod ContentTaken
 pub mod ContentsSplitOff
@@ -39,7 +40,6 @@ pub mod Retained
 pub mod RingCells
 pub mod RingNodes
 pub mod RingSpans
-pub mod Rooms
 pub mod Rows
 pub mod SameNodes
 pub mod Searches

@@ -10,7 +10,7 @@ use Rattle.lhm_ring.specs.Splits.{SplitAround}
 use Rattle.lhm_ring.specs.Targets.{target}
 use Rattle.lhm_ring.specs.declared.link.Link.{Link}
 use Rattle.lhm_ring.proofs.Apart.{IsFresh}
-use Rattle.lhm_ring.proofs.Rows.{AllByRecursion-append, AllByRecursion-left, AllByRecursion-right, AllByRecursion-removed, AllByRecursion-last, IsApart-left, IsFresh-middle, IsApart-removed, IsApart-inserted, RowCut-linked, Chained-kept, AllByRecursion-content_kept, AllByRecursion-there_kept, listed-kept, listed-append, Linked-removed, Linked-pushed}
+use Rattle.lhm_ring.proofs.Rows.{AllByRecursion-append, AllByRecursion-left, AllByRecursion-right, AllByRecursion-removed, AllByRecursion-last, IsApart-left, IsFresh-middle, IsApart-removed, IsApart-inserted, RowCut-linked, Chained-unchanged, AllByRecursion-content_unchanged, AllByRecursion-there_unchanged, listed-unchanged, listed-append, Linked-removed, Linked-pushed}
 use Rattle.lhm_ring.proofs.RingNodes.{Found-held, NodeAt-held, ring_list-listed, ring_split}
 
 module _ {B : Type 0} where
@@ -52,7 +52,7 @@ module _ {B : Type 0} (cs : List (Cell Links B)) (spare : Option Ptr) (ss us : L
     pub is_there-last : is_there ds (prev_at ds null_ptr) ≡ true
     is_there-last =
         let T : Ptr → Type 0 = λ q. is_there ds q ≡ true in
-        subst T (sym (RowCut-linked ds null_ptr (us ++ vs) null_ptr [] Linked-joined).edge.1) (AllByRecursion-last T null_ptr (us ++ vs) (j.there null_ptr ∙ r.there.0) (AllByRecursion-there_kept cs ds (prev_at cs p) (next_at cs p) j (us ++ vs) (AllByRecursion-removed There us p vs AllByRecursion-there)))
+        subst T (sym (RowCut-linked ds null_ptr (us ++ vs) null_ptr [] Linked-joined).edge.1) (AllByRecursion-last T null_ptr (us ++ vs) (j.there null_ptr ∙ r.there.0) (AllByRecursion-there_unchanged cs ds (prev_at cs p) (next_at cs p) j (us ++ vs) (AllByRecursion-removed There us p vs AllByRecursion-there)))
 
     module _ (es fs : List (Cell Links B)) (k : IsJoined ds es (prev_at ds null_ptr) p) (l : IsJoined es fs p null_ptr) where
       IsFresh-node : IsFresh p ((null_ptr ∷ us) ++ vs)
@@ -78,11 +78,11 @@ module _ {B : Type 0} (cs : List (Cell Links B)) (spare : Option Ptr) (ss us : L
       pub IsRing-to_back : IsRing fs ((us ++ vs) ++ p ∷ []) spare ss
       IsRing-to_back = record {
         linked = Linked-pushed ds es fs null_ptr (us ++ vs) p (IsApart-removed (null_ptr ∷ us) p vs IsApart-row) IsFresh-node Linked-joined k l;
-        chained = kept (λ zs. Chained zs spare ss) (Chained-kept cs ds _ _ j spare ss) (Chained-kept ds es _ _ k spare ss) (Chained-kept es fs _ _ l spare ss) r.chained;
+        chained = kept (λ zs. Chained zs spare ss) (Chained-unchanged cs ds _ _ j spare ss) (Chained-unchanged ds es _ _ k spare ss) (Chained-unchanged es fs _ _ l spare ss) r.chained;
         held = let qs = (us ++ vs) ++ p ∷ [] in
-            kept (λ zs. AllByRecursion (HasContent zs) qs) (AllByRecursion-content_kept cs ds _ _ j qs) (AllByRecursion-content_kept ds es _ _ k qs) (AllByRecursion-content_kept es fs _ _ l qs) (AllByRecursion-moved (HasContent cs) r.held);
+            kept (λ zs. AllByRecursion (HasContent zs) qs) (AllByRecursion-content_unchanged cs ds _ _ j qs) (AllByRecursion-content_unchanged ds es _ _ k qs) (AllByRecursion-content_unchanged es fs _ _ l qs) (AllByRecursion-moved (HasContent cs) r.held);
         there = let qs = null_ptr ∷ (((us ++ vs) ++ p ∷ []) ++ ss) in
-            kept (λ zs. AllByRecursion (λ q. is_there zs q ≡ true) qs) (AllByRecursion-there_kept cs ds _ _ j qs) (AllByRecursion-there_kept ds es _ _ k qs) (AllByRecursion-there_kept es fs _ _ l qs)
+            kept (λ zs. AllByRecursion (λ q. is_there zs q ≡ true) qs) (AllByRecursion-there_unchanged cs ds _ _ j qs) (AllByRecursion-there_unchanged ds es _ _ k qs) (AllByRecursion-there_unchanged es fs _ _ l qs)
             (r.there.0, AllByRecursion-append There ((us ++ vs) ++ p ∷ []) ss (AllByRecursion-moved There AllByRecursion-there) (AllByRecursion-right There (us ++ p ∷ vs) ss r.there.1));
         apart = IsApart-to_back;
         count = l.count ∙ k.count ∙ j.count ∙ r.count ∙ ap (λ n. suc (n + length ss)) length-to_back;
@@ -91,7 +91,7 @@ module _ {B : Type 0} (cs : List (Cell Links B)) (spare : Option Ptr) (ss us : L
       pub listed-to_back : (t : Held B) → content_at cs p ≡ Some t → listed fs ((us ++ vs) ++ p ∷ []) ≡ (listed cs us ++ listed cs vs) ++ t ∷ []
       listed-to_back t e =
           let qs = (us ++ vs) ++ p ∷ [] in
-          listed-kept es fs _ _ l qs ∙ listed-kept ds es _ _ k qs ∙ listed-kept cs ds _ _ j qs ∙ listed-append cs (us ++ vs) (p ∷ [])
+          listed-unchanged es fs _ _ l qs ∙ listed-unchanged ds es _ _ k qs ∙ listed-unchanged cs ds _ _ j qs ∙ listed-append cs (us ++ vs) (p ∷ [])
           ∙ (λ i. listed-append cs us vs i ++ listed-one cs p t e i)
 
 -- a node that is moved to the end: those beside it are joined, the last with it, and it with the

@@ -9,7 +9,7 @@ use Rattle.lhm_ring.specs.RingState.{Held, held}
 use Rattle.lhm_ring.proofs.Apart.{IsFresh, same_ptr-equal}
 use Rattle.lhm_ring.proofs.Options.{none_some, Some-injective}
 use Rattle.lhm_ring.proofs.Writes.{cell_at-change, cell_at-change_other, length-change, reader-with_links_same, links_of-seen}
-use Rattle.lhm_ring.proofs.Rows.{AllByRecursion-map, AllByRecursion-append, AllByRecursion-left, AllByRecursion-right, AllByRecursion-removed, IsApart-left, IsFresh-middle, IsApart-removed, IsApart-inserted, Chained-kept, AllByRecursion-content_kept, AllByRecursion-there_kept, listed-kept, listed-append, Linked-pushed}
+use Rattle.lhm_ring.proofs.Rows.{AllByRecursion-map, AllByRecursion-append, AllByRecursion-left, AllByRecursion-right, AllByRecursion-removed, IsApart-left, IsFresh-middle, IsApart-removed, IsApart-inserted, Chained-unchanged, AllByRecursion-content_unchanged, AllByRecursion-there_unchanged, listed-unchanged, listed-append, Linked-pushed}
 use Rattle.lhm_ring.proofs.SameNodes.{SameLink, Chained-same}
 use Rattle.lhm_ring.proofs.Moves.{listed-one}
 
@@ -124,16 +124,16 @@ module _ {B : Type 0} (cs ds es fs : List (Cell Links B)) (ps : List Ptr) (spare
   pub IsRing-put_back : IsRing fs (ps ++ p ∷ []) (link_at cs p) ss
   IsRing-put_back = record {
     linked = Linked-pushed ds es fs null_ptr ps p IsApart-row IsFresh-row Linked-there k₁ l;
-    chained = Chained-kept es fs p null_ptr l (link_at cs p) ss (Chained-kept ds es _ p k₁ (link_at cs p) ss (Chained-other cs ds p o.other (link_at cs p) ss IsFresh-chain r.chained.1));
-    held = let qs = ps ++ p ∷ [] in AllByRecursion-content_kept es fs p null_ptr l qs (AllByRecursion-content_kept ds es _ p k₁ qs (AllByRecursion-append (HasContent ds) ps (p ∷ []) (AllByRecursion-content_other cs ds p o.other ps IsFresh-row.1 r.held) ((t, c), tt)));
-    there = let qs = null_ptr ∷ ((ps ++ p ∷ []) ++ ss) in AllByRecursion-there_kept es fs p null_ptr l qs (AllByRecursion-there_kept ds es _ p k₁ qs (AllByRecursion-there_other cs ds p o qs (r.there.0, AllByRecursion-put_back)));
+    chained = Chained-unchanged es fs p null_ptr l (link_at cs p) ss (Chained-unchanged ds es _ p k₁ (link_at cs p) ss (Chained-other cs ds p o.other (link_at cs p) ss IsFresh-chain r.chained.1));
+    held = let qs = ps ++ p ∷ [] in AllByRecursion-content_unchanged es fs p null_ptr l qs (AllByRecursion-content_unchanged ds es _ p k₁ qs (AllByRecursion-append (HasContent ds) ps (p ∷ []) (AllByRecursion-content_other cs ds p o.other ps IsFresh-row.1 r.held) ((t, c), tt)));
+    there = let qs = null_ptr ∷ ((ps ++ p ∷ []) ++ ss) in AllByRecursion-there_unchanged es fs p null_ptr l qs (AllByRecursion-there_unchanged ds es _ p k₁ qs (AllByRecursion-there_other cs ds p o qs (r.there.0, AllByRecursion-put_back)));
     apart = IsApart-put_back;
     count = l.count ∙ k₁.count ∙ o.count ∙ r.count ∙ ap (λ n. suc n) (omega (arith, length-append ps (p ∷ [])));
   }
 
   pub listed-put_back : listed fs (ps ++ p ∷ []) ≡ listed cs ps ++ t ∷ []
   listed-put_back =
-      let qs = ps ++ p ∷ [] in listed-kept es fs p null_ptr l qs ∙ listed-kept ds es _ p k₁ qs ∙ listed-append ds ps (p ∷ []) ∙ (λ i. listed-other cs ds p o.other ps IsFresh-row.1 i ++ listed-one ds p t c i)
+      let qs = ps ++ p ∷ [] in listed-unchanged es fs p null_ptr l qs ∙ listed-unchanged ds es _ p k₁ qs ∙ listed-append ds ps (p ∷ []) ∙ (λ i. listed-other cs ds p o.other ps IsFresh-row.1 i ++ listed-one ds p t c i)
 
 -- a held node p comes out, and is the first spare one
 module _ {B : Type 0} (cs ds es : List (Cell Links B)) (spare : Option Ptr) (ss us : List Ptr) (p : Ptr) (vs : List Ptr) (r : IsRing cs (us ++ p ∷ vs) spare ss) (a b : Ptr)
@@ -164,12 +164,12 @@ module _ {B : Type 0} (cs ds es : List (Cell Links B)) (spare : Option Ptr) (ss 
   pub IsRing-unlinked : IsRing es (us ++ vs) (Some p) (p ∷ ss)
   IsRing-unlinked = record {
     linked = Linked-other ds es p o.other (null_ptr ∷ ((us ++ vs) ++ null_ptr ∷ [])) (IsFresh-unlinked.0, AllByRecursion-append (λ q. same_ptr p q ≡ false) (us ++ vs) (null_ptr ∷ []) IsFresh-held (IsFresh-unlinked.0, tt)) out;
-    chained = (refl, subst (λ z. Chained es z ss) (sym h) (Chained-other ds es p o.other spare ss (AllByRecursion-right (λ q. same_ptr p q ≡ false) (us ++ vs) ss IsFresh-unlinked.1) (Chained-kept cs ds a b j spare ss r.chained)));
-    held = AllByRecursion-content_other ds es p o.other (us ++ vs) IsFresh-held (AllByRecursion-content_kept cs ds a b j (us ++ vs) (AllByRecursion-removed (HasContent cs) us p vs r.held));
-    there = AllByRecursion-there_other ds es p o (null_ptr ∷ ((us ++ vs) ++ p ∷ ss)) (AllByRecursion-there_kept cs ds a b j (null_ptr ∷ ((us ++ vs) ++ p ∷ ss)) AllByRecursion-unlinked);
+    chained = (refl, subst (λ z. Chained es z ss) (sym h) (Chained-other ds es p o.other spare ss (AllByRecursion-right (λ q. same_ptr p q ≡ false) (us ++ vs) ss IsFresh-unlinked.1) (Chained-unchanged cs ds a b j spare ss r.chained)));
+    held = AllByRecursion-content_other ds es p o.other (us ++ vs) IsFresh-held (AllByRecursion-content_unchanged cs ds a b j (us ++ vs) (AllByRecursion-removed (HasContent cs) us p vs r.held));
+    there = AllByRecursion-there_other ds es p o (null_ptr ∷ ((us ++ vs) ++ p ∷ ss)) (AllByRecursion-there_unchanged cs ds a b j (null_ptr ∷ ((us ++ vs) ++ p ∷ ss)) AllByRecursion-unlinked);
     apart = IsApart-unlinked;
     count = o.count ∙ j.count ∙ r.count ∙ ap (λ n. suc n) (omega (arith, length-append us (p ∷ vs), length-append us vs));
   }
 
   pub listed-unlinked : listed es (us ++ vs) ≡ listed cs us ++ listed cs vs
-  listed-unlinked = listed-other ds es p o.other (us ++ vs) IsFresh-held ∙ listed-kept cs ds a b j (us ++ vs) ∙ listed-append cs us vs
+  listed-unlinked = listed-other ds es p o.other (us ++ vs) IsFresh-held ∙ listed-unchanged cs ds a b j (us ++ vs) ∙ listed-append cs us vs

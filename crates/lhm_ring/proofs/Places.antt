@@ -100,12 +100,12 @@ block_ptr-in_block (block_ptr b o) e = ((b, o), refl)
 block_ptr-in_block null_ptr e = cc
 
 -- a ring's chunks stay if its nodes keep theirs
-pub IsLaid-same : {us vs : List Ptr} {cs ds : List (Ptr × ℕ)} {kept : List Chunk} {made : ℕ} → IsLaid us cs kept made → vs ≡ us → ds ≡ cs → IsLaid vs ds kept made
-IsLaid-same l e f = record { none_unused = e ∙ l.none_unused; all_kept = f ∙ l.all_kept; all_made = l.all_made ∙ ap place_count (sym f) }
+pub IsLaid-same : {us vs : List Ptr} {cs ds : List (Ptr × ℕ)} {recorded : List Chunk} {made : ℕ} → IsLaid us cs recorded made → vs ≡ us → ds ≡ cs → IsLaid vs ds recorded made
+IsLaid-same l e f = record { none_unused = e ∙ l.none_unused; all_recorded = f ∙ l.all_recorded; all_made = l.all_made ∙ ap place_count (sym f) }
 
-pub IsLaid-none : {us : List Ptr} {cs : List (Ptr × ℕ)} {kept : List Chunk} → us ≡ [] → cs ≡ [] → kept ≡ [] → IsLaid us cs kept 0
+pub IsLaid-none : {us : List Ptr} {cs : List (Ptr × ℕ)} {recorded : List Chunk} → us ≡ [] → cs ≡ [] → recorded ≡ [] → IsLaid us cs recorded 0
 unfolding place_count
-IsLaid-none e f k = record { none_unused = e; all_kept = f ∙ sym (ap (map extent) k); all_made = sym (ap place_count f) }
+IsLaid-none e f k = record { none_unused = e; all_recorded = f ∙ sym (ap (map extent) k); all_made = sym (ap place_count f) }
 
 pub row-less : (p : Ptr) (s n : ℕ) → 0 < n → row p s n ≡ row p s (n - 1 + 1)
 row-less p s n some = row-same p s n (n - 1 + 1) (omega arith)
@@ -126,6 +126,6 @@ length-made ns us s cs h e = sym (length-map ns (λ n. n.at)) ∙ ap length (ap 
 pub IsLaid-grown : {us vs : List Ptr} {cs ds : List (Ptr × ℕ)} {ks js : List Chunk} {made : ℕ} (c : Ptr × ℕ) → IsLaid us cs ks made → vs ≡ [] → ds ≡ cs ++ c ∷ [] → map extent js ≡ map extent ks ++ c ∷ [] → IsLaid vs ds js (made + c.1)
 IsLaid-grown {cs = cs} {made = made} c l e f k = record {
   none_unused = e;
-  all_kept = f ∙ ap (λ zs. zs ++ c ∷ []) l.all_kept ∙ sym k;
+  all_recorded = f ∙ ap (λ zs. zs ++ c ∷ []) l.all_recorded ∙ sym k;
   all_made = ap (λ (n : ℕ). n + c.1) l.all_made ∙ sym (place_count-last cs c) ∙ sym (ap place_count f);
 }

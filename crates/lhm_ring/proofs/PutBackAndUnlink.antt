@@ -5,7 +5,7 @@ use denote.RawPtr.{Ptr, null_ptr}
 use Rattle.lhm_ring.specs.declared.block.NodePointer.{NodePointer}
 use Rattle.lhm_ring.specs.declared.links.Links.{Links}
 use Rattle.lhm_ring.specs.Cells.{Cell, links_at, body_at, IsAt, Holds, with_links, with_body}
-use Rattle.lhm_ring.specs.Rings.{relinked, Relinks, next_of, prev_of, link_of, next_at, prev_at, link_at, is_there, content_of, content_at, Chained, IsRing, listed, IsJoined, ring_list, RingOk}
+use Rattle.lhm_ring.specs.Rings.{chaining_to, ChainsTo, next_of, prev_of, link_of, next_at, prev_at, link_at, is_there, content_of, content_at, Chained, IsRing, listed, IsJoined, ring_list, RingOk}
 use Rattle.lhm_ring.specs.RingState.{State, state, held, IsHeld, AtHeld}
 use Rattle.lhm_ring.specs.Splits.{SplitAround}
 use Rattle.lhm_ring.specs.Targets.{target}
@@ -129,18 +129,18 @@ module _ {B : Type 0} (cs : List (Cell Links B)) (spare : Link) (n m : ℕ) (v :
     pub IsAt-unlinked : IsHeld v.held at.ptr → IsAt c₁ at.ptr
     IsAt-unlinked h = let a = IsAt-node h in (a.0, ap (λ z. links_at z at.ptr) e₁ ∙ links_at-with_body at.ptr None ds a.0 a.1 at.ptr ∙ a.1)
 
-    module _ (k : Relinks c₁ at.ptr spare c₂) where
+    module _ (k : ChainsTo c₁ at.ptr spare c₂) where
       e₂ : (h : IsHeld v.held at.ptr)
-          → c₂ ≡ with_links at.ptr (relinked spare (IsAt-unlinked h).0) c₁
+          → c₂ ≡ with_links at.ptr (chaining_to spare (IsAt-unlinked h).0) c₁
       e₂ h = k (IsAt-unlinked h).0 (IsAt-unlinked h).1
 
       OnlyAt-unlinked : IsHeld v.held at.ptr → OnlyAt ds c₂ at.ptr
       OnlyAt-unlinked h =
           let a = IsAt-node h in let b = IsAt-unlinked h in
-          OnlyAt-both ds c₁ c₂ at.ptr (subst (λ z. OnlyAt ds z at.ptr) (sym e₁) (OnlyAt-with_body at.ptr None ds a.0 a.1)) (subst (λ z. OnlyAt c₁ z at.ptr) (sym (e₂ h)) (OnlyAt-with_links at.ptr (relinked spare b.0) c₁ b.0 b.1))
+          OnlyAt-both ds c₁ c₂ at.ptr (subst (λ z. OnlyAt ds z at.ptr) (sym e₁) (OnlyAt-with_body at.ptr None ds a.0 a.1)) (subst (λ z. OnlyAt c₁ z at.ptr) (sym (e₂ h)) (OnlyAt-with_links at.ptr (chaining_to spare b.0) c₁ b.0 b.1))
 
       link_at-spare : IsHeld v.held at.ptr → link_at c₂ at.ptr ≡ target spare
-      link_at-spare h = let b = IsAt-unlinked h in ap (λ z. link_of (links_at z at.ptr)) (e₂ h) ∙ ap link_of (links_at-with_links_here at.ptr (relinked spare b.0) c₁ b.0 b.1)
+      link_at-spare h = let b = IsAt-unlinked h in ap (λ z. link_of (links_at z at.ptr)) (e₂ h) ∙ ap link_of (links_at-with_links_here at.ptr (chaining_to spare b.0) c₁ b.0 b.1)
 
       left : IsHeld v.held at.ptr → (s : SplitAround ok.held_pointers at.ptr) → IsRing c₂ (s.before ++ s.after) (Some at.ptr) (at.ptr ∷ ok.spare_pointers)
       left h s =

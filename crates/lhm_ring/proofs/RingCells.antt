@@ -6,7 +6,7 @@ use Rattle.lhm_ring.specs.declared.links.Links.{Links}
 use Rattle.lhm_ring.specs.declared.links.Ends.{Ends}
 use Rattle.lhm_ring.specs.declared.link.Link.{Link}
 use Rattle.lhm_ring.specs.Cells.{Cell, cell, same_ptr, pointers, cell_at, links_of, body_of, links_at, body_at, change, with_links, with_body, is_block, AreBlocks, IsAt, Holds}
-use Rattle.lhm_ring.specs.Rings.{ends_links, ring_cells, leading_on, leading_back, LeadsOn, LeadsBack, relinked, Relinks, has_links, next_of, prev_of, next_at, prev_at, is_there, content_at, content_of, Linked, Chained, HasContent, listed, one_of, IsJoined, IsRing, RingOk, link_at, link_of}
+use Rattle.lhm_ring.specs.Rings.{ends_links, ring_cells, leading_on, leading_back, LeadsOn, LeadsBack, chaining_to, ChainsTo, has_links, next_of, prev_of, next_at, prev_at, is_there, content_at, content_of, Linked, Chained, HasContent, listed, one_of, IsJoined, IsRing, RingOk, link_at, link_of}
 use Rattle.lhm_ring.specs.Targets.{led_to, target}
 use Rattle.lhm_ring.proofs.Apart.{IsApart-none, IsApart-added}
 use Rattle.lhm_ring.proofs.Options.{none_some, Some-injective}
@@ -99,8 +99,8 @@ module _ {B : Type 0} (e : Ends) (cs : List (Cell Links B)) (p : Ptr) (b : is_bl
   pub Holds-in_nodes : Holds (ring_cells e cs) p → Holds cs p
   Holds-in_nodes h = (h.0, sym body_at-ring_cells ∙ h.1)
 
-  pub Relinks-ring_cells : (o : Link) (ds : List (Cell Links B)) → Relinks cs p o ds → Relinks (ring_cells e cs) p o (ring_cells e ds)
-  Relinks-ring_cells o ds k l h = ring_cells-with_links (relinked o l) ds (k l (sym links_at-ring_cells ∙ h))
+  pub ChainsTo-ring_cells : (o : Link) (ds : List (Cell Links B)) → ChainsTo cs p o ds → ChainsTo (ring_cells e cs) p o (ring_cells e ds)
+  ChainsTo-ring_cells o ds k l h = ring_cells-with_links (chaining_to o l) ds (k l (sym links_at-ring_cells ∙ h))
 
   pub LeadsOn-node : (o : Link) (ds : List (Cell Links B)) (l : Links) → links_at cs p ≡ Some l → ds ≡ with_links p (leading_on o l) cs → LeadsOn (ring_cells e cs) p o (ring_cells e ds)
   LeadsOn-node o ds l h is k g = ring_cells-with_links (leading_on o l) ds is ∙ ap (λ (z : Links). with_links p (leading_on o z) (ring_cells e cs)) (Some-injective l k (sym h ∙ sym links_at-ring_cells ∙ g))

@@ -134,32 +134,32 @@ module _ {B : Type 0} where
         ap (λ q. q ∷ follow cs (length ys) q) l.0.0 ∙ ap (λ qs. y ∷ qs) (follow-row y ys z l.1)
 
   module _ (cs ds : List (Cell Links B)) (a b : Ptr) (j : IsJoined cs ds a b) where
-    Edge-kept : (x y : Ptr) → same_ptr a x ≡ false → same_ptr b y ≡ false → Edge cs x y → Edge ds x y
-    Edge-kept x y m n e = (j.next x ∙ ap (λ t. cond t b (next_at cs x)) m ∙ e.0, j.prev y ∙ ap (λ t. cond t a (prev_at cs y)) n ∙ e.1)
+    Edge-unchanged : (x y : Ptr) → same_ptr a x ≡ false → same_ptr b y ≡ false → Edge cs x y → Edge ds x y
+    Edge-unchanged x y m n e = (j.next x ∙ ap (λ t. cond t b (next_at cs x)) m ∙ e.0, j.prev y ∙ ap (λ t. cond t a (prev_at cs y)) n ∙ e.1)
 
     pub Edge-made : Edge ds a b
     Edge-made = (j.next a ∙ ap (λ t. cond t b (next_at cs a)) (same_ptr-reflexive a), j.prev b ∙ ap (λ t. cond t a (prev_at cs b)) (same_ptr-reflexive b))
 
-    pub Linked-kept : (s : List Ptr) → AvoidsSource a s → AvoidsTarget b s → Linked cs s
+    pub Linked-unchanged : (s : List Ptr) → AvoidsSource a s → AvoidsTarget b s → Linked cs s
         → Linked ds s
-    Linked-kept [] m n l = tt
-    Linked-kept (x ∷ []) m n l = tt
-    Linked-kept (x ∷ y ∷ r) m n l = (Edge-kept x y m.0 n.0 l.0, Linked-kept (y ∷ r) m.1 n.1 l.1)
+    Linked-unchanged [] m n l = tt
+    Linked-unchanged (x ∷ []) m n l = tt
+    Linked-unchanged (x ∷ y ∷ r) m n l = (Edge-unchanged x y m.0 n.0 l.0, Linked-unchanged (y ∷ r) m.1 n.1 l.1)
 
-    pub Chained-kept : (h : Option Ptr) (ss : List Ptr) → Chained cs h ss → Chained ds h ss
-    Chained-kept h [] c = c
-    Chained-kept h (p ∷ ps) c = (c.0, Chained-kept (link_at ds p) ps (subst (λ o. Chained cs o ps) (sym (j.link p)) c.1))
+    pub Chained-unchanged : (h : Option Ptr) (ss : List Ptr) → Chained cs h ss → Chained ds h ss
+    Chained-unchanged h [] c = c
+    Chained-unchanged h (p ∷ ps) c = (c.0, Chained-unchanged (link_at ds p) ps (subst (λ o. Chained cs o ps) (sym (j.link p)) c.1))
 
-    pub AllByRecursion-content_kept : (ps : List Ptr) → AllByRecursion (HasContent cs) ps → AllByRecursion (HasContent ds) ps
-    AllByRecursion-content_kept = AllByRecursion-map (HasContent cs) (HasContent ds) (λ p h. (h.0, j.content p ∙ h.1))
+    pub AllByRecursion-content_unchanged : (ps : List Ptr) → AllByRecursion (HasContent cs) ps → AllByRecursion (HasContent ds) ps
+    AllByRecursion-content_unchanged = AllByRecursion-map (HasContent cs) (HasContent ds) (λ p h. (h.0, j.content p ∙ h.1))
 
-    pub AllByRecursion-there_kept : (ps : List Ptr) → AllByRecursion (λ p. is_there cs p ≡ true) ps → AllByRecursion (λ p. is_there ds p ≡ true) ps
-    AllByRecursion-there_kept = AllByRecursion-map (λ p. is_there cs p ≡ true) (λ p. is_there ds p ≡ true) (λ p h. j.there p ∙ h)
+    pub AllByRecursion-there_unchanged : (ps : List Ptr) → AllByRecursion (λ p. is_there cs p ≡ true) ps → AllByRecursion (λ p. is_there ds p ≡ true) ps
+    AllByRecursion-there_unchanged = AllByRecursion-map (λ p. is_there cs p ≡ true) (λ p. is_there ds p ≡ true) (λ p h. j.there p ∙ h)
 
-    pub listed-kept : (ps : List Ptr) → listed ds ps ≡ listed cs ps
+    pub listed-unchanged : (ps : List Ptr) → listed ds ps ≡ listed cs ps
     unfolding listed
-    listed-kept [] = refl
-    listed-kept (p ∷ ps) = (λ i. one_of (j.content p i) ++ listed-kept ps i)
+    listed-unchanged [] = refl
+    listed-unchanged (p ∷ ps) = (λ i. one_of (j.content p i) ++ listed-unchanged ps i)
 
   pub listed-append : (cs : List (Cell Links B)) (xs ys : List Ptr) → listed cs (xs ++ ys) ≡ listed cs xs ++ listed cs ys
   unfolding listed
@@ -184,15 +184,15 @@ module _ {B : Type 0} where
       let cut = RowCut-linked cs g xs p (g ∷ []) l in let a = last_from g xs in
       let k : IsJoined cs ds a g = subst (λ (z : Ptr × Ptr). IsJoined cs ds z.0 z.1) (λ i. (cut.edge.1 i, cut.after.0.0 i)) j in
       let whole = IsApart-left (g ∷ xs) (p ∷ []) d in
-      Linked-glued ds g xs g [] (Linked-kept cs ds a g k (g ∷ xs) (AvoidsSource-last g xs whole) (IsFresh-head g xs whole) cut.before) (Edge-made cs ds a g k) tt
+      Linked-glued ds g xs g [] (Linked-unchanged cs ds a g k (g ∷ xs) (AvoidsSource-last g xs whole) (IsFresh-head g xs whole) cut.before) (Edge-made cs ds a g k) tt
   Linked-removed cs ds g xs p (y ∷ r) d l j =
       let cut = RowCut-linked cs g xs p (y ∷ (r ++ g ∷ [])) l in let a = last_from g xs in
       let k : IsJoined cs ds a y = subst (λ (z : Ptr × Ptr). IsJoined cs ds z.0 z.1) (λ i. (cut.edge.1 i, cut.after.0.0 i)) j in
       let whole = IsApart-left (g ∷ xs) (p ∷ y ∷ r) d in let less = IsApart-removed (g ∷ xs) p (y ∷ r) d in
       let free = IsFresh-middle (g ∷ xs) y r less in let P : Ptr → Type 0 = λ q. same_ptr y q ≡ false in
       let across = AllByRecursion-fresh_across (g ∷ xs) (y ∷ r) less in
-      Linked-glued ds g xs y (r ++ g ∷ []) (Linked-kept cs ds a y k (g ∷ xs) (AvoidsSource-last g xs whole) (AllByRecursion-left P xs r free.1) cut.before) (Edge-made cs ds a y k)
-      (Linked-kept cs ds a y k (y ∷ (r ++ g ∷ [])) (AvoidsSource-but_last a y r g (AllByRecursion-last (λ x. IsFresh x (y ∷ r)) g xs across.0 across.1)) (AllByRecursion-append P r (g ∷ []) (AllByRecursion-right P xs r free.1) (free.0, tt)) cut.after.1)
+      Linked-glued ds g xs y (r ++ g ∷ []) (Linked-unchanged cs ds a y k (g ∷ xs) (AvoidsSource-last g xs whole) (AllByRecursion-left P xs r free.1) cut.before) (Edge-made cs ds a y k)
+      (Linked-unchanged cs ds a y k (y ∷ (r ++ g ∷ [])) (AvoidsSource-but_last a y r g (AllByRecursion-last (λ x. IsFresh x (y ∷ r)) g xs across.0 across.1)) (AllByRecursion-append P r (g ∷ []) (AllByRecursion-right P xs r free.1) (free.0, tt)) cut.after.1)
 
   -- a node p comes last
   pub Linked-pushed : (cs ds es : List (Cell Links B)) (g : Ptr) (ps : List Ptr) (p : Ptr) → IsApart (g ∷ ps) → IsFresh p (g ∷ ps) → Linked cs (g ∷ (ps ++ g ∷ []))
@@ -201,8 +201,8 @@ module _ {B : Type 0} where
       let cut = RowCut-linked cs g ps g [] l in let a = last_from g ps in
       let j' : IsJoined cs ds a p = subst (λ z. IsJoined cs ds z p) cut.edge.1 j in
       let P : Ptr → Type 0 = λ q. same_ptr g q ≡ false in
-      let first : Linked ds (g ∷ (ps ++ p ∷ [])) = Linked-glued ds g ps p [] (Linked-kept cs ds a p j' (g ∷ ps) (AvoidsSource-last g ps d) free.1 cut.before) (Edge-made cs ds a p j') tt in
-      let second : Linked es (g ∷ (ps ++ p ∷ [])) = Linked-kept ds es p g k (g ∷ (ps ++ p ∷ [])) (AvoidsSource-but_last p g ps p free) (AllByRecursion-append P ps (p ∷ []) (IsFresh-head g ps d) (same_ptr-flip p g free.0, tt)) first in
+      let first : Linked ds (g ∷ (ps ++ p ∷ [])) = Linked-glued ds g ps p [] (Linked-unchanged cs ds a p j' (g ∷ ps) (AvoidsSource-last g ps d) free.1 cut.before) (Edge-made cs ds a p j') tt in
+      let second : Linked es (g ∷ (ps ++ p ∷ [])) = Linked-unchanged ds es p g k (g ∷ (ps ++ p ∷ [])) (AvoidsSource-but_last p g ps p free) (AllByRecursion-append P ps (p ∷ []) (IsFresh-head g ps d) (same_ptr-flip p g free.0, tt)) first in
       Linked-glued es g (ps ++ p ∷ []) g [] second (subst (λ z. Edge es z g) (sym (last_from-push g ps p)) (Edge-made ds es p g k)) tt
 
   pub at-content_of : (p : Ptr) (o : Option Links) (b : Option B) (t : Held B) → content_of p o b ≡ Some t → t.at ≡ p

@@ -6,14 +6,14 @@ use Rattle.lhm_ring.specs.declared.block.NodePointer.{NodePointer}
 use Rattle.lhm_ring.specs.declared.links.Links.{Links}
 use Rattle.lhm_ring.specs.declared.links.Ends.{Ends}
 use Rattle.lhm_ring.specs.Cells.{Cell, cell, cell_at, same_ptr, links_of, body_of, links_at, body_at, IsApart, with_links}
-use Rattle.lhm_ring.specs.Rings.{ends_links, ring_cells, relinked, next_of, prev_of, link_of, has_links, next_at, prev_at, link_at, is_there, content_of, content_at, Linked, Chained, HasContent, IsRing, IsJoined, listed, one_of, HasEnds, span_triples, IsSpan, ring_list, RingOk}
+use Rattle.lhm_ring.specs.Rings.{ends_links, ring_cells, chaining_to, next_of, prev_of, link_of, has_links, next_at, prev_at, link_at, is_there, content_of, content_at, Linked, Chained, HasContent, IsRing, IsJoined, listed, one_of, HasEnds, span_triples, IsSpan, ring_list, RingOk}
 use Rattle.lhm_ring.specs.RingState.{Held, triples}
 use Rattle.lhm_ring.specs.Splices.{onto, StartsAt, triple_of, SameButLinks, IsRow, HasRow, SparesRow}
 use Rattle.lhm_ring.specs.Targets.{target}
 use Rattle.lhm_ring.specs.declared.link.Link.{Link}
 use Rattle.lhm_ring.proofs.Apart.{IsFresh, same_ptr-reflexive}
 use Rattle.lhm_ring.proofs.Writes.{cell_at-change_other, length-change, reader-with_links_same, links_at-with_links, body_at-with_links}
-use Rattle.lhm_ring.proofs.Rows.{last_from, AllByRecursion-left, AllByRecursion-right, AllByRecursion-map, IsApart-left, IsFresh-head, IsApart-tail, IsFresh-middle, IsApart-removed, IsApart-inserted, AvoidsSource-fresh, AvoidsSource, AvoidsTarget, RowCut-linked, Linked-kept, Chained-kept, Edge-made, listed-kept}
+use Rattle.lhm_ring.proofs.Rows.{last_from, AllByRecursion-left, AllByRecursion-right, AllByRecursion-map, IsApart-left, IsFresh-head, IsApart-tail, IsFresh-middle, IsApart-removed, IsApart-inserted, AvoidsSource-fresh, AvoidsSource, AvoidsTarget, RowCut-linked, Linked-unchanged, Chained-unchanged, Edge-made, listed-unchanged}
 use Rattle.lhm_ring.proofs.RingCells.{next_at-null, is_there-null, Linked-in_nodes, AllByRecursion-there_in_nodes, Chained-in_nodes, Chained-in_ring}
 use Rattle.lhm_ring.proofs.RingNodes.{ring_list-listed}
 use Rattle.lhm_ring.proofs.OneNodeChanged.{Chained-other}
@@ -35,33 +35,33 @@ pub IsApart-onto : (g : Ptr) (ps ss : List Ptr) → IsApart (g ∷ (ps ++ ss))
 IsApart-onto g [] ss d = d
 IsApart-onto g (p ∷ ps) ss d = IsApart-onto g ps (p ∷ ss) (IsApart-inserted (g ∷ ps) p ss (IsFresh-middle (g ∷ []) p (ps ++ ss) d) (IsApart-removed (g ∷ []) p (ps ++ ss) d))
 
-pub next_of-relinked : (o : Link) (l : Links) → next_of (Some (relinked o l)) ≡ next_of (Some l)
-next_of-relinked o l = refl
+pub next_of-chaining_to : (o : Link) (l : Links) → next_of (Some (chaining_to o l)) ≡ next_of (Some l)
+next_of-chaining_to o l = refl
 
-pub prev_of-relinked : (o : Link) (l : Links) → prev_of (Some (relinked o l)) ≡ prev_of (Some l)
-prev_of-relinked o l = refl
+pub prev_of-chaining_to : (o : Link) (l : Links) → prev_of (Some (chaining_to o l)) ≡ prev_of (Some l)
+prev_of-chaining_to o l = refl
 
-pub link_of-relinked : (o : Link) (l : Links) → link_of (Some (relinked o l)) ≡ target o
-link_of-relinked o l = refl
+pub link_of-chaining_to : (o : Link) (l : Links) → link_of (Some (chaining_to o l)) ≡ target o
+link_of-chaining_to o l = refl
 
-pub hash-relinked : (o : Link) (l : Links) → (relinked o l).hash ≡ l.hash
-hash-relinked o l = refl
+pub hash-chaining_to : (o : Link) (l : Links) → (chaining_to o l).hash ≡ l.hash
+hash-chaining_to o l = refl
 
 module _ {B : Type 0} where
-  triple_of-relinked : (q : Ptr) (o : Link) (l : Links) (b : Option B) → triple_of (content_of q (Some (relinked o l)) b) ≡ triple_of (content_of q (Some l) b)
-  triple_of-relinked q o l None = refl
-  triple_of-relinked q o l (Some x) = ap (λ h. Some (h, x)) (hash-relinked o l)
+  triple_of-chaining_to : (q : Ptr) (o : Link) (l : Links) (b : Option B) → triple_of (content_of q (Some (chaining_to o l)) b) ≡ triple_of (content_of q (Some l) b)
+  triple_of-chaining_to q o l None = refl
+  triple_of-chaining_to q o l (Some x) = ap (λ h. Some (h, x)) (hash-chaining_to o l)
 
   -- what the write of a chain link keeps
-  SameButLinks-relinked : (cs : List (Cell Links B)) (p : Ptr) (o : Link) (la : Links) → links_at cs p ≡ Some la → SameButLinks cs (with_links p (relinked o la) cs)
-  SameButLinks-relinked cs p o la e =
-      let l = relinked o la in
+  SameButLinks-chaining_to : (cs : List (Cell Links B)) (p : Ptr) (o : Link) (la : Links) → links_at cs p ≡ Some la → SameButLinks cs (with_links p (chaining_to o la) cs)
+  SameButLinks-chaining_to cs p o la e =
+      let l = chaining_to o la in
       record {
-        next = reader-with_links_same p l next_of cs la e (next_of-relinked o la);
-        prev = reader-with_links_same p l prev_of cs la e (prev_of-relinked o la);
+        next = reader-with_links_same p l next_of cs la e (next_of-chaining_to o la);
+        prev = reader-with_links_same p l prev_of cs la e (prev_of-chaining_to o la);
         there = reader-with_links_same p l has_links cs la e refl;
         triple = λ q. ap (λ b. triple_of (content_of q (links_at (with_links p l cs) q) b)) (body_at-with_links p l cs la e q)
-            ∙ reader-with_links_same p l (λ z. triple_of (content_of q z (body_at cs q))) cs la e (triple_of-relinked q o la (body_at cs q)) q;
+            ∙ reader-with_links_same p l (λ z. triple_of (content_of q z (body_at cs q))) cs la e (triple_of-chaining_to q o la (body_at cs q)) q;
         count = length-change p (λ c. cell c.at l c.body) cs;
       }
 
@@ -81,14 +81,14 @@ module _ {B : Type 0} where
   -- the first node of a row becomes the first spare one
   module _ (cs : List (Cell Links B)) (at : NodePointer) (n : ℕ) (spare : Link) (la : Links) (ea : links_at cs at.ptr ≡ Some la) (next : Ptr) (is : next ≡ la.next.ptr) where
     abbrev after : List (Cell Links B)
-    after = with_links at.ptr (relinked spare la) cs
+    after = with_links at.ptr (chaining_to spare la) cs
 
     link_at-now : link_at after at.ptr ≡ target spare
-    link_at-now = ap link_of (links_at-with_links at.ptr (relinked spare la) cs la ea at.ptr ∙ ap (λ y. cond y (Some (relinked spare la)) (links_at cs at.ptr)) (same_ptr-reflexive at.ptr)) ∙ link_of-relinked spare la
+    link_at-now = ap link_of (links_at-with_links at.ptr (chaining_to spare la) cs la ea at.ptr ∙ ap (λ y. cond y (Some (chaining_to spare la)) (links_at cs at.ptr)) (same_ptr-reflexive at.ptr)) ∙ link_of-chaining_to spare la
 
     IsRow-shorter : (p : Ptr) (rs ss : List Ptr) → p ≡ at.ptr → IsRow cs at.ptr n (target spare) (p ∷ rs) ss → IsRow after next (n - 1) (Some at.ptr) rs (at.ptr ∷ ss)
     IsRow-shorter p rs ss here r =
-        let same = SameButLinks-relinked cs at.ptr spare la ea in let long = r.long in
+        let same = SameButLinks-chaining_to cs at.ptr spare la ea in let long = r.long in
         let free = subst (λ q. IsFresh q (rs ++ ss)) here (IsFresh-head p (rs ++ ss) r.apart) in
         let linked : Linked cs (at.ptr ∷ rs) = subst (λ q. Linked cs (q ∷ rs)) here r.linked in
         record {
@@ -100,7 +100,7 @@ module _ {B : Type 0} where
           chained = (
             refl,
             subst (λ h. Chained after h ss) (sym link_at-now)
-                (Chained-other cs after at.ptr (λ q n. cell_at-change_other at.ptr (λ c. cell c.at (relinked spare la) c.body) (λ c. refl) q n cs) (target spare) ss (AllByRecursion-right (λ q. same_ptr at.ptr q ≡ false) rs ss free) r.chained),
+                (Chained-other cs after at.ptr (λ q n. cell_at-change_other at.ptr (λ c. cell c.at (chaining_to spare la) c.body) (λ c. refl) q n cs) (target spare) ss (AllByRecursion-right (λ q. same_ptr at.ptr q ≡ false) rs ss free) r.chained),
           );
         }
 
@@ -115,7 +115,7 @@ module _ {B : Type 0} where
     then_all ds s h k [] ss r = let long = r.long in absurd (omega arith)
     then_all ds s h k (p ∷ rs) ss r =
         let on = k rs (at.ptr ∷ ss) (IsRow-shorter p rs ss r.starts r) in
-        (SameButLinks-both cs after ds (SameButLinks-relinked cs at.ptr spare la ea) on.0, subst (λ q. Chained ds s (onto rs (q ∷ ss))) (sym r.starts) on.1)
+        (SameButLinks-both cs after ds (SameButLinks-chaining_to cs at.ptr spare la ea) on.0, subst (λ q. Chained ds s (onto rs (q ∷ ss))) (sym r.starts) on.1)
 
     pub SparesRow-step : (ds : List (Cell Links B)) (s : Option Ptr) → 0 < n → SparesRow after next (n - 1) (Some at.ptr) ds s → SparesRow cs at.ptr n (target spare) ds s
     SparesRow-step ds s h k ps ss r = then_all ds s h k ps ss r
@@ -225,7 +225,7 @@ module _ {B : Type 0} (e : Ends) (nodes : List (Cell Links B)) (spare : Link) (n
       IsRing-empty : IsRing es [] (target h) (onto o.held_pointers o.spare_pointers)
       IsRing-empty = record {
         linked = (Edge-made ds es null_ptr null_ptr j, tt);
-        chained = Chained-kept ds es null_ptr null_ptr j (target h) (onto o.held_pointers o.spare_pointers) (Chained-in_ring e zs (target h) (onto o.held_pointers o.spare_pointers) (AllByRecursion-onto (λ q. same_ptr null_ptr q ≡ false) o.held_pointers o.spare_pointers IsFresh-row IsFresh-spares) spared.1);
+        chained = Chained-unchanged ds es null_ptr null_ptr j (target h) (onto o.held_pointers o.spare_pointers) (Chained-in_ring e zs (target h) (onto o.held_pointers o.spare_pointers) (AllByRecursion-onto (λ q. same_ptr null_ptr q ≡ false) o.held_pointers o.spare_pointers IsFresh-row IsFresh-spares) spared.1);
         held = tt;
         there = AllByRecursion-there;
         apart = IsApart-onto null_ptr o.held_pointers o.spare_pointers o.ring.apart;
@@ -252,7 +252,7 @@ module _ {B : Type 0} (e : Ends) (nodes : List (Cell Links B)) (spare : Link) (n
       AvoidsTarget-null (r ∷ rs) f = f.1
 
       Linked-spliced : Linked es o.held_pointers
-      Linked-spliced = Linked-kept ds es null_ptr null_ptr j o.held_pointers (AvoidsSource-null o.held_pointers IsFresh-row) (AvoidsTarget-null o.held_pointers IsFresh-row) (Linked-same cs ds same.next same.prev o.held_pointers (Linked-tail cs null_ptr o.held_pointers cut.0))
+      Linked-spliced = Linked-unchanged ds es null_ptr null_ptr j o.held_pointers (AvoidsSource-null o.held_pointers IsFresh-row) (AvoidsTarget-null o.held_pointers IsFresh-row) (Linked-same cs ds same.next same.prev o.held_pointers (Linked-tail cs null_ptr o.held_pointers cut.0))
 
       pub IsSpan-spliced : IsSpan es (next_at cs null_ptr) (prev_at cs null_ptr) n
       IsSpan-spliced = record {
@@ -272,5 +272,5 @@ module _ {B : Type 0} (e : Ends) (nodes : List (Cell Links B)) (spare : Link) (n
       pub span_triples-spliced : span_triples es n (next_at cs null_ptr) ≡ triples (ring_list cs n)
       unfolding IsSpan-spliced
       span_triples-spliced =
-          ap (λ qs. triples (listed es qs)) (pointers_from-span es (next_at cs null_ptr) (prev_at cs null_ptr) n IsSpan-spliced) ∙ ap triples (listed-kept ds es null_ptr null_ptr j o.held_pointers) ∙ triples-same o.held_pointers
+          ap (λ qs. triples (listed es qs)) (pointers_from-span es (next_at cs null_ptr) (prev_at cs null_ptr) n IsSpan-spliced) ∙ ap triples (listed-unchanged ds es null_ptr null_ptr j o.held_pointers) ∙ triples-same o.held_pointers
           ∙ ap triples (sym (ring_list-listed cs o.held_pointers (target spare) o.spare_pointers n o.ring o.held_count))

@@ -12,11 +12,11 @@ unfoldable pub place_count : List (Ptr × ℕ) → ℕ
 place_count [] = 0
 place_count (c ∷ cs) = place_count cs + c.1
 
--- all places are nodes, of which the ring has made this many, and it keeps all chunks
-pub record IsLaid (unused : List Ptr) (chunks : List (Ptr × ℕ)) (kept : List Chunk) (made : ℕ) :
+-- all places are nodes, of which the ring has made this many, and its vector has all chunks
+pub record IsLaid (unused : List Ptr) (chunks : List (Ptr × ℕ)) (recorded : List Chunk) (made : ℕ) :
     Type 0 where
   pub none_unused : unused ≡ []
-  pub all_kept : chunks ≡ map extent kept
+  pub all_recorded : chunks ≡ map extent recorded
   pub all_made : made ≡ place_count chunks
 
 -- how many nodes there are after a growth to the number needed: if there were fewer, at least

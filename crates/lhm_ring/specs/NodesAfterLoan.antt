@@ -55,7 +55,7 @@ cleared_nodes n =
           (sym (pointers-cleared n.cells)) n.laid;
     }
 
--- once the borrow named r ends, which is of no bytes, the nodes hold nothing
+-- once the borrow r, of no bytes, ends, the nodes hold nothing
 abbrev pub lends_bodies : (L K V : RattleType) → MutBor (Nodes L.Denot K.Denot V.Denot) → GName
     → Fml
 lends_bodies L K V n r =

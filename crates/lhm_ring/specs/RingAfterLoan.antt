@@ -44,7 +44,7 @@ abbrev pub KeepsAllButValues : {K V : Type 0} → State (K × V) → Type 0
 KeepsAllButValues {K} {V} s =
     (vs : List V) → map unvalued (set_held_values s.held vs) ≡ map unvalued s.held
 
--- the ring behind s has the values that the loan named r ends at, and all else as it was
+-- the ring that s refers to has the values that the loan named r ends at, and all else as it was
 abbrev pub lends_values : (K V : RattleType) → MutBor (State (K.Denot × V.Denot)) → GName → Fml
 lends_values K V s r = follows (the_row K V) (the_row K V) s.ghost_name r (with_values s.now)
 
@@ -52,7 +52,7 @@ lends_values K V s r = follows (the_row K V) (the_row K V) s.ghost_name r (with_
 abbrev pub all_spare : {B : Type 0} → State B → State B
 all_spare s = state [] (s.spares + length s.held) s.nodes
 
--- once the borrow named r ends, which is of no bytes, the ring behind s holds nothing and all its
--- nodes are spare
+-- once the borrow r, of no bytes, ends, the ring that s refers to holds nothing and all its nodes
+-- are spare
 abbrev pub lends_spliced : (K V : RattleType) → MutBor (State (K.Denot × V.Denot)) → GName → Fml
 lends_spliced K V s r = follows (the_row K V) (Array u8 0) s.ghost_name r (λ _. all_spare s.now)

@@ -13,8 +13,8 @@ use Rattle.lhm_ring.specs.declared.links.Ends.{Ends}
 use Rattle.lhm_ring.specs.Targets.{target}
 
 -- the links, with the chain link o, or with the next node o, or with the node before
-abbrev pub relinked : Link → Links → Links
-relinked o l = record l { link = o }
+abbrev pub chaining_to : Link → Links → Links
+chaining_to o l = record l { link = o }
 
 abbrev pub leading_on : Link → Links → Links
 leading_on o l = record l { next = o }
@@ -76,8 +76,8 @@ module _ {B : Type 0} where
   content_at cs p = content_of p (links_at cs p) (body_at cs p)
 
   -- in ds the chain link of the node at p is o, and nothing else differs
-  abbrev pub Relinks : List (Cell Links B) → Ptr → Link → List (Cell Links B) → Type 0
-  Relinks cs p o ds = (l : Links) → links_at cs p ≡ Some l → ds ≡ with_links p (relinked o l) cs
+  abbrev pub ChainsTo : List (Cell Links B) → Ptr → Link → List (Cell Links B) → Type 0
+  ChainsTo cs p o ds = (l : Links) → links_at cs p ≡ Some l → ds ≡ with_links p (chaining_to o l) cs
 
   -- the same of the next node, and of the node before
   abbrev pub LeadsOn : List (Cell Links B) → Ptr → Link → List (Cell Links B) → Type 0

@@ -15,8 +15,7 @@ abbrev pub lends_value : (K V : RattleType) → MutBor (TableState (K.Denot × V
     → MutBor V.Denot → Fml
 lends_value K V s p r = Lends (the_row K V) V s r (with_value s.now p)
 
--- once the borrow named r ends, which is of no bytes, the table holds nothing, and all else is as
--- it was
+-- once the borrow r, of no bytes, ends, the table holds nothing, and all else is as it was
 abbrev pub lends_drained : (K V : RattleType) → MutBor (TableState (K.Denot × V.Denot)) → GName
     → Fml
 lends_drained K V s r =

@@ -6,7 +6,7 @@ ghost use Rattle.lhm_ring.specs.RingState.{IsHeld, AtHeld, ChangesOnly, linked_t
 
 use crate::link::Link;
 use crate::position::Position;
-use crate::ring::{Ring, relink};
+use crate::ring::{Ring, set_chain};
 
 impl<K, V> Ring<K, V> {
     ghost use Rattle.lhm_ring.specs.Positions.{pointer_of, pointer_of_some};
@@ -99,6 +99,6 @@ impl<K, V> Ring<K, V> {
         ensures nodes { self.new.nodes ≡ self.old.nodes }
         ensures blocks { AreBlocks (map (λ t. t.at) self.old.held) }
     {
-        relink(&mut self.nodes, at.pointer, Link::of(link));
+        set_chain(&mut self.nodes, at.pointer, Link::of(link));
     }
 }

@@ -7,8 +7,8 @@ use std::alloc::{AllocError, Global};
 use std::marker::Model;
 use std::mem::{self, size_of};
 
-/// The bits of a bucket: one is set if a node there may have a hash with its number in the upper
-/// four bits. Not `Drop`, nor is a vector of words.
+/// The bits of a bucket: bit i is set if a node of the bucket may have a hash whose upper four bits
+/// are i. Not `Drop`, nor is a vector of words.
 struct Word {
     bits: u16,
 }
@@ -16,8 +16,8 @@ struct Word {
 // A bucket takes two bytes of the filter.
 const _: () = prove!(size_of::<Word>() == 2);
 
-/// A word for each bucket. A hash without its bit is that of no node. It is not `Drop`: only `free`
-/// ends it.
+/// A word for each bucket. If the bit of a hash is not set, no node has that hash. It is not
+/// `Drop`: only `free` ends it.
 pub(crate) struct Filter {
     words: Vec<Word>,
 }
@@ -43,7 +43,7 @@ fn bit(hash: u64) -> u32
 }
 
 /// Allocates `count` words without bits.
-fn empty_words(alloc: Global, count: usize) -> Result<Vec<Word>, AllocError>
+fn new_words(alloc: Global, count: usize) -> Result<Vec<Word>, AllocError>
     ensures len { IfOk result (λ v. vec_len v ≡ count) }
     ensures exact { IfOk result (λ v. vec_capacity v ≡ count) }
     ensures succeeds { count ≡ 0 → IsOk result }
@@ -72,7 +72,7 @@ impl Filter {
         ensures succeeds { count ≡ 0 → IsOk result }
     {
         Ok(Filter {
-            words: empty_words(alloc, count)?,
+            words: new_words(alloc, count)?,
         })
     }
 

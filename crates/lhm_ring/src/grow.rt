@@ -69,7 +69,7 @@ fn make_spares<K, V>(
 }
 
 /// Allocates a chunk of `places` unused places, and returns the first.
-fn take_chunk<K, V>(
+fn allocate_chunk<K, V>(
     nodes: &mut Nodes<Links, K, V>,
     chunks: &mut Vec<Chunk, Global>,
     alloc: &Global,
@@ -83,11 +83,11 @@ fn take_chunk<K, V>(
         nodes.new.unused ≡ row first.ptr nodes.new.node_bytes places) }
     ensures chunks { IfOk result (λ first.
         nodes.new.chunks ≡ nodes.old.chunks ++ (first.ptr, places) ∷ []) }
-    ensures kept { IfOk result (λ first.
+    ensures recorded { IfOk result (λ first.
         map extent chunks.new.items ≡ map extent chunks.old.items ++ (first.ptr, places) ∷ []) }
     ensures refused { OnErr result
         ((nodes.new.unused ≡ nodes.old.unused) × (nodes.new.chunks ≡ nodes.old.chunks)) }
-    ensures refused_kept { OnErr result (chunks.new.items ≡ chunks.old.items) }
+    ensures refused_recorded { OnErr result (chunks.new.items ≡ chunks.old.items) }
 {
     if !fits::<Node<Links, K, V>>(places) {
         return Err(AllocError);
@@ -114,7 +114,7 @@ pub(crate) fn free_chunks<K, V>(
 {
     nodes.clear();
     'each: while let Some(chunk) = chunks.pop() {
-        let block = nodes.remove_chunk(chunk.first, chunk.count);
+        let block = nodes.pop_chunk(chunk.first, chunk.count);
         deallocate(alloc, block, chunk.count);
     }
     chunks.destroy_empty();
@@ -159,7 +159,7 @@ impl<K, V> Ring<K, V> {
             return Ok(());
         }
         let places = (needed - self.made).max(least);
-        let at = take_chunk(&mut self.nodes, &mut self.chunks, &self.alloc, places)?;
+        let at = allocate_chunk(&mut self.nodes, &mut self.chunks, &self.alloc, places)?;
         self.spare = make_spares(&mut self.nodes, at, self.spare, places);
         self.spares += count;
         self.made += places;

@@ -82,7 +82,7 @@ pub(crate) fn chain_all<K, V>(
     count
 }
 
-pub(crate) fn empty_heads(alloc: Global, count: usize) -> Result<Vec<Head>, AllocError>
+pub(crate) fn new_heads(alloc: Global, count: usize) -> Result<Vec<Head>, AllocError>
     ensures empty { IfOk result (λ v. HasNoChain (map leads_to v.items)) }
     ensures len { IfOk result (λ v. vec_len v ≡ count) }
     ensures exact { IfOk result (λ v. vec_capacity v ≡ count) }

@@ -9,7 +9,7 @@ ghost use Rattle.lhm_ring.specs.Buckets.{buckets, IsBucketCount};
 ghost use Rattle.lhm_ring.specs.Filters.{CoversAll};
 
 use crate::filter::Filter;
-use crate::heads::{Head, chain_all, chain_one, clear_heads, empty_heads, free_heads, masked};
+use crate::heads::{Head, chain_all, chain_one, clear_heads, free_heads, masked, new_heads};
 use crate::link::Link;
 use crate::position::Position;
 use crate::ring::Ring;
@@ -63,7 +63,7 @@ impl<K, V> Index<K, V> {
         ensures succeeds { capacity ≡ 0 → IsOk result }
     {
         Ok(Index {
-            heads: empty_heads(alloc, buckets_for(capacity))?,
+            heads: new_heads(alloc, buckets_for(capacity))?,
             marker: PhantomData,
         })
     }

@@ -6,7 +6,7 @@ ghost use Rattle.lhm_ring.specs.RingState.{held, IsHeld, AtHeld};
 use crate::link::Link;
 use crate::links::Links;
 use crate::position::Position;
-use crate::ring::{Ring, join, relink};
+use crate::ring::{Ring, join, set_chain};
 
 impl<K, V> Ring<K, V> {
     ghost use Rattle.lhm_ring.specs.Positions.{pointer_of};
@@ -72,7 +72,7 @@ impl<K, V> Ring<K, V> {
         let old = *self.nodes.links(at);
         join(&mut self.nodes, &mut self.ends, old.prev, old.next);
         let (key, value) = self.nodes.take(at);
-        relink(&mut self.nodes, at, self.spare);
+        set_chain(&mut self.nodes, at, self.spare);
         self.spare = Link::to(at);
         self.len -= 1;
         self.spares += 1;

@@ -36,7 +36,7 @@ impl<K, V> Model for OwnedPairs<K, V> {
     ghost invariant = { λ p. record {
       last : Ptr;
       span : IsSpan p.nodes.cells p.first.ptr last p.left;
-      all_kept : p.nodes.chunks ≡ map extent p.chunks.items;
+      all_recorded : p.nodes.chunks ≡ map extent p.chunks.items;
     } };
 }
 

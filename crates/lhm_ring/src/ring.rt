@@ -2,7 +2,7 @@
 ghost use Rattle.std.specs.Prelude.{◌≡◌, ◌+◌, ◌≤◌, ◌^◌, [], true, length, IfOk, IsOk};
 ghost use Rattle.lhm_ring.specs.Cells.{IsAt};
 ghost use Rattle.lhm_ring.specs.RingState.{triples};
-ghost use Rattle.lhm_ring.specs.Rings.{ring_cells, IsJoined, LeadsOn, LeadsBack, Relinks, is_there};
+ghost use Rattle.lhm_ring.specs.Rings.{ring_cells, IsJoined, LeadsOn, LeadsBack, ChainsTo, is_there};
 
 use crate::block::NodePointer;
 use crate::chunk::Chunk;
@@ -211,9 +211,9 @@ fn set_prev<K, V>(nodes: &mut Nodes<Links, K, V>, ends: &mut Ends, at: Link, pre
 }
 
 /// Sets the chain link of the node at `at`.
-pub(crate) fn relink<K, V>(nodes: &mut Nodes<Links, K, V>, at: NodePointer, link: Link)
+pub(crate) fn set_chain<K, V>(nodes: &mut Nodes<Links, K, V>, at: NodePointer, link: Link)
     requires { IsAt nodes.old.cells at.ptr }
-    ensures relinked { Relinks nodes.old.cells at.ptr link nodes.new.cells }
+    ensures written { ChainsTo nodes.old.cells at.ptr link nodes.new.cells }
     ensures land { (nodes.new.unused ≡ nodes.old.unused) × (nodes.new.chunks ≡ nodes.old.chunks) }
 {
     let mut links = *nodes.links(at);

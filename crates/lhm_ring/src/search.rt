@@ -26,7 +26,8 @@ pub(crate) struct Found<K, V> {
     pub(crate) at: Position<K, V>,
 }
 
-/// Counts a node, and returns whether it has the hash and, asked after it, the key.
+/// Counts a node, and returns whether it has the hash and the key; compares the key only if the
+/// hash is equal.
 fn step<K: Eq, V>(
     ring: &Ring<K, V>,
     at: Position<K, V>,

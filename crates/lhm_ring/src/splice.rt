@@ -8,7 +8,7 @@ use crate::block::NodePointer;
 use crate::link::Link;
 use crate::links::{Ends, Links};
 use crate::nodes::Nodes;
-use crate::ring::{join, relink};
+use crate::ring::{join, set_chain};
 
 /// The nodes from `first` to `last`, and the first spare node after them.
 pub(crate) struct Spliced {
@@ -34,7 +34,7 @@ fn spare_row<K, V>(
     let mut left = count;
     'row: while 0 < left {
         let next = nodes.links(at).next.address();
-        relink(nodes, at, spare);
+        set_chain(nodes, at, spare);
         spare = Link::to(at);
         at = next;
         left -= 1;

@@ -55,6 +55,6 @@ module _ (K V S H : RattleType) (key : HashMembers K.Denot) (build : builder.Gho
         follows map_row map_row m.ghost_name name (λ n.
         record m.now { pairs = set_values m.now.pairs (values_of n.pairs) })
 
-    -- the map is empty once the borrow with this name ends, which is of no bytes
+    -- the map is empty once the borrow with this name, of no bytes, ends
     abbrev pub lends_drained : GName → Fml
     lends_drained name = follows map_row (Array u8 0) m.ghost_name name (λ _. drained m.now)

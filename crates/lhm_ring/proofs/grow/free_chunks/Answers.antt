@@ -4,14 +4,14 @@ use Rattle.lhm_ring.specs.Land.{extent}
 use Rattle.lhm_ring.proofs.Places.{map-extent_last, map-extent_none}
 use Rattle.lhm_ring.proofs.grow.free_chunks.Goals as goal
 
-pub remove_chunk-block-requires : goal.remove_chunk-block-requires
-remove_chunk-block-requires g c =
+pub pop_chunk-block-requires : goal.pop_chunk-block-requires
+pop_chunk-block-requires g c =
     (c.each.invariant.cells, (map extent c.pop.new.self.items, c.each.invariant.chunks ∙ ap (map extent) c.in-Some.ensures.items ∙ map-extent_last c.pop.new.self.items c.in-Some.chunk))
 
 pub each-preserved : goal.each-preserved
 each-preserved g c = record {
-  cells = c.remove_chunk-block.ensures.cells;
-  chunks = append_cancel_right _ _ _ (sym c.remove_chunk-block.ensures.chunks ∙ c.each.invariant.chunks ∙ ap (map extent) c.in-Some.ensures.items ∙ map-extent_last c.pop.new.self.items c.in-Some.chunk);
+  cells = c.pop_chunk-block.ensures.cells;
+  chunks = append_cancel_right _ _ _ (sym c.pop_chunk-block.ensures.chunks ∙ c.each.invariant.chunks ∙ ap (map extent) c.in-Some.ensures.items ∙ map-extent_last c.pop.new.self.items c.in-Some.chunk);
 }
 
 pub returns : goal.returns

@@ -16,8 +16,8 @@ each-init g c =
       stacked = subst (λ (n : ℕ). IsStacked c.args.nodes.now.cells c.args.spare n c.args.nodes.now.cells c.args.spare) none (IsStacked-none _ _);
     }
 
-pub add-at-requires : goal.add-at-requires
-add-at-requires g c = (omega arith, (c.each.invariant.small, c.each.invariant.unused ∙ row-less c.args.start.ptr c.each.nodes.node_bytes c.each.left c.each-test.true))
+pub add-at-requires-clause-unused : goal.add-at-requires-clause-unused
+add-at-requires-clause-unused g c = c.each.invariant.unused ∙ row-less c.args.start.ptr c.each.nodes.node_bytes c.each.left c.each-test.true
 
 pub to-first-requires : goal.to-first-requires
 to-first-requires g c = c.add-at.ensures.block

@@ -9,7 +9,7 @@ use Rattle.lhm_ring.specs.Search.{HoldsOthers, IsEmptied}
 use Rattle.lhm_ring.proofs.IndexTakes.{IsHeld-on_chain, IsHeld-before, length-on_chain, HoldsOthers-take_first_items, HoldsOthers-take_next}
 use Rattle.lhm_ring.proofs.BucketHeads.{pointer_of_some-none}
 use Rattle.lhm_ring.proofs.Filters.{IsEmptied-head}
-use Rattle.lhm_ring.proofs.Entries.{entries-relinked}
+use Rattle.lhm_ring.proofs.Entries.{entries-linked_to}
 use Rattle.lhm_ring.proofs.index.Index.unchain.Goals as goal
 
 pub link-link-requires : goal.link-link-requires
@@ -22,7 +22,7 @@ pub returns-in-Some-clause-lacks : goal.returns-in-Some-clause-lacks
 returns-in-Some-clause-lacks g c = HoldsOthers-take_next c.set_link.new.self.held (pointer_of c.in-Some.before) (pointer_of_some c.link-link.result) (ap pointer_of_some c.in-Some.is) c.requires.indexed c.requires.on_chain c.link-link.ensures.link c.set_link.ensures.held
 
 pub returns-in-Some-clause-held : goal.returns-in-Some-clause-held
-returns-in-Some-clause-held g c = entries-relinked c.args.ring.now.held c.set_link.new.self.held (pointer_of c.in-Some.before) (pointer_of_some c.link-link.result) (IsHeld-before (pointer_of c.in-Some.before) (ap pointer_of_some c.in-Some.is) c.requires.on_chain) c.set_link.ensures.held
+returns-in-Some-clause-held g c = entries-linked_to c.args.ring.now.held c.set_link.new.self.held (pointer_of c.in-Some.before) (pointer_of_some c.link-link.result) (IsHeld-before (pointer_of c.in-Some.before) (ap pointer_of_some c.in-Some.is) c.requires.on_chain) c.set_link.ensures.held
 
 pub returns-in-None-clause-emptied : goal.returns-in-None-clause-emptied
 returns-in-None-clause-emptied g c =

@@ -37,7 +37,7 @@ use Rattle.lhm_ring.proofs.BlockValues.{pointer_made, knows, fresh}
 use Rattle.lhm_ring.proofs.Blocks.{written, block, Rejoins, block_cut}
 use Rattle.lhm_ring.proofs.Memory.{Three, args, RL, RK, RV, lo, Nr, Pl, Land, Cells, word-pointer, alone, value_in}
 use Rattle.lhm_ring.proofs.Places.{row-last, is_block-row_first, is_block-row_last, AreBlocks-row_other, row-next, block_ptr-in_block}
-use Rattle.lhm_ring.proofs.Rooms.{land_cut, land_glue, Places, places_cut}
+use Rattle.lhm_ring.proofs.ChunkPlaces.{land_cut, land_glue, Places, places_cut}
 use Rattle.lhm_ring.specs.contracts.nodes.Nodes.add.{ended, clauses}
 use Rattle.lhm_ring.specs.contracts.nodes.Nodes.add.Key.{name as #self}
 use Rattle.lhm_ring.proofs.nodes.Nodes.add.Statement.{statement}
@@ -55,14 +55,14 @@ add_spec 𝓤 𝓛 𝓜 𝓡 wired L K V LL LK LV =
     let others : Fml = fsep (flft κs.1.0 qs.1.0) (fsep (flft κs.1.1.0 qs.1.1.0) (fsep (flft κs.1.1.1.0 qs.1.1.1.0) ftrue)) in
     let new : L.Denot = a.1.1.1.0 in let got = alone (layout L) vss.1.1.1.0 (((param_laws 0 L LL).lawful 𝓛).typed new vss.1.1.1.0 are.1.1.1.0) in let v : Val = got.0 in
     let s : ℕ = h.node_bytes in
-    let Asked : Type 0 = (0 < size (layout L)) × ((s < 2 ^ 63) × (h.unused ≡ row p s (n + 1))) in
-    qed 𝓛 (((‵ (flft κs.0 qs.0) ⊛ ‵ others) ⊛ ‵ (owns (types_at En.signature.params κs) a vss)) ∷ raw (fact 𝓤 _) ∷ raw (fact 𝓤 _) ∷ raw (fact 𝓤 _) ∷ raw (fact 𝓤 Asked) ∷ []) ∵
-    keep ! (4 ∷ 0 ∷ []) $ heard ! Asked (λ asked. split ! $ split ! $ move ! (2 ∷ []) $ fsplit3 ! $ fsplit3 ! $ move ! (4 ∷ []) $ fsplit3 ! $ keep ! (4 ∷ 5 ∷ 7 ∷ 1 ∷ 8 ∷ []) $
+    let Taking : Type 0 = 0 < size (layout L) in let Small : Type 0 = s < 2 ^ 63 in let Unused : Type 0 = h.unused ≡ row p s (n + 1) in
+    qed 𝓛 (((‵ (flft κs.0 qs.0) ⊛ ‵ others) ⊛ ‵ (owns (types_at En.signature.params κs) a vss)) ∷ raw (fact 𝓤 _) ∷ raw (fact 𝓤 _) ∷ raw (fact 𝓤 _) ∷ raw (fact 𝓤 Taking) ∷ raw (fact 𝓤 Small) ∷ raw (fact 𝓤 Unused) ∷ []) ∵
+    keep ! (4 ∷ 5 ∷ 6 ∷ 0 ∷ []) $ heard ! Taking (λ taking. heard ! Small (λ small. heard ! Unused (λ given. split ! $ split ! $ move ! (2 ∷ []) $ fsplit3 ! $ fsplit3 ! $ move ! (4 ∷ []) $ fsplit3 ! $ keep ! (4 ∷ 5 ∷ 7 ∷ 1 ∷ 8 ∷ []) $
     rewrite ! 3 (λ (ws : List Val). ‵ (R.own_val new ws)) got.1.0 refl $
     let us : List Val = vptr rb ro ∷ word p ∷ vint w64 n ∷ v ∷ [] in let Run : List Val → SProp 𝓤 = λ ws. WpFn 𝓤 H 𝓣.C 𝓣.Λ fn ws Post in
     suffices ! (Run us) (subst (λ (ws : List Val). ent 𝓤 (Run us) (Run ws)) (sym (λ i. are.0.0 i ++ (word-pointer a.1.0 vss.1.0 are.1.0 i ++ (are.1.1.0.0 i ++ (got.1.0 i ++ []))))) (id⊢ 𝓤 (Run us))) $
     enter ! 𝓣.C 𝓣.Λ fn us Post $ alloc_all ! (λ l. pass_all ! refl ((tt, tt), (word-Good [] p, ((tt, record { fits = are.1.1.0.1 }), (got.1.1, tt)))) $ let Ev = env fn.locals l in
-    let left : List Ptr = row p s n in let last : Ptr = p +ₚ (n * s) in let given : h.unused ≡ row p s (n + 1) = asked.1.1 in
+    let left : List Ptr = row p s n in let last : Ptr = p +ₚ (n * s) in
     let at : (at : ℕ × ℕ) × (p ≡ block_ptr at.0 at.1) = block_ptr-in_block p (is_block-row_first p s n h.unused given h.unused_blocks) in let pb : ℕ = at.0.0 in let po : ℕ = at.0.1 in
     opens ! tt N {h = h} rb ro (λ vs. move ! (1 ∷ []) $ fsplit ! $ move ! (1 ∷ []) $
     use1 𝓛 (‵ (Land E h) ⊛ ‵ (Cells E ftrue h.cells)) (land_cut 𝓛 E (Land E h) h.cells) $ split ! $ fsplit ! $ feq_l ! (λ sized. fsplit ! $
@@ -77,8 +77,8 @@ add_spec 𝓤 𝓛 𝓜 𝓡 wired L K V LL LK LV =
     use1 𝓛 (‵ (fields_own R S W q) ⊛ ‵ (Rejoins E q)) (block_cut E 𝓛 pb no) $ split ! $ fsplit ! $ move ! (0 ∷ 5 ∷ []) $
     -- [the links' memory; the nodes; the pair's memory; the deed; the unused places; the chunks;
     -- the marker; its cell; the open borrow, in three; the new links; the other tokens]
-    knows ! (IsFresh q (pointers h.cells)) (fresh 𝓛 𝓜 E asked.0 ftrue q h.cells) (λ free. as_written ! (layout L) pb (no + lo E) $
-    let tiny : size (written E) < 2 ^ 64 = let small = asked.1.0 in omega (arith, size_is) in let fits : n * size (written E) < 2 ^ 64 = omega (arith, low) in
+    knows ! (IsFresh q (pointers h.cells)) (fresh 𝓛 𝓜 E taking ftrue q h.cells) (λ free. as_written ! (layout L) pb (no + lo E) $
+    let tiny : size (written E) < 2 ^ 64 = omega (arith, small, size_is) in let fits : n * size (written E) < 2 ^ 64 = omega (arith, low) in
     sets ! (is ! (of_opd ! (get_in ! (fld ! refl (stop !)) (sub ! 0 refl (whole !)))) (ap ptr_val at.1)) refl (tt, tt) $ first ! $ blocks ! $
     sets ! (bin ! (get ! refl) (size_lit ! (record { fits = tiny })) (record { fits = fits })) refl (tt, record { fits = fits }) $ sets_last ! (bin ! (get ! refl) (get ! refl) tt) refl (tt, tt) $
     exec ! 𝓣.C 𝓣.Λ Ev (after 2 fn.body) (at_ret Ev Post) $ sets ! (of_opd ! (get ! refl)) refl (tt, tt) $ first ! $ blocks ! $
@@ -108,4 +108,4 @@ add_spec 𝓤 𝓛 𝓜 𝓡 wired L K V LL LK LV =
     use0 𝓛 (raw (fact 𝓤 Left)) (fact_i 𝓤 Left (emp 𝓤) refl) $ join ! $
     use0 𝓛 (raw (fact 𝓤 Bytes)) (fact_i 𝓤 Bytes (emp 𝓤) refl) $ join ! $ use0 𝓛 (raw (fact 𝓤 Told)) (fact_i 𝓤 Told (emp 𝓤) refl) $ join ! $
     use0 𝓛 (‵ (Pl.own_val (record { ptr = q }) (word q ∷ []))) (pointer_made 𝓛 q) $
-    returns ! (look_at ! 0 refl) $ free_all ! refl $ keep ! (2 ∷ 3 ∷ 0 ∷ 1 ∷ []) $ by ! (leaves 𝓛 En hs c y (word q) (record { ptr = q }) (h', (tt, (tt, (tt, tt)))) (tt, (tt, (tt, (tt, tt)))))))))))
+    returns ! (look_at ! 0 refl) $ free_all ! refl $ keep ! (2 ∷ 3 ∷ 0 ∷ 1 ∷ []) $ by ! (leaves 𝓛 En hs c y (word q) (record { ptr = q }) (h', (tt, (tt, (tt, tt)))) (tt, (tt, (tt, (tt, tt)))))))))))))

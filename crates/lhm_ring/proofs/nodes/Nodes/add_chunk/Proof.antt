@@ -29,7 +29,7 @@ use Rattle.lhm_ring.proofs.BlockValues.{block_val, block_Good, BlockType, block_
 use Rattle.lhm_ring.proofs.Blocks.{written, block}
 use Rattle.lhm_ring.proofs.Memory.{Three, args, RL, RK, RV, Nr, Pl, Land, Cells}
 use Rattle.lhm_ring.proofs.Places.{AreBlocks-row, row-more, nat_lt-near}
-use Rattle.lhm_ring.proofs.Rooms.{land_cut, land_glue, Places, Chunks, places_glue, chunks_glue, rooms_cut}
+use Rattle.lhm_ring.proofs.ChunkPlaces.{land_cut, land_glue, Places, Chunks, places_glue, chunks_glue, array_cut}
 use Rattle.std.proofs.alloc.Calls.{Goes-blank}
 use Rattle.std.specs.contracts.alloc.Global as heap
 use Rattle.std.specs.contracts.impls.GlobalAllocator.TheImpl.{ghosts}
@@ -66,7 +66,7 @@ add_chunk_spec 𝓤 𝓛 𝓜 𝓡 wired L K V LL LK LV =
     rewrite ! 1 (λ (q : Ptr). ‵ (chunk_token (ty_array (block E) n) q)) e refl $
     let token : SProp 𝓤 = sem 𝓛 (chunk_token (ty_array (block E) n) p) in
     knows ! (o ≡ 0) (via 𝓤 token (snd∗ 𝓤 (sem 𝓛 (froom (ty_array (block E) n) b o)) token) (dealloc_token_start 𝓛 (record { memory = record { seal = tt } }) (ty_array (block E) n) p)) (λ starts.
-    use1 𝓛 (‵ (Places 𝓛 E (row p (node_bytes R S W) n))) (rooms_cut 𝓛 E n b o) $
+    use1 𝓛 (‵ (Places 𝓛 E (row p (node_bytes R S W) n))) (array_cut 𝓛 E n b o) $
     -- [the new places; the token of the chunk; self, in two; its token; the other tokens]
     enter ! 𝓣.C 𝓣.Λ fn us Post $ alloc_all ! (λ l. pass_all ! refl ((tt, tt), (block_Good given.ptr, tt)) $
     move ! (2 ∷ 3 ∷ 4 ∷ []) $ opens ! tt N {h = h} rb ro (λ vs. move ! (1 ∷ []) $ fsplit ! $ move ! (1 ∷ []) $

@@ -36,7 +36,7 @@ use Rattle.lhm_ring.proofs.value_loan.Hole.TheLaws as H-laws
 use Rattle.lhm_ring.proofs.nodes.Nodes.TheLaws as N-laws
 use denote.Param.Laws.{param_laws}
 use Rattle.lhm_ring.proofs.Memory.{Three, args, RL, RK, RV, Nr, Land, marker}
-use Rattle.lhm_ring.proofs.ContentsSplitOff.{HS, HW, stems, cells_out, Fields, Held, fields_made, back, BareRow, Holed, Shares-bare, ContentMarker, content_loan_made, Anchor, anchor_made, three_made}
+use Rattle.lhm_ring.proofs.ContentsSplitOff.{HS, HW, stems, cells_out, Fields, LentBodies, fields_made, back, BareRow, Holed, Shares-bare, ContentMarker, content_loan_made, Anchor, anchor_made, three_made}
 use Rattle.lhm_ring.specs.contracts.nodes.Nodes.lend_bodies.{ended, clauses}
 use Rattle.lhm_ring.specs.contracts.nodes.Nodes.lend_bodies.Key.{name as #self}
 use Rattle.lhm_ring.proofs.nodes.Nodes.lend_bodies.Statement.{statement}
@@ -55,7 +55,7 @@ lend_bodies_spec 𝓤 𝓛 𝓜 𝓡 wired L K V LL LK LV =
     let others : Fml = fsep (flft κs.1.0 qs.1.0) (fsep (flft κs.1.1.0 qs.1.1.0) (fsep (flft κs.1.1.1.0 qs.1.1.1.0) ftrue)) in
     let κ : Lft = κs.0 in let q = qs.0 in let γ = a.0.ghost_name in let hcode = N.coded.code h in let bounds = y.0.2 in
     let It : RattleType = S-type.the_row (named_lft 4 0 tt κs) R S W in let sm : RattleType = ContentMarker (named_lft 4 0 tt κs) R S W in let Hr : RattleType = Holed R S W in
-    let ps : List Ptr = firsts (bodies_of h.cells) in let os : List (Option (K.Denot × V.Denot)) = seconds (bodies_of h.cells) in let Bs : SemTy = Held E 𝓛 h rb ro in let Fs : Fml = Fields E 𝓛 h rb ro in
+    let ps : List Ptr = firsts (bodies_of h.cells) in let os : List (Option (K.Denot × V.Denot)) = seconds (bodies_of h.cells) in let Bs : SemTy = LentBodies E 𝓛 h rb ro in let Fs : Fml = Fields E 𝓛 h rb ro in
     qed 𝓛 (((‵ (flft κs.0 qs.0) ⊛ ‵ others) ⊛ ‵ (owns (types_at En.signature.params κs) a vss)) ∷ raw (fact 𝓤 (κs.1.0 ⊑ L.lives)) ∷ raw (fact 𝓤 (κs.1.1.0 ⊑ K.lives)) ∷ raw (fact 𝓤 (κs.1.1.1.0 ⊑ V.lives)) ∷ raw (emp 𝓤) ∷ []) ∵
     keep ! (1 ∷ 2 ∷ 3 ∷ 0 ∷ []) $ heard ! (κs.1.0 ⊑ L.lives) (λ inL. heard ! (κs.1.1.0 ⊑ K.lives) (λ inK. heard ! (κs.1.1.1.0 ⊑ V.lives) (λ inV. split ! $ split ! $ move ! (2 ∷ []) $ fsplit ! $ fsplit3 ! $ keep ! (1 ∷ 2 ∷ 4 ∷ 5 ∷ []) $
     let us : List Val = vptr rb ro ∷ [] in let Run : List Val → SProp 𝓤 = λ ws. WpFn 𝓤 H 𝓣.C 𝓣.Λ fn ws Post in

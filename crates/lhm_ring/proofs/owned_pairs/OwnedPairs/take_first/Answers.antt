@@ -21,7 +21,7 @@ invariant_of-self g c =
     record {
       last = s.last;
       span = subst (λ zs. IsSpan zs c.address-self-inside.result.ptr s.last (i.left - 1)) (sym out.cells) rest;
-      all_kept = out.land.1 ∙ s.all_kept;
+      all_recorded = out.land.1 ∙ s.all_recorded;
     }
 
 pub returns : goal.returns

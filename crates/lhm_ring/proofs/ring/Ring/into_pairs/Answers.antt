@@ -9,7 +9,7 @@ invariant_of-result g c =
     record {
       last = last;
       span = IsSpan-ring i.ends i.nodes.cells i.spare i.len i.spares c.self.invariant.ring c.address.result.ptr last c.address.ensures refl;
-      all_kept = c.self.invariant.laid.all_kept;
+      all_recorded = c.self.invariant.laid.all_recorded;
     }
 
 pub returns : goal.returns

@@ -3,13 +3,13 @@ use Rattle.lhm_ring.specs.Rings.{ring_cells, RingOk, ring_list}
 use Rattle.lhm_ring.specs.RingState.{Held, linked_to, change_at}
 use Rattle.lhm_ring.proofs.NodeBlocks.{AreBlocks-held}
 use Rattle.lhm_ring.proofs.ReadAtPosition.{content_at-held, IsAt-held, IsHeld-ring_list}
-use Rattle.lhm_ring.proofs.RingCells.{IsAt-in_nodes, Relinks-ring_cells}
+use Rattle.lhm_ring.proofs.RingCells.{IsAt-in_nodes, ChainsTo-ring_cells}
 use Rattle.lhm_ring.proofs.ContentChange.{ChangesAt-with_links, RingOk-changed, ring_list-changed, ChangesOnly-held}
 use Rattle.lhm_ring.proofs.Places.{IsLaid-same}
 use Rattle.lhm_ring.proofs.ring.Ring.set_link.Goals as goal
 
-pub relink-requires : goal.relink-requires
-relink-requires g c =
+pub set_chain-requires : goal.set_chain-requires
+set_chain-requires g c =
     let i = c.self.inside in let p = c.args.at.pointer.ptr in
     IsAt-in_nodes i.ends i.nodes.cells p c.args.at.block (IsAt-held (ring_cells i.ends i.nodes.cells) i.spare i.len i.spares _ c.self.invariant.ring c.self.view_is p c.requires)
 
@@ -18,10 +18,10 @@ invariant_of-self g c =
     let i = c.self.inside in let h = c.requires in let p = c.args.at.pointer.ptr in let cs = ring_cells i.ends i.nodes.cells in
     let r = IsAt-held cs i.spare i.len i.spares _ c.self.invariant.ring c.self.view_is p h in let k = IsHeld-ring_list cs i.spare i.len i.spares _ c.self.invariant.ring c.self.view_is p h in
     let j = ChangesAt-with_links cs p r.0 r.1 h.node (content_at-held cs i.spare i.len i.spares _ c.self.invariant.ring c.self.view_is p h.before h.node h.after h.is h.at_is) c.of.result in
-    let w = Relinks-ring_cells i.ends i.nodes.cells p c.args.at.block c.of.result c.relink.new.nodes.cells c.relink.ensures.relinked r.0 r.1 in
+    let w = ChainsTo-ring_cells i.ends i.nodes.cells p c.args.at.block c.of.result c.set_chain.new.nodes.cells c.set_chain.ensures.written r.0 r.1 in
     record {
       ring = subst (λ zs. RingOk zs i.spare i.len i.spares) (sym w) (RingOk-changed cs _ p h.node _ j i.spare i.len i.spares c.self.invariant.ring k);
-      laid = IsLaid-same c.self.invariant.laid (c.relink.ensures.land.0) (c.relink.ensures.land.1);
+      laid = IsLaid-same c.self.invariant.laid (c.set_chain.ensures.land.0) (c.set_chain.ensures.land.1);
     }
 
 pub returns : goal.returns
@@ -29,7 +29,7 @@ returns g c =
     let i = c.self.inside in let h = c.requires in let p = c.args.at.pointer.ptr in let cs = ring_cells i.ends i.nodes.cells in
     let r = IsAt-held cs i.spare i.len i.spares _ c.self.invariant.ring c.self.view_is p h in
     let j = ChangesAt-with_links cs p r.0 r.1 h.node (content_at-held cs i.spare i.len i.spares _ c.self.invariant.ring c.self.view_is p h.before h.node h.after h.is h.at_is) c.of.result in
-    let w = Relinks-ring_cells i.ends i.nodes.cells p c.args.at.block c.of.result c.relink.new.nodes.cells c.relink.ensures.relinked r.0 r.1 in
+    let w = ChainsTo-ring_cells i.ends i.nodes.cells p c.args.at.block c.of.result c.set_chain.new.nodes.cells c.set_chain.ensures.written r.0 r.1 in
     let f : Held (g.row.K.Denot × g.row.V.Denot) → Held (g.row.K.Denot × g.row.V.Denot) = linked_to _ in
     let e = ap (λ zs. ring_list zs i.len) w ∙ ring_list-changed cs _ p h.node _ j f refl i.len ∙ ap (λ z. change_at p f z.held) c.self.view_is in
     record {

@@ -1,7 +1,7 @@
 use Rattle.std.proofs.Common.{◌∙◌, ◌≡◌, None, ap, subst, true}
 use Rattle.lhm_ring.specs.Rings.{ring_cells, next_of, prev_of, is_there}
 use Rattle.lhm_ring.proofs.ReadAtPosition.{IsAt-held}
-use Rattle.lhm_ring.proofs.RingCells.{IsAt-in_nodes, Holds-in_nodes, links_at-ring_cells, body_at-ring_cells, ring_cells-with_body, Relinks-ring_cells}
+use Rattle.lhm_ring.proofs.RingCells.{IsAt-in_nodes, Holds-in_nodes, links_at-ring_cells, body_at-ring_cells, ring_cells-with_body, ChainsTo-ring_cells}
 use Rattle.lhm_ring.proofs.RingNodes.{NodeAt-held, ring_split}
 use Rattle.lhm_ring.proofs.Moves.{There-prev, There-next}
 use Rattle.lhm_ring.proofs.PutBackAndUnlink.{Holds-unlinked, IsAt-unlinked, count-held, RingOk-unlinked, AtHeld-unlinked}
@@ -26,8 +26,8 @@ take-key-requires g c =
     let e = links_at-ring_cells i.ends i.nodes.cells at.ptr b ∙ c.links-old.ensures in
     Holds-in_nodes c.join.new.ends c.join.new.nodes.cells at.ptr b (Holds-unlinked (ring_cells i.ends i.nodes.cells) i.spare i.len i.spares _ c.self.invariant.ring c.self.view_is at _ e _ c.join.ensures.joined c.requires)
 
-pub relink-requires : goal.relink-requires
-relink-requires g c =
+pub set_chain-requires : goal.set_chain-requires
+set_chain-requires g c =
     let i = c.self.inside in let at = c.args.at.pointer in let b = c.args.at.block in let ends = c.join.new.ends in let zs = c.join.new.nodes.cells in let ws = c.take-key.new.self.cells in
     let e = links_at-ring_cells i.ends i.nodes.cells at.ptr b ∙ c.links-old.ensures in
     IsAt-in_nodes ends ws at.ptr b
@@ -45,8 +45,8 @@ invariant_of-self g c =
     let e = links_at-ring_cells i.ends i.nodes.cells at.ptr b ∙ c.links-old.ensures in
     record {
       ring = RingOk-unlinked (ring_cells i.ends i.nodes.cells) i.spare i.len i.spares _ c.self.invariant.ring c.self.view_is at _ e _ c.join.ensures.joined _ (body_at-ring_cells ends zs at.ptr b ∙ c.take-key.ensures.body) _ _
-          (ring_cells-with_body ends zs at.ptr b None ws c.take-key.ensures.cells) (Relinks-ring_cells ends ws at.ptr b i.spare c.relink.new.nodes.cells c.relink.ensures.relinked) c.to-self-inside.result c.to-self-inside.ensures c.requires;
-      laid = IsLaid-same c.self.invariant.laid (c.relink.ensures.land.0 ∙ c.take-key.ensures.land.0 ∙ c.join.ensures.land.0) (c.relink.ensures.land.1 ∙ c.take-key.ensures.land.1 ∙ c.join.ensures.land.1);
+          (ring_cells-with_body ends zs at.ptr b None ws c.take-key.ensures.cells) (ChainsTo-ring_cells ends ws at.ptr b i.spare c.set_chain.new.nodes.cells c.set_chain.ensures.written) c.to-self-inside.result c.to-self-inside.ensures c.requires;
+      laid = IsLaid-same c.self.invariant.laid (c.set_chain.ensures.land.0 ∙ c.take-key.ensures.land.0 ∙ c.join.ensures.land.0) (c.set_chain.ensures.land.1 ∙ c.take-key.ensures.land.1 ∙ c.join.ensures.land.1);
     }
 
 pub returns : goal.returns
@@ -54,7 +54,7 @@ returns g c =
     let i = c.self.inside in let h = c.requires in let at = c.args.at.pointer in let b = c.args.at.block in let ends = c.join.new.ends in let zs = c.join.new.nodes.cells in let ws = c.take-key.new.self.cells in
     let e = links_at-ring_cells i.ends i.nodes.cells at.ptr b ∙ c.links-old.ensures in
     let l = AtHeld-unlinked (ring_cells i.ends i.nodes.cells) i.spare i.len i.spares _ c.self.invariant.ring c.self.view_is at _ e _ c.join.ensures.joined _ (body_at-ring_cells ends zs at.ptr b ∙ c.take-key.ensures.body) _ _
-    (ring_cells-with_body ends zs at.ptr b None ws c.take-key.ensures.cells) (Relinks-ring_cells ends ws at.ptr b i.spare c.relink.new.nodes.cells c.relink.ensures.relinked) in
+    (ring_cells-with_body ends zs at.ptr b None ws c.take-key.ensures.cells) (ChainsTo-ring_cells ends ws at.ptr b i.spare c.set_chain.new.nodes.cells c.set_chain.ensures.written) in
     record {
       others = λ xs t ys cut at. ap (λ z. z.held) (l xs t ys cut at).left;
       triple = λ xs t ys cut at. let q = l xs t ys cut at in λ z. (q.hash z, (q.pair z).0, (q.pair z).1);

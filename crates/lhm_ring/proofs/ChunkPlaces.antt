@@ -55,18 +55,18 @@ module _ {M : Type 1} {𝓤 : Ura M} (𝓛 : Logic 𝓤) (E : Three) where
   chunks_glue [] c = qed 𝓛 (‵ (One_chunk c) ∷ ‵ ftrue ∷ []) ∵ fjoin ! $ done !
   chunks_glue (x ∷ xs) c = qed 𝓛 (‵ (One_chunk c) ∷ ‵ (Chunks (x ∷ xs)) ∷ []) ∵ move ! (1 ∷ []) $ fsplit ! $ move ! (2 ∷ 1 ∷ []) $ use2 𝓛 (‵ (Chunks (xs ++ c ∷ []))) (chunks_glue xs c) $ move ! (1 ∷ 0 ∷ []) $ fjoin ! $ done !
 
-  pub rooms_cut : (n b o : ℕ) → ent 𝓤 (sem 𝓛 (froom (ty_array (block E) n) b o)) (sem 𝓛 (Places (row (block_ptr b o) bytes n)))
+  pub array_cut : (n b o : ℕ) → ent 𝓤 (sem 𝓛 (froom (ty_array (block E) n) b o)) (sem 𝓛 (Places (row (block_ptr b o) bytes n)))
   unfolding row
-  rooms_cut zero b o = qed 𝓛 (‵ (froom (ty_array (block E) 0) b o) ∷ []) ∵ drop ! $ nothing ! $ done !
-  rooms_cut (suc n) b o = let q : Ptr = block_ptr b (o + bytes) in qed 𝓛 (‵ (froom (ty_array (block E) (suc n)) b o) ∷ []) ∵
+  array_cut zero b o = qed 𝓛 (‵ (froom (ty_array (block E) 0) b o) ∷ []) ∵ drop ! $ nothing ! $ done !
+  array_cut (suc n) b o = let q : Ptr = block_ptr b (o + bytes) in qed 𝓛 (‵ (froom (ty_array (block E) (suc n)) b o) ∷ []) ∵
       use1 𝓛 (‵ (froom (block E) b o) ⊛ ‵ (froom (ty_array (block E) n) b (o + bytes))) (𝓛.laws.room_uncons (block E) n b o) $ split ! $ move ! (1 ∷ []) $
-      use1 𝓛 (‵ (Places (row q bytes n))) (rooms_cut n b (o + bytes)) $ move ! (1 ∷ 0 ∷ []) $ fjoin ! $ done !
+      use1 𝓛 (‵ (Places (row q bytes n))) (array_cut n b (o + bytes)) $ move ! (1 ∷ 0 ∷ []) $ fjoin ! $ done !
 
-  pub rooms_glue : (n b o : ℕ) → ent 𝓤 (sem 𝓛 (Places (row (block_ptr b o) bytes n))) (sem 𝓛 (froom (ty_array (block E) n) b o))
+  pub array_glue : (n b o : ℕ) → ent 𝓤 (sem 𝓛 (Places (row (block_ptr b o) bytes n))) (sem 𝓛 (froom (ty_array (block E) n) b o))
   unfolding row
-  rooms_glue zero b o = 𝓛.laws.room_nil (block E) b o
-  rooms_glue (suc n) b o = qed 𝓛 (‵ (Places (row (block_ptr b o) bytes (suc n))) ∷ []) ∵ fsplit ! $ move ! (1 ∷ []) $
-      use1 𝓛 (‵ (froom (ty_array (block E) n) b (o + bytes))) (rooms_glue n b (o + bytes)) $ move ! (1 ∷ 0 ∷ []) $ by ! (𝓛.laws.room_cons (block E) n b o)
+  array_glue zero b o = 𝓛.laws.room_nil (block E) b o
+  array_glue (suc n) b o = qed 𝓛 (‵ (Places (row (block_ptr b o) bytes (suc n))) ∷ []) ∵ fsplit ! $ move ! (1 ∷ []) $
+      use1 𝓛 (‵ (froom (ty_array (block E) n) b (o + bytes))) (array_glue n b (o + bytes)) $ move ! (1 ∷ 0 ∷ []) $ by ! (𝓛.laws.room_cons (block E) n b o)
 
   -- a node and what it holds are forgotten
   emptied : (c : Node E) → ent 𝓤 (sem 𝓛 (One E c)) (sem 𝓛 (room_for (block E) c.at))

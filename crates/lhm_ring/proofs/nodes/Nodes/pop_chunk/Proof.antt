@@ -1,4 +1,4 @@
--- `remove_chunk` makes a block of the places of a chunk. Assumes `Logic`.
+-- `pop_chunk` makes a block of the places of a chunk. Assumes `Logic`.
 use Rattle.std.proofs.lemmas.List.{append-nil}
 use Rattle.std.proofs.Common.{◌≡◌, ℕ, ◌*◌, ◌<◌, ◌^◌, true, List, [], ◌∷◌, ◌++◌, refl, sym, ap, ◌∙◌, subst}
 use mir.Val.{Val, vptr, vint}
@@ -32,19 +32,19 @@ use Rattle.lhm_ring.proofs.BlockValues.{block_val, block_Good, BlockType, BlockF
 use Rattle.lhm_ring.proofs.Blocks.{written, block}
 use Rattle.lhm_ring.proofs.Memory.{Three, args, RL, RK, RV, Node, Nr, Pl, Land, Cells, word-pointer}
 use Rattle.lhm_ring.proofs.Places.{places-last, block_ptr-in_block}
-use Rattle.lhm_ring.proofs.Rooms.{Places, Chunks, places_cut, chunks_cut, rooms_glue}
+use Rattle.lhm_ring.proofs.ChunkPlaces.{Places, Chunks, places_cut, chunks_cut, array_glue}
 use Rattle.std.specs.contracts.alloc.Global as heap
 use Rattle.std.specs.contracts.impls.GlobalAllocator.TheImpl.{ghosts}
 use Rattle.lhm_ring.specs.contracts.block.Node as N-type
 use Rattle.lhm_ring.specs.Ownership.{chunk_token, chunk_owns}
 use Rattle.lhm_ring.proofs.Rows.{AllByRecursion-right}
-use Rattle.lhm_ring.specs.contracts.nodes.Nodes.remove_chunk.{ended, clauses}
-use Rattle.lhm_ring.specs.contracts.nodes.Nodes.remove_chunk.Key.{name as #self}
-use Rattle.lhm_ring.proofs.nodes.Nodes.remove_chunk.Statement.{statement}
-use Rattle.lhm_ring.proofs.nodes.Nodes.remove_chunk.Code as code
+use Rattle.lhm_ring.specs.contracts.nodes.Nodes.pop_chunk.{ended, clauses}
+use Rattle.lhm_ring.specs.contracts.nodes.Nodes.pop_chunk.Key.{name as #self}
+use Rattle.lhm_ring.proofs.nodes.Nodes.pop_chunk.Statement.{statement}
+use Rattle.lhm_ring.proofs.nodes.Nodes.pop_chunk.Code as code
 
-pub remove_chunk_spec : {M : Type 1} → statement M
-remove_chunk_spec 𝓤 𝓛 𝓜 𝓡 wired L K V LL LK LV =
+pub pop_chunk_spec : {M : Type 1} → statement M
+pop_chunk_spec 𝓤 𝓛 𝓜 𝓡 wired L K V LL LK LV =
     let H = 𝓛.H in let 𝓣 = tables 𝓤 H 𝓜 𝓡 𝓡.env in let E : Three = record { links = L; links_laws = LL; key = K; key_laws = LK; value = V; value_laws = LV } in let N = Nr E in let R = RL E in let S = RK E in let W = RV E in
     let En = ended L K V in let c = clauses L K V 𝓛 𝓜.mem 𝓡.returns in let fn = inst_fn (args E) code.function in
     let Row : RattleType = N-type.the_row R S W in let Block : RattleType = BlockType Row heap.the_row ghosts in
@@ -90,7 +90,7 @@ remove_chunk_spec 𝓤 𝓛 𝓜 𝓡 wired L K V LL LK LV =
     feq_i ! (List Val) vss.0 (vptr rb ro ∷ []) are.0.0 $ fjoin3 ! $ nothing ! $ nothing ! $ fjoin ! $ nothing ! $ fjoin ! $ move ! (1 ∷ 0 ∷ []) $ fjoin ! $ move ! (1 ∷ 4 ∷ []) $ join ! $
     -- [the tokens; self; the token of the chunk; its places]
     move ! (3 ∷ []) $ rewrite ! 0 (λ (k : ℕ). ‵ (Places 𝓛 E (row p k n))) sized refl $ rewrite ! 0 (λ (r : Ptr). ‵ (Places 𝓛 E (row r (node_bytes R S W) n))) e.1 refl $
-    use1 𝓛 (‵ (froom (ty_array (block E) n) b o)) (rooms_glue 𝓛 E n b o) $ move ! (3 ∷ 0 ∷ []) $ rewrite ! 0 (λ (r : Ptr). ‵ (chunk_token (ty_array (block E) n) r)) e.1 refl $
+    use1 𝓛 (‵ (froom (ty_array (block E) n) b o)) (array_glue 𝓛 E n b o) $ move ! (3 ∷ 0 ∷ []) $ rewrite ! 0 (λ (r : Ptr). ‵ (chunk_token (ty_array (block E) n) r)) e.1 refl $
     flt_i ! (n * size (written E)) (2 ^ 63) (subst (λ (k : ℕ). n * k < 2 ^ 63) (size-raw (written E)) fits) $ fjoin3 ! $
     let out : Block.Denot = record { ptr = q; marker = record {}; alloc = record { memory = record { seal = tt } }; count = n } in
     use0 𝓛 (‵ ((BlockFields Row heap.the_row ghosts).own_val (q, (record {}, tt)) (block_val q ∷ []))) (block_made Row heap.the_row ghosts 𝓛 q) $ fjoin ! $

@@ -1,7 +1,7 @@
 use Rattle.std.proofs.Common.{◌≡◌, ℕ, ◌≤◌, ◌-◌, get_or, map, None, vec_len}
 use Rattle.std.specs.Vec.{vec_capacity}
 use Rattle.lhm_ring.specs.Heads.{leads_to}
-use Rattle.lhm_ring.proofs.heads.empty_heads.Given as goal
+use Rattle.lhm_ring.proofs.heads.new_heads.Given as goal
 
 abbrev pub invariant-heads : goal.invariant-heads
 invariant-heads l = record {

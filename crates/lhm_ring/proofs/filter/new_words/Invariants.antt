@@ -1,6 +1,6 @@
 use Rattle.std.proofs.Common.{◌≡◌, ◌≤◌, ◌-◌, vec_len}
 use Rattle.std.specs.Vec.{vec_capacity}
-use Rattle.lhm_ring.proofs.filter.empty_words.Given as goal
+use Rattle.lhm_ring.proofs.filter.new_words.Given as goal
 
 abbrev pub invariant-words : goal.invariant-words
 invariant-words l = record {

@@ -2,7 +2,7 @@ use Rattle.std.proofs.Common.{◌≡◌, ◌∙◌, ℕ, List, arith, get_or, ma
 use Rattle.lhm_ring.specs.declared.heads.Head.{Head}
 use Rattle.lhm_ring.specs.Heads.{leads_to}
 use Rattle.lhm_ring.proofs.BucketHeads.{get_or-pushed}
-use Rattle.lhm_ring.proofs.heads.empty_heads.Goals as goal
+use Rattle.lhm_ring.proofs.heads.new_heads.Goals as goal
 
 pub heads-preserved : goal.heads-preserved
 heads-preserved c = record {
