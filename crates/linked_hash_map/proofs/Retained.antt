@@ -35,6 +35,21 @@ map-sublist f xs [] s = ap (map f) s
 map-sublist f xs (y ∷ ys) (inl s) = inl (map-sublist f xs ys s)
 map-sublist f xs (y ∷ ys) (inr s) = inr (map f s.0, ap (map f) s.1, map-sublist f s.0 ys s.2)
 
+-- what `RetainsPairs` says of the first pair, by names: what the call returned, the value and the
+-- closure that it left, and what is kept of the pairs after it
+module _ {F K V : Type 0} (T : F → K → V → Bool → V → F → Type 0) where
+  pub record RetainsFirst (f : F) (pair : K × V) (pairs kept : List (K × V)) : Type 0 where
+    pub returned : Bool
+    pub value : V
+    pub closure : F
+    pub rest : List (K × V)
+    pub called : T f pair.0 pair.1 returned value closure
+    pub retained : RetainsPairs T closure pairs rest
+    pub kept_is : kept ≡ cond returned ((pair.0, value) ∷ rest) rest
+
+  pub first-retained : (f : F) (pair : K × V) (pairs kept : List (K × V)) → RetainsPairs T f (pair ∷ pairs) kept → RetainsFirst f pair pairs kept
+  first-retained f pair pairs kept (returned, value, closure, rest, called, retained, kept_is) = record { returned = returned; value = value; closure = closure; rest = rest; called = called; retained = retained; kept_is = kept_is }
+
 -- the nodes that a closure keeps, except their values, and the pairs in them
 module _ {F K V : Type 0} (T : F → K → V → Bool → V → F → Type 0) where
   pub bare-retained : (f : F) (hs ks : List (Held (K × V))) → RetainsHeld T f hs ks → IsSublist (bare ks) (bare hs)

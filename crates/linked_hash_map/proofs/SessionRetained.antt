@@ -10,6 +10,7 @@ use Rattle.linked_hash_map.specs.SessionTables.{Session, total_weight}
 use Rattle.linked_hash_map.specs.SessionsKept.{sessions_of}
 use Rattle.linked_hash_map.specs.SessionRetains.{weights_of, CalledAtSession, RetainsSessions}
 use Rattle.linked_hash_map.specs.declared.sessions.storage.Weighted.{Weighted}
+use Rattle.linked_hash_map.proofs.Retained.{first-retained}
 use Rattle.linked_hash_map.proofs.SessionLists.{total_weight-cons}
 
 module _ {F T : Type 0} (g : Mut F (ℕ × (ℕ × (MutBor T × Unit {0}))) (Bool × (MutBor T × Unit {0}))) where
@@ -62,14 +63,15 @@ module _ {C F T : Type 0} (calls : C → ℕ → Weighted T → Bool → Weighte
   pub sessions-retained : (c : C) (pairs kept : List (ℕ × Weighted T)) → RetainsPairs calls c pairs kept → RetainsSessions g (inner c) (sessions_of pairs) (sessions_of kept)
   sessions-retained c [] kept r = ap sessions_of r
   sessions-retained c (pair ∷ pairs) kept r =
-      let said = says c pair.0 pair.1 r.0 r.1 r.2 r.4 in record {
-        returned = r.0;
-        payload = r.1.payload;
-        closure = inner r.2;
-        rest = sessions_of r.3;
+      let of = first-retained calls c pair pairs kept r in
+      let said = says c pair.0 pair.1 of.returned of.value of.closure of.called in record {
+        returned = of.returned;
+        payload = of.value.payload;
+        closure = inner of.closure;
+        rest = sessions_of of.rest;
         called = said.0;
-        retained = sessions-retained r.2 pairs r.3 r.5;
-        kept_is = ap sessions_of r.6 ∙ sessions_of-cond r.0 pair.0 r.1 r.3 ∙ (λ i. cond r.0 ((pair.0, said.1 i, r.1.payload) ∷ sessions_of r.3) (sessions_of r.3));
+        retained = sessions-retained of.closure pairs of.rest of.retained;
+        kept_is = ap sessions_of of.kept_is ∙ sessions_of-cond of.returned pair.0 of.value of.rest ∙ (λ i. cond of.returned ((pair.0, said.1 i, of.value.payload) ∷ sessions_of of.rest) (sessions_of of.rest));
       }
 
   pub lighter-retained : (c : C) (pairs kept : List (ℕ × Weighted T)) → RetainsPairs calls c pairs kept → total_weight (sessions_of kept) ≤ total_weight (sessions_of pairs)

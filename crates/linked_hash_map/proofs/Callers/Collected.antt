@@ -1,5 +1,5 @@
 -- For callers: insertions one after another.
-use Rattle.std.proofs.Common.{◌≡◌, ◌+◌, ◌≤◌, Bool, true, false, cond, not, ◌||◌, List, [], ◌∷◌, ◌++◌, length, map, filter, reverse, append_assoc, append-nil, Option, Some, is_some, option_map, IsTrue, refl, sym, ap, ap₂, ◌∙◌, arith}
+use Rattle.std.proofs.Common.{◌≡◌, ◌+◌, ◌≤◌, Bool, true, false, cond, not, ◌||◌, List, [], ◌∷◌, ◌++◌, length, map, filter, reverse, append_assoc, append-nil, Option, Some, is_some, option_map, refl, sym, ap, ap₂, ◌∙◌, arith}
 use Rattle.std.specs.Option.{option_or}
 use Rattle.std.specs.List.{IsDistinct, AllByRecursion}
 use Rattle.std.specs.Map.{keys_of}
@@ -170,16 +170,3 @@ module _ {K V : Type 0} {eq : K → K → Bool} (laws : IsEquivalence eq) where
       ∙ ap (λ ks. ks ++ come) (filter-last again old stored (ap (λ o. not (is_some o)) gone))
       ∙ append_assoc (filter again old) (stored ∷ []) come
       ∙ ap (λ ks. ks ++ stored ∷ come) (filter-filter again (λ j. not (eq item.0 j)) (λ j. not (is_some (find eq (item ∷ items) j))) (not_again items item) (keys_of pairs))
-
-  -- if equality decides `≡`, those that come stand as they came
-  pub keys_of-insert_each_touch_own : (pairs items : List (K × V)) → IsDistinct eq (keys_of items)
-      → ((a b : K) → IsTrue (eq a b) → a ≡ b)
-      → keys_of (insert_each eq Touch pairs items)
-      ≡ filter (λ k. not (is_some (find eq items k))) (keys_of pairs) ++ keys_of items
-  keys_of-insert_each_touch_own pairs items distinct decides =
-      keys_of-insert_each_touch pairs items distinct
-      ∙ ap (λ ks. filter (λ k. not (is_some (find eq items k))) (keys_of pairs) ++ ks) (own (keys_of items))
-    where
-      own : (ks : List K) → map (λ k. key_or k (find eq pairs k)) ks ≡ ks
-      own [] = refl
-      own (k ∷ ks) = ap₂ (λ j js. j ∷ js) (sym (decides k (key_or k (find eq pairs k)) (eq-stored laws pairs k))) (own ks)

@@ -1,5 +1,5 @@
 -- For callers: how many buckets a capacity has.
-use Rattle.std.proofs.Common.{ℕ, ◌<◌, ◌≤◌, ◌≡◌, inl, inr, sym, arith}
+use Rattle.std.proofs.Common.{ℕ, ◌<◌, ◌≤◌, ◌≡◌, inl, inr, arith}
 use Rattle.std.proofs.lemmas.Nat.{pow_pos}
 use Rattle.std.specs.Int.{IsPowerOfTwo}
 use Rattle.lhm_ring.proofs.BucketCounts as ring
@@ -29,5 +29,7 @@ pub buckets_power : (c : ℕ) → IsPowerOfTwo c → buckets c ≡ c
 buckets_power c power =
     let some = pow_pos power.0 in
     let is = power.1 in
-    let own : c ≡ buckets c = ring.buckets-least_power c c power (omega arith) (omega arith) (omega arith) in
-    sym own
+    let least = buckets_least c (omega arith) in
+    let enough = least.enough in
+    let no_more = least.least c power (omega arith) in
+    omega arith

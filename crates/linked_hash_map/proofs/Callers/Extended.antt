@@ -165,6 +165,13 @@ pub pairs-InsertsAll_vec : {T Z K V : Type 0} {becomes : T → _ → Type 0} {so
     → ((it : _) → becomes source it → (into_iter_items {X = K × V} {Z = Z} it ≡ vec_items vec) × (into_iter_len it ≡ vec_len vec)) → new ≡ insert_each eq mode old (vec_items vec)
 pairs-InsertsAll_vec {becomes = becomes} {source} vec inserts is = pairs-InsertsAll inserts (yields becomes vec source is)
 
+-- and if `extend` of one was refused
+pub pairs-InsertsUntil_vec : {T Z K V : Type 0} {becomes : T → _ → Type 0} {source : T} {eq : K → K → Bool} {mode : Mode} {old new : List (K × V)} {key : K} {value : V} (vec : Vec (K × V) Z)
+    (inserts : InsertsUntil becomes (into_iter_steps {X = K × V} {Z = Z}) source eq (λ pair. pair) mode old new key value)
+    → ((it : _) → becomes source it → (into_iter_items {X = K × V} {Z = Z} it ≡ vec_items vec) × (into_iter_len it ≡ vec_len vec))
+    → (new ≡ insert_each eq mode old (take (length inserts.given) (vec_items vec))) × (slice_get (vec_items vec) (length inserts.given) ≡ Some (key, value))
+pairs-InsertsUntil_vec {becomes = becomes} {source} vec inserts is = pairs-InsertsUntil inserts (yields becomes vec source is)
+
 pairs-Collects_vec : {T Z K V : Type 0} {becomes : T → _ → Type 0} {source : T} {eq : K → K → Bool} {pairs : List (K × V)} {capacity rechained : ℕ} (vec : Vec (K × V) Z) → Collects becomes (into_iter_steps {X = K × V} {Z = Z}) source (λ it. at_most (into_iter_len it)) eq pairs capacity rechained
     → ((it : _) → becomes source it → (into_iter_items {X = K × V} {Z = Z} it ≡ vec_items vec) × (into_iter_len it ≡ vec_len vec)) → pairs ≡ insert_each eq Touch [] (vec_items vec)
 pairs-Collects_vec vec collects is = pairs-InsertsAll_vec vec (InsertsAll-Collects collects) is

@@ -3,6 +3,7 @@
 use Rattle.std.proofs.Common.{◌≡◌, Bool, true, false, cond, List, [], ◌∷◌, map, filter, refl, ◌∙◌, subst}
 use Rattle.std.specs.Map.Calls.{RetainsPairs}
 use Rattle.std.proofs.lemmas.Map.Made as made
+use Rattle.linked_hash_map.proofs.Retained.{first-retained}
 
 -- a closure that stays as it was, and whose result and the value that it leaves depend on the pair
 -- alone
@@ -20,9 +21,10 @@ module _ {F K V : Type 0} (T : F → K → V → Bool → V → F → Type 0) (t
       → RetainsPairs T f pairs kept → kept ≡ map changed (filter test pairs)
   map-filter_from_retain_pairs [] kept says r = r
   map-filter_from_retain_pairs (pair ∷ pairs) kept says r =
-      let said = says pair.0 pair.1 r.0 r.1 r.2 r.4 in
-      let rest = map-filter_from_retain_pairs pairs r.3 says (subst (λ g. RetainsPairs T g pairs r.3) said.2 r.5) in
-      r.6 ∙ (λ i. cond (said.0 i) ((pair.0, said.1 i) ∷ rest i) (rest i)) ∙ cond-changed (test pair) pair (filter test pairs)
+      let of = first-retained T f pair pairs kept r in
+      let said = says pair.0 pair.1 of.returned of.value of.closure of.called in
+      let rest = map-filter_from_retain_pairs pairs of.rest says (subst (λ g. RetainsPairs T g pairs of.rest) said.2 of.retained) in
+      of.kept_is ∙ (λ i. cond (said.0 i) ((pair.0, said.1 i) ∷ rest i) (rest i)) ∙ cond-changed (test pair) pair (filter test pairs)
 
 -- and one that leaves each value as it was: what std's lemma says, with the arguments in the order
 -- of all lemmas here

@@ -7,9 +7,8 @@ use Rattle.std.specs.Map.{keys_of}
 use Rattle.std.specs.Map.Calls.{MayWrite, ModifiesValue}
 use Rattle.std.specs.Cmp.{IsEquivalence}
 use Rattle.linked_hash_map.specs.Pairs.{find, value_at, set_value, set_or_push, set_if_some}
-use Rattle.linked_hash_map.proofs.LiveKeys.{none_is}
 use Rattle.linked_hash_map.proofs.Pairs.{set_value-none}
-use Rattle.linked_hash_map.proofs.Callers.Keys.{IsSome-find, set_or_push-present}
+use Rattle.linked_hash_map.proofs.Callers.Keys.{find-absent, IsSome-find, set_or_push-present}
 -- a value that is set as it was changes nothing
 pub use Rattle.linked_hash_map.proofs.Indexes.{set_value-own}
 
@@ -61,5 +60,5 @@ module _ {K V : Type 0} (eq : K → K → Bool) where
           ∙ set_value-set_value pairs k w v
           ∙ sym (set_or_push-present eq pairs k v there)
       by_test false none =
-          let absent = none_is (find eq pairs k) none in
+          let absent = find-absent eq pairs k none in
           ap (λ ps. set_or_push eq ps k v) (set_value-none eq pairs k w absent)
