@@ -87,6 +87,23 @@ impl<K: Eq + Hash, V> Cache<K, V> {
         self.map.pop_front()
     }
 
+    /// Gives the pair used least recently another value and makes it the one used last. Returns the
+    /// pair as it was, or `None` if the cache is empty.
+    #[tactic(auto, using(linked_hash_map::proofs::Callers::Rules::turns))]
+    pub fn renew_oldest(&mut self, value: V) -> Option<(K, V)>
+    where
+        K: Copy + Drop,
+        V: Drop,
+        ensures oldest { result ≡ first self.old.map.pairs }
+        ensures turned { IfSome result (λ pair. self.new.map.pairs
+            ≡ without_first self.old.map.pairs ++ (pair.0, value) ∷ []) }
+        ensures size { self.new.map.capacity ≡ self.old.map.capacity }
+    {
+        let pair = self.map.pop_front()?;
+        let _none = self.put(pair.0, value);
+        Some(pair)
+    }
+
     /// Lends the value of a key for writing, and makes it the one used last, or returns `None`
     /// if the key is absent, and changes nothing.
     pub fn get_mut(&mut self, key: &K) -> Option<&mut V>

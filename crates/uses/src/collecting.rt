@@ -1,5 +1,5 @@
 //! Maps that take in what others have.
-ghost use Rattle.std.specs.Prelude.{◌≡◌, ◌≤◌, ◌+◌, ◌-◌, ◌∷◌, ◌++◌, ℕ, [], length, map, filter, not, is_some, None, IsOk, IfOk, IfErr, OnOk, OnErr};
+ghost use Rattle.std.specs.Prelude.{◌≡◌, ◌≤◌, ◌+◌, ◌-◌, ◌∷◌, ◌++◌, ℕ, [], length, map, filter, not, is_some, take, slice_get, Some, None, IsOk, IfOk, IfErr, OnOk, OnErr};
 ghost use Rattle.std.specs.List.{IsDistinct};
 ghost use Rattle.std.specs.Map.{keys_of};
 ghost use Rattle.std.specs.Option.{option_or};
@@ -21,6 +21,11 @@ pub fn insert_all<K: Eq + Hash + Drop, V: Drop, S: BuildHasher>(
         (map.new.pairs ≡ insert_each K.eq map.old.mode map.old.pairs list.items) }
     ensures mode { map.new.mode ≡ map.old.mode }
     ensures succeeds { length map.old.pairs + length list.items ≤ map.old.capacity → IsOk result }
+    ensures same_room { OnOk result (length map.old.pairs + length list.items ≤ map.old.capacity
+        → map.new.capacity ≡ map.old.capacity) }
+    ensures stopped { IfErr result (λ refused. (n : ℕ)
+        × (map.new.pairs ≡ insert_each K.eq map.old.mode map.old.pairs (take n list.items))
+        × (slice_get list.items n ≡ Some (refused.key, refused.value))) }
     ensures absent { IfErr result (λ refused. find K.eq map.new.pairs refused.key ≡ None) }
     ensures full { OnErr result (length map.new.pairs ≡ map.new.capacity) }
 {
@@ -32,7 +37,7 @@ pub fn insert_all<K: Eq + Hash + Drop, V: Drop, S: BuildHasher>(
 
 /// Puts in the pairs of two lists, one list after the other, and then one more pair. The first pair
 /// that finds no memory is handed back, and those before it stay.
-#[tactic(auto, using(crate::proofs::Rules::insertions))]
+#[tactic(auto, using(linked_hash_map::proofs::Callers::Rules::insertions))]
 pub fn insert_both<K: Eq + Hash + Drop, V: Drop, S: BuildHasher>(
     map: &mut LinkedHashMap<K, V, S>,
     list: Vec<(K, V)>,

@@ -1,5 +1,5 @@
 //! Calls that are refused if an allocation fails, and what a caller does then.
-ghost use Rattle.std.specs.Prelude.{◌≡◌, ◌<◌, [], ◌∷◌, ◌++◌, None, max, length, IsSome, IsNone, IsErr};
+ghost use Rattle.std.specs.Prelude.{◌≡◌, ◌<◌, [], ◌∷◌, ◌++◌, None, max, length, IsSome, IsNone, IsErr, OnOk};
 ghost use Rattle.linked_hash_map.specs.Pairs.{find, put, first, without_first};
 ghost use Rattle.linked_hash_map.specs.Validity.{IsValid};
 
@@ -33,12 +33,18 @@ pub fn insert_anyway<K: Eq + Hash + Drop, V: Drop, S: BuildHasher>(
 
 /// Inserts a pair at the back if its key is new, and else changes nothing. A new pair that is
 /// refused comes back: if an allocation fails, and always from a map of `LIMIT` pairs.
+#[tactic(auto, using(linked_hash_map::proofs::Callers::Rules::room))]
 pub fn insert_if_new<K: Eq + Hash + Drop, V: Drop, S: BuildHasher>(
     map: &mut LinkedHashMap<K, V, S>,
     key: K,
     value: V,
 ) -> Result<(), Refused<K, V>>
     ensures stays_valid { IsValid K.eq map.new }
+    ensures present { IsSome (find K.eq map.old.pairs key) → map.new.pairs ≡ map.old.pairs }
+    ensures pushed { OnOk result (find K.eq map.old.pairs key ≡ None
+        → map.new.pairs ≡ map.old.pairs ++ (key, value) ∷ []) }
+    ensures same_room { OnOk result ((find K.eq map.old.pairs key ≡ None
+        → length map.old.pairs < map.old.capacity) → map.new.capacity ≡ map.old.capacity) }
     ensures limit { find K.eq map.old.pairs key ≡ None → length map.old.pairs ≡ LIMIT
         → IsErr result }
 {

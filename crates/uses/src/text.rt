@@ -1,8 +1,11 @@
 //! Maps with text as keys.
-ghost use Rattle.std.specs.Prelude.{◌≡◌, ◌≤◌, ◌+◌, Some, length, string_eq, unwrap_or, IfOk, IfErr, OnOk};
+ghost use Rattle.std.specs.Prelude.{List, ℕ, ◌≡◌, ◌≤◌, ◌+◌, Some, length, reverse, string_eq, unwrap_or, IfOk, IfErr, OnOk};
+ghost use Rattle.std.specs.Borrow.{Bor};
+ghost use Rattle.std.specs.Option.{option_or};
 ghost use Rattle.linked_hash_map.specs.Pairs.{value_at};
 ghost use Rattle.linked_hash_map.proofs.Callers.Texts.{same_text};
 
+use crate::collecting::insert_all;
 use linked_hash_map::{LinkedHashMap, Refused};
 
 /// Returns the age of a person. The lookup takes a `&String`, and no `&str`.
@@ -44,4 +47,18 @@ pub fn first_page<'a>(
     }
     pages.insert(word, page)?;
     Ok(page)
+}
+
+/// Notes a page for each word of a list. A word that comes more than once has the last page, and
+/// the words that do not come keep theirs. The first that finds no memory is handed back.
+pub fn note_pages<'a>(
+    pages: &mut LinkedHashMap<&'a str, u64>,
+    list: Vec<(&'a str, u64)>,
+) -> Result<(), Refused<&'a str, u64>>
+    ensures noted { (word : Bor (List ℕ)) → OnOk result (value_at same_text pages.new.pairs word
+        ≡ option_or (value_at same_text (reverse list.entry.items) word)
+        (value_at same_text pages.old.pairs word)) }
+{
+    insert_all(pages, list)?;
+    Ok(())
 }

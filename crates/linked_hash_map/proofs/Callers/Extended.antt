@@ -120,36 +120,27 @@ pairs-InsertsAll_list all inserts is = pairs-InsertsAll inserts (λ it made. Yie
 
 -- and if the keys of that list differ, as those of a map do: its values win, in Keep the old keys
 -- stand before the new, and in Touch before those that came
-module _ {T K V : Type 0} {becomes : T → List (K × V) → Type 0} {source : T} {eq : K → K → Bool} (laws : IsEquivalence eq) {mode : Mode} {old new : List (K × V)} (all : List (K × V)) where
-  pub value_at-InsertsAll_distinct : (q : K)
-      → InsertsAll becomes (TakesFirst (λ (pair : K × V). pair)) source eq (λ pair. pair)
-      mode old new
-      → ((it : List (K × V)) → becomes source it → (it ≡ all) × IsDistinct eq (keys_of all))
-      → value_at eq new q ≡ option_or (value_at eq all q) (value_at eq old q)
-  value_at-InsertsAll_distinct q inserts is =
-      ap (λ ps. value_at eq ps q) (pairs-InsertsAll_list all inserts (λ it made. (is it made).0))
-      ∙ value_at-insert_each_distinct laws mode old all q (is inserts.gives.iterator inserts.gives.made).1
-
-  pub keys_of-InsertsAll_keep : InsertsAll becomes (TakesFirst (λ (pair : K × V). pair)) source eq
-      (λ pair. pair) mode old new
-      → ((it : List (K × V)) → becomes source it → (it ≡ all) × IsDistinct eq (keys_of all))
-      → mode ≡ Keep
+pub record Merges {K V : Type 0} (eq : K → K → Bool) (mode : Mode) (old all new : List (K × V)) :
+    Type 0 where
+  pub pairs : new ≡ insert_each eq mode old all
+  pub values : (q : K) → value_at eq new q ≡ option_or (value_at eq all q) (value_at eq old q)
+  pub keep : mode ≡ Keep
       → keys_of new ≡ keys_of old ++ filter (λ k. not (is_some (find eq old k))) (keys_of all)
-  keys_of-InsertsAll_keep inserts is keep =
-      ap keys_of (pairs-InsertsAll_list all inserts (λ it made. (is it made).0))
-      ∙ ap (λ m. keys_of (insert_each eq m old all)) keep
-      ∙ keys_of-insert_each_keep laws old all (is inserts.gives.iterator inserts.gives.made).1
-
-  pub keys_of-InsertsAll_touch : InsertsAll becomes (TakesFirst (λ (pair : K × V). pair)) source eq
-      (λ pair. pair) mode old new
-      → ((it : List (K × V)) → becomes source it → (it ≡ all) × IsDistinct eq (keys_of all))
-      → mode ≡ Touch
+  pub touch : mode ≡ Touch
       → keys_of new ≡ filter (λ k. not (is_some (find eq all k))) (keys_of old)
       ++ map (λ k. key_or k (find eq old k)) (keys_of all)
-  keys_of-InsertsAll_touch inserts is touch =
-      ap keys_of (pairs-InsertsAll_list all inserts (λ it made. (is it made).0))
-      ∙ ap (λ m. keys_of (insert_each eq m old all)) touch
-      ∙ keys_of-insert_each_touch laws old all (is inserts.gives.iterator inserts.gives.made).1
+
+pub Merges-InsertsAll : {T K V : Type 0} {becomes : T → List (K × V) → Type 0} {source : T} {eq : K → K → Bool} → IsEquivalence eq → {mode : Mode} {old new : List (K × V)} (all : List (K × V))
+    → InsertsAll becomes (TakesFirst (λ (pair : K × V). pair)) source eq (λ pair. pair) mode old new
+    → ((it : List (K × V)) → becomes source it → (it ≡ all) × IsDistinct eq (keys_of all)) → Merges eq mode old all new
+Merges-InsertsAll {eq = eq} laws {mode} {old} all inserts is =
+    let went = pairs-InsertsAll_list all inserts (λ it made. (is it made).0) in
+    let distinct = (is inserts.gives.iterator inserts.gives.made).1 in record {
+      pairs = went;
+      values = λ q. ap (λ ps. value_at eq ps q) went ∙ value_at-insert_each_distinct laws mode old all q distinct;
+      keep = λ keep. ap keys_of went ∙ ap (λ m. keys_of (insert_each eq m old all)) keep ∙ keys_of-insert_each_keep laws old all distinct;
+      touch = λ touch. ap keys_of went ∙ ap (λ m. keys_of (insert_each eq m old all)) touch ∙ keys_of-insert_each_touch laws old all distinct;
+    }
 
 -- what a vector becomes gives its items, and has as many left
 module _ {T Z K V : Type 0} (becomes : T → _ → Type 0) (vec : Vec (K × V) Z) (source : T) (is : (it : _) → becomes source it → (into_iter_items {X = K × V} {Z = Z} it ≡ vec_items vec) × (into_iter_len it ≡ vec_len vec)) where
@@ -165,12 +156,12 @@ pub pairs-InsertsAll_vec : {T Z K V : Type 0} {becomes : T → _ → Type 0} {so
     → ((it : _) → becomes source it → (into_iter_items {X = K × V} {Z = Z} it ≡ vec_items vec) × (into_iter_len it ≡ vec_len vec)) → new ≡ insert_each eq mode old (vec_items vec)
 pairs-InsertsAll_vec {becomes = becomes} {source} vec inserts is = pairs-InsertsAll inserts (yields becomes vec source is)
 
--- and if `extend` of one was refused
+-- and if `extend` of one was refused: how many went in, and that the next came back
 pub pairs-InsertsUntil_vec : {T Z K V : Type 0} {becomes : T → _ → Type 0} {source : T} {eq : K → K → Bool} {mode : Mode} {old new : List (K × V)} {key : K} {value : V} (vec : Vec (K × V) Z)
-    (inserts : InsertsUntil becomes (into_iter_steps {X = K × V} {Z = Z}) source eq (λ pair. pair) mode old new key value)
+    → InsertsUntil becomes (into_iter_steps {X = K × V} {Z = Z}) source eq (λ pair. pair) mode old new key value
     → ((it : _) → becomes source it → (into_iter_items {X = K × V} {Z = Z} it ≡ vec_items vec) × (into_iter_len it ≡ vec_len vec))
-    → (new ≡ insert_each eq mode old (take (length inserts.given) (vec_items vec))) × (slice_get (vec_items vec) (length inserts.given) ≡ Some (key, value))
-pairs-InsertsUntil_vec {becomes = becomes} {source} vec inserts is = pairs-InsertsUntil inserts (yields becomes vec source is)
+    → (n : ℕ) × (new ≡ insert_each eq mode old (take n (vec_items vec))) × (slice_get (vec_items vec) n ≡ Some (key, value))
+pairs-InsertsUntil_vec {becomes = becomes} {source} vec inserts is = let until = pairs-InsertsUntil inserts (yields becomes vec source is) in (length inserts.given, until.0, until.1)
 
 pairs-Collects_vec : {T Z K V : Type 0} {becomes : T → _ → Type 0} {source : T} {eq : K → K → Bool} {pairs : List (K × V)} {capacity rechained : ℕ} (vec : Vec (K × V) Z) → Collects becomes (into_iter_steps {X = K × V} {Z = Z}) source (λ it. at_most (into_iter_len it)) eq pairs capacity rechained
     → ((it : _) → becomes source it → (into_iter_items {X = K × V} {Z = Z} it ≡ vec_items vec) × (into_iter_len it ≡ vec_len vec)) → pairs ≡ insert_each eq Touch [] (vec_items vec)

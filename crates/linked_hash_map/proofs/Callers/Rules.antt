@@ -11,10 +11,12 @@ use Rattle.linked_hash_map.specs.declared.map.Mode.{Mode}
 use Rattle.linked_hash_map.specs.declared.map.Mode.TheVariants.{Touch}
 use Rattle.linked_hash_map.specs.Pairs.{value_at, put}
 use Rattle.linked_hash_map.proofs.Callers.Keys.{length-put_most, keys_of-to_back_own}
+use Rattle.linked_hash_map.proofs.Callers.Collected.{insert_each-append, insert_each-snoc}
 use Rattle.linked_hash_map.proofs.Callers.Counted.{count_by-set_or_push, count-lt-length, keys_of-set_or_push_first_seen}
 use Rattle.linked_hash_map.proofs.Callers.Dense.{values_of_dense_push, value_at_dense_each}
 use Rattle.linked_hash_map.proofs.Callers.Lookups.{value_at-append}
-use Rattle.linked_hash_map.proofs.Callers.Turns.{cons-keys_of_first}
+use Rattle.linked_hash_map.proofs.Callers.Turns.{cons-keys_of_first, put-without_first}
+use Rattle.linked_hash_map.proofs.Callers.Updates.{max-length_put, max-length_set_or_push}
 use Rattle.linked_hash_map.proofs.Callers.Visits.{VisitKeeps-passed, VisitKeeps-removed, append-visited}
 
 -- at numbers
@@ -51,3 +53,12 @@ pub ruleset dense = (values_of_dense_push, value_at_dense_each)
 
 -- maps that count items, in the order in which these first come
 pub ruleset counts = (count_by-set_or_push, count-lt-length, keys_of-set_or_push_first_seen)
+
+-- insertions one after another, as lists that are inserted one after another
+pub ruleset insertions = (insert_each-append, insert_each-snoc)
+
+-- the first pair put back, behind the others
+pub ruleset turns = (put-without_first)
+
+-- an insertion that finds room leaves the capacity
+pub ruleset room = (max-length_put, max-length_set_or_push)

@@ -5,10 +5,9 @@ use Rattle.uses.specs.Counting.{has_count}
 use Rattle.uses.proofs.loops.take_out_zeros.Given as goal
 
 abbrev pub invariant-loop-entry : goal.invariant-loop-entry
-invariant-loop-entry g l = record {
-  keeps : VisitKeeps has_count l.fn.counts.pairs l.entries.pairs (to_visit l.entries);
-  taken : l.taken + length l.entries.pairs ≡ length l.fn.counts.pairs;
-}
+invariant-loop-entry g l =
+    VisitKeeps has_count l.fn.counts.pairs l.entries.pairs (to_visit l.entries)
+    × (l.taken + length l.entries.pairs ≡ length l.fn.counts.pairs)
 
 abbrev pub decreases-loop-entry : goal.decreases-loop-entry
 decreases-loop-entry g l = length (to_visit l.entries)
