@@ -27,6 +27,8 @@ fn a_cache_gives_up_what_was_used_least_recently(rt: HostRuntime) {
     check_eq!(rt; cache.put(3, 30), Some((2, 20)));
     check_eq!(rt; cache.put(1, 12), None);
     check_eq!(rt; cache.put(4, 40), Some((3, 30)));
+    check_eq!(rt; cache.renew_oldest(13), Some((1, 12)));
+    check_eq!(rt; cache.put(5, 50), Some((4, 40)));
     check_eq!(rt; cache.len(), 2);
 }
 

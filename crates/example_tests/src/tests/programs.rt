@@ -23,7 +23,7 @@ use uses::queue::Queue;
 use uses::refusal::{insert_anyway, insert_if_new};
 use uses::replaying::{Outcome, replay_under_two_hashers, write_refresh_remove};
 use uses::retains::{age, keep_frequent};
-use uses::text::{age_of, first_page, note_age};
+use uses::text::{age_of, first_page, note_age, note_pages};
 use uses::window::Window;
 
 /// Returns the value of an `Ok`, as `given` does, and tells a proof which value it is.
@@ -343,6 +343,9 @@ fn text_is_a_key(rt: HostRuntime) {
     let mut pages = LinkedHashMap::new(rt.alloc());
     check_eq!(rt; first_page(&mut pages, "ant", 3), Ok(3));
     check_eq!(rt; first_page(&mut pages, "ant", 5), Ok(3));
+    let list = given!(rt; Vec::from_array(rt.alloc(), [("ant", 6), ("bee", 7), ("ant", 8)]));
+    check_eq!(rt; note_pages(&mut pages, list), Ok(()));
+    check_eq!(rt; first_page(&mut pages, "ant", 9), Ok(8));
 }
 
 #[test]
