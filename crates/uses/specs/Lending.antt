@@ -1,10 +1,15 @@
 -- What a wrapper is once a reference into its map has ended.
-use Rattle.std.specs.Prelude.{Option}
-use Rattle.std.specs.Borrow.{Fml, RattleType, MutBor, LendsIf}
+use Rattle.std.specs.Prelude.{◌≡◌, ℕ, Option, String, MatchOption, ⊤}
+use Rattle.std.specs.Borrow.{Fml, RattleType, Bor, MutBor, LendsIf, follows_so}
 use Rattle.std.specs.HashMap.Lent.{HashMembers}
+use Rattle.std.specs.declared.alloc.Global.{Global}
+use mathlib.Core.Option.{none}
 use Rattle.linked_hash_map.specs.Changes.{refreshed}
+use Rattle.linked_hash_map.specs.SessionTables.{to_end}
 use Rattle.uses.specs.declared.cache.Cache.{Cache}
+use Rattle.uses.specs.declared.pages.Pages.{Pages}
 use Rattle.uses.specs.contracts.cache.Cache.{the_row}
+use Rattle.uses.specs.contracts.pages.Pages as pages
 
 module _ (K V : RattleType) (key : HashMembers K.Denot) where
   -- the pair of k is the one used last and has the last value written through the reference, and
@@ -13,3 +18,15 @@ module _ (K V : RattleType) (key : HashMembers K.Denot) where
   lends_recent c k r =
       LendsIf (the_row K V (record { eq = key.eq }) (record { hash_input = key.hash_input })) V c r
       (λ v. record c.now { map = refreshed key.eq c.now.map k v }) c.now
+
+-- the pages with this one as the one used last, and this text
+abbrev pub used_last : Pages → ℕ → String Global → Pages
+used_last c number text = record c {
+  table = record c.table { sessions = to_end c.table.sessions number text };
+}
+
+-- the page that is shown is the one used last, and with none the pages are as they were
+abbrev pub shows_page : MutBor Pages → ℕ → Option (Bor (String Global)) → Fml
+shows_page c number shown =
+    follows_so pages.the_row pages.the_row c.ghost_name none (λ _ _. ⊤)
+    (λ last. MatchOption shown (last ≡ c.now) (λ text. last ≡ used_last c.now number text.now))

@@ -1,6 +1,7 @@
 //! A cache of pages, over a table of sessions, which together have at most a limit of bytes.
-ghost use Rattle.std.specs.Prelude.{◌≡◌, ◌==◌, ◌≤◌, ℕ, [], Some, IsSome, false, length, string_bytes, IfErr, OnOk, OnErr};
-ghost use Rattle.linked_hash_map.specs.SessionTables.{payload_of, without, with_last, total_weight, IsEnd};
+ghost use Rattle.std.specs.Prelude.{◌≡◌, ◌==◌, ◌≤◌, ℕ, [], Some, IsSome, false, length, string_bytes, option_copied, IfErr, OnOk, OnErr};
+ghost use Rattle.std.specs.Borrow.{sem};
+ghost use Rattle.linked_hash_map.specs.SessionTables.{payload_of, without, with_last, total_weight, IsLongestEnd};
 
 use linked_hash_map::sessions::{PutRefused, Sessions};
 use std::alloc::Global;
@@ -13,6 +14,8 @@ pub struct Pages {
 }
 
 impl Pages {
+    ghost use Rattle.uses.specs.Lending.{shows_page};
+
     /// Makes a cache without pages, for at most `limit` bytes of text.
     pub fn new(alloc: Global, limit: u64) -> Self
         ensures empty { result.table.sessions ≡ [] }
@@ -34,8 +37,9 @@ impl Pages {
             → payload_of self.new.table.sessions other
             ≡ payload_of self.old.table.sessions other) }
         ensures within { total_weight self.new.table.sessions ≤ self.new.table.limit }
-        ensures oldest { OnOk result
-            (IsEnd (with_last self.old.table.sessions number (length (string_bytes text)) text)
+        ensures longest { OnOk result
+            (IsLongestEnd self.old.table.limit
+            (with_last self.old.table.sessions number (length (string_bytes text)) text)
             self.new.table.sessions) }
         ensures all { OnOk result
             (total_weight (with_last self.old.table.sessions number (length (string_bytes text))
@@ -53,10 +57,23 @@ impl Pages {
         Ok(())
     }
 
+    /// Returns a page, which is then the one used last, or `None` if it is absent, and changes
+    /// nothing.
+    pub fn get(&mut self, number: u64) -> Option<&String>
+        ensures* used { sem 𝓛 (shows_page self.entry number result) }
+        ensures page { option_copied result ≡ payload_of self.old.table.sessions number }
+    {
+        match self.table.touch(number) {
+            Some(text) => Some(text),
+            None => None,
+        }
+    }
+
     /// Takes a page out.
     pub fn take(&mut self, number: u64) -> Option<String>
         ensures page { result ≡ payload_of self.old.table.sessions number }
         ensures others { self.new.table.sessions ≡ without self.old.table.sessions number }
+        ensures limit { self.new.table.limit ≡ self.old.table.limit }
     {
         self.table.remove(number)
     }

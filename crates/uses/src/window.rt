@@ -1,5 +1,5 @@
 //! The last keys that were seen, each once.
-ghost use Rattle.std.specs.Prelude.{◌≡◌, ◌==◌, ◌<◌, ◌≤◌, ◌∷◌, [], ◌++◌, length, filter, not, nat_eq, IfOk, IfSome, IsNone};
+ghost use Rattle.std.specs.Prelude.{◌≡◌, ◌==◌, ◌<◌, ◌≤◌, ◌∷◌, [], ◌++◌, length, filter, not, nat_eq, IfOk, IfSome, IsSome, IsNone};
 ghost use Rattle.std.specs.Map.{keys_of};
 ghost use Rattle.std.specs.List.{IsDistinct};
 ghost use Rattle.linked_hash_map.specs.declared.map.Mode.{Mode};
@@ -41,6 +41,7 @@ impl Window {
             ≡ filter (λ other. not (number == other)) (keys_of self.old.seen.pairs)
             ++ number ∷ [] }
         ensures within { length self.new.seen.pairs ≤ self.old.size }
+        ensures full { IsSome result → length self.new.seen.pairs ≡ self.old.size }
         ensures different { IsDistinct nat_eq (keys_of self.new.seen.pairs) }
         ensures size { self.new.size ≡ self.old.size }
     {

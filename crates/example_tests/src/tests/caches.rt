@@ -44,5 +44,9 @@ fn pages_leave_for_others(rt: HostRuntime) {
     put_page(&rt, rt.alloc(), &mut pages, 2, "nine");
     put_page(&rt, rt.alloc(), &mut pages, 3, "a page");
     check_eq!(rt; pages.take(1), None);
-    check_eq!(rt; given!(rt; pages.take(3).ok_or("no page")).as_str(), "a page");
+    check_eq!(rt; given!(rt; pages.get(2).ok_or("no page")).as_str(), "nine");
+    put_page(&rt, rt.alloc(), &mut pages, 4, "a book");
+    check_eq!(rt; pages.get(3), None);
+    check_eq!(rt; given!(rt; pages.take(4).ok_or("no page")).as_str(), "a book");
+    check_eq!(rt; given!(rt; pages.take(2).ok_or("no page")).as_str(), "nine");
 }
