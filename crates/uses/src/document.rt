@@ -1,7 +1,7 @@
 //! A document: fields with names, in order.
-ghost use Rattle.std.specs.Prelude.{◌≡◌, ◌∷◌, ◌++◌, [], Some, None, IsSome, IsTrue, IsFalse, map, if◌then◌else◌, length, option_copied, false, IfOk, OnOk, OnErr, IfErr};
+ghost use Rattle.std.specs.Prelude.{◌≡◌, ◌∷◌, ◌++◌, [], Some, None, IsSome, IsTrue, IsFalse, map, if◌then◌else◌, option_copied, false, IfOk, OnOk, OnErr, IfErr};
 ghost use Rattle.std.specs.Bool.{Decides};
-ghost use Rattle.linked_hash_map.specs.Pairs.{find, value_at, set_value};
+ghost use Rattle.linked_hash_map.specs.Pairs.{find, value_at, set_value, without};
 
 use linked_hash_map::{LinkedHashMap, Refused};
 use std::alloc::{AllocError, Global};
@@ -49,7 +49,7 @@ impl<K: Eq + Hash, V> Document<K, V> {
     }
 
     /// Sets a field: one that is there keeps its place, and a new one goes to the end. If there
-    /// is no memory for a new one, it is handed back and nothing changes.
+    /// is no memory for a new one, name and value come back and nothing changes.
     pub fn set(&mut self, name: K, value: V) -> Result<(), Refused<K, V>>
     where
         K: Drop,
@@ -61,7 +61,8 @@ impl<K: Eq + Hash, V> Document<K, V> {
             (find K.eq self.old.fields.pairs name ≡ None
             → self.new.fields.pairs ≡ self.old.fields.pairs ++ (name, value) ∷ []) }
 
-        ensures handed_back { IfErr result (λ refused. refused.key ≡ name) }
+        ensures handed_back { IfErr result (λ refused.
+            (refused.key ≡ name) × (refused.value ≡ value)) }
         ensures unchanged { OnErr result (self.new ≡ self.old) }
     {
         if let Some(field) = self.fields.get_mut(&name) {
@@ -77,6 +78,7 @@ impl<K: Eq + Hash, V> Document<K, V> {
     where
         K: Drop,
         ensures value { result ≡ value_at K.eq self.old.fields.pairs name.now }
+        ensures fields { self.new.fields.pairs ≡ without K.eq self.old.fields.pairs name.now }
         ensures gone { value_at K.eq self.new.fields.pairs name.now ≡ None }
         ensures others { (other : K) → K.eq name.now other ≡ false
             → value_at K.eq self.new.fields.pairs other

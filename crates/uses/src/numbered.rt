@@ -1,6 +1,6 @@
 //! Items under numbers, each of which is given out once.
 ghost use Rattle.std.specs.Prelude.{◌≡◌, ◌≤◌, ◌+◌, ℕ, [], ◌∷◌, ◌++◌, Some, None, nat_eq, option_copied, IfOk, IfErr, OnOk, OnErr};
-ghost use Rattle.linked_hash_map.specs.Pairs.{value_at};
+ghost use Rattle.linked_hash_map.specs.Pairs.{value_at, without};
 
 use linked_hash_map::{LinkedHashMap, Refused};
 use std::alloc::Global;
@@ -57,9 +57,10 @@ impl<V> Numbered<V> {
         self.items.get(&number)
     }
 
-    /// Takes the item of a number out.
+    /// Takes the item of a number out. The others keep their numbers and their order.
     pub fn take(&mut self, number: u64) -> Option<V>
         ensures item { result ≡ value_at nat_eq self.old.items.pairs number }
+        ensures others { self.new.items.pairs ≡ without nat_eq self.old.items.pairs number }
         ensures gone { value_at nat_eq self.new.items.pairs number ≡ None }
         ensures next { self.new.next ≡ self.old.next }
     {

@@ -2,7 +2,7 @@
 ghost use Rattle.std.specs.Prelude.{◌≡◌, [], ◌∷◌, ◌++◌, not, is_some, IsSome, None, option_map, IfOk, IfErr, OnOk, OnErr};
 ghost use Rattle.std.specs.Map.{keys_of};
 ghost use Rattle.std.specs.Map.Iter.{deref};
-ghost use Rattle.linked_hash_map.specs.Pairs.{find, first, last, without, without_first, without_last};
+ghost use Rattle.linked_hash_map.specs.Pairs.{find, first, last, without_first, without_last};
 
 use linked_hash_map::{Entry, LinkedHashMap, Refused};
 use std::alloc::Global;
@@ -38,7 +38,8 @@ impl<J: Eq + Hash> Queue<J> {
             (IsSome (find J.eq self.old.jobs.pairs job)
             → self.new.jobs.pairs ≡ self.old.jobs.pairs) }
 
-        ensures handed_back { IfErr result (λ refused. refused.key ≡ job) }
+        ensures handed_back { IfErr result (λ refused.
+            (refused.key ≡ job) × (refused.value ≡ weight)) }
         ensures unchanged { OnErr result (self.new.jobs ≡ self.old.jobs) }
     {
         match self.jobs.entry(job) {
