@@ -1,5 +1,5 @@
 //! Calls that are refused if an allocation fails, and what a caller does then.
-ghost use Rattle.std.specs.Prelude.{◌≡◌, ◌<◌, [], ◌∷◌, ◌++◌, None, max, length, IsSome, IsNone, IsErr, OnOk};
+ghost use Rattle.std.specs.Prelude.{◌≡◌, ◌<◌, [], ◌∷◌, ◌++◌, None, length, IsSome, IsNone, IsErr, IfErr, OnOk, OnErr};
 ghost use Rattle.linked_hash_map.specs.Pairs.{find, put, first, without_first};
 ghost use Rattle.linked_hash_map.specs.Validity.{IsValid};
 
@@ -47,6 +47,10 @@ pub fn insert_if_new<K: Eq + Hash + Drop, V: Drop, S: BuildHasher>(
         → length map.old.pairs < map.old.capacity) → map.new.capacity ≡ map.old.capacity) }
     ensures limit { find K.eq map.old.pairs key ≡ None → length map.old.pairs ≡ LIMIT
         → IsErr result }
+
+    ensures handed_back { IfErr result (λ refused.
+        (refused.key ≡ key) × (refused.value ≡ value)) }
+    ensures unchanged { OnErr result (map.new ≡ map.old) }
 {
     map.entry(key).or_insert(value)?;
     Ok(())
