@@ -3,7 +3,6 @@ ghost use Rattle.std.specs.Prelude.{◌≡◌, ◌==◌, ◌&&◌, ◌<◌, ◌�
 ghost use Rattle.std.specs.Borrow.{sem};
 ghost use Rattle.std.specs.Option.{option_copied_mut};
 ghost use Rattle.linked_hash_map.specs.Pairs.{find, value_at, put, first, without_first};
-ghost use Rattle.linked_hash_map.specs.Validity.{IsValid};
 
 use linked_hash_map::{LIMIT, LinkedHashMap, Mode, ReserveError};
 use std::alloc::Global;

@@ -1,5 +1,5 @@
 //! Loops over a map, of every kind.
-ghost use Rattle.std.specs.Prelude.{◌≡◌, ◌^◌, ◌<◌, ◌≤◌, ◌+◌, [], ◌∷◌, sum, length, filter, IfOk};
+ghost use Rattle.std.specs.Prelude.{◌≡◌, ◌^◌, ◌<◌, ◌+◌, [], ◌∷◌, sum, length, filter, IfOk};
 ghost use Rattle.std.specs.Map.{keys_of, values_of};
 ghost use Rattle.linked_hash_map.specs.Pairs.{first};
 ghost use Rattle.uses.specs.Counting.{has_count};
