@@ -91,7 +91,7 @@ impl<K: Eq + Hash, V> Cache<K, V> {
     #[tactic(auto, using(linked_hash_map::proofs::Callers::Rules::turns))]
     pub fn renew_oldest(&mut self, value: V) -> Option<(K, V)>
     where
-        K: Copy + Drop,
+        K: Copy,
         V: Drop,
         ensures oldest { result ≡ first self.old.map.pairs }
         ensures turned { IfSome result (λ pair. self.new.map.pairs

@@ -16,7 +16,6 @@ use Rattle.linked_hash_map.proofs.Callers.Counted.{count_by-set_or_push, count-l
 use Rattle.linked_hash_map.proofs.Callers.Dense.{values_of_dense_push, value_at_dense_each}
 use Rattle.linked_hash_map.proofs.Callers.Lookups.{value_at-append}
 use Rattle.linked_hash_map.proofs.Callers.Turns.{cons-keys_of_first, put-without_first}
-use Rattle.linked_hash_map.proofs.Callers.Updates.{max-length_put, max-length_set_or_push}
 use Rattle.linked_hash_map.proofs.Callers.Visits.{VisitKeeps-passed, VisitKeeps-removed, append-visited}
 
 -- at numbers
@@ -59,6 +58,3 @@ pub ruleset insertions = (insert_each-append, insert_each-snoc)
 
 -- the first pair put back, behind the others
 pub ruleset turns = (put-without_first)
-
--- an insertion that finds room leaves the capacity
-pub ruleset room = (max-length_put, max-length_set_or_push)

@@ -5,7 +5,6 @@ use Rattle.std.specs.List.{IsDistinct}
 use Rattle.std.specs.Map.{keys_of}
 use Rattle.std.specs.Option.{IsSome}
 use Rattle.linked_hash_map.specs.declared.map.Mode.{Mode}
-use Rattle.linked_hash_map.specs.declared.map.Mode.TheVariants.{Keep}
 use Rattle.linked_hash_map.specs.Pairs.{find, value_at, put, without, set_value, set_or_push}
 use Rattle.linked_hash_map.specs.Updates.{Updates}
 use Rattle.linked_hash_map.proofs.Callers.Lookups.{value_at-put_here, value_at-put_apart, value_at-without_here, value_at-without_apart, value_at-set_or_push_here, value_at-set_or_push_apart}
@@ -22,14 +21,6 @@ max-length_put {K} {V} {eq} laws mode pairs k v capacity distinct within room = 
     by_pair : (o : Option (K × V)) → find eq pairs k ≡ o → max capacity (length (put eq mode pairs k v)) ≡ capacity
     by_pair None absent = let longer = length-put_absent eq mode pairs k v absent in let below = room absent in omega arith
     by_pair (Some pair) found = let same = length-put_present laws mode pairs k v distinct (ap is_some found) in omega arith
-
--- and so does one of `or_insert`
-pub max-length_set_or_push : {K V : Type 0} {eq : K → K → Bool} → IsEquivalence eq
-    → (pairs : List (K × V)) (k : K) (v : V) (capacity : ℕ)
-    → IsDistinct eq (keys_of pairs) → length pairs ≤ capacity
-    → (find eq pairs k ≡ None → length pairs < capacity)
-    → max capacity (length (set_or_push eq pairs k v)) ≡ capacity
-max-length_set_or_push laws = max-length_put laws Keep
 
 module _ {K V : Type 0} {eq : K → K → Bool} (laws : IsEquivalence eq) (before after : List (K × V)) (k : K) where
   pub Updates-without : after ≡ without eq before k → Updates eq before after k None

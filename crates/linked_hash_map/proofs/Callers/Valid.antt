@@ -1,6 +1,6 @@
 -- For callers: a map stays valid through each change. The map after it is one whose pairs and whose
 -- capacity are as the clauses of the call say.
-use Rattle.std.proofs.Common.{◌≡◌, ◌+◌, ◌<◌, ◌≤◌, max, Bool, cond, List, length, None, refl, sym, ap, ◌∙◌, subst, arith}
+use Rattle.std.proofs.Common.{◌≡◌, ◌<◌, ◌≤◌, max, Bool, List, length, None, is_some, true≢false, refl, sym, ap, ◌∙◌, subst, arith}
 use Rattle.std.specs.Option.{IsSome}
 use Rattle.std.specs.List.{IsDistinct}
 use Rattle.std.specs.Map.{keys_of}
@@ -13,11 +13,13 @@ use Rattle.linked_hash_map.specs.LinkedMap.{LinkedMap}
 use Rattle.linked_hash_map.specs.declared.map.TheConstants.{LIMIT}
 use Rattle.linked_hash_map.specs.Validity.{IsValid}
 use Rattle.linked_hash_map.specs.declared.map.Mode.{Mode}
+use Rattle.linked_hash_map.specs.declared.map.Mode.TheVariants.{Keep}
 use Rattle.linked_hash_map.specs.Pairs.{find, set_or_push, put}
 use Rattle.linked_hash_map.specs.Changes.{set_or_pushed}
 use Rattle.linked_hash_map.specs.Entry.{Occupied, Vacant, occupied_key, vacant_map, vacant_key, entry_map, entry_key, entry_value}
 use Rattle.linked_hash_map.specs.declared.entry.Entry.{Entry}
-use Rattle.linked_hash_map.proofs.Callers.Keys.{distinct-put, distinct-set_or_push, length-set_or_push, length-set_or_push_most}
+use Rattle.linked_hash_map.proofs.Callers.Keys.{distinct-put, distinct-set_or_push, length-set_or_push_most}
+use Rattle.linked_hash_map.proofs.Callers.Updates.{max-length_put}
 use Rattle.linked_hash_map.proofs.EntryFacts.{found-occupied}
 
 module _ {K V S : Type 0} {eq : K → K → Bool} (laws : IsEquivalence eq) {m n : LinkedMap K V S} where
@@ -41,9 +43,8 @@ module _ {K V S : Type 0} {eq : K → K → Bool} (laws : IsEquivalence eq) {m n
       → n.pairs ≡ set_or_push eq m.pairs k v → n.capacity ≡ max m.capacity (length n.pairs)
       → IsValid eq n
   IsValid-set_or_push_present k v valid found changed more =
-      let same : length (set_or_push eq m.pairs k v) ≡ length m.pairs = length-set_or_push eq m.pairs k v ∙ ap (λ b. cond b (length m.pairs) (length m.pairs + 1)) found in
+      let stays = max-length_put laws Keep m.pairs k v m.capacity valid.distinct valid.within (λ none. absurd (true≢false (sym found ∙ ap is_some none))) in
       let counted : length n.pairs ≡ length (set_or_push eq m.pairs k v) = ap length changed in
-      let within = valid.within in
       let limit = valid.limit in
       IsValid-set_or_push k v valid changed more (omega arith)
 
