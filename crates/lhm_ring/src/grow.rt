@@ -1,8 +1,8 @@
 //! Allocates nodes in chunks, and frees all chunks.
-ghost use Rattle.std.specs.Prelude.{◌≡◌, ℕ, ◌+◌, ◌-◌, ◌<◌, ◌≤◌, ◌^◌, [], ◌∷◌, ◌++◌, None, Some, map, max, length, IfSome, IfOk, OnOk, OnErr, IsTrue, IsFalse, true};
+ghost use Rattle.std.specs.Prelude.{◌≡◌, ◌+◌, ◌-◌, ◌<◌, ◌≤◌, ◌^◌, [], ◌∷◌, ◌++◌, None, Some, map, max, length, IfOk, OnOk, OnErr, IsTrue, IsFalse, true};
 ghost use Rattle.std.specs.Allocator.{FitsBlock};
 ghost use Rattle.lhm_ring.specs.Chunks.{row};
-ghost use Rattle.lhm_ring.specs.Land.{extent, IsLaid, nodes_grown, least_more};
+ghost use Rattle.lhm_ring.specs.Land.{extent, nodes_grown, least_more};
 ghost use Rattle.lhm_ring.specs.Stacks.{IsStacked};
 
 use crate::block::{Node, NodePointer, allocate, deallocate, size};

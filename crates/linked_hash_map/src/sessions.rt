@@ -30,7 +30,7 @@
 //! assert_eq!(rt; kept.next(), Some((1, 8, &"page one")));
 //! assert_eq!(rt; kept.next(), None);
 //! ```
-ghost use Rattle.std.specs.Prelude.{◌≡◌, ◌==◌, ◌≤◌, ◌<◌, ◌+◌, ◌∷◌, ◌++◌, ◌↔◌, ℕ, [], Some, None, false, length, nat_eq, vec_capacity, IfOk, IfErr, OnOk, OnErr, OnSome, IsOk, IsSome, IsErrAnd};
+ghost use Rattle.std.specs.Prelude.{◌≡◌, ◌==◌, ◌≤◌, ◌<◌, ◌+◌, ◌++◌, ◌↔◌, ℕ, [], Some, None, false, length, vec_capacity, IfOk, IfErr, OnOk, OnErr, OnSome, IsOk, IsSome, IsErrAnd};
 ghost use Rattle.std.specs.Borrow.{sem};
 ghost use Rattle.std.specs.Map.Iter.{ShowsInOrder};
 ghost use Rattle.std.specs.Option.{option_copied_mut};
