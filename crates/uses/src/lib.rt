@@ -10,6 +10,7 @@ pub mod hasher;
 pub mod interner;
 pub mod loops;
 pub mod memory;
+pub mod modes;
 pub mod numbered;
 pub mod pages;
 pub mod queue;

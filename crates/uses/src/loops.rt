@@ -183,26 +183,6 @@ pub fn insert_on_the_way(map: &mut LinkedHashMap<u64, u64>) -> usize
     entries.unvisited()
 }
 
-/// Visits two of four pairs, inserts a value at the first and takes out the second, and returns how
-/// many are left to visit.
-pub fn leave_off_early(map: &mut LinkedHashMap<u64, u64>) -> usize
-    requires pairs { map.old.pairs ≡ (1, 1) ∷ (2, 2) ∷ (3, 3) ∷ (4, 4) ∷ [] }
-    requires mode { map.old.mode ≡ Mode.Touch }
-    ensures pairs { map.new.pairs ≡ (3, 3) ∷ (4, 4) ∷ (1, 10) ∷ [] }
-    ensures left { result ≡ 2 }
-{
-    let entries = map.visit();
-    let Some(mut first) = entries.next_entry() else {
-        return 0;
-    };
-    first.insert(10);
-    let Some(second) = entries.next_entry() else {
-        return 0;
-    };
-    second.remove();
-    entries.unvisited()
-}
-
 /// Visits every pair, and takes it out, inserts a value, writes one in its place or leaves it, as
 /// its value says. Returns the keys visited: each once, in the order at the start.
 #[tactic(auto, using(linked_hash_map::proofs::Callers::Rules::visits))]

@@ -14,10 +14,11 @@ use uses::document::{Document, copy_of, is_same};
 use uses::hasher::for_strangers;
 use uses::interner::Interner;
 use uses::loops::{
-    first_and_third, first_of_cursor, insert_on_the_way, into_list, keys_in_order, leave_off_early,
-    oldest_key, reset, sum_by_values, sum_of, take_all, take_out_zeros, visit_by_value,
+    first_and_third, first_of_cursor, insert_on_the_way, into_list, keys_in_order, oldest_key,
+    reset, sum_by_values, sum_of, take_all, take_out_zeros, visit_by_value,
 };
 use uses::memory::{empty_out, rehashed, reserve_and_extend, reserve_and_insert};
+use uses::modes::insert_in_place;
 use uses::numbered::{Numbered, add_both};
 use uses::queue::Queue;
 use uses::refusal::{insert_anyway, insert_if_new};
@@ -249,9 +250,17 @@ fn entries_are_inserted_on_the_way(rt: HostRuntime) {
     let mut map = four_pairs(&rt, rt.alloc());
     check_eq!(rt; insert_on_the_way(&mut map), 0);
     let mut other = four_pairs(&rt, rt.alloc());
-    check_eq!(rt; leave_off_early(&mut other), 2);
     let visited = given!(rt; visit_by_value(rt.alloc(), &mut other));
-    check_eq!(rt; visited.as_slice(), [3, 4, 1].as_slice());
+    check_eq!(rt; visited.as_slice(), [1, 2, 3, 4].as_slice());
+}
+
+#[test]
+fn a_pair_goes_in_without_a_move(rt: HostRuntime) {
+    let mut map = two_pairs(&rt, rt.alloc());
+    check_eq!(rt; insert_in_place(&mut map, 1, 11), Ok(Some(10)));
+    check_eq!(rt; map.front(), Some((&1, &11)));
+    check_eq!(rt; map.insert(1, 12), Ok(Some(11)));
+    check_eq!(rt; map.back(), Some((&1, &12)));
 }
 
 #[test]
