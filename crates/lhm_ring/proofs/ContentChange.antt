@@ -8,14 +8,14 @@ use Rattle.lhm_ring.specs.RingState.{State, state, Held, held, IsHeld, ChangesOn
 use Rattle.lhm_ring.specs.Splits.{SplitAround}
 use Rattle.lhm_ring.specs.Targets.{target}
 use Rattle.lhm_ring.specs.declared.link.Link.{Link}
-use Rattle.lhm_ring.proofs.Apart.{IsFresh, same_ptr-equal, same_ptr-reflexive, same_ptr-symmetric}
-use Rattle.lhm_ring.proofs.Writes.{cell_at-change_other, length-change, reader-with_links_same, links_at-with_links, body_at-with_links}
-use Rattle.lhm_ring.proofs.Rows.{AllByRecursion-map, AllByRecursion-right, at-content_of, IsFresh-middle, IsFresh-head, IsApart-tail}
-use Rattle.lhm_ring.proofs.RingNodes.{Found-listed}
+use Rattle.lhm_ring.proofs.Apart.{IsFresh, same_ptr-equal, same_ptr-reflexive, same_ptr-symmetric, IsFresh-middle, IsFresh-head, IsApart-tail}
+use Rattle.lhm_ring.proofs.Contents.{at-content_of, hash-content_of, link-content_of, pair-content_of, content_of-holds}
 use Rattle.lhm_ring.proofs.HeldPointers.{pointers_of, same_ptr-fresh, IsApart-ring_list}
+use Rattle.lhm_ring.proofs.ListFacts.{AllByRecursion-map, AllByRecursion-right}
+use Rattle.lhm_ring.proofs.OneNodeChanged.{links_at-with_body, body_at-with_body}
+use Rattle.lhm_ring.proofs.RingNodes.{Found-listed}
 use Rattle.lhm_ring.proofs.SameNodes.{SameLink, follow-same, RingOk-same}
-use Rattle.lhm_ring.proofs.Splicing.{next_of-chaining_to, prev_of-chaining_to, link_of-chaining_to, hash-chaining_to}
-use Rattle.lhm_ring.proofs.OneNodeChanged.{links_at-with_body, body_at-with_body, hash-content_of, link-content_of, pair-content_of, content_of-holds}
+use Rattle.lhm_ring.proofs.Writes.{cell_at-change_other, length-change, reader-with_links_same, links_at-with_links, body_at-with_links, next_of-chaining_to, prev_of-chaining_to, link_of-chaining_to, hash-chaining_to}
 
 -- the same nodes and the same order, except that p holds u in place of t
 pub record ChangesAt {B : Type 0} (cs ds : List (Cell Links B)) (p : Ptr) (t u : Held B) : Type 0 where

@@ -8,10 +8,12 @@ use Rattle.lhm_ring.specs.Rings.{next_at, prev_at, content_at, Linked, HasConten
 use Rattle.lhm_ring.specs.RingState.{State, state, Held, first_at, last_at, last_of}
 use Rattle.lhm_ring.specs.Targets.{led_to, target}
 use Rattle.lhm_ring.specs.declared.link.Link.{Link}
-use Rattle.lhm_ring.proofs.Rows.{at-content_of, RowCut-linked, last_from, AllByRecursion-left, AllByRecursion-last, IsFresh-head}
-use Rattle.lhm_ring.proofs.RingNodes.{ring_list-listed}
-use Rattle.lhm_ring.proofs.Apart.{IsFresh}
+use Rattle.lhm_ring.proofs.Apart.{IsFresh-head, IsFresh}
+use Rattle.lhm_ring.proofs.Contents.{at-content_of}
+use Rattle.lhm_ring.proofs.ListFacts.{last_from, AllByRecursion-left, AllByRecursion-last}
 use Rattle.lhm_ring.proofs.RingCells.{led_to-apart}
+use Rattle.lhm_ring.proofs.RingNodes.{ring_list-listed}
+use Rattle.lhm_ring.proofs.Rows.{RowCut-linked}
 
 module _ {B : Type 0} (cs : List (Cell Links B)) where
   at-content : (p : Ptr) (t : Held B) → content_at cs p ≡ Some t → t.at ≡ p

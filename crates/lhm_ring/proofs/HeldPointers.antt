@@ -8,8 +8,9 @@ use Rattle.lhm_ring.specs.declared.links.Links.{Links}
 use Rattle.lhm_ring.specs.Cells.{Cell, same_ptr, links_at, body_at, IsApart}
 use Rattle.lhm_ring.specs.Rings.{HasContent, follow, listed, one_of, ring_list, ring_pointers, RingOk}
 use Rattle.lhm_ring.specs.RingState.{State, state, Held}
-use Rattle.lhm_ring.proofs.Apart.{IsFresh}
-use Rattle.lhm_ring.proofs.Rows.{at-content_of, follow-row, IsApart-left, IsApart-tail, IsApart-removed}
+use Rattle.lhm_ring.proofs.Apart.{IsFresh, IsApart-left, IsApart-tail, IsApart-removed}
+use Rattle.lhm_ring.proofs.Contents.{at-content_of}
+use Rattle.lhm_ring.proofs.Rows.{follow-row}
 
 module _ {B : Type 0} where
   abbrev pub pointers_of : List (Held B) → List Ptr

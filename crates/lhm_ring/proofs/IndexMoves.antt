@@ -7,8 +7,9 @@ use Rattle.lhm_ring.specs.RingState.{Held, change_at}
 use Rattle.lhm_ring.specs.RingAfterLoan.{revalued, set_held_values}
 use Rattle.lhm_ring.specs.Index.{Spot, spot, spots, PutsIn, IsRearranged, is_in, Indexes}
 use Rattle.lhm_ring.proofs.Rearranged.{IsRearranged-again}
+use Rattle.lhm_ring.proofs.RearrangedFilters.{PutsIn-filter_in, filter-PutsIn}
+use Rattle.lhm_ring.proofs.Spots.{PutsIn-spots}
 use Rattle.lhm_ring.specs.Cells.{same_ptr}
-use Rattle.lhm_ring.proofs.Chains.{PutsIn-spots, PutsIn-filter_in, filter-PutsIn}
 
 -- a spot that stands elsewhere in the list
 Indexes-elsewhere : (heads : List (Option Ptr)) (s : Spot) (zs xs ys : List Spot) → PutsIn s zs xs → PutsIn s zs ys → Indexes heads xs → Indexes heads ys

@@ -8,9 +8,10 @@ use Rattle.lhm_ring.specs.Index.{spot, spots, Indexes}
 use Rattle.lhm_ring.specs.Search.{OfNodeAt, entries, HoldsOthers, HasNoChain, IsChained, Chains, IsRechained}
 use Rattle.lhm_ring.specs.Filters.{may_contain, CoversAll}
 use Rattle.lhm_ring.proofs.Ends.{First, First-first_at}
-use Rattle.lhm_ring.proofs.Chains.{PutsIn-spots, Indexes-put, Indexes-none}
-use Rattle.lhm_ring.proofs.Filters.{CoversAll-more, CoversAll-append}
 use Rattle.lhm_ring.proofs.Entries.{IsHeld-kept, entries-link}
+use Rattle.lhm_ring.proofs.Filters.{CoversAll-more, CoversAll-append}
+use Rattle.lhm_ring.proofs.Spots.{PutsIn-spots}
+use Rattle.lhm_ring.proofs.WholeIndex.{Indexes-put, Indexes-none}
 
 -- the node that comes last is the one that the index lacks
 pub HoldsOthers-last : {K V : Type 0} {heads : List (Option Ptr)} {nodes : List (Held (K × V))} (old : List (Held (K × V))) (t : Held (K × V)) → nodes ≡ old ++ t ∷ [] → Indexes heads (spots old) → HoldsOthers heads nodes t.at

@@ -8,8 +8,10 @@ use Rattle.lhm_ring.specs.RingState.{Held, IsHeld, AtHeld, linked_to}
 use Rattle.lhm_ring.specs.Splits.{SplitLast}
 use Rattle.lhm_ring.specs.Index.{Spot, spot, spots, PutsIn, IsRearranged, IsChain, is_in, Indexes}
 use Rattle.lhm_ring.specs.Search.{OfNodeAt, IsLast, IsOnChain, HoldsOthers}
-use Rattle.lhm_ring.proofs.Rearranged.{PutsIn-middle, IsRearranged-less}
-use Rattle.lhm_ring.proofs.Chains.{PutsPassing, NodeOf, NodeOf-spot, IsHeld-spot, PutsIn-later, IsRearranged-member, PutsPassing-filter, PutsIn-filter_in, PutsIn-spots, Indexes-take_first, Indexes-take_next}
+use Rattle.lhm_ring.proofs.Rearranged.{PutsIn-middle, IsRearranged-less, PutsIn-later, IsRearranged-member}
+use Rattle.lhm_ring.proofs.RearrangedFilters.{PutsPassing, PutsPassing-filter, PutsIn-filter_in}
+use Rattle.lhm_ring.proofs.Spots.{NodeOf, NodeOf-spot, IsHeld-spot, PutsIn-spots}
+use Rattle.lhm_ring.proofs.WholeIndex.{Indexes-take_first, Indexes-take_next}
 
 -- a spot of a chain is a held node's
 pub record OnNode {K V : Type 0} (n b : ℕ) (done : List Spot) (s : Spot) (rest : List Spot) (nodes : List (Held (K × V))) : Type 0 where

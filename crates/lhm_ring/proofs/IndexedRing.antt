@@ -9,8 +9,8 @@ use Rattle.lhm_ring.specs.Index.{spot, spots, Indexes}
 use Rattle.lhm_ring.specs.Search.{HasNoChain}
 use Rattle.lhm_ring.specs.IndexedRing.{IsIndexed}
 use Rattle.lhm_ring.proofs.BucketCounts.{buckets-zero, buckets-at_least}
-use Rattle.lhm_ring.proofs.Chains.{Indexes-none}
 use Rattle.lhm_ring.proofs.IndexMoves.{Indexes-to_back, spots-value}
+use Rattle.lhm_ring.proofs.WholeIndex.{Indexes-none}
 
 -- nothing is held
 pub IsIndexed-none : {K V : Type 0} (heads : List (Option Ptr)) (s : State (K × V)) → HasNoChain heads → s.held ≡ [] → length heads ≡ buckets s.spares → IsIndexed heads s

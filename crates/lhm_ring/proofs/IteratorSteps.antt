@@ -6,9 +6,9 @@ use Rattle.lhm_ring.specs.Cells.{same_ptr, IsApart}
 use Rattle.lhm_ring.specs.ValueLoan.{value_at, without_value}
 use Rattle.lhm_ring.specs.RingState.{Held}
 use Rattle.lhm_ring.specs.Iterators.{AreLent}
-use Rattle.lhm_ring.proofs.Apart.{IsFresh, same_ptr-symmetric, same_ptr-equal}
+use Rattle.lhm_ring.proofs.Apart.{IsFresh, same_ptr-symmetric, same_ptr-equal, IsApart-left, IsFresh-head, IsApart-tail, AllByRecursion-fresh_across}
+use Rattle.lhm_ring.proofs.ListFacts.{AllByRecursion-left, AllByRecursion-right}
 use Rattle.lhm_ring.proofs.Options.{Some-injective}
-use Rattle.lhm_ring.proofs.Rows.{AllByRecursion-left, AllByRecursion-right, IsApart-left, IsFresh-head, IsApart-tail, AllByRecursion-fresh_across}
 
 -- a key and a value that are read apart
 pub Some-both : {K V : Type 0} (o : Option (K × V)) (k k' : K) (v v' : V) → o ≡ Some (k, v) → o ≡ Some (k', v') → o ≡ Some (k, v')

@@ -7,6 +7,7 @@ pub mod Chains
 pub mod ChunkPlaces
 pub mod ContentChange
 pub mod ContentTaken
+pub mod Contents
 pub mod ContentsSplitOff
 pub mod Ends
 pub mod Entries
@@ -19,7 +20,9 @@ pub mod IndexPuts
 pub mod IndexTakes
 pub mod IndexedRing
 pub mod IteratorSteps
+pub mod Joins
 pub mod LendTable
+pub mod ListFacts
 pub mod Lookup
 pub mod Memory
 pub mod Moves
@@ -36,6 +39,9 @@ pub mod Places
 pub mod PutBackAndUnlink
 pub mod ReadAtPosition
 pub mod Rearranged
+pub mod RearrangedCounts
+pub mod RearrangedFilters
+pub mod Results
 pub mod Retained
 pub mod RingCells
 pub mod RingNodes
@@ -46,10 +52,12 @@ pub mod Searches
 pub mod Sharing
 pub mod Spans
 pub mod Splicing
+pub mod Spots
 pub mod Stacking
 pub mod Tables
 pub mod ValueTaken
 pub mod ValuesInOrder
 pub mod ValuesReplaced
 pub mod ValuesSplitOff
+pub mod WholeIndex
 pub mod Writes

@@ -9,9 +9,11 @@ use Rattle.lhm_ring.specs.RingState.{state, Held, State, IsHeld, AtHeld}
 use Rattle.lhm_ring.specs.Splits.{SplitAround}
 use Rattle.lhm_ring.specs.Targets.{target}
 use Rattle.lhm_ring.specs.declared.link.Link.{Link}
-use Rattle.lhm_ring.proofs.Apart.{IsFresh}
-use Rattle.lhm_ring.proofs.Rows.{AllByRecursion-append, AllByRecursion-left, AllByRecursion-right, AllByRecursion-removed, AllByRecursion-last, IsApart-left, IsFresh-middle, IsApart-removed, IsApart-inserted, RowCut-linked, Chained-unchanged, AllByRecursion-content_unchanged, AllByRecursion-there_unchanged, listed-unchanged, listed-append, Linked-removed, Linked-pushed}
+use Rattle.lhm_ring.proofs.Apart.{IsFresh, IsApart-left, IsFresh-middle, IsApart-removed, IsApart-inserted}
+use Rattle.lhm_ring.proofs.Joins.{Chained-unchanged, AllByRecursion-content_unchanged, AllByRecursion-there_unchanged, listed-unchanged, Linked-removed, Linked-pushed}
+use Rattle.lhm_ring.proofs.ListFacts.{AllByRecursion-append, AllByRecursion-left, AllByRecursion-right, AllByRecursion-removed, AllByRecursion-last}
 use Rattle.lhm_ring.proofs.RingNodes.{Found-held, NodeAt-held, ring_list-listed, ring_split}
+use Rattle.lhm_ring.proofs.Rows.{RowCut-linked, listed-append}
 
 module _ {B : Type 0} where
   pub listed-one : (cs : List (Cell Links B)) (p : Ptr) (t : Held B) → content_at cs p ≡ Some t → listed cs (p ∷ []) ≡ t ∷ []

@@ -7,10 +7,11 @@ use Rattle.lhm_ring.specs.Rings.{next_of, prev_of, next_at, prev_at, Linked, Has
 use Rattle.lhm_ring.specs.RingState.{State, state, AtHeld, first_at, last_at}
 use Rattle.lhm_ring.specs.Targets.{led_to, target}
 use Rattle.lhm_ring.specs.declared.link.Link.{Link}
-use Rattle.lhm_ring.proofs.Apart.{IsFresh}
-use Rattle.lhm_ring.proofs.Rows.{AllByRecursion-left, AllByRecursion-right, IsFresh-head, RowCut, RowCut-linked, Linked-glued}
-use Rattle.lhm_ring.proofs.RingNodes.{Found-held, ring_split}
+use Rattle.lhm_ring.proofs.Apart.{IsFresh, IsFresh-head}
 use Rattle.lhm_ring.proofs.FirstAndLast.{first_at-led_to, last_at-led_to}
+use Rattle.lhm_ring.proofs.ListFacts.{AllByRecursion-left, AllByRecursion-right}
+use Rattle.lhm_ring.proofs.RingNodes.{Found-held, ring_split}
+use Rattle.lhm_ring.proofs.Rows.{RowCut, RowCut-linked, Linked-glued}
 
 module _ {B : Type 0} (cs : List (Cell Links B)) (spare : Option Ptr) (ss us : List Ptr) (p : Ptr) (vs : List Ptr) (r : IsRing cs (us ++ p ∷ vs) spare ss) where
   row : RowCut cs null_ptr us p (vs ++ null_ptr ∷ [])

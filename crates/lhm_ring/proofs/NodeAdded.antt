@@ -5,10 +5,10 @@ use Rattle.lhm_ring.specs.declared.links.Links.{Links}
 use Rattle.lhm_ring.specs.declared.links.Ends.{Ends}
 use Rattle.lhm_ring.specs.Cells.{Cell, cell, cell_at, same_ptr, pointers, links_of, is_block, IsApart}
 use Rattle.lhm_ring.specs.Rings.{ends_links, ring_cells, link_of, has_links, link_at, is_there, Chained, IsRing, listed}
-use Rattle.lhm_ring.proofs.Apart.{IsFresh, same_ptr-equal, same_ptr-reflexive, same_ptr-symmetric}
-use Rattle.lhm_ring.proofs.Rows.{AllByRecursion-append, AllByRecursion-left, AllByRecursion-right, AllByRecursion-map, IsFresh-head, IsApart-inserted}
-use Rattle.lhm_ring.proofs.RingCells.{same_ptr-null, cell_at-ring_cells}
+use Rattle.lhm_ring.proofs.Apart.{IsFresh, same_ptr-equal, same_ptr-reflexive, same_ptr-symmetric, IsFresh-head, IsApart-inserted}
+use Rattle.lhm_ring.proofs.ListFacts.{AllByRecursion-append, AllByRecursion-left, AllByRecursion-right, AllByRecursion-map}
 use Rattle.lhm_ring.proofs.OneNodeChanged.{Linked-other, Chained-other, AllByRecursion-content_other, listed-other}
+use Rattle.lhm_ring.proofs.RingCells.{same_ptr-null, cell_at-ring_cells}
 
 false_true : false ≡ true → ⊥
 false_true e = cc

@@ -10,9 +10,12 @@ use Rattle.lhm_ring.specs.RingState.{State, Held, IsHeld, AtHeld, linked_to}
 use Rattle.lhm_ring.specs.Index.{Spot, spot, spots, PutsIn, IsRearranged, IsChain, is_in, HasChain, Indexes}
 use Rattle.lhm_ring.specs.Splits.{SplitAt, SplitAround}
 use Rattle.lhm_ring.specs.Search.{OfNodeAt, IsLast, IsOnChain}
-use Rattle.lhm_ring.proofs.Rearranged.{PutsIn-middle, IsRearranged-less, IsRearranged-more}
-use Rattle.lhm_ring.proofs.Chains.{IsHeld-spot, ChainFirst, ChainFirst-some, none-IsChain, SplitAround-rearranged, PutsIn-filter_in, PutsIn-spots, length-IsRearranged}
+use Rattle.lhm_ring.proofs.Chains.{ChainFirst, ChainFirst-some, none-IsChain}
 use Rattle.lhm_ring.proofs.IndexTakes.{OnNode, OnNode-rearranged}
+use Rattle.lhm_ring.proofs.Rearranged.{PutsIn-middle, IsRearranged-less, IsRearranged-more, SplitAround-rearranged}
+use Rattle.lhm_ring.proofs.RearrangedCounts.{length-IsRearranged}
+use Rattle.lhm_ring.proofs.RearrangedFilters.{PutsIn-filter_in}
+use Rattle.lhm_ring.proofs.Spots.{IsHeld-spot, PutsIn-spots}
 
 -- the chain of the held node x: us come before it there, and vs after it
 pub record OnItsChain {K V : Type 0} (heads : List (Option Ptr)) (hash : ℕ) (nodes : List (Held (K × V))) (x : Held (K × V)) : Type 0 where

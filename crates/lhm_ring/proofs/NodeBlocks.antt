@@ -8,10 +8,10 @@ use Rattle.lhm_ring.specs.Cells.{Cell, pointers, links_at, body_at, is_block, Ar
 use Rattle.lhm_ring.specs.Rings.{ring_cells, has_links, one_of, HasContent, listed, ring_list, RingOk}
 use Rattle.lhm_ring.specs.RingState.{State, state, Held}
 use Rattle.lhm_ring.specs.declared.link.Link.{Link}
+use Rattle.lhm_ring.proofs.Contents.{at-content_of}
 use Rattle.lhm_ring.proofs.Lookup.{AllByRecursion-at}
-use Rattle.lhm_ring.proofs.RingNodes.{ring_list-listed}
 use Rattle.lhm_ring.proofs.RingCells.{same_ptr-content, is_block-there}
-use Rattle.lhm_ring.proofs.Rows.{at-content_of}
+use Rattle.lhm_ring.proofs.RingNodes.{ring_list-listed}
 use Rattle.lhm_ring.proofs.Writes.{content_of-links}
 
 module _ {B : Type 0} (e : Ends) (nodes : List (Cell Links B)) (all : AreBlocks (pointers nodes)) where

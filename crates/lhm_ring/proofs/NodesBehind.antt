@@ -6,10 +6,9 @@ use Rattle.lhm_ring.specs.Cells.{same_ptr, IsApart}
 use Rattle.lhm_ring.specs.declared.position.Position.{Position}
 use Rattle.lhm_ring.specs.Positions.{pointer_of, pointer_of_some}
 use Rattle.lhm_ring.specs.RingState.{Held, IsHeld, AtHeld, first_at, last_at}
-use Rattle.lhm_ring.proofs.Apart.{IsFresh, same_ptr-reflexive}
+use Rattle.lhm_ring.proofs.Apart.{IsFresh, same_ptr-reflexive, IsFresh-head, IsApart-tail}
 use Rattle.lhm_ring.proofs.Ends.{Last, First-first_at, Last-last_at, none-first_at}
 use Rattle.lhm_ring.proofs.HeldPointers.{pointers_of, same_ptr-fresh}
-use Rattle.lhm_ring.proofs.Rows.{IsFresh-head, IsApart-tail}
 
 module _ {B : Type 0} where
   not_again : (t : Held B) (hs us : List (Held B)) (v : Held B) (ws : List (Held B)) → IsApart (pointers_of (t ∷ hs)) → hs ≡ us ++ v ∷ ws → v.at ≡ t.at → ⊥

@@ -7,10 +7,10 @@ use Rattle.lhm_ring.specs.Cells.{Cell, cell, cell_at, same_ptr, IsApart, pointer
 use Rattle.lhm_ring.specs.Rings.{next_of, prev_of, link_of, has_links, HasContent, RingOk}
 use Rattle.lhm_ring.specs.ContentLoan.{body_in, without_body, bodies_of, with_bodies, cleared}
 use Rattle.lhm_ring.specs.declared.link.Link.{Link}
-use Rattle.lhm_ring.proofs.Apart.{IsFresh, same_ptr-equal, same_ptr-reflexive, same_ptr-symmetric}
+use Rattle.lhm_ring.proofs.Apart.{IsFresh, same_ptr-equal, same_ptr-reflexive, same_ptr-symmetric, IsFresh-head, IsApart-tail}
+use Rattle.lhm_ring.proofs.ListFacts.{AllByRecursion-always}
 use Rattle.lhm_ring.proofs.Options.{none_some}
 use Rattle.lhm_ring.proofs.SameNodes.{SameLink, RingOk-same}
-use Rattle.lhm_ring.proofs.Rows.{AllByRecursion-always, IsFresh-head, IsApart-tail}
 
 module _ {B : Type 0} where
   body_in-without_body : (p : Ptr) (run : List (Ptr × Option B))

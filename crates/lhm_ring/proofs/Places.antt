@@ -10,7 +10,7 @@ use Rattle.lhm_ring.specs.Cells.{Cell, pointers, is_block, AreBlocks}
 use Rattle.lhm_ring.specs.Chunks.{row, places}
 use Rattle.lhm_ring.specs.declared.chunk.Chunk.{Chunk}
 use Rattle.lhm_ring.specs.Land.{extent, place_count, IsLaid}
-use Rattle.lhm_ring.proofs.Rows.{AllByRecursion-left, AllByRecursion-right}
+use Rattle.lhm_ring.proofs.ListFacts.{AllByRecursion-left, AllByRecursion-right}
 
 pub places-none : (s : ℕ) → [] ≡ places s []
 unfolding places

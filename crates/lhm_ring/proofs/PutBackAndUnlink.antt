@@ -1,22 +1,109 @@
--- `put_back` and `unlink`, from what their steps ensure.
-use Rattle.std.proofs.Common.{◌≡◌, ℕ, suc, ◌+◌, ◌-◌, ◌<◌, ◌≤◌, ◌^◌, true, cond, List, [], ◌∷◌, ◌++◌, length, Some, None, refl, sym, ap, ◌∙◌, subst, arith, length-append}
+-- `put_back` and `unlink`: the ring after them, and from what their steps ensure.
+use Rattle.std.specs.List.{AllByRecursion}
+use Rattle.std.proofs.Common.{◌≡◌, ℕ, suc, ◌+◌, ◌-◌, ◌<◌, ◌≤◌, ◌^◌, true, cond, List, [], ◌∷◌, ◌++◌, length, Some, None, refl, sym, ap, ◌∙◌, subst, arith, length-append, false, Option, append_assoc}
 use Rattle.std.specs.Option.{IsSome}
 use denote.RawPtr.{Ptr, null_ptr}
 use Rattle.lhm_ring.specs.declared.block.NodePointer.{NodePointer}
 use Rattle.lhm_ring.specs.declared.links.Links.{Links}
-use Rattle.lhm_ring.specs.Cells.{Cell, links_at, body_at, IsAt, Holds, with_links, with_body}
-use Rattle.lhm_ring.specs.Rings.{chaining_to, ChainsTo, next_of, prev_of, link_of, next_at, prev_at, link_at, is_there, content_of, content_at, Chained, IsRing, listed, IsJoined, ring_list, RingOk}
-use Rattle.lhm_ring.specs.RingState.{State, state, held, IsHeld, AtHeld}
+use Rattle.lhm_ring.specs.Cells.{Cell, links_at, body_at, IsAt, Holds, with_links, with_body, same_ptr, links_of, IsApart}
+use Rattle.lhm_ring.specs.Rings.{chaining_to, ChainsTo, next_of, prev_of, link_of, next_at, prev_at, link_at, is_there, content_of, content_at, Chained, IsRing, listed, IsJoined, ring_list, RingOk, Linked, HasContent}
+use Rattle.lhm_ring.specs.RingState.{State, state, held, IsHeld, AtHeld, Held}
 use Rattle.lhm_ring.specs.Splits.{SplitAround}
 use Rattle.lhm_ring.specs.Targets.{target}
 use Rattle.lhm_ring.specs.declared.link.Link.{Link}
-use Rattle.lhm_ring.proofs.Apart.{same_ptr-reflexive}
+use Rattle.lhm_ring.proofs.Apart.{same_ptr-reflexive, IsApart-left, IsFresh-middle, IsFresh, IsApart-inserted, IsApart-removed}
+use Rattle.lhm_ring.proofs.Contents.{hash-content_of, pair-content_of, content_of-holds}
+use Rattle.lhm_ring.proofs.Joins.{Linked-pushed, AllByRecursion-there_unchanged, Chained-unchanged, listed-unchanged, AllByRecursion-content_unchanged}
+use Rattle.lhm_ring.proofs.ListFacts.{AllByRecursion-left, AllByRecursion-last, AllByRecursion-right, AllByRecursion-removed, AllByRecursion-append}
+use Rattle.lhm_ring.proofs.Moves.{Linked-joined, There-node, listed-one}
+use Rattle.lhm_ring.proofs.OneNodeChanged.{OnlyAt, links_at-with_body, body_at-with_body, OnlyAt-with_links, OnlyAt-with_body, OnlyAt-both, Linked-other, listed-other, AllByRecursion-there_other, AllByRecursion-content_other, Chained-other}
 use Rattle.lhm_ring.proofs.Options.{Some-injective}
-use Rattle.lhm_ring.proofs.Writes.{links_at-with_links, IsAt-there}
-use Rattle.lhm_ring.proofs.Rows.{AllByRecursion-left, AllByRecursion-last, AllByRecursion-right, RowCut-linked}
 use Rattle.lhm_ring.proofs.RingNodes.{Found-held, NodeAt-held, ring_list-listed, ring_split}
-use Rattle.lhm_ring.proofs.Moves.{Linked-joined, There-node}
-use Rattle.lhm_ring.proofs.OneNodeChanged.{OnlyAt, links_at-with_body, body_at-with_body, OnlyAt-with_links, OnlyAt-with_body, OnlyAt-both, hash-content_of, pair-content_of, content_of-holds, IsRing-put_back, listed-put_back, IsRing-unlinked, listed-unlinked}
+use Rattle.lhm_ring.proofs.Rows.{RowCut-linked, listed-append}
+use Rattle.lhm_ring.proofs.Writes.{links_at-with_links, IsAt-there}
+
+-- the first spare node p is given links, a hash and a body, and comes last
+module _ {B : Type 0} (cs ds es fs : List (Cell Links B)) (ps : List Ptr) (spare : Option Ptr) (p : Ptr) (ss : List Ptr) (r : IsRing cs ps spare (p ∷ ss))
+    (o : OnlyAt cs ds p) (k : IsJoined ds es (prev_at cs null_ptr) p) (l : IsJoined es fs p null_ptr) (t : Held B) (c : content_at ds p ≡ Some t) where
+  abbrev T : Ptr → Type 0
+  T q = is_there cs q ≡ true
+
+  IsFresh-row : IsFresh p (null_ptr ∷ ps)
+  IsFresh-row = let f = IsFresh-middle (null_ptr ∷ ps) p ss r.apart in (f.0, AllByRecursion-left (λ q. same_ptr p q ≡ false) ps ss f.1)
+
+  IsFresh-chain : IsFresh p ss
+  IsFresh-chain = AllByRecursion-right (λ q. same_ptr p q ≡ false) ps ss (IsFresh-middle (null_ptr ∷ ps) p ss r.apart).1
+
+  IsApart-row : IsApart (null_ptr ∷ ps)
+  IsApart-row = IsApart-left (null_ptr ∷ ps) (p ∷ ss) r.apart
+
+  prev_at-last : prev_at ds null_ptr ≡ prev_at cs null_ptr
+  prev_at-last = ap (λ z. prev_of (links_of z)) (o.other null_ptr IsFresh-row.0)
+
+  k₁ : IsJoined ds es (prev_at ds null_ptr) p
+  k₁ = subst (λ z. IsJoined ds es z p) (sym prev_at-last) k
+
+  Linked-there : Linked ds (null_ptr ∷ (ps ++ null_ptr ∷ []))
+  Linked-there = Linked-other cs ds p o.other (null_ptr ∷ (ps ++ null_ptr ∷ [])) (IsFresh-row.0, AllByRecursion-append (λ q. same_ptr p q ≡ false) ps (null_ptr ∷ []) IsFresh-row.1 (IsFresh-row.0, tt)) r.linked
+
+  IsApart-put_back : IsApart (null_ptr ∷ ((ps ++ p ∷ []) ++ ss))
+  IsApart-put_back = subst (λ qs. IsApart (null_ptr ∷ qs)) (sym (append_assoc ps (p ∷ []) ss)) r.apart
+
+  AllByRecursion-put_back : AllByRecursion T ((ps ++ p ∷ []) ++ ss)
+  AllByRecursion-put_back = subst (AllByRecursion T) (sym (append_assoc ps (p ∷ []) ss)) r.there.1
+
+  pub IsRing-put_back : IsRing fs (ps ++ p ∷ []) (link_at cs p) ss
+  IsRing-put_back = record {
+    linked = Linked-pushed ds es fs null_ptr ps p IsApart-row IsFresh-row Linked-there k₁ l;
+    chained = Chained-unchanged es fs p null_ptr l (link_at cs p) ss (Chained-unchanged ds es _ p k₁ (link_at cs p) ss (Chained-other cs ds p o.other (link_at cs p) ss IsFresh-chain r.chained.1));
+    held = let qs = ps ++ p ∷ [] in AllByRecursion-content_unchanged es fs p null_ptr l qs (AllByRecursion-content_unchanged ds es _ p k₁ qs (AllByRecursion-append (HasContent ds) ps (p ∷ []) (AllByRecursion-content_other cs ds p o.other ps IsFresh-row.1 r.held) ((t, c), tt)));
+    there = let qs = null_ptr ∷ ((ps ++ p ∷ []) ++ ss) in AllByRecursion-there_unchanged es fs p null_ptr l qs (AllByRecursion-there_unchanged ds es _ p k₁ qs (AllByRecursion-there_other cs ds p o qs (r.there.0, AllByRecursion-put_back)));
+    apart = IsApart-put_back;
+    count = l.count ∙ k₁.count ∙ o.count ∙ r.count ∙ ap (λ n. suc n) (omega (arith, length-append ps (p ∷ [])));
+  }
+
+  pub listed-put_back : listed fs (ps ++ p ∷ []) ≡ listed cs ps ++ t ∷ []
+  listed-put_back =
+      let qs = ps ++ p ∷ [] in listed-unchanged es fs p null_ptr l qs ∙ listed-unchanged ds es _ p k₁ qs ∙ listed-append ds ps (p ∷ []) ∙ (λ i. listed-other cs ds p o.other ps IsFresh-row.1 i ++ listed-one ds p t c i)
+
+-- a held node p comes out, and is the first spare one
+module _ {B : Type 0} (cs ds es : List (Cell Links B)) (spare : Option Ptr) (ss us : List Ptr) (p : Ptr) (vs : List Ptr) (r : IsRing cs (us ++ p ∷ vs) spare ss) (a b : Ptr)
+    (j : IsJoined cs ds a b) (out : Linked ds (null_ptr ∷ ((us ++ vs) ++ null_ptr ∷ []))) (o : OnlyAt ds es p) (h : link_at es p ≡ spare) where
+  abbrev T₂ : Ptr → Type 0
+  T₂ q = is_there cs q ≡ true
+
+  IsApart-whole : IsApart ((null_ptr ∷ us) ++ p ∷ (vs ++ ss))
+  IsApart-whole = subst (λ qs. IsApart (null_ptr ∷ qs)) (append_assoc us (p ∷ vs) ss) r.apart
+
+  append-regrouped : us ++ (vs ++ ss) ≡ (us ++ vs) ++ ss
+  append-regrouped = sym (append_assoc us vs ss)
+
+  IsFresh-unlinked : IsFresh p (null_ptr ∷ ((us ++ vs) ++ ss))
+  IsFresh-unlinked = subst (λ qs. IsFresh p (null_ptr ∷ qs)) append-regrouped (IsFresh-middle (null_ptr ∷ us) p (vs ++ ss) IsApart-whole)
+
+  IsFresh-held : IsFresh p (us ++ vs)
+  IsFresh-held = AllByRecursion-left (λ q. same_ptr p q ≡ false) (us ++ vs) ss IsFresh-unlinked.1
+
+  IsApart-unlinked : IsApart (null_ptr ∷ ((us ++ vs) ++ p ∷ ss))
+  IsApart-unlinked = IsApart-inserted (null_ptr ∷ (us ++ vs)) p ss IsFresh-unlinked (subst (λ qs. IsApart (null_ptr ∷ qs)) append-regrouped (IsApart-removed (null_ptr ∷ us) p (vs ++ ss) IsApart-whole))
+
+  AllByRecursion-unlinked : AllByRecursion T₂ (null_ptr ∷ ((us ++ vs) ++ p ∷ ss))
+  AllByRecursion-unlinked =
+      let held = AllByRecursion-left T₂ (us ++ p ∷ vs) ss r.there.1 in
+      (r.there.0, AllByRecursion-append T₂ (us ++ vs) (p ∷ ss) (AllByRecursion-removed T₂ us p vs held) ((AllByRecursion-right T₂ us (p ∷ vs) held).0, AllByRecursion-right T₂ (us ++ p ∷ vs) ss r.there.1))
+
+  pub IsRing-unlinked : IsRing es (us ++ vs) (Some p) (p ∷ ss)
+  IsRing-unlinked = record {
+    linked = Linked-other ds es p o.other (null_ptr ∷ ((us ++ vs) ++ null_ptr ∷ [])) (IsFresh-unlinked.0, AllByRecursion-append (λ q. same_ptr p q ≡ false) (us ++ vs) (null_ptr ∷ []) IsFresh-held (IsFresh-unlinked.0, tt)) out;
+    chained = (refl, subst (λ z. Chained es z ss) (sym h) (Chained-other ds es p o.other spare ss (AllByRecursion-right (λ q. same_ptr p q ≡ false) (us ++ vs) ss IsFresh-unlinked.1) (Chained-unchanged cs ds a b j spare ss r.chained)));
+    held = AllByRecursion-content_other ds es p o.other (us ++ vs) IsFresh-held (AllByRecursion-content_unchanged cs ds a b j (us ++ vs) (AllByRecursion-removed (HasContent cs) us p vs r.held));
+    there = AllByRecursion-there_other ds es p o (null_ptr ∷ ((us ++ vs) ++ p ∷ ss)) (AllByRecursion-there_unchanged cs ds a b j (null_ptr ∷ ((us ++ vs) ++ p ∷ ss)) AllByRecursion-unlinked);
+    apart = IsApart-unlinked;
+    count = o.count ∙ j.count ∙ r.count ∙ ap (λ n. suc n) (omega (arith, length-append us (p ∷ vs), length-append us vs));
+  }
+
+  pub listed-unlinked : listed es (us ++ vs) ≡ listed cs us ++ listed cs vs
+  listed-unlinked = listed-other ds es p o.other (us ++ vs) IsFresh-held ∙ listed-unchanged cs ds a b j (us ++ vs) ∙ listed-append cs us vs
 
 -- the links of the node at p once they are written
 links_at-with_links_here : {B : Type 0} (p : Ptr) (l : Links) (cs : List (Cell Links B)) (la : Links) → links_at cs p ≡ Some la → links_at (with_links p l cs) p ≡ Some l

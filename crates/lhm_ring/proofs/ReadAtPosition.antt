@@ -6,8 +6,8 @@ use Rattle.lhm_ring.specs.Cells.{Cell, links_at, body_at, IsAt, Holds}
 use Rattle.lhm_ring.specs.Rings.{link_of, content_of, content_at, ring_list, RingOk}
 use Rattle.lhm_ring.specs.RingState.{State, state, Held, IsHeld}
 use Rattle.lhm_ring.specs.declared.link.Link.{Link}
+use Rattle.lhm_ring.proofs.Contents.{hash-content_of, link-content_of, pair-content_of, content_of-holds}
 use Rattle.lhm_ring.proofs.RingNodes.{Found-held}
-use Rattle.lhm_ring.proofs.OneNodeChanged.{hash-content_of, link-content_of, pair-content_of, content_of-holds}
 use Rattle.lhm_ring.proofs.Writes.{content_of-links}
 
 module _ {B : Type 0} (cs : List (Cell Links B)) (spare : Link) (n m : ℕ) (v : State B) (ok : RingOk cs spare n m) {total : ℕ} (w : state (ring_list cs n) m total ≡ v) (p : Ptr) where

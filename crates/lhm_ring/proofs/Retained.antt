@@ -7,10 +7,9 @@ use Rattle.lhm_ring.specs.RingState.{State, Held, IsHeld, AtHeld, first_at, chan
 use Rattle.lhm_ring.specs.RingAfterLoan.{revalued}
 use Rattle.lhm_ring.specs.Tables.{TableState, table_of, WritesOnly}
 use Rattle.lhm_ring.specs.Retains.{TakesAt, CallsAt, RetainsAt, RetainsHeld, IsRetaining, left_from}
-use Rattle.lhm_ring.proofs.Apart.{same_ptr-reflexive}
-use Rattle.lhm_ring.proofs.Rows.{IsFresh-head, IsApart-tail}
-use Rattle.lhm_ring.proofs.HeldPointers.{pointers_of, pointers_of-append, same_ptr-fresh, IsApart-without_node}
+use Rattle.lhm_ring.proofs.Apart.{same_ptr-reflexive, IsFresh-head, IsApart-tail}
 use Rattle.lhm_ring.proofs.Ends.{First, First-first_at}
+use Rattle.lhm_ring.proofs.HeldPointers.{pointers_of, pointers_of-append, same_ptr-fresh, IsApart-without_node}
 use Rattle.lhm_ring.proofs.Tables.{EntriesCut-split}
 
 -- what a node holds is written twice

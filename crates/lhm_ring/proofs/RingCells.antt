@@ -6,11 +6,13 @@ use Rattle.lhm_ring.specs.declared.links.Links.{Links}
 use Rattle.lhm_ring.specs.declared.links.Ends.{Ends}
 use Rattle.lhm_ring.specs.declared.link.Link.{Link}
 use Rattle.lhm_ring.specs.Cells.{Cell, cell, same_ptr, pointers, cell_at, links_of, body_of, links_at, body_at, change, with_links, with_body, is_block, AreBlocks, IsAt, Holds}
-use Rattle.lhm_ring.specs.Rings.{ends_links, ring_cells, leading_on, leading_back, LeadsOn, LeadsBack, chaining_to, ChainsTo, has_links, next_of, prev_of, next_at, prev_at, is_there, content_at, content_of, Linked, Chained, HasContent, listed, one_of, IsJoined, IsRing, RingOk, link_at, link_of}
+use Rattle.lhm_ring.specs.Rings.{ends_links, ring_cells, leading_on, leading_back, LeadsOn, LeadsBack, chaining_to, ChainsTo, has_links, next_of, prev_of, next_at, prev_at, is_there, content_at, content_of, Linked, Chained, HasContent, listed, one_of, IsJoined, IsRing, RingOk, link_of}
 use Rattle.lhm_ring.specs.Targets.{led_to, target}
 use Rattle.lhm_ring.proofs.Apart.{IsApart-none, IsApart-added}
-use Rattle.lhm_ring.proofs.Options.{none_some, Some-injective}
+use Rattle.lhm_ring.proofs.ListFacts.{AllByRecursion-map}
 use Rattle.lhm_ring.proofs.Lookup.{AllByRecursion-at}
+use Rattle.lhm_ring.proofs.Options.{none_some, Some-injective}
+use Rattle.lhm_ring.proofs.SameNodes.{Chained-same, SameLink}
 use Rattle.lhm_ring.proofs.Writes.{IsAt-there}
 
 -- where a link leads
@@ -147,12 +149,10 @@ module _ {B : Type 0} (e : Ends) (cs : List (Cell Links B)) where
       ((sym (ap (λ z. next_of (links_of z)) (cell_at-apart p h.0)) ∙ l.0.0, sym (ap (λ z. prev_of (links_of z)) (cell_at-apart q h.1.0)) ∙ l.0.1), Linked-in_nodes (q ∷ ps) h.1 l.1)
 
   pub Chained-in_nodes : (h : Option Ptr) (ss : List Ptr) → AllByRecursion Apart ss → Chained (ring_cells e cs) h ss → Chained cs h ss
-  Chained-in_nodes h [] f k = k
-  Chained-in_nodes h (p ∷ ps) f k = (k.0, Chained-in_nodes (link_at cs p) ps f.1 (subst (λ o. Chained (ring_cells e cs) o ps) (ap (λ z. link_of (links_of z)) (cell_at-apart p f.0)) k.1))
+  Chained-in_nodes h ss f = Chained-same (ring_cells e cs) cs h ss (AllByRecursion-map Apart (SameLink (ring_cells e cs) cs) (λ p n. sym (ap (λ z. link_of (links_of z)) (cell_at-apart p n))) ss f)
 
   pub Chained-in_ring : (h : Option Ptr) (ss : List Ptr) → AllByRecursion Apart ss → Chained cs h ss → Chained (ring_cells e cs) h ss
-  Chained-in_ring h [] f k = k
-  Chained-in_ring h (p ∷ ps) f k = (k.0, Chained-in_ring (link_at (ring_cells e cs) p) ps f.1 (subst (λ o. Chained cs o ps) (sym (ap (λ z. link_of (links_of z)) (cell_at-apart p f.0))) k.1))
+  Chained-in_ring h ss f = Chained-same cs (ring_cells e cs) h ss (AllByRecursion-map Apart (SameLink cs (ring_cells e cs)) (λ p n. ap (λ z. link_of (links_of z)) (cell_at-apart p n)) ss f)
 
   pub AllByRecursion-there_in_nodes : (ps : List Ptr) → AllByRecursion Apart ps → AllByRecursion (λ p. is_there (ring_cells e cs) p ≡ true) ps → AllByRecursion (λ p. is_there cs p ≡ true) ps
   AllByRecursion-there_in_nodes [] f h = tt

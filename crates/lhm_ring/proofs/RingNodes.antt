@@ -1,15 +1,49 @@
--- The nodes of a ring, and what it lists.
-use Rattle.std.proofs.Common.{◌≡◌, ℕ, suc, ◌+◌, ◌≤◌, ◌^◌, List, [], ◌∷◌, ◌++◌, length, Option, refl, sym, ap, ◌∙◌, subst, arith}
+-- The nodes of a ring, what it lists, and where it is cut.
+use Rattle.std.proofs.Common.{◌≡◌, ℕ, suc, ◌+◌, ◌≤◌, ◌^◌, List, [], ◌∷◌, ◌++◌, length, Option, refl, sym, ap, ◌∙◌, subst, arith, Some}
 use Rattle.std.specs.List.{AllByRecursion}
 use denote.RawPtr.{Ptr, null_ptr}
 use Rattle.lhm_ring.specs.declared.links.Links.{Links}
-use Rattle.lhm_ring.specs.Cells.{Cell}
-use Rattle.lhm_ring.specs.Rings.{HasContent, IsRing, follow, listed, one_of, ring_list, RingOk}
-use Rattle.lhm_ring.specs.RingState.{state, State, IsHeld, AtHeld}
+use Rattle.lhm_ring.specs.Cells.{Cell, links_at, body_at}
+use Rattle.lhm_ring.specs.Rings.{HasContent, IsRing, follow, listed, one_of, ring_list, RingOk, content_at}
+use Rattle.lhm_ring.specs.RingState.{state, State, IsHeld, AtHeld, Held}
 use Rattle.lhm_ring.specs.Splits.{SplitAround}
 use Rattle.lhm_ring.specs.Targets.{target}
 use Rattle.lhm_ring.specs.declared.link.Link.{Link}
-use Rattle.lhm_ring.proofs.Rows.{CutAt, follow-row, CutAt-listed}
+use Rattle.lhm_ring.proofs.Contents.{at-content_of}
+use Rattle.lhm_ring.proofs.Rows.{follow-row}
+
+module _ {B : Type 0} where
+  -- where a ring is cut at p, if what it lists is
+  pub record CutAt (cs : List (Cell Links B)) (ps : List Ptr) (us : List (Held B)) (t : Held B) (vs : List (Held B)) (p : Ptr) : Type 0 where
+    pub split : SplitAround ps p
+    pub here : content_at cs p ≡ Some t
+    pub listed_before : listed cs split.before ≡ us
+    pub listed_after : listed cs split.after ≡ vs
+
+  pub CutAt-listed : (cs : List (Cell Links B)) (ps : List Ptr) → AllByRecursion (HasContent cs) ps → (us : List (Held B)) (t : Held B) (vs : List (Held B)) → listed cs ps ≡ us ++ t ∷ vs → CutAt cs ps us t vs t.at
+  unfolding listed
+  CutAt-listed cs [] h [] t vs e = absurd cc
+  CutAt-listed cs [] h (a ∷ us) t vs e = absurd cc
+  CutAt-listed cs (p ∷ ps) h [] t vs e =
+      let e' : h.0.0 ∷ listed cs ps ≡ t ∷ vs = sym (ap (λ o. one_of o ++ listed cs ps) h.0.1) ∙ e in
+      let first : h.0.0 ≡ t = cc in let rest : listed cs ps ≡ vs = cc in
+      let at : p ≡ t.at = sym (at-content_of p (links_at cs p) (body_at cs p) h.0.0 h.0.1) ∙ ap (λ (z : Held B). z.at) first in
+      record {
+        split = record { before = []; after = ps; is = ap (λ q. q ∷ ps) at };
+        here = ap (content_at cs) (sym at) ∙ h.0.1 ∙ ap (λ z. Some z) first;
+        listed_before = refl;
+        listed_after = rest;
+      }
+  CutAt-listed cs (p ∷ ps) h (a ∷ us) t vs e =
+      let e' : h.0.0 ∷ listed cs ps ≡ a ∷ (us ++ t ∷ vs) = sym (ap (λ o. one_of o ++ listed cs ps) h.0.1) ∙ e in
+      let first : h.0.0 ≡ a = cc in let rest : listed cs ps ≡ us ++ t ∷ vs = cc in
+      let on = CutAt-listed cs ps h.1 us t vs rest in
+      record {
+        split = record { before = p ∷ on.split.before; after = on.split.after; is = ap (λ qs. p ∷ qs) on.split.is };
+        here = on.here;
+        listed_before = ap (λ o. one_of o ++ listed cs on.split.before) h.0.1 ∙ ap (λ l. h.0.0 ∷ l) on.listed_before ∙ ap (λ z. z ∷ us) first;
+        listed_after = on.listed_after;
+      }
 
 -- what a ring lists
 module _ {B : Type 0} where

@@ -6,8 +6,9 @@ use Rattle.lhm_ring.specs.declared.links.Ends.{Ends}
 use Rattle.lhm_ring.specs.declared.link.Link.{Link}
 use Rattle.lhm_ring.specs.Cells.{Cell}
 use Rattle.lhm_ring.specs.Rings.{ring_cells, next_at, prev_at, follow, listed, HasEnds, pointers_from, ring_list, RingOk, IsSpan}
-use Rattle.lhm_ring.proofs.Rows.{RowCut-linked, IsApart-left, IsApart-tail}
+use Rattle.lhm_ring.proofs.Apart.{IsApart-left, IsApart-tail}
 use Rattle.lhm_ring.proofs.RingCells.{next_at-null, prev_at-null, AllByRecursion-apart, AllByRecursion-content_in_nodes, listed-in_nodes, Linked-in_nodes}
+use Rattle.lhm_ring.proofs.Rows.{RowCut-linked}
 use Rattle.lhm_ring.proofs.Spans.{last_pointer-last_from, Linked-tail, HasEnds-behind, pointers_from-span}
 
 module _ {B : Type 0} where

@@ -7,7 +7,7 @@ use Rattle.lhm_ring.specs.declared.links.Links.{Links}
 use Rattle.lhm_ring.specs.Cells.{Cell}
 use Rattle.lhm_ring.specs.Rings.{next_at, prev_at, link_at, is_there, Linked, Chained, HasContent, IsRing, follow, RingOk}
 use Rattle.lhm_ring.specs.Targets.{target}
-use Rattle.lhm_ring.proofs.Rows.{AllByRecursion-map}
+use Rattle.lhm_ring.proofs.ListFacts.{AllByRecursion-map}
 
 module _ {B : Type 0} (cs ds : List (Cell Links B)) where
   abbrev pub SameLink : Ptr → Type 0

@@ -8,12 +8,14 @@ use Rattle.lhm_ring.specs.Cells.{Cell, cell, cell_at, same_ptr, links_at, body_a
 use Rattle.lhm_ring.specs.Rings.{next_of, prev_of, link_of, next_at, prev_at, content_of, Linked, HasContent, listed, one_of, last_pointer, HasEnds, pointers_from, span_triples, IsSpan}
 use Rattle.lhm_ring.specs.RingState.{Held, held, triples}
 use Rattle.lhm_ring.specs.Splits.{SplitFirst, SplitLast}
-use Rattle.lhm_ring.proofs.Apart.{IsFresh}
-use Rattle.lhm_ring.proofs.Writes.{cell_at-change_other, content_of-links}
-use Rattle.lhm_ring.proofs.Rows.{last_from, AllByRecursion-left, AllByRecursion-right, IsApart-left, IsFresh-head, IsApart-tail, IsFresh-middle, RowCut-linked, listed-append, SplitLast-last_from}
+use Rattle.lhm_ring.proofs.Apart.{IsFresh, IsApart-left, IsFresh-head, IsApart-tail, IsFresh-middle}
+use Rattle.lhm_ring.proofs.Contents.{content_of-holds}
+use Rattle.lhm_ring.proofs.ListFacts.{last_from, AllByRecursion-left, AllByRecursion-right, SplitLast-last_from}
+use Rattle.lhm_ring.proofs.OneNodeChanged.{links_at-with_body, AllByRecursion-content_other, listed-other}
 use Rattle.lhm_ring.proofs.RingNodes.{length-listed}
+use Rattle.lhm_ring.proofs.Rows.{RowCut-linked, listed-append}
 use Rattle.lhm_ring.proofs.SameNodes.{Linked-same}
-use Rattle.lhm_ring.proofs.OneNodeChanged.{links_at-with_body, AllByRecursion-content_other, listed-other, content_of-holds}
+use Rattle.lhm_ring.proofs.Writes.{cell_at-change_other, content_of-links}
 
 module _ {B : Type 0} (cs : List (Cell Links B)) where
   pub listed-none : (f : Ptr) → listed cs (pointers_from cs 0 f) ≡ []

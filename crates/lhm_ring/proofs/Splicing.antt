@@ -11,15 +11,17 @@ use Rattle.lhm_ring.specs.RingState.{Held, triples}
 use Rattle.lhm_ring.specs.Splices.{onto, StartsAt, triple_of, SameButLinks, IsRow, HasRow, SparesRow}
 use Rattle.lhm_ring.specs.Targets.{target}
 use Rattle.lhm_ring.specs.declared.link.Link.{Link}
-use Rattle.lhm_ring.proofs.Apart.{IsFresh, same_ptr-reflexive}
-use Rattle.lhm_ring.proofs.Writes.{cell_at-change_other, length-change, reader-with_links_same, links_at-with_links, body_at-with_links}
-use Rattle.lhm_ring.proofs.Rows.{last_from, AllByRecursion-left, AllByRecursion-right, AllByRecursion-map, IsApart-left, IsFresh-head, IsApart-tail, IsFresh-middle, IsApart-removed, IsApart-inserted, AvoidsSource-fresh, AvoidsSource, AvoidsTarget, RowCut-linked, Linked-unchanged, Chained-unchanged, Edge-made, listed-unchanged}
-use Rattle.lhm_ring.proofs.RingCells.{next_at-null, is_there-null, Linked-in_nodes, AllByRecursion-there_in_nodes, Chained-in_nodes, Chained-in_ring}
-use Rattle.lhm_ring.proofs.RingNodes.{ring_list-listed}
+use Rattle.lhm_ring.proofs.Apart.{IsFresh, same_ptr-reflexive, IsApart-left, IsFresh-head, IsApart-tail, IsFresh-middle, IsApart-removed, IsApart-inserted}
+use Rattle.lhm_ring.proofs.Joins.{AvoidsSource-fresh, AvoidsSource, AvoidsTarget, Linked-unchanged, Chained-unchanged, Edge-made, listed-unchanged}
+use Rattle.lhm_ring.proofs.ListFacts.{last_from, AllByRecursion-left, AllByRecursion-right, AllByRecursion-map}
 use Rattle.lhm_ring.proofs.OneNodeChanged.{Chained-other}
 use Rattle.lhm_ring.proofs.Options.{none_some}
-use Rattle.lhm_ring.proofs.Spans.{last_pointer-last_from, Linked-tail, pointers_from-span}
+use Rattle.lhm_ring.proofs.RingCells.{next_at-null, is_there-null, Linked-in_nodes, AllByRecursion-there_in_nodes, Chained-in_nodes, Chained-in_ring}
+use Rattle.lhm_ring.proofs.RingNodes.{ring_list-listed}
+use Rattle.lhm_ring.proofs.Rows.{RowCut-linked}
 use Rattle.lhm_ring.proofs.SameNodes.{Linked-same}
+use Rattle.lhm_ring.proofs.Spans.{last_pointer-last_from, Linked-tail, pointers_from-span}
+use Rattle.lhm_ring.proofs.Writes.{cell_at-change_other, length-change, reader-with_links_same, links_at-with_links, body_at-with_links, next_of-chaining_to, prev_of-chaining_to, link_of-chaining_to, hash-chaining_to}
 
 -- the pointers of a row go onto others
 pub AllByRecursion-onto : (P : Ptr → Type 0) (ps ss : List Ptr) → AllByRecursion P ps → AllByRecursion P ss → AllByRecursion P (onto ps ss)
@@ -34,18 +36,6 @@ pub IsApart-onto : (g : Ptr) (ps ss : List Ptr) → IsApart (g ∷ (ps ++ ss))
     → IsApart (g ∷ onto ps ss)
 IsApart-onto g [] ss d = d
 IsApart-onto g (p ∷ ps) ss d = IsApart-onto g ps (p ∷ ss) (IsApart-inserted (g ∷ ps) p ss (IsFresh-middle (g ∷ []) p (ps ++ ss) d) (IsApart-removed (g ∷ []) p (ps ++ ss) d))
-
-pub next_of-chaining_to : (o : Link) (l : Links) → next_of (Some (chaining_to o l)) ≡ next_of (Some l)
-next_of-chaining_to o l = refl
-
-pub prev_of-chaining_to : (o : Link) (l : Links) → prev_of (Some (chaining_to o l)) ≡ prev_of (Some l)
-prev_of-chaining_to o l = refl
-
-pub link_of-chaining_to : (o : Link) (l : Links) → link_of (Some (chaining_to o l)) ≡ target o
-link_of-chaining_to o l = refl
-
-pub hash-chaining_to : (o : Link) (l : Links) → (chaining_to o l).hash ≡ l.hash
-hash-chaining_to o l = refl
 
 module _ {B : Type 0} where
   triple_of-chaining_to : (q : Ptr) (o : Link) (l : Links) (b : Option B) → triple_of (content_of q (Some (chaining_to o l)) b) ≡ triple_of (content_of q (Some l) b)

@@ -9,9 +9,9 @@ use Rattle.lhm_ring.specs.Rings.{ring_cells, IsRing, listed, ring_list, RingOk}
 use Rattle.lhm_ring.specs.Stacks.{IsStacked}
 use Rattle.lhm_ring.specs.Targets.{target}
 use Rattle.lhm_ring.specs.declared.link.Link.{Link}
-use Rattle.lhm_ring.proofs.Rows.{IsApart-tail}
-use Rattle.lhm_ring.proofs.RingNodes.{ring_list-listed}
+use Rattle.lhm_ring.proofs.Apart.{IsApart-tail}
 use Rattle.lhm_ring.proofs.NodeAdded.{IsRing-added, listed-added}
+use Rattle.lhm_ring.proofs.RingNodes.{ring_list-listed}
 
 module _ {B : Type 0} where
   pub IsStacked-none : (cs : List (Cell Links B)) (s : Link) → IsStacked cs s 0 cs s

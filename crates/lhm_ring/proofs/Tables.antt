@@ -1,6 +1,6 @@
 -- A table: what it shows of the nodes of its ring, which stand there without their links.
 use Rattle.std.proofs.Common.{◌≡◌, ℕ, ◌+◌, ◌%◌, ◌^◌, ◌<◌, ◌≤◌, ◌≢◌, Bool, true, false, cond, List, [], ◌∷◌, ◌++◌, length, length-append, map, Option, Some, None, refl, sym, ap, ◌∙◌, subst, eqb, inl, inr, arith}
-use Rattle.std.specs.Prelude.{count_by, Result, Ok, Err, OnOk, OnErr, OnSome, IfNone}
+use Rattle.std.specs.Prelude.{count_by, Result, Ok, Err, OnOk, OnErr}
 use Rattle.std.proofs.lemmas.Bool.{eq-eqb, ne_eqb}
 use Rattle.std.proofs.lemmas.List.{map-append, length-map}
 use denote.RawPtr.{Ptr}
@@ -15,11 +15,11 @@ use Rattle.lhm_ring.specs.Filters.{IsFilter}
 use Rattle.lhm_ring.specs.TableAfterLoan.{with_value as write}
 use Rattle.lhm_ring.specs.Tables.{IsTable, TableState, WritesOnly, table_of}
 use Rattle.lhm_ring.proofs.BucketCounts.{buckets-raised, buckets-below, buckets-at_least, rechained-within}
-use Rattle.lhm_ring.proofs.Chains.{count_by-cons}
 use Rattle.lhm_ring.proofs.Entries.{IsHeld-kept, HasKey-kept}
 use Rattle.lhm_ring.proofs.Filters.{IsFilter-spots, IsFilter-entries, IsFilter-removed, IsFilter-to_back}
 use Rattle.lhm_ring.proofs.IndexMoves.{spots-value}
 use Rattle.lhm_ring.proofs.IndexedRing.{IsIndexed-value, IsIndexed-to_back}
+use Rattle.lhm_ring.proofs.RearrangedCounts.{count_by-cons}
 
 module _ {K V : Type 0} where
   pub entries-append : (xs ys : List (Held (K × V))) → entries (xs ++ ys) ≡ entries xs ++ entries ys
@@ -127,23 +127,6 @@ module _ {K V : Type 0} where
     visited_all = c.visited_all ∙ sym (beside-entries hs m hash) ∙ ap (λ k. beside (spots (entries hs)) k hash) wide;
     compared_all = c.compared_all ∙ sym (same-entries hs hash);
   }
-
--- what is said of a result, by what follows from it
-pub OnSome-then : {X P Q : Type 0} (r : Option X) → OnSome r P → (P → Q) → OnSome r Q
-OnSome-then None h f = tt
-OnSome-then (Some x) h f = f h
-
-pub OnOk-always : {X E P : Type 0} (r : Result X E) → P → OnOk r P
-OnOk-always (Ok x) h = h
-OnOk-always (Err e) h = tt
-
-pub OnOk-then : {X E P Q : Type 0} (r : Result X E) → OnOk r P → (P → Q) → OnOk r Q
-OnOk-then (Ok x) h f = f h
-OnOk-then (Err e) h f = tt
-
-pub IfNone-then : {X P Q : Type 0} (r : Option X) → IfNone r P → (P → Q) → IfNone r Q
-IfNone-then None h f = f h
-IfNone-then (Some x) h f = tt
 
 -- nodes with the same entries are as many
 pub length-same_entries : {K V : Type 0} (hs ks : List (Held (K × V))) → entries hs ≡ entries ks → length hs ≡ length ks

@@ -7,10 +7,9 @@ use Rattle.lhm_ring.specs.ValueLoan.{value_at}
 use Rattle.lhm_ring.specs.Splits.{SplitAt}
 use Rattle.lhm_ring.specs.RingState.{Held, IsHeld, AtHeld}
 use Rattle.lhm_ring.specs.RingAfterLoan.{revalued, unvalued, held_values, set_held_values}
-use Rattle.lhm_ring.proofs.Apart.{IsFresh, same_ptr-equal, same_ptr-reflexive, same_ptr-symmetric}
-use Rattle.lhm_ring.proofs.Options.{Some-injective}
-use Rattle.lhm_ring.proofs.Rows.{IsFresh-head, IsApart-tail}
+use Rattle.lhm_ring.proofs.Apart.{IsFresh, same_ptr-equal, same_ptr-reflexive, same_ptr-symmetric, IsFresh-head, IsApart-tail}
 use Rattle.lhm_ring.proofs.HeldPointers.{pointers_of}
+use Rattle.lhm_ring.proofs.Options.{Some-injective}
 use Rattle.lhm_ring.proofs.ValuesReplaced.{among, lent, lent_then, run_of, taken, value_in, revalued_by}
 
 module _ {K V : Type 0} where

@@ -11,12 +11,12 @@ use Rattle.lhm_ring.specs.RingState.{Held, held}
 use Rattle.lhm_ring.specs.RingAfterLoan.{pair, revalued}
 use Rattle.lhm_ring.specs.Iterators.{AreLent}
 use Rattle.lhm_ring.specs.declared.link.Link.{Link}
-use Rattle.lhm_ring.proofs.Apart.{IsFresh, same_ptr-equal, same_ptr-reflexive, IsApart-none}
+use Rattle.lhm_ring.proofs.Apart.{IsFresh, same_ptr-equal, same_ptr-reflexive, IsApart-none, IsFresh-head, IsApart-tail, IsApart-added}
+use Rattle.lhm_ring.proofs.Contents.{at-content_of, content_of-holds, pair-content_of}
 use Rattle.lhm_ring.proofs.HeldPointers.{AllByRecursion-followed, IsApart-ring_list}
-use Rattle.lhm_ring.proofs.SameNodes.{SameLink, follow-same, RingOk-same}
+use Rattle.lhm_ring.proofs.ListFacts.{AllByRecursion-map, AllByRecursion-always}
 use Rattle.lhm_ring.proofs.Options.{none_some, Some-injective}
-use Rattle.lhm_ring.proofs.Rows.{AllByRecursion-map, AllByRecursion-always, at-content_of, IsFresh-head, IsApart-tail, IsApart-cons}
-use Rattle.lhm_ring.proofs.OneNodeChanged.{content_of-holds, pair-content_of}
+use Rattle.lhm_ring.proofs.SameNodes.{SameLink, follow-same, RingOk-same}
 
 -- whether p is one of ps
 abbrev pub among : List Ptr → Ptr → Bool
@@ -58,7 +58,7 @@ module _ {K V : Type 0} where
   IsApart-lent_then : (k : Bool) (p : Ptr) (b : Option (K × V)) (r : List (Ptr × (K × V))) → IsFresh p (map (λ c. c.0) r) → IsApart (map (λ c. c.0) r) → IsApart (map (λ c. c.0) (lent_then k p b r))
   IsApart-lent_then false p b r f d = d
   IsApart-lent_then true p None r f d = d
-  IsApart-lent_then true p (Some x) r f d = IsApart-cons p (map (λ c. c.0) r) f d
+  IsApart-lent_then true p (Some x) r f d = IsApart-added p (map (λ c. c.0) r) f d
 
   written_body-none : (k : Bool) (hs : List (Held (K × V))) (q : Ptr)
       → None ≡ written_body k hs q None

@@ -4,8 +4,9 @@ use denote.RawPtr.{Ptr}
 use Rattle.lhm_ring.specs.declared.link.Link.{Link}
 use Rattle.lhm_ring.specs.declared.links.Links.{Links}
 use Rattle.lhm_ring.specs.Cells.{Cell, cell, same_ptr, cell_at, links_of, body_of, links_at, body_at, IsAt, change, with_links}
-use Rattle.lhm_ring.specs.Rings.{leading_on, leading_back, LeadsOn, LeadsBack, next_of, prev_of, link_of, has_links, is_there, content_of, content_at, IsJoined}
+use Rattle.lhm_ring.specs.Rings.{chaining_to, leading_on, leading_back, LeadsOn, LeadsBack, next_of, prev_of, link_of, has_links, is_there, content_of, content_at, IsJoined}
 use Rattle.lhm_ring.specs.RingState.{Held}
+use Rattle.lhm_ring.specs.Targets.{target}
 use Rattle.lhm_ring.proofs.Apart.{same_ptr-equal}
 use Rattle.lhm_ring.proofs.Options.{none_some, Some-injective}
 
@@ -128,3 +129,16 @@ module _ {B : Type 0} where
   pub IsJoined-writes : (cs es ds : List (Cell Links B)) (a b : Link) → is_there cs a.ptr ≡ true → is_there cs b.ptr ≡ true → LeadsOn cs a.ptr b es → LeadsBack es b.ptr a ds → IsJoined cs ds a.ptr b.ptr
   IsJoined-writes cs es ds a b ha hb k l =
       let la = IsAt-there cs a.ptr ha in let lb = IsAt-there es b.ptr (is_there-leading_on cs es a.ptr b ha k b.ptr hb) in IsJoined-with_links cs es ds a b la.0 lb.0 la.1 (k la.0 la.1) lb.1 (l lb.0 lb.1)
+
+-- links with another chain link
+pub next_of-chaining_to : (o : Link) (l : Links) → next_of (Some (chaining_to o l)) ≡ next_of (Some l)
+next_of-chaining_to o l = refl
+
+pub prev_of-chaining_to : (o : Link) (l : Links) → prev_of (Some (chaining_to o l)) ≡ prev_of (Some l)
+prev_of-chaining_to o l = refl
+
+pub link_of-chaining_to : (o : Link) (l : Links) → link_of (Some (chaining_to o l)) ≡ target o
+link_of-chaining_to o l = refl
+
+pub hash-chaining_to : (o : Link) (l : Links) → (chaining_to o l).hash ≡ l.hash
+hash-chaining_to o l = refl

@@ -5,10 +5,10 @@ use Rattle.std.specs.Prelude.{count_by}
 use Rattle.std.specs.List.{AllByRecursion}
 use Rattle.lhm_ring.specs.Buckets.{buckets, rechained_raised}
 use Rattle.lhm_ring.proofs.BucketCounts.{rechained_raised-same}
+use Rattle.lhm_ring.proofs.RearrangedCounts.{count_by-cons}
 use Rattle.lhm_ring.specs.Index as index
 use Rattle.lhm_ring.specs.Index.{Spot, spot, spots}
 use Rattle.lhm_ring.specs.RingState.{Held}
-use Rattle.lhm_ring.proofs.Chains.{count_by-cons}
 use Rattle.linked_hash_map.specs.Counts.{same, beside, rechained_each}
 use Rattle.linked_hash_map.specs.Nodes.{pairs_of, bare}
 

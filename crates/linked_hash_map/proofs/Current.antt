@@ -7,8 +7,7 @@ use Rattle.lhm_ring.specs.RingState.{Held, first_at, last_of, last_at}
 use Rattle.lhm_ring.specs.Tables.{TableState}
 use Rattle.lhm_ring.specs.TableAfterLoan.{with_value}
 use Rattle.lhm_ring.specs.Search.{HasKey}
-use Rattle.lhm_ring.proofs.Apart.{IsFresh, same_ptr-reflexive}
-use Rattle.lhm_ring.proofs.Rows.{IsFresh-head, IsApart-tail}
+use Rattle.lhm_ring.proofs.Apart.{IsFresh, same_ptr-reflexive, IsFresh-head, IsApart-tail}
 use Rattle.lhm_ring.specs.declared.position.Position.{Position}
 use Rattle.linked_hash_map.specs.LinkedMap.{LinkedMap, CursorState}
 use Rattle.linked_hash_map.specs.Cursor.{IsOutside}

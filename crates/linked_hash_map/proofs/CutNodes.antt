@@ -6,9 +6,8 @@ use Rattle.lhm_ring.specs.RingState.{Held, change_at, IsHeld}
 use Rattle.lhm_ring.specs.Tables.{WritesOnly}
 use Rattle.lhm_ring.specs.RingAfterLoan.{revalued}
 use Rattle.lhm_ring.specs.Search.{HasKey}
-use Rattle.lhm_ring.proofs.Apart.{same_ptr-equal, same_ptr-reflexive}
+use Rattle.lhm_ring.proofs.Apart.{same_ptr-equal, same_ptr-reflexive, IsFresh-head, IsApart-tail}
 use Rattle.lhm_ring.proofs.HeldPointers.{same_ptr-fresh}
-use Rattle.lhm_ring.proofs.Rows.{IsFresh-head, IsApart-tail}
 use Rattle.linked_hash_map.specs.Nodes.{pairs_of, before}
 use Rattle.linked_hash_map.specs.Indexes.{IsIndex, set_value_at}
 use Rattle.linked_hash_map.proofs.HeldPairs.{length-pairs_of, pairs_of-append}

@@ -7,8 +7,8 @@ use Rattle.std.proofs.lemmas.Map.Keys.{IsDistinct-head, IsDistinct-tail}
 use denote.RawPtr.{Ptr}
 use Rattle.lhm_ring.specs.Cells.{same_ptr, IsApart}
 use Rattle.lhm_ring.specs.RingState.{Held, AtHeld}
-use Rattle.lhm_ring.proofs.Apart.{IsFresh, same_ptr-reflexive, same_ptr-symmetric}
-use Rattle.lhm_ring.proofs.Rows.{AllByRecursion-right, IsFresh-middle}
+use Rattle.lhm_ring.proofs.Apart.{IsFresh, same_ptr-reflexive, same_ptr-symmetric, IsFresh-middle}
+use Rattle.lhm_ring.proofs.ListFacts.{AllByRecursion-right}
 use Rattle.linked_hash_map.specs.Nodes.{VisitState, Lies, pairs_of, bare, bare_node, before, bookmark_at, AreKept}
 use Rattle.linked_hash_map.proofs.DistinctLists.{none_from_all}
 use Rattle.linked_hash_map.proofs.HeldPairs.{length-bare, pairs_of-append}

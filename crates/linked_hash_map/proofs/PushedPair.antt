@@ -8,7 +8,7 @@ use denote.RawPtr.{Ptr}
 use Rattle.lhm_ring.specs.RingState.{Held, held}
 use Rattle.lhm_ring.specs.RingAfterLoan.{pair}
 use Rattle.lhm_ring.specs.Tables.{TableState}
-use Rattle.lhm_ring.proofs.Rows.{AllByRecursion-append}
+use Rattle.lhm_ring.proofs.ListFacts.{AllByRecursion-append}
 use Rattle.linked_hash_map.specs.Nodes.{VisitState, AreKept, IsKept, Lies, pairs_of, bare, bare_node, bookmark_at, current_at}
 use Rattle.linked_hash_map.specs.Pairs.{find}
 use Rattle.linked_hash_map.proofs.HeldPairs.{length-bare, keys-bare, pairs_of-append}

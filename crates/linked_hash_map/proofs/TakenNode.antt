@@ -5,7 +5,7 @@ use Rattle.std.proofs.lemmas.List.{map-append}
 use denote.RawPtr.{Ptr}
 use Rattle.lhm_ring.specs.RingState.{Held, AtHeld}
 use Rattle.lhm_ring.specs.Tables.{TableState}
-use Rattle.lhm_ring.proofs.Rows.{AllByRecursion-removed}
+use Rattle.lhm_ring.proofs.ListFacts.{AllByRecursion-removed}
 use Rattle.linked_hash_map.specs.Nodes.{VisitState, no_visit, pairs_of, bare, bare_node, before, AreKept, IsKept}
 use Rattle.linked_hash_map.proofs.DistinctLists.{distinct_removed}
 use Rattle.linked_hash_map.proofs.CutNodes.{CutAt, CutAt-before, slice_get-held, pairs_of-removed}

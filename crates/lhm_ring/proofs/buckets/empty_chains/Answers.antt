@@ -1,7 +1,7 @@
 use Rattle.std.proofs.Common.{sym, subst, ◌∙◌}
 use Rattle.std.proofs.lemmas.List.{nil_from_length}
 use Rattle.lhm_ring.specs.Index.{spots, Indexes}
-use Rattle.lhm_ring.proofs.Chains.{get_or-none_indexed}
+use Rattle.lhm_ring.proofs.WholeIndex.{get_or-none_indexed}
 use Rattle.lhm_ring.proofs.buckets.empty_chains.Goals as goal
 
 pub returns-then-len-eq0-clause-empty : goal.returns-then-len-eq0-clause-empty

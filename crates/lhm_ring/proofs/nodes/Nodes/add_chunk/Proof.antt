@@ -27,9 +27,10 @@ use Rattle.lhm_ring.specs.Chunks.{row}
 use Rattle.lhm_ring.specs.Ownership.{node_bytes}
 use Rattle.lhm_ring.proofs.BlockValues.{block_val, block_Good, BlockType, block_known, pointer_made, knows}
 use Rattle.lhm_ring.proofs.Blocks.{written, block}
+use Rattle.lhm_ring.proofs.ChunkPlaces.{land_cut, land_glue, Places, Chunks, places_glue, chunks_glue, array_cut}
+use Rattle.lhm_ring.proofs.ListFacts.{AllByRecursion-append}
 use Rattle.lhm_ring.proofs.Memory.{Three, args, RL, RK, RV, Nr, Pl, Land, Cells}
 use Rattle.lhm_ring.proofs.Places.{AreBlocks-row, row-more, nat_lt-near}
-use Rattle.lhm_ring.proofs.ChunkPlaces.{land_cut, land_glue, Places, Chunks, places_glue, chunks_glue, array_cut}
 use Rattle.std.proofs.alloc.Calls.{Goes-blank}
 use Rattle.std.specs.contracts.alloc.Global as heap
 use Rattle.std.specs.contracts.impls.GlobalAllocator.TheImpl.{ghosts}
@@ -38,7 +39,6 @@ use Rattle.lhm_ring.specs.contracts.block.Node as N-type
 use Rattle.lhm_ring.specs.Ownership.{chunk_token}
 use Rattle.std.proofs.GlobalToken.{dealloc_token_start}
 use Rattle.std.proofs.ptr.Rows.{one_below}
-use Rattle.lhm_ring.proofs.Rows.{AllByRecursion-append}
 use Rattle.lhm_ring.specs.contracts.nodes.Nodes.add_chunk.{ended, clauses}
 use Rattle.lhm_ring.specs.contracts.nodes.Nodes.add_chunk.Key.{name as #self}
 use Rattle.lhm_ring.proofs.nodes.Nodes.add_chunk.Statement.{statement}

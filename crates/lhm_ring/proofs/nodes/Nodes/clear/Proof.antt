@@ -21,9 +21,9 @@ use Rattle.lhm_ring.specs.Cells.{is_block, pointers, AreBlocks}
 use Rattle.lhm_ring.specs.Chunks.{places}
 use Rattle.lhm_ring.specs.Ownership.{node_bytes}
 use Rattle.lhm_ring.proofs.Apart.{IsApart-none}
-use Rattle.lhm_ring.proofs.Memory.{Three, args, RL, RK, RV, Nr, Land, Cells}
 use Rattle.lhm_ring.proofs.ChunkPlaces.{land_cut, Places, places_glue, cells_emptied}
-use Rattle.lhm_ring.proofs.Rows.{AllByRecursion-append}
+use Rattle.lhm_ring.proofs.ListFacts.{AllByRecursion-append}
+use Rattle.lhm_ring.proofs.Memory.{Three, args, RL, RK, RV, Nr, Land, Cells}
 use Rattle.lhm_ring.specs.contracts.nodes.Nodes.clear.{ended, clauses}
 use Rattle.lhm_ring.specs.contracts.nodes.Nodes.clear.Key.{name as #self}
 use Rattle.lhm_ring.proofs.nodes.Nodes.clear.Statement.{statement}

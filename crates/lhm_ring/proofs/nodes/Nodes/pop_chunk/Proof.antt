@@ -30,14 +30,14 @@ use Rattle.lhm_ring.specs.Ownership.{node_bytes}
 use Rattle.lhm_ring.proofs.Apart.{IsApart-none}
 use Rattle.lhm_ring.proofs.BlockValues.{block_val, block_Good, BlockType, BlockFields, block_made}
 use Rattle.lhm_ring.proofs.Blocks.{written, block}
+use Rattle.lhm_ring.proofs.ChunkPlaces.{Places, Chunks, places_cut, chunks_cut, array_glue}
+use Rattle.lhm_ring.proofs.ListFacts.{AllByRecursion-right}
 use Rattle.lhm_ring.proofs.Memory.{Three, args, RL, RK, RV, Node, Nr, Pl, Land, Cells, word-pointer}
 use Rattle.lhm_ring.proofs.Places.{places-last, block_ptr-in_block}
-use Rattle.lhm_ring.proofs.ChunkPlaces.{Places, Chunks, places_cut, chunks_cut, array_glue}
 use Rattle.std.specs.contracts.alloc.Global as heap
 use Rattle.std.specs.contracts.impls.GlobalAllocator.TheImpl.{ghosts}
 use Rattle.lhm_ring.specs.contracts.block.Node as N-type
 use Rattle.lhm_ring.specs.Ownership.{chunk_token, chunk_owns}
-use Rattle.lhm_ring.proofs.Rows.{AllByRecursion-right}
 use Rattle.lhm_ring.specs.contracts.nodes.Nodes.pop_chunk.{ended, clauses}
 use Rattle.lhm_ring.specs.contracts.nodes.Nodes.pop_chunk.Key.{name as #self}
 use Rattle.lhm_ring.proofs.nodes.Nodes.pop_chunk.Statement.{statement}

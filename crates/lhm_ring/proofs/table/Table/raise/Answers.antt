@@ -2,7 +2,8 @@ use Rattle.std.proofs.Common.{◌≡◌, ◌+◌, ◌<◌, ◌≤◌, ◌∙◌,
 use Rattle.lhm_ring.specs.Buckets.{buckets, rechained_raised}
 use Rattle.lhm_ring.specs.Search.{entries}
 use Rattle.lhm_ring.specs.Tables.{TableState}
-use Rattle.lhm_ring.proofs.Tables.{length-capacity, OnOk-always, OnOk-then, IsTable-grown, rechained_raised-stays, rechained_raised-moves}
+use Rattle.lhm_ring.proofs.Results.{OnOk-always, OnOk-then}
+use Rattle.lhm_ring.proofs.Tables.{length-capacity, IsTable-grown, rechained_raised-stays, rechained_raised-moves}
 use Rattle.lhm_ring.proofs.table.Table.raise.Goals as goal
 
 pub invariant_of-self : goal.invariant_of-self
