@@ -14,13 +14,13 @@ use Rattle.lhm_ring.proofs.Spots.{NodeOf, NodeOf-spot, IsHeld-spot, PutsIn-spots
 use Rattle.lhm_ring.proofs.WholeIndex.{Indexes-take_first, Indexes-take_next}
 
 -- a spot of a chain is a held node's
-pub record OnNode {K V : Type 0} (n b : ℕ) (done : List Spot) (s : Spot) (rest : List Spot) (nodes : List (Held (K × V))) : Type 0 where
+pub record OnNode {K V : Type 0} (n b : ℕ) (s : Spot) (nodes : List (Held (K × V))) : Type 0 where
   pub ws : List Spot
   pub puts : PutsIn s ws (spots nodes)
   pub passes : is_in n b s ≡ true
   pub of : NodeOf s ws nodes
 
-pub OnNode-rearranged : {K V : Type 0} (n b : ℕ) (done : List Spot) (s : Spot) (rest : List Spot) (nodes : List (Held (K × V))) → IsRearranged (done ++ s ∷ rest) (filter (is_in n b) (spots nodes)) → OnNode n b done s rest nodes
+pub OnNode-rearranged : {K V : Type 0} (n b : ℕ) (done : List Spot) (s : Spot) (rest : List Spot) (nodes : List (Held (K × V))) → IsRearranged (done ++ s ∷ rest) (filter (is_in n b) (spots nodes)) → OnNode n b s nodes
 OnNode-rearranged n b done s rest nodes h =
     let q : Spot → Bool = is_in n b in
     let m : (ws : List Spot) × PutsIn s ws (filter q (spots nodes)) = IsRearranged-member done s rest (filter q (spots nodes)) h in
@@ -29,7 +29,7 @@ OnNode-rearranged n b done s rest nodes h =
 
 pub IsHeld-on_chain : {K V : Type 0} {heads : List (Option Ptr)} {hash : ℕ} {nodes : List (Held (K × V))} {before : Option Ptr} {p : Ptr} → IsOnChain heads hash (spots nodes) before p → IsHeld nodes p
 IsHeld-on_chain {K} {V} {heads} {hash} {nodes} {before} {p} w =
-    let o : OnNode (length heads) (hash % length heads) w.done w.here w.rest nodes = OnNode-rearranged (length heads) (hash % length heads) w.done w.here w.rest nodes w.holds in
+    let o : OnNode (length heads) (hash % length heads) w.here nodes = OnNode-rearranged (length heads) (hash % length heads) w.done w.here w.rest nodes w.holds in
     IsHeld-spot o.of w.at_is
 
 PutsIn-some : {X : Type 0} (x : X) (xs : List X) → PutsIn x xs [] → ⊥
@@ -67,7 +67,7 @@ IsHeld-before {K} {V} {heads} {hash} {nodes} {before} {p} q e w =
     let b : HasBefore w.done q = HasBefore-last before w.done q e w.behind in
     let f : Spot → Bool = is_in (length heads) (hash % length heads) in
     let h : IsRearranged (b.before ++ b.node ∷ w.here ∷ w.rest) (filter f (spots nodes)) = subst (λ (v : List Spot). IsRearranged v (filter f (spots nodes))) (append-before w.done q b w.here w.rest) w.holds in
-    let o : OnNode (length heads) (hash % length heads) b.before b.node (w.here ∷ w.rest) nodes = OnNode-rearranged (length heads) (hash % length heads) b.before b.node (w.here ∷ w.rest) nodes h in
+    let o : OnNode (length heads) (hash % length heads) b.node nodes = OnNode-rearranged (length heads) (hash % length heads) b.before b.node (w.here ∷ w.rest) nodes h in
     IsHeld-spot o.of b.at_is
 
 pub HoldsOthers-take_first : {K V : Type 0} {heads : List (Option Ptr)} {hash : ℕ} {nodes : List (Held (K × V))} {before : Option Ptr} {p : Ptr} (link : Option Ptr) → before ≡ None → Indexes heads (spots nodes) → IsOnChain heads hash (spots nodes) before p → OfNodeAt nodes p (λ x. link ≡ x.link) → HoldsOthers (set heads (hash % length heads) link) nodes p
@@ -78,7 +78,7 @@ HoldsOthers-take_first {K} {V} {heads} {hash} {nodes} {before} {p} link e h w l 
     let none : w.done ≡ [] = none-IsLast before w.done e w.behind in
     let linked : IsChain (get_or heads bucket None) (w.here ∷ w.rest) = subst (λ (v : List Spot). IsChain (get_or heads bucket None) (v ++ w.here ∷ w.rest)) none w.linked in
     let holds : IsRearranged (w.here ∷ w.rest) (filter f (spots nodes)) = subst (λ (v : List Spot). IsRearranged (v ++ w.here ∷ w.rest) (filter f (spots nodes))) none w.holds in
-    let o : OnNode n bucket w.done w.here w.rest nodes = OnNode-rearranged n bucket w.done w.here w.rest nodes w.holds in
+    let o : OnNode n bucket w.here nodes = OnNode-rearranged n bucket w.done w.here w.rest nodes w.holds in
     let held : IsHeld nodes p = IsHeld-spot o.of w.at_is in
     let link_is : link ≡ w.here.link = l held.before held.node held.after held.is held.at_is ∙ ap (λ v. v.link) o.of.split.at_is in
     let i : Indexes (set heads bucket w.here.link) o.ws = Indexes-take_first heads bucket w.here w.rest o.ws (spots nodes) h (mod-lt hash (length-on_chain h w)) linked holds o.puts in
@@ -104,10 +104,10 @@ HoldsOthers-take_next {K} {V} {heads} {hash} {nodes} {before} {p} nodes' q link 
     let split : w.done ++ w.here ∷ w.rest ≡ b.before ++ b.node ∷ w.here ∷ w.rest = append-before w.done q b w.here w.rest in
     let linked : IsChain (get_or heads bucket None) (b.before ++ b.node ∷ w.here ∷ w.rest) = subst (λ (v : List Spot). IsChain (get_or heads bucket None) v) split w.linked in
     let holds : IsRearranged (b.before ++ b.node ∷ w.here ∷ w.rest) (filter f (spots nodes)) = subst (λ (v : List Spot). IsRearranged v (filter f (spots nodes))) split w.holds in
-    let o : OnNode n bucket w.done w.here w.rest nodes = OnNode-rearranged n bucket w.done w.here w.rest nodes w.holds in
+    let o : OnNode n bucket w.here nodes = OnNode-rearranged n bucket w.done w.here w.rest nodes w.holds in
     let held : IsHeld nodes p = IsHeld-spot o.of w.at_is in
     let link_is : link ≡ w.here.link = l held.before held.node held.after held.is held.at_is ∙ ap (λ v. v.link) o.of.split.at_is in
-    let y : OnNode n bucket b.before b.node (w.here ∷ w.rest) nodes = OnNode-rearranged n bucket b.before b.node (w.here ∷ w.rest) nodes holds in
+    let y : OnNode n bucket b.node nodes = OnNode-rearranged n bucket b.before b.node (w.here ∷ w.rest) nodes holds in
     let z : IsHeld nodes q = IsHeld-spot y.of b.at_is in
     let nodes_are : nodes' ≡ z.before ++ linked_to link z.node ∷ z.after = sets z.before z.node z.after z.is z.at_is in
     let y' : Spot = spot (linked_to link z.node) in

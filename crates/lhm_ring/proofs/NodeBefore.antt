@@ -117,7 +117,7 @@ IsTowards-start {K} {V} {heads} {hash} {nodes} {p} cut link here h w e l d a =
     }
 
 -- the node on the way is one of the ring that is cut
-OnNode-here : {K V : Type 0} {heads : List (Option Ptr)} {hash : ℕ} {nodes cut : List (Held (K × V))} {p : Ptr} {link before : Option Ptr} {here : Ptr} {passed : ℕ} (w : IsTowards heads hash nodes cut p link before here passed) → OnNode (length heads) (hash % length heads) w.on.before w.on.node (w.on.after ++ w.chain.vs) cut
+OnNode-here : {K V : Type 0} {heads : List (Option Ptr)} {hash : ℕ} {nodes cut : List (Held (K × V))} {p : Ptr} {link before : Option Ptr} {here : Ptr} {passed : ℕ} (w : IsTowards heads hash nodes cut p link before here passed) → OnNode (length heads) (hash % length heads) w.on.node cut
 OnNode-here {K} {V} {heads} {hash} {nodes} {cut} {p} {link} {before} {here} {passed} w =
     let n : ℕ = length heads in
     let f : Spot → Bool = is_in n (hash % n) in
@@ -134,13 +134,13 @@ OnNode-here {K} {V} {heads} {hash} {nodes} {cut} {p} {link} {before} {here} {pas
 
 pub IsHeld-towards : {K V : Type 0} {heads : List (Option Ptr)} {hash : ℕ} {nodes cut : List (Held (K × V))} {p : Ptr} {link before : Option Ptr} {here : Ptr} {passed : ℕ} → IsTowards heads hash nodes cut p link before here passed → IsHeld cut here
 IsHeld-towards {K} {V} {heads} {hash} {nodes} {cut} w =
-    let o : OnNode (length heads) (hash % length heads) w.on.before w.on.node (w.on.after ++ w.chain.vs) cut = OnNode-here w in
+    let o : OnNode (length heads) (hash % length heads) w.on.node cut = OnNode-here w in
     IsHeld-spot o.of w.on.at_is
 
 -- the rest of the chain, by the link that is read
 IsChain-todo : {K V : Type 0} {heads : List (Option Ptr)} {hash : ℕ} {nodes cut : List (Held (K × V))} {p : Ptr} {link before : Option Ptr} {here : Ptr} {passed : ℕ} (read : Option Ptr) (w : IsTowards heads hash nodes cut p link before here passed) → OfNodeAt cut here (λ x. read ≡ x.link) → IsChain read w.on.after
 IsChain-todo {K} {V} {heads} {hash} {nodes} {cut} {p} {link} {before} {here} read w r =
-    let o : OnNode (length heads) (hash % length heads) w.on.before w.on.node (w.on.after ++ w.chain.vs) cut = OnNode-here w in
+    let o : OnNode (length heads) (hash % length heads) w.on.node cut = OnNode-here w in
     let k : IsHeld cut here = IsHeld-spot o.of w.on.at_is in
     let e : read ≡ w.on.node.link = r k.before k.node k.after k.is k.at_is ∙ ap (λ v. v.link) o.of.split.at_is in
     let head : Option Ptr = get_or heads (hash % length heads) None in

@@ -8,9 +8,6 @@ Some-injective x y e = cc
 pub none_some : {X : Type 0} (x : X) → None ≡ Some x → ⊥
 none_some x e = cc
 
-pub some_none : {X : Type 0} (x : X) → Some x ≡ None → ⊥
-some_none x e = cc
-
 pub OnSome-then : {X P Q : Type 0} (r : Option X) → OnSome r P → (P → Q) → OnSome r Q
 OnSome-then None h f = tt
 OnSome-then (Some x) h f = f h
