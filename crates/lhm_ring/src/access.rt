@@ -5,8 +5,9 @@ ghost use Rattle.std.specs.Borrow.{sem};
 ghost use Rattle.lhm_ring.specs.RingState.{IsHeld, AtHeld, ChangesOnly, linked_to, first_at, last_at};
 
 use crate::link::Link;
+use crate::links::set_chain;
 use crate::position::Position;
-use crate::ring::{Ring, set_chain};
+use crate::ring::Ring;
 
 impl<K, V> Ring<K, V> {
     ghost use Rattle.lhm_ring.specs.Positions.{pointer_of, pointer_of_some};

@@ -1,7 +1,12 @@
-//! What a node has beside its key and value, and the ends.
+//! The links of a node and the ends of a ring, and how both are written.
+ghost use Rattle.std.specs.Prelude.{◌≡◌, true};
+ghost use Rattle.lhm_ring.specs.Cells.{IsAt};
+ghost use Rattle.lhm_ring.specs.Rings.{ring_cells, IsJoined, LeadsOn, LeadsBack, ChainsTo, is_there};
 
-use crate::block::Node;
+use crate::block::{Node, NodePointer};
 use crate::link::Link;
+use crate::nodes::Nodes;
+use crate::position::Position;
 use std::mem::size_of;
 
 /// The links of a node for the order, its chain link, and its hash.
@@ -24,4 +29,66 @@ const _: () = prove!(size_of::<Node<Links, u64, u64>>() == 48);
 pub(crate) struct Ends {
     pub(crate) first: Link,
     pub(crate) last: Link,
+}
+
+/// Makes `b` the node behind `a`. A link to nowhere stands for the ends.
+#[inline]
+pub(crate) fn join<K, V>(nodes: &mut Nodes<Links, K, V>, ends: &mut Ends, a: Link, b: Link)
+    requires { (is_there (ring_cells ends.old nodes.old.cells) a.ptr ≡ true)
+        × (is_there (ring_cells ends.old nodes.old.cells) b.ptr ≡ true) }
+    ensures joined { IsJoined (ring_cells ends.old nodes.old.cells)
+        (ring_cells ends.new nodes.new.cells) a.ptr b.ptr }
+    ensures land { (nodes.new.unused ≡ nodes.old.unused) × (nodes.new.chunks ≡ nodes.old.chunks) }
+{
+    set_next(nodes, ends, a, b);
+    set_prev(nodes, ends, b, a);
+}
+
+/// Makes the node at `at`, or the front, lead on to `next`.
+#[inline]
+fn set_next<K, V>(nodes: &mut Nodes<Links, K, V>, ends: &mut Ends, at: Link, next: Link)
+    requires { is_there (ring_cells ends.old nodes.old.cells) at.ptr ≡ true }
+    ensures written { LeadsOn (ring_cells ends.old nodes.old.cells) at.ptr next
+        (ring_cells ends.new nodes.new.cells) }
+    ensures land { (nodes.new.unused ≡ nodes.old.unused) × (nodes.new.chunks ≡ nodes.old.chunks) }
+{
+    let there: Option<Position<K, V>> = at.get();
+    match there {
+        Some(at) => {
+            let mut links = *nodes.links(at.pointer);
+            links.next = next;
+            nodes.set_links(at.pointer, links);
+        }
+        None => ends.first = next,
+    }
+}
+
+/// Makes the node at `at`, or the back, lead back to `prev`.
+#[inline]
+fn set_prev<K, V>(nodes: &mut Nodes<Links, K, V>, ends: &mut Ends, at: Link, prev: Link)
+    requires { is_there (ring_cells ends.old nodes.old.cells) at.ptr ≡ true }
+    ensures written { LeadsBack (ring_cells ends.old nodes.old.cells) at.ptr prev
+        (ring_cells ends.new nodes.new.cells) }
+    ensures land { (nodes.new.unused ≡ nodes.old.unused) × (nodes.new.chunks ≡ nodes.old.chunks) }
+{
+    let there: Option<Position<K, V>> = at.get();
+    match there {
+        Some(at) => {
+            let mut links = *nodes.links(at.pointer);
+            links.prev = prev;
+            nodes.set_links(at.pointer, links);
+        }
+        None => ends.last = prev,
+    }
+}
+
+/// Sets the chain link of the node at `at`.
+pub(crate) fn set_chain<K, V>(nodes: &mut Nodes<Links, K, V>, at: NodePointer, link: Link)
+    requires { IsAt nodes.old.cells at.ptr }
+    ensures written { ChainsTo nodes.old.cells at.ptr link nodes.new.cells }
+    ensures land { (nodes.new.unused ≡ nodes.old.unused) × (nodes.new.chunks ≡ nodes.old.chunks) }
+{
+    let mut links = *nodes.links(at);
+    links.link = link;
+    nodes.set_links(at, links);
 }

@@ -4,9 +4,9 @@ ghost use Rattle.lhm_ring.specs.Cells.{IsApart};
 ghost use Rattle.lhm_ring.specs.RingState.{held, IsHeld, AtHeld};
 
 use crate::link::Link;
-use crate::links::Links;
+use crate::links::{Links, join, set_chain};
 use crate::position::Position;
-use crate::ring::{Ring, join, set_chain};
+use crate::ring::Ring;
 
 impl<K, V> Ring<K, V> {
     ghost use Rattle.lhm_ring.specs.Positions.{pointer_of};

@@ -6,9 +6,8 @@ ghost use Rattle.lhm_ring.specs.Targets.{target};
 
 use crate::block::NodePointer;
 use crate::link::Link;
-use crate::links::{Ends, Links};
+use crate::links::{Ends, Links, join, set_chain};
 use crate::nodes::Nodes;
-use crate::ring::{join, set_chain};
 
 /// The nodes from `first` to `last`, and the first spare node after them.
 pub(crate) struct Spliced {

@@ -1,6 +1,6 @@
 use Rattle.std.proofs.Common.{◌∙◌}
 use Rattle.lhm_ring.proofs.Writes.{is_there-leading_on, IsJoined-writes}
-use Rattle.lhm_ring.proofs.ring.join.Goals as goal
+use Rattle.lhm_ring.proofs.links.join.Goals as goal
 
 pub set_prev-requires : goal.set_prev-requires
 set_prev-requires g c = is_there-leading_on _ _ c.args.a.ptr c.args.b c.requires.0 c.set_next.ensures.written c.args.b.ptr c.requires.1
