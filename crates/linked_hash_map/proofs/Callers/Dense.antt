@@ -4,17 +4,17 @@ use Rattle.std.specs.List.{range_with_len}
 use Rattle.std.specs.Map.{values_of}
 use Rattle.linked_hash_map.specs.Pairs.{find, value_at}
 
-values_of-push : {K V : Type 0} (pairs : List (K × V)) (k : K) (v : V)
+pub values_of-append : {K V : Type 0} (pairs : List (K × V)) (k : K) (v : V)
     → values_of (pairs ++ (k, v) ∷ []) ≡ values_of pairs ++ v ∷ []
-values_of-push [] k v = refl
-values_of-push (pair ∷ pairs) k v = ap (λ vs. pair.1 ∷ vs) (values_of-push pairs k v)
+values_of-append [] k v = refl
+values_of-append (pair ∷ pairs) k v = ap (λ vs. pair.1 ∷ vs) (values_of-append pairs k v)
 
-range_with_len-push : (a n : ℕ) → range_with_len a n ++ (a + n) ∷ [] ≡ range_with_len a (n + 1)
-range_with_len-push a zero = let same : a + 0 ≡ a = omega arith in ap (λ (i : ℕ). i ∷ []) same
-range_with_len-push a (suc n) =
+pub range_with_len-append : (a n : ℕ) → range_with_len a n ++ (a + n) ∷ [] ≡ range_with_len a (n + 1)
+range_with_len-append a zero = let same : a + 0 ≡ a = omega arith in ap (λ (i : ℕ). i ∷ []) same
+range_with_len-append a (suc n) =
     let one : suc (n + 1) ≡ suc n + 1 = omega arith in
     let next : a + suc n ≡ (a + 1) + n = omega arith in
-    ap (λ (i : ℕ). a ∷ (range_with_len (a + 1) n ++ i ∷ [])) next ∙ ap (λ xs. a ∷ xs) (range_with_len-push (a + 1) n) ∙ ap (range_with_len a) one
+    ap (λ (i : ℕ). a ∷ (range_with_len (a + 1) n ++ i ∷ [])) next ∙ ap (λ xs. a ∷ xs) (range_with_len-append (a + 1) n) ∙ ap (range_with_len a) one
 
 -- the next number at the back. The first part shows `grind` the call to match
 pub values_of_dense_push : {K : Type 0} (pairs : List (K × ℕ)) (k : K) (n : ℕ) → n ≡ length pairs
@@ -25,10 +25,10 @@ values_of_dense_push pairs k n next dense =
     let zero_more : n ≡ 0 + length pairs = omega arith in
     let longer : length pairs + 1 ≡ length (pairs ++ (k, n) ∷ []) = omega (arith, length-append pairs ((k, n) ∷ [])) in (
       refl,
-      values_of-push pairs k n
+      values_of-append pairs k n
           ∙ ap (λ vs. vs ++ n ∷ []) dense
           ∙ ap (λ (i : ℕ). range_with_len 0 (length pairs) ++ i ∷ []) zero_more
-          ∙ range_with_len-push 0 (length pairs)
+          ∙ range_with_len-append 0 (length pairs)
           ∙ ap (range_with_len 0) longer,
     )
 

@@ -103,11 +103,11 @@ module _ {T I K V : Type 0} {becomes : T → I → Type 0} {steps : I → Option
 
 -- if there is room for each item, as after `with_capacity` of their number, `extend` leaves the
 -- capacity
-pub capacity-insert_each : {K V : Type 0} {eq : K → K → Bool} → IsEquivalence eq
+pub max-length_insert_each : {K V : Type 0} {eq : K → K → Bool} → IsEquivalence eq
     → (mode : Mode) (pairs items : List (K × V)) (capacity : ℕ) → IsDistinct eq (keys_of pairs)
     → length pairs + length items ≤ capacity
     → max capacity (length (insert_each eq mode pairs items)) ≡ capacity
-capacity-insert_each laws mode pairs items capacity distinct enough = let most = length-insert_each_most laws mode pairs items distinct in omega arith
+max-length_insert_each laws mode pairs items capacity distinct enough = let most = length-insert_each_most laws mode pairs items distinct in omega arith
 
 -- `extend` of a map by value, or by reference: of any source that becomes a list which shows what
 -- is left

@@ -30,7 +30,7 @@ module _ {K V : Type 0} {eq : K → K → Bool} (laws : IsEquivalence eq) where
       ∙ ap (λ ps. find eq ps pair.0) (drop-first laws (pair ∷ others) pair distinct refl)
       ∙ find-without_here laws (pair ∷ others) pair.0
 
-  find-without_first : (pairs : List (K × V)) (pair : K × V) → IsDistinct eq (keys_of pairs)
+  pub find-without_first : (pairs : List (K × V)) (pair : K × V) → IsDistinct eq (keys_of pairs)
       → first pairs ≡ Some pair → find eq (without_first pairs) pair.0 ≡ None
   find-without_first pairs pair distinct there =
       ap (λ ps. find eq ps pair.0) (drop-first laws pairs pair distinct there) ∙ find-without_here laws pairs pair.0

@@ -7,7 +7,7 @@ returns-in-Ok-clause-all g c = search (rules, made.pairs-InsertsAll_vec)
 
 pub returns-in-Ok-clause-same_room : goal.returns-in-Ok-clause-same_room
 returns-in-Ok-clause-same_room g c =
-    search (rules, g.met.K.Eq.laws, returns-in-Ok-clause-all g c, made.capacity-insert_each)
+    search (rules, g.met.K.Eq.laws, returns-in-Ok-clause-all g c, made.max-length_insert_each)
 
 pub returns-in-Err-clause-succeeds : goal.returns-in-Err-clause-succeeds
 returns-in-Err-clause-succeeds g c = c.in-Err.ensures.succeeds (length c.args.list.items)
