@@ -10,6 +10,7 @@ use Rattle.linked_hash_map.specs.LinkedMap.{LinkedMap, CursorState, linked_map, 
 use Rattle.linked_hash_map.specs.declared.map.Mode.{Mode}
 use Rattle.linked_hash_map.specs.declared.map.TheConstants.{LIMIT}
 use Rattle.linked_hash_map.specs.declared.map.cursor.Visit.{Visit}
+use Rattle.linked_hash_map.specs.declared.map.LinkedHashMap.TheInside.{Inside}
 
 -- where a cursor and an entry stand: the next pair to visit, how many are left, and an entry's pair
 pub record VisitState : Type 0 where
@@ -90,8 +91,8 @@ module _ {K V : Type 0} where
   abbrev pub bare : List (Held (K × V)) → List (Held K)
   bare = map bare_node
 
-  abbrev pub beside : {S : Type 0} → S → Visit K V → Mode → Beside S
-  beside hasher visit mode = record { hasher = hasher; visit = visit_of visit; mode = mode }
+  abbrev pub beside : {S H : Type 0} → Inside K V S H → Beside S
+  beside m = record { hasher = m.hasher; visit = visit_of m.visit; mode = m.mode }
 
   -- what a contract sees of a map that keeps its pairs in this table
   abbrev pub map_of : {S : Type 0} → TableState (K × V) → Beside S → LinkedMap K V S

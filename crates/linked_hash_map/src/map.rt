@@ -128,7 +128,7 @@ impl<K: Eq + Hash, V, S: BuildHasher> Model for LinkedHashMap<K, V, S> {
 
     ghost coded = { linked_map_code K.code V.code S.code };
 
-    ghost view = { λ m. map_of m.table (beside m.hasher m.visit m.mode) };
+    ghost view = { λ m. map_of m.table (beside m) };
 
     ghost invariant = { λ m.
         IsKept K.eq (hash_by S.Hasher.finish S.Hasher.write S.build_hasher K.hash_input m.hasher)

@@ -26,7 +26,7 @@ returns-in-Some g c =
     rw (← c.self.view_is) (
       (λ i. inl (
         c.value_mut.result.ghost_name,
-        λ w. map_of-revalued m.table (change_at at (revalued w) m.table.held) (beside m.hasher m.visit m.mode) (bare-change at w m.table.held)
+        λ w. map_of-revalued m.table (change_at at (revalued w) m.table.held) (beside m) (bare-change at w m.table.held)
             (pairs_of-change_at h.held c.value_mut.ensures.alone w ∙ sym (set_value-index g.met.K.Eq.laws distinct (IsIndex-HasKey h) w)) i,
       )),
       record {

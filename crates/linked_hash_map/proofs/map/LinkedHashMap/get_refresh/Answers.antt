@@ -28,7 +28,7 @@ returns-in-Some g c =
     rw (← c.self.view_is) (
       (λ i. inl (
         c.value_mut.result.ghost_name,
-        λ w. record (map_of m.table (record (beside m.hasher m.visit m.mode) { visit = no_visit })) {
+        λ w. record (map_of m.table (record (beside m) { visit = no_visit })) {
           pairs = pairs-put c.self.inside.table.held c.move_to_back.new.self.held (pointer_of c.in-Some.at) (key_lies has) g.met.K.Eq.laws (key_index has) distinct Touch (moved.last, moved.apart) c.value_mut.ensures.alone w i;
           capacity = moved.keeps.capacity i;
           rechained = moved.keeps.rechained i;

@@ -21,7 +21,7 @@ has g c = of-Some (λ p. HasKey g.K.PartialEq.eq c.hash_of-hash.result c.args.ke
 absent : (g : _) (c : goal.After-push_back g) → find g.K.PartialEq.eq c.args.self.now.pairs c.args.key ≡ None
 absent g c =
     let m = c.self.inside in
-    find-IsAbsent_map g.K.PartialEq.eq g.S.Hasher.Hasher.finish g.S.Hasher.Hasher.write g.S.BuildHasher.build_hasher g.K.Hash.hash_input g.met.K.Hash.respects_eq m.table (beside m.hasher m.visit m.mode) c.self.view_is c.self.invariant c.args.key c.hash_of-hash.ensures
+    find-IsAbsent_map g.K.PartialEq.eq g.S.Hasher.Hasher.finish g.S.Hasher.Hasher.write g.S.BuildHasher.build_hasher g.K.Hash.hash_input g.met.K.Hash.respects_eq m.table (beside m) c.self.view_is c.self.invariant c.args.key c.hash_of-hash.ensures
     (of-None (IsAbsent g.K.PartialEq.eq c.hash_of-hash.result c.args.key m.table.held) c.position.result c.in_default.is c.position.ensures.absent)
 
 pub value_mut-requires : goal.value_mut-requires
@@ -74,14 +74,14 @@ returns-in-Some-clause-more g c = λ none. absurd (let no : Some c.replace.resul
 pub returns-then-not-make_room-clause-absent : goal.returns-then-not-make_room-clause-absent
 returns-then-not-make_room-clause-absent g c =
     let m = c.self.inside in
-    find-IsAbsent_map g.K.PartialEq.eq g.S.Hasher.Hasher.finish g.S.Hasher.Hasher.write g.S.BuildHasher.build_hasher g.K.Hash.hash_input g.met.K.Hash.respects_eq m.table (beside m.hasher m.visit m.mode) c.self.view_is c.self.invariant c.args.key c.hash_of-hash.ensures
+    find-IsAbsent_map g.K.PartialEq.eq g.S.Hasher.Hasher.finish g.S.Hasher.Hasher.write g.S.BuildHasher.build_hasher g.K.Hash.hash_input g.met.K.Hash.respects_eq m.table (beside m) c.self.view_is c.self.invariant c.args.key c.hash_of-hash.ensures
     (of-None (IsAbsent g.K.PartialEq.eq c.hash_of-hash.result c.args.key m.table.held) c.position.result c.in_default.is c.position.ensures.absent)
 
 pub push_back-requires-clause-absent : goal.push_back-requires-clause-absent
 push_back-requires-clause-absent g c =
     let m = c.self.inside in
     ap (λ pairs. find g.K.PartialEq.eq pairs c.args.key) c.make_room.ensures.pairs
-    ∙ find-IsAbsent_map g.K.PartialEq.eq g.S.Hasher.Hasher.finish g.S.Hasher.Hasher.write g.S.BuildHasher.build_hasher g.K.Hash.hash_input g.met.K.Hash.respects_eq m.table (beside m.hasher m.visit m.mode) c.self.view_is c.self.invariant c.args.key c.hash_of-hash.ensures
+    ∙ find-IsAbsent_map g.K.PartialEq.eq g.S.Hasher.Hasher.finish g.S.Hasher.Hasher.write g.S.BuildHasher.build_hasher g.K.Hash.hash_input g.met.K.Hash.respects_eq m.table (beside m) c.self.view_is c.self.invariant c.args.key c.hash_of-hash.ensures
     (of-None (IsAbsent g.K.PartialEq.eq c.hash_of-hash.result c.args.key m.table.held) c.position.result c.in_default.is c.position.ensures.absent)
 
 pub returns-clause-old : goal.returns-clause-old

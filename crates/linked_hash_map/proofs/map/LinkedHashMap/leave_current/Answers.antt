@@ -28,8 +28,8 @@ returns g c =
     rw (← c.self.view_is) (
       (
         refl,
-        λ w. ap (λ o. map_of (with_value m.table p w) (record (beside m.hasher m.visit m.mode) { visit = record (visit_of m.visit) { current = o } })) (cond-None m.visit.active)
-            ∙ map_of-revalued m.table (change_at p (revalued w) hs) (record (beside m.hasher m.visit m.mode) { visit = record (visit_of m.visit) { current = None } }) (bare-change p w hs)
+        λ w. ap (λ o. map_of (with_value m.table p w) (record (beside m) { visit = record (visit_of m.visit) { current = o } })) (cond-None m.visit.active)
+            ∙ map_of-revalued m.table (change_at p (revalued w) hs) (record (beside m) { visit = record (visit_of m.visit) { current = None } }) (bare-change p w hs)
             (pairs_of-change_at h c.value_mut.ensures.alone w ∙ ap (λ k. set_value_at (pairs_of hs) k w) (sym index)),
       ),
       record {

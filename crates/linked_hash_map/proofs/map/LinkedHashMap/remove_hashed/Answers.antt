@@ -16,7 +16,7 @@ use Rattle.linked_hash_map.proofs.map.LinkedHashMap.remove_hashed.Goals as goal
 absent : (g : _) (c : goal.After-from_residual g) → find g.K.PartialEq.eq c.args.self.now.pairs c.args.key.now ≡ None
 absent g c =
     let m = c.self.inside in
-    find-IsAbsent_map g.K.PartialEq.eq g.S.Hasher.Hasher.finish g.S.Hasher.Hasher.write g.S.BuildHasher.build_hasher g.K.Hash.hash_input g.met.K.Hash.respects_eq m.table (beside m.hasher m.visit m.mode) c.self.view_is c.self.invariant c.args.key.now c.requires c.in_err-pair.ensures.absent
+    find-IsAbsent_map g.K.PartialEq.eq g.S.Hasher.Hasher.finish g.S.Hasher.Hasher.write g.S.BuildHasher.build_hasher g.K.Hash.hash_input g.met.K.Hash.respects_eq m.table (beside m) c.self.view_is c.self.invariant c.args.key.now c.requires c.in_err-pair.ensures.absent
 
 pub returns-in_err-pair-clause-value : goal.returns-in_err-pair-clause-value
 returns-in_err-pair-clause-value g c = ap (option_map (λ pair. pair.1)) c.from_residual.ensures ∙ sym (ap (option_map (λ pair. pair.1)) (absent g c))
@@ -37,7 +37,7 @@ returns-in_err-pair-clause-valid g c = rw (← c.self.view_is) (IsValid-view c.s
 pub returns-in_err-pair-clause-stays_valid : goal.returns-in_err-pair-clause-stays_valid
 returns-in_err-pair-clause-stays_valid g c =
     let m = c.self.inside in
-    subst (λ (s : TableState _). IsValid g.K.PartialEq.eq (map_of s (beside m.hasher m.visit m.mode)))
+    subst (λ (s : TableState _). IsValid g.K.PartialEq.eq (map_of s (beside m)))
     (sym c.in_err-pair.ensures.unchanged) (IsValid-view c.self.invariant refl refl)
 
 pub invariant_of-self-2 : goal.invariant_of-self-2

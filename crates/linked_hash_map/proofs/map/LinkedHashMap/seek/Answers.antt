@@ -26,7 +26,7 @@ returns-clause-valid g c = rw (← c.self.view_is) (IsValid-view c.self.invarian
 pub returns-in_default-clause-absent : goal.returns-in_default-clause-absent
 returns-in_default-clause-absent g c none =
     let m = c.self.inside in
-    find-IsAbsent_map g.K.PartialEq.eq g.S.Hasher.Hasher.finish g.S.Hasher.Hasher.write g.S.BuildHasher.build_hasher g.K.Hash.hash_input g.met.K.Hash.respects_eq m.table (beside m.hasher m.visit m.mode) c.self.view_is c.self.invariant c.args.key.now c.requires
+    find-IsAbsent_map g.K.PartialEq.eq g.S.Hasher.Hasher.finish g.S.Hasher.Hasher.write g.S.BuildHasher.build_hasher g.K.Hash.hash_input g.met.K.Hash.respects_eq m.table (beside m) c.self.view_is c.self.invariant c.args.key.now c.requires
     (of-None (IsAbsent g.K.PartialEq.eq c.args.hash c.args.key.now m.table.held) c.position.result c.in_default.is c.position.ensures.absent)
 
 pub returns-in_default-clause-valid : goal.returns-in_default-clause-valid
