@@ -12,7 +12,8 @@ use Rattle.lhm_ring.specs.declared.filter.Word.{Word}
 use Rattle.lhm_ring.specs.Words.{bits_of}
 use Rattle.lhm_ring.specs.RingState.{Held}
 use Rattle.lhm_ring.specs.Filters.{may_contain, LacksHash, CoversAll, IsFilter}
-use Rattle.lhm_ring.specs.Index.{Spot, spot, spots, is_in, IsChain, IsRearranged, HasChain, Indexes}
+use Rattle.lhm_ring.specs.Index.{is_in, IsChain, IsRearranged, HasChain, Indexes}
+use Rattle.lhm_ring.specs.Spots.{Spot, spot, spots}
 use Rattle.lhm_ring.specs.Search.{entries, IsAbsent, IsEmptied}
 use Rattle.lhm_ring.proofs.Chains.{none-IsChain}
 

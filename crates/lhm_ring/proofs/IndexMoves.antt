@@ -5,7 +5,8 @@ use Rattle.std.specs.Prelude.{filter}
 use denote.RawPtr.{Ptr}
 use Rattle.lhm_ring.specs.RingState.{Held, change_at}
 use Rattle.lhm_ring.specs.RingAfterLoan.{revalued, set_held_values}
-use Rattle.lhm_ring.specs.Index.{Spot, spot, spots, PutsIn, IsRearranged, is_in, Indexes}
+use Rattle.lhm_ring.specs.Index.{PutsIn, IsRearranged, is_in, Indexes}
+use Rattle.lhm_ring.specs.Spots.{Spot, spot, spots}
 use Rattle.lhm_ring.proofs.Rearranged.{IsRearranged-again}
 use Rattle.lhm_ring.proofs.RearrangedFilters.{PutsIn-filter_in, filter-PutsIn}
 use Rattle.lhm_ring.proofs.Spots.{PutsIn-spots}

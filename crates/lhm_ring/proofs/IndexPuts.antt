@@ -4,7 +4,8 @@ use Rattle.std.proofs.lemmas.Bool.{cases_lt}
 use Rattle.std.proofs.lemmas.List.{length-map, length-set}
 use denote.RawPtr.{Ptr}
 use Rattle.lhm_ring.specs.RingState.{Held, IsHeld, AtHeld, linked_to, first_at}
-use Rattle.lhm_ring.specs.Index.{spot, spots, Indexes}
+use Rattle.lhm_ring.specs.Index.{Indexes}
+use Rattle.lhm_ring.specs.Spots.{spot, spots}
 use Rattle.lhm_ring.specs.Search.{OfNodeAt, entries, HoldsOthers, HasNoChain, IsChained, Chains, IsRechained}
 use Rattle.lhm_ring.specs.Filters.{may_contain, CoversAll}
 use Rattle.lhm_ring.proofs.Ends.{First, First-first_at}

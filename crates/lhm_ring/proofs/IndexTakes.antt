@@ -6,7 +6,8 @@ use Rattle.std.proofs.Math.Nat.{mod-lt}
 use denote.RawPtr.{Ptr}
 use Rattle.lhm_ring.specs.RingState.{Held, IsHeld, AtHeld, linked_to}
 use Rattle.lhm_ring.specs.Splits.{SplitLast}
-use Rattle.lhm_ring.specs.Index.{Spot, spot, spots, PutsIn, IsRearranged, IsChain, is_in, Indexes}
+use Rattle.lhm_ring.specs.Index.{PutsIn, IsRearranged, IsChain, is_in, Indexes}
+use Rattle.lhm_ring.specs.Spots.{Spot, spot, spots}
 use Rattle.lhm_ring.specs.Search.{OfNodeAt, IsLast, IsOnChain, HoldsOthers}
 use Rattle.lhm_ring.proofs.Rearranged.{PutsIn-middle, IsRearranged-less, PutsIn-later, IsRearranged-member}
 use Rattle.lhm_ring.proofs.RearrangedFilters.{PutsPassing, PutsPassing-filter, PutsIn-filter_in}

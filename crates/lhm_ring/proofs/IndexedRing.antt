@@ -5,7 +5,8 @@ use denote.RawPtr.{Ptr}
 use Rattle.lhm_ring.specs.RingState.{State, Held, IsHeld, AtHeld}
 use Rattle.lhm_ring.specs.RingAfterLoan.{with_value}
 use Rattle.lhm_ring.specs.Buckets.{buckets}
-use Rattle.lhm_ring.specs.Index.{spot, spots, Indexes}
+use Rattle.lhm_ring.specs.Index.{Indexes}
+use Rattle.lhm_ring.specs.Spots.{spot, spots}
 use Rattle.lhm_ring.specs.Search.{HasNoChain}
 use Rattle.lhm_ring.specs.IndexedRing.{IsIndexed}
 use Rattle.lhm_ring.proofs.BucketCounts.{buckets-zero, buckets-at_least}

@@ -22,7 +22,7 @@ use denote.Struct.Pick.{rest_at, field_out, field_back}
 use Rattle.lhm_ring.specs.ValueLoan.{spread}
 use Rattle.lhm_ring.specs.RingState.{State, Held}
 use Rattle.lhm_ring.specs.RingAfterLoan.{held_values, set_held_values}
-use Rattle.lhm_ring.specs.Index.{spot}
+use Rattle.lhm_ring.specs.Spots.{spot}
 use Rattle.lhm_ring.specs.Search.{entries}
 use Rattle.lhm_ring.specs.Tables.{TableState, IsTable}
 use Rattle.lhm_ring.specs.contracts.filter.Filter as F-type

@@ -7,7 +7,8 @@ use Rattle.std.proofs.lemmas.List.Sums.{length-filter, count_by-le-length}
 use Rattle.std.proofs.Math.Nat.{mod-lt}
 use denote.RawPtr.{Ptr}
 use Rattle.lhm_ring.specs.RingState.{State, Held, IsHeld, AtHeld, linked_to}
-use Rattle.lhm_ring.specs.Index.{Spot, spot, spots, PutsIn, IsRearranged, IsChain, is_in, HasChain, Indexes}
+use Rattle.lhm_ring.specs.Index.{PutsIn, IsRearranged, IsChain, is_in, HasChain, Indexes}
+use Rattle.lhm_ring.specs.Spots.{Spot, spot, spots}
 use Rattle.lhm_ring.specs.Splits.{SplitAt, SplitAround}
 use Rattle.lhm_ring.specs.Search.{OfNodeAt, IsLast, IsOnChain}
 use Rattle.lhm_ring.proofs.Chains.{ChainFirst, ChainFirst-some, none-IsChain}

@@ -3,7 +3,8 @@ use Rattle.std.proofs.Common.{◌≡◌, List, [], ◌∷◌, ◌++◌, inl, inr
 use denote.RawPtr.{Ptr}
 use Rattle.lhm_ring.specs.RingState.{Held, IsHeld}
 use Rattle.lhm_ring.specs.Splits.{SplitAt}
-use Rattle.lhm_ring.specs.Index.{Spot, spot, spots, PutsIn}
+use Rattle.lhm_ring.specs.Index.{PutsIn}
+use Rattle.lhm_ring.specs.Spots.{Spot, spot, spots}
 use Rattle.lhm_ring.proofs.Rearranged.{PutsIn-there}
 
 pub PutsIn-spots : {K V : Type 0} (before : List (Held (K × V))) (x : Held (K × V)) (after : List (Held (K × V))) → PutsIn (spot x) (spots (before ++ after)) (spots (before ++ x ∷ after))

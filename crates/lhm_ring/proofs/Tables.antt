@@ -8,7 +8,8 @@ use Rattle.lhm_ring.specs.Cells.{same_ptr, IsApart}
 use Rattle.lhm_ring.specs.RingState.{Held, State, state, IsHeld, AtHeld, ChangesOnly, linked_to, first_at, last_at, last_of, change_at, triples}
 use Rattle.lhm_ring.specs.RingAfterLoan.{revalued, with_value}
 use Rattle.lhm_ring.specs.Splits.{SplitAt}
-use Rattle.lhm_ring.specs.Index.{spot, spots, same, beside, Indexes}
+use Rattle.lhm_ring.specs.Index.{Indexes}
+use Rattle.lhm_ring.specs.Spots.{spot, spots, same, beside}
 use Rattle.lhm_ring.specs.Search.{entries, HasKey, IsAbsent, Compares, CountsSome, CountsAll, HoldsOthers}
 use Rattle.lhm_ring.specs.Buckets.{buckets, rechained_raised}
 use Rattle.lhm_ring.specs.Filters.{IsFilter}

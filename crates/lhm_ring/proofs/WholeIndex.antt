@@ -7,7 +7,8 @@ use Rattle.std.proofs.lemmas.Bool.Decides.{eqb_tells}
 use Rattle.std.proofs.lemmas.List.{get_or-set_same, get_or-set_other, length-set}
 use Rattle.std.proofs.Math.Nat.{mod-lt}
 use denote.RawPtr.{Ptr}
-use Rattle.lhm_ring.specs.Index.{Spot, PutsIn, IsRearranged, IsChain, is_in, HasChain, Indexes}
+use Rattle.lhm_ring.specs.Index.{PutsIn, IsRearranged, IsChain, is_in, HasChain, Indexes}
+use Rattle.lhm_ring.specs.Spots.{Spot}
 use Rattle.lhm_ring.proofs.Chains.{HasChain-other, HasChain-push, HasChain-other_removed, IsChain-linked_past, none-unchained}
 use Rattle.lhm_ring.proofs.Rearranged.{PutsIn-here, PutsIn-there, PutsIn-middle, IsRearranged-less, IsRearranged-more, IsRearranged-member, PutsIn-under}
 use Rattle.lhm_ring.proofs.RearrangedFilters.{PutsPassing, PutsIn-filter_in, PutsPassing-filter}

@@ -2,7 +2,8 @@
 use Rattle.std.specs.Prelude.{◌≡◌, ◌+◌, List, length, Option}
 use denote.RawPtr.{Ptr}
 use Rattle.lhm_ring.specs.RingState.{State}
-use Rattle.lhm_ring.specs.Index.{spots, Indexes}
+use Rattle.lhm_ring.specs.Index.{Indexes}
+use Rattle.lhm_ring.specs.Spots.{spots}
 use Rattle.lhm_ring.specs.Buckets.{buckets}
 
 -- every held node is in the chain of its bucket and in no other, and there are as many buckets as

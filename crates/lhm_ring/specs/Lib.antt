@@ -20,6 +20,7 @@ pub mod Rings
 pub mod Search
 pub mod Splices
 pub mod Splits
+pub mod Spots
 pub mod Stacks
 pub mod TableAfterLoan
 pub mod Tables

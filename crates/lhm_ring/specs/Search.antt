@@ -3,7 +3,8 @@ use Rattle.std.specs.Prelude.{◌≡◌, ℕ, ◌%◌, ◌<◌, ◌≤◌, ◌==
 use denote.RawPtr.{Ptr}
 use Rattle.lhm_ring.specs.RingState.{Held, IsHeld, AtHeld, linked_to, first_at}
 use Rattle.lhm_ring.specs.Splits.{SplitLast}
-use Rattle.lhm_ring.specs.Index.{Spot, spots, IsChain, IsRearranged, is_in, same, beside, Indexes}
+use Rattle.lhm_ring.specs.Index.{IsChain, IsRearranged, is_in, Indexes}
+use Rattle.lhm_ring.specs.Spots.{Spot, spots, same, beside}
 use Rattle.lhm_ring.specs.Filters.{CoversAll}
 
 -- what is true of the node at p

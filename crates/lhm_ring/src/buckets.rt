@@ -1,6 +1,7 @@
 //! Chains and filter of a table.
 ghost use Rattle.std.specs.Prelude.{◌≡◌, ◌≢◌, ◌%◌, ◌<◌, ◌≤◌, ◌^◌, length, IfOk, IsOk, IfSome, IfNone, ℕ};
-ghost use Rattle.lhm_ring.specs.Index.{spots, Indexes};
+ghost use Rattle.lhm_ring.specs.Index.{Indexes};
+ghost use Rattle.lhm_ring.specs.Spots.{spots};
 ghost use Rattle.lhm_ring.specs.Search.{HasNoChain};
 ghost use Rattle.lhm_ring.specs.Buckets.{buckets};
 ghost use Rattle.lhm_ring.specs.Filters.{may_contain};

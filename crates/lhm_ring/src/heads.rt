@@ -3,7 +3,8 @@ ghost use Rattle.std.specs.Prelude.{◌≡◌, ◌%◌, ◌<◌, ◌^◌, [], ma
 ghost use Rattle.lhm_ring.specs.RingState.{IsHeld};
 ghost use Rattle.lhm_ring.specs.Positions.{pointer_of};
 ghost use Rattle.lhm_ring.specs.Heads.{leads_to};
-ghost use Rattle.lhm_ring.specs.Index.{spots, Indexes};
+ghost use Rattle.lhm_ring.specs.Index.{Indexes};
+ghost use Rattle.lhm_ring.specs.Spots.{spots};
 ghost use Rattle.lhm_ring.specs.Search.{OfNodeAt, entries, Chains, HasNoChain};
 ghost use Rattle.lhm_ring.specs.Buckets.{IsBucketCount};
 ghost use Rattle.lhm_ring.specs.Filters.{CoversAll};

@@ -3,7 +3,8 @@ ghost use Rattle.std.specs.Prelude.{◌≡◌, ◌%◌, ◌<◌, ◌≤◌, ◌^
 ghost use Rattle.std.specs.Int.{IsNextPowerOfTwo};
 ghost use Rattle.lhm_ring.specs.RingState.{IsHeld};
 ghost use Rattle.lhm_ring.specs.Positions.{pointer_of, pointer_of_some};
-ghost use Rattle.lhm_ring.specs.Index.{spots, Indexes};
+ghost use Rattle.lhm_ring.specs.Index.{Indexes};
+ghost use Rattle.lhm_ring.specs.Spots.{spots};
 ghost use Rattle.lhm_ring.specs.Search.{OfNodeAt, entries, HoldsOthers, IsEmptied, IsOnChain, HasNoChain};
 ghost use Rattle.lhm_ring.specs.Buckets.{buckets, IsBucketCount};
 ghost use Rattle.lhm_ring.specs.Filters.{CoversAll};

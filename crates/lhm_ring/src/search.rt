@@ -2,7 +2,8 @@
 ghost use Rattle.std.specs.Prelude.{◌≡◌, ◌+◌, ◌%◌, ◌<◌, ◌≤◌, ◌^◌, ◌∷◌, [], length, None, IfSome, IfNone, OnSome, slice_index_or};
 ghost use Rattle.lhm_ring.specs.RingState.{IsHeld};
 ghost use Rattle.lhm_ring.specs.Positions.{pointer_of, pointer_of_some};
-ghost use Rattle.lhm_ring.specs.Index.{spot, spots, Indexes, same};
+ghost use Rattle.lhm_ring.specs.Index.{Indexes};
+ghost use Rattle.lhm_ring.specs.Spots.{spot, spots, same};
 ghost use Rattle.lhm_ring.specs.Search.{OfNodeAt, entries, Compares, FindsKey, FindsNone, HasKey, IsAbsent, CountsSome, CountsAll, HoldsOthers, IsEmptied};
 
 use crate::index::Index;

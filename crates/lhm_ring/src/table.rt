@@ -4,7 +4,7 @@ ghost use Rattle.lhm_ring.specs.Cells.{IsApart};
 ghost use Rattle.lhm_ring.specs.RingState.{IsHeld, AtHeld, first_at, last_at, held};
 ghost use Rattle.lhm_ring.specs.RingAfterLoan.{pair};
 ghost use Rattle.lhm_ring.specs.Positions.{pointer_of, pointer_of_some};
-ghost use Rattle.lhm_ring.specs.Index.{spots};
+ghost use Rattle.lhm_ring.specs.Spots.{spots};
 ghost use Rattle.lhm_ring.specs.Search.{entries, HasKey, IsAbsent, CountsSome, CountsAll};
 ghost use Rattle.lhm_ring.specs.Buckets.{buckets};
 ghost use Rattle.lhm_ring.specs.Filters.{may_contain, LacksHash};

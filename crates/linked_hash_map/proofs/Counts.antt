@@ -7,7 +7,7 @@ use Rattle.lhm_ring.specs.Buckets.{buckets, rechained_raised}
 use Rattle.lhm_ring.proofs.BucketCounts.{rechained_raised-same}
 use Rattle.lhm_ring.proofs.RearrangedCounts.{count_by-cons}
 use Rattle.lhm_ring.specs.Index as index
-use Rattle.lhm_ring.specs.Index.{Spot, spot, spots}
+use Rattle.lhm_ring.specs.Spots.{Spot, spot, spots}
 use Rattle.lhm_ring.specs.RingState.{Held}
 use Rattle.linked_hash_map.specs.Counts.{same, beside, rechained_each}
 use Rattle.linked_hash_map.specs.Nodes.{pairs_of, bare}

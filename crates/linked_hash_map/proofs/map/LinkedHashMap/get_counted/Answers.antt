@@ -1,6 +1,6 @@
 use Rattle.std.proofs.Common.{◌≤◌, Some, refl, sym, ap, ◌∙◌, subst}
 use Rattle.lhm_ring.specs.Buckets.{buckets}
-use Rattle.lhm_ring.specs.Index.{spots}
+use Rattle.lhm_ring.specs.Spots.{spots}
 use Rattle.lhm_ring.specs.Positions.{pointer_of}
 use Rattle.lhm_ring.specs.Search.{HasKey, IsAbsent, CountsSome, CountsAll}
 use Rattle.linked_hash_map.specs.Hashers.{hash_by}
