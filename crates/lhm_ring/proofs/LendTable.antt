@@ -5,15 +5,16 @@ use Rattle.std.proofs.lemmas.List.{length-map}
 use seplogic.Ra.Ura.{Ura}
 use base.Fraction.{full_share}
 use base.Logic.{SProp, ent, sep, emp, id⊢}
-use base.Fml.{Fml, fseps}
+use base.Fml.{Fml, Lft, Share, Incl, Incl-refl, flft, fbor, fseps}
 use prog.Memory.{align, up}
 use types.Logic.{Logic, sem}
-use types.Kit.{‵, raw, ◌$◌, ◌∵◌, !, qed, by, move, use0, use2, use3}
+use types.Kit.{‵, raw, ◌⊛◌, later, ◌$◌, ◌∵◌, !, qed, by, move, split, use0, use1, use2, use3, updating, await, now, done}
 use denote.RattleType.{RattleType}
 use denote.Builtin.{usize}
 use denote.Memory.{mem, part_of, part_at, lone}
-use denote.Model.Fields.{view_owns, view_made, Plain-in}
+use denote.Model.Fields.{view_owns, view_made, view-Hides, Plain-in}
 use denote.Param.Laws.{Laws}
+use denote.Param.Shared.{parts_share}
 use denote.RawPtr.{Ptr}
 use denote.Struct.Laws.{usize-laws}
 use denote.Struct.Members.{Member}
@@ -29,14 +30,19 @@ use Rattle.lhm_ring.specs.contracts.filter.Filter as F-type
 use Rattle.lhm_ring.specs.contracts.index.Index as N-type
 use Rattle.lhm_ring.specs.contracts.links.Links as links
 use Rattle.lhm_ring.specs.contracts.ring.Ring as R-type
+use Rattle.lhm_ring.specs.contracts.ring.Ring.TheInside as RI-type
 use Rattle.lhm_ring.specs.contracts.table.Table as T-type
 use Rattle.lhm_ring.specs.contracts.table.Table.TheInside as I-type
+use Rattle.lhm_ring.specs.contracts.value_loan.Hole as H-type
 use Rattle.lhm_ring.proofs.Filters.{IsFilter-spots}
 use Rattle.lhm_ring.proofs.IndexMoves.{spots-values}
 use Rattle.lhm_ring.proofs.IndexedRing.{IsIndexed-same_spots}
 use Rattle.lhm_ring.proofs.filter.Filter.TheLaws as F-laws
 use Rattle.lhm_ring.proofs.index.Index.TheLaws as N-laws
+use Rattle.lhm_ring.proofs.links.Links.TheLaws as links-laws
 use Rattle.lhm_ring.proofs.ring.Ring.TheLaws as R-laws
+use Rattle.lhm_ring.proofs.ring.Ring.TheInside.TheLaws as RI-laws
+use Rattle.lhm_ring.proofs.value_loan.Hole.TheLaws as H-laws
 use Rattle.lhm_ring.proofs.ValuesSplitOff as ring
 
 module _ {K V : Type 0} where
@@ -71,6 +77,10 @@ module _ (K V : RattleType) where
 
   abbrev pub Rg : RattleType
   Rg = R-type.the_row K V
+
+  -- what is left of the ring while its values are lent: one of holes
+  abbrev pub Holes : RattleType
+  Holes = R-type.the_row K (H-type.the_row V)
 
   abbrev pub Index : RattleType
   Index = N-type.the_row K V
@@ -151,3 +161,14 @@ module _ (K V : RattleType) where
 
       pub ordered_back : (ws : List V.Denot) → ent 𝓤 (sep 𝓤 (sem 𝓛 (spread V ps ws)) (emp 𝓤)) (sem 𝓛 (spread V ps (placed (held_values (ordered ws)))))
       ordered_back = ring.ordered_back K V 𝓛 a i.ring rseen rok rb (field_at ro)
+
+      -- for as long as the values are lent, what is left can be shared
+      pub holes_shared : Laws K → Laws V → (κ : Lft) (q : Share) → Incl κ K.lives → Incl κ V.lives
+          → ent 𝓤 (sep 𝓤 (sem 𝓛 (fbor κ Fields)) (sem 𝓛 (flft κ q))) (𝓛.H.⇛ (sep 𝓤 (sem 𝓛 (Holes.shr_at i.ring rb (field_at ro) κ)) (sem 𝓛 (flft κ q))))
+      holes_shared LK LV κ q inK inV =
+          let Hr = H-type.the_row V in let LH = H-laws.the_row_laws V LV in let kb = ring.kept_by K V a in
+          qed 𝓛 (‵ (fbor κ Fields) ∷ ‵ (flft κ q) ∷ []) ∵
+          updating ! $ use2 𝓛 (later (‵ ((ring.Thinned K V kb).shr_at (ring.thinned K V kb a) rb (field_at ro) κ) ⊛ ‵ (flft κ q)))
+          (parts_share 𝓛 (ring.parts K V kb) (ring.thin_shape K V kb).name (ring.thin_shape K V kb).args (ring.thin_shape K V kb).types (ring.Sharable-thin links.the_row K V kb links-laws.the_row_laws LK LH, (RI-laws.the_shared K Hr LK LH).1) (ring.thinned K V kb a) κ ((κ, q) ∷ []) rb (field_at ro)
+          (RI-laws.the_within K Hr κ inK (H-laws.the_within V κ inV)) (Incl-refl κ)) $ await ! tt $ split ! $
+          use1 𝓛 (‵ (Holes.shr_at i.ring rb (field_at ro) κ)) (view-Hides (RI-type.the_row K Hr) (State (K.Denot × V.Denot)) Holes.coded (R-type.the_view K Hr) (R-type.the_invariant K Hr) _ 𝓤 𝓛 i.ring a (rseen, rok) rb (field_at ro) κ) $ now ! $ done !

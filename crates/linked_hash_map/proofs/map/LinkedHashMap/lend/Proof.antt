@@ -5,7 +5,7 @@ use mir.Syntax.{Args, a_type, dcons, dnil, named}
 use mir.Val.{Val, vptr, vstruct, vcons, vnil}
 use mir.MapTy.{inst_fn}
 use base.Logic.{SProp, ent, emp, id⊢}
-use base.Fml.{Fml, Lft, Incl-trans, Incl-refl, ftrue, fsep, flft, fobs, fbor, fseps}
+use base.Fml.{Fml, Lft, Incl-trans, ftrue, fsep, flft, fobs, fbor, fseps}
 use prog.Wp.{WpFn}
 use types.Kit.{◌∵◌, ‵, raw, ◌⊛◌, some, later, at_ret, ◌$◌, !, qed, by, move, keep, use0, use1, use2, pick, await, group, split, split3, join, fsplit, fsplit3, fjoin, suffices, rewrite, feq_i}
 use types.Run.{stop, addr, fld, of_opd, no_more, and_then, first, blocks, exec, returns, enter}
@@ -20,11 +20,10 @@ use contract.Monad.{fact, fact_i}
 use denote.Exit.{no}
 use denote.Follow.{follows}
 use denote.Memory.{mem, part_at}
-use denote.Model.Fields.{view_owns, view-Hides, plain_out}
+use denote.Model.Fields.{view_owns, plain_out}
 use denote.Opens.{hide}
 use denote.Param.{bounded, param}
 use denote.Param.Laws.{param_laws}
-use denote.Param.Shared.{parts_share}
 use denote.RattleType.{RattleType, owns}
 use denote.RawPtr.{Ptr}
 use denote.Ref.{Bor, ShrRef}
@@ -41,14 +40,8 @@ use Rattle.lhm_ring.specs.Iterators.{AreLent}
 use Rattle.lhm_ring.specs.declared.value_loan.ValueLoan.{ValueLoan}
 use Rattle.lhm_ring.specs.declared.links.Links.{Links}
 use Rattle.lhm_ring.specs.contracts.links.Links as links
-use Rattle.lhm_ring.specs.contracts.value_loan.Hole as H-type
 use Rattle.lhm_ring.specs.contracts.value_loan.LentValues as T-type
 use Rattle.lhm_ring.specs.contracts.value_loan.ValueLoan as L-type
-use Rattle.lhm_ring.specs.contracts.ring.Ring as R-type
-use Rattle.lhm_ring.specs.contracts.ring.Ring.TheInside as RI-type
-use Rattle.lhm_ring.proofs.links.Links.TheLaws as links-laws
-use Rattle.lhm_ring.proofs.value_loan.Hole.TheLaws as H-laws
-use Rattle.lhm_ring.proofs.ring.Ring.TheInside.TheLaws as RI-laws
 use Rattle.lhm_ring.proofs.Memory.{marker, struct_made}
 use Rattle.lhm_ring.proofs.ValuesReplaced.{run_of}
 use Rattle.lhm_ring.proofs.LendTable as table
@@ -66,8 +59,8 @@ pub lend_spec : {M : Type 1} → statement M
 unfolding fseps
 lend_spec 𝓤 𝓛 𝓜 𝓡 wired K₀ V₀ S₀ H₀ LK LV LS LH b₀ d₀ b₁ d₁ b₂ d₂ b₃ d₃ b₄ d₄ d₅ m₀ m₁ m₂ m₃ m₄ m₅ =
     let H = 𝓛.H in let 𝓣 = tables 𝓤 H 𝓜 𝓡 𝓡.env in let Q : RattleType = links.the_row in
-    let K : RattleType = param 0 K₀ in let V : RattleType = param 1 V₀ in let S : RattleType = param 2 S₀ in let Hs : RattleType = param 3 H₀ in let Hr : RattleType = H-type.the_row V in
-    let Map : RattleType = lending.Map K₀ V₀ S₀ H₀ b₁ b₂ b₃ b₄ in let Whole : RattleType = lending.Whole K₀ V₀ S₀ H₀ b₁ b₂ b₃ b₄ in let Tb : RattleType = lending.Tb K₀ V₀ S₀ H₀ b₁ b₂ b₃ b₄ in let Rg : RattleType = R-type.the_row K V in
+    let K : RattleType = param 0 K₀ in let V : RattleType = param 1 V₀ in let S : RattleType = param 2 S₀ in let Hs : RattleType = param 3 H₀ in
+    let Map : RattleType = lending.Map K₀ V₀ S₀ H₀ b₁ b₂ b₃ b₄ in let Whole : RattleType = lending.Whole K₀ V₀ S₀ H₀ b₁ b₂ b₃ b₄ in let Tb : RattleType = lending.Tb K₀ V₀ S₀ H₀ b₁ b₂ b₃ b₄ in let Rg : RattleType = table.Rg K V in
     let args : Args = bounded (a_type ∷ a_type ∷ a_type ∷ a_type ∷ []) (K₀, (V₀, (S₀, (H₀, tt)))) (dcons d₀ (dcons d₁ (dcons d₂ (dcons d₃ (dcons d₄ (dcons d₅ dnil)))))) in
     let En = ended K₀ V₀ S₀ H₀ b₀ d₀ b₁ d₁ b₂ d₂ b₃ d₃ b₄ d₄ d₅ in let c = clauses K₀ V₀ S₀ H₀ b₀ d₀ b₁ d₁ b₂ d₂ b₃ d₃ b₄ d₄ d₅ 𝓛 𝓜.mem 𝓡.returns in let fn = inst_fn args code.function in
     let hs : Stays En.signature.params En.kept = (stay_dropped (mut_ref_to (0 ∷ []) tt (plain (λ _. Map))) no, tt) in
@@ -77,7 +70,7 @@ lend_spec 𝓤 𝓛 𝓜 𝓡 wired K₀ V₀ S₀ H₀ LK LV LS LH b₀ d₀ b�
     let rb : ℕ = a.0.ref_ptr.0 in let ro : ℕ = a.0.ref_ptr.1 in let to : ℕ = lending.field_at K₀ V₀ S₀ H₀ b₁ b₂ b₃ b₄ ro in let fo : ℕ = table.field_at K V to in let d : LinkedMap K₀.Denot V₀.Denot S₀.Denot = a.0.now in
     let others : Fml = fsep (flft κs.1.0 qs.1.0) (fsep (flft κs.1.1.0 qs.1.1.0) (fsep (flft κs.1.1.1.0 qs.1.1.1.0) (fsep (flft κs.1.1.1.1.0 qs.1.1.1.1.0) ftrue))) in
     let κ : Lft = κs.0 in let q = qs.0 in let γ = a.0.ghost_name in let dcode = Map.coded.code d in let bounds = y.0.2 in
-    let It : RattleType = L-type.the_row (named_lft 5 0 tt κs) Q K V in let Holed : RattleType = R-type.the_row K Hr in let lm : RattleType = ring.LoanMarker (named_lft 5 0 tt κs) Q K V in
+    let It : RattleType = L-type.the_row (named_lft 5 0 tt κs) Q K V in let Holed : RattleType = table.Holes K V in let lm : RattleType = ring.LoanMarker (named_lft 5 0 tt κs) Q K V in
     qed 𝓛 (((‵ (flft κs.0 qs.0) ⊛ ‵ others) ⊛ ‵ (owns (types_at En.signature.params κs) a vss)) ∷ raw (fact 𝓤 (κs.1.0 ⊑ K₀.lives)) ∷ raw (fact 𝓤 (κs.1.1.0 ⊑ V₀.lives)) ∷ raw (fact 𝓤 (κs.1.1.1.0 ⊑ S₀.lives)) ∷ raw (fact 𝓤 (κs.1.1.1.1.0 ⊑ H₀.lives)) ∷ raw (emp 𝓤) ∷ []) ∵
     keep ! (1 ∷ 2 ∷ 0 ∷ []) $ heard ! (κs.1.0 ⊑ K₀.lives) (λ inK. heard ! (κs.1.1.0 ⊑ V₀.lives) (λ inV. split ! $ split ! $ move ! (2 ∷ []) $ fsplit ! $ fsplit3 ! $ keep ! (1 ∷ 2 ∷ 4 ∷ 5 ∷ []) $
     let us : List Val = vptr rb ro ∷ [] in let Run : List Val → SProp 𝓤 = λ ws. WpFn 𝓤 H 𝓣.C 𝓣.Λ fn ws Post in
@@ -113,11 +106,9 @@ lend_spec 𝓤 𝓛 𝓜 𝓡 wired K₀ V₀ S₀ H₀ LK LV LS LH b₀ d₀ b�
     -- [the loan; its token and the second name's; what follows; the shared parts; the other tokens]
     move ! (1 ∷ []) $ split ! $ move ! (4 ∷ []) $ split ! $
     -- [the fields; nothing; the token; the second name's; the loan; what follows; the other tokens]
-    move ! (0 ∷ 2 ∷ []) $ let LS' = param_laws 0 K₀ LK in let LH' = H-laws.the_row_laws V (param_laws 1 V₀ LV) in
-    use2 𝓛 (later (‵ ((ring.Thinned K V kb).shr_at (ring.thinned K V kb r) rb fo κ) ⊛ ‵ (flft κ q)))
-    (parts_share 𝓛 (ring.parts K V kb) (ring.thin_shape K V kb).name (ring.thin_shape K V kb).args (ring.thin_shape K V kb).types (ring.Sharable-thin Q K V kb links-laws.the_row_laws LS' LH', (RI-laws.the_shared K Hr LS' LH').1) (ring.thinned K V kb r) κ ((κ, q) ∷ []) rb fo
-    (RI-laws.the_within K Hr κ (Incl-trans bounds.0 inK) (H-laws.the_within V κ (Incl-trans bounds.1.0 inV))) (Incl-refl κ)) $ await ! tt $ split ! $
-    use1 𝓛 (‵ (Holed.shr_at t.ring rb fo κ)) (view-Hides (RI-type.the_row K Hr) (State (K.Denot × V.Denot)) Holed.coded (R-type.the_view K Hr) (R-type.the_invariant K Hr) _ 𝓤 𝓛 t.ring r (rseen, rok) rb fo κ) $
+    move ! (0 ∷ 2 ∷ []) $
+    use2 𝓛 (later (‵ (Holed.shr_at t.ring rb fo κ) ⊛ ‵ (flft κ q)))
+    (table.holes_shared K V 𝓛 t rb to i.table tseen tok r rseen rok (param_laws 0 K₀ LK) (param_laws 1 V₀ LV) κ q (Incl-trans bounds.0 inK) (Incl-trans bounds.1.0 inV)) $ await ! tt $ split ! $
     hide ! $ feq_i ! (List Val) (vptr rb fo ∷ []) (vptr rb fo ∷ []) refl $ fjoin ! $
     -- [the ring, shared; the token; nothing; the second name's; the loan; what follows; the other
     -- tokens]
