@@ -32,10 +32,6 @@ module _ {K V : Type 0} {hs : List (Held (K × V))} {p : Ptr} (held : IsHeld hs 
       (ap pairs_of (alone held.before held.node held.after held.is held.at_is w) ∙ pairs_of-append held.before (revalued w held.node ∷ held.after)
       ∙ sym (ap (λ ps. set_value_at ps (length (pairs_of held.before)) w) pairs_of-held ∙ set_value_at-append (pairs_of held.before) held.node.pair (pairs_of held.after) w))
 
--- a node with a key that was looked for
-pub IsIndex-HasKey : {K V : Type 0} {eq : K → K → Bool} {hash : ℕ} {k : K} {hs : List (Held (K × V))} {p : Ptr} (h : HasKey eq hash k hs p) → IsIndex eq (pairs_of hs) k (length h.held.before)
-IsIndex-HasKey h = let held = h.held in record { pair = held.node.pair; there = slice_get-held held; same = h.key_is held.before held.node held.after held.is held.at_is }
-
 -- the first node at a pointer
 pub record CutAt {B : Type 0} (p : Ptr) (hs : List (Held B)) : Type 0 where
   pub held : IsHeld hs p

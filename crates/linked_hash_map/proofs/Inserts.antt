@@ -16,7 +16,7 @@ use Rattle.linked_hash_map.specs.Run.{first_log}
 use Rattle.linked_hash_map.specs.Inserts.{insert_each}
 use Rattle.linked_hash_map.specs.Validity.{IsValid}
 use Rattle.linked_hash_map.proofs.Bridge.{pairs-put}
-use Rattle.linked_hash_map.proofs.Counts.{rechained_each-put}
+use Rattle.linked_hash_map.proofs.RehashCounts.{rechained_each-put}
 use Rattle.linked_hash_map.proofs.Distinct.{distinct-pairs}
 use Rattle.linked_hash_map.proofs.Lists.{by_last}
 use Rattle.linked_hash_map.proofs.Pairs.{length-put}

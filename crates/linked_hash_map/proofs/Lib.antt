@@ -1,9 +1,9 @@
 pub mod AbsentKeys
+pub mod ActsAs
 pub mod BookmarkMoves
 pub mod Bridge
 pub mod Callers
 pub mod Clones
-pub mod Counts
 pub mod Current
 pub mod CutNodes
 pub mod Distinct
@@ -11,13 +11,13 @@ pub mod DistinctLists
 pub mod Drained
 pub mod Effects
 pub mod EmptyMap
-pub mod EntryFacts
-mod EntryValue
+pub mod EntryMaps
 mod Examples
 pub mod ExtendSteps
 pub mod Extends
 pub mod FirstAndLast
 pub mod Fitted
+pub mod FoundKeys
 pub mod HeldPairs
 pub mod HighWater
 pub mod Indexes
@@ -28,7 +28,9 @@ pub mod LeavingSessions
 pub mod LendMap
 pub mod Lists
 pub mod LiveKeys
+pub mod LookupCounts
 pub mod MovedNode
+pub mod OccupiedEntries
 pub mod Options
 pub mod Outcomes
 pub mod Outside
@@ -36,6 +38,8 @@ pub mod Pairs
 pub mod Pops
 pub mod PushedPair
 pub mod PutPair
+pub mod RehashCounts
+pub mod Results
 pub mod Retained
 pub mod Runs
 pub mod SessionLists

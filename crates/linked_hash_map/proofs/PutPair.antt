@@ -15,12 +15,11 @@ use Rattle.linked_hash_map.specs.Nodes.{VisitState, no_visit, pairs_of, bare, be
 use Rattle.linked_hash_map.specs.Pairs.{value_at, put}
 use Rattle.linked_hash_map.specs.Indexes.{IsIndex, set_value_at}
 use Rattle.linked_hash_map.specs.Touches.{IsTouched}
-use Rattle.linked_hash_map.proofs.EntryFacts.{slice_get-set_value_at}
+use Rattle.linked_hash_map.proofs.Indexes.{slice_get-set_value_at, length-others, set_value_at-pushed, slice_get-pushed, set_value-index, is_some-index, to_back-index, value_at-slice_get}
 use Rattle.linked_hash_map.proofs.Pairs.{put-present}
-use Rattle.linked_hash_map.proofs.Indexes.{length-others, set_value_at-pushed, slice_get-pushed, set_value-index, is_some-index, to_back-index, value_at-slice_get}
 use Rattle.linked_hash_map.proofs.HeldPairs.{bare-change, before-bare, length-pairs_of, length-same}
 use Rattle.linked_hash_map.proofs.CutNodes.{CutAt, CutAt-before, slice_get-held, pairs_of-change_at}
-use Rattle.linked_hash_map.proofs.Current.{current_at-Some, current_lies, IsKept-visited, IsKept-with_value}
+use Rattle.linked_hash_map.proofs.Current.{current_at-Some, before-current, IsKept-visited, IsKept-with_value}
 use Rattle.linked_hash_map.proofs.MovedNode.{pairs-moved, length-to_back, before-at_back, AreKept-moved, to_visit-moved, behind-moved}
 use Rattle.linked_hash_map.proofs.Outside.{IsElsewhere, to_visit_at, to_visit_of, to_visit-bare}
 
@@ -95,7 +94,7 @@ IsKept-same {eq = eq} {hash = hash} {s = s} {t = t} {visit = visit} kept same ca
 module _ {K V : Type 0} {eq : K → K → Bool} (laws : IsEquivalence eq) {hash : K → ℕ} {s : TableState (K × V)} (t : TableState (K × V)) {visit : VisitState} {p : Ptr} (kept : IsKept eq hash s visit) (is : visit.current ≡ Some p) (elsewhere : IsElsewhere (before p s.held) visit (bare s.held)) where
   IsKept-touched : (mode : Mode) → IsTouched mode p s.held t.held → t.capacity ≡ s.capacity → IsKept eq hash t visit
   IsKept-touched Touch moved capacity = record {
-    nodes = subst (λ k. AreKept eq hash (bare t.held) k visit) (sym capacity) (AreKept-moved s.held t.held moved.0 (current_lies kept is) kept.nodes elsewhere laws is);
+    nodes = subst (λ k. AreKept eq hash (bare t.held) k visit) (sym capacity) (AreKept-moved s.held t.held moved.0 (before-current kept is) kept.nodes elsewhere laws is);
   }
   IsKept-touched Keep same capacity = IsKept-same kept same capacity
 
@@ -103,7 +102,7 @@ module _ {K V : Type 0} {eq : K → K → Bool} (laws : IsEquivalence eq) {hash 
   IsKept-put_current mode touched capacity w = IsKept-with_value (IsKept-touched mode touched capacity) p w
 
   to_visit-touched : (mode : Mode) → IsTouched mode p s.held t.held → to_visit_of visit t.held ≡ to_visit_of visit s.held
-  to_visit-touched Touch moved = to_visit-moved s.held t.held moved.0 (current_lies kept is) kept.nodes elsewhere
+  to_visit-touched Touch moved = to_visit-moved s.held t.held moved.0 (before-current kept is) kept.nodes elsewhere
   to_visit-touched Keep same = ap (to_visit_of visit) same
 
   pub to_visit-put : (mode : Mode) → IsTouched mode p s.held t.held → (w : V) → to_visit_of visit (change_at p (revalued w) t.held) ≡ to_visit_of visit s.held
@@ -111,7 +110,7 @@ module _ {K V : Type 0} {eq : K → K → Bool} (laws : IsEquivalence eq) {hash 
       sym (to_visit-bare visit (change_at p (revalued w) t.held)) ∙ ap (to_visit_at visit) (bare-change p w t.held) ∙ to_visit-bare visit t.held ∙ to_visit-touched mode touched
 
   elsewhere-touched : (mode : Mode) → IsTouched mode p s.held t.held → IsElsewhere (before p t.held) visit (bare t.held)
-  elsewhere-touched Touch moved = inr (behind-moved s.held t.held moved.0 (current_lies kept is) kept.nodes elsewhere moved.1)
+  elsewhere-touched Touch moved = inr (behind-moved s.held t.held moved.0 (before-current kept is) kept.nodes elsewhere moved.1)
   elsewhere-touched Keep same = subst (λ (ns : List (Held (K × V))). IsElsewhere (before p ns) visit (bare ns)) (sym same) elsewhere
 
   pub outside-put : (mode : Mode) → IsTouched mode p s.held t.held → (w : V) → IsElsewhere (current_at visit.current (bare (change_at p (revalued w) t.held))) visit (bare (change_at p (revalued w) t.held))

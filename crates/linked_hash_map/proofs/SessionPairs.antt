@@ -1,5 +1,5 @@
 -- The sessions that a map's pairs stand for, after each call of the map.
-use Rattle.std.proofs.Common.{◌≡◌, ◌⊎◌, ℕ, suc, ◌+◌, ◌-◌, Bool, true, false, cond, not, List, [], ◌∷◌, ◌++◌, length, nat_eq, Option, Some, None, inl, option_map, is_some, refl, sym, ap, ap₂, ◌∙◌, subst, arith}
+use Rattle.std.proofs.Common.{◌≡◌, ℕ, suc, ◌+◌, ◌-◌, Bool, true, false, cond, not, List, [], ◌∷◌, ◌++◌, length, nat_eq, Option, Some, None, option_map, is_some, refl, sym, ap, ap₂, ◌∙◌, subst, arith}
 use Rattle.std.specs.Prelude.{unwrap_or}
 use Rattle.std.specs.Cmp.{nat_eq_equiv}
 use Rattle.std.specs.List.{IsDistinct}
@@ -46,29 +46,29 @@ module _ {T : Type 0} where
       by_test true rest = refl
       by_test false rest = rest
 
-  payload_by : (o : Option (ℕ × Weighted T)) → option_map (λ s. s.2) (option_map session o) ≡ option_map (λ weighted. weighted.payload) (option_map (λ pair. pair.1) o)
-  payload_by None = refl
-  payload_by (Some pair) = refl
+  option_map-payload : (o : Option (ℕ × Weighted T)) → option_map (λ s. s.2) (option_map session o) ≡ option_map (λ weighted. weighted.payload) (option_map (λ pair. pair.1) o)
+  option_map-payload None = refl
+  option_map-payload (Some pair) = refl
 
-  weight_by : (o : Option (ℕ × Weighted T)) → option_map (λ s. s.1) (option_map session o) ≡ option_map (λ weighted. weighted.weight) (option_map (λ pair. pair.1) o)
-  weight_by None = refl
-  weight_by (Some pair) = refl
+  option_map-weight : (o : Option (ℕ × Weighted T)) → option_map (λ s. s.1) (option_map session o) ≡ option_map (λ weighted. weighted.weight) (option_map (λ pair. pair.1) o)
+  option_map-weight None = refl
+  option_map-weight (Some pair) = refl
 
-  some_by : (o : Option (ℕ × Weighted T)) → is_some (option_map session o) ≡ is_some o
-  some_by None = refl
-  some_by (Some pair) = refl
+  is_some-session : (o : Option (ℕ × Weighted T)) → is_some (option_map session o) ≡ is_some o
+  is_some-session None = refl
+  is_some-session (Some pair) = refl
 
   pub payload_of-sessions_of : (ps : List (ℕ × Weighted T)) (id : ℕ) → payload_of (sessions_of ps) id ≡ option_map (λ weighted. weighted.payload) (pairs.value_at nat_eq ps id)
-  payload_of-sessions_of ps id = ap (option_map (λ (s : Session T). s.2)) (session_of-sessions_of ps id) ∙ payload_by (pairs.find nat_eq ps id)
+  payload_of-sessions_of ps id = ap (option_map (λ (s : Session T). s.2)) (session_of-sessions_of ps id) ∙ option_map-payload (pairs.find nat_eq ps id)
 
   pub weight-sessions_of : (ps : List (ℕ × Weighted T)) (id : ℕ) → option_map (λ s. s.1) (session_of (sessions_of ps) id) ≡ option_map (λ weighted. weighted.weight) (pairs.value_at nat_eq ps id)
-  weight-sessions_of ps id = ap (option_map (λ (s : Session T). s.1)) (session_of-sessions_of ps id) ∙ weight_by (pairs.find nat_eq ps id)
+  weight-sessions_of ps id = ap (option_map (λ (s : Session T). s.1)) (session_of-sessions_of ps id) ∙ option_map-weight (pairs.find nat_eq ps id)
 
   pub weight_of-sessions_of : (ps : List (ℕ × Weighted T)) (id : ℕ) → weight_of (sessions_of ps) id ≡ unwrap_or (option_map (λ weighted. weighted.weight) (pairs.value_at nat_eq ps id)) 0
   weight_of-sessions_of ps id = ap (λ o. unwrap_or o 0) (weight-sessions_of ps id)
 
   pub is_some-session_of : (ps : List (ℕ × Weighted T)) (id : ℕ) → is_some (session_of (sessions_of ps) id) ≡ is_some (pairs.find nat_eq ps id)
-  is_some-session_of ps id = ap is_some (session_of-sessions_of ps id) ∙ some_by (pairs.find nat_eq ps id)
+  is_some-session_of ps id = ap is_some (session_of-sessions_of ps id) ∙ is_some-session (pairs.find nat_eq ps id)
 
   -- the pair of an id at the back
   pub sessions_of-to_back : (ps : List (ℕ × Weighted T)) (id : ℕ) (weighted : Weighted T) → sessions_of (pairs.to_back nat_eq ps id weighted) ≡ with_last (sessions_of ps) id weighted.weight weighted.payload
@@ -142,17 +142,3 @@ module _ {T : Type 0} where
           sum = omega (arith, ap total_weight (sessions_of-refreshed payload));
           within = kept.within;
         }
-
--- the first of a list and the others
-pub first-none : {X : Type 0} (xs : List X) → pairs.first xs ≡ None → length xs ≡ 0
-first-none [] none = refl
-first-none (x ∷ xs) none = cc
-
-pub first-some : {X : Type 0} (xs : List X) (x : X) → Some x ≡ pairs.first xs → xs ≡ x ∷ pairs.without_first xs
-first-some [] x found = cc
-first-some (y ∷ xs) x found = cc
-
--- two tables that a reference is lent out of are alike if each value written leaves the two
--- alike
-pub lends_alike : {N A B C : Type 0} {name : N} {f g : A → B} → ((x : A) → f x ≡ g x) → ◌≡◌ {A = (N × (A → B)) ⊎ C} (inl (name, f)) (inl (name, g))
-lends_alike {name = name} alike = λ i. inl (name, λ x. alike x i)

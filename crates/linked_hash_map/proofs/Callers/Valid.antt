@@ -20,7 +20,7 @@ use Rattle.linked_hash_map.specs.Entry.{Occupied, Vacant, occupied_key, vacant_m
 use Rattle.linked_hash_map.specs.declared.entry.Entry.{Entry}
 use Rattle.linked_hash_map.proofs.Callers.Keys.{distinct-put, distinct-set_or_push, length-set_or_push_most}
 use Rattle.linked_hash_map.proofs.Callers.Updates.{max-length_put}
-use Rattle.linked_hash_map.proofs.EntryFacts.{found-occupied}
+use Rattle.linked_hash_map.proofs.OccupiedEntries.{is_some-occupied}
 
 module _ {K V S : Type 0} {eq : K → K → Bool} (laws : IsEquivalence eq) {m n : LinkedMap K V S} where
   -- other pairs with keys that differ, and a capacity that rose to their number, if need was
@@ -54,7 +54,7 @@ module _ {K V S H : Type 0} {g : eq.Ghosts K} {h : hash.Ghosts K} {b : builder.G
   pub IsValid-set_or_pushed : IsEquivalence g.eq → (e : Entry K V S H g h b w) (v : V)
       → IsValid g.eq (entry_map e) → (entry_value e ≡ None → length (entry_map e).pairs < LIMIT)
       → IsValid g.eq (set_or_pushed g.eq (entry_map e) (entry_key e) v)
-  IsValid-set_or_pushed laws (Occupied o) v valid limit = IsValid-set_or_push_present laws (occupied_key o) v valid (found-occupied o laws) refl refl
+  IsValid-set_or_pushed laws (Occupied o) v valid limit = IsValid-set_or_push_present laws (occupied_key o) v valid (is_some-occupied o laws) refl refl
   IsValid-set_or_pushed laws (Vacant e) v valid limit =
       let below = limit refl in
       let most = length-set_or_push_most g.eq (vacant_map e).pairs (vacant_key e) v in

@@ -4,7 +4,7 @@ use Rattle.linked_hash_map.specs.Pairs.{key_or, find, put}
 use Rattle.linked_hash_map.specs.Entry.{occupied_key}
 use Rattle.linked_hash_map.proofs.LiveKeys.{none_is}
 use Rattle.linked_hash_map.proofs.Pairs.{length-put, put-absent}
-use Rattle.linked_hash_map.proofs.EntryFacts.{acts_put}
+use Rattle.linked_hash_map.proofs.ActsAs.{put-ActsAs}
 use Rattle.linked_hash_map.proofs.Effects.{IsFull-contents, IsAbsent-found, HasValue-value, Defines-put, Defines-nothing}
 use Rattle.linked_hash_map.proofs.Runs.{Serves-same}
 use Rattle.linked_hash_map.proofs.replay.entry_insert.Goals as goal
@@ -18,7 +18,7 @@ returns-in-Occupied g c =
     let moved : left.pairs ≡ put g.K.PartialEq.eq m.mode m.pairs c.args.key c.args.value =
     done.pairs
     ∙ (λ i. put g.K.PartialEq.eq (entry.keeps.mode i) (entry.pairs i) (occupied_key c.in-Occupied.entry) c.args.value)
-    ∙ acts_put entry.acts m.mode c.args.value in
+    ∙ put-ActsAs entry.acts m.mode c.args.value in
     let as_long : length left.pairs ≡ length m.pairs =
     ap length moved
     ∙ length-put g.met.K.Eq.laws m.mode m.pairs c.args.key c.args.value entry.valid.distinct

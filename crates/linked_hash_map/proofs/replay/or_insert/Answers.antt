@@ -5,7 +5,7 @@ use Rattle.linked_hash_map.specs.Entry.{is_occupied, entry_map, entry_key}
 use Rattle.linked_hash_map.proofs.LiveKeys.{none_is}
 use Rattle.linked_hash_map.proofs.Pairs.{is_some-value_at, find-none, set_or_push-present, set_or_push-absent, put-absent}
 use Rattle.linked_hash_map.proofs.Indexes.{set_value-own}
-use Rattle.linked_hash_map.proofs.EntryFacts.{some_unwrapped}
+use Rattle.linked_hash_map.proofs.Options.{Some-unwrap_or}
 use Rattle.linked_hash_map.proofs.Effects.{IsFull-contents, IsAbsent-found, IsAbsent-value, HasValue-value, Defines-put, Defines-nothing}
 use Rattle.linked_hash_map.proofs.Runs.{Serves-same}
 use Rattle.linked_hash_map.proofs.replay.or_insert.Goals as goal
@@ -22,7 +22,7 @@ returns-then-present g c =
     let occupied : is_occupied c.entry-entry.result ≡ true = search rules in
     let there : is_some (find eq m.pairs k) ≡ true = sym entry.occupied ∙ occupied in
     let own : value_at eq m.pairs k ≡ Some value =
-    some_unwrapped (value_at eq m.pairs k) c.args.value value (is_some-value_at eq m.pairs k ∙ there) (c.in-Ok.ensures.value ∙ ap (λ o. unwrap_or o c.args.value) entry.value) in
+    Some-unwrap_or (value_at eq m.pairs k) c.args.value value (is_some-value_at eq m.pairs k ∙ there) (c.in-Ok.ensures.value ∙ ap (λ o. unwrap_or o c.args.value) entry.value) in
     let left = set_or_pushed eq lent_map key value in
     let pairs_stay : left.pairs ≡ m.pairs =
     ap (λ ps. set_or_push eq ps key value) entry.pairs

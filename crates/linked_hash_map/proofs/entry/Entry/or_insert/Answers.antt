@@ -2,7 +2,9 @@ use Rattle.std.proofs.Common.{rules, inl, refl, ap, is_some, true≢false}
 use borrow.Follows.Closed.{read_of}
 use Rattle.std.specs.Borrow.{name_if_ok}
 use Rattle.linked_hash_map.specs.Entry.{occupied_map, occupied_key}
-use Rattle.linked_hash_map.proofs.EntryFacts.{found-occupied, set_or_pushed-present, set_or_pushed-absent, on_ok_given, on_err}
+use Rattle.linked_hash_map.proofs.OccupiedEntries.{is_some-occupied}
+use Rattle.linked_hash_map.proofs.EntryMaps.{set_or_pushed-present, set_or_pushed-absent}
+use Rattle.linked_hash_map.proofs.Results.{OnOk-given, OnErr-always}
 use Rattle.linked_hash_map.proofs.entry.Entry.or_insert.Goals as goal
 
 pub returns-in-Occupied : goal.returns-in-Occupied
@@ -10,7 +12,7 @@ returns-in-Occupied g c =
     let eq = g.K.PartialEq.eq in
     let o = c.in-Occupied.entry in
     rw c.in-Occupied.is (
-      (λ i. inl (c.into_mut.result.ghost_name, λ v. set_or_pushed-present eq (occupied_map o) (occupied_key o) v (found-occupied o g.met.K.Eq.laws) c.into_mut.ensures.valid.within i)),
+      (λ i. inl (c.into_mut.result.ghost_name, λ v. set_or_pushed-present eq (occupied_map o) (occupied_key o) v (is_some-occupied o g.met.K.Eq.laws) c.into_mut.ensures.valid.within i)),
       record { writes_back = tt; value = search rules; limit = λ none. absurd (true≢false (ap is_some none)); key_back = tt; value_back = tt; absent = tt; full = tt; valid = c.into_mut.ensures.valid },
     )
 
@@ -25,10 +27,10 @@ returns-in-Vacant g c =
       record {
         writes_back = tt;
         value = c.insert.ensures.value;
-        limit = on_ok_given _ _ r c.insert.ensures.limit;
+        limit = OnOk-given _ _ r c.insert.ensures.limit;
         key_back = c.insert.ensures.key_back;
         value_back = c.insert.ensures.value_back;
-        absent = on_err r refl;
+        absent = OnErr-always r refl;
         full = c.insert.ensures.full;
         valid = c.insert.ensures.valid;
       },

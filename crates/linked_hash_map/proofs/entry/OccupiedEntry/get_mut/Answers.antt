@@ -2,7 +2,8 @@ use Rattle.std.proofs.Common.{refl, sym, ap, take, drop}
 use Rattle.linked_hash_map.specs.Indexes.{within-set_value_at}
 use Rattle.linked_hash_map.specs.LinkedMap.{nowhere, without_entry}
 use Rattle.linked_hash_map.proofs.Indexes.{keys_of-set_value_at, set_value-index}
-use Rattle.linked_hash_map.proofs.EntryFacts.{occupied_value-is, IsIndex-occupied, IsValid-current, occupied_pair-written, occupied_written}
+use Rattle.linked_hash_map.proofs.OccupiedEntries.{occupied_value-is, IsIndex-occupied, occupied_pair-written, with_occupied_value-is}
+use Rattle.linked_hash_map.proofs.EntryMaps.{IsValid-current}
 use Rattle.linked_hash_map.proofs.entry.OccupiedEntry.get_mut.Goals as goal
 
 pub invariant_of-self-lent : goal.invariant_of-self-lent
@@ -15,7 +16,7 @@ returns g c =
     let o = c.args.self.now in
     let m = o.map.now in
     let lent = c.current_value_mut.ensures in (
-      (refl, λ w. occupied_written o w _ _),
+      (refl, λ w. with_occupied_value-is o w _ _),
       record {
         writes_back = tt;
         valid = IsValid-current nowhere lent.valid;

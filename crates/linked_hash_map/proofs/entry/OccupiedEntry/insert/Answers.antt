@@ -3,7 +3,8 @@ use Rattle.linked_hash_map.specs.Entry.{occupied_map, occupied_key}
 use Rattle.linked_hash_map.specs.LinkedMap.{nowhere}
 use Rattle.linked_hash_map.proofs.Callers.Updates.{Updates-put}
 use Rattle.linked_hash_map.proofs.Indexes.{slice_get-within}
-use Rattle.linked_hash_map.proofs.EntryFacts.{occupied_pair-is, occupied_value-is, slice_get-occupied, IsIndex-occupied, IsValid-current}
+use Rattle.linked_hash_map.proofs.OccupiedEntries.{occupied_pair-is, occupied_value-is, slice_get-occupied, IsIndex-occupied}
+use Rattle.linked_hash_map.proofs.EntryMaps.{IsValid-current}
 use Rattle.linked_hash_map.proofs.entry.OccupiedEntry.insert.Goals as goal
 
 pub invariant_of-self : goal.invariant_of-self

@@ -3,7 +3,8 @@ use Rattle.linked_hash_map.specs.Entry.{occupied_key}
 use Rattle.linked_hash_map.specs.LinkedMap.{nowhere, without_entry}
 use Rattle.linked_hash_map.proofs.Indexes.{set_value-index}
 use Rattle.linked_hash_map.proofs.Callers.Keys.{keys_of-set_value}
-use Rattle.linked_hash_map.proofs.EntryFacts.{occupied_value-is, IsIndex-occupied, IsValid-current}
+use Rattle.linked_hash_map.proofs.OccupiedEntries.{occupied_value-is, IsIndex-occupied}
+use Rattle.linked_hash_map.proofs.EntryMaps.{IsValid-current}
 use Rattle.linked_hash_map.proofs.entry.OccupiedEntry.into_mut.Goals as goal
 
 pub returns : goal.returns

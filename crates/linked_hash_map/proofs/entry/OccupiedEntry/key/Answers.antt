@@ -1,5 +1,5 @@
 use Rattle.std.proofs.Common.{ap}
-use Rattle.linked_hash_map.proofs.EntryFacts.{occupied_pair-is}
+use Rattle.linked_hash_map.proofs.OccupiedEntries.{occupied_pair-is}
 use Rattle.linked_hash_map.proofs.entry.OccupiedEntry.key.Goals as goal
 
 pub returns : goal.returns

@@ -1,19 +1,19 @@
 use Rattle.std.proofs.Common.{Some, slice_get, sym, ap, ◌∙◌}
 use Rattle.linked_hash_map.specs.Nodes.{pairs_of}
 use Rattle.linked_hash_map.proofs.CutNodes.{slice_get-held}
-use Rattle.linked_hash_map.proofs.Current.{current_of-Some, current_at-Some, current_cut}
+use Rattle.linked_hash_map.proofs.Current.{current_of-Some, current_at-Some, CutAt-current}
 use Rattle.linked_hash_map.proofs.map.LinkedHashMap.current_pair.Goals as goal
 
 pub key-requires : goal.key-requires
-key-requires g c = (current_cut c.self.invariant (current_of-Some c.current.ensures c.unwrap-at.ensures)).held
+key-requires g c = (CutAt-current c.self.invariant (current_of-Some c.current.ensures c.unwrap-at.ensures)).held
 
 pub value-requires : goal.value-requires
-value-requires g c = (current_cut c.self.invariant (current_of-Some c.current.ensures c.unwrap-at.ensures)).held
+value-requires g c = (CutAt-current c.self.invariant (current_of-Some c.current.ensures c.unwrap-at.ensures)).held
 
 pub returns : goal.returns
 returns g c =
     let m = c.self.inside in
-    let cut = current_cut c.self.invariant (current_of-Some c.current.ensures c.unwrap-at.ensures) in
+    let cut = CutAt-current c.self.invariant (current_of-Some c.current.ensures c.unwrap-at.ensures) in
     let h = cut.held in
     let key = c.key.ensures h.before h.node h.after h.is h.at_is in
     let value = c.value.ensures h.before h.node h.after h.is h.at_is in

@@ -7,11 +7,11 @@ use Rattle.linked_hash_map.specs.Nodes.{pairs_of}
 use Rattle.linked_hash_map.proofs.HeldPairs.{bare-change}
 use Rattle.linked_hash_map.proofs.CutNodes.{slice_get-held, pairs_of-change_at}
 use Rattle.linked_hash_map.proofs.Kept.{IsValid-view, map_of-revalued}
-use Rattle.linked_hash_map.proofs.Current.{current_of-Some, current_at-Some, current_cut, IsKept-with_value}
+use Rattle.linked_hash_map.proofs.Current.{current_of-Some, current_at-Some, CutAt-current, IsKept-with_value}
 use Rattle.linked_hash_map.proofs.map.LinkedHashMap.current_value_mut.Goals as goal
 
 pub value_mut-requires : goal.value_mut-requires
-value_mut-requires g c = (current_cut c.self.invariant (current_of-Some c.current.ensures c.unwrap-at.ensures)).held
+value_mut-requires g c = (CutAt-current c.self.invariant (current_of-Some c.current.ensures c.unwrap-at.ensures)).held
 
 pub invariant_of-self-lent : goal.invariant_of-self-lent
 invariant_of-self-lent g c w = IsKept-with_value c.self.invariant (pointer_of c.unwrap-at.result) w
@@ -21,7 +21,7 @@ returns g c =
     let m = c.self.inside in
     let hs = m.table.held in
     let p = pointer_of c.unwrap-at.result in
-    let cut = current_cut c.self.invariant (current_of-Some c.current.ensures c.unwrap-at.ensures) in
+    let cut = CutAt-current c.self.invariant (current_of-Some c.current.ensures c.unwrap-at.ensures) in
     let h = cut.held in
     let index = current_at-Some (current_of-Some c.current.ensures c.unwrap-at.ensures) hs ∙ sym cut.long in
     rw (← c.self.view_is) (

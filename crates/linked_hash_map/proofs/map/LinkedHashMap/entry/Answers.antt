@@ -3,7 +3,8 @@ use Rattle.linked_hash_map.specs.LinkedMap.{nowhere, cursor_state}
 use Rattle.linked_hash_map.specs.Pairs.{key_or}
 use Rattle.linked_hash_map.proofs.Indexes.{is_some-index, find-index, value_at-index}
 use Rattle.linked_hash_map.proofs.Callers.Updates.{Updates-put, Updates-set_or_push, Updates-without}
-use Rattle.linked_hash_map.proofs.EntryFacts.{ActsAs-same, acts_put, occupied_pair-is}
+use Rattle.linked_hash_map.proofs.ActsAs.{ActsAs-same, put-ActsAs}
+use Rattle.linked_hash_map.proofs.OccupiedEntries.{occupied_pair-is}
 use Rattle.linked_hash_map.proofs.map.LinkedHashMap.entry.Goals as goal
 
 pub returns-then-seek-clause-occupied : goal.returns-then-seek-clause-occupied
@@ -41,7 +42,7 @@ pub returns-then-seek-clause-updates : goal.returns-then-seek-clause-updates
 returns-then-seek-clause-updates g c v = Updates-set_or_push g.met.K.Eq.laws _ _ _ v ((returns-then-seek-clause-acts g c).sets_or_pushes v)
 
 pub returns-then-seek-clause-inserts : goal.returns-then-seek-clause-inserts
-returns-then-seek-clause-inserts g c v = Updates-put g.met.K.Eq.laws c.args.self.now.mode _ _ _ v (acts_put (returns-then-seek-clause-acts g c) c.args.self.now.mode v)
+returns-then-seek-clause-inserts g c v = Updates-put g.met.K.Eq.laws c.args.self.now.mode _ _ _ v (put-ActsAs (returns-then-seek-clause-acts g c) c.args.self.now.mode v)
 
 pub returns-then-seek-clause-removes : goal.returns-then-seek-clause-removes
 returns-then-seek-clause-removes g c = Updates-without g.met.K.Eq.laws _ _ _ (returns-then-seek-clause-acts g c).removes

@@ -1,6 +1,7 @@
 use Rattle.std.proofs.Common.{Some, sym, ap, ◌∙◌}
 use Rattle.linked_hash_map.proofs.Indexes.{value_at-index}
-use Rattle.linked_hash_map.proofs.CutNodes.{IsIndex-HasKey, slice_get-held}
+use Rattle.linked_hash_map.proofs.FoundKeys.{IsIndex-HasKey}
+use Rattle.linked_hash_map.proofs.CutNodes.{slice_get-held}
 use Rattle.linked_hash_map.proofs.Kept.{distinct_keys}
 use Rattle.linked_hash_map.proofs.AbsentKeys.{value_at-IsAbsent}
 use Rattle.linked_hash_map.proofs.map.LinkedHashMap.get.Goals as goal

@@ -4,10 +4,11 @@ use Rattle.lhm_ring.specs.Spots.{spots}
 use Rattle.lhm_ring.specs.Positions.{pointer_of}
 use Rattle.lhm_ring.specs.Search.{HasKey, IsAbsent, CountsSome, CountsAll}
 use Rattle.linked_hash_map.specs.Hashers.{hash_by}
-use Rattle.linked_hash_map.proofs.Counts.{same-pairs, beside-pairs}
+use Rattle.linked_hash_map.proofs.LookupCounts.{same-spots, beside-spots}
 use Rattle.linked_hash_map.proofs.Indexes.{value_at-index}
 use Rattle.linked_hash_map.proofs.Options.{of-Some, of-None, of-OnSome}
-use Rattle.linked_hash_map.proofs.CutNodes.{IsIndex-HasKey, slice_get-held}
+use Rattle.linked_hash_map.proofs.FoundKeys.{IsIndex-HasKey}
+use Rattle.linked_hash_map.proofs.CutNodes.{slice_get-held}
 use Rattle.linked_hash_map.proofs.Kept.{IsValid-view, distinct_keys}
 use Rattle.linked_hash_map.proofs.AbsentKeys.{value_at-IsAbsent}
 use Rattle.linked_hash_map.proofs.map.LinkedHashMap.get_counted.Goals as goal
@@ -30,7 +31,7 @@ returns-in-Some-clause-compared_few g c =
     let hash = hash_by g.S.Hasher.Hasher.finish g.S.Hasher.Hasher.write g.S.BuildHasher.build_hasher g.K.Hash.hash_input m.hasher in
     let probe = c.find-found.result.1 in
     let counts = of-OnSome (CountsSome (spots m.table.held) (buckets m.table.capacity) c.hash_one-hash.result probe.visited probe.compared) c.find-found.result.0 c.in-Some.at c.in-Some.is c.find-found.ensures.counts_found in
-    rw (← c.self.view_is) (subst (λ n. probe.compared ≤ n) (same-pairs hash m.table.held c.args.key.now c.hash_one-hash.result c.hash_one-hash.ensures c.self.invariant.nodes.hashed) counts.compared_few)
+    rw (← c.self.view_is) (subst (λ n. probe.compared ≤ n) (same-spots hash m.table.held c.args.key.now c.hash_one-hash.result c.hash_one-hash.ensures c.self.invariant.nodes.hashed) counts.compared_few)
 
 pub returns-in-Some-clause-visited_few : goal.returns-in-Some-clause-visited_few
 returns-in-Some-clause-visited_few g c =
@@ -38,7 +39,7 @@ returns-in-Some-clause-visited_few g c =
     let hash = hash_by g.S.Hasher.Hasher.finish g.S.Hasher.Hasher.write g.S.BuildHasher.build_hasher g.K.Hash.hash_input m.hasher in
     let probe = c.find-found.result.1 in
     let counts = of-OnSome (CountsSome (spots m.table.held) (buckets m.table.capacity) c.hash_one-hash.result probe.visited probe.compared) c.find-found.result.0 c.in-Some.at c.in-Some.is c.find-found.ensures.counts_found in
-    rw (← c.self.view_is) (subst (λ n. probe.visited ≤ n) (beside-pairs hash m.table.held c.args.key.now c.hash_one-hash.result (buckets m.table.capacity) _ c.hash_one-hash.ensures refl c.self.invariant.nodes.hashed) counts.visited_few)
+    rw (← c.self.view_is) (subst (λ n. probe.visited ≤ n) (beside-spots hash m.table.held c.args.key.now c.hash_one-hash.result (buckets m.table.capacity) _ c.hash_one-hash.ensures refl c.self.invariant.nodes.hashed) counts.visited_few)
 
 pub returns-in-None-clause-value : goal.returns-in-None-clause-value
 returns-in-None-clause-value g c =
@@ -56,7 +57,7 @@ returns-in-None-clause-compared g c =
     let hash = hash_by g.S.Hasher.Hasher.finish g.S.Hasher.Hasher.write g.S.BuildHasher.build_hasher g.K.Hash.hash_input m.hasher in
     let probe = c.find-found.result.1 in
     let counts = of-None (CountsAll (spots m.table.held) (buckets m.table.capacity) c.hash_one-hash.result probe.visited probe.compared) c.find-found.result.0 c.in-None.is c.find-found.ensures.counts_absent in
-    rw (← c.self.view_is) (counts.compared_all ∙ same-pairs hash m.table.held c.args.key.now c.hash_one-hash.result c.hash_one-hash.ensures c.self.invariant.nodes.hashed)
+    rw (← c.self.view_is) (counts.compared_all ∙ same-spots hash m.table.held c.args.key.now c.hash_one-hash.result c.hash_one-hash.ensures c.self.invariant.nodes.hashed)
 
 pub returns-in-None-clause-visited : goal.returns-in-None-clause-visited
 returns-in-None-clause-visited g c =
@@ -64,4 +65,4 @@ returns-in-None-clause-visited g c =
     let hash = hash_by g.S.Hasher.Hasher.finish g.S.Hasher.Hasher.write g.S.BuildHasher.build_hasher g.K.Hash.hash_input m.hasher in
     let probe = c.find-found.result.1 in
     let counts = of-None (CountsAll (spots m.table.held) (buckets m.table.capacity) c.hash_one-hash.result probe.visited probe.compared) c.find-found.result.0 c.in-None.is c.find-found.ensures.counts_absent in
-    rw (← c.self.view_is) (counts.visited_all ∙ beside-pairs hash m.table.held c.args.key.now c.hash_one-hash.result (buckets m.table.capacity) _ c.hash_one-hash.ensures refl c.self.invariant.nodes.hashed)
+    rw (← c.self.view_is) (counts.visited_all ∙ beside-spots hash m.table.held c.args.key.now c.hash_one-hash.result (buckets m.table.capacity) _ c.hash_one-hash.ensures refl c.self.invariant.nodes.hashed)

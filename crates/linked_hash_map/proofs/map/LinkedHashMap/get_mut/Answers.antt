@@ -7,7 +7,8 @@ use Rattle.linked_hash_map.specs.Nodes.{beside}
 use Rattle.linked_hash_map.proofs.Callers.Updates.{Updates-set_value}
 use Rattle.linked_hash_map.proofs.Options.{of-Some, of-None}
 use Rattle.linked_hash_map.proofs.HeldPairs.{bare-change}
-use Rattle.linked_hash_map.proofs.CutNodes.{IsIndex-HasKey, slice_get-held, pairs_of-change_at}
+use Rattle.linked_hash_map.proofs.FoundKeys.{IsIndex-HasKey}
+use Rattle.linked_hash_map.proofs.CutNodes.{slice_get-held, pairs_of-change_at}
 use Rattle.linked_hash_map.proofs.Kept.{IsValid-view, map_of-revalued, distinct_keys}
 use Rattle.linked_hash_map.proofs.Current.{IsKept-with_value}
 use Rattle.linked_hash_map.proofs.Indexes.{value_at-index, set_value-index, is_some-index}

@@ -6,18 +6,18 @@ use Rattle.linked_hash_map.specs.Nodes.{map_of, beside, no_visit}
 use Rattle.linked_hash_map.proofs.Callers.Updates.{Updates-put}
 use Rattle.linked_hash_map.proofs.Options.{of-Some, of-None}
 use Rattle.linked_hash_map.proofs.Kept.{IsValid-view, distinct_keys}
-use Rattle.linked_hash_map.proofs.Current.{key_lies, key_index, found_lies}
+use Rattle.linked_hash_map.proofs.FoundKeys.{before-HasKey, IsIndex-before, before-HasKey_bare}
 use Rattle.linked_hash_map.proofs.PutPair.{touched_cut, pairs-put, value_at-touched, IsKept-put}
 use Rattle.linked_hash_map.proofs.AbsentKeys.{value_at-IsAbsent}
 use Rattle.linked_hash_map.proofs.map.LinkedHashMap.get_refresh.Goals as goal
 
 pub value_mut-requires : goal.value_mut-requires
-value_mut-requires g c = (touched_cut c.self.inside.table.held c.move_to_back.new.self.held (pointer_of c.in-Some.at) (key_lies (of-Some (λ p. HasKey g.K.PartialEq.eq c.hash_one-hash.result c.args.key.now c.self.inside.table.held (pointer_of p)) c.position.result c.in-Some.at c.in-Some.is c.position.ensures.found)) Touch (c.move_to_back.ensures.last, c.move_to_back.ensures.apart)).held
+value_mut-requires g c = (touched_cut c.self.inside.table.held c.move_to_back.new.self.held (pointer_of c.in-Some.at) (before-HasKey (of-Some (λ p. HasKey g.K.PartialEq.eq c.hash_one-hash.result c.args.key.now c.self.inside.table.held (pointer_of p)) c.position.result c.in-Some.at c.in-Some.is c.position.ensures.found)) Touch (c.move_to_back.ensures.last, c.move_to_back.ensures.apart)).held
 
 pub invariant_of-self-lent : goal.invariant_of-self-lent
 invariant_of-self-lent g c w =
     let moved = c.move_to_back.ensures in
-    IsKept-put g.met.K.Eq.laws c.move_to_back.new.self (pointer_of c.in-Some.at) c.self.invariant (found_lies (of-Some (λ p. HasKey g.K.PartialEq.eq c.hash_one-hash.result c.args.key.now c.self.inside.table.held (pointer_of p)) c.position.result c.in-Some.at c.in-Some.is c.position.ensures.found)) Touch (moved.last, moved.apart) moved.keeps.capacity w
+    IsKept-put g.met.K.Eq.laws c.move_to_back.new.self (pointer_of c.in-Some.at) c.self.invariant (before-HasKey_bare (of-Some (λ p. HasKey g.K.PartialEq.eq c.hash_one-hash.result c.args.key.now c.self.inside.table.held (pointer_of p)) c.position.result c.in-Some.at c.in-Some.is c.position.ensures.found)) Touch (moved.last, moved.apart) moved.keeps.capacity w
 
 pub returns-in-Some : goal.returns-in-Some
 returns-in-Some g c =
@@ -29,14 +29,14 @@ returns-in-Some g c =
       (λ i. inl (
         c.value_mut.result.ghost_name,
         λ w. record (map_of m.table (record (beside m) { visit = no_visit })) {
-          pairs = pairs-put c.self.inside.table.held c.move_to_back.new.self.held (pointer_of c.in-Some.at) (key_lies has) g.met.K.Eq.laws (key_index has) distinct Touch (moved.last, moved.apart) c.value_mut.ensures.alone w i;
+          pairs = pairs-put c.self.inside.table.held c.move_to_back.new.self.held (pointer_of c.in-Some.at) (before-HasKey has) g.met.K.Eq.laws (IsIndex-before has) distinct Touch (moved.last, moved.apart) c.value_mut.ensures.alone w i;
           capacity = moved.keeps.capacity i;
           rechained = moved.keeps.rechained i;
         },
       )),
       record {
         writes_back = tt;
-        value = value_at-touched c.self.inside.table.held c.move_to_back.new.self.held (pointer_of c.in-Some.at) (key_lies has) g.met.K.Eq.laws (key_index has) distinct Touch (moved.last, moved.apart) c.value_mut.ensures.value;
+        value = value_at-touched c.self.inside.table.held c.move_to_back.new.self.held (pointer_of c.in-Some.at) (before-HasKey has) g.met.K.Eq.laws (IsIndex-before has) distinct Touch (moved.last, moved.apart) c.value_mut.ensures.value;
         valid = IsValid-view c.self.invariant refl refl;
         updates = λ v. Updates-put g.met.K.Eq.laws Touch _ _ _ v refl;
       },

@@ -9,7 +9,7 @@ use Rattle.linked_hash_map.proofs.Pairs.{put-absent}
 use Rattle.linked_hash_map.proofs.Options.{of-Some, of-None}
 use Rattle.linked_hash_map.proofs.Kept.{distinct_keys, IsValid-view}
 use Rattle.linked_hash_map.proofs.AbsentKeys.{find-IsAbsent_map}
-use Rattle.linked_hash_map.proofs.Current.{key_lies, key_index, found_lies}
+use Rattle.linked_hash_map.proofs.FoundKeys.{before-HasKey, IsIndex-before, before-HasKey_bare}
 use Rattle.linked_hash_map.proofs.PutPair.{touched_cut, value_at-touched, pairs-put, length-put, IsKept-put}
 use Rattle.linked_hash_map.proofs.map.LinkedHashMap.insert.Goals as goal
 
@@ -25,16 +25,16 @@ absent g c =
     (of-None (IsAbsent g.K.PartialEq.eq c.hash_of-hash.result c.args.key m.table.held) c.position.result c.in_default.is c.position.ensures.absent)
 
 pub value_mut-requires : goal.value_mut-requires
-value_mut-requires g c = (touched_cut c.self.inside.table.held c.touch.new.table.held (pointer_of c.in-Some.at) (key_lies (of-Some (λ p. HasKey g.K.PartialEq.eq c.hash_of-hash.result c.args.key c.self.inside.table.held (pointer_of p)) c.position.result c.in-Some.at c.in-Some.is c.position.ensures.found)) c.self.inside.mode c.touch.ensures.touched).held
+value_mut-requires g c = (touched_cut c.self.inside.table.held c.touch.new.table.held (pointer_of c.in-Some.at) (before-HasKey (of-Some (λ p. HasKey g.K.PartialEq.eq c.hash_of-hash.result c.args.key c.self.inside.table.held (pointer_of p)) c.position.result c.in-Some.at c.in-Some.is c.position.ensures.found)) c.self.inside.mode c.touch.ensures.touched).held
 
 pub invariant_of-self : goal.invariant_of-self
-invariant_of-self g c = IsKept-put g.met.K.Eq.laws c.touch.new.table (pointer_of c.in-Some.at) c.self.invariant (found_lies (has g c)) c.self.inside.mode c.touch.ensures.touched c.touch.ensures.keeps.capacity c.replace.new.dest
+invariant_of-self g c = IsKept-put g.met.K.Eq.laws c.touch.new.table (pointer_of c.in-Some.at) c.self.invariant (before-HasKey_bare (has g c)) c.self.inside.mode c.touch.ensures.touched c.touch.ensures.keeps.capacity c.replace.new.dest
 
 pub returns-in-Some-clause-old : goal.returns-in-Some-clause-old
 returns-in-Some-clause-old g c =
     let there = has g c in
     rw (← c.self.view_is) (
-    ap Some c.replace.ensures.value ∙ value_at-touched c.self.inside.table.held c.touch.new.table.held (pointer_of c.in-Some.at) (key_lies there) g.met.K.Eq.laws (key_index there) (distinct_keys c.self.invariant) c.self.inside.mode c.touch.ensures.touched c.value_mut.ensures.value
+    ap Some c.replace.ensures.value ∙ value_at-touched c.self.inside.table.held c.touch.new.table.held (pointer_of c.in-Some.at) (before-HasKey there) g.met.K.Eq.laws (IsIndex-before there) (distinct_keys c.self.invariant) c.self.inside.mode c.touch.ensures.touched c.value_mut.ensures.value
     )
 
 pub returns-in-Some-clause-pairs : goal.returns-in-Some-clause-pairs
@@ -42,7 +42,7 @@ returns-in-Some-clause-pairs g c =
     let m = c.self.inside in
     let there = has g c in
     rw (← c.self.view_is) (
-    pairs-put m.table.held c.touch.new.table.held (pointer_of c.in-Some.at) (key_lies there) g.met.K.Eq.laws (key_index there) (distinct_keys c.self.invariant) m.mode c.touch.ensures.touched c.value_mut.ensures.alone c.replace.new.dest
+    pairs-put m.table.held c.touch.new.table.held (pointer_of c.in-Some.at) (before-HasKey there) g.met.K.Eq.laws (IsIndex-before there) (distinct_keys c.self.invariant) m.mode c.touch.ensures.touched c.value_mut.ensures.alone c.replace.new.dest
     ∙ ap (put g.K.PartialEq.eq m.mode (pairs_of m.table.held) c.args.key) c.replace.ensures.after
     )
 
@@ -56,7 +56,7 @@ pub returns-in-Some-clause-stays_valid : goal.returns-in-Some-clause-stays_valid
 returns-in-Some-clause-stays_valid g c = IsValid-view (invariant_of-self g c) refl refl
 
 pub returns-in-Some-clause-as_many : goal.returns-in-Some-clause-as_many
-returns-in-Some-clause-as_many g c = λ _. rw (← c.self.view_is) (length-put c.self.inside.table.held c.touch.new.table.held (pointer_of c.in-Some.at) (key_lies (has g c)) c.self.inside.mode c.touch.ensures.touched c.replace.new.dest)
+returns-in-Some-clause-as_many g c = λ _. rw (← c.self.view_is) (length-put c.self.inside.table.held c.touch.new.table.held (pointer_of c.in-Some.at) (before-HasKey (has g c)) c.self.inside.mode c.touch.ensures.touched c.replace.new.dest)
 
 pub returns-in-Some-clause-capacity : goal.returns-in-Some-clause-capacity
 returns-in-Some-clause-capacity g c =

@@ -8,11 +8,12 @@ use Rattle.linked_hash_map.specs.Nodes.{pairs_of, map_of, beside, visit_of}
 use Rattle.linked_hash_map.proofs.HeldPairs.{bare-change}
 use Rattle.linked_hash_map.proofs.CutNodes.{slice_get-held, pairs_of-change_at}
 use Rattle.linked_hash_map.proofs.Kept.{IsValid-view, map_of-revalued}
-use Rattle.linked_hash_map.proofs.Current.{cond-None, current_of-Some, current_at-Some, current_cut, IsKept-with_value, IsKept-left}
+use Rattle.linked_hash_map.proofs.Options.{cond-None}
+use Rattle.linked_hash_map.proofs.Current.{current_of-Some, current_at-Some, CutAt-current, IsKept-with_value, IsKept-left}
 use Rattle.linked_hash_map.proofs.map.LinkedHashMap.leave_current.Goals as goal
 
 pub value_mut-requires : goal.value_mut-requires
-value_mut-requires g c = (current_cut c.self.invariant (current_of-Some c.current.ensures c.unwrap-at.ensures)).held
+value_mut-requires g c = (CutAt-current c.self.invariant (current_of-Some c.current.ensures c.unwrap-at.ensures)).held
 
 pub invariant_of-self-lent : goal.invariant_of-self-lent
 invariant_of-self-lent g c w = IsKept-left (IsKept-with_value c.self.invariant (pointer_of c.unwrap-at.result) w) c.self.inside.visit.active
@@ -22,7 +23,7 @@ returns g c =
     let m = c.self.inside in
     let hs = m.table.held in
     let p = pointer_of c.unwrap-at.result in
-    let cut = current_cut c.self.invariant (current_of-Some c.current.ensures c.unwrap-at.ensures) in
+    let cut = CutAt-current c.self.invariant (current_of-Some c.current.ensures c.unwrap-at.ensures) in
     let h = cut.held in
     let index = current_at-Some (current_of-Some c.current.ensures c.unwrap-at.ensures) hs ∙ sym cut.long in
     rw (← c.self.view_is) (

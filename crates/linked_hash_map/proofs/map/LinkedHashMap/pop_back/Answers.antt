@@ -4,7 +4,7 @@ use Rattle.linked_hash_map.specs.Nodes.{pairs_of}
 use Rattle.linked_hash_map.proofs.HeldPairs.{length-pairs_of}
 use Rattle.linked_hash_map.proofs.CutNodes.{CutAt-before}
 use Rattle.linked_hash_map.proofs.Kept.{IsValid-view}
-use Rattle.linked_hash_map.proofs.Current.{last_lies, last_index}
+use Rattle.linked_hash_map.proofs.FirstAndLast.{before-last_at_within, before-last_at}
 use Rattle.linked_hash_map.proofs.Effects.{remove-last}
 use Rattle.linked_hash_map.proofs.Pairs.{find-none}
 use Rattle.linked_hash_map.proofs.Pops.{Updates-take_but_last}
@@ -12,25 +12,25 @@ use Rattle.linked_hash_map.proofs.TakenNode.{pair-removed, pairs-removed, IsKept
 use Rattle.linked_hash_map.proofs.map.LinkedHashMap.pop_back.Goals as goal
 
 pub remove_at-requires : goal.remove_at-requires
-remove_at-requires g c = (CutAt-before (pointer_of c.in_ok-back.back) c.self.inside.table.held (last_lies c.self.inside.table.held c.last.ensures.apart c.in_ok-back.ensures.last)).held
+remove_at-requires g c = (CutAt-before (pointer_of c.in_ok-back.back) c.self.inside.table.held (before-last_at_within c.self.inside.table.held c.last.ensures.apart c.in_ok-back.ensures.last)).held
 
 pub invariant_of-self : goal.invariant_of-self
-invariant_of-self g c = IsKept-removed c.self.invariant (last_lies c.self.inside.table.held c.last.ensures.apart c.in_ok-back.ensures.last) c.remove_at.ensures.others c.remove_at.ensures.keeps.capacity
+invariant_of-self g c = IsKept-removed c.self.invariant (before-last_at_within c.self.inside.table.held c.last.ensures.apart c.in_ok-back.ensures.last) c.remove_at.ensures.others c.remove_at.ensures.keeps.capacity
 
 pub returns-clause-pair : goal.returns-clause-pair
 returns-clause-pair g c =
     let hs = c.self.inside.table.held in
     rw (← c.self.view_is) (
-    sym (ap (slice_get (pairs_of hs)) (ap (λ k. k - 1) (length-pairs_of c.self.inside.table.held) ∙ sym (last_index c.self.inside.table.held c.last.ensures.apart c.in_ok-back.ensures.last))
-    ∙ pair-removed hs c.remove_at.new.self.held c.remove_at.ensures.others (last_lies c.self.inside.table.held c.last.ensures.apart c.in_ok-back.ensures.last) c.remove_at.ensures.pair)
+    sym (ap (slice_get (pairs_of hs)) (ap (λ k. k - 1) (length-pairs_of c.self.inside.table.held) ∙ sym (before-last_at c.self.inside.table.held c.last.ensures.apart c.in_ok-back.ensures.last))
+    ∙ pair-removed hs c.remove_at.new.self.held c.remove_at.ensures.others (before-last_at_within c.self.inside.table.held c.last.ensures.apart c.in_ok-back.ensures.last) c.remove_at.ensures.pair)
     )
 
 pub returns-clause-pairs : goal.returns-clause-pairs
 returns-clause-pairs g c =
     let hs = c.self.inside.table.held in
     rw (← c.self.view_is) (
-    pairs-removed hs c.remove_at.new.self.held c.remove_at.ensures.others (last_lies c.self.inside.table.held c.last.ensures.apart c.in_ok-back.ensures.last)
-    ∙ ap (remove (pairs_of hs)) (sym (ap (λ k. k - 1) (length-pairs_of c.self.inside.table.held) ∙ sym (last_index c.self.inside.table.held c.last.ensures.apart c.in_ok-back.ensures.last)))
+    pairs-removed hs c.remove_at.new.self.held c.remove_at.ensures.others (before-last_at_within c.self.inside.table.held c.last.ensures.apart c.in_ok-back.ensures.last)
+    ∙ ap (remove (pairs_of hs)) (sym (ap (λ k. k - 1) (length-pairs_of c.self.inside.table.held) ∙ sym (before-last_at c.self.inside.table.held c.last.ensures.apart c.in_ok-back.ensures.last)))
     ∙ remove-last (pairs_of hs)
     )
 

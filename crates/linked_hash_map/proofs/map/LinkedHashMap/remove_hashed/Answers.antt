@@ -8,7 +8,7 @@ use Rattle.linked_hash_map.proofs.Pairs.{filter-none}
 use Rattle.linked_hash_map.proofs.Kept.{distinct_keys, IsValid-view}
 use Rattle.linked_hash_map.proofs.AbsentKeys.{find-IsAbsent_map}
 use Rattle.linked_hash_map.proofs.Indexes.{without-index, value_at-slice_get}
-use Rattle.linked_hash_map.proofs.Current.{key_lies, key_index}
+use Rattle.linked_hash_map.proofs.FoundKeys.{before-HasKey, IsIndex-before}
 use Rattle.linked_hash_map.proofs.TakenNode.{pair-removed, pairs-removed, IsKept-removed}
 use Rattle.linked_hash_map.proofs.map.LinkedHashMap.remove_hashed.Goals as goal
 
@@ -43,15 +43,15 @@ returns-in_err-pair-clause-stays_valid g c =
 pub invariant_of-self-2 : goal.invariant_of-self-2
 invariant_of-self-2 g c =
     let removed = c.in_ok-pair.ensures.removed in
-    IsKept-removed c.self.invariant (key_lies removed.has) removed.others c.in_ok-pair.ensures.keeps.capacity
+    IsKept-removed c.self.invariant (before-HasKey removed.has) removed.others c.in_ok-pair.ensures.keeps.capacity
 
 pub returns-clause-value : goal.returns-clause-value
 returns-clause-value g c =
     let m = c.self.inside in
     let removed = c.in_ok-pair.ensures.removed in
     rw (← c.self.view_is) (
-    sym (value_at-slice_get g.met.K.Eq.laws (distinct_keys c.self.invariant) (key_index removed.has)
-    ∙ ap (option_map (λ pair. pair.1)) (pair-removed m.table.held c.remove.new.self.held removed.others (key_lies removed.has) removed.pair_is))
+    sym (value_at-slice_get g.met.K.Eq.laws (distinct_keys c.self.invariant) (IsIndex-before removed.has)
+    ∙ ap (option_map (λ pair. pair.1)) (pair-removed m.table.held c.remove.new.self.held removed.others (before-HasKey removed.has) removed.pair_is))
     )
 
 pub returns-clause-pairs : goal.returns-clause-pairs
@@ -59,8 +59,8 @@ returns-clause-pairs g c =
     let m = c.self.inside in
     let removed = c.in_ok-pair.ensures.removed in
     rw (← c.self.view_is) (
-    pairs-removed m.table.held c.remove.new.self.held removed.others (key_lies removed.has)
-    ∙ sym (without-index g.met.K.Eq.laws (distinct_keys c.self.invariant) (key_index removed.has))
+    pairs-removed m.table.held c.remove.new.self.held removed.others (before-HasKey removed.has)
+    ∙ sym (without-index g.met.K.Eq.laws (distinct_keys c.self.invariant) (IsIndex-before removed.has))
     )
 
 pub returns-clause-valid : goal.returns-clause-valid

@@ -5,7 +5,8 @@ use Rattle.linked_hash_map.specs.Nodes.{beside}
 use Rattle.linked_hash_map.proofs.Options.{of-Some, of-None}
 use Rattle.linked_hash_map.proofs.Kept.{IsValid-view}
 use Rattle.linked_hash_map.proofs.AbsentKeys.{find-IsAbsent_map}
-use Rattle.linked_hash_map.proofs.Current.{IsKept-visited, found_lies, found_index}
+use Rattle.linked_hash_map.proofs.Current.{IsKept-visited}
+use Rattle.linked_hash_map.proofs.FoundKeys.{before-HasKey_bare, IsIndex-before_bare}
 use Rattle.linked_hash_map.proofs.map.LinkedHashMap.seek.Goals as goal
 
 -- a position that is found is that of the key
@@ -15,10 +16,10 @@ has g c = of-Some (λ p. HasKey g.K.PartialEq.eq c.args.hash c.args.key.now c.se
 pub invariant_of-self : goal.invariant_of-self
 invariant_of-self g c =
     let at = c.at-self-inside.ensures in
-    rw (at.bookmark, at.unvisited, at.current) (IsKept-visited c.self.invariant (Some (pointer_of c.in-Some.at)) (found_lies (has g c)))
+    rw (at.bookmark, at.unvisited, at.current) (IsKept-visited c.self.invariant (Some (pointer_of c.in-Some.at)) (before-HasKey_bare (has g c)))
 
 pub returns-clause-found : goal.returns-clause-found
-returns-clause-found g c found = rw (← c.self.view_is, c.at-self-inside.ensures.current) (found_index (has g c))
+returns-clause-found g c found = rw (← c.self.view_is, c.at-self-inside.ensures.current) (IsIndex-before_bare (has g c))
 
 pub returns-clause-valid : goal.returns-clause-valid
 returns-clause-valid g c = rw (← c.self.view_is) (IsValid-view c.self.invariant refl refl)

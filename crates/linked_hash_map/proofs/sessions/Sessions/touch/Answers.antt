@@ -1,7 +1,11 @@
-use Rattle.std.proofs.Common.{option_map, refl, sym, ap, ◌∙◌}
+use Rattle.std.proofs.Common.{◌≡◌, ◌⊎◌, inl, option_map, refl, sym, ap, ◌∙◌}
 use Rattle.linked_hash_map.specs.SessionTables.{session_table}
-use Rattle.linked_hash_map.proofs.SessionPairs.{IsValidTable-kept, IsKeptWithin-refreshed, sessions_of-refreshed, lends_alike, payload_of-sessions_of, payload_of-with_last_here, payload_of-with_last_apart}
+use Rattle.linked_hash_map.proofs.SessionPairs.{IsValidTable-kept, IsKeptWithin-refreshed, sessions_of-refreshed, payload_of-sessions_of, payload_of-with_last_here, payload_of-with_last_apart}
 use Rattle.linked_hash_map.proofs.sessions.Sessions.touch.Goals as goal
+
+-- two tables that a reference is lent out of are the same if each value written leaves the two so
+inl-same : {N A B C : Type 0} {name : N} {f g : A → B} → ((x : A) → f x ≡ g x) → ◌≡◌ {A = (N × (A → B)) ⊎ C} (inl (name, f)) (inl (name, g))
+inl-same {name = name} same = λ i. inl (name, λ x. same x i)
 
 pub invariant_of-self-lent : goal.invariant_of-self-lent
 invariant_of-self-lent g c = IsKeptWithin-refreshed c.self.inside.map c.args.id (sym c.in-Some.ensures.value) c.self.invariant
@@ -10,7 +14,7 @@ pub returns-in-Some : goal.returns-in-Some
 returns-in-Some g c =
     let m = c.self.inside in
     rw (← c.self.view_is) (
-      lends_alike (λ payload. ap (λ sessions. session_table sessions m.limit) (sessions_of-refreshed m.map c.args.id (sym c.in-Some.ensures.value) payload)),
+      inl-same (λ payload. ap (λ sessions. session_table sessions m.limit) (sessions_of-refreshed m.map c.args.id (sym c.in-Some.ensures.value) payload)),
       record {
         writes_back = tt;
         payload = ap (option_map (λ weighted. weighted.payload)) c.in-Some.ensures.value ∙ sym (payload_of-sessions_of m.map.pairs c.args.id);

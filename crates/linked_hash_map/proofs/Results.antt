@@ -1,0 +1,10 @@
+-- What is said of a result, in either case.
+use Rattle.std.proofs.Common.{Result, Ok, Err, OnOk, OnErr}
+
+pub OnOk-given : {A E : Type 0} (Given P : Type 0) (r : Result A E) → OnOk r P → OnOk r (Given → P)
+OnOk-given Given P (Ok x) p = λ _. p
+OnOk-given Given P (Err y) p = tt
+
+pub OnErr-always : {A E P : Type 0} (r : Result A E) → P → OnErr r P
+OnErr-always (Ok x) p = tt
+OnErr-always (Err y) p = p
