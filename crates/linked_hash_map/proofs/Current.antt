@@ -1,21 +1,17 @@
 -- The pair at the current index.
-use Rattle.std.proofs.Common.{◌≡◌, ℕ, suc, ◌+◌, ◌-◌, ◌<◌, ◌≤◌, ◌⊎◌, Bool, true, false, cond, List, [], ◌∷◌, map, length, slice_get, Option, Some, None, refl, sym, ap, ◌∙◌, subst, arith}
+use Rattle.std.proofs.Common.{◌≡◌, ℕ, ◌+◌, ◌<◌, ◌≤◌, ◌⊎◌, Bool, true, false, cond, List, length, Option, Some, None, refl, sym, ap, ◌∙◌, subst, arith}
 use denote.RawPtr.{Ptr}
 use Rattle.lhm_ring.specs.Positions.{pointer_of, pointer_of_some}
-use Rattle.lhm_ring.specs.Cells.{same_ptr, IsApart}
-use Rattle.lhm_ring.specs.RingState.{Held, first_at, last_of, last_at}
+use Rattle.lhm_ring.specs.RingState.{Held}
 use Rattle.lhm_ring.specs.Tables.{TableState}
 use Rattle.lhm_ring.specs.TableAfterLoan.{with_value}
-use Rattle.lhm_ring.specs.Search.{HasKey}
-use Rattle.lhm_ring.proofs.Apart.{IsFresh, same_ptr-reflexive, IsFresh-head, IsApart-tail}
 use Rattle.lhm_ring.specs.declared.position.Position.{Position}
 use Rattle.linked_hash_map.specs.LinkedMap.{LinkedMap, CursorState}
 use Rattle.linked_hash_map.specs.Cursor.{IsOutside}
-use Rattle.linked_hash_map.specs.Indexes.{IsIndex}
-use Rattle.linked_hash_map.specs.Nodes.{VisitState, no_visit, pairs_of, bare, before, current_at, cursor_at, Lies, AreKept, IsKept}
+use Rattle.linked_hash_map.specs.Nodes.{VisitState, no_visit, bare, before, current_at, cursor_at, Lies, AreKept, IsKept}
 use Rattle.linked_hash_map.proofs.HeldPairs.{bare-change, length-bare, before-bare}
-use Rattle.linked_hash_map.proofs.CutNodes.{CutAt, CutAt-before, slice_get-held}
-use Rattle.linked_hash_map.proofs.Outside.{IsElsewhere, before_held}
+use Rattle.linked_hash_map.proofs.CutNodes.{CutAt, CutAt-before}
+use Rattle.linked_hash_map.proofs.Outside.{IsElsewhere}
 
 -- the index is the number of nodes before the pointer
 pub current_at-Some : {K V : Type 0} {o : Option Ptr} {p : Ptr} → o ≡ Some p → (hs : List (Held (K × V))) → current_at o (bare hs) ≡ before p hs

@@ -1,15 +1,14 @@
 -- The nodes, cut at one of them: the pair there, and its index.
-use Rattle.std.proofs.Common.{◌≡◌, ℕ, suc, ◌+◌, ◌<◌, Bool, true, false, cond, List, [], ◌∷◌, ◌++◌, map, length, slice_get, remove, Some, refl, sym, ap, ◌∙◌, subst, arith}
+use Rattle.std.proofs.Common.{◌≡◌, suc, ◌+◌, ◌<◌, true, false, cond, List, [], ◌∷◌, ◌++◌, map, length, slice_get, remove, Some, refl, sym, ap, ◌∙◌, subst, arith}
 use denote.RawPtr.{Ptr}
 use Rattle.lhm_ring.specs.Cells.{same_ptr, IsApart}
 use Rattle.lhm_ring.specs.RingState.{Held, change_at, IsHeld}
 use Rattle.lhm_ring.specs.Tables.{WritesOnly}
 use Rattle.lhm_ring.specs.RingAfterLoan.{revalued}
-use Rattle.lhm_ring.specs.Search.{HasKey}
 use Rattle.lhm_ring.proofs.Apart.{same_ptr-equal, same_ptr-reflexive, IsFresh-head, IsApart-tail}
 use Rattle.lhm_ring.proofs.HeldPointers.{same_ptr-fresh}
 use Rattle.linked_hash_map.specs.Nodes.{pairs_of, before}
-use Rattle.linked_hash_map.specs.Indexes.{IsIndex, set_value_at}
+use Rattle.linked_hash_map.specs.Indexes.{set_value_at}
 use Rattle.linked_hash_map.proofs.HeldPairs.{length-pairs_of, pairs_of-append}
 use Rattle.linked_hash_map.proofs.Indexes.{set_value_at-append}
 use Rattle.linked_hash_map.proofs.Lists.{slice_get-append, remove-append}
