@@ -1,5 +1,5 @@
 //! Lines, words and numbers in bytes.
-ghost use Rattle.std.specs.Prelude.{◌<◌, ◌≤◌, ◌≡◌, ◌∷◌, [], false, length, slice_index, IfSome, SomeIff, MatchOption};
+ghost use Rattle.std.specs.Prelude.{◌<◌, ◌≤◌, ◌≡◌, ◌∷◌, [], false, length, slice_index, SomeIff, MatchOption};
 ghost use Rattle.std.specs.Str.Parse.{digits_value};
 ghost use Rattle.lhm.specs.Grammar.{lines_of, is_separator, words_of, IsNumber};
 
