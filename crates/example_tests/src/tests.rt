@@ -4,3 +4,4 @@ mod caches;
 mod checks;
 mod documentation;
 mod programs;
+mod replays;

@@ -10,7 +10,7 @@ use Rattle.linked_hash_map.specs.declared.map.Mode.TheVariants.{Touch, Keep}
 use Rattle.linked_hash_map.specs.Log.{Event, Put, Write, Refresh, Remove, RemoveAll, Need, Fit, SetMode, Log, moves, mode, touched, put_key, ends, written, live, stored, value, pair_of, stands, standing, pairs}
 use Rattle.linked_hash_map.specs.Pairs.{key_or, find, without, to_back, set_value, put}
 use Rattle.linked_hash_map.proofs.Lists.{option_or_none}
-use Rattle.linked_hash_map.proofs.Pairs.{filter-none, to_back-absent, put-absent, put-present}
+use Rattle.linked_hash_map.proofs.Pairs.{filter-none, to_back-absent, put-absent, set_or_push-present}
 use Rattle.linked_hash_map.proofs.Standing.{live-snoc, stored-snoc, value-snoc, standing-snoc, keeps}
 use Rattle.linked_hash_map.proofs.LiveKeys.{stored-live, pair_of-live, stored-same, pair_of-same, same_test, any-standing, none_is}
 
@@ -246,7 +246,7 @@ module _ {K V : Type 0} {eq : K → K → Bool} (laws : IsEquivalence eq) where
       by_mode : (m : Mode) (l : Bool) → mode log ≡ m → live (eq k) log ≡ l → pairs eq (log ++ Put k v ∷ []) ≡ put eq m (pairs eq log) k v
       by_mode Touch l is at_k = pairs-put_moved laws log k v (ap (λ m. moves m (live (eq k) log)) is)
       by_mode Keep true is at_k =
-          pairs-put_in_place log k v (rw (is, at_k) refl) ∙ put-present eq (pairs eq log) k v (there ∙ at_k)
+          pairs-put_in_place log k v (rw (is, at_k) refl) ∙ sym (set_or_push-present eq (pairs eq log) k v (there ∙ at_k))
       by_mode Keep false is at_k =
           let absent = none_is (find eq (pairs eq log) k) (there ∙ at_k) in
           pairs-put_moved laws log k v (rw (is, at_k) refl)

@@ -16,7 +16,7 @@ use Rattle.linked_hash_map.specs.Pairs.{value_at, put}
 use Rattle.linked_hash_map.specs.Indexes.{IsIndex, set_value_at}
 use Rattle.linked_hash_map.specs.Touches.{IsTouched}
 use Rattle.linked_hash_map.proofs.Indexes.{slice_get-set_value_at, length-others, set_value_at-pushed, slice_get-pushed, set_value-index, is_some-index, to_back-index, value_at-slice_get}
-use Rattle.linked_hash_map.proofs.Pairs.{put-present}
+use Rattle.linked_hash_map.proofs.Pairs.{set_or_push-present}
 use Rattle.linked_hash_map.proofs.HeldPairs.{bare-change, before-bare, length-pairs_of, length-same}
 use Rattle.linked_hash_map.proofs.CutNodes.{CutAt, CutAt-before, slice_get-held, pairs_of-change_at}
 use Rattle.linked_hash_map.proofs.Current.{current_at-Some, before-current, IsKept-visited, IsKept-with_value}
@@ -78,7 +78,7 @@ module _ {K V : Type 0} (hs ks : List (Held (K × V))) (p : Ptr) (lies : before 
         ∙ sym (to_back-index laws distinct index index.there w)
     pairs-put Keep same alone w =
         set-touched Keep same alone w ∙ ap (λ (ns : List (Held (K × V))). set_value_at (pairs_of ns) (before p ns) w) same
-        ∙ sym (set_value-index laws distinct index w) ∙ put-present eq (pairs_of hs) k w (is_some-index laws distinct index)
+        ∙ sym (set_value-index laws distinct index w) ∙ sym (set_or_push-present eq (pairs_of hs) k w (is_some-index laws distinct index))
 
     pub value_at-touched : (mode : Mode) → IsTouched mode p hs ks → {v : V} → AtHeld ks p (λ xs t ys. v ≡ t.pair.1) → Some v ≡ value_at eq (pairs_of hs) k
     value_at-touched mode touched at = sym (value_at-slice_get laws distinct index ∙ value-touched mode touched at)

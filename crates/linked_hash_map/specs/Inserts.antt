@@ -70,7 +70,7 @@ module _ {T I K V : Type 0} (becomes : T → I → Type 0) (steps : I → Option
     pub given : List (K × V)
     pub gives : Drains steps iterator given
     pub pairs : contents ≡ insert_each eq Touch [] given
-    pub room : capacity ≡ max lower (length contents)
+    pub capacity_is : capacity ≡ max lower (length contents)
     pub counted : rechained ≡ rechained_each 0 lower (capacity - lower)
 
   -- it becomes an iterator whose hint may be a lower bound above `LIMIT`

@@ -1,12 +1,10 @@
-//! Each program except the caches, run once.
+//! Each program except the caches and the replays, run once.
 ghost use Rattle.std.specs.Prelude.{◌≡◌, ◌∷◌, [], Ok};
 
 use super::checks::{check, check_eq, given};
-use linked_hash_map::replay::{Answer, Command, Reply};
 use linked_hash_map::{LinkedHashMap, Mode};
 use std::alloc::Global;
 use std::fmt::Debug;
-use std::hash::{BuildHasher, RandomState};
 use std::process::Abort;
 use uses::collecting::{collect_all, insert_all, insert_both, merge};
 use uses::count::counts_of;
@@ -22,7 +20,6 @@ use uses::modes::insert_in_place;
 use uses::numbered::{Numbered, add_both};
 use uses::queue::Queue;
 use uses::refusal::{insert_anyway, insert_if_new};
-use uses::replaying::{Outcome, replay_under_two_hashers, write_refresh_remove};
 use uses::retains::{age, keep_frequent};
 use uses::text::{age_of, first_page, note_age, note_pages};
 use uses::window::Window;
@@ -137,73 +134,6 @@ fn pairs_come_and_go(rt: HostRuntime) {
     );
 }
 
-#[test]
-fn commands_are_replayed(rt: HostRuntime) {
-    let mut map = three_pairs(&rt, rt.alloc());
-    let replies = given!(rt; write_refresh_remove(rt.alloc(), &mut map, (2, 21), 1, 3));
-    let wanted = [
-        reply(Answer::Old(20), 3, 3),
-        reply(Answer::Found, 3, 3),
-        reply(Answer::Old(30), 2, 3),
-    ];
-    check_eq!(rt; replies.as_slice(), wanted.as_slice());
-    check_eq!(rt;
-        given!(rt; into_list(rt.alloc(), map)).as_slice(),
-        [(2, 21), (1, 10)].as_slice()
-    );
-}
-
-/// Makes commands that insert two pairs, and the first key again.
-fn three_insertions(rt: &impl Abort, alloc: Global) -> Vec<Command<u64, u64>>
-    ensures { result.items ≡ Command.Insert 1 10 ∷ Command.Insert 2 20 ∷ Command.Insert 1 11 ∷ [] }
-{
-    let commands = [
-        Command::Insert(1, 10),
-        Command::Insert(2, 20),
-        Command::Insert(1, 11),
-    ];
-    value_in(rt, Vec::from_array(alloc, commands))
-}
-
-/// Makes a reply.
-fn reply(answer: Answer<u64, u64>, len: usize, capacity: usize) -> Reply<u64, u64> {
-    Reply {
-        answer,
-        len,
-        capacity,
-    }
-}
-
-/// Checks what comes of those commands on an empty map, and which pairs the map has then.
-fn check_insertions<S: BuildHasher + Drop>(
-    rt: &impl Abort,
-    alloc: Global,
-    map: LinkedHashMap<u64, u64, S>,
-    outcome: Outcome<u64, u64>,
-) {
-    let wanted = [
-        reply(Answer::New, 1, 1),
-        reply(Answer::New, 2, 2),
-        reply(Answer::Old(10), 2, 2),
-    ];
-    check_eq!(rt; given!(rt; outcome).as_slice(), wanted.as_slice());
-    check_eq!(rt;
-        given!(rt; into_list(alloc, map)).as_slice(),
-        [(2, 20), (1, 11)].as_slice()
-    );
-}
-
-#[test]
-fn two_hashers_give_the_same_replies(rt: HostRuntime) {
-    let mut map = LinkedHashMap::new(rt.alloc());
-    let mut other = LinkedHashMap::with_hasher(rt.alloc(), given!(rt; RandomState::new(&rt)));
-    let commands = three_insertions(&rt, rt.alloc());
-    let copies = three_insertions(&rt, rt.alloc());
-    let (one, another) = replay_under_two_hashers(&mut map, &mut other, commands, copies);
-    check_insertions(&rt, rt.alloc(), map, one);
-    check_insertions(&rt, rt.alloc(), other, another);
-}
-
 /// Makes a map of two pairs.
 fn two_pairs(rt: &impl Abort, alloc: Global) -> LinkedHashMap<u64, u64>
     ensures pairs { result.pairs ≡ (1, 10) ∷ (2, 20) ∷ [] }
@@ -216,7 +146,7 @@ fn two_pairs(rt: &impl Abort, alloc: Global) -> LinkedHashMap<u64, u64>
 }
 
 /// Makes a map of three pairs.
-fn three_pairs(rt: &impl Abort, alloc: Global) -> LinkedHashMap<u64, u64>
+pub fn three_pairs(rt: &impl Abort, alloc: Global) -> LinkedHashMap<u64, u64>
     ensures { result.pairs ≡ (1, 10) ∷ (2, 20) ∷ (3, 30) ∷ [] }
 {
     let mut map = two_pairs(rt, alloc);

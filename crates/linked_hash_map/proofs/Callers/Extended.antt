@@ -83,7 +83,7 @@ module _ {T I K V : Type 0} {becomes : T → I → Type 0} {steps : I → Option
         let lower = collects.hint bound.0 in
         let most = length-insert_each_most laws Touch [] all (distinct-nil eq) in
         let length_is = ap length (pairs-Collects each) in
-        let room = collects.room in
+        let capacity_is = collects.capacity_is in
         (omega arith, omega arith)
 
     -- and if their keys differ, it is that number, and the pairs are the items

@@ -36,11 +36,11 @@ is_refusal-pair_or_empty (Some pair) = refl
 -- it defines these pairs, this capacity and this mode
 pub record Replied {K V : Type 0} (eq : K → K → Bool) (start : ℕ) (log : Log K V)
     (command : Command K V) (reply : Reply K V) (answer : Answer K V) (contents : List (K × V))
-    (room : ℕ) (mode : Mode) : Type 0 where
+    (capacity : ℕ) (mode : Mode) : Type 0 where
   pub answer_is : reply.answer ≡ answer
   pub len_is : reply.len ≡ length contents
-  pub capacity_is : reply.capacity ≡ room
-  pub defines : Defines eq start (log_after eq log command reply.answer) contents room mode
+  pub capacity_is : reply.capacity ≡ capacity
+  pub defines : Defines eq start (log_after eq log command reply.answer) contents capacity mode
 
 module _ {K V : Type 0} {eq : K → K → Bool} (laws : IsEquivalence eq) {start : ℕ} {log : Log K V} where
   replied : (command : Command K V) (reply : Reply K V) → IsReply eq start log command reply → {answer : Answer K V} {later : List (K × V)} {capacity : ℕ} {m : Mode} → reply.answer ≡ answer → Defines eq start (log_after eq log command reply.answer) later capacity m → Replied eq start log command reply answer later capacity m
@@ -51,95 +51,95 @@ module _ {K V : Type 0} {eq : K → K → Bool} (laws : IsEquivalence eq) {start
     defines = after;
   }
 
-module _ {K V : Type 0} {eq : K → K → Bool} (laws : IsEquivalence eq) {start : ℕ} {log : Log K V} {contents : List (K × V)} {room : ℕ} {mode : Mode} where
+module _ {K V : Type 0} {eq : K → K → Bool} (laws : IsEquivalence eq) {start : ℕ} {log : Log K V} {contents : List (K × V)} {capacity : ℕ} {mode : Mode} where
   -- any command that is not refused
   pub Replied-given : (command : Command K V) (reply : Reply K V)
-      → Defines eq start log contents room mode → IsReply eq start log command reply
+      → Defines eq start log contents capacity mode → IsReply eq start log command reply
       → IsFalse (is_refusal reply.answer)
       → Replied eq start log command reply (answer_to eq contents command)
-      (pairs_after eq mode contents command) (capacity_after eq mode room contents command)
+      (pairs_after eq mode contents command) (capacity_after eq mode capacity contents command)
       (mode_after mode command)
   Replied-given command reply defines is given =
       let done = outcome laws defines command reply.answer is.allowed.answers given in
       replied laws command reply is done.0 done.1
 
   -- the commands that are never refused
-  Replied-write : (k : K) (v : V) (reply : Reply K V) → Defines eq start log contents room mode
+  Replied-write : (k : K) (v : V) (reply : Reply K V) → Defines eq start log contents capacity mode
       → IsReply eq start log (Write k v) reply
       → Replied eq start log (Write k v) reply (old_or (Absent k v) (value_at eq contents k))
-      (set_value eq contents k v) room mode
+      (set_value eq contents k v) capacity mode
   Replied-write k v reply defines is = let done = write_outcome laws defines k v reply.answer is.allowed.answers in replied laws (Write k v) reply is done.0 done.1
 
-  Replied-refresh : (k : K) (reply : Reply K V) → Defines eq start log contents room mode
+  Replied-refresh : (k : K) (reply : Reply K V) → Defines eq start log contents capacity mode
       → IsReply eq start log (Refresh k) reply
       → Replied eq start log (Refresh k) reply (cond (is_some (find eq contents k)) Found Missing)
-      (to_back_if_some eq contents k (value_at eq contents k)) room mode
+      (to_back_if_some eq contents k (value_at eq contents k)) capacity mode
   Replied-refresh k reply defines is = let done = refresh_outcome laws defines k reply.answer is.allowed.answers in replied laws (Refresh k) reply is done.0 done.1
 
-  Replied-remove : (k : K) (reply : Reply K V) → Defines eq start log contents room mode
+  Replied-remove : (k : K) (reply : Reply K V) → Defines eq start log contents capacity mode
       → IsReply eq start log (Remove k) reply
       → Replied eq start log (Remove k) reply (old_or Missing (value_at eq contents k))
-      (without eq contents k) room mode
+      (without eq contents k) capacity mode
   Replied-remove k reply defines is = let done = remove_outcome laws defines k reply.answer is.allowed.answers in replied laws (Remove k) reply is done.0 done.1
 
-  Replied-entry_remove : (k : K) (reply : Reply K V) → Defines eq start log contents room mode
+  Replied-entry_remove : (k : K) (reply : Reply K V) → Defines eq start log contents capacity mode
       → IsReply eq start log (EntryRemove k) reply
       → Replied eq start log (EntryRemove k) reply (old_or Missing (value_at eq contents k))
-      (without eq contents k) room mode
+      (without eq contents k) capacity mode
   Replied-entry_remove k reply defines is = let done = remove_outcome laws defines k reply.answer is.allowed.answers in replied laws (EntryRemove k) reply is done.0 done.1
 
-  Replied-pop_front : (reply : Reply K V) → Defines eq start log contents room mode
+  Replied-pop_front : (reply : Reply K V) → Defines eq start log contents capacity mode
       → IsReply eq start log PopFront reply
       → Replied eq start log PopFront reply (pair_or_empty (slice_get contents 0))
-      (drop 1 contents) room mode
+      (drop 1 contents) capacity mode
   Replied-pop_front reply defines is = let done = pop_front_outcome laws defines reply.answer is.allowed.answers in replied laws PopFront reply is done.0 done.1
 
-  Replied-pop_back : (reply : Reply K V) → Defines eq start log contents room mode
+  Replied-pop_back : (reply : Reply K V) → Defines eq start log contents capacity mode
       → IsReply eq start log PopBack reply
       → Replied eq start log PopBack reply
       (pair_or_empty (slice_get contents (length contents - 1)))
-      (take (length contents - 1) contents) room mode
+      (take (length contents - 1) contents) capacity mode
   Replied-pop_back reply defines is = let done = pop_back_outcome laws defines reply.answer is.allowed.answers in replied laws PopBack reply is done.0 done.1
 
-  Replied-clear : (reply : Reply K V) → Defines eq start log contents room mode
-      → IsReply eq start log Clear reply → Replied eq start log Clear reply Done [] room mode
+  Replied-clear : (reply : Reply K V) → Defines eq start log contents capacity mode
+      → IsReply eq start log Clear reply → Replied eq start log Clear reply Done [] capacity mode
   Replied-clear reply defines is = let done = clear_outcome laws defines reply.answer is.allowed.answers in replied laws Clear reply is done.0 done.1
 
-  Replied-set_mode : (m : Mode) (reply : Reply K V) → Defines eq start log contents room mode
+  Replied-set_mode : (m : Mode) (reply : Reply K V) → Defines eq start log contents capacity mode
       → IsReply eq start log (SetMode m) reply
-      → Replied eq start log (SetMode m) reply Done contents room m
+      → Replied eq start log (SetMode m) reply Done contents capacity m
   Replied-set_mode m reply defines is = let done = set_mode_outcome laws defines m reply.answer is.allowed.answers in replied laws (SetMode m) reply is done.0 done.1
 
   pub is_refusal-write : (k : K) (v : V) (reply : Reply K V)
-      → Defines eq start log contents room mode → IsReply eq start log (Write k v) reply
+      → Defines eq start log contents capacity mode → IsReply eq start log (Write k v) reply
       → IsFalse (is_refusal reply.answer)
   is_refusal-write k v reply defines is = ap is_refusal (Replied-write k v reply defines is).answer_is ∙ is_refusal-old_or (Absent k v) refl (value_at eq contents k)
 
-  pub is_refusal-refresh : (k : K) (reply : Reply K V) → Defines eq start log contents room mode
+  pub is_refusal-refresh : (k : K) (reply : Reply K V) → Defines eq start log contents capacity mode
       → IsReply eq start log (Refresh k) reply → IsFalse (is_refusal reply.answer)
   is_refusal-refresh k reply defines is = ap is_refusal (Replied-refresh k reply defines is).answer_is ∙ elim (is_some (find eq contents k)) as (λ b. is_refusal {K = K} {V = V} (cond b Found Missing) ≡ false) [ true ↦ refl | false ↦ refl ]
 
-  pub is_refusal-remove : (k : K) (reply : Reply K V) → Defines eq start log contents room mode
+  pub is_refusal-remove : (k : K) (reply : Reply K V) → Defines eq start log contents capacity mode
       → IsReply eq start log (Remove k) reply → IsFalse (is_refusal reply.answer)
   is_refusal-remove k reply defines is = ap is_refusal (Replied-remove k reply defines is).answer_is ∙ is_refusal-old_or Missing refl (value_at eq contents k)
 
   pub is_refusal-entry_remove : (k : K) (reply : Reply K V)
-      → Defines eq start log contents room mode → IsReply eq start log (EntryRemove k) reply
+      → Defines eq start log contents capacity mode → IsReply eq start log (EntryRemove k) reply
       → IsFalse (is_refusal reply.answer)
   is_refusal-entry_remove k reply defines is = ap is_refusal (Replied-entry_remove k reply defines is).answer_is ∙ is_refusal-old_or Missing refl (value_at eq contents k)
 
-  pub is_refusal-pop_front : (reply : Reply K V) → Defines eq start log contents room mode
+  pub is_refusal-pop_front : (reply : Reply K V) → Defines eq start log contents capacity mode
       → IsReply eq start log PopFront reply → IsFalse (is_refusal reply.answer)
   is_refusal-pop_front reply defines is = ap is_refusal (Replied-pop_front reply defines is).answer_is ∙ is_refusal-pair_or_empty (slice_get contents 0)
 
-  pub is_refusal-pop_back : (reply : Reply K V) → Defines eq start log contents room mode
+  pub is_refusal-pop_back : (reply : Reply K V) → Defines eq start log contents capacity mode
       → IsReply eq start log PopBack reply → IsFalse (is_refusal reply.answer)
   is_refusal-pop_back reply defines is = ap is_refusal (Replied-pop_back reply defines is).answer_is ∙ is_refusal-pair_or_empty (slice_get contents (length contents - 1))
 
-  pub is_refusal-clear : (reply : Reply K V) → Defines eq start log contents room mode
+  pub is_refusal-clear : (reply : Reply K V) → Defines eq start log contents capacity mode
       → IsReply eq start log Clear reply → IsFalse (is_refusal reply.answer)
   is_refusal-clear reply defines is = ap is_refusal (Replied-clear reply defines is).answer_is
 
-  pub is_refusal-set_mode : (m : Mode) (reply : Reply K V) → Defines eq start log contents room mode
+  pub is_refusal-set_mode : (m : Mode) (reply : Reply K V) → Defines eq start log contents capacity mode
       → IsReply eq start log (SetMode m) reply → IsFalse (is_refusal reply.answer)
   is_refusal-set_mode m reply defines is = ap is_refusal (Replied-set_mode m reply defines is).answer_is

@@ -37,35 +37,35 @@ never_refused _ = false
 module _ {K V : Type 0} {eq : K → K → Bool} (laws : IsEquivalence eq) where
   -- a run on a log that defines these pairs and this capacity
   replies-given : (mode : Mode) (commands : List (Command K V)) (replies : List (Reply K V))
-      (log : Log K V) (contents : List (K × V)) (start room : ℕ)
-      → Defines eq start log contents room mode → IsRun eq start log commands replies
-      → NoneRefused replies → replies ≡ replies_to eq mode room contents commands
-  replies-given mode [] [] log contents start room defines run given = refl
-  replies-given mode [] (reply ∷ replies) log contents start room defines run given = absurd run
-  replies-given mode (command ∷ commands) [] log contents start room defines run given = absurd run
-  replies-given mode (command ∷ commands) (reply ∷ replies) log contents start room defines run given =
+      (log : Log K V) (contents : List (K × V)) (start capacity : ℕ)
+      → Defines eq start log contents capacity mode → IsRun eq start log commands replies
+      → NoneRefused replies → replies ≡ replies_to eq mode capacity contents commands
+  replies-given mode [] [] log contents start capacity defines run given = refl
+  replies-given mode [] (reply ∷ replies) log contents start capacity defines run given = absurd run
+  replies-given mode (command ∷ commands) [] log contents start capacity defines run given = absurd run
+  replies-given mode (command ∷ commands) (reply ∷ replies) log contents start capacity defines run given =
       let refused = is_refusal reply.answer in
       let later = list_any (λ (r : Reply K V). is_refusal r.answer) replies in
       let replied = Replied-given laws command reply defines run.0 (none_first refused later given) in
       ap₂ (λ r rs. r ∷ rs)
       (λ i. record { answer = replied.answer_is i; len = replied.len_is i; capacity = replied.capacity_is i })
-      (replies-given (mode_after mode command) commands replies (log_after eq log command reply.answer) (pairs_after eq mode contents command) start (capacity_after eq mode room contents command) replied.defines run.1 (none_later refused later given))
+      (replies-given (mode_after mode command) commands replies (log_after eq log command reply.answer) (pairs_after eq mode contents command) start (capacity_after eq mode capacity contents command) replied.defines run.1 (none_later refused later given))
 
   Defines-given : (mode : Mode) (commands : List (Command K V)) (replies : List (Reply K V))
-      (log : Log K V) (contents : List (K × V)) (start room : ℕ)
-      → Defines eq start log contents room mode → IsRun eq start log commands replies
+      (log : Log K V) (contents : List (K × V)) (start capacity : ℕ)
+      → Defines eq start log contents capacity mode → IsRun eq start log commands replies
       → NoneRefused replies
       → Defines eq start (last_log eq log commands replies)
       (pairs_after_all eq mode contents commands)
-      (capacity_after_all eq mode room contents commands) (mode_after_all mode commands)
-  Defines-given mode [] [] log contents start room defines run given = defines
-  Defines-given mode [] (reply ∷ replies) log contents start room defines run given = absurd run
-  Defines-given mode (command ∷ commands) [] log contents start room defines run given = absurd run
-  Defines-given mode (command ∷ commands) (reply ∷ replies) log contents start room defines run given =
+      (capacity_after_all eq mode capacity contents commands) (mode_after_all mode commands)
+  Defines-given mode [] [] log contents start capacity defines run given = defines
+  Defines-given mode [] (reply ∷ replies) log contents start capacity defines run given = absurd run
+  Defines-given mode (command ∷ commands) [] log contents start capacity defines run given = absurd run
+  Defines-given mode (command ∷ commands) (reply ∷ replies) log contents start capacity defines run given =
       let refused = is_refusal reply.answer in
       let later = list_any (λ (r : Reply K V). is_refusal r.answer) replies in
       let replied = Replied-given laws command reply defines run.0 (none_first refused later given) in
-      Defines-given (mode_after mode command) commands replies (log_after eq log command reply.answer) (pairs_after eq mode contents command) start (capacity_after eq mode room contents command) replied.defines run.1 (none_later refused later given)
+      Defines-given (mode_after mode command) commands replies (log_after eq log command reply.answer) (pairs_after eq mode contents command) start (capacity_after eq mode capacity contents command) replied.defines run.1 (none_later refused later given)
 
 both_hold : (a b : Bool) → (a && b) ≡ true → (a ≡ true) × (b ≡ true)
 both_hold true b h = (refl, h)
@@ -73,7 +73,7 @@ both_hold false b h = absurd (true≢false (sym h))
 
 -- commands that are never refused get no such reply
 module _ {K V : Type 0} {eq : K → K → Bool} (laws : IsEquivalence eq) (start : ℕ) where
-  is_refusal-never : {log : Log K V} {contents : List (K × V)} {room : ℕ} {mode : Mode} → Defines eq start log contents room mode → (command : Command K V) (reply : Reply K V) → IsReply eq start log command reply → never_refused command ≡ true → is_refusal reply.answer ≡ false
+  is_refusal-never : {log : Log K V} {contents : List (K × V)} {capacity : ℕ} {mode : Mode} → Defines eq start log contents capacity mode → (command : Command K V) (reply : Reply K V) → IsReply eq start log command reply → never_refused command ≡ true → is_refusal reply.answer ≡ false
   is_refusal-never defines (Write k v) reply is never = is_refusal-write laws k v reply defines is
   is_refusal-never defines (Refresh k) reply is never = is_refusal-refresh laws k reply defines is
   is_refusal-never defines (Remove k) reply is never = is_refusal-remove laws k reply defines is
@@ -90,15 +90,15 @@ module _ {K V : Type 0} {eq : K → K → Bool} (laws : IsEquivalence eq) (start
   is_refusal-never defines (Reserve additional) reply is never = absurd (true≢false (sym never))
   is_refusal-never defines Shrink reply is never = absurd (true≢false (sym never))
 
-  NoneRefused-run : (commands : List (Command K V)) (replies : List (Reply K V)) (log : Log K V) (contents : List (K × V)) (room : ℕ) (mode : Mode) → Defines eq start log contents room mode → IsRun eq start log commands replies → list_all never_refused commands ≡ true → NoneRefused replies
-  NoneRefused-run [] [] log contents room mode defines run never = refl
-  NoneRefused-run [] (reply ∷ replies) log contents room mode defines run never = absurd run
-  NoneRefused-run (command ∷ commands) [] log contents room mode defines run never = absurd run
-  NoneRefused-run (command ∷ commands) (reply ∷ replies) log contents room mode defines run never =
+  NoneRefused-run : (commands : List (Command K V)) (replies : List (Reply K V)) (log : Log K V) (contents : List (K × V)) (capacity : ℕ) (mode : Mode) → Defines eq start log contents capacity mode → IsRun eq start log commands replies → list_all never_refused commands ≡ true → NoneRefused replies
+  NoneRefused-run [] [] log contents capacity mode defines run never = refl
+  NoneRefused-run [] (reply ∷ replies) log contents capacity mode defines run never = absurd run
+  NoneRefused-run (command ∷ commands) [] log contents capacity mode defines run never = absurd run
+  NoneRefused-run (command ∷ commands) (reply ∷ replies) log contents capacity mode defines run never =
       let both = both_hold (never_refused command) (list_all never_refused commands) never in
       let given = is_refusal-never defines command reply run.0 both.0 in
       let replied = Replied-given laws command reply defines run.0 given in
-      ap₂ (λ a b. a || b) given (NoneRefused-run commands replies (log_after eq log command reply.answer) (pairs_after eq mode contents command) (capacity_after eq mode room contents command) (mode_after mode command) replied.defines run.1 both.1)
+      ap₂ (λ a b. a || b) given (NoneRefused-run commands replies (log_after eq log command reply.answer) (pairs_after eq mode contents command) (capacity_after eq mode capacity contents command) (mode_after mode command) replied.defines run.1 both.1)
 
 module _ {K V S : Type 0} {eq : K → K → Bool} (laws : IsEquivalence eq) {old new : LinkedMap K V S} {commands : List (Command K V)} {replies : List (Reply K V)} (valid : IsValid eq old) (replayed : Replayed eq old commands replies new) where
   -- of a whole run: what `replay` returned, and what the map holds
@@ -130,11 +130,11 @@ module _ {K V S : Type 0} {eq : K → K → Bool} (laws : IsEquivalence eq) {old
   replies-replayed_never_refused = replies-replayed laws valid replayed none ∙ ap (replies_to eq old.mode old.capacity old.pairs) are
 
 -- the answers do not rest on the capacity
-answers-replies_to : {K V : Type 0} (eq : K → K → Bool) (commands : List (Command K V)) (contents : List (K × V)) (room other : ℕ) (mode : Mode) → map (λ reply. reply.answer) (replies_to eq mode room contents commands) ≡ map (λ reply. reply.answer) (replies_to eq mode other contents commands)
-answers-replies_to eq [] contents room other mode = refl
-answers-replies_to eq (command ∷ commands) contents room other mode =
-    ap (λ answers. (reply_to eq mode room contents command).answer ∷ answers)
-    (answers-replies_to eq commands (pairs_after eq mode contents command) (capacity_after eq mode room contents command) (capacity_after eq mode other contents command) (mode_after mode command))
+answers-replies_to : {K V : Type 0} (eq : K → K → Bool) (commands : List (Command K V)) (contents : List (K × V)) (capacity other : ℕ) (mode : Mode) → map (λ reply. reply.answer) (replies_to eq mode capacity contents commands) ≡ map (λ reply. reply.answer) (replies_to eq mode other contents commands)
+answers-replies_to eq [] contents capacity other mode = refl
+answers-replies_to eq (command ∷ commands) contents capacity other mode =
+    ap (λ answers. (reply_to eq mode capacity contents command).answer ∷ answers)
+    (answers-replies_to eq commands (pairs_after eq mode contents command) (capacity_after eq mode capacity contents command) (capacity_after eq mode other contents command) (mode_after mode command))
 
 module _ {K V S T : Type 0} {eq : K → K → Bool} (laws : IsEquivalence eq) {old new : LinkedMap K V S} {old' new' : LinkedMap K V T} {commands : List (Command K V)} {replies replies' : List (Reply K V)} (valid : IsValid eq old) (valid' : IsValid eq old') (replayed : Replayed eq old commands replies new) (replayed' : Replayed eq old' commands replies' new') (same : old.pairs ≡ old'.pairs) (alike : old.mode ≡ old'.mode) (given : NoneRefused replies) (given' : NoneRefused replies') where
   -- two runs of the same commands on maps with the same pairs and the same mode, whatever their

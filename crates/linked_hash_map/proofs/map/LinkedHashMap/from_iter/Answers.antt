@@ -39,7 +39,7 @@ returns-in-Ok-clause-all g c =
       given = given;
       gives = subst (λ it. Drains g.I.IntoIter.Iterator.next_gives it given) gives.made gives.gives;
       pairs = took.all.pairs ∙ (λ i. insert_each g.K.PartialEq.eq (made.mode i) (made.pairs i) (map-id given i));
-      room = took.capacity ∙ ap (λ room. max room (length c.extend.new.self.pairs)) made.capacity;
+      capacity_is = took.capacity ∙ ap (λ room. max room (length c.extend.new.self.pairs)) made.capacity;
       counted = took.rechained ∙ (λ i. rechained_each (made.rechained i) (made.capacity i) (c.extend.new.self.capacity - made.capacity i));
     }
 
