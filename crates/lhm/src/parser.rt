@@ -8,7 +8,7 @@ use super::grammar::{number, split_line, split_word};
 use super::stop::Stop;
 use linked_hash_map::Mode;
 use linked_hash_map::replay::{Command, PairList};
-use std::alloc::{AllocError, AllocFailed, Global};
+use std::alloc::{AllocFailed, Global};
 
 /// The error of words that say no command.
 #[derive(Clone, Copy, Debug, PartialEq)]

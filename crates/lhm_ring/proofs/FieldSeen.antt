@@ -1,7 +1,7 @@
 -- One proof for each function that shows a field of a node through a `&`. Assumes `Logic`.
 --     links_lent, key_lent, value_lent      what a lent node lends of each field
---     Seen, field_seen      what is found at the pointer that is passed, and that a function of this
---     code then meets its contract
+--     Seen, field_seen      what is found at the pointer passed, and that a function of this code
+--     then meets its contract
 use Rattle.std.proofs.Common.{◌≡◌, ℕ, ◌+◌, List, [], ◌∷◌, ◌++◌, refl, sym, ap, ◌∙◌, subst, Some, Option}
 use mathlib.Core.Option.{some}
 use seplogic.Ra.Ura.{Ura}

@@ -1,15 +1,15 @@
 -- A node is put into its chain, and all nodes are, one after another.
 use Rattle.std.proofs.Common.{◌≡◌, ℕ, ◌+◌, ◌%◌, ◌<◌, ◌≤◌, List, [], ◌∷◌, ◌++◌, inl, inr, refl, sym, ◌∙◌, ap, subst, length, get_or, set, arith, Option, Some, None, true, append_assoc, length-append, append-nil}
 use Rattle.std.proofs.lemmas.Bool.{cases_lt}
-use Rattle.std.proofs.lemmas.List.{length-map, length-set}
+use Rattle.std.proofs.lemmas.List.{length-set}
 use denote.RawPtr.{Ptr}
 use Rattle.lhm_ring.specs.RingState.{Held, IsHeld, AtHeld, linked_to, first_at}
 use Rattle.lhm_ring.specs.Index.{Indexes}
 use Rattle.lhm_ring.specs.Spots.{spot, spots}
 use Rattle.lhm_ring.specs.Search.{OfNodeAt, entries, HoldsOthers, HasNoChain, IsChained, Chains, IsRechained}
 use Rattle.lhm_ring.specs.Filters.{may_contain, CoversAll}
-use Rattle.lhm_ring.proofs.Ends.{First, First-first_at}
-use Rattle.lhm_ring.proofs.Entries.{IsHeld-kept, entries-link}
+use Rattle.lhm_ring.proofs.Ends.{First, First-first_at, none-first_at}
+use Rattle.lhm_ring.proofs.Entries.{IsHeld-kept, entries-link, length-same_entries}
 use Rattle.lhm_ring.proofs.Filters.{CoversAll-more, CoversAll-append}
 use Rattle.lhm_ring.proofs.Spots.{PutsIn-spots}
 use Rattle.lhm_ring.proofs.WholeIndex.{Indexes-put, Indexes-none}
@@ -48,10 +48,6 @@ length-chained p heads heads' nodes nodes' c h =
 
 -- ---- all nodes are rehashed
 
-none-first_at : {B : Type 0} (hs : List (Held B)) → None ≡ first_at hs → hs ≡ []
-none-first_at [] e = refl
-none-first_at (t ∷ hs) e = absurd (cc)
-
 pub IsRechained-start : {K V : Type 0} (heads : List (Option Ptr)) (words : List ℕ) (nodes : List (Held (K × V))) (pointer : Option Ptr) (buckets : ℕ) → HasNoChain heads → pointer ≡ first_at nodes → length heads ≡ buckets → IsRechained heads words nodes nodes pointer 0 buckets
 IsRechained-start heads words nodes pointer buckets h e n = record { done = []; rest = nodes; is = refl; indexed = Indexes-none heads h; covers = λ _. tt; pointer_is = e; count_is = refl; kept = refl; buckets_is = n }
 
@@ -60,13 +56,10 @@ IsHeld-rechained {K} {V} {pointer = pointer} p e w =
     let g : First w.rest p = First-first_at w.rest pointer p w.pointer_is e in
     record { before = w.done; node = g.node; after = g.after; is = w.is ∙ ap (λ (v : List (Held (K × V))). w.done ++ v) g.is; at_is = g.at_is }
 
-length-kept : {K V : Type 0} (old new : List (Held (K × V))) → entries new ≡ entries old → length new ≡ length old
-length-kept old new e = sym (length-map new (linked_to None)) ∙ ap length e ∙ length-map old (linked_to None)
-
 pub count-rechained : {K V : Type 0} {heads : List (Option Ptr)} {words : List ℕ} {old nodes : List (Held (K × V))} {pointer : Option Ptr} {count buckets : ℕ} (p : Ptr) → pointer ≡ Some p → IsRechained heads words old nodes pointer count buckets → count + 1 ≤ length old
 count-rechained {K} {V} {heads} {words} {old} {nodes} p e w =
     let g : IsHeld nodes p = IsHeld-rechained p e w in
-    let a : length nodes ≡ length old = length-kept old nodes w.kept in
+    let a : length nodes ≡ length old = length-same_entries nodes old w.kept in
     let b : length nodes ≡ length (w.done ++ g.node ∷ g.after) = ap length g.is in
     let c : length (w.done ++ g.node ∷ g.after) ≡ length w.done + length (g.node ∷ g.after) = length-append w.done (g.node ∷ g.after) in
     let d = w.count_is in

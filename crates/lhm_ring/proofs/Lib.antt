@@ -51,6 +51,7 @@ pub mod SameNodes
 pub mod Searches
 pub mod Sharing
 pub mod Spans
+pub mod SpareRows
 pub mod Splicing
 pub mod Spots
 pub mod Stacking

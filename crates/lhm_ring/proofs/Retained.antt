@@ -10,7 +10,7 @@ use Rattle.lhm_ring.specs.Retains.{TakesAt, CallsAt, RetainsAt, RetainsHeld, IsR
 use Rattle.lhm_ring.proofs.Apart.{same_ptr-reflexive, IsFresh-head, IsApart-tail}
 use Rattle.lhm_ring.proofs.Ends.{First, First-first_at}
 use Rattle.lhm_ring.proofs.HeldPointers.{pointers_of, pointers_of-append, same_ptr-fresh, IsApart-without_node}
-use Rattle.lhm_ring.proofs.Tables.{EntriesCut-split}
+use Rattle.lhm_ring.proofs.Entries.{EntriesCut-split}
 
 -- what a node holds is written twice
 module _ {L B : Type 0} where

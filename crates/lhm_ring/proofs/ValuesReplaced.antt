@@ -17,6 +17,7 @@ use Rattle.lhm_ring.proofs.HeldPointers.{AllByRecursion-followed, IsApart-ring_l
 use Rattle.lhm_ring.proofs.ListFacts.{AllByRecursion-map, AllByRecursion-always}
 use Rattle.lhm_ring.proofs.Options.{none_some, Some-injective}
 use Rattle.lhm_ring.proofs.SameNodes.{SameLink, follow-same, RingOk-same}
+use Rattle.lhm_ring.proofs.Writes.{content_of-links}
 
 -- whether p is one of ps
 abbrev pub among : List Ptr → Ptr → Bool
@@ -141,10 +142,6 @@ module _ {K V : Type 0} where
   Full-written true hs q None f = absurd (none_some f.0 f.1)
   Full-written true hs q (Some x) f = (pair x.0 (value_in hs q x.1), refl)
 
-  some_links : (q : Ptr) (o : Option Links) (b : Option (K × V)) (t : Held (K × V)) → content_of q o b ≡ Some t → (l : Links) × (o ≡ Some l)
-  some_links q None b t e = absurd (none_some t e)
-  some_links q (Some l) b t e = (l, refl)
-
   one_of-written : (hs : List (Held (K × V))) (p : Ptr) (o : Option Links) (b : Option (K × V)) (r s : List (Held (K × V))) → r ≡ revalued_by hs s
       → one_of (content_of p o (written_body true hs p b)) ++ r ≡ revalued_by hs (one_of (content_of p o b) ++ s)
   one_of-written hs p None b r s e = e
@@ -160,7 +157,7 @@ module _ {K V : Type 0} where
 
     HasContent-written : (q : Ptr) → HasContent cs q → HasContent ds q
     HasContent-written q h =
-        let l = some_links q (links_at cs q) (body_at cs q) h.0 h.1 in let y = Full-written (keep q) hs q (body_at cs q) (content_of-holds q (links_at cs q) (body_at cs q) h.0 h.1) in (
+        let l = content_of-links q (links_at cs q) (body_at cs q) h.0 h.1 in let y = Full-written (keep q) hs q (body_at cs q) (content_of-holds q (links_at cs q) (body_at cs q) h.0 h.1) in (
           held q l.0.hash (link_of (Some l.0)) y.0,
           λ i. content_of q ((same q ∙ l.1) i) ((body_at-written keep hs cs q ∙ y.1) i),
         )

@@ -64,9 +64,6 @@ module _ {B : Type 0} where
   content_of-links p (Some l) b t e = (l, refl)
 
 module _ {B : Type 0} (p : Ptr) (l : Links) where
-  written : Cell Links B → Cell Links B
-  written c = cell c.at l c.body
-
   pub links_at-with_links : (cs : List (Cell Links B)) (la : Links) → links_at cs p ≡ Some la → (q : Ptr) → links_at (with_links p l cs) q ≡ cond (same_ptr p q) (Some l) (links_at cs q)
   links_at-with_links cs la e q =
       let c = links_of-seen (cell_at cs p) la e in

@@ -223,7 +223,8 @@ impl<K, V> Index<K, V> {
         count
     }
 
-    /// Does what `take_over` does, and sets the bits of the hashes in a filter of as many words.
+    /// Replaces the buckets by fresh ones, rehashes all held nodes, sets the bits of their hashes in
+    /// a filter of as many words, and returns how many nodes, in O(n).
     pub(crate) fn rehash(
         &mut self,
         fresh: Index<K, V>,

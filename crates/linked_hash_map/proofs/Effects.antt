@@ -169,7 +169,7 @@ module _ {K V : Type 0} {eq : K → K → Bool} (laws : IsEquivalence eq) {start
   }
 
   -- the keys that a log defines are different
-  distinct-contents : IsDistinct eq (keys_of contents)
+  pub distinct-contents : IsDistinct eq (keys_of contents)
   distinct-contents = subst (λ es. IsDistinct eq (keys_of es)) defines.same_pairs (distinct-pairs laws log)
 
   -- after the pair at an index is taken out

@@ -8,7 +8,7 @@ use Rattle.lhm_ring.specs.Positions.{pointer_of, pointer_of_some}
 use Rattle.lhm_ring.specs.declared.position.Position.{Position}
 use Rattle.lhm_ring.specs.RingState.{Held, IsHeld, AtHeld, triples}
 use Rattle.lhm_ring.specs.Tables.{TableState}
-use Rattle.lhm_ring.proofs.Tables.{length-same_triples}
+use Rattle.lhm_ring.proofs.Entries.{length-same_triples}
 use Rattle.linked_hash_map.specs.Nodes.{VisitState, IsKept, HasBehind, Lies, pairs_of, bare, before, bookmark_at}
 use Rattle.linked_hash_map.proofs.HeldPairs.{length-bare, keys-bare, pairs-triples}
 use Rattle.linked_hash_map.proofs.CutNodes.{CutAt, CutAt-before}

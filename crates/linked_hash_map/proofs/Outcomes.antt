@@ -3,8 +3,6 @@
 use Rattle.std.proofs.Common.{◌≡◌, ℕ, ◌+◌, ◌-◌, ◌<◌, ◌≤◌, max, Bool, true, false, cond, nat_lt, List, [], ◌∷◌, ◌++◌, length, take, drop, slice_get, append_assoc, Option, Some, None, is_some, option_map, refl, sym, ap, ap₂, ◌∙◌, subst, true≢false, arith}
 use Rattle.std.proofs.lemmas.Bool.{ltb-true, lt-ltb}
 use Rattle.std.specs.Option.{IsSome, option_zip}
-use Rattle.std.specs.List.{IsDistinct}
-use Rattle.std.specs.Map.{keys_of}
 use Rattle.std.specs.Cmp.{IsEquivalence}
 use Rattle.linked_hash_map.specs.declared.map.TheConstants.{LIMIT}
 use Rattle.linked_hash_map.specs.Log.{Log, Put, put_each, stored, value, pair_of, pairs, Defines}
@@ -19,9 +17,8 @@ use Rattle.linked_hash_map.specs.declared.replay.Answer.{Answer}
 use Rattle.linked_hash_map.specs.declared.replay.Answer.TheVariants.{New, Old, Found, Missing, Absent, Refused, Pair, Empty, Pairs, Stopped, Done, TooLarge, NoRoom}
 use Rattle.linked_hash_map.proofs.LiveKeys.{none_is, stored-live}
 use Rattle.linked_hash_map.proofs.Pairs.{is_some-value_at, set_value-none, without-absent, to_back-absent, put-absent}
-use Rattle.linked_hash_map.proofs.Distinct.{distinct-pairs}
 use Rattle.linked_hash_map.proofs.HighWater.{size-high}
-use Rattle.linked_hash_map.proofs.Effects.{size-contents, the_pair, live-found, Defines-nothing, Defines-put, Defines-remove, Defines-write, Defines-refresh, Defines-remove_all, Defines-reserve, Defines-shrink, Defines-pop_front, Defines-pop_back, Defines-set_mode}
+use Rattle.linked_hash_map.proofs.Effects.{size-contents, the_pair, live-found, Defines-nothing, Defines-put, Defines-remove, Defines-write, Defines-refresh, Defines-remove_all, Defines-reserve, Defines-shrink, Defines-pop_front, Defines-pop_back, Defines-set_mode, distinct-contents}
 use Rattle.linked_hash_map.proofs.Inserts.{length-insert_each_least}
 
 value_of_zip : {K V : Type 0} (s : Option K) (w : Option V) (v : V) → is_some s ≡ true → w ≡ Some v → option_map (λ pair. pair.1) (option_zip s w) ≡ Some v
@@ -37,9 +34,6 @@ module _ {K V : Type 0} {eq : K → K → Bool} (laws : IsEquivalence eq) {start
       let within = size-high eq start log in
       let room_is = defines.same_capacity in
       omega arith
-
-  pub distinct-defined : IsDistinct eq (keys_of contents)
-  distinct-defined = subst (λ ps. IsDistinct eq (keys_of ps)) defines.same_pairs (distinct-pairs laws log)
 
   -- what the log says of a key, the pairs say
   pub find-absent_in_log : (k : K) → IsAbsent eq log k → find eq contents k ≡ None
@@ -72,7 +66,7 @@ Defines-put_each {K} {V} {eq} laws {start} mode (item ∷ items) log contents ca
     let whole = length all in
     let went_in = Defines-put laws defines item.0 item.1 refl refl refl in
     let rest = Defines-put_each laws mode items (log ++ Put item.0 item.1 ∷ []) one first went_in in
-    let grows = length-insert_each_least laws mode one items (distinct-defined laws went_in) in
+    let grows = length-insert_each_least laws mode one items (distinct-contents laws went_in) in
     let most : max first whole ≡ max capacity whole = omega arith in
     subst (λ later. Defines eq start later all (max capacity whole) mode) (append_assoc log (Put item.0 item.1 ∷ []) (put_each items))
     (subst (λ capacity. Defines eq start ((log ++ Put item.0 item.1 ∷ []) ++ put_each items) all capacity mode) most rest)

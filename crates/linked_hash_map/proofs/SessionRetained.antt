@@ -1,5 +1,5 @@
 -- The sessions that a closure keeps.
-use Rattle.std.proofs.Common.{◌≡◌, ℕ, ◌+◌, ◌≤◌, Bool, true, false, cond, List, [], ◌∷◌, filter, inl, inr, refl, sym, ap, ◌∙◌, subst, arith}
+use Rattle.std.proofs.Common.{◌≡◌, ℕ, ◌+◌, ◌≤◌, Bool, true, false, cond, List, [], ◌∷◌, inl, inr, refl, sym, ap, ◌∙◌, subst, arith}
 use Rattle.std.specs.Borrow.{MutBor}
 use Rattle.std.specs.List.{FoldsTo}
 use Rattle.std.specs.Map.Calls.{CallableOnEachPair, SomeCallAtPair, RetainsPairs}
@@ -38,15 +38,6 @@ module _ {F T : Type 0} (g : Mut F (ℕ × (ℕ × (MutBor T × Unit {0}))) (Boo
   -- a closure that may always be called may be called again after each call
   pub always-called : (f : F) (session : Session T) (b : Bool) (payload : T) (f' : F) → CalledAtSession g f session b payload f' → always_mut g f → always_mut g f'
   always-called f session b payload f' call always = mut_next g _ _ _ _ _ call.called refl always
-
-  -- a closure that only tests, and stays as it was, leaves a filter
-  module _ (test : Session T → Bool) (f : F) (says : (session : Session T) (b : Bool) (payload : T) (f' : F) → CalledAtSession g f session b payload f' → (b ≡ test session) × (payload ≡ session.2) × (f' ≡ f)) where
-    pub filter-retained_sessions : (sessions kept : List (Session T)) → RetainsSessions g f sessions kept → kept ≡ filter test sessions
-    filter-retained_sessions [] kept r = r
-    filter-retained_sessions (session ∷ sessions) kept r =
-        let said = says session r.returned r.payload r.closure r.called in
-        let rest = filter-retained_sessions sessions r.rest (subst (λ f'. RetainsSessions g f' sessions r.rest) said.2 r.retained) in
-        r.kept_is ∙ (λ i. cond (said.0 i) ((session.0, session.1, said.1 i) ∷ rest i) (rest i))
 
 -- the weight of the first of the sessions that pairs stand for, and of the others
 pub total_weight-next : {T : Type 0} (pairs : List (ℕ × Weighted T)) (pair : ℕ × Weighted T) (rest : List (ℕ × Weighted T)) → pairs ≡ pair ∷ rest → total_weight (sessions_of pairs) ≡ pair.1.weight + total_weight (sessions_of rest)

@@ -1,5 +1,5 @@
 //! How the sessions of a table are stored. No function here drops a payload.
-ghost use Rattle.std.specs.Prelude.{◌≡◌, ◌+◌, ◌-◌, ◌<◌, ◌≤◌, ◌++◌, [], length, drop, nat_eq, not, is_some, None, option_map, IsTrue, IfOk, OnOk, OnErr, vec_len, vec_capacity};
+ghost use Rattle.std.specs.Prelude.{◌≡◌, ◌+◌, ◌<◌, ◌≤◌, ◌++◌, [], length, drop, nat_eq, not, is_some, None, option_map, IsTrue, IfOk, OnOk, OnErr, vec_len, vec_capacity};
 ghost use Rattle.linked_hash_map.specs.Pairs as pairs;
 ghost use Rattle.linked_hash_map.specs.SessionTables.{session_of, payload_of, total_weight, without, with_last, fit};
 ghost use Rattle.linked_hash_map.specs.Validity.{IsValid};

@@ -1,4 +1,4 @@
-ghost use Rattle.std.specs.Prelude.{◌≡◌, ◌++◌, ◌∷◌, [], cond, is_some, nat_eq, IsTrue, IsFalse, OnOk, OnErr};
+ghost use Rattle.std.specs.Prelude.{◌≡◌, cond, is_some, nat_eq, IsTrue, IsFalse, OnOk, OnErr};
 ghost use Rattle.linked_hash_map.specs.Pairs.{find, set_value, set_or_push};
 
 use super::calls::{assert_empty, assert_get, assert_sizes, check_insert};

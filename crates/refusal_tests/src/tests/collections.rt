@@ -1,6 +1,6 @@
 //! Maps that are collected, whose items are dropped if one is refused.
 
-use super::checks::{check, check_eq, given};
+use super::checks::{check_eq, given};
 use super::say_if_given;
 use linked_hash_map::{LinkedHashMap, ReserveError};
 use std::alloc::{AllocError, Global};

@@ -2,7 +2,7 @@
 
 use super::checks::{check, check_eq, given};
 use super::say_given;
-use linked_hash_map::sessions::{Put, PutReason, PutRefused, Sessions};
+use linked_hash_map::sessions::{PutReason, PutRefused, Sessions};
 use std::process::Abort;
 
 type Session = (u64, u64, &'static str);

@@ -1,5 +1,5 @@
 //! The index, beside its ring.
-ghost use Rattle.std.specs.Prelude.{◌≡◌, ◌+◌, ◌<◌, length, IfNone, OnOk, OnErr};
+ghost use Rattle.std.specs.Prelude.{◌≡◌, ◌+◌, ◌<◌, IfNone, OnOk, OnErr};
 ghost use Rattle.lhm_ring.specs.Search.{IsAbsent};
 
 use super::checks::check_eq;

@@ -137,3 +137,18 @@ fn iter(rt: HostRuntime) -> Result<(), Fail> {
     assert_eq!(rt; sessions.len(), 1);
     Ok(())
 }
+
+/// The example of `Sessions::retain`.
+#[test]
+fn retain_sessions(rt: HostRuntime) -> Result<(), Fail> {
+    let mut table = Sessions::new(rt.alloc(), 10);
+    table.put(1, 4, "a")?;
+    table.put(2, 3, "b")?;
+    table.retain(|_id, weight, payload| {
+        *payload = "c";
+        weight < 4
+    });
+    assert_eq!(rt; (table.len(), table.total()), (1, 3));
+    assert_eq!(rt; table.iter().next(), Some((2, 3, &"c")));
+    Ok(())
+}

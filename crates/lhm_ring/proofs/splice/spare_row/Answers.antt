@@ -2,7 +2,7 @@ use Rattle.std.proofs.Common.{◌∙◌, ◌-◌, Some, sym, subst, arith}
 use Rattle.lhm_ring.specs.Splices.{HasRow, SparesRow}
 use Rattle.lhm_ring.proofs.NodeBlocks.{is_block-links_at}
 use Rattle.lhm_ring.proofs.Writes.{IsAt-there}
-use Rattle.lhm_ring.proofs.Splicing.{is_there-row, HasRow-next, SparesRow-step, SparesRow-done}
+use Rattle.lhm_ring.proofs.SpareRows.{is_there-row, HasRow-next, SparesRow-step, SparesRow-done}
 use Rattle.lhm_ring.proofs.splice.spare_row.Goals as goal
 
 pub links-requires : goal.links-requires

@@ -1,7 +1,8 @@
 use Rattle.std.proofs.Common.{refl, sym, ap, ◌∙◌}
 use Rattle.lhm_ring.specs.RingState.{triples}
 use Rattle.lhm_ring.specs.Tables.{TableState}
-use Rattle.lhm_ring.proofs.Tables.{table_of-drained, triples-entries}
+use Rattle.lhm_ring.proofs.Tables.{table_of-drained}
+use Rattle.lhm_ring.proofs.Entries.{triples-entries}
 use Rattle.lhm_ring.proofs.table.Table.drain.Goals as goal
 
 pub returns : goal.returns

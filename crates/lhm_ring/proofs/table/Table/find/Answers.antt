@@ -1,7 +1,7 @@
 use Rattle.std.proofs.lemmas.Option.{IfSome_then}
 use Rattle.lhm_ring.specs.Positions.{pointer_of}
 use Rattle.lhm_ring.proofs.Options.{OnSome-then, IfNone-then}
-use Rattle.lhm_ring.proofs.Tables.{HasKey-entries, IsAbsent-entries, CountsSome-entries, CountsAll-entries}
+use Rattle.lhm_ring.proofs.Entries.{HasKey-entries, IsAbsent-entries, CountsSome-entries, CountsAll-entries}
 use Rattle.lhm_ring.proofs.table.Table.find.Goals as goal
 
 pub returns-clause-found : goal.returns-clause-found

@@ -1,7 +1,7 @@
 use Rattle.std.proofs.Common.{sym, ap, ◌∙◌}
 use Rattle.lhm_ring.specs.RingState.{triples}
 use Rattle.lhm_ring.specs.Tables.{TableState}
-use Rattle.lhm_ring.proofs.Tables.{triples-entries}
+use Rattle.lhm_ring.proofs.Entries.{triples-entries}
 use Rattle.lhm_ring.proofs.table.Table.into_pairs.Goals as goal
 
 pub returns : goal.returns

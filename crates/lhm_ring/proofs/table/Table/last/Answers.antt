@@ -1,7 +1,8 @@
 use Rattle.std.proofs.Common.{sym, ap, ◌∙◌}
 use Rattle.lhm_ring.specs.RingState.{last_at}
 use Rattle.lhm_ring.specs.Tables.{TableState}
-use Rattle.lhm_ring.proofs.Tables.{last_at-entries, IsApart-table}
+use Rattle.lhm_ring.proofs.Tables.{IsApart-table}
+use Rattle.lhm_ring.proofs.Entries.{last_at-entries}
 use Rattle.lhm_ring.proofs.table.Table.last.Goals as goal
 
 pub returns-clause-last : goal.returns-clause-last

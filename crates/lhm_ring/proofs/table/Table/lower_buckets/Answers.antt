@@ -1,7 +1,8 @@
 use Rattle.std.proofs.Common.{◌≡◌, ◌+◌, length, ap, sym, ◌∙◌, arith}
 use Rattle.lhm_ring.specs.Buckets.{buckets}
 use Rattle.lhm_ring.specs.RingState.{triples}
-use Rattle.lhm_ring.proofs.Tables.{length-same_entries, length-same_triples, length-table, triples-entries, triples-table}
+use Rattle.lhm_ring.proofs.Tables.{length-table, triples-table}
+use Rattle.lhm_ring.proofs.Entries.{length-same_entries, length-same_triples, triples-entries}
 use Rattle.lhm_ring.proofs.table.Table.lower_buckets.Goals as goal
 
 pub invariant_of-self : goal.invariant_of-self

@@ -2,7 +2,8 @@ use Rattle.std.proofs.Common.{◌≡◌, ◌++◌, ◌∷◌, [], None, ap, ◌�
 use Rattle.lhm_ring.specs.Positions.{pointer_of}
 use Rattle.lhm_ring.specs.RingState.{linked_to}
 use Rattle.lhm_ring.specs.Search.{entries}
-use Rattle.lhm_ring.proofs.Tables.{IsHeld-table, AtHeld-table, IsApart-table, length-capacity, entries-append, IsTable-to_back, length-moved}
+use Rattle.lhm_ring.proofs.Tables.{IsHeld-table, AtHeld-table, IsApart-table, length-capacity, IsTable-to_back, length-moved}
+use Rattle.lhm_ring.proofs.Entries.{entries-append}
 use Rattle.lhm_ring.proofs.table.Table.move_to_back.Goals as goal
 
 pub move_to_back-requires : goal.move_to_back-requires

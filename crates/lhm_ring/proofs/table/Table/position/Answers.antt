@@ -4,7 +4,7 @@ use Rattle.lhm_ring.specs.Positions.{pointer_of}
 use Rattle.lhm_ring.specs.Search.{entries}
 use Rattle.lhm_ring.proofs.Filters.{LacksHash-lacks, LacksHash-entries, IsAbsent-lacks}
 use Rattle.lhm_ring.proofs.Options.{IfNone-then}
-use Rattle.lhm_ring.proofs.Tables.{HasKey-entries, IsAbsent-entries}
+use Rattle.lhm_ring.proofs.Entries.{HasKey-entries, IsAbsent-entries}
 use Rattle.lhm_ring.proofs.table.Table.position.Goals as goal
 
 pub returns-then-not-may_contain-clause-absent : goal.returns-then-not-may_contain-clause-absent

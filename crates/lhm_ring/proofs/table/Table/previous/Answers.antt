@@ -1,7 +1,8 @@
 use Rattle.std.proofs.Common.{◌≡◌, sym, ◌∙◌}
 use Rattle.lhm_ring.specs.Positions.{pointer_of, pointer_of_some}
 use Rattle.lhm_ring.specs.RingState.{last_at}
-use Rattle.lhm_ring.proofs.Tables.{IsHeld-table, AtHeld-table, last_at-entries}
+use Rattle.lhm_ring.proofs.Tables.{IsHeld-table, AtHeld-table}
+use Rattle.lhm_ring.proofs.Entries.{last_at-entries}
 use Rattle.lhm_ring.proofs.table.Table.previous.Goals as goal
 
 pub previous-requires : goal.previous-requires

@@ -8,7 +8,8 @@ use Rattle.lhm_ring.specs.Search.{entries}
 use Rattle.lhm_ring.proofs.Filters.{IsFilter-more}
 use Rattle.lhm_ring.proofs.IndexedRing.{length-indexed}
 use Rattle.lhm_ring.proofs.IndexPuts.{HoldsOthers-last}
-use Rattle.lhm_ring.proofs.Tables.{spares-table, length-same_entries}
+use Rattle.lhm_ring.proofs.Tables.{spares-table}
+use Rattle.lhm_ring.proofs.Entries.{length-same_entries}
 use Rattle.lhm_ring.proofs.table.Table.push_back.Goals as goal
 
 pub put_in-bucket-requires-clause-some : goal.put_in-bucket-requires-clause-some

@@ -1,9 +1,9 @@
 use Rattle.std.proofs.Common.{◌≡◌, ◌++◌, sym, ap, ◌∙◌, arith}
 use Rattle.lhm_ring.specs.Positions.{pointer_of}
 use Rattle.lhm_ring.specs.Search.{entries}
-use Rattle.lhm_ring.proofs.Entries.{HasKey-kept}
+use Rattle.lhm_ring.proofs.Entries.{HasKey-kept, IsAbsent-entries, HasKey-entries, entries-append}
 use Rattle.lhm_ring.proofs.Filters.{IsAbsent-lacks, IsFilter-emptied, IfSome-emptied_within}
-use Rattle.lhm_ring.proofs.Tables.{IsAbsent-entries, HasKey-entries, AtHeld-same_entries, length-capacity, entries-append, IsTable-removed, length-with_spares}
+use Rattle.lhm_ring.proofs.Tables.{AtHeld-same_entries, length-capacity, IsTable-removed, length-with_spares}
 use Rattle.lhm_ring.proofs.table.Table.remove.Goals as goal
 
 pub returns-in_err-at-clause-absent : goal.returns-in_err-at-clause-absent

@@ -2,7 +2,8 @@ use Rattle.std.proofs.Common.{◌≡◌, ◌++◌, ap, ◌∙◌}
 use Rattle.lhm_ring.specs.Positions.{pointer_of}
 use Rattle.lhm_ring.specs.Search.{entries}
 use Rattle.lhm_ring.proofs.Filters.{IsFilter-emptied, IfSome-emptied_within}
-use Rattle.lhm_ring.proofs.Tables.{IsHeld-table, AtHeld-same_entries, entries-append, IsTable-removed}
+use Rattle.lhm_ring.proofs.Tables.{IsHeld-table, AtHeld-same_entries, IsTable-removed}
+use Rattle.lhm_ring.proofs.Entries.{entries-append}
 use Rattle.lhm_ring.proofs.table.Table.remove_at.Goals as goal
 
 pub take_out_at-emptied-requires-clause-held : goal.take_out_at-emptied-requires-clause-held
