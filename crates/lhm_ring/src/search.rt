@@ -1,10 +1,10 @@
 //! Searches along a chain for a key.
-ghost use Rattle.std.specs.Prelude.{◌≡◌, ◌+◌, ◌%◌, ◌<◌, ◌≤◌, ◌^◌, ◌∷◌, [], length, None, IfSome, IfNone, OnSome, slice_index_or};
+ghost use Rattle.std.specs.Prelude.{◌≡◌, ◌+◌, ◌%◌, ◌<◌, ◌≤◌, ◌^◌, ◌∷◌, [], length, None, Some, IfSome, IfNone, OnSome, slice_index_or};
 ghost use Rattle.lhm_ring.specs.RingState.{IsHeld};
 ghost use Rattle.lhm_ring.specs.Positions.{pointer_of, pointer_of_some};
 ghost use Rattle.lhm_ring.specs.Index.{Indexes};
 ghost use Rattle.lhm_ring.specs.Spots.{spot, spots, same};
-ghost use Rattle.lhm_ring.specs.Search.{OfNodeAt, entries, Compares, FindsKey, FindsNone, HasKey, IsAbsent, CountsSome, CountsAll, HoldsOthers, IsEmptied};
+ghost use Rattle.lhm_ring.specs.Search.{OfNodeAt, entries, Compares, FindsKey, FindsNone, HasKey, IsAbsent, CountsSome, CountsAll, HoldsOthers, IsEmptied, IsPart};
 
 use crate::index::Index;
 use crate::position::Position;
@@ -26,6 +26,21 @@ pub(crate) struct Found<K, V> {
     pub(crate) before: Option<Position<K, V>>,
     pub(crate) at: Position<K, V>,
 }
+
+/// How far a search has come along a chain.
+#[derive(Drop)]
+struct Reached<K, V> {
+    /// The node before the next one, if any.
+    before: Option<Position<K, V>>,
+    /// The next node, if any.
+    next: Option<Position<K, V>>,
+    /// The counts of the nodes before.
+    probe: Probe,
+}
+
+/// Up to so many buckets a lookup passes the first node of a chain without a branch. With more, it
+/// waits for memory, and a branch that is predicted lets the processor fetch what comes next.
+const FEW_BUCKETS: usize = 1 << 17;
 
 /// Counts a node, and returns whether it has the hash and the key; compares the key only if the
 /// hash is equal.
@@ -53,6 +68,25 @@ fn step<K: Eq, V>(
     key == ring.key(at)
 }
 
+impl<K, V> Reached<K, V> {
+    /// Begins at a node, with no count.
+    fn new(next: Option<Position<K, V>>) -> Reached<K, V>
+        ensures before { pointer_of_some result.before ≡ None }
+        ensures next { pointer_of_some result.next ≡ pointer_of_some next }
+        ensures visited { result.probe.visited ≡ 0 }
+        ensures compared { result.probe.compared ≡ 0 }
+    {
+        Reached {
+            before: None,
+            next,
+            probe: Probe {
+                visited: 0,
+                compared: 0,
+            },
+        }
+    }
+}
+
 impl<K: Eq, V> Index<K, V> {
     /// Follows a chain from its head to the node with the key.
     fn search(
@@ -73,12 +107,32 @@ impl<K: Eq, V> Index<K, V> {
             (FindsNone K.eq hash key.now self.now ring.now.held result.1.visited
             result.1.compared) }
     {
-        let mut probe = Probe {
-            visited: 0,
-            compared: 0,
-        };
-        let mut before = None;
-        let mut pointer = head;
+        self.search_on(ring, Reached::new(head), hash, key)
+    }
+
+    /// Follows the rest of a chain to the node with the key. Every search of a chain reads the nodes
+    /// here, except the first one in `begin`.
+    fn search_on(
+        &self,
+        ring: &Ring<K, V>,
+        reached: Reached<K, V>,
+        hash: u64,
+        key: &K,
+    ) -> (Option<Found<K, V>>, Probe)
+        requires part { IsPart K.eq hash key.now self.now ring.now.held
+            (pointer_of_some reached.before) (pointer_of_some reached.next) reached.probe.visited
+            reached.probe.compared }
+        requires small { length ring.now.held < 2 ^ 64 }
+        ensures found { IfSome result.0 (λ f.
+            FindsKey K.eq hash key.now self.now ring.now.held (pointer_of_some f.before)
+            (pointer_of f.at) result.1.visited result.1.compared) }
+        ensures absent { IfNone result.0
+            (FindsNone K.eq hash key.now self.now ring.now.held result.1.visited
+            result.1.compared) }
+    {
+        let mut probe = reached.probe;
+        let mut before = reached.before;
+        let mut pointer = reached.next;
         while let Some(at) = pointer {
             if step(ring, at, hash, key, &mut probe) {
                 return (Some(Found { before, at }), probe);
@@ -87,6 +141,38 @@ impl<K: Eq, V> Index<K, V> {
             pointer = ring.link(at);
         }
         (None, probe)
+    }
+
+    /// Begins a search at the first node of a chain, or behind it if that has another hash and is
+    /// not the only one.
+    ///
+    /// Which of the first two nodes has the key cannot be predicted, so a conditional move chooses
+    /// it: `&`, since `&&` may become a branch.
+    fn begin(&self, ring: &Ring<K, V>, first: Position<K, V>, hash: u64) -> Reached<K, V>
+        requires first { slice_index_or self.now (hash % length self.now) None
+            ≡ Some (pointer_of first) }
+        requires within { hash % length self.now < length self.now }
+        requires indexed { Indexes self.now (spots ring.now.held) }
+        ensures part { (key : K) → IsPart K.eq hash key self.now ring.now.held
+            (pointer_of_some result.before) (pointer_of_some result.next) result.probe.visited
+            result.probe.compared }
+    {
+        if FEW_BUCKETS < self.buckets() {
+            return Reached::new(Some(first));
+        }
+        let link = ring.link(first);
+        if (ring.hash(first) != hash) & link.is_some() {
+            Reached {
+                before: Some(first),
+                next: link,
+                probe: Probe {
+                    visited: 1,
+                    compared: 0,
+                },
+            }
+        } else {
+            Reached::new(Some(first))
+        }
     }
 
     /// Returns the position of the node with this hash and key, if any, and the counts. An absent
@@ -126,7 +212,13 @@ impl<K: Eq, V> Index<K, V> {
         ensures found { IfSome result (λ p. HasKey K.eq hash key.now ring.now.held (pointer_of p)) }
         ensures absent { IfNone result (IsAbsent K.eq hash key.now ring.now.held) }
     {
-        match self.search(ring, self.head_of(bucket), hash, key).0 {
+        let Some(first) = self.head_of(bucket) else {
+            return None;
+        };
+        match self
+            .search_on(ring, self.begin(ring, first, hash), hash, key)
+            .0
+        {
             Some(found) => Some(found.at),
             None => None,
         }

@@ -79,6 +79,7 @@ impl<K: Eq + Hash, V, S: BuildHasher> LinkedHashMap<K, V, S> {
     /// }
     /// assert_eq!(rt; map.back(), Some((&'x', &3)));
     /// ```
+    #[inline]
     pub fn get_refresh(&mut self, key: &K) -> Option<&mut V>
         ensures* writes_back { sem 𝓛
             (lends_refreshed K.row V.row S.row S.Hasher.row K.Hash S.BuildHasher S.Hasher.Hasher
