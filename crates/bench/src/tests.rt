@@ -8,7 +8,7 @@ use checks::{check_eq, given};
 use std::alloc::Global;
 use std::process::Abort;
 
-const REPEATED: [(Workload, u64); 9] = [
+const REPEATED: [(Workload, u64); 10] = [
     (Workload::InsertNew, 10),
     (Workload::GetHit, 1),
     (Workload::GetMiss, 0),
@@ -18,9 +18,10 @@ const REPEATED: [(Workload, u64); 9] = [
     (Workload::LruCycle, 15986146552928308713),
     (Workload::RemoveReinsert, 1),
     (Workload::Clone, 10),
+    (Workload::WriteAll, 15986635835602668790),
 ];
 
-const RANDOM: [(Workload, u64); 9] = [
+const RANDOM: [(Workload, u64); 10] = [
     (Workload::InsertNew, 10),
     (Workload::GetHit, 5),
     (Workload::GetMiss, 0),
@@ -30,6 +31,7 @@ const RANDOM: [(Workload, u64); 9] = [
     (Workload::LruCycle, 15986146552928308713),
     (Workload::RemoveReinsert, 0),
     (Workload::Clone, 10),
+    (Workload::WriteAll, 15986591855137557815),
 ];
 
 /// Checks what each workload returns, in turn, on a map that those before it have left.

@@ -29,11 +29,13 @@ pub enum Workload {
     RemoveReinsert,
     /// Makes a clone and drops it.
     Clone,
+    /// Writes each value: a loop over `iter_mut`.
+    WriteAll,
 }
 
 impl Workload {
     /// All workloads, in the order in which they are timed.
-    pub const ALL: [Workload; 9] = [
+    pub const ALL: [Workload; 10] = [
         Workload::InsertNew,
         Workload::GetHit,
         Workload::GetMiss,
@@ -43,6 +45,7 @@ impl Workload {
         Workload::LruCycle,
         Workload::RemoveReinsert,
         Workload::Clone,
+        Workload::WriteAll,
     ];
 
     /// Returns the word that names the workload in the output.
@@ -57,6 +60,7 @@ impl Workload {
             Workload::LruCycle => "lru_cycle",
             Workload::RemoveReinsert => "remove_reinsert",
             Workload::Clone => "clone",
+            Workload::WriteAll => "write_all",
         }
     }
 
@@ -89,6 +93,7 @@ impl Workload {
             Workload::LruCycle => lru_cycle(map, n),
             Workload::RemoveReinsert => remove_reinsert(alloc, map, order, n),
             Workload::Clone => Ok(map.clone()?.len() as u64),
+            Workload::WriteAll => Ok(write_all(map)),
         }
     }
 }
@@ -200,4 +205,13 @@ fn remove_reinsert<O: Order>(
         }
     }
     Ok(sink)
+}
+
+fn write_all(map: &mut Map) -> u64 {
+    let mut sink = 0;
+    for (key, value) in map.iter_mut() {
+        *value = value.wrapping_add(*key);
+        sink ^= *value;
+    }
+    sink
 }

@@ -21,7 +21,6 @@ pub mod IndexTakes
 pub mod IndexedRing
 pub mod IteratorSteps
 pub mod Joins
-pub mod LendTable
 pub mod ListFacts
 pub mod Lookup
 pub mod Memory
@@ -55,6 +54,7 @@ pub mod SpareRows
 pub mod Splicing
 pub mod Spots
 pub mod Stacking
+pub mod TableValues
 pub mod Tables
 pub mod ValueTaken
 pub mod ValuesInOrder

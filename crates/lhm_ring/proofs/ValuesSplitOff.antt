@@ -11,6 +11,7 @@ use Rattle.std.proofs.Common.{◌≡◌, ℕ, Bool, true, false, List, [], ◌�
 use seplogic.Ra.Ura.{Ura}
 use base.Fraction.{full_share}
 use base.Logic.{ent, sep, emp, via, never_e, id⊢, fst∗}
+use base.Stored.{coded_list}
 use base.Fml.{Fml, Lft, Incl, Incl-trans, ftrue, fsep, fseps}
 use contract.BorrowLft.{meet_⊑_left, meet_⊑_right}
 use types.Logic.{Logic, sem, lfts}
@@ -319,12 +320,12 @@ module _ (S W : RattleType) where
         let listed = taken-listing (entries a) ws (IsApart-lent (kept_by a) a.nodes.cells a.nodes.apart) (long ∙ length-map (run_of (entries a)) _ ∙ length-map (entries a) _) in
         qed 𝓛 (‵ (Lent ws) ∷ raw (emp 𝓤) ∷ []) ∵ rewrite ! 0 (λ (l : List W.Denot). ‵ (Lent l)) (sym (placed-ordered ws ∙ listed)) refl $ keep ! (0 ∷ []) $ done !)
 
-    -- the values, as the ring names them
+    -- the values, in the order of the ring
     abbrev pub As : SemTy
-    As = record { rep = State (S.Denot × W.Denot); coded = Lr.coded; size = 0; own_at = λ m _ _. Lent (placed (held_values m.held)) }
+    As = record { rep = List W.Denot; coded = coded_list W.coded; size = 0; own_at = λ vs _ _. Lent (placed vs) }
 
-    abbrev pub named : List W.Denot → State (S.Denot × W.Denot)
-    named ws = state (ordered ws) 0 0
+    abbrev pub named : List W.Denot → List W.Denot
+    named ws = held_values (ordered ws)
 
 -- the loan's field, which takes no bytes
 abbrev pub LoanMarker : NamedLft → (R S W : RattleType) → RattleType

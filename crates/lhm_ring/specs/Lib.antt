@@ -25,5 +25,6 @@ pub mod Stacks
 pub mod TableAfterLoan
 pub mod Tables
 pub mod Targets
+pub mod ValueIterators
 pub mod ValueLoan
 pub mod Words

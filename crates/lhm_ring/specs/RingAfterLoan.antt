@@ -1,7 +1,8 @@
 -- What a ring ends as once a loan of one of its values, of all of them, or of all that it held has
 -- ended.
 use Rattle.std.specs.Prelude.{◌≡◌, ◌+◌, List, [], ◌∷◌, map, length}
-use Rattle.std.specs.Borrow.{Fml, RattleType, MutBor, GName, Lends, follows, Array, u8}
+use Rattle.std.specs.Borrow.{Fml, RattleType, MutBor, GName, Lends, follows, follows_if, Array, u8}
+use mathlib.Core.Option.{Option}
 use denote.RawPtr.{Ptr}
 use Rattle.lhm_ring.specs.RingState.{State, state, Held, held, change_at}
 use Rattle.lhm_ring.specs.contracts.ring.Ring.{the_row}
@@ -31,9 +32,9 @@ set_held_values [] vs = []
 set_held_values (t ∷ hs) [] = t ∷ hs
 set_held_values (t ∷ hs) (v ∷ vs) = revalued v t ∷ set_held_values hs vs
 
--- the same ring, with the values of w in order
-abbrev pub with_values : {K V : Type 0} → State (K × V) → State (K × V) → State (K × V)
-with_values s w = record s { held = set_held_values s.held (held_values w.held) }
+-- the same ring, with the values vs in order
+abbrev pub with_values : {K V : Type 0} → State (K × V) → List V → State (K × V)
+with_values s vs = record s { held = set_held_values s.held vs }
 
 -- a triple without its value
 abbrev pub unvalued : {K V : Type 0} → Held (K × V) → Held K
@@ -45,8 +46,10 @@ KeepsAllButValues {K} {V} s =
     (vs : List V) → map unvalued (set_held_values s.held vs) ≡ map unvalued s.held
 
 -- the ring that s refers to has the values that the loan named r ends at, and all else as it was
-abbrev pub lends_values : (K V : RattleType) → MutBor (State (K.Denot × V.Denot)) → GName → Fml
-lends_values K V s r = follows (the_row K V) (the_row K V) s.ghost_name r (with_values s.now)
+abbrev pub lends_values : (K V : RattleType) → MutBor (State (K.Denot × V.Denot)) → Option GName
+    → Fml
+lends_values K V s r =
+    follows_if (the_row K V) (Array V 0) s.ghost_name r (with_values s.now) s.now
 
 -- the same nodes, all spare
 abbrev pub all_spare : {B : Type 0} → State B → State B

@@ -124,15 +124,15 @@ impl<'a, K, V> Clone for Iter<'a, K, V> {
     }
 }
 
-/// A double-ended iterator over the triples, with mutable references to the values, each in O(1).
+/// The triples that are left of an [`IterMut`].
 #[derive(Drop)]
-pub struct IterMut<'a, K, V> {
+pub struct Lent<'a, K, V> {
     // The links and the keys are shared, and each value is taken from a loan.
     holes: Iter<'a, K, Hole<V>>,
     loan: ValueLoan<'a, Links, K, V>,
 }
 
-impl<'a, K, V> Model for IterMut<'a, K, V> {
+impl<'a, K, V> Model for Lent<'a, K, V> {
     ghost use Rattle.std.specs.Prelude.{List};
     ghost use base.Fml.{GName};
     ghost use Rattle.lhm_ring.specs.RingState.{Held};
@@ -145,23 +145,9 @@ impl<'a, K, V> Model for IterMut<'a, K, V> {
     ghost invariant = { λ a. AreLent a.loan.run a.holes };
 }
 
-impl<'a, K, V> IterMut<'a, K, V> {
-    ghost use Rattle.lhm_ring.specs.LentRings.{lent_held, lent_name, IsLent};
-
-    /// Returns an iterator over a ring whose values are lent.
-    pub fn of(lent: LentValues<'a, K, V>) -> IterMut<'a, K, V>
-        requires { IsLent lent }
-        ensures rest { rest_of result ≡ lent_held lent.entry }
-        ensures name { result.1 ≡ lent_name lent.entry }
-    {
-        let LentValues { ring, loan } = lent;
-        IterMut {
-            holes: ring.iter(),
-            loan,
-        }
-    }
-
-    fn step(&mut self) -> Option<(u64, &'a K, &'a mut V)>
+impl<'a, K, V> Lent<'a, K, V> {
+    /// Takes the first triple.
+    pub fn step(&mut self) -> Option<(u64, &'a K, &'a mut V)>
         ensures { LendsFirstStep (rest_of self.old) result (rest_of self.new) }
     {
         match self.holes.step() {
@@ -170,7 +156,8 @@ impl<'a, K, V> IterMut<'a, K, V> {
         }
     }
 
-    fn step_back(&mut self) -> Option<(u64, &'a K, &'a mut V)>
+    /// Takes the last triple.
+    pub fn step_back(&mut self) -> Option<(u64, &'a K, &'a mut V)>
         ensures { LendsLastStep (rest_of self.old) result (rest_of self.new) }
     {
         match self.holes.step_back() {
@@ -178,23 +165,63 @@ impl<'a, K, V> IterMut<'a, K, V> {
             None => None,
         }
     }
+
+    /// Returns how many triples are left.
+    pub fn len(&self) -> usize
+        ensures { result ≡ length (rest_of self.now) }
+    {
+        self.holes.len()
+    }
+}
+
+/// A double-ended iterator over the triples, with mutable references to the values, each in O(1).
+#[derive(Drop)]
+pub enum IterMut<'a, K, V> {
+    /// No function returns this variant. The borrow checker lets a type that keeps a ring hand the
+    /// loan of its values on only if the result's type has a variant with a `&mut` to values.
+    Empty(&'a mut [V; 0]),
+    /// The triples of a ring.
+    Lent(Lent<'a, K, V>),
+}
+
+impl<'a, K, V> IterMut<'a, K, V> {
+    ghost use Rattle.lhm_ring.specs.LentRings.{lent_held, lent_name, IsLent};
+    ghost use Rattle.lhm_ring.specs.ValueIterators.{held_left, loan_name};
+
+    /// Returns an iterator over a ring whose values are lent.
+    pub(crate) fn of(lent: LentValues<'a, K, V>) -> IterMut<'a, K, V>
+        requires { IsLent lent }
+        ensures rest { held_left result ≡ lent_held lent.entry }
+        ensures name { loan_name result ≡ lent_name lent.entry }
+    {
+        let LentValues { ring, loan } = lent;
+        IterMut::Lent(Lent {
+            holes: ring.iter(),
+            loan,
+        })
+    }
 }
 
 impl<'a, K, V> Iterator for IterMut<'a, K, V> {
+    ghost use Rattle.lhm_ring.specs.ValueIterators.{held_left};
+
     type Item = (u64, &'a K, &'a mut V);
 
-    ghost next_gives = { λ s r t. LendsFirstStep (rest_of s) r (rest_of t) };
+    ghost next_gives = { λ s r t. LendsFirstStep (held_left s) r (held_left t) };
 
-    ghost remaining = { λ s. at_most (length (rest_of s)) };
+    ghost remaining = { λ s. at_most (length (held_left s)) };
 
     fn next(&mut self) -> Option<(u64, &'a K, &'a mut V)> {
-        self.step()
+        match self {
+            IterMut::Empty(_) => None,
+            IterMut::Lent(lent) => lent.step(),
+        }
     }
 
     fn size_hint(&self) -> (usize, Option<usize>)
-        ensures lower { IsWithinCount result.0 (at_most (length (rest_of self.now))) }
-        ensures upper { IfSome result.1 (UpTo (at_most (length (rest_of self.now)))) }
-        ensures exact { result ≡ (length (rest_of self.now), Some (length (rest_of self.now))) }
+        ensures lower { IsWithinCount result.0 (at_most (length (held_left self.now))) }
+        ensures upper { IfSome result.1 (UpTo (at_most (length (held_left self.now)))) }
+        ensures exact { result ≡ (length (held_left self.now), Some (length (held_left self.now))) }
     {
         let len = self.len();
         (len, Some(len))
@@ -203,21 +230,30 @@ impl<'a, K, V> Iterator for IterMut<'a, K, V> {
 
 impl<'a, K, V> ExactSizeIterator for IterMut<'a, K, V> {
     fn len(&self) -> usize {
-        self.holes.len()
+        match self {
+            IterMut::Empty(_) => 0,
+            IterMut::Lent(lent) => lent.len(),
+        }
     }
 }
 
 impl<'a, K, V> DoubleEndedIterator for IterMut<'a, K, V> {
-    ghost next_back_gives = { λ s r t. LendsLastStep (rest_of s) r (rest_of t) };
+    ghost use Rattle.lhm_ring.specs.ValueIterators.{held_left};
+
+    ghost next_back_gives = { λ s r t. LendsLastStep (held_left s) r (held_left t) };
 
     fn next_back(&mut self) -> Option<(u64, &'a K, &'a mut V)> {
-        self.step_back()
+        match self {
+            IterMut::Empty(_) => None,
+            IterMut::Lent(lent) => lent.step_back(),
+        }
     }
 }
 
 impl<K, V> Ring<K, V> {
     ghost use Rattle.std.specs.Borrow.{sem};
     ghost use Rattle.lhm_ring.specs.RingAfterLoan.{lends_values, KeepsAllButValues};
+    ghost use Rattle.lhm_ring.specs.ValueIterators.{held_left, loan_name};
 
     /// Returns a double-ended iterator over the triples, front to back.
     pub fn iter(&self) -> Iter<'_, K, V>
@@ -234,10 +270,10 @@ impl<K, V> Ring<K, V> {
     /// Returns a double-ended iterator over the triples, front to back, with mutable references to
     /// the values.
     pub fn iter_mut(&mut self) -> IterMut<'_, K, V>
-        ensures* writes_back { sem 𝓛 (lends_values K.row V.row self.entry result.1) }
+        ensures* writes_back { sem 𝓛 (lends_values K.row V.row self.entry (loan_name result)) }
         ensures keeps { KeepsAllButValues self.old }
-        ensures rest { rest_of result ≡ self.old.held }
+        ensures rest { held_left result ≡ self.old.held }
     {
-        IterMut::of(self.lend())
+        self.lend()
     }
 }

@@ -5,13 +5,12 @@ ghost use Rattle.lhm_ring.specs.RingState.{triples};
 use crate::chunk::Chunk;
 pub use crate::drain::Drain;
 use crate::grow::free_chunks;
-pub use crate::iter::{Iter, IterMut};
+pub use crate::iter::{Iter, IterMut, Lent};
 use crate::link::Link;
 use crate::links::{Ends, Links};
 use crate::nodes::Nodes;
 use crate::owned_pairs::OwnedPairs;
 pub use crate::position::Position;
-pub use crate::value_loan::{Hole, LentValues, ValueLoan};
 use std::alloc::{AllocError, Global};
 use std::marker::Model;
 

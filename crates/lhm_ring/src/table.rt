@@ -17,12 +17,9 @@ pub use crate::index::Probe;
 pub use crate::into_iter::IntoIter;
 pub use crate::owned_pairs::OwnedPairs;
 use crate::ring::Ring;
-pub use crate::ring::{Drain, Hole, Iter, IterMut, LentValues, Position, ValueLoan};
+pub use crate::ring::{Drain, Iter, IterMut, Lent, Position};
 use std::alloc::{AllocError, Global};
 use std::marker::Model;
-
-/// The ring of a table, while the values are lent.
-pub type WithoutValues<K, V> = Ring<K, Hole<V>>;
 
 /// Pairs in insertion order, each with its hash, found by hash and key. A [`Position`] stays until
 /// its pair leaves or `shrink_to_fit` moves it.
@@ -31,8 +28,7 @@ pub type WithoutValues<K, V> = Ring<K, Hole<V>>;
 /// `with_capacity`, `raise` and `shrink_to_fit` allocate; if that fails, nothing changes. It is not
 /// `Drop`: only `into_pairs` and `into_iter` end it.
 pub struct Table<K, V> {
-    /// Public for a type that lends a table's values.
-    pub ring: Ring<K, V>,
+    pub(crate) ring: Ring<K, V>,
     pub(crate) index: Index<K, V>,
     pub(crate) filter: Filter,
     // How many nodes rehashes have moved since the capacity was lowered.
@@ -51,7 +47,8 @@ impl<K, V> Model for Table<K, V> {
 
 impl<K, V> Table<K, V> {
     ghost use Rattle.std.specs.Borrow.{sem};
-    ghost use Rattle.lhm_ring.specs.TableAfterLoan.{lends_value, lends_drained};
+    ghost use Rattle.lhm_ring.specs.TableAfterLoan.{lends_value, lends_values, lends_drained};
+    ghost use Rattle.lhm_ring.specs.ValueIterators.{loan_name, pairs_left};
     ghost use Rattle.lhm_ring.specs.Drains.{drain_name, drain_rest};
     ghost use Rattle.lhm_ring.specs.RingState.{triples};
 
@@ -277,6 +274,15 @@ impl<K, V> Table<K, V> {
         index.free();
         filter.free();
         ring.into_pairs()
+    }
+
+    /// Returns a double-ended iterator over the pairs, front to back, with mutable references to
+    /// the values.
+    pub fn iter_mut(&mut self) -> IterMut<'_, K, V>
+        ensures* writes_back { sem 𝓛 (lends_values K.row V.row self.entry (loan_name result)) }
+        ensures rest { pairs_left result ≡ map (λ t. t.pair) self.old.held }
+    {
+        self.ring.iter_mut()
     }
 
     /// Removes all pairs and returns them as an iterator, front to back, in O(n) for pairs and

@@ -6,13 +6,14 @@ ghost use denote.RawPtr.{Ptr};
 ghost use Rattle.lhm_ring.specs.ValueLoan.{borrowed, value_at, without_value, Lies};
 
 use crate::block::{Node, NodePointer};
+use crate::iter::IterMut;
 use crate::links::Links;
 use crate::ring::Ring;
 use std::cell::UnsafeCell;
 use std::marker::{Model, Move, Owns, PhantomData};
 
 /// What stands for a lent value. None is ever made.
-pub struct Hole<V> {
+pub(crate) struct Hole<V> {
     cell: UnsafeCell<V>,
 }
 
@@ -30,8 +31,8 @@ impl<V> Move for Hole<V> {
 
 /// The right to write the values of `run`, each with its node's pointer.
 #[derive(Drop)]
-pub struct ValueLoan<'a, L, K, V> {
-    pub marker: PhantomData<&'a mut Node<L, K, V>>,
+pub(crate) struct ValueLoan<'a, L, K, V> {
+    pub(crate) marker: PhantomData<&'a mut Node<L, K, V>>,
     ghost name: { GName },
     ghost tie: { GName },
     ghost run: { Seq (Ptr × V) },
@@ -56,29 +57,27 @@ impl<'a, L, K, V> ValueLoan<'a, L, K, V> {
     }
 }
 
-/// A ring whose values are lent: made, with a proof of the loan, by a type that keeps a ring, for
-/// `IterMut::of`.
-pub struct LentValues<'a, K, V> {
-    pub ring: &'a Ring<K, Hole<V>>,
-    pub loan: ValueLoan<'a, Links, K, V>,
+/// A ring whose values are lent, for `IterMut::of`.
+pub(crate) struct LentValues<'a, K, V> {
+    pub(crate) ring: &'a Ring<K, Hole<V>>,
+    pub(crate) loan: ValueLoan<'a, Links, K, V>,
 }
 
 impl<K, V> Ring<K, V> {
     ghost use Rattle.lhm_ring.specs.RingAfterLoan.{lends_values};
-    ghost use Rattle.lhm_ring.specs.LentRings.{lent_held, lent_name, IsLent};
+    ghost use Rattle.lhm_ring.specs.ValueIterators.{held_left, loan_name};
 
     /// Shares the ring except its values, and lends the values.
-    pub(crate) fn lend<'a>(&'a mut self) -> LentValues<'a, K, V>
-        ensures* writes_back { sem 𝓛 (lends_values K.row V.row self.entry (lent_name result)) }
-        ensures held { lent_held result ≡ self.old.held }
-        ensures lent { IsLent result }
+    pub(crate) fn lend<'a>(&'a mut self) -> IterMut<'a, K, V>
+        ensures* writes_back { sem 𝓛 (lends_values K.row V.row self.entry (loan_name result)) }
+        ensures rest { held_left result ≡ self.old.held }
     {
         let ring = &raw mut *self as *const Ring<K, Hole<V>>;
-        LentValues {
+        IterMut::of(LentValues {
             ring: unsafe { &*ring },
             loan: ValueLoan {
                 marker: PhantomData,
             },
-        }
+        })
     }
 }

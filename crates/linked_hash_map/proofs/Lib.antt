@@ -25,7 +25,6 @@ pub mod Inserts
 mod IteratorLaws
 pub mod Kept
 pub mod LeavingSessions
-pub mod LendMap
 pub mod Lists
 pub mod LiveKeys
 pub mod LookupCounts

@@ -1,7 +1,7 @@
 -- What a map is once a reference into it has ended.
 use Rattle.std.specs.Prelude.{ℕ, Option}
-use Rattle.std.specs.Borrow.{Fml, GName, RattleType, MutBor, Array, u8, Lends, LendsIf, follows}
-use Rattle.std.specs.Map.{values_of}
+use Rattle.std.specs.Borrow.{Fml, GName, RattleType, MutBor, Array, u8, Lends, LendsIf, follows, follows_if}
+use mathlib.Core.Option as maybe
 use Rattle.std.specs.HashMap.Lent.{HashMembers}
 use Rattle.std.specs.declared.hash.Hasher as hasher
 use Rattle.std.specs.declared.hash.BuildHasher as builder
@@ -50,10 +50,10 @@ module _ (K V S H : RattleType) (key : HashMembers K.Denot) (build : builder.Gho
     lends_refreshed k r = LendsIf map_row V m r (refreshed key.eq m.now k) m.now
 
     -- the values are those that the loan with this name ends at, in order
-    abbrev pub lends_values : GName → Fml
+    abbrev pub lends_values : maybe.Option GName → Fml
     lends_values name =
-        follows map_row map_row m.ghost_name name (λ n.
-        record m.now { pairs = set_values m.now.pairs (values_of n.pairs) })
+        follows_if map_row (Array V 0) m.ghost_name name (λ vs.
+        record m.now { pairs = set_values m.now.pairs vs }) m.now
 
     -- the map is empty once the borrow with this name, of no bytes, ends
     abbrev pub lends_drained : GName → Fml

@@ -2,9 +2,11 @@
 ghost use Rattle.std.specs.Prelude.{◌≡◌, ◌==◌, ◌&&◌, ◌<◌, ◌≤◌, [], ◌∷◌, ◌++◌, Some, None, IsNone, not, length, is_some, IfOk, IfSome, IsSome, IsErrOf, ◌↔◌};
 ghost use Rattle.std.specs.Borrow.{sem};
 ghost use Rattle.std.specs.Option.{option_copied_mut};
-ghost use Rattle.linked_hash_map.specs.Pairs.{find, value_at, put, first, without_first};
+ghost use Rattle.std.specs.Map.{keys_of};
+ghost use Rattle.linked_hash_map.specs.Pairs.{find, value_at, put, first, without_first, KeysStand};
+ghost use Rattle.linked_hash_map.specs.ValueIterators.{pairs_left, loan_name};
 
-use linked_hash_map::{LIMIT, LinkedHashMap, Mode, ReserveError};
+use linked_hash_map::{IterMut, LIMIT, LinkedHashMap, Mode, ReserveError};
 use std::alloc::Global;
 use std::hash::Hash;
 
@@ -16,7 +18,7 @@ pub struct Cache<K: Eq + Hash, V> {
 }
 
 impl<K: Eq + Hash, V> Cache<K, V> {
-    ghost use Rattle.uses.specs.Lending.{lends_recent};
+    ghost use Rattle.uses.specs.Lending.{lends_recent, lends_values};
 
     /// Makes an empty cache for `size` pairs. All memory that it will ever have is taken here.
     pub fn new(alloc: Global, size: usize) -> Result<Self, ReserveError>
@@ -110,5 +112,28 @@ impl<K: Eq + Hash, V> Cache<K, V> {
         ensures value { option_copied_mut result ≡ value_at K.eq self.old.map.pairs key.now }
     {
         self.map.get_refresh(key)
+    }
+
+    /// Lends all values for writing, that of the pair used least recently first. The keys stand,
+    /// each in its place.
+    pub fn iter_mut(&mut self) -> IterMut<'_, K, V>
+        ensures* writes_back { sem 𝓛
+            (lends_values K.row V.row K.Hash self.entry (loan_name result)) }
+        // A law of lists, for the proofs of callers.
+        ensures keeps { KeysStand self.old.map.pairs }
+        ensures rest { pairs_left result ≡ self.old.map.pairs }
+    {
+        self.map.iter_mut()
+    }
+}
+
+/// Sets every value to zero: a loop over the values that the cache lends.
+pub fn reset<K: Eq + Hash>(counts: &mut Cache<K, u64>)
+    ensures keys { keys_of counts.new.map.pairs ≡ keys_of counts.old.map.pairs }
+    ensures size { counts.new.map.capacity ≡ counts.old.map.capacity }
+    ensures mode { counts.new.map.mode ≡ counts.old.map.mode }
+{
+    for (_key, count) in counts.iter_mut() {
+        *count = 0;
     }
 }

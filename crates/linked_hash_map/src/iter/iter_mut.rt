@@ -6,30 +6,51 @@ ghost use Rattle.std.specs.Map.Iter.{LendsFirst, LendsLast};
 
 use crate::map::LinkedHashMap;
 use lhm_ring::table;
-use lhm_ring::table::LentValues;
+use lhm_ring::table::Table;
 use std::hash::{BuildHasher, Hash};
 use std::iter::FusedIterator;
 
 /// A fused double-ended iterator over the pairs, with mutable references to the values, returned by
 /// `iter_mut` or a loop over `&mut map`. Its methods are O(1).
 #[derive(Drop)]
-pub struct IterMut<'a, K, V> {
-    nodes: table::IterMut<'a, K, V>,
+pub enum IterMut<'a, K, V> {
+    /// No call returns this variant. The borrow checker lets a type that keeps a map hand the loan
+    /// of its values on only if the result's type has a variant with a `&mut` to values.
+    #[doc(hidden)]
+    Empty(&'a mut [V; 0]),
+    /// The pairs of a map.
+    #[doc(hidden)]
+    Lent(Lent<'a, K, V>),
+}
+
+/// The pairs that are left of an [`IterMut`].
+#[derive(Drop)]
+pub struct Lent<'a, K, V> {
+    nodes: table::Lent<'a, K, V>,
 }
 
 impl<'a, K, V> IterMut<'a, K, V> {
+    ghost use Rattle.std.specs.Borrow.{sem};
+    ghost use Rattle.lhm_ring.specs.TableAfterLoan.{lends_values};
+    ghost use Rattle.lhm_ring.specs.ValueIterators as table;
     ghost use Rattle.linked_hash_map.specs.ValueIterators.{pairs_left, loan_name};
     ghost use Rattle.linked_hash_map.specs.Nodes.{pairs_of};
-    ghost use Rattle.lhm_ring.specs.LentRings.{lent_held, lent_name, IsLent};
 
-    /// Returns an iterator over a ring whose values are lent.
-    pub(crate) fn new(lent: LentValues<'a, K, V>) -> Self
-        requires { IsLent lent }
-        ensures rest { pairs_left result ≡ pairs_of (lent_held lent.entry) }
-        ensures name { loan_name result ≡ lent_name lent.entry }
+    /// Returns an iterator over the pairs of a table, whose values it lends.
+    pub(crate) fn over(table: &'a mut Table<K, V>) -> IterMut<'a, K, V>
+        ensures* writes_back { sem 𝓛 (lends_values K.row V.row table.entry (loan_name result)) }
+        ensures rest { pairs_left result ≡ pairs_of table.old.held }
     {
-        IterMut {
-            nodes: table::IterMut::of(lent),
+        IterMut::of(table.iter_mut())
+    }
+
+    fn of(lent: table::IterMut<'a, K, V>) -> IterMut<'a, K, V>
+        ensures rest { pairs_left result ≡ table.pairs_left lent.entry }
+        ensures name { loan_name result ≡ table.loan_name lent.entry }
+    {
+        match lent {
+            table::IterMut::Empty(none) => IterMut::Empty(none),
+            table::IterMut::Lent(nodes) => IterMut::Lent(Lent { nodes }),
         }
     }
 }
@@ -44,9 +65,12 @@ impl<'a, K, V> Iterator for IterMut<'a, K, V> {
     ghost remaining = { λ s. at_most (length (pairs_left s)) };
 
     fn next(&mut self) -> Option<(&'a K, &'a mut V)> {
-        match self.nodes.next() {
-            Some((_, key, value)) => Some((key, value)),
-            None => None,
+        match self {
+            IterMut::Empty(_) => None,
+            IterMut::Lent(lent) => match lent.nodes.step() {
+                Some((_, key, value)) => Some((key, value)),
+                None => None,
+            },
         }
     }
 
@@ -67,16 +91,22 @@ impl<'a, K, V> DoubleEndedIterator for IterMut<'a, K, V> {
     ghost next_back_gives = { LendsLast pairs_left };
 
     fn next_back(&mut self) -> Option<(&'a K, &'a mut V)> {
-        match self.nodes.next_back() {
-            Some((_, key, value)) => Some((key, value)),
-            None => None,
+        match self {
+            IterMut::Empty(_) => None,
+            IterMut::Lent(lent) => match lent.nodes.step_back() {
+                Some((_, key, value)) => Some((key, value)),
+                None => None,
+            },
         }
     }
 }
 
 impl<'a, K, V> ExactSizeIterator for IterMut<'a, K, V> {
     fn len(&self) -> usize {
-        self.nodes.len()
+        match self {
+            IterMut::Empty(_) => 0,
+            IterMut::Lent(lent) => lent.nodes.len(),
+        }
     }
 }
 

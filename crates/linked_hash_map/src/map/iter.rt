@@ -5,14 +5,10 @@ ghost use Rattle.std.specs.Map.Iter.{deref, deref_pair, ShowsInOrder, ShowsInRev
 ghost use Rattle.std.specs.Borrow.{sem};
 ghost use Rattle.linked_hash_map.specs.Pairs.{KeysStand};
 ghost use Rattle.linked_hash_map.specs.Validity.{IsValid};
-ghost use Rattle.linked_hash_map.specs.Nodes.{pairs_of};
-ghost use Rattle.lhm_ring.specs.LentRings.{lent_held, lent_name, IsLent};
 
 use super::LinkedHashMap;
 use crate::iter::{Iter, IterMut, Keys, Values};
-use lhm_ring::table::{LentValues, ValueLoan, WithoutValues};
 use std::hash::{BuildHasher, Hash};
-use std::marker::PhantomData;
 
 impl<K: Eq + Hash, V, S: BuildHasher> LinkedHashMap<K, V, S> {
     ghost use Rattle.linked_hash_map.specs.Lends.{lends_values};
@@ -68,7 +64,7 @@ impl<K: Eq + Hash, V, S: BuildHasher> LinkedHashMap<K, V, S> {
         ensures runs { LendsValuesInOrder (pairs_left {K = K} {V = V}) }
         ensures runs_back { LendsValuesInReverse (pairs_left {K = K} {V = V}) }
     {
-        IterMut::new(self.lend())
+        IterMut::over(&mut self.table)
     }
 
     /// Returns a double-ended iterator over the keys, front to back, in O(1).
@@ -115,23 +111,5 @@ impl<K: Eq + Hash, V, S: BuildHasher> LinkedHashMap<K, V, S> {
         ensures runs_back { ShowsInReverse (deref {X = V}) }
     {
         Values::new(self.iter())
-    }
-
-    /// Shares the ring except its values, and lends the values.
-    pub(crate) fn lend<'a>(&'a mut self) -> LentValues<'a, K, V>
-        ensures* writes_back { sem 𝓛
-            (lends_values K.row V.row S.row S.Hasher.row K.Hash S.BuildHasher S.Hasher.Hasher
-            self.entry (lent_name result)) }
-        ensures pairs { pairs_of (lent_held result) ≡ self.old.pairs }
-        ensures lent { IsLent result }
-        ensures valid { IsValid K.eq self.old }
-    {
-        let ring = &raw mut self.table.ring as *const WithoutValues<K, V>;
-        LentValues {
-            ring: unsafe { &*ring },
-            loan: ValueLoan {
-                marker: PhantomData,
-            },
-        }
     }
 }

@@ -7,9 +7,9 @@ use mir.MapTy.{inst_fn}
 use base.Logic.{SProp, ent, emp, id⊢}
 use base.Fml.{Fml, Lft, Incl-trans, Incl-refl, ftrue, fsep, flft, fobs, fbor, fseps}
 use prog.Wp.{WpFn}
-use types.Kit.{◌∵◌, ‵, raw, ◌⊛◌, some, later, at_ret, ◌$◌, !, qed, by, move, keep, use0, use1, use2, pick, await, group, split, split3, join, fsplit, fsplit3, fjoin, suffices, rewrite, feq_i}
+use types.Kit.{drop, ◌∵◌, ‵, raw, ◌⊛◌, some, later, at_ret, ◌$◌, !, qed, by, move, keep, use0, use1, use2, pick, await, group, split, split3, join, fsplit, fsplit3, fjoin, suffices, rewrite, feq_i}
 use types.Run.{stop, addr, of_opd, no_more, and_then, first, blocks, exec, returns, enter}
-use types.ByLocal.{alloc_all, pass_all, free_all, look_at, get, through, sets, sets_last, env}
+use types.ByLocal.{alloc_all, pass_all, free_all, look_at, get, through, sets, sets_last, lands_as, env}
 use types.Part.{agg}
 use types.Follow.{takes_beside, takes_part, after as afterwards}
 use types.SemTy.{SemTy, Body as Borrowed}
@@ -18,7 +18,17 @@ use contract.Running.{tables}
 use contract.BorrowLft.{◌⊑◌}
 use contract.Monad.{fact, fact_i}
 use denote.Exit.{no}
-use denote.Follow.{follows}
+use mathlib.Core.Option as maybe
+use seplogic.Ra.Ura.{Ura}
+use base.Fml.{GName}
+use types.Logic.{Logic, sem}
+use denote.Array.{Array}
+use denote.Laws.{Is, shows}
+use denote.Triple.Call.{calls_at}
+use denote.Triple.Clauses.{Lasts, lasts}
+use denote.Triple.Spec.{triple_of}
+use denote.Triple.Table.{framed}
+use denote.Follow.{follows, follows_by, follows_if}
 use denote.Memory.{mem, part_at}
 use denote.Model.Fields.{view_owns, view-Hides, plain_out}
 use denote.Opens.{hide}
@@ -29,7 +39,7 @@ use denote.RattleType.{RattleType, owns}
 use denote.RawPtr.{Ptr}
 use denote.Ref.{Bor, ShrRef}
 use denote.Signature.{types_at, plain, mut_ref_to, named_lft}
-use denote.Steps.{nothing, heard}
+use denote.Steps.{nothing, heard, peeks}
 use denote.Struct.Declared as declared
 use denote.Triple.Walked.{Stays, stay_dropped, walk_of, Goes-spent_ref}
 use Rattle.std.proofs.VecSteps.Shapes.{after}
@@ -38,6 +48,12 @@ use Rattle.lhm_ring.specs.ValueLoan.{spread}
 use Rattle.lhm_ring.specs.RingState.{State}
 use Rattle.lhm_ring.specs.RingAfterLoan.{held_values, with_values}
 use Rattle.lhm_ring.specs.Iterators.{AreLent}
+use Rattle.lhm_ring.specs.ValueIterators.{held_left, loan_name}
+use Rattle.lhm_ring.specs.declared.value_loan.LentValues.{LentValues}
+use Rattle.lhm_ring.specs.contracts.iter.IterMut as I-iter
+use Rattle.lhm_ring.specs.contracts.iter.IterMut.of as g
+use Rattle.lhm_ring.proofs.iter.IterMut.of.Met as of-thm
+use Rattle.lhm_ring.proofs.iter.IterMut.TheLaws as iter-laws
 use Rattle.lhm_ring.specs.declared.value_loan.ValueLoan.{ValueLoan}
 use Rattle.lhm_ring.specs.declared.links.Links.{Links}
 use Rattle.lhm_ring.specs.contracts.links.Links as links
@@ -57,6 +73,12 @@ use Rattle.lhm_ring.specs.contracts.ring.Ring.lend.Key.{name as #self}
 use Rattle.lhm_ring.proofs.ring.Ring.lend.Statement.{statement}
 use Rattle.lhm_ring.proofs.ring.Ring.lend.Code as code
 
+-- what follows a name that a result has
+by_name : {M : Type 1} {𝓤 : Ura M} (𝓛 : Logic 𝓤) (R T : RattleType) (γ ν : GName) (F : T.Denot → R.Denot) (v : R.Denot) (m : maybe.Option GName) → m ≡ maybe.some ν
+    → ent 𝓤 (sem 𝓛 (follows R T γ ν F)) (sem 𝓛 (follows_if R T γ m F v))
+unfolding follows_by
+by_name {𝓤 = 𝓤} 𝓛 R T γ ν F v m is = subst (λ (n : maybe.Option GName). ent 𝓤 (sem 𝓛 (follows R T γ ν F)) (sem 𝓛 (follows_if R T γ n F v))) (sym is) (id⊢ 𝓤 _)
+
 pub lend_spec : {M : Type 1} → statement M
 unfolding fseps
 lend_spec 𝓤 𝓛 𝓜 𝓡 wired K V LK LV =
@@ -68,8 +90,9 @@ lend_spec 𝓤 𝓛 𝓜 𝓡 wired K V LK LV =
     let κs = y.0.0 in let qs = y.0.1 in let a = y.0.3 in let vss = y.0.4 in let Post : Val → SProp 𝓤 = (walk_of 𝓛 En hs c).post y in
     let rb : ℕ = a.0.ref_ptr.0 in let ro : ℕ = a.0.ref_ptr.1 in let d : State (K.Denot × V.Denot) = a.0.now in
     let others : Fml = fsep (flft κs.1.0 qs.1.0) (fsep (flft κs.1.1.0 qs.1.1.0) ftrue) in
-    let κ : Lft = κs.0 in let q = qs.0 in let γ = a.0.ghost_name in let dcode = R.coded.code d in let bounds = y.0.2 in
-    let It : RattleType = L-type.the_row (named_lft 3 0 tt κs) Q S W in let Holed : RattleType = R-type.the_row S Hr in let lm : RattleType = LoanMarker (named_lft 3 0 tt κs) Q S W in
+    let κ : Lft = κs.0 in let q = qs.0 in let γ = a.0.ghost_name in let dcode = R.coded.code d in let vs : List V.Denot = held_values d.held in let bounds = y.0.2 in
+    let Seq : RattleType = Array W 0 in
+    let It : RattleType = L-type.the_row (named_lft 3 0 tt κs) Q S W in let Out : RattleType = I-iter.the_row (named_lft 3 0 tt κs) S W in let Holed : RattleType = R-type.the_row S Hr in let lm : RattleType = LoanMarker (named_lft 3 0 tt κs) Q S W in
     qed 𝓛 (((‵ (flft κs.0 qs.0) ⊛ ‵ others) ⊛ ‵ (owns (types_at En.signature.params κs) a vss)) ∷ raw (fact 𝓤 (κs.1.0 ⊑ K.lives)) ∷ raw (fact 𝓤 (κs.1.1.0 ⊑ V.lives)) ∷ raw (emp 𝓤) ∷ []) ∵
     keep ! (1 ∷ 2 ∷ 0 ∷ []) $ heard ! (κs.1.0 ⊑ K.lives) (λ inK. heard ! (κs.1.1.0 ⊑ V.lives) (λ inV. split ! $ split ! $ move ! (2 ∷ []) $ fsplit ! $ fsplit3 ! $ keep ! (1 ∷ 2 ∷ 4 ∷ 5 ∷ []) $
     let us : List Val = vptr rb ro ∷ [] in let Run : List Val → SProp 𝓤 = λ ws. WpFn 𝓤 H 𝓣.C 𝓣.Λ fn ws Post in
@@ -83,12 +106,12 @@ lend_spec 𝓤 𝓛 𝓜 𝓡 wired K V LK LV =
     use1 𝓛 (‵ (spread W ps ws) ⊛ ‵ Fs) (ring_cut S W kb 𝓛 i rb ro) $ split ! $
     -- [the values; the fields; the open borrow, in three; the other tokens]
     rewrite ! 0 (λ (l : List V.Denot). ‵ (spread W ps l)) (sym is) refl $ nothing ! $ move ! (2 ∷ 0 ∷ []) $ fjoin ! $ nothing ! $ move ! (3 ∷ 4 ∷ 5 ∷ 2 ∷ 1 ∷ 0 ∷ []) $ group ! 6 $
-    use1 𝓛 (later (some (λ (ν : ℕ). ‵ (fobs ν dcode) ⊛ ‵ (fbor κ (Borrowed As' 0 0 ν)) ⊛ ‵ (flft κ q) ⊛ ‵ (follows R R γ ν (with_values d)) ⊛ ‵ (fbor κ Fs) ⊛ ‵ ftrue)))
-    (takes_beside 𝓛 (mem R) As' (with_values d) κ q rb ro 0 0 γ (Fs ∷ []) (emp 𝓤) (λ m. back S W 𝓛 i d seen ok rb ro (held_values m.held)) dcode dcode d) $ await ! tt $ pick ! (λ ν. split3 ! $ move ! (2 ∷ []) $ split3 ! $ move ! (3 ∷ 4 ∷ 0 ∷ []) $
+    use1 𝓛 (later (some (λ (ν : ℕ). ‵ (fobs ν (As'.coded.code vs)) ⊛ ‵ (fbor κ (Borrowed As' 0 0 ν)) ⊛ ‵ (flft κ q) ⊛ ‵ (follows R Seq γ ν (with_values d)) ⊛ ‵ (fbor κ Fs) ⊛ ‵ ftrue)))
+    (takes_beside 𝓛 (mem R) As' (with_values d) κ q rb ro 0 0 γ (Fs ∷ []) (emp 𝓤) (back S W 𝓛 i d seen ok rb ro) dcode dcode vs) $ await ! tt $ pick ! (λ ν. split3 ! $ move ! (2 ∷ []) $ split3 ! $ move ! (3 ∷ 4 ∷ 0 ∷ []) $
     -- [the name; the borrow; its token; what follows; the shared parts; the other tokens]
-    open_ref ! tt As' {x = d} {b = 0} {o = 0} $ rewrite ! 0 (λ (l : List V.Denot). ‵ (spread W ps l)) is refl $ nothing ! $ move ! (2 ∷ 3 ∷ 4 ∷ 1 ∷ 0 ∷ []) $ group ! 5 $
+    open_ref ! tt As' {x = vs} {b = 0} {o = 0} $ rewrite ! 0 (λ (l : List V.Denot). ‵ (spread W ps l)) is refl $ nothing ! $ move ! (2 ∷ 3 ∷ 4 ∷ 1 ∷ 0 ∷ []) $ group ! 5 $
     use1 𝓛 (later (some (λ (δ : ℕ). ‵ (fobs δ (Vs.coded.code ws)) ⊛ ‵ (fbor κ (Borrowed Vs 0 0 δ)) ⊛ ‵ (flft κ q) ⊛ ‵ (afterwards As' Vs ν δ (listed_as S W 𝓛 i d seen ok rb ro)))))
-    (takes_part 𝓛 As' Vs (listed_as S W 𝓛 i d seen ok rb ro) κ q 0 0 0 0 ν (emp 𝓤) (ordered_back S W 𝓛 i d seen ok rb ro) dcode dcode ws) $ await ! tt $ pick ! (λ δ. split3 ! $ fjoin ! $
+    (takes_part 𝓛 As' Vs (listed_as S W 𝓛 i d seen ok rb ro) κ q 0 0 0 0 ν (emp 𝓤) (ordered_back S W 𝓛 i d seen ok rb ro) (As'.coded.code vs) (As'.coded.code vs) ws) $ await ! tt $ pick ! (λ δ. split3 ! $ fjoin ! $
     let lent : ValueLoan Links K.Denot V.Denot = record { marker = record {}; name = δ; tie = ν; run = run_of es } in let top : Bor (State (K.Denot × V.Denot)) = record { ref_ptr = (rb, ro); now = d } in
     use0 𝓛 (‵ (lm.own_val (tt, tt) (marker ∷ []))) (loan_made (named_lft 3 0 tt κs) Q S W 𝓛) $ fjoin ! $
     -- [the loan; its token and the second name's; what follows; the shared parts; the other tokens]
@@ -108,8 +131,17 @@ lend_spec 𝓤 𝓛 𝓜 𝓡 wired K V LK LV =
     exec ! 𝓣.C 𝓣.Λ Ev (after 2 fn.body) (at_ret Ev Post) $ sets ! (of_opd ! (get ! refl)) refl (tt, tt) $ sets ! (agg ! (no_more !)) refl (tt, tt) $
     sets ! (agg ! (and_then ! (get ! refl) (no_more !))) refl (tt, (tt, tt)) $ sets ! (agg ! (and_then ! (get ! refl) (and_then ! (get ! refl) (no_more !)))) refl (tt, (tt, ((tt, tt), tt))) $
     -- [the pair; the token; nothing; the second name's; what follows; the other tokens]
-    let Same : Type 0 = d.held ≡ d.held in let Lent' : Type 0 = AreLent (run_of es) d.held in
-    use0 𝓛 (raw (fact 𝓤 Lent')) (fact_i 𝓤 Lent' (emp 𝓤) (AreLent-entries S W 𝓛 i d seen ok rb ro)) $
-    use0 𝓛 (raw (fact 𝓤 Same)) (fact_i 𝓤 Same (emp 𝓤) refl) $ join ! $ move ! (5 ∷ 0 ∷ []) $ join ! $ move ! (2 ∷ 5 ∷ []) $ join ! $
-    nothing ! $ nothing ! $ fjoin ! $
-    returns ! (look_at ! 0 refl) $ free_all ! refl $ keep ! (1 ∷ 0 ∷ 3 ∷ 2 ∷ []) $ by ! (leaves 𝓛 En hs c y out (record { ring = top; loan = lent }) (tt, tt) (tt, tt)))))))))
+    let IsL : Type 0 = AreLent (run_of es) d.held in let lv : LentValues K.Denot V.Denot = record { ring = top; loan = lent } in
+    let O = triple_of 𝓛 (g.signature K V) (g.spec K V 𝓛 𝓜.mem 𝓡.returns) in let z : O.Ghost = ((κs, qs, bounds, (lv, tt), (out ∷ [], tt)), tt) in
+    move ! (1 ∷ 5 ∷ []) $ join ! $ move ! (1 ∷ 2 ∷ []) $ fjoin ! $ move ! (1 ∷ 0 ∷ []) $ join ! $
+    use0 𝓛 (raw (fact 𝓤 IsL)) (fact_i 𝓤 IsL (emp 𝓤) (AreLent-entries S W 𝓛 i d seen ok rb ro)) $ use0 𝓛 (raw (fact 𝓤 (κs.1.1.0 ⊑ V.lives))) (fact_i 𝓤 (κs.1.1.0 ⊑ V.lives) (emp 𝓤) inV) $ join ! $
+    use0 𝓛 (raw (fact 𝓤 (κs.1.0 ⊑ K.lives))) (fact_i 𝓤 (κs.1.0 ⊑ K.lives) (emp 𝓤) inK) $ join ! $ move ! (1 ∷ 0 ∷ []) $ use2 𝓛 (raw (O.pre z)) (id⊢ 𝓤 _) $
+    calls_at ! (framed 𝓤 H 𝓜 𝓣) O (of-thm.met 𝓤 𝓛 𝓜 𝓡 (code.calls-lhm_ring::iter::IterMut::of 𝓡.env wired) K V LK LV) z (and_then ! (get ! refl) (no_more !)) (λ v.
+    use1 𝓛 (later (some (λ (r : Out.Denot). ((‵ (flft κ q) ⊛ ‵ others) ⊛ ‵ (Out.own_val r (v ∷ []))) ⊛ some (λ (ls : Lasts (g.ended K V) κs z.0.3). ‵ (lasts (g.ended K V) κs z.0.3 ls) ⊛ (raw (fact 𝓤 (held_left r ≡ d.held)) ⊛ raw (fact 𝓤 (loan_name r ≡ maybe.some ν))))))) (id⊢ 𝓤 _) $
+    await ! tt $ pick ! (λ r. split ! $ split ! $ split ! $ move ! (3 ∷ []) $ pick ! (λ ls. split ! $ drop ! $ split ! $ heard ! _ (λ rest. heard ! _ (λ name.
+    -- [the token; the other tokens; the result; the second name's; what follows]
+    move ! (2 ∷ []) $ peeks ! Out (Is Out) (shows 𝓛 Out) r (v ∷ []) (λ it.
+    lands_as ! refl refl (((iter-laws.the_row_laws (named_lft 3 0 tt κs) S W LS (param_laws 1 V LV)).lawful 𝓛).typed r (v ∷ []) it).0 $ returns ! (look_at ! 0 refl) $ free_all ! refl $
+    move ! (4 ∷ []) $ use1 𝓛 (‵ (follows_if R Seq γ (loan_name r) (with_values d) d)) (by_name 𝓛 R Seq γ ν (with_values d) d (loan_name r) name) $
+    use0 𝓛 (raw (fact 𝓤 (held_left r ≡ d.held))) (fact_i 𝓤 _ (emp 𝓤) rest) $ move ! (1 ∷ 0 ∷ []) $ join ! $ move ! (2 ∷ 3 ∷ []) $ join ! $ nothing ! $ nothing ! $ fjoin ! $
+    keep ! (1 ∷ 0 ∷ 3 ∷ 2 ∷ []) $ by ! (leaves 𝓛 En hs c y v r (tt, tt) (tt, tt)))))))))))))))

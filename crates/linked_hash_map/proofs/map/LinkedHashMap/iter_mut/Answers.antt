@@ -1,16 +1,25 @@
-use Rattle.std.proofs.Common.{refl, sym, ◌∙◌}
+use Rattle.std.proofs.Common.{refl}
+use borrow.Follows.Closed.{read_of}
+use Rattle.linked_hash_map.specs.Nodes.{pairs_of, beside, map_of}
+use Rattle.linked_hash_map.specs.ValueIterators.{loan_name}
 use Rattle.linked_hash_map.proofs.IteratorLaws.{keys_stand, lends_in_order, lends_in_reverse}
+use Rattle.linked_hash_map.proofs.Kept.{IsValid-view, IsKept-values, map_of-values}
 use Rattle.linked_hash_map.proofs.map.LinkedHashMap.iter_mut.Goals as goal
 
+pub invariant_of-self-lent : goal.invariant_of-self-lent
+invariant_of-self-lent g c = λ _. ((λ vs. IsKept-values c.self.inside.table vs c.self.invariant), c.self.invariant)
+
 pub returns : goal.returns
-returns g c = (
-  (sym c.new.ensures.name, λ w. refl),
-  record {
-    writes_back = tt;
-    keeps = keys_stand c.args.self.now.pairs;
-    rest = c.new.ensures.rest ∙ c.lend.ensures.pairs;
-    valid = c.lend.ensures.valid;
-    runs = lends_in_order _;
-    runs_back = lends_in_reverse _;
-  },
-)
+returns g c =
+    let m = c.self.inside in
+    rw (← c.self.view_is) (
+      (λ j. read_of (loan_name c.over.result) (λ vs. map_of-values m.table vs (beside m) j) (map_of m.table (beside m))),
+      record {
+        writes_back = tt;
+        keeps = keys_stand (pairs_of m.table.held);
+        rest = c.over.ensures.rest;
+        valid = IsValid-view c.self.invariant refl refl;
+        runs = lends_in_order _;
+        runs_back = lends_in_reverse _;
+      },
+    )

@@ -1,15 +1,28 @@
-use Rattle.std.proofs.Common.{◌≡◌, refl}
+use Rattle.std.proofs.Common.{◌≡◌, refl, map, List}
+use mathlib.Core.Option.{Option, none, some}
+use borrow.Follows.Either.{either}
 use Rattle.lhm_ring.specs.Positions.{pointer_of}
+use Rattle.lhm_ring.specs.RingState.{State}
+use Rattle.lhm_ring.specs.RingAfterLoan.{unvalued, with_values}
 use Rattle.lhm_ring.proofs.ValuesInOrder.{unvalued-set_held_values, IsHeld-unvalued, AtHeld-unvalued}
 use Rattle.ring_tests.proofs.tests.rings.hash_after_writing.Goals as goal
 
+module _ {K V : Type 0} (s : State (K × V)) where
+  same_held : (o : Option (List V)) → map unvalued (either (with_values s) s o).held ≡ map unvalued s.held
+  same_held none = refl
+  same_held (some vs) = unvalued-set_held_values s.held vs
+
+  same_spares : (o : Option (List V)) → (either (with_values s) s o).spares ≡ s.spares
+  same_spares none = refl
+  same_spares (some vs) = refl
+
 pub hash-requires : goal.hash-requires
-hash-requires c = let hs = c.args.ring.now.held in IsHeld-unvalued _ hs (pointer_of c.args.at) (unvalued-set_held_values hs _) c.requires
+hash-requires c = let s = c.args.ring.now in IsHeld-unvalued _ s.held (pointer_of c.args.at) (same_held s _) c.requires
 
 pub returns : goal.returns
 returns c =
-    let hs = c.args.ring.now.held in record {
-      hash = AtHeld-unvalued _ hs (pointer_of c.args.at) (unvalued-set_held_values hs _) (λ t. c.hash.result ≡ t.hash) c.hash.ensures;
-      held = c.iter_mut-hash-items.ensures.keeps _;
-      spares = refl;
+    let s = c.args.ring.now in record {
+      hash = AtHeld-unvalued _ s.held (pointer_of c.args.at) (same_held s _) (λ t. c.hash.result ≡ t.hash) c.hash.ensures;
+      held = same_held s _;
+      spares = same_spares s _;
     }

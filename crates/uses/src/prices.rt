@@ -1,0 +1,43 @@
+//! A price list.
+ghost use Rattle.std.specs.Prelude.{◌≡◌};
+ghost use Rattle.std.specs.Borrow.{sem};
+ghost use Rattle.std.specs.Map.{keys_of};
+ghost use Rattle.linked_hash_map.specs.Pairs.{KeysStand};
+ghost use Rattle.linked_hash_map.specs.ValueIterators.{pairs_left, loan_name};
+
+use linked_hash_map::{IterMut, LinkedHashMap};
+use std::alloc::Global;
+
+/// The prices of items, by their numbers, and the year in which they hold.
+#[derive(Drop)]
+pub struct Prices {
+    items: LinkedHashMap<u64, u64>,
+    year: u64,
+}
+
+impl Prices {
+    ghost use Rattle.uses.specs.Lending.{lends_prices};
+
+    /// Lends all prices for writing, in order. The items stand, each in its place, and so does the
+    /// year.
+    pub fn iter_mut(&mut self) -> IterMut<'_, u64, u64>
+        ensures* writes_back { sem 𝓛 (lends_prices self.entry (loan_name result)) }
+        // A law of lists, for the proofs of callers.
+        ensures keeps { KeysStand self.old.items.pairs }
+        ensures rest { pairs_left result ≡ self.old.items.pairs }
+    {
+        self.items.iter_mut()
+    }
+}
+
+/// Lowers each price to a limit: a loop over the prices that the list lends.
+pub fn limit(prices: &mut Prices, most: u64)
+    ensures items { keys_of prices.new.items.pairs ≡ keys_of prices.old.items.pairs }
+    ensures year { prices.new.year ≡ prices.old.year }
+{
+    for (_item, price) in prices.iter_mut() {
+        if *price > most {
+            *price = most;
+        }
+    }
+}
