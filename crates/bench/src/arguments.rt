@@ -1,7 +1,8 @@
-//! The arguments: numbers above 0.
+//! The arguments: the name of a workload, and numbers above 0.
 ghost use Rattle.std.specs.Prelude.{◌≡◌, IfNone, IfSome};
 ghost use Rattle.bench.specs.Arguments.{IsNumber, IsNoNumber, decimal_value};
 
+use super::workloads::Workload;
 use std::alloc::{AllocError, Global};
 
 /// Reads a number above 0, or returns `None` if the word is none.
@@ -27,4 +28,17 @@ pub fn numbers(alloc: Global, words: &[String]) -> Result<Option<Vec<u64>>, Allo
         numbers.push(number)?;
     }
     Ok(Some(numbers))
+}
+
+/// Returns the workload that the first word names, if it names one, and the words behind it.
+pub fn workload_named(words: &[String]) -> (Option<Workload>, &[String]) {
+    let [name, rest @ ..] = words else {
+        return (None, words);
+    };
+    for workload in Workload::ALL {
+        if workload.name() == name.as_str() {
+            return (Some(workload), rest);
+        }
+    }
+    (None, words)
 }

@@ -1,9 +1,9 @@
 //! Times the calls of the map.
 //!
-//! `bench ORDER ROUNDS N ..` prints for each size N a line `workload n ns_per_op check` for each
-//! workload: the nanoseconds of processor time of this thread that the best of the rounds took,
-//! divided by N, and the sum of what the rounds returned. ORDER is `repeated` or `random`. With no
-//! arguments it prints how it is called.
+//! `bench ORDER [WORKLOAD] ROUNDS N ..` prints for each size N a line `workload n ns_per_op check`
+//! for each workload, or for the one that is named: the nanoseconds of processor time of this
+//! thread that the best of the rounds took, divided by N, and the sum of what the rounds returned.
+//! ORDER is `repeated` or `random`. With no arguments it prints how it is called.
 #![tactic(auto)]
 
 ghost use Rattle.std.specs.Prelude.{◌≡◌, ◌<◌, ◌*◌, ◌/◌, ◌^◌};
@@ -14,7 +14,7 @@ mod order;
 mod tests;
 mod workloads;
 
-use arguments::numbers;
+use arguments::{numbers, workload_named};
 use order::{Order, Random, Repeated};
 use std::alloc::Global;
 use std::io::Write;
@@ -23,7 +23,7 @@ use std::time::CpuClock;
 use std::{env, io};
 use workloads::{Map, Workload, fill};
 
-const USAGE: &str = "usage: bench repeated|random ROUNDS N ..";
+const USAGE: &str = "usage: bench repeated|random [WORKLOAD] ROUNDS N ..";
 
 /// The best time of a workload in nanoseconds, and the sum of what its rounds returned.
 #[derive(Drop)]
@@ -65,11 +65,37 @@ fn hundredths(nanoseconds: u128, n: u64) -> u128
     nanoseconds.saturating_mul(100) / n as u128
 }
 
-/// Times each workload at a size, and writes a line for each.
+/// Times a workload at a size, and writes a line.
+fn time<C: CpuClock, O: Order, W: Write>(
+    clock: &C,
+    alloc: Global,
+    output: &mut W,
+    workload: Workload,
+    map: &mut Map,
+    order: &mut O,
+    rounds: u64,
+    n: u64,
+) -> io::Result<()>
+    requires { 0 < n }
+{
+    let timed = best_of(clock, alloc, workload, map, order, rounds, n)?;
+    let time = hundredths(timed.nanoseconds, n);
+    writeln!(
+        output,
+        "{} {n} {}.{:02} {}",
+        workload.name(),
+        time / 100,
+        time % 100,
+        timed.check
+    )
+}
+
+/// Times each workload at a size, or only one, and writes a line for each.
 fn bench<C: CpuClock, O: Order, W: Write>(
     clock: &C,
     alloc: Global,
     output: &mut W,
+    only: Option<Workload>,
     order: &mut O,
     rounds: u64,
     n: u64,
@@ -78,20 +104,13 @@ fn bench<C: CpuClock, O: Order, W: Write>(
 {
     let mut map = Map::new(alloc);
     for workload in Workload::ALL {
-        let timed = best_of(clock, alloc, workload, &mut map, order, rounds, n)?;
+        if only.is_none() || only == Some(workload) {
+            time(clock, alloc, output, workload, &mut map, order, rounds, n)?;
+        }
         // The others' map is filled only now, so that its nodes lie in memory that was used before.
         if workload == Workload::InsertNew {
             map = fill(alloc, 0, n)?;
         }
-        let time = hundredths(timed.nanoseconds, n);
-        let name = workload.name();
-        writeln!(
-            output,
-            "{name} {n} {}.{:02} {}",
-            time / 100,
-            time % 100,
-            timed.check
-        )?;
     }
     Ok(())
 }
@@ -102,6 +121,7 @@ fn run<C: CpuClock, O: Order, W: Write>(
     clock: &C,
     alloc: Global,
     output: &mut W,
+    only: Option<Workload>,
     order: &mut O,
     numbers: &[u64],
 ) -> io::Result<()> {
@@ -113,7 +133,7 @@ fn run<C: CpuClock, O: Order, W: Write>(
     }
     for n in sizes {
         if 0 < *n {
-            bench(clock, alloc, output, order, *rounds, *n)?;
+            bench(clock, alloc, output, only, order, *rounds, *n)?;
         }
     }
     Ok(())
@@ -135,13 +155,21 @@ fn main(rt: HostRuntime) -> io::Result<ExitCode> {
         println!(rt; "{USAGE}")?;
         return Ok(ExitCode::from(0));
     };
+    let (only, words) = workload_named(words);
     let Some(numbers) = numbers(rt.alloc(), words)? else {
         return misused(&rt);
     };
     let (alloc, numbers) = (rt.alloc(), numbers.as_slice());
     match order.as_str() {
-        "repeated" => run(&rt, alloc, &mut rt.stdout(), &mut Repeated, numbers)?,
-        "random" => run(&rt, alloc, &mut rt.stdout(), &mut Random::new(), numbers)?,
+        "repeated" => run(&rt, alloc, &mut rt.stdout(), only, &mut Repeated, numbers)?,
+        "random" => run(
+            &rt,
+            alloc,
+            &mut rt.stdout(),
+            only,
+            &mut Random::new(),
+            numbers,
+        )?,
         _ => return misused(&rt),
     }
     Ok(ExitCode::from(0))

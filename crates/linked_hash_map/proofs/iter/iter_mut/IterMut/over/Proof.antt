@@ -1,7 +1,7 @@
 -- `over` hands on what the table's own `iter_mut` returns, as an iterator of another type. By hand,
 -- since the borrow checker proves a loan handed on only if the result is handed on as it is.
 use mathlib.Core.Option as maybe
-use base.Fml.{Fml, Lft, GName, ftrue, flft}
+use base.Fml.{Fml, GName, ftrue, flft}
 use base.Logic.{emp, id⊢}
 use contract.BorrowLft.{◌⊑◌}
 use contract.Fact.{fact_i}
