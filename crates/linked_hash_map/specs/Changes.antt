@@ -21,8 +21,7 @@ module _ {K V S : Type 0} where
   -- for it
   abbrev pub set_or_pushed : (K → K → Bool) → LinkedMap K V S → K → V → LinkedMap K V S
   set_or_pushed eq m k v =
-      let pairs = set_or_push eq m.pairs k v in
-      let capacity = max m.capacity (length pairs) in
+      let pairs = set_or_push eq m.pairs k v in let capacity = max m.capacity (length pairs) in
       record m {
         pairs = pairs;
         capacity = capacity;

@@ -1,8 +1,8 @@
 -- A table of sessions whose weights sum to at most a limit.
-use Rattle.std.specs.Prelude.{◌≡◌, ℕ, ◌≤◌, ◌==◌, not, List, [], ◌∷◌, ◌++◌, map, length, filter, find, sum_by, nat_le, nat_eq, if◌then◌else◌, Option, option_map, unwrap_or, refl}
+use Rattle.std.specs.Prelude.{◌≡◌, ℕ, ◌≤◌, ◌==◌, not, List, [], ◌∷◌, ◌++◌, map, length, filter, find, sum_by, nat_le, nat_eq, if◌then◌else◌}
+use Rattle.std.specs.Prelude.{Option, option_map, unwrap_or}
 use Rattle.std.specs.Borrow.{Bor}
 use Rattle.std.specs.List.{IsDistinct}
-use Rattle.std.specs.Coded.{Coded, code_by, coded×, coded_list, coded_ℕ}
 
 -- a session: its id, its weight and its payload
 abbrev pub Session : Type 0 → Type 0
@@ -75,14 +75,3 @@ module _ {T : Type 0} where
   pub record IsValidTable (table : SessionTable T) : Type 0 where
     pub distinct : IsDistinct nat_eq (ids_of table.sessions)
     pub within : total_weight table.sessions ≤ table.limit
-
-  -- a table is stored as the pair of its fields
-  abbrev pub session_code : Coded T → Coded (Session T)
-  session_code payload =
-      code_by (ℕ × (ℕ × T)) (coded× coded_ℕ (coded× coded_ℕ payload)) (λ s. (s.0, (s.1, s.2))) (λ p.
-      (p.0, p.1.0, p.1.1)) (λ _. refl)
-
-  abbrev pub session_table_code : Coded T → Coded (SessionTable T)
-  session_table_code payload =
-      code_by (List (Session T) × ℕ) (coded× (coded_list (session_code payload)) coded_ℕ)
-      (λ table. (table.sessions, table.limit)) (λ p. session_table p.0 p.1) (λ _. refl)

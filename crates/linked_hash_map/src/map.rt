@@ -120,13 +120,11 @@ impl<K: Eq + Hash + Drop, V: Drop, S: BuildHasher + Drop> Drop for LinkedHashMap
 /// A contract sees the pairs, front to back, capacity, hasher, mode, `rechained` and the pairs left
 /// to visit.
 impl<K: Eq + Hash, V, S: BuildHasher> Model for LinkedHashMap<K, V, S> {
-    ghost use Rattle.linked_hash_map.specs.LinkedMap.{LinkedMap, linked_map_code};
+    ghost use Rattle.linked_hash_map.specs.LinkedMap.{LinkedMap};
     ghost use Rattle.linked_hash_map.specs.Nodes.{IsKept, map_of, beside, visit_of};
     ghost use Rattle.linked_hash_map.specs.Hashers.{hash_by};
 
     ghost Value = { LinkedMap K V S };
-
-    ghost coded = { linked_map_code K.code V.code S.code };
 
     ghost view = { λ m. map_of m.table (beside m) };
 

@@ -79,12 +79,10 @@ pub struct Sessions<T> {
 
 /// A contract sees the sessions, in order, and the limit.
 impl<T> Model for Sessions<T> {
-    ghost use Rattle.linked_hash_map.specs.SessionTables.{SessionTable, session_table, session_table_code};
+    ghost use Rattle.linked_hash_map.specs.SessionTables.{SessionTable, session_table};
     ghost use Rattle.linked_hash_map.specs.SessionsKept.{sessions_of, IsKeptWithin};
 
     ghost Value = { SessionTable T };
-
-    ghost coded = { session_table_code T.code };
 
     ghost view = { λ s. session_table (sessions_of s.map.pairs) s.limit };
 

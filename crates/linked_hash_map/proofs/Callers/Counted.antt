@@ -1,6 +1,7 @@
 -- For callers: a count for each item of a list, one item after another, and the keys in the order
 -- in which they first come.
-use Rattle.std.proofs.Common.{◌≡◌, ℕ, ◌+◌, ◌<◌, Bool, true, false, cond, List, [], ◌∷◌, ◌++◌, length, take, get_or, fold, Some, unwrap_or, refl, sym, ap, ◌∙◌, arith, length-take}
+use Rattle.std.proofs.Common.{◌≡◌, ℕ, ◌+◌, ◌<◌, Bool, true, false, cond, List, [], ◌∷◌, ◌++◌, length, take, get_or, fold, Some, unwrap_or}
+use Rattle.std.proofs.Common.{refl, sym, ap, ◌∙◌, arith, length-take}
 use Rattle.std.specs.Prelude.{if◌then◌else◌}
 use Rattle.std.specs.List.{count_by, list_any}
 use Rattle.std.specs.Map.{keys_of}
@@ -22,7 +23,9 @@ module _ {K : Type 0} {eq : K → K → Bool} (laws : IsEquivalence eq) (pairs :
       item : K
       item = get_or items i d
 
-      by_test : (b : Bool) → eq item q ≡ b → unwrap_or (value_at eq (set_or_push eq pairs item n) q) 0 ≡ count_by (eq q) (take (i + 1) items)
+      by_test : (b : Bool) → eq item q ≡ b
+          → unwrap_or (value_at eq (set_or_push eq pairs item n) q) 0
+          ≡ count_by (eq q) (take (i + 1) items)
       by_test true same =
           ap (λ o. unwrap_or o 0) (value_at-set_or_push laws pairs item q n)
           ∙ ap (λ b. unwrap_or (cond b (Some n) (value_at eq pairs q)) 0) same
@@ -42,15 +45,16 @@ module _ {K : Type 0} {eq : K → K → Bool} (laws : IsEquivalence eq) (pairs :
       → unwrap_or (value_at eq pairs (get_or items i d)) 0 < length items
   count-lt-length d i within before =
       let few = count_by-le-length (eq (get_or items i d)) (take i items) in
-      let some = length-take i items in
-      let same = before (get_or items i d) in
+      let some = length-take i items in let same = before (get_or items i d) in
       omega arith
 
   -- and its key stands behind the others, if it is new
   pub keys_of-set_or_push_first_seen : (d : K) (n i : ℕ) → i < length items
       → keys_of pairs ≡ fold (λ seen item.
       if list_any (eq item) seen then seen else seen ++ item ∷ []) [] (take i items)
-      → keys_of (set_or_push eq pairs (get_or items i d) n) ≡ fold (λ seen item. if list_any (eq item) seen then seen else seen ++ item ∷ []) [] (take (i + 1) items)
+      → keys_of (set_or_push eq pairs (get_or items i d) n)
+      ≡ fold (λ seen item. if list_any (eq item) seen then seen else seen ++ item ∷ []) []
+      (take (i + 1) items)
   keys_of-set_or_push_first_seen d n i within before =
       let seen_with = λ (seen : List K) (item : K). if list_any (eq item) seen then seen else seen ++ item ∷ [] in
       let item = get_or items i d in
@@ -62,7 +66,8 @@ module _ {K : Type 0} {eq : K → K → Bool} (laws : IsEquivalence eq) (pairs :
 -- a step of the loop, as the clauses of `entry` and of `or_insert` say it: the entry's key stands
 -- for the item k, whose count is n
 module _ {K : Type 0} {eq : K → K → Bool} (laws : IsEquivalence eq) (before after : List (K × ℕ)) (items : List K) (stored k : K) where
-  own : (n i : ℕ) → k ≡ get_or items i k → ActsAs eq before stored k → after ≡ set_or_push eq before stored n → after ≡ set_or_push eq before (get_or items i k) n
+  own : (n i : ℕ) → k ≡ get_or items i k → ActsAs eq before stored k
+      → after ≡ set_or_push eq before stored n → after ≡ set_or_push eq before (get_or items i k) n
   own n i item_is acts written = written ∙ acts.sets_or_pushes n ∙ ap (λ j. set_or_push eq before j n) item_is
 
   pub count_by-counted : (q : K) (n i : ℕ) → i < length items → k ≡ get_or items i k

@@ -27,9 +27,6 @@ buckets_least c some =
 -- a power of two has as many buckets as it is
 pub buckets_power : (c : ℕ) → IsPowerOfTwo c → buckets c ≡ c
 buckets_power c power =
-    let some = pow_pos power.0 in
-    let is = power.1 in
-    let least = buckets_least c (omega arith) in
-    let enough = least.enough in
-    let no_more = least.least c power (omega arith) in
+    let some = pow_pos power.0 in let is = power.1 in let least = buckets_least c (omega arith) in
+    let enough = least.enough in let no_more = least.least c power (omega arith) in
     omega arith

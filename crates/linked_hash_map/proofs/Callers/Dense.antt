@@ -1,5 +1,6 @@
 -- For callers: maps whose values are numbers from 0 on, in the order of the places.
-use Rattle.std.proofs.Common.{◌≡◌, ℕ, zero, suc, ◌+◌, ◌<◌, Bool, true, false, cond, List, [], ◌∷◌, ◌++◌, length, Option, Some, None, IfSome, option_map, refl, subst, ap, ◌∙◌, arith, length-append}
+use Rattle.std.proofs.Common.{◌≡◌, ℕ, zero, suc, ◌+◌, ◌<◌, Bool, true, false, cond, List, [], ◌∷◌, ◌++◌, length, Option, Some, None, IfSome}
+use Rattle.std.proofs.Common.{option_map, refl, subst, ap, ◌∙◌, arith, length-append}
 use Rattle.std.specs.List.{range_with_len}
 use Rattle.std.specs.Map.{values_of}
 use Rattle.linked_hash_map.specs.Pairs.{find, value_at}
@@ -14,7 +15,8 @@ range_with_len-append a zero = let same : a + 0 ≡ a = omega arith in ap (λ (i
 range_with_len-append a (suc n) =
     let one : suc (n + 1) ≡ suc n + 1 = omega arith in
     let next : a + suc n ≡ (a + 1) + n = omega arith in
-    ap (λ (i : ℕ). a ∷ (range_with_len (a + 1) n ++ i ∷ [])) next ∙ ap (λ xs. a ∷ xs) (range_with_len-append (a + 1) n) ∙ ap (range_with_len a) one
+    ap (λ (i : ℕ). a ∷ (range_with_len (a + 1) n ++ i ∷ [])) next
+    ∙ ap (λ xs. a ∷ xs) (range_with_len-append (a + 1) n) ∙ ap (range_with_len a) one
 
 -- the next number at the back. The first part shows `grind` the call to match
 pub values_of_dense_push : {K : Type 0} (pairs : List (K × ℕ)) (k : K) (n : ℕ) → n ≡ length pairs
@@ -33,7 +35,9 @@ values_of_dense_push pairs k n next dense =
     )
 
 -- each number is below the number of pairs
-below : {K : Type 0} (eq : K → K → Bool) (a : ℕ) (pairs : List (K × ℕ)) (k : K) → values_of pairs ≡ range_with_len a (length pairs) → IfSome (value_at eq pairs k) (λ n. n < a + length pairs)
+below : {K : Type 0} (eq : K → K → Bool) (a : ℕ) (pairs : List (K × ℕ)) (k : K)
+    → values_of pairs ≡ range_with_len a (length pairs)
+    → IfSome (value_at eq pairs k) (λ n. n < a + length pairs)
 below eq a [] k dense = tt
 below {K = K} eq a (pair ∷ pairs) k dense = by_test (eq k pair.0) (below eq (a + 1) pairs k rest)
   where
@@ -43,11 +47,15 @@ below {K = K} eq a (pair ∷ pairs) k dense = by_test (eq k pair.0) (below eq (a
     own : pair.1 ≡ a
     own = let both : pair.1 ∷ values_of pairs ≡ a ∷ range_with_len (a + 1) (length pairs) = dense in cc
 
-    weaker : (o : Option (K × ℕ)) → IfSome (option_map (λ (p : K × ℕ). p.1) o) (λ n. n < (a + 1) + length pairs) → IfSome (option_map (λ (p : K × ℕ). p.1) o) (λ n. n < a + suc (length pairs))
+    weaker : (o : Option (K × ℕ))
+        → IfSome (option_map (λ (p : K × ℕ). p.1) o) (λ n. n < (a + 1) + length pairs)
+        → IfSome (option_map (λ (p : K × ℕ). p.1) o) (λ n. n < a + suc (length pairs))
     weaker None less = tt
     weaker (Some p) less = omega arith
 
-    by_test : (b : Bool) → IfSome (value_at eq pairs k) (λ n. n < (a + 1) + length pairs) → IfSome (option_map (λ (p : K × ℕ). p.1) (cond b (Some pair) (find eq pairs k))) (λ n. n < a + suc (length pairs))
+    by_test : (b : Bool) → IfSome (value_at eq pairs k) (λ n. n < (a + 1) + length pairs)
+        → IfSome (option_map (λ (p : K × ℕ). p.1) (cond b (Some pair) (find eq pairs k)))
+        (λ n. n < a + suc (length pairs))
     by_test true less = let is_own = own in omega arith
     by_test false less = weaker (find eq pairs k) less
 
@@ -56,7 +64,9 @@ value_at_dense_below : {K : Type 0} (eq : K → K → Bool) (pairs : List (K × 
     → IfSome (value_at eq pairs k) (λ n. n < length pairs)
 value_at_dense_below {K = K} eq pairs k dense = at_zero (find eq pairs k) (below eq 0 pairs k dense)
   where
-    at_zero : (o : Option (K × ℕ)) → IfSome (option_map (λ (p : K × ℕ). p.1) o) (λ n. n < 0 + length pairs) → IfSome (option_map (λ (p : K × ℕ). p.1) o) (λ n. n < length pairs)
+    at_zero : (o : Option (K × ℕ))
+        → IfSome (option_map (λ (p : K × ℕ). p.1) o) (λ n. n < 0 + length pairs)
+        → IfSome (option_map (λ (p : K × ℕ). p.1) o) (λ n. n < length pairs)
     at_zero None less = tt
     at_zero (Some p) less = omega arith
 
@@ -65,4 +75,8 @@ pub value_at_dense_each : {K : Type 0} (eq : K → K → Bool) (pairs : List (K 
     → values_of pairs ≡ range_with_len 0 (length pairs)
     → (value_at eq pairs k ≡ value_at eq pairs k)
     × ((n : ℕ) → value_at eq pairs k ≡ Some n → n < length pairs)
-value_at_dense_each eq pairs k dense = (refl, λ n found. subst (λ (p : Option ℕ). IfSome p (λ m. m < length pairs)) found (value_at_dense_below eq pairs k dense))
+value_at_dense_each eq pairs k dense = (
+  refl,
+  λ n found. subst (λ (p : Option ℕ). IfSome p (λ m. m < length pairs)) found
+      (value_at_dense_below eq pairs k dense),
+)

@@ -10,8 +10,14 @@ use Rattle.linked_hash_map.specs.Comparison.{same_pair}
 use Rattle.linked_hash_map.specs.Clones.{IsClone}
 
 module _ {K V : Type 0} {eq : K → K → Bool} {value_eq : V → V → Bool} where
-  same_pair-Decides : ((a b : K) → Decides (eq a b) (a ≡ b)) → ((a b : V) → Decides (value_eq a b) (a ≡ b)) → (p q : K × V) → Decides (same_pair eq value_eq p q) (p ≡ q)
-  same_pair-Decides keys values p q = (by_key (eq p.0 q.0) refl, λ same. ap₂ (λ a b. a && b) ((keys p.0 q.0).1 (ap (λ r. r.0) same)) ((values p.1 q.1).1 (ap (λ r. r.1) same)))
+  same_pair-Decides : ((a b : K) → Decides (eq a b) (a ≡ b))
+      → ((a b : V) → Decides (value_eq a b) (a ≡ b)) → (p q : K × V)
+      → Decides (same_pair eq value_eq p q) (p ≡ q)
+  same_pair-Decides keys values p q = (
+    by_key (eq p.0 q.0) refl,
+    λ same. ap₂ (λ a b. a && b) ((keys p.0 q.0).1 (ap (λ r. r.0) same))
+        ((values p.1 q.1).1 (ap (λ r. r.1) same)),
+  )
     where
       by_key : (b : Bool) → eq p.0 q.0 ≡ b → (b && value_eq p.1 q.1) ≡ true → p ≡ q
       by_key true is same = λ i. ((keys p.0 q.0).0 is i, (values p.1 q.1).0 same i)

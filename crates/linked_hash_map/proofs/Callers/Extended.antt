@@ -1,7 +1,8 @@
 -- For callers: what `extend`, `extend_refs` and `from_iter` leave, if the items that an iterator
 -- gives are known. Each lemma takes the clause of the call, and a chain proof, `YieldsList`, that
 -- what the source becomes gives the list.
-use Rattle.std.proofs.Common.{◌≡◌, ℕ, ◌+◌, ◌-◌, ◌≤◌, max, Bool, not, List, [], ◌++◌, length, map, take, filter, slice_get, Option, Some, None, is_some, Vec, vec_items, vec_len, refl, sym, ap, ◌∙◌, arith}
+use Rattle.std.proofs.Common.{◌≡◌, ℕ, ◌+◌, ◌-◌, ◌≤◌, max, Bool, not, List, [], ◌++◌, length, map, take, filter, slice_get, Option, Some}
+use Rattle.std.proofs.Common.{None, is_some, Vec, vec_items, vec_len, refl, sym, ap, ◌∙◌, arith}
 use Rattle.std.specs.List.{IsDistinct}
 use Rattle.std.specs.Map.{keys_of}
 use Rattle.std.specs.Option.{option_or}
@@ -19,18 +20,20 @@ use Rattle.linked_hash_map.specs.declared.map.Mode.TheVariants.{Touch, Keep}
 use Rattle.linked_hash_map.specs.Pairs.{key_or, find, value_at}
 use Rattle.linked_hash_map.specs.Inserts.{insert_each, GivesAtMost, InsertsAll, InsertsUntil, Collects}
 use Rattle.linked_hash_map.proofs.Callers.Keys.{distinct-nil}
-use Rattle.linked_hash_map.proofs.Callers.Collected.{insert_each-distinct, length-insert_each_most, value_at-insert_each_distinct, keys_of-insert_each_keep, keys_of-insert_each_touch}
+use Rattle.linked_hash_map.proofs.Callers.Collected.{insert_each-distinct, length-insert_each_most, value_at-insert_each_distinct}
+use Rattle.linked_hash_map.proofs.Callers.Collected.{keys_of-insert_each_keep, keys_of-insert_each_touch}
 
-module _ {T I X K V : Type 0} {becomes : T → I → Type 0} {steps : I → Option X → I → Type 0} {source : T} {eq : K → K → Bool} {shows : X → K × V} {all : List (K × V)} where
+module _ {T I X K V : Type 0} {becomes : T → I → Type 0} {steps : I → Option X → I → Type 0}
+    {source : T} {eq : K → K → Bool} {shows : X → K × V} {all : List (K × V)} where
   -- `extend` of any source whose items are known
   pairs-InsertsAll : {mode : Mode} {old new : List (K × V)}
       → InsertsAll becomes steps source eq shows mode old new
       → ((it : I) → becomes source it → YieldsList steps shows it all)
       → new ≡ insert_each eq mode old all
   pairs-InsertsAll {mode} {old} inserts each =
-      let gives = inserts.gives in
-      let drains = gives.gives.1 in
-      inserts.pairs ∙ ap (insert_each eq mode old) (YieldsList-end (each gives.iterator gives.made) inserts.given drains.0 drains.1 None gives.gives.0 refl drains.2).0
+      let gives = inserts.gives in let drains = gives.gives.1 in
+      inserts.pairs ∙ ap (insert_each eq mode old) (YieldsList-end (each gives.iterator gives.made)
+      inserts.given drains.0 drains.1 None gives.gives.0 refl drains.2).0
 
   -- and if it was refused: the first items went in, and the next is the one that came back
   pub pairs-InsertsUntil : {mode : Mode} {old new : List (K × V)} {key : K} {value : V}
@@ -39,14 +42,16 @@ module _ {T I X K V : Type 0} {becomes : T → I → Type 0} {steps : I → Opti
       → (new ≡ insert_each eq mode old (take (length inserts.given) all))
       × (slice_get all (length inserts.given) ≡ Some (key, value))
   pairs-InsertsUntil {mode} {old} inserts each =
-      let gives = inserts.gives in
-      let yields = gives.gives in
+      let gives = inserts.gives in let yields = gives.gives in
       let road = each gives.iterator gives.made in (
         inserts.pairs ∙ ap (insert_each eq mode old) (YieldsList-so_far road inserts.given yields.0 yields.1),
-        sym (nth_from_yields_List (Some inserts.item) gives.left (length inserts.given) (inserts.given, (yields.0, yields.1, yields.2), refl) road) ∙ ap Some inserts.shown,
+        sym (nth_from_yields_List (Some inserts.item) gives.left (length inserts.given)
+            (inserts.given, (yields.0, yields.1, yields.2), refl) road) ∙ ap Some inserts.shown,
       )
 
-module _ {T I K V : Type 0} {becomes : T → I → Type 0} {steps : I → Option (K × V) → I → Type 0} {source : T} {remaining : I → Count} {eq : K → K → Bool} {pairs : List (K × V)} {capacity rechained : ℕ} where
+module _ {T I K V : Type 0} {becomes : T → I → Type 0} {steps : I → Option (K × V) → I → Type 0}
+    {source : T} {remaining : I → Count} {eq : K → K → Bool} {pairs : List (K × V)}
+    {capacity rechained : ℕ} where
   -- `from_iter` inserts as `extend` of a new map does
   InsertsAll-Collects : Collects becomes steps source remaining eq pairs capacity rechained
       → InsertsAll becomes steps source eq (λ pair. pair) Touch [] pairs
@@ -63,11 +68,11 @@ module _ {T I K V : Type 0} {becomes : T → I → Type 0} {steps : I → Option
       → GivesAtMost becomes remaining source n
       → (lower : ℕ) × (lower ≤ n) × (rechained ≡ rechained_each 0 lower (capacity - lower))
   rechained-Collects n collects left =
-      let bound = left collects.iterator collects.made in
-      let lower = collects.hint bound.0 in
+      let bound = left collects.iterator collects.made in let lower = collects.hint bound.0 in
       (collects.lower, omega arith, collects.counted)
 
-  module _ {all : List (K × V)} (laws : IsEquivalence eq) (collects : Collects becomes steps source remaining eq pairs capacity rechained) where
+  module _ {all : List (K × V)} (laws : IsEquivalence eq)
+      (collects : Collects becomes steps source remaining eq pairs capacity rechained) where
     -- `from_iter` of any source whose items are known
     pairs-Collects : ((it : I) → becomes source it → YieldsList steps (λ pair. pair) it all)
         → pairs ≡ insert_each eq Touch [] all
@@ -79,11 +84,9 @@ module _ {T I K V : Type 0} {becomes : T → I → Type 0} {steps : I → Option
         → GivesAtMost becomes remaining source (length all)
         → (length pairs ≤ capacity) × (capacity ≤ length all)
     capacity-Collects each left =
-        let bound = left collects.iterator collects.made in
-        let lower = collects.hint bound.0 in
+        let bound = left collects.iterator collects.made in let lower = collects.hint bound.0 in
         let most = length-insert_each_most laws Touch [] all (distinct-nil eq) in
-        let length_is = ap length (pairs-Collects each) in
-        let capacity_is = collects.capacity_is in
+        let length_is = ap length (pairs-Collects each) in let capacity_is = collects.capacity_is in
         (omega arith, omega arith)
 
     -- and if their keys differ, it is that number, and the pairs are the items
@@ -107,7 +110,8 @@ pub max-length_insert_each : {K V : Type 0} {eq : K → K → Bool} → IsEquiva
     → (mode : Mode) (pairs items : List (K × V)) (capacity : ℕ) → IsDistinct eq (keys_of pairs)
     → length pairs + length items ≤ capacity
     → max capacity (length (insert_each eq mode pairs items)) ≡ capacity
-max-length_insert_each laws mode pairs items capacity distinct enough = let most = length-insert_each_most laws mode pairs items distinct in omega arith
+max-length_insert_each laws mode pairs items capacity distinct enough =
+    let most = length-insert_each_most laws mode pairs items distinct in omega arith
 
 -- `extend` of a map by value, or by reference: of any source that becomes a list which shows what
 -- is left
@@ -130,7 +134,9 @@ pub record Merges {K V : Type 0} (eq : K → K → Bool) (mode : Mode) (old all 
       → keys_of new ≡ filter (λ k. not (is_some (find eq all k))) (keys_of old)
       ++ map (λ k. key_or k (find eq old k)) (keys_of all)
 
-pub Merges-InsertsAll : {T K V : Type 0} {becomes : T → List (K × V) → Type 0} {source : T} {eq : K → K → Bool} → IsEquivalence eq → {mode : Mode} {old new : List (K × V)} (all : List (K × V))
+pub Merges-InsertsAll : {T K V : Type 0} {becomes : T → List (K × V) → Type 0} {source : T}
+    {eq : K → K → Bool} → IsEquivalence eq
+    → {mode : Mode} {old new : List (K × V)} (all : List (K × V))
     → InsertsAll becomes (TakesFirst (λ (pair : K × V). pair)) source eq (λ pair. pair) mode old new
     → ((it : List (K × V)) → becomes source it → (it ≡ all) × IsDistinct eq (keys_of all)) → Merges eq mode old all new
 Merges-InsertsAll {eq = eq} laws {mode} {old} all inserts is =
@@ -139,11 +145,15 @@ Merges-InsertsAll {eq = eq} laws {mode} {old} all inserts is =
       pairs = went;
       values = λ q. ap (λ ps. value_at eq ps q) went ∙ value_at-insert_each_distinct laws mode old all q distinct;
       keep = λ keep. ap keys_of went ∙ ap (λ m. keys_of (insert_each eq m old all)) keep ∙ keys_of-insert_each_keep laws old all distinct;
-      touch = λ touch. ap keys_of went ∙ ap (λ m. keys_of (insert_each eq m old all)) touch ∙ keys_of-insert_each_touch laws old all distinct;
+      touch = λ touch. ap keys_of went ∙ ap (λ m. keys_of (insert_each eq m old all)) touch
+          ∙ keys_of-insert_each_touch laws old all distinct;
     }
 
 -- what a vector becomes gives its items, and has as many left
-module _ {T Z K V : Type 0} (becomes : T → _ → Type 0) (vec : Vec (K × V) Z) (source : T) (is : (it : _) → becomes source it → (into_iter_items {X = K × V} {Z = Z} it ≡ vec_items vec) × (into_iter_len it ≡ vec_len vec)) where
+module _ {T Z K V : Type 0} (becomes : T → _ → Type 0) (vec : Vec (K × V) Z) (source : T)
+    (is : (it : _) → becomes source it
+    → (into_iter_items {X = K × V} {Z = Z} it ≡ vec_items vec)
+    × (into_iter_len it ≡ vec_len vec)) where
   yields : (it : _) → becomes source it → YieldsList into_iter_steps (λ pair. pair) it (vec_items vec)
   yields it made = let told = is it made in YieldsList-from_vec {s = it} (vec_items vec) told.0 (omega (arith, told.1, vec.ok.0))
 
@@ -152,26 +162,47 @@ module _ {T Z K V : Type 0} (becomes : T → _ → Type 0) (vec : Vec (K × V) Z
   GivesAtMost-vec it made = let told = is it made in (tt, omega (arith, told.1, vec.ok.0))
 
 -- `extend` of a vector, and `from_iter` of one
-pub pairs-InsertsAll_vec : {T Z K V : Type 0} {becomes : T → _ → Type 0} {source : T} {eq : K → K → Bool} {mode : Mode} {old new : List (K × V)} (vec : Vec (K × V) Z) → InsertsAll becomes (into_iter_steps {X = K × V} {Z = Z}) source eq (λ pair. pair) mode old new
-    → ((it : _) → becomes source it → (into_iter_items {X = K × V} {Z = Z} it ≡ vec_items vec) × (into_iter_len it ≡ vec_len vec)) → new ≡ insert_each eq mode old (vec_items vec)
+pub pairs-InsertsAll_vec : {T Z K V : Type 0} {becomes : T → _ → Type 0} {source : T}
+    {eq : K → K → Bool} {mode : Mode} {old new : List (K × V)} (vec : Vec (K × V) Z)
+    → InsertsAll becomes (into_iter_steps {X = K × V} {Z = Z}) source eq (λ pair. pair) mode old new
+    → ((it : _) → becomes source it
+    → (into_iter_items {X = K × V} {Z = Z} it ≡ vec_items vec) × (into_iter_len it ≡ vec_len vec))
+    → new ≡ insert_each eq mode old (vec_items vec)
 pairs-InsertsAll_vec {becomes = becomes} {source} vec inserts is = pairs-InsertsAll inserts (yields becomes vec source is)
 
 -- and if `extend` of one was refused: how many went in, and that the next came back
-pub pairs-InsertsUntil_vec : {T Z K V : Type 0} {becomes : T → _ → Type 0} {source : T} {eq : K → K → Bool} {mode : Mode} {old new : List (K × V)} {key : K} {value : V} (vec : Vec (K × V) Z)
+pub pairs-InsertsUntil_vec : {T Z K V : Type 0} {becomes : T → _ → Type 0} {source : T}
+    {eq : K → K → Bool} {mode : Mode} {old new : List (K × V)} {key : K} {value : V}
+    (vec : Vec (K × V) Z)
     → InsertsUntil becomes (into_iter_steps {X = K × V} {Z = Z}) source eq (λ pair. pair) mode old new key value
     → ((it : _) → becomes source it → (into_iter_items {X = K × V} {Z = Z} it ≡ vec_items vec) × (into_iter_len it ≡ vec_len vec))
     → (n : ℕ) × (new ≡ insert_each eq mode old (take n (vec_items vec))) × (slice_get (vec_items vec) n ≡ Some (key, value))
-pairs-InsertsUntil_vec {becomes = becomes} {source} vec inserts is = let until = pairs-InsertsUntil inserts (yields becomes vec source is) in (length inserts.given, until.0, until.1)
+pairs-InsertsUntil_vec {becomes = becomes} {source} vec inserts is =
+    let until = pairs-InsertsUntil inserts (yields becomes vec source is) in
+    (length inserts.given, until.0, until.1)
 
-pairs-Collects_vec : {T Z K V : Type 0} {becomes : T → _ → Type 0} {source : T} {eq : K → K → Bool} {pairs : List (K × V)} {capacity rechained : ℕ} (vec : Vec (K × V) Z) → Collects becomes (into_iter_steps {X = K × V} {Z = Z}) source (λ it. at_most (into_iter_len it)) eq pairs capacity rechained
-    → ((it : _) → becomes source it → (into_iter_items {X = K × V} {Z = Z} it ≡ vec_items vec) × (into_iter_len it ≡ vec_len vec)) → pairs ≡ insert_each eq Touch [] (vec_items vec)
+pairs-Collects_vec : {T Z K V : Type 0} {becomes : T → _ → Type 0} {source : T} {eq : K → K → Bool}
+    {pairs : List (K × V)} {capacity rechained : ℕ} (vec : Vec (K × V) Z)
+    → Collects becomes (into_iter_steps {X = K × V} {Z = Z}) source
+    (λ it. at_most (into_iter_len it)) eq pairs capacity rechained
+    → ((it : _) → becomes source it
+    → (into_iter_items {X = K × V} {Z = Z} it ≡ vec_items vec) × (into_iter_len it ≡ vec_len vec))
+    → pairs ≡ insert_each eq Touch [] (vec_items vec)
 pairs-Collects_vec vec collects is = pairs-InsertsAll_vec vec (InsertsAll-Collects collects) is
 
 -- if the keys of its items differ, the pairs are the items, the capacity is their number, and it
 -- rehashed what growing to that number does, from room for no more
-pub Collects_distinct_vec : {T Z K V : Type 0} {becomes : T → _ → Type 0} {source : T} {eq : K → K → Bool} → IsEquivalence eq → {pairs : List (K × V)} {capacity rechained : ℕ} (vec : Vec (K × V) Z) → Collects becomes (into_iter_steps {X = K × V} {Z = Z}) source (λ it. at_most (into_iter_len it)) eq pairs capacity rechained
-    → ((it : _) → becomes source it → (into_iter_items {X = K × V} {Z = Z} it ≡ vec_items vec) × (into_iter_len it ≡ vec_len vec)) → IsDistinct eq (keys_of (vec_items vec))
-    → (pairs ≡ vec_items vec) × (capacity ≡ length (vec_items vec)) × ((lower : ℕ) × (lower ≤ length (vec_items vec)) × (rechained ≡ rechained_each 0 lower (length (vec_items vec) - lower)))
+pub Collects_distinct_vec : {T Z K V : Type 0} {becomes : T → _ → Type 0} {source : T}
+    {eq : K → K → Bool} → IsEquivalence eq
+    → {pairs : List (K × V)} {capacity rechained : ℕ} (vec : Vec (K × V) Z)
+    → Collects becomes (into_iter_steps {X = K × V} {Z = Z}) source
+    (λ it. at_most (into_iter_len it)) eq pairs capacity rechained
+    → ((it : _) → becomes source it
+    → (into_iter_items {X = K × V} {Z = Z} it ≡ vec_items vec) × (into_iter_len it ≡ vec_len vec))
+    → IsDistinct eq (keys_of (vec_items vec))
+    → (pairs ≡ vec_items vec) × (capacity ≡ length (vec_items vec))
+    × ((lower : ℕ) × (lower ≤ length (vec_items vec))
+    × (rechained ≡ rechained_each 0 lower (length (vec_items vec) - lower)))
 Collects_distinct_vec {becomes = becomes} {source} laws vec collects is distinct =
     let most = GivesAtMost-vec becomes vec source is in
     let exact = capacity-Collects_distinct laws collects (yields becomes vec source is) distinct most in

@@ -1,5 +1,6 @@
 -- For callers: which pairs and keys there are after each call, and how many.
-use Rattle.std.proofs.Common.{◌≡◌, ℕ, zero, suc, ◌+◌, ◌≤◌, Bool, true, false, cond, not, ◌||◌, IsTrue, List, [], ◌∷◌, ◌++◌, length, drop, filter, Option, Some, None, is_some, refl, sym, ap, ap₂, ◌∙◌, subst, true≢false, arith, length-append}
+use Rattle.std.proofs.Common.{◌≡◌, ℕ, zero, suc, ◌+◌, ◌≤◌, Bool, true, false, cond, not, ◌||◌, IsTrue, List, [], ◌∷◌, ◌++◌, length, drop}
+use Rattle.std.proofs.Common.{filter, Option, Some, None, is_some, refl, sym, ap, ap₂, ◌∙◌, subst, true≢false, arith, length-append}
 use Rattle.std.specs.Option.{IsSome}
 use Rattle.std.specs.List.{IsDistinct, list_any}
 use Rattle.std.specs.Map.{lookup_entry, keys_of}
@@ -8,21 +9,24 @@ use Rattle.std.proofs.lemmas.List.{map-append}
 use Rattle.linked_hash_map.specs.declared.map.Mode.{Mode}
 use Rattle.linked_hash_map.specs.declared.map.Mode.TheVariants.{Touch}
 use Rattle.linked_hash_map.specs.Pairs.{key_or, find, value_at, without, to_back, set_value, set_or_push, put}
-use Rattle.linked_hash_map.proofs.LiveKeys.{none_is}
+use Rattle.linked_hash_map.proofs.log.LiveKeys.{none_is}
 use Rattle.linked_hash_map.proofs.Callers.Lookups.{eq-stored}
-use Rattle.linked_hash_map.proofs.Pairs.{is_some-value_at}
+use Rattle.linked_hash_map.proofs.pairs.Calls.{is_some-value_at}
 -- calls with a key that is absent, and one with a key that is present
-pub use Rattle.linked_hash_map.proofs.Pairs.{without-absent, to_back-absent, set_or_push-absent, put-absent, set_or_push-present}
+pub use Rattle.linked_hash_map.proofs.pairs.Calls.{without-absent, to_back-absent, set_or_push-absent, put-absent, set_or_push-present}
 -- how many pairs there are: one fewer exactly if the key has one; one more exactly if it has none
-pub use Rattle.linked_hash_map.proofs.Pairs.{length-without, length-set_value, length-set_or_push, length-put}
+pub use Rattle.linked_hash_map.proofs.pairs.Calls.{length-without, length-set_value, length-set_or_push, length-put}
 -- keys that differ still do after an insertion
-pub use Rattle.linked_hash_map.proofs.Inserts.{distinct-to_back, distinct-put, length-put_most}
+pub use Rattle.linked_hash_map.proofs.pairs.Inserts.{distinct-to_back, distinct-put, length-put_most}
 
-is_some-lookup_entry : {K V : Type 0} (test : K → Bool) (pairs : List (K × V)) → is_some (lookup_entry test pairs) ≡ list_any test (keys_of pairs)
+is_some-lookup_entry : {K V : Type 0} (test : K → Bool) (pairs : List (K × V))
+    → is_some (lookup_entry test pairs) ≡ list_any test (keys_of pairs)
 is_some-lookup_entry test [] = refl
 is_some-lookup_entry test (pair ∷ pairs) = by_test (test pair.0) (is_some-lookup_entry test pairs)
   where
-    by_test : (b : Bool) → is_some (lookup_entry test pairs) ≡ list_any test (keys_of pairs) → is_some (cond b (Some pair) (lookup_entry test pairs)) ≡ (b || list_any test (keys_of pairs))
+    by_test : (b : Bool) → is_some (lookup_entry test pairs) ≡ list_any test (keys_of pairs)
+        → is_some (cond b (Some pair) (lookup_entry test pairs))
+        ≡ (b || list_any test (keys_of pairs))
     by_test true rest = refl
     by_test false rest = rest
 
@@ -39,11 +43,14 @@ module _ {K V : Type 0} (eq : K → K → Bool) (pairs : List (K × V)) (k : K) 
   IsSome-find v found = sym (is_some-value_at eq pairs k) ∙ ap is_some found
 
 -- the keys
-keys_of-filter : {K V : Type 0} (kept : K → Bool) (pairs : List (K × V)) → keys_of (filter (λ pair. kept pair.0) pairs) ≡ filter kept (keys_of pairs)
+keys_of-filter : {K V : Type 0} (kept : K → Bool) (pairs : List (K × V))
+    → keys_of (filter (λ pair. kept pair.0) pairs) ≡ filter kept (keys_of pairs)
 keys_of-filter kept [] = refl
 keys_of-filter kept (pair ∷ pairs) = by_test (kept pair.0) (keys_of-filter kept pairs)
   where
-    by_test : (b : Bool) → keys_of (filter (λ p. kept p.0) pairs) ≡ filter kept (keys_of pairs) → keys_of (cond b (pair ∷ filter (λ p. kept p.0) pairs) (filter (λ p. kept p.0) pairs)) ≡ cond b (pair.0 ∷ filter kept (keys_of pairs)) (filter kept (keys_of pairs))
+    by_test : (b : Bool) → keys_of (filter (λ p. kept p.0) pairs) ≡ filter kept (keys_of pairs)
+        → keys_of (cond b (pair ∷ filter (λ p. kept p.0) pairs) (filter (λ p. kept p.0) pairs))
+        ≡ cond b (pair.0 ∷ filter kept (keys_of pairs)) (filter kept (keys_of pairs))
     by_test true rest = ap (λ ks. pair.0 ∷ ks) rest
     by_test false rest = rest
 
@@ -73,7 +80,9 @@ module _ {K V : Type 0} (eq : K → K → Bool) where
       ≡ cond (is_some (find eq pairs k)) (keys_of pairs) (keys_of pairs ++ k ∷ [])
   keys_of-set_or_push pairs k v = by_test (is_some (find eq pairs k))
     where
-      by_test : (b : Bool) → keys_of (cond b (set_value eq pairs k v) (pairs ++ (k, v) ∷ [])) ≡ cond b (keys_of pairs) (keys_of pairs ++ k ∷ [])
+      by_test : (b : Bool)
+          → keys_of (cond b (set_value eq pairs k v) (pairs ++ (k, v) ∷ []))
+          ≡ cond b (keys_of pairs) (keys_of pairs ++ k ∷ [])
       by_test true = keys_of-set_value pairs k v
       by_test false = map-append (λ (pair : K × V). pair.0) pairs ((k, v) ∷ [])
 
@@ -81,9 +90,9 @@ module _ {K V : Type 0} (eq : K → K → Bool) where
 pub keys_of-to_back_own : {K V : Type 0} {eq : K → K → Bool} → IsEquivalence eq
     → (pairs : List (K × V)) (k : K) (v : V) → ((a b : K) → IsTrue (eq a b) → a ≡ b)
     → keys_of (to_back eq pairs k v) ≡ filter (λ j. not (eq k j)) (keys_of pairs) ++ k ∷ []
-keys_of-to_back_own {eq = eq} laws pairs k v decides =
-    keys_of-to_back eq pairs k v
-    ∙ ap (λ key. filter (λ j. not (eq k j)) (keys_of pairs) ++ key ∷ []) (sym (decides k (key_or k (find eq pairs k)) (eq-stored laws pairs k)))
+keys_of-to_back_own {eq = eq} laws pairs k v decides = keys_of-to_back eq pairs k v
+    ∙ ap (λ key. filter (λ j. not (eq k j)) (keys_of pairs) ++ key ∷ [])
+    (sym (decides k (key_or k (find eq pairs k)) (eq-stored laws pairs k)))
 
 -- how many there are
 module _ {K V : Type 0} (eq : K → K → Bool) where
@@ -98,12 +107,15 @@ module _ {K V : Type 0} (eq : K → K → Bool) where
 module _ {K V : Type 0} {eq : K → K → Bool} (laws : IsEquivalence eq) where
   pub length-without_present : (pairs : List (K × V)) (k : K) → IsDistinct eq (keys_of pairs)
       → IsSome (find eq pairs k) → length (without eq pairs k) + 1 ≡ length pairs
-  length-without_present pairs k distinct found = subst (λ (b : Bool). length (without eq pairs k) + cond b 1 0 ≡ length pairs) found (length-without laws pairs k distinct)
+  length-without_present pairs k distinct found =
+      subst (λ (b : Bool). length (without eq pairs k) + cond b 1 0 ≡ length pairs) found
+      (length-without laws pairs k distinct)
 
   pub length-put_present : (mode : Mode) (pairs : List (K × V)) (k : K) (v : V)
       → IsDistinct eq (keys_of pairs) → IsSome (find eq pairs k)
       → length (put eq mode pairs k v) ≡ length pairs
-  length-put_present mode pairs k v distinct found = length-put laws mode pairs k v distinct ∙ ap (λ b. cond b (length pairs) (length pairs + 1)) found
+  length-put_present mode pairs k v distinct found = length-put laws mode pairs k v distinct
+      ∙ ap (λ b. cond b (length pairs) (length pairs + 1)) found
 
   pub length-to_back_present : (pairs : List (K × V)) (k : K) (v : V)
       → IsDistinct eq (keys_of pairs) → IsSome (find eq pairs k)
@@ -118,7 +130,8 @@ most false n length_after h = omega arith
 pub length-set_or_push_most : {K V : Type 0} (eq : K → K → Bool) (pairs : List (K × V))
     (k : K) (v : V)
     → length (set_or_push eq pairs k v) ≤ length pairs + 1
-length-set_or_push_most eq pairs k v = most (is_some (find eq pairs k)) (length pairs) (length (set_or_push eq pairs k v)) (length-set_or_push eq pairs k v)
+length-set_or_push_most eq pairs k v = most (is_some (find eq pairs k)) (length pairs)
+    (length (set_or_push eq pairs k v)) (length-set_or_push eq pairs k v)
 
 pub distinct-nil : {K : Type 0} (eq : K → K → Bool) → IsDistinct eq []
 unfolding IsDistinct
@@ -133,12 +146,15 @@ pub distinct-set_or_push : {K V : Type 0} {eq : K → K → Bool} → IsEquivale
     → IsDistinct eq (keys_of (set_or_push eq pairs k v))
 distinct-set_or_push {K} {V} {eq} laws pairs k v distinct = by_pair (find eq pairs k) refl
   where
-    by_pair : (o : Option (K × V)) → find eq pairs k ≡ o → IsDistinct eq (keys_of (cond (is_some o) (set_value eq pairs k v) (pairs ++ (k, v) ∷ [])))
-    by_pair None none = subst (λ ps. IsDistinct eq (keys_of ps)) (to_back-absent eq pairs k v none) (distinct-to_back laws pairs k v distinct)
+    by_pair : (o : Option (K × V)) → find eq pairs k ≡ o
+        → IsDistinct eq (keys_of (cond (is_some o) (set_value eq pairs k v) (pairs ++ (k, v) ∷ [])))
+    by_pair None none = subst (λ ps. IsDistinct eq (keys_of ps)) (to_back-absent eq pairs k v none)
+        (distinct-to_back laws pairs k v distinct)
     by_pair (Some pair) found = distinct-set_value eq pairs k v distinct
 
 -- a new key in place of the oldest: the first pair goes, the others stand, and the new one is last
-find_drop : {K V : Type 0} (test : K → Bool) (n : ℕ) (pairs : List (K × V)) → lookup_entry test pairs ≡ None → lookup_entry test (drop n pairs) ≡ None
+find_drop : {K V : Type 0} (test : K → Bool) (n : ℕ) (pairs : List (K × V))
+    → lookup_entry test pairs ≡ None → lookup_entry test (drop n pairs) ≡ None
 find_drop test zero pairs none = none
 find_drop test (suc n) [] none = none
 find_drop test (suc n) (pair ∷ pairs) none = find_drop test n pairs (by_test (test pair.0) none)

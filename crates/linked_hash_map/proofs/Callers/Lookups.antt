@@ -1,5 +1,7 @@
 -- For callers: what a map has at a key after each call.
-use Rattle.std.proofs.Common.{◌≡◌, ◌-◌, Bool, true, false, cond, not, List, [], ◌∷◌, ◌++◌, length, length-append, drop, remove, slice_get, filter, Option, Some, None, is_some, option_map, refl, sym, ap, ◌∙◌, true≢false, arith}
+use Rattle.std.proofs.Common.{◌≡◌, ◌-◌, Bool, true, false, cond, not, List, [], ◌∷◌, ◌++◌, length}
+use Rattle.std.proofs.Common.{length-append, drop, remove, slice_get, filter, Option, Some, None}
+use Rattle.std.proofs.Common.{is_some, option_map, refl, sym, ap, ◌∙◌, true≢false, arith}
 use Rattle.std.specs.List.{IsDistinct}
 use Rattle.std.specs.Option.{option_or}
 use Rattle.std.specs.Map.{lookup_entry, keys_of}
@@ -7,9 +9,9 @@ use Rattle.std.specs.Cmp.{IsEquivalence}
 use Rattle.linked_hash_map.specs.declared.map.Mode.{Mode}
 use Rattle.linked_hash_map.specs.declared.map.Mode.TheVariants.{Touch, Keep}
 use Rattle.linked_hash_map.specs.Pairs.{last, key_or, find, value_at, without, to_back, set_value, set_or_push, put}
-use Rattle.linked_hash_map.proofs.Lists.{option_or_none}
-use Rattle.linked_hash_map.proofs.LiveKeys.{same_test}
-use Rattle.linked_hash_map.proofs.Indexes.{without-own, slice_get-last}
+use Rattle.linked_hash_map.proofs.lists.Elements.{option_or_none}
+use Rattle.linked_hash_map.proofs.log.LiveKeys.{same_test}
+use Rattle.linked_hash_map.proofs.pairs.Indexes.{without-own, slice_get-last}
 
 -- what stands behind the others is the last
 pub last-append : {X : Type 0} (xs : List X) (x : X) → last (xs ++ x ∷ []) ≡ Some x
@@ -22,7 +24,8 @@ cond-none : {X : Type 0} (b : Bool) (x : Option X) → cond (not b) x None ≡ c
 cond-none true x = refl
 cond-none false x = refl
 
-option_map-cond : {X Y : Type 0} (f : X → Y) (b : Bool) (x y : Option X) → option_map f (cond b x y) ≡ cond b (option_map f x) (option_map f y)
+option_map-cond : {X Y : Type 0} (f : X → Y) (b : Bool) (x y : Option X)
+    → option_map f (cond b x y) ≡ cond b (option_map f x) (option_map f y)
 option_map-cond f true x y = refl
 option_map-cond f false x y = refl
 
@@ -33,11 +36,16 @@ pub lookup_entry-append : {K V : Type 0} (test : K → Bool) (pairs others : Lis
 lookup_entry-append test [] others = refl
 lookup_entry-append test (pair ∷ pairs) others = by_test (test pair.0) (lookup_entry-append test pairs others)
   where
-    by_test : (b : Bool) → lookup_entry test (pairs ++ others) ≡ option_or (lookup_entry test pairs) (lookup_entry test others) → cond b (Some pair) (lookup_entry test (pairs ++ others)) ≡ option_or (cond b (Some pair) (lookup_entry test pairs)) (lookup_entry test others)
+    by_test : (b : Bool)
+        → lookup_entry test (pairs ++ others)
+        ≡ option_or (lookup_entry test pairs) (lookup_entry test others)
+        → cond b (Some pair) (lookup_entry test (pairs ++ others))
+        ≡ option_or (cond b (Some pair) (lookup_entry test pairs)) (lookup_entry test others)
     by_test true rest = refl
     by_test false rest = rest
 
-option_map-option_or : {X Y : Type 0} (f : X → Y) (x y : Option X) → option_map f (option_or x y) ≡ option_or (option_map f x) (option_map f y)
+option_map-option_or : {X Y : Type 0} (f : X → Y) (x y : Option X)
+    → option_map f (option_or x y) ≡ option_or (option_map f x) (option_map f y)
 option_map-option_or f None y = refl
 option_map-option_or f (Some x) y = refl
 
@@ -53,16 +61,32 @@ value_at-append eq pairs k q v =
 
 -- a lookup among the pairs of which a test holds that returns b at each key that the lookup may
 -- find
-lookup_entry-filter : {K V : Type 0} (test kept : K → Bool) (b : Bool) → ((k : K) → test k ≡ true → kept k ≡ b) → (pairs : List (K × V)) → lookup_entry test (filter (λ pair. kept pair.0) pairs) ≡ cond b (lookup_entry test pairs) None
+lookup_entry-filter : {K V : Type 0} (test kept : K → Bool) (b : Bool)
+    → ((k : K) → test k ≡ true → kept k ≡ b) → (pairs : List (K × V))
+    → lookup_entry test (filter (λ pair. kept pair.0) pairs) ≡ cond b (lookup_entry test pairs) None
 lookup_entry-filter test kept true alike [] = refl
 lookup_entry-filter test kept false alike [] = refl
-lookup_entry-filter test kept b alike (pair ∷ pairs) = by_test (kept pair.0) (test pair.0) refl refl (lookup_entry-filter test kept b alike pairs)
+lookup_entry-filter test kept b alike (pair ∷ pairs) =
+    by_test (kept pair.0) (test pair.0) refl refl (lookup_entry-filter test kept b alike pairs)
   where
-    some_kept : (c : Bool) → c ≡ b → lookup_entry test (filter (λ p. kept p.0) pairs) ≡ cond b (lookup_entry test pairs) None → test pair.0 ≡ true → lookup_entry test (cond c (pair ∷ filter (λ p. kept p.0) pairs) (filter (λ p. kept p.0) pairs)) ≡ cond b (Some pair) None
-    some_kept true same rest passes = ap (λ t. cond t (Some pair) (lookup_entry test (filter (λ p. kept p.0) pairs))) passes ∙ ap (λ c. cond c (Some pair) None) same
-    some_kept false same rest passes = rest ∙ ap (λ c. cond c (lookup_entry test pairs) None) (sym same) ∙ ap (λ c. cond c (Some pair) None) same
+    some_kept : (c : Bool) → c ≡ b
+        → lookup_entry test (filter (λ p. kept p.0) pairs) ≡ cond b (lookup_entry test pairs) None
+        → test pair.0 ≡ true
+        → lookup_entry test
+        (cond c (pair ∷ filter (λ p. kept p.0) pairs) (filter (λ p. kept p.0) pairs))
+        ≡ cond b (Some pair) None
+    some_kept true same rest passes =
+        ap (λ t. cond t (Some pair) (lookup_entry test (filter (λ p. kept p.0) pairs))) passes
+        ∙ ap (λ c. cond c (Some pair) None) same
+    some_kept false same rest passes =
+        rest ∙ ap (λ c. cond c (lookup_entry test pairs) None) (sym same)
+        ∙ ap (λ c. cond c (Some pair) None) same
 
-    by_test : (c t : Bool) → kept pair.0 ≡ c → test pair.0 ≡ t → lookup_entry test (filter (λ p. kept p.0) pairs) ≡ cond b (lookup_entry test pairs) None → lookup_entry test (cond c (pair ∷ filter (λ p. kept p.0) pairs) (filter (λ p. kept p.0) pairs)) ≡ cond b (cond t (Some pair) (lookup_entry test pairs)) None
+    by_test : (c t : Bool) → kept pair.0 ≡ c → test pair.0 ≡ t
+        → lookup_entry test (filter (λ p. kept p.0) pairs) ≡ cond b (lookup_entry test pairs) None
+        → lookup_entry test
+        (cond c (pair ∷ filter (λ p. kept p.0) pairs) (filter (λ p. kept p.0) pairs))
+        ≡ cond b (cond t (Some pair) (lookup_entry test pairs)) None
     by_test c true is passes rest = some_kept c (sym is ∙ alike pair.0 passes) rest passes
     by_test true false is passes rest = ap (λ t. cond t (Some pair) (lookup_entry test (filter (λ p. kept p.0) pairs))) passes ∙ rest
     by_test false false is passes rest = rest
@@ -91,7 +115,8 @@ module _ {K V : Type 0} {eq : K → K → Bool} (laws : IsEquivalence eq) where
   eq-find [] k pair found = absurd (true≢false (sym (ap is_some found)))
   eq-find (first ∷ pairs) k pair found = by_test (eq k first.0) refl found (eq-find pairs k pair)
     where
-      by_test : (b : Bool) → eq k first.0 ≡ b → cond b (Some first) (find eq pairs k) ≡ Some pair → (find eq pairs k ≡ Some pair → eq k pair.0 ≡ true) → eq k pair.0 ≡ true
+      by_test : (b : Bool) → eq k first.0 ≡ b → cond b (Some first) (find eq pairs k) ≡ Some pair
+          → (find eq pairs k ≡ Some pair → eq k pair.0 ≡ true) → eq k pair.0 ≡ true
       by_test true same found rest = let first_is : first ≡ pair = cc in ap (λ (p : K × V). eq k p.0) (sym first_is) ∙ same
       by_test false same found rest = rest found
 
@@ -110,7 +135,8 @@ module _ {K V : Type 0} {eq : K → K → Bool} (laws : IsEquivalence eq) where
       lookup_entry-filter (eq q) (λ j. not (eq k j)) (not (eq k q)) (λ j same. ap not (alike laws k q j same)) pairs
       ∙ cond-none (eq k q) (find eq pairs q)
 
-  pushed : (q key : K) (v : V) (b : Bool) (o : Option (K × V)) → eq q key ≡ b → option_or (cond b None o) (lookup_entry (eq q) ((key, v) ∷ [])) ≡ cond b (Some (key, v)) o
+  pushed : (q key : K) (v : V) (b : Bool) (o : Option (K × V)) → eq q key ≡ b
+      → option_or (cond b None o) (lookup_entry (eq q) ((key, v) ∷ [])) ≡ cond b (Some (key, v)) o
   pushed q key v true o same = ap (λ b. cond b (Some (key, v)) None) same
   pushed q key v false o same = ap (λ b. option_or o (cond b (Some (key, v)) None)) same ∙ option_or_none o
 
@@ -134,7 +160,12 @@ module _ {K V : Type 0} {eq : K → K → Bool} (laws : IsEquivalence eq) where
       set : Option (K × V) → Option (K × V)
       set o = option_map (λ p. (p.0, v)) o
 
-      by_test : (b c : Bool) → eq k pair.0 ≡ b → eq q pair.0 ≡ c → find eq (set_value eq pairs k v) q ≡ cond (eq k q) (option_map (λ p. (p.0, v)) (find eq pairs q)) (find eq pairs q) → lookup_entry (eq q) (cond b (pair.0, v) pair ∷ set_value eq pairs k v) ≡ cond (eq k q) (option_map (λ p. (p.0, v)) (cond c (Some pair) (find eq pairs q))) (cond c (Some pair) (find eq pairs q))
+      by_test : (b c : Bool) → eq k pair.0 ≡ b → eq q pair.0 ≡ c
+          → find eq (set_value eq pairs k v) q
+          ≡ cond (eq k q) (option_map (λ p. (p.0, v)) (find eq pairs q)) (find eq pairs q)
+          → lookup_entry (eq q) (cond b (pair.0, v) pair ∷ set_value eq pairs k v)
+          ≡ cond (eq k q) (option_map (λ p. (p.0, v)) (cond c (Some pair) (find eq pairs q)))
+          (cond c (Some pair) (find eq pairs q))
       by_test true true is passes rest =
           ap (λ c. cond c (Some (pair.0, v)) (find eq (set_value eq pairs k v) q)) passes
           ∙ sym (ap (λ b. cond b (Some (pair.0, v)) (Some pair)) (sym (alike laws k q pair.0 passes) ∙ is))
@@ -150,7 +181,9 @@ module _ {K V : Type 0} {eq : K → K → Bool} (laws : IsEquivalence eq) where
       ≡ cond (eq k q) (Some (key_or k (find eq pairs k), v)) (find eq pairs q)
   find-set_or_push pairs k q v = by_pair (find eq pairs k) refl
     where
-      present : (b : Bool) (pair : K × V) → eq k q ≡ b → find eq pairs k ≡ Some pair → cond b (option_map (λ p. (p.0, v)) (find eq pairs q)) (find eq pairs q) ≡ cond b (Some (pair.0, v)) (find eq pairs q)
+      present : (b : Bool) (pair : K × V) → eq k q ≡ b → find eq pairs k ≡ Some pair
+          → cond b (option_map (λ p. (p.0, v)) (find eq pairs q)) (find eq pairs q)
+          ≡ cond b (Some (pair.0, v)) (find eq pairs q)
       present true pair same found = ap (option_map (λ p. (p.0, v))) (sym (find-same pairs k q same) ∙ found)
       present false pair same found = refl
 
@@ -158,7 +191,9 @@ module _ {K V : Type 0} {eq : K → K → Bool} (laws : IsEquivalence eq) where
       absent true same none = sym (find-same pairs k q same) ∙ none
       absent false same none = refl
 
-      by_pair : (o : Option (K × V)) → find eq pairs k ≡ o → lookup_entry (eq q) (cond (is_some o) (set_value eq pairs k v) (pairs ++ (k, v) ∷ [])) ≡ cond (eq k q) (Some (key_or k o, v)) (find eq pairs q)
+      by_pair : (o : Option (K × V)) → find eq pairs k ≡ o
+          → lookup_entry (eq q) (cond (is_some o) (set_value eq pairs k v) (pairs ++ (k, v) ∷ []))
+          ≡ cond (eq k q) (Some (key_or k o, v)) (find eq pairs q)
       by_pair None none =
           lookup_entry-append (eq q) pairs ((k, v) ∷ [])
           ∙ ap (λ o. option_or o (lookup_entry (eq q) ((k, v) ∷ []))) (absent (eq k q) refl none)
@@ -175,7 +210,8 @@ module _ {K V : Type 0} {eq : K → K → Bool} (laws : IsEquivalence eq) where
   -- the value that a key has after each of these
   value_at-without : (pairs : List (K × V)) (k q : K)
       → value_at eq (without eq pairs k) q ≡ cond (eq k q) None (value_at eq pairs q)
-  value_at-without pairs k q = ap (option_map (λ pair. pair.1)) (find-without pairs k q) ∙ option_map-cond (λ pair. pair.1) (eq k q) None (find eq pairs q)
+  value_at-without pairs k q = ap (option_map (λ pair. pair.1)) (find-without pairs k q)
+      ∙ option_map-cond (λ pair. pair.1) (eq k q) None (find eq pairs q)
 
   value_at-to_back : (pairs : List (K × V)) (k q : K) (v : V)
       → value_at eq (to_back eq pairs k v) q ≡ cond (eq k q) (Some v) (value_at eq pairs q)

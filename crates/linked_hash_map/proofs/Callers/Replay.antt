@@ -1,6 +1,7 @@
 -- For callers: what a reply in a run says of the answer and of what the map has then, in the words
 -- of single calls.
-use Rattle.std.proofs.Common.{◌≡◌, ℕ, ◌-◌, Bool, true, false, cond, IsFalse, List, [], length, take, drop, slice_get, Option, Some, None, is_some, refl, ap, ◌∙◌}
+use Rattle.std.proofs.Common.{◌≡◌, ℕ, ◌-◌, Bool, true, false, cond, IsFalse, List, [], length, take}
+use Rattle.std.proofs.Common.{drop, slice_get, Option, Some, None, is_some, refl, ap, ◌∙◌}
 use Rattle.std.specs.Cmp.{IsEquivalence}
 use Rattle.linked_hash_map.specs.LinkedMap.{LinkedMap}
 use Rattle.linked_hash_map.specs.Validity.{IsValid}
@@ -9,22 +10,26 @@ use Rattle.linked_hash_map.specs.declared.map.Mode.{Mode}
 use Rattle.linked_hash_map.specs.Pairs.{find, value_at, without, set_value}
 use Rattle.linked_hash_map.specs.AllowedAnswers.{log_after}
 use Rattle.linked_hash_map.specs.Run.{first_log, IsReply}
-use Rattle.linked_hash_map.specs.Commands.{is_refusal, old_or, pair_or_empty, to_back_if_some, answer_to, pairs_after, capacity_after, mode_after}
+use Rattle.linked_hash_map.specs.Commands.{is_refusal, old_or, pair_or_empty, to_back_if_some}
+use Rattle.linked_hash_map.specs.Commands.{answer_to, pairs_after, capacity_after, mode_after}
 use Rattle.linked_hash_map.specs.declared.replay.Command.{Command}
-use Rattle.linked_hash_map.specs.declared.replay.Command.TheVariants.{Write, Refresh, Remove, PopFront, PopBack, Clear, EntryRemove, SetMode}
+use Rattle.linked_hash_map.specs.declared.replay.Command.TheVariants.{Write, Refresh, Remove, PopFront, PopBack, Clear, EntryRemove}
+use Rattle.linked_hash_map.specs.declared.replay.Command.TheVariants.{SetMode}
 use Rattle.linked_hash_map.specs.declared.replay.Answer.{Answer}
 use Rattle.linked_hash_map.specs.declared.replay.Answer.TheVariants.{Found, Missing, Absent, Done}
 use Rattle.linked_hash_map.specs.declared.replay.Reply.{Reply}
-use Rattle.linked_hash_map.proofs.Effects.{size-contents}
-use Rattle.linked_hash_map.proofs.Runs.{Defines-first_log}
-use Rattle.linked_hash_map.proofs.Outcomes.{outcome, write_outcome, refresh_outcome, remove_outcome, pop_front_outcome, pop_back_outcome, clear_outcome, set_mode_outcome}
+use Rattle.linked_hash_map.proofs.runs.Effects.{size-contents}
+use Rattle.linked_hash_map.proofs.runs.Steps.{Defines-first_log}
+use Rattle.linked_hash_map.proofs.runs.Outcomes.{outcome, write_outcome, refresh_outcome, remove_outcome, pop_front_outcome}
+use Rattle.linked_hash_map.proofs.runs.Outcomes.{pop_back_outcome, clear_outcome, set_mode_outcome}
 
 -- a run begins with a log that defines the map
 pub Defines-first : {K V S : Type 0} {eq : K → K → Bool} → IsEquivalence eq → {m : LinkedMap K V S}
     → IsValid eq m → Defines eq m.capacity (first_log m.mode m.pairs) m.pairs m.capacity m.mode
 Defines-first laws {m} valid = Defines-first_log laws m.mode m.pairs m.capacity valid.distinct valid.within
 
-is_refusal-old_or : {K V : Type 0} (otherwise : Answer K V) → is_refusal otherwise ≡ false → (o : Option V) → is_refusal (old_or otherwise o) ≡ false
+is_refusal-old_or : {K V : Type 0} (otherwise : Answer K V) → is_refusal otherwise ≡ false
+    → (o : Option V) → is_refusal (old_or otherwise o) ≡ false
 is_refusal-old_or otherwise given None = given
 is_refusal-old_or otherwise given (Some v) = refl
 
@@ -43,7 +48,11 @@ pub record Replied {K V : Type 0} (eq : K → K → Bool) (start : ℕ) (log : L
   pub defines : Defines eq start (log_after eq log command reply.answer) contents capacity mode
 
 module _ {K V : Type 0} {eq : K → K → Bool} (laws : IsEquivalence eq) {start : ℕ} {log : Log K V} where
-  replied : (command : Command K V) (reply : Reply K V) → IsReply eq start log command reply → {answer : Answer K V} {later : List (K × V)} {capacity : ℕ} {m : Mode} → reply.answer ≡ answer → Defines eq start (log_after eq log command reply.answer) later capacity m → Replied eq start log command reply answer later capacity m
+  replied : (command : Command K V) (reply : Reply K V) → IsReply eq start log command reply
+      → {answer : Answer K V} {later : List (K × V)} {capacity : ℕ} {m : Mode}
+      → reply.answer ≡ answer
+      → Defines eq start (log_after eq log command reply.answer) later capacity m
+      → Replied eq start log command reply answer later capacity m
   replied command reply is same after = record {
     answer_is = same;
     len_is = is.len ∙ size-contents laws after;
@@ -51,7 +60,8 @@ module _ {K V : Type 0} {eq : K → K → Bool} (laws : IsEquivalence eq) {start
     defines = after;
   }
 
-module _ {K V : Type 0} {eq : K → K → Bool} (laws : IsEquivalence eq) {start : ℕ} {log : Log K V} {contents : List (K × V)} {capacity : ℕ} {mode : Mode} where
+module _ {K V : Type 0} {eq : K → K → Bool} (laws : IsEquivalence eq) {start : ℕ} {log : Log K V}
+    {contents : List (K × V)} {capacity : ℕ} {mode : Mode} where
   -- any command that is not refused
   pub Replied-given : (command : Command K V) (reply : Reply K V)
       → Defines eq start log contents capacity mode → IsReply eq start log command reply
@@ -68,73 +78,99 @@ module _ {K V : Type 0} {eq : K → K → Bool} (laws : IsEquivalence eq) {start
       → IsReply eq start log (Write k v) reply
       → Replied eq start log (Write k v) reply (old_or (Absent k v) (value_at eq contents k))
       (set_value eq contents k v) capacity mode
-  Replied-write k v reply defines is = let done = write_outcome laws defines k v reply.answer is.allowed.answers in replied laws (Write k v) reply is done.0 done.1
+  Replied-write k v reply defines is =
+      let done = write_outcome laws defines k v reply.answer is.allowed.answers in
+      replied laws (Write k v) reply is done.0 done.1
 
   Replied-refresh : (k : K) (reply : Reply K V) → Defines eq start log contents capacity mode
       → IsReply eq start log (Refresh k) reply
       → Replied eq start log (Refresh k) reply (cond (is_some (find eq contents k)) Found Missing)
       (to_back_if_some eq contents k (value_at eq contents k)) capacity mode
-  Replied-refresh k reply defines is = let done = refresh_outcome laws defines k reply.answer is.allowed.answers in replied laws (Refresh k) reply is done.0 done.1
+  Replied-refresh k reply defines is =
+      let done = refresh_outcome laws defines k reply.answer is.allowed.answers in
+      replied laws (Refresh k) reply is done.0 done.1
 
   Replied-remove : (k : K) (reply : Reply K V) → Defines eq start log contents capacity mode
       → IsReply eq start log (Remove k) reply
       → Replied eq start log (Remove k) reply (old_or Missing (value_at eq contents k))
       (without eq contents k) capacity mode
-  Replied-remove k reply defines is = let done = remove_outcome laws defines k reply.answer is.allowed.answers in replied laws (Remove k) reply is done.0 done.1
+  Replied-remove k reply defines is =
+      let done = remove_outcome laws defines k reply.answer is.allowed.answers in
+      replied laws (Remove k) reply is done.0 done.1
 
   Replied-entry_remove : (k : K) (reply : Reply K V) → Defines eq start log contents capacity mode
       → IsReply eq start log (EntryRemove k) reply
       → Replied eq start log (EntryRemove k) reply (old_or Missing (value_at eq contents k))
       (without eq contents k) capacity mode
-  Replied-entry_remove k reply defines is = let done = remove_outcome laws defines k reply.answer is.allowed.answers in replied laws (EntryRemove k) reply is done.0 done.1
+  Replied-entry_remove k reply defines is =
+      let done = remove_outcome laws defines k reply.answer is.allowed.answers in
+      replied laws (EntryRemove k) reply is done.0 done.1
 
   Replied-pop_front : (reply : Reply K V) → Defines eq start log contents capacity mode
       → IsReply eq start log PopFront reply
       → Replied eq start log PopFront reply (pair_or_empty (slice_get contents 0))
       (drop 1 contents) capacity mode
-  Replied-pop_front reply defines is = let done = pop_front_outcome laws defines reply.answer is.allowed.answers in replied laws PopFront reply is done.0 done.1
+  Replied-pop_front reply defines is =
+      let done = pop_front_outcome laws defines reply.answer is.allowed.answers in
+      replied laws PopFront reply is done.0 done.1
 
   Replied-pop_back : (reply : Reply K V) → Defines eq start log contents capacity mode
       → IsReply eq start log PopBack reply
       → Replied eq start log PopBack reply
       (pair_or_empty (slice_get contents (length contents - 1)))
       (take (length contents - 1) contents) capacity mode
-  Replied-pop_back reply defines is = let done = pop_back_outcome laws defines reply.answer is.allowed.answers in replied laws PopBack reply is done.0 done.1
+  Replied-pop_back reply defines is =
+      let done = pop_back_outcome laws defines reply.answer is.allowed.answers in
+      replied laws PopBack reply is done.0 done.1
 
   Replied-clear : (reply : Reply K V) → Defines eq start log contents capacity mode
       → IsReply eq start log Clear reply → Replied eq start log Clear reply Done [] capacity mode
-  Replied-clear reply defines is = let done = clear_outcome laws defines reply.answer is.allowed.answers in replied laws Clear reply is done.0 done.1
+  Replied-clear reply defines is =
+      let done = clear_outcome laws defines reply.answer is.allowed.answers in
+      replied laws Clear reply is done.0 done.1
 
   Replied-set_mode : (m : Mode) (reply : Reply K V) → Defines eq start log contents capacity mode
       → IsReply eq start log (SetMode m) reply
       → Replied eq start log (SetMode m) reply Done contents capacity m
-  Replied-set_mode m reply defines is = let done = set_mode_outcome laws defines m reply.answer is.allowed.answers in replied laws (SetMode m) reply is done.0 done.1
+  Replied-set_mode m reply defines is =
+      let done = set_mode_outcome laws defines m reply.answer is.allowed.answers in
+      replied laws (SetMode m) reply is done.0 done.1
 
   pub is_refusal-write : (k : K) (v : V) (reply : Reply K V)
       → Defines eq start log contents capacity mode → IsReply eq start log (Write k v) reply
       → IsFalse (is_refusal reply.answer)
-  is_refusal-write k v reply defines is = ap is_refusal (Replied-write k v reply defines is).answer_is ∙ is_refusal-old_or (Absent k v) refl (value_at eq contents k)
+  is_refusal-write k v reply defines is =
+      ap is_refusal (Replied-write k v reply defines is).answer_is
+      ∙ is_refusal-old_or (Absent k v) refl (value_at eq contents k)
 
   pub is_refusal-refresh : (k : K) (reply : Reply K V) → Defines eq start log contents capacity mode
       → IsReply eq start log (Refresh k) reply → IsFalse (is_refusal reply.answer)
-  is_refusal-refresh k reply defines is = ap is_refusal (Replied-refresh k reply defines is).answer_is ∙ elim (is_some (find eq contents k)) as (λ b. is_refusal {K = K} {V = V} (cond b Found Missing) ≡ false) [ true ↦ refl | false ↦ refl ]
+  is_refusal-refresh k reply defines is = ap is_refusal
+      (Replied-refresh k reply defines is).answer_is ∙ elim (is_some (find eq contents k)) as (λ b.
+      is_refusal {K = K} {V = V} (cond b Found Missing) ≡ false) [ true ↦ refl | false ↦ refl ]
 
   pub is_refusal-remove : (k : K) (reply : Reply K V) → Defines eq start log contents capacity mode
       → IsReply eq start log (Remove k) reply → IsFalse (is_refusal reply.answer)
-  is_refusal-remove k reply defines is = ap is_refusal (Replied-remove k reply defines is).answer_is ∙ is_refusal-old_or Missing refl (value_at eq contents k)
+  is_refusal-remove k reply defines is = ap is_refusal (Replied-remove k reply defines is).answer_is
+      ∙ is_refusal-old_or Missing refl (value_at eq contents k)
 
   pub is_refusal-entry_remove : (k : K) (reply : Reply K V)
       → Defines eq start log contents capacity mode → IsReply eq start log (EntryRemove k) reply
       → IsFalse (is_refusal reply.answer)
-  is_refusal-entry_remove k reply defines is = ap is_refusal (Replied-entry_remove k reply defines is).answer_is ∙ is_refusal-old_or Missing refl (value_at eq contents k)
+  is_refusal-entry_remove k reply defines is =
+      ap is_refusal (Replied-entry_remove k reply defines is).answer_is
+      ∙ is_refusal-old_or Missing refl (value_at eq contents k)
 
   pub is_refusal-pop_front : (reply : Reply K V) → Defines eq start log contents capacity mode
       → IsReply eq start log PopFront reply → IsFalse (is_refusal reply.answer)
-  is_refusal-pop_front reply defines is = ap is_refusal (Replied-pop_front reply defines is).answer_is ∙ is_refusal-pair_or_empty (slice_get contents 0)
+  is_refusal-pop_front reply defines is =
+      ap is_refusal (Replied-pop_front reply defines is).answer_is
+      ∙ is_refusal-pair_or_empty (slice_get contents 0)
 
   pub is_refusal-pop_back : (reply : Reply K V) → Defines eq start log contents capacity mode
       → IsReply eq start log PopBack reply → IsFalse (is_refusal reply.answer)
-  is_refusal-pop_back reply defines is = ap is_refusal (Replied-pop_back reply defines is).answer_is ∙ is_refusal-pair_or_empty (slice_get contents (length contents - 1))
+  is_refusal-pop_back reply defines is = ap is_refusal (Replied-pop_back reply defines is).answer_is
+      ∙ is_refusal-pair_or_empty (slice_get contents (length contents - 1))
 
   pub is_refusal-clear : (reply : Reply K V) → Defines eq start log contents capacity mode
       → IsReply eq start log Clear reply → IsFalse (is_refusal reply.answer)

@@ -3,7 +3,7 @@
 use Rattle.std.proofs.Common.{◌≡◌, Bool, true, false, cond, List, [], ◌∷◌, map, filter, refl, ◌∙◌, subst}
 use Rattle.std.specs.Map.Calls.{RetainsPairs}
 use Rattle.std.proofs.lemmas.Map.Made as made
-use Rattle.linked_hash_map.proofs.Retained.{first-retained}
+use Rattle.linked_hash_map.proofs.nodes.Retained.{first-retained}
 
 -- a closure that stays as it was, and whose result and the value that it leaves depend on the pair
 -- alone
@@ -11,7 +11,9 @@ module _ {F K V : Type 0} (T : F → K → V → Bool → V → F → Type 0) (t
   abbrev changed : K × V → K × V
   changed pair = (pair.0, change pair)
 
-  cond-changed : (b : Bool) (pair : K × V) (pairs : List (K × V)) → cond b (changed pair ∷ map changed pairs) (map changed pairs) ≡ map changed (cond b (pair ∷ pairs) pairs)
+  cond-changed : (b : Bool) (pair : K × V) (pairs : List (K × V))
+      → cond b (changed pair ∷ map changed pairs) (map changed pairs)
+      ≡ map changed (cond b (pair ∷ pairs) pairs)
   cond-changed true pair pairs = refl
   cond-changed false pair pairs = refl
 

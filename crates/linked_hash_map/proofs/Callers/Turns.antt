@@ -1,6 +1,8 @@
 -- For callers: the first pair taken out and put back behind the others, and turns of this kind one
 -- after another.
-use Rattle.std.proofs.Common.{◌≡◌, ℕ, ◌+◌, ◌<◌, Bool, true, false, cond, List, [], ◌∷◌, ◌++◌, length, take, drop, map, get_or, append_assoc, subst, Option, Some, None, is_some, true≢false, refl, sym, ap, ap₂, ◌∙◌}
+use Rattle.std.proofs.Common.{◌≡◌, ℕ, ◌+◌, ◌<◌, Bool, true, false, cond, List, [], ◌∷◌, ◌++◌}
+use Rattle.std.proofs.Common.{length, take, drop, map, get_or, append_assoc, subst, Option, Some}
+use Rattle.std.proofs.Common.{None, is_some, true≢false, refl, sym, ap, ap₂, ◌∙◌}
 use Rattle.std.specs.Option.{option_or}
 use Rattle.std.specs.List.{IsDistinct}
 use Rattle.std.specs.Map.{keys_of}
@@ -39,7 +41,8 @@ module _ {K V : Type 0} {eq : K → K → Bool} (laws : IsEquivalence eq) where
   pub put-without_first : (mode : Mode) (pairs : List (K × V)) (pair : K × V) (v : V)
       → IsDistinct eq (keys_of pairs) → first pairs ≡ Some pair
       → put eq mode (without_first pairs) pair.0 v ≡ without_first pairs ++ (pair.0, v) ∷ []
-  put-without_first mode pairs pair v distinct there = put-absent eq mode (without_first pairs) pair.0 v (find-without_first pairs pair distinct there)
+  put-without_first mode pairs pair v distinct there = put-absent eq mode (without_first pairs)
+      pair.0 v (find-without_first pairs pair distinct there)
 
 -- after some turns of a renaming the first of the old pairs stand behind the others, the one of
 -- `from` with `to` as its key; and while the pair of `from` is there, `to` is free
@@ -51,26 +54,34 @@ pub record IsRenaming {K V : Type 0} (eq : K → K → Bool) (old now : List (K 
 
 module _ {K V : Type 0} {eq : K → K → Bool} (laws : IsEquivalence eq) (from to : K) where
   -- the new name is free for the pair that takes it, and the old name is gone then
-  free_turn : (pair : K × V) (rest : List (K × V)) → IsDistinct eq (keys_of (pair ∷ rest)) → (is_some (find eq (pair ∷ rest) from) ≡ true → find eq (pair ∷ rest) to ≡ None)
+  free_turn : (pair : K × V) (rest : List (K × V)) → IsDistinct eq (keys_of (pair ∷ rest))
+      → (is_some (find eq (pair ∷ rest) from) ≡ true → find eq (pair ∷ rest) to ≡ None)
       → (find eq rest (cond (eq from pair.0) to pair.0) ≡ None)
-      × (is_some (find eq (rest ++ (cond (eq from pair.0) to pair.0, pair.1) ∷ []) from) ≡ true → find eq (rest ++ (cond (eq from pair.0) to pair.0, pair.1) ∷ []) to ≡ None)
+      × (is_some (find eq (rest ++ (cond (eq from pair.0) to pair.0, pair.1) ∷ []) from) ≡ true
+      → find eq (rest ++ (cond (eq from pair.0) to pair.0, pair.1) ∷ []) to ≡ None)
   free_turn pair rest distinct free = by_test (eq from pair.0) refl free
     where
       other : (b : Bool) → eq to pair.0 ≡ b → find eq (pair ∷ rest) to ≡ None → b ≡ false
       other true same none = absurd (true≢false (ap is_some (ap (λ b. cond b (Some pair) (find eq rest to)) (sym same)) ∙ ap is_some none))
       other false apart none = refl
 
-      at_new : (b : Bool) → eq from to ≡ b → eq from pair.0 ≡ true → find eq (pair ∷ rest) to ≡ None → is_some (option_or (find eq rest from) (cond b (Some (to, pair.1)) None)) ≡ true → ⊥
+      at_new : (b : Bool) → eq from to ≡ b → eq from pair.0 ≡ true → find eq (pair ∷ rest) to ≡ None
+          → is_some (option_or (find eq rest from) (cond b (Some (to, pair.1)) None)) ≡ true → ⊥
       at_new true alike same none found = true≢false (sym same ∙ laws.congr from to pair.0 alike ∙ other (eq to pair.0) refl none)
-      at_new false apart same none found = true≢false (sym found ∙ ap (λ o. is_some (option_or o None)) (find-others laws rest from pair distinct same))
+      at_new false apart same none found = true≢false (sym found
+          ∙ ap (λ o. is_some (option_or o None)) (find-others laws rest from pair distinct same))
 
-      by_test : (b : Bool) → eq from pair.0 ≡ b → (is_some (cond b (Some pair) (find eq rest from)) ≡ true → find eq (pair ∷ rest) to ≡ None)
+      by_test : (b : Bool) → eq from pair.0 ≡ b
+          → (is_some (cond b (Some pair) (find eq rest from)) ≡ true
+          → find eq (pair ∷ rest) to ≡ None)
           → (find eq rest (cond b to pair.0) ≡ None)
-          × (is_some (find eq (rest ++ (cond b to pair.0, pair.1) ∷ []) from) ≡ true → find eq (rest ++ (cond b to pair.0, pair.1) ∷ []) to ≡ None)
+          × (is_some (find eq (rest ++ (cond b to pair.0, pair.1) ∷ []) from) ≡ true
+          → find eq (rest ++ (cond b to pair.0, pair.1) ∷ []) to ≡ None)
       by_test true same free =
           let none = free refl in (
             find-drop eq (pair ∷ rest) to 1 none,
-            λ found. absurd (at_new (eq from to) refl same none (sym (ap is_some (lookup_entry-append (eq from) rest ((to, pair.1) ∷ []))) ∙ found)),
+            λ found. absurd (at_new (eq from to) refl same none
+                (sym (ap is_some (lookup_entry-append (eq from) rest ((to, pair.1) ∷ []))) ∙ found)),
           )
       by_test false apart free = (
         find-others laws rest pair.0 pair distinct (laws.refl pair.0),
@@ -85,8 +96,9 @@ module _ {K V : Type 0} {eq : K → K → Bool} (laws : IsEquivalence eq) (from 
           or_none (Some p) = refl
 
           here : is_some (find eq (rest ++ pair ∷ []) from) ≡ true → is_some (find eq rest from) ≡ true
-          here found =
-              sym (ap is_some (lookup_entry-append (eq from) rest (pair ∷ []) ∙ ap (λ b. option_or (find eq rest from) (cond b (Some pair) None)) apart ∙ or_none (find eq rest from))) ∙ found
+          here found = sym (ap is_some (lookup_entry-append (eq from) rest (pair ∷ [])
+              ∙ ap (λ b. option_or (find eq rest from) (cond b (Some pair) None)) apart
+              ∙ or_none (find eq rest from))) ∙ found
 
   pair-turned : (pair : K × V) (b : Bool) → (cond b to pair.0, pair.1) ≡ cond b (to, pair.1) pair
   pair-turned pair true = refl
@@ -94,33 +106,46 @@ module _ {K V : Type 0} {eq : K → K → Bool} (laws : IsEquivalence eq) (from 
 
   list_turn : (old : List (K × V)) (turns : ℕ) (pair : K × V) (rest : List (K × V)) → turns < length old
       → pair ∷ rest ≡ drop turns old ++ map (λ p. cond (eq from p.0) (to, p.1) p) (take turns old)
-      → rest ++ (cond (eq from pair.0) to pair.0, pair.1) ∷ [] ≡ drop (turns + 1) old ++ map (λ p. cond (eq from p.0) (to, p.1) p) (take (turns + 1) old)
+      → rest ++ (cond (eq from pair.0) to pair.0, pair.1) ∷ []
+      ≡ drop (turns + 1) old ++ map (λ p. cond (eq from p.0) (to, p.1) p) (take (turns + 1) old)
   list_turn old turns pair rest within is =
       let change = λ (p : K × V). cond (eq from p.0) (to, p.1) p in
-      let split : pair ∷ rest ≡ get_or old turns pair ∷ (drop (turns + 1) old ++ map change (take turns old)) = is ∙ ap (λ xs. xs ++ map change (take turns old)) (drop_more old turns pair within) in
+      let split : pair ∷ rest ≡ get_or old turns pair ∷ (drop (turns + 1) old ++ map change (take turns old)) =
+      is ∙ ap (λ xs. xs ++ map change (take turns old)) (drop_more old turns pair within) in
       let own : pair ≡ get_or old turns pair = cc in
       let others : rest ≡ drop (turns + 1) old ++ map change (take turns old) = cc in
       ap₂ (λ xs p. xs ++ p ∷ []) others (pair-turned pair (eq from pair.0) ∙ ap change own)
       ∙ append_assoc (drop (turns + 1) old) (map change (take turns old)) (change (get_or old turns pair) ∷ [])
-      ∙ ap (λ xs. drop (turns + 1) old ++ xs) (sym (ap (map change) (take_more old turns pair within) ∙ map-append change (take turns old) (get_or old turns pair ∷ [])))
+      ∙ ap (λ xs. drop (turns + 1) old ++ xs)
+      (sym (ap (map change) (take_more old turns pair within)
+      ∙ map-append change (take turns old) (get_or old turns pair ∷ [])))
 
-module _ {K V : Type 0} {eq : K → K → Bool} (laws : IsEquivalence eq) (old now : List (K × V)) (from to : K) (pair : K × V) (turns : ℕ) (w : IsRenaming eq old now from to turns) (distinct : IsDistinct eq (keys_of now)) (there : first now ≡ Some pair) where
+module _ {K V : Type 0} {eq : K → K → Bool} (laws : IsEquivalence eq)
+    {old now : List (K × V)} {from to : K} {pair : K × V} {turns : ℕ}
+    (w : IsRenaming eq old now from to turns)
+    (distinct : IsDistinct eq (keys_of now)) (there : first now ≡ Some pair) where
   -- the name that the first pair takes is free among the others
   find-renamed : find eq (without_first now) (cond (eq from pair.0) to pair.0) ≡ None
   find-renamed = by_list now distinct there w.free
     where
-      by_list : (contents : List (K × V)) → IsDistinct eq (keys_of contents) → first contents ≡ Some pair → (is_some (find eq contents from) ≡ true → find eq contents to ≡ None) → find eq (without_first contents) (cond (eq from pair.0) to pair.0) ≡ None
+      by_list : (contents : List (K × V)) → IsDistinct eq (keys_of contents)
+          → first contents ≡ Some pair
+          → (is_some (find eq contents from) ≡ true → find eq contents to ≡ None)
+          → find eq (without_first contents) (cond (eq from pair.0) to pair.0) ≡ None
       by_list [] distinct there free = absurd (let no : Some pair ≡ None = sym there in cc)
       by_list (one ∷ rest) distinct there free =
           let same : one ≡ pair = (let some : Some one ≡ Some pair = there in cc) in
           (free_turn laws from to pair rest (subst (λ (p : K × V). IsDistinct eq (keys_of (p ∷ rest))) same distinct)
           (subst (λ (p : K × V). is_some (find eq (p ∷ rest) from) ≡ true → find eq (p ∷ rest) to ≡ None) same free)).0
 
-  IsRenaming-pushed : (after : List (K × V)) → turns < length old → after ≡ without_first now ++ (cond (eq from pair.0) to pair.0, pair.1) ∷ [] → IsRenaming eq old after from to (turns + 1)
+  IsRenaming-pushed : (after : List (K × V)) → turns < length old
+      → after ≡ without_first now ++ (cond (eq from pair.0) to pair.0, pair.1) ∷ []
+      → IsRenaming eq old after from to (turns + 1)
   IsRenaming-pushed after within done = by_list now distinct there w.list w.free done
     where
       by_list : (contents : List (K × V)) → IsDistinct eq (keys_of contents) → first contents ≡ Some pair
-          → contents ≡ drop turns old ++ map (λ p. cond (eq from p.0) (to, p.1) p) (take turns old) → (is_some (find eq contents from) ≡ true → find eq contents to ≡ None)
+          → contents ≡ drop turns old ++ map (λ p. cond (eq from p.0) (to, p.1) p) (take turns old)
+          → (is_some (find eq contents from) ≡ true → find eq contents to ≡ None)
           → after ≡ without_first contents ++ (cond (eq from pair.0) to pair.0, pair.1) ∷ [] → IsRenaming eq old after from to (turns + 1)
       by_list [] distinct there list free done = absurd (let no : Some pair ≡ None = sym there in cc)
       by_list (one ∷ rest) distinct there list free done =
@@ -140,4 +165,7 @@ module _ {K V : Type 0} {eq : K → K → Bool} (laws : IsEquivalence eq) (mode 
       → turns < length old → rest ≡ without_first now → name ≡ cond (eq from pair.0) to pair.0
       → after ≡ put eq mode rest name pair.1 → IsRenaming eq old after from to (turns + 1)
   IsRenaming-turn old now {rest} {after} from to {name} pair turns w distinct there within popped named inserted =
-      IsRenaming-pushed laws old now from to pair turns w distinct there after within (inserted ∙ (λ i. put eq mode (popped i) (named i) pair.1) ∙ put-absent eq mode (without_first now) (cond (eq from pair.0) to pair.0) pair.1 (find-renamed laws old now from to pair turns w distinct there))
+      IsRenaming-pushed laws w distinct there after within
+      (inserted ∙ (λ i. put eq mode (popped i) (named i) pair.1)
+      ∙ put-absent eq mode (without_first now) (cond (eq from pair.0) to pair.0) pair.1
+      (find-renamed laws w distinct there))

@@ -7,7 +7,8 @@ use Rattle.std.specs.Option.{IsSome}
 use Rattle.linked_hash_map.specs.declared.map.Mode.{Mode}
 use Rattle.linked_hash_map.specs.Pairs.{find, value_at, put, without, set_value, set_or_push}
 use Rattle.linked_hash_map.specs.Updates.{Updates}
-use Rattle.linked_hash_map.proofs.Callers.Lookups.{value_at-put_here, value_at-put_apart, value_at-without_here, value_at-without_apart, value_at-set_or_push_here, value_at-set_or_push_apart}
+use Rattle.linked_hash_map.proofs.Callers.Lookups.{value_at-put_here, value_at-put_apart, value_at-without_here, value_at-without_apart}
+use Rattle.linked_hash_map.proofs.Callers.Lookups.{value_at-set_or_push_here, value_at-set_or_push_apart}
 use Rattle.linked_hash_map.proofs.Callers.Keys.{length-put_absent, length-put_present, set_or_push-present}
 
 -- an insertion of a key that is present, or that has room, leaves the capacity

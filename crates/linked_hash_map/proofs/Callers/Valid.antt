@@ -20,11 +20,12 @@ use Rattle.linked_hash_map.specs.Entry.{Occupied, Vacant, occupied_key, vacant_m
 use Rattle.linked_hash_map.specs.declared.entry.Entry.{Entry}
 use Rattle.linked_hash_map.proofs.Callers.Keys.{distinct-put, distinct-set_or_push, length-set_or_push_most}
 use Rattle.linked_hash_map.proofs.Callers.Updates.{max-length_put}
-use Rattle.linked_hash_map.proofs.OccupiedEntries.{is_some-occupied}
+use Rattle.linked_hash_map.proofs.pairs.OccupiedEntries.{is_some-occupied}
 
 module _ {K V S : Type 0} {eq : K → K → Bool} (laws : IsEquivalence eq) {m n : LinkedMap K V S} where
   -- other pairs with keys that differ, and a capacity that rose to their number, if need was
-  raised : IsValid eq m → {pairs : List (K × V)} → IsDistinct eq (keys_of pairs) → n.pairs ≡ pairs → n.capacity ≡ max m.capacity (length n.pairs) → length n.pairs ≤ LIMIT → IsValid eq n
+  raised : IsValid eq m → {pairs : List (K × V)} → IsDistinct eq (keys_of pairs) → n.pairs ≡ pairs
+      → n.capacity ≡ max m.capacity (length n.pairs) → length n.pairs ≤ LIMIT → IsValid eq n
   raised valid {pairs} distinct changed more enough =
       let limit = valid.limit in
       record { distinct = subst (λ ps. IsDistinct eq (keys_of ps)) (sym changed) distinct; within = omega arith; limit = omega arith }
@@ -43,7 +44,8 @@ module _ {K V S : Type 0} {eq : K → K → Bool} (laws : IsEquivalence eq) {m n
       → n.pairs ≡ set_or_push eq m.pairs k v → n.capacity ≡ max m.capacity (length n.pairs)
       → IsValid eq n
   IsValid-set_or_push_present k v valid found changed more =
-      let stays = max-length_put laws Keep m.pairs k v m.capacity valid.distinct valid.within (λ none. absurd (true≢false (sym found ∙ ap is_some none))) in
+      let stays = max-length_put laws Keep m.pairs k v m.capacity valid.distinct valid.within
+      (λ none. absurd (true≢false (sym found ∙ ap is_some none))) in
       let counted : length n.pairs ≡ length (set_or_push eq m.pairs k v) = ap length changed in
       let limit = valid.limit in
       IsValid-set_or_push k v valid changed more (omega arith)
@@ -54,7 +56,8 @@ module _ {K V S H : Type 0} {g : eq.Ghosts K} {h : hash.Ghosts K} {b : builder.G
   pub IsValid-set_or_pushed : IsEquivalence g.eq → (e : Entry K V S H g h b w) (v : V)
       → IsValid g.eq (entry_map e) → (entry_value e ≡ None → length (entry_map e).pairs < LIMIT)
       → IsValid g.eq (set_or_pushed g.eq (entry_map e) (entry_key e) v)
-  IsValid-set_or_pushed laws (Occupied o) v valid limit = IsValid-set_or_push_present laws (occupied_key o) v valid (is_some-occupied o laws) refl refl
+  IsValid-set_or_pushed laws (Occupied o) v valid limit =
+      IsValid-set_or_push_present laws (occupied_key o) v valid (is_some-occupied o laws) refl refl
   IsValid-set_or_pushed laws (Vacant e) v valid limit =
       let below = limit refl in
       let most = length-set_or_push_most g.eq (vacant_map e).pairs (vacant_key e) v in

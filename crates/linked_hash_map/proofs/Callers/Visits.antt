@@ -1,5 +1,6 @@
 -- For callers: a visit that keeps some of the pairs and takes the others out, step by step.
-use Rattle.std.proofs.Common.{◌≡◌, Bool, true, false, cond, List, [], ◌∷◌, ◌++◌, length, slice_get, option_map, Some, filter, refl, sym, ap, subst, ◌∙◌, append_assoc, append-nil}
+use Rattle.std.proofs.Common.{◌≡◌, Bool, true, false, cond, List, [], ◌∷◌, ◌++◌, length, slice_get, option_map, Some, filter, refl, sym, ap}
+use Rattle.std.proofs.Common.{subst, ◌∙◌, append_assoc, append-nil}
 use Rattle.std.specs.Cmp.{IsEquivalence}
 use Rattle.std.specs.List.{IsDistinct, remove}
 use Rattle.std.specs.Map.{keys_of}
@@ -8,8 +9,8 @@ use Rattle.lhm_ring.specs.Splits.{SplitFirst}
 use Rattle.lhm_ring.proofs.Options.{Some-injective}
 use Rattle.linked_hash_map.specs.Pairs.{value_at, without}
 use Rattle.linked_hash_map.specs.Visits.{VisitKeeps}
-use Rattle.linked_hash_map.proofs.Indexes.{find-own, without-own}
-use Rattle.linked_hash_map.proofs.Lists.{slice_get-append, remove-append}
+use Rattle.linked_hash_map.proofs.pairs.Indexes.{find-own, without-own}
+use Rattle.linked_hash_map.proofs.lists.Elements.{slice_get-append, remove-append}
 
 -- the first pair to come has the key that is next, and the others are to come behind it
 record Next {K V : Type 0} (k : K) (left : List K) (rest : List (K × V)) : Type 0 where
@@ -20,7 +21,8 @@ next_of : {K V : Type 0} (k : K) (left : List K) (rest : List (K × V)) → k �
 next_of k left [] h = absurd (let no : k ∷ left ≡ [] = h in cc)
 next_of k left (pair ∷ others) h = record { split = record { node = pair; after = others; is = refl; at_is = cc }; behind = cc }
 
-module _ {K V : Type 0} {eq : K → K → Bool} (laws : IsEquivalence eq) (keeps : K × V → Bool) {start now : List (K × V)} {k : K} {left : List K} {v : V}
+module _ {K V : Type 0} {eq : K → K → Bool} (laws : IsEquivalence eq) (keeps : K × V → Bool)
+    {start now : List (K × V)} {k : K} {left : List K} {v : V}
     (w : VisitKeeps keeps start now (k ∷ left)) (distinct : IsDistinct eq (keys_of now)) (has : value_at eq now k ≡ Some v) where
   next : Next k left w.rest
   next = next_of k left w.rest w.left_is
@@ -38,7 +40,9 @@ module _ {K V : Type 0} {eq : K → K → Bool} (laws : IsEquivalence eq) (keeps
   there = ap (λ ps. slice_get ps (length (filter keeps w.passed))) now-seam ∙ slice_get-append (filter keeps w.passed) n.node n.after
 
   value : v ≡ n.node.1
-  value = Some-injective _ _ (sym has ∙ ap (value_at eq now) (sym n.at_is) ∙ ap (option_map (λ p. p.1)) (find-own laws now distinct (length (filter keeps w.passed)) n.node there))
+  value = Some-injective _ _
+      (sym has ∙ ap (value_at eq now) (sym n.at_is) ∙ ap (option_map (λ p. p.1))
+      (find-own laws now distinct (length (filter keeps w.passed)) n.node there))
 
   pair_is : (k, v) ≡ n.node
   pair_is = λ i. (sym n.at_is i, value i)
@@ -53,7 +57,8 @@ module _ {K V : Type 0} {eq : K → K → Bool} (laws : IsEquivalence eq) (keeps
     rest = n.after;
     start_is = start-seam;
     now_is = now-seam ∙ sym (append_assoc (filter keeps w.passed) (n.node ∷ []) n.after)
-        ∙ ap (λ (ps : List (K × V)). ps ++ n.after) (sym (filtered ∙ ap (λ b. filter keeps w.passed ++ cond b (n.node ∷ []) []) (ap keeps (sym pair_is) ∙ kept)));
+        ∙ ap (λ (ps : List (K × V)). ps ++ n.after) (sym (filtered ∙ ap
+        (λ b. filter keeps w.passed ++ cond b (n.node ∷ []) []) (ap keeps (sym pair_is) ∙ kept)));
     left_is = next.behind;
   }
 
@@ -65,7 +70,9 @@ module _ {K V : Type 0} {eq : K → K → Bool} (laws : IsEquivalence eq) (keeps
     start_is = start-seam;
     now_is = ap (without eq now) (sym n.at_is) ∙ without-own laws now distinct (length (filter keeps w.passed)) n.node there
         ∙ ap (λ ps. remove ps (length (filter keeps w.passed))) now-seam ∙ remove-append (filter keeps w.passed) n.node n.after
-        ∙ ap (λ (ps : List (K × V)). ps ++ n.after) (sym (filtered ∙ ap (λ b. filter keeps w.passed ++ cond b (n.node ∷ []) []) (ap keeps (sym pair_is) ∙ gone) ∙ append-nil (filter keeps w.passed)));
+        ∙ ap (λ (ps : List (K × V)). ps ++ n.after) (sym (filtered
+        ∙ ap (λ b. filter keeps w.passed ++ cond b (n.node ∷ []) []) (ap keeps (sym pair_is) ∙ gone)
+        ∙ append-nil (filter keeps w.passed)));
     left_is = next.behind;
   }
 
@@ -75,18 +82,23 @@ pub append-visited : {X : Type 0} (seen later : List X) {now left rest keys : Li
     → now ≡ seen ++ pushed ∷ [] → pushed ≡ key → left ≡ key ∷ later → rest ≡ later
     → seen ++ left ≡ keys → now ++ rest ≡ keys
 append-visited seen later {key = key} grown is visits stays all =
-    (λ i. grown i ++ stays i) ∙ append_assoc seen (_ ∷ []) later ∙ ap (λ k. seen ++ k ∷ later) is ∙ ap (λ keys. seen ++ keys) (sym visits) ∙ all
+    (λ i. grown i ++ stays i) ∙ append_assoc seen (_ ∷ []) later ∙ ap (λ k. seen ++ k ∷ later) is
+    ∙ ap (λ keys. seen ++ keys) (sym visits) ∙ all
 
 -- a step of the loop, as the clauses of `next_entry` and of the entry's calls say it
-module _ {K V : Type 0} {eq : K → K → Bool} (laws : IsEquivalence eq) {keeps : K × V → Bool} {start now pairs : List (K × V)} {k : K} {to_come left : List K} {v : V}
-    (w : VisitKeeps keeps start now to_come) (visits : to_come ≡ k ∷ left) (distinct : IsDistinct eq (keys_of now)) (has : value_at eq now k ≡ Some v) (same : pairs ≡ now) where
+module _ {K V : Type 0} {eq : K → K → Bool} (laws : IsEquivalence eq) {keeps : K × V → Bool}
+    {start now pairs : List (K × V)} {k : K} {to_come left : List K} {v : V}
+    (w : VisitKeeps keeps start now to_come) (visits : to_come ≡ k ∷ left)
+    (distinct : IsDistinct eq (keys_of now)) (has : value_at eq now k ≡ Some v)
+    (same : pairs ≡ now) where
   before : VisitKeeps keeps start now (k ∷ left)
   before = subst (λ ks. VisitKeeps keeps start now ks) visits w
 
   pub VisitKeeps-passed : {after : List (K × V)} {to_come_after : List K} → keeps (k, v) ≡ true
       → after ≡ pairs → to_come_after ≡ left → VisitKeeps keeps start after to_come_after
   VisitKeeps-passed {after} {to_come_after} kept stands stays =
-      let r : VisitKeeps keeps start after left = subst (λ ps. VisitKeeps keeps start ps left) (sym (stands ∙ same)) (VisitKeeps-pass laws keeps before distinct has kept) in
+      let r : VisitKeeps keeps start after left = subst (λ ps. VisitKeeps keeps start ps left)
+      (sym (stands ∙ same)) (VisitKeeps-pass laws keeps before distinct has kept) in
       subst (λ ks. VisitKeeps keeps start after ks) (sym stays) r
 
   pub VisitKeeps-removed : {after : List (K × V)} {to_come_after : List K} → keeps (k, v) ≡ false
@@ -94,5 +106,6 @@ module _ {K V : Type 0} {eq : K → K → Bool} (laws : IsEquivalence eq) {keeps
       → VisitKeeps keeps start after to_come_after
   VisitKeeps-removed {after} {to_come_after} gone removed stays =
       let r : VisitKeeps keeps start (without eq now k) left = VisitKeeps-remove laws keeps before distinct has gone in
-      let s : VisitKeeps keeps start after left = subst (λ ps. VisitKeeps keeps start ps left) (sym (removed ∙ ap (λ ps. without eq ps k) same)) r in
+      let s : VisitKeeps keeps start after left = subst (λ ps. VisitKeeps keeps start ps left)
+      (sym (removed ∙ ap (λ ps. without eq ps k) same)) r in
       subst (λ ks. VisitKeeps keeps start after ks) (sym stays) s

@@ -7,10 +7,10 @@ use Rattle.std.specs.Map.{keys_of}
 use Rattle.std.specs.Map.Calls.{MayWrite, ModifiesValue}
 use Rattle.std.specs.Cmp.{IsEquivalence}
 use Rattle.linked_hash_map.specs.Pairs.{find, value_at, set_value, set_or_push, set_if_some}
-use Rattle.linked_hash_map.proofs.Pairs.{set_value-none}
+use Rattle.linked_hash_map.proofs.pairs.Calls.{set_value-none}
 use Rattle.linked_hash_map.proofs.Callers.Keys.{find-absent, IsSome-find, set_or_push-present}
 -- a value that is set as it was changes nothing
-pub use Rattle.linked_hash_map.proofs.Indexes.{set_value-own}
+pub use Rattle.linked_hash_map.proofs.pairs.Indexes.{set_value-own}
 
 -- if a call leaves `change v` for a value v, `and_modify` changes the value of a key so
 pub modified : {F X R : Type 0} {g : Once F (MutBor X × Unit {0}) (R × (MutBor X × Unit {0}))}
@@ -22,7 +22,8 @@ modified change (Some v) None called leaves = absurd called
 modified change (Some v) (Some w) called leaves = ap Some (leaves v w called)
 
 -- nor does one that is written so
-module _ {K V : Type 0} {eq : K → K → Bool} (laws : IsEquivalence eq) (pairs : List (K × V)) (k : K) (v : V) (distinct : IsDistinct eq (keys_of pairs)) where
+module _ {K V : Type 0} {eq : K → K → Bool} (laws : IsEquivalence eq) (pairs : List (K × V)) (k : K)
+    (v : V) (distinct : IsDistinct eq (keys_of pairs)) where
   pub set_or_push-own : value_at eq pairs k ≡ Some v → set_or_push eq pairs k v ≡ pairs
   set_or_push-own own = set_or_push-present eq pairs k v (IsSome-find eq pairs k v own) ∙ set_value-own laws pairs k v distinct own
 
@@ -33,7 +34,9 @@ module _ {K V : Type 0} (eq : K → K → Bool) where
   set_value-set_value [] k w v = refl
   set_value-set_value (pair ∷ pairs) k w v = ap₂ (λ p ps. p ∷ ps) (by_test (eq k pair.0) refl) (set_value-set_value pairs k w v)
     where
-      by_test : (b : Bool) → eq k pair.0 ≡ b → cond (eq k (cond b (pair.0, w) pair).0) ((cond b (pair.0, w) pair).0, v) (cond b (pair.0, w) pair) ≡ cond b (pair.0, v) pair
+      by_test : (b : Bool) → eq k pair.0 ≡ b
+          → cond (eq k (cond b (pair.0, w) pair).0) ((cond b (pair.0, w) pair).0, v)
+          (cond b (pair.0, w) pair) ≡ cond b (pair.0, v) pair
       by_test true h = ap (λ b. cond b (pair.0, v) (pair.0, w)) h
       by_test false h = ap (λ b. cond b (pair.0, v) pair) h
 
@@ -41,7 +44,10 @@ module _ {K V : Type 0} (eq : K → K → Bool) where
   found-set_value [] k w = refl
   found-set_value (pair ∷ pairs) k w = by_test (eq k pair.0) refl (found-set_value pairs k w)
     where
-      by_test : (b : Bool) → eq k pair.0 ≡ b → is_some (find eq (set_value eq pairs k w) k) ≡ is_some (find eq pairs k) → is_some (find eq (cond b (pair.0, w) pair ∷ set_value eq pairs k w) k) ≡ is_some (cond b (Some pair) (find eq pairs k))
+      by_test : (b : Bool) → eq k pair.0 ≡ b
+          → is_some (find eq (set_value eq pairs k w) k) ≡ is_some (find eq pairs k)
+          → is_some (find eq (cond b (pair.0, w) pair ∷ set_value eq pairs k w) k)
+          ≡ is_some (cond b (Some pair) (find eq pairs k))
       by_test true h rest = ap (λ b. is_some (cond b (Some (pair.0, w)) (find eq (set_value eq pairs k w) k))) h
       by_test false h rest = ap (λ b. is_some (cond b (Some pair) (find eq (set_value eq pairs k w) k))) h ∙ rest
 

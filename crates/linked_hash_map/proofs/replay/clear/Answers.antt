@@ -1,9 +1,10 @@
-use Rattle.linked_hash_map.proofs.Effects.{Defines-remove_all}
+use Rattle.linked_hash_map.proofs.runs.Effects.{Defines-remove_all}
 use Rattle.linked_hash_map.proofs.replay.clear.Goals as goal
 
 pub returns : goal.returns
 returns g c = record {
   answers = λ start log defines. tt;
-  defines = λ start log defines. Defines-remove_all g.met.K.Eq.laws defines c.clear.ensures.pairs c.clear.ensures.keeps.capacity c.clear.ensures.keeps.mode;
+  defines = λ start log defines. Defines-remove_all g.met.K.Eq.laws defines c.clear.ensures.pairs
+      c.clear.ensures.keeps.capacity c.clear.ensures.keeps.mode;
   hasher = c.clear.ensures.keeps.hasher;
 }

@@ -2,7 +2,7 @@ use Rattle.std.proofs.Common.{◌≡◌, ◌<◌, ◌++◌, ◌∷◌, [], lengt
 use Rattle.std.proofs.Math.Nat.{pos_of_ne-zero}
 use Rattle.std.proofs.lemmas.List.{append-nil, append_assoc}
 use Rattle.linked_hash_map.specs.Drains.{drain_rest}
-use Rattle.linked_hash_map.proofs.Effects.{size-contents, Defines-nothing, Defines-remove_all}
+use Rattle.linked_hash_map.proofs.runs.Effects.{size-contents, Defines-nothing, Defines-remove_all}
 use Rattle.linked_hash_map.proofs.replay.drain.Goals as goal
 
 pub returns-in_default : goal.returns-in_default
@@ -23,15 +23,13 @@ loop-pair-init g c = record {
 
 pub push_reserved-requires : goal.push_reserved-requires
 push_reserved-requires g c =
-    let i = c.loop-pair.invariant in
-    let so_far = c.loop-pair.pairs in
+    let i = c.loop-pair.invariant in let so_far = c.loop-pair.pairs in
     let to_come = drain_rest c.loop-pair.pair-iterator in
     omega (arith, so_far.ok.0, ap length i.pairs, length-append so_far.items to_come, ap length c.in-Some.ensures.steps.0, i.room)
 
 pub loop-pair-preserved : goal.loop-pair-preserved
 loop-pair-preserved g c =
-    let i = c.loop-pair.invariant in
-    let so_far = c.loop-pair.pairs.items in
+    let i = c.loop-pair.invariant in let so_far = c.loop-pair.pairs.items in
     let step = c.in-Some.ensures.steps in
     record {
       pairs =
@@ -43,7 +41,9 @@ loop-pair-preserved g c =
 pub returns : goal.returns
 returns g c =
     let all : c.loop-pair.pairs.items ≡ c.args.map.now.pairs =
-    sym (append-nil c.loop-pair.pairs.items) ∙ ap (λ l. c.loop-pair.pairs.items ++ l) (sym c.in-None.ensures.steps.0.0) ∙ c.loop-pair.invariant.pairs in
+    sym (append-nil c.loop-pair.pairs.items)
+    ∙ ap (λ l. c.loop-pair.pairs.items ++ l) (sym c.in-None.ensures.steps.0.0)
+    ∙ c.loop-pair.invariant.pairs in
     record {
       answers = λ start log defines. c.from_vec.ensures ∙ all ∙ sym defines.same_pairs;
       defines = λ start log defines. Defines-remove_all g.met.K.Eq.laws defines refl refl refl;

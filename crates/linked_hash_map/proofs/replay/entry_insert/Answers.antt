@@ -2,18 +2,16 @@ use Rattle.std.proofs.Common.{rules, ◌≡◌, ◌+◌, ◌++◌, ◌∷◌, []
 use Rattle.linked_hash_map.specs.Changes.{pushed}
 use Rattle.linked_hash_map.specs.Pairs.{key_or, find, put}
 use Rattle.linked_hash_map.specs.Entry.{occupied_key}
-use Rattle.linked_hash_map.proofs.LiveKeys.{none_is}
-use Rattle.linked_hash_map.proofs.Pairs.{length-put, put-absent}
-use Rattle.linked_hash_map.proofs.ActsAs.{put-ActsAs}
-use Rattle.linked_hash_map.proofs.Effects.{IsFull-contents, IsAbsent-found, HasValue-value, Defines-put, Defines-nothing}
-use Rattle.linked_hash_map.proofs.Runs.{Serves-same}
+use Rattle.linked_hash_map.proofs.log.LiveKeys.{none_is}
+use Rattle.linked_hash_map.proofs.pairs.Calls.{length-put, put-absent}
+use Rattle.linked_hash_map.proofs.log.ActsAs.{put-ActsAs}
+use Rattle.linked_hash_map.proofs.runs.Effects.{IsFull-contents, IsAbsent-found, HasValue-value, Defines-put, Defines-nothing}
+use Rattle.linked_hash_map.proofs.runs.Steps.{Serves-same}
 use Rattle.linked_hash_map.proofs.replay.entry_insert.Goals as goal
 
 pub returns-in-Occupied : goal.returns-in-Occupied
 returns-in-Occupied g c =
-    let m = c.args.map.now in
-    let entry = c.in-Occupied.ensures in
-    let done = c.insert.ensures in
+    let m = c.args.map.now in let entry = c.in-Occupied.ensures in let done = c.insert.ensures in
     let left = c.insert.new.self.map.now in
     let moved : left.pairs ≡ put g.K.PartialEq.eq m.mode m.pairs c.args.key c.args.value =
     done.pairs
@@ -23,28 +21,28 @@ returns-in-Occupied g c =
     ap length moved
     ∙ length-put g.met.K.Eq.laws m.mode m.pairs c.args.key c.args.value entry.valid.distinct
     ∙ ap (λ b. cond b (length m.pairs) (length m.pairs + 1)) (sym entry.occupied) in
-    let room : left.capacity ≡ max m.capacity (length left.pairs) = let same = done.keeps.capacity ∙ entry.keeps.capacity in omega (arith, entry.valid.within) in
+    let room : left.capacity ≡ max m.capacity (length left.pairs) = let same = done.keeps.capacity
+    ∙ entry.keeps.capacity in
+    omega (arith, entry.valid.within) in
     Serves-same left (search rules)
     (record {
       answers = λ start log defines. HasValue-value g.met.K.Eq.laws defines c.args.key (sym entry.value ∙ ap Some (sym done.old));
-      defines = λ start log defines. Defines-put g.met.K.Eq.laws defines c.args.key c.args.value moved room (done.keeps.mode ∙ entry.keeps.mode);
+      defines = λ start log defines. Defines-put g.met.K.Eq.laws defines c.args.key c.args.value
+          moved room (done.keeps.mode ∙ entry.keeps.mode);
       hasher = done.keeps.hasher ∙ entry.keeps.hasher;
     })
 
 pub returns-in-Ok : goal.returns-in-Ok
 returns-in-Ok g c =
-    let eq = g.K.PartialEq.eq in
-    let m = c.args.map.now in
-    let entry = c.in-Vacant.ensures in
-    let lent_map = c.in-Vacant.entry.map.now in
-    let key = c.in-Vacant.entry.key in
-    let value = c.in-Ok._lent.now in
-    let same_map = entry.unchanged refl in
+    let eq = g.K.PartialEq.eq in let m = c.args.map.now in let entry = c.in-Vacant.ensures in
+    let lent_map = c.in-Vacant.entry.map.now in let key = c.in-Vacant.entry.key in
+    let value = c.in-Ok._lent.now in let same_map = entry.unchanged refl in
     let absent = none_is (find eq m.pairs c.args.key) (sym entry.occupied) in
     let same_key : key ≡ c.args.key = entry.key ∙ ap (key_or c.args.key) absent in
     let left = pushed lent_map key value in
     let went_in : left.pairs ≡ put eq m.mode m.pairs c.args.key c.args.value =
-    (λ i. entry.pairs i ++ (same_key i, c.in-Ok.ensures.value i) ∷ []) ∙ sym (put-absent eq m.mode m.pairs c.args.key c.args.value absent) in
+    (λ i. entry.pairs i ++ (same_key i, c.in-Ok.ensures.value i) ∷ [])
+    ∙ sym (put-absent eq m.mode m.pairs c.args.key c.args.value absent) in
     let room : left.capacity ≡ max m.capacity (length left.pairs) =
     let longer = length-append lent_map.pairs ((key, value) ∷ []) in let same = entry.keeps.capacity in omega arith in
     Serves-same left (search rules)
@@ -56,18 +54,21 @@ returns-in-Ok g c =
 
 pub returns-in-Err : goal.returns-in-Err
 returns-in-Err g c =
-    let eq = g.K.PartialEq.eq in
-    let m = c.args.map.now in
-    let entry = c.in-Vacant.ensures in
-    let refused = c.in-Err.ensures in
-    let same_map = entry.unchanged refl in
+    let eq = g.K.PartialEq.eq in let m = c.args.map.now in let entry = c.in-Vacant.ensures in
+    let refused = c.in-Err.ensures in let same_map = entry.unchanged refl in
     let absent = none_is (find eq m.pairs c.args.key) (sym entry.occupied) in
     let same_key = entry.key ∙ ap (key_or c.args.key) absent in
     let full : length m.pairs ≡ m.capacity = sym (ap (λ n. length n.pairs) same_map) ∙ refused.full ∙ ap (λ n. n.capacity) same_map in
     Serves-same m (search rules)
     (record {
-      answers = λ start log defines.
-          ((IsAbsent-found g.met.K.Eq.laws defines c.args.key absent, IsFull-contents g.met.K.Eq.laws defines full), refused.key_back ∙ same_key, refused.value_back);
+      answers = λ start log defines. (
+        (
+          IsAbsent-found g.met.K.Eq.laws defines c.args.key absent,
+          IsFull-contents g.met.K.Eq.laws defines full,
+        ),
+        refused.key_back ∙ same_key,
+        refused.value_back,
+      );
       defines = λ start log defines. Defines-nothing g.met.K.Eq.laws defines refl refl refl;
       hasher = refl;
     })

@@ -1,14 +1,13 @@
 use Rattle.std.proofs.Common.{rules, refl, sym, ap, ◌∙◌, Some}
 use Rattle.linked_hash_map.specs.Pairs.{without}
 use Rattle.linked_hash_map.specs.Entry.{occupied_key}
-use Rattle.linked_hash_map.proofs.Effects.{IsAbsent-value, HasValue-value, Defines-remove, Defines-nothing}
-use Rattle.linked_hash_map.proofs.Runs.{Serves-same}
+use Rattle.linked_hash_map.proofs.runs.Effects.{IsAbsent-value, HasValue-value, Defines-remove, Defines-nothing}
+use Rattle.linked_hash_map.proofs.runs.Steps.{Serves-same}
 use Rattle.linked_hash_map.proofs.replay.entry_remove.Goals as goal
 
 pub returns-in-Occupied : goal.returns-in-Occupied
 returns-in-Occupied g c =
-    let entry = c.in-Occupied.ensures in
-    let done = c.remove.ensures in
+    let entry = c.in-Occupied.ensures in let done = c.remove.ensures in
     Serves-same c.remove.new.self.0 (search rules)
     (record {
       answers = λ start log defines. HasValue-value g.met.K.Eq.laws defines c.args.key (sym entry.value ∙ ap Some (sym done.value));
@@ -21,11 +20,11 @@ returns-in-Occupied g c =
 
 pub returns-in-Vacant : goal.returns-in-Vacant
 returns-in-Vacant g c =
-    let entry = c.in-Vacant.ensures in
-    let same_map = c.drop-entry.ensures ∙ entry.unchanged refl in
+    let entry = c.in-Vacant.ensures in let same_map = c.drop-entry.ensures ∙ entry.unchanged refl in
     Serves-same c.drop-entry.new.self.0 (search rules)
     (record {
       answers = λ start log defines. IsAbsent-value g.met.K.Eq.laws defines c.args.key (sym entry.value);
-      defines = λ start log defines. Defines-nothing g.met.K.Eq.laws defines (ap (λ m. m.pairs) same_map) (ap (λ m. m.capacity) same_map) (ap (λ m. m.mode) same_map);
+      defines = λ start log defines. Defines-nothing g.met.K.Eq.laws defines
+          (ap (λ m. m.pairs) same_map) (ap (λ m. m.capacity) same_map) (ap (λ m. m.mode) same_map);
       hasher = ap (λ m. m.hasher) same_map;
     })

@@ -1,33 +1,32 @@
 use Rattle.std.proofs.Common.{◌++◌, ◌∙◌, sym, ap, ap₂, subst, take, Some}
-use Rattle.std.specs.Vec.Iter.{into_iter_items}
 use Rattle.linked_hash_map.specs.Log.{put_each}
 use Rattle.linked_hash_map.specs.AllowedAnswers.{HasNoRoom}
-use Rattle.linked_hash_map.proofs.Extends.{HasExtended-put, next-there, HasNoRoom-next, Defines-taken}
+use Rattle.linked_hash_map.proofs.runs.Extends.{HasExtended-put, next-there, HasNoRoom-next, Defines-taken}
 use Rattle.linked_hash_map.proofs.replay.extend.Goals as goal
 
 pub loop-key-preserved-in-Ok : goal.loop-key-preserved-in-Ok
 loop-key-preserved-in-Ok g c =
     let put = c.in-Ok.ensures in
-    HasExtended-put g.met.K.Eq.laws c.loop-key.invariant c.in-Some.key c.in-Some.value (into_iter_items c.next.new.self) c.in-Some.ensures.steps.0 put.pairs put.capacity put.settings
+    HasExtended-put g.met.K.Eq.laws c.loop-key.invariant c.in-Some.ensures.steps.0
+    put.pairs put.capacity put.settings
 
 pub loop-key-preserved : goal.loop-key-preserved
 loop-key-preserved g c =
     let put = c.in-Ok.ensures in
-    HasExtended-put g.met.K.Eq.laws c.loop-key.invariant c.in-Some.key c.in-Some.value (into_iter_items c.next.new.self) c.in-Some.ensures.steps.0 put.pairs put.capacity put.settings
+    HasExtended-put g.met.K.Eq.laws c.loop-key.invariant c.in-Some.ensures.steps.0
+    put.pairs put.capacity put.settings
 
 pub returns-in-Err : goal.returns-in-Err
 returns-in-Err g c =
-    let laws = g.met.K.Eq.laws in
-    let so_far = c.loop-key.invariant in
-    let steps = c.in-Some.ensures.steps.0 in
-    let refused = c.in-Err.ensures in
-    let rest = into_iter_items c.next.new.self in
+    let laws = g.met.K.Eq.laws in let so_far = c.loop-key.invariant in
+    let steps = c.in-Some.ensures.steps.0 in let refused = c.in-Err.ensures in
     record {
       answers = λ start log defines. (
-        next-there laws so_far c.in-Some.key c.in-Some.value rest steps ∙ ap₂ (λ k v. Some (k, v)) (sym refused.key_back) (sym refused.value_back),
+        next-there laws so_far steps
+            ∙ ap₂ (λ k v. Some (k, v)) (sym refused.key_back) (sym refused.value_back),
         subst (HasNoRoom g.K.PartialEq.eq start (log ++ put_each (take c.loop-key.inserted c.args.pairs))) (sym refused.key_back)
-            (HasNoRoom-next laws so_far c.in-Some.key c.in-Some.value rest steps start log defines refused.absent refused.full),
+            (HasNoRoom-next laws so_far steps defines refused.absent refused.full),
       );
-      defines = λ start log defines. Defines-taken laws so_far c.in-Some.key c.in-Some.value rest steps start log defines refused.unchanged;
+      defines = λ start log defines. Defines-taken laws so_far steps defines refused.unchanged;
       hasher = ap (λ m. m.hasher) refused.unchanged ∙ so_far.hasher;
     }

@@ -1,5 +1,5 @@
 use Rattle.std.specs.Vec.Iter.{into_iter_items}
-use Rattle.linked_hash_map.proofs.Extends.{HasExtended}
+use Rattle.linked_hash_map.proofs.runs.Extends.{HasExtended}
 use Rattle.linked_hash_map.proofs.replay.extend.Given as goal
 
 abbrev pub invariant-loop-key : goal.invariant-loop-key

@@ -1,5 +1,6 @@
 use Rattle.std.proofs.Common.{sym, ap, ◌∙◌}
-use Rattle.linked_hash_map.proofs.Effects.{IsFull-contents, IsAbsent-found, IsAbsent-value, HasValue-value, Defines-put, Defines-nothing}
+use Rattle.linked_hash_map.proofs.runs.Effects.{IsFull-contents, IsAbsent-found, IsAbsent-value}
+use Rattle.linked_hash_map.proofs.runs.Effects.{HasValue-value, Defines-put, Defines-nothing}
 use Rattle.linked_hash_map.proofs.replay.insert.Goals as goal
 
 pub returns-in-Ok-None : goal.returns-in-Ok-None
@@ -7,7 +8,8 @@ returns-in-Ok-None g c =
     let done = c.in-Ok-None.ensures in
     record {
       answers = λ start log defines. IsAbsent-value g.met.K.Eq.laws defines c.args.key (sym done.old ∙ c.in-Ok-None.field-0-is);
-      defines = λ start log defines. Defines-put g.met.K.Eq.laws defines c.args.key c.args.value done.pairs done.capacity done.settings.mode;
+      defines = λ start log defines. Defines-put g.met.K.Eq.laws defines c.args.key c.args.value
+          done.pairs done.capacity done.settings.mode;
       hasher = done.settings.hasher;
     }
 
@@ -16,7 +18,8 @@ returns-in-Ok-Some g c =
     let done = c.in-Ok-Some.ensures in
     record {
       answers = λ start log defines. HasValue-value g.met.K.Eq.laws defines c.args.key (sym done.old ∙ c.in-Ok-Some.field-0-is);
-      defines = λ start log defines. Defines-put g.met.K.Eq.laws defines c.args.key c.args.value done.pairs done.capacity done.settings.mode;
+      defines = λ start log defines. Defines-put g.met.K.Eq.laws defines c.args.key c.args.value
+          done.pairs done.capacity done.settings.mode;
       hasher = done.settings.hasher;
     }
 
@@ -24,9 +27,16 @@ pub returns-in-Err : goal.returns-in-Err
 returns-in-Err g c =
     let refused = c.in-Err.ensures in
     record {
-      answers = λ start log defines.
-          ((IsAbsent-found g.met.K.Eq.laws defines c.args.key refused.absent, IsFull-contents g.met.K.Eq.laws defines refused.full), refused.key_back, refused.value_back);
+      answers = λ start log defines. (
+        (
+          IsAbsent-found g.met.K.Eq.laws defines c.args.key refused.absent,
+          IsFull-contents g.met.K.Eq.laws defines refused.full,
+        ),
+        refused.key_back,
+        refused.value_back,
+      );
       defines = λ start log defines.
-          Defines-nothing g.met.K.Eq.laws defines (ap (λ m. m.pairs) refused.unchanged) (ap (λ m. m.capacity) refused.unchanged) (ap (λ m. m.mode) refused.unchanged);
+          Defines-nothing g.met.K.Eq.laws defines (ap (λ m. m.pairs) refused.unchanged)
+          (ap (λ m. m.capacity) refused.unchanged) (ap (λ m. m.mode) refused.unchanged);
       hasher = ap (λ m. m.hasher) refused.unchanged;
     }

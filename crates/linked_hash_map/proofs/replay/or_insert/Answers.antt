@@ -2,34 +2,35 @@ use Rattle.std.proofs.Common.{rules, ◌≡◌, true, false, max, length, is_som
 use Rattle.linked_hash_map.specs.Changes.{set_or_pushed}
 use Rattle.linked_hash_map.specs.Pairs.{key_or, find, value_at, put, set_or_push}
 use Rattle.linked_hash_map.specs.Entry.{is_occupied, entry_map, entry_key}
-use Rattle.linked_hash_map.proofs.LiveKeys.{none_is}
-use Rattle.linked_hash_map.proofs.Pairs.{is_some-value_at, find-none, set_or_push-present, set_or_push-absent, put-absent}
-use Rattle.linked_hash_map.proofs.Indexes.{set_value-own}
-use Rattle.linked_hash_map.proofs.Options.{Some-unwrap_or}
-use Rattle.linked_hash_map.proofs.Effects.{IsFull-contents, IsAbsent-found, IsAbsent-value, HasValue-value, Defines-put, Defines-nothing}
-use Rattle.linked_hash_map.proofs.Runs.{Serves-same}
+use Rattle.linked_hash_map.proofs.log.LiveKeys.{none_is}
+use Rattle.linked_hash_map.proofs.pairs.Calls.{is_some-value_at, find-none, set_or_push-present, set_or_push-absent, put-absent}
+use Rattle.linked_hash_map.proofs.pairs.Indexes.{set_value-own}
+use Rattle.linked_hash_map.proofs.lists.Options.{Some-unwrap_or}
+use Rattle.linked_hash_map.proofs.runs.Effects.{IsFull-contents, IsAbsent-found, IsAbsent-value}
+use Rattle.linked_hash_map.proofs.runs.Effects.{HasValue-value, Defines-put, Defines-nothing}
+use Rattle.linked_hash_map.proofs.runs.Steps.{Serves-same}
 use Rattle.linked_hash_map.proofs.replay.or_insert.Goals as goal
 
 pub returns-then-present : goal.returns-then-present
 returns-then-present g c =
-    let eq = g.K.PartialEq.eq in
-    let m = c.args.map.now in
-    let k = c.args.key in
-    let entry = c.entry-entry.ensures in
-    let lent_map = entry_map c.entry-entry.result in
-    let key = entry_key c.entry-entry.result in
-    let value = c.in-Ok._lent.now in
+    let eq = g.K.PartialEq.eq in let m = c.args.map.now in let k = c.args.key in
+    let entry = c.entry-entry.ensures in let lent_map = entry_map c.entry-entry.result in
+    let key = entry_key c.entry-entry.result in let value = c.in-Ok._lent.now in
     let occupied : is_occupied c.entry-entry.result ≡ true = search rules in
     let there : is_some (find eq m.pairs k) ≡ true = sym entry.occupied ∙ occupied in
     let own : value_at eq m.pairs k ≡ Some value =
-    Some-unwrap_or (value_at eq m.pairs k) c.args.value value (is_some-value_at eq m.pairs k ∙ there) (c.in-Ok.ensures.value ∙ ap (λ o. unwrap_or o c.args.value) entry.value) in
+    Some-unwrap_or (value_at eq m.pairs k) c.args.value value
+    (is_some-value_at eq m.pairs k ∙ there)
+    (c.in-Ok.ensures.value ∙ ap (λ o. unwrap_or o c.args.value) entry.value) in
     let left = set_or_pushed eq lent_map key value in
     let pairs_stay : left.pairs ≡ m.pairs =
     ap (λ ps. set_or_push eq ps key value) entry.pairs
     ∙ entry.acts.sets_or_pushes value
     ∙ set_or_push-present eq m.pairs k value there
     ∙ set_value-own g.met.K.Eq.laws m.pairs k value entry.valid.distinct own in
-    let room : left.capacity ≡ m.capacity = let as_long = ap length pairs_stay in let same = entry.keeps.capacity in omega (arith, entry.valid.within) in
+    let room : left.capacity ≡ m.capacity = let as_long = ap length pairs_stay in
+    let same = entry.keeps.capacity in
+    omega (arith, entry.valid.within) in
     Serves-same left (search rules)
     (record {
       answers = λ start log defines. (HasValue-value g.met.K.Eq.laws defines k own).0;
@@ -39,13 +40,9 @@ returns-then-present g c =
 
 pub returns-else-present : goal.returns-else-present
 returns-else-present g c =
-    let eq = g.K.PartialEq.eq in
-    let m = c.args.map.now in
-    let k = c.args.key in
-    let entry = c.entry-entry.ensures in
-    let lent_map = entry_map c.entry-entry.result in
-    let key = entry_key c.entry-entry.result in
-    let value = c.in-Ok._lent.now in
+    let eq = g.K.PartialEq.eq in let m = c.args.map.now in let k = c.args.key in
+    let entry = c.entry-entry.ensures in let lent_map = entry_map c.entry-entry.result in
+    let key = entry_key c.entry-entry.result in let value = c.in-Ok._lent.now in
     let vacant : is_occupied c.entry-entry.result ≡ false = search rules in
     let absent = none_is (find eq m.pairs k) (sym entry.occupied ∙ vacant) in
     let given : value ≡ c.args.value =
@@ -60,26 +57,30 @@ returns-else-present g c =
     Serves-same left (search rules)
     (record {
       answers = λ start log defines. IsAbsent-found g.met.K.Eq.laws defines k absent;
-      defines = λ start log defines. Defines-put g.met.K.Eq.laws defines k c.args.value pushed (ap (λ n. max n (length left.pairs)) entry.keeps.capacity) entry.keeps.mode;
+      defines = λ start log defines. Defines-put g.met.K.Eq.laws defines k c.args.value pushed
+          (ap (λ n. max n (length left.pairs)) entry.keeps.capacity) entry.keeps.mode;
       hasher = entry.keeps.hasher;
     })
 
 pub returns-in-Err : goal.returns-in-Err
 returns-in-Err g c =
-    let eq = g.K.PartialEq.eq in
-    let m = c.args.map.now in
-    let k = c.args.key in
-    let entry = c.entry-entry.ensures in
-    let refused = c.in-Err.ensures in
+    let eq = g.K.PartialEq.eq in let m = c.args.map.now in let k = c.args.key in
+    let entry = c.entry-entry.ensures in let refused = c.in-Err.ensures in
     let lent_map = entry_map c.entry-entry.result in
     let none : value_at eq m.pairs k ≡ None = sym entry.value ∙ refused.absent in
-    let absent = find-none eq m.pairs k none in
-    let same_map = entry.unchanged refused.absent in
+    let absent = find-none eq m.pairs k none in let same_map = entry.unchanged refused.absent in
     let full : length m.pairs ≡ m.capacity = sym (ap (λ n. length n.pairs) same_map) ∙ refused.full ∙ ap (λ n. n.capacity) same_map in
     Serves-same lent_map (search rules)
     (record {
-      answers = λ start log defines.
-          ((IsAbsent-value g.met.K.Eq.laws defines k none, IsFull-contents g.met.K.Eq.laws defines full), refused.key_back ∙ entry.key ∙ ap (key_or k) absent, refused.value_back);
-      defines = λ start log defines. Defines-nothing g.met.K.Eq.laws defines (ap (λ n. n.pairs) same_map) (ap (λ n. n.capacity) same_map) (ap (λ n. n.mode) same_map);
+      answers = λ start log defines. (
+        (
+          IsAbsent-value g.met.K.Eq.laws defines k none,
+          IsFull-contents g.met.K.Eq.laws defines full,
+        ),
+        refused.key_back ∙ entry.key ∙ ap (key_or k) absent,
+        refused.value_back,
+      );
+      defines = λ start log defines. Defines-nothing g.met.K.Eq.laws defines
+          (ap (λ n. n.pairs) same_map) (ap (λ n. n.capacity) same_map) (ap (λ n. n.mode) same_map);
       hasher = ap (λ n. n.hasher) same_map;
     })

@@ -1,5 +1,5 @@
 use Rattle.std.proofs.Common.{◌-◌, ◌∙◌, sym, ap, take, length}
-use Rattle.linked_hash_map.proofs.Effects.{no_last_is_nil, Defines-nothing, Defines-pop_back, slice_get_last-contents, pairs-no_last}
+use Rattle.linked_hash_map.proofs.runs.Effects.{no_last_is_nil, Defines-nothing, Defines-pop_back, slice_get_last-contents, pairs-no_last}
 use Rattle.linked_hash_map.proofs.replay.pop_back.Goals as goal
 
 pub returns-in-Some : goal.returns-in-Some
@@ -7,16 +7,18 @@ returns-in-Some g c =
     let done = c.in-Some.ensures in
     record {
       answers = λ start log defines. slice_get_last-contents g.met.K.Eq.laws defines done.pair;
-      defines = λ start log defines. Defines-pop_back g.met.K.Eq.laws defines c.in-Some.key c.in-Some.value done.pair done.pairs done.keeps.capacity done.keeps.mode;
+      defines = λ start log defines. Defines-pop_back g.met.K.Eq.laws defines c.in-Some.key
+          c.in-Some.value done.pair done.pairs done.keeps.capacity done.keeps.mode;
       hasher = done.keeps.hasher;
     }
 
 pub returns-in-None : goal.returns-in-None
 returns-in-None g c =
-    let done = c.in-None.ensures in
-    let none = no_last_is_nil c.args.map.now.pairs done.pair in
+    let done = c.in-None.ensures in let none = no_last_is_nil c.args.map.now.pairs done.pair in
     record {
       answers = λ start log defines. pairs-no_last g.met.K.Eq.laws defines done.pair;
-      defines = λ start log defines. Defines-nothing g.met.K.Eq.laws defines (done.pairs ∙ ap (λ pairs. take (length pairs - 1) pairs) none ∙ sym none) done.keeps.capacity done.keeps.mode;
+      defines = λ start log defines. Defines-nothing g.met.K.Eq.laws defines
+          (done.pairs ∙ ap (λ pairs. take (length pairs - 1) pairs) none ∙ sym none)
+          done.keeps.capacity done.keeps.mode;
       hasher = done.keeps.hasher;
     }

@@ -1,4 +1,4 @@
-use Rattle.linked_hash_map.proofs.Effects.{Defines-pop_front, slice_get-contents}
+use Rattle.linked_hash_map.proofs.runs.Effects.{Defines-pop_front, slice_get-contents}
 use Rattle.linked_hash_map.proofs.replay.pop_front.Goals as goal
 
 pub returns-in-Some : goal.returns-in-Some
@@ -6,6 +6,7 @@ returns-in-Some g c =
     let done = c.in-Some.ensures in
     record {
       answers = λ start log defines. slice_get-contents g.met.K.Eq.laws defines 0 done.pair;
-      defines = λ start log defines. Defines-pop_front g.met.K.Eq.laws defines c.in-Some.key c.in-Some.value done.pair done.pairs done.keeps.capacity done.keeps.mode;
+      defines = λ start log defines. Defines-pop_front g.met.K.Eq.laws defines c.in-Some.key
+          c.in-Some.value done.pair done.pairs done.keeps.capacity done.keeps.mode;
       hasher = done.keeps.hasher;
     }

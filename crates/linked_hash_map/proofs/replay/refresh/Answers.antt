@@ -1,5 +1,5 @@
 use Rattle.std.proofs.Common.{sym, refl}
-use Rattle.linked_hash_map.proofs.Effects.{IsAbsent-value, HasValue-value, Defines-refresh, Defines-nothing}
+use Rattle.linked_hash_map.proofs.runs.Effects.{IsAbsent-value, HasValue-value, Defines-refresh, Defines-nothing}
 use Rattle.linked_hash_map.proofs.replay.refresh.Goals as goal
 
 pub returns-in-Some : goal.returns-in-Some

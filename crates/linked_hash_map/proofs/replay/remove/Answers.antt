@@ -1,6 +1,6 @@
 use Rattle.std.proofs.Common.{sym, ◌∙◌}
-use Rattle.linked_hash_map.proofs.Pairs.{find-none, without-absent}
-use Rattle.linked_hash_map.proofs.Effects.{IsAbsent-value, HasValue-value, Defines-remove, Defines-nothing}
+use Rattle.linked_hash_map.proofs.pairs.Calls.{find-none, without-absent}
+use Rattle.linked_hash_map.proofs.runs.Effects.{IsAbsent-value, HasValue-value, Defines-remove, Defines-nothing}
 use Rattle.linked_hash_map.proofs.replay.remove.Goals as goal
 
 pub returns-in-Some : goal.returns-in-Some

@@ -2,13 +2,14 @@ use Rattle.std.proofs.Common.{refl, ◌∷◌, [], ◌∙◌, sym, subst, map-id
 use Rattle.std.proofs.lemmas.Iterator.Adapters.{YieldsList-from_vec}
 use Rattle.std.proofs.lemmas.Iterator.Consumers.{YieldsList-end}
 use Rattle.linked_hash_map.specs.Run.{Replayed, first_log, last_log}
-use Rattle.linked_hash_map.proofs.Runs.{IsRun-snoc, last_log-snoc, Defines-first_log}
+use Rattle.linked_hash_map.proofs.runs.Steps.{IsRun-snoc, last_log-snoc, Defines-first_log}
 use Rattle.linked_hash_map.proofs.replay.replay.Goals as goal
 
 pub loop-command-init : goal.loop-command-init
 loop-command-init g c = record {
   run = rw c.in-Ok.ensures.items tt;
-  defines = Defines-first_log g.met.K.Eq.laws c.args.map.now.mode c.args.map.now.pairs c.args.map.now.capacity c.allocator.ensures.valid.distinct c.allocator.ensures.valid.within;
+  defines = Defines-first_log g.met.K.Eq.laws c.args.map.now.mode c.args.map.now.pairs
+      c.args.map.now.capacity c.allocator.ensures.valid.distinct c.allocator.ensures.valid.within;
   hasher = refl;
   valid = c.allocator.ensures.valid;
   count = c.in-Ok.ensures.len;
@@ -17,21 +18,21 @@ loop-command-init g c = record {
 
 pub loop-command-preserved : goal.loop-command-preserved
 loop-command-preserved g c =
-    let eq = g.K.PartialEq.eq in
-    let start = c.args.map.now.capacity in
+    let eq = g.K.PartialEq.eq in let start = c.args.map.now.capacity in
     let first = first_log c.args.map.now.mode c.args.map.now.pairs in
-    let i = c.loop-command.invariant in
-    let command = c.in-Some.command in
-    let reply = c.reply_to.result in
-    let replies = c.loop-command.replies.items in
+    let i = c.loop-command.invariant in let command = c.in-Some.command in
+    let reply = c.reply_to.result in let replies = c.loop-command.replies.items in
     let log = last_log eq first c.loop-command.yielded replies in
     let last = last_log-snoc eq start command reply first c.loop-command.yielded replies i.run in
     record {
-      run = rw c.push_reserved.ensures.items (IsRun-snoc eq start command reply first c.loop-command.yielded replies i.run (c.reply_to.ensures.reply start log i.defines));
+      run = rw c.push_reserved.ensures.items (IsRun-snoc eq start command reply first
+          c.loop-command.yielded replies i.run (c.reply_to.ensures.reply start log i.defines));
       defines = rw (c.push_reserved.ensures.items, last) (c.reply_to.ensures.defines start log i.defines);
       hasher = c.reply_to.ensures.hasher ∙ i.hasher;
       valid = c.reply_to.ensures.stays_valid;
-      count = let l = length-append c.loop-command.yielded (command ∷ []) in let n = c.push_reserved.ensures.len in let k = i.count in omega arith;
+      count = let l = length-append c.loop-command.yielded (command ∷ []) in
+          let n = c.push_reserved.ensures.len in let k = i.count in
+          omega arith;
       room = rw c.push_reserved.ensures.capacity i.room;
     }
 
@@ -39,9 +40,14 @@ loop-command-preserved g c =
 pub returns-clause-replayed : goal.returns-clause-replayed
 returns-clause-replayed g c =
     let gives = c.into_iter-command-iterator.ensures.into_iter_gives in
-    let end = YieldsList-end (YieldsList-from_vec c.args.commands.items gives.0 (gives.1 ∙ c.args.commands.ok.0)) c.loop-command.yielded c.loop-command.command-iterator c.loop-command.yielded_by c.next.result c.next.new.self c.in-None.is c.next.ensures.steps in
+    let end = YieldsList-end
+    (YieldsList-from_vec c.args.commands.items gives.0 (gives.1 ∙ c.args.commands.ok.0))
+    c.loop-command.yielded c.loop-command.command-iterator c.loop-command.yielded_by c.next.result
+    c.next.new.self c.in-None.is c.next.ensures.steps in
     let i = c.loop-command.invariant in
-    subst (λ cs. Replayed g.K.PartialEq.eq c.args.map.now cs c.loop-command.replies.items c.loop-command.map) (sym (map-id c.loop-command.yielded) ∙ end.0)
+    subst (λ cs.
+    Replayed g.K.PartialEq.eq c.args.map.now cs c.loop-command.replies.items c.loop-command.map)
+    (sym (map-id c.loop-command.yielded) ∙ end.0)
     (record { run = i.run; pairs = sym i.defines.same_pairs; capacity = sym i.defines.same_capacity; mode = sym i.defines.same_mode })
 
 pub returns-clause-run : goal.returns-clause-run

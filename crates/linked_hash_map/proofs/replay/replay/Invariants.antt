@@ -7,8 +7,7 @@ use Rattle.linked_hash_map.proofs.replay.replay.Given as goal
 -- the commands so far and their replies are a run, whose last log defines the map
 abbrev pub invariant-loop-command : goal.invariant-loop-command
 invariant-loop-command g l =
-    let eq = g.K.PartialEq.eq in
-    let first = first_log l.fn.map.mode l.fn.map.pairs in
+    let eq = g.K.PartialEq.eq in let first = first_log l.fn.map.mode l.fn.map.pairs in
     record {
       run : IsRun eq l.fn.map.capacity first l.yielded l.replies.items;
       defines : Defines eq l.fn.map.capacity (last_log eq first l.yielded l.replies.items) l.map.pairs l.map.capacity l.map.mode;

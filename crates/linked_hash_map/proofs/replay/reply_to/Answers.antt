@@ -1,6 +1,6 @@
 use Rattle.std.proofs.Common.{length, sym, ◌∙◌, ap}
 use Rattle.linked_hash_map.specs.AllowedAnswers.{log_after}
-use Rattle.linked_hash_map.proofs.HighWater.{size-pairs}
+use Rattle.linked_hash_map.proofs.log.HighWater.{size-pairs}
 use Rattle.linked_hash_map.proofs.replay.reply_to.Goals as goal
 
 pub returns-clause-reply : goal.returns-clause-reply
@@ -11,6 +11,7 @@ returns-clause-reply g c start log defines =
         answers = c.answer_to-answer.ensures.answers start log defines;
         limit = rw after.same_capacity c.capacity.ensures.valid.limit;
       };
-      len = c.len.ensures.len ∙ ap length (sym after.same_pairs) ∙ sym (size-pairs g.K.PartialEq.eq (log_after g.K.PartialEq.eq log c.args.command c.answer_to-answer.result));
+      len = c.len.ensures.len ∙ ap length (sym after.same_pairs) ∙ sym (size-pairs g.K.PartialEq.eq
+          (log_after g.K.PartialEq.eq log c.args.command c.answer_to-answer.result));
       capacity = c.capacity.ensures.capacity ∙ sym after.same_capacity;
     }

@@ -1,12 +1,14 @@
 use Rattle.std.proofs.Common.{Err, ap, arith}
-use Rattle.linked_hash_map.proofs.Effects.{size-contents, Defines-reserve, Defines-nothing}
+use Rattle.linked_hash_map.proofs.runs.Effects.{size-contents, Defines-reserve, Defines-nothing}
 use Rattle.linked_hash_map.proofs.replay.reserve.Goals as goal
 
 pub returns-in-Ok : goal.returns-in-Ok
 returns-in-Ok g c =
     let done = c.in-Ok.ensures in
     record {
-      answers = λ start log defines. let size_is = size-contents g.met.K.Eq.laws defines in let limit = done.stays_valid.limit in let room = done.capacity in omega arith;
+      answers = λ start log defines. let size_is = size-contents g.met.K.Eq.laws defines in
+          let limit = done.stays_valid.limit in let room = done.capacity in
+          omega arith;
       defines = λ start log defines. Defines-reserve g.met.K.Eq.laws defines c.args.additional done.pairs done.capacity done.settings.mode;
       hasher = done.settings.hasher;
     }
@@ -20,22 +22,22 @@ returns-in-Err-TooLarge g c =
           let over = refused.too_large.0 (ap Err c.in-Err-TooLarge.field-0-is) in
           omega arith;
       defines = λ start log defines.
-          Defines-nothing g.met.K.Eq.laws defines (ap (λ m. m.pairs) refused.unchanged) (ap (λ m. m.capacity) refused.unchanged) refused.settings.mode;
+          Defines-nothing g.met.K.Eq.laws defines (ap (λ m. m.pairs) refused.unchanged)
+          (ap (λ m. m.capacity) refused.unchanged) refused.settings.mode;
       hasher = refused.settings.hasher;
     }
 
 pub returns-in-Err-NoRoom : goal.returns-in-Err-NoRoom
 returns-in-Err-NoRoom g c =
-    let refused = c.in-Err-NoRoom.ensures in
-    let told = ap Err c.in-Err-NoRoom.field-0-is in
+    let refused = c.in-Err-NoRoom.ensures in let told = ap Err c.in-Err-NoRoom.field-0-is in
     record {
       answers = λ start log defines.
           let size_is = size-contents g.met.K.Eq.laws defines in
-          let high_water = defines.same_capacity in
-          let over = refused.no_room told in
+          let high_water = defines.same_capacity in let over = refused.no_room told in
           let within = refused.no_room_within told in
           (omega arith, omega arith);
       defines = λ start log defines.
-          Defines-nothing g.met.K.Eq.laws defines (ap (λ m. m.pairs) refused.unchanged) (ap (λ m. m.capacity) refused.unchanged) refused.settings.mode;
+          Defines-nothing g.met.K.Eq.laws defines (ap (λ m. m.pairs) refused.unchanged)
+          (ap (λ m. m.capacity) refused.unchanged) refused.settings.mode;
       hasher = refused.settings.hasher;
     }

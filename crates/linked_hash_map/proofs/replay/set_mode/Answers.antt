@@ -1,5 +1,5 @@
 use Rattle.std.proofs.Common.{ap}
-use Rattle.linked_hash_map.proofs.Effects.{Defines-set_mode}
+use Rattle.linked_hash_map.proofs.runs.Effects.{Defines-set_mode}
 use Rattle.linked_hash_map.proofs.replay.set_mode.Goals as goal
 
 pub returns : goal.returns
@@ -7,6 +7,7 @@ returns g c =
     let set = c.set_mode.ensures.sets in
     record {
       answers = λ start log defines. tt;
-      defines = λ start log defines. Defines-set_mode g.met.K.Eq.laws defines c.args.mode (ap (λ m. m.pairs) set) (ap (λ m. m.capacity) set) (ap (λ m. m.mode) set);
+      defines = λ start log defines. Defines-set_mode g.met.K.Eq.laws defines c.args.mode
+          (ap (λ m. m.pairs) set) (ap (λ m. m.capacity) set) (ap (λ m. m.mode) set);
       hasher = ap (λ m. m.hasher) set;
     }

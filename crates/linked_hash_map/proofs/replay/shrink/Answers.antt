@@ -1,5 +1,5 @@
 use Rattle.std.proofs.Common.{ap, arith}
-use Rattle.linked_hash_map.proofs.Effects.{size-contents, Defines-shrink, Defines-nothing}
+use Rattle.linked_hash_map.proofs.runs.Effects.{size-contents, Defines-shrink, Defines-nothing}
 use Rattle.linked_hash_map.proofs.replay.shrink.Goals as goal
 
 pub returns-in-Ok : goal.returns-in-Ok
@@ -17,11 +17,11 @@ returns-in-Err g c =
     record {
       answers = λ start log defines.
           let size_is = size-contents g.met.K.Eq.laws defines in
-          let high_water = defines.same_capacity in
-          let some = refused.some in
+          let high_water = defines.same_capacity in let some = refused.some in
           let spare = refused.spare in
           (omega arith, omega arith);
       defines = λ start log defines.
-          Defines-nothing g.met.K.Eq.laws defines (ap (λ m. m.pairs) refused.unchanged) (ap (λ m. m.capacity) refused.unchanged) refused.settings.mode;
+          Defines-nothing g.met.K.Eq.laws defines (ap (λ m. m.pairs) refused.unchanged)
+          (ap (λ m. m.capacity) refused.unchanged) refused.settings.mode;
       hasher = refused.settings.hasher;
     }

@@ -1,6 +1,6 @@
 use Rattle.std.proofs.Common.{sym, ap, ◌∙◌, refl, Some}
 use Rattle.linked_hash_map.specs.Pairs.{set_value}
-use Rattle.linked_hash_map.proofs.Effects.{IsAbsent-value, HasValue-value, Defines-write, Defines-nothing}
+use Rattle.linked_hash_map.proofs.runs.Effects.{IsAbsent-value, HasValue-value, Defines-write, Defines-nothing}
 use Rattle.linked_hash_map.proofs.replay.write.Goals as goal
 
 pub returns-in-Some : goal.returns-in-Some
@@ -8,7 +8,9 @@ returns-in-Some g c = record {
   answers = λ start log defines.
       HasValue-value g.met.K.Eq.laws defines c.args.key (sym (ap Some c.replace.ensures.value ∙ c.in-Some.ensures.value));
   defines = λ start log defines.
-      Defines-write g.met.K.Eq.laws defines c.args.key c.args.value (ap (set_value g.K.PartialEq.eq c.args.map.now.pairs c.args.key) c.replace.ensures.after) refl refl;
+      Defines-write g.met.K.Eq.laws defines c.args.key c.args.value
+      (ap (set_value g.K.PartialEq.eq c.args.map.now.pairs c.args.key) c.replace.ensures.after) refl
+      refl;
   hasher = refl;
 }
 

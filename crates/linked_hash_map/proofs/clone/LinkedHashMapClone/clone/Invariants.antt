@@ -1,5 +1,5 @@
 use Rattle.linked_hash_map.specs.Validity.{IsValid}
-use Rattle.linked_hash_map.proofs.Clones.{HasCloned}
+use Rattle.linked_hash_map.proofs.pairs.Clones.{HasCloned}
 use Rattle.linked_hash_map.proofs.clone.LinkedHashMapClone.clone.Given as goal
 
 abbrev pub invariant-loop-key : goal.invariant-loop-key

@@ -2,16 +2,19 @@ use Rattle.std.proofs.Common.{sym, ap}
 use Rattle.linked_hash_map.specs.Entry.{occupied_map, occupied_key}
 use Rattle.linked_hash_map.specs.LinkedMap.{nowhere}
 use Rattle.linked_hash_map.proofs.Callers.Updates.{Updates-put}
-use Rattle.linked_hash_map.proofs.Indexes.{slice_get-within}
-use Rattle.linked_hash_map.proofs.OccupiedEntries.{occupied_pair-is, occupied_value-is, slice_get-occupied, IsIndex-occupied}
-use Rattle.linked_hash_map.proofs.EntryMaps.{IsValid-current}
+use Rattle.linked_hash_map.proofs.pairs.Indexes.{slice_get-within}
+use Rattle.linked_hash_map.proofs.pairs.OccupiedEntries.{occupied_pair-is, occupied_value-is, slice_get-occupied, IsIndex-occupied}
+use Rattle.linked_hash_map.proofs.pairs.EntryMaps.{IsValid-current}
 use Rattle.linked_hash_map.proofs.entry.OccupiedEntry.insert.Goals as goal
 
 pub invariant_of-self : goal.invariant_of-self
 invariant_of-self g c =
-    let o = c.args.self.now in
-    let new = c.insert_current.new.self in
-    record { within = slice_get-within new.pairs new.cursor.current (occupied_key o, c.args.value) (c.insert_current.ensures.pair _ (slice_get-occupied o)); outside = c.insert_current.ensures.outside }
+    let o = c.args.self.now in let new = c.insert_current.new.self in
+    record {
+      within = slice_get-within new.pairs new.cursor.current (occupied_key o, c.args.value)
+          (c.insert_current.ensures.pair _ (slice_get-occupied o));
+      outside = c.insert_current.ensures.outside;
+    }
 
 pub returns-clause-old : goal.returns-clause-old
 returns-clause-old g c = occupied_value-is c.args.self.now c.insert_current.result c.insert_current.ensures.old
@@ -40,4 +43,5 @@ returns-clause-stays_valid g c = IsValid-current nowhere c.insert_current.ensure
 pub returns-clause-updates : goal.returns-clause-updates
 returns-clause-updates g c =
     let o = c.args.self.now in
-    Updates-put g.met.K.Eq.laws (occupied_map o).mode (occupied_map o).pairs c.insert_current.new.self.pairs (occupied_key o) c.args.value (returns-clause-pairs g c)
+    Updates-put g.met.K.Eq.laws (occupied_map o).mode (occupied_map o).pairs
+    c.insert_current.new.self.pairs (occupied_key o) c.args.value (returns-clause-pairs g c)

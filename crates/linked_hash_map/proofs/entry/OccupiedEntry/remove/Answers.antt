@@ -3,9 +3,9 @@ use Rattle.linked_hash_map.specs.Entry.{occupied_map, occupied_key}
 use Rattle.linked_hash_map.specs.LinkedMap.{nowhere}
 use Rattle.linked_hash_map.proofs.Callers.Keys.{length-without_present}
 use Rattle.linked_hash_map.proofs.Callers.Updates.{Updates-without}
-use Rattle.linked_hash_map.proofs.Indexes.{without-index}
-use Rattle.linked_hash_map.proofs.OccupiedEntries.{occupied_pair-is, is_some-occupied, IsIndex-occupied}
-use Rattle.linked_hash_map.proofs.EntryMaps.{IsValid-current}
+use Rattle.linked_hash_map.proofs.pairs.Indexes.{without-index}
+use Rattle.linked_hash_map.proofs.pairs.OccupiedEntries.{occupied_pair-is, is_some-occupied, IsIndex-occupied}
+use Rattle.linked_hash_map.proofs.pairs.EntryMaps.{IsValid-current}
 use Rattle.linked_hash_map.proofs.entry.OccupiedEntry.remove.Goals as goal
 
 pub returns-clause-value : goal.returns-clause-value
@@ -28,4 +28,5 @@ pub returns-clause-fewer : goal.returns-clause-fewer
 returns-clause-fewer g c =
     let o = c.args.self in
     ap (λ pairs. length pairs + 1) (returns-clause-pairs g c)
-    ∙ length-without_present g.met.K.Eq.laws (occupied_map o).pairs (occupied_key o) c.remove_current-key.ensures.valid.distinct (is_some-occupied o g.met.K.Eq.laws)
+    ∙ length-without_present g.met.K.Eq.laws (occupied_map o).pairs (occupied_key o)
+    c.remove_current-key.ensures.valid.distinct (is_some-occupied o g.met.K.Eq.laws)

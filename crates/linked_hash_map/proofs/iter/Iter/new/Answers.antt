@@ -1,6 +1,6 @@
 use Rattle.std.proofs.Common.{ap, sym, ◌∙◌}
 use Rattle.linked_hash_map.specs.Nodes.{pairs_of}
-use Rattle.linked_hash_map.proofs.HeldPairs.{pairs_of-of-entries}
+use Rattle.linked_hash_map.proofs.nodes.HeldPairs.{pairs_of-of-entries}
 use Rattle.linked_hash_map.proofs.iter.Iter.new.Goals as goal
 
 pub returns : goal.returns

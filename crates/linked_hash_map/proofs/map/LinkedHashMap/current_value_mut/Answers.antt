@@ -4,10 +4,10 @@ use Rattle.lhm_ring.specs.RingState.{change_at}
 use Rattle.lhm_ring.specs.RingAfterLoan.{revalued}
 use Rattle.linked_hash_map.specs.Indexes.{set_value_at}
 use Rattle.linked_hash_map.specs.Nodes.{pairs_of}
-use Rattle.linked_hash_map.proofs.HeldPairs.{bare-change}
-use Rattle.linked_hash_map.proofs.CutNodes.{slice_get-held, pairs_of-change_at}
-use Rattle.linked_hash_map.proofs.Kept.{IsValid-view, map_of-revalued}
-use Rattle.linked_hash_map.proofs.Current.{current_of-Some, current_at-Some, CutAt-current, IsKept-with_value}
+use Rattle.linked_hash_map.proofs.nodes.HeldPairs.{bare-change}
+use Rattle.linked_hash_map.proofs.nodes.CutNodes.{slice_get-held, pairs_of-change_at}
+use Rattle.linked_hash_map.proofs.nodes.Kept.{IsValid-view, map_of-revalued}
+use Rattle.linked_hash_map.proofs.nodes.Current.{current_of-Some, current_at-Some, CutAt-current, IsKept-with_value}
 use Rattle.linked_hash_map.proofs.map.LinkedHashMap.current_value_mut.Goals as goal
 
 pub value_mut-requires : goal.value_mut-requires
@@ -18,9 +18,7 @@ invariant_of-self-lent g c w = IsKept-with_value c.self.invariant (pointer_of c.
 
 pub returns : goal.returns
 returns g c =
-    let m = c.self.inside in
-    let hs = m.table.held in
-    let p = pointer_of c.unwrap-at.result in
+    let m = c.self.inside in let hs = m.table.held in let p = pointer_of c.unwrap-at.result in
     let cut = CutAt-current c.self.invariant (current_of-Some c.current.ensures c.unwrap-at.ensures) in
     let h = cut.held in
     let index = current_at-Some (current_of-Some c.current.ensures c.unwrap-at.ensures) hs ∙ sym cut.long in
@@ -32,7 +30,9 @@ returns g c =
       ),
       record {
         writes_back = tt;
-        value = ap (λ k. option_map (λ pair. pair.1) (slice_get (pairs_of hs) k)) index ∙ ap (option_map (λ pair. pair.1)) (slice_get-held h) ∙ ap Some (sym (c.value_mut.ensures.value h.before h.node h.after h.is h.at_is));
+        value = ap (λ k. option_map (λ pair. pair.1) (slice_get (pairs_of hs) k)) index
+            ∙ ap (option_map (λ pair. pair.1)) (slice_get-held h)
+            ∙ ap Some (sym (c.value_mut.ensures.value h.before h.node h.after h.is h.at_is));
         valid = IsValid-view c.self.invariant refl refl;
       },
     )

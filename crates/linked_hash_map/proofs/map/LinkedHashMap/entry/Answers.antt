@@ -1,14 +1,15 @@
 use Rattle.std.proofs.Common.{slice_get, Some, refl, sym, ap, ◌∙◌}
 use Rattle.linked_hash_map.specs.LinkedMap.{nowhere, cursor_state}
 use Rattle.linked_hash_map.specs.Pairs.{key_or}
-use Rattle.linked_hash_map.proofs.Indexes.{is_some-index, find-index, value_at-index}
+use Rattle.linked_hash_map.proofs.pairs.Indexes.{is_some-index, find-index, value_at-index}
 use Rattle.linked_hash_map.proofs.Callers.Updates.{Updates-put, Updates-set_or_push, Updates-without}
-use Rattle.linked_hash_map.proofs.ActsAs.{ActsAs-same, put-ActsAs}
-use Rattle.linked_hash_map.proofs.OccupiedEntries.{occupied_pair-is}
+use Rattle.linked_hash_map.proofs.log.ActsAs.{ActsAs-same, put-ActsAs}
+use Rattle.linked_hash_map.proofs.pairs.OccupiedEntries.{occupied_pair-is}
 use Rattle.linked_hash_map.proofs.map.LinkedHashMap.entry.Goals as goal
 
 pub returns-then-seek-clause-occupied : goal.returns-then-seek-clause-occupied
-returns-then-seek-clause-occupied g c = sym (is_some-index g.met.K.Eq.laws c.seek.ensures.valid.distinct (c.seek.ensures.found c.if-seek.true))
+returns-then-seek-clause-occupied g c = sym (is_some-index g.met.K.Eq.laws
+    c.seek.ensures.valid.distinct (c.seek.ensures.found c.if-seek.true))
 
 pub returns-then-seek-clause-key : goal.returns-then-seek-clause-key
 returns-then-seek-clause-key g c =
@@ -35,14 +36,18 @@ returns-then-seek-clause-value g c =
 pub returns-then-seek-clause-ends_visit : goal.returns-then-seek-clause-ends_visit
 returns-then-seek-clause-ends_visit g c = λ _.
     let same = c.seek.ensures.ends_visit c.if-seek.true in
-    (λ i. record c.seek.new.self { cursor = cursor_state (c.seek.ensures.bookmark c.if-seek.true i) (c.seek.ensures.visited c.if-seek.true i) nowhere })
+    (λ i. record c.seek.new.self {
+      cursor = cursor_state (c.seek.ensures.bookmark c.if-seek.true i)
+          (c.seek.ensures.visited c.if-seek.true i) nowhere;
+    })
     ∙ same
 
 pub returns-then-seek-clause-updates : goal.returns-then-seek-clause-updates
 returns-then-seek-clause-updates g c v = Updates-set_or_push g.met.K.Eq.laws _ _ _ v ((returns-then-seek-clause-acts g c).sets_or_pushes v)
 
 pub returns-then-seek-clause-inserts : goal.returns-then-seek-clause-inserts
-returns-then-seek-clause-inserts g c v = Updates-put g.met.K.Eq.laws c.args.self.now.mode _ _ _ v (put-ActsAs (returns-then-seek-clause-acts g c) c.args.self.now.mode v)
+returns-then-seek-clause-inserts g c v = Updates-put g.met.K.Eq.laws c.args.self.now.mode _ _ _ v
+    (put-ActsAs (returns-then-seek-clause-acts g c) c.args.self.now.mode v)
 
 pub returns-then-seek-clause-removes : goal.returns-then-seek-clause-removes
 returns-then-seek-clause-removes g c = Updates-without g.met.K.Eq.laws _ _ _ (returns-then-seek-clause-acts g c).removes

@@ -1,4 +1,4 @@
-use Rattle.linked_hash_map.proofs.ExtendSteps.{IsExtended}
+use Rattle.linked_hash_map.proofs.pairs.ExtendSteps.{IsExtended}
 use Rattle.linked_hash_map.proofs.map.LinkedHashMap.extend.Given as goal
 
 abbrev pub invariant-loop-key : goal.invariant-loop-key

@@ -8,7 +8,9 @@ use Rattle.linked_hash_map.specs.declared.map.TheConstants.{LIMIT}
 use Rattle.linked_hash_map.proofs.map.LinkedHashMap.from_iter.Goals as goal
 
 -- what gives an item after others gives a first one
-first_item : {I X : Type 0} (steps : I → Option X → I → Type 0) (it : I) (given : List X) {item : X} {left : I} → YieldsThen steps it given (Some item) left → (first : X) × (next : I) × steps it (Some first) next
+first_item : {I X : Type 0} (steps : I → Option X → I → Type 0) (it : I) (given : List X) {item : X}
+    {left : I} → YieldsThen steps it given (Some item) left
+    → (first : X) × (next : I) × steps it (Some first) next
 first_item steps it [] {item} {left} gives = (item, left, subst (λ s. steps s (Some item) left) (sym gives.1) gives.2)
 first_item steps it (x ∷ given) gives = (x, gives.1.0, gives.1.1)
 
@@ -26,9 +28,7 @@ returns-in_err-map-clause-too_large g c =
 
 pub returns-in-Ok-clause-all : goal.returns-in-Ok-clause-all
 returns-in-Ok-clause-all g c =
-    let made = c.in_ok-map.ensures in
-    let took = c.in-Ok.ensures in
-    let given = took.all.given in
+    let made = c.in_ok-map.ensures in let took = c.in-Ok.ensures in let given = took.all.given in
     let gives = took.all.gives in
     record {
       iterator = c.into_iter-items.result;
@@ -45,10 +45,8 @@ returns-in-Ok-clause-all g c =
 
 pub returns-in-Err-clause-no_room : goal.returns-in-Err-clause-no_room
 returns-in-Err-clause-no_room g c =
-    let made = c.in_ok-map.ensures in
-    let stopped = c.in-Err.ensures.stopped in
-    let gives = stopped.gives in
-    let steps = g.I.IntoIter.Iterator.next_gives in
+    let made = c.in_ok-map.ensures in let stopped = c.in-Err.ensures.stopped in
+    let gives = stopped.gives in let steps = g.I.IntoIter.Iterator.next_gives in
     let it = c.into_iter-items.result in
     λ told. record {
       iterator = it;
@@ -56,8 +54,15 @@ returns-in-Err-clause-no_room g c =
       lower = c.size_hint-lower.result.0;
       hint = c.size_hint-lower.ensures.lower;
       limit = subst (λ n. n ≤ LIMIT) made.capacity made.valid.limit;
-      needed = inr (first_item steps it stopped.given (subst (λ it. YieldsThen steps it stopped.given (Some stopped.item) gives.left) gives.made gives.gives));
+      needed = inr (first_item steps it stopped.given
+          (subst (λ it. YieldsThen steps it stopped.given (Some stopped.item) gives.left) gives.made
+          gives.gives));
     }
 
 pub extend-requires : goal.extend-requires
-extend-requires g c = record { ends = λ it same. c.requires.ends it (subst (g.I.IntoIterator.into_iter_gives c.args.items) (sym same) c.into_iter-items.ensures.into_iter_gives) }
+extend-requires g c =
+    record {
+      ends = λ it same.
+          c.requires.ends it (subst (g.I.IntoIterator.into_iter_gives c.args.items) (sym same)
+          c.into_iter-items.ensures.into_iter_gives);
+    }

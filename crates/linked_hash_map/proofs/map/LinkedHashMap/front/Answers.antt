@@ -1,16 +1,22 @@
 use Rattle.std.proofs.Common.{[], ap}
 use Rattle.lhm_ring.specs.Positions.{pointer_of, pointer_of_some}
 use Rattle.lhm_ring.proofs.Ends.{First-first_at, first_held}
-use Rattle.linked_hash_map.proofs.FirstAndLast.{Some-first}
+use Rattle.linked_hash_map.proofs.nodes.FirstAndLast.{Some-first}
 use Rattle.linked_hash_map.proofs.map.LinkedHashMap.front.Goals as goal
 
 pub key-requires : goal.key-requires
-key-requires g c = first_held (First-first_at c.self.inside.table.held (pointer_of_some c.first.result) (pointer_of c.in_ok-at.at) c.first.ensures (ap pointer_of_some c.in_ok-at.was))
+key-requires g c =
+    first_held (First-first_at c.self.inside.table.held (pointer_of_some c.first.result)
+    (pointer_of c.in_ok-at.at) c.first.ensures (ap pointer_of_some c.in_ok-at.was))
 
 pub value-requires : goal.value-requires
-value-requires g c = first_held (First-first_at c.self.inside.table.held (pointer_of_some c.first.result) (pointer_of c.in_ok-at.at) c.first.ensures (ap pointer_of_some c.in_ok-at.was))
+value-requires g c =
+    first_held (First-first_at c.self.inside.table.held (pointer_of_some c.first.result)
+    (pointer_of c.in_ok-at.at) c.first.ensures (ap pointer_of_some c.in_ok-at.was))
 
 pub returns : goal.returns
 returns g c =
-    let n = First-first_at c.self.inside.table.held (pointer_of_some c.first.result) (pointer_of c.in_ok-at.at) c.first.ensures (ap pointer_of_some c.in_ok-at.was) in
-    rw (← c.self.view_is) (Some-first n c.key.result.now c.value.result.now (c.key.ensures [] n.node n.after n.is n.at_is) (c.value.ensures [] n.node n.after n.is n.at_is))
+    let n = First-first_at c.self.inside.table.held (pointer_of_some c.first.result)
+    (pointer_of c.in_ok-at.at) c.first.ensures (ap pointer_of_some c.in_ok-at.was) in
+    rw (← c.self.view_is) (Some-first n c.key.result.now c.value.result.now
+    (c.key.ensures [] n.node n.after n.is n.at_is) (c.value.ensures [] n.node n.after n.is n.at_is))

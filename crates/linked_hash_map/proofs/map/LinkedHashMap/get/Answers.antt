@@ -1,9 +1,9 @@
 use Rattle.std.proofs.Common.{Some, sym, ap, ◌∙◌}
-use Rattle.linked_hash_map.proofs.Indexes.{value_at-index}
-use Rattle.linked_hash_map.proofs.FoundKeys.{IsIndex-HasKey}
-use Rattle.linked_hash_map.proofs.CutNodes.{slice_get-held}
-use Rattle.linked_hash_map.proofs.Kept.{distinct_keys}
-use Rattle.linked_hash_map.proofs.AbsentKeys.{value_at-IsAbsent}
+use Rattle.linked_hash_map.proofs.pairs.Indexes.{value_at-index}
+use Rattle.linked_hash_map.proofs.nodes.FoundKeys.{IsIndex-HasKey}
+use Rattle.linked_hash_map.proofs.nodes.CutNodes.{slice_get-held}
+use Rattle.linked_hash_map.proofs.nodes.Kept.{distinct_keys}
+use Rattle.linked_hash_map.proofs.nodes.AbsentKeys.{hash_by-respects, value_at-IsAbsent}
 use Rattle.linked_hash_map.proofs.map.LinkedHashMap.get.Goals as goal
 
 pub returns : goal.returns
@@ -17,6 +17,8 @@ returns g c =
 pub returns-in_err-at : goal.returns-in_err-at
 returns-in_err-at g c =
     let m = c.self.inside in
-    rw (c.from_residual.ensures, ← c.self.view_is) (sym (value_at-IsAbsent g.K.PartialEq.eq g.S.Hasher.Hasher.finish g.S.Hasher.Hasher.write g.S.BuildHasher.build_hasher g.K.Hash.hash_input g.met.K.Hash.respects_eq m.hasher
+    rw (c.from_residual.ensures, ← c.self.view_is)
+    (sym (value_at-IsAbsent (hash_by-respects g.S.Hasher.Hasher.finish g.S.Hasher.Hasher.write
+    g.S.BuildHasher.build_hasher g.met.K.Hash.respects_eq) m.hasher
     c.args.key.now c.hash_one-hash.ensures m.table.held c.self.invariant.nodes.hashed
     c.in_err-at.ensures.absent))

@@ -1,18 +1,17 @@
 use Rattle.std.proofs.Common.{Some, refl, inl, ap, sym, ◌∙◌}
 use Rattle.lhm_ring.specs.Positions.{pointer_of}
-use Rattle.lhm_ring.specs.Search.{HasKey, IsAbsent}
 use Rattle.lhm_ring.specs.RingState.{change_at}
 use Rattle.lhm_ring.specs.RingAfterLoan.{revalued}
 use Rattle.linked_hash_map.specs.Nodes.{beside}
 use Rattle.linked_hash_map.proofs.Callers.Updates.{Updates-set_value}
-use Rattle.linked_hash_map.proofs.Options.{of-Some, of-None}
-use Rattle.linked_hash_map.proofs.HeldPairs.{bare-change}
-use Rattle.linked_hash_map.proofs.FoundKeys.{IsIndex-HasKey}
-use Rattle.linked_hash_map.proofs.CutNodes.{slice_get-held, pairs_of-change_at}
-use Rattle.linked_hash_map.proofs.Kept.{IsValid-view, map_of-revalued, distinct_keys}
-use Rattle.linked_hash_map.proofs.Current.{IsKept-with_value}
-use Rattle.linked_hash_map.proofs.Indexes.{value_at-index, set_value-index, is_some-index}
-use Rattle.linked_hash_map.proofs.AbsentKeys.{value_at-IsAbsent}
+use Rattle.linked_hash_map.proofs.lists.Options.{of-Some, of-None}
+use Rattle.linked_hash_map.proofs.nodes.HeldPairs.{bare-change}
+use Rattle.linked_hash_map.proofs.nodes.FoundKeys.{IsIndex-HasKey}
+use Rattle.linked_hash_map.proofs.nodes.CutNodes.{slice_get-held, pairs_of-change_at}
+use Rattle.linked_hash_map.proofs.nodes.Kept.{IsValid-view, map_of-revalued, distinct_keys}
+use Rattle.linked_hash_map.proofs.nodes.Current.{IsKept-with_value}
+use Rattle.linked_hash_map.proofs.pairs.Indexes.{value_at-index, set_value-index, is_some-index}
+use Rattle.linked_hash_map.proofs.nodes.AbsentKeys.{hash_by-respects, value_at-IsAbsent}
 use Rattle.linked_hash_map.proofs.map.LinkedHashMap.get_mut.Goals as goal
 
 pub invariant_of-self-lent : goal.invariant_of-self-lent
@@ -20,9 +19,8 @@ invariant_of-self-lent g c w = IsKept-with_value c.self.invariant (pointer_of c.
 
 pub returns-in-Some : goal.returns-in-Some
 returns-in-Some g c =
-    let m = c.self.inside in
-    let at = pointer_of c.in-Some.at in
-    let h = of-Some (λ p. HasKey g.K.PartialEq.eq c.hash_one-hash.result c.args.key.now m.table.held (pointer_of p)) c.position.result c.in-Some.at c.in-Some.is c.position.ensures.found in
+    let m = c.self.inside in let at = pointer_of c.in-Some.at in
+    let h = of-Some _ c.in-Some.is c.position.ensures.found in
     let distinct = distinct_keys c.self.invariant in
     rw (← c.self.view_is) (
       (λ i. inl (
@@ -32,7 +30,9 @@ returns-in-Some g c =
       )),
       record {
         writes_back = tt;
-        value = ap Some (c.value_mut.ensures.value h.held.before h.held.node h.held.after h.held.is h.held.at_is) ∙ value_at-index g.met.K.Eq.laws distinct (IsIndex-HasKey h) (slice_get-held h.held);
+        value = ap Some (c.value_mut.ensures.value h.held.before h.held.node h.held.after h.held.is
+            h.held.at_is)
+            ∙ value_at-index g.met.K.Eq.laws distinct (IsIndex-HasKey h) (slice_get-held h.held);
         valid = IsValid-view c.self.invariant refl refl;
         updates = λ v. Updates-set_value g.met.K.Eq.laws _ _ _ (is_some-index g.met.K.Eq.laws distinct (IsIndex-HasKey h)) v refl;
       },
@@ -45,9 +45,11 @@ returns-in-None g c =
       refl,
       record {
         writes_back = tt;
-        value = sym (value_at-IsAbsent g.K.PartialEq.eq g.S.Hasher.Hasher.finish g.S.Hasher.Hasher.write g.S.BuildHasher.build_hasher g.K.Hash.hash_input g.met.K.Hash.respects_eq m.hasher
+        value =
+            sym (value_at-IsAbsent (hash_by-respects g.S.Hasher.Hasher.finish
+            g.S.Hasher.Hasher.write g.S.BuildHasher.build_hasher g.met.K.Hash.respects_eq) m.hasher
             c.args.key.now c.hash_one-hash.ensures m.table.held c.self.invariant.nodes.hashed
-            (of-None (IsAbsent g.K.PartialEq.eq c.hash_one-hash.result c.args.key.now m.table.held) c.position.result c.in-None.is c.position.ensures.absent));
+            (of-None c.in-None.is c.position.ensures.absent));
         valid = IsValid-view c.self.invariant refl refl;
         updates = λ v. tt;
       },

@@ -1,42 +1,51 @@
 use Rattle.std.proofs.Common.{refl, inl, sym}
 use Rattle.lhm_ring.specs.Positions.{pointer_of}
-use Rattle.lhm_ring.specs.Search.{HasKey, IsAbsent}
 use Rattle.linked_hash_map.specs.declared.map.Mode.TheVariants.{Touch}
 use Rattle.linked_hash_map.specs.Nodes.{map_of, beside, no_visit}
 use Rattle.linked_hash_map.proofs.Callers.Updates.{Updates-put}
-use Rattle.linked_hash_map.proofs.Options.{of-Some, of-None}
-use Rattle.linked_hash_map.proofs.Kept.{IsValid-view, distinct_keys}
-use Rattle.linked_hash_map.proofs.FoundKeys.{before-HasKey, IsIndex-before, before-HasKey_bare}
-use Rattle.linked_hash_map.proofs.PutPair.{touched_cut, pairs-put, value_at-touched, IsKept-put}
-use Rattle.linked_hash_map.proofs.AbsentKeys.{value_at-IsAbsent}
+use Rattle.linked_hash_map.proofs.lists.Options.{of-Some, of-None}
+use Rattle.linked_hash_map.proofs.nodes.Kept.{IsValid-view, distinct_keys}
+use Rattle.linked_hash_map.proofs.nodes.FoundKeys.{before-HasKey, IsIndex-before, before-HasKey_bare}
+use Rattle.linked_hash_map.proofs.nodes.PutPair.{IsTouchedAt, touched_cut, pairs-put, value_at-touched, IsKept-put}
+use Rattle.linked_hash_map.proofs.nodes.AbsentKeys.{hash_by-respects, value_at-IsAbsent}
 use Rattle.linked_hash_map.proofs.map.LinkedHashMap.get_refresh.Goals as goal
 
 pub value_mut-requires : goal.value_mut-requires
-value_mut-requires g c = (touched_cut c.self.inside.table.held c.move_to_back.new.self.held (pointer_of c.in-Some.at) (before-HasKey (of-Some (λ p. HasKey g.K.PartialEq.eq c.hash_one-hash.result c.args.key.now c.self.inside.table.held (pointer_of p)) c.position.result c.in-Some.at c.in-Some.is c.position.ensures.found)) Touch (c.move_to_back.ensures.last, c.move_to_back.ensures.apart)).held
+value_mut-requires g c =
+    let hs = c.self.inside.table.held in let last = c.move_to_back.ensures in
+    let has = of-Some _ c.in-Some.is c.position.ensures.found in
+    let moved : IsTouchedAt (pointer_of c.in-Some.at) Touch hs c.move_to_back.new.self.held =
+    record { lies = before-HasKey has; touched = (last.last, last.apart) } in
+    (touched_cut moved).held
 
 pub invariant_of-self-lent : goal.invariant_of-self-lent
 invariant_of-self-lent g c w =
     let moved = c.move_to_back.ensures in
-    IsKept-put g.met.K.Eq.laws c.move_to_back.new.self (pointer_of c.in-Some.at) c.self.invariant (before-HasKey_bare (of-Some (λ p. HasKey g.K.PartialEq.eq c.hash_one-hash.result c.args.key.now c.self.inside.table.held (pointer_of p)) c.position.result c.in-Some.at c.in-Some.is c.position.ensures.found)) Touch (moved.last, moved.apart) moved.keeps.capacity w
+    IsKept-put g.met.K.Eq.laws c.move_to_back.new.self (pointer_of c.in-Some.at) c.self.invariant
+    (before-HasKey_bare (of-Some _ c.in-Some.is c.position.ensures.found)) Touch
+    (moved.last, moved.apart) moved.keeps.capacity w
 
 pub returns-in-Some : goal.returns-in-Some
 returns-in-Some g c =
-    let m = c.self.inside in
-    let moved = c.move_to_back.ensures in
-    let has = of-Some (λ p. HasKey g.K.PartialEq.eq c.hash_one-hash.result c.args.key.now m.table.held (pointer_of p)) c.position.result c.in-Some.at c.in-Some.is c.position.ensures.found in
+    let m = c.self.inside in let moved = c.move_to_back.ensures in
+    let has = of-Some _ c.in-Some.is c.position.ensures.found in
     let distinct = distinct_keys c.self.invariant in
+    let at : IsTouchedAt (pointer_of c.in-Some.at) Touch m.table.held c.move_to_back.new.self.held =
+    record { lies = before-HasKey has; touched = (moved.last, moved.apart) } in
     rw (← c.self.view_is) (
       (λ i. inl (
         c.value_mut.result.ghost_name,
         λ w. record (map_of m.table (record (beside m) { visit = no_visit })) {
-          pairs = pairs-put c.self.inside.table.held c.move_to_back.new.self.held (pointer_of c.in-Some.at) (before-HasKey has) g.met.K.Eq.laws (IsIndex-before has) distinct Touch (moved.last, moved.apart) c.value_mut.ensures.alone w i;
+          pairs = pairs-put g.met.K.Eq.laws (IsIndex-before has) distinct at
+              c.value_mut.ensures.alone w i;
           capacity = moved.keeps.capacity i;
           rechained = moved.keeps.rechained i;
         },
       )),
       record {
         writes_back = tt;
-        value = value_at-touched c.self.inside.table.held c.move_to_back.new.self.held (pointer_of c.in-Some.at) (before-HasKey has) g.met.K.Eq.laws (IsIndex-before has) distinct Touch (moved.last, moved.apart) c.value_mut.ensures.value;
+        value = value_at-touched g.met.K.Eq.laws (IsIndex-before has) distinct at
+            c.value_mut.ensures.value;
         valid = IsValid-view c.self.invariant refl refl;
         updates = λ v. Updates-put g.met.K.Eq.laws Touch _ _ _ v refl;
       },
@@ -49,9 +58,11 @@ returns-in-None g c =
       refl,
       record {
         writes_back = tt;
-        value = sym (value_at-IsAbsent g.K.PartialEq.eq g.S.Hasher.Hasher.finish g.S.Hasher.Hasher.write g.S.BuildHasher.build_hasher g.K.Hash.hash_input g.met.K.Hash.respects_eq m.hasher
+        value =
+            sym (value_at-IsAbsent (hash_by-respects g.S.Hasher.Hasher.finish
+            g.S.Hasher.Hasher.write g.S.BuildHasher.build_hasher g.met.K.Hash.respects_eq) m.hasher
             c.args.key.now c.hash_one-hash.ensures m.table.held c.self.invariant.nodes.hashed
-            (of-None (IsAbsent g.K.PartialEq.eq c.hash_one-hash.result c.args.key.now m.table.held) c.position.result c.in-None.is c.position.ensures.absent));
+            (of-None c.in-None.is c.position.ensures.absent));
         valid = IsValid-view c.self.invariant refl refl;
         updates = λ v. Updates-put g.met.K.Eq.laws Touch _ _ _ v refl;
       },

@@ -1,53 +1,72 @@
 use Rattle.std.proofs.Common.{◌≡◌, ◌++◌, ◌∷◌, [], take, drop, Some, None, IsSome, subst, option_map, refl, sym, ap, ◌∙◌, arith, true≢false}
 use Rattle.std.specs.Map.{keys_of}
 use Rattle.lhm_ring.specs.Positions.{pointer_of}
-use Rattle.lhm_ring.specs.Search.{HasKey, IsAbsent}
+use Rattle.lhm_ring.specs.Search.{HasKey}
 use Rattle.linked_hash_map.specs.Nodes.{beside, pairs_of}
 use Rattle.linked_hash_map.specs.Pairs.{find, put}
 use Rattle.linked_hash_map.proofs.Callers.Updates.{Updates-put}
-use Rattle.linked_hash_map.proofs.Pairs.{put-absent}
-use Rattle.linked_hash_map.proofs.Options.{of-Some, of-None}
-use Rattle.linked_hash_map.proofs.Kept.{distinct_keys, IsValid-view}
-use Rattle.linked_hash_map.proofs.AbsentKeys.{find-IsAbsent_map}
-use Rattle.linked_hash_map.proofs.FoundKeys.{before-HasKey, IsIndex-before, before-HasKey_bare}
-use Rattle.linked_hash_map.proofs.PutPair.{touched_cut, value_at-touched, pairs-put, length-put, IsKept-put}
+use Rattle.linked_hash_map.proofs.pairs.Calls.{put-absent}
+use Rattle.linked_hash_map.proofs.lists.Options.{of-Some, of-None}
+use Rattle.linked_hash_map.proofs.nodes.Kept.{distinct_keys, IsValid-view}
+use Rattle.linked_hash_map.proofs.nodes.AbsentKeys.{hash_by-respects, find-IsAbsent_map}
+use Rattle.linked_hash_map.proofs.nodes.FoundKeys.{before-HasKey, IsIndex-before, before-HasKey_bare}
+use Rattle.linked_hash_map.proofs.nodes.PutPair.{IsTouchedAt, touched_cut, value_at-touched, pairs-put, length-put, IsKept-put}
 use Rattle.linked_hash_map.proofs.map.LinkedHashMap.insert.Goals as goal
 
 -- a position that is found is that of the key
-has : (g : _) (c : goal.After-drop-key g) → HasKey g.K.PartialEq.eq c.hash_of-hash.result c.args.key c.self.inside.table.held (pointer_of c.in-Some.at)
-has g c = of-Some (λ p. HasKey g.K.PartialEq.eq c.hash_of-hash.result c.args.key c.self.inside.table.held (pointer_of p)) c.position.result c.in-Some.at c.in-Some.is c.position.ensures.found
+has : (g : _) (c : goal.After-drop-key g)
+    → HasKey g.K.PartialEq.eq c.hash_of-hash.result c.args.key c.self.inside.table.held
+    (pointer_of c.in-Some.at)
+has g c = of-Some _ c.in-Some.is c.position.ensures.found
+
+-- and the node there is moved by the map's mode
+moved : (g : _) (c : goal.After-drop-key g) → IsTouchedAt (pointer_of c.in-Some.at)
+    c.self.inside.mode c.self.inside.table.held c.touch.new.table.held
+moved g c = record { lies = before-HasKey (has g c); touched = c.touch.ensures.touched }
 
 -- a key that is not found is absent
 absent : (g : _) (c : goal.After-push_back g) → find g.K.PartialEq.eq c.args.self.now.pairs c.args.key ≡ None
 absent g c =
     let m = c.self.inside in
-    find-IsAbsent_map g.K.PartialEq.eq g.S.Hasher.Hasher.finish g.S.Hasher.Hasher.write g.S.BuildHasher.build_hasher g.K.Hash.hash_input g.met.K.Hash.respects_eq m.table (beside m) c.self.view_is c.self.invariant c.args.key c.hash_of-hash.ensures
-    (of-None (IsAbsent g.K.PartialEq.eq c.hash_of-hash.result c.args.key m.table.held) c.position.result c.in_default.is c.position.ensures.absent)
+    find-IsAbsent_map (hash_by-respects g.S.Hasher.Hasher.finish g.S.Hasher.Hasher.write
+    g.S.BuildHasher.build_hasher g.met.K.Hash.respects_eq) m.table (beside m) c.self.view_is
+    c.self.invariant c.args.key c.hash_of-hash.ensures
+    (of-None c.in_default.is c.position.ensures.absent)
 
 pub value_mut-requires : goal.value_mut-requires
-value_mut-requires g c = (touched_cut c.self.inside.table.held c.touch.new.table.held (pointer_of c.in-Some.at) (before-HasKey (of-Some (λ p. HasKey g.K.PartialEq.eq c.hash_of-hash.result c.args.key c.self.inside.table.held (pointer_of p)) c.position.result c.in-Some.at c.in-Some.is c.position.ensures.found)) c.self.inside.mode c.touch.ensures.touched).held
+value_mut-requires g c =
+    let hs = c.self.inside.table.held in
+    let there = of-Some _ c.in-Some.is c.position.ensures.found in
+    let moved : IsTouchedAt (pointer_of c.in-Some.at) c.self.inside.mode hs c.touch.new.table.held =
+    record { lies = before-HasKey there; touched = c.touch.ensures.touched } in
+    (touched_cut moved).held
 
 pub invariant_of-self : goal.invariant_of-self
-invariant_of-self g c = IsKept-put g.met.K.Eq.laws c.touch.new.table (pointer_of c.in-Some.at) c.self.invariant (before-HasKey_bare (has g c)) c.self.inside.mode c.touch.ensures.touched c.touch.ensures.keeps.capacity c.replace.new.dest
+invariant_of-self g c = IsKept-put g.met.K.Eq.laws c.touch.new.table (pointer_of c.in-Some.at)
+    c.self.invariant (before-HasKey_bare (has g c)) c.self.inside.mode c.touch.ensures.touched
+    c.touch.ensures.keeps.capacity c.replace.new.dest
 
 pub returns-in-Some-clause-old : goal.returns-in-Some-clause-old
 returns-in-Some-clause-old g c =
     let there = has g c in
     rw (← c.self.view_is) (
-    ap Some c.replace.ensures.value ∙ value_at-touched c.self.inside.table.held c.touch.new.table.held (pointer_of c.in-Some.at) (before-HasKey there) g.met.K.Eq.laws (IsIndex-before there) (distinct_keys c.self.invariant) c.self.inside.mode c.touch.ensures.touched c.value_mut.ensures.value
+    ap Some c.replace.ensures.value
+    ∙ value_at-touched g.met.K.Eq.laws (IsIndex-before there) (distinct_keys c.self.invariant)
+    (moved g c) c.value_mut.ensures.value
     )
 
 pub returns-in-Some-clause-pairs : goal.returns-in-Some-clause-pairs
 returns-in-Some-clause-pairs g c =
-    let m = c.self.inside in
-    let there = has g c in
+    let m = c.self.inside in let there = has g c in
     rw (← c.self.view_is) (
-    pairs-put m.table.held c.touch.new.table.held (pointer_of c.in-Some.at) (before-HasKey there) g.met.K.Eq.laws (IsIndex-before there) (distinct_keys c.self.invariant) m.mode c.touch.ensures.touched c.value_mut.ensures.alone c.replace.new.dest
+    pairs-put g.met.K.Eq.laws (IsIndex-before there) (distinct_keys c.self.invariant) (moved g c)
+    c.value_mut.ensures.alone c.replace.new.dest
     ∙ ap (put g.K.PartialEq.eq m.mode (pairs_of m.table.held) c.args.key) c.replace.ensures.after
     )
 
 pub returns-in-Some-clause-updates : goal.returns-in-Some-clause-updates
-returns-in-Some-clause-updates g c = Updates-put g.met.K.Eq.laws c.args.self.now.mode c.args.self.now.pairs _ c.args.key c.args.value (returns-in-Some-clause-pairs g c)
+returns-in-Some-clause-updates g c = Updates-put g.met.K.Eq.laws c.args.self.now.mode
+    c.args.self.now.pairs _ c.args.key c.args.value (returns-in-Some-clause-pairs g c)
 
 pub returns-in-Some-clause-valid : goal.returns-in-Some-clause-valid
 returns-in-Some-clause-valid g c = rw (← c.self.view_is) (IsValid-view c.self.invariant refl refl)
@@ -56,13 +75,14 @@ pub returns-in-Some-clause-stays_valid : goal.returns-in-Some-clause-stays_valid
 returns-in-Some-clause-stays_valid g c = IsValid-view (invariant_of-self g c) refl refl
 
 pub returns-in-Some-clause-as_many : goal.returns-in-Some-clause-as_many
-returns-in-Some-clause-as_many g c = λ _. rw (← c.self.view_is) (length-put c.self.inside.table.held c.touch.new.table.held (pointer_of c.in-Some.at) (before-HasKey (has g c)) c.self.inside.mode c.touch.ensures.touched c.replace.new.dest)
+returns-in-Some-clause-as_many g c = λ _. rw (← c.self.view_is) (length-put (moved g c) c.replace.new.dest)
 
 pub returns-in-Some-clause-capacity : goal.returns-in-Some-clause-capacity
 returns-in-Some-clause-capacity g c =
     let within = (returns-in-Some-clause-valid g c).within in
     let len = returns-in-Some-clause-as_many g c (subst IsSome (returns-in-Some-clause-old g c) refl) in
-    let same : c.touch.new.table.capacity ≡ c.args.self.now.capacity = rw (← c.self.view_is) c.touch.ensures.keeps.capacity in
+    let same : c.touch.new.table.capacity ≡ c.args.self.now.capacity =
+    rw (← c.self.view_is) c.touch.ensures.keeps.capacity in
     omega (arith, within, len, same)
 
 pub returns-in-Some-clause-pushed : goal.returns-in-Some-clause-pushed
@@ -74,15 +94,19 @@ returns-in-Some-clause-more g c = λ none. absurd (let no : Some c.replace.resul
 pub returns-then-not-make_room-clause-absent : goal.returns-then-not-make_room-clause-absent
 returns-then-not-make_room-clause-absent g c =
     let m = c.self.inside in
-    find-IsAbsent_map g.K.PartialEq.eq g.S.Hasher.Hasher.finish g.S.Hasher.Hasher.write g.S.BuildHasher.build_hasher g.K.Hash.hash_input g.met.K.Hash.respects_eq m.table (beside m) c.self.view_is c.self.invariant c.args.key c.hash_of-hash.ensures
-    (of-None (IsAbsent g.K.PartialEq.eq c.hash_of-hash.result c.args.key m.table.held) c.position.result c.in_default.is c.position.ensures.absent)
+    find-IsAbsent_map (hash_by-respects g.S.Hasher.Hasher.finish g.S.Hasher.Hasher.write
+    g.S.BuildHasher.build_hasher g.met.K.Hash.respects_eq) m.table (beside m) c.self.view_is
+    c.self.invariant c.args.key c.hash_of-hash.ensures
+    (of-None c.in_default.is c.position.ensures.absent)
 
 pub push_back-requires-clause-absent : goal.push_back-requires-clause-absent
 push_back-requires-clause-absent g c =
     let m = c.self.inside in
     ap (λ pairs. find g.K.PartialEq.eq pairs c.args.key) c.make_room.ensures.pairs
-    ∙ find-IsAbsent_map g.K.PartialEq.eq g.S.Hasher.Hasher.finish g.S.Hasher.Hasher.write g.S.BuildHasher.build_hasher g.K.Hash.hash_input g.met.K.Hash.respects_eq m.table (beside m) c.self.view_is c.self.invariant c.args.key c.hash_of-hash.ensures
-    (of-None (IsAbsent g.K.PartialEq.eq c.hash_of-hash.result c.args.key m.table.held) c.position.result c.in_default.is c.position.ensures.absent)
+    ∙ find-IsAbsent_map (hash_by-respects g.S.Hasher.Hasher.finish g.S.Hasher.Hasher.write
+    g.S.BuildHasher.build_hasher g.met.K.Hash.respects_eq) m.table (beside m) c.self.view_is
+    c.self.invariant c.args.key c.hash_of-hash.ensures
+    (of-None c.in_default.is c.position.ensures.absent)
 
 pub returns-clause-old : goal.returns-clause-old
 returns-clause-old g c = sym (ap (option_map (λ pair. pair.1)) (absent g c))
@@ -91,13 +115,18 @@ pub returns-clause-as_many : goal.returns-clause-as_many
 returns-clause-as_many g c = λ there. absurd (true≢false (sym (subst IsSome (sym (returns-clause-old g c)) there)))
 
 pub returns-clause-same_room : goal.returns-clause-same_room
-returns-clause-same_room g c = λ room. omega (arith, room (absent g c), c.make_room.ensures.made c.if-not-make_room.false, c.push_back.ensures.keeps.capacity)
+returns-clause-same_room g c = λ room. omega (
+  arith,
+  room (absent g c),
+  c.make_room.ensures.made c.if-not-make_room.false,
+  c.push_back.ensures.keeps.capacity,
+)
 
 pub returns-clause-pairs : goal.returns-clause-pairs
-returns-clause-pairs g c =
-    c.push_back.ensures.pairs
+returns-clause-pairs g c = c.push_back.ensures.pairs
     ∙ ap (λ pairs. pairs ++ (c.args.key, c.args.value) ∷ []) c.make_room.ensures.pairs
-    ∙ sym (put-absent g.K.PartialEq.eq c.args.self.now.mode c.args.self.now.pairs c.args.key c.args.value (absent g c))
+    ∙ sym (put-absent g.K.PartialEq.eq c.args.self.now.mode c.args.self.now.pairs c.args.key
+    c.args.value (absent g c))
 
 pub returns-clause-to_visit : goal.returns-clause-to_visit
 returns-clause-to_visit g c =
@@ -106,4 +135,5 @@ returns-clause-to_visit g c =
     ∙ (λ i. take (room.cursor i).unvisited (drop (room.cursor i).bookmark (keys_of (room.pairs i))))
 
 pub returns-clause-updates : goal.returns-clause-updates
-returns-clause-updates g c = Updates-put g.met.K.Eq.laws c.args.self.now.mode c.args.self.now.pairs c.push_back.new.self.pairs c.args.key c.args.value (returns-clause-pairs g c)
+returns-clause-updates g c = Updates-put g.met.K.Eq.laws c.args.self.now.mode c.args.self.now.pairs
+    c.push_back.new.self.pairs c.args.key c.args.value (returns-clause-pairs g c)

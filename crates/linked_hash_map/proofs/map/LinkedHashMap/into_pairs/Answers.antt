@@ -1,7 +1,7 @@
 use Rattle.std.proofs.Common.{map, refl, ap, ◌∙◌}
 use Rattle.linked_hash_map.specs.LinkedMap.{LinkedMap}
-use Rattle.linked_hash_map.proofs.HeldPairs.{pairs-triples}
-use Rattle.linked_hash_map.proofs.Kept.{IsValid-view}
+use Rattle.linked_hash_map.proofs.nodes.HeldPairs.{pairs-triples}
+use Rattle.linked_hash_map.proofs.nodes.Kept.{IsValid-view}
 use Rattle.linked_hash_map.proofs.map.LinkedHashMap.into_pairs.Goals as goal
 
 pub returns-clause-pairs : goal.returns-clause-pairs

@@ -1,7 +1,7 @@
 use Rattle.std.proofs.Common.{refl}
 use Rattle.std.specs.Map.Iter.{deref_pair}
-use Rattle.linked_hash_map.proofs.Kept.{IsValid-view}
-use Rattle.linked_hash_map.proofs.IteratorLaws.{shows_in_order, shows_in_reverse}
+use Rattle.linked_hash_map.proofs.nodes.Kept.{IsValid-view}
+use Rattle.linked_hash_map.proofs.pairs.IteratorLaws.{shows_in_order, shows_in_reverse}
 use Rattle.linked_hash_map.proofs.map.LinkedHashMap.iter.Goals as goal
 
 pub returns-clause-valid : goal.returns-clause-valid

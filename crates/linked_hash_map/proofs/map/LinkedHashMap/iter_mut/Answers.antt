@@ -2,8 +2,8 @@ use Rattle.std.proofs.Common.{refl}
 use borrow.Follows.Closed.{read_of}
 use Rattle.linked_hash_map.specs.Nodes.{pairs_of, beside, map_of}
 use Rattle.linked_hash_map.specs.ValueIterators.{loan_name}
-use Rattle.linked_hash_map.proofs.IteratorLaws.{keys_stand, lends_in_order, lends_in_reverse}
-use Rattle.linked_hash_map.proofs.Kept.{IsValid-view, IsKept-values, map_of-values}
+use Rattle.linked_hash_map.proofs.pairs.IteratorLaws.{keys_stand, lends_in_order, lends_in_reverse}
+use Rattle.linked_hash_map.proofs.nodes.Kept.{IsValid-view, IsKept-values, map_of-values}
 use Rattle.linked_hash_map.proofs.map.LinkedHashMap.iter_mut.Goals as goal
 
 pub invariant_of-self-lent : goal.invariant_of-self-lent

@@ -5,17 +5,18 @@ use Rattle.lhm_ring.specs.RingAfterLoan.{revalued}
 use Rattle.lhm_ring.proofs.Ends.{Last-last_at, last_held}
 use Rattle.linked_hash_map.specs.Indexes.{set_value_at}
 use Rattle.linked_hash_map.specs.Nodes.{pairs_of}
-use Rattle.linked_hash_map.proofs.Current.{IsKept-with_value}
-use Rattle.linked_hash_map.proofs.FirstAndLast.{last-pairs}
-use Rattle.linked_hash_map.proofs.HeldPairs.{bare-change, length-pairs_of}
-use Rattle.linked_hash_map.proofs.CutNodes.{pairs_of-change_at}
-use Rattle.linked_hash_map.proofs.Kept.{IsValid-view, map_of-revalued}
+use Rattle.linked_hash_map.proofs.nodes.Current.{IsKept-with_value}
+use Rattle.linked_hash_map.proofs.nodes.FirstAndLast.{last-pairs}
+use Rattle.linked_hash_map.proofs.nodes.HeldPairs.{bare-change, length-pairs_of}
+use Rattle.linked_hash_map.proofs.nodes.CutNodes.{pairs_of-change_at}
+use Rattle.linked_hash_map.proofs.nodes.Kept.{IsValid-view, map_of-revalued}
 use Rattle.linked_hash_map.proofs.map.LinkedHashMap.last_value_mut.Goals as goal
 
 pub value_mut-requires : goal.value_mut-requires
 value_mut-requires g c =
     let m = c.self.inside in
-    let last = Last-last_at m.table.held (pointer_of_some c.last.result) (pointer_of c.unwrap-at.result) c.last.ensures.last (ap pointer_of_some c.unwrap-at.ensures) in
+    let last = Last-last_at m.table.held (pointer_of_some c.last.result)
+    (pointer_of c.unwrap-at.result) c.last.ensures.last (ap pointer_of_some c.unwrap-at.ensures) in
     last_held last
 
 pub invariant_of-self-lent : goal.invariant_of-self-lent
@@ -23,11 +24,9 @@ invariant_of-self-lent g c w = IsKept-with_value c.self.invariant (pointer_of c.
 
 pub returns : goal.returns
 returns g c =
-    let m = c.self.inside in
-    let at = pointer_of c.unwrap-at.result in
+    let m = c.self.inside in let at = pointer_of c.unwrap-at.result in
     let last = Last-last_at m.table.held (pointer_of_some c.last.result) at c.last.ensures.last (ap pointer_of_some c.unwrap-at.ensures) in
-    let of_pairs = length-pairs_of m.table.held in
-    let long = ap length last.is in
+    let of_pairs = length-pairs_of m.table.held in let long = ap length last.is in
     let cut = length-append last.before (last.node ∷ []) in
     let index : length last.before ≡ length (pairs_of m.table.held) - 1 = omega (arith, of_pairs, long, cut) in
     rw (← c.self.view_is) (
@@ -38,7 +37,8 @@ returns g c =
       ),
       record {
         writes_back = tt;
-        value = ap (option_map (λ p. p.1)) (last-pairs last) ∙ ap Some (sym (c.value_mut.ensures.value last.before last.node [] last.is last.at_is));
+        value = ap (option_map (λ p. p.1)) (last-pairs last)
+            ∙ ap Some (sym (c.value_mut.ensures.value last.before last.node [] last.is last.at_is));
         valid = IsValid-view c.self.invariant refl refl;
       },
     )

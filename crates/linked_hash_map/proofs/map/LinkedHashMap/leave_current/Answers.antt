@@ -5,11 +5,11 @@ use Rattle.lhm_ring.specs.RingAfterLoan.{revalued}
 use Rattle.lhm_ring.specs.TableAfterLoan.{with_value}
 use Rattle.linked_hash_map.specs.Indexes.{set_value_at}
 use Rattle.linked_hash_map.specs.Nodes.{pairs_of, map_of, beside, visit_of}
-use Rattle.linked_hash_map.proofs.HeldPairs.{bare-change}
-use Rattle.linked_hash_map.proofs.CutNodes.{slice_get-held, pairs_of-change_at}
-use Rattle.linked_hash_map.proofs.Kept.{IsValid-view, map_of-revalued}
-use Rattle.linked_hash_map.proofs.Options.{cond-None}
-use Rattle.linked_hash_map.proofs.Current.{current_of-Some, current_at-Some, CutAt-current, IsKept-with_value, IsKept-left}
+use Rattle.linked_hash_map.proofs.nodes.HeldPairs.{bare-change}
+use Rattle.linked_hash_map.proofs.nodes.CutNodes.{slice_get-held, pairs_of-change_at}
+use Rattle.linked_hash_map.proofs.nodes.Kept.{IsValid-view, map_of-revalued}
+use Rattle.linked_hash_map.proofs.lists.Options.{cond-None}
+use Rattle.linked_hash_map.proofs.nodes.Current.{current_of-Some, current_at-Some, CutAt-current, IsKept-with_value, IsKept-left}
 use Rattle.linked_hash_map.proofs.map.LinkedHashMap.leave_current.Goals as goal
 
 pub value_mut-requires : goal.value_mut-requires
@@ -20,22 +20,26 @@ invariant_of-self-lent g c w = IsKept-left (IsKept-with_value c.self.invariant (
 
 pub returns : goal.returns
 returns g c =
-    let m = c.self.inside in
-    let hs = m.table.held in
-    let p = pointer_of c.unwrap-at.result in
+    let m = c.self.inside in let hs = m.table.held in let p = pointer_of c.unwrap-at.result in
     let cut = CutAt-current c.self.invariant (current_of-Some c.current.ensures c.unwrap-at.ensures) in
     let h = cut.held in
     let index = current_at-Some (current_of-Some c.current.ensures c.unwrap-at.ensures) hs ∙ sym cut.long in
     rw (← c.self.view_is) (
       (
         refl,
-        λ w. ap (λ o. map_of (with_value m.table p w) (record (beside m) { visit = record (visit_of m.visit) { current = o } })) (cond-None m.visit.active)
-            ∙ map_of-revalued m.table (change_at p (revalued w) hs) (record (beside m) { visit = record (visit_of m.visit) { current = None } }) (bare-change p w hs)
+        λ w. ap (λ o. map_of (with_value m.table p w)
+            (record (beside m) { visit = record (visit_of m.visit) { current = o } }))
+            (cond-None m.visit.active)
+            ∙ map_of-revalued m.table (change_at p (revalued w) hs)
+            (record (beside m) { visit = record (visit_of m.visit) { current = None } })
+            (bare-change p w hs)
             (pairs_of-change_at h c.value_mut.ensures.alone w ∙ ap (λ k. set_value_at (pairs_of hs) k w) (sym index)),
       ),
       record {
         writes_back = tt;
-        value = ap (λ k. option_map (λ pair. pair.1) (slice_get (pairs_of hs) k)) index ∙ ap (option_map (λ pair. pair.1)) (slice_get-held h) ∙ ap Some (sym (c.value_mut.ensures.value h.before h.node h.after h.is h.at_is));
+        value = ap (λ k. option_map (λ pair. pair.1) (slice_get (pairs_of hs) k)) index
+            ∙ ap (option_map (λ pair. pair.1)) (slice_get-held h)
+            ∙ ap Some (sym (c.value_mut.ensures.value h.before h.node h.after h.is h.at_is));
         valid = IsValid-view c.self.invariant refl refl;
       },
     )

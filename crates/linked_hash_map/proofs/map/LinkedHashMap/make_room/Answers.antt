@@ -1,5 +1,5 @@
 use Rattle.std.proofs.Common.{refl}
-use Rattle.linked_hash_map.proofs.Kept.{IsValid-view}
+use Rattle.linked_hash_map.proofs.nodes.Kept.{IsValid-view}
 use Rattle.linked_hash_map.proofs.map.LinkedHashMap.make_room.Goals as goal
 
 pub returns-then-not-is_full-clause-valid : goal.returns-then-not-is_full-clause-valid

@@ -1,6 +1,6 @@
 use Rattle.std.proofs.Common.{refl}
-use Rattle.linked_hash_map.proofs.EmptyMap.{IsKept-none}
-use Rattle.linked_hash_map.proofs.Kept.{IsValid-view}
+use Rattle.linked_hash_map.proofs.nodes.EmptyMap.{IsKept-none}
+use Rattle.linked_hash_map.proofs.nodes.Kept.{IsValid-view}
 use Rattle.linked_hash_map.proofs.map.LinkedHashMap.of_empty.Goals as goal
 
 pub invariant_of-result : goal.invariant_of-result

@@ -1,43 +1,57 @@
 use Rattle.std.proofs.Common.{◌≡◌, ◌<◌, None, length, refl, sym, subst, arith}
 use Rattle.lhm_ring.specs.Positions.{pointer_of}
+use Rattle.lhm_ring.specs.RingState.{held}
 use Rattle.linked_hash_map.specs.LinkedMap.{LinkedMap, cursor_state}
 use Rattle.linked_hash_map.specs.Nodes.{pairs_of, unvisited_of}
 use Rattle.linked_hash_map.specs.Hashers.{hash_by}
 use Rattle.linked_hash_map.specs.Pairs.{find}
-use Rattle.linked_hash_map.proofs.PushedPair.{IsKept-push, pairs_of-push, bookmark_at-push, current_at-push, to_visit-push}
-use Rattle.linked_hash_map.proofs.HeldPairs.{length-pairs_of}
-use Rattle.linked_hash_map.proofs.Kept.{IsValid-view}
+use Rattle.linked_hash_map.proofs.nodes.PushedPair.{IsKept-push, pairs_of-push, bookmark_at-push, current_at-push, to_visit-push}
+use Rattle.linked_hash_map.proofs.nodes.HeldPairs.{length-pairs_of}
+use Rattle.linked_hash_map.proofs.nodes.Kept.{IsValid-view}
 use Rattle.linked_hash_map.proofs.map.LinkedHashMap.push_back.Goals as goal
 
 pub push_back-requires : goal.push_back-requires
 push_back-requires g c =
-    let t = c.self.inside.table in
-    let room : length (pairs_of t.held) < t.capacity = subst (λ (z : LinkedMap g.row.K.Denot g.row.V.Denot g.row.S.Denot). length z.pairs < z.capacity) (sym c.self.view_is) c.requires.room in
+    let t = c.self.inside.table in let room : length (pairs_of t.held) < t.capacity =
+    subst (λ (z : LinkedMap g.row.K.Denot g.row.V.Denot g.row.S.Denot). length z.pairs < z.capacity)
+    (sym c.self.view_is) c.requires.room in
     let of_pairs = length-pairs_of t.held in
     omega (arith, room, of_pairs)
 
 pub invariant_of-self : goal.invariant_of-self
 invariant_of-self g c =
-    let m = c.self.inside in
-    let room : length (pairs_of m.table.held) < m.table.capacity = subst (λ (z : LinkedMap g.row.K.Denot g.row.V.Denot g.row.S.Denot). length z.pairs < z.capacity) (sym c.self.view_is) c.requires.room in
+    let m = c.self.inside in let eq = g.K.PartialEq.eq in
     let of_pairs = length-pairs_of m.table.held in
-    let absent : find g.K.PartialEq.eq (pairs_of m.table.held) c.args.key ≡ None = subst (λ (z : LinkedMap g.row.K.Denot g.row.V.Denot g.row.S.Denot). find g.K.PartialEq.eq z.pairs c.args.key ≡ None) (sym c.self.view_is) c.requires.absent in
     let hash = hash_by g.S.Hasher.Hasher.finish g.S.Hasher.Hasher.write g.S.BuildHasher.build_hasher g.K.Hash.hash_input in
-    let hashed : c.args.hash ≡ hash m.hasher c.args.key = subst (λ (z : LinkedMap g.row.K.Denot g.row.V.Denot g.row.S.Denot). c.args.hash ≡ hash z.hasher c.args.key) (sym c.self.view_is) c.requires.hash in
-    IsKept-push c.self.invariant (pointer_of c.push_back.result) c.args.hash c.args.key c.args.value c.push_back.new.self c.push_back.ensures.last
-    g.met.K.Eq.laws hashed absent (omega (arith, room, of_pairs)) c.push_back.ensures.keeps.capacity
+    let given : (length (pairs_of m.table.held) < m.table.capacity)
+    × ((find eq (pairs_of m.table.held) c.args.key ≡ None) × (c.args.hash ≡ hash m.hasher c.args.key)) =
+    subst (λ (z : LinkedMap g.row.K.Denot g.row.V.Denot g.row.S.Denot). (length z.pairs < z.capacity)
+    × ((find eq z.pairs c.args.key ≡ None) × (c.args.hash ≡ hash z.hasher c.args.key)))
+    (sym c.self.view_is) (c.requires.room, (c.requires.absent, c.requires.hash)) in
+    IsKept-push c.self.invariant c.push_back.new.self
+    (held (pointer_of c.push_back.result) c.args.hash None (c.args.key, c.args.value))
+    c.push_back.ensures.last g.met.K.Eq.laws given.1.1 given.1.0 (omega (arith, given.0, of_pairs))
+    c.push_back.ensures.keeps.capacity
 
 pub returns-clause-pairs : goal.returns-clause-pairs
-returns-clause-pairs g c = rw (← c.self.view_is) (pairs_of-push c.self.inside.table c.push_back.new.self (pointer_of c.push_back.result) c.args.hash c.args.key c.args.value c.push_back.ensures.last)
+returns-clause-pairs g c =
+    let u = held (pointer_of c.push_back.result) c.args.hash None (c.args.key, c.args.value) in
+    rw (← c.self.view_is)
+    (pairs_of-push c.self.inside.table c.push_back.new.self u c.push_back.ensures.last)
 
 pub returns-clause-cursor : goal.returns-clause-cursor
 returns-clause-cursor g c =
-    let n = unvisited_of c.self.inside.visit in
-    rw (← c.self.view_is) (λ i. cursor_state (bookmark_at-push c.self.invariant (pointer_of c.push_back.result) c.args.hash c.args.key c.args.value c.push_back.new.self c.push_back.ensures.last i) n
-    (current_at-push c.self.invariant (pointer_of c.push_back.result) c.args.hash c.args.key c.args.value c.push_back.new.self c.push_back.ensures.last i))
+    let u = held (pointer_of c.push_back.result) c.args.hash None (c.args.key, c.args.value) in
+    let last = c.push_back.ensures.last in
+    rw (← c.self.view_is) (λ i. cursor_state
+    (bookmark_at-push c.self.invariant c.push_back.new.self u last i) (unvisited_of c.self.inside.visit)
+    (current_at-push c.self.invariant c.push_back.new.self u last i))
 
 pub returns-clause-to_visit : goal.returns-clause-to_visit
-returns-clause-to_visit g c = rw (← c.self.view_is) (to_visit-push c.self.invariant (pointer_of c.push_back.result) c.args.hash c.args.key c.args.value c.push_back.new.self c.push_back.ensures.last)
+returns-clause-to_visit g c =
+    let u = held (pointer_of c.push_back.result) c.args.hash None (c.args.key, c.args.value) in
+    rw (← c.self.view_is)
+    (to_visit-push c.self.invariant c.push_back.new.self u c.push_back.ensures.last)
 
 pub returns-clause-stays_valid : goal.returns-clause-stays_valid
 returns-clause-stays_valid g c = IsValid-view (invariant_of-self g c) refl refl

@@ -1,6 +1,6 @@
 use Rattle.std.proofs.Common.{refl, arith}
 use Rattle.lhm_ring.proofs.BucketCounts.{buckets-below}
-use Rattle.linked_hash_map.proofs.Kept.{IsValid-view}
+use Rattle.linked_hash_map.proofs.nodes.Kept.{IsValid-view}
 use Rattle.linked_hash_map.proofs.map.LinkedHashMap.rechained.Goals as goal
 
 pub returns-clause-valid : goal.returns-clause-valid
@@ -8,6 +8,5 @@ returns-clause-valid g c = rw (← c.self.view_is) (IsValid-view c.self.invarian
 
 pub returns-clause-below : goal.returns-clause-below
 returns-clause-below g c = rw (← c.self.view_is) (λ some.
-    let below = buckets-below _ some in
-    let few = c.rechained.ensures.few in
+    let below = buckets-below _ some in let few = c.rechained.ensures.few in
     omega arith)

@@ -1,48 +1,54 @@
-use Rattle.std.proofs.Common.{None, slice_get, remove, refl, sym, ap, ◌∙◌, subst}
-use Rattle.linked_hash_map.specs.Nodes.{pairs_of, bare, AreKept, visit_of}
-use Rattle.linked_hash_map.specs.Hashers.{hash_by}
-use Rattle.linked_hash_map.proofs.Kept.{IsValid-view}
-use Rattle.linked_hash_map.proofs.Current.{current_of-Some, before-current, CutAt-current, current_at-Some, IsElsewhere-current, IsKept-left}
-use Rattle.linked_hash_map.proofs.TakenNode.{pair-removed, pairs-removed, to_visit-removed, AreKept-removed}
+use Rattle.std.proofs.Common.{◌≡◌, ◌<◌, Some, length, slice_get, remove, refl, sym, ap, ◌∙◌}
+use Rattle.lhm_ring.specs.Positions.{pointer_of}
+use Rattle.linked_hash_map.specs.Nodes.{pairs_of, bare, before, visit_of, current_of}
+use Rattle.linked_hash_map.proofs.nodes.Kept.{IsValid-view}
+use Rattle.linked_hash_map.proofs.nodes.Outside.{IsElsewhere}
+use Rattle.linked_hash_map.proofs.nodes.Current.{current_of-Some, before-current, CutAt-current}
+use Rattle.linked_hash_map.proofs.nodes.Current.{current_at-Some, IsElsewhere-current, IsKept-left}
+use Rattle.linked_hash_map.proofs.nodes.TakenNode.{pair-removed, pairs-removed, to_visit-removed, IsKept-taken}
 use Rattle.linked_hash_map.proofs.map.LinkedHashMap.remove_current.Goals as goal
 
 pub remove_at-requires : goal.remove_at-requires
 remove_at-requires g c = (CutAt-current c.self.invariant (current_of-Some c.current.ensures c.unwrap-at.ensures)).held
 
+-- the current pair's node, which is none of those to visit
+is : (g : _) (c : goal.After-remove_at g) → current_of c.self.inside.visit ≡ Some (pointer_of c.unwrap-at.result)
+is g c = current_of-Some c.current.ensures c.unwrap-at.ensures
+
+lies : (g : _) (c : goal.After-remove_at g)
+    → before (pointer_of c.unwrap-at.result) c.self.inside.table.held < length c.self.inside.table.held
+lies g c = before-current c.self.invariant (is g c)
+
+elsewhere : (g : _) (c : goal.After-remove_at g)
+    → IsElsewhere (before (pointer_of c.unwrap-at.result) c.self.inside.table.held)
+    (visit_of c.self.inside.visit) (bare c.self.inside.table.held)
+elsewhere g c = IsElsewhere-current c.self.invariant (is g c) c.args.self.now
+    (ap (λ m. m.cursor) c.self.view_is) c.requires.outside
+
 pub invariant_of-self : goal.invariant_of-self
 invariant_of-self g c =
-    let m = c.self.inside in
     let removed = c.remove_at.ensures in
-    let elsewhere = IsElsewhere-current c.self.invariant (current_of-Some c.current.ensures c.unwrap-at.ensures) c.args.self.now (ap (λ m. m.cursor) c.self.view_is) c.requires.outside in
-    IsKept-left (
-    record {
-      nodes = subst (λ k. AreKept g.K.PartialEq.eq (hash_by g.S.Hasher.Hasher.finish g.S.Hasher.Hasher.write g.S.BuildHasher.build_hasher g.K.Hash.hash_input m.hasher) (bare c.remove_at.new.self.held) k (record (visit_of m.visit) { current = None }))
-          (sym removed.keeps.capacity)
-          (AreKept-removed m.table.held c.remove_at.new.self.held removed.others (before-current c.self.invariant (current_of-Some c.current.ensures c.unwrap-at.ensures)) c.self.invariant.nodes elsewhere);
-    }
-    ) m.visit.active
+    IsKept-left (IsKept-taken c.self.invariant (lies g c) removed.others removed.keeps.capacity (elsewhere g c))
+    c.self.inside.visit.active
 
 pub returns-clause-pair : goal.returns-clause-pair
 returns-clause-pair g c =
-    let m = c.self.inside in
-    rw (← c.self.view_is) (
-    ap (slice_get (pairs_of m.table.held)) (current_at-Some (current_of-Some c.current.ensures c.unwrap-at.ensures) m.table.held)
-    ∙ pair-removed m.table.held c.remove_at.new.self.held c.remove_at.ensures.others (before-current c.self.invariant (current_of-Some c.current.ensures c.unwrap-at.ensures)) c.remove_at.ensures.pair
-    )
+    let hs = c.self.inside.table.held in let removed = c.remove_at.ensures in
+    rw (← c.self.view_is) (ap (slice_get (pairs_of hs)) (current_at-Some (is g c) hs)
+    ∙ pair-removed hs c.remove_at.new.self.held removed.others (lies g c) removed.pair)
 
 pub returns-clause-pairs : goal.returns-clause-pairs
 returns-clause-pairs g c =
-    let m = c.self.inside in
-    rw (← c.self.view_is) (
-    pairs-removed m.table.held c.remove_at.new.self.held c.remove_at.ensures.others (before-current c.self.invariant (current_of-Some c.current.ensures c.unwrap-at.ensures))
-    ∙ ap (remove (pairs_of m.table.held)) (sym (current_at-Some (current_of-Some c.current.ensures c.unwrap-at.ensures) m.table.held))
-    )
+    let hs = c.self.inside.table.held in
+    rw (← c.self.view_is)
+    (pairs-removed hs c.remove_at.new.self.held c.remove_at.ensures.others (lies g c)
+    ∙ ap (remove (pairs_of hs)) (sym (current_at-Some (is g c) hs)))
 
 pub returns-clause-to_visit : goal.returns-clause-to_visit
 returns-clause-to_visit g c =
-    let m = c.self.inside in
-    let elsewhere = IsElsewhere-current c.self.invariant (current_of-Some c.current.ensures c.unwrap-at.ensures) c.args.self.now (ap (λ m. m.cursor) c.self.view_is) c.requires.outside in
-    rw (← c.self.view_is) (to_visit-removed m.table.held c.remove_at.new.self.held c.remove_at.ensures.others (before-current c.self.invariant (current_of-Some c.current.ensures c.unwrap-at.ensures)) c.self.invariant.nodes elsewhere)
+    rw (← c.self.view_is)
+    (to_visit-removed c.self.inside.table.held c.remove_at.new.self.held c.remove_at.ensures.others
+    (lies g c) c.self.invariant.nodes (elsewhere g c))
 
 pub returns-clause-valid : goal.returns-clause-valid
 returns-clause-valid g c = rw (← c.self.view_is) (IsValid-view c.self.invariant refl refl)

@@ -1,22 +1,25 @@
 use Rattle.std.proofs.Common.{Some, refl}
 use Rattle.lhm_ring.specs.Positions.{pointer_of}
-use Rattle.lhm_ring.specs.Search.{HasKey, IsAbsent}
+use Rattle.lhm_ring.specs.Search.{HasKey}
 use Rattle.linked_hash_map.specs.Nodes.{beside}
-use Rattle.linked_hash_map.proofs.Options.{of-Some, of-None}
-use Rattle.linked_hash_map.proofs.Kept.{IsValid-view}
-use Rattle.linked_hash_map.proofs.AbsentKeys.{find-IsAbsent_map}
-use Rattle.linked_hash_map.proofs.Current.{IsKept-visited}
-use Rattle.linked_hash_map.proofs.FoundKeys.{before-HasKey_bare, IsIndex-before_bare}
+use Rattle.linked_hash_map.proofs.lists.Options.{of-Some, of-None}
+use Rattle.linked_hash_map.proofs.nodes.Kept.{IsValid-view}
+use Rattle.linked_hash_map.proofs.nodes.AbsentKeys.{hash_by-respects, find-IsAbsent_map}
+use Rattle.linked_hash_map.proofs.nodes.Current.{IsKept-visited}
+use Rattle.linked_hash_map.proofs.nodes.FoundKeys.{before-HasKey_bare, IsIndex-before_bare}
 use Rattle.linked_hash_map.proofs.map.LinkedHashMap.seek.Goals as goal
 
 -- a position that is found is that of the key
-has : (g : _) (c : goal.After-self-1 g) → HasKey g.K.PartialEq.eq c.args.hash c.args.key.now c.self.inside.table.held (pointer_of c.in-Some.at)
-has g c = of-Some (λ p. HasKey g.K.PartialEq.eq c.args.hash c.args.key.now c.self.inside.table.held (pointer_of p)) c.position.result c.in-Some.at c.in-Some.is c.position.ensures.found
+has : (g : _) (c : goal.After-self-1 g)
+    → HasKey g.K.PartialEq.eq c.args.hash c.args.key.now c.self.inside.table.held
+    (pointer_of c.in-Some.at)
+has g c = of-Some _ c.in-Some.is c.position.ensures.found
 
 pub invariant_of-self : goal.invariant_of-self
 invariant_of-self g c =
     let at = c.at-self-inside.ensures in
-    rw (at.bookmark, at.unvisited, at.current) (IsKept-visited c.self.invariant (Some (pointer_of c.in-Some.at)) (before-HasKey_bare (has g c)))
+    rw (at.bookmark, at.unvisited, at.current) (IsKept-visited c.self.invariant
+    (Some (pointer_of c.in-Some.at)) (before-HasKey_bare (has g c)))
 
 pub returns-clause-found : goal.returns-clause-found
 returns-clause-found g c found = rw (← c.self.view_is, c.at-self-inside.ensures.current) (IsIndex-before_bare (has g c))
@@ -27,8 +30,9 @@ returns-clause-valid g c = rw (← c.self.view_is) (IsValid-view c.self.invarian
 pub returns-in_default-clause-absent : goal.returns-in_default-clause-absent
 returns-in_default-clause-absent g c none =
     let m = c.self.inside in
-    find-IsAbsent_map g.K.PartialEq.eq g.S.Hasher.Hasher.finish g.S.Hasher.Hasher.write g.S.BuildHasher.build_hasher g.K.Hash.hash_input g.met.K.Hash.respects_eq m.table (beside m) c.self.view_is c.self.invariant c.args.key.now c.requires
-    (of-None (IsAbsent g.K.PartialEq.eq c.args.hash c.args.key.now m.table.held) c.position.result c.in_default.is c.position.ensures.absent)
+    find-IsAbsent_map (hash_by-respects g.S.Hasher.Hasher.finish g.S.Hasher.Hasher.write
+    g.S.BuildHasher.build_hasher g.met.K.Hash.respects_eq) m.table (beside m) c.self.view_is
+    c.self.invariant c.args.key.now c.requires (of-None c.in_default.is c.position.ensures.absent)
 
 pub returns-in_default-clause-valid : goal.returns-in_default-clause-valid
 returns-in_default-clause-valid g c = rw (← c.self.view_is) (IsValid-view c.self.invariant refl refl)

@@ -1,5 +1,5 @@
 use Rattle.std.proofs.Common.{refl}
-use Rattle.linked_hash_map.proofs.Kept.{IsValid-view}
+use Rattle.linked_hash_map.proofs.nodes.Kept.{IsValid-view}
 use Rattle.linked_hash_map.proofs.map.LinkedHashMap.set_mode.Goals as goal
 
 pub returns-clause-valid : goal.returns-clause-valid

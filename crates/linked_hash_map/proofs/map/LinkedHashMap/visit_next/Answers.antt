@@ -1,12 +1,18 @@
 use Rattle.std.proofs.Common.{refl, sym, ap, ◌∙◌, ◌-◌, Some}
 use Rattle.lhm_ring.specs.Positions.{pointer_of, pointer_of_some}
 use Rattle.linked_hash_map.specs.Nodes.{visit_of}
-use Rattle.linked_hash_map.proofs.Kept.{IsValid-view}
-use Rattle.linked_hash_map.proofs.BookmarkMoves.{Goes, bookmarked_cut, outside_on, kept_on, to_visit_on}
+use Rattle.linked_hash_map.proofs.nodes.Kept.{IsValid-view}
+use Rattle.linked_hash_map.proofs.nodes.BookmarkMoves.{Goes, bookmarked_cut, outside_on, kept_on, to_visit_on}
 use Rattle.linked_hash_map.proofs.map.LinkedHashMap.visit_next.Goals as goal
 
 -- the visit goes on from the pair at its bookmark
-goes : (g : _) (c : goal.After-self-1 g) → Goes c.self.inside.table.held (pointer_of c.in-Some.at) (visit_of c.self.inside.visit) (record { bookmark = pointer_of_some c.bookmark_behind.result; unvisited = c.unvisited-unvisited.result - 1; current = Some (pointer_of c.in-Some.at) })
+goes : (g : _) (c : goal.After-self-1 g)
+    → Goes c.self.inside.table.held (pointer_of c.in-Some.at) (visit_of c.self.inside.visit)
+    (record {
+      bookmark = pointer_of_some c.bookmark_behind.result;
+      unvisited = c.unvisited-unvisited.result - 1;
+      current = Some (pointer_of c.in-Some.at);
+    })
 goes g c =
     let m = c.bookmark_behind in
     record {

@@ -4,7 +4,11 @@ use Rattle.linked_hash_map.specs.Touches.{IsTouched}
 use Rattle.linked_hash_map.proofs.map.insert.touch.Goals as goal
 
 pub returns-in-Touch-clause-touched : goal.returns-in-Touch-clause-touched
-returns-in-Touch-clause-touched g c = subst (λ m. IsTouched m (pointer_of c.args.at) c.args.table.now.held c.move_to_back.new.self.held) (sym c.in-Touch.is) (c.move_to_back.ensures.last, c.move_to_back.ensures.apart)
+returns-in-Touch-clause-touched g c = subst
+    (λ m. IsTouched m (pointer_of c.args.at) c.args.table.now.held c.move_to_back.new.self.held)
+    (sym c.in-Touch.is) (c.move_to_back.ensures.last, c.move_to_back.ensures.apart)
 
 pub returns-in-Keep-clause-touched : goal.returns-in-Keep-clause-touched
-returns-in-Keep-clause-touched g c = subst (λ m. IsTouched m (pointer_of c.args.at) c.args.table.now.held c.args.table.now.held) (sym c.in-Keep.is) refl
+returns-in-Keep-clause-touched g c =
+    subst (λ m. IsTouched m (pointer_of c.args.at) c.args.table.now.held c.args.table.now.held)
+    (sym c.in-Keep.is) refl

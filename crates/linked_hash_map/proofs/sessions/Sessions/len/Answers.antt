@@ -1,4 +1,4 @@
-use Rattle.linked_hash_map.proofs.SessionPairs.{IsValidTable-kept}
+use Rattle.linked_hash_map.proofs.session_table.Pairs.{IsValidTable-kept}
 use Rattle.linked_hash_map.proofs.sessions.Sessions.len.Goals as goal
 
 pub returns-clause-valid : goal.returns-clause-valid

@@ -4,9 +4,10 @@ use Rattle.linked_hash_map.specs.Pairs.{last}
 use Rattle.linked_hash_map.specs.SessionTables.{session_table, payload_of, total_weight, without, with_last, IsValidTable}
 use Rattle.linked_hash_map.specs.SessionsKept.{sessions_of}
 use Rattle.linked_hash_map.proofs.Callers.Lookups.{last-append}
-use Rattle.linked_hash_map.proofs.SessionLists.{total_weight-fit, IsLongestEnd-fit}
-use Rattle.linked_hash_map.proofs.SessionPairs.{IsValidTable-kept, total_weight-others}
-use Rattle.linked_hash_map.proofs.SessionPuts.{fit-with_last, payload_of-put, payload_of-stays, total_weight-put, length-gone, none-leaves, drop-with_last, length-with_last, is_some-weight}
+use Rattle.linked_hash_map.proofs.session_table.Lists.{total_weight-fit, IsLongestEnd-fit}
+use Rattle.linked_hash_map.proofs.session_table.Pairs.{IsValidTable-kept, total_weight-others}
+use Rattle.linked_hash_map.proofs.session_table.Puts.{fit-with_last, payload_of-put, payload_of-stays, total_weight-put, length-gone}
+use Rattle.linked_hash_map.proofs.session_table.Puts.{none-leaves, drop-with_last, length-with_last, is_some-weight}
 use Rattle.linked_hash_map.proofs.sessions.Sessions.put.Goals as goal
 
 pub returns-then-weight-self-clause-valid : goal.returns-then-weight-self-clause-valid
@@ -30,21 +31,23 @@ returns-in_default-clause-valid g c = rw (← c.self.view_is) (IsValidTable-kept
 
 pub returns-in_default-clause-stays_valid : goal.returns-in_default-clause-stays_valid
 returns-in_default-clause-stays_valid g c =
-    subst (λ ps. IsValidTable (session_table (sessions_of ps) c.self.inside.limit)) (sym c.allocate_for_put.ensures.pairs) (IsValidTable-kept c.self.invariant)
+    subst (λ ps. IsValidTable (session_table (sessions_of ps) c.self.inside.limit))
+    (sym c.allocate_for_put.ensures.pairs) (IsValidTable-kept c.self.invariant)
 
 pub returns-in_default-clause-succeeds : goal.returns-in_default-clause-succeeds
 returns-in_default-clause-succeeds g c =
-    let m = c.self.inside in
-    let all = sessions_of m.map.pairs in
+    let m = c.self.inside in let all = sessions_of m.map.pairs in
     let leaving = c.find_leaving-leaving in
     rw (← c.self.view_is) (λ some light.
-    let none = none-leaves leaving.result.count (m.limit - c.args.weight) (without all c.args.id) leaving.ensures.stay leaving.ensures.within (omega arith) in
+    let none = none-leaves leaving.result.count (m.limit - c.args.weight) (without all c.args.id)
+    leaving.ensures.stay leaving.ensures.within (omega arith) in
     let present = is_some-weight all c.args.id c.weight_at-replaced.ensures ∙ c.is_none-is_new.ensures in
     sym (present ∙ ap not (c.in_default.ensures.new none)) ∙ some)
 
 pub store-old-requires-clause-present : goal.store-old-requires-clause-present
 store-old-requires-clause-present g c =
-    rw c.allocate_for_put.ensures.pairs (is_some-weight (sessions_of c.self.inside.map.pairs) c.args.id c.weight_at-replaced.ensures ∙ c.is_none-is_new.ensures)
+    rw c.allocate_for_put.ensures.pairs (is_some-weight (sessions_of c.self.inside.map.pairs)
+    c.args.id c.weight_at-replaced.ensures ∙ c.is_none-is_new.ensures)
 
 pub store-old-requires-clause-enough : goal.store-old-requires-clause-enough
 store-old-requires-clause-enough g c = rw c.allocate_for_put.ensures.pairs c.find_leaving-leaving.ensures.within
@@ -60,8 +63,7 @@ overflow_add-self g c =
 
 pub invariant_of-self-2 : goal.invariant_of-self-2
 invariant_of-self-2 g c =
-    let m = c.self.inside in
-    let leaving = c.find_leaving-leaving in
+    let m = c.self.inside in let leaving = c.find_leaving-leaving in
     let others = without (sessions_of m.map.pairs) c.args.id in
     let left = drop leaving.result.count others in
     let few = total_weight-fit (m.limit - c.args.weight) others in
@@ -71,51 +73,54 @@ invariant_of-self-2 g c =
       mode = c.store-old.ensures.mode;
       sum =
           ap (λ w. w + c.args.weight) (leaving.ensures.staying ∙ sym (ap total_weight leaving.ensures.stay))
-          ∙ sym (ap total_weight (now ∙ drop-with_last (sessions_of m.map.pairs) leaving.result.count c.args.id c.args.weight c.args.payload leaving.ensures.within) ∙ total_weight-put c.args.weight c.args.id c.args.payload left);
+          ∙ sym (ap total_weight (now ∙ drop-with_last (sessions_of m.map.pairs)
+          leaving.result.count c.args.id c.args.weight c.args.payload leaving.ensures.within)
+          ∙ total_weight-put c.args.weight c.args.id c.args.payload left);
       within = omega (arith, leaving.ensures.staying);
     }
 
 pub returns-clause-stay : goal.returns-clause-stay
 returns-clause-stay g c =
-    let m = c.self.inside in
-    let leaving = c.find_leaving-leaving in
+    let m = c.self.inside in let leaving = c.find_leaving-leaving in
     let all = sessions_of m.map.pairs in
     let now = rw c.allocate_for_put.ensures.pairs at c.store-old.ensures.sessions in
     rw (← c.self.view_is) (
     now
     ∙ drop-with_last all leaving.result.count c.args.id c.args.weight c.args.payload leaving.ensures.within
-    ∙ fit-with_last m.limit c.args.weight c.args.id c.args.payload all (drop leaving.result.count (without all c.args.id)) (omega arith) leaving.ensures.stay)
+    ∙ fit-with_last m.limit c.args.weight c.args.id c.args.payload all
+    (drop leaving.result.count (without all c.args.id)) (omega arith) leaving.ensures.stay)
 
 pub returns-clause-longest : goal.returns-clause-longest
 returns-clause-longest g c = rw (returns-clause-stay g c) (IsLongestEnd-fit _ _)
 
 pub returns-clause-newest : goal.returns-clause-newest
 returns-clause-newest g c =
-    let leaving = c.find_leaving-leaving in
-    let all = sessions_of c.self.inside.map.pairs in
+    let leaving = c.find_leaving-leaving in let all = sessions_of c.self.inside.map.pairs in
     let now = rw c.allocate_for_put.ensures.pairs at c.store-old.ensures.sessions in
     ap last (now ∙ drop-with_last all leaving.result.count c.args.id c.args.weight c.args.payload leaving.ensures.within)
     ∙ last-append (drop leaving.result.count (without all c.args.id)) (c.args.id, c.args.weight, c.args.payload)
 
 pub returns-clause-payload : goal.returns-clause-payload
 returns-clause-payload g c =
-    let leaving = c.find_leaving-leaving in
-    let ps = c.self.inside.map.pairs in
+    let leaving = c.find_leaving-leaving in let ps = c.self.inside.map.pairs in
     let now = rw c.allocate_for_put.ensures.pairs at c.store-old.ensures.sessions in
-    ap (λ l. payload_of l c.args.id) (now ∙ drop-with_last (sessions_of ps) leaving.result.count c.args.id c.args.weight c.args.payload leaving.ensures.within)
+    ap (λ l. payload_of l c.args.id) (now ∙ drop-with_last (sessions_of ps) leaving.result.count
+    c.args.id c.args.weight c.args.payload leaving.ensures.within)
     ∙ payload_of-put ps leaving.result.count c.args.id c.args.weight c.args.payload
 
 pub returns-clause-others : goal.returns-clause-others
 returns-clause-others g c other apart =
-    let leaving = c.find_leaving-leaving in
-    let ps = c.self.inside.map.pairs in
+    let leaving = c.find_leaving-leaving in let ps = c.self.inside.map.pairs in
     let now = rw c.allocate_for_put.ensures.pairs at c.store-old.ensures.sessions in
-    rw (← c.self.view_is) (rw now (payload_of-stays ps leaving.result.count c.args.id other c.args.weight c.args.payload c.self.invariant.valid.distinct apart))
+    rw (← c.self.view_is) (rw now (payload_of-stays ps leaving.result.count c.args.id other
+    c.args.weight c.args.payload c.self.invariant.valid.distinct apart))
 
 pub returns-clause-gone : goal.returns-clause-gone
 returns-clause-gone g c =
     let all = rw c.allocate_for_put.ensures.pairs at c.store-old.ensures.gone in
-    rw (← c.self.view_is) (all ∙ ap (λ l. l ++ with_last (sessions_of c.self.inside.map.pairs) c.args.id c.args.weight c.args.payload) c.in-Ok.ensures.empty)
+    rw (← c.self.view_is) (all ∙ ap (λ l.
+    l ++ with_last (sessions_of c.self.inside.map.pairs) c.args.id c.args.weight c.args.payload)
+    c.in-Ok.ensures.empty)
 
 pub returns-clause-exact : goal.returns-clause-exact
 returns-clause-exact g c =

@@ -2,24 +2,30 @@ use Rattle.std.proofs.Common.{rules, ◌∙◌, arith}
 use Rattle.std.specs.Borrow.{MutBor}
 use denote.Param.Always.{always_mut}
 use Rattle.linked_hash_map.specs.SessionsKept.{sessions_of}
-use Rattle.linked_hash_map.proofs.SessionPairs.{IsValidTable-kept}
-use Rattle.linked_hash_map.proofs.SessionRetained.{sessions-retained, lighter-retained, always-called, callable-ready, weights-retained, total_weight-retained}
+use Rattle.linked_hash_map.proofs.session_table.Pairs.{IsValidTable-kept}
+use Rattle.linked_hash_map.proofs.session_table.Retained.{sessions-retained, lighter-retained, always-called, callable-ready}
+use Rattle.linked_hash_map.proofs.session_table.Retained.{weights-retained, total_weight-retained}
 use Rattle.linked_hash_map.proofs.sessions.Sessions.retain.Goals as goal
 
 pub retain-requires : goal.retain-requires
 retain-requires g c =
     callable-ready _ (λ (s : record { 0 : MutBor g.row.F.Denot }). always_mut g.F.FnMut s.0.now)
-    (λ s id weighted b left s' call always. always-called g.F.FnMut s.0.now (id, weighted.weight, weighted.payload) b left.payload s'.0.now (search rules) always)
+    (λ s id weighted b left s' call always. always-called g.F.FnMut s.0.now
+    (id, weighted.weight, weighted.payload) b left.payload s'.0.now (search rules) always)
     _ (λ s id weighted always key value is_id is_weighted. always) _ _ c.requires
 
 pub total_of-self-inside-requires : goal.total_of-self-inside-requires
 total_of-self-inside-requires g c =
-    let lighter = lighter-retained _ g.F.FnMut (λ (s : record { 0 : MutBor g.row.F.Denot }). s.0.now) (λ s id weighted b left s' call. search rules) _ _ _ c.retain.ensures.pairs in
+    let lighter =
+    lighter-retained _ g.F.FnMut (λ (s : record { 0 : MutBor g.row.F.Denot }). s.0.now)
+    (λ s id weighted b left s' call. search rules) _ _ _ c.retain.ensures.pairs in
     omega (arith, lighter, c.self.invariant.sum, c.self.invariant.within, c.self.ranges)
 
 pub invariant_of-self : goal.invariant_of-self
 invariant_of-self g c =
-    let lighter = lighter-retained _ g.F.FnMut (λ (s : record { 0 : MutBor g.row.F.Denot }). s.0.now) (λ s id weighted b left s' call. search rules) _ _ _ c.retain.ensures.pairs in
+    let lighter =
+    lighter-retained _ g.F.FnMut (λ (s : record { 0 : MutBor g.row.F.Denot }). s.0.now)
+    (λ s id weighted b left s' call. search rules) _ _ _ c.retain.ensures.pairs in
     record {
       valid = c.retain.ensures.stays_valid;
       mode = c.retain.ensures.keeps.mode ∙ c.self.invariant.mode;
@@ -28,14 +34,17 @@ invariant_of-self g c =
     }
 
 pub returns-clause-sessions : goal.returns-clause-sessions
-returns-clause-sessions g c =
-    rw (← c.self.view_is) (sessions-retained _ g.F.FnMut (λ (s : record { 0 : MutBor g.row.F.Denot }). s.0.now) (λ s id weighted b left s' call. search rules) _ _ _ c.retain.ensures.pairs)
+returns-clause-sessions g c = rw (← c.self.view_is)
+    (sessions-retained _ g.F.FnMut (λ (s : record { 0 : MutBor g.row.F.Denot }). s.0.now)
+    (λ s id weighted b left s' call. search rules) _ _ _ c.retain.ensures.pairs)
 
 pub returns-clause-weights : goal.returns-clause-weights
-returns-clause-weights g c = weights-retained g.F.FnMut c.args.keep c.args.self.now.sessions (sessions_of c.retain.new.self.pairs) (returns-clause-sessions g c)
+returns-clause-weights g c = weights-retained g.F.FnMut c.args.keep c.args.self.now.sessions
+    (sessions_of c.retain.new.self.pairs) (returns-clause-sessions g c)
 
 pub returns-clause-lighter : goal.returns-clause-lighter
-returns-clause-lighter g c = total_weight-retained g.F.FnMut c.args.keep c.args.self.now.sessions (sessions_of c.retain.new.self.pairs) (returns-clause-sessions g c)
+returns-clause-lighter g c = total_weight-retained g.F.FnMut c.args.keep c.args.self.now.sessions
+    (sessions_of c.retain.new.self.pairs) (returns-clause-sessions g c)
 
 pub returns-clause-valid : goal.returns-clause-valid
 returns-clause-valid g c = rw (← c.self.view_is) (IsValidTable-kept c.self.invariant)

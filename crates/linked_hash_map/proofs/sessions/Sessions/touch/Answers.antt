@@ -1,6 +1,7 @@
 use Rattle.std.proofs.Common.{◌≡◌, ◌⊎◌, inl, option_map, refl, sym, ap, ◌∙◌}
 use Rattle.linked_hash_map.specs.SessionTables.{session_table}
-use Rattle.linked_hash_map.proofs.SessionPairs.{IsValidTable-kept, IsKeptWithin-refreshed, sessions_of-refreshed, payload_of-sessions_of, payload_of-with_last_here, payload_of-with_last_apart}
+use Rattle.linked_hash_map.proofs.session_table.Pairs.{IsValidTable-kept, IsKeptWithin-refreshed, sessions_of-refreshed}
+use Rattle.linked_hash_map.proofs.session_table.Pairs.{payload_of-sessions_of, payload_of-with_last_here, payload_of-with_last_apart}
 use Rattle.linked_hash_map.proofs.sessions.Sessions.touch.Goals as goal
 
 -- two tables that a reference is lent out of are the same if each value written leaves the two so
@@ -14,10 +15,12 @@ pub returns-in-Some : goal.returns-in-Some
 returns-in-Some g c =
     let m = c.self.inside in
     rw (← c.self.view_is) (
-      inl-same (λ payload. ap (λ sessions. session_table sessions m.limit) (sessions_of-refreshed m.map c.args.id (sym c.in-Some.ensures.value) payload)),
+      inl-same (λ payload. ap (λ sessions. session_table sessions m.limit)
+          (sessions_of-refreshed m.map c.args.id (sym c.in-Some.ensures.value) payload)),
       record {
         writes_back = tt;
-        payload = ap (option_map (λ weighted. weighted.payload)) c.in-Some.ensures.value ∙ sym (payload_of-sessions_of m.map.pairs c.args.id);
+        payload = ap (option_map (λ weighted. weighted.payload)) c.in-Some.ensures.value
+            ∙ sym (payload_of-sessions_of m.map.pairs c.args.id);
         valid = IsValidTable-kept c.self.invariant;
         written = λ payload. payload_of-with_last_here m.map.pairs c.args.id _ payload;
         others = λ payload other apart. payload_of-with_last_apart m.map.pairs c.args.id other _ payload apart;
@@ -31,7 +34,8 @@ returns-in-None g c =
       refl,
       record {
         writes_back = tt;
-        payload = ap (option_map (λ weighted. weighted.payload)) c.in-None.ensures.value ∙ sym (payload_of-sessions_of m.map.pairs c.args.id);
+        payload = ap (option_map (λ weighted. weighted.payload)) c.in-None.ensures.value
+            ∙ sym (payload_of-sessions_of m.map.pairs c.args.id);
         valid = IsValidTable-kept c.self.invariant;
         written = λ payload. payload_of-with_last_here m.map.pairs c.args.id _ payload;
         others = λ payload other apart. payload_of-with_last_apart m.map.pairs c.args.id other _ payload apart;

@@ -1,16 +1,18 @@
 use Rattle.std.proofs.Common.{subst, arith}
 use Rattle.linked_hash_map.specs.SessionsKept.{sessions_of}
-use Rattle.linked_hash_map.proofs.LeavingSessions.{IsPast, IsPast-more, AreLeaving-past, few-past}
-use Rattle.linked_hash_map.proofs.SessionPairs.{length-sessions_of}
+use Rattle.linked_hash_map.proofs.session_table.Leaving.{IsPast, IsPast-more, AreLeaving-past, few-past}
+use Rattle.linked_hash_map.proofs.session_table.Pairs.{length-sessions_of}
 use Rattle.linked_hash_map.proofs.sessions.storage.find_leaving.Goals as goal
 
 pub returns-then-staying-weight_left-clause-stay : goal.returns-then-staying-weight_left-clause-stay
 returns-then-staying-weight_left-clause-stay g c =
-    (AreLeaving-past c.args.id c.args.weight_left (sessions_of c.args.map.now.pairs) (sessions_of c.loop-other.other-iterator) c.loop-other.invariant (omega arith)).stay
+    (AreLeaving-past c.args.id c.args.weight_left (sessions_of c.args.map.now.pairs)
+    (sessions_of c.loop-other.other-iterator) c.loop-other.invariant (omega arith)).stay
 
 pub returns-then-staying-weight_left-clause-staying : goal.returns-then-staying-weight_left-clause-staying
 returns-then-staying-weight_left-clause-staying g c =
-    (AreLeaving-past c.args.id c.args.weight_left (sessions_of c.args.map.now.pairs) (sessions_of c.loop-other.other-iterator) c.loop-other.invariant (omega arith)).weigh
+    (AreLeaving-past c.args.id c.args.weight_left (sessions_of c.args.map.now.pairs)
+    (sessions_of c.loop-other.other-iterator) c.loop-other.invariant (omega arith)).weigh
 
 pub overflow_add-count : goal.overflow_add-count
 overflow_add-count g c =
@@ -22,5 +24,6 @@ overflow_add-count g c =
 pub loop-other-preserved-then-id-other : goal.loop-other-preserved-then-id-other
 loop-other-preserved-then-id-other g c =
     let all = sessions_of c.args.map.now.pairs in
-    let past = subst (λ ps. IsPast c.args.id c.args.weight_left all c.loop-other.count c.loop-other.staying (sessions_of ps)) c.in-Some.ensures.steps c.loop-other.invariant in
+    let past = subst (λ ps. IsPast c.args.id c.args.weight_left all c.loop-other.count
+    c.loop-other.staying (sessions_of ps)) c.in-Some.ensures.steps c.loop-other.invariant in
     IsPast-more c.args.id c.args.weight_left all _ _ past c.if-id-other.true c.if-staying-weight_left.false

@@ -1,7 +1,7 @@
 use Rattle.std.proofs.Common.{◌++◌, length, drop, sym, ap, ◌∙◌, arith, length-drop}
 use Rattle.std.proofs.lemmas.List.{append_assoc, drop-drop}
 use Rattle.linked_hash_map.specs.SessionsKept.{sessions_of}
-use Rattle.linked_hash_map.proofs.Lists.{length-first_none, cons-without_first}
+use Rattle.linked_hash_map.proofs.lists.Elements.{length-first_none, cons-without_first}
 use Rattle.linked_hash_map.proofs.sessions.storage.remove_oldest.Goals as goal
 
 pub unreachable-requires : goal.unreachable-requires

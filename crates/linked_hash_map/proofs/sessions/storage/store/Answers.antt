@@ -1,7 +1,9 @@
 use Rattle.std.proofs.Common.{◌++◌, ◌∷◌, [], length, drop, not, true≢false, sym, ap, ◌∙◌, arith, length-drop}
 use Rattle.std.proofs.lemmas.List.{append_assoc}
 use Rattle.linked_hash_map.specs.SessionsKept.{sessions_of}
-use Rattle.linked_hash_map.proofs.SessionPuts.{room-left, with_last-new, sessions_of-drop, with_last-drop, length-without_new, find-new, payload_of-new, find-drop_new, not-absent}
+use Rattle.linked_hash_map.proofs.session_table.Puts.{room-left, with_last-new, sessions_of-drop}
+use Rattle.linked_hash_map.proofs.session_table.Puts.{with_last-drop, length-without_new, find-new}
+use Rattle.linked_hash_map.proofs.session_table.Puts.{payload_of-new, find-drop_new, not-absent}
 use Rattle.linked_hash_map.proofs.sessions.storage.store.Goals as goal
 
 pub remove_oldest-requires-clause-enough : goal.remove_oldest-requires-clause-enough
@@ -14,7 +16,9 @@ pub insert_newest-requires-clause-room : goal.insert_newest-requires-clause-room
 insert_newest-requires-clause-room g c = λ _.
     let ps = c.args.map.now.pairs in
     let none = find-new ps c.args.session.0 (c.requires.present ∙ ap not c.if-is_new.true) in
-    let room = room-left c.args.count (length ps) c.args.map.now.capacity (omega (arith, c.requires.enough, length-without_new ps c.args.session.0 none)) c.requires.valid.within (λ zero. c.requires.room zero c.if-is_new.true) in
+    let room = room-left c.args.count (length ps) c.args.map.now.capacity
+    (omega (arith, c.requires.enough, length-without_new ps c.args.session.0 none))
+    c.requires.valid.within (λ zero. c.requires.room zero c.if-is_new.true) in
     omega (arith, room, ap length c.remove_oldest.ensures.pairs, length-drop c.args.count ps, c.remove_oldest.ensures.capacity)
 
 pub returns-then-is_new-clause-sessions : goal.returns-then-is_new-clause-sessions
@@ -22,15 +26,17 @@ returns-then-is_new-clause-sessions g c =
     let ps = c.args.map.now.pairs in
     let none = find-new ps c.args.session.0 (c.requires.present ∙ ap not c.if-is_new.true) in
     rw (c.insert_newest.ensures.sessions, c.remove_oldest.ensures.pairs)
-    (with_last-drop ps c.args.count c.args.session.0 c.args.session.1 c.args.session.2 none (omega (arith, c.requires.enough, length-without_new ps c.args.session.0 none)))
+    (with_last-drop ps c.args.count c.args.session.0 c.args.session.1 c.args.session.2 none
+    (omega (arith, c.requires.enough, length-without_new ps c.args.session.0 none)))
 
 pub returns-then-is_new-clause-gone : goal.returns-then-is_new-clause-gone
 returns-then-is_new-clause-gone g c =
-    let ps = c.args.map.now.pairs in
-    let left = c.remove_oldest.new.map.pairs in
+    let ps = c.args.map.now.pairs in let left = c.remove_oldest.new.map.pairs in
     let session = c.args.session in
     let none = find-new ps session.0 (c.requires.present ∙ ap not c.if-is_new.true) in
-    ap (λ l. c.remove_oldest.new.gone.items ++ l) (c.insert_newest.ensures.sessions ∙ with_last-new left session.0 session.1 session.2 (find-drop_new ps c.args.count session.0 none c.remove_oldest.ensures.pairs))
+    ap (λ l. c.remove_oldest.new.gone.items ++ l)
+    (c.insert_newest.ensures.sessions ∙ with_last-new left session.0 session.1 session.2
+    (find-drop_new ps c.args.count session.0 none c.remove_oldest.ensures.pairs))
     ∙ sym (append_assoc c.remove_oldest.new.gone.items (sessions_of left) _)
     ∙ ap (λ l. l ++ session ∷ []) c.remove_oldest.ensures.gone
     ∙ append_assoc c.args.gone.now.items (sessions_of ps) _
@@ -41,7 +47,8 @@ returns-then-is_new-clause-old g c =
     let ps = c.args.map.now.pairs in
     let none = find-new ps c.args.session.0 (c.requires.present ∙ ap not c.if-is_new.true) in
     c.insert_newest.ensures.old
-    ∙ payload_of-new c.remove_oldest.new.map.pairs c.args.session.0 (find-drop_new ps c.args.count c.args.session.0 none c.remove_oldest.ensures.pairs)
+    ∙ payload_of-new c.remove_oldest.new.map.pairs c.args.session.0
+    (find-drop_new ps c.args.count c.args.session.0 none c.remove_oldest.ensures.pairs)
     ∙ sym (payload_of-new ps c.args.session.0 none)
 
 pub insert_newest-old-requires-clause-room : goal.insert_newest-old-requires-clause-room
@@ -49,8 +56,9 @@ insert_newest-old-requires-clause-room g c = λ none.
     absurd (true≢false (sym (not-absent c.args.map.now.pairs c.args.session.0 (c.requires.present ∙ ap not c.if-is_new.false) none)))
 
 pub returns-clause-sessions : goal.returns-clause-sessions
-returns-clause-sessions g c =
-    ap sessions_of c.remove_oldest-2.ensures.pairs ∙ sessions_of-drop c.args.count c.insert_newest-old.new.map.pairs ∙ ap (drop c.args.count) c.insert_newest-old.ensures.sessions
+returns-clause-sessions g c = ap sessions_of c.remove_oldest-2.ensures.pairs
+    ∙ sessions_of-drop c.args.count c.insert_newest-old.new.map.pairs
+    ∙ ap (drop c.args.count) c.insert_newest-old.ensures.sessions
 
 pub returns-clause-gone : goal.returns-clause-gone
 returns-clause-gone g c = c.remove_oldest-2.ensures.gone ∙ ap (λ l. c.args.gone.now.items ++ l) c.insert_newest-old.ensures.sessions

@@ -1,5 +1,5 @@
 use Rattle.std.proofs.Common.{arith}
-use Rattle.linked_hash_map.proofs.SessionRetained.{total_weight-next}
+use Rattle.linked_hash_map.proofs.session_table.Retained.{total_weight-next}
 use Rattle.linked_hash_map.proofs.sessions.storage.total_of.Goals as goal
 
 pub overflow_add-total : goal.overflow_add-total

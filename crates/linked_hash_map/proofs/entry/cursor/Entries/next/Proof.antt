@@ -14,7 +14,8 @@ use mir.MapTy.{inst_fn}
 use mir.Syntax.{Args, Dict, a_type, dcons, dnil, named}
 use mir.Val.{Val}
 use types.Logic.{Logic, sem}
-use types.Kit.{‵, raw, ◌⊛◌, some, later, ◌$◌, ◌∵◌, !, qed, move, drop, use0, use1, use2, split, join, pick, await, rewrite, suffices, frame, group, by}
+use types.Kit.{‵, raw, ◌⊛◌, some, later, ◌$◌, ◌∵◌, !, qed, move, drop, use0, use1, use2, split}
+use types.Kit.{join, pick, await, rewrite, suffices, frame, group, by}
 use types.Run.{enter, addr, stop, no_more, and_then, returns}
 use types.ByLocal.{alloc_all, pass_all, free_all, look_at, get, through, sets, lands_as}
 use denote.Exit.{no}
@@ -67,15 +68,19 @@ use Rattle.linked_hash_map.proofs.entry.cursor.Entries.next.Code as code
 
 -- if a lender follows a part, and the part is handed on whole or rests at v, the lender follows
 -- what is handed on, or rests
-handed_on : {M : Type 1} {𝓤 : Ura M} (𝓛 : Logic 𝓤) (R U : RattleType) (γ γ' : GName) (F : U.Denot → R.Denot) (v : U.Denot) (n : maybe.Option GName) → ((δ : GName) → n ≡ maybe.some δ → δ ≡ γ')
+handed_on : {M : Type 1} {𝓤 : Ura M} (𝓛 : Logic 𝓤) (R U : RattleType) (γ γ' : GName)
+    (F : U.Denot → R.Denot) (v : U.Denot) (n : maybe.Option GName)
+    → ((δ : GName) → n ≡ maybe.some δ → δ ≡ γ')
     → ent 𝓤 (sep 𝓤 (sem 𝓛 (follows R U γ γ' F)) (sem 𝓛 (follows_if U U γ' n (λ w. w) v))) (sem 𝓛 (follows_if R U γ n F (F v)))
 unfolding follows_by
 handed_on 𝓛 R U γ γ' F v maybe.none same = followed 𝓛 R U F γ γ' v
-handed_on {𝓤 = 𝓤} 𝓛 R U γ γ' F v (maybe.some δ) same =
-    subst (λ (ε : GName). ent 𝓤 (sep 𝓤 (sem 𝓛 (follows R U γ γ' F)) (sem 𝓛 (follows U U γ' δ (λ w. w)))) (sem 𝓛 (follows R U γ ε F))) (sym (same δ refl))
+handed_on {𝓤 = 𝓤} 𝓛 R U γ γ' F v (maybe.some δ) same = subst
+    (λ (ε : GName). ent 𝓤 (sep 𝓤 (sem 𝓛 (follows R U γ γ' F)) (sem 𝓛 (follows U U γ' δ (λ w. w))))
+    (sem 𝓛 (follows R U γ ε F))) (sym (same δ refl))
     (fst∗ 𝓤 (sem 𝓛 (follows R U γ γ' F)) (sem 𝓛 (follows U U γ' δ (λ w. w))))
 
-module _ {K V S H : Type 0} {g : eq.Ghosts K} {h : hash.Ghosts K} {b : builder.Ghosts S H} {w : hasher.Ghosts H} (e : Option (OccupiedEntry K V S H g h b w)) where
+module _ {K V S H : Type 0} {g : eq.Ghosts K} {h : hash.Ghosts K} {b : builder.Ghosts S H}
+    {w : hasher.Ghosts H} (e : Option (OccupiedEntry K V S H g h b w)) where
   -- what `next_entry` says of its result: of the name of its reference, and of the map that was
   -- lent
   abbrev Named : GName → Type 0
@@ -97,7 +102,8 @@ module _ {K V S H : Type 0} {g : eq.Ghosts K} {h : hash.Ghosts K} {b : builder.G
     abbrev NoneLeft : Type 0
     NoneLeft = IfNone e (to_visit m ≡ [])
 
-same_name : {K V S H : Type 0} {g : eq.Ghosts K} {h : hash.Ghosts K} {b : builder.Ghosts S H} {w : hasher.Ghosts H} (e : Option (OccupiedEntry K V S H g h b w)) (γ : GName)
+same_name : {K V S H : Type 0} {g : eq.Ghosts K} {h : hash.Ghosts K} {b : builder.Ghosts S H}
+    {w : hasher.Ghosts H} (e : Option (OccupiedEntry K V S H g h b w)) (γ : GName)
     → Named e γ → (δ : GName) → name_if_some (λ o. o.map.ghost_name) e ≡ maybe.some δ → δ ≡ γ
 same_name None γ said δ is = search rules
 same_name (Some o) γ said δ is = search rules
@@ -118,14 +124,17 @@ record Bounds (K S H : Type 0) : Type 1 where
 
 module _ (K V S H : RattleType) (B : Bounds K.Denot S.Denot H.Denot) where
   abbrev args : Args
-  args = bounded (a_type ∷ a_type ∷ a_type ∷ a_type ∷ []) (K, (V, (S, (H, tt)))) (dcons B.total-dict (dcons B.eq-dict (dcons B.hash-dict (dcons B.builder-dict (dcons B.hasher-dict (dcons B.drops dnil))))))
+  args = bounded (a_type ∷ a_type ∷ a_type ∷ a_type ∷ []) (K, (V, (S, (H, tt))))
+      (dcons B.total-dict (dcons B.eq-dict
+      (dcons B.hash-dict (dcons B.builder-dict (dcons B.hasher-dict (dcons B.drops dnil))))))
 
   -- the rows of the map, of a cursor and of an entry
   abbrev Map : RattleType
   Map = map.the_row (param 0 K) (param 1 V) (param 2 S) (param 3 H) B.eq B.hash B.builder B.hasher
 
   abbrev Cursor : Lft → RattleType
-  Cursor κ = cursor.the_row (record { mir = named 1; lft = κ }) (param 0 K) (param 1 V) (param 2 S) (param 3 H) B.eq B.hash B.builder B.hasher
+  Cursor κ = cursor.the_row (record { mir = named 1; lft = κ }) (param 0 K) (param 1 V) (param 2 S)
+      (param 3 H) B.eq B.hash B.builder B.hasher
 
   abbrev Entry : Lft → RattleType
   Entry κ = entry.the_row (record { mir = named 0; lft = κ }) (param 0 K) (param 1 V) (param 2 S) (param 3 H) B.eq B.hash B.builder B.hasher
@@ -137,7 +146,8 @@ module _ (K V S H : RattleType) (B : Bounds K.Denot S.Denot H.Denot) where
   abbrev Lends : MutBor (Entries K.Denot V.Denot S.Denot H.Denot) → MutBor (LinkedMap K.Denot V.Denot S.Denot) → Fml
   Lends = lends_map (param 0 K) (param 1 V) (param 2 S) (param 3 H) members B.builder B.hasher
 
-  abbrev LendsNext : MutBor (LinkedMap K.Denot V.Denot S.Denot) → Option (OccupiedEntry K.Denot V.Denot S.Denot H.Denot B.eq B.hash B.builder B.hasher) → Fml
+  abbrev LendsNext : MutBor (LinkedMap K.Denot V.Denot S.Denot)
+      → Option (OccupiedEntry K.Denot V.Denot S.Denot H.Denot B.eq B.hash B.builder B.hasher) → Fml
   LendsNext = lends_next_entry (param 0 K) (param 1 V) (param 2 S) (param 3 H) members B.builder B.hasher
 
   abbrev ended : Ended
@@ -147,36 +157,72 @@ module _ (K V S H : RattleType) (B : Bounds K.Denot S.Denot H.Denot) where
   map-ended = g.ended K V S H B.total B.total-dict B.eq B.eq-dict B.hash B.hash-dict B.builder B.builder-dict B.hasher B.hasher-dict B.drops
 
   abbrev entry-ended : Ended
-  entry-ended = h.ended K V S H B.total B.total-dict B.eq B.eq-dict B.hash B.hash-dict B.builder B.builder-dict B.hasher B.hasher-dict B.drops
+  entry-ended = h.ended K V S H B.total B.total-dict B.eq B.eq-dict B.hash B.hash-dict B.builder
+      B.builder-dict B.hasher B.hasher-dict B.drops
 
   abbrev stayed : Stays ended.signature.params ended.kept
-  stayed = (stay_dropped (mut_ref_to (0 ∷ []) tt (plain (λ κs. cursor.the_row (named_lft 6 1 tt κs) (param 0 K) (param 1 V) (param 2 S) (param 3 H) B.eq B.hash B.builder B.hasher))) no, tt)
+  stayed = (
+    stay_dropped (mut_ref_to (0 ∷ []) tt (plain (λ κs. cursor.the_row (named_lft 6 1 tt κs)
+        (param 0 K) (param 1 V) (param 2 S) (param 3 H) B.eq B.hash B.builder B.hasher))) no,
+    tt,
+  )
 
 pub next_spec : {M : Type 1} → statement M
 next_spec 𝓤 𝓛 𝓜 𝓡 wired K V S H LK LV LS LH b₀ d₀ b₁ d₁ b₂ d₂ b₃ d₃ b₄ d₄ d₅ m₀ m₁ m₂ m₃ m₄ m₅ =
-    let B : Bounds K.Denot S.Denot H.Denot = record { total = b₀; total-dict = d₀; eq = b₁; eq-dict = d₁; hash = b₂; hash-dict = d₂; builder = b₃; builder-dict = d₃; hasher = b₄; hasher-dict = d₄; drops = d₅ } in
+    let B : Bounds K.Denot S.Denot H.Denot =
+    record {
+      total = b₀;
+      total-dict = d₀;
+      eq = b₁;
+      eq-dict = d₁;
+      hash = b₂;
+      hash-dict = d₂;
+      builder = b₃;
+      builder-dict = d₃;
+      hasher = b₄;
+      hasher-dict = d₄;
+      drops = d₅;
+    } in
     let c = f.clauses K V S H b₀ d₀ b₁ d₁ b₂ d₂ b₃ d₃ b₄ d₄ d₅ 𝓛 𝓜.mem 𝓡.returns in
     let Whole = Cursor K V S H B [] in let Part = Map K V S H B in
-    proved 𝓛 (ended K V S H B) (stayed K V S H B) c 𝓜 𝓡 (Goes-spent_ref 𝓛 6 (0 ∷ []) tt (plain (λ κs. cursor.the_row (named_lft 6 1 tt κs) (param 0 K) (param 1 V) (param 2 S) (param 3 H) b₁ b₂ b₃ b₄)), tt)
-    (f.Key.name (args K V S H B)) (inst_fn (args K V S H B) code.function) (code.unfolded 𝓤 𝓛.H 𝓜 𝓡 wired (K, (V, (S, (H, tt)))) d₀ d₁ d₂ d₃ d₄ d₅)
-    (λ κs. (mut_vals, tt)) (λ κs. (mut_Tells (named 0) κs.0 (cursor.the_row (named_lft 6 1 tt κs) (param 0 K) (param 1 V) (param 2 S) (param 3 H) b₁ b₂ b₃ b₄), tt)) (λ κs qs bounds a _ are.
+    proved 𝓛 (ended K V S H B) (stayed K V S H B) c 𝓜 𝓡 (
+      Goes-spent_ref 𝓛 6 (0 ∷ []) tt (plain (λ κs. cursor.the_row (named_lft 6 1 tt κs) (param 0 K)
+          (param 1 V) (param 2 S) (param 3 H) b₁ b₂ b₃ b₄)),
+      tt,
+    )
+    (f.Key.name (args K V S H B)) (inst_fn (args K V S H B) code.function)
+    (code.unfolded 𝓤 𝓛.H 𝓜 𝓡 wired (K, (V, (S, (H, tt)))) d₀ d₁ d₂ d₃ d₄ d₅)
+    (λ κs. (mut_vals, tt)) (λ κs. (
+      mut_Tells (named 0) κs.0 (cursor.the_row (named_lft 6 1 tt κs)
+          (param 0 K) (param 1 V) (param 2 S) (param 3 H) b₁ b₂ b₃ b₄),
+      tt,
+    )) (λ κs qs bounds a _ are.
     let G = triple_of 𝓛 (map-ended K V S H B).signature (g.spec K V S H b₀ d₀ b₁ d₁ b₂ d₂ b₃ d₃ b₄ d₄ d₅ 𝓛 𝓜.mem 𝓡.returns) in
     let z : G.Ghost = ((κs, qs, bounds, a, (mut_vals a.0, tt)), tt) in
     let Lent = MutRef (named 0) κs.0 Part in
     let k-lives = κs.1.1.0 ⊑ K.lives in let v-lives = κs.1.1.1.0 ⊑ V.lives in
     let s-lives = κs.1.1.1.1.0 ⊑ S.lives in let h-lives = κs.1.1.1.1.1.0 ⊑ H.lives in
-    qed 𝓛 (raw (on_entry 𝓛 (ended K V S H B).signature κs qs a (mut_vals a.0, tt)) ∷ (raw (fact 𝓤 k-lives) ⊛ raw (fact 𝓤 v-lives) ⊛ raw (fact 𝓤 s-lives) ⊛ raw (fact 𝓤 h-lives) ⊛ ‵ ftrue) ∷ []) ∵
-    move ! (1 ∷ []) $ split ! $ heard ! _ (λ k-within. split ! $ heard ! _ (λ v-within. split ! $ heard ! _ (λ s-within. split ! $ heard ! _ (λ h-within.
-    use0 𝓛 (raw (fact 𝓤 h-lives)) (fact_i 𝓤 h-lives (emp 𝓤) h-within) $ join ! $ use0 𝓛 (raw (fact 𝓤 s-lives)) (fact_i 𝓤 s-lives (emp 𝓤) s-within) $ join ! $
-    use0 𝓛 (raw (fact 𝓤 v-lives)) (fact_i 𝓤 v-lives (emp 𝓤) v-within) $ join ! $ use0 𝓛 (raw (fact 𝓤 k-lives)) (fact_i 𝓤 k-lives (emp 𝓤) k-within) $ join ! $
+    qed 𝓛 (raw (on_entry 𝓛 (ended K V S H B).signature κs qs a (mut_vals a.0, tt))
+    ∷ (raw (fact 𝓤 k-lives) ⊛ raw (fact 𝓤 v-lives) ⊛ raw (fact 𝓤 s-lives) ⊛ raw (fact 𝓤 h-lives)
+    ⊛ ‵ ftrue) ∷ []) ∵
+    move ! (1 ∷ []) $ split ! $ heard ! _ (λ k-within. split ! $
+    heard ! _ (λ v-within. split ! $ heard ! _ (λ s-within. split ! $ heard ! _ (λ h-within.
+    use0 𝓛 (raw (fact 𝓤 h-lives)) (fact_i 𝓤 h-lives (emp 𝓤) h-within) $ join ! $
+    use0 𝓛 (raw (fact 𝓤 s-lives)) (fact_i 𝓤 s-lives (emp 𝓤) s-within) $ join ! $
+    use0 𝓛 (raw (fact 𝓤 v-lives)) (fact_i 𝓤 v-lives (emp 𝓤) v-within) $ join ! $
+    use0 𝓛 (raw (fact 𝓤 k-lives)) (fact_i 𝓤 k-lives (emp 𝓤) k-within) $ join ! $
     move ! (1 ∷ 0 ∷ []) $ use2 𝓛 (raw (G.pre z)) (id⊢ 𝓤 _) $ enter ! _ _ _ _ _ $ alloc_all ! (λ l. pass_all ! refl ((tt, tt), tt) $
     sets ! (addr ! (through ! refl (stop !))) refl (tt, tt) $
     calls_at ! (framed 𝓤 𝓛.H 𝓜 (tables 𝓤 𝓛.H 𝓜 𝓡 𝓡.env)) G
-    (as_map.met 𝓤 𝓛 𝓜 𝓡 (code.calls-linked_hash_map::entry::cursor::Entries::as_map 𝓡.env wired) K V S H LK LV LS LH b₀ d₀ b₁ d₁ b₂ d₂ b₃ d₃ b₄ d₄ d₅ m₀ m₁ m₂ m₃ m₄ m₅) z
+    (as_map.met 𝓤 𝓛 𝓜 𝓡 (code.calls-linked_hash_map::entry::cursor::Entries::as_map 𝓡.env wired) K V
+    S H LK LV LS LH b₀ d₀ b₁ d₁ b₂ d₂ b₃ d₃ b₄ d₄ d₅ m₀ m₁ m₂ m₃ m₄ m₅) z
     (and_then ! (get ! refl) (no_more !)) (λ v.
     use1 𝓛 (later (some (λ (r : Lent.Denot).
-    ((‵ (flft κs.0 qs.0) ⊛ ‵ (flft κs.1.0 qs.1.0) ⊛ ‵ (flft κs.1.1.0 qs.1.1.0) ⊛ ‵ (flft κs.1.1.1.0 qs.1.1.1.0) ⊛ ‵ (flft κs.1.1.1.1.0 qs.1.1.1.1.0) ⊛ ‵ (flft κs.1.1.1.1.1.0 qs.1.1.1.1.1.0) ⊛ ‵ ftrue) ⊛ ‵ (Lent.own_val r (v ∷ []))) ⊛
-    some (λ (ws : Lasts (map-ended K V S H B) κs a). ‵ (lasts (map-ended K V S H B) κs a ws) ⊛ (‵ (Lends K V S H B a.0 r) ⊛ raw (fact 𝓤 (r.now ≡ a.0.now.map.now))))))) (id⊢ 𝓤 _) $
+    ((‵ (flft κs.0 qs.0) ⊛ ‵ (flft κs.1.0 qs.1.0) ⊛ ‵ (flft κs.1.1.0 qs.1.1.0)
+    ⊛ ‵ (flft κs.1.1.1.0 qs.1.1.1.0) ⊛ ‵ (flft κs.1.1.1.1.0 qs.1.1.1.1.0)
+    ⊛ ‵ (flft κs.1.1.1.1.1.0 qs.1.1.1.1.1.0) ⊛ ‵ ftrue) ⊛ ‵ (Lent.own_val r (v ∷ []))) ⊛
+    some (λ (ws : Lasts (map-ended K V S H B) κs a). ‵ (lasts (map-ended K V S H B) κs a ws)
+    ⊛ (‵ (Lends K V S H B a.0 r) ⊛ raw (fact 𝓤 (r.now ≡ a.0.now.map.now))))))) (id⊢ 𝓤 _) $
     await ! tt $ pick ! (λ r. split ! $ split ! $ split ! $ move ! (2 ∷ []) $ peeks ! Lent (Is Lent) (shows 𝓛 Lent) r (v ∷ []) (λ is.
     let at = mut_Tells (named 0) κs.0 Part r (v ∷ []) is in
     lands_as ! (ap only at) refl (tt, tt) $ rewrite ! 0 (λ (w : Val). ‵ (Lent.own_val r (w ∷ []))) (ap only at) refl $
@@ -184,34 +230,63 @@ next_spec 𝓤 𝓛 𝓜 𝓡 wired K V S H LK LV LS LH b₀ d₀ b₁ d₁ b₂
     move ! (3 ∷ []) $ pick ! (λ ws. split ! $ drop ! $ split ! $ move ! (1 ∷ []) $ heard ! _ (λ as_lent_to.
     -- [what follows; what was lent; the token of κs.0; the other tokens]
     let N = triple_of 𝓛 (entry-ended K V S H B).signature (h.spec K V S H b₀ d₀ b₁ d₁ b₂ d₂ b₃ d₃ b₄ d₄ d₅ 𝓛 𝓜.mem 𝓡.returns) in
-    let u : N.Ghost = (((κs.0, κs.1.1), (qs.0, qs.1.1), (bounds.1.0, (bounds.1.1.0, (bounds.1.1.1.0, tt))), (r, tt), (mut_vals r, tt)), tt) in
+    let u : N.Ghost = (
+      (
+        (κs.0, κs.1.1),
+        (qs.0, qs.1.1),
+        (bounds.1.0, (bounds.1.1.0, (bounds.1.1.1.0, tt))),
+        (r, tt),
+        (mut_vals r, tt),
+      ),
+      tt,
+    ) in
     nothing ! $ move ! (2 ∷ 0 ∷ []) $ join ! $ move ! (3 ∷ []) $ split ! $ move ! (4 ∷ 1 ∷ []) $ join ! $ move ! (0 ∷ 2 ∷ []) $ join ! $
-    nothing ! $ use0 𝓛 (raw (fact 𝓤 h-lives)) (fact_i 𝓤 h-lives (emp 𝓤) h-within) $ join ! $ use0 𝓛 (raw (fact 𝓤 s-lives)) (fact_i 𝓤 s-lives (emp 𝓤) s-within) $ join ! $
-    use0 𝓛 (raw (fact 𝓤 v-lives)) (fact_i 𝓤 v-lives (emp 𝓤) v-within) $ join ! $ use0 𝓛 (raw (fact 𝓤 k-lives)) (fact_i 𝓤 k-lives (emp 𝓤) k-within) $ join ! $
+    nothing ! $ use0 𝓛 (raw (fact 𝓤 h-lives)) (fact_i 𝓤 h-lives (emp 𝓤) h-within) $ join ! $
+    use0 𝓛 (raw (fact 𝓤 s-lives)) (fact_i 𝓤 s-lives (emp 𝓤) s-within) $ join ! $
+    use0 𝓛 (raw (fact 𝓤 v-lives)) (fact_i 𝓤 v-lives (emp 𝓤) v-within) $ join ! $
+    use0 𝓛 (raw (fact 𝓤 k-lives)) (fact_i 𝓤 k-lives (emp 𝓤) k-within) $ join ! $
     move ! (1 ∷ 0 ∷ []) $ use2 𝓛 (raw (N.pre u)) (id⊢ 𝓤 _) $
     calls_at ! (framed 𝓤 𝓛.H 𝓜 (tables 𝓤 𝓛.H 𝓜 𝓡 𝓡.env)) N
-    (next_entry.met 𝓤 𝓛 𝓜 𝓡 (code.calls-linked_hash_map::map::LinkedHashMap::next_entry 𝓡.env wired) K V S H LK LV LS LH b₀ d₀ b₁ d₁ b₂ d₂ b₃ d₃ b₄ d₄ d₅ m₀ m₁ m₂ m₃ m₄ m₅) u
+    (next_entry.met 𝓤 𝓛 𝓜 𝓡 (code.calls-linked_hash_map::map::LinkedHashMap::next_entry 𝓡.env wired)
+    K V S H LK LV LS LH b₀ d₀ b₁ d₁ b₂ d₂ b₃ d₃ b₄ d₄ d₅ m₀ m₁ m₂ m₃ m₄ m₅) u
     (and_then ! (get ! refl) (no_more !)) (λ w.
     let Given = option.the_row (Entry K V S H B κs.0) in
     use1 𝓛 (later (some (λ (e : Given.Denot).
-    ((‵ (flft κs.0 qs.0) ⊛ ‵ (flft κs.1.1.0 qs.1.1.0) ⊛ ‵ (flft κs.1.1.1.0 qs.1.1.1.0) ⊛ ‵ (flft κs.1.1.1.1.0 qs.1.1.1.1.0) ⊛ ‵ (flft κs.1.1.1.1.1.0 qs.1.1.1.1.1.0) ⊛ ‵ ftrue) ⊛ ‵ (Given.own_val e (w ∷ []))) ⊛
-    some (λ (ws : Lasts (entry-ended K V S H B) u.0.0 u.0.3). ‵ (lasts (entry-ended K V S H B) u.0.0 u.0.3 ws) ⊛ (‵ (LendsNext K V S H B r e) ⊛ raw (fact 𝓤 (Named e r.ghost_name))
-    ⊛ raw (fact 𝓤 (Visits e r.now)) ⊛ raw (fact 𝓤 (Value e r.now b₁.eq)) ⊛ raw (fact 𝓤 (SamePairs e r.now)) ⊛ raw (fact 𝓤 (Kept e r.now)) ⊛ raw (fact 𝓤 (IsValid b₁.eq r.now)) ⊛ raw (fact 𝓤 (NoneLeft e r.now))))))) (id⊢ 𝓤 _) $
+    ((‵ (flft κs.0 qs.0) ⊛ ‵ (flft κs.1.1.0 qs.1.1.0) ⊛ ‵ (flft κs.1.1.1.0 qs.1.1.1.0)
+    ⊛ ‵ (flft κs.1.1.1.1.0 qs.1.1.1.1.0) ⊛ ‵ (flft κs.1.1.1.1.1.0 qs.1.1.1.1.1.0) ⊛ ‵ ftrue)
+    ⊛ ‵ (Given.own_val e (w ∷ []))) ⊛
+    some (λ (ws : Lasts (entry-ended K V S H B) u.0.0 u.0.3).
+    ‵ (lasts (entry-ended K V S H B) u.0.0 u.0.3 ws)
+    ⊛ (‵ (LendsNext K V S H B r e) ⊛ raw (fact 𝓤 (Named e r.ghost_name))
+    ⊛ raw (fact 𝓤 (Visits e r.now)) ⊛ raw (fact 𝓤 (Value e r.now b₁.eq))
+    ⊛ raw (fact 𝓤 (SamePairs e r.now)) ⊛ raw (fact 𝓤 (Kept e r.now))
+    ⊛ raw (fact 𝓤 (IsValid b₁.eq r.now)) ⊛ raw (fact 𝓤 (NoneLeft e r.now))))))) (id⊢ 𝓤 _) $
     await ! tt $ pick ! (λ e. split ! $ split ! $ split ! $ move ! (3 ∷ []) $ pick ! (λ ws'. split ! $ drop ! $ split ! $ move ! (1 ∷ []) $
-    split ! $ heard ! _ (λ name. split ! $ heard ! _ (λ visits. split ! $ heard ! _ (λ value. split ! $ heard ! _ (λ pairs. split ! $ heard ! _ (λ keeps. split ! $ heard ! _ (λ valid. heard ! _ (λ none.
+    split ! $ heard ! _ (λ name. split ! $
+    heard ! _ (λ visits. split ! $ heard ! _ (λ value. split ! $ heard ! _
+    (λ pairs. split ! $ heard ! _ (λ keeps. split ! $ heard ! _ (λ valid. heard ! _ (λ none.
     -- [where it rests; the token of κs.0; the tokens of the parameters; the result; the token of
     -- κs.1; what follows]
     move ! (3 ∷ []) $ peeks ! Given (Is Given) (shows 𝓛 Given) e (w ∷ []) (λ it.
-    let laws = entry-laws.the_row_laws (record { mir = named 0; lft = κs.0 }) (param 0 K) (param 1 V) (param 2 S) (param 3 H) b₁ b₂ b₃ b₄ (param_laws 0 K LK) (param_laws 1 V LV) (param_laws 2 S LS) (param_laws 3 H LH) in
+    let laws = entry-laws.the_row_laws (record { mir = named 0; lft = κs.0 }) (param 0 K)
+    (param 1 V) (param 2 S) (param 3 H) b₁ b₂ b₃ b₄ (param_laws 0 K LK) (param_laws 1 V LV)
+    (param_laws 2 S LS) (param_laws 3 H LH) in
     lands_as ! refl refl (((option_laws (Entry K V S H B κs.0) laws).lawful 𝓛).typed e (w ∷ []) it).0 $
-    returns ! (look_at ! 0 refl) $ free_all ! refl $ suffices ! _ (ends_at 𝓛 (ended K V S H B) (stayed K V S H B) c z w e (tt, tt) (tt, tt)) $
+    returns ! (look_at ! 0 refl) $ free_all ! refl $
+    suffices ! _ (ends_at 𝓛 (ended K V S H B) (stayed K V S H B) c z w e (tt, tt) (tt, tt)) $
     let lent_to = a.0.now in
-    move ! (5 ∷ 1 ∷ []) $ use2 𝓛 (‵ (follows_if Whole Part a.0.ghost_name (name_if_some (λ o. o.map.ghost_name) e) (with_cursor_map lent_to) (with_cursor_map lent_to r.now)))
-    (handed_on 𝓛 Whole Part a.0.ghost_name r.ghost_name (with_cursor_map lent_to) r.now (name_if_some (λ o. o.map.ghost_name) e) (same_name e r.ghost_name name)) $
-    rewrite ! 0 (λ (m : Part.Denot). ‵ (follows_if Whole Part a.0.ghost_name (name_if_some (λ o. o.map.ghost_name) e) (with_cursor_map lent_to) (with_cursor_map lent_to m))) as_lent_to refl $
+    move ! (5 ∷ 1 ∷ []) $
+    use2 𝓛 (‵ (follows_if Whole Part a.0.ghost_name (name_if_some (λ o. o.map.ghost_name) e)
+    (with_cursor_map lent_to) (with_cursor_map lent_to r.now)))
+    (handed_on 𝓛 Whole Part a.0.ghost_name r.ghost_name (with_cursor_map lent_to) r.now
+    (name_if_some (λ o. o.map.ghost_name) e) (same_name e r.ghost_name name)) $
+    rewrite ! 0 (λ (m : Part.Denot). ‵ (follows_if Whole Part a.0.ghost_name
+    (name_if_some (λ o. o.map.ghost_name) e) (with_cursor_map lent_to) (with_cursor_map lent_to m)))
+    as_lent_to refl $
     -- [what follows; the result; the token of κs.0; the tokens of the parameters; the token of
     -- κs.1]
-    nothing ! $ nothing ! $ join ! $ move ! (5 ∷ 4 ∷ []) $ join ! $ move ! (4 ∷ 0 ∷ []) $ join ! $ move ! (0 ∷ 1 ∷ 3 ∷ []) $ group ! 3 $ frame ! $ frame ! $
+    nothing ! $ nothing ! $ join ! $ move ! (5 ∷ 4 ∷ []) $ join ! $ move ! (4 ∷ 0 ∷ []) $ join ! $
+    move ! (0 ∷ 1 ∷ 3 ∷ []) $ group ! 3 $ frame ! $ frame ! $
     use0 𝓛 (raw (fact 𝓤 (Visits e lent_to.map.now))) (fact_i 𝓤 _ (emp 𝓤) (subst (Visits e) as_lent_to visits)) $ frame ! $
     use0 𝓛 (raw (fact 𝓤 (Value e lent_to.map.now b₁.eq))) (fact_i 𝓤 _ (emp 𝓤) (subst (λ m. Value e m b₁.eq) as_lent_to value)) $ frame ! $
     use0 𝓛 (raw (fact 𝓤 (SamePairs e lent_to.map.now))) (fact_i 𝓤 _ (emp 𝓤) (subst (SamePairs e) as_lent_to pairs)) $ frame ! $

@@ -1,12 +1,14 @@
 use Rattle.std.proofs.Common.{map, ◌∙◌, subst}
 use Rattle.std.proofs.lemmas.Result.{MatchResult-from_err}
 use Rattle.linked_hash_map.specs.Clones.{AreClones}
-use Rattle.linked_hash_map.proofs.Clones.{AreClones-of, none-of}
+use Rattle.linked_hash_map.proofs.pairs.Clones.{AreClones-of, none-of}
 use Rattle.linked_hash_map.proofs.iter.into_iter.IntoIterClone.clone.Goals as goal
 
 pub returns-in_err-clone : goal.returns-in_err-clone
 returns-in_err-clone g c = record {
-  cases = MatchResult-from_err c.from_residual.result _ _ c.from_residual.ensures.0 (λ _ none. c.in_err-clone.ensures.cases (none-of c.self.inside.nodes (c.self.view_is ∙ none)));
+  cases = MatchResult-from_err c.from_residual.result _ _ c.from_residual.ensures.0
+      (λ _ none.
+      c.in_err-clone.ensures.cases (none-of c.self.inside.nodes (c.self.view_is ∙ none)));
 }
 
 pub returns : goal.returns

@@ -1,4 +1,4 @@
-use Rattle.linked_hash_map.proofs.IteratorLaws.{gives_in_order, gives_in_reverse}
+use Rattle.linked_hash_map.proofs.pairs.IteratorLaws.{gives_in_order, gives_in_reverse}
 use Rattle.linked_hash_map.proofs.iter.into_iter.LinkedHashMapIntoIterator.into_iter.Goals as goal
 
 pub returns : goal.returns

@@ -1,13 +1,13 @@
-use Rattle.std.proofs.Common.{◌<◌, length, sym, subst}
+use Rattle.std.proofs.Common.{sym, subst}
 use Rattle.lhm_ring.specs.Positions.{pointer_of_some}
 use Rattle.linked_hash_map.specs.Nodes.{HasBehind}
-use Rattle.linked_hash_map.proofs.Fitted.{HasBehind-nth_back}
-use Rattle.linked_hash_map.proofs.Options.{of-Some}
+use Rattle.linked_hash_map.proofs.nodes.Fitted.{HasBehind-nth_back}
+use Rattle.linked_hash_map.proofs.lists.Options.{of-Some}
 use Rattle.linked_hash_map.proofs.map.cursor.Visit.moved_to.Goals as goal
 
 pub returns-in-Some-clause-bookmark : goal.returns-in-Some-clause-bookmark
 returns-in-Some-clause-bookmark g c =
-    let hs = c.args.table.now.held in
-    let within = of-Some (λ n. n < length hs) c.args.behind c.in-Some.behind c.in-Some.is c.requires.within in
+    let hs = c.args.table.now.held in let within = of-Some _ c.in-Some.is c.requires.within in
     let nth = c.nth_back.ensures in
-    subst (HasBehind (pointer_of_some c.nth_back.result) hs) (sym c.in-Some.is) (HasBehind-nth_back hs c.in-Some.behind c.nth_back.result nth.held nth.behind nth.none within)
+    subst (HasBehind (pointer_of_some c.nth_back.result) hs) (sym c.in-Some.is)
+    (HasBehind-nth_back hs c.in-Some.behind c.nth_back.result nth.held nth.behind nth.none within)

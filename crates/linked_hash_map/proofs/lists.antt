@@ -1,0 +1,5 @@
+pub mod Distinct
+pub mod Elements
+pub mod Options
+pub mod Results
+pub mod Stretches

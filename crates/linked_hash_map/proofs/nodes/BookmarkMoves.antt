@@ -1,0 +1,109 @@
+-- The bookmark of a cursor: it goes from one pair on to the next.
+use Rattle.std.proofs.Common.{◌≡◌, ℕ, ◌+◌, ◌-◌, ◌<◌, ◌≤◌, ◌⊎◌, inl, inr, ⊎_elim, Bool, List, []}
+use Rattle.std.proofs.Common.{◌∷◌, ◌++◌, map, length, take, drop, slice_get, Option, Some, None}
+use Rattle.std.proofs.Common.{refl, sym, ap, ◌∙◌, subst, arith, length-append}
+use Rattle.std.proofs.lemmas.Bool.{cases_lt}
+use Rattle.std.proofs.lemmas.List.{append_assoc}
+use Rattle.std.specs.Map.{keys_of}
+use denote.RawPtr.{Ptr}
+use Rattle.lhm_ring.specs.Cells.{IsApart}
+use Rattle.lhm_ring.specs.RingState.{Held, AtHeld, first_at}
+use Rattle.lhm_ring.specs.Tables.{TableState}
+use Rattle.linked_hash_map.specs.Nodes.{VisitState, IsKept, Lies, before, bookmark_at, bare, pairs_of}
+use Rattle.linked_hash_map.proofs.nodes.HeldPairs.{before-bare, length-bare}
+use Rattle.linked_hash_map.proofs.nodes.CutNodes.{CutAt, CutAt-before, before-append}
+use Rattle.linked_hash_map.proofs.nodes.Outside.{IsElsewhere, to_visit_of, unvisited_some, bookmark_lies}
+use Rattle.linked_hash_map.proofs.lists.Stretches.{stretch-step, take-none}
+
+module _ {K V : Type 0} where
+  pub bookmark-bare : (o : Option Ptr) (hs : List (Held (K × V))) → bookmark_at o (bare hs) ≡ bookmark_at o hs
+  bookmark-bare None hs = refl
+  bookmark-bare (Some p) hs = before-bare p hs
+
+  -- the node behind one has the next index
+  bookmark_at-next : (front : List (Held (K × V))) (t : Held (K × V)) (back : List (Held (K × V)))
+      → IsApart (map (λ u. u.at) (front ++ t ∷ back)) → 0 < length back
+      → bookmark_at (first_at back) (front ++ t ∷ back) ≡ length front + 1
+  bookmark_at-next front t [] apart some = absurd (omega (arith, some))
+  bookmark_at-next front t (u ∷ back) apart some =
+      let on : front ++ t ∷ u ∷ back ≡ (front ++ t ∷ []) ++ u ∷ back = sym (append_assoc front (t ∷ []) (u ∷ back)) in
+      ap (before u.at) on
+      ∙ before-append (front ++ t ∷ []) u back (subst (λ l. IsApart (map (λ v. v.at) l)) on apart)
+      ∙ length-append front (t ∷ [])
+
+-- a visit goes on from the pair at p: its bookmark is then at the next pair, if one is left
+pub record Goes {B : Type 0} (hs : List (Held B)) (p : Ptr) (old new : VisitState) : Type 0 where
+  pub bookmarked : old.bookmark ≡ Some p
+  pub fewer : new.unvisited ≡ old.unvisited - 1
+  pub current : new.current ≡ Some p
+  pub none : new.unvisited ≡ 0 → new.bookmark ≡ None
+  pub next : 0 < new.unvisited → AtHeld hs p (λ xs t ys. new.bookmark ≡ first_at ys)
+  pub apart : 0 < new.unvisited → IsApart (map (λ t. t.at) hs)
+
+module _ {K V : Type 0} {eq : K → K → Bool} {hash : K → ℕ} {s : TableState (K × V)}
+    {old : VisitState} (kept : IsKept eq hash s old) {p : Ptr}
+    (bookmarked : old.bookmark ≡ Some p) where
+  pub bookmarked_cut : CutAt p s.held
+  bookmarked_cut =
+      let lies = bookmark_lies kept.nodes bookmarked in let at = before-bare p s.held in
+      let long = length-bare s.held in
+      CutAt-before p s.held (omega (arith, lies, at, long))
+
+module _ {K V : Type 0} {eq : K → K → Bool} {hash : K → ℕ} {s : TableState (K × V)} {p : Ptr}
+    {old new : VisitState} (kept : IsKept eq hash s old) (goes : Goes s.held p old new) where
+  abbrev nodes : List (Held K)
+  nodes = bare s.held
+
+  reach : before p nodes + old.unvisited ≤ length nodes
+  reach = subst (λ o. bookmark_at o nodes + old.unvisited ≤ length nodes) goes.bookmarked kept.nodes.in_reach
+
+  next_index : 0 < new.unvisited → bookmark_at new.bookmark nodes ≡ before p nodes + 1
+  next_index some =
+      let cut = bookmarked_cut kept goes.bookmarked in let h = cut.held in
+      let at = before-bare p s.held in let long = length-bare s.held in
+      let all = ap length h.is ∙ length-append h.before (h.node ∷ h.after) in
+      let is = bookmark-bare new.bookmark s.held
+      ∙ ap (λ o. bookmark_at o s.held) (goes.next some h.before h.node h.after h.is h.at_is)
+      ∙ ap (bookmark_at (first_at h.after)) h.is in
+      let next = bookmark_at-next h.before h.node h.after
+      (subst (λ l. IsApart (map (λ t. t.at) l)) h.is (goes.apart some))
+      (omega (arith, all, at, long, cut.long, reach, goes.fewer, some)) in
+      omega (arith, is, next, at, cut.long)
+
+  -- nothing is left to visit, or the bookmark is at the next index
+  moved : ((new.unvisited ≡ 0) × (bookmark_at new.bookmark nodes ≡ 0)) ⊎ (bookmark_at new.bookmark nodes ≡ before p nodes + 1)
+  moved =
+      ⊎_elim (λ some. inr (next_index some))
+      (λ few. let none : new.unvisited ≡ 0 = omega (arith, few) in inl (none, ap (λ o. bookmark_at o nodes) (goes.none none)))
+      (cases_lt 0 new.unvisited)
+
+  pub outside_on : IsElsewhere (before p nodes) new nodes
+  outside_on = ⊎_elim (λ m. inr (omega (arith, m.0, m.1))) (λ m. inl (omega (arith, m))) moved
+
+  pub kept_on : IsKept eq hash s new
+  kept_on =
+      let some = unvisited_some kept.nodes goes.bookmarked in
+      record {
+        nodes = record {
+          distinct = kept.nodes.distinct;
+          hashed = kept.nodes.hashed;
+          within = kept.nodes.within;
+          limit = kept.nodes.limit;
+          bookmarked = λ no. let at = ap (λ o. bookmark_at o nodes) no in ⊎_elim (λ m. m.0) (λ m. absurd (omega (arith, m, at))) moved;
+          ended = goes.none;
+          in_reach = ⊎_elim (λ m. omega (arith, m.0, m.1)) (λ m. omega (arith, m, reach, some, goes.fewer)) moved;
+          current_lies = subst (λ o. Lies o nodes) (sym goes.current) (bookmark_lies kept.nodes goes.bookmarked);
+        };
+      }
+
+  pub to_visit_on : (k : K) → slice_get (keys_of (pairs_of s.held)) (before p nodes) ≡ Some k
+      → to_visit_of old s.held ≡ k ∷ to_visit_of new s.held
+  to_visit_on k there =
+      let keys = keys_of (pairs_of s.held) in let behind = drop (before p nodes + 1) keys in
+      ap (λ o. take old.unvisited (drop (bookmark_at o nodes) keys)) goes.bookmarked
+      ∙ stretch-step keys (before p nodes) old.unvisited k there (unvisited_some kept.nodes goes.bookmarked)
+      ∙ ap (λ n. k ∷ take n behind) (sym goes.fewer)
+      ∙ ap (λ ks. k ∷ ks)
+      (⊎_elim (λ m. subst (λ n. take n behind ≡ take n (drop (bookmark_at new.bookmark nodes) keys))
+      (sym m.0) (take-none behind ∙ sym (take-none (drop (bookmark_at new.bookmark nodes) keys))))
+      (λ m. ap (λ i. take new.unvisited (drop i keys)) (sym m)) moved)

@@ -1,0 +1,81 @@
+-- The nodes, cut at one of them: the pair there, and its index.
+use Rattle.std.proofs.Common.{◌≡◌, suc, ◌+◌, ◌<◌, true, false, cond, List, [], ◌∷◌, ◌++◌, map}
+use Rattle.std.proofs.Common.{length, slice_get, remove, Some, refl, sym, ap, ◌∙◌, subst, arith}
+use denote.RawPtr.{Ptr}
+use Rattle.lhm_ring.specs.Cells.{same_ptr, IsApart}
+use Rattle.lhm_ring.specs.RingState.{Held, change_at, IsHeld}
+use Rattle.lhm_ring.specs.Tables.{WritesOnly}
+use Rattle.lhm_ring.specs.RingAfterLoan.{revalued}
+use Rattle.lhm_ring.proofs.Apart.{same_ptr-equal, same_ptr-reflexive, IsFresh-head, IsApart-tail}
+use Rattle.lhm_ring.proofs.HeldPointers.{same_ptr-fresh}
+use Rattle.linked_hash_map.specs.Nodes.{pairs_of, before}
+use Rattle.linked_hash_map.specs.Indexes.{set_value_at}
+use Rattle.linked_hash_map.proofs.nodes.HeldPairs.{length-pairs_of, pairs_of-append}
+use Rattle.linked_hash_map.proofs.pairs.Indexes.{set_value_at-append}
+use Rattle.linked_hash_map.proofs.lists.Elements.{slice_get-append, remove-append}
+
+-- nodes, cut at one of them: what is at its index
+module _ {K V : Type 0} {hs : List (Held (K × V))} {p : Ptr} (held : IsHeld hs p) where
+  pub pairs_of-held : pairs_of hs ≡ pairs_of held.before ++ held.node.pair ∷ pairs_of held.after
+  pairs_of-held = ap pairs_of held.is ∙ pairs_of-append held.before (held.node ∷ held.after)
+
+  pub slice_get-held : slice_get (pairs_of hs) (length held.before) ≡ Some held.node.pair
+  slice_get-held = subst (λ i. slice_get (pairs_of hs) i ≡ Some held.node.pair)
+      (length-pairs_of held.before) (ap (λ ps. slice_get ps (length (pairs_of held.before)))
+      pairs_of-held ∙ slice_get-append (pairs_of held.before) held.node.pair (pairs_of held.after))
+
+  pub pairs_of-removed : pairs_of (held.before ++ held.after) ≡ remove (pairs_of hs) (length held.before)
+  pairs_of-removed = subst (λ i. pairs_of (held.before ++ held.after) ≡ remove (pairs_of hs) i)
+      (length-pairs_of held.before) (pairs_of-append held.before held.after
+      ∙ sym (ap (λ ps. remove ps (length (pairs_of held.before))) pairs_of-held
+      ∙ remove-append (pairs_of held.before) held.node.pair (pairs_of held.after)))
+
+  pub pairs_of-change_at : WritesOnly hs p → (w : V)
+      → pairs_of (change_at p (revalued w) hs) ≡ set_value_at (pairs_of hs) (length held.before) w
+  pairs_of-change_at alone w =
+      subst (λ i. pairs_of (change_at p (revalued w) hs) ≡ set_value_at (pairs_of hs) i w)
+      (length-pairs_of held.before)
+      (ap pairs_of (alone held.before held.node held.after held.is held.at_is w)
+      ∙ pairs_of-append held.before (revalued w held.node ∷ held.after)
+      ∙ sym (ap (λ ps. set_value_at ps (length (pairs_of held.before)) w) pairs_of-held
+      ∙ set_value_at-append (pairs_of held.before) held.node.pair (pairs_of held.after) w))
+
+-- the first node at a pointer
+pub record CutAt {B : Type 0} (p : Ptr) (hs : List (Held B)) : Type 0 where
+  pub held : IsHeld hs p
+  pub long : length held.before ≡ before p hs
+
+pub CutAt-before : {B : Type 0} (p : Ptr) (hs : List (Held B)) → before p hs < length hs → CutAt p hs
+CutAt-before p [] h = absurd (omega (arith, h))
+CutAt-before {B} p (t ∷ hs) h =
+    (elim (same_ptr t.at p) as (λ y. same_ptr t.at p ≡ y → cond y 0 (before p hs + 1) < suc (length hs) → CutAt p (t ∷ hs)) [
+      | true ↦ λ e k. record {
+        held =
+            record { before = []; node = t; after = hs; is = refl; at_is = same_ptr-equal t.at p e };
+        long = sym (ap (λ y. cond y 0 (before p hs + 1)) e);
+      }
+      | false ↦ λ e k.
+          let r = CutAt-before p hs (omega (arith, k)) in
+          let long : length (t ∷ r.held.before) ≡ before p hs + 1 = omega (arith, r.long) in
+          record {
+            held = record {
+              before = t ∷ r.held.before;
+              node = r.held.node;
+              after = r.held.after;
+              is = ap (λ l. t ∷ l) r.held.is;
+              at_is = r.held.at_is;
+            };
+            long = long ∙ sym (ap (λ y. cond y 0 (before p hs + 1)) e);
+          }
+    ]) refl h
+
+-- nodes at different pointers: each is the first at its own
+module _ {K V : Type 0} where
+  pub before-append : (xs : List (Held (K × V))) (t : Held (K × V)) (ys : List (Held (K × V)))
+      → IsApart (map (λ u. u.at) (xs ++ t ∷ ys)) → before t.at (xs ++ t ∷ ys) ≡ length xs
+  before-append [] t ys d = ap (λ y. cond y 0 (before t.at ys + 1)) (same_ptr-reflexive t.at)
+  before-append (x ∷ xs) t ys d =
+      let on = before-append xs t ys (IsApart-tail x.at (map (λ u. u.at) (xs ++ t ∷ ys)) d) in
+      let one : before t.at (xs ++ t ∷ ys) + 1 ≡ suc (length xs) = omega (arith, on) in
+      ap (λ y. cond y 0 (before t.at (xs ++ t ∷ ys) + 1))
+      (same_ptr-fresh x.at xs t ys (IsFresh-head x.at (map (λ u. u.at) (xs ++ t ∷ ys)) d)) ∙ one

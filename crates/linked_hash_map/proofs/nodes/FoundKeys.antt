@@ -1,0 +1,44 @@
+-- A key that a lookup finds: the index of its node.
+use Rattle.std.proofs.Common.{ℕ, ◌<◌, Bool, List, length, slice_get, sym, ap, ◌∙◌, subst, arith}
+use denote.RawPtr.{Ptr}
+use Rattle.lhm_ring.specs.RingState.{Held}
+use Rattle.lhm_ring.specs.Search.{HasKey}
+use Rattle.linked_hash_map.specs.Indexes.{IsIndex}
+use Rattle.linked_hash_map.specs.Nodes.{pairs_of, bare, before}
+use Rattle.linked_hash_map.proofs.nodes.HeldPairs.{length-bare, before-bare}
+use Rattle.linked_hash_map.proofs.nodes.CutNodes.{CutAt-before, slice_get-held}
+use Rattle.linked_hash_map.proofs.nodes.Outside.{before_held}
+
+pub IsIndex-HasKey : {K V : Type 0} {eq : K → K → Bool} {hash : ℕ} {k : K}
+    {hs : List (Held (K × V))} {p : Ptr} (h : HasKey eq hash k hs p)
+    → IsIndex eq (pairs_of hs) k (length h.held.before)
+IsIndex-HasKey h = let held = h.held in
+    record {
+      pair = held.node.pair;
+      there = slice_get-held held;
+      same = h.key_is held.before held.node held.after held.is held.at_is;
+    }
+
+module _ {K V : Type 0} {eq : K → K → Bool} {hash : ℕ} {k : K} {hs : List (Held (K × V))} {p : Ptr} (h : HasKey eq hash k hs p) where
+  pub before-HasKey : before p hs < length hs
+  before-HasKey = let at = h.held in
+      subst (λ (ks : List (Held (K × V))). before p ks < length ks) (sym at.is)
+      (before_held p at.before at.node at.after at.at_is)
+
+  pub before-HasKey_bare : before p (bare hs) < length (bare hs)
+  before-HasKey_bare =
+      let lies = before-HasKey in let of_before = before-bare p hs in
+      let of_bare = length-bare hs in
+      omega (arith, lies, of_before, of_bare)
+
+  pub IsIndex-before : IsIndex eq (pairs_of hs) k (before p hs)
+  IsIndex-before =
+      let cut = CutAt-before p hs before-HasKey in let at = cut.held in
+      record {
+        pair = at.node.pair;
+        there = ap (slice_get (pairs_of hs)) (sym cut.long) ∙ slice_get-held at;
+        same = h.key_is at.before at.node at.after at.is at.at_is;
+      }
+
+  pub IsIndex-before_bare : IsIndex eq (pairs_of hs) k (before p (bare hs))
+  IsIndex-before_bare = subst (IsIndex eq (pairs_of hs) k) (sym (before-bare p hs)) IsIndex-before

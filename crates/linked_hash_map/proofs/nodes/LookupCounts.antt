@@ -1,0 +1,36 @@
+-- What a lookup counts of the nodes, by the pairs: each stored hash is that of its key.
+use Rattle.std.proofs.Common.{◌≡◌, ℕ, ◌%◌, Bool, List, [], ◌∷◌, cond, refl, ap, ◌∙◌, eqb, arith}
+use Rattle.std.specs.Prelude.{count_by}
+use Rattle.std.specs.List.{AllByRecursion}
+use Rattle.lhm_ring.specs.Buckets.{buckets}
+use Rattle.lhm_ring.specs.Spots as nodes
+use Rattle.lhm_ring.specs.Spots.{Spot, spot, spots}
+use Rattle.lhm_ring.specs.RingState.{Held}
+use Rattle.lhm_ring.proofs.RearrangedCounts.{count_by-cons}
+use Rattle.linked_hash_map.specs.Counts.{same, beside}
+use Rattle.linked_hash_map.specs.Nodes.{pairs_of, bare}
+
+module _ {K V : Type 0} (hash : K → ℕ) where
+  count_by-spots : (test : ℕ → Bool) (hs : List (Held (K × V)))
+      → AllByRecursion (λ u. u.hash ≡ hash u.pair) (bare hs)
+      → count_by (λ (s : Spot). test s.hash) (spots hs)
+      ≡ count_by (λ (pair : K × V). test (hash pair.0)) (pairs_of hs)
+  count_by-spots test [] h = refl
+  count_by-spots test (t ∷ hs) h =
+      let rest = count_by-spots test hs h.1 in let by_spot : Spot → Bool = λ s. test s.hash in
+      let by_pair : K × V → Bool = λ pair. test (hash pair.0) in
+      let left = count_by-cons by_spot (spot t) (spots hs) in
+      let right = count_by-cons by_pair t.pair (pairs_of hs) in
+      let same : cond {A = ℕ} (test t.hash) 1 0 ≡ cond {A = ℕ} (test (hash t.pair.0)) 1 0 = ap (λ n. cond {A = ℕ} (test n) 1 0) h.0 in
+      omega (arith, rest, left, right, same)
+
+  pub same-spots : (hs : List (Held (K × V))) (k : K) (hash_k : ℕ) → hash_k ≡ hash k
+      → AllByRecursion (λ u. u.hash ≡ hash u.pair) (bare hs)
+      → nodes.same (spots hs) hash_k ≡ same hash (pairs_of hs) k
+  same-spots hs k hash_k its h = ap (nodes.same (spots hs)) its ∙ count_by-spots (λ n. eqb n (hash k)) hs h
+
+  pub beside-spots : (hs : List (Held (K × V))) (k : K) (hash_k n capacity : ℕ) → hash_k ≡ hash k
+      → n ≡ buckets capacity → AllByRecursion (λ u. u.hash ≡ hash u.pair) (bare hs)
+      → nodes.beside (spots hs) n hash_k ≡ beside hash (pairs_of hs) capacity k
+  beside-spots hs k hash_k n capacity its wide h =
+      (λ i. nodes.beside (spots hs) (wide i) (its i)) ∙ count_by-spots (λ m. eqb (m % buckets capacity) (hash k % buckets capacity)) hs h

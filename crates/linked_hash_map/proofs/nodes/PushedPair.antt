@@ -1,0 +1,105 @@
+-- A pair that is put at the back.
+use Rattle.std.proofs.Common.{◌≡◌, ℕ, ◌<◌, Bool, false, List, [], ◌∷◌, ◌++◌, map, length, take, drop, Option, Some, None, refl, sym, ap}
+use Rattle.std.proofs.Common.{ap₂, ◌∙◌, subst, arith, length-append}
+use Rattle.std.specs.List.{list_any, IsDistinct}
+use Rattle.std.specs.Cmp.{IsEquivalence}
+use Rattle.std.proofs.lemmas.List.{map-append, length-map}
+use Rattle.std.proofs.lemmas.Map.Keys.{IsDistinct-push}
+use denote.RawPtr.{Ptr}
+use Rattle.lhm_ring.specs.RingState.{Held}
+use Rattle.lhm_ring.specs.Tables.{TableState}
+use Rattle.lhm_ring.proofs.ListFacts.{AllByRecursion-append}
+use Rattle.linked_hash_map.specs.Nodes.{VisitState, AreKept, IsKept, Lies, pairs_of, bare, bare_node, bookmark_at, current_at}
+use Rattle.linked_hash_map.specs.Pairs.{find}
+use Rattle.linked_hash_map.proofs.nodes.HeldPairs.{length-bare, keys-bare, pairs_of-append}
+use Rattle.linked_hash_map.proofs.pairs.Calls.{list_any-none}
+use Rattle.linked_hash_map.proofs.nodes.Outside.{before_within, bookmark_lies, to_visit_at, to_visit_of, to_visit-bare}
+use Rattle.linked_hash_map.proofs.lists.Stretches.{stretch-front}
+
+-- what lies among the first nodes is where it was
+module _ {B : Type 0} where
+  pub current_at-append : (current : Option Ptr) (us vs : List (Held B)) → Lies current us
+      → current_at current (us ++ vs) ≡ current_at current us
+  current_at-append None us vs h = refl
+  current_at-append (Some p) us vs h = before_within p us vs h
+
+  lies-append : (current : Option Ptr) (us vs : List (Held B)) → Lies current us → Lies current (us ++ vs)
+  lies-append None us vs h = tt
+  lies-append (Some p) us vs h = let same = before_within p us vs h in let long = length-append us vs in omega (arith, same, long, h)
+
+-- one node more, the last
+module _ {K : Type 0} {eq : K → K → Bool} {hash : K → ℕ} {us : List (Held K)} {capacity : ℕ}
+    {visit : VisitState} (k : AreKept eq hash us capacity visit) where
+  pub bookmark_at-append : (vs : List (Held K)) → bookmark_at visit.bookmark (us ++ vs) ≡ bookmark_at visit.bookmark us
+  bookmark_at-append vs = by_bookmark visit.bookmark refl
+    where
+      by_bookmark : (o : Option Ptr) → visit.bookmark ≡ o → bookmark_at o (us ++ vs) ≡ bookmark_at o us
+      by_bookmark None is = refl
+      by_bookmark (Some p) is = before_within p us vs (bookmark_lies k is)
+
+  -- what is still to be visited ends before it
+  pub to_visit-append : (vs : List (Held K)) → to_visit_at visit (us ++ vs) ≡ to_visit_at visit us
+  to_visit-append vs =
+      let keys : List (Held K) → List K = map (λ u. u.pair) in
+      let long = length-map us (λ u. u.pair) in
+      ap₂ (λ b ks. take visit.unvisited (drop b ks)) (bookmark_at-append vs) (map-append (λ (u : Held K). u.pair) us vs)
+      ∙ stretch-front (keys us) (keys vs) (bookmark_at visit.bookmark us) visit.unvisited (omega (arith, long, k.in_reach))
+
+  pub AreKept-push : IsEquivalence eq → (u : Held K) → u.hash ≡ hash u.pair
+      → list_any (eq u.pair) (map (λ t. t.pair) us) ≡ false → length us < capacity
+      → AreKept eq hash (us ++ u ∷ []) capacity visit
+  AreKept-push laws u hashed absent room =
+      let long = length-append us (u ∷ []) in let bookmark_stands = bookmark_at-append (u ∷ []) in
+      record {
+        distinct = subst (IsDistinct eq) (sym (map-append (λ (t : Held K). t.pair) us (u ∷ [])))
+            (IsDistinct-push laws (map (λ t. t.pair) us) u.pair k.distinct absent);
+        hashed = AllByRecursion-append (λ (t : Held K). t.hash ≡ hash t.pair) us (u ∷ []) k.hashed (hashed, tt);
+        within = omega (arith, long, room);
+        limit = k.limit;
+        bookmarked = k.bookmarked;
+        ended = k.ended;
+        in_reach = omega (arith, long, bookmark_stands, k.in_reach);
+        current_lies = lies-append visit.current us (u ∷ []) k.current_lies;
+      }
+
+-- a node was put at the back
+module _ {K V : Type 0} (s t : TableState (K × V)) (u : Held (K × V))
+    (last : t.held ≡ s.held ++ u ∷ []) where
+  pub pairs_of-push : pairs_of t.held ≡ pairs_of s.held ++ u.pair ∷ []
+  pairs_of-push = ap pairs_of last ∙ pairs_of-append s.held (u ∷ [])
+
+  bare-push : bare t.held ≡ bare s.held ++ bare_node u ∷ []
+  bare-push = ap bare last ∙ map-append (bare_node {K = K} {V = V}) s.held (u ∷ [])
+
+module _ {K V : Type 0} {eq : K → K → Bool} {hash : K → ℕ} {s : TableState (K × V)}
+    {visit : VisitState} (kept : IsKept eq hash s visit) (t : TableState (K × V))
+    (u : Held (K × V)) (last : t.held ≡ s.held ++ u ∷ []) where
+  bare_is : bare t.held ≡ bare s.held ++ bare_node u ∷ []
+  bare_is = bare-push s t u last
+
+  pub bookmark_at-push : bookmark_at visit.bookmark (bare t.held) ≡ bookmark_at visit.bookmark (bare s.held)
+  bookmark_at-push = ap (bookmark_at visit.bookmark) bare_is ∙ bookmark_at-append kept.nodes (bare_node u ∷ [])
+
+  pub to_visit-push : to_visit_of visit t.held ≡ to_visit_of visit s.held
+  to_visit-push = sym (to_visit-bare visit t.held) ∙ ap (to_visit_at visit) bare_is
+      ∙ to_visit-append kept.nodes (bare_node u ∷ []) ∙ to_visit-bare visit s.held
+
+  pub current_at-push : current_at visit.current (bare t.held) ≡ current_at visit.current (bare s.held)
+  current_at-push = ap (current_at visit.current) bare_is
+      ∙ current_at-append visit.current (bare s.held) (bare_node u ∷ []) kept.nodes.current_lies
+
+  pub IsKept-push : IsEquivalence eq → u.hash ≡ hash u.pair.0
+      → find eq (pairs_of s.held) u.pair.0 ≡ None
+      → length s.held < s.capacity → t.capacity ≡ s.capacity → IsKept eq hash t visit
+  IsKept-push laws hashed absent room capacity =
+      let of_bare = length-bare s.held in
+      let none : list_any (eq u.pair.0) (map (λ u. u.pair) (bare s.held)) ≡ false =
+      ap (list_any (eq u.pair.0)) (keys-bare s.held)
+      ∙ list_any-none (eq u.pair.0) (pairs_of s.held) absent in
+      let grown : AreKept eq hash (bare s.held ++ bare_node u ∷ []) s.capacity visit =
+      AreKept-push kept.nodes laws (bare_node u) hashed none (omega (arith, of_bare, room)) in
+      record {
+        nodes = subst (λ us. AreKept eq hash us t.capacity visit) (sym bare_is)
+            (subst (λ m. AreKept eq hash (bare s.held ++ bare_node u ∷ []) m visit) (sym capacity)
+            grown);
+      }

@@ -1,0 +1,181 @@
+-- The pair at a position, once it is moved by a mode and its value is written.
+use Rattle.std.proofs.Common.{◌≡◌, ℕ, ◌-◌, ◌<◌, inr, Bool, List, [], ◌∷◌, ◌++◌, map, length, slice_get, remove, Some, None, option_map}
+use Rattle.std.proofs.Common.{refl, sym, ap, ◌∙◌, subst, arith}
+use Rattle.std.specs.List.{IsDistinct}
+use Rattle.std.specs.Map.{keys_of}
+use Rattle.std.specs.Cmp.{IsEquivalence}
+use denote.RawPtr.{Ptr}
+use Rattle.lhm_ring.specs.Cells.{IsApart}
+use Rattle.lhm_ring.specs.RingState.{Held, AtHeld, change_at}
+use Rattle.lhm_ring.specs.RingAfterLoan.{revalued}
+use Rattle.lhm_ring.specs.Tables.{TableState, WritesOnly}
+use Rattle.lhm_ring.specs.TableAfterLoan.{with_value}
+use Rattle.linked_hash_map.specs.declared.map.Mode.{Mode}
+use Rattle.linked_hash_map.specs.declared.map.Mode.TheVariants.{Touch, Keep}
+use Rattle.linked_hash_map.specs.Nodes.{VisitState, no_visit, pairs_of, bare, before, current_at, AreKept, IsKept}
+use Rattle.linked_hash_map.specs.Pairs.{value_at, put}
+use Rattle.linked_hash_map.specs.Indexes.{IsIndex, set_value_at}
+use Rattle.linked_hash_map.specs.Touches.{IsTouched}
+use Rattle.linked_hash_map.proofs.pairs.Indexes.{slice_get-set_value_at, length-others, set_value_at-pushed, slice_get-pushed}
+use Rattle.linked_hash_map.proofs.pairs.Indexes.{set_value-index, is_some-index, to_back-index, value_at-slice_get}
+use Rattle.linked_hash_map.proofs.pairs.Calls.{set_or_push-present}
+use Rattle.linked_hash_map.proofs.nodes.HeldPairs.{bare-change, before-bare, length-pairs_of, length-same}
+use Rattle.linked_hash_map.proofs.nodes.CutNodes.{CutAt, CutAt-before, slice_get-held, pairs_of-change_at}
+use Rattle.linked_hash_map.proofs.nodes.Current.{current_at-Some, before-current, IsKept-visited, IsKept-with_value}
+use Rattle.linked_hash_map.proofs.nodes.MovedNode.{pairs-moved, length-to_back, before-at_back, AreKept-moved, to_visit-moved, behind-moved}
+use Rattle.linked_hash_map.proofs.nodes.Outside.{IsElsewhere, to_visit_at, to_visit_of, to_visit-bare}
+
+-- hs are the nodes before, and ks those after
+module _ {K V : Type 0} (hs ks : List (Held (K × V))) (p : Ptr) (lies : before p hs < length hs) where
+  at_end : AtHeld hs p (λ xs x ys. ks ≡ (xs ++ ys) ++ x ∷ []) → IsApart (map (λ t. t.at) hs)
+      → (pair : K × V) → slice_get (pairs_of hs) (before p hs) ≡ Some pair
+      → before p ks ≡ length (remove (pairs_of hs) (before p hs))
+  at_end last apart pair there =
+      before-at_back hs ks last lies apart ∙ ap (λ n. n - 1) (sym (length-pairs_of hs))
+      ∙ length-others (pairs_of hs) (before p hs) pair there
+
+  cut_by : (mode : Mode) → IsTouched mode p hs ks → CutAt p ks
+  cut_by Touch moved =
+      let at_back = before-at_back hs ks moved.0 lies moved.1 in
+      let long = length-to_back hs ks moved.0 lies in
+      CutAt-before p ks (omega (arith, at_back, long, lies))
+  cut_by Keep same = subst (CutAt p) (sym same) (CutAt-before p hs lies)
+
+  length_by : (mode : Mode) → IsTouched mode p hs ks → length ks ≡ length hs
+  length_by Touch moved = length-to_back hs ks moved.0 lies
+  length_by Keep same = ap length same
+
+  slice_get_by : (mode : Mode) → IsTouched mode p hs ks → (pair : K × V)
+      → slice_get (pairs_of hs) (before p hs) ≡ Some pair
+      → slice_get (pairs_of ks) (before p ks) ≡ Some pair
+  slice_get_by Touch moved pair there =
+      slice_get-pushed (remove (pairs_of hs) (before p hs)) (pairs_of ks) pair (before p ks)
+      (pairs-moved hs ks moved.0 lies pair there) (at_end moved.0 moved.1 pair there)
+  slice_get_by Keep same pair there =
+      subst (λ (ns : List (Held (K × V))). slice_get (pairs_of ns) (before p ns) ≡ Some pair)
+      (sym same) there
+
+-- ks are the nodes hs once the one at p, which is among them, is moved by a mode
+pub record IsTouchedAt {K V : Type 0} (p : Ptr) (mode : Mode) (hs ks : List (Held (K × V))) : Type 0 where
+  pub lies : before p hs < length hs
+  pub touched : IsTouched mode p hs ks
+
+module _ {K V : Type 0} {p : Ptr} {mode : Mode} {hs ks : List (Held (K × V))}
+    (moved : IsTouchedAt p mode hs ks) where
+  pub touched_cut : CutAt p ks
+  touched_cut = cut_by hs ks p moved.lies mode moved.touched
+
+  slice_get-touched : (pair : K × V) → slice_get (pairs_of hs) (before p hs) ≡ Some pair
+      → slice_get (pairs_of ks) (before p ks) ≡ Some pair
+  slice_get-touched = slice_get_by hs ks p moved.lies mode moved.touched
+
+  -- the value that is read is that of the pair
+  pub value-touched : {v : V} → AtHeld ks p (λ xs t ys. v ≡ t.pair.1)
+      → option_map (λ pair. pair.1) (slice_get (pairs_of hs) (before p hs)) ≡ Some v
+  value-touched at =
+      let old = CutAt-before p hs moved.lies in let g = old.held in let h = touched_cut.held in
+      let here = ap (slice_get (pairs_of hs)) (sym old.long) ∙ slice_get-held g in
+      let own = ap (slice_get (pairs_of ks)) (sym touched_cut.long) ∙ slice_get-held h in
+      ap (option_map (λ pair. pair.1)) (here ∙ sym (slice_get-touched g.node.pair here) ∙ own)
+      ∙ ap Some (sym (at h.before h.node h.after h.is h.at_is))
+
+  pub length-put : (w : V) → length (pairs_of (change_at p (revalued w) ks)) ≡ length (pairs_of hs)
+  length-put w = length-pairs_of _ ∙ length-same _ ks (bare-change p w ks)
+      ∙ length_by hs ks p moved.lies mode moved.touched ∙ sym (length-pairs_of hs)
+
+  module _ (alone : WritesOnly ks p) (w : V) where
+    set-touched : pairs_of (change_at p (revalued w) ks) ≡ set_value_at (pairs_of ks) (before p ks) w
+    set-touched = pairs_of-change_at touched_cut.held alone w
+        ∙ ap (λ i. set_value_at (pairs_of ks) i w) touched_cut.long
+
+    -- the pair has the value that is written
+    pub pair-touched : (pair : K × V) → slice_get (pairs_of hs) (before p hs) ≡ Some pair
+        → slice_get (pairs_of (change_at p (revalued w) ks))
+        (before p (change_at p (revalued w) ks)) ≡ Some (pair.0, w)
+    pair-touched pair there =
+        let ls = change_at p (revalued w) ks in
+        ap (slice_get (pairs_of ls)) (sym (before-bare p ls) ∙ ap (before p) (bare-change p w ks) ∙ before-bare p ks)
+        ∙ ap (λ ps. slice_get ps (before p ks)) set-touched
+        ∙ slice_get-set_value_at (pairs_of ks) (before p ks) w pair (slice_get-touched pair there)
+
+-- the pair of a key
+module _ {K V : Type 0} {eq : K → K → Bool} (laws : IsEquivalence eq) {p : Ptr}
+    {hs ks : List (Held (K × V))} {k : K} (index : IsIndex eq (pairs_of hs) k (before p hs))
+    (distinct : IsDistinct eq (keys_of (pairs_of hs))) where
+  pub pairs-put : {mode : Mode} → IsTouchedAt p mode hs ks → WritesOnly ks p → (w : V)
+      → pairs_of (change_at p (revalued w) ks) ≡ put eq mode (pairs_of hs) k w
+  pairs-put {mode} moved alone w = by_mode mode moved
+    where
+      by_mode : (m : Mode) → IsTouchedAt p m hs ks
+          → pairs_of (change_at p (revalued w) ks) ≡ put eq m (pairs_of hs) k w
+      by_mode Touch at =
+          let last = at.touched.0 in let apart = at.touched.1 in
+          set-touched at alone w
+          ∙ set_value_at-pushed (remove (pairs_of hs) (before p hs)) (pairs_of ks) index.pair
+          (before p ks) (pairs-moved hs ks last at.lies index.pair index.there)
+          (at_end hs ks p at.lies last apart index.pair index.there) w
+          ∙ sym (to_back-index laws distinct index index.there w)
+      by_mode Keep at =
+          set-touched at alone w
+          ∙ ap (λ (ns : List (Held (K × V))). set_value_at (pairs_of ns) (before p ns) w) at.touched
+          ∙ sym (set_value-index laws distinct index w)
+          ∙ sym (set_or_push-present eq (pairs_of hs) k w (is_some-index laws distinct index))
+
+  pub value_at-touched : {mode : Mode} → IsTouchedAt p mode hs ks → {v : V}
+      → AtHeld ks p (λ xs t ys. v ≡ t.pair.1) → Some v ≡ value_at eq (pairs_of hs) k
+  value_at-touched moved at = sym (value_at-slice_get laws distinct index ∙ value-touched moved at)
+
+-- the same pairs in the same capacity
+IsKept-same : {K V : Type 0} {eq : K → K → Bool} {hash : K → ℕ} {s t : TableState (K × V)}
+    {visit : VisitState} → IsKept eq hash s visit → t.held ≡ s.held → t.capacity ≡ s.capacity
+    → IsKept eq hash t visit
+IsKept-same {eq = eq} {hash = hash} {s = s} {t = t} {visit = visit} kept same capacity = record {
+  nodes = subst (λ us. AreKept eq hash us t.capacity visit) (sym (ap bare same))
+      (subst (λ k. AreKept eq hash (bare s.held) k visit) (sym capacity) kept.nodes);
+}
+
+-- the current pair, which is none of those to visit
+module _ {K V : Type 0} {eq : K → K → Bool} (laws : IsEquivalence eq) {hash : K → ℕ}
+    {s : TableState (K × V)} (t : TableState (K × V)) {visit : VisitState} {p : Ptr}
+    (kept : IsKept eq hash s visit) (is : visit.current ≡ Some p)
+    (elsewhere : IsElsewhere (before p s.held) visit (bare s.held)) where
+  IsKept-touched : (mode : Mode) → IsTouched mode p s.held t.held → t.capacity ≡ s.capacity → IsKept eq hash t visit
+  IsKept-touched Touch moved capacity = record {
+    nodes = subst (λ k. AreKept eq hash (bare t.held) k visit) (sym capacity)
+        (AreKept-moved s.held t.held moved.0 (before-current kept is) kept.nodes elsewhere laws is);
+  }
+  IsKept-touched Keep same capacity = IsKept-same kept same capacity
+
+  pub IsKept-put_current : (mode : Mode) → IsTouched mode p s.held t.held → t.capacity ≡ s.capacity
+      → (w : V) → IsKept eq hash (with_value t p w) visit
+  IsKept-put_current mode touched capacity w = IsKept-with_value (IsKept-touched mode touched capacity) p w
+
+  to_visit-touched : (mode : Mode) → IsTouched mode p s.held t.held → to_visit_of visit t.held ≡ to_visit_of visit s.held
+  to_visit-touched Touch moved = to_visit-moved s.held t.held moved.0 (before-current kept is) kept.nodes elsewhere
+  to_visit-touched Keep same = ap (to_visit_of visit) same
+
+  pub to_visit-put : (mode : Mode) → IsTouched mode p s.held t.held → (w : V)
+      → to_visit_of visit (change_at p (revalued w) t.held) ≡ to_visit_of visit s.held
+  to_visit-put mode touched w = sym (to_visit-bare visit (change_at p (revalued w) t.held))
+      ∙ ap (to_visit_at visit) (bare-change p w t.held) ∙ to_visit-bare visit t.held
+      ∙ to_visit-touched mode touched
+
+  elsewhere-touched : (mode : Mode) → IsTouched mode p s.held t.held → IsElsewhere (before p t.held) visit (bare t.held)
+  elsewhere-touched Touch moved = inr (behind-moved s.held t.held moved.0 (before-current kept is) kept.nodes elsewhere moved.1)
+  elsewhere-touched Keep same = subst (λ (ns : List (Held (K × V))). IsElsewhere (before p ns) visit (bare ns)) (sym same) elsewhere
+
+  pub outside-put : (mode : Mode) → IsTouched mode p s.held t.held → (w : V)
+      → IsElsewhere (current_at visit.current (bare (change_at p (revalued w) t.held))) visit
+      (bare (change_at p (revalued w) t.held))
+  outside-put mode touched w =
+      subst (λ us. IsElsewhere (current_at visit.current us) visit us) (sym (bare-change p w t.held))
+      (subst (λ k. IsElsewhere k visit (bare t.held)) (sym (current_at-Some is t.held)) (elsewhere-touched mode touched))
+
+-- with nothing to visit, and no current pair
+pub IsKept-put : {K V : Type 0} {eq : K → K → Bool} → IsEquivalence eq
+    → {hash : K → ℕ} {s : TableState (K × V)} (t : TableState (K × V)) {visit : VisitState}
+    (p : Ptr) → IsKept eq hash s visit → before p (bare s.held) < length (bare s.held)
+    → (mode : Mode) → IsTouched mode p s.held t.held → t.capacity ≡ s.capacity → (w : V)
+    → IsKept eq hash (with_value t p w) no_visit
+IsKept-put laws t p kept lies mode touched capacity w =
+    IsKept-visited (IsKept-put_current laws t (IsKept-visited kept (Some p) lies) refl (inr (omega arith)) mode touched capacity w) None tt

@@ -1,0 +1,9 @@
+pub mod Calls
+pub mod Clones
+pub mod EntryMaps
+pub mod ExtendSteps
+pub mod Indexes
+pub mod Inserts
+pub mod IteratorLaws
+pub mod OccupiedEntries
+pub mod RehashCounts

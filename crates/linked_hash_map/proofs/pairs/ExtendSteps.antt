@@ -1,0 +1,96 @@
+-- What `extend` and `extend_refs` have inserted, one step after another.
+use Rattle.std.proofs.Common.{◌≡◌, ◌+◌, ◌≤◌, ℕ, max, Bool, List, [], ◌∷◌, ◌++◌, length, map, Option, Some, None, sym, ap, ◌∙◌, subst, arith}
+use Rattle.std.specs.List.{IsDistinct}
+use Rattle.std.specs.Map.{keys_of}
+use Rattle.std.specs.Iterator.{Count, IsFinite, size, MakesProgress, YieldsThen}
+use Rattle.std.specs.Cmp.{IsEquivalence}
+use Rattle.std.proofs.lemmas.List.{map-append, length-map}
+use Rattle.linked_hash_map.specs.Changes.{KeepsSettings}
+use Rattle.linked_hash_map.specs.LinkedMap.{LinkedMap}
+use Rattle.linked_hash_map.specs.Counts.{rechained_raised}
+use Rattle.linked_hash_map.specs.Inserts.{InsertsUntil}
+use Rattle.linked_hash_map.specs.Pairs.{find, put}
+use Rattle.linked_hash_map.specs.Validity.{IsValid}
+use Rattle.linked_hash_map.proofs.pairs.Inserts.{HasInserted, HasInserted-none, HasInserted-put, AreWithinBound, AreWithinBound-next}
+use Rattle.linked_hash_map.proofs.runs.Extends.{find-insert_each_absent}
+use Rattle.linked_hash_map.proofs.Callers.Collected.{length-insert_each_most}
+
+-- the items that came so far, from one state of an iterator to another, went into one map, and left
+-- another
+pub record IsExtended {I X K V S : Type 0} (eq : K → K → Bool) (shows : X → K × V)
+    (remaining : I → Count) (old : LinkedMap K V S) (start now : I) (came : List X)
+    (new : LinkedMap K V S) : Type 0 where
+  pub inserted : HasInserted eq old (map shows came) new
+  pub valid : IsValid eq new
+  pub bound : AreWithinBound remaining start now (length came)
+
+module _ {I X K V S : Type 0} {eq : K → K → Bool} (laws : IsEquivalence eq) {shows : X → K × V}
+    {remaining : I → Count} {old : LinkedMap K V S} {start : I} where
+  -- none came yet
+  pub IsExtended-none : IsValid eq old → IsFinite (remaining start) → IsExtended eq shows remaining old start start [] old
+  IsExtended-none valid finite =
+      record {
+        inserted = HasInserted-none laws old valid;
+        valid = valid;
+        bound = record { finite = finite; fewer = omega arith };
+      }
+
+  -- one more comes
+  module _ {came : List X} {item : X} {can : I → Type 0} {now later : I} {before : LinkedMap K V S}
+      (distinct : IsDistinct eq (keys_of old.pairs))
+      (so_far : IsExtended eq shows remaining old start now came before)
+      (goes : MakesProgress can remaining now (Some item) later) where
+    pub IsExtended-put : {after : LinkedMap K V S}
+        → after.pairs ≡ put eq before.mode before.pairs (shows item).0 (shows item).1
+        → after.capacity ≡ max before.capacity (length after.pairs)
+        → after.rechained
+        ≡ rechained_raised before.rechained (length before.pairs) before.capacity after.capacity
+        → KeepsSettings before after → IsValid eq after
+        → IsExtended eq shows remaining old start later (came ++ item ∷ []) after
+    IsExtended-put {after} pairs capacity rechained settings valid = record {
+      inserted = subst (λ items. HasInserted eq old items after)
+          (sym (map-append shows came (item ∷ [])))
+          (HasInserted-put laws (shows item).0 (shows item).1 distinct so_far.inserted
+          pairs capacity rechained settings);
+      valid = valid;
+      bound = AreWithinBound-next can remaining came item so_far.bound goes;
+    }
+
+    -- the key of an item that is refused was absent at the start
+    pub find-IsExtended_absent : find eq before.pairs (shows item).0 ≡ None → find eq old.pairs (shows item).0 ≡ None
+    find-IsExtended_absent absent =
+        find-insert_each_absent laws old.mode old.pairs (map shows came) (shows item).0
+        (ap (λ pairs. find eq pairs (shows item).0) (sym so_far.inserted.pairs) ∙ absent)
+
+    -- a map with room for all items is not full as one comes
+    pub room-IsExtended : (n : ℕ) → size (remaining start) ≤ n
+        → length before.pairs ≡ before.capacity → length old.pairs + n ≤ old.capacity → ⊥
+    room-IsExtended n most full fits =
+        let step = goes.on so_far.bound.finite in let shown = length-map came shows in
+        let longest = length-insert_each_most laws old.mode old.pairs (map shows came) distinct in
+        omega (
+          arith,
+          most,
+          step.2,
+          so_far.bound.fewer,
+          shown,
+          longest,
+          ap length so_far.inserted.pairs,
+          so_far.inserted.capacity,
+          full,
+          fits,
+        )
+
+    -- up to an item that is refused
+    pub InsertsUntil-IsExtended : {T : Type 0} {becomes : T → I → Type 0}
+        {steps : I → Option X → I → Type 0} {source : T} → becomes source start
+        → YieldsThen steps start came (Some item) later → {after : LinkedMap K V S} → after ≡ before
+        → {key : K} {value : V} → key ≡ (shows item).0 → value ≡ (shows item).1
+        → InsertsUntil becomes steps source eq shows old.mode old.pairs after.pairs key value
+    InsertsUntil-IsExtended made gives unchanged key value = record {
+      given = came;
+      item = item;
+      gives = record { iterator = start; left = later; made = made; gives = gives };
+      shown = λ i. (sym key i, sym value i);
+      pairs = ap (λ m. m.pairs) unchanged ∙ so_far.inserted.pairs;
+    }

@@ -1,0 +1,5 @@
+pub mod Effects
+pub mod Extends
+pub mod Outcomes
+pub mod Pops
+pub mod Steps

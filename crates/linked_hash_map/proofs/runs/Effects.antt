@@ -1,0 +1,220 @@
+-- What the map's calls return and leave, on a log that defines the map.
+use Rattle.std.proofs.Common.{◌≡◌, ℕ, zero, suc, ◌+◌, ◌-◌, ◌<◌, ◌≤◌, max, Bool, take, drop, remove}
+use Rattle.std.proofs.Common.{slice_get, subst, arith, drop_of_length-le, List, [], ◌∷◌, ◌++◌}
+use Rattle.std.proofs.Common.{length, Option, Some, None, is_some, option_map, refl, sym, ap, ap₂}
+use Rattle.std.proofs.Common.{◌∙◌, true≢false, append-nil}
+use Rattle.std.specs.Option.{option_zip}
+use Rattle.std.specs.List.{IsDistinct}
+use Rattle.std.specs.Map.{keys_of}
+use Rattle.std.specs.Cmp.{IsEquivalence}
+use Rattle.linked_hash_map.specs.declared.map.Mode.{Mode}
+use Rattle.linked_hash_map.specs.Log.{Log, Put, Write, Refresh, Remove, RemoveAll, Need, Fit, SetMode, mode, live, stored, value}
+use Rattle.linked_hash_map.specs.Log.{pair_of, pairs, size, high, IsFull, Defines}
+use Rattle.linked_hash_map.specs.Pairs.{find, value_at, without, to_back, set_value, put}
+use Rattle.linked_hash_map.specs.AllowedAnswers.{IsAbsent, HasValue}
+use Rattle.linked_hash_map.proofs.log.LiveKeys.{pair_of-live}
+use Rattle.linked_hash_map.proofs.pairs.Calls.{is_some-value_at}
+use Rattle.linked_hash_map.proofs.log.Bridge.{find-pairs, pairs-put, pairs-write, pairs-refresh, pairs-remove, pairs-remove_all, pairs-need}
+use Rattle.linked_hash_map.proofs.log.Bridge.{pairs-fit, pairs-set_mode}
+use Rattle.linked_hash_map.proofs.log.HighWater.{size-pairs, high-put, high-write, high-refresh, high-remove, high-remove_all, high-need}
+use Rattle.linked_hash_map.proofs.log.HighWater.{high-fit, high-set_mode}
+use Rattle.linked_hash_map.proofs.log.Standing.{mode-snoc}
+use Rattle.linked_hash_map.proofs.log.Distinct.{distinct-pairs}
+use Rattle.linked_hash_map.proofs.pairs.Indexes.{without-own}
+
+value_of_zip : {K V : Type 0} (s : Option K) (w : Option V) (v : V) → option_map (λ pair. pair.1) (option_zip s w) ≡ Some v → w ≡ Some v
+value_of_zip None w v h = absurd (true≢false (sym (ap is_some h)))
+value_of_zip (Some s) None v h = absurd (true≢false (sym (ap is_some h)))
+value_of_zip (Some s) (Some w) v h = h
+
+pub remove-first : {X : Type 0} (xs : List X) → remove xs 0 ≡ drop 1 xs
+remove-first [] = refl
+remove-first (x ∷ xs) = refl
+
+pub remove-last : {X : Type 0} (xs : List X) → remove xs (length xs - 1) ≡ take (length xs - 1) xs
+remove-last {X} xs =
+    let past : length xs ≤ suc (length xs - 1) = omega arith in
+    let none : drop (suc (length xs - 1)) xs ≡ [] = drop_of_length-le xs past in
+    ap (λ (ys : List X). take (length xs - 1) xs ++ ys) none ∙ append-nil (take (length xs - 1) xs)
+
+pub no_last_is_nil : {X : Type 0} (xs : List X) → None ≡ slice_get xs (length xs - 1) → xs ≡ []
+no_last_is_nil [] h = refl
+no_last_is_nil (x ∷ xs) h = absurd (some_last x xs (length (x ∷ xs) - 1) (omega arith) h)
+  where
+    some_last : {Y : Type 0} (y : Y) (ys : List Y) (i : ℕ) → i < length (y ∷ ys) → None ≡ slice_get (y ∷ ys) i → ⊥
+    some_last y ys zero l n = true≢false (sym (ap is_some n))
+    some_last y [] (suc i) l n = absurd (omega arith)
+    some_last y (z ∷ ys) (suc i) l n = some_last z ys i (omega arith) n
+
+module _ {K V : Type 0} {eq : K → K → Bool} (laws : IsEquivalence eq) {start : ℕ} {log : Log K V}
+    {contents : List (K × V)} {capacity : ℕ} {m : Mode}
+    (defines : Defines eq start log contents capacity m) where
+  pub size-contents : size eq log ≡ length contents
+  size-contents = size-pairs eq log ∙ ap length defines.same_pairs
+
+  -- a map that has no more room is defined by a full log
+  pub IsFull-contents : length contents ≡ capacity → IsFull eq start log
+  IsFull-contents h = size-contents ∙ h ∙ sym defines.same_capacity
+
+  -- the map as it was
+  pub Defines-nothing : {later : List (K × V)} {capacity' : ℕ} {m' : Mode} → later ≡ contents
+      → capacity' ≡ capacity → m' ≡ m → Defines eq start (log ++ []) later capacity' m'
+  Defines-nothing h m o = record {
+    same_pairs = ap (pairs eq) (append-nil log) ∙ defines.same_pairs ∙ sym h;
+    same_capacity = ap (high eq start) (append-nil log) ∙ defines.same_capacity ∙ sym m;
+    same_mode = ap mode (append-nil log) ∙ defines.same_mode ∙ sym o;
+  }
+
+  module _ (k : K) where
+    pub the_pair : find eq contents k ≡ pair_of (eq k) log
+    the_pair = ap (λ es. find eq es k) (sym defines.same_pairs) ∙ find-pairs laws log k
+
+    pub live-found : live (eq k) log ≡ is_some (find eq contents k)
+    live-found = sym (pair_of-live (eq k) log) ∙ ap is_some (sym the_pair)
+
+    -- a key without a pair is not live
+    pub IsAbsent-found : find eq contents k ≡ None → IsAbsent eq log k
+    IsAbsent-found h = live-found ∙ ap is_some h
+
+    -- nor is one without a value
+    pub IsAbsent-value : value_at eq contents k ≡ None → IsAbsent eq log k
+    IsAbsent-value h = live-found ∙ sym (is_some-value_at eq contents k) ∙ ap is_some h
+
+    -- a key with a value is live with that value
+    pub HasValue-value : {v : V} → value_at eq contents k ≡ Some v → HasValue eq log k v
+    unfolding pair_of
+    HasValue-value {v} h = (
+      live-found ∙ sym (is_some-value_at eq contents k) ∙ ap is_some h,
+      value_of_zip (stored (eq k) log) (value (eq k) log) v (ap (option_map (λ pair. pair.1)) (sym the_pair) ∙ h),
+    )
+
+    -- the map after an insertion
+    pub Defines-put : (v : V) {later : List (K × V)} {capacity' : ℕ} {m' : Mode}
+        → later ≡ put eq m contents k v → capacity' ≡ max capacity (length later) → m' ≡ m
+        → Defines eq start (log ++ Put k v ∷ []) later capacity' m'
+    Defines-put v {later} h m o =
+        let same : pairs eq (log ++ Put k v ∷ []) ≡ later = pairs-put laws log k v
+        ∙ (λ i. put eq (defines.same_mode i) (defines.same_pairs i) k v) ∙ sym h in
+        record {
+          same_pairs = same;
+          same_capacity =
+              high-put laws log start k v
+              ∙ ap₂ max defines.same_capacity (size-pairs eq (log ++ Put k v ∷ []) ∙ ap length same)
+              ∙ sym m;
+          same_mode = mode-snoc log (Put k v) ∙ defines.same_mode ∙ sym o;
+        }
+
+    -- the map after a removal
+    pub Defines-remove : {later : List (K × V)} {capacity' : ℕ} {m' : Mode}
+        → later ≡ without eq contents k → capacity' ≡ capacity → m' ≡ m
+        → Defines eq start (log ++ Remove k ∷ []) later capacity' m'
+    Defines-remove h m o = record {
+      same_pairs = pairs-remove laws log k ∙ ap (λ es. without eq es k) defines.same_pairs ∙ sym h;
+      same_capacity = high-remove laws log start k ∙ defines.same_capacity ∙ sym m;
+      same_mode = mode-snoc log (Remove k) ∙ defines.same_mode ∙ sym o;
+    }
+
+    -- after a write
+    pub Defines-write : (v : V) {later : List (K × V)} {capacity' : ℕ} {m' : Mode}
+        → later ≡ set_value eq contents k v → capacity' ≡ capacity → m' ≡ m
+        → Defines eq start (log ++ Write k v ∷ []) later capacity' m'
+    Defines-write v h m o = record {
+      same_pairs = pairs-write laws log k v ∙ ap (λ es. set_value eq es k v) defines.same_pairs ∙ sym h;
+      same_capacity = high-write laws log start k v ∙ defines.same_capacity ∙ sym m;
+      same_mode = mode-snoc log (Write k v) ∙ defines.same_mode ∙ sym o;
+    }
+
+    -- after a refresh of a key with a value
+    pub Defines-refresh : (v : V) {later : List (K × V)} {capacity' : ℕ} {m' : Mode}
+        → Some v ≡ value_at eq contents k → later ≡ to_back eq contents k v → capacity' ≡ capacity
+        → m' ≡ m → Defines eq start (log ++ Refresh k ∷ []) later capacity' m'
+    Defines-refresh v {later} {capacity'} {m'} found h m o =
+        by_pair (pair_of (eq k) log) refl (found ∙ ap (option_map (λ pair. pair.1)) the_pair)
+      where
+        by_pair : (o : Option (K × V)) → pair_of (eq k) log ≡ o
+            → Some v ≡ option_map (λ pair. pair.1) o
+            → Defines eq start (log ++ Refresh k ∷ []) later capacity' m'
+        by_pair None is same = absurd (true≢false (ap is_some same))
+        by_pair (Some pair) is same =
+            let v-is : v ≡ pair.1 = cc in
+            record {
+              same_pairs =
+                  pairs-refresh laws log k pair is
+                  ∙ ap₂ (λ es w. to_back eq es k w) defines.same_pairs (sym v-is)
+                  ∙ sym h;
+              same_capacity = high-refresh laws log start k ∙ defines.same_capacity ∙ sym m;
+              same_mode = mode-snoc log (Refresh k) ∙ defines.same_mode ∙ sym o;
+            }
+
+  -- after all pairs are dropped
+  pub Defines-remove_all : {later : List (K × V)} {capacity' : ℕ} {m' : Mode} → later ≡ []
+      → capacity' ≡ capacity → m' ≡ m → Defines eq start (log ++ RemoveAll ∷ []) later capacity' m'
+  Defines-remove_all h m o = record {
+    same_pairs = pairs-remove_all laws log ∙ sym h;
+    same_capacity = high-remove_all laws log start ∙ defines.same_capacity ∙ sym m;
+    same_mode = mode-snoc log RemoveAll ∙ defines.same_mode ∙ sym o;
+  }
+
+  -- after room is reserved
+  pub Defines-reserve : (additional : ℕ) {later : List (K × V)} {capacity' : ℕ} {m' : Mode}
+      → later ≡ contents → capacity' ≡ max capacity (length contents + additional) → m' ≡ m
+      → Defines eq start (log ++ Need (size eq log + additional) ∷ []) later capacity' m'
+  Defines-reserve additional h m o = record {
+    same_pairs = pairs-need laws log (size eq log + additional) ∙ defines.same_pairs ∙ sym h;
+    same_capacity =
+        high-need laws start log (size eq log + additional)
+        ∙ ap₂ (λ room n. max room (n + additional)) defines.same_capacity size-contents
+        ∙ sym m;
+    same_mode = mode-snoc log (Need (size eq log + additional)) ∙ defines.same_mode ∙ sym o;
+  }
+
+  -- after the capacity is lowered to the number of pairs
+  pub Defines-shrink : {later : List (K × V)} {capacity' : ℕ} {m' : Mode} → later ≡ contents
+      → capacity' ≡ length contents → m' ≡ m → Defines eq start (log ++ Fit ∷ []) later capacity' m'
+  Defines-shrink h m o = record {
+    same_pairs = pairs-fit laws log ∙ defines.same_pairs ∙ sym h;
+    same_capacity = high-fit laws start log ∙ size-contents ∙ sym m;
+    same_mode = mode-snoc log Fit ∙ defines.same_mode ∙ sym o;
+  }
+
+  -- after a mode is set
+  pub Defines-set_mode : (set : Mode) {later : List (K × V)} {capacity' : ℕ} {m' : Mode}
+      → later ≡ contents → capacity' ≡ capacity → m' ≡ set
+      → Defines eq start (log ++ SetMode set ∷ []) later capacity' m'
+  Defines-set_mode set h m o = record {
+    same_pairs = pairs-set_mode laws log set ∙ defines.same_pairs ∙ sym h;
+    same_capacity = high-set_mode laws log start set ∙ defines.same_capacity ∙ sym m;
+    same_mode = mode-snoc log (SetMode set) ∙ sym o;
+  }
+
+  -- the keys that a log defines are different
+  pub distinct-contents : IsDistinct eq (keys_of contents)
+  distinct-contents = subst (λ es. IsDistinct eq (keys_of es)) defines.same_pairs (distinct-pairs laws log)
+
+  -- after the pair at an index is taken out
+  Defines-remove_at : (i : ℕ) (pair : K × V) {later : List (K × V)} {capacity' : ℕ} {m' : Mode}
+      → slice_get contents i ≡ Some pair → later ≡ remove contents i → capacity' ≡ capacity → m' ≡ m
+      → Defines eq start (log ++ Remove pair.0 ∷ []) later capacity' m'
+  Defines-remove_at i pair there h m o = Defines-remove pair.0 (h ∙ sym (without-own laws contents distinct-contents i pair there)) m o
+
+  pub Defines-pop_front : (k : K) (v : V) {later : List (K × V)} {capacity' : ℕ} {m' : Mode}
+      → Some (k, v) ≡ slice_get contents 0 → later ≡ drop 1 contents → capacity' ≡ capacity → m' ≡ m
+      → Defines eq start (log ++ Remove k ∷ []) later capacity' m'
+  Defines-pop_front k v there h m o = Defines-remove_at 0 (k, v) (sym there) h m o
+
+  pub Defines-pop_back : (k : K) (v : V) {later : List (K × V)} {capacity' : ℕ} {m' : Mode}
+      → Some (k, v) ≡ slice_get contents (length contents - 1)
+      → later ≡ take (length contents - 1) contents → capacity' ≡ capacity → m' ≡ m
+      → Defines eq start (log ++ Remove k ∷ []) later capacity' m'
+  Defines-pop_back k v there h m o = Defines-remove_at (length contents - 1) (k, v) (sym there) (h ∙ sym (remove-last contents)) m o
+
+  -- the pair at an index of the map is that of the log
+  pub slice_get-contents : (i : ℕ) {o : Option (K × V)} → o ≡ slice_get contents i → slice_get (pairs eq log) i ≡ o
+  slice_get-contents i h = ap (λ es. slice_get es i) defines.same_pairs ∙ sym h
+
+  pub slice_get_last-contents : {o : Option (K × V)} → o ≡ slice_get contents (length contents - 1)
+      → slice_get (pairs eq log) (length (pairs eq log) - 1) ≡ o
+  slice_get_last-contents h = ap (λ es. slice_get es (length es - 1)) defines.same_pairs ∙ sym h
+
+  pub pairs-no_last : None ≡ slice_get contents (length contents - 1) → pairs eq log ≡ []
+  pairs-no_last h = defines.same_pairs ∙ no_last_is_nil contents h

@@ -1,0 +1,92 @@
+-- Pairs inserted one after another: a key that is absent then, and a log that defines the map.
+use Rattle.std.proofs.Common.{◌≡◌, ℕ, ◌+◌, max, Bool, true, false, ◌||◌, List, [], ◌∷◌, ◌++◌}
+use Rattle.std.proofs.Common.{length, slice_get, take, Some, None, is_some, true≢false, refl, sym}
+use Rattle.std.proofs.Common.{ap, ap₂, subst, ◌∙◌, append_assoc, length-append, arith}
+use Rattle.std.specs.Cmp.{IsEquivalence}
+use Rattle.std.proofs.lemmas.List.{map-append}
+use Rattle.std.proofs.Math.Seq.{take-append_seam}
+use Rattle.linked_hash_map.specs.Changes.{KeepsSettings}
+use Rattle.linked_hash_map.specs.LinkedMap.{LinkedMap}
+use Rattle.linked_hash_map.specs.Log.{Log, Put, put_each, Defines}
+use Rattle.linked_hash_map.specs.declared.map.Mode.{Mode}
+use Rattle.linked_hash_map.specs.Pairs.{find, put}
+use Rattle.linked_hash_map.specs.Inserts.{insert_each}
+use Rattle.linked_hash_map.specs.AllowedAnswers.{HasNoRoom}
+use Rattle.linked_hash_map.proofs.lists.Elements.{slice_get-append}
+use Rattle.linked_hash_map.proofs.log.LiveKeys.{none_is}
+use Rattle.linked_hash_map.proofs.runs.Effects.{IsFull-contents, IsAbsent-found, Defines-put}
+use Rattle.linked_hash_map.proofs.Callers.Collected.{is_some-insert_each}
+
+-- a key that is absent after insertions was absent before them
+pub find-insert_each_absent : {K V : Type 0} {eq : K → K → Bool} → IsEquivalence eq
+    → (mode : Mode) (pairs items : List (K × V)) (q : K)
+    → find eq (insert_each eq mode pairs items) q ≡ None → find eq pairs q ≡ None
+find-insert_each_absent {eq = eq} laws mode pairs items q absent =
+    none_is (find eq pairs q) (none_of (is_some (find eq pairs q))
+    (sym (is_some-insert_each laws mode pairs items q) ∙ ap is_some absent))
+  where
+    none_of : (b : Bool) → (b || is_some (find eq items q)) ≡ false → b ≡ false
+    none_of true h = absurd (true≢false h)
+    none_of false h = refl
+
+-- of all pairs the first, n of them, went into a map, and left another, and the rest is to come: a
+-- log that defines the one map defines the other with a Put for each
+pub record HasExtended {K V S : Type 0} (eq : K → K → Bool) (old : LinkedMap K V S)
+    (all first rest : List (K × V)) (n : ℕ) (new : LinkedMap K V S) : Type 0 where
+  pub count : n ≡ length first
+  pub split : first ++ rest ≡ all
+  pub defines : (start : ℕ) (log : Log K V) → Defines eq start log old.pairs old.capacity old.mode
+      → Defines eq start (log ++ put_each first) new.pairs new.capacity new.mode
+  pub hasher : new.hasher ≡ old.hasher
+
+module _ {K V S : Type 0} {eq : K → K → Bool} (laws : IsEquivalence eq)
+    {old before : LinkedMap K V S} {all first these : List (K × V)} {n : ℕ}
+    (so_far : HasExtended eq old all first these n before) {k : K} {v : V} {rest : List (K × V)}
+    (next : these ≡ (k, v) ∷ rest) where
+  longer : (log : Log K V)
+      → (log ++ put_each first) ++ Put k v ∷ [] ≡ log ++ put_each (first ++ (k, v) ∷ [])
+  longer log =
+      append_assoc log (put_each first) (Put k v ∷ []) ∙ ap (λ events. log ++ events)
+      (sym (map-append (λ (pair : K × V). Put pair.0 pair.1) first ((k, v) ∷ [])))
+
+  -- the next pair went in
+  pub HasExtended-put : {after : LinkedMap K V S}
+      → after.pairs ≡ put eq before.mode before.pairs k v
+      → after.capacity ≡ max before.capacity (length after.pairs) → KeepsSettings before after
+      → HasExtended eq old all (first ++ (k, v) ∷ []) rest (n + 1) after
+  HasExtended-put {after} pairs_are raised same = record {
+    count = let as_many = so_far.count in let longer = length-append first ((k, v) ∷ []) in omega arith;
+    split = append_assoc first ((k, v) ∷ []) rest ∙ ap (λ es. first ++ es) (sym next) ∙ so_far.split;
+    defines = λ start log defines.
+        subst (λ events. Defines eq start events after.pairs after.capacity after.mode) (longer log)
+        (Defines-put laws (so_far.defines start log defines) k v pairs_are raised same.mode);
+    hasher = same.hasher ∙ so_far.hasher;
+  }
+
+  whole : first ++ (k, v) ∷ rest ≡ all
+  whole = ap (λ es. first ++ es) (sym next) ∙ so_far.split
+
+  -- the next pair is that after the first n, which are those that went in
+  pub next-there : slice_get all n ≡ Some (k, v)
+  next-there = ap₂ (λ i es. slice_get es i) so_far.count (sym whole) ∙ slice_get-append first (k, v) rest
+
+  taken-first : take n all ≡ first
+  taken-first = ap₂ (λ i es. take i es) so_far.count (sym whole) ∙ take-append_seam first ((k, v) ∷ rest)
+
+  -- if it has no room, it is refused on the log with a Put for each of those, which goes on to
+  -- define the map
+  pub HasNoRoom-next : {start : ℕ} {log : Log K V}
+      → Defines eq start log old.pairs old.capacity old.mode → find eq before.pairs k ≡ None
+      → length before.pairs ≡ before.capacity → HasNoRoom eq start (log ++ put_each (take n all)) k
+  HasNoRoom-next {start} {log} defines absent full =
+      let now = so_far.defines start log defines in
+      subst (λ es. HasNoRoom eq start (log ++ put_each es) k) (sym taken-first)
+      (IsAbsent-found laws now k absent, IsFull-contents laws now full)
+
+  pub Defines-taken : {start : ℕ} {log : Log K V}
+      → Defines eq start log old.pairs old.capacity old.mode → {after : LinkedMap K V S}
+      → after ≡ before
+      → Defines eq start (log ++ put_each (take n all)) after.pairs after.capacity after.mode
+  Defines-taken {start} {log} defines {after} unchanged =
+      subst (λ es. Defines eq start (log ++ put_each es) after.pairs after.capacity after.mode) (sym taken-first)
+      (subst (λ m. Defines eq start (log ++ put_each first) m.pairs m.capacity m.mode) (sym unchanged) (so_far.defines start log defines))

@@ -1,0 +1,5 @@
+pub mod Leaving
+pub mod Lists
+pub mod Pairs
+pub mod Puts
+pub mod Retained

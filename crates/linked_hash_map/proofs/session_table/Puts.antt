@@ -1,0 +1,166 @@
+-- What a put does to the pairs of a table's map.
+use Rattle.std.proofs.Common.{◌≡◌, ℕ, zero, suc, ◌+◌, ◌-◌, ◌<◌, ◌≤◌, Bool, true, false, cond, List, [], ◌∷◌, ◌++◌, length, drop, nat_eq}
+use Rattle.std.proofs.Common.{Option, Some, None, is_some, option_map, true≢false, refl, sym, ap, ◌∙◌, arith, length-append, length-drop}
+use Rattle.std.specs.Cmp.{IsEquivalence, nat_eq_equiv}
+use Rattle.std.specs.List.{IsDistinct}
+use Rattle.std.specs.Map.{keys_of}
+use Rattle.std.specs.Option.{IsSome}
+use Rattle.std.proofs.lemmas.List.{drop-map, drop-append-le}
+use Rattle.std.proofs.lemmas.Map.Keys.{IsDistinct-tail}
+use Rattle.linked_hash_map.specs.Pairs as pairs
+use Rattle.linked_hash_map.specs.SessionTables.{Session, total_weight, session_of, payload_of, without, with_last, fit}
+use Rattle.linked_hash_map.specs.SessionsKept.{sessions_of}
+use Rattle.linked_hash_map.specs.declared.sessions.storage.Weighted.{Weighted}
+use Rattle.linked_hash_map.proofs.Callers.Keys.{distinct-to_back, find-drop, without-absent}
+use Rattle.linked_hash_map.proofs.Callers.Lookups.{find-without_here, value_at-to_back_apart}
+use Rattle.linked_hash_map.proofs.Callers.Turns.{find-others}
+use Rattle.linked_hash_map.proofs.log.LiveKeys.{none_is}
+use Rattle.linked_hash_map.proofs.session_table.Lists.{total_weight-append, total_weight-last, fit-all, fit-append, session_of-append}
+use Rattle.linked_hash_map.proofs.session_table.Pairs.{sessions_of-without, sessions_of-to_back, length-sessions_of, is_some-session_of}
+use Rattle.linked_hash_map.proofs.session_table.Pairs.{payload_of-sessions_of}
+
+-- a key that is found among the last pairs has there the pair that it has among all
+find-drop_present : {K V : Type 0} {eq : K → K → Bool} → IsEquivalence eq
+    → (ps : List (K × V)) (q : K) (n : ℕ) → IsDistinct eq (keys_of ps)
+    → IsSome (pairs.find eq (drop n ps) q) → pairs.find eq (drop n ps) q ≡ pairs.find eq ps q
+find-drop_present laws ps q zero distinct found = refl
+find-drop_present laws [] q (suc n) distinct found = refl
+find-drop_present {K} {V} {eq} laws (pair ∷ ps) q (suc n) distinct found = by_test (eq q pair.0)
+    refl (find-drop_present laws ps q n (IsDistinct-tail eq pair.0 (keys_of ps) distinct) found)
+  where
+    by_test : (b : Bool) → eq q pair.0 ≡ b → pairs.find eq (drop n ps) q ≡ pairs.find eq ps q
+        → pairs.find eq (drop n ps) q ≡ cond b (Some pair) (pairs.find eq ps q)
+    by_test true same rest = absurd (true≢false (sym found ∙ ap is_some (rest ∙ find-others laws ps q pair distinct same)))
+    by_test false apart rest = rest
+
+-- there is room for one more once some are out, or at once
+pub room-left : (count len capacity : ℕ) → count ≤ len → len ≤ capacity → (count ≡ 0 → len < capacity) → len - count < capacity
+room-left zero len capacity enough within free = let below = free refl in omega arith
+room-left (suc count) len capacity enough within free = omega arith
+
+module _ {T : Type 0} where
+  -- a session whose id is new is put behind the others
+  pub with_last-new : (ps : List (ℕ × Weighted T)) (id weight : ℕ) (payload : T)
+      → pairs.find nat_eq ps id ≡ None
+      → with_last (sessions_of ps) id weight payload ≡ sessions_of ps ++ (id, weight, payload) ∷ []
+  with_last-new ps id weight payload none =
+      ap (λ l. l ++ (id, weight, payload) ∷ []) (sym (sessions_of-without ps id) ∙ ap sessions_of (without-absent nat_eq ps id none))
+
+  pub sessions_of-drop : (count : ℕ) (ps : List (ℕ × Weighted T)) → sessions_of (drop count ps) ≡ drop count (sessions_of ps)
+  sessions_of-drop count ps = sym (drop-map (λ (pair : ℕ × Weighted T). (pair.0, pair.1.weight, pair.1.payload)) count ps)
+
+  -- the front ones are not the new one
+  pub drop-with_last : (sessions : List (Session T)) (count id weight : ℕ) (payload : T) → count ≤ length (without sessions id)
+      → drop count (with_last sessions id weight payload) ≡ drop count (without sessions id) ++ (id, weight, payload) ∷ []
+  drop-with_last sessions count id weight payload enough = drop-append-le count (without sessions id) ((id, weight, payload) ∷ []) enough
+
+  pub with_last-drop : (ps : List (ℕ × Weighted T)) (count id weight : ℕ) (payload : T) → pairs.find nat_eq ps id ≡ None → count ≤ length ps
+      → with_last (sessions_of (drop count ps)) id weight payload ≡ drop count (with_last (sessions_of ps) id weight payload)
+  with_last-drop ps count id weight payload none enough =
+      with_last-new (drop count ps) id weight payload (find-drop nat_eq ps id count none)
+      ∙ ap (λ l. l ++ (id, weight, payload) ∷ []) (sessions_of-drop count ps)
+      ∙ sym (drop-append-le count (sessions_of ps) ((id, weight, payload) ∷ []) (omega (arith, length-sessions_of ps)))
+      ∙ ap (drop count) (sym (with_last-new ps id weight payload none))
+
+  pub length-without_new : (ps : List (ℕ × Weighted T)) (id : ℕ) → pairs.find nat_eq ps id ≡ None
+      → length (without (sessions_of ps) id) ≡ length ps
+  length-without_new ps id none =
+      ap length (sym (sessions_of-without ps id)) ∙ length-sessions_of (pairs.without nat_eq ps id)
+      ∙ ap length (without-absent nat_eq ps id none)
+
+  -- whether an id is new
+  pub find-new : (ps : List (ℕ × Weighted T)) (id : ℕ) → is_some (session_of (sessions_of ps) id) ≡ false → pairs.find nat_eq ps id ≡ None
+  find-new ps id new = none_is (pairs.find nat_eq ps id) (sym (is_some-session_of ps id) ∙ new)
+
+  some_weight : (o : Option (Session T)) → is_some (option_map (λ (session : Session T). session.1) o) ≡ is_some o
+  some_weight None = refl
+  some_weight (Some session) = refl
+
+  pub is_some-weight : (sessions : List (Session T)) (id : ℕ) {weight : Option ℕ}
+      → weight ≡ option_map (λ session. session.1) (session_of sessions id)
+      → is_some (session_of sessions id) ≡ is_some weight
+  is_some-weight sessions id known = sym (ap is_some known ∙ some_weight (session_of sessions id))
+
+  pub find-drop_new : (ps : List (ℕ × Weighted T)) (count id : ℕ) {left : List (ℕ × Weighted T)}
+      → pairs.find nat_eq ps id ≡ None → left ≡ drop count ps → pairs.find nat_eq left id ≡ None
+  find-drop_new ps count id none oldest = ap (λ l. pairs.find nat_eq l id) oldest ∙ find-drop nat_eq ps id count none
+
+  pub payload_of-new : (ps : List (ℕ × Weighted T)) (id : ℕ) → pairs.find nat_eq ps id ≡ None → payload_of (sessions_of ps) id ≡ None
+  payload_of-new ps id none =
+      payload_of-sessions_of ps id ∙ ap (option_map (λ (weighted : Weighted T). weighted.payload))
+      (ap (option_map (λ pair. pair.1)) none)
+
+  -- a put adds no more than one
+  pub length-with_last : (sessions : List (Session T)) (id weight : ℕ) (payload : T)
+      → length (with_last sessions id weight payload) ≡ length (without sessions id) + 1
+  length-with_last sessions id weight payload = length-append (without sessions id) ((id, weight, payload) ∷ [])
+
+  -- the new session stays, with those that fit beside it
+  pub fit-with_last : (limit weight id : ℕ) (payload : T) (sessions left : List (Session T))
+      → weight ≤ limit → left ≡ fit (limit - weight) (without sessions id)
+      → left ++ (id, weight, payload) ∷ [] ≡ fit limit (with_last sessions id weight payload)
+  fit-with_last limit weight id payload sessions left light fits =
+      ap (λ l. l ++ (id, weight, payload) ∷ []) fits ∙ sym (fit-append limit (without sessions id) (id, weight, payload) light)
+
+  -- and is the one of its id
+  pub payload_of-put : (ps : List (ℕ × Weighted T)) (count id weight : ℕ) (payload : T)
+      → payload_of (drop count (without (sessions_of ps) id) ++ (id, weight, payload) ∷ []) id
+      ≡ Some payload
+  payload_of-put ps count id weight payload =
+      let left = drop count (pairs.without nat_eq ps id) in
+      let none = find-drop nat_eq (pairs.without nat_eq ps id) id count (find-without_here nat_eq_equiv ps id) in
+      let absent = none_is (session_of (sessions_of left) id) (is_some-session_of left id ∙ ap is_some none) in
+      let same = sessions_of-drop count (pairs.without nat_eq ps id) ∙ ap (drop count) (sessions_of-without ps id) in
+      ap (λ l. payload_of (l ++ (id, weight, payload) ∷ []) id) (sym same)
+      ∙ ap (option_map (λ (session : Session T). session.2)) (session_of-append (sessions_of left) (id, weight, payload) absent)
+
+  some_payload : (o : Option (Session T)) → is_some (option_map (λ (session : Session T). session.2) o) ≡ is_some o
+  some_payload None = refl
+  some_payload (Some session) = refl
+
+  -- another session that stays has the payload that it had
+  pub payload_of-stays : (ps : List (ℕ × Weighted T)) (count id other weight : ℕ) (payload : T)
+      → IsDistinct nat_eq (keys_of ps) → nat_eq id other ≡ false
+      → IsSome (payload_of (drop count (with_last (sessions_of ps) id weight payload)) other)
+      → payload_of (drop count (with_last (sessions_of ps) id weight payload)) other
+      ≡ payload_of (sessions_of ps) other
+  payload_of-stays ps count id other weight payload distinct apart stays =
+      let weighted : Weighted T = record { weight = weight; payload = payload } in
+      let qs = pairs.to_back nat_eq ps id weighted in
+      let as_pairs : drop count (with_last (sessions_of ps) id weight payload) ≡ sessions_of (drop count qs) =
+      ap (drop count) (sym (sessions_of-to_back ps id weighted))
+      ∙ sym (sessions_of-drop count qs) in
+      let found : IsSome (pairs.find nat_eq (drop count qs) other) =
+      sym (is_some-session_of (drop count qs) other)
+      ∙ sym (some_payload (session_of (sessions_of (drop count qs)) other))
+      ∙ ap (λ l. is_some (payload_of l other)) (sym as_pairs) ∙ stays in
+      ap (λ l. payload_of l other) as_pairs
+      ∙ payload_of-sessions_of (drop count qs) other
+      ∙ ap (option_map (λ (w : Weighted T). w.payload))
+      (ap (option_map (λ (pair : ℕ × Weighted T). pair.1)) (find-drop_present nat_eq_equiv qs other
+      count (distinct-to_back nat_eq_equiv ps id weighted distinct) found)
+      ∙ value_at-to_back_apart nat_eq_equiv ps id other weighted apart)
+      ∙ sym (payload_of-sessions_of ps other)
+
+  pub total_weight-put : (weight id : ℕ) (payload : T) (left : List (Session T))
+      → total_weight (left ++ (id, weight, payload) ∷ []) ≡ total_weight left + weight
+  total_weight-put weight id payload left =
+      total_weight-append left ((id, weight, payload) ∷ []) ∙ ap (λ w. total_weight left + w) (total_weight-last (id, weight, payload))
+
+  -- as many went as were counted
+  pub length-gone : (count : ℕ) (gone left sessions : List (Session T)) → gone ++ left ≡ sessions
+      → left ≡ drop count sessions → count ≤ length sessions → length gone ≡ count
+  length-gone count gone left sessions all rest within = omega
+      (arith, ap length all, ap length rest, length-append gone left, length-drop count sessions)
+
+  -- if all fit, none goes
+  pub none-leaves : (count weight_left : ℕ) (sessions : List (Session T))
+      → drop count sessions ≡ fit weight_left sessions → count ≤ length sessions
+      → total_weight sessions ≤ weight_left → count ≡ 0
+  none-leaves count weight_left sessions stay within light = omega
+      (arith, ap length (stay ∙ fit-all weight_left sessions light), length-drop count sessions)
+
+  pub not-absent : (ps : List (ℕ × Weighted T)) (id : ℕ)
+      → is_some (session_of (sessions_of ps) id) ≡ true → pairs.find nat_eq ps id ≡ None
+      → false ≡ true
+  not-absent ps id some none = ap is_some (sym none) ∙ sym (is_some-session_of ps id) ∙ some

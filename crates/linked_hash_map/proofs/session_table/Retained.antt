@@ -1,0 +1,110 @@
+-- The sessions that a closure keeps.
+use Rattle.std.proofs.Common.{◌≡◌, ℕ, ◌+◌, ◌≤◌, Bool, true, false, cond, List, [], ◌∷◌, inl, inr, refl, sym, ap, ◌∙◌, subst, arith}
+use Rattle.std.specs.Borrow.{MutBor}
+use Rattle.std.specs.List.{FoldsTo}
+use Rattle.std.specs.Map.Calls.{CallableOnEachPair, SomeCallAtPair, RetainsPairs}
+use denote.Param.Always.{always_mut, mut_next}
+use denote.Param.Members.{Mut}
+use Rattle.linked_hash_map.specs.Retains.{IsSublist}
+use Rattle.linked_hash_map.specs.SessionTables.{Session, total_weight}
+use Rattle.linked_hash_map.specs.SessionsKept.{sessions_of}
+use Rattle.linked_hash_map.specs.SessionRetains.{weights_of, CalledAtSession, RetainsSessions}
+use Rattle.linked_hash_map.specs.declared.sessions.storage.Weighted.{Weighted}
+use Rattle.linked_hash_map.proofs.nodes.Retained.{first-retained}
+use Rattle.linked_hash_map.proofs.session_table.Lists.{total_weight-cons}
+
+module _ {F T : Type 0} (g : Mut F (ℕ × (ℕ × (MutBor T × Unit {0}))) (Bool × (MutBor T × Unit {0}))) where
+  -- whatever the closure does, some of the sessions stay, in order, each with its weight
+  pub weights-retained : (f : F) (sessions kept : List (Session T))
+      → RetainsSessions g f sessions kept → IsSublist (weights_of kept) (weights_of sessions)
+  weights-retained f [] kept r = ap weights_of r
+  weights-retained f (session ∷ sessions) kept r =
+      let rest = weights-retained r.closure sessions r.rest r.retained in
+      (elim r.returned as (λ b. kept ≡ cond b ((session.0, session.1, r.payload) ∷ r.rest) r.rest
+      → IsSublist (weights_of kept) ((session.0, session.1) ∷ weights_of sessions)) [
+        | true ↦ λ is. inr (weights_of r.rest, ap weights_of is, rest)
+        | false ↦ λ is. inl (subst (λ (l : List (Session T)). IsSublist (weights_of l) (weights_of sessions)) (sym is) rest)
+      ]) r.kept_is
+
+  -- and they weigh no more
+  pub total_weight-retained : (f : F) (sessions kept : List (Session T))
+      → RetainsSessions g f sessions kept → total_weight kept ≤ total_weight sessions
+  total_weight-retained f [] kept r = let none = ap total_weight r in omega (arith, none)
+  total_weight-retained f (session ∷ sessions) kept r =
+      let rest = total_weight-retained r.closure sessions r.rest r.retained in
+      let all = total_weight-cons session sessions in
+      (elim r.returned as (λ b. kept ≡ cond b ((session.0, session.1, r.payload) ∷ r.rest) r.rest
+      → total_weight kept ≤ total_weight (session ∷ sessions)) [
+        | true ↦ λ is. let some = ap total_weight is in
+            let stays = total_weight-cons (session.0, session.1, r.payload) r.rest in
+            omega (arith, rest, all, some, stays)
+        | false ↦ λ is. let some = ap total_weight is in omega (arith, rest, all, some)
+      ]) r.kept_is
+
+  -- a closure that may always be called may be called again after each call
+  pub always-called : (f : F) (session : Session T) (b : Bool) (payload : T) (f' : F)
+      → CalledAtSession g f session b payload f' → always_mut g f → always_mut g f'
+  always-called f session b payload f' call always = mut_next g _ _ _ _ _ call.called refl always
+
+-- the weight of the first of the sessions that pairs stand for, and of the others
+pub total_weight-next : {T : Type 0} (pairs : List (ℕ × Weighted T)) (pair : ℕ × Weighted T)
+    (rest : List (ℕ × Weighted T)) → pairs ≡ pair ∷ rest
+    → total_weight (sessions_of pairs) ≡ pair.1.weight + total_weight (sessions_of rest)
+total_weight-next pairs pair rest is = ap (λ ps. total_weight (sessions_of ps)) is
+    ∙ total_weight-cons (pair.0, pair.1.weight, pair.1.payload) (sessions_of rest)
+
+-- what a closure over the pairs of a map keeps, if each of its calls is one of the closure over
+-- sessions
+module _ {C F T : Type 0} (calls : C → ℕ → Weighted T → Bool → Weighted T → C → Type 0)
+    (g : Mut F (ℕ × (ℕ × (MutBor T × Unit {0}))) (Bool × (MutBor T × Unit {0}))) (inner : C → F)
+    (says : (c : C) (id : ℕ) (weighted : Weighted T) (b : Bool) (left : Weighted T) (c' : C)
+    → calls c id weighted b left c'
+    → CalledAtSession g (inner c) (id, weighted.weight, weighted.payload) b left.payload (inner c')
+    × (left.weight ≡ weighted.weight)) where
+  sessions_of-cond : (b : Bool) (id : ℕ) (left : Weighted T) (pairs : List (ℕ × Weighted T))
+      → sessions_of (cond b ((id, left) ∷ pairs) pairs)
+      ≡ cond b ((id, left.weight, left.payload) ∷ sessions_of pairs) (sessions_of pairs)
+  sessions_of-cond true id left pairs = refl
+  sessions_of-cond false id left pairs = refl
+
+  pub sessions-retained : (c : C) (pairs kept : List (ℕ × Weighted T))
+      → RetainsPairs calls c pairs kept
+      → RetainsSessions g (inner c) (sessions_of pairs) (sessions_of kept)
+  sessions-retained c [] kept r = ap sessions_of r
+  sessions-retained c (pair ∷ pairs) kept r =
+      let of = first-retained calls c pair pairs kept r in
+      let said = says c pair.0 pair.1 of.returned of.value of.closure of.called in record {
+        returned = of.returned;
+        payload = of.value.payload;
+        closure = inner of.closure;
+        rest = sessions_of of.rest;
+        called = said.0;
+        retained = sessions-retained of.closure pairs of.rest of.retained;
+        kept_is = ap sessions_of of.kept_is ∙ sessions_of-cond of.returned pair.0 of.value of.rest
+            ∙ (λ i. cond of.returned ((pair.0, said.1 i, of.value.payload) ∷ sessions_of of.rest)
+            (sessions_of of.rest));
+      }
+
+  pub lighter-retained : (c : C) (pairs kept : List (ℕ × Weighted T))
+      → RetainsPairs calls c pairs kept
+      → total_weight (sessions_of kept) ≤ total_weight (sessions_of pairs)
+  lighter-retained c pairs kept r = total_weight-retained g (inner c) (sessions_of pairs)
+      (sessions_of kept) (sessions-retained c pairs kept r)
+
+-- what holds of a closure after each of its calls lets it be called at each pair
+module _ {C K X : Type 0} (calls : C → K → X → Bool → X → C → Type 0) (Ready : C → Type 0)
+    (still : (c : C) (k : K) (v : X) (b : Bool) (w : X) (c' : C) → calls c k v b w c' → Ready c
+    → Ready c') where
+  ready_after : (pairs : List (K × X)) (c c' : C) → FoldsTo (SomeCallAtPair calls) c pairs c' → Ready c → Ready c'
+  ready_after [] c c' end ready = subst Ready end ready
+  ready_after (pair ∷ pairs) c c' steps ready = ready_after pairs steps.0 c' steps.2
+      (still c pair.0 pair.1 steps.1.0 steps.1.1 steps.0 steps.1.2 ready)
+
+  pub callable-ready : (Takes : C → K → X → Type 0)
+      → ((c : C) (k : K) (v : X) → Ready c → Takes c k v) → (c : C) (pairs : List (K × X)) → Ready c
+      → CallableOnEachPair calls Takes c pairs
+  callable-ready Takes takes c pairs ready =
+      record {
+        at = λ before after c' k v is steps.
+            takes c' k v (ready_after before c c' steps ready);
+      }
