@@ -2,9 +2,9 @@
 # Passes every proof and test of the repository, and says for each part the seconds that it took and
 # its result.
 #
-# The parts are the scripts in scripts/, each of which runs by itself too, and the gate, `rt ci`.
-# What needs no proof runs beside the gate, on what the gate leaves of the processors. RT_CI is a
-# word for `rt ci`, as `--anew`. The last line is that of the gate, or says what failed.
+# The parts are the scripts in scripts/, each of which runs by itself too, their self-tests, and the
+# gate, `rt ci`. What needs no proof runs beside the gate, on what the gate leaves of the processors.
+# RT_CI is a word for `rt ci`, as `--anew`. The last line is that of the gate, or says what failed.
 set -u
 cd "$(dirname "$0")" || exit 2
 work=$(mktemp -d) || exit 2
@@ -19,25 +19,28 @@ run_part() {
     echo "$? $(($(date +%s) - began))" >"$work/$name.end"
 }
 
-# Shows what a part said, and its result.
+# Shows what a part said, and its result. A part fails too if it does not say the words given.
 show_part() {
     cat "$work/$1"
     status=1 seconds=0
     [ ! -e "$work/$1.end" ] || read -r status seconds <"$work/$1.end"
+    [ -z "${2:-}" ] || grep -q "$2" "$work/$1" || status="1, without '$2'"
     [ "$status" = 0 ] || failed="$failed $1"
     echo "$1: $seconds s, $([ "$status" = 0 ] && echo passed || echo FAILED)"
 }
 
-for part in readme-example shared-files dropped-counts claims; do
-    run_part $part "scripts/$part"
-    show_part $part
+for script in documents dropped-counts; do
+    run_part $script "scripts/$script"
+    show_part $script
 done
-run_part claims-self-test scripts/claims --self-test
-show_part claims-self-test
+for script in documents dropped-counts refused-growths programs; do
+    run_part $script-self-test "scripts/$script" --self-test
+    show_part $script-self-test
+done
 [ -z "$failed" ] || exit 1
 
 run_part refused-growths nice -n 19 scripts/refused-growths &
-run_part wrong-bodies-self-test nice -n 19 scripts/wrong-bodies-self-test &
+run_part wrong-bodies-self-test nice -n 19 scripts/wrong-bodies --self-test &
 
 began=$(date +%s)
 {
@@ -48,14 +51,11 @@ began=$(date +%s)
 show_part gate
 
 wait
-for part in built-program larger-run churn; do
-    [ -n "$failed" ] || run_part $part "scripts/$part"
-done
-show_part refused-growths
+[ -n "$failed" ] || run_part programs scripts/programs
+show_part refused-growths 'refusal_tests: [1-9]'
 show_part wrong-bodies-self-test
-for part in built-program larger-run churn; do
-    [ ! -e "$work/$part.end" ] || show_part $part
-done
+[ ! -e "$work/programs.end" ] ||
+    show_part programs ': 4 inputs .* 40 reserv.* 20000 lines .* 250 turns of 17 parts in 8192 KiB'
 if [ -n "$failed" ]; then
     echo "FAILED:$failed"
     exit 1

@@ -1,6 +1,6 @@
 """Runs of calls, drawn at random."""
 
-HASHERS = ("spread", "same", "letter")
+HASHERS = ("spread", "same", "letter", "wide")
 
 # The calls that leave most of a map, each with how often it comes and the forms of its words.
 CALLS = (
@@ -63,6 +63,7 @@ RARE_CALLS = (
     ("clone", 3, ""),
 )
 
+NAMES = [name for name, _, _ in CALLS + LONG_CALLS + RARE_CALLS]
 
 # The most pairs that a run begins with.
 MOST_AT_FIRST = 1000

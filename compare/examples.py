@@ -48,6 +48,11 @@ EXAMPLES = {
     "extension and collection": [
         "extend a x 1 y 2 x 3", "front a", "back a", "from_iter b x 1 y 2", "extend_refs b",
     ],
+    "hashes of 64 bits": [
+        "from_iter a a 1 b 2 c 3 d 4 e 5 f 6 g 7 h 8 i 9", "with_hasher a wide",
+        "extend a a 1 b 2 c 3 d 4 e 5 f 6 g 7 h 8 i 9", "get a a", "get a e", "get a i", "get a j",
+        "remove a e", "get a e", "get_refresh a a 1", "shrink_to_fit a", "get a i", "iter a bf f",
+    ],
     "draining": ["insert a x 1", "insert a y 2", "drain a f", "len a"],
     "debug text": ["insert a x 1", "debug a", "debug_pretty a", "clone b", "debug b"],
 }

@@ -56,7 +56,8 @@ class Original:
     """The driver over the original, which lies in a folder of cargo packages."""
 
     def __init__(self, registry=REGISTRY):
-        self.program = built_by_cargo(COMPARE, ["linked-hash-map-0.5.6"], registry) / "compare"
+        folder = COMPARE / "original"
+        self.program = built_by_cargo(folder, ["linked-hash-map-0.5.6"], registry) / "original"
 
     def outputs(self, runs):
         """Returns the lines that each run prints."""
@@ -64,7 +65,8 @@ class Original:
 
 
 class Port:
-    """The driver over the port: the proved program, or else one that `rt try` builds."""
+    """The driver over the port: the built program, or else one that `rt try` builds, which proves
+    nothing."""
 
     def __init__(self):
         self.program = DRIVER / "out" / "driver"
@@ -107,6 +109,7 @@ def is_up_to_date(program, crate):
 
 
 def text_of(lines):
+    """Returns the text of some lines."""
     return "".join(line + "\n" for line in lines)
 
 

@@ -11,7 +11,7 @@ use std::mem;
 /// A value of 2^10 bytes.
 type Large = [u8; 1 << 10];
 
-/// How many nodes of large values take more memory than `scripts/churn` gives.
+/// How many nodes of large values take more memory than `scripts/programs` gives.
 const SEVERAL: usize = 1 << 13;
 
 /// A value of 2^30 bytes. A map of such values is never there: to drop it would take a local of

@@ -8,7 +8,7 @@ use linked_hash_map::LinkedHashMap;
 use std::alloc::Global;
 
 /// How many maps are kept to the end: the nodes that they had before they were shrunk would take
-/// more memory than `scripts/churn` gives.
+/// more memory than `scripts/programs` gives.
 const KEPT: u64 = 128;
 
 /// Shrinks a map with room and no pairs, and fills it again.

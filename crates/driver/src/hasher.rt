@@ -4,6 +4,9 @@ ghost use Rattle.driver.specs.Hashers.{hash_of};
 
 use std::hash::{BuildHasher, Hasher};
 
+/// An odd number whose multiples have changing bits up to the highest.
+const MULTIPLIER: u64 = 0x9E37_79B9_7F4A_7C15;
+
 /// What a hasher makes of the bytes that are written.
 #[derive(Clone, Copy, Debug)]
 pub enum Choice {
@@ -13,6 +16,8 @@ pub enum Choice {
     Same,
     /// The first byte.
     Letter,
+    /// A hash that differs for most keys in each of its 64 bits.
+    Wide,
 }
 
 impl Choice {
@@ -21,6 +26,7 @@ impl Choice {
         match name {
             "same" => Choice::Same,
             "letter" => Choice::Letter,
+            "wide" => Choice::Wide,
             _ => Choice::Spread,
         }
     }
@@ -48,6 +54,7 @@ impl Hasher for KeyHasher {
             Choice::Spread => self.number,
             Choice::Same => 0,
             Choice::Letter => self.first,
+            Choice::Wide => self.number.wrapping_mul(MULTIPLIER),
         }
     }
 

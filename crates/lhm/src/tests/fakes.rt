@@ -7,6 +7,15 @@ use std::io::{ErrorKind, Read, Write};
 /// The call at which a reader or a writer that works fails.
 pub const NEVER: usize = 0;
 
+/// Counts a call, and fails with an error of this kind if it is the one that is to fail.
+fn count_call(calls: &mut usize, fails_at: usize, kind: ErrorKind) -> io::Result<()> {
+    *calls = calls.saturating_add(1);
+    if *calls == fails_at {
+        return Err(io::Error::new(kind, "refused"));
+    }
+    Ok(())
+}
+
 /// A reader over bytes that gives at most `most` of them at once and fails at call `fails_at`.
 #[derive(Drop)]
 pub struct Source<'a> {
@@ -32,10 +41,7 @@ impl<'a> Source<'a> {
 
 impl Read for Source<'_> {
     fn read(&mut self, buf: &mut [u8]) -> io::Result<usize> {
-        self.calls = self.calls.saturating_add(1);
-        if self.calls == self.fails_at {
-            return Err(io::Error::new(self.kind, "refused"));
-        }
+        count_call(&mut self.calls, self.fails_at, self.kind)?;
         let n = self.left.len().min(buf.len()).min(self.most);
         buf[..n].copy_from_slice(&self.left[..n]);
         self.left = &self.left[n..];
@@ -67,11 +73,7 @@ impl Sink {
     }
 
     fn count_call(&mut self) -> io::Result<()> {
-        self.calls = self.calls.saturating_add(1);
-        if self.calls == self.fails_at {
-            return Err(io::Error::other("refused"));
-        }
-        Ok(())
+        count_call(&mut self.calls, self.fails_at, ErrorKind::Other)
     }
 
     /// Returns what was written and flushed.
@@ -137,11 +139,7 @@ impl Output {
     }
 
     fn count_call(&mut self) -> io::Result<()> {
-        self.calls = self.calls.saturating_add(1);
-        if self.calls == self.fails_at {
-            return Err(io::Error::other("refused"));
-        }
-        Ok(())
+        count_call(&mut self.calls, self.fails_at, ErrorKind::Other)
     }
 }
 

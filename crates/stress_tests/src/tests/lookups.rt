@@ -2,7 +2,7 @@
 
 use super::checks::{check, check_eq, given};
 use super::counting::Counting;
-use super::multiple::{BuildMultiple, EIGHTFOLD, KEY, PARITY};
+use super::multiple::{BuildMultiple, EIGHTFOLD, KEY, PARITY, WIDE};
 use linked_hash_map::{Entry, LinkedHashMap, Probe};
 use std::alloc::Global;
 use std::cell::Cell;
@@ -137,6 +137,20 @@ fn compares_no_key_of_another_hash(rt: HostRuntime) {
         &rt,
         rt.alloc(),
         EIGHTFOLD,
+        Probe {
+            visited: 8,
+            compared: 0,
+        },
+    );
+}
+
+/// All of them fall into one bucket, and the upper bits of no two hashes agree.
+#[test]
+fn finds_keys_of_one_bucket_whose_upper_bits_differ(rt: HostRuntime) {
+    assert_counts(
+        &rt,
+        rt.alloc(),
+        WIDE,
         Probe {
             visited: 8,
             compared: 0,

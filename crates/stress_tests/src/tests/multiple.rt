@@ -1,5 +1,5 @@
 //! A hasher whose hash is a multiple of a key, which is taken modulo a number.
-ghost use Rattle.std.specs.Prelude.{◌≡◌, ◌+◌, ◌*◌, ◌/◌, ◌%◌, fold};
+ghost use Rattle.std.specs.Prelude.{◌≡◌, ◌+◌, ◌*◌, ◌/◌, ◌%◌, ◌^◌, fold};
 
 use std::hash::{BuildHasher, Hasher};
 
@@ -26,10 +26,12 @@ impl Hasher for Multiple {
       build = state.build;
     } };
 
-    ghost finish = { λ state. state.last % (state.build.largest + 1) * state.build.factor };
+    ghost finish = { λ state.
+        (state.last % (state.build.largest + 1) * state.build.factor) % 2 ^ 64 };
 
     fn finish(&self) -> u64 {
-        self.last % (self.build.largest as u64 + 1) * self.build.factor as u64
+        let key = self.last % (self.build.largest as u64 + 1);
+        key.wrapping_mul(self.build.factor)
     }
 
     fn write(&mut self, bytes: &[u8]) {
@@ -41,11 +43,12 @@ impl Hasher for Multiple {
     }
 }
 
-/// Makes hashers whose hash is `factor` times the key, taken modulo `largest + 1` first.
+/// Makes hashers whose hash is `factor` times the key, taken modulo `largest + 1` first, and modulo
+/// 2^64 at last.
 #[derive(Clone, Copy)]
 pub struct BuildMultiple {
     pub largest: u32,
-    pub factor: u32,
+    pub factor: u64,
 }
 
 /// The hash is the key, of keys of 32 bits.
@@ -64,6 +67,13 @@ pub const PARITY: BuildMultiple = BuildMultiple {
 pub const EIGHTFOLD: BuildMultiple = BuildMultiple {
     largest: u32::MAX,
     factor: 8,
+};
+
+/// The hash uses all 64 bits. Those of the keys 1 to 8 agree in the lower three, so they share a
+/// bucket of eight, and no two agree in the upper four.
+pub const WIDE: BuildMultiple = BuildMultiple {
+    largest: u32::MAX,
+    factor: 0x9E37_79B9_7F4A_7C18,
 };
 
 impl BuildHasher for BuildMultiple {

@@ -1,7 +1,7 @@
 //! Long runs of commands drawn at random, beside a plain map.
 
 use super::checks::{check_eq, given};
-use super::multiple::PARITY;
+use super::multiple::{PARITY, WIDE};
 use super::plain_map::PlainMap;
 use linked_hash_map::replay::{Answer, Command, PairList, Reply, replay};
 use linked_hash_map::{LIMIT, LinkedHashMap, Mode};
@@ -9,7 +9,7 @@ use std::alloc::{AllocError, Global};
 use std::hash::BuildHasher;
 use std::process::Abort;
 
-/// How many commands each of the two runs has.
+/// How many commands each of the three runs has.
 const STEPS: u32 = 50_000;
 
 /// Draws the same numbers in each run.
@@ -199,5 +199,14 @@ fn does_what_a_plain_map_does_under_a_bad_hasher(rt: HostRuntime) {
         &rt,
         rt.alloc(),
         LinkedHashMap::with_hasher(rt.alloc(), PARITY),
+    );
+}
+
+#[test]
+fn does_what_a_plain_map_does_where_hashes_use_all_bits(rt: HostRuntime) {
+    assert_run(
+        &rt,
+        rt.alloc(),
+        LinkedHashMap::with_hasher(rt.alloc(), WIDE),
     );
 }

@@ -2,12 +2,16 @@
 
 use std::hash::{BuildHasher, Hasher};
 
+/// An odd number whose multiples have changing bits up to the highest.
+const MULTIPLIER: u64 = 0x9E37_79B9_7F4A_7C15;
+
 /// What a hasher makes of the bytes that are written.
 #[derive(Clone, Copy, Debug)]
 pub enum Choice {
     Spread,
     Same,
     Letter,
+    Wide,
 }
 
 impl Choice {
@@ -16,6 +20,7 @@ impl Choice {
         match name {
             "same" => Choice::Same,
             "letter" => Choice::Letter,
+            "wide" => Choice::Wide,
             _ => Choice::Spread,
         }
     }
@@ -34,6 +39,7 @@ impl Hasher for KeyHasher {
             Choice::Spread => self.number,
             Choice::Same => 0,
             Choice::Letter => self.first,
+            Choice::Wide => self.number.wrapping_mul(MULTIPLIER),
         }
     }
 
