@@ -49,24 +49,8 @@ fn remove(entry: Occupied<'_>, text: &mut String) -> Result<(), AllocError> {
     write!(text, "{} ", entry.remove())
 }
 
-/// Makes an edit by an occupied entry: one in place, a removal at `r`, or a write to what the entry
-/// turns into at `m`.
-fn edit_pair(
-    mut entry: Occupied<'_>,
-    edit: u8,
-    value: u64,
-    text: &mut String,
-) -> Result<(), AllocError> {
-    edit_in_place(&mut entry, edit, value, text)?;
-    match edit {
-        b'r' => remove(entry, text)?,
-        b'm' => *entry.into_mut() = value,
-        _ => {}
-    }
-    Ok(())
-}
-
-/// Makes an edit by the entry of a key that is present.
+/// Makes an edit by the entry of a key that is present: one in place, a removal at `r`, or a write
+/// to what the entry turns into at `m`.
 fn edit_occupied(
     map: &mut Map,
     key: Key,
@@ -74,10 +58,16 @@ fn edit_occupied(
     value: u64,
     text: &mut String,
 ) -> Result<(), AllocError> {
-    match map.entry(key) {
-        Entry::Occupied(entry) => edit_pair(entry, edit, value, text),
-        Entry::Vacant(_) => Ok(()),
+    let Entry::Occupied(mut entry) = map.entry(key) else {
+        return Ok(());
+    };
+    edit_in_place(&mut entry, edit, value, text)?;
+    match edit {
+        b'r' => remove(entry, text)?,
+        b'm' => *entry.into_mut() = value,
+        _ => {}
     }
+    Ok(())
 }
 
 /// Makes an edit by the entry of a key that is absent: an insertion at `i`, one of 0 that is then
@@ -132,10 +122,16 @@ fn visit_next(
     value: u64,
     text: &mut String,
 ) -> Result<(), AllocError> {
-    match entries.next() {
-        Some(entry) => edit_pair(entry, edit, value, text),
-        None => write!(text, "end "),
+    let Some(mut entry) = entries.next() else {
+        return write!(text, "end ");
+    };
+    edit_in_place(&mut entry, edit, value, text)?;
+    match edit {
+        b'r' => remove(entry, text)?,
+        b'm' => *entry.into_mut() = value,
+        _ => {}
     }
+    Ok(())
 }
 
 /// Makes an edit by each entry of a cursor, up to the end of the word.

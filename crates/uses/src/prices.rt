@@ -1,12 +1,11 @@
 //! A price list.
-ghost use Rattle.std.specs.Prelude.{◌≡◌};
+ghost use Rattle.std.specs.Prelude.{◌≡◌, nat_eq, option_copied};
 ghost use Rattle.std.specs.Borrow.{sem};
 ghost use Rattle.std.specs.Map.{keys_of};
-ghost use Rattle.linked_hash_map.specs.Pairs.{KeysStand};
+ghost use Rattle.linked_hash_map.specs.Pairs.{value_at, KeysStand};
 ghost use Rattle.linked_hash_map.specs.ValueIterators.{pairs_left, loan_name};
 
 use linked_hash_map::{IterMut, LinkedHashMap};
-use std::alloc::Global;
 
 /// The prices of items, by their numbers, and the year in which they hold.
 #[derive(Drop)]
@@ -17,6 +16,28 @@ pub struct Prices {
 
 impl Prices {
     ghost use Rattle.uses.specs.Lending.{lends_prices};
+
+    /// Makes a list of these prices.
+    pub fn new(items: LinkedHashMap<u64, u64>, year: u64) -> Self
+        ensures items { result.items ≡ items }
+        ensures year { result.year ≡ year }
+    {
+        Prices { items, year }
+    }
+
+    /// Returns the price of an item.
+    pub fn get(&self, item: u64) -> Option<&u64>
+        ensures { option_copied result ≡ value_at nat_eq self.now.items.pairs item }
+    {
+        self.items.get(&item)
+    }
+
+    /// Returns the year.
+    pub fn year(&self) -> u64
+        ensures { result ≡ self.now.year }
+    {
+        self.year
+    }
 
     /// Lends all prices for writing, in order. The items stand, each in its place, and so does the
     /// year.

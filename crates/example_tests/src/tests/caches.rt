@@ -5,7 +5,7 @@ use super::checks::{check_eq, given};
 use super::programs::value_in;
 use std::alloc::Global;
 use std::process::Abort;
-use uses::cache::Cache;
+use uses::cache::{Cache, reset};
 use uses::pages::Pages;
 
 /// Writes the value of a key that is in a cache.
@@ -30,6 +30,17 @@ fn a_cache_gives_up_what_was_used_least_recently(rt: HostRuntime) {
     check_eq!(rt; cache.renew_oldest(13), Some((1, 12)));
     check_eq!(rt; cache.put(5, 50), Some((4, 40)));
     check_eq!(rt; cache.len(), 2);
+}
+
+#[test]
+fn a_cache_lends_all_its_values(rt: HostRuntime) {
+    let mut cache = value_in(&rt, Cache::new(rt.alloc(), 2));
+    check_eq!(rt; cache.put(1, 10), None);
+    check_eq!(rt; cache.put(2, 20), None);
+    reset(&mut cache);
+    check_eq!(rt; cache.put(3, 30), Some((1, 0)));
+    check_eq!(rt; cache.put(4, 40), Some((2, 0)));
+    check_eq!(rt; cache.put(5, 50), Some((3, 30)));
 }
 
 /// Puts a page of text in.

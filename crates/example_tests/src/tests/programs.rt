@@ -18,6 +18,7 @@ use uses::loops::{
 use uses::memory::{empty_out, rehashed, reserve_and_extend, reserve_and_insert};
 use uses::modes::insert_in_place;
 use uses::numbered::{Numbered, add_both};
+use uses::prices::{Prices, limit};
 use uses::queue::Queue;
 use uses::refusal::{insert_anyway, insert_if_new};
 use uses::retains::{age, keep_frequent};
@@ -53,6 +54,19 @@ fn items_come_under_numbers(rt: HostRuntime) {
     check_eq!(rt; items.get(2), None);
     check_eq!(rt; items.get(1), Some(&"pear"));
     check_eq!(rt; items.add("quince"), Ok(3));
+}
+
+#[test]
+fn prices_are_lowered_to_a_limit(rt: HostRuntime) {
+    let mut items = LinkedHashMap::new(rt.alloc());
+    check_eq!(rt; items.insert(7, 30), Ok(None));
+    check_eq!(rt; items.insert(5, 10), Ok(None));
+    let mut prices = Prices::new(items, 2026);
+    limit(&mut prices, 20);
+    check_eq!(rt; prices.get(7), Some(&20));
+    check_eq!(rt; prices.get(5), Some(&10));
+    check_eq!(rt; prices.get(6), None);
+    check_eq!(rt; prices.year(), 2026);
 }
 
 #[test]

@@ -30,8 +30,28 @@ fn assert_run<'a>(
     assert_dropped(rt, tally, all);
 }
 
-/// The bits of the three pairs, and those of a key and of a value that are handed in.
-const ALL: u64 = 63 | KEY | VALUE;
+// The bits of what is dropped, one for each thing. The nth of the three pairs of the map has the
+// bits 4^(n - 1), of its key, and 2 * 4^(n - 1), of its value.
+
+/// The key of the first pair.
+const FIRST_KEY: u64 = 1;
+
+/// The value of the first pair.
+const FIRST_VALUE: u64 = 2;
+
+/// The key and the value of the last pair.
+const LAST_PAIR: u64 = 16 | 32;
+
+/// The three pairs.
+const THREE: u64 = 63;
+
+/// The three pairs, and a key and a value that are handed in.
+const ALL: u64 = THREE | KEY | VALUE;
+
+/// The key and the value of a second pair that is handed in.
+const OTHER_KEY: u64 = 256;
+
+const OTHER_VALUE: u64 = 512;
 
 // A key that is present is dropped by the run, and its old value with the reply.
 
@@ -61,17 +81,17 @@ fn entry_insert(rt: &impl Abort, alloc: Global, number: u64, dropped: [u64; 3]) 
 
 #[test]
 fn drops_what_an_insertion_does_not_keep(rt: HostRuntime) {
-    insert(&rt, rt.alloc(), 1, [KEY, 2, ALL]);
+    insert(&rt, rt.alloc(), 1, [KEY, FIRST_VALUE, ALL]);
     insert(&rt, rt.alloc(), 4, [0, 0, ALL]);
     or_insert(&rt, rt.alloc(), 1, [KEY | VALUE, 0, ALL]);
     or_insert(&rt, rt.alloc(), 4, [0, 0, ALL]);
-    entry_insert(&rt, rt.alloc(), 1, [KEY, 2, ALL]);
+    entry_insert(&rt, rt.alloc(), 1, [KEY, FIRST_VALUE, ALL]);
     entry_insert(&rt, rt.alloc(), 4, [0, 0, ALL]);
 }
 
 #[test]
 fn drops_what_a_write_does_not_keep(rt: HostRuntime) {
-    write(&rt, rt.alloc(), 1, [KEY, 2, ALL]);
+    write(&rt, rt.alloc(), 1, [KEY, FIRST_VALUE, ALL]);
     write(&rt, rt.alloc(), 4, [0, KEY | VALUE, ALL]);
 }
 
@@ -97,12 +117,22 @@ fn entry_remove(rt: &impl Abort, alloc: Global, number: u64, dropped: [u64; 3]) 
 /// removed.
 #[test]
 fn drops_the_key_that_names_a_pair(rt: HostRuntime) {
-    refresh(&rt, rt.alloc(), 1, [KEY, 0, 63 | KEY]);
-    refresh(&rt, rt.alloc(), 4, [KEY, 0, 63 | KEY]);
-    remove(&rt, rt.alloc(), 1, [KEY | 1, 2, 63 | KEY]);
-    remove(&rt, rt.alloc(), 4, [KEY, 0, 63 | KEY]);
-    entry_remove(&rt, rt.alloc(), 1, [KEY | 1, 2, 63 | KEY]);
-    entry_remove(&rt, rt.alloc(), 4, [KEY, 0, 63 | KEY]);
+    refresh(&rt, rt.alloc(), 1, [KEY, 0, THREE | KEY]);
+    refresh(&rt, rt.alloc(), 4, [KEY, 0, THREE | KEY]);
+    remove(
+        &rt,
+        rt.alloc(),
+        1,
+        [KEY | FIRST_KEY, FIRST_VALUE, THREE | KEY],
+    );
+    remove(&rt, rt.alloc(), 4, [KEY, 0, THREE | KEY]);
+    entry_remove(
+        &rt,
+        rt.alloc(),
+        1,
+        [KEY | FIRST_KEY, FIRST_VALUE, THREE | KEY],
+    );
+    entry_remove(&rt, rt.alloc(), 4, [KEY, 0, THREE | KEY]);
 }
 
 fn pop_front(rt: &impl Abort, alloc: Global, dropped: [u64; 3]) {
@@ -129,7 +159,7 @@ fn extend(rt: &impl Abort, alloc: Global, dropped: [u64; 3]) {
     let tally = Tally::new();
     let pairs = [
         (tally.thing(1, KEY), tally.thing(1, VALUE)),
-        (tally.thing(4, 256), tally.thing(4, 512)),
+        (tally.thing(4, OTHER_KEY), tally.thing(4, OTHER_VALUE)),
     ];
     let list = PairList::from_vec(given!(rt; Vec::from_array(alloc, pairs)));
     assert_run(rt, alloc, &tally, Command::Extend(list), dropped);
@@ -139,11 +169,15 @@ fn extend(rt: &impl Abort, alloc: Global, dropped: [u64; 3]) {
 /// An extension drops the key that is present, and the value that it replaces.
 #[test]
 fn drops_the_pairs_of_a_command(rt: HostRuntime) {
-    pop_front(&rt, rt.alloc(), [0, 3, 63]);
-    pop_back(&rt, rt.alloc(), [0, 48, 63]);
-    clear(&rt, rt.alloc(), [63, 0, 63]);
-    drain(&rt, rt.alloc(), [0, 63, 63]);
-    extend(&rt, rt.alloc(), [KEY | 2, 0, 1023]);
+    pop_front(&rt, rt.alloc(), [0, FIRST_KEY | FIRST_VALUE, THREE]);
+    pop_back(&rt, rt.alloc(), [0, LAST_PAIR, THREE]);
+    clear(&rt, rt.alloc(), [THREE, 0, THREE]);
+    drain(&rt, rt.alloc(), [0, THREE, THREE]);
+    extend(
+        &rt,
+        rt.alloc(),
+        [KEY | FIRST_VALUE, 0, ALL | OTHER_KEY | OTHER_VALUE],
+    );
 }
 
 /// Takes a pair or all pairs out of an empty map, which drops nothing more, and inserts a pair.
@@ -156,9 +190,9 @@ fn run_on_empty<'a>(rt: &impl Abort, alloc: Global, tally: &'a Tally, map: &mut 
         Command::Insert(tally.thing(4, KEY), tally.thing(4, VALUE)),
     ];
     let replies = replay(map, given!(rt; Vec::from_array(alloc, commands)));
-    assert_dropped(rt, tally, 63);
+    assert_dropped(rt, tally, THREE);
     drop(replies);
-    assert_dropped(rt, tally, 63);
+    assert_dropped(rt, tally, THREE);
 }
 
 /// The map had pairs before, so one that is dropped or handed out again is counted twice.
@@ -189,8 +223,8 @@ fn set_mode(rt: &impl Abort, alloc: Global, dropped: [u64; 3]) {
 
 #[test]
 fn drops_nothing_by_a_change_of_the_settings(rt: HostRuntime) {
-    reserve(&rt, rt.alloc(), 9, [0, 0, 63]);
-    reserve(&rt, rt.alloc(), LIMIT, [0, 0, 63]);
-    shrink(&rt, rt.alloc(), [0, 0, 63]);
-    set_mode(&rt, rt.alloc(), [0, 0, 63]);
+    reserve(&rt, rt.alloc(), 9, [0, 0, THREE]);
+    reserve(&rt, rt.alloc(), LIMIT, [0, 0, THREE]);
+    shrink(&rt, rt.alloc(), [0, 0, THREE]);
+    set_mode(&rt, rt.alloc(), [0, 0, THREE]);
 }
