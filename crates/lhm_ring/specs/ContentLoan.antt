@@ -6,8 +6,7 @@ use base.Stored.{Coded, coded_list, coded×, coded_via}
 use base.Fml.{Lft, ftrue, ffalse, fsep, fobs, fbor}
 use types.SemTy.{SemTy, Body}
 use denote.RawPtr.{Ptr}
-use Rattle.lhm_ring.specs.Cells.{Cell, cell, same_ptr, pointers}
-use Rattle.lhm_ring.specs.Ownership.{body_owns}
+use Rattle.lhm_ring.specs.Nodes.{Cell, cell, same_ptr, pointers, body_owns}
 
 module _ {X : Type 0} where
   abbrev pub as_list : Option X → List X

@@ -4,10 +4,9 @@ use Rattle.std.specs.Prelude.{[]}
 use Rattle.std.specs.Borrow.{Fml, RattleType, MutBor, GName, Lends, follows, follows_if, Array, u8}
 use mathlib.Core.Option.{Option}
 use denote.RawPtr.{Ptr}
-use Rattle.lhm_ring.specs.RingState.{change_at}
-use Rattle.lhm_ring.specs.RingAfterLoan.{revalued, set_held_values}
-use Rattle.lhm_ring.specs.Tables.{TableState}
 use Rattle.lhm_ring.specs.contracts.table.Table.{the_row}
+use Rattle.lhm_ring.specs.Ring.{change_at, revalued, set_held_values}
+use Rattle.lhm_ring.specs.Table.{TableState}
 
 -- the same table, with the value w at p
 abbrev pub with_value : {K V : Type 0} → TableState (K × V) → Ptr → V → TableState (K × V)

@@ -5,8 +5,8 @@ ghost use base.Fml.{GName, ftrue};
 ghost use denote.RawPtr.{Ptr};
 ghost use Rattle.lhm_ring.specs.ContentLoan.{borrows_bodies, body_in, without_body, HasBody, bodies_of};
 
-use crate::block::{Node, NodePointer};
-use crate::nodes::Nodes;
+use crate::nodes::{Node, Nodes};
+use crate::pointer::NodePointer;
 use crate::value_loan::Hole;
 use std::marker::{Model, PhantomData};
 
@@ -44,7 +44,7 @@ impl<'a, L, K, V> ContentLoan<'a, L, K, V> {
 }
 
 impl<L, K, V> Nodes<L, K, V> {
-    ghost use Rattle.lhm_ring.specs.NodesAfterLoan.{lends_bodies};
+    ghost use Rattle.lhm_ring.specs.RingAfterLoan.{lends_bodies};
 
     /// Shares the links, and lends the keys and values. When the loan ends, the nodes hold nothing.
     pub(crate) fn lend_bodies<'a>(

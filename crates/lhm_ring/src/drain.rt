@@ -1,17 +1,17 @@
-//! The iterator over what a ring held.
+//! The iterator over what a ring held, and how its nodes become spare.
 ghost use Rattle.std.specs.Prelude.{◌≡◌, Some, IfSome, length};
 ghost use Rattle.std.specs.Borrow.{sem};
 ghost use Rattle.std.specs.Iterator.{at_most, UpTo};
 ghost use Rattle.std.specs.Iterator.SizeHint.{IsWithinCount};
-ghost use Rattle.lhm_ring.specs.RingState.{triples};
-ghost use Rattle.lhm_ring.specs.Splices.{HandsOutFirst, HandsOutLast};
+ghost use Rattle.lhm_ring.specs.Ring.{triples};
+ghost use Rattle.lhm_ring.specs.Drain.{HandsOutFirst, HandsOutLast, HasRow, SparesRow, HasRing, SplicesRing, KeepsRow};
+ghost use Rattle.lhm_ring.specs.Links.{ring_cells};
+ghost use Rattle.lhm_ring.specs.Pointer.{target};
 
-use crate::block::NodePointer;
 use crate::content_loan::ContentLoan;
-use crate::links::Links;
 use crate::nodes::Nodes;
-use crate::ring::Ring;
-use crate::splice::{Spliced, splice};
+use crate::pointer::{Link, NodePointer};
+use crate::ring::{Ends, Links, Ring, join, set_chain};
 use crate::value_loan::Hole;
 use std::iter::{DoubleEndedIterator, ExactSizeIterator, Iterator};
 use std::marker::Model;
@@ -27,7 +27,7 @@ struct Remaining<'a, K, V> {
 
 impl<'a, K, V> Model for Remaining<'a, K, V> {
     ghost use Rattle.std.specs.Prelude.{List, ℕ};
-    ghost use Rattle.lhm_ring.specs.Rings.{IsSpan, span_triples};
+    ghost use Rattle.lhm_ring.specs.Links.{IsSpan, span_triples};
     ghost use Rattle.lhm_ring.specs.ContentLoan.{with_bodies};
 
     ghost Value = { List (ℕ × (K × V)) };
@@ -101,7 +101,7 @@ pub struct Drain<'a, K, V> {
 
 impl<K, V> Ring<K, V> {
     ghost use Rattle.lhm_ring.specs.RingAfterLoan.{lends_spliced};
-    ghost use Rattle.lhm_ring.specs.Drains.{drain_name, drain_rest};
+    ghost use Rattle.lhm_ring.specs.Drain.{drain_name, drain_rest};
 
     /// Removes all triples and returns them as a double-ended iterator, front to back, in O(n).
     /// Positions end, and the nodes are spare, also if the [`Drain`] is forgotten.
@@ -134,7 +134,7 @@ impl<K, V> Ring<K, V> {
 }
 
 impl<'a, K: Drop, V: Drop> Iterator for Drain<'a, K, V> {
-    ghost use Rattle.lhm_ring.specs.Drains.{drain_rest, DrainSteps};
+    ghost use Rattle.lhm_ring.specs.Drain.{drain_rest, DrainSteps};
 
     type Item = (u64, K, V);
 
@@ -158,7 +158,7 @@ impl<'a, K: Drop, V: Drop> Iterator for Drain<'a, K, V> {
 }
 
 impl<'a, K: Drop, V: Drop> DoubleEndedIterator for Drain<'a, K, V> {
-    ghost use Rattle.lhm_ring.specs.Drains.{DrainStepsBack};
+    ghost use Rattle.lhm_ring.specs.Drain.{DrainStepsBack};
 
     ghost next_back_gives = { DrainStepsBack };
 
@@ -181,4 +181,57 @@ impl<K: Drop, V: Drop> Drop for Drain<'_, K, V> {
         } = self;
         drop(remaining);
     }
+}
+
+/// The nodes from `first` to `last`, and the first spare node after them.
+pub(crate) struct Spliced {
+    pub(crate) first: NodePointer,
+    pub(crate) last: NodePointer,
+    pub(crate) spare: Link,
+}
+
+/// Makes the `count` nodes from `first` on spare, the last first, and returns the first spare one.
+fn spare_row<K, V>(
+    nodes: &mut Nodes<Links, K, V>,
+    first: NodePointer,
+    count: usize,
+    spare: Link,
+) -> Link
+    requires { HasRow nodes.old.cells first.ptr count (target spare) }
+    ensures spared { SparesRow nodes.old.cells first.ptr count (target spare) nodes.new.cells
+        (target result) }
+    ensures land { (nodes.new.unused ≡ nodes.old.unused) × (nodes.new.chunks ≡ nodes.old.chunks) }
+{
+    let mut at = first;
+    let mut spare = spare;
+    let mut left = count;
+    'row: while 0 < left {
+        let next = nodes.links(at).next.address();
+        set_chain(nodes, at, spare);
+        spare = Link::to(at);
+        at = next;
+        left -= 1;
+    }
+    spare
+}
+
+/// Makes all held nodes spare, with what they hold.
+pub(crate) fn splice<K, V>(
+    nodes: &mut Nodes<Links, K, V>,
+    ends: &mut Ends,
+    spare: Link,
+    count: usize,
+) -> Spliced
+    requires { HasRing (ring_cells ends.old nodes.old.cells) spare count }
+    ensures spliced { SplicesRing (ring_cells ends.old nodes.old.cells) spare count
+        (ring_cells ends.new nodes.new.cells) result }
+    ensures row { KeepsRow (ring_cells ends.old nodes.old.cells) spare count
+        nodes.new.cells result }
+    ensures land { (nodes.new.unused ≡ nodes.old.unused) × (nodes.new.chunks ≡ nodes.old.chunks) }
+{
+    let first = ends.first.address();
+    let last = ends.last.address();
+    let spare = spare_row(nodes, first, count, spare);
+    join(nodes, ends, Link::none(), Link::none());
+    Spliced { first, last, spare }
 }

@@ -1,16 +1,12 @@
 //! Allocates nodes in chunks, and frees all chunks.
 ghost use Rattle.std.specs.Prelude.{◌≡◌, ◌+◌, ◌-◌, ◌<◌, ◌≤◌, ◌^◌, [], ◌∷◌, ◌++◌, None, Some, map, max, length, IfOk, OnOk, OnErr, IsTrue, IsFalse, true};
 ghost use Rattle.std.specs.Allocator.{FitsBlock};
-ghost use Rattle.lhm_ring.specs.Chunks.{row};
-ghost use Rattle.lhm_ring.specs.Land.{extent, nodes_grown, least_more};
-ghost use Rattle.lhm_ring.specs.Stacks.{IsStacked};
+ghost use Rattle.lhm_ring.specs.Nodes.{row};
+ghost use Rattle.lhm_ring.specs.Links.{extent, nodes_grown, least_more, IsStacked};
 
-use crate::block::{Node, NodePointer, allocate, deallocate, size};
-use crate::chunk::Chunk;
-use crate::link::Link;
-use crate::links::Links;
-use crate::nodes::Nodes;
-use crate::ring::Ring;
+use crate::nodes::{Chunk, Node, Nodes, allocate, deallocate, size};
+use crate::pointer::{Link, NodePointer};
+use crate::ring::{Links, Ring};
 use std::alloc::{AllocError, Global};
 
 /// The most nodes of a ring. At 32 bytes or more, no machine has so many.

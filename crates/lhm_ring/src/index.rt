@@ -1,18 +1,15 @@
 //! The position of each key, by its hash: chains through the nodes.
 ghost use Rattle.std.specs.Prelude.{◌≡◌, ◌%◌, ◌<◌, ◌≤◌, ◌^◌, [], map, length, None, Some, IsSome, IfOk, IsOk, IfSome, IfNone, slice_index_or};
 ghost use Rattle.std.specs.Int.{IsNextPowerOfTwo};
-ghost use Rattle.lhm_ring.specs.RingState.{IsHeld};
-ghost use Rattle.lhm_ring.specs.Positions.{pointer_of, pointer_of_some};
-ghost use Rattle.lhm_ring.specs.Index.{Indexes};
-ghost use Rattle.lhm_ring.specs.Spots.{spots};
-ghost use Rattle.lhm_ring.specs.Search.{OfNodeAt, entries, HoldsOthers, IsEmptied, IsOnChain, HasNoChain};
-ghost use Rattle.lhm_ring.specs.Buckets.{buckets, IsBucketCount};
-ghost use Rattle.lhm_ring.specs.Filters.{CoversAll};
+ghost use Rattle.lhm_ring.specs.Ring.{IsHeld};
+ghost use Rattle.lhm_ring.specs.Pointer.{pointer_of, pointer_of_some};
+ghost use Rattle.lhm_ring.specs.Index.{Indexes, spots, OfNodeAt, entries, HoldsOthers, IsEmptied, IsOnChain, HasNoChain};
+ghost use Rattle.lhm_ring.specs.Buckets.{buckets, IsBucketCount, CoversAll};
 
-use crate::filter::Filter;
-use crate::heads::{Head, chain_all, chain_one, clear_heads, free_heads, masked, new_heads};
-use crate::link::Link;
-use crate::position::Position;
+use crate::buckets::{
+    Filter, Head, chain_all, chain_one, clear_heads, free_heads, masked, new_heads,
+};
+use crate::pointer::{Link, Position};
 use crate::ring::Ring;
 use crate::search::Found;
 pub use crate::search::Probe;
@@ -33,9 +30,8 @@ pub struct Index<K, V> {
 
 impl<K, V> Model for Index<K, V> {
     ghost use Rattle.std.specs.Prelude.{List, Option, map, length};
-    ghost use Rattle.lhm_ring.specs.Heads.{leads_to};
-    ghost use Rattle.lhm_ring.specs.Buckets.{IsBucketCount};
     ghost use denote.RawPtr.{Ptr};
+    ghost use Rattle.lhm_ring.specs.Buckets.{leads_to, IsBucketCount};
 
     ghost Value = { List (Option Ptr) };
 

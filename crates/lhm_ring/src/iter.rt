@@ -2,12 +2,11 @@
 ghost use Rattle.std.specs.Prelude.{◌≡◌, Some, IfSome, length};
 ghost use Rattle.std.specs.Iterator.{at_most, UpTo};
 ghost use Rattle.std.specs.Iterator.SizeHint.{IsWithinCount};
-ghost use Rattle.lhm_ring.specs.Iterators.{IsFirstStep, IsLastStep, LendsFirstStep, LendsLastStep, ShowsFirstStep, ShowsLastStep, rest_of};
+ghost use Rattle.lhm_ring.specs.Iter.{IsFirstStep, IsLastStep, LendsFirstStep, LendsLastStep, ShowsFirstStep, ShowsLastStep, rest_of};
 
-use crate::block::NodePointer;
-use crate::links::Links;
 use crate::nodes::Nodes;
-use crate::ring::Ring;
+use crate::pointer::NodePointer;
+use crate::ring::{Links, Ring};
 use crate::value_loan::{Hole, LentValues, ValueLoan};
 use std::alloc::AllocError;
 use std::iter::{DoubleEndedIterator, ExactSizeIterator, Iterator};
@@ -25,8 +24,8 @@ pub struct Iter<'a, K, V> {
 
 impl<'a, K, V> Model for Iter<'a, K, V> {
     ghost use Rattle.std.specs.Prelude.{List};
-    ghost use Rattle.lhm_ring.specs.Rings.{IsSpan, listed, pointers_from};
-    ghost use Rattle.lhm_ring.specs.RingState.{Held};
+    ghost use Rattle.lhm_ring.specs.Links.{IsSpan, listed, pointers_from};
+    ghost use Rattle.lhm_ring.specs.Ring.{Held};
 
     ghost Value = { List (Held (K × V)) };
 
@@ -135,8 +134,8 @@ pub struct Lent<'a, K, V> {
 impl<'a, K, V> Model for Lent<'a, K, V> {
     ghost use Rattle.std.specs.Prelude.{List};
     ghost use base.Fml.{GName};
-    ghost use Rattle.lhm_ring.specs.RingState.{Held};
-    ghost use Rattle.lhm_ring.specs.Iterators.{AreLent};
+    ghost use Rattle.lhm_ring.specs.Ring.{Held};
+    ghost use Rattle.lhm_ring.specs.ValueLoan.{AreLent};
 
     ghost Value = { List (Held (K × V)) × GName };
 
@@ -185,8 +184,7 @@ pub enum IterMut<'a, K, V> {
 }
 
 impl<'a, K, V> IterMut<'a, K, V> {
-    ghost use Rattle.lhm_ring.specs.LentRings.{lent_held, lent_name, IsLent};
-    ghost use Rattle.lhm_ring.specs.ValueIterators.{held_left, loan_name};
+    ghost use Rattle.lhm_ring.specs.Iter.{lent_held, lent_name, IsLent, held_left, loan_name};
 
     /// Returns an iterator over a ring whose values are lent.
     pub(crate) fn of(lent: LentValues<'a, K, V>) -> IterMut<'a, K, V>
@@ -203,7 +201,7 @@ impl<'a, K, V> IterMut<'a, K, V> {
 }
 
 impl<'a, K, V> Iterator for IterMut<'a, K, V> {
-    ghost use Rattle.lhm_ring.specs.ValueIterators.{held_left};
+    ghost use Rattle.lhm_ring.specs.Iter.{held_left};
 
     type Item = (u64, &'a K, &'a mut V);
 
@@ -238,7 +236,7 @@ impl<'a, K, V> ExactSizeIterator for IterMut<'a, K, V> {
 }
 
 impl<'a, K, V> DoubleEndedIterator for IterMut<'a, K, V> {
-    ghost use Rattle.lhm_ring.specs.ValueIterators.{held_left};
+    ghost use Rattle.lhm_ring.specs.Iter.{held_left};
 
     ghost next_back_gives = { λ s r t. LendsLastStep (held_left s) r (held_left t) };
 
@@ -253,7 +251,7 @@ impl<'a, K, V> DoubleEndedIterator for IterMut<'a, K, V> {
 impl<K, V> Ring<K, V> {
     ghost use Rattle.std.specs.Borrow.{sem};
     ghost use Rattle.lhm_ring.specs.RingAfterLoan.{lends_values, KeepsAllButValues};
-    ghost use Rattle.lhm_ring.specs.ValueIterators.{held_left, loan_name};
+    ghost use Rattle.lhm_ring.specs.Iter.{held_left, loan_name};
 
     /// Returns a double-ended iterator over the triples, front to back.
     pub fn iter(&self) -> Iter<'_, K, V>

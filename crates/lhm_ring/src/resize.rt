@@ -1,11 +1,13 @@
-//! Raises and lowers the capacity.
-ghost use Rattle.std.specs.Prelude.{◌≡◌, ◌+◌, ◌<◌, ◌≤◌, ◌^◌, [], length, OnOk, OnErr};
-ghost use Rattle.lhm_ring.specs.RingState.{triples};
+//! Raises and lowers the capacity, moves all triples side by side, and counts those behind one.
+ghost use Rattle.std.specs.Prelude.{◌≡◌, ◌+◌, ◌<◌, ◌≤◌, ◌^◌, [], length, OnOk, OnErr, ◌++◌, IfSome, IfNone};
+ghost use Rattle.lhm_ring.specs.Ring.{triples, IsHeld, AtHeld};
 ghost use Rattle.lhm_ring.specs.Buckets.{buckets, rechained_raised, rechained_lowered, rechained_fitted};
+ghost use Rattle.lhm_ring.specs.Pointer.{pointer_of};
 
 use crate::buckets::with_filter;
 use crate::index::buckets_for;
-use crate::table::Table;
+use crate::ring::Ring;
+use crate::table::{Position, Table};
 use std::alloc::AllocError;
 use std::mem;
 
@@ -134,5 +136,71 @@ impl<K, V> Table<K, V> {
         mem::replace(self, Table::new(alloc))
             .into_pairs()
             .destroy_empty();
+    }
+}
+
+/// Moves all triples to the back of another ring, in order, in O(n).
+fn move_all<K, V>(from: &mut Ring<K, V>, to: &mut Ring<K, V>)
+    requires { length from.old.held ≤ to.old.spares }
+    ensures moved { triples to.new.held ≡ triples to.old.held ++ triples from.old.held }
+    ensures empty { from.new.held ≡ [] }
+    ensures spares { to.new.spares + length from.old.held ≡ to.old.spares }
+    ensures nodes { to.new.nodes ≡ to.old.nodes }
+{
+    'each: while let Some(at) = from.first() {
+        let (hash, key, value) = from.unlink(at);
+        to.put_back(hash, key, value);
+    }
+}
+
+impl<K, V> Ring<K, V> {
+    /// Moves the triples, in order, into one new chunk of exactly as many nodes, and frees the
+    /// others, in O(n). Positions end, and chain links lead nowhere. If an allocation fails,
+    /// nothing changes. An empty ring does not allocate.
+    pub fn compact(&mut self) -> Result<(), AllocError>
+        ensures triples { OnOk result (triples self.new.held ≡ triples self.old.held) }
+        ensures spares { OnOk result (self.new.spares ≡ 0) }
+        ensures nodes { OnOk result (self.new.nodes ≡ length self.old.held) }
+        ensures refused { OnErr result (self.new ≡ self.old) }
+    {
+        let mut fresh = Ring::with_spares(self.alloc, self.len())?;
+        move_all(self, &mut fresh);
+        mem::replace(self, fresh).destroy_empty();
+        Ok(())
+    }
+}
+
+impl<K, V> Table<K, V> {
+    /// Returns the number of pairs behind a position, in O(n) for these.
+    pub fn behind(&self, at: Position<K, V>) -> usize
+        requires { IsHeld self.now.held (pointer_of at) }
+        ensures { AtHeld self.now.held (pointer_of at) (λ xs t ys. result ≡ length ys) }
+    {
+        let mut here = at;
+        let mut passed = 0;
+        'pairs: while let Some(next) = self.ring.next(here) {
+            here = next;
+            passed += 1;
+        }
+        passed
+    }
+
+    /// Returns the position with this many pairs behind it, if any, in O(n) for these.
+    pub fn nth_back(&self, behind: usize) -> Option<Position<K, V>>
+        ensures held { IfSome result (λ at. IsHeld self.now.held (pointer_of at)) }
+        ensures behind { IfSome result (λ at.
+            AtHeld self.now.held (pointer_of at) (λ xs t ys. length ys ≡ behind)) }
+        ensures none { IfNone result (length self.now.held ≤ behind) }
+    {
+        let mut here = self.last();
+        let mut passed = 0;
+        'pairs: while passed < behind {
+            let Some(at) = here else {
+                return None;
+            };
+            here = self.previous(at);
+            passed += 1;
+        }
+        here
     }
 }

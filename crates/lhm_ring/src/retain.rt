@@ -1,12 +1,11 @@
 //! `retain`.
 ghost use Rattle.std.specs.Prelude.{◌≡◌, map};
 ghost use Rattle.std.specs.Map.Calls.{CallableOnEachPair, CalledAtPair, TakesPair};
-ghost use Rattle.lhm_ring.specs.RingState.{ChangesOnly};
-ghost use Rattle.lhm_ring.specs.Positions.{pointer_of};
-ghost use Rattle.lhm_ring.specs.Tables.{KeepsCounts, WritesOnly};
-ghost use Rattle.lhm_ring.specs.Retains.{TakesAt, CallsAt, RetainsAt, RetainsHeld};
+ghost use Rattle.lhm_ring.specs.Ring.{ChangesOnly};
+ghost use Rattle.lhm_ring.specs.Pointer.{pointer_of};
+ghost use Rattle.lhm_ring.specs.Table.{KeepsCounts, WritesOnly, TakesAt, CallsAt, RetainsAt, RetainsHeld};
 
-use crate::position::Position;
+use crate::pointer::Position;
 use crate::ring::Ring;
 use crate::table::Table;
 

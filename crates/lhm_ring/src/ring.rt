@@ -1,18 +1,20 @@
 //! The ring: the held nodes in order, and the spare ones.
-ghost use Rattle.std.specs.Prelude.{◌≡◌, ◌+◌, ◌≤◌, ◌^◌, [], length, IfOk, IsOk};
-ghost use Rattle.lhm_ring.specs.RingState.{triples};
+ghost use Rattle.std.specs.Prelude.{◌≡◌, ◌+◌, ◌≤◌, ◌^◌, [], length, IfOk, IsOk, ◌∷◌, ◌++◌, map, ◌-◌, ◌<◌, None, true};
+ghost use Rattle.std.specs.Borrow.{sem};
+ghost use Rattle.lhm_ring.specs.Ring.{triples, IsHeld, AtHeld, ChangesOnly, linked_to, first_at, last_at, held};
+ghost use Rattle.lhm_ring.specs.Nodes.{IsApart, AreBlocks, IsAt};
+ghost use Rattle.lhm_ring.specs.Links.{ring_cells, IsJoined, LeadsOn, LeadsBack, ChainsTo, is_there};
 
-use crate::chunk::Chunk;
 pub use crate::drain::Drain;
 use crate::grow::free_chunks;
 pub use crate::iter::{Iter, IterMut, Lent};
-use crate::link::Link;
-use crate::links::{Ends, Links};
-use crate::nodes::Nodes;
-use crate::owned_pairs::OwnedPairs;
-pub use crate::position::Position;
+use crate::nodes::{Chunk, Node, Nodes};
+use crate::owned::OwnedPairs;
+pub use crate::pointer::Position;
+use crate::pointer::{Link, NodePointer};
 use std::alloc::{AllocError, Global};
 use std::marker::Model;
+use std::mem::size_of;
 
 /// Triples of a hash, a key and a value, in order, and spare nodes for more. A position stays until
 /// its triple leaves or `compact` moves it.
@@ -34,9 +36,8 @@ pub struct Ring<K, V> {
 }
 
 impl<K, V> Model for Ring<K, V> {
-    ghost use Rattle.lhm_ring.specs.Rings.{ring_cells, ring_list, RingOk};
-    ghost use Rattle.lhm_ring.specs.RingState.{State, state};
-    ghost use Rattle.lhm_ring.specs.Land.{IsLaid};
+    ghost use Rattle.lhm_ring.specs.Links.{ring_cells, ring_list, RingOk, IsLaid};
+    ghost use Rattle.lhm_ring.specs.Ring.{State, state};
 
     ghost Value = { State (K × V) };
 
@@ -164,4 +165,255 @@ impl<K: Drop, V: Drop> Drop for Ring<K, V> {
         }
         self.destroy_empty();
     }
+}
+
+impl<K, V> Ring<K, V> {
+    ghost use Rattle.lhm_ring.specs.Pointer.{pointer_of, pointer_of_some};
+    ghost use Rattle.lhm_ring.specs.RingAfterLoan.{lends_value};
+
+    /// Returns the hash at a position.
+    pub fn hash(&self, at: Position<K, V>) -> u64
+        requires { IsHeld self.now.held (pointer_of at) }
+        ensures { AtHeld self.now.held (pointer_of at) (λ xs t ys. result ≡ t.hash) }
+    {
+        self.nodes.links(at.pointer).hash
+    }
+
+    /// Returns the key at a position.
+    pub fn key(&self, at: Position<K, V>) -> &K
+        requires { IsHeld self.now.held (pointer_of at) }
+        ensures { AtHeld self.now.held (pointer_of at) (λ xs t ys. result.now ≡ t.pair.0) }
+    {
+        self.nodes.key(at.pointer)
+    }
+
+    /// Returns the value at a position.
+    pub fn value(&self, at: Position<K, V>) -> &V
+        requires { IsHeld self.now.held (pointer_of at) }
+        ensures { AtHeld self.now.held (pointer_of at) (λ xs t ys. result.now ≡ t.pair.1) }
+    {
+        self.nodes.value(at.pointer)
+    }
+
+    /// Returns a mutable reference to the value at a position.
+    pub fn value_mut(&mut self, at: Position<K, V>) -> &mut V
+        requires { IsHeld self.old.held (pointer_of at) }
+        ensures* writes_back { sem 𝓛 (lends_value K.row V.row self.entry (pointer_of at) result) }
+        ensures value { AtHeld self.old.held (pointer_of at) (λ xs t ys. result.now ≡ t.pair.1) }
+        ensures alone { ChangesOnly self.old.held (pointer_of at) }
+    {
+        self.nodes.value_mut(at.pointer)
+    }
+
+    /// Returns the position of the front triple, if any.
+    pub fn first(&self) -> Option<Position<K, V>>
+        ensures { pointer_of_some result ≡ first_at self.now.held }
+    {
+        self.ends.first.get()
+    }
+
+    /// Returns the position of the back triple, if any.
+    pub fn last(&self) -> Option<Position<K, V>>
+        ensures last { pointer_of_some result ≡ last_at self.now.held }
+        ensures apart { IsApart (map (λ t. t.at) self.now.held) }
+    {
+        self.ends.last.get()
+    }
+
+    /// Returns the position behind one, if any.
+    pub fn next(&self, at: Position<K, V>) -> Option<Position<K, V>>
+        requires { IsHeld self.now.held (pointer_of at) }
+        ensures next { AtHeld self.now.held (pointer_of at) (λ xs t ys.
+            pointer_of_some result ≡ first_at ys) }
+        ensures apart { IsApart (map (λ t. t.at) self.now.held) }
+    {
+        self.nodes.links(at.pointer).next.get()
+    }
+
+    /// Returns the position before one, if any.
+    pub fn previous(&self, at: Position<K, V>) -> Option<Position<K, V>>
+        requires { IsHeld self.now.held (pointer_of at) }
+        ensures { AtHeld self.now.held (pointer_of at) (λ xs t ys.
+            pointer_of_some result ≡ last_at xs) }
+    {
+        self.nodes.links(at.pointer).prev.get()
+    }
+
+    /// Returns where the chain link at a position leads, if anywhere.
+    pub fn link(&self, at: Position<K, V>) -> Option<Position<K, V>>
+        requires { IsHeld self.now.held (pointer_of at) }
+        ensures link { AtHeld self.now.held (pointer_of at) (λ xs t ys.
+            pointer_of_some result ≡ t.link) }
+        ensures blocks { AreBlocks (map (λ t. t.at) self.now.held) }
+    {
+        self.nodes.links(at.pointer).link.get()
+    }
+
+    /// Sets the chain link at a position, which the ring ignores.
+    pub fn set_link(&mut self, at: Position<K, V>, link: Option<Position<K, V>>)
+        requires { IsHeld self.old.held (pointer_of at) }
+        ensures held { AtHeld self.old.held (pointer_of at) (λ xs t ys.
+            self.new.held ≡ xs ++ linked_to (pointer_of_some link) t ∷ ys) }
+        ensures spares { self.new.spares ≡ self.old.spares }
+        ensures nodes { self.new.nodes ≡ self.old.nodes }
+        ensures blocks { AreBlocks (map (λ t. t.at) self.old.held) }
+    {
+        set_chain(&mut self.nodes, at.pointer, Link::of(link));
+    }
+}
+
+impl<K, V> Ring<K, V> {
+    ghost use Rattle.lhm_ring.specs.Pointer.{pointer_of};
+    ghost use Rattle.lhm_ring.specs.Ring.{pair};
+
+    /// Moves the triple at a position to the back. The others keep their order, and positions stay.
+    pub fn move_to_back(&mut self, at: Position<K, V>)
+        requires { IsHeld self.old.held (pointer_of at) }
+        ensures last { AtHeld self.old.held (pointer_of at) (λ xs t ys.
+            self.new.held ≡ (xs ++ ys) ++ t ∷ []) }
+        ensures spares { self.new.spares ≡ self.old.spares }
+        ensures nodes { self.new.nodes ≡ self.old.nodes }
+        ensures apart { IsApart (map (λ t. t.at) self.old.held) }
+    {
+        let links = *self.nodes.links(at.pointer);
+        let moved = Link::to(at.pointer);
+        join(&mut self.nodes, &mut self.ends, links.prev, links.next);
+        let last = self.ends.last;
+        join(&mut self.nodes, &mut self.ends, last, moved);
+        join(&mut self.nodes, &mut self.ends, moved, Link::none());
+    }
+
+    /// Puts a triple into a spare node at the back, and returns its position. Its chain link leads
+    /// nowhere.
+    pub fn put_back(&mut self, hash: u64, key: K, value: V) -> Position<K, V>
+        requires { 0 < self.old.spares }
+        ensures last { self.new.held
+            ≡ self.old.held ++ held (pointer_of result) hash None (pair key value) ∷ [] }
+        ensures spares { self.new.spares ≡ self.old.spares - 1 }
+        ensures nodes { self.new.nodes ≡ self.old.nodes }
+    {
+        let at = self.spare.pointer();
+        let old = *self.nodes.links(at);
+        let node = self.spare;
+        let previous = self.ends.last;
+        // `join` writes the other two links.
+        let fresh = Links {
+            link: Link::none(),
+            hash,
+            ..old
+        };
+        self.nodes.set_links(at, fresh);
+        self.nodes.fill(at, key, value);
+        join(&mut self.nodes, &mut self.ends, previous, node);
+        join(&mut self.nodes, &mut self.ends, node, Link::none());
+        self.spare = old.link;
+        self.spares -= 1;
+        self.len += 1;
+        Position::new(at)
+    }
+
+    /// Removes and returns the triple at a position, which ends. The others keep their order.
+    pub fn unlink(&mut self, at: Position<K, V>) -> (u64, K, V)
+        requires { IsHeld self.old.held (pointer_of at) }
+        ensures others { AtHeld self.old.held (pointer_of at) (λ xs t ys.
+            self.new.held ≡ xs ++ ys) }
+        ensures triple { AtHeld self.old.held (pointer_of at) (λ xs t ys.
+            result ≡ (t.hash, t.pair.0, t.pair.1)) }
+        ensures spares { self.new.spares ≡ self.old.spares + 1 }
+        ensures nodes { self.new.nodes ≡ self.old.nodes }
+    {
+        let at = at.pointer;
+        let old = *self.nodes.links(at);
+        join(&mut self.nodes, &mut self.ends, old.prev, old.next);
+        let (key, value) = self.nodes.take(at);
+        set_chain(&mut self.nodes, at, self.spare);
+        self.spare = Link::to(at);
+        self.len -= 1;
+        self.spares += 1;
+        (old.hash, key, value)
+    }
+}
+
+/// The links of a node for the order, its chain link, and its hash.
+///
+/// `prev` of the front and `next` of the back node lead nowhere. `link` of a spare node leads to
+/// the next one; that of a held node belongs to the caller.
+#[derive(Clone, Copy)]
+pub struct Links {
+    pub(crate) prev: Link,
+    pub(crate) next: Link,
+    pub(crate) link: Link,
+    pub(crate) hash: u64,
+}
+
+// A node with a `u64` as key and as value: six words.
+const _: () = prove!(size_of::<Node<Links, u64, u64>>() == 48);
+
+/// The front and the back node of a ring, if any.
+#[derive(Clone, Copy)]
+pub(crate) struct Ends {
+    pub(crate) first: Link,
+    pub(crate) last: Link,
+}
+
+/// Makes `b` the node behind `a`. A link to nowhere stands for the ends.
+#[inline]
+pub(crate) fn join<K, V>(nodes: &mut Nodes<Links, K, V>, ends: &mut Ends, a: Link, b: Link)
+    requires { (is_there (ring_cells ends.old nodes.old.cells) a.ptr ≡ true)
+        × (is_there (ring_cells ends.old nodes.old.cells) b.ptr ≡ true) }
+    ensures joined { IsJoined (ring_cells ends.old nodes.old.cells)
+        (ring_cells ends.new nodes.new.cells) a.ptr b.ptr }
+    ensures land { (nodes.new.unused ≡ nodes.old.unused) × (nodes.new.chunks ≡ nodes.old.chunks) }
+{
+    set_next(nodes, ends, a, b);
+    set_prev(nodes, ends, b, a);
+}
+
+/// Makes the node at `at`, or the front, lead on to `next`.
+#[inline]
+fn set_next<K, V>(nodes: &mut Nodes<Links, K, V>, ends: &mut Ends, at: Link, next: Link)
+    requires { is_there (ring_cells ends.old nodes.old.cells) at.ptr ≡ true }
+    ensures written { LeadsOn (ring_cells ends.old nodes.old.cells) at.ptr next
+        (ring_cells ends.new nodes.new.cells) }
+    ensures land { (nodes.new.unused ≡ nodes.old.unused) × (nodes.new.chunks ≡ nodes.old.chunks) }
+{
+    let there: Option<Position<K, V>> = at.get();
+    match there {
+        Some(at) => {
+            let mut links = *nodes.links(at.pointer);
+            links.next = next;
+            nodes.set_links(at.pointer, links);
+        }
+        None => ends.first = next,
+    }
+}
+
+/// Makes the node at `at`, or the back, lead back to `prev`.
+#[inline]
+fn set_prev<K, V>(nodes: &mut Nodes<Links, K, V>, ends: &mut Ends, at: Link, prev: Link)
+    requires { is_there (ring_cells ends.old nodes.old.cells) at.ptr ≡ true }
+    ensures written { LeadsBack (ring_cells ends.old nodes.old.cells) at.ptr prev
+        (ring_cells ends.new nodes.new.cells) }
+    ensures land { (nodes.new.unused ≡ nodes.old.unused) × (nodes.new.chunks ≡ nodes.old.chunks) }
+{
+    let there: Option<Position<K, V>> = at.get();
+    match there {
+        Some(at) => {
+            let mut links = *nodes.links(at.pointer);
+            links.prev = prev;
+            nodes.set_links(at.pointer, links);
+        }
+        None => ends.last = prev,
+    }
+}
+
+/// Sets the chain link of the node at `at`.
+pub(crate) fn set_chain<K, V>(nodes: &mut Nodes<Links, K, V>, at: NodePointer, link: Link)
+    requires { IsAt nodes.old.cells at.ptr }
+    ensures written { ChainsTo nodes.old.cells at.ptr link nodes.new.cells }
+    ensures land { (nodes.new.unused ≡ nodes.old.unused) × (nodes.new.chunks ≡ nodes.old.chunks) }
+{
+    let mut links = *nodes.links(at);
+    links.link = link;
+    nodes.set_links(at, links);
 }

@@ -1,13 +1,12 @@
 //! Searches along a chain for a key.
 ghost use Rattle.std.specs.Prelude.{◌≡◌, ◌+◌, ◌%◌, ◌<◌, ◌≤◌, ◌^◌, ◌∷◌, [], length, None, Some, IfSome, IfNone, OnSome, slice_index_or};
-ghost use Rattle.lhm_ring.specs.RingState.{IsHeld};
-ghost use Rattle.lhm_ring.specs.Positions.{pointer_of, pointer_of_some};
-ghost use Rattle.lhm_ring.specs.Index.{Indexes};
-ghost use Rattle.lhm_ring.specs.Spots.{spot, spots, same};
-ghost use Rattle.lhm_ring.specs.Search.{OfNodeAt, entries, Compares, FindsKey, FindsNone, HasKey, IsAbsent, CountsSome, CountsAll, HoldsOthers, IsEmptied, IsPart};
+ghost use Rattle.lhm_ring.specs.Ring.{IsHeld};
+ghost use Rattle.lhm_ring.specs.Pointer.{pointer_of, pointer_of_some};
+ghost use Rattle.lhm_ring.specs.Index.{Indexes, spot, spots, same, OfNodeAt, entries, HoldsOthers, IsEmptied};
+ghost use Rattle.lhm_ring.specs.Search.{Compares, FindsKey, FindsNone, HasKey, IsAbsent, CountsSome, CountsAll, IsPart};
 
 use crate::index::Index;
-use crate::position::Position;
+use crate::pointer::Position;
 use crate::ring::Ring;
 
 /// The counts of a lookup.

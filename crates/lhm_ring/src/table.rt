@@ -1,21 +1,17 @@
 //! Pairs in insertion order with a hash index of their keys.
 ghost use Rattle.std.specs.Prelude.{◌≡◌, ◌+◌, ◌<◌, ◌≤◌, ◌^◌, ◌++◌, ◌∷◌, [], length, map, None, IfOk, IsOk, IfSome, IfNone, OnSome, IsTrue, IsFalse};
-ghost use Rattle.lhm_ring.specs.Cells.{IsApart};
-ghost use Rattle.lhm_ring.specs.RingState.{IsHeld, AtHeld, first_at, last_at, held};
-ghost use Rattle.lhm_ring.specs.RingAfterLoan.{pair};
-ghost use Rattle.lhm_ring.specs.Positions.{pointer_of, pointer_of_some};
-ghost use Rattle.lhm_ring.specs.Spots.{spots};
-ghost use Rattle.lhm_ring.specs.Search.{entries, HasKey, IsAbsent, CountsSome, CountsAll};
-ghost use Rattle.lhm_ring.specs.Buckets.{buckets};
-ghost use Rattle.lhm_ring.specs.Filters.{may_contain, LacksHash};
-ghost use Rattle.lhm_ring.specs.Tables.{KeepsCounts, Removes, WritesOnly};
+ghost use Rattle.lhm_ring.specs.Nodes.{IsApart};
+ghost use Rattle.lhm_ring.specs.Ring.{IsHeld, AtHeld, first_at, last_at, held, pair};
+ghost use Rattle.lhm_ring.specs.Pointer.{pointer_of, pointer_of_some};
+ghost use Rattle.lhm_ring.specs.Index.{spots, entries};
+ghost use Rattle.lhm_ring.specs.Search.{HasKey, IsAbsent, CountsSome, CountsAll};
+ghost use Rattle.lhm_ring.specs.Buckets.{buckets, may_contain, LacksHash};
+ghost use Rattle.lhm_ring.specs.Table.{KeepsCounts, Removes, WritesOnly};
 
-use crate::buckets::{clear_emptied, empty_chains, with_filter};
-use crate::filter::Filter;
+use crate::buckets::{Filter, clear_emptied, empty_chains, with_filter};
 use crate::index::Index;
 pub use crate::index::Probe;
-pub use crate::into_iter::IntoIter;
-pub use crate::owned_pairs::OwnedPairs;
+pub use crate::owned::{IntoIter, OwnedPairs};
 use crate::ring::Ring;
 pub use crate::ring::{Drain, Iter, IterMut, Lent, Position};
 use std::alloc::{AllocError, Global};
@@ -36,7 +32,7 @@ pub struct Table<K, V> {
 }
 
 impl<K, V> Model for Table<K, V> {
-    ghost use Rattle.lhm_ring.specs.Tables.{TableState, table_of, IsTable};
+    ghost use Rattle.lhm_ring.specs.Table.{TableState, table_of, IsTable};
 
     ghost Value = { TableState (K × V) };
 
@@ -48,9 +44,9 @@ impl<K, V> Model for Table<K, V> {
 impl<K, V> Table<K, V> {
     ghost use Rattle.std.specs.Borrow.{sem};
     ghost use Rattle.lhm_ring.specs.TableAfterLoan.{lends_value, lends_values, lends_drained};
-    ghost use Rattle.lhm_ring.specs.ValueIterators.{loan_name, pairs_left};
-    ghost use Rattle.lhm_ring.specs.Drains.{drain_name, drain_rest};
-    ghost use Rattle.lhm_ring.specs.RingState.{triples};
+    ghost use Rattle.lhm_ring.specs.Iter.{loan_name, pairs_left};
+    ghost use Rattle.lhm_ring.specs.Drain.{drain_name, drain_rest};
+    ghost use Rattle.lhm_ring.specs.Ring.{triples};
 
     /// Creates an empty table of capacity 0.
     pub fn new(alloc: Global) -> Table<K, V>

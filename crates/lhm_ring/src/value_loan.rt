@@ -5,10 +5,10 @@ ghost use base.Fml.{GName, ftrue, ffalse};
 ghost use denote.RawPtr.{Ptr};
 ghost use Rattle.lhm_ring.specs.ValueLoan.{borrowed, value_at, without_value, Lies};
 
-use crate::block::{Node, NodePointer};
 use crate::iter::IterMut;
-use crate::links::Links;
-use crate::ring::Ring;
+use crate::nodes::Node;
+use crate::pointer::NodePointer;
+use crate::ring::{Links, Ring};
 use std::cell::UnsafeCell;
 use std::marker::{Model, Move, Owns, PhantomData};
 
@@ -65,7 +65,7 @@ pub(crate) struct LentValues<'a, K, V> {
 
 impl<K, V> Ring<K, V> {
     ghost use Rattle.lhm_ring.specs.RingAfterLoan.{lends_values};
-    ghost use Rattle.lhm_ring.specs.ValueIterators.{held_left, loan_name};
+    ghost use Rattle.lhm_ring.specs.Iter.{held_left, loan_name};
 
     /// Shares the ring except its values, and lends the values.
     pub(crate) fn lend<'a>(&'a mut self) -> IterMut<'a, K, V>

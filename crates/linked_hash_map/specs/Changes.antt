@@ -1,10 +1,10 @@
 -- What calls make of a map: updates of what it was, so that they name what changes and nothing
 -- else.
 use Rattle.std.specs.Prelude.{◌≡◌, ◌+◌, Bool, max, [], ◌∷◌, ◌++◌, length}
-use Rattle.lhm_ring.specs.Buckets.{rechained_raised}
 use Rattle.linked_hash_map.specs.LinkedMap.{LinkedMap}
 use Rattle.linked_hash_map.specs.Cursor.{without_cursor}
 use Rattle.linked_hash_map.specs.Pairs.{to_back, set_or_push}
+use Rattle.lhm_ring.specs.Buckets.{rechained_raised}
 
 module _ {K V S : Type 0} where
   -- with the pair of k and v at the back, and room for it: k is absent

@@ -3,7 +3,7 @@ use Rattle.std.specs.Prelude.{◌≡◌, List, map, Option}
 use Rattle.std.specs.Borrow.{GName}
 use Rattle.std.specs.Iterator.{Yields}
 use Rattle.std.specs.Map.Iter.{TakesFirst, TakesLast}
-use Rattle.lhm_ring.specs.Drains as ring
+use Rattle.lhm_ring.specs.Drain as ring
 use Rattle.linked_hash_map.specs.declared.drain.Drain.{Drain}
 
 module _ {K V : Type 0} where

@@ -2,15 +2,15 @@
 use Rattle.std.specs.Prelude.{◌≡◌, ℕ, ◌+◌, ◌<◌, ◌≤◌, Bool, cond, List, [], ◌∷◌, map, length, Option, Some, None, ⊤}
 use Rattle.std.specs.List.{IsDistinct, AllByRecursion}
 use denote.RawPtr.{Ptr}
-use Rattle.lhm_ring.specs.Cells.{same_ptr}
-use Rattle.lhm_ring.specs.Positions.{pointer_of_some}
-use Rattle.lhm_ring.specs.RingState.{Held, held}
-use Rattle.lhm_ring.specs.Tables.{TableState}
 use Rattle.linked_hash_map.specs.LinkedMap.{LinkedMap, CursorState, linked_map, cursor_state, nowhere}
 use Rattle.linked_hash_map.specs.declared.map.Mode.{Mode}
 use Rattle.linked_hash_map.specs.declared.map.TheConstants.{LIMIT}
 use Rattle.linked_hash_map.specs.declared.map.cursor.Visit.{Visit}
 use Rattle.linked_hash_map.specs.declared.map.LinkedHashMap.TheInside.{Inside}
+use Rattle.lhm_ring.specs.Nodes.{same_ptr}
+use Rattle.lhm_ring.specs.Pointer.{pointer_of_some}
+use Rattle.lhm_ring.specs.Ring.{Held, held}
+use Rattle.lhm_ring.specs.Table.{TableState}
 
 -- where a cursor and an entry stand: the next pair to visit, how many are left, and an entry's pair
 pub record VisitState : Type 0 where

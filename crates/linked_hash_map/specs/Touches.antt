@@ -1,10 +1,10 @@
 -- A node that a mode moves to the back, or leaves in its place.
 use Rattle.std.specs.Prelude.{◌≡◌, List, [], ◌∷◌, ◌++◌, map}
 use denote.RawPtr.{Ptr}
-use Rattle.lhm_ring.specs.Cells.{IsApart}
-use Rattle.lhm_ring.specs.RingState.{Held, AtHeld}
 use Rattle.linked_hash_map.specs.declared.map.Mode.{Mode}
 use Rattle.linked_hash_map.specs.declared.map.Mode.TheVariants.{Touch, Keep}
+use Rattle.lhm_ring.specs.Nodes.{IsApart}
+use Rattle.lhm_ring.specs.Ring.{Held, AtHeld}
 
 -- ks are the nodes hs: in Touch with the one at p behind the others, in Keep as they were
 abbrev pub IsTouched : {B : Type 0} → Mode → Ptr → List (Held B) → List (Held B) → Type 0

@@ -13,7 +13,7 @@ pub struct Drain<'a, K, V> {
 }
 
 impl<'a, K, V> Drain<'a, K, V> {
-    ghost use Rattle.lhm_ring.specs.Drains as ring;
+    ghost use Rattle.lhm_ring.specs.Drain as ring;
     ghost use Rattle.linked_hash_map.specs.Drains.{drain_rest, drain_name};
 
     /// Returns an iterator over the pairs of a table.

@@ -2,7 +2,7 @@
 use Rattle.std.proofs.Common.{ℕ, ◌<◌, ◌≤◌, ◌≡◌, inl, inr, arith}
 use Rattle.std.proofs.lemmas.Nat.{pow_pos}
 use Rattle.std.specs.Int.{IsPowerOfTwo}
-use Rattle.lhm_ring.proofs.BucketCounts as ring
+use Rattle.lhm_ring.proofs.indexes.BucketCounts as ring
 use Rattle.linked_hash_map.specs.Counts.{buckets}
 
 -- n is a power of two that is not below c, and no smaller one is

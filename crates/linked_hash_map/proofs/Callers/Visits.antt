@@ -5,12 +5,12 @@ use Rattle.std.specs.Cmp.{IsEquivalence}
 use Rattle.std.specs.List.{IsDistinct, remove}
 use Rattle.std.specs.Map.{keys_of}
 use Rattle.std.proofs.lemmas.List.Elements.{filter-append}
-use Rattle.lhm_ring.specs.Splits.{SplitFirst}
-use Rattle.lhm_ring.proofs.Options.{Some-injective}
+use Rattle.lhm_ring.proofs.lists.Options.{Some-injective}
 use Rattle.linked_hash_map.specs.Pairs.{value_at, without}
 use Rattle.linked_hash_map.specs.Visits.{VisitKeeps}
 use Rattle.linked_hash_map.proofs.pairs.Indexes.{find-own, without-own}
 use Rattle.linked_hash_map.proofs.lists.Elements.{slice_get-append, remove-append}
+use Rattle.lhm_ring.specs.Ring.{SplitFirst}
 
 -- the first pair to come has the key that is next, and the others are to come behind it
 record Next {K V : Type 0} (k : K) (left : List K) (rest : List (K × V)) : Type 0 where

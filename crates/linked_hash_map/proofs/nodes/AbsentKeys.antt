@@ -4,14 +4,14 @@ use Rattle.std.proofs.Common.{option_map, IsTrue, refl, sym, ap, ◌∙◌, subs
 use Rattle.std.specs.List.{list_any, AllByRecursion}
 use Rattle.std.specs.Map.{keys_of}
 use Rattle.std.proofs.lemmas.Bool.{eq-eqb}
-use Rattle.lhm_ring.specs.RingState.{Held}
-use Rattle.lhm_ring.specs.Search.{IsAbsent}
-use Rattle.lhm_ring.specs.Tables.{TableState}
 use Rattle.linked_hash_map.specs.Hashers.{hash_by}
 use Rattle.linked_hash_map.specs.LinkedMap.{LinkedMap}
 use Rattle.linked_hash_map.specs.Nodes.{Beside, IsKept, pairs_of, bare, map_of}
 use Rattle.linked_hash_map.specs.Pairs.{find, value_at}
 use Rattle.linked_hash_map.proofs.pairs.Calls.{lookup_entry-none}
+use Rattle.lhm_ring.specs.Ring.{Held}
+use Rattle.lhm_ring.specs.Search.{IsAbsent}
+use Rattle.lhm_ring.specs.Table.{TableState}
 
 -- no node with the hash of a key has that key
 module _ {K V : Type 0} (eq : K → K → Bool) (hash : K → ℕ)

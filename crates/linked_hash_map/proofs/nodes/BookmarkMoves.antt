@@ -6,14 +6,14 @@ use Rattle.std.proofs.lemmas.Bool.{cases_lt}
 use Rattle.std.proofs.lemmas.List.{append_assoc}
 use Rattle.std.specs.Map.{keys_of}
 use denote.RawPtr.{Ptr}
-use Rattle.lhm_ring.specs.Cells.{IsApart}
-use Rattle.lhm_ring.specs.RingState.{Held, AtHeld, first_at}
-use Rattle.lhm_ring.specs.Tables.{TableState}
 use Rattle.linked_hash_map.specs.Nodes.{VisitState, IsKept, Lies, before, bookmark_at, bare, pairs_of}
 use Rattle.linked_hash_map.proofs.nodes.HeldPairs.{before-bare, length-bare}
 use Rattle.linked_hash_map.proofs.nodes.CutNodes.{CutAt, CutAt-before, before-append}
 use Rattle.linked_hash_map.proofs.nodes.Outside.{IsElsewhere, to_visit_of, unvisited_some, bookmark_lies}
 use Rattle.linked_hash_map.proofs.lists.Stretches.{stretch-step, take-none}
+use Rattle.lhm_ring.specs.Nodes.{IsApart}
+use Rattle.lhm_ring.specs.Ring.{Held, AtHeld, first_at}
+use Rattle.lhm_ring.specs.Table.{TableState}
 
 module _ {K V : Type 0} where
   pub bookmark-bare : (o : Option Ptr) (hs : List (Held (K × V))) → bookmark_at o (bare hs) ≡ bookmark_at o hs

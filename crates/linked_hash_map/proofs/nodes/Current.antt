@@ -2,17 +2,17 @@
 use Rattle.std.proofs.Common.{◌≡◌, ℕ, ◌+◌, ◌<◌, ◌≤◌, ◌⊎◌, Bool, true, false, cond, List, length}
 use Rattle.std.proofs.Common.{Option, Some, None, refl, sym, ap, ◌∙◌, subst, arith}
 use denote.RawPtr.{Ptr}
-use Rattle.lhm_ring.specs.Positions.{pointer_of, pointer_of_some}
-use Rattle.lhm_ring.specs.RingState.{Held}
-use Rattle.lhm_ring.specs.Tables.{TableState}
-use Rattle.lhm_ring.specs.TableAfterLoan.{with_value}
-use Rattle.lhm_ring.specs.declared.position.Position.{Position}
+use Rattle.lhm_ring.specs.declared.pointer.Position.{Position}
 use Rattle.linked_hash_map.specs.LinkedMap.{LinkedMap, CursorState}
 use Rattle.linked_hash_map.specs.Cursor.{IsOutside}
 use Rattle.linked_hash_map.specs.Nodes.{VisitState, no_visit, bare, before, current_at, cursor_at, Lies, AreKept, IsKept}
 use Rattle.linked_hash_map.proofs.nodes.HeldPairs.{bare-change, length-bare, before-bare}
 use Rattle.linked_hash_map.proofs.nodes.CutNodes.{CutAt, CutAt-before}
 use Rattle.linked_hash_map.proofs.nodes.Outside.{IsElsewhere}
+use Rattle.lhm_ring.specs.Pointer.{pointer_of, pointer_of_some}
+use Rattle.lhm_ring.specs.Ring.{Held}
+use Rattle.lhm_ring.specs.Table.{TableState}
+use Rattle.lhm_ring.specs.TableAfterLoan.{with_value}
 
 -- the index is the number of nodes before the pointer
 pub current_at-Some : {K V : Type 0} {o : Option Ptr} {p : Ptr} → o ≡ Some p

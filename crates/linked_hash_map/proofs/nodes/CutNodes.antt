@@ -2,17 +2,16 @@
 use Rattle.std.proofs.Common.{◌≡◌, suc, ◌+◌, ◌<◌, true, false, cond, List, [], ◌∷◌, ◌++◌, map}
 use Rattle.std.proofs.Common.{length, slice_get, remove, Some, refl, sym, ap, ◌∙◌, subst, arith}
 use denote.RawPtr.{Ptr}
-use Rattle.lhm_ring.specs.Cells.{same_ptr, IsApart}
-use Rattle.lhm_ring.specs.RingState.{Held, change_at, IsHeld}
-use Rattle.lhm_ring.specs.Tables.{WritesOnly}
-use Rattle.lhm_ring.specs.RingAfterLoan.{revalued}
-use Rattle.lhm_ring.proofs.Apart.{same_ptr-equal, same_ptr-reflexive, IsFresh-head, IsApart-tail}
-use Rattle.lhm_ring.proofs.HeldPointers.{same_ptr-fresh}
+use Rattle.lhm_ring.proofs.lists.Apart.{same_ptr-equal, same_ptr-reflexive, IsFresh-head, IsApart-tail}
+use Rattle.lhm_ring.proofs.rings.HeldPointers.{same_ptr-fresh}
 use Rattle.linked_hash_map.specs.Nodes.{pairs_of, before}
 use Rattle.linked_hash_map.specs.Indexes.{set_value_at}
 use Rattle.linked_hash_map.proofs.nodes.HeldPairs.{length-pairs_of, pairs_of-append}
 use Rattle.linked_hash_map.proofs.pairs.Indexes.{set_value_at-append}
 use Rattle.linked_hash_map.proofs.lists.Elements.{slice_get-append, remove-append}
+use Rattle.lhm_ring.specs.Nodes.{same_ptr, IsApart}
+use Rattle.lhm_ring.specs.Ring.{Held, change_at, IsHeld, revalued}
+use Rattle.lhm_ring.specs.Table.{WritesOnly}
 
 -- nodes, cut at one of them: what is at its index
 module _ {K V : Type 0} {hs : List (Held (K × V))} {p : Ptr} (held : IsHeld hs p) where

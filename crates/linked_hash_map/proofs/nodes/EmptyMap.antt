@@ -1,10 +1,10 @@
 -- A map with no pairs.
 use Rattle.std.proofs.Common.{◌≡◌, ℕ, ◌≤◌, Bool, List, [], refl, sym, ap, subst, arith}
 use Rattle.std.specs.List.{IsDistinct}
-use Rattle.lhm_ring.specs.RingState.{Held}
-use Rattle.lhm_ring.specs.Tables.{TableState}
 use Rattle.linked_hash_map.specs.Nodes.{no_visit, AreKept, IsKept, bare}
 use Rattle.linked_hash_map.specs.declared.map.TheConstants.{LIMIT}
+use Rattle.lhm_ring.specs.Ring.{Held}
+use Rattle.lhm_ring.specs.Table.{TableState}
 
 -- no node
 AreKept-none : {K : Type 0} (eq : K → K → Bool) (hash : K → ℕ) (us : List (Held K)) (capacity : ℕ)

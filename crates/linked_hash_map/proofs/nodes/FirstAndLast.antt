@@ -2,15 +2,15 @@
 use Rattle.std.proofs.Common.{◌≡◌, ◌-◌, List, [], ◌∷◌, length, slice_get, Some, sym, ap, ◌∙◌, arith}
 use Rattle.std.proofs.Common.{length-append, suc, ◌+◌, ◌<◌, true, false, cond, map, None, subst}
 use denote.RawPtr.{Ptr}
-use Rattle.lhm_ring.proofs.Ends.{First, Last, last_held}
-use Rattle.lhm_ring.specs.Cells.{same_ptr, IsApart}
-use Rattle.lhm_ring.specs.RingState.{Held, first_at, last_of, last_at}
-use Rattle.lhm_ring.proofs.Apart.{IsFresh, same_ptr-reflexive}
-use Rattle.lhm_ring.proofs.Apart.{IsFresh-head, IsApart-tail}
+use Rattle.lhm_ring.proofs.rings.Ends.{First, Last, last_held}
+use Rattle.lhm_ring.proofs.lists.Apart.{IsFresh, same_ptr-reflexive}
+use Rattle.lhm_ring.proofs.lists.Apart.{IsFresh-head, IsApart-tail}
 use Rattle.linked_hash_map.specs.Nodes.{pairs_of, before}
 use Rattle.linked_hash_map.specs.Pairs.{first, last}
 use Rattle.linked_hash_map.proofs.nodes.HeldPairs.{length-pairs_of}
 use Rattle.linked_hash_map.proofs.nodes.CutNodes.{slice_get-held}
+use Rattle.lhm_ring.specs.Nodes.{same_ptr, IsApart}
+use Rattle.lhm_ring.specs.Ring.{Held, first_at, last_of, last_at}
 
 -- its pair is the first, or the last
 module _ {K V : Type 0} {hs : List (Held (K × V))} {p : Ptr} where

@@ -5,16 +5,16 @@ use Rattle.std.specs.Prelude.{IfSome, IfNone}
 use Rattle.std.specs.List.{IsDistinct, AllByRecursion}
 use Rattle.std.specs.Map.{keys_of}
 use denote.RawPtr.{Ptr}
-use Rattle.lhm_ring.specs.Positions.{pointer_of, pointer_of_some}
-use Rattle.lhm_ring.specs.declared.position.Position.{Position}
-use Rattle.lhm_ring.specs.RingState.{Held, IsHeld, AtHeld, triples}
-use Rattle.lhm_ring.specs.Tables.{TableState}
-use Rattle.lhm_ring.proofs.Entries.{length-same_triples}
+use Rattle.lhm_ring.specs.declared.pointer.Position.{Position}
+use Rattle.lhm_ring.proofs.indexes.Entries.{length-same_triples}
 use Rattle.linked_hash_map.specs.Nodes.{VisitState, IsKept, HasBehind, Lies, pairs_of, bare, before, bookmark_at}
 use Rattle.linked_hash_map.proofs.nodes.HeldPairs.{length-bare, keys-bare, pairs-triples}
 use Rattle.linked_hash_map.proofs.nodes.CutNodes.{CutAt, CutAt-before}
 use Rattle.linked_hash_map.proofs.nodes.BookmarkMoves.{bookmark-bare, bookmarked_cut}
 use Rattle.linked_hash_map.proofs.nodes.Outside.{before_held, to_visit_of}
+use Rattle.lhm_ring.specs.Pointer.{pointer_of, pointer_of_some}
+use Rattle.lhm_ring.specs.Ring.{Held, IsHeld, AtHeld, triples}
+use Rattle.lhm_ring.specs.Table.{TableState}
 
 module _ {B : Type 0} {p : Ptr} {hs : List (Held B)} where
   -- what is known of each place of a pointer, at the first

@@ -1,13 +1,13 @@
 -- A key that a lookup finds: the index of its node.
 use Rattle.std.proofs.Common.{ℕ, ◌<◌, Bool, List, length, slice_get, sym, ap, ◌∙◌, subst, arith}
 use denote.RawPtr.{Ptr}
-use Rattle.lhm_ring.specs.RingState.{Held}
-use Rattle.lhm_ring.specs.Search.{HasKey}
 use Rattle.linked_hash_map.specs.Indexes.{IsIndex}
 use Rattle.linked_hash_map.specs.Nodes.{pairs_of, bare, before}
 use Rattle.linked_hash_map.proofs.nodes.HeldPairs.{length-bare, before-bare}
 use Rattle.linked_hash_map.proofs.nodes.CutNodes.{CutAt-before, slice_get-held}
 use Rattle.linked_hash_map.proofs.nodes.Outside.{before_held}
+use Rattle.lhm_ring.specs.Ring.{Held}
+use Rattle.lhm_ring.specs.Search.{HasKey}
 
 pub IsIndex-HasKey : {K V : Type 0} {eq : K → K → Bool} {hash : ℕ} {k : K}
     {hs : List (Held (K × V))} {p : Ptr} (h : HasKey eq hash k hs p)

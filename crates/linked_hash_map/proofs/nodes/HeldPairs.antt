@@ -3,11 +3,10 @@ use Rattle.std.proofs.Common.{◌≡◌, suc, ◌+◌, true, false, cond, List, 
 use Rattle.std.specs.Map.{keys_of}
 use Rattle.std.proofs.lemmas.List.{map-append}
 use denote.RawPtr.{Ptr}
-use Rattle.lhm_ring.specs.Cells.{same_ptr}
-use Rattle.lhm_ring.specs.RingState.{Held, change_at, triples}
-use Rattle.lhm_ring.specs.RingAfterLoan.{revalued, set_held_values}
-use Rattle.lhm_ring.specs.Search.{entries}
 use Rattle.linked_hash_map.specs.Nodes.{pairs_of, bare, bare_node, before}
+use Rattle.lhm_ring.specs.Nodes.{same_ptr}
+use Rattle.lhm_ring.specs.Ring.{Held, change_at, triples, revalued, set_held_values}
+use Rattle.lhm_ring.specs.Index.{entries}
 
 -- what is the same of nodes with the same entries, and of nodes with other values
 module _ {K V : Type 0} where

@@ -2,14 +2,13 @@
 use Rattle.std.proofs.Common.{◌≡◌, ℕ, Bool, List, [], ◌∷◌, length, refl, sym, ap, subst, arith}
 use Rattle.std.specs.List.{IsDistinct}
 use Rattle.std.specs.Map.{keys_of}
-use Rattle.lhm_ring.specs.RingState.{Held}
-use Rattle.lhm_ring.specs.RingAfterLoan.{set_held_values}
-use Rattle.lhm_ring.specs.Tables.{TableState}
 use Rattle.linked_hash_map.specs.LinkedMap.{LinkedMap}
 use Rattle.linked_hash_map.specs.Nodes.{VisitState, pairs_of, bare, Beside, cursor_at, map_of, AreKept, IsKept}
 use Rattle.linked_hash_map.specs.Pairs.{set_values}
 use Rattle.linked_hash_map.specs.Validity.{IsValid}
 use Rattle.linked_hash_map.proofs.nodes.HeldPairs.{bare-values, keys-bare, length-bare, length-pairs_of}
+use Rattle.lhm_ring.specs.Ring.{Held, set_held_values}
+use Rattle.lhm_ring.specs.Table.{TableState}
 
 -- what is kept so is a valid map
 module _ {K V : Type 0} {eq : K → K → Bool} {hash : K → ℕ} {s : TableState (K × V)}

@@ -2,13 +2,13 @@
 use Rattle.std.proofs.Common.{◌≡◌, ℕ, ◌%◌, Bool, List, [], ◌∷◌, cond, refl, ap, ◌∙◌, eqb, arith}
 use Rattle.std.specs.Prelude.{count_by}
 use Rattle.std.specs.List.{AllByRecursion}
-use Rattle.lhm_ring.specs.Buckets.{buckets}
-use Rattle.lhm_ring.specs.Spots as nodes
-use Rattle.lhm_ring.specs.Spots.{Spot, spot, spots}
-use Rattle.lhm_ring.specs.RingState.{Held}
-use Rattle.lhm_ring.proofs.RearrangedCounts.{count_by-cons}
+use Rattle.lhm_ring.specs.Index as nodes
+use Rattle.lhm_ring.proofs.lists.RearrangedCounts.{count_by-cons}
 use Rattle.linked_hash_map.specs.Counts.{same, beside}
 use Rattle.linked_hash_map.specs.Nodes.{pairs_of, bare}
+use Rattle.lhm_ring.specs.Buckets.{buckets}
+use Rattle.lhm_ring.specs.Index.{Spot, spot, spots}
+use Rattle.lhm_ring.specs.Ring.{Held}
 
 module _ {K V : Type 0} (hash : K → ℕ) where
   count_by-spots : (test : ℕ → Bool) (hs : List (Held (K × V)))

@@ -6,10 +6,8 @@ use Rattle.std.specs.Cmp.{IsEquivalence}
 use Rattle.std.proofs.lemmas.List.{map-append}
 use Rattle.std.proofs.lemmas.Map.Keys.{IsDistinct-head, IsDistinct-tail}
 use denote.RawPtr.{Ptr}
-use Rattle.lhm_ring.specs.Cells.{same_ptr, IsApart}
-use Rattle.lhm_ring.specs.RingState.{Held, AtHeld}
-use Rattle.lhm_ring.proofs.Apart.{IsFresh, same_ptr-reflexive, same_ptr-symmetric, IsFresh-middle}
-use Rattle.lhm_ring.proofs.ListFacts.{AllByRecursion-right}
+use Rattle.lhm_ring.proofs.lists.Apart.{IsFresh, same_ptr-reflexive, same_ptr-symmetric, IsFresh-middle}
+use Rattle.lhm_ring.proofs.lists.ListFacts.{AllByRecursion-right}
 use Rattle.linked_hash_map.specs.Nodes.{VisitState, Lies, pairs_of, bare, bare_node, before, bookmark_at, AreKept}
 use Rattle.linked_hash_map.proofs.lists.Distinct.{none_from_all}
 use Rattle.linked_hash_map.proofs.nodes.HeldPairs.{length-bare, pairs_of-append}
@@ -19,6 +17,8 @@ use Rattle.linked_hash_map.proofs.nodes.Outside.{AreKept-cut, IsElsewhere-cut}
 use Rattle.linked_hash_map.proofs.nodes.TakenNode.{AreKept-out}
 use Rattle.linked_hash_map.proofs.nodes.PushedPair.{AreKept-push, bookmark_at-append, to_visit-append}
 use Rattle.linked_hash_map.proofs.nodes.Current.{AreKept-current}
+use Rattle.lhm_ring.specs.Nodes.{same_ptr, IsApart}
+use Rattle.lhm_ring.specs.Ring.{Held, AtHeld}
 
 -- among keys that differ, one differs from the others
 list_any-others : {K : Type 0} {eq : K → K → Bool} → IsEquivalence eq

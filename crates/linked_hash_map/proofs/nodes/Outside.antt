@@ -6,13 +6,13 @@ use Rattle.std.specs.Map.{keys_of}
 use Rattle.std.proofs.Math.Nat.{pos_of_ne-zero}
 use Rattle.std.proofs.lemmas.List.{map-append, length-map}
 use denote.RawPtr.{Ptr}
-use Rattle.lhm_ring.specs.Cells.{same_ptr}
-use Rattle.lhm_ring.specs.RingState.{Held}
-use Rattle.lhm_ring.proofs.Apart.{same_ptr-reflexive}
+use Rattle.lhm_ring.proofs.lists.Apart.{same_ptr-reflexive}
 use Rattle.linked_hash_map.specs.Nodes.{VisitState, AreKept, pairs_of, bare, bare_node, before, bookmark_at}
 use Rattle.linked_hash_map.proofs.nodes.HeldPairs.{keys-bare, length-bare}
 use Rattle.linked_hash_map.proofs.nodes.CutNodes.{CutAt}
 use Rattle.linked_hash_map.proofs.lists.Stretches.{stretch-out}
+use Rattle.lhm_ring.specs.Nodes.{same_ptr}
+use Rattle.lhm_ring.specs.Ring.{Held}
 
 -- how many nodes come before a pointer, once one of the nodes is out, and where there are more
 -- behind

@@ -6,15 +6,15 @@ use Rattle.std.specs.Cmp.{IsEquivalence}
 use Rattle.std.proofs.lemmas.List.{map-append, length-map}
 use Rattle.std.proofs.lemmas.Map.Keys.{IsDistinct-push}
 use denote.RawPtr.{Ptr}
-use Rattle.lhm_ring.specs.RingState.{Held}
-use Rattle.lhm_ring.specs.Tables.{TableState}
-use Rattle.lhm_ring.proofs.ListFacts.{AllByRecursion-append}
+use Rattle.lhm_ring.proofs.lists.ListFacts.{AllByRecursion-append}
 use Rattle.linked_hash_map.specs.Nodes.{VisitState, AreKept, IsKept, Lies, pairs_of, bare, bare_node, bookmark_at, current_at}
 use Rattle.linked_hash_map.specs.Pairs.{find}
 use Rattle.linked_hash_map.proofs.nodes.HeldPairs.{length-bare, keys-bare, pairs_of-append}
 use Rattle.linked_hash_map.proofs.pairs.Calls.{list_any-none}
 use Rattle.linked_hash_map.proofs.nodes.Outside.{before_within, bookmark_lies, to_visit_at, to_visit_of, to_visit-bare}
 use Rattle.linked_hash_map.proofs.lists.Stretches.{stretch-front}
+use Rattle.lhm_ring.specs.Ring.{Held}
+use Rattle.lhm_ring.specs.Table.{TableState}
 
 -- what lies among the first nodes is where it was
 module _ {B : Type 0} where

@@ -5,11 +5,6 @@ use Rattle.std.specs.List.{IsDistinct}
 use Rattle.std.specs.Map.{keys_of}
 use Rattle.std.specs.Cmp.{IsEquivalence}
 use denote.RawPtr.{Ptr}
-use Rattle.lhm_ring.specs.Cells.{IsApart}
-use Rattle.lhm_ring.specs.RingState.{Held, AtHeld, change_at}
-use Rattle.lhm_ring.specs.RingAfterLoan.{revalued}
-use Rattle.lhm_ring.specs.Tables.{TableState, WritesOnly}
-use Rattle.lhm_ring.specs.TableAfterLoan.{with_value}
 use Rattle.linked_hash_map.specs.declared.map.Mode.{Mode}
 use Rattle.linked_hash_map.specs.declared.map.Mode.TheVariants.{Touch, Keep}
 use Rattle.linked_hash_map.specs.Nodes.{VisitState, no_visit, pairs_of, bare, before, current_at, AreKept, IsKept}
@@ -24,6 +19,10 @@ use Rattle.linked_hash_map.proofs.nodes.CutNodes.{CutAt, CutAt-before, slice_get
 use Rattle.linked_hash_map.proofs.nodes.Current.{current_at-Some, before-current, IsKept-visited, IsKept-with_value}
 use Rattle.linked_hash_map.proofs.nodes.MovedNode.{pairs-moved, length-to_back, before-at_back, AreKept-moved, to_visit-moved, behind-moved}
 use Rattle.linked_hash_map.proofs.nodes.Outside.{IsElsewhere, to_visit_at, to_visit_of, to_visit-bare}
+use Rattle.lhm_ring.specs.Nodes.{IsApart}
+use Rattle.lhm_ring.specs.Ring.{Held, AtHeld, change_at, revalued}
+use Rattle.lhm_ring.specs.Table.{TableState, WritesOnly}
+use Rattle.lhm_ring.specs.TableAfterLoan.{with_value}
 
 -- hs are the nodes before, and ks those after
 module _ {K V : Type 0} (hs ks : List (Held (K × V))) (p : Ptr) (lies : before p hs < length hs) where

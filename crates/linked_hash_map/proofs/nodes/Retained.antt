@@ -3,13 +3,11 @@ use Rattle.std.proofs.Common.{◌≡◌, ℕ, ◌≤◌, inl, inr, Bool, true, f
 use Rattle.std.specs.List.{IsDistinct, AllByRecursion}
 use Rattle.std.specs.Map.{keys_of}
 use Rattle.std.specs.Map.Calls.{RetainsPairs}
-use Rattle.lhm_ring.specs.RingState.{Held}
-use Rattle.lhm_ring.specs.RingAfterLoan.{revalued}
-use Rattle.lhm_ring.specs.Tables.{TableState}
-use Rattle.lhm_ring.specs.Retains.{RetainsHeld}
 use Rattle.linked_hash_map.specs.Nodes.{VisitState, no_visit, pairs_of, bare, bare_node, IsKept}
 use Rattle.linked_hash_map.specs.Retains.{IsSublist}
 use Rattle.linked_hash_map.proofs.nodes.HeldPairs.{keys-bare, length-bare, length-pairs_of}
+use Rattle.lhm_ring.specs.Ring.{Held, revalued}
+use Rattle.lhm_ring.specs.Table.{TableState, RetainsHeld}
 
 -- what holds of a list holds of some of its elements
 module _ {X : Type 0} where

@@ -4,9 +4,7 @@ use Rattle.std.proofs.Common.{remove, Some, None, sym, ap, ◌∙◌, subst, ari
 use Rattle.std.specs.List.{IsDistinct}
 use Rattle.std.proofs.lemmas.List.{map-append}
 use denote.RawPtr.{Ptr}
-use Rattle.lhm_ring.specs.RingState.{Held, AtHeld}
-use Rattle.lhm_ring.specs.Tables.{TableState}
-use Rattle.lhm_ring.proofs.ListFacts.{AllByRecursion-removed}
+use Rattle.lhm_ring.proofs.lists.ListFacts.{AllByRecursion-removed}
 use Rattle.linked_hash_map.specs.Nodes.{VisitState, no_visit, pairs_of, bare, bare_node, before, AreKept, IsKept}
 use Rattle.linked_hash_map.proofs.lists.Distinct.{distinct_removed}
 use Rattle.linked_hash_map.proofs.nodes.CutNodes.{CutAt, CutAt-before, slice_get-held, pairs_of-removed}
@@ -14,6 +12,8 @@ use Rattle.linked_hash_map.proofs.lists.Elements.{remove-append}
 use Rattle.linked_hash_map.proofs.nodes.Current.{IsKept-visited}
 use Rattle.linked_hash_map.proofs.nodes.Outside.{IsElsewhere, to_visit_at, to_visit_of, to_visit-bare, in_reach-out, to_visit-out, bare-cut}
 use Rattle.linked_hash_map.proofs.nodes.Outside.{AreKept-cut, IsElsewhere-cut}
+use Rattle.lhm_ring.specs.Ring.{Held, AtHeld}
+use Rattle.lhm_ring.specs.Table.{TableState}
 
 -- keys that differ still do when one in the midst goes
 distinct-out : {K : Type 0} (eq : K → K → Bool) (xs : List K) (x : K) (ys : List K)

@@ -4,8 +4,7 @@ use Rattle.std.proofs.Common.{refl, sym, ap, ◌∙◌, subst, arith, length-app
 use Rattle.std.specs.List.{AllZip, AllByRecursion, IsDistinct}
 use Rattle.std.specs.Map.{keys_of}
 use Rattle.std.specs.Cmp.{IsEquivalence}
-use Rattle.lhm_ring.specs.RingState.{IsTripleClone}
-use Rattle.lhm_ring.proofs.Ends.{AllZip-last}
+use Rattle.lhm_ring.proofs.rings.Ends.{AllZip-last}
 use Rattle.linked_hash_map.specs.Changes.{KeepsSettings}
 use Rattle.linked_hash_map.specs.declared.map.Mode.TheVariants.{Touch}
 use Rattle.linked_hash_map.specs.LinkedMap.{LinkedMap}
@@ -14,8 +13,9 @@ use Rattle.linked_hash_map.specs.Inserts.{insert_each}
 use Rattle.linked_hash_map.specs.Validity.{IsValid}
 use Rattle.linked_hash_map.specs.Counts.{rechained_raised}
 use Rattle.linked_hash_map.specs.Clones.{AreClones, IsClone}
-use Rattle.lhm_ring.proofs.BucketCounts.{rechained_raised-same}
+use Rattle.lhm_ring.proofs.indexes.BucketCounts.{rechained_raised-same}
 use Rattle.linked_hash_map.proofs.pairs.Inserts.{insert_each-last, insert_each-distinct, length-put_most}
+use Rattle.lhm_ring.specs.Ring.{IsTripleClone}
 
 -- triples of a hash and a pair, and clones of them: their pairs
 module _ {K V : Type 0} (IsKeyClone : K → K → Type 0) (IsValueClone : V → V → Type 0) where

@@ -2,7 +2,7 @@
 -- current one.
 use Rattle.std.proofs.Common.{◌≡◌, ℕ, ◌+◌, ◌≤◌, max, Bool, true, List, [], ◌∷◌, ◌++◌, length, None}
 use Rattle.std.proofs.Common.{is_some, sym, ap, ◌∙◌, arith, length-append}
-use Rattle.lhm_ring.proofs.BucketCounts.{rechained_raised-same}
+use Rattle.lhm_ring.proofs.indexes.BucketCounts.{rechained_raised-same}
 use Rattle.linked_hash_map.specs.LinkedMap.{LinkedMap}
 use Rattle.linked_hash_map.specs.Changes.{pushed, set_or_pushed}
 use Rattle.linked_hash_map.specs.Counts.{rechained_raised}

@@ -7,7 +7,7 @@ use Rattle.std.specs.Map.{keys_of, lookup_entry}
 use Rattle.std.specs.Cmp.{IsEquivalence}
 use Rattle.std.proofs.lemmas.Map.Keys.{IsDistinct-head, IsDistinct-tail}
 use Rattle.std.proofs.Math.Nat.{le_of_suc-le-suc}
-use Rattle.lhm_ring.proofs.Options.{Some-injective}
+use Rattle.lhm_ring.proofs.lists.Options.{Some-injective}
 use Rattle.linked_hash_map.specs.Pairs.{key_or, find, value_at, without, to_back, set_value}
 use Rattle.linked_hash_map.specs.Indexes.{IsIndex, pair_at, set_value_at}
 use Rattle.linked_hash_map.proofs.log.LiveKeys.{same_test}

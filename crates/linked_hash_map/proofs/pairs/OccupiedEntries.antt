@@ -9,7 +9,7 @@ use Rattle.std.specs.declared.hash.Hasher as hasher
 use Rattle.std.specs.declared.hash.BuildHasher as builder
 use Rattle.std.specs.List.{IsDistinct}
 use Rattle.std.specs.Map.{keys_of}
-use Rattle.lhm_ring.proofs.Options.{Some-injective}
+use Rattle.lhm_ring.proofs.lists.Options.{Some-injective}
 use Rattle.linked_hash_map.specs.Pairs.{find, value_at}
 use Rattle.linked_hash_map.specs.Indexes.{IsIndex, set_value_at}
 use Rattle.linked_hash_map.specs.Cursor.{IsOutside, IsOutside-prop}

@@ -1,9 +1,9 @@
 -- The counts of rehashed nodes, by the capacities before and after.
 use Rattle.std.proofs.Common.{◌≡◌, ℕ, zero, suc, ◌+◌, ◌-◌, ◌≤◌, max, ⊎_elim, sym, ap, ◌∙◌, arith}
 use Rattle.std.proofs.lemmas.Bool.{cases_lt}
-use Rattle.lhm_ring.specs.Buckets.{rechained_raised}
-use Rattle.lhm_ring.proofs.BucketCounts.{rechained_raised-same}
+use Rattle.lhm_ring.proofs.indexes.BucketCounts.{rechained_raised-same}
 use Rattle.linked_hash_map.specs.Counts.{rechained_each}
+use Rattle.lhm_ring.specs.Buckets.{rechained_raised}
 
 -- one raise more, after n of them
 pub rechained_each-more : (rechained c n : ℕ)

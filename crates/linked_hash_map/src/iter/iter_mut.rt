@@ -31,10 +31,10 @@ pub struct Lent<'a, K, V> {
 
 impl<'a, K, V> IterMut<'a, K, V> {
     ghost use Rattle.std.specs.Borrow.{sem};
-    ghost use Rattle.lhm_ring.specs.TableAfterLoan.{lends_values};
-    ghost use Rattle.lhm_ring.specs.ValueIterators as table;
+    ghost use Rattle.lhm_ring.specs.Iter as table;
     ghost use Rattle.linked_hash_map.specs.ValueIterators.{pairs_left, loan_name};
     ghost use Rattle.linked_hash_map.specs.Nodes.{pairs_of};
+    ghost use Rattle.lhm_ring.specs.TableAfterLoan.{lends_values};
 
     /// Returns an iterator over the pairs of a table, whose values it lends.
     pub(crate) fn over(table: &'a mut Table<K, V>) -> IterMut<'a, K, V>

@@ -9,9 +9,9 @@ ghost use Rattle.linked_hash_map.specs.Validity.{IsValid};
 ghost use Rattle.linked_hash_map.specs.Hashers.{hash_by};
 ghost use Rattle.linked_hash_map.specs.Indexes.{IsIndex};
 ghost use Rattle.linked_hash_map.specs.Nodes.{bookmark_of, unvisited_of, current_of, Lies, HasBehind};
-ghost use Rattle.lhm_ring.specs.Cells.{IsApart};
-ghost use Rattle.lhm_ring.specs.Positions.{pointer_of, pointer_of_some};
-ghost use Rattle.lhm_ring.specs.RingState.{IsHeld, AtHeld, first_at};
+ghost use Rattle.lhm_ring.specs.Nodes.{IsApart};
+ghost use Rattle.lhm_ring.specs.Pointer.{pointer_of, pointer_of_some};
+ghost use Rattle.lhm_ring.specs.Ring.{IsHeld, AtHeld, first_at};
 
 use super::LinkedHashMap;
 use super::insert::touch;

@@ -9,9 +9,9 @@ ghost use Rattle.linked_hash_map.specs.Hashers.{hash_by};
 ghost use Rattle.linked_hash_map.specs.Counts.{rechained_raised};
 ghost use Rattle.linked_hash_map.specs.Touches.{IsTouched};
 ghost use Rattle.linked_hash_map.specs.Updates.{Updates};
-ghost use Rattle.lhm_ring.specs.Positions.{pointer_of};
-ghost use Rattle.lhm_ring.specs.RingState.{IsHeld};
-ghost use Rattle.lhm_ring.specs.Tables.{KeepsCounts};
+ghost use Rattle.lhm_ring.specs.Pointer.{pointer_of};
+ghost use Rattle.lhm_ring.specs.Ring.{IsHeld};
+ghost use Rattle.lhm_ring.specs.Table.{KeepsCounts};
 
 use super::{LinkedHashMap, Mode};
 use crate::error::Refused;

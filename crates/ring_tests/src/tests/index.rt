@@ -17,8 +17,8 @@ struct Table<K, V> {
 }
 
 impl<K, V> Model for Table<K, V> {
-    ghost use Rattle.lhm_ring.specs.RingState.{State};
-    ghost use Rattle.lhm_ring.specs.IndexedRing.{IsIndexed};
+    ghost use Rattle.lhm_ring.specs.Ring.{State};
+    ghost use Rattle.lhm_ring.specs.Index.{IsIndexed};
 
     ghost Value = { State (K × V) };
 

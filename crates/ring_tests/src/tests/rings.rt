@@ -1,8 +1,7 @@
 //! The ring.
 ghost use Rattle.std.specs.Prelude.{◌≡◌, ◌+◌, [], ◌∷◌, ◌++◌, length, map, slice_get, None, Some, IfSome};
-ghost use Rattle.lhm_ring.specs.RingState.{IsHeld, AtHeld, held, triples};
-ghost use Rattle.lhm_ring.specs.RingAfterLoan.{unvalued};
-ghost use Rattle.lhm_ring.specs.Positions.{pointer_of};
+ghost use Rattle.lhm_ring.specs.Ring.{IsHeld, AtHeld, held, triples, unvalued};
+ghost use Rattle.lhm_ring.specs.Pointer.{pointer_of};
 
 use super::checks::{check, check_eq, given};
 use lhm_ring::ring::{Drain, Iter, IterMut, Position, Ring};

@@ -1,9 +1,8 @@
 use Rattle.std.proofs.Common.{sym, subst, ◌∙◌}
 use Rattle.std.proofs.lemmas.List.{nil_from_length}
-use Rattle.lhm_ring.specs.Index.{Indexes}
-use Rattle.lhm_ring.specs.Spots.{spots}
-use Rattle.lhm_ring.proofs.WholeIndex.{get_or-none_indexed}
+use Rattle.lhm_ring.proofs.indexes.WholeIndex.{get_or-none_indexed}
 use Rattle.lhm_ring.proofs.buckets.empty_chains.Goals as goal
+use Rattle.lhm_ring.specs.Index.{Indexes, spots}
 
 pub returns-then-len-eq0-clause-empty : goal.returns-then-len-eq0-clause-empty
 returns-then-len-eq0-clause-empty g c =

@@ -1,8 +1,8 @@
 use Rattle.std.proofs.Common.{◌∙◌, map, sym, ap, arith}
 use Rattle.std.proofs.lemmas.List.{append_cancel_right}
-use Rattle.lhm_ring.specs.Land.{extent}
-use Rattle.lhm_ring.proofs.Places.{map-extent_last, map-extent_none}
+use Rattle.lhm_ring.proofs.memory.Places.{map-extent_last, map-extent_none}
 use Rattle.lhm_ring.proofs.grow.free_chunks.Goals as goal
+use Rattle.lhm_ring.specs.Links.{extent}
 
 pub pop_chunk-block-requires : goal.pop_chunk-block-requires
 pop_chunk-block-requires g c =

@@ -1,6 +1,6 @@
 use Rattle.std.proofs.Common.{◌≡◌, [], map, length}
-use Rattle.lhm_ring.specs.Land.{extent}
 use Rattle.lhm_ring.proofs.grow.free_chunks.Given as goal
+use Rattle.lhm_ring.specs.Links.{extent}
 
 abbrev pub invariant-each : goal.invariant-each
 invariant-each g l = record {

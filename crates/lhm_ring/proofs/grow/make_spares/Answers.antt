@@ -1,9 +1,9 @@
 use Rattle.std.proofs.Common.{ℕ, ◌≡◌, ◌∙◌, ◌+◌, ◌-◌, ◌<◌, ◌^◌, ap, sym, refl, subst, arith}
-use Rattle.lhm_ring.specs.Chunks.{row}
-use Rattle.lhm_ring.specs.Stacks.{IsStacked}
-use Rattle.lhm_ring.proofs.Places.{row-none, row-less}
-use Rattle.lhm_ring.proofs.Stacking.{IsStacked-none, IsStacked-push}
+use Rattle.lhm_ring.proofs.memory.Places.{row-none, row-less}
+use Rattle.lhm_ring.proofs.rings.Stacking.{IsStacked-none, IsStacked-push}
 use Rattle.lhm_ring.proofs.grow.make_spares.Goals as goal
+use Rattle.lhm_ring.specs.Nodes.{row}
+use Rattle.lhm_ring.specs.Links.{IsStacked}
 
 pub each-init : goal.each-init
 each-init g c =

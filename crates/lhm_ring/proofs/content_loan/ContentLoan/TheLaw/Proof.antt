@@ -7,7 +7,7 @@ use denote.SharingLaws.{nothing_shr_laws}
 use denote.Struct.Laws.{field_copy}
 use denote.Struct.Lending.{of_Lends, Lends-nothing}
 use Rattle.std.specs.contracts.marker.PhantomData as marker
-use Rattle.lhm_ring.specs.contracts.block.Node as Node-type
+use Rattle.lhm_ring.specs.contracts.nodes.Node as Node-type
 use Rattle.lhm_ring.specs.contracts.content_loan.ContentLoan as C
 use Rattle.lhm_ring.proofs.content_loan.ContentLoan.TheLaw.Statement.{statement}
 

@@ -26,16 +26,16 @@ use Rattle.std.proofs.RcSteps.{Good, word, word-Good}
 use Rattle.std.proofs.RawLayout.{as_raw}
 use Rattle.std.proofs.raw_atomic.Walks.{proved_at, leaves}
 use denote.Struct.Struct.{as_fields}
-use Rattle.lhm_ring.specs.Ownership.{key_of, value_of, body_owns}
-use Rattle.lhm_ring.specs.ContentLoan.{Bodies, bodies, borrows_bodies, body_in, without_body, HasBody, firsts, seconds}
 use Rattle.lhm_ring.specs.declared.content_loan.ContentLoan.{ContentLoan}
 use Rattle.lhm_ring.specs.contracts.content_loan.ContentLoan as S-type
-use Rattle.lhm_ring.proofs.Memory.{Three, args, RL, RK, RV, ko, vo, Pl, word-pointer, two_made, value_out}
-use Rattle.lhm_ring.proofs.ContentTaken.{CutBody, CutBody-some, firsts-same, Run, bodies_cut, bodies_glue}
+use Rattle.lhm_ring.proofs.memory.Memory.{Three, args, RL, RK, RV, ko, vo, Pl, word-pointer, two_made, value_out}
+use Rattle.lhm_ring.proofs.memory.ContentTaken.{CutBody, CutBody-some, firsts-same, Run, bodies_cut, bodies_glue}
 use Rattle.lhm_ring.specs.contracts.content_loan.ContentLoan.take.{ended, clauses}
 use Rattle.lhm_ring.specs.contracts.content_loan.ContentLoan.take.Key.{name as #self}
 use Rattle.lhm_ring.proofs.content_loan.ContentLoan.take.Statement.{statement}
 use Rattle.lhm_ring.proofs.content_loan.ContentLoan.take.Code as code
+use Rattle.lhm_ring.specs.Nodes.{key_address, value_address, body_owns}
+use Rattle.lhm_ring.specs.ContentLoan.{Bodies, bodies, borrows_bodies, body_in, without_body, HasBody, firsts, seconds}
 
 pub take_spec : {M : Type 1} → statement M
 take_spec 𝓤 𝓛 𝓜 𝓡 wired L K V LL LK LV =
@@ -63,8 +63,8 @@ take_spec 𝓤 𝓛 𝓜 𝓡 wired L K V LL LK LV =
     rewrite ! 0 (λ (cs : List (Ptr × Option (K.Denot × V.Denot))). ‵ (borrows_bodies R S W κ d.name cs)) k.split.is refl $ fsplit ! $
     open_ref ! tt Bs {x = seconds all} {b = 0} {o = 0} $
     use1 𝓛 (‵ (body_owns R S W p (Some x)) ⊛ ‵ (Run E 𝓛 (xs ++ ys))) (bodies_cut E 𝓛 xs p (Some x) ys) $ split ! $ fsplit ! $
-    in_a_block ! p (λ q. lies_at S full_share (key_of R S W q) x.0) (id⊢ 𝓤 (never 𝓤)) (λ pb po e.
-    move ! (1 ∷ []) $ rewrite ! 0 (λ (q : Ptr). ‵ (lies_at W full_share (value_of R S W q) x.1)) e refl $ move ! (1 ∷ []) $
+    in_a_block ! p (λ q. lies_at S full_share (key_address R S W q) x.0) (id⊢ 𝓤 (never 𝓤)) (λ pb po e.
+    move ! (1 ∷ []) $ rewrite ! 0 (λ (q : Ptr). ‵ (lies_at W full_share (value_address R S W q) x.1)) e refl $ move ! (1 ∷ []) $
     use1 𝓛 (some (λ (u : Val). given (Good (layout K) u) (‵ (fat full_share (layout K) pb (po + ko E) u) ⊛ ‵ (K.own_val x.0 (u ∷ []))))) (value_out 1 K LK 𝓛 x.0 pb (po + ko E)) $ pick ! (λ u. learn ! (λ good. split ! $ move ! (2 ∷ []) $
     use1 𝓛 (some (λ (u : Val). given (Good (layout V) u) (‵ (fat full_share (layout V) pb (po + vo E) u) ⊛ ‵ (V.own_val x.1 (u ∷ []))))) (value_out 2 V LV 𝓛 x.1 pb (po + vo E)) $ pick ! (λ w. learn ! (λ fine. split ! $
     -- [the value's cell; what it owns; the key's cell; what it owns; the other bodies; their open

@@ -1,8 +1,8 @@
 use Rattle.std.proofs.Common.{arith, ap, sym, ◌∙◌}
 use Rattle.std.specs.Prelude.{is_some}
-use Rattle.lhm_ring.specs.Positions.{pointer_of, pointer_of_some}
-use Rattle.lhm_ring.proofs.NodeBefore.{get_or-head, IsTowards-start, IsHeld-towards, passed-below, IsTowards-next, IsOnChain-towards, nodes-mended, IsHeld-towards_cut, State-equal}
+use Rattle.lhm_ring.proofs.indexes.NodeBefore.{get_or-head, IsTowards-start, IsHeld-towards, passed-below, IsTowards-next, IsOnChain-towards, nodes-mended, IsHeld-towards_cut, State-equal}
 use Rattle.lhm_ring.proofs.index.Index.before.Goals as goal
+use Rattle.lhm_ring.specs.Pointer.{pointer_of, pointer_of_some}
 
 pub first-here-requires : goal.first-here-requires
 first-here-requires g c = let h = get_or-head c.requires.indexed c.requires.held c.requires.hash in ap is_some h.1

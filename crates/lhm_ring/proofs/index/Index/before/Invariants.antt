@@ -1,7 +1,7 @@
 use Rattle.std.proofs.Common.{length, ◌-◌, ◌≡◌}
-use Rattle.lhm_ring.specs.Positions.{pointer_of, pointer_of_some}
-use Rattle.lhm_ring.proofs.NodeBefore.{IsTowards}
+use Rattle.lhm_ring.proofs.indexes.NodeBefore.{IsTowards}
 use Rattle.lhm_ring.proofs.index.Index.before.Given as goal
+use Rattle.lhm_ring.specs.Pointer.{pointer_of, pointer_of_some}
 
 abbrev pub invariant-chain : goal.invariant-chain
 invariant-chain g l = record {

@@ -1,7 +1,7 @@
 use Rattle.std.proofs.Common.{ap, sym, refl, ◌∙◌, subst, ◌<◌, ℕ, length, None, get_or, ◌≡◌}
-use Rattle.lhm_ring.specs.Positions.{pointer_of_some}
-use Rattle.lhm_ring.proofs.Searches.{IsPart-first, FindsNone-part}
+use Rattle.lhm_ring.proofs.indexes.Searches.{IsPart-first, FindsNone-part}
 use Rattle.lhm_ring.proofs.index.Index.find_in.Goals as goal
+use Rattle.lhm_ring.specs.Pointer.{pointer_of_some}
 
 pub returns-in_default-clause-absent : goal.returns-in_default-clause-absent
 returns-in_default-clause-absent g c =

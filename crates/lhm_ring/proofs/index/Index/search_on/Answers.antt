@@ -1,7 +1,7 @@
 use Rattle.std.proofs.Common.{arith, ap, Some, None}
-use Rattle.lhm_ring.specs.Positions.{pointer_of, pointer_of_some}
-use Rattle.lhm_ring.proofs.Searches.{IsPart-same, IsHeld-part, visited-below, IsPart-more, FindsKey-part, FindsNone-part}
+use Rattle.lhm_ring.proofs.indexes.Searches.{IsPart-same, IsHeld-part, visited-below, IsPart-more, FindsKey-part, FindsNone-part}
 use Rattle.lhm_ring.proofs.index.Index.search_on.Goals as goal
+use Rattle.lhm_ring.specs.Pointer.{pointer_of, pointer_of_some}
 
 pub step-requires-clause-held : goal.step-requires-clause-held
 step-requires-clause-held g c = IsHeld-part (IsPart-same (Some (pointer_of c.in-Some.at)) (ap pointer_of_some c.in-Some.is) c.loop-pointer.invariant)

@@ -3,14 +3,14 @@ use Rattle.std.specs.Prelude.{IfSome}
 use Rattle.std.specs.Bool.{then_some}
 use denote.RawPtr.{Ptr}
 use Rattle.std.proofs.lemmas.List.{length-map, map-set}
-use Rattle.lhm_ring.specs.Heads.{leads_to}
-use Rattle.lhm_ring.specs.Positions.{pointer_of, pointer_of_some}
-use Rattle.lhm_ring.specs.Search.{HoldsOthers, IsEmptied}
-use Rattle.lhm_ring.proofs.IndexTakes.{IsHeld-on_chain, IsHeld-before, length-on_chain, HoldsOthers-take_first_items, HoldsOthers-take_next}
-use Rattle.lhm_ring.proofs.BucketHeads.{pointer_of_some-none}
-use Rattle.lhm_ring.proofs.Filters.{IsEmptied-head}
-use Rattle.lhm_ring.proofs.Entries.{entries-linked_to}
+use Rattle.lhm_ring.proofs.indexes.IndexTakes.{IsHeld-on_chain, IsHeld-before, length-on_chain, HoldsOthers-take_first_items, HoldsOthers-take_next}
+use Rattle.lhm_ring.proofs.indexes.BucketHeads.{pointer_of_some-none}
+use Rattle.lhm_ring.proofs.indexes.Filters.{IsEmptied-head}
+use Rattle.lhm_ring.proofs.indexes.Entries.{entries-linked_to}
 use Rattle.lhm_ring.proofs.index.Index.unchain.Goals as goal
+use Rattle.lhm_ring.specs.Buckets.{leads_to}
+use Rattle.lhm_ring.specs.Pointer.{pointer_of, pointer_of_some}
+use Rattle.lhm_ring.specs.Index.{HoldsOthers, IsEmptied}
 
 pub link-link-requires : goal.link-link-requires
 link-link-requires g c = IsHeld-on_chain c.requires.on_chain

@@ -1,5 +1,5 @@
 use Rattle.std.proofs.Common.{◌∙◌, ap, length}
-use Rattle.lhm_ring.proofs.Spans.{length-listed_span}
+use Rattle.lhm_ring.proofs.rings.Spans.{length-listed_span}
 use Rattle.lhm_ring.proofs.iter.IterExactSizeIterator.len.Goals as goal
 
 pub returns-clause-value : goal.returns-clause-value

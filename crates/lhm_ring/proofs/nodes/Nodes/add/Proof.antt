@@ -29,19 +29,17 @@ use Rattle.std.proofs.RawLayout.{as_written}
 use Rattle.std.proofs.VecSteps.Shapes.{after}
 use Rattle.std.proofs.RcSteps.{word, word-Good}
 use Rattle.std.proofs.raw_atomic.Walks.{proved_at, leaves}
-use Rattle.lhm_ring.specs.Cells.{cell, is_block, pointers}
-use Rattle.lhm_ring.specs.Chunks.{row, places}
-use Rattle.lhm_ring.specs.Ownership.{links_of, fields_own, node_bytes}
-use Rattle.lhm_ring.proofs.Apart.{IsFresh, IsApart-added}
-use Rattle.lhm_ring.proofs.BlockValues.{pointer_made, knows, fresh}
-use Rattle.lhm_ring.proofs.Blocks.{written, block, Rejoins, block_cut}
-use Rattle.lhm_ring.proofs.Memory.{Three, args, RL, RK, RV, lo, Nr, Pl, Land, Cells, word-pointer, alone, value_in}
-use Rattle.lhm_ring.proofs.Places.{row-last, is_block-row_first, is_block-row_last, AreBlocks-row_other, row-next, block_ptr-in_block}
-use Rattle.lhm_ring.proofs.ChunkPlaces.{land_cut, land_glue, Places, places_cut}
+use Rattle.lhm_ring.proofs.lists.Apart.{IsFresh, IsApart-added}
+use Rattle.lhm_ring.proofs.memory.BlockValues.{pointer_made, knows, fresh}
+use Rattle.lhm_ring.proofs.memory.Blocks.{written, block, Rejoins, block_cut}
+use Rattle.lhm_ring.proofs.memory.Memory.{Three, args, RL, RK, RV, lo, Nr, Pl, Land, Cells, word-pointer, alone, value_in}
+use Rattle.lhm_ring.proofs.memory.Places.{row-last, is_block-row_first, is_block-row_last, AreBlocks-row_other, row-next, block_ptr-in_block}
+use Rattle.lhm_ring.proofs.memory.ChunkPlaces.{land_cut, land_glue, Places, places_cut}
 use Rattle.lhm_ring.specs.contracts.nodes.Nodes.add.{ended, clauses}
 use Rattle.lhm_ring.specs.contracts.nodes.Nodes.add.Key.{name as #self}
 use Rattle.lhm_ring.proofs.nodes.Nodes.add.Statement.{statement}
 use Rattle.lhm_ring.proofs.nodes.Nodes.add.Code as code
+use Rattle.lhm_ring.specs.Nodes.{cell, is_block, pointers, row, places, links_address, fields_own, node_bytes}
 
 pub add_spec : {M : Type 1} → statement M
 add_spec 𝓤 𝓛 𝓜 𝓡 wired L K V LL LK LV =
@@ -85,7 +83,7 @@ add_spec 𝓤 𝓛 𝓜 𝓡 wired L K V LL LK LV =
     sets ! (addr ! (through ! refl (fld ! refl (stop !)))) refl (tt, tt) $ sets ! (of_opd ! (get ! refl)) refl got.1.1 $ assigns_last ! (of_opd ! (get ! refl)) (through ! refl (stop !)) (init ! 0 refl got.1.1) $
     exec ! 𝓣.C 𝓣.Λ Ev (after 4 fn.body) (at_ret Ev Post) $
     sets ! (of_opd ! (get ! refl)) refl (tt, tt) $ sets ! (agg ! (and_then ! (get ! refl) (no_more !))) refl (word-Good [] q) $
-    move ! (0 ∷ 11 ∷ []) $ use2 𝓛 (‵ (lies_at R full_share (links_of R S W q) new)) (value_in 0 L LL 𝓛 new pb (no + lo E) v) $
+    move ! (0 ∷ 11 ∷ []) $ use2 𝓛 (‵ (lies_at R full_share (links_address R S W q) new)) (value_in 0 L LL 𝓛 new pb (no + lo E) v) $
     move ! (2 ∷ 3 ∷ []) $ fjoin ! $ move ! (1 ∷ 0 ∷ []) $ fjoin ! $ fjoin ! $
     -- [the nodes; the unused places; the chunks; the marker; its cell; the open borrow, in three;
     -- the other tokens]

@@ -22,27 +22,24 @@ use denote.Steps.{nothing, heard, opens, closes}
 use denote.Triple.Walked.{Stays, stay_dropped, stay_ref, walk_of, Goes-ref}
 use Rattle.std.proofs.RcSteps.{word, word-Good}
 use Rattle.std.proofs.raw_atomic.Walks.{proved_at, leaves}
-use Rattle.lhm_ring.specs.Cells.{is_block, pointers}
-use Rattle.lhm_ring.specs.Chunks.{row}
-use Rattle.lhm_ring.specs.Ownership.{node_bytes}
-use Rattle.lhm_ring.proofs.BlockValues.{block_val, block_Good, BlockType, block_known, pointer_made, knows}
-use Rattle.lhm_ring.proofs.Blocks.{written, block}
-use Rattle.lhm_ring.proofs.ChunkPlaces.{land_cut, land_glue, Places, Chunks, places_glue, chunks_glue, array_cut}
-use Rattle.lhm_ring.proofs.ListFacts.{AllByRecursion-append}
-use Rattle.lhm_ring.proofs.Memory.{Three, args, RL, RK, RV, Nr, Pl, Land, Cells}
-use Rattle.lhm_ring.proofs.Places.{AreBlocks-row, row-more, nat_lt-near}
+use Rattle.lhm_ring.proofs.memory.BlockValues.{block_val, block_Good, BlockType, block_known, pointer_made, knows}
+use Rattle.lhm_ring.proofs.memory.Blocks.{written, block}
+use Rattle.lhm_ring.proofs.memory.ChunkPlaces.{land_cut, land_glue, Places, Chunks, places_glue, chunks_glue, array_cut}
+use Rattle.lhm_ring.proofs.lists.ListFacts.{AllByRecursion-append}
+use Rattle.lhm_ring.proofs.memory.Memory.{Three, args, RL, RK, RV, Nr, Pl, Land, Cells}
+use Rattle.lhm_ring.proofs.memory.Places.{AreBlocks-row, row-more, nat_lt-near}
 use Rattle.std.proofs.alloc.Calls.{Goes-blank}
 use Rattle.std.specs.contracts.alloc.Global as heap
 use Rattle.std.specs.contracts.impls.GlobalAllocator.TheImpl.{ghosts}
 use Rattle.std.specs.Allocator.{array_of}
-use Rattle.lhm_ring.specs.contracts.block.Node as N-type
-use Rattle.lhm_ring.specs.Ownership.{chunk_token}
+use Rattle.lhm_ring.specs.contracts.nodes.Node as N-type
 use Rattle.std.proofs.GlobalToken.{dealloc_token_start}
 use Rattle.std.proofs.ptr.Rows.{one_below}
 use Rattle.lhm_ring.specs.contracts.nodes.Nodes.add_chunk.{ended, clauses}
 use Rattle.lhm_ring.specs.contracts.nodes.Nodes.add_chunk.Key.{name as #self}
 use Rattle.lhm_ring.proofs.nodes.Nodes.add_chunk.Statement.{statement}
 use Rattle.lhm_ring.proofs.nodes.Nodes.add_chunk.Code as code
+use Rattle.lhm_ring.specs.Nodes.{is_block, pointers, row, node_bytes, chunk_token}
 
 pub add_chunk_spec : {M : Type 1} → statement M
 add_chunk_spec 𝓤 𝓛 𝓜 𝓡 wired L K V LL LK LV =

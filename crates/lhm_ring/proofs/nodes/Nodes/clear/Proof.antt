@@ -17,17 +17,15 @@ use denote.RawPtr.{Ptr}
 use denote.Steps.{nothing, opens, closes}
 use denote.Triple.Walked.{Stays, stay_ref, walk_of, Goes-ref}
 use Rattle.std.proofs.raw_atomic.Walks.{proved_at, leaves}
-use Rattle.lhm_ring.specs.Cells.{is_block, pointers, AreBlocks}
-use Rattle.lhm_ring.specs.Chunks.{places}
-use Rattle.lhm_ring.specs.Ownership.{node_bytes}
-use Rattle.lhm_ring.proofs.Apart.{IsApart-none}
-use Rattle.lhm_ring.proofs.ChunkPlaces.{land_cut, Places, places_glue, cells_emptied}
-use Rattle.lhm_ring.proofs.ListFacts.{AllByRecursion-append}
-use Rattle.lhm_ring.proofs.Memory.{Three, args, RL, RK, RV, Nr, Land, Cells}
+use Rattle.lhm_ring.proofs.lists.Apart.{IsApart-none}
+use Rattle.lhm_ring.proofs.memory.ChunkPlaces.{land_cut, Places, places_glue, cells_emptied}
+use Rattle.lhm_ring.proofs.lists.ListFacts.{AllByRecursion-append}
+use Rattle.lhm_ring.proofs.memory.Memory.{Three, args, RL, RK, RV, Nr, Land, Cells}
 use Rattle.lhm_ring.specs.contracts.nodes.Nodes.clear.{ended, clauses}
 use Rattle.lhm_ring.specs.contracts.nodes.Nodes.clear.Key.{name as #self}
 use Rattle.lhm_ring.proofs.nodes.Nodes.clear.Statement.{statement}
 use Rattle.lhm_ring.proofs.nodes.Nodes.clear.Code as code
+use Rattle.lhm_ring.specs.Nodes.{is_block, pointers, AreBlocks, places, node_bytes}
 
 pub clear_spec : {M : Type 1} → statement M
 clear_spec 𝓤 𝓛 𝓜 𝓡 wired L K V LL LK LV =

@@ -24,15 +24,13 @@ use denote.Triple.Walked.{Stays, stay_dropped, stay_ref, walk_of, Goes-dropped, 
 use Rattle.std.proofs.VecSteps.Shapes.{after}
 use Rattle.std.proofs.RcSteps.{word, word-Good}
 use Rattle.std.proofs.raw_atomic.Walks.{proved_at, leaves}
-use Rattle.lhm_ring.specs.Chunks.{places}
-use Rattle.lhm_ring.specs.Cells.{cell, IsApart, AreBlocks, IsAt, change, with_body, pointers-change}
-use Rattle.lhm_ring.specs.Ownership.{links_of, body_owns}
-use Rattle.lhm_ring.proofs.Lookup.{Cut, Cut-links_at}
-use Rattle.lhm_ring.proofs.Memory.{Three, args, RL, RK, RV, ko, vo, Node, Nr, Pl, One, Land, Cells, word-pointer, alone, body_uninit, cells_cut, cells_glue, value_in}
+use Rattle.lhm_ring.proofs.rings.Lookup.{Cut, Cut-links_at}
+use Rattle.lhm_ring.proofs.memory.Memory.{Three, args, RL, RK, RV, ko, vo, Node, Nr, Pl, One, Land, Cells, word-pointer, alone, body_uninit, cells_cut, cells_glue, value_in}
 use Rattle.lhm_ring.specs.contracts.nodes.Nodes.fill.{ended, clauses}
 use Rattle.lhm_ring.specs.contracts.nodes.Nodes.fill.Key.{name as #self}
 use Rattle.lhm_ring.proofs.nodes.Nodes.fill.Statement.{statement}
 use Rattle.lhm_ring.proofs.nodes.Nodes.fill.Code as code
+use Rattle.lhm_ring.specs.Nodes.{places, cell, IsApart, AreBlocks, IsAt, change, with_body, pointers-change, links_address, body_owns}
 
 pub fill_spec : {M : Type 1} → statement M
 fill_spec 𝓤 𝓛 𝓜 𝓡 wired L K V LL LK LV =
@@ -56,8 +54,8 @@ fill_spec 𝓤 𝓛 𝓜 𝓡 wired L K V LL LK LV =
     let k : Cut h.cells p = Cut-links_at h.cells p asked.0 asked.1 in let f : Node E = k.split.node in let f' : Node E = cell f.at f.links (Some (new, val)) in
     opens ! tt N {h = h} rb ro (λ vs. move ! (1 ∷ []) $ fsplit ! $ rewrite ! 1 (λ (cs : List (Node E)). ‵ (Cells E (Land E h) cs)) k.split.is refl $ move ! (1 ∷ []) $
     use1 𝓛 (‵ (One E f) ⊛ ‵ (Cells E (Land E h) (k.split.before ++ k.split.after))) (cells_cut 𝓛 E (Land E h) k.split.before f k.split.after) $ split ! $ fsplit ! $
-    in_a_block ! f.at (λ q. lies_at R full_share (links_of R S W q) f.links) (id⊢ 𝓤 (never 𝓤)) (λ pb po e.
-    rewrite ! 0 (λ (q : Ptr). ‵ (lies_at R full_share (links_of R S W q) f.links)) (sym e) refl $ move ! (1 ∷ []) $ fsplit ! $
+    in_a_block ! f.at (λ q. lies_at R full_share (links_address R S W q) f.links) (id⊢ 𝓤 (never 𝓤)) (λ pb po e.
+    rewrite ! 0 (λ (q : Ptr). ‵ (lies_at R full_share (links_address R S W q) f.links)) (sym e) refl $ move ! (1 ∷ []) $ fsplit ! $
     rewrite ! 0 (λ (q : Ptr). ‵ (body_owns R S W q f.body)) e refl $ use1 𝓛 (‵ (froom (layout K) pb (po + ko E)) ⊛ ‵ (froom (layout V) pb (po + vo E))) (body_uninit 𝓛 E pb po f.body) $ split ! $
     -- [the key's memory; the value's; the deed; the links; the other nodes; the marker; its cell;
     -- the open borrow, in three; the new key; the new value; the other tokens]

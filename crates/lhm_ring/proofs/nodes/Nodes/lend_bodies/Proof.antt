@@ -28,19 +28,19 @@ use denote.Steps.{nothing, heard, opens}
 use denote.Triple.Walked.{Stays, stay_dropped, walk_of, Goes-spent_ref}
 use Rattle.std.proofs.VecSteps.Shapes.{after}
 use Rattle.std.proofs.raw_atomic.Walks.{proved_at, leaves}
-use Rattle.lhm_ring.specs.NodesAfterLoan.{cleared_nodes}
-use Rattle.lhm_ring.specs.ContentLoan.{bodies, bodies_of, firsts, seconds}
 use Rattle.lhm_ring.specs.declared.content_loan.ContentLoan.{ContentLoan}
 use Rattle.lhm_ring.specs.contracts.content_loan.ContentLoan as S-type
 use Rattle.lhm_ring.proofs.value_loan.Hole.TheLaws as H-laws
 use Rattle.lhm_ring.proofs.nodes.Nodes.TheLaws as N-laws
 use denote.Param.Laws.{param_laws}
-use Rattle.lhm_ring.proofs.Memory.{Three, args, RL, RK, RV, Nr, Land, marker}
-use Rattle.lhm_ring.proofs.ContentsSplitOff.{HS, HW, stems, cells_out, Fields, LentBodies, fields_made, back, BareRow, Holed, Shares-bare, ContentMarker, content_loan_made, Anchor, anchor_made, three_made}
+use Rattle.lhm_ring.proofs.memory.Memory.{Three, args, RL, RK, RV, Nr, Land, marker}
+use Rattle.lhm_ring.proofs.memory.ContentsSplitOff.{HS, HW, stems, cells_out, Fields, LentBodies, fields_made, back, BareRow, Holed, Shares-bare, ContentMarker, content_loan_made, Anchor, anchor_made, three_made}
 use Rattle.lhm_ring.specs.contracts.nodes.Nodes.lend_bodies.{ended, clauses}
 use Rattle.lhm_ring.specs.contracts.nodes.Nodes.lend_bodies.Key.{name as #self}
 use Rattle.lhm_ring.proofs.nodes.Nodes.lend_bodies.Statement.{statement}
 use Rattle.lhm_ring.proofs.nodes.Nodes.lend_bodies.Code as code
+use Rattle.lhm_ring.specs.RingAfterLoan.{cleared_nodes}
+use Rattle.lhm_ring.specs.ContentLoan.{bodies, bodies_of, firsts, seconds}
 
 pub lend_bodies_spec : {M : Type 1} → statement M
 unfolding fseps

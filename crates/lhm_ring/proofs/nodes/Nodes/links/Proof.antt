@@ -1,12 +1,12 @@
 -- `links` shows the links of one node. Assumes `Logic`.
 use Rattle.std.proofs.Common.{◌≡◌, refl, ap, Some}
-use Rattle.lhm_ring.specs.Cells.{IsAt, links_at, links_of}
-use Rattle.lhm_ring.proofs.FieldSeen.{links_lent, field_seen}
-use Rattle.lhm_ring.proofs.Lookup.{Cut-links_at}
-use Rattle.lhm_ring.proofs.Memory.{Three, lo}
+use Rattle.lhm_ring.proofs.memory.FieldSeen.{links_lent, field_seen}
+use Rattle.lhm_ring.proofs.rings.Lookup.{Cut-links_at}
+use Rattle.lhm_ring.proofs.memory.Memory.{Three, lo}
 use Rattle.lhm_ring.specs.contracts.nodes.Nodes.links.Key.{name as #self}
 use Rattle.lhm_ring.proofs.nodes.Nodes.links.Statement.{statement}
 use Rattle.lhm_ring.proofs.nodes.Nodes.links.Code as code
+use Rattle.lhm_ring.specs.Nodes.{IsAt, links_at, links_of}
 
 pub links_spec : {M : Type 1} → statement M
 links_spec 𝓤 𝓛 𝓜 𝓡 wired L K V LL LK LV =

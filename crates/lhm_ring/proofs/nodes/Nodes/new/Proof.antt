@@ -13,14 +13,14 @@ use contract.Monad.{fact, fact_i}
 use denote.Steps.{nothing}
 use denote.Triple.Walked.{Stays, walk_of}
 use Rattle.std.proofs.raw_atomic.Walks.{proved_at, leaves}
-use Rattle.lhm_ring.specs.Ownership.{node_bytes}
-use Rattle.lhm_ring.proofs.Apart.{IsApart-none}
-use Rattle.lhm_ring.proofs.Places.{places-none}
-use Rattle.lhm_ring.proofs.Memory.{Three, args, RL, RK, RV, Nr, Marker, marker, marker_made}
+use Rattle.lhm_ring.proofs.lists.Apart.{IsApart-none}
+use Rattle.lhm_ring.proofs.memory.Places.{places-none}
+use Rattle.lhm_ring.proofs.memory.Memory.{Three, args, RL, RK, RV, Nr, Marker, marker, marker_made}
 use Rattle.lhm_ring.specs.contracts.nodes.Nodes.new.{ended, clauses}
 use Rattle.lhm_ring.specs.contracts.nodes.Nodes.new.Key.{name as #self}
 use Rattle.lhm_ring.proofs.nodes.Nodes.new.Statement.{statement}
 use Rattle.lhm_ring.proofs.nodes.Nodes.new.Code as code
+use Rattle.lhm_ring.specs.Nodes.{node_bytes}
 
 pub new_spec : {M : Type 1} → statement M
 new_spec 𝓤 𝓛 𝓜 𝓡 wired L K V LL LK LV =

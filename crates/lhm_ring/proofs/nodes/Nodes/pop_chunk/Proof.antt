@@ -24,24 +24,21 @@ use denote.Steps.{nothing, heard, opens, closes}
 use denote.Triple.Walked.{Stays, stay_dropped, stay_ref, walk_of, Goes-dropped, Goes-ref}
 use Rattle.std.proofs.RcSteps.{word, word-Good}
 use Rattle.std.proofs.raw_atomic.Walks.{proved_at, leaves}
-use Rattle.lhm_ring.specs.Cells.{is_block, pointers, AreBlocks}
-use Rattle.lhm_ring.specs.Chunks.{row, places}
-use Rattle.lhm_ring.specs.Ownership.{node_bytes}
-use Rattle.lhm_ring.proofs.Apart.{IsApart-none}
-use Rattle.lhm_ring.proofs.BlockValues.{block_val, block_Good, BlockType, BlockFields, block_made}
-use Rattle.lhm_ring.proofs.Blocks.{written, block}
-use Rattle.lhm_ring.proofs.ChunkPlaces.{Places, Chunks, places_cut, chunks_cut, array_glue}
-use Rattle.lhm_ring.proofs.ListFacts.{AllByRecursion-right}
-use Rattle.lhm_ring.proofs.Memory.{Three, args, RL, RK, RV, Node, Nr, Pl, Land, Cells, word-pointer}
-use Rattle.lhm_ring.proofs.Places.{places-last, block_ptr-in_block}
+use Rattle.lhm_ring.proofs.lists.Apart.{IsApart-none}
+use Rattle.lhm_ring.proofs.memory.BlockValues.{block_val, block_Good, BlockType, BlockFields, block_made}
+use Rattle.lhm_ring.proofs.memory.Blocks.{written, block}
+use Rattle.lhm_ring.proofs.memory.ChunkPlaces.{Places, Chunks, places_cut, chunks_cut, array_glue}
+use Rattle.lhm_ring.proofs.lists.ListFacts.{AllByRecursion-right}
+use Rattle.lhm_ring.proofs.memory.Memory.{Three, args, RL, RK, RV, Node, Nr, Pl, Land, Cells, word-pointer}
+use Rattle.lhm_ring.proofs.memory.Places.{places-last, block_ptr-in_block}
 use Rattle.std.specs.contracts.alloc.Global as heap
 use Rattle.std.specs.contracts.impls.GlobalAllocator.TheImpl.{ghosts}
-use Rattle.lhm_ring.specs.contracts.block.Node as N-type
-use Rattle.lhm_ring.specs.Ownership.{chunk_token, chunk_owns}
+use Rattle.lhm_ring.specs.contracts.nodes.Node as N-type
 use Rattle.lhm_ring.specs.contracts.nodes.Nodes.pop_chunk.{ended, clauses}
 use Rattle.lhm_ring.specs.contracts.nodes.Nodes.pop_chunk.Key.{name as #self}
 use Rattle.lhm_ring.proofs.nodes.Nodes.pop_chunk.Statement.{statement}
 use Rattle.lhm_ring.proofs.nodes.Nodes.pop_chunk.Code as code
+use Rattle.lhm_ring.specs.Nodes.{is_block, pointers, AreBlocks, row, places, node_bytes, chunk_token, chunk_owns}
 
 pub pop_chunk_spec : {M : Type 1} → statement M
 pop_chunk_spec 𝓤 𝓛 𝓜 𝓡 wired L K V LL LK LV =

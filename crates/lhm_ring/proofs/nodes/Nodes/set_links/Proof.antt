@@ -24,15 +24,13 @@ use denote.Triple.Walked.{Stays, stay_dropped, stay_ref, walk_of, Goes-dropped, 
 use Rattle.std.proofs.VecSteps.Shapes.{after}
 use Rattle.std.proofs.RcSteps.{Good, word, word-Good}
 use Rattle.std.proofs.raw_atomic.Walks.{proved_at, leaves}
-use Rattle.lhm_ring.specs.Chunks.{places}
-use Rattle.lhm_ring.specs.Cells.{cell, IsApart, AreBlocks, IsAt, change, with_links, pointers-change}
-use Rattle.lhm_ring.specs.Ownership.{links_of}
-use Rattle.lhm_ring.proofs.Lookup.{Cut, Cut-links_at}
-use Rattle.lhm_ring.proofs.Memory.{Three, args, RL, RK, RV, lo, Node, Nr, Pl, One, Land, Cells, word-pointer, alone, cells_cut, cells_glue, value_out, value_in}
+use Rattle.lhm_ring.proofs.rings.Lookup.{Cut, Cut-links_at}
+use Rattle.lhm_ring.proofs.memory.Memory.{Three, args, RL, RK, RV, lo, Node, Nr, Pl, One, Land, Cells, word-pointer, alone, cells_cut, cells_glue, value_out, value_in}
 use Rattle.lhm_ring.specs.contracts.nodes.Nodes.set_links.{ended, clauses}
 use Rattle.lhm_ring.specs.contracts.nodes.Nodes.set_links.Key.{name as #self}
 use Rattle.lhm_ring.proofs.nodes.Nodes.set_links.Statement.{statement}
 use Rattle.lhm_ring.proofs.nodes.Nodes.set_links.Code as code
+use Rattle.lhm_ring.specs.Nodes.{places, cell, IsApart, AreBlocks, IsAt, change, with_links, pointers-change, links_address}
 
 pub set_links_spec : {M : Type 1} → statement M
 set_links_spec 𝓤 𝓛 𝓜 𝓡 wired L K V LL LK LV =
@@ -55,7 +53,7 @@ set_links_spec 𝓤 𝓛 𝓜 𝓡 wired L K V LL LK LV =
     let k : Cut h.cells p = Cut-links_at h.cells p asked.0 asked.1 in let f : Node E = k.split.node in let f' : Node E = cell f.at new f.body in
     opens ! tt N {h = h} rb ro (λ vs. move ! (1 ∷ []) $ fsplit ! $ rewrite ! 1 (λ (cs : List (Node E)). ‵ (Cells E (Land E h) cs)) k.split.is refl $ move ! (1 ∷ []) $
     use1 𝓛 (‵ (One E f) ⊛ ‵ (Cells E (Land E h) (k.split.before ++ k.split.after))) (cells_cut 𝓛 E (Land E h) k.split.before f k.split.after) $ split ! $ fsplit ! $
-    in_a_block ! f.at (λ q. lies_at R full_share (links_of R S W q) f.links) (id⊢ 𝓤 (never 𝓤)) (λ pb po e.
+    in_a_block ! f.at (λ q. lies_at R full_share (links_address R S W q) f.links) (id⊢ 𝓤 (never 𝓤)) (λ pb po e.
     use1 𝓛 (some (λ (u : Val). given (Good (layout L) u) (‵ (fat full_share (layout L) pb (po + lo E) u) ⊛ ‵ (L.own_val f.links (u ∷ []))))) (value_out 0 L LL 𝓛 f.links pb (po + lo E)) $ pick ! (λ u. learn ! (λ _. split ! $ move ! (1 ∷ []) $ drop ! $
     -- [the old links; the rest of the node; the other nodes; the marker; its cell; the open borrow,
     -- in three; the new links; the other tokens]
@@ -63,7 +61,7 @@ set_links_spec 𝓤 𝓛 𝓜 𝓡 wired L K V LL LK LV =
     sets ! (addr ! (through ! refl (fld ! refl (stop !)))) refl (tt, tt) $ sets ! (of_opd ! (get ! refl)) refl got.1.1 $ assigns_last ! (of_opd ! (get ! refl)) (through ! refl (stop !)) (store ! 0 refl got.1.1) $
     exec ! 𝓣.C 𝓣.Λ Ev (after 2 fn.body) (at_ret Ev Post) $ sets ! (of_opd ! (unit_lit !)) refl (tt, tt) $
     move ! (0 ∷ 8 ∷ []) $ use2 𝓛 (‵ (part_at R full_share new pb (po + lo E))) (value_in 0 L LL 𝓛 new pb (po + lo E) v) $
-    rewrite ! 0 (λ (q : Ptr). ‵ (lies_at R full_share (links_of R S W q) new)) (sym e) refl $ fjoin ! $
+    rewrite ! 0 (λ (q : Ptr). ‵ (lies_at R full_share (links_address R S W q) new)) (sym e) refl $ fjoin ! $
     use2 𝓛 (‵ (Cells E (Land E h) (k.split.before ++ f' ∷ k.split.after))) (cells_glue 𝓛 E (Land E h) k.split.before f' k.split.after) $ rewrite ! 0 (λ (cs : List (Node E)). ‵ (Cells E (Land E h) cs)) (sym (k.changed (λ c. cell c.at new c.body))) refl $
     let h' : N.Denot = record { marker = h.marker; cells = change p (λ c. cell c.at new c.body) h.cells; apart = subst IsApart (sym (pointers-change p (λ c. cell c.at new c.body) (λ c. refl) h.cells)) h.apart; blocks = subst AreBlocks (sym (pointers-change p (λ c. cell c.at new c.body) (λ c. refl) h.cells)) h.blocks; node_bytes = h.node_bytes; unused = h.unused; chunks = h.chunks; unused_blocks = h.unused_blocks; laid = subst (λ (ps : List Ptr). h.unused ++ ps ≡ places h.node_bytes h.chunks) (sym (pointers-change p (λ c. cell c.at new c.body) (λ c. refl) h.cells)) h.laid } in
     move ! (1 ∷ 0 ∷ []) $ fjoin ! $ move ! (1 ∷ 0 ∷ []) $ closes ! tt N h' vs rb ro $

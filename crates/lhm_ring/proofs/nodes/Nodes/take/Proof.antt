@@ -23,17 +23,15 @@ use denote.Triple.Walked.{Stays, stay_dropped, stay_ref, walk_of, Goes-dropped, 
 use Rattle.std.proofs.VecSteps.Shapes.{after}
 use Rattle.std.proofs.RcSteps.{Good, word, word-Good}
 use Rattle.std.proofs.raw_atomic.Walks.{proved_at, leaves}
-use Rattle.lhm_ring.specs.Chunks.{places}
-use Rattle.lhm_ring.specs.Cells.{cell, IsApart, AreBlocks, Holds, change, body_at, with_body, pointers-change}
-use Rattle.lhm_ring.specs.Ownership.{links_of, body_owns}
-use Rattle.lhm_ring.proofs.Lookup.{Cut, Cut-held, held_here}
-use Rattle.lhm_ring.proofs.Memory.{Three, args, RL, RK, RV, ko, vo, Node, Nr, Pl, One, Land, Cells, word-pointer, two_made, cells_cut, cells_glue, value_out}
+use Rattle.lhm_ring.proofs.rings.Lookup.{Cut, Cut-held, held_here}
+use Rattle.lhm_ring.proofs.memory.Memory.{Three, args, RL, RK, RV, ko, vo, Node, Nr, Pl, One, Land, Cells, word-pointer, two_made, cells_cut, cells_glue, value_out}
 use Rattle.std.proofs.RawLayout.{as_raw}
 use denote.Struct.Struct.{as_fields}
 use Rattle.lhm_ring.specs.contracts.nodes.Nodes.take.{ended, clauses}
 use Rattle.lhm_ring.specs.contracts.nodes.Nodes.take.Key.{name as #self}
 use Rattle.lhm_ring.proofs.nodes.Nodes.take.Statement.{statement}
 use Rattle.lhm_ring.proofs.nodes.Nodes.take.Code as code
+use Rattle.lhm_ring.specs.Nodes.{places, cell, IsApart, AreBlocks, Holds, change, body_at, with_body, pointers-change, links_address, body_owns}
 
 pub take_spec : {M : Type 1} → statement M
 take_spec 𝓤 𝓛 𝓜 𝓡 wired L K V LL LK LV =
@@ -54,8 +52,8 @@ take_spec 𝓤 𝓛 𝓜 𝓡 wired L K V LL LK LV =
     let x = asked.0 in let k : Cut h.cells p = Cut-held h.cells p x asked.1 in let f : Node E = k.split.node in let f' : Node E = cell f.at f.links None in
     opens ! tt N {h = h} rb ro (λ vs. move ! (1 ∷ []) $ fsplit ! $ rewrite ! 1 (λ (cs : List (Node E)). ‵ (Cells E (Land E h) cs)) k.split.is refl $ move ! (1 ∷ []) $
     use1 𝓛 (‵ (One E f) ⊛ ‵ (Cells E (Land E h) (k.split.before ++ k.split.after))) (cells_cut 𝓛 E (Land E h) k.split.before f k.split.after) $ split ! $ fsplit ! $
-    in_a_block ! f.at (λ q. lies_at R full_share (links_of R S W q) f.links) (id⊢ 𝓤 (never 𝓤)) (λ pb po e.
-    rewrite ! 0 (λ (q : Ptr). ‵ (lies_at R full_share (links_of R S W q) f.links)) (sym e) refl $ move ! (1 ∷ []) $ fsplit ! $
+    in_a_block ! f.at (λ q. lies_at R full_share (links_address R S W q) f.links) (id⊢ 𝓤 (never 𝓤)) (λ pb po e.
+    rewrite ! 0 (λ (q : Ptr). ‵ (lies_at R full_share (links_address R S W q) f.links)) (sym e) refl $ move ! (1 ∷ []) $ fsplit ! $
     rewrite ! 0 (λ (z : Ptr × Option (K.Denot × V.Denot)). ‵ (body_owns R S W z.0 z.1)) (λ i. (e i, (held_here k asked.1) i)) refl $ fsplit ! $
     use1 𝓛 (some (λ (u : Val). given (Good (layout K) u) (‵ (fat full_share (layout K) pb (po + ko E) u) ⊛ ‵ (K.own_val x.0 (u ∷ []))))) (value_out 1 K LK 𝓛 x.0 pb (po + ko E)) $ pick ! (λ u. learn ! (λ good. split ! $ move ! (2 ∷ []) $
     use1 𝓛 (some (λ (u : Val). given (Good (layout V) u) (‵ (fat full_share (layout V) pb (po + vo E) u) ⊛ ‵ (V.own_val x.1 (u ∷ []))))) (value_out 2 V LV 𝓛 x.1 pb (po + vo E)) $ pick ! (λ w. learn ! (λ fine. split ! $

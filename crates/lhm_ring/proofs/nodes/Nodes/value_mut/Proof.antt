@@ -22,7 +22,6 @@ use denote.Ref.{MutRef}
 use denote.Follow.{follows, Part, lends_Part}
 use denote.Signature.{mut_ref_to}
 use denote.Triple.Walked.{Goes-spent_ref}
-use Rattle.lhm_ring.specs.NodesAfterLoan.{holding, value_set}
 use contract.Monad.{fact, fact_i}
 use denote.Exit.{yes, no}
 use denote.RattleType.{owns}
@@ -35,26 +34,26 @@ use denote.Triple.Walked.{Stays, stay_dropped, walk_of, Goes-dropped}
 use Rattle.std.proofs.VecSteps.Shapes.{after}
 use Rattle.std.proofs.RcSteps.{word, word-Good}
 use Rattle.std.proofs.raw_atomic.Walks.{proved_at, leaves}
-use Rattle.lhm_ring.specs.Cells.{cell, Holds, IsValue, body_at}
-use Rattle.lhm_ring.specs.Ownership.{links_of, key_of, value_of, body_owns, deed_owns}
-use Rattle.lhm_ring.proofs.Lookup.{Cut, Cut-held, held_here}
-use Rattle.lhm_ring.proofs.Memory.{Three, args, RL, RK, RV, vo, Node, Nr, Marker, Pl, One, Land, Cells, word-pointer, cells_cut, cells_glue}
+use Rattle.lhm_ring.proofs.rings.Lookup.{Cut, Cut-held, held_here}
+use Rattle.lhm_ring.proofs.memory.Memory.{Three, args, RL, RK, RV, vo, Node, Nr, Marker, Pl, One, Land, Cells, word-pointer, cells_cut, cells_glue}
 use Rattle.lhm_ring.specs.contracts.nodes.Nodes.value_mut.{ended, clauses}
 use Rattle.lhm_ring.specs.contracts.nodes.Nodes.value_mut.Key.{name as #self}
 use Rattle.lhm_ring.proofs.nodes.Nodes.value_mut.Statement.{statement}
 use Rattle.lhm_ring.proofs.nodes.Nodes.value_mut.Code as code
+use Rattle.lhm_ring.specs.RingAfterLoan.{holding, value_set}
+use Rattle.lhm_ring.specs.Nodes.{cell, Holds, IsValue, body_at, links_address, key_address, value_address, body_owns, deed_owns}
 
 module _ (E : Three) {M : Type 1} {𝓤 : Ura M} (𝓛 : Logic 𝓤) (h : (Nr E).Denot) (p : Ptr) (k : Cut h.cells p) (x : E.key.Denot × E.value.Denot) (vs : List Val) (rb ro pb po : ℕ) where
   -- all but the value
   abbrev Rest : Fml
-  Rest = fsep (lies_at (RL E) full_share (links_of (RL E) (RK E) (RV E) k.split.node.at) k.split.node.links) (fsep (lies_at (RK E) full_share (key_of (RL E) (RK E) (RV E) k.split.node.at) x.0) (fsep (deed_owns (RL E) (RK E) (RV E) k.split.node.at)
+  Rest = fsep (lies_at (RL E) full_share (links_address (RL E) (RK E) (RV E) k.split.node.at) k.split.node.links) (fsep (lies_at (RK E) full_share (key_address (RL E) (RK E) (RV E) k.split.node.at) x.0) (fsep (deed_owns (RL E) (RK E) (RV E) k.split.node.at)
       (fsep (Cells E (Land E h) (k.split.before ++ k.split.after)) (fsep ((Marker E).own_val (tt, tt) vs) (cell_at full_share (Nr E).mir vs rb ro)))))
 
   back : k.split.node.at ≡ block_ptr pb po → body_at h.cells p ≡ Some x → (w : E.value.Denot) → ent 𝓤 (sep 𝓤 (sem 𝓛 ((mem (RV E)).own_at w pb (po + vo E))) (sem 𝓛 Rest)) (sem 𝓛 ((mem (Nr E)).own_at (holding h p w) rb ro))
   unfolding part_of
   back e is w =
       let f : Node E = k.split.node in let f' : Node E = cell f.at f.links (value_set w (body_at h.cells p)) in
-      qed 𝓛 (‵ (part_at (RV E) full_share w pb (po + vo E)) ∷ ‵ Rest ∷ []) ∵ rewrite ! 0 (λ (q : Ptr). ‵ (lies_at (RV E) full_share (value_of (RL E) (RK E) (RV E) q) w)) (sym e) refl $
+      qed 𝓛 (‵ (part_at (RV E) full_share w pb (po + vo E)) ∷ ‵ Rest ∷ []) ∵ rewrite ! 0 (λ (q : Ptr). ‵ (lies_at (RV E) full_share (value_address (RL E) (RK E) (RV E) q) w)) (sym e) refl $
       move ! (1 ∷ []) $ fsplit3 ! $ move ! (2 ∷ []) $ fsplit3 ! $ move ! (2 ∷ []) $ fsplit ! $
       -- [the marker; its cell; the deed; the other nodes; the links; the key; the value]
       move ! (5 ∷ 6 ∷ []) $ fjoin ! $ rewrite ! 0 (λ (o : Option (E.key.Denot × E.value.Denot)). ‵ (body_owns (RL E) (RK E) (RV E) f.at (value_set w o))) (sym is) refl $ move ! (0 ∷ 3 ∷ []) $ fjoin ! $ move ! (4 ∷ 0 ∷ []) $ fjoin ! $ move ! (0 ∷ 3 ∷ []) $
@@ -82,10 +81,10 @@ value_mut_spec 𝓤 𝓛 𝓜 𝓡 wired L K V LL LK LV =
     let x = asked.0 in let k : Cut h.cells p = Cut-held h.cells p x asked.1 in let f : Node E = k.split.node in
     opens ! tt N {h = h} rb ro (λ vs. move ! (1 ∷ []) $ fsplit ! $ rewrite ! 1 (λ (cs : List (Node E)). ‵ (Cells E (Land E h) cs)) k.split.is refl $ move ! (1 ∷ []) $
     use1 𝓛 (‵ (One E f) ⊛ ‵ (Cells E (Land E h) (k.split.before ++ k.split.after))) (cells_cut 𝓛 E (Land E h) k.split.before f k.split.after) $ split ! $ fsplit ! $
-    in_a_block ! f.at (λ q. lies_at R full_share (links_of R S W q) f.links) (id⊢ 𝓤 (never 𝓤)) (λ pb po e.
-    rewrite ! 0 (λ (q : Ptr). ‵ (lies_at R full_share (links_of R S W q) f.links)) (sym e) refl $ move ! (1 ∷ []) $ fsplit ! $
+    in_a_block ! f.at (λ q. lies_at R full_share (links_address R S W q) f.links) (id⊢ 𝓤 (never 𝓤)) (λ pb po e.
+    rewrite ! 0 (λ (q : Ptr). ‵ (lies_at R full_share (links_address R S W q) f.links)) (sym e) refl $ move ! (1 ∷ []) $ fsplit ! $
     rewrite ! 0 (λ (z : Option (K.Denot × V.Denot)). ‵ (body_owns R S W f.at z)) (held_here k asked.1) refl $ fsplit ! $ move ! (1 ∷ []) $
-    rewrite ! 0 (λ (q : Ptr). ‵ (lies_at W full_share (value_of R S W q) x.1)) e refl $
+    rewrite ! 0 (λ (q : Ptr). ‵ (lies_at W full_share (value_address R S W q) x.1)) e refl $
     -- [the value; the key; the deed; the links; the other nodes; the marker; its cell; the open
     -- borrow, in three; the other tokens]
     sets ! (is ! (of_opd ! (get_in ! (fld ! refl (stop !)) (sub ! 0 refl (whole !)))) (ap ptr_val (sym k.split.at_is ∙ e))) refl (tt, tt) $ first ! $ blocks ! $

@@ -1,16 +1,15 @@
 use Rattle.std.proofs.Common.{None, Some, ap, sym, subst, ◌∙◌}
 use Rattle.std.specs.Map.Calls.{CalledAtPair}
-use Rattle.lhm_ring.specs.Cells.{links_at, with_body}
-use Rattle.lhm_ring.specs.RingState.{Held, state, change_at}
-use Rattle.lhm_ring.specs.RingAfterLoan.{pair, revalued}
-use Rattle.lhm_ring.specs.Rings.{ring_cells, RingOk, ring_list}
-use Rattle.lhm_ring.proofs.ReadAtPosition.{content_at-held, Holds-held, links_at-held, pair-held, IsHeld-ring_list}
-use Rattle.lhm_ring.proofs.OneNodeChanged.{links_at-with_body}
-use Rattle.lhm_ring.proofs.ContentChange.{ChangesAt-with_body, RingOk-changed, ring_list-changed, ChangesOnly-held}
-use Rattle.lhm_ring.proofs.RingCells.{Holds-in_nodes, links_at-ring_cells, body_at-ring_cells, ring_cells-with_body}
-use Rattle.lhm_ring.proofs.Retained.{with_body-twice}
-use Rattle.lhm_ring.proofs.Places.{IsLaid-same}
+use Rattle.lhm_ring.proofs.rings.ReadAtPosition.{content_at-held, Holds-held, links_at-held, pair-held, IsHeld-ring_list}
+use Rattle.lhm_ring.proofs.memory.OneNodeChanged.{links_at-with_body}
+use Rattle.lhm_ring.proofs.rings.ContentChange.{ChangesAt-with_body, RingOk-changed, ring_list-changed, ChangesOnly-held}
+use Rattle.lhm_ring.proofs.rings.RingCells.{Holds-in_nodes, links_at-ring_cells, body_at-ring_cells, ring_cells-with_body}
+use Rattle.lhm_ring.proofs.tables.Retained.{with_body-twice}
+use Rattle.lhm_ring.proofs.memory.Places.{IsLaid-same}
 use Rattle.lhm_ring.proofs.ring.Ring.call_at.Goals as goal
+use Rattle.lhm_ring.specs.Nodes.{links_at, with_body}
+use Rattle.lhm_ring.specs.Ring.{Held, state, change_at, pair, revalued}
+use Rattle.lhm_ring.specs.Links.{ring_cells, RingOk, ring_list}
 
 pub take-key-requires : goal.take-key-requires
 take-key-requires g c =

@@ -1,5 +1,5 @@
 use Rattle.std.proofs.Common.{Some, refl}
-use Rattle.lhm_ring.proofs.Ends.{First-first_at, first_held, none-first_at, length-removed}
+use Rattle.lhm_ring.proofs.rings.Ends.{First-first_at, first_held, none-first_at, length-removed}
 use Rattle.lhm_ring.proofs.ring.Ring.drop.Goals as goal
 
 pub unlink-key-requires : goal.unlink-key-requires

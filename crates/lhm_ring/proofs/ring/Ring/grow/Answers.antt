@@ -1,6 +1,6 @@
 use Rattle.std.proofs.Common.{◌∙◌}
-use Rattle.lhm_ring.proofs.NodesGrown.{nodes_grown-exact}
-use Rattle.lhm_ring.proofs.Results.{OnOk-then}
+use Rattle.lhm_ring.proofs.rings.NodesGrown.{nodes_grown-exact}
+use Rattle.lhm_ring.proofs.lists.Results.{OnOk-then}
 use Rattle.lhm_ring.proofs.ring.Ring.grow.Goals as goal
 
 pub returns-clause-nodes : goal.returns-clause-nodes

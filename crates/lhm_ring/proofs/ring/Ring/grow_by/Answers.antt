@@ -1,13 +1,12 @@
 use Rattle.std.proofs.Common.{◌≡◌, ℕ, ◌+◌, ◌≤◌, ◌<◌, ◌∙◌, length, ap, sym, subst, arith}
 use Rattle.std.specs.Prelude.{max}
 use denote.RawPtr.{Ptr}
-use Rattle.lhm_ring.specs.Land.{place_count}
-use Rattle.lhm_ring.specs.Rings.{ring_cells, ring_list, RingOk}
-use Rattle.lhm_ring.proofs.Places.{length-made, place_count-last, IsLaid-grown}
-use Rattle.lhm_ring.proofs.NodesGrown.{nodes_grown-enough, nodes_grown-fewer}
-use Rattle.lhm_ring.proofs.RingNodes.{length-held}
-use Rattle.lhm_ring.proofs.Stacking.{RingOk-raised, RingOk-stacked, ring_list-stacked}
+use Rattle.lhm_ring.proofs.memory.Places.{length-made, place_count-last, IsLaid-grown}
+use Rattle.lhm_ring.proofs.rings.NodesGrown.{nodes_grown-enough, nodes_grown-fewer}
+use Rattle.lhm_ring.proofs.rings.RingNodes.{length-held}
+use Rattle.lhm_ring.proofs.rings.Stacking.{RingOk-raised, RingOk-stacked, ring_list-stacked}
 use Rattle.lhm_ring.proofs.ring.Ring.grow_by.Goals as goal
+use Rattle.lhm_ring.specs.Links.{place_count, ring_cells, ring_list, RingOk}
 
 pub invariant_of-self : goal.invariant_of-self
 invariant_of-self g c =

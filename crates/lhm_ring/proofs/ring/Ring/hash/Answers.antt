@@ -1,8 +1,8 @@
 use Rattle.std.proofs.Common.{◌∙◌}
-use Rattle.lhm_ring.specs.Rings.{ring_cells}
-use Rattle.lhm_ring.proofs.RingCells.{IsAt-in_nodes, links_at-ring_cells}
-use Rattle.lhm_ring.proofs.ReadAtPosition.{IsAt-held, hash-held}
+use Rattle.lhm_ring.proofs.rings.RingCells.{IsAt-in_nodes, links_at-ring_cells}
+use Rattle.lhm_ring.proofs.rings.ReadAtPosition.{IsAt-held, hash-held}
 use Rattle.lhm_ring.proofs.ring.Ring.hash.Goals as goal
+use Rattle.lhm_ring.specs.Links.{ring_cells}
 
 pub links-requires : goal.links-requires
 links-requires g c = let i = c.self.inside in

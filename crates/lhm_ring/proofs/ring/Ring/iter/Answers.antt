@@ -1,7 +1,7 @@
 use Rattle.std.proofs.Common.{◌∙◌, ap}
-use Rattle.lhm_ring.specs.RingState.{State}
-use Rattle.lhm_ring.proofs.RingSpans.{IsSpan-ring, listed-ring}
+use Rattle.lhm_ring.proofs.rings.RingSpans.{IsSpan-ring, listed-ring}
 use Rattle.lhm_ring.proofs.ring.Ring.iter.Goals as goal
+use Rattle.lhm_ring.specs.Ring.{State}
 
 pub invariant_of-result : goal.invariant_of-result
 invariant_of-result g c = let i = c.self.inside in IsSpan-ring i.ends i.nodes.cells i.spare i.len i.spares c.self.invariant.ring c.address.result.ptr c.address-2.result.ptr c.address.ensures c.address-2.ensures

@@ -1,8 +1,8 @@
 use Rattle.std.proofs.Common.{◌∙◌, ap}
-use Rattle.lhm_ring.specs.Rings.{ring_cells}
-use Rattle.lhm_ring.proofs.RingCells.{Holds-in_nodes, body_at-ring_cells}
-use Rattle.lhm_ring.proofs.ReadAtPosition.{Holds-held, pair-held}
+use Rattle.lhm_ring.proofs.rings.RingCells.{Holds-in_nodes, body_at-ring_cells}
+use Rattle.lhm_ring.proofs.rings.ReadAtPosition.{Holds-held, pair-held}
 use Rattle.lhm_ring.proofs.ring.Ring.key.Goals as goal
+use Rattle.lhm_ring.specs.Links.{ring_cells}
 
 pub key-requires : goal.key-requires
 key-requires g c = let i = c.self.inside in

@@ -1,10 +1,10 @@
 use Rattle.std.proofs.Common.{◌∙◌, ap, sym}
-use Rattle.lhm_ring.specs.Rings.{ring_cells}
-use Rattle.lhm_ring.specs.Targets.{led_to}
-use Rattle.lhm_ring.proofs.FirstAndLast.{led_to-last}
-use Rattle.lhm_ring.proofs.RingCells.{prev_at-null}
-use Rattle.lhm_ring.proofs.HeldPointers.{IsApart-held}
+use Rattle.lhm_ring.proofs.rings.FirstAndLast.{led_to-last}
+use Rattle.lhm_ring.proofs.rings.RingCells.{prev_at-null}
+use Rattle.lhm_ring.proofs.rings.HeldPointers.{IsApart-held}
 use Rattle.lhm_ring.proofs.ring.Ring.last.Goals as goal
+use Rattle.lhm_ring.specs.Links.{ring_cells}
+use Rattle.lhm_ring.specs.Pointer.{led_to}
 
 pub returns-clause-last : goal.returns-clause-last
 returns-clause-last g c =

@@ -1,8 +1,8 @@
 use Rattle.std.proofs.Common.{suc, ap, sym, ◌∙◌}
-use Rattle.lhm_ring.specs.Rings.{ring_cells}
-use Rattle.lhm_ring.proofs.RingNodes.{length-held, length-bounded, length-within}
-use Rattle.lhm_ring.proofs.Places.{length-made}
+use Rattle.lhm_ring.proofs.rings.RingNodes.{length-held, length-bounded, length-within}
+use Rattle.lhm_ring.proofs.memory.Places.{length-made}
 use Rattle.lhm_ring.proofs.ring.Ring.len.Goals as goal
+use Rattle.lhm_ring.specs.Links.{ring_cells}
 
 pub returns : goal.returns
 returns g c =

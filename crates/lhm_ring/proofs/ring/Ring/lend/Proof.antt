@@ -44,34 +44,33 @@ use denote.Struct.Declared as declared
 use denote.Triple.Walked.{Stays, stay_dropped, walk_of, Goes-spent_ref}
 use Rattle.std.proofs.VecSteps.Shapes.{after}
 use Rattle.std.proofs.raw_atomic.Walks.{proved_at, leaves}
-use Rattle.lhm_ring.specs.ValueLoan.{spread}
-use Rattle.lhm_ring.specs.RingState.{State}
-use Rattle.lhm_ring.specs.RingAfterLoan.{held_values, with_values}
-use Rattle.lhm_ring.specs.Iterators.{AreLent}
-use Rattle.lhm_ring.specs.ValueIterators.{held_left, loan_name}
 use Rattle.lhm_ring.specs.declared.value_loan.LentValues.{LentValues}
 use Rattle.lhm_ring.specs.contracts.iter.IterMut as I-iter
 use Rattle.lhm_ring.specs.contracts.iter.IterMut.of as g
 use Rattle.lhm_ring.proofs.iter.IterMut.of.Met as of-thm
 use Rattle.lhm_ring.proofs.iter.IterMut.TheLaws as iter-laws
 use Rattle.lhm_ring.specs.declared.value_loan.ValueLoan.{ValueLoan}
-use Rattle.lhm_ring.specs.declared.links.Links.{Links}
-use Rattle.lhm_ring.specs.contracts.links.Links as links
+use Rattle.lhm_ring.specs.declared.ring.Links.{Links}
+use Rattle.lhm_ring.specs.contracts.ring.Links as links
 use Rattle.lhm_ring.specs.contracts.value_loan.Hole as H-type
 use Rattle.lhm_ring.specs.contracts.value_loan.LentValues as T-type
 use Rattle.lhm_ring.specs.contracts.value_loan.ValueLoan as L-type
 use Rattle.lhm_ring.specs.contracts.ring.Ring as R-type
 use Rattle.lhm_ring.specs.contracts.ring.Ring.TheInside as I-type
-use Rattle.lhm_ring.proofs.links.Links.TheLaws as links-laws
+use Rattle.lhm_ring.proofs.ring.Links.TheLaws as links-laws
 use Rattle.lhm_ring.proofs.value_loan.Hole.TheLaws as H-laws
 use Rattle.lhm_ring.proofs.ring.Ring.TheInside.TheLaws as I-laws
-use Rattle.lhm_ring.proofs.Memory.{marker, struct_made}
-use Rattle.lhm_ring.proofs.ValuesReplaced.{run_of}
-use Rattle.lhm_ring.proofs.ValuesSplitOff.{Inside, Full, parts, thin_shape, Thinned, thinned, Sharable-thin, at_pointers, vals, kept_by, entries, As, Vals, named as listed_as, view, good, Fields, ring_cut, back, placed, placed-own, ordered_back, AreLent-entries, LoanMarker, loan_made}
+use Rattle.lhm_ring.proofs.memory.Memory.{marker, struct_made}
+use Rattle.lhm_ring.proofs.memory.ValuesReplaced.{run_of}
+use Rattle.lhm_ring.proofs.memory.ValuesSplitOff.{Inside, Full, parts, thin_shape, Thinned, thinned, Sharable-thin, at_pointers, vals, kept_by, entries, As, Vals, named as listed_as, view, good, Fields, ring_cut, back, placed, placed-own, ordered_back, AreLent-entries, LoanMarker, loan_made}
 use Rattle.lhm_ring.specs.contracts.ring.Ring.lend.{ended, clauses}
 use Rattle.lhm_ring.specs.contracts.ring.Ring.lend.Key.{name as #self}
 use Rattle.lhm_ring.proofs.ring.Ring.lend.Statement.{statement}
 use Rattle.lhm_ring.proofs.ring.Ring.lend.Code as code
+use Rattle.lhm_ring.specs.ValueLoan.{spread, AreLent}
+use Rattle.lhm_ring.specs.Ring.{State, held_values}
+use Rattle.lhm_ring.specs.RingAfterLoan.{with_values}
+use Rattle.lhm_ring.specs.Iter.{held_left, loan_name}
 
 -- what follows a name that a result has
 by_name : {M : Type 1} {𝓤 : Ura M} (𝓛 : Logic 𝓤) (R T : RattleType) (γ ν : GName) (F : T.Denot → R.Denot) (v : R.Denot) (m : maybe.Option GName) → m ≡ maybe.some ν

@@ -1,12 +1,12 @@
 use Rattle.std.proofs.Common.{◌≡◌, ◌∙◌, ap, sym, subst, true}
-use Rattle.lhm_ring.specs.Rings.{ring_cells, next_of, prev_of, is_there}
-use Rattle.lhm_ring.proofs.Moves.{There-prev, There-next, is_there-moving, RingOk-moved, AtHeld-moved}
-use Rattle.lhm_ring.proofs.RingCells.{IsAt-in_nodes, links_at-ring_cells, prev_at-null, is_there-null, led_to-some, led_to-none, IsJoined-same}
-use Rattle.lhm_ring.proofs.RingNodes.{NodeAt-held, ring_split}
-use Rattle.lhm_ring.proofs.ReadAtPosition.{IsAt-held}
-use Rattle.lhm_ring.proofs.HeldPointers.{IsApart-held}
-use Rattle.lhm_ring.proofs.Places.{IsLaid-same}
+use Rattle.lhm_ring.proofs.rings.Moves.{There-prev, There-next, is_there-moving, RingOk-moved, AtHeld-moved}
+use Rattle.lhm_ring.proofs.rings.RingCells.{IsAt-in_nodes, links_at-ring_cells, prev_at-null, is_there-null, led_to-some, led_to-none, IsJoined-same}
+use Rattle.lhm_ring.proofs.rings.RingNodes.{NodeAt-held, ring_split}
+use Rattle.lhm_ring.proofs.rings.ReadAtPosition.{IsAt-held}
+use Rattle.lhm_ring.proofs.rings.HeldPointers.{IsApart-held}
+use Rattle.lhm_ring.proofs.memory.Places.{IsLaid-same}
 use Rattle.lhm_ring.proofs.ring.Ring.move_to_back.Goals as goal
+use Rattle.lhm_ring.specs.Links.{ring_cells, next_of, prev_of, is_there}
 
 pub links-links-requires : goal.links-links-requires
 links-links-requires g c =

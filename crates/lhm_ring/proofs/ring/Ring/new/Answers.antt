@@ -1,7 +1,7 @@
 use Rattle.std.proofs.Common.{refl}
-use Rattle.lhm_ring.proofs.Places.{IsLaid-none}
-use Rattle.lhm_ring.proofs.RingCells.{RingOk-bare}
-use Rattle.lhm_ring.proofs.RingNodes.{ring_list-none}
+use Rattle.lhm_ring.proofs.memory.Places.{IsLaid-none}
+use Rattle.lhm_ring.proofs.rings.RingCells.{RingOk-bare}
+use Rattle.lhm_ring.proofs.rings.RingNodes.{ring_list-none}
 use Rattle.lhm_ring.proofs.ring.Ring.new.Goals as goal
 
 pub invariant_of-result : goal.invariant_of-result

@@ -1,10 +1,10 @@
 use Rattle.std.proofs.Common.{◌∙◌}
-use Rattle.lhm_ring.specs.Rings.{ring_cells}
-use Rattle.lhm_ring.proofs.Neighbours.{AtHeld-next}
-use Rattle.lhm_ring.proofs.ReadAtPosition.{IsAt-held}
-use Rattle.lhm_ring.proofs.RingCells.{IsAt-in_nodes, links_at-ring_cells}
-use Rattle.lhm_ring.proofs.HeldPointers.{IsApart-held}
+use Rattle.lhm_ring.proofs.rings.Neighbours.{AtHeld-next}
+use Rattle.lhm_ring.proofs.rings.ReadAtPosition.{IsAt-held}
+use Rattle.lhm_ring.proofs.rings.RingCells.{IsAt-in_nodes, links_at-ring_cells}
+use Rattle.lhm_ring.proofs.rings.HeldPointers.{IsApart-held}
 use Rattle.lhm_ring.proofs.ring.Ring.next.Goals as goal
+use Rattle.lhm_ring.specs.Links.{ring_cells}
 
 pub links-requires : goal.links-requires
 links-requires g c =

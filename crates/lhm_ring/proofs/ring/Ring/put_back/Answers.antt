@@ -1,12 +1,11 @@
 use Rattle.std.proofs.Common.{◌≡◌, ◌∙◌, ◌++◌, ◌∷◌, [], None, Some, ap, sym, subst, refl, true}
-use Rattle.lhm_ring.specs.declared.block.NodePointer.{NodePointer}
-use Rattle.lhm_ring.specs.Rings.{ring_cells, is_there}
-use Rattle.lhm_ring.specs.RingState.{held}
-use Rattle.lhm_ring.specs.RingAfterLoan.{pair}
-use Rattle.lhm_ring.proofs.PutBackAndUnlink.{IsSome-spare, IsAt-spare, links_at-filled, is_there-put_back, RingOk-put_back, state-put_back}
-use Rattle.lhm_ring.proofs.RingCells.{IsAt-in_nodes, links_at-ring_cells, ring_cells-with_links, ring_cells-with_body, prev_at-null, is_there-null, led_to-some, led_to-none, IsJoined-same}
-use Rattle.lhm_ring.proofs.Places.{IsLaid-same}
+use Rattle.lhm_ring.specs.declared.pointer.NodePointer.{NodePointer}
+use Rattle.lhm_ring.proofs.rings.PutBackAndUnlink.{IsSome-spare, IsAt-spare, links_at-filled, is_there-put_back, RingOk-put_back, state-put_back}
+use Rattle.lhm_ring.proofs.rings.RingCells.{IsAt-in_nodes, links_at-ring_cells, ring_cells-with_links, ring_cells-with_body, prev_at-null, is_there-null, led_to-some, led_to-none, IsJoined-same}
+use Rattle.lhm_ring.proofs.memory.Places.{IsLaid-same}
 use Rattle.lhm_ring.proofs.ring.Ring.put_back.Goals as goal
+use Rattle.lhm_ring.specs.Links.{ring_cells, is_there}
+use Rattle.lhm_ring.specs.Ring.{held, pair}
 
 pub pointer-at-requires : goal.pointer-at-requires
 pointer-at-requires g c = let i = c.self.inside in IsSome-spare (ring_cells i.ends i.nodes.cells) i.spare i.len i.spares _ c.self.invariant.ring c.self.view_is c.requires

@@ -1,12 +1,12 @@
 use Rattle.std.proofs.Common.{◌∙◌, ◌++◌, ◌∷◌, ap, sym, subst, refl}
-use Rattle.lhm_ring.specs.Rings.{ring_cells, RingOk, ring_list}
-use Rattle.lhm_ring.specs.RingState.{Held, linked_to, change_at}
-use Rattle.lhm_ring.proofs.NodeBlocks.{AreBlocks-held}
-use Rattle.lhm_ring.proofs.ReadAtPosition.{content_at-held, IsAt-held, IsHeld-ring_list}
-use Rattle.lhm_ring.proofs.RingCells.{IsAt-in_nodes, ChainsTo-ring_cells}
-use Rattle.lhm_ring.proofs.ContentChange.{ChangesAt-with_links, RingOk-changed, ring_list-changed, ChangesOnly-held}
-use Rattle.lhm_ring.proofs.Places.{IsLaid-same}
+use Rattle.lhm_ring.proofs.memory.NodeBlocks.{AreBlocks-held}
+use Rattle.lhm_ring.proofs.rings.ReadAtPosition.{content_at-held, IsAt-held, IsHeld-ring_list}
+use Rattle.lhm_ring.proofs.rings.RingCells.{IsAt-in_nodes, ChainsTo-ring_cells}
+use Rattle.lhm_ring.proofs.rings.ContentChange.{ChangesAt-with_links, RingOk-changed, ring_list-changed, ChangesOnly-held}
+use Rattle.lhm_ring.proofs.memory.Places.{IsLaid-same}
 use Rattle.lhm_ring.proofs.ring.Ring.set_link.Goals as goal
+use Rattle.lhm_ring.specs.Links.{ring_cells, RingOk, ring_list}
+use Rattle.lhm_ring.specs.Ring.{Held, linked_to, change_at}
 
 pub set_chain-requires : goal.set_chain-requires
 set_chain-requires g c =

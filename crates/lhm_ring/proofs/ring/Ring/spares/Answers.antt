@@ -1,8 +1,8 @@
 use Rattle.std.proofs.Common.{suc, ap, sym, ◌∙◌}
-use Rattle.lhm_ring.specs.Rings.{ring_cells}
-use Rattle.lhm_ring.proofs.RingNodes.{length-bounded, length-within}
-use Rattle.lhm_ring.proofs.Places.{length-made}
+use Rattle.lhm_ring.proofs.rings.RingNodes.{length-bounded, length-within}
+use Rattle.lhm_ring.proofs.memory.Places.{length-made}
 use Rattle.lhm_ring.proofs.ring.Ring.spares.Goals as goal
+use Rattle.lhm_ring.specs.Links.{ring_cells}
 
 pub returns-clause-bounded : goal.returns-clause-bounded
 returns-clause-bounded g c = let i = c.self.inside in length-bounded (ring_cells i.ends i.nodes.cells) i.spare i.len i.spares _ c.self.invariant.ring c.self.view_is

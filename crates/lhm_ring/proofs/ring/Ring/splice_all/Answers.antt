@@ -1,11 +1,11 @@
 use Rattle.std.proofs.Common.{◌∙◌, ◌+◌, ap, sym, subst, refl}
-use Rattle.lhm_ring.specs.Rings.{ring_cells, IsSpan, span_triples}
-use Rattle.lhm_ring.specs.RingState.{state, triples}
-use Rattle.lhm_ring.specs.ContentLoan.{with_bodies, cleared}
-use Rattle.lhm_ring.proofs.RingNodes.{length-held, ring_list-none}
-use Rattle.lhm_ring.proofs.NodesWithBodies.{with_bodies-own, RingOk-cleared}
-use Rattle.lhm_ring.proofs.Places.{IsLaid-same}
+use Rattle.lhm_ring.proofs.rings.RingNodes.{length-held, ring_list-none}
+use Rattle.lhm_ring.proofs.memory.NodesWithBodies.{with_bodies-own, RingOk-cleared}
+use Rattle.lhm_ring.proofs.memory.Places.{IsLaid-same}
 use Rattle.lhm_ring.proofs.ring.Ring.splice_all.Goals as goal
+use Rattle.lhm_ring.specs.Links.{ring_cells, IsSpan, span_triples}
+use Rattle.lhm_ring.specs.Ring.{state, triples}
+use Rattle.lhm_ring.specs.ContentLoan.{with_bodies, cleared}
 
 pub splice-requires : goal.splice-requires
 splice-requires g c = let i = c.self.inside in (i.spares, c.self.invariant.ring)

@@ -1,12 +1,12 @@
 use Rattle.std.proofs.Common.{◌∙◌, ◌≡◌, None, ap, subst, true}
-use Rattle.lhm_ring.specs.Rings.{ring_cells, next_of, prev_of, is_there}
-use Rattle.lhm_ring.proofs.ReadAtPosition.{IsAt-held}
-use Rattle.lhm_ring.proofs.RingCells.{IsAt-in_nodes, Holds-in_nodes, links_at-ring_cells, body_at-ring_cells, ring_cells-with_body, ChainsTo-ring_cells}
-use Rattle.lhm_ring.proofs.RingNodes.{NodeAt-held, ring_split}
-use Rattle.lhm_ring.proofs.Moves.{There-prev, There-next}
-use Rattle.lhm_ring.proofs.PutBackAndUnlink.{Holds-unlinked, IsAt-unlinked, count-held, RingOk-unlinked, AtHeld-unlinked}
-use Rattle.lhm_ring.proofs.Places.{IsLaid-same}
+use Rattle.lhm_ring.proofs.rings.ReadAtPosition.{IsAt-held}
+use Rattle.lhm_ring.proofs.rings.RingCells.{IsAt-in_nodes, Holds-in_nodes, links_at-ring_cells, body_at-ring_cells, ring_cells-with_body, ChainsTo-ring_cells}
+use Rattle.lhm_ring.proofs.rings.RingNodes.{NodeAt-held, ring_split}
+use Rattle.lhm_ring.proofs.rings.Moves.{There-prev, There-next}
+use Rattle.lhm_ring.proofs.rings.PutBackAndUnlink.{Holds-unlinked, IsAt-unlinked, count-held, RingOk-unlinked, AtHeld-unlinked}
+use Rattle.lhm_ring.proofs.memory.Places.{IsLaid-same}
 use Rattle.lhm_ring.proofs.ring.Ring.unlink.Goals as goal
+use Rattle.lhm_ring.specs.Links.{ring_cells, next_of, prev_of, is_there}
 
 pub links-old-requires : goal.links-old-requires
 links-old-requires g c =

@@ -1,9 +1,9 @@
 use Rattle.std.proofs.Common.{◌+◌, ◌∙◌, suc, ap, sym, arith}
-use Rattle.lhm_ring.specs.Rings.{ring_cells}
-use Rattle.lhm_ring.proofs.Places.{length-made}
-use Rattle.lhm_ring.proofs.RingNodes.{length-held, length-within}
-use Rattle.lhm_ring.proofs.Stacking.{RingOk-raised}
+use Rattle.lhm_ring.proofs.memory.Places.{length-made}
+use Rattle.lhm_ring.proofs.rings.RingNodes.{length-held, length-within}
+use Rattle.lhm_ring.proofs.rings.Stacking.{RingOk-raised}
 use Rattle.lhm_ring.proofs.ring.Ring.use_made.Goals as goal
+use Rattle.lhm_ring.specs.Links.{ring_cells}
 
 pub overflow_sub-min : goal.overflow_sub-min
 overflow_sub-min g c =

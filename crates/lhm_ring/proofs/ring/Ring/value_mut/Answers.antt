@@ -1,13 +1,12 @@
 use Rattle.std.proofs.Common.{◌∙◌, ap, sym, subst, refl}
-use Rattle.lhm_ring.specs.Rings.{ring_cells, RingOk, ring_list}
-use Rattle.lhm_ring.specs.RingState.{Held, state, change_at}
-use Rattle.lhm_ring.specs.RingAfterLoan.{pair, revalued}
-use Rattle.lhm_ring.specs.NodesAfterLoan.{value_set}
-use Rattle.lhm_ring.specs.Cells.{with_body}
-use Rattle.lhm_ring.proofs.ReadAtPosition.{content_at-held, Holds-held, links_at-held, pair-held, IsHeld-ring_list}
-use Rattle.lhm_ring.proofs.RingCells.{Holds-in_nodes, body_at-ring_cells, ring_cells-with_body}
-use Rattle.lhm_ring.proofs.ContentChange.{ChangesAt-with_body, RingOk-changed, ring_list-changed, ChangesOnly-held}
+use Rattle.lhm_ring.proofs.rings.ReadAtPosition.{content_at-held, Holds-held, links_at-held, pair-held, IsHeld-ring_list}
+use Rattle.lhm_ring.proofs.rings.RingCells.{Holds-in_nodes, body_at-ring_cells, ring_cells-with_body}
+use Rattle.lhm_ring.proofs.rings.ContentChange.{ChangesAt-with_body, RingOk-changed, ring_list-changed, ChangesOnly-held}
 use Rattle.lhm_ring.proofs.ring.Ring.value_mut.Goals as goal
+use Rattle.lhm_ring.specs.Links.{ring_cells, RingOk, ring_list}
+use Rattle.lhm_ring.specs.Ring.{Held, state, change_at, pair, revalued}
+use Rattle.lhm_ring.specs.RingAfterLoan.{value_set}
+use Rattle.lhm_ring.specs.Nodes.{with_body}
 
 pub value_mut-requires : goal.value_mut-requires
 value_mut-requires g c =

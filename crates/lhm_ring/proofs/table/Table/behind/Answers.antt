@@ -1,8 +1,8 @@
 use Rattle.std.proofs.Common.{sym, ap, ◌∙◌, arith}
-use Rattle.lhm_ring.specs.Positions.{pointer_of, pointer_of_some}
-use Rattle.lhm_ring.proofs.Tables.{IsHeld-table, AtHeld-table_next, IsApart-table, length-table}
-use Rattle.lhm_ring.proofs.NodesBehind.{passed-within, HasPassed-step, AtHeld-end}
+use Rattle.lhm_ring.proofs.tables.Tables.{IsHeld-table, AtHeld-table_next, IsApart-table, length-table}
+use Rattle.lhm_ring.proofs.tables.NodesBehind.{passed-within, HasPassed-step, AtHeld-end}
 use Rattle.lhm_ring.proofs.table.Table.behind.Goals as goal
+use Rattle.lhm_ring.specs.Pointer.{pointer_of, pointer_of_some}
 
 pub pairs-init : goal.pairs-init
 pairs-init g c = record { began = c.requires; came = c.requires; count = omega arith }

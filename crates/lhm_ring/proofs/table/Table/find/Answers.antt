@@ -1,8 +1,8 @@
 use Rattle.std.proofs.lemmas.Option.{IfSome_then}
-use Rattle.lhm_ring.specs.Positions.{pointer_of}
-use Rattle.lhm_ring.proofs.Options.{OnSome-then, IfNone-then}
-use Rattle.lhm_ring.proofs.Entries.{HasKey-entries, IsAbsent-entries, CountsSome-entries, CountsAll-entries}
+use Rattle.lhm_ring.proofs.lists.Options.{OnSome-then, IfNone-then}
+use Rattle.lhm_ring.proofs.indexes.Entries.{HasKey-entries, IsAbsent-entries, CountsSome-entries, CountsAll-entries}
 use Rattle.lhm_ring.proofs.table.Table.find.Goals as goal
+use Rattle.lhm_ring.specs.Pointer.{pointer_of}
 
 pub returns-clause-found : goal.returns-clause-found
 returns-clause-found g c = rw (← c.self.view_is) (IfSome_then c.find.result.0 c.find.ensures.found (λ p h. HasKey-entries g.K.PartialEq.eq c.args.hash c.args.key.now c.self.inside.ring.held (pointer_of p) h))

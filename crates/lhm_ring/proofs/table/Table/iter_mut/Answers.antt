@@ -1,9 +1,9 @@
 use Rattle.std.proofs.Common.{◌∙◌, sym, ap, map}
 use borrow.Follows.Closed.{read_of}
-use Rattle.lhm_ring.specs.Tables.{TableState}
-use Rattle.lhm_ring.specs.ValueIterators.{loan_name}
-use Rattle.lhm_ring.proofs.TableValues.{IsTable-values, table_of-values, pairs-entries}
+use Rattle.lhm_ring.proofs.tables.TableValues.{IsTable-values, table_of-values, pairs-entries}
 use Rattle.lhm_ring.proofs.table.Table.iter_mut.Goals as goal
+use Rattle.lhm_ring.specs.Table.{TableState}
+use Rattle.lhm_ring.specs.Iter.{loan_name}
 
 pub invariant_of-self-lent : goal.invariant_of-self-lent
 invariant_of-self-lent g c = λ _. ((λ vs. IsTable-values vs c.self.invariant), c.self.invariant)

@@ -1,5 +1,5 @@
 use Rattle.std.proofs.Common.{sym, ◌∙◌}
-use Rattle.lhm_ring.proofs.Filters.{LacksHash-lacks, LacksHash-entries}
+use Rattle.lhm_ring.proofs.indexes.Filters.{LacksHash-lacks, LacksHash-entries}
 use Rattle.lhm_ring.proofs.table.Table.may_contain.Goals as goal
 
 pub returns-in-Some : goal.returns-in-Some

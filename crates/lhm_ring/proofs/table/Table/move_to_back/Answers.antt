@@ -1,10 +1,10 @@
 use Rattle.std.proofs.Common.{◌≡◌, ◌++◌, ◌∷◌, [], None, ap, ◌∙◌, arith}
-use Rattle.lhm_ring.specs.Positions.{pointer_of}
-use Rattle.lhm_ring.specs.RingState.{linked_to}
-use Rattle.lhm_ring.specs.Search.{entries}
-use Rattle.lhm_ring.proofs.Tables.{IsHeld-table, AtHeld-table, IsApart-table, length-capacity, IsTable-to_back, length-moved}
-use Rattle.lhm_ring.proofs.Entries.{entries-append}
+use Rattle.lhm_ring.proofs.tables.Tables.{IsHeld-table, AtHeld-table, IsApart-table, length-capacity, IsTable-to_back, length-moved}
+use Rattle.lhm_ring.proofs.indexes.Entries.{entries-append}
 use Rattle.lhm_ring.proofs.table.Table.move_to_back.Goals as goal
+use Rattle.lhm_ring.specs.Pointer.{pointer_of}
+use Rattle.lhm_ring.specs.Ring.{linked_to}
+use Rattle.lhm_ring.specs.Index.{entries}
 
 pub move_to_back-requires : goal.move_to_back-requires
 move_to_back-requires g c = IsHeld-table c.self.inside.ring c.self.inside.rechained c.self.view_is (pointer_of c.args.at) c.requires

@@ -1,6 +1,6 @@
 use Rattle.std.proofs.Common.{length, sym, ap, ◌∙◌, arith}
-use Rattle.lhm_ring.proofs.IndexedRing.{IsIndexed-new}
-use Rattle.lhm_ring.proofs.Filters.{IsFilter-none}
+use Rattle.lhm_ring.proofs.tables.IndexedRing.{IsIndexed-new}
+use Rattle.lhm_ring.proofs.indexes.Filters.{IsFilter-none}
 use Rattle.lhm_ring.proofs.table.Table.new.Goals as goal
 
 pub invariant_of-result : goal.invariant_of-result

@@ -1,6 +1,6 @@
-use Rattle.lhm_ring.specs.Positions.{pointer_of, pointer_of_some}
-use Rattle.lhm_ring.proofs.Tables.{IsHeld-table, AtHeld-table_next, IsApart-table}
+use Rattle.lhm_ring.proofs.tables.Tables.{IsHeld-table, AtHeld-table_next, IsApart-table}
 use Rattle.lhm_ring.proofs.table.Table.next.Goals as goal
+use Rattle.lhm_ring.specs.Pointer.{pointer_of, pointer_of_some}
 
 pub next-requires : goal.next-requires
 next-requires g c = IsHeld-table c.self.inside.ring c.self.inside.rechained c.self.view_is (pointer_of c.args.at) c.requires

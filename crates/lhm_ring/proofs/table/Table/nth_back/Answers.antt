@@ -1,9 +1,9 @@
 use Rattle.std.proofs.Common.{◌≡◌, ap, subst, arith, length}
 use Rattle.std.specs.Prelude.{IfSome}
-use Rattle.lhm_ring.specs.Positions.{pointer_of, pointer_of_some}
-use Rattle.lhm_ring.specs.RingState.{AtHeld}
-use Rattle.lhm_ring.proofs.NodesBehind.{HasBehind-step, next_held, IsHeld-next, AtHeld-next}
+use Rattle.lhm_ring.proofs.tables.NodesBehind.{HasBehind-step, next_held, IsHeld-next, AtHeld-next}
 use Rattle.lhm_ring.proofs.table.Table.nth_back.Goals as goal
+use Rattle.lhm_ring.specs.Pointer.{pointer_of, pointer_of_some}
+use Rattle.lhm_ring.specs.Ring.{AtHeld}
 
 pub previous-here-requires : goal.previous-here-requires
 previous-here-requires g c = next_held c.pairs.invariant.behind (ap pointer_of_some c.in-Some.is)

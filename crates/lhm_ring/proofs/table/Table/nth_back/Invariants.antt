@@ -1,7 +1,7 @@
 use Rattle.std.proofs.Common.{◌-◌, ◌≤◌}
-use Rattle.lhm_ring.specs.Positions.{pointer_of_some}
-use Rattle.lhm_ring.proofs.NodesBehind.{HasBehind}
+use Rattle.lhm_ring.proofs.tables.NodesBehind.{HasBehind}
 use Rattle.lhm_ring.proofs.table.Table.nth_back.Given as goal
+use Rattle.lhm_ring.specs.Pointer.{pointer_of_some}
 
 abbrev pub invariant-pairs : goal.invariant-pairs
 invariant-pairs g l = record {

@@ -1,11 +1,11 @@
 use Rattle.std.proofs.Common.{sym, ◌∙◌}
 use Rattle.std.proofs.lemmas.Option.{IfSome_then}
-use Rattle.lhm_ring.specs.Positions.{pointer_of}
-use Rattle.lhm_ring.specs.Search.{entries}
-use Rattle.lhm_ring.proofs.Filters.{LacksHash-lacks, LacksHash-entries, IsAbsent-lacks}
-use Rattle.lhm_ring.proofs.Options.{IfNone-then}
-use Rattle.lhm_ring.proofs.Entries.{HasKey-entries, IsAbsent-entries}
+use Rattle.lhm_ring.proofs.indexes.Filters.{LacksHash-lacks, LacksHash-entries, IsAbsent-lacks}
+use Rattle.lhm_ring.proofs.lists.Options.{IfNone-then}
+use Rattle.lhm_ring.proofs.indexes.Entries.{HasKey-entries, IsAbsent-entries}
 use Rattle.lhm_ring.proofs.table.Table.position.Goals as goal
+use Rattle.lhm_ring.specs.Pointer.{pointer_of}
+use Rattle.lhm_ring.specs.Index.{entries}
 
 pub returns-then-not-may_contain-clause-absent : goal.returns-then-not-may_contain-clause-absent
 returns-then-not-may_contain-clause-absent g c =

@@ -1,9 +1,9 @@
 use Rattle.std.proofs.Common.{◌≡◌, sym, ◌∙◌}
-use Rattle.lhm_ring.specs.Positions.{pointer_of, pointer_of_some}
-use Rattle.lhm_ring.specs.RingState.{last_at}
-use Rattle.lhm_ring.proofs.Tables.{IsHeld-table, AtHeld-table}
-use Rattle.lhm_ring.proofs.Entries.{last_at-entries}
+use Rattle.lhm_ring.proofs.tables.Tables.{IsHeld-table, AtHeld-table}
+use Rattle.lhm_ring.proofs.indexes.Entries.{last_at-entries}
 use Rattle.lhm_ring.proofs.table.Table.previous.Goals as goal
+use Rattle.lhm_ring.specs.Pointer.{pointer_of, pointer_of_some}
+use Rattle.lhm_ring.specs.Ring.{last_at}
 
 pub previous-requires : goal.previous-requires
 previous-requires g c = IsHeld-table c.self.inside.ring c.self.inside.rechained c.self.view_is (pointer_of c.args.at) c.requires

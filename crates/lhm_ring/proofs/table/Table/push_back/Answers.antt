@@ -1,16 +1,15 @@
 use Rattle.std.proofs.Common.{◌≡◌, ◌+◌, ◌%◌, ◌∷◌, [], None, refl, sym, ap, ◌∙◌, length, length-append, arith}
 use Rattle.std.proofs.Math.Nat.{mod-lt}
-use Rattle.lhm_ring.specs.Buckets.{buckets}
-use Rattle.lhm_ring.specs.Positions.{pointer_of}
-use Rattle.lhm_ring.specs.RingAfterLoan.{pair}
-use Rattle.lhm_ring.specs.RingState.{held}
-use Rattle.lhm_ring.specs.Search.{entries}
-use Rattle.lhm_ring.proofs.Filters.{IsFilter-more}
-use Rattle.lhm_ring.proofs.IndexedRing.{length-indexed}
-use Rattle.lhm_ring.proofs.IndexPuts.{HoldsOthers-last}
-use Rattle.lhm_ring.proofs.Tables.{spares-table}
-use Rattle.lhm_ring.proofs.Entries.{length-same_entries}
+use Rattle.lhm_ring.proofs.indexes.Filters.{IsFilter-more}
+use Rattle.lhm_ring.proofs.tables.IndexedRing.{length-indexed}
+use Rattle.lhm_ring.proofs.indexes.IndexPuts.{HoldsOthers-last}
+use Rattle.lhm_ring.proofs.tables.Tables.{spares-table}
+use Rattle.lhm_ring.proofs.indexes.Entries.{length-same_entries}
 use Rattle.lhm_ring.proofs.table.Table.push_back.Goals as goal
+use Rattle.lhm_ring.specs.Buckets.{buckets}
+use Rattle.lhm_ring.specs.Pointer.{pointer_of}
+use Rattle.lhm_ring.specs.Ring.{pair, held}
+use Rattle.lhm_ring.specs.Index.{entries}
 
 pub put_in-bucket-requires-clause-some : goal.put_in-bucket-requires-clause-some
 put_in-bucket-requires-clause-some g c = length-indexed c.self.inside.index c.self.inside.ring c.self.invariant.indexed (spares-table c.self.inside.ring c.self.inside.rechained c.self.view_is c.requires)

@@ -1,10 +1,10 @@
 use Rattle.std.proofs.Common.{◌≡◌, ◌+◌, ◌<◌, ◌≤◌, ◌∙◌, length, ap, sym, subst, arith}
-use Rattle.lhm_ring.specs.Buckets.{buckets, rechained_raised}
-use Rattle.lhm_ring.specs.Search.{entries}
-use Rattle.lhm_ring.specs.Tables.{TableState}
-use Rattle.lhm_ring.proofs.Results.{OnOk-always, OnOk-then}
-use Rattle.lhm_ring.proofs.Tables.{length-capacity, IsTable-grown, rechained_raised-stays, rechained_raised-moves}
+use Rattle.lhm_ring.proofs.lists.Results.{OnOk-always, OnOk-then}
+use Rattle.lhm_ring.proofs.tables.Tables.{length-capacity, IsTable-grown, rechained_raised-stays, rechained_raised-moves}
 use Rattle.lhm_ring.proofs.table.Table.raise.Goals as goal
+use Rattle.lhm_ring.specs.Buckets.{buckets, rechained_raised}
+use Rattle.lhm_ring.specs.Index.{entries}
+use Rattle.lhm_ring.specs.Table.{TableState}
 
 pub invariant_of-self : goal.invariant_of-self
 invariant_of-self g c =

@@ -1,8 +1,8 @@
 use Rattle.std.proofs.Common.{◌≡◌, ◌+◌, ◌<◌, ◌∙◌, length, ap, sym, arith}
-use Rattle.lhm_ring.specs.Buckets.{buckets}
-use Rattle.lhm_ring.specs.Search.{entries}
-use Rattle.lhm_ring.proofs.Tables.{length-capacity, IsTable-rechained, rechained-fits}
+use Rattle.lhm_ring.proofs.tables.Tables.{length-capacity, IsTable-rechained, rechained-fits}
 use Rattle.lhm_ring.proofs.table.Table.raise_buckets.Goals as goal
+use Rattle.lhm_ring.specs.Buckets.{buckets}
+use Rattle.lhm_ring.specs.Index.{entries}
 
 pub invariant_of-self : goal.invariant_of-self
 invariant_of-self g c =

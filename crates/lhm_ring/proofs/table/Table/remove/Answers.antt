@@ -1,10 +1,10 @@
 use Rattle.std.proofs.Common.{◌≡◌, ◌++◌, sym, ap, ◌∙◌, arith}
-use Rattle.lhm_ring.specs.Positions.{pointer_of}
-use Rattle.lhm_ring.specs.Search.{entries}
-use Rattle.lhm_ring.proofs.Entries.{HasKey-kept, IsAbsent-entries, HasKey-entries, entries-append}
-use Rattle.lhm_ring.proofs.Filters.{IsAbsent-lacks, IsFilter-emptied, IfSome-emptied_within}
-use Rattle.lhm_ring.proofs.Tables.{AtHeld-same_entries, length-capacity, IsTable-removed, length-with_spares}
+use Rattle.lhm_ring.proofs.indexes.Entries.{HasKey-kept, IsAbsent-entries, HasKey-entries, entries-append}
+use Rattle.lhm_ring.proofs.indexes.Filters.{IsAbsent-lacks, IsFilter-emptied, IfSome-emptied_within}
+use Rattle.lhm_ring.proofs.tables.Tables.{AtHeld-same_entries, length-capacity, IsTable-removed, length-with_spares}
 use Rattle.lhm_ring.proofs.table.Table.remove.Goals as goal
+use Rattle.lhm_ring.specs.Pointer.{pointer_of}
+use Rattle.lhm_ring.specs.Index.{entries}
 
 pub returns-in_err-at-clause-absent : goal.returns-in_err-at-clause-absent
 returns-in_err-at-clause-absent g c =

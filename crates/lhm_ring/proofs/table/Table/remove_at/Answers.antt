@@ -1,10 +1,10 @@
 use Rattle.std.proofs.Common.{◌≡◌, ◌++◌, ap, ◌∙◌}
-use Rattle.lhm_ring.specs.Positions.{pointer_of}
-use Rattle.lhm_ring.specs.Search.{entries}
-use Rattle.lhm_ring.proofs.Filters.{IsFilter-emptied, IfSome-emptied_within}
-use Rattle.lhm_ring.proofs.Tables.{IsHeld-table, AtHeld-same_entries, IsTable-removed}
-use Rattle.lhm_ring.proofs.Entries.{entries-append}
+use Rattle.lhm_ring.proofs.indexes.Filters.{IsFilter-emptied, IfSome-emptied_within}
+use Rattle.lhm_ring.proofs.tables.Tables.{IsHeld-table, AtHeld-same_entries, IsTable-removed}
+use Rattle.lhm_ring.proofs.indexes.Entries.{entries-append}
 use Rattle.lhm_ring.proofs.table.Table.remove_at.Goals as goal
+use Rattle.lhm_ring.specs.Pointer.{pointer_of}
+use Rattle.lhm_ring.specs.Index.{entries}
 
 pub take_out_at-emptied-requires-clause-held : goal.take_out_at-emptied-requires-clause-held
 take_out_at-emptied-requires-clause-held g c = IsHeld-table c.self.inside.ring c.self.inside.rechained c.self.view_is (pointer_of c.args.at) c.requires

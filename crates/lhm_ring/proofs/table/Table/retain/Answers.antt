@@ -1,8 +1,8 @@
 use Rattle.std.proofs.Common.{ap, refl, ◌∙◌}
 use Rattle.std.specs.Map.Calls.{CalledAtPair, TakesPair}
-use Rattle.lhm_ring.specs.Positions.{pointer_of_some}
-use Rattle.lhm_ring.proofs.Retained.{IsRetaining-start, RetainsHeld-end, IsRetaining-step, First-next, next_held, TakesAt-next, left_from-smaller}
+use Rattle.lhm_ring.proofs.tables.Retained.{IsRetaining-start, RetainsHeld-end, IsRetaining-step, First-next, next_held, TakesAt-next, left_from-smaller}
 use Rattle.lhm_ring.proofs.table.Table.retain.Goals as goal
+use Rattle.lhm_ring.specs.Pointer.{pointer_of_some}
 
 pub loop-next-init : goal.loop-next-init
 loop-next-init g c = record { retaining = IsRetaining-start (CalledAtPair g.F.FnMut) (TakesPair g.F.FnMut) c.requires c.first-next.ensures; keeps = record { capacity = refl; rechained = refl } }

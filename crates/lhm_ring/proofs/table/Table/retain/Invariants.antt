@@ -1,8 +1,7 @@
 use Rattle.std.specs.Map.Calls.{CalledAtPair, TakesPair}
-use Rattle.lhm_ring.specs.Positions.{pointer_of_some}
-use Rattle.lhm_ring.specs.Retains.{IsRetaining, left_from}
-use Rattle.lhm_ring.specs.Tables.{KeepsCounts}
 use Rattle.lhm_ring.proofs.table.Table.retain.Given as goal
+use Rattle.lhm_ring.specs.Pointer.{pointer_of_some}
+use Rattle.lhm_ring.specs.Table.{IsRetaining, left_from, KeepsCounts}
 
 abbrev pub invariant-loop-next : goal.invariant-loop-next
 invariant-loop-next g l = record {

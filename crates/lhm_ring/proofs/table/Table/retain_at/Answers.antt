@@ -1,6 +1,6 @@
 use Rattle.std.proofs.Common.{ap}
 use Rattle.std.specs.Map.Calls.{CalledAtPair}
-use Rattle.lhm_ring.proofs.Retained.{IsHeld-written, RetainsAt-kept, RetainsAt-removed}
+use Rattle.lhm_ring.proofs.tables.Retained.{IsHeld-written, RetainsAt-kept, RetainsAt-removed}
 use Rattle.lhm_ring.proofs.table.Table.retain_at.Goals as goal
 
 pub remove_at-requires : goal.remove_at-requires

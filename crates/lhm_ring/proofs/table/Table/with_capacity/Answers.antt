@@ -1,8 +1,8 @@
 use Rattle.std.proofs.Common.{length, sym, ap, ◌∙◌, arith}
-use Rattle.lhm_ring.specs.Buckets.{buckets}
-use Rattle.lhm_ring.proofs.IndexedRing.{IsIndexed-none}
-use Rattle.lhm_ring.proofs.Filters.{IsFilter-none}
+use Rattle.lhm_ring.proofs.tables.IndexedRing.{IsIndexed-none}
+use Rattle.lhm_ring.proofs.indexes.Filters.{IsFilter-none}
 use Rattle.lhm_ring.proofs.table.Table.with_capacity.Goals as goal
+use Rattle.lhm_ring.specs.Buckets.{buckets}
 
 pub invariant_of-result : goal.invariant_of-result
 invariant_of-result g c =

@@ -20,10 +20,9 @@ use types.Mut.{open_ref}
 use denote.Memory.{mem}
 use denote.Signature.{named_lft}
 use Rattle.std.proofs.Common.{length}
-use Rattle.lhm_ring.specs.ValueLoan.{borrowed, spread, Spread, value_at, without_value, Lies}
 use Rattle.lhm_ring.specs.declared.value_loan.ValueLoan.{ValueLoan}
 use Rattle.lhm_ring.specs.contracts.value_loan.ValueLoan as L-type
-use Rattle.lhm_ring.proofs.ValueTaken.{CutValue, CutValue-some, run_cut, run_mend}
+use Rattle.lhm_ring.proofs.memory.ValueTaken.{CutValue, CutValue-some, run_cut, run_mend}
 use contract.Monad.{fact, fact_i}
 use denote.Exit.{yes}
 use denote.RattleType.{RattleType, owns}
@@ -35,12 +34,13 @@ use denote.Triple.Walked.{Stays, stay_dropped, stay_ref, walk_of, Goes-dropped, 
 use Rattle.std.proofs.VecSteps.Shapes.{after}
 use Rattle.std.proofs.RcSteps.{word, word-Good}
 use Rattle.std.proofs.raw_atomic.Walks.{proved_at, leaves}
-use Rattle.lhm_ring.specs.Ownership.{value_of}
-use Rattle.lhm_ring.proofs.Memory.{Three, args, RL, RK, RV, vo, Nr, Pl, word-pointer}
+use Rattle.lhm_ring.proofs.memory.Memory.{Three, args, RL, RK, RV, vo, Nr, Pl, word-pointer}
 use Rattle.lhm_ring.specs.contracts.value_loan.ValueLoan.take.{ended, clauses}
 use Rattle.lhm_ring.specs.contracts.value_loan.ValueLoan.take.Key.{name as #self}
 use Rattle.lhm_ring.proofs.value_loan.ValueLoan.take.Statement.{statement}
 use Rattle.lhm_ring.proofs.value_loan.ValueLoan.take.Code as code
+use Rattle.lhm_ring.specs.ValueLoan.{borrowed, spread, Spread, value_at, without_value, Lies}
+use Rattle.lhm_ring.specs.Nodes.{value_address}
 
 pub take_spec : {M : Type 1} → statement M
 take_spec 𝓤 𝓛 𝓜 𝓡 wired L K V LL LK LV =
@@ -52,7 +52,7 @@ take_spec 𝓤 𝓛 𝓜 𝓡 wired L K V LL LK LV =
     let κs = y.0.0 in let qs = y.0.1 in let a = y.0.3 in let vss = y.0.4 in let Post : Val → SProp 𝓤 = (walk_of 𝓛 En hs c).post y in
     let rb : ℕ = a.0.ref_ptr.0 in let ro : ℕ = a.0.ref_ptr.1 in let d : ValueLoan L.Denot K.Denot V.Denot = a.0.now in let p : Ptr = a.1.0.ptr in
     let rest : Fml = fsep (flft κs.1.1.0 qs.1.1.0) (fsep (flft κs.1.1.1.0 qs.1.1.1.0) (fsep (flft κs.1.1.1.1.0 qs.1.1.1.1.0) ftrue)) in let others : Fml = fsep (flft κs.1.0 qs.1.0) rest in
-    let It : RattleType = L-type.the_row (named_lft 5 1 tt κs) R S W in let κ : Lft = κs.1.0 in let q = qs.1.0 in let f : Ptr → Ptr = value_of R S W in
+    let It : RattleType = L-type.the_row (named_lft 5 1 tt κs) R S W in let κ : Lft = κs.1.0 in let q = qs.1.0 in let f : Ptr → Ptr = value_address R S W in
     let Asked : Type 0 = Lies d.run p in
     qed 𝓛 (((‵ (flft κs.0 qs.0) ⊛ ‵ others) ⊛ ‵ (owns (types_at En.signature.params κs) a vss)) ∷ raw (fact 𝓤 _) ∷ raw (fact 𝓤 _) ∷ raw (fact 𝓤 _) ∷ raw (fact 𝓤 Asked) ∷ []) ∵
     keep ! (4 ∷ 0 ∷ []) $ heard ! Asked (λ asked. split ! $ split ! $ move ! (2 ∷ []) $ fsplit ! $ fsplit3 ! $ keep ! (1 ∷ 2 ∷ 4 ∷ 5 ∷ []) $
@@ -67,7 +67,7 @@ take_spec 𝓤 𝓛 𝓜 𝓡 wired L K V LL LK LV =
     rewrite ! 0 (λ (cs : List (Ptr × V.Denot)). ‵ (borrowed κ R S W d.name cs)) k.split.is refl $ fsplit ! $
     open_ref ! tt (Spread W (ats all)) {x = ofs all} {b = 0} {o = 0} $
     use1 𝓛 (‵ (lies_at W full_share (f p) v) ⊛ ‵ (spread W (ats (xs ++ ys)) (ofs (xs ++ ys)))) (run_cut 𝓛 W f p xs v ys) $ split ! $
-    in_a_block ! p (λ q. lies_at W full_share (value_of R S W q) v) (id⊢ 𝓤 (never 𝓤)) (λ pb po e.
+    in_a_block ! p (λ q. lies_at W full_share (value_address R S W q) v) (id⊢ 𝓤 (never 𝓤)) (λ pb po e.
     let F : V.Denot → List V.Denot → List V.Denot = λ w ws. take (length xs) ws ++ w ∷ drop_l (length xs) ws in let at : f p ≡ block_ptr pb (po + vo E) = ap f e in
     -- [the value; the other values; their open borrow, in three; the marker; its cell; the open
     -- borrow, in three; the other tokens]

@@ -1,5 +1,5 @@
 use Rattle.std.proofs.Common.{◌≡◌, ◌-◌, ◌∷◌, [], ◌++◌, length, length-append, inl, sym, ap, ◌∙◌, option_map, arith}
-use Rattle.lhm_ring.proofs.Options.{Some-injective}
+use Rattle.lhm_ring.proofs.lists.Options.{Some-injective}
 use Rattle.linked_hash_map.specs.Counts.{rechained_raised}
 use Rattle.linked_hash_map.proofs.Callers.Keys.{set_or_push-absent}
 use Rattle.linked_hash_map.proofs.Callers.Updates.{Updates-set_or_push}

@@ -1,7 +1,4 @@
 use Rattle.std.proofs.Common.{Some, slice_get, option_map, refl, sym, ap, ◌∙◌}
-use Rattle.lhm_ring.specs.Positions.{pointer_of}
-use Rattle.lhm_ring.specs.RingState.{change_at}
-use Rattle.lhm_ring.specs.RingAfterLoan.{revalued}
 use Rattle.linked_hash_map.specs.Indexes.{set_value_at}
 use Rattle.linked_hash_map.specs.Nodes.{pairs_of}
 use Rattle.linked_hash_map.proofs.nodes.HeldPairs.{bare-change}
@@ -9,6 +6,8 @@ use Rattle.linked_hash_map.proofs.nodes.CutNodes.{slice_get-held, pairs_of-chang
 use Rattle.linked_hash_map.proofs.nodes.Kept.{IsValid-view, map_of-revalued}
 use Rattle.linked_hash_map.proofs.nodes.Current.{current_of-Some, current_at-Some, CutAt-current, IsKept-with_value}
 use Rattle.linked_hash_map.proofs.map.LinkedHashMap.current_value_mut.Goals as goal
+use Rattle.lhm_ring.specs.Pointer.{pointer_of}
+use Rattle.lhm_ring.specs.Ring.{change_at, revalued}
 
 pub value_mut-requires : goal.value_mut-requires
 value_mut-requires g c = (CutAt-current c.self.invariant (current_of-Some c.current.ensures c.unwrap-at.ensures)).held

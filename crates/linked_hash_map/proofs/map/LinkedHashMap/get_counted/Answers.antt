@@ -1,5 +1,4 @@
 use Rattle.std.proofs.Common.{◌≤◌, Some, refl, sym, ap, ◌∙◌, subst}
-use Rattle.lhm_ring.specs.Buckets.{buckets}
 use Rattle.linked_hash_map.specs.Hashers.{hash_by}
 use Rattle.linked_hash_map.proofs.nodes.LookupCounts.{same-spots, beside-spots}
 use Rattle.linked_hash_map.proofs.pairs.Indexes.{value_at-index}
@@ -9,6 +8,7 @@ use Rattle.linked_hash_map.proofs.nodes.CutNodes.{slice_get-held}
 use Rattle.linked_hash_map.proofs.nodes.Kept.{IsValid-view, distinct_keys}
 use Rattle.linked_hash_map.proofs.nodes.AbsentKeys.{hash_by-respects, value_at-IsAbsent}
 use Rattle.linked_hash_map.proofs.map.LinkedHashMap.get_counted.Goals as goal
+use Rattle.lhm_ring.specs.Buckets.{buckets}
 
 pub returns-in-Some-clause-value : goal.returns-in-Some-clause-value
 returns-in-Some-clause-value g c =

@@ -1,7 +1,4 @@
 use Rattle.std.proofs.Common.{Some, refl, inl, ap, sym, ◌∙◌}
-use Rattle.lhm_ring.specs.Positions.{pointer_of}
-use Rattle.lhm_ring.specs.RingState.{change_at}
-use Rattle.lhm_ring.specs.RingAfterLoan.{revalued}
 use Rattle.linked_hash_map.specs.Nodes.{beside}
 use Rattle.linked_hash_map.proofs.Callers.Updates.{Updates-set_value}
 use Rattle.linked_hash_map.proofs.lists.Options.{of-Some, of-None}
@@ -13,6 +10,8 @@ use Rattle.linked_hash_map.proofs.nodes.Current.{IsKept-with_value}
 use Rattle.linked_hash_map.proofs.pairs.Indexes.{value_at-index, set_value-index, is_some-index}
 use Rattle.linked_hash_map.proofs.nodes.AbsentKeys.{hash_by-respects, value_at-IsAbsent}
 use Rattle.linked_hash_map.proofs.map.LinkedHashMap.get_mut.Goals as goal
+use Rattle.lhm_ring.specs.Pointer.{pointer_of}
+use Rattle.lhm_ring.specs.Ring.{change_at, revalued}
 
 pub invariant_of-self-lent : goal.invariant_of-self-lent
 invariant_of-self-lent g c w = IsKept-with_value c.self.invariant (pointer_of c.in-Some.at) w

@@ -1,5 +1,4 @@
 use Rattle.std.proofs.Common.{refl, inl, sym}
-use Rattle.lhm_ring.specs.Positions.{pointer_of}
 use Rattle.linked_hash_map.specs.declared.map.Mode.TheVariants.{Touch}
 use Rattle.linked_hash_map.specs.Nodes.{map_of, beside, no_visit}
 use Rattle.linked_hash_map.proofs.Callers.Updates.{Updates-put}
@@ -9,6 +8,7 @@ use Rattle.linked_hash_map.proofs.nodes.FoundKeys.{before-HasKey, IsIndex-before
 use Rattle.linked_hash_map.proofs.nodes.PutPair.{IsTouchedAt, touched_cut, pairs-put, value_at-touched, IsKept-put}
 use Rattle.linked_hash_map.proofs.nodes.AbsentKeys.{hash_by-respects, value_at-IsAbsent}
 use Rattle.linked_hash_map.proofs.map.LinkedHashMap.get_refresh.Goals as goal
+use Rattle.lhm_ring.specs.Pointer.{pointer_of}
 
 pub value_mut-requires : goal.value_mut-requires
 value_mut-requires g c =

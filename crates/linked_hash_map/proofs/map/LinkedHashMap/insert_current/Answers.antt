@@ -1,7 +1,4 @@
 use Rattle.std.proofs.Common.{◌≡◌, Some, slice_get, option_map, refl, sym, ap, ◌∙◌, subst}
-use Rattle.lhm_ring.specs.Positions.{pointer_of}
-use Rattle.lhm_ring.specs.RingState.{change_at}
-use Rattle.lhm_ring.specs.RingAfterLoan.{revalued}
 use Rattle.linked_hash_map.specs.Nodes.{pairs_of, bare, before, visit_of, current_of}
 use Rattle.linked_hash_map.specs.Indexes.{IsIndex}
 use Rattle.linked_hash_map.specs.Pairs.{put}
@@ -11,6 +8,8 @@ use Rattle.linked_hash_map.proofs.nodes.Outside.{IsElsewhere}
 use Rattle.linked_hash_map.proofs.nodes.PutPair.{IsTouchedAt, touched_cut, value-touched, pair-touched, pairs-put, length-put}
 use Rattle.linked_hash_map.proofs.nodes.PutPair.{IsKept-put_current, to_visit-put, outside-put}
 use Rattle.linked_hash_map.proofs.map.LinkedHashMap.insert_current.Goals as goal
+use Rattle.lhm_ring.specs.Pointer.{pointer_of}
+use Rattle.lhm_ring.specs.Ring.{change_at, revalued}
 
 pub touch-requires : goal.touch-requires
 touch-requires g c = (CutAt-current c.self.invariant (current_of-Some c.current.ensures c.unwrap-at.ensures)).held

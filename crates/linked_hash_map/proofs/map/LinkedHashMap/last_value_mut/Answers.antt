@@ -1,8 +1,5 @@
 use Rattle.std.proofs.Common.{◌≡◌, ◌-◌, ◌∙◌, [], ◌∷◌, length, option_map, Some, refl, ap, sym, arith, length-append}
-use Rattle.lhm_ring.specs.Positions.{pointer_of, pointer_of_some}
-use Rattle.lhm_ring.specs.RingState.{change_at}
-use Rattle.lhm_ring.specs.RingAfterLoan.{revalued}
-use Rattle.lhm_ring.proofs.Ends.{Last-last_at, last_held}
+use Rattle.lhm_ring.proofs.rings.Ends.{Last-last_at, last_held}
 use Rattle.linked_hash_map.specs.Indexes.{set_value_at}
 use Rattle.linked_hash_map.specs.Nodes.{pairs_of}
 use Rattle.linked_hash_map.proofs.nodes.Current.{IsKept-with_value}
@@ -11,6 +8,8 @@ use Rattle.linked_hash_map.proofs.nodes.HeldPairs.{bare-change, length-pairs_of}
 use Rattle.linked_hash_map.proofs.nodes.CutNodes.{pairs_of-change_at}
 use Rattle.linked_hash_map.proofs.nodes.Kept.{IsValid-view, map_of-revalued}
 use Rattle.linked_hash_map.proofs.map.LinkedHashMap.last_value_mut.Goals as goal
+use Rattle.lhm_ring.specs.Pointer.{pointer_of, pointer_of_some}
+use Rattle.lhm_ring.specs.Ring.{change_at, revalued}
 
 pub value_mut-requires : goal.value_mut-requires
 value_mut-requires g c =

@@ -1,8 +1,4 @@
 use Rattle.std.proofs.Common.{Some, None, slice_get, option_map, refl, sym, ap, ◌∙◌}
-use Rattle.lhm_ring.specs.Positions.{pointer_of}
-use Rattle.lhm_ring.specs.RingState.{change_at}
-use Rattle.lhm_ring.specs.RingAfterLoan.{revalued}
-use Rattle.lhm_ring.specs.TableAfterLoan.{with_value}
 use Rattle.linked_hash_map.specs.Indexes.{set_value_at}
 use Rattle.linked_hash_map.specs.Nodes.{pairs_of, map_of, beside, visit_of}
 use Rattle.linked_hash_map.proofs.nodes.HeldPairs.{bare-change}
@@ -11,6 +7,9 @@ use Rattle.linked_hash_map.proofs.nodes.Kept.{IsValid-view, map_of-revalued}
 use Rattle.linked_hash_map.proofs.lists.Options.{cond-None}
 use Rattle.linked_hash_map.proofs.nodes.Current.{current_of-Some, current_at-Some, CutAt-current, IsKept-with_value, IsKept-left}
 use Rattle.linked_hash_map.proofs.map.LinkedHashMap.leave_current.Goals as goal
+use Rattle.lhm_ring.specs.Pointer.{pointer_of}
+use Rattle.lhm_ring.specs.Ring.{change_at, revalued}
+use Rattle.lhm_ring.specs.TableAfterLoan.{with_value}
 
 pub value_mut-requires : goal.value_mut-requires
 value_mut-requires g c = (CutAt-current c.self.invariant (current_of-Some c.current.ensures c.unwrap-at.ensures)).held

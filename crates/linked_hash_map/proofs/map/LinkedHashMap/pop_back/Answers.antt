@@ -1,5 +1,4 @@
 use Rattle.std.proofs.Common.{◌-◌, remove, slice_get, refl, sym, ap, ◌∙◌}
-use Rattle.lhm_ring.specs.Positions.{pointer_of}
 use Rattle.linked_hash_map.specs.Nodes.{pairs_of}
 use Rattle.linked_hash_map.proofs.nodes.HeldPairs.{length-pairs_of}
 use Rattle.linked_hash_map.proofs.nodes.CutNodes.{CutAt-before}
@@ -10,6 +9,7 @@ use Rattle.linked_hash_map.proofs.pairs.Calls.{find-none}
 use Rattle.linked_hash_map.proofs.runs.Pops.{Updates-take_but_last}
 use Rattle.linked_hash_map.proofs.nodes.TakenNode.{pair-removed, pairs-removed, IsKept-removed}
 use Rattle.linked_hash_map.proofs.map.LinkedHashMap.pop_back.Goals as goal
+use Rattle.lhm_ring.specs.Pointer.{pointer_of}
 
 pub remove_at-requires : goal.remove_at-requires
 remove_at-requires g c = (CutAt-before (pointer_of c.in_ok-back.back) c.self.inside.table.held

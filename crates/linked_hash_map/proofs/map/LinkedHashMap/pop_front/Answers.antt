@@ -1,6 +1,5 @@
 use Rattle.std.proofs.Common.{remove, slice_get, Some, refl, sym, ap, ◌∙◌}
-use Rattle.lhm_ring.specs.Positions.{pointer_of}
-use Rattle.lhm_ring.proofs.Ends.{First-first_at, first_held}
+use Rattle.lhm_ring.proofs.rings.Ends.{First-first_at, first_held}
 use Rattle.linked_hash_map.specs.Nodes.{pairs_of}
 use Rattle.linked_hash_map.proofs.nodes.Kept.{IsValid-view}
 use Rattle.linked_hash_map.proofs.nodes.FirstAndLast.{before-first_at_within, before-first_at}
@@ -9,6 +8,7 @@ use Rattle.linked_hash_map.proofs.pairs.Calls.{find-none}
 use Rattle.linked_hash_map.proofs.runs.Pops.{Updates-drop_first}
 use Rattle.linked_hash_map.proofs.nodes.TakenNode.{pair-removed, pairs-removed, IsKept-removed}
 use Rattle.linked_hash_map.proofs.map.LinkedHashMap.pop_front.Goals as goal
+use Rattle.lhm_ring.specs.Pointer.{pointer_of}
 
 pub remove_at-requires : goal.remove_at-requires
 remove_at-requires g c = let p = pointer_of c.in_ok-front.front in

@@ -1,6 +1,4 @@
 use Rattle.std.proofs.Common.{◌≡◌, ◌<◌, None, length, refl, sym, subst, arith}
-use Rattle.lhm_ring.specs.Positions.{pointer_of}
-use Rattle.lhm_ring.specs.RingState.{held}
 use Rattle.linked_hash_map.specs.LinkedMap.{LinkedMap, cursor_state}
 use Rattle.linked_hash_map.specs.Nodes.{pairs_of, unvisited_of}
 use Rattle.linked_hash_map.specs.Hashers.{hash_by}
@@ -9,6 +7,8 @@ use Rattle.linked_hash_map.proofs.nodes.PushedPair.{IsKept-push, pairs_of-push, 
 use Rattle.linked_hash_map.proofs.nodes.HeldPairs.{length-pairs_of}
 use Rattle.linked_hash_map.proofs.nodes.Kept.{IsValid-view}
 use Rattle.linked_hash_map.proofs.map.LinkedHashMap.push_back.Goals as goal
+use Rattle.lhm_ring.specs.Pointer.{pointer_of}
+use Rattle.lhm_ring.specs.Ring.{held}
 
 pub push_back-requires : goal.push_back-requires
 push_back-requires g c =

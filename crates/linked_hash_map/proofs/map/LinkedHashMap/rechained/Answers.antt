@@ -1,5 +1,5 @@
 use Rattle.std.proofs.Common.{refl, arith}
-use Rattle.lhm_ring.proofs.BucketCounts.{buckets-below}
+use Rattle.lhm_ring.proofs.indexes.BucketCounts.{buckets-below}
 use Rattle.linked_hash_map.proofs.nodes.Kept.{IsValid-view}
 use Rattle.linked_hash_map.proofs.map.LinkedHashMap.rechained.Goals as goal
 

@@ -1,5 +1,4 @@
 use Rattle.std.proofs.Common.{◌≡◌, ◌<◌, Some, length, slice_get, remove, refl, sym, ap, ◌∙◌}
-use Rattle.lhm_ring.specs.Positions.{pointer_of}
 use Rattle.linked_hash_map.specs.Nodes.{pairs_of, bare, before, visit_of, current_of}
 use Rattle.linked_hash_map.proofs.nodes.Kept.{IsValid-view}
 use Rattle.linked_hash_map.proofs.nodes.Outside.{IsElsewhere}
@@ -7,6 +6,7 @@ use Rattle.linked_hash_map.proofs.nodes.Current.{current_of-Some, before-current
 use Rattle.linked_hash_map.proofs.nodes.Current.{current_at-Some, IsElsewhere-current, IsKept-left}
 use Rattle.linked_hash_map.proofs.nodes.TakenNode.{pair-removed, pairs-removed, to_visit-removed, IsKept-taken}
 use Rattle.linked_hash_map.proofs.map.LinkedHashMap.remove_current.Goals as goal
+use Rattle.lhm_ring.specs.Pointer.{pointer_of}
 
 pub remove_at-requires : goal.remove_at-requires
 remove_at-requires g c = (CutAt-current c.self.invariant (current_of-Some c.current.ensures c.unwrap-at.ensures)).held

@@ -1,5 +1,4 @@
 use Rattle.std.proofs.Common.{◌≡◌, take, drop, None, option_map, refl, sym, ap, ◌∙◌, subst}
-use Rattle.lhm_ring.specs.Tables.{TableState}
 use Rattle.std.specs.Map.{keys_of}
 use Rattle.linked_hash_map.specs.Nodes.{pairs_of, bare, bookmark_at, map_of, beside, bookmark_of, unvisited_of}
 use Rattle.linked_hash_map.specs.Pairs.{find}
@@ -11,6 +10,7 @@ use Rattle.linked_hash_map.proofs.pairs.Indexes.{without-index, value_at-slice_g
 use Rattle.linked_hash_map.proofs.nodes.FoundKeys.{before-HasKey, IsIndex-before}
 use Rattle.linked_hash_map.proofs.nodes.TakenNode.{pair-removed, pairs-removed, IsKept-removed}
 use Rattle.linked_hash_map.proofs.map.LinkedHashMap.remove_hashed.Goals as goal
+use Rattle.lhm_ring.specs.Table.{TableState}
 
 -- a key that is not found is absent
 absent : (g : _) (c : goal.After-from_residual g) → find g.K.PartialEq.eq c.args.self.now.pairs c.args.key.now ≡ None

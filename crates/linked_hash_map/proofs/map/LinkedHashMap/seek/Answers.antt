@@ -1,6 +1,4 @@
 use Rattle.std.proofs.Common.{Some, refl}
-use Rattle.lhm_ring.specs.Positions.{pointer_of}
-use Rattle.lhm_ring.specs.Search.{HasKey}
 use Rattle.linked_hash_map.specs.Nodes.{beside}
 use Rattle.linked_hash_map.proofs.lists.Options.{of-Some, of-None}
 use Rattle.linked_hash_map.proofs.nodes.Kept.{IsValid-view}
@@ -8,6 +6,8 @@ use Rattle.linked_hash_map.proofs.nodes.AbsentKeys.{hash_by-respects, find-IsAbs
 use Rattle.linked_hash_map.proofs.nodes.Current.{IsKept-visited}
 use Rattle.linked_hash_map.proofs.nodes.FoundKeys.{before-HasKey_bare, IsIndex-before_bare}
 use Rattle.linked_hash_map.proofs.map.LinkedHashMap.seek.Goals as goal
+use Rattle.lhm_ring.specs.Pointer.{pointer_of}
+use Rattle.lhm_ring.specs.Search.{HasKey}
 
 -- a position that is found is that of the key
 has : (g : _) (c : goal.After-self-1 g)

@@ -1,9 +1,9 @@
 use Rattle.std.proofs.Common.{refl, ap}
-use Rattle.lhm_ring.specs.Tables.{TableState}
 use Rattle.linked_hash_map.specs.Nodes.{visit_of, pairs_of}
 use Rattle.linked_hash_map.proofs.nodes.Fitted.{IsKept-fitted, to_visit-fitted, pairs_of-triples, bookmarked_lies}
 use Rattle.linked_hash_map.proofs.nodes.Kept.{IsValid-view}
 use Rattle.linked_hash_map.proofs.map.LinkedHashMap.shrink_to_fit.Goals as goal
+use Rattle.lhm_ring.specs.Table.{TableState}
 
 pub behind-behind-requires : goal.behind-behind-requires
 behind-behind-requires g c = bookmarked_lies c.self.invariant

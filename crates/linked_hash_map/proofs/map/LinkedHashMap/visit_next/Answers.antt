@@ -1,9 +1,9 @@
 use Rattle.std.proofs.Common.{refl, sym, ap, ◌∙◌, ◌-◌, Some}
-use Rattle.lhm_ring.specs.Positions.{pointer_of, pointer_of_some}
 use Rattle.linked_hash_map.specs.Nodes.{visit_of}
 use Rattle.linked_hash_map.proofs.nodes.Kept.{IsValid-view}
 use Rattle.linked_hash_map.proofs.nodes.BookmarkMoves.{Goes, bookmarked_cut, outside_on, kept_on, to_visit_on}
 use Rattle.linked_hash_map.proofs.map.LinkedHashMap.visit_next.Goals as goal
+use Rattle.lhm_ring.specs.Pointer.{pointer_of, pointer_of_some}
 
 -- the visit goes on from the pair at its bookmark
 goes : (g : _) (c : goal.After-self-1 g)

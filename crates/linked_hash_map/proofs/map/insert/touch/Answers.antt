@@ -1,7 +1,7 @@
 use Rattle.std.proofs.Common.{refl, sym, subst}
-use Rattle.lhm_ring.specs.Positions.{pointer_of}
 use Rattle.linked_hash_map.specs.Touches.{IsTouched}
 use Rattle.linked_hash_map.proofs.map.insert.touch.Goals as goal
+use Rattle.lhm_ring.specs.Pointer.{pointer_of}
 
 pub returns-in-Touch-clause-touched : goal.returns-in-Touch-clause-touched
 returns-in-Touch-clause-touched g c = subst

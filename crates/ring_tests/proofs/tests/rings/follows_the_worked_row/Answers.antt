@@ -1,6 +1,6 @@
 use Rattle.std.proofs.Common.{ℕ, [], ◌∷◌, ◌++◌, None, refl, ap, ◌∙◌}
-use Rattle.lhm_ring.specs.RingState.{Held, held}
 use Rattle.ring_tests.proofs.tests.rings.follows_the_worked_row.Goals as goal
+use Rattle.lhm_ring.specs.Ring.{Held, held}
 
 -- b, c and a are held then
 pub unlink-requires : goal.unlink-requires

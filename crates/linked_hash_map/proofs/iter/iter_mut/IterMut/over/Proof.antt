@@ -31,9 +31,7 @@ use denote.Triple.Table.{framed}
 use denote.Triple.Walked.{Stays, stay_dropped, Goes-spent_ref, ends_at}
 use Rattle.std.proofs.Common.{◌≡◌, [], ◌∷◌, ◌∙◌, refl, sym}
 use Rattle.std.proofs.raw_atomic.Walks.{proved}
-use Rattle.lhm_ring.specs.RingAfterLoan.{set_held_values}
-use Rattle.lhm_ring.specs.Tables.{TableState}
-use Rattle.lhm_ring.specs.ValueIterators as table
+use Rattle.lhm_ring.specs.Iter as table
 use Rattle.lhm_ring.specs.contracts.iter.IterMut as Nodes-type
 use Rattle.lhm_ring.specs.contracts.table.Table as Table-type
 use Rattle.lhm_ring.specs.contracts.table.Table.iter_mut as g
@@ -48,6 +46,8 @@ use Rattle.linked_hash_map.proofs.iter.iter_mut.IterMut.TheLaws as iter-laws
 use Rattle.linked_hash_map.proofs.iter.iter_mut.IterMut.of.Met as of
 use Rattle.linked_hash_map.proofs.iter.iter_mut.IterMut.over.Statement.{statement}
 use Rattle.linked_hash_map.proofs.iter.iter_mut.IterMut.over.Code as code
+use Rattle.lhm_ring.specs.Ring.{set_held_values}
+use Rattle.lhm_ring.specs.Table.{TableState}
 
 pub over_spec : {M : Type 1} → statement M
 over_spec 𝓤 𝓛 𝓜 𝓡 wired K V LK LV =

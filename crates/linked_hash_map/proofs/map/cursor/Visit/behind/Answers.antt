@@ -1,9 +1,9 @@
 use Rattle.std.proofs.Common.{Some, ap, sym, subst, ◌∙◌}
-use Rattle.lhm_ring.specs.Positions.{pointer_of, pointer_of_some}
 use Rattle.linked_hash_map.specs.Nodes.{Lies, HasBehind}
 use Rattle.linked_hash_map.proofs.nodes.Fitted.{HasBehind-cut}
 use Rattle.linked_hash_map.proofs.nodes.CutNodes.{CutAt-before}
 use Rattle.linked_hash_map.proofs.map.cursor.Visit.behind.Goals as goal
+use Rattle.lhm_ring.specs.Pointer.{pointer_of, pointer_of_some}
 
 pub behind-requires : goal.behind-requires
 behind-requires g c =

@@ -1,9 +1,9 @@
 use Rattle.std.proofs.Common.{sym, subst}
-use Rattle.lhm_ring.specs.Positions.{pointer_of_some}
 use Rattle.linked_hash_map.specs.Nodes.{HasBehind}
 use Rattle.linked_hash_map.proofs.nodes.Fitted.{HasBehind-nth_back}
 use Rattle.linked_hash_map.proofs.lists.Options.{of-Some}
 use Rattle.linked_hash_map.proofs.map.cursor.Visit.moved_to.Goals as goal
+use Rattle.lhm_ring.specs.Pointer.{pointer_of_some}
 
 pub returns-in-Some-clause-bookmark : goal.returns-in-Some-clause-bookmark
 returns-in-Some-clause-bookmark g c =

@@ -1,4 +1,4 @@
-use Rattle.lhm_ring.proofs.IndexedRing.{IsIndexed-new}
+use Rattle.lhm_ring.proofs.tables.IndexedRing.{IsIndexed-new}
 use Rattle.ring_tests.proofs.tests.index.Table.new.Goals as goal
 
 pub invariant_of-result : goal.invariant_of-result

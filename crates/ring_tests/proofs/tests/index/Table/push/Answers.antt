@@ -1,6 +1,6 @@
 use Rattle.std.proofs.Common.{sym, subst, ◌<◌}
-use Rattle.lhm_ring.proofs.IndexedRing.{length-indexed}
-use Rattle.lhm_ring.proofs.IndexPuts.{HoldsOthers-last}
+use Rattle.lhm_ring.proofs.tables.IndexedRing.{length-indexed}
+use Rattle.lhm_ring.proofs.indexes.IndexPuts.{HoldsOthers-last}
 use Rattle.ring_tests.proofs.tests.index.Table.push.Goals as goal
 
 pub put_in-requires-clause-some : goal.put_in-requires-clause-some

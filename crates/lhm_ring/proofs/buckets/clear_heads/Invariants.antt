@@ -1,0 +1,12 @@
+use Rattle.std.proofs.Common.{◌≡◌, ℕ, ◌<◌, ◌-◌, get_or, map, None, vec_len}
+use Rattle.lhm_ring.proofs.buckets.clear_heads.Given as goal
+use Rattle.lhm_ring.specs.Buckets.{leads_to}
+
+abbrev pub invariant-heads : goal.invariant-heads
+invariant-heads l = record {
+  cleared : (b : ℕ) → b < l.next → get_or (map leads_to l.heads.items) b None ≡ None;
+  buckets : vec_len l.heads ≡ vec_len l.fn.heads;
+}
+
+abbrev pub decreases-heads : goal.decreases-heads
+decreases-heads l = vec_len l.heads - l.next

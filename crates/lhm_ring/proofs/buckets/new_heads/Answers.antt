@@ -1,0 +1,15 @@
+use Rattle.std.proofs.Common.{◌≡◌, ◌∙◌, ℕ, List, arith, get_or, map, None, sym, subst}
+use Rattle.lhm_ring.specs.declared.buckets.Head.{Head}
+use Rattle.lhm_ring.proofs.indexes.BucketHeads.{get_or-pushed}
+use Rattle.lhm_ring.proofs.buckets.new_heads.Goals as goal
+use Rattle.lhm_ring.specs.Buckets.{leads_to}
+
+pub heads-preserved : goal.heads-preserved
+heads-preserved c = record {
+  empty = subst (λ (xs : List Head). (b : ℕ) → get_or (map leads_to xs) b None ≡ None) (sym c.push_reserved.ensures.items) (get_or-pushed c.heads.heads.items (record { link = c.none.result }) c.none.ensures c.heads.invariant.empty);
+  few = omega (arith, c.push_reserved.ensures.len, c.len.ensures, c.heads-test.true);
+  capacity = c.push_reserved.ensures.capacity ∙ c.heads.invariant.capacity;
+}
+
+pub returns-clause-empty : goal.returns-clause-empty
+returns-clause-empty c = λ b l. c.heads.invariant.empty b

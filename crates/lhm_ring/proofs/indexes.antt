@@ -1,0 +1,12 @@
+pub mod BucketCounts
+pub mod BucketHeads
+pub mod Chains
+pub mod Entries
+pub mod Filters
+pub mod IndexMoves
+pub mod IndexPuts
+pub mod IndexTakes
+pub mod NodeBefore
+pub mod Searches
+pub mod Spots
+pub mod WholeIndex

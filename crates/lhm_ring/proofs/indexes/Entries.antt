@@ -1,0 +1,160 @@
+-- Nodes with no chain link: what a change of chain links alone leaves.
+use Rattle.std.proofs.Common.{◌≡◌, ℕ, List, [], ◌∷◌, ◌++◌, refl, sym, ◌∙◌, ap, Bool, Option, None, ◌%◌, true, false, cond, length, map, Some, subst, eqb, arith}
+use denote.RawPtr.{Ptr}
+use Rattle.std.specs.Prelude.{count_by}
+use Rattle.std.proofs.lemmas.List.{map-append, length-map}
+use Rattle.lhm_ring.proofs.lists.RearrangedCounts.{count_by-cons}
+use Rattle.lhm_ring.specs.Ring.{Held, IsHeld, AtHeld, linked_to, first_at, last_at, last_of, change_at, triples, SplitAt, revalued}
+use Rattle.lhm_ring.specs.Index.{entries, spot, spots, same, beside}
+use Rattle.lhm_ring.specs.Search.{HasKey, IsAbsent, Compares, CountsSome, CountsAll}
+use Rattle.lhm_ring.specs.Nodes.{same_ptr}
+
+pub entries-link : {K V : Type 0} (before : List (Held (K × V))) (x : Held (K × V)) (after : List (Held (K × V))) (l : Option Ptr) → entries (before ++ linked_to l x ∷ after) ≡ entries (before ++ x ∷ after)
+entries-link [] x after l = refl
+entries-link (y ∷ before) x after l = ap (λ v. linked_to None y ∷ v) (entries-link before x after l)
+
+pub entries-linked_to : {K V : Type 0} (old new : List (Held (K × V))) (p : Ptr) (l : Option Ptr) → IsHeld old p → AtHeld old p (λ before x after. new ≡ before ++ linked_to l x ∷ after) → entries new ≡ entries old
+entries-linked_to old new p l h s =
+    ap entries (s h.before h.node h.after h.is h.at_is) ∙ entries-link h.before h.node h.after l ∙ ap entries (sym h.is)
+
+abbrev SplitLike : {K V : Type 0} → List (Held (K × V)) → Held (K × V) → Type 0
+SplitLike nodes x = SplitAt (linked_to None) nodes (linked_to None x)
+
+SplitLike-entries : {K V : Type 0} (nodes before : List (Held (K × V))) (x : Held (K × V)) (after : List (Held (K × V))) → entries nodes ≡ entries (before ++ x ∷ after) → SplitLike nodes x
+SplitLike-entries [] [] x after e = absurd (cc)
+SplitLike-entries [] (b ∷ before) x after e = absurd (cc)
+SplitLike-entries (y ∷ nodes) [] x after e = record { before = []; node = y; after = nodes; is = refl; at_is = (cc) }
+SplitLike-entries (y ∷ nodes) (b ∷ before) x after e =
+    let f : entries nodes ≡ entries (before ++ x ∷ after) = cc in
+    let i : SplitLike nodes x = SplitLike-entries nodes before x after f in
+    record { before = y ∷ i.before; node = i.node; after = i.after; is = ap (λ v. y ∷ v) i.is; at_is = i.at_is }
+
+pub IsHeld-kept : {K V : Type 0} (old new : List (Held (K × V))) (p : Ptr) → entries new ≡ entries old → IsHeld old p → IsHeld new p
+IsHeld-kept old new p e h =
+    let i : SplitLike new h.node = SplitLike-entries new h.before h.node h.after (e ∙ ap entries h.is) in
+    record { before = i.before; node = i.node; after = i.after; is = i.is; at_is = ap (λ v. v.at) i.at_is ∙ h.at_is }
+
+pub HasKey-kept : {K V : Type 0} (eq : K → K → Bool) (hash : ℕ) (key : K) (old new : List (Held (K × V))) (p : Ptr) → entries new ≡ entries old → HasKey eq hash key old p → HasKey eq hash key new p
+HasKey-kept {K} {V} eq hash key old new p e h =
+    let back : (before : List (Held (K × V))) (x : Held (K × V)) (after : List (Held (K × V))) → new ≡ before ++ x ∷ after → SplitLike old x =
+    λ b x a i. SplitLike-entries old b x a (sym e ∙ ap entries i) in
+    record {
+      held = IsHeld-kept old new p e h.held;
+      hash_is = λ b x a i j. ap (λ v. v.hash) (sym (back b x a i).at_is) ∙ h.hash_is (back b x a i).before (back b x a i).node (back b x a i).after (back b x a i).is (ap (λ v. v.at) (back b x a i).at_is ∙ j);
+      key_is = λ b x a i j. ap (λ v. eq key v.pair.0) (sym (back b x a i).at_is) ∙ h.key_is (back b x a i).before (back b x a i).node (back b x a i).after (back b x a i).is (ap (λ v. v.at) (back b x a i).at_is ∙ j);
+    }
+
+module _ {K V : Type 0} where
+  pub entries-append : (xs ys : List (Held (K × V))) → entries (xs ++ ys) ≡ entries xs ++ entries ys
+  entries-append xs ys = map-append (linked_to {B = K × V} None) xs ys
+
+  pub entries-entries : (hs : List (Held (K × V))) → entries (entries hs) ≡ entries hs
+  entries-entries [] = refl
+  entries-entries (t ∷ hs) = ap (λ ys. linked_to None t ∷ ys) (entries-entries hs)
+
+  pub length-entries : (hs : List (Held (K × V))) → length (entries hs) ≡ length hs
+  length-entries hs = length-map hs (linked_to {B = K × V} None)
+
+  pub pointers-entries : (hs : List (Held (K × V))) → map (λ t. t.at) (entries hs) ≡ map (λ t. t.at) hs
+  pointers-entries [] = refl
+  pointers-entries (t ∷ hs) = ap (λ ps. t.at ∷ ps) (pointers-entries hs)
+
+  pub triples-entries : (hs : List (Held (K × V))) → triples (entries hs) ≡ triples hs
+  triples-entries [] = refl
+  triples-entries (t ∷ hs) = ap (λ ts. (t.hash, t.pair) ∷ ts) (triples-entries hs)
+
+  pub first_at-entries : (hs : List (Held (K × V))) → first_at (entries hs) ≡ first_at hs
+  first_at-entries [] = refl
+  first_at-entries (t ∷ hs) = refl
+
+  last_of-entries : (t : Held (K × V)) (hs : List (Held (K × V))) → last_of (linked_to None t) (entries hs) ≡ last_of t hs
+  last_of-entries t [] = refl
+  last_of-entries t (u ∷ hs) = last_of-entries u hs
+
+  pub last_at-entries : (hs : List (Held (K × V))) → last_at (entries hs) ≡ last_at hs
+  last_at-entries [] = refl
+  last_at-entries (t ∷ hs) = ap Some (last_of-entries t hs)
+
+  pub entries-change_at : (p : Ptr) (w : V) (hs : List (Held (K × V))) → entries (change_at p (revalued w) hs) ≡ change_at p (revalued w) (entries hs)
+  entries-change_at p w [] = refl
+  entries-change_at p w (t ∷ hs) =
+      elim (same_ptr t.at p) as (λ b. linked_to None (cond b (revalued w t) t) ∷ entries (change_at p (revalued w) hs) ≡ cond b (revalued w (linked_to None t)) (linked_to None t) ∷ change_at p (revalued w) (entries hs)) [
+        | true ↦ ap (λ ys. linked_to None (revalued w t) ∷ ys) (entries-change_at p w hs)
+        | false ↦ ap (λ ys. linked_to None t ∷ ys) (entries-change_at p w hs)
+      ]
+
+  -- nodes whose entries are cut at one of them are cut there too
+  pub record EntriesCut (hs xs : List (Held (K × V))) (t : Held (K × V)) (ys : List (Held (K × V))) : Type 0 where
+    pub split : SplitAt (linked_to None) hs t
+    pub before_is : entries split.before ≡ xs
+    pub after_is : entries split.after ≡ ys
+
+  pub EntriesCut-split : (hs xs : List (Held (K × V))) (t : Held (K × V)) (ys : List (Held (K × V))) → entries hs ≡ xs ++ t ∷ ys → EntriesCut hs xs t ys
+  EntriesCut-split [] [] t ys e = absurd (cc)
+  EntriesCut-split [] (x ∷ xs) t ys e = absurd (cc)
+  EntriesCut-split (h ∷ hs) [] t ys e = record { split = record { before = []; node = h; after = hs; is = refl; at_is = (cc) }; before_is = refl; after_is = (cc) }
+  EntriesCut-split (h ∷ hs) (x ∷ xs) t ys e =
+      let rest : entries hs ≡ xs ++ t ∷ ys = cc in
+      let first : linked_to None h ≡ x = cc in
+      let i : EntriesCut hs xs t ys = EntriesCut-split hs xs t ys rest in
+      let k = i.split in
+      record {
+        split = record { before = h ∷ k.before; node = k.node; after = k.after; is = ap (λ zs. h ∷ zs) k.is; at_is = k.at_is };
+        before_is = (λ j. first j ∷ i.before_is j);
+        after_is = i.after_is;
+      }
+
+  -- what lies at a position of the entries
+  pub IsHeld-entries : (hs : List (Held (K × V))) (p : Ptr) → IsHeld (entries hs) p → IsHeld hs p
+  IsHeld-entries hs p h = IsHeld-kept (entries hs) hs p (sym (entries-entries hs)) h
+
+  pub AtHeld-entries : (hs : List (Held (K × V))) (p : Ptr) (P : List (Held (K × V)) → Held (K × V) → List (Held (K × V)) → Type 0) → AtHeld hs p (λ xs t ys. P (entries xs) (linked_to None t) (entries ys)) → AtHeld (entries hs) p P
+  AtHeld-entries hs p P h xs t ys e at =
+      let i : EntriesCut hs xs t ys = EntriesCut-split hs xs t ys e in
+      let k = i.split in
+      let seen : P (entries k.before) (linked_to None k.node) (entries k.after) = h k.before k.node k.after k.is (ap (λ (u : Held (K × V)). u.at) k.at_is ∙ at) in
+      subst (λ (z : List (Held (K × V)) × (Held (K × V) × List (Held (K × V)))). P z.0 z.1.0 z.1.1) (λ j. (i.before_is j, (k.at_is j, i.after_is j))) seen
+
+  -- searches
+  pub HasKey-entries : (eq : K → K → Bool) (hash : ℕ) (key : K) (hs : List (Held (K × V))) (p : Ptr) → HasKey eq hash key hs p → HasKey eq hash key (entries hs) p
+  HasKey-entries eq hash key hs p h = HasKey-kept eq hash key hs (entries hs) p (entries-entries hs) h
+
+  pub IsAbsent-entries : (eq : K → K → Bool) (hash : ℕ) (key : K) (hs : List (Held (K × V))) → IsAbsent eq hash key hs → IsAbsent eq hash key (entries hs)
+  IsAbsent-entries eq hash key hs none xs t ys e =
+      let k = (EntriesCut-split hs xs t ys e).split in
+      subst (λ (u : Held (K × V)). Compares eq hash key u false) k.at_is (none k.before k.node k.after k.is)
+
+  count_by-entries : (test : ℕ → Bool) (hs : List (Held (K × V))) → count_by (λ s. test s.hash) (spots (entries hs)) ≡ count_by (λ s. test s.hash) (spots hs)
+  count_by-entries test [] = refl
+  count_by-entries test (t ∷ hs) =
+      let rest = count_by-entries test hs in
+      let left = count_by-cons (λ s. test s.hash) (spot (linked_to None t)) (spots (entries hs)) in
+      let right = count_by-cons (λ s. test s.hash) (spot t) (spots hs) in
+      omega (arith, rest, left, right)
+
+  pub same-entries : (hs : List (Held (K × V))) (hash : ℕ) → same (spots (entries hs)) hash ≡ same (spots hs) hash
+  same-entries hs hash = count_by-entries (λ n. eqb n hash) hs
+
+  pub beside-entries : (hs : List (Held (K × V))) (n hash : ℕ) → beside (spots (entries hs)) n hash ≡ beside (spots hs) n hash
+  beside-entries hs n hash = count_by-entries (λ m. eqb (m % n) (hash % n)) hs
+
+  pub CountsSome-entries : (hs : List (Held (K × V))) (m n hash visited compared : ℕ) → m ≡ n → CountsSome (spots hs) m hash visited compared → CountsSome (spots (entries hs)) n hash visited compared
+  CountsSome-entries hs m n hash visited compared wide c =
+      let all = same-entries hs hash in
+      let near = beside-entries hs m hash in
+      let here = ap (λ k. beside (spots (entries hs)) k hash) wide in
+      record { some = c.some; compared_few = omega (arith, all, c.compared_few); order = c.order; visited_few = omega (arith, near, here, c.visited_few) }
+
+  pub CountsAll-entries : (hs : List (Held (K × V))) (m n hash visited compared : ℕ) → m ≡ n → CountsAll (spots hs) m hash visited compared → CountsAll (spots (entries hs)) n hash visited compared
+  CountsAll-entries hs m n hash visited compared wide c = record {
+    visited_all = c.visited_all ∙ sym (beside-entries hs m hash) ∙ ap (λ k. beside (spots (entries hs)) k hash) wide;
+    compared_all = c.compared_all ∙ sym (same-entries hs hash);
+  }
+
+-- nodes with the same entries are as many
+pub length-same_entries : {K V : Type 0} (hs ks : List (Held (K × V))) → entries hs ≡ entries ks → length hs ≡ length ks
+length-same_entries hs ks e = sym (length-entries hs) ∙ ap length e ∙ length-entries ks
+
+-- those with the same triples too
+pub length-same_triples : {B : Type 0} (hs ks : List (Held B)) → triples hs ≡ triples ks → length hs ≡ length ks
+length-same_triples hs ks e = sym (length-map hs (λ t. (t.hash, t.pair))) ∙ ap length e ∙ length-map ks (λ t. (t.hash, t.pair))

@@ -1,0 +1,51 @@
+-- What the ring's own changes leave of the index: a node put last, unlinked, moved, or its value
+-- written.
+use Rattle.std.proofs.Common.{◌≡◌, List, [], ◌∷◌, ◌++◌, refl, sym, ◌∙◌, ap, subst, Bool, true, false, cond, length, Option, append-nil}
+use Rattle.std.specs.Prelude.{filter}
+use denote.RawPtr.{Ptr}
+use Rattle.lhm_ring.proofs.lists.Rearranged.{IsRearranged-again}
+use Rattle.lhm_ring.proofs.lists.RearrangedFilters.{PutsIn-filter_in, filter-PutsIn}
+use Rattle.lhm_ring.proofs.indexes.Spots.{PutsIn-spots}
+use Rattle.lhm_ring.specs.Ring.{Held, change_at, revalued, set_held_values}
+use Rattle.lhm_ring.specs.Index.{PutsIn, IsRearranged, is_in, Indexes, Spot, spot, spots}
+use Rattle.lhm_ring.specs.Nodes.{same_ptr}
+
+-- a spot that stands elsewhere in the list
+Indexes-elsewhere : (heads : List (Option Ptr)) (s : Spot) (zs xs ys : List Spot) → PutsIn s zs xs → PutsIn s zs ys → Indexes heads xs → Indexes heads ys
+Indexes-elsewhere heads s zs xs ys p q h = record {
+  chains = λ b l.
+      let c = h.chains b l in
+      let f : Spot → Bool = is_in (length heads) b in
+      let choose : (t : Bool) → f s ≡ t → IsRearranged c.chain (filter f ys) =
+      elim [
+        | true ↦ λ e. IsRearranged-again s c.chain (filter f zs) (filter f xs) (filter f ys) c.holds (PutsIn-filter_in f s zs xs p e) (PutsIn-filter_in f s zs ys q e)
+        | false ↦ λ e. subst (λ (v : List Spot). IsRearranged c.chain v) (filter-PutsIn f s zs xs p e ∙ sym (filter-PutsIn f s zs ys q e)) c.holds
+      ] in
+      record { chain = c.chain; linked = c.linked; holds = choose (f s) refl };
+  none = λ z. absurd (some s zs xs p (h.none z));
+}
+  where
+    some : (s : Spot) (zs xs : List Spot) → PutsIn s zs xs → xs ≡ [] → ⊥
+    some s zs xs p e = subst (λ (v : List Spot). PutsIn s zs v) e p
+
+-- moved to the back
+pub Indexes-to_back : {K V : Type 0} (heads : List (Option Ptr)) (before : List (Held (K × V))) (x : Held (K × V)) (after : List (Held (K × V))) → Indexes heads (spots (before ++ x ∷ after)) → Indexes heads (spots ((before ++ after) ++ x ∷ []))
+Indexes-to_back {K} {V} heads before x after h =
+    let p : PutsIn (spot x) (spots ((before ++ after) ++ [])) (spots ((before ++ after) ++ x ∷ [])) = PutsIn-spots (before ++ after) x [] in
+    let q : PutsIn (spot x) (spots (before ++ after)) (spots ((before ++ after) ++ x ∷ [])) = subst (λ (v : List (Held (K × V))). PutsIn (spot x) (spots v) (spots ((before ++ after) ++ x ∷ []))) (append-nil (before ++ after)) p in
+    Indexes-elsewhere heads (spot x) (spots (before ++ after)) (spots (before ++ x ∷ after)) (spots ((before ++ after) ++ x ∷ [])) (PutsIn-spots before x after) q h
+
+-- the value at p written
+pub spots-value : {K V : Type 0} (p : Ptr) (w : V) (nodes : List (Held (K × V))) → spots (change_at p (revalued w) nodes) ≡ spots nodes
+spots-value p w [] = refl
+spots-value p w (x ∷ nodes) =
+    elim (same_ptr x.at p) as (λ b. spot (cond b (revalued w x) x) ∷ spots (change_at p (revalued w) nodes) ≡ spot x ∷ spots nodes) [
+      | true ↦ ap (λ v. spot x ∷ v) (spots-value p w nodes)
+      | false ↦ ap (λ v. spot x ∷ v) (spots-value p w nodes)
+    ]
+
+-- all values written
+pub spots-values : {K V : Type 0} (nodes : List (Held (K × V))) (vs : List V) → spots (set_held_values nodes vs) ≡ spots nodes
+spots-values [] vs = refl
+spots-values (x ∷ nodes) [] = refl
+spots-values (x ∷ nodes) (v ∷ vs) = ap (λ ss. spot x ∷ ss) (spots-values nodes vs)

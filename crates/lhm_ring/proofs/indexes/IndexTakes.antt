@@ -1,0 +1,121 @@
+-- A node is removed from its chain.
+use Rattle.std.proofs.Common.{◌≡◌, ℕ, ◌%◌, ◌<◌, List, [], ◌∷◌, ◌++◌, inl, inr, sym, ◌∙◌, ap, subst, Bool, true, length, get_or, set, arith, Option, Some, None, append_assoc}
+use Rattle.std.specs.Prelude.{filter}
+use Rattle.std.proofs.lemmas.Bool.{cases_lt}
+use Rattle.std.proofs.Math.Nat.{mod-lt}
+use denote.RawPtr.{Ptr}
+use Rattle.lhm_ring.proofs.lists.Rearranged.{PutsIn-middle, IsRearranged-less, PutsIn-later, IsRearranged-member}
+use Rattle.lhm_ring.proofs.lists.RearrangedFilters.{PutsPassing, PutsPassing-filter, PutsIn-filter_in}
+use Rattle.lhm_ring.proofs.indexes.Spots.{NodeOf, NodeOf-spot, IsHeld-spot, PutsIn-spots}
+use Rattle.lhm_ring.proofs.indexes.WholeIndex.{Indexes-take_first, Indexes-take_next}
+use Rattle.lhm_ring.specs.Ring.{Held, IsHeld, AtHeld, linked_to, SplitLast}
+use Rattle.lhm_ring.specs.Index.{PutsIn, IsRearranged, IsChain, is_in, Indexes, Spot, spot, spots, OfNodeAt, IsLast, IsOnChain, HoldsOthers}
+
+-- a spot of a chain is a held node's
+pub record OnNode {K V : Type 0} (n b : ℕ) (s : Spot) (nodes : List (Held (K × V))) : Type 0 where
+  pub ws : List Spot
+  pub puts : PutsIn s ws (spots nodes)
+  pub passes : is_in n b s ≡ true
+  pub of : NodeOf s ws nodes
+
+pub OnNode-rearranged : {K V : Type 0} (n b : ℕ) (done : List Spot) (s : Spot) (rest : List Spot) (nodes : List (Held (K × V))) → IsRearranged (done ++ s ∷ rest) (filter (is_in n b) (spots nodes)) → OnNode n b s nodes
+OnNode-rearranged n b done s rest nodes h =
+    let q : Spot → Bool = is_in n b in
+    let m : (ws : List Spot) × PutsIn s ws (filter q (spots nodes)) = IsRearranged-member done s rest (filter q (spots nodes)) h in
+    let t : PutsPassing q s (spots nodes) = PutsPassing-filter q s m.0 (spots nodes) m.1 in
+    record { ws = t.without; puts = t.puts; passes = t.passes; of = NodeOf-spot s t.without nodes t.puts }
+
+pub IsHeld-on_chain : {K V : Type 0} {heads : List (Option Ptr)} {hash : ℕ} {nodes : List (Held (K × V))} {before : Option Ptr} {p : Ptr} → IsOnChain heads hash (spots nodes) before p → IsHeld nodes p
+IsHeld-on_chain {K} {V} {heads} {hash} {nodes} {before} {p} w =
+    let o : OnNode (length heads) (hash % length heads) w.here nodes = OnNode-rearranged (length heads) (hash % length heads) w.done w.here w.rest nodes w.holds in
+    IsHeld-spot o.of w.at_is
+
+PutsIn-some : {X : Type 0} (x : X) (xs : List X) → PutsIn x xs [] → ⊥
+PutsIn-some x xs h = h
+
+pub length-on_chain : {heads : List (Option Ptr)} {hash : ℕ} {xs : List Spot} {before : Option Ptr} {p : Ptr} → Indexes heads xs → IsOnChain heads hash xs before p → 0 < length heads
+length-on_chain {heads} {hash} {xs} {before} {p} h w =
+    let f : Spot → Bool = is_in (length heads) (hash % length heads) in
+    let m : (ws : List Spot) × PutsIn w.here ws (filter f xs) = IsRearranged-member w.done w.here w.rest (filter f xs) w.holds in
+    let t : PutsPassing f w.here xs = PutsPassing-filter f w.here m.0 xs m.1 in
+    elim (cases_lt 0 (length heads)) [
+      | inl l ↦ l
+      | inr l ↦ absurd (PutsIn-some w.here t.without (subst (λ (v : List Spot). PutsIn w.here t.without v) (h.none (omega arith)) t.puts))
+    ]
+
+-- the one before, if there is one
+abbrev HasBefore : List Spot → Ptr → Type 0
+HasBefore = SplitLast (λ s. s.at)
+
+HasBefore-last : (before : Option Ptr) (done : List Spot) (q : Ptr) → before ≡ Some q → IsLast before done → HasBefore done q
+HasBefore-last before done q e (inl h) = absurd (let f : before ≡ None = h.1 in cc)
+HasBefore-last before done q e (inr h) = record { before = h.before; node = h.node; is = h.is; at_is = (let f : Some h.node.at ≡ before = h.at_is in cc) }
+
+none-IsLast : (before : Option Ptr) (done : List Spot) → before ≡ None → IsLast before done
+    → done ≡ []
+none-IsLast before done e (inl h) = h.0
+none-IsLast before done e (inr h) = absurd (let f : Some h.node.at ≡ before = h.at_is in cc)
+
+-- the chain, split at the one before
+append-before : (done : List Spot) (q : Ptr) (b : HasBefore done q) (s : Spot) (rest : List Spot) → done ++ s ∷ rest ≡ b.before ++ b.node ∷ s ∷ rest
+append-before done q b s rest = ap (λ (v : List Spot). v ++ s ∷ rest) b.is ∙ append_assoc b.before (b.node ∷ []) (s ∷ rest)
+
+pub IsHeld-before : {K V : Type 0} {heads : List (Option Ptr)} {hash : ℕ} {nodes : List (Held (K × V))} {before : Option Ptr} {p : Ptr} (q : Ptr) → before ≡ Some q → IsOnChain heads hash (spots nodes) before p → IsHeld nodes q
+IsHeld-before {K} {V} {heads} {hash} {nodes} {before} {p} q e w =
+    let b : HasBefore w.done q = HasBefore-last before w.done q e w.behind in
+    let f : Spot → Bool = is_in (length heads) (hash % length heads) in
+    let h : IsRearranged (b.before ++ b.node ∷ w.here ∷ w.rest) (filter f (spots nodes)) = subst (λ (v : List Spot). IsRearranged v (filter f (spots nodes))) (append-before w.done q b w.here w.rest) w.holds in
+    let o : OnNode (length heads) (hash % length heads) b.node nodes = OnNode-rearranged (length heads) (hash % length heads) b.before b.node (w.here ∷ w.rest) nodes h in
+    IsHeld-spot o.of b.at_is
+
+pub HoldsOthers-take_first : {K V : Type 0} {heads : List (Option Ptr)} {hash : ℕ} {nodes : List (Held (K × V))} {before : Option Ptr} {p : Ptr} (link : Option Ptr) → before ≡ None → Indexes heads (spots nodes) → IsOnChain heads hash (spots nodes) before p → OfNodeAt nodes p (λ x. link ≡ x.link) → HoldsOthers (set heads (hash % length heads) link) nodes p
+HoldsOthers-take_first {K} {V} {heads} {hash} {nodes} {before} {p} link e h w l =
+    let n : ℕ = length heads in
+    let bucket : ℕ = hash % n in
+    let f : Spot → Bool = is_in n bucket in
+    let none : w.done ≡ [] = none-IsLast before w.done e w.behind in
+    let linked : IsChain (get_or heads bucket None) (w.here ∷ w.rest) = subst (λ (v : List Spot). IsChain (get_or heads bucket None) (v ++ w.here ∷ w.rest)) none w.linked in
+    let holds : IsRearranged (w.here ∷ w.rest) (filter f (spots nodes)) = subst (λ (v : List Spot). IsRearranged (v ++ w.here ∷ w.rest) (filter f (spots nodes))) none w.holds in
+    let o : OnNode n bucket w.here nodes = OnNode-rearranged n bucket w.done w.here w.rest nodes w.holds in
+    let held : IsHeld nodes p = IsHeld-spot o.of w.at_is in
+    let link_is : link ≡ w.here.link = l held.before held.node held.after held.is held.at_is ∙ ap (λ v. v.link) o.of.split.at_is in
+    let i : Indexes (set heads bucket w.here.link) o.ws = Indexes-take_first heads bucket w.here w.rest o.ws (spots nodes) h (mod-lt hash (length-on_chain h w)) linked holds o.puts in
+    record {
+      held = held;
+      others = subst (λ (v : Option Ptr). Indexes (set heads bucket v) (spots (held.before ++ held.after))) (sym link_is) (subst (λ (v : List Spot). Indexes (set heads bucket w.here.link) v) o.of.others i);
+    }
+
+-- the same, with the heads and their count as the code has them
+pub HoldsOthers-take_first_items : {K V : Type 0} {heads : List (Option Ptr)} {hash : ℕ} {nodes : List (Held (K × V))} {before : Option Ptr} {p : Ptr} (items : List (Option Ptr)) (count : ℕ) (link : Option Ptr) → items ≡ heads → count ≡ length items → before ≡ None → Indexes heads (spots nodes) → IsOnChain heads hash (spots nodes) before p → OfNodeAt nodes p (λ x. link ≡ x.link) → HoldsOthers (set items (hash % count) link) nodes p
+HoldsOthers-take_first_items {K} {V} {heads} {hash} {nodes} {before} {p} items count link is many e h w l =
+    let k : HoldsOthers (set heads (hash % length heads) link) nodes p = HoldsOthers-take_first link e h w l in
+    let c : count ≡ length heads = many ∙ ap length is in
+    subst (λ (v : List (Option Ptr)). HoldsOthers (set v (hash % count) link) nodes p) (sym is)
+    (subst (λ (v : ℕ). HoldsOthers (set heads (hash % v) link) nodes p) (sym c) k)
+
+pub HoldsOthers-take_next : {K V : Type 0} {heads : List (Option Ptr)} {hash : ℕ} {nodes : List (Held (K × V))} {before : Option Ptr} {p : Ptr} (nodes' : List (Held (K × V))) (q : Ptr) (link : Option Ptr) → before ≡ Some q → Indexes heads (spots nodes) → IsOnChain heads hash (spots nodes) before p → OfNodeAt nodes p (λ x. link ≡ x.link) → AtHeld nodes q (λ before x after. nodes' ≡ before ++ linked_to link x ∷ after) → HoldsOthers heads nodes' p
+HoldsOthers-take_next {K} {V} {heads} {hash} {nodes} {before} {p} nodes' q link e h w l sets =
+    let n : ℕ = length heads in
+    let bucket : ℕ = hash % n in
+    let f : Spot → Bool = is_in n bucket in
+    let b : HasBefore w.done q = HasBefore-last before w.done q e w.behind in
+    let split : w.done ++ w.here ∷ w.rest ≡ b.before ++ b.node ∷ w.here ∷ w.rest = append-before w.done q b w.here w.rest in
+    let linked : IsChain (get_or heads bucket None) (b.before ++ b.node ∷ w.here ∷ w.rest) = subst (λ (v : List Spot). IsChain (get_or heads bucket None) v) split w.linked in
+    let holds : IsRearranged (b.before ++ b.node ∷ w.here ∷ w.rest) (filter f (spots nodes)) = subst (λ (v : List Spot). IsRearranged v (filter f (spots nodes))) split w.holds in
+    let o : OnNode n bucket w.here nodes = OnNode-rearranged n bucket w.done w.here w.rest nodes w.holds in
+    let held : IsHeld nodes p = IsHeld-spot o.of w.at_is in
+    let link_is : link ≡ w.here.link = l held.before held.node held.after held.is held.at_is ∙ ap (λ v. v.link) o.of.split.at_is in
+    let y : OnNode n bucket b.node nodes = OnNode-rearranged n bucket b.before b.node (w.here ∷ w.rest) nodes holds in
+    let z : IsHeld nodes q = IsHeld-spot y.of b.at_is in
+    let nodes_are : nodes' ≡ z.before ++ linked_to link z.node ∷ z.after = sets z.before z.node z.after z.is z.at_is in
+    let y' : Spot = spot (linked_to link z.node) in
+    let put' : PutsIn y' y.ws (spots nodes') =
+    subst (λ (v : List Spot). PutsIn y' v (spots nodes')) (sym y.of.others)
+    (subst (λ (v : List (Held (K × V))). PutsIn y' (spots (z.before ++ z.after)) (spots v)) (sym nodes_are) (PutsIn-spots z.before (linked_to link z.node) z.after)) in
+    let less : IsRearranged (b.before ++ w.here ∷ w.rest) (filter f y.ws) = IsRearranged-less b.node (b.before ++ w.here ∷ w.rest) (b.before ++ b.node ∷ w.here ∷ w.rest) (filter f y.ws) (filter f (spots nodes)) (PutsIn-middle b.before b.node (w.here ∷ w.rest)) (PutsIn-filter_in f b.node y.ws (spots nodes) y.puts y.passes) holds in
+    let m : (ws : List Spot) × PutsIn w.here ws (filter f y.ws) = IsRearranged-member b.before w.here w.rest (filter f y.ws) less in
+    let t : PutsPassing f w.here y.ws = PutsPassing-filter f w.here m.0 y.ws m.1 in
+    let s : (ws : List Spot) × PutsIn w.here ws (spots nodes') = PutsIn-later w.here y' t.without y.ws (spots nodes') t.puts put' in
+    let of : NodeOf w.here s.0 nodes' = NodeOf-spot w.here s.0 nodes' s.1 in
+    let i : Indexes heads s.0 = Indexes-take_next heads bucket b.before b.node y' w.here w.rest y.ws (spots nodes) (spots nodes') s.0 h (mod-lt hash (length-on_chain h w)) linked holds (ap (λ v. v.at) y.of.split.at_is) (ap (λ v. v.hash) y.of.split.at_is) link_is y.puts put' s.1 in
+    record { held = IsHeld-spot of w.at_is; others = subst (λ (v : List Spot). Indexes heads v) of.others i }

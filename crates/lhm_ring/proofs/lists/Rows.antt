@@ -1,0 +1,35 @@
+-- A row of links: it is cut in two and put together, and its pointers and contents are read.
+use Rattle.std.proofs.Common.{◌≡◌, List, [], ◌∷◌, ◌++◌, length, refl, sym, ap, ◌∙◌, append_assoc}
+use denote.RawPtr.{Ptr}
+use Rattle.lhm_ring.specs.declared.ring.Links.{Links}
+use Rattle.lhm_ring.proofs.lists.ListFacts.{last_from}
+use Rattle.lhm_ring.specs.Nodes.{Cell}
+use Rattle.lhm_ring.specs.Links.{content_at, Edge, Linked, follow, listed, one_of}
+
+-- a row of links, cut before p
+pub record RowCut {B : Type 0} (cs : List (Cell Links B)) (x : Ptr) (xs : List Ptr) (p : Ptr) (ys : List Ptr) : Type 0 where
+  pub before : Linked cs (x ∷ xs)
+  pub edge : Edge cs (last_from x xs) p
+  pub after : Linked cs (p ∷ ys)
+
+module _ {B : Type 0} where
+  module _ (cs : List (Cell Links B)) where
+    pub RowCut-linked : (x : Ptr) (xs : List Ptr) (p : Ptr) (ys : List Ptr) → Linked cs (x ∷ (xs ++ p ∷ ys)) → RowCut cs x xs p ys
+    RowCut-linked x [] p ys l = record { before = tt; edge = l.0; after = l.1 }
+    RowCut-linked x (y ∷ xs) p ys l = let on = RowCut-linked y xs p ys l.1 in record { before = (l.0, on.before); edge = on.edge; after = on.after }
+
+    pub Linked-glued : (x : Ptr) (xs : List Ptr) (p : Ptr) (ys : List Ptr) → Linked cs (x ∷ xs) → Edge cs (last_from x xs) p → Linked cs (p ∷ ys) → Linked cs (x ∷ (xs ++ p ∷ ys))
+    Linked-glued x [] p ys l e m = (e, m)
+    Linked-glued x (y ∷ xs) p ys l e m = (l.0, Linked-glued y xs p ys l.1 e m)
+
+    -- the pointers after p are those that the row names
+    pub follow-row : (x : Ptr) (xs : List Ptr) (z : Ptr) → Linked cs (x ∷ (xs ++ z ∷ [])) → follow cs (length xs) x ≡ xs
+    unfolding follow
+    follow-row x [] z l = refl
+    follow-row x (y ∷ ys) z l =
+        ap (λ q. q ∷ follow cs (length ys) q) l.0.0 ∙ ap (λ qs. y ∷ qs) (follow-row y ys z l.1)
+
+  pub listed-append : (cs : List (Cell Links B)) (xs ys : List Ptr) → listed cs (xs ++ ys) ≡ listed cs xs ++ listed cs ys
+  unfolding listed
+  listed-append cs [] ys = refl
+  listed-append cs (x ∷ xs) ys = ap (λ l. one_of (content_at cs x) ++ l) (listed-append cs xs ys) ∙ sym (append_assoc (one_of (content_at cs x)) (listed cs xs) (listed cs ys))

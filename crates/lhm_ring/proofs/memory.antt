@@ -1,0 +1,17 @@
+pub mod BlockValues
+pub mod Blocks
+pub mod ChunkPlaces
+pub mod ContentTaken
+pub mod ContentsSplitOff
+pub mod FieldSeen
+pub mod Memory
+pub mod NodeAdded
+pub mod NodeBlocks
+pub mod NodesWithBodies
+pub mod OneNodeChanged
+pub mod Places
+pub mod Sharing
+pub mod ValueTaken
+pub mod ValuesInOrder
+pub mod ValuesReplaced
+pub mod ValuesSplitOff

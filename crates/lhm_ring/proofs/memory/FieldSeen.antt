@@ -1,0 +1,133 @@
+-- One proof for each function that shows a field of a node through a `&`. Assumes `Logic`.
+--     links_lent, key_lent, value_lent      what a lent node lends of each field
+--     Seen, field_seen      what is found at the pointer passed, and that a function of this code
+--     then meets its contract
+use Rattle.std.proofs.Common.{◌≡◌, ℕ, ◌+◌, List, [], ◌∷◌, ◌++◌, refl, sym, ap, ◌∙◌, subst, Some, Option}
+use mathlib.Core.Option.{some}
+use seplogic.Ra.Ura.{Ura}
+use mir.Syntax.{Sym, Ty, ty_ptr, ty_ref, named, imm, erased, local, value_local, seq, assign, block, return, place, field, deref, copy, rv_opd, addr_of, Args, Fn, Callee}
+use mir.MapTy.{inst_fn}
+use mir.Val.{Val, vptr}
+use base.Logic.{SProp, ent, sep, emp, never, id⊢, via, fst∗, snd∗}
+use base.Fml.{Fml, Lft, ftrue, fsep, flft}
+use prog.Memory.{field_of}
+use prog.Model.{Model}
+use prog.Wp.{WpFn, Closed}
+use types.Logic.{Logic, sem}
+use types.Kit.{◌∵◌, ‵, raw, ◌⊛◌, at_ret, ◌$◌, !, qed, by, move, keep, drop, use0, use1, split, join, fsplit, fjoin, suffices, rewrite, feq_i}
+use types.Run.{stop, fld, addr, of_opd, first, blocks, exec, returns, enter}
+use types.ByLocal.{alloc_all, pass_all, free_all, look_at, get, get_in, through, sets, sets_last, is, env}
+use types.Part.{sub, whole}
+use contract.BorrowLft.{◌⊑◌}
+use contract.Lifetimes.{lft_at}
+use contract.Running.{Running, MachineTables, tables}
+use contract.Monad.{fact, fact_i}
+use denote.Exit.{yes}
+use denote.Param.{param}
+use denote.RattleType.{RattleType, owns}
+use denote.Memory.{shared_of}
+use denote.Signature.{types_at, plain}
+use denote.RawPtr.{Ptr, ptr_val, in_a_block, ◌+ₚ◌}
+use denote.Ref.{Bor}
+use denote.Builtin.{RefOf}
+use denote.Opens.{hide, unhide}
+use denote.Steps.{nothing, heard}
+use denote.Struct.Lending.{lent_at}
+use denote.Triple.Clauses.{Ended, Clauses, closing}
+use denote.Triple.Spec.{Meets}
+use denote.Triple.Walked.{Stays, stay_dropped, walk_of, Goes-dropped}
+use Rattle.std.proofs.VecSteps.Shapes.{after}
+use Rattle.std.proofs.RcSteps.{word, word_ty, word-Good}
+use Rattle.std.proofs.raw_atomic.Walks.{proved_at, leaves}
+use Rattle.lhm_ring.proofs.rings.Lookup.{Cut}
+use Rattle.lhm_ring.proofs.memory.Memory.{Three, args, RL, RK, RV, lo, ko, vo, Node, Nr, Pl, word-pointer, cell_seen}
+use Rattle.lhm_ring.specs.contracts.nodes.Nodes.key as key
+use Rattle.lhm_ring.specs.Nodes.{body_lent, cell_lent, cells_lent}
+
+-- the code, with the field k of the node at the pointer
+abbrev with_code : Fn → Ty → Ty → Sym → Ty → ℕ → Fn
+with_code fn ρ σ ν δ k = record fn {
+  locals = local (ty_ref (named 0) imm ρ) value_local ∷ local (ty_ref (named 0) imm σ) value_local ∷ local (word_ty ν) value_local ∷ local ty_ptr value_local ∷ local (ty_ref erased imm ρ) value_local ∷ [];
+  body =
+      seq (assign (place 3 []) (rv_opd (copy (place 2 (field 0 ∷ [])))))
+      (seq (block (assign (place 4 []) (addr_of (place 3 (deref δ ∷ field k ∷ [])))))
+      (seq (assign (place 0 []) (rv_opd (copy (place 4 [])))) return));
+}
+
+module _ {M : Type 1} {𝓤 : Ura M} (𝓛 : Logic 𝓤) (E : Three) (κ : Lft) (c : Node E) where
+  abbrev Lent : SProp 𝓤
+  Lent = sem 𝓛 (cell_lent (RL E) (RK E) (RV E) c κ)
+
+  abbrev Both : Option (E.key.Denot × E.value.Denot) → SProp 𝓤
+  Both x = sem 𝓛 (body_lent (RL E) (RK E) (RV E) c.at x κ)
+
+  abbrev At : (R : RattleType) → ℕ → R.Denot → SProp 𝓤
+  At R off x = sem 𝓛 (lent_at R (c.at +ₚ off) x κ)
+
+  pub links_lent : ent 𝓤 Lent (At (RL E) (lo E) c.links)
+  links_lent = fst∗ 𝓤 (At (RL E) (lo E) c.links) (Both c.body)
+
+  module _ (x : E.key.Denot × E.value.Denot) (e : c.body ≡ Some x) where
+    both_lent : ent 𝓤 Lent (Both (Some x))
+    both_lent = subst (λ z. ent 𝓤 Lent (Both z)) e (snd∗ 𝓤 (At (RL E) (lo E) c.links) (Both c.body))
+
+    pub key_lent : ent 𝓤 Lent (At (RK E) (ko E) x.0)
+    key_lent = via 𝓤 _ both_lent (fst∗ 𝓤 (At (RK E) (ko E) x.0) (At (RV E) (vo E) x.1))
+
+    pub value_lent : ent 𝓤 Lent (At (RV E) (vo E) x.1)
+    value_lent = via 𝓤 _ both_lent (snd∗ 𝓤 (At (RK E) (ko E) x.0) (At (RV E) (vo E) x.1))
+
+-- the field of the i-th parameter Y, at `off` within a node
+module _ (E : Three) (i : ℕ) (Y : RattleType) (off : ℕ) {M : Type 1} {𝓤 : Ura M} (𝓛 : Logic 𝓤) (𝓜 : Model 𝓤 𝓛.H) (𝓡 : Running 𝓤 𝓛.H 𝓜)
+    (Asked : List (Node E) → Ptr → Type 0) (Told : Y.Denot → List (Node E) → Ptr → Type 0) where
+  abbrev F : RattleType
+  F = param i Y
+
+  abbrev 𝓣 : MachineTables 𝓤 𝓛.H 𝓜
+  𝓣 = tables 𝓤 𝓛.H 𝓜 𝓡 𝓡.env
+
+  abbrev ended : Ended
+  ended = record (key.ended E.links E.key E.value) {
+    signature = record (key.signature E.links E.key E.value) { result = RefOf (0 ∷ []) tt (plain (λ _. F)) (λ _. tt) };
+  }
+
+  abbrev clauses : Clauses 𝓤 ended
+  clauses κs a = record {
+    ghost = Unit {0};
+    requires = λ _. sep 𝓤 (fact 𝓤 (lft_at 4 1 tt κs ⊑ E.links.lives)) (sep 𝓤 (fact 𝓤 (lft_at 4 2 tt κs ⊑ E.key.lives)) (sep 𝓤 (fact 𝓤 (lft_at 4 3 tt κs ⊑ E.value.lives)) (fact 𝓤 (Asked a.0.now.cells a.1.0.ptr))));
+    ensures = λ _ r _. fact 𝓤 (Told r.now a.0.now.cells a.1.0.ptr);
+  }
+
+  pub record Seen (cs : List (Node E)) (p : Ptr) : Type 1 where
+    pub value : Y.Denot
+    pub told : Told value cs p
+    pub cut : Cut cs p
+    pub lent : (κ : Lft) → ent 𝓤 (sem 𝓛 (cell_lent (RL E) (RK E) (RV E) cut.split.node κ)) (sem 𝓛 (lent_at F (cut.split.node.at +ₚ off) value κ))
+
+  pub field_seen : (f : Args → Callee) (fn : Fn) → Closed 𝓤 𝓛.H 𝓣.C 𝓣.Λ (f (args E)) (inst_fn (args E) fn)
+      → {ρ σ : Ty} {ν : Sym} {δ τ : Ty} {k : ℕ} → inst_fn (args E) fn ≡ with_code (inst_fn (args E) fn) ρ σ ν δ k → field_of δ k ≡ some (τ, off)
+      → ((cs : List (Node E)) (p : Ptr) → Asked cs p → Seen cs p) → Meets 𝓛 ended.signature (𝓣.C (f (args E))) (closing 𝓛 ended clauses)
+  field_seen f fn closed {ρ} {σ} {ν} {δ} {τ} {k} code lies seen =
+      let H = 𝓛.H in let N = Nr E in let R = RL E in let S = RK E in let W = RV E in
+      let Self = RefOf (0 ∷ []) tt (plain (λ _. N)) (λ _. tt) in
+      let hs : Stays ended.signature.params ended.kept = (stay_dropped Self yes, (stay_dropped (plain (λ _. Pl)) yes, tt)) in
+      proved_at 𝓛 ended hs clauses 𝓜 𝓡 (Goes-dropped 𝓛 4 Self yes (λ κs x f. refl), (Goes-dropped 𝓛 4 (plain (λ _. Pl)) yes (λ κs x f. refl), tt)) (f (args E)) (inst_fn (args E) fn) closed (λ y are.
+      let κs = y.0.0 in let qs = y.0.1 in let a = y.0.3 in let vss = y.0.4 in let Post : Val → SProp 𝓤 = (walk_of 𝓛 ended hs clauses).post y in
+      let κ : Lft = κs.0 in let rb : ℕ = a.0.ref_ptr.0 in let ro : ℕ = a.0.ref_ptr.1 in let h : N.Denot = a.0.now in let p : Ptr = a.1.0.ptr in
+      let others : Fml = fsep (flft κs.1.0 qs.1.0) (fsep (flft κs.1.1.0 qs.1.1.0) (fsep (flft κs.1.1.1.0 qs.1.1.1.0) ftrue)) in
+      qed 𝓛 (((‵ (flft κs.0 qs.0) ⊛ ‵ others) ⊛ ‵ (owns (types_at ended.signature.params κs) a vss)) ∷ raw (fact 𝓤 _) ∷ raw (fact 𝓤 _) ∷ raw (fact 𝓤 _) ∷ raw (fact 𝓤 (Asked h.cells p)) ∷ []) ∵
+      keep ! (4 ∷ 0 ∷ []) $ heard ! (Asked h.cells p) (λ asked. split ! $ split ! $ move ! (2 ∷ []) $ fsplit ! $ fsplit ! $ keep ! (1 ∷ 3 ∷ 4 ∷ []) $
+      let us : List Val = vptr rb ro ∷ word p ∷ [] in let fn' : Fn = with_code (inst_fn (args E) fn) ρ σ ν δ k in let Run : Fn → List Val → SProp 𝓤 = λ e ws. WpFn 𝓤 H 𝓣.C 𝓣.Λ e ws Post in
+      suffices ! (Run fn' us) (subst (λ (P : SProp 𝓤). ent 𝓤 (Run fn' us) P) (sym (λ j. Run (code j) (are.0.0 j ++ (word-pointer a.1.0 vss.1.0 are.1.0 j ++ [])))) (id⊢ 𝓤 (Run fn' us))) $
+      enter ! 𝓣.C 𝓣.Λ fn' us Post $ alloc_all ! (λ l. pass_all ! refl ((tt, tt), (word-Good ν p, tt)) $ let Ev = env fn'.locals l in
+      let s = seen h.cells p asked in let x = s.value in let c : Node E = s.cut.split.node in
+      unhide ! $ fsplit ! $ drop ! $ rewrite ! 0 (λ (cs : List (Node E)). ‵ (cells_lent R S W cs κ)) s.cut.split.is refl $
+      use1 𝓛 (‵ (lent_at F (c.at +ₚ off) x κ)) (via 𝓤 (sem 𝓛 (cell_lent R S W c κ)) (cell_seen 𝓛 E κ s.cut.split.before c s.cut.split.after) (s.lent κ)) $
+      in_a_block ! c.at (λ q. lent_at F (q +ₚ off) x κ) (fst∗ 𝓤 (never 𝓤) (sem 𝓛 (shared_of F x 0 0 κ))) (λ pb po e. fsplit ! $ drop ! $ hide ! $
+      let r : Val = vptr pb (po + off) in let out : Bor Y.Denot = record { ref_ptr = (pb, po + off); now = x } in
+      sets ! (is ! (of_opd ! (get_in ! (fld ! refl (stop !)) (sub ! 0 refl (whole !)))) (ap ptr_val (sym s.cut.split.at_is ∙ e))) refl (tt, tt) $ first ! $ blocks ! $
+      sets_last ! (addr ! (through ! refl (fld ! lies (stop !)))) refl (tt, tt) $ exec ! 𝓣.C 𝓣.Λ Ev (after 2 fn'.body) (at_ret Ev Post) $ sets ! (of_opd ! (get ! refl)) refl (tt, tt) $
+      feq_i ! (List Val) (r ∷ []) (r ∷ []) refl $ fjoin ! $ move ! (1 ∷ 2 ∷ []) $ join ! $
+      let Said : Type 0 = Told x h.cells p in use0 𝓛 (raw (fact 𝓤 Said)) (fact_i 𝓤 Said (emp 𝓤) s.told) $
+      nothing ! $ nothing ! $ fjoin ! $ nothing ! $ fjoin ! $
+      returns ! (look_at ! 0 refl) $ free_all ! refl $ keep ! (2 ∷ 0 ∷ 3 ∷ 1 ∷ []) $ by ! (leaves 𝓛 ended hs clauses y r out (tt, (tt, tt)) (tt, (tt, tt)))))))

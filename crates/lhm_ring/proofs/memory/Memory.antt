@@ -1,0 +1,157 @@
+-- What the proofs by hand over the nodes share. Assumes `Logic`.
+--     Three, args          the rows of the links, of the keys and of the values, and what a call
+--     passes for them
+--     word_made, marker_made      a value of one pointer, and one of no bytes
+--     cells_cut, cells_glue, cell_seen      one node is taken out of the others, put back, and seen
+--     through a `&`
+use mathlib.Core.Path.{◌≡◌, refl, ap, ◌∙◌}
+use Prim.Native.Nat.{ℕ, ◌+◌}
+use mathlib.Core.List.{List, [], ◌∷◌, ◌++◌}
+use seplogic.Ra.Ura.{Ura}
+use base.Fraction.{full_share}
+use mir.Syntax.{Ty, Args, a_type}
+use mir.Val.{Val, vstruct, vcons, vnil, of_list}
+use base.Logic.{ent, sep, emp, ex, guard, via, fst∗, snd∗, id⊢}
+use base.Fml.{Fml, Lft, fat, froom}
+use types.Logic.{Logic, sem}
+use types.Kit.{Item, Goal, Step, step, ‵, some, given, learn, ◌⊛◌, ◌$◌, ◌∵◌, !, qed, move, drop, use1, use2, pick, split, check, show, fsplit, fjoin, fpack, feq_i, done}
+use denote.RattleType.{RattleType, Valss}
+use denote.Laws.{Typed, Is, shows}
+use denote.Param.{param, layout, layouts}
+use denote.Param.Laws.{Laws, param_laws}
+use denote.Memory.{part_at}
+use denote.RawPtr.{block_ptr}
+use denote.Shadow.{makes_shadow}
+use denote.Steps.{nothing, peeks}
+use denote.Struct.Struct.{Shape, Struct, within}
+use denote.Struct.Owning.{shape}
+use borrow.Table.OneValue.{part_in, part_out}
+use Rattle.std.specs.Prelude.{Option, Some, None}
+use Rattle.std.proofs.RcSteps.{Good, word}
+use Rattle.lhm_ring.specs.contracts.nodes.Nodes as N-type
+use Rattle.lhm_ring.specs.contracts.pointer.NodePointer as P-type
+use Rattle.lhm_ring.specs.Nodes.{Cell, links_offset, key_offset, value_offset, body_owns, land_owns, cell_owns, cells_own, cell_lent, cells_lent}
+
+pub record Three : Type 2 where
+  pub links : RattleType
+  pub links_laws : Laws links
+  pub key : RattleType
+  pub key_laws : Laws key
+  pub value : RattleType
+  pub value_laws : Laws value
+
+module _ (E : Three) where
+  abbrev pub args : Args
+  args = layouts (a_type ∷ a_type ∷ a_type ∷ []) (E.links, (E.key, (E.value, tt)))
+
+  abbrev pub RL : RattleType
+  RL = param 0 E.links
+
+  abbrev pub RK : RattleType
+  RK = param 1 E.key
+
+  abbrev pub RV : RattleType
+  RV = param 2 E.value
+
+  abbrev pub lo : ℕ
+  lo = links_offset RL RK RV
+
+  abbrev pub ko : ℕ
+  ko = key_offset RL RK RV
+
+  abbrev pub vo : ℕ
+  vo = value_offset RL RK RV
+
+  abbrev pub Node : Type 0
+  Node = Cell E.links.Denot (E.key.Denot × E.value.Denot)
+
+  abbrev pub Nr : RattleType
+  Nr = N-type.the_row RL RK RV
+
+  -- the field of `Nodes`, which takes no bytes
+  abbrev pub Marker : RattleType
+  Marker = Struct (shape (N-type.the_type RL RK RV))
+
+  abbrev pub One : Node → Fml
+  One c = cell_owns RL RK RV c
+
+  -- what is owned beside the nodes
+  abbrev pub Land : Nr.Denot → Fml
+  Land h = land_owns RL RK RV h.node_bytes h.unused h.chunks
+
+  abbrev pub Cells : Fml → List Node → Fml
+  Cells = cells_own RL RK RV
+
+abbrev pub Pl : RattleType
+Pl = P-type.the_row
+
+abbrev pub marker : Val
+marker = vstruct (vcons (vstruct vnil) vnil)
+
+pub marker_made : (E : Three) {M : Type 1} {𝓤 : Ura M} (𝓛 : Logic 𝓤) → ent 𝓤 (emp 𝓤) (sem 𝓛 ((Marker E).own_val (tt, tt) (marker ∷ [])))
+marker_made E 𝓛 = makes_shadow 𝓛 ((Marker E).own_val (tt, tt) (marker ∷ [])) (λ vss. (tt, ((λ uss. (tt, tt)), tt))) ((vstruct vnil ∷ [], tt), (refl, ((tt, (refl, tt)), tt)))
+
+module _ {M : Type 1} {𝓤 : Ura M} (𝓛 : Logic 𝓤) (E : Three) where
+  pub cells_cut : (Z : Fml) (xs : List (Node E)) (c : Node E) (ys : List (Node E)) → ent 𝓤 (sem 𝓛 (Cells E Z (xs ++ c ∷ ys))) (sep 𝓤 (sem 𝓛 (One E c)) (sem 𝓛 (Cells E Z (xs ++ ys))))
+  cells_cut Z [] c ys = id⊢ 𝓤 _
+  cells_cut Z (x ∷ xs) c ys = qed 𝓛 (‵ (Cells E Z (x ∷ xs ++ c ∷ ys)) ∷ []) ∵ fsplit ! $ move ! (1 ∷ []) $
+      use1 𝓛 (‵ (One E c) ⊛ ‵ (Cells E Z (xs ++ ys))) (cells_cut Z xs c ys) $ split ! $ move ! (2 ∷ 1 ∷ []) $ fjoin ! $ move ! (1 ∷ []) $ done !
+
+  pub cells_glue : (Z : Fml) (xs : List (Node E)) (c : Node E) (ys : List (Node E)) → ent 𝓤 (sep 𝓤 (sem 𝓛 (One E c)) (sem 𝓛 (Cells E Z (xs ++ ys)))) (sem 𝓛 (Cells E Z (xs ++ c ∷ ys)))
+  cells_glue Z [] c ys = id⊢ 𝓤 _
+  cells_glue Z (x ∷ xs) c ys = qed 𝓛 (‵ (One E c) ∷ ‵ (Cells E Z (x ∷ xs ++ ys)) ∷ []) ∵ move ! (1 ∷ []) $ fsplit ! $ move ! (2 ∷ 1 ∷ []) $
+      use2 𝓛 (‵ (Cells E Z (xs ++ c ∷ ys))) (cells_glue Z xs c ys) $ move ! (1 ∷ 0 ∷ []) $ fjoin ! $ done !
+
+  pub cell_seen : (κ : Lft) (xs : List (Node E)) (c : Node E) (ys : List (Node E)) → ent 𝓤 (sem 𝓛 (cells_lent (RL E) (RK E) (RV E) (xs ++ c ∷ ys) κ)) (sem 𝓛 (cell_lent (RL E) (RK E) (RV E) c κ))
+  cell_seen κ [] c ys = fst∗ 𝓤 _ (sem 𝓛 (cells_lent (RL E) (RK E) (RV E) ys κ))
+  cell_seen κ (x ∷ xs) c ys = via 𝓤 _ (snd∗ 𝓤 (sem 𝓛 (cell_lent (RL E) (RK E) (RV E) x κ)) _) (cell_seen κ xs c ys)
+
+pub alone : (τ : Ty) (vs : List Val) → Typed (τ ∷ []) vs → (v : Val) × ((vs ≡ v ∷ []) × Good τ v)
+alone τ [] t = absurd t
+alone τ (v ∷ []) t = (v, (refl, t.0))
+alone τ (v ∷ w ∷ vs) t = absurd t.1
+
+module _ (i : ℕ) (Y : RattleType) (L : Laws Y) {M : Type 1} {𝓤 : Ura M} (𝓛 : Logic 𝓤) where
+  open 𝓛 use {H}
+
+  pub value_out : (x : Y.Denot) (b o : ℕ) → ent 𝓤 (sem 𝓛 (part_at (param i Y) full_share x b o)) (ex 𝓤 (λ (v : Val). guard 𝓤 (Good (layout Y) v) (sep 𝓤 (H.at full_share (layout Y) b o v) (sem 𝓛 (Y.own_val x (v ∷ []))))))
+  value_out x b o = qed 𝓛 (‵ (part_at (param i Y) full_share x b o) ∷ []) ∵
+      use1 𝓛 (some (λ (v : Val). ‵ (fat full_share (layout Y) b o v) ⊛ ‵ (Y.own_val x (v ∷ [])))) (part_out 𝓛 (param i Y) refl full_share x b o) $ pick ! (λ v. split ! $ move ! (1 ∷ []) $
+      peeks ! (param i Y) (Is (param i Y)) (shows 𝓛 (param i Y)) x (v ∷ []) (λ p.
+      show ! (λ (w : Val). guard 𝓤 (Good (layout Y) w) (sep 𝓤 (H.at full_share (layout Y) b o w) (sem 𝓛 (Y.own_val x (w ∷ []))))) v $ check ! (((param_laws i Y L).lawful 𝓛).typed x (v ∷ []) p).0 $ move ! (1 ∷ 0 ∷ []) $ done !))
+
+  pub value_in : (x : Y.Denot) (b o : ℕ) (v : Val) → ent 𝓤 (sep 𝓤 (H.at full_share (layout Y) b o v) (sem 𝓛 (Y.own_val x (v ∷ [])))) (sem 𝓛 (part_at (param i Y) full_share x b o))
+  value_in x b o v = part_in 𝓛 (param i Y) refl full_share x b o v
+
+-- the machine value of a pointer
+pub word-pointer : (x : Pl.Denot) (vs : List Val) → Is Pl x vs → vs ≡ word x.ptr ∷ []
+word-pointer x vs is = is.1.0 ∙ ap (λ (ws : List Val). vstruct (of_list (ws ++ [])) ∷ []) is.1.1.0
+
+module _ {M : Type 1} {𝓤 : Ura M} (𝓛 : Logic 𝓤) (b o : ℕ) where
+  -- a value that is forgotten leaves uninitialised memory
+  pub uninit_left : (i : ℕ) (Y : RattleType) (L : Laws Y) (x : Y.Denot) → ent 𝓤 (sem 𝓛 (part_at (param i Y) full_share x b o)) (sem 𝓛 (froom (layout Y) b o))
+  uninit_left i Y L x = qed 𝓛 (‵ (part_at (param i Y) full_share x b o) ∷ []) ∵
+      use1 𝓛 (some (λ (v : Val). given (Good (layout Y) v) (‵ (fat full_share (layout Y) b o v) ⊛ ‵ (Y.own_val x (v ∷ []))))) (value_out i Y L 𝓛 x b o) $ pick ! (λ v. learn ! (λ _. split ! $
+      use1 𝓛 (‵ (froom (layout Y) b o)) (𝓛.laws.at_room (layout Y) b o v) $ move ! (1 ∷ []) $ drop ! $ done !))
+
+module _ {M : Type 1} {𝓤 : Ura M} (𝓛 : Logic 𝓤) (E : Three) (b o : ℕ) where
+  -- what a node holds, or the memory for it, is uninitialised memory
+  pub body_uninit : (x : Option (E.key.Denot × E.value.Denot)) → ent 𝓤 (sem 𝓛 (body_owns (RL E) (RK E) (RV E) (block_ptr b o) x)) (sep 𝓤 (sem 𝓛 (froom (layout E.key) b (o + ko E))) (sem 𝓛 (froom (layout E.value) b (o + vo E))))
+  body_uninit None = qed 𝓛 (‵ (body_owns (RL E) (RK E) (RV E) (block_ptr b o) None) ∷ []) ∵ fsplit ! $ use1 𝓛 (‵ (froom (layout E.key) b (o + ko E))) (𝓛.laws.raw-room (layout E.key) b (o + ko E)) $ move ! (1 ∷ []) $
+      use1 𝓛 (‵ (froom (layout E.value) b (o + vo E))) (𝓛.laws.raw-room (layout E.value) b (o + vo E)) $ move ! (1 ∷ 0 ∷ []) $ done !
+  body_uninit (Some x) = qed 𝓛 (‵ (body_owns (RL E) (RK E) (RV E) (block_ptr b o) (Some x)) ∷ []) ∵ fsplit ! $ use1 𝓛 (‵ (froom (layout E.key) b (o + ko E))) (uninit_left 𝓛 b (o + ko E) 1 E.key E.key_laws x.0) $ move ! (1 ∷ []) $
+      use1 𝓛 (‵ (froom (layout E.value) b (o + vo E))) (uninit_left 𝓛 b (o + vo E) 2 E.value E.value_laws x.1) $ move ! (1 ∷ 0 ∷ []) $ done !
+
+module _ {M : Type 1} {𝓤 : Ura M} {𝓛 : Logic 𝓤} {K : Type 0} {Γ : List (Item 𝓤)} {G : Goal 𝓤 𝓛.H} where
+  -- two values make a struct of two fields
+  pub struct_made : K → (shape : Shape) (R S : RattleType) (x : R.Denot) (y : S.Denot) (u v : Val)
+      → Step K 𝓛 (‵ ((Struct (record shape { fields = R ∷ S ∷ [] })).own_val (x, (y, tt)) (vstruct (vcons u (vcons v vnil)) ∷ [])) ∷ Γ) G (‵ (R.own_val x (u ∷ [])) ∷ ‵ (S.own_val y (v ∷ [])) ∷ Γ) G
+  struct_made t shape R S x y u v = step (λ s.
+      let w : Val = vstruct (vcons u (vcons v vnil)) in
+      nothing t $ move t (2 ∷ 0 ∷ []) $ fjoin t $ move t (1 ∷ 0 ∷ []) $ fjoin t $ feq_i t (List Val) (w ∷ []) (w ∷ []) refl $ fjoin t $
+      fpack t (Valss (R ∷ S ∷ [])) (within (record shape { fields = R ∷ S ∷ [] }) (x, (y, tt)) (w ∷ [])) (u ∷ [], (v ∷ [], tt)) $ s)
+
+  -- two values make a pair
+  pub two_made : K → (R S : RattleType) (x : R.Denot) (y : S.Denot) (u v : Val)
+      → Step K 𝓛 (‵ ((Struct (record { name = []; args = []; types = []; fields = R ∷ S ∷ [] })).own_val (x, (y, tt)) (vstruct (vcons u (vcons v vnil)) ∷ [])) ∷ Γ) G (‵ (R.own_val x (u ∷ [])) ∷ ‵ (S.own_val y (v ∷ [])) ∷ Γ) G
+  two_made t = struct_made t (record { name = []; args = []; types = []; fields = [] })

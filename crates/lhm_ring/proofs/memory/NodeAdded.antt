@@ -1,0 +1,77 @@
+-- A node more among the spare ones.
+use Rattle.std.proofs.Common.{◌≡◌, suc, true, false, cond, List, [], ◌∷◌, ◌++◌, Option, Some, None, refl, sym, ap, ◌∙◌, subst, arith}
+use denote.RawPtr.{Ptr, null_ptr}
+use Rattle.lhm_ring.specs.declared.ring.Links.{Links}
+use Rattle.lhm_ring.specs.declared.ring.Ends.{Ends}
+use Rattle.lhm_ring.proofs.lists.Apart.{IsFresh, same_ptr-equal, same_ptr-reflexive, same_ptr-symmetric, IsFresh-head, IsApart-inserted}
+use Rattle.lhm_ring.proofs.lists.ListFacts.{AllByRecursion-append, AllByRecursion-left, AllByRecursion-right, AllByRecursion-map}
+use Rattle.lhm_ring.proofs.memory.OneNodeChanged.{Linked-other, Chained-other, AllByRecursion-content_other, listed-other}
+use Rattle.lhm_ring.proofs.rings.RingCells.{same_ptr-null, cell_at-ring_cells}
+use Rattle.lhm_ring.specs.Nodes.{Cell, cell, cell_at, same_ptr, pointers, links_of, is_block, IsApart}
+use Rattle.lhm_ring.specs.Links.{ends_links, ring_cells, link_of, has_links, link_at, is_there, Chained, IsRing, listed}
+
+false_true : false ≡ true → ⊥
+false_true e = cc
+
+module _ {B : Type 0} (e : Ends) (nodes : List (Cell Links B)) (p : Ptr) (l : Links) (b : is_block p ≡ true) (d : IsApart (pointers (cell p l None ∷ nodes))) where
+  abbrev cs : List (Cell Links B)
+  cs = ring_cells e nodes
+
+  abbrev ds : List (Cell Links B)
+  ds = ring_cells e (cell p l None ∷ nodes)
+
+  cell_at-other : (q : Ptr) → same_ptr p q ≡ false → cell_at ds q ≡ cell_at cs q
+  unfolding cell_at
+  cell_at-other q n = ap (λ y. cond (same_ptr null_ptr q) (Some (cell null_ptr (ends_links e) None)) (cond y (Some (cell p l None)) (cell_at nodes q))) n
+
+  cell_at-newest : cell_at (cell p l None ∷ nodes) p ≡ Some (cell p l None)
+  unfolding cell_at
+  cell_at-newest = ap (λ y. cond y (Some (cell p l None)) (cell_at nodes p)) (same_ptr-reflexive p)
+
+  cell_at-added : cell_at ds p ≡ Some (cell p l None)
+  cell_at-added = cell_at-ring_cells e (cell p l None ∷ nodes) p b ∙ cell_at-newest
+
+  same_ptr-nowhere : (zs : List (Cell Links B)) → IsFresh p (pointers zs) → (q : Ptr) → is_there zs q ≡ true → same_ptr p q ≡ false
+  unfolding cell_at
+  same_ptr-nowhere [] f q h = absurd (false_true h)
+  same_ptr-nowhere (z ∷ zs) f q h =
+      (elim (same_ptr z.at q) as (λ y. same_ptr z.at q ≡ y → has_links (links_of (cond y (Some z) (cell_at zs q))) ≡ true → same_ptr p q ≡ false) [
+        | true ↦ λ s k. subst (λ r. same_ptr p r ≡ false) (same_ptr-equal z.at q s) f.0
+        | false ↦ λ s k. same_ptr-nowhere zs f.1 q k
+      ]) refl h
+
+  same_ptr-there : (q : Ptr) → is_there cs q ≡ true → same_ptr p q ≡ false
+  same_ptr-there = same_ptr-nowhere cs (same_ptr-symmetric p null_ptr ∙ same_ptr-null p b, IsFresh-head p (pointers nodes) d)
+
+  is_there-added : (q : Ptr) → is_there cs q ≡ true → is_there ds q ≡ true
+  is_there-added q h = ap (λ z. has_links (links_of z)) (cell_at-other q (same_ptr-there q h)) ∙ h
+
+  module _ (ps : List Ptr) (spare : Option Ptr) (ss : List Ptr) (r : IsRing cs ps spare ss) (f : link_of (Some l) ≡ spare) where
+    abbrev T : Ptr → Type 0
+    T q = is_there cs q ≡ true
+
+    IsFresh-added : IsFresh p (null_ptr ∷ (ps ++ ss))
+    IsFresh-added = AllByRecursion-map T (λ q. same_ptr p q ≡ false) same_ptr-there (null_ptr ∷ (ps ++ ss)) r.there
+
+    abbrev P : Ptr → Type 0
+    P q = same_ptr p q ≡ false
+
+    link_at-added : link_at ds p ≡ link_of (Some l)
+    link_at-added = ap (λ z. link_of (links_of z)) cell_at-added
+
+    pub IsRing-added : IsRing ds ps (Some p) (p ∷ ss)
+    IsRing-added = record {
+      linked = Linked-other cs ds p cell_at-other (null_ptr ∷ (ps ++ null_ptr ∷ [])) (IsFresh-added.0, AllByRecursion-append P ps (null_ptr ∷ []) (AllByRecursion-left P ps ss IsFresh-added.1) (IsFresh-added.0, tt)) r.linked;
+      chained = (refl, Chained-other cs ds p cell_at-other (link_at ds p) ss (AllByRecursion-right P ps ss IsFresh-added.1) (subst (λ z. Chained cs z ss) (sym (link_at-added ∙ f)) r.chained));
+      held = AllByRecursion-content_other cs ds p cell_at-other ps (AllByRecursion-left P ps ss IsFresh-added.1) r.held;
+      there = (
+        is_there-added null_ptr r.there.0,
+        AllByRecursion-append (λ q. is_there ds q ≡ true) ps (p ∷ ss) (AllByRecursion-map T (λ q. is_there ds q ≡ true) is_there-added ps (AllByRecursion-left T ps ss r.there.1))
+            (ap (λ z. has_links (links_of z)) cell_at-added, AllByRecursion-map T (λ q. is_there ds q ≡ true) is_there-added ss (AllByRecursion-right T ps ss r.there.1)),
+      );
+      apart = IsApart-inserted (null_ptr ∷ ps) p ss IsFresh-added r.apart;
+      count = ap (λ n. suc n) r.count ∙ omega arith;
+    }
+
+    pub listed-added : listed ds ps ≡ listed cs ps
+    listed-added = listed-other cs ds p cell_at-other ps (AllByRecursion-left P ps ss IsFresh-added.1)

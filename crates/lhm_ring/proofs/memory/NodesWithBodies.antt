@@ -1,0 +1,103 @@
+-- Nodes with the bodies of a run in them, and nodes with none.
+use Rattle.std.proofs.Common.{◌≡◌, ℕ, true, false, cond, List, [], ◌∷◌, length, suc, Option, Some, None, refl, sym, ap, ◌∙◌, subst, arith}
+use Rattle.std.specs.List.{AllByRecursion}
+use denote.RawPtr.{Ptr}
+use Rattle.lhm_ring.specs.declared.ring.Links.{Links}
+use Rattle.lhm_ring.specs.declared.pointer.Link.{Link}
+use Rattle.lhm_ring.proofs.lists.Apart.{IsFresh, same_ptr-equal, same_ptr-reflexive, same_ptr-symmetric, IsFresh-head, IsApart-tail}
+use Rattle.lhm_ring.proofs.lists.ListFacts.{AllByRecursion-always}
+use Rattle.lhm_ring.proofs.lists.Options.{none_some}
+use Rattle.lhm_ring.proofs.rings.SameNodes.{SameLink, RingOk-same}
+use Rattle.lhm_ring.specs.Nodes.{Cell, cell, cell_at, same_ptr, IsApart, pointers, links_of, body_of, links_at, body_at, change, with_body}
+use Rattle.lhm_ring.specs.Links.{next_of, prev_of, link_of, has_links, HasContent, RingOk}
+use Rattle.lhm_ring.specs.ContentLoan.{body_in, without_body, bodies_of, with_bodies, cleared}
+
+module _ {B : Type 0} where
+  body_in-without_body : (p : Ptr) (run : List (Ptr × Option B))
+      → body_in (without_body p run) p ≡ None
+  unfolding body_in without_body
+  body_in-without_body p [] = refl
+  body_in-without_body p (c ∷ run) =
+      (elim (same_ptr c.0 p) as (λ y. same_ptr c.0 p ≡ y → body_in (cond y ((c.0, None) ∷ run) (c ∷ without_body p run)) p ≡ None) [
+        | true ↦ λ t. ap (λ z. cond z None (body_in run p)) t
+        | false ↦ λ n. ap (λ z. cond z c.1 (body_in (without_body p run) p)) n ∙ body_in-without_body p run
+      ]) refl
+
+  body_in-without_body_other : (p q : Ptr) (run : List (Ptr × Option B)) → same_ptr p q ≡ false → body_in (without_body p run) q ≡ body_in run q
+  unfolding body_in without_body
+  body_in-without_body_other p q [] n = refl
+  body_in-without_body_other p q (c ∷ run) n =
+      (elim (same_ptr c.0 p) as (λ y. same_ptr c.0 p ≡ y → body_in (cond y ((c.0, None) ∷ run) (c ∷ without_body p run)) q ≡ cond (same_ptr c.0 q) c.1 (body_in run q)) [
+        | true ↦ λ t. let far = ap (λ r. same_ptr r q) (same_ptr-equal c.0 p t) ∙ n in ap (λ z. cond z None (body_in run q)) far ∙ sym (ap (λ z. cond z c.1 (body_in run q)) far)
+        | false ↦ λ _. ap (λ r. cond (same_ptr c.0 q) c.1 r) (body_in-without_body_other p q run n)
+      ]) refl
+
+module _ {L B : Type 0} where
+  pub links_at-with_bodies : (cs : List (Cell L B)) (run : List (Ptr × Option B)) (q : Ptr) → links_at (with_bodies cs run) q ≡ links_at cs q
+  unfolding cell_at
+  links_at-with_bodies [] run q = refl
+  links_at-with_bodies (c ∷ cs) run q =
+      elim (same_ptr c.at q) as (λ y. links_of (cond y (Some (cell c.at c.links (body_in run c.at))) (cell_at (with_bodies cs run) q)) ≡ links_of (cond y (Some c) (cell_at cs q))) [
+        | true ↦ refl
+        | false ↦ links_at-with_bodies cs run q
+      ]
+
+  pub body_at-with_bodies : (cs : List (Cell L B)) (run : List (Ptr × Option B)) (q : Ptr) (l : L) → links_at cs q ≡ Some l → body_at (with_bodies cs run) q ≡ body_in run q
+  unfolding cell_at
+  body_at-with_bodies [] run q l e = absurd (none_some l e)
+  body_at-with_bodies (c ∷ cs) run q l e =
+      (elim (same_ptr c.at q) as (λ y. same_ptr c.at q ≡ y → links_of (cond y (Some c) (cell_at cs q)) ≡ Some l → body_of (cond y (Some (cell c.at c.links (body_in run c.at))) (cell_at (with_bodies cs run) q)) ≡ body_in run q) [
+        | true ↦ λ t _. ap (body_in run) (same_ptr-equal c.at q t)
+        | false ↦ λ n h. body_at-with_bodies cs run q l h
+      ]) refl e
+
+  with_bodies-skip : (p : Ptr) (o : Option B) (run : List (Ptr × Option B)) (cs : List (Cell L B)) → IsFresh p (pointers cs) → with_bodies cs ((p, o) ∷ run) ≡ with_bodies cs run
+  unfolding body_in
+  with_bodies-skip p o run [] f = refl
+  with_bodies-skip p o run (c ∷ cs) f = λ i. cell c.at c.links (cond (f.0 i) o (body_in run c.at)) ∷ with_bodies-skip p o run cs f.1 i
+
+  pub with_bodies-own : (cs : List (Cell L B)) → IsApart (pointers cs) → with_bodies cs (bodies_of cs) ≡ cs
+  unfolding body_in
+  with_bodies-own [] d = refl
+  with_bodies-own (c ∷ cs) d =
+      let on = with_bodies-skip c.at c.body (bodies_of cs) cs (IsFresh-head c.at (pointers cs) d) ∙ with_bodies-own cs (IsApart-tail c.at (pointers cs) d) in
+      λ i. cell c.at c.links (cond (same_ptr-reflexive c.at i) c.body (body_in (bodies_of cs) c.at)) ∷ on i
+
+  with_bodies-far : (p : Ptr) (run : List (Ptr × Option B)) (cs : List (Cell L B)) → IsFresh p (pointers cs) → with_bodies cs (without_body p run) ≡ with_bodies cs run
+  with_bodies-far p run [] f = refl
+  with_bodies-far p run (c ∷ cs) f = λ i. cell c.at c.links (body_in-without_body_other p c.at run f.0 i) ∷ with_bodies-far p run cs f.1 i
+
+  pub with_bodies-without_body : (p : Ptr) (run : List (Ptr × Option B)) (cs : List (Cell L B)) → IsApart (pointers cs) → with_bodies cs (without_body p run) ≡ with_body p None (with_bodies cs run)
+  unfolding change
+  with_bodies-without_body p run [] d = refl
+  with_bodies-without_body p run (c ∷ cs) d =
+      (elim (same_ptr c.at p) as (λ y. same_ptr c.at p ≡ y → with_bodies (c ∷ cs) (without_body p run) ≡ cond y (cell c.at c.links None ∷ with_bodies cs run) (cell c.at c.links (body_in run c.at) ∷ with_body p None (with_bodies cs run))) [
+        | true ↦ λ t.
+            let here = ap (body_in (without_body p run)) (same_ptr-equal c.at p t) ∙ body_in-without_body p run in let far = subst (λ q. IsFresh q (pointers cs)) (same_ptr-equal c.at p t) (IsFresh-head c.at (pointers cs) d) in
+            λ i. cell c.at c.links (here i) ∷ with_bodies-far p run cs far i
+        | false ↦ λ n. λ i. cell c.at c.links (body_in-without_body_other p c.at run (same_ptr-symmetric p c.at ∙ n) i) ∷ with_bodies-without_body p run cs (IsApart-tail c.at (pointers cs) d) i
+      ]) refl
+
+  pub links_at-cleared : (cs : List (Cell L B)) (q : Ptr) → links_at (cleared cs) q ≡ links_at cs q
+  unfolding cell_at
+  links_at-cleared [] q = refl
+  links_at-cleared (c ∷ cs) q =
+      elim (same_ptr c.at q) as (λ y. links_of (cond y (Some (cell c.at c.links None)) (cell_at (cleared cs) q)) ≡ links_of (cond y (Some c) (cell_at cs q))) [
+        | true ↦ refl
+        | false ↦ links_at-cleared cs q
+      ]
+
+  length-cleared : (cs : List (Cell L B)) → length (cleared cs) ≡ length cs
+  length-cleared [] = refl
+  length-cleared (c ∷ cs) = ap suc (length-cleared cs)
+
+AllByRecursion-none : {X : Type 0} (P : X → Type 0) (xs : List X) → length xs ≡ 0 → AllByRecursion P xs
+AllByRecursion-none P [] e = tt
+AllByRecursion-none P (x ∷ xs) e = absurd (omega arith)
+
+module _ {B : Type 0} (cs : List (Cell Links B)) where
+  pub RingOk-cleared : (spare : Link) (n m : ℕ) → n ≡ 0 → RingOk cs spare n m → RingOk (cleared cs) spare n m
+  RingOk-cleared spare n m e ok =
+      let same = links_at-cleared cs in
+      RingOk-same cs (cleared cs) (λ q. ap next_of (same q)) (λ q. ap prev_of (same q)) (λ q. ap has_links (same q)) (length-cleared cs) spare n m ok
+      (AllByRecursion-none (HasContent (cleared cs)) ok.held_pointers (ok.held_count ∙ e)) (AllByRecursion-always (SameLink cs (cleared cs)) (λ q. ap link_of (same q)) ok.spare_pointers)

@@ -1,0 +1,72 @@
+-- A change of one node alone: what is read of the others stays.
+use Rattle.std.proofs.Common.{◌≡◌, true, false, List, [], ◌∷◌, ◌++◌, length, Option, Some, refl, sym, ap, ◌∙◌, subst}
+use Rattle.std.specs.List.{AllByRecursion}
+use denote.RawPtr.{Ptr}
+use Rattle.lhm_ring.specs.declared.ring.Links.{Links}
+use Rattle.lhm_ring.proofs.lists.Apart.{IsFresh, same_ptr-equal}
+use Rattle.lhm_ring.proofs.lists.ListFacts.{AllByRecursion-map}
+use Rattle.lhm_ring.proofs.rings.SameNodes.{SameLink, Chained-same}
+use Rattle.lhm_ring.proofs.rings.Writes.{cell_at-change, cell_at-change_other, length-change, reader-with_links_same, links_of-seen}
+use Rattle.lhm_ring.specs.Nodes.{Cell, cell, same_ptr, cell_at, links_of, body_of, links_at, body_at, with_links, with_body}
+use Rattle.lhm_ring.specs.Links.{next_of, prev_of, link_of, has_links, is_there, content_of, content_at, Linked, Chained, HasContent, listed, one_of}
+
+-- every node except the one at p is as it was
+pub record OnlyAt {B : Type 0} (cs ds : List (Cell Links B)) (p : Ptr) : Type 0 where
+  pub other : (q : Ptr) → same_ptr p q ≡ false → cell_at ds q ≡ cell_at cs q
+  pub there : (q : Ptr) → is_there ds q ≡ is_there cs q
+  pub count : length ds ≡ length cs
+
+module _ {B : Type 0} where
+  pub links_at-with_body : (p : Ptr) (b : Option B) (cs : List (Cell Links B)) (la : Links) → links_at cs p ≡ Some la → (q : Ptr) → links_at (with_body p b cs) q ≡ links_at cs q
+  links_at-with_body p b cs la e q =
+      let c = links_of-seen (cell_at cs p) la e in
+      (elim (same_ptr p q) as (λ y. same_ptr p q ≡ y → links_at (with_body p b cs) q ≡ links_at cs q) [
+        | true ↦ λ t. subst (λ r. links_at (with_body p b cs) r ≡ links_at cs r) (same_ptr-equal p q t) (ap links_of (cell_at-change p (λ c. cell c.at c.links b) (λ c. refl) cs c.0 c.1) ∙ sym (ap links_of c.1))
+        | false ↦ λ n. ap links_of (cell_at-change_other p (λ c. cell c.at c.links b) (λ c. refl) q n cs)
+      ]) refl
+
+  pub body_at-with_body : (p : Ptr) (b : Option B) (cs : List (Cell Links B)) (la : Links) → links_at cs p ≡ Some la → body_at (with_body p b cs) p ≡ b
+  body_at-with_body p b cs la e = let c = links_of-seen (cell_at cs p) la e in ap body_of (cell_at-change p (λ c. cell c.at c.links b) (λ c. refl) cs c.0 c.1)
+
+  pub OnlyAt-with_links : (p : Ptr) (l : Links) (cs : List (Cell Links B)) (la : Links) → links_at cs p ≡ Some la → OnlyAt cs (with_links p l cs) p
+  OnlyAt-with_links p l cs la e = record {
+    other = λ q n. cell_at-change_other p (λ c. cell c.at l c.body) (λ c. refl) q n cs;
+    there = reader-with_links_same p l has_links cs la e refl;
+    count = length-change p (λ c. cell c.at l c.body) cs;
+  }
+
+  pub OnlyAt-with_body : (p : Ptr) (b : Option B) (cs : List (Cell Links B)) (la : Links) → links_at cs p ≡ Some la → OnlyAt cs (with_body p b cs) p
+  OnlyAt-with_body p b cs la e = record {
+    other = λ q n. cell_at-change_other p (λ c. cell c.at c.links b) (λ c. refl) q n cs;
+    there = λ q. ap has_links (links_at-with_body p b cs la e q);
+    count = length-change p (λ c. cell c.at c.links b) cs;
+  }
+
+  pub OnlyAt-both : (cs ds es : List (Cell Links B)) (p : Ptr) → OnlyAt cs ds p → OnlyAt ds es p → OnlyAt cs es p
+  OnlyAt-both cs ds es p a b = record { other = λ q n. b.other q n ∙ a.other q n; there = λ q. b.there q ∙ a.there q; count = b.count ∙ a.count }
+
+  module _ (cs ds : List (Cell Links B)) (p : Ptr) (other : (q : Ptr) → same_ptr p q ≡ false → cell_at ds q ≡ cell_at cs q) where
+    pub Linked-other : (s : List Ptr) → IsFresh p s → Linked cs s → Linked ds s
+    Linked-other [] f l = tt
+    Linked-other (x ∷ []) f l = tt
+    Linked-other (x ∷ y ∷ r) f l = ((ap (λ z. next_of (links_of z)) (other x f.0) ∙ l.0.0, ap (λ z. prev_of (links_of z)) (other y f.1.0) ∙ l.0.1), Linked-other (y ∷ r) f.1 l.1)
+
+    pub Chained-other : (h : Option Ptr) (ss : List Ptr) → IsFresh p ss → Chained cs h ss → Chained ds h ss
+    Chained-other h ss f = Chained-same cs ds h ss (AllByRecursion-map (λ q. same_ptr p q ≡ false) (SameLink cs ds) (λ q n. ap (λ z. link_of (links_of z)) (other q n)) ss f)
+
+    content_at-other : (q : Ptr) → same_ptr p q ≡ false → content_at ds q ≡ content_at cs q
+    content_at-other q n = ap (λ z. content_of q (links_of z) (body_of z)) (other q n)
+
+    pub AllByRecursion-content_other : (ps : List Ptr) → IsFresh p ps → AllByRecursion (HasContent cs) ps → AllByRecursion (HasContent ds) ps
+    AllByRecursion-content_other [] f a = tt
+    AllByRecursion-content_other (x ∷ xs) f a = ((a.0.0, content_at-other x f.0 ∙ a.0.1), AllByRecursion-content_other xs f.1 a.1)
+
+    pub listed-other : (ps : List Ptr) → IsFresh p ps → listed ds ps ≡ listed cs ps
+    unfolding listed
+    listed-other [] f = refl
+    listed-other (x ∷ xs) f = λ i. one_of (content_at-other x f.0 i) ++ listed-other xs f.1 i
+
+  module _ (cs ds : List (Cell Links B)) (p : Ptr) (o : OnlyAt cs ds p) where
+    pub AllByRecursion-there_other : (ps : List Ptr) → AllByRecursion (λ q. is_there cs q ≡ true) ps → AllByRecursion (λ q. is_there ds q ≡ true) ps
+    AllByRecursion-there_other [] a = tt
+    AllByRecursion-there_other (x ∷ xs) a = (o.there x ∙ a.0, AllByRecursion-there_other xs a.1)

@@ -1,0 +1,130 @@
+-- Where the places of chunks lie.
+use Rattle.std.proofs.Common.{◌≡◌, ℕ, zero, suc, ◌+◌, ◌-◌, ◌*◌, ◌<◌, ◌^◌, List, [], ◌∷◌, ◌++◌, length, length-append, map, true, refl, sym, ap, ◌∙◌, subst, arith, lt→ltb}
+use Rattle.std.proofs.lemmas.List.{append-nil, append_assoc}
+use Rattle.std.specs.Prelude.{nat_lt}
+use Rattle.std.proofs.Flags.{T_true}
+use Rattle.std.proofs.ptr.Rows.{one_more, next}
+use denote.RawPtr.{Ptr, block_ptr, null_ptr, ◌+ₚ◌}
+use lib.ListN.{length-map}
+use Rattle.lhm_ring.specs.declared.nodes.Chunk.{Chunk}
+use Rattle.lhm_ring.proofs.lists.ListFacts.{AllByRecursion-left, AllByRecursion-right}
+use Rattle.lhm_ring.specs.Nodes.{Cell, pointers, is_block, AreBlocks, row, places}
+use Rattle.lhm_ring.specs.Links.{extent, place_count, IsLaid}
+
+pub places-none : (s : ℕ) → [] ≡ places s []
+unfolding places
+places-none s = refl
+
+pub row-none : (p : Ptr) (s n : ℕ) → n ≡ 0 → row p s n ≡ []
+unfolding row
+row-none p s n e = ap (row p s) e
+
+-- the place behind n others
+plus-zero : (p : Ptr) (s : ℕ) → p +ₚ (0 * s) ≡ p
+plus-zero (block_ptr b o) s = ap (λ (k : ℕ). block_ptr b k) (omega arith)
+plus-zero null_ptr s = refl
+
+plus-plus : (p : Ptr) (s n : ℕ) → (p +ₚ s) +ₚ (n * s) ≡ p +ₚ (suc n * s)
+plus-plus (block_ptr b o) s n = let more : suc n * s ≡ n * s + s = ap (λ (k : ℕ). k * s) (sym (one_more n)) ∙ next n s in ap (λ (k : ℕ). block_ptr b k) (omega (arith, more))
+plus-plus null_ptr s n = refl
+
+row-suc : (p : Ptr) (s n : ℕ) → row p s (suc n) ≡ row p s n ++ (p +ₚ (n * s)) ∷ []
+unfolding row
+row-suc p s zero = ap (λ q. q ∷ []) (sym (plus-zero p s))
+row-suc p s (suc n) = ap (λ qs. p ∷ qs) (row-suc (p +ₚ s) s n) ∙ ap (λ q. p ∷ row (p +ₚ s) s n ++ q ∷ []) (plus-plus p s n)
+
+pub row-last : (p : Ptr) (s n : ℕ) → row p s (n + 1) ≡ row p s n ++ (p +ₚ (n * s)) ∷ []
+row-last p s n = let one : n + 1 ≡ suc n = omega arith in ap (row p s) one ∙ row-suc p s n
+
+pub length-row : (p : Ptr) (s n : ℕ) → length (row p s n) ≡ n
+unfolding row
+length-row p s zero = refl
+length-row p s (suc n) = ap (λ (k : ℕ). suc k) (length-row (p +ₚ s) s n)
+
+pub places-last : (s : ℕ) (cs : List (Ptr × ℕ)) (c : Ptr × ℕ) → places s (cs ++ c ∷ []) ≡ row c.0 s c.1 ++ places s cs
+unfolding places
+places-last s [] c = sym (append-nil (row c.0 s c.1))
+places-last s (x ∷ xs) c = ap (λ ps. ps ++ row x.0 s x.1) (places-last s xs c) ∙ append_assoc (row c.0 s c.1) (places s xs) (row x.0 s x.1)
+
+pub nat_lt-near : (o : ℕ) → o < 2 ^ 63 → nat_lt o (2 ^ 63) ≡ true
+nat_lt-near o h = T_true (nat_lt o (2 ^ 63)) (lt→ltb o (2 ^ 63) h)
+
+-- places near the start of a block may be compared with null
+pub AreBlocks-row : (b o s n : ℕ) → o + n * s < 2 ^ 63 → AreBlocks (row (block_ptr b o) s n)
+unfolding row
+AreBlocks-row b o s zero h = tt
+AreBlocks-row b o s (suc n) h =
+    let more : suc n * s ≡ n * s + s = ap (λ (k : ℕ). k * s) (sym (one_more n)) ∙ next n s in
+    (nat_lt-near o (omega (arith, more)), AreBlocks-row b (o + s) s n (omega (arith, more)))
+
+is_block-first : (p : Ptr) (s n : ℕ) → AreBlocks (row p s (suc n)) → is_block p ≡ true
+unfolding row
+is_block-first p s n all = all.0
+
+-- the first of the places
+pub is_block-row_first : (p : Ptr) (s n : ℕ) (us : List Ptr) → us ≡ row p s (n + 1) → AreBlocks us → is_block p ≡ true
+is_block-row_first p s n us e all = let one : n + 1 ≡ suc n = omega arith in is_block-first p s n (subst AreBlocks (e ∙ ap (row p s) one) all)
+
+-- the last of the places, and the others
+pub is_block-row_last : (p : Ptr) (s n : ℕ) (us : List Ptr) → us ≡ row p s (n + 1) → AreBlocks us → is_block (p +ₚ (n * s)) ≡ true
+is_block-row_last p s n us e all = (AllByRecursion-right (λ q. is_block q ≡ true) (row p s n) ((p +ₚ (n * s)) ∷ []) (subst AreBlocks (e ∙ row-last p s n) all)).0
+
+pub AreBlocks-row_other : (p : Ptr) (s n : ℕ) (us : List Ptr) → us ≡ row p s (n + 1) → AreBlocks us → AreBlocks (row p s n)
+AreBlocks-row_other p s n us e all = AllByRecursion-left (λ q. is_block q ≡ true) (row p s n) ((p +ₚ (n * s)) ∷ []) (subst AreBlocks (e ∙ row-last p s n) all)
+
+-- the last unused place becomes the newest node
+pub row-next : (p : Ptr) (s n : ℕ) (us ps ls : List Ptr) → us ≡ row p s (n + 1) → us ++ ps ≡ ls → row p s n ++ (p +ₚ (n * s)) ∷ ps ≡ ls
+row-next p s n us ps ls e h = sym (append_assoc (row p s n) ((p +ₚ (n * s)) ∷ []) ps) ∙ ap (λ qs. qs ++ ps) (sym (e ∙ row-last p s n)) ∙ h
+
+-- the same numbers of places
+row-same : (p : Ptr) (s m n : ℕ) → m ≡ n → row p s m ≡ row p s n
+row-same p s m n e = ap (row p s) e
+
+-- a chunk more
+pub row-more : (p : Ptr) (s n : ℕ) (us ps : List Ptr) (cs : List (Ptr × ℕ)) → us ++ ps ≡ places s cs → (row p s n ++ us) ++ ps ≡ places s (cs ++ (p, n) ∷ [])
+row-more p s n us ps cs h = append_assoc (row p s n) us ps ∙ ap (λ qs. row p s n ++ qs) h ∙ sym (places-last s cs (p, n))
+
+pub length-places : (s : ℕ) (cs : List (Ptr × ℕ)) → length (places s cs) ≡ place_count cs
+unfolding places place_count
+length-places s [] = refl
+length-places s (c ∷ cs) = let a = length-append (places s cs) (row c.0 s c.1) in let b = length-places s cs in let d = length-row c.0 s c.1 in omega arith
+
+pub place_count-last : (cs : List (Ptr × ℕ)) (c : Ptr × ℕ) → place_count (cs ++ c ∷ []) ≡ place_count cs + c.1
+unfolding place_count
+place_count-last [] c = refl
+place_count-last (x ∷ cs) c = let a = place_count-last cs c in omega arith
+
+pub block_ptr-in_block : (p : Ptr) → is_block p ≡ true → (at : ℕ × ℕ) × (p ≡ block_ptr at.0 at.1)
+block_ptr-in_block (block_ptr b o) e = ((b, o), refl)
+block_ptr-in_block null_ptr e = cc
+
+-- a ring's chunks stay if its nodes keep theirs
+pub IsLaid-same : {us vs : List Ptr} {cs ds : List (Ptr × ℕ)} {recorded : List Chunk} {made : ℕ} → IsLaid us cs recorded made → vs ≡ us → ds ≡ cs → IsLaid vs ds recorded made
+IsLaid-same l e f = record { none_unused = e ∙ l.none_unused; all_recorded = f ∙ l.all_recorded; all_made = l.all_made ∙ ap place_count (sym f) }
+
+pub IsLaid-none : {us : List Ptr} {cs : List (Ptr × ℕ)} {recorded : List Chunk} → us ≡ [] → cs ≡ [] → recorded ≡ [] → IsLaid us cs recorded 0
+unfolding place_count
+IsLaid-none e f k = record { none_unused = e; all_recorded = f ∙ sym (ap (map extent) k); all_made = sym (ap place_count f) }
+
+pub row-less : (p : Ptr) (s n : ℕ) → 0 < n → row p s n ≡ row p s (n - 1 + 1)
+row-less p s n some = row-same p s n (n - 1 + 1) (omega arith)
+
+pub map-extent_last : (ks : List Chunk) (k : Chunk) → map extent (ks ++ k ∷ []) ≡ map extent ks ++ extent k ∷ []
+map-extent_last [] k = refl
+map-extent_last (x ∷ ks) k = ap (λ cs. extent x ∷ cs) (map-extent_last ks k)
+
+pub map-extent_none : (ks : List Chunk) → length ks ≡ 0 → map extent ks ≡ []
+map-extent_none [] e = refl
+map-extent_none (k ∷ ks) e = absurd (omega (arith, e))
+
+-- if no place is unused, there are as many nodes as places
+pub length-made : {L B : Type 0} (ns : List (Cell L B)) (us : List Ptr) (s : ℕ) (cs : List (Ptr × ℕ)) → us ++ pointers ns ≡ places s cs → us ≡ [] → length ns ≡ place_count cs
+length-made ns us s cs h e = sym (length-map ns (λ n. n.at)) ∙ ap length (ap (λ qs. qs ++ pointers ns) (sym e) ∙ h) ∙ length-places s cs
+
+-- a chunk more
+pub IsLaid-grown : {us vs : List Ptr} {cs ds : List (Ptr × ℕ)} {ks js : List Chunk} {made : ℕ} (c : Ptr × ℕ) → IsLaid us cs ks made → vs ≡ [] → ds ≡ cs ++ c ∷ [] → map extent js ≡ map extent ks ++ c ∷ [] → IsLaid vs ds js (made + c.1)
+IsLaid-grown {cs = cs} {made = made} c l e f k = record {
+  none_unused = e;
+  all_recorded = f ∙ ap (λ zs. zs ++ c ∷ []) l.all_recorded ∙ sym k;
+  all_made = ap (λ (n : ℕ). n + c.1) l.all_made ∙ sym (place_count-last cs c) ∙ sym (ap place_count f);
+}

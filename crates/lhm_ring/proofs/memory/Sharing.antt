@@ -1,0 +1,41 @@
+-- A `&` to the nodes is made if one to their links, keys and values is. Assumes `Logic`.
+use mathlib.Core.List.{List, [], ◌∷◌}
+use seplogic.Ra.Ura.{Ura}
+use base.Fraction.{full_share}
+use base.Fml.{Lft, Fml, Incl, fsep}
+use types.Logic.{Logic}
+use Rattle.std.specs.Prelude.{Option, Some, None}
+use denote.RattleType.{RattleType, RowLaws}
+use denote.Param.Laws.{Laws}
+use denote.RawPtr.{Ptr, lies_at}
+use denote.Sharing.{ShrLaws}
+use denote.SharingLaws.{beside_shr_laws, nothing_shr_laws}
+use denote.Shares.{Shares-less}
+use denote.Struct.Lending.{Lends, lent_at, lent_at_shr_laws, Lends-lies, Lends-first, Lends-both, Lends-nothing}
+use Rattle.lhm_ring.specs.Nodes.{Cell, links_address, key_address, value_address, deed_owns, body_owns, cell_owns, cells_own, body_lent, cell_lent, cells_lent}
+
+module _ (L K V : RattleType) (LL : RowLaws L) (LK : RowLaws K) (LV : RowLaws V) where
+  body_lent_laws : (p : Ptr) (x : Option (K.Denot × V.Denot)) → ShrLaws (body_lent L K V p x)
+  body_lent_laws p None = nothing_shr_laws
+  body_lent_laws p (Some x) = beside_shr_laws _ _ (lent_at_shr_laws K LK (key_address L K V p) x.0) (lent_at_shr_laws V LV (value_address L K V p) x.1)
+
+  pub cells_lent_laws : (cs : List (Cell L.Denot (K.Denot × V.Denot))) → ShrLaws (cells_lent L K V cs)
+  cells_lent_laws [] = nothing_shr_laws
+  cells_lent_laws (c ∷ cs) = beside_shr_laws _ _ (beside_shr_laws _ _ (lent_at_shr_laws L LL (links_address L K V c.at) c.links) (body_lent_laws c.at c.body)) (cells_lent_laws cs)
+
+module _ {M : Type 1} {𝓤 : Ura M} (𝓛 : Logic 𝓤) (l : Lft) (L K V : RattleType) (LL : Laws L) (LK : Laws K) (LV : Laws V) (incL : Incl l L.lives) (incK : Incl l K.lives) (incV : Incl l V.lives) where
+  Lends-body : (p : Ptr) (x : Option (K.Denot × V.Denot)) → Lends 𝓛 (body_owns L K V p x) (body_lent L K V p x) l
+  Lends-body p None = Lends-nothing 𝓛 (body_owns L K V p None) l
+  Lends-body p (Some x) = Lends-both 𝓛 (lies_at K full_share (key_address L K V p) x.0) (lies_at V full_share (value_address L K V p) x.1) (lent_at K (key_address L K V p) x.0) (lent_at V (value_address L K V p) x.1) l
+      (Lends-lies 𝓛 K l (key_address L K V p) x.0 (Shares-less 𝓛 K K.lives l incK (LK.shares 𝓛) x.0)) (Lends-lies 𝓛 V l (value_address L K V p) x.1 (Shares-less 𝓛 V V.lives l incV (LV.shares 𝓛) x.1))
+
+  Lends-cell : (c : Cell L.Denot (K.Denot × V.Denot)) → Lends 𝓛 (cell_owns L K V c) (cell_lent L K V c) l
+  Lends-cell c =
+      Lends-both 𝓛 (lies_at L full_share (links_address L K V c.at) c.links) (fsep (body_owns L K V c.at c.body) (deed_owns L K V c.at))
+      (lent_at L (links_address L K V c.at) c.links) (body_lent L K V c.at c.body) l
+      (Lends-lies 𝓛 L l (links_address L K V c.at) c.links (Shares-less 𝓛 L L.lives l incL (LL.shares 𝓛) c.links))
+      (Lends-first 𝓛 (body_owns L K V c.at c.body) (deed_owns L K V c.at) (body_lent L K V c.at c.body) l (Lends-body c.at c.body))
+
+  pub Lends-cells : (Z : Fml) (cs : List (Cell L.Denot (K.Denot × V.Denot))) → Lends 𝓛 (cells_own L K V Z cs) (cells_lent L K V cs) l
+  Lends-cells Z [] = Lends-nothing 𝓛 Z l
+  Lends-cells Z (c ∷ cs) = Lends-both 𝓛 (cell_owns L K V c) (cells_own L K V Z cs) (cell_lent L K V c) (cells_lent L K V cs) l (Lends-cell c) (Lends-cells Z cs)

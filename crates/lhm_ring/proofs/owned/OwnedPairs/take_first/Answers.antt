@@ -1,0 +1,31 @@
+use Rattle.std.proofs.Common.{◌∙◌, ◌-◌, ◌∷◌, ap, sym, subst}
+use Rattle.lhm_ring.proofs.rings.Spans.{span_triples-none, IsAt-first, Holds-first, IsSpan-rest_of_first, span_triples-first}
+use Rattle.lhm_ring.proofs.owned.OwnedPairs.take_first.Goals as goal
+use Rattle.lhm_ring.specs.Links.{IsSpan, span_triples}
+
+pub returns-then-self-eq0 : goal.returns-then-self-eq0
+returns-then-self-eq0 g c =
+    let i = c.self.inside in let cs = i.nodes.cells in
+    let e = sym c.self.view_is ∙ ap (λ k. span_triples cs k i.first.ptr) c.if-self-eq0.true ∙ span_triples-none cs i.first.ptr in (e, e)
+
+pub links-links-requires : goal.links-links-requires
+links-links-requires g c = let i = c.self.inside in let s = c.self.invariant in IsAt-first i.nodes.cells i.first.ptr s.last i.left s.span c.if-self-eq0.false
+
+pub take-key-requires : goal.take-key-requires
+take-key-requires g c = let i = c.self.inside in let s = c.self.invariant in Holds-first i.nodes.cells i.first.ptr s.last i.left s.span c.if-self-eq0.false
+
+pub invariant_of-self : goal.invariant_of-self
+invariant_of-self g c =
+    let i = c.self.inside in let s = c.self.invariant in let out = c.take-key.ensures in
+    let rest = IsSpan-rest_of_first i.nodes.cells i.first.ptr s.last i.left s.span c.if-self-eq0.false _ c.links-links.ensures _ c.address-self-inside.ensures in
+    record {
+      last = s.last;
+      span = subst (λ zs. IsSpan zs c.address-self-inside.result.ptr s.last (i.left - 1)) (sym out.cells) rest;
+      all_recorded = out.land.1 ∙ s.all_recorded;
+    }
+
+pub returns : goal.returns
+returns g c =
+    let i = c.self.inside in let s = c.self.invariant in let out = c.take-key.ensures in
+    sym c.self.view_is ∙ span_triples-first i.nodes.cells i.first.ptr s.last i.left s.span c.if-self-eq0.false _ c.links-links.ensures _ c.address-self-inside.ensures _ out.body
+    ∙ ap (λ zs. (c.links-links.result.now.hash, c.take-key.result) ∷ span_triples zs (i.left - 1) c.address-self-inside.result.ptr) (sym out.cells)

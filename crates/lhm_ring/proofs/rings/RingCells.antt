@@ -1,0 +1,175 @@
+-- The nodes of a ring, and the one at null that stands for its ends.
+use Rattle.std.proofs.Common.{◌≡◌, true, false, cond, List, [], ◌∷◌, ◌++◌, Option, Some, None, refl, sym, ap, ◌∙◌, subst, arith}
+use Rattle.std.specs.List.{AllByRecursion}
+use denote.RawPtr.{Ptr, block_ptr, null_ptr}
+use Rattle.lhm_ring.specs.declared.ring.Links.{Links}
+use Rattle.lhm_ring.specs.declared.ring.Ends.{Ends}
+use Rattle.lhm_ring.specs.declared.pointer.Link.{Link}
+use Rattle.lhm_ring.proofs.lists.Apart.{IsApart-none, IsApart-added}
+use Rattle.lhm_ring.proofs.lists.ListFacts.{AllByRecursion-map}
+use Rattle.lhm_ring.proofs.rings.Lookup.{AllByRecursion-at}
+use Rattle.lhm_ring.proofs.lists.Options.{none_some, Some-injective}
+use Rattle.lhm_ring.proofs.rings.SameNodes.{Chained-same, SameLink}
+use Rattle.lhm_ring.proofs.rings.Writes.{IsAt-there}
+use Rattle.lhm_ring.specs.Nodes.{Cell, cell, same_ptr, pointers, cell_at, links_of, body_of, links_at, body_at, change, with_links, with_body, is_block, AreBlocks, IsAt, Holds}
+use Rattle.lhm_ring.specs.Links.{ends_links, ring_cells, leading_on, leading_back, LeadsOn, LeadsBack, chaining_to, ChainsTo, has_links, next_of, prev_of, next_at, prev_at, is_there, content_at, content_of, Linked, Chained, HasContent, listed, one_of, IsJoined, IsRing, RingOk, link_of}
+use Rattle.lhm_ring.specs.Pointer.{led_to, target}
+
+-- where a link leads
+pub led_to-apart : (p : Ptr) → same_ptr null_ptr p ≡ false → led_to p ≡ Some p
+led_to-apart (block_ptr b o) h = refl
+led_to-apart null_ptr h = cc
+
+pub led_to-some : (p q : Ptr) → led_to p ≡ Some q → p ≡ q
+led_to-some (block_ptr b o) q e = Some-injective (block_ptr b o) q e
+led_to-some null_ptr q e = absurd (none_some q e)
+
+pub led_to-none : (p : Ptr) → led_to p ≡ None → p ≡ null_ptr
+led_to-none (block_ptr b o) e = absurd cc
+led_to-none null_ptr e = refl
+
+-- a block is not null
+pub same_ptr-null : (q : Ptr) → is_block q ≡ true → same_ptr null_ptr q ≡ false
+same_ptr-null (block_ptr c o) h = refl
+same_ptr-null null_ptr h = cc
+
+-- a join, if its nodes are known by other names
+pub IsJoined-same : {B : Type 0} {cs ds : List (Cell Links B)} {a b c d : Ptr} → a ≡ c → b ≡ d → IsJoined cs ds a b → IsJoined cs ds c d
+IsJoined-same {cs = cs} {ds = ds} e f = subst (λ (z : Ptr × Ptr). IsJoined cs ds z.0 z.1) (λ i. (e i, f i))
+
+-- the node at null
+module _ {B : Type 0} (e : Ends) (cs : List (Cell Links B)) where
+  pub links_at-null : links_at (ring_cells e cs) null_ptr ≡ Some (ends_links e)
+  unfolding cell_at
+  links_at-null = refl
+
+  pub is_there-null : is_there (ring_cells e cs) null_ptr ≡ true
+  is_there-null = ap has_links links_at-null
+
+  pub next_at-null : next_at (ring_cells e cs) null_ptr ≡ e.first.ptr
+  unfolding cell_at
+  next_at-null = refl
+
+  pub prev_at-null : prev_at (ring_cells e cs) null_ptr ≡ e.last.ptr
+  unfolding cell_at
+  prev_at-null = refl
+
+  pub same_ptr-content : (p : Ptr) → HasContent (ring_cells e cs) p → same_ptr null_ptr p ≡ false
+  unfolding cell_at
+  same_ptr-content (block_ptr b o) h = refl
+  same_ptr-content null_ptr h = absurd (none_some h.0 h.1)
+
+  ring_cells-leading_on : (o : Link) (l : Links) → links_at (ring_cells e cs) null_ptr ≡ Some l → ring_cells (record e { first = o }) cs ≡ with_links null_ptr (leading_on o l) (ring_cells e cs)
+  unfolding cell_at change
+  ring_cells-leading_on o l h = ap (λ (k : Links). cell null_ptr (leading_on o k) None ∷ cs) (Some-injective (ends_links e) l h)
+
+  pub LeadsOn-end : (o : Link) (p : Ptr) → p ≡ null_ptr → LeadsOn (ring_cells e cs) p o (ring_cells (record e { first = o }) cs)
+  LeadsOn-end o p is = subst (λ q. LeadsOn (ring_cells e cs) q o (ring_cells (record e { first = o }) cs)) (sym is) (ring_cells-leading_on o)
+
+  ring_cells-leading_back : (o : Link) (l : Links) → links_at (ring_cells e cs) null_ptr ≡ Some l → ring_cells (record e { last = o }) cs ≡ with_links null_ptr (leading_back o l) (ring_cells e cs)
+  unfolding cell_at change
+  ring_cells-leading_back o l h = ap (λ (k : Links). cell null_ptr (leading_back o k) None ∷ cs) (Some-injective (ends_links e) l h)
+
+  pub LeadsBack-end : (o : Link) (p : Ptr) → p ≡ null_ptr → LeadsBack (ring_cells e cs) p o (ring_cells (record e { last = o }) cs)
+  LeadsBack-end o p is = subst (λ q. LeadsBack (ring_cells e cs) q o (ring_cells (record e { last = o }) cs)) (sym is) (ring_cells-leading_back o)
+
+-- the others
+module _ {B : Type 0} (e : Ends) (cs : List (Cell Links B)) (p : Ptr) (b : is_block p ≡ true) where
+  pub cell_at-ring_cells : cell_at (ring_cells e cs) p ≡ cell_at cs p
+  unfolding cell_at
+  cell_at-ring_cells = ap (λ y. cond y (Some (cell null_ptr (ends_links e) None)) (cell_at cs p)) (same_ptr-null p b)
+
+  pub links_at-ring_cells : links_at (ring_cells e cs) p ≡ links_at cs p
+  links_at-ring_cells = ap links_of cell_at-ring_cells
+
+  pub body_at-ring_cells : body_at (ring_cells e cs) p ≡ body_at cs p
+  body_at-ring_cells = ap body_of cell_at-ring_cells
+
+  pub ring_cells-change : (f : Cell Links B → Cell Links B) → ring_cells e (change p f cs) ≡ change p f (ring_cells e cs)
+  unfolding change
+  ring_cells-change f = sym (ap (λ y. cond y (f (cell null_ptr (ends_links e) None) ∷ cs) (cell null_ptr (ends_links e) None ∷ change p f cs)) (same_ptr-null p b))
+
+  pub ring_cells-with_links : (l : Links) (ds : List (Cell Links B)) → ds ≡ with_links p l cs → ring_cells e ds ≡ with_links p l (ring_cells e cs)
+  ring_cells-with_links l ds is = ap (ring_cells e) is ∙ ring_cells-change (λ c. cell c.at l c.body)
+
+  pub ring_cells-with_body : (x : Option B) (ds : List (Cell Links B)) → ds ≡ with_body p x cs → ring_cells e ds ≡ with_body p x (ring_cells e cs)
+  ring_cells-with_body x ds is = ap (ring_cells e) is ∙ ring_cells-change (λ c. cell c.at c.links x)
+
+  pub IsAt-in_nodes : IsAt (ring_cells e cs) p → IsAt cs p
+  IsAt-in_nodes h = (h.0, sym links_at-ring_cells ∙ h.1)
+
+  pub Holds-in_nodes : Holds (ring_cells e cs) p → Holds cs p
+  Holds-in_nodes h = (h.0, sym body_at-ring_cells ∙ h.1)
+
+  pub ChainsTo-ring_cells : (o : Link) (ds : List (Cell Links B)) → ChainsTo cs p o ds → ChainsTo (ring_cells e cs) p o (ring_cells e ds)
+  ChainsTo-ring_cells o ds k l h = ring_cells-with_links (chaining_to o l) ds (k l (sym links_at-ring_cells ∙ h))
+
+  pub LeadsOn-node : (o : Link) (ds : List (Cell Links B)) (l : Links) → links_at cs p ≡ Some l → ds ≡ with_links p (leading_on o l) cs → LeadsOn (ring_cells e cs) p o (ring_cells e ds)
+  LeadsOn-node o ds l h is k g = ring_cells-with_links (leading_on o l) ds is ∙ ap (λ (z : Links). with_links p (leading_on o z) (ring_cells e cs)) (Some-injective l k (sym h ∙ sym links_at-ring_cells ∙ g))
+
+  pub LeadsBack-node : (o : Link) (ds : List (Cell Links B)) (l : Links) → links_at cs p ≡ Some l → ds ≡ with_links p (leading_back o l) cs → LeadsBack (ring_cells e cs) p o (ring_cells e ds)
+  LeadsBack-node o ds l h is k g = ring_cells-with_links (leading_back o l) ds is ∙ ap (λ (z : Links). with_links p (leading_back o z) (ring_cells e cs)) (Some-injective l k (sym h ∙ sym links_at-ring_cells ∙ g))
+
+-- a node that is there, and is not the one at null, lies in a block
+module _ {B : Type 0} (e : Ends) (cs : List (Cell Links B)) (all : AreBlocks (pointers cs)) where
+  pub is_block-there : (p : Ptr) → same_ptr null_ptr p ≡ false → is_there (ring_cells e cs) p ≡ true → is_block p ≡ true
+  unfolding cell_at
+  is_block-there (block_ptr c o) f h = let l = IsAt-there cs (block_ptr c o) h in AllByRecursion-at (λ q. is_block q ≡ true) cs (block_ptr c o) l.0 all l.1
+  is_block-there null_ptr f h = cc
+
+-- what nodes hold is what they hold in the ring
+module _ {B : Type 0} (e : Ends) (cs : List (Cell Links B)) where
+  abbrev Apart : Ptr → Type 0
+  Apart p = same_ptr null_ptr p ≡ false
+
+  cell_at-apart : (p : Ptr) → Apart p → cell_at (ring_cells e cs) p ≡ cell_at cs p
+  unfolding cell_at
+  cell_at-apart p h = ap (λ y. cond y (Some (cell null_ptr (ends_links e) None)) (cell_at cs p)) h
+
+  content_at-in_nodes : (p : Ptr) → Apart p → content_at (ring_cells e cs) p ≡ content_at cs p
+  content_at-in_nodes p h = ap (λ z. content_of p (links_of z) (body_of z)) (cell_at-apart p h)
+
+  pub AllByRecursion-apart : (ps : List Ptr) → AllByRecursion (HasContent (ring_cells e cs)) ps → AllByRecursion Apart ps
+  AllByRecursion-apart [] h = tt
+  AllByRecursion-apart (p ∷ ps) h = (same_ptr-content e cs p h.0, AllByRecursion-apart ps h.1)
+
+  pub AllByRecursion-content_in_nodes : (ps : List Ptr) → AllByRecursion (HasContent (ring_cells e cs)) ps → AllByRecursion (HasContent cs) ps
+  AllByRecursion-content_in_nodes [] h = tt
+  AllByRecursion-content_in_nodes (p ∷ ps) h = ((h.0.0, sym (content_at-in_nodes p (same_ptr-content e cs p h.0)) ∙ h.0.1), AllByRecursion-content_in_nodes ps h.1)
+
+  pub listed-in_nodes : (ps : List Ptr) → AllByRecursion Apart ps → listed (ring_cells e cs) ps ≡ listed cs ps
+  unfolding listed
+  listed-in_nodes [] h = refl
+  listed-in_nodes (p ∷ ps) h = λ i. one_of (content_at-in_nodes p h.0 i) ++ listed-in_nodes ps h.1 i
+
+  pub Linked-in_nodes : (ps : List Ptr) → AllByRecursion Apart ps → Linked (ring_cells e cs) ps → Linked cs ps
+  Linked-in_nodes [] h l = tt
+  Linked-in_nodes (p ∷ []) h l = tt
+  Linked-in_nodes (p ∷ q ∷ ps) h l =
+      ((sym (ap (λ z. next_of (links_of z)) (cell_at-apart p h.0)) ∙ l.0.0, sym (ap (λ z. prev_of (links_of z)) (cell_at-apart q h.1.0)) ∙ l.0.1), Linked-in_nodes (q ∷ ps) h.1 l.1)
+
+  pub Chained-in_nodes : (h : Option Ptr) (ss : List Ptr) → AllByRecursion Apart ss → Chained (ring_cells e cs) h ss → Chained cs h ss
+  Chained-in_nodes h ss f = Chained-same (ring_cells e cs) cs h ss (AllByRecursion-map Apart (SameLink (ring_cells e cs) cs) (λ p n. sym (ap (λ z. link_of (links_of z)) (cell_at-apart p n))) ss f)
+
+  pub Chained-in_ring : (h : Option Ptr) (ss : List Ptr) → AllByRecursion Apart ss → Chained cs h ss → Chained (ring_cells e cs) h ss
+  Chained-in_ring h ss f = Chained-same cs (ring_cells e cs) h ss (AllByRecursion-map Apart (SameLink cs (ring_cells e cs)) (λ p n. ap (λ z. link_of (links_of z)) (cell_at-apart p n)) ss f)
+
+  pub AllByRecursion-there_in_nodes : (ps : List Ptr) → AllByRecursion Apart ps → AllByRecursion (λ p. is_there (ring_cells e cs) p ≡ true) ps → AllByRecursion (λ p. is_there cs p ≡ true) ps
+  AllByRecursion-there_in_nodes [] f h = tt
+  AllByRecursion-there_in_nodes (p ∷ ps) f h = (sym (ap (λ z. has_links (links_of z)) (cell_at-apart p f.0)) ∙ h.0, AllByRecursion-there_in_nodes ps f.1 h.1)
+
+-- a ring without nodes
+module _ {B : Type 0} (e : Ends) (cs : List (Cell Links B)) (spare : Link) (none : cs ≡ []) (free : target spare ≡ None) (first : target e.first ≡ None) (last : target e.last ≡ None) where
+  IsRing-bare : IsRing (ring_cells {B = B} e []) [] (target spare) []
+  IsRing-bare = record {
+    linked = ((next_at-null {B = B} e [] ∙ led_to-none e.first.ptr first, prev_at-null {B = B} e [] ∙ led_to-none e.last.ptr last), tt);
+    chained = free;
+    held = tt;
+    there = (is_there-null {B = B} e [], tt);
+    apart = IsApart-added null_ptr [] tt IsApart-none;
+    count = refl;
+  }
+
+  pub RingOk-bare : RingOk (ring_cells e cs) spare 0 0
+  RingOk-bare = subst (λ zs. RingOk (ring_cells e zs) spare 0 0) (sym none)
+      (record { held_pointers = []; spare_pointers = []; ring = IsRing-bare; held_count = refl; enough_spares = omega arith; bounded = omega arith })

@@ -1,0 +1,88 @@
+-- The nodes of a ring, what it lists, and where it is cut.
+use Rattle.std.proofs.Common.{◌≡◌, ℕ, suc, ◌+◌, ◌≤◌, ◌^◌, List, [], ◌∷◌, ◌++◌, length, Option, refl, sym, ap, ◌∙◌, subst, arith, Some}
+use Rattle.std.specs.List.{AllByRecursion}
+use denote.RawPtr.{Ptr, null_ptr}
+use Rattle.lhm_ring.specs.declared.ring.Links.{Links}
+use Rattle.lhm_ring.specs.declared.pointer.Link.{Link}
+use Rattle.lhm_ring.proofs.rings.Contents.{at-content_of}
+use Rattle.lhm_ring.proofs.lists.Rows.{follow-row}
+use Rattle.lhm_ring.specs.Nodes.{Cell, links_at, body_at}
+use Rattle.lhm_ring.specs.Links.{HasContent, IsRing, follow, listed, one_of, ring_list, RingOk, content_at}
+use Rattle.lhm_ring.specs.Ring.{state, State, IsHeld, AtHeld, Held, SplitAround}
+use Rattle.lhm_ring.specs.Pointer.{target}
+
+module _ {B : Type 0} where
+  -- where a ring is cut at p, if what it lists is
+  pub record CutAt (cs : List (Cell Links B)) (ps : List Ptr) (us : List (Held B)) (t : Held B) (vs : List (Held B)) (p : Ptr) : Type 0 where
+    pub split : SplitAround ps p
+    pub here : content_at cs p ≡ Some t
+    pub listed_before : listed cs split.before ≡ us
+    pub listed_after : listed cs split.after ≡ vs
+
+  pub CutAt-listed : (cs : List (Cell Links B)) (ps : List Ptr) → AllByRecursion (HasContent cs) ps → (us : List (Held B)) (t : Held B) (vs : List (Held B)) → listed cs ps ≡ us ++ t ∷ vs → CutAt cs ps us t vs t.at
+  unfolding listed
+  CutAt-listed cs [] h [] t vs e = absurd cc
+  CutAt-listed cs [] h (a ∷ us) t vs e = absurd cc
+  CutAt-listed cs (p ∷ ps) h [] t vs e =
+      let e' : h.0.0 ∷ listed cs ps ≡ t ∷ vs = sym (ap (λ o. one_of o ++ listed cs ps) h.0.1) ∙ e in
+      let first : h.0.0 ≡ t = cc in let rest : listed cs ps ≡ vs = cc in
+      let at : p ≡ t.at = sym (at-content_of p (links_at cs p) (body_at cs p) h.0.0 h.0.1) ∙ ap (λ (z : Held B). z.at) first in
+      record {
+        split = record { before = []; after = ps; is = ap (λ q. q ∷ ps) at };
+        here = ap (content_at cs) (sym at) ∙ h.0.1 ∙ ap (λ z. Some z) first;
+        listed_before = refl;
+        listed_after = rest;
+      }
+  CutAt-listed cs (p ∷ ps) h (a ∷ us) t vs e =
+      let e' : h.0.0 ∷ listed cs ps ≡ a ∷ (us ++ t ∷ vs) = sym (ap (λ o. one_of o ++ listed cs ps) h.0.1) ∙ e in
+      let first : h.0.0 ≡ a = cc in let rest : listed cs ps ≡ us ++ t ∷ vs = cc in
+      let on = CutAt-listed cs ps h.1 us t vs rest in
+      record {
+        split = record { before = p ∷ on.split.before; after = on.split.after; is = ap (λ qs. p ∷ qs) on.split.is };
+        here = on.here;
+        listed_before = ap (λ o. one_of o ++ listed cs on.split.before) h.0.1 ∙ ap (λ l. h.0.0 ∷ l) on.listed_before ∙ ap (λ z. z ∷ us) first;
+        listed_after = on.listed_after;
+      }
+
+-- what a ring lists
+module _ {B : Type 0} where
+  pub ring_list-listed : (cs : List (Cell Links B)) (ps : List Ptr) (spare : Option Ptr) (ss : List Ptr) (n : ℕ) → IsRing cs ps spare ss → length ps ≡ n → ring_list cs n ≡ listed cs ps
+  ring_list-listed cs ps spare ss n r e = ap (ring_list cs) (sym e) ∙ ap (listed cs) (follow-row cs null_ptr ps null_ptr r.linked)
+
+  pub ring_list-none : (cs : List (Cell Links B)) (n : ℕ) → n ≡ 0 → ring_list cs n ≡ []
+  unfolding follow listed
+  ring_list-none cs n e = ap (ring_list cs) e
+
+-- the held nodes of a ring, split at p
+module _ {B : Type 0} where
+  pub ring_split : {cs : List (Cell Links B)} {ps : List Ptr} {spare : Option Ptr} {ss : List Ptr} {p : Ptr} → IsRing cs ps spare ss → (s : SplitAround ps p) → IsRing cs (s.before ++ p ∷ s.after) spare ss
+  ring_split {cs} {ps} {spare} {ss} r s = subst (λ qs. IsRing cs qs spare ss) s.is r
+
+  pub Found-listed : (cs : List (Cell Links B)) (spare : Link) (n m : ℕ) (ok : RingOk cs spare n m) (p : Ptr) → AtHeld (ring_list cs n) p (λ xs t ys. CutAt cs ok.held_pointers xs t ys p)
+  Found-listed cs spare n m ok p xs t ys e at =
+      subst (CutAt cs ok.held_pointers xs t ys) at
+      (CutAt-listed cs ok.held_pointers ok.ring.held xs t ys (sym (ring_list-listed cs ok.held_pointers (target spare) ok.spare_pointers n ok.ring ok.held_count) ∙ e))
+
+  pub Found-held : (cs : List (Cell Links B)) (spare : Link) (n m : ℕ) (v : State B) {total : ℕ} (p : Ptr) (ok : RingOk cs spare n m) → state (ring_list cs n) m total ≡ v → AtHeld v.held p (λ xs t ys. CutAt cs ok.held_pointers xs t ys p)
+  Found-held cs spare n m v p ok w xs t ys h = Found-listed cs spare n m ok p xs t ys (ap (λ (z : State B). z.held) w ∙ h)
+
+  pub NodeAt-held : (cs : List (Cell Links B)) (spare : Link) (n m : ℕ) (v : State B) {total : ℕ} (p : Ptr) (ok : RingOk cs spare n m) → state (ring_list cs n) m total ≡ v → IsHeld v.held p → SplitAround ok.held_pointers p
+  NodeAt-held cs spare n m v p ok w h = (Found-held cs spare n m v p ok w h.before h.node h.after h.is h.at_is).split
+
+  pub length-listed : (cs : List (Cell Links B)) (ps : List Ptr) → AllByRecursion (HasContent cs) ps → length (listed cs ps) ≡ length ps
+  unfolding listed
+  length-listed cs [] h = refl
+  length-listed cs (p ∷ ps) h = ap (λ o. length (one_of o ++ listed cs ps)) h.0.1 ∙ ap (λ n. suc n) (length-listed cs ps h.1)
+
+  pub length-held : (cs : List (Cell Links B)) (spare : Link) (n m : ℕ) (v : State B) {total : ℕ} → RingOk cs spare n m → state (ring_list cs n) m total ≡ v → n ≡ length v.held
+  length-held cs spare n m v ok w =
+      sym ok.held_count ∙ sym (length-listed cs ok.held_pointers ok.ring.held) ∙ sym (ap length (ring_list-listed cs ok.held_pointers (target spare) ok.spare_pointers n ok.ring ok.held_count)) ∙ ap (λ (z : State B). length z.held) w
+
+  pub length-bounded : (cs : List (Cell Links B)) (spare : Link) (n m : ℕ) (v : State B) {total : ℕ} → RingOk cs spare n m → state (ring_list cs n) m total ≡ v → length v.held + v.spares ≤ 2 ^ 59
+  length-bounded cs spare n m v ok w =
+      let a = length-held cs spare n m v ok w in let b = ap (λ (z : State B). z.spares) w in let c = ok.bounded in omega arith
+
+  pub length-within : (cs : List (Cell Links B)) (spare : Link) (n m : ℕ) (v : State B) {total : ℕ} → length cs ≡ suc total → RingOk cs spare n m → state (ring_list cs n) m total ≡ v → length v.held + v.spares ≤ v.nodes
+  length-within cs spare n m v {total} all ok w =
+      let a = length-held cs spare n m v ok w in let b = ap (λ (z : State B). z.spares) w in let c = ap (λ (z : State B). z.nodes) w in
+      let d = ok.ring.count in let e = ok.held_count in let f = ok.enough_spares in omega arith

@@ -1,0 +1,265 @@
+-- A row of nodes from one to another: its first and its last, and what is left without them.
+use Rattle.std.proofs.Common.{◌≡◌, ℕ, ◌-◌, false, List, [], ◌∷◌, ◌++◌, length, Some, None, refl, sym, ap, ◌∙◌, subst, arith, length-append}
+use lib.ListN.{length-map}
+use Rattle.std.specs.List.{AllByRecursion}
+use denote.RawPtr.{Ptr}
+use Rattle.lhm_ring.specs.declared.ring.Links.{Links}
+use Rattle.lhm_ring.proofs.lists.Apart.{IsFresh, IsApart-left, IsFresh-head, IsApart-tail, IsFresh-middle}
+use Rattle.lhm_ring.proofs.rings.Contents.{content_of-holds}
+use Rattle.lhm_ring.proofs.lists.ListFacts.{last_from, AllByRecursion-left, AllByRecursion-right, SplitLast-last_from}
+use Rattle.lhm_ring.proofs.memory.OneNodeChanged.{links_at-with_body, AllByRecursion-content_other, listed-other}
+use Rattle.lhm_ring.proofs.rings.RingNodes.{length-listed}
+use Rattle.lhm_ring.proofs.lists.Rows.{RowCut-linked, listed-append}
+use Rattle.lhm_ring.proofs.rings.SameNodes.{Linked-same}
+use Rattle.lhm_ring.proofs.rings.Writes.{cell_at-change_other, content_of-links}
+use Rattle.lhm_ring.specs.Nodes.{Cell, cell, cell_at, same_ptr, links_at, body_at, IsApart, IsAt, Holds, with_body}
+use Rattle.lhm_ring.specs.Links.{next_of, prev_of, link_of, next_at, prev_at, content_of, Linked, HasContent, listed, one_of, last_pointer, HasEnds, pointers_from, span_triples, IsSpan}
+use Rattle.lhm_ring.specs.Ring.{Held, held, triples, SplitFirst, SplitLast}
+
+module _ {B : Type 0} (cs : List (Cell Links B)) where
+  pub listed-none : (f : Ptr) → listed cs (pointers_from cs 0 f) ≡ []
+  unfolding pointers_from listed
+  listed-none f = refl
+
+  pub span_triples-none : (f : Ptr) → span_triples cs 0 f ≡ []
+  span_triples-none f = ap triples (listed-none f)
+
+  -- the pointers from f on are those that the row names
+  pub pointers_from-row : (f b : Ptr) (rs : List Ptr) → Linked cs rs → HasEnds rs f b → pointers_from cs (length rs) f ≡ rs
+  unfolding pointers_from
+  pointers_from-row f b [] k e = refl
+  pointers_from-row f b (r ∷ []) k e = ap (λ z. z ∷ []) (sym e.0)
+  pointers_from-row f b (r ∷ s ∷ rs) k e = λ i. sym e.0 i ∷ (ap (λ z. pointers_from cs (length (s ∷ rs)) z) (ap (next_at cs) (sym e.0) ∙ k.0.0) ∙ pointers_from-row s b (s ∷ rs) k.1 (refl, e.1)) i
+
+  pub pointers_from-span : (f b : Ptr) (k : ℕ) → (s : IsSpan cs f b k) → pointers_from cs k f ≡ s.pointers
+  pointers_from-span f b k s = ap (λ z. pointers_from cs z f) (sym s.count) ∙ pointers_from-row f b s.pointers s.linked s.ends
+
+  pub length-listed_span : (f b : Ptr) (k : ℕ) → IsSpan cs f b k → k ≡ length (listed cs (pointers_from cs k f))
+  length-listed_span f b k s = sym (ap (λ ps. length (listed cs ps)) (pointers_from-span f b k s) ∙ length-listed cs s.pointers s.held ∙ s.count)
+
+  pub length-span_triples : (f b : Ptr) (k : ℕ) → IsSpan cs f b k → k ≡ length (span_triples cs k f)
+  length-span_triples f b k s = length-listed_span f b k s ∙ sym (length-map (listed cs (pointers_from cs k f)) (λ (t : Held B). (t.hash, t.pair)))
+
+pub last_pointer-last_from : (p : Ptr) (ps : List Ptr) → last_pointer p ps ≡ last_from p ps
+last_pointer-last_from p [] = refl
+last_pointer-last_from p (q ∷ qs) = last_pointer-last_from q qs
+
+module _ {B : Type 0} where
+  pub Linked-tail : (cs : List (Cell Links B)) (x : Ptr) (xs : List Ptr) → Linked cs (x ∷ xs) → Linked cs xs
+  Linked-tail cs x [] k = tt
+  Linked-tail cs x (y ∷ ys) k = k.1
+
+-- the last of a row, with those before it
+pub record LastCut {B : Type 0} (cs : List (Cell Links B)) (f b : Ptr) (rs : List Ptr) : Type 0 where
+  pub split : SplitLast (λ q. q) rs b
+  pub linked : Linked cs split.before
+  pub ends : HasEnds split.before f (prev_at cs b)
+
+module _ {B : Type 0} (cs : List (Cell Links B)) where
+  ends_before : (f : Ptr) (zs : List Ptr) (z : Ptr) → Linked cs (zs ++ z ∷ []) → ((r : Ptr) (rs : List Ptr) → zs ≡ r ∷ rs → r ≡ f) → Linked cs zs × HasEnds zs f (prev_at cs z)
+  ends_before f [] z k h = (tt, tt)
+  ends_before f (x ∷ xs) z k h = let c = RowCut-linked cs x xs z [] k in (c.before, (h x xs refl, last_pointer-last_from x xs ∙ sym c.edge.1))
+
+  first-is : (f b : Ptr) (rs zs : List Ptr) (z : Ptr) → rs ≡ zs ++ z ∷ [] → HasEnds rs f b → (r : Ptr) (qs : List Ptr) → zs ≡ r ∷ qs → r ≡ f
+  first-is f b [] zs z e h r qs d = absurd (let k = ap length e in omega (arith, length-append zs (z ∷ [])))
+  first-is f b (x ∷ xs) [] z e h r qs d = absurd cc
+  first-is f b (x ∷ xs) (y ∷ ys) z e h r qs d = let same : x ≡ y = cc in let too : y ≡ r = cc in sym (same ∙ too) ∙ h.0
+
+  pub LastCut-row : (f b : Ptr) (rs : List Ptr) → (length rs ≡ 0 → ⊥) → Linked cs rs → HasEnds rs f b → LastCut cs f b rs
+  LastCut-row f b [] n k h = absurd (n refl)
+  LastCut-row f b (x ∷ xs) n k h =
+      let s = SplitLast-last_from x xs in
+      let at : s.node ≡ b = s.at_is ∙ sym (last_pointer-last_from x xs) ∙ h.1 in
+      let p = ends_before f s.before s.node (subst (Linked cs) s.is k) (first-is f b (x ∷ xs) s.before s.node s.is h) in
+      record {
+        split = record { before = s.before; node = s.node; is = s.is; at_is = at };
+        linked = p.0;
+        ends = subst (λ q. HasEnds s.before f (prev_at cs q)) at p.1;
+      }
+
+-- the first of a row, with those after it
+pub record FirstCut {B : Type 0} (cs : List (Cell Links B)) (f b : Ptr) (rs : List Ptr) : Type 0 where
+  pub split : SplitFirst (λ q. q) rs f
+  pub linked : Linked cs split.after
+  pub ends : HasEnds split.after (next_at cs f) b
+
+module _ {B : Type 0} (cs : List (Cell Links B)) where
+  pub HasEnds-behind : (x b : Ptr) (xs : List Ptr) → Linked cs (x ∷ xs) → last_pointer x xs ≡ b → HasEnds xs (next_at cs x) b
+  HasEnds-behind x b [] k e = tt
+  HasEnds-behind x b (y ∷ ys) k e = (sym k.0.0, e)
+
+  pub FirstCut-row : (f b : Ptr) (rs : List Ptr) → (length rs ≡ 0 → ⊥) → Linked cs rs → HasEnds rs f b → FirstCut cs f b rs
+  FirstCut-row f b [] n k h = absurd (n refl)
+  FirstCut-row f b (x ∷ xs) n k h = record {
+    split = record { node = x; after = xs; is = refl; at_is = h.0 };
+    linked = Linked-tail cs x xs k;
+    ends = subst (λ q. HasEnds xs (next_at cs q) b) h.0 (HasEnds-behind x b xs k h.1);
+  }
+
+module _ {B : Type 0} where
+  triples-append : (xs ys : List (Held B)) → triples (xs ++ ys) ≡ triples xs ++ triples ys
+  triples-append [] ys = refl
+  triples-append (x ∷ xs) ys = ap (λ r. (x.hash, x.pair) ∷ r) (triples-append xs ys)
+
+  Holds-content : (cs : List (Cell Links B)) (p : Ptr) → HasContent cs p → Holds cs p
+  Holds-content cs p h = content_of-holds p (links_at cs p) (body_at cs p) h.0 h.1
+
+  IsAt-content : (cs : List (Cell Links B)) (p : Ptr) → HasContent cs p → IsAt cs p
+  IsAt-content cs p h = content_of-links p (links_at cs p) (body_at cs p) h.0 h.1
+
+  pub listed-one : (cs : List (Cell Links B)) (p : Ptr) → HasContent cs p → (l : Links) → links_at cs p ≡ Some l → (x : B) → body_at cs p ≡ Some x → listed cs (p ∷ []) ≡ held p l.hash (link_of (Some l)) x ∷ []
+  unfolding listed
+  listed-one cs p h l f x e =
+      λ i. one_of (content_of p (f i) (e i)) ++ []
+
+-- what the node p holds is moved out of it
+module _ {B : Type 0} (cs : List (Cell Links B)) (p : Ptr) (la : Links) (ea : links_at cs p ≡ Some la) where
+  abbrev ds : List (Cell Links B)
+  ds = with_body p None cs
+
+  links_at-same : (q : Ptr) → links_at ds q ≡ links_at cs q
+  links_at-same = links_at-with_body p None cs la ea
+
+  cell_at-other : (q : Ptr) → same_ptr p q ≡ false → cell_at ds q ≡ cell_at cs q
+  cell_at-other q n = cell_at-change_other p (λ c. cell c.at c.links None) (λ c. refl) q n cs
+
+  Linked-stays : (s : List Ptr) → Linked cs s → Linked ds s
+  Linked-stays = Linked-same cs ds (λ q. ap next_of (links_at-same q)) (λ q. ap prev_of (links_at-same q))
+
+  -- a row without p stays
+  IsSpan-stays : (f b : Ptr) (k : ℕ) (s : IsSpan cs f b k) → IsFresh p s.pointers → IsSpan ds f b k
+  IsSpan-stays f b k s free = record {
+    pointers = s.pointers;
+    count = s.count;
+    linked = Linked-stays s.pointers s.linked;
+    ends = s.ends;
+    held = AllByRecursion-content_other cs ds p cell_at-other s.pointers free s.held;
+    apart = s.apart;
+  }
+
+  listed-stays : (f b : Ptr) (k : ℕ) (s : IsSpan cs f b k) → IsFresh p s.pointers → listed cs (pointers_from cs k f) ≡ listed ds (pointers_from ds k f)
+  unfolding IsSpan-stays
+  listed-stays f b k s free = ap (listed cs) (pointers_from-span cs f b k s) ∙ sym (listed-other cs ds p cell_at-other s.pointers free) ∙ ap (listed ds) (sym (pointers_from-span ds f b k (IsSpan-stays f b k s free)))
+
+  triples-one : (x : B) → body_at cs p ≡ Some x → HasContent cs p → triples (listed cs (p ∷ [])) ≡ (la.hash, x) ∷ []
+  triples-one x ex h = ap triples (listed-one cs p h la ea x ex)
+
+-- the first of a row and the rest, and the last and the rest
+module _ {B : Type 0} (cs : List (Cell Links B)) (f b : Ptr) (k : ℕ) (s : IsSpan cs f b k) (some : k ≡ 0 → ⊥) where
+  first : FirstCut cs f b s.pointers
+  first = FirstCut-row cs f b s.pointers (λ e. some (sym s.count ∙ e)) s.linked s.ends
+
+  row_first : s.pointers ≡ f ∷ first.split.after
+  row_first = first.split.is ∙ ap (λ q. q ∷ first.split.after) first.split.at_is
+
+  AllByRecursion-first : AllByRecursion (HasContent cs) (f ∷ first.split.after)
+  AllByRecursion-first = subst (AllByRecursion (HasContent cs)) row_first s.held
+
+  pub IsAt-first : IsAt cs f
+  IsAt-first = IsAt-content cs f AllByRecursion-first.0
+
+  pub Holds-first : Holds cs f
+  Holds-first = Holds-content cs f AllByRecursion-first.0
+
+  IsApart-first : IsApart (f ∷ first.split.after)
+  IsApart-first = subst IsApart row_first s.apart
+
+  length-first : length first.split.after ≡ k - 1
+  length-first = let e = ap length (sym row_first) ∙ s.count in omega arith
+
+  after_first : IsSpan cs (next_at cs f) b (k - 1)
+  after_first = record {
+    pointers = first.split.after;
+    count = length-first;
+    linked = first.linked;
+    ends = first.ends;
+    held = AllByRecursion-first.1;
+    apart = IsApart-tail f first.split.after IsApart-first;
+  }
+
+  listed-cut_first : listed cs (pointers_from cs k f) ≡ listed cs (f ∷ []) ++ listed cs (pointers_from cs (k - 1) (next_at cs f))
+  unfolding first after_first
+  listed-cut_first = ap (listed cs) (pointers_from-span cs f b k s ∙ row_first) ∙ listed-append cs (f ∷ []) first.split.after ∙ ap (λ ps. listed cs (f ∷ []) ++ listed cs ps) (sym (pointers_from-span cs (next_at cs f) b (k - 1) after_first))
+
+  module _ (la : Links) (ea : links_at cs f ≡ Some la) (q : Ptr) (is : q ≡ la.next.ptr) where
+    next_at-first : next_at cs f ≡ q
+    next_at-first = ap next_of ea ∙ sym is
+
+    pub IsSpan-behind_first : IsSpan cs q b (k - 1)
+    IsSpan-behind_first = subst (λ r. IsSpan cs r b (k - 1)) next_at-first after_first
+
+    pub listed-first : (x : B) → body_at cs f ≡ Some x → listed cs (pointers_from cs k f) ≡ held f la.hash (link_of (Some la)) x ∷ listed cs (pointers_from cs (k - 1) q)
+    listed-first x ex = listed-cut_first ∙ (λ i. listed-one cs f AllByRecursion-first.0 la ea x ex i ++ listed cs (pointers_from cs (k - 1) (next_at-first i)))
+
+    IsFresh-first : IsFresh f after_first.pointers
+    unfolding first after_first
+    IsFresh-first = IsFresh-head f first.split.after IsApart-first
+
+    pub IsSpan-rest_of_first : IsSpan (with_body f None cs) q b (k - 1)
+    IsSpan-rest_of_first = subst (λ r. IsSpan (with_body f None cs) r b (k - 1)) next_at-first (IsSpan-stays cs f la ea (next_at cs f) b (k - 1) after_first IsFresh-first)
+
+    pub span_triples-first : (x : B) → body_at cs f ≡ Some x → span_triples cs k f ≡ (la.hash, x) ∷ span_triples (with_body f None cs) (k - 1) q
+    span_triples-first x ex =
+        ap triples listed-cut_first ∙ triples-append (listed cs (f ∷ [])) (listed cs (pointers_from cs (k - 1) (next_at cs f)))
+        ∙ (λ i. triples-one cs f la ea x ex AllByRecursion-first.0 i ++ triples (listed-stays cs f la ea (next_at cs f) b (k - 1) after_first IsFresh-first i))
+        ∙ ap (λ r. (la.hash, x) ∷ span_triples (with_body f None cs) (k - 1) r) next_at-first
+
+  last : LastCut cs f b s.pointers
+  last = LastCut-row cs f b s.pointers (λ e. some (sym s.count ∙ e)) s.linked s.ends
+
+  row_last : s.pointers ≡ last.split.before ++ b ∷ []
+  row_last = last.split.is ∙ ap (λ q. last.split.before ++ q ∷ []) last.split.at_is
+
+  AllByRecursion-last : AllByRecursion (HasContent cs) (last.split.before ++ b ∷ [])
+  AllByRecursion-last = subst (AllByRecursion (HasContent cs)) row_last s.held
+
+  HasContent-last : HasContent cs b
+  HasContent-last = (AllByRecursion-right (HasContent cs) last.split.before (b ∷ []) AllByRecursion-last).0
+
+  pub IsAt-last : IsAt cs b
+  IsAt-last = IsAt-content cs b HasContent-last
+
+  pub Holds-last : Holds cs b
+  Holds-last = Holds-content cs b HasContent-last
+
+  length-last : length last.split.before ≡ k - 1
+  length-last = let e = ap length (sym row_last) ∙ s.count in omega (arith, length-append last.split.before (b ∷ []))
+
+  IsApart-last : IsApart (last.split.before ++ b ∷ [])
+  IsApart-last = subst IsApart row_last s.apart
+
+  before_last : IsSpan cs f (prev_at cs b) (k - 1)
+  before_last = record {
+    pointers = last.split.before;
+    count = length-last;
+    linked = last.linked;
+    ends = last.ends;
+    held = AllByRecursion-left (HasContent cs) last.split.before (b ∷ []) AllByRecursion-last;
+    apart = IsApart-left last.split.before (b ∷ []) IsApart-last;
+  }
+
+  listed-cut_last : listed cs (pointers_from cs k f) ≡ listed cs (pointers_from cs (k - 1) f) ++ listed cs (b ∷ [])
+  unfolding last before_last
+  listed-cut_last = ap (listed cs) (pointers_from-span cs f b k s ∙ row_last) ∙ listed-append cs last.split.before (b ∷ []) ∙ ap (λ ps. listed cs ps ++ listed cs (b ∷ [])) (sym (pointers_from-span cs f (prev_at cs b) (k - 1) before_last))
+
+  module _ (la : Links) (ea : links_at cs b ≡ Some la) (q : Ptr) (is : q ≡ la.prev.ptr) where
+    prev_at-last : prev_at cs b ≡ q
+    prev_at-last = ap prev_of ea ∙ sym is
+
+    pub IsSpan-ahead_of_last : IsSpan cs f q (k - 1)
+    IsSpan-ahead_of_last = subst (λ r. IsSpan cs f r (k - 1)) prev_at-last before_last
+
+    pub listed-last : (x : B) → body_at cs b ≡ Some x → listed cs (pointers_from cs k f) ≡ listed cs (pointers_from cs (k - 1) f) ++ held b la.hash (link_of (Some la)) x ∷ []
+    listed-last x ex = listed-cut_last ∙ ap (λ ts. listed cs (pointers_from cs (k - 1) f) ++ ts) (listed-one cs b HasContent-last la ea x ex)
+
+    IsFresh-last : IsFresh b before_last.pointers
+    unfolding last before_last
+    IsFresh-last = AllByRecursion-left (λ q. same_ptr b q ≡ false) last.split.before [] (IsFresh-middle last.split.before b [] IsApart-last)
+
+    pub IsSpan-rest_of_last : IsSpan (with_body b None cs) f q (k - 1)
+    IsSpan-rest_of_last = subst (λ r. IsSpan (with_body b None cs) f r (k - 1)) prev_at-last (IsSpan-stays cs b la ea f (prev_at cs b) (k - 1) before_last IsFresh-last)
+
+    pub span_triples-last : (x : B) → body_at cs b ≡ Some x → span_triples cs k f ≡ span_triples (with_body b None cs) (k - 1) f ++ (la.hash, x) ∷ []
+    span_triples-last x ex =
+        ap triples listed-cut_last ∙ triples-append (listed cs (pointers_from cs (k - 1) f)) (listed cs (b ∷ []))
+        ∙ (λ i. triples (listed-stays cs b la ea f (prev_at cs b) (k - 1) before_last IsFresh-last i) ++ triples-one cs b la ea x ex HasContent-last i)

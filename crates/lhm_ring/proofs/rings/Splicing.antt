@@ -1,0 +1,128 @@
+-- All that a ring holds becomes spare.
+use Rattle.std.proofs.Common.{◌≡◌, ℕ, ◌+◌, true, false, List, [], ◌∷◌, ◌++◌, refl, sym, ap, ◌∙◌, subst, arith}
+use Rattle.std.specs.List.{AllByRecursion}
+use denote.RawPtr.{Ptr, null_ptr}
+use Rattle.lhm_ring.specs.declared.ring.Links.{Links}
+use Rattle.lhm_ring.specs.declared.ring.Ends.{Ends}
+use Rattle.lhm_ring.specs.declared.pointer.Link.{Link}
+use Rattle.lhm_ring.proofs.lists.Apart.{IsFresh, IsApart-left, IsFresh-head, IsApart-tail}
+use Rattle.lhm_ring.proofs.rings.Joins.{AvoidsSource-fresh, AvoidsSource, AvoidsTarget, Linked-unchanged, Chained-unchanged, Edge-made, listed-unchanged}
+use Rattle.lhm_ring.proofs.lists.ListFacts.{last_from, AllByRecursion-left, AllByRecursion-right, AllByRecursion-map}
+use Rattle.lhm_ring.proofs.rings.RingCells.{next_at-null, is_there-null, Linked-in_nodes, AllByRecursion-there_in_nodes, Chained-in_nodes, Chained-in_ring}
+use Rattle.lhm_ring.proofs.rings.RingNodes.{ring_list-listed}
+use Rattle.lhm_ring.proofs.lists.Rows.{RowCut-linked}
+use Rattle.lhm_ring.proofs.rings.SameNodes.{Linked-same}
+use Rattle.lhm_ring.proofs.rings.Spans.{last_pointer-last_from, Linked-tail, pointers_from-span}
+use Rattle.lhm_ring.proofs.rings.SpareRows.{AllByRecursion-onto, IsApart-onto, SameButLinks-in_ring, length-onto, StartsAt-next, some_still, one_triple, triples-one_of}
+use Rattle.lhm_ring.specs.Nodes.{Cell, same_ptr}
+use Rattle.lhm_ring.specs.Links.{ring_cells, next_at, prev_at, is_there, content_at, Linked, Chained, HasContent, IsRing, IsJoined, listed, HasEnds, span_triples, IsSpan, ring_list, RingOk}
+use Rattle.lhm_ring.specs.Ring.{triples}
+use Rattle.lhm_ring.specs.Drain.{onto, StartsAt, triple_of, SameButLinks, IsRow, HasRow, SparesRow}
+use Rattle.lhm_ring.specs.Pointer.{target}
+
+-- all that a ring holds becomes spare
+module _ {B : Type 0} (e : Ends) (nodes : List (Cell Links B)) (spare : Link) (n m : ℕ) (o : RingOk (ring_cells e nodes) spare n m) where
+  abbrev cs : List (Cell Links B)
+  cs = ring_cells e nodes
+
+  cut : Linked cs (null_ptr ∷ o.held_pointers) × (prev_at cs null_ptr ≡ last_from null_ptr o.held_pointers)
+  cut = let k = RowCut-linked cs null_ptr o.held_pointers null_ptr [] o.ring.linked in (k.before, k.edge.1)
+
+  IsFresh-all : IsFresh null_ptr (o.held_pointers ++ o.spare_pointers)
+  IsFresh-all = IsFresh-head null_ptr (o.held_pointers ++ o.spare_pointers) o.ring.apart
+
+  IsFresh-row : IsFresh null_ptr o.held_pointers
+  IsFresh-row = AllByRecursion-left (λ q. same_ptr null_ptr q ≡ false) o.held_pointers o.spare_pointers IsFresh-all
+
+  IsFresh-spares : IsFresh null_ptr o.spare_pointers
+  IsFresh-spares = AllByRecursion-right (λ q. same_ptr null_ptr q ≡ false) o.held_pointers o.spare_pointers IsFresh-all
+
+  IsRow-whole : (f : Ptr) → f ≡ e.first.ptr → IsRow nodes f n (target spare) o.held_pointers o.spare_pointers
+  IsRow-whole f is = record {
+    long = o.held_count;
+    linked = Linked-in_nodes e nodes o.held_pointers IsFresh-row (Linked-tail cs null_ptr o.held_pointers cut.0);
+    starts = subst (StartsAt o.held_pointers) (next_at-null e nodes ∙ sym is) (StartsAt-next cs null_ptr o.held_pointers cut.0);
+    there = AllByRecursion-there_in_nodes e nodes o.held_pointers IsFresh-row (AllByRecursion-left (λ q. is_there cs q ≡ true) o.held_pointers o.spare_pointers o.ring.there.1);
+    apart = IsApart-tail null_ptr (o.held_pointers ++ o.spare_pointers) o.ring.apart;
+    chained = Chained-in_nodes e nodes (target spare) o.spare_pointers IsFresh-spares o.ring.chained;
+  }
+
+  pub HasRow-ring : (f : Ptr) → f ≡ e.first.ptr → HasRow nodes f n (target spare)
+  HasRow-ring f is = record { pointers = o.held_pointers; spare_pointers = o.spare_pointers; row = IsRow-whole f is }
+
+  HasEnds-ring : (rs : List Ptr) → Linked cs (null_ptr ∷ rs) → prev_at cs null_ptr ≡ last_from null_ptr rs → HasEnds rs (next_at cs null_ptr) (prev_at cs null_ptr)
+  HasEnds-ring [] k e = tt
+  HasEnds-ring (r ∷ rs) k e = (sym k.0.0, last_pointer-last_from r rs ∙ sym e)
+
+  module _ (f : Ptr) (is : f ≡ e.first.ptr) (zs es : List (Cell Links B)) (h : Link) (s : SparesRow nodes f n (target spare) zs (target h)) where
+    abbrev ds : List (Cell Links B)
+    ds = ring_cells e zs
+
+    spared : SameButLinks nodes zs × Chained zs (target h) (onto o.held_pointers o.spare_pointers)
+    spared = s o.held_pointers o.spare_pointers (IsRow-whole f is)
+
+    same : SameButLinks cs ds
+    same = SameButLinks-in_ring e nodes zs spared.0
+
+    HasContent-still : (q : Ptr) → HasContent cs q → HasContent ds q
+    HasContent-still q k = some_still (content_at ds q) k.0 (same.triple q ∙ ap triple_of k.1)
+
+    module _ (j : IsJoined ds es null_ptr null_ptr) where
+      AllByRecursion-there : AllByRecursion (λ q. is_there es q ≡ true) (null_ptr ∷ onto o.held_pointers o.spare_pointers)
+      AllByRecursion-there =
+          let T : Ptr → Type 0 = λ q. is_there es q ≡ true in
+          let on : (qs : List Ptr) → AllByRecursion (λ q. is_there cs q ≡ true) qs → AllByRecursion T qs = AllByRecursion-map (λ q. is_there cs q ≡ true) T (λ q k. j.there q ∙ same.there q ∙ k) in
+          (j.there null_ptr ∙ is_there-null e zs, AllByRecursion-onto T o.held_pointers o.spare_pointers (on o.held_pointers (AllByRecursion-left (λ q. is_there cs q ≡ true) o.held_pointers o.spare_pointers o.ring.there.1)) (on o.spare_pointers (AllByRecursion-right (λ q. is_there cs q ≡ true) o.held_pointers o.spare_pointers o.ring.there.1)))
+
+      IsRing-empty : IsRing es [] (target h) (onto o.held_pointers o.spare_pointers)
+      IsRing-empty = record {
+        linked = (Edge-made ds es null_ptr null_ptr j, tt);
+        chained = Chained-unchanged ds es null_ptr null_ptr j (target h) (onto o.held_pointers o.spare_pointers) (Chained-in_ring e zs (target h) (onto o.held_pointers o.spare_pointers) (AllByRecursion-onto (λ q. same_ptr null_ptr q ≡ false) o.held_pointers o.spare_pointers IsFresh-row IsFresh-spares) spared.1);
+        held = tt;
+        there = AllByRecursion-there;
+        apart = IsApart-onto null_ptr o.held_pointers o.spare_pointers o.ring.apart;
+        count = let long = length-onto o.held_pointers o.spare_pointers in let all = j.count ∙ same.count ∙ o.ring.count in omega arith;
+      }
+
+      pub RingOk-spliced : RingOk es h 0 (m + n)
+      RingOk-spliced = let a = o.held_count in let b = o.enough_spares in let c = o.bounded in let l = length-onto o.held_pointers o.spare_pointers in
+          record {
+            held_pointers = [];
+            spare_pointers = onto o.held_pointers o.spare_pointers;
+            ring = IsRing-empty;
+            held_count = refl;
+            enough_spares = omega arith;
+            bounded = omega arith;
+          }
+
+      AvoidsSource-null : (rs : List Ptr) → IsFresh null_ptr rs → AvoidsSource null_ptr rs
+      AvoidsSource-null [] f = tt
+      AvoidsSource-null (r ∷ rs) f = AvoidsSource-fresh null_ptr r rs f
+
+      AvoidsTarget-null : (rs : List Ptr) → IsFresh null_ptr rs → AvoidsTarget null_ptr rs
+      AvoidsTarget-null [] f = tt
+      AvoidsTarget-null (r ∷ rs) f = f.1
+
+      Linked-spliced : Linked es o.held_pointers
+      Linked-spliced = Linked-unchanged ds es null_ptr null_ptr j o.held_pointers (AvoidsSource-null o.held_pointers IsFresh-row) (AvoidsTarget-null o.held_pointers IsFresh-row) (Linked-same cs ds same.next same.prev o.held_pointers (Linked-tail cs null_ptr o.held_pointers cut.0))
+
+      pub IsSpan-spliced : IsSpan es (next_at cs null_ptr) (prev_at cs null_ptr) n
+      IsSpan-spliced = record {
+        pointers = o.held_pointers;
+        count = o.held_count;
+        linked = Linked-spliced;
+        ends = HasEnds-ring o.held_pointers cut.0 cut.1;
+        held = AllByRecursion-map (HasContent cs) (HasContent es) (λ q k. let d = HasContent-still q k in (d.0, j.content q ∙ d.1)) o.held_pointers o.ring.held;
+        apart = IsApart-left o.held_pointers o.spare_pointers (IsApart-tail null_ptr (o.held_pointers ++ o.spare_pointers) o.ring.apart);
+      }
+
+      triples-same : (rs : List Ptr) → triples (listed ds rs) ≡ triples (listed cs rs)
+      unfolding listed
+      triples-same [] = refl
+      triples-same (r ∷ rs) = triples-one_of (content_at ds r) (listed ds rs) ∙ (λ i. one_triple (same.triple r i) ++ triples-same rs i) ∙ sym (triples-one_of (content_at cs r) (listed cs rs))
+
+      pub span_triples-spliced : span_triples es n (next_at cs null_ptr) ≡ triples (ring_list cs n)
+      unfolding IsSpan-spliced
+      span_triples-spliced =
+          ap (λ qs. triples (listed es qs)) (pointers_from-span es (next_at cs null_ptr) (prev_at cs null_ptr) n IsSpan-spliced) ∙ ap triples (listed-unchanged ds es null_ptr null_ptr j o.held_pointers) ∙ triples-same o.held_pointers
+          ∙ ap triples (sym (ring_list-listed cs o.held_pointers (target spare) o.spare_pointers n o.ring o.held_count))

@@ -1,0 +1,88 @@
+-- Nodes are made on top of others.
+use Rattle.std.proofs.Common.{◌≡◌, ℕ, suc, zero, ◌+◌, ◌≤◌, ◌^◌, List, ◌∷◌, length, Option, Some, None, refl, sym, ap, ◌∙◌, subst, arith}
+use denote.RawPtr.{Ptr}
+use Rattle.lhm_ring.specs.declared.pointer.NodePointer.{NodePointer}
+use Rattle.lhm_ring.specs.declared.ring.Links.{Links}
+use Rattle.lhm_ring.specs.declared.ring.Ends.{Ends}
+use Rattle.lhm_ring.specs.declared.pointer.Link.{Link}
+use Rattle.lhm_ring.proofs.lists.Apart.{IsApart-tail}
+use Rattle.lhm_ring.proofs.memory.NodeAdded.{IsRing-added, listed-added}
+use Rattle.lhm_ring.proofs.rings.RingNodes.{ring_list-listed}
+use Rattle.lhm_ring.specs.Nodes.{Cell, cell, pointers, IsApart, AreBlocks}
+use Rattle.lhm_ring.specs.Links.{ring_cells, IsRing, listed, ring_list, RingOk, IsStacked}
+use Rattle.lhm_ring.specs.Pointer.{target}
+
+module _ {B : Type 0} where
+  pub IsStacked-none : (cs : List (Cell Links B)) (s : Link) → IsStacked cs s 0 cs s
+  unfolding IsStacked
+  IsStacked-none cs s = (refl, refl)
+
+  pub IsStacked-push : (cs : List (Cell Links B)) (s : Link) (n : ℕ) (ds : List (Cell Links B)) (l : Links) (p : NodePointer) (es : List (Cell Links B)) (top : Link)
+      → IsStacked cs s n ds l.link → es ≡ cell p.ptr l None ∷ ds → target top ≡ Some p.ptr → IsStacked cs s (n + 1) es top
+  unfolding IsStacked
+  IsStacked-push cs s n ds l p es top k e et = let count : suc n ≡ n + 1 = omega arith in subst (λ m. IsStacked cs s m es top) count (record { pointer = p.ptr; below = ds; links = l; top_is = et; nodes_are = e; stacked = k })
+
+-- the nodes ds are a ring with n spare ones more than cs, which holds the same at ps
+pub record RingStacked {B : Type 0} (e : Ends) (cs ds : List (Cell Links B)) (ps ss : List Ptr) (spare : Option Ptr) (n : ℕ) : Type 0 where
+  pub spare_pointers : List Ptr
+  pub ring : IsRing (ring_cells e ds) ps spare spare_pointers
+  pub count : length spare_pointers ≡ n + length ss
+  pub same_list : listed (ring_cells e ds) ps ≡ listed (ring_cells e cs) ps
+
+module _ {B : Type 0} (e : Ends) where
+  -- a ring with spare nodes more
+  RingStacked-ring : (n : ℕ) (cs : List (Cell Links B)) (s : Link) (ds : List (Cell Links B)) (f : Link) (ps ss : List Ptr) → IsStacked cs s n ds f → IsApart (pointers ds) → AreBlocks (pointers ds) → IsRing (ring_cells e cs) ps (target s) ss
+      → RingStacked e cs ds ps ss (target f) n
+  unfolding IsStacked
+  RingStacked-ring zero cs s ds f ps ss k d b r = record {
+    spare_pointers = ss;
+    ring = subst (λ (z : List (Cell Links B) × Link). IsRing (ring_cells e z.0) ps (target z.1) ss) (λ i. (sym k.0 i, sym k.1 i)) r;
+    count = omega arith;
+    same_list = ap (λ zs. listed (ring_cells e zs) ps) k.0;
+  }
+  RingStacked-ring (suc n) cs s ds f ps ss k d b r =
+      let p = k.pointer in let es = k.below in let l = k.links in
+      let d' : IsApart (pointers (cell p l None ∷ es)) = subst (λ zs. IsApart (pointers zs)) k.nodes_are d in
+      let b' : AreBlocks (pointers (cell p l None ∷ es)) = subst (λ zs. AreBlocks (pointers zs)) k.nodes_are b in
+      let on = RingStacked-ring n cs s es l.link ps ss k.stacked (IsApart-tail p (pointers es) d') b'.1 r in
+      let ring : IsRing (ring_cells e (cell p l None ∷ es)) ps (Some p) (p ∷ on.spare_pointers) = IsRing-added e es p l b'.0 d' ps (target l.link) on.spare_pointers on.ring refl in
+      let long = on.count in
+      record {
+        spare_pointers = p ∷ on.spare_pointers;
+        ring = subst (λ (z : List (Cell Links B) × Option Ptr). IsRing (ring_cells e z.0) ps z.1 (p ∷ on.spare_pointers)) (λ i. (sym k.nodes_are i, sym k.top_is i)) ring;
+        count = omega arith;
+        same_list = ap (λ zs. listed (ring_cells e zs) ps) k.nodes_are ∙ listed-added e es p l b'.0 d' ps (target l.link) on.spare_pointers on.ring refl ∙ on.same_list;
+      }
+
+  -- more of the spare nodes are counted
+  pub RingOk-raised : (cs : List (Cell Links B)) (spare : Link) (n m k : ℕ) → RingOk (ring_cells e cs) spare n m → n + k ≤ length cs → n + k ≤ 2 ^ 59 → RingOk (ring_cells e cs) spare n k
+  RingOk-raised cs spare n m k ok enough small = let a = ok.ring.count in let b = ok.held_count in
+      record {
+        held_pointers = ok.held_pointers;
+        spare_pointers = ok.spare_pointers;
+        ring = ok.ring;
+        held_count = ok.held_count;
+        enough_spares = omega arith;
+        bounded = small;
+      }
+
+  -- more nodes are stacked on the spare ones
+  module _ (cs ds : List (Cell Links B)) (spare f : Link) (n m k : ℕ) (ok : RingOk (ring_cells e cs) spare n m) (s : IsStacked cs spare k ds f) (d : IsApart (pointers ds)) (b : AreBlocks (pointers ds)) where
+    RingStacked-held : RingStacked e cs ds ok.held_pointers ok.spare_pointers (target f) k
+    RingStacked-held = RingStacked-ring k cs spare ds f ok.held_pointers ok.spare_pointers s d b ok.ring
+
+    pub RingOk-stacked : RingOk (ring_cells e ds) f n m
+    RingOk-stacked = let t = RingStacked-held in let long = t.count in let wide = ok.enough_spares in
+        record {
+          held_pointers = ok.held_pointers;
+          spare_pointers = t.spare_pointers;
+          ring = t.ring;
+          held_count = ok.held_count;
+          enough_spares = omega arith;
+          bounded = ok.bounded;
+        }
+
+    pub ring_list-stacked : ring_list (ring_cells e ds) n ≡ ring_list (ring_cells e cs) n
+    ring_list-stacked =
+        let t = RingStacked-held in
+        ring_list-listed (ring_cells e ds) ok.held_pointers (target f) t.spare_pointers n t.ring ok.held_count ∙ t.same_list ∙ sym (ring_list-listed (ring_cells e cs) ok.held_pointers (target spare) ok.spare_pointers n ok.ring ok.held_count)

@@ -1,0 +1,229 @@
+-- A ring of nodes: how the links lead, and when the fields of a `Ring` are right. The nodes are a
+-- ring with one more at null, which holds nothing: the first node comes right after it, and it
+-- right after the last.
+use Rattle.std.specs.Prelude.{◌≡◌, ℕ, suc, zero, ◌+◌, ◌≤◌, ◌^◌, Bool, true, false, cond, List, [], ◌∷◌, ◌++◌, length, Option, Some, None, ◌-◌, min, max, nat_le, ◌==◌, if◌then◌else◌, map}
+use Rattle.std.proofs.Common.{refl}
+use Rattle.std.specs.List.{AllByRecursion}
+use denote.RawPtr.{Ptr, null_ptr}
+use Rattle.lhm_ring.specs.declared.pointer.Link.{Link}
+use Rattle.lhm_ring.specs.declared.ring.Links.{Links}
+use Rattle.lhm_ring.specs.declared.ring.Ends.{Ends}
+use Rattle.lhm_ring.specs.declared.nodes.Chunk.{Chunk}
+use Rattle.lhm_ring.specs.Nodes.{Cell, cell, same_ptr, links_at, body_at, with_links, IsApart}
+use Rattle.lhm_ring.specs.Ring.{Held, triples}
+use Rattle.lhm_ring.specs.Pointer.{target}
+
+-- the links, with the chain link o, or with the next node o, or with the node before
+abbrev pub chaining_to : Link → Links → Links
+chaining_to o l = record l { link = o }
+
+abbrev pub leading_on : Link → Links → Links
+leading_on o l = record l { next = o }
+
+abbrev pub leading_back : Link → Links → Links
+leading_back o l = record l { prev = o }
+
+-- a link that leads nowhere
+abbrev pub nowhere : Link
+nowhere = record { ptr = null_ptr; comparable = refl }
+
+-- the ends of a ring, as the links of the node at null
+abbrev pub ends_links : Ends → Links
+ends_links e = record { prev = e.last; next = e.first; link = nowhere; hash = 0 }
+
+-- what links say of their node: where it leads, and whether it is there at all
+abbrev pub next_of : Option Links → Ptr
+next_of None = null_ptr
+next_of (Some l) = l.next.ptr
+
+abbrev pub prev_of : Option Links → Ptr
+prev_of None = null_ptr
+prev_of (Some l) = l.prev.ptr
+
+abbrev pub link_of : Option Links → Option Ptr
+link_of None = None
+link_of (Some l) = target l.link
+
+abbrev pub has_links : Option Links → Bool
+has_links None = false
+has_links (Some l) = true
+
+module _ {B : Type 0} where
+  -- the nodes cs, and at null one that holds nothing, between the last and the first
+  abbrev pub ring_cells : Ends → List (Cell Links B) → List (Cell Links B)
+  ring_cells e cs = cell null_ptr (ends_links e) None ∷ cs
+
+  abbrev pub next_at : List (Cell Links B) → Ptr → Ptr
+  next_at cs p = next_of (links_at cs p)
+
+  abbrev pub prev_at : List (Cell Links B) → Ptr → Ptr
+  prev_at cs p = prev_of (links_at cs p)
+
+  -- where the chain link of the node at p leads
+  abbrev pub link_at : List (Cell Links B) → Ptr → Option Ptr
+  link_at cs p = link_of (links_at cs p)
+
+  abbrev pub is_there : List (Cell Links B) → Ptr → Bool
+  is_there cs p = has_links (links_at cs p)
+
+  -- the hash, the chain link, the key and the value at p
+  abbrev pub content_of : Ptr → Option Links → Option B → Option (Held B)
+  content_of p None b = None
+  content_of p (Some l) None = None
+  content_of p (Some l) (Some b) =
+      Some (record { at = p; hash = l.hash; link = link_of (Some l); pair = b })
+
+  abbrev pub content_at : List (Cell Links B) → Ptr → Option (Held B)
+  content_at cs p = content_of p (links_at cs p) (body_at cs p)
+
+  -- in ds the chain link of the node at p is o, and nothing else differs
+  abbrev pub ChainsTo : List (Cell Links B) → Ptr → Link → List (Cell Links B) → Type 0
+  ChainsTo cs p o ds = (l : Links) → links_at cs p ≡ Some l → ds ≡ with_links p (chaining_to o l) cs
+
+  -- the same of the next node, and of the node before
+  abbrev pub LeadsOn : List (Cell Links B) → Ptr → Link → List (Cell Links B) → Type 0
+  LeadsOn cs p o ds = (l : Links) → links_at cs p ≡ Some l → ds ≡ with_links p (leading_on o l) cs
+
+  abbrev pub LeadsBack : List (Cell Links B) → Ptr → Link → List (Cell Links B) → Type 0
+  LeadsBack cs p o ds =
+      (l : Links) → links_at cs p ≡ Some l → ds ≡ with_links p (leading_back o l) cs
+
+  -- b comes right after a
+  abbrev pub Edge : List (Cell Links B) → Ptr → Ptr → Type 0
+  Edge cs a b = (next_at cs a ≡ b) × (prev_at cs b ≡ a)
+
+  -- each comes right after the one before
+  abbrev pub Linked : List (Cell Links B) → List Ptr → Type 0
+  Linked cs [] = Unit {0}
+  Linked cs (x ∷ []) = Unit {0}
+  Linked cs (x ∷ y ∷ r) = Edge cs x y × Linked cs (y ∷ r)
+
+  -- the spare nodes, from the first on
+  abbrev pub Chained : List (Cell Links B) → Option Ptr → List Ptr → Type 0
+  Chained cs h [] = h ≡ None
+  Chained cs h (p ∷ ps) = (h ≡ Some p) × Chained cs (link_at cs p) ps
+
+  abbrev pub HasContent : List (Cell Links B) → Ptr → Type 0
+  HasContent cs p = (x : Held B) × (content_at cs p ≡ Some x)
+
+  -- the nodes: the one at null, the held ones ps in order, and the spare ones ss
+  pub record IsRing (cs : List (Cell Links B)) (ps : List Ptr) (spare : Option Ptr) (ss : List Ptr)
+      : Type 0 where
+    pub linked : Linked cs (null_ptr ∷ (ps ++ null_ptr ∷ []))
+    pub chained : Chained cs spare ss
+    pub held : AllByRecursion (HasContent cs) ps
+    pub there : AllByRecursion (λ p. is_there cs p ≡ true) (null_ptr ∷ (ps ++ ss))
+    pub apart : IsApart (null_ptr ∷ (ps ++ ss))
+    pub count : length cs ≡ suc (length ps + length ss)
+
+  -- the n pointers after p
+  unfoldable pub follow : List (Cell Links B) → ℕ → Ptr → List Ptr
+  follow cs zero p = []
+  follow cs (suc n) p = next_at cs p ∷ follow cs n (next_at cs p)
+
+  abbrev pub one_of : Option (Held B) → List (Held B)
+  one_of None = []
+  one_of (Some x) = x ∷ []
+
+  -- what the nodes at ps hold
+  unfoldable pub listed : List (Cell Links B) → List Ptr → List (Held B)
+  listed cs [] = []
+  listed cs (p ∷ ps) = one_of (content_at cs p) ++ listed cs ps
+
+  -- the same nodes, except that b comes right after a
+  pub record IsJoined (cs ds : List (Cell Links B)) (a b : Ptr) : Type 0 where
+    pub next : (q : Ptr) → next_at ds q ≡ cond (same_ptr a q) b (next_at cs q)
+    pub prev : (q : Ptr) → prev_at ds q ≡ cond (same_ptr b q) a (prev_at cs q)
+    pub link : (q : Ptr) → link_at ds q ≡ link_at cs q
+    pub content : (q : Ptr) → content_at ds q ≡ content_at cs q
+    pub there : (q : Ptr) → is_there ds q ≡ is_there cs q
+    pub count : length ds ≡ length cs
+
+abbrev pub last_pointer : Ptr → List Ptr → Ptr
+last_pointer p [] = p
+last_pointer p (q ∷ qs) = last_pointer q qs
+
+-- ps begins with f and ends with b
+abbrev pub HasEnds : List Ptr → Ptr → Ptr → Type 0
+HasEnds [] f b = Unit {0}
+HasEnds (p ∷ ps) f b = (p ≡ f) × (last_pointer p ps ≡ b)
+
+module _ {B : Type 0} where
+  -- the n pointers from p on
+  unfoldable pub pointers_from : List (Cell Links B) → ℕ → Ptr → List Ptr
+  pointers_from cs zero p = []
+  pointers_from cs (suc n) p = p ∷ pointers_from cs n (next_at cs p)
+
+  -- the triples of the n nodes from p on
+  abbrev pub span_triples : List (Cell Links B) → ℕ → Ptr → List (ℕ × B)
+  span_triples cs n p = triples (listed cs (pointers_from cs n p))
+
+  -- the pointers of what a ring of n nodes holds
+  abbrev pub ring_pointers : List (Cell Links B) → ℕ → List Ptr
+  ring_pointers cs n = follow cs n null_ptr
+
+  -- what it holds
+  abbrev pub ring_list : List (Cell Links B) → ℕ → List (Held B)
+  ring_list cs n = listed cs (ring_pointers cs n)
+
+  -- the nodes are a ring of n held and at least m spare ones
+  pub record RingOk (cs : List (Cell Links B)) (spare : Link) (n m : ℕ) : Type 0 where
+    -- where the held nodes lie, in order, and the spare ones, from the first on
+    pub held_pointers : List Ptr
+    pub spare_pointers : List Ptr
+    pub ring : IsRing cs held_pointers (target spare) spare_pointers
+    pub held_count : length held_pointers ≡ n
+    -- there may be more spare nodes than are counted
+    pub enough_spares : m ≤ length spare_pointers
+    pub bounded : n + m ≤ 2 ^ 59
+
+  -- n nodes that hold something, each right after the one before, from f to b
+  pub record IsSpan (cs : List (Cell Links B)) (f b : Ptr) (n : ℕ) : Type 0 where
+    -- where they lie, in order
+    pub pointers : List Ptr
+    pub count : length pointers ≡ n
+    pub linked : Linked cs pointers
+    pub ends : HasEnds pointers f b
+    pub held : AllByRecursion (HasContent cs) pointers
+    -- no pointer comes twice
+    pub apart : IsApart pointers
+
+module _ {B : Type 0} where
+  -- ds has n nodes more than cs, the first of them f, and the last with a link to s. The one on top
+  -- lies at the pointer and has the links, and below are the others
+  unfoldable pub IsStacked : List (Cell Links B) → Link → ℕ → List (Cell Links B) → Link → Type 0
+  IsStacked cs s zero ds f = (ds ≡ cs) × (f ≡ s)
+  IsStacked cs s (suc n) ds f = record {
+    pointer : Ptr;
+    below : List (Cell Links B);
+    links : Links;
+    top_is : target f ≡ Some pointer;
+    nodes_are : ds ≡ cell pointer links None ∷ below;
+    stacked : IsStacked cs s n below links.link;
+  }
+
+-- where a chunk starts, and how many places it has
+abbrev pub extent : Chunk → Ptr × ℕ
+extent c = (c.first.ptr, c.count)
+
+-- how many places all of them have
+unfoldable pub place_count : List (Ptr × ℕ) → ℕ
+place_count [] = 0
+place_count (c ∷ cs) = place_count cs + c.1
+
+-- all places are nodes, of which the ring has made this many, and its vector has all chunks
+pub record IsLaid (unused : List Ptr) (chunks : List (Ptr × ℕ)) (recorded : List Chunk) (made : ℕ) :
+    Type 0 where
+  pub none_unused : unused ≡ []
+  pub all_recorded : chunks ≡ map extent recorded
+  pub all_made : made ≡ place_count chunks
+
+-- how many nodes there are after a growth to the number needed: if there were fewer, at least
+-- `least` more than there were
+abbrev pub nodes_grown : ℕ → ℕ → ℕ → ℕ
+nodes_grown nodes needed least = if nat_le needed nodes then nodes else max needed (nodes + least)
+
+-- how many more nodes a growth by one makes at least: as many as there are, at most 64, and so
+-- that there are at most `most`
+abbrev pub least_more : ℕ → ℕ → ℕ → ℕ
+least_more count nodes most = if count == 1 then min nodes (min (most - nodes) 64) else 0

@@ -1,0 +1,102 @@
+-- What callers see of a table, and what `retain` leaves of it.
+use Rattle.std.specs.Prelude.{◌≡◌, ℕ, ◌+◌, ◌≤◌, ◌^◌, Bool, List, ◌∷◌, ◌++◌, length, Option, cond, [], map, Some, None}
+use denote.RawPtr.{Ptr}
+use Rattle.std.specs.Map.Calls.{CallableOnEachPair}
+use Rattle.lhm_ring.specs.Ring.{State, Held, AtHeld, change_at, revalued, IsHeld, first_at}
+use Rattle.lhm_ring.specs.Search.{HasKey}
+use Rattle.lhm_ring.specs.Index.{entries, IsIndexed}
+use Rattle.lhm_ring.specs.Buckets.{IsFilter}
+use Rattle.lhm_ring.specs.Nodes.{same_ptr}
+
+-- the pairs in order, each with its position and its hash and with no chain link; the capacity; and
+-- how many nodes rehashes have moved
+pub record TableState (B : Type 0) : Type 0 where
+  pub held : List (Held B)
+  pub capacity : ℕ
+  pub rechained : ℕ
+
+-- the capacity and the count of moved nodes stay
+pub record KeepsCounts {B : Type 0} (old new : TableState B) : Type 0 where
+  pub capacity : new.capacity ≡ old.capacity
+  pub rechained : new.rechained ≡ old.rechained
+
+-- a table with this ring and this count
+abbrev pub table_of : {K V : Type 0} → State (K × V) → ℕ → TableState (K × V)
+table_of s rechained =
+    record { held = entries s.held; capacity = length s.held + s.spares; rechained = rechained }
+
+-- the index and the filter are those of the ring, the count is at most the number of buckets, the
+-- capacity is at most that of a ring, and the chunks have at most as many nodes as there are
+-- buckets
+pub record IsTable {K V : Type 0} (heads : List (Option Ptr)) (words : List ℕ) (s : State (K × V))
+    (rechained : ℕ) : Type 0 where
+  pub indexed : IsIndexed heads s
+  pub filtered : IsFilter words heads s.held
+  pub few : rechained ≤ length heads
+  pub limit : length s.held + s.spares ≤ 2 ^ 59
+  pub nodes_within : s.nodes ≤ length heads
+
+-- a value written at p changes one pair, and no other
+abbrev pub WritesOnly : {K V : Type 0} → List (Held (K × V)) → Ptr → Type 0
+WritesOnly {K} {V} hs p =
+    AtHeld hs p (λ xs t ys. (w : V) → change_at p (revalued w) hs ≡ xs ++ revalued w t ∷ ys)
+
+-- the pair at p, which has the hash and the key, was removed
+pub record Removes {K V : Type 0} (eq : K → K → Bool) (hash : ℕ) (key : K)
+    (old new : List (Held (K × V))) (removed : K × V) : Type 0 where
+  pub at : Ptr
+  pub has : HasKey eq hash key old at
+  pub others : AtHeld old at (λ xs t ys. new ≡ xs ++ ys)
+  pub pair_is : AtHeld old at (λ xs t ys. removed ≡ t.pair)
+
+-- a pair is held at p, and f may be called at it
+pub record TakesAt {F K V : Type 0} (Q : F → K → V → Type 0) (f : F) (hs : List (Held (K × V)))
+    (p : Ptr) : Type 0 where
+  pub held : IsHeld hs p
+  pub takes : Q f held.node.pair.0 held.node.pair.1
+
+module _ {F K V : Type 0} (T : F → K → V → Bool → V → F → Type 0) where
+  -- f was called at the pair at p, returned b, and left the value w there
+  abbrev pub CallsAt : F → List (Held (K × V)) → Ptr → Bool → V → F → Type 0
+  CallsAt f hs p b w f' = AtHeld hs p (λ xs t ys. T f t.pair.0 t.pair.1 b w f')
+
+  -- and the pair stayed with that value, or was removed
+  pub record RetainsAt (f : F) (hs : List (Held (K × V))) (p : Ptr) (new : List (Held (K × V)))
+      (f' : F) : Type 0 where
+    pub returned : Bool
+    pub value : V
+    pub called : CallsAt f hs p returned value f'
+    pub new_is : AtHeld hs p (λ xs t ys. new ≡ xs ++ cond returned (revalued value t ∷ ys) ys)
+
+  -- f was called at each pair in turn, and kept has those at which it returned `true`, with the
+  -- values that it left there. Of the first pair: what the call returned, the value and the closure
+  -- that it left, and the rest, which is what is kept of the pairs after it
+  abbrev pub RetainsHeld : F → List (Held (K × V)) → List (Held (K × V)) → Type 0
+  RetainsHeld f [] kept = kept ≡ []
+  RetainsHeld f (t ∷ hs) kept = record {
+    returned : Bool;
+    value : V;
+    closure : F;
+    rest : List (Held (K × V));
+    called : T f t.pair.0 t.pair.1 returned value closure;
+    retained : RetainsHeld closure hs rest;
+    kept_is : kept ≡ cond returned (revalued value t ∷ rest) rest;
+  }
+
+  -- the closure, which was start, has been called at some of the pairs in old, and is now f; the
+  -- rest begins at next
+  pub record IsRetaining (Q : F → K → V → Type 0) (start : F) (old : List (Held (K × V))) (f : F)
+      (now : List (Held (K × V))) (next : Option Ptr) : Type 0 where
+    pub kept : List (Held (K × V))
+    pub rest : List (Held (K × V))
+    pub now_is : now ≡ kept ++ rest
+    pub next_is : next ≡ first_at rest
+    pub callable : CallableOnEachPair T Q f (map (λ t. t.pair) rest)
+    pub ends : (last : List (Held (K × V))) → RetainsHeld f rest last
+        → RetainsHeld start old (kept ++ last)
+
+-- how many are held from the one at a pointer on
+abbrev pub left_from : {B : Type 0} → Option Ptr → List (Held B) → ℕ
+left_from None hs = 0
+left_from (Some p) [] = 0
+left_from (Some p) (t ∷ hs) = cond (same_ptr t.at p) (length (t ∷ hs)) (left_from (Some p) hs)
