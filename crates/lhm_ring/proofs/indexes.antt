@@ -9,4 +9,5 @@ pub mod IndexTakes
 pub mod NodeBefore
 pub mod Searches
 pub mod Spots
+pub mod WholeBuckets
 pub mod WholeIndex

@@ -5,7 +5,7 @@ use Rattle.std.specs.Map.Calls.{CallableOnEachPair}
 use Rattle.lhm_ring.specs.Ring.{State, Held, AtHeld, change_at, revalued, IsHeld, first_at}
 use Rattle.lhm_ring.specs.Search.{HasKey}
 use Rattle.lhm_ring.specs.Index.{entries, IsIndexed}
-use Rattle.lhm_ring.specs.Buckets.{IsFilter}
+use Rattle.lhm_ring.specs.Buckets.{BucketState}
 use Rattle.lhm_ring.specs.Nodes.{same_ptr}
 
 -- the pairs in order, each with its position and its hash and with no chain link; the capacity; and
@@ -25,16 +25,13 @@ abbrev pub table_of : {K V : Type 0} → State (K × V) → ℕ → TableState (
 table_of s rechained =
     record { held = entries s.held; capacity = length s.held + s.spares; rechained = rechained }
 
--- the index and the filter are those of the ring, the count is at most the number of buckets, the
--- capacity is at most that of a ring, and the chunks have at most as many nodes as there are
--- buckets
-pub record IsTable {K V : Type 0} (heads : List (Option Ptr)) (words : List ℕ) (s : State (K × V))
-    (rechained : ℕ) : Type 0 where
-  pub indexed : IsIndexed heads s
-  pub filtered : IsFilter words heads s.held
-  pub few : rechained ≤ length heads
+-- the index is that of the ring, the count is at most the number of buckets, the capacity is at most
+-- that of a ring, and the chunks have at most as many nodes as there are buckets
+pub record IsTable {K V : Type 0} (i : BucketState) (s : State (K × V)) (rechained : ℕ) : Type 0 where
+  pub indexed : IsIndexed i s
+  pub few : rechained ≤ length i.heads
   pub limit : length s.held + s.spares ≤ 2 ^ 59
-  pub nodes_within : s.nodes ≤ length heads
+  pub nodes_within : s.nodes ≤ length i.heads
 
 -- a value written at p changes one pair, and no other
 abbrev pub WritesOnly : {K V : Type 0} → List (Held (K × V)) → Ptr → Type 0

@@ -1,13 +1,13 @@
 //! The position of each key, by its hash: chains through the nodes.
-ghost use Rattle.std.specs.Prelude.{◌≡◌, ◌%◌, ◌<◌, ◌≤◌, ◌^◌, [], map, length, None, Some, IsSome, IfOk, IsOk, IfSome, IfNone, slice_index_or};
+ghost use Rattle.std.specs.Prelude.{◌≡◌, ◌%◌, ◌<◌, ◌≤◌, ◌^◌, [], length, None, IfOk, IsOk, IfSome, IfNone, slice_index_or};
 ghost use Rattle.std.specs.Int.{IsNextPowerOfTwo};
 ghost use Rattle.lhm_ring.specs.Ring.{IsHeld};
 ghost use Rattle.lhm_ring.specs.Pointer.{pointer_of, pointer_of_some};
-ghost use Rattle.lhm_ring.specs.Index.{Indexes, spots, OfNodeAt, entries, HoldsOthers, IsEmptied, IsOnChain, HasNoChain};
-ghost use Rattle.lhm_ring.specs.Buckets.{buckets, IsBucketCount, CoversAll};
+ghost use Rattle.lhm_ring.specs.Buckets.{buckets, HasNoChain};
+ghost use Rattle.lhm_ring.specs.Index.{Indexes, spots, OfNodeAt, entries, HoldsOthers, IsOnChain, PutsFirst};
 
 use crate::buckets::{
-    Filter, Head, chain_all, chain_one, clear_heads, free_heads, masked, new_heads,
+    Head, Word, clear_heads, clear_words, free_heads, free_words, new_heads, new_words,
 };
 use crate::pointer::{Link, Position};
 use crate::ring::Ring;
@@ -17,36 +17,46 @@ use std::alloc::{AllocError, Global};
 use std::marker::{Model, PhantomData};
 use std::mem;
 
-/// The chains of a ring, by their heads. Each call is given the ring, and changes its chain links
-/// alone.
+/// The chains of a ring, by their heads, and a filter of the hashes. Each call is given the ring,
+/// and changes its chain links alone.
 ///
 /// The bucket of a hash is the hash modulo the number of buckets, 0 or a power of two. Calls are
 /// O(1), on average if they search or remove, unless they say otherwise. Only `with_buckets`
 /// allocates. It is not `Drop`: only `free` ends it.
 pub struct Index<K, V> {
-    heads: Vec<Head>,
+    // For each bucket the head of its chain, and a word of the filter: if the bit of a hash is not
+    // set, no node has that hash.
+    pub(crate) heads: Vec<Head>,
+    pub(crate) words: Vec<Word>,
     marker: PhantomData<*mut (K, V)>,
 }
 
 impl<K, V> Model for Index<K, V> {
-    ghost use Rattle.std.specs.Prelude.{List, Option, map, length};
-    ghost use denote.RawPtr.{Ptr};
-    ghost use Rattle.lhm_ring.specs.Buckets.{leads_to, IsBucketCount};
+    ghost use Rattle.std.specs.Prelude.{◌≡◌, map, length};
+    ghost use Rattle.lhm_ring.specs.Buckets.{BucketState, IsBucketCount, leads_to, bits_of};
 
-    ghost Value = { List (Option Ptr) };
+    ghost Value = { BucketState };
 
-    ghost view = { λ i. map leads_to i.heads.items };
+    ghost view = { λ i. record {
+      heads = map leads_to i.heads.items;
+      words = map bits_of i.words.items;
+    } };
 
-    ghost invariant = { λ i. IsBucketCount (length i.heads.items) };
+    ghost invariant = { λ i. record {
+      same_count : length i.words.items ≡ length i.heads.items;
+      power : IsBucketCount (length i.heads.items);
+    } };
 }
 
 impl<K, V> Index<K, V> {
     /// Creates an index without buckets, for an empty ring.
     pub fn new(alloc: Global) -> Index<K, V>
-        ensures { result ≡ [] }
+        ensures heads { result.heads ≡ [] }
+        ensures words { result.words ≡ [] }
     {
         Index {
             heads: Vec::new(alloc),
+            words: Vec::new(alloc),
             marker: PhantomData,
         }
     }
@@ -54,106 +64,79 @@ impl<K, V> Index<K, V> {
     /// Allocates empty buckets for a capacity, in O(n). For 0 it never fails.
     pub fn with_buckets(alloc: Global, capacity: usize) -> Result<Index<K, V>, AllocError>
         requires { capacity ≤ 2 ^ 59 }
-        ensures buckets { IfOk result (λ i. length i ≡ buckets capacity) }
-        ensures enough { IfOk result (λ i. capacity ≤ length i) }
+        ensures buckets { IfOk result (λ i. length i.heads ≡ buckets capacity) }
+        ensures words { IfOk result (λ i. length i.words ≡ length i.heads) }
+        ensures enough { IfOk result (λ i. capacity ≤ length i.heads) }
         ensures empty { IfOk result HasNoChain }
         ensures succeeds { capacity ≡ 0 → IsOk result }
     {
-        Ok(Index {
-            heads: new_heads(alloc, buckets_for(capacity))?,
-            marker: PhantomData,
-        })
+        let count = buckets_for(capacity);
+        let heads = new_heads(alloc, count)?;
+        match new_words(alloc, count) {
+            Ok(words) => Ok(Index {
+                heads,
+                words,
+                marker: PhantomData,
+            }),
+            Err(refused) => {
+                free_heads(heads);
+                Err(refused)
+            }
+        }
     }
 
     /// Returns the number of buckets.
     pub fn buckets(&self) -> usize
-        ensures { result ≡ length self.now }
+        ensures { result ≡ length self.now.heads }
     {
         self.heads.len()
     }
 
-    /// Returns the head of a hash's chain.
-    pub(crate) fn head(&self, hash: u64) -> Option<Position<K, V>>
-        ensures { pointer_of_some result ≡ slice_index_or self.now (hash % length self.now) None }
-    {
-        match self.bucket(hash) {
-            Some(bucket) => self.head_of(bucket),
-            None => None,
-        }
-    }
-
-    /// Returns the head of a bucket's chain.
-    pub(crate) fn head_of(&self, bucket: usize) -> Option<Position<K, V>>
-        requires { bucket < length self.now }
-        ensures { pointer_of_some result ≡ slice_index_or self.now bucket None }
-    {
-        self.heads[bucket].link.get()
-    }
-
-    /// Returns the head of a hash's chain, untested: it has one.
-    fn first(&self, hash: u64) -> Position<K, V>
-        requires { IsSome (slice_index_or self.now (hash % length self.now) None) }
-        ensures { slice_index_or self.now (hash % length self.now) None ≡ Some (pointer_of result) }
-    {
-        let bucket = masked(hash, self.heads.len());
-        Position::new(self.heads[bucket].link.pointer())
-    }
-
     /// Returns the bucket of a hash, if there are buckets.
     pub(crate) fn bucket(&self, hash: u64) -> Option<usize>
-        ensures bucket { IfSome result (λ b. b ≡ hash % length self.now) }
-        ensures within { IfSome result (λ b. b < length self.now) }
-        ensures none { IfNone result (length self.now ≡ 0) }
+        ensures bucket { IfSome result (λ b. b ≡ hash % length self.now.heads) }
+        ensures within { IfSome result (λ b. b < length self.now.heads) }
+        ensures none { IfNone result (length self.now.heads ≡ 0) }
     {
         if self.heads.is_empty() {
             return None;
         }
-        Some(masked(hash, self.heads.len()))
+        Some(self.bucket_of(hash))
     }
 
-    /// Puts a node that is in no chain at the head of its chain, and returns its bucket.
-    pub fn put_in(&mut self, ring: &mut Ring<K, V>, at: Position<K, V>) -> usize
-        requires some { 0 < length self.old }
-        requires lacks { HoldsOthers self.old ring.old.held (pointer_of at) }
-        ensures bucket { OfNodeAt ring.old.held (pointer_of at) (λ x.
-            result ≡ x.hash % length self.old) }
-        ensures indexed { Indexes self.new (spots ring.new.held) }
+    /// Puts a node that is in no chain at the head of its chain, and sets its bit.
+    pub fn put_in(&mut self, ring: &mut Ring<K, V>, at: Position<K, V>)
+        requires some { 0 < length self.old.heads }
+        requires held { IsHeld ring.old.held (pointer_of at) }
+        ensures first { PutsFirst (pointer_of at) self.old self.new ring.old.held ring.new.held }
+        ensures indexed { HoldsOthers self.old ring.old.held (pointer_of at)
+            → Indexes self.new (spots ring.new.held) }
         ensures held { entries ring.new.held ≡ entries ring.old.held }
         ensures spares { ring.new.spares ≡ ring.old.spares }
         ensures nodes { ring.new.nodes ≡ ring.old.nodes }
-        ensures buckets { length self.new ≡ length self.old }
+        ensures buckets { length self.new.heads ≡ length self.old.heads }
     {
-        chain_one(&mut self.heads, ring, at)
+        let hash = ring.links(at).hash;
+        let bucket = self.bucket_of(hash);
+        ring.set_link(at, self.head(bucket));
+        self.put_first(bucket, hash, Link::to(at.pointer));
     }
 
-    /// Removes a node from its chain, and returns its bucket if that is now empty.
-    pub(crate) fn unchain(
-        &mut self,
-        ring: &mut Ring<K, V>,
-        hash: u64,
-        found: Found<K, V>,
-    ) -> Option<usize>
+    /// Removes a node from its chain. Bits of its bucket are cleared if no node is left there.
+    pub(crate) fn unchain(&mut self, ring: &mut Ring<K, V>, hash: u64, found: Found<K, V>)
         requires indexed { Indexes self.old (spots ring.old.held) }
-        requires on_chain { IsOnChain self.old hash (spots ring.old.held)
+        requires on_chain { IsOnChain self.old.heads hash (spots ring.old.held)
             (pointer_of_some found.before) (pointer_of found.at) }
-        ensures emptied { IfSome result (IsEmptied self.new hash) }
         ensures lacks { HoldsOthers self.new ring.new.held (pointer_of found.at) }
         ensures held { entries ring.new.held ≡ entries ring.old.held }
         ensures spares { ring.new.spares ≡ ring.old.spares }
         ensures nodes { ring.new.nodes ≡ ring.old.nodes }
-        ensures buckets { length self.new ≡ length self.old }
+        ensures buckets { length self.new.heads ≡ length self.old.heads }
     {
-        let link = ring.link(found.at);
+        let link = ring.links(found.at).link;
         match found.before {
-            Some(before) => {
-                ring.set_link(before, link);
-                None
-            }
-            None => {
-                let bucket = masked(hash, self.heads.len());
-                self.heads[bucket].link = Link::of(link);
-                link.is_none().then_some(bucket)
-            }
+            Some(before) => ring.set_link(before, link),
+            None => self.set_head(self.bucket_of(hash), link),
         }
     }
 
@@ -164,16 +147,17 @@ impl<K, V> Index<K, V> {
         requires hash { OfNodeAt ring.old.held (pointer_of at) (λ x. hash ≡ x.hash) }
         requires indexed { Indexes self.now (spots ring.old.held) }
         requires small { length ring.old.held < 2 ^ 64 }
-        ensures on_chain { IsOnChain self.now hash (spots ring.old.held) (pointer_of_some result)
-            (pointer_of at) }
+        ensures on_chain { IsOnChain self.now.heads hash (spots ring.old.held)
+            (pointer_of_some result) (pointer_of at) }
         ensures ring { ring.new ≡ ring.old }
     {
-        let link = ring.link(at);
-        ring.set_link(at, None);
+        let link = ring.links(at).link;
+        ring.set_link(at, Link::none());
         let mut before = None;
-        let mut here = self.first(hash);
+        let head = self.head(self.bucket_of(hash));
+        let mut here = Position::new(head.pointer());
         let mut passed: usize = 0;
-        'chain: while let Some(next) = ring.link(here) {
+        'chain: while let Some(next) = ring.links(here).link.get() {
             before = Some(here);
             here = next;
             passed += 1;
@@ -182,79 +166,69 @@ impl<K, V> Index<K, V> {
         before
     }
 
-    /// Removes the node at a position from its chain, and returns its bucket if that is now empty.
-    /// Compares no key.
-    pub fn take_out_at(&mut self, ring: &mut Ring<K, V>, at: Position<K, V>) -> Option<usize>
+    /// Removes the node at a position from its chain. Compares no key.
+    pub fn take_out_at(&mut self, ring: &mut Ring<K, V>, at: Position<K, V>)
         requires held { IsHeld ring.old.held (pointer_of at) }
         requires indexed { Indexes self.old (spots ring.old.held) }
         requires small { length ring.old.held < 2 ^ 64 }
-        ensures emptied { OfNodeAt ring.old.held (pointer_of at) (λ x.
-            IfSome result (IsEmptied self.new x.hash)) }
         ensures lacks { HoldsOthers self.new ring.new.held (pointer_of at) }
         ensures held { entries ring.new.held ≡ entries ring.old.held }
         ensures spares { ring.new.spares ≡ ring.old.spares }
         ensures nodes { ring.new.nodes ≡ ring.old.nodes }
-        ensures buckets { length self.new ≡ length self.old }
+        ensures buckets { length self.new.heads ≡ length self.old.heads }
     {
-        let hash = ring.hash(at);
+        let hash = ring.links(at).hash;
         let before = self.before(ring, hash, at);
-        self.unchain(ring, hash, Found { before, at })
+        self.unchain(ring, hash, Found { before, at });
     }
 
     /// Replaces the buckets by fresh ones, rehashes all held nodes, and returns how many, in O(n).
     pub fn take_over(&mut self, fresh: Index<K, V>, ring: &mut Ring<K, V>) -> usize
         requires empty { HasNoChain fresh }
-        requires some { length fresh ≡ 0 → ring.old.held ≡ [] }
+        requires words { length fresh.words ≡ length fresh.heads }
+        requires some { length fresh.heads ≡ 0 → ring.old.held ≡ [] }
         requires small { length ring.old.held < 2 ^ 64 }
         ensures indexed { Indexes self.new (spots ring.new.held) }
         ensures count { result ≡ length ring.old.held }
         ensures held { entries ring.new.held ≡ entries ring.old.held }
         ensures spares { ring.new.spares ≡ ring.old.spares }
         ensures nodes { ring.new.nodes ≡ ring.old.nodes }
-        ensures buckets { length self.new ≡ length fresh }
+        ensures buckets { length self.new.heads ≡ length fresh.heads }
     {
-        let mut none = Filter::new(ring.allocator());
-        let count = self.rehash(fresh, &mut none, ring);
-        none.free();
+        mem::replace(self, fresh).free();
+        let mut count = 0;
+        let mut pointer = ring.first();
+        while let Some(at) = pointer {
+            pointer = ring.next(at);
+            self.put_in(ring, at);
+            count += 1;
+        }
         count
     }
 
-    /// Replaces the buckets by fresh ones, rehashes all held nodes, sets the bits of their hashes in
-    /// a filter of as many words, and returns how many nodes, in O(n).
-    pub(crate) fn rehash(
-        &mut self,
-        fresh: Index<K, V>,
-        filter: &mut Filter,
-        ring: &mut Ring<K, V>,
-    ) -> usize
-        requires empty { HasNoChain fresh }
-        requires some { length fresh ≡ 0 → ring.old.held ≡ [] }
-        requires small { length ring.old.held < 2 ^ 64 }
-        ensures indexed { Indexes self.new (spots ring.new.held) }
-        ensures covers { length filter.old ≡ length fresh → CoversAll filter.new ring.new.held }
-        ensures count { result ≡ length ring.old.held }
-        ensures held { entries ring.new.held ≡ entries ring.old.held }
-        ensures spares { ring.new.spares ≡ ring.old.spares }
-        ensures nodes { ring.new.nodes ≡ ring.old.nodes }
-        ensures buckets { length self.new ≡ length fresh }
-        ensures words_stay { length filter.new ≡ length filter.old }
-    {
-        mem::replace(self, fresh).free();
-        chain_all(&mut self.heads, filter, ring)
-    }
-
-    /// Empties all chains, for an empty ring, in O(n).
-    pub fn forget_all(&mut self)
+    /// Removes all chains, in O(n), or O(1) if no node is held.
+    pub fn clear(&mut self, ring: &Ring<K, V>)
+        requires { Indexes self.old (spots ring.now.held) }
         ensures empty { HasNoChain self.new }
-        ensures buckets { length self.new ≡ length self.old }
+        ensures words { length self.new.words ≡ length self.old.words }
+        ensures buckets { length self.new.heads ≡ length self.old.heads }
     {
+        if ring.len() == 0 {
+            return;
+        }
         clear_heads(&mut self.heads);
+        clear_words(&mut self.words);
     }
 
-    /// Ends the index and frees its buckets, in O(n).
+    /// Frees the buckets, in O(n).
     pub fn free(self) {
-        let Index { heads, marker: _ } = self;
+        let Index {
+            heads,
+            words,
+            marker: _,
+        } = self;
         free_heads(heads);
+        free_words(words);
     }
 }
 

@@ -1,5 +1,5 @@
 //! Pointers to nodes: plain ones, links, and positions of triples.
-ghost use Rattle.std.specs.Prelude.{◌≡◌, None, Some, true, ⊤};
+ghost use Rattle.std.specs.Prelude.{◌≡◌, None, Some, true, ⊤, IsTrue, IsFalse};
 ghost use Rattle.std.specs.Option.{IsSome};
 ghost use mathlib.Core.Bool.{Bool-set};
 ghost use Rattle.lhm_ring.specs.Nodes.{is_block, is_null_or_block};
@@ -38,7 +38,7 @@ impl Link {
     }
 
     /// Creates a link to a position, or to nowhere.
-    pub(crate) fn of<K, V>(at: Option<Position<K, V>>) -> Link
+    pub fn of<K, V>(at: Option<Position<K, V>>) -> Link
         ensures { target result ≡ pointer_of_some at }
     {
         match at {
@@ -48,13 +48,22 @@ impl Link {
     }
 
     /// Returns the position that it leads to, if any.
-    pub(crate) fn get<K, V>(self) -> Option<Position<K, V>>
+    pub fn get<K, V>(self) -> Option<Position<K, V>>
         ensures { pointer_of_some result ≡ target self }
     {
         match NonNull::new(self.ptr.cast_mut()) {
             Some(_) => Some(Position::new(NodePointer { ptr: self.ptr })),
             None => None,
         }
+    }
+
+    /// Returns whether it leads nowhere.
+    pub(crate) fn is_none(self) -> bool
+        ensures none { IsTrue result → target self ≡ None }
+        ensures some { IsFalse result → IsSome (target self) }
+    {
+        let there: Option<Position<u8, u8>> = self.get();
+        there.is_none()
     }
 
     /// Returns the address that it leads to, or null.

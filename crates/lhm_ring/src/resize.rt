@@ -4,8 +4,7 @@ ghost use Rattle.lhm_ring.specs.Ring.{triples, IsHeld, AtHeld};
 ghost use Rattle.lhm_ring.specs.Buckets.{buckets, rechained_raised, rechained_lowered, rechained_fitted};
 ghost use Rattle.lhm_ring.specs.Pointer.{pointer_of};
 
-use crate::buckets::with_filter;
-use crate::index::buckets_for;
+use crate::index::{Index, buckets_for};
 use crate::ring::Ring;
 use crate::table::{Position, Table};
 use std::alloc::AllocError;
@@ -48,16 +47,14 @@ impl<K, V> Table<K, V> {
             (self.new.rechained ≡ self.old.rechained + length self.old.held) }
         ensures refused { OnErr result (self.new ≡ self.old) }
     {
-        let (index, filter) = with_filter(self.ring.allocator(), capacity)?;
-        match self.ring.grow_within(additional, index.buckets()) {
+        let fresh = Index::with_buckets(self.ring.allocator(), capacity)?;
+        match self.ring.grow_within(additional, fresh.buckets()) {
             Ok(()) => {
-                self.filter.replace(filter);
-                self.rechained += self.index.rehash(index, &mut self.filter, &mut self.ring);
+                self.rechained += self.index.take_over(fresh, &mut self.ring);
                 Ok(())
             }
             Err(refused) => {
-                index.free();
-                filter.free();
+                fresh.free();
                 Err(refused)
             }
         }
@@ -110,16 +107,14 @@ impl<K, V> Table<K, V> {
         ensures rechained { OnOk result (self.new.rechained ≡ length self.old.held) }
         ensures refused { OnErr result (self.new ≡ self.old) }
     {
-        let (index, filter) = with_filter(self.ring.allocator(), self.ring.len())?;
+        let fresh = Index::with_buckets(self.ring.allocator(), self.ring.len())?;
         match self.ring.compact() {
             Ok(()) => {
-                self.filter.replace(filter);
-                self.rechained = self.index.rehash(index, &mut self.filter, &mut self.ring);
+                self.rechained = self.index.take_over(fresh, &mut self.ring);
                 Ok(())
             }
             Err(refused) => {
-                index.free();
-                filter.free();
+                fresh.free();
                 Err(refused)
             }
         }

@@ -10,8 +10,8 @@ use crate::grow::free_chunks;
 pub use crate::iter::{Iter, IterMut, Lent};
 use crate::nodes::{Chunk, Node, Nodes};
 use crate::owned::OwnedPairs;
-pub use crate::pointer::Position;
-use crate::pointer::{Link, NodePointer};
+use crate::pointer::NodePointer;
+pub use crate::pointer::{Link, Position};
 use std::alloc::{AllocError, Global};
 use std::marker::Model;
 use std::mem::size_of;
@@ -168,15 +168,17 @@ impl<K: Drop, V: Drop> Drop for Ring<K, V> {
 }
 
 impl<K, V> Ring<K, V> {
-    ghost use Rattle.lhm_ring.specs.Pointer.{pointer_of, pointer_of_some};
+    ghost use Rattle.lhm_ring.specs.Pointer.{pointer_of, pointer_of_some, target};
     ghost use Rattle.lhm_ring.specs.RingAfterLoan.{lends_value};
 
-    /// Returns the hash at a position.
-    pub fn hash(&self, at: Position<K, V>) -> u64
+    /// Returns the links at a position, with the hash.
+    pub fn links(&self, at: Position<K, V>) -> &Links
         requires { IsHeld self.now.held (pointer_of at) }
-        ensures { AtHeld self.now.held (pointer_of at) (λ xs t ys. result ≡ t.hash) }
+        ensures hash { AtHeld self.now.held (pointer_of at) (λ xs t ys. result.now.hash ≡ t.hash) }
+        ensures link { AtHeld self.now.held (pointer_of at) (λ xs t ys.
+            target result.now.link ≡ t.link) }
     {
-        self.nodes.links(at.pointer).hash
+        self.nodes.links(at.pointer)
     }
 
     /// Returns the key at a position.
@@ -239,26 +241,16 @@ impl<K, V> Ring<K, V> {
         self.nodes.links(at.pointer).prev.get()
     }
 
-    /// Returns where the chain link at a position leads, if anywhere.
-    pub fn link(&self, at: Position<K, V>) -> Option<Position<K, V>>
-        requires { IsHeld self.now.held (pointer_of at) }
-        ensures link { AtHeld self.now.held (pointer_of at) (λ xs t ys.
-            pointer_of_some result ≡ t.link) }
-        ensures blocks { AreBlocks (map (λ t. t.at) self.now.held) }
-    {
-        self.nodes.links(at.pointer).link.get()
-    }
-
     /// Sets the chain link at a position, which the ring ignores.
-    pub fn set_link(&mut self, at: Position<K, V>, link: Option<Position<K, V>>)
+    pub fn set_link(&mut self, at: Position<K, V>, link: Link)
         requires { IsHeld self.old.held (pointer_of at) }
         ensures held { AtHeld self.old.held (pointer_of at) (λ xs t ys.
-            self.new.held ≡ xs ++ linked_to (pointer_of_some link) t ∷ ys) }
+            self.new.held ≡ xs ++ linked_to (target link) t ∷ ys) }
         ensures spares { self.new.spares ≡ self.old.spares }
         ensures nodes { self.new.nodes ≡ self.old.nodes }
         ensures blocks { AreBlocks (map (λ t. t.at) self.old.held) }
     {
-        set_chain(&mut self.nodes, at.pointer, Link::of(link));
+        set_chain(&mut self.nodes, at.pointer, link);
     }
 }
 
@@ -342,8 +334,8 @@ impl<K, V> Ring<K, V> {
 pub struct Links {
     pub(crate) prev: Link,
     pub(crate) next: Link,
-    pub(crate) link: Link,
-    pub(crate) hash: u64,
+    pub link: Link,
+    pub hash: u64,
 }
 
 // A node with a `u64` as key and as value: six words.

@@ -2,7 +2,7 @@
 ghost use Rattle.std.specs.Prelude.{◌≡◌, ◌+◌, ◌%◌, ◌<◌, ◌≤◌, ◌^◌, ◌∷◌, [], length, None, Some, IfSome, IfNone, OnSome, slice_index_or};
 ghost use Rattle.lhm_ring.specs.Ring.{IsHeld};
 ghost use Rattle.lhm_ring.specs.Pointer.{pointer_of, pointer_of_some};
-ghost use Rattle.lhm_ring.specs.Index.{Indexes, spot, spots, same, OfNodeAt, entries, HoldsOthers, IsEmptied};
+ghost use Rattle.lhm_ring.specs.Index.{Indexes, spot, spots, same, OfNodeAt, entries, HoldsOthers};
 ghost use Rattle.lhm_ring.specs.Search.{Compares, FindsKey, FindsNone, HasKey, IsAbsent, CountsSome, CountsAll, IsPart};
 
 use crate::index::Index;
@@ -60,7 +60,7 @@ fn step<K: Eq, V>(
         Compares K.eq hash key.now x result) }
 {
     probe.visited += 1;
-    if ring.hash(at) != hash {
+    if ring.links(at).hash != hash {
         return false;
     }
     probe.compared += 1;
@@ -87,25 +87,26 @@ impl<K, V> Reached<K, V> {
 }
 
 impl<K: Eq, V> Index<K, V> {
-    /// Follows a chain from its head to the node with the key.
+    /// Follows the chain of a bucket from its head to the node with the key.
     fn search(
         &self,
         ring: &Ring<K, V>,
-        head: Option<Position<K, V>>,
+        bucket: usize,
         hash: u64,
         key: &K,
     ) -> (Option<Found<K, V>>, Probe)
-        requires head { pointer_of_some head
-            ≡ slice_index_or self.now (hash % length self.now) None }
+        requires of_hash { bucket ≡ hash % length self.now.heads }
+        requires within { bucket < length self.now.heads }
         requires indexed { Indexes self.now (spots ring.now.held) }
         requires small { length ring.now.held < 2 ^ 64 }
         ensures found { IfSome result.0 (λ f.
-            FindsKey K.eq hash key.now self.now ring.now.held (pointer_of_some f.before)
+            FindsKey K.eq hash key.now self.now.heads ring.now.held (pointer_of_some f.before)
             (pointer_of f.at) result.1.visited result.1.compared) }
         ensures absent { IfNone result.0
-            (FindsNone K.eq hash key.now self.now ring.now.held result.1.visited
+            (FindsNone K.eq hash key.now self.now.heads ring.now.held result.1.visited
             result.1.compared) }
     {
+        let head = self.head(bucket).get();
         self.search_on(ring, Reached::new(head), hash, key)
     }
 
@@ -118,15 +119,15 @@ impl<K: Eq, V> Index<K, V> {
         hash: u64,
         key: &K,
     ) -> (Option<Found<K, V>>, Probe)
-        requires part { IsPart K.eq hash key.now self.now ring.now.held
+        requires part { IsPart K.eq hash key.now self.now.heads ring.now.held
             (pointer_of_some reached.before) (pointer_of_some reached.next) reached.probe.visited
             reached.probe.compared }
         requires small { length ring.now.held < 2 ^ 64 }
         ensures found { IfSome result.0 (λ f.
-            FindsKey K.eq hash key.now self.now ring.now.held (pointer_of_some f.before)
+            FindsKey K.eq hash key.now self.now.heads ring.now.held (pointer_of_some f.before)
             (pointer_of f.at) result.1.visited result.1.compared) }
         ensures absent { IfNone result.0
-            (FindsNone K.eq hash key.now self.now ring.now.held result.1.visited
+            (FindsNone K.eq hash key.now self.now.heads ring.now.held result.1.visited
             result.1.compared) }
     {
         let mut probe = reached.probe;
@@ -137,7 +138,7 @@ impl<K: Eq, V> Index<K, V> {
                 return (Some(Found { before, at }), probe);
             }
             before = pointer;
-            pointer = ring.link(at);
+            pointer = ring.links(at).link.get();
         }
         (None, probe)
     }
@@ -148,22 +149,23 @@ impl<K: Eq, V> Index<K, V> {
     /// Which of the first two nodes has the key cannot be predicted, so a conditional move chooses
     /// it: `&`, since `&&` may become a branch.
     fn begin(&self, ring: &Ring<K, V>, first: Position<K, V>, hash: u64) -> Reached<K, V>
-        requires first { slice_index_or self.now (hash % length self.now) None
+        requires first { slice_index_or self.now.heads (hash % length self.now.heads) None
             ≡ Some (pointer_of first) }
-        requires within { hash % length self.now < length self.now }
+        requires within { hash % length self.now.heads < length self.now.heads }
         requires indexed { Indexes self.now (spots ring.now.held) }
-        ensures part { (key : K) → IsPart K.eq hash key self.now ring.now.held
+        ensures part { (key : K) → IsPart K.eq hash key self.now.heads ring.now.held
             (pointer_of_some result.before) (pointer_of_some result.next) result.probe.visited
             result.probe.compared }
     {
         if FEW_BUCKETS < self.buckets() {
             return Reached::new(Some(first));
         }
-        let link = ring.link(first);
-        if (ring.hash(first) != hash) & link.is_some() {
+        let links = ring.links(first);
+        let next = links.link.get();
+        if (links.hash != hash) & next.is_some() {
             Reached {
                 before: Some(first),
-                next: link,
+                next,
                 probe: Probe {
                     visited: 1,
                     compared: 0,
@@ -183,35 +185,39 @@ impl<K: Eq, V> Index<K, V> {
             HasKey K.eq hash key.now ring.now.held (pointer_of p)) }
         ensures absent { IfNone result.0 (IsAbsent K.eq hash key.now ring.now.held) }
         ensures counts_found { OnSome result.0
-            (CountsSome (spots ring.now.held) (length self.now) hash result.1.visited
+            (CountsSome (spots ring.now.held) (length self.now.heads) hash result.1.visited
             result.1.compared) }
         ensures counts_absent { IfNone result.0
-            (CountsAll (spots ring.now.held) (length self.now) hash result.1.visited
+            (CountsAll (spots ring.now.held) (length self.now.heads) hash result.1.visited
             result.1.compared) }
     {
-        let (found, probe) = self.search(ring, self.head(hash), hash, key);
+        let Some(bucket) = self.bucket(hash) else {
+            let none = Probe {
+                visited: 0,
+                compared: 0,
+            };
+            return (None, none);
+        };
+        let (found, probe) = self.search(ring, bucket, hash, key);
         match found {
             Some(found) => (Some(found.at), probe),
             None => (None, probe),
         }
     }
 
-    /// Returns the position of the node with this hash, of this bucket, and key.
-    pub(crate) fn find_in(
-        &self,
-        ring: &Ring<K, V>,
-        bucket: usize,
-        hash: u64,
-        key: &K,
-    ) -> Option<Position<K, V>>
-        requires of_hash { bucket ≡ hash % length self.now }
-        requires within { bucket < length self.now }
+    /// Returns the position of the node with this hash and key, if any. It reads no node if the
+    /// filter lacks the hash.
+    pub fn position(&self, ring: &Ring<K, V>, hash: u64, key: &K) -> Option<Position<K, V>>
         requires indexed { Indexes self.now (spots ring.now.held) }
         requires small { length ring.now.held < 2 ^ 64 }
         ensures found { IfSome result (λ p. HasKey K.eq hash key.now ring.now.held (pointer_of p)) }
         ensures absent { IfNone result (IsAbsent K.eq hash key.now ring.now.held) }
     {
-        let Some(first) = self.head_of(bucket) else {
+        let bucket = self.bucket(hash)?;
+        if !self.may_contain(bucket, hash) {
+            return None;
+        }
+        let Some(first) = self.head(bucket).get() else {
             return None;
         };
         match self
@@ -223,35 +229,32 @@ impl<K: Eq, V> Index<K, V> {
         }
     }
 
-    /// Removes the node with this hash and key from its chain, if any, and returns its position,
-    /// and its bucket if that is now empty.
-    pub fn take_out(
-        &mut self,
-        ring: &mut Ring<K, V>,
-        hash: u64,
-        key: &K,
-    ) -> Option<(Position<K, V>, Option<usize>)>
+    /// Removes the node with this hash and key from its chain, if any, and returns its position. It
+    /// reads no node if the filter lacks the hash.
+    pub fn take_out(&mut self, ring: &mut Ring<K, V>, hash: u64, key: &K) -> Option<Position<K, V>>
         requires indexed { Indexes self.old (spots ring.old.held) }
         requires small { length ring.old.held < 2 ^ 64 }
-        ensures found { IfSome result (λ taken.
-            HasKey K.eq hash key.now ring.new.held (pointer_of taken.0)) }
-        ensures emptied { IfSome result (λ taken. IfSome taken.1 (IsEmptied self.new hash)) }
-        ensures lacks { IfSome result (λ taken.
-            HoldsOthers self.new ring.new.held (pointer_of taken.0)) }
+        ensures found { IfSome result (λ at.
+            HasKey K.eq hash key.now ring.new.held (pointer_of at)) }
+        ensures lacks { IfSome result (λ at. HoldsOthers self.new ring.new.held (pointer_of at)) }
         ensures absent { IfNone result (IsAbsent K.eq hash key.now ring.old.held) }
         ensures unchanged { IfNone result (self.new ≡ self.old) }
         ensures ring_unchanged { IfNone result (ring.new ≡ ring.old) }
         ensures held { entries ring.new.held ≡ entries ring.old.held }
         ensures spares { ring.new.spares ≡ ring.old.spares }
         ensures nodes { ring.new.nodes ≡ ring.old.nodes }
-        ensures buckets { length self.new ≡ length self.old }
+        ensures buckets { length self.new.heads ≡ length self.old.heads }
     {
-        let (found, _) = self.search(ring, self.head(hash), hash, key);
+        let bucket = self.bucket(hash)?;
+        if !self.may_contain(bucket, hash) {
+            return None;
+        }
+        let (found, _) = self.search(ring, bucket, hash, key);
         match found {
             Some(found) => {
                 let at = found.at;
-                let emptied = self.unchain(ring, hash, found);
-                Some((at, emptied))
+                self.unchain(ring, hash, found);
+                Some(at)
             }
             None => None,
         }

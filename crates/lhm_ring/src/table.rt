@@ -5,10 +5,9 @@ ghost use Rattle.lhm_ring.specs.Ring.{IsHeld, AtHeld, first_at, last_at, held, p
 ghost use Rattle.lhm_ring.specs.Pointer.{pointer_of, pointer_of_some};
 ghost use Rattle.lhm_ring.specs.Index.{spots, entries};
 ghost use Rattle.lhm_ring.specs.Search.{HasKey, IsAbsent, CountsSome, CountsAll};
-ghost use Rattle.lhm_ring.specs.Buckets.{buckets, may_contain, LacksHash};
+ghost use Rattle.lhm_ring.specs.Buckets.{buckets};
 ghost use Rattle.lhm_ring.specs.Table.{KeepsCounts, Removes, WritesOnly};
 
-use crate::buckets::{Filter, clear_emptied, empty_chains, with_filter};
 use crate::index::Index;
 pub use crate::index::Probe;
 pub use crate::owned::{IntoIter, OwnedPairs};
@@ -26,7 +25,6 @@ use std::marker::Model;
 pub struct Table<K, V> {
     pub(crate) ring: Ring<K, V>,
     pub(crate) index: Index<K, V>,
-    pub(crate) filter: Filter,
     // How many nodes rehashes have moved since the capacity was lowered.
     pub(crate) rechained: usize,
 }
@@ -38,7 +36,7 @@ impl<K, V> Model for Table<K, V> {
 
     ghost view = { λ t. table_of t.ring t.rechained };
 
-    ghost invariant = { λ t. IsTable t.index t.filter t.ring t.rechained };
+    ghost invariant = { λ t. IsTable t.index t.ring t.rechained };
 }
 
 impl<K, V> Table<K, V> {
@@ -57,7 +55,6 @@ impl<K, V> Table<K, V> {
         Table {
             ring: Ring::new(alloc),
             index: Index::new(alloc),
-            filter: Filter::new(alloc),
             rechained: 0,
         }
     }
@@ -70,17 +67,15 @@ impl<K, V> Table<K, V> {
         ensures rechained { IfOk result (λ table. table.rechained ≡ 0) }
         ensures succeeds { capacity ≡ 0 → IsOk result }
     {
-        let (index, filter) = with_filter(alloc, capacity)?;
+        let index = Index::with_buckets(alloc, capacity)?;
         match Ring::with_spares(alloc, capacity) {
             Ok(ring) => Ok(Table {
                 ring,
                 index,
-                filter,
                 rechained: 0,
             }),
             Err(refused) => {
                 index.free();
-                filter.free();
                 Err(refused)
             }
         }
@@ -205,8 +200,7 @@ impl<K, V> Table<K, V> {
         ensures keeps { KeepsCounts self.old self.new }
     {
         let at = self.ring.put_back(hash, key, value);
-        let bucket = self.index.put_in(&mut self.ring, at);
-        self.filter.insert(bucket, hash);
+        self.index.put_in(&mut self.ring, at);
         at
     }
 
@@ -218,20 +212,9 @@ impl<K, V> Table<K, V> {
         ensures pair { AtHeld self.old.held (pointer_of at) (λ xs t ys. result ≡ t.pair) }
         ensures keeps { KeepsCounts self.old self.new }
     {
-        let emptied = self.index.take_out_at(&mut self.ring, at);
-        clear_emptied(&mut self.filter, emptied);
+        self.index.take_out_at(&mut self.ring, at);
         let (_, key, value) = self.ring.unlink(at);
         (key, value)
-    }
-
-    /// Returns whether a pair may have a hash: `false` only if none has it.
-    fn may_contain(&self, hash: u64) -> bool
-        ensures { IsFalse result → LacksHash hash self.now.held }
-    {
-        match self.index.bucket(hash) {
-            Some(bucket) => self.filter.may_contain(bucket, hash),
-            None => false,
-        }
     }
 
     /// Returns an iterator over the pairs with their hashes, front to back.
@@ -248,11 +231,9 @@ impl<K, V> Table<K, V> {
         let Table {
             ring,
             index,
-            filter,
             rechained: _,
         } = self;
         index.free();
-        filter.free();
         IntoIter::new(ring)
     }
 
@@ -264,11 +245,9 @@ impl<K, V> Table<K, V> {
         let Table {
             ring,
             index,
-            filter,
             rechained: _,
         } = self;
         index.free();
-        filter.free();
         ring.into_pairs()
     }
 
@@ -287,7 +266,7 @@ impl<K, V> Table<K, V> {
         ensures* writes_back { sem 𝓛 (lends_drained K.row V.row self.entry (drain_name result)) }
         ensures rest { drain_rest result ≡ triples self.old.held }
     {
-        empty_chains(&mut self.index, &mut self.filter, &self.ring);
+        self.index.clear(&self.ring);
         self.ring.splice_all()
     }
 }
@@ -315,11 +294,7 @@ impl<K: Eq, V> Table<K, V> {
         ensures found { IfSome result (λ p. HasKey K.eq hash key.now self.now.held (pointer_of p)) }
         ensures absent { IfNone result (IsAbsent K.eq hash key.now self.now.held) }
     {
-        let bucket = self.index.bucket(hash)?;
-        if !self.filter.may_contain(bucket, hash) {
-            return None;
-        }
-        self.index.find_in(&self.ring, bucket, hash, key)
+        self.index.position(&self.ring, hash, key)
     }
 
     /// Removes and returns the pair with this hash and key, if any. Asks the filter first.
@@ -329,11 +304,7 @@ impl<K: Eq, V> Table<K, V> {
         ensures unchanged { IfNone result (self.new ≡ self.old) }
         ensures keeps { KeepsCounts self.old self.new }
     {
-        if !self.may_contain(hash) {
-            return None;
-        }
-        let (at, emptied) = self.index.take_out(&mut self.ring, hash, key)?;
-        clear_emptied(&mut self.filter, emptied);
+        let at = self.index.take_out(&mut self.ring, hash, key)?;
         let (_, key, value) = self.ring.unlink(at);
         Some((key, value))
     }

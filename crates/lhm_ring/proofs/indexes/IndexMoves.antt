@@ -7,12 +7,12 @@ use Rattle.lhm_ring.proofs.lists.Rearranged.{IsRearranged-again}
 use Rattle.lhm_ring.proofs.lists.RearrangedFilters.{PutsIn-filter_in, filter-PutsIn}
 use Rattle.lhm_ring.proofs.indexes.Spots.{PutsIn-spots}
 use Rattle.lhm_ring.specs.Ring.{Held, change_at, revalued, set_held_values}
-use Rattle.lhm_ring.specs.Index.{PutsIn, IsRearranged, is_in, Indexes, Spot, spot, spots}
+use Rattle.lhm_ring.specs.Index.{PutsIn, IsRearranged, is_in, HasChains, Spot, spot, spots}
 use Rattle.lhm_ring.specs.Nodes.{same_ptr}
 
 -- a spot that stands elsewhere in the list
-Indexes-elsewhere : (heads : List (Option Ptr)) (s : Spot) (zs xs ys : List Spot) → PutsIn s zs xs → PutsIn s zs ys → Indexes heads xs → Indexes heads ys
-Indexes-elsewhere heads s zs xs ys p q h = record {
+HasChains-elsewhere : (heads : List (Option Ptr)) (s : Spot) (zs xs ys : List Spot) → PutsIn s zs xs → PutsIn s zs ys → HasChains heads xs → HasChains heads ys
+HasChains-elsewhere heads s zs xs ys p q h = record {
   chains = λ b l.
       let c = h.chains b l in
       let f : Spot → Bool = is_in (length heads) b in
@@ -29,11 +29,15 @@ Indexes-elsewhere heads s zs xs ys p q h = record {
     some s zs xs p e = subst (λ (v : List Spot). PutsIn s zs v) e p
 
 -- moved to the back
-pub Indexes-to_back : {K V : Type 0} (heads : List (Option Ptr)) (before : List (Held (K × V))) (x : Held (K × V)) (after : List (Held (K × V))) → Indexes heads (spots (before ++ x ∷ after)) → Indexes heads (spots ((before ++ after) ++ x ∷ []))
-Indexes-to_back {K} {V} heads before x after h =
-    let p : PutsIn (spot x) (spots ((before ++ after) ++ [])) (spots ((before ++ after) ++ x ∷ [])) = PutsIn-spots (before ++ after) x [] in
-    let q : PutsIn (spot x) (spots (before ++ after)) (spots ((before ++ after) ++ x ∷ [])) = subst (λ (v : List (Held (K × V))). PutsIn (spot x) (spots v) (spots ((before ++ after) ++ x ∷ []))) (append-nil (before ++ after)) p in
-    Indexes-elsewhere heads (spot x) (spots (before ++ after)) (spots (before ++ x ∷ after)) (spots ((before ++ after) ++ x ∷ [])) (PutsIn-spots before x after) q h
+pub PutsIn-last : {K V : Type 0} (others : List (Held (K × V))) (x : Held (K × V)) → PutsIn (spot x) (spots others) (spots (others ++ x ∷ []))
+PutsIn-last {K} {V} others x =
+    subst (λ (v : List (Held (K × V))). PutsIn (spot x) (spots v) (spots (others ++ x ∷ []))) (append-nil others) (PutsIn-spots others x [])
+
+pub HasChains-to_back : {K V : Type 0} (heads : List (Option Ptr)) (before : List (Held (K × V))) (x : Held (K × V)) (after : List (Held (K × V)))
+    → HasChains heads (spots (before ++ x ∷ after)) → HasChains heads (spots ((before ++ after) ++ x ∷ []))
+HasChains-to_back heads before x after h =
+    HasChains-elsewhere heads (spot x) (spots (before ++ after)) (spots (before ++ x ∷ after)) (spots ((before ++ after) ++ x ∷ []))
+    (PutsIn-spots before x after) (PutsIn-last (before ++ after) x) h
 
 -- the value at p written
 pub spots-value : {K V : Type 0} (p : Ptr) (w : V) (nodes : List (Held (K × V))) → spots (change_at p (revalued w) nodes) ≡ spots nodes

@@ -7,9 +7,14 @@ use denote.RawPtr.{Ptr}
 use Rattle.lhm_ring.proofs.lists.Rearranged.{PutsIn-middle, IsRearranged-less, PutsIn-later, IsRearranged-member}
 use Rattle.lhm_ring.proofs.lists.RearrangedFilters.{PutsPassing, PutsPassing-filter, PutsIn-filter_in}
 use Rattle.lhm_ring.proofs.indexes.Spots.{NodeOf, NodeOf-spot, IsHeld-spot, PutsIn-spots}
-use Rattle.lhm_ring.proofs.indexes.WholeIndex.{Indexes-take_first, Indexes-take_next}
+use Rattle.lhm_ring.proofs.indexes.WholeIndex.{HasChains-take_first, HasChains-take_next}
 use Rattle.lhm_ring.specs.Ring.{Held, IsHeld, AtHeld, linked_to, SplitLast}
-use Rattle.lhm_ring.specs.Index.{PutsIn, IsRearranged, IsChain, is_in, Indexes, Spot, spot, spots, OfNodeAt, IsLast, IsOnChain, HoldsOthers}
+use Rattle.lhm_ring.specs.Index.{PutsIn, IsRearranged, IsChain, is_in, HasChains, Spot, spot, spots, OfNodeAt, IsLast, IsOnChain}
+
+-- the heads have every node except the one at p
+pub record HasOtherChains {K V : Type 0} (heads : List (Option Ptr)) (nodes : List (Held (K × V))) (p : Ptr) : Type 0 where
+  pub held : IsHeld nodes p
+  pub others : HasChains heads (spots (held.before ++ held.after))
 
 -- a spot of a chain is a held node's
 pub record OnNode {K V : Type 0} (n b : ℕ) (s : Spot) (nodes : List (Held (K × V))) : Type 0 where
@@ -33,7 +38,7 @@ IsHeld-on_chain {K} {V} {heads} {hash} {nodes} {before} {p} w =
 PutsIn-some : {X : Type 0} (x : X) (xs : List X) → PutsIn x xs [] → ⊥
 PutsIn-some x xs h = h
 
-pub length-on_chain : {heads : List (Option Ptr)} {hash : ℕ} {xs : List Spot} {before : Option Ptr} {p : Ptr} → Indexes heads xs → IsOnChain heads hash xs before p → 0 < length heads
+pub length-on_chain : {heads : List (Option Ptr)} {hash : ℕ} {xs : List Spot} {before : Option Ptr} {p : Ptr} → HasChains heads xs → IsOnChain heads hash xs before p → 0 < length heads
 length-on_chain {heads} {hash} {xs} {before} {p} h w =
     let f : Spot → Bool = is_in (length heads) (hash % length heads) in
     let m : (ws : List Spot) × PutsIn w.here ws (filter f xs) = IsRearranged-member w.done w.here w.rest (filter f xs) w.holds in
@@ -68,8 +73,8 @@ IsHeld-before {K} {V} {heads} {hash} {nodes} {before} {p} q e w =
     let o : OnNode (length heads) (hash % length heads) b.node nodes = OnNode-rearranged (length heads) (hash % length heads) b.before b.node (w.here ∷ w.rest) nodes h in
     IsHeld-spot o.of b.at_is
 
-pub HoldsOthers-take_first : {K V : Type 0} {heads : List (Option Ptr)} {hash : ℕ} {nodes : List (Held (K × V))} {before : Option Ptr} {p : Ptr} (link : Option Ptr) → before ≡ None → Indexes heads (spots nodes) → IsOnChain heads hash (spots nodes) before p → OfNodeAt nodes p (λ x. link ≡ x.link) → HoldsOthers (set heads (hash % length heads) link) nodes p
-HoldsOthers-take_first {K} {V} {heads} {hash} {nodes} {before} {p} link e h w l =
+pub HasOtherChains-take_first : {K V : Type 0} {heads : List (Option Ptr)} {hash : ℕ} {nodes : List (Held (K × V))} {before : Option Ptr} {p : Ptr} (link : Option Ptr) → before ≡ None → HasChains heads (spots nodes) → IsOnChain heads hash (spots nodes) before p → OfNodeAt nodes p (λ x. link ≡ x.link) → HasOtherChains (set heads (hash % length heads) link) nodes p
+HasOtherChains-take_first {K} {V} {heads} {hash} {nodes} {before} {p} link e h w l =
     let n : ℕ = length heads in
     let bucket : ℕ = hash % n in
     let f : Spot → Bool = is_in n bucket in
@@ -79,22 +84,14 @@ HoldsOthers-take_first {K} {V} {heads} {hash} {nodes} {before} {p} link e h w l 
     let o : OnNode n bucket w.here nodes = OnNode-rearranged n bucket w.done w.here w.rest nodes w.holds in
     let held : IsHeld nodes p = IsHeld-spot o.of w.at_is in
     let link_is : link ≡ w.here.link = l held.before held.node held.after held.is held.at_is ∙ ap (λ v. v.link) o.of.split.at_is in
-    let i : Indexes (set heads bucket w.here.link) o.ws = Indexes-take_first heads bucket w.here w.rest o.ws (spots nodes) h (mod-lt hash (length-on_chain h w)) linked holds o.puts in
+    let i : HasChains (set heads bucket w.here.link) o.ws = HasChains-take_first heads bucket w.here w.rest o.ws (spots nodes) h (mod-lt hash (length-on_chain h w)) linked holds o.puts in
     record {
       held = held;
-      others = subst (λ (v : Option Ptr). Indexes (set heads bucket v) (spots (held.before ++ held.after))) (sym link_is) (subst (λ (v : List Spot). Indexes (set heads bucket w.here.link) v) o.of.others i);
+      others = subst (λ (v : Option Ptr). HasChains (set heads bucket v) (spots (held.before ++ held.after))) (sym link_is) (subst (λ (v : List Spot). HasChains (set heads bucket w.here.link) v) o.of.others i);
     }
 
--- the same, with the heads and their count as the code has them
-pub HoldsOthers-take_first_items : {K V : Type 0} {heads : List (Option Ptr)} {hash : ℕ} {nodes : List (Held (K × V))} {before : Option Ptr} {p : Ptr} (items : List (Option Ptr)) (count : ℕ) (link : Option Ptr) → items ≡ heads → count ≡ length items → before ≡ None → Indexes heads (spots nodes) → IsOnChain heads hash (spots nodes) before p → OfNodeAt nodes p (λ x. link ≡ x.link) → HoldsOthers (set items (hash % count) link) nodes p
-HoldsOthers-take_first_items {K} {V} {heads} {hash} {nodes} {before} {p} items count link is many e h w l =
-    let k : HoldsOthers (set heads (hash % length heads) link) nodes p = HoldsOthers-take_first link e h w l in
-    let c : count ≡ length heads = many ∙ ap length is in
-    subst (λ (v : List (Option Ptr)). HoldsOthers (set v (hash % count) link) nodes p) (sym is)
-    (subst (λ (v : ℕ). HoldsOthers (set heads (hash % v) link) nodes p) (sym c) k)
-
-pub HoldsOthers-take_next : {K V : Type 0} {heads : List (Option Ptr)} {hash : ℕ} {nodes : List (Held (K × V))} {before : Option Ptr} {p : Ptr} (nodes' : List (Held (K × V))) (q : Ptr) (link : Option Ptr) → before ≡ Some q → Indexes heads (spots nodes) → IsOnChain heads hash (spots nodes) before p → OfNodeAt nodes p (λ x. link ≡ x.link) → AtHeld nodes q (λ before x after. nodes' ≡ before ++ linked_to link x ∷ after) → HoldsOthers heads nodes' p
-HoldsOthers-take_next {K} {V} {heads} {hash} {nodes} {before} {p} nodes' q link e h w l sets =
+pub HasOtherChains-take_next : {K V : Type 0} {heads : List (Option Ptr)} {hash : ℕ} {nodes : List (Held (K × V))} {before : Option Ptr} {p : Ptr} (nodes' : List (Held (K × V))) (q : Ptr) (link : Option Ptr) → before ≡ Some q → HasChains heads (spots nodes) → IsOnChain heads hash (spots nodes) before p → OfNodeAt nodes p (λ x. link ≡ x.link) → AtHeld nodes q (λ before x after. nodes' ≡ before ++ linked_to link x ∷ after) → HasOtherChains heads nodes' p
+HasOtherChains-take_next {K} {V} {heads} {hash} {nodes} {before} {p} nodes' q link e h w l sets =
     let n : ℕ = length heads in
     let bucket : ℕ = hash % n in
     let f : Spot → Bool = is_in n bucket in
@@ -117,5 +114,5 @@ HoldsOthers-take_next {K} {V} {heads} {hash} {nodes} {before} {p} nodes' q link 
     let t : PutsPassing f w.here y.ws = PutsPassing-filter f w.here m.0 y.ws m.1 in
     let s : (ws : List Spot) × PutsIn w.here ws (spots nodes') = PutsIn-later w.here y' t.without y.ws (spots nodes') t.puts put' in
     let of : NodeOf w.here s.0 nodes' = NodeOf-spot w.here s.0 nodes' s.1 in
-    let i : Indexes heads s.0 = Indexes-take_next heads bucket b.before b.node y' w.here w.rest y.ws (spots nodes) (spots nodes') s.0 h (mod-lt hash (length-on_chain h w)) linked holds (ap (λ v. v.at) y.of.split.at_is) (ap (λ v. v.hash) y.of.split.at_is) link_is y.puts put' s.1 in
-    record { held = IsHeld-spot of w.at_is; others = subst (λ (v : List Spot). Indexes heads v) of.others i }
+    let i : HasChains heads s.0 = HasChains-take_next heads bucket b.before b.node y' w.here w.rest y.ws (spots nodes) (spots nodes') s.0 h (mod-lt hash (length-on_chain h w)) linked holds (ap (λ v. v.at) y.of.split.at_is) (ap (λ v. v.hash) y.of.split.at_is) link_is y.puts put' s.1 in
+    record { held = IsHeld-spot of w.at_is; others = subst (λ (v : List Spot). HasChains heads v) of.others i }

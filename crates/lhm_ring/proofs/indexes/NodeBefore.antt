@@ -13,7 +13,7 @@ use Rattle.lhm_ring.proofs.lists.RearrangedCounts.{length-IsRearranged}
 use Rattle.lhm_ring.proofs.lists.RearrangedFilters.{PutsIn-filter_in}
 use Rattle.lhm_ring.proofs.indexes.Spots.{IsHeld-spot, PutsIn-spots}
 use Rattle.lhm_ring.specs.Ring.{State, Held, IsHeld, AtHeld, linked_to, SplitAt, SplitAround}
-use Rattle.lhm_ring.specs.Index.{PutsIn, IsRearranged, IsChain, is_in, HasChain, Indexes, Spot, spot, spots, OfNodeAt, IsLast, IsOnChain}
+use Rattle.lhm_ring.specs.Index.{PutsIn, IsRearranged, IsChain, is_in, HasChain, HasChains, Spot, spot, spots, OfNodeAt, IsLast, IsOnChain}
 
 -- the chain of the held node x: us come before it there, and vs after it
 pub record OnItsChain {K V : Type 0} (heads : List (Option Ptr)) (hash : ℕ) (nodes : List (Held (K × V))) (x : Held (K × V)) : Type 0 where
@@ -64,7 +64,7 @@ ChainFirst-cut here (u ∷ us) s t vs a c = record { node = u; after = us ++ t �
 
 -- ---- the chain of a held node
 
-OnItsChain-node : {K V : Type 0} (heads : List (Option Ptr)) (hash : ℕ) (nodes xs : List (Held (K × V))) (x : Held (K × V)) (ys : List (Held (K × V))) → Indexes heads (spots nodes) → nodes ≡ xs ++ x ∷ ys → hash ≡ x.hash → OnItsChain heads hash nodes x
+OnItsChain-node : {K V : Type 0} (heads : List (Option Ptr)) (hash : ℕ) (nodes xs : List (Held (K × V))) (x : Held (K × V)) (ys : List (Held (K × V))) → HasChains heads (spots nodes) → nodes ≡ xs ++ x ∷ ys → hash ≡ x.hash → OnItsChain heads hash nodes x
 OnItsChain-node {K} {V} heads hash nodes xs x ys h is e =
     let n : ℕ = length heads in
     let f : Spot → Bool = is_in n (hash % n) in
@@ -92,14 +92,14 @@ has_head : (h : Option Ptr) (us : List Spot) (s : Spot) (vs : List Spot) → IsC
 has_head h [] s vs c = (s.at, c.0)
 has_head h (u ∷ us) s vs c = (u.at, c.0)
 
-pub get_or-head : {K V : Type 0} {heads : List (Option Ptr)} {hash : ℕ} {nodes : List (Held (K × V))} {p : Ptr} → Indexes heads (spots nodes) → IsHeld nodes p → OfNodeAt nodes p (λ x. hash ≡ x.hash) → (q : Ptr) × (get_or heads (hash % length heads) None ≡ Some q)
+pub get_or-head : {K V : Type 0} {heads : List (Option Ptr)} {hash : ℕ} {nodes : List (Held (K × V))} {p : Ptr} → HasChains heads (spots nodes) → IsHeld nodes p → OfNodeAt nodes p (λ x. hash ≡ x.hash) → (q : Ptr) × (get_or heads (hash % length heads) None ≡ Some q)
 get_or-head {K} {V} {heads} {hash} {nodes} {p} h w e =
     let c : OnItsChain heads hash nodes w.node = OnItsChain-node heads hash nodes w.before w.node w.after h w.is (e w.before w.node w.after w.is w.at_is) in
     has_head (get_or heads (hash % length heads) None) c.us (spot w.node) c.vs c.linked
 
 -- ---- the way
 
-pub IsTowards-start : {K V : Type 0} {heads : List (Option Ptr)} {hash : ℕ} {nodes : List (Held (K × V))} {p : Ptr} (cut : List (Held (K × V))) (link : Option Ptr) (here : Ptr) → Indexes heads (spots nodes) → IsHeld nodes p → OfNodeAt nodes p (λ x. hash ≡ x.hash) → OfNodeAt nodes p (λ x. link ≡ x.link) → AtHeld nodes p (λ before x after. cut ≡ before ++ linked_to None x ∷ after) → Some here ≡ get_or heads (hash % length heads) None → IsTowards heads hash nodes cut p link None here 0
+pub IsTowards-start : {K V : Type 0} {heads : List (Option Ptr)} {hash : ℕ} {nodes : List (Held (K × V))} {p : Ptr} (cut : List (Held (K × V))) (link : Option Ptr) (here : Ptr) → HasChains heads (spots nodes) → IsHeld nodes p → OfNodeAt nodes p (λ x. hash ≡ x.hash) → OfNodeAt nodes p (λ x. link ≡ x.link) → AtHeld nodes p (λ before x after. cut ≡ before ++ linked_to None x ∷ after) → Some here ≡ get_or heads (hash % length heads) None → IsTowards heads hash nodes cut p link None here 0
 IsTowards-start {K} {V} {heads} {hash} {nodes} {p} cut link here h w e l d a =
     let c : OnItsChain heads hash nodes w.node = OnItsChain-node heads hash nodes w.before w.node w.after h w.is (e w.before w.node w.after w.is w.at_is) in
     let f : ChainFirst (c.us ++ spot (linked_to None w.node) ∷ []) here = ChainFirst-cut here c.us (spot w.node) (spot (linked_to None w.node)) c.vs refl (subst (λ (v : Option Ptr). IsChain v (c.us ++ spot w.node ∷ c.vs)) (sym a) c.linked) in

@@ -14,7 +14,7 @@ use Rattle.lhm_ring.proofs.lists.RearrangedCounts.{count_by-IsRearranged, length
 use Rattle.lhm_ring.proofs.lists.RearrangedFilters.{PutsIn-filter_in}
 use Rattle.lhm_ring.proofs.indexes.Spots.{IsHeld-spot, PutsIn-spots}
 use Rattle.lhm_ring.specs.Ring.{Held, IsHeld, SplitAround}
-use Rattle.lhm_ring.specs.Index.{PutsIn, IsRearranged, IsChain, is_in, HasChain, Indexes, Spot, spot, spots, same, beside, OfNodeAt}
+use Rattle.lhm_ring.specs.Index.{PutsIn, IsRearranged, IsChain, is_in, HasChain, HasChains, Spot, spot, spots, same, beside, OfNodeAt}
 use Rattle.lhm_ring.specs.Search.{Compares, DifferAll, IsPart, FindsKey, FindsNone}
 
 -- ---- counts in the chain
@@ -63,7 +63,7 @@ IsHeld-part {K} {V} {eq} {hash} {key} {heads} {nodes} w = IsHeld-chain (length h
 
 -- the head of a chain is held
 pub IsHeld-head : {K V : Type 0} {heads : List (Option Ptr)} {nodes : List (Held (K × V))} {p : Ptr} (bucket : ℕ) → bucket < length heads
-    → Indexes heads (spots nodes) → get_or heads bucket None ≡ Some p → IsHeld nodes p
+    → HasChains heads (spots nodes) → get_or heads bucket None ≡ Some p → IsHeld nodes p
 IsHeld-head {K} {V} {heads} {nodes} {p} bucket within i head =
     let h : HasChain (get_or heads bucket None) (length heads) bucket (spots nodes) = i.chains bucket within in
     IsHeld-chain (length heads) bucket [] h.chain (subst (λ (v : Option Ptr). IsChain v h.chain) head h.linked) h.holds
@@ -194,7 +194,7 @@ IsPart-same {K} {V} {eq} {hash} {key} {heads} {nodes} {before} {pointer} {visite
 -- before the first node of the chain
 pub IsPart-first : {K V : Type 0} {eq : K → K → Bool} {hash : ℕ} {key : K} {heads : List (Option Ptr)} {nodes : List (Held (K × V))}
     {before pointer : Option Ptr} {visited compared : ℕ} → before ≡ None → pointer ≡ get_or heads (hash % length heads) None
-    → visited ≡ 0 → compared ≡ 0 → hash % length heads < length heads → Indexes heads (spots nodes)
+    → visited ≡ 0 → compared ≡ 0 → hash % length heads < length heads → HasChains heads (spots nodes)
     → IsPart eq hash key heads nodes before pointer visited compared
 IsPart-first {K} {V} {eq} {hash} {key} {heads} {nodes} {before} {pointer} {visited} {compared} first is none_visited none_compared within i =
     let h : HasChain (get_or heads (hash % length heads) None) (length heads) (hash % length heads) (spots nodes) = i.chains (hash % length heads) within in

@@ -10,10 +10,10 @@ use denote.RawPtr.{Ptr}
 use Rattle.lhm_ring.proofs.indexes.Chains.{HasChain-other, HasChain-push, HasChain-other_removed, IsChain-linked_past, none-unchained}
 use Rattle.lhm_ring.proofs.lists.Rearranged.{PutsIn-here, PutsIn-there, PutsIn-middle, IsRearranged-less, IsRearranged-more, IsRearranged-member, PutsIn-under}
 use Rattle.lhm_ring.proofs.lists.RearrangedFilters.{PutsPassing, PutsIn-filter_in, PutsPassing-filter}
-use Rattle.lhm_ring.specs.Index.{PutsIn, IsRearranged, IsChain, is_in, HasChain, Indexes, Spot}
+use Rattle.lhm_ring.specs.Index.{PutsIn, IsRearranged, IsChain, is_in, HasChain, HasChains, Spot}
 
-pub Indexes-put : (heads : List (Option Ptr)) (s : Spot) (xs ys : List Spot) → Indexes heads xs → 0 < length heads → s.link ≡ get_or heads (s.hash % length heads) None → PutsIn s xs ys → Indexes (set heads (s.hash % length heads) (Some s.at)) ys
-Indexes-put heads s xs ys h l e p =
+pub HasChains-put : (heads : List (Option Ptr)) (s : Spot) (xs ys : List Spot) → HasChains heads xs → 0 < length heads → s.link ≡ get_or heads (s.hash % length heads) None → PutsIn s xs ys → HasChains (set heads (s.hash % length heads) (Some s.at)) ys
+HasChains-put heads s xs ys h l e p =
     let n : ℕ = length heads in
     let b : ℕ = s.hash % n in
     let bn : b < n = mod-lt s.hash l in
@@ -38,8 +38,8 @@ Indexes-put heads s xs ys h l e p =
     }
 
 -- the first of a chain is removed: its chain link is the new head
-pub Indexes-take_first : (heads : List (Option Ptr)) (b : ℕ) (s : Spot) (rest ys xs : List Spot) → Indexes heads xs → b < length heads → IsChain (get_or heads b None) (s ∷ rest) → IsRearranged (s ∷ rest) (filter (is_in (length heads) b) xs) → PutsIn s ys xs → Indexes (set heads b s.link) ys
-Indexes-take_first heads b s rest ys xs h l linked holds p =
+pub HasChains-take_first : (heads : List (Option Ptr)) (b : ℕ) (s : Spot) (rest ys xs : List Spot) → HasChains heads xs → b < length heads → IsChain (get_or heads b None) (s ∷ rest) → IsRearranged (s ∷ rest) (filter (is_in (length heads) b) xs) → PutsIn s ys xs → HasChains (set heads b s.link) ys
+HasChains-take_first heads b s rest ys xs h l linked holds p =
     let n : ℕ = length heads in
     let q : Spot → Bool = is_in n b in
     let t : PutsPassing q s xs = PutsPassing-filter q s holds.without xs holds.puts in
@@ -69,8 +69,8 @@ Indexes-take_first heads b s rest ys xs h l linked holds p =
     }
 
 -- a later one is removed: the one before it is linked past it
-pub Indexes-take_next : (heads : List (Option Ptr)) (b : ℕ) (done : List Spot) (y y' s : Spot) (rest zs xs xs' ys : List Spot) → Indexes heads xs → b < length heads → IsChain (get_or heads b None) (done ++ y ∷ s ∷ rest) → IsRearranged (done ++ y ∷ s ∷ rest) (filter (is_in (length heads) b) xs) → y'.at ≡ y.at → y'.hash ≡ y.hash → y'.link ≡ s.link → PutsIn y zs xs → PutsIn y' zs xs' → PutsIn s ys xs' → Indexes heads ys
-Indexes-take_next heads b done y y' s rest zs xs xs' ys h l linked holds a num link py py' ps =
+pub HasChains-take_next : (heads : List (Option Ptr)) (b : ℕ) (done : List Spot) (y y' s : Spot) (rest zs xs xs' ys : List Spot) → HasChains heads xs → b < length heads → IsChain (get_or heads b None) (done ++ y ∷ s ∷ rest) → IsRearranged (done ++ y ∷ s ∷ rest) (filter (is_in (length heads) b) xs) → y'.at ≡ y.at → y'.hash ≡ y.hash → y'.link ≡ s.link → PutsIn y zs xs → PutsIn y' zs xs' → PutsIn s ys xs' → HasChains heads ys
+HasChains-take_next heads b done y y' s rest zs xs xs' ys h l linked holds a num link py py' ps =
     let n : ℕ = length heads in
     let q : Spot → Bool = is_in n b in
     let my : (ws : List Spot) × PutsIn y ws (filter q xs) = IsRearranged-member done y (s ∷ rest) (filter q xs) holds in
@@ -105,9 +105,9 @@ Indexes-take_next heads b done y y' s rest zs xs xs' ys h l linked holds a num l
     }
 
 -- heads with no chain, and no nodes
-pub Indexes-none : (heads : List (Option Ptr)) → ((b : ℕ) → b < length heads → get_or heads b None ≡ None) → Indexes heads []
-Indexes-none heads h = record { chains = λ b l. record { chain = []; linked = h b l; holds = refl }; none = λ _. refl }
+pub HasChains-none : (heads : List (Option Ptr)) → ((b : ℕ) → b < length heads → get_or heads b None ≡ None) → HasChains heads []
+HasChains-none heads h = record { chains = λ b l. record { chain = []; linked = h b l; holds = refl }; none = λ _. refl }
 
 -- no nodes, and so heads with no chain
-pub get_or-none_indexed : (heads : List (Option Ptr)) → Indexes heads [] → (b : ℕ) → b < length heads → get_or heads b None ≡ None
+pub get_or-none_indexed : (heads : List (Option Ptr)) → HasChains heads [] → (b : ℕ) → b < length heads → get_or heads b None ≡ None
 get_or-none_indexed heads i b l = let c = i.chains b l in none-unchained (get_or heads b None) c.chain c.linked c.holds

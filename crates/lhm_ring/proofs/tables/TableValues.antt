@@ -1,11 +1,10 @@
 -- Other values in a table's nodes.
-use Rattle.std.proofs.Common.{◌≡◌, ℕ, ◌+◌, List, [], ◌∷◌, map, Option, None, refl, sym, ap, ◌∙◌, length, arith}
+use Rattle.std.proofs.Common.{◌≡◌, ℕ, ◌+◌, List, [], ◌∷◌, map, None, refl, sym, ap, ◌∙◌, length, arith}
 use Rattle.std.proofs.lemmas.List.{length-map}
-use denote.RawPtr.{Ptr}
-use Rattle.lhm_ring.proofs.indexes.Filters.{IsFilter-spots}
 use Rattle.lhm_ring.proofs.indexes.IndexMoves.{spots-values}
 use Rattle.lhm_ring.proofs.tables.IndexedRing.{IsIndexed-same_spots}
 use Rattle.lhm_ring.specs.Ring.{State, Held, set_held_values}
+use Rattle.lhm_ring.specs.Buckets.{BucketState}
 use Rattle.lhm_ring.specs.Index.{spot, entries}
 use Rattle.lhm_ring.specs.Table.{TableState, IsTable, table_of}
 
@@ -18,10 +17,10 @@ module _ {K V : Type 0} where
   length-set_held_values : (hs : List (Held (K × V))) (vs : List V) → length (set_held_values hs vs) ≡ length hs
   length-set_held_values hs vs = sym (length-map (set_held_values hs vs) spot) ∙ ap length (spots-values hs vs) ∙ length-map hs spot
 
-  pub IsTable-values : {heads : List (Option Ptr)} {words : List ℕ} {s : State (K × V)} {r : ℕ} (vs : List V) → IsTable heads words s r → IsTable heads words (record s { held = set_held_values s.held vs }) r
-  IsTable-values {heads} {words} {s} vs table = record {
-    filtered = IsFilter-spots s.held (set_held_values s.held vs) (spots-values s.held vs) table.filtered;
-    indexed = IsIndexed-same_spots heads s (record s { held = set_held_values s.held vs }) table.indexed (spots-values s.held vs) refl;
+  pub IsTable-values : {i : BucketState} {s : State (K × V)} {r : ℕ} (vs : List V) → IsTable i s r
+      → IsTable i (record s { held = set_held_values s.held vs }) r
+  IsTable-values {i} {s} vs table = record {
+    indexed = IsIndexed-same_spots i s (record s { held = set_held_values s.held vs }) table.indexed refl (spots-values s.held vs);
     few = table.few;
     limit = (let long = length-set_held_values s.held vs in omega (arith, long, table.limit));
     nodes_within = table.nodes_within;

@@ -6,14 +6,13 @@ use Rattle.std.proofs.lemmas.List.{length-map}
 use denote.RawPtr.{Ptr}
 use Rattle.lhm_ring.proofs.indexes.BucketCounts.{buckets-raised, buckets-below, buckets-at_least, rechained-within}
 use Rattle.lhm_ring.proofs.indexes.Entries.{AtHeld-entries, IsHeld-entries, entries-append, entries-change_at, first_at-entries, length-entries, length-same_entries, pointers-entries, triples-entries}
-use Rattle.lhm_ring.proofs.indexes.Filters.{IsFilter-spots, IsFilter-entries, IsFilter-removed, IsFilter-to_back}
 use Rattle.lhm_ring.proofs.indexes.IndexMoves.{spots-value}
 use Rattle.lhm_ring.proofs.tables.IndexedRing.{IsIndexed-value, IsIndexed-to_back}
 use Rattle.lhm_ring.specs.Nodes.{IsApart}
 use Rattle.lhm_ring.specs.Ring.{Held, State, state, IsHeld, AtHeld, ChangesOnly, linked_to, first_at, change_at, triples, revalued}
 use Rattle.lhm_ring.specs.RingAfterLoan.{with_value}
 use Rattle.lhm_ring.specs.Index.{Indexes, spot, spots, same, entries, HoldsOthers}
-use Rattle.lhm_ring.specs.Buckets.{buckets, rechained_raised, IsFilter}
+use Rattle.lhm_ring.specs.Buckets.{BucketState, buckets, rechained_raised}
 use Rattle.lhm_ring.specs.TableAfterLoan.{with_value as write}
 use Rattle.lhm_ring.specs.Table.{IsTable, TableState, WritesOnly, table_of}
 
@@ -77,26 +76,26 @@ buckets-stay c d up enough =
     ]
 
 -- tables after the calls of the ring and its index
-module _ {K V : Type 0} {heads : List (Option Ptr)} {words : List ℕ} {s : State (K × V)} {r : ℕ} (table : IsTable heads words s r) where
+module _ {K V : Type 0} {i : BucketState} {s : State (K × V)} {r : ℕ} (table : IsTable i s r) where
   -- the same pairs in order, except for chain links
-  pub IsTable-rechained : {heads' : List (Option Ptr)} {words' : List ℕ} {t : State (K × V)} {q : ℕ} → entries t.held ≡ entries s.held → length s.held + t.spares ≤ 2 ^ 59 → Indexes heads' (spots t.held) → length heads' ≡ buckets (length s.held + t.spares) → IsFilter words' heads' t.held → q ≤ length heads' → t.nodes ≤ length heads' → IsTable heads' words' t q
-  IsTable-rechained {heads'} {words'} {t} same within chains count filtered few made =
+  pub IsTable-rechained : {i' : BucketState} {t : State (K × V)} {q : ℕ} → entries t.held ≡ entries s.held → length s.held + t.spares ≤ 2 ^ 59
+      → Indexes i' (spots t.held) → length i'.heads ≡ buckets (length s.held + t.spares) → q ≤ length i'.heads → t.nodes ≤ length i'.heads
+      → IsTable i' t q
+  IsTable-rechained {t = t} same within indexes count few made =
       let long = length-same_entries t.held s.held same in
       record {
-        indexed = record { chains = chains; count = count ∙ ap (λ l. buckets (l + t.spares)) (sym long) };
-        filtered = filtered;
+        indexed = record { indexes = indexes; count = count ∙ ap (λ l. buckets (l + t.spares)) (sym long) };
         few = few;
         limit = omega (arith, long, within);
         nodes_within = made;
       }
 
   -- a value was written
-  pub IsTable-value : (p : Ptr) (w : V) → IsTable heads words (with_value s p w) r
+  pub IsTable-value : (p : Ptr) (w : V) → IsTable i (with_value s p w) r
   IsTable-value p w =
       let count = sym (length-map (change_at p (revalued w) s.held) spot) ∙ ap length (spots-value p w s.held) ∙ length-map s.held spot in
       record {
-        indexed = IsIndexed-value heads s p w table.indexed;
-        filtered = IsFilter-spots s.held (change_at p (revalued w) s.held) (spots-value p w s.held) table.filtered;
+        indexed = IsIndexed-value i s p w table.indexed;
         few = table.few;
         limit = omega (arith, count, table.limit);
         nodes_within = table.nodes_within;
@@ -112,20 +111,19 @@ module _ {K V : Type 0} {heads : List (Option Ptr)} {words : List ℕ} {s : Stat
       let k = length-append h.before (h.node ∷ h.after) in
       omega (arith, a, b, f, g, k)
 
-  pub IsTable-to_back : {t : State (K × V)} (p : Ptr) → IsHeld s.held p → AtHeld s.held p (λ xs x ys. t.held ≡ (xs ++ ys) ++ x ∷ []) → t.spares ≡ s.spares → t.nodes ≡ s.nodes → IsTable heads words t r
+  pub IsTable-to_back : {t : State (K × V)} (p : Ptr) → IsHeld s.held p → AtHeld s.held p (λ xs x ys. t.held ≡ (xs ++ ys) ++ x ∷ []) → t.spares ≡ s.spares → t.nodes ≡ s.nodes → IsTable i t r
   IsTable-to_back {t} p h last spares made =
       let long = length-moved t p h last in
-      let moved = IsFilter-to_back h.before h.node h.after (subst (λ (hs : List (Held (K × V))). IsFilter words heads hs) h.is table.filtered) in
       record {
-        indexed = IsIndexed-to_back heads s t p table.indexed h last spares;
-        filtered = subst (λ (hs : List (Held (K × V))). IsFilter words heads hs) (sym (last h.before h.node h.after h.is h.at_is)) moved;
+        indexed = IsIndexed-to_back i s t table.indexed spares p h last;
         few = table.few;
         limit = omega (arith, long, spares, table.limit);
         nodes_within = omega (arith, made, table.nodes_within);
       }
 
   -- the node at p was removed from its chain, and then from the ring
-  module _ {chains : List (Option Ptr)} {t w : State (K × V)} {p : Ptr} (same : entries t.held ≡ entries s.held) (spares : t.spares ≡ s.spares) (made : t.nodes ≡ s.nodes) (lacks : HoldsOthers chains t.held p) (others : AtHeld t.held p (λ xs x ys. w.held ≡ xs ++ ys)) (more : w.spares ≡ t.spares + 1) (stay : w.nodes ≡ t.nodes) where
+  module _ {i' : BucketState} {t w : State (K × V)} {p : Ptr} (same : entries t.held ≡ entries s.held) (spares : t.spares ≡ s.spares) (made : t.nodes ≡ s.nodes)
+      (lacks : HoldsOthers i' t.held p) (others : AtHeld t.held p (λ xs x ys. w.held ≡ xs ++ ys)) (more : w.spares ≡ t.spares + 1) (stay : w.nodes ≡ t.nodes) where
     pub length-with_spares : length s.held + s.spares ≡ length w.held + w.spares
     length-with_spares =
         let h = lacks.held in
@@ -136,44 +134,45 @@ module _ {K V : Type 0} {heads : List (Option Ptr)} {words : List ℕ} {s : Stat
         let long = length-same_entries t.held s.held same in
         omega (arith, out, of_rest, of_held, of_all, long, spares, more)
 
-    pub IsTable-removed : length chains ≡ length heads → IsTable chains words w r
+    pub IsTable-removed : length i'.heads ≡ length i.heads → IsTable i' w r
     IsTable-removed count =
         let h = lacks.held in
         let out = others h.before h.node h.after h.is h.at_is in
         let all = length-with_spares in
-        let kept : IsFilter words chains t.held = IsFilter-entries chains s.held t.held same count table.filtered in
-        let rest = IsFilter-removed h.before h.node h.after (subst (λ (hs : List (Held (K × V))). IsFilter words chains hs) h.is kept) in
         record {
-          filtered = subst (λ (hs : List (Held (K × V))). IsFilter words chains hs) (sym out) rest;
-          indexed = record { chains = subst (λ (hs : List (Held (K × V))). Indexes chains (spots hs)) (sym out) lacks.others; count = count ∙ table.indexed.count ∙ ap buckets all };
+          indexed = record {
+            indexes = subst (λ (hs : List (Held (K × V))). Indexes i' (spots hs)) (sym out) lacks.others;
+            count = count ∙ table.indexed.count ∙ ap buckets all;
+          };
           few = omega (arith, table.few, count);
           limit = omega (arith, all, table.limit);
           nodes_within = omega (arith, made, stay, count, table.nodes_within);
         }
 
   -- the capacity rises, and the buckets do for it: no node is rehashed
-  module _ (d : ℕ) (up : length s.held + s.spares < d) (enough : d ≤ length heads) where
+  module _ (d : ℕ) (up : length s.held + s.spares < d) (enough : d ≤ length i.heads) where
     buckets-same : buckets (length s.held + s.spares) ≡ buckets d
     buckets-same = buckets-stay (length s.held + s.spares) d up (omega (arith, enough, table.indexed.count))
 
     pub rechained_raised-stays : (len : ℕ) → rechained_raised r len (length s.held + s.spares) d ≡ r
     rechained_raised-stays len = ap (λ b. cond b r (r + len)) (eq-eqb (buckets (length s.held + s.spares)) (buckets d) buckets-same)
 
-    pub IsTable-grown : {E : Type 0} {t : State (K × V)} (result : Result (Unit {0}) E) (more most : ℕ) → most ≡ length heads → OnOk result (t.held ≡ s.held) → OnOk result (t.spares ≡ s.spares + more) → OnOk result (s.nodes ≤ most → length s.held + s.spares + more ≤ most → t.nodes ≤ most) → OnErr result (t ≡ s) → d ≡ length s.held + s.spares + more → d ≤ 2 ^ 59 → IsTable heads words t r
+    pub IsTable-grown : {E : Type 0} {t : State (K × V)} (result : Result (Unit {0}) E) (more most : ℕ) → most ≡ length i.heads → OnOk result (t.held ≡ s.held) → OnOk result (t.spares ≡ s.spares + more) → OnOk result (s.nodes ≤ most → length s.held + s.spares + more ≤ most → t.nodes ≤ most) → OnErr result (t ≡ s) → d ≡ length s.held + s.spares + more → d ≤ 2 ^ 59 → IsTable i t r
     IsTable-grown {t = t} (Ok _) more most wide stays spares made _ all within =
         let few = made (omega (arith, wide, table.nodes_within)) (omega (arith, wide, enough, all)) in
         let sum : length s.held + t.spares ≡ d = omega (arith, spares, all) in
-        IsTable-rechained (ap entries stays) (omega (arith, sum, within)) (subst (λ hs. Indexes heads (spots hs)) (sym stays) table.indexed.chains) (table.indexed.count ∙ buckets-same ∙ ap buckets (sym sum)) (subst (λ (hs : List (Held (K × V))). IsFilter words heads hs) (sym stays) table.filtered) table.few (omega (arith, wide, few))
-    IsTable-grown (Err _) more most _ _ _ _ unchanged _ _ = subst (λ u. IsTable heads words u r) (sym unchanged) table
+        IsTable-rechained (ap entries stays) (omega (arith, sum, within)) (subst (λ hs. Indexes i (spots hs)) (sym stays) table.indexed.indexes)
+        (table.indexed.count ∙ buckets-same ∙ ap buckets (sym sum)) table.few (omega (arith, wide, few))
+    IsTable-grown (Err _) more most _ _ _ _ unchanged _ _ = subst (λ u. IsTable i u r) (sym unchanged) table
 
   -- it rises above the number of buckets: each node can be rehashed
-  module _ (d : ℕ) (up : length s.held + s.spares < d) (few : length heads < d) where
+  module _ (d : ℕ) (up : length s.held + s.spares < d) (few : length i.heads < d) where
     buckets-differ : buckets (length s.held + s.spares) ≢ buckets d
     buckets-differ e = let fits = buckets-at_least d in let count = table.indexed.count in absurd (omega (arith, few, count, e, fits))
 
     pub rechained-fits : r + length s.held ≤ buckets d
     rechained-fits =
-        let count : length heads ≡ buckets (length s.held + s.spares) = table.indexed.count in
+        let count : length i.heads ≡ buckets (length s.held + s.spares) = table.indexed.count in
         rechained-within r (length s.held) (length s.held + s.spares) d (omega (arith, table.few, count)) (omega arith) (omega (arith, up)) buckets-differ
 
     pub rechained_raised-moves : (len : ℕ)

@@ -1,8 +1,6 @@
 use Rattle.std.proofs.Common.{arith}
-use Rattle.std.proofs.lemmas.List.{length-map}
 use Rattle.lhm_ring.proofs.indexes.BucketHeads.{get_or-cleared}
 use Rattle.lhm_ring.proofs.buckets.clear_heads.Goals as goal
-use Rattle.lhm_ring.specs.Buckets.{leads_to}
 
 pub heads-preserved : goal.heads-preserved
 heads-preserved c = record {
@@ -11,4 +9,4 @@ heads-preserved c = record {
 }
 
 pub returns-clause-empty : goal.returns-clause-empty
-returns-clause-empty c = λ b l. c.heads.invariant.cleared b (omega (arith, l, c.heads.heads.ok, length-map c.heads.heads.items leads_to))
+returns-clause-empty c = λ b l. c.heads.invariant.cleared b (omega (arith, l, c.heads.invariant.buckets))

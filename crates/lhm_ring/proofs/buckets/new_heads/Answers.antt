@@ -10,6 +10,3 @@ heads-preserved c = record {
   few = omega (arith, c.push_reserved.ensures.len, c.len.ensures, c.heads-test.true);
   capacity = c.push_reserved.ensures.capacity ∙ c.heads.invariant.capacity;
 }
-
-pub returns-clause-empty : goal.returns-clause-empty
-returns-clause-empty c = λ b l. c.heads.invariant.empty b

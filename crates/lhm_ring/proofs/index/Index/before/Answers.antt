@@ -1,21 +1,30 @@
-use Rattle.std.proofs.Common.{arith, ap, sym, ◌∙◌}
+use Rattle.std.proofs.Common.{arith, ap, sym, ◌++◌, ◌∷◌, ◌∙◌, get_or, Some, None}
 use Rattle.std.specs.Prelude.{is_some}
-use Rattle.lhm_ring.proofs.indexes.NodeBefore.{get_or-head, IsTowards-start, IsHeld-towards, passed-below, IsTowards-next, IsOnChain-towards, nodes-mended, IsHeld-towards_cut, State-equal}
+use Rattle.lhm_ring.specs.declared.pointer.NodePointer.{NodePointer}
+use Rattle.lhm_ring.proofs.indexes.NodeBefore.{get_or-head, IsTowards-start, IsHeld-towards, passed-below, IsTowards-next, IsOnChain-towards}
+use Rattle.lhm_ring.proofs.indexes.NodeBefore.{nodes-mended, IsHeld-towards_cut, State-equal}
 use Rattle.lhm_ring.proofs.index.Index.before.Goals as goal
-use Rattle.lhm_ring.specs.Pointer.{pointer_of, pointer_of_some}
+use Rattle.lhm_ring.specs.Pointer.{pointer_of, pointer_of_some, target}
+use Rattle.lhm_ring.specs.Ring.{linked_to}
 
-pub first-here-requires : goal.first-here-requires
-first-here-requires g c = let h = get_or-head c.requires.indexed c.requires.held c.requires.hash in ap is_some h.1
+pub pointer-requires : goal.pointer-requires
+pointer-requires g c =
+    let h = get_or-head c.requires.indexed.chains c.requires.held c.requires.hash in
+    ap is_some (c.head-head.ensures ∙ ap (λ b. get_or c.args.self.now.heads b None) c.bucket_of.ensures.of_hash ∙ h.1)
 
 pub chain-init : goal.chain-init
 chain-init g c = record {
-  towards = IsTowards-start c.set_link.new.self.held (pointer_of_some c.link-link.result) (pointer_of c.first-here.result) c.requires.indexed c.requires.held c.requires.hash c.link-link.ensures.link c.set_link.ensures.held (sym c.first-here.ensures);
+  towards = IsTowards-start c.set_link.new.self.held (target c.links.result.now.link) (pointer_of c.new-here.result) c.requires.indexed.chains
+      c.requires.held c.requires.hash c.links.ensures.link
+      (λ xs t ys e at. c.set_link.ensures.held xs t ys e at ∙ ap (λ o. xs ++ linked_to o t ∷ ys) c.none.ensures)
+      (ap (λ (z : NodePointer). Some z.ptr) c.new-here.ensures ∙ sym c.pointer.ensures.pointer ∙ c.head-head.ensures
+      ∙ ap (λ b. get_or c.args.self.now.heads b None) c.bucket_of.ensures.of_hash);
   spares = c.set_link.ensures.spares;
   nodes = c.set_link.ensures.nodes;
 }
 
-pub link-requires : goal.link-requires
-link-requires g c = IsHeld-towards c.chain.invariant.towards
+pub links-requires-in-chain : goal.links-requires-in-chain
+links-requires-in-chain g c = IsHeld-towards c.chain.invariant.towards
 
 pub overflow_add-passed : goal.overflow_add-passed
 overflow_add-passed g c = omega (arith, passed-below c.chain.invariant.towards, c.requires.small)
@@ -25,7 +34,8 @@ chain-smaller g c = omega (arith, passed-below c.chain.invariant.towards)
 
 pub chain-preserved : goal.chain-preserved
 chain-preserved g c = record {
-  towards = IsTowards-next (pointer_of_some c.link.result) (pointer_of c.in-Some.next) c.chain.invariant.towards c.link.ensures.link (ap pointer_of_some c.in-Some.is);
+  towards = IsTowards-next (target c.links-in-chain.result.now.link) (pointer_of c.in-Some.next) c.chain.invariant.towards
+      c.links-in-chain.ensures.link (sym c.get.ensures ∙ ap pointer_of_some c.in-Some.is);
   spares = c.chain.invariant.spares;
   nodes = c.chain.invariant.nodes;
 }
@@ -34,7 +44,9 @@ pub set_link-requires-2 : goal.set_link-requires-2
 set_link-requires-2 g c = IsHeld-towards_cut c.chain.invariant.towards
 
 pub returns-clause-on_chain : goal.returns-clause-on_chain
-returns-clause-on_chain g c = IsOnChain-towards (pointer_of_some c.link.result) c.chain.invariant.towards c.link.ensures.link (ap pointer_of_some c.in_default.is)
+returns-clause-on_chain g c =
+    IsOnChain-towards (target c.links-in-chain.result.now.link) c.chain.invariant.towards c.links-in-chain.ensures.link
+    (sym c.get.ensures ∙ ap pointer_of_some c.in_default.is)
 
 pub returns-clause-ring : goal.returns-clause-ring
 returns-clause-ring g c =

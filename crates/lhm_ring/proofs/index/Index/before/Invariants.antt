@@ -1,11 +1,11 @@
 use Rattle.std.proofs.Common.{length, ◌-◌, ◌≡◌}
 use Rattle.lhm_ring.proofs.indexes.NodeBefore.{IsTowards}
 use Rattle.lhm_ring.proofs.index.Index.before.Given as goal
-use Rattle.lhm_ring.specs.Pointer.{pointer_of, pointer_of_some}
+use Rattle.lhm_ring.specs.Pointer.{pointer_of, pointer_of_some, target}
 
 abbrev pub invariant-chain : goal.invariant-chain
 invariant-chain g l = record {
-  towards : IsTowards l.self l.hash l.fn.ring.held l.ring.held (pointer_of l.at) (pointer_of_some l.link) (pointer_of_some l.before) (pointer_of l.here) l.passed;
+  towards : IsTowards l.self.heads l.hash l.fn.ring.held l.ring.held (pointer_of l.at) (target l.link) (pointer_of_some l.before) (pointer_of l.here) l.passed;
   spares : l.ring.spares ≡ l.fn.ring.spares;
   nodes : l.ring.nodes ≡ l.fn.ring.nodes;
 }

@@ -8,28 +8,25 @@ returns-then-buckets-gt-FEW_BUCKETS g c =
     let new = c.new.ensures in
     record {
       part = λ key.
-          IsPart-first new.before (new.next ∙ sym c.requires.first) new.visited new.compared c.requires.within c.requires.indexed;
+          IsPart-first new.before (new.next ∙ sym c.requires.first) new.visited new.compared c.requires.within c.requires.indexed.chains;
     }
 
-pub link-link-requires : goal.link-link-requires
-link-link-requires g c = IsHeld-head _ c.requires.within c.requires.indexed c.requires.first
+pub links-links-requires : goal.links-links-requires
+links-links-requires g c = IsHeld-head _ c.requires.within c.requires.indexed.chains c.requires.first
 
-pub hash-requires : goal.hash-requires
-hash-requires g c = IsHeld-head _ c.requires.within c.requires.indexed c.requires.first
-
-pub returns-then-hash-is_some : goal.returns-then-hash-is_some
-returns-then-hash-is_some g c = record {
+pub returns-then-links-hash : goal.returns-then-links-hash
+returns-then-links-hash g c = record {
   part = λ key.
-      IsPart-passed c.hash.result c.is_some.result _
+      IsPart-passed c.links-links.result.now.hash c.is_some.result _
       (IsPart-first {eq = g.K.PartialEq.eq} {key = key} {before = None} {pointer = Some (pointer_of c.args.first)} {visited = 0} {compared = 0}
-      refl (sym c.requires.first) refl refl c.requires.within c.requires.indexed)
-      c.hash.ensures c.if-hash-is_some.true c.link-link.ensures.link;
+      refl (sym c.requires.first) refl refl c.requires.within c.requires.indexed.chains)
+      c.links-links.ensures.hash c.if-links-hash.true (λ b x a i j. c.get-next.ensures ∙ c.links-links.ensures.link b x a i j);
 }
 
-pub returns-else-hash-is_some : goal.returns-else-hash-is_some
-returns-else-hash-is_some g c =
-    let new = c.new-else-hash-is_some.ensures in
+pub returns-else-links-hash : goal.returns-else-links-hash
+returns-else-links-hash g c =
+    let new = c.new-else-links-hash.ensures in
     record {
       part = λ key.
-          IsPart-first new.before (new.next ∙ sym c.requires.first) new.visited new.compared c.requires.within c.requires.indexed;
+          IsPart-first new.before (new.next ∙ sym c.requires.first) new.visited new.compared c.requires.within c.requires.indexed.chains;
     }

@@ -1,8 +1,22 @@
-use Rattle.std.proofs.Common.{map}
-use Rattle.lhm_ring.proofs.indexes.IndexPuts.{Indexes-chained_items}
+use Rattle.std.proofs.Common.{◌≡◌, ℕ, ◌%◌, ◌++◌, ◌∷◌, sym, ap, subst, ◌∙◌, length, get_or, set, Some, None}
+use Rattle.lhm_ring.proofs.indexes.IndexPuts.{Indexes-put_first}
 use Rattle.lhm_ring.proofs.index.Index.put_in.Goals as goal
-use Rattle.lhm_ring.specs.Buckets.{leads_to}
-use Rattle.lhm_ring.specs.Pointer.{pointer_of}
+use Rattle.lhm_ring.specs.Buckets.{SetsBit}
+use Rattle.lhm_ring.specs.Pointer.{pointer_of, target}
+use Rattle.lhm_ring.specs.Ring.{linked_to}
+
+pub returns-clause-first : goal.returns-clause-first
+returns-clause-first g c = λ before x after e at.
+    let heads = c.args.self.now.heads in
+    let own = c.links.ensures.hash before x after e at in
+    let bucket : c.bucket_of-bucket.result ≡ x.hash % length heads = c.bucket_of-bucket.ensures.of_hash ∙ ap (λ h. h % length heads) own in
+    let head : target c.to.result ≡ Some x.at = c.to.ensures ∙ ap Some (sym at) in
+    record {
+      nodes_is = c.set_link.ensures.held before x after e at
+          ∙ ap (λ o. before ++ linked_to o x ∷ after) (c.head.ensures ∙ ap (λ b. get_or heads b None) bucket);
+      heads_is = c.put_first.ensures.heads ∙ (λ i. set heads (bucket i) (head i));
+      words_is = subst (λ (h : ℕ). SetsBit c.args.self.now.words c.put_first.new.self.words h) own c.put_first.ensures.words;
+    }
 
 pub returns-clause-indexed : goal.returns-clause-indexed
-returns-clause-indexed g c = Indexes-chained_items (pointer_of c.args.at) (map leads_to c.self.inside.heads.items) _ _ _ _ c.self.view_is c.chain_one.ensures.chained c.requires.lacks c.requires.some
+returns-clause-indexed g c = λ lacks. Indexes-put_first (pointer_of c.args.at) _ _ _ _ (returns-clause-first g c) lacks c.requires.some

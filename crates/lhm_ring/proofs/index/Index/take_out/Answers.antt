@@ -1,6 +1,15 @@
+use Rattle.std.proofs.Common.{sym, ◌∙◌}
 use Rattle.lhm_ring.proofs.indexes.Entries.{HasKey-kept}
+use Rattle.lhm_ring.proofs.indexes.Filters.{IsAbsent-uncovered}
 use Rattle.lhm_ring.proofs.index.Index.take_out.Goals as goal
 use Rattle.lhm_ring.specs.Pointer.{pointer_of}
 
+pub returns-then-not-may_contain-clause-absent : goal.returns-then-not-may_contain-clause-absent
+returns-then-not-may_contain-clause-absent g c =
+    IsAbsent-uncovered c.args.self.now.words g.K.PartialEq.eq c.args.hash c.args.key.now c.args.ring.now.held c.requires.indexed.covers
+    (sym c.may_contain.ensures ∙ c.if-not-may_contain.true)
+
 pub returns-in-Some-clause-found : goal.returns-in-Some-clause-found
-returns-in-Some-clause-found g c = let h = rw c.in-Some.is at c.search-found.ensures.found in HasKey-kept g.K.PartialEq.eq c.args.hash c.args.key.now c.args.ring.now.held c.unchain-emptied.new.ring.held (pointer_of c.in-Some.found.at) c.unchain-emptied.ensures.held h.has
+returns-in-Some-clause-found g c =
+    let h = rw c.in-Some.is at c.search-found.ensures.found in
+    HasKey-kept g.K.PartialEq.eq c.args.hash c.args.key.now c.args.ring.now.held c.unchain.new.ring.held (pointer_of c.in-Some.found.at) c.unchain.ensures.held h.has

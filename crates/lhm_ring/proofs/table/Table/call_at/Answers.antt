@@ -12,7 +12,7 @@ call_at-requires g c = TakesAt-table_of (TakesPair g.F.FnMut) c.args.keep.now c.
 pub invariant_of-self : goal.invariant_of-self
 invariant_of-self g c =
     let called = c.call_at.ensures.called in
-    subst (λ s. IsTable c.self.inside.index c.self.inside.filter s c.self.inside.rechained) (sym called.new_is) (IsTable-value c.self.invariant (pointer_of c.args.at) called.value)
+    subst (λ s. IsTable c.self.inside.index s c.self.inside.rechained) (sym called.new_is) (IsTable-value c.self.invariant (pointer_of c.args.at) called.value)
 
 pub returns-clause-called : goal.returns-clause-called
 returns-clause-called g c =

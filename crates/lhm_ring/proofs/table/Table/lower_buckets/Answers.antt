@@ -1,4 +1,4 @@
-use Rattle.std.proofs.Common.{◌≡◌, ◌+◌, length, ap, sym, ◌∙◌, arith}
+use Rattle.std.proofs.Common.{◌≡◌, ◌+◌, length, ap, ◌∙◌, arith}
 use Rattle.lhm_ring.proofs.tables.Tables.{length-table, triples-table}
 use Rattle.lhm_ring.proofs.indexes.Entries.{length-same_entries, length-same_triples, triples-entries}
 use Rattle.lhm_ring.proofs.table.Table.lower_buckets.Goals as goal
@@ -7,15 +7,14 @@ use Rattle.lhm_ring.specs.Ring.{triples}
 
 pub invariant_of-self : goal.invariant_of-self
 invariant_of-self g c =
-    let rehashed = c.rehash-self-inside in
+    let rehashed = c.take_over-self-inside in
     let ring = rehashed.new.ring in
-    let fresh = c.in_ok-index.ensures in
+    let fresh = c.in_ok-fresh.ensures in
     let moved = length-same_triples c.compact.new.self.held c.self.inside.ring.held c.in-Ok.ensures.triples in
     let long = length-same_entries ring.held c.compact.new.self.held rehashed.ensures.held in
     let sum : c.len.result ≡ length ring.held + ring.spares = omega (arith, long, moved, rehashed.ensures.spares, c.in-Ok.ensures.spares, c.len.ensures.value) in
     record {
-      indexed = record { chains = rehashed.ensures.indexed; count = rehashed.ensures.buckets ∙ fresh.buckets ∙ ap buckets sum };
-      filtered = record { count = rehashed.ensures.words_stay ∙ ap length c.replace.ensures ∙ fresh.words ∙ sym rehashed.ensures.buckets; covers = rehashed.ensures.covers (ap length c.replace.ensures ∙ fresh.words) };
+      indexed = record { indexes = rehashed.ensures.indexed; count = rehashed.ensures.buckets ∙ fresh.buckets ∙ ap buckets sum };
       few = omega (arith, rehashed.ensures.count, moved, c.len.ensures.value, fresh.enough, rehashed.ensures.buckets);
       limit = omega (arith, sum, c.len.ensures.value, c.len.ensures.bounded);
       nodes_within = omega (arith, rehashed.ensures.nodes, c.in-Ok.ensures.nodes, c.len.ensures.value, fresh.enough, rehashed.ensures.buckets);
@@ -23,12 +22,12 @@ invariant_of-self g c =
 
 pub returns-in-Ok-clause-triples : goal.returns-in-Ok-clause-triples
 returns-in-Ok-clause-triples g c =
-    ap triples c.rehash-self-inside.ensures.held ∙ triples-entries c.compact.new.self.held ∙ c.in-Ok.ensures.triples
+    ap triples c.take_over-self-inside.ensures.held ∙ triples-entries c.compact.new.self.held ∙ c.in-Ok.ensures.triples
     ∙ triples-table c.self.inside.ring c.self.inside.rechained c.self.view_is
 
 pub returns-in-Ok-clause-capacity : goal.returns-in-Ok-clause-capacity
 returns-in-Ok-clause-capacity g c =
-    let rehashed = c.rehash-self-inside in
+    let rehashed = c.take_over-self-inside in
     let long = length-same_entries rehashed.new.ring.held c.compact.new.self.held rehashed.ensures.held in
     let moved = length-same_triples c.compact.new.self.held c.self.inside.ring.held c.in-Ok.ensures.triples in
     let seen = length-table c.self.inside.ring c.self.inside.rechained c.self.view_is in

@@ -11,7 +11,7 @@ invariant_of-self g c =
     let i = c.self.inside in
     let all = length-capacity i.ring i.rechained c.self.view_is in
     let up : length i.ring.held + i.ring.spares < c.args.capacity = omega (arith, all, c.requires.higher) in
-    let enough : c.args.capacity ≤ length i.index = omega (arith, c.if-capacity-buckets.true, c.buckets.ensures) in
+    let enough : c.args.capacity ≤ length i.index.heads = omega (arith, c.if-capacity-buckets.true, c.buckets.ensures) in
     IsTable-grown c.self.invariant c.args.capacity up enough {t = c.grow_within.new.self} c.grow_within.result _ _ c.buckets-then-capacity-buckets.ensures c.grow_within.ensures.held c.grow_within.ensures.spares c.grow_within.ensures.nodes_within c.grow_within.ensures.refused (omega (arith, all, up, c.capacity.ensures.value)) c.requires.limit
 
 pub returns-then-capacity-buckets-clause-rechained : goal.returns-then-capacity-buckets-clause-rechained
@@ -19,7 +19,7 @@ returns-then-capacity-buckets-clause-rechained g c =
     let i = c.self.inside in
     let all = length-capacity i.ring i.rechained c.self.view_is in
     let up : length i.ring.held + i.ring.spares < c.args.capacity = omega (arith, all, c.requires.higher) in
-    let enough : c.args.capacity ≤ length i.index = omega (arith, c.if-capacity-buckets.true, c.buckets.ensures) in
+    let enough : c.args.capacity ≤ length i.index.heads = omega (arith, c.if-capacity-buckets.true, c.buckets.ensures) in
     rw (← c.self.view_is) (OnOk-always c.grow_within.result (sym (rechained_raised-stays c.self.invariant c.args.capacity up enough _)))
 
 pub raise_buckets-requires-clause-more : goal.raise_buckets-requires-clause-more
@@ -32,6 +32,6 @@ returns-clause-rechained g c =
     let i = c.self.inside in
     let all = length-capacity i.ring i.rechained c.self.view_is in
     let up : length i.ring.held + i.ring.spares < c.args.capacity = omega (arith, all, c.requires.higher) in
-    let few : length i.index < c.args.capacity = omega (arith, c.if-capacity-buckets.false, c.buckets.ensures) in
+    let few : length i.index.heads < c.args.capacity = omega (arith, c.if-capacity-buckets.false, c.buckets.ensures) in
     let moves = subst (λ (z : TableState (g.row.K.Denot × g.row.V.Denot)). rechained_raised z.rechained (length z.held) z.capacity c.args.capacity ≡ z.rechained + length z.held) c.self.view_is (rechained_raised-moves c.self.invariant c.args.capacity up few (length (entries i.ring.held))) in
     OnOk-then c.raise_buckets.result c.raise_buckets.ensures.rechained (λ e. e ∙ sym moves)

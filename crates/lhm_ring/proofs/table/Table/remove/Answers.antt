@@ -1,6 +1,5 @@
 use Rattle.std.proofs.Common.{◌≡◌, ◌++◌, sym, ap, ◌∙◌, arith}
 use Rattle.lhm_ring.proofs.indexes.Entries.{HasKey-kept, IsAbsent-entries, HasKey-entries, entries-append}
-use Rattle.lhm_ring.proofs.indexes.Filters.{IsAbsent-lacks, IsFilter-emptied, IfSome-emptied_within}
 use Rattle.lhm_ring.proofs.tables.Tables.{AtHeld-same_entries, length-capacity, IsTable-removed, length-with_spares}
 use Rattle.lhm_ring.proofs.table.Table.remove.Goals as goal
 use Rattle.lhm_ring.specs.Pointer.{pointer_of}
@@ -10,26 +9,11 @@ pub returns-in_err-at-clause-absent : goal.returns-in_err-at-clause-absent
 returns-in_err-at-clause-absent g c =
     rw (c.from_residual.ensures, ← c.self.view_is) (IsAbsent-entries g.K.PartialEq.eq c.args.hash c.args.key.now c.self.inside.ring.held c.in_err-at.ensures.absent)
 
-pub returns-then-not-may_contain-clause-absent : goal.returns-then-not-may_contain-clause-absent
-returns-then-not-may_contain-clause-absent g c = IsAbsent-lacks g.K.PartialEq.eq c.args.hash c.args.key.now c.args.self.now.held (c.may_contain.ensures c.if-not-may_contain.true)
-
-pub clear_emptied-requires : goal.clear_emptied-requires
-clear_emptied-requires g c =
-    IfSome-emptied_within c.self.inside.filter c.self.inside.index c.take_out.new.self c.args.hash c.in_ok-at.emptied c.in_ok-at.ensures.emptied c.in_ok-at.ensures.buckets c.self.invariant.filtered.count
-
 pub invariant_of-self-2 : goal.invariant_of-self-2
 invariant_of-self-2 g c =
     let taken = c.in_ok-at.ensures in
     let unlinked = c.unlink-key.ensures in
-    let cleared = c.clear_emptied.ensures in
-    let table = IsTable-removed c.self.invariant taken.held taken.spares taken.nodes taken.lacks unlinked.others unlinked.spares unlinked.nodes taken.buckets in
-    record {
-      indexed = table.indexed;
-      filtered = IsFilter-emptied c.self.inside.filter c.clear_emptied.new.filter c.take_out.new.self c.args.hash c.unlink-key.new.self.held c.in_ok-at.emptied taken.emptied cleared.others cleared.same cleared.words table.indexed.chains table.filtered;
-      few = table.few;
-      limit = table.limit;
-      nodes_within = table.nodes_within;
-    }
+    IsTable-removed c.self.invariant taken.held taken.spares taken.nodes taken.lacks unlinked.others unlinked.spares unlinked.nodes taken.buckets
 
 pub returns-clause-removed : goal.returns-clause-removed
 returns-clause-removed g c =

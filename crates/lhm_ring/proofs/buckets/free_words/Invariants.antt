@@ -1,5 +1,5 @@
 use Rattle.std.proofs.Common.{vec_len}
-use Rattle.lhm_ring.proofs.buckets.Filter.free.Given as goal
+use Rattle.lhm_ring.proofs.buckets.free_words.Given as goal
 
 abbrev pub invariant-words : goal.invariant-words
 invariant-words l = Unit {0}

@@ -1,0 +1,8 @@
+use Rattle.std.proofs.Common.{◌≡◌, ◌-◌, vec_len}
+use Rattle.lhm_ring.proofs.buckets.clear_words.Given as goal
+
+abbrev pub invariant-words : goal.invariant-words
+invariant-words l = vec_len l.words ≡ vec_len l.fn.words
+
+abbrev pub decreases-words : goal.decreases-words
+decreases-words l = vec_len l.words - l.next

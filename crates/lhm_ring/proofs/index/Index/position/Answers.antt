@@ -1,0 +1,19 @@
+use Rattle.std.proofs.Common.{◌%◌, ap, sym, refl, ◌∙◌, subst, ◌<◌, ℕ, length, None, get_or, ◌≡◌}
+use Rattle.lhm_ring.proofs.indexes.Filters.{IsAbsent-uncovered}
+use Rattle.lhm_ring.proofs.indexes.Searches.{IsPart-first, FindsNone-part}
+use Rattle.lhm_ring.proofs.index.Index.position.Goals as goal
+use Rattle.lhm_ring.specs.Pointer.{pointer_of_some}
+
+pub returns-then-not-may_contain-clause-absent : goal.returns-then-not-may_contain-clause-absent
+returns-then-not-may_contain-clause-absent g c =
+    IsAbsent-uncovered c.args.self.now.words g.K.PartialEq.eq c.args.hash c.args.key.now c.args.ring.now.held c.requires.indexed.covers
+    (sym c.may_contain.ensures ∙ c.if-not-may_contain.true)
+
+pub returns-in_default-clause-absent : goal.returns-in_default-clause-absent
+returns-in_default-clause-absent g c =
+    let heads = c.args.self.now.heads in
+    let bucket = c.in_ok-bucket.ensures in
+    let none : None ≡ get_or heads (c.args.hash % length heads) None =
+    sym (ap pointer_of_some c.in_default.is) ∙ c.get.ensures ∙ c.head.ensures ∙ ap (λ b. get_or heads b None) bucket.bucket in
+    (FindsNone-part (IsPart-first {eq = g.K.PartialEq.eq} {key = c.args.key.now} {before = None} {pointer = None} {visited = 0} {compared = 0}
+    refl none refl refl (subst (λ (b : ℕ). b < length heads) bucket.bucket bucket.within) c.requires.indexed.chains)).absent

@@ -1,0 +1,20 @@
+use Rattle.std.proofs.Common.{◌%◌, ap, ◌∙◌, set, subst, ◌<◌}
+use Rattle.std.proofs.lemmas.List.{map-set}
+use Rattle.lhm_ring.proofs.indexes.BucketHeads.{length-words}
+use Rattle.lhm_ring.proofs.indexes.Filters.{SetsBit-written}
+use Rattle.lhm_ring.proofs.index.Index.put_first.Goals as goal
+use Rattle.lhm_ring.specs.Buckets.{BucketState, leads_to}
+use Rattle.lhm_ring.specs.Pointer.{target}
+
+pub returns-clause-heads : goal.returns-clause-heads
+returns-clause-heads g c =
+    map-set leads_to c.self.inside.heads.items c.args.bucket (record { link = c.args.head })
+    ∙ ap (λ (z : BucketState). set z.heads c.args.bucket (target c.args.head)) c.self.view_is
+
+pub returns-clause-words : goal.returns-clause-words
+returns-clause-words g c =
+    let i = c.self.inside in
+    let long = length-words i.heads.items i.words.items c.self.view_is c.self.invariant.same_count in
+    rw (← c.self.view_is) (SetsBit-written i.words.items c.args.bucket c.args.hash c.bit.result c.index.result.now
+    (c.requires.of_hash ∙ ap (λ n. c.args.hash % n) long) (subst (λ n. c.args.bucket < n) long c.requires.within)
+    c.bit.ensures.value c.bit.ensures.small c.index.ensures)

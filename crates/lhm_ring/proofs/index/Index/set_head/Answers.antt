@@ -1,0 +1,25 @@
+use Rattle.std.proofs.Common.{◌%◌, ap, ◌∙◌, map, set}
+use Rattle.std.proofs.lemmas.List.{map-set}
+use Rattle.lhm_ring.proofs.indexes.BucketHeads.{length-words}
+use Rattle.lhm_ring.proofs.indexes.Filters.{may_contain-cleared}
+use Rattle.lhm_ring.proofs.index.Index.set_head.Goals as goal
+use Rattle.lhm_ring.specs.Buckets.{BucketState, leads_to, bits_of, may_contain}
+use Rattle.lhm_ring.specs.Pointer.{target}
+
+pub returns-then-is_none-clause-heads : goal.returns-then-is_none-clause-heads
+returns-then-is_none-clause-heads g c =
+    map-set leads_to c.self.inside.heads.items c.args.bucket (record { link = c.args.head })
+    ∙ ap (λ (z : BucketState). set z.heads c.args.bucket (target c.args.head)) c.self.view_is
+
+pub returns-then-is_none-clause-others : goal.returns-then-is_none-clause-others
+returns-then-is_none-clause-others g c = λ other away.
+    let i = c.self.inside in
+    let long = length-words i.heads.items i.words.items c.self.view_is c.self.invariant.same_count in
+    ap (λ ws. may_contain ws other) (map-set bits_of i.words.items c.args.bucket (record { bits = 0 }))
+    ∙ may_contain-cleared (map bits_of i.words.items) c.args.bucket other (λ e. away (ap (λ n. other % n) long ∙ e))
+    ∙ ap (λ (z : BucketState). may_contain z.words other) c.self.view_is
+
+pub returns-else-is_none-clause-heads : goal.returns-else-is_none-clause-heads
+returns-else-is_none-clause-heads g c =
+    map-set leads_to c.self.inside.heads.items c.args.bucket (record { link = c.args.head })
+    ∙ ap (λ (z : BucketState). set z.heads c.args.bucket (target c.args.head)) c.self.view_is

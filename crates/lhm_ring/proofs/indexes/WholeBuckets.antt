@@ -1,0 +1,101 @@
+-- What the buckets have, chains and bits together, once a node is put in, moved or removed.
+use Rattle.std.proofs.Common.{◌≡◌, ◌≢◌, ℕ, ◌%◌, ◌<◌, List, [], ◌∷◌, ◌++◌, refl, sym, ◌∙◌, ap, subst, arith, length, get_or, set, Option, Some, None}
+use Rattle.std.proofs.Common.{length-set, get_or-set_same}
+use Rattle.std.specs.Prelude.{filter, is_some}
+use Rattle.std.specs.Option.{IsSome}
+use denote.RawPtr.{Ptr}
+use Rattle.lhm_ring.proofs.indexes.Chains.{none-IsChain}
+use Rattle.lhm_ring.proofs.indexes.Filters.{CoversAll-put, CoversAll-others, CoversAll-more, CoversAll-cleared, CoversAll-entries, may_contain-covered}
+use Rattle.lhm_ring.proofs.indexes.IndexMoves.{HasChains-to_back, PutsIn-last}
+use Rattle.lhm_ring.proofs.indexes.IndexTakes.{HasOtherChains}
+use Rattle.lhm_ring.proofs.indexes.Spots.{PutsIn-spots}
+use Rattle.lhm_ring.proofs.indexes.WholeIndex.{HasChains-put, HasChains-none, get_or-none_indexed}
+use Rattle.lhm_ring.specs.Buckets.{BucketState, HasNoChain, SetsBit, may_contain}
+use Rattle.lhm_ring.specs.Index.{PutsIn, IsRearranged, IsChain, is_in, HasChain, HasChains, CoversAll, Indexes, HoldsOthers, Spot, spot, spots, entries}
+use Rattle.lhm_ring.specs.Ring.{Held}
+
+pub Indexes-none : (i : BucketState) → HasNoChain i → length i.words ≡ length i.heads → Indexes i []
+Indexes-none i empty count = record { chains = HasChains-none i.heads empty; covers = tt; count = count }
+
+pub HasNoChain-indexed : (i : BucketState) → Indexes i [] → HasNoChain i
+HasNoChain-indexed i h = get_or-none_indexed i.heads h.chains
+
+pub Indexes-put : (old new : BucketState) (s : Spot) (xs ys : List Spot) → Indexes old xs → 0 < length old.heads
+    → s.link ≡ get_or old.heads (s.hash % length old.heads) None → PutsIn s xs ys
+    → new.heads ≡ set old.heads (s.hash % length old.heads) (Some s.at) → SetsBit old.words new.words s.hash → Indexes new ys
+Indexes-put old new s xs ys h some link p heads words = record {
+  chains = subst (λ (hs : List (Option Ptr)). HasChains hs ys) (sym heads) (HasChains-put old.heads s xs ys h.chains some link p);
+  covers = CoversAll-put new.words s xs ys p words.set (CoversAll-more old.words new.words words.others xs h.covers);
+  count = words.count ∙ h.count ∙ sym (ap length heads ∙ length-set old.heads _ _);
+}
+
+-- the bits of all but one
+module _ {K V : Type 0} (words : List ℕ) (before : List (Held (K × V))) (x : Held (K × V)) (after : List (Held (K × V))) where
+  CoversAll-rest : CoversAll words (spots (before ++ x ∷ after)) → CoversAll words (spots (before ++ after))
+  CoversAll-rest = CoversAll-others words (spot x) (spots (before ++ after)) (spots (before ++ x ∷ after)) (PutsIn-spots before x after)
+
+  CoversAll-to_back : CoversAll words (spots (before ++ x ∷ after)) → CoversAll words (spots ((before ++ after) ++ x ∷ []))
+  CoversAll-to_back c =
+      CoversAll-put words (spot x) (spots (before ++ after)) (spots ((before ++ after) ++ x ∷ [])) (PutsIn-last (before ++ after) x)
+      (may_contain-covered words (spot x) (spots (before ++ after)) (spots (before ++ x ∷ after)) (PutsIn-spots before x after) c)
+      (CoversAll-rest c)
+
+pub Indexes-to_back : {K V : Type 0} (i : BucketState) (before : List (Held (K × V))) (x : Held (K × V)) (after : List (Held (K × V)))
+    → Indexes i (spots (before ++ x ∷ after)) → Indexes i (spots ((before ++ after) ++ x ∷ []))
+Indexes-to_back i before x after h = record {
+  chains = HasChains-to_back i.heads before x after h.chains;
+  covers = CoversAll-to_back i.words before x after h.covers;
+  count = h.count;
+}
+
+none-IsRearranged : (chain ys : List Spot) → chain ≡ [] → IsRearranged chain ys → ys ≡ []
+none-IsRearranged [] ys e r = r
+none-IsRearranged (s ∷ chain) ys e r = absurd (cc)
+
+-- a bucket without a head has no spot
+filter-no_head : (heads : List (Option Ptr)) (b : ℕ) (xs : List Spot) → HasChains heads xs → b < length heads → get_or heads b None ≡ None
+    → filter (is_in (length heads) b) xs ≡ []
+filter-no_head heads b xs h within none =
+    let c : HasChain (get_or heads b None) (length heads) b xs = h.chains b within in
+    none-IsRearranged c.chain _ (none-IsChain c.chain (subst (λ (o : Option Ptr). IsChain o c.chain) none c.linked)) c.holds
+
+-- the node at p was removed from its chain
+module _ {K V : Type 0} {nodes : List (Held (K × V))} {p : Ptr} where
+  -- from behind another node: that one has a new chain link
+  pub HoldsOthers-next : (old : List (Held (K × V))) (i : BucketState) → Indexes i (spots old) → entries nodes ≡ entries old → HasOtherChains i.heads nodes p
+      → HoldsOthers i nodes p
+  HoldsOthers-next old i h same w =
+      let k = w.held in
+      let c = subst (λ (hs : List (Held (K × V))). CoversAll i.words (spots hs)) k.is (CoversAll-entries i.words old nodes same h.covers) in
+      record {
+        held = k;
+        others = record { chains = w.others; covers = CoversAll-rest i.words k.before k.node k.after c; count = h.count };
+      }
+
+-- from the head of its bucket
+module _ (old new : BucketState) (bucket : ℕ) (head : Option Ptr) (within : bucket < length old.heads) (heads : new.heads ≡ set old.heads bucket head)
+    (others : (other : ℕ) → other % length old.heads ≢ bucket → may_contain new.words other ≡ may_contain old.words other)
+    (same : IsSome head → new.words ≡ old.words) (count : length new.words ≡ length old.words) where
+  long : length new.heads ≡ length old.heads
+  long = ap length heads ∙ length-set old.heads bucket head
+
+  CoversAll-head : (xs : List Spot) → HasChains new.heads xs → CoversAll old.words xs → (o : Option Ptr) → head ≡ o → CoversAll new.words xs
+  CoversAll-head xs w c (Some q) e = subst (λ (ws : List ℕ). CoversAll ws xs) (sym (same (ap is_some e))) c
+  CoversAll-head xs w c None e =
+      let inside : bucket < length new.heads = omega (arith, long, within) in
+      let none : get_or new.heads bucket None ≡ None = ap (λ (hs : List (Option Ptr)). get_or hs bucket None) heads ∙ get_or-set_same old.heads bucket head None within ∙ e in
+      CoversAll-cleared old.words new.words (length new.heads) bucket (λ hash away. others hash (λ f. away (ap (λ n. hash % n) long ∙ f)))
+      xs (filter-no_head new.heads bucket xs w inside none) c
+
+  pub HoldsOthers-head : {K V : Type 0} {nodes : List (Held (K × V))} {p : Ptr} → Indexes old (spots nodes) → HasOtherChains new.heads nodes p → HoldsOthers new nodes p
+  HoldsOthers-head h w =
+      let k = w.held in
+      let c = subst (λ hs. CoversAll old.words (spots hs)) k.is h.covers in
+      record {
+        held = k;
+        others = record {
+          chains = w.others;
+          covers = CoversAll-head (spots (k.before ++ k.after)) w.others (CoversAll-rest old.words k.before k.node k.after c) head refl;
+          count = count ∙ h.count ∙ sym long;
+        };
+      }
