@@ -25,15 +25,6 @@ pub(crate) struct Word {
 // A bucket takes two bytes of the filter.
 const _: () = prove!(size_of::<Word>() == 2);
 
-/// Returns the bucket of a hash, by a mask.
-fn masked(hash: u64, buckets: usize) -> usize
-    requires some { 0 < buckets }
-    requires power { IsBucketCount buckets }
-    ensures { result ≡ hash % buckets }
-{
-    (hash & (buckets as u64 - 1)) as usize
-}
-
 /// Returns the bit of a hash.
 fn bit(hash: u64) -> u32
     ensures value { result ≡ hash / 2 ^ 60 }
@@ -103,13 +94,13 @@ pub(crate) fn free_words(words: Vec<Word>) {
 }
 
 impl<K, V> Index<K, V> {
-    /// Returns the bucket of a hash.
+    /// Returns the bucket of a hash, by a mask.
     pub(crate) fn bucket_of(&self, hash: u64) -> usize
         requires { 0 < length self.now.heads }
         ensures of_hash { result ≡ hash % length self.now.heads }
         ensures within { result < length self.now.heads }
     {
-        masked(hash, self.heads.len())
+        (hash & (self.heads.len() as u64 - 1)) as usize
     }
 
     /// Returns the head of a bucket.
@@ -129,16 +120,20 @@ impl<K, V> Index<K, V> {
         (self.words[bucket].bits >> bit(hash)) & 1 == 1
     }
 
-    /// Makes a node with this hash the head of its bucket, and sets the bit of the hash.
-    pub(crate) fn put_first(&mut self, bucket: usize, hash: u64, head: Link)
+    /// Makes a node with this hash the head of its bucket, sets the bit of the hash, and returns the
+    /// old head.
+    pub(crate) fn put_first(&mut self, bucket: usize, hash: u64, head: Link) -> Link
         requires of_hash { bucket ≡ hash % length self.old.heads }
         requires within { bucket < length self.old.heads }
         ensures heads { self.new.heads ≡ slice_set self.old.heads bucket (target head) }
         ensures words { SetsBit self.old.words self.new.words hash }
+        ensures old { target result ≡ slice_index_or self.old.heads bucket None }
     {
+        let old = self.heads[bucket].link;
         self.heads[bucket].link = head;
         let bits = self.words[bucket].bits;
         self.words[bucket].bits = bits | (1u16 << bit(hash));
+        old
     }
 
     /// Sets the head of a bucket, and clears the bucket's bits if it leads nowhere.

@@ -4,6 +4,7 @@ ghost use Rattle.std.specs.Int.{IsNextPowerOfTwo};
 ghost use Rattle.lhm_ring.specs.Ring.{IsHeld};
 ghost use Rattle.lhm_ring.specs.Pointer.{pointer_of, pointer_of_some};
 ghost use Rattle.lhm_ring.specs.Buckets.{buckets, HasNoChain};
+ghost use Rattle.lhm_ring.specs.Search.{HasKey, IsAbsent};
 ghost use Rattle.lhm_ring.specs.Index.{Indexes, spots, OfNodeAt, entries, HoldsOthers, IsOnChain, PutsFirst};
 
 use crate::buckets::{
@@ -92,18 +93,6 @@ impl<K, V> Index<K, V> {
         self.heads.len()
     }
 
-    /// Returns the bucket of a hash, if there are buckets.
-    pub(crate) fn bucket(&self, hash: u64) -> Option<usize>
-        ensures bucket { IfSome result (λ b. b ≡ hash % length self.now.heads) }
-        ensures within { IfSome result (λ b. b < length self.now.heads) }
-        ensures none { IfNone result (length self.now.heads ≡ 0) }
-    {
-        if self.heads.is_empty() {
-            return None;
-        }
-        Some(self.bucket_of(hash))
-    }
-
     /// Puts a node that is in no chain at the head of its chain, and sets its bit.
     pub fn put_in(&mut self, ring: &mut Ring<K, V>, at: Position<K, V>)
         requires some { 0 < length self.old.heads }
@@ -118,8 +107,8 @@ impl<K, V> Index<K, V> {
     {
         let hash = ring.links(at).hash;
         let bucket = self.bucket_of(hash);
-        ring.set_link(at, self.head(bucket));
-        self.put_first(bucket, hash, Link::to(at.pointer));
+        let behind = self.put_first(bucket, hash, Link::to(at.pointer));
+        ring.set_link(at, behind);
     }
 
     /// Removes a node from its chain. Bits of its bucket are cleared if no node is left there.
@@ -229,6 +218,35 @@ impl<K, V> Index<K, V> {
         } = self;
         free_heads(heads);
         free_words(words);
+    }
+}
+
+impl<K: Eq, V> Index<K, V> {
+    /// Returns the position of the node with this hash and key, if any. It reads no node if the
+    /// filter lacks the hash.
+    pub fn position(&self, ring: &Ring<K, V>, hash: u64, key: &K) -> Option<Position<K, V>>
+        requires indexed { Indexes self.now (spots ring.now.held) }
+        requires small { length ring.now.held < 2 ^ 64 }
+        ensures found { IfSome result (λ p. HasKey K.eq hash key.now ring.now.held (pointer_of p)) }
+        ensures absent { IfNone result (IsAbsent K.eq hash key.now ring.now.held) }
+    {
+        if self.buckets() == 0 {
+            return None;
+        }
+        let bucket = self.bucket_of(hash);
+        if !self.may_contain(bucket, hash) {
+            return None;
+        }
+        let Some(first) = self.head(bucket).get() else {
+            return None;
+        };
+        match self
+            .search_on(ring, self.begin(ring, first, hash), hash, key)
+            .0
+        {
+            Some(found) => Some(found.at),
+            None => None,
+        }
     }
 }
 

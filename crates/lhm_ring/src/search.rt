@@ -28,7 +28,7 @@ pub(crate) struct Found<K, V> {
 
 /// How far a search has come along a chain.
 #[derive(Drop)]
-struct Reached<K, V> {
+pub(crate) struct Reached<K, V> {
     /// The node before the next one, if any.
     before: Option<Position<K, V>>,
     /// The next node, if any.
@@ -112,7 +112,7 @@ impl<K: Eq, V> Index<K, V> {
 
     /// Follows the rest of a chain to the node with the key. Every search of a chain reads the nodes
     /// here, except the first one in `begin`.
-    fn search_on(
+    pub(crate) fn search_on(
         &self,
         ring: &Ring<K, V>,
         reached: Reached<K, V>,
@@ -148,7 +148,7 @@ impl<K: Eq, V> Index<K, V> {
     ///
     /// Which of the first two nodes has the key cannot be predicted, so a conditional move chooses
     /// it: `&`, since `&&` may become a branch.
-    fn begin(&self, ring: &Ring<K, V>, first: Position<K, V>, hash: u64) -> Reached<K, V>
+    pub(crate) fn begin(&self, ring: &Ring<K, V>, first: Position<K, V>, hash: u64) -> Reached<K, V>
         requires first { slice_index_or self.now.heads (hash % length self.now.heads) None
             ≡ Some (pointer_of first) }
         requires within { hash % length self.now.heads < length self.now.heads }
@@ -191,41 +191,17 @@ impl<K: Eq, V> Index<K, V> {
             (CountsAll (spots ring.now.held) (length self.now.heads) hash result.1.visited
             result.1.compared) }
     {
-        let Some(bucket) = self.bucket(hash) else {
+        if self.buckets() == 0 {
             let none = Probe {
                 visited: 0,
                 compared: 0,
             };
             return (None, none);
-        };
-        let (found, probe) = self.search(ring, bucket, hash, key);
+        }
+        let (found, probe) = self.search(ring, self.bucket_of(hash), hash, key);
         match found {
             Some(found) => (Some(found.at), probe),
             None => (None, probe),
-        }
-    }
-
-    /// Returns the position of the node with this hash and key, if any. It reads no node if the
-    /// filter lacks the hash.
-    pub fn position(&self, ring: &Ring<K, V>, hash: u64, key: &K) -> Option<Position<K, V>>
-        requires indexed { Indexes self.now (spots ring.now.held) }
-        requires small { length ring.now.held < 2 ^ 64 }
-        ensures found { IfSome result (λ p. HasKey K.eq hash key.now ring.now.held (pointer_of p)) }
-        ensures absent { IfNone result (IsAbsent K.eq hash key.now ring.now.held) }
-    {
-        let bucket = self.bucket(hash)?;
-        if !self.may_contain(bucket, hash) {
-            return None;
-        }
-        let Some(first) = self.head(bucket).get() else {
-            return None;
-        };
-        match self
-            .search_on(ring, self.begin(ring, first, hash), hash, key)
-            .0
-        {
-            Some(found) => Some(found.at),
-            None => None,
         }
     }
 
@@ -245,7 +221,10 @@ impl<K: Eq, V> Index<K, V> {
         ensures nodes { ring.new.nodes ≡ ring.old.nodes }
         ensures buckets { length self.new.heads ≡ length self.old.heads }
     {
-        let bucket = self.bucket(hash)?;
+        if self.buckets() == 0 {
+            return None;
+        }
+        let bucket = self.bucket_of(hash);
         if !self.may_contain(bucket, hash) {
             return None;
         }

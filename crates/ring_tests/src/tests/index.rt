@@ -102,7 +102,7 @@ impl<K: Eq, V> Table<K, V> {
         ensures absent { IfNone result (IsAbsent K.eq hash key.now self.old.held) }
     {
         let _len = self.ring.len();
-        let (at, _) = self.index.take_out(&mut self.ring, hash, key)?;
+        let at = self.index.take_out(&mut self.ring, hash, key)?;
         Some(self.ring.unlink(at))
     }
 }

@@ -4,7 +4,7 @@ ghost use Rattle.lhm_ring.specs.Ring.{IsHeld, AtHeld, held, triples, unvalued};
 ghost use Rattle.lhm_ring.specs.Pointer.{pointer_of};
 
 use super::checks::{check, check_eq, given};
-use lhm_ring::ring::{Drain, Iter, IterMut, Position, Ring};
+use lhm_ring::ring::{Drain, Iter, IterMut, Link, Position, Ring};
 use std::alloc::{AllocError, Global};
 use std::iter::{DoubleEndedIterator, ExactSizeIterator, Iterator};
 use std::mem::forget;
@@ -129,7 +129,7 @@ fn hash_after_writing(ring: &mut Ring<char, u64>, at: Position<char, u64>) -> u6
     for (hash, _, value) in ring.iter_mut() {
         *value = hash;
     }
-    ring.hash(at)
+    ring.links(at).hash
 }
 
 /// Hands all triples out, and returns the last value.
@@ -221,8 +221,8 @@ fn reads_and_writes_at_a_position(rt: HostRuntime) {
         ((false, true), (true, false))
     );
     check_eq!(rt; has_ends(&ring), (true, true));
-    ring.set_link(b, Some(a));
-    check_eq!(rt; (ring.link(a).is_some(), ring.link(b).is_some()), (false, true));
+    ring.set_link(b, Link::of(Some(a)));
+    check_eq!(rt; (has_link(&ring, a), has_link(&ring, b)), (false, true));
     *ring.value_mut(a) = 5;
     check!(rt; is_ring(&ring, &[(7, 'a', 5), (9, 'b', 2)], 0));
 }
@@ -230,7 +230,15 @@ fn reads_and_writes_at_a_position(rt: HostRuntime) {
 fn triple_at(ring: &Ring<char, u64>, at: Position<char, u64>) -> (u64, char, u64)
     requires { IsHeld ring.now.held (pointer_of at) }
 {
-    (ring.hash(at), *ring.key(at), *ring.value(at))
+    (ring.links(at).hash, *ring.key(at), *ring.value(at))
+}
+
+/// Tells whether the chain link of a position leads somewhere.
+fn has_link(ring: &Ring<char, u64>, at: Position<char, u64>) -> bool
+    requires { IsHeld ring.now.held (pointer_of at) }
+{
+    let link: Option<Position<char, u64>> = ring.links(at).link.get();
+    link.is_some()
 }
 
 /// Tells whether there is a first position, and a last one.

@@ -12,8 +12,8 @@ returns-then-not-may_contain-clause-absent g c =
 pub returns-in_default-clause-absent : goal.returns-in_default-clause-absent
 returns-in_default-clause-absent g c =
     let heads = c.args.self.now.heads in
-    let bucket = c.in_ok-bucket.ensures in
+    let bucket = c.bucket_of-bucket.ensures in
     let none : None ≡ get_or heads (c.args.hash % length heads) None =
-    sym (ap pointer_of_some c.in_default.is) ∙ c.get.ensures ∙ c.head.ensures ∙ ap (λ b. get_or heads b None) bucket.bucket in
+    sym (ap pointer_of_some c.in_default.is) ∙ c.get.ensures ∙ c.head.ensures ∙ ap (λ b. get_or heads b None) bucket.of_hash in
     (FindsNone-part (IsPart-first {eq = g.K.PartialEq.eq} {key = c.args.key.now} {before = None} {pointer = None} {visited = 0} {compared = 0}
-    refl none refl refl (subst (λ (b : ℕ). b < length heads) bucket.bucket bucket.within) c.requires.indexed.chains)).absent
+    refl none refl refl (subst (λ (b : ℕ). b < length heads) bucket.of_hash bucket.within) c.requires.indexed.chains)).absent

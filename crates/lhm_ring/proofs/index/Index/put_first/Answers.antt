@@ -15,6 +15,6 @@ pub returns-clause-words : goal.returns-clause-words
 returns-clause-words g c =
     let i = c.self.inside in
     let long = length-words i.heads.items i.words.items c.self.view_is c.self.invariant.same_count in
-    rw (← c.self.view_is) (SetsBit-written i.words.items c.args.bucket c.args.hash c.bit.result c.index.result.now
+    rw (← c.self.view_is) (SetsBit-written i.words.items c.args.bucket c.args.hash c.bit.result c.index-2.result.now
     (c.requires.of_hash ∙ ap (λ n. c.args.hash % n) long) (subst (λ n. c.args.bucket < n) long c.requires.within)
-    c.bit.ensures.value c.bit.ensures.small c.index.ensures)
+    c.bit.ensures.value c.bit.ensures.small c.index-2.ensures)

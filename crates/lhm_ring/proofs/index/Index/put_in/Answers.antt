@@ -13,9 +13,9 @@ returns-clause-first g c = λ before x after e at.
     let head : target c.to.result ≡ Some x.at = c.to.ensures ∙ ap Some (sym at) in
     record {
       nodes_is = c.set_link.ensures.held before x after e at
-          ∙ ap (λ o. before ++ linked_to o x ∷ after) (c.head.ensures ∙ ap (λ b. get_or heads b None) bucket);
-      heads_is = c.put_first.ensures.heads ∙ (λ i. set heads (bucket i) (head i));
-      words_is = subst (λ (h : ℕ). SetsBit c.args.self.now.words c.put_first.new.self.words h) own c.put_first.ensures.words;
+          ∙ ap (λ o. before ++ linked_to o x ∷ after) (c.put_first-behind.ensures.old ∙ ap (λ b. get_or heads b None) bucket);
+      heads_is = c.put_first-behind.ensures.heads ∙ (λ i. set heads (bucket i) (head i));
+      words_is = subst (λ (h : ℕ). SetsBit c.args.self.now.words c.put_first-behind.new.self.words h) own c.put_first-behind.ensures.words;
     }
 
 pub returns-clause-indexed : goal.returns-clause-indexed

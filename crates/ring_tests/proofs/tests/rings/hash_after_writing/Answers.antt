@@ -16,13 +16,13 @@ module _ {K V : Type 0} (s : State (K × V)) where
   same_spares none = refl
   same_spares (some vs) = refl
 
-pub hash-requires : goal.hash-requires
-hash-requires c = let s = c.args.ring.now in IsHeld-unvalued _ s.held (pointer_of c.args.at) (same_held s _) c.requires
+pub links-requires : goal.links-requires
+links-requires c = let s = c.args.ring.now in IsHeld-unvalued _ s.held (pointer_of c.args.at) (same_held s _) c.requires
 
 pub returns : goal.returns
 returns c =
     let s = c.args.ring.now in record {
-      hash = AtHeld-unvalued _ s.held (pointer_of c.args.at) (same_held s _) (λ t. c.hash.result ≡ t.hash) c.hash.ensures;
+      hash = AtHeld-unvalued _ s.held (pointer_of c.args.at) (same_held s _) (λ t. c.links.result.now.hash ≡ t.hash) c.links.ensures.hash;
       held = same_held s _;
       spares = same_spares s _;
     }
