@@ -7,10 +7,12 @@ pub mod FieldSeen
 pub mod Memory
 pub mod NodeAdded
 pub mod NodeBlocks
+pub mod NodeTaken
 pub mod NodesWithBodies
 pub mod OneNodeChanged
 pub mod Places
 pub mod Sharing
+pub mod Steps
 pub mod ValueTaken
 pub mod ValuesInOrder
 pub mod ValuesReplaced

@@ -40,7 +40,8 @@ use Rattle.std.proofs.VecSteps.Shapes.{after}
 use Rattle.std.proofs.RcSteps.{word, word_ty, word-Good}
 use Rattle.std.proofs.raw_atomic.Walks.{proved_at, leaves}
 use Rattle.lhm_ring.proofs.rings.Lookup.{Cut}
-use Rattle.lhm_ring.proofs.memory.Memory.{Three, args, RL, RK, RV, lo, ko, vo, Node, Nr, Pl, word-pointer, cell_seen}
+use Rattle.lhm_ring.proofs.memory.Memory.{Three, args, RL, RK, RV, lo, ko, vo, Node, Nr, Pl, word-pointer}
+use Rattle.lhm_ring.proofs.memory.NodeTaken.{cell_seen}
 use Rattle.lhm_ring.specs.contracts.nodes.Nodes.key as key
 use Rattle.lhm_ring.specs.Nodes.{body_lent, cell_lent, cells_lent}
 
