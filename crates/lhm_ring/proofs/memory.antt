@@ -1,5 +1,6 @@
 pub mod BlockValues
 pub mod Blocks
+pub mod BodiesChanged
 pub mod ChunkPlaces
 pub mod ContentTaken
 pub mod ContentsSplitOff
