@@ -11,6 +11,7 @@ pub mod NodeBlocks
 pub mod NodeTaken
 pub mod NodesWithBodies
 pub mod OneNodeChanged
+pub mod PartsTaken
 pub mod Places
 pub mod Sharing
 pub mod Steps

@@ -52,7 +52,7 @@ use Rattle.lhm_ring.proofs.value_loan.Hole.TheLaws as H-laws
 use Rattle.lhm_ring.proofs.ring.Ring.TheInside.TheLaws as I-laws
 use Rattle.lhm_ring.proofs.memory.Memory.{marker, struct_made}
 use Rattle.lhm_ring.proofs.memory.ValuesReplaced.{run_of}
-use Rattle.lhm_ring.proofs.memory.ValuesSplitOff.{Inside, Full, parts, thin_shape, Thinned, thinned, Sharable-thin, at_pointers, vals, kept_by, entries, As, Vals, named as listed_as, view, good, Fields, ring_cut, back, placed, placed-own, ordered_back, AreLent-entries, LoanMarker, loan_made}
+use Rattle.lhm_ring.proofs.memory.ValuesSplitOff.{Inside, Full, parts, thin_shape, Thinned, thinned, Sharable-unvalued, at_pointers, vals, kept_by, entries, As, Vals, named as listed_as, view, good, Fields, ring_cut, back, placed, placed-own, ordered_back, AreLent-entries, LoanMarker, loan_made}
 use Rattle.lhm_ring.specs.contracts.ring.Ring.lend.{ended, clauses}
 use Rattle.lhm_ring.specs.contracts.ring.Ring.lend.Key.{name as #self}
 use Rattle.lhm_ring.proofs.ring.Ring.lend.Statement.{statement}
@@ -107,7 +107,7 @@ lend_spec 𝓤 𝓛 𝓜 𝓡 wired K V LK LV =
     -- [the fields; nothing; the token; the second name's; the loan; what follows; the other tokens]
     move ! (0 ∷ 2 ∷ []) $ let LS = param_laws 0 K LK in let LH = H-laws.the_row_laws W (param_laws 1 V LV) in
     use2 𝓛 (later (‵ ((Thinned S W kb).shr_at (thinned S W kb i) rb ro κ) ⊛ ‵ (flft κ q)))
-    (parts_share 𝓛 (parts S W kb) (thin_shape S W kb).name (thin_shape S W kb).args (thin_shape S W kb).types (Sharable-thin Q S W kb links-laws.the_row_laws LS LH, (I-laws.the_shared S Hr LS LH).1) (thinned S W kb i) κ ((κ, q) ∷ []) rb ro
+    (parts_share 𝓛 (parts S W kb) (thin_shape S W kb).name (thin_shape S W kb).args (thin_shape S W kb).types (Sharable-unvalued Q S W kb links-laws.the_row_laws LS LH, (I-laws.the_shared S Hr LS LH).1) (thinned S W kb i) κ ((κ, q) ∷ []) rb ro
     (I-laws.the_within S Hr κ (Incl-trans bounds.0 inK) (H-laws.the_within W κ (Incl-trans bounds.1.0 inV))) (Incl-refl κ)) $ await ! tt $ split ! $
     use1 𝓛 (‵ (Holed.shr_at d rb ro κ)) (view-Hides (I-type.the_row S Hr) (State (K.Denot × V.Denot)) Holed.coded (R-type.the_view S Hr) (R-type.the_invariant S Hr) _ 𝓤 𝓛 d i (seen, ok) rb ro κ) $
     hide ! $ feq_i ! (List Val) (vptr rb ro ∷ []) (vptr rb ro ∷ []) refl $ fjoin ! $
