@@ -1,26 +1,20 @@
 -- An empty block by value, and a pointer. Assumes `Logic`.
-use Rattle.std.proofs.Common.{◌≡◌, ℕ, ◌+◌, ◌<◌, true, false, List, [], ◌∷◌, ◌++◌, refl, ◌∙◌, subst, arith, T}
-use seplogic.Ra.Ura.{Ura}
-use base.Fraction.{full_share}
-use mir.Val.{Val, vstruct, vcons, vnil, of_list, has_ty, WT}
+use Rattle.lhm_ring.proofs.memory.Steps.{◌≡◌, ℕ, ◌+◌, ◌<◌, true, List, [], ◌∷◌, ◌++◌, refl, ◌∙◌}
+use Rattle.lhm_ring.proofs.memory.Steps.{subst, T, full_share, Val, SProp, size, ◌∵◌, ‵, raw, ◌⊛◌}
+use Rattle.lhm_ring.proofs.memory.Steps.{◌$◌, !, qed, by, move, keep, drop, use1, use2, split}
+use Rattle.lhm_ring.proofs.memory.Steps.{fsplit, feq_l, fact, layout, Ptr, block_ptr, ptr_val}
+use Rattle.lhm_ring.proofs.memory.Steps.{lies_at, room_for, word, arith, froom, sem, RattleType}
+use Rattle.lhm_ring.proofs.memory.Steps.{via, emp, never, part_at, Fml, vstruct, vcons, vnil, pick}
+use Rattle.lhm_ring.proofs.memory.Steps.{some, fat, given, learn, Good, ent, Ura, Logic, sep, done}
+use Rattle.lhm_ring.proofs.memory.Steps.{false, has_ty, WT, Struct, fact_i, never_e, fst∗, Item}
+use Rattle.lhm_ring.proofs.memory.Steps.{Goal, fpick, null_ptr, makes_shadow, shape}
+use mir.Val.{of_list}
 use mir.Syntax.{ty_ptr, ty_struct, tcons, tnil}
 use mir.Raw.{raw as bare}
-use base.Logic.{SProp, ent, sep, emp, via, never, never_e, fst∗}
-use base.Fml.{Fml, fat, froom}
-use prog.Memory.{size}
 use prog.Model.{Model}
-use types.Logic.{Logic, sem}
-use contract.Monad.{fact, fact_i, fact_use}
-use types.Kit.{Item, Goal, Seq, mean, prop, ‵, raw, some, given, ◌⊛◌, ◌$◌, ◌∵◌, !, qed, by, move, keep, drop, use1, use2, pick, learn, split, fsplit, fpick, feq_l, done}
-use denote.RattleType.{RattleType}
-use denote.Memory.{part_at}
-use denote.Param.{layout}
-use denote.RawPtr.{Ptr, block_ptr, null_ptr, ptr_val, lies_at, room_for}
-use denote.Shadow.{makes_shadow}
-use denote.Struct.Struct.{Struct}
-use denote.Struct.Owning.{shape}
+use contract.Monad.{fact_use}
+use types.Kit.{Seq, mean, prop}
 use Rattle.std.specs.declared.alloc.Allocator.{Ghosts}
-use Rattle.std.proofs.RcSteps.{Good, word}
 use Rattle.lhm_ring.specs.contracts.nodes.Block as R-type
 use Rattle.lhm_ring.proofs.lists.Apart.{same_ptr-equal, IsFresh}
 use Rattle.lhm_ring.proofs.memory.Memory.{Three, RL, RK, RV, lo, Node, Pl, Cells, value_out}

@@ -2,43 +2,32 @@
 --     links_lent, key_lent, value_lent      what a lent node lends of each field
 --     Seen, field_seen      what is found at the pointer passed, and that a function of this code
 --     then meets its contract
-use Rattle.std.proofs.Common.{◌≡◌, ℕ, ◌+◌, List, [], ◌∷◌, ◌++◌, refl, sym, ap, ◌∙◌, subst, Some, Option}
+use Rattle.lhm_ring.proofs.memory.Steps.{◌≡◌, ℕ, ◌+◌, List, [], ◌∷◌, ◌++◌, refl, sym, ap, ◌∙◌}
+use Rattle.lhm_ring.proofs.memory.Steps.{subst, Val, vptr, inst_fn, SProp, ftrue, flft, ◌∵◌, ‵, raw}
+use Rattle.lhm_ring.proofs.memory.Steps.{◌⊛◌, at_ret, ◌$◌, !, qed, by, move, keep, drop, use0, use1}
+use Rattle.lhm_ring.proofs.memory.Steps.{split, join, fsplit, fjoin, rewrite, feq_i, stop, fld}
+use Rattle.lhm_ring.proofs.memory.Steps.{addr, of_opd, first, blocks, exec, returns, alloc_all}
+use Rattle.lhm_ring.proofs.memory.Steps.{pass_all, free_all, look_at, get, get_in, through, sets}
+use Rattle.lhm_ring.proofs.memory.Steps.{sets_last, is, env, sub, whole, tables, fact, yes, owns}
+use Rattle.lhm_ring.proofs.memory.Steps.{types_at, plain, Ptr, ptr_val, heard, Stays, stay_dropped}
+use Rattle.lhm_ring.proofs.memory.Steps.{walk_of, Goes-dropped, after, word, word-Good, proved_at}
+use Rattle.lhm_ring.proofs.memory.Steps.{leaves, id⊢, sem, RattleType, in_a_block, snd∗, via, emp}
+use Rattle.lhm_ring.proofs.memory.Steps.{Some, never, Fml, fsep, nothing, Option, named, Lft, ◌⊑◌}
+use Rattle.lhm_ring.proofs.memory.Steps.{hide, Bor, enter, ent, Ura, Logic, sep, Ty, RefOf, Args}
+use Rattle.lhm_ring.proofs.memory.Steps.{fact_i, param, fst∗, lent_at, WpFn, suffices}
 use mathlib.Core.Option.{some}
-use seplogic.Ra.Ura.{Ura}
-use mir.Syntax.{Sym, Ty, ty_ptr, ty_ref, named, imm, erased, local, value_local, seq, assign, block, return, place, field, deref, copy, rv_opd, addr_of, Args, Fn, Callee}
-use mir.MapTy.{inst_fn}
-use mir.Val.{Val, vptr}
-use base.Logic.{SProp, ent, sep, emp, never, id⊢, via, fst∗, snd∗}
-use base.Fml.{Fml, Lft, ftrue, fsep, flft}
+use mir.Syntax.{Sym, ty_ptr, ty_ref, imm, erased, local, value_local, seq, assign, block, return, place, field, deref, copy, rv_opd, addr_of, Fn, Callee}
 use prog.Memory.{field_of}
 use prog.Model.{Model}
-use prog.Wp.{WpFn, Closed}
-use types.Logic.{Logic, sem}
-use types.Kit.{◌∵◌, ‵, raw, ◌⊛◌, at_ret, ◌$◌, !, qed, by, move, keep, drop, use0, use1, split, join, fsplit, fjoin, suffices, rewrite, feq_i}
-use types.Run.{stop, fld, addr, of_opd, first, blocks, exec, returns, enter}
-use types.ByLocal.{alloc_all, pass_all, free_all, look_at, get, get_in, through, sets, sets_last, is, env}
-use types.Part.{sub, whole}
-use contract.BorrowLft.{◌⊑◌}
+use prog.Wp.{Closed}
 use contract.Lifetimes.{lft_at}
-use contract.Running.{Running, MachineTables, tables}
-use contract.Monad.{fact, fact_i}
-use denote.Exit.{yes}
-use denote.Param.{param}
-use denote.RattleType.{RattleType, owns}
+use contract.Running.{Running, MachineTables}
 use denote.Memory.{shared_of}
-use denote.Signature.{types_at, plain}
-use denote.RawPtr.{Ptr, ptr_val, in_a_block, ◌+ₚ◌}
-use denote.Ref.{Bor}
-use denote.Builtin.{RefOf}
-use denote.Opens.{hide, unhide}
-use denote.Steps.{nothing, heard}
-use denote.Struct.Lending.{lent_at}
+use denote.RawPtr.{◌+ₚ◌}
+use denote.Opens.{unhide}
 use denote.Triple.Clauses.{Ended, Clauses, closing}
 use denote.Triple.Spec.{Meets}
-use denote.Triple.Walked.{Stays, stay_dropped, walk_of, Goes-dropped}
-use Rattle.std.proofs.VecSteps.Shapes.{after}
-use Rattle.std.proofs.RcSteps.{word, word_ty, word-Good}
-use Rattle.std.proofs.raw_atomic.Walks.{proved_at, leaves}
+use Rattle.std.proofs.RcSteps.{word_ty}
 use Rattle.lhm_ring.proofs.rings.Lookup.{Cut}
 use Rattle.lhm_ring.proofs.memory.Memory.{Three, args, RL, RK, RV, lo, ko, vo, Node, Nr, Pl, word-pointer}
 use Rattle.lhm_ring.proofs.memory.NodeTaken.{cell_seen}

@@ -4,32 +4,22 @@
 --     word_made, marker_made      a value of one pointer, and one of no bytes
 --     value_known, forgotten      a value in memory is machine memory and what it owns, and
 --     memory that holds nothing
-use mathlib.Core.Path.{◌≡◌, refl, ap, ◌∙◌}
-use Prim.Native.Nat.{ℕ, ◌+◌}
-use mathlib.Core.List.{List, [], ◌∷◌, ◌++◌}
-use seplogic.Ra.Ura.{Ura}
-use base.Fraction.{full_share}
-use mir.Syntax.{Ty, Args, a_type}
-use mir.Val.{Val, vstruct, vcons, vnil, of_list}
-use base.Logic.{ent, sep, emp, ex, guard}
-use base.Fml.{Fml, fat, froom}
-use types.Logic.{Logic, sem}
-use types.Kit.{Item, Goal, Seq, Step, step, ‵, some, given, learn, ◌⊛◌, ◌$◌, ◌∵◌, !, qed, move, drop, use1, pick, split, check, show, fsplit, fjoin, fpack, feq_i, done}
-use denote.RattleType.{RattleType, Valss}
-use denote.Laws.{Typed, Is, shows}
-use denote.Param.{param, layout, layouts}
-use denote.Param.Laws.{Laws, param_laws}
-use denote.Memory.{part_at}
-use denote.RawPtr.{block_ptr}
-use denote.Shadow.{makes_shadow}
-use denote.Steps.{nothing, peeks}
-use denote.Struct.Struct.{Shape, Struct, within}
-use denote.Struct.Owning.{shape}
+use Rattle.lhm_ring.proofs.memory.Steps.{◌≡◌, ℕ, ◌+◌, List, [], ◌∷◌, ◌++◌, refl, ap, ◌∙◌, None}
+use Rattle.lhm_ring.proofs.memory.Steps.{full_share, Val, ◌∵◌, ‵, ◌⊛◌, ◌$◌, !, qed, move, drop}
+use Rattle.lhm_ring.proofs.memory.Steps.{use1, split, fsplit, fjoin, feq_i, layout, param_laws}
+use Rattle.lhm_ring.proofs.memory.Steps.{block_ptr, word, froom, sem, RattleType, emp, Some}
+use Rattle.lhm_ring.proofs.memory.Steps.{part_at, Fml, nothing, Option, vstruct, vcons, vnil, pick}
+use Rattle.lhm_ring.proofs.memory.Steps.{some, fpack, fat, given, learn, Good, ent, Ura, Logic, sep}
+use Rattle.lhm_ring.proofs.memory.Steps.{done, Ty, Is, Struct, Args, a_type, layouts, param, as_raw}
+use Rattle.lhm_ring.proofs.memory.Steps.{Item, Goal, makes_shadow, shape, Valss, Laws, within}
+use mir.Val.{of_list}
+use base.Logic.{ex, guard}
+use types.Kit.{Seq, Step, step, check, show}
+use denote.Laws.{Typed, shows}
+use denote.Steps.{peeks}
+use denote.Struct.Struct.{Shape}
 use mir.Raw.{raw as bare}
-use Rattle.std.proofs.RawLayout.{as_raw}
 use borrow.Table.OneValue.{part_in, part_out}
-use Rattle.std.specs.Prelude.{Option, Some, None}
-use Rattle.std.proofs.RcSteps.{Good, word}
 use Rattle.lhm_ring.specs.contracts.nodes.Nodes as N-type
 use Rattle.lhm_ring.specs.contracts.pointer.NodePointer as P-type
 use Rattle.lhm_ring.specs.Nodes.{Cell, links_offset, key_offset, value_offset, body_owns, land_owns, cell_owns, cells_own}

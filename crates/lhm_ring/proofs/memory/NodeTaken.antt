@@ -1,11 +1,7 @@
 -- One node is taken out of the nodes, and put back, changed. Assumes `Logic`.
-use Rattle.std.proofs.Common.{◌≡◌, List, [], ◌∷◌, ◌++◌, sym, subst}
-use seplogic.Ra.Ura.{Ura}
-use base.Logic.{ent, sep, via, fst∗, snd∗, id⊢}
-use base.Fml.{Fml, Lft}
-use types.Logic.{Logic, sem}
-use types.Kit.{‵, ◌⊛◌, ◌$◌, ◌∵◌, !, qed, move, use1, use2, split, fsplit, fjoin, done}
-use denote.RawPtr.{Ptr}
+use Rattle.lhm_ring.proofs.memory.Steps.{◌≡◌, List, [], ◌∷◌, ◌++◌, sym, subst, ◌∵◌, ‵, ◌⊛◌, ◌$◌, ! }
+use Rattle.lhm_ring.proofs.memory.Steps.{qed, move, use1, use2, split, fsplit, fjoin, Ptr, id⊢, sem}
+use Rattle.lhm_ring.proofs.memory.Steps.{snd∗, via, Fml, Lft, ent, Ura, Logic, sep, done, fst∗}
 use Rattle.lhm_ring.specs.declared.nodes.Nodes.{Nodes}
 use Rattle.lhm_ring.proofs.memory.Memory.{Three, RL, RK, RV, Node, One, Cells}
 use Rattle.lhm_ring.proofs.rings.Lookup.{Cut}

@@ -1,15 +1,13 @@
 -- Nodes with the bodies of a run in them, and nodes with none.
-use Rattle.std.proofs.Common.{◌≡◌, ℕ, true, false, cond, List, [], ◌∷◌, length, suc, Option, Some, None, refl, sym, ap, ◌∙◌, subst, arith}
+use Rattle.std.proofs.Common.{◌≡◌, ℕ, true, false, cond, List, [], ◌∷◌, length, Option, Some, None, refl, sym, ap, ◌∙◌, subst, arith}
 use Rattle.std.specs.List.{AllByRecursion}
 use denote.RawPtr.{Ptr}
 use Rattle.lhm_ring.specs.declared.ring.Links.{Links}
 use Rattle.lhm_ring.specs.declared.pointer.Link.{Link}
 use Rattle.lhm_ring.proofs.lists.Apart.{IsFresh, same_ptr-equal, same_ptr-reflexive, same_ptr-symmetric, IsFresh-head, IsApart-tail}
-use Rattle.lhm_ring.proofs.lists.ListFacts.{AllByRecursion-always}
-use Rattle.lhm_ring.proofs.lists.Options.{none_some}
 use Rattle.lhm_ring.proofs.memory.BodiesChanged.{links_at-rebodied, body_at-rebodied, RingOk-rebodied}
-use Rattle.lhm_ring.specs.Nodes.{Cell, cell, cell_at, same_ptr, IsApart, pointers, links_of, body_of, links_at, body_at, change, with_body}
-use Rattle.lhm_ring.specs.Links.{next_of, prev_of, link_of, has_links, HasContent, RingOk}
+use Rattle.lhm_ring.specs.Nodes.{Cell, cell, same_ptr, IsApart, pointers, links_at, body_at, change, with_body}
+use Rattle.lhm_ring.specs.Links.{HasContent, RingOk}
 use Rattle.lhm_ring.specs.ContentLoan.{body_in, without_body, bodies_of, with_bodies, cleared}
 
 module _ {B : Type 0} where

@@ -1,24 +1,17 @@
 -- A `&` to the nodes is made if one to their links, keys and values is. Assumes `Logic`.
-use mathlib.Core.List.{List, [], ◌∷◌, ◌++◌}
-use seplogic.Ra.Ura.{Ura}
-use base.Fraction.{full_share}
-use base.Fml.{Lft, Fml, Incl, fsep}
-use base.Logic.{ent, sep}
-use base.Fml.{fbor, Incl-trans}
-use contract.BorrowLft.{meet_⊑_left, meet_⊑_right}
-use types.Logic.{Logic, sem, lfts}
-use types.Kit.{‵, raw, ◌⊛◌, later, ◌$◌, !, qed, use1, use2, split, updating, await, now, done}
-use Rattle.std.specs.Prelude.{Option, Some, None}
-use denote.RattleType.{RattleType, RowLaws}
-use denote.Param.Laws.{Laws}
-use denote.RawPtr.{Ptr, RawPtr, lies_at}
+use Rattle.lhm_ring.proofs.memory.Steps.{List, [], ◌∷◌, ◌++◌, None, full_share, ‵, raw, ◌⊛◌, ◌$◌, ! }
+use Rattle.lhm_ring.proofs.memory.Steps.{qed, use1, use2, split, Ptr, lies_at, sem, RattleType}
+use Rattle.lhm_ring.proofs.memory.Steps.{Some, Fml, fsep, Option, Lft, Incl-trans, fbor, later}
+use Rattle.lhm_ring.proofs.memory.Steps.{await, ent, Ura, Logic, sep, done, Incl, meet_⊑_left, lfts}
+use Rattle.lhm_ring.proofs.memory.Steps.{updating, now, Laws, copy_shared, RawPtr, Shares-less}
+use Rattle.lhm_ring.proofs.memory.Steps.{field_copy, Lends, lent_at, Lends-lies, Lends-first}
+use Rattle.lhm_ring.proofs.memory.Steps.{Lends-both, Lends-nothing, of_Lends}
+use contract.BorrowLft.{meet_⊑_right}
+use denote.RattleType.{RowLaws}
 use denote.Sharing.{ShrLaws}
 use denote.SharingLaws.{beside_shr_laws, nothing_shr_laws}
-use denote.Shares.{Shares-less}
-use denote.Struct.Lending.{Lends, lent_at, lent_at_shr_laws, Lends-lies, Lends-first, Lends-both, Lends-nothing, Law, of_Lends}
-use denote.Struct.Laws.{field_copy}
+use denote.Struct.Lending.{lent_at_shr_laws, Law}
 use denote.Struct.Owning as owning
-use denote.Param.Shared.{copy_shared}
 use Rattle.std.specs.contracts.marker.PhantomData as marker
 use Rattle.lhm_ring.specs.contracts.nodes.Nodes as C
 use Rattle.lhm_ring.specs.declared.nodes.Nodes.{Nodes}

@@ -1,43 +1,54 @@
--- The names that the walks over nodes share, and the steps that they repeat. Assumes `Logic`.
+-- The names that the proofs by hand share, and the steps that walks repeat. Assumes `Logic`.
 --     runs_with      a function runs at its machine values, written out
 --     states, states_also      a fact is put into the context, alone or beside its head
 --     all_spent, self_left      what is left of the parameters, where those behind `self` are gone
-pub use Rattle.std.proofs.Common.{◌≡◌, ℕ, ◌+◌, ◌*◌, ◌<◌, ◌^◌, true, List, [], ◌∷◌, ◌++◌, refl, sym, ap, ◌∙◌, subst, T, None, Some, Option}
-pub use base.Fml.{Fml, ftrue, fsep, flft, froom, Lft, Incl-trans, fobs, fbor, fat}
+pub use Rattle.std.proofs.Common.{◌≡◌, ℕ, ◌+◌, ◌*◌, ◌<◌, ◌^◌, true, List, [], ◌∷◌, ◌++◌, refl, sym, ap, ◌∙◌, subst, T, None, Some, Option, arith, false, map, length}
+pub use seplogic.Ra.Ura.{Ura}
+pub use base.Fml.{Fml, ftrue, fsep, flft, froom, Lft, Incl-trans, fobs, fbor, fat, Incl}
+unfoldable pub use base.Fml.{fseps}
 pub use base.Fraction.{full_share}
-pub use base.Logic.{SProp, ent, emp, id⊢, never}
+pub use base.Logic.{SProp, ent, emp, id⊢, never, snd∗, via, sep, never_e, fst∗}
 pub use mir.MapTy.{inst_fn}
-pub use mir.Syntax.{w64, ty_array, named, Ty}
-pub use mir.Val.{Val, vptr, vint, vunit, vstruct, vcons, vnil}
+pub use mir.Syntax.{w64, ty_array, named, Ty, Args, a_type}
+pub use mir.Val.{Val, vptr, vint, vunit, vstruct, vcons, vnil, has_ty, WT}
 pub use prog.Capped.{capped_fits}
 pub use prog.Memory.{size, capped}
 pub use prog.RawLaws.{size-raw}
 pub use prog.Wp.{WpFn}
 pub use types.ByLocal.{alloc_all, pass_all, free_all, look_at, get, get_in, through, sets, sets_last, is, env}
-pub use types.Kit.{◌∵◌, ‵, raw, ◌⊛◌, at_ret, ◌$◌, !, qed, by, move, keep, drop, use0, use1, use2, split, join, fsplit, fsplit3, fjoin, fjoin3, suffices, rewrite, feq_i, feq_l, flt_l, flt_i, later, pick, await, group, split3, given, learn}
-pub use seplogic.Ra.Ura.{Ura}
-pub use types.Logic.{Logic, sem}
+pub use types.Kit.{◌∵◌, ‵, raw, ◌⊛◌, at_ret, ◌$◌, !, qed, by, move, keep, drop, use0, use1, use2, split, join, fsplit, fsplit3, fjoin, fjoin3, suffices, rewrite, feq_i, feq_l, flt_l, flt_i, later, pick, await, group, split3, given, learn, some, fpack, done, Item, Goal, fpick, updating, now}
+pub use types.Logic.{Logic, sem, lfts}
 pub use types.Mut.{open_ref}
 pub use types.Part.{sub, whole, agg}
 pub use types.Run.{stop, fld, addr, bin, size_lit, of_opd, no_more, and_then, assigns_last, first, blocks, exec, returns, enter, unit_lit}
 pub use types.SemTy.{SemTy}
-pub use contract.BorrowLft.{◌⊑◌}
+pub use contract.BorrowLft.{◌⊑◌, meet_⊑_left}
 pub use contract.Monad.{fact, fact_i}
 pub use contract.Running.{tables}
 pub use denote.Builtin.{usize, RefOf}
 pub use denote.Exit.{yes, no}
 pub use denote.Follow.{follows}
+pub use denote.Laws.{Is}
 pub use denote.Memory.{part_at, mem}
+unfoldable pub use denote.Memory.{part_of}
 pub use denote.Opens.{hide}
-pub use denote.Param.{layout}
-pub use denote.Param.Laws.{param_laws}
-pub use denote.RattleType.{owns, RattleType}
-pub use denote.RawPtr.{Ptr, block_ptr, ptr_val, lies_at, room_for, in_a_block}
+pub use denote.Param.{layout, layouts, param}
+pub use denote.Param.Laws.{param_laws, Laws}
+pub use denote.Param.Shared.{copy_shared}
+pub use denote.RattleType.{owns, RattleType, Valss}
+pub use denote.RawPtr.{Ptr, block_ptr, ptr_val, lies_at, room_for, in_a_block, null_ptr, RawPtr}
 pub use denote.Ref.{Bor, MutBor}
+pub use denote.Shadow.{makes_shadow}
+pub use denote.Shares.{Shares-less}
 pub use denote.Signature.{types_at, plain, mut_ref_to, named_lft}
 pub use denote.Steps.{nothing, heard, opens, closes}
+pub use denote.Struct.Laws.{field_copy}
+pub use denote.Struct.Lending.{Lends, lent_at, Lends-lies, Lends-first, Lends-both, Lends-nothing, of_Lends}
+pub use denote.Struct.Owning.{shape}
+pub use denote.Struct.Struct.{Struct, within}
 pub use denote.Triple.Table.{framed}
 pub use denote.Triple.Walked.{Stays, stay_dropped, stay_ref, walk_of, Goes-dropped, Goes-ref, Goes-spent_ref}
+pub use Rattle.std.proofs.RawLayout.{as_raw}
 pub use Rattle.std.proofs.RcSteps.{word, word-Good, Good}
 pub use Rattle.std.proofs.VecSteps.Shapes.{after}
 pub use Rattle.std.proofs.ptr.Rows.{one_below}
@@ -46,7 +57,7 @@ use Rattle.std.proofs.Common.{zero, suc}
 use base.Fml.{feq}
 use mir.Syntax.{Fn}
 use prog.Wp.{Calls, Loops}
-use types.Kit.{Item, Goal, Seq, Step, step, prop, runs, allocs, params', done}
+use types.Kit.{Seq, Step, step, prop, runs, allocs, params'}
 use contract.Lifetimes.{Lfts, Shares}
 
 -- the tokens of n lifetimes, and what is left of n parameters that are gone

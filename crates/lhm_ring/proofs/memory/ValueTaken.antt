@@ -1,15 +1,13 @@
 -- One value is taken from those that are lent. Assumes `Logic`.
-use Rattle.std.proofs.Common.{◌≡◌, ℕ, true, false, cond, List, [], ◌∷◌, ◌++◌, map, length, Some, refl, sym, ap, ◌∙◌}
-use seplogic.Ra.Ura.{Ura}
-use base.Fraction.{full_share}
-use base.Logic.{ent, sep, emp, never_e}
-use base.Fml.{ffalse, fsep}
+use Rattle.lhm_ring.proofs.memory.Steps.{◌≡◌, ℕ, true, List, [], ◌∷◌, ◌++◌, refl, sym, ap, ◌∙◌}
+use Rattle.lhm_ring.proofs.memory.Steps.{full_share, ◌∵◌, ‵, raw, ◌⊛◌, ◌$◌, !, qed, by, move, keep}
+use Rattle.lhm_ring.proofs.memory.Steps.{use1, split, fsplit, fjoin, rewrite, Ptr, block_ptr}
+use Rattle.lhm_ring.proofs.memory.Steps.{lies_at, sem, RattleType, emp, Some, fsep, mem, ent, Ura}
+use Rattle.lhm_ring.proofs.memory.Steps.{Logic, sep, done, false, map, length, never_e}
+use Rattle.std.proofs.Common.{cond}
+use base.Fml.{ffalse}
 use lib.ListN.{take, drop as drop_l}
-use types.Logic.{Logic, sem}
-use types.Kit.{‵, raw, ◌⊛◌, ◌$◌, ◌∵◌, !, qed, by, move, keep, use1, use3, split, fsplit, fjoin, rewrite, done}
-use denote.RattleType.{RattleType}
-use denote.Memory.{mem}
-use denote.RawPtr.{Ptr, block_ptr, lies_at}
+use types.Kit.{use3}
 use Rattle.lhm_ring.proofs.lists.Apart.{same_ptr-equal}
 use Rattle.lhm_ring.proofs.lists.Options.{none_some, Some-injective}
 use Rattle.lhm_ring.specs.Nodes.{same_ptr}

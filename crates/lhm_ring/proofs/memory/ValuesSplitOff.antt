@@ -7,43 +7,39 @@
 --     ring_cut, ring_mend      the same of a whole ring in memory
 --     back, ordered_back      the way back of a loan of a ring's values: the values in the order of
 --     the ring. A type that keeps a ring in a field shares both
-use Rattle.std.proofs.Common.{◌≡◌, ℕ, Bool, true, false, List, [], ◌∷◌, ◌++◌, map, length, suc, Option, Some, None, refl, sym, ap, ◌∙◌, subst}
-use seplogic.Ra.Ura.{Ura}
-use base.Fraction.{full_share}
-use base.Logic.{SProp, ent, sep, emp, comm∗, via, never_e, id⊢, fst∗}
+use Rattle.lhm_ring.proofs.memory.Steps.{◌≡◌, ℕ, true, List, [], ◌∷◌, refl, sym, ap, ◌∙◌, subst}
+use Rattle.lhm_ring.proofs.memory.Steps.{None, full_share, Val, SProp, ftrue, ◌∵◌, ‵, raw, ◌⊛◌, ◌$◌}
+use Rattle.lhm_ring.proofs.memory.Steps.{ !, qed, by, move, keep, drop, use1, use2, split, fsplit}
+use Rattle.lhm_ring.proofs.memory.Steps.{fsplit3, fjoin, rewrite, fact, Ptr, block_ptr, lies_at}
+use Rattle.lhm_ring.proofs.memory.Steps.{id⊢, sem, RattleType, via, emp, Some, part_at, Fml, fjoin3}
+use Rattle.lhm_ring.proofs.memory.Steps.{Option, vstruct, vnil, Lft, SemTy, mem, fseps, fpack}
+use Rattle.lhm_ring.proofs.memory.Steps.{given, learn, ent, Ura, Logic, sep, done, part_of, false}
+use Rattle.lhm_ring.proofs.memory.Steps.{Struct, map, length, fact_i, never_e, fst∗, fpick}
+use Rattle.lhm_ring.proofs.memory.Steps.{null_ptr, makes_shadow, Incl, Valss, Laws, Shares-less}
+use Rattle.lhm_ring.proofs.memory.Steps.{Lends, lent_at, Lends-lies, Lends-first, Lends-both}
+use Rattle.lhm_ring.proofs.memory.Steps.{Lends-nothing, within}
+use Rattle.std.proofs.Common.{Bool, suc}
+use base.Logic.{comm∗}
 use base.Stored.{coded_list}
-use base.Fml.{Fml, Lft, Incl, Incl-trans, ftrue, fsep, fseps}
-use contract.BorrowLft.{meet_⊑_left, meet_⊑_right}
-use types.Logic.{Logic, sem, lfts}
-use types.SemTy.{SemTy}
-use types.Kit.{‵, raw, ◌⊛◌, later, given, ◌$◌, ◌∵◌, !, qed, by, move, keep, drop, use1, use2, learn, split, fsplit, fsplit3, fjoin, fjoin3, fpick, fpack, rewrite, updating, await, now, done}
-use contract.Monad.{fact, fact_i, fact_use}
-use mir.Val.{Val, vstruct, vnil}
+use contract.Monad.{fact_use}
 use lib.ListN.{length-map}
-use denote.RattleType.{RattleType, Denots, Valss}
-use denote.Memory.{mem, part_of, part_at, cell_raw, raw_all}
+use denote.RattleType.{Denots}
+use denote.Memory.{cell_raw, raw_all}
 use denote.Model.Fields.{view_owns, view_made, Plain-in}
-use denote.Param.Laws.{Laws}
-use denote.Param.Shared.{Sharable, copy_shared}
-use denote.RawPtr.{Ptr, RawPtr, block_ptr, null_ptr, lies_at}
+use denote.Param.Shared.{Sharable}
 use denote.Ref.{NamedLft}
-use denote.Shadow.{makes_shadow}
-use denote.Shares.{Shares-less}
 use denote.Sharing.{nothing, beside}
 use denote.Steps.{nothing as empty}
 use denote.Struct.Declared as declared
 use denote.Struct.Field.{Field, rows}
-use denote.Struct.Laws.{field_copy}
-use denote.Struct.Lending.{Lends, lent_at, Lends-lies, Lends-first, Lends-both, Lends-nothing, of_Lends, lending_shared}
+use denote.Struct.Lending.{lending_shared}
 use denote.Struct.Owning as owning
-use denote.Struct.Struct.{Shape, Struct, within}
+use denote.Struct.Struct.{Shape}
 use denote.Struct.Values.{intos}
-use Rattle.std.specs.contracts.marker.PhantomData as marker
 use Rattle.std.specs.List.{AllByRecursion}
 use Rattle.lhm_ring.specs.contracts.ring.Links as links
 use Rattle.lhm_ring.specs.contracts.value_loan.Hole as H-type
 use Rattle.lhm_ring.specs.contracts.value_loan.ValueLoan as L-type
-use Rattle.lhm_ring.specs.contracts.nodes.Nodes as C
 use Rattle.lhm_ring.specs.contracts.ring.Ring as R-type
 use Rattle.lhm_ring.specs.contracts.ring.Ring.TheInside as I-type
 use Rattle.lhm_ring.specs.declared.ring.Ring.TheInside as D-type
@@ -55,9 +51,9 @@ use Rattle.lhm_ring.proofs.memory.Sharing.{parts_own, Lends-less, Lends-parts, T
 use Rattle.lhm_ring.proofs.memory.PartsTaken.{Entails, ◌∗◌, parts_out, parts_in}
 use Rattle.lhm_ring.proofs.memory.NodeTaken.{with_cells}
 use Rattle.lhm_ring.specs.declared.nodes.Nodes.{Nodes}
-use Rattle.lhm_ring.specs.Nodes.{places, Cell, cell, IsApart, AreBlocks, links_address, key_address, value_address, body_owns, deed_owns, land_owns, cell_owns, cells_own, cell_lent, cells_lent}
+use Rattle.lhm_ring.specs.Nodes.{Cell, cell, IsApart, links_address, key_address, value_address, body_owns, deed_owns, land_owns, cell_owns, cells_own, cell_lent, cells_lent}
 use Rattle.lhm_ring.specs.ValueLoan.{Spread, spread, AreLent}
-use Rattle.lhm_ring.specs.Ring.{State, Held, state, held_values, set_held_values}
+use Rattle.lhm_ring.specs.Ring.{State, state, held_values, set_held_values}
 use Rattle.lhm_ring.specs.Links.{ring_cells, ring_pointers}
 
 module _ (R S W : RattleType) where

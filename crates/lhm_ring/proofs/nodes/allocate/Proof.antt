@@ -2,19 +2,18 @@
 use Rattle.lhm_ring.proofs.memory.Steps.{◌≡◌, ℕ, ◌*◌, ◌<◌, ◌^◌, true, [], ◌∷◌, refl, ap, ◌∙◌, T}
 use Rattle.lhm_ring.proofs.memory.Steps.{Val, vptr, vint, w64, inst_fn, SProp, flft, size-raw, ◌∵◌}
 use Rattle.lhm_ring.proofs.memory.Steps.{‵, raw, ◌⊛◌, at_ret, ◌$◌, !, qed, by, move, keep, use0}
-use Rattle.lhm_ring.proofs.memory.Steps.{use1, use2, split, join, fsplit, fjoin, fjoin3, stop, fld}
-use Rattle.lhm_ring.proofs.memory.Steps.{bin, size_lit, of_opd, no_more, and_then, first, exec}
-use Rattle.lhm_ring.proofs.memory.Steps.{returns, enter, alloc_all, pass_all, free_all, look_at}
-use Rattle.lhm_ring.proofs.memory.Steps.{get, get_in, sets, sets_last, env, whole, agg, tables}
-use Rattle.lhm_ring.proofs.memory.Steps.{fact, usize, yes, owns, layout, types_at, plain, Ptr}
-use Rattle.lhm_ring.proofs.memory.Steps.{block_ptr, heard, Stays, stay_dropped, walk_of}
-use Rattle.lhm_ring.proofs.memory.Steps.{Goes-dropped, after, leaves, ty_array, flt_i, RattleType}
-use Rattle.lhm_ring.proofs.memory.Steps.{one_below, named, vstruct, vcons, vnil, Lft, Incl-trans}
-use Rattle.lhm_ring.proofs.memory.Steps.{later, await, ◌⊑◌, Ty, capped, capped_fits, RefOf, framed}
-use Rattle.lhm_ring.proofs.memory.Steps.{states, all_spent, tokens}
-use Rattle.std.proofs.Common.{lit<, false}
+use Rattle.lhm_ring.proofs.memory.Steps.{use1, use2, split, join, fsplit, fjoin, stop, fld, bin}
+use Rattle.lhm_ring.proofs.memory.Steps.{size_lit, of_opd, no_more, and_then, first, exec, returns}
+use Rattle.lhm_ring.proofs.memory.Steps.{alloc_all, pass_all, free_all, look_at, get, get_in, sets}
+use Rattle.lhm_ring.proofs.memory.Steps.{sets_last, env, whole, agg, tables, fact, usize, yes, owns}
+use Rattle.lhm_ring.proofs.memory.Steps.{layout, types_at, plain, Ptr, block_ptr, heard, Stays}
+use Rattle.lhm_ring.proofs.memory.Steps.{stay_dropped, walk_of, Goes-dropped, after, leaves}
+use Rattle.lhm_ring.proofs.memory.Steps.{ty_array, flt_i, RattleType, one_below, fjoin3, named}
+use Rattle.lhm_ring.proofs.memory.Steps.{vstruct, vcons, vnil, Lft, Incl-trans, later, await, ◌⊑◌}
+use Rattle.lhm_ring.proofs.memory.Steps.{enter, Ty, capped, capped_fits, RefOf, framed, false}
+use Rattle.lhm_ring.proofs.memory.Steps.{has_ty, WT, Is, Struct, states, tokens, all_spent}
+use Rattle.std.proofs.Common.{lit<}
 use mir.Syntax.{Body}
-use mir.Val.{has_ty, WT}
 use mir.Raw.{raw as bare}
 use base.Fml.{Share}
 use prog.Memory.{align}
@@ -25,11 +24,10 @@ use types.Kit.{any_q}
 use types.Match.{live, vrt, in_variant}
 use types.Run.{lit, align_word, switches_on}
 use types.ByLocal.{get_tag, lands_as}
-use denote.Laws.{Is}
 use denote.Plain.{uint_vals, uint_Tells}
 use denote.Ref.{shr_vals, shr_Tells}
 use denote.Steps.{owned}
-use denote.Struct.Struct.{Struct, Struct-Makes}
+use denote.Struct.Struct.{Struct-Makes}
 use denote.Struct.Declared as Declared
 use denote.Triple.Call.{calls_at}
 use Rattle.std.specs.Prelude.{Ok, Err}

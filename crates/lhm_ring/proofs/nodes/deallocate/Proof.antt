@@ -1,20 +1,19 @@
 -- `deallocate` gives a block back whose places are all joined. Assumes `Logic`.
 use Rattle.lhm_ring.proofs.memory.Steps.{◌≡◌, ℕ, ◌*◌, ◌<◌, ◌^◌, List, [], ◌∷◌, ◌++◌, refl, sym, ap}
-use Rattle.lhm_ring.proofs.memory.Steps.{◌∙◌, subst, T, Val, vptr, vint, w64, inst_fn, SProp, emp}
-use Rattle.lhm_ring.proofs.memory.Steps.{id⊢, flft, size-raw, ◌∵◌, ‵, raw, ◌⊛◌, at_ret, ◌$◌, !, qed}
-use Rattle.lhm_ring.proofs.memory.Steps.{by, move, keep, use0, use1, split, join, fsplit, fsplit3}
-use Rattle.lhm_ring.proofs.memory.Steps.{rewrite, feq_i, stop, fld, bin, size_lit, of_opd, no_more}
-use Rattle.lhm_ring.proofs.memory.Steps.{and_then, first, blocks, exec, returns, alloc_all}
-use Rattle.lhm_ring.proofs.memory.Steps.{pass_all, free_all, look_at, get, get_in, sets, is, env}
-use Rattle.lhm_ring.proofs.memory.Steps.{sub, whole, tables, fact, usize, yes, no, owns, types_at}
-use Rattle.lhm_ring.proofs.memory.Steps.{plain, Ptr, ptr_val, room_for, heard, Stays, stay_dropped}
-use Rattle.lhm_ring.proofs.memory.Steps.{walk_of, Goes-dropped, after, proved_at, leaves, ty_array}
-use Rattle.lhm_ring.proofs.memory.Steps.{froom, flt_l, in_a_block, one_below, vunit, unit_lit, Lft}
-use Rattle.lhm_ring.proofs.memory.Steps.{Incl-trans, later, await, group, ◌⊑◌, given, learn, Ty}
-use Rattle.lhm_ring.proofs.memory.Steps.{capped, capped_fits, RefOf, framed, all_spent, tokens}
-use Rattle.lhm_ring.proofs.memory.Steps.{runs_with}
+use Rattle.lhm_ring.proofs.memory.Steps.{◌∙◌, subst, T, Val, vptr, vint, w64, inst_fn, SProp, flft}
+use Rattle.lhm_ring.proofs.memory.Steps.{size-raw, ◌∵◌, ‵, raw, ◌⊛◌, at_ret, ◌$◌, !, qed, by, move}
+use Rattle.lhm_ring.proofs.memory.Steps.{keep, use0, use1, split, join, fsplit, fsplit3, rewrite}
+use Rattle.lhm_ring.proofs.memory.Steps.{feq_i, stop, fld, bin, size_lit, of_opd, no_more, and_then}
+use Rattle.lhm_ring.proofs.memory.Steps.{first, blocks, exec, returns, alloc_all, pass_all}
+use Rattle.lhm_ring.proofs.memory.Steps.{free_all, look_at, get, get_in, sets, is, env, sub, whole}
+use Rattle.lhm_ring.proofs.memory.Steps.{tables, fact, usize, yes, no, owns, types_at, plain, Ptr}
+use Rattle.lhm_ring.proofs.memory.Steps.{ptr_val, room_for, heard, Stays, stay_dropped, walk_of}
+use Rattle.lhm_ring.proofs.memory.Steps.{Goes-dropped, after, proved_at, leaves, id⊢, ty_array}
+use Rattle.lhm_ring.proofs.memory.Steps.{froom, flt_l, in_a_block, one_below, emp, vunit, unit_lit}
+use Rattle.lhm_ring.proofs.memory.Steps.{Lft, Incl-trans, later, await, group, ◌⊑◌, given, learn}
+use Rattle.lhm_ring.proofs.memory.Steps.{Ty, capped, capped_fits, RefOf, framed, has_ty, WT, tokens}
+use Rattle.lhm_ring.proofs.memory.Steps.{all_spent, runs_with}
 use mir.Syntax.{ty_unit}
-use mir.Val.{has_ty, WT}
 use mir.Raw.{raw as bare}
 use base.Fml.{Share}
 use prog.Memory.{align}

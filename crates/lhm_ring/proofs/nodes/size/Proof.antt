@@ -1,13 +1,11 @@
 -- `size` reads the size of a type. Assumes `Logic`.
 use Rattle.lhm_ring.proofs.memory.Steps.{◌≡◌, ℕ, ◌^◌, List, [], ◌∷◌, refl, Val, vint, w64, inst_fn}
 use Rattle.lhm_ring.proofs.memory.Steps.{SProp, ftrue, flft, size, ◌∵◌, ‵, raw, ◌⊛◌, ◌$◌, !, qed}
-use Rattle.lhm_ring.proofs.memory.Steps.{by, keep, split, fjoin, feq_i, of_opd, returns, enter}
-use Rattle.lhm_ring.proofs.memory.Steps.{alloc_all, pass_all, free_all, look_at, sets, tables}
-use Rattle.lhm_ring.proofs.memory.Steps.{layout, nothing, Stays, walk_of, proved_at, leaves, flt_i}
-use Rattle.lhm_ring.proofs.memory.Steps.{capped, capped_fits, states}
-use mir.Syntax.{Args, a_type}
+use Rattle.lhm_ring.proofs.memory.Steps.{by, keep, split, fjoin, feq_i, of_opd, returns, alloc_all}
+use Rattle.lhm_ring.proofs.memory.Steps.{pass_all, free_all, look_at, sets, tables, layout, Stays}
+use Rattle.lhm_ring.proofs.memory.Steps.{walk_of, proved_at, leaves, flt_i, nothing, enter, capped}
+use Rattle.lhm_ring.proofs.memory.Steps.{capped_fits, Args, a_type, layouts, states}
 use types.Run.{size_word}
-use denote.Param.{layouts}
 use Rattle.lhm_ring.specs.contracts.nodes.size.{ended, clauses}
 use Rattle.lhm_ring.specs.contracts.nodes.size.Key.{name as #self}
 use Rattle.lhm_ring.proofs.nodes.size.Statement.{statement}

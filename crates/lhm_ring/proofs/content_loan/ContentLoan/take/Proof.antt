@@ -1,20 +1,19 @@
 -- `take` moves out what one node holds, of what is lent. Assumes `Logic`.
 use Rattle.lhm_ring.proofs.memory.Steps.{◌≡◌, ℕ, ◌+◌, List, [], ◌∷◌, ◌++◌, refl, sym, ap, None}
-use Rattle.lhm_ring.proofs.memory.Steps.{full_share, Val, vptr, inst_fn, SProp, id⊢, Fml, ftrue}
-use Rattle.lhm_ring.proofs.memory.Steps.{fsep, flft, ◌∵◌, ‵, raw, ◌⊛◌, at_ret, ◌$◌, !, qed, by}
-use Rattle.lhm_ring.proofs.memory.Steps.{move, keep, use1, use2, split, join, fsplit, fsplit3}
-use Rattle.lhm_ring.proofs.memory.Steps.{fjoin, rewrite, stop, fld, addr, of_opd, no_more, and_then}
-use Rattle.lhm_ring.proofs.memory.Steps.{first, blocks, exec, returns, alloc_all, pass_all}
-use Rattle.lhm_ring.proofs.memory.Steps.{free_all, look_at, get, get_in, through, sets, sets_last}
-use Rattle.lhm_ring.proofs.memory.Steps.{is, env, sub, whole, agg, tables, fact, yes, owns, layout}
-use Rattle.lhm_ring.proofs.memory.Steps.{types_at, plain, Ptr, ptr_val, lies_at, heard, opens}
-use Rattle.lhm_ring.proofs.memory.Steps.{closes, Stays, stay_dropped, stay_ref, walk_of}
-use Rattle.lhm_ring.proofs.memory.Steps.{Goes-dropped, Goes-ref, after, word, word-Good, proved_at}
-use Rattle.lhm_ring.proofs.memory.Steps.{leaves, RattleType, in_a_block, Some, never, Option}
-use Rattle.lhm_ring.proofs.memory.Steps.{vstruct, vcons, vnil, Lft, fbor, pick, SemTy, named_lft}
-use Rattle.lhm_ring.proofs.memory.Steps.{fat, given, learn, Good, open_ref, states, runs_with}
-use Rattle.lhm_ring.proofs.memory.Steps.{states_also, self_left}
-use types.Kit.{some}
+use Rattle.lhm_ring.proofs.memory.Steps.{full_share, Val, vptr, inst_fn, SProp, ftrue, flft, ◌∵◌, ‵}
+use Rattle.lhm_ring.proofs.memory.Steps.{raw, ◌⊛◌, at_ret, ◌$◌, !, qed, by, move, keep, use1, use2}
+use Rattle.lhm_ring.proofs.memory.Steps.{split, join, fsplit, fsplit3, fjoin, rewrite, stop, fld}
+use Rattle.lhm_ring.proofs.memory.Steps.{addr, of_opd, no_more, and_then, first, blocks, exec}
+use Rattle.lhm_ring.proofs.memory.Steps.{returns, alloc_all, pass_all, free_all, look_at, get}
+use Rattle.lhm_ring.proofs.memory.Steps.{get_in, through, sets, sets_last, is, env, sub, whole, agg}
+use Rattle.lhm_ring.proofs.memory.Steps.{tables, fact, yes, owns, layout, types_at, plain, Ptr}
+use Rattle.lhm_ring.proofs.memory.Steps.{ptr_val, lies_at, heard, opens, closes, Stays}
+use Rattle.lhm_ring.proofs.memory.Steps.{stay_dropped, stay_ref, walk_of, Goes-dropped, Goes-ref}
+use Rattle.lhm_ring.proofs.memory.Steps.{after, word, word-Good, proved_at, leaves, id⊢, RattleType}
+use Rattle.lhm_ring.proofs.memory.Steps.{in_a_block, Some, never, Fml, fsep, Option, vstruct, vcons}
+use Rattle.lhm_ring.proofs.memory.Steps.{vnil, Lft, fbor, pick, SemTy, named_lft, some, fat, given}
+use Rattle.lhm_ring.proofs.memory.Steps.{learn, Good, open_ref, states, self_left, states_also}
+use Rattle.lhm_ring.proofs.memory.Steps.{runs_with}
 use types.Run.{load, look}
 use types.Mut.{close_ref}
 use types.SemTy.{Body as Borrowed}

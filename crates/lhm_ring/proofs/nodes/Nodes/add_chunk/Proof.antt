@@ -1,19 +1,18 @@
 -- `add_chunk` cuts a block into places. Assumes `Logic`.
 use Rattle.lhm_ring.proofs.memory.Steps.{◌≡◌, ℕ, ◌+◌, ◌*◌, ◌<◌, ◌^◌, true, List, [], ◌∷◌, ◌++◌}
-use Rattle.lhm_ring.proofs.memory.Steps.{refl, sym, ap, subst, Val, vptr, inst_fn, SProp, id⊢}
-use Rattle.lhm_ring.proofs.memory.Steps.{ftrue, flft, size-raw, ◌∵◌, ‵, raw, ◌⊛◌, ◌$◌, !, qed, by}
-use Rattle.lhm_ring.proofs.memory.Steps.{move, keep, use0, use1, use2, split, join, fsplit, fsplit3}
+use Rattle.lhm_ring.proofs.memory.Steps.{refl, sym, ap, subst, Val, vptr, inst_fn, SProp, ftrue}
+use Rattle.lhm_ring.proofs.memory.Steps.{flft, size-raw, ◌∵◌, ‵, raw, ◌⊛◌, ◌$◌, !, qed, by, move}
+use Rattle.lhm_ring.proofs.memory.Steps.{keep, use0, use1, use2, split, join, fsplit, fsplit3}
 use Rattle.lhm_ring.proofs.memory.Steps.{fjoin, rewrite, feq_i, feq_l, stop, fld, of_opd, no_more}
 use Rattle.lhm_ring.proofs.memory.Steps.{and_then, returns, alloc_all, pass_all, free_all, look_at}
 use Rattle.lhm_ring.proofs.memory.Steps.{get, get_in, sets, is, sub, whole, agg, tables, fact, no}
 use Rattle.lhm_ring.proofs.memory.Steps.{owns, types_at, plain, Ptr, block_ptr, ptr_val, room_for}
 use Rattle.lhm_ring.proofs.memory.Steps.{heard, opens, closes, Stays, stay_dropped, stay_ref}
 use Rattle.lhm_ring.proofs.memory.Steps.{walk_of, Goes-ref, word, word-Good, proved_at, leaves}
-use Rattle.lhm_ring.proofs.memory.Steps.{ty_array, froom, sem, flt_l, flt_i, RattleType, in_a_block}
-use Rattle.lhm_ring.proofs.memory.Steps.{one_below, self_left, states_also, states, tokens}
-use Rattle.lhm_ring.proofs.memory.Steps.{runs_with}
-use Rattle.std.proofs.Common.{Bool, arith}
-use base.Logic.{snd∗, via}
+use Rattle.lhm_ring.proofs.memory.Steps.{arith, id⊢, ty_array, froom, sem, flt_l, flt_i, RattleType}
+use Rattle.lhm_ring.proofs.memory.Steps.{in_a_block, one_below, snd∗, via, states, self_left}
+use Rattle.lhm_ring.proofs.memory.Steps.{tokens, states_also, runs_with}
+use Rattle.std.proofs.Common.{Bool}
 use Rattle.lhm_ring.proofs.memory.BlockValues.{block_val, block_Good, BlockType, block_known, pointer_made, knows}
 use Rattle.lhm_ring.proofs.memory.Blocks.{written, block}
 use Rattle.lhm_ring.proofs.memory.ChunkPlaces.{land_cut, land_glue, Places, Chunks, places_glue, chunks_glue, array_cut}

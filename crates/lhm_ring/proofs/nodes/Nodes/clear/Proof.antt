@@ -1,12 +1,12 @@
 -- `clear` makes all nodes places: what they hold is forgotten. Assumes `Logic`.
 use Rattle.lhm_ring.proofs.memory.Steps.{◌≡◌, ℕ, true, List, [], ◌∷◌, ◌++◌, refl, subst, Val, vptr}
-use Rattle.lhm_ring.proofs.memory.Steps.{inst_fn, SProp, emp, ftrue, flft, ◌∵◌, ‵, raw, ◌⊛◌, ◌$◌, ! }
-use Rattle.lhm_ring.proofs.memory.Steps.{qed, by, move, keep, use1, use2, split, join, fsplit}
-use Rattle.lhm_ring.proofs.memory.Steps.{fsplit3, fjoin, rewrite, feq_i, feq_l, of_opd, returns}
-use Rattle.lhm_ring.proofs.memory.Steps.{alloc_all, pass_all, free_all, look_at, sets, tables, fact}
-use Rattle.lhm_ring.proofs.memory.Steps.{owns, types_at, plain, Ptr, opens, closes, Stays, stay_ref}
-use Rattle.lhm_ring.proofs.memory.Steps.{walk_of, Goes-ref, proved_at, leaves, vunit, unit_lit}
-use Rattle.lhm_ring.proofs.memory.Steps.{states_also, states, self_left, tokens, runs_with}
+use Rattle.lhm_ring.proofs.memory.Steps.{inst_fn, SProp, ftrue, flft, ◌∵◌, ‵, raw, ◌⊛◌, ◌$◌, !, qed}
+use Rattle.lhm_ring.proofs.memory.Steps.{by, move, keep, use1, use2, split, join, fsplit, fsplit3}
+use Rattle.lhm_ring.proofs.memory.Steps.{fjoin, rewrite, feq_i, feq_l, of_opd, returns, alloc_all}
+use Rattle.lhm_ring.proofs.memory.Steps.{pass_all, free_all, look_at, sets, tables, fact, owns}
+use Rattle.lhm_ring.proofs.memory.Steps.{types_at, plain, Ptr, opens, closes, Stays, stay_ref}
+use Rattle.lhm_ring.proofs.memory.Steps.{walk_of, Goes-ref, proved_at, leaves, emp, vunit, unit_lit}
+use Rattle.lhm_ring.proofs.memory.Steps.{runs_with, states_also, tokens, states, self_left}
 use Rattle.std.proofs.lemmas.List.{append-nil}
 use Rattle.lhm_ring.proofs.lists.Apart.{IsApart-none}
 use Rattle.lhm_ring.proofs.memory.ChunkPlaces.{land_cut, Places, places_glue, cells_emptied}

@@ -1,7 +1,7 @@
 -- `take` moves out what one node holds, and leaves it uninitialised. Assumes `Logic`.
 use Rattle.lhm_ring.proofs.memory.Steps.{◌≡◌, ℕ, ◌+◌, [], ◌∷◌, ◌++◌, refl, sym, ap, ◌∙◌, None}
-use Rattle.lhm_ring.proofs.memory.Steps.{full_share, Val, vptr, inst_fn, SProp, id⊢, flft, ◌∵◌, ‵}
-use Rattle.lhm_ring.proofs.memory.Steps.{raw, ◌⊛◌, at_ret, ◌$◌, !, qed, by, move, keep, use1, use2}
+use Rattle.lhm_ring.proofs.memory.Steps.{full_share, Val, vptr, inst_fn, SProp, flft, ◌∵◌, ‵, raw}
+use Rattle.lhm_ring.proofs.memory.Steps.{◌⊛◌, at_ret, ◌$◌, !, qed, by, move, keep, use1, use2}
 use Rattle.lhm_ring.proofs.memory.Steps.{split, join, fsplit, fsplit3, fjoin, rewrite, stop, fld}
 use Rattle.lhm_ring.proofs.memory.Steps.{addr, of_opd, no_more, and_then, first, blocks, exec}
 use Rattle.lhm_ring.proofs.memory.Steps.{returns, alloc_all, pass_all, free_all, look_at, get}
@@ -9,11 +9,10 @@ use Rattle.lhm_ring.proofs.memory.Steps.{get_in, through, sets, sets_last, is, e
 use Rattle.lhm_ring.proofs.memory.Steps.{tables, fact, yes, owns, layout, types_at, plain, Ptr}
 use Rattle.lhm_ring.proofs.memory.Steps.{ptr_val, lies_at, heard, opens, closes, Stays}
 use Rattle.lhm_ring.proofs.memory.Steps.{stay_dropped, stay_ref, walk_of, Goes-dropped, Goes-ref}
-use Rattle.lhm_ring.proofs.memory.Steps.{after, word, word-Good, proved_at, leaves, in_a_block}
-use Rattle.lhm_ring.proofs.memory.Steps.{Some, never, Option, vstruct, vcons, vnil, pick, fat}
-use Rattle.lhm_ring.proofs.memory.Steps.{given, learn, Good, runs_with, self_left, states, tokens}
-use Rattle.lhm_ring.proofs.memory.Steps.{states_also}
-use types.Kit.{some}
+use Rattle.lhm_ring.proofs.memory.Steps.{after, word, word-Good, proved_at, leaves, id⊢, in_a_block}
+use Rattle.lhm_ring.proofs.memory.Steps.{Some, never, Option, vstruct, vcons, vnil, pick, some, fat}
+use Rattle.lhm_ring.proofs.memory.Steps.{given, learn, Good, states, self_left, tokens, states_also}
+use Rattle.lhm_ring.proofs.memory.Steps.{runs_with}
 use types.Run.{load, look}
 use Rattle.lhm_ring.proofs.rings.Lookup.{Cut, Cut-held, held_here}
 use Rattle.lhm_ring.proofs.memory.Memory.{Three, args, RL, RK, RV, ko, vo, Node, Nr, Pl, One, Land, Cells, word-pointer, two_made, value_out, three_rows, value_known, forgotten}

@@ -1,22 +1,20 @@
 -- `value_mut` lends the value that one node holds, and the nodes follow it. Assumes `Logic`.
 use Rattle.lhm_ring.proofs.memory.Steps.{◌≡◌, ℕ, ◌+◌, List, [], ◌∷◌, ◌++◌, refl, sym, ap, ◌∙◌}
-use Rattle.lhm_ring.proofs.memory.Steps.{full_share, Val, vptr, inst_fn, SProp, ent, id⊢, Fml, fsep}
-use Rattle.lhm_ring.proofs.memory.Steps.{flft, ◌∵◌, ‵, raw, ◌⊛◌, at_ret, ◌$◌, !, qed, by, move}
-use Rattle.lhm_ring.proofs.memory.Steps.{keep, use1, use2, split, join, fsplit, fsplit3, fjoin}
-use Rattle.lhm_ring.proofs.memory.Steps.{fjoin3, rewrite, stop, fld, addr, of_opd, first, blocks}
-use Rattle.lhm_ring.proofs.memory.Steps.{exec, returns, alloc_all, pass_all, free_all, look_at, get}
-use Rattle.lhm_ring.proofs.memory.Steps.{get_in, through, sets, sets_last, is, env, sub, whole}
-use Rattle.lhm_ring.proofs.memory.Steps.{tables, fact, yes, no, owns, types_at, plain, Ptr}
-use Rattle.lhm_ring.proofs.memory.Steps.{block_ptr, ptr_val, lies_at, heard, opens, Stays}
-use Rattle.lhm_ring.proofs.memory.Steps.{stay_dropped, walk_of, Goes-dropped, after, word}
-use Rattle.lhm_ring.proofs.memory.Steps.{word-Good, proved_at, leaves, sem, in_a_block, Some, never}
-use Rattle.lhm_ring.proofs.memory.Steps.{part_at, Option, named, Lft, later, pick, await, group}
-use Rattle.lhm_ring.proofs.memory.Steps.{split3, follows, mem, MutBor, mut_ref_to, Goes-spent_ref}
-use Rattle.lhm_ring.proofs.memory.Steps.{Ura, Logic, runs_with, all_spent, tokens, states}
-use types.Kit.{some, fpack}
-use base.Logic.{sep}
-use types.Kit.{done}
-use denote.Memory.{part_of, cell_at}
+use Rattle.lhm_ring.proofs.memory.Steps.{full_share, Val, vptr, inst_fn, SProp, flft, ◌∵◌, ‵, raw}
+use Rattle.lhm_ring.proofs.memory.Steps.{◌⊛◌, at_ret, ◌$◌, !, qed, by, move, keep, use1, use2}
+use Rattle.lhm_ring.proofs.memory.Steps.{split, join, fsplit, fsplit3, fjoin, rewrite, stop, fld}
+use Rattle.lhm_ring.proofs.memory.Steps.{addr, of_opd, first, blocks, exec, returns, alloc_all}
+use Rattle.lhm_ring.proofs.memory.Steps.{pass_all, free_all, look_at, get, get_in, through, sets}
+use Rattle.lhm_ring.proofs.memory.Steps.{sets_last, is, env, sub, whole, tables, fact, yes, no}
+use Rattle.lhm_ring.proofs.memory.Steps.{owns, types_at, plain, Ptr, block_ptr, ptr_val, lies_at}
+use Rattle.lhm_ring.proofs.memory.Steps.{heard, opens, Stays, stay_dropped, walk_of, Goes-dropped}
+use Rattle.lhm_ring.proofs.memory.Steps.{after, word, word-Good, proved_at, leaves, id⊢, sem}
+use Rattle.lhm_ring.proofs.memory.Steps.{in_a_block, Some, never, part_at, Fml, fsep, fjoin3}
+use Rattle.lhm_ring.proofs.memory.Steps.{Option, named, Lft, later, pick, await, group, split3}
+use Rattle.lhm_ring.proofs.memory.Steps.{follows, mem, MutBor, mut_ref_to, Goes-spent_ref, some}
+use Rattle.lhm_ring.proofs.memory.Steps.{fpack, ent, Ura, Logic, sep, done, part_of, states, tokens}
+use Rattle.lhm_ring.proofs.memory.Steps.{all_spent, runs_with}
+use denote.Memory.{cell_at}
 use denote.Ref.{MutRef}
 use denote.Follow.{Part, lends_Part}
 use Rattle.lhm_ring.proofs.rings.Lookup.{Cut, Cut-held, held_here}

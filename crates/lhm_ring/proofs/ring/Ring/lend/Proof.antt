@@ -1,35 +1,32 @@
 -- `lend` shares the ring as one of holes, and lends the values. Assumes `Logic`.
 use Rattle.lhm_ring.proofs.memory.Steps.{◌≡◌, ℕ, List, [], ◌∷◌, ◌++◌, refl, sym, subst, full_share}
-use Rattle.lhm_ring.proofs.memory.Steps.{Val, vptr, inst_fn, SProp, ent, emp, id⊢, Fml, ftrue, flft}
-use Rattle.lhm_ring.proofs.memory.Steps.{◌∵◌, ‵, raw, ◌⊛◌, at_ret, ◌$◌, !, qed, by, move, keep}
-use Rattle.lhm_ring.proofs.memory.Steps.{drop, use0, use1, use2, split, join, fsplit, fsplit3}
-use Rattle.lhm_ring.proofs.memory.Steps.{fjoin, rewrite, feq_i, stop, addr, of_opd, no_more}
-use Rattle.lhm_ring.proofs.memory.Steps.{and_then, first, blocks, exec, returns, alloc_all}
-use Rattle.lhm_ring.proofs.memory.Steps.{pass_all, free_all, look_at, get, through, sets, sets_last}
-use Rattle.lhm_ring.proofs.memory.Steps.{env, agg, tables, fact, fact_i, no, owns, param_laws}
-use Rattle.lhm_ring.proofs.memory.Steps.{types_at, plain, Ptr, nothing, heard, Stays, stay_dropped}
-use Rattle.lhm_ring.proofs.memory.Steps.{walk_of, after, proved_at, leaves, sem, RattleType}
-use Rattle.lhm_ring.proofs.memory.Steps.{part_at, named, vstruct, vcons, vnil, Lft, Incl-trans}
-use Rattle.lhm_ring.proofs.memory.Steps.{fobs, fbor, later, pick, await, group, split3, SemTy, ◌⊑◌}
-use Rattle.lhm_ring.proofs.memory.Steps.{follows, mem, hide, Bor, mut_ref_to, named_lft}
-use Rattle.lhm_ring.proofs.memory.Steps.{Goes-spent_ref, Ura, Logic, framed, open_ref, all_spent}
-use Rattle.lhm_ring.proofs.memory.Steps.{states, runs_with, tokens}
-use mir.Syntax.{a_type}
-use base.Fml.{Incl-refl, fseps}
-use types.Kit.{some}
+use Rattle.lhm_ring.proofs.memory.Steps.{Val, vptr, inst_fn, SProp, ftrue, flft, ◌∵◌, ‵, raw, ◌⊛◌}
+use Rattle.lhm_ring.proofs.memory.Steps.{at_ret, ◌$◌, !, qed, by, move, keep, drop, use0, use1}
+use Rattle.lhm_ring.proofs.memory.Steps.{use2, split, join, fsplit, fsplit3, fjoin, rewrite, feq_i}
+use Rattle.lhm_ring.proofs.memory.Steps.{stop, addr, of_opd, no_more, and_then, first, blocks, exec}
+use Rattle.lhm_ring.proofs.memory.Steps.{returns, alloc_all, pass_all, free_all, look_at, get}
+use Rattle.lhm_ring.proofs.memory.Steps.{through, sets, sets_last, env, agg, tables, fact, no, owns}
+use Rattle.lhm_ring.proofs.memory.Steps.{param_laws, types_at, plain, Ptr, heard, Stays}
+use Rattle.lhm_ring.proofs.memory.Steps.{stay_dropped, walk_of, after, proved_at, leaves, id⊢, sem}
+use Rattle.lhm_ring.proofs.memory.Steps.{RattleType, emp, part_at, Fml, nothing, named, vstruct}
+use Rattle.lhm_ring.proofs.memory.Steps.{vcons, vnil, Lft, Incl-trans, fobs, fbor, later, pick}
+use Rattle.lhm_ring.proofs.memory.Steps.{await, group, split3, SemTy, ◌⊑◌, follows, mem, hide, Bor}
+use Rattle.lhm_ring.proofs.memory.Steps.{mut_ref_to, named_lft, Goes-spent_ref, fseps, some, ent}
+use Rattle.lhm_ring.proofs.memory.Steps.{Ura, Logic, framed, Is, a_type, layouts, open_ref, fact_i}
+use Rattle.lhm_ring.proofs.memory.Steps.{param, states, tokens, all_spent, runs_with}
+use base.Fml.{Incl-refl}
 use types.ByLocal.{lands_as}
 use types.Follow.{takes_beside, takes_part, after as afterwards}
 use types.SemTy.{Body as Borrowed}
 use mathlib.Core.Option as maybe
 use base.Fml.{GName}
 use denote.Array.{Array}
-use denote.Laws.{Is, shows}
+use denote.Laws.{shows}
 use denote.Triple.Call.{calls_at}
 use denote.Triple.Clauses.{Lasts, lasts}
 use denote.Triple.Spec.{triple_of}
 use denote.Follow.{follows_by, follows_if}
 use denote.Model.Fields.{view_owns, view-Hides, plain_out}
-use denote.Param.{param, layouts}
 use denote.Param.Shared.{parts_share}
 use denote.Ref.{ShrRef}
 use denote.Steps.{peeks}

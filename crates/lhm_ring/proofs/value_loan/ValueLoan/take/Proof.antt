@@ -1,25 +1,22 @@
 -- `pull` cuts the value of one node out of those that are lent. Assumes `Logic`.
 use Rattle.lhm_ring.proofs.memory.Steps.{◌≡◌, ℕ, ◌+◌, List, [], ◌∷◌, ◌++◌, refl, sym, ap}
-use Rattle.lhm_ring.proofs.memory.Steps.{full_share, Val, vptr, inst_fn, SProp, emp, id⊢, Fml}
-use Rattle.lhm_ring.proofs.memory.Steps.{ftrue, fsep, flft, ◌∵◌, ‵, raw, ◌⊛◌, at_ret, ◌$◌, !, qed}
-use Rattle.lhm_ring.proofs.memory.Steps.{by, move, keep, use1, split, join, fsplit, fsplit3, fjoin}
-use Rattle.lhm_ring.proofs.memory.Steps.{fjoin3, rewrite, feq_i, stop, fld, addr, of_opd, first}
-use Rattle.lhm_ring.proofs.memory.Steps.{blocks, exec, returns, alloc_all, pass_all, free_all}
-use Rattle.lhm_ring.proofs.memory.Steps.{look_at, get, get_in, through, sets, sets_last, is, env}
-use Rattle.lhm_ring.proofs.memory.Steps.{sub, whole, tables, fact, yes, owns, types_at, plain, Ptr}
-use Rattle.lhm_ring.proofs.memory.Steps.{block_ptr, ptr_val, lies_at, nothing, heard, opens, closes}
-use Rattle.lhm_ring.proofs.memory.Steps.{Stays, stay_dropped, stay_ref, walk_of, Goes-dropped}
-use Rattle.lhm_ring.proofs.memory.Steps.{Goes-ref, after, word, word-Good, proved_at, leaves}
-use Rattle.lhm_ring.proofs.memory.Steps.{RattleType, in_a_block, Some, never, Lft, fobs, fbor}
-use Rattle.lhm_ring.proofs.memory.Steps.{later, pick, await, group, split3, mem, MutBor, named_lft}
-use Rattle.lhm_ring.proofs.memory.Steps.{open_ref, states, self_left, states_also, runs_with}
-use Rattle.std.proofs.Common.{map}
-use types.Kit.{some}
+use Rattle.lhm_ring.proofs.memory.Steps.{full_share, Val, vptr, inst_fn, SProp, ftrue, flft, ◌∵◌, ‵}
+use Rattle.lhm_ring.proofs.memory.Steps.{raw, ◌⊛◌, at_ret, ◌$◌, !, qed, by, move, keep, use1, split}
+use Rattle.lhm_ring.proofs.memory.Steps.{join, fsplit, fsplit3, fjoin, rewrite, feq_i, stop, fld}
+use Rattle.lhm_ring.proofs.memory.Steps.{addr, of_opd, first, blocks, exec, returns, alloc_all}
+use Rattle.lhm_ring.proofs.memory.Steps.{pass_all, free_all, look_at, get, get_in, through, sets}
+use Rattle.lhm_ring.proofs.memory.Steps.{sets_last, is, env, sub, whole, tables, fact, yes, owns}
+use Rattle.lhm_ring.proofs.memory.Steps.{types_at, plain, Ptr, block_ptr, ptr_val, lies_at, heard}
+use Rattle.lhm_ring.proofs.memory.Steps.{opens, closes, Stays, stay_dropped, stay_ref, walk_of}
+use Rattle.lhm_ring.proofs.memory.Steps.{Goes-dropped, Goes-ref, after, word, word-Good, proved_at}
+use Rattle.lhm_ring.proofs.memory.Steps.{leaves, id⊢, RattleType, in_a_block, emp, Some, never, Fml}
+use Rattle.lhm_ring.proofs.memory.Steps.{fsep, fjoin3, nothing, Lft, fobs, fbor, later, pick, await}
+use Rattle.lhm_ring.proofs.memory.Steps.{group, split3, mem, MutBor, named_lft, some, open_ref, map}
+use Rattle.lhm_ring.proofs.memory.Steps.{length, states, self_left, states_also, runs_with}
 use base.Stored.{coded_list}
 use lib.ListN.{take, drop as drop_l}
 use types.Follow.{takes_two, after₂}
 use types.SemTy.{Body as Borrowed}
-use Rattle.std.proofs.Common.{length}
 use Rattle.lhm_ring.specs.declared.value_loan.ValueLoan.{ValueLoan}
 use Rattle.lhm_ring.specs.contracts.value_loan.ValueLoan as L-type
 use Rattle.lhm_ring.proofs.memory.ValueTaken.{CutValue, CutValue-some, run_cut, run_mend}
