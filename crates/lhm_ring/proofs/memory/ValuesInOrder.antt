@@ -60,11 +60,18 @@ module _ {K V : Type 0} where
       let on = revalued_by-skip (revalued v t) (set_held_values hs vs) hs (IsFresh-head t.at (pointers_of hs) d) ∙ revalued_by-set_held_values hs vs (IsApart-tail t.at (pointers_of hs) d) in
       λ i. revalued (cond (same_ptr-reflexive t.at i) v (value_in (set_held_values hs vs) t.at t.pair.1)) t ∷ on i
 
+  -- a value of the run is that of a triple, or of an entry
+  abbrev HasValue : List (Ptr × V) → Held (K × V) → Type 0
+  HasValue run t = value_at run t.at ≡ Some t.pair.1
+
+  abbrev HasEntry : List (Ptr × V) → Ptr × (K × V) → Type 0
+  HasEntry run c = value_at run c.0 ≡ Some c.1.1
+
   -- an entry has the value that the list has at its pointer
   abbrev pub HasOwnValue : Triples K V → Ptr × (K × V) → Type 0
   HasOwnValue hs c = value_in hs c.0 c.1.1 ≡ c.1.1
 
-  value_in-own : (run : List (Ptr × V)) (hs : Triples K V) (p : Ptr) (v : V) → AllByRecursion (λ t. value_at run t.at ≡ Some t.pair.1) hs → value_at run p ≡ Some v → value_in hs p v ≡ v
+  value_in-own : (run : List (Ptr × V)) (hs : Triples K V) (p : Ptr) (v : V) → AllByRecursion (HasValue run) hs → value_at run p ≡ Some v → value_in hs p v ≡ v
   value_in-own run [] p v all e = refl
   value_in-own run (t ∷ hs) p v all e =
       (elim (same_ptr t.at p) as (λ y. same_ptr t.at p ≡ y → cond y t.pair.1 (value_in hs p v) ≡ v) [
@@ -72,23 +79,23 @@ module _ {K V : Type 0} where
         | false ↦ λ s. value_in-own run hs p v all.1 e
       ]) refl
 
-  AllByRecursion-lies_more : (d : Ptr × (K × V)) (es : Entries K V) (cs : Entries K V) → IsFresh d.0 (at_entries cs) → AllByRecursion (λ c. value_at (run_of es) c.0 ≡ Some c.1.1) cs → AllByRecursion (λ c. value_at (run_of (d ∷ es)) c.0 ≡ Some c.1.1) cs
+  AllByRecursion-lies_more : (d : Ptr × (K × V)) (es : Entries K V) (cs : Entries K V) → IsFresh d.0 (at_entries cs) → AllByRecursion (HasEntry (run_of es)) cs → AllByRecursion (HasEntry (run_of (d ∷ es))) cs
   unfolding value_at
   AllByRecursion-lies_more d es [] f all = tt
   AllByRecursion-lies_more d es (c ∷ cs) f all = (ap (λ y. cond y (Some d.1.1) (value_at (run_of es) c.0)) f.0 ∙ all.0, AllByRecursion-lies_more d es cs f.1 all.1)
 
-  AllByRecursion-lies : (es : Entries K V) → IsApart (at_entries es) → AllByRecursion (λ c. value_at (run_of es) c.0 ≡ Some c.1.1) es
+  AllByRecursion-lies : (es : Entries K V) → IsApart (at_entries es) → AllByRecursion (HasEntry (run_of es)) es
   unfolding value_at
   AllByRecursion-lies [] d = tt
   AllByRecursion-lies (c ∷ es) d =
       (ap (λ y. cond y (Some c.1.1) (value_at (run_of es) c.0)) (same_ptr-reflexive c.0), AllByRecursion-lies_more c es es (IsFresh-head c.0 (at_entries es) d) (AllByRecursion-lies es (IsApart-tail c.0 (at_entries es) d)))
 
-  AllByRecursion-own : (run : List (Ptr × V)) (hs : Triples K V) (es : Entries K V) → AllByRecursion (λ t. value_at run t.at ≡ Some t.pair.1) hs → AllByRecursion (λ c. value_at run c.0 ≡ Some c.1.1) es → AllByRecursion (HasOwnValue hs) es
+  AllByRecursion-own : (run : List (Ptr × V)) (hs : Triples K V) (es : Entries K V) → AllByRecursion (HasValue run) hs → AllByRecursion (HasEntry run) es → AllByRecursion (HasOwnValue hs) es
   AllByRecursion-own run hs [] all lies = tt
   AllByRecursion-own run hs (c ∷ es) all lies = (value_in-own run hs c.0 c.1.1 all lies.0, AllByRecursion-own run hs es all lies.1)
 
   -- what is lent has its own values
-  pub AllByRecursion-own_values : (hs : Triples K V) (es : Entries K V) → AllByRecursion (λ t. value_at (run_of es) t.at ≡ Some t.pair.1) hs → IsApart (at_entries es) → AllByRecursion (HasOwnValue hs) es
+  pub AllByRecursion-own_values : (hs : Triples K V) (es : Entries K V) → AllByRecursion (HasValue (run_of es)) hs → IsApart (at_entries es) → AllByRecursion (HasOwnValue hs) es
   AllByRecursion-own_values hs es all apart = AllByRecursion-own (run_of es) hs es all (AllByRecursion-lies es apart)
 
   pub taken-own : (hs : Triples K V) (es : Entries K V) → AllByRecursion (HasOwnValue hs) es → taken hs es ≡ map (λ c. c.1) (run_of es)

@@ -84,7 +84,7 @@ add_spec 𝓤 𝓛 𝓜 𝓡 wired L K V LL LK LV =
       unused = left;
       chunks = h.chunks;
       unused_blocks = AreBlocks-row_other p s n h.unused given h.unused_blocks;
-      laid = subst (λ (r : Ptr). left ++ r ∷ pointers h.cells ≡ places s h.chunks) here (row-next p s n h.unused (pointers h.cells) (places s h.chunks) given h.laid);
+      laid = subst (λ (r : Ptr). left ++ r ∷ pointers h.cells ≡ places s h.chunks) here (row-next p s n h.unused given (pointers h.cells) (places s h.chunks) h.laid);
     } in
     move ! (1 ∷ 2 ∷ []) $ fjoin ! $ feq_i ! ℕ s (node_bytes R S W) sized $ fjoin ! $ use2 𝓛 (‵ (Cells E (Land E h') h'.cells)) (land_glue 𝓛 E (Land E h') h'.cells) $
     move ! (1 ∷ 0 ∷ []) $ fjoin ! $ move ! (1 ∷ 0 ∷ []) $ closes ! tt N h' vs rb ro $
