@@ -7,8 +7,8 @@ use Rattle.lhm_ring.proofs.memory.Steps.{lies_at, room_for, id⊢, ty_array, fro
 use Rattle.lhm_ring.proofs.memory.Steps.{never, Fml, fjoin3, nothing, ent, Ura, Logic, sep, done}
 use Rattle.lhm_ring.proofs.memory.Steps.{as_raw}
 use Rattle.std.proofs.Common.{zero, suc}
-use Rattle.lhm_ring.proofs.memory.Blocks.{block, block_glue}
-use Rattle.lhm_ring.proofs.memory.Memory.{Three, RL, RK, RV, lo, ko, vo, Node, One, Cells, uninit_left, body_uninit}
+use Rattle.lhm_ring.proofs.memory.PlaceCut.{block, block_glue}
+use Rattle.lhm_ring.proofs.memory.NodeFields.{Three, RL, RK, RV, lo, ko, vo, Node, One, Cells, uninit_left, body_uninit}
 use Rattle.lhm_ring.specs.Nodes.{pointers, row, links_address, body_owns, deed_owns, node_bytes, places_own, chunk_owns, chunks_own}
 
 module _ {M : Type 1} {𝓤 : Ura M} (𝓛 : Logic 𝓤) (E : Three) where

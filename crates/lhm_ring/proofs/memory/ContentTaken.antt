@@ -5,7 +5,7 @@ use Rattle.lhm_ring.proofs.memory.Steps.{fjoin, Ptr, id⊢, sem, Some, Fml, Opti
 use Rattle.lhm_ring.proofs.memory.Steps.{sep, done, false}
 use Rattle.std.proofs.Common.{cond}
 use Rattle.lhm_ring.proofs.lists.Apart.{same_ptr-equal}
-use Rattle.lhm_ring.proofs.memory.Memory.{Three, RL, RK, RV}
+use Rattle.lhm_ring.proofs.memory.NodeFields.{Three, RL, RK, RV}
 use Rattle.lhm_ring.proofs.lists.Options.{none_some}
 use Rattle.lhm_ring.specs.Nodes.{same_ptr, body_owns}
 use Rattle.lhm_ring.specs.ContentLoan.{body_in, without_body, bodies, firsts, seconds}

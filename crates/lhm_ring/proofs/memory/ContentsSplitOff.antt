@@ -1,6 +1,6 @@
 -- What nodes hold is cut out of them, and they are whole again with nothing in them. Assumes
 -- `Logic`.
---     cells_out, cells_in      all bodies are taken from the nodes, and whatever comes back leaves
+--     contents_cut, contents_glue      all bodies are taken from the nodes, and whatever comes back leaves
 --     uninitialised memory
 --     BareRow      the nodes without bodies, as a type: what a `&` to nodes of holes shows is what
 --     a `&` to it shows
@@ -28,9 +28,9 @@ use denote.Struct.Owning as owning
 use Rattle.lhm_ring.specs.contracts.value_loan.Hole as H-type
 use Rattle.lhm_ring.specs.contracts.nodes.Nodes as C
 use Rattle.lhm_ring.specs.contracts.content_loan.ContentLoan as S-type
-use Rattle.lhm_ring.proofs.memory.Memory.{Three, RL, RK, RV, ko, vo, Marker, Nr, One, Land, Cells, marker, body_uninit}
+use Rattle.lhm_ring.proofs.memory.NodeFields.{Three, RL, RK, RV, ko, vo, Marker, Nr, One, Land, Cells, marker, body_uninit}
 use Rattle.lhm_ring.proofs.memory.Sharing.{parts_own, Lends-less, Lends-parts, Thin, Law-thin}
-use Rattle.lhm_ring.proofs.memory.PartsTaken.{Entails, ◌∗◌, parts_out, parts_in}
+use Rattle.lhm_ring.proofs.memory.PartsTaken.{Entails, ◌∗◌, parts_cut, parts_glue}
 use Rattle.lhm_ring.specs.declared.nodes.Nodes.{Nodes}
 use Rattle.lhm_ring.specs.Nodes.{Cell, cell, links_address, body_owns, deed_owns, land_owns, cell_lent, cells_lent}
 use Rattle.lhm_ring.specs.ContentLoan.{bodies, Bodies, bodies_of, firsts, seconds, cleared}
@@ -103,8 +103,8 @@ module _ (E : Three) {M : Type 1} {𝓤 : Ura M} (𝓛 : Logic 𝓤) where
   abbrev Stems : Fml → List (Cell E.links.Denot (E.key.Denot × E.value.Denot)) → Fml
   Stems = stems (RL E) (RK E) (RV E)
 
-  pub cells_out : (Z : Fml) (cs : List (Node (RL E) (RK E) (RV E))) → Entails 𝓛 (Cells E Z cs) (run cs (seconds (bodies_of cs)) ∗ Stems Z cs)
-  cells_out = parts_out (RL E) (RK E) (RV E) 𝓛 (stem (RL E) (RK E) (RV E)) (λ cs. run cs (seconds (bodies_of cs))) (id⊢ 𝓤 (emp 𝓤)) (λ c cs.
+  pub contents_cut : (Z : Fml) (cs : List (Node (RL E) (RK E) (RV E))) → Entails 𝓛 (Cells E Z cs) (run cs (seconds (bodies_of cs)) ∗ Stems Z cs)
+  contents_cut = parts_cut (RL E) (RK E) (RV E) 𝓛 (stem (RL E) (RK E) (RV E)) (λ cs. run cs (seconds (bodies_of cs))) (id⊢ 𝓤 (emp 𝓤)) (λ c cs.
       qed 𝓛 (‵ (One E c) ∷ ‵ (run cs (seconds (bodies_of cs))) ∷ []) ∵ fsplit3 ! $
       move ! (1 ∷ 3 ∷ []) $ fjoin ! $ move ! (1 ∷ 2 ∷ []) $ fjoin ! $ move ! (1 ∷ 0 ∷ []) $ done !)
 
@@ -120,16 +120,16 @@ module _ (E : Three) {M : Type 1} {𝓤 : Ura M} (𝓛 : Logic 𝓤) where
   abbrev any_run : List (Node (RL E) (RK E) (RV E)) → Fml
   any_run cs = fex (List Content) (run cs)
 
-  cell_in : (c : Node (RL E) (RK E) (RV E)) (cs : List (Node (RL E) (RK E) (RV E))) (ws : List Content)
+  content_glue : (c : Node (RL E) (RK E) (RV E)) (cs : List (Node (RL E) (RK E) (RV E))) (ws : List Content)
       → Entails 𝓛 (run (c ∷ cs) ws ∗ stem (RL E) (RK E) (RV E) c) (any_run cs ∗ One E (cell c.at c.links None))
-  cell_in c cs [] = qed 𝓛 (‵ ffalse ∷ ‵ (stem (RL E) (RK E) (RV E) c) ∷ []) ∵ keep ! (0 ∷ []) $ by ! (never_e 𝓤 _)
-  cell_in c cs (w ∷ ws) = qed 𝓛 (‵ (run (c ∷ cs) (w ∷ ws)) ∷ ‵ (stem (RL E) (RK E) (RV E) c) ∷ []) ∵ fsplit ! $ use1 𝓛 (‵ (body c.at None)) (emptied_body c.at w) $ move ! (2 ∷ []) $ fsplit ! $
+  content_glue c cs [] = qed 𝓛 (‵ ffalse ∷ ‵ (stem (RL E) (RK E) (RV E) c) ∷ []) ∵ keep ! (0 ∷ []) $ by ! (never_e 𝓤 _)
+  content_glue c cs (w ∷ ws) = qed 𝓛 (‵ (run (c ∷ cs) (w ∷ ws)) ∷ ‵ (stem (RL E) (RK E) (RV E) c) ∷ []) ∵ fsplit ! $ use1 𝓛 (‵ (body c.at None)) (emptied_body c.at w) $ move ! (2 ∷ []) $ fsplit ! $
       -- [the links; the deed; the body; the bodies]
       move ! (0 ∷ 2 ∷ 1 ∷ []) $ fjoin3 ! $ move ! (1 ∷ []) $ fpack ! (List Content) (run cs) ws $ done !
 
-  pub cells_in : (Z : Fml) (cs : List (Node (RL E) (RK E) (RV E))) → Entails 𝓛 (any_run cs ∗ Stems Z cs) (Cells E Z (cleared cs))
-  cells_in = parts_in (RL E) (RK E) (RV E) 𝓛 (stem (RL E) (RK E) (RV E)) any_run (λ c. cell c.at c.links None) (λ c cs.
-      qed 𝓛 (‵ (any_run (c ∷ cs)) ∷ ‵ (stem (RL E) (RK E) (RV E) c) ∷ []) ∵ fpick ! (λ ws. by ! (cell_in c cs ws)))
+  pub contents_glue : (Z : Fml) (cs : List (Node (RL E) (RK E) (RV E))) → Entails 𝓛 (any_run cs ∗ Stems Z cs) (Cells E Z (cleared cs))
+  contents_glue = parts_glue (RL E) (RK E) (RV E) 𝓛 (stem (RL E) (RK E) (RV E)) any_run (λ c. cell c.at c.links None) (λ c cs.
+      qed 𝓛 (‵ (any_run (c ∷ cs)) ∷ ‵ (stem (RL E) (RK E) (RV E) c) ∷ []) ∵ fpick ! (λ ws. by ! (content_glue c cs ws)))
 
 -- the loan's field, which takes no bytes
 abbrev pub ContentMarker : NamedLft → (R S W : RattleType) → RattleType
@@ -167,7 +167,7 @@ module _ (E : Three) {M : Type 1} {𝓤 : Ura M} (𝓛 : Logic 𝓤) (h : (Nr E)
   unfolding fseps part_of
   back δ w = qed 𝓛 (‵ ((mem Anchor).own_at w rb ro) ∷ ‵ (fseps (Borrowed LentBodies 0 0 δ ∷ Fields ∷ [])) ∷ raw (emp 𝓤) ∷ []) ∵ drop ! $ fsplit ! $ fpick ! (λ os. fsplit ! $ move ! (2 ∷ []) $ fsplit ! $ fpick ! (λ vs. fsplit ! $ move ! (1 ∷ []) $ fsplit ! $
       -- [the marker; the stems; the cell; nothing; the bodies; their name; nothing]
-      move ! (4 ∷ []) $ fpack ! (List (Content E 𝓛)) (run E 𝓛 h.cells) os $ move ! (0 ∷ 2 ∷ []) $ use2 𝓛 (‵ (Cells E (Land E h) (cleared h.cells))) (cells_in E 𝓛 (Land E h) h.cells) $ move ! (1 ∷ 0 ∷ []) $ fjoin ! $ move ! (1 ∷ 0 ∷ []) $ fjoin ! $
+      move ! (4 ∷ []) $ fpack ! (List (Content E 𝓛)) (run E 𝓛 h.cells) os $ move ! (0 ∷ 2 ∷ []) $ use2 𝓛 (‵ (Cells E (Land E h) (cleared h.cells))) (contents_glue E 𝓛 (Land E h) h.cells) $ move ! (1 ∷ 0 ∷ []) $ fjoin ! $ move ! (1 ∷ 0 ∷ []) $ fjoin ! $
       fpack ! (List Val) (λ us. fsep (cell_at full_share (Nr E).mir us rb ro) ((Nr E).own_val (cleared_nodes h) us)) vs $ keep ! (0 ∷ []) $ done !))
 
 module _ {M : Type 1} {𝓤 : Ura M} {𝓛 : Logic 𝓤} {K : Type 0} {Γ : List (Item 𝓤)} {G : Goal 𝓤 𝓛.H} where

@@ -29,7 +29,7 @@ use denote.Triple.Clauses.{Ended, Clauses, closing}
 use denote.Triple.Spec.{Meets}
 use Rattle.std.proofs.RcSteps.{word_ty}
 use Rattle.lhm_ring.proofs.rings.Lookup.{Cut}
-use Rattle.lhm_ring.proofs.memory.Memory.{Three, args, RL, RK, RV, lo, ko, vo, Node, Nr, Pl, word-pointer}
+use Rattle.lhm_ring.proofs.memory.NodeFields.{Three, args, RL, RK, RV, lo, ko, vo, Node, Nr, Pl, word-pointer}
 use Rattle.lhm_ring.proofs.memory.NodeTaken.{cell_seen}
 use Rattle.lhm_ring.specs.contracts.nodes.Nodes.key as key
 use Rattle.lhm_ring.specs.Nodes.{body_lent, cell_lent, cells_lent}

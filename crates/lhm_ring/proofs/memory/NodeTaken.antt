@@ -3,7 +3,7 @@ use Rattle.lhm_ring.proofs.memory.Steps.{◌≡◌, List, [], ◌∷◌, ◌++�
 use Rattle.lhm_ring.proofs.memory.Steps.{qed, move, use1, use2, split, fsplit, fjoin, Ptr, id⊢, sem}
 use Rattle.lhm_ring.proofs.memory.Steps.{snd∗, via, Fml, Lft, ent, Ura, Logic, sep, done, fst∗}
 use Rattle.lhm_ring.specs.declared.nodes.Nodes.{Nodes}
-use Rattle.lhm_ring.proofs.memory.Memory.{Three, RL, RK, RV, Node, One, Cells}
+use Rattle.lhm_ring.proofs.memory.NodeFields.{Three, RL, RK, RV, Node, One, Cells}
 use Rattle.lhm_ring.proofs.rings.Lookup.{Cut}
 use Rattle.lhm_ring.specs.Nodes.{Cell, places, IsApart, AreBlocks, pointers, change, pointers-change, cell_lent, cells_lent}
 
@@ -43,11 +43,11 @@ module _ {M : Type 1} {𝓤 : Ura M} (𝓛 : Logic 𝓤) (E : Three) where
       abbrev pub Others : Fml
       Others = Cells E Z (k.split.before ++ k.split.after)
 
-      pub node_out : ent 𝓤 (sem 𝓛 (Cells E Z cs)) (sep 𝓤 (sem 𝓛 (One E k.split.node)) (sem 𝓛 Others))
-      node_out = subst (λ ds. ent 𝓤 (sem 𝓛 (Cells E Z ds)) (sep 𝓤 (sem 𝓛 (One E k.split.node)) (sem 𝓛 Others))) (sym k.split.is) (cells_cut k.split.before k.split.node k.split.after)
+      pub node_cut : ent 𝓤 (sem 𝓛 (Cells E Z cs)) (sep 𝓤 (sem 𝓛 (One E k.split.node)) (sem 𝓛 Others))
+      node_cut = subst (λ ds. ent 𝓤 (sem 𝓛 (Cells E Z ds)) (sep 𝓤 (sem 𝓛 (One E k.split.node)) (sem 𝓛 Others))) (sym k.split.is) (cells_cut k.split.before k.split.node k.split.after)
 
-      pub node_in : (f : Node E → Node E) → ent 𝓤 (sep 𝓤 (sem 𝓛 (One E (f k.split.node))) (sem 𝓛 Others)) (sem 𝓛 (Cells E Z (change p f cs)))
-      node_in f = subst (λ ds. ent 𝓤 (sep 𝓤 (sem 𝓛 (One E (f k.split.node))) (sem 𝓛 Others)) (sem 𝓛 (Cells E Z ds))) (sym (k.changed f)) (cells_glue k.split.before (f k.split.node) k.split.after)
+      pub node_glue : (f : Node E → Node E) → ent 𝓤 (sep 𝓤 (sem 𝓛 (One E (f k.split.node))) (sem 𝓛 Others)) (sem 𝓛 (Cells E Z (change p f cs)))
+      node_glue f = subst (λ ds. ent 𝓤 (sep 𝓤 (sem 𝓛 (One E (f k.split.node))) (sem 𝓛 Others)) (sem 𝓛 (Cells E Z ds))) (sym (k.changed f)) (cells_glue k.split.before (f k.split.node) k.split.after)
 
   -- seen through a `&`
   pub cell_seen : (κ : Lft) (xs : List (Node E)) (c : Node E) (ys : List (Node E)) → ent 𝓤 (sem 𝓛 (cells_lent (RL E) (RK E) (RV E) (xs ++ c ∷ ys) κ)) (sem 𝓛 (cell_lent (RL E) (RK E) (RV E) c κ))

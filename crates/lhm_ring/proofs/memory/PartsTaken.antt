@@ -19,16 +19,16 @@ module _ (R S W : RattleType) {M : Type 1} {𝓤 : Ura M} (𝓛 : Logic 𝓤) (f
   abbrev Node : Type 0
   Node = Cell R.Denot (S.Denot × W.Denot)
 
-  pub parts_out : ent 𝓤 (emp 𝓤) (sem 𝓛 (A [])) → ((c : Node) (cs : List Node) → Entails 𝓛 (cell_owns R S W c ∗ A cs) (A (c ∷ cs) ∗ f c))
+  pub parts_cut : ent 𝓤 (emp 𝓤) (sem 𝓛 (A [])) → ((c : Node) (cs : List Node) → Entails 𝓛 (cell_owns R S W c ∗ A cs) (A (c ∷ cs) ∗ f c))
       → (Z : Fml) (cs : List Node) → Entails 𝓛 (cells_own R S W Z cs) (A cs ∗ parts_own f Z cs)
-  parts_out none one Z [] = qed 𝓛 (‵ Z ∷ []) ∵ use0 𝓛 (‵ (A [])) none $ done !
-  parts_out none one Z (c ∷ cs) = qed 𝓛 (‵ (cells_own R S W Z (c ∷ cs)) ∷ []) ∵ fsplit ! $ move ! (1 ∷ []) $
-      use1 𝓛 (‵ (A cs) ⊛ ‵ (parts_own f Z cs)) (parts_out none one Z cs) $ split ! $ move ! (2 ∷ 0 ∷ []) $
+  parts_cut none one Z [] = qed 𝓛 (‵ Z ∷ []) ∵ use0 𝓛 (‵ (A [])) none $ done !
+  parts_cut none one Z (c ∷ cs) = qed 𝓛 (‵ (cells_own R S W Z (c ∷ cs)) ∷ []) ∵ fsplit ! $ move ! (1 ∷ []) $
+      use1 𝓛 (‵ (A cs) ⊛ ‵ (parts_own f Z cs)) (parts_cut none one Z cs) $ split ! $ move ! (2 ∷ 0 ∷ []) $
       use2 𝓛 (‵ (A (c ∷ cs)) ⊛ ‵ (f c)) (one c cs) $ split ! $ move ! (1 ∷ 2 ∷ []) $ fjoin ! $ move ! (1 ∷ 0 ∷ []) $ done !
 
-  pub parts_in : (g : Node → Node) → ((c : Node) (cs : List Node) → Entails 𝓛 (A (c ∷ cs) ∗ f c) (A cs ∗ cell_owns R S W (g c)))
+  pub parts_glue : (g : Node → Node) → ((c : Node) (cs : List Node) → Entails 𝓛 (A (c ∷ cs) ∗ f c) (A cs ∗ cell_owns R S W (g c)))
       → (Z : Fml) (cs : List Node) → Entails 𝓛 (A cs ∗ parts_own f Z cs) (cells_own R S W Z (map g cs))
-  parts_in g one Z [] = qed 𝓛 (‵ (A []) ∷ ‵ Z ∷ []) ∵ drop ! $ done !
-  parts_in g one Z (c ∷ cs) = qed 𝓛 (‵ (A (c ∷ cs)) ∷ ‵ (parts_own f Z (c ∷ cs)) ∷ []) ∵ move ! (1 ∷ []) $ fsplit ! $ move ! (2 ∷ 0 ∷ []) $
+  parts_glue g one Z [] = qed 𝓛 (‵ (A []) ∷ ‵ Z ∷ []) ∵ drop ! $ done !
+  parts_glue g one Z (c ∷ cs) = qed 𝓛 (‵ (A (c ∷ cs)) ∷ ‵ (parts_own f Z (c ∷ cs)) ∷ []) ∵ move ! (1 ∷ []) $ fsplit ! $ move ! (2 ∷ 0 ∷ []) $
       use2 𝓛 (‵ (A cs) ⊛ ‵ (cell_owns R S W (g c))) (one c cs) $ split ! $ move ! (0 ∷ 2 ∷ []) $
-      use2 𝓛 (‵ (cells_own R S W Z (map g cs))) (parts_in g one Z cs) $ move ! (1 ∷ 0 ∷ []) $ fjoin ! $ done !
+      use2 𝓛 (‵ (cells_own R S W Z (map g cs))) (parts_glue g one Z cs) $ move ! (1 ∷ 0 ∷ []) $ fjoin ! $ done !

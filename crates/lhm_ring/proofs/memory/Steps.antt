@@ -1,6 +1,7 @@
 -- The names that the proofs by hand share, and the steps that walks repeat. Assumes `Logic`.
 --     runs_with      a function runs at its machine values, written out
 --     states, states_also      a fact is put into the context, alone or beside its head
+--     knows      a fact that two entries show is learned
 --     all_spent, self_left      what is left of the parameters, where those behind `self` are gone
 pub use Rattle.std.proofs.Common.{◌≡◌, ℕ, ◌+◌, ◌*◌, ◌<◌, ◌^◌, true, List, [], ◌∷◌, ◌++◌, refl, sym, ap, ◌∙◌, subst, T, None, Some, Option, arith, false, map, length}
 pub use seplogic.Ra.Ura.{Ura}
@@ -57,7 +58,8 @@ use Rattle.std.proofs.Common.{zero, suc}
 use base.Fml.{feq}
 use mir.Syntax.{Fn}
 use prog.Wp.{Calls, Loops}
-use types.Kit.{Seq, Step, step, prop, runs, allocs, params'}
+use types.Kit.{Seq, Step, step, mean, prop, runs, allocs, params'}
+use contract.Monad.{fact_use}
 use contract.Lifetimes.{Lfts, Shares}
 
 -- the tokens of n lifetimes, and what is left of n parameters that are gone
@@ -97,3 +99,9 @@ module _ {M : Type 1} {𝓤 : Ura M} {𝓛 : Logic 𝓤} {K : Type 0} {Γ : List
         → Step K 𝓛 (‵ (fsep (fsep (feq (List Val) vs us) (fsep P Q)) (spent n)) ∷ Γ) G (‵ P ∷ ‵ Q ∷ Γ) G
     self_left t n {vs} {us} e = step (λ s. feq_i t (List Val) vs us e $ fjoin3 t $
         use0 𝓛 (‵ (spent n)) (spent_made 𝓛 n) $ move t (1 ∷ 0 ∷ []) $ fjoin t $ s)
+
+    -- a fact that two entries show is learned, and they stay
+    pub knows : K → {i j : Item 𝓤} (φ : Type 0) → ent 𝓤 (sep 𝓤 (mean 𝓛 i) (mean 𝓛 j)) (fact 𝓤 φ) → (φ → Seq K 𝓛 (i ∷ j ∷ Γ) G) → Seq K 𝓛 (i ∷ j ∷ Γ) G
+    knows t {i} {j} φ h k =
+        let shown : Seq K 𝓛 (i ∷ j ∷ Γ) (prop (fact 𝓤 φ)) = use2 𝓛 (raw (fact 𝓤 φ)) h $ keep t (0 ∷ []) $ done t in
+        record { prf = fact_use 𝓤 φ shown.prf (λ x. (k x).prf) }

@@ -1,10 +1,10 @@
 -- A ring is cut into its values and the rest, and made of them again. Assumes `Logic`.
 --     entries are what the ring holds, each with its pointer (`ValuesReplaced.antt`'s `lent`)
---     nodes_cut, nodes_mend      the values of the nodes that pass the test are taken out, and
+--     nodes_cut, nodes_glue      the values of the nodes that pass the test are taken out, and
 --     others are put in their places
 --     Unvalued      the nodes without those values, as a type: what a `&` to nodes of holes shows
 --     is what a `&` to it shows
---     ring_cut, ring_mend      the same of a whole ring in memory
+--     ring_cut, ring_glue      the same of a whole ring in memory
 --     back, ordered_back      the way back of a loan of a ring's values: the values in the order of
 --     the ring. A type that keeps a ring in a field shares both
 use Rattle.lhm_ring.proofs.memory.Steps.{◌≡◌, ℕ, true, List, [], ◌∷◌, refl, sym, ap, ◌∙◌, subst}
@@ -43,12 +43,12 @@ use Rattle.lhm_ring.specs.contracts.value_loan.ValueLoan as L-type
 use Rattle.lhm_ring.specs.contracts.ring.Ring as R-type
 use Rattle.lhm_ring.specs.contracts.ring.Ring.TheInside as I-type
 use Rattle.lhm_ring.specs.declared.ring.Ring.TheInside as D-type
-use Rattle.lhm_ring.proofs.memory.Memory.{marker}
+use Rattle.lhm_ring.proofs.memory.NodeFields.{marker}
 use Rattle.lhm_ring.proofs.rings.HeldPointers.{pointers_of, pointers-ring_list}
 use Rattle.lhm_ring.proofs.memory.ValuesReplaced.{Entries, Triples, at_entries, lent_then, lent, written_body, written, taken, listing, run_of, pointers-written, taken-listing, IsApart-lent, among, revalued_by, held_entries, RingOk-held_written, ring_list-held_written, AreLent-held_entries}
 use Rattle.lhm_ring.proofs.memory.ValuesInOrder.{HasOwnValue, AllByRecursion-own_values, taken-own, taken-by, AllByRecursion-kept, set_held_values-own, set_held_values-by, revalued_by-set_held_values}
 use Rattle.lhm_ring.proofs.memory.Sharing.{parts_own, Lends-less, Lends-parts, Thin, Law-thin}
-use Rattle.lhm_ring.proofs.memory.PartsTaken.{Entails, ◌∗◌, parts_out, parts_in}
+use Rattle.lhm_ring.proofs.memory.PartsTaken.{Entails, ◌∗◌, parts_cut, parts_glue}
 use Rattle.lhm_ring.proofs.memory.NodeTaken.{with_cells}
 use Rattle.lhm_ring.specs.declared.nodes.Nodes.{Nodes}
 use Rattle.lhm_ring.specs.Nodes.{Cell, cell, IsApart, links_address, key_address, value_address, body_owns, deed_owns, land_owns, cell_owns, cells_own, cell_lent, cells_lent}
@@ -107,27 +107,27 @@ module _ (R S W : RattleType) where
 
     pub nodes_cut : (Z : Fml) (keep : Ptr → Bool) (cs : List Node)
         → Entails 𝓛 (cells_own R S W Z cs) (values_own (lent keep cs) (vals (lent keep cs)) ∗ frames Z keep cs)
-    nodes_cut Z keep = parts_out R S W 𝓛 (frame keep) (λ cs. values_own (lent keep cs) (vals (lent keep cs))) (id⊢ 𝓤 (emp 𝓤)) (λ c cs.
+    nodes_cut Z keep = parts_cut R S W 𝓛 (frame keep) (λ cs. values_own (lent keep cs) (vals (lent keep cs))) (id⊢ 𝓤 (emp 𝓤)) (λ c cs.
         let r = lent keep cs in let k = keep c.at in let s = lent_then k c.at c.body r in
         qed 𝓛 (‵ (cell_owns R S W c) ∷ ‵ (values_own r (vals r)) ∷ []) ∵ fsplit3 ! $ move ! (1 ∷ 3 ∷ []) $
         use2 𝓛 (‵ (values_own s (vals s)) ⊛ ‵ (body_frame k c.at c.body)) (cut_body k c.at c.body r) $ split ! $
         move ! (2 ∷ 1 ∷ 3 ∷ []) $ fjoin3 ! $ move ! (1 ∷ 0 ∷ []) $ done !) Z
 
     module _ (hs : Triples S.Denot W.Denot) where
-      mend_body : (k : Bool) (p : Ptr) (b : Body) (r : Entries S.Denot W.Denot)
+      glue_body : (k : Bool) (p : Ptr) (b : Body) (r : Entries S.Denot W.Denot)
           → Entails 𝓛 (values_own (lent_then k p b r) (taken hs (lent_then k p b r)) ∗ body_frame k p b) (values_own r (taken hs r) ∗ body_owns R S W p (written_body k hs p b))
-      mend_body false p b r = id⊢ 𝓤 _
-      mend_body true p None r = id⊢ 𝓤 _
-      mend_body true p (Some x) r = qed 𝓛 (‵ (values_own ((p, x) ∷ r) (taken hs ((p, x) ∷ r))) ∷ ‵ (body_frame true p (Some x)) ∷ []) ∵
+      glue_body false p b r = id⊢ 𝓤 _
+      glue_body true p None r = id⊢ 𝓤 _
+      glue_body true p (Some x) r = qed 𝓛 (‵ (values_own ((p, x) ∷ r) (taken hs ((p, x) ∷ r))) ∷ ‵ (body_frame true p (Some x)) ∷ []) ∵
           fsplit ! $ move ! (2 ∷ 0 ∷ []) $ fjoin ! $ move ! (1 ∷ 0 ∷ []) $ done !
 
-      pub nodes_mend : (Z : Fml) (keep : Ptr → Bool) (cs : List Node)
+      pub nodes_glue : (Z : Fml) (keep : Ptr → Bool) (cs : List Node)
           → Entails 𝓛 (values_own (lent keep cs) (taken hs (lent keep cs)) ∗ frames Z keep cs) (cells_own R S W Z (written keep hs cs))
-      nodes_mend Z keep = parts_in R S W 𝓛 (frame keep) (λ cs. values_own (lent keep cs) (taken hs (lent keep cs)))
+      nodes_glue Z keep = parts_glue R S W 𝓛 (frame keep) (λ cs. values_own (lent keep cs) (taken hs (lent keep cs)))
           (λ c. cell c.at c.links (written_body (keep c.at) hs c.at c.body)) (λ c cs.
           let r = lent keep cs in let k = keep c.at in let s = lent_then k c.at c.body r in
           qed 𝓛 (‵ (values_own s (taken hs s)) ∷ ‵ (frame keep c) ∷ []) ∵ move ! (1 ∷ []) $ fsplit3 ! $ move ! (3 ∷ 1 ∷ []) $
-          use2 𝓛 (‵ (values_own r (taken hs r)) ⊛ ‵ (body_owns R S W c.at (written_body k hs c.at c.body))) (mend_body k c.at c.body r) $ split ! $
+          use2 𝓛 (‵ (values_own r (taken hs r)) ⊛ ‵ (body_owns R S W c.at (written_body k hs c.at c.body))) (glue_body k c.at c.body r) $ split ! $
           move ! (2 ∷ 1 ∷ 3 ∷ []) $ fjoin3 ! $ move ! (1 ∷ 0 ∷ []) $ done !) Z
 
     -- what is lent of a frame shows what a node of holes does
@@ -219,18 +219,18 @@ module _ (S W : RattleType) where
           fpack ! (List Val) (λ us. cell_raw full_share (raw_all Thinned.mir) us b o ∗ Thinned.own_val (thinned a) us) vs $ move ! (1 ∷ []) $ done !))
 
       module _ (hs : Triples S.Denot W.Denot) where
-        abbrev pub mended : Inside
-        mended = record a { nodes = with_cells a.nodes (written keep hs a.nodes.cells) (pointers-written keep hs a.nodes.cells) }
+        abbrev pub glued : Inside
+        glued = record a { nodes = with_cells a.nodes (written keep hs a.nodes.cells) (pointers-written keep hs a.nodes.cells) }
 
-        pub ring_mend : Entails 𝓛 (Lent (taken hs passed) ∗ part_at Thinned full_share (thinned a) b o) (part_at Full full_share mended b o)
+        pub ring_glue : Entails 𝓛 (Lent (taken hs passed) ∗ part_at Thinned full_share (thinned a) b o) (part_at Full full_share glued b o)
         unfolding part_of
-        ring_mend = qed 𝓛 (‵ (Lent (taken hs passed)) ∷ ‵ (part_at Thinned full_share (thinned a) b o) ∷ []) ∵
+        ring_glue = qed 𝓛 (‵ (Lent (taken hs passed)) ∷ ‵ (part_at Thinned full_share (thinned a) b o) ∷ []) ∵
             move ! (1 ∷ []) $ fpick ! (λ vs. fsplit ! $ move ! (1 ∷ []) $ fpick ! (λ vss. fsplit ! $ move ! (1 ∷ []) $ fsplit ! $ fsplit ! $
             -- [the marker; the frames; the other fields; the value; the cell; the values]
-            move ! (5 ∷ 1 ∷ []) $ use2 𝓛 (‵ (cells_own R S W others (written keep hs a.nodes.cells))) (nodes_mend R S W 𝓛 hs others keep a.nodes.cells) $
+            move ! (5 ∷ 1 ∷ []) $ use2 𝓛 (‵ (cells_own R S W others (written keep hs a.nodes.cells))) (nodes_glue R S W 𝓛 hs others keep a.nodes.cells) $
             move ! (1 ∷ 0 ∷ []) $ fjoin ! $ fjoin ! $ move ! (1 ∷ 0 ∷ []) $ fjoin ! $
-            fpack ! (Valss (rows (I-type.struct S W).parts)) (within (declared.shape (I-type.the_type S W)) (values_of mended) vs) vss $ move ! (1 ∷ 0 ∷ []) $ fjoin ! $
-            fpack ! (List Val) (λ us. cell_raw full_share (raw_all Full.mir) us b o ∗ Full.own_val mended us) vs $ done !))
+            fpack ! (Valss (rows (I-type.struct S W).parts)) (within (declared.shape (I-type.the_type S W)) (values_of glued) vs) vss $ move ! (1 ∷ 0 ∷ []) $ fjoin ! $
+            fpack ! (List Val) (λ us. cell_raw full_share (raw_all Full.mir) us b o ∗ Full.own_val glued us) vs $ done !))
 
 -- how the loan of the values is named, first by the ring and then by the values
 module _ (S W : RattleType) where
@@ -270,17 +270,17 @@ module _ (S W : RattleType) where
     abbrev Whole : List W.Denot → SProp 𝓤
     Whole ws = sep 𝓤 (sem 𝓛 ((Vals a).own_at ws 0 0)) (sep 𝓤 (sem 𝓛 (fseps (Fields ∷ []))) (emp 𝓤))
 
-    view-mended : (ks : Triples S.Denot W.Denot) → view (mended S W (kept_by a) 𝓛 a b o ks) ≡ record d { held = revalued_by ks d.held }
-    view-mended ks i = state ((ring_list-held_written a.ends a.nodes.cells a.spare a.len a.spares ks ∙ ap (λ (s : Seen). revalued_by ks s.held) seen) i) (seen i).spares (seen i).nodes
+    view-glued : (ks : Triples S.Denot W.Denot) → view (glued S W (kept_by a) 𝓛 a b o ks) ≡ record d { held = revalued_by ks d.held }
+    view-glued ks i = state ((ring_list-held_written a.ends a.nodes.cells a.spare a.len a.spares ks ∙ ap (λ (s : Seen). revalued_by ks s.held) seen) i) (seen i).spares (seen i).nodes
 
     -- the values that ks has at their pointers come back
     back_by : (ks : Triples S.Denot W.Denot) → ent 𝓤 (Whole (taken ks (entries a))) (sem 𝓛 ((mem Lr).own_at (record d { held = revalued_by ks d.held }) b o))
     unfolding fseps
-    back_by ks = let a' = mended S W (kept_by a) 𝓛 a b o ks in let s : Seen = record d { held = revalued_by ks d.held } in
+    back_by ks = let a' = glued S W (kept_by a) 𝓛 a b o ks in let s : Seen = record d { held = revalued_by ks d.held } in
         qed 𝓛 (‵ ((Vals a).own_at (taken ks (entries a)) 0 0) ∷ ‵ (Fields ∗ ftrue) ∷ raw (emp 𝓤) ∷ []) ∵ move ! (1 ∷ []) $ fsplit ! $ move ! (2 ∷ 0 ∷ []) $
-        use2 𝓛 (‵ (part_at (Full S W) full_share a' b o)) (ring_mend S W (kept_by a) 𝓛 a b o ks) $ keep ! (0 ∷ []) $
+        use2 𝓛 (‵ (part_at (Full S W) full_share a' b o)) (ring_glue S W (kept_by a) 𝓛 a b o ks) $ keep ! (0 ∷ []) $
         by ! (Plain-in Lr (Full S W) (view_owns (Full S W) Seen Lr.coded view good) 𝓛 full_share s a' (view_made (Full S W) Seen Lr.coded view good 𝓛 s a'
-        (view-mended ks, record { ring = RingOk-held_written a.ends a.nodes.cells a.spare a.len a.spares ks ok.ring; laid = ok.laid })) b o)
+        (view-glued ks, record { ring = RingOk-held_written a.ends a.nodes.cells a.spare a.len a.spares ks ok.ring; laid = ok.laid })) b o)
 
     pub AreLent-entries : AreLent (run_of (entries a)) d.held
     AreLent-entries = subst (λ (s : Seen). AreLent (run_of (entries a)) s.held) seen (AreLent-held_entries a.ends a.nodes.cells a.spare a.len a.spares ok.ring)

@@ -20,7 +20,7 @@ use types.SemTy.{Body as Borrowed}
 use denote.Struct.Struct.{as_fields}
 use Rattle.lhm_ring.specs.declared.content_loan.ContentLoan.{ContentLoan}
 use Rattle.lhm_ring.specs.contracts.content_loan.ContentLoan as S-type
-use Rattle.lhm_ring.proofs.memory.Memory.{Three, args, RL, RK, RV, ko, vo, Pl, word-pointer, two_made, value_out, three_rows, value_known, forgotten}
+use Rattle.lhm_ring.proofs.memory.NodeFields.{Three, args, RL, RK, RV, ko, vo, Pl, word-pointer, two_made, value_out, three_rows, value_known, forgotten}
 use Rattle.lhm_ring.proofs.memory.ContentTaken.{CutBody, CutBody-some, firsts-same, Run, bodies_cut, bodies_glue}
 use Rattle.lhm_ring.specs.contracts.content_loan.ContentLoan.take.{ended, clauses}
 use Rattle.lhm_ring.specs.contracts.content_loan.ContentLoan.take.Key.{name as #self}

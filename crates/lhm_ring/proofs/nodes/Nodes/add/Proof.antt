@@ -13,16 +13,16 @@ use Rattle.lhm_ring.proofs.memory.Steps.{sub, whole, agg, tables, fact, usize, y
 use Rattle.lhm_ring.proofs.memory.Steps.{layout, param_laws, types_at, plain, Ptr, block_ptr}
 use Rattle.lhm_ring.proofs.memory.Steps.{ptr_val, lies_at, room_for, heard, opens, closes, Stays}
 use Rattle.lhm_ring.proofs.memory.Steps.{stay_dropped, stay_ref, walk_of, Goes-dropped, Goes-ref}
-use Rattle.lhm_ring.proofs.memory.Steps.{after, word, word-Good, proved_at, leaves, tokens}
-use Rattle.lhm_ring.proofs.memory.Steps.{self_left, states, runs_with, states_also}
-use Rattle.std.proofs.Common.{ltb→lt, arith}
+use Rattle.lhm_ring.proofs.memory.Steps.{after, word, word-Good, proved_at, leaves, arith, knows}
+use Rattle.lhm_ring.proofs.memory.Steps.{states_also, tokens, states, runs_with, self_left}
+use Rattle.std.proofs.Common.{ltb→lt}
 use types.Run.{init}
 use denote.RawPtr.{◌+ₚ◌}
 use Rattle.std.proofs.RawLayout.{as_written}
 use Rattle.lhm_ring.proofs.lists.Apart.{IsFresh, IsApart-added}
-use Rattle.lhm_ring.proofs.memory.BlockValues.{pointer_made, knows, fresh}
-use Rattle.lhm_ring.proofs.memory.Blocks.{written, block, Rejoins, block_cut}
-use Rattle.lhm_ring.proofs.memory.Memory.{Three, args, RL, RK, RV, lo, Nr, Pl, Land, Cells, word-pointer, alone, value_in, three_rows}
+use Rattle.lhm_ring.proofs.memory.BlockValues.{pointer_made, fresh}
+use Rattle.lhm_ring.proofs.memory.PlaceCut.{written, block, Rejoins, block_cut}
+use Rattle.lhm_ring.proofs.memory.NodeFields.{Three, args, RL, RK, RV, lo, Nr, Pl, Land, Cells, word-pointer, alone, value_in, three_rows}
 use Rattle.lhm_ring.proofs.memory.Places.{row-last, is_block-row_first, is_block-row_last, AreBlocks-row_other, row-next, block_ptr-in_block}
 use Rattle.lhm_ring.proofs.memory.ChunkPlaces.{land_cut, land_glue, Places, places_cut}
 use Rattle.lhm_ring.specs.contracts.nodes.Nodes.add.{ended, clauses}

@@ -10,14 +10,14 @@ use Rattle.lhm_ring.proofs.memory.Steps.{owns, types_at, plain, Ptr, block_ptr, 
 use Rattle.lhm_ring.proofs.memory.Steps.{heard, opens, closes, Stays, stay_dropped, stay_ref}
 use Rattle.lhm_ring.proofs.memory.Steps.{walk_of, Goes-ref, word, word-Good, proved_at, leaves}
 use Rattle.lhm_ring.proofs.memory.Steps.{arith, id⊢, ty_array, froom, sem, flt_l, flt_i, RattleType}
-use Rattle.lhm_ring.proofs.memory.Steps.{in_a_block, one_below, snd∗, via, states, self_left}
-use Rattle.lhm_ring.proofs.memory.Steps.{tokens, states_also, runs_with}
+use Rattle.lhm_ring.proofs.memory.Steps.{in_a_block, one_below, snd∗, via, knows, states_also}
+use Rattle.lhm_ring.proofs.memory.Steps.{tokens, states, runs_with, self_left}
 use Rattle.std.proofs.Common.{Bool}
-use Rattle.lhm_ring.proofs.memory.BlockValues.{block_val, block_Good, BlockType, block_known, pointer_made, knows}
-use Rattle.lhm_ring.proofs.memory.Blocks.{written, block}
+use Rattle.lhm_ring.proofs.memory.BlockValues.{block_val, block_Good, BlockType, block_known, pointer_made}
+use Rattle.lhm_ring.proofs.memory.PlaceCut.{written, block}
 use Rattle.lhm_ring.proofs.memory.ChunkPlaces.{land_cut, land_glue, Places, Chunks, places_glue, chunks_glue, array_cut}
 use Rattle.lhm_ring.proofs.lists.ListFacts.{AllByRecursion-append}
-use Rattle.lhm_ring.proofs.memory.Memory.{Three, args, RL, RK, RV, Nr, Pl, Land, Cells, three_rows}
+use Rattle.lhm_ring.proofs.memory.NodeFields.{Three, args, RL, RK, RV, Nr, Pl, Land, Cells, three_rows}
 use Rattle.lhm_ring.proofs.memory.Places.{AreBlocks-row, row-more, nat_lt-near}
 use Rattle.std.proofs.alloc.Calls.{Goes-blank}
 use Rattle.std.specs.contracts.alloc.Global as heap

@@ -14,13 +14,13 @@ use Rattle.lhm_ring.proofs.memory.Steps.{in_a_block, vunit, unit_lit, Some, neve
 use Rattle.lhm_ring.proofs.memory.Steps.{runs_with, self_left, states_also, tokens}
 use types.Run.{init, assigns}
 use Rattle.lhm_ring.proofs.rings.Lookup.{Cut, Cut-links_at}
-use Rattle.lhm_ring.proofs.memory.Memory.{Three, args, RL, RK, RV, ko, vo, Node, Nr, Pl, One, Land, Cells, word-pointer, alone, body_uninit, value_in, three_rows}
+use Rattle.lhm_ring.proofs.memory.NodeFields.{Three, args, RL, RK, RV, ko, vo, Node, Nr, Pl, One, Land, Cells, word-pointer, alone, body_uninit, value_in, three_rows}
 use Rattle.lhm_ring.specs.contracts.nodes.Nodes.fill.{ended, clauses}
 use Rattle.lhm_ring.specs.contracts.nodes.Nodes.fill.Key.{name as #self}
 use Rattle.lhm_ring.proofs.nodes.Nodes.fill.Statement.{statement}
 use Rattle.lhm_ring.proofs.nodes.Nodes.fill.Code as code
 use Rattle.lhm_ring.specs.Nodes.{cell, IsAt, change, with_body, links_address, body_owns}
-use Rattle.lhm_ring.proofs.memory.NodeTaken.{node_out, node_in, Others, changed_at}
+use Rattle.lhm_ring.proofs.memory.NodeTaken.{node_cut, node_glue, Others, changed_at}
 
 pub fill_spec : {M : Type 1} → statement M
 fill_spec 𝓤 𝓛 𝓜 𝓡 wired L K V LL LK LV =
@@ -41,7 +41,7 @@ fill_spec 𝓤 𝓛 𝓜 𝓡 wired L K V LL LK LV =
     alloc_all ! (λ l. pass_all ! refl ((tt, tt), (word-Good [] p, (got.1.1, (had.1.1, tt)))) $ let Ev = env fn.locals l in
     let k : Cut h.cells p = Cut-links_at h.cells p asked.0 asked.1 in let f : Node E = k.split.node in let f' : Node E → Node E = λ c. cell c.at c.links (Some (new, val)) in
     opens ! tt N {h = h} rb ro (λ vs. move ! (1 ∷ []) $ fsplit ! $ move ! (1 ∷ []) $
-    use1 𝓛 (‵ (One E f) ⊛ ‵ (Others 𝓛 E (Land E h) k)) (node_out 𝓛 E (Land E h) k) $ split ! $ fsplit ! $
+    use1 𝓛 (‵ (One E f) ⊛ ‵ (Others 𝓛 E (Land E h) k)) (node_cut 𝓛 E (Land E h) k) $ split ! $ fsplit ! $
     in_a_block ! f.at (λ q. lies_at R full_share (links_address R S W q) f.links) (id⊢ 𝓤 (never 𝓤)) (λ pb po e.
     rewrite ! 0 (λ (q : Ptr). ‵ (lies_at R full_share (links_address R S W q) f.links)) (sym e) refl $ move ! (1 ∷ []) $ fsplit ! $
     rewrite ! 0 (λ (q : Ptr). ‵ (body_owns R S W q f.body)) e refl $ use1 𝓛 (‵ (froom (layout K) pb (po + ko E)) ⊛ ‵ (froom (layout V) pb (po + vo E))) (body_uninit 𝓛 E pb po f.body) $ split ! $
@@ -54,7 +54,7 @@ fill_spec 𝓤 𝓛 𝓜 𝓡 wired L K V LL LK LV =
     move ! (0 ∷ 11 ∷ []) $ use2 𝓛 (‵ (part_at W full_share val pb (po + vo E))) (value_in 2 V LV 𝓛 val pb (po + vo E) w) $
     move ! (1 ∷ 10 ∷ []) $ use2 𝓛 (‵ (part_at S full_share new pb (po + ko E))) (value_in 1 K LK 𝓛 new pb (po + ko E) v) $ fjoin ! $
     rewrite ! 0 (λ (q : Ptr). ‵ (body_owns R S W q (Some (new, val)))) (sym e) refl $ fjoin ! $ move ! (1 ∷ 0 ∷ []) $ fjoin ! $
-    use2 𝓛 (‵ (Cells E (Land E h) (change p f' h.cells))) (node_in 𝓛 E (Land E h) k f') $
+    use2 𝓛 (‵ (Cells E (Land E h) (change p f' h.cells))) (node_glue 𝓛 E (Land E h) k f') $
     let h' : N.Denot = changed_at h p f' (λ c. refl) in
     move ! (1 ∷ 0 ∷ []) $ fjoin ! $ move ! (1 ∷ 0 ∷ []) $ closes ! tt N h' vs rb ro $
     self_left ! 3 are.0.0 $ move ! (1 ∷ 2 ∷ []) $ join ! $

@@ -23,8 +23,8 @@ use Rattle.lhm_ring.specs.declared.content_loan.ContentLoan.{ContentLoan}
 use Rattle.lhm_ring.specs.contracts.content_loan.ContentLoan as S-type
 use Rattle.lhm_ring.proofs.value_loan.Hole.TheLaws as H-laws
 use Rattle.lhm_ring.proofs.nodes.Nodes.TheLaws as N-laws
-use Rattle.lhm_ring.proofs.memory.Memory.{Three, args, RL, RK, RV, Nr, Land, marker, three_rows}
-use Rattle.lhm_ring.proofs.memory.ContentsSplitOff.{HS, HW, stems, cells_out, Fields, LentBodies, fields_made, back, BareRow, Holed, Shares-bare, ContentMarker, content_loan_made, Anchor, anchor_made, three_made}
+use Rattle.lhm_ring.proofs.memory.NodeFields.{Three, args, RL, RK, RV, Nr, Land, marker, three_rows}
+use Rattle.lhm_ring.proofs.memory.ContentsSplitOff.{HS, HW, stems, contents_cut, Fields, LentBodies, fields_made, back, BareRow, Holed, Shares-bare, ContentMarker, content_loan_made, Anchor, anchor_made, three_made}
 use Rattle.lhm_ring.specs.contracts.nodes.Nodes.lend_bodies.{ended, clauses}
 use Rattle.lhm_ring.specs.contracts.nodes.Nodes.lend_bodies.Key.{name as #self}
 use Rattle.lhm_ring.proofs.nodes.Nodes.lend_bodies.Statement.{statement}
@@ -50,7 +50,7 @@ lend_bodies_spec 𝓤 𝓛 𝓜 𝓡 wired L K V LL LK LV =
     runs_with ! 𝓣.C 𝓣.Λ fn Post (vptr rb ro ∷ []) (λ i. are.0.0 i ++ []) $
     alloc_all ! (λ l. pass_all ! refl ((tt, tt), tt) $ let Ev = env fn.locals l in
     opens ! tt N {h = h} rb ro (λ vs. move ! (1 ∷ []) $ fsplit ! $ move ! (1 ∷ []) $
-    use1 𝓛 (‵ (bodies R S W ps os) ⊛ ‵ (stems R S W (Land E h) h.cells)) (cells_out E 𝓛 (Land E h) h.cells) $ split ! $
+    use1 𝓛 (‵ (bodies R S W ps os) ⊛ ‵ (stems R S W (Land E h) h.cells)) (contents_cut E 𝓛 (Land E h) h.cells) $ split ! $
     -- [the bodies; the stems; the marker; its cell; the open borrow, in three; the other tokens]
     move ! (2 ∷ 1 ∷ 3 ∷ []) $ use3 𝓛 (‵ Fs) (fields_made E 𝓛 h rb ro vs) $
     name_new ! tt (Bs.coded.code os) (λ δ.

@@ -2,7 +2,7 @@
 use Rattle.std.proofs.Common.{◌≡◌, refl, ap, Some}
 use Rattle.lhm_ring.proofs.memory.FieldSeen.{links_lent, field_seen}
 use Rattle.lhm_ring.proofs.rings.Lookup.{Cut-links_at}
-use Rattle.lhm_ring.proofs.memory.Memory.{Three, three_rows, lo}
+use Rattle.lhm_ring.proofs.memory.NodeFields.{Three, three_rows, lo}
 use Rattle.lhm_ring.specs.contracts.nodes.Nodes.links.Key.{name as #self}
 use Rattle.lhm_ring.proofs.nodes.Nodes.links.Statement.{statement}
 use Rattle.lhm_ring.proofs.nodes.Nodes.links.Code as code

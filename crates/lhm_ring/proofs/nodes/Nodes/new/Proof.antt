@@ -7,7 +7,7 @@ use Rattle.lhm_ring.proofs.memory.Steps.{nothing, Stays, walk_of, proved_at, lea
 use Rattle.lhm_ring.proofs.memory.Steps.{states}
 use Rattle.lhm_ring.proofs.lists.Apart.{IsApart-none}
 use Rattle.lhm_ring.proofs.memory.Places.{places-none}
-use Rattle.lhm_ring.proofs.memory.Memory.{Three, args, RL, RK, RV, Nr, Marker, marker, marker_made, three_rows}
+use Rattle.lhm_ring.proofs.memory.NodeFields.{Three, args, RL, RK, RV, Nr, Marker, marker, marker_made, three_rows}
 use Rattle.lhm_ring.specs.contracts.nodes.Nodes.new.{ended, clauses}
 use Rattle.lhm_ring.specs.contracts.nodes.Nodes.new.Key.{name as #self}
 use Rattle.lhm_ring.proofs.nodes.Nodes.new.Statement.{statement}

@@ -14,13 +14,13 @@ use Rattle.lhm_ring.proofs.memory.Steps.{vunit, unit_lit, never, part_at, tokens
 use Rattle.lhm_ring.proofs.memory.Steps.{self_left, states, states_also}
 use types.Run.{store}
 use Rattle.lhm_ring.proofs.rings.Lookup.{Cut, Cut-links_at}
-use Rattle.lhm_ring.proofs.memory.Memory.{Three, args, RL, RK, RV, lo, Node, Nr, Pl, One, Land, Cells, word-pointer, alone, value_in, three_rows, value_known}
+use Rattle.lhm_ring.proofs.memory.NodeFields.{Three, args, RL, RK, RV, lo, Node, Nr, Pl, One, Land, Cells, word-pointer, alone, value_in, three_rows, value_known}
 use Rattle.lhm_ring.specs.contracts.nodes.Nodes.set_links.{ended, clauses}
 use Rattle.lhm_ring.specs.contracts.nodes.Nodes.set_links.Key.{name as #self}
 use Rattle.lhm_ring.proofs.nodes.Nodes.set_links.Statement.{statement}
 use Rattle.lhm_ring.proofs.nodes.Nodes.set_links.Code as code
 use Rattle.lhm_ring.specs.Nodes.{cell, IsAt, change, with_links, links_address}
-use Rattle.lhm_ring.proofs.memory.NodeTaken.{node_out, node_in, Others, changed_at}
+use Rattle.lhm_ring.proofs.memory.NodeTaken.{node_cut, node_glue, Others, changed_at}
 
 pub set_links_spec : {M : Type 1} → statement M
 set_links_spec 𝓤 𝓛 𝓜 𝓡 wired L K V LL LK LV =
@@ -40,7 +40,7 @@ set_links_spec 𝓤 𝓛 𝓜 𝓡 wired L K V LL LK LV =
     alloc_all ! (λ l. pass_all ! refl ((tt, tt), (word-Good [] p, (got.1.1, tt))) $ let Ev = env fn.locals l in
     let k : Cut h.cells p = Cut-links_at h.cells p asked.0 asked.1 in let f : Node E = k.split.node in let f' : Node E → Node E = λ c. cell c.at new c.body in
     opens ! tt N {h = h} rb ro (λ vs. move ! (1 ∷ []) $ fsplit ! $ move ! (1 ∷ []) $
-    use1 𝓛 (‵ (One E f) ⊛ ‵ (Others 𝓛 E (Land E h) k)) (node_out 𝓛 E (Land E h) k) $ split ! $ fsplit ! $
+    use1 𝓛 (‵ (One E f) ⊛ ‵ (Others 𝓛 E (Land E h) k)) (node_cut 𝓛 E (Land E h) k) $ split ! $ fsplit ! $
     in_a_block ! f.at (λ q. lies_at R full_share (links_address R S W q) f.links) (id⊢ 𝓤 (never 𝓤)) (λ pb po e.
     value_known 0 L LL f.links pb (po + lo E) ! (λ u _. move ! (1 ∷ []) $ drop ! $
     -- [the old links; the rest of the node; the other nodes; the marker; its cell; the open borrow,
@@ -50,7 +50,7 @@ set_links_spec 𝓤 𝓛 𝓜 𝓡 wired L K V LL LK LV =
     exec ! 𝓣.C 𝓣.Λ Ev (after 2 fn.body) (at_ret Ev Post) $ sets ! (of_opd ! (unit_lit !)) refl (tt, tt) $
     move ! (0 ∷ 8 ∷ []) $ use2 𝓛 (‵ (part_at R full_share new pb (po + lo E))) (value_in 0 L LL 𝓛 new pb (po + lo E) v) $
     rewrite ! 0 (λ (q : Ptr). ‵ (lies_at R full_share (links_address R S W q) new)) (sym e) refl $ fjoin ! $
-    use2 𝓛 (‵ (Cells E (Land E h) (change p f' h.cells))) (node_in 𝓛 E (Land E h) k f') $
+    use2 𝓛 (‵ (Cells E (Land E h) (change p f' h.cells))) (node_glue 𝓛 E (Land E h) k f') $
     let h' : N.Denot = changed_at h p f' (λ c. refl) in
     move ! (1 ∷ 0 ∷ []) $ fjoin ! $ move ! (1 ∷ 0 ∷ []) $ closes ! tt N h' vs rb ro $
     self_left ! 2 are.0.0 $ move ! (1 ∷ 2 ∷ []) $ join ! $

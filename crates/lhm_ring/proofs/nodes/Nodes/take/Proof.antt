@@ -15,14 +15,14 @@ use Rattle.lhm_ring.proofs.memory.Steps.{given, learn, Good, states, self_left, 
 use Rattle.lhm_ring.proofs.memory.Steps.{runs_with}
 use types.Run.{load, look}
 use Rattle.lhm_ring.proofs.rings.Lookup.{Cut, Cut-held, held_here}
-use Rattle.lhm_ring.proofs.memory.Memory.{Three, args, RL, RK, RV, ko, vo, Node, Nr, Pl, One, Land, Cells, word-pointer, two_made, value_out, three_rows, value_known, forgotten}
+use Rattle.lhm_ring.proofs.memory.NodeFields.{Three, args, RL, RK, RV, ko, vo, Node, Nr, Pl, One, Land, Cells, word-pointer, two_made, value_out, three_rows, value_known, forgotten}
 use denote.Struct.Struct.{as_fields}
 use Rattle.lhm_ring.specs.contracts.nodes.Nodes.take.{ended, clauses}
 use Rattle.lhm_ring.specs.contracts.nodes.Nodes.take.Key.{name as #self}
 use Rattle.lhm_ring.proofs.nodes.Nodes.take.Statement.{statement}
 use Rattle.lhm_ring.proofs.nodes.Nodes.take.Code as code
 use Rattle.lhm_ring.specs.Nodes.{cell, Holds, change, body_at, with_body, links_address, body_owns}
-use Rattle.lhm_ring.proofs.memory.NodeTaken.{node_out, node_in, Others, changed_at}
+use Rattle.lhm_ring.proofs.memory.NodeTaken.{node_cut, node_glue, Others, changed_at}
 
 pub take_spec : {M : Type 1} → statement M
 take_spec 𝓤 𝓛 𝓜 𝓡 wired L K V LL LK LV =
@@ -40,7 +40,7 @@ take_spec 𝓤 𝓛 𝓜 𝓡 wired L K V LL LK LV =
     alloc_all ! (λ l. pass_all ! refl ((tt, tt), (word-Good [] p, tt)) $ let Ev = env fn.locals l in
     let x = asked.0 in let k : Cut h.cells p = Cut-held h.cells p x asked.1 in let f : Node E = k.split.node in let f' : Node E → Node E = λ c. cell c.at c.links None in
     opens ! tt N {h = h} rb ro (λ vs. move ! (1 ∷ []) $ fsplit ! $ move ! (1 ∷ []) $
-    use1 𝓛 (‵ (One E f) ⊛ ‵ (Others 𝓛 E (Land E h) k)) (node_out 𝓛 E (Land E h) k) $ split ! $ fsplit ! $
+    use1 𝓛 (‵ (One E f) ⊛ ‵ (Others 𝓛 E (Land E h) k)) (node_cut 𝓛 E (Land E h) k) $ split ! $ fsplit ! $
     in_a_block ! f.at (λ q. lies_at R full_share (links_address R S W q) f.links) (id⊢ 𝓤 (never 𝓤)) (λ pb po e.
     rewrite ! 0 (λ (q : Ptr). ‵ (lies_at R full_share (links_address R S W q) f.links)) (sym e) refl $ move ! (1 ∷ []) $ fsplit ! $
     rewrite ! 0 (λ (z : Ptr × Option (K.Denot × V.Denot)). ‵ (body_owns R S W z.0 z.1)) (λ i. (e i, (held_here k asked.1) i)) refl $ fsplit ! $
@@ -57,7 +57,7 @@ take_spec 𝓤 𝓛 𝓜 𝓡 wired L K V LL LK LV =
     forgotten ! (layout K) pb (po + ko E) u $ fjoin ! $
     -- [the memory of both; what the value owns; what the key owns; the deed; the links; ..]
     rewrite ! 0 (λ (q : Ptr). ‵ (body_owns R S W q None)) (sym e) refl $ move ! (0 ∷ 3 ∷ []) $ fjoin ! $ move ! (3 ∷ 0 ∷ []) $ fjoin ! $ move ! (0 ∷ 3 ∷ []) $
-    use2 𝓛 (‵ (Cells E (Land E h) (change p f' h.cells))) (node_in 𝓛 E (Land E h) k f') $
+    use2 𝓛 (‵ (Cells E (Land E h) (change p f' h.cells))) (node_glue 𝓛 E (Land E h) k f') $
     let h' : N.Denot = changed_at h p f' (λ c. refl) in
     -- [the nodes; what the value owns; what the key owns; the marker; its cell; the open borrow, in
     -- three; the other tokens]

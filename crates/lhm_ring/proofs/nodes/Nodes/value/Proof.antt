@@ -2,7 +2,7 @@
 use Rattle.std.proofs.Common.{refl}
 use Rattle.lhm_ring.proofs.memory.FieldSeen.{value_lent, field_seen}
 use Rattle.lhm_ring.proofs.rings.Lookup.{Cut-held, held_here}
-use Rattle.lhm_ring.proofs.memory.Memory.{Three, three_rows, vo}
+use Rattle.lhm_ring.proofs.memory.NodeFields.{Three, three_rows, vo}
 use Rattle.lhm_ring.specs.contracts.nodes.Nodes.value.Key.{name as #self}
 use Rattle.lhm_ring.proofs.nodes.Nodes.value.Statement.{statement}
 use Rattle.lhm_ring.proofs.nodes.Nodes.value.Code as code

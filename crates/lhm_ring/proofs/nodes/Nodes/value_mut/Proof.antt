@@ -18,14 +18,14 @@ use denote.Memory.{cell_at}
 use denote.Ref.{MutRef}
 use denote.Follow.{Part, lends_Part}
 use Rattle.lhm_ring.proofs.rings.Lookup.{Cut, Cut-held, held_here}
-use Rattle.lhm_ring.proofs.memory.Memory.{Three, args, RL, RK, RV, vo, Node, Nr, Marker, Pl, One, Land, Cells, word-pointer, three_rows}
+use Rattle.lhm_ring.proofs.memory.NodeFields.{Three, args, RL, RK, RV, vo, Node, Nr, Marker, Pl, One, Land, Cells, word-pointer, three_rows}
 use Rattle.lhm_ring.specs.contracts.nodes.Nodes.value_mut.{ended, clauses}
 use Rattle.lhm_ring.specs.contracts.nodes.Nodes.value_mut.Key.{name as #self}
 use Rattle.lhm_ring.proofs.nodes.Nodes.value_mut.Statement.{statement}
 use Rattle.lhm_ring.proofs.nodes.Nodes.value_mut.Code as code
 use Rattle.lhm_ring.specs.RingAfterLoan.{holding, value_set}
 use Rattle.lhm_ring.specs.Nodes.{cell, change, Holds, IsValue, body_at, links_address, key_address, value_address, body_owns, deed_owns}
-use Rattle.lhm_ring.proofs.memory.NodeTaken.{node_out, node_in, Others}
+use Rattle.lhm_ring.proofs.memory.NodeTaken.{node_cut, node_glue, Others}
 
 module _ (E : Three) {M : Type 1} {𝓤 : Ura M} (𝓛 : Logic 𝓤) (h : (Nr E).Denot) (p : Ptr) (k : Cut h.cells p) (x : E.key.Denot × E.value.Denot) (vs : List Val) (rb ro pb po : ℕ) where
   -- all but the value
@@ -41,7 +41,7 @@ module _ (E : Three) {M : Type 1} {𝓤 : Ura M} (𝓛 : Logic 𝓤) (h : (Nr E)
       move ! (1 ∷ []) $ fsplit3 ! $ move ! (2 ∷ []) $ fsplit3 ! $ move ! (2 ∷ []) $ fsplit ! $
       -- [the marker; its cell; the deed; the other nodes; the links; the key; the value]
       move ! (5 ∷ 6 ∷ []) $ fjoin ! $ rewrite ! 0 (λ (o : Option (E.key.Denot × E.value.Denot)). ‵ (body_owns (RL E) (RK E) (RV E) f.at (value_set w o))) (sym is) refl $ move ! (0 ∷ 3 ∷ []) $ fjoin ! $ move ! (4 ∷ 0 ∷ []) $ fjoin ! $ move ! (0 ∷ 3 ∷ []) $
-      use2 𝓛 (‵ (Cells E (Land E h) (change p f' h.cells))) (node_in 𝓛 E (Land E h) k f') $
+      use2 𝓛 (‵ (Cells E (Land E h) (change p f' h.cells))) (node_glue 𝓛 E (Land E h) k f') $
       move ! (1 ∷ 0 ∷ []) $ fjoin ! $ move ! (1 ∷ 0 ∷ []) $ fjoin ! $ fpack ! (List Val) (λ us. fsep (cell_at full_share (Nr E).mir us rb ro) ((Nr E).own_val (holding h p w) us)) vs $ done !
 
 pub value_mut_spec : {M : Type 1} → statement M
@@ -62,7 +62,7 @@ value_mut_spec 𝓤 𝓛 𝓜 𝓡 wired L K V LL LK LV =
     alloc_all ! (λ l. pass_all ! refl ((tt, tt), (word-Good [] p, tt)) $ let Ev = env fn.locals l in
     let x = asked.0 in let k : Cut h.cells p = Cut-held h.cells p x asked.1 in let f : Node E = k.split.node in
     opens ! tt N {h = h} rb ro (λ vs. move ! (1 ∷ []) $ fsplit ! $ move ! (1 ∷ []) $
-    use1 𝓛 (‵ (One E f) ⊛ ‵ (Others 𝓛 E (Land E h) k)) (node_out 𝓛 E (Land E h) k) $ split ! $ fsplit ! $
+    use1 𝓛 (‵ (One E f) ⊛ ‵ (Others 𝓛 E (Land E h) k)) (node_cut 𝓛 E (Land E h) k) $ split ! $ fsplit ! $
     in_a_block ! f.at (λ q. lies_at R full_share (links_address R S W q) f.links) (id⊢ 𝓤 (never 𝓤)) (λ pb po e.
     rewrite ! 0 (λ (q : Ptr). ‵ (lies_at R full_share (links_address R S W q) f.links)) (sym e) refl $ move ! (1 ∷ []) $ fsplit ! $
     rewrite ! 0 (λ (z : Option (K.Denot × V.Denot)). ‵ (body_owns R S W f.at z)) (held_here k asked.1) refl $ fsplit ! $ move ! (1 ∷ []) $

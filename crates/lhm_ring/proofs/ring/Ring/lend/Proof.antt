@@ -47,7 +47,7 @@ use Rattle.lhm_ring.specs.contracts.ring.Ring.TheInside as I-type
 use Rattle.lhm_ring.proofs.ring.Links.TheLaws as links-laws
 use Rattle.lhm_ring.proofs.value_loan.Hole.TheLaws as H-laws
 use Rattle.lhm_ring.proofs.ring.Ring.TheInside.TheLaws as I-laws
-use Rattle.lhm_ring.proofs.memory.Memory.{marker, struct_made}
+use Rattle.lhm_ring.proofs.memory.NodeFields.{marker, struct_made}
 use Rattle.lhm_ring.proofs.memory.ValuesReplaced.{run_of}
 use Rattle.lhm_ring.proofs.memory.ValuesSplitOff.{Inside, Full, parts, thin_shape, Thinned, thinned, Sharable-unvalued, at_pointers, vals, kept_by, entries, As, Vals, named as listed_as, view, good, Fields, ring_cut, back, placed, placed-own, ordered_back, AreLent-entries, LoanMarker, loan_made}
 use Rattle.lhm_ring.specs.contracts.ring.Ring.lend.{ended, clauses}

@@ -19,8 +19,8 @@ use types.Follow.{takes_two, after₂}
 use types.SemTy.{Body as Borrowed}
 use Rattle.lhm_ring.specs.declared.value_loan.ValueLoan.{ValueLoan}
 use Rattle.lhm_ring.specs.contracts.value_loan.ValueLoan as L-type
-use Rattle.lhm_ring.proofs.memory.ValueTaken.{CutValue, CutValue-some, run_cut, run_mend}
-use Rattle.lhm_ring.proofs.memory.Memory.{Three, args, RL, RK, RV, vo, Nr, Pl, word-pointer, three_rows}
+use Rattle.lhm_ring.proofs.memory.ValueTaken.{CutValue, CutValue-some, run_cut, run_glue}
+use Rattle.lhm_ring.proofs.memory.NodeFields.{Three, args, RL, RK, RV, vo, Nr, Pl, word-pointer, three_rows}
 use Rattle.lhm_ring.specs.contracts.value_loan.ValueLoan.take.{ended, clauses}
 use Rattle.lhm_ring.specs.contracts.value_loan.ValueLoan.take.Key.{name as #self}
 use Rattle.lhm_ring.proofs.value_loan.ValueLoan.take.Statement.{statement}
@@ -59,7 +59,7 @@ take_spec 𝓤 𝓛 𝓜 𝓡 wired L K V LL LK LV =
     nothing ! $ move ! (3 ∷ 4 ∷ 5 ∷ 1 ∷ 2 ∷ 0 ∷ []) $ group ! 6 $
     use1 𝓛 (later (some (λ (γs : ℕ × ℕ). (‵ (fobs γs.0 (W.coded.code v)) ⊛ ‵ (fbor κ (Borrowed (mem W) pb (po + vo E) γs.0))) ⊛ (‵ (fobs γs.1 ((coded_list W.coded).code (ofs (xs ++ ys)))) ⊛ ‵ (fbor κ (Borrowed (Spread W (ats (xs ++ ys))) 0 0 γs.1)))
     ⊛ ‵ (flft κ q) ⊛ ‵ (after₂ (Spread W (ats all)) (mem W) (Spread W (ats (xs ++ ys))) d.name γs.0 γs.1 F))))
-    (takes_two 𝓛 (Spread W (ats all)) (mem W) (Spread W (ats (xs ++ ys))) F κ q 0 0 pb (po + vo E) 0 0 d.name (emp 𝓤) (run_mend 𝓛 W f p pb (po + vo E) at xs v ys) ((coded_list W.coded).code (ofs all)) ((coded_list W.coded).code (ofs all)) v (ofs (xs ++ ys))) $ await ! tt $ pick ! (λ γs. split3 ! $
+    (takes_two 𝓛 (Spread W (ats all)) (mem W) (Spread W (ats (xs ++ ys))) F κ q 0 0 pb (po + vo E) 0 0 d.name (emp 𝓤) (run_glue 𝓛 W f p pb (po + vo E) at xs v ys) ((coded_list W.coded).code (ofs all)) ((coded_list W.coded).code (ofs all)) v (ofs (xs ++ ys))) $ await ! tt $ pick ! (λ γs. split3 ! $
     let r : Val = vptr pb (po + vo E) in let out : MutBor V.Denot = record { ref_ptr = (pb, po + vo E); ghost_name = γs.0; now = v } in
     let new : ValueLoan L.Denot K.Denot V.Denot = record { marker = d.marker; name = γs.1; tie = d.tie; run = without_value p d.run } in
     split ! $ feq_i ! (List Val) (r ∷ []) (r ∷ []) refl $ fjoin3 ! $ move ! (1 ∷ []) $ split ! $ fjoin ! $ move ! (2 ∷ []) $ split ! $

@@ -1,7 +1,7 @@
 -- What the proofs by hand over the nodes share. Assumes `Logic`.
 --     Three, args          the rows of the links, of the keys and of the values, and what a call
 --     passes for them
---     word_made, marker_made      a value of one pointer, and one of no bytes
+--     marker_made      a value of no bytes
 --     value_known, forgotten      a value in memory is machine memory and what it owns, and
 --     memory that holds nothing
 use Rattle.lhm_ring.proofs.memory.Steps.{◌≡◌, ℕ, ◌+◌, List, [], ◌∷◌, ◌++◌, refl, ap, ◌∙◌, None}

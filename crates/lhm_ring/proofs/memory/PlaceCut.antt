@@ -1,5 +1,4 @@
--- What `allocate` and `deallocate` share: a block is cut into its three fields, and made of them
--- again. Assumes `Logic`.
+-- A place for a node is cut into its three fields, and made of them again. Assumes `Logic`.
 use Rattle.lhm_ring.proofs.memory.Steps.{ℕ, ◌+◌, [], ◌∷◌, SProp, ftrue, ◌∵◌, ‵, raw, ◌⊛◌, ◌$◌, ! }
 use Rattle.lhm_ring.proofs.memory.Steps.{qed, by, move, keep, use1, use2, split, fsplit3, layout}
 use Rattle.lhm_ring.proofs.memory.Steps.{Ptr, block_ptr, room_for, froom, sem, Fml, fjoin3, nothing}
@@ -11,7 +10,7 @@ use prog.Model.{rooms_at}
 use types.Kit.{assume}
 use Rattle.std.proofs.RawLayout.{as_written}
 use Rattle.lhm_ring.specs.contracts.nodes.Node as N-type
-use Rattle.lhm_ring.proofs.memory.Memory.{Three, RL, RK, RV, lo, ko, vo}
+use Rattle.lhm_ring.proofs.memory.NodeFields.{Three, RL, RK, RV, lo, ko, vo}
 use Rattle.lhm_ring.specs.Nodes.{node_type, fields_own}
 
 module _ (E : Three) where
