@@ -1,3 +1,4 @@
+pub mod BlockPointers
 pub mod BlockValues
 pub mod BodiesChanged
 pub mod ChunkPlaces
@@ -5,7 +6,6 @@ pub mod ContentTaken
 pub mod ContentsSplitOff
 pub mod FieldSeen
 pub mod NodeAdded
-pub mod NodeBlocks
 pub mod NodeFields
 pub mod NodeTaken
 pub mod NodesWithBodies

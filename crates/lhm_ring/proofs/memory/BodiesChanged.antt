@@ -5,7 +5,7 @@ use denote.RawPtr.{Ptr}
 use Rattle.lhm_ring.specs.declared.ring.Links.{Links}
 use Rattle.lhm_ring.specs.declared.pointer.Link.{Link}
 use Rattle.lhm_ring.proofs.lists.Apart.{same_ptr-equal}
-use Rattle.lhm_ring.proofs.lists.ListFacts.{AllByRecursion-always}
+use Rattle.lhm_ring.proofs.lists.ForAll.{AllByRecursion-always}
 use Rattle.lhm_ring.proofs.lists.Options.{none_some}
 use Rattle.lhm_ring.proofs.rings.SameNodes.{SameLink, RingOk-same}
 use Rattle.lhm_ring.specs.Nodes.{Cell, cell, cell_at, same_ptr, pointers, links_of, body_of, links_at, body_at}

@@ -7,7 +7,7 @@ use Rattle.std.proofs.ptr.Rows.{one_more, next}
 use denote.RawPtr.{Ptr, block_ptr, null_ptr, ◌+ₚ◌}
 use lib.ListN.{length-map}
 use Rattle.lhm_ring.specs.declared.nodes.Chunk.{Chunk}
-use Rattle.lhm_ring.proofs.lists.ListFacts.{AllByRecursion-left, AllByRecursion-right}
+use Rattle.lhm_ring.proofs.lists.ForAll.{AllByRecursion-left, AllByRecursion-right}
 use Rattle.lhm_ring.specs.Nodes.{Cell, pointers, is_block, AreBlocks, row, places}
 use Rattle.lhm_ring.specs.Links.{extent, place_count, IsLaid}
 

@@ -8,7 +8,7 @@ use Rattle.lhm_ring.specs.declared.pointer.Link.{Link}
 use Rattle.lhm_ring.proofs.lists.Apart.{IsFresh, same_ptr-equal, same_ptr-reflexive, IsApart-none, IsFresh-head, IsApart-tail, IsApart-added}
 use Rattle.lhm_ring.proofs.rings.Contents.{at-content_of, content_of-holds, pair-content_of}
 use Rattle.lhm_ring.proofs.rings.HeldPointers.{AllByRecursion-followed, IsApart-ring_list}
-use Rattle.lhm_ring.proofs.lists.ListFacts.{AllByRecursion-map}
+use Rattle.lhm_ring.proofs.lists.ForAll.{AllByRecursion-map}
 use Rattle.lhm_ring.proofs.lists.Options.{none_some}
 use Rattle.lhm_ring.proofs.memory.BodiesChanged.{rebodied, pointers-rebodied, links_at-rebodied, body_at-rebodied, RingOk-rebodied}
 use Rattle.lhm_ring.proofs.rings.SameNodes.{follow-same}

@@ -16,7 +16,7 @@ use Rattle.std.proofs.Common.{Bool}
 use Rattle.lhm_ring.proofs.memory.BlockValues.{block_val, block_Good, BlockType, block_known, pointer_made}
 use Rattle.lhm_ring.proofs.memory.PlaceCut.{written, block}
 use Rattle.lhm_ring.proofs.memory.ChunkPlaces.{land_cut, land_glue, Places, Chunks, places_glue, chunks_glue, array_cut}
-use Rattle.lhm_ring.proofs.lists.ListFacts.{AllByRecursion-append}
+use Rattle.lhm_ring.proofs.lists.ForAll.{AllByRecursion-append}
 use Rattle.lhm_ring.proofs.memory.NodeFields.{Three, args, RL, RK, RV, Nr, Pl, Land, Cells, three_rows}
 use Rattle.lhm_ring.proofs.memory.Places.{AreBlocks-row, row-more, nat_lt-near}
 use Rattle.std.proofs.alloc.Calls.{Goes-blank}

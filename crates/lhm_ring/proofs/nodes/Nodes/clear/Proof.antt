@@ -10,7 +10,7 @@ use Rattle.lhm_ring.proofs.memory.Steps.{runs_with, states_also, tokens, states,
 use Rattle.std.proofs.lemmas.List.{append-nil}
 use Rattle.lhm_ring.proofs.lists.Apart.{IsApart-none}
 use Rattle.lhm_ring.proofs.memory.ChunkPlaces.{land_cut, Places, places_glue, cells_emptied}
-use Rattle.lhm_ring.proofs.lists.ListFacts.{AllByRecursion-append}
+use Rattle.lhm_ring.proofs.lists.ForAll.{AllByRecursion-append}
 use Rattle.lhm_ring.proofs.memory.NodeFields.{Three, args, RL, RK, RV, Nr, Land, Cells, three_rows}
 use Rattle.lhm_ring.specs.contracts.nodes.Nodes.clear.{ended, clauses}
 use Rattle.lhm_ring.specs.contracts.nodes.Nodes.clear.Key.{name as #self}

@@ -17,7 +17,7 @@ use Rattle.lhm_ring.proofs.lists.Apart.{IsApart-none}
 use Rattle.lhm_ring.proofs.memory.BlockValues.{block_val, block_Good, BlockType, BlockFields, block_made}
 use Rattle.lhm_ring.proofs.memory.PlaceCut.{written, block}
 use Rattle.lhm_ring.proofs.memory.ChunkPlaces.{Places, Chunks, places_cut, chunks_cut, array_glue}
-use Rattle.lhm_ring.proofs.lists.ListFacts.{AllByRecursion-right}
+use Rattle.lhm_ring.proofs.lists.ForAll.{AllByRecursion-right}
 use Rattle.lhm_ring.proofs.memory.NodeFields.{Three, args, RL, RK, RV, Node, Nr, Pl, Land, Cells, word-pointer, three_rows}
 use Rattle.lhm_ring.proofs.memory.Places.{places-last, block_ptr-in_block}
 use Rattle.std.specs.contracts.alloc.Global as heap

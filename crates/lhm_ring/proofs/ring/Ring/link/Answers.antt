@@ -1,5 +1,5 @@
 use Rattle.std.proofs.Common.{◌∙◌}
-use Rattle.lhm_ring.proofs.memory.NodeBlocks.{AreBlocks-held}
+use Rattle.lhm_ring.proofs.memory.BlockPointers.{AreBlocks-held}
 use Rattle.lhm_ring.proofs.rings.RingCells.{IsAt-in_nodes, links_at-ring_cells}
 use Rattle.lhm_ring.proofs.rings.ReadAtPosition.{IsAt-held, link_of-held}
 use Rattle.lhm_ring.proofs.ring.Ring.link.Goals as goal
