@@ -1,8 +1,9 @@
 pub mod Apart
-pub mod ListFacts
+pub mod ForAll
+pub mod Last
+pub mod LinkRows
 pub mod Options
 pub mod Rearranged
 pub mod RearrangedCounts
 pub mod RearrangedFilters
 pub mod Results
-pub mod Rows

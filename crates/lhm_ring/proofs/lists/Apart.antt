@@ -4,7 +4,7 @@ use lib.Dec.{eqb_refl}
 use denote.RawPtr.{Ptr, block_ptr, null_ptr}
 use Rattle.std.specs.Prelude.{List, [], ◌∷◌}
 use Rattle.std.specs.List.{AllByRecursion, IsDistinct}
-use Rattle.lhm_ring.proofs.lists.ListFacts.{AllByRecursion-append, AllByRecursion-left, AllByRecursion-right, AllByRecursion-removed}
+use Rattle.lhm_ring.proofs.lists.ForAll.{AllByRecursion-append, AllByRecursion-left, AllByRecursion-right, AllByRecursion-removed}
 use Rattle.lhm_ring.specs.Nodes.{same_ptr, IsApart}
 
 true-of : (b : Bool) → T b → b ≡ true

@@ -1,29 +1,22 @@
 -- An empty block by value, and a pointer. Assumes `Logic`.
-use Rattle.std.proofs.Common.{◌≡◌, ℕ, ◌+◌, ◌<◌, true, false, List, [], ◌∷◌, ◌++◌, refl, ◌∙◌, subst, arith, T}
-use seplogic.Ra.Ura.{Ura}
-use base.Fraction.{full_share}
-use mir.Val.{Val, vstruct, vcons, vnil, of_list, has_ty, WT}
+use Rattle.lhm_ring.proofs.memory.Steps.{◌≡◌, ℕ, ◌+◌, ◌<◌, true, List, [], ◌∷◌, ◌++◌, refl, ◌∙◌}
+use Rattle.lhm_ring.proofs.memory.Steps.{subst, T, full_share, Val, SProp, size, ◌∵◌, ‵, ◌⊛◌, ◌$◌}
+use Rattle.lhm_ring.proofs.memory.Steps.{ !, qed, by, move, keep, drop, use1, split, fsplit, feq_l}
+use Rattle.lhm_ring.proofs.memory.Steps.{fact, layout, Ptr, block_ptr, ptr_val, lies_at, room_for}
+use Rattle.lhm_ring.proofs.memory.Steps.{word, arith, froom, sem, RattleType, via, emp, never}
+use Rattle.lhm_ring.proofs.memory.Steps.{part_at, Fml, vstruct, vcons, vnil, pick, some, fat, given}
+use Rattle.lhm_ring.proofs.memory.Steps.{learn, Good, ent, Ura, Logic, sep, false, has_ty, WT}
+use Rattle.lhm_ring.proofs.memory.Steps.{Struct, fact_i, never_e, fst∗, Item, Goal, fpick, null_ptr}
+use Rattle.lhm_ring.proofs.memory.Steps.{makes_shadow, shape, knows}
+use mir.Val.{of_list}
 use mir.Syntax.{ty_ptr, ty_struct, tcons, tnil}
 use mir.Raw.{raw as bare}
-use base.Logic.{SProp, ent, sep, emp, via, never, never_e, fst∗}
-use base.Fml.{Fml, fat, froom}
-use prog.Memory.{size}
 use prog.Model.{Model}
-use types.Logic.{Logic, sem}
-use contract.Monad.{fact, fact_i, fact_use}
-use types.Kit.{Item, Goal, Seq, mean, prop, ‵, raw, some, given, ◌⊛◌, ◌$◌, ◌∵◌, !, qed, by, move, keep, drop, use1, use2, pick, learn, split, fsplit, fpick, feq_l, done}
-use denote.RattleType.{RattleType}
-use denote.Memory.{part_at}
-use denote.Param.{layout}
-use denote.RawPtr.{Ptr, block_ptr, null_ptr, ptr_val, lies_at, room_for}
-use denote.Shadow.{makes_shadow}
-use denote.Struct.Struct.{Struct}
-use denote.Struct.Owning.{shape}
+use types.Kit.{Seq}
 use Rattle.std.specs.declared.alloc.Allocator.{Ghosts}
-use Rattle.std.proofs.RcSteps.{Good, word}
 use Rattle.lhm_ring.specs.contracts.nodes.Block as R-type
 use Rattle.lhm_ring.proofs.lists.Apart.{same_ptr-equal, IsFresh}
-use Rattle.lhm_ring.proofs.memory.Memory.{Three, RL, RK, RV, lo, Node, Pl, Cells, value_out}
+use Rattle.lhm_ring.proofs.memory.NodeFields.{Three, RL, RK, RV, lo, Node, Pl, Cells, value_out}
 use Rattle.lhm_ring.specs.Nodes.{same_ptr, pointers, block_owns, links_address}
 
 abbrev pub block_val : Ptr → Val
@@ -51,13 +44,6 @@ module _ (T' Z : RattleType) (g : Ghosts Z.Denot) where
     pub block_known : K → (r : BlockType.Denot) (vs : List Val) → (vs ≡ block_val r.ptr ∷ [] → Seq K 𝓛 (‵ (block_owns T' (g.dealloc_token r.alloc) r.ptr r.count) ∷ Γ) G) → Seq K 𝓛 (‵ (BlockType.own_val r vs) ∷ Γ) G
     block_known t r vs k = fsplit t $ fpick t (λ vss. fsplit t $ feq_l t (λ ev. fsplit t $ feq_l t (λ ep. fsplit t $ fpick t (λ uss. fsplit t $ feq_l t (λ em. drop t $ drop t $
         k (ev ∙ (λ i. vstruct (of_list (ep i ++ (em i ++ []))) ∷ [])))))))
-
-module _ {M : Type 1} {𝓤 : Ura M} {𝓛 : Logic 𝓤} {K : Type 0} {Γ : List (Item 𝓤)} {G : Goal 𝓤 𝓛.H} where
-  -- a fact that two entries show is learned, and they stay
-  pub knows : K → {i j : Item 𝓤} (φ : Type 0) → ent 𝓤 (sep 𝓤 (mean 𝓛 i) (mean 𝓛 j)) (fact 𝓤 φ) → (φ → Seq K 𝓛 (i ∷ j ∷ Γ) G) → Seq K 𝓛 (i ∷ j ∷ Γ) G
-  knows t {i} {j} φ h k =
-      let shown : Seq K 𝓛 (i ∷ j ∷ Γ) (prop (fact 𝓤 φ)) = use2 𝓛 (raw (fact 𝓤 φ)) h $ keep t (0 ∷ []) $ done t in
-      record { prf = fact_use 𝓤 φ shown.prf (λ x. (k x).prf) }
 
 -- uninitialised links that take space lie apart from every node
 module _ {M : Type 1} {𝓤 : Ura M} (𝓛 : Logic 𝓤) (𝓜 : Model 𝓤 𝓛.H) (E : Three) (sized : 0 < size (layout E.links)) where

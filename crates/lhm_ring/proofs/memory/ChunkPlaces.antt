@@ -1,19 +1,14 @@
 -- The land of nodes is taken apart from them, and the memory of a chunk is cut into places, and
 -- made of them again. Assumes `Logic`.
-use Rattle.std.proofs.Common.{ℕ, zero, suc, ◌+◌, List, [], ◌∷◌, ◌++◌, refl, sym}
-use seplogic.Ra.Ura.{Ura}
-use mir.Syntax.{ty_array}
-use base.Fraction.{full_share}
-use base.Logic.{ent, sep, never, id⊢}
-use base.Fml.{Fml, ftrue, froom}
-use types.Logic.{Logic, sem}
-use types.Kit.{‵, ◌⊛◌, ◌$◌, ◌∵◌, !, qed, by, move, keep, drop, use1, use2, split, rewrite, fsplit, fjoin, fjoin3, done}
-use denote.Param.{layout}
-use denote.RawPtr.{Ptr, block_ptr, room_for, lies_at, in_a_block}
-use denote.Steps.{nothing}
-use Rattle.std.proofs.RawLayout.{as_raw}
-use Rattle.lhm_ring.proofs.memory.Blocks.{block, block_glue}
-use Rattle.lhm_ring.proofs.memory.Memory.{Three, RL, RK, RV, lo, ko, vo, Node, One, Cells, uninit_left, body_uninit}
+use Rattle.lhm_ring.proofs.memory.Steps.{ℕ, ◌+◌, List, [], ◌∷◌, ◌++◌, refl, sym, full_share, ftrue}
+use Rattle.lhm_ring.proofs.memory.Steps.{◌∵◌, ‵, ◌⊛◌, ◌$◌, !, qed, by, move, keep, drop, use1, use2}
+use Rattle.lhm_ring.proofs.memory.Steps.{split, fsplit, fjoin, rewrite, layout, Ptr, block_ptr}
+use Rattle.lhm_ring.proofs.memory.Steps.{lies_at, room_for, id⊢, ty_array, froom, sem, in_a_block}
+use Rattle.lhm_ring.proofs.memory.Steps.{never, Fml, fjoin3, nothing, ent, Ura, Logic, sep, done}
+use Rattle.lhm_ring.proofs.memory.Steps.{as_raw}
+use Rattle.std.proofs.Common.{zero, suc}
+use Rattle.lhm_ring.proofs.memory.PlaceCut.{block, block_glue}
+use Rattle.lhm_ring.proofs.memory.NodeFields.{Three, RL, RK, RV, lo, ko, vo, Node, One, Cells, uninit_left, body_uninit}
 use Rattle.lhm_ring.specs.Nodes.{pointers, row, links_address, body_owns, deed_owns, node_bytes, places_own, chunk_owns, chunks_own}
 
 module _ {M : Type 1} {𝓤 : Ura M} (𝓛 : Logic 𝓤) (E : Three) where

@@ -1,13 +1,11 @@
 -- What one node holds is moved out of what is lent. Assumes `Logic`.
-use Rattle.std.proofs.Common.{◌≡◌, true, false, cond, List, [], ◌∷◌, ◌++◌, Option, Some, None, refl, sym, ap, ◌∙◌}
-use seplogic.Ra.Ura.{Ura}
-use base.Logic.{ent, sep, id⊢}
-use base.Fml.{Fml}
-use types.Logic.{Logic, sem}
-use types.Kit.{‵, ◌⊛◌, ◌$◌, ◌∵◌, !, qed, move, use1, use2, split, fsplit, fjoin, done}
-use denote.RawPtr.{Ptr}
+use Rattle.lhm_ring.proofs.memory.Steps.{◌≡◌, true, List, [], ◌∷◌, ◌++◌, refl, sym, ap, ◌∙◌, None}
+use Rattle.lhm_ring.proofs.memory.Steps.{◌∵◌, ‵, ◌⊛◌, ◌$◌, !, qed, move, use1, use2, split, fsplit}
+use Rattle.lhm_ring.proofs.memory.Steps.{fjoin, Ptr, id⊢, sem, Some, Fml, Option, ent, Ura, Logic}
+use Rattle.lhm_ring.proofs.memory.Steps.{sep, done, false}
+use Rattle.std.proofs.Common.{cond}
 use Rattle.lhm_ring.proofs.lists.Apart.{same_ptr-equal}
-use Rattle.lhm_ring.proofs.memory.Memory.{Three, RL, RK, RV}
+use Rattle.lhm_ring.proofs.memory.NodeFields.{Three, RL, RK, RV}
 use Rattle.lhm_ring.proofs.lists.Options.{none_some}
 use Rattle.lhm_ring.specs.Nodes.{same_ptr, body_owns}
 use Rattle.lhm_ring.specs.ContentLoan.{body_in, without_body, bodies, firsts, seconds}

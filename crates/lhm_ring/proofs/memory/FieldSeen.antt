@@ -2,45 +2,35 @@
 --     links_lent, key_lent, value_lent      what a lent node lends of each field
 --     Seen, field_seen      what is found at the pointer passed, and that a function of this code
 --     then meets its contract
-use Rattle.std.proofs.Common.{◌≡◌, ℕ, ◌+◌, List, [], ◌∷◌, ◌++◌, refl, sym, ap, ◌∙◌, subst, Some, Option}
+use Rattle.lhm_ring.proofs.memory.Steps.{◌≡◌, ℕ, ◌+◌, List, [], ◌∷◌, ◌++◌, refl, sym, ap, ◌∙◌}
+use Rattle.lhm_ring.proofs.memory.Steps.{subst, Val, vptr, inst_fn, SProp, flft, ◌∵◌, ‵, raw, ◌⊛◌}
+use Rattle.lhm_ring.proofs.memory.Steps.{at_ret, ◌$◌, !, qed, by, move, keep, drop, use1, split}
+use Rattle.lhm_ring.proofs.memory.Steps.{join, fsplit, fjoin, rewrite, feq_i, stop, fld, addr}
+use Rattle.lhm_ring.proofs.memory.Steps.{of_opd, first, blocks, exec, returns, alloc_all, pass_all}
+use Rattle.lhm_ring.proofs.memory.Steps.{free_all, look_at, get, get_in, through, sets, sets_last}
+use Rattle.lhm_ring.proofs.memory.Steps.{is, env, sub, whole, tables, fact, yes, owns, types_at}
+use Rattle.lhm_ring.proofs.memory.Steps.{plain, Ptr, ptr_val, heard, Stays, stay_dropped, walk_of}
+use Rattle.lhm_ring.proofs.memory.Steps.{Goes-dropped, after, word, word-Good, proved_at, leaves}
+use Rattle.lhm_ring.proofs.memory.Steps.{id⊢, sem, RattleType, in_a_block, snd∗, via, Some, never}
+use Rattle.lhm_ring.proofs.memory.Steps.{Option, named, Lft, ◌⊑◌, hide, Bor, enter, ent, Ura, Logic}
+use Rattle.lhm_ring.proofs.memory.Steps.{sep, Ty, RefOf, Args, param, fst∗, lent_at, WpFn, suffices}
+use Rattle.lhm_ring.proofs.memory.Steps.{states, all_spent, tokens}
 use mathlib.Core.Option.{some}
-use seplogic.Ra.Ura.{Ura}
-use mir.Syntax.{Sym, Ty, ty_ptr, ty_ref, named, imm, erased, local, value_local, seq, assign, block, return, place, field, deref, copy, rv_opd, addr_of, Args, Fn, Callee}
-use mir.MapTy.{inst_fn}
-use mir.Val.{Val, vptr}
-use base.Logic.{SProp, ent, sep, emp, never, id⊢, via, fst∗, snd∗}
-use base.Fml.{Fml, Lft, ftrue, fsep, flft}
+use mir.Syntax.{Sym, ty_ptr, ty_ref, imm, erased, local, value_local, seq, assign, block, return, place, field, deref, copy, rv_opd, addr_of, Fn, Callee}
 use prog.Memory.{field_of}
 use prog.Model.{Model}
-use prog.Wp.{WpFn, Closed}
-use types.Logic.{Logic, sem}
-use types.Kit.{◌∵◌, ‵, raw, ◌⊛◌, at_ret, ◌$◌, !, qed, by, move, keep, drop, use0, use1, split, join, fsplit, fjoin, suffices, rewrite, feq_i}
-use types.Run.{stop, fld, addr, of_opd, first, blocks, exec, returns, enter}
-use types.ByLocal.{alloc_all, pass_all, free_all, look_at, get, get_in, through, sets, sets_last, is, env}
-use types.Part.{sub, whole}
-use contract.BorrowLft.{◌⊑◌}
+use prog.Wp.{Closed}
 use contract.Lifetimes.{lft_at}
-use contract.Running.{Running, MachineTables, tables}
-use contract.Monad.{fact, fact_i}
-use denote.Exit.{yes}
-use denote.Param.{param}
-use denote.RattleType.{RattleType, owns}
+use contract.Running.{Running, MachineTables}
 use denote.Memory.{shared_of}
-use denote.Signature.{types_at, plain}
-use denote.RawPtr.{Ptr, ptr_val, in_a_block, ◌+ₚ◌}
-use denote.Ref.{Bor}
-use denote.Builtin.{RefOf}
-use denote.Opens.{hide, unhide}
-use denote.Steps.{nothing, heard}
-use denote.Struct.Lending.{lent_at}
+use denote.RawPtr.{◌+ₚ◌}
+use denote.Opens.{unhide}
 use denote.Triple.Clauses.{Ended, Clauses, closing}
 use denote.Triple.Spec.{Meets}
-use denote.Triple.Walked.{Stays, stay_dropped, walk_of, Goes-dropped}
-use Rattle.std.proofs.VecSteps.Shapes.{after}
-use Rattle.std.proofs.RcSteps.{word, word_ty, word-Good}
-use Rattle.std.proofs.raw_atomic.Walks.{proved_at, leaves}
+use Rattle.std.proofs.RcSteps.{word_ty}
 use Rattle.lhm_ring.proofs.rings.Lookup.{Cut}
-use Rattle.lhm_ring.proofs.memory.Memory.{Three, args, RL, RK, RV, lo, ko, vo, Node, Nr, Pl, word-pointer, cell_seen}
+use Rattle.lhm_ring.proofs.memory.NodeFields.{Three, args, RL, RK, RV, lo, ko, vo, Node, Nr, Pl, word-pointer}
+use Rattle.lhm_ring.proofs.memory.NodeTaken.{cell_seen}
 use Rattle.lhm_ring.specs.contracts.nodes.Nodes.key as key
 use Rattle.lhm_ring.specs.Nodes.{body_lent, cell_lent, cells_lent}
 
@@ -114,8 +104,7 @@ module _ (E : Three) (i : ℕ) (Y : RattleType) (off : ℕ) {M : Type 1} {𝓤 :
       proved_at 𝓛 ended hs clauses 𝓜 𝓡 (Goes-dropped 𝓛 4 Self yes (λ κs x f. refl), (Goes-dropped 𝓛 4 (plain (λ _. Pl)) yes (λ κs x f. refl), tt)) (f (args E)) (inst_fn (args E) fn) closed (λ y are.
       let κs = y.0.0 in let qs = y.0.1 in let a = y.0.3 in let vss = y.0.4 in let Post : Val → SProp 𝓤 = (walk_of 𝓛 ended hs clauses).post y in
       let κ : Lft = κs.0 in let rb : ℕ = a.0.ref_ptr.0 in let ro : ℕ = a.0.ref_ptr.1 in let h : N.Denot = a.0.now in let p : Ptr = a.1.0.ptr in
-      let others : Fml = fsep (flft κs.1.0 qs.1.0) (fsep (flft κs.1.1.0 qs.1.1.0) (fsep (flft κs.1.1.1.0 qs.1.1.1.0) ftrue)) in
-      qed 𝓛 (((‵ (flft κs.0 qs.0) ⊛ ‵ others) ⊛ ‵ (owns (types_at ended.signature.params κs) a vss)) ∷ raw (fact 𝓤 _) ∷ raw (fact 𝓤 _) ∷ raw (fact 𝓤 _) ∷ raw (fact 𝓤 (Asked h.cells p)) ∷ []) ∵
+      qed 𝓛 (((‵ (flft κs.0 qs.0) ⊛ ‵ (tokens 3 κs.1 qs.1)) ⊛ ‵ (owns (types_at ended.signature.params κs) a vss)) ∷ raw (fact 𝓤 _) ∷ raw (fact 𝓤 _) ∷ raw (fact 𝓤 _) ∷ raw (fact 𝓤 (Asked h.cells p)) ∷ []) ∵
       keep ! (4 ∷ 0 ∷ []) $ heard ! (Asked h.cells p) (λ asked. split ! $ split ! $ move ! (2 ∷ []) $ fsplit ! $ fsplit ! $ keep ! (1 ∷ 3 ∷ 4 ∷ []) $
       let us : List Val = vptr rb ro ∷ word p ∷ [] in let fn' : Fn = with_code (inst_fn (args E) fn) ρ σ ν δ k in let Run : Fn → List Val → SProp 𝓤 = λ e ws. WpFn 𝓤 H 𝓣.C 𝓣.Λ e ws Post in
       suffices ! (Run fn' us) (subst (λ (P : SProp 𝓤). ent 𝓤 (Run fn' us) P) (sym (λ j. Run (code j) (are.0.0 j ++ (word-pointer a.1.0 vss.1.0 are.1.0 j ++ [])))) (id⊢ 𝓤 (Run fn' us))) $
@@ -128,6 +117,5 @@ module _ (E : Three) (i : ℕ) (Y : RattleType) (off : ℕ) {M : Type 1} {𝓤 :
       sets ! (is ! (of_opd ! (get_in ! (fld ! refl (stop !)) (sub ! 0 refl (whole !)))) (ap ptr_val (sym s.cut.split.at_is ∙ e))) refl (tt, tt) $ first ! $ blocks ! $
       sets_last ! (addr ! (through ! refl (fld ! lies (stop !)))) refl (tt, tt) $ exec ! 𝓣.C 𝓣.Λ Ev (after 2 fn'.body) (at_ret Ev Post) $ sets ! (of_opd ! (get ! refl)) refl (tt, tt) $
       feq_i ! (List Val) (r ∷ []) (r ∷ []) refl $ fjoin ! $ move ! (1 ∷ 2 ∷ []) $ join ! $
-      let Said : Type 0 = Told x h.cells p in use0 𝓛 (raw (fact 𝓤 Said)) (fact_i 𝓤 Said (emp 𝓤) s.told) $
-      nothing ! $ nothing ! $ fjoin ! $ nothing ! $ fjoin ! $
+      states ! (Told x h.cells p) s.told $ all_spent ! 2 $
       returns ! (look_at ! 0 refl) $ free_all ! refl $ keep ! (2 ∷ 0 ∷ 3 ∷ 1 ∷ []) $ by ! (leaves 𝓛 ended hs clauses y r out (tt, (tt, tt)) (tt, (tt, tt)))))))

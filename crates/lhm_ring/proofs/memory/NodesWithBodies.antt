@@ -1,15 +1,13 @@
 -- Nodes with the bodies of a run in them, and nodes with none.
-use Rattle.std.proofs.Common.{◌≡◌, ℕ, true, false, cond, List, [], ◌∷◌, length, suc, Option, Some, None, refl, sym, ap, ◌∙◌, subst, arith}
+use Rattle.std.proofs.Common.{◌≡◌, ℕ, true, false, cond, List, [], ◌∷◌, length, Option, Some, None, refl, sym, ap, ◌∙◌, subst, arith}
 use Rattle.std.specs.List.{AllByRecursion}
 use denote.RawPtr.{Ptr}
 use Rattle.lhm_ring.specs.declared.ring.Links.{Links}
 use Rattle.lhm_ring.specs.declared.pointer.Link.{Link}
 use Rattle.lhm_ring.proofs.lists.Apart.{IsFresh, same_ptr-equal, same_ptr-reflexive, same_ptr-symmetric, IsFresh-head, IsApart-tail}
-use Rattle.lhm_ring.proofs.lists.ListFacts.{AllByRecursion-always}
-use Rattle.lhm_ring.proofs.lists.Options.{none_some}
-use Rattle.lhm_ring.proofs.rings.SameNodes.{SameLink, RingOk-same}
-use Rattle.lhm_ring.specs.Nodes.{Cell, cell, cell_at, same_ptr, IsApart, pointers, links_of, body_of, links_at, body_at, change, with_body}
-use Rattle.lhm_ring.specs.Links.{next_of, prev_of, link_of, has_links, HasContent, RingOk}
+use Rattle.lhm_ring.proofs.memory.BodiesChanged.{links_at-rebodied, body_at-rebodied, RingOk-rebodied}
+use Rattle.lhm_ring.specs.Nodes.{Cell, cell, same_ptr, IsApart, pointers, links_at, body_at, change, with_body}
+use Rattle.lhm_ring.specs.Links.{HasContent, RingOk}
 use Rattle.lhm_ring.specs.ContentLoan.{body_in, without_body, bodies_of, with_bodies, cleared}
 
 module _ {B : Type 0} where
@@ -34,22 +32,11 @@ module _ {B : Type 0} where
 
 module _ {L B : Type 0} where
   pub links_at-with_bodies : (cs : List (Cell L B)) (run : List (Ptr × Option B)) (q : Ptr) → links_at (with_bodies cs run) q ≡ links_at cs q
-  unfolding cell_at
-  links_at-with_bodies [] run q = refl
-  links_at-with_bodies (c ∷ cs) run q =
-      elim (same_ptr c.at q) as (λ y. links_of (cond y (Some (cell c.at c.links (body_in run c.at))) (cell_at (with_bodies cs run) q)) ≡ links_of (cond y (Some c) (cell_at cs q))) [
-        | true ↦ refl
-        | false ↦ links_at-with_bodies cs run q
-      ]
+  links_at-with_bodies cs run = links_at-rebodied (λ p _. body_in run p) cs
 
-  pub body_at-with_bodies : (cs : List (Cell L B)) (run : List (Ptr × Option B)) (q : Ptr) (l : L) → links_at cs q ≡ Some l → body_at (with_bodies cs run) q ≡ body_in run q
-  unfolding cell_at
-  body_at-with_bodies [] run q l e = absurd (none_some l e)
-  body_at-with_bodies (c ∷ cs) run q l e =
-      (elim (same_ptr c.at q) as (λ y. same_ptr c.at q ≡ y → links_of (cond y (Some c) (cell_at cs q)) ≡ Some l → body_of (cond y (Some (cell c.at c.links (body_in run c.at))) (cell_at (with_bodies cs run) q)) ≡ body_in run q) [
-        | true ↦ λ t _. ap (body_in run) (same_ptr-equal c.at q t)
-        | false ↦ λ n h. body_at-with_bodies cs run q l h
-      ]) refl e
+  pub body_at-with_bodies : (cs : List (Cell L B)) (run : List (Ptr × Option B)) (q : Ptr) (l : L) → links_at cs q ≡ Some l
+      → body_at (with_bodies cs run) q ≡ body_in run q
+  body_at-with_bodies cs run = body_at-rebodied (λ p _. body_in run p) cs
 
   with_bodies-skip : (p : Ptr) (o : Option B) (run : List (Ptr × Option B)) (cs : List (Cell L B)) → IsFresh p (pointers cs) → with_bodies cs ((p, o) ∷ run) ≡ with_bodies cs run
   unfolding body_in
@@ -78,19 +65,6 @@ module _ {L B : Type 0} where
         | false ↦ λ n. λ i. cell c.at c.links (body_in-without_body_other p c.at run (same_ptr-symmetric p c.at ∙ n) i) ∷ with_bodies-without_body p run cs (IsApart-tail c.at (pointers cs) d) i
       ]) refl
 
-  pub links_at-cleared : (cs : List (Cell L B)) (q : Ptr) → links_at (cleared cs) q ≡ links_at cs q
-  unfolding cell_at
-  links_at-cleared [] q = refl
-  links_at-cleared (c ∷ cs) q =
-      elim (same_ptr c.at q) as (λ y. links_of (cond y (Some (cell c.at c.links None)) (cell_at (cleared cs) q)) ≡ links_of (cond y (Some c) (cell_at cs q))) [
-        | true ↦ refl
-        | false ↦ links_at-cleared cs q
-      ]
-
-  length-cleared : (cs : List (Cell L B)) → length (cleared cs) ≡ length cs
-  length-cleared [] = refl
-  length-cleared (c ∷ cs) = ap suc (length-cleared cs)
-
 AllByRecursion-none : {X : Type 0} (P : X → Type 0) (xs : List X) → length xs ≡ 0 → AllByRecursion P xs
 AllByRecursion-none P [] e = tt
 AllByRecursion-none P (x ∷ xs) e = absurd (omega arith)
@@ -98,6 +72,4 @@ AllByRecursion-none P (x ∷ xs) e = absurd (omega arith)
 module _ {B : Type 0} (cs : List (Cell Links B)) where
   pub RingOk-cleared : (spare : Link) (n m : ℕ) → n ≡ 0 → RingOk cs spare n m → RingOk (cleared cs) spare n m
   RingOk-cleared spare n m e ok =
-      let same = links_at-cleared cs in
-      RingOk-same cs (cleared cs) (λ q. ap next_of (same q)) (λ q. ap prev_of (same q)) (λ q. ap has_links (same q)) (length-cleared cs) spare n m ok
-      (AllByRecursion-none (HasContent (cleared cs)) ok.held_pointers (ok.held_count ∙ e)) (AllByRecursion-always (SameLink cs (cleared cs)) (λ q. ap link_of (same q)) ok.spare_pointers)
+      RingOk-rebodied (λ _ _. None) cs spare n m ok (AllByRecursion-none (HasContent (cleared cs)) ok.held_pointers (ok.held_count ∙ e))

@@ -4,7 +4,7 @@ use Rattle.std.specs.List.{AllByRecursion}
 use denote.RawPtr.{Ptr}
 use Rattle.lhm_ring.specs.declared.ring.Links.{Links}
 use Rattle.lhm_ring.proofs.lists.Apart.{IsFresh, same_ptr-equal}
-use Rattle.lhm_ring.proofs.lists.ListFacts.{AllByRecursion-map}
+use Rattle.lhm_ring.proofs.lists.ForAll.{AllByRecursion-map}
 use Rattle.lhm_ring.proofs.rings.SameNodes.{SameLink, Chained-same}
 use Rattle.lhm_ring.proofs.rings.Writes.{cell_at-change, cell_at-change_other, length-change, reader-with_links_same, links_of-seen}
 use Rattle.lhm_ring.specs.Nodes.{Cell, cell, same_ptr, cell_at, links_of, body_of, links_at, body_at, with_links, with_body}
@@ -17,29 +17,36 @@ pub record OnlyAt {B : Type 0} (cs ds : List (Cell Links B)) (p : Ptr) : Type 0 
   pub count : length ds ≡ length cs
 
 module _ {B : Type 0} where
-  pub links_at-with_body : (p : Ptr) (b : Option B) (cs : List (Cell Links B)) (la : Links) → links_at cs p ≡ Some la → (q : Ptr) → links_at (with_body p b cs) q ≡ links_at cs q
-  links_at-with_body p b cs la e q =
-      let c = links_of-seen (cell_at cs p) la e in
-      (elim (same_ptr p q) as (λ y. same_ptr p q ≡ y → links_at (with_body p b cs) q ≡ links_at cs q) [
-        | true ↦ λ t. subst (λ r. links_at (with_body p b cs) r ≡ links_at cs r) (same_ptr-equal p q t) (ap links_of (cell_at-change p (λ c. cell c.at c.links b) (λ c. refl) cs c.0 c.1) ∙ sym (ap links_of c.1))
-        | false ↦ λ n. ap links_of (cell_at-change_other p (λ c. cell c.at c.links b) (λ c. refl) q n cs)
-      ]) refl
+  module _ (p : Ptr) (b : Option B) (cs : List (Cell Links B)) (la : Links) (e : links_at cs p ≡ Some la) where
+    there_is : (c : Cell Links B) × (cell_at cs p ≡ Some c)
+    there_is = links_of-seen (cell_at cs p) la e
 
-  pub body_at-with_body : (p : Ptr) (b : Option B) (cs : List (Cell Links B)) (la : Links) → links_at cs p ≡ Some la → body_at (with_body p b cs) p ≡ b
-  body_at-with_body p b cs la e = let c = links_of-seen (cell_at cs p) la e in ap body_of (cell_at-change p (λ c. cell c.at c.links b) (λ c. refl) cs c.0 c.1)
+    abbrev put : Cell Links B → Cell Links B
+    put c = cell c.at c.links b
+
+    pub links_at-with_body : (q : Ptr) → links_at (with_body p b cs) q ≡ links_at cs q
+    links_at-with_body q =
+        (elim (same_ptr p q) as (λ y. same_ptr p q ≡ y → links_at (with_body p b cs) q ≡ links_at cs q) [
+          | true ↦ λ t. subst (λ r. links_at (with_body p b cs) r ≡ links_at cs r) (same_ptr-equal p q t)
+              (ap links_of (cell_at-change p put (λ c. refl) cs there_is.0 there_is.1) ∙ sym (ap links_of there_is.1))
+          | false ↦ λ n. ap links_of (cell_at-change_other p put (λ c. refl) q n cs)
+        ]) refl
+
+    pub body_at-with_body : body_at (with_body p b cs) p ≡ b
+    body_at-with_body = ap body_of (cell_at-change p put (λ c. refl) cs there_is.0 there_is.1)
+
+    pub OnlyAt-with_body : OnlyAt cs (with_body p b cs) p
+    OnlyAt-with_body = record {
+      other = λ q n. cell_at-change_other p put (λ c. refl) q n cs;
+      there = λ q. ap has_links (links_at-with_body q);
+      count = length-change p put cs;
+    }
 
   pub OnlyAt-with_links : (p : Ptr) (l : Links) (cs : List (Cell Links B)) (la : Links) → links_at cs p ≡ Some la → OnlyAt cs (with_links p l cs) p
   OnlyAt-with_links p l cs la e = record {
     other = λ q n. cell_at-change_other p (λ c. cell c.at l c.body) (λ c. refl) q n cs;
     there = reader-with_links_same p l has_links cs la e refl;
     count = length-change p (λ c. cell c.at l c.body) cs;
-  }
-
-  pub OnlyAt-with_body : (p : Ptr) (b : Option B) (cs : List (Cell Links B)) (la : Links) → links_at cs p ≡ Some la → OnlyAt cs (with_body p b cs) p
-  OnlyAt-with_body p b cs la e = record {
-    other = λ q n. cell_at-change_other p (λ c. cell c.at c.links b) (λ c. refl) q n cs;
-    there = λ q. ap has_links (links_at-with_body p b cs la e q);
-    count = length-change p (λ c. cell c.at c.links b) cs;
   }
 
   pub OnlyAt-both : (cs ds es : List (Cell Links B)) (p : Ptr) → OnlyAt cs ds p → OnlyAt ds es p → OnlyAt cs es p

@@ -7,7 +7,7 @@ use Rattle.std.proofs.ptr.Rows.{one_more, next}
 use denote.RawPtr.{Ptr, block_ptr, null_ptr, ◌+ₚ◌}
 use lib.ListN.{length-map}
 use Rattle.lhm_ring.specs.declared.nodes.Chunk.{Chunk}
-use Rattle.lhm_ring.proofs.lists.ListFacts.{AllByRecursion-left, AllByRecursion-right}
+use Rattle.lhm_ring.proofs.lists.ForAll.{AllByRecursion-left, AllByRecursion-right}
 use Rattle.lhm_ring.specs.Nodes.{Cell, pointers, is_block, AreBlocks, row, places}
 use Rattle.lhm_ring.specs.Links.{extent, place_count, IsLaid}
 
@@ -19,13 +19,16 @@ pub row-none : (p : Ptr) (s n : ℕ) → n ≡ 0 → row p s n ≡ []
 unfolding row
 row-none p s n e = ap (row p s) e
 
+suc-times : (n s : ℕ) → suc n * s ≡ n * s + s
+suc-times n s = ap (λ (k : ℕ). k * s) (sym (one_more n)) ∙ next n s
+
 -- the place behind n others
 plus-zero : (p : Ptr) (s : ℕ) → p +ₚ (0 * s) ≡ p
 plus-zero (block_ptr b o) s = ap (λ (k : ℕ). block_ptr b k) (omega arith)
 plus-zero null_ptr s = refl
 
 plus-plus : (p : Ptr) (s n : ℕ) → (p +ₚ s) +ₚ (n * s) ≡ p +ₚ (suc n * s)
-plus-plus (block_ptr b o) s n = let more : suc n * s ≡ n * s + s = ap (λ (k : ℕ). k * s) (sym (one_more n)) ∙ next n s in ap (λ (k : ℕ). block_ptr b k) (omega (arith, more))
+plus-plus (block_ptr b o) s n = ap (λ (k : ℕ). block_ptr b k) (omega (arith, suc-times n s))
 plus-plus null_ptr s n = refl
 
 row-suc : (p : Ptr) (s n : ℕ) → row p s (suc n) ≡ row p s n ++ (p +ₚ (n * s)) ∷ []
@@ -54,31 +57,29 @@ pub AreBlocks-row : (b o s n : ℕ) → o + n * s < 2 ^ 63 → AreBlocks (row (b
 unfolding row
 AreBlocks-row b o s zero h = tt
 AreBlocks-row b o s (suc n) h =
-    let more : suc n * s ≡ n * s + s = ap (λ (k : ℕ). k * s) (sym (one_more n)) ∙ next n s in
-    (nat_lt-near o (omega (arith, more)), AreBlocks-row b (o + s) s n (omega (arith, more)))
+    (nat_lt-near o (omega (arith, suc-times n s)), AreBlocks-row b (o + s) s n (omega (arith, suc-times n s)))
 
 is_block-first : (p : Ptr) (s n : ℕ) → AreBlocks (row p s (suc n)) → is_block p ≡ true
 unfolding row
 is_block-first p s n all = all.0
 
--- the first of the places
-pub is_block-row_first : (p : Ptr) (s n : ℕ) (us : List Ptr) → us ≡ row p s (n + 1) → AreBlocks us → is_block p ≡ true
-is_block-row_first p s n us e all = let one : n + 1 ≡ suc n = omega arith in is_block-first p s n (subst AreBlocks (e ∙ ap (row p s) one) all)
+-- n places and one more, us
+module _ (p : Ptr) (s n : ℕ) (us : List Ptr) (e : us ≡ row p s (n + 1)) where
+  last_too : us ≡ row p s n ++ (p +ₚ (n * s)) ∷ []
+  last_too = e ∙ row-last p s n
 
--- the last of the places, and the others
-pub is_block-row_last : (p : Ptr) (s n : ℕ) (us : List Ptr) → us ≡ row p s (n + 1) → AreBlocks us → is_block (p +ₚ (n * s)) ≡ true
-is_block-row_last p s n us e all = (AllByRecursion-right (λ q. is_block q ≡ true) (row p s n) ((p +ₚ (n * s)) ∷ []) (subst AreBlocks (e ∙ row-last p s n) all)).0
+  pub is_block-row_first : AreBlocks us → is_block p ≡ true
+  is_block-row_first all = let one : n + 1 ≡ suc n = omega arith in is_block-first p s n (subst AreBlocks (e ∙ ap (row p s) one) all)
 
-pub AreBlocks-row_other : (p : Ptr) (s n : ℕ) (us : List Ptr) → us ≡ row p s (n + 1) → AreBlocks us → AreBlocks (row p s n)
-AreBlocks-row_other p s n us e all = AllByRecursion-left (λ q. is_block q ≡ true) (row p s n) ((p +ₚ (n * s)) ∷ []) (subst AreBlocks (e ∙ row-last p s n) all)
+  pub is_block-row_last : AreBlocks us → is_block (p +ₚ (n * s)) ≡ true
+  is_block-row_last all = (AllByRecursion-right (λ q. is_block q ≡ true) (row p s n) ((p +ₚ (n * s)) ∷ []) (subst AreBlocks last_too all)).0
 
--- the last unused place becomes the newest node
-pub row-next : (p : Ptr) (s n : ℕ) (us ps ls : List Ptr) → us ≡ row p s (n + 1) → us ++ ps ≡ ls → row p s n ++ (p +ₚ (n * s)) ∷ ps ≡ ls
-row-next p s n us ps ls e h = sym (append_assoc (row p s n) ((p +ₚ (n * s)) ∷ []) ps) ∙ ap (λ qs. qs ++ ps) (sym (e ∙ row-last p s n)) ∙ h
+  pub AreBlocks-row_other : AreBlocks us → AreBlocks (row p s n)
+  AreBlocks-row_other all = AllByRecursion-left (λ q. is_block q ≡ true) (row p s n) ((p +ₚ (n * s)) ∷ []) (subst AreBlocks last_too all)
 
--- the same numbers of places
-row-same : (p : Ptr) (s m n : ℕ) → m ≡ n → row p s m ≡ row p s n
-row-same p s m n e = ap (row p s) e
+  -- the last unused place becomes the newest node
+  pub row-next : (ps ls : List Ptr) → us ++ ps ≡ ls → row p s n ++ (p +ₚ (n * s)) ∷ ps ≡ ls
+  row-next ps ls h = sym (append_assoc (row p s n) ((p +ₚ (n * s)) ∷ []) ps) ∙ ap (λ qs. qs ++ ps) (sym last_too) ∙ h
 
 -- a chunk more
 pub row-more : (p : Ptr) (s n : ℕ) (us ps : List Ptr) (cs : List (Ptr × ℕ)) → us ++ ps ≡ places s cs → (row p s n ++ us) ++ ps ≡ places s (cs ++ (p, n) ∷ [])
@@ -107,7 +108,7 @@ unfolding place_count
 IsLaid-none e f k = record { none_unused = e; all_recorded = f ∙ sym (ap (map extent) k); all_made = sym (ap place_count f) }
 
 pub row-less : (p : Ptr) (s n : ℕ) → 0 < n → row p s n ≡ row p s (n - 1 + 1)
-row-less p s n some = row-same p s n (n - 1 + 1) (omega arith)
+row-less p s n some = let same : n ≡ n - 1 + 1 = omega arith in ap (row p s) same
 
 pub map-extent_last : (ks : List Chunk) (k : Chunk) → map extent (ks ++ k ∷ []) ≡ map extent ks ++ extent k ∷ []
 map-extent_last [] k = refl

@@ -1,15 +1,13 @@
 -- One value is taken from those that are lent. Assumes `Logic`.
-use Rattle.std.proofs.Common.{◌≡◌, ℕ, true, false, cond, List, [], ◌∷◌, ◌++◌, map, length, Some, refl, sym, ap, ◌∙◌}
-use seplogic.Ra.Ura.{Ura}
-use base.Fraction.{full_share}
-use base.Logic.{ent, sep, emp, never_e}
-use base.Fml.{ffalse, fsep}
+use Rattle.lhm_ring.proofs.memory.Steps.{◌≡◌, ℕ, true, List, [], ◌∷◌, ◌++◌, refl, sym, ap, ◌∙◌}
+use Rattle.lhm_ring.proofs.memory.Steps.{full_share, ◌∵◌, ‵, raw, ◌⊛◌, ◌$◌, !, qed, by, move, keep}
+use Rattle.lhm_ring.proofs.memory.Steps.{use1, split, fsplit, fjoin, rewrite, Ptr, block_ptr}
+use Rattle.lhm_ring.proofs.memory.Steps.{lies_at, sem, RattleType, emp, Some, fsep, mem, ent, Ura}
+use Rattle.lhm_ring.proofs.memory.Steps.{Logic, sep, done, false, map, length, never_e}
+use Rattle.std.proofs.Common.{cond}
+use base.Fml.{ffalse}
 use lib.ListN.{take, drop as drop_l}
-use types.Logic.{Logic, sem}
-use types.Kit.{‵, raw, ◌⊛◌, ◌$◌, ◌∵◌, !, qed, by, move, keep, use1, use3, split, fsplit, fjoin, rewrite, done}
-use denote.RattleType.{RattleType}
-use denote.Memory.{mem}
-use denote.RawPtr.{Ptr, block_ptr, lies_at}
+use types.Kit.{use3}
 use Rattle.lhm_ring.proofs.lists.Apart.{same_ptr-equal}
 use Rattle.lhm_ring.proofs.lists.Options.{none_some, Some-injective}
 use Rattle.lhm_ring.specs.Nodes.{same_ptr}
@@ -53,9 +51,9 @@ module _ {M : Type 1} {𝓤 : Ura M} (𝓛 : Logic 𝓤) (V : RattleType) (f : P
       use1 𝓛 (‵ (lies_at V full_share (f p) y) ⊛ ‵ (spread V (ats (xs ++ ys)) (ofs (xs ++ ys)))) (run_cut xs y ys) $ split ! $ move ! (2 ∷ 1 ∷ []) $ fjoin ! $ move ! (1 ∷ []) $ done !
 
   module _ (b o : ℕ) (e : f p ≡ block_ptr b o) where
-    pub run_mend : (xs : Run) (y : V.Denot) (ys : Run) (w : V.Denot) (ws : List V.Denot)
+    pub run_glue : (xs : Run) (y : V.Denot) (ys : Run) (w : V.Denot) (ws : List V.Denot)
         → ent 𝓤 (sep 𝓤 (sem 𝓛 ((mem V).own_at w b o)) (sep 𝓤 (sem 𝓛 (spread V (ats (xs ++ ys)) ws)) (emp 𝓤))) (sem 𝓛 (spread V (ats (xs ++ (p, y) ∷ ys)) (take (length xs) ws ++ w ∷ drop_l (length xs) ws)))
-    run_mend [] y ys w ws = qed 𝓛 (‵ (lies_at V full_share (block_ptr b o) w) ∷ ‵ (spread V (ats ys) ws) ∷ raw (emp 𝓤) ∷ []) ∵ rewrite ! 0 (λ (q : Ptr). ‵ (lies_at V full_share q w)) (sym e) refl $ fjoin ! $ keep ! (0 ∷ []) $ done !
-    run_mend (x ∷ xs) y ys w [] = qed 𝓛 (‵ ((mem V).own_at w b o) ∷ ‵ ffalse ∷ raw (emp 𝓤) ∷ []) ∵ keep ! (1 ∷ []) $ by ! (never_e 𝓤 _)
-    run_mend (x ∷ xs) y ys w (v ∷ ws) = qed 𝓛 (‵ ((mem V).own_at w b o) ∷ ‵ (fsep (lies_at V full_share (f x.0) v) (spread V (ats (xs ++ ys)) ws)) ∷ raw (emp 𝓤) ∷ []) ∵ move ! (1 ∷ []) $ fsplit ! $ move ! (2 ∷ 1 ∷ 3 ∷ []) $
-        use3 𝓛 (‵ (spread V (ats (xs ++ (p, y) ∷ ys)) (take (length xs) ws ++ w ∷ drop_l (length xs) ws))) (run_mend xs y ys w ws) $ move ! (1 ∷ []) $ fjoin ! $ done !
+    run_glue [] y ys w ws = qed 𝓛 (‵ (lies_at V full_share (block_ptr b o) w) ∷ ‵ (spread V (ats ys) ws) ∷ raw (emp 𝓤) ∷ []) ∵ rewrite ! 0 (λ (q : Ptr). ‵ (lies_at V full_share q w)) (sym e) refl $ fjoin ! $ keep ! (0 ∷ []) $ done !
+    run_glue (x ∷ xs) y ys w [] = qed 𝓛 (‵ ((mem V).own_at w b o) ∷ ‵ ffalse ∷ raw (emp 𝓤) ∷ []) ∵ keep ! (1 ∷ []) $ by ! (never_e 𝓤 _)
+    run_glue (x ∷ xs) y ys w (v ∷ ws) = qed 𝓛 (‵ ((mem V).own_at w b o) ∷ ‵ (fsep (lies_at V full_share (f x.0) v) (spread V (ats (xs ++ ys)) ws)) ∷ raw (emp 𝓤) ∷ []) ∵ move ! (1 ∷ []) $ fsplit ! $ move ! (2 ∷ 1 ∷ 3 ∷ []) $
+        use3 𝓛 (‵ (spread V (ats (xs ++ (p, y) ∷ ys)) (take (length xs) ws ++ w ∷ drop_l (length xs) ws))) (run_glue xs y ys w ws) $ move ! (1 ∷ []) $ fjoin ! $ done !

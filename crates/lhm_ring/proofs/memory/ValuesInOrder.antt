@@ -1,23 +1,23 @@
 -- The values that a ring lends, in the order of the ring.
-use Rattle.std.proofs.Common.{◌≡◌, Bool, true, false, true≢false, cond, List, [], ◌∷◌, ◌++◌, map, Option, Some, None, refl, sym, ap, ◌∙◌, subst}
+use Rattle.std.proofs.Common.{◌≡◌, Bool, true, false, true≢false, cond, List, [], ◌∷◌, ◌++◌, map, Some, refl, sym, ap, ◌∙◌, subst}
 use Rattle.std.specs.List.{AllByRecursion}
 use denote.RawPtr.{Ptr}
 use Rattle.lhm_ring.proofs.lists.Apart.{IsFresh, same_ptr-equal, same_ptr-reflexive, same_ptr-symmetric, IsFresh-head, IsApart-tail}
 use Rattle.lhm_ring.proofs.rings.HeldPointers.{pointers_of}
 use Rattle.lhm_ring.proofs.lists.Options.{Some-injective}
-use Rattle.lhm_ring.proofs.memory.ValuesReplaced.{among, lent, lent_then, run_of, taken, value_in, revalued_by}
+use Rattle.lhm_ring.proofs.memory.ValuesReplaced.{Entries, Triples, at_entries, among, lent, lent_then-cases, run_of, taken, value_in, revalued_by}
 use Rattle.lhm_ring.specs.Nodes.{Cell, same_ptr, IsApart}
 use Rattle.lhm_ring.specs.ValueLoan.{value_at}
 use Rattle.lhm_ring.specs.Ring.{SplitAt, Held, IsHeld, AtHeld, revalued, unvalued, held_values, set_held_values}
 
 module _ {K V : Type 0} where
-  pub unvalued-set_held_values : (hs : List (Held (K × V))) (vs : List V) → map unvalued (set_held_values hs vs) ≡ map unvalued hs
+  pub unvalued-set_held_values : (hs : Triples K V) (vs : List V) → map unvalued (set_held_values hs vs) ≡ map unvalued hs
   unvalued-set_held_values [] vs = refl
   unvalued-set_held_values (t ∷ hs) [] = refl
   unvalued-set_held_values (t ∷ hs) (v ∷ vs) = ap (λ us. unvalued t ∷ us) (unvalued-set_held_values hs vs)
 
   -- what is held at p is still held there if only values differ
-  SplitAt-unvalued : (us xs : List (Held (K × V))) (t : Held (K × V)) (ys : List (Held (K × V))) → map unvalued us ≡ map unvalued (xs ++ t ∷ ys)
+  SplitAt-unvalued : (us xs : Triples K V) (t : Held (K × V)) (ys : Triples K V) → map unvalued us ≡ map unvalued (xs ++ t ∷ ys)
       → SplitAt unvalued us (unvalued t)
   SplitAt-unvalued [] [] t ys e = absurd cc
   SplitAt-unvalued [] (x ∷ xs) t ys e = absurd cc
@@ -26,45 +26,52 @@ module _ {K V : Type 0} where
       let rest : map unvalued us ≡ map unvalued (xs ++ t ∷ ys) = cc in let on = SplitAt-unvalued us xs t ys rest in
       record { before = u ∷ on.before; node = on.node; after = on.after; is = ap (λ zs. u ∷ zs) on.is; at_is = on.at_is }
 
-  pub IsHeld-unvalued : (us ts : List (Held (K × V))) (p : Ptr) → map unvalued us ≡ map unvalued ts → IsHeld ts p → IsHeld us p
+  pub IsHeld-unvalued : (us ts : Triples K V) (p : Ptr) → map unvalued us ≡ map unvalued ts → IsHeld ts p → IsHeld us p
   IsHeld-unvalued us ts p e h = let k = SplitAt-unvalued us h.before h.node h.after (e ∙ ap (map unvalued) h.is) in
       record { before = k.before; node = k.node; after = k.after; is = k.is; at_is = ap (λ z. z.at) k.at_is ∙ h.at_is }
 
-  pub AtHeld-unvalued : (us ts : List (Held (K × V))) (p : Ptr) → map unvalued us ≡ map unvalued ts → (P : Held K → Type 0) → AtHeld us p (λ xs t ys. P (unvalued t)) → AtHeld ts p (λ xs t ys. P (unvalued t))
+  pub AtHeld-unvalued : (us ts : Triples K V) (p : Ptr) → map unvalued us ≡ map unvalued ts → (P : Held K → Type 0) → AtHeld us p (λ xs t ys. P (unvalued t)) → AtHeld ts p (λ xs t ys. P (unvalued t))
   AtHeld-unvalued us ts p e P a xs t ys q at = let k = SplitAt-unvalued us xs t ys (e ∙ ap (map unvalued) q) in
       subst P k.at_is (a k.before k.node k.after k.is (ap (λ z. z.at) k.at_is ∙ at))
 
   -- the own values of what is held, and those that another list has at its pointers
-  pub set_held_values-own : (hs : List (Held (K × V))) → set_held_values hs (held_values hs) ≡ hs
+  pub set_held_values-own : (hs : Triples K V) → set_held_values hs (held_values hs) ≡ hs
   set_held_values-own [] = refl
   set_held_values-own (t ∷ hs) = ap (λ us. t ∷ us) (set_held_values-own hs)
 
-  pub set_held_values-by : (ks hs : List (Held (K × V))) → set_held_values hs (held_values (revalued_by ks hs)) ≡ revalued_by ks hs
+  pub set_held_values-by : (ks hs : Triples K V) → set_held_values hs (held_values (revalued_by ks hs)) ≡ revalued_by ks hs
   set_held_values-by ks [] = refl
   set_held_values-by ks (t ∷ hs) = ap (λ us. revalued (value_in ks t.at t.pair.1) t ∷ us) (set_held_values-by ks hs)
 
-  revalued_by-skip : (x : Held (K × V)) (ks hs : List (Held (K × V))) → IsFresh x.at (pointers_of hs) → revalued_by (x ∷ ks) hs ≡ revalued_by ks hs
+  revalued_by-skip : (x : Held (K × V)) (ks hs : Triples K V) → IsFresh x.at (pointers_of hs) → revalued_by (x ∷ ks) hs ≡ revalued_by ks hs
   revalued_by-skip x ks [] f = refl
   revalued_by-skip x ks (t ∷ hs) f = λ i. revalued (cond (f.0 i) x.pair.1 (value_in ks t.at t.pair.1)) t ∷ revalued_by-skip x ks hs f.1 i
 
-  revalued_by-own : (hs : List (Held (K × V))) → IsApart (pointers_of hs) → revalued_by hs hs ≡ hs
+  revalued_by-own : (hs : Triples K V) → IsApart (pointers_of hs) → revalued_by hs hs ≡ hs
   revalued_by-own [] d = refl
   revalued_by-own (t ∷ hs) d =
       let on = revalued_by-skip t hs hs (IsFresh-head t.at (pointers_of hs) d) ∙ revalued_by-own hs (IsApart-tail t.at (pointers_of hs) d) in
       λ i. revalued (cond (same_ptr-reflexive t.at i) t.pair.1 (value_in hs t.at t.pair.1)) t ∷ on i
 
-  pub revalued_by-set_held_values : (hs : List (Held (K × V))) (vs : List V) → IsApart (pointers_of hs) → revalued_by (set_held_values hs vs) hs ≡ set_held_values hs vs
+  pub revalued_by-set_held_values : (hs : Triples K V) (vs : List V) → IsApart (pointers_of hs) → revalued_by (set_held_values hs vs) hs ≡ set_held_values hs vs
   revalued_by-set_held_values [] vs d = refl
   revalued_by-set_held_values (t ∷ hs) [] d = revalued_by-own (t ∷ hs) d
   revalued_by-set_held_values (t ∷ hs) (v ∷ vs) d =
       let on = revalued_by-skip (revalued v t) (set_held_values hs vs) hs (IsFresh-head t.at (pointers_of hs) d) ∙ revalued_by-set_held_values hs vs (IsApart-tail t.at (pointers_of hs) d) in
       λ i. revalued (cond (same_ptr-reflexive t.at i) v (value_in (set_held_values hs vs) t.at t.pair.1)) t ∷ on i
 
+  -- a value of the run is that of a triple, or of an entry
+  abbrev HasValue : List (Ptr × V) → Held (K × V) → Type 0
+  HasValue run t = value_at run t.at ≡ Some t.pair.1
+
+  abbrev HasEntry : List (Ptr × V) → Ptr × (K × V) → Type 0
+  HasEntry run c = value_at run c.0 ≡ Some c.1.1
+
   -- an entry has the value that the list has at its pointer
-  abbrev pub HasOwnValue : List (Held (K × V)) → Ptr × (K × V) → Type 0
+  abbrev pub HasOwnValue : Triples K V → Ptr × (K × V) → Type 0
   HasOwnValue hs c = value_in hs c.0 c.1.1 ≡ c.1.1
 
-  value_in-own : (run : List (Ptr × V)) (hs : List (Held (K × V))) (p : Ptr) (v : V) → AllByRecursion (λ t. value_at run t.at ≡ Some t.pair.1) hs → value_at run p ≡ Some v → value_in hs p v ≡ v
+  value_in-own : (run : List (Ptr × V)) (hs : Triples K V) (p : Ptr) (v : V) → AllByRecursion (HasValue run) hs → value_at run p ≡ Some v → value_in hs p v ≡ v
   value_in-own run [] p v all e = refl
   value_in-own run (t ∷ hs) p v all e =
       (elim (same_ptr t.at p) as (λ y. same_ptr t.at p ≡ y → cond y t.pair.1 (value_in hs p v) ≡ v) [
@@ -72,30 +79,30 @@ module _ {K V : Type 0} where
         | false ↦ λ s. value_in-own run hs p v all.1 e
       ]) refl
 
-  AllByRecursion-lies_more : (d : Ptr × (K × V)) (es : List (Ptr × (K × V))) (cs : List (Ptr × (K × V))) → IsFresh d.0 (map (λ c. c.0) cs) → AllByRecursion (λ c. value_at (run_of es) c.0 ≡ Some c.1.1) cs → AllByRecursion (λ c. value_at (run_of (d ∷ es)) c.0 ≡ Some c.1.1) cs
+  AllByRecursion-lies_more : (d : Ptr × (K × V)) (es : Entries K V) (cs : Entries K V) → IsFresh d.0 (at_entries cs) → AllByRecursion (HasEntry (run_of es)) cs → AllByRecursion (HasEntry (run_of (d ∷ es))) cs
   unfolding value_at
   AllByRecursion-lies_more d es [] f all = tt
   AllByRecursion-lies_more d es (c ∷ cs) f all = (ap (λ y. cond y (Some d.1.1) (value_at (run_of es) c.0)) f.0 ∙ all.0, AllByRecursion-lies_more d es cs f.1 all.1)
 
-  AllByRecursion-lies : (es : List (Ptr × (K × V))) → IsApart (map (λ c. c.0) es) → AllByRecursion (λ c. value_at (run_of es) c.0 ≡ Some c.1.1) es
+  AllByRecursion-lies : (es : Entries K V) → IsApart (at_entries es) → AllByRecursion (HasEntry (run_of es)) es
   unfolding value_at
   AllByRecursion-lies [] d = tt
   AllByRecursion-lies (c ∷ es) d =
-      (ap (λ y. cond y (Some c.1.1) (value_at (run_of es) c.0)) (same_ptr-reflexive c.0), AllByRecursion-lies_more c es es (IsFresh-head c.0 (map (λ z. z.0) es) d) (AllByRecursion-lies es (IsApart-tail c.0 (map (λ z. z.0) es) d)))
+      (ap (λ y. cond y (Some c.1.1) (value_at (run_of es) c.0)) (same_ptr-reflexive c.0), AllByRecursion-lies_more c es es (IsFresh-head c.0 (at_entries es) d) (AllByRecursion-lies es (IsApart-tail c.0 (at_entries es) d)))
 
-  AllByRecursion-own : (run : List (Ptr × V)) (hs : List (Held (K × V))) (es : List (Ptr × (K × V))) → AllByRecursion (λ t. value_at run t.at ≡ Some t.pair.1) hs → AllByRecursion (λ c. value_at run c.0 ≡ Some c.1.1) es → AllByRecursion (HasOwnValue hs) es
+  AllByRecursion-own : (run : List (Ptr × V)) (hs : Triples K V) (es : Entries K V) → AllByRecursion (HasValue run) hs → AllByRecursion (HasEntry run) es → AllByRecursion (HasOwnValue hs) es
   AllByRecursion-own run hs [] all lies = tt
   AllByRecursion-own run hs (c ∷ es) all lies = (value_in-own run hs c.0 c.1.1 all lies.0, AllByRecursion-own run hs es all lies.1)
 
   -- what is lent has its own values
-  pub AllByRecursion-own_values : (hs : List (Held (K × V))) (es : List (Ptr × (K × V))) → AllByRecursion (λ t. value_at (run_of es) t.at ≡ Some t.pair.1) hs → IsApart (map (λ c. c.0) es) → AllByRecursion (HasOwnValue hs) es
+  pub AllByRecursion-own_values : (hs : Triples K V) (es : Entries K V) → AllByRecursion (HasValue (run_of es)) hs → IsApart (at_entries es) → AllByRecursion (HasOwnValue hs) es
   AllByRecursion-own_values hs es all apart = AllByRecursion-own (run_of es) hs es all (AllByRecursion-lies es apart)
 
-  pub taken-own : (hs : List (Held (K × V))) (es : List (Ptr × (K × V))) → AllByRecursion (HasOwnValue hs) es → taken hs es ≡ map (λ c. c.1) (run_of es)
+  pub taken-own : (hs : Triples K V) (es : Entries K V) → AllByRecursion (HasOwnValue hs) es → taken hs es ≡ map (λ c. c.1) (run_of es)
   taken-own hs [] own = refl
   taken-own hs (c ∷ es) own = λ i. own.0 i ∷ taken-own hs es own.1 i
 
-  value_in-revalued_by : (ks hs : List (Held (K × V))) (p : Ptr) (v : V) → among (pointers_of hs) p ≡ true → value_in (revalued_by ks hs) p v ≡ value_in ks p (value_in hs p v)
+  value_in-revalued_by : (ks hs : Triples K V) (p : Ptr) (v : V) → among (pointers_of hs) p ≡ true → value_in (revalued_by ks hs) p v ≡ value_in ks p (value_in hs p v)
   value_in-revalued_by ks [] p v is = absurd (true≢false (sym is))
   value_in-revalued_by ks (t ∷ hs) p v is =
       (elim (same_ptr t.at p) as (λ y. same_ptr t.at p ≡ y → cond y (value_in ks t.at t.pair.1) (value_in (revalued_by ks hs) p v) ≡ value_in ks p (cond y t.pair.1 (value_in hs p v))) [
@@ -103,17 +110,13 @@ module _ {K V : Type 0} where
         | false ↦ λ s. value_in-revalued_by ks hs p v (sym (ap (λ y. cond y true (among (pointers_of hs) p)) (same_ptr-symmetric p t.at ∙ s)) ∙ is)
       ]) refl
 
-  pub taken-by : (ks hs : List (Held (K × V))) (es : List (Ptr × (K × V))) → AllByRecursion (HasOwnValue hs) es → AllByRecursion (λ c. among (pointers_of hs) c.0 ≡ true) es → taken (revalued_by ks hs) es ≡ taken ks es
+  pub taken-by : (ks hs : Triples K V) (es : Entries K V) → AllByRecursion (HasOwnValue hs) es → AllByRecursion (λ c. among (pointers_of hs) c.0 ≡ true) es → taken (revalued_by ks hs) es ≡ taken ks es
   taken-by ks hs [] own in_ring = refl
   taken-by ks hs (c ∷ es) own in_ring =
       let one = value_in-revalued_by ks hs c.0 c.1.1 in_ring.0 ∙ ap (value_in ks c.0) own.0 in
       λ i. one i ∷ taken-by ks hs es own.1 in_ring.1 i
 
-AllByRecursion-kept_then : {K V : Type 0} (keep : Ptr → Bool) (k : Bool) (p : Ptr) (b : Option (K × V)) (r : List (Ptr × (K × V))) → keep p ≡ k → AllByRecursion (λ c. keep c.0 ≡ true) r → AllByRecursion (λ c. keep c.0 ≡ true) (lent_then k p b r)
-AllByRecursion-kept_then keep false p b r e all = all
-AllByRecursion-kept_then keep true p None r e all = all
-AllByRecursion-kept_then keep true p (Some x) r e all = (e, all)
-
 pub AllByRecursion-kept : {L K V : Type 0} (keep : Ptr → Bool) (cs : List (Cell L (K × V))) → AllByRecursion (λ c. keep c.0 ≡ true) (lent keep cs)
 AllByRecursion-kept keep [] = tt
-AllByRecursion-kept keep (c ∷ cs) = AllByRecursion-kept_then keep (keep c.at) c.at c.body (lent keep cs) refl (AllByRecursion-kept keep cs)
+AllByRecursion-kept keep (c ∷ cs) = let on = AllByRecursion-kept keep cs in
+    lent_then-cases (AllByRecursion (λ c. keep c.0 ≡ true)) (keep c.at) c.at c.body (lent keep cs) on (λ x e. (e, on))

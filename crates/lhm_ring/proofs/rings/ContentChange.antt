@@ -6,7 +6,7 @@ use Rattle.lhm_ring.specs.declared.pointer.Link.{Link}
 use Rattle.lhm_ring.proofs.lists.Apart.{IsFresh, same_ptr-equal, same_ptr-reflexive, same_ptr-symmetric, IsFresh-middle, IsFresh-head, IsApart-tail}
 use Rattle.lhm_ring.proofs.rings.Contents.{at-content_of, hash-content_of, link-content_of, pair-content_of, content_of-holds}
 use Rattle.lhm_ring.proofs.rings.HeldPointers.{pointers_of, same_ptr-fresh, IsApart-ring_list}
-use Rattle.lhm_ring.proofs.lists.ListFacts.{AllByRecursion-map, AllByRecursion-right}
+use Rattle.lhm_ring.proofs.lists.ForAll.{AllByRecursion-map, AllByRecursion-right}
 use Rattle.lhm_ring.proofs.memory.OneNodeChanged.{links_at-with_body, body_at-with_body}
 use Rattle.lhm_ring.proofs.rings.RingNodes.{Found-listed}
 use Rattle.lhm_ring.proofs.rings.SameNodes.{SameLink, follow-same, RingOk-same}

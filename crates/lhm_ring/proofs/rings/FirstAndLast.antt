@@ -6,10 +6,11 @@ use Rattle.lhm_ring.specs.declared.ring.Links.{Links}
 use Rattle.lhm_ring.specs.declared.pointer.Link.{Link}
 use Rattle.lhm_ring.proofs.lists.Apart.{IsFresh-head, IsFresh}
 use Rattle.lhm_ring.proofs.rings.Contents.{at-content_of}
-use Rattle.lhm_ring.proofs.lists.ListFacts.{last_from, AllByRecursion-left, AllByRecursion-last}
+use Rattle.lhm_ring.proofs.lists.ForAll.{AllByRecursion-left}
+use Rattle.lhm_ring.proofs.lists.Last.{last_from, AllByRecursion-last}
 use Rattle.lhm_ring.proofs.rings.RingCells.{led_to-apart}
 use Rattle.lhm_ring.proofs.rings.RingNodes.{ring_list-listed}
-use Rattle.lhm_ring.proofs.lists.Rows.{RowCut-linked}
+use Rattle.lhm_ring.proofs.lists.LinkRows.{RowCut-linked}
 use Rattle.lhm_ring.specs.Nodes.{Cell, same_ptr, links_at, body_at}
 use Rattle.lhm_ring.specs.Links.{next_at, prev_at, content_at, Linked, HasContent, listed, one_of, ring_list, RingOk}
 use Rattle.lhm_ring.specs.Ring.{State, state, Held, first_at, last_at, last_of}

@@ -7,7 +7,7 @@ use Rattle.lhm_ring.specs.declared.pointer.Link.{Link}
 use Rattle.lhm_ring.specs.declared.ring.Links.{Links}
 use Rattle.lhm_ring.proofs.lists.Apart.{IsFresh, IsApart-left, IsApart-tail, IsApart-removed}
 use Rattle.lhm_ring.proofs.rings.Contents.{at-content_of}
-use Rattle.lhm_ring.proofs.lists.Rows.{follow-row}
+use Rattle.lhm_ring.proofs.lists.LinkRows.{follow-row}
 use Rattle.lhm_ring.specs.Nodes.{Cell, same_ptr, links_at, body_at, IsApart}
 use Rattle.lhm_ring.specs.Links.{HasContent, follow, listed, one_of, ring_list, ring_pointers, RingOk}
 use Rattle.lhm_ring.specs.Ring.{State, state, Held}

@@ -4,8 +4,9 @@ use Rattle.std.specs.List.{AllByRecursion}
 use denote.RawPtr.{Ptr}
 use Rattle.lhm_ring.specs.declared.ring.Links.{Links}
 use Rattle.lhm_ring.proofs.lists.Apart.{IsFresh, same_ptr-reflexive, IsApart-tail, AllByRecursion-fresh_across, IsApart-left, IsFresh-head, IsFresh-middle, same_ptr-flip, IsApart-removed}
-use Rattle.lhm_ring.proofs.lists.ListFacts.{last_from, AllByRecursion-map, AllByRecursion-always, AllByRecursion-last, AllByRecursion-append, AllByRecursion-left, last_from-push, AllByRecursion-right}
-use Rattle.lhm_ring.proofs.lists.Rows.{RowCut-linked, Linked-glued}
+use Rattle.lhm_ring.proofs.lists.ForAll.{AllByRecursion-map, AllByRecursion-always, AllByRecursion-append, AllByRecursion-left, AllByRecursion-right}
+use Rattle.lhm_ring.proofs.lists.Last.{last_from, AllByRecursion-last, last_from-push}
+use Rattle.lhm_ring.proofs.lists.LinkRows.{RowCut-linked, Linked-glued}
 use Rattle.lhm_ring.proofs.rings.SameNodes.{Chained-same, SameLink}
 use Rattle.lhm_ring.specs.Nodes.{Cell, same_ptr, IsApart}
 use Rattle.lhm_ring.specs.Links.{next_at, prev_at, is_there, Edge, Linked, Chained, HasContent, listed, one_of, IsJoined}

@@ -6,9 +6,10 @@ use Rattle.lhm_ring.specs.declared.ring.Links.{Links}
 use Rattle.lhm_ring.specs.declared.pointer.Link.{Link}
 use Rattle.lhm_ring.proofs.lists.Apart.{IsFresh, IsApart-left, IsFresh-middle, IsApart-removed, IsApart-inserted}
 use Rattle.lhm_ring.proofs.rings.Joins.{Chained-unchanged, AllByRecursion-content_unchanged, AllByRecursion-there_unchanged, listed-unchanged, Linked-removed, Linked-pushed}
-use Rattle.lhm_ring.proofs.lists.ListFacts.{AllByRecursion-append, AllByRecursion-left, AllByRecursion-right, AllByRecursion-removed, AllByRecursion-last}
+use Rattle.lhm_ring.proofs.lists.ForAll.{AllByRecursion-append, AllByRecursion-left, AllByRecursion-right, AllByRecursion-removed}
+use Rattle.lhm_ring.proofs.lists.Last.{AllByRecursion-last}
 use Rattle.lhm_ring.proofs.rings.RingNodes.{Found-held, NodeAt-held, ring_list-listed, ring_split}
-use Rattle.lhm_ring.proofs.lists.Rows.{RowCut-linked, listed-append}
+use Rattle.lhm_ring.proofs.lists.LinkRows.{RowCut-linked, listed-append}
 use Rattle.lhm_ring.specs.Nodes.{Cell, IsApart, links_at}
 use Rattle.lhm_ring.specs.Links.{next_of, prev_of, next_at, prev_at, is_there, content_at, Linked, Chained, HasContent, IsRing, listed, one_of, IsJoined, ring_list, RingOk}
 use Rattle.lhm_ring.specs.Ring.{state, Held, State, IsHeld, AtHeld, SplitAround}

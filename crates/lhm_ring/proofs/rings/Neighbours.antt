@@ -5,9 +5,9 @@ use Rattle.lhm_ring.specs.declared.ring.Links.{Links}
 use Rattle.lhm_ring.specs.declared.pointer.Link.{Link}
 use Rattle.lhm_ring.proofs.lists.Apart.{IsFresh, IsFresh-head}
 use Rattle.lhm_ring.proofs.rings.FirstAndLast.{first_at-led_to, last_at-led_to}
-use Rattle.lhm_ring.proofs.lists.ListFacts.{AllByRecursion-left, AllByRecursion-right}
+use Rattle.lhm_ring.proofs.lists.ForAll.{AllByRecursion-left, AllByRecursion-right}
 use Rattle.lhm_ring.proofs.rings.RingNodes.{Found-held, ring_split}
-use Rattle.lhm_ring.proofs.lists.Rows.{RowCut, RowCut-linked, Linked-glued}
+use Rattle.lhm_ring.proofs.lists.LinkRows.{RowCut, RowCut-linked, Linked-glued}
 use Rattle.lhm_ring.specs.Nodes.{Cell, same_ptr, links_at}
 use Rattle.lhm_ring.specs.Links.{next_of, prev_of, next_at, prev_at, Linked, HasContent, IsRing, listed, ring_list, RingOk}
 use Rattle.lhm_ring.specs.Ring.{State, state, AtHeld, first_at, last_at}

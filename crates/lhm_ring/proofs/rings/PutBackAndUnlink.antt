@@ -9,12 +9,13 @@ use Rattle.lhm_ring.specs.declared.pointer.Link.{Link}
 use Rattle.lhm_ring.proofs.lists.Apart.{same_ptr-reflexive, IsApart-left, IsFresh-middle, IsFresh, IsApart-inserted, IsApart-removed}
 use Rattle.lhm_ring.proofs.rings.Contents.{hash-content_of, pair-content_of, content_of-holds}
 use Rattle.lhm_ring.proofs.rings.Joins.{Linked-pushed, AllByRecursion-there_unchanged, Chained-unchanged, listed-unchanged, AllByRecursion-content_unchanged}
-use Rattle.lhm_ring.proofs.lists.ListFacts.{AllByRecursion-left, AllByRecursion-last, AllByRecursion-right, AllByRecursion-removed, AllByRecursion-append}
+use Rattle.lhm_ring.proofs.lists.ForAll.{AllByRecursion-left, AllByRecursion-right, AllByRecursion-removed, AllByRecursion-append}
+use Rattle.lhm_ring.proofs.lists.Last.{AllByRecursion-last}
 use Rattle.lhm_ring.proofs.rings.Moves.{Linked-joined, There-node, listed-one}
 use Rattle.lhm_ring.proofs.memory.OneNodeChanged.{OnlyAt, links_at-with_body, body_at-with_body, OnlyAt-with_links, OnlyAt-with_body, OnlyAt-both, Linked-other, listed-other, AllByRecursion-there_other, AllByRecursion-content_other, Chained-other}
 use Rattle.lhm_ring.proofs.lists.Options.{Some-injective}
 use Rattle.lhm_ring.proofs.rings.RingNodes.{Found-held, NodeAt-held, ring_list-listed, ring_split}
-use Rattle.lhm_ring.proofs.lists.Rows.{RowCut-linked, listed-append}
+use Rattle.lhm_ring.proofs.lists.LinkRows.{RowCut-linked, listed-append}
 use Rattle.lhm_ring.proofs.rings.Writes.{links_at-with_links, IsAt-there}
 use Rattle.lhm_ring.specs.Nodes.{Cell, links_at, body_at, IsAt, Holds, with_links, with_body, same_ptr, links_of, IsApart}
 use Rattle.lhm_ring.specs.Links.{chaining_to, ChainsTo, next_of, prev_of, link_of, next_at, prev_at, link_at, is_there, content_of, content_at, Chained, IsRing, listed, IsJoined, ring_list, RingOk, Linked, HasContent}

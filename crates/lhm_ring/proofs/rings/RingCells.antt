@@ -6,7 +6,7 @@ use Rattle.lhm_ring.specs.declared.ring.Links.{Links}
 use Rattle.lhm_ring.specs.declared.ring.Ends.{Ends}
 use Rattle.lhm_ring.specs.declared.pointer.Link.{Link}
 use Rattle.lhm_ring.proofs.lists.Apart.{IsApart-none, IsApart-added}
-use Rattle.lhm_ring.proofs.lists.ListFacts.{AllByRecursion-map}
+use Rattle.lhm_ring.proofs.lists.ForAll.{AllByRecursion-map}
 use Rattle.lhm_ring.proofs.rings.Lookup.{AllByRecursion-at}
 use Rattle.lhm_ring.proofs.lists.Options.{none_some, Some-injective}
 use Rattle.lhm_ring.proofs.rings.SameNodes.{Chained-same, SameLink}

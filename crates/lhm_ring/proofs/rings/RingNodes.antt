@@ -5,7 +5,7 @@ use denote.RawPtr.{Ptr, null_ptr}
 use Rattle.lhm_ring.specs.declared.ring.Links.{Links}
 use Rattle.lhm_ring.specs.declared.pointer.Link.{Link}
 use Rattle.lhm_ring.proofs.rings.Contents.{at-content_of}
-use Rattle.lhm_ring.proofs.lists.Rows.{follow-row}
+use Rattle.lhm_ring.proofs.lists.LinkRows.{follow-row}
 use Rattle.lhm_ring.specs.Nodes.{Cell, links_at, body_at}
 use Rattle.lhm_ring.specs.Links.{HasContent, IsRing, follow, listed, one_of, ring_list, RingOk, content_at}
 use Rattle.lhm_ring.specs.Ring.{state, State, IsHeld, AtHeld, Held, SplitAround}

@@ -6,7 +6,7 @@ use Rattle.lhm_ring.specs.declared.ring.Ends.{Ends}
 use Rattle.lhm_ring.specs.declared.pointer.Link.{Link}
 use Rattle.lhm_ring.proofs.lists.Apart.{IsApart-left, IsApart-tail}
 use Rattle.lhm_ring.proofs.rings.RingCells.{next_at-null, prev_at-null, AllByRecursion-apart, AllByRecursion-content_in_nodes, listed-in_nodes, Linked-in_nodes}
-use Rattle.lhm_ring.proofs.lists.Rows.{RowCut-linked}
+use Rattle.lhm_ring.proofs.lists.LinkRows.{RowCut-linked}
 use Rattle.lhm_ring.proofs.rings.Spans.{last_pointer-last_from, Linked-tail, HasEnds-behind, pointers_from-span}
 use Rattle.lhm_ring.specs.Nodes.{Cell}
 use Rattle.lhm_ring.specs.Links.{ring_cells, next_at, prev_at, follow, listed, HasEnds, pointers_from, ring_list, RingOk, IsSpan}

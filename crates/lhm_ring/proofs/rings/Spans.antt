@@ -6,10 +6,11 @@ use denote.RawPtr.{Ptr}
 use Rattle.lhm_ring.specs.declared.ring.Links.{Links}
 use Rattle.lhm_ring.proofs.lists.Apart.{IsFresh, IsApart-left, IsFresh-head, IsApart-tail, IsFresh-middle}
 use Rattle.lhm_ring.proofs.rings.Contents.{content_of-holds}
-use Rattle.lhm_ring.proofs.lists.ListFacts.{last_from, AllByRecursion-left, AllByRecursion-right, SplitLast-last_from}
+use Rattle.lhm_ring.proofs.lists.ForAll.{AllByRecursion-left, AllByRecursion-right}
+use Rattle.lhm_ring.proofs.lists.Last.{last_from, SplitLast-last_from}
 use Rattle.lhm_ring.proofs.memory.OneNodeChanged.{links_at-with_body, AllByRecursion-content_other, listed-other}
 use Rattle.lhm_ring.proofs.rings.RingNodes.{length-listed}
-use Rattle.lhm_ring.proofs.lists.Rows.{RowCut-linked, listed-append}
+use Rattle.lhm_ring.proofs.lists.LinkRows.{RowCut-linked, listed-append}
 use Rattle.lhm_ring.proofs.rings.SameNodes.{Linked-same}
 use Rattle.lhm_ring.proofs.rings.Writes.{cell_at-change_other, content_of-links}
 use Rattle.lhm_ring.specs.Nodes.{Cell, cell, cell_at, same_ptr, links_at, body_at, IsApart, IsAt, Holds, with_body}

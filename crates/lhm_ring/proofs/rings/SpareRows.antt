@@ -7,7 +7,7 @@ use Rattle.lhm_ring.specs.declared.ring.Links.{Links}
 use Rattle.lhm_ring.specs.declared.ring.Ends.{Ends}
 use Rattle.lhm_ring.specs.declared.pointer.Link.{Link}
 use Rattle.lhm_ring.proofs.lists.Apart.{IsFresh, same_ptr-reflexive, IsFresh-head, IsApart-tail, IsFresh-middle, IsApart-removed, IsApart-inserted}
-use Rattle.lhm_ring.proofs.lists.ListFacts.{AllByRecursion-right, AllByRecursion-map}
+use Rattle.lhm_ring.proofs.lists.ForAll.{AllByRecursion-right, AllByRecursion-map}
 use Rattle.lhm_ring.proofs.memory.OneNodeChanged.{Chained-other}
 use Rattle.lhm_ring.proofs.lists.Options.{none_some}
 use Rattle.lhm_ring.proofs.rings.SameNodes.{Linked-same}

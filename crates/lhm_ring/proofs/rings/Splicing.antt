@@ -7,10 +7,11 @@ use Rattle.lhm_ring.specs.declared.ring.Ends.{Ends}
 use Rattle.lhm_ring.specs.declared.pointer.Link.{Link}
 use Rattle.lhm_ring.proofs.lists.Apart.{IsFresh, IsApart-left, IsFresh-head, IsApart-tail}
 use Rattle.lhm_ring.proofs.rings.Joins.{AvoidsSource-fresh, AvoidsSource, AvoidsTarget, Linked-unchanged, Chained-unchanged, Edge-made, listed-unchanged}
-use Rattle.lhm_ring.proofs.lists.ListFacts.{last_from, AllByRecursion-left, AllByRecursion-right, AllByRecursion-map}
+use Rattle.lhm_ring.proofs.lists.ForAll.{AllByRecursion-left, AllByRecursion-right, AllByRecursion-map}
+use Rattle.lhm_ring.proofs.lists.Last.{last_from}
 use Rattle.lhm_ring.proofs.rings.RingCells.{next_at-null, is_there-null, Linked-in_nodes, AllByRecursion-there_in_nodes, Chained-in_nodes, Chained-in_ring}
 use Rattle.lhm_ring.proofs.rings.RingNodes.{ring_list-listed}
-use Rattle.lhm_ring.proofs.lists.Rows.{RowCut-linked}
+use Rattle.lhm_ring.proofs.lists.LinkRows.{RowCut-linked}
 use Rattle.lhm_ring.proofs.rings.SameNodes.{Linked-same}
 use Rattle.lhm_ring.proofs.rings.Spans.{last_pointer-last_from, Linked-tail, pointers_from-span}
 use Rattle.lhm_ring.proofs.rings.SpareRows.{AllByRecursion-onto, IsApart-onto, SameButLinks-in_ring, length-onto, StartsAt-next, some_still, one_triple, triples-one_of}

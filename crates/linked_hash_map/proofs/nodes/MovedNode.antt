@@ -7,7 +7,7 @@ use Rattle.std.proofs.lemmas.List.{map-append}
 use Rattle.std.proofs.lemmas.Map.Keys.{IsDistinct-head, IsDistinct-tail}
 use denote.RawPtr.{Ptr}
 use Rattle.lhm_ring.proofs.lists.Apart.{IsFresh, same_ptr-reflexive, same_ptr-symmetric, IsFresh-middle}
-use Rattle.lhm_ring.proofs.lists.ListFacts.{AllByRecursion-right}
+use Rattle.lhm_ring.proofs.lists.ForAll.{AllByRecursion-right}
 use Rattle.linked_hash_map.specs.Nodes.{VisitState, Lies, pairs_of, bare, bare_node, before, bookmark_at, AreKept}
 use Rattle.linked_hash_map.proofs.lists.Distinct.{none_from_all}
 use Rattle.linked_hash_map.proofs.nodes.HeldPairs.{length-bare, pairs_of-append}

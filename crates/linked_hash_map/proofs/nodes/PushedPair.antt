@@ -6,7 +6,7 @@ use Rattle.std.specs.Cmp.{IsEquivalence}
 use Rattle.std.proofs.lemmas.List.{map-append, length-map}
 use Rattle.std.proofs.lemmas.Map.Keys.{IsDistinct-push}
 use denote.RawPtr.{Ptr}
-use Rattle.lhm_ring.proofs.lists.ListFacts.{AllByRecursion-append}
+use Rattle.lhm_ring.proofs.lists.ForAll.{AllByRecursion-append}
 use Rattle.linked_hash_map.specs.Nodes.{VisitState, AreKept, IsKept, Lies, pairs_of, bare, bare_node, bookmark_at, current_at}
 use Rattle.linked_hash_map.specs.Pairs.{find}
 use Rattle.linked_hash_map.proofs.nodes.HeldPairs.{length-bare, keys-bare, pairs_of-append}

@@ -4,7 +4,7 @@ use Rattle.std.proofs.Common.{remove, Some, None, sym, ap, ◌∙◌, subst, ari
 use Rattle.std.specs.List.{IsDistinct}
 use Rattle.std.proofs.lemmas.List.{map-append}
 use denote.RawPtr.{Ptr}
-use Rattle.lhm_ring.proofs.lists.ListFacts.{AllByRecursion-removed}
+use Rattle.lhm_ring.proofs.lists.ForAll.{AllByRecursion-removed}
 use Rattle.linked_hash_map.specs.Nodes.{VisitState, no_visit, pairs_of, bare, bare_node, before, AreKept, IsKept}
 use Rattle.linked_hash_map.proofs.lists.Distinct.{distinct_removed}
 use Rattle.linked_hash_map.proofs.nodes.CutNodes.{CutAt, CutAt-before, slice_get-held, pairs_of-removed}

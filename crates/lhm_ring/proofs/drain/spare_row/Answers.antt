@@ -1,5 +1,5 @@
 use Rattle.std.proofs.Common.{◌∙◌, ◌-◌, Some, sym, subst, arith}
-use Rattle.lhm_ring.proofs.memory.NodeBlocks.{is_block-links_at}
+use Rattle.lhm_ring.proofs.memory.BlockPointers.{is_block-links_at}
 use Rattle.lhm_ring.proofs.rings.Writes.{IsAt-there}
 use Rattle.lhm_ring.proofs.rings.SpareRows.{is_there-row, HasRow-next, SparesRow-step, SparesRow-done}
 use Rattle.lhm_ring.proofs.drain.spare_row.Goals as goal

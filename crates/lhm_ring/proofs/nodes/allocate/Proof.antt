@@ -1,47 +1,43 @@
 -- `allocate` asks for a block of many values. Assumes `Logic`.
-use Rattle.std.proofs.Common.{◌≡◌, ℕ, ◌*◌, ◌<◌, ◌^◌, [], ◌∷◌, refl, ap, ◌∙◌, T, lit<, true, false}
-use mir.Syntax.{Ty, Body, ty_array, named, w64}
-use mir.Val.{Val, vint, vptr, vcons, vnil, vstruct, has_ty, WT}
-use mir.MapTy.{inst_fn}
+use Rattle.lhm_ring.proofs.memory.Steps.{◌≡◌, ℕ, ◌*◌, ◌<◌, ◌^◌, true, [], ◌∷◌, refl, ap, ◌∙◌, T}
+use Rattle.lhm_ring.proofs.memory.Steps.{Val, vptr, vint, w64, inst_fn, SProp, flft, size-raw, ◌∵◌}
+use Rattle.lhm_ring.proofs.memory.Steps.{‵, raw, ◌⊛◌, at_ret, ◌$◌, !, qed, by, move, keep, use0}
+use Rattle.lhm_ring.proofs.memory.Steps.{use1, use2, split, join, fsplit, fjoin, stop, fld, bin}
+use Rattle.lhm_ring.proofs.memory.Steps.{size_lit, of_opd, no_more, and_then, first, exec, returns}
+use Rattle.lhm_ring.proofs.memory.Steps.{alloc_all, pass_all, free_all, look_at, get, get_in, sets}
+use Rattle.lhm_ring.proofs.memory.Steps.{sets_last, env, whole, agg, tables, fact, usize, yes, owns}
+use Rattle.lhm_ring.proofs.memory.Steps.{layout, types_at, plain, Ptr, block_ptr, heard, Stays}
+use Rattle.lhm_ring.proofs.memory.Steps.{stay_dropped, walk_of, Goes-dropped, after, leaves}
+use Rattle.lhm_ring.proofs.memory.Steps.{ty_array, flt_i, RattleType, one_below, fjoin3, named}
+use Rattle.lhm_ring.proofs.memory.Steps.{vstruct, vcons, vnil, Lft, Incl-trans, later, await, ◌⊑◌}
+use Rattle.lhm_ring.proofs.memory.Steps.{enter, Ty, capped, capped_fits, RefOf, framed, false}
+use Rattle.lhm_ring.proofs.memory.Steps.{has_ty, WT, Is, Struct, states, tokens, all_spent}
+use Rattle.std.proofs.Common.{lit<}
+use mir.Syntax.{Body}
 use mir.Raw.{raw as bare}
-use base.Logic.{SProp, emp}
-use base.Fml.{Fml, Lft, Share, ftrue, fsep, flft, Incl-trans}
-use prog.Memory.{align, capped}
-use prog.Capped.{capped_is, capped_fits}
-use prog.RawLaws.{size-raw, align-raw}
+use base.Fml.{Share}
+use prog.Memory.{align}
+use prog.Capped.{capped_is}
+use prog.RawLaws.{align-raw}
 use prog.Wp.{Wp, after_seq, at_return}
-use contract.BorrowLft.{◌⊑◌}
-use contract.Running.{tables}
-use contract.Monad.{fact, fact_i}
-use types.Kit.{◌∵◌, ‵, raw, ◌⊛◌, later, at_ret, any_q, ◌$◌, !, qed, by, move, keep, use0, use1, use2, await, split, join, fsplit, fjoin, fjoin3, flt_i}
+use types.Kit.{any_q}
 use types.Match.{live, vrt, in_variant}
-use types.Run.{stop, fld, of_opd, bin, lit, size_lit, align_word, no_more, and_then, first, exec, returns, enter, switches_on}
-use types.ByLocal.{alloc_all, pass_all, free_all, look_at, get, get_in, get_tag, sets, sets_last, lands_as, env}
-use types.Part.{whole, agg}
-use denote.Builtin.{RefOf, usize}
-use denote.Exit.{yes}
-use denote.Laws.{Is}
-use denote.Param.{layout}
+use types.Run.{lit, align_word, switches_on}
+use types.ByLocal.{get_tag, lands_as}
 use denote.Plain.{uint_vals, uint_Tells}
-use denote.RattleType.{RattleType, owns}
-use denote.RawPtr.{Ptr, block_ptr}
 use denote.Ref.{shr_vals, shr_Tells}
-use denote.Signature.{types_at, plain}
-use denote.Steps.{nothing, heard, owned}
-use denote.Struct.Struct.{Struct, Struct-Makes}
+use denote.Steps.{owned}
+use denote.Struct.Struct.{Struct-Makes}
 use denote.Struct.Declared as Declared
 use denote.Triple.Call.{calls_at}
-use denote.Triple.Table.{framed}
-use denote.Triple.Walked.{Stays, stay_dropped, walk_of, Goes-dropped}
 use Rattle.std.specs.Prelude.{Ok, Err}
 use Rattle.std.specs.contracts.result.Result as RS
 use Rattle.std.specs.contracts.alloc.AllocError as AE
 use Rattle.std.proofs.alloc.Calls.{Answer-typed, Takes, at_takes, Answered, Takes-goes, Takes-gives, answers}
 use Rattle.std.proofs.ResultValues.{ok_of, err_of}
 use Rattle.std.proofs.VecSteps.El.{El, R, P, args, elτ, sz, wider}
-use Rattle.std.proofs.VecSteps.Shapes.{after, head, arm_body}
-use Rattle.std.proofs.raw_atomic.Walks.{proved, leaves}
-use Rattle.std.proofs.ptr.Rows.{one_below}
+use Rattle.std.proofs.VecSteps.Shapes.{head, arm_body}
+use Rattle.std.proofs.raw_atomic.Walks.{proved}
 use Rattle.lhm_ring.proofs.memory.BlockValues.{block_val, block_Good, BlockType, BlockFields, block_made}
 use Rattle.lhm_ring.specs.contracts.nodes.allocate.{ended, clauses}
 use Rattle.lhm_ring.specs.contracts.nodes.allocate.Key.{name as #self}
@@ -58,8 +54,8 @@ allocate_spec 𝓤 𝓛 𝓜 𝓡 wired X Z L LZ g d dd met _ =
     let hp : ℕ × ℕ = a.0.ref_ptr in let heap : Z.Denot = a.0.now in let n : ℕ = a.1.0 in let κ : Lft = κs.0 in let q : Share = qs.0 in
     let τ : Ty = elτ E in let s : ℕ = sz E in let many : Ty = bare (ty_array τ n) in
     let y : (walk_of 𝓛 En hs c).Ghost = ((κs, qs, bounds, a, (vptr hp.0 hp.1 ∷ [], (vint w64 n ∷ [], tt))), gh) in let Post : Val → SProp 𝓤 = (walk_of 𝓛 En hs c).post y in
-    let others : Fml = fsep (flft κs.1.0 qs.1.0) (fsep (flft κs.1.1.0 qs.1.1.0) ftrue) in let Fits : Type 0 = (0 < n) × (n * s < 2 ^ 63) in
-    qed 𝓛 (((‵ (flft κ q) ⊛ ‵ others) ⊛ ‵ (owns (types_at En.signature.params κs) a y.0.4)) ∷ raw (fact 𝓤 _) ∷ raw (fact 𝓤 (κs.1.1.0 ⊑ Z.lives)) ∷ raw (fact 𝓤 Fits) ∷ []) ∵
+    let Fits : Type 0 = (0 < n) × (n * s < 2 ^ 63) in
+    qed 𝓛 (((‵ (flft κ q) ⊛ ‵ (tokens 2 κs.1 qs.1)) ⊛ ‵ (owns (types_at En.signature.params κs) a y.0.4)) ∷ raw (fact 𝓤 _) ∷ raw (fact 𝓤 (κs.1.1.0 ⊑ Z.lives)) ∷ raw (fact 𝓤 Fits) ∷ []) ∵
     keep ! (2 ∷ 3 ∷ 0 ∷ []) $ heard ! (κs.1.1.0 ⊑ Z.lives) (λ inside. heard ! Fits (λ asked. split ! $ split ! $ move ! (2 ∷ []) $ fsplit ! $ fsplit ! $ keep ! (1 ∷ 3 ∷ 4 ∷ []) $
     let fit : n * s < 2 ^ 63 = asked.1 in let fs : n * s < 2 ^ 64 = wider (n * s) fit in let tiny : s < 2 ^ 64 = one_below n s (2 ^ 64) asked.0 fs in let f₆₄ : n < 2 ^ 64 = are.1.0.1 in
     enter ! 𝓣.C 𝓣.Λ fn (vptr hp.0 hp.1 ∷ vint w64 n ∷ []) Post $ alloc_all ! (λ l. pass_all ! refl ((tt, tt), ((tt, record { fits = f₆₄ }), tt)) $ let Ev = env fn.locals l in let both : Body = head (after 2 fn.body) in
@@ -79,7 +75,7 @@ allocate_spec 𝓤 𝓛 𝓜 𝓡 wired X Z L LZ g d dd met _ =
     flt_i ! (n * s) (2 ^ 63) fit $ move ! (0 ∷ 2 ∷ 1 ∷ []) $ fjoin3 ! $
     use0 𝓛 (‵ ((BlockFields (R E) (P E) E.al.g).own_val (p, (record {}, tt)) (block_val p ∷ []))) (block_made (R E) (P E) E.al.g 𝓛 p) $ fjoin ! $
     use1 𝓛 (‵ (Out.own_val (Ok r) (val ∷ []))) (ok_of 𝓛 B AE.the_row r (block_val p)) $
-    let Told : Type 0 = (heap ≡ heap) × (n ≡ n) in use0 𝓛 (raw (fact 𝓤 Told)) (fact_i 𝓤 Told (emp 𝓤) (refl, refl)) $ nothing ! $ nothing ! $ fjoin ! $ nothing ! $ fjoin ! $
+    states ! ((heap ≡ heap) × (n ≡ n)) (refl, refl) $ all_spent ! 2 $
     returns ! (look_at ! 0 refl) $ free_all ! refl $ keep ! (3 ∷ 0 ∷ 2 ∷ 1 ∷ []) $ by ! (leaves 𝓛 En hs c y val (Ok r) (tt, (tt, tt)) (tt, (tt, tt))))
     (λ e. let Refusal : RattleType = Struct (Declared.shape AE.the_type) in let val : Val = live 1 (vcons (vstruct vnil) vnil) in let good : T (has_ty (layout Out) val) × WT val = (tt, (record { fits = lit< tt }, (tt, tt))) in
     lands_as ! e refl (Answer-typed false 0 0) $ first ! $ switches_on ! (get_tag ! (vrt ! refl (fld ! refl (stop !))) (whole !)) $ exec ! 𝓣.C 𝓣.Λ Ev (arm_body 1 both) Then $
@@ -87,5 +83,5 @@ allocate_spec 𝓤 𝓛 𝓜 𝓡 wired X Z L LZ g d dd met _ =
     sets_last ! (agg ! (and_then ! (lit ! tt) (and_then ! (get ! refl) (no_more !)))) refl good $ exec ! 𝓣.C 𝓣.Λ Ev (after 3 fn.body) (at_ret Ev Post) $ sets ! (of_opd ! (get ! refl)) refl good $
     owned ! Refusal (Is Refusal) (Struct-Makes 𝓛 (Declared.shape AE.the_type) tt) tt (vstruct vnil ∷ []) (tt, (refl, tt)) $
     use1 𝓛 (‵ (Out.own_val (Err (record {})) (val ∷ []))) (err_of 𝓛 B AE.the_row (record {}) (vstruct vnil)) $
-    use0 𝓛 (raw (fact 𝓤 (Unit {0}))) (fact_i 𝓤 (Unit {0}) (emp 𝓤) tt) $ nothing ! $ nothing ! $ fjoin ! $ nothing ! $ fjoin ! $
+    states ! (Unit {0}) tt $ all_spent ! 2 $
     returns ! (look_at ! 0 refl) $ free_all ! refl $ keep ! (3 ∷ 0 ∷ 2 ∷ 1 ∷ []) $ by ! (leaves 𝓛 En hs c y val (Err (record {})) (tt, (tt, tt)) (tt, (tt, tt)))))))))

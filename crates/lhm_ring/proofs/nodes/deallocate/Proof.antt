@@ -1,37 +1,30 @@
 -- `deallocate` gives a block back whose places are all joined. Assumes `Logic`.
-use Rattle.std.proofs.Common.{◌≡◌, ℕ, ◌*◌, ◌<◌, ◌^◌, List, [], ◌∷◌, ◌++◌, refl, sym, ap, ◌∙◌, subst, T}
-use mir.Syntax.{Ty, ty_unit, ty_array, w64}
-use mir.Val.{Val, vint, vptr, vunit, has_ty, WT}
-use mir.MapTy.{inst_fn}
+use Rattle.lhm_ring.proofs.memory.Steps.{◌≡◌, ℕ, ◌*◌, ◌<◌, ◌^◌, List, [], ◌∷◌, ◌++◌, refl, sym, ap}
+use Rattle.lhm_ring.proofs.memory.Steps.{◌∙◌, subst, T, Val, vptr, vint, w64, inst_fn, SProp, flft}
+use Rattle.lhm_ring.proofs.memory.Steps.{size-raw, ◌∵◌, ‵, raw, ◌⊛◌, at_ret, ◌$◌, !, qed, by, move}
+use Rattle.lhm_ring.proofs.memory.Steps.{keep, use0, use1, split, join, fsplit, fsplit3, rewrite}
+use Rattle.lhm_ring.proofs.memory.Steps.{feq_i, stop, fld, bin, size_lit, of_opd, no_more, and_then}
+use Rattle.lhm_ring.proofs.memory.Steps.{first, blocks, exec, returns, alloc_all, pass_all}
+use Rattle.lhm_ring.proofs.memory.Steps.{free_all, look_at, get, get_in, sets, is, env, sub, whole}
+use Rattle.lhm_ring.proofs.memory.Steps.{tables, fact, usize, yes, no, owns, types_at, plain, Ptr}
+use Rattle.lhm_ring.proofs.memory.Steps.{ptr_val, room_for, heard, Stays, stay_dropped, walk_of}
+use Rattle.lhm_ring.proofs.memory.Steps.{Goes-dropped, after, proved_at, leaves, id⊢, ty_array}
+use Rattle.lhm_ring.proofs.memory.Steps.{froom, flt_l, in_a_block, one_below, emp, vunit, unit_lit}
+use Rattle.lhm_ring.proofs.memory.Steps.{Lft, Incl-trans, later, await, group, ◌⊑◌, given, learn}
+use Rattle.lhm_ring.proofs.memory.Steps.{Ty, capped, capped_fits, RefOf, framed, has_ty, WT, tokens}
+use Rattle.lhm_ring.proofs.memory.Steps.{all_spent, runs_with}
+use mir.Syntax.{ty_unit}
 use mir.Raw.{raw as bare}
-use base.Logic.{SProp, ent, emp, id⊢}
-use base.Fml.{Fml, Lft, Share, ftrue, fsep, froom, flft, Incl-trans}
-use prog.Memory.{align, capped}
-use prog.Capped.{capped_is, capped_fits}
-use prog.RawLaws.{size-raw, align-raw}
-use prog.Wp.{WpFn}
-use contract.BorrowLft.{◌⊑◌}
-use contract.Running.{tables}
-use contract.Monad.{fact}
-use types.Kit.{◌∵◌, ‵, raw, ◌⊛◌, given, later, at_ret, ◌$◌, !, qed, by, move, keep, use0, use1, learn, await, group, split, join, fsplit, fsplit3, fjoin, suffices, rewrite, feq_i, flt_l}
-use types.Run.{stop, fld, unit_lit, of_opd, bin, size_lit, align_word, no_more, and_then, first, blocks, exec, returns, enter}
-use types.ByLocal.{alloc_all, pass_all, free_all, look_at, get, get_in, sets, lands_last, is, env}
-use types.Part.{sub, whole}
-use denote.Builtin.{RefOf, usize}
-use denote.Exit.{yes, no}
-use denote.RattleType.{owns}
-use denote.RawPtr.{Ptr, ptr_val, in_a_block, room_for}
-use denote.Signature.{types_at, plain}
-use denote.Steps.{nothing, heard}
+use base.Fml.{Share}
+use prog.Memory.{align}
+use prog.Capped.{capped_is}
+use prog.RawLaws.{align-raw}
+use types.Run.{align_word}
+use types.ByLocal.{lands_last}
 use denote.Triple.Call.{calls_at_last}
-use denote.Triple.Table.{framed}
-use denote.Triple.Walked.{Stays, stay_dropped, walk_of, Goes-dropped}
 use Rattle.std.specs.Allocator.{array_of}
 use Rattle.std.proofs.alloc.Calls.{Gives, at_gives, Gives-goes, Gives-Gives, Goes-blank}
 use Rattle.std.proofs.VecSteps.El.{El, R, P, args, elτ, sz, wider}
-use Rattle.std.proofs.VecSteps.Shapes.{after}
-use Rattle.std.proofs.raw_atomic.Walks.{proved_at, leaves}
-use Rattle.std.proofs.ptr.Rows.{one_below}
 use Rattle.lhm_ring.proofs.memory.BlockValues.{block_val, block_Good, BlockType, block_known}
 use Rattle.lhm_ring.specs.contracts.nodes.deallocate.{ended, clauses}
 use Rattle.lhm_ring.specs.contracts.nodes.deallocate.Key.{name as #self}
@@ -47,20 +40,19 @@ deallocate_spec 𝓤 𝓛 𝓜 𝓡 wired X Z L LZ g d dd met _ =
     let κs = y.0.0 in let qs = y.0.1 in let bounds = y.0.2 in let a = y.0.3 in let vss = y.0.4 in let Post : Val → SProp 𝓤 = (walk_of 𝓛 En hs c).post y in
     let hp : ℕ × ℕ = a.0.ref_ptr in let heap : Z.Denot = a.0.now in let κ : Lft = κs.0 in let q : Share = qs.0 in let r = a.1.0 in let n : ℕ = a.1.1.0 in
     let τ : Ty = elτ E in let s : ℕ = sz E in let many : Ty = bare (ty_array τ n) in
-    let others : Fml = fsep (flft κs.1.0 qs.1.0) (fsep (flft κs.1.1.0 qs.1.1.0) ftrue) in let From : Type 0 = r.alloc ≡ heap in let Count : Type 0 = r.count ≡ n in let Some : Type 0 = 0 < n in
-    qed 𝓛 (((‵ (flft κ q) ⊛ ‵ others) ⊛ ‵ (owns (types_at En.signature.params κs) a vss)) ∷ raw (fact 𝓤 _) ∷ raw (fact 𝓤 (κs.1.1.0 ⊑ Z.lives)) ∷ raw (fact 𝓤 From) ∷ raw (fact 𝓤 Count) ∷ raw (fact 𝓤 Some) ∷ []) ∵
+    let From : Type 0 = r.alloc ≡ heap in let Count : Type 0 = r.count ≡ n in let Some : Type 0 = 0 < n in
+    qed 𝓛 (((‵ (flft κ q) ⊛ ‵ (tokens 2 κs.1 qs.1)) ⊛ ‵ (owns (types_at En.signature.params κs) a vss)) ∷ raw (fact 𝓤 _) ∷ raw (fact 𝓤 (κs.1.1.0 ⊑ Z.lives)) ∷ raw (fact 𝓤 From) ∷ raw (fact 𝓤 Count) ∷ raw (fact 𝓤 Some) ∷ []) ∵
     keep ! (2 ∷ 3 ∷ 4 ∷ 5 ∷ 0 ∷ []) $ heard ! (κs.1.1.0 ⊑ Z.lives) (λ inside. heard ! From (λ from. heard ! Count (λ counted. heard ! Some (λ some. split ! $ split ! $ move ! (2 ∷ []) $ fsplit3 ! $ fsplit ! $ keep ! (2 ∷ 1 ∷ 4 ∷ 5 ∷ []) $
     -- [the block; the handle; its token; the other tokens]
     block_known (R E) (P E) E.al.g ! r vss.1.0 (λ told.
-    let us : List Val = vptr hp.0 hp.1 ∷ block_val r.ptr ∷ vint w64 n ∷ [] in let Run : List Val → SProp 𝓤 = λ ws. WpFn 𝓤 H 𝓣.C 𝓣.Λ fn ws Post in
-    suffices ! (Run us) (subst (λ (ws : List Val). ent 𝓤 (Run us) (Run ws)) (sym (λ i. are.0.0 i ++ (told i ++ (are.1.1.0.0 i ++ [])))) (id⊢ 𝓤 (Run us))) $
     fsplit3 ! $ flt_l ! (λ fit₀. let fit : n * s < 2 ^ 63 = subst (λ (m : ℕ). m * s < 2 ^ 63) counted fit₀ in
     let fs : n * s < 2 ^ 64 = wider (n * s) fit in let tiny : s < 2 ^ 64 = one_below n s (2 ^ 64) some fs in let fn64 : n < 2 ^ 64 = are.1.1.0.1 in
     -- [the token of the block; its places; the handle; ..]
     move ! (1 ∷ []) $ in_a_block ! r.ptr (λ q. room_for (array_of (R E) r.count) q) (id⊢ 𝓤 _) (λ b o e.
     rewrite ! 0 (λ (m : ℕ). ‵ (froom (bare (ty_array τ m)) b o)) counted refl $
     rewrite ! 1 (λ (m : ℕ). ‵ (g.dealloc_token r.alloc (array_of (R E) m) r.ptr)) counted refl $ rewrite ! 1 (λ (z : Z.Denot). ‵ (g.dealloc_token z many r.ptr)) from refl $ rewrite ! 1 (λ (q : Ptr). ‵ (g.dealloc_token heap many q)) e refl $
-    enter ! 𝓣.C 𝓣.Λ fn us Post $ alloc_all ! (λ l. pass_all ! refl ((tt, tt), (block_Good r.ptr, ((tt, record { fits = fn64 }), tt))) $ let Ev = env fn.locals l in
+    runs_with ! 𝓣.C 𝓣.Λ fn Post (vptr hp.0 hp.1 ∷ block_val r.ptr ∷ vint w64 n ∷ []) (λ i. are.0.0 i ++ (told i ++ (are.1.1.0.0 i ++ []))) $
+    alloc_all ! (λ l. pass_all ! refl ((tt, tt), (block_Good r.ptr, ((tt, record { fits = fn64 }), tt))) $ let Ev = env fn.locals l in
     -- [the block; its token; the handle; the token of its lifetime; the other tokens]
     sets ! (is ! (of_opd ! (get_in ! (fld ! refl (stop !)) (sub ! 0 refl (whole !)))) (ap ptr_val e)) refl (tt, tt) $ first ! $ blocks ! $ sets ! (of_opd ! (get ! refl)) refl (tt, tt) $
     sets ! (bin ! (get ! refl) (size_lit ! (record { fits = tiny })) (record { fits = fs })) refl (tt, record { fits = fs }) $
@@ -69,5 +61,5 @@ deallocate_spec 𝓤 𝓛 𝓜 𝓡 wired X Z L LZ g d dd met _ =
     calls_at_last ! (framed 𝓤 H 𝓜 𝓣) Gone (met.deallocate dd) w (and_then ! (get ! refl) (and_then ! (get ! refl) (and_then ! (get ! refl) (and_then ! (align_word !) (no_more !))))) (λ v.
     use1 𝓛 (later (given (v ≡ vunit) (‵ (flft κ q)))) (Gives-Gives E.al 𝓛 𝓜.mem 𝓡.returns κ q hp heap b o (n * s) (capped (align τ)) many v) $ await ! tt $ learn ! (λ is_unit.
     lands_last ! refl (subst (λ (z : Val). T (has_ty ty_unit z) × WT z) (sym is_unit) (tt, tt)) $ exec ! 𝓣.C 𝓣.Λ Ev (after 2 fn.body) (at_ret Ev Post) $ sets ! (of_opd ! (unit_lit !)) refl (tt, tt) $
-    move ! (0 ∷ 1 ∷ []) $ join ! $ feq_i ! (List Val) (vunit ∷ []) (vunit ∷ []) refl $ nothing ! $ nothing ! $ fjoin ! $ nothing ! $ fjoin ! $ nothing ! $ fjoin ! $
+    move ! (0 ∷ 1 ∷ []) $ join ! $ feq_i ! (List Val) (vunit ∷ []) (vunit ∷ []) refl $ all_spent ! 3 $
     returns ! (look_at ! 0 refl) $ free_all ! refl $ use0 𝓛 (raw (emp 𝓤)) (id⊢ 𝓤 (emp 𝓤)) $ keep ! (3 ∷ 1 ∷ 2 ∷ 0 ∷ []) $ by ! (leaves 𝓛 En hs c y vunit tt (tt, (tt, (tt, tt))) (tt, (tt, (tt, tt)))))))))))))))

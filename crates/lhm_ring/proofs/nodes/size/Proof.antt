@@ -1,21 +1,11 @@
 -- `size` reads the size of a type. Assumes `Logic`.
-use Rattle.std.proofs.Common.{◌≡◌, ℕ, ◌^◌, List, [], ◌∷◌, refl}
-use mir.Syntax.{Args, a_type, w64}
-use mir.Val.{Val, vint}
-use mir.MapTy.{inst_fn}
-use base.Logic.{SProp, emp}
-use base.Fml.{ftrue, flft}
-use prog.Memory.{size, capped}
-use prog.Capped.{capped_fits}
-use types.Kit.{◌∵◌, ‵, raw, ◌⊛◌, ◌$◌, !, qed, by, keep, use0, split, fjoin, feq_i, flt_i}
-use types.Run.{size_word, of_opd, returns, enter}
-use types.ByLocal.{alloc_all, pass_all, free_all, look_at, sets}
-use contract.Running.{tables}
-use contract.Monad.{fact, fact_i}
-use denote.Param.{layout, layouts}
-use denote.Steps.{nothing}
-use denote.Triple.Walked.{Stays, walk_of}
-use Rattle.std.proofs.raw_atomic.Walks.{proved_at, leaves}
+use Rattle.lhm_ring.proofs.memory.Steps.{◌≡◌, ℕ, ◌^◌, List, [], ◌∷◌, refl, Val, vint, w64, inst_fn}
+use Rattle.lhm_ring.proofs.memory.Steps.{SProp, ftrue, flft, size, ◌∵◌, ‵, raw, ◌⊛◌, ◌$◌, !, qed}
+use Rattle.lhm_ring.proofs.memory.Steps.{by, keep, split, fjoin, feq_i, of_opd, returns, alloc_all}
+use Rattle.lhm_ring.proofs.memory.Steps.{pass_all, free_all, look_at, sets, tables, layout, Stays}
+use Rattle.lhm_ring.proofs.memory.Steps.{walk_of, proved_at, leaves, flt_i, nothing, enter, capped}
+use Rattle.lhm_ring.proofs.memory.Steps.{capped_fits, Args, a_type, layouts, states}
+use types.Run.{size_word}
 use Rattle.lhm_ring.specs.contracts.nodes.size.{ended, clauses}
 use Rattle.lhm_ring.specs.contracts.nodes.size.Key.{name as #self}
 use Rattle.lhm_ring.proofs.nodes.size.Statement.{statement}
@@ -31,6 +21,6 @@ size_spec 𝓤 𝓛 𝓜 𝓡 wired X L =
     qed 𝓛 (((‵ (flft κs.0 qs.0) ⊛ ‵ ftrue) ⊛ ‵ ftrue) ∷ raw ((c κs y.0.3).requires y.1) ∷ []) ∵ split ! $ keep ! (0 ∷ []) $
     enter ! 𝓣.C 𝓣.Λ fn [] Post $ alloc_all ! (λ l. pass_all ! refl tt $
     sets ! (of_opd ! (size_word !)) refl (tt, record { fits = capped_fits n }) $
-    let Told : Type 0 = s ≡ s in use0 𝓛 (raw (fact 𝓤 Told)) (fact_i 𝓤 Told (emp 𝓤) refl) $
+    states ! (s ≡ s) refl $
     flt_i ! s (2 ^ 64) (capped_fits n) $ feq_i ! (List Val) (vint w64 s ∷ []) (vint w64 s ∷ []) refl $ fjoin ! $ nothing ! $
     returns ! (look_at ! 0 refl) $ free_all ! refl $ keep ! (3 ∷ 0 ∷ 1 ∷ 2 ∷ []) $ by ! (leaves 𝓛 En hs c y (vint w64 s) s tt tt)))

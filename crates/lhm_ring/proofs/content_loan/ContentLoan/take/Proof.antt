@@ -1,34 +1,26 @@
 -- `take` moves out what one node holds, of what is lent. Assumes `Logic`.
-use Rattle.std.proofs.Common.{◌≡◌, ℕ, ◌+◌, List, [], ◌∷◌, ◌++◌, refl, sym, ap, subst, Some, None, Option}
-use base.Fraction.{full_share}
-use mir.Val.{Val, vptr, vstruct, vcons, vnil}
-use mir.MapTy.{inst_fn}
-use base.Logic.{SProp, ent, emp, never, id⊢}
-use base.Fml.{Fml, Lft, ftrue, fsep, fat, fbor, froom, flft}
-use prog.Wp.{WpFn}
-use types.Kit.{◌∵◌, ‵, raw, ◌⊛◌, some, given, at_ret, ◌$◌, !, qed, by, move, keep, use0, use1, use2, pick, learn, split, join, fsplit, fsplit3, fjoin, fjoin3, suffices, rewrite, feq_i}
-use types.Run.{stop, fld, load, look, addr, of_opd, no_more, and_then, first, blocks, exec, returns, enter}
-use types.ByLocal.{alloc_all, pass_all, free_all, look_at, get, get_in, through, sets, sets_last, is, env}
-use types.Part.{sub, whole, agg}
-use types.Mut.{open_ref, close_ref}
-use types.SemTy.{SemTy, Body as Borrowed}
-use contract.Running.{tables}
-use contract.Monad.{fact, fact_i}
-use denote.Exit.{yes}
-use denote.RattleType.{RattleType, owns}
-use denote.Param.{layout}
-use denote.Signature.{types_at, plain, named_lft}
-use denote.RawPtr.{Ptr, ptr_val, lies_at, in_a_block}
-use denote.Steps.{nothing, heard, opens, closes}
-use denote.Triple.Walked.{Stays, stay_dropped, stay_ref, walk_of, Goes-dropped, Goes-ref}
-use Rattle.std.proofs.VecSteps.Shapes.{after}
-use Rattle.std.proofs.RcSteps.{Good, word, word-Good}
-use Rattle.std.proofs.RawLayout.{as_raw}
-use Rattle.std.proofs.raw_atomic.Walks.{proved_at, leaves}
+use Rattle.lhm_ring.proofs.memory.Steps.{◌≡◌, ℕ, ◌+◌, List, [], ◌∷◌, ◌++◌, refl, sym, ap, None}
+use Rattle.lhm_ring.proofs.memory.Steps.{full_share, Val, vptr, inst_fn, SProp, ftrue, flft, ◌∵◌, ‵}
+use Rattle.lhm_ring.proofs.memory.Steps.{raw, ◌⊛◌, at_ret, ◌$◌, !, qed, by, move, keep, use1, use2}
+use Rattle.lhm_ring.proofs.memory.Steps.{split, join, fsplit, fsplit3, fjoin, rewrite, stop, fld}
+use Rattle.lhm_ring.proofs.memory.Steps.{addr, of_opd, no_more, and_then, first, blocks, exec}
+use Rattle.lhm_ring.proofs.memory.Steps.{returns, alloc_all, pass_all, free_all, look_at, get}
+use Rattle.lhm_ring.proofs.memory.Steps.{get_in, through, sets, sets_last, is, env, sub, whole, agg}
+use Rattle.lhm_ring.proofs.memory.Steps.{tables, fact, yes, owns, layout, types_at, plain, Ptr}
+use Rattle.lhm_ring.proofs.memory.Steps.{ptr_val, lies_at, heard, opens, closes, Stays}
+use Rattle.lhm_ring.proofs.memory.Steps.{stay_dropped, stay_ref, walk_of, Goes-dropped, Goes-ref}
+use Rattle.lhm_ring.proofs.memory.Steps.{after, word, word-Good, proved_at, leaves, id⊢, RattleType}
+use Rattle.lhm_ring.proofs.memory.Steps.{in_a_block, Some, never, Fml, fsep, Option, vstruct, vcons}
+use Rattle.lhm_ring.proofs.memory.Steps.{vnil, Lft, fbor, pick, SemTy, named_lft, some, fat, given}
+use Rattle.lhm_ring.proofs.memory.Steps.{learn, Good, open_ref, states, self_left, states_also}
+use Rattle.lhm_ring.proofs.memory.Steps.{runs_with}
+use types.Run.{load, look}
+use types.Mut.{close_ref}
+use types.SemTy.{Body as Borrowed}
 use denote.Struct.Struct.{as_fields}
 use Rattle.lhm_ring.specs.declared.content_loan.ContentLoan.{ContentLoan}
 use Rattle.lhm_ring.specs.contracts.content_loan.ContentLoan as S-type
-use Rattle.lhm_ring.proofs.memory.Memory.{Three, args, RL, RK, RV, ko, vo, Pl, word-pointer, two_made, value_out}
+use Rattle.lhm_ring.proofs.memory.NodeFields.{Three, args, RL, RK, RV, ko, vo, Pl, word-pointer, two_made, value_out, three_rows, value_known, forgotten}
 use Rattle.lhm_ring.proofs.memory.ContentTaken.{CutBody, CutBody-some, firsts-same, Run, bodies_cut, bodies_glue}
 use Rattle.lhm_ring.specs.contracts.content_loan.ContentLoan.take.{ended, clauses}
 use Rattle.lhm_ring.specs.contracts.content_loan.ContentLoan.take.Key.{name as #self}
@@ -39,7 +31,7 @@ use Rattle.lhm_ring.specs.ContentLoan.{Bodies, bodies, borrows_bodies, body_in, 
 
 pub take_spec : {M : Type 1} → statement M
 take_spec 𝓤 𝓛 𝓜 𝓡 wired L K V LL LK LV =
-    let H = 𝓛.H in let 𝓣 = tables 𝓤 H 𝓜 𝓡 𝓡.env in let E : Three = record { links = L; links_laws = LL; key = K; key_laws = LK; value = V; value_laws = LV } in let R = RL E in let S = RK E in let W = RV E in
+    let H = 𝓛.H in let 𝓣 = tables 𝓤 H 𝓜 𝓡 𝓡.env in let E : Three = three_rows LL LK LV in let R = RL E in let S = RK E in let W = RV E in
     let En = ended L K V in let c = clauses L K V 𝓛 𝓜.mem 𝓡.returns in let fn = inst_fn (args E) code.function in
     let hs : Stays En.signature.params En.kept = (stay_ref (0 ∷ []) tt (plain (λ κs. S-type.the_row (named_lft 5 1 tt κs) R S W)), (stay_dropped (plain (λ _. Pl)) yes, tt)) in
     proved_at 𝓛 En hs c 𝓜 𝓡 (Goes-ref 𝓛 5 0 tt (plain (λ κs. S-type.the_row (named_lft 5 1 tt κs) R S W)), (Goes-dropped 𝓛 5 (plain (λ _. Pl)) yes (λ κs x f. refl), tt))
@@ -51,9 +43,8 @@ take_spec 𝓤 𝓛 𝓜 𝓡 wired L K V LL LK LV =
     let Asked : Type 0 = HasBody d.run p in
     qed 𝓛 (((‵ (flft κs.0 qs.0) ⊛ ‵ others) ⊛ ‵ (owns (types_at En.signature.params κs) a vss)) ∷ raw (fact 𝓤 _) ∷ raw (fact 𝓤 _) ∷ raw (fact 𝓤 _) ∷ raw (fact 𝓤 Asked) ∷ []) ∵
     keep ! (4 ∷ 0 ∷ []) $ heard ! Asked (λ asked. split ! $ split ! $ move ! (2 ∷ []) $ fsplit ! $ fsplit3 ! $ keep ! (1 ∷ 2 ∷ 4 ∷ 5 ∷ []) $
-    let us : List Val = vptr rb ro ∷ word p ∷ [] in let Runs : List Val → SProp 𝓤 = λ ws. WpFn 𝓤 H 𝓣.C 𝓣.Λ fn ws Post in
-    suffices ! (Runs us) (subst (λ (ws : List Val). ent 𝓤 (Runs us) (Runs ws)) (sym (λ i. are.0.0 i ++ (word-pointer a.1.0 vss.1.0 are.1.0 i ++ []))) (id⊢ 𝓤 (Runs us))) $
-    enter ! 𝓣.C 𝓣.Λ fn us Post $ alloc_all ! (λ l. pass_all ! refl ((tt, tt), (word-Good [] p, tt)) $ let Ev = env fn.locals l in
+    runs_with ! 𝓣.C 𝓣.Λ fn Post (vptr rb ro ∷ word p ∷ []) (λ i. are.0.0 i ++ (word-pointer a.1.0 vss.1.0 are.1.0 i ++ [])) $
+    alloc_all ! (λ l. pass_all ! refl ((tt, tt), (word-Good [] p, tt)) $ let Ev = env fn.locals l in
     let x = asked.0 in let k : CutBody d.run p x = CutBody-some d.run p x asked.1 in let xs = k.split.before in let ys = k.split.after in
     let all : List (Ptr × Option (K.Denot × V.Denot)) = xs ++ (p, Some x) ∷ ys in let left : List (Ptr × Option (K.Denot × V.Denot)) = xs ++ (p, None) ∷ ys in
     let same : firsts left ≡ firsts all = firsts-same xs p None (Some x) ys in let Bs : SemTy = Bodies R S W (firsts all) in
@@ -65,7 +56,7 @@ take_spec 𝓤 𝓛 𝓜 𝓡 wired L K V LL LK LV =
     use1 𝓛 (‵ (body_owns R S W p (Some x)) ⊛ ‵ (Run E 𝓛 (xs ++ ys))) (bodies_cut E 𝓛 xs p (Some x) ys) $ split ! $ fsplit ! $
     in_a_block ! p (λ q. lies_at S full_share (key_address R S W q) x.0) (id⊢ 𝓤 (never 𝓤)) (λ pb po e.
     move ! (1 ∷ []) $ rewrite ! 0 (λ (q : Ptr). ‵ (lies_at W full_share (value_address R S W q) x.1)) e refl $ move ! (1 ∷ []) $
-    use1 𝓛 (some (λ (u : Val). given (Good (layout K) u) (‵ (fat full_share (layout K) pb (po + ko E) u) ⊛ ‵ (K.own_val x.0 (u ∷ []))))) (value_out 1 K LK 𝓛 x.0 pb (po + ko E)) $ pick ! (λ u. learn ! (λ good. split ! $ move ! (2 ∷ []) $
+    value_known 1 K LK x.0 pb (po + ko E) ! (λ u good. move ! (2 ∷ []) $
     use1 𝓛 (some (λ (u : Val). given (Good (layout V) u) (‵ (fat full_share (layout V) pb (po + vo E) u) ⊛ ‵ (V.own_val x.1 (u ∷ []))))) (value_out 2 V LV 𝓛 x.1 pb (po + vo E)) $ pick ! (λ w. learn ! (λ fine. split ! $
     -- [the value's cell; what it owns; the key's cell; what it owns; the other bodies; their open
     -- borrow, in three; the marker; its cell; the open borrow, in three; the other tokens]
@@ -74,8 +65,8 @@ take_spec 𝓤 𝓛 𝓜 𝓡 wired L K V LL LK LV =
     sets ! (addr ! (through ! refl (fld ! refl (stop !)))) refl (tt, tt) $ sets_last ! (of_opd ! (load ! (through ! refl (stop !)) (look ! 0 refl))) refl fine $ exec ! 𝓣.C 𝓣.Λ Ev (after 4 fn.body) (at_ret Ev Post) $ sets ! (of_opd ! (get ! refl)) refl fine $
     let r : Val = vstruct (vcons u (vcons w vnil)) in
     sets ! (of_opd ! (get ! refl)) refl good $ sets ! (of_opd ! (get ! refl)) refl fine $ sets ! (agg ! (and_then ! (get ! refl) (and_then ! (get ! refl) (no_more !)))) refl (as_fields (layout K ∷ layout V ∷ []) (u ∷ w ∷ []) (good, (fine, tt))) $
-    use1 𝓛 (‵ (froom (layout V) pb (po + vo E))) (𝓛.laws.at_room (layout V) pb (po + vo E) w) $ as_raw ! (layout V) pb (po + vo E) $ move ! (2 ∷ []) $
-    use1 𝓛 (‵ (froom (layout K) pb (po + ko E))) (𝓛.laws.at_room (layout K) pb (po + ko E) u) $ as_raw ! (layout K) pb (po + ko E) $ fjoin ! $
+    forgotten ! (layout V) pb (po + vo E) w $ move ! (2 ∷ []) $
+    forgotten ! (layout K) pb (po + ko E) u $ fjoin ! $
     -- [the memory of both; what the value owns; what the key owns; the other bodies; their open
     -- borrow, in three; the marker; ..]
     rewrite ! 0 (λ (q : Ptr). ‵ (body_owns R S W q None)) (sym e) refl $ move ! (0 ∷ 3 ∷ []) $ use2 𝓛 (‵ (Run E 𝓛 left)) (bodies_glue E 𝓛 xs p None ys) $
@@ -88,11 +79,10 @@ take_spec 𝓤 𝓛 𝓜 𝓡 wired L K V LL LK LV =
     move ! (4 ∷ 0 ∷ []) $ fjoin ! $ move ! (4 ∷ 0 ∷ 5 ∷ 6 ∷ 7 ∷ []) $ closes ! tt It new vs rb ro $
     -- [self's name; its borrow; its token; the loan's token; what the value owns; what the key
     -- owns; the other tokens]
-    feq_i ! (List Val) vss.0 (vptr rb ro ∷ []) are.0.0 $ fjoin3 ! $ nothing ! $ nothing ! $ fjoin ! $ move ! (1 ∷ 0 ∷ []) $ fjoin ! $
+    self_left ! 1 are.0.0 $
     -- [self and the pointer; its token; the loan's token; the value's; the key's; the other tokens]
     move ! (2 ∷ 5 ∷ []) $ join ! $ move ! (2 ∷ 0 ∷ []) $ join ! $
     -- [the tokens; self and the pointer; the value's; the key's]
     move ! (3 ∷ 2 ∷ []) $ two_made ! S W x.0 x.1 u w $
-    let Told : Type 0 = without_body p d.run ≡ without_body p d.run in let Got : Type 0 = body_in d.run p ≡ Some x in
-    use0 𝓛 (raw (fact 𝓤 Told)) (fact_i 𝓤 Told (emp 𝓤) refl) $ use0 𝓛 (raw (fact 𝓤 Got)) (fact_i 𝓤 Got (emp 𝓤) asked.1) $ join ! $
-    returns ! (look_at ! 0 refl) $ free_all ! refl $ keep ! (2 ∷ 3 ∷ 1 ∷ 0 ∷ []) $ by ! (leaves 𝓛 En hs c y r x (new, (tt, tt)) (tt, (tt, tt))))))))))))
+    states ! (without_body p d.run ≡ without_body p d.run) refl $ states_also ! (body_in d.run p ≡ Some x) asked.1 $
+    returns ! (look_at ! 0 refl) $ free_all ! refl $ keep ! (2 ∷ 3 ∷ 1 ∷ 0 ∷ []) $ by ! (leaves 𝓛 En hs c y r x (new, (tt, tt)) (tt, (tt, tt)))))))))))

@@ -1,38 +1,28 @@
 -- `add` writes the links into the last unused place, which lies apart from the nodes. Assumes
 -- `Logic`.
-use Rattle.std.proofs.Common.{◌≡◌, ℕ, ◌+◌, ◌*◌, ◌<◌, ◌^◌, true, List, [], ◌∷◌, ◌++◌, refl, sym, ap, ◌∙◌, subst, T, ltb→lt, None, arith}
-use base.Fraction.{full_share}
-use mir.Val.{Val, vptr, vint}
-use mir.Syntax.{w64}
-use mir.MapTy.{inst_fn}
-use base.Logic.{SProp, ent, emp, id⊢}
-use base.Fml.{Fml, ftrue, fsep, flft}
-use prog.Memory.{size}
-use prog.RawLaws.{size-raw}
-use prog.Wp.{WpFn}
-use types.Kit.{◌∵◌, ‵, raw, ◌⊛◌, at_ret, ◌$◌, !, qed, by, move, keep, drop, use0, use1, use2, split, join, fsplit, fsplit3, fjoin, fjoin3, suffices, rewrite, feq_i, feq_l}
-use types.Run.{stop, fld, init, addr, bin, size_lit, of_opd, no_more, and_then, assigns_last, first, blocks, exec, returns, enter}
-use types.ByLocal.{alloc_all, pass_all, free_all, look_at, get, get_in, through, sets, sets_last, is, env}
-use types.Part.{sub, whole, agg}
-use contract.Running.{tables}
-use contract.Monad.{fact, fact_i}
-use denote.Builtin.{usize}
-use denote.Exit.{yes, no}
-use denote.RattleType.{owns}
-use denote.Param.{layout}
-use denote.Param.Laws.{param_laws}
-use denote.Signature.{types_at, plain}
-use denote.RawPtr.{Ptr, block_ptr, ptr_val, lies_at, room_for, ◌+ₚ◌}
-use denote.Steps.{nothing, heard, opens, closes}
-use denote.Triple.Walked.{Stays, stay_dropped, stay_ref, walk_of, Goes-dropped, Goes-ref}
+use Rattle.lhm_ring.proofs.memory.Steps.{◌≡◌, ℕ, ◌+◌, ◌*◌, ◌<◌, ◌^◌, true, List, [], ◌∷◌, ◌++◌}
+use Rattle.lhm_ring.proofs.memory.Steps.{refl, sym, ap, ◌∙◌, subst, T, None, full_share, Val, vptr}
+use Rattle.lhm_ring.proofs.memory.Steps.{vint, w64, inst_fn, SProp, ftrue, flft, size, size-raw}
+use Rattle.lhm_ring.proofs.memory.Steps.{◌∵◌, ‵, raw, ◌⊛◌, at_ret, ◌$◌, !, qed, by, move, keep}
+use Rattle.lhm_ring.proofs.memory.Steps.{drop, use0, use1, use2, split, join, fsplit, fsplit3}
+use Rattle.lhm_ring.proofs.memory.Steps.{fjoin, rewrite, feq_i, feq_l, stop, fld, addr, bin}
+use Rattle.lhm_ring.proofs.memory.Steps.{size_lit, of_opd, no_more, and_then, assigns_last, first}
+use Rattle.lhm_ring.proofs.memory.Steps.{blocks, exec, returns, alloc_all, pass_all, free_all}
+use Rattle.lhm_ring.proofs.memory.Steps.{look_at, get, get_in, through, sets, sets_last, is, env}
+use Rattle.lhm_ring.proofs.memory.Steps.{sub, whole, agg, tables, fact, usize, yes, no, owns}
+use Rattle.lhm_ring.proofs.memory.Steps.{layout, param_laws, types_at, plain, Ptr, block_ptr}
+use Rattle.lhm_ring.proofs.memory.Steps.{ptr_val, lies_at, room_for, heard, opens, closes, Stays}
+use Rattle.lhm_ring.proofs.memory.Steps.{stay_dropped, stay_ref, walk_of, Goes-dropped, Goes-ref}
+use Rattle.lhm_ring.proofs.memory.Steps.{after, word, word-Good, proved_at, leaves, arith, knows}
+use Rattle.lhm_ring.proofs.memory.Steps.{states_also, tokens, states, runs_with, self_left}
+use Rattle.std.proofs.Common.{ltb→lt}
+use types.Run.{init}
+use denote.RawPtr.{◌+ₚ◌}
 use Rattle.std.proofs.RawLayout.{as_written}
-use Rattle.std.proofs.VecSteps.Shapes.{after}
-use Rattle.std.proofs.RcSteps.{word, word-Good}
-use Rattle.std.proofs.raw_atomic.Walks.{proved_at, leaves}
 use Rattle.lhm_ring.proofs.lists.Apart.{IsFresh, IsApart-added}
-use Rattle.lhm_ring.proofs.memory.BlockValues.{pointer_made, knows, fresh}
-use Rattle.lhm_ring.proofs.memory.Blocks.{written, block, Rejoins, block_cut}
-use Rattle.lhm_ring.proofs.memory.Memory.{Three, args, RL, RK, RV, lo, Nr, Pl, Land, Cells, word-pointer, alone, value_in}
+use Rattle.lhm_ring.proofs.memory.BlockValues.{pointer_made, fresh}
+use Rattle.lhm_ring.proofs.memory.PlaceCut.{written, block, Rejoins, block_cut}
+use Rattle.lhm_ring.proofs.memory.NodeFields.{Three, args, RL, RK, RV, lo, Nr, Pl, Land, Cells, word-pointer, alone, value_in, three_rows}
 use Rattle.lhm_ring.proofs.memory.Places.{row-last, is_block-row_first, is_block-row_last, AreBlocks-row_other, row-next, block_ptr-in_block}
 use Rattle.lhm_ring.proofs.memory.ChunkPlaces.{land_cut, land_glue, Places, places_cut}
 use Rattle.lhm_ring.specs.contracts.nodes.Nodes.add.{ended, clauses}
@@ -43,23 +33,21 @@ use Rattle.lhm_ring.specs.Nodes.{cell, is_block, pointers, row, places, links_ad
 
 pub add_spec : {M : Type 1} → statement M
 add_spec 𝓤 𝓛 𝓜 𝓡 wired L K V LL LK LV =
-    let H = 𝓛.H in let 𝓣 = tables 𝓤 H 𝓜 𝓡 𝓡.env in let E : Three = record { links = L; links_laws = LL; key = K; key_laws = LK; value = V; value_laws = LV } in let N = Nr E in let R = RL E in let S = RK E in let W = RV E in
+    let H = 𝓛.H in let 𝓣 = tables 𝓤 H 𝓜 𝓡 𝓡.env in let E : Three = three_rows LL LK LV in let N = Nr E in let R = RL E in let S = RK E in let W = RV E in
     let En = ended L K V in let c = clauses L K V 𝓛 𝓜.mem 𝓡.returns in let fn = inst_fn (args E) code.function in
     let hs : Stays En.signature.params En.kept = (stay_ref (0 ∷ []) tt (plain (λ _. N)), (stay_dropped (plain (λ _. Pl)) yes, (stay_dropped (plain (λ _. usize)) yes, (stay_dropped (plain (λ _. R)) no, tt)))) in
     proved_at 𝓛 En hs c 𝓜 𝓡 (Goes-ref 𝓛 4 0 tt (plain (λ _. N)), (Goes-dropped 𝓛 4 (plain (λ _. Pl)) yes (λ κs x f. refl), (Goes-dropped 𝓛 4 (plain (λ _. usize)) yes (λ κs x f. refl), (Goes-dropped 𝓛 4 (plain (λ _. R)) no (λ κs x f. refl), tt))))
     (#self (args E)) fn (code.unfolded 𝓤 H 𝓜 𝓡 wired (L, (K, (V, tt)))) (λ y are.
     let κs = y.0.0 in let qs = y.0.1 in let a = y.0.3 in let vss = y.0.4 in let Post : Val → SProp 𝓤 = (walk_of 𝓛 En hs c).post y in
     let rb : ℕ = a.0.ref_ptr.0 in let ro : ℕ = a.0.ref_ptr.1 in let h : N.Denot = a.0.now in let p : Ptr = a.1.0.ptr in let n : ℕ = a.1.1.0 in
-    let others : Fml = fsep (flft κs.1.0 qs.1.0) (fsep (flft κs.1.1.0 qs.1.1.0) (fsep (flft κs.1.1.1.0 qs.1.1.1.0) ftrue)) in
     let new : L.Denot = a.1.1.1.0 in let got = alone (layout L) vss.1.1.1.0 (((param_laws 0 L LL).lawful 𝓛).typed new vss.1.1.1.0 are.1.1.1.0) in let v : Val = got.0 in
     let s : ℕ = h.node_bytes in
     let Taking : Type 0 = 0 < size (layout L) in let Small : Type 0 = s < 2 ^ 63 in let Unused : Type 0 = h.unused ≡ row p s (n + 1) in
-    qed 𝓛 (((‵ (flft κs.0 qs.0) ⊛ ‵ others) ⊛ ‵ (owns (types_at En.signature.params κs) a vss)) ∷ raw (fact 𝓤 _) ∷ raw (fact 𝓤 _) ∷ raw (fact 𝓤 _) ∷ raw (fact 𝓤 Taking) ∷ raw (fact 𝓤 Small) ∷ raw (fact 𝓤 Unused) ∷ []) ∵
+    qed 𝓛 (((‵ (flft κs.0 qs.0) ⊛ ‵ (tokens 3 κs.1 qs.1)) ⊛ ‵ (owns (types_at En.signature.params κs) a vss)) ∷ raw (fact 𝓤 _) ∷ raw (fact 𝓤 _) ∷ raw (fact 𝓤 _) ∷ raw (fact 𝓤 Taking) ∷ raw (fact 𝓤 Small) ∷ raw (fact 𝓤 Unused) ∷ []) ∵
     keep ! (4 ∷ 5 ∷ 6 ∷ 0 ∷ []) $ heard ! Taking (λ taking. heard ! Small (λ small. heard ! Unused (λ given. split ! $ split ! $ move ! (2 ∷ []) $ fsplit3 ! $ fsplit3 ! $ move ! (4 ∷ []) $ fsplit3 ! $ keep ! (4 ∷ 5 ∷ 7 ∷ 1 ∷ 8 ∷ []) $
     rewrite ! 3 (λ (ws : List Val). ‵ (R.own_val new ws)) got.1.0 refl $
-    let us : List Val = vptr rb ro ∷ word p ∷ vint w64 n ∷ v ∷ [] in let Run : List Val → SProp 𝓤 = λ ws. WpFn 𝓤 H 𝓣.C 𝓣.Λ fn ws Post in
-    suffices ! (Run us) (subst (λ (ws : List Val). ent 𝓤 (Run us) (Run ws)) (sym (λ i. are.0.0 i ++ (word-pointer a.1.0 vss.1.0 are.1.0 i ++ (are.1.1.0.0 i ++ (got.1.0 i ++ []))))) (id⊢ 𝓤 (Run us))) $
-    enter ! 𝓣.C 𝓣.Λ fn us Post $ alloc_all ! (λ l. pass_all ! refl ((tt, tt), (word-Good [] p, ((tt, record { fits = are.1.1.0.1 }), (got.1.1, tt)))) $ let Ev = env fn.locals l in
+    runs_with ! 𝓣.C 𝓣.Λ fn Post (vptr rb ro ∷ word p ∷ vint w64 n ∷ v ∷ []) (λ i. are.0.0 i ++ (word-pointer a.1.0 vss.1.0 are.1.0 i ++ (are.1.1.0.0 i ++ (got.1.0 i ++ [])))) $
+    alloc_all ! (λ l. pass_all ! refl ((tt, tt), (word-Good [] p, ((tt, record { fits = are.1.1.0.1 }), (got.1.1, tt)))) $ let Ev = env fn.locals l in
     let left : List Ptr = row p s n in let last : Ptr = p +ₚ (n * s) in
     let at : (at : ℕ × ℕ) × (p ≡ block_ptr at.0 at.1) = block_ptr-in_block p (is_block-row_first p s n h.unused given h.unused_blocks) in let pb : ℕ = at.0.0 in let po : ℕ = at.0.1 in
     opens ! tt N {h = h} rb ro (λ vs. move ! (1 ∷ []) $ fsplit ! $ move ! (1 ∷ []) $
@@ -96,14 +84,13 @@ add_spec 𝓤 𝓛 𝓜 𝓡 wired L K V LL LK LV =
       unused = left;
       chunks = h.chunks;
       unused_blocks = AreBlocks-row_other p s n h.unused given h.unused_blocks;
-      laid = subst (λ (r : Ptr). left ++ r ∷ pointers h.cells ≡ places s h.chunks) here (row-next p s n h.unused (pointers h.cells) (places s h.chunks) given h.laid);
+      laid = subst (λ (r : Ptr). left ++ r ∷ pointers h.cells ≡ places s h.chunks) here (row-next p s n h.unused given (pointers h.cells) (places s h.chunks) h.laid);
     } in
     move ! (1 ∷ 2 ∷ []) $ fjoin ! $ feq_i ! ℕ s (node_bytes R S W) sized $ fjoin ! $ use2 𝓛 (‵ (Cells E (Land E h') h'.cells)) (land_glue 𝓛 E (Land E h') h'.cells) $
     move ! (1 ∷ 0 ∷ []) $ fjoin ! $ move ! (1 ∷ 0 ∷ []) $ closes ! tt N h' vs rb ro $
-    feq_i ! (List Val) vss.0 (vptr rb ro ∷ []) are.0.0 $ fjoin3 ! $ nothing ! $ nothing ! $ fjoin ! $ nothing ! $ fjoin ! $ nothing ! $ fjoin ! $ move ! (1 ∷ 0 ∷ []) $ fjoin ! $ move ! (1 ∷ 2 ∷ []) $ join ! $
-    let Told : Type 0 = h'.cells ≡ h'.cells in let Bytes : Type 0 = s ≡ s in let Kept : Type 0 = h.chunks ≡ h.chunks in let Near : Type 0 = is_block q ≡ true in let Left : Type 0 = left ≡ left in
-    use0 𝓛 (raw (fact 𝓤 Near)) (fact_i 𝓤 Near (emp 𝓤) near_q) $ use0 𝓛 (raw (fact 𝓤 Kept)) (fact_i 𝓤 Kept (emp 𝓤) refl) $ join ! $
-    use0 𝓛 (raw (fact 𝓤 Left)) (fact_i 𝓤 Left (emp 𝓤) refl) $ join ! $
-    use0 𝓛 (raw (fact 𝓤 Bytes)) (fact_i 𝓤 Bytes (emp 𝓤) refl) $ join ! $ use0 𝓛 (raw (fact 𝓤 Told)) (fact_i 𝓤 Told (emp 𝓤) refl) $ join ! $
+    self_left ! 3 are.0.0 $ move ! (1 ∷ 2 ∷ []) $ join ! $
+    states ! (is_block q ≡ true) near_q $ states_also ! (h.chunks ≡ h.chunks) refl $
+    states_also ! (left ≡ left) refl $
+    states_also ! (s ≡ s) refl $ states_also ! (h'.cells ≡ h'.cells) refl $
     use0 𝓛 (‵ (Pl.own_val (record { ptr = q }) (word q ∷ []))) (pointer_made 𝓛 q) $
     returns ! (look_at ! 0 refl) $ free_all ! refl $ keep ! (2 ∷ 3 ∷ 0 ∷ 1 ∷ []) $ by ! (leaves 𝓛 En hs c y (word q) (record { ptr = q }) (h', (tt, (tt, (tt, tt)))) (tt, (tt, (tt, (tt, tt)))))))))))))

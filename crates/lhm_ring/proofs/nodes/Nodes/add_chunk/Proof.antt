@@ -1,32 +1,23 @@
 -- `add_chunk` cuts a block into places. Assumes `Logic`.
-use Rattle.std.proofs.Common.{◌≡◌, ℕ, ◌+◌, ◌*◌, ◌<◌, ◌^◌, Bool, true, List, [], ◌∷◌, ◌++◌, refl, sym, ap, subst, arith}
-use mir.Val.{Val, vptr}
-use mir.Syntax.{ty_array}
-use mir.MapTy.{inst_fn}
-use base.Logic.{SProp, ent, emp, id⊢, snd∗, via}
-use base.Fml.{Fml, ftrue, fsep, flft, froom}
-use prog.RawLaws.{size-raw}
-use prog.Wp.{WpFn}
-use types.Logic.{sem}
-use types.Kit.{◌∵◌, ‵, raw, ◌⊛◌, ◌$◌, !, qed, by, move, keep, use0, use1, use2, split, join, fsplit, fsplit3, fjoin, fjoin3, flt_l, flt_i, suffices, rewrite, feq_i, feq_l}
-use types.Run.{stop, fld, of_opd, no_more, and_then, returns, enter}
-use types.ByLocal.{alloc_all, pass_all, free_all, look_at, get, get_in, sets, is}
-use types.Part.{sub, whole, agg}
-use contract.Running.{tables}
-use contract.Monad.{fact, fact_i}
-use denote.Exit.{no}
-use denote.RattleType.{RattleType, owns}
-use denote.Signature.{types_at, plain}
-use denote.RawPtr.{Ptr, block_ptr, ptr_val, room_for, in_a_block}
-use denote.Steps.{nothing, heard, opens, closes}
-use denote.Triple.Walked.{Stays, stay_dropped, stay_ref, walk_of, Goes-ref}
-use Rattle.std.proofs.RcSteps.{word, word-Good}
-use Rattle.std.proofs.raw_atomic.Walks.{proved_at, leaves}
-use Rattle.lhm_ring.proofs.memory.BlockValues.{block_val, block_Good, BlockType, block_known, pointer_made, knows}
-use Rattle.lhm_ring.proofs.memory.Blocks.{written, block}
+use Rattle.lhm_ring.proofs.memory.Steps.{◌≡◌, ℕ, ◌+◌, ◌*◌, ◌<◌, ◌^◌, true, List, [], ◌∷◌, ◌++◌}
+use Rattle.lhm_ring.proofs.memory.Steps.{refl, sym, ap, subst, Val, vptr, inst_fn, SProp, ftrue}
+use Rattle.lhm_ring.proofs.memory.Steps.{flft, size-raw, ◌∵◌, ‵, raw, ◌⊛◌, ◌$◌, !, qed, by, move}
+use Rattle.lhm_ring.proofs.memory.Steps.{keep, use0, use1, use2, split, join, fsplit, fsplit3}
+use Rattle.lhm_ring.proofs.memory.Steps.{fjoin, rewrite, feq_i, feq_l, stop, fld, of_opd, no_more}
+use Rattle.lhm_ring.proofs.memory.Steps.{and_then, returns, alloc_all, pass_all, free_all, look_at}
+use Rattle.lhm_ring.proofs.memory.Steps.{get, get_in, sets, is, sub, whole, agg, tables, fact, no}
+use Rattle.lhm_ring.proofs.memory.Steps.{owns, types_at, plain, Ptr, block_ptr, ptr_val, room_for}
+use Rattle.lhm_ring.proofs.memory.Steps.{heard, opens, closes, Stays, stay_dropped, stay_ref}
+use Rattle.lhm_ring.proofs.memory.Steps.{walk_of, Goes-ref, word, word-Good, proved_at, leaves}
+use Rattle.lhm_ring.proofs.memory.Steps.{arith, id⊢, ty_array, froom, sem, flt_l, flt_i, RattleType}
+use Rattle.lhm_ring.proofs.memory.Steps.{in_a_block, one_below, snd∗, via, knows, states_also}
+use Rattle.lhm_ring.proofs.memory.Steps.{tokens, states, runs_with, self_left}
+use Rattle.std.proofs.Common.{Bool}
+use Rattle.lhm_ring.proofs.memory.BlockValues.{block_val, block_Good, BlockType, block_known, pointer_made}
+use Rattle.lhm_ring.proofs.memory.PlaceCut.{written, block}
 use Rattle.lhm_ring.proofs.memory.ChunkPlaces.{land_cut, land_glue, Places, Chunks, places_glue, chunks_glue, array_cut}
-use Rattle.lhm_ring.proofs.lists.ListFacts.{AllByRecursion-append}
-use Rattle.lhm_ring.proofs.memory.Memory.{Three, args, RL, RK, RV, Nr, Pl, Land, Cells}
+use Rattle.lhm_ring.proofs.lists.ForAll.{AllByRecursion-append}
+use Rattle.lhm_ring.proofs.memory.NodeFields.{Three, args, RL, RK, RV, Nr, Pl, Land, Cells, three_rows}
 use Rattle.lhm_ring.proofs.memory.Places.{AreBlocks-row, row-more, nat_lt-near}
 use Rattle.std.proofs.alloc.Calls.{Goes-blank}
 use Rattle.std.specs.contracts.alloc.Global as heap
@@ -34,7 +25,6 @@ use Rattle.std.specs.contracts.impls.GlobalAllocator.TheImpl.{ghosts}
 use Rattle.std.specs.Allocator.{array_of}
 use Rattle.lhm_ring.specs.contracts.nodes.Node as N-type
 use Rattle.std.proofs.GlobalToken.{dealloc_token_start}
-use Rattle.std.proofs.ptr.Rows.{one_below}
 use Rattle.lhm_ring.specs.contracts.nodes.Nodes.add_chunk.{ended, clauses}
 use Rattle.lhm_ring.specs.contracts.nodes.Nodes.add_chunk.Key.{name as #self}
 use Rattle.lhm_ring.proofs.nodes.Nodes.add_chunk.Statement.{statement}
@@ -43,7 +33,7 @@ use Rattle.lhm_ring.specs.Nodes.{is_block, pointers, row, node_bytes, chunk_toke
 
 pub add_chunk_spec : {M : Type 1} → statement M
 add_chunk_spec 𝓤 𝓛 𝓜 𝓡 wired L K V LL LK LV =
-    let H = 𝓛.H in let 𝓣 = tables 𝓤 H 𝓜 𝓡 𝓡.env in let E : Three = record { links = L; links_laws = LL; key = K; key_laws = LK; value = V; value_laws = LV } in let N = Nr E in let R = RL E in let S = RK E in let W = RV E in
+    let H = 𝓛.H in let 𝓣 = tables 𝓤 H 𝓜 𝓡 𝓡.env in let E : Three = three_rows LL LK LV in let N = Nr E in let R = RL E in let S = RK E in let W = RV E in
     let En = ended L K V in let c = clauses L K V 𝓛 𝓜.mem 𝓡.returns in let fn = inst_fn (args E) code.function in
     let Row : RattleType = N-type.the_row R S W in let Block : RattleType = BlockType Row heap.the_row ghosts in
     let hs : Stays En.signature.params En.kept = (stay_ref (0 ∷ []) tt (plain (λ _. N)), (stay_dropped (plain (λ _. Block)) no, tt)) in
@@ -51,21 +41,19 @@ add_chunk_spec 𝓤 𝓛 𝓜 𝓡 wired L K V LL LK LV =
     (#self (args E)) fn (code.unfolded 𝓤 H 𝓜 𝓡 wired (L, (K, (V, tt)))) (λ y are.
     let κs = y.0.0 in let qs = y.0.1 in let a = y.0.3 in let vss = y.0.4 in let Post : Val → SProp 𝓤 = (walk_of 𝓛 En hs c).post y in
     let rb : ℕ = a.0.ref_ptr.0 in let ro : ℕ = a.0.ref_ptr.1 in let h : N.Denot = a.0.now in let given = a.1.0 in let n : ℕ = given.count in let s : ℕ = h.node_bytes in
-    let others : Fml = fsep (flft κs.1.0 qs.1.0) (fsep (flft κs.1.1.0 qs.1.1.0) (fsep (flft κs.1.1.1.0 qs.1.1.1.0) ftrue)) in
     let Asked : Type 0 = 0 < n in
-    qed 𝓛 (((‵ (flft κs.0 qs.0) ⊛ ‵ others) ⊛ ‵ (owns (types_at En.signature.params κs) a vss)) ∷ raw (fact 𝓤 _) ∷ raw (fact 𝓤 _) ∷ raw (fact 𝓤 _) ∷ raw (fact 𝓤 Asked) ∷ []) ∵
+    qed 𝓛 (((‵ (flft κs.0 qs.0) ⊛ ‵ (tokens 3 κs.1 qs.1)) ⊛ ‵ (owns (types_at En.signature.params κs) a vss)) ∷ raw (fact 𝓤 _) ∷ raw (fact 𝓤 _) ∷ raw (fact 𝓤 _) ∷ raw (fact 𝓤 Asked) ∷ []) ∵
     keep ! (4 ∷ 0 ∷ []) $ heard ! Asked (λ some. split ! $ split ! $ move ! (2 ∷ []) $ fsplit3 ! $ fsplit3 ! $ keep ! (3 ∷ 1 ∷ 2 ∷ 5 ∷ 6 ∷ []) $
     -- [the block; self, in two; its token; the other tokens]
     block_known Row heap.the_row ghosts ! given vss.1.0 (λ told.
-    let us : List Val = vptr rb ro ∷ block_val given.ptr ∷ [] in let Run : List Val → SProp 𝓤 = λ ws. WpFn 𝓤 H 𝓣.C 𝓣.Λ fn ws Post in
-    suffices ! (Run us) (subst (λ (ws : List Val). ent 𝓤 (Run us) (Run ws)) (sym (λ i. are.0.0 i ++ (told i ++ []))) (id⊢ 𝓤 (Run us))) $
     fsplit3 ! $ flt_l ! (λ fit. move ! (1 ∷ []) $ in_a_block ! given.ptr (λ q. room_for (array_of Row n) q) (id⊢ 𝓤 _) (λ b o e. let p : Ptr = block_ptr b o in
     rewrite ! 1 (λ (q : Ptr). ‵ (chunk_token (ty_array (block E) n) q)) e refl $
     let token : SProp 𝓤 = sem 𝓛 (chunk_token (ty_array (block E) n) p) in
     knows ! (o ≡ 0) (via 𝓤 token (snd∗ 𝓤 (sem 𝓛 (froom (ty_array (block E) n) b o)) token) (dealloc_token_start 𝓛 (record { memory = record { seal = tt } }) (ty_array (block E) n) p)) (λ starts.
     use1 𝓛 (‵ (Places 𝓛 E (row p (node_bytes R S W) n))) (array_cut 𝓛 E n b o) $
     -- [the new places; the token of the chunk; self, in two; its token; the other tokens]
-    enter ! 𝓣.C 𝓣.Λ fn us Post $ alloc_all ! (λ l. pass_all ! refl ((tt, tt), (block_Good given.ptr, tt)) $
+    runs_with ! 𝓣.C 𝓣.Λ fn Post (vptr rb ro ∷ block_val given.ptr ∷ []) (λ i. are.0.0 i ++ (told i ++ [])) $
+    alloc_all ! (λ l. pass_all ! refl ((tt, tt), (block_Good given.ptr, tt)) $
     move ! (2 ∷ 3 ∷ 4 ∷ []) $ opens ! tt N {h = h} rb ro (λ vs. move ! (1 ∷ []) $ fsplit ! $ move ! (1 ∷ []) $
     use1 𝓛 (‵ (Land E h) ⊛ ‵ (Cells E ftrue h.cells)) (land_cut 𝓛 E (Land E h) h.cells) $ split ! $ fsplit ! $ feq_l ! (λ sized. fsplit ! $
     -- [the unused places; the chunks; the nodes; the marker; its cell; the open borrow, in three;
@@ -90,9 +78,8 @@ add_chunk_spec 𝓤 𝓛 𝓜 𝓡 wired L K V LL LK LV =
     use2 𝓛 (‵ (Cells E (Land E h') h.cells)) (land_glue 𝓛 E (Land E h') h.cells) $
     move ! (1 ∷ 0 ∷ []) $ fjoin ! $ move ! (1 ∷ 0 ∷ []) $ closes ! tt N h' vs rb ro $
     sets ! (is ! (of_opd ! (get_in ! (fld ! refl (stop !)) (sub ! 0 refl (whole !)))) (ap ptr_val e)) refl (tt, tt) $ sets ! (of_opd ! (get ! refl)) refl (tt, tt) $ sets ! (agg ! (and_then ! (get ! refl) (no_more !))) refl (word-Good [] p) $
-    feq_i ! (List Val) vss.0 (vptr rb ro ∷ []) are.0.0 $ fjoin3 ! $ nothing ! $ nothing ! $ fjoin ! $ move ! (1 ∷ 0 ∷ []) $ fjoin ! $ move ! (1 ∷ 2 ∷ []) $ join ! $
-    let Told : Type 0 = h.cells ≡ h.cells in let Bytes : Type 0 = (s ≡ s) × (s < 2 ^ 63) in let Unused : Type 0 = us' ≡ us' in let Kept : Type 0 = h'.chunks ≡ h'.chunks in
-    use0 𝓛 (raw (fact 𝓤 Kept)) (fact_i 𝓤 Kept (emp 𝓤) refl) $ use0 𝓛 (raw (fact 𝓤 Unused)) (fact_i 𝓤 Unused (emp 𝓤) refl) $ join ! $
-    use0 𝓛 (raw (fact 𝓤 Bytes)) (fact_i 𝓤 Bytes (emp 𝓤) (refl, low)) $ join ! $ use0 𝓛 (raw (fact 𝓤 Told)) (fact_i 𝓤 Told (emp 𝓤) refl) $ join ! $
+    self_left ! 1 are.0.0 $ move ! (1 ∷ 2 ∷ []) $ join ! $
+    states ! (h'.chunks ≡ h'.chunks) refl $ states_also ! (us' ≡ us') refl $
+    states_also ! ((s ≡ s) × (s < 2 ^ 63)) (refl, low) $ states_also ! (h.cells ≡ h.cells) refl $
     use0 𝓛 (‵ (Pl.own_val (record { ptr = p }) (word p ∷ []))) (pointer_made 𝓛 p) $
     returns ! (look_at ! 0 refl) $ free_all ! refl $ keep ! (2 ∷ 3 ∷ 0 ∷ 1 ∷ []) $ by ! (leaves 𝓛 En hs c y (word p) (record { ptr = p }) (h', (tt, tt)) (tt, (tt, tt))))))))))))

@@ -1,26 +1,17 @@
 -- `clear` makes all nodes places: what they hold is forgotten. Assumes `Logic`.
+use Rattle.lhm_ring.proofs.memory.Steps.{◌≡◌, ℕ, true, List, [], ◌∷◌, ◌++◌, refl, subst, Val, vptr}
+use Rattle.lhm_ring.proofs.memory.Steps.{inst_fn, SProp, ftrue, flft, ◌∵◌, ‵, raw, ◌⊛◌, ◌$◌, !, qed}
+use Rattle.lhm_ring.proofs.memory.Steps.{by, move, keep, use1, use2, split, join, fsplit, fsplit3}
+use Rattle.lhm_ring.proofs.memory.Steps.{fjoin, rewrite, feq_i, feq_l, of_opd, returns, alloc_all}
+use Rattle.lhm_ring.proofs.memory.Steps.{pass_all, free_all, look_at, sets, tables, fact, owns}
+use Rattle.lhm_ring.proofs.memory.Steps.{types_at, plain, Ptr, opens, closes, Stays, stay_ref}
+use Rattle.lhm_ring.proofs.memory.Steps.{walk_of, Goes-ref, proved_at, leaves, emp, vunit, unit_lit}
+use Rattle.lhm_ring.proofs.memory.Steps.{runs_with, states_also, tokens, states, self_left}
 use Rattle.std.proofs.lemmas.List.{append-nil}
-use Rattle.std.proofs.Common.{◌≡◌, ℕ, true, List, [], ◌∷◌, ◌++◌, refl, sym, subst}
-use mir.Val.{Val, vptr, vunit}
-use mir.MapTy.{inst_fn}
-use base.Logic.{SProp, ent, emp, id⊢}
-use base.Fml.{Fml, ftrue, fsep, flft}
-use prog.Wp.{WpFn}
-use types.Kit.{◌∵◌, ‵, raw, ◌⊛◌, ◌$◌, !, qed, by, move, keep, use0, use1, use2, split, join, fsplit, fsplit3, fjoin, fjoin3, suffices, rewrite, feq_i, feq_l}
-use types.Run.{unit_lit, of_opd, returns, enter}
-use types.ByLocal.{alloc_all, pass_all, free_all, look_at, sets}
-use contract.Running.{tables}
-use contract.Monad.{fact, fact_i}
-use denote.RattleType.{owns}
-use denote.Signature.{types_at, plain}
-use denote.RawPtr.{Ptr}
-use denote.Steps.{nothing, opens, closes}
-use denote.Triple.Walked.{Stays, stay_ref, walk_of, Goes-ref}
-use Rattle.std.proofs.raw_atomic.Walks.{proved_at, leaves}
 use Rattle.lhm_ring.proofs.lists.Apart.{IsApart-none}
 use Rattle.lhm_ring.proofs.memory.ChunkPlaces.{land_cut, Places, places_glue, cells_emptied}
-use Rattle.lhm_ring.proofs.lists.ListFacts.{AllByRecursion-append}
-use Rattle.lhm_ring.proofs.memory.Memory.{Three, args, RL, RK, RV, Nr, Land, Cells}
+use Rattle.lhm_ring.proofs.lists.ForAll.{AllByRecursion-append}
+use Rattle.lhm_ring.proofs.memory.NodeFields.{Three, args, RL, RK, RV, Nr, Land, Cells, three_rows}
 use Rattle.lhm_ring.specs.contracts.nodes.Nodes.clear.{ended, clauses}
 use Rattle.lhm_ring.specs.contracts.nodes.Nodes.clear.Key.{name as #self}
 use Rattle.lhm_ring.proofs.nodes.Nodes.clear.Statement.{statement}
@@ -29,20 +20,18 @@ use Rattle.lhm_ring.specs.Nodes.{is_block, pointers, AreBlocks, places, node_byt
 
 pub clear_spec : {M : Type 1} → statement M
 clear_spec 𝓤 𝓛 𝓜 𝓡 wired L K V LL LK LV =
-    let H = 𝓛.H in let 𝓣 = tables 𝓤 H 𝓜 𝓡 𝓡.env in let E : Three = record { links = L; links_laws = LL; key = K; key_laws = LK; value = V; value_laws = LV } in let N = Nr E in let R = RL E in let S = RK E in let W = RV E in
+    let H = 𝓛.H in let 𝓣 = tables 𝓤 H 𝓜 𝓡 𝓡.env in let E : Three = three_rows LL LK LV in let N = Nr E in let R = RL E in let S = RK E in let W = RV E in
     let En = ended L K V in let c = clauses L K V 𝓛 𝓜.mem 𝓡.returns in let fn = inst_fn (args E) code.function in
     let hs : Stays En.signature.params En.kept = (stay_ref (0 ∷ []) tt (plain (λ _. N)), tt) in
     proved_at 𝓛 En hs c 𝓜 𝓡 (Goes-ref 𝓛 4 0 tt (plain (λ _. N)), tt)
     (#self (args E)) fn (code.unfolded 𝓤 H 𝓜 𝓡 wired (L, (K, (V, tt)))) (λ y are.
     let κs = y.0.0 in let qs = y.0.1 in let a = y.0.3 in let vss = y.0.4 in let Post : Val → SProp 𝓤 = (walk_of 𝓛 En hs c).post y in
     let rb : ℕ = a.0.ref_ptr.0 in let ro : ℕ = a.0.ref_ptr.1 in let h : N.Denot = a.0.now in let s : ℕ = h.node_bytes in
-    let others : Fml = fsep (flft κs.1.0 qs.1.0) (fsep (flft κs.1.1.0 qs.1.1.0) (fsep (flft κs.1.1.1.0 qs.1.1.1.0) ftrue)) in
-    qed 𝓛 (((‵ (flft κs.0 qs.0) ⊛ ‵ others) ⊛ ‵ (owns (types_at En.signature.params κs) a vss)) ∷ raw (fact 𝓤 _) ∷ raw (fact 𝓤 _) ∷ raw (fact 𝓤 _) ∷ raw (emp 𝓤) ∷ []) ∵
+    qed 𝓛 (((‵ (flft κs.0 qs.0) ⊛ ‵ (tokens 3 κs.1 qs.1)) ⊛ ‵ (owns (types_at En.signature.params κs) a vss)) ∷ raw (fact 𝓤 _) ∷ raw (fact 𝓤 _) ∷ raw (fact 𝓤 _) ∷ raw (emp 𝓤) ∷ []) ∵
     keep ! (0 ∷ []) $ split ! $ split ! $ move ! (2 ∷ []) $ fsplit ! $ fsplit3 ! $ keep ! (1 ∷ 2 ∷ 4 ∷ 5 ∷ []) $
     -- [self, in two; its token; the other tokens]
-    let us : List Val = vptr rb ro ∷ [] in let Run : List Val → SProp 𝓤 = λ ws. WpFn 𝓤 H 𝓣.C 𝓣.Λ fn ws Post in
-    suffices ! (Run us) (subst (λ (ws : List Val). ent 𝓤 (Run us) (Run ws)) (sym (λ i. are.0.0 i ++ [])) (id⊢ 𝓤 (Run us))) $
-    enter ! 𝓣.C 𝓣.Λ fn us Post $ alloc_all ! (λ l. pass_all ! refl ((tt, tt), tt) $
+    runs_with ! 𝓣.C 𝓣.Λ fn Post (vptr rb ro ∷ []) (λ i. are.0.0 i ++ []) $
+    alloc_all ! (λ l. pass_all ! refl ((tt, tt), tt) $
     opens ! tt N {h = h} rb ro (λ vs. move ! (1 ∷ []) $ fsplit ! $ move ! (1 ∷ []) $
     use1 𝓛 (‵ (Land E h) ⊛ ‵ (Cells E ftrue h.cells)) (land_cut 𝓛 E (Land E h) h.cells) $ split ! $ fsplit ! $ feq_l ! (λ sized. fsplit ! $ move ! (2 ∷ []) $
     -- [the nodes; the unused places; the chunks; the marker; its cell; the open borrow, in three;
@@ -62,9 +51,8 @@ clear_spec 𝓤 𝓛 𝓜 𝓡 wired L K V LL LK LV =
       laid = append-nil all;
     } in
     move ! (1 ∷ 0 ∷ []) $ fjoin ! $ move ! (1 ∷ 0 ∷ []) $ closes ! tt N h' vs rb ro $ sets ! (of_opd ! (unit_lit !)) refl (tt, tt) $
-    feq_i ! (List Val) vss.0 (vptr rb ro ∷ []) are.0.0 $ fjoin3 ! $ nothing ! $ move ! (1 ∷ 0 ∷ []) $ fjoin ! $ move ! (1 ∷ 2 ∷ []) $ join ! $
-    let Told : Type 0 = h'.cells ≡ [] in let Unused : Type 0 = all ≡ all in let Bytes : Type 0 = s ≡ s in let Kept : Type 0 = h.chunks ≡ h.chunks in
-    use0 𝓛 (raw (fact 𝓤 Kept)) (fact_i 𝓤 Kept (emp 𝓤) refl) $ use0 𝓛 (raw (fact 𝓤 Bytes)) (fact_i 𝓤 Bytes (emp 𝓤) refl) $ join ! $
-    use0 𝓛 (raw (fact 𝓤 Unused)) (fact_i 𝓤 Unused (emp 𝓤) refl) $ join ! $ use0 𝓛 (raw (fact 𝓤 Told)) (fact_i 𝓤 Told (emp 𝓤) refl) $ join ! $
+    self_left ! 0 are.0.0 $ move ! (1 ∷ 2 ∷ []) $ join ! $
+    states ! (h.chunks ≡ h.chunks) refl $ states_also ! (s ≡ s) refl $
+    states_also ! (all ≡ all) refl $ states_also ! (h'.cells ≡ []) refl $
     feq_i ! (List Val) (vunit ∷ []) (vunit ∷ []) refl $
     returns ! (look_at ! 0 refl) $ free_all ! refl $ keep ! (2 ∷ 3 ∷ 0 ∷ 1 ∷ []) $ by ! (leaves 𝓛 En hs c y vunit tt (h', tt) (tt, tt))))))

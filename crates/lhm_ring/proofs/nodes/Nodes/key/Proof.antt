@@ -2,7 +2,7 @@
 use Rattle.std.proofs.Common.{refl}
 use Rattle.lhm_ring.proofs.memory.FieldSeen.{key_lent, field_seen}
 use Rattle.lhm_ring.proofs.rings.Lookup.{Cut-held, held_here}
-use Rattle.lhm_ring.proofs.memory.Memory.{Three, ko}
+use Rattle.lhm_ring.proofs.memory.NodeFields.{Three, three_rows, ko}
 use Rattle.lhm_ring.specs.contracts.nodes.Nodes.key.Key.{name as #self}
 use Rattle.lhm_ring.proofs.nodes.Nodes.key.Statement.{statement}
 use Rattle.lhm_ring.proofs.nodes.Nodes.key.Code as code
@@ -10,7 +10,7 @@ use Rattle.lhm_ring.specs.Nodes.{Holds, IsKey, body_at}
 
 pub key_spec : {M : Type 1} → statement M
 key_spec 𝓤 𝓛 𝓜 𝓡 wired L K V LL LK LV =
-    let E : Three = record { links = L; links_laws = LL; key = K; key_laws = LK; value = V; value_laws = LV } in
+    let E : Three = three_rows LL LK LV in
     field_seen E 1 K (ko E) 𝓛 𝓜 𝓡 Holds (λ x cs p. IsKey x (body_at cs p)) #self code.function (code.unfolded 𝓤 𝓛.H 𝓜 𝓡 wired (L, (K, (V, tt)))) refl refl
     (λ cs p asked. let x = asked.0 in let k = Cut-held cs p x asked.1 in record {
       value = x.0;

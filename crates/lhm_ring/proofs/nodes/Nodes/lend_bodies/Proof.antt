@@ -1,40 +1,30 @@
 -- `lend_bodies` shares the nodes as nodes of holes, and lends what they hold. Assumes `Logic`.
-use Rattle.std.proofs.Common.{◌≡◌, ℕ, List, [], ◌∷◌, ◌++◌, refl, sym, subst, Option}
-use mir.Syntax.{named}
-use mir.Val.{Val, vptr, vstruct, vcons, vnil}
-use mir.MapTy.{inst_fn}
-use base.Logic.{SProp, ent, emp, id⊢}
-use base.Fml.{Fml, Lft, Incl-trans, Incl-refl, ftrue, fsep, flft, fobs, fauth, fbor, fseps}
-use prog.Wp.{WpFn}
-use types.Kit.{◌∵◌, ‵, raw, ◌⊛◌, some, later, at_ret, ◌$◌, !, qed, by, move, keep, use0, use1, use2, use3, pick, await, group, split, split3, join, fsplit, fsplit3, fjoin, fjoin3, fpack, suffices, feq_i}
-use types.Run.{stop, addr, of_opd, no_more, and_then, first, blocks, exec, returns, enter}
-use types.ByLocal.{alloc_all, pass_all, free_all, look_at, get, through, sets, sets_last, env}
-use types.Part.{agg}
+use Rattle.lhm_ring.proofs.memory.Steps.{◌≡◌, ℕ, List, [], ◌∷◌, ◌++◌, refl, Val, vptr, inst_fn}
+use Rattle.lhm_ring.proofs.memory.Steps.{SProp, emp, id⊢, Fml, ftrue, fsep, flft, ◌∵◌, ‵, raw, ◌⊛◌}
+use Rattle.lhm_ring.proofs.memory.Steps.{at_ret, ◌$◌, !, qed, by, move, keep, use0, use1, use2}
+use Rattle.lhm_ring.proofs.memory.Steps.{split, join, fsplit, fsplit3, fjoin, fjoin3, feq_i, stop}
+use Rattle.lhm_ring.proofs.memory.Steps.{addr, of_opd, no_more, and_then, first, blocks, exec}
+use Rattle.lhm_ring.proofs.memory.Steps.{returns, alloc_all, pass_all, free_all, look_at, get}
+use Rattle.lhm_ring.proofs.memory.Steps.{through, sets, sets_last, env, agg, tables, fact, no, owns}
+use Rattle.lhm_ring.proofs.memory.Steps.{param_laws, types_at, plain, Ptr, nothing, heard, opens}
+use Rattle.lhm_ring.proofs.memory.Steps.{Stays, stay_dropped, walk_of, after, proved_at, leaves}
+use Rattle.lhm_ring.proofs.memory.Steps.{RattleType, Option, named, vstruct, vcons, vnil, Lft}
+use Rattle.lhm_ring.proofs.memory.Steps.{Incl-trans, fobs, fbor, later, pick, await, group, split3}
+use Rattle.lhm_ring.proofs.memory.Steps.{SemTy, ◌⊑◌, follows, mem, hide, Bor, MutBor, mut_ref_to}
+use Rattle.lhm_ring.proofs.memory.Steps.{named_lft, Goes-spent_ref, states_also, tokens, runs_with}
+use Rattle.lhm_ring.proofs.memory.Steps.{all_spent, states}
+use base.Fml.{Incl-refl, fauth, fseps}
+use types.Kit.{some, use3, fpack}
 use types.Tokens.{name_new}
 use types.Follow.{takes_beside}
-use types.SemTy.{SemTy, Body as Borrowed}
-use contract.Running.{tables}
-use contract.BorrowLft.{◌⊑◌}
-use contract.Monad.{fact, fact_i}
-use denote.Exit.{no}
-use denote.Follow.{follows}
-use denote.Memory.{mem}
-use denote.Opens.{hide}
-use denote.RattleType.{RattleType, owns}
-use denote.RawPtr.{Ptr}
-use denote.Ref.{Bor, MutBor, ShrRef, MutRef}
-use denote.Signature.{types_at, plain, mut_ref_to, named_lft}
-use denote.Steps.{nothing, heard, opens}
-use denote.Triple.Walked.{Stays, stay_dropped, walk_of, Goes-spent_ref}
-use Rattle.std.proofs.VecSteps.Shapes.{after}
-use Rattle.std.proofs.raw_atomic.Walks.{proved_at, leaves}
+use types.SemTy.{Body as Borrowed}
+use denote.Ref.{ShrRef, MutRef}
 use Rattle.lhm_ring.specs.declared.content_loan.ContentLoan.{ContentLoan}
 use Rattle.lhm_ring.specs.contracts.content_loan.ContentLoan as S-type
 use Rattle.lhm_ring.proofs.value_loan.Hole.TheLaws as H-laws
 use Rattle.lhm_ring.proofs.nodes.Nodes.TheLaws as N-laws
-use denote.Param.Laws.{param_laws}
-use Rattle.lhm_ring.proofs.memory.Memory.{Three, args, RL, RK, RV, Nr, Land, marker}
-use Rattle.lhm_ring.proofs.memory.ContentsSplitOff.{HS, HW, stems, cells_out, Fields, LentBodies, fields_made, back, BareRow, Holed, Shares-bare, ContentMarker, content_loan_made, Anchor, anchor_made, three_made}
+use Rattle.lhm_ring.proofs.memory.NodeFields.{Three, args, RL, RK, RV, Nr, Land, marker, three_rows}
+use Rattle.lhm_ring.proofs.memory.ContentsSplitOff.{HS, HW, stems, contents_cut, Fields, LentBodies, fields_made, back, BareRow, Holed, Shares-bare, ContentMarker, content_loan_made, Anchor, anchor_made, three_made}
 use Rattle.lhm_ring.specs.contracts.nodes.Nodes.lend_bodies.{ended, clauses}
 use Rattle.lhm_ring.specs.contracts.nodes.Nodes.lend_bodies.Key.{name as #self}
 use Rattle.lhm_ring.proofs.nodes.Nodes.lend_bodies.Statement.{statement}
@@ -45,24 +35,22 @@ use Rattle.lhm_ring.specs.ContentLoan.{bodies, bodies_of, firsts, seconds}
 pub lend_bodies_spec : {M : Type 1} → statement M
 unfolding fseps
 lend_bodies_spec 𝓤 𝓛 𝓜 𝓡 wired L K V LL LK LV =
-    let H = 𝓛.H in let 𝓣 = tables 𝓤 H 𝓜 𝓡 𝓡.env in let E : Three = record { links = L; links_laws = LL; key = K; key_laws = LK; value = V; value_laws = LV } in let N = Nr E in let R = RL E in let S = RK E in let W = RV E in
+    let H = 𝓛.H in let 𝓣 = tables 𝓤 H 𝓜 𝓡 𝓡.env in let E : Three = three_rows LL LK LV in let N = Nr E in let R = RL E in let S = RK E in let W = RV E in
     let En = ended L K V in let c = clauses L K V 𝓛 𝓜.mem 𝓡.returns in let fn = inst_fn (args E) code.function in
     let hs : Stays En.signature.params En.kept = (stay_dropped (mut_ref_to (0 ∷ []) tt (plain (λ _. N))) no, tt) in
     proved_at 𝓛 En hs c 𝓜 𝓡 (Goes-spent_ref 𝓛 4 (0 ∷ []) tt (plain (λ _. N)), tt)
     (#self (args E)) fn (code.unfolded 𝓤 H 𝓜 𝓡 wired (L, (K, (V, tt)))) (λ y are.
     let κs = y.0.0 in let qs = y.0.1 in let a = y.0.3 in let vss = y.0.4 in let Post : Val → SProp 𝓤 = (walk_of 𝓛 En hs c).post y in
     let rb : ℕ = a.0.ref_ptr.0 in let ro : ℕ = a.0.ref_ptr.1 in let h : N.Denot = a.0.now in
-    let others : Fml = fsep (flft κs.1.0 qs.1.0) (fsep (flft κs.1.1.0 qs.1.1.0) (fsep (flft κs.1.1.1.0 qs.1.1.1.0) ftrue)) in
     let κ : Lft = κs.0 in let q = qs.0 in let γ = a.0.ghost_name in let hcode = N.coded.code h in let bounds = y.0.2 in
     let It : RattleType = S-type.the_row (named_lft 4 0 tt κs) R S W in let sm : RattleType = ContentMarker (named_lft 4 0 tt κs) R S W in let Hr : RattleType = Holed R S W in
     let ps : List Ptr = firsts (bodies_of h.cells) in let os : List (Option (K.Denot × V.Denot)) = seconds (bodies_of h.cells) in let Bs : SemTy = LentBodies E 𝓛 h rb ro in let Fs : Fml = Fields E 𝓛 h rb ro in
-    qed 𝓛 (((‵ (flft κs.0 qs.0) ⊛ ‵ others) ⊛ ‵ (owns (types_at En.signature.params κs) a vss)) ∷ raw (fact 𝓤 (κs.1.0 ⊑ L.lives)) ∷ raw (fact 𝓤 (κs.1.1.0 ⊑ K.lives)) ∷ raw (fact 𝓤 (κs.1.1.1.0 ⊑ V.lives)) ∷ raw (emp 𝓤) ∷ []) ∵
+    qed 𝓛 (((‵ (flft κs.0 qs.0) ⊛ ‵ (tokens 3 κs.1 qs.1)) ⊛ ‵ (owns (types_at En.signature.params κs) a vss)) ∷ raw (fact 𝓤 (κs.1.0 ⊑ L.lives)) ∷ raw (fact 𝓤 (κs.1.1.0 ⊑ K.lives)) ∷ raw (fact 𝓤 (κs.1.1.1.0 ⊑ V.lives)) ∷ raw (emp 𝓤) ∷ []) ∵
     keep ! (1 ∷ 2 ∷ 3 ∷ 0 ∷ []) $ heard ! (κs.1.0 ⊑ L.lives) (λ inL. heard ! (κs.1.1.0 ⊑ K.lives) (λ inK. heard ! (κs.1.1.1.0 ⊑ V.lives) (λ inV. split ! $ split ! $ move ! (2 ∷ []) $ fsplit ! $ fsplit3 ! $ keep ! (1 ∷ 2 ∷ 4 ∷ 5 ∷ []) $
-    let us : List Val = vptr rb ro ∷ [] in let Run : List Val → SProp 𝓤 = λ ws. WpFn 𝓤 H 𝓣.C 𝓣.Λ fn ws Post in
-    suffices ! (Run us) (subst (λ (ws : List Val). ent 𝓤 (Run us) (Run ws)) (sym (λ i. are.0.0 i ++ [])) (id⊢ 𝓤 (Run us))) $
-    enter ! 𝓣.C 𝓣.Λ fn us Post $ alloc_all ! (λ l. pass_all ! refl ((tt, tt), tt) $ let Ev = env fn.locals l in
+    runs_with ! 𝓣.C 𝓣.Λ fn Post (vptr rb ro ∷ []) (λ i. are.0.0 i ++ []) $
+    alloc_all ! (λ l. pass_all ! refl ((tt, tt), tt) $ let Ev = env fn.locals l in
     opens ! tt N {h = h} rb ro (λ vs. move ! (1 ∷ []) $ fsplit ! $ move ! (1 ∷ []) $
-    use1 𝓛 (‵ (bodies R S W ps os) ⊛ ‵ (stems R S W (Land E h) h.cells)) (cells_out E 𝓛 (Land E h) h.cells) $ split ! $
+    use1 𝓛 (‵ (bodies R S W ps os) ⊛ ‵ (stems R S W (Land E h) h.cells)) (contents_cut E 𝓛 (Land E h) h.cells) $ split ! $
     -- [the bodies; the stems; the marker; its cell; the open borrow, in three; the other tokens]
     move ! (2 ∷ 1 ∷ 3 ∷ []) $ use3 𝓛 (‵ Fs) (fields_made E 𝓛 h rb ro vs) $
     name_new ! tt (Bs.coded.code os) (λ δ.
@@ -98,7 +86,6 @@ lend_bodies_spec 𝓤 𝓛 𝓜 𝓡 wired L K V LL LK LV =
     exec ! 𝓣.C 𝓣.Λ Ev (after 5 fn.body) (at_ret Ev Post) $ sets ! (of_opd ! (get ! refl)) refl (tt, tt) $ sets ! (agg ! (no_more !)) refl (tt, tt) $
     sets ! (agg ! (and_then ! (get ! refl) (no_more !))) refl (tt, (tt, tt)) $ sets ! (agg ! (and_then ! (get ! refl) (and_then ! (get ! refl) (and_then ! (get ! refl) (no_more !))))) refl (tt, (tt, (tt, ((tt, tt), tt)))) $
     -- [the triple; the token; nothing; what follows; the other tokens]
-    let Shown : Type 0 = h.cells ≡ h.cells in let Told : Type 0 = bodies_of h.cells ≡ bodies_of h.cells in
-    use0 𝓛 (raw (fact 𝓤 Told)) (fact_i 𝓤 Told (emp 𝓤) refl) $ use0 𝓛 (raw (fact 𝓤 Shown)) (fact_i 𝓤 Shown (emp 𝓤) refl) $ join ! $ move ! (4 ∷ 0 ∷ []) $ join ! $ move ! (2 ∷ 4 ∷ []) $ join ! $
-    nothing ! $ nothing ! $ fjoin ! $
+    states ! (bodies_of h.cells ≡ bodies_of h.cells) refl $ states_also ! (h.cells ≡ h.cells) refl $ move ! (4 ∷ 0 ∷ []) $ join ! $ move ! (2 ∷ 4 ∷ []) $ join ! $
+    all_spent ! 1 $
     returns ! (look_at ! 0 refl) $ free_all ! refl $ keep ! (1 ∷ 0 ∷ 3 ∷ 2 ∷ []) $ by ! (leaves 𝓛 En hs c y out (top, seen, lent) (tt, tt) (tt, tt))))))))))

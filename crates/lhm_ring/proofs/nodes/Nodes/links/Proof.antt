@@ -2,7 +2,7 @@
 use Rattle.std.proofs.Common.{◌≡◌, refl, ap, Some}
 use Rattle.lhm_ring.proofs.memory.FieldSeen.{links_lent, field_seen}
 use Rattle.lhm_ring.proofs.rings.Lookup.{Cut-links_at}
-use Rattle.lhm_ring.proofs.memory.Memory.{Three, lo}
+use Rattle.lhm_ring.proofs.memory.NodeFields.{Three, three_rows, lo}
 use Rattle.lhm_ring.specs.contracts.nodes.Nodes.links.Key.{name as #self}
 use Rattle.lhm_ring.proofs.nodes.Nodes.links.Statement.{statement}
 use Rattle.lhm_ring.proofs.nodes.Nodes.links.Code as code
@@ -10,7 +10,7 @@ use Rattle.lhm_ring.specs.Nodes.{IsAt, links_at, links_of}
 
 pub links_spec : {M : Type 1} → statement M
 links_spec 𝓤 𝓛 𝓜 𝓡 wired L K V LL LK LV =
-    let E : Three = record { links = L; links_laws = LL; key = K; key_laws = LK; value = V; value_laws = LV } in
+    let E : Three = three_rows LL LK LV in
     field_seen E 0 L (lo E) 𝓛 𝓜 𝓡 IsAt (λ x cs p. links_at cs p ≡ Some x) #self code.function (code.unfolded 𝓤 𝓛.H 𝓜 𝓡 wired (L, (K, (V, tt)))) refl refl
     (λ cs p asked. let k = Cut-links_at cs p asked.0 asked.1 in record {
       value = k.split.node.links;

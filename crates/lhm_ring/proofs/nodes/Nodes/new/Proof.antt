@@ -1,21 +1,13 @@
 -- `new` owns nothing yet. Assumes `Logic`.
-use Rattle.std.proofs.Common.{ℕ, ◌≡◌, [], ◌∷◌, refl}
-use mir.Val.{Val}
-use mir.MapTy.{inst_fn}
-use base.Logic.{SProp, emp}
-use base.Fml.{ftrue, flft}
-use types.Kit.{◌∵◌, ‵, raw, ◌⊛◌, ◌$◌, !, qed, by, keep, use0, split, join, fjoin, feq_i}
-use types.Run.{no_more, and_then, returns, enter}
-use types.ByLocal.{alloc_all, pass_all, free_all, look_at, get, sets}
-use types.Part.{agg}
-use contract.Running.{tables}
-use contract.Monad.{fact, fact_i}
-use denote.Steps.{nothing}
-use denote.Triple.Walked.{Stays, walk_of}
-use Rattle.std.proofs.raw_atomic.Walks.{proved_at, leaves}
+use Rattle.lhm_ring.proofs.memory.Steps.{◌≡◌, ℕ, [], ◌∷◌, refl, Val, inst_fn, SProp, ftrue, flft}
+use Rattle.lhm_ring.proofs.memory.Steps.{◌∵◌, ‵, raw, ◌⊛◌, ◌$◌, !, qed, by, keep, use0, split}
+use Rattle.lhm_ring.proofs.memory.Steps.{fjoin, feq_i, no_more, and_then, returns, enter, alloc_all}
+use Rattle.lhm_ring.proofs.memory.Steps.{pass_all, free_all, look_at, get, sets, agg, tables}
+use Rattle.lhm_ring.proofs.memory.Steps.{nothing, Stays, walk_of, proved_at, leaves, states_also}
+use Rattle.lhm_ring.proofs.memory.Steps.{states}
 use Rattle.lhm_ring.proofs.lists.Apart.{IsApart-none}
 use Rattle.lhm_ring.proofs.memory.Places.{places-none}
-use Rattle.lhm_ring.proofs.memory.Memory.{Three, args, RL, RK, RV, Nr, Marker, marker, marker_made}
+use Rattle.lhm_ring.proofs.memory.NodeFields.{Three, args, RL, RK, RV, Nr, Marker, marker, marker_made, three_rows}
 use Rattle.lhm_ring.specs.contracts.nodes.Nodes.new.{ended, clauses}
 use Rattle.lhm_ring.specs.contracts.nodes.Nodes.new.Key.{name as #self}
 use Rattle.lhm_ring.proofs.nodes.Nodes.new.Statement.{statement}
@@ -24,7 +16,7 @@ use Rattle.lhm_ring.specs.Nodes.{node_bytes}
 
 pub new_spec : {M : Type 1} → statement M
 new_spec 𝓤 𝓛 𝓜 𝓡 wired L K V LL LK LV =
-    let H = 𝓛.H in let 𝓣 = tables 𝓤 H 𝓜 𝓡 𝓡.env in let E : Three = record { links = L; links_laws = LL; key = K; key_laws = LK; value = V; value_laws = LV } in let N = Nr E in let R = RL E in let S = RK E in let W = RV E in
+    let H = 𝓛.H in let 𝓣 = tables 𝓤 H 𝓜 𝓡 𝓡.env in let E : Three = three_rows LL LK LV in let N = Nr E in let R = RL E in let S = RK E in let W = RV E in
     let En = ended L K V in let c = clauses L K V 𝓛 𝓜.mem 𝓡.returns in let fn = inst_fn (args E) code.function in
     let hs : Stays En.signature.params En.kept = tt in
     proved_at 𝓛 En hs c 𝓜 𝓡 tt (#self (args E)) fn (code.unfolded 𝓤 H 𝓜 𝓡 wired (L, (K, (V, tt)))) (λ y are.
@@ -34,7 +26,6 @@ new_spec 𝓤 𝓛 𝓜 𝓡 wired L K V LL LK LV =
     qed 𝓛 ((toks ⊛ ‵ ftrue) ∷ raw ((c κs y.0.3).requires y.1) ∷ []) ∵ split ! $ keep ! (0 ∷ []) $
     enter ! 𝓣.C 𝓣.Λ fn [] Post $ alloc_all ! (λ l. pass_all ! refl tt $
     sets ! (agg ! (no_more !)) refl (tt, tt) $ sets ! (agg ! (and_then ! (get ! refl) (no_more !))) refl (tt, (tt, tt)) $
-    let Told : Type 0 = out.cells ≡ [] in let Bare : Type 0 = (out.unused ≡ []) × (out.chunks ≡ []) in
-    use0 𝓛 (raw (fact 𝓤 Bare)) (fact_i 𝓤 Bare (emp 𝓤) (refl, refl)) $ use0 𝓛 (raw (fact 𝓤 Told)) (fact_i 𝓤 Told (emp 𝓤) refl) $ join ! $
+    states ! ((out.unused ≡ []) × (out.chunks ≡ [])) (refl, refl) $ states_also ! (out.cells ≡ []) refl $
     nothing ! $ nothing ! $ fjoin ! $ feq_i ! ℕ (node_bytes R S W) (node_bytes R S W) refl $ fjoin ! $ use0 𝓛 (‵ ((Marker E).own_val (tt, tt) (marker ∷ []))) (marker_made E 𝓛) $ fjoin ! $ nothing ! $
     returns ! (look_at ! 0 refl) $ free_all ! refl $ keep ! (3 ∷ 0 ∷ 1 ∷ 2 ∷ []) $ by ! (leaves 𝓛 En hs c y marker out tt tt)))

@@ -1,35 +1,24 @@
 -- `pop_chunk` makes a block of the places of a chunk. Assumes `Logic`.
+use Rattle.lhm_ring.proofs.memory.Steps.{◌≡◌, ℕ, ◌*◌, ◌<◌, ◌^◌, true, List, [], ◌∷◌, ◌++◌, refl}
+use Rattle.lhm_ring.proofs.memory.Steps.{sym, ap, ◌∙◌, subst, Val, vptr, vint, w64, inst_fn, SProp}
+use Rattle.lhm_ring.proofs.memory.Steps.{flft, size, size-raw, ◌∵◌, ‵, raw, ◌⊛◌, ◌$◌, !, qed, by}
+use Rattle.lhm_ring.proofs.memory.Steps.{move, keep, use0, use1, split, join, fsplit, fsplit3}
+use Rattle.lhm_ring.proofs.memory.Steps.{fjoin, fjoin3, rewrite, feq_i, feq_l, stop, fld, of_opd}
+use Rattle.lhm_ring.proofs.memory.Steps.{no_more, and_then, returns, alloc_all, pass_all, free_all}
+use Rattle.lhm_ring.proofs.memory.Steps.{look_at, get, get_in, sets, is, sub, whole, agg, tables}
+use Rattle.lhm_ring.proofs.memory.Steps.{fact, usize, yes, owns, types_at, plain, Ptr, block_ptr}
+use Rattle.lhm_ring.proofs.memory.Steps.{ptr_val, heard, opens, closes, Stays, stay_dropped}
+use Rattle.lhm_ring.proofs.memory.Steps.{stay_ref, walk_of, Goes-dropped, Goes-ref, word, word-Good}
+use Rattle.lhm_ring.proofs.memory.Steps.{proved_at, leaves, ty_array, froom, flt_l, flt_i}
+use Rattle.lhm_ring.proofs.memory.Steps.{RattleType, self_left, states, tokens, runs_with}
+use Rattle.lhm_ring.proofs.memory.Steps.{states_also}
 use Rattle.std.proofs.lemmas.List.{append-nil}
-use Rattle.std.proofs.Common.{◌≡◌, ℕ, ◌*◌, ◌<◌, ◌^◌, true, List, [], ◌∷◌, ◌++◌, refl, sym, ap, ◌∙◌, subst}
-use mir.Val.{Val, vptr, vint}
-use mir.Syntax.{ty_array, w64}
-use mir.MapTy.{inst_fn}
-use base.Logic.{SProp, ent, emp, id⊢}
-use base.Fml.{Fml, ftrue, fsep, flft, froom}
-use prog.Memory.{size}
-use prog.RawLaws.{size-raw}
-use prog.Wp.{WpFn}
-use types.Kit.{◌∵◌, ‵, raw, ◌⊛◌, ◌$◌, !, qed, by, move, keep, use0, use1, split, join, fsplit, fsplit3, fjoin, fjoin3, flt_l, flt_i, suffices, rewrite, feq_i, feq_l}
-use types.Run.{stop, fld, of_opd, no_more, and_then, returns, enter}
-use types.ByLocal.{alloc_all, pass_all, free_all, look_at, get, get_in, sets, is}
-use types.Part.{sub, whole, agg}
-use contract.Running.{tables}
-use contract.Monad.{fact, fact_i}
-use denote.Builtin.{usize}
-use denote.Exit.{yes}
-use denote.RattleType.{RattleType, owns}
-use denote.Signature.{types_at, plain}
-use denote.RawPtr.{Ptr, block_ptr, ptr_val}
-use denote.Steps.{nothing, heard, opens, closes}
-use denote.Triple.Walked.{Stays, stay_dropped, stay_ref, walk_of, Goes-dropped, Goes-ref}
-use Rattle.std.proofs.RcSteps.{word, word-Good}
-use Rattle.std.proofs.raw_atomic.Walks.{proved_at, leaves}
 use Rattle.lhm_ring.proofs.lists.Apart.{IsApart-none}
 use Rattle.lhm_ring.proofs.memory.BlockValues.{block_val, block_Good, BlockType, BlockFields, block_made}
-use Rattle.lhm_ring.proofs.memory.Blocks.{written, block}
+use Rattle.lhm_ring.proofs.memory.PlaceCut.{written, block}
 use Rattle.lhm_ring.proofs.memory.ChunkPlaces.{Places, Chunks, places_cut, chunks_cut, array_glue}
-use Rattle.lhm_ring.proofs.lists.ListFacts.{AllByRecursion-right}
-use Rattle.lhm_ring.proofs.memory.Memory.{Three, args, RL, RK, RV, Node, Nr, Pl, Land, Cells, word-pointer}
+use Rattle.lhm_ring.proofs.lists.ForAll.{AllByRecursion-right}
+use Rattle.lhm_ring.proofs.memory.NodeFields.{Three, args, RL, RK, RV, Node, Nr, Pl, Land, Cells, word-pointer, three_rows}
 use Rattle.lhm_ring.proofs.memory.Places.{places-last, block_ptr-in_block}
 use Rattle.std.specs.contracts.alloc.Global as heap
 use Rattle.std.specs.contracts.impls.GlobalAllocator.TheImpl.{ghosts}
@@ -42,7 +31,7 @@ use Rattle.lhm_ring.specs.Nodes.{is_block, pointers, AreBlocks, row, places, nod
 
 pub pop_chunk_spec : {M : Type 1} → statement M
 pop_chunk_spec 𝓤 𝓛 𝓜 𝓡 wired L K V LL LK LV =
-    let H = 𝓛.H in let 𝓣 = tables 𝓤 H 𝓜 𝓡 𝓡.env in let E : Three = record { links = L; links_laws = LL; key = K; key_laws = LK; value = V; value_laws = LV } in let N = Nr E in let R = RL E in let S = RK E in let W = RV E in
+    let H = 𝓛.H in let 𝓣 = tables 𝓤 H 𝓜 𝓡 𝓡.env in let E : Three = three_rows LL LK LV in let N = Nr E in let R = RL E in let S = RK E in let W = RV E in
     let En = ended L K V in let c = clauses L K V 𝓛 𝓜.mem 𝓡.returns in let fn = inst_fn (args E) code.function in
     let Row : RattleType = N-type.the_row R S W in let Block : RattleType = BlockType Row heap.the_row ghosts in
     let hs : Stays En.signature.params En.kept = (stay_ref (0 ∷ []) tt (plain (λ _. N)), (stay_dropped (plain (λ _. Pl)) yes, (stay_dropped (plain (λ _. usize)) yes, tt))) in
@@ -50,14 +39,12 @@ pop_chunk_spec 𝓤 𝓛 𝓜 𝓡 wired L K V LL LK LV =
     (#self (args E)) fn (code.unfolded 𝓤 H 𝓜 𝓡 wired (L, (K, (V, tt)))) (λ y are.
     let κs = y.0.0 in let qs = y.0.1 in let a = y.0.3 in let vss = y.0.4 in let Post : Val → SProp 𝓤 = (walk_of 𝓛 En hs c).post y in
     let rb : ℕ = a.0.ref_ptr.0 in let ro : ℕ = a.0.ref_ptr.1 in let h : N.Denot = a.0.now in let p : Ptr = a.1.0.ptr in let n : ℕ = a.1.1.0 in let s : ℕ = h.node_bytes in
-    let others : Fml = fsep (flft κs.1.0 qs.1.0) (fsep (flft κs.1.1.0 qs.1.1.0) (fsep (flft κs.1.1.1.0 qs.1.1.1.0) ftrue)) in
     let Asked : Type 0 = (h.cells ≡ []) × ((cs : List (Ptr × ℕ)) × (h.chunks ≡ cs ++ (p, n) ∷ [])) in
-    qed 𝓛 (((‵ (flft κs.0 qs.0) ⊛ ‵ others) ⊛ ‵ (owns (types_at En.signature.params κs) a vss)) ∷ raw (fact 𝓤 _) ∷ raw (fact 𝓤 _) ∷ raw (fact 𝓤 _) ∷ raw (fact 𝓤 Asked) ∷ []) ∵
+    qed 𝓛 (((‵ (flft κs.0 qs.0) ⊛ ‵ (tokens 3 κs.1 qs.1)) ⊛ ‵ (owns (types_at En.signature.params κs) a vss)) ∷ raw (fact 𝓤 _) ∷ raw (fact 𝓤 _) ∷ raw (fact 𝓤 _) ∷ raw (fact 𝓤 Asked) ∷ []) ∵
     keep ! (4 ∷ 0 ∷ []) $ heard ! Asked (λ asked. split ! $ split ! $ move ! (2 ∷ []) $ fsplit ! $ fsplit3 ! $ keep ! (1 ∷ 2 ∷ 4 ∷ 5 ∷ []) $
     -- [self, in two; its token; the other tokens]
-    let us : List Val = vptr rb ro ∷ word p ∷ vint w64 n ∷ [] in let Run : List Val → SProp 𝓤 = λ ws. WpFn 𝓤 H 𝓣.C 𝓣.Λ fn ws Post in
-    suffices ! (Run us) (subst (λ (ws : List Val). ent 𝓤 (Run us) (Run ws)) (sym (λ i. are.0.0 i ++ (word-pointer a.1.0 vss.1.0 are.1.0 i ++ (are.1.1.0.0 i ++ [])))) (id⊢ 𝓤 (Run us))) $
-    enter ! 𝓣.C 𝓣.Λ fn us Post $ alloc_all ! (λ l. pass_all ! refl ((tt, tt), (word-Good [] p, ((tt, record { fits = are.1.1.0.1 }), tt))) $
+    runs_with ! 𝓣.C 𝓣.Λ fn Post (vptr rb ro ∷ word p ∷ vint w64 n ∷ []) (λ i. are.0.0 i ++ (word-pointer a.1.0 vss.1.0 are.1.0 i ++ (are.1.1.0.0 i ++ []))) $
+    alloc_all ! (λ l. pass_all ! refl ((tt, tt), (word-Good [] p, ((tt, record { fits = are.1.1.0.1 }), tt))) $
     let cs : List (Ptr × ℕ) = asked.1.0 in let last : h.chunks ≡ cs ++ (p, n) ∷ [] = asked.1.1 in let new : List Ptr = row p s n in let rest : List Ptr = places s cs in
     let cut : h.unused ≡ new ++ rest = sym (append-nil h.unused) ∙ ap (λ (ds : List (Node E)). h.unused ++ pointers ds) (sym asked.0) ∙ h.laid ∙ ap (places s) last ∙ places-last s cs (p, n) in
     opens ! tt N {h = h} rb ro (λ vs. move ! (1 ∷ []) $ fsplit ! $ move ! (1 ∷ []) $ rewrite ! 0 (λ (ds : List (Node E)). ‵ (Cells E (Land E h) ds)) asked.0 refl $ fsplit ! $ feq_l ! (λ sized. fsplit ! $
@@ -84,7 +71,7 @@ pop_chunk_spec 𝓤 𝓛 𝓜 𝓡 wired L K V LL LK LV =
     -- three; the other tokens]
     move ! (3 ∷ 0 ∷ []) $ fjoin ! $ move ! (3 ∷ 0 ∷ 4 ∷ 5 ∷ 6 ∷ []) $ closes ! tt N h' vs rb ro $
     -- [self; the token of the chunk; its places; the other tokens]
-    feq_i ! (List Val) vss.0 (vptr rb ro ∷ []) are.0.0 $ fjoin3 ! $ nothing ! $ nothing ! $ fjoin ! $ nothing ! $ fjoin ! $ move ! (1 ∷ 0 ∷ []) $ fjoin ! $ move ! (1 ∷ 4 ∷ []) $ join ! $
+    self_left ! 2 are.0.0 $ move ! (1 ∷ 4 ∷ []) $ join ! $
     -- [the tokens; self; the token of the chunk; its places]
     move ! (3 ∷ []) $ rewrite ! 0 (λ (k : ℕ). ‵ (Places 𝓛 E (row p k n))) sized refl $ rewrite ! 0 (λ (r : Ptr). ‵ (Places 𝓛 E (row r (node_bytes R S W) n))) e.1 refl $
     use1 𝓛 (‵ (froom (ty_array (block E) n) b o)) (array_glue 𝓛 E n b o) $ move ! (3 ∷ 0 ∷ []) $ rewrite ! 0 (λ (r : Ptr). ‵ (chunk_token (ty_array (block E) n) r)) e.1 refl $
@@ -94,6 +81,5 @@ pop_chunk_spec 𝓤 𝓛 𝓜 𝓡 wired L K V LL LK LV =
     -- [the block; the tokens; self]
     sets ! (is ! (of_opd ! (get_in ! (fld ! refl (stop !)) (sub ! 0 refl (whole !)))) (ap ptr_val e.1)) refl (tt, tt) $
     sets ! (agg ! (no_more !)) refl (tt, tt) $ sets ! (agg ! (and_then ! (get ! refl) (and_then ! (get ! refl) (no_more !)))) refl (block_Good q) $
-    let Told : Type 0 = h'.cells ≡ [] in let Kept : Type 0 = h.chunks ≡ cs ++ (p, n) ∷ [] in let Many : Type 0 = n ≡ n in
-    use0 𝓛 (raw (fact 𝓤 Many)) (fact_i 𝓤 Many (emp 𝓤) refl) $ use0 𝓛 (raw (fact 𝓤 Kept)) (fact_i 𝓤 Kept (emp 𝓤) last) $ join ! $ use0 𝓛 (raw (fact 𝓤 Told)) (fact_i 𝓤 Told (emp 𝓤) refl) $ join ! $
+    states ! (n ≡ n) refl $ states_also ! (h.chunks ≡ cs ++ (p, n) ∷ []) last $ states_also ! (h'.cells ≡ []) refl $
     returns ! (look_at ! 0 refl) $ free_all ! refl $ keep ! (2 ∷ 3 ∷ 1 ∷ 0 ∷ []) $ by ! (leaves 𝓛 En hs c y (block_val q) out (h', (tt, (tt, tt))) (tt, (tt, (tt, tt)))))))))))

@@ -1,47 +1,31 @@
 -- `value_mut` lends the value that one node holds, and the nodes follow it. Assumes `Logic`.
-use Rattle.std.proofs.Common.{◌≡◌, ℕ, ◌+◌, List, [], ◌∷◌, ◌++◌, refl, sym, ap, ◌∙◌, subst, Some, Option}
-use base.Fraction.{full_share}
-use mir.Val.{Val, vptr}
-use mir.Syntax.{named}
-use mir.MapTy.{inst_fn}
-use base.Logic.{SProp, ent, emp, never, id⊢}
-use base.Fml.{Fml, Lft, ftrue, fsep, flft}
-use prog.Wp.{WpFn}
-use types.Logic.{sem}
-use types.Kit.{◌∵◌, ‵, raw, ◌⊛◌, some, later, at_ret, ◌$◌, !, qed, by, move, keep, use0, use1, use2, pick, await, group, split, split3, join, fsplit, fsplit3, fjoin, fjoin3, fpack, suffices, rewrite}
-use types.Run.{stop, fld, addr, of_opd, first, blocks, exec, returns, enter}
-use types.ByLocal.{alloc_all, pass_all, free_all, look_at, get, get_in, through, sets, sets_last, is, env}
-use types.Part.{sub, whole}
-use contract.Running.{tables}
-use seplogic.Ra.Ura.{Ura}
-use base.Logic.{sep}
-use types.Logic.{Logic}
-use types.Kit.{done}
-use denote.Memory.{mem, part_of, cell_at}
+use Rattle.lhm_ring.proofs.memory.Steps.{◌≡◌, ℕ, ◌+◌, List, [], ◌∷◌, ◌++◌, refl, sym, ap, ◌∙◌}
+use Rattle.lhm_ring.proofs.memory.Steps.{full_share, Val, vptr, inst_fn, SProp, flft, ◌∵◌, ‵, raw}
+use Rattle.lhm_ring.proofs.memory.Steps.{◌⊛◌, at_ret, ◌$◌, !, qed, by, move, keep, use1, use2}
+use Rattle.lhm_ring.proofs.memory.Steps.{split, join, fsplit, fsplit3, fjoin, rewrite, stop, fld}
+use Rattle.lhm_ring.proofs.memory.Steps.{addr, of_opd, first, blocks, exec, returns, alloc_all}
+use Rattle.lhm_ring.proofs.memory.Steps.{pass_all, free_all, look_at, get, get_in, through, sets}
+use Rattle.lhm_ring.proofs.memory.Steps.{sets_last, is, env, sub, whole, tables, fact, yes, no}
+use Rattle.lhm_ring.proofs.memory.Steps.{owns, types_at, plain, Ptr, block_ptr, ptr_val, lies_at}
+use Rattle.lhm_ring.proofs.memory.Steps.{heard, opens, Stays, stay_dropped, walk_of, Goes-dropped}
+use Rattle.lhm_ring.proofs.memory.Steps.{after, word, word-Good, proved_at, leaves, id⊢, sem}
+use Rattle.lhm_ring.proofs.memory.Steps.{in_a_block, Some, never, part_at, Fml, fsep, fjoin3}
+use Rattle.lhm_ring.proofs.memory.Steps.{Option, named, Lft, later, pick, await, group, split3}
+use Rattle.lhm_ring.proofs.memory.Steps.{follows, mem, MutBor, mut_ref_to, Goes-spent_ref, some}
+use Rattle.lhm_ring.proofs.memory.Steps.{fpack, ent, Ura, Logic, sep, done, part_of, states, tokens}
+use Rattle.lhm_ring.proofs.memory.Steps.{all_spent, runs_with}
+use denote.Memory.{cell_at}
 use denote.Ref.{MutRef}
-use denote.Follow.{follows, Part, lends_Part}
-use denote.Signature.{mut_ref_to}
-use denote.Triple.Walked.{Goes-spent_ref}
-use contract.Monad.{fact, fact_i}
-use denote.Exit.{yes, no}
-use denote.RattleType.{owns}
-use denote.Memory.{part_at}
-use denote.Signature.{types_at, plain}
-use denote.RawPtr.{Ptr, block_ptr, ptr_val, lies_at, in_a_block}
-use denote.Ref.{MutBor}
-use denote.Steps.{nothing, heard, opens}
-use denote.Triple.Walked.{Stays, stay_dropped, walk_of, Goes-dropped}
-use Rattle.std.proofs.VecSteps.Shapes.{after}
-use Rattle.std.proofs.RcSteps.{word, word-Good}
-use Rattle.std.proofs.raw_atomic.Walks.{proved_at, leaves}
+use denote.Follow.{Part, lends_Part}
 use Rattle.lhm_ring.proofs.rings.Lookup.{Cut, Cut-held, held_here}
-use Rattle.lhm_ring.proofs.memory.Memory.{Three, args, RL, RK, RV, vo, Node, Nr, Marker, Pl, One, Land, Cells, word-pointer, cells_cut, cells_glue}
+use Rattle.lhm_ring.proofs.memory.NodeFields.{Three, args, RL, RK, RV, vo, Node, Nr, Marker, Pl, One, Land, Cells, word-pointer, three_rows}
 use Rattle.lhm_ring.specs.contracts.nodes.Nodes.value_mut.{ended, clauses}
 use Rattle.lhm_ring.specs.contracts.nodes.Nodes.value_mut.Key.{name as #self}
 use Rattle.lhm_ring.proofs.nodes.Nodes.value_mut.Statement.{statement}
 use Rattle.lhm_ring.proofs.nodes.Nodes.value_mut.Code as code
 use Rattle.lhm_ring.specs.RingAfterLoan.{holding, value_set}
-use Rattle.lhm_ring.specs.Nodes.{cell, Holds, IsValue, body_at, links_address, key_address, value_address, body_owns, deed_owns}
+use Rattle.lhm_ring.specs.Nodes.{cell, change, Holds, IsValue, body_at, links_address, key_address, value_address, body_owns, deed_owns}
+use Rattle.lhm_ring.proofs.memory.NodeTaken.{node_cut, node_glue, Others}
 
 module _ (E : Three) {M : Type 1} {𝓤 : Ura M} (𝓛 : Logic 𝓤) (h : (Nr E).Denot) (p : Ptr) (k : Cut h.cells p) (x : E.key.Denot × E.value.Denot) (vs : List Val) (rb ro pb po : ℕ) where
   -- all but the value
@@ -52,17 +36,17 @@ module _ (E : Three) {M : Type 1} {𝓤 : Ura M} (𝓛 : Logic 𝓤) (h : (Nr E)
   back : k.split.node.at ≡ block_ptr pb po → body_at h.cells p ≡ Some x → (w : E.value.Denot) → ent 𝓤 (sep 𝓤 (sem 𝓛 ((mem (RV E)).own_at w pb (po + vo E))) (sem 𝓛 Rest)) (sem 𝓛 ((mem (Nr E)).own_at (holding h p w) rb ro))
   unfolding part_of
   back e is w =
-      let f : Node E = k.split.node in let f' : Node E = cell f.at f.links (value_set w (body_at h.cells p)) in
+      let f : Node E = k.split.node in let f' : Node E → Node E = λ c. cell c.at c.links (value_set w (body_at h.cells p)) in
       qed 𝓛 (‵ (part_at (RV E) full_share w pb (po + vo E)) ∷ ‵ Rest ∷ []) ∵ rewrite ! 0 (λ (q : Ptr). ‵ (lies_at (RV E) full_share (value_address (RL E) (RK E) (RV E) q) w)) (sym e) refl $
       move ! (1 ∷ []) $ fsplit3 ! $ move ! (2 ∷ []) $ fsplit3 ! $ move ! (2 ∷ []) $ fsplit ! $
       -- [the marker; its cell; the deed; the other nodes; the links; the key; the value]
       move ! (5 ∷ 6 ∷ []) $ fjoin ! $ rewrite ! 0 (λ (o : Option (E.key.Denot × E.value.Denot)). ‵ (body_owns (RL E) (RK E) (RV E) f.at (value_set w o))) (sym is) refl $ move ! (0 ∷ 3 ∷ []) $ fjoin ! $ move ! (4 ∷ 0 ∷ []) $ fjoin ! $ move ! (0 ∷ 3 ∷ []) $
-      use2 𝓛 (‵ (Cells E (Land E h) (k.split.before ++ f' ∷ k.split.after))) (cells_glue 𝓛 E (Land E h) k.split.before f' k.split.after) $ rewrite ! 0 (λ (cs : List (Node E)). ‵ (Cells E (Land E h) cs)) (sym (k.changed (λ c. cell c.at c.links (value_set w (body_at h.cells p))))) refl $
+      use2 𝓛 (‵ (Cells E (Land E h) (change p f' h.cells))) (node_glue 𝓛 E (Land E h) k f') $
       move ! (1 ∷ 0 ∷ []) $ fjoin ! $ move ! (1 ∷ 0 ∷ []) $ fjoin ! $ fpack ! (List Val) (λ us. fsep (cell_at full_share (Nr E).mir us rb ro) ((Nr E).own_val (holding h p w) us)) vs $ done !
 
 pub value_mut_spec : {M : Type 1} → statement M
 value_mut_spec 𝓤 𝓛 𝓜 𝓡 wired L K V LL LK LV =
-    let H = 𝓛.H in let 𝓣 = tables 𝓤 H 𝓜 𝓡 𝓡.env in let E : Three = record { links = L; links_laws = LL; key = K; key_laws = LK; value = V; value_laws = LV } in let N = Nr E in let R = RL E in let S = RK E in let W = RV E in
+    let H = 𝓛.H in let 𝓣 = tables 𝓤 H 𝓜 𝓡 𝓡.env in let E : Three = three_rows LL LK LV in let N = Nr E in let R = RL E in let S = RK E in let W = RV E in
     let En = ended L K V in let c = clauses L K V 𝓛 𝓜.mem 𝓡.returns in let fn = inst_fn (args E) code.function in
     let Self = mut_ref_to (0 ∷ []) tt (plain (λ _. N)) in
     let hs : Stays En.signature.params En.kept = (stay_dropped Self no, (stay_dropped (plain (λ _. Pl)) yes, tt)) in
@@ -70,17 +54,15 @@ value_mut_spec 𝓤 𝓛 𝓜 𝓡 wired L K V LL LK LV =
     (#self (args E)) fn (code.unfolded 𝓤 H 𝓜 𝓡 wired (L, (K, (V, tt)))) (λ y are.
     let κs = y.0.0 in let qs = y.0.1 in let a = y.0.3 in let vss = y.0.4 in let Post : Val → SProp 𝓤 = (walk_of 𝓛 En hs c).post y in
     let rb : ℕ = a.0.ref_ptr.0 in let ro : ℕ = a.0.ref_ptr.1 in let h : N.Denot = a.0.now in let p : Ptr = a.1.0.ptr in
-    let others : Fml = fsep (flft κs.1.0 qs.1.0) (fsep (flft κs.1.1.0 qs.1.1.0) (fsep (flft κs.1.1.1.0 qs.1.1.1.0) ftrue)) in
     let κ : Lft = κs.0 in let q = qs.0 in let γ = a.0.ghost_name in let hcode = N.coded.code h in
     let Asked : Type 0 = Holds h.cells p in
-    qed 𝓛 (((‵ (flft κs.0 qs.0) ⊛ ‵ others) ⊛ ‵ (owns (types_at En.signature.params κs) a vss)) ∷ raw (fact 𝓤 _) ∷ raw (fact 𝓤 _) ∷ raw (fact 𝓤 _) ∷ raw (fact 𝓤 Asked) ∷ []) ∵
+    qed 𝓛 (((‵ (flft κs.0 qs.0) ⊛ ‵ (tokens 3 κs.1 qs.1)) ⊛ ‵ (owns (types_at En.signature.params κs) a vss)) ∷ raw (fact 𝓤 _) ∷ raw (fact 𝓤 _) ∷ raw (fact 𝓤 _) ∷ raw (fact 𝓤 Asked) ∷ []) ∵
     keep ! (4 ∷ 0 ∷ []) $ heard ! Asked (λ asked. split ! $ split ! $ move ! (2 ∷ []) $ fsplit ! $ fsplit3 ! $ keep ! (1 ∷ 2 ∷ 4 ∷ 5 ∷ []) $
-    let us : List Val = vptr rb ro ∷ word p ∷ [] in let Run : List Val → SProp 𝓤 = λ ws. WpFn 𝓤 H 𝓣.C 𝓣.Λ fn ws Post in
-    suffices ! (Run us) (subst (λ (ws : List Val). ent 𝓤 (Run us) (Run ws)) (sym (λ i. are.0.0 i ++ (word-pointer a.1.0 vss.1.0 are.1.0 i ++ []))) (id⊢ 𝓤 (Run us))) $
-    enter ! 𝓣.C 𝓣.Λ fn us Post $ alloc_all ! (λ l. pass_all ! refl ((tt, tt), (word-Good [] p, tt)) $ let Ev = env fn.locals l in
+    runs_with ! 𝓣.C 𝓣.Λ fn Post (vptr rb ro ∷ word p ∷ []) (λ i. are.0.0 i ++ (word-pointer a.1.0 vss.1.0 are.1.0 i ++ [])) $
+    alloc_all ! (λ l. pass_all ! refl ((tt, tt), (word-Good [] p, tt)) $ let Ev = env fn.locals l in
     let x = asked.0 in let k : Cut h.cells p = Cut-held h.cells p x asked.1 in let f : Node E = k.split.node in
-    opens ! tt N {h = h} rb ro (λ vs. move ! (1 ∷ []) $ fsplit ! $ rewrite ! 1 (λ (cs : List (Node E)). ‵ (Cells E (Land E h) cs)) k.split.is refl $ move ! (1 ∷ []) $
-    use1 𝓛 (‵ (One E f) ⊛ ‵ (Cells E (Land E h) (k.split.before ++ k.split.after))) (cells_cut 𝓛 E (Land E h) k.split.before f k.split.after) $ split ! $ fsplit ! $
+    opens ! tt N {h = h} rb ro (λ vs. move ! (1 ∷ []) $ fsplit ! $ move ! (1 ∷ []) $
+    use1 𝓛 (‵ (One E f) ⊛ ‵ (Others 𝓛 E (Land E h) k)) (node_cut 𝓛 E (Land E h) k) $ split ! $ fsplit ! $
     in_a_block ! f.at (λ q. lies_at R full_share (links_address R S W q) f.links) (id⊢ 𝓤 (never 𝓤)) (λ pb po e.
     rewrite ! 0 (λ (q : Ptr). ‵ (lies_at R full_share (links_address R S W q) f.links)) (sym e) refl $ move ! (1 ∷ []) $ fsplit ! $
     rewrite ! 0 (λ (z : Option (K.Denot × V.Denot)). ‵ (body_owns R S W f.at z)) (held_here k asked.1) refl $ fsplit ! $ move ! (1 ∷ []) $
@@ -95,6 +77,6 @@ value_mut_spec 𝓤 𝓛 𝓜 𝓡 wired L K V LL LK LV =
     (lends_Part 𝓛 N W (holding h p) (named 0) κ q rb ro pb (po + vo E) γ O way hcode hcode x.1) $ await ! tt $ pick ! (λ δ.
     let r : Val = vptr pb (po + vo E) in let out : MutBor V.Denot = record { ref_ptr = (pb, po + vo E); ghost_name = δ; now = x.1 } in
     use1 𝓛 (‵ ((MutRef (named 0) κ W).own_val out (r ∷ [])) ⊛ ‵ (flft κ q) ⊛ ‵ (follows N W γ δ (holding h p))) (id⊢ 𝓤 _) $ split3 ! $
-    let Told : Type 0 = IsValue x.1 (body_at h.cells p) in use0 𝓛 (raw (fact 𝓤 Told)) (fact_i 𝓤 Told (emp 𝓤) (x.0, asked.1)) $ move ! (3 ∷ 0 ∷ []) $ join ! $ move ! (2 ∷ 3 ∷ []) $ join ! $
-    nothing ! $ nothing ! $ fjoin ! $ nothing ! $ fjoin ! $
+    states ! (IsValue x.1 (body_at h.cells p)) (x.0, asked.1) $ move ! (3 ∷ 0 ∷ []) $ join ! $ move ! (2 ∷ 3 ∷ []) $ join ! $
+    all_spent ! 2 $
     returns ! (look_at ! 0 refl) $ free_all ! refl $ keep ! (1 ∷ 0 ∷ 3 ∷ 2 ∷ []) $ by ! (leaves 𝓛 En hs c y r out (tt, (tt, tt)) (tt, (tt, tt)))))))))

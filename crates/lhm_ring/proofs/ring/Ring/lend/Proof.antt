@@ -1,49 +1,36 @@
 -- `lend` shares the ring as one of holes, and lends the values. Assumes `Logic`.
-use Rattle.std.proofs.Common.{◌≡◌, ℕ, List, [], ◌∷◌, ◌++◌, refl, sym, subst}
-use base.Fraction.{full_share}
-use mir.Syntax.{a_type, named}
-use mir.Val.{Val, vptr, vstruct, vcons, vnil}
-use mir.MapTy.{inst_fn}
-use base.Logic.{SProp, ent, emp, id⊢}
-use base.Fml.{Fml, Lft, Incl-trans, Incl-refl, ftrue, fsep, flft, fobs, fbor, fseps}
-use prog.Wp.{WpFn}
-use types.Kit.{drop, ◌∵◌, ‵, raw, ◌⊛◌, some, later, at_ret, ◌$◌, !, qed, by, move, keep, use0, use1, use2, pick, await, group, split, split3, join, fsplit, fsplit3, fjoin, suffices, rewrite, feq_i}
-use types.Run.{stop, addr, of_opd, no_more, and_then, first, blocks, exec, returns, enter}
-use types.ByLocal.{alloc_all, pass_all, free_all, look_at, get, through, sets, sets_last, lands_as, env}
-use types.Part.{agg}
+use Rattle.lhm_ring.proofs.memory.Steps.{◌≡◌, ℕ, List, [], ◌∷◌, ◌++◌, refl, sym, subst, full_share}
+use Rattle.lhm_ring.proofs.memory.Steps.{Val, vptr, inst_fn, SProp, ftrue, flft, ◌∵◌, ‵, raw, ◌⊛◌}
+use Rattle.lhm_ring.proofs.memory.Steps.{at_ret, ◌$◌, !, qed, by, move, keep, drop, use0, use1}
+use Rattle.lhm_ring.proofs.memory.Steps.{use2, split, join, fsplit, fsplit3, fjoin, rewrite, feq_i}
+use Rattle.lhm_ring.proofs.memory.Steps.{stop, addr, of_opd, no_more, and_then, first, blocks, exec}
+use Rattle.lhm_ring.proofs.memory.Steps.{returns, alloc_all, pass_all, free_all, look_at, get}
+use Rattle.lhm_ring.proofs.memory.Steps.{through, sets, sets_last, env, agg, tables, fact, no, owns}
+use Rattle.lhm_ring.proofs.memory.Steps.{param_laws, types_at, plain, Ptr, heard, Stays}
+use Rattle.lhm_ring.proofs.memory.Steps.{stay_dropped, walk_of, after, proved_at, leaves, id⊢, sem}
+use Rattle.lhm_ring.proofs.memory.Steps.{RattleType, emp, part_at, Fml, nothing, named, vstruct}
+use Rattle.lhm_ring.proofs.memory.Steps.{vcons, vnil, Lft, Incl-trans, fobs, fbor, later, pick}
+use Rattle.lhm_ring.proofs.memory.Steps.{await, group, split3, SemTy, ◌⊑◌, follows, mem, hide, Bor}
+use Rattle.lhm_ring.proofs.memory.Steps.{mut_ref_to, named_lft, Goes-spent_ref, fseps, some, ent}
+use Rattle.lhm_ring.proofs.memory.Steps.{Ura, Logic, framed, Is, a_type, layouts, open_ref, fact_i}
+use Rattle.lhm_ring.proofs.memory.Steps.{param, states, tokens, all_spent, runs_with}
+use base.Fml.{Incl-refl}
+use types.ByLocal.{lands_as}
 use types.Follow.{takes_beside, takes_part, after as afterwards}
-use types.SemTy.{SemTy, Body as Borrowed}
-use types.Mut.{open_ref}
-use contract.Running.{tables}
-use contract.BorrowLft.{◌⊑◌}
-use contract.Monad.{fact, fact_i}
-use denote.Exit.{no}
+use types.SemTy.{Body as Borrowed}
 use mathlib.Core.Option as maybe
-use seplogic.Ra.Ura.{Ura}
 use base.Fml.{GName}
-use types.Logic.{Logic, sem}
 use denote.Array.{Array}
-use denote.Laws.{Is, shows}
+use denote.Laws.{shows}
 use denote.Triple.Call.{calls_at}
 use denote.Triple.Clauses.{Lasts, lasts}
 use denote.Triple.Spec.{triple_of}
-use denote.Triple.Table.{framed}
-use denote.Follow.{follows, follows_by, follows_if}
-use denote.Memory.{mem, part_at}
+use denote.Follow.{follows_by, follows_if}
 use denote.Model.Fields.{view_owns, view-Hides, plain_out}
-use denote.Opens.{hide}
-use denote.Param.{param, layouts}
-use denote.Param.Laws.{param_laws}
 use denote.Param.Shared.{parts_share}
-use denote.RattleType.{RattleType, owns}
-use denote.RawPtr.{Ptr}
-use denote.Ref.{Bor, ShrRef}
-use denote.Signature.{types_at, plain, mut_ref_to, named_lft}
-use denote.Steps.{nothing, heard, peeks}
+use denote.Ref.{ShrRef}
+use denote.Steps.{peeks}
 use denote.Struct.Declared as declared
-use denote.Triple.Walked.{Stays, stay_dropped, walk_of, Goes-spent_ref}
-use Rattle.std.proofs.VecSteps.Shapes.{after}
-use Rattle.std.proofs.raw_atomic.Walks.{proved_at, leaves}
 use Rattle.lhm_ring.specs.declared.value_loan.LentValues.{LentValues}
 use Rattle.lhm_ring.specs.contracts.iter.IterMut as I-iter
 use Rattle.lhm_ring.specs.contracts.iter.IterMut.of as g
@@ -60,9 +47,9 @@ use Rattle.lhm_ring.specs.contracts.ring.Ring.TheInside as I-type
 use Rattle.lhm_ring.proofs.ring.Links.TheLaws as links-laws
 use Rattle.lhm_ring.proofs.value_loan.Hole.TheLaws as H-laws
 use Rattle.lhm_ring.proofs.ring.Ring.TheInside.TheLaws as I-laws
-use Rattle.lhm_ring.proofs.memory.Memory.{marker, struct_made}
+use Rattle.lhm_ring.proofs.memory.NodeFields.{marker, struct_made}
 use Rattle.lhm_ring.proofs.memory.ValuesReplaced.{run_of}
-use Rattle.lhm_ring.proofs.memory.ValuesSplitOff.{Inside, Full, parts, thin_shape, Thinned, thinned, Sharable-thin, at_pointers, vals, kept_by, entries, As, Vals, named as listed_as, view, good, Fields, ring_cut, back, placed, placed-own, ordered_back, AreLent-entries, LoanMarker, loan_made}
+use Rattle.lhm_ring.proofs.memory.ValuesSplitOff.{Inside, Full, parts, thin_shape, Thinned, thinned, Sharable-unvalued, at_pointers, vals, kept_by, entries, As, Vals, named as listed_as, view, good, Fields, ring_cut, back, placed, placed-own, ordered_back, AreLent-entries, LoanMarker, loan_made}
 use Rattle.lhm_ring.specs.contracts.ring.Ring.lend.{ended, clauses}
 use Rattle.lhm_ring.specs.contracts.ring.Ring.lend.Key.{name as #self}
 use Rattle.lhm_ring.proofs.ring.Ring.lend.Statement.{statement}
@@ -88,15 +75,14 @@ lend_spec 𝓤 𝓛 𝓜 𝓡 wired K V LK LV =
     (#self args) fn (code.unfolded 𝓤 H 𝓜 𝓡 wired (K, (V, tt))) (λ y are.
     let κs = y.0.0 in let qs = y.0.1 in let a = y.0.3 in let vss = y.0.4 in let Post : Val → SProp 𝓤 = (walk_of 𝓛 En hs c).post y in
     let rb : ℕ = a.0.ref_ptr.0 in let ro : ℕ = a.0.ref_ptr.1 in let d : State (K.Denot × V.Denot) = a.0.now in
-    let others : Fml = fsep (flft κs.1.0 qs.1.0) (fsep (flft κs.1.1.0 qs.1.1.0) ftrue) in
+    let others : Fml = tokens 2 κs.1 qs.1 in
     let κ : Lft = κs.0 in let q = qs.0 in let γ = a.0.ghost_name in let dcode = R.coded.code d in let vs : List V.Denot = held_values d.held in let bounds = y.0.2 in
     let Seq : RattleType = Array W 0 in
     let It : RattleType = L-type.the_row (named_lft 3 0 tt κs) Q S W in let Out : RattleType = I-iter.the_row (named_lft 3 0 tt κs) S W in let Holed : RattleType = R-type.the_row S Hr in let lm : RattleType = LoanMarker (named_lft 3 0 tt κs) Q S W in
     qed 𝓛 (((‵ (flft κs.0 qs.0) ⊛ ‵ others) ⊛ ‵ (owns (types_at En.signature.params κs) a vss)) ∷ raw (fact 𝓤 (κs.1.0 ⊑ K.lives)) ∷ raw (fact 𝓤 (κs.1.1.0 ⊑ V.lives)) ∷ raw (emp 𝓤) ∷ []) ∵
     keep ! (1 ∷ 2 ∷ 0 ∷ []) $ heard ! (κs.1.0 ⊑ K.lives) (λ inK. heard ! (κs.1.1.0 ⊑ V.lives) (λ inV. split ! $ split ! $ move ! (2 ∷ []) $ fsplit ! $ fsplit3 ! $ keep ! (1 ∷ 2 ∷ 4 ∷ 5 ∷ []) $
-    let us : List Val = vptr rb ro ∷ [] in let Run : List Val → SProp 𝓤 = λ ws. WpFn 𝓤 H 𝓣.C 𝓣.Λ fn ws Post in
-    suffices ! (Run us) (subst (λ (ws : List Val). ent 𝓤 (Run us) (Run ws)) (sym (λ i. are.0.0 i ++ [])) (id⊢ 𝓤 (Run us))) $
-    enter ! 𝓣.C 𝓣.Λ fn us Post $ alloc_all ! (λ l. pass_all ! refl ((tt, tt), tt) $ let Ev = env fn.locals l in
+    runs_with ! 𝓣.C 𝓣.Λ fn Post (vptr rb ro ∷ []) (λ i. are.0.0 i ++ []) $
+    alloc_all ! (λ l. pass_all ! refl ((tt, tt), tt) $ let Ev = env fn.locals l in
     open_ref ! tt (mem R) {x = d} {b = rb} {o = ro} $
     use1 𝓛 (some (λ (x : (i : Inside S W) × ((view S W i ≡ d) × good S W i)). ‵ (part_at (Full S W) full_share x.0 rb ro)))
     (plain_out R (Full S W) (view_owns (Full S W) (State (K.Denot × V.Denot)) R.coded (view S W) (good S W)) 𝓛 full_share d rb ro) $ pick ! (λ x.
@@ -118,7 +104,7 @@ lend_spec 𝓤 𝓛 𝓜 𝓡 wired K V LK LV =
     -- [the fields; nothing; the token; the second name's; the loan; what follows; the other tokens]
     move ! (0 ∷ 2 ∷ []) $ let LS = param_laws 0 K LK in let LH = H-laws.the_row_laws W (param_laws 1 V LV) in
     use2 𝓛 (later (‵ ((Thinned S W kb).shr_at (thinned S W kb i) rb ro κ) ⊛ ‵ (flft κ q)))
-    (parts_share 𝓛 (parts S W kb) (thin_shape S W kb).name (thin_shape S W kb).args (thin_shape S W kb).types (Sharable-thin Q S W kb links-laws.the_row_laws LS LH, (I-laws.the_shared S Hr LS LH).1) (thinned S W kb i) κ ((κ, q) ∷ []) rb ro
+    (parts_share 𝓛 (parts S W kb) (thin_shape S W kb).name (thin_shape S W kb).args (thin_shape S W kb).types (Sharable-unvalued Q S W kb links-laws.the_row_laws LS LH, (I-laws.the_shared S Hr LS LH).1) (thinned S W kb i) κ ((κ, q) ∷ []) rb ro
     (I-laws.the_within S Hr κ (Incl-trans bounds.0 inK) (H-laws.the_within W κ (Incl-trans bounds.1.0 inV))) (Incl-refl κ)) $ await ! tt $ split ! $
     use1 𝓛 (‵ (Holed.shr_at d rb ro κ)) (view-Hides (I-type.the_row S Hr) (State (K.Denot × V.Denot)) Holed.coded (R-type.the_view S Hr) (R-type.the_invariant S Hr) _ 𝓤 𝓛 d i (seen, ok) rb ro κ) $
     hide ! $ feq_i ! (List Val) (vptr rb ro ∷ []) (vptr rb ro ∷ []) refl $ fjoin ! $
@@ -130,10 +116,10 @@ lend_spec 𝓤 𝓛 𝓜 𝓡 wired K V LK LV =
     exec ! 𝓣.C 𝓣.Λ Ev (after 2 fn.body) (at_ret Ev Post) $ sets ! (of_opd ! (get ! refl)) refl (tt, tt) $ sets ! (agg ! (no_more !)) refl (tt, tt) $
     sets ! (agg ! (and_then ! (get ! refl) (no_more !))) refl (tt, (tt, tt)) $ sets ! (agg ! (and_then ! (get ! refl) (and_then ! (get ! refl) (no_more !)))) refl (tt, (tt, ((tt, tt), tt))) $
     -- [the pair; the token; nothing; the second name's; what follows; the other tokens]
-    let IsL : Type 0 = AreLent (run_of es) d.held in let lv : LentValues K.Denot V.Denot = record { ring = top; loan = lent } in
+    let lv : LentValues K.Denot V.Denot = record { ring = top; loan = lent } in
     let O = triple_of 𝓛 (g.signature K V) (g.spec K V 𝓛 𝓜.mem 𝓡.returns) in let z : O.Ghost = ((κs, qs, bounds, (lv, tt), (out ∷ [], tt)), tt) in
     move ! (1 ∷ 5 ∷ []) $ join ! $ move ! (1 ∷ 2 ∷ []) $ fjoin ! $ move ! (1 ∷ 0 ∷ []) $ join ! $
-    use0 𝓛 (raw (fact 𝓤 IsL)) (fact_i 𝓤 IsL (emp 𝓤) (AreLent-entries S W 𝓛 i d seen ok rb ro)) $ use0 𝓛 (raw (fact 𝓤 (κs.1.1.0 ⊑ V.lives))) (fact_i 𝓤 (κs.1.1.0 ⊑ V.lives) (emp 𝓤) inV) $ join ! $
+    states ! (AreLent (run_of es) d.held) (AreLent-entries S W 𝓛 i d seen ok rb ro) $ use0 𝓛 (raw (fact 𝓤 (κs.1.1.0 ⊑ V.lives))) (fact_i 𝓤 (κs.1.1.0 ⊑ V.lives) (emp 𝓤) inV) $ join ! $
     use0 𝓛 (raw (fact 𝓤 (κs.1.0 ⊑ K.lives))) (fact_i 𝓤 (κs.1.0 ⊑ K.lives) (emp 𝓤) inK) $ join ! $ move ! (1 ∷ 0 ∷ []) $ use2 𝓛 (raw (O.pre z)) (id⊢ 𝓤 _) $
     calls_at ! (framed 𝓤 H 𝓜 𝓣) O (of-thm.met 𝓤 𝓛 𝓜 𝓡 (code.calls-lhm_ring::iter::IterMut::of 𝓡.env wired) K V LK LV) z (and_then ! (get ! refl) (no_more !)) (λ v.
     use1 𝓛 (later (some (λ (r : Out.Denot). ((‵ (flft κ q) ⊛ ‵ others) ⊛ ‵ (Out.own_val r (v ∷ []))) ⊛ some (λ (ls : Lasts (g.ended K V) κs z.0.3). ‵ (lasts (g.ended K V) κs z.0.3 ls) ⊛ (raw (fact 𝓤 (held_left r ≡ d.held)) ⊛ raw (fact 𝓤 (loan_name r ≡ maybe.some ν))))))) (id⊢ 𝓤 _) $
@@ -142,5 +128,5 @@ lend_spec 𝓤 𝓛 𝓜 𝓡 wired K V LK LV =
     move ! (2 ∷ []) $ peeks ! Out (Is Out) (shows 𝓛 Out) r (v ∷ []) (λ it.
     lands_as ! refl refl (((iter-laws.the_row_laws (named_lft 3 0 tt κs) S W LS (param_laws 1 V LV)).lawful 𝓛).typed r (v ∷ []) it).0 $ returns ! (look_at ! 0 refl) $ free_all ! refl $
     move ! (4 ∷ []) $ use1 𝓛 (‵ (follows_if R Seq γ (loan_name r) (with_values d) d)) (by_name 𝓛 R Seq γ ν (with_values d) d (loan_name r) name) $
-    use0 𝓛 (raw (fact 𝓤 (held_left r ≡ d.held))) (fact_i 𝓤 _ (emp 𝓤) rest) $ move ! (1 ∷ 0 ∷ []) $ join ! $ move ! (2 ∷ 3 ∷ []) $ join ! $ nothing ! $ nothing ! $ fjoin ! $
+    use0 𝓛 (raw (fact 𝓤 (held_left r ≡ d.held))) (fact_i 𝓤 _ (emp 𝓤) rest) $ move ! (1 ∷ 0 ∷ []) $ join ! $ move ! (2 ∷ 3 ∷ []) $ join ! $ all_spent ! 1 $
     keep ! (1 ∷ 0 ∷ 3 ∷ 2 ∷ []) $ by ! (leaves 𝓛 En hs c y v r (tt, tt) (tt, tt)))))))))))))))

@@ -1,5 +1,5 @@
 use Rattle.std.proofs.Common.{◌∙◌, ap, sym, subst, refl}
-use Rattle.lhm_ring.proofs.memory.NodeBlocks.{AreBlocks-held}
+use Rattle.lhm_ring.proofs.memory.BlockPointers.{AreBlocks-held}
 use Rattle.lhm_ring.proofs.rings.ReadAtPosition.{content_at-held, IsAt-held, IsHeld-ring_list}
 use Rattle.lhm_ring.proofs.rings.RingCells.{IsAt-in_nodes, ChainsTo-ring_cells}
 use Rattle.lhm_ring.proofs.rings.ContentChange.{ChangesAt-with_links, RingOk-changed, ring_list-changed, ChangesOnly-held}

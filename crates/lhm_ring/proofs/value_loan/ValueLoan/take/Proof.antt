@@ -1,40 +1,26 @@
 -- `pull` cuts the value of one node out of those that are lent. Assumes `Logic`.
-use Rattle.std.proofs.Common.{◌≡◌, ℕ, ◌+◌, List, [], ◌∷◌, ◌++◌, refl, sym, ap, subst, Some, map}
-use base.Fraction.{full_share}
-use mir.Val.{Val, vptr}
-use mir.MapTy.{inst_fn}
-use base.Logic.{SProp, ent, emp, never, id⊢}
-use base.Fml.{Fml, Lft, ftrue, fsep, flft}
-use prog.Wp.{WpFn}
-use types.Kit.{◌∵◌, ‵, raw, ◌⊛◌, some, later, at_ret, ◌$◌, !, qed, by, move, keep, use0, use1, pick, await, group, split, split3, join, fsplit, fsplit3, fjoin, fjoin3, suffices, rewrite, feq_i}
-use types.Run.{stop, fld, addr, of_opd, first, blocks, exec, returns, enter}
-use types.ByLocal.{alloc_all, pass_all, free_all, look_at, get, get_in, through, sets, sets_last, is, env}
-use types.Part.{sub, whole}
-use contract.Running.{tables}
-use base.Fml.{fobs, fbor}
+use Rattle.lhm_ring.proofs.memory.Steps.{◌≡◌, ℕ, ◌+◌, List, [], ◌∷◌, ◌++◌, refl, sym, ap}
+use Rattle.lhm_ring.proofs.memory.Steps.{full_share, Val, vptr, inst_fn, SProp, ftrue, flft, ◌∵◌, ‵}
+use Rattle.lhm_ring.proofs.memory.Steps.{raw, ◌⊛◌, at_ret, ◌$◌, !, qed, by, move, keep, use1, split}
+use Rattle.lhm_ring.proofs.memory.Steps.{join, fsplit, fsplit3, fjoin, rewrite, feq_i, stop, fld}
+use Rattle.lhm_ring.proofs.memory.Steps.{addr, of_opd, first, blocks, exec, returns, alloc_all}
+use Rattle.lhm_ring.proofs.memory.Steps.{pass_all, free_all, look_at, get, get_in, through, sets}
+use Rattle.lhm_ring.proofs.memory.Steps.{sets_last, is, env, sub, whole, tables, fact, yes, owns}
+use Rattle.lhm_ring.proofs.memory.Steps.{types_at, plain, Ptr, block_ptr, ptr_val, lies_at, heard}
+use Rattle.lhm_ring.proofs.memory.Steps.{opens, closes, Stays, stay_dropped, stay_ref, walk_of}
+use Rattle.lhm_ring.proofs.memory.Steps.{Goes-dropped, Goes-ref, after, word, word-Good, proved_at}
+use Rattle.lhm_ring.proofs.memory.Steps.{leaves, id⊢, RattleType, in_a_block, emp, Some, never, Fml}
+use Rattle.lhm_ring.proofs.memory.Steps.{fsep, fjoin3, nothing, Lft, fobs, fbor, later, pick, await}
+use Rattle.lhm_ring.proofs.memory.Steps.{group, split3, mem, MutBor, named_lft, some, open_ref, map}
+use Rattle.lhm_ring.proofs.memory.Steps.{length, states, self_left, states_also, runs_with}
 use base.Stored.{coded_list}
 use lib.ListN.{take, drop as drop_l}
 use types.Follow.{takes_two, after₂}
 use types.SemTy.{Body as Borrowed}
-use types.Mut.{open_ref}
-use denote.Memory.{mem}
-use denote.Signature.{named_lft}
-use Rattle.std.proofs.Common.{length}
 use Rattle.lhm_ring.specs.declared.value_loan.ValueLoan.{ValueLoan}
 use Rattle.lhm_ring.specs.contracts.value_loan.ValueLoan as L-type
-use Rattle.lhm_ring.proofs.memory.ValueTaken.{CutValue, CutValue-some, run_cut, run_mend}
-use contract.Monad.{fact, fact_i}
-use denote.Exit.{yes}
-use denote.RattleType.{RattleType, owns}
-use denote.Signature.{types_at, plain}
-use denote.RawPtr.{Ptr, block_ptr, ptr_val, lies_at, in_a_block}
-use denote.Ref.{MutBor}
-use denote.Steps.{nothing, heard, opens, closes}
-use denote.Triple.Walked.{Stays, stay_dropped, stay_ref, walk_of, Goes-dropped, Goes-ref}
-use Rattle.std.proofs.VecSteps.Shapes.{after}
-use Rattle.std.proofs.RcSteps.{word, word-Good}
-use Rattle.std.proofs.raw_atomic.Walks.{proved_at, leaves}
-use Rattle.lhm_ring.proofs.memory.Memory.{Three, args, RL, RK, RV, vo, Nr, Pl, word-pointer}
+use Rattle.lhm_ring.proofs.memory.ValueTaken.{CutValue, CutValue-some, run_cut, run_glue}
+use Rattle.lhm_ring.proofs.memory.NodeFields.{Three, args, RL, RK, RV, vo, Nr, Pl, word-pointer, three_rows}
 use Rattle.lhm_ring.specs.contracts.value_loan.ValueLoan.take.{ended, clauses}
 use Rattle.lhm_ring.specs.contracts.value_loan.ValueLoan.take.Key.{name as #self}
 use Rattle.lhm_ring.proofs.value_loan.ValueLoan.take.Statement.{statement}
@@ -44,7 +30,7 @@ use Rattle.lhm_ring.specs.Nodes.{value_address}
 
 pub take_spec : {M : Type 1} → statement M
 take_spec 𝓤 𝓛 𝓜 𝓡 wired L K V LL LK LV =
-    let H = 𝓛.H in let 𝓣 = tables 𝓤 H 𝓜 𝓡 𝓡.env in let E : Three = record { links = L; links_laws = LL; key = K; key_laws = LK; value = V; value_laws = LV } in let N = Nr E in let R = RL E in let S = RK E in let W = RV E in
+    let H = 𝓛.H in let 𝓣 = tables 𝓤 H 𝓜 𝓡 𝓡.env in let E : Three = three_rows LL LK LV in let N = Nr E in let R = RL E in let S = RK E in let W = RV E in
     let En = ended L K V in let c = clauses L K V 𝓛 𝓜.mem 𝓡.returns in let fn = inst_fn (args E) code.function in
     let hs : Stays En.signature.params En.kept = (stay_ref (0 ∷ []) tt (plain (λ κs. L-type.the_row (named_lft 5 1 tt κs) R S W)), (stay_dropped (plain (λ _. Pl)) yes, tt)) in
     proved_at 𝓛 En hs c 𝓜 𝓡 (Goes-ref 𝓛 5 0 tt (plain (λ κs. L-type.the_row (named_lft 5 1 tt κs) R S W)), (Goes-dropped 𝓛 5 (plain (λ _. Pl)) yes (λ κs x f. refl), tt))
@@ -56,9 +42,8 @@ take_spec 𝓤 𝓛 𝓜 𝓡 wired L K V LL LK LV =
     let Asked : Type 0 = Lies d.run p in
     qed 𝓛 (((‵ (flft κs.0 qs.0) ⊛ ‵ others) ⊛ ‵ (owns (types_at En.signature.params κs) a vss)) ∷ raw (fact 𝓤 _) ∷ raw (fact 𝓤 _) ∷ raw (fact 𝓤 _) ∷ raw (fact 𝓤 Asked) ∷ []) ∵
     keep ! (4 ∷ 0 ∷ []) $ heard ! Asked (λ asked. split ! $ split ! $ move ! (2 ∷ []) $ fsplit ! $ fsplit3 ! $ keep ! (1 ∷ 2 ∷ 4 ∷ 5 ∷ []) $
-    let us : List Val = vptr rb ro ∷ word p ∷ [] in let Run : List Val → SProp 𝓤 = λ ws. WpFn 𝓤 H 𝓣.C 𝓣.Λ fn ws Post in
-    suffices ! (Run us) (subst (λ (ws : List Val). ent 𝓤 (Run us) (Run ws)) (sym (λ i. are.0.0 i ++ (word-pointer a.1.0 vss.1.0 are.1.0 i ++ []))) (id⊢ 𝓤 (Run us))) $
-    enter ! 𝓣.C 𝓣.Λ fn us Post $ alloc_all ! (λ l. pass_all ! refl ((tt, tt), (word-Good [] p, tt)) $ let Ev = env fn.locals l in
+    runs_with ! 𝓣.C 𝓣.Λ fn Post (vptr rb ro ∷ word p ∷ []) (λ i. are.0.0 i ++ (word-pointer a.1.0 vss.1.0 are.1.0 i ++ [])) $
+    alloc_all ! (λ l. pass_all ! refl ((tt, tt), (word-Good [] p, tt)) $ let Ev = env fn.locals l in
     let v : V.Denot = asked.0 in let k : CutValue d.run p v = CutValue-some d.run p v asked.1 in let xs = k.split.before in let ys = k.split.after in
     let all : List (Ptr × V.Denot) = xs ++ (p, v) ∷ ys in let ats : List (Ptr × V.Denot) → List Ptr = λ cs. map (λ c. f c.0) cs in let ofs : List (Ptr × V.Denot) → List V.Denot = λ cs. map (λ c. c.1) cs in
     move ! (3 ∷ []) $ fsplit ! $ move ! (2 ∷ 3 ∷ 4 ∷ []) $
@@ -74,7 +59,7 @@ take_spec 𝓤 𝓛 𝓜 𝓡 wired L K V LL LK LV =
     nothing ! $ move ! (3 ∷ 4 ∷ 5 ∷ 1 ∷ 2 ∷ 0 ∷ []) $ group ! 6 $
     use1 𝓛 (later (some (λ (γs : ℕ × ℕ). (‵ (fobs γs.0 (W.coded.code v)) ⊛ ‵ (fbor κ (Borrowed (mem W) pb (po + vo E) γs.0))) ⊛ (‵ (fobs γs.1 ((coded_list W.coded).code (ofs (xs ++ ys)))) ⊛ ‵ (fbor κ (Borrowed (Spread W (ats (xs ++ ys))) 0 0 γs.1)))
     ⊛ ‵ (flft κ q) ⊛ ‵ (after₂ (Spread W (ats all)) (mem W) (Spread W (ats (xs ++ ys))) d.name γs.0 γs.1 F))))
-    (takes_two 𝓛 (Spread W (ats all)) (mem W) (Spread W (ats (xs ++ ys))) F κ q 0 0 pb (po + vo E) 0 0 d.name (emp 𝓤) (run_mend 𝓛 W f p pb (po + vo E) at xs v ys) ((coded_list W.coded).code (ofs all)) ((coded_list W.coded).code (ofs all)) v (ofs (xs ++ ys))) $ await ! tt $ pick ! (λ γs. split3 ! $
+    (takes_two 𝓛 (Spread W (ats all)) (mem W) (Spread W (ats (xs ++ ys))) F κ q 0 0 pb (po + vo E) 0 0 d.name (emp 𝓤) (run_glue 𝓛 W f p pb (po + vo E) at xs v ys) ((coded_list W.coded).code (ofs all)) ((coded_list W.coded).code (ofs all)) v (ofs (xs ++ ys))) $ await ! tt $ pick ! (λ γs. split3 ! $
     let r : Val = vptr pb (po + vo E) in let out : MutBor V.Denot = record { ref_ptr = (pb, po + vo E); ghost_name = γs.0; now = v } in
     let new : ValueLoan L.Denot K.Denot V.Denot = record { marker = d.marker; name = γs.1; tie = d.tie; run = without_value p d.run } in
     split ! $ feq_i ! (List Val) (r ∷ []) (r ∷ []) refl $ fjoin3 ! $ move ! (1 ∷ []) $ split ! $ fjoin ! $ move ! (2 ∷ []) $ split ! $
@@ -85,10 +70,9 @@ take_spec 𝓤 𝓛 𝓜 𝓡 wired L K V LL LK LV =
     -- tokens]
     sets ! (is ! (of_opd ! (get_in ! (fld ! refl (stop !)) (sub ! 0 refl (whole !)))) (ap ptr_val e)) refl (tt, tt) $ first ! $ blocks ! $
     sets_last ! (addr ! (through ! refl (fld ! refl (stop !)))) refl (tt, tt) $ exec ! 𝓣.C 𝓣.Λ Ev (after 2 fn.body) (at_ret Ev Post) $ sets ! (of_opd ! (get ! refl)) refl (tt, tt) $
-    feq_i ! (List Val) vss.0 (vptr rb ro ∷ []) are.0.0 $ fjoin3 ! $ nothing ! $ nothing ! $ fjoin ! $ move ! (1 ∷ 0 ∷ []) $ fjoin ! $
+    self_left ! 1 are.0.0 $
     -- [self and the pointer; its token; the loan's token; the two names'; the value; the other
     -- tokens]
     move ! (2 ∷ 5 ∷ []) $ join ! $ move ! (2 ∷ 0 ∷ []) $ join ! $
-    let Told : Type 0 = value_at d.run p ≡ Some v in let Left : Type 0 = without_value p d.run ≡ without_value p d.run in let Tied : Type 0 = d.tie ≡ d.tie in
-    use0 𝓛 (raw (fact 𝓤 Tied)) (fact_i 𝓤 Tied (emp 𝓤) refl) $ use0 𝓛 (raw (fact 𝓤 Left)) (fact_i 𝓤 Left (emp 𝓤) refl) $ join ! $ use0 𝓛 (raw (fact 𝓤 Told)) (fact_i 𝓤 Told (emp 𝓤) asked.1) $ join ! $
+    states ! (d.tie ≡ d.tie) refl $ states_also ! (without_value p d.run ≡ without_value p d.run) refl $ states_also ! (value_at d.run p ≡ Some v) asked.1 $
     returns ! (look_at ! 0 refl) $ free_all ! refl $ keep ! (1 ∷ 2 ∷ 4 ∷ 0 ∷ []) $ by ! (leaves 𝓛 En hs c y r out (new, (tt, tt)) (tt, (tt, tt)))))))))

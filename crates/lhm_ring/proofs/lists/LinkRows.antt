@@ -2,7 +2,7 @@
 use Rattle.std.proofs.Common.{◌≡◌, List, [], ◌∷◌, ◌++◌, length, refl, sym, ap, ◌∙◌, append_assoc}
 use denote.RawPtr.{Ptr}
 use Rattle.lhm_ring.specs.declared.ring.Links.{Links}
-use Rattle.lhm_ring.proofs.lists.ListFacts.{last_from}
+use Rattle.lhm_ring.proofs.lists.Last.{last_from}
 use Rattle.lhm_ring.specs.Nodes.{Cell}
 use Rattle.lhm_ring.specs.Links.{content_at, Edge, Linked, follow, listed, one_of}
 

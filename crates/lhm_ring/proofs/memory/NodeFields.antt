@@ -1,36 +1,28 @@
 -- What the proofs by hand over the nodes share. Assumes `Logic`.
 --     Three, args          the rows of the links, of the keys and of the values, and what a call
 --     passes for them
---     word_made, marker_made      a value of one pointer, and one of no bytes
---     cells_cut, cells_glue, cell_seen      one node is taken out of the others, put back, and seen
---     through a `&`
-use mathlib.Core.Path.{◌≡◌, refl, ap, ◌∙◌}
-use Prim.Native.Nat.{ℕ, ◌+◌}
-use mathlib.Core.List.{List, [], ◌∷◌, ◌++◌}
-use seplogic.Ra.Ura.{Ura}
-use base.Fraction.{full_share}
-use mir.Syntax.{Ty, Args, a_type}
-use mir.Val.{Val, vstruct, vcons, vnil, of_list}
-use base.Logic.{ent, sep, emp, ex, guard, via, fst∗, snd∗, id⊢}
-use base.Fml.{Fml, Lft, fat, froom}
-use types.Logic.{Logic, sem}
-use types.Kit.{Item, Goal, Step, step, ‵, some, given, learn, ◌⊛◌, ◌$◌, ◌∵◌, !, qed, move, drop, use1, use2, pick, split, check, show, fsplit, fjoin, fpack, feq_i, done}
-use denote.RattleType.{RattleType, Valss}
-use denote.Laws.{Typed, Is, shows}
-use denote.Param.{param, layout, layouts}
-use denote.Param.Laws.{Laws, param_laws}
-use denote.Memory.{part_at}
-use denote.RawPtr.{block_ptr}
-use denote.Shadow.{makes_shadow}
-use denote.Steps.{nothing, peeks}
-use denote.Struct.Struct.{Shape, Struct, within}
-use denote.Struct.Owning.{shape}
+--     marker_made      a value of no bytes
+--     value_known, forgotten      a value in memory is machine memory and what it owns, and
+--     memory that holds nothing
+use Rattle.lhm_ring.proofs.memory.Steps.{◌≡◌, ℕ, ◌+◌, List, [], ◌∷◌, ◌++◌, refl, ap, ◌∙◌, None}
+use Rattle.lhm_ring.proofs.memory.Steps.{full_share, Val, ◌∵◌, ‵, ◌⊛◌, ◌$◌, !, qed, move, drop}
+use Rattle.lhm_ring.proofs.memory.Steps.{use1, split, fsplit, fjoin, feq_i, layout, param_laws}
+use Rattle.lhm_ring.proofs.memory.Steps.{block_ptr, word, froom, sem, RattleType, emp, Some}
+use Rattle.lhm_ring.proofs.memory.Steps.{part_at, Fml, nothing, Option, vstruct, vcons, vnil, pick}
+use Rattle.lhm_ring.proofs.memory.Steps.{some, fpack, fat, given, learn, Good, ent, Ura, Logic, sep}
+use Rattle.lhm_ring.proofs.memory.Steps.{done, Ty, Is, Struct, Args, a_type, layouts, param, as_raw}
+use Rattle.lhm_ring.proofs.memory.Steps.{Item, Goal, makes_shadow, shape, Valss, Laws, within}
+use mir.Val.{of_list}
+use base.Logic.{ex, guard}
+use types.Kit.{Seq, Step, step, check, show}
+use denote.Laws.{Typed, shows}
+use denote.Steps.{peeks}
+use denote.Struct.Struct.{Shape}
+use mir.Raw.{raw as bare}
 use borrow.Table.OneValue.{part_in, part_out}
-use Rattle.std.specs.Prelude.{Option, Some, None}
-use Rattle.std.proofs.RcSteps.{Good, word}
 use Rattle.lhm_ring.specs.contracts.nodes.Nodes as N-type
 use Rattle.lhm_ring.specs.contracts.pointer.NodePointer as P-type
-use Rattle.lhm_ring.specs.Nodes.{Cell, links_offset, key_offset, value_offset, body_owns, land_owns, cell_owns, cells_own, cell_lent, cells_lent}
+use Rattle.lhm_ring.specs.Nodes.{Cell, links_offset, key_offset, value_offset, body_owns, land_owns, cell_owns, cells_own}
 
 pub record Three : Type 2 where
   pub links : RattleType
@@ -39,6 +31,9 @@ pub record Three : Type 2 where
   pub key_laws : Laws key
   pub value : RattleType
   pub value_laws : Laws value
+
+abbrev pub three_rows : {L K V : RattleType} → Laws L → Laws K → Laws V → Three
+three_rows {L} {K} {V} LL LK LV = record { links = L; links_laws = LL; key = K; key_laws = LK; value = V; value_laws = LV }
 
 module _ (E : Three) where
   abbrev pub args : Args
@@ -91,21 +86,6 @@ marker = vstruct (vcons (vstruct vnil) vnil)
 pub marker_made : (E : Three) {M : Type 1} {𝓤 : Ura M} (𝓛 : Logic 𝓤) → ent 𝓤 (emp 𝓤) (sem 𝓛 ((Marker E).own_val (tt, tt) (marker ∷ [])))
 marker_made E 𝓛 = makes_shadow 𝓛 ((Marker E).own_val (tt, tt) (marker ∷ [])) (λ vss. (tt, ((λ uss. (tt, tt)), tt))) ((vstruct vnil ∷ [], tt), (refl, ((tt, (refl, tt)), tt)))
 
-module _ {M : Type 1} {𝓤 : Ura M} (𝓛 : Logic 𝓤) (E : Three) where
-  pub cells_cut : (Z : Fml) (xs : List (Node E)) (c : Node E) (ys : List (Node E)) → ent 𝓤 (sem 𝓛 (Cells E Z (xs ++ c ∷ ys))) (sep 𝓤 (sem 𝓛 (One E c)) (sem 𝓛 (Cells E Z (xs ++ ys))))
-  cells_cut Z [] c ys = id⊢ 𝓤 _
-  cells_cut Z (x ∷ xs) c ys = qed 𝓛 (‵ (Cells E Z (x ∷ xs ++ c ∷ ys)) ∷ []) ∵ fsplit ! $ move ! (1 ∷ []) $
-      use1 𝓛 (‵ (One E c) ⊛ ‵ (Cells E Z (xs ++ ys))) (cells_cut Z xs c ys) $ split ! $ move ! (2 ∷ 1 ∷ []) $ fjoin ! $ move ! (1 ∷ []) $ done !
-
-  pub cells_glue : (Z : Fml) (xs : List (Node E)) (c : Node E) (ys : List (Node E)) → ent 𝓤 (sep 𝓤 (sem 𝓛 (One E c)) (sem 𝓛 (Cells E Z (xs ++ ys)))) (sem 𝓛 (Cells E Z (xs ++ c ∷ ys)))
-  cells_glue Z [] c ys = id⊢ 𝓤 _
-  cells_glue Z (x ∷ xs) c ys = qed 𝓛 (‵ (One E c) ∷ ‵ (Cells E Z (x ∷ xs ++ ys)) ∷ []) ∵ move ! (1 ∷ []) $ fsplit ! $ move ! (2 ∷ 1 ∷ []) $
-      use2 𝓛 (‵ (Cells E Z (xs ++ c ∷ ys))) (cells_glue Z xs c ys) $ move ! (1 ∷ 0 ∷ []) $ fjoin ! $ done !
-
-  pub cell_seen : (κ : Lft) (xs : List (Node E)) (c : Node E) (ys : List (Node E)) → ent 𝓤 (sem 𝓛 (cells_lent (RL E) (RK E) (RV E) (xs ++ c ∷ ys) κ)) (sem 𝓛 (cell_lent (RL E) (RK E) (RV E) c κ))
-  cell_seen κ [] c ys = fst∗ 𝓤 _ (sem 𝓛 (cells_lent (RL E) (RK E) (RV E) ys κ))
-  cell_seen κ (x ∷ xs) c ys = via 𝓤 _ (snd∗ 𝓤 (sem 𝓛 (cell_lent (RL E) (RK E) (RV E) x κ)) _) (cell_seen κ xs c ys)
-
 pub alone : (τ : Ty) (vs : List Val) → Typed (τ ∷ []) vs → (v : Val) × ((vs ≡ v ∷ []) × Good τ v)
 alone τ [] t = absurd t
 alone τ (v ∷ []) t = (v, (refl, t.0))
@@ -123,6 +103,16 @@ module _ (i : ℕ) (Y : RattleType) (L : Laws Y) {M : Type 1} {𝓤 : Ura M} (�
   pub value_in : (x : Y.Denot) (b o : ℕ) (v : Val) → ent 𝓤 (sep 𝓤 (H.at full_share (layout Y) b o v) (sem 𝓛 (Y.own_val x (v ∷ [])))) (sem 𝓛 (part_at (param i Y) full_share x b o))
   value_in x b o v = part_in 𝓛 (param i Y) refl full_share x b o v
 
+module _ {M : Type 1} {𝓤 : Ura M} {𝓛 : Logic 𝓤} {K : Type 0} {Γ : List (Item 𝓤)} {G : Goal 𝓤 𝓛.H} where
+  module _ (i : ℕ) (Y : RattleType) (L : Laws Y) (x : Y.Denot) (b o : ℕ) where
+    -- a value in memory is machine memory and what the value owns
+    pub value_known : K → ((v : Val) → Good (layout Y) v → Seq K 𝓛 (‵ (fat full_share (layout Y) b o v) ∷ ‵ (Y.own_val x (v ∷ [])) ∷ Γ) G) → Seq K 𝓛 (‵ (part_at (param i Y) full_share x b o) ∷ Γ) G
+    value_known t k = use1 𝓛 (some (λ (v : Val). given (Good (layout Y) v) (‵ (fat full_share (layout Y) b o v) ⊛ ‵ (Y.own_val x (v ∷ []))))) (value_out i Y L 𝓛 x b o) $ pick t (λ v. learn t (λ good. split t $ k v good))
+
+  -- what lies in memory is forgotten
+  pub forgotten : K → (τ : Ty) (b o : ℕ) (v : Val) → Step K 𝓛 (‵ (froom (bare τ) b o) ∷ Γ) G (‵ (fat full_share τ b o v) ∷ Γ) G
+  forgotten t τ b o v = step (λ s. use1 𝓛 (‵ (froom τ b o)) (𝓛.laws.at_room τ b o v) $ as_raw t τ b o $ s)
+
 -- the machine value of a pointer
 pub word-pointer : (x : Pl.Denot) (vs : List Val) → Is Pl x vs → vs ≡ word x.ptr ∷ []
 word-pointer x vs is = is.1.0 ∙ ap (λ (ws : List Val). vstruct (of_list (ws ++ [])) ∷ []) is.1.1.0
@@ -131,8 +121,7 @@ module _ {M : Type 1} {𝓤 : Ura M} (𝓛 : Logic 𝓤) (b o : ℕ) where
   -- a value that is forgotten leaves uninitialised memory
   pub uninit_left : (i : ℕ) (Y : RattleType) (L : Laws Y) (x : Y.Denot) → ent 𝓤 (sem 𝓛 (part_at (param i Y) full_share x b o)) (sem 𝓛 (froom (layout Y) b o))
   uninit_left i Y L x = qed 𝓛 (‵ (part_at (param i Y) full_share x b o) ∷ []) ∵
-      use1 𝓛 (some (λ (v : Val). given (Good (layout Y) v) (‵ (fat full_share (layout Y) b o v) ⊛ ‵ (Y.own_val x (v ∷ []))))) (value_out i Y L 𝓛 x b o) $ pick ! (λ v. learn ! (λ _. split ! $
-      use1 𝓛 (‵ (froom (layout Y) b o)) (𝓛.laws.at_room (layout Y) b o v) $ move ! (1 ∷ []) $ drop ! $ done !))
+      value_known i Y L x b o ! (λ v _. use1 𝓛 (‵ (froom (layout Y) b o)) (𝓛.laws.at_room (layout Y) b o v) $ move ! (1 ∷ []) $ drop ! $ done !)
 
 module _ {M : Type 1} {𝓤 : Ura M} (𝓛 : Logic 𝓤) (E : Three) (b o : ℕ) where
   -- what a node holds, or the memory for it, is uninitialised memory

@@ -1,19 +1,16 @@
--- What `allocate` and `deallocate` share: a block is cut into its three fields, and made of them
--- again. Assumes `Logic`.
-use Rattle.std.proofs.Common.{ℕ, ◌+◌, [], ◌∷◌}
-use seplogic.Ra.Ura.{Ura}
-use mir.Syntax.{Ty, Tys, Sym, ty_struct, tcons, tnil}
-use base.Logic.{SProp, ent, sep, wand, apply∗}
-use base.Fml.{Fml, ftrue, fwand, froom}
+-- A place for a node is cut into its three fields, and made of them again. Assumes `Logic`.
+use Rattle.lhm_ring.proofs.memory.Steps.{ℕ, ◌+◌, [], ◌∷◌, SProp, ftrue, ◌∵◌, ‵, raw, ◌⊛◌, ◌$◌, ! }
+use Rattle.lhm_ring.proofs.memory.Steps.{qed, by, move, keep, use1, use2, split, fsplit3, layout}
+use Rattle.lhm_ring.proofs.memory.Steps.{Ptr, block_ptr, room_for, froom, sem, Fml, fjoin3, nothing}
+use Rattle.lhm_ring.proofs.memory.Steps.{group, split3, ent, Ura, Logic, sep, done, Ty, as_raw}
+use mir.Syntax.{Tys, Sym, ty_struct, tcons, tnil}
+use base.Logic.{wand, apply∗}
+use base.Fml.{fwand}
 use prog.Model.{rooms_at}
-use types.Logic.{Logic, sem}
-use types.Kit.{‵, raw, ◌⊛◌, ◌$◌, ◌∵◌, !, qed, by, move, keep, use1, use2, group, split, split3, assume, fsplit3, fjoin3, done}
-use denote.Param.{layout}
-use denote.RawPtr.{Ptr, block_ptr, room_for}
-use denote.Steps.{nothing}
-use Rattle.std.proofs.RawLayout.{as_raw, as_written}
+use types.Kit.{assume}
+use Rattle.std.proofs.RawLayout.{as_written}
 use Rattle.lhm_ring.specs.contracts.nodes.Node as N-type
-use Rattle.lhm_ring.proofs.memory.Memory.{Three, RL, RK, RV, lo, ko, vo}
+use Rattle.lhm_ring.proofs.memory.NodeFields.{Three, RL, RK, RV, lo, ko, vo}
 use Rattle.lhm_ring.specs.Nodes.{node_type, fields_own}
 
 module _ (E : Three) where

@@ -1,0 +1,55 @@
+-- Nodes with other bodies: what is read of their links stays.
+use Rattle.std.proofs.Common.{◌≡◌, ℕ, true, false, cond, List, [], ◌∷◌, map, length, suc, Option, Some, refl, ap}
+use Rattle.std.specs.List.{AllByRecursion}
+use denote.RawPtr.{Ptr}
+use Rattle.lhm_ring.specs.declared.ring.Links.{Links}
+use Rattle.lhm_ring.specs.declared.pointer.Link.{Link}
+use Rattle.lhm_ring.proofs.lists.Apart.{same_ptr-equal}
+use Rattle.lhm_ring.proofs.lists.ForAll.{AllByRecursion-always}
+use Rattle.lhm_ring.proofs.lists.Options.{none_some}
+use Rattle.lhm_ring.proofs.rings.SameNodes.{SameLink, RingOk-same}
+use Rattle.lhm_ring.specs.Nodes.{Cell, cell, cell_at, same_ptr, pointers, links_of, body_of, links_at, body_at}
+use Rattle.lhm_ring.specs.Links.{next_of, prev_of, link_of, has_links, HasContent, RingOk}
+
+module _ {B : Type 0} (f : Ptr → Option B → Option B) where
+  module _ {L : Type 0} where
+    abbrev pub rebodied : List (Cell L B) → List (Cell L B)
+    rebodied = map (λ c. cell c.at c.links (f c.at c.body))
+
+    pub pointers-rebodied : (cs : List (Cell L B)) → pointers (rebodied cs) ≡ pointers cs
+    pointers-rebodied [] = refl
+    pointers-rebodied (c ∷ cs) = ap (λ ps. c.at ∷ ps) (pointers-rebodied cs)
+
+    length-rebodied : (cs : List (Cell L B)) → length (rebodied cs) ≡ length cs
+    length-rebodied [] = refl
+    length-rebodied (c ∷ cs) = ap suc (length-rebodied cs)
+
+    pub links_at-rebodied : (cs : List (Cell L B)) (q : Ptr) → links_at (rebodied cs) q ≡ links_at cs q
+    unfolding cell_at
+    links_at-rebodied [] q = refl
+    links_at-rebodied (c ∷ cs) q =
+        elim (same_ptr c.at q) as (λ y. links_of (cond y (Some (cell c.at c.links (f c.at c.body))) (cell_at (rebodied cs) q))
+        ≡ links_of (cond y (Some c) (cell_at cs q))) [
+          | true ↦ refl
+          | false ↦ links_at-rebodied cs q
+        ]
+
+    pub body_at-rebodied : (cs : List (Cell L B)) (q : Ptr) (l : L) → links_at cs q ≡ Some l
+        → body_at (rebodied cs) q ≡ f q (body_at cs q)
+    unfolding cell_at
+    body_at-rebodied [] q l e = absurd (none_some l e)
+    body_at-rebodied (c ∷ cs) q l e =
+        (elim (same_ptr c.at q) as (λ y. same_ptr c.at q ≡ y → links_of (cond y (Some c) (cell_at cs q)) ≡ Some l
+        → body_of (cond y (Some (cell c.at c.links (f c.at c.body))) (cell_at (rebodied cs) q))
+        ≡ f q (body_of (cond y (Some c) (cell_at cs q)))) [
+          | true ↦ λ t _. ap (λ p. f p c.body) (same_ptr-equal c.at q t)
+          | false ↦ λ n h. body_at-rebodied cs q l h
+        ]) refl e
+
+  pub RingOk-rebodied : (cs : List (Cell Links B)) (spare : Link) (n m : ℕ) (ok : RingOk cs spare n m)
+      → AllByRecursion (HasContent (rebodied cs)) ok.held_pointers → RingOk (rebodied cs) spare n m
+  RingOk-rebodied cs spare n m ok held =
+      let same = links_at-rebodied cs in
+      RingOk-same cs (rebodied cs) (λ q. ap next_of (same q)) (λ q. ap prev_of (same q)) (λ q. ap has_links (same q))
+      (length-rebodied cs) spare n m ok held
+      (AllByRecursion-always (SameLink cs (rebodied cs)) (λ q. ap link_of (same q)) ok.spare_pointers)
