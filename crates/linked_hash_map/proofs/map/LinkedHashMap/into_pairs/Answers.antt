@@ -1,4 +1,4 @@
-use Rattle.std.proofs.Common.{map, refl, ap, ◌∙◌}
+use Rattle.std.proofs.Common.{map, ap, ◌∙◌}
 use Rattle.linked_hash_map.specs.LinkedMap.{LinkedMap}
 use Rattle.linked_hash_map.proofs.nodes.HeldPairs.{pairs-triples}
 use Rattle.linked_hash_map.proofs.nodes.Kept.{IsValid-view}
@@ -10,4 +10,4 @@ returns-clause-pairs g c =
     ∙ ap (λ (m : LinkedMap g.row.K.Denot g.row.V.Denot g.row.S.Denot). m.pairs) c.self.view_is
 
 pub returns-clause-valid : goal.returns-clause-valid
-returns-clause-valid g c = rw (← c.self.view_is) (IsValid-view c.self.invariant refl refl)
+returns-clause-valid g c = IsValid-view c.self.inside c.self.view_is c.self.invariant

@@ -1,4 +1,4 @@
-use Rattle.std.proofs.Common.{Some, refl}
+use Rattle.std.proofs.Common.{Some}
 use Rattle.linked_hash_map.specs.Nodes.{beside}
 use Rattle.linked_hash_map.proofs.lists.Options.{of-Some, of-None}
 use Rattle.linked_hash_map.proofs.nodes.Kept.{IsValid-view}
@@ -25,7 +25,7 @@ pub returns-clause-found : goal.returns-clause-found
 returns-clause-found g c found = rw (← c.self.view_is, c.at-self-inside.ensures.current) (IsIndex-before_bare (has g c))
 
 pub returns-clause-valid : goal.returns-clause-valid
-returns-clause-valid g c = rw (← c.self.view_is) (IsValid-view c.self.invariant refl refl)
+returns-clause-valid g c = IsValid-view c.self.inside c.self.view_is c.self.invariant
 
 pub returns-in_default-clause-absent : goal.returns-in_default-clause-absent
 returns-in_default-clause-absent g c none =
@@ -35,4 +35,4 @@ returns-in_default-clause-absent g c none =
     c.self.invariant c.args.key.now c.requires (of-None c.in_default.is c.position.ensures.absent)
 
 pub returns-in_default-clause-valid : goal.returns-in_default-clause-valid
-returns-in_default-clause-valid g c = rw (← c.self.view_is) (IsValid-view c.self.invariant refl refl)
+returns-in_default-clause-valid g c = IsValid-view c.self.inside c.self.view_is c.self.invariant
