@@ -63,7 +63,8 @@ module _ {K : Type 0} {eq : K → K → Bool} {hash : K → ℕ} {us : List (Hel
       }
 
 -- a node was put at the back
-module _ {K V : Type 0} (hs ks : List (Held (K × V))) (u : Held (K × V)) (last : ks ≡ hs ++ u ∷ []) where
+module _ {K V : Type 0} (hs : List (Held (K × V))) {ks : List (Held (K × V))} (u : Held (K × V))
+    (last : ks ≡ hs ++ u ∷ []) where
   pub pairs_of-push : pairs_of ks ≡ pairs_of hs ++ u.pair ∷ []
   pairs_of-push = ap pairs_of last ∙ pairs_of-append hs (u ∷ [])
 

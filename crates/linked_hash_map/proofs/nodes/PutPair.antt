@@ -14,7 +14,7 @@ use Rattle.linked_hash_map.specs.Touches.{IsTouched}
 use Rattle.linked_hash_map.proofs.pairs.Indexes.{slice_get-set_value_at, length-others, set_value_at-pushed, slice_get-pushed}
 use Rattle.linked_hash_map.proofs.pairs.Indexes.{set_value-index, is_some-index, to_back-index, value_at-slice_get}
 use Rattle.linked_hash_map.proofs.pairs.Calls.{set_or_push-present}
-use Rattle.linked_hash_map.proofs.nodes.HeldPairs.{bare-change, before-bare, length-pairs_of, length-same}
+use Rattle.linked_hash_map.proofs.nodes.HeldPairs.{bare-change, before-bare, length-bare, length-pairs_of, length-same}
 use Rattle.linked_hash_map.proofs.nodes.CutNodes.{CutAt, CutAt-before, slice_get-held, pairs_of-change_at}
 use Rattle.linked_hash_map.proofs.nodes.Current.{current_at-Some, before-current, IsKept-visited}
 use Rattle.linked_hash_map.proofs.nodes.Kept.{IsKept-same}
@@ -133,37 +133,43 @@ module _ {K V : Type 0} {eq : K → K → Bool} (laws : IsEquivalence eq) {hash 
   IsKept-touched Touch moved = IsKept-moved hs ks moved.0 (before-current hs kept is) kept elsewhere laws is
   IsKept-touched Keep same = λ capacity. IsKept-same (ap bare same) capacity kept
 
-  pub IsKept-put_current : (mode : Mode) → IsTouched mode p hs ks → {n : ℕ} → n ≡ capacity
-      → (w : V) → IsKept eq hash (bare (change_at p (revalued w) ks)) n visit
-  IsKept-put_current mode touched capacity w = IsKept-same (bare-change p w ks) refl (IsKept-touched mode touched capacity)
-
   to_visit-touched : (mode : Mode) → IsTouched mode p hs ks → to_visit_of visit ks ≡ to_visit_of visit hs
   to_visit-touched Touch moved = to_visit-moved hs ks moved.0 (before-current hs kept is) kept elsewhere
   to_visit-touched Keep same = ap (to_visit_of visit) same
-
-  pub to_visit-put : (mode : Mode) → IsTouched mode p hs ks → (w : V)
-      → to_visit_of visit (change_at p (revalued w) ks) ≡ to_visit_of visit hs
-  to_visit-put mode touched w = sym (to_visit-bare visit (change_at p (revalued w) ks))
-      ∙ ap (to_visit_at visit) (bare-change p w ks) ∙ to_visit-bare visit ks
-      ∙ to_visit-touched mode touched
 
   elsewhere-touched : (mode : Mode) → IsTouched mode p hs ks → IsElsewhere (before p ks) visit (bare ks)
   elsewhere-touched Touch moved = inr (behind-moved hs ks moved.0 (before-current hs kept is) kept elsewhere moved.1)
   elsewhere-touched Keep same = subst (λ (ns : List (Held (K × V))). IsElsewhere (before p ns) visit (bare ns)) (sym same) elsewhere
 
-  pub outside-put : (mode : Mode) → IsTouched mode p hs ks → (w : V)
-      → IsElsewhere (current_at visit.current (bare (change_at p (revalued w) ks))) visit
+-- once it is moved by a mode, and its value is written
+module _ {K V : Type 0} {eq : K → K → Bool} (laws : IsEquivalence eq) {hash : K → ℕ} {p : Ptr}
+    {mode : Mode} {hs ks : List (Held (K × V))} (moved : IsTouchedAt p mode hs ks) {capacity : ℕ}
+    {visit : VisitState} (kept : IsKept eq hash (bare hs) capacity visit)
+    (is : visit.current ≡ Some p) (elsewhere : IsElsewhere (before p hs) visit (bare hs)) where
+  pub IsKept-put_current : {n : ℕ} → n ≡ capacity → (w : V)
+      → IsKept eq hash (bare (change_at p (revalued w) ks)) n visit
+  IsKept-put_current same w = IsKept-same (bare-change p w ks) refl
+      (IsKept-touched laws hs ks kept is elsewhere mode moved.touched same)
+
+  pub to_visit-put : (w : V) → to_visit_of visit (change_at p (revalued w) ks) ≡ to_visit_of visit hs
+  to_visit-put w = sym (to_visit-bare visit (change_at p (revalued w) ks))
+      ∙ ap (to_visit_at visit) (bare-change p w ks) ∙ to_visit-bare visit ks
+      ∙ to_visit-touched laws hs ks kept is elsewhere mode moved.touched
+
+  pub outside-put : (w : V) → IsElsewhere (current_at visit.current (bare (change_at p (revalued w) ks))) visit
       (bare (change_at p (revalued w) ks))
-  outside-put mode touched w =
+  outside-put w =
       subst (λ us. IsElsewhere (current_at visit.current us) visit us) (sym (bare-change p w ks))
-      (subst (λ k. IsElsewhere k visit (bare ks)) (sym (current_at-Some is ks)) (elsewhere-touched mode touched))
+      (subst (λ k. IsElsewhere k visit (bare ks)) (sym (current_at-Some is ks))
+      (elsewhere-touched laws hs ks kept is elsewhere mode moved.touched))
 
 -- with nothing to visit, and no current pair
-pub IsKept-put : {K V : Type 0} {eq : K → K → Bool} → IsEquivalence eq → {hash : K → ℕ}
-    (hs ks : List (Held (K × V))) {capacity : ℕ} {visit : VisitState} (p : Ptr)
-    → IsKept eq hash (bare hs) capacity visit → before p (bare hs) < length (bare hs)
-    → (mode : Mode) → IsTouched mode p hs ks → {n : ℕ} → n ≡ capacity → (w : V)
-    → IsKept eq hash (bare (change_at p (revalued w) ks)) n no_visit
-IsKept-put laws hs ks p kept lies mode touched capacity w =
-    IsKept-visited (IsKept-put_current laws hs ks (IsKept-visited kept (Some p) lies) refl
-    (inr (omega arith)) mode touched capacity w) None tt
+pub IsKept-put : {K V : Type 0} {eq : K → K → Bool} → IsEquivalence eq → {hash : K → ℕ} {p : Ptr}
+    {mode : Mode} {hs ks : List (Held (K × V))} → IsTouchedAt p mode hs ks → {capacity : ℕ}
+    {visit : VisitState} → IsKept eq hash (bare hs) capacity visit → {n : ℕ} → n ≡ capacity
+    → (w : V) → IsKept eq hash (bare (change_at p (revalued w) ks)) n no_visit
+IsKept-put laws {p = p} {hs = hs} moved kept same w =
+    let at = before-bare p hs in let long = length-bare hs in
+    IsKept-visited (IsKept-put_current laws moved
+    (IsKept-visited kept (Some p) (omega (arith, at, long, moved.lies))) refl
+    (inr (omega arith)) same w) None tt

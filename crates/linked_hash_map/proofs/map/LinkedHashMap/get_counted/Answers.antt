@@ -1,5 +1,4 @@
 use Rattle.std.proofs.Common.{◌≤◌, Some, refl, sym, ap, ◌∙◌, subst}
-use Rattle.linked_hash_map.specs.Hashers.{hash_by}
 use Rattle.linked_hash_map.proofs.nodes.LookupCounts.{same-spots, beside-spots}
 use Rattle.linked_hash_map.proofs.pairs.Indexes.{value_at-index}
 use Rattle.linked_hash_map.proofs.lists.Options.{of-Some, of-None, of-OnSome}
@@ -8,7 +7,6 @@ use Rattle.linked_hash_map.proofs.nodes.CutNodes.{slice_get-held}
 use Rattle.linked_hash_map.proofs.nodes.Kept.{distinct_keys, IsValid-view}
 use Rattle.linked_hash_map.proofs.nodes.AbsentKeys.{hash_by-respects, value_at-IsAbsent}
 use Rattle.linked_hash_map.proofs.map.LinkedHashMap.get_counted.Goals as goal
-use Rattle.lhm_ring.specs.Buckets.{buckets}
 
 pub returns-in-Some-clause-value : goal.returns-in-Some-clause-value
 returns-in-Some-clause-value g c =
@@ -23,25 +21,17 @@ returns-in-Some-clause-valid g c = IsValid-view c.self.inside c.self.view_is c.s
 
 pub returns-in-Some-clause-compared_few : goal.returns-in-Some-clause-compared_few
 returns-in-Some-clause-compared_few g c =
-    let m = c.self.inside in
-    let hash = hash_by g.S.Hasher.Hasher.finish g.S.Hasher.Hasher.write g.S.BuildHasher.build_hasher
-    g.K.Hash.hash_input m.hasher in
-    let probe = c.find-found.result.1 in
     let counts = of-OnSome c.in-Some.is c.find-found.ensures.counts_found in
-    rw (← c.self.view_is) (subst (λ n. probe.compared ≤ n) (same-spots hash m.table.held
-    c.args.key.now c.hash_one-hash.result c.hash_one-hash.ensures c.self.invariant.hashed)
+    rw (← c.self.view_is) (subst (λ n. c.find-found.result.1.compared ≤ n)
+    (same-spots c.self.inside.table.held c.self.invariant c.args.key.now c.hash_one-hash.ensures)
     counts.compared_few)
 
 pub returns-in-Some-clause-visited_few : goal.returns-in-Some-clause-visited_few
 returns-in-Some-clause-visited_few g c =
-    let m = c.self.inside in
-    let hash = hash_by g.S.Hasher.Hasher.finish g.S.Hasher.Hasher.write g.S.BuildHasher.build_hasher
-    g.K.Hash.hash_input m.hasher in
-    let probe = c.find-found.result.1 in
     let counts = of-OnSome c.in-Some.is c.find-found.ensures.counts_found in
-    rw (← c.self.view_is) (subst (λ n. probe.visited ≤ n)
-    (beside-spots hash m.table.held c.args.key.now c.hash_one-hash.result (buckets m.table.capacity)
-    _ c.hash_one-hash.ensures refl c.self.invariant.hashed) counts.visited_few)
+    rw (← c.self.view_is) (subst (λ n. c.find-found.result.1.visited ≤ n)
+    (beside-spots c.self.inside.table.held c.self.invariant c.args.key.now c.hash_one-hash.ensures)
+    counts.visited_few)
 
 pub returns-in-None-clause-value : goal.returns-in-None-clause-value
 returns-in-None-clause-value g c =
@@ -56,21 +46,12 @@ returns-in-None-clause-valid g c = IsValid-view c.self.inside c.self.view_is c.s
 
 pub returns-in-None-clause-compared : goal.returns-in-None-clause-compared
 returns-in-None-clause-compared g c =
-    let m = c.self.inside in
-    let hash = hash_by g.S.Hasher.Hasher.finish g.S.Hasher.Hasher.write g.S.BuildHasher.build_hasher
-    g.K.Hash.hash_input m.hasher in
-    let probe = c.find-found.result.1 in
     let counts = of-None c.in-None.is c.find-found.ensures.counts_absent in
-    rw (← c.self.view_is) (counts.compared_all ∙ same-spots hash m.table.held c.args.key.now
-    c.hash_one-hash.result c.hash_one-hash.ensures c.self.invariant.hashed)
+    rw (← c.self.view_is) (counts.compared_all
+    ∙ same-spots c.self.inside.table.held c.self.invariant c.args.key.now c.hash_one-hash.ensures)
 
 pub returns-in-None-clause-visited : goal.returns-in-None-clause-visited
 returns-in-None-clause-visited g c =
-    let m = c.self.inside in
-    let hash = hash_by g.S.Hasher.Hasher.finish g.S.Hasher.Hasher.write g.S.BuildHasher.build_hasher
-    g.K.Hash.hash_input m.hasher in
-    let probe = c.find-found.result.1 in
     let counts = of-None c.in-None.is c.find-found.ensures.counts_absent in
-    rw (← c.self.view_is)
-    (counts.visited_all ∙ beside-spots hash m.table.held c.args.key.now c.hash_one-hash.result
-    (buckets m.table.capacity) _ c.hash_one-hash.ensures refl c.self.invariant.hashed)
+    rw (← c.self.view_is) (counts.visited_all
+    ∙ beside-spots c.self.inside.table.held c.self.invariant c.args.key.now c.hash_one-hash.ensures)

@@ -4,7 +4,7 @@ use Rattle.linked_hash_map.specs.Nodes.{map_of, beside, no_visit}
 use Rattle.linked_hash_map.proofs.Callers.Updates.{Updates-put}
 use Rattle.linked_hash_map.proofs.lists.Options.{of-Some, of-None}
 use Rattle.linked_hash_map.proofs.nodes.Kept.{distinct_keys, IsValid-view}
-use Rattle.linked_hash_map.proofs.nodes.FoundKeys.{before-HasKey, IsIndex-before, before-HasKey_bare}
+use Rattle.linked_hash_map.proofs.nodes.FoundKeys.{before-HasKey, IsIndex-before}
 use Rattle.linked_hash_map.proofs.nodes.PutPair.{IsTouchedAt, touched_cut, pairs-put, value_at-touched, IsKept-put}
 use Rattle.linked_hash_map.proofs.nodes.AbsentKeys.{hash_by-respects, value_at-IsAbsent}
 use Rattle.linked_hash_map.proofs.map.LinkedHashMap.get_refresh.Goals as goal
@@ -20,10 +20,13 @@ value_mut-requires g c =
 
 pub invariant_of-self-lent : goal.invariant_of-self-lent
 invariant_of-self-lent g c w =
-    let moved = c.move_to_back.ensures in
-    IsKept-put g.met.K.Eq.laws c.self.inside.table.held c.move_to_back.new.self.held
-    (pointer_of c.in-Some.at) c.self.invariant (before-HasKey_bare (of-Some _ c.in-Some.is c.position.ensures.found)) Touch
-    (moved.last, moved.apart) moved.keeps.capacity w
+    let hs = c.self.inside.table.held in let last = c.move_to_back.ensures in
+    let moved : IsTouchedAt (pointer_of c.in-Some.at) Touch hs c.move_to_back.new.self.held =
+    record {
+      lies = before-HasKey (of-Some _ c.in-Some.is c.position.ensures.found);
+      touched = (last.last, last.apart);
+    } in
+    IsKept-put g.met.K.Eq.laws moved c.self.invariant last.keeps.capacity w
 
 pub returns-in-Some : goal.returns-in-Some
 returns-in-Some g c =

@@ -7,7 +7,7 @@ use Rattle.linked_hash_map.proofs.pairs.Calls.{put-absent}
 use Rattle.linked_hash_map.proofs.lists.Options.{of-Some, of-None}
 use Rattle.linked_hash_map.proofs.nodes.Kept.{distinct_keys, IsValid-kept, IsValid-view}
 use Rattle.linked_hash_map.proofs.nodes.AbsentKeys.{hash_by-respects, find-IsAbsent_map}
-use Rattle.linked_hash_map.proofs.nodes.FoundKeys.{before-HasKey, IsIndex-before, before-HasKey_bare}
+use Rattle.linked_hash_map.proofs.nodes.FoundKeys.{before-HasKey, IsIndex-before}
 use Rattle.linked_hash_map.proofs.nodes.PutPair.{IsTouchedAt, touched_cut, value_at-touched, pairs-put, length-put, IsKept-put}
 use Rattle.linked_hash_map.proofs.map.LinkedHashMap.insert.Goals as goal
 use Rattle.lhm_ring.specs.Pointer.{pointer_of}
@@ -42,9 +42,8 @@ value_mut-requires g c =
     (touched_cut moved).held
 
 pub invariant_of-self : goal.invariant_of-self
-invariant_of-self g c = IsKept-put g.met.K.Eq.laws c.self.inside.table.held
-    c.touch.new.table.held (pointer_of c.in-Some.at) c.self.invariant (before-HasKey_bare (has g c))
-    c.self.inside.mode c.touch.ensures.touched c.touch.ensures.keeps.capacity c.replace.new.dest
+invariant_of-self g c = IsKept-put g.met.K.Eq.laws (moved g c) c.self.invariant
+    c.touch.ensures.keeps.capacity c.replace.new.dest
 
 pub returns-in-Some-clause-old : goal.returns-in-Some-clause-old
 returns-in-Some-clause-old g c =

@@ -37,10 +37,8 @@ elsewhere g c = IsElsewhere-current c.self.inside.table.held c.self.invariant (i
     (ap (λ m. m.cursor) c.self.view_is) c.requires.outside
 
 pub invariant_of-self : goal.invariant_of-self
-invariant_of-self g c =
-    IsKept-put_current g.met.K.Eq.laws c.self.inside.table.held
-    c.touch.new.table.held c.self.invariant (is g c) (elsewhere g c)
-    c.self.inside.mode c.touch.ensures.touched c.touch.ensures.keeps.capacity c.replace.new.dest
+invariant_of-self g c = IsKept-put_current g.met.K.Eq.laws (moved g c) c.self.invariant (is g c)
+    (elsewhere g c) c.touch.ensures.keeps.capacity c.replace.new.dest
 
 pub returns-clause-pairs : goal.returns-clause-pairs
 returns-clause-pairs g c =
@@ -72,15 +70,12 @@ pub returns-clause-len : goal.returns-clause-len
 returns-clause-len g c = rw (← c.self.view_is) (length-put (moved g c) c.replace.new.dest)
 
 pub returns-clause-to_visit : goal.returns-clause-to_visit
-returns-clause-to_visit g c =
-    rw (← c.self.view_is) (to_visit-put g.met.K.Eq.laws c.self.inside.table.held
-    c.touch.new.table.held c.self.invariant (is g c)
-    (elsewhere g c) c.self.inside.mode c.touch.ensures.touched c.replace.new.dest)
+returns-clause-to_visit g c = rw (← c.self.view_is) (to_visit-put g.met.K.Eq.laws (moved g c)
+    c.self.invariant (is g c) (elsewhere g c) c.replace.new.dest)
 
 pub returns-clause-outside : goal.returns-clause-outside
-returns-clause-outside g c = outside-put g.met.K.Eq.laws c.self.inside.table.held
-    c.touch.new.table.held c.self.invariant (is g c)
-    (elsewhere g c) c.self.inside.mode c.touch.ensures.touched c.replace.new.dest
+returns-clause-outside g c = outside-put g.met.K.Eq.laws (moved g c) c.self.invariant (is g c)
+    (elsewhere g c) c.replace.new.dest
 
 pub returns-clause-valid : goal.returns-clause-valid
 returns-clause-valid g c = IsValid-view c.self.inside c.self.view_is c.self.invariant

@@ -26,10 +26,10 @@ pub returns-clause-pair : goal.returns-clause-pair
 returns-clause-pair g c =
     let hs = c.self.inside.table.held in
     rw (← c.self.view_is) (
-    sym (ap (slice_get (pairs_of hs)) (ap (λ k. k - 1) (length-pairs_of c.self.inside.table.held)
-    ∙ sym (before-last_at c.self.inside.table.held c.last.ensures.apart c.in_ok-back.ensures.last))
+    sym (ap (slice_get (pairs_of hs)) (ap (λ k. k - 1) (length-pairs_of hs)
+    ∙ sym (before-last_at hs c.last.ensures.apart c.in_ok-back.ensures.last))
     ∙ pair-removed hs c.remove_at.new.self.held c.remove_at.ensures.others
-    (before-last_at_within c.self.inside.table.held c.last.ensures.apart c.in_ok-back.ensures.last)
+    (before-last_at_within hs c.last.ensures.apart c.in_ok-back.ensures.last)
     c.remove_at.ensures.pair)
     )
 
@@ -38,9 +38,9 @@ returns-clause-pairs g c =
     let hs = c.self.inside.table.held in
     rw (← c.self.view_is) (
     pairs-removed hs c.remove_at.new.self.held c.remove_at.ensures.others
-    (before-last_at_within c.self.inside.table.held c.last.ensures.apart c.in_ok-back.ensures.last)
-    ∙ ap (remove (pairs_of hs)) (sym (ap (λ k. k - 1) (length-pairs_of c.self.inside.table.held)
-    ∙ sym (before-last_at c.self.inside.table.held c.last.ensures.apart c.in_ok-back.ensures.last)))
+    (before-last_at_within hs c.last.ensures.apart c.in_ok-back.ensures.last)
+    ∙ ap (remove (pairs_of hs)) (before-last_at hs c.last.ensures.apart c.in_ok-back.ensures.last
+    ∙ sym (ap (λ k. k - 1) (length-pairs_of hs)))
     ∙ remove-last (pairs_of hs)
     )
 

@@ -24,10 +24,9 @@ pub returns-clause-pair : goal.returns-clause-pair
 returns-clause-pair g c =
     let hs = c.self.inside.table.held in
     rw (← c.self.view_is) (
-    sym (ap (slice_get (pairs_of hs)) (sym (before-first_at c.self.inside.table.held c.in_ok-front.ensures))
+    sym (ap (slice_get (pairs_of hs)) (sym (before-first_at hs c.in_ok-front.ensures))
     ∙ pair-removed hs c.remove_at.new.self.held c.remove_at.ensures.others
-    (before-first_at_within c.self.inside.table.held c.in_ok-front.ensures)
-    c.remove_at.ensures.pair)
+    (before-first_at_within hs c.in_ok-front.ensures) c.remove_at.ensures.pair)
     )
 
 pub returns-clause-pairs : goal.returns-clause-pairs
@@ -35,9 +34,8 @@ returns-clause-pairs g c =
     let hs = c.self.inside.table.held in
     rw (← c.self.view_is) (
     pairs-removed hs c.remove_at.new.self.held c.remove_at.ensures.others
-    (before-first_at_within c.self.inside.table.held c.in_ok-front.ensures)
-    ∙ ap (remove (pairs_of hs)) (sym (sym (before-first_at c.self.inside.table.held c.in_ok-front.ensures)))
-    ∙ remove-first (pairs_of hs)
+    (before-first_at_within hs c.in_ok-front.ensures)
+    ∙ ap (remove (pairs_of hs)) (before-first_at hs c.in_ok-front.ensures) ∙ remove-first (pairs_of hs)
     )
 
 pub returns-clause-valid : goal.returns-clause-valid
