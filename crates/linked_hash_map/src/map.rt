@@ -1,4 +1,6 @@
 //! The map: its type, length, capacity, hasher and mode.
+#![tactic(auto, using(crate::proofs::nodes::HeldPairs::bare_nodes))]
+
 ghost use Rattle.std.specs.Prelude.{◌≡◌, ◌==◌, ◌≤◌, [], length};
 ghost use Rattle.linked_hash_map.specs.Validity.{IsValid};
 

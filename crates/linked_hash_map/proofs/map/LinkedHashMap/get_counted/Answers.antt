@@ -1,10 +1,10 @@
-use Rattle.std.proofs.Common.{◌≤◌, Some, refl, sym, ap, ◌∙◌, subst}
+use Rattle.std.proofs.Common.{◌≤◌, Some, sym, ap, ◌∙◌, subst}
 use Rattle.linked_hash_map.proofs.nodes.LookupCounts.{same-spots, beside-spots}
 use Rattle.linked_hash_map.proofs.pairs.Indexes.{value_at-index}
 use Rattle.linked_hash_map.proofs.lists.Options.{of-Some, of-None, of-OnSome}
 use Rattle.linked_hash_map.proofs.nodes.FoundKeys.{IsIndex-HasKey}
 use Rattle.linked_hash_map.proofs.nodes.CutNodes.{slice_get-held}
-use Rattle.linked_hash_map.proofs.nodes.Kept.{distinct_keys, IsValid-view}
+use Rattle.linked_hash_map.proofs.nodes.Kept.{distinct_keys}
 use Rattle.linked_hash_map.proofs.nodes.AbsentKeys.{hash_by-respects, value_at-IsAbsent}
 use Rattle.linked_hash_map.proofs.map.LinkedHashMap.get_counted.Goals as goal
 
@@ -15,9 +15,6 @@ returns-in-Some-clause-value g c =
     ap Some (c.value.ensures h.held.before h.held.node h.held.after h.held.is h.held.at_is)
     ∙ value_at-index g.met.K.Eq.laws (distinct_keys c.self.inside.table.held c.self.invariant) (IsIndex-HasKey h) (slice_get-held h.held)
     )
-
-pub returns-in-Some-clause-valid : goal.returns-in-Some-clause-valid
-returns-in-Some-clause-valid g c = IsValid-view c.self.inside c.self.view_is c.self.invariant
 
 pub returns-in-Some-clause-compared_few : goal.returns-in-Some-clause-compared_few
 returns-in-Some-clause-compared_few g c =
@@ -40,9 +37,6 @@ returns-in-None-clause-value g c =
     g.S.Hasher.Hasher.write g.S.BuildHasher.build_hasher g.met.K.Hash.respects_eq) m.hasher
     c.args.key.now c.hash_one-hash.ensures m.table.held c.self.invariant.hashed
     (of-None c.in-None.is c.find-found.ensures.absent)))
-
-pub returns-in-None-clause-valid : goal.returns-in-None-clause-valid
-returns-in-None-clause-valid g c = IsValid-view c.self.inside c.self.view_is c.self.invariant
 
 pub returns-in-None-clause-compared : goal.returns-in-None-clause-compared
 returns-in-None-clause-compared g c =

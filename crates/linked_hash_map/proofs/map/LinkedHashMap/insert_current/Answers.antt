@@ -2,7 +2,7 @@ use Rattle.std.proofs.Common.{◌≡◌, Some, slice_get, option_map, refl, sym,
 use Rattle.linked_hash_map.specs.Nodes.{pairs_of, bare, before, visit_of, current_of}
 use Rattle.linked_hash_map.specs.Indexes.{IsIndex}
 use Rattle.linked_hash_map.specs.Pairs.{put}
-use Rattle.linked_hash_map.proofs.nodes.Kept.{distinct_keys, IsValid-kept, IsValid-view}
+use Rattle.linked_hash_map.proofs.nodes.Kept.{distinct_keys, IsValid-kept}
 use Rattle.linked_hash_map.proofs.nodes.Current.{current_of-Some, current_at-Some, before-current, CutAt-current, IsElsewhere-current}
 use Rattle.linked_hash_map.proofs.nodes.Outside.{IsElsewhere}
 use Rattle.linked_hash_map.proofs.nodes.PutPair.{IsTouchedAt, touched_cut, value-touched, pair-touched, pairs-put, length-put}
@@ -76,9 +76,6 @@ returns-clause-to_visit g c = rw (← c.self.view_is) (to_visit-put g.met.K.Eq.l
 pub returns-clause-outside : goal.returns-clause-outside
 returns-clause-outside g c = outside-put g.met.K.Eq.laws (moved g c) c.self.invariant (is g c)
     (elsewhere g c) c.replace.new.dest
-
-pub returns-clause-valid : goal.returns-clause-valid
-returns-clause-valid g c = IsValid-view c.self.inside c.self.view_is c.self.invariant
 
 pub returns-clause-stays_valid : goal.returns-clause-stays_valid
 returns-clause-stays_valid g c = IsValid-kept _ (invariant_of-self g c) refl refl

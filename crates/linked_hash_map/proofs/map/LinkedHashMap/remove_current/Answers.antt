@@ -1,6 +1,6 @@
 use Rattle.std.proofs.Common.{◌≡◌, ◌<◌, Some, length, slice_get, remove, refl, sym, ap, ◌∙◌}
 use Rattle.linked_hash_map.specs.Nodes.{pairs_of, bare, before, visit_of, current_of}
-use Rattle.linked_hash_map.proofs.nodes.Kept.{IsValid-kept, IsValid-view}
+use Rattle.linked_hash_map.proofs.nodes.Kept.{IsValid-kept}
 use Rattle.linked_hash_map.proofs.nodes.Outside.{IsElsewhere}
 use Rattle.linked_hash_map.proofs.nodes.Current.{current_of-Some, before-current, CutAt-current}
 use Rattle.linked_hash_map.proofs.nodes.Current.{current_at-Some, IsElsewhere-current, IsKept-left}
@@ -50,9 +50,6 @@ returns-clause-to_visit g c =
     rw (← c.self.view_is)
     (to_visit-removed c.self.inside.table.held c.remove_at.new.self.held c.remove_at.ensures.others
     (lies g c) c.self.invariant (elsewhere g c))
-
-pub returns-clause-valid : goal.returns-clause-valid
-returns-clause-valid g c = IsValid-view c.self.inside c.self.view_is c.self.invariant
 
 pub returns-clause-stays_valid : goal.returns-clause-stays_valid
 returns-clause-stays_valid g c = IsValid-kept _ (invariant_of-self g c) refl refl

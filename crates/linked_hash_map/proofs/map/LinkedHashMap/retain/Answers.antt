@@ -1,6 +1,6 @@
 use Rattle.std.proofs.Common.{refl, sym, subst}
 use Rattle.std.specs.Map.Calls.{CallableOnEachPair, CalledAtPair, TakesPair}
-use Rattle.linked_hash_map.proofs.nodes.Kept.{IsValid-kept, IsValid-view}
+use Rattle.linked_hash_map.proofs.nodes.Kept.{IsValid-kept}
 use Rattle.linked_hash_map.proofs.nodes.Retained.{bare-retained, pairs-retained, keys-some, length-some, IsKept-some}
 use Rattle.linked_hash_map.proofs.map.LinkedHashMap.retain.Goals as goal
 
@@ -30,9 +30,6 @@ returns-clause-len g c =
     let hs = c.self.inside.table.held in
     rw (← c.self.view_is) (length-some hs c.retain.new.self.held (bare-retained
     (CalledAtPair g.F.FnMut) c.args.keep hs c.retain.new.self.held c.retain.ensures.retained))
-
-pub returns-clause-valid : goal.returns-clause-valid
-returns-clause-valid g c = IsValid-view c.self.inside c.self.view_is c.self.invariant
 
 pub returns-clause-stays_valid : goal.returns-clause-stays_valid
 returns-clause-stays_valid g c = IsValid-kept _ (invariant_of-self g c) refl refl

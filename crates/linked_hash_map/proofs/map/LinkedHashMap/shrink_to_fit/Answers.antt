@@ -1,9 +1,8 @@
-use Rattle.std.proofs.Common.{refl, ap}
-use Rattle.linked_hash_map.specs.Nodes.{visit_of, pairs_of}
+use Rattle.std.proofs.Common.{refl}
+use Rattle.linked_hash_map.specs.Nodes.{visit_of}
 use Rattle.linked_hash_map.proofs.nodes.Fitted.{IsKept-fitted, to_visit-fitted, pairs_of-triples, bookmarked_lies}
-use Rattle.linked_hash_map.proofs.nodes.Kept.{IsValid-kept, IsValid-view}
+use Rattle.linked_hash_map.proofs.nodes.Kept.{IsValid-kept}
 use Rattle.linked_hash_map.proofs.map.LinkedHashMap.shrink_to_fit.Goals as goal
-use Rattle.lhm_ring.specs.Table.{TableState}
 
 pub behind-behind-requires : goal.behind-behind-requires
 behind-behind-requires g c = bookmarked_lies c.self.inside.table.held c.self.invariant
@@ -26,18 +25,5 @@ returns-in-Ok-clause-to_visit g c =
     c.self.invariant c.in-Ok.ensures.triples (visit_of moved.result)
     (c.behind-behind.result, (c.behind-behind.ensures, moved.ensures.bookmark)) moved.ensures.unvisited)
 
-pub returns-in-Ok-clause-valid : goal.returns-in-Ok-clause-valid
-returns-in-Ok-clause-valid g c = IsValid-view c.self.inside c.self.view_is c.self.invariant
-
 pub returns-in-Ok-clause-stays_valid : goal.returns-in-Ok-clause-stays_valid
 returns-in-Ok-clause-stays_valid g c = IsValid-kept _ (invariant_of-self g c) refl refl
-
-pub returns-in-Err-clause-valid : goal.returns-in-Err-clause-valid
-returns-in-Err-clause-valid g c = IsValid-view c.self.inside c.self.view_is c.self.invariant
-
-pub returns-in-Err-clause-stays_valid : goal.returns-in-Err-clause-stays_valid
-returns-in-Err-clause-stays_valid g c =
-    let table = c.in-Err.ensures.refused in
-    IsValid-kept c.self.inside.table.held c.self.invariant
-    (ap (λ (s : TableState (g.row.K.Denot × g.row.V.Denot)). pairs_of s.held) table)
-    (ap (λ (s : TableState (g.row.K.Denot × g.row.V.Denot)). s.capacity) table)
