@@ -117,7 +117,7 @@ impl<K: Eq + Hash, V, S: BuildHasher> LinkedHashMap<K, V, S> {
         if !self.table.is_full() {
             return true;
         }
-        let capacity = self.capacity();
+        let capacity = self.table.capacity();
         if capacity == LIMIT {
             return false;
         }
