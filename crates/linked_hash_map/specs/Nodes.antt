@@ -100,10 +100,10 @@ module _ {K V : Type 0} where
       linked_map (pairs_of s.held) s.capacity b.hasher (cursor_at b.visit (bare s.held))
       s.rechained b.mode
 
--- no two keys are the same, each stands with its hash, they are within the capacity and that within
--- the limit; there is a bookmark as long as pairs are unvisited, and these are there from it on;
--- the pair that an entry stands for is there
-pub record AreKept {K : Type 0} (eq : K → K → Bool) (hash : K → ℕ) (us : List (Held K))
+-- the nodes of a map, without their values: no two keys are the same, each stands with its hash,
+-- they are within the capacity and that within the limit; there is a bookmark as long as pairs are
+-- unvisited, and these are there from it on; the pair that an entry stands for is there
+pub record IsKept {K : Type 0} (eq : K → K → Bool) (hash : K → ℕ) (us : List (Held K))
     (capacity : ℕ) (visit : VisitState) : Type 0 where
   pub distinct : IsDistinct eq (map (λ u. u.pair) us)
   pub hashed : AllByRecursion (λ u. u.hash ≡ hash u.pair) us
@@ -113,8 +113,3 @@ pub record AreKept {K : Type 0} (eq : K → K → Bool) (hash : K → ℕ) (us :
   pub ended : visit.unvisited ≡ 0 → visit.bookmark ≡ None
   pub in_reach : bookmark_at visit.bookmark us + visit.unvisited ≤ length us
   pub current_lies : Lies visit.current us
-
--- the pairs of a table are kept so
-pub record IsKept {K V : Type 0} (eq : K → K → Bool) (hash : K → ℕ) (s : TableState (K × V))
-    (visit : VisitState) : Type 0 where
-  pub nodes : AreKept eq hash (bare s.held) s.capacity visit

@@ -1,7 +1,8 @@
 //! The map: its type, length, capacity, hasher and mode.
+#![tactic(auto, using(crate::proofs::nodes::HeldPairs::bare_nodes))]
+
 ghost use Rattle.std.specs.Prelude.{◌≡◌, ◌==◌, ◌≤◌, [], length};
 ghost use Rattle.linked_hash_map.specs.Validity.{IsValid};
-ghost use Rattle.linked_hash_map.specs.Hashers.{hash_by};
 
 mod capacity;
 mod create;
@@ -9,12 +10,10 @@ mod cursor;
 mod get;
 mod insert;
 mod iter;
-mod probe;
 mod remove;
-mod retain;
 
 use self::cursor::Visit;
-pub use self::probe::Probe;
+pub use self::get::Probe;
 use crate::iter::IntoIter;
 use lhm_ring::table::Table;
 use std::alloc::Global;
@@ -121,7 +120,7 @@ impl<K: Eq + Hash + Drop, V: Drop, S: BuildHasher + Drop> Drop for LinkedHashMap
 /// to visit.
 impl<K: Eq + Hash, V, S: BuildHasher> Model for LinkedHashMap<K, V, S> {
     ghost use Rattle.linked_hash_map.specs.LinkedMap.{LinkedMap};
-    ghost use Rattle.linked_hash_map.specs.Nodes.{IsKept, map_of, beside, visit_of};
+    ghost use Rattle.linked_hash_map.specs.Nodes.{IsKept, bare, map_of, beside, visit_of};
     ghost use Rattle.linked_hash_map.specs.Hashers.{hash_by};
 
     ghost Value = { LinkedMap K V S };
@@ -130,7 +129,7 @@ impl<K: Eq + Hash, V, S: BuildHasher> Model for LinkedHashMap<K, V, S> {
 
     ghost invariant = { λ m.
         IsKept K.eq (hash_by S.Hasher.finish S.Hasher.write S.build_hasher K.hash_input m.hasher)
-        m.table (visit_of m.visit) };
+        (bare m.table.held) m.table.capacity (visit_of m.visit) };
 }
 
 impl<K: Eq + Hash, V, S: BuildHasher> LinkedHashMap<K, V, S> {
@@ -244,14 +243,6 @@ impl<K: Eq + Hash, V, S: BuildHasher> LinkedHashMap<K, V, S> {
         ensures valid { IsValid K.eq self.now }
     {
         self.table.allocator()
-    }
-
-    /// Returns the hash of a key.
-    pub(crate) fn hash_of(&self, key: &K) -> u64
-        ensures { result ≡ hash_by S.Hasher.finish S.Hasher.write S.build_hasher K.hash_input
-            self.now.hasher key.now }
-    {
-        self.hasher.hash_one(key)
     }
 
     /// Returns the mode, in O(1).

@@ -57,9 +57,9 @@ module _ {K V S : Type 0} {eq : K → K → Bool} {hash : S → K → ℕ}
       ap (option_map (λ pair. pair.1)) (find-IsAbsent hasher k is hs hashed none)
 
   pub find-IsAbsent_map : {m : LinkedMap K V S} (s : TableState (K × V)) (b : Beside S)
-      → map_of s b ≡ m → IsKept eq (hash b.hasher) s b.visit → (k : K) {n : ℕ}
+      → map_of s b ≡ m → IsKept eq (hash b.hasher) (bare s.held) s.capacity b.visit → (k : K) {n : ℕ}
       → n ≡ hash m.hasher k → IsAbsent eq n k s.held → find eq m.pairs k ≡ None
   find-IsAbsent_map s b seen kept k {n} =
       subst (λ (z : LinkedMap K V S). n ≡ hash z.hasher k → IsAbsent eq n k s.held
       → find eq z.pairs k ≡ None) seen
-      (λ is none. find-IsAbsent b.hasher k is s.held kept.nodes.hashed none)
+      (λ is none. find-IsAbsent b.hasher k is s.held kept.hashed none)

@@ -13,7 +13,6 @@ use Rattle.linked_hash_map.proofs.nodes.Outside.{IsElsewhere, to_visit_of, unvis
 use Rattle.linked_hash_map.proofs.lists.Stretches.{stretch-step, take-none}
 use Rattle.lhm_ring.specs.Nodes.{IsApart}
 use Rattle.lhm_ring.specs.Ring.{Held, AtHeld, first_at}
-use Rattle.lhm_ring.specs.Table.{TableState}
 
 module _ {K V : Type 0} where
   pub bookmark-bare : (o : Option Ptr) (hs : List (Held (K × V))) → bookmark_at o (bare hs) ≡ bookmark_at o hs
@@ -40,30 +39,31 @@ pub record Goes {B : Type 0} (hs : List (Held B)) (p : Ptr) (old new : VisitStat
   pub next : 0 < new.unvisited → AtHeld hs p (λ xs t ys. new.bookmark ≡ first_at ys)
   pub apart : 0 < new.unvisited → IsApart (map (λ t. t.at) hs)
 
-module _ {K V : Type 0} {eq : K → K → Bool} {hash : K → ℕ} {s : TableState (K × V)}
-    {old : VisitState} (kept : IsKept eq hash s old) {p : Ptr}
+module _ {K V : Type 0} {eq : K → K → Bool} {hash : K → ℕ} (hs : List (Held (K × V)))
+    {capacity : ℕ} {old : VisitState} (kept : IsKept eq hash (bare hs) capacity old) {p : Ptr}
     (bookmarked : old.bookmark ≡ Some p) where
-  pub bookmarked_cut : CutAt p s.held
+  pub bookmarked_cut : CutAt p hs
   bookmarked_cut =
-      let lies = bookmark_lies kept.nodes bookmarked in let at = before-bare p s.held in
-      let long = length-bare s.held in
-      CutAt-before p s.held (omega (arith, lies, at, long))
+      let lies = bookmark_lies kept bookmarked in let at = before-bare p hs in
+      let long = length-bare hs in
+      CutAt-before p hs (omega (arith, lies, at, long))
 
-module _ {K V : Type 0} {eq : K → K → Bool} {hash : K → ℕ} {s : TableState (K × V)} {p : Ptr}
-    {old new : VisitState} (kept : IsKept eq hash s old) (goes : Goes s.held p old new) where
+module _ {K V : Type 0} {eq : K → K → Bool} {hash : K → ℕ} (hs : List (Held (K × V))) {p : Ptr}
+    {capacity : ℕ} {old new : VisitState} (kept : IsKept eq hash (bare hs) capacity old)
+    (goes : Goes hs p old new) where
   abbrev nodes : List (Held K)
-  nodes = bare s.held
+  nodes = bare hs
 
   reach : before p nodes + old.unvisited ≤ length nodes
-  reach = subst (λ o. bookmark_at o nodes + old.unvisited ≤ length nodes) goes.bookmarked kept.nodes.in_reach
+  reach = subst (λ o. bookmark_at o nodes + old.unvisited ≤ length nodes) goes.bookmarked kept.in_reach
 
   next_index : 0 < new.unvisited → bookmark_at new.bookmark nodes ≡ before p nodes + 1
   next_index some =
-      let cut = bookmarked_cut kept goes.bookmarked in let h = cut.held in
-      let at = before-bare p s.held in let long = length-bare s.held in
+      let cut = bookmarked_cut hs kept goes.bookmarked in let h = cut.held in
+      let at = before-bare p hs in let long = length-bare hs in
       let all = ap length h.is ∙ length-append h.before (h.node ∷ h.after) in
-      let is = bookmark-bare new.bookmark s.held
-      ∙ ap (λ o. bookmark_at o s.held) (goes.next some h.before h.node h.after h.is h.at_is)
+      let is = bookmark-bare new.bookmark hs
+      ∙ ap (λ o. bookmark_at o hs) (goes.next some h.before h.node h.after h.is h.at_is)
       ∙ ap (bookmark_at (first_at h.after)) h.is in
       let next = bookmark_at-next h.before h.node h.after
       (subst (λ l. IsApart (map (λ t. t.at) l)) h.is (goes.apart some))
@@ -80,28 +80,26 @@ module _ {K V : Type 0} {eq : K → K → Bool} {hash : K → ℕ} {s : TableSta
   pub outside_on : IsElsewhere (before p nodes) new nodes
   outside_on = ⊎_elim (λ m. inr (omega (arith, m.0, m.1))) (λ m. inl (omega (arith, m))) moved
 
-  pub kept_on : IsKept eq hash s new
+  pub kept_on : IsKept eq hash nodes capacity new
   kept_on =
-      let some = unvisited_some kept.nodes goes.bookmarked in
+      let some = unvisited_some kept goes.bookmarked in
       record {
-        nodes = record {
-          distinct = kept.nodes.distinct;
-          hashed = kept.nodes.hashed;
-          within = kept.nodes.within;
-          limit = kept.nodes.limit;
-          bookmarked = λ no. let at = ap (λ o. bookmark_at o nodes) no in ⊎_elim (λ m. m.0) (λ m. absurd (omega (arith, m, at))) moved;
-          ended = goes.none;
-          in_reach = ⊎_elim (λ m. omega (arith, m.0, m.1)) (λ m. omega (arith, m, reach, some, goes.fewer)) moved;
-          current_lies = subst (λ o. Lies o nodes) (sym goes.current) (bookmark_lies kept.nodes goes.bookmarked);
-        };
+        distinct = kept.distinct;
+        hashed = kept.hashed;
+        within = kept.within;
+        limit = kept.limit;
+        bookmarked = λ no. let at = ap (λ o. bookmark_at o nodes) no in ⊎_elim (λ m. m.0) (λ m. absurd (omega (arith, m, at))) moved;
+        ended = goes.none;
+        in_reach = ⊎_elim (λ m. omega (arith, m.0, m.1)) (λ m. omega (arith, m, reach, some, goes.fewer)) moved;
+        current_lies = subst (λ o. Lies o nodes) (sym goes.current) (bookmark_lies kept goes.bookmarked);
       }
 
-  pub to_visit_on : (k : K) → slice_get (keys_of (pairs_of s.held)) (before p nodes) ≡ Some k
-      → to_visit_of old s.held ≡ k ∷ to_visit_of new s.held
+  pub to_visit_on : (k : K) → slice_get (keys_of (pairs_of hs)) (before p nodes) ≡ Some k
+      → to_visit_of old hs ≡ k ∷ to_visit_of new hs
   to_visit_on k there =
-      let keys = keys_of (pairs_of s.held) in let behind = drop (before p nodes + 1) keys in
+      let keys = keys_of (pairs_of hs) in let behind = drop (before p nodes + 1) keys in
       ap (λ o. take old.unvisited (drop (bookmark_at o nodes) keys)) goes.bookmarked
-      ∙ stretch-step keys (before p nodes) old.unvisited k there (unvisited_some kept.nodes goes.bookmarked)
+      ∙ stretch-step keys (before p nodes) old.unvisited k there (unvisited_some kept goes.bookmarked)
       ∙ ap (λ n. k ∷ take n behind) (sym goes.fewer)
       ∙ ap (λ ks. k ∷ ks)
       (⊎_elim (λ m. subst (λ n. take n behind ≡ take n (drop (bookmark_at new.bookmark nodes) keys))

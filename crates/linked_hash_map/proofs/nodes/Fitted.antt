@@ -14,7 +14,6 @@ use Rattle.linked_hash_map.proofs.nodes.BookmarkMoves.{bookmark-bare, bookmarked
 use Rattle.linked_hash_map.proofs.nodes.Outside.{before_held, to_visit_of}
 use Rattle.lhm_ring.specs.Pointer.{pointer_of, pointer_of_some}
 use Rattle.lhm_ring.specs.Ring.{Held, IsHeld, AtHeld, triples}
-use Rattle.lhm_ring.specs.Table.{TableState}
 
 module _ {B : Type 0} {p : Ptr} {hs : List (Held B)} where
   -- what is known of each place of a pointer, at the first
@@ -71,49 +70,47 @@ module _ {K V : Type 0} where
   bookmarked-behind hs ks (Some p) None None old new none = absurd old
   bookmarked-behind hs ks (Some p) None (Some n) old new none = absurd new
 
--- the pairs that stand in one table stand in another, and what is behind a bookmark stands behind
+-- the pairs that stand in some nodes stand in others, and what is behind a bookmark stands behind
 -- another
-module _ {K V : Type 0} {eq : K → K → Bool} {hash : K → ℕ} {s : TableState (K × V)}
-    {visit : VisitState} (kept : IsKept eq hash s visit) (t : TableState (K × V))
-    (same : triples t.held ≡ triples s.held) (moved : VisitState)
-    (behind : (n : Option ℕ) × (HasBehind visit.bookmark s.held n × HasBehind moved.bookmark t.held n)) where
-  pub bookmark-fitted : bookmark_at moved.bookmark (bare t.held) ≡ bookmark_at visit.bookmark (bare s.held)
-  bookmark-fitted = bookmark-bare moved.bookmark t.held ∙ bookmark-behind s.held t.held
-      visit.bookmark moved.bookmark behind.0 (length-same_triples t.held s.held same) behind.1.0 behind.1.1
-      ∙ sym (bookmark-bare visit.bookmark s.held)
+module _ {K V : Type 0} {eq : K → K → Bool} {hash : K → ℕ} (hs ks : List (Held (K × V)))
+    {capacity : ℕ} {visit : VisitState} (kept : IsKept eq hash (bare hs) capacity visit)
+    (same : triples ks ≡ triples hs) (moved : VisitState)
+    (behind : (n : Option ℕ) × (HasBehind visit.bookmark hs n × HasBehind moved.bookmark ks n)) where
+  pub bookmark-fitted : bookmark_at moved.bookmark (bare ks) ≡ bookmark_at visit.bookmark (bare hs)
+  bookmark-fitted = bookmark-bare moved.bookmark ks ∙ bookmark-behind hs ks
+      visit.bookmark moved.bookmark behind.0 (length-same_triples ks hs same) behind.1.0 behind.1.1
+      ∙ sym (bookmark-bare visit.bookmark hs)
 
-  pub to_visit-fitted : moved.unvisited ≡ visit.unvisited → to_visit_of moved t.held ≡ to_visit_of visit s.held
-  to_visit-fitted unvisited = λ i. take (unvisited i) (drop (bookmark-fitted i) (keys_of (pairs_of-triples s.held t.held same i)))
+  pub to_visit-fitted : moved.unvisited ≡ visit.unvisited → to_visit_of moved ks ≡ to_visit_of visit hs
+  to_visit-fitted unvisited = λ i. take (unvisited i) (drop (bookmark-fitted i) (keys_of (pairs_of-triples hs ks same i)))
 
   -- the capacity is then the number of pairs
-  pub IsKept-fitted : t.capacity ≡ length s.held → moved.unvisited ≡ visit.unvisited → moved.current ≡ None → IsKept eq hash t moved
-  IsKept-fitted capacity unvisited left =
-      let k = kept.nodes in let long = length-same_triples t.held s.held same in
-      let of_old = length-bare s.held in let of_new = length-bare t.held in
-      let keys : map (λ u. u.pair) (bare t.held) ≡ map (λ u. u.pair) (bare s.held) =
-      keys-bare t.held ∙ ap keys_of (pairs_of-triples s.held t.held same)
-      ∙ sym (keys-bare s.held) in
+  pub IsKept-fitted : {n : ℕ} → n ≡ length hs → moved.unvisited ≡ visit.unvisited
+      → moved.current ≡ None → IsKept eq hash (bare ks) n moved
+  IsKept-fitted fits unvisited left =
+      let long = length-same_triples ks hs same in
+      let of_old = length-bare hs in let of_new = length-bare ks in
+      let keys : map (λ u. u.pair) (bare ks) ≡ map (λ u. u.pair) (bare hs) =
+      keys-bare ks ∙ ap keys_of (pairs_of-triples hs ks same) ∙ sym (keys-bare hs) in
       record {
-        nodes = record {
-          distinct = subst (IsDistinct eq) (sym keys) k.distinct;
-          hashed = hashed-triples hash s.held t.held same k.hashed;
-          within = omega (arith, of_new, long, capacity);
-          limit = omega (arith, capacity, of_old, k.within, k.limit);
-          bookmarked = λ none. unvisited ∙ k.bookmarked (bookmarked-behind s.held t.held
-              visit.bookmark moved.bookmark behind.0 behind.1.0 behind.1.1 none);
-          ended = λ none. bookmarked-behind t.held s.held moved.bookmark visit.bookmark behind.0
-              behind.1.1 behind.1.0 (k.ended (sym unvisited ∙ none));
-          in_reach = omega (arith, bookmark-fitted, unvisited, of_old, of_new, long, k.in_reach);
-          current_lies = subst (λ o. Lies o (bare t.held)) (sym left) tt;
-        };
+        distinct = subst (IsDistinct eq) (sym keys) kept.distinct;
+        hashed = hashed-triples hash hs ks same kept.hashed;
+        within = omega (arith, of_new, long, fits);
+        limit = omega (arith, fits, of_old, kept.within, kept.limit);
+        bookmarked = λ none. unvisited ∙ kept.bookmarked (bookmarked-behind hs ks
+            visit.bookmark moved.bookmark behind.0 behind.1.0 behind.1.1 none);
+        ended = λ none. bookmarked-behind ks hs moved.bookmark visit.bookmark behind.0
+            behind.1.1 behind.1.0 (kept.ended (sym unvisited ∙ none));
+        in_reach = omega (arith, bookmark-fitted, unvisited, of_old, of_new, long, kept.in_reach);
+        current_lies = subst (λ o. Lies o (bare ks)) (sym left) tt;
       }
 
 -- a bookmark is at one of the nodes
-module _ {K V : Type 0} {eq : K → K → Bool} {hash : K → ℕ} {s : TableState (K × V)}
-    {visit : VisitState} (kept : IsKept eq hash s visit) where
-  at_bookmark : (o : Option Ptr) → visit.bookmark ≡ o → Lies o s.held
+module _ {K V : Type 0} {eq : K → K → Bool} {hash : K → ℕ} (hs : List (Held (K × V)))
+    {capacity : ℕ} {visit : VisitState} (kept : IsKept eq hash (bare hs) capacity visit) where
+  at_bookmark : (o : Option Ptr) → visit.bookmark ≡ o → Lies o hs
   at_bookmark None is = tt
-  at_bookmark (Some p) is = held_lies (bookmarked_cut kept is).held
+  at_bookmark (Some p) is = held_lies (bookmarked_cut hs kept is).held
 
-  pub bookmarked_lies : Lies visit.bookmark s.held
+  pub bookmarked_lies : Lies visit.bookmark hs
   bookmarked_lies = at_bookmark visit.bookmark refl

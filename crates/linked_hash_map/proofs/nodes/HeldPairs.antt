@@ -53,3 +53,6 @@ module _ {K V : Type 0} where
 
   pub pairs_of-append : (xs ys : List (Held (K × V))) → pairs_of (xs ++ ys) ≡ pairs_of xs ++ pairs_of ys
   pairs_of-append xs ys = map-append (λ (t : Held (K × V)). t.pair) xs ys
+
+-- by these a map whose nodes are kept is valid
+pub ruleset bare_nodes = (keys-bare, length-bare, length-pairs_of)

@@ -3,28 +3,42 @@ use Rattle.std.proofs.Common.{◌≡◌, ℕ, Bool, List, [], ◌∷◌, length,
 use Rattle.std.specs.List.{IsDistinct}
 use Rattle.std.specs.Map.{keys_of}
 use Rattle.linked_hash_map.specs.LinkedMap.{LinkedMap}
-use Rattle.linked_hash_map.specs.Nodes.{VisitState, pairs_of, bare, Beside, cursor_at, map_of, AreKept, IsKept}
+use Rattle.linked_hash_map.specs.declared.map.LinkedHashMap.TheInside.{Inside}
+use Rattle.linked_hash_map.specs.Nodes.{VisitState, pairs_of, bare, Beside, beside, cursor_at, map_of, IsKept}
 use Rattle.linked_hash_map.specs.Pairs.{set_values}
 use Rattle.linked_hash_map.specs.Validity.{IsValid}
 use Rattle.linked_hash_map.proofs.nodes.HeldPairs.{bare-values, keys-bare, length-bare, length-pairs_of}
 use Rattle.lhm_ring.specs.Ring.{Held, set_held_values}
 use Rattle.lhm_ring.specs.Table.{TableState}
 
--- what is kept so is a valid map
-module _ {K V : Type 0} {eq : K → K → Bool} {hash : K → ℕ} {s : TableState (K × V)}
-    {visit : VisitState} (kept : IsKept eq hash s visit) where
-  pub distinct_keys : IsDistinct eq (keys_of (pairs_of s.held))
-  distinct_keys = subst (IsDistinct eq) (keys-bare s.held) kept.nodes.distinct
+-- other nodes that are the same without their values
+pub IsKept-same : {K : Type 0} {eq : K → K → Bool} {hash : K → ℕ} {us ws : List (Held K)} {m n : ℕ}
+    {visit : VisitState} → ws ≡ us → n ≡ m → IsKept eq hash us m visit → IsKept eq hash ws n visit
+IsKept-same {eq = eq} {hash = hash} {us = us} {ws = ws} {n = n} {visit = visit} same capacity kept =
+    subst (λ vs. IsKept eq hash vs n visit) (sym same)
+    (subst (λ k. IsKept eq hash us k visit) (sym capacity) kept)
 
-  pub IsValid-view : {S : Type 0} {m : LinkedMap K V S} → m.pairs ≡ pairs_of s.held → m.capacity ≡ s.capacity → IsValid eq m
-  IsValid-view pairs capacity =
-      let of_bare = length-bare s.held in let of_pairs = length-pairs_of s.held in
+-- what is kept so is a valid map
+module _ {K V : Type 0} {eq : K → K → Bool} {hash : K → ℕ} (hs : List (Held (K × V)))
+    {capacity : ℕ} {visit : VisitState} (kept : IsKept eq hash (bare hs) capacity visit) where
+  pub distinct_keys : IsDistinct eq (keys_of (pairs_of hs))
+  distinct_keys = subst (IsDistinct eq) (keys-bare hs) kept.distinct
+
+  pub IsValid-kept : {S : Type 0} {m : LinkedMap K V S} → m.pairs ≡ pairs_of hs → m.capacity ≡ capacity → IsValid eq m
+  IsValid-kept pairs same =
+      let of_bare = length-bare hs in let of_pairs = length-pairs_of hs in
       let len = ap length pairs in
       record {
         distinct = subst (λ ps. IsDistinct eq (keys_of ps)) (sym pairs) distinct_keys;
-        within = omega (arith, len, capacity, of_pairs, of_bare, kept.nodes.within);
-        limit = omega (arith, capacity, kept.nodes.limit);
+        within = omega (arith, len, same, of_pairs, of_bare, kept.within);
+        limit = omega (arith, same, kept.limit);
       }
+
+-- as its callers see it
+pub IsValid-view : {K V S H : Type 0} {eq : K → K → Bool} {hash : K → ℕ} (m : Inside K V S H)
+    {seen : LinkedMap K V S} {visit : VisitState} → map_of m.table (beside m) ≡ seen
+    → IsKept eq hash (bare m.table.held) m.table.capacity visit → IsValid eq seen
+IsValid-view {eq = eq} m is kept = subst (IsValid eq) is (IsValid-kept m.table.held kept refl refl)
 
 -- with other values in the same nodes, other pairs are seen, and nothing else
 pub map_of-revalued : {K V S : Type 0} (s : TableState (K × V)) (hs : List (Held (K × V)))
@@ -37,17 +51,14 @@ map_of-revalued s hs b same pairs = λ i. record (map_of s b) {
 
 -- with other values
 module _ {K V : Type 0} where
-  pairs_of-set_held_values : (hs : List (Held (K × V))) (vs : List V) → pairs_of (set_held_values hs vs) ≡ set_values (pairs_of hs) vs
+  pairs_of-set_held_values : (hs : List (Held (K × V))) (vs : List V)
+      → pairs_of (set_held_values hs vs) ≡ set_values (pairs_of hs) vs
   pairs_of-set_held_values [] vs = refl
   pairs_of-set_held_values (t ∷ hs) [] = refl
   pairs_of-set_held_values (t ∷ hs) (v ∷ vs) = ap (λ ps. (t.pair.0, v) ∷ ps) (pairs_of-set_held_values hs vs)
 
-  module _ (s : TableState (K × V)) (vs : List V) where
-    abbrev revalued_state : TableState (K × V)
-    revalued_state = record s { held = set_held_values s.held vs }
-
-    pub map_of-values : {S : Type 0} (b : Beside S) → map_of revalued_state b ≡ record (map_of s b) { pairs = set_values (pairs_of s.held) vs }
-    map_of-values b = map_of-revalued s (set_held_values s.held vs) b (bare-values s.held vs) (pairs_of-set_held_values s.held vs)
-
-    pub IsKept-values : {eq : K → K → Bool} {hash : K → ℕ} {visit : VisitState} → IsKept eq hash s visit → IsKept eq hash revalued_state visit
-    IsKept-values {eq} {hash} {visit} kept = record { nodes = subst (λ us. AreKept eq hash us s.capacity visit) (sym (bare-values s.held vs)) kept.nodes }
+  pub map_of-values : {S : Type 0} (s : TableState (K × V)) (vs : List V) (b : Beside S)
+      → map_of (record s { held = set_held_values s.held vs }) b
+      ≡ record (map_of s b) { pairs = set_values (pairs_of s.held) vs }
+  map_of-values s vs b = map_of-revalued s (set_held_values s.held vs) b (bare-values s.held vs)
+      (pairs_of-set_held_values s.held vs)

@@ -5,7 +5,7 @@ use Rattle.std.specs.List.{AllByRecursion}
 use Rattle.lhm_ring.specs.Index as nodes
 use Rattle.lhm_ring.proofs.lists.RearrangedCounts.{count_by-cons}
 use Rattle.linked_hash_map.specs.Counts.{same, beside}
-use Rattle.linked_hash_map.specs.Nodes.{pairs_of, bare}
+use Rattle.linked_hash_map.specs.Nodes.{VisitState, IsKept, pairs_of, bare}
 use Rattle.lhm_ring.specs.Buckets.{buckets}
 use Rattle.lhm_ring.specs.Index.{Spot, spot, spots}
 use Rattle.lhm_ring.specs.Ring.{Held}
@@ -24,13 +24,12 @@ module _ {K V : Type 0} (hash : K → ℕ) where
       let same : cond {A = ℕ} (test t.hash) 1 0 ≡ cond {A = ℕ} (test (hash t.pair.0)) 1 0 = ap (λ n. cond {A = ℕ} (test n) 1 0) h.0 in
       omega (arith, rest, left, right, same)
 
-  pub same-spots : (hs : List (Held (K × V))) (k : K) (hash_k : ℕ) → hash_k ≡ hash k
-      → AllByRecursion (λ u. u.hash ≡ hash u.pair) (bare hs)
-      → nodes.same (spots hs) hash_k ≡ same hash (pairs_of hs) k
-  same-spots hs k hash_k its h = ap (nodes.same (spots hs)) its ∙ count_by-spots (λ n. eqb n (hash k)) hs h
+module _ {K V : Type 0} {eq : K → K → Bool} {hash : K → ℕ} (hs : List (Held (K × V)))
+    {capacity : ℕ} {visit : VisitState} (kept : IsKept eq hash (bare hs) capacity visit) (k : K)
+    {n : ℕ} (is : n ≡ hash k) where
+  pub same-spots : nodes.same (spots hs) n ≡ same hash (pairs_of hs) k
+  same-spots = ap (nodes.same (spots hs)) is ∙ count_by-spots hash (λ n. eqb n (hash k)) hs kept.hashed
 
-  pub beside-spots : (hs : List (Held (K × V))) (k : K) (hash_k n capacity : ℕ) → hash_k ≡ hash k
-      → n ≡ buckets capacity → AllByRecursion (λ u. u.hash ≡ hash u.pair) (bare hs)
-      → nodes.beside (spots hs) n hash_k ≡ beside hash (pairs_of hs) capacity k
-  beside-spots hs k hash_k n capacity its wide h =
-      (λ i. nodes.beside (spots hs) (wide i) (its i)) ∙ count_by-spots (λ m. eqb (m % buckets capacity) (hash k % buckets capacity)) hs h
+  pub beside-spots : nodes.beside (spots hs) (buckets capacity) n ≡ beside hash (pairs_of hs) capacity k
+  beside-spots = ap (nodes.beside (spots hs) (buckets capacity)) is
+      ∙ count_by-spots hash (λ m. eqb (m % buckets capacity) (hash k % buckets capacity)) hs kept.hashed

@@ -8,15 +8,16 @@ use Rattle.std.proofs.lemmas.Map.Keys.{IsDistinct-head, IsDistinct-tail}
 use denote.RawPtr.{Ptr}
 use Rattle.lhm_ring.proofs.lists.Apart.{IsFresh, same_ptr-reflexive, same_ptr-symmetric, IsFresh-middle}
 use Rattle.lhm_ring.proofs.lists.ForAll.{AllByRecursion-right}
-use Rattle.linked_hash_map.specs.Nodes.{VisitState, Lies, pairs_of, bare, bare_node, before, bookmark_at, AreKept}
+use Rattle.linked_hash_map.specs.Nodes.{VisitState, Lies, pairs_of, bare, bare_node, before, bookmark_at, IsKept}
 use Rattle.linked_hash_map.proofs.lists.Distinct.{none_from_all}
 use Rattle.linked_hash_map.proofs.nodes.HeldPairs.{length-bare, pairs_of-append}
 use Rattle.linked_hash_map.proofs.nodes.CutNodes.{CutAt, CutAt-before, slice_get-held, pairs_of-removed}
 use Rattle.linked_hash_map.proofs.nodes.Outside.{IsElsewhere, to_visit_at, to_visit_of, to_visit-bare, before_held, to_visit-out, bare-cut}
-use Rattle.linked_hash_map.proofs.nodes.Outside.{AreKept-cut, IsElsewhere-cut}
-use Rattle.linked_hash_map.proofs.nodes.TakenNode.{AreKept-out}
-use Rattle.linked_hash_map.proofs.nodes.PushedPair.{AreKept-push, bookmark_at-append, to_visit-append}
-use Rattle.linked_hash_map.proofs.nodes.Current.{AreKept-current}
+use Rattle.linked_hash_map.proofs.nodes.Kept.{IsKept-same}
+use Rattle.linked_hash_map.proofs.nodes.Outside.{IsKept-cut, IsElsewhere-cut}
+use Rattle.linked_hash_map.proofs.nodes.TakenNode.{IsKept-out}
+use Rattle.linked_hash_map.proofs.nodes.PushedPair.{IsKept-append, bookmark_at-append, to_visit-append}
+use Rattle.linked_hash_map.proofs.nodes.Current.{IsKept-current}
 use Rattle.lhm_ring.specs.Nodes.{same_ptr, IsApart}
 use Rattle.lhm_ring.specs.Ring.{Held, AtHeld}
 
@@ -41,22 +42,22 @@ before-last p (x ∷ hs) t at fresh =
 -- the nodes with one that is not to be visited moved behind the others
 module _ {K : Type 0} {eq : K → K → Bool} {hash : K → ℕ} (front : List (Held K)) (u : Held K)
     (back : List (Held K)) {capacity : ℕ} {visit : VisitState}
-    (kept : AreKept eq hash (front ++ u ∷ back) capacity visit)
+    (kept : IsKept eq hash (front ++ u ∷ back) capacity visit)
     (elsewhere : IsElsewhere (length front) visit (front ++ u ∷ back)) where
-  out : AreKept eq hash (front ++ back) capacity (record visit { current = None })
-  out = AreKept-out front u back kept elsewhere
+  out : IsKept eq hash (front ++ back) capacity (record visit { current = None })
+  out = IsKept-out front u back kept elsewhere
 
-  AreKept-to_back : IsEquivalence eq → {p : Ptr} → visit.current ≡ Some p → u.at ≡ p
-      → AreKept eq hash ((front ++ back) ++ u ∷ []) capacity visit
-  AreKept-to_back laws {p} is at =
+  IsKept-to_back : IsEquivalence eq → {p : Ptr} → visit.current ≡ Some p → u.at ≡ p
+      → IsKept eq hash ((front ++ back) ++ u ∷ []) capacity visit
+  IsKept-to_back laws {p} is at =
       let P : Held K → Type 0 = λ t. t.hash ≡ hash t.pair in
       let keys : List (Held K) → List K = map (λ t. t.pair) in
       let of_all = length-append front (u ∷ back) in let of_rest = length-append front back in
       let cut = subst (IsDistinct eq) (map-append (λ (t : Held K). t.pair) front (u ∷ back)) kept.distinct in
       let differs = ap (list_any (eq u.pair)) (map-append (λ (t : Held K). t.pair) front back)
       ∙ list_any-others laws (keys front) u.pair (keys back) cut in
-      AreKept-current
-      (AreKept-push out laws u (AllByRecursion-right P front (u ∷ back) kept.hashed).0 differs
+      IsKept-current
+      (IsKept-append out laws u (AllByRecursion-right P front (u ∷ back) kept.hashed).0 differs
       (omega (arith, of_all, of_rest, kept.within)))
       visit.current
       (subst (λ o. Lies o ((front ++ back) ++ u ∷ [])) (sym is) (before_held p (front ++ back) u [] at))
@@ -117,21 +118,21 @@ module _ {K V : Type 0} (hs ks : List (Held (K × V))) {p : Ptr}
 
   -- the node is none of those that are still to be visited
   module _ {eq : K → K → Bool} {hash : K → ℕ} {capacity : ℕ} {visit : VisitState}
-      (kept : AreKept eq hash (bare hs) capacity visit)
+      (kept : IsKept eq hash (bare hs) capacity visit)
       (elsewhere : IsElsewhere (before p hs) visit (bare hs)) where
-    pub AreKept-moved : IsEquivalence eq → visit.current ≡ Some p → AreKept eq hash (bare ks) capacity visit
-    AreKept-moved laws is =
+    pub IsKept-moved : IsEquivalence eq → visit.current ≡ Some p → {n : ℕ} → n ≡ capacity
+        → IsKept eq hash (bare ks) n visit
+    IsKept-moved laws is same =
         let h = cut_moved.held in
-        subst (λ us. AreKept eq hash us capacity visit) (sym bare_moved)
-        (AreKept-to_back (bare h.before) (bare_node h.node) (bare h.after)
-        (AreKept-cut cut_moved kept) (IsElsewhere-cut cut_moved visit elsewhere) laws is h.at_is)
+        IsKept-same bare_moved same (IsKept-to_back (bare h.before) (bare_node h.node) (bare h.after)
+        (IsKept-cut cut_moved kept) (IsElsewhere-cut cut_moved visit elsewhere) laws is h.at_is)
 
     pub to_visit-moved : to_visit_of visit ks ≡ to_visit_of visit hs
     to_visit-moved =
         let h = cut_moved.held in
         sym (to_visit-bare visit ks) ∙ ap (to_visit_at visit) bare_moved
         ∙ to_visit-back (bare h.before) (bare_node h.node) (bare h.after)
-        (AreKept-cut cut_moved kept) (IsElsewhere-cut cut_moved visit elsewhere)
+        (IsKept-cut cut_moved kept) (IsElsewhere-cut cut_moved visit elsewhere)
         ∙ ap (to_visit_at visit) (sym (bare-cut cut_moved)) ∙ to_visit-bare visit hs
 
     pub behind-moved : IsApart (map (λ t. t.at) hs) → bookmark_at visit.bookmark (bare ks) + visit.unvisited ≤ before p ks
@@ -141,5 +142,5 @@ module _ {K V : Type 0} (hs ks : List (Held (K × V))) {p : Ptr}
         let cut = ap length (map-append bare_node h.before h.after) in
         let same_bookmark = ap (bookmark_at visit.bookmark) bare_moved in
         let behind = behind-back (bare h.before) (bare_node h.node) (bare h.after)
-        (AreKept-cut cut_moved kept) (IsElsewhere-cut cut_moved visit elsewhere) in
+        (IsKept-cut cut_moved kept) (IsElsewhere-cut cut_moved visit elsewhere) in
         omega (arith, index, of_bare, cut, same_bookmark, behind)

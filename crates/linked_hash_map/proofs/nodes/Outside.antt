@@ -7,7 +7,7 @@ use Rattle.std.proofs.Math.Nat.{pos_of_ne-zero}
 use Rattle.std.proofs.lemmas.List.{map-append, length-map}
 use denote.RawPtr.{Ptr}
 use Rattle.lhm_ring.proofs.lists.Apart.{same_ptr-reflexive}
-use Rattle.linked_hash_map.specs.Nodes.{VisitState, AreKept, pairs_of, bare, bare_node, before, bookmark_at}
+use Rattle.linked_hash_map.specs.Nodes.{VisitState, IsKept, pairs_of, bare, bare_node, before, bookmark_at}
 use Rattle.linked_hash_map.proofs.nodes.HeldPairs.{keys-bare, length-bare}
 use Rattle.linked_hash_map.proofs.nodes.CutNodes.{CutAt}
 use Rattle.linked_hash_map.proofs.lists.Stretches.{stretch-out}
@@ -85,7 +85,7 @@ module _ {K V : Type 0} where
 
 -- a bookmark is at a node, and pairs are unvisited
 module _ {K : Type 0} {eq : K → K → Bool} {hash : K → ℕ} {us : List (Held K)} {capacity : ℕ}
-    {visit : VisitState} (kept : AreKept eq hash us capacity visit) {p : Ptr}
+    {visit : VisitState} (kept : IsKept eq hash us capacity visit) {p : Ptr}
     (is : visit.bookmark ≡ Some p) where
   pub unvisited_some : 0 < visit.unvisited
   unvisited_some = pos_of_ne-zero (λ z. let h : Some p ≡ None = sym is ∙ kept.ended z in cc)
@@ -98,7 +98,7 @@ module _ {K : Type 0} {eq : K → K → Bool} {hash : K → ℕ} {us : List (Hel
 -- the nodes, of which u is none to visit
 module _ {K : Type 0} {eq : K → K → Bool} {hash : K → ℕ} (front : List (Held K)) (u : Held K)
     (back : List (Held K)) {capacity : ℕ} {visit : VisitState}
-    (kept : AreKept eq hash (front ++ u ∷ back) capacity visit)
+    (kept : IsKept eq hash (front ++ u ∷ back) capacity visit)
     (elsewhere : IsElsewhere (length front) visit (front ++ u ∷ back)) where
   abbrev Shifts : ℕ → Option Ptr → Type 0
   Shifts index o = ((index < bookmark_at o (front ++ u ∷ back))
@@ -139,11 +139,11 @@ module _ {K V : Type 0} {p : Ptr} {hs : List (Held (K × V))} (cut : CutAt p hs)
   pub bare-cut : bare hs ≡ bare cut.held.before ++ bare_node cut.held.node ∷ bare cut.held.after
   bare-cut = let h = cut.held in ap bare h.is ∙ map-append bare_node h.before (h.node ∷ h.after)
 
-  pub AreKept-cut : {eq : K → K → Bool} {hash : K → ℕ} {capacity : ℕ} {visit : VisitState}
-      → AreKept eq hash (bare hs) capacity visit
-      → AreKept eq hash (bare cut.held.before ++ bare_node cut.held.node ∷ bare cut.held.after)
+  pub IsKept-cut : {eq : K → K → Bool} {hash : K → ℕ} {capacity : ℕ} {visit : VisitState}
+      → IsKept eq hash (bare hs) capacity visit
+      → IsKept eq hash (bare cut.held.before ++ bare_node cut.held.node ∷ bare cut.held.after)
       capacity visit
-  AreKept-cut {eq} {hash} {capacity} {visit} kept = subst (λ us. AreKept eq hash us capacity visit) bare-cut kept
+  IsKept-cut {eq} {hash} {capacity} {visit} kept = subst (λ us. IsKept eq hash us capacity visit) bare-cut kept
 
   pub IsElsewhere-cut : (visit : VisitState) → IsElsewhere (before p hs) visit (bare hs)
       → IsElsewhere (length (bare cut.held.before)) visit

@@ -7,14 +7,14 @@ use Rattle.std.proofs.lemmas.List.{map-append, length-map}
 use Rattle.std.proofs.lemmas.Map.Keys.{IsDistinct-push}
 use denote.RawPtr.{Ptr}
 use Rattle.lhm_ring.proofs.lists.ForAll.{AllByRecursion-append}
-use Rattle.linked_hash_map.specs.Nodes.{VisitState, AreKept, IsKept, Lies, pairs_of, bare, bare_node, bookmark_at, current_at}
+use Rattle.linked_hash_map.specs.Nodes.{VisitState, IsKept, Lies, pairs_of, bare, bare_node, bookmark_at, current_at}
 use Rattle.linked_hash_map.specs.Pairs.{find}
 use Rattle.linked_hash_map.proofs.nodes.HeldPairs.{length-bare, keys-bare, pairs_of-append}
 use Rattle.linked_hash_map.proofs.pairs.Calls.{list_any-none}
+use Rattle.linked_hash_map.proofs.nodes.Kept.{IsKept-same}
 use Rattle.linked_hash_map.proofs.nodes.Outside.{before_within, bookmark_lies, to_visit_at, to_visit_of, to_visit-bare}
 use Rattle.linked_hash_map.proofs.lists.Stretches.{stretch-front}
 use Rattle.lhm_ring.specs.Ring.{Held}
-use Rattle.lhm_ring.specs.Table.{TableState}
 
 -- what lies among the first nodes is where it was
 module _ {B : Type 0} where
@@ -29,7 +29,7 @@ module _ {B : Type 0} where
 
 -- one node more, the last
 module _ {K : Type 0} {eq : K → K → Bool} {hash : K → ℕ} {us : List (Held K)} {capacity : ℕ}
-    {visit : VisitState} (k : AreKept eq hash us capacity visit) where
+    {visit : VisitState} (k : IsKept eq hash us capacity visit) where
   pub bookmark_at-append : (vs : List (Held K)) → bookmark_at visit.bookmark (us ++ vs) ≡ bookmark_at visit.bookmark us
   bookmark_at-append vs = by_bookmark visit.bookmark refl
     where
@@ -45,10 +45,10 @@ module _ {K : Type 0} {eq : K → K → Bool} {hash : K → ℕ} {us : List (Hel
       ap₂ (λ b ks. take visit.unvisited (drop b ks)) (bookmark_at-append vs) (map-append (λ (u : Held K). u.pair) us vs)
       ∙ stretch-front (keys us) (keys vs) (bookmark_at visit.bookmark us) visit.unvisited (omega (arith, long, k.in_reach))
 
-  pub AreKept-push : IsEquivalence eq → (u : Held K) → u.hash ≡ hash u.pair
+  pub IsKept-append : IsEquivalence eq → (u : Held K) → u.hash ≡ hash u.pair
       → list_any (eq u.pair) (map (λ t. t.pair) us) ≡ false → length us < capacity
-      → AreKept eq hash (us ++ u ∷ []) capacity visit
-  AreKept-push laws u hashed absent room =
+      → IsKept eq hash (us ++ u ∷ []) capacity visit
+  IsKept-append laws u hashed absent room =
       let long = length-append us (u ∷ []) in let bookmark_stands = bookmark_at-append (u ∷ []) in
       record {
         distinct = subst (IsDistinct eq) (sym (map-append (λ (t : Held K). t.pair) us (u ∷ [])))
@@ -63,43 +63,31 @@ module _ {K : Type 0} {eq : K → K → Bool} {hash : K → ℕ} {us : List (Hel
       }
 
 -- a node was put at the back
-module _ {K V : Type 0} (s t : TableState (K × V)) (u : Held (K × V))
-    (last : t.held ≡ s.held ++ u ∷ []) where
-  pub pairs_of-push : pairs_of t.held ≡ pairs_of s.held ++ u.pair ∷ []
-  pairs_of-push = ap pairs_of last ∙ pairs_of-append s.held (u ∷ [])
+module _ {K V : Type 0} (hs : List (Held (K × V))) {ks : List (Held (K × V))} (u : Held (K × V))
+    (last : ks ≡ hs ++ u ∷ []) where
+  pub pairs_of-push : pairs_of ks ≡ pairs_of hs ++ u.pair ∷ []
+  pairs_of-push = ap pairs_of last ∙ pairs_of-append hs (u ∷ [])
 
-  bare-push : bare t.held ≡ bare s.held ++ bare_node u ∷ []
-  bare-push = ap bare last ∙ map-append (bare_node {K = K} {V = V}) s.held (u ∷ [])
+  bare-push : bare ks ≡ bare hs ++ bare_node u ∷ []
+  bare-push = ap bare last ∙ map-append (bare_node {K = K} {V = V}) hs (u ∷ [])
 
-module _ {K V : Type 0} {eq : K → K → Bool} {hash : K → ℕ} {s : TableState (K × V)}
-    {visit : VisitState} (kept : IsKept eq hash s visit) (t : TableState (K × V))
-    (u : Held (K × V)) (last : t.held ≡ s.held ++ u ∷ []) where
-  bare_is : bare t.held ≡ bare s.held ++ bare_node u ∷ []
-  bare_is = bare-push s t u last
+  module _ {eq : K → K → Bool} {hash : K → ℕ} {capacity : ℕ} {visit : VisitState}
+      (kept : IsKept eq hash (bare hs) capacity visit) where
+    pub bookmark_at-push : bookmark_at visit.bookmark (bare ks) ≡ bookmark_at visit.bookmark (bare hs)
+    bookmark_at-push = ap (bookmark_at visit.bookmark) bare-push ∙ bookmark_at-append kept (bare_node u ∷ [])
 
-  pub bookmark_at-push : bookmark_at visit.bookmark (bare t.held) ≡ bookmark_at visit.bookmark (bare s.held)
-  bookmark_at-push = ap (bookmark_at visit.bookmark) bare_is ∙ bookmark_at-append kept.nodes (bare_node u ∷ [])
+    pub to_visit-push : to_visit_of visit ks ≡ to_visit_of visit hs
+    to_visit-push = sym (to_visit-bare visit ks) ∙ ap (to_visit_at visit) bare-push
+        ∙ to_visit-append kept (bare_node u ∷ []) ∙ to_visit-bare visit hs
 
-  pub to_visit-push : to_visit_of visit t.held ≡ to_visit_of visit s.held
-  to_visit-push = sym (to_visit-bare visit t.held) ∙ ap (to_visit_at visit) bare_is
-      ∙ to_visit-append kept.nodes (bare_node u ∷ []) ∙ to_visit-bare visit s.held
+    pub current_at-push : current_at visit.current (bare ks) ≡ current_at visit.current (bare hs)
+    current_at-push = ap (current_at visit.current) bare-push
+        ∙ current_at-append visit.current (bare hs) (bare_node u ∷ []) kept.current_lies
 
-  pub current_at-push : current_at visit.current (bare t.held) ≡ current_at visit.current (bare s.held)
-  current_at-push = ap (current_at visit.current) bare_is
-      ∙ current_at-append visit.current (bare s.held) (bare_node u ∷ []) kept.nodes.current_lies
-
-  pub IsKept-push : IsEquivalence eq → u.hash ≡ hash u.pair.0
-      → find eq (pairs_of s.held) u.pair.0 ≡ None
-      → length s.held < s.capacity → t.capacity ≡ s.capacity → IsKept eq hash t visit
-  IsKept-push laws hashed absent room capacity =
-      let of_bare = length-bare s.held in
-      let none : list_any (eq u.pair.0) (map (λ u. u.pair) (bare s.held)) ≡ false =
-      ap (list_any (eq u.pair.0)) (keys-bare s.held)
-      ∙ list_any-none (eq u.pair.0) (pairs_of s.held) absent in
-      let grown : AreKept eq hash (bare s.held ++ bare_node u ∷ []) s.capacity visit =
-      AreKept-push kept.nodes laws (bare_node u) hashed none (omega (arith, of_bare, room)) in
-      record {
-        nodes = subst (λ us. AreKept eq hash us t.capacity visit) (sym bare_is)
-            (subst (λ m. AreKept eq hash (bare s.held ++ bare_node u ∷ []) m visit) (sym capacity)
-            grown);
-      }
+    pub IsKept-push : IsEquivalence eq → u.hash ≡ hash u.pair.0 → find eq (pairs_of hs) u.pair.0 ≡ None
+        → length hs < capacity → {n : ℕ} → n ≡ capacity → IsKept eq hash (bare ks) n visit
+    IsKept-push laws hashed absent room same =
+        let of_bare = length-bare hs in
+        let none : list_any (eq u.pair.0) (map (λ u. u.pair) (bare hs)) ≡ false =
+        ap (list_any (eq u.pair.0)) (keys-bare hs) ∙ list_any-none (eq u.pair.0) (pairs_of hs) absent in
+        IsKept-same bare-push same (IsKept-append kept laws (bare_node u) hashed none (omega (arith, of_bare, room)))

@@ -7,22 +7,22 @@ use Rattle.std.specs.Cmp.{IsEquivalence}
 use denote.RawPtr.{Ptr}
 use Rattle.linked_hash_map.specs.declared.map.Mode.{Mode}
 use Rattle.linked_hash_map.specs.declared.map.Mode.TheVariants.{Touch, Keep}
-use Rattle.linked_hash_map.specs.Nodes.{VisitState, no_visit, pairs_of, bare, before, current_at, AreKept, IsKept}
+use Rattle.linked_hash_map.specs.Nodes.{VisitState, no_visit, pairs_of, bare, before, current_at, IsKept}
 use Rattle.linked_hash_map.specs.Pairs.{value_at, put}
 use Rattle.linked_hash_map.specs.Indexes.{IsIndex, set_value_at}
 use Rattle.linked_hash_map.specs.Touches.{IsTouched}
 use Rattle.linked_hash_map.proofs.pairs.Indexes.{slice_get-set_value_at, length-others, set_value_at-pushed, slice_get-pushed}
 use Rattle.linked_hash_map.proofs.pairs.Indexes.{set_value-index, is_some-index, to_back-index, value_at-slice_get}
 use Rattle.linked_hash_map.proofs.pairs.Calls.{set_or_push-present}
-use Rattle.linked_hash_map.proofs.nodes.HeldPairs.{bare-change, before-bare, length-pairs_of, length-same}
+use Rattle.linked_hash_map.proofs.nodes.HeldPairs.{bare-change, before-bare, length-bare, length-pairs_of, length-same}
 use Rattle.linked_hash_map.proofs.nodes.CutNodes.{CutAt, CutAt-before, slice_get-held, pairs_of-change_at}
-use Rattle.linked_hash_map.proofs.nodes.Current.{current_at-Some, before-current, IsKept-visited, IsKept-with_value}
-use Rattle.linked_hash_map.proofs.nodes.MovedNode.{pairs-moved, length-to_back, before-at_back, AreKept-moved, to_visit-moved, behind-moved}
+use Rattle.linked_hash_map.proofs.nodes.Current.{current_at-Some, before-current, IsKept-visited}
+use Rattle.linked_hash_map.proofs.nodes.Kept.{IsKept-same}
+use Rattle.linked_hash_map.proofs.nodes.MovedNode.{pairs-moved, length-to_back, before-at_back, IsKept-moved, to_visit-moved, behind-moved}
 use Rattle.linked_hash_map.proofs.nodes.Outside.{IsElsewhere, to_visit_at, to_visit_of, to_visit-bare}
 use Rattle.lhm_ring.specs.Nodes.{IsApart}
 use Rattle.lhm_ring.specs.Ring.{Held, AtHeld, change_at, revalued}
-use Rattle.lhm_ring.specs.Table.{TableState, WritesOnly}
-use Rattle.lhm_ring.specs.TableAfterLoan.{with_value}
+use Rattle.lhm_ring.specs.Table.{WritesOnly}
 
 -- hs are the nodes before, and ks those after
 module _ {K V : Type 0} (hs ks : List (Held (K × V))) (p : Ptr) (lies : before p hs < length hs) where
@@ -124,57 +124,52 @@ module _ {K V : Type 0} {eq : K → K → Bool} (laws : IsEquivalence eq) {p : P
       → AtHeld ks p (λ xs t ys. v ≡ t.pair.1) → Some v ≡ value_at eq (pairs_of hs) k
   value_at-touched moved at = sym (value_at-slice_get laws distinct index ∙ value-touched moved at)
 
--- the same pairs in the same capacity
-IsKept-same : {K V : Type 0} {eq : K → K → Bool} {hash : K → ℕ} {s t : TableState (K × V)}
-    {visit : VisitState} → IsKept eq hash s visit → t.held ≡ s.held → t.capacity ≡ s.capacity
-    → IsKept eq hash t visit
-IsKept-same {eq = eq} {hash = hash} {s = s} {t = t} {visit = visit} kept same capacity = record {
-  nodes = subst (λ us. AreKept eq hash us t.capacity visit) (sym (ap bare same))
-      (subst (λ k. AreKept eq hash (bare s.held) k visit) (sym capacity) kept.nodes);
-}
-
 -- the current pair, which is none of those to visit
 module _ {K V : Type 0} {eq : K → K → Bool} (laws : IsEquivalence eq) {hash : K → ℕ}
-    {s : TableState (K × V)} (t : TableState (K × V)) {visit : VisitState} {p : Ptr}
-    (kept : IsKept eq hash s visit) (is : visit.current ≡ Some p)
-    (elsewhere : IsElsewhere (before p s.held) visit (bare s.held)) where
-  IsKept-touched : (mode : Mode) → IsTouched mode p s.held t.held → t.capacity ≡ s.capacity → IsKept eq hash t visit
-  IsKept-touched Touch moved capacity = record {
-    nodes = subst (λ k. AreKept eq hash (bare t.held) k visit) (sym capacity)
-        (AreKept-moved s.held t.held moved.0 (before-current kept is) kept.nodes elsewhere laws is);
-  }
-  IsKept-touched Keep same capacity = IsKept-same kept same capacity
+    (hs ks : List (Held (K × V))) {capacity : ℕ} {visit : VisitState} {p : Ptr}
+    (kept : IsKept eq hash (bare hs) capacity visit) (is : visit.current ≡ Some p)
+    (elsewhere : IsElsewhere (before p hs) visit (bare hs)) where
+  IsKept-touched : (mode : Mode) → IsTouched mode p hs ks → {n : ℕ} → n ≡ capacity → IsKept eq hash (bare ks) n visit
+  IsKept-touched Touch moved = IsKept-moved hs ks moved.0 (before-current hs kept is) kept elsewhere laws is
+  IsKept-touched Keep same = λ capacity. IsKept-same (ap bare same) capacity kept
 
-  pub IsKept-put_current : (mode : Mode) → IsTouched mode p s.held t.held → t.capacity ≡ s.capacity
-      → (w : V) → IsKept eq hash (with_value t p w) visit
-  IsKept-put_current mode touched capacity w = IsKept-with_value (IsKept-touched mode touched capacity) p w
-
-  to_visit-touched : (mode : Mode) → IsTouched mode p s.held t.held → to_visit_of visit t.held ≡ to_visit_of visit s.held
-  to_visit-touched Touch moved = to_visit-moved s.held t.held moved.0 (before-current kept is) kept.nodes elsewhere
+  to_visit-touched : (mode : Mode) → IsTouched mode p hs ks → to_visit_of visit ks ≡ to_visit_of visit hs
+  to_visit-touched Touch moved = to_visit-moved hs ks moved.0 (before-current hs kept is) kept elsewhere
   to_visit-touched Keep same = ap (to_visit_of visit) same
 
-  pub to_visit-put : (mode : Mode) → IsTouched mode p s.held t.held → (w : V)
-      → to_visit_of visit (change_at p (revalued w) t.held) ≡ to_visit_of visit s.held
-  to_visit-put mode touched w = sym (to_visit-bare visit (change_at p (revalued w) t.held))
-      ∙ ap (to_visit_at visit) (bare-change p w t.held) ∙ to_visit-bare visit t.held
-      ∙ to_visit-touched mode touched
-
-  elsewhere-touched : (mode : Mode) → IsTouched mode p s.held t.held → IsElsewhere (before p t.held) visit (bare t.held)
-  elsewhere-touched Touch moved = inr (behind-moved s.held t.held moved.0 (before-current kept is) kept.nodes elsewhere moved.1)
+  elsewhere-touched : (mode : Mode) → IsTouched mode p hs ks → IsElsewhere (before p ks) visit (bare ks)
+  elsewhere-touched Touch moved = inr (behind-moved hs ks moved.0 (before-current hs kept is) kept elsewhere moved.1)
   elsewhere-touched Keep same = subst (λ (ns : List (Held (K × V))). IsElsewhere (before p ns) visit (bare ns)) (sym same) elsewhere
 
-  pub outside-put : (mode : Mode) → IsTouched mode p s.held t.held → (w : V)
-      → IsElsewhere (current_at visit.current (bare (change_at p (revalued w) t.held))) visit
-      (bare (change_at p (revalued w) t.held))
-  outside-put mode touched w =
-      subst (λ us. IsElsewhere (current_at visit.current us) visit us) (sym (bare-change p w t.held))
-      (subst (λ k. IsElsewhere k visit (bare t.held)) (sym (current_at-Some is t.held)) (elsewhere-touched mode touched))
+-- once it is moved by a mode, and its value is written
+module _ {K V : Type 0} {eq : K → K → Bool} (laws : IsEquivalence eq) {hash : K → ℕ} {p : Ptr}
+    {mode : Mode} {hs ks : List (Held (K × V))} (moved : IsTouchedAt p mode hs ks) {capacity : ℕ}
+    {visit : VisitState} (kept : IsKept eq hash (bare hs) capacity visit)
+    (is : visit.current ≡ Some p) (elsewhere : IsElsewhere (before p hs) visit (bare hs)) where
+  pub IsKept-put_current : {n : ℕ} → n ≡ capacity → (w : V)
+      → IsKept eq hash (bare (change_at p (revalued w) ks)) n visit
+  IsKept-put_current same w = IsKept-same (bare-change p w ks) refl
+      (IsKept-touched laws hs ks kept is elsewhere mode moved.touched same)
+
+  pub to_visit-put : (w : V) → to_visit_of visit (change_at p (revalued w) ks) ≡ to_visit_of visit hs
+  to_visit-put w = sym (to_visit-bare visit (change_at p (revalued w) ks))
+      ∙ ap (to_visit_at visit) (bare-change p w ks) ∙ to_visit-bare visit ks
+      ∙ to_visit-touched laws hs ks kept is elsewhere mode moved.touched
+
+  pub outside-put : (w : V) → IsElsewhere (current_at visit.current (bare (change_at p (revalued w) ks))) visit
+      (bare (change_at p (revalued w) ks))
+  outside-put w =
+      subst (λ us. IsElsewhere (current_at visit.current us) visit us) (sym (bare-change p w ks))
+      (subst (λ k. IsElsewhere k visit (bare ks)) (sym (current_at-Some is ks))
+      (elsewhere-touched laws hs ks kept is elsewhere mode moved.touched))
 
 -- with nothing to visit, and no current pair
-pub IsKept-put : {K V : Type 0} {eq : K → K → Bool} → IsEquivalence eq
-    → {hash : K → ℕ} {s : TableState (K × V)} (t : TableState (K × V)) {visit : VisitState}
-    (p : Ptr) → IsKept eq hash s visit → before p (bare s.held) < length (bare s.held)
-    → (mode : Mode) → IsTouched mode p s.held t.held → t.capacity ≡ s.capacity → (w : V)
-    → IsKept eq hash (with_value t p w) no_visit
-IsKept-put laws t p kept lies mode touched capacity w =
-    IsKept-visited (IsKept-put_current laws t (IsKept-visited kept (Some p) lies) refl (inr (omega arith)) mode touched capacity w) None tt
+pub IsKept-put : {K V : Type 0} {eq : K → K → Bool} → IsEquivalence eq → {hash : K → ℕ} {p : Ptr}
+    {mode : Mode} {hs ks : List (Held (K × V))} → IsTouchedAt p mode hs ks → {capacity : ℕ}
+    {visit : VisitState} → IsKept eq hash (bare hs) capacity visit → {n : ℕ} → n ≡ capacity
+    → (w : V) → IsKept eq hash (bare (change_at p (revalued w) ks)) n no_visit
+IsKept-put laws {p = p} {hs = hs} moved kept same w =
+    let at = before-bare p hs in let long = length-bare hs in
+    IsKept-visited (IsKept-put_current laws moved
+    (IsKept-visited kept (Some p) (omega (arith, at, long, moved.lies))) refl
+    (inr (omega arith)) same w) None tt

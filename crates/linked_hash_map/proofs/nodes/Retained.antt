@@ -7,7 +7,7 @@ use Rattle.linked_hash_map.specs.Nodes.{VisitState, no_visit, pairs_of, bare, ba
 use Rattle.linked_hash_map.specs.Retains.{IsSublist}
 use Rattle.linked_hash_map.proofs.nodes.HeldPairs.{keys-bare, length-bare, length-pairs_of}
 use Rattle.lhm_ring.specs.Ring.{Held, revalued}
-use Rattle.lhm_ring.specs.Table.{TableState, RetainsHeld}
+use Rattle.lhm_ring.specs.Table.{RetainsHeld}
 
 -- what holds of a list holds of some of its elements
 module _ {X : Type 0} where
@@ -101,22 +101,19 @@ module _ {K V : Type 0} (hs ks : List (Held (K × V))) (some : IsSublist (bare k
       omega (arith, few, of_ks, of_hs, as_many, as_many_hs)
 
 -- some of the nodes are kept as all were, if nothing is to be visited
-pub IsKept-some : {K V : Type 0} {eq : K → K → Bool} {hash : K → ℕ} {s t : TableState (K × V)}
-    {visit : VisitState} → IsKept eq hash s visit → IsSublist (bare t.held) (bare s.held)
-    → t.capacity ≡ s.capacity → IsKept eq hash t no_visit
-IsKept-some {K} {V} {eq} {hash} {s} {t} kept some capacity =
-    let k = kept.nodes in let few = length-sublist (bare t.held) (bare s.held) some in
+pub IsKept-some : {K : Type 0} {eq : K → K → Bool} {hash : K → ℕ} {us ws : List (Held K)} {capacity n : ℕ}
+    {visit : VisitState} → IsKept eq hash us capacity visit → IsSublist ws us → n ≡ capacity
+    → IsKept eq hash ws n no_visit
+IsKept-some {K} {eq} {hash} {us} {ws} kept some same =
+    let few = length-sublist ws us some in
     record {
-      nodes = record {
-        distinct = distinct-sublist eq (map (λ (u : Held K). u.pair) (bare t.held))
-            (map (λ (u : Held K). u.pair) (bare s.held))
-            (map-sublist (λ (u : Held K). u.pair) (bare t.held) (bare s.held) some) k.distinct;
-        hashed = all-sublist (λ (u : Held K). u.hash ≡ hash u.pair) (bare t.held) (bare s.held) some k.hashed;
-        within = omega (arith, few, capacity, k.within);
-        limit = omega (arith, capacity, k.limit);
-        bookmarked = λ _. refl;
-        ended = λ _. refl;
-        in_reach = omega arith;
-        current_lies = tt;
-      };
+      distinct = distinct-sublist eq (map (λ (u : Held K). u.pair) ws) (map (λ (u : Held K). u.pair) us)
+          (map-sublist (λ (u : Held K). u.pair) ws us some) kept.distinct;
+      hashed = all-sublist (λ (u : Held K). u.hash ≡ hash u.pair) ws us some kept.hashed;
+      within = omega (arith, few, same, kept.within);
+      limit = omega (arith, same, kept.limit);
+      bookmarked = λ _. refl;
+      ended = λ _. refl;
+      in_reach = omega arith;
+      current_lies = tt;
     }

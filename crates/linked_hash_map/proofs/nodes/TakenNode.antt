@@ -5,15 +5,15 @@ use Rattle.std.specs.List.{IsDistinct}
 use Rattle.std.proofs.lemmas.List.{map-append}
 use denote.RawPtr.{Ptr}
 use Rattle.lhm_ring.proofs.lists.ForAll.{AllByRecursion-removed}
-use Rattle.linked_hash_map.specs.Nodes.{VisitState, no_visit, pairs_of, bare, bare_node, before, AreKept, IsKept}
+use Rattle.linked_hash_map.specs.Nodes.{VisitState, no_visit, pairs_of, bare, bare_node, before, IsKept}
 use Rattle.linked_hash_map.proofs.lists.Distinct.{distinct_removed}
 use Rattle.linked_hash_map.proofs.nodes.CutNodes.{CutAt, CutAt-before, slice_get-held, pairs_of-removed}
 use Rattle.linked_hash_map.proofs.lists.Elements.{remove-append}
 use Rattle.linked_hash_map.proofs.nodes.Current.{IsKept-visited}
+use Rattle.linked_hash_map.proofs.nodes.Kept.{IsKept-same}
 use Rattle.linked_hash_map.proofs.nodes.Outside.{IsElsewhere, to_visit_at, to_visit_of, to_visit-bare, in_reach-out, to_visit-out, bare-cut}
-use Rattle.linked_hash_map.proofs.nodes.Outside.{AreKept-cut, IsElsewhere-cut}
+use Rattle.linked_hash_map.proofs.nodes.Outside.{IsKept-cut, IsElsewhere-cut}
 use Rattle.lhm_ring.specs.Ring.{Held, AtHeld}
-use Rattle.lhm_ring.specs.Table.{TableState}
 
 -- keys that differ still do when one in the midst goes
 distinct-out : {K : Type 0} (eq : K → K → Bool) (xs : List K) (x : K) (ys : List K)
@@ -21,12 +21,12 @@ distinct-out : {K : Type 0} (eq : K → K → Bool) (xs : List K) (x : K) (ys : 
 distinct-out eq xs x ys h = subst (IsDistinct eq) (remove-append xs x ys) (distinct_removed eq (xs ++ x ∷ ys) (length xs) h)
 
 -- the nodes without one that is not to be visited, which is spare
-pub AreKept-out : {K : Type 0} {eq : K → K → Bool} {hash : K → ℕ} (front : List (Held K))
+pub IsKept-out : {K : Type 0} {eq : K → K → Bool} {hash : K → ℕ} (front : List (Held K))
     (u : Held K) (back : List (Held K)) {capacity : ℕ} {visit : VisitState}
-    → AreKept eq hash (front ++ u ∷ back) capacity visit
+    → IsKept eq hash (front ++ u ∷ back) capacity visit
     → IsElsewhere (length front) visit (front ++ u ∷ back)
-    → AreKept eq hash (front ++ back) capacity (record visit { current = None })
-AreKept-out {K} {eq} {hash} front u back kept elsewhere =
+    → IsKept eq hash (front ++ back) capacity (record visit { current = None })
+IsKept-out {K} {eq} {hash} front u back kept elsewhere =
     let keys : List (Held K) → List K = map (λ t. t.pair) in
     let of_all = length-append front (u ∷ back) in let of_rest = length-append front back in
     let distinct = subst (IsDistinct eq) (map-append (λ (t : Held K). t.pair) front (u ∷ back)) kept.distinct in
@@ -65,39 +65,23 @@ module _ {K V : Type 0} (hs ws : List (Held (K × V))) {p : Ptr}
 
   -- the node is none of those that are still to be visited
   module _ {eq : K → K → Bool} {hash : K → ℕ} {capacity : ℕ} {visit : VisitState}
-      (kept : AreKept eq hash (bare hs) capacity visit)
+      (kept : IsKept eq hash (bare hs) capacity visit)
       (elsewhere : IsElsewhere (before p hs) visit (bare hs)) where
     pub to_visit-removed : to_visit_of visit ws ≡ to_visit_of visit hs
     to_visit-removed =
         let h = cut_removed.held in
         sym (to_visit-bare visit ws) ∙ ap (to_visit_at visit) bare_rest
         ∙ to_visit-out (bare h.before) (bare_node h.node) (bare h.after)
-        (AreKept-cut cut_removed kept) (IsElsewhere-cut cut_removed visit elsewhere)
+        (IsKept-cut cut_removed kept) (IsElsewhere-cut cut_removed visit elsewhere)
         ∙ ap (to_visit_at visit) (sym (bare-cut cut_removed)) ∙ to_visit-bare visit hs
 
-    pub AreKept-removed : AreKept eq hash (bare ws) capacity (record visit { current = None })
-    AreKept-removed =
+    pub IsKept-taken : {n : ℕ} → n ≡ capacity → IsKept eq hash (bare ws) n (record visit { current = None })
+    IsKept-taken same =
         let h = cut_removed.held in
-        subst (λ us. AreKept eq hash us capacity (record visit { current = None })) (sym bare_rest)
-        (AreKept-out (bare h.before) (bare_node h.node) (bare h.after)
-        (AreKept-cut cut_removed kept) (IsElsewhere-cut cut_removed visit elsewhere))
+        IsKept-same bare_rest same (IsKept-out (bare h.before) (bare_node h.node) (bare h.after)
+        (IsKept-cut cut_removed kept) (IsElsewhere-cut cut_removed visit elsewhere))
 
--- a table without the node
-module _ {K V : Type 0} {eq : K → K → Bool} {hash : K → ℕ} {s w : TableState (K × V)}
-    {visit : VisitState} {p : Ptr} (kept : IsKept eq hash s visit)
-    (lies : before p s.held < length s.held)
-    (others : AtHeld s.held p (λ xs x ys. w.held ≡ xs ++ ys)) (capacity : w.capacity ≡ s.capacity) where
-  pub IsKept-taken : IsElsewhere (before p s.held) visit (bare s.held)
-      → IsKept eq hash w (record visit { current = None })
-  IsKept-taken elsewhere = record {
-    nodes = subst (λ k. AreKept eq hash (bare w.held) k (record visit { current = None })) (sym capacity)
-        (AreKept-removed s.held w.held others lies kept.nodes elsewhere);
-  }
-
--- and no pair is to be visited, nor is there a current one
-pub IsKept-removed : {K V : Type 0} {eq : K → K → Bool} {hash : K → ℕ} {s w : TableState (K × V)}
-    {visit : VisitState} {p : Ptr} → IsKept eq hash s visit → before p s.held < length s.held
-    → AtHeld s.held p (λ xs x ys. w.held ≡ xs ++ ys) → w.capacity ≡ s.capacity
-    → IsKept eq hash w no_visit
-IsKept-removed kept lies others capacity =
-    IsKept-taken (IsKept-visited kept None tt) lies others capacity (inr (omega arith))
+  -- and no pair is to be visited, nor is there a current one
+  pub IsKept-removed : {eq : K → K → Bool} {hash : K → ℕ} {capacity n : ℕ} {visit : VisitState}
+      → IsKept eq hash (bare hs) capacity visit → n ≡ capacity → IsKept eq hash (bare ws) n no_visit
+  IsKept-removed kept same = IsKept-taken (IsKept-visited kept None tt) (inr (omega arith)) same

@@ -54,7 +54,7 @@ impl<K: Eq + Hash, V, S: BuildHasher> LinkedHashMap<K, V, S> {
         ensures removes { Updates K.eq self.old.pairs
             (without K.eq self.old.pairs (entry_key result)) key None }
     {
-        let hash = self.hash_of(&key);
+        let hash = self.hasher().hash_one(&key);
         if self.seek(hash, &key) {
             Entry::Occupied(OccupiedEntry { map: self })
         } else {

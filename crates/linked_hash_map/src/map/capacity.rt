@@ -1,5 +1,5 @@
 //! Changes of the capacity.
-ghost use Rattle.std.specs.Prelude.{◌≡◌, ◌+◌, ◌*◌, ◌<◌, ◌≤◌, length, max, IsErrOf, ◌↔◌, OnOk, OnErr, IsTrue, IsFalse};
+ghost use Rattle.std.specs.Prelude.{◌≡◌, ◌+◌, ◌*◌, ◌<◌, ◌≤◌, length, max, IsErrOf, ◌↔◌, OnOk, OnErr};
 ghost use Rattle.linked_hash_map.specs.Cursor.{to_visit};
 ghost use Rattle.linked_hash_map.specs.Changes.{KeepsSettings};
 ghost use Rattle.linked_hash_map.specs.Validity.{IsValid};
@@ -117,30 +117,5 @@ impl<K: Eq + Hash, V, S: BuildHasher> LinkedHashMap<K, V, S> {
         ensures valid { IsValid K.eq self.now }
     {
         self.table.rechained()
-    }
-
-    /// Raises a full capacity by one, and returns whether there is room for one more pair.
-    #[inline]
-    pub(crate) fn make_room(&mut self) -> bool
-        ensures pairs { self.new.pairs ≡ self.old.pairs }
-        ensures settings { KeepsSettings self.old self.new }
-        ensures cursor { self.new.cursor ≡ self.old.cursor }
-        ensures made { IsTrue result
-            → self.new.capacity ≡ max self.old.capacity (length self.old.pairs + 1) }
-        ensures rechained { IsTrue result
-            → self.new.rechained ≡ rechained_raised self.old.rechained (length self.old.pairs)
-            self.old.capacity self.new.capacity }
-        ensures refused { IsFalse result → self.new ≡ self.old }
-        ensures full { IsFalse result → length self.old.pairs ≡ self.old.capacity }
-        ensures valid { IsValid K.eq self.old }
-    {
-        if !self.table.is_full() {
-            return true;
-        }
-        let capacity = self.capacity();
-        if capacity == LIMIT {
-            return false;
-        }
-        self.table.raise(capacity + 1).is_ok()
     }
 }

@@ -9,9 +9,29 @@ ghost use Rattle.linked_hash_map.specs.Validity.{IsValid};
 ghost use Rattle.linked_hash_map.specs.Hashers.{hash_by};
 ghost use Rattle.linked_hash_map.specs.Counts.{same, beside};
 
-use super::{LinkedHashMap, Probe};
+use super::LinkedHashMap;
 use std::hash::{BuildHasher, Hash};
 use std::ops::{Index, IndexMut};
+
+/// The counts of a lookup, returned by [`get_counted`](crate::LinkedHashMap::get_counted).
+///
+/// # Examples
+///
+/// ```rust
+/// use linked_hash_map::LinkedHashMap;
+///
+/// let mut map = LinkedHashMap::new(rt.alloc());
+/// map.insert('x', 1)?;
+/// let (value, probe) = map.get_counted(&'x');
+/// assert_eq!(rt; (value, probe.visited, probe.compared), (Some(&1), 1, 1));
+/// ```
+#[derive(Clone, Copy, Debug, PartialEq)]
+pub struct Probe {
+    /// The number of pairs reached along the chain of the key's bucket.
+    pub visited: usize,
+    /// The number of comparisons of keys.
+    pub compared: usize,
+}
 
 impl<K: Eq + Hash, V, S: BuildHasher> LinkedHashMap<K, V, S> {
     ghost use Rattle.linked_hash_map.specs.Lends.{lends_value, lends_refreshed};

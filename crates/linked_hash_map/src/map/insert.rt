@@ -1,5 +1,5 @@
 //! Insertion.
-ghost use Rattle.std.specs.Prelude.{◌≡◌, ◌<◌, [], length, max, option_map, None, OnOk, OnErr, IfOk, IfErr, IfNone, OnSome, ◌-◌, ◌+◌, ◌++◌, ◌∷◌, slice_get, Some, IsSome};
+ghost use Rattle.std.specs.Prelude.{◌≡◌, ◌<◌, [], length, max, option_map, None, OnOk, OnErr, IfOk, IfErr, IfNone, OnSome, IsTrue, IsFalse, ◌-◌, ◌+◌, ◌++◌, ◌∷◌, slice_get, Some, IsSome};
 ghost use Rattle.std.specs.Borrow.{sem};
 ghost use Rattle.linked_hash_map.specs.Pairs.{find, value_at, put};
 ghost use Rattle.linked_hash_map.specs.Cursor.{to_visit};
@@ -13,7 +13,7 @@ ghost use Rattle.lhm_ring.specs.Pointer.{pointer_of};
 ghost use Rattle.lhm_ring.specs.Ring.{IsHeld};
 ghost use Rattle.lhm_ring.specs.Table.{KeepsCounts};
 
-use super::{LinkedHashMap, Mode};
+use super::{LIMIT, LinkedHashMap, Mode};
 use crate::error::Refused;
 use lhm_ring::table::{Position, Table};
 use std::hash::{BuildHasher, Hash};
@@ -86,7 +86,7 @@ impl<K: Eq + Hash, V, S: BuildHasher> LinkedHashMap<K, V, S> {
         ensures absent { OnErr result (find K.eq self.old.pairs key ≡ None) }
         ensures full { OnErr result (length self.old.pairs ≡ self.old.capacity) }
     {
-        let hash = self.hash_of(&key);
+        let hash = self.hasher.hash_one(&key);
         if let Some(at) = self.table.position(hash, &key) {
             self.visit.active = false;
             touch(&mut self.table, at, self.mode);
@@ -97,6 +97,31 @@ impl<K: Eq + Hash, V, S: BuildHasher> LinkedHashMap<K, V, S> {
         }
         self.push_back(hash, key, value);
         Ok(None)
+    }
+
+    /// Raises a full capacity by one, and returns whether there is room for one more pair.
+    #[inline]
+    pub(crate) fn make_room(&mut self) -> bool
+        ensures pairs { self.new.pairs ≡ self.old.pairs }
+        ensures settings { KeepsSettings self.old self.new }
+        ensures cursor { self.new.cursor ≡ self.old.cursor }
+        ensures made { IsTrue result
+            → self.new.capacity ≡ max self.old.capacity (length self.old.pairs + 1) }
+        ensures rechained { IsTrue result
+            → self.new.rechained ≡ rechained_raised self.old.rechained (length self.old.pairs)
+            self.old.capacity self.new.capacity }
+        ensures refused { IsFalse result → self.new ≡ self.old }
+        ensures full { IsFalse result → length self.old.pairs ≡ self.old.capacity }
+        ensures valid { IsValid K.eq self.old }
+    {
+        if !self.table.is_full() {
+            return true;
+        }
+        let capacity = self.table.capacity();
+        if capacity == LIMIT {
+            return false;
+        }
+        self.table.raise(capacity + 1).is_ok()
     }
 
     /// Inserts a pair of an absent key, with its hash, at the back.

@@ -1,9 +1,12 @@
 //! Removal.
-ghost use Rattle.std.specs.Prelude.{◌≡◌, ◌+◌, [], length, option_map, None, IfNone, IfSome, OnSome};
+ghost use Rattle.std.specs.Prelude.{◌≡◌, ◌+◌, ◌≤◌, [], length, option_map, None, IfNone, IfSome, OnSome};
 ghost use Rattle.std.specs.Borrow.{sem};
+ghost use Rattle.std.specs.Map.{keys_of};
+ghost use Rattle.std.specs.Map.Calls.{CallableOnEachPair, CalledAtPair, TakesPair, RetainsPairs};
 ghost use Rattle.linked_hash_map.specs.Pairs.{find, value_at, without, first, last, without_first, without_last};
 ghost use Rattle.linked_hash_map.specs.Cursor.{to_visit};
 ghost use Rattle.linked_hash_map.specs.Changes.{Keeps};
+ghost use Rattle.linked_hash_map.specs.Retains.{IsSublist};
 ghost use Rattle.linked_hash_map.specs.Updates.{Updates};
 ghost use Rattle.linked_hash_map.specs.Validity.{IsValid};
 ghost use Rattle.linked_hash_map.specs.Hashers.{hash_by};
@@ -46,7 +49,7 @@ impl<K: Eq + Hash, V, S: BuildHasher> LinkedHashMap<K, V, S> {
         ensures fewer { OnSome result (length self.new.pairs + 1 ≡ length self.old.pairs) }
         ensures same { IfNone result (self.new.pairs ≡ self.old.pairs) }
     {
-        let hash = self.hash_of(key);
+        let hash = self.hasher.hash_one(key);
         let (_stored, value) = self.remove_hashed(hash, key)?;
         Some(value)
     }
@@ -123,6 +126,46 @@ impl<K: Eq + Hash, V, S: BuildHasher> LinkedHashMap<K, V, S> {
         let back = self.table.last()?;
         self.visit.active = false;
         Some(self.table.remove_at(back))
+    }
+
+    /// Keeps the pairs for which a closure returns `true`, in order, and drops the others, in O(n).
+    /// Hashes no key.
+    ///
+    /// The closure is called once with each pair, front to back, and may change the value. Whatever
+    /// it does, the keys that stay are some of the old ones, in order, and all else of the map
+    /// stays, except that a visit ends.
+    ///
+    /// # Examples
+    ///
+    /// ```rust
+    /// let mut map = LinkedHashMap::new(rt.alloc());
+    /// map.insert('x', 1)?;
+    /// map.insert('y', 2)?;
+    /// map.insert('z', 3)?;
+    /// map.retain(|key, value| {
+    ///     *value = 7;
+    ///     *key != 'y'
+    /// });
+    /// assert_eq!(rt; (map.len(), map.get(&'y')), (2, None));
+    /// assert_eq!(rt; map.front(), Some((&'x', &7)));
+    /// assert_eq!(rt; map.back(), Some((&'z', &7)));
+    /// ```
+    pub fn retain<F: FnMut(&K, &mut V) -> bool>(&mut self, keep: F)
+    where
+        K: Drop,
+        V: Drop,
+        requires { CallableOnEachPair (CalledAtPair F.FnMut) (TakesPair F.FnMut) keep
+            self.old.pairs }
+        ensures pairs { RetainsPairs (CalledAtPair F.FnMut) keep self.old.pairs self.new.pairs }
+        ensures keys { IsSublist (keys_of self.new.pairs) (keys_of self.old.pairs) }
+        ensures len { length self.new.pairs ≤ length self.old.pairs }
+        ensures keeps { Keeps self.old self.new }
+        ensures ends_visit { to_visit self.new ≡ [] }
+        ensures valid { IsValid K.eq self.old }
+        ensures stays_valid { IsValid K.eq self.new }
+    {
+        self.visit.active = false;
+        self.table.retain(keep);
     }
 
     /// Drops all pairs, in O(capacity), or O(1) if the map is empty. The capacity stays.

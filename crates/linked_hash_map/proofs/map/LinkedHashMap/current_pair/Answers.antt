@@ -5,15 +5,15 @@ use Rattle.linked_hash_map.proofs.nodes.Current.{current_of-Some, current_at-Som
 use Rattle.linked_hash_map.proofs.map.LinkedHashMap.current_pair.Goals as goal
 
 pub key-requires : goal.key-requires
-key-requires g c = (CutAt-current c.self.invariant (current_of-Some c.current.ensures c.unwrap-at.ensures)).held
+key-requires g c = (CutAt-current c.self.inside.table.held c.self.invariant c.current.ensures c.unwrap-at.ensures).held
 
 pub value-requires : goal.value-requires
-value-requires g c = (CutAt-current c.self.invariant (current_of-Some c.current.ensures c.unwrap-at.ensures)).held
+value-requires g c = (CutAt-current c.self.inside.table.held c.self.invariant c.current.ensures c.unwrap-at.ensures).held
 
 pub returns : goal.returns
 returns g c =
     let m = c.self.inside in
-    let cut = CutAt-current c.self.invariant (current_of-Some c.current.ensures c.unwrap-at.ensures) in
+    let cut = CutAt-current c.self.inside.table.held c.self.invariant c.current.ensures c.unwrap-at.ensures in
     let h = cut.held in let key = c.key.ensures h.before h.node h.after h.is h.at_is in
     let value = c.value.ensures h.before h.node h.after h.is h.at_is in
     rw (← c.self.view_is) (

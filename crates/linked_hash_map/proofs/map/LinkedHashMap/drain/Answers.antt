@@ -5,7 +5,7 @@ use Rattle.linked_hash_map.proofs.nodes.Kept.{IsValid-view}
 use Rattle.linked_hash_map.proofs.map.LinkedHashMap.drain.Goals as goal
 
 pub invariant_of-self-lent : goal.invariant_of-self-lent
-invariant_of-self-lent g c = λ _. IsKept-none refl c.self.invariant.nodes.limit
+invariant_of-self-lent g c = λ _. IsKept-none refl c.self.invariant.limit
 
 pub returns : goal.returns
 returns g c =
@@ -14,7 +14,7 @@ returns g c =
       record {
         writes_back = tt;
         rest = rest_drained c.new.result _ c.self.inside.table.held c.new.ensures.rest c.drain.ensures.rest;
-        valid = IsValid-view c.self.invariant refl refl;
+        valid = IsValid-view c.self.inside refl c.self.invariant;
         runs = drains_in_order;
         runs_back = drains_in_reverse;
         stays = stays _;

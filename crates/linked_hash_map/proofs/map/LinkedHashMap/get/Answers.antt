@@ -11,7 +11,7 @@ returns g c =
     let h = c.in_ok-at.ensures.found in
     rw (← c.self.view_is) (
     ap Some (c.value.ensures h.held.before h.held.node h.held.after h.held.is h.held.at_is)
-    ∙ value_at-index g.met.K.Eq.laws (distinct_keys c.self.invariant) (IsIndex-HasKey h) (slice_get-held h.held)
+    ∙ value_at-index g.met.K.Eq.laws (distinct_keys c.self.inside.table.held c.self.invariant) (IsIndex-HasKey h) (slice_get-held h.held)
     )
 
 pub returns-in_err-at : goal.returns-in_err-at
@@ -20,5 +20,5 @@ returns-in_err-at g c =
     rw (c.from_residual.ensures, ← c.self.view_is)
     (sym (value_at-IsAbsent (hash_by-respects g.S.Hasher.Hasher.finish g.S.Hasher.Hasher.write
     g.S.BuildHasher.build_hasher g.met.K.Hash.respects_eq) m.hasher
-    c.args.key.now c.hash_one-hash.ensures m.table.held c.self.invariant.nodes.hashed
+    c.args.key.now c.hash_one-hash.ensures m.table.held c.self.invariant.hashed
     c.in_err-at.ensures.absent))

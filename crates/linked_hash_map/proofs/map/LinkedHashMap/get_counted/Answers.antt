@@ -1,76 +1,51 @@
-use Rattle.std.proofs.Common.{◌≤◌, Some, refl, sym, ap, ◌∙◌, subst}
-use Rattle.linked_hash_map.specs.Hashers.{hash_by}
+use Rattle.std.proofs.Common.{◌≤◌, Some, sym, ap, ◌∙◌, subst}
 use Rattle.linked_hash_map.proofs.nodes.LookupCounts.{same-spots, beside-spots}
 use Rattle.linked_hash_map.proofs.pairs.Indexes.{value_at-index}
 use Rattle.linked_hash_map.proofs.lists.Options.{of-Some, of-None, of-OnSome}
 use Rattle.linked_hash_map.proofs.nodes.FoundKeys.{IsIndex-HasKey}
 use Rattle.linked_hash_map.proofs.nodes.CutNodes.{slice_get-held}
-use Rattle.linked_hash_map.proofs.nodes.Kept.{IsValid-view, distinct_keys}
+use Rattle.linked_hash_map.proofs.nodes.Kept.{distinct_keys}
 use Rattle.linked_hash_map.proofs.nodes.AbsentKeys.{hash_by-respects, value_at-IsAbsent}
 use Rattle.linked_hash_map.proofs.map.LinkedHashMap.get_counted.Goals as goal
-use Rattle.lhm_ring.specs.Buckets.{buckets}
 
 pub returns-in-Some-clause-value : goal.returns-in-Some-clause-value
 returns-in-Some-clause-value g c =
     let m = c.self.inside in let h = of-Some _ c.in-Some.is c.find-found.ensures.found in
     rw (← c.self.view_is) (
     ap Some (c.value.ensures h.held.before h.held.node h.held.after h.held.is h.held.at_is)
-    ∙ value_at-index g.met.K.Eq.laws (distinct_keys c.self.invariant) (IsIndex-HasKey h) (slice_get-held h.held)
+    ∙ value_at-index g.met.K.Eq.laws (distinct_keys c.self.inside.table.held c.self.invariant) (IsIndex-HasKey h) (slice_get-held h.held)
     )
-
-pub returns-in-Some-clause-valid : goal.returns-in-Some-clause-valid
-returns-in-Some-clause-valid g c = rw (← c.self.view_is) (IsValid-view c.self.invariant refl refl)
 
 pub returns-in-Some-clause-compared_few : goal.returns-in-Some-clause-compared_few
 returns-in-Some-clause-compared_few g c =
-    let m = c.self.inside in
-    let hash = hash_by g.S.Hasher.Hasher.finish g.S.Hasher.Hasher.write g.S.BuildHasher.build_hasher
-    g.K.Hash.hash_input m.hasher in
-    let probe = c.find-found.result.1 in
     let counts = of-OnSome c.in-Some.is c.find-found.ensures.counts_found in
-    rw (← c.self.view_is) (subst (λ n. probe.compared ≤ n) (same-spots hash m.table.held
-    c.args.key.now c.hash_one-hash.result c.hash_one-hash.ensures c.self.invariant.nodes.hashed)
+    rw (← c.self.view_is) (subst (λ n. c.find-found.result.1.compared ≤ n)
+    (same-spots c.self.inside.table.held c.self.invariant c.args.key.now c.hash_one-hash.ensures)
     counts.compared_few)
 
 pub returns-in-Some-clause-visited_few : goal.returns-in-Some-clause-visited_few
 returns-in-Some-clause-visited_few g c =
-    let m = c.self.inside in
-    let hash = hash_by g.S.Hasher.Hasher.finish g.S.Hasher.Hasher.write g.S.BuildHasher.build_hasher
-    g.K.Hash.hash_input m.hasher in
-    let probe = c.find-found.result.1 in
     let counts = of-OnSome c.in-Some.is c.find-found.ensures.counts_found in
-    rw (← c.self.view_is) (subst (λ n. probe.visited ≤ n)
-    (beside-spots hash m.table.held c.args.key.now c.hash_one-hash.result (buckets m.table.capacity)
-    _ c.hash_one-hash.ensures refl c.self.invariant.nodes.hashed) counts.visited_few)
+    rw (← c.self.view_is) (subst (λ n. c.find-found.result.1.visited ≤ n)
+    (beside-spots c.self.inside.table.held c.self.invariant c.args.key.now c.hash_one-hash.ensures)
+    counts.visited_few)
 
 pub returns-in-None-clause-value : goal.returns-in-None-clause-value
 returns-in-None-clause-value g c =
     let m = c.self.inside in
     rw (← c.self.view_is) (sym (value_at-IsAbsent (hash_by-respects g.S.Hasher.Hasher.finish
     g.S.Hasher.Hasher.write g.S.BuildHasher.build_hasher g.met.K.Hash.respects_eq) m.hasher
-    c.args.key.now c.hash_one-hash.ensures m.table.held c.self.invariant.nodes.hashed
+    c.args.key.now c.hash_one-hash.ensures m.table.held c.self.invariant.hashed
     (of-None c.in-None.is c.find-found.ensures.absent)))
-
-pub returns-in-None-clause-valid : goal.returns-in-None-clause-valid
-returns-in-None-clause-valid g c = rw (← c.self.view_is) (IsValid-view c.self.invariant refl refl)
 
 pub returns-in-None-clause-compared : goal.returns-in-None-clause-compared
 returns-in-None-clause-compared g c =
-    let m = c.self.inside in
-    let hash = hash_by g.S.Hasher.Hasher.finish g.S.Hasher.Hasher.write g.S.BuildHasher.build_hasher
-    g.K.Hash.hash_input m.hasher in
-    let probe = c.find-found.result.1 in
     let counts = of-None c.in-None.is c.find-found.ensures.counts_absent in
-    rw (← c.self.view_is) (counts.compared_all ∙ same-spots hash m.table.held c.args.key.now
-    c.hash_one-hash.result c.hash_one-hash.ensures c.self.invariant.nodes.hashed)
+    rw (← c.self.view_is) (counts.compared_all
+    ∙ same-spots c.self.inside.table.held c.self.invariant c.args.key.now c.hash_one-hash.ensures)
 
 pub returns-in-None-clause-visited : goal.returns-in-None-clause-visited
 returns-in-None-clause-visited g c =
-    let m = c.self.inside in
-    let hash = hash_by g.S.Hasher.Hasher.finish g.S.Hasher.Hasher.write g.S.BuildHasher.build_hasher
-    g.K.Hash.hash_input m.hasher in
-    let probe = c.find-found.result.1 in
     let counts = of-None c.in-None.is c.find-found.ensures.counts_absent in
-    rw (← c.self.view_is)
-    (counts.visited_all ∙ beside-spots hash m.table.held c.args.key.now c.hash_one-hash.result
-    (buckets m.table.capacity) _ c.hash_one-hash.ensures refl c.self.invariant.nodes.hashed)
+    rw (← c.self.view_is) (counts.visited_all
+    ∙ beside-spots c.self.inside.table.held c.self.invariant c.args.key.now c.hash_one-hash.ensures)

@@ -5,8 +5,7 @@ use Rattle.linked_hash_map.proofs.lists.Options.{of-Some, of-None}
 use Rattle.linked_hash_map.proofs.nodes.HeldPairs.{bare-change}
 use Rattle.linked_hash_map.proofs.nodes.FoundKeys.{IsIndex-HasKey}
 use Rattle.linked_hash_map.proofs.nodes.CutNodes.{slice_get-held, pairs_of-change_at}
-use Rattle.linked_hash_map.proofs.nodes.Kept.{IsValid-view, map_of-revalued, distinct_keys}
-use Rattle.linked_hash_map.proofs.nodes.Current.{IsKept-with_value}
+use Rattle.linked_hash_map.proofs.nodes.Kept.{IsKept-same, distinct_keys, IsValid-view, map_of-revalued}
 use Rattle.linked_hash_map.proofs.pairs.Indexes.{value_at-index, set_value-index, is_some-index}
 use Rattle.linked_hash_map.proofs.nodes.AbsentKeys.{hash_by-respects, value_at-IsAbsent}
 use Rattle.linked_hash_map.proofs.map.LinkedHashMap.get_mut.Goals as goal
@@ -14,13 +13,13 @@ use Rattle.lhm_ring.specs.Pointer.{pointer_of}
 use Rattle.lhm_ring.specs.Ring.{change_at, revalued}
 
 pub invariant_of-self-lent : goal.invariant_of-self-lent
-invariant_of-self-lent g c w = IsKept-with_value c.self.invariant (pointer_of c.in-Some.at) w
+invariant_of-self-lent g c w = IsKept-same (bare-change (pointer_of c.in-Some.at) w c.self.inside.table.held) refl c.self.invariant
 
 pub returns-in-Some : goal.returns-in-Some
 returns-in-Some g c =
     let m = c.self.inside in let at = pointer_of c.in-Some.at in
     let h = of-Some _ c.in-Some.is c.position.ensures.found in
-    let distinct = distinct_keys c.self.invariant in
+    let distinct = distinct_keys c.self.inside.table.held c.self.invariant in
     rw (← c.self.view_is) (
       (λ i. inl (
         c.value_mut.result.ghost_name,
@@ -32,7 +31,7 @@ returns-in-Some g c =
         value = ap Some (c.value_mut.ensures.value h.held.before h.held.node h.held.after h.held.is
             h.held.at_is)
             ∙ value_at-index g.met.K.Eq.laws distinct (IsIndex-HasKey h) (slice_get-held h.held);
-        valid = IsValid-view c.self.invariant refl refl;
+        valid = IsValid-view c.self.inside refl c.self.invariant;
         updates = λ v. Updates-set_value g.met.K.Eq.laws _ _ _ (is_some-index g.met.K.Eq.laws distinct (IsIndex-HasKey h)) v refl;
       },
     )
@@ -47,9 +46,9 @@ returns-in-None g c =
         value =
             sym (value_at-IsAbsent (hash_by-respects g.S.Hasher.Hasher.finish
             g.S.Hasher.Hasher.write g.S.BuildHasher.build_hasher g.met.K.Hash.respects_eq) m.hasher
-            c.args.key.now c.hash_one-hash.ensures m.table.held c.self.invariant.nodes.hashed
+            c.args.key.now c.hash_one-hash.ensures m.table.held c.self.invariant.hashed
             (of-None c.in-None.is c.position.ensures.absent));
-        valid = IsValid-view c.self.invariant refl refl;
+        valid = IsValid-view c.self.inside refl c.self.invariant;
         updates = λ v. tt;
       },
     )

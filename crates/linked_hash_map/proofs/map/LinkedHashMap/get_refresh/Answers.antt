@@ -3,8 +3,8 @@ use Rattle.linked_hash_map.specs.declared.map.Mode.TheVariants.{Touch}
 use Rattle.linked_hash_map.specs.Nodes.{map_of, beside, no_visit}
 use Rattle.linked_hash_map.proofs.Callers.Updates.{Updates-put}
 use Rattle.linked_hash_map.proofs.lists.Options.{of-Some, of-None}
-use Rattle.linked_hash_map.proofs.nodes.Kept.{IsValid-view, distinct_keys}
-use Rattle.linked_hash_map.proofs.nodes.FoundKeys.{before-HasKey, IsIndex-before, before-HasKey_bare}
+use Rattle.linked_hash_map.proofs.nodes.Kept.{distinct_keys, IsValid-view}
+use Rattle.linked_hash_map.proofs.nodes.FoundKeys.{before-HasKey, IsIndex-before}
 use Rattle.linked_hash_map.proofs.nodes.PutPair.{IsTouchedAt, touched_cut, pairs-put, value_at-touched, IsKept-put}
 use Rattle.linked_hash_map.proofs.nodes.AbsentKeys.{hash_by-respects, value_at-IsAbsent}
 use Rattle.linked_hash_map.proofs.map.LinkedHashMap.get_refresh.Goals as goal
@@ -20,16 +20,19 @@ value_mut-requires g c =
 
 pub invariant_of-self-lent : goal.invariant_of-self-lent
 invariant_of-self-lent g c w =
-    let moved = c.move_to_back.ensures in
-    IsKept-put g.met.K.Eq.laws c.move_to_back.new.self (pointer_of c.in-Some.at) c.self.invariant
-    (before-HasKey_bare (of-Some _ c.in-Some.is c.position.ensures.found)) Touch
-    (moved.last, moved.apart) moved.keeps.capacity w
+    let hs = c.self.inside.table.held in let last = c.move_to_back.ensures in
+    let moved : IsTouchedAt (pointer_of c.in-Some.at) Touch hs c.move_to_back.new.self.held =
+    record {
+      lies = before-HasKey (of-Some _ c.in-Some.is c.position.ensures.found);
+      touched = (last.last, last.apart);
+    } in
+    IsKept-put g.met.K.Eq.laws moved c.self.invariant last.keeps.capacity w
 
 pub returns-in-Some : goal.returns-in-Some
 returns-in-Some g c =
     let m = c.self.inside in let moved = c.move_to_back.ensures in
     let has = of-Some _ c.in-Some.is c.position.ensures.found in
-    let distinct = distinct_keys c.self.invariant in
+    let distinct = distinct_keys c.self.inside.table.held c.self.invariant in
     let at : IsTouchedAt (pointer_of c.in-Some.at) Touch m.table.held c.move_to_back.new.self.held =
     record { lies = before-HasKey has; touched = (moved.last, moved.apart) } in
     rw (← c.self.view_is) (
@@ -46,7 +49,7 @@ returns-in-Some g c =
         writes_back = tt;
         value = value_at-touched g.met.K.Eq.laws (IsIndex-before has) distinct at
             c.value_mut.ensures.value;
-        valid = IsValid-view c.self.invariant refl refl;
+        valid = IsValid-view c.self.inside refl c.self.invariant;
         updates = λ v. Updates-put g.met.K.Eq.laws Touch _ _ _ v refl;
       },
     )
@@ -61,9 +64,9 @@ returns-in-None g c =
         value =
             sym (value_at-IsAbsent (hash_by-respects g.S.Hasher.Hasher.finish
             g.S.Hasher.Hasher.write g.S.BuildHasher.build_hasher g.met.K.Hash.respects_eq) m.hasher
-            c.args.key.now c.hash_one-hash.ensures m.table.held c.self.invariant.nodes.hashed
+            c.args.key.now c.hash_one-hash.ensures m.table.held c.self.invariant.hashed
             (of-None c.in-None.is c.position.ensures.absent));
-        valid = IsValid-view c.self.invariant refl refl;
+        valid = IsValid-view c.self.inside refl c.self.invariant;
         updates = λ v. Updates-put g.met.K.Eq.laws Touch _ _ _ v refl;
       },
     )

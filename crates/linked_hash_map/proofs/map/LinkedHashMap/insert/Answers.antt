@@ -5,9 +5,9 @@ use Rattle.linked_hash_map.specs.Pairs.{find, put}
 use Rattle.linked_hash_map.proofs.Callers.Updates.{Updates-put}
 use Rattle.linked_hash_map.proofs.pairs.Calls.{put-absent}
 use Rattle.linked_hash_map.proofs.lists.Options.{of-Some, of-None}
-use Rattle.linked_hash_map.proofs.nodes.Kept.{distinct_keys, IsValid-view}
+use Rattle.linked_hash_map.proofs.nodes.Kept.{distinct_keys, IsValid-kept, IsValid-view}
 use Rattle.linked_hash_map.proofs.nodes.AbsentKeys.{hash_by-respects, find-IsAbsent_map}
-use Rattle.linked_hash_map.proofs.nodes.FoundKeys.{before-HasKey, IsIndex-before, before-HasKey_bare}
+use Rattle.linked_hash_map.proofs.nodes.FoundKeys.{before-HasKey, IsIndex-before}
 use Rattle.linked_hash_map.proofs.nodes.PutPair.{IsTouchedAt, touched_cut, value_at-touched, pairs-put, length-put, IsKept-put}
 use Rattle.linked_hash_map.proofs.map.LinkedHashMap.insert.Goals as goal
 use Rattle.lhm_ring.specs.Pointer.{pointer_of}
@@ -15,7 +15,7 @@ use Rattle.lhm_ring.specs.Search.{HasKey}
 
 -- a position that is found is that of the key
 has : (g : _) (c : goal.After-drop-key g)
-    → HasKey g.K.PartialEq.eq c.hash_of-hash.result c.args.key c.self.inside.table.held
+    → HasKey g.K.PartialEq.eq c.hash_one-hash.result c.args.key c.self.inside.table.held
     (pointer_of c.in-Some.at)
 has g c = of-Some _ c.in-Some.is c.position.ensures.found
 
@@ -30,7 +30,7 @@ absent g c =
     let m = c.self.inside in
     find-IsAbsent_map (hash_by-respects g.S.Hasher.Hasher.finish g.S.Hasher.Hasher.write
     g.S.BuildHasher.build_hasher g.met.K.Hash.respects_eq) m.table (beside m) c.self.view_is
-    c.self.invariant c.args.key c.hash_of-hash.ensures
+    c.self.invariant c.args.key (rw (← c.self.view_is) c.hash_one-hash.ensures)
     (of-None c.in_default.is c.position.ensures.absent)
 
 pub value_mut-requires : goal.value_mut-requires
@@ -42,8 +42,7 @@ value_mut-requires g c =
     (touched_cut moved).held
 
 pub invariant_of-self : goal.invariant_of-self
-invariant_of-self g c = IsKept-put g.met.K.Eq.laws c.touch.new.table (pointer_of c.in-Some.at)
-    c.self.invariant (before-HasKey_bare (has g c)) c.self.inside.mode c.touch.ensures.touched
+invariant_of-self g c = IsKept-put g.met.K.Eq.laws (moved g c) c.self.invariant
     c.touch.ensures.keeps.capacity c.replace.new.dest
 
 pub returns-in-Some-clause-old : goal.returns-in-Some-clause-old
@@ -51,7 +50,7 @@ returns-in-Some-clause-old g c =
     let there = has g c in
     rw (← c.self.view_is) (
     ap Some c.replace.ensures.value
-    ∙ value_at-touched g.met.K.Eq.laws (IsIndex-before there) (distinct_keys c.self.invariant)
+    ∙ value_at-touched g.met.K.Eq.laws (IsIndex-before there) (distinct_keys c.self.inside.table.held c.self.invariant)
     (moved g c) c.value_mut.ensures.value
     )
 
@@ -59,7 +58,7 @@ pub returns-in-Some-clause-pairs : goal.returns-in-Some-clause-pairs
 returns-in-Some-clause-pairs g c =
     let m = c.self.inside in let there = has g c in
     rw (← c.self.view_is) (
-    pairs-put g.met.K.Eq.laws (IsIndex-before there) (distinct_keys c.self.invariant) (moved g c)
+    pairs-put g.met.K.Eq.laws (IsIndex-before there) (distinct_keys c.self.inside.table.held c.self.invariant) (moved g c)
     c.value_mut.ensures.alone c.replace.new.dest
     ∙ ap (put g.K.PartialEq.eq m.mode (pairs_of m.table.held) c.args.key) c.replace.ensures.after
     )
@@ -69,10 +68,10 @@ returns-in-Some-clause-updates g c = Updates-put g.met.K.Eq.laws c.args.self.now
     c.args.self.now.pairs _ c.args.key c.args.value (returns-in-Some-clause-pairs g c)
 
 pub returns-in-Some-clause-valid : goal.returns-in-Some-clause-valid
-returns-in-Some-clause-valid g c = rw (← c.self.view_is) (IsValid-view c.self.invariant refl refl)
+returns-in-Some-clause-valid g c = IsValid-view c.self.inside c.self.view_is c.self.invariant
 
 pub returns-in-Some-clause-stays_valid : goal.returns-in-Some-clause-stays_valid
-returns-in-Some-clause-stays_valid g c = IsValid-view (invariant_of-self g c) refl refl
+returns-in-Some-clause-stays_valid g c = IsValid-kept _ (invariant_of-self g c) refl refl
 
 pub returns-in-Some-clause-as_many : goal.returns-in-Some-clause-as_many
 returns-in-Some-clause-as_many g c = λ _. rw (← c.self.view_is) (length-put (moved g c) c.replace.new.dest)
@@ -96,7 +95,7 @@ returns-then-not-make_room-clause-absent g c =
     let m = c.self.inside in
     find-IsAbsent_map (hash_by-respects g.S.Hasher.Hasher.finish g.S.Hasher.Hasher.write
     g.S.BuildHasher.build_hasher g.met.K.Hash.respects_eq) m.table (beside m) c.self.view_is
-    c.self.invariant c.args.key c.hash_of-hash.ensures
+    c.self.invariant c.args.key (rw (← c.self.view_is) c.hash_one-hash.ensures)
     (of-None c.in_default.is c.position.ensures.absent)
 
 pub push_back-requires-clause-absent : goal.push_back-requires-clause-absent
@@ -105,7 +104,7 @@ push_back-requires-clause-absent g c =
     ap (λ pairs. find g.K.PartialEq.eq pairs c.args.key) c.make_room.ensures.pairs
     ∙ find-IsAbsent_map (hash_by-respects g.S.Hasher.Hasher.finish g.S.Hasher.Hasher.write
     g.S.BuildHasher.build_hasher g.met.K.Hash.respects_eq) m.table (beside m) c.self.view_is
-    c.self.invariant c.args.key c.hash_of-hash.ensures
+    c.self.invariant c.args.key (rw (← c.self.view_is) c.hash_one-hash.ensures)
     (of-None c.in_default.is c.position.ensures.absent)
 
 pub returns-clause-old : goal.returns-clause-old

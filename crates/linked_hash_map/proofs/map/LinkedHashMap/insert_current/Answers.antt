@@ -2,7 +2,7 @@ use Rattle.std.proofs.Common.{◌≡◌, Some, slice_get, option_map, refl, sym,
 use Rattle.linked_hash_map.specs.Nodes.{pairs_of, bare, before, visit_of, current_of}
 use Rattle.linked_hash_map.specs.Indexes.{IsIndex}
 use Rattle.linked_hash_map.specs.Pairs.{put}
-use Rattle.linked_hash_map.proofs.nodes.Kept.{distinct_keys, IsValid-view}
+use Rattle.linked_hash_map.proofs.nodes.Kept.{distinct_keys, IsValid-kept}
 use Rattle.linked_hash_map.proofs.nodes.Current.{current_of-Some, current_at-Some, before-current, CutAt-current, IsElsewhere-current}
 use Rattle.linked_hash_map.proofs.nodes.Outside.{IsElsewhere}
 use Rattle.linked_hash_map.proofs.nodes.PutPair.{IsTouchedAt, touched_cut, value-touched, pair-touched, pairs-put, length-put}
@@ -12,14 +12,14 @@ use Rattle.lhm_ring.specs.Pointer.{pointer_of}
 use Rattle.lhm_ring.specs.Ring.{change_at, revalued}
 
 pub touch-requires : goal.touch-requires
-touch-requires g c = (CutAt-current c.self.invariant (current_of-Some c.current.ensures c.unwrap-at.ensures)).held
+touch-requires g c = (CutAt-current c.self.inside.table.held c.self.invariant c.current.ensures c.unwrap-at.ensures).held
 
 pub value_mut-requires : goal.value_mut-requires
 value_mut-requires g c =
     let is = current_of-Some c.current.ensures c.unwrap-at.ensures in
     let moved : IsTouchedAt (pointer_of c.unwrap-at.result) c.self.inside.mode
     c.self.inside.table.held c.touch.new.table.held =
-    record { lies = before-current c.self.invariant is; touched = c.touch.ensures.touched } in
+    record { lies = before-current c.self.inside.table.held c.self.invariant is; touched = c.touch.ensures.touched } in
     (touched_cut moved).held
 
 -- the current pair's node, which is moved by the map's mode, and is none of those to visit
@@ -28,25 +28,24 @@ is g c = current_of-Some c.current.ensures c.unwrap-at.ensures
 
 moved : (g : _) (c : goal.After-self-1 g) → IsTouchedAt (pointer_of c.unwrap-at.result)
     c.self.inside.mode c.self.inside.table.held c.touch.new.table.held
-moved g c = record { lies = before-current c.self.invariant (is g c); touched = c.touch.ensures.touched }
+moved g c = record { lies = before-current c.self.inside.table.held c.self.invariant (is g c); touched = c.touch.ensures.touched }
 
 elsewhere : (g : _) (c : goal.After-self-1 g)
     → IsElsewhere (before (pointer_of c.unwrap-at.result) c.self.inside.table.held)
     (visit_of c.self.inside.visit) (bare c.self.inside.table.held)
-elsewhere g c = IsElsewhere-current c.self.invariant (is g c) c.args.self.now
+elsewhere g c = IsElsewhere-current c.self.inside.table.held c.self.invariant (is g c) c.args.self.now
     (ap (λ m. m.cursor) c.self.view_is) c.requires.outside
 
 pub invariant_of-self : goal.invariant_of-self
-invariant_of-self g c =
-    IsKept-put_current g.met.K.Eq.laws c.touch.new.table c.self.invariant (is g c) (elsewhere g c)
-    c.self.inside.mode c.touch.ensures.touched c.touch.ensures.keeps.capacity c.replace.new.dest
+invariant_of-self g c = IsKept-put_current g.met.K.Eq.laws (moved g c) c.self.invariant (is g c)
+    (elsewhere g c) c.touch.ensures.keeps.capacity c.replace.new.dest
 
 pub returns-clause-pairs : goal.returns-clause-pairs
 returns-clause-pairs g c =
     let hs = c.self.inside.table.held in
     rw (← c.self.view_is) (λ key index. pairs-put g.met.K.Eq.laws
     (subst (IsIndex g.K.PartialEq.eq (pairs_of hs) key) (current_at-Some (is g c) hs) index)
-    (distinct_keys c.self.invariant) (moved g c) c.value_mut.ensures.alone c.replace.new.dest
+    (distinct_keys c.self.inside.table.held c.self.invariant) (moved g c) c.value_mut.ensures.alone c.replace.new.dest
     ∙ ap (put g.K.PartialEq.eq c.self.inside.mode (pairs_of hs) key) c.replace.ensures.after)
 
 pub returns-clause-pair : goal.returns-clause-pair
@@ -71,16 +70,12 @@ pub returns-clause-len : goal.returns-clause-len
 returns-clause-len g c = rw (← c.self.view_is) (length-put (moved g c) c.replace.new.dest)
 
 pub returns-clause-to_visit : goal.returns-clause-to_visit
-returns-clause-to_visit g c =
-    rw (← c.self.view_is) (to_visit-put g.met.K.Eq.laws c.touch.new.table c.self.invariant (is g c)
-    (elsewhere g c) c.self.inside.mode c.touch.ensures.touched c.replace.new.dest)
+returns-clause-to_visit g c = rw (← c.self.view_is) (to_visit-put g.met.K.Eq.laws (moved g c)
+    c.self.invariant (is g c) (elsewhere g c) c.replace.new.dest)
 
 pub returns-clause-outside : goal.returns-clause-outside
-returns-clause-outside g c = outside-put g.met.K.Eq.laws c.touch.new.table c.self.invariant (is g c)
-    (elsewhere g c) c.self.inside.mode c.touch.ensures.touched c.replace.new.dest
-
-pub returns-clause-valid : goal.returns-clause-valid
-returns-clause-valid g c = rw (← c.self.view_is) (IsValid-view c.self.invariant refl refl)
+returns-clause-outside g c = outside-put g.met.K.Eq.laws (moved g c) c.self.invariant (is g c)
+    (elsewhere g c) c.replace.new.dest
 
 pub returns-clause-stays_valid : goal.returns-clause-stays_valid
-returns-clause-stays_valid g c = IsValid-view (invariant_of-self g c) refl refl
+returns-clause-stays_valid g c = IsValid-kept _ (invariant_of-self g c) refl refl

@@ -1,13 +1,9 @@
-use Rattle.std.proofs.Common.{map, refl, ap, ◌∙◌}
+use Rattle.std.proofs.Common.{map, ap, ◌∙◌}
 use Rattle.linked_hash_map.specs.LinkedMap.{LinkedMap}
 use Rattle.linked_hash_map.proofs.nodes.HeldPairs.{pairs-triples}
-use Rattle.linked_hash_map.proofs.nodes.Kept.{IsValid-view}
 use Rattle.linked_hash_map.proofs.map.LinkedHashMap.into_pairs.Goals as goal
 
 pub returns-clause-pairs : goal.returns-clause-pairs
 returns-clause-pairs g c =
     c.new.ensures ∙ ap (map (λ t. t.1)) c.into_iter.ensures ∙ pairs-triples c.self.inside.table.held
     ∙ ap (λ (m : LinkedMap g.row.K.Denot g.row.V.Denot g.row.S.Denot). m.pairs) c.self.view_is
-
-pub returns-clause-valid : goal.returns-clause-valid
-returns-clause-valid g c = rw (← c.self.view_is) (IsValid-view c.self.invariant refl refl)

@@ -1,11 +1,6 @@
-use Rattle.std.proofs.Common.{refl}
 use Rattle.std.specs.Map.Iter.{deref_pair}
-use Rattle.linked_hash_map.proofs.nodes.Kept.{IsValid-view}
 use Rattle.linked_hash_map.proofs.pairs.IteratorLaws.{shows_in_order, shows_in_reverse}
 use Rattle.linked_hash_map.proofs.map.LinkedHashMap.iter.Goals as goal
-
-pub returns-clause-valid : goal.returns-clause-valid
-returns-clause-valid g c = rw (← c.self.view_is) (IsValid-view c.self.invariant refl refl)
 
 pub returns-clause-runs : goal.returns-clause-runs
 returns-clause-runs g c = shows_in_order deref_pair

@@ -3,11 +3,12 @@ use borrow.Follows.Closed.{read_of}
 use Rattle.linked_hash_map.specs.Nodes.{pairs_of, beside, map_of}
 use Rattle.linked_hash_map.specs.ValueIterators.{loan_name}
 use Rattle.linked_hash_map.proofs.pairs.IteratorLaws.{keys_stand, lends_in_order, lends_in_reverse}
-use Rattle.linked_hash_map.proofs.nodes.Kept.{IsValid-view, IsKept-values, map_of-values}
+use Rattle.linked_hash_map.proofs.nodes.Kept.{IsKept-same, IsValid-view, map_of-values}
+use Rattle.linked_hash_map.proofs.nodes.HeldPairs.{bare-values}
 use Rattle.linked_hash_map.proofs.map.LinkedHashMap.iter_mut.Goals as goal
 
 pub invariant_of-self-lent : goal.invariant_of-self-lent
-invariant_of-self-lent g c = λ _. ((λ vs. IsKept-values c.self.inside.table vs c.self.invariant), c.self.invariant)
+invariant_of-self-lent g c = λ _. ((λ vs. IsKept-same (bare-values c.self.inside.table.held vs) refl c.self.invariant), c.self.invariant)
 
 pub returns : goal.returns
 returns g c =
@@ -18,7 +19,7 @@ returns g c =
         writes_back = tt;
         keeps = keys_stand (pairs_of m.table.held);
         rest = c.over.ensures.rest;
-        valid = IsValid-view c.self.invariant refl refl;
+        valid = IsValid-view c.self.inside refl c.self.invariant;
         runs = lends_in_order _;
         runs_back = lends_in_reverse _;
       },

@@ -2,11 +2,10 @@ use Rattle.std.proofs.Common.{◌≡◌, ◌-◌, ◌∙◌, [], ◌∷◌, leng
 use Rattle.lhm_ring.proofs.rings.Ends.{Last-last_at, last_held}
 use Rattle.linked_hash_map.specs.Indexes.{set_value_at}
 use Rattle.linked_hash_map.specs.Nodes.{pairs_of}
-use Rattle.linked_hash_map.proofs.nodes.Current.{IsKept-with_value}
 use Rattle.linked_hash_map.proofs.nodes.FirstAndLast.{last-pairs}
 use Rattle.linked_hash_map.proofs.nodes.HeldPairs.{bare-change, length-pairs_of}
 use Rattle.linked_hash_map.proofs.nodes.CutNodes.{pairs_of-change_at}
-use Rattle.linked_hash_map.proofs.nodes.Kept.{IsValid-view, map_of-revalued}
+use Rattle.linked_hash_map.proofs.nodes.Kept.{IsKept-same, IsValid-view, map_of-revalued}
 use Rattle.linked_hash_map.proofs.map.LinkedHashMap.last_value_mut.Goals as goal
 use Rattle.lhm_ring.specs.Pointer.{pointer_of, pointer_of_some}
 use Rattle.lhm_ring.specs.Ring.{change_at, revalued}
@@ -19,7 +18,7 @@ value_mut-requires g c =
     last_held last
 
 pub invariant_of-self-lent : goal.invariant_of-self-lent
-invariant_of-self-lent g c w = IsKept-with_value c.self.invariant (pointer_of c.unwrap-at.result) w
+invariant_of-self-lent g c w = IsKept-same (bare-change (pointer_of c.unwrap-at.result) w c.self.inside.table.held) refl c.self.invariant
 
 pub returns : goal.returns
 returns g c =
@@ -38,6 +37,6 @@ returns g c =
         writes_back = tt;
         value = ap (option_map (λ p. p.1)) (last-pairs last)
             ∙ ap Some (sym (c.value_mut.ensures.value last.before last.node [] last.is last.at_is));
-        valid = IsValid-view c.self.invariant refl refl;
+        valid = IsValid-view c.self.inside refl c.self.invariant;
       },
     )

@@ -5,7 +5,7 @@ use Rattle.linked_hash_map.specs.Hashers.{hash_by}
 use Rattle.linked_hash_map.specs.Pairs.{find}
 use Rattle.linked_hash_map.proofs.nodes.PushedPair.{IsKept-push, pairs_of-push, bookmark_at-push, current_at-push, to_visit-push}
 use Rattle.linked_hash_map.proofs.nodes.HeldPairs.{length-pairs_of}
-use Rattle.linked_hash_map.proofs.nodes.Kept.{IsValid-view}
+use Rattle.linked_hash_map.proofs.nodes.Kept.{IsValid-kept}
 use Rattle.linked_hash_map.proofs.map.LinkedHashMap.push_back.Goals as goal
 use Rattle.lhm_ring.specs.Pointer.{pointer_of}
 use Rattle.lhm_ring.specs.Ring.{held}
@@ -28,30 +28,30 @@ invariant_of-self g c =
     subst (λ (z : LinkedMap g.row.K.Denot g.row.V.Denot g.row.S.Denot). (length z.pairs < z.capacity)
     × ((find eq z.pairs c.args.key ≡ None) × (c.args.hash ≡ hash z.hasher c.args.key)))
     (sym c.self.view_is) (c.requires.room, (c.requires.absent, c.requires.hash)) in
-    IsKept-push c.self.invariant c.push_back.new.self
+    IsKept-push m.table.held
     (held (pointer_of c.push_back.result) c.args.hash None (c.args.key, c.args.value))
-    c.push_back.ensures.last g.met.K.Eq.laws given.1.1 given.1.0 (omega (arith, given.0, of_pairs))
+    c.push_back.ensures.last c.self.invariant g.met.K.Eq.laws given.1.1 given.1.0 (omega (arith, given.0, of_pairs))
     c.push_back.ensures.keeps.capacity
 
 pub returns-clause-pairs : goal.returns-clause-pairs
 returns-clause-pairs g c =
     let u = held (pointer_of c.push_back.result) c.args.hash None (c.args.key, c.args.value) in
     rw (← c.self.view_is)
-    (pairs_of-push c.self.inside.table c.push_back.new.self u c.push_back.ensures.last)
+    (pairs_of-push c.self.inside.table.held u c.push_back.ensures.last)
 
 pub returns-clause-cursor : goal.returns-clause-cursor
 returns-clause-cursor g c =
     let u = held (pointer_of c.push_back.result) c.args.hash None (c.args.key, c.args.value) in
-    let last = c.push_back.ensures.last in
+    let m = c.self.inside in let last = c.push_back.ensures.last in
     rw (← c.self.view_is) (λ i. cursor_state
-    (bookmark_at-push c.self.invariant c.push_back.new.self u last i) (unvisited_of c.self.inside.visit)
-    (current_at-push c.self.invariant c.push_back.new.self u last i))
+    (bookmark_at-push m.table.held u last c.self.invariant i) (unvisited_of m.visit)
+    (current_at-push m.table.held u last c.self.invariant i))
 
 pub returns-clause-to_visit : goal.returns-clause-to_visit
 returns-clause-to_visit g c =
     let u = held (pointer_of c.push_back.result) c.args.hash None (c.args.key, c.args.value) in
     rw (← c.self.view_is)
-    (to_visit-push c.self.invariant c.push_back.new.self u c.push_back.ensures.last)
+    (to_visit-push c.self.inside.table.held u c.push_back.ensures.last c.self.invariant)
 
 pub returns-clause-stays_valid : goal.returns-clause-stays_valid
-returns-clause-stays_valid g c = IsValid-view (invariant_of-self g c) refl refl
+returns-clause-stays_valid g c = IsValid-kept _ (invariant_of-self g c) refl refl

@@ -1,6 +1,6 @@
 use Rattle.std.proofs.Common.{◌≡◌, ◌<◌, Some, length, slice_get, remove, refl, sym, ap, ◌∙◌}
 use Rattle.linked_hash_map.specs.Nodes.{pairs_of, bare, before, visit_of, current_of}
-use Rattle.linked_hash_map.proofs.nodes.Kept.{IsValid-view}
+use Rattle.linked_hash_map.proofs.nodes.Kept.{IsValid-kept}
 use Rattle.linked_hash_map.proofs.nodes.Outside.{IsElsewhere}
 use Rattle.linked_hash_map.proofs.nodes.Current.{current_of-Some, before-current, CutAt-current}
 use Rattle.linked_hash_map.proofs.nodes.Current.{current_at-Some, IsElsewhere-current, IsKept-left}
@@ -9,7 +9,7 @@ use Rattle.linked_hash_map.proofs.map.LinkedHashMap.remove_current.Goals as goal
 use Rattle.lhm_ring.specs.Pointer.{pointer_of}
 
 pub remove_at-requires : goal.remove_at-requires
-remove_at-requires g c = (CutAt-current c.self.invariant (current_of-Some c.current.ensures c.unwrap-at.ensures)).held
+remove_at-requires g c = (CutAt-current c.self.inside.table.held c.self.invariant c.current.ensures c.unwrap-at.ensures).held
 
 -- the current pair's node, which is none of those to visit
 is : (g : _) (c : goal.After-remove_at g) → current_of c.self.inside.visit ≡ Some (pointer_of c.unwrap-at.result)
@@ -17,18 +17,19 @@ is g c = current_of-Some c.current.ensures c.unwrap-at.ensures
 
 lies : (g : _) (c : goal.After-remove_at g)
     → before (pointer_of c.unwrap-at.result) c.self.inside.table.held < length c.self.inside.table.held
-lies g c = before-current c.self.invariant (is g c)
+lies g c = before-current c.self.inside.table.held c.self.invariant (is g c)
 
 elsewhere : (g : _) (c : goal.After-remove_at g)
     → IsElsewhere (before (pointer_of c.unwrap-at.result) c.self.inside.table.held)
     (visit_of c.self.inside.visit) (bare c.self.inside.table.held)
-elsewhere g c = IsElsewhere-current c.self.invariant (is g c) c.args.self.now
+elsewhere g c = IsElsewhere-current c.self.inside.table.held c.self.invariant (is g c) c.args.self.now
     (ap (λ m. m.cursor) c.self.view_is) c.requires.outside
 
 pub invariant_of-self : goal.invariant_of-self
 invariant_of-self g c =
     let removed = c.remove_at.ensures in
-    IsKept-left (IsKept-taken c.self.invariant (lies g c) removed.others removed.keeps.capacity (elsewhere g c))
+    IsKept-left (IsKept-taken c.self.inside.table.held c.remove_at.new.self.held removed.others
+    (lies g c) c.self.invariant (elsewhere g c) removed.keeps.capacity)
     c.self.inside.visit.active
 
 pub returns-clause-pair : goal.returns-clause-pair
@@ -48,10 +49,7 @@ pub returns-clause-to_visit : goal.returns-clause-to_visit
 returns-clause-to_visit g c =
     rw (← c.self.view_is)
     (to_visit-removed c.self.inside.table.held c.remove_at.new.self.held c.remove_at.ensures.others
-    (lies g c) c.self.invariant.nodes (elsewhere g c))
-
-pub returns-clause-valid : goal.returns-clause-valid
-returns-clause-valid g c = rw (← c.self.view_is) (IsValid-view c.self.invariant refl refl)
+    (lies g c) c.self.invariant (elsewhere g c))
 
 pub returns-clause-stays_valid : goal.returns-clause-stays_valid
-returns-clause-stays_valid g c = IsValid-view (invariant_of-self g c) refl refl
+returns-clause-stays_valid g c = IsValid-kept _ (invariant_of-self g c) refl refl

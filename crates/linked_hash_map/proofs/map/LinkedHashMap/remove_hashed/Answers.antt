@@ -1,10 +1,9 @@
-use Rattle.std.proofs.Common.{◌≡◌, take, drop, None, option_map, refl, sym, ap, ◌∙◌, subst}
+use Rattle.std.proofs.Common.{◌≡◌, take, drop, None, option_map, refl, sym, ap, ◌∙◌}
 use Rattle.std.specs.Map.{keys_of}
-use Rattle.linked_hash_map.specs.Nodes.{pairs_of, bare, bookmark_at, map_of, beside, bookmark_of, unvisited_of}
+use Rattle.linked_hash_map.specs.Nodes.{pairs_of, bare, bookmark_at, beside, bookmark_of, unvisited_of}
 use Rattle.linked_hash_map.specs.Pairs.{find}
-use Rattle.linked_hash_map.specs.Validity.{IsValid}
 use Rattle.linked_hash_map.proofs.pairs.Calls.{filter-none}
-use Rattle.linked_hash_map.proofs.nodes.Kept.{distinct_keys, IsValid-view}
+use Rattle.linked_hash_map.proofs.nodes.Kept.{distinct_keys, IsValid-kept}
 use Rattle.linked_hash_map.proofs.nodes.AbsentKeys.{hash_by-respects, find-IsAbsent_map}
 use Rattle.linked_hash_map.proofs.pairs.Indexes.{without-index, value_at-slice_get}
 use Rattle.linked_hash_map.proofs.nodes.FoundKeys.{before-HasKey, IsIndex-before}
@@ -37,25 +36,17 @@ returns-in_err-pair-clause-to_visit g c =
     (drop (bookmark_at (bookmark_of m.visit) (bare s.held)) (keys_of (pairs_of s.held))))
     c.in_err-pair.ensures.unchanged)
 
-pub returns-in_err-pair-clause-valid : goal.returns-in_err-pair-clause-valid
-returns-in_err-pair-clause-valid g c = rw (← c.self.view_is) (IsValid-view c.self.invariant refl refl)
-
-pub returns-in_err-pair-clause-stays_valid : goal.returns-in_err-pair-clause-stays_valid
-returns-in_err-pair-clause-stays_valid g c =
-    let m = c.self.inside in
-    subst (λ (s : TableState _). IsValid g.K.PartialEq.eq (map_of s (beside m)))
-    (sym c.in_err-pair.ensures.unchanged) (IsValid-view c.self.invariant refl refl)
-
 pub invariant_of-self-2 : goal.invariant_of-self-2
 invariant_of-self-2 g c =
     let removed = c.in_ok-pair.ensures.removed in
-    IsKept-removed c.self.invariant (before-HasKey removed.has) removed.others c.in_ok-pair.ensures.keeps.capacity
+    IsKept-removed c.self.inside.table.held c.remove.new.self.held removed.others
+    (before-HasKey removed.has) c.self.invariant c.in_ok-pair.ensures.keeps.capacity
 
 pub returns-clause-value : goal.returns-clause-value
 returns-clause-value g c =
     let m = c.self.inside in let removed = c.in_ok-pair.ensures.removed in
     rw (← c.self.view_is) (
-    sym (value_at-slice_get g.met.K.Eq.laws (distinct_keys c.self.invariant) (IsIndex-before removed.has)
+    sym (value_at-slice_get g.met.K.Eq.laws (distinct_keys c.self.inside.table.held c.self.invariant) (IsIndex-before removed.has)
     ∙ ap (option_map (λ pair. pair.1)) (pair-removed m.table.held c.remove.new.self.held
     removed.others (before-HasKey removed.has) removed.pair_is))
     )
@@ -65,11 +56,8 @@ returns-clause-pairs g c =
     let m = c.self.inside in let removed = c.in_ok-pair.ensures.removed in
     rw (← c.self.view_is) (
     pairs-removed m.table.held c.remove.new.self.held removed.others (before-HasKey removed.has)
-    ∙ sym (without-index g.met.K.Eq.laws (distinct_keys c.self.invariant) (IsIndex-before removed.has))
+    ∙ sym (without-index g.met.K.Eq.laws (distinct_keys c.self.inside.table.held c.self.invariant) (IsIndex-before removed.has))
     )
 
-pub returns-clause-valid : goal.returns-clause-valid
-returns-clause-valid g c = rw (← c.self.view_is) (IsValid-view c.self.invariant refl refl)
-
 pub returns-clause-stays_valid : goal.returns-clause-stays_valid
-returns-clause-stays_valid g c = IsValid-view (invariant_of-self-2 g c) refl refl
+returns-clause-stays_valid g c = IsValid-kept _ (invariant_of-self-2 g c) refl refl

@@ -1,6 +1,6 @@
 use Rattle.std.proofs.Common.{refl, sym, subst}
 use Rattle.std.specs.Map.Calls.{CallableOnEachPair, CalledAtPair, TakesPair}
-use Rattle.linked_hash_map.proofs.nodes.Kept.{IsValid-view}
+use Rattle.linked_hash_map.proofs.nodes.Kept.{IsValid-kept}
 use Rattle.linked_hash_map.proofs.nodes.Retained.{bare-retained, pairs-retained, keys-some, length-some, IsKept-some}
 use Rattle.linked_hash_map.proofs.map.LinkedHashMap.retain.Goals as goal
 
@@ -31,8 +31,5 @@ returns-clause-len g c =
     rw (← c.self.view_is) (length-some hs c.retain.new.self.held (bare-retained
     (CalledAtPair g.F.FnMut) c.args.keep hs c.retain.new.self.held c.retain.ensures.retained))
 
-pub returns-clause-valid : goal.returns-clause-valid
-returns-clause-valid g c = rw (← c.self.view_is) (IsValid-view c.self.invariant refl refl)
-
 pub returns-clause-stays_valid : goal.returns-clause-stays_valid
-returns-clause-stays_valid g c = IsValid-view (invariant_of-self g c) refl refl
+returns-clause-stays_valid g c = IsValid-kept _ (invariant_of-self g c) refl refl

@@ -1,6 +1,5 @@
 use Rattle.std.proofs.Common.{refl, sym, ap, ◌∙◌, ◌-◌, Some}
 use Rattle.linked_hash_map.specs.Nodes.{visit_of}
-use Rattle.linked_hash_map.proofs.nodes.Kept.{IsValid-view}
 use Rattle.linked_hash_map.proofs.nodes.BookmarkMoves.{Goes, bookmarked_cut, outside_on, kept_on, to_visit_on}
 use Rattle.linked_hash_map.proofs.map.LinkedHashMap.visit_next.Goals as goal
 use Rattle.lhm_ring.specs.Pointer.{pointer_of, pointer_of_some}
@@ -24,20 +23,15 @@ goes g c =
       apart = m.ensures.apart;
     }
 
-pub returns-in_default-clause-valid : goal.returns-in_default-clause-valid
-returns-in_default-clause-valid g c = rw (← c.self.view_is) (IsValid-view c.self.invariant refl refl)
-
 pub bookmark_behind-requires : goal.bookmark_behind-requires
-bookmark_behind-requires g c = (bookmarked_cut c.self.invariant (sym c.bookmark.ensures ∙ ap pointer_of_some c.in-Some.is)).held
+bookmark_behind-requires g c = (bookmarked_cut c.self.inside.table.held c.self.invariant
+    (sym c.bookmark.ensures ∙ ap pointer_of_some c.in-Some.is)).held
 
 pub invariant_of-self : goal.invariant_of-self
-invariant_of-self g c = kept_on c.self.invariant (goes g c)
+invariant_of-self g c = kept_on c.self.inside.table.held c.self.invariant (goes g c)
 
 pub returns-clause-key : goal.returns-clause-key
-returns-clause-key g c = rw (← c.self.view_is) (λ _ key there. to_visit_on c.self.invariant (goes g c) key there)
+returns-clause-key g c = rw (← c.self.view_is) (λ _ key there. to_visit_on c.self.inside.table.held c.self.invariant (goes g c) key there)
 
 pub returns-clause-outside : goal.returns-clause-outside
-returns-clause-outside g c = λ _. outside_on c.self.invariant (goes g c)
-
-pub returns-clause-valid : goal.returns-clause-valid
-returns-clause-valid g c = rw (← c.self.view_is) (IsValid-view c.self.invariant refl refl)
+returns-clause-outside g c = λ _. outside_on c.self.inside.table.held c.self.invariant (goes g c)

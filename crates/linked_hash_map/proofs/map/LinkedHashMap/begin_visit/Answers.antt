@@ -1,6 +1,0 @@
-use Rattle.std.proofs.Common.{refl}
-use Rattle.linked_hash_map.proofs.nodes.Kept.{IsValid-view}
-use Rattle.linked_hash_map.proofs.map.LinkedHashMap.begin_visit.Goals as goal
-
-pub returns-clause-valid : goal.returns-clause-valid
-returns-clause-valid g c = rw (← c.self.view_is) (IsValid-view c.self.invariant refl refl)

@@ -1,9 +1,0 @@
-use Rattle.std.proofs.Common.{refl}
-use Rattle.linked_hash_map.proofs.nodes.Kept.{IsValid-view}
-use Rattle.linked_hash_map.proofs.map.LinkedHashMap.set_mode.Goals as goal
-
-pub returns-clause-valid : goal.returns-clause-valid
-returns-clause-valid g c = rw (← c.self.view_is) (IsValid-view c.self.invariant refl refl)
-
-pub returns-clause-stays_valid : goal.returns-clause-stays_valid
-returns-clause-stays_valid g c = IsValid-view c.self.invariant refl refl
