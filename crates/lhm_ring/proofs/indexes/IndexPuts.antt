@@ -73,7 +73,7 @@ module _ {K V : Type 0} {i : BucketState} {old nodes : List (Held (K × V))} {po
   module _ (p : Ptr) (e : pointer ≡ Some p) where
     abbrev pub IsHeld-rehashing : IsHeld nodes p
     IsHeld-rehashing =
-        let g : First w.rest p = First-first_at w.rest pointer p w.pointer_is e in
+        let g : First w.rest p = First-first_at w.rest w.pointer_is e in
         record {
           before = w.done;
           node = g.node;

@@ -7,9 +7,9 @@ use Rattle.lhm_ring.specs.declared.pointer.Link.{Link}
 use Rattle.lhm_ring.proofs.lists.Apart.{same_ptr-equal}
 use Rattle.lhm_ring.proofs.lists.ForAll.{AllByRecursion-always}
 use Rattle.lhm_ring.proofs.lists.Options.{none_some}
-use Rattle.lhm_ring.proofs.rings.SameNodes.{SameLink, RingOk-same}
+use Rattle.lhm_ring.proofs.rings.SameNodes.{SameLink, IsOwned-same}
 use Rattle.lhm_ring.specs.Nodes.{Cell, cell, cell_at, same_ptr, pointers, links_of, body_of, links_at, body_at}
-use Rattle.lhm_ring.specs.Links.{next_of, prev_of, link_of, has_links, HasContent, RingOk}
+use Rattle.lhm_ring.specs.Links.{next_of, prev_of, link_of, has_links, HasContent, IsOwned}
 
 module _ {B : Type 0} (f : Ptr → Option B → Option B) where
   module _ {L : Type 0} where
@@ -46,10 +46,10 @@ module _ {B : Type 0} (f : Ptr → Option B → Option B) where
           | false ↦ λ n h. body_at-rebodied cs q l h
         ]) refl e
 
-  pub RingOk-rebodied : (cs : List (Cell Links B)) (spare : Link) (n m : ℕ) (ok : RingOk cs spare n m)
-      → AllByRecursion (HasContent (rebodied cs)) ok.held_pointers → RingOk (rebodied cs) spare n m
-  RingOk-rebodied cs spare n m ok held =
+  pub IsOwned-rebodied : (cs : List (Cell Links B)) (spare : Link) (n m : ℕ) (ok : IsOwned cs spare n m)
+      → AllByRecursion (HasContent (rebodied cs)) ok.held_pointers → IsOwned (rebodied cs) spare n m
+  IsOwned-rebodied cs spare n m ok held =
       let same = links_at-rebodied cs in
-      RingOk-same cs (rebodied cs) (λ q. ap next_of (same q)) (λ q. ap prev_of (same q)) (λ q. ap has_links (same q))
-      (length-rebodied cs) spare n m ok held
+      IsOwned-same cs (rebodied cs) (λ q. ap next_of (same q)) (λ q. ap prev_of (same q)) (λ q. ap has_links (same q))
+      (length-rebodied cs) ok held
       (AllByRecursion-always (SameLink cs (rebodied cs)) (λ q. ap link_of (same q)) ok.spare_pointers)

@@ -5,9 +5,9 @@ use denote.RawPtr.{Ptr}
 use Rattle.lhm_ring.specs.declared.ring.Links.{Links}
 use Rattle.lhm_ring.specs.declared.pointer.Link.{Link}
 use Rattle.lhm_ring.proofs.lists.Apart.{IsFresh, same_ptr-equal, same_ptr-reflexive, same_ptr-symmetric, IsFresh-head, IsApart-tail}
-use Rattle.lhm_ring.proofs.memory.BodiesChanged.{links_at-rebodied, body_at-rebodied, RingOk-rebodied}
+use Rattle.lhm_ring.proofs.memory.BodiesChanged.{links_at-rebodied, body_at-rebodied, IsOwned-rebodied}
 use Rattle.lhm_ring.specs.Nodes.{Cell, cell, same_ptr, IsApart, pointers, links_at, body_at, change, with_body}
-use Rattle.lhm_ring.specs.Links.{HasContent, RingOk}
+use Rattle.lhm_ring.specs.Links.{HasContent, IsOwned}
 use Rattle.lhm_ring.specs.ContentLoan.{body_in, without_body, bodies_of, with_bodies, cleared}
 
 module _ {B : Type 0} where
@@ -70,6 +70,6 @@ AllByRecursion-none P [] e = tt
 AllByRecursion-none P (x ∷ xs) e = absurd (omega arith)
 
 module _ {B : Type 0} (cs : List (Cell Links B)) where
-  pub RingOk-cleared : (spare : Link) (n m : ℕ) → n ≡ 0 → RingOk cs spare n m → RingOk (cleared cs) spare n m
-  RingOk-cleared spare n m e ok =
-      RingOk-rebodied (λ _ _. None) cs spare n m ok (AllByRecursion-none (HasContent (cleared cs)) ok.held_pointers (ok.held_count ∙ e))
+  pub IsOwned-cleared : (spare : Link) (n m : ℕ) → n ≡ 0 → IsOwned cs spare n m → IsOwned (cleared cs) spare n m
+  IsOwned-cleared spare n m e ok =
+      IsOwned-rebodied (λ _ _. None) cs spare n m ok (AllByRecursion-none (HasContent (cleared cs)) ok.held_pointers (ok.held_count ∙ e))

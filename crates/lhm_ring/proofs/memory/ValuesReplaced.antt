@@ -6,16 +6,15 @@ use Rattle.lhm_ring.specs.declared.ring.Links.{Links}
 use Rattle.lhm_ring.specs.declared.ring.Ends.{Ends}
 use Rattle.lhm_ring.specs.declared.pointer.Link.{Link}
 use Rattle.lhm_ring.proofs.lists.Apart.{IsFresh, same_ptr-equal, same_ptr-reflexive, IsApart-none, IsFresh-head, IsApart-tail, IsApart-added}
-use Rattle.lhm_ring.proofs.rings.Contents.{at-content_of, content_of-holds, pair-content_of}
+use Rattle.lhm_ring.proofs.rings.Contents.{at-content, Holds-content, pair-content, IsAt-content}
 use Rattle.lhm_ring.proofs.rings.HeldPointers.{AllByRecursion-followed, IsApart-ring_list}
 use Rattle.lhm_ring.proofs.lists.ForAll.{AllByRecursion-map}
 use Rattle.lhm_ring.proofs.lists.Options.{none_some}
-use Rattle.lhm_ring.proofs.memory.BodiesChanged.{rebodied, pointers-rebodied, links_at-rebodied, body_at-rebodied, RingOk-rebodied}
+use Rattle.lhm_ring.proofs.memory.BodiesChanged.{rebodied, pointers-rebodied, links_at-rebodied, body_at-rebodied, IsOwned-rebodied}
 use Rattle.lhm_ring.proofs.rings.SameNodes.{follow-same}
-use Rattle.lhm_ring.proofs.rings.Writes.{content_of-links}
 use Rattle.lhm_ring.specs.Nodes.{Cell, cell, cell_at, same_ptr, IsApart, pointers, body_of, links_at, body_at}
 use Rattle.lhm_ring.specs.ValueLoan.{value_at, AreLent}
-use Rattle.lhm_ring.specs.Links.{ends_links, ring_cells, one_of, next_of, link_of, content_of, content_at, HasContent, follow, listed, ring_list, ring_pointers, RingOk}
+use Rattle.lhm_ring.specs.Links.{ends_links, ring_cells, one_of, next_of, link_of, content_of, content_at, HasContent, follow, listed, ring_list, ring_pointers, IsOwned}
 use Rattle.lhm_ring.specs.Ring.{Held, held, pair, revalued}
 
 -- whether p is one of ps
@@ -155,8 +154,8 @@ module _ {K V : Type 0} where
 
       HasContent-written : (q : Ptr) → HasContent cs q → HasContent ds q
       HasContent-written q h =
-          let l = content_of-links q (links_at cs q) (body_at cs q) h.0 h.1 in
-          let y = Full-written_body (keep q) hs q (body_at cs q) (content_of-holds q (links_at cs q) (body_at cs q) h.0 h.1) in (
+          let l = IsAt-content cs q h.1 in
+          let y = Full-written_body (keep q) hs q (body_at cs q) (Holds-content cs q h.1) in (
             held q l.0.hash (link_of (Some l.0)) y.0,
             λ i. content_of q ((links_at-rebodied body cs q ∙ l.1) i) ((body_at-rebodied body cs q l.0 l.1 ∙ y.1) i),
           )
@@ -172,8 +171,8 @@ module _ {K V : Type 0} where
           ap (λ o. one_of o ++ listed ds ps) (content_at-written p ∙ ap (λ k. content_of p (links_at cs p) (written_body k hs p (body_at cs p))) a.0)
           ∙ one_of-written hs p (links_at cs p) (body_at cs p) (listed ds ps) (listed cs ps) (listed-written ps a.1)
 
-      RingOk-written : (spare : Link) (n m : ℕ) → RingOk cs spare n m → RingOk ds spare n m
-      RingOk-written spare n m ok = RingOk-rebodied body cs spare n m ok
+      IsOwned-written : (spare : Link) (n m : ℕ) → IsOwned cs spare n m → IsOwned ds spare n m
+      IsOwned-written spare n m ok = IsOwned-rebodied body cs spare n m ok
           (AllByRecursion-map (HasContent cs) (HasContent ds) HasContent-written ok.held_pointers ok.ring.held)
 
       ring_list-written : (n : ℕ) → AllByRecursion (λ p. keep p ≡ true) (ring_pointers cs n) → ring_list ds n ≡ revalued_by hs (ring_list cs n)
@@ -212,9 +211,9 @@ module _ {K V : Type 0} where
 
       value_at-one_lent : (p : Ptr) (h : HasContent cs p) → keep p ≡ true → IsLent h.0
       value_at-one_lent p h k =
-          let x = content_of-holds p (links_at cs p) (body_at cs p) h.0 h.1 in
-          let same : h.0.pair ≡ x.0 = pair-content_of p (links_at cs p) x.0 h.0 (ap (λ o. content_of p (links_at cs p) o) (sym x.1) ∙ h.1) in
-          ap (value_at (run_of (lent keep cs))) (at-content_of p (links_at cs p) (body_at cs p) h.0 h.1)
+          let x = Holds-content cs p h.1 in
+          let same : h.0.pair ≡ x.0 = pair-content cs p h.1 x.1 in
+          ap (value_at (run_of (lent keep cs))) (at-content cs p h.1)
           ∙ value_at-lent cs p x.0 k x.1 ∙ ap (λ (u : K × V). Some u.1) (sym same)
 
       AllByRecursion-lent : (ps : List Ptr) → AllByRecursion (HasContent cs) ps → AllByRecursion (λ p. keep p ≡ true) ps
@@ -239,16 +238,16 @@ module _ {K V : Type 0} where
     abbrev keeps : Ptr → Bool
     keeps = among (ring_pointers cs n)
 
-    pub RingOk-held_written : (hs : Triples K V) → RingOk cs spare n m → RingOk (ring_cells e (held_written e nodes n hs)) spare n m
-    RingOk-held_written hs ok = subst (λ zs. RingOk zs spare n m) (written-ring_cells keeps hs e nodes) (RingOk-written keeps hs cs spare n m ok)
+    pub IsOwned-held_written : (hs : Triples K V) → IsOwned cs spare n m → IsOwned (ring_cells e (held_written e nodes n hs)) spare n m
+    IsOwned-held_written hs ok = subst (λ zs. IsOwned zs spare n m) (written-ring_cells keeps hs e nodes) (IsOwned-written keeps hs cs spare n m ok)
 
     pub ring_list-held_written : (hs : Triples K V) → ring_list (ring_cells e (held_written e nodes n hs)) n ≡ revalued_by hs (ring_list cs n)
     ring_list-held_written hs = ap (λ zs. ring_list zs n) (sym (written-ring_cells keeps hs e nodes))
         ∙ ring_list-written keeps hs cs n (AllByRecursion-among (ring_pointers cs n))
 
     -- the values of what is held are all lent at first
-    pub AreLent-held_entries : RingOk cs spare n m → AreLent (run_of (held_entries e nodes n)) (ring_list cs n)
+    pub AreLent-held_entries : IsOwned cs spare n m → AreLent (run_of (held_entries e nodes n)) (ring_list cs n)
     AreLent-held_entries ok = subst (λ r. AreLent (run_of r) (ring_list cs n)) (lent-ring_cells keeps e nodes) (record {
-      lent = AllByRecursion-lent keeps cs (follow cs n null_ptr) (AllByRecursion-followed cs spare n m ok) (AllByRecursion-among (follow cs n null_ptr));
-      apart = IsApart-ring_list cs spare n m ok;
+      lent = AllByRecursion-lent keeps cs (follow cs n null_ptr) (AllByRecursion-followed ok) (AllByRecursion-among (follow cs n null_ptr));
+      apart = IsApart-ring_list ok;
     })

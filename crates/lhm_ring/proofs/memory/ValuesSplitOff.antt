@@ -45,7 +45,7 @@ use Rattle.lhm_ring.specs.contracts.ring.Ring.TheInside as I-type
 use Rattle.lhm_ring.specs.declared.ring.Ring.TheInside as D-type
 use Rattle.lhm_ring.proofs.memory.NodeFields.{marker}
 use Rattle.lhm_ring.proofs.rings.HeldPointers.{pointers_of, pointers-ring_list}
-use Rattle.lhm_ring.proofs.memory.ValuesReplaced.{Entries, Triples, at_entries, lent_then, lent, written_body, written, taken, listing, run_of, pointers-written, taken-listing, IsApart-lent, among, revalued_by, held_entries, RingOk-held_written, ring_list-held_written, AreLent-held_entries}
+use Rattle.lhm_ring.proofs.memory.ValuesReplaced.{Entries, Triples, at_entries, lent_then, lent, written_body, written, taken, listing, run_of, pointers-written, taken-listing, IsApart-lent, among, revalued_by, held_entries, IsOwned-held_written, ring_list-held_written, AreLent-held_entries}
 use Rattle.lhm_ring.proofs.memory.ValuesInOrder.{HasOwnValue, AllByRecursion-own_values, taken-own, taken-by, AllByRecursion-kept, set_held_values-own, set_held_values-by, revalued_by-set_held_values}
 use Rattle.lhm_ring.proofs.memory.Sharing.{parts_own, Lends-less, Lends-parts, Thin, Law-thin}
 use Rattle.lhm_ring.proofs.memory.PartsTaken.{Entails, ◌∗◌, parts_cut, parts_glue}
@@ -280,7 +280,7 @@ module _ (S W : RattleType) where
         qed 𝓛 (‵ ((Vals a).own_at (taken ks (entries a)) 0 0) ∷ ‵ (Fields ∗ ftrue) ∷ raw (emp 𝓤) ∷ []) ∵ move ! (1 ∷ []) $ fsplit ! $ move ! (2 ∷ 0 ∷ []) $
         use2 𝓛 (‵ (part_at (Full S W) full_share a' b o)) (ring_glue S W (kept_by a) 𝓛 a b o ks) $ keep ! (0 ∷ []) $
         by ! (Plain-in Lr (Full S W) (view_owns (Full S W) Seen Lr.coded view good) 𝓛 full_share s a' (view_made (Full S W) Seen Lr.coded view good 𝓛 s a'
-        (view-glued ks, record { ring = RingOk-held_written a.ends a.nodes.cells a.spare a.len a.spares ks ok.ring; laid = ok.laid })) b o)
+        (view-glued ks, record { ring = IsOwned-held_written a.ends a.nodes.cells a.spare a.len a.spares ks ok.ring; laid = ok.laid })) b o)
 
     pub AreLent-entries : AreLent (run_of (entries a)) d.held
     AreLent-entries = subst (λ (s : Seen). AreLent (run_of (entries a)) s.held) seen (AreLent-held_entries a.ends a.nodes.cells a.spare a.len a.spares ok.ring)
@@ -293,7 +293,7 @@ module _ (S W : RattleType) where
 
     AllByRecursion-in_ring : AllByRecursion (λ c. among (pointers_of d.held) c.0 ≡ true) (entries a)
     AllByRecursion-in_ring = subst (λ ps. AllByRecursion (λ c. among ps c.0 ≡ true) (entries a))
-        (sym (pointers-ring_list (ring_cells a.ends a.nodes.cells) a.spare a.len a.spares ok.ring) ∙ ap (λ (s : Seen). pointers_of s.held) seen) (AllByRecursion-kept (kept_by a) a.nodes.cells)
+        (sym (pointers-ring_list ok.ring) ∙ ap (λ (s : Seen). pointers_of s.held) seen) (AllByRecursion-kept (kept_by a) a.nodes.cells)
 
     -- the values vs, in the order of the ring, at the pointers of the entries
     abbrev pub placed : List W.Denot → List W.Denot

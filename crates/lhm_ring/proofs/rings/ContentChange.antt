@@ -1,19 +1,21 @@
 -- A ring of which only what is held at one pointer changes.
-use Rattle.std.proofs.Common.{◌≡◌, ℕ, true, false, cond, List, [], ◌∷◌, ◌++◌, length, Option, Some, None, refl, sym, ap, ◌∙◌, subst, append_assoc}
+use Rattle.std.proofs.Common.{◌≡◌, ℕ, true, false, cond, List, [], ◌∷◌, ◌++◌, length, Option, Some, None, refl, sym, ap, ◌∙◌, subst}
 use denote.RawPtr.{Ptr, null_ptr}
 use Rattle.lhm_ring.specs.declared.ring.Links.{Links}
 use Rattle.lhm_ring.specs.declared.pointer.Link.{Link}
-use Rattle.lhm_ring.proofs.lists.Apart.{IsFresh, same_ptr-equal, same_ptr-reflexive, same_ptr-symmetric, IsFresh-middle, IsFresh-head, IsApart-tail}
-use Rattle.lhm_ring.proofs.rings.Contents.{at-content_of, hash-content_of, link-content_of, pair-content_of, content_of-holds}
+use Rattle.lhm_ring.proofs.lists.Apart.{IsFresh, same_ptr-equal, same_ptr-reflexive, same_ptr-symmetric, IsFresh-head, IsApart-tail}
+use Rattle.lhm_ring.proofs.rings.Contents.{at-content, hash-content, link-content, pair-content, Holds-content}
 use Rattle.lhm_ring.proofs.rings.HeldPointers.{pointers_of, same_ptr-fresh, IsApart-ring_list}
-use Rattle.lhm_ring.proofs.lists.ForAll.{AllByRecursion-map, AllByRecursion-right}
+use Rattle.lhm_ring.proofs.lists.ForAll.{AllByRecursion-map}
 use Rattle.lhm_ring.proofs.memory.OneNodeChanged.{links_at-with_body, body_at-with_body}
-use Rattle.lhm_ring.proofs.rings.RingNodes.{Found-listed}
-use Rattle.lhm_ring.proofs.rings.SameNodes.{SameLink, follow-same, RingOk-same}
-use Rattle.lhm_ring.proofs.rings.Writes.{cell_at-change_other, length-change, reader-with_links_same, links_at-with_links, body_at-with_links, next_of-chaining_to, prev_of-chaining_to, link_of-chaining_to, hash-chaining_to}
+use Rattle.lhm_ring.proofs.rings.Moves.{IsFresh-spares}
+use Rattle.lhm_ring.proofs.rings.ReadAtPosition.{content_at-held, links_at-held, pair-held}
+use Rattle.lhm_ring.proofs.rings.RingNodes.{NodeAt-held}
+use Rattle.lhm_ring.proofs.rings.SameNodes.{SameLink, follow-same, IsOwned-same}
+use Rattle.lhm_ring.proofs.rings.Writes.{cell_at-change_other, length-change, reader-with_links_same, links_at-with_links, body_at-with_links}
 use Rattle.lhm_ring.specs.Nodes.{Cell, cell, same_ptr, links_of, body_of, links_at, body_at, IsApart, with_links, with_body}
-use Rattle.lhm_ring.specs.Links.{chaining_to, next_of, prev_of, link_of, has_links, next_at, prev_at, link_at, is_there, content_of, content_at, HasContent, follow, listed, one_of, ring_list, RingOk}
-use Rattle.lhm_ring.specs.Ring.{State, state, Held, held, IsHeld, ChangesOnly, change_at, SplitAround}
+use Rattle.lhm_ring.specs.Links.{chaining_to, next_of, prev_of, link_of, has_links, next_at, prev_at, link_at, is_there, content_of, content_at, HasContent, follow, listed, one_of, ring_list, IsOwned}
+use Rattle.lhm_ring.specs.Ring.{State, state, Held, held, IsHeld, ChangesOnly, change_at, pair, revalued}
 use Rattle.lhm_ring.specs.Pointer.{target}
 
 -- the same nodes and the same order, except that p holds u in place of t
@@ -27,27 +29,21 @@ pub record ChangesAt {B : Type 0} (cs ds : List (Cell Links B)) (p : Ptr) (t u :
   pub is : content_at ds p ≡ Some u
   pub count : length ds ≡ length cs
 
-module _ {B : Type 0} (cs ds : List (Cell Links B)) (p : Ptr) (t u : Held B) (j : ChangesAt cs ds p t u) where
+module _ {B : Type 0} {cs ds : List (Cell Links B)} {p : Ptr} {t u : Held B} (j : ChangesAt cs ds p t u) where
   HasContent-changed : (q : Ptr) → HasContent cs q → HasContent ds q
   HasContent-changed q h = (elim (same_ptr p q) as (λ y. same_ptr p q ≡ y → HasContent ds q) [
     | true ↦ λ s. subst (HasContent ds) (same_ptr-equal p q s) (u, j.is)
     | false ↦ λ n. (h.0, j.content q n ∙ h.1)
   ]) refl
 
-  IsFresh-spare : (spare : Link) (n m : ℕ) (ok : RingOk cs spare n m) → SplitAround ok.held_pointers p → IsFresh p ok.spare_pointers
-  IsFresh-spare spare n m ok s =
-      let d : IsApart ((null_ptr ∷ s.before) ++ p ∷ (s.after ++ ok.spare_pointers)) = subst (λ qs. IsApart (null_ptr ∷ qs)) (ap (λ qs. qs ++ ok.spare_pointers) s.is ∙ append_assoc s.before (p ∷ s.after) ok.spare_pointers) ok.ring.apart in
-      AllByRecursion-right (λ q. same_ptr p q ≡ false) s.after ok.spare_pointers (AllByRecursion-right (λ q. same_ptr p q ≡ false) (null_ptr ∷ s.before) (s.after ++ ok.spare_pointers) (IsFresh-middle (null_ptr ∷ s.before) p (s.after ++ ok.spare_pointers) d))
-
-  pub RingOk-changed : (spare : Link) (n m : ℕ) → RingOk cs spare n m → IsHeld (ring_list cs n) p → RingOk ds spare n m
-  RingOk-changed spare n m ok h =
-      let s = (Found-listed cs spare n m ok p h.before h.node h.after h.is h.at_is).split in
-      RingOk-same cs ds j.next j.prev j.there j.count spare n m ok (AllByRecursion-map (HasContent cs) (HasContent ds) HasContent-changed ok.held_pointers ok.ring.held)
-      (AllByRecursion-map (λ q. same_ptr p q ≡ false) (SameLink cs ds) j.link ok.spare_pointers (IsFresh-spare spare n m ok s))
+  pub IsOwned-changed : {spare : Link} {n m : ℕ} {v : State B} {total : ℕ} → IsOwned cs spare n m → state (ring_list cs n) m total ≡ v → IsHeld v.held p → IsOwned ds spare n m
+  IsOwned-changed ok w h =
+      IsOwned-same cs ds j.next j.prev j.there j.count ok (AllByRecursion-map (HasContent cs) (HasContent ds) HasContent-changed ok.held_pointers ok.ring.held)
+      (AllByRecursion-map (λ q. same_ptr p q ≡ false) (SameLink cs ds) j.link ok.spare_pointers (IsFresh-spares ok.ring (NodeAt-held ok w p h)))
 
   module _ (f : Held B → Held B) (fx : f t ≡ u) where
     pointer : t.at ≡ p
-    pointer = at-content_of p (links_at cs p) (body_at cs p) t j.was
+    pointer = at-content cs p j.was
 
     change_at-one : change_at p f (t ∷ []) ≡ u ∷ []
     change_at-one = ap (λ y. cond y (f t) t ∷ []) (ap (λ q. same_ptr q p) pointer ∙ same_ptr-reflexive p) ∙ ap (λ z. z ∷ []) fx
@@ -60,7 +56,7 @@ module _ {B : Type 0} (cs ds : List (Cell Links B)) (p : Ptr) (t u : Held B) (j 
     one_of-changed q = (elim (same_ptr p q) as (λ y. same_ptr p q ≡ y → one_of (content_at ds q) ≡ change_at p f (one_of (content_at cs q))) [
       | true ↦ λ s. subst (λ r. one_of (content_at ds r) ≡ change_at p f (one_of (content_at cs r))) (same_ptr-equal p q s)
           (ap one_of j.is ∙ sym (ap (λ o. change_at p f (one_of o)) j.was ∙ change_at-one))
-      | false ↦ λ n. ap one_of (j.content q n) ∙ sym (change_at-other q (content_at cs q) n (λ z h. at-content_of q (links_at cs q) (body_at cs q) z h))
+      | false ↦ λ n. ap one_of (j.content q n) ∙ sym (change_at-other q (content_at cs q) n (λ z h. at-content cs q h))
     ]) refl
 
     change_at-append : (xs ys : List (Held B)) → change_at p f (xs ++ ys) ≡ change_at p f xs ++ change_at p f ys
@@ -72,21 +68,19 @@ module _ {B : Type 0} (cs ds : List (Cell Links B)) (p : Ptr) (t u : Held B) (j 
     listed-changed [] = refl
     listed-changed (q ∷ qs) = (λ i. one_of-changed q i ++ listed-changed qs i) ∙ sym (change_at-append (one_of (content_at cs q)) (listed cs qs))
 
-    pub ring_list-changed : (n : ℕ) → ring_list ds n ≡ change_at p f (ring_list cs n)
-    ring_list-changed n = ap (listed ds) (follow-same cs ds j.next n null_ptr) ∙ listed-changed (follow cs n null_ptr)
+    pub ring_list-changed : {spare : Link} {n m : ℕ} {v : State B} {total : ℕ} → IsOwned cs spare n m → state (ring_list cs n) m total ≡ v → ring_list ds n ≡ change_at p f v.held
+    ring_list-changed {n = n} ok w =
+        ap (listed ds) (follow-same cs ds j.next n null_ptr) ∙ listed-changed (follow cs n null_ptr) ∙ ap (λ (z : State B). change_at p f z.held) w
 
 -- the body of a node is written, or its chain link
-module _ {B : Type 0} (cs : List (Cell Links B)) (p : Ptr) (l : Links) (e : links_at cs p ≡ Some l) (t : Held B) (c : content_at cs p ≡ Some t) where
+module _ {B : Type 0} (cs : List (Cell Links B)) (p : Ptr) {l : Links} (e : links_at cs p ≡ Some l) {t : Held B} (c : content_at cs p ≡ Some t) where
   content_of-some : (o : Option Links) (b : Option B) (k : Links) (x : B) → o ≡ Some k → b ≡ Some x → content_of p o b ≡ Some (held p k.hash (link_of (Some k)) x)
   content_of-some o b k x eo eb = λ i. content_of p (eo i) (eb i)
-
-  content_of-here : content_of p (Some l) (body_at cs p) ≡ Some t
-  content_of-here = ap (λ o. content_of p o (body_at cs p)) (sym e) ∙ c
 
   pub ChangesAt-with_body : (x : B) → ChangesAt cs (with_body p (Some x) cs) p t (held t.at t.hash t.link x)
   ChangesAt-with_body x =
       let same : (q : Ptr) → links_at (with_body p (Some x) cs) q ≡ links_at cs q = links_at-with_body p (Some x) cs l e in
-      let pointer : t.at ≡ p = at-content_of p (links_at cs p) (body_at cs p) t c in
+      let pointer : t.at ≡ p = at-content cs p c in
       record {
         next = λ q. ap next_of (same q);
         prev = λ q. ap prev_of (same q);
@@ -95,24 +89,24 @@ module _ {B : Type 0} (cs : List (Cell Links B)) (p : Ptr) (l : Links) (e : link
         content = λ q n. ap (λ z. content_of q (links_of z) (body_of z)) (cell_at-change_other p (λ c. cell c.at c.links (Some x)) (λ c. refl) q n cs);
         was = c;
         is = content_of-some (links_at (with_body p (Some x) cs) p) (body_at (with_body p (Some x) cs) p) l x (same p ∙ e) (body_at-with_body p (Some x) cs l e)
-            ∙ ap (λ z. Some z) (λ i. held (sym pointer i) (sym (hash-content_of p l (body_at cs p) t content_of-here) i) (sym (link-content_of p l (body_at cs p) t content_of-here) i) x);
+            ∙ ap (λ z. Some z) (λ i. held (sym pointer i) (sym (hash-content cs p c e) i) (sym (link-content cs p c e) i) x);
         count = length-change p (λ c. cell c.at c.links (Some x)) cs;
       }
 
   pub ChangesAt-with_links : (o : Link) → ChangesAt cs (with_links p (chaining_to o l) cs) p t (held t.at t.hash (target o) t.pair)
   ChangesAt-with_links o =
-      let k : Links = chaining_to o l in let e₂ : links_at (with_links p k cs) p ≡ Some k = links_at-with_links p k cs l e p ∙ ap (λ y. cond y (Some k) (links_at cs p)) (same_ptr-reflexive p) in
-      let pointer : t.at ≡ p = at-content_of p (links_at cs p) (body_at cs p) t c in let x = content_of-holds p (links_at cs p) (body_at cs p) t c in
-      let pair : t.pair ≡ x.0 = pair-content_of p (links_at cs p) x.0 t (ap (λ b. content_of p (links_at cs p) b) (sym x.1) ∙ c) in
+      let k : Links = chaining_to o l in let e₂ : links_at (with_links p k cs) p ≡ Some k = links_at-with_links p k cs e p ∙ ap (λ y. cond y (Some k) (links_at cs p)) (same_ptr-reflexive p) in
+      let pointer : t.at ≡ p = at-content cs p c in let x = Holds-content cs p c in
+      let pair : t.pair ≡ x.0 = pair-content cs p c x.1 in
       record {
-        next = reader-with_links_same p k next_of cs l e (next_of-chaining_to o l);
-        prev = reader-with_links_same p k prev_of cs l e (prev_of-chaining_to o l);
-        there = reader-with_links_same p k has_links cs l e refl;
+        next = reader-with_links_same p k cs e next_of refl;
+        prev = reader-with_links_same p k cs e prev_of refl;
+        there = reader-with_links_same p k cs e has_links refl;
         link = λ q n. ap (λ z. link_of (links_of z)) (cell_at-change_other p (λ c. cell c.at k c.body) (λ c. refl) q n cs);
         content = λ q n. ap (λ z. content_of q (links_of z) (body_of z)) (cell_at-change_other p (λ c. cell c.at k c.body) (λ c. refl) q n cs);
         was = c;
-        is = content_of-some (links_at (with_links p k cs) p) (body_at (with_links p k cs) p) k x.0 e₂ (body_at-with_links p k cs l e p ∙ x.1)
-            ∙ ap (λ z. Some z) (λ i. held (sym pointer i) ((hash-chaining_to o l ∙ sym (hash-content_of p l (body_at cs p) t content_of-here)) i) (link_of-chaining_to o l i) (sym pair i));
+        is = content_of-some (links_at (with_links p k cs) p) (body_at (with_links p k cs) p) k x.0 e₂ (body_at-with_links p k cs e p ∙ x.1)
+            ∙ ap (λ z. Some z) (λ i. held (sym pointer i) (sym (hash-content cs p c e) i) (target o) (sym pair i));
         count = length-change p (λ c. cell c.at k c.body) cs;
       }
 
@@ -130,6 +124,23 @@ module _ {B : Type 0} where
       let far = IsFresh-head x.at (pointers_of (xs ++ t ∷ ys)) d in
       λ i. cond ((ap (same_ptr x.at) (sym at) ∙ same_ptr-fresh x.at xs t ys far) i) (f x) x ∷ change_at-split p f xs t ys at (IsApart-tail x.at (pointers_of (xs ++ t ∷ ys)) d) i
 
-  pub ChangesOnly-held : (cs : List (Cell Links B)) (spare : Link) (n m : ℕ) (v : State B) {total : ℕ} → RingOk cs spare n m → state (ring_list cs n) m total ≡ v → (p : Ptr) → ChangesOnly v.held p
-  ChangesOnly-held cs spare n m v ok w p xs t ys e at f =
-      ap (change_at p f) e ∙ change_at-split p f xs t ys at (subst (λ hs. IsApart (pointers_of hs)) (ap (λ (z : State B). z.held) w ∙ e) (IsApart-ring_list cs spare n m ok))
+  pub ChangesOnly-held : {cs : List (Cell Links B)} {spare : Link} {n m : ℕ} {v : State B} {total : ℕ} → IsOwned cs spare n m
+      → state (ring_list cs n) m total ≡ v → (p : Ptr) → ChangesOnly v.held p
+  ChangesOnly-held ok w p xs t ys e at f =
+      ap (change_at p f) e
+      ∙ change_at-split p f xs t ys at (subst (λ hs. IsApart (pointers_of hs)) (ap (λ (z : State B). z.held) w ∙ e) (IsApart-ring_list ok))
+
+-- a ring in which a value is written at a held pointer
+module _ {K V : Type 0} {cs : List (Cell Links (K × V))} {spare : Link} {n m : ℕ} {v : State (K × V)} {total : ℕ} (ok : IsOwned cs spare n m) (w : state (ring_list cs n) m total ≡ v)
+    {p : Ptr} (h : IsHeld v.held p) {x : K × V} (e : body_at cs p ≡ Some x) (new : V) {ds : List (Cell Links (K × V))} (is : ds ≡ with_body p (Some (pair x.0 new)) cs) where
+  changes : ChangesAt cs ds p h.node (held h.node.at h.node.hash h.node.link (pair x.0 new))
+  changes = subst (λ zs. ChangesAt cs zs p h.node (held h.node.at h.node.hash h.node.link (pair x.0 new))) (sym is)
+      (ChangesAt-with_body cs p (links_at-held ok w h).1 (content_at-held ok w h) (pair x.0 new))
+
+  pub IsOwned-revalued : IsOwned ds spare n m
+  IsOwned-revalued = IsOwned-changed changes ok w h
+
+  pub ring_list-revalued : ring_list ds n ≡ change_at p (revalued new) v.held
+  ring_list-revalued =
+      ring_list-changed changes (revalued new)
+      (ap (λ (z : K × V). record h.node { pair = pair z.0 new }) (sym (pair-held ok w p e h.before h.node h.after h.is h.at_is))) ok w

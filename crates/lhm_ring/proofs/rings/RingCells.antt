@@ -9,10 +9,10 @@ use Rattle.lhm_ring.proofs.lists.Apart.{IsApart-none, IsApart-added}
 use Rattle.lhm_ring.proofs.lists.ForAll.{AllByRecursion-map}
 use Rattle.lhm_ring.proofs.rings.Lookup.{AllByRecursion-at}
 use Rattle.lhm_ring.proofs.lists.Options.{none_some, Some-injective}
-use Rattle.lhm_ring.proofs.rings.SameNodes.{Chained-same, SameLink}
+use Rattle.lhm_ring.proofs.rings.SameNodes.{IsSpareList-same, SameLink}
 use Rattle.lhm_ring.proofs.rings.Writes.{IsAt-there}
 use Rattle.lhm_ring.specs.Nodes.{Cell, cell, same_ptr, pointers, cell_at, links_of, body_of, links_at, body_at, change, with_links, with_body, is_block, AreBlocks, IsAt, Holds}
-use Rattle.lhm_ring.specs.Links.{ends_links, ring_cells, leading_on, leading_back, LeadsOn, LeadsBack, chaining_to, ChainsTo, has_links, next_of, prev_of, next_at, prev_at, is_there, content_at, content_of, Linked, Chained, HasContent, listed, one_of, IsJoined, IsRing, RingOk, link_of}
+use Rattle.lhm_ring.specs.Links.{ends_links, ring_cells, chaining_to, ChainsTo, has_links, next_of, prev_of, next_at, prev_at, content_at, content_of, AreLinked, IsSpareList, HasContent, listed, one_of, IsJoined, IsRing, IsOwned, link_of, IsThere}
 use Rattle.lhm_ring.specs.Pointer.{led_to, target}
 
 -- where a link leads
@@ -43,8 +43,12 @@ module _ {B : Type 0} (e : Ends) (cs : List (Cell Links B)) where
   unfolding cell_at
   links_at-null = refl
 
-  pub is_there-null : is_there (ring_cells e cs) null_ptr ≡ true
+  pub is_there-null : IsThere (ring_cells e cs) null_ptr
   is_there-null = ap has_links links_at-null
+
+  -- a link to nowhere leads to the ends
+  pub is_there-nowhere : (q : Ptr) → led_to q ≡ None → IsThere (ring_cells e cs) q
+  is_there-nowhere q h = subst (IsThere (ring_cells e cs)) (sym (led_to-none q h)) is_there-null
 
   pub next_at-null : next_at (ring_cells e cs) null_ptr ≡ e.first.ptr
   unfolding cell_at
@@ -59,19 +63,13 @@ module _ {B : Type 0} (e : Ends) (cs : List (Cell Links B)) where
   same_ptr-content (block_ptr b o) h = refl
   same_ptr-content null_ptr h = absurd (none_some h.0 h.1)
 
-  ring_cells-leading_on : (o : Link) (l : Links) → links_at (ring_cells e cs) null_ptr ≡ Some l → ring_cells (record e { first = o }) cs ≡ with_links null_ptr (leading_on o l) (ring_cells e cs)
+  -- the ends are written
+  pub with_links-end : (f : Links → Links) {d : Ends} → ends_links d ≡ f (ends_links e) → {p : Ptr} → p ≡ null_ptr
+      → (l : Links) → links_at (ring_cells e cs) p ≡ Some l → ring_cells d cs ≡ with_links p (f l) (ring_cells e cs)
   unfolding cell_at change
-  ring_cells-leading_on o l h = ap (λ (k : Links). cell null_ptr (leading_on o k) None ∷ cs) (Some-injective (ends_links e) l h)
-
-  pub LeadsOn-end : (o : Link) (p : Ptr) → p ≡ null_ptr → LeadsOn (ring_cells e cs) p o (ring_cells (record e { first = o }) cs)
-  LeadsOn-end o p is = subst (λ q. LeadsOn (ring_cells e cs) q o (ring_cells (record e { first = o }) cs)) (sym is) (ring_cells-leading_on o)
-
-  ring_cells-leading_back : (o : Link) (l : Links) → links_at (ring_cells e cs) null_ptr ≡ Some l → ring_cells (record e { last = o }) cs ≡ with_links null_ptr (leading_back o l) (ring_cells e cs)
-  unfolding cell_at change
-  ring_cells-leading_back o l h = ap (λ (k : Links). cell null_ptr (leading_back o k) None ∷ cs) (Some-injective (ends_links e) l h)
-
-  pub LeadsBack-end : (o : Link) (p : Ptr) → p ≡ null_ptr → LeadsBack (ring_cells e cs) p o (ring_cells (record e { last = o }) cs)
-  LeadsBack-end o p is = subst (λ q. LeadsBack (ring_cells e cs) q o (ring_cells (record e { last = o }) cs)) (sym is) (ring_cells-leading_back o)
+  with_links-end f {d} same is l =
+      subst (λ q. links_at (ring_cells e cs) q ≡ Some l → ring_cells d cs ≡ with_links q (f l) (ring_cells e cs)) (sym is)
+      (λ h. ap (λ k. cell null_ptr k None ∷ cs) (same ∙ ap f (Some-injective (ends_links e) l h)))
 
 -- the others
 module _ {B : Type 0} (e : Ends) (cs : List (Cell Links B)) (p : Ptr) (b : is_block p ≡ true) where
@@ -104,15 +102,14 @@ module _ {B : Type 0} (e : Ends) (cs : List (Cell Links B)) (p : Ptr) (b : is_bl
   pub ChainsTo-ring_cells : (o : Link) (ds : List (Cell Links B)) → ChainsTo cs p o ds → ChainsTo (ring_cells e cs) p o (ring_cells e ds)
   ChainsTo-ring_cells o ds k l h = ring_cells-with_links (chaining_to o l) ds (k l (sym links_at-ring_cells ∙ h))
 
-  pub LeadsOn-node : (o : Link) (ds : List (Cell Links B)) (l : Links) → links_at cs p ≡ Some l → ds ≡ with_links p (leading_on o l) cs → LeadsOn (ring_cells e cs) p o (ring_cells e ds)
-  LeadsOn-node o ds l h is k g = ring_cells-with_links (leading_on o l) ds is ∙ ap (λ (z : Links). with_links p (leading_on o z) (ring_cells e cs)) (Some-injective l k (sym h ∙ sym links_at-ring_cells ∙ g))
-
-  pub LeadsBack-node : (o : Link) (ds : List (Cell Links B)) (l : Links) → links_at cs p ≡ Some l → ds ≡ with_links p (leading_back o l) cs → LeadsBack (ring_cells e cs) p o (ring_cells e ds)
-  LeadsBack-node o ds l h is k g = ring_cells-with_links (leading_back o l) ds is ∙ ap (λ (z : Links). with_links p (leading_back o z) (ring_cells e cs)) (Some-injective l k (sym h ∙ sym links_at-ring_cells ∙ g))
+  pub with_links-node : (f : Links → Links) {ds : List (Cell Links B)} {l : Links} → links_at cs p ≡ Some l → ds ≡ with_links p (f l) cs
+      → (k : Links) → links_at (ring_cells e cs) p ≡ Some k → ring_cells e ds ≡ with_links p (f k) (ring_cells e cs)
+  with_links-node f {ds} {l} h is k g =
+      ring_cells-with_links (f l) ds is ∙ ap (λ (z : Links). with_links p (f z) (ring_cells e cs)) (Some-injective l k (sym h ∙ sym links_at-ring_cells ∙ g))
 
 -- a node that is there, and is not the one at null, lies in a block
 module _ {B : Type 0} (e : Ends) (cs : List (Cell Links B)) (all : AreBlocks (pointers cs)) where
-  pub is_block-there : (p : Ptr) → same_ptr null_ptr p ≡ false → is_there (ring_cells e cs) p ≡ true → is_block p ≡ true
+  pub is_block-there : (p : Ptr) → same_ptr null_ptr p ≡ false → IsThere (ring_cells e cs) p → is_block p ≡ true
   unfolding cell_at
   is_block-there (block_ptr c o) f h = let l = IsAt-there cs (block_ptr c o) h in AllByRecursion-at (λ q. is_block q ≡ true) cs (block_ptr c o) l.0 all l.1
   is_block-there null_ptr f h = cc
@@ -130,31 +127,30 @@ module _ {B : Type 0} (e : Ends) (cs : List (Cell Links B)) where
   content_at-in_nodes p h = ap (λ z. content_of p (links_of z) (body_of z)) (cell_at-apart p h)
 
   pub AllByRecursion-apart : (ps : List Ptr) → AllByRecursion (HasContent (ring_cells e cs)) ps → AllByRecursion Apart ps
-  AllByRecursion-apart [] h = tt
-  AllByRecursion-apart (p ∷ ps) h = (same_ptr-content e cs p h.0, AllByRecursion-apart ps h.1)
+  AllByRecursion-apart = AllByRecursion-map (HasContent (ring_cells e cs)) Apart (same_ptr-content e cs)
 
   pub AllByRecursion-content_in_nodes : (ps : List Ptr) → AllByRecursion (HasContent (ring_cells e cs)) ps → AllByRecursion (HasContent cs) ps
-  AllByRecursion-content_in_nodes [] h = tt
-  AllByRecursion-content_in_nodes (p ∷ ps) h = ((h.0.0, sym (content_at-in_nodes p (same_ptr-content e cs p h.0)) ∙ h.0.1), AllByRecursion-content_in_nodes ps h.1)
+  AllByRecursion-content_in_nodes =
+      AllByRecursion-map (HasContent (ring_cells e cs)) (HasContent cs) (λ p h. (h.0, sym (content_at-in_nodes p (same_ptr-content e cs p h)) ∙ h.1))
 
   pub listed-in_nodes : (ps : List Ptr) → AllByRecursion Apart ps → listed (ring_cells e cs) ps ≡ listed cs ps
   unfolding listed
   listed-in_nodes [] h = refl
   listed-in_nodes (p ∷ ps) h = λ i. one_of (content_at-in_nodes p h.0 i) ++ listed-in_nodes ps h.1 i
 
-  pub Linked-in_nodes : (ps : List Ptr) → AllByRecursion Apart ps → Linked (ring_cells e cs) ps → Linked cs ps
-  Linked-in_nodes [] h l = tt
-  Linked-in_nodes (p ∷ []) h l = tt
-  Linked-in_nodes (p ∷ q ∷ ps) h l =
-      ((sym (ap (λ z. next_of (links_of z)) (cell_at-apart p h.0)) ∙ l.0.0, sym (ap (λ z. prev_of (links_of z)) (cell_at-apart q h.1.0)) ∙ l.0.1), Linked-in_nodes (q ∷ ps) h.1 l.1)
+  pub AreLinked-in_nodes : (ps : List Ptr) → AllByRecursion Apart ps → AreLinked (ring_cells e cs) ps → AreLinked cs ps
+  AreLinked-in_nodes [] h l = tt
+  AreLinked-in_nodes (p ∷ []) h l = tt
+  AreLinked-in_nodes (p ∷ q ∷ ps) h l =
+      ((sym (ap (λ z. next_of (links_of z)) (cell_at-apart p h.0)) ∙ l.0.0, sym (ap (λ z. prev_of (links_of z)) (cell_at-apart q h.1.0)) ∙ l.0.1), AreLinked-in_nodes (q ∷ ps) h.1 l.1)
 
-  pub Chained-in_nodes : (h : Option Ptr) (ss : List Ptr) → AllByRecursion Apart ss → Chained (ring_cells e cs) h ss → Chained cs h ss
-  Chained-in_nodes h ss f = Chained-same (ring_cells e cs) cs h ss (AllByRecursion-map Apart (SameLink (ring_cells e cs) cs) (λ p n. sym (ap (λ z. link_of (links_of z)) (cell_at-apart p n))) ss f)
+  pub IsSpareList-in_nodes : (h : Option Ptr) (ss : List Ptr) → AllByRecursion Apart ss → IsSpareList (ring_cells e cs) h ss → IsSpareList cs h ss
+  IsSpareList-in_nodes h ss f = IsSpareList-same (ring_cells e cs) cs h ss (AllByRecursion-map Apart (SameLink (ring_cells e cs) cs) (λ p n. sym (ap (λ z. link_of (links_of z)) (cell_at-apart p n))) ss f)
 
-  pub Chained-in_ring : (h : Option Ptr) (ss : List Ptr) → AllByRecursion Apart ss → Chained cs h ss → Chained (ring_cells e cs) h ss
-  Chained-in_ring h ss f = Chained-same cs (ring_cells e cs) h ss (AllByRecursion-map Apart (SameLink cs (ring_cells e cs)) (λ p n. ap (λ z. link_of (links_of z)) (cell_at-apart p n)) ss f)
+  pub IsSpareList-in_ring : (h : Option Ptr) (ss : List Ptr) → AllByRecursion Apart ss → IsSpareList cs h ss → IsSpareList (ring_cells e cs) h ss
+  IsSpareList-in_ring h ss f = IsSpareList-same cs (ring_cells e cs) h ss (AllByRecursion-map Apart (SameLink cs (ring_cells e cs)) (λ p n. ap (λ z. link_of (links_of z)) (cell_at-apart p n)) ss f)
 
-  pub AllByRecursion-there_in_nodes : (ps : List Ptr) → AllByRecursion Apart ps → AllByRecursion (λ p. is_there (ring_cells e cs) p ≡ true) ps → AllByRecursion (λ p. is_there cs p ≡ true) ps
+  pub AllByRecursion-there_in_nodes : (ps : List Ptr) → AllByRecursion Apart ps → AllByRecursion (IsThere (ring_cells e cs)) ps → AllByRecursion (IsThere cs) ps
   AllByRecursion-there_in_nodes [] f h = tt
   AllByRecursion-there_in_nodes (p ∷ ps) f h = (sym (ap (λ z. has_links (links_of z)) (cell_at-apart p f.0)) ∙ h.0, AllByRecursion-there_in_nodes ps f.1 h.1)
 
@@ -170,6 +166,6 @@ module _ {B : Type 0} (e : Ends) (cs : List (Cell Links B)) (spare : Link) (none
     count = refl;
   }
 
-  pub RingOk-bare : RingOk (ring_cells e cs) spare 0 0
-  RingOk-bare = subst (λ zs. RingOk (ring_cells e zs) spare 0 0) (sym none)
+  pub IsOwned-bare : IsOwned (ring_cells e cs) spare 0 0
+  IsOwned-bare = subst (λ zs. IsOwned (ring_cells e zs) spare 0 0) (sym none)
       (record { held_pointers = []; spare_pointers = []; ring = IsRing-bare; held_count = refl; enough_spares = omega arith; bounded = omega arith })

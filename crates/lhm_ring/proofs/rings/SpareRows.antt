@@ -2,19 +2,18 @@
 use Rattle.std.proofs.Common.{◌≡◌, ℕ, suc, ◌+◌, ◌-◌, ◌<◌, true, false, cond, List, [], ◌∷◌, ◌++◌, length, Option, Some, None, refl, sym, ap, ◌∙◌, subst, arith}
 use Rattle.std.specs.List.{AllByRecursion}
 use denote.RawPtr.{Ptr, null_ptr}
-use Rattle.lhm_ring.specs.declared.pointer.NodePointer.{NodePointer}
 use Rattle.lhm_ring.specs.declared.ring.Links.{Links}
 use Rattle.lhm_ring.specs.declared.ring.Ends.{Ends}
 use Rattle.lhm_ring.specs.declared.pointer.Link.{Link}
-use Rattle.lhm_ring.proofs.lists.Apart.{IsFresh, same_ptr-reflexive, IsFresh-head, IsApart-tail, IsFresh-middle, IsApart-removed, IsApart-inserted}
+use Rattle.lhm_ring.proofs.lists.Apart.{same_ptr-reflexive, IsFresh-head, IsApart-tail, IsFresh-middle, IsApart-removed, IsApart-inserted}
 use Rattle.lhm_ring.proofs.lists.ForAll.{AllByRecursion-right, AllByRecursion-map}
-use Rattle.lhm_ring.proofs.memory.OneNodeChanged.{Chained-other}
+use Rattle.lhm_ring.proofs.memory.OneNodeChanged.{IsSpareList-other}
 use Rattle.lhm_ring.proofs.lists.Options.{none_some}
-use Rattle.lhm_ring.proofs.rings.SameNodes.{Linked-same}
-use Rattle.lhm_ring.proofs.rings.Spans.{Linked-tail}
-use Rattle.lhm_ring.proofs.rings.Writes.{cell_at-change_other, length-change, reader-with_links_same, links_at-with_links, body_at-with_links, next_of-chaining_to, prev_of-chaining_to, link_of-chaining_to, hash-chaining_to}
+use Rattle.lhm_ring.proofs.rings.SameNodes.{AreLinked-same}
+use Rattle.lhm_ring.proofs.rings.Spans.{AreLinked-tail}
+use Rattle.lhm_ring.proofs.rings.Writes.{cell_at-change_other, length-change, reader-with_links_same, links_at-with_links, body_at-with_links}
 use Rattle.lhm_ring.specs.Nodes.{Cell, cell, cell_at, same_ptr, links_of, body_of, links_at, body_at, IsApart, with_links}
-use Rattle.lhm_ring.specs.Links.{ends_links, ring_cells, chaining_to, next_of, prev_of, link_of, has_links, next_at, link_at, is_there, content_of, Linked, Chained, one_of}
+use Rattle.lhm_ring.specs.Links.{ends_links, ring_cells, chaining_to, next_of, prev_of, link_of, has_links, next_at, link_at, content_of, AreLinked, IsSpareList, one_of, IsThere}
 use Rattle.lhm_ring.specs.Ring.{Held, triples}
 use Rattle.lhm_ring.specs.Drain.{onto, StartsAt, triple_of, SameButLinks, IsRow, HasRow, SparesRow}
 use Rattle.lhm_ring.specs.Pointer.{target}
@@ -36,18 +35,18 @@ IsApart-onto g (p ∷ ps) ss d = IsApart-onto g ps (p ∷ ss) (IsApart-inserted 
 module _ {B : Type 0} where
   triple_of-chaining_to : (q : Ptr) (o : Link) (l : Links) (b : Option B) → triple_of (content_of q (Some (chaining_to o l)) b) ≡ triple_of (content_of q (Some l) b)
   triple_of-chaining_to q o l None = refl
-  triple_of-chaining_to q o l (Some x) = ap (λ h. Some (h, x)) (hash-chaining_to o l)
+  triple_of-chaining_to q o l (Some x) = refl
 
   -- what the write of a chain link keeps
   SameButLinks-chaining_to : (cs : List (Cell Links B)) (p : Ptr) (o : Link) (la : Links) → links_at cs p ≡ Some la → SameButLinks cs (with_links p (chaining_to o la) cs)
   SameButLinks-chaining_to cs p o la e =
       let l = chaining_to o la in
       record {
-        next = reader-with_links_same p l next_of cs la e (next_of-chaining_to o la);
-        prev = reader-with_links_same p l prev_of cs la e (prev_of-chaining_to o la);
-        there = reader-with_links_same p l has_links cs la e refl;
-        triple = λ q. ap (λ b. triple_of (content_of q (links_at (with_links p l cs) q) b)) (body_at-with_links p l cs la e q)
-            ∙ reader-with_links_same p l (λ z. triple_of (content_of q z (body_at cs q))) cs la e (triple_of-chaining_to q o la (body_at cs q)) q;
+        next = reader-with_links_same p l cs e next_of refl;
+        prev = reader-with_links_same p l cs e prev_of refl;
+        there = reader-with_links_same p l cs e has_links refl;
+        triple = λ q. ap (λ b. triple_of (content_of q (links_at (with_links p l cs) q) b)) (body_at-with_links p l cs e q)
+            ∙ reader-with_links_same p l cs e (λ z. triple_of (content_of q z (body_at cs q))) (triple_of-chaining_to q o la (body_at cs q)) q;
         count = length-change p (λ c. cell c.at l c.body) cs;
       }
 
@@ -60,68 +59,61 @@ module _ {B : Type 0} where
     count = b.count ∙ a.count;
   }
 
-  pub StartsAt-next : (cs : List (Cell Links B)) (x : Ptr) (xs : List Ptr) → Linked cs (x ∷ xs) → StartsAt xs (next_at cs x)
+  pub StartsAt-next : (cs : List (Cell Links B)) (x : Ptr) (xs : List Ptr) → AreLinked cs (x ∷ xs) → StartsAt xs (next_at cs x)
   StartsAt-next cs x [] k = tt
   StartsAt-next cs x (y ∷ ys) k = sym k.0.0
 
+  -- a row of some nodes starts with its first
+  starts_with : {cs : List (Cell Links B)} {f : Ptr} {n : ℕ} {spare : Option Ptr} (ps : List Ptr) {ss : List Ptr} → 0 < n → IsRow cs f n spare ps ss
+      → (rs : List Ptr) × (ps ≡ f ∷ rs)
+  starts_with [] h r = let long = r.long in absurd (omega arith)
+  starts_with (p ∷ ps) h r = (ps, ap (λ q. q ∷ ps) r.starts)
+
+  pub is_there-row : {cs : List (Cell Links B)} {f : Ptr} {n : ℕ} {spare : Option Ptr} → 0 < n → HasRow cs f n spare → IsThere cs f
+  is_there-row {cs} h r = (subst (AllByRecursion (IsThere cs)) (starts_with r.pointers h r.row).1 r.row.there).0
+
   -- the first node of a row becomes the first spare one
-  module _ (cs : List (Cell Links B)) (at : NodePointer) (n : ℕ) (spare : Link) (la : Links) (ea : links_at cs at.ptr ≡ Some la) (next : Ptr) (is : next ≡ la.next.ptr) where
+  module _ (cs : List (Cell Links B)) (p : Ptr) (spare : Link) {la : Links} (ea : links_at cs p ≡ Some la) {next : Ptr} (is : next ≡ la.next.ptr) {n : ℕ} (some : 0 < n) where
     abbrev after : List (Cell Links B)
-    after = with_links at.ptr (chaining_to spare la) cs
+    after = with_links p (chaining_to spare la) cs
 
-    link_at-now : link_at after at.ptr ≡ target spare
-    link_at-now = ap link_of (links_at-with_links at.ptr (chaining_to spare la) cs la ea at.ptr ∙ ap (λ y. cond y (Some (chaining_to spare la)) (links_at cs at.ptr)) (same_ptr-reflexive at.ptr)) ∙ link_of-chaining_to spare la
+    link_at-now : link_at after p ≡ target spare
+    link_at-now = ap link_of (links_at-with_links p (chaining_to spare la) cs ea p ∙ ap (λ y. cond y (Some (chaining_to spare la)) (links_at cs p)) (same_ptr-reflexive p))
 
-    IsRow-shorter : (p : Ptr) (rs ss : List Ptr) → p ≡ at.ptr → IsRow cs at.ptr n (target spare) (p ∷ rs) ss → IsRow after next (n - 1) (Some at.ptr) rs (at.ptr ∷ ss)
-    IsRow-shorter p rs ss here r =
-        let same = SameButLinks-chaining_to cs at.ptr spare la ea in let long = r.long in
-        let free = subst (λ q. IsFresh q (rs ++ ss)) here (IsFresh-head p (rs ++ ss) r.apart) in
-        let linked : Linked cs (at.ptr ∷ rs) = subst (λ q. Linked cs (q ∷ rs)) here r.linked in
+    IsRow-shorter : (rs ss : List Ptr) → IsRow cs p n (target spare) (p ∷ rs) ss → IsRow after next (n - 1) (Some p) rs (p ∷ ss)
+    IsRow-shorter rs ss r =
+        let same = SameButLinks-chaining_to cs p spare la ea in let long = r.long in let free = IsFresh-head p (rs ++ ss) r.apart in
+        let chained = IsSpareList-other cs after p (λ q n. cell_at-change_other p (λ c. cell c.at (chaining_to spare la) c.body) (λ c. refl) q n cs) (target spare) ss
+        (AllByRecursion-right (λ q. same_ptr p q ≡ false) rs ss free) r.chained in
         record {
           long = omega arith;
-          linked = Linked-same cs after same.next same.prev rs (Linked-tail cs at.ptr rs linked);
-          starts = subst (StartsAt rs) (ap next_of ea ∙ sym is) (StartsAt-next cs at.ptr rs linked);
-          there = AllByRecursion-map (λ q. is_there cs q ≡ true) (λ q. is_there after q ≡ true) (λ q h. same.there q ∙ h) rs r.there.1;
-          apart = IsApart-inserted rs at.ptr ss free (IsApart-tail p (rs ++ ss) r.apart);
-          chained = (
-            refl,
-            subst (λ h. Chained after h ss) (sym link_at-now)
-                (Chained-other cs after at.ptr (λ q n. cell_at-change_other at.ptr (λ c. cell c.at (chaining_to spare la) c.body) (λ c. refl) q n cs) (target spare) ss (AllByRecursion-right (λ q. same_ptr at.ptr q ≡ false) rs ss free) r.chained),
-          );
+          linked = AreLinked-same cs after same.next same.prev rs (AreLinked-tail cs p rs r.linked);
+          starts = subst (StartsAt rs) (ap next_of ea ∙ sym is) (StartsAt-next cs p rs r.linked);
+          there = AllByRecursion-map (IsThere cs) (IsThere after) (λ q h. same.there q ∙ h) rs r.there.1;
+          apart = IsApart-inserted rs p ss free (IsApart-tail p (rs ++ ss) r.apart);
+          chained = (refl, subst (λ h. IsSpareList after h ss) (sym link_at-now) chained);
         }
 
-    HasRow-left : (ps ss : List Ptr) → 0 < n → IsRow cs at.ptr n (target spare) ps ss → HasRow after next (n - 1) (Some at.ptr)
-    HasRow-left [] ss h r = let long = r.long in absurd (omega arith)
-    HasRow-left (p ∷ rs) ss h r = record { pointers = rs; spare_pointers = at.ptr ∷ ss; row = IsRow-shorter p rs ss r.starts r }
+    -- cut there
+    shorter : (ps ss : List Ptr) (r : IsRow cs p n (target spare) ps ss) → IsRow after next (n - 1) (Some p) (starts_with ps some r).0 (p ∷ ss)
+    shorter ps ss r = let c = starts_with ps some r in IsRow-shorter c.0 ss (subst (λ qs. IsRow cs p n (target spare) qs ss) c.1 r)
 
-    pub HasRow-next : 0 < n → HasRow cs at.ptr n (target spare) → HasRow after next (n - 1) (Some at.ptr)
-    HasRow-next h r = HasRow-left r.pointers r.spare_pointers h r.row
+    pub HasRow-next : HasRow cs p n (target spare) → HasRow after next (n - 1) (Some p)
+    HasRow-next r = record {
+      pointers = (starts_with r.pointers some r.row).0;
+      spare_pointers = p ∷ r.spare_pointers;
+      row = shorter r.pointers r.spare_pointers r.row;
+    }
 
-    then_all : (ds : List (Cell Links B)) (s : Option Ptr) → 0 < n → SparesRow after next (n - 1) (Some at.ptr) ds s → (ps ss : List Ptr) → IsRow cs at.ptr n (target spare) ps ss → SameButLinks cs ds × Chained ds s (onto ps ss)
-    then_all ds s h k [] ss r = let long = r.long in absurd (omega arith)
-    then_all ds s h k (p ∷ rs) ss r =
-        let on = k rs (at.ptr ∷ ss) (IsRow-shorter p rs ss r.starts r) in
-        (SameButLinks-both cs after ds (SameButLinks-chaining_to cs at.ptr spare la ea) on.0, subst (λ q. Chained ds s (onto rs (q ∷ ss))) (sym r.starts) on.1)
+    pub SparesRow-step : (ds : List (Cell Links B)) (s : Option Ptr) → SparesRow after next (n - 1) (Some p) ds s → SparesRow cs p n (target spare) ds s
+    SparesRow-step ds s k ps ss r =
+        let c = starts_with ps some r in let on = k c.0 (p ∷ ss) (shorter ps ss r) in
+        (SameButLinks-both cs after ds (SameButLinks-chaining_to cs p spare la ea) on.0, subst (λ qs. IsSpareList ds s (onto qs ss)) (sym c.1) on.1)
 
-    pub SparesRow-step : (ds : List (Cell Links B)) (s : Option Ptr) → 0 < n → SparesRow after next (n - 1) (Some at.ptr) ds s → SparesRow cs at.ptr n (target spare) ds s
-    SparesRow-step ds s h k ps ss r = then_all ds s h k ps ss r
-
-  is_there-first : (cs : List (Cell Links B)) (at : NodePointer) (n : ℕ) (spare : Option Ptr) (ps ss : List Ptr) → 0 < n → IsRow cs at.ptr n spare ps ss → is_there cs at.ptr ≡ true
-  is_there-first cs at n spare [] ss h r = let long = r.long in absurd (omega arith)
-  is_there-first cs at n spare (p ∷ ps) ss h r = subst (λ q. is_there cs q ≡ true) r.starts r.there.0
-
-  pub is_there-row : (cs : List (Cell Links B)) (at : NodePointer) (n : ℕ) (spare : Option Ptr) → 0 < n → HasRow cs at.ptr n spare → is_there cs at.ptr ≡ true
-  is_there-row cs at n spare h r = is_there-first cs at n spare r.pointers r.spare_pointers h r.row
-
-  SameButLinks-all : (cs : List (Cell Links B)) → SameButLinks cs cs
-  SameButLinks-all cs = record { next = λ q. refl; prev = λ q. refl; there = λ q. refl; triple = λ q. refl; count = refl }
-
-  none_more : (cs : List (Cell Links B)) (f : Ptr) (n : ℕ) (spare : Option Ptr) → n ≡ 0 → (ps ss : List Ptr) → IsRow cs f n spare ps ss → SameButLinks cs cs × Chained cs spare (onto ps ss)
-  none_more cs f n spare e [] ss r = (SameButLinks-all cs, r.chained)
-  none_more cs f n spare e (p ∷ ps) ss r = let long = r.long in absurd (omega arith)
-
-  pub SparesRow-done : (cs : List (Cell Links B)) (f : Ptr) (n : ℕ) (spare : Option Ptr) → n ≡ 0 → SparesRow cs f n spare cs spare
-  SparesRow-done cs f n spare e ps ss r = none_more cs f n spare e ps ss r
+  pub SparesRow-done : (cs : List (Cell Links B)) (f : Ptr) {n : ℕ} (spare : Option Ptr) → n ≡ 0 → SparesRow cs f n spare cs spare
+  SparesRow-done cs f spare e [] ss r =
+      (record { next = λ q. refl; prev = λ q. refl; there = λ q. refl; triple = λ q. refl; count = refl }, r.chained)
+  SparesRow-done cs f spare e (p ∷ ps) ss r = let long = r.long in absurd (omega arith)
 
   pub some_still : (o : Option (Held B)) (t : Held B) → triple_of o ≡ Some (t.hash, t.pair) → (u : Held B) × (o ≡ Some u)
   some_still None t e = absurd (none_some (t.hash, t.pair) e)

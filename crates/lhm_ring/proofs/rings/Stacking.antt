@@ -9,7 +9,7 @@ use Rattle.lhm_ring.proofs.lists.Apart.{IsApart-tail}
 use Rattle.lhm_ring.proofs.memory.NodeAdded.{IsRing-added, listed-added}
 use Rattle.lhm_ring.proofs.rings.RingNodes.{ring_list-listed}
 use Rattle.lhm_ring.specs.Nodes.{Cell, cell, pointers, IsApart, AreBlocks}
-use Rattle.lhm_ring.specs.Links.{ring_cells, IsRing, listed, ring_list, RingOk, IsStacked}
+use Rattle.lhm_ring.specs.Links.{ring_cells, IsRing, listed, ring_list, IsOwned, IsStacked}
 use Rattle.lhm_ring.specs.Pointer.{target}
 
 module _ {B : Type 0} where
@@ -28,6 +28,19 @@ pub record RingStacked {B : Type 0} (e : Ends) (cs ds : List (Cell Links B)) (ps
   pub ring : IsRing (ring_cells e ds) ps spare spare_pointers
   pub count : length spare_pointers ≡ n + length ss
   pub same_list : listed (ring_cells e ds) ps ≡ listed (ring_cells e cs) ps
+
+-- more of the spare nodes are counted
+pub IsOwned-raised : {B : Type 0} {cs : List (Cell Links B)} {spare : Link} {n m : ℕ} → IsOwned cs spare n m → (k : ℕ) → suc (n + k) ≤ length cs → n + k ≤ 2 ^ 59 → IsOwned cs spare n k
+IsOwned-raised ok k enough small =
+    let a = ok.ring.count in let b = ok.held_count in
+    record {
+      held_pointers = ok.held_pointers;
+      spare_pointers = ok.spare_pointers;
+      ring = ok.ring;
+      held_count = ok.held_count;
+      enough_spares = omega arith;
+      bounded = small;
+    }
 
 module _ {B : Type 0} (e : Ends) where
   -- a ring with spare nodes more
@@ -54,25 +67,13 @@ module _ {B : Type 0} (e : Ends) where
         same_list = ap (λ zs. listed (ring_cells e zs) ps) k.nodes_are ∙ listed-added e es p l b'.0 d' ps (target l.link) on.spare_pointers on.ring refl ∙ on.same_list;
       }
 
-  -- more of the spare nodes are counted
-  pub RingOk-raised : (cs : List (Cell Links B)) (spare : Link) (n m k : ℕ) → RingOk (ring_cells e cs) spare n m → n + k ≤ length cs → n + k ≤ 2 ^ 59 → RingOk (ring_cells e cs) spare n k
-  RingOk-raised cs spare n m k ok enough small = let a = ok.ring.count in let b = ok.held_count in
-      record {
-        held_pointers = ok.held_pointers;
-        spare_pointers = ok.spare_pointers;
-        ring = ok.ring;
-        held_count = ok.held_count;
-        enough_spares = omega arith;
-        bounded = small;
-      }
-
   -- more nodes are stacked on the spare ones
-  module _ (cs ds : List (Cell Links B)) (spare f : Link) (n m k : ℕ) (ok : RingOk (ring_cells e cs) spare n m) (s : IsStacked cs spare k ds f) (d : IsApart (pointers ds)) (b : AreBlocks (pointers ds)) where
+  module _ (cs ds : List (Cell Links B)) {spare : Link} (f : Link) {n m : ℕ} (k : ℕ) (ok : IsOwned (ring_cells e cs) spare n m) (s : IsStacked cs spare k ds f) (d : IsApart (pointers ds)) (b : AreBlocks (pointers ds)) where
     RingStacked-held : RingStacked e cs ds ok.held_pointers ok.spare_pointers (target f) k
     RingStacked-held = RingStacked-ring k cs spare ds f ok.held_pointers ok.spare_pointers s d b ok.ring
 
-    pub RingOk-stacked : RingOk (ring_cells e ds) f n m
-    RingOk-stacked = let t = RingStacked-held in let long = t.count in let wide = ok.enough_spares in
+    pub IsOwned-stacked : IsOwned (ring_cells e ds) f n m
+    IsOwned-stacked = let t = RingStacked-held in let long = t.count in let wide = ok.enough_spares in
         record {
           held_pointers = ok.held_pointers;
           spare_pointers = t.spare_pointers;
@@ -85,4 +86,4 @@ module _ {B : Type 0} (e : Ends) where
     pub ring_list-stacked : ring_list (ring_cells e ds) n ≡ ring_list (ring_cells e cs) n
     ring_list-stacked =
         let t = RingStacked-held in
-        ring_list-listed (ring_cells e ds) ok.held_pointers (target f) t.spare_pointers n t.ring ok.held_count ∙ t.same_list ∙ sym (ring_list-listed (ring_cells e cs) ok.held_pointers (target spare) ok.spare_pointers n ok.ring ok.held_count)
+        ring_list-listed t.ring ok.held_count ∙ t.same_list ∙ sym (ring_list-listed ok.ring ok.held_count)

@@ -2,20 +2,17 @@ use Rattle.std.proofs.Common.{◌∙◌}
 use Rattle.lhm_ring.proofs.rings.RingCells.{IsAt-in_nodes, links_at-ring_cells}
 use Rattle.lhm_ring.proofs.rings.ReadAtPosition.{IsAt-held, hash-held, link_of-held}
 use Rattle.lhm_ring.proofs.ring.Ring.links.Goals as goal
-use Rattle.lhm_ring.specs.Links.{ring_cells}
 
 pub links-requires : goal.links-requires
 links-requires g c =
     let i = c.self.inside in
-    IsAt-in_nodes i.ends i.nodes.cells c.args.at.pointer.ptr c.args.at.block
-    (IsAt-held (ring_cells i.ends i.nodes.cells) i.spare i.len i.spares _ c.self.invariant.ring c.self.view_is c.args.at.pointer.ptr c.requires)
+    IsAt-in_nodes i.ends i.nodes.cells c.args.at.pointer.ptr c.args.at.block (IsAt-held c.self.invariant.ring c.self.view_is c.requires)
 
 pub returns : goal.returns
 returns g c =
     let i = c.self.inside in let p = c.args.at.pointer.ptr in
-    let cs = ring_cells i.ends i.nodes.cells in
     let read = links_at-ring_cells i.ends i.nodes.cells p c.args.at.block ∙ c.links.ensures in
     record {
-      hash = hash-held cs i.spare i.len i.spares _ c.self.invariant.ring c.self.view_is p _ read;
-      link = link_of-held cs i.spare i.len i.spares _ c.self.invariant.ring c.self.view_is p _ read;
+      hash = hash-held c.self.invariant.ring c.self.view_is p read;
+      link = link_of-held c.self.invariant.ring c.self.view_is p read;
     }

@@ -1,6 +1,6 @@
 use Rattle.std.proofs.Common.{◌∙◌, ◌+◌, ap, sym, subst, refl}
 use Rattle.lhm_ring.proofs.rings.RingNodes.{length-held, ring_list-none}
-use Rattle.lhm_ring.proofs.memory.NodesWithBodies.{with_bodies-own, RingOk-cleared}
+use Rattle.lhm_ring.proofs.memory.NodesWithBodies.{with_bodies-own, IsOwned-cleared}
 use Rattle.lhm_ring.proofs.memory.Places.{IsLaid-same}
 use Rattle.lhm_ring.proofs.ring.Ring.splice_all.Goals as goal
 use Rattle.lhm_ring.specs.Links.{ring_cells, IsSpan, span_triples}
@@ -17,14 +17,14 @@ invariant_of-result g c =
 
 pub invariant_of-self-lent : goal.invariant_of-self-lent
 invariant_of-self-lent g c = λ w. record {
-  ring = RingOk-cleared (ring_cells c.splice.new.ends c.splice.new.nodes.cells) c.splice.result.spare 0 _ refl (c.splice.ensures.spliced c.self.inside.spares c.self.invariant.ring);
+  ring = IsOwned-cleared (ring_cells c.splice.new.ends c.splice.new.nodes.cells) c.splice.result.spare 0 _ refl (c.splice.ensures.spliced c.self.inside.spares c.self.invariant.ring);
   laid = IsLaid-same c.self.invariant.laid (c.splice.ensures.land.0) (c.splice.ensures.land.1);
 }
 
 pub returns : goal.returns
 returns g c =
     let i = c.self.inside in let e = c.lend_bodies-anchor.ensures in let nodes = c.splice.new.nodes in let f = c.splice.result.first.ptr in
-    let long = length-held (ring_cells i.ends i.nodes.cells) i.spare i.len i.spares _ c.self.invariant.ring c.self.view_is in let same = (λ j. with_bodies (e.cells j) (e.run j)) ∙ with_bodies-own nodes.cells nodes.apart in (
+    let long = length-held c.self.invariant.ring c.self.view_is in let same = (λ j. with_bodies (e.cells j) (e.run j)) ∙ with_bodies-own nodes.cells nodes.apart in (
       (refl, λ w. λ j. state (ring_list-none (ring_cells c.splice.new.ends (cleared nodes.cells)) 0 refl j) ((c.self.view_is j).spares + long j) (c.self.view_is j).nodes),
       record {
         writes_back = tt;
