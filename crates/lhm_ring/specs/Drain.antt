@@ -8,7 +8,7 @@ use Rattle.lhm_ring.specs.declared.pointer.Link.{Link}
 use Rattle.std.specs.Borrow.{GName}
 use Rattle.lhm_ring.specs.declared.drain.Drain.{Drain}
 use Rattle.lhm_ring.specs.Nodes.{Cell, IsApart}
-use Rattle.lhm_ring.specs.Links.{Linked, Chained, next_at, prev_at, is_there, content_at, ring_list, RingOk, IsSpan, span_triples}
+use Rattle.lhm_ring.specs.Links.{AreLinked, IsSpareList, next_at, prev_at, is_there, content_at, ring_list, IsOwned, IsSpan, span_triples}
 use Rattle.lhm_ring.specs.Ring.{Held, triples}
 
 -- the pointers ps, the last first, and then ss
@@ -37,11 +37,11 @@ module _ {B : Type 0} where
   pub record IsRow (cs : List (Cell Links B)) (f : Ptr) (n : ℕ) (spare : Option Ptr)
       (ps ss : List Ptr) : Type 0 where
     pub long : length ps ≡ n
-    pub linked : Linked cs ps
+    pub linked : AreLinked cs ps
     pub starts : StartsAt ps f
     pub there : AllByRecursion (λ p. is_there cs p ≡ true) ps
     pub apart : IsApart (ps ++ ss)
-    pub chained : Chained cs spare ss
+    pub chained : IsSpareList cs spare ss
 
   pub record HasRow (cs : List (Cell Links B)) (f : Ptr) (n : ℕ) (spare : Option Ptr) : Type 0 where
     pub pointers : List Ptr
@@ -52,20 +52,20 @@ module _ {B : Type 0} where
   abbrev pub SparesRow : List (Cell Links B) → Ptr → ℕ → Option Ptr → List (Cell Links B)
       → Option Ptr → Type 0
   SparesRow cs f n spare ds s =
-      (ps ss : List Ptr) → IsRow cs f n spare ps ss → SameButLinks cs ds × Chained ds s (onto ps ss)
+      (ps ss : List Ptr) → IsRow cs f n spare ps ss → SameButLinks cs ds × IsSpareList ds s (onto ps ss)
 
   -- the nodes are a ring of n held ones
   abbrev pub HasRing : List (Cell Links B) → Link → ℕ → Type 0
-  HasRing cs spare n = (m : ℕ) × RingOk cs spare n m
+  HasRing cs spare n = (m : ℕ) × IsOwned cs spare n m
 
   -- in ds all nodes of the ring are spare
   abbrev pub SplicesRing : List (Cell Links B) → Link → ℕ → List (Cell Links B) → Spliced → Type 0
-  SplicesRing cs spare n ds s = (m : ℕ) → RingOk cs spare n m → RingOk ds s.spare 0 (m + n)
+  SplicesRing cs spare n ds s = (m : ℕ) → IsOwned cs spare n m → IsOwned ds s.spare 0 (m + n)
 
   -- what the ring held is in the nodes ds, from s.first to s.last
   abbrev pub KeepsRow : List (Cell Links B) → Link → ℕ → List (Cell Links B) → Spliced → Type 0
   KeepsRow cs spare n ds s =
-      (m : ℕ) → RingOk cs spare n m
+      (m : ℕ) → IsOwned cs spare n m
       → IsSpan ds s.first.ptr s.last.ptr n
       × (span_triples ds n s.first.ptr ≡ triples (ring_list cs n))
 

@@ -89,19 +89,19 @@ module _ {B : Type 0} where
       (l : Links) → links_at cs p ≡ Some l → ds ≡ with_links p (leading_back o l) cs
 
   -- b comes right after a
-  abbrev pub Edge : List (Cell Links B) → Ptr → Ptr → Type 0
-  Edge cs a b = (next_at cs a ≡ b) × (prev_at cs b ≡ a)
+  abbrev pub AreNeighbours : List (Cell Links B) → Ptr → Ptr → Type 0
+  AreNeighbours cs a b = (next_at cs a ≡ b) × (prev_at cs b ≡ a)
 
   -- each comes right after the one before
-  abbrev pub Linked : List (Cell Links B) → List Ptr → Type 0
-  Linked cs [] = Unit {0}
-  Linked cs (x ∷ []) = Unit {0}
-  Linked cs (x ∷ y ∷ r) = Edge cs x y × Linked cs (y ∷ r)
+  abbrev pub AreLinked : List (Cell Links B) → List Ptr → Type 0
+  AreLinked cs [] = Unit {0}
+  AreLinked cs (x ∷ []) = Unit {0}
+  AreLinked cs (x ∷ y ∷ r) = AreNeighbours cs x y × AreLinked cs (y ∷ r)
 
   -- the spare nodes, from the first on
-  abbrev pub Chained : List (Cell Links B) → Option Ptr → List Ptr → Type 0
-  Chained cs h [] = h ≡ None
-  Chained cs h (p ∷ ps) = (h ≡ Some p) × Chained cs (link_at cs p) ps
+  abbrev pub IsSpareList : List (Cell Links B) → Option Ptr → List Ptr → Type 0
+  IsSpareList cs h [] = h ≡ None
+  IsSpareList cs h (p ∷ ps) = (h ≡ Some p) × IsSpareList cs (link_at cs p) ps
 
   abbrev pub HasContent : List (Cell Links B) → Ptr → Type 0
   HasContent cs p = (x : Held B) × (content_at cs p ≡ Some x)
@@ -109,8 +109,8 @@ module _ {B : Type 0} where
   -- the nodes: the one at null, the held ones ps in order, and the spare ones ss
   pub record IsRing (cs : List (Cell Links B)) (ps : List Ptr) (spare : Option Ptr) (ss : List Ptr)
       : Type 0 where
-    pub linked : Linked cs (null_ptr ∷ (ps ++ null_ptr ∷ []))
-    pub chained : Chained cs spare ss
+    pub linked : AreLinked cs (null_ptr ∷ (ps ++ null_ptr ∷ []))
+    pub chained : IsSpareList cs spare ss
     pub held : AllByRecursion (HasContent cs) ps
     pub there : AllByRecursion (λ p. is_there cs p ≡ true) (null_ptr ∷ (ps ++ ss))
     pub apart : IsApart (null_ptr ∷ (ps ++ ss))
@@ -167,7 +167,7 @@ module _ {B : Type 0} where
   ring_list cs n = listed cs (ring_pointers cs n)
 
   -- the nodes are a ring of n held and at least m spare ones
-  pub record RingOk (cs : List (Cell Links B)) (spare : Link) (n m : ℕ) : Type 0 where
+  pub record IsOwned (cs : List (Cell Links B)) (spare : Link) (n m : ℕ) : Type 0 where
     -- where the held nodes lie, in order, and the spare ones, from the first on
     pub held_pointers : List Ptr
     pub spare_pointers : List Ptr
@@ -182,7 +182,7 @@ module _ {B : Type 0} where
     -- where they lie, in order
     pub pointers : List Ptr
     pub count : length pointers ≡ n
-    pub linked : Linked cs pointers
+    pub linked : AreLinked cs pointers
     pub ends : HasEnds pointers f b
     pub held : AllByRecursion (HasContent cs) pointers
     -- no pointer comes twice

@@ -36,7 +36,7 @@ pub struct Ring<K, V> {
 }
 
 impl<K, V> Model for Ring<K, V> {
-    ghost use Rattle.lhm_ring.specs.Links.{ring_cells, ring_list, RingOk, IsLaid};
+    ghost use Rattle.lhm_ring.specs.Links.{ring_cells, ring_list, IsOwned, IsLaid};
     ghost use Rattle.lhm_ring.specs.Ring.{State, state};
 
     ghost Value = { State (K × V) };
@@ -44,7 +44,7 @@ impl<K, V> Model for Ring<K, V> {
     ghost view = { λ r. state (ring_list (ring_cells r.ends r.nodes.cells) r.len) r.spares r.made };
 
     ghost invariant = { λ r. record {
-      ring : RingOk (ring_cells r.ends r.nodes.cells) r.spare r.len r.spares;
+      ring : IsOwned (ring_cells r.ends r.nodes.cells) r.spare r.len r.spares;
       laid : IsLaid r.nodes.unused r.nodes.chunks r.chunks.items r.made;
     } };
 }

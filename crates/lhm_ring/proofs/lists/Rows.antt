@@ -4,26 +4,26 @@ use denote.RawPtr.{Ptr}
 use Rattle.lhm_ring.specs.declared.ring.Links.{Links}
 use Rattle.lhm_ring.proofs.lists.ListFacts.{last_from}
 use Rattle.lhm_ring.specs.Nodes.{Cell}
-use Rattle.lhm_ring.specs.Links.{content_at, Edge, Linked, follow, listed, one_of}
+use Rattle.lhm_ring.specs.Links.{content_at, AreNeighbours, AreLinked, follow, listed, one_of}
 
 -- a row of links, cut before p
 pub record RowCut {B : Type 0} (cs : List (Cell Links B)) (x : Ptr) (xs : List Ptr) (p : Ptr) (ys : List Ptr) : Type 0 where
-  pub before : Linked cs (x ∷ xs)
-  pub edge : Edge cs (last_from x xs) p
-  pub after : Linked cs (p ∷ ys)
+  pub before : AreLinked cs (x ∷ xs)
+  pub edge : AreNeighbours cs (last_from x xs) p
+  pub after : AreLinked cs (p ∷ ys)
 
 module _ {B : Type 0} where
   module _ (cs : List (Cell Links B)) where
-    pub RowCut-linked : (x : Ptr) (xs : List Ptr) (p : Ptr) (ys : List Ptr) → Linked cs (x ∷ (xs ++ p ∷ ys)) → RowCut cs x xs p ys
+    pub RowCut-linked : (x : Ptr) (xs : List Ptr) (p : Ptr) (ys : List Ptr) → AreLinked cs (x ∷ (xs ++ p ∷ ys)) → RowCut cs x xs p ys
     RowCut-linked x [] p ys l = record { before = tt; edge = l.0; after = l.1 }
     RowCut-linked x (y ∷ xs) p ys l = let on = RowCut-linked y xs p ys l.1 in record { before = (l.0, on.before); edge = on.edge; after = on.after }
 
-    pub Linked-glued : (x : Ptr) (xs : List Ptr) (p : Ptr) (ys : List Ptr) → Linked cs (x ∷ xs) → Edge cs (last_from x xs) p → Linked cs (p ∷ ys) → Linked cs (x ∷ (xs ++ p ∷ ys))
-    Linked-glued x [] p ys l e m = (e, m)
-    Linked-glued x (y ∷ xs) p ys l e m = (l.0, Linked-glued y xs p ys l.1 e m)
+    pub AreLinked-glued : (x : Ptr) (xs : List Ptr) (p : Ptr) (ys : List Ptr) → AreLinked cs (x ∷ xs) → AreNeighbours cs (last_from x xs) p → AreLinked cs (p ∷ ys) → AreLinked cs (x ∷ (xs ++ p ∷ ys))
+    AreLinked-glued x [] p ys l e m = (e, m)
+    AreLinked-glued x (y ∷ xs) p ys l e m = (l.0, AreLinked-glued y xs p ys l.1 e m)
 
     -- the pointers after p are those that the row names
-    pub follow-row : (x : Ptr) (xs : List Ptr) (z : Ptr) → Linked cs (x ∷ (xs ++ z ∷ [])) → follow cs (length xs) x ≡ xs
+    pub follow-row : (x : Ptr) (xs : List Ptr) (z : Ptr) → AreLinked cs (x ∷ (xs ++ z ∷ [])) → follow cs (length xs) x ≡ xs
     unfolding follow
     follow-row x [] z l = refl
     follow-row x (y ∷ ys) z l =

@@ -5,10 +5,10 @@ use Rattle.lhm_ring.specs.declared.ring.Links.{Links}
 use Rattle.lhm_ring.specs.declared.ring.Ends.{Ends}
 use Rattle.lhm_ring.proofs.lists.Apart.{IsFresh, same_ptr-equal, same_ptr-reflexive, same_ptr-symmetric, IsFresh-head, IsApart-inserted}
 use Rattle.lhm_ring.proofs.lists.ListFacts.{AllByRecursion-append, AllByRecursion-left, AllByRecursion-right, AllByRecursion-map}
-use Rattle.lhm_ring.proofs.memory.OneNodeChanged.{Linked-other, Chained-other, AllByRecursion-content_other, listed-other}
+use Rattle.lhm_ring.proofs.memory.OneNodeChanged.{AreLinked-other, IsSpareList-other, AllByRecursion-content_other, listed-other}
 use Rattle.lhm_ring.proofs.rings.RingCells.{same_ptr-null, cell_at-ring_cells}
 use Rattle.lhm_ring.specs.Nodes.{Cell, cell, cell_at, same_ptr, pointers, links_of, is_block, IsApart}
-use Rattle.lhm_ring.specs.Links.{ends_links, ring_cells, link_of, has_links, link_at, is_there, Chained, IsRing, listed}
+use Rattle.lhm_ring.specs.Links.{ends_links, ring_cells, link_of, has_links, link_at, is_there, IsSpareList, IsRing, listed}
 
 false_true : false ≡ true → ⊥
 false_true e = cc
@@ -61,8 +61,8 @@ module _ {B : Type 0} (e : Ends) (nodes : List (Cell Links B)) (p : Ptr) (l : Li
 
     pub IsRing-added : IsRing ds ps (Some p) (p ∷ ss)
     IsRing-added = record {
-      linked = Linked-other cs ds p cell_at-other (null_ptr ∷ (ps ++ null_ptr ∷ [])) (IsFresh-added.0, AllByRecursion-append P ps (null_ptr ∷ []) (AllByRecursion-left P ps ss IsFresh-added.1) (IsFresh-added.0, tt)) r.linked;
-      chained = (refl, Chained-other cs ds p cell_at-other (link_at ds p) ss (AllByRecursion-right P ps ss IsFresh-added.1) (subst (λ z. Chained cs z ss) (sym (link_at-added ∙ f)) r.chained));
+      linked = AreLinked-other cs ds p cell_at-other (null_ptr ∷ (ps ++ null_ptr ∷ [])) (IsFresh-added.0, AllByRecursion-append P ps (null_ptr ∷ []) (AllByRecursion-left P ps ss IsFresh-added.1) (IsFresh-added.0, tt)) r.linked;
+      chained = (refl, IsSpareList-other cs ds p cell_at-other (link_at ds p) ss (AllByRecursion-right P ps ss IsFresh-added.1) (subst (λ z. IsSpareList cs z ss) (sym (link_at-added ∙ f)) r.chained));
       held = AllByRecursion-content_other cs ds p cell_at-other ps (AllByRecursion-left P ps ss IsFresh-added.1) r.held;
       there = (
         is_there-added null_ptr r.there.0,

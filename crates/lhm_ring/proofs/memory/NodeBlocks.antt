@@ -11,7 +11,7 @@ use Rattle.lhm_ring.proofs.rings.RingCells.{same_ptr-content, is_block-there}
 use Rattle.lhm_ring.proofs.rings.RingNodes.{ring_list-listed}
 use Rattle.lhm_ring.proofs.rings.Writes.{content_of-links}
 use Rattle.lhm_ring.specs.Nodes.{Cell, pointers, links_at, body_at, is_block, AreBlocks}
-use Rattle.lhm_ring.specs.Links.{ring_cells, has_links, one_of, HasContent, listed, ring_list, RingOk}
+use Rattle.lhm_ring.specs.Links.{ring_cells, has_links, one_of, HasContent, listed, ring_list, IsOwned}
 use Rattle.lhm_ring.specs.Ring.{State, state, Held}
 
 module _ {B : Type 0} (e : Ends) (nodes : List (Cell Links B)) (all : AreBlocks (pointers nodes)) where
@@ -28,7 +28,7 @@ module _ {B : Type 0} (e : Ends) (nodes : List (Cell Links B)) (all : AreBlocks 
       let here : is_block h.0.0.at ≡ true = ap is_block (at-content_of p (links_at cs p) (body_at cs p) h.0.0 h.0.1) ∙ is_block-content p h.0 in
       subst (λ o. AreBlocks (map (λ (t : Held B). t.at) (one_of o ++ listed cs ps))) (sym h.0.1) (here, AreBlocks-listed ps h.1)
 
-  pub AreBlocks-held : (spare : Link) (n m : ℕ) (v : State B) {total : ℕ} → RingOk cs spare n m → state (ring_list cs n) m total ≡ v → AreBlocks (map (λ (t : Held B). t.at) v.held)
+  pub AreBlocks-held : (spare : Link) (n m : ℕ) (v : State B) {total : ℕ} → IsOwned cs spare n m → state (ring_list cs n) m total ≡ v → AreBlocks (map (λ (t : Held B). t.at) v.held)
   AreBlocks-held spare n m v ok w =
       subst (λ (s : State B). AreBlocks (map (λ (t : Held B). t.at) s.held)) w
       (subst (λ hs. AreBlocks (map (λ (t : Held B). t.at) hs)) (sym (ring_list-listed cs ok.held_pointers _ ok.spare_pointers n ok.ring ok.held_count)) (AreBlocks-listed ok.held_pointers ok.ring.held))

@@ -7,9 +7,9 @@ use Rattle.lhm_ring.specs.declared.pointer.Link.{Link}
 use Rattle.lhm_ring.proofs.lists.Apart.{IsFresh, same_ptr-equal, same_ptr-reflexive, same_ptr-symmetric, IsFresh-head, IsApart-tail}
 use Rattle.lhm_ring.proofs.lists.ListFacts.{AllByRecursion-always}
 use Rattle.lhm_ring.proofs.lists.Options.{none_some}
-use Rattle.lhm_ring.proofs.rings.SameNodes.{SameLink, RingOk-same}
+use Rattle.lhm_ring.proofs.rings.SameNodes.{SameLink, IsOwned-same}
 use Rattle.lhm_ring.specs.Nodes.{Cell, cell, cell_at, same_ptr, IsApart, pointers, links_of, body_of, links_at, body_at, change, with_body}
-use Rattle.lhm_ring.specs.Links.{next_of, prev_of, link_of, has_links, HasContent, RingOk}
+use Rattle.lhm_ring.specs.Links.{next_of, prev_of, link_of, has_links, HasContent, IsOwned}
 use Rattle.lhm_ring.specs.ContentLoan.{body_in, without_body, bodies_of, with_bodies, cleared}
 
 module _ {B : Type 0} where
@@ -96,8 +96,8 @@ AllByRecursion-none P [] e = tt
 AllByRecursion-none P (x ∷ xs) e = absurd (omega arith)
 
 module _ {B : Type 0} (cs : List (Cell Links B)) where
-  pub RingOk-cleared : (spare : Link) (n m : ℕ) → n ≡ 0 → RingOk cs spare n m → RingOk (cleared cs) spare n m
-  RingOk-cleared spare n m e ok =
+  pub IsOwned-cleared : (spare : Link) (n m : ℕ) → n ≡ 0 → IsOwned cs spare n m → IsOwned (cleared cs) spare n m
+  IsOwned-cleared spare n m e ok =
       let same = links_at-cleared cs in
-      RingOk-same cs (cleared cs) (λ q. ap next_of (same q)) (λ q. ap prev_of (same q)) (λ q. ap has_links (same q)) (length-cleared cs) spare n m ok
+      IsOwned-same cs (cleared cs) (λ q. ap next_of (same q)) (λ q. ap prev_of (same q)) (λ q. ap has_links (same q)) (length-cleared cs) spare n m ok
       (AllByRecursion-none (HasContent (cleared cs)) ok.held_pointers (ok.held_count ∙ e)) (AllByRecursion-always (SameLink cs (cleared cs)) (λ q. ap link_of (same q)) ok.spare_pointers)

@@ -5,10 +5,10 @@ use denote.RawPtr.{Ptr}
 use Rattle.lhm_ring.specs.declared.ring.Links.{Links}
 use Rattle.lhm_ring.proofs.lists.Apart.{IsFresh, same_ptr-equal}
 use Rattle.lhm_ring.proofs.lists.ListFacts.{AllByRecursion-map}
-use Rattle.lhm_ring.proofs.rings.SameNodes.{SameLink, Chained-same}
+use Rattle.lhm_ring.proofs.rings.SameNodes.{SameLink, IsSpareList-same}
 use Rattle.lhm_ring.proofs.rings.Writes.{cell_at-change, cell_at-change_other, length-change, reader-with_links_same, links_of-seen}
 use Rattle.lhm_ring.specs.Nodes.{Cell, cell, same_ptr, cell_at, links_of, body_of, links_at, body_at, with_links, with_body}
-use Rattle.lhm_ring.specs.Links.{next_of, prev_of, link_of, has_links, is_there, content_of, content_at, Linked, Chained, HasContent, listed, one_of}
+use Rattle.lhm_ring.specs.Links.{next_of, prev_of, link_of, has_links, is_there, content_of, content_at, AreLinked, IsSpareList, HasContent, listed, one_of}
 
 -- every node except the one at p is as it was
 pub record OnlyAt {B : Type 0} (cs ds : List (Cell Links B)) (p : Ptr) : Type 0 where
@@ -46,13 +46,13 @@ module _ {B : Type 0} where
   OnlyAt-both cs ds es p a b = record { other = λ q n. b.other q n ∙ a.other q n; there = λ q. b.there q ∙ a.there q; count = b.count ∙ a.count }
 
   module _ (cs ds : List (Cell Links B)) (p : Ptr) (other : (q : Ptr) → same_ptr p q ≡ false → cell_at ds q ≡ cell_at cs q) where
-    pub Linked-other : (s : List Ptr) → IsFresh p s → Linked cs s → Linked ds s
-    Linked-other [] f l = tt
-    Linked-other (x ∷ []) f l = tt
-    Linked-other (x ∷ y ∷ r) f l = ((ap (λ z. next_of (links_of z)) (other x f.0) ∙ l.0.0, ap (λ z. prev_of (links_of z)) (other y f.1.0) ∙ l.0.1), Linked-other (y ∷ r) f.1 l.1)
+    pub AreLinked-other : (s : List Ptr) → IsFresh p s → AreLinked cs s → AreLinked ds s
+    AreLinked-other [] f l = tt
+    AreLinked-other (x ∷ []) f l = tt
+    AreLinked-other (x ∷ y ∷ r) f l = ((ap (λ z. next_of (links_of z)) (other x f.0) ∙ l.0.0, ap (λ z. prev_of (links_of z)) (other y f.1.0) ∙ l.0.1), AreLinked-other (y ∷ r) f.1 l.1)
 
-    pub Chained-other : (h : Option Ptr) (ss : List Ptr) → IsFresh p ss → Chained cs h ss → Chained ds h ss
-    Chained-other h ss f = Chained-same cs ds h ss (AllByRecursion-map (λ q. same_ptr p q ≡ false) (SameLink cs ds) (λ q n. ap (λ z. link_of (links_of z)) (other q n)) ss f)
+    pub IsSpareList-other : (h : Option Ptr) (ss : List Ptr) → IsFresh p ss → IsSpareList cs h ss → IsSpareList ds h ss
+    IsSpareList-other h ss f = IsSpareList-same cs ds h ss (AllByRecursion-map (λ q. same_ptr p q ≡ false) (SameLink cs ds) (λ q n. ap (λ z. link_of (links_of z)) (other q n)) ss f)
 
     content_at-other : (q : Ptr) → same_ptr p q ≡ false → content_at ds q ≡ content_at cs q
     content_at-other q n = ap (λ z. content_of q (links_of z) (body_of z)) (other q n)

@@ -10,11 +10,11 @@ use Rattle.lhm_ring.proofs.rings.Contents.{at-content_of, content_of-holds, pair
 use Rattle.lhm_ring.proofs.rings.HeldPointers.{AllByRecursion-followed, IsApart-ring_list}
 use Rattle.lhm_ring.proofs.lists.ListFacts.{AllByRecursion-map, AllByRecursion-always}
 use Rattle.lhm_ring.proofs.lists.Options.{none_some, Some-injective}
-use Rattle.lhm_ring.proofs.rings.SameNodes.{SameLink, follow-same, RingOk-same}
+use Rattle.lhm_ring.proofs.rings.SameNodes.{SameLink, follow-same, IsOwned-same}
 use Rattle.lhm_ring.proofs.rings.Writes.{content_of-links}
 use Rattle.lhm_ring.specs.Nodes.{Cell, cell, cell_at, same_ptr, IsApart, pointers, links_of, body_of, links_at, body_at}
 use Rattle.lhm_ring.specs.ValueLoan.{value_at, AreLent}
-use Rattle.lhm_ring.specs.Links.{ends_links, ring_cells, one_of, next_of, prev_of, link_of, has_links, content_of, content_at, HasContent, follow, listed, ring_list, ring_pointers, RingOk}
+use Rattle.lhm_ring.specs.Links.{ends_links, ring_cells, one_of, next_of, prev_of, link_of, has_links, content_of, content_at, HasContent, follow, listed, ring_list, ring_pointers, IsOwned}
 use Rattle.lhm_ring.specs.Ring.{Held, held, pair, revalued}
 
 -- whether p is one of ps
@@ -170,9 +170,9 @@ module _ {K V : Type 0} where
         ap (λ o. one_of o ++ listed ds ps) (content_at-written p ∙ ap (λ k. content_of p (links_at cs p) (written_body k hs p (body_at cs p))) a.0)
         ∙ one_of-written hs p (links_at cs p) (body_at cs p) (listed ds ps) (listed cs ps) (listed-written ps a.1)
 
-    RingOk-written : (spare : Link) (n m : ℕ) → RingOk cs spare n m → RingOk ds spare n m
-    RingOk-written spare n m ok =
-        RingOk-same cs ds (λ q. ap next_of (same q)) (λ q. ap prev_of (same q)) (λ q. ap has_links (same q)) (length-written keep hs cs) spare n m ok
+    IsOwned-written : (spare : Link) (n m : ℕ) → IsOwned cs spare n m → IsOwned ds spare n m
+    IsOwned-written spare n m ok =
+        IsOwned-same cs ds (λ q. ap next_of (same q)) (λ q. ap prev_of (same q)) (λ q. ap has_links (same q)) (length-written keep hs cs) spare n m ok
         (AllByRecursion-map (HasContent cs) (HasContent ds) HasContent-written ok.held_pointers ok.ring.held) (AllByRecursion-always (SameLink cs ds) (λ q. ap link_of (same q)) ok.spare_pointers)
 
     ring_list-written : (n : ℕ) → AllByRecursion (λ p. keep p ≡ true) (ring_pointers cs n) → ring_list ds n ≡ revalued_by hs (ring_list cs n)
@@ -197,8 +197,8 @@ module _ {K V : Type 0} where
     abbrev keeps : Ptr → Bool
     keeps = among (ring_pointers (ring_cells e cs) n)
 
-    pub RingOk-held_written : RingOk (ring_cells e cs) spare n m → RingOk (ring_cells e (held_written e cs n hs)) spare n m
-    RingOk-held_written ok = subst (λ zs. RingOk zs spare n m) (written-ring_cells keeps hs e cs) (RingOk-written keeps hs (ring_cells e cs) spare n m ok)
+    pub IsOwned-held_written : IsOwned (ring_cells e cs) spare n m → IsOwned (ring_cells e (held_written e cs n hs)) spare n m
+    IsOwned-held_written ok = subst (λ zs. IsOwned zs spare n m) (written-ring_cells keeps hs e cs) (IsOwned-written keeps hs (ring_cells e cs) spare n m ok)
 
     pub ring_list-held_written : ring_list (ring_cells e (held_written e cs n hs)) n ≡ revalued_by hs (ring_list (ring_cells e cs) n)
     ring_list-held_written = ap (λ zs. ring_list zs n) (sym (written-ring_cells keeps hs e cs)) ∙ ring_list-written keeps hs (ring_cells e cs) n (AllByRecursion-among (ring_pointers (ring_cells e cs) n))
@@ -242,13 +242,13 @@ module _ {K V : Type 0} where
     AllByRecursion-lent [] a k = tt
     AllByRecursion-lent (p ∷ ps) a k = subst (λ o. AllByRecursion (λ t. value_at (run_of (lent keep cs)) t.at ≡ Some t.pair.1) (one_of o ++ listed cs ps)) (sym a.0.1) (value_at-one_lent p a.0 k.0, AllByRecursion-lent ps a.1 k.1)
 
-  AreLent-ring_list : (cs : List (Cell Links (K × V))) (spare : Link) (n m : ℕ) → RingOk cs spare n m → AreLent (run_of (lent (among (ring_pointers cs n)) cs)) (ring_list cs n)
+  AreLent-ring_list : (cs : List (Cell Links (K × V))) (spare : Link) (n m : ℕ) → IsOwned cs spare n m → AreLent (run_of (lent (among (ring_pointers cs n)) cs)) (ring_list cs n)
   AreLent-ring_list cs spare n m ok =
       record {
         lent = AllByRecursion-lent (among (follow cs n null_ptr)) cs (follow cs n null_ptr) (AllByRecursion-followed cs spare n m ok) (AllByRecursion-among (follow cs n null_ptr));
         apart = IsApart-ring_list cs spare n m ok;
       }
 
-  pub AreLent-held_entries : (e : Ends) (cs : List (Cell Links (K × V))) (spare : Link) (n m : ℕ) → RingOk (ring_cells e cs) spare n m → AreLent (run_of (held_entries e cs n)) (ring_list (ring_cells e cs) n)
+  pub AreLent-held_entries : (e : Ends) (cs : List (Cell Links (K × V))) (spare : Link) (n m : ℕ) → IsOwned (ring_cells e cs) spare n m → AreLent (run_of (held_entries e cs n)) (ring_list (ring_cells e cs) n)
   AreLent-held_entries e cs spare n m ok =
       subst (λ r. AreLent (run_of r) (ring_list (ring_cells e cs) n)) (lent-ring_cells (among (ring_pointers (ring_cells e cs) n)) e cs) (AreLent-ring_list (ring_cells e cs) spare n m ok)

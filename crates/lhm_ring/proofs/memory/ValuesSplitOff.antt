@@ -49,7 +49,7 @@ use Rattle.lhm_ring.specs.contracts.ring.Ring.TheInside as I-type
 use Rattle.lhm_ring.specs.declared.ring.Ring.TheInside as D-type
 use Rattle.lhm_ring.proofs.memory.Memory.{marker}
 use Rattle.lhm_ring.proofs.rings.HeldPointers.{pointers_of, pointers-ring_list}
-use Rattle.lhm_ring.proofs.memory.ValuesReplaced.{lent_then, lent, written_body, written, taken, listing, run_of, pointers-written, taken-listing, IsApart-lent, among, revalued_by, held_entries, RingOk-held_written, ring_list-held_written, AreLent-held_entries}
+use Rattle.lhm_ring.proofs.memory.ValuesReplaced.{lent_then, lent, written_body, written, taken, listing, run_of, pointers-written, taken-listing, IsApart-lent, among, revalued_by, held_entries, IsOwned-held_written, ring_list-held_written, AreLent-held_entries}
 use Rattle.lhm_ring.proofs.memory.ValuesInOrder.{HasOwnValue, AllByRecursion-own_values, taken-own, taken-by, AllByRecursion-kept, set_held_values-own, set_held_values-by, revalued_by-set_held_values}
 use Rattle.lhm_ring.proofs.memory.Sharing.{cells_lent_laws}
 use Rattle.lhm_ring.specs.Nodes.{places, Cell, cell, IsApart, AreBlocks, links_address, key_address, value_address, body_owns, deed_owns, land_owns, cells_own, cell_lent, cells_lent}
@@ -280,7 +280,7 @@ module _ (S W : RattleType) where
         use2 𝓛 (‵ (part_at (Full S W) full_share a' b o)) (ring_mend S W (kept_by a) 𝓛 a b o ks) $ keep ! (0 ∷ []) $
         by ! (Plain-in Lr (Full S W) (view_owns (Full S W) (State (S.Denot × W.Denot)) Lr.coded view good) 𝓛 full_share s a'
         (view_made (Full S W) (State (S.Denot × W.Denot)) Lr.coded view good 𝓛 s a'
-        (view-mended ks, record { ring = RingOk-held_written a.ends a.nodes.cells a.spare a.len a.spares ks ok.ring; laid = ok.laid })) b o)
+        (view-mended ks, record { ring = IsOwned-held_written a.ends a.nodes.cells a.spare a.len a.spares ks ok.ring; laid = ok.laid })) b o)
 
     pub AreLent-entries : AreLent (run_of (entries a)) d.held
     AreLent-entries = subst (λ (s : State (S.Denot × W.Denot)). AreLent (run_of (entries a)) s.held) seen (AreLent-held_entries a.ends a.nodes.cells a.spare a.len a.spares ok.ring)

@@ -9,10 +9,10 @@ use Rattle.lhm_ring.proofs.rings.HeldPointers.{pointers_of, same_ptr-fresh, IsAp
 use Rattle.lhm_ring.proofs.lists.ListFacts.{AllByRecursion-map, AllByRecursion-right}
 use Rattle.lhm_ring.proofs.memory.OneNodeChanged.{links_at-with_body, body_at-with_body}
 use Rattle.lhm_ring.proofs.rings.RingNodes.{Found-listed}
-use Rattle.lhm_ring.proofs.rings.SameNodes.{SameLink, follow-same, RingOk-same}
+use Rattle.lhm_ring.proofs.rings.SameNodes.{SameLink, follow-same, IsOwned-same}
 use Rattle.lhm_ring.proofs.rings.Writes.{cell_at-change_other, length-change, reader-with_links_same, links_at-with_links, body_at-with_links, next_of-chaining_to, prev_of-chaining_to, link_of-chaining_to, hash-chaining_to}
 use Rattle.lhm_ring.specs.Nodes.{Cell, cell, same_ptr, links_of, body_of, links_at, body_at, IsApart, with_links, with_body}
-use Rattle.lhm_ring.specs.Links.{chaining_to, next_of, prev_of, link_of, has_links, next_at, prev_at, link_at, is_there, content_of, content_at, HasContent, follow, listed, one_of, ring_list, RingOk}
+use Rattle.lhm_ring.specs.Links.{chaining_to, next_of, prev_of, link_of, has_links, next_at, prev_at, link_at, is_there, content_of, content_at, HasContent, follow, listed, one_of, ring_list, IsOwned}
 use Rattle.lhm_ring.specs.Ring.{State, state, Held, held, IsHeld, ChangesOnly, change_at, SplitAround}
 use Rattle.lhm_ring.specs.Pointer.{target}
 
@@ -34,15 +34,15 @@ module _ {B : Type 0} (cs ds : List (Cell Links B)) (p : Ptr) (t u : Held B) (j 
     | false ↦ λ n. (h.0, j.content q n ∙ h.1)
   ]) refl
 
-  IsFresh-spare : (spare : Link) (n m : ℕ) (ok : RingOk cs spare n m) → SplitAround ok.held_pointers p → IsFresh p ok.spare_pointers
+  IsFresh-spare : (spare : Link) (n m : ℕ) (ok : IsOwned cs spare n m) → SplitAround ok.held_pointers p → IsFresh p ok.spare_pointers
   IsFresh-spare spare n m ok s =
       let d : IsApart ((null_ptr ∷ s.before) ++ p ∷ (s.after ++ ok.spare_pointers)) = subst (λ qs. IsApart (null_ptr ∷ qs)) (ap (λ qs. qs ++ ok.spare_pointers) s.is ∙ append_assoc s.before (p ∷ s.after) ok.spare_pointers) ok.ring.apart in
       AllByRecursion-right (λ q. same_ptr p q ≡ false) s.after ok.spare_pointers (AllByRecursion-right (λ q. same_ptr p q ≡ false) (null_ptr ∷ s.before) (s.after ++ ok.spare_pointers) (IsFresh-middle (null_ptr ∷ s.before) p (s.after ++ ok.spare_pointers) d))
 
-  pub RingOk-changed : (spare : Link) (n m : ℕ) → RingOk cs spare n m → IsHeld (ring_list cs n) p → RingOk ds spare n m
-  RingOk-changed spare n m ok h =
+  pub IsOwned-changed : (spare : Link) (n m : ℕ) → IsOwned cs spare n m → IsHeld (ring_list cs n) p → IsOwned ds spare n m
+  IsOwned-changed spare n m ok h =
       let s = (Found-listed cs spare n m ok p h.before h.node h.after h.is h.at_is).split in
-      RingOk-same cs ds j.next j.prev j.there j.count spare n m ok (AllByRecursion-map (HasContent cs) (HasContent ds) HasContent-changed ok.held_pointers ok.ring.held)
+      IsOwned-same cs ds j.next j.prev j.there j.count spare n m ok (AllByRecursion-map (HasContent cs) (HasContent ds) HasContent-changed ok.held_pointers ok.ring.held)
       (AllByRecursion-map (λ q. same_ptr p q ≡ false) (SameLink cs ds) j.link ok.spare_pointers (IsFresh-spare spare n m ok s))
 
   module _ (f : Held B → Held B) (fx : f t ≡ u) where
@@ -130,6 +130,6 @@ module _ {B : Type 0} where
       let far = IsFresh-head x.at (pointers_of (xs ++ t ∷ ys)) d in
       λ i. cond ((ap (same_ptr x.at) (sym at) ∙ same_ptr-fresh x.at xs t ys far) i) (f x) x ∷ change_at-split p f xs t ys at (IsApart-tail x.at (pointers_of (xs ++ t ∷ ys)) d) i
 
-  pub ChangesOnly-held : (cs : List (Cell Links B)) (spare : Link) (n m : ℕ) (v : State B) {total : ℕ} → RingOk cs spare n m → state (ring_list cs n) m total ≡ v → (p : Ptr) → ChangesOnly v.held p
+  pub ChangesOnly-held : (cs : List (Cell Links B)) (spare : Link) (n m : ℕ) (v : State B) {total : ℕ} → IsOwned cs spare n m → state (ring_list cs n) m total ≡ v → (p : Ptr) → ChangesOnly v.held p
   ChangesOnly-held cs spare n m v ok w p xs t ys e at f =
       ap (change_at p f) e ∙ change_at-split p f xs t ys at (subst (λ hs. IsApart (pointers_of hs)) (ap (λ (z : State B). z.held) w ∙ e) (IsApart-ring_list cs spare n m ok))

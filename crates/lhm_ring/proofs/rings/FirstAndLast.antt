@@ -11,7 +11,7 @@ use Rattle.lhm_ring.proofs.rings.RingCells.{led_to-apart}
 use Rattle.lhm_ring.proofs.rings.RingNodes.{ring_list-listed}
 use Rattle.lhm_ring.proofs.lists.Rows.{RowCut-linked}
 use Rattle.lhm_ring.specs.Nodes.{Cell, same_ptr, links_at, body_at}
-use Rattle.lhm_ring.specs.Links.{next_at, prev_at, content_at, Linked, HasContent, listed, one_of, ring_list, RingOk}
+use Rattle.lhm_ring.specs.Links.{next_at, prev_at, content_at, AreLinked, HasContent, listed, one_of, ring_list, IsOwned}
 use Rattle.lhm_ring.specs.Ring.{State, state, Held, first_at, last_at, last_of}
 use Rattle.lhm_ring.specs.Pointer.{led_to, target}
 
@@ -25,31 +25,31 @@ module _ {B : Type 0} (cs : List (Cell Links B)) where
   last_of-listed p h (q ∷ qs) a = ap (λ o. last_of h.0 (one_of o ++ listed cs qs)) a.0.1 ∙ last_of-listed q a.0 qs a.1
 
   -- the first of what comes after g, and the last of what comes before a
-  pub first_at-row : (g a : Ptr) (ps : List Ptr) → AllByRecursion (HasContent cs) ps → Linked cs (g ∷ (ps ++ a ∷ [])) → (length ps ≡ 0 → ⊥) → first_at (listed cs ps) ≡ Some (next_at cs g)
+  pub first_at-row : (g a : Ptr) (ps : List Ptr) → AllByRecursion (HasContent cs) ps → AreLinked cs (g ∷ (ps ++ a ∷ [])) → (length ps ≡ 0 → ⊥) → first_at (listed cs ps) ≡ Some (next_at cs g)
   unfolding listed
   first_at-row g a [] c l h = absurd (h refl)
   first_at-row g a (p ∷ ps) c l h = ap (λ z. first_at (one_of z ++ listed cs ps)) c.0.1 ∙ ap (λ q. Some q) (at-content p c.0.0 c.0.1 ∙ sym l.0.0)
 
-  pub last_at-row : (g a : Ptr) (ps : List Ptr) → AllByRecursion (HasContent cs) ps → Linked cs (g ∷ (ps ++ a ∷ [])) → (length ps ≡ 0 → ⊥) → last_at (listed cs ps) ≡ Some (prev_at cs a)
+  pub last_at-row : (g a : Ptr) (ps : List Ptr) → AllByRecursion (HasContent cs) ps → AreLinked cs (g ∷ (ps ++ a ∷ [])) → (length ps ≡ 0 → ⊥) → last_at (listed cs ps) ≡ Some (prev_at cs a)
   unfolding listed
   last_at-row g a [] c l h = absurd (h refl)
   last_at-row g a (p ∷ ps) c l h = ap (λ z. last_at (one_of z ++ listed cs ps)) c.0.1 ∙ ap (λ q. Some q) (last_of-listed p c.0 ps c.1 ∙ sym (RowCut-linked cs g (p ∷ ps) a [] l).edge.1)
 
 module _ {B : Type 0} (cs : List (Cell Links B)) where
   -- the first of a row that ends at null, and the last of one that begins there
-  pub first_at-led_to : (p : Ptr) (ps : List Ptr) → AllByRecursion (HasContent cs) ps → IsFresh null_ptr ps → Linked cs (p ∷ (ps ++ null_ptr ∷ [])) → first_at (listed cs ps) ≡ led_to (next_at cs p)
+  pub first_at-led_to : (p : Ptr) (ps : List Ptr) → AllByRecursion (HasContent cs) ps → IsFresh null_ptr ps → AreLinked cs (p ∷ (ps ++ null_ptr ∷ [])) → first_at (listed cs ps) ≡ led_to (next_at cs p)
   unfolding listed
   first_at-led_to p [] c f l = sym (ap led_to l.0.0)
   first_at-led_to p (q ∷ qs) c f l = first_at-row cs p null_ptr (q ∷ qs) c l (λ z. omega (arith, z)) ∙ sym (led_to-apart (next_at cs p) (ap (same_ptr null_ptr) l.0.0 ∙ f.0))
 
-  pub last_at-led_to : (p : Ptr) (ps : List Ptr) → AllByRecursion (HasContent cs) ps → IsFresh null_ptr ps → Linked cs (null_ptr ∷ (ps ++ p ∷ [])) → last_at (listed cs ps) ≡ led_to (prev_at cs p)
+  pub last_at-led_to : (p : Ptr) (ps : List Ptr) → AllByRecursion (HasContent cs) ps → IsFresh null_ptr ps → AreLinked cs (null_ptr ∷ (ps ++ p ∷ [])) → last_at (listed cs ps) ≡ led_to (prev_at cs p)
   unfolding listed
   last_at-led_to p [] c f l = sym (ap led_to l.0.1)
   last_at-led_to p (q ∷ qs) c f l =
       last_at-row cs null_ptr p (q ∷ qs) c l (λ z. omega (arith, z))
       ∙ sym (led_to-apart (prev_at cs p) (ap (same_ptr null_ptr) (RowCut-linked cs null_ptr (q ∷ qs) p [] l).edge.1 ∙ AllByRecursion-last (λ r. same_ptr null_ptr r ≡ false) q qs f.0 f.1))
 
-module _ {B : Type 0} (cs : List (Cell Links B)) (spare : Link) (n m : ℕ) (v : State B) (ok : RingOk cs spare n m) {total : ℕ} (w : state (ring_list cs n) m total ≡ v) where
+module _ {B : Type 0} (cs : List (Cell Links B)) (spare : Link) (n m : ℕ) (v : State B) (ok : IsOwned cs spare n m) {total : ℕ} (w : state (ring_list cs n) m total ≡ v) where
   listed-held : listed cs ok.held_pointers ≡ v.held
   listed-held = sym (ring_list-listed cs ok.held_pointers (target spare) ok.spare_pointers n ok.ring ok.held_count) ∙ ap (λ (z : State B). z.held) w
 

@@ -5,10 +5,10 @@ use denote.RawPtr.{Ptr}
 use Rattle.lhm_ring.specs.declared.ring.Links.{Links}
 use Rattle.lhm_ring.proofs.lists.Apart.{IsFresh, same_ptr-reflexive, IsApart-tail, AllByRecursion-fresh_across, IsApart-left, IsFresh-head, IsFresh-middle, same_ptr-flip, IsApart-removed}
 use Rattle.lhm_ring.proofs.lists.ListFacts.{last_from, AllByRecursion-map, AllByRecursion-always, AllByRecursion-last, AllByRecursion-append, AllByRecursion-left, last_from-push, AllByRecursion-right}
-use Rattle.lhm_ring.proofs.lists.Rows.{RowCut-linked, Linked-glued}
-use Rattle.lhm_ring.proofs.rings.SameNodes.{Chained-same, SameLink}
+use Rattle.lhm_ring.proofs.lists.Rows.{RowCut-linked, AreLinked-glued}
+use Rattle.lhm_ring.proofs.rings.SameNodes.{IsSpareList-same, SameLink}
 use Rattle.lhm_ring.specs.Nodes.{Cell, same_ptr, IsApart}
-use Rattle.lhm_ring.specs.Links.{next_at, prev_at, is_there, Edge, Linked, Chained, HasContent, listed, one_of, IsJoined}
+use Rattle.lhm_ring.specs.Links.{next_at, prev_at, is_there, AreNeighbours, AreLinked, IsSpareList, HasContent, listed, one_of, IsJoined}
 
 -- a is none of those that lead on, and b none of those that are led to
 abbrev pub AvoidsSource : Ptr → List Ptr → Type 0
@@ -37,20 +37,20 @@ AvoidsSource-last x (y ∷ ys) d =
 
 module _ {B : Type 0} where
   module _ (cs ds : List (Cell Links B)) (a b : Ptr) (j : IsJoined cs ds a b) where
-    Edge-unchanged : (x y : Ptr) → same_ptr a x ≡ false → same_ptr b y ≡ false → Edge cs x y → Edge ds x y
-    Edge-unchanged x y m n e = (j.next x ∙ ap (λ t. cond t b (next_at cs x)) m ∙ e.0, j.prev y ∙ ap (λ t. cond t a (prev_at cs y)) n ∙ e.1)
+    AreNeighbours-unchanged : (x y : Ptr) → same_ptr a x ≡ false → same_ptr b y ≡ false → AreNeighbours cs x y → AreNeighbours ds x y
+    AreNeighbours-unchanged x y m n e = (j.next x ∙ ap (λ t. cond t b (next_at cs x)) m ∙ e.0, j.prev y ∙ ap (λ t. cond t a (prev_at cs y)) n ∙ e.1)
 
-    pub Edge-made : Edge ds a b
-    Edge-made = (j.next a ∙ ap (λ t. cond t b (next_at cs a)) (same_ptr-reflexive a), j.prev b ∙ ap (λ t. cond t a (prev_at cs b)) (same_ptr-reflexive b))
+    pub AreNeighbours-made : AreNeighbours ds a b
+    AreNeighbours-made = (j.next a ∙ ap (λ t. cond t b (next_at cs a)) (same_ptr-reflexive a), j.prev b ∙ ap (λ t. cond t a (prev_at cs b)) (same_ptr-reflexive b))
 
-    pub Linked-unchanged : (s : List Ptr) → AvoidsSource a s → AvoidsTarget b s → Linked cs s
-        → Linked ds s
-    Linked-unchanged [] m n l = tt
-    Linked-unchanged (x ∷ []) m n l = tt
-    Linked-unchanged (x ∷ y ∷ r) m n l = (Edge-unchanged x y m.0 n.0 l.0, Linked-unchanged (y ∷ r) m.1 n.1 l.1)
+    pub AreLinked-unchanged : (s : List Ptr) → AvoidsSource a s → AvoidsTarget b s → AreLinked cs s
+        → AreLinked ds s
+    AreLinked-unchanged [] m n l = tt
+    AreLinked-unchanged (x ∷ []) m n l = tt
+    AreLinked-unchanged (x ∷ y ∷ r) m n l = (AreNeighbours-unchanged x y m.0 n.0 l.0, AreLinked-unchanged (y ∷ r) m.1 n.1 l.1)
 
-    pub Chained-unchanged : (h : Option Ptr) (ss : List Ptr) → Chained cs h ss → Chained ds h ss
-    Chained-unchanged h ss = Chained-same cs ds h ss (AllByRecursion-always (SameLink cs ds) j.link ss)
+    pub IsSpareList-unchanged : (h : Option Ptr) (ss : List Ptr) → IsSpareList cs h ss → IsSpareList ds h ss
+    IsSpareList-unchanged h ss = IsSpareList-same cs ds h ss (AllByRecursion-always (SameLink cs ds) j.link ss)
 
     pub AllByRecursion-content_unchanged : (ps : List Ptr) → AllByRecursion (HasContent cs) ps → AllByRecursion (HasContent ds) ps
     AllByRecursion-content_unchanged = AllByRecursion-map (HasContent cs) (HasContent ds) (λ p h. (h.0, j.content p ∙ h.1))
@@ -64,29 +64,29 @@ module _ {B : Type 0} where
     listed-unchanged (p ∷ ps) = (λ i. one_of (j.content p i) ++ listed-unchanged ps i)
 
   -- the node p goes out of the row: those beside it are joined
-  pub Linked-removed : (cs ds : List (Cell Links B)) (g : Ptr) (xs : List Ptr) (p : Ptr) (ys : List Ptr) → IsApart (g ∷ (xs ++ p ∷ ys)) → Linked cs (g ∷ (xs ++ p ∷ (ys ++ g ∷ [])))
-      → IsJoined cs ds (prev_at cs p) (next_at cs p) → Linked ds (g ∷ (xs ++ (ys ++ g ∷ [])))
-  Linked-removed cs ds g xs p [] d l j =
+  pub AreLinked-removed : (cs ds : List (Cell Links B)) (g : Ptr) (xs : List Ptr) (p : Ptr) (ys : List Ptr) → IsApart (g ∷ (xs ++ p ∷ ys)) → AreLinked cs (g ∷ (xs ++ p ∷ (ys ++ g ∷ [])))
+      → IsJoined cs ds (prev_at cs p) (next_at cs p) → AreLinked ds (g ∷ (xs ++ (ys ++ g ∷ [])))
+  AreLinked-removed cs ds g xs p [] d l j =
       let cut = RowCut-linked cs g xs p (g ∷ []) l in let a = last_from g xs in
       let k : IsJoined cs ds a g = subst (λ (z : Ptr × Ptr). IsJoined cs ds z.0 z.1) (λ i. (cut.edge.1 i, cut.after.0.0 i)) j in
       let whole = IsApart-left (g ∷ xs) (p ∷ []) d in
-      Linked-glued ds g xs g [] (Linked-unchanged cs ds a g k (g ∷ xs) (AvoidsSource-last g xs whole) (IsFresh-head g xs whole) cut.before) (Edge-made cs ds a g k) tt
-  Linked-removed cs ds g xs p (y ∷ r) d l j =
+      AreLinked-glued ds g xs g [] (AreLinked-unchanged cs ds a g k (g ∷ xs) (AvoidsSource-last g xs whole) (IsFresh-head g xs whole) cut.before) (AreNeighbours-made cs ds a g k) tt
+  AreLinked-removed cs ds g xs p (y ∷ r) d l j =
       let cut = RowCut-linked cs g xs p (y ∷ (r ++ g ∷ [])) l in let a = last_from g xs in
       let k : IsJoined cs ds a y = subst (λ (z : Ptr × Ptr). IsJoined cs ds z.0 z.1) (λ i. (cut.edge.1 i, cut.after.0.0 i)) j in
       let whole = IsApart-left (g ∷ xs) (p ∷ y ∷ r) d in let less = IsApart-removed (g ∷ xs) p (y ∷ r) d in
       let free = IsFresh-middle (g ∷ xs) y r less in let P : Ptr → Type 0 = λ q. same_ptr y q ≡ false in
       let across = AllByRecursion-fresh_across (g ∷ xs) (y ∷ r) less in
-      Linked-glued ds g xs y (r ++ g ∷ []) (Linked-unchanged cs ds a y k (g ∷ xs) (AvoidsSource-last g xs whole) (AllByRecursion-left P xs r free.1) cut.before) (Edge-made cs ds a y k)
-      (Linked-unchanged cs ds a y k (y ∷ (r ++ g ∷ [])) (AvoidsSource-but_last a y r g (AllByRecursion-last (λ x. IsFresh x (y ∷ r)) g xs across.0 across.1)) (AllByRecursion-append P r (g ∷ []) (AllByRecursion-right P xs r free.1) (free.0, tt)) cut.after.1)
+      AreLinked-glued ds g xs y (r ++ g ∷ []) (AreLinked-unchanged cs ds a y k (g ∷ xs) (AvoidsSource-last g xs whole) (AllByRecursion-left P xs r free.1) cut.before) (AreNeighbours-made cs ds a y k)
+      (AreLinked-unchanged cs ds a y k (y ∷ (r ++ g ∷ [])) (AvoidsSource-but_last a y r g (AllByRecursion-last (λ x. IsFresh x (y ∷ r)) g xs across.0 across.1)) (AllByRecursion-append P r (g ∷ []) (AllByRecursion-right P xs r free.1) (free.0, tt)) cut.after.1)
 
   -- a node p comes last
-  pub Linked-pushed : (cs ds es : List (Cell Links B)) (g : Ptr) (ps : List Ptr) (p : Ptr) → IsApart (g ∷ ps) → IsFresh p (g ∷ ps) → Linked cs (g ∷ (ps ++ g ∷ []))
-      → IsJoined cs ds (prev_at cs g) p → IsJoined ds es p g → Linked es (g ∷ ((ps ++ p ∷ []) ++ g ∷ []))
-  Linked-pushed cs ds es g ps p d free l j k =
+  pub AreLinked-pushed : (cs ds es : List (Cell Links B)) (g : Ptr) (ps : List Ptr) (p : Ptr) → IsApart (g ∷ ps) → IsFresh p (g ∷ ps) → AreLinked cs (g ∷ (ps ++ g ∷ []))
+      → IsJoined cs ds (prev_at cs g) p → IsJoined ds es p g → AreLinked es (g ∷ ((ps ++ p ∷ []) ++ g ∷ []))
+  AreLinked-pushed cs ds es g ps p d free l j k =
       let cut = RowCut-linked cs g ps g [] l in let a = last_from g ps in
       let j' : IsJoined cs ds a p = subst (λ z. IsJoined cs ds z p) cut.edge.1 j in
       let P : Ptr → Type 0 = λ q. same_ptr g q ≡ false in
-      let first : Linked ds (g ∷ (ps ++ p ∷ [])) = Linked-glued ds g ps p [] (Linked-unchanged cs ds a p j' (g ∷ ps) (AvoidsSource-last g ps d) free.1 cut.before) (Edge-made cs ds a p j') tt in
-      let second : Linked es (g ∷ (ps ++ p ∷ [])) = Linked-unchanged ds es p g k (g ∷ (ps ++ p ∷ [])) (AvoidsSource-but_last p g ps p free) (AllByRecursion-append P ps (p ∷ []) (IsFresh-head g ps d) (same_ptr-flip p g free.0, tt)) first in
-      Linked-glued es g (ps ++ p ∷ []) g [] second (subst (λ z. Edge es z g) (sym (last_from-push g ps p)) (Edge-made ds es p g k)) tt
+      let first : AreLinked ds (g ∷ (ps ++ p ∷ [])) = AreLinked-glued ds g ps p [] (AreLinked-unchanged cs ds a p j' (g ∷ ps) (AvoidsSource-last g ps d) free.1 cut.before) (AreNeighbours-made cs ds a p j') tt in
+      let second : AreLinked es (g ∷ (ps ++ p ∷ [])) = AreLinked-unchanged ds es p g k (g ∷ (ps ++ p ∷ [])) (AvoidsSource-but_last p g ps p free) (AllByRecursion-append P ps (p ∷ []) (IsFresh-head g ps d) (same_ptr-flip p g free.0, tt)) first in
+      AreLinked-glued es g (ps ++ p ∷ []) g [] second (subst (λ z. AreNeighbours es z g) (sym (last_from-push g ps p)) (AreNeighbours-made ds es p g k)) tt

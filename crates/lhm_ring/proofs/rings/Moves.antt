@@ -5,12 +5,12 @@ use denote.RawPtr.{Ptr, null_ptr}
 use Rattle.lhm_ring.specs.declared.ring.Links.{Links}
 use Rattle.lhm_ring.specs.declared.pointer.Link.{Link}
 use Rattle.lhm_ring.proofs.lists.Apart.{IsFresh, IsApart-left, IsFresh-middle, IsApart-removed, IsApart-inserted}
-use Rattle.lhm_ring.proofs.rings.Joins.{Chained-unchanged, AllByRecursion-content_unchanged, AllByRecursion-there_unchanged, listed-unchanged, Linked-removed, Linked-pushed}
+use Rattle.lhm_ring.proofs.rings.Joins.{IsSpareList-unchanged, AllByRecursion-content_unchanged, AllByRecursion-there_unchanged, listed-unchanged, AreLinked-removed, AreLinked-pushed}
 use Rattle.lhm_ring.proofs.lists.ListFacts.{AllByRecursion-append, AllByRecursion-left, AllByRecursion-right, AllByRecursion-removed, AllByRecursion-last}
 use Rattle.lhm_ring.proofs.rings.RingNodes.{Found-held, NodeAt-held, ring_list-listed, ring_split}
 use Rattle.lhm_ring.proofs.lists.Rows.{RowCut-linked, listed-append}
 use Rattle.lhm_ring.specs.Nodes.{Cell, IsApart, links_at}
-use Rattle.lhm_ring.specs.Links.{next_of, prev_of, next_at, prev_at, is_there, content_at, Linked, Chained, HasContent, IsRing, listed, one_of, IsJoined, ring_list, RingOk}
+use Rattle.lhm_ring.specs.Links.{next_of, prev_of, next_at, prev_at, is_there, content_at, AreLinked, IsSpareList, HasContent, IsRing, listed, one_of, IsJoined, ring_list, IsOwned}
 use Rattle.lhm_ring.specs.Ring.{state, Held, State, IsHeld, AtHeld, SplitAround}
 use Rattle.lhm_ring.specs.Pointer.{target}
 
@@ -24,8 +24,8 @@ module _ {B : Type 0} (cs : List (Cell Links B)) (spare : Option Ptr) (ss us : L
   abbrev There : Ptr → Type 0
   There q = is_there cs q ≡ true
 
-  Linked-row : Linked cs (null_ptr ∷ (us ++ p ∷ (vs ++ null_ptr ∷ [])))
-  Linked-row = subst (λ qs. Linked cs (null_ptr ∷ qs)) (append_assoc us (p ∷ vs) (null_ptr ∷ [])) r.linked
+  AreLinked-row : AreLinked cs (null_ptr ∷ (us ++ p ∷ (vs ++ null_ptr ∷ [])))
+  AreLinked-row = subst (λ qs. AreLinked cs (null_ptr ∷ qs)) (append_assoc us (p ∷ vs) (null_ptr ∷ [])) r.linked
 
   IsApart-row : IsApart (null_ptr ∷ (us ++ p ∷ vs))
   IsApart-row = IsApart-left (null_ptr ∷ (us ++ p ∷ vs)) ss r.apart
@@ -37,23 +37,23 @@ module _ {B : Type 0} (cs : List (Cell Links B)) (spare : Option Ptr) (ss us : L
   There-node = (AllByRecursion-right There us (p ∷ vs) AllByRecursion-there).0
 
   pub There-prev : There (prev_at cs p)
-  There-prev = subst There (sym (RowCut-linked cs null_ptr us p (vs ++ null_ptr ∷ []) Linked-row).edge.1) (AllByRecursion-last There null_ptr us r.there.0 (AllByRecursion-left There us (p ∷ vs) AllByRecursion-there))
+  There-prev = subst There (sym (RowCut-linked cs null_ptr us p (vs ++ null_ptr ∷ []) AreLinked-row).edge.1) (AllByRecursion-last There null_ptr us r.there.0 (AllByRecursion-left There us (p ∷ vs) AllByRecursion-there))
 
-  There-first : (ys : List Ptr) → AllByRecursion There ys → Linked cs (p ∷ (ys ++ null_ptr ∷ [])) → There (next_at cs p)
+  There-first : (ys : List Ptr) → AllByRecursion There ys → AreLinked cs (p ∷ (ys ++ null_ptr ∷ [])) → There (next_at cs p)
   There-first [] a l = subst There (sym l.0.0) r.there.0
   There-first (y ∷ ys) a l = subst There (sym l.0.0) a.0
 
   pub There-next : There (next_at cs p)
-  There-next = There-first vs (AllByRecursion-right There us (p ∷ vs) AllByRecursion-there).1 (RowCut-linked cs null_ptr us p (vs ++ null_ptr ∷ []) Linked-row).after
+  There-next = There-first vs (AllByRecursion-right There us (p ∷ vs) AllByRecursion-there).1 (RowCut-linked cs null_ptr us p (vs ++ null_ptr ∷ []) AreLinked-row).after
 
   module _ (ds : List (Cell Links B)) (j : IsJoined cs ds (prev_at cs p) (next_at cs p)) where
-    pub Linked-joined : Linked ds (null_ptr ∷ ((us ++ vs) ++ null_ptr ∷ []))
-    Linked-joined = subst (λ qs. Linked ds (null_ptr ∷ qs)) (sym (append_assoc us vs (null_ptr ∷ []))) (Linked-removed cs ds null_ptr us p vs IsApart-row Linked-row j)
+    pub AreLinked-joined : AreLinked ds (null_ptr ∷ ((us ++ vs) ++ null_ptr ∷ []))
+    AreLinked-joined = subst (λ qs. AreLinked ds (null_ptr ∷ qs)) (sym (append_assoc us vs (null_ptr ∷ []))) (AreLinked-removed cs ds null_ptr us p vs IsApart-row AreLinked-row j)
 
     pub is_there-last : is_there ds (prev_at ds null_ptr) ≡ true
     is_there-last =
         let T : Ptr → Type 0 = λ q. is_there ds q ≡ true in
-        subst T (sym (RowCut-linked ds null_ptr (us ++ vs) null_ptr [] Linked-joined).edge.1) (AllByRecursion-last T null_ptr (us ++ vs) (j.there null_ptr ∙ r.there.0) (AllByRecursion-there_unchanged cs ds (prev_at cs p) (next_at cs p) j (us ++ vs) (AllByRecursion-removed There us p vs AllByRecursion-there)))
+        subst T (sym (RowCut-linked ds null_ptr (us ++ vs) null_ptr [] AreLinked-joined).edge.1) (AllByRecursion-last T null_ptr (us ++ vs) (j.there null_ptr ∙ r.there.0) (AllByRecursion-there_unchanged cs ds (prev_at cs p) (next_at cs p) j (us ++ vs) (AllByRecursion-removed There us p vs AllByRecursion-there)))
 
     module _ (es fs : List (Cell Links B)) (k : IsJoined ds es (prev_at ds null_ptr) p) (l : IsJoined es fs p null_ptr) where
       IsFresh-node : IsFresh p ((null_ptr ∷ us) ++ vs)
@@ -78,8 +78,8 @@ module _ {B : Type 0} (cs : List (Cell Links B)) (spare : Option Ptr) (ss us : L
 
       pub IsRing-to_back : IsRing fs ((us ++ vs) ++ p ∷ []) spare ss
       IsRing-to_back = record {
-        linked = Linked-pushed ds es fs null_ptr (us ++ vs) p (IsApart-removed (null_ptr ∷ us) p vs IsApart-row) IsFresh-node Linked-joined k l;
-        chained = kept (λ zs. Chained zs spare ss) (Chained-unchanged cs ds _ _ j spare ss) (Chained-unchanged ds es _ _ k spare ss) (Chained-unchanged es fs _ _ l spare ss) r.chained;
+        linked = AreLinked-pushed ds es fs null_ptr (us ++ vs) p (IsApart-removed (null_ptr ∷ us) p vs IsApart-row) IsFresh-node AreLinked-joined k l;
+        chained = kept (λ zs. IsSpareList zs spare ss) (IsSpareList-unchanged cs ds _ _ j spare ss) (IsSpareList-unchanged ds es _ _ k spare ss) (IsSpareList-unchanged es fs _ _ l spare ss) r.chained;
         held = let qs = (us ++ vs) ++ p ∷ [] in
             kept (λ zs. AllByRecursion (HasContent zs) qs) (AllByRecursion-content_unchanged cs ds _ _ j qs) (AllByRecursion-content_unchanged ds es _ _ k qs) (AllByRecursion-content_unchanged es fs _ _ l qs) (AllByRecursion-moved (HasContent cs) r.held);
         there = let qs = null_ptr ∷ (((us ++ vs) ++ p ∷ []) ++ ss) in
@@ -97,7 +97,7 @@ module _ {B : Type 0} (cs : List (Cell Links B)) (spare : Option Ptr) (ss us : L
 
 -- a node that is moved to the end: those beside it are joined, the last with it, and it with the
 -- end
-module _ {B : Type 0} (cs : List (Cell Links B)) (spare : Link) (n m : ℕ) (v : State B) (ok : RingOk cs spare n m) {total : ℕ} (w : state (ring_list cs n) m total ≡ v)
+module _ {B : Type 0} (cs : List (Cell Links B)) (spare : Link) (n m : ℕ) (v : State B) (ok : IsOwned cs spare n m) {total : ℕ} (w : state (ring_list cs n) m total ≡ v)
     (p : Ptr) (lp : Links) (ep : links_at cs p ≡ Some lp) (ds : List (Cell Links B)) (j : IsJoined cs ds lp.prev.ptr lp.next.ptr) where
   j' : IsJoined cs ds (prev_at cs p) (next_at cs p)
   j' = subst (λ (z : Ptr × Ptr). IsJoined cs ds z.0 z.1) (λ i. (sym (ap prev_of ep) i, sym (ap next_of ep) i)) j
@@ -115,8 +115,8 @@ module _ {B : Type 0} (cs : List (Cell Links B)) (spare : Link) (n m : ℕ) (v :
         → length ((s.before ++ s.after) ++ p ∷ []) ≡ n
     length-moved s = sym (ap length s.is ∙ length-to_back cs (target spare) ok.spare_pointers s.before p s.after (ring_split ok.ring s) ds j' es fs k l) ∙ ok.held_count
 
-    pub RingOk-moved : IsHeld v.held p → RingOk fs spare n m
-    RingOk-moved h =
+    pub IsOwned-moved : IsHeld v.held p → IsOwned fs spare n m
+    IsOwned-moved h =
         let s = NodeAt-held cs spare n m v p ok w h in
         record {
           held_pointers = (s.before ++ s.after) ++ p ∷ [];

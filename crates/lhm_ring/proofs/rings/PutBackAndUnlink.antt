@@ -8,16 +8,16 @@ use Rattle.lhm_ring.specs.declared.ring.Links.{Links}
 use Rattle.lhm_ring.specs.declared.pointer.Link.{Link}
 use Rattle.lhm_ring.proofs.lists.Apart.{same_ptr-reflexive, IsApart-left, IsFresh-middle, IsFresh, IsApart-inserted, IsApart-removed}
 use Rattle.lhm_ring.proofs.rings.Contents.{hash-content_of, pair-content_of, content_of-holds}
-use Rattle.lhm_ring.proofs.rings.Joins.{Linked-pushed, AllByRecursion-there_unchanged, Chained-unchanged, listed-unchanged, AllByRecursion-content_unchanged}
+use Rattle.lhm_ring.proofs.rings.Joins.{AreLinked-pushed, AllByRecursion-there_unchanged, IsSpareList-unchanged, listed-unchanged, AllByRecursion-content_unchanged}
 use Rattle.lhm_ring.proofs.lists.ListFacts.{AllByRecursion-left, AllByRecursion-last, AllByRecursion-right, AllByRecursion-removed, AllByRecursion-append}
-use Rattle.lhm_ring.proofs.rings.Moves.{Linked-joined, There-node, listed-one}
-use Rattle.lhm_ring.proofs.memory.OneNodeChanged.{OnlyAt, links_at-with_body, body_at-with_body, OnlyAt-with_links, OnlyAt-with_body, OnlyAt-both, Linked-other, listed-other, AllByRecursion-there_other, AllByRecursion-content_other, Chained-other}
+use Rattle.lhm_ring.proofs.rings.Moves.{AreLinked-joined, There-node, listed-one}
+use Rattle.lhm_ring.proofs.memory.OneNodeChanged.{OnlyAt, links_at-with_body, body_at-with_body, OnlyAt-with_links, OnlyAt-with_body, OnlyAt-both, AreLinked-other, listed-other, AllByRecursion-there_other, AllByRecursion-content_other, IsSpareList-other}
 use Rattle.lhm_ring.proofs.lists.Options.{Some-injective}
 use Rattle.lhm_ring.proofs.rings.RingNodes.{Found-held, NodeAt-held, ring_list-listed, ring_split}
 use Rattle.lhm_ring.proofs.lists.Rows.{RowCut-linked, listed-append}
 use Rattle.lhm_ring.proofs.rings.Writes.{links_at-with_links, IsAt-there}
 use Rattle.lhm_ring.specs.Nodes.{Cell, links_at, body_at, IsAt, Holds, with_links, with_body, same_ptr, links_of, IsApart}
-use Rattle.lhm_ring.specs.Links.{chaining_to, ChainsTo, next_of, prev_of, link_of, next_at, prev_at, link_at, is_there, content_of, content_at, Chained, IsRing, listed, IsJoined, ring_list, RingOk, Linked, HasContent}
+use Rattle.lhm_ring.specs.Links.{chaining_to, ChainsTo, next_of, prev_of, link_of, next_at, prev_at, link_at, is_there, content_of, content_at, IsSpareList, IsRing, listed, IsJoined, ring_list, IsOwned, AreLinked, HasContent}
 use Rattle.lhm_ring.specs.Ring.{State, state, held, IsHeld, AtHeld, Held, SplitAround}
 use Rattle.lhm_ring.specs.Pointer.{target}
 
@@ -42,8 +42,8 @@ module _ {B : Type 0} (cs ds es fs : List (Cell Links B)) (ps : List Ptr) (spare
   k₁ : IsJoined ds es (prev_at ds null_ptr) p
   k₁ = subst (λ z. IsJoined ds es z p) (sym prev_at-last) k
 
-  Linked-there : Linked ds (null_ptr ∷ (ps ++ null_ptr ∷ []))
-  Linked-there = Linked-other cs ds p o.other (null_ptr ∷ (ps ++ null_ptr ∷ [])) (IsFresh-row.0, AllByRecursion-append (λ q. same_ptr p q ≡ false) ps (null_ptr ∷ []) IsFresh-row.1 (IsFresh-row.0, tt)) r.linked
+  AreLinked-there : AreLinked ds (null_ptr ∷ (ps ++ null_ptr ∷ []))
+  AreLinked-there = AreLinked-other cs ds p o.other (null_ptr ∷ (ps ++ null_ptr ∷ [])) (IsFresh-row.0, AllByRecursion-append (λ q. same_ptr p q ≡ false) ps (null_ptr ∷ []) IsFresh-row.1 (IsFresh-row.0, tt)) r.linked
 
   IsApart-put_back : IsApart (null_ptr ∷ ((ps ++ p ∷ []) ++ ss))
   IsApart-put_back = subst (λ qs. IsApart (null_ptr ∷ qs)) (sym (append_assoc ps (p ∷ []) ss)) r.apart
@@ -53,8 +53,8 @@ module _ {B : Type 0} (cs ds es fs : List (Cell Links B)) (ps : List Ptr) (spare
 
   pub IsRing-put_back : IsRing fs (ps ++ p ∷ []) (link_at cs p) ss
   IsRing-put_back = record {
-    linked = Linked-pushed ds es fs null_ptr ps p IsApart-row IsFresh-row Linked-there k₁ l;
-    chained = Chained-unchanged es fs p null_ptr l (link_at cs p) ss (Chained-unchanged ds es _ p k₁ (link_at cs p) ss (Chained-other cs ds p o.other (link_at cs p) ss IsFresh-chain r.chained.1));
+    linked = AreLinked-pushed ds es fs null_ptr ps p IsApart-row IsFresh-row AreLinked-there k₁ l;
+    chained = IsSpareList-unchanged es fs p null_ptr l (link_at cs p) ss (IsSpareList-unchanged ds es _ p k₁ (link_at cs p) ss (IsSpareList-other cs ds p o.other (link_at cs p) ss IsFresh-chain r.chained.1));
     held = let qs = ps ++ p ∷ [] in AllByRecursion-content_unchanged es fs p null_ptr l qs (AllByRecursion-content_unchanged ds es _ p k₁ qs (AllByRecursion-append (HasContent ds) ps (p ∷ []) (AllByRecursion-content_other cs ds p o.other ps IsFresh-row.1 r.held) ((t, c), tt)));
     there = let qs = null_ptr ∷ ((ps ++ p ∷ []) ++ ss) in AllByRecursion-there_unchanged es fs p null_ptr l qs (AllByRecursion-there_unchanged ds es _ p k₁ qs (AllByRecursion-there_other cs ds p o qs (r.there.0, AllByRecursion-put_back)));
     apart = IsApart-put_back;
@@ -67,7 +67,7 @@ module _ {B : Type 0} (cs ds es fs : List (Cell Links B)) (ps : List Ptr) (spare
 
 -- a held node p comes out, and is the first spare one
 module _ {B : Type 0} (cs ds es : List (Cell Links B)) (spare : Option Ptr) (ss us : List Ptr) (p : Ptr) (vs : List Ptr) (r : IsRing cs (us ++ p ∷ vs) spare ss) (a b : Ptr)
-    (j : IsJoined cs ds a b) (out : Linked ds (null_ptr ∷ ((us ++ vs) ++ null_ptr ∷ []))) (o : OnlyAt ds es p) (h : link_at es p ≡ spare) where
+    (j : IsJoined cs ds a b) (out : AreLinked ds (null_ptr ∷ ((us ++ vs) ++ null_ptr ∷ []))) (o : OnlyAt ds es p) (h : link_at es p ≡ spare) where
   abbrev T₂ : Ptr → Type 0
   T₂ q = is_there cs q ≡ true
 
@@ -93,8 +93,8 @@ module _ {B : Type 0} (cs ds es : List (Cell Links B)) (spare : Option Ptr) (ss 
 
   pub IsRing-unlinked : IsRing es (us ++ vs) (Some p) (p ∷ ss)
   IsRing-unlinked = record {
-    linked = Linked-other ds es p o.other (null_ptr ∷ ((us ++ vs) ++ null_ptr ∷ [])) (IsFresh-unlinked.0, AllByRecursion-append (λ q. same_ptr p q ≡ false) (us ++ vs) (null_ptr ∷ []) IsFresh-held (IsFresh-unlinked.0, tt)) out;
-    chained = (refl, subst (λ z. Chained es z ss) (sym h) (Chained-other ds es p o.other spare ss (AllByRecursion-right (λ q. same_ptr p q ≡ false) (us ++ vs) ss IsFresh-unlinked.1) (Chained-unchanged cs ds a b j spare ss r.chained)));
+    linked = AreLinked-other ds es p o.other (null_ptr ∷ ((us ++ vs) ++ null_ptr ∷ [])) (IsFresh-unlinked.0, AllByRecursion-append (λ q. same_ptr p q ≡ false) (us ++ vs) (null_ptr ∷ []) IsFresh-held (IsFresh-unlinked.0, tt)) out;
+    chained = (refl, subst (λ z. IsSpareList es z ss) (sym h) (IsSpareList-other ds es p o.other spare ss (AllByRecursion-right (λ q. same_ptr p q ≡ false) (us ++ vs) ss IsFresh-unlinked.1) (IsSpareList-unchanged cs ds a b j spare ss r.chained)));
     held = AllByRecursion-content_other ds es p o.other (us ++ vs) IsFresh-held (AllByRecursion-content_unchanged cs ds a b j (us ++ vs) (AllByRecursion-removed (HasContent cs) us p vs r.held));
     there = AllByRecursion-there_other ds es p o (null_ptr ∷ ((us ++ vs) ++ p ∷ ss)) (AllByRecursion-there_unchanged cs ds a b j (null_ptr ∷ ((us ++ vs) ++ p ∷ ss)) AllByRecursion-unlinked);
     apart = IsApart-unlinked;
@@ -109,11 +109,11 @@ links_at-with_links_here : {B : Type 0} (p : Ptr) (l : Links) (cs : List (Cell L
 links_at-with_links_here p l cs la e = links_at-with_links p l cs la e p ∙ ap (λ y. cond y (Some l) (links_at cs p)) (same_ptr-reflexive p)
 
 module _ {B : Type 0} where
-  IsSome-chained : (cs : List (Cell Links B)) (spare : Link) (m : ℕ) (ss : List Ptr) → 0 < m → m ≤ length ss → Chained cs (target spare) ss → IsSome (target spare)
+  IsSome-chained : (cs : List (Cell Links B)) (spare : Link) (m : ℕ) (ss : List Ptr) → 0 < m → m ≤ length ss → IsSpareList cs (target spare) ss → IsSome (target spare)
   IsSome-chained cs spare m [] h e c = absurd (omega arith)
   IsSome-chained cs spare m (p ∷ ss) h e c = subst IsSome (sym c.0) refl
 
-  pub IsSome-spare : (cs : List (Cell Links B)) (spare : Link) (n m : ℕ) (v : State B) {total : ℕ} → RingOk cs spare n m → state (ring_list cs n) m total ≡ v → 0 < v.spares → IsSome (target spare)
+  pub IsSome-spare : (cs : List (Cell Links B)) (spare : Link) (n m : ℕ) (v : State B) {total : ℕ} → IsOwned cs spare n m → state (ring_list cs n) m total ≡ v → 0 < v.spares → IsSome (target spare)
   IsSome-spare cs spare n m v ok w h = IsSome-chained cs spare m ok.spare_pointers (subst (λ k. 0 < k) (sym (ap (λ (z : State B). z.spares) w)) h) ok.enough_spares ok.ring.chained
 
 -- the first spare node, and the others
@@ -131,11 +131,11 @@ module _ {B : Type 0} (cs : List (Cell Links B)) where
   Ready-ring at n m ps (p ∷ rest) r a b c h =
       record { row = ps; others = rest; ring = subst (λ q. IsRing cs ps (Some at.ptr) (q ∷ rest)) (sym (Some-injective at.ptr p r.chained.0)) r; held_count = a; enough_spares = b; bounded = c }
 
-  pub Ready-spare : (spare : Link) (at : NodePointer) (n m : ℕ) (v : State B) {total : ℕ} → target spare ≡ Some at.ptr → RingOk cs spare n m → state (ring_list cs n) m total ≡ v → 0 < v.spares → Ready cs at n m
+  pub Ready-spare : (spare : Link) (at : NodePointer) (n m : ℕ) (v : State B) {total : ℕ} → target spare ≡ Some at.ptr → IsOwned cs spare n m → state (ring_list cs n) m total ≡ v → 0 < v.spares → Ready cs at n m
   Ready-spare spare at n m v f ok w h =
       Ready-ring at n m ok.held_pointers ok.spare_pointers (subst (λ z. IsRing cs ok.held_pointers z ok.spare_pointers) f ok.ring) ok.held_count ok.enough_spares ok.bounded (subst (λ k. 0 < k) (sym (ap (λ (z : State B). z.spares) w)) h)
 
-module _ {B : Type 0} (cs : List (Cell Links B)) (spare : Link) (at : NodePointer) (n m : ℕ) (v : State B) (f : target spare ≡ Some at.ptr) (ok : RingOk cs spare n m) {total : ℕ} (w : state (ring_list cs n) m total ≡ v)
+module _ {B : Type 0} (cs : List (Cell Links B)) (spare : Link) (at : NodePointer) (n m : ℕ) (v : State B) (f : target spare ≡ Some at.ptr) (ok : IsOwned cs spare n m) {total : ℕ} (w : state (ring_list cs n) m total ≡ v)
     (pos : 0 < v.spares) where
   r : Ready cs at n m
   r = Ready-spare cs spare at n m v f ok w pos
@@ -174,8 +174,8 @@ module _ {B : Type 0} (cs : List (Cell Links B)) (spare : Link) (at : NodePointe
       length-longer : length (r.row ++ at.ptr ∷ []) ≡ n + 1
       length-longer = let a = r.held_count in omega (arith, length-append r.row (at.ptr ∷ []))
 
-      pub RingOk-put_back : RingOk c₄ la.link (n + 1) (m - 1)
-      RingOk-put_back =
+      pub IsOwned-put_back : IsOwned c₄ la.link (n + 1) (m - 1)
+      IsOwned-put_back =
           let a = r.enough_spares in let b = r.bounded in let known : m ≡ v.spares = ap (λ (z : State B). z.spares) w in let some = pos in
           record {
             held_pointers = r.row ++ at.ptr ∷ [];
@@ -195,7 +195,7 @@ module _ {B : Type 0} (cs : List (Cell Links B)) (spare : Link) (at : NodePointe
           λ i. state (new i) (ap (λ (z : State B). z.spares) w i - 1) (ap (λ (z : State B). z.nodes) w i)
 
 -- the node at `at` is joined past, gives its body up, and is the first spare one
-module _ {B : Type 0} (cs : List (Cell Links B)) (spare : Link) (n m : ℕ) (v : State B) (ok : RingOk cs spare n m) {total : ℕ} (w : state (ring_list cs n) m total ≡ v)
+module _ {B : Type 0} (cs : List (Cell Links B)) (spare : Link) (n m : ℕ) (v : State B) (ok : IsOwned cs spare n m) {total : ℕ} (w : state (ring_list cs n) m total ≡ v)
     (at : NodePointer) (la : Links) (ea : links_at cs at.ptr ≡ Some la) (ds : List (Cell Links B)) (j : IsJoined cs ds la.prev.ptr la.next.ptr) where
   j₂ : IsJoined cs ds (prev_at cs at.ptr) (next_at cs at.ptr)
   j₂ = subst (λ (z : Ptr × Ptr). IsJoined cs ds z.0 z.1) (λ i. (sym (ap prev_of ea) i, sym (ap next_of ea) i)) j
@@ -231,14 +231,14 @@ module _ {B : Type 0} (cs : List (Cell Links B)) (spare : Link) (n m : ℕ) (v :
       left : IsHeld v.held at.ptr → (s : SplitAround ok.held_pointers at.ptr) → IsRing c₂ (s.before ++ s.after) (Some at.ptr) (at.ptr ∷ ok.spare_pointers)
       left h s =
           let r = ring_split ok.ring s in
-          IsRing-unlinked cs ds c₂ (target spare) ok.spare_pointers s.before at.ptr s.after r _ _ j₂ (Linked-joined cs (target spare) ok.spare_pointers s.before at.ptr s.after r ds j₂) (OnlyAt-unlinked h) (link_at-spare h)
+          IsRing-unlinked cs ds c₂ (target spare) ok.spare_pointers s.before at.ptr s.after r _ _ j₂ (AreLinked-joined cs (target spare) ok.spare_pointers s.before at.ptr s.after r ds j₂) (OnlyAt-unlinked h) (link_at-spare h)
 
       length-shorter : (s : SplitAround ok.held_pointers at.ptr)
           → length (s.before ++ s.after) ≡ n - 1
       length-shorter s = let a = sym (ap length s.is) ∙ ok.held_count in omega (arith, length-append s.before (at.ptr ∷ s.after), length-append s.before s.after)
 
-      pub RingOk-unlinked : (top : Link) → target top ≡ Some at.ptr → IsHeld v.held at.ptr → RingOk c₂ top (n - 1) (m + 1)
-      RingOk-unlinked top et h =
+      pub IsOwned-unlinked : (top : Link) → target top ≡ Some at.ptr → IsHeld v.held at.ptr → IsOwned c₂ top (n - 1) (m + 1)
+      IsOwned-unlinked top et h =
           let s = NodeAt-held cs spare n m v at.ptr ok w h in let a = ok.enough_spares in let b = ok.bounded in let some : 1 ≤ n = count-held h in
           record {
             held_pointers = s.before ++ s.after;
@@ -255,7 +255,7 @@ module _ {B : Type 0} (cs : List (Cell Links B)) (spare : Link) (n m : ℕ) (v :
           let q = Found-held cs spare n m v at.ptr ok w xs t ys k here in let s = q.split in let r = ring_split ok.ring s in
           let list : ring_list c₂ (n - 1) ≡ xs ++ ys =
           ring_list-listed c₂ (s.before ++ s.after) (Some at.ptr) (at.ptr ∷ ok.spare_pointers) (n - 1) (left h s) (length-shorter s)
-          ∙ listed-unlinked cs ds c₂ (target spare) ok.spare_pointers s.before at.ptr s.after r _ _ j₂ (Linked-joined cs (target spare) ok.spare_pointers s.before at.ptr s.after r ds j₂) (OnlyAt-unlinked h) (link_at-spare h)
+          ∙ listed-unlinked cs ds c₂ (target spare) ok.spare_pointers s.before at.ptr s.after r _ _ j₂ (AreLinked-joined cs (target spare) ok.spare_pointers s.before at.ptr s.after r ds j₂) (OnlyAt-unlinked h) (link_at-spare h)
           ∙ (λ i. q.listed_before i ++ q.listed_after i) in
           let hash : t.hash ≡ la.hash = hash-content_of at.ptr la (body_at cs at.ptr) t (ap (λ o. content_of at.ptr o (body_at cs at.ptr)) (sym ea) ∙ q.here) in
           let pair : t.pair ≡ x = pair-content_of at.ptr (links_at ds at.ptr) x t (ap (λ b. content_of at.ptr (links_at ds at.ptr) b) (sym ex) ∙ j.content at.ptr ∙ q.here) in

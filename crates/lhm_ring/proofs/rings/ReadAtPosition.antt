@@ -7,10 +7,10 @@ use Rattle.lhm_ring.proofs.rings.Contents.{hash-content_of, link-content_of, pai
 use Rattle.lhm_ring.proofs.rings.RingNodes.{Found-held}
 use Rattle.lhm_ring.proofs.rings.Writes.{content_of-links}
 use Rattle.lhm_ring.specs.Nodes.{Cell, links_at, body_at, IsAt, Holds}
-use Rattle.lhm_ring.specs.Links.{link_of, content_of, content_at, ring_list, RingOk}
+use Rattle.lhm_ring.specs.Links.{link_of, content_of, content_at, ring_list, IsOwned}
 use Rattle.lhm_ring.specs.Ring.{State, state, Held, IsHeld}
 
-module _ {B : Type 0} (cs : List (Cell Links B)) (spare : Link) (n m : ℕ) (v : State B) (ok : RingOk cs spare n m) {total : ℕ} (w : state (ring_list cs n) m total ≡ v) (p : Ptr) where
+module _ {B : Type 0} (cs : List (Cell Links B)) (spare : Link) (n m : ℕ) (v : State B) (ok : IsOwned cs spare n m) {total : ℕ} (w : state (ring_list cs n) m total ≡ v) (p : Ptr) where
   pub content_at-held : (xs : List (Held B)) (t : Held B) (ys : List (Held B)) → v.held ≡ xs ++ t ∷ ys → t.at ≡ p → content_at cs p ≡ Some t
   content_at-held xs t ys e at = (Found-held cs spare n m v p ok w xs t ys e at).here
 

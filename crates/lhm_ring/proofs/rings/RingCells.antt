@@ -9,10 +9,10 @@ use Rattle.lhm_ring.proofs.lists.Apart.{IsApart-none, IsApart-added}
 use Rattle.lhm_ring.proofs.lists.ListFacts.{AllByRecursion-map}
 use Rattle.lhm_ring.proofs.rings.Lookup.{AllByRecursion-at}
 use Rattle.lhm_ring.proofs.lists.Options.{none_some, Some-injective}
-use Rattle.lhm_ring.proofs.rings.SameNodes.{Chained-same, SameLink}
+use Rattle.lhm_ring.proofs.rings.SameNodes.{IsSpareList-same, SameLink}
 use Rattle.lhm_ring.proofs.rings.Writes.{IsAt-there}
 use Rattle.lhm_ring.specs.Nodes.{Cell, cell, same_ptr, pointers, cell_at, links_of, body_of, links_at, body_at, change, with_links, with_body, is_block, AreBlocks, IsAt, Holds}
-use Rattle.lhm_ring.specs.Links.{ends_links, ring_cells, leading_on, leading_back, LeadsOn, LeadsBack, chaining_to, ChainsTo, has_links, next_of, prev_of, next_at, prev_at, is_there, content_at, content_of, Linked, Chained, HasContent, listed, one_of, IsJoined, IsRing, RingOk, link_of}
+use Rattle.lhm_ring.specs.Links.{ends_links, ring_cells, leading_on, leading_back, LeadsOn, LeadsBack, chaining_to, ChainsTo, has_links, next_of, prev_of, next_at, prev_at, is_there, content_at, content_of, AreLinked, IsSpareList, HasContent, listed, one_of, IsJoined, IsRing, IsOwned, link_of}
 use Rattle.lhm_ring.specs.Pointer.{led_to, target}
 
 -- where a link leads
@@ -142,17 +142,17 @@ module _ {B : Type 0} (e : Ends) (cs : List (Cell Links B)) where
   listed-in_nodes [] h = refl
   listed-in_nodes (p ∷ ps) h = λ i. one_of (content_at-in_nodes p h.0 i) ++ listed-in_nodes ps h.1 i
 
-  pub Linked-in_nodes : (ps : List Ptr) → AllByRecursion Apart ps → Linked (ring_cells e cs) ps → Linked cs ps
-  Linked-in_nodes [] h l = tt
-  Linked-in_nodes (p ∷ []) h l = tt
-  Linked-in_nodes (p ∷ q ∷ ps) h l =
-      ((sym (ap (λ z. next_of (links_of z)) (cell_at-apart p h.0)) ∙ l.0.0, sym (ap (λ z. prev_of (links_of z)) (cell_at-apart q h.1.0)) ∙ l.0.1), Linked-in_nodes (q ∷ ps) h.1 l.1)
+  pub AreLinked-in_nodes : (ps : List Ptr) → AllByRecursion Apart ps → AreLinked (ring_cells e cs) ps → AreLinked cs ps
+  AreLinked-in_nodes [] h l = tt
+  AreLinked-in_nodes (p ∷ []) h l = tt
+  AreLinked-in_nodes (p ∷ q ∷ ps) h l =
+      ((sym (ap (λ z. next_of (links_of z)) (cell_at-apart p h.0)) ∙ l.0.0, sym (ap (λ z. prev_of (links_of z)) (cell_at-apart q h.1.0)) ∙ l.0.1), AreLinked-in_nodes (q ∷ ps) h.1 l.1)
 
-  pub Chained-in_nodes : (h : Option Ptr) (ss : List Ptr) → AllByRecursion Apart ss → Chained (ring_cells e cs) h ss → Chained cs h ss
-  Chained-in_nodes h ss f = Chained-same (ring_cells e cs) cs h ss (AllByRecursion-map Apart (SameLink (ring_cells e cs) cs) (λ p n. sym (ap (λ z. link_of (links_of z)) (cell_at-apart p n))) ss f)
+  pub IsSpareList-in_nodes : (h : Option Ptr) (ss : List Ptr) → AllByRecursion Apart ss → IsSpareList (ring_cells e cs) h ss → IsSpareList cs h ss
+  IsSpareList-in_nodes h ss f = IsSpareList-same (ring_cells e cs) cs h ss (AllByRecursion-map Apart (SameLink (ring_cells e cs) cs) (λ p n. sym (ap (λ z. link_of (links_of z)) (cell_at-apart p n))) ss f)
 
-  pub Chained-in_ring : (h : Option Ptr) (ss : List Ptr) → AllByRecursion Apart ss → Chained cs h ss → Chained (ring_cells e cs) h ss
-  Chained-in_ring h ss f = Chained-same cs (ring_cells e cs) h ss (AllByRecursion-map Apart (SameLink cs (ring_cells e cs)) (λ p n. ap (λ z. link_of (links_of z)) (cell_at-apart p n)) ss f)
+  pub IsSpareList-in_ring : (h : Option Ptr) (ss : List Ptr) → AllByRecursion Apart ss → IsSpareList cs h ss → IsSpareList (ring_cells e cs) h ss
+  IsSpareList-in_ring h ss f = IsSpareList-same cs (ring_cells e cs) h ss (AllByRecursion-map Apart (SameLink cs (ring_cells e cs)) (λ p n. ap (λ z. link_of (links_of z)) (cell_at-apart p n)) ss f)
 
   pub AllByRecursion-there_in_nodes : (ps : List Ptr) → AllByRecursion Apart ps → AllByRecursion (λ p. is_there (ring_cells e cs) p ≡ true) ps → AllByRecursion (λ p. is_there cs p ≡ true) ps
   AllByRecursion-there_in_nodes [] f h = tt
@@ -170,6 +170,6 @@ module _ {B : Type 0} (e : Ends) (cs : List (Cell Links B)) (spare : Link) (none
     count = refl;
   }
 
-  pub RingOk-bare : RingOk (ring_cells e cs) spare 0 0
-  RingOk-bare = subst (λ zs. RingOk (ring_cells e zs) spare 0 0) (sym none)
+  pub IsOwned-bare : IsOwned (ring_cells e cs) spare 0 0
+  IsOwned-bare = subst (λ zs. IsOwned (ring_cells e zs) spare 0 0) (sym none)
       (record { held_pointers = []; spare_pointers = []; ring = IsRing-bare; held_count = refl; enough_spares = omega arith; bounded = omega arith })

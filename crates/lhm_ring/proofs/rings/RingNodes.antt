@@ -7,7 +7,7 @@ use Rattle.lhm_ring.specs.declared.pointer.Link.{Link}
 use Rattle.lhm_ring.proofs.rings.Contents.{at-content_of}
 use Rattle.lhm_ring.proofs.lists.Rows.{follow-row}
 use Rattle.lhm_ring.specs.Nodes.{Cell, links_at, body_at}
-use Rattle.lhm_ring.specs.Links.{HasContent, IsRing, follow, listed, one_of, ring_list, RingOk, content_at}
+use Rattle.lhm_ring.specs.Links.{HasContent, IsRing, follow, listed, one_of, ring_list, IsOwned, content_at}
 use Rattle.lhm_ring.specs.Ring.{state, State, IsHeld, AtHeld, Held, SplitAround}
 use Rattle.lhm_ring.specs.Pointer.{target}
 
@@ -58,15 +58,15 @@ module _ {B : Type 0} where
   pub ring_split : {cs : List (Cell Links B)} {ps : List Ptr} {spare : Option Ptr} {ss : List Ptr} {p : Ptr} → IsRing cs ps spare ss → (s : SplitAround ps p) → IsRing cs (s.before ++ p ∷ s.after) spare ss
   ring_split {cs} {ps} {spare} {ss} r s = subst (λ qs. IsRing cs qs spare ss) s.is r
 
-  pub Found-listed : (cs : List (Cell Links B)) (spare : Link) (n m : ℕ) (ok : RingOk cs spare n m) (p : Ptr) → AtHeld (ring_list cs n) p (λ xs t ys. CutAt cs ok.held_pointers xs t ys p)
+  pub Found-listed : (cs : List (Cell Links B)) (spare : Link) (n m : ℕ) (ok : IsOwned cs spare n m) (p : Ptr) → AtHeld (ring_list cs n) p (λ xs t ys. CutAt cs ok.held_pointers xs t ys p)
   Found-listed cs spare n m ok p xs t ys e at =
       subst (CutAt cs ok.held_pointers xs t ys) at
       (CutAt-listed cs ok.held_pointers ok.ring.held xs t ys (sym (ring_list-listed cs ok.held_pointers (target spare) ok.spare_pointers n ok.ring ok.held_count) ∙ e))
 
-  pub Found-held : (cs : List (Cell Links B)) (spare : Link) (n m : ℕ) (v : State B) {total : ℕ} (p : Ptr) (ok : RingOk cs spare n m) → state (ring_list cs n) m total ≡ v → AtHeld v.held p (λ xs t ys. CutAt cs ok.held_pointers xs t ys p)
+  pub Found-held : (cs : List (Cell Links B)) (spare : Link) (n m : ℕ) (v : State B) {total : ℕ} (p : Ptr) (ok : IsOwned cs spare n m) → state (ring_list cs n) m total ≡ v → AtHeld v.held p (λ xs t ys. CutAt cs ok.held_pointers xs t ys p)
   Found-held cs spare n m v p ok w xs t ys h = Found-listed cs spare n m ok p xs t ys (ap (λ (z : State B). z.held) w ∙ h)
 
-  pub NodeAt-held : (cs : List (Cell Links B)) (spare : Link) (n m : ℕ) (v : State B) {total : ℕ} (p : Ptr) (ok : RingOk cs spare n m) → state (ring_list cs n) m total ≡ v → IsHeld v.held p → SplitAround ok.held_pointers p
+  pub NodeAt-held : (cs : List (Cell Links B)) (spare : Link) (n m : ℕ) (v : State B) {total : ℕ} (p : Ptr) (ok : IsOwned cs spare n m) → state (ring_list cs n) m total ≡ v → IsHeld v.held p → SplitAround ok.held_pointers p
   NodeAt-held cs spare n m v p ok w h = (Found-held cs spare n m v p ok w h.before h.node h.after h.is h.at_is).split
 
   pub length-listed : (cs : List (Cell Links B)) (ps : List Ptr) → AllByRecursion (HasContent cs) ps → length (listed cs ps) ≡ length ps
@@ -74,15 +74,15 @@ module _ {B : Type 0} where
   length-listed cs [] h = refl
   length-listed cs (p ∷ ps) h = ap (λ o. length (one_of o ++ listed cs ps)) h.0.1 ∙ ap (λ n. suc n) (length-listed cs ps h.1)
 
-  pub length-held : (cs : List (Cell Links B)) (spare : Link) (n m : ℕ) (v : State B) {total : ℕ} → RingOk cs spare n m → state (ring_list cs n) m total ≡ v → n ≡ length v.held
+  pub length-held : (cs : List (Cell Links B)) (spare : Link) (n m : ℕ) (v : State B) {total : ℕ} → IsOwned cs spare n m → state (ring_list cs n) m total ≡ v → n ≡ length v.held
   length-held cs spare n m v ok w =
       sym ok.held_count ∙ sym (length-listed cs ok.held_pointers ok.ring.held) ∙ sym (ap length (ring_list-listed cs ok.held_pointers (target spare) ok.spare_pointers n ok.ring ok.held_count)) ∙ ap (λ (z : State B). length z.held) w
 
-  pub length-bounded : (cs : List (Cell Links B)) (spare : Link) (n m : ℕ) (v : State B) {total : ℕ} → RingOk cs spare n m → state (ring_list cs n) m total ≡ v → length v.held + v.spares ≤ 2 ^ 59
+  pub length-bounded : (cs : List (Cell Links B)) (spare : Link) (n m : ℕ) (v : State B) {total : ℕ} → IsOwned cs spare n m → state (ring_list cs n) m total ≡ v → length v.held + v.spares ≤ 2 ^ 59
   length-bounded cs spare n m v ok w =
       let a = length-held cs spare n m v ok w in let b = ap (λ (z : State B). z.spares) w in let c = ok.bounded in omega arith
 
-  pub length-within : (cs : List (Cell Links B)) (spare : Link) (n m : ℕ) (v : State B) {total : ℕ} → length cs ≡ suc total → RingOk cs spare n m → state (ring_list cs n) m total ≡ v → length v.held + v.spares ≤ v.nodes
+  pub length-within : (cs : List (Cell Links B)) (spare : Link) (n m : ℕ) (v : State B) {total : ℕ} → length cs ≡ suc total → IsOwned cs spare n m → state (ring_list cs n) m total ≡ v → length v.held + v.spares ≤ v.nodes
   length-within cs spare n m v {total} all ok w =
       let a = length-held cs spare n m v ok w in let b = ap (λ (z : State B). z.spares) w in let c = ap (λ (z : State B). z.nodes) w in
       let d = ok.ring.count in let e = ok.held_count in let f = ok.enough_spares in omega arith

@@ -5,22 +5,22 @@ use Rattle.lhm_ring.specs.declared.ring.Links.{Links}
 use Rattle.lhm_ring.specs.declared.ring.Ends.{Ends}
 use Rattle.lhm_ring.specs.declared.pointer.Link.{Link}
 use Rattle.lhm_ring.proofs.lists.Apart.{IsApart-left, IsApart-tail}
-use Rattle.lhm_ring.proofs.rings.RingCells.{next_at-null, prev_at-null, AllByRecursion-apart, AllByRecursion-content_in_nodes, listed-in_nodes, Linked-in_nodes}
+use Rattle.lhm_ring.proofs.rings.RingCells.{next_at-null, prev_at-null, AllByRecursion-apart, AllByRecursion-content_in_nodes, listed-in_nodes, AreLinked-in_nodes}
 use Rattle.lhm_ring.proofs.lists.Rows.{RowCut-linked}
-use Rattle.lhm_ring.proofs.rings.Spans.{last_pointer-last_from, Linked-tail, HasEnds-behind, pointers_from-span}
+use Rattle.lhm_ring.proofs.rings.Spans.{last_pointer-last_from, AreLinked-tail, HasEnds-behind, pointers_from-span}
 use Rattle.lhm_ring.specs.Nodes.{Cell}
-use Rattle.lhm_ring.specs.Links.{ring_cells, next_at, prev_at, follow, listed, HasEnds, pointers_from, ring_list, RingOk, IsSpan}
+use Rattle.lhm_ring.specs.Links.{ring_cells, next_at, prev_at, follow, listed, HasEnds, pointers_from, ring_list, IsOwned, IsSpan}
 
 module _ {B : Type 0} where
   -- what a ring holds is in a row from its front to its back
-  pub IsSpan-whole : (cs : List (Cell Links B)) (spare : Link) (n m : ℕ) → RingOk cs spare n m → IsSpan cs (next_at cs null_ptr) (prev_at cs null_ptr) n
+  pub IsSpan-whole : (cs : List (Cell Links B)) (spare : Link) (n m : ℕ) → IsOwned cs spare n m → IsSpan cs (next_at cs null_ptr) (prev_at cs null_ptr) n
   IsSpan-whole cs spare n m ok =
       let k = RowCut-linked cs null_ptr ok.held_pointers null_ptr [] ok.ring.linked in
       let ends : HasEnds ok.held_pointers (next_at cs null_ptr) (prev_at cs null_ptr) = HasEnds-behind cs null_ptr (prev_at cs null_ptr) ok.held_pointers k.before (last_pointer-last_from null_ptr ok.held_pointers ∙ sym k.edge.1) in
       record {
         pointers = ok.held_pointers;
         count = ok.held_count;
-        linked = Linked-tail cs null_ptr ok.held_pointers k.before;
+        linked = AreLinked-tail cs null_ptr ok.held_pointers k.before;
         ends = ends;
         held = ok.ring.held;
         apart = IsApart-left ok.held_pointers ok.spare_pointers (IsApart-tail null_ptr (ok.held_pointers ++ ok.spare_pointers) ok.ring.apart);
@@ -40,7 +40,7 @@ module _ {B : Type 0} (e : Ends) (cs : List (Cell Links B)) (f b : Ptr) (n : ℕ
   IsSpan-in_nodes = record {
     pointers = s.pointers;
     count = s.count;
-    linked = Linked-in_nodes e cs s.pointers (AllByRecursion-apart e cs s.pointers s.held) s.linked;
+    linked = AreLinked-in_nodes e cs s.pointers (AllByRecursion-apart e cs s.pointers s.held) s.linked;
     ends = s.ends;
     held = AllByRecursion-content_in_nodes e cs s.pointers s.held;
     apart = s.apart;
@@ -51,7 +51,7 @@ module _ {B : Type 0} (e : Ends) (cs : List (Cell Links B)) (f b : Ptr) (n : ℕ
   listed-span = ap (listed cs) (pointers_from-span cs f b n IsSpan-in_nodes) ∙ sym (listed-in_nodes e cs s.pointers (AllByRecursion-apart e cs s.pointers s.held)) ∙ sym (ap (listed (ring_cells e cs)) (pointers_from-span (ring_cells e cs) f b n s))
 
 -- what a ring holds is in the row from one end to the other
-module _ {B : Type 0} (e : Ends) (cs : List (Cell Links B)) (spare : Link) (n m : ℕ) (ok : RingOk (ring_cells e cs) spare n m) (f b : Ptr) (is : f ≡ e.first.ptr) where
+module _ {B : Type 0} (e : Ends) (cs : List (Cell Links B)) (spare : Link) (n m : ℕ) (ok : IsOwned (ring_cells e cs) spare n m) (f b : Ptr) (is : f ≡ e.first.ptr) where
   abbrev row : IsSpan (ring_cells e cs) (next_at (ring_cells e cs) null_ptr) (prev_at (ring_cells e cs) null_ptr) n
   row = IsSpan-whole (ring_cells e cs) spare n m ok
 

@@ -6,16 +6,16 @@ use Rattle.lhm_ring.specs.declared.pointer.Link.{Link}
 use Rattle.lhm_ring.specs.declared.ring.Links.{Links}
 use Rattle.lhm_ring.proofs.lists.ListFacts.{AllByRecursion-map}
 use Rattle.lhm_ring.specs.Nodes.{Cell}
-use Rattle.lhm_ring.specs.Links.{next_at, prev_at, link_at, is_there, Linked, Chained, HasContent, IsRing, follow, RingOk}
+use Rattle.lhm_ring.specs.Links.{next_at, prev_at, link_at, is_there, AreLinked, IsSpareList, HasContent, IsRing, follow, IsOwned}
 use Rattle.lhm_ring.specs.Pointer.{target}
 
 module _ {B : Type 0} (cs ds : List (Cell Links B)) where
   abbrev pub SameLink : Ptr → Type 0
   SameLink q = link_at ds q ≡ link_at cs q
 
-  pub Chained-same : (h : Option Ptr) (ss : List Ptr) → AllByRecursion SameLink ss → Chained cs h ss → Chained ds h ss
-  Chained-same h [] a c = c
-  Chained-same h (p ∷ ps) a c = (c.0, Chained-same (link_at ds p) ps a.1 (subst (λ o. Chained cs o ps) (sym a.0) c.1))
+  pub IsSpareList-same : (h : Option Ptr) (ss : List Ptr) → AllByRecursion SameLink ss → IsSpareList cs h ss → IsSpareList ds h ss
+  IsSpareList-same h [] a c = c
+  IsSpareList-same h (p ∷ ps) a c = (c.0, IsSpareList-same (link_at ds p) ps a.1 (subst (λ o. IsSpareList cs o ps) (sym a.0) c.1))
 
   module _ (next : (q : Ptr) → next_at ds q ≡ next_at cs q) where
     pub follow-same : (n : ℕ) (q : Ptr) → follow ds n q ≡ follow cs n q
@@ -24,24 +24,24 @@ module _ {B : Type 0} (cs ds : List (Cell Links B)) where
     follow-same (suc n) q = (λ i. next q i ∷ follow ds n (next q i)) ∙ ap (λ r. next_at cs q ∷ r) (follow-same n (next_at cs q))
 
     module _ (prev : (q : Ptr) → prev_at ds q ≡ prev_at cs q) where
-      pub Linked-same : (s : List Ptr) → Linked cs s → Linked ds s
-      Linked-same [] k = tt
-      Linked-same (y ∷ []) k = tt
-      Linked-same (y ∷ z ∷ r) k = ((next y ∙ k.0.0, prev z ∙ k.0.1), Linked-same (z ∷ r) k.1)
+      pub AreLinked-same : (s : List Ptr) → AreLinked cs s → AreLinked ds s
+      AreLinked-same [] k = tt
+      AreLinked-same (y ∷ []) k = tt
+      AreLinked-same (y ∷ z ∷ r) k = ((next y ∙ k.0.0, prev z ∙ k.0.1), AreLinked-same (z ∷ r) k.1)
 
       module _ (there : (q : Ptr) → is_there ds q ≡ is_there cs q) (count : length ds ≡ length cs) where
         IsRing-same : (ps : List Ptr) (spare : Option Ptr) (ss : List Ptr) → AllByRecursion (HasContent ds) ps → AllByRecursion SameLink ss → IsRing cs ps spare ss → IsRing ds ps spare ss
         IsRing-same ps spare ss held links r = record {
-          linked = Linked-same (null_ptr ∷ (ps ++ null_ptr ∷ [])) r.linked;
-          chained = Chained-same spare ss links r.chained;
+          linked = AreLinked-same (null_ptr ∷ (ps ++ null_ptr ∷ [])) r.linked;
+          chained = IsSpareList-same spare ss links r.chained;
           held = held;
           there = AllByRecursion-map (λ q. is_there cs q ≡ true) (λ q. is_there ds q ≡ true) (λ q h. there q ∙ h) (null_ptr ∷ (ps ++ ss)) r.there;
           apart = r.apart;
           count = count ∙ r.count;
         }
 
-        pub RingOk-same : (spare : Link) (n m : ℕ) (ok : RingOk cs spare n m) → AllByRecursion (HasContent ds) ok.held_pointers → AllByRecursion SameLink ok.spare_pointers → RingOk ds spare n m
-        RingOk-same spare n m ok held links = record {
+        pub IsOwned-same : (spare : Link) (n m : ℕ) (ok : IsOwned cs spare n m) → AllByRecursion (HasContent ds) ok.held_pointers → AllByRecursion SameLink ok.spare_pointers → IsOwned ds spare n m
+        IsOwned-same spare n m ok held links = record {
           held_pointers = ok.held_pointers;
           spare_pointers = ok.spare_pointers;
           ring = IsRing-same ok.held_pointers (target spare) ok.spare_pointers held links ok.ring;

@@ -10,10 +10,10 @@ use Rattle.lhm_ring.proofs.lists.ListFacts.{last_from, AllByRecursion-left, AllB
 use Rattle.lhm_ring.proofs.memory.OneNodeChanged.{links_at-with_body, AllByRecursion-content_other, listed-other}
 use Rattle.lhm_ring.proofs.rings.RingNodes.{length-listed}
 use Rattle.lhm_ring.proofs.lists.Rows.{RowCut-linked, listed-append}
-use Rattle.lhm_ring.proofs.rings.SameNodes.{Linked-same}
+use Rattle.lhm_ring.proofs.rings.SameNodes.{AreLinked-same}
 use Rattle.lhm_ring.proofs.rings.Writes.{cell_at-change_other, content_of-links}
 use Rattle.lhm_ring.specs.Nodes.{Cell, cell, cell_at, same_ptr, links_at, body_at, IsApart, IsAt, Holds, with_body}
-use Rattle.lhm_ring.specs.Links.{next_of, prev_of, link_of, next_at, prev_at, content_of, Linked, HasContent, listed, one_of, last_pointer, HasEnds, pointers_from, span_triples, IsSpan}
+use Rattle.lhm_ring.specs.Links.{next_of, prev_of, link_of, next_at, prev_at, content_of, AreLinked, HasContent, listed, one_of, last_pointer, HasEnds, pointers_from, span_triples, IsSpan}
 use Rattle.lhm_ring.specs.Ring.{Held, held, triples, SplitFirst, SplitLast}
 
 module _ {B : Type 0} (cs : List (Cell Links B)) where
@@ -25,7 +25,7 @@ module _ {B : Type 0} (cs : List (Cell Links B)) where
   span_triples-none f = ap triples (listed-none f)
 
   -- the pointers from f on are those that the row names
-  pub pointers_from-row : (f b : Ptr) (rs : List Ptr) → Linked cs rs → HasEnds rs f b → pointers_from cs (length rs) f ≡ rs
+  pub pointers_from-row : (f b : Ptr) (rs : List Ptr) → AreLinked cs rs → HasEnds rs f b → pointers_from cs (length rs) f ≡ rs
   unfolding pointers_from
   pointers_from-row f b [] k e = refl
   pointers_from-row f b (r ∷ []) k e = ap (λ z. z ∷ []) (sym e.0)
@@ -45,18 +45,18 @@ last_pointer-last_from p [] = refl
 last_pointer-last_from p (q ∷ qs) = last_pointer-last_from q qs
 
 module _ {B : Type 0} where
-  pub Linked-tail : (cs : List (Cell Links B)) (x : Ptr) (xs : List Ptr) → Linked cs (x ∷ xs) → Linked cs xs
-  Linked-tail cs x [] k = tt
-  Linked-tail cs x (y ∷ ys) k = k.1
+  pub AreLinked-tail : (cs : List (Cell Links B)) (x : Ptr) (xs : List Ptr) → AreLinked cs (x ∷ xs) → AreLinked cs xs
+  AreLinked-tail cs x [] k = tt
+  AreLinked-tail cs x (y ∷ ys) k = k.1
 
 -- the last of a row, with those before it
 pub record LastCut {B : Type 0} (cs : List (Cell Links B)) (f b : Ptr) (rs : List Ptr) : Type 0 where
   pub split : SplitLast (λ q. q) rs b
-  pub linked : Linked cs split.before
+  pub linked : AreLinked cs split.before
   pub ends : HasEnds split.before f (prev_at cs b)
 
 module _ {B : Type 0} (cs : List (Cell Links B)) where
-  ends_before : (f : Ptr) (zs : List Ptr) (z : Ptr) → Linked cs (zs ++ z ∷ []) → ((r : Ptr) (rs : List Ptr) → zs ≡ r ∷ rs → r ≡ f) → Linked cs zs × HasEnds zs f (prev_at cs z)
+  ends_before : (f : Ptr) (zs : List Ptr) (z : Ptr) → AreLinked cs (zs ++ z ∷ []) → ((r : Ptr) (rs : List Ptr) → zs ≡ r ∷ rs → r ≡ f) → AreLinked cs zs × HasEnds zs f (prev_at cs z)
   ends_before f [] z k h = (tt, tt)
   ends_before f (x ∷ xs) z k h = let c = RowCut-linked cs x xs z [] k in (c.before, (h x xs refl, last_pointer-last_from x xs ∙ sym c.edge.1))
 
@@ -65,12 +65,12 @@ module _ {B : Type 0} (cs : List (Cell Links B)) where
   first-is f b (x ∷ xs) [] z e h r qs d = absurd cc
   first-is f b (x ∷ xs) (y ∷ ys) z e h r qs d = let same : x ≡ y = cc in let too : y ≡ r = cc in sym (same ∙ too) ∙ h.0
 
-  pub LastCut-row : (f b : Ptr) (rs : List Ptr) → (length rs ≡ 0 → ⊥) → Linked cs rs → HasEnds rs f b → LastCut cs f b rs
+  pub LastCut-row : (f b : Ptr) (rs : List Ptr) → (length rs ≡ 0 → ⊥) → AreLinked cs rs → HasEnds rs f b → LastCut cs f b rs
   LastCut-row f b [] n k h = absurd (n refl)
   LastCut-row f b (x ∷ xs) n k h =
       let s = SplitLast-last_from x xs in
       let at : s.node ≡ b = s.at_is ∙ sym (last_pointer-last_from x xs) ∙ h.1 in
-      let p = ends_before f s.before s.node (subst (Linked cs) s.is k) (first-is f b (x ∷ xs) s.before s.node s.is h) in
+      let p = ends_before f s.before s.node (subst (AreLinked cs) s.is k) (first-is f b (x ∷ xs) s.before s.node s.is h) in
       record {
         split = record { before = s.before; node = s.node; is = s.is; at_is = at };
         linked = p.0;
@@ -80,19 +80,19 @@ module _ {B : Type 0} (cs : List (Cell Links B)) where
 -- the first of a row, with those after it
 pub record FirstCut {B : Type 0} (cs : List (Cell Links B)) (f b : Ptr) (rs : List Ptr) : Type 0 where
   pub split : SplitFirst (λ q. q) rs f
-  pub linked : Linked cs split.after
+  pub linked : AreLinked cs split.after
   pub ends : HasEnds split.after (next_at cs f) b
 
 module _ {B : Type 0} (cs : List (Cell Links B)) where
-  pub HasEnds-behind : (x b : Ptr) (xs : List Ptr) → Linked cs (x ∷ xs) → last_pointer x xs ≡ b → HasEnds xs (next_at cs x) b
+  pub HasEnds-behind : (x b : Ptr) (xs : List Ptr) → AreLinked cs (x ∷ xs) → last_pointer x xs ≡ b → HasEnds xs (next_at cs x) b
   HasEnds-behind x b [] k e = tt
   HasEnds-behind x b (y ∷ ys) k e = (sym k.0.0, e)
 
-  pub FirstCut-row : (f b : Ptr) (rs : List Ptr) → (length rs ≡ 0 → ⊥) → Linked cs rs → HasEnds rs f b → FirstCut cs f b rs
+  pub FirstCut-row : (f b : Ptr) (rs : List Ptr) → (length rs ≡ 0 → ⊥) → AreLinked cs rs → HasEnds rs f b → FirstCut cs f b rs
   FirstCut-row f b [] n k h = absurd (n refl)
   FirstCut-row f b (x ∷ xs) n k h = record {
     split = record { node = x; after = xs; is = refl; at_is = h.0 };
-    linked = Linked-tail cs x xs k;
+    linked = AreLinked-tail cs x xs k;
     ends = subst (λ q. HasEnds xs (next_at cs q) b) h.0 (HasEnds-behind x b xs k h.1);
   }
 
@@ -123,15 +123,15 @@ module _ {B : Type 0} (cs : List (Cell Links B)) (p : Ptr) (la : Links) (ea : li
   cell_at-other : (q : Ptr) → same_ptr p q ≡ false → cell_at ds q ≡ cell_at cs q
   cell_at-other q n = cell_at-change_other p (λ c. cell c.at c.links None) (λ c. refl) q n cs
 
-  Linked-stays : (s : List Ptr) → Linked cs s → Linked ds s
-  Linked-stays = Linked-same cs ds (λ q. ap next_of (links_at-same q)) (λ q. ap prev_of (links_at-same q))
+  AreLinked-stays : (s : List Ptr) → AreLinked cs s → AreLinked ds s
+  AreLinked-stays = AreLinked-same cs ds (λ q. ap next_of (links_at-same q)) (λ q. ap prev_of (links_at-same q))
 
   -- a row without p stays
   IsSpan-stays : (f b : Ptr) (k : ℕ) (s : IsSpan cs f b k) → IsFresh p s.pointers → IsSpan ds f b k
   IsSpan-stays f b k s free = record {
     pointers = s.pointers;
     count = s.count;
-    linked = Linked-stays s.pointers s.linked;
+    linked = AreLinked-stays s.pointers s.linked;
     ends = s.ends;
     held = AllByRecursion-content_other cs ds p cell_at-other s.pointers free s.held;
     apart = s.apart;

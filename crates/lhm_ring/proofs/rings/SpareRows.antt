@@ -8,13 +8,13 @@ use Rattle.lhm_ring.specs.declared.ring.Ends.{Ends}
 use Rattle.lhm_ring.specs.declared.pointer.Link.{Link}
 use Rattle.lhm_ring.proofs.lists.Apart.{IsFresh, same_ptr-reflexive, IsFresh-head, IsApart-tail, IsFresh-middle, IsApart-removed, IsApart-inserted}
 use Rattle.lhm_ring.proofs.lists.ListFacts.{AllByRecursion-right, AllByRecursion-map}
-use Rattle.lhm_ring.proofs.memory.OneNodeChanged.{Chained-other}
+use Rattle.lhm_ring.proofs.memory.OneNodeChanged.{IsSpareList-other}
 use Rattle.lhm_ring.proofs.lists.Options.{none_some}
-use Rattle.lhm_ring.proofs.rings.SameNodes.{Linked-same}
-use Rattle.lhm_ring.proofs.rings.Spans.{Linked-tail}
+use Rattle.lhm_ring.proofs.rings.SameNodes.{AreLinked-same}
+use Rattle.lhm_ring.proofs.rings.Spans.{AreLinked-tail}
 use Rattle.lhm_ring.proofs.rings.Writes.{cell_at-change_other, length-change, reader-with_links_same, links_at-with_links, body_at-with_links, next_of-chaining_to, prev_of-chaining_to, link_of-chaining_to, hash-chaining_to}
 use Rattle.lhm_ring.specs.Nodes.{Cell, cell, cell_at, same_ptr, links_of, body_of, links_at, body_at, IsApart, with_links}
-use Rattle.lhm_ring.specs.Links.{ends_links, ring_cells, chaining_to, next_of, prev_of, link_of, has_links, next_at, link_at, is_there, content_of, Linked, Chained, one_of}
+use Rattle.lhm_ring.specs.Links.{ends_links, ring_cells, chaining_to, next_of, prev_of, link_of, has_links, next_at, link_at, is_there, content_of, AreLinked, IsSpareList, one_of}
 use Rattle.lhm_ring.specs.Ring.{Held, triples}
 use Rattle.lhm_ring.specs.Drain.{onto, StartsAt, triple_of, SameButLinks, IsRow, HasRow, SparesRow}
 use Rattle.lhm_ring.specs.Pointer.{target}
@@ -60,7 +60,7 @@ module _ {B : Type 0} where
     count = b.count ∙ a.count;
   }
 
-  pub StartsAt-next : (cs : List (Cell Links B)) (x : Ptr) (xs : List Ptr) → Linked cs (x ∷ xs) → StartsAt xs (next_at cs x)
+  pub StartsAt-next : (cs : List (Cell Links B)) (x : Ptr) (xs : List Ptr) → AreLinked cs (x ∷ xs) → StartsAt xs (next_at cs x)
   StartsAt-next cs x [] k = tt
   StartsAt-next cs x (y ∷ ys) k = sym k.0.0
 
@@ -76,17 +76,17 @@ module _ {B : Type 0} where
     IsRow-shorter p rs ss here r =
         let same = SameButLinks-chaining_to cs at.ptr spare la ea in let long = r.long in
         let free = subst (λ q. IsFresh q (rs ++ ss)) here (IsFresh-head p (rs ++ ss) r.apart) in
-        let linked : Linked cs (at.ptr ∷ rs) = subst (λ q. Linked cs (q ∷ rs)) here r.linked in
+        let linked : AreLinked cs (at.ptr ∷ rs) = subst (λ q. AreLinked cs (q ∷ rs)) here r.linked in
         record {
           long = omega arith;
-          linked = Linked-same cs after same.next same.prev rs (Linked-tail cs at.ptr rs linked);
+          linked = AreLinked-same cs after same.next same.prev rs (AreLinked-tail cs at.ptr rs linked);
           starts = subst (StartsAt rs) (ap next_of ea ∙ sym is) (StartsAt-next cs at.ptr rs linked);
           there = AllByRecursion-map (λ q. is_there cs q ≡ true) (λ q. is_there after q ≡ true) (λ q h. same.there q ∙ h) rs r.there.1;
           apart = IsApart-inserted rs at.ptr ss free (IsApart-tail p (rs ++ ss) r.apart);
           chained = (
             refl,
-            subst (λ h. Chained after h ss) (sym link_at-now)
-                (Chained-other cs after at.ptr (λ q n. cell_at-change_other at.ptr (λ c. cell c.at (chaining_to spare la) c.body) (λ c. refl) q n cs) (target spare) ss (AllByRecursion-right (λ q. same_ptr at.ptr q ≡ false) rs ss free) r.chained),
+            subst (λ h. IsSpareList after h ss) (sym link_at-now)
+                (IsSpareList-other cs after at.ptr (λ q n. cell_at-change_other at.ptr (λ c. cell c.at (chaining_to spare la) c.body) (λ c. refl) q n cs) (target spare) ss (AllByRecursion-right (λ q. same_ptr at.ptr q ≡ false) rs ss free) r.chained),
           );
         }
 
@@ -97,11 +97,11 @@ module _ {B : Type 0} where
     pub HasRow-next : 0 < n → HasRow cs at.ptr n (target spare) → HasRow after next (n - 1) (Some at.ptr)
     HasRow-next h r = HasRow-left r.pointers r.spare_pointers h r.row
 
-    then_all : (ds : List (Cell Links B)) (s : Option Ptr) → 0 < n → SparesRow after next (n - 1) (Some at.ptr) ds s → (ps ss : List Ptr) → IsRow cs at.ptr n (target spare) ps ss → SameButLinks cs ds × Chained ds s (onto ps ss)
+    then_all : (ds : List (Cell Links B)) (s : Option Ptr) → 0 < n → SparesRow after next (n - 1) (Some at.ptr) ds s → (ps ss : List Ptr) → IsRow cs at.ptr n (target spare) ps ss → SameButLinks cs ds × IsSpareList ds s (onto ps ss)
     then_all ds s h k [] ss r = let long = r.long in absurd (omega arith)
     then_all ds s h k (p ∷ rs) ss r =
         let on = k rs (at.ptr ∷ ss) (IsRow-shorter p rs ss r.starts r) in
-        (SameButLinks-both cs after ds (SameButLinks-chaining_to cs at.ptr spare la ea) on.0, subst (λ q. Chained ds s (onto rs (q ∷ ss))) (sym r.starts) on.1)
+        (SameButLinks-both cs after ds (SameButLinks-chaining_to cs at.ptr spare la ea) on.0, subst (λ q. IsSpareList ds s (onto rs (q ∷ ss))) (sym r.starts) on.1)
 
     pub SparesRow-step : (ds : List (Cell Links B)) (s : Option Ptr) → 0 < n → SparesRow after next (n - 1) (Some at.ptr) ds s → SparesRow cs at.ptr n (target spare) ds s
     SparesRow-step ds s h k ps ss r = then_all ds s h k ps ss r
@@ -116,7 +116,7 @@ module _ {B : Type 0} where
   SameButLinks-all : (cs : List (Cell Links B)) → SameButLinks cs cs
   SameButLinks-all cs = record { next = λ q. refl; prev = λ q. refl; there = λ q. refl; triple = λ q. refl; count = refl }
 
-  none_more : (cs : List (Cell Links B)) (f : Ptr) (n : ℕ) (spare : Option Ptr) → n ≡ 0 → (ps ss : List Ptr) → IsRow cs f n spare ps ss → SameButLinks cs cs × Chained cs spare (onto ps ss)
+  none_more : (cs : List (Cell Links B)) (f : Ptr) (n : ℕ) (spare : Option Ptr) → n ≡ 0 → (ps ss : List Ptr) → IsRow cs f n spare ps ss → SameButLinks cs cs × IsSpareList cs spare (onto ps ss)
   none_more cs f n spare e [] ss r = (SameButLinks-all cs, r.chained)
   none_more cs f n spare e (p ∷ ps) ss r = let long = r.long in absurd (omega arith)
 

@@ -6,26 +6,26 @@ use Rattle.lhm_ring.specs.declared.ring.Links.{Links}
 use Rattle.lhm_ring.specs.declared.ring.Ends.{Ends}
 use Rattle.lhm_ring.specs.declared.pointer.Link.{Link}
 use Rattle.lhm_ring.proofs.lists.Apart.{IsFresh, IsApart-left, IsFresh-head, IsApart-tail}
-use Rattle.lhm_ring.proofs.rings.Joins.{AvoidsSource-fresh, AvoidsSource, AvoidsTarget, Linked-unchanged, Chained-unchanged, Edge-made, listed-unchanged}
+use Rattle.lhm_ring.proofs.rings.Joins.{AvoidsSource-fresh, AvoidsSource, AvoidsTarget, AreLinked-unchanged, IsSpareList-unchanged, AreNeighbours-made, listed-unchanged}
 use Rattle.lhm_ring.proofs.lists.ListFacts.{last_from, AllByRecursion-left, AllByRecursion-right, AllByRecursion-map}
-use Rattle.lhm_ring.proofs.rings.RingCells.{next_at-null, is_there-null, Linked-in_nodes, AllByRecursion-there_in_nodes, Chained-in_nodes, Chained-in_ring}
+use Rattle.lhm_ring.proofs.rings.RingCells.{next_at-null, is_there-null, AreLinked-in_nodes, AllByRecursion-there_in_nodes, IsSpareList-in_nodes, IsSpareList-in_ring}
 use Rattle.lhm_ring.proofs.rings.RingNodes.{ring_list-listed}
 use Rattle.lhm_ring.proofs.lists.Rows.{RowCut-linked}
-use Rattle.lhm_ring.proofs.rings.SameNodes.{Linked-same}
-use Rattle.lhm_ring.proofs.rings.Spans.{last_pointer-last_from, Linked-tail, pointers_from-span}
+use Rattle.lhm_ring.proofs.rings.SameNodes.{AreLinked-same}
+use Rattle.lhm_ring.proofs.rings.Spans.{last_pointer-last_from, AreLinked-tail, pointers_from-span}
 use Rattle.lhm_ring.proofs.rings.SpareRows.{AllByRecursion-onto, IsApart-onto, SameButLinks-in_ring, length-onto, StartsAt-next, some_still, one_triple, triples-one_of}
 use Rattle.lhm_ring.specs.Nodes.{Cell, same_ptr}
-use Rattle.lhm_ring.specs.Links.{ring_cells, next_at, prev_at, is_there, content_at, Linked, Chained, HasContent, IsRing, IsJoined, listed, HasEnds, span_triples, IsSpan, ring_list, RingOk}
+use Rattle.lhm_ring.specs.Links.{ring_cells, next_at, prev_at, is_there, content_at, AreLinked, IsSpareList, HasContent, IsRing, IsJoined, listed, HasEnds, span_triples, IsSpan, ring_list, IsOwned}
 use Rattle.lhm_ring.specs.Ring.{triples}
 use Rattle.lhm_ring.specs.Drain.{onto, StartsAt, triple_of, SameButLinks, IsRow, HasRow, SparesRow}
 use Rattle.lhm_ring.specs.Pointer.{target}
 
 -- all that a ring holds becomes spare
-module _ {B : Type 0} (e : Ends) (nodes : List (Cell Links B)) (spare : Link) (n m : ℕ) (o : RingOk (ring_cells e nodes) spare n m) where
+module _ {B : Type 0} (e : Ends) (nodes : List (Cell Links B)) (spare : Link) (n m : ℕ) (o : IsOwned (ring_cells e nodes) spare n m) where
   abbrev cs : List (Cell Links B)
   cs = ring_cells e nodes
 
-  cut : Linked cs (null_ptr ∷ o.held_pointers) × (prev_at cs null_ptr ≡ last_from null_ptr o.held_pointers)
+  cut : AreLinked cs (null_ptr ∷ o.held_pointers) × (prev_at cs null_ptr ≡ last_from null_ptr o.held_pointers)
   cut = let k = RowCut-linked cs null_ptr o.held_pointers null_ptr [] o.ring.linked in (k.before, k.edge.1)
 
   IsFresh-all : IsFresh null_ptr (o.held_pointers ++ o.spare_pointers)
@@ -40,17 +40,17 @@ module _ {B : Type 0} (e : Ends) (nodes : List (Cell Links B)) (spare : Link) (n
   IsRow-whole : (f : Ptr) → f ≡ e.first.ptr → IsRow nodes f n (target spare) o.held_pointers o.spare_pointers
   IsRow-whole f is = record {
     long = o.held_count;
-    linked = Linked-in_nodes e nodes o.held_pointers IsFresh-row (Linked-tail cs null_ptr o.held_pointers cut.0);
+    linked = AreLinked-in_nodes e nodes o.held_pointers IsFresh-row (AreLinked-tail cs null_ptr o.held_pointers cut.0);
     starts = subst (StartsAt o.held_pointers) (next_at-null e nodes ∙ sym is) (StartsAt-next cs null_ptr o.held_pointers cut.0);
     there = AllByRecursion-there_in_nodes e nodes o.held_pointers IsFresh-row (AllByRecursion-left (λ q. is_there cs q ≡ true) o.held_pointers o.spare_pointers o.ring.there.1);
     apart = IsApart-tail null_ptr (o.held_pointers ++ o.spare_pointers) o.ring.apart;
-    chained = Chained-in_nodes e nodes (target spare) o.spare_pointers IsFresh-spares o.ring.chained;
+    chained = IsSpareList-in_nodes e nodes (target spare) o.spare_pointers IsFresh-spares o.ring.chained;
   }
 
   pub HasRow-ring : (f : Ptr) → f ≡ e.first.ptr → HasRow nodes f n (target spare)
   HasRow-ring f is = record { pointers = o.held_pointers; spare_pointers = o.spare_pointers; row = IsRow-whole f is }
 
-  HasEnds-ring : (rs : List Ptr) → Linked cs (null_ptr ∷ rs) → prev_at cs null_ptr ≡ last_from null_ptr rs → HasEnds rs (next_at cs null_ptr) (prev_at cs null_ptr)
+  HasEnds-ring : (rs : List Ptr) → AreLinked cs (null_ptr ∷ rs) → prev_at cs null_ptr ≡ last_from null_ptr rs → HasEnds rs (next_at cs null_ptr) (prev_at cs null_ptr)
   HasEnds-ring [] k e = tt
   HasEnds-ring (r ∷ rs) k e = (sym k.0.0, last_pointer-last_from r rs ∙ sym e)
 
@@ -58,7 +58,7 @@ module _ {B : Type 0} (e : Ends) (nodes : List (Cell Links B)) (spare : Link) (n
     abbrev ds : List (Cell Links B)
     ds = ring_cells e zs
 
-    spared : SameButLinks nodes zs × Chained zs (target h) (onto o.held_pointers o.spare_pointers)
+    spared : SameButLinks nodes zs × IsSpareList zs (target h) (onto o.held_pointers o.spare_pointers)
     spared = s o.held_pointers o.spare_pointers (IsRow-whole f is)
 
     same : SameButLinks cs ds
@@ -76,16 +76,16 @@ module _ {B : Type 0} (e : Ends) (nodes : List (Cell Links B)) (spare : Link) (n
 
       IsRing-empty : IsRing es [] (target h) (onto o.held_pointers o.spare_pointers)
       IsRing-empty = record {
-        linked = (Edge-made ds es null_ptr null_ptr j, tt);
-        chained = Chained-unchanged ds es null_ptr null_ptr j (target h) (onto o.held_pointers o.spare_pointers) (Chained-in_ring e zs (target h) (onto o.held_pointers o.spare_pointers) (AllByRecursion-onto (λ q. same_ptr null_ptr q ≡ false) o.held_pointers o.spare_pointers IsFresh-row IsFresh-spares) spared.1);
+        linked = (AreNeighbours-made ds es null_ptr null_ptr j, tt);
+        chained = IsSpareList-unchanged ds es null_ptr null_ptr j (target h) (onto o.held_pointers o.spare_pointers) (IsSpareList-in_ring e zs (target h) (onto o.held_pointers o.spare_pointers) (AllByRecursion-onto (λ q. same_ptr null_ptr q ≡ false) o.held_pointers o.spare_pointers IsFresh-row IsFresh-spares) spared.1);
         held = tt;
         there = AllByRecursion-there;
         apart = IsApart-onto null_ptr o.held_pointers o.spare_pointers o.ring.apart;
         count = let long = length-onto o.held_pointers o.spare_pointers in let all = j.count ∙ same.count ∙ o.ring.count in omega arith;
       }
 
-      pub RingOk-spliced : RingOk es h 0 (m + n)
-      RingOk-spliced = let a = o.held_count in let b = o.enough_spares in let c = o.bounded in let l = length-onto o.held_pointers o.spare_pointers in
+      pub IsOwned-spliced : IsOwned es h 0 (m + n)
+      IsOwned-spliced = let a = o.held_count in let b = o.enough_spares in let c = o.bounded in let l = length-onto o.held_pointers o.spare_pointers in
           record {
             held_pointers = [];
             spare_pointers = onto o.held_pointers o.spare_pointers;
@@ -103,14 +103,14 @@ module _ {B : Type 0} (e : Ends) (nodes : List (Cell Links B)) (spare : Link) (n
       AvoidsTarget-null [] f = tt
       AvoidsTarget-null (r ∷ rs) f = f.1
 
-      Linked-spliced : Linked es o.held_pointers
-      Linked-spliced = Linked-unchanged ds es null_ptr null_ptr j o.held_pointers (AvoidsSource-null o.held_pointers IsFresh-row) (AvoidsTarget-null o.held_pointers IsFresh-row) (Linked-same cs ds same.next same.prev o.held_pointers (Linked-tail cs null_ptr o.held_pointers cut.0))
+      AreLinked-spliced : AreLinked es o.held_pointers
+      AreLinked-spliced = AreLinked-unchanged ds es null_ptr null_ptr j o.held_pointers (AvoidsSource-null o.held_pointers IsFresh-row) (AvoidsTarget-null o.held_pointers IsFresh-row) (AreLinked-same cs ds same.next same.prev o.held_pointers (AreLinked-tail cs null_ptr o.held_pointers cut.0))
 
       pub IsSpan-spliced : IsSpan es (next_at cs null_ptr) (prev_at cs null_ptr) n
       IsSpan-spliced = record {
         pointers = o.held_pointers;
         count = o.held_count;
-        linked = Linked-spliced;
+        linked = AreLinked-spliced;
         ends = HasEnds-ring o.held_pointers cut.0 cut.1;
         held = AllByRecursion-map (HasContent cs) (HasContent es) (λ q k. let d = HasContent-still q k in (d.0, j.content q ∙ d.1)) o.held_pointers o.ring.held;
         apart = IsApart-left o.held_pointers o.spare_pointers (IsApart-tail null_ptr (o.held_pointers ++ o.spare_pointers) o.ring.apart);

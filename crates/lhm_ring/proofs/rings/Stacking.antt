@@ -9,7 +9,7 @@ use Rattle.lhm_ring.proofs.lists.Apart.{IsApart-tail}
 use Rattle.lhm_ring.proofs.memory.NodeAdded.{IsRing-added, listed-added}
 use Rattle.lhm_ring.proofs.rings.RingNodes.{ring_list-listed}
 use Rattle.lhm_ring.specs.Nodes.{Cell, cell, pointers, IsApart, AreBlocks}
-use Rattle.lhm_ring.specs.Links.{ring_cells, IsRing, listed, ring_list, RingOk, IsStacked}
+use Rattle.lhm_ring.specs.Links.{ring_cells, IsRing, listed, ring_list, IsOwned, IsStacked}
 use Rattle.lhm_ring.specs.Pointer.{target}
 
 module _ {B : Type 0} where
@@ -55,8 +55,8 @@ module _ {B : Type 0} (e : Ends) where
       }
 
   -- more of the spare nodes are counted
-  pub RingOk-raised : (cs : List (Cell Links B)) (spare : Link) (n m k : ℕ) → RingOk (ring_cells e cs) spare n m → n + k ≤ length cs → n + k ≤ 2 ^ 59 → RingOk (ring_cells e cs) spare n k
-  RingOk-raised cs spare n m k ok enough small = let a = ok.ring.count in let b = ok.held_count in
+  pub IsOwned-raised : (cs : List (Cell Links B)) (spare : Link) (n m k : ℕ) → IsOwned (ring_cells e cs) spare n m → n + k ≤ length cs → n + k ≤ 2 ^ 59 → IsOwned (ring_cells e cs) spare n k
+  IsOwned-raised cs spare n m k ok enough small = let a = ok.ring.count in let b = ok.held_count in
       record {
         held_pointers = ok.held_pointers;
         spare_pointers = ok.spare_pointers;
@@ -67,12 +67,12 @@ module _ {B : Type 0} (e : Ends) where
       }
 
   -- more nodes are stacked on the spare ones
-  module _ (cs ds : List (Cell Links B)) (spare f : Link) (n m k : ℕ) (ok : RingOk (ring_cells e cs) spare n m) (s : IsStacked cs spare k ds f) (d : IsApart (pointers ds)) (b : AreBlocks (pointers ds)) where
+  module _ (cs ds : List (Cell Links B)) (spare f : Link) (n m k : ℕ) (ok : IsOwned (ring_cells e cs) spare n m) (s : IsStacked cs spare k ds f) (d : IsApart (pointers ds)) (b : AreBlocks (pointers ds)) where
     RingStacked-held : RingStacked e cs ds ok.held_pointers ok.spare_pointers (target f) k
     RingStacked-held = RingStacked-ring k cs spare ds f ok.held_pointers ok.spare_pointers s d b ok.ring
 
-    pub RingOk-stacked : RingOk (ring_cells e ds) f n m
-    RingOk-stacked = let t = RingStacked-held in let long = t.count in let wide = ok.enough_spares in
+    pub IsOwned-stacked : IsOwned (ring_cells e ds) f n m
+    IsOwned-stacked = let t = RingStacked-held in let long = t.count in let wide = ok.enough_spares in
         record {
           held_pointers = ok.held_pointers;
           spare_pointers = t.spare_pointers;

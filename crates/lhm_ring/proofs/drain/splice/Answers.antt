@@ -2,7 +2,7 @@ use Rattle.std.proofs.Common.{◌≡◌, ◌∙◌, ap, sym, subst, true}
 use denote.RawPtr.{Ptr}
 use Rattle.lhm_ring.proofs.rings.RingCells.{is_there-null, next_at-null, prev_at-null, led_to-none, IsJoined-same}
 use Rattle.lhm_ring.proofs.rings.RingSpans.{IsSpan-in_nodes, listed-span}
-use Rattle.lhm_ring.proofs.rings.Splicing.{HasRow-ring, RingOk-spliced, IsSpan-spliced, span_triples-spliced}
+use Rattle.lhm_ring.proofs.rings.Splicing.{HasRow-ring, IsOwned-spliced, IsSpan-spliced, span_triples-spliced}
 use Rattle.lhm_ring.proofs.drain.splice.Goals as goal
 use Rattle.lhm_ring.specs.Links.{ring_cells, is_there, span_triples, IsSpan}
 use Rattle.lhm_ring.specs.Ring.{triples}
@@ -18,7 +18,7 @@ join-requires g c =
 pub returns-clause-spliced : goal.returns-clause-spliced
 returns-clause-spliced g c m ok =
     let a = c.args in let j = IsJoined-same (led_to-none c.none.result.ptr c.none.ensures) (led_to-none c.none-2.result.ptr c.none-2.ensures) c.join.ensures.joined in
-    RingOk-spliced a.ends.now a.nodes.now.cells a.spare a.count m ok c.address-first.result.ptr c.address-first.ensures c.spare_row-spare.new.nodes.cells _ c.spare_row-spare.result c.spare_row-spare.ensures.spared j
+    IsOwned-spliced a.ends.now a.nodes.now.cells a.spare a.count m ok c.address-first.result.ptr c.address-first.ensures c.spare_row-spare.new.nodes.cells _ c.spare_row-spare.result c.spare_row-spare.ensures.spared j
 
 pub returns-clause-row : goal.returns-clause-row
 returns-clause-row g c m ok =

@@ -2,14 +2,14 @@ use Rattle.std.proofs.Common.{None, Some, ap, sym, subst, ◌∙◌}
 use Rattle.std.specs.Map.Calls.{CalledAtPair}
 use Rattle.lhm_ring.proofs.rings.ReadAtPosition.{content_at-held, Holds-held, links_at-held, pair-held, IsHeld-ring_list}
 use Rattle.lhm_ring.proofs.memory.OneNodeChanged.{links_at-with_body}
-use Rattle.lhm_ring.proofs.rings.ContentChange.{ChangesAt-with_body, RingOk-changed, ring_list-changed, ChangesOnly-held}
+use Rattle.lhm_ring.proofs.rings.ContentChange.{ChangesAt-with_body, IsOwned-changed, ring_list-changed, ChangesOnly-held}
 use Rattle.lhm_ring.proofs.rings.RingCells.{Holds-in_nodes, links_at-ring_cells, body_at-ring_cells, ring_cells-with_body}
 use Rattle.lhm_ring.proofs.tables.Retained.{with_body-twice}
 use Rattle.lhm_ring.proofs.memory.Places.{IsLaid-same}
 use Rattle.lhm_ring.proofs.ring.Ring.call_at.Goals as goal
 use Rattle.lhm_ring.specs.Nodes.{links_at, with_body}
 use Rattle.lhm_ring.specs.Ring.{Held, state, change_at, pair, revalued}
-use Rattle.lhm_ring.specs.Links.{ring_cells, RingOk, ring_list}
+use Rattle.lhm_ring.specs.Links.{ring_cells, IsOwned, ring_list}
 
 pub take-key-requires : goal.take-key-requires
 take-key-requires g c =
@@ -38,8 +38,8 @@ invariant_of-self g c =
     let j = ChangesAt-with_body cs p l.0 l.1 h.node (content_at-held cs i.spare i.len i.spares _ c.self.invariant.ring c.self.view_is p h.before h.node h.after h.is h.at_is) x in
     let z = c.fill.ensures.cells ∙ ap (with_body p (Some x)) c.take-key.ensures.cells ∙ with_body-twice p x i.nodes.cells in
     record {
-      ring = subst (λ ds. RingOk ds i.spare i.len i.spares) (sym (ring_cells-with_body i.ends i.nodes.cells p c.args.at.block (Some x) c.fill.new.self.cells z))
-          (RingOk-changed cs _ p h.node _ j i.spare i.len i.spares c.self.invariant.ring k);
+      ring = subst (λ ds. IsOwned ds i.spare i.len i.spares) (sym (ring_cells-with_body i.ends i.nodes.cells p c.args.at.block (Some x) c.fill.new.self.cells z))
+          (IsOwned-changed cs _ p h.node _ j i.spare i.len i.spares c.self.invariant.ring k);
       laid = IsLaid-same c.self.invariant.laid (c.fill.ensures.land.0 ∙ c.take-key.ensures.land.0) (c.fill.ensures.land.1 ∙ c.take-key.ensures.land.1);
     }
 

@@ -1,5 +1,5 @@
 use Rattle.std.proofs.Common.{◌≡◌, ◌∙◌, ap, sym, subst, true}
-use Rattle.lhm_ring.proofs.rings.Moves.{There-prev, There-next, is_there-moving, RingOk-moved, AtHeld-moved}
+use Rattle.lhm_ring.proofs.rings.Moves.{There-prev, There-next, is_there-moving, IsOwned-moved, AtHeld-moved}
 use Rattle.lhm_ring.proofs.rings.RingCells.{IsAt-in_nodes, links_at-ring_cells, prev_at-null, is_there-null, led_to-some, led_to-none, IsJoined-same}
 use Rattle.lhm_ring.proofs.rings.RingNodes.{NodeAt-held, ring_split}
 use Rattle.lhm_ring.proofs.rings.ReadAtPosition.{IsAt-held}
@@ -42,7 +42,7 @@ invariant_of-self g c =
     let e = links_at-ring_cells i.ends i.nodes.cells p c.args.at.block ∙ c.links-links.ensures in let node = led_to-some c.to-moved.result.ptr p c.to-moved.ensures in
     let k = IsJoined-same (sym (prev_at-null c.join.new.ends c.join.new.nodes.cells)) node c.join-2.ensures.joined in let l = IsJoined-same node (led_to-none c.none.result.ptr c.none.ensures) c.join-3.ensures.joined in
     record {
-      ring = RingOk-moved cs i.spare i.len i.spares _ c.self.invariant.ring c.self.view_is p _ e ds c.join.ensures.joined _ _ k l c.requires;
+      ring = IsOwned-moved cs i.spare i.len i.spares _ c.self.invariant.ring c.self.view_is p _ e ds c.join.ensures.joined _ _ k l c.requires;
       laid = IsLaid-same c.self.invariant.laid (c.join-3.ensures.land.0 ∙ c.join-2.ensures.land.0 ∙ c.join.ensures.land.0) (c.join-3.ensures.land.1 ∙ c.join-2.ensures.land.1 ∙ c.join.ensures.land.1);
     }
 

@@ -1,6 +1,6 @@
 use Rattle.std.proofs.Common.{◌≡◌, ◌∙◌, ◌++◌, ◌∷◌, [], None, Some, ap, sym, subst, refl, true}
 use Rattle.lhm_ring.specs.declared.pointer.NodePointer.{NodePointer}
-use Rattle.lhm_ring.proofs.rings.PutBackAndUnlink.{IsSome-spare, IsAt-spare, links_at-filled, is_there-put_back, RingOk-put_back, state-put_back}
+use Rattle.lhm_ring.proofs.rings.PutBackAndUnlink.{IsSome-spare, IsAt-spare, links_at-filled, is_there-put_back, IsOwned-put_back, state-put_back}
 use Rattle.lhm_ring.proofs.rings.RingCells.{IsAt-in_nodes, links_at-ring_cells, ring_cells-with_links, ring_cells-with_body, prev_at-null, is_there-null, led_to-some, led_to-none, IsJoined-same}
 use Rattle.lhm_ring.proofs.memory.Places.{IsLaid-same}
 use Rattle.lhm_ring.proofs.ring.Ring.put_back.Goals as goal
@@ -54,7 +54,7 @@ invariant_of-self g c =
     let node = led_to-some i.spare.ptr at.ptr c.pointer-at.ensures.pointer in
     let j = IsJoined-same (sym (prev_at-null i.ends i.nodes.cells)) node c.join.ensures.joined in let k = IsJoined-same node (led_to-none c.none-2.result.ptr c.none-2.ensures) c.join-2.ensures.joined in
     record {
-      ring = RingOk-put_back (ring_cells i.ends i.nodes.cells) i.spare at i.len i.spares _ c.pointer-at.ensures.pointer c.self.invariant.ring c.self.view_is c.requires _ e c.args.hash x _ c.none.ensures _ _ e₁ e₂ _ _ j k;
+      ring = IsOwned-put_back (ring_cells i.ends i.nodes.cells) i.spare at i.len i.spares _ c.pointer-at.ensures.pointer c.self.invariant.ring c.self.view_is c.requires _ e c.args.hash x _ c.none.ensures _ _ e₁ e₂ _ _ j k;
       laid = IsLaid-same c.self.invariant.laid (c.join-2.ensures.land.0 ∙ c.join.ensures.land.0 ∙ c.fill.ensures.land.0 ∙ c.set_links.ensures.land.0) (c.join-2.ensures.land.1 ∙ c.join.ensures.land.1 ∙ c.fill.ensures.land.1 ∙ c.set_links.ensures.land.1);
     }
 

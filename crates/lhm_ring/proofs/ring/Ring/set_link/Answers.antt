@@ -2,10 +2,10 @@ use Rattle.std.proofs.Common.{◌∙◌, ◌++◌, ◌∷◌, ap, sym, subst, re
 use Rattle.lhm_ring.proofs.memory.NodeBlocks.{AreBlocks-held}
 use Rattle.lhm_ring.proofs.rings.ReadAtPosition.{content_at-held, IsAt-held, IsHeld-ring_list}
 use Rattle.lhm_ring.proofs.rings.RingCells.{IsAt-in_nodes, ChainsTo-ring_cells}
-use Rattle.lhm_ring.proofs.rings.ContentChange.{ChangesAt-with_links, RingOk-changed, ring_list-changed, ChangesOnly-held}
+use Rattle.lhm_ring.proofs.rings.ContentChange.{ChangesAt-with_links, IsOwned-changed, ring_list-changed, ChangesOnly-held}
 use Rattle.lhm_ring.proofs.memory.Places.{IsLaid-same}
 use Rattle.lhm_ring.proofs.ring.Ring.set_link.Goals as goal
-use Rattle.lhm_ring.specs.Links.{ring_cells, RingOk, ring_list}
+use Rattle.lhm_ring.specs.Links.{ring_cells, IsOwned, ring_list}
 use Rattle.lhm_ring.specs.Ring.{Held, linked_to, change_at}
 
 pub set_chain-requires : goal.set_chain-requires
@@ -20,7 +20,7 @@ invariant_of-self g c =
     let j = ChangesAt-with_links cs p r.0 r.1 h.node (content_at-held cs i.spare i.len i.spares _ c.self.invariant.ring c.self.view_is p h.before h.node h.after h.is h.at_is) c.of.result in
     let w = ChainsTo-ring_cells i.ends i.nodes.cells p c.args.at.block c.of.result c.set_chain.new.nodes.cells c.set_chain.ensures.written r.0 r.1 in
     record {
-      ring = subst (λ zs. RingOk zs i.spare i.len i.spares) (sym w) (RingOk-changed cs _ p h.node _ j i.spare i.len i.spares c.self.invariant.ring k);
+      ring = subst (λ zs. IsOwned zs i.spare i.len i.spares) (sym w) (IsOwned-changed cs _ p h.node _ j i.spare i.len i.spares c.self.invariant.ring k);
       laid = IsLaid-same c.self.invariant.laid (c.set_chain.ensures.land.0) (c.set_chain.ensures.land.1);
     }
 

@@ -1,6 +1,6 @@
 use Rattle.std.proofs.Common.{◌∙◌, ◌+◌, ap, sym, subst, refl}
 use Rattle.lhm_ring.proofs.rings.RingNodes.{length-held, ring_list-none}
-use Rattle.lhm_ring.proofs.memory.NodesWithBodies.{with_bodies-own, RingOk-cleared}
+use Rattle.lhm_ring.proofs.memory.NodesWithBodies.{with_bodies-own, IsOwned-cleared}
 use Rattle.lhm_ring.proofs.memory.Places.{IsLaid-same}
 use Rattle.lhm_ring.proofs.ring.Ring.splice_all.Goals as goal
 use Rattle.lhm_ring.specs.Links.{ring_cells, IsSpan, span_triples}
@@ -17,7 +17,7 @@ invariant_of-result g c =
 
 pub invariant_of-self-lent : goal.invariant_of-self-lent
 invariant_of-self-lent g c = λ w. record {
-  ring = RingOk-cleared (ring_cells c.splice.new.ends c.splice.new.nodes.cells) c.splice.result.spare 0 _ refl (c.splice.ensures.spliced c.self.inside.spares c.self.invariant.ring);
+  ring = IsOwned-cleared (ring_cells c.splice.new.ends c.splice.new.nodes.cells) c.splice.result.spare 0 _ refl (c.splice.ensures.spliced c.self.inside.spares c.self.invariant.ring);
   laid = IsLaid-same c.self.invariant.laid (c.splice.ensures.land.0) (c.splice.ensures.land.1);
 }
 

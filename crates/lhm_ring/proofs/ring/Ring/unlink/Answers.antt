@@ -3,7 +3,7 @@ use Rattle.lhm_ring.proofs.rings.ReadAtPosition.{IsAt-held}
 use Rattle.lhm_ring.proofs.rings.RingCells.{IsAt-in_nodes, Holds-in_nodes, links_at-ring_cells, body_at-ring_cells, ring_cells-with_body, ChainsTo-ring_cells}
 use Rattle.lhm_ring.proofs.rings.RingNodes.{NodeAt-held, ring_split}
 use Rattle.lhm_ring.proofs.rings.Moves.{There-prev, There-next}
-use Rattle.lhm_ring.proofs.rings.PutBackAndUnlink.{Holds-unlinked, IsAt-unlinked, count-held, RingOk-unlinked, AtHeld-unlinked}
+use Rattle.lhm_ring.proofs.rings.PutBackAndUnlink.{Holds-unlinked, IsAt-unlinked, count-held, IsOwned-unlinked, AtHeld-unlinked}
 use Rattle.lhm_ring.proofs.memory.Places.{IsLaid-same}
 use Rattle.lhm_ring.proofs.ring.Ring.unlink.Goals as goal
 use Rattle.lhm_ring.specs.Links.{ring_cells, next_of, prev_of, is_there}
@@ -44,7 +44,7 @@ invariant_of-self g c =
     let i = c.self.inside in let at = c.args.at.pointer in let b = c.args.at.block in let ends = c.join.new.ends in let zs = c.join.new.nodes.cells in let ws = c.take-key.new.self.cells in
     let e = links_at-ring_cells i.ends i.nodes.cells at.ptr b ∙ c.links-old.ensures in
     record {
-      ring = RingOk-unlinked (ring_cells i.ends i.nodes.cells) i.spare i.len i.spares _ c.self.invariant.ring c.self.view_is at _ e _ c.join.ensures.joined _ (body_at-ring_cells ends zs at.ptr b ∙ c.take-key.ensures.body) _ _
+      ring = IsOwned-unlinked (ring_cells i.ends i.nodes.cells) i.spare i.len i.spares _ c.self.invariant.ring c.self.view_is at _ e _ c.join.ensures.joined _ (body_at-ring_cells ends zs at.ptr b ∙ c.take-key.ensures.body) _ _
           (ring_cells-with_body ends zs at.ptr b None ws c.take-key.ensures.cells) (ChainsTo-ring_cells ends ws at.ptr b i.spare c.set_chain.new.nodes.cells c.set_chain.ensures.written) c.to-self-inside.result c.to-self-inside.ensures c.requires;
       laid = IsLaid-same c.self.invariant.laid (c.set_chain.ensures.land.0 ∙ c.take-key.ensures.land.0 ∙ c.join.ensures.land.0) (c.set_chain.ensures.land.1 ∙ c.take-key.ensures.land.1 ∙ c.join.ensures.land.1);
     }

@@ -1,9 +1,9 @@
 use Rattle.std.proofs.Common.{◌∙◌, ap, sym, subst, refl}
 use Rattle.lhm_ring.proofs.rings.ReadAtPosition.{content_at-held, Holds-held, links_at-held, pair-held, IsHeld-ring_list}
 use Rattle.lhm_ring.proofs.rings.RingCells.{Holds-in_nodes, body_at-ring_cells, ring_cells-with_body}
-use Rattle.lhm_ring.proofs.rings.ContentChange.{ChangesAt-with_body, RingOk-changed, ring_list-changed, ChangesOnly-held}
+use Rattle.lhm_ring.proofs.rings.ContentChange.{ChangesAt-with_body, IsOwned-changed, ring_list-changed, ChangesOnly-held}
 use Rattle.lhm_ring.proofs.ring.Ring.value_mut.Goals as goal
-use Rattle.lhm_ring.specs.Links.{ring_cells, RingOk, ring_list}
+use Rattle.lhm_ring.specs.Links.{ring_cells, IsOwned, ring_list}
 use Rattle.lhm_ring.specs.Ring.{Held, state, change_at, pair, revalued}
 use Rattle.lhm_ring.specs.RingAfterLoan.{value_set}
 use Rattle.lhm_ring.specs.Nodes.{with_body}
@@ -21,7 +21,7 @@ invariant_of-self-lent g c w =
     let j = ChangesAt-with_body cs p l.0 l.1 h.node (content_at-held cs i.spare i.len i.spares _ c.self.invariant.ring c.self.view_is p h.before h.node h.after h.is h.at_is) (pair b.0 w) in
     let z = ring_cells-with_body i.ends i.nodes.cells p c.args.at.block _ _ (ap (λ o. with_body p (value_set w o) i.nodes.cells) b.1) in
     record {
-      ring = subst (λ zs. RingOk zs i.spare i.len i.spares) (sym z) (RingOk-changed cs _ p h.node _ j i.spare i.len i.spares c.self.invariant.ring k);
+      ring = subst (λ zs. IsOwned zs i.spare i.len i.spares) (sym z) (IsOwned-changed cs _ p h.node _ j i.spare i.len i.spares c.self.invariant.ring k);
       laid = c.self.invariant.laid;
     }
 
