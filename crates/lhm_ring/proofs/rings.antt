@@ -3,6 +3,7 @@ pub mod Contents
 pub mod Ends
 pub mod FirstAndLast
 pub mod HeldPointers
+pub mod Insides
 pub mod IteratorSteps
 pub mod Joins
 pub mod Lookup

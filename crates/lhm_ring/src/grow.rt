@@ -1,5 +1,5 @@
 //! Allocates nodes in chunks, and frees all chunks.
-ghost use Rattle.std.specs.Prelude.{◌≡◌, ◌+◌, ◌-◌, ◌<◌, ◌≤◌, ◌^◌, [], ◌∷◌, ◌++◌, None, Some, map, max, length, IfOk, OnOk, OnErr, IsTrue, IsFalse, true};
+ghost use Rattle.std.specs.Prelude.{◌≡◌, ◌+◌, ◌-◌, ◌<◌, ◌≤◌, ◌^◌, [], ◌∷◌, ◌++◌, None, Some, map, min, max, length, IfOk, OnOk, OnErr, IsTrue, true};
 ghost use Rattle.std.specs.Allocator.{FitsBlock};
 ghost use Rattle.lhm_ring.specs.Nodes.{row};
 ghost use Rattle.lhm_ring.specs.Links.{extent, nodes_grown, least_more, IsStacked};
@@ -117,28 +117,14 @@ pub(crate) fn free_chunks<K, V>(
 }
 
 impl<K, V> Ring<K, V> {
-    /// Makes `count` more nodes spare if the chunks have as many, and returns whether they have.
-    #[inline]
-    fn use_made(&mut self, count: usize) -> bool
-        ensures held { self.new.held ≡ self.old.held }
-        ensures nodes { self.new.nodes ≡ self.old.nodes }
-        ensures enough { IsTrue result
-            → length self.old.held + self.old.spares + count ≤ self.old.nodes }
-        ensures used { IsTrue result → self.new.spares ≡ self.old.spares + count }
-        ensures unchanged { IsFalse result → self.new ≡ self.old }
-    {
-        if self.made.min(MOST_NODES) - self.len - self.spares < count {
-            return false;
-        }
-        self.spares += count;
-        true
-    }
-
-    /// Makes `count` more nodes spare, allocating what is missing as one chunk of at least `least`.
+    /// Makes `count` more nodes spare than the chunks have, allocating what is missing as one chunk
+    /// of at least `least`.
     #[cold]
     #[inline(never)]
     fn grow_by(&mut self, count: usize, least: usize) -> Result<(), AllocError>
-        requires { least ≤ 2 ^ 58 }
+        requires small { least ≤ 2 ^ 58 }
+        requires missing { min self.old.nodes (2 ^ 59)
+            < length self.old.held + self.old.spares + count }
         ensures held { OnOk result (self.new.held ≡ self.old.held) }
         ensures spares { OnOk result (self.new.spares ≡ self.old.spares + count) }
         ensures nodes { OnOk result
@@ -149,12 +135,8 @@ impl<K, V> Ring<K, V> {
         if MOST_NODES - self.len - self.spares < count {
             return Err(AllocError);
         }
-        let needed = self.len + self.spares + count;
-        if needed <= self.made {
-            self.spares += count;
-            return Ok(());
-        }
-        let places = (needed - self.made).max(least);
+        let missing = self.len + self.spares + count - self.made;
+        let places = missing.max(least);
         let at = allocate_chunk(&mut self.nodes, &mut self.chunks, &self.alloc, places)?;
         self.spare = make_spares(&mut self.nodes, at, self.spare, places);
         self.spares += count;
@@ -171,7 +153,7 @@ impl<K, V> Ring<K, V> {
             (self.new.nodes ≡ max self.old.nodes (length self.old.held + self.old.spares + count)) }
         ensures refused { OnErr result (self.new ≡ self.old) }
     {
-        self.grow_by(count, 0)
+        self.grow_within(count, 0)
     }
 
     /// Makes `count` more nodes spare, as `grow` does. For one it allocates as many as there are,
@@ -188,7 +170,8 @@ impl<K, V> Ring<K, V> {
             → self.new.nodes ≤ most) }
         ensures refused { OnErr result (self.new ≡ self.old) }
     {
-        if self.use_made(count) {
+        if count <= self.made.min(MOST_NODES) - self.len - self.spares {
+            self.spares += count;
             return Ok(());
         }
         let least = chunk_size(count, self.made, most);

@@ -1,8 +1,8 @@
 -- How many nodes there are after a growth.
-use Rattle.std.proofs.Common.{◌≡◌, ℕ, ◌+◌, ◌≤◌, ◌<◌, cond, inl, inr, ap, arith}
-use Rattle.std.specs.Prelude.{max}
+use Rattle.std.proofs.Common.{◌≡◌, ℕ, ◌+◌, ◌≤◌, ◌<◌, cond, true, false, refl, inl, inr, ap, ◌∙◌, arith}
+use Rattle.std.specs.Prelude.{max, min, ◌-◌, ◌==◌, if◌then◌else◌}
 use Rattle.std.proofs.lemmas.Bool.Decides.{leb_tells}
-use Rattle.lhm_ring.specs.Links.{nodes_grown}
+use Rattle.lhm_ring.specs.Links.{nodes_grown, least_more}
 
 -- as many as are needed were there
 pub nodes_grown-enough : (nodes needed least : ℕ) → needed ≤ nodes → nodes_grown nodes needed least ≡ nodes
@@ -19,8 +19,13 @@ nodes_grown-fewer nodes needed least h = elim (leb_tells needed nodes) [
 ]
 
 -- and no more than are needed are made
-pub nodes_grown-exact : (nodes needed : ℕ) → nodes_grown nodes needed 0 ≡ max nodes needed
-nodes_grown-exact nodes needed = elim (leb_tells needed nodes) [
-  | inl fits ↦ let enough = fits.1 in let same = nodes_grown-enough nodes needed 0 enough in omega arith
-  | inr lacks ↦ let less = lacks.1 in let more = nodes_grown-fewer nodes needed 0 less in omega arith
-]
+pub nodes_grown-exact : (nodes needed count : ℕ)
+    → nodes_grown nodes needed (least_more count nodes 0) ≡ max nodes needed
+nodes_grown-exact nodes needed count =
+    let none : least_more count nodes 0 ≡ 0 =
+    elim (count == 1) as (λ b. (if b then min nodes (min (0 - nodes) 64) else 0) ≡ 0)
+    [ true ↦ omega arith | false ↦ refl ] in
+    ap (nodes_grown nodes needed) none ∙ elim (leb_tells needed nodes) [
+      | inl fits ↦ let enough = fits.1 in let same = nodes_grown-enough nodes needed 0 enough in omega arith
+      | inr lacks ↦ let less = lacks.1 in let more = nodes_grown-fewer nodes needed 0 less in omega arith
+    ]

@@ -1,7 +1,10 @@
-use Rattle.std.proofs.Common.{◌∙◌}
+use Rattle.std.proofs.Common.{◌∙◌, ◌+◌, length}
 use Rattle.lhm_ring.proofs.rings.NodesGrown.{nodes_grown-exact}
 use Rattle.lhm_ring.proofs.lists.Results.{OnOk-then}
 use Rattle.lhm_ring.proofs.ring.Ring.grow.Goals as goal
 
 pub returns-clause-nodes : goal.returns-clause-nodes
-returns-clause-nodes g c = OnOk-then c.grow_by.result c.grow_by.ensures.nodes (λ e. e ∙ nodes_grown-exact _ _)
+returns-clause-nodes g c =
+    let old = c.args.self.now in let count = c.args.count in
+    OnOk-then c.grow_within.result c.grow_within.ensures.nodes
+    (λ e. e ∙ nodes_grown-exact old.nodes (length old.held + old.spares + count) count)

@@ -1,0 +1,54 @@
+-- What the fields of a ring say of its counts.
+use Rattle.std.proofs.Common.{◌≡◌, ◌∙◌, ℕ, suc, ◌+◌, ◌≤◌, ◌^◌, length, sym, ap, arith}
+use Rattle.std.specs.Prelude.{min}
+use Rattle.lhm_ring.specs.declared.ring.Ring.TheInside.{Inside}
+use Rattle.lhm_ring.proofs.memory.Places.{length-made}
+use Rattle.lhm_ring.proofs.rings.RingNodes.{length-held}
+use Rattle.lhm_ring.proofs.rings.Stacking.{IsOwned-raised}
+use Rattle.lhm_ring.specs.Links.{ring_cells, ring_list, IsOwned, IsLaid}
+use Rattle.lhm_ring.specs.Ring.{State, state}
+
+-- the invariant of a ring, and what callers see of it
+abbrev pub IsWhole : {K V : Type 0} → Inside K V → Type 0
+IsWhole i = record {
+  ring : IsOwned (ring_cells i.ends i.nodes.cells) i.spare i.len i.spares;
+  laid : IsLaid i.nodes.unused i.nodes.chunks i.chunks.items i.made;
+}
+
+abbrev pub seen_of : {K V : Type 0} → Inside K V → State (K × V)
+seen_of i = state (ring_list (ring_cells i.ends i.nodes.cells) i.len) i.spares i.made
+
+module _ {K V : Type 0} (i : Inside K V) (ok : IsWhole i) where
+  pub length-cells : length i.nodes.cells ≡ i.made
+  length-cells =
+      let ns = i.nodes in
+      length-made ns.cells ns.unused ns.node_bytes ns.chunks ns.laid ok.laid.none_unused
+      ∙ sym ok.laid.all_made
+
+  pub counts-within : i.len + i.spares ≤ min i.made (2 ^ 59)
+  counts-within =
+      let all = length-cells in let count = ok.ring.ring.count in let held = ok.ring.held_count in
+      let wide = ok.ring.enough_spares in let small = ok.ring.bounded in omega arith
+
+  pub IsWhole-raised : (count : ℕ) → i.len + i.spares + count ≤ min i.made (2 ^ 59)
+      → IsWhole (record i { spares = i.spares + count })
+  IsWhole-raised count h =
+      let all = length-cells in record {
+        ring = IsOwned-raised i.ends i.nodes.cells i.spare i.len i.spares (i.spares + count) ok.ring
+            (omega arith) (omega arith);
+        laid = ok.laid;
+      }
+
+  -- the counts, as callers see them
+  module _ {v : State (K × V)} (w : seen_of i ≡ v) where
+    pub record SeenCounts : Type 0 where
+      pub held : i.len ≡ length v.held
+      pub spares : i.spares ≡ v.spares
+      pub nodes : i.made ≡ v.nodes
+
+    pub counts-seen : SeenCounts
+    counts-seen = record {
+      held = length-held (ring_cells i.ends i.nodes.cells) i.spare i.len i.spares _ ok.ring w;
+      spares = ap (λ z. z.spares) w;
+      nodes = ap (λ z. z.nodes) w;
+    }
