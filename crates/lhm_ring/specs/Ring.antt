@@ -1,5 +1,5 @@
 -- What callers see of a ring.
-use Rattle.std.specs.Prelude.{◌≡◌, List, [], ◌∷◌, ◌++◌, ℕ, cond, map, Option, Some, None, ◌+◌}
+use Rattle.std.specs.Prelude.{◌≡◌, List, [], ◌∷◌, ◌++◌, ℕ, cond, map, Option, Some, None}
 use denote.RawPtr.{Ptr}
 use Rattle.lhm_ring.specs.Nodes.{same_ptr}
 

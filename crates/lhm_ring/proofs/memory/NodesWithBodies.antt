@@ -99,5 +99,4 @@ module _ {B : Type 0} (cs : List (Cell Links B)) where
   pub IsOwned-cleared : (spare : Link) (n m : ℕ) → n ≡ 0 → IsOwned cs spare n m → IsOwned (cleared cs) spare n m
   IsOwned-cleared spare n m e ok =
       let same = links_at-cleared cs in
-      IsOwned-same cs (cleared cs) (λ q. ap next_of (same q)) (λ q. ap prev_of (same q)) (λ q. ap has_links (same q)) (length-cleared cs) spare n m ok
-      (AllByRecursion-none (HasContent (cleared cs)) ok.held_pointers (ok.held_count ∙ e)) (AllByRecursion-always (SameLink cs (cleared cs)) (λ q. ap link_of (same q)) ok.spare_pointers)
+      IsOwned-same cs (cleared cs) (λ q. ap next_of (same q)) (λ q. ap prev_of (same q)) (λ q. ap has_links (same q)) (length-cleared cs) ok (AllByRecursion-none (HasContent (cleared cs)) ok.held_pointers (ok.held_count ∙ e)) (AllByRecursion-always (SameLink cs (cleared cs)) (λ q. ap link_of (same q)) ok.spare_pointers)

@@ -172,8 +172,7 @@ module _ {K V : Type 0} where
 
     IsOwned-written : (spare : Link) (n m : ℕ) → IsOwned cs spare n m → IsOwned ds spare n m
     IsOwned-written spare n m ok =
-        IsOwned-same cs ds (λ q. ap next_of (same q)) (λ q. ap prev_of (same q)) (λ q. ap has_links (same q)) (length-written keep hs cs) spare n m ok
-        (AllByRecursion-map (HasContent cs) (HasContent ds) HasContent-written ok.held_pointers ok.ring.held) (AllByRecursion-always (SameLink cs ds) (λ q. ap link_of (same q)) ok.spare_pointers)
+        IsOwned-same cs ds (λ q. ap next_of (same q)) (λ q. ap prev_of (same q)) (λ q. ap has_links (same q)) (length-written keep hs cs) ok (AllByRecursion-map (HasContent cs) (HasContent ds) HasContent-written ok.held_pointers ok.ring.held) (AllByRecursion-always (SameLink cs ds) (λ q. ap link_of (same q)) ok.spare_pointers)
 
     ring_list-written : (n : ℕ) → AllByRecursion (λ p. keep p ≡ true) (ring_pointers cs n) → ring_list ds n ≡ revalued_by hs (ring_list cs n)
     ring_list-written n a = ap (listed ds) (follow-same cs ds (λ q. ap next_of (same q)) n null_ptr) ∙ listed-written (follow cs n null_ptr) a
@@ -245,8 +244,8 @@ module _ {K V : Type 0} where
   AreLent-ring_list : (cs : List (Cell Links (K × V))) (spare : Link) (n m : ℕ) → IsOwned cs spare n m → AreLent (run_of (lent (among (ring_pointers cs n)) cs)) (ring_list cs n)
   AreLent-ring_list cs spare n m ok =
       record {
-        lent = AllByRecursion-lent (among (follow cs n null_ptr)) cs (follow cs n null_ptr) (AllByRecursion-followed cs spare n m ok) (AllByRecursion-among (follow cs n null_ptr));
-        apart = IsApart-ring_list cs spare n m ok;
+        lent = AllByRecursion-lent (among (follow cs n null_ptr)) cs (follow cs n null_ptr) (AllByRecursion-followed ok) (AllByRecursion-among (follow cs n null_ptr));
+        apart = IsApart-ring_list ok;
       }
 
   pub AreLent-held_entries : (e : Ends) (cs : List (Cell Links (K × V))) (spare : Link) (n m : ℕ) → IsOwned (ring_cells e cs) spare n m → AreLent (run_of (held_entries e cs n)) (ring_list (ring_cells e cs) n)

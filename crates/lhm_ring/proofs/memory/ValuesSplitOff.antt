@@ -290,7 +290,7 @@ module _ (S W : RattleType) where
 
     AllByRecursion-in_ring : AllByRecursion (λ c. among (pointers_of d.held) c.0 ≡ true) (entries a)
     AllByRecursion-in_ring = subst (λ ps. AllByRecursion (λ c. among ps c.0 ≡ true) (entries a))
-        (sym (pointers-ring_list (ring_cells a.ends a.nodes.cells) a.spare a.len a.spares ok.ring) ∙ ap (λ (s : State (S.Denot × W.Denot)). pointers_of s.held) seen) (AllByRecursion-kept (kept_by a) a.nodes.cells)
+        (sym (pointers-ring_list ok.ring) ∙ ap (λ (s : State (S.Denot × W.Denot)). pointers_of s.held) seen) (AllByRecursion-kept (kept_by a) a.nodes.cells)
 
     -- the values vs, in the order of the ring, at the pointers of the entries
     abbrev pub placed : List W.Denot → List W.Denot

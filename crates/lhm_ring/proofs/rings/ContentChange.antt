@@ -8,12 +8,13 @@ use Rattle.lhm_ring.proofs.rings.Contents.{at-content_of, hash-content_of, link-
 use Rattle.lhm_ring.proofs.rings.HeldPointers.{pointers_of, same_ptr-fresh, IsApart-ring_list}
 use Rattle.lhm_ring.proofs.lists.ListFacts.{AllByRecursion-map, AllByRecursion-right}
 use Rattle.lhm_ring.proofs.memory.OneNodeChanged.{links_at-with_body, body_at-with_body}
-use Rattle.lhm_ring.proofs.rings.RingNodes.{Found-listed}
+use Rattle.lhm_ring.proofs.rings.ReadAtPosition.{content_at-held, links_at-held, pair-held}
+use Rattle.lhm_ring.proofs.rings.RingNodes.{NodeAt-held}
 use Rattle.lhm_ring.proofs.rings.SameNodes.{SameLink, follow-same, IsOwned-same}
 use Rattle.lhm_ring.proofs.rings.Writes.{cell_at-change_other, length-change, reader-with_links_same, links_at-with_links, body_at-with_links, next_of-chaining_to, prev_of-chaining_to, link_of-chaining_to, hash-chaining_to}
 use Rattle.lhm_ring.specs.Nodes.{Cell, cell, same_ptr, links_of, body_of, links_at, body_at, IsApart, with_links, with_body}
 use Rattle.lhm_ring.specs.Links.{chaining_to, next_of, prev_of, link_of, has_links, next_at, prev_at, link_at, is_there, content_of, content_at, HasContent, follow, listed, one_of, ring_list, IsOwned}
-use Rattle.lhm_ring.specs.Ring.{State, state, Held, held, IsHeld, ChangesOnly, change_at, SplitAround}
+use Rattle.lhm_ring.specs.Ring.{State, state, Held, held, IsHeld, ChangesOnly, change_at, SplitAround, pair, revalued}
 use Rattle.lhm_ring.specs.Pointer.{target}
 
 -- the same nodes and the same order, except that p holds u in place of t
@@ -27,23 +28,22 @@ pub record ChangesAt {B : Type 0} (cs ds : List (Cell Links B)) (p : Ptr) (t u :
   pub is : content_at ds p ≡ Some u
   pub count : length ds ≡ length cs
 
-module _ {B : Type 0} (cs ds : List (Cell Links B)) (p : Ptr) (t u : Held B) (j : ChangesAt cs ds p t u) where
+module _ {B : Type 0} {cs ds : List (Cell Links B)} {p : Ptr} {t u : Held B} (j : ChangesAt cs ds p t u) where
   HasContent-changed : (q : Ptr) → HasContent cs q → HasContent ds q
   HasContent-changed q h = (elim (same_ptr p q) as (λ y. same_ptr p q ≡ y → HasContent ds q) [
     | true ↦ λ s. subst (HasContent ds) (same_ptr-equal p q s) (u, j.is)
     | false ↦ λ n. (h.0, j.content q n ∙ h.1)
   ]) refl
 
-  IsFresh-spare : (spare : Link) (n m : ℕ) (ok : IsOwned cs spare n m) → SplitAround ok.held_pointers p → IsFresh p ok.spare_pointers
-  IsFresh-spare spare n m ok s =
+  IsFresh-spare : {spare : Link} {n m : ℕ} (ok : IsOwned cs spare n m) → SplitAround ok.held_pointers p → IsFresh p ok.spare_pointers
+  IsFresh-spare ok s =
       let d : IsApart ((null_ptr ∷ s.before) ++ p ∷ (s.after ++ ok.spare_pointers)) = subst (λ qs. IsApart (null_ptr ∷ qs)) (ap (λ qs. qs ++ ok.spare_pointers) s.is ∙ append_assoc s.before (p ∷ s.after) ok.spare_pointers) ok.ring.apart in
       AllByRecursion-right (λ q. same_ptr p q ≡ false) s.after ok.spare_pointers (AllByRecursion-right (λ q. same_ptr p q ≡ false) (null_ptr ∷ s.before) (s.after ++ ok.spare_pointers) (IsFresh-middle (null_ptr ∷ s.before) p (s.after ++ ok.spare_pointers) d))
 
-  pub IsOwned-changed : (spare : Link) (n m : ℕ) → IsOwned cs spare n m → IsHeld (ring_list cs n) p → IsOwned ds spare n m
-  IsOwned-changed spare n m ok h =
-      let s = (Found-listed cs spare n m ok p h.before h.node h.after h.is h.at_is).split in
-      IsOwned-same cs ds j.next j.prev j.there j.count spare n m ok (AllByRecursion-map (HasContent cs) (HasContent ds) HasContent-changed ok.held_pointers ok.ring.held)
-      (AllByRecursion-map (λ q. same_ptr p q ≡ false) (SameLink cs ds) j.link ok.spare_pointers (IsFresh-spare spare n m ok s))
+  pub IsOwned-changed : {spare : Link} {n m : ℕ} {v : State B} {total : ℕ} → IsOwned cs spare n m → state (ring_list cs n) m total ≡ v → IsHeld v.held p → IsOwned ds spare n m
+  IsOwned-changed ok w h =
+      IsOwned-same cs ds j.next j.prev j.there j.count ok (AllByRecursion-map (HasContent cs) (HasContent ds) HasContent-changed ok.held_pointers ok.ring.held)
+      (AllByRecursion-map (λ q. same_ptr p q ≡ false) (SameLink cs ds) j.link ok.spare_pointers (IsFresh-spare ok (NodeAt-held ok w p h)))
 
   module _ (f : Held B → Held B) (fx : f t ≡ u) where
     pointer : t.at ≡ p
@@ -72,11 +72,12 @@ module _ {B : Type 0} (cs ds : List (Cell Links B)) (p : Ptr) (t u : Held B) (j 
     listed-changed [] = refl
     listed-changed (q ∷ qs) = (λ i. one_of-changed q i ++ listed-changed qs i) ∙ sym (change_at-append (one_of (content_at cs q)) (listed cs qs))
 
-    pub ring_list-changed : (n : ℕ) → ring_list ds n ≡ change_at p f (ring_list cs n)
-    ring_list-changed n = ap (listed ds) (follow-same cs ds j.next n null_ptr) ∙ listed-changed (follow cs n null_ptr)
+    pub ring_list-changed : {spare : Link} {n m : ℕ} {v : State B} {total : ℕ} → IsOwned cs spare n m → state (ring_list cs n) m total ≡ v → ring_list ds n ≡ change_at p f v.held
+    ring_list-changed {n = n} ok w =
+        ap (listed ds) (follow-same cs ds j.next n null_ptr) ∙ listed-changed (follow cs n null_ptr) ∙ ap (λ (z : State B). change_at p f z.held) w
 
 -- the body of a node is written, or its chain link
-module _ {B : Type 0} (cs : List (Cell Links B)) (p : Ptr) (l : Links) (e : links_at cs p ≡ Some l) (t : Held B) (c : content_at cs p ≡ Some t) where
+module _ {B : Type 0} (cs : List (Cell Links B)) (p : Ptr) {l : Links} (e : links_at cs p ≡ Some l) {t : Held B} (c : content_at cs p ≡ Some t) where
   content_of-some : (o : Option Links) (b : Option B) (k : Links) (x : B) → o ≡ Some k → b ≡ Some x → content_of p o b ≡ Some (held p k.hash (link_of (Some k)) x)
   content_of-some o b k x eo eb = λ i. content_of p (eo i) (eb i)
 
@@ -130,6 +131,23 @@ module _ {B : Type 0} where
       let far = IsFresh-head x.at (pointers_of (xs ++ t ∷ ys)) d in
       λ i. cond ((ap (same_ptr x.at) (sym at) ∙ same_ptr-fresh x.at xs t ys far) i) (f x) x ∷ change_at-split p f xs t ys at (IsApart-tail x.at (pointers_of (xs ++ t ∷ ys)) d) i
 
-  pub ChangesOnly-held : (cs : List (Cell Links B)) (spare : Link) (n m : ℕ) (v : State B) {total : ℕ} → IsOwned cs spare n m → state (ring_list cs n) m total ≡ v → (p : Ptr) → ChangesOnly v.held p
-  ChangesOnly-held cs spare n m v ok w p xs t ys e at f =
-      ap (change_at p f) e ∙ change_at-split p f xs t ys at (subst (λ hs. IsApart (pointers_of hs)) (ap (λ (z : State B). z.held) w ∙ e) (IsApart-ring_list cs spare n m ok))
+  pub ChangesOnly-held : {cs : List (Cell Links B)} {spare : Link} {n m : ℕ} {v : State B} {total : ℕ} → IsOwned cs spare n m
+      → state (ring_list cs n) m total ≡ v → (p : Ptr) → ChangesOnly v.held p
+  ChangesOnly-held ok w p xs t ys e at f =
+      ap (change_at p f) e
+      ∙ change_at-split p f xs t ys at (subst (λ hs. IsApart (pointers_of hs)) (ap (λ (z : State B). z.held) w ∙ e) (IsApart-ring_list ok))
+
+-- a ring in which a value is written at a held pointer
+module _ {K V : Type 0} {cs : List (Cell Links (K × V))} {spare : Link} {n m : ℕ} {v : State (K × V)} {total : ℕ} (ok : IsOwned cs spare n m) (w : state (ring_list cs n) m total ≡ v)
+    {p : Ptr} (h : IsHeld v.held p) {x : K × V} (e : body_at cs p ≡ Some x) (new : V) {ds : List (Cell Links (K × V))} (is : ds ≡ with_body p (Some (pair x.0 new)) cs) where
+  changes : ChangesAt cs ds p h.node (held h.node.at h.node.hash h.node.link (pair x.0 new))
+  changes = subst (λ zs. ChangesAt cs zs p h.node (held h.node.at h.node.hash h.node.link (pair x.0 new))) (sym is)
+      (ChangesAt-with_body cs p (links_at-held ok w h).1 (content_at-held ok w h) (pair x.0 new))
+
+  pub IsOwned-revalued : IsOwned ds spare n m
+  IsOwned-revalued = IsOwned-changed changes ok w h
+
+  pub ring_list-revalued : ring_list ds n ≡ change_at p (revalued new) v.held
+  ring_list-revalued =
+      ring_list-changed changes (revalued new)
+      (ap (λ (z : K × V). record h.node { pair = pair z.0 new }) (sym (pair-held ok w p e h.before h.node h.after h.is h.at_is))) ok w

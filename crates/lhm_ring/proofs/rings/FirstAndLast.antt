@@ -8,12 +8,12 @@ use Rattle.lhm_ring.proofs.lists.Apart.{IsFresh-head, IsFresh}
 use Rattle.lhm_ring.proofs.rings.Contents.{at-content_of}
 use Rattle.lhm_ring.proofs.lists.ListFacts.{last_from, AllByRecursion-left, AllByRecursion-last}
 use Rattle.lhm_ring.proofs.rings.RingCells.{led_to-apart}
-use Rattle.lhm_ring.proofs.rings.RingNodes.{ring_list-listed}
+use Rattle.lhm_ring.proofs.rings.RingNodes.{listed-held}
 use Rattle.lhm_ring.proofs.lists.Rows.{RowCut-linked}
 use Rattle.lhm_ring.specs.Nodes.{Cell, same_ptr, links_at, body_at}
 use Rattle.lhm_ring.specs.Links.{next_at, prev_at, content_at, AreLinked, HasContent, listed, one_of, ring_list, IsOwned}
 use Rattle.lhm_ring.specs.Ring.{State, state, Held, first_at, last_at, last_of}
-use Rattle.lhm_ring.specs.Pointer.{led_to, target}
+use Rattle.lhm_ring.specs.Pointer.{led_to}
 
 module _ {B : Type 0} (cs : List (Cell Links B)) where
   at-content : (p : Ptr) (t : Held B) → content_at cs p ≡ Some t → t.at ≡ p
@@ -49,15 +49,12 @@ module _ {B : Type 0} (cs : List (Cell Links B)) where
       last_at-row cs null_ptr p (q ∷ qs) c l (λ z. omega (arith, z))
       ∙ sym (led_to-apart (prev_at cs p) (ap (same_ptr null_ptr) (RowCut-linked cs null_ptr (q ∷ qs) p [] l).edge.1 ∙ AllByRecursion-last (λ r. same_ptr null_ptr r ≡ false) q qs f.0 f.1))
 
-module _ {B : Type 0} (cs : List (Cell Links B)) (spare : Link) (n m : ℕ) (v : State B) (ok : IsOwned cs spare n m) {total : ℕ} (w : state (ring_list cs n) m total ≡ v) where
-  listed-held : listed cs ok.held_pointers ≡ v.held
-  listed-held = sym (ring_list-listed cs ok.held_pointers (target spare) ok.spare_pointers n ok.ring ok.held_count) ∙ ap (λ (z : State B). z.held) w
-
+module _ {B : Type 0} {cs : List (Cell Links B)} {spare : Link} {n m : ℕ} {v : State B} {total : ℕ} (ok : IsOwned cs spare n m) (w : state (ring_list cs n) m total ≡ v) where
   IsFresh-null : IsFresh null_ptr ok.held_pointers
   IsFresh-null = AllByRecursion-left (λ q. same_ptr null_ptr q ≡ false) ok.held_pointers ok.spare_pointers (IsFresh-head null_ptr (ok.held_pointers ++ ok.spare_pointers) ok.ring.apart)
 
   pub led_to-first : led_to (next_at cs null_ptr) ≡ first_at v.held
-  led_to-first = sym (first_at-led_to cs null_ptr ok.held_pointers ok.ring.held IsFresh-null ok.ring.linked) ∙ ap first_at listed-held
+  led_to-first = sym (first_at-led_to cs null_ptr ok.held_pointers ok.ring.held IsFresh-null ok.ring.linked) ∙ ap first_at (listed-held ok w)
 
   pub led_to-last : led_to (prev_at cs null_ptr) ≡ last_at v.held
-  led_to-last = sym (last_at-led_to cs null_ptr ok.held_pointers ok.ring.held IsFresh-null ok.ring.linked) ∙ ap last_at listed-held
+  led_to-last = sym (last_at-led_to cs null_ptr ok.held_pointers ok.ring.held IsFresh-null ok.ring.linked) ∙ ap last_at (listed-held ok w)

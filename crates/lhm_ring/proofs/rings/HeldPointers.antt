@@ -33,7 +33,7 @@ module _ {B : Type 0} where
   pointers-listed cs [] a = refl
   pointers-listed cs (p ∷ ps) a = ap (λ o. pointers_of (one_of o ++ listed cs ps)) a.0.1 ∙ (λ i. at-content_of p (links_at cs p) (body_at cs p) a.0.0 a.0.1 i ∷ pointers-listed cs ps a.1 i)
 
-  module _ (cs : List (Cell Links B)) (spare : Link) (n m : ℕ) (ok : IsOwned cs spare n m) where
+  module _ {cs : List (Cell Links B)} {spare : Link} {n m : ℕ} (ok : IsOwned cs spare n m) where
     pub held_pointers-follow : ok.held_pointers ≡ follow cs n null_ptr
     held_pointers-follow = sym (ap (λ k. follow cs k null_ptr) (sym ok.held_count) ∙ follow-row cs null_ptr ok.held_pointers null_ptr ok.ring.linked)
 
@@ -46,5 +46,5 @@ module _ {B : Type 0} where
     pub IsApart-ring_list : IsApart (pointers_of (ring_list cs n))
     IsApart-ring_list = subst IsApart (held_pointers-follow ∙ sym pointers-ring_list) (IsApart-left ok.held_pointers ok.spare_pointers (IsApart-tail null_ptr (ok.held_pointers ++ ok.spare_pointers) ok.ring.apart))
 
-  pub IsApart-held : (cs : List (Cell Links B)) (spare : Link) (n m : ℕ) (v : State B) {total : ℕ} → IsOwned cs spare n m → state (ring_list cs n) m total ≡ v → IsApart (pointers_of v.held)
-  IsApart-held cs spare n m v ok w = subst (λ (s : State B). IsApart (pointers_of s.held)) w (IsApart-ring_list cs spare n m ok)
+    pub IsApart-held : {v : State B} {total : ℕ} → state (ring_list cs n) m total ≡ v → IsApart (pointers_of v.held)
+    IsApart-held w = subst (λ (s : State B). IsApart (pointers_of s.held)) w IsApart-ring_list

@@ -1,5 +1,5 @@
 -- What the fields of a ring say of its counts.
-use Rattle.std.proofs.Common.{◌≡◌, ◌∙◌, ℕ, suc, ◌+◌, ◌≤◌, ◌^◌, length, sym, ap, arith}
+use Rattle.std.proofs.Common.{◌≡◌, ◌∙◌, ℕ, ◌+◌, ◌≤◌, ◌^◌, length, sym, ap, arith}
 use Rattle.std.specs.Prelude.{min}
 use Rattle.lhm_ring.specs.declared.ring.Ring.TheInside.{Inside}
 use Rattle.lhm_ring.proofs.memory.Places.{length-made}
@@ -48,7 +48,7 @@ module _ {K V : Type 0} (i : Inside K V) (ok : IsWhole i) where
 
     pub counts-seen : SeenCounts
     counts-seen = record {
-      held = length-held (ring_cells i.ends i.nodes.cells) i.spare i.len i.spares _ ok.ring w;
+      held = length-held ok.ring w;
       spares = ap (λ z. z.spares) w;
       nodes = ap (λ z. z.nodes) w;
     }

@@ -12,15 +12,28 @@ use Rattle.lhm_ring.proofs.lists.Rows.{RowCut-linked, listed-append}
 use Rattle.lhm_ring.specs.Nodes.{Cell, IsApart, links_at}
 use Rattle.lhm_ring.specs.Links.{next_of, prev_of, next_at, prev_at, is_there, content_at, AreLinked, IsSpareList, HasContent, IsRing, listed, one_of, IsJoined, ring_list, IsOwned}
 use Rattle.lhm_ring.specs.Ring.{state, Held, State, IsHeld, AtHeld, SplitAround}
-use Rattle.lhm_ring.specs.Pointer.{target}
 
 module _ {B : Type 0} where
   pub listed-one : (cs : List (Cell Links B)) (p : Ptr) (t : Held B) → content_at cs p ≡ Some t → listed cs (p ∷ []) ≡ t ∷ []
   unfolding listed
   listed-one cs p t e = ap (λ o. one_of o ++ []) e
 
+  -- those beside p are joined, as its links say
+  pub IsJoined-past : {cs ds : List (Cell Links B)} (p : Ptr) {l : Links} → links_at cs p ≡ Some l
+      → IsJoined cs ds l.prev.ptr l.next.ptr → IsJoined cs ds (prev_at cs p) (next_at cs p)
+  IsJoined-past {cs} {ds} p e = subst (λ (z : Ptr × Ptr). IsJoined cs ds z.0 z.1) (λ i. (sym (ap prev_of e) i, sym (ap next_of e) i))
+
 -- a node in the middle of a ring
-module _ {B : Type 0} (cs : List (Cell Links B)) (spare : Option Ptr) (ss us : List Ptr) (p : Ptr) (vs : List Ptr) (r : IsRing cs (us ++ p ∷ vs) spare ss) where
+module _ {B : Type 0} {cs : List (Cell Links B)} {ps : List Ptr} {spare : Option Ptr} {ss : List Ptr} {p : Ptr} (ring : IsRing cs ps spare ss) (s : SplitAround ps p) where
+  abbrev us : List Ptr
+  us = s.before
+
+  abbrev vs : List Ptr
+  vs = s.after
+
+  abbrev r : IsRing cs (us ++ p ∷ vs) spare ss
+  r = ring_split ring s
+
   abbrev There : Ptr → Type 0
   There q = is_there cs q ≡ true
 
@@ -46,93 +59,100 @@ module _ {B : Type 0} (cs : List (Cell Links B)) (spare : Option Ptr) (ss us : L
   pub There-next : There (next_at cs p)
   There-next = There-first vs (AllByRecursion-right There us (p ∷ vs) AllByRecursion-there).1 (RowCut-linked cs null_ptr us p (vs ++ null_ptr ∷ []) AreLinked-row).after
 
-  module _ (ds : List (Cell Links B)) (j : IsJoined cs ds (prev_at cs p) (next_at cs p)) where
+  -- p behind the other held nodes
+  IsApart-whole : IsApart ((null_ptr ∷ us) ++ p ∷ (vs ++ ss))
+  IsApart-whole = subst (λ qs. IsApart (null_ptr ∷ qs)) (append_assoc us (p ∷ vs) ss) r.apart
+
+  pub IsFresh-others : IsFresh p (null_ptr ∷ ((us ++ vs) ++ ss))
+  IsFresh-others = subst (λ qs. IsFresh p (null_ptr ∷ qs)) (sym (append_assoc us vs ss)) (IsFresh-middle (null_ptr ∷ us) p (vs ++ ss) IsApart-whole)
+
+  pub IsApart-shifted : IsApart (null_ptr ∷ ((us ++ vs) ++ p ∷ ss))
+  IsApart-shifted =
+      IsApart-inserted (null_ptr ∷ (us ++ vs)) p ss IsFresh-others
+      (subst (λ qs. IsApart (null_ptr ∷ qs)) (sym (append_assoc us vs ss)) (IsApart-removed (null_ptr ∷ us) p (vs ++ ss) IsApart-whole))
+
+  pub AllByRecursion-shifted : AllByRecursion There (null_ptr ∷ ((us ++ vs) ++ p ∷ ss))
+  AllByRecursion-shifted = (
+    r.there.0,
+    AllByRecursion-append There (us ++ vs) (p ∷ ss) (AllByRecursion-removed There us p vs AllByRecursion-there)
+        (There-node, AllByRecursion-right There (us ++ p ∷ vs) ss r.there.1),
+  )
+
+  module _ {ds : List (Cell Links B)} (j : IsJoined cs ds (prev_at cs p) (next_at cs p)) where
     pub AreLinked-joined : AreLinked ds (null_ptr ∷ ((us ++ vs) ++ null_ptr ∷ []))
-    AreLinked-joined = subst (λ qs. AreLinked ds (null_ptr ∷ qs)) (sym (append_assoc us vs (null_ptr ∷ []))) (AreLinked-removed cs ds null_ptr us p vs IsApart-row AreLinked-row j)
+    AreLinked-joined = subst (λ qs. AreLinked ds (null_ptr ∷ qs)) (sym (append_assoc us vs (null_ptr ∷ []))) (AreLinked-removed null_ptr us p vs IsApart-row AreLinked-row j)
 
     pub is_there-last : is_there ds (prev_at ds null_ptr) ≡ true
     is_there-last =
         let T : Ptr → Type 0 = λ q. is_there ds q ≡ true in
-        subst T (sym (RowCut-linked ds null_ptr (us ++ vs) null_ptr [] AreLinked-joined).edge.1) (AllByRecursion-last T null_ptr (us ++ vs) (j.there null_ptr ∙ r.there.0) (AllByRecursion-there_unchanged cs ds (prev_at cs p) (next_at cs p) j (us ++ vs) (AllByRecursion-removed There us p vs AllByRecursion-there)))
+        subst T (sym (RowCut-linked ds null_ptr (us ++ vs) null_ptr [] AreLinked-joined).edge.1) (AllByRecursion-last T null_ptr (us ++ vs) (j.there null_ptr ∙ r.there.0) (AllByRecursion-there_unchanged j (us ++ vs) (AllByRecursion-removed There us p vs AllByRecursion-there)))
 
-    module _ (es fs : List (Cell Links B)) (k : IsJoined ds es (prev_at ds null_ptr) p) (l : IsJoined es fs p null_ptr) where
+    module _ {es fs : List (Cell Links B)} (k : IsJoined ds es (prev_at ds null_ptr) p) (l : IsJoined es fs p null_ptr) where
       IsFresh-node : IsFresh p ((null_ptr ∷ us) ++ vs)
       IsFresh-node = IsFresh-middle (null_ptr ∷ us) p vs IsApart-row
 
-      IsApart-to_back : IsApart (null_ptr ∷ (((us ++ vs) ++ p ∷ []) ++ ss))
-      IsApart-to_back =
-          let whole : IsApart ((null_ptr ∷ us) ++ p ∷ (vs ++ ss)) = subst (λ qs. IsApart (null_ptr ∷ qs)) (append_assoc us (p ∷ vs) ss) r.apart in
-          let same : us ++ (vs ++ ss) ≡ (us ++ vs) ++ ss = sym (append_assoc us vs ss) in
-          let now : IsApart ((null_ptr ∷ (us ++ vs)) ++ p ∷ ss) =
-          IsApart-inserted (null_ptr ∷ (us ++ vs)) p ss (subst (λ qs. IsFresh p (null_ptr ∷ qs)) same (IsFresh-middle (null_ptr ∷ us) p (vs ++ ss) whole)) (subst (λ qs. IsApart (null_ptr ∷ qs)) same (IsApart-removed (null_ptr ∷ us) p (vs ++ ss) whole)) in
-          subst (λ qs. IsApart (null_ptr ∷ qs)) (sym (append_assoc (us ++ vs) (p ∷ []) ss)) now
-
-      pub length-to_back : length (us ++ p ∷ vs) ≡ length ((us ++ vs) ++ p ∷ [])
-      length-to_back = omega (arith, length-append us (p ∷ vs), length-append us vs, length-append (us ++ vs) (p ∷ []))
-
-      AllByRecursion-moved : (P : Ptr → Type 0) → AllByRecursion P (us ++ p ∷ vs) → AllByRecursion P ((us ++ vs) ++ p ∷ [])
-      AllByRecursion-moved P a = AllByRecursion-append P (us ++ vs) (p ∷ []) (AllByRecursion-removed P us p vs a) ((AllByRecursion-right P us (p ∷ vs) a).0, tt)
+      pub length-to_back : length ps ≡ length ((us ++ vs) ++ p ∷ [])
+      length-to_back = ap length s.is ∙ omega (arith, length-append us (p ∷ vs), length-append us vs, length-append (us ++ vs) (p ∷ []))
 
       kept : (P : List (Cell Links B) → Type 0) → (P cs → P ds) → (P ds → P es) → (P es → P fs) → P cs → P fs
       kept P x y z a = z (y (x a))
 
       pub IsRing-to_back : IsRing fs ((us ++ vs) ++ p ∷ []) spare ss
       IsRing-to_back = record {
-        linked = AreLinked-pushed ds es fs null_ptr (us ++ vs) p (IsApart-removed (null_ptr ∷ us) p vs IsApart-row) IsFresh-node AreLinked-joined k l;
-        chained = kept (λ zs. IsSpareList zs spare ss) (IsSpareList-unchanged cs ds _ _ j spare ss) (IsSpareList-unchanged ds es _ _ k spare ss) (IsSpareList-unchanged es fs _ _ l spare ss) r.chained;
-        held = let qs = (us ++ vs) ++ p ∷ [] in
-            kept (λ zs. AllByRecursion (HasContent zs) qs) (AllByRecursion-content_unchanged cs ds _ _ j qs) (AllByRecursion-content_unchanged ds es _ _ k qs) (AllByRecursion-content_unchanged es fs _ _ l qs) (AllByRecursion-moved (HasContent cs) r.held);
+        linked = AreLinked-pushed null_ptr (us ++ vs) p (IsApart-removed (null_ptr ∷ us) p vs IsApart-row) IsFresh-node AreLinked-joined k l;
+        chained = kept (λ zs. IsSpareList zs spare ss) (IsSpareList-unchanged j spare ss) (IsSpareList-unchanged k spare ss) (IsSpareList-unchanged l spare ss) r.chained;
+        held = let qs = (us ++ vs) ++ p ∷ [] in let P = HasContent cs in
+            kept (λ zs. AllByRecursion (HasContent zs) qs) (AllByRecursion-content_unchanged j qs) (AllByRecursion-content_unchanged k qs) (AllByRecursion-content_unchanged l qs)
+            (AllByRecursion-append P (us ++ vs) (p ∷ []) (AllByRecursion-removed P us p vs r.held) ((AllByRecursion-right P us (p ∷ vs) r.held).0, tt));
         there = let qs = null_ptr ∷ (((us ++ vs) ++ p ∷ []) ++ ss) in
-            kept (λ zs. AllByRecursion (λ q. is_there zs q ≡ true) qs) (AllByRecursion-there_unchanged cs ds _ _ j qs) (AllByRecursion-there_unchanged ds es _ _ k qs) (AllByRecursion-there_unchanged es fs _ _ l qs)
-            (r.there.0, AllByRecursion-append There ((us ++ vs) ++ p ∷ []) ss (AllByRecursion-moved There AllByRecursion-there) (AllByRecursion-right There (us ++ p ∷ vs) ss r.there.1));
-        apart = IsApart-to_back;
-        count = l.count ∙ k.count ∙ j.count ∙ r.count ∙ ap (λ n. suc (n + length ss)) length-to_back;
+            kept (λ zs. AllByRecursion (λ q. is_there zs q ≡ true) qs) (AllByRecursion-there_unchanged j qs) (AllByRecursion-there_unchanged k qs) (AllByRecursion-there_unchanged l qs)
+            (subst (λ rs. AllByRecursion There (null_ptr ∷ rs)) (sym (append_assoc (us ++ vs) (p ∷ []) ss)) AllByRecursion-shifted);
+        apart = subst (λ qs. IsApart (null_ptr ∷ qs)) (sym (append_assoc (us ++ vs) (p ∷ []) ss)) IsApart-shifted;
+        count = l.count ∙ k.count ∙ j.count ∙ ring.count ∙ ap (λ n. suc (n + length ss)) length-to_back;
       }
 
       pub listed-to_back : (t : Held B) → content_at cs p ≡ Some t → listed fs ((us ++ vs) ++ p ∷ []) ≡ (listed cs us ++ listed cs vs) ++ t ∷ []
       listed-to_back t e =
           let qs = (us ++ vs) ++ p ∷ [] in
-          listed-unchanged es fs _ _ l qs ∙ listed-unchanged ds es _ _ k qs ∙ listed-unchanged cs ds _ _ j qs ∙ listed-append cs (us ++ vs) (p ∷ [])
+          listed-unchanged l qs ∙ listed-unchanged k qs ∙ listed-unchanged j qs ∙ listed-append cs (us ++ vs) (p ∷ [])
           ∙ (λ i. listed-append cs us vs i ++ listed-one cs p t e i)
 
--- a node that is moved to the end: those beside it are joined, the last with it, and it with the
--- end
-module _ {B : Type 0} (cs : List (Cell Links B)) (spare : Link) (n m : ℕ) (v : State B) (ok : IsOwned cs spare n m) {total : ℕ} (w : state (ring_list cs n) m total ≡ v)
-    (p : Ptr) (lp : Links) (ep : links_at cs p ≡ Some lp) (ds : List (Cell Links B)) (j : IsJoined cs ds lp.prev.ptr lp.next.ptr) where
-  j' : IsJoined cs ds (prev_at cs p) (next_at cs p)
-  j' = subst (λ (z : Ptr × Ptr). IsJoined cs ds z.0 z.1) (λ i. (sym (ap prev_of ep) i, sym (ap next_of ep) i)) j
+module _ {B : Type 0} {cs : List (Cell Links B)} {spare : Link} {n m : ℕ} {v : State B} {total : ℕ} (ok : IsOwned cs spare n m) (w : state (ring_list cs n) m total ≡ v) where
+  -- the nodes beside a held one are there
+  module _ {p : Ptr} (h : IsHeld v.held p) where
+    pub is_there-beside : {l : Links} → links_at cs p ≡ Some l → (is_there cs l.prev.ptr ≡ true) × (is_there cs l.next.ptr ≡ true)
+    is_there-beside e =
+        let s = NodeAt-held ok w p h in let T : Ptr → Type 0 = λ q. is_there cs q ≡ true in
+        (subst T (ap prev_of e) (There-prev ok.ring s), subst T (ap next_of e) (There-next ok.ring s))
 
-  pub is_there-moving : IsHeld v.held p → (is_there ds (prev_at ds null_ptr) ≡ true) × (is_there ds p ≡ true)
-  is_there-moving h =
-      let s = NodeAt-held cs spare n m v p ok w h in let r = ring_split ok.ring s in
-      (is_there-last cs (target spare) ok.spare_pointers s.before p s.after r ds j', j'.there p ∙ There-node cs (target spare) ok.spare_pointers s.before p s.after r)
+  -- a node that is moved to the end: those beside it are joined, the last with it, and it with the
+  -- end
+  module _ (p : Ptr) {lp : Links} (ep : links_at cs p ≡ Some lp) {ds : List (Cell Links B)} (j : IsJoined cs ds lp.prev.ptr lp.next.ptr) where
+    past : IsJoined cs ds (prev_at cs p) (next_at cs p)
+    past = IsJoined-past p ep j
 
-  module _ (es fs : List (Cell Links B)) (k : IsJoined ds es (prev_at ds null_ptr) p) (l : IsJoined es fs p null_ptr) where
-    IsRing-moved : (s : SplitAround ok.held_pointers p) → IsRing fs ((s.before ++ s.after) ++ p ∷ []) (target spare) ok.spare_pointers
-    IsRing-moved s = IsRing-to_back cs (target spare) ok.spare_pointers s.before p s.after (ring_split ok.ring s) ds j' es fs k l
+    pub is_there-moving : IsHeld v.held p → (is_there ds (prev_at ds null_ptr) ≡ true) × (is_there ds p ≡ true)
+    is_there-moving h =
+        let s = NodeAt-held ok w p h in (is_there-last ok.ring s past, past.there p ∙ There-node ok.ring s)
 
-    length-moved : (s : SplitAround ok.held_pointers p)
-        → length ((s.before ++ s.after) ++ p ∷ []) ≡ n
-    length-moved s = sym (ap length s.is ∙ length-to_back cs (target spare) ok.spare_pointers s.before p s.after (ring_split ok.ring s) ds j' es fs k l) ∙ ok.held_count
+    module _ {es fs : List (Cell Links B)} (k : IsJoined ds es (prev_at ds null_ptr) p) (l : IsJoined es fs p null_ptr) where
+      length-moved : (s : SplitAround ok.held_pointers p) → length ((s.before ++ s.after) ++ p ∷ []) ≡ n
+      length-moved s = sym (length-to_back ok.ring s past k l) ∙ ok.held_count
 
-    pub IsOwned-moved : IsHeld v.held p → IsOwned fs spare n m
-    IsOwned-moved h =
-        let s = NodeAt-held cs spare n m v p ok w h in
-        record {
-          held_pointers = (s.before ++ s.after) ++ p ∷ [];
-          spare_pointers = ok.spare_pointers;
-          ring = IsRing-moved s;
-          held_count = length-moved s;
-          enough_spares = ok.enough_spares;
-          bounded = ok.bounded;
-        }
+      pub IsOwned-moved : IsHeld v.held p → IsOwned fs spare n m
+      IsOwned-moved h =
+          let s = NodeAt-held ok w p h in
+          record {
+            held_pointers = (s.before ++ s.after) ++ p ∷ [];
+            spare_pointers = ok.spare_pointers;
+            ring = IsRing-to_back ok.ring s past k l;
+            held_count = length-moved s;
+            enough_spares = ok.enough_spares;
+            bounded = ok.bounded;
+          }
 
-    ring_list-moved : (t : Held B) → content_at cs p ≡ Some t → (s : SplitAround ok.held_pointers p) → ring_list fs n ≡ (listed cs s.before ++ listed cs s.after) ++ t ∷ []
-    ring_list-moved t here s =
-        ring_list-listed fs ((s.before ++ s.after) ++ p ∷ []) (target spare) ok.spare_pointers n (IsRing-moved s) (length-moved s) ∙ listed-to_back cs (target spare) ok.spare_pointers s.before p s.after (ring_split ok.ring s) ds j' es fs k l t here
-
-    pub AtHeld-moved : AtHeld v.held p (λ xs t ys. state (ring_list fs n) m total ≡ state ((xs ++ ys) ++ t ∷ []) v.spares v.nodes)
-    AtHeld-moved xs t ys h at =
-        let b = Found-held cs spare n m v p ok w xs t ys h at in
-        let q : ring_list fs n ≡ (xs ++ ys) ++ t ∷ [] = ring_list-moved t b.here b.split ∙ (λ i. (b.listed_before i ++ b.listed_after i) ++ t ∷ []) in
-        λ i. state (q i) (ap (λ (z : State B). z.spares) w i) (ap (λ (z : State B). z.nodes) w i)
+      pub AtHeld-moved : AtHeld v.held p (λ xs t ys. ring_list fs n ≡ (xs ++ ys) ++ t ∷ [])
+      AtHeld-moved xs t ys h at =
+          let b = Found-held ok w p xs t ys h at in let s = b.split in
+          ring_list-listed (IsRing-to_back ok.ring s past k l) (length-moved s) ∙ listed-to_back ok.ring s past k l t b.here
+          ∙ (λ i. (b.listed_before i ++ b.listed_after i) ++ t ∷ [])

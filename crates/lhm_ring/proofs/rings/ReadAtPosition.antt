@@ -1,5 +1,5 @@
 -- What is read at a held pointer.
-use Rattle.std.proofs.Common.{◌≡◌, ℕ, List, ◌∷◌, ◌++◌, Some, sym, ap, ◌∙◌, subst}
+use Rattle.std.proofs.Common.{◌≡◌, ℕ, List, Some, sym, ap, ◌∙◌}
 use denote.RawPtr.{Ptr}
 use Rattle.lhm_ring.specs.declared.ring.Links.{Links}
 use Rattle.lhm_ring.specs.declared.pointer.Link.{Link}
@@ -8,29 +8,38 @@ use Rattle.lhm_ring.proofs.rings.RingNodes.{Found-held}
 use Rattle.lhm_ring.proofs.rings.Writes.{content_of-links}
 use Rattle.lhm_ring.specs.Nodes.{Cell, links_at, body_at, IsAt, Holds}
 use Rattle.lhm_ring.specs.Links.{link_of, content_of, content_at, ring_list, IsOwned}
-use Rattle.lhm_ring.specs.Ring.{State, state, Held, IsHeld}
+use Rattle.lhm_ring.specs.Ring.{State, state, Held, IsHeld, AtHeld}
 
-module _ {B : Type 0} (cs : List (Cell Links B)) (spare : Link) (n m : ℕ) (v : State B) (ok : IsOwned cs spare n m) {total : ℕ} (w : state (ring_list cs n) m total ≡ v) (p : Ptr) where
-  pub content_at-held : (xs : List (Held B)) (t : Held B) (ys : List (Held B)) → v.held ≡ xs ++ t ∷ ys → t.at ≡ p → content_at cs p ≡ Some t
-  content_at-held xs t ys e at = (Found-held cs spare n m v p ok w xs t ys e at).here
+module _ {B : Type 0} {cs : List (Cell Links B)} {spare : Link} {n m : ℕ} {v : State B} {total : ℕ} (ok : IsOwned cs spare n m) (w : state (ring_list cs n) m total ≡ v) where
+  -- for a triple that is known to be held
+  module _ {p : Ptr} (h : IsHeld v.held p) where
+    pub content_at-held : content_at cs p ≡ Some h.node
+    content_at-held = (Found-held ok w p h.before h.node h.after h.is h.at_is).here
 
-  pub IsHeld-ring_list : IsHeld v.held p → IsHeld (ring_list cs n) p
-  IsHeld-ring_list h = subst (λ hs. IsHeld hs p) (sym (ap (λ (z : State B). z.held) w)) h
+    pub links_at-held : IsAt cs p
+    links_at-held = content_of-links p (links_at cs p) (body_at cs p) h.node content_at-held
 
-  pub IsAt-held : IsHeld v.held p → IsAt cs p
-  IsAt-held h = content_of-links p (links_at cs p) (body_at cs p) h.node (content_at-held h.before h.node h.after h.is h.at_is)
+    pub IsAt-held : IsAt cs p
+    IsAt-held = links_at-held
 
-  pub Holds-held : IsHeld v.held p → Holds cs p
-  Holds-held h = content_of-holds p (links_at cs p) (body_at cs p) h.node (content_at-held h.before h.node h.after h.is h.at_is)
+    pub Holds-held : Holds cs p
+    Holds-held = content_of-holds p (links_at cs p) (body_at cs p) h.node content_at-held
 
-  pub hash-held : (l : Links) → links_at cs p ≡ Some l → (xs : List (Held B)) (t : Held B) (ys : List (Held B)) → v.held ≡ xs ++ t ∷ ys → t.at ≡ p → l.hash ≡ t.hash
-  hash-held l e xs t ys h at = sym (hash-content_of p l (body_at cs p) t (ap (λ o. content_of p o (body_at cs p)) (sym e) ∙ content_at-held xs t ys h at))
+  -- at each place where one is
+  module _ (p : Ptr) where
+    abbrev HeldAt : (Held B → Type 0) → Type 0
+    HeldAt P = AtHeld v.held p (λ xs t ys. P t)
 
-  pub link_of-held : (l : Links) → links_at cs p ≡ Some l → (xs : List (Held B)) (t : Held B) (ys : List (Held B)) → v.held ≡ xs ++ t ∷ ys → t.at ≡ p → link_of (Some l) ≡ t.link
-  link_of-held l e xs t ys h at = sym (link-content_of p l (body_at cs p) t (ap (λ o. content_of p o (body_at cs p)) (sym e) ∙ content_at-held xs t ys h at))
+    module _ {l : Links} (e : links_at cs p ≡ Some l) where
+      content_of-held : HeldAt (λ t. content_of p (Some l) (body_at cs p) ≡ Some t)
+      content_of-held xs t ys h at = ap (λ o. content_of p o (body_at cs p)) (sym e) ∙ (Found-held ok w p xs t ys h at).here
 
-  pub pair-held : (x : B) → body_at cs p ≡ Some x → (xs : List (Held B)) (t : Held B) (ys : List (Held B)) → v.held ≡ xs ++ t ∷ ys → t.at ≡ p → x ≡ t.pair
-  pair-held x e xs t ys h at = sym (pair-content_of p (links_at cs p) x t (ap (λ o. content_of p (links_at cs p) o) (sym e) ∙ content_at-held xs t ys h at))
+      pub hash-held : HeldAt (λ t. l.hash ≡ t.hash)
+      hash-held xs t ys h at = sym (hash-content_of p l (body_at cs p) t (content_of-held xs t ys h at))
 
-  pub links_at-held : (xs : List (Held B)) (t : Held B) (ys : List (Held B)) → v.held ≡ xs ++ t ∷ ys → t.at ≡ p → (l : Links) × (links_at cs p ≡ Some l)
-  links_at-held xs t ys e at = content_of-links p (links_at cs p) (body_at cs p) t (content_at-held xs t ys e at)
+      pub link_of-held : HeldAt (λ t. link_of (Some l) ≡ t.link)
+      link_of-held xs t ys h at = sym (link-content_of p l (body_at cs p) t (content_of-held xs t ys h at))
+
+    pub pair-held : {x : B} → body_at cs p ≡ Some x → HeldAt (λ t. x ≡ t.pair)
+    pair-held {x} e xs t ys h at =
+        sym (pair-content_of p (links_at cs p) x t (ap (λ o. content_of p (links_at cs p) o) (sym e) ∙ (Found-held ok w p xs t ys h at).here))

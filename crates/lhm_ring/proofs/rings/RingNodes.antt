@@ -9,7 +9,6 @@ use Rattle.lhm_ring.proofs.lists.Rows.{follow-row}
 use Rattle.lhm_ring.specs.Nodes.{Cell, links_at, body_at}
 use Rattle.lhm_ring.specs.Links.{HasContent, IsRing, follow, listed, one_of, ring_list, IsOwned, content_at}
 use Rattle.lhm_ring.specs.Ring.{state, State, IsHeld, AtHeld, Held, SplitAround}
-use Rattle.lhm_ring.specs.Pointer.{target}
 
 module _ {B : Type 0} where
   -- where a ring is cut at p, if what it lists is
@@ -46,8 +45,9 @@ module _ {B : Type 0} where
 
 -- what a ring lists
 module _ {B : Type 0} where
-  pub ring_list-listed : (cs : List (Cell Links B)) (ps : List Ptr) (spare : Option Ptr) (ss : List Ptr) (n : ℕ) → IsRing cs ps spare ss → length ps ≡ n → ring_list cs n ≡ listed cs ps
-  ring_list-listed cs ps spare ss n r e = ap (ring_list cs) (sym e) ∙ ap (listed cs) (follow-row cs null_ptr ps null_ptr r.linked)
+  pub ring_list-listed : {cs : List (Cell Links B)} {ps : List Ptr} {spare : Option Ptr} {ss : List Ptr} {n : ℕ}
+      → IsRing cs ps spare ss → length ps ≡ n → ring_list cs n ≡ listed cs ps
+  ring_list-listed {cs} {ps} r e = ap (ring_list cs) (sym e) ∙ ap (listed cs) (follow-row cs null_ptr ps null_ptr r.linked)
 
   pub ring_list-none : (cs : List (Cell Links B)) (n : ℕ) → n ≡ 0 → ring_list cs n ≡ []
   unfolding follow listed
@@ -58,31 +58,39 @@ module _ {B : Type 0} where
   pub ring_split : {cs : List (Cell Links B)} {ps : List Ptr} {spare : Option Ptr} {ss : List Ptr} {p : Ptr} → IsRing cs ps spare ss → (s : SplitAround ps p) → IsRing cs (s.before ++ p ∷ s.after) spare ss
   ring_split {cs} {ps} {spare} {ss} r s = subst (λ qs. IsRing cs qs spare ss) s.is r
 
-  pub Found-listed : (cs : List (Cell Links B)) (spare : Link) (n m : ℕ) (ok : IsOwned cs spare n m) (p : Ptr) → AtHeld (ring_list cs n) p (λ xs t ys. CutAt cs ok.held_pointers xs t ys p)
-  Found-listed cs spare n m ok p xs t ys e at =
-      subst (CutAt cs ok.held_pointers xs t ys) at
-      (CutAt-listed cs ok.held_pointers ok.ring.held xs t ys (sym (ring_list-listed cs ok.held_pointers (target spare) ok.spare_pointers n ok.ring ok.held_count) ∙ e))
-
-  pub Found-held : (cs : List (Cell Links B)) (spare : Link) (n m : ℕ) (v : State B) {total : ℕ} (p : Ptr) (ok : IsOwned cs spare n m) → state (ring_list cs n) m total ≡ v → AtHeld v.held p (λ xs t ys. CutAt cs ok.held_pointers xs t ys p)
-  Found-held cs spare n m v p ok w xs t ys h = Found-listed cs spare n m ok p xs t ys (ap (λ (z : State B). z.held) w ∙ h)
-
-  pub NodeAt-held : (cs : List (Cell Links B)) (spare : Link) (n m : ℕ) (v : State B) {total : ℕ} (p : Ptr) (ok : IsOwned cs spare n m) → state (ring_list cs n) m total ≡ v → IsHeld v.held p → SplitAround ok.held_pointers p
-  NodeAt-held cs spare n m v p ok w h = (Found-held cs spare n m v p ok w h.before h.node h.after h.is h.at_is).split
-
   pub length-listed : (cs : List (Cell Links B)) (ps : List Ptr) → AllByRecursion (HasContent cs) ps → length (listed cs ps) ≡ length ps
   unfolding listed
   length-listed cs [] h = refl
   length-listed cs (p ∷ ps) h = ap (λ o. length (one_of o ++ listed cs ps)) h.0.1 ∙ ap (λ n. suc n) (length-listed cs ps h.1)
 
-  pub length-held : (cs : List (Cell Links B)) (spare : Link) (n m : ℕ) (v : State B) {total : ℕ} → IsOwned cs spare n m → state (ring_list cs n) m total ≡ v → n ≡ length v.held
-  length-held cs spare n m v ok w =
-      sym ok.held_count ∙ sym (length-listed cs ok.held_pointers ok.ring.held) ∙ sym (ap length (ring_list-listed cs ok.held_pointers (target spare) ok.spare_pointers n ok.ring ok.held_count)) ∙ ap (λ (z : State B). length z.held) w
+-- what a ring holds
+module _ {B : Type 0} {cs : List (Cell Links B)} {spare : Link} {n m : ℕ} (ok : IsOwned cs spare n m) where
+  pub ring_list-held : ring_list cs n ≡ listed cs ok.held_pointers
+  ring_list-held = ring_list-listed ok.ring ok.held_count
 
-  pub length-bounded : (cs : List (Cell Links B)) (spare : Link) (n m : ℕ) (v : State B) {total : ℕ} → IsOwned cs spare n m → state (ring_list cs n) m total ≡ v → length v.held + v.spares ≤ 2 ^ 59
-  length-bounded cs spare n m v ok w =
-      let a = length-held cs spare n m v ok w in let b = ap (λ (z : State B). z.spares) w in let c = ok.bounded in omega arith
+  pub Found-listed : (p : Ptr) → AtHeld (ring_list cs n) p (λ xs t ys. CutAt cs ok.held_pointers xs t ys p)
+  Found-listed p xs t ys e at =
+      subst (CutAt cs ok.held_pointers xs t ys) at
+      (CutAt-listed cs ok.held_pointers ok.ring.held xs t ys (sym ring_list-held ∙ e))
 
-  pub length-within : (cs : List (Cell Links B)) (spare : Link) (n m : ℕ) (v : State B) {total : ℕ} → length cs ≡ suc total → IsOwned cs spare n m → state (ring_list cs n) m total ≡ v → length v.held + v.spares ≤ v.nodes
-  length-within cs spare n m v {total} all ok w =
-      let a = length-held cs spare n m v ok w in let b = ap (λ (z : State B). z.spares) w in let c = ap (λ (z : State B). z.nodes) w in
-      let d = ok.ring.count in let e = ok.held_count in let f = ok.enough_spares in omega arith
+  -- and callers see as v
+  module _ {v : State B} {total : ℕ} (w : state (ring_list cs n) m total ≡ v) where
+    pub listed-held : listed cs ok.held_pointers ≡ v.held
+    listed-held = sym ring_list-held ∙ ap (λ (z : State B). z.held) w
+
+    pub Found-held : (p : Ptr) → AtHeld v.held p (λ xs t ys. CutAt cs ok.held_pointers xs t ys p)
+    Found-held p xs t ys h = Found-listed p xs t ys (ap (λ (z : State B). z.held) w ∙ h)
+
+    pub NodeAt-held : (p : Ptr) → IsHeld v.held p → SplitAround ok.held_pointers p
+    NodeAt-held p h = (Found-held p h.before h.node h.after h.is h.at_is).split
+
+    pub length-held : n ≡ length v.held
+    length-held = sym ok.held_count ∙ sym (length-listed cs ok.held_pointers ok.ring.held) ∙ ap length listed-held
+
+    pub length-bounded : length v.held + v.spares ≤ 2 ^ 59
+    length-bounded = let a = length-held in let b = ap (λ (z : State B). z.spares) w in let c = ok.bounded in omega arith
+
+    pub length-within : length cs ≡ suc total → length v.held + v.spares ≤ v.nodes
+    length-within all =
+        let a = length-held in let b = ap (λ (z : State B). z.spares) w in let c = ap (λ (z : State B). z.nodes) w in
+        let d = ok.ring.count in let e = ok.held_count in let f = ok.enough_spares in omega arith

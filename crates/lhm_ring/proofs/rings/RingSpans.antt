@@ -13,8 +13,8 @@ use Rattle.lhm_ring.specs.Links.{ring_cells, next_at, prev_at, follow, listed, H
 
 module _ {B : Type 0} where
   -- what a ring holds is in a row from its front to its back
-  pub IsSpan-whole : (cs : List (Cell Links B)) (spare : Link) (n m : ℕ) → IsOwned cs spare n m → IsSpan cs (next_at cs null_ptr) (prev_at cs null_ptr) n
-  IsSpan-whole cs spare n m ok =
+  pub IsSpan-whole : {cs : List (Cell Links B)} {spare : Link} {n m : ℕ} → IsOwned cs spare n m → IsSpan cs (next_at cs null_ptr) (prev_at cs null_ptr) n
+  IsSpan-whole {cs} ok =
       let k = RowCut-linked cs null_ptr ok.held_pointers null_ptr [] ok.ring.linked in
       let ends : HasEnds ok.held_pointers (next_at cs null_ptr) (prev_at cs null_ptr) = HasEnds-behind cs null_ptr (prev_at cs null_ptr) ok.held_pointers k.before (last_pointer-last_from null_ptr ok.held_pointers ∙ sym k.edge.1) in
       record {
@@ -51,11 +51,11 @@ module _ {B : Type 0} (e : Ends) (cs : List (Cell Links B)) (f b : Ptr) (n : ℕ
   listed-span = ap (listed cs) (pointers_from-span cs f b n IsSpan-in_nodes) ∙ sym (listed-in_nodes e cs s.pointers (AllByRecursion-apart e cs s.pointers s.held)) ∙ sym (ap (listed (ring_cells e cs)) (pointers_from-span (ring_cells e cs) f b n s))
 
 -- what a ring holds is in the row from one end to the other
-module _ {B : Type 0} (e : Ends) (cs : List (Cell Links B)) (spare : Link) (n m : ℕ) (ok : IsOwned (ring_cells e cs) spare n m) (f b : Ptr) (is : f ≡ e.first.ptr) where
+module _ {B : Type 0} (e : Ends) (cs : List (Cell Links B)) {spare : Link} {n m : ℕ} (ok : IsOwned (ring_cells e cs) spare n m) {f : Ptr} (is : f ≡ e.first.ptr) where
   abbrev row : IsSpan (ring_cells e cs) (next_at (ring_cells e cs) null_ptr) (prev_at (ring_cells e cs) null_ptr) n
-  row = IsSpan-whole (ring_cells e cs) spare n m ok
+  row = IsSpan-whole ok
 
-  pub IsSpan-ring : b ≡ e.last.ptr → IsSpan cs f b n
+  pub IsSpan-ring : {b : Ptr} → b ≡ e.last.ptr → IsSpan cs f b n
   IsSpan-ring too = subst (λ (z : Ptr × Ptr). IsSpan cs z.0 z.1 n) (λ i. ((next_at-null e cs ∙ sym is) i, (prev_at-null e cs ∙ sym too) i)) (IsSpan-in_nodes e cs _ _ n row)
 
   pub listed-ring : listed cs (pointers_from cs n f) ≡ ring_list (ring_cells e cs) n

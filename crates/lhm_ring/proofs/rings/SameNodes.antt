@@ -40,8 +40,8 @@ module _ {B : Type 0} (cs ds : List (Cell Links B)) where
           count = count ∙ r.count;
         }
 
-        pub IsOwned-same : (spare : Link) (n m : ℕ) (ok : IsOwned cs spare n m) → AllByRecursion (HasContent ds) ok.held_pointers → AllByRecursion SameLink ok.spare_pointers → IsOwned ds spare n m
-        IsOwned-same spare n m ok held links = record {
+        pub IsOwned-same : {spare : Link} {n m : ℕ} (ok : IsOwned cs spare n m) → AllByRecursion (HasContent ds) ok.held_pointers → AllByRecursion SameLink ok.spare_pointers → IsOwned ds spare n m
+        IsOwned-same {spare} ok held links = record {
           held_pointers = ok.held_pointers;
           spare_pointers = ok.spare_pointers;
           ring = IsRing-same ok.held_pointers (target spare) ok.spare_pointers held links ok.ring;

@@ -21,7 +21,7 @@ use Rattle.lhm_ring.specs.Drain.{onto, StartsAt, triple_of, SameButLinks, IsRow,
 use Rattle.lhm_ring.specs.Pointer.{target}
 
 -- all that a ring holds becomes spare
-module _ {B : Type 0} (e : Ends) (nodes : List (Cell Links B)) (spare : Link) (n m : ℕ) (o : IsOwned (ring_cells e nodes) spare n m) where
+module _ {B : Type 0} (e : Ends) (nodes : List (Cell Links B)) {spare : Link} {n m : ℕ} (o : IsOwned (ring_cells e nodes) spare n m) where
   abbrev cs : List (Cell Links B)
   cs = ring_cells e nodes
 
@@ -37,8 +37,8 @@ module _ {B : Type 0} (e : Ends) (nodes : List (Cell Links B)) (spare : Link) (n
   IsFresh-spares : IsFresh null_ptr o.spare_pointers
   IsFresh-spares = AllByRecursion-right (λ q. same_ptr null_ptr q ≡ false) o.held_pointers o.spare_pointers IsFresh-all
 
-  IsRow-whole : (f : Ptr) → f ≡ e.first.ptr → IsRow nodes f n (target spare) o.held_pointers o.spare_pointers
-  IsRow-whole f is = record {
+  IsRow-whole : {f : Ptr} → f ≡ e.first.ptr → IsRow nodes f n (target spare) o.held_pointers o.spare_pointers
+  IsRow-whole is = record {
     long = o.held_count;
     linked = AreLinked-in_nodes e nodes o.held_pointers IsFresh-row (AreLinked-tail cs null_ptr o.held_pointers cut.0);
     starts = subst (StartsAt o.held_pointers) (next_at-null e nodes ∙ sym is) (StartsAt-next cs null_ptr o.held_pointers cut.0);
@@ -47,19 +47,19 @@ module _ {B : Type 0} (e : Ends) (nodes : List (Cell Links B)) (spare : Link) (n
     chained = IsSpareList-in_nodes e nodes (target spare) o.spare_pointers IsFresh-spares o.ring.chained;
   }
 
-  pub HasRow-ring : (f : Ptr) → f ≡ e.first.ptr → HasRow nodes f n (target spare)
-  HasRow-ring f is = record { pointers = o.held_pointers; spare_pointers = o.spare_pointers; row = IsRow-whole f is }
+  pub HasRow-ring : {f : Ptr} → f ≡ e.first.ptr → HasRow nodes f n (target spare)
+  HasRow-ring is = record { pointers = o.held_pointers; spare_pointers = o.spare_pointers; row = IsRow-whole is }
 
   HasEnds-ring : (rs : List Ptr) → AreLinked cs (null_ptr ∷ rs) → prev_at cs null_ptr ≡ last_from null_ptr rs → HasEnds rs (next_at cs null_ptr) (prev_at cs null_ptr)
   HasEnds-ring [] k e = tt
   HasEnds-ring (r ∷ rs) k e = (sym k.0.0, last_pointer-last_from r rs ∙ sym e)
 
-  module _ (f : Ptr) (is : f ≡ e.first.ptr) (zs es : List (Cell Links B)) (h : Link) (s : SparesRow nodes f n (target spare) zs (target h)) where
+  module _ {f : Ptr} (is : f ≡ e.first.ptr) (zs : List (Cell Links B)) (h : Link) (s : SparesRow nodes f n (target spare) zs (target h)) where
     abbrev ds : List (Cell Links B)
     ds = ring_cells e zs
 
     spared : SameButLinks nodes zs × IsSpareList zs (target h) (onto o.held_pointers o.spare_pointers)
-    spared = s o.held_pointers o.spare_pointers (IsRow-whole f is)
+    spared = s o.held_pointers o.spare_pointers (IsRow-whole is)
 
     same : SameButLinks cs ds
     same = SameButLinks-in_ring e nodes zs spared.0
@@ -67,7 +67,7 @@ module _ {B : Type 0} (e : Ends) (nodes : List (Cell Links B)) (spare : Link) (n
     HasContent-still : (q : Ptr) → HasContent cs q → HasContent ds q
     HasContent-still q k = some_still (content_at ds q) k.0 (same.triple q ∙ ap triple_of k.1)
 
-    module _ (j : IsJoined ds es null_ptr null_ptr) where
+    module _ {es : List (Cell Links B)} (j : IsJoined ds es null_ptr null_ptr) where
       AllByRecursion-there : AllByRecursion (λ q. is_there es q ≡ true) (null_ptr ∷ onto o.held_pointers o.spare_pointers)
       AllByRecursion-there =
           let T : Ptr → Type 0 = λ q. is_there es q ≡ true in
@@ -76,8 +76,8 @@ module _ {B : Type 0} (e : Ends) (nodes : List (Cell Links B)) (spare : Link) (n
 
       IsRing-empty : IsRing es [] (target h) (onto o.held_pointers o.spare_pointers)
       IsRing-empty = record {
-        linked = (AreNeighbours-made ds es null_ptr null_ptr j, tt);
-        chained = IsSpareList-unchanged ds es null_ptr null_ptr j (target h) (onto o.held_pointers o.spare_pointers) (IsSpareList-in_ring e zs (target h) (onto o.held_pointers o.spare_pointers) (AllByRecursion-onto (λ q. same_ptr null_ptr q ≡ false) o.held_pointers o.spare_pointers IsFresh-row IsFresh-spares) spared.1);
+        linked = (AreNeighbours-made j, tt);
+        chained = IsSpareList-unchanged j (target h) (onto o.held_pointers o.spare_pointers) (IsSpareList-in_ring e zs (target h) (onto o.held_pointers o.spare_pointers) (AllByRecursion-onto (λ q. same_ptr null_ptr q ≡ false) o.held_pointers o.spare_pointers IsFresh-row IsFresh-spares) spared.1);
         held = tt;
         there = AllByRecursion-there;
         apart = IsApart-onto null_ptr o.held_pointers o.spare_pointers o.ring.apart;
@@ -104,7 +104,7 @@ module _ {B : Type 0} (e : Ends) (nodes : List (Cell Links B)) (spare : Link) (n
       AvoidsTarget-null (r ∷ rs) f = f.1
 
       AreLinked-spliced : AreLinked es o.held_pointers
-      AreLinked-spliced = AreLinked-unchanged ds es null_ptr null_ptr j o.held_pointers (AvoidsSource-null o.held_pointers IsFresh-row) (AvoidsTarget-null o.held_pointers IsFresh-row) (AreLinked-same cs ds same.next same.prev o.held_pointers (AreLinked-tail cs null_ptr o.held_pointers cut.0))
+      AreLinked-spliced = AreLinked-unchanged j o.held_pointers (AvoidsSource-null o.held_pointers IsFresh-row) (AvoidsTarget-null o.held_pointers IsFresh-row) (AreLinked-same cs ds same.next same.prev o.held_pointers (AreLinked-tail cs null_ptr o.held_pointers cut.0))
 
       pub IsSpan-spliced : IsSpan es (next_at cs null_ptr) (prev_at cs null_ptr) n
       IsSpan-spliced = record {
@@ -124,5 +124,5 @@ module _ {B : Type 0} (e : Ends) (nodes : List (Cell Links B)) (spare : Link) (n
       pub span_triples-spliced : span_triples es n (next_at cs null_ptr) ≡ triples (ring_list cs n)
       unfolding IsSpan-spliced
       span_triples-spliced =
-          ap (λ qs. triples (listed es qs)) (pointers_from-span es (next_at cs null_ptr) (prev_at cs null_ptr) n IsSpan-spliced) ∙ ap triples (listed-unchanged ds es null_ptr null_ptr j o.held_pointers) ∙ triples-same o.held_pointers
-          ∙ ap triples (sym (ring_list-listed cs o.held_pointers (target spare) o.spare_pointers n o.ring o.held_count))
+          ap (λ qs. triples (listed es qs)) (pointers_from-span es (next_at cs null_ptr) (prev_at cs null_ptr) n IsSpan-spliced) ∙ ap triples (listed-unchanged j o.held_pointers) ∙ triples-same o.held_pointers
+          ∙ ap triples (sym (ring_list-listed o.ring o.held_count))

@@ -85,4 +85,4 @@ module _ {B : Type 0} (e : Ends) where
     pub ring_list-stacked : ring_list (ring_cells e ds) n ≡ ring_list (ring_cells e cs) n
     ring_list-stacked =
         let t = RingStacked-held in
-        ring_list-listed (ring_cells e ds) ok.held_pointers (target f) t.spare_pointers n t.ring ok.held_count ∙ t.same_list ∙ sym (ring_list-listed (ring_cells e cs) ok.held_pointers (target spare) ok.spare_pointers n ok.ring ok.held_count)
+        ring_list-listed t.ring ok.held_count ∙ t.same_list ∙ sym (ring_list-listed ok.ring ok.held_count)

@@ -8,7 +8,7 @@ use Rattle.lhm_ring.specs.Links.{ring_cells, is_there, span_triples, IsSpan}
 use Rattle.lhm_ring.specs.Ring.{triples}
 
 pub spare_row-spare-requires : goal.spare_row-spare-requires
-spare_row-spare-requires g c = let a = c.args in HasRow-ring a.ends.now a.nodes.now.cells a.spare a.count c.requires.0 c.requires.1 c.address-first.result.ptr c.address-first.ensures
+spare_row-spare-requires g c = let a = c.args in HasRow-ring a.ends.now a.nodes.now.cells c.requires.1 c.address-first.ensures
 
 pub join-requires : goal.join-requires
 join-requires g c =
@@ -18,14 +18,14 @@ join-requires g c =
 pub returns-clause-spliced : goal.returns-clause-spliced
 returns-clause-spliced g c m ok =
     let a = c.args in let j = IsJoined-same (led_to-none c.none.result.ptr c.none.ensures) (led_to-none c.none-2.result.ptr c.none-2.ensures) c.join.ensures.joined in
-    IsOwned-spliced a.ends.now a.nodes.now.cells a.spare a.count m ok c.address-first.result.ptr c.address-first.ensures c.spare_row-spare.new.nodes.cells _ c.spare_row-spare.result c.spare_row-spare.ensures.spared j
+    IsOwned-spliced a.ends.now a.nodes.now.cells ok c.address-first.ensures c.spare_row-spare.new.nodes.cells c.spare_row-spare.result c.spare_row-spare.ensures.spared j
 
 pub returns-clause-row : goal.returns-clause-row
 returns-clause-row g c m ok =
     let a = c.args in let e = a.ends.now in let cs = a.nodes.now.cells in let first = c.address-first in let last = c.address-last in
     let j = IsJoined-same (led_to-none c.none.result.ptr c.none.ensures) (led_to-none c.none-2.result.ptr c.none-2.ensures) c.join.ensures.joined in
-    let row = IsSpan-spliced e cs a.spare a.count m ok first.result.ptr first.ensures c.spare_row-spare.new.nodes.cells _ c.spare_row-spare.result c.spare_row-spare.ensures.spared j in
-    let now = span_triples-spliced e cs a.spare a.count m ok first.result.ptr first.ensures c.spare_row-spare.new.nodes.cells _ c.spare_row-spare.result c.spare_row-spare.ensures.spared j in
+    let row = IsSpan-spliced e cs ok first.ensures c.spare_row-spare.new.nodes.cells c.spare_row-spare.result c.spare_row-spare.ensures.spared j in
+    let now = span_triples-spliced e cs ok first.ensures c.spare_row-spare.new.nodes.cells c.spare_row-spare.result c.spare_row-spare.ensures.spared j in
     let ends = c.join.new.ends in let zs = c.join.new.nodes.cells in let f = next_at-null e cs ∙ sym first.ensures in let b = prev_at-null e cs ∙ sym last.ensures in (
       subst (λ (z : Ptr × Ptr). IsSpan zs z.0 z.1 a.count) (λ i. (f i, b i)) (IsSpan-in_nodes ends zs _ _ a.count row),
       ap (λ q. span_triples zs a.count q) (sym f) ∙ ap triples (listed-span ends zs _ _ a.count row) ∙ now,

@@ -2,10 +2,9 @@ use Rattle.std.proofs.Common.{◌∙◌, ap, sym}
 use Rattle.lhm_ring.proofs.rings.FirstAndLast.{led_to-first}
 use Rattle.lhm_ring.proofs.rings.RingCells.{next_at-null}
 use Rattle.lhm_ring.proofs.ring.Ring.first.Goals as goal
-use Rattle.lhm_ring.specs.Links.{ring_cells}
 use Rattle.lhm_ring.specs.Pointer.{led_to}
 
 pub returns : goal.returns
 returns g c =
     let i = c.self.inside in
-    c.get.ensures ∙ sym (ap led_to (next_at-null i.ends i.nodes.cells)) ∙ led_to-first (ring_cells i.ends i.nodes.cells) i.spare i.len i.spares _ c.self.invariant.ring c.self.view_is
+    c.get.ensures ∙ sym (ap led_to (next_at-null i.ends i.nodes.cells)) ∙ led_to-first c.self.invariant.ring c.self.view_is

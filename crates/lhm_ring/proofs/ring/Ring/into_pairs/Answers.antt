@@ -8,12 +8,12 @@ invariant_of-result g c =
     let i = c.self.inside in let last = i.ends.last.ptr in
     record {
       last = last;
-      span = IsSpan-ring i.ends i.nodes.cells i.spare i.len i.spares c.self.invariant.ring c.address.result.ptr last c.address.ensures refl;
+      span = IsSpan-ring i.ends i.nodes.cells c.self.invariant.ring c.address.ensures refl;
       all_recorded = c.self.invariant.laid.all_recorded;
     }
 
 pub returns : goal.returns
 returns g c =
     let i = c.self.inside in
-    ap triples (listed-ring i.ends i.nodes.cells i.spare i.len i.spares c.self.invariant.ring c.address.result.ptr i.ends.last.ptr c.address.ensures)
+    ap triples (listed-ring i.ends i.nodes.cells c.self.invariant.ring c.address.ensures)
     ∙ ap (λ (s : State (g.row.K.Denot × g.row.V.Denot)). triples s.held) c.self.view_is

@@ -4,17 +4,16 @@ use Rattle.lhm_ring.proofs.rings.ReadAtPosition.{IsAt-held}
 use Rattle.lhm_ring.proofs.rings.RingCells.{IsAt-in_nodes, links_at-ring_cells}
 use Rattle.lhm_ring.proofs.rings.HeldPointers.{IsApart-held}
 use Rattle.lhm_ring.proofs.ring.Ring.next.Goals as goal
-use Rattle.lhm_ring.specs.Links.{ring_cells}
 
 pub links-requires : goal.links-requires
 links-requires g c =
     let i = c.self.inside in let p = c.args.at.pointer.ptr in
-    IsAt-in_nodes i.ends i.nodes.cells p c.args.at.block (IsAt-held (ring_cells i.ends i.nodes.cells) i.spare i.len i.spares _ c.self.invariant.ring c.self.view_is p c.requires)
+    IsAt-in_nodes i.ends i.nodes.cells p c.args.at.block (IsAt-held c.self.invariant.ring c.self.view_is c.requires)
 
 pub returns-clause-next : goal.returns-clause-next
 returns-clause-next g c xs t ys h at =
     let i = c.self.inside in let p = c.args.at.pointer.ptr in
-    c.get.ensures ∙ AtHeld-next (ring_cells i.ends i.nodes.cells) i.spare i.len i.spares _ c.self.invariant.ring c.self.view_is p _ (links_at-ring_cells i.ends i.nodes.cells p c.args.at.block ∙ c.links.ensures) xs t ys h at
+    c.get.ensures ∙ AtHeld-next c.self.invariant.ring c.self.view_is p (links_at-ring_cells i.ends i.nodes.cells p c.args.at.block ∙ c.links.ensures) xs t ys h at
 
 pub returns-clause-apart : goal.returns-clause-apart
-returns-clause-apart g c = let i = c.self.inside in IsApart-held (ring_cells i.ends i.nodes.cells) i.spare i.len i.spares _ c.self.invariant.ring c.self.view_is
+returns-clause-apart g c = let i = c.self.inside in IsApart-held c.self.invariant.ring c.self.view_is

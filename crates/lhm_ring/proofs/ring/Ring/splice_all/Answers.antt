@@ -24,7 +24,7 @@ invariant_of-self-lent g c = λ w. record {
 pub returns : goal.returns
 returns g c =
     let i = c.self.inside in let e = c.lend_bodies-anchor.ensures in let nodes = c.splice.new.nodes in let f = c.splice.result.first.ptr in
-    let long = length-held (ring_cells i.ends i.nodes.cells) i.spare i.len i.spares _ c.self.invariant.ring c.self.view_is in let same = (λ j. with_bodies (e.cells j) (e.run j)) ∙ with_bodies-own nodes.cells nodes.apart in (
+    let long = length-held c.self.invariant.ring c.self.view_is in let same = (λ j. with_bodies (e.cells j) (e.run j)) ∙ with_bodies-own nodes.cells nodes.apart in (
       (refl, λ w. λ j. state (ring_list-none (ring_cells c.splice.new.ends (cleared nodes.cells)) 0 refl j) ((c.self.view_is j).spares + long j) (c.self.view_is j).nodes),
       record {
         writes_back = tt;
