@@ -10,7 +10,7 @@ use mathlib.Core.Option as core
 use Rattle.lhm_ring.specs.contracts.ring.Ring.{the_row as ring_row}
 use Rattle.lhm_ring.specs.Nodes.{IsApart, AreBlocks, cell, with_body, body_at, pointers-change, places}
 use Rattle.lhm_ring.specs.ContentLoan.{cleared, pointers-cleared}
-use Rattle.lhm_ring.specs.Ring.{State, state, change_at, revalued, set_held_values, unvalued}
+use Rattle.lhm_ring.specs.Ring.{State, state, held, change_at, revalued, set_held_values, unvalued}
 
 -- the value of a pair
 abbrev pub value_set : {K V : Type 0} → V → Option (K × V) → Option (K × V)
