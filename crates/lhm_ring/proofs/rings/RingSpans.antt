@@ -35,7 +35,7 @@ module _ {B : Type 0} where
   listed-whole cs n = ap (listed cs) (sym (follow-pointers_from cs n null_ptr))
 
 -- a row of what a ring holds is one of its nodes
-module _ {B : Type 0} (e : Ends) (cs : List (Cell Links B)) (f b : Ptr) (n : ℕ) (s : IsSpan (ring_cells e cs) f b n) where
+module _ {B : Type 0} (e : Ends) (cs : List (Cell Links B)) {f b : Ptr} {n : ℕ} (s : IsSpan (ring_cells e cs) f b n) where
   pub IsSpan-in_nodes : IsSpan cs f b n
   IsSpan-in_nodes = record {
     pointers = s.pointers;
@@ -48,7 +48,7 @@ module _ {B : Type 0} (e : Ends) (cs : List (Cell Links B)) (f b : Ptr) (n : ℕ
 
   pub listed-span : listed cs (pointers_from cs n f) ≡ listed (ring_cells e cs) (pointers_from (ring_cells e cs) n f)
   unfolding IsSpan-in_nodes
-  listed-span = ap (listed cs) (pointers_from-span cs f b n IsSpan-in_nodes) ∙ sym (listed-in_nodes e cs s.pointers (AllByRecursion-apart e cs s.pointers s.held)) ∙ sym (ap (listed (ring_cells e cs)) (pointers_from-span (ring_cells e cs) f b n s))
+  listed-span = ap (listed cs) (pointers_from-span IsSpan-in_nodes) ∙ sym (listed-in_nodes e cs s.pointers (AllByRecursion-apart e cs s.pointers s.held)) ∙ sym (ap (listed (ring_cells e cs)) (pointers_from-span s))
 
 -- what a ring holds is in the row from one end to the other
 module _ {B : Type 0} (e : Ends) (cs : List (Cell Links B)) {spare : Link} {n m : ℕ} (ok : IsOwned (ring_cells e cs) spare n m) {f : Ptr} (is : f ≡ e.first.ptr) where
@@ -56,7 +56,7 @@ module _ {B : Type 0} (e : Ends) (cs : List (Cell Links B)) {spare : Link} {n m 
   row = IsSpan-whole ok
 
   pub IsSpan-ring : {b : Ptr} → b ≡ e.last.ptr → IsSpan cs f b n
-  IsSpan-ring too = subst (λ (z : Ptr × Ptr). IsSpan cs z.0 z.1 n) (λ i. ((next_at-null e cs ∙ sym is) i, (prev_at-null e cs ∙ sym too) i)) (IsSpan-in_nodes e cs _ _ n row)
+  IsSpan-ring too = subst (λ (z : Ptr × Ptr). IsSpan cs z.0 z.1 n) (λ i. ((next_at-null e cs ∙ sym is) i, (prev_at-null e cs ∙ sym too) i)) (IsSpan-in_nodes e cs row)
 
   pub listed-ring : listed cs (pointers_from cs n f) ≡ ring_list (ring_cells e cs) n
-  listed-ring = ap (λ q. listed cs (pointers_from cs n q)) (is ∙ sym (next_at-null e cs)) ∙ listed-span e cs _ _ n row ∙ listed-whole (ring_cells e cs) n
+  listed-ring = ap (λ q. listed cs (pointers_from cs n q)) (is ∙ sym (next_at-null e cs)) ∙ listed-span e cs row ∙ listed-whole (ring_cells e cs) n

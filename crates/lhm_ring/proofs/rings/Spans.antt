@@ -31,14 +31,15 @@ module _ {B : Type 0} (cs : List (Cell Links B)) where
   pointers_from-row f b (r ∷ []) k e = ap (λ z. z ∷ []) (sym e.0)
   pointers_from-row f b (r ∷ s ∷ rs) k e = λ i. sym e.0 i ∷ (ap (λ z. pointers_from cs (length (s ∷ rs)) z) (ap (next_at cs) (sym e.0) ∙ k.0.0) ∙ pointers_from-row s b (s ∷ rs) k.1 (refl, e.1)) i
 
-  pub pointers_from-span : (f b : Ptr) (k : ℕ) → (s : IsSpan cs f b k) → pointers_from cs k f ≡ s.pointers
-  pointers_from-span f b k s = ap (λ z. pointers_from cs z f) (sym s.count) ∙ pointers_from-row f b s.pointers s.linked s.ends
+module _ {B : Type 0} {cs : List (Cell Links B)} {f b : Ptr} {k : ℕ} (s : IsSpan cs f b k) where
+  pub pointers_from-span : pointers_from cs k f ≡ s.pointers
+  pointers_from-span = ap (λ z. pointers_from cs z f) (sym s.count) ∙ pointers_from-row cs f b s.pointers s.linked s.ends
 
-  pub length-listed_span : (f b : Ptr) (k : ℕ) → IsSpan cs f b k → k ≡ length (listed cs (pointers_from cs k f))
-  length-listed_span f b k s = sym (ap (λ ps. length (listed cs ps)) (pointers_from-span f b k s) ∙ length-listed cs s.pointers s.held ∙ s.count)
+  pub length-listed_span : k ≡ length (listed cs (pointers_from cs k f))
+  length-listed_span = sym (ap (λ ps. length (listed cs ps)) pointers_from-span ∙ length-listed cs s.pointers s.held ∙ s.count)
 
-  pub length-span_triples : (f b : Ptr) (k : ℕ) → IsSpan cs f b k → k ≡ length (span_triples cs k f)
-  length-span_triples f b k s = length-listed_span f b k s ∙ sym (length-map (listed cs (pointers_from cs k f)) (λ (t : Held B). (t.hash, t.pair)))
+  pub length-span_triples : k ≡ length (span_triples cs k f)
+  length-span_triples = length-listed_span ∙ sym (length-map (listed cs (pointers_from cs k f)) (λ (t : Held B). (t.hash, t.pair)))
 
 pub last_pointer-last_from : (p : Ptr) (ps : List Ptr) → last_pointer p ps ≡ last_from p ps
 last_pointer-last_from p [] = refl
@@ -112,40 +113,32 @@ module _ {B : Type 0} where
   listed-one cs p h l f x e =
       λ i. one_of (content_of p (f i) (e i)) ++ []
 
--- what the node p holds is moved out of it
-module _ {B : Type 0} (cs : List (Cell Links B)) (p : Ptr) (la : Links) (ea : links_at cs p ≡ Some la) where
+-- what the node p holds is moved out of it, and a row without p stays
+module _ {B : Type 0} {cs : List (Cell Links B)} (p : Ptr) {la : Links} (ea : links_at cs p ≡ Some la) {f b : Ptr} {k : ℕ} (s : IsSpan cs f b k)
+    (free : IsFresh p s.pointers) where
   abbrev ds : List (Cell Links B)
   ds = with_body p None cs
-
-  links_at-same : (q : Ptr) → links_at ds q ≡ links_at cs q
-  links_at-same = links_at-with_body p None cs la ea
 
   cell_at-other : (q : Ptr) → same_ptr p q ≡ false → cell_at ds q ≡ cell_at cs q
   cell_at-other q n = cell_at-change_other p (λ c. cell c.at c.links None) (λ c. refl) q n cs
 
-  AreLinked-stays : (s : List Ptr) → AreLinked cs s → AreLinked ds s
-  AreLinked-stays = AreLinked-same cs ds (λ q. ap next_of (links_at-same q)) (λ q. ap prev_of (links_at-same q))
+  abbrev IsSpan-stays : IsSpan ds f b k
+  IsSpan-stays =
+      let same = links_at-with_body p None cs la ea in
+      record {
+        pointers = s.pointers;
+        count = s.count;
+        linked = AreLinked-same cs ds (λ q. ap next_of (same q)) (λ q. ap prev_of (same q)) s.pointers s.linked;
+        ends = s.ends;
+        held = AllByRecursion-content_other cs ds p cell_at-other s.pointers free s.held;
+        apart = s.apart;
+      }
 
-  -- a row without p stays
-  IsSpan-stays : (f b : Ptr) (k : ℕ) (s : IsSpan cs f b k) → IsFresh p s.pointers → IsSpan ds f b k
-  IsSpan-stays f b k s free = record {
-    pointers = s.pointers;
-    count = s.count;
-    linked = AreLinked-stays s.pointers s.linked;
-    ends = s.ends;
-    held = AllByRecursion-content_other cs ds p cell_at-other s.pointers free s.held;
-    apart = s.apart;
-  }
-
-  listed-stays : (f b : Ptr) (k : ℕ) (s : IsSpan cs f b k) → IsFresh p s.pointers → listed cs (pointers_from cs k f) ≡ listed ds (pointers_from ds k f)
-  unfolding IsSpan-stays
-  listed-stays f b k s free = ap (listed cs) (pointers_from-span cs f b k s) ∙ sym (listed-other cs ds p cell_at-other s.pointers free) ∙ ap (listed ds) (sym (pointers_from-span ds f b k (IsSpan-stays f b k s free)))
-
-  triples-one : (x : B) → body_at cs p ≡ Some x → HasContent cs p → triples (listed cs (p ∷ [])) ≡ (la.hash, x) ∷ []
-  triples-one x ex h = ap triples (listed-one cs p h la ea x ex)
+  listed-stays : listed cs (pointers_from cs k f) ≡ listed ds (pointers_from ds k f)
+  listed-stays = ap (listed cs) (pointers_from-span s) ∙ sym (listed-other cs ds p cell_at-other s.pointers free) ∙ ap (listed ds) (sym (pointers_from-span IsSpan-stays))
 
 -- the first of a row and the rest, and the last and the rest
-module _ {B : Type 0} (cs : List (Cell Links B)) (f b : Ptr) (k : ℕ) (s : IsSpan cs f b k) (some : k ≡ 0 → ⊥) where
+module _ {B : Type 0} {cs : List (Cell Links B)} {f b : Ptr} {k : ℕ} (s : IsSpan cs f b k) (some : k ≡ 0 → ⊥) where
   first : FirstCut cs f b s.pointers
   first = FirstCut-row cs f b s.pointers (λ e. some (sym s.count ∙ e)) s.linked s.ends
 
@@ -167,42 +160,33 @@ module _ {B : Type 0} (cs : List (Cell Links B)) (f b : Ptr) (k : ℕ) (s : IsSp
   length-first : length first.split.after ≡ k - 1
   length-first = let e = ap length (sym row_first) ∙ s.count in omega arith
 
-  after_first : IsSpan cs (next_at cs f) b (k - 1)
-  after_first = record {
-    pointers = first.split.after;
-    count = length-first;
-    linked = first.linked;
-    ends = first.ends;
-    held = AllByRecursion-first.1;
-    apart = IsApart-tail f first.split.after IsApart-first;
-  }
-
-  listed-cut_first : listed cs (pointers_from cs k f) ≡ listed cs (f ∷ []) ++ listed cs (pointers_from cs (k - 1) (next_at cs f))
-  unfolding first after_first
-  listed-cut_first = ap (listed cs) (pointers_from-span cs f b k s ∙ row_first) ∙ listed-append cs (f ∷ []) first.split.after ∙ ap (λ ps. listed cs (f ∷ []) ++ listed cs ps) (sym (pointers_from-span cs (next_at cs f) b (k - 1) after_first))
-
-  module _ (la : Links) (ea : links_at cs f ≡ Some la) (q : Ptr) (is : q ≡ la.next.ptr) where
-    next_at-first : next_at cs f ≡ q
-    next_at-first = ap next_of ea ∙ sym is
-
+  module _ {la : Links} (ea : links_at cs f ≡ Some la) {q : Ptr} (is : q ≡ la.next.ptr) where
     pub IsSpan-behind_first : IsSpan cs q b (k - 1)
-    IsSpan-behind_first = subst (λ r. IsSpan cs r b (k - 1)) next_at-first after_first
+    IsSpan-behind_first = record {
+      pointers = first.split.after;
+      count = length-first;
+      linked = first.linked;
+      ends = subst (λ r. HasEnds first.split.after r b) (ap next_of ea ∙ sym is) first.ends;
+      held = AllByRecursion-first.1;
+      apart = IsApart-tail f first.split.after IsApart-first;
+    }
 
-    pub listed-first : (x : B) → body_at cs f ≡ Some x → listed cs (pointers_from cs k f) ≡ held f la.hash (link_of (Some la)) x ∷ listed cs (pointers_from cs (k - 1) q)
-    listed-first x ex = listed-cut_first ∙ (λ i. listed-one cs f AllByRecursion-first.0 la ea x ex i ++ listed cs (pointers_from cs (k - 1) (next_at-first i)))
+    pub listed-first : {x : B} → body_at cs f ≡ Some x → listed cs (pointers_from cs k f) ≡ held f la.hash (link_of (Some la)) x ∷ listed cs (pointers_from cs (k - 1) q)
+    unfolding IsSpan-behind_first
+    listed-first ex =
+        ap (listed cs) (pointers_from-span s ∙ row_first) ∙ listed-append cs (f ∷ []) first.split.after
+        ∙ (λ i. listed-one cs f AllByRecursion-first.0 la ea _ ex i ++ listed cs (sym (pointers_from-span IsSpan-behind_first) i))
 
-    IsFresh-first : IsFresh f after_first.pointers
-    unfolding first after_first
+    IsFresh-first : IsFresh f first.split.after
     IsFresh-first = IsFresh-head f first.split.after IsApart-first
 
     pub IsSpan-rest_of_first : IsSpan (with_body f None cs) q b (k - 1)
-    IsSpan-rest_of_first = subst (λ r. IsSpan (with_body f None cs) r b (k - 1)) next_at-first (IsSpan-stays cs f la ea (next_at cs f) b (k - 1) after_first IsFresh-first)
+    unfolding IsSpan-behind_first
+    IsSpan-rest_of_first = IsSpan-stays f ea IsSpan-behind_first IsFresh-first
 
-    pub span_triples-first : (x : B) → body_at cs f ≡ Some x → span_triples cs k f ≡ (la.hash, x) ∷ span_triples (with_body f None cs) (k - 1) q
-    span_triples-first x ex =
-        ap triples listed-cut_first ∙ triples-append (listed cs (f ∷ [])) (listed cs (pointers_from cs (k - 1) (next_at cs f)))
-        ∙ (λ i. triples-one cs f la ea x ex AllByRecursion-first.0 i ++ triples (listed-stays cs f la ea (next_at cs f) b (k - 1) after_first IsFresh-first i))
-        ∙ ap (λ r. (la.hash, x) ∷ span_triples (with_body f None cs) (k - 1) r) next_at-first
+    pub span_triples-first : {x : B} → body_at cs f ≡ Some x → span_triples cs k f ≡ (la.hash, x) ∷ span_triples (with_body f None cs) (k - 1) q
+    unfolding IsSpan-behind_first
+    span_triples-first {x} ex = ap triples (listed-first ex) ∙ ap (λ ts. (la.hash, x) ∷ triples ts) (listed-stays f ea IsSpan-behind_first IsFresh-first)
 
   last : LastCut cs f b s.pointers
   last = LastCut-row cs f b s.pointers (λ e. some (sym s.count ∙ e)) s.linked s.ends
@@ -228,38 +212,32 @@ module _ {B : Type 0} (cs : List (Cell Links B)) (f b : Ptr) (k : ℕ) (s : IsSp
   IsApart-last : IsApart (last.split.before ++ b ∷ [])
   IsApart-last = subst IsApart row_last s.apart
 
-  before_last : IsSpan cs f (prev_at cs b) (k - 1)
-  before_last = record {
-    pointers = last.split.before;
-    count = length-last;
-    linked = last.linked;
-    ends = last.ends;
-    held = AllByRecursion-left (HasContent cs) last.split.before (b ∷ []) AllByRecursion-last;
-    apart = IsApart-left last.split.before (b ∷ []) IsApart-last;
-  }
-
-  listed-cut_last : listed cs (pointers_from cs k f) ≡ listed cs (pointers_from cs (k - 1) f) ++ listed cs (b ∷ [])
-  unfolding last before_last
-  listed-cut_last = ap (listed cs) (pointers_from-span cs f b k s ∙ row_last) ∙ listed-append cs last.split.before (b ∷ []) ∙ ap (λ ps. listed cs ps ++ listed cs (b ∷ [])) (sym (pointers_from-span cs f (prev_at cs b) (k - 1) before_last))
-
-  module _ (la : Links) (ea : links_at cs b ≡ Some la) (q : Ptr) (is : q ≡ la.prev.ptr) where
-    prev_at-last : prev_at cs b ≡ q
-    prev_at-last = ap prev_of ea ∙ sym is
-
+  module _ {la : Links} (ea : links_at cs b ≡ Some la) {q : Ptr} (is : q ≡ la.prev.ptr) where
     pub IsSpan-ahead_of_last : IsSpan cs f q (k - 1)
-    IsSpan-ahead_of_last = subst (λ r. IsSpan cs f r (k - 1)) prev_at-last before_last
+    IsSpan-ahead_of_last = record {
+      pointers = last.split.before;
+      count = length-last;
+      linked = last.linked;
+      ends = subst (λ r. HasEnds last.split.before f r) (ap prev_of ea ∙ sym is) last.ends;
+      held = AllByRecursion-left (HasContent cs) last.split.before (b ∷ []) AllByRecursion-last;
+      apart = IsApart-left last.split.before (b ∷ []) IsApart-last;
+    }
 
-    pub listed-last : (x : B) → body_at cs b ≡ Some x → listed cs (pointers_from cs k f) ≡ listed cs (pointers_from cs (k - 1) f) ++ held b la.hash (link_of (Some la)) x ∷ []
-    listed-last x ex = listed-cut_last ∙ ap (λ ts. listed cs (pointers_from cs (k - 1) f) ++ ts) (listed-one cs b HasContent-last la ea x ex)
+    pub listed-last : {x : B} → body_at cs b ≡ Some x → listed cs (pointers_from cs k f) ≡ listed cs (pointers_from cs (k - 1) f) ++ held b la.hash (link_of (Some la)) x ∷ []
+    unfolding IsSpan-ahead_of_last
+    listed-last ex =
+        ap (listed cs) (pointers_from-span s ∙ row_last) ∙ listed-append cs last.split.before (b ∷ [])
+        ∙ (λ i. listed cs (sym (pointers_from-span IsSpan-ahead_of_last) i) ++ listed-one cs b HasContent-last la ea _ ex i)
 
-    IsFresh-last : IsFresh b before_last.pointers
-    unfolding last before_last
+    IsFresh-last : IsFresh b last.split.before
     IsFresh-last = AllByRecursion-left (λ q. same_ptr b q ≡ false) last.split.before [] (IsFresh-middle last.split.before b [] IsApart-last)
 
     pub IsSpan-rest_of_last : IsSpan (with_body b None cs) f q (k - 1)
-    IsSpan-rest_of_last = subst (λ r. IsSpan (with_body b None cs) f r (k - 1)) prev_at-last (IsSpan-stays cs b la ea f (prev_at cs b) (k - 1) before_last IsFresh-last)
+    unfolding IsSpan-ahead_of_last
+    IsSpan-rest_of_last = IsSpan-stays b ea IsSpan-ahead_of_last IsFresh-last
 
-    pub span_triples-last : (x : B) → body_at cs b ≡ Some x → span_triples cs k f ≡ span_triples (with_body b None cs) (k - 1) f ++ (la.hash, x) ∷ []
-    span_triples-last x ex =
-        ap triples listed-cut_last ∙ triples-append (listed cs (pointers_from cs (k - 1) f)) (listed cs (b ∷ []))
-        ∙ (λ i. triples (listed-stays cs b la ea f (prev_at cs b) (k - 1) before_last IsFresh-last i) ++ triples-one cs b la ea x ex HasContent-last i)
+    pub span_triples-last : {x : B} → body_at cs b ≡ Some x → span_triples cs k f ≡ span_triples (with_body b None cs) (k - 1) f ++ (la.hash, x) ∷ []
+    unfolding IsSpan-ahead_of_last
+    span_triples-last {x} ex =
+        ap triples (listed-last ex) ∙ triples-append (listed cs (pointers_from cs (k - 1) f)) (held b la.hash (link_of (Some la)) x ∷ [])
+        ∙ ap (λ ts. triples ts ++ (la.hash, x) ∷ []) (listed-stays b ea IsSpan-ahead_of_last IsFresh-last)

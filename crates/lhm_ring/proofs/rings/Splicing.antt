@@ -124,5 +124,5 @@ module _ {B : Type 0} (e : Ends) (nodes : List (Cell Links B)) {spare : Link} {n
       pub span_triples-spliced : span_triples es n (next_at cs null_ptr) ≡ triples (ring_list cs n)
       unfolding IsSpan-spliced
       span_triples-spliced =
-          ap (λ qs. triples (listed es qs)) (pointers_from-span es (next_at cs null_ptr) (prev_at cs null_ptr) n IsSpan-spliced) ∙ ap triples (listed-unchanged j o.held_pointers) ∙ triples-same o.held_pointers
+          ap (λ qs. triples (listed es qs)) (pointers_from-span IsSpan-spliced) ∙ ap triples (listed-unchanged j o.held_pointers) ∙ triples-same o.held_pointers
           ∙ ap triples (sym (ring_list-listed o.ring o.held_count))

@@ -27,8 +27,8 @@ returns-clause-row g c m ok =
     let row = IsSpan-spliced e cs ok first.ensures c.spare_row-spare.new.nodes.cells c.spare_row-spare.result c.spare_row-spare.ensures.spared j in
     let now = span_triples-spliced e cs ok first.ensures c.spare_row-spare.new.nodes.cells c.spare_row-spare.result c.spare_row-spare.ensures.spared j in
     let ends = c.join.new.ends in let zs = c.join.new.nodes.cells in let f = next_at-null e cs ∙ sym first.ensures in let b = prev_at-null e cs ∙ sym last.ensures in (
-      subst (λ (z : Ptr × Ptr). IsSpan zs z.0 z.1 a.count) (λ i. (f i, b i)) (IsSpan-in_nodes ends zs _ _ a.count row),
-      ap (λ q. span_triples zs a.count q) (sym f) ∙ ap triples (listed-span ends zs _ _ a.count row) ∙ now,
+      subst (λ (z : Ptr × Ptr). IsSpan zs z.0 z.1 a.count) (λ i. (f i, b i)) (IsSpan-in_nodes ends zs row),
+      ap (λ q. span_triples zs a.count q) (sym f) ∙ ap triples (listed-span ends zs row) ∙ now,
     )
 
 pub returns-clause-land : goal.returns-clause-land

@@ -12,12 +12,12 @@ returns-then-self-eq0 g c =
 
 pub links-links-requires : goal.links-links-requires
 links-links-requires g c =
-    let i = c.self.inside in let h = IsAt-last (with_bodies i.nodes.now.cells i.contents.run) i.first.ptr i.last.ptr i.left c.self.invariant c.if-self-eq0.false in
+    let i = c.self.inside in let h = IsAt-last c.self.invariant c.if-self-eq0.false in
     (h.0, sym (links_at-with_bodies i.nodes.now.cells i.contents.run i.last.ptr) ∙ h.1)
 
 pub take-key-requires : goal.take-key-requires
 take-key-requires g c =
-    let i = c.self.inside in let h = Holds-last (with_bodies i.nodes.now.cells i.contents.run) i.first.ptr i.last.ptr i.left c.self.invariant c.if-self-eq0.false in
+    let i = c.self.inside in let h = Holds-last c.self.invariant c.if-self-eq0.false in
     (h.0, sym (body_at-with_bodies i.nodes.now.cells i.contents.run i.last.ptr _ c.links-links.ensures) ∙ h.1)
 
 pub invariant_of-self : goal.invariant_of-self
@@ -25,7 +25,7 @@ invariant_of-self g c =
     let i = c.self.inside in let p = i.last.ptr in
     let left = ap (with_bodies i.nodes.now.cells) c.take-key.ensures.run ∙ with_bodies-without_body p i.contents.run i.nodes.now.cells i.nodes.now.apart in
     let e = links_at-with_bodies i.nodes.now.cells i.contents.run p ∙ c.links-links.ensures in
-    subst (λ zs. IsSpan zs i.first.ptr c.address-self-inside.result.ptr (i.left - 1)) (sym left) (IsSpan-rest_of_last (with_bodies i.nodes.now.cells i.contents.run) i.first.ptr i.last.ptr i.left c.self.invariant c.if-self-eq0.false _ e _ c.address-self-inside.ensures)
+    subst (λ zs. IsSpan zs i.first.ptr c.address-self-inside.result.ptr (i.left - 1)) (sym left) (IsSpan-rest_of_last c.self.invariant c.if-self-eq0.false e c.address-self-inside.ensures)
 
 pub returns : goal.returns
 returns g c =
@@ -33,4 +33,4 @@ returns g c =
     let left = ap (with_bodies i.nodes.now.cells) c.take-key.ensures.run ∙ with_bodies-without_body p i.contents.run i.nodes.now.cells i.nodes.now.apart in
     let e = links_at-with_bodies i.nodes.now.cells i.contents.run p ∙ c.links-links.ensures in
     let b = body_at-with_bodies i.nodes.now.cells i.contents.run p _ c.links-links.ensures ∙ c.take-key.ensures.body in
-    sym c.self.view_is ∙ span_triples-last (with_bodies i.nodes.now.cells i.contents.run) i.first.ptr i.last.ptr i.left c.self.invariant c.if-self-eq0.false _ e _ c.address-self-inside.ensures _ b ∙ ap (λ zs. span_triples zs (i.left - 1) i.first.ptr ++ (c.links-links.result.now.hash, c.take-key.result) ∷ []) (sym left)
+    sym c.self.view_is ∙ span_triples-last c.self.invariant c.if-self-eq0.false e c.address-self-inside.ensures b ∙ ap (λ zs. span_triples zs (i.left - 1) i.first.ptr ++ (c.links-links.result.now.hash, c.take-key.result) ∷ []) (sym left)
