@@ -31,7 +31,7 @@ module _ {B : Type 0} where
   pub OnlyAt-with_links : (p : Ptr) (l : Links) (cs : List (Cell Links B)) (la : Links) → links_at cs p ≡ Some la → OnlyAt cs (with_links p l cs) p
   OnlyAt-with_links p l cs la e = record {
     other = λ q n. cell_at-change_other p (λ c. cell c.at l c.body) (λ c. refl) q n cs;
-    there = reader-with_links_same p l has_links cs la e refl;
+    there = reader-with_links_same p l cs e has_links refl;
     count = length-change p (λ c. cell c.at l c.body) cs;
   }
 

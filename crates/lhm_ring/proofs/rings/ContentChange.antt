@@ -11,7 +11,7 @@ use Rattle.lhm_ring.proofs.memory.OneNodeChanged.{links_at-with_body, body_at-wi
 use Rattle.lhm_ring.proofs.rings.ReadAtPosition.{content_at-held, links_at-held, pair-held}
 use Rattle.lhm_ring.proofs.rings.RingNodes.{NodeAt-held}
 use Rattle.lhm_ring.proofs.rings.SameNodes.{SameLink, follow-same, IsOwned-same}
-use Rattle.lhm_ring.proofs.rings.Writes.{cell_at-change_other, length-change, reader-with_links_same, links_at-with_links, body_at-with_links, next_of-chaining_to, prev_of-chaining_to, link_of-chaining_to, hash-chaining_to}
+use Rattle.lhm_ring.proofs.rings.Writes.{cell_at-change_other, length-change, reader-with_links_same, links_at-with_links, body_at-with_links}
 use Rattle.lhm_ring.specs.Nodes.{Cell, cell, same_ptr, links_of, body_of, links_at, body_at, IsApart, with_links, with_body}
 use Rattle.lhm_ring.specs.Links.{chaining_to, next_of, prev_of, link_of, has_links, next_at, prev_at, link_at, is_there, content_of, content_at, HasContent, follow, listed, one_of, ring_list, IsOwned}
 use Rattle.lhm_ring.specs.Ring.{State, state, Held, held, IsHeld, ChangesOnly, change_at, SplitAround, pair, revalued}
@@ -102,18 +102,18 @@ module _ {B : Type 0} (cs : List (Cell Links B)) (p : Ptr) {l : Links} (e : link
 
   pub ChangesAt-with_links : (o : Link) → ChangesAt cs (with_links p (chaining_to o l) cs) p t (held t.at t.hash (target o) t.pair)
   ChangesAt-with_links o =
-      let k : Links = chaining_to o l in let e₂ : links_at (with_links p k cs) p ≡ Some k = links_at-with_links p k cs l e p ∙ ap (λ y. cond y (Some k) (links_at cs p)) (same_ptr-reflexive p) in
+      let k : Links = chaining_to o l in let e₂ : links_at (with_links p k cs) p ≡ Some k = links_at-with_links p k cs e p ∙ ap (λ y. cond y (Some k) (links_at cs p)) (same_ptr-reflexive p) in
       let pointer : t.at ≡ p = at-content_of p (links_at cs p) (body_at cs p) t c in let x = content_of-holds p (links_at cs p) (body_at cs p) t c in
       let pair : t.pair ≡ x.0 = pair-content_of p (links_at cs p) x.0 t (ap (λ b. content_of p (links_at cs p) b) (sym x.1) ∙ c) in
       record {
-        next = reader-with_links_same p k next_of cs l e (next_of-chaining_to o l);
-        prev = reader-with_links_same p k prev_of cs l e (prev_of-chaining_to o l);
-        there = reader-with_links_same p k has_links cs l e refl;
+        next = reader-with_links_same p k cs e next_of refl;
+        prev = reader-with_links_same p k cs e prev_of refl;
+        there = reader-with_links_same p k cs e has_links refl;
         link = λ q n. ap (λ z. link_of (links_of z)) (cell_at-change_other p (λ c. cell c.at k c.body) (λ c. refl) q n cs);
         content = λ q n. ap (λ z. content_of q (links_of z) (body_of z)) (cell_at-change_other p (λ c. cell c.at k c.body) (λ c. refl) q n cs);
         was = c;
-        is = content_of-some (links_at (with_links p k cs) p) (body_at (with_links p k cs) p) k x.0 e₂ (body_at-with_links p k cs l e p ∙ x.1)
-            ∙ ap (λ z. Some z) (λ i. held (sym pointer i) ((hash-chaining_to o l ∙ sym (hash-content_of p l (body_at cs p) t content_of-here)) i) (link_of-chaining_to o l i) (sym pair i));
+        is = content_of-some (links_at (with_links p k cs) p) (body_at (with_links p k cs) p) k x.0 e₂ (body_at-with_links p k cs e p ∙ x.1)
+            ∙ ap (λ z. Some z) (λ i. held (sym pointer i) (sym (hash-content_of p l (body_at cs p) t content_of-here) i) (target o) (sym pair i));
         count = length-change p (λ c. cell c.at k c.body) cs;
       }
 

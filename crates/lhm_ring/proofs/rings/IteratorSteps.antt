@@ -39,16 +39,16 @@ module _ {K V : Type 0} where
   AllByRecursion-value_kept p run [] f a = tt
   AllByRecursion-value_kept p run (t ∷ ts) f a = (value_at-other p t.at f.0 run ∙ a.0, AllByRecursion-value_kept p run ts f.1 a.1)
 
-  pub value_at-first_lent : (run : List (Ptr × V)) (s : List (Held (K × V))) (t : Held (K × V)) (ts : List (Held (K × V))) → s ≡ t ∷ ts → AreLent run s → (value_at run t.at ≡ Some t.pair.1) × AreLent (without_value t.at run) ts
-  value_at-first_lent run s t ts e a = let b = subst (AreLent run) e a in
+  pub value_at-first_lent : {run : List (Ptr × V)} {s : List (Held (K × V))} {t : Held (K × V)} {ts : List (Held (K × V))} → s ≡ t ∷ ts → AreLent run s → (value_at run t.at ≡ Some t.pair.1) × AreLent (without_value t.at run) ts
+  value_at-first_lent {run} {s} {t} {ts} e a = let b = subst (AreLent run) e a in
       (b.lent.0, record { lent = AllByRecursion-value_kept t.at run ts (IsFresh-head t.at (map At ts) b.apart) b.lent.1; apart = IsApart-tail t.at (map At ts) b.apart })
 
   map-push : (ts : List (Held (K × V))) (t : Held (K × V)) → map At (ts ++ t ∷ []) ≡ map At ts ++ t.at ∷ []
   map-push [] t = refl
   map-push (u ∷ us) t = ap (λ r. u.at ∷ r) (map-push us t)
 
-  pub value_at-last_lent : (run : List (Ptr × V)) (s : List (Held (K × V))) (t : Held (K × V)) (ts : List (Held (K × V))) → s ≡ ts ++ t ∷ [] → AreLent run s → (value_at run t.at ≡ Some t.pair.1) × AreLent (without_value t.at run) ts
-  value_at-last_lent run s t ts e a =
+  pub value_at-last_lent : {run : List (Ptr × V)} {s : List (Held (K × V))} (t : Held (K × V)) (ts : List (Held (K × V))) → s ≡ ts ++ t ∷ [] → AreLent run s → (value_at run t.at ≡ Some t.pair.1) × AreLent (without_value t.at run) ts
+  value_at-last_lent {run} {s} t ts e a =
       let P = λ (u : Held (K × V)). value_at run u.at ≡ Some u.pair.1 in
       let b = subst (AreLent run) e a in let d = subst IsApart (map-push ts t) b.apart in (
         (AllByRecursion-right P ts (t ∷ []) b.lent).0,

@@ -99,7 +99,7 @@ module _ {B : Type 0} {cs ds es : List (Cell Links B)} {ps : List Ptr} {spare : 
 pub links_at-written : {B : Type 0} (p : Ptr) (l : Links) (cs : List (Cell Links B)) {ds : List (Cell Links B)} {la : Links}
     → links_at cs p ≡ Some la → ds ≡ with_links p l cs → links_at ds p ≡ Some l
 links_at-written p l cs {la = la} e is =
-    ap (λ z. links_at z p) is ∙ links_at-with_links p l cs la e p ∙ ap (λ y. cond y (Some l) (links_at cs p)) (same_ptr-reflexive p)
+    ap (λ z. links_at z p) is ∙ links_at-with_links p l cs e p ∙ ap (λ y. cond y (Some l) (links_at cs p)) (same_ptr-reflexive p)
 
 -- the first spare node, at p, and the others
 pub record Ready {B : Type 0} (cs : List (Cell Links B)) (p : Ptr) (v : State B) (n m total : ℕ) : Type 0 where

@@ -59,19 +59,13 @@ module _ {B : Type 0} (e : Ends) (cs : List (Cell Links B)) where
   same_ptr-content (block_ptr b o) h = refl
   same_ptr-content null_ptr h = absurd (none_some h.0 h.1)
 
-  ring_cells-leading_on : (o : Link) (l : Links) → links_at (ring_cells e cs) null_ptr ≡ Some l → ring_cells (record e { first = o }) cs ≡ with_links null_ptr (leading_on o l) (ring_cells e cs)
+  -- the ends are written
+  pub with_links-end : (f : Links → Links) {d : Ends} → ends_links d ≡ f (ends_links e) → {p : Ptr} → p ≡ null_ptr
+      → (l : Links) → links_at (ring_cells e cs) p ≡ Some l → ring_cells d cs ≡ with_links p (f l) (ring_cells e cs)
   unfolding cell_at change
-  ring_cells-leading_on o l h = ap (λ (k : Links). cell null_ptr (leading_on o k) None ∷ cs) (Some-injective (ends_links e) l h)
-
-  pub LeadsOn-end : (o : Link) (p : Ptr) → p ≡ null_ptr → LeadsOn (ring_cells e cs) p o (ring_cells (record e { first = o }) cs)
-  LeadsOn-end o p is = subst (λ q. LeadsOn (ring_cells e cs) q o (ring_cells (record e { first = o }) cs)) (sym is) (ring_cells-leading_on o)
-
-  ring_cells-leading_back : (o : Link) (l : Links) → links_at (ring_cells e cs) null_ptr ≡ Some l → ring_cells (record e { last = o }) cs ≡ with_links null_ptr (leading_back o l) (ring_cells e cs)
-  unfolding cell_at change
-  ring_cells-leading_back o l h = ap (λ (k : Links). cell null_ptr (leading_back o k) None ∷ cs) (Some-injective (ends_links e) l h)
-
-  pub LeadsBack-end : (o : Link) (p : Ptr) → p ≡ null_ptr → LeadsBack (ring_cells e cs) p o (ring_cells (record e { last = o }) cs)
-  LeadsBack-end o p is = subst (λ q. LeadsBack (ring_cells e cs) q o (ring_cells (record e { last = o }) cs)) (sym is) (ring_cells-leading_back o)
+  with_links-end f {d} same is l =
+      subst (λ q. links_at (ring_cells e cs) q ≡ Some l → ring_cells d cs ≡ with_links q (f l) (ring_cells e cs)) (sym is)
+      (λ h. ap (λ k. cell null_ptr k None ∷ cs) (same ∙ ap f (Some-injective (ends_links e) l h)))
 
 -- the others
 module _ {B : Type 0} (e : Ends) (cs : List (Cell Links B)) (p : Ptr) (b : is_block p ≡ true) where
@@ -104,11 +98,10 @@ module _ {B : Type 0} (e : Ends) (cs : List (Cell Links B)) (p : Ptr) (b : is_bl
   pub ChainsTo-ring_cells : (o : Link) (ds : List (Cell Links B)) → ChainsTo cs p o ds → ChainsTo (ring_cells e cs) p o (ring_cells e ds)
   ChainsTo-ring_cells o ds k l h = ring_cells-with_links (chaining_to o l) ds (k l (sym links_at-ring_cells ∙ h))
 
-  pub LeadsOn-node : (o : Link) (ds : List (Cell Links B)) (l : Links) → links_at cs p ≡ Some l → ds ≡ with_links p (leading_on o l) cs → LeadsOn (ring_cells e cs) p o (ring_cells e ds)
-  LeadsOn-node o ds l h is k g = ring_cells-with_links (leading_on o l) ds is ∙ ap (λ (z : Links). with_links p (leading_on o z) (ring_cells e cs)) (Some-injective l k (sym h ∙ sym links_at-ring_cells ∙ g))
-
-  pub LeadsBack-node : (o : Link) (ds : List (Cell Links B)) (l : Links) → links_at cs p ≡ Some l → ds ≡ with_links p (leading_back o l) cs → LeadsBack (ring_cells e cs) p o (ring_cells e ds)
-  LeadsBack-node o ds l h is k g = ring_cells-with_links (leading_back o l) ds is ∙ ap (λ (z : Links). with_links p (leading_back o z) (ring_cells e cs)) (Some-injective l k (sym h ∙ sym links_at-ring_cells ∙ g))
+  pub with_links-node : (f : Links → Links) {ds : List (Cell Links B)} {l : Links} → links_at cs p ≡ Some l → ds ≡ with_links p (f l) cs
+      → (k : Links) → links_at (ring_cells e cs) p ≡ Some k → ring_cells e ds ≡ with_links p (f k) (ring_cells e cs)
+  with_links-node f {ds} {l} h is k g =
+      ring_cells-with_links (f l) ds is ∙ ap (λ (z : Links). with_links p (f z) (ring_cells e cs)) (Some-injective l k (sym h ∙ sym links_at-ring_cells ∙ g))
 
 -- a node that is there, and is not the one at null, lies in a block
 module _ {B : Type 0} (e : Ends) (cs : List (Cell Links B)) (all : AreBlocks (pointers cs)) where

@@ -12,7 +12,7 @@ use Rattle.lhm_ring.proofs.memory.OneNodeChanged.{IsSpareList-other}
 use Rattle.lhm_ring.proofs.lists.Options.{none_some}
 use Rattle.lhm_ring.proofs.rings.SameNodes.{AreLinked-same}
 use Rattle.lhm_ring.proofs.rings.Spans.{AreLinked-tail}
-use Rattle.lhm_ring.proofs.rings.Writes.{cell_at-change_other, length-change, reader-with_links_same, links_at-with_links, body_at-with_links, next_of-chaining_to, prev_of-chaining_to, link_of-chaining_to, hash-chaining_to}
+use Rattle.lhm_ring.proofs.rings.Writes.{cell_at-change_other, length-change, reader-with_links_same, links_at-with_links, body_at-with_links}
 use Rattle.lhm_ring.specs.Nodes.{Cell, cell, cell_at, same_ptr, links_of, body_of, links_at, body_at, IsApart, with_links}
 use Rattle.lhm_ring.specs.Links.{ends_links, ring_cells, chaining_to, next_of, prev_of, link_of, has_links, next_at, link_at, is_there, content_of, AreLinked, IsSpareList, one_of}
 use Rattle.lhm_ring.specs.Ring.{Held, triples}
@@ -36,18 +36,18 @@ IsApart-onto g (p ∷ ps) ss d = IsApart-onto g ps (p ∷ ss) (IsApart-inserted 
 module _ {B : Type 0} where
   triple_of-chaining_to : (q : Ptr) (o : Link) (l : Links) (b : Option B) → triple_of (content_of q (Some (chaining_to o l)) b) ≡ triple_of (content_of q (Some l) b)
   triple_of-chaining_to q o l None = refl
-  triple_of-chaining_to q o l (Some x) = ap (λ h. Some (h, x)) (hash-chaining_to o l)
+  triple_of-chaining_to q o l (Some x) = refl
 
   -- what the write of a chain link keeps
   SameButLinks-chaining_to : (cs : List (Cell Links B)) (p : Ptr) (o : Link) (la : Links) → links_at cs p ≡ Some la → SameButLinks cs (with_links p (chaining_to o la) cs)
   SameButLinks-chaining_to cs p o la e =
       let l = chaining_to o la in
       record {
-        next = reader-with_links_same p l next_of cs la e (next_of-chaining_to o la);
-        prev = reader-with_links_same p l prev_of cs la e (prev_of-chaining_to o la);
-        there = reader-with_links_same p l has_links cs la e refl;
-        triple = λ q. ap (λ b. triple_of (content_of q (links_at (with_links p l cs) q) b)) (body_at-with_links p l cs la e q)
-            ∙ reader-with_links_same p l (λ z. triple_of (content_of q z (body_at cs q))) cs la e (triple_of-chaining_to q o la (body_at cs q)) q;
+        next = reader-with_links_same p l cs e next_of refl;
+        prev = reader-with_links_same p l cs e prev_of refl;
+        there = reader-with_links_same p l cs e has_links refl;
+        triple = λ q. ap (λ b. triple_of (content_of q (links_at (with_links p l cs) q) b)) (body_at-with_links p l cs e q)
+            ∙ reader-with_links_same p l cs e (λ z. triple_of (content_of q z (body_at cs q))) (triple_of-chaining_to q o la (body_at cs q)) q;
         count = length-change p (λ c. cell c.at l c.body) cs;
       }
 
@@ -70,7 +70,7 @@ module _ {B : Type 0} where
     after = with_links at.ptr (chaining_to spare la) cs
 
     link_at-now : link_at after at.ptr ≡ target spare
-    link_at-now = ap link_of (links_at-with_links at.ptr (chaining_to spare la) cs la ea at.ptr ∙ ap (λ y. cond y (Some (chaining_to spare la)) (links_at cs at.ptr)) (same_ptr-reflexive at.ptr)) ∙ link_of-chaining_to spare la
+    link_at-now = ap link_of (links_at-with_links at.ptr (chaining_to spare la) cs ea at.ptr ∙ ap (λ y. cond y (Some (chaining_to spare la)) (links_at cs at.ptr)) (same_ptr-reflexive at.ptr))
 
     IsRow-shorter : (p : Ptr) (rs ss : List Ptr) → p ≡ at.ptr → IsRow cs at.ptr n (target spare) (p ∷ rs) ss → IsRow after next (n - 1) (Some at.ptr) rs (at.ptr ∷ ss)
     IsRow-shorter p rs ss here r =

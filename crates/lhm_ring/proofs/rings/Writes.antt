@@ -6,7 +6,7 @@ use Rattle.lhm_ring.specs.declared.ring.Links.{Links}
 use Rattle.lhm_ring.proofs.lists.Apart.{same_ptr-equal}
 use Rattle.lhm_ring.proofs.lists.Options.{none_some, Some-injective}
 use Rattle.lhm_ring.specs.Nodes.{Cell, cell, same_ptr, cell_at, links_of, body_of, links_at, body_at, IsAt, change, with_links}
-use Rattle.lhm_ring.specs.Links.{chaining_to, leading_on, leading_back, LeadsOn, LeadsBack, next_of, prev_of, link_of, has_links, is_there, content_of, content_at, IsJoined}
+use Rattle.lhm_ring.specs.Links.{leading_on, leading_back, LeadsOn, LeadsBack, next_of, prev_of, link_of, has_links, is_there, content_of, content_at, IsJoined}
 use Rattle.lhm_ring.specs.Ring.{Held}
 use Rattle.lhm_ring.specs.Pointer.{target}
 
@@ -63,33 +63,40 @@ module _ {B : Type 0} where
   content_of-links p None b t e = absurd (none_some t e)
   content_of-links p (Some l) b t e = (l, refl)
 
-module _ {B : Type 0} (p : Ptr) (l : Links) where
-  pub links_at-with_links : (cs : List (Cell Links B)) (la : Links) → links_at cs p ≡ Some la → (q : Ptr) → links_at (with_links p l cs) q ≡ cond (same_ptr p q) (Some l) (links_at cs q)
-  links_at-with_links cs la e q =
-      let c = links_of-seen (cell_at cs p) la e in
+module _ {B : Type 0} (p : Ptr) (l : Links) (cs : List (Cell Links B)) {la : Links} (e : links_at cs p ≡ Some la) where
+  seen : (c : Cell Links B) × (cell_at cs p ≡ Some c)
+  seen = links_of-seen (cell_at cs p) la e
+
+  pub links_at-with_links : (q : Ptr) → links_at (with_links p l cs) q ≡ cond (same_ptr p q) (Some l) (links_at cs q)
+  links_at-with_links q =
       (elim (same_ptr p q) as (λ y. same_ptr p q ≡ y → links_at (with_links p l cs) q ≡ cond y (Some l) (links_at cs q)) [
-        | true ↦ λ t. subst (λ r. links_at (with_links p l cs) r ≡ Some l) (same_ptr-equal p q t) (ap links_of (cell_at-change p (λ c. cell c.at l c.body) (λ c. refl) cs c.0 c.1))
+        | true ↦ λ t. subst (λ r. links_at (with_links p l cs) r ≡ Some l) (same_ptr-equal p q t)
+            (ap links_of (cell_at-change p (λ c. cell c.at l c.body) (λ c. refl) cs seen.0 seen.1))
         | false ↦ λ n. ap links_of (cell_at-change_other p (λ c. cell c.at l c.body) (λ c. refl) q n cs)
       ]) refl
 
-  pub body_at-with_links : (cs : List (Cell Links B)) (la : Links) → links_at cs p ≡ Some la → (q : Ptr) → body_at (with_links p l cs) q ≡ body_at cs q
-  body_at-with_links cs la e q =
-      let c = links_of-seen (cell_at cs p) la e in
+  pub body_at-with_links : (q : Ptr) → body_at (with_links p l cs) q ≡ body_at cs q
+  body_at-with_links q =
       (elim (same_ptr p q) as (λ y. same_ptr p q ≡ y → body_at (with_links p l cs) q ≡ body_at cs q) [
-        | true ↦ λ t. subst (λ r. body_at (with_links p l cs) r ≡ body_at cs r) (same_ptr-equal p q t) (ap body_of (cell_at-change p (λ c. cell c.at l c.body) (λ c. refl) cs c.0 c.1) ∙ sym (ap body_of c.1))
+        | true ↦ λ t. subst (λ r. body_at (with_links p l cs) r ≡ body_at cs r) (same_ptr-equal p q t)
+            (ap body_of (cell_at-change p (λ c. cell c.at l c.body) (λ c. refl) cs seen.0 seen.1) ∙ sym (ap body_of seen.1))
         | false ↦ λ n. ap body_of (cell_at-change_other p (λ c. cell c.at l c.body) (λ c. refl) q n cs)
       ]) refl
 
   -- a reader of links
-  pub reader-with_links : {X : Type 0} (f : Option Links → X) (cs : List (Cell Links B)) (la : Links) → links_at cs p ≡ Some la → (q : Ptr) → f (links_at (with_links p l cs) q) ≡ cond (same_ptr p q) (f (Some l)) (f (links_at cs q))
-  reader-with_links f cs la e q = ap f (links_at-with_links cs la e q) ∙ cond-ap f (same_ptr p q) (Some l) (links_at cs q)
+  module _ {X : Type 0} (f : Option Links → X) where
+    pub reader-with_links : (q : Ptr) → f (links_at (with_links p l cs) q) ≡ cond (same_ptr p q) (f (Some l)) (f (links_at cs q))
+    reader-with_links q = ap f (links_at-with_links q) ∙ cond-ap f (same_ptr p q) (Some l) (links_at cs q)
 
-  pub reader-with_links_same : {X : Type 0} (f : Option Links → X) (cs : List (Cell Links B)) (la : Links) → links_at cs p ≡ Some la → f (Some l) ≡ f (Some la) → (q : Ptr) → f (links_at (with_links p l cs) q) ≡ f (links_at cs q)
-  reader-with_links_same f cs la e h q = reader-with_links f cs la e q ∙ cond-same (same_ptr p q) (f (Some l)) (f (links_at cs q)) (λ t. h ∙ sym (ap f e) ∙ ap (λ r. f (links_at cs r)) (same_ptr-equal p q t))
+    pub reader-with_links_same : f (Some l) ≡ f (Some la) → (q : Ptr) → f (links_at (with_links p l cs) q) ≡ f (links_at cs q)
+    reader-with_links_same h q =
+        reader-with_links q
+        ∙ cond-same (same_ptr p q) (f (Some l)) (f (links_at cs q)) (λ t. h ∙ sym (ap f e) ∙ ap (λ r. f (links_at cs r)) (same_ptr-equal p q t))
 
-  pub content_at-with_links : (cs : List (Cell Links B)) (la : Links) → links_at cs p ≡ Some la → ShowsSame l la → (q : Ptr) → content_at (with_links p l cs) q ≡ content_at cs q
-  content_at-with_links cs la e h q =
-      ap (λ b. content_of q (links_at (with_links p l cs) q) b) (body_at-with_links cs la e q) ∙ reader-with_links_same (λ o. content_of q o (body_at cs q)) cs la e (content_of-shown_same q l la h (body_at cs q)) q
+  pub content_at-with_links : ShowsSame l la → (q : Ptr) → content_at (with_links p l cs) q ≡ content_at cs q
+  content_at-with_links h q =
+      ap (λ b. content_of q (links_at (with_links p l cs) q) b) (body_at-with_links q)
+      ∙ reader-with_links_same (λ o. content_of q o (body_at cs q)) (content_of-shown_same q l la h (body_at cs q)) q
 
 there_is : (o : Option Links) → has_links o ≡ true → (l : Links) × (o ≡ Some l)
 there_is None e = absurd cc
@@ -99,43 +106,25 @@ module _ {B : Type 0} where
   pub IsAt-there : (cs : List (Cell Links B)) (p : Ptr) → is_there cs p ≡ true → IsAt cs p
   IsAt-there cs p e = there_is (links_at cs p) e
 
-  is_there-with_links : (cs ds : List (Cell Links B)) (p : Ptr) (l la : Links) (q : Ptr) → links_at cs p ≡ Some la → ds ≡ with_links p l cs → is_there cs q ≡ true → is_there ds q ≡ true
-  is_there-with_links cs ds p l la q e d t = ap (λ es. is_there es q) d ∙ reader-with_links_same p l has_links cs la e refl q ∙ t
+  -- a node, if another one leads on to a third
+  pub is_there-leading_on : (cs : List (Cell Links B)) {ds : List (Cell Links B)} (p : Ptr) (o : Link) → is_there cs p ≡ true → LeadsOn cs p o ds → (q : Ptr) → is_there cs q ≡ true → is_there ds q ≡ true
+  is_there-leading_on cs {ds} p o h k q t =
+      let a = IsAt-there cs p h in ap (λ es. is_there es q) (k a.0 a.1) ∙ reader-with_links_same p (leading_on o a.0) cs a.1 has_links refl q ∙ t
 
-  IsJoined-with_links : (cs es ds : List (Cell Links B)) (a b : Link) (la lb : Links)
-      → links_at cs a.ptr ≡ Some la → es ≡ with_links a.ptr (leading_on b la) cs
-      → links_at es b.ptr ≡ Some lb → ds ≡ with_links b.ptr (leading_back a lb) es → IsJoined cs ds a.ptr b.ptr
-  IsJoined-with_links cs es ds a b la lb ea e1 eb e2 =
-      let l : Links = leading_on b la in let m : Links = leading_back a lb in
+  pub IsJoined-writes : {cs es ds : List (Cell Links B)} (a b : Link) → is_there cs a.ptr ≡ true → is_there cs b.ptr ≡ true → LeadsOn cs a.ptr b es → LeadsBack es b.ptr a ds
+      → IsJoined cs ds a.ptr b.ptr
+  IsJoined-writes {cs} {es} {ds} a b ha hb on back =
+      let la = IsAt-there cs a.ptr ha in let lb = IsAt-there es b.ptr (is_there-leading_on cs a.ptr b ha on b.ptr hb) in
+      let l : Links = leading_on b la.0 in let m : Links = leading_back a lb.0 in
       let fs : List (Cell Links B) = with_links a.ptr l cs in
-      let ef : links_at fs b.ptr ≡ Some lb = sym (ap (λ zs. links_at zs b.ptr) e1) ∙ eb in
+      let e₁ = on la.0 la.1 in let e₂ = back lb.0 lb.1 in
+      let ef : links_at fs b.ptr ≡ Some lb.0 = sym (ap (λ zs. links_at zs b.ptr) e₁) ∙ lb.1 in
       let made : IsJoined cs (with_links b.ptr m fs) a.ptr b.ptr = record {
-        next = λ q. reader-with_links_same b.ptr m next_of fs lb ef refl q ∙ reader-with_links a.ptr l next_of cs la ea q;
-        prev = λ q. reader-with_links b.ptr m prev_of fs lb ef q ∙ ap (λ r. cond (same_ptr b.ptr q) a.ptr r) (reader-with_links_same a.ptr l prev_of cs la ea refl q);
-        link = λ q. reader-with_links_same b.ptr m link_of fs lb ef refl q ∙ reader-with_links_same a.ptr l link_of cs la ea refl q;
-        content = λ q. content_at-with_links b.ptr m fs lb ef (refl, refl) q ∙ content_at-with_links a.ptr l cs la ea (refl, refl) q;
-        there = λ q. reader-with_links_same b.ptr m has_links fs lb ef refl q ∙ reader-with_links_same a.ptr l has_links cs la ea refl q;
+        next = λ q. reader-with_links_same b.ptr m fs ef next_of refl q ∙ reader-with_links a.ptr l cs la.1 next_of q;
+        prev = λ q. reader-with_links b.ptr m fs ef prev_of q ∙ ap (λ r. cond (same_ptr b.ptr q) a.ptr r) (reader-with_links_same a.ptr l cs la.1 prev_of refl q);
+        link = λ q. reader-with_links_same b.ptr m fs ef link_of refl q ∙ reader-with_links_same a.ptr l cs la.1 link_of refl q;
+        content = λ q. content_at-with_links b.ptr m fs ef (refl, refl) q ∙ content_at-with_links a.ptr l cs la.1 (refl, refl) q;
+        there = λ q. reader-with_links_same b.ptr m fs ef has_links refl q ∙ reader-with_links_same a.ptr l cs la.1 has_links refl q;
         count = length-change b.ptr (λ c. cell c.at m c.body) fs ∙ length-change a.ptr (λ c. cell c.at l c.body) cs;
       } in
-      subst (λ zs. IsJoined cs zs a.ptr b.ptr) (sym (e2 ∙ ap (λ zs. with_links b.ptr m zs) e1)) made
-
-  -- a node, if another one leads on to a third
-  pub is_there-leading_on : (cs ds : List (Cell Links B)) (p : Ptr) (o : Link) → is_there cs p ≡ true → LeadsOn cs p o ds → (q : Ptr) → is_there cs q ≡ true → is_there ds q ≡ true
-  is_there-leading_on cs ds p o h k q t = let a = IsAt-there cs p h in is_there-with_links cs ds p (leading_on o a.0) a.0 q a.1 (k a.0 a.1) t
-
-  pub IsJoined-writes : (cs es ds : List (Cell Links B)) (a b : Link) → is_there cs a.ptr ≡ true → is_there cs b.ptr ≡ true → LeadsOn cs a.ptr b es → LeadsBack es b.ptr a ds → IsJoined cs ds a.ptr b.ptr
-  IsJoined-writes cs es ds a b ha hb k l =
-      let la = IsAt-there cs a.ptr ha in let lb = IsAt-there es b.ptr (is_there-leading_on cs es a.ptr b ha k b.ptr hb) in IsJoined-with_links cs es ds a b la.0 lb.0 la.1 (k la.0 la.1) lb.1 (l lb.0 lb.1)
-
--- links with another chain link
-pub next_of-chaining_to : (o : Link) (l : Links) → next_of (Some (chaining_to o l)) ≡ next_of (Some l)
-next_of-chaining_to o l = refl
-
-pub prev_of-chaining_to : (o : Link) (l : Links) → prev_of (Some (chaining_to o l)) ≡ prev_of (Some l)
-prev_of-chaining_to o l = refl
-
-pub link_of-chaining_to : (o : Link) (l : Links) → link_of (Some (chaining_to o l)) ≡ target o
-link_of-chaining_to o l = refl
-
-pub hash-chaining_to : (o : Link) (l : Links) → (chaining_to o l).hash ≡ l.hash
-hash-chaining_to o l = refl
+      subst (λ zs. IsJoined cs zs a.ptr b.ptr) (sym (e₂ ∙ ap (λ zs. with_links b.ptr m zs) e₁)) made

@@ -1,19 +1,22 @@
-use Rattle.std.proofs.Common.{sym, subst}
-use Rattle.lhm_ring.proofs.rings.RingCells.{IsAt-in_nodes, led_to-some, led_to-none, LeadsBack-node, LeadsBack-end}
+use Rattle.std.proofs.Common.{sym, subst, refl}
+use Rattle.lhm_ring.proofs.rings.RingCells.{IsAt-in_nodes, led_to-some, led_to-none, with_links-node, with_links-end}
 use Rattle.lhm_ring.proofs.rings.Writes.{IsAt-there}
 use Rattle.lhm_ring.proofs.ring.set_prev.Goals as goal
 use Rattle.lhm_ring.specs.Nodes.{IsAt}
-use Rattle.lhm_ring.specs.Links.{ring_cells, LeadsBack}
+use Rattle.lhm_ring.specs.Links.{ring_cells, leading_back, LeadsBack}
 
 pub links-links-requires : goal.links-links-requires
 links-links-requires g c =
     let e = c.args.ends.now in let cs = c.args.nodes.now.cells in let p = c.in-Some.at.pointer.ptr in
-    IsAt-in_nodes e cs p c.in-Some.at.block (subst (IsAt (ring_cells e cs)) (led_to-some c.args.at.ptr p (sym c.in-Some.ensures)) (IsAt-there (ring_cells e cs) c.args.at.ptr c.requires))
+    IsAt-in_nodes e cs p c.in-Some.at.block
+    (subst (IsAt (ring_cells e cs)) (led_to-some c.args.at.ptr p (sym c.in-Some.ensures)) (IsAt-there (ring_cells e cs) c.args.at.ptr c.requires))
 
 pub returns-in-Some-clause-written : goal.returns-in-Some-clause-written
 returns-in-Some-clause-written g c =
-    let e = c.args.ends.now in let cs = c.args.nodes.now.cells in let ds = c.set_links.new.self.cells in let p = c.in-Some.at.pointer.ptr in
-    subst (λ q. LeadsBack (ring_cells e cs) q c.args.prev (ring_cells e ds)) (sym (led_to-some c.args.at.ptr p (sym c.in-Some.ensures))) (LeadsBack-node e cs p c.in-Some.at.block c.args.prev ds _ c.links-links.ensures c.set_links.ensures.cells)
+    let e = c.args.ends.now in let cs = c.args.nodes.now.cells in let p = c.in-Some.at.pointer.ptr in
+    subst (λ q. LeadsBack (ring_cells e cs) q c.args.prev (ring_cells e c.set_links.new.self.cells)) (sym (led_to-some c.args.at.ptr p (sym c.in-Some.ensures)))
+    (with_links-node e cs p c.in-Some.at.block (leading_back c.args.prev) c.links-links.ensures c.set_links.ensures.cells)
 
 pub returns-in-None-clause-written : goal.returns-in-None-clause-written
-returns-in-None-clause-written g c = LeadsBack-end c.args.ends.now c.args.nodes.now.cells c.args.prev c.args.at.ptr (led_to-none c.args.at.ptr (sym c.in-None.ensures))
+returns-in-None-clause-written g c =
+    with_links-end c.args.ends.now c.args.nodes.now.cells (leading_back c.args.prev) refl (led_to-none c.args.at.ptr (sym c.in-None.ensures))

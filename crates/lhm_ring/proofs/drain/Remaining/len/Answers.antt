@@ -4,4 +4,4 @@ use Rattle.lhm_ring.proofs.drain.Remaining.len.Goals as goal
 use Rattle.lhm_ring.specs.ContentLoan.{with_bodies}
 
 pub returns : goal.returns
-returns g c = let i = c.self.inside in length-span_triples c.self.invariant ∙ ap length c.self.view_is
+returns g c = length-span_triples c.self.invariant ∙ ap length c.self.view_is

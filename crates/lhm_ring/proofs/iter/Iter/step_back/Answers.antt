@@ -10,15 +10,15 @@ returns-then-self-eq0 g c =
     let e = sym c.self.view_is ∙ ap (λ k. listed cs (pointers_from cs k i.first.ptr)) c.if-self-eq0.true ∙ listed-none cs i.first.ptr in (e, e)
 
 pub links-links-requires : goal.links-links-requires
-links-links-requires g c = let i = c.self.inside in IsAt-last c.self.invariant c.if-self-eq0.false
+links-links-requires g c = IsAt-last c.self.invariant c.if-self-eq0.false
 
 pub key-requires : goal.key-requires
-key-requires g c = let i = c.self.inside in Holds-last c.self.invariant c.if-self-eq0.false
+key-requires g c = Holds-last c.self.invariant c.if-self-eq0.false
 
 pub invariant_of-self : goal.invariant_of-self
-invariant_of-self g c = let i = c.self.inside in IsSpan-ahead_of_last c.self.invariant c.if-self-eq0.false c.links-links.ensures c.address-self-inside.ensures
+invariant_of-self g c = IsSpan-ahead_of_last c.self.invariant c.if-self-eq0.false c.links-links.ensures c.address-self-inside.ensures
 
 pub returns : goal.returns
 returns g c =
-    let i = c.self.inside in let k = c.key.ensures in let v = c.value.ensures in
+    let k = c.key.ensures in let v = c.value.ensures in
     (_, sym c.self.view_is ∙ listed-last c.self.invariant c.if-self-eq0.false c.links-links.ensures c.address-self-inside.ensures (Some-both _ c.key.result.now v.0 k.0 c.value.result.now k.1 v.1))

@@ -3,4 +3,4 @@ use Rattle.lhm_ring.proofs.rings.Spans.{length-listed_span}
 use Rattle.lhm_ring.proofs.iter.IterExactSizeIterator.len.Goals as goal
 
 pub returns-clause-value : goal.returns-clause-value
-returns-clause-value g c = let i = c.self.inside in length-listed_span c.self.invariant ∙ ap length c.self.view_is
+returns-clause-value g c = length-listed_span c.self.invariant ∙ ap length c.self.view_is

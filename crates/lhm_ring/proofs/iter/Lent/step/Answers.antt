@@ -4,14 +4,14 @@ use Rattle.lhm_ring.proofs.iter.Lent.step.Goals as goal
 use Rattle.lhm_ring.specs.ValueLoan.{AreLent}
 
 pub take-requires : goal.take-requires
-take-requires g c = let i = c.self.inside in let l = value_at-first_lent i.loan.run i.holes _ c.step.new.self c.in-Some.ensures.1 c.self.invariant in (_, l.0)
+take-requires g c = let l = value_at-first_lent c.in-Some.ensures.1 c.self.invariant in (_, l.0)
 
 pub invariant_of-self : goal.invariant_of-self
-invariant_of-self g c = let i = c.self.inside in let l = value_at-first_lent i.loan.run i.holes _ c.step.new.self c.in-Some.ensures.1 c.self.invariant in subst (λ r. AreLent r c.step.new.self) (sym c.take.ensures.run) l.1
+invariant_of-self g c = let l = value_at-first_lent c.in-Some.ensures.1 c.self.invariant in subst (λ r. AreLent r c.step.new.self) (sym c.take.ensures.run) l.1
 
 pub returns-in-Some : goal.returns-in-Some
 returns-in-Some g c =
-    let i = c.self.inside in let l = value_at-first_lent i.loan.run i.holes _ c.step.new.self c.in-Some.ensures.1 c.self.invariant in
+    let l = value_at-first_lent c.in-Some.ensures.1 c.self.invariant in
     let same = Some-unique _ _ _ l.0 c.take.ensures.value in
     record {
       at = c.in-Some.at.ptr;

@@ -9,10 +9,10 @@ returns-then-self-eq0 g c =
     let e = sym c.self.view_is ∙ ap (λ k. span_triples cs k i.first.ptr) c.if-self-eq0.true ∙ span_triples-none cs i.first.ptr in (e, e)
 
 pub links-links-requires : goal.links-links-requires
-links-links-requires g c = let i = c.self.inside in let s = c.self.invariant in IsAt-first s.span c.if-self-eq0.false
+links-links-requires g c = let s = c.self.invariant in IsAt-first s.span c.if-self-eq0.false
 
 pub take-key-requires : goal.take-key-requires
-take-key-requires g c = let i = c.self.inside in let s = c.self.invariant in Holds-first s.span c.if-self-eq0.false
+take-key-requires g c = let s = c.self.invariant in Holds-first s.span c.if-self-eq0.false
 
 pub invariant_of-self : goal.invariant_of-self
 invariant_of-self g c =

@@ -11,4 +11,4 @@ returns-clause-last g c =
     c.get.ensures ∙ sym (ap led_to (prev_at-null i.ends i.nodes.cells)) ∙ led_to-last c.self.invariant.ring c.self.view_is
 
 pub returns-clause-apart : goal.returns-clause-apart
-returns-clause-apart g c = let i = c.self.inside in IsApart-held c.self.invariant.ring c.self.view_is
+returns-clause-apart g c = IsApart-held c.self.invariant.ring c.self.view_is
