@@ -8,7 +8,7 @@ use Rattle.lhm_ring.specs.declared.pointer.Link.{Link}
 use Rattle.std.specs.Borrow.{GName}
 use Rattle.lhm_ring.specs.declared.drain.Drain.{Drain}
 use Rattle.lhm_ring.specs.Nodes.{Cell, IsApart}
-use Rattle.lhm_ring.specs.Links.{AreLinked, IsSpareList, next_at, prev_at, is_there, content_at, ring_list, IsOwned, IsSpan, span_triples}
+use Rattle.lhm_ring.specs.Links.{AreLinked, IsSpareList, next_at, prev_at, is_there, IsThere, content_at, ring_list, IsOwned, IsSpan, span_triples}
 use Rattle.lhm_ring.specs.Ring.{Held, triples}
 
 -- the pointers ps, the last first, and then ss
@@ -39,7 +39,7 @@ module _ {B : Type 0} where
     pub long : length ps ≡ n
     pub linked : AreLinked cs ps
     pub starts : StartsAt ps f
-    pub there : AllByRecursion (λ p. is_there cs p ≡ true) ps
+    pub there : AllByRecursion (IsThere cs) ps
     pub apart : IsApart (ps ++ ss)
     pub chained : IsSpareList cs spare ss
 

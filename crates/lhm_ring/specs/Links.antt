@@ -66,6 +66,9 @@ module _ {B : Type 0} where
   abbrev pub is_there : List (Cell Links B) → Ptr → Bool
   is_there cs p = has_links (links_at cs p)
 
+  abbrev pub IsThere : List (Cell Links B) → Ptr → Type 0
+  IsThere cs p = is_there cs p ≡ true
+
   -- the hash, the chain link, the key and the value at p
   abbrev pub content_of : Ptr → Option Links → Option B → Option (Held B)
   content_of p None b = None
@@ -112,7 +115,7 @@ module _ {B : Type 0} where
     pub linked : AreLinked cs (null_ptr ∷ (ps ++ null_ptr ∷ []))
     pub chained : IsSpareList cs spare ss
     pub held : AllByRecursion (HasContent cs) ps
-    pub there : AllByRecursion (λ p. is_there cs p ≡ true) (null_ptr ∷ (ps ++ ss))
+    pub there : AllByRecursion (IsThere cs) (null_ptr ∷ (ps ++ ss))
     pub apart : IsApart (null_ptr ∷ (ps ++ ss))
     pub count : length cs ≡ suc (length ps + length ss)
 

@@ -8,7 +8,7 @@ use Rattle.lhm_ring.proofs.lists.ListFacts.{AllByRecursion-append, AllByRecursio
 use Rattle.lhm_ring.proofs.memory.OneNodeChanged.{AreLinked-other, IsSpareList-other, AllByRecursion-content_other, listed-other}
 use Rattle.lhm_ring.proofs.rings.RingCells.{same_ptr-null, cell_at-ring_cells}
 use Rattle.lhm_ring.specs.Nodes.{Cell, cell, cell_at, same_ptr, pointers, links_of, is_block, IsApart}
-use Rattle.lhm_ring.specs.Links.{ends_links, ring_cells, link_of, has_links, link_at, is_there, IsSpareList, IsRing, listed}
+use Rattle.lhm_ring.specs.Links.{ends_links, ring_cells, link_of, has_links, link_at, is_there, IsSpareList, IsRing, listed, IsThere}
 
 false_true : false ≡ true → ⊥
 false_true e = cc
@@ -31,7 +31,7 @@ module _ {B : Type 0} (e : Ends) (nodes : List (Cell Links B)) (p : Ptr) (l : Li
   cell_at-added : cell_at ds p ≡ Some (cell p l None)
   cell_at-added = cell_at-ring_cells e (cell p l None ∷ nodes) p b ∙ cell_at-newest
 
-  same_ptr-nowhere : (zs : List (Cell Links B)) → IsFresh p (pointers zs) → (q : Ptr) → is_there zs q ≡ true → same_ptr p q ≡ false
+  same_ptr-nowhere : (zs : List (Cell Links B)) → IsFresh p (pointers zs) → (q : Ptr) → IsThere zs q → same_ptr p q ≡ false
   unfolding cell_at
   same_ptr-nowhere [] f q h = absurd (false_true h)
   same_ptr-nowhere (z ∷ zs) f q h =
@@ -40,15 +40,15 @@ module _ {B : Type 0} (e : Ends) (nodes : List (Cell Links B)) (p : Ptr) (l : Li
         | false ↦ λ s k. same_ptr-nowhere zs f.1 q k
       ]) refl h
 
-  same_ptr-there : (q : Ptr) → is_there cs q ≡ true → same_ptr p q ≡ false
+  same_ptr-there : (q : Ptr) → IsThere cs q → same_ptr p q ≡ false
   same_ptr-there = same_ptr-nowhere cs (same_ptr-symmetric p null_ptr ∙ same_ptr-null p b, IsFresh-head p (pointers nodes) d)
 
-  is_there-added : (q : Ptr) → is_there cs q ≡ true → is_there ds q ≡ true
+  is_there-added : (q : Ptr) → IsThere cs q → IsThere ds q
   is_there-added q h = ap (λ z. has_links (links_of z)) (cell_at-other q (same_ptr-there q h)) ∙ h
 
   module _ (ps : List Ptr) (spare : Option Ptr) (ss : List Ptr) (r : IsRing cs ps spare ss) (f : link_of (Some l) ≡ spare) where
     abbrev T : Ptr → Type 0
-    T q = is_there cs q ≡ true
+    T q = IsThere cs q
 
     IsFresh-added : IsFresh p (null_ptr ∷ (ps ++ ss))
     IsFresh-added = AllByRecursion-map T (λ q. same_ptr p q ≡ false) same_ptr-there (null_ptr ∷ (ps ++ ss)) r.there
@@ -66,8 +66,8 @@ module _ {B : Type 0} (e : Ends) (nodes : List (Cell Links B)) (p : Ptr) (l : Li
       held = AllByRecursion-content_other cs ds p cell_at-other ps (AllByRecursion-left P ps ss IsFresh-added.1) r.held;
       there = (
         is_there-added null_ptr r.there.0,
-        AllByRecursion-append (λ q. is_there ds q ≡ true) ps (p ∷ ss) (AllByRecursion-map T (λ q. is_there ds q ≡ true) is_there-added ps (AllByRecursion-left T ps ss r.there.1))
-            (ap (λ z. has_links (links_of z)) cell_at-added, AllByRecursion-map T (λ q. is_there ds q ≡ true) is_there-added ss (AllByRecursion-right T ps ss r.there.1)),
+        AllByRecursion-append (IsThere ds) ps (p ∷ ss) (AllByRecursion-map T (IsThere ds) is_there-added ps (AllByRecursion-left T ps ss r.there.1))
+            (ap (λ z. has_links (links_of z)) cell_at-added, AllByRecursion-map T (IsThere ds) is_there-added ss (AllByRecursion-right T ps ss r.there.1)),
       );
       apart = IsApart-inserted (null_ptr ∷ ps) p ss IsFresh-added r.apart;
       count = ap (λ n. suc n) r.count ∙ omega arith;

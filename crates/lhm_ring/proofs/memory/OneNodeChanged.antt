@@ -8,7 +8,7 @@ use Rattle.lhm_ring.proofs.lists.ListFacts.{AllByRecursion-map}
 use Rattle.lhm_ring.proofs.rings.SameNodes.{SameLink, IsSpareList-same}
 use Rattle.lhm_ring.proofs.rings.Writes.{cell_at-change, cell_at-change_other, length-change, reader-with_links_same, links_of-seen}
 use Rattle.lhm_ring.specs.Nodes.{Cell, cell, same_ptr, cell_at, links_of, body_of, links_at, body_at, with_links, with_body}
-use Rattle.lhm_ring.specs.Links.{next_of, prev_of, link_of, has_links, is_there, content_of, content_at, AreLinked, IsSpareList, HasContent, listed, one_of}
+use Rattle.lhm_ring.specs.Links.{next_of, prev_of, link_of, has_links, is_there, content_of, content_at, AreLinked, IsSpareList, HasContent, listed, one_of, IsThere}
 
 -- every node except the one at p is as it was
 pub record OnlyAt {B : Type 0} (cs ds : List (Cell Links B)) (p : Ptr) : Type 0 where
@@ -67,6 +67,6 @@ module _ {B : Type 0} where
     listed-other (x ∷ xs) f = λ i. one_of (content_at-other x f.0 i) ++ listed-other xs f.1 i
 
   module _ (cs ds : List (Cell Links B)) (p : Ptr) (o : OnlyAt cs ds p) where
-    pub AllByRecursion-there_other : (ps : List Ptr) → AllByRecursion (λ q. is_there cs q ≡ true) ps → AllByRecursion (λ q. is_there ds q ≡ true) ps
+    pub AllByRecursion-there_other : (ps : List Ptr) → AllByRecursion (IsThere cs) ps → AllByRecursion (IsThere ds) ps
     AllByRecursion-there_other [] a = tt
     AllByRecursion-there_other (x ∷ xs) a = (o.there x ∙ a.0, AllByRecursion-there_other xs a.1)

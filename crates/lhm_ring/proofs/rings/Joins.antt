@@ -8,7 +8,7 @@ use Rattle.lhm_ring.proofs.lists.ListFacts.{last_from, AllByRecursion-map, AllBy
 use Rattle.lhm_ring.proofs.lists.Rows.{RowCut-linked, AreLinked-glued}
 use Rattle.lhm_ring.proofs.rings.SameNodes.{IsSpareList-same, SameLink}
 use Rattle.lhm_ring.specs.Nodes.{Cell, same_ptr, IsApart}
-use Rattle.lhm_ring.specs.Links.{next_at, prev_at, is_there, AreNeighbours, AreLinked, IsSpareList, HasContent, listed, one_of, IsJoined}
+use Rattle.lhm_ring.specs.Links.{next_at, prev_at, is_there, AreNeighbours, AreLinked, IsSpareList, HasContent, listed, one_of, IsJoined, IsThere}
 
 -- a is none of those that lead on, and b none of those that are led to
 abbrev pub AvoidsSource : Ptr → List Ptr → Type 0
@@ -55,8 +55,8 @@ module _ {B : Type 0} where
     pub AllByRecursion-content_unchanged : (ps : List Ptr) → AllByRecursion (HasContent cs) ps → AllByRecursion (HasContent ds) ps
     AllByRecursion-content_unchanged = AllByRecursion-map (HasContent cs) (HasContent ds) (λ p h. (h.0, j.content p ∙ h.1))
 
-    pub AllByRecursion-there_unchanged : (ps : List Ptr) → AllByRecursion (λ p. is_there cs p ≡ true) ps → AllByRecursion (λ p. is_there ds p ≡ true) ps
-    AllByRecursion-there_unchanged = AllByRecursion-map (λ p. is_there cs p ≡ true) (λ p. is_there ds p ≡ true) (λ p h. j.there p ∙ h)
+    pub AllByRecursion-there_unchanged : (ps : List Ptr) → AllByRecursion (IsThere cs) ps → AllByRecursion (IsThere ds) ps
+    AllByRecursion-there_unchanged = AllByRecursion-map (IsThere cs) (IsThere ds) (λ p h. j.there p ∙ h)
 
     pub listed-unchanged : (ps : List Ptr) → listed ds ps ≡ listed cs ps
     unfolding listed

@@ -10,7 +10,7 @@ use Rattle.lhm_ring.proofs.lists.ListFacts.{AllByRecursion-append, AllByRecursio
 use Rattle.lhm_ring.proofs.rings.RingNodes.{Found-held, NodeAt-held, ring_list-listed, ring_split}
 use Rattle.lhm_ring.proofs.lists.Rows.{RowCut-linked, listed-append}
 use Rattle.lhm_ring.specs.Nodes.{Cell, IsApart, links_at}
-use Rattle.lhm_ring.specs.Links.{next_of, prev_of, next_at, prev_at, is_there, content_at, AreLinked, IsSpareList, HasContent, IsRing, listed, one_of, IsJoined, ring_list, IsOwned}
+use Rattle.lhm_ring.specs.Links.{next_of, prev_of, next_at, prev_at, is_there, content_at, AreLinked, IsSpareList, HasContent, IsRing, listed, one_of, IsJoined, ring_list, IsOwned, IsThere}
 use Rattle.lhm_ring.specs.Ring.{state, Held, State, IsHeld, AtHeld, SplitAround}
 
 module _ {B : Type 0} where
@@ -35,7 +35,7 @@ module _ {B : Type 0} {cs : List (Cell Links B)} {ps : List Ptr} {spare : Option
   r = ring_split ring s
 
   abbrev There : Ptr → Type 0
-  There q = is_there cs q ≡ true
+  There q = IsThere cs q
 
   AreLinked-row : AreLinked cs (null_ptr ∷ (us ++ p ∷ (vs ++ null_ptr ∷ [])))
   AreLinked-row = subst (λ qs. AreLinked cs (null_ptr ∷ qs)) (append_assoc us (p ∷ vs) (null_ptr ∷ [])) r.linked
@@ -82,9 +82,9 @@ module _ {B : Type 0} {cs : List (Cell Links B)} {ps : List Ptr} {spare : Option
     pub AreLinked-joined : AreLinked ds (null_ptr ∷ ((us ++ vs) ++ null_ptr ∷ []))
     AreLinked-joined = subst (λ qs. AreLinked ds (null_ptr ∷ qs)) (sym (append_assoc us vs (null_ptr ∷ []))) (AreLinked-removed null_ptr us p vs IsApart-row AreLinked-row j)
 
-    pub is_there-last : is_there ds (prev_at ds null_ptr) ≡ true
+    pub is_there-last : IsThere ds (prev_at ds null_ptr)
     is_there-last =
-        let T : Ptr → Type 0 = λ q. is_there ds q ≡ true in
+        let T : Ptr → Type 0 = λ q. IsThere ds q in
         subst T (sym (RowCut-linked ds null_ptr (us ++ vs) null_ptr [] AreLinked-joined).edge.1) (AllByRecursion-last T null_ptr (us ++ vs) (j.there null_ptr ∙ r.there.0) (AllByRecursion-there_unchanged j (us ++ vs) (AllByRecursion-removed There us p vs AllByRecursion-there)))
 
     module _ {es fs : List (Cell Links B)} (k : IsJoined ds es (prev_at ds null_ptr) p) (l : IsJoined es fs p null_ptr) where
@@ -105,7 +105,7 @@ module _ {B : Type 0} {cs : List (Cell Links B)} {ps : List Ptr} {spare : Option
             kept (λ zs. AllByRecursion (HasContent zs) qs) (AllByRecursion-content_unchanged j qs) (AllByRecursion-content_unchanged k qs) (AllByRecursion-content_unchanged l qs)
             (AllByRecursion-append P (us ++ vs) (p ∷ []) (AllByRecursion-removed P us p vs r.held) ((AllByRecursion-right P us (p ∷ vs) r.held).0, tt));
         there = let qs = null_ptr ∷ (((us ++ vs) ++ p ∷ []) ++ ss) in
-            kept (λ zs. AllByRecursion (λ q. is_there zs q ≡ true) qs) (AllByRecursion-there_unchanged j qs) (AllByRecursion-there_unchanged k qs) (AllByRecursion-there_unchanged l qs)
+            kept (λ zs. AllByRecursion (IsThere zs) qs) (AllByRecursion-there_unchanged j qs) (AllByRecursion-there_unchanged k qs) (AllByRecursion-there_unchanged l qs)
             (subst (λ rs. AllByRecursion There (null_ptr ∷ rs)) (sym (append_assoc (us ++ vs) (p ∷ []) ss)) AllByRecursion-shifted);
         apart = subst (λ qs. IsApart (null_ptr ∷ qs)) (sym (append_assoc (us ++ vs) (p ∷ []) ss)) IsApart-shifted;
         count = l.count ∙ k.count ∙ j.count ∙ ring.count ∙ ap (λ n. suc (n + length ss)) length-to_back;
@@ -120,9 +120,9 @@ module _ {B : Type 0} {cs : List (Cell Links B)} {ps : List Ptr} {spare : Option
 module _ {B : Type 0} {cs : List (Cell Links B)} {spare : Link} {n m : ℕ} {v : State B} {total : ℕ} (ok : IsOwned cs spare n m) (w : state (ring_list cs n) m total ≡ v) where
   -- the nodes beside a held one are there
   module _ {p : Ptr} (h : IsHeld v.held p) where
-    pub is_there-beside : {l : Links} → links_at cs p ≡ Some l → (is_there cs l.prev.ptr ≡ true) × (is_there cs l.next.ptr ≡ true)
+    pub is_there-beside : {l : Links} → links_at cs p ≡ Some l → (IsThere cs l.prev.ptr) × (IsThere cs l.next.ptr)
     is_there-beside e =
-        let s = NodeAt-held ok w p h in let T : Ptr → Type 0 = λ q. is_there cs q ≡ true in
+        let s = NodeAt-held ok w p h in let T : Ptr → Type 0 = λ q. IsThere cs q in
         (subst T (ap prev_of e) (There-prev ok.ring s), subst T (ap next_of e) (There-next ok.ring s))
 
   -- a node that is moved to the end: those beside it are joined, the last with it, and it with the
@@ -131,7 +131,7 @@ module _ {B : Type 0} {cs : List (Cell Links B)} {spare : Link} {n m : ℕ} {v :
     past : IsJoined cs ds (prev_at cs p) (next_at cs p)
     past = IsJoined-past p ep j
 
-    pub is_there-moving : IsHeld v.held p → (is_there ds (prev_at ds null_ptr) ≡ true) × (is_there ds p ≡ true)
+    pub is_there-moving : IsHeld v.held p → (IsThere ds (prev_at ds null_ptr)) × (IsThere ds p)
     is_there-moving h =
         let s = NodeAt-held ok w p h in (is_there-last ok.ring s past, past.there p ∙ There-node ok.ring s)
 

@@ -19,7 +19,7 @@ use Rattle.lhm_ring.proofs.rings.RingNodes.{CutAt, Found-held, ring_list-listed,
 use Rattle.lhm_ring.proofs.lists.Rows.{RowCut-linked, listed-append}
 use Rattle.lhm_ring.proofs.rings.Writes.{links_at-with_links, IsAt-there, content_of-links}
 use Rattle.lhm_ring.specs.Nodes.{Cell, links_at, body_at, IsAt, Holds, with_links, with_body, same_ptr, links_of, is_block, IsApart}
-use Rattle.lhm_ring.specs.Links.{ring_cells, chaining_to, ChainsTo, prev_of, link_of, next_at, prev_at, link_at, is_there, content_of, content_at, IsSpareList, IsRing, listed, IsJoined, ring_list, IsOwned, AreLinked, HasContent}
+use Rattle.lhm_ring.specs.Links.{ring_cells, chaining_to, ChainsTo, prev_of, link_of, next_at, prev_at, link_at, is_there, content_of, content_at, IsSpareList, IsRing, listed, IsJoined, ring_list, IsOwned, AreLinked, HasContent, IsThere}
 use Rattle.lhm_ring.specs.Ring.{State, state, held, IsHeld, Held, SplitAround}
 use Rattle.lhm_ring.specs.Pointer.{target}
 
@@ -28,7 +28,7 @@ module _ {B : Type 0} {cs ds es fs : List (Cell Links B)} {ps : List Ptr} {spare
     (r : IsRing cs ps spare (p ∷ ss)) (o : OnlyAt cs ds p) (k : IsJoined ds es (prev_at cs null_ptr) p) (l : IsJoined es fs p null_ptr)
     {t : Held B} (c : content_at ds p ≡ Some t) where
   abbrev T : Ptr → Type 0
-  T q = is_there cs q ≡ true
+  T q = IsThere cs q
 
   IsFresh-row : IsFresh p (null_ptr ∷ ps)
   IsFresh-row = let f = IsFresh-middle (null_ptr ∷ ps) p ss r.apart in (f.0, AllByRecursion-left (λ q. same_ptr p q ≡ false) ps ss f.1)
@@ -166,12 +166,12 @@ Filled-node e nodes t none b {l} el free nowhere {c₁} {c₂} is₁ is₂ =
 
 module _ {B : Type 0} {cs : List (Cell Links B)} {p : Ptr} {v : State B} {n m total : ℕ} (r : Ready cs p v n m total) where
   pub IsAt-spare : IsAt cs p
-  IsAt-spare = IsAt-there cs p (AllByRecursion-right (λ q. is_there cs q ≡ true) r.row (p ∷ r.others) r.ring.there.1).0
+  IsAt-spare = IsAt-there cs p (AllByRecursion-right (IsThere cs) r.row (p ∷ r.others) r.ring.there.1).0
 
   module _ {ds : List (Cell Links B)} {l : Links} {t : Held B} (f : Filled cs ds p l t) where
-    pub is_there-filled : (is_there ds (prev_at cs null_ptr) ≡ true) × (is_there ds p ≡ true)
+    pub is_there-filled : (IsThere ds (prev_at cs null_ptr)) × (IsThere ds p)
     is_there-filled =
-        let T : Ptr → Type 0 = λ q. is_there cs q ≡ true in
+        let T : Ptr → Type 0 = λ q. IsThere cs q in
         let last : T (prev_at cs null_ptr) = subst T (sym (RowCut-linked cs null_ptr r.row null_ptr [] r.ring.linked).edge.1) (AllByRecursion-last T null_ptr r.row r.ring.there.0 (AllByRecursion-left T r.row (p ∷ r.others) r.ring.there.1)) in
         (f.only.there (prev_at cs null_ptr) ∙ last, f.only.there p ∙ (AllByRecursion-right T r.row (p ∷ r.others) r.ring.there.1).0)
 

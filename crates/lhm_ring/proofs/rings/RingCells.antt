@@ -12,7 +12,7 @@ use Rattle.lhm_ring.proofs.lists.Options.{none_some, Some-injective}
 use Rattle.lhm_ring.proofs.rings.SameNodes.{IsSpareList-same, SameLink}
 use Rattle.lhm_ring.proofs.rings.Writes.{IsAt-there}
 use Rattle.lhm_ring.specs.Nodes.{Cell, cell, same_ptr, pointers, cell_at, links_of, body_of, links_at, body_at, change, with_links, with_body, is_block, AreBlocks, IsAt, Holds}
-use Rattle.lhm_ring.specs.Links.{ends_links, ring_cells, leading_on, leading_back, LeadsOn, LeadsBack, chaining_to, ChainsTo, has_links, next_of, prev_of, next_at, prev_at, is_there, content_at, content_of, AreLinked, IsSpareList, HasContent, listed, one_of, IsJoined, IsRing, IsOwned, link_of}
+use Rattle.lhm_ring.specs.Links.{ends_links, ring_cells, leading_on, leading_back, LeadsOn, LeadsBack, chaining_to, ChainsTo, has_links, next_of, prev_of, next_at, prev_at, is_there, content_at, content_of, AreLinked, IsSpareList, HasContent, listed, one_of, IsJoined, IsRing, IsOwned, link_of, IsThere}
 use Rattle.lhm_ring.specs.Pointer.{led_to, target}
 
 -- where a link leads
@@ -43,7 +43,7 @@ module _ {B : Type 0} (e : Ends) (cs : List (Cell Links B)) where
   unfolding cell_at
   links_at-null = refl
 
-  pub is_there-null : is_there (ring_cells e cs) null_ptr ≡ true
+  pub is_there-null : IsThere (ring_cells e cs) null_ptr
   is_there-null = ap has_links links_at-null
 
   pub next_at-null : next_at (ring_cells e cs) null_ptr ≡ e.first.ptr
@@ -105,7 +105,7 @@ module _ {B : Type 0} (e : Ends) (cs : List (Cell Links B)) (p : Ptr) (b : is_bl
 
 -- a node that is there, and is not the one at null, lies in a block
 module _ {B : Type 0} (e : Ends) (cs : List (Cell Links B)) (all : AreBlocks (pointers cs)) where
-  pub is_block-there : (p : Ptr) → same_ptr null_ptr p ≡ false → is_there (ring_cells e cs) p ≡ true → is_block p ≡ true
+  pub is_block-there : (p : Ptr) → same_ptr null_ptr p ≡ false → IsThere (ring_cells e cs) p → is_block p ≡ true
   unfolding cell_at
   is_block-there (block_ptr c o) f h = let l = IsAt-there cs (block_ptr c o) h in AllByRecursion-at (λ q. is_block q ≡ true) cs (block_ptr c o) l.0 all l.1
   is_block-there null_ptr f h = cc
@@ -147,7 +147,7 @@ module _ {B : Type 0} (e : Ends) (cs : List (Cell Links B)) where
   pub IsSpareList-in_ring : (h : Option Ptr) (ss : List Ptr) → AllByRecursion Apart ss → IsSpareList cs h ss → IsSpareList (ring_cells e cs) h ss
   IsSpareList-in_ring h ss f = IsSpareList-same cs (ring_cells e cs) h ss (AllByRecursion-map Apart (SameLink cs (ring_cells e cs)) (λ p n. ap (λ z. link_of (links_of z)) (cell_at-apart p n)) ss f)
 
-  pub AllByRecursion-there_in_nodes : (ps : List Ptr) → AllByRecursion Apart ps → AllByRecursion (λ p. is_there (ring_cells e cs) p ≡ true) ps → AllByRecursion (λ p. is_there cs p ≡ true) ps
+  pub AllByRecursion-there_in_nodes : (ps : List Ptr) → AllByRecursion Apart ps → AllByRecursion (IsThere (ring_cells e cs)) ps → AllByRecursion (IsThere cs) ps
   AllByRecursion-there_in_nodes [] f h = tt
   AllByRecursion-there_in_nodes (p ∷ ps) f h = (sym (ap (λ z. has_links (links_of z)) (cell_at-apart p f.0)) ∙ h.0, AllByRecursion-there_in_nodes ps f.1 h.1)
 

@@ -6,7 +6,7 @@ use Rattle.lhm_ring.specs.declared.pointer.Link.{Link}
 use Rattle.lhm_ring.specs.declared.ring.Links.{Links}
 use Rattle.lhm_ring.proofs.lists.ListFacts.{AllByRecursion-map}
 use Rattle.lhm_ring.specs.Nodes.{Cell}
-use Rattle.lhm_ring.specs.Links.{next_at, prev_at, link_at, is_there, AreLinked, IsSpareList, HasContent, IsRing, follow, IsOwned}
+use Rattle.lhm_ring.specs.Links.{next_at, prev_at, link_at, is_there, AreLinked, IsSpareList, HasContent, IsRing, follow, IsOwned, IsThere}
 use Rattle.lhm_ring.specs.Pointer.{target}
 
 module _ {B : Type 0} (cs ds : List (Cell Links B)) where
@@ -35,7 +35,7 @@ module _ {B : Type 0} (cs ds : List (Cell Links B)) where
           linked = AreLinked-same (null_ptr ∷ (ps ++ null_ptr ∷ [])) r.linked;
           chained = IsSpareList-same spare ss links r.chained;
           held = held;
-          there = AllByRecursion-map (λ q. is_there cs q ≡ true) (λ q. is_there ds q ≡ true) (λ q h. there q ∙ h) (null_ptr ∷ (ps ++ ss)) r.there;
+          there = AllByRecursion-map (IsThere cs) (IsThere ds) (λ q h. there q ∙ h) (null_ptr ∷ (ps ++ ss)) r.there;
           apart = r.apart;
           count = count ∙ r.count;
         }

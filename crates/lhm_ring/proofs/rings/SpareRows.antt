@@ -14,7 +14,7 @@ use Rattle.lhm_ring.proofs.rings.SameNodes.{AreLinked-same}
 use Rattle.lhm_ring.proofs.rings.Spans.{AreLinked-tail}
 use Rattle.lhm_ring.proofs.rings.Writes.{cell_at-change_other, length-change, reader-with_links_same, links_at-with_links, body_at-with_links}
 use Rattle.lhm_ring.specs.Nodes.{Cell, cell, cell_at, same_ptr, links_of, body_of, links_at, body_at, IsApart, with_links}
-use Rattle.lhm_ring.specs.Links.{ends_links, ring_cells, chaining_to, next_of, prev_of, link_of, has_links, next_at, link_at, is_there, content_of, AreLinked, IsSpareList, one_of}
+use Rattle.lhm_ring.specs.Links.{ends_links, ring_cells, chaining_to, next_of, prev_of, link_of, has_links, next_at, link_at, is_there, content_of, AreLinked, IsSpareList, one_of, IsThere}
 use Rattle.lhm_ring.specs.Ring.{Held, triples}
 use Rattle.lhm_ring.specs.Drain.{onto, StartsAt, triple_of, SameButLinks, IsRow, HasRow, SparesRow}
 use Rattle.lhm_ring.specs.Pointer.{target}
@@ -81,7 +81,7 @@ module _ {B : Type 0} where
           long = omega arith;
           linked = AreLinked-same cs after same.next same.prev rs (AreLinked-tail cs at.ptr rs linked);
           starts = subst (StartsAt rs) (ap next_of ea ∙ sym is) (StartsAt-next cs at.ptr rs linked);
-          there = AllByRecursion-map (λ q. is_there cs q ≡ true) (λ q. is_there after q ≡ true) (λ q h. same.there q ∙ h) rs r.there.1;
+          there = AllByRecursion-map (IsThere cs) (IsThere after) (λ q h. same.there q ∙ h) rs r.there.1;
           apart = IsApart-inserted rs at.ptr ss free (IsApart-tail p (rs ++ ss) r.apart);
           chained = (
             refl,
@@ -106,11 +106,11 @@ module _ {B : Type 0} where
     pub SparesRow-step : (ds : List (Cell Links B)) (s : Option Ptr) → 0 < n → SparesRow after next (n - 1) (Some at.ptr) ds s → SparesRow cs at.ptr n (target spare) ds s
     SparesRow-step ds s h k ps ss r = then_all ds s h k ps ss r
 
-  is_there-first : (cs : List (Cell Links B)) (at : NodePointer) (n : ℕ) (spare : Option Ptr) (ps ss : List Ptr) → 0 < n → IsRow cs at.ptr n spare ps ss → is_there cs at.ptr ≡ true
+  is_there-first : (cs : List (Cell Links B)) (at : NodePointer) (n : ℕ) (spare : Option Ptr) (ps ss : List Ptr) → 0 < n → IsRow cs at.ptr n spare ps ss → IsThere cs at.ptr
   is_there-first cs at n spare [] ss h r = let long = r.long in absurd (omega arith)
-  is_there-first cs at n spare (p ∷ ps) ss h r = subst (λ q. is_there cs q ≡ true) r.starts r.there.0
+  is_there-first cs at n spare (p ∷ ps) ss h r = subst (IsThere cs) r.starts r.there.0
 
-  pub is_there-row : (cs : List (Cell Links B)) (at : NodePointer) (n : ℕ) (spare : Option Ptr) → 0 < n → HasRow cs at.ptr n spare → is_there cs at.ptr ≡ true
+  pub is_there-row : (cs : List (Cell Links B)) (at : NodePointer) (n : ℕ) (spare : Option Ptr) → 0 < n → HasRow cs at.ptr n spare → IsThere cs at.ptr
   is_there-row cs at n spare h r = is_there-first cs at n spare r.pointers r.spare_pointers h r.row
 
   SameButLinks-all : (cs : List (Cell Links B)) → SameButLinks cs cs

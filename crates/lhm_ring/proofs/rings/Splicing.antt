@@ -15,7 +15,7 @@ use Rattle.lhm_ring.proofs.rings.SameNodes.{AreLinked-same}
 use Rattle.lhm_ring.proofs.rings.Spans.{last_pointer-last_from, AreLinked-tail, pointers_from-span}
 use Rattle.lhm_ring.proofs.rings.SpareRows.{AllByRecursion-onto, IsApart-onto, SameButLinks-in_ring, length-onto, StartsAt-next, some_still, one_triple, triples-one_of}
 use Rattle.lhm_ring.specs.Nodes.{Cell, same_ptr}
-use Rattle.lhm_ring.specs.Links.{ring_cells, next_at, prev_at, is_there, content_at, AreLinked, IsSpareList, HasContent, IsRing, IsJoined, listed, HasEnds, span_triples, IsSpan, ring_list, IsOwned}
+use Rattle.lhm_ring.specs.Links.{ring_cells, next_at, prev_at, is_there, content_at, AreLinked, IsSpareList, HasContent, IsRing, IsJoined, listed, HasEnds, span_triples, IsSpan, ring_list, IsOwned, IsThere}
 use Rattle.lhm_ring.specs.Ring.{triples}
 use Rattle.lhm_ring.specs.Drain.{onto, StartsAt, triple_of, SameButLinks, IsRow, HasRow, SparesRow}
 use Rattle.lhm_ring.specs.Pointer.{target}
@@ -25,30 +25,36 @@ module _ {B : Type 0} (e : Ends) (nodes : List (Cell Links B)) {spare : Link} {n
   abbrev cs : List (Cell Links B)
   cs = ring_cells e nodes
 
-  cut : AreLinked cs (null_ptr ∷ o.held_pointers) × (prev_at cs null_ptr ≡ last_from null_ptr o.held_pointers)
-  cut = let k = RowCut-linked cs null_ptr o.held_pointers null_ptr [] o.ring.linked in (k.before, k.edge.1)
+  abbrev ps : List Ptr
+  ps = o.held_pointers
 
-  IsFresh-all : IsFresh null_ptr (o.held_pointers ++ o.spare_pointers)
-  IsFresh-all = IsFresh-head null_ptr (o.held_pointers ++ o.spare_pointers) o.ring.apart
+  abbrev ss : List Ptr
+  ss = o.spare_pointers
 
-  IsFresh-row : IsFresh null_ptr o.held_pointers
-  IsFresh-row = AllByRecursion-left (λ q. same_ptr null_ptr q ≡ false) o.held_pointers o.spare_pointers IsFresh-all
+  cut : AreLinked cs (null_ptr ∷ ps) × (prev_at cs null_ptr ≡ last_from null_ptr ps)
+  cut = let k = RowCut-linked cs null_ptr ps null_ptr [] o.ring.linked in (k.before, k.edge.1)
 
-  IsFresh-spares : IsFresh null_ptr o.spare_pointers
-  IsFresh-spares = AllByRecursion-right (λ q. same_ptr null_ptr q ≡ false) o.held_pointers o.spare_pointers IsFresh-all
+  IsFresh-all : IsFresh null_ptr (ps ++ ss)
+  IsFresh-all = IsFresh-head null_ptr (ps ++ ss) o.ring.apart
 
-  IsRow-whole : {f : Ptr} → f ≡ e.first.ptr → IsRow nodes f n (target spare) o.held_pointers o.spare_pointers
+  IsFresh-row : IsFresh null_ptr ps
+  IsFresh-row = AllByRecursion-left (λ q. same_ptr null_ptr q ≡ false) ps ss IsFresh-all
+
+  IsFresh-spares : IsFresh null_ptr ss
+  IsFresh-spares = AllByRecursion-right (λ q. same_ptr null_ptr q ≡ false) ps ss IsFresh-all
+
+  IsRow-whole : {f : Ptr} → f ≡ e.first.ptr → IsRow nodes f n (target spare) ps ss
   IsRow-whole is = record {
     long = o.held_count;
-    linked = AreLinked-in_nodes e nodes o.held_pointers IsFresh-row (AreLinked-tail cs null_ptr o.held_pointers cut.0);
-    starts = subst (StartsAt o.held_pointers) (next_at-null e nodes ∙ sym is) (StartsAt-next cs null_ptr o.held_pointers cut.0);
-    there = AllByRecursion-there_in_nodes e nodes o.held_pointers IsFresh-row (AllByRecursion-left (λ q. is_there cs q ≡ true) o.held_pointers o.spare_pointers o.ring.there.1);
-    apart = IsApart-tail null_ptr (o.held_pointers ++ o.spare_pointers) o.ring.apart;
-    chained = IsSpareList-in_nodes e nodes (target spare) o.spare_pointers IsFresh-spares o.ring.chained;
+    linked = AreLinked-in_nodes e nodes ps IsFresh-row (AreLinked-tail cs null_ptr ps cut.0);
+    starts = subst (StartsAt ps) (next_at-null e nodes ∙ sym is) (StartsAt-next cs null_ptr ps cut.0);
+    there = AllByRecursion-there_in_nodes e nodes ps IsFresh-row (AllByRecursion-left (IsThere cs) ps ss o.ring.there.1);
+    apart = IsApart-tail null_ptr (ps ++ ss) o.ring.apart;
+    chained = IsSpareList-in_nodes e nodes (target spare) ss IsFresh-spares o.ring.chained;
   }
 
   pub HasRow-ring : {f : Ptr} → f ≡ e.first.ptr → HasRow nodes f n (target spare)
-  HasRow-ring is = record { pointers = o.held_pointers; spare_pointers = o.spare_pointers; row = IsRow-whole is }
+  HasRow-ring is = record { pointers = ps; spare_pointers = ss; row = IsRow-whole is }
 
   HasEnds-ring : (rs : List Ptr) → AreLinked cs (null_ptr ∷ rs) → prev_at cs null_ptr ≡ last_from null_ptr rs → HasEnds rs (next_at cs null_ptr) (prev_at cs null_ptr)
   HasEnds-ring [] k e = tt
@@ -58,8 +64,8 @@ module _ {B : Type 0} (e : Ends) (nodes : List (Cell Links B)) {spare : Link} {n
     abbrev ds : List (Cell Links B)
     ds = ring_cells e zs
 
-    spared : SameButLinks nodes zs × IsSpareList zs (target h) (onto o.held_pointers o.spare_pointers)
-    spared = s o.held_pointers o.spare_pointers (IsRow-whole is)
+    spared : SameButLinks nodes zs × IsSpareList zs (target h) (onto ps ss)
+    spared = s ps ss (IsRow-whole is)
 
     same : SameButLinks cs ds
     same = SameButLinks-in_ring e nodes zs spared.0
@@ -68,27 +74,27 @@ module _ {B : Type 0} (e : Ends) (nodes : List (Cell Links B)) {spare : Link} {n
     HasContent-still q k = some_still (content_at ds q) k.0 (same.triple q ∙ ap triple_of k.1)
 
     module _ {es : List (Cell Links B)} (j : IsJoined ds es null_ptr null_ptr) where
-      AllByRecursion-there : AllByRecursion (λ q. is_there es q ≡ true) (null_ptr ∷ onto o.held_pointers o.spare_pointers)
+      AllByRecursion-there : AllByRecursion (IsThere es) (null_ptr ∷ onto ps ss)
       AllByRecursion-there =
-          let T : Ptr → Type 0 = λ q. is_there es q ≡ true in
-          let on : (qs : List Ptr) → AllByRecursion (λ q. is_there cs q ≡ true) qs → AllByRecursion T qs = AllByRecursion-map (λ q. is_there cs q ≡ true) T (λ q k. j.there q ∙ same.there q ∙ k) in
-          (j.there null_ptr ∙ is_there-null e zs, AllByRecursion-onto T o.held_pointers o.spare_pointers (on o.held_pointers (AllByRecursion-left (λ q. is_there cs q ≡ true) o.held_pointers o.spare_pointers o.ring.there.1)) (on o.spare_pointers (AllByRecursion-right (λ q. is_there cs q ≡ true) o.held_pointers o.spare_pointers o.ring.there.1)))
+          let T : Ptr → Type 0 = λ q. IsThere es q in
+          let on : (qs : List Ptr) → AllByRecursion (IsThere cs) qs → AllByRecursion T qs = AllByRecursion-map (IsThere cs) T (λ q k. j.there q ∙ same.there q ∙ k) in
+          (j.there null_ptr ∙ is_there-null e zs, AllByRecursion-onto T ps ss (on ps (AllByRecursion-left (IsThere cs) ps ss o.ring.there.1)) (on ss (AllByRecursion-right (IsThere cs) ps ss o.ring.there.1)))
 
-      IsRing-empty : IsRing es [] (target h) (onto o.held_pointers o.spare_pointers)
+      IsRing-empty : IsRing es [] (target h) (onto ps ss)
       IsRing-empty = record {
         linked = (AreNeighbours-made j, tt);
-        chained = IsSpareList-unchanged j (target h) (onto o.held_pointers o.spare_pointers) (IsSpareList-in_ring e zs (target h) (onto o.held_pointers o.spare_pointers) (AllByRecursion-onto (λ q. same_ptr null_ptr q ≡ false) o.held_pointers o.spare_pointers IsFresh-row IsFresh-spares) spared.1);
+        chained = IsSpareList-unchanged j (target h) (onto ps ss) (IsSpareList-in_ring e zs (target h) (onto ps ss) (AllByRecursion-onto (λ q. same_ptr null_ptr q ≡ false) ps ss IsFresh-row IsFresh-spares) spared.1);
         held = tt;
         there = AllByRecursion-there;
-        apart = IsApart-onto null_ptr o.held_pointers o.spare_pointers o.ring.apart;
-        count = let long = length-onto o.held_pointers o.spare_pointers in let all = j.count ∙ same.count ∙ o.ring.count in omega arith;
+        apart = IsApart-onto null_ptr ps ss o.ring.apart;
+        count = let long = length-onto ps ss in let all = j.count ∙ same.count ∙ o.ring.count in omega arith;
       }
 
       pub IsOwned-spliced : IsOwned es h 0 (m + n)
-      IsOwned-spliced = let a = o.held_count in let b = o.enough_spares in let c = o.bounded in let l = length-onto o.held_pointers o.spare_pointers in
+      IsOwned-spliced = let a = o.held_count in let b = o.enough_spares in let c = o.bounded in let l = length-onto ps ss in
           record {
             held_pointers = [];
-            spare_pointers = onto o.held_pointers o.spare_pointers;
+            spare_pointers = onto ps ss;
             ring = IsRing-empty;
             held_count = refl;
             enough_spares = omega arith;
@@ -103,17 +109,17 @@ module _ {B : Type 0} (e : Ends) (nodes : List (Cell Links B)) {spare : Link} {n
       AvoidsTarget-null [] f = tt
       AvoidsTarget-null (r ∷ rs) f = f.1
 
-      AreLinked-spliced : AreLinked es o.held_pointers
-      AreLinked-spliced = AreLinked-unchanged j o.held_pointers (AvoidsSource-null o.held_pointers IsFresh-row) (AvoidsTarget-null o.held_pointers IsFresh-row) (AreLinked-same cs ds same.next same.prev o.held_pointers (AreLinked-tail cs null_ptr o.held_pointers cut.0))
+      AreLinked-spliced : AreLinked es ps
+      AreLinked-spliced = AreLinked-unchanged j ps (AvoidsSource-null ps IsFresh-row) (AvoidsTarget-null ps IsFresh-row) (AreLinked-same cs ds same.next same.prev ps (AreLinked-tail cs null_ptr ps cut.0))
 
       pub IsSpan-spliced : IsSpan es (next_at cs null_ptr) (prev_at cs null_ptr) n
       IsSpan-spliced = record {
-        pointers = o.held_pointers;
+        pointers = ps;
         count = o.held_count;
         linked = AreLinked-spliced;
-        ends = HasEnds-ring o.held_pointers cut.0 cut.1;
-        held = AllByRecursion-map (HasContent cs) (HasContent es) (λ q k. let d = HasContent-still q k in (d.0, j.content q ∙ d.1)) o.held_pointers o.ring.held;
-        apart = IsApart-left o.held_pointers o.spare_pointers (IsApart-tail null_ptr (o.held_pointers ++ o.spare_pointers) o.ring.apart);
+        ends = HasEnds-ring ps cut.0 cut.1;
+        held = AllByRecursion-map (HasContent cs) (HasContent es) (λ q k. let d = HasContent-still q k in (d.0, j.content q ∙ d.1)) ps o.ring.held;
+        apart = IsApart-left ps ss (IsApart-tail null_ptr (ps ++ ss) o.ring.apart);
       }
 
       triples-same : (rs : List Ptr) → triples (listed ds rs) ≡ triples (listed cs rs)
@@ -124,5 +130,5 @@ module _ {B : Type 0} (e : Ends) (nodes : List (Cell Links B)) {spare : Link} {n
       pub span_triples-spliced : span_triples es n (next_at cs null_ptr) ≡ triples (ring_list cs n)
       unfolding IsSpan-spliced
       span_triples-spliced =
-          ap (λ qs. triples (listed es qs)) (pointers_from-span IsSpan-spliced) ∙ ap triples (listed-unchanged j o.held_pointers) ∙ triples-same o.held_pointers
+          ap (λ qs. triples (listed es qs)) (pointers_from-span IsSpan-spliced) ∙ ap triples (listed-unchanged j ps) ∙ triples-same ps
           ∙ ap triples (sym (ring_list-listed o.ring o.held_count))

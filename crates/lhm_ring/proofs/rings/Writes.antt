@@ -6,7 +6,7 @@ use Rattle.lhm_ring.specs.declared.ring.Links.{Links}
 use Rattle.lhm_ring.proofs.lists.Apart.{same_ptr-equal}
 use Rattle.lhm_ring.proofs.lists.Options.{none_some, Some-injective}
 use Rattle.lhm_ring.specs.Nodes.{Cell, cell, same_ptr, cell_at, links_of, body_of, links_at, body_at, IsAt, change, with_links}
-use Rattle.lhm_ring.specs.Links.{leading_on, leading_back, LeadsOn, LeadsBack, next_of, prev_of, link_of, has_links, is_there, content_of, content_at, IsJoined}
+use Rattle.lhm_ring.specs.Links.{leading_on, leading_back, LeadsOn, LeadsBack, next_of, prev_of, link_of, has_links, is_there, content_of, content_at, IsJoined, IsThere}
 use Rattle.lhm_ring.specs.Ring.{Held}
 use Rattle.lhm_ring.specs.Pointer.{target}
 
@@ -103,15 +103,15 @@ there_is None e = absurd cc
 there_is (Some l) e = (l, refl)
 
 module _ {B : Type 0} where
-  pub IsAt-there : (cs : List (Cell Links B)) (p : Ptr) → is_there cs p ≡ true → IsAt cs p
+  pub IsAt-there : (cs : List (Cell Links B)) (p : Ptr) → IsThere cs p → IsAt cs p
   IsAt-there cs p e = there_is (links_at cs p) e
 
   -- a node, if another one leads on to a third
-  pub is_there-leading_on : (cs : List (Cell Links B)) {ds : List (Cell Links B)} (p : Ptr) (o : Link) → is_there cs p ≡ true → LeadsOn cs p o ds → (q : Ptr) → is_there cs q ≡ true → is_there ds q ≡ true
+  pub is_there-leading_on : (cs : List (Cell Links B)) {ds : List (Cell Links B)} (p : Ptr) (o : Link) → IsThere cs p → LeadsOn cs p o ds → (q : Ptr) → IsThere cs q → IsThere ds q
   is_there-leading_on cs {ds} p o h k q t =
       let a = IsAt-there cs p h in ap (λ es. is_there es q) (k a.0 a.1) ∙ reader-with_links_same p (leading_on o a.0) cs a.1 has_links refl q ∙ t
 
-  pub IsJoined-writes : {cs es ds : List (Cell Links B)} (a b : Link) → is_there cs a.ptr ≡ true → is_there cs b.ptr ≡ true → LeadsOn cs a.ptr b es → LeadsBack es b.ptr a ds
+  pub IsJoined-writes : {cs es ds : List (Cell Links B)} (a b : Link) → IsThere cs a.ptr → IsThere cs b.ptr → LeadsOn cs a.ptr b es → LeadsBack es b.ptr a ds
       → IsJoined cs ds a.ptr b.ptr
   IsJoined-writes {cs} {es} {ds} a b ha hb on back =
       let la = IsAt-there cs a.ptr ha in let lb = IsAt-there es b.ptr (is_there-leading_on cs a.ptr b ha on b.ptr hb) in

@@ -4,7 +4,7 @@ use Rattle.lhm_ring.proofs.rings.RingCells.{is_there-null, next_at-null, prev_at
 use Rattle.lhm_ring.proofs.rings.RingSpans.{IsSpan-in_nodes, listed-span}
 use Rattle.lhm_ring.proofs.rings.Splicing.{HasRow-ring, IsOwned-spliced, IsSpan-spliced, span_triples-spliced}
 use Rattle.lhm_ring.proofs.drain.splice.Goals as goal
-use Rattle.lhm_ring.specs.Links.{ring_cells, is_there, span_triples, IsSpan}
+use Rattle.lhm_ring.specs.Links.{ring_cells, is_there, span_triples, IsSpan, IsThere}
 use Rattle.lhm_ring.specs.Ring.{triples}
 
 pub spare_row-spare-requires : goal.spare_row-spare-requires
@@ -13,7 +13,7 @@ spare_row-spare-requires g c = let a = c.args in HasRow-ring a.ends.now a.nodes.
 pub join-requires : goal.join-requires
 join-requires g c =
     let e = c.args.ends.now in let zs = c.spare_row-spare.new.nodes.cells in let there = is_there-null e zs in
-    (subst (λ q. is_there (ring_cells e zs) q ≡ true) (sym (led_to-none c.none.result.ptr c.none.ensures)) there, subst (λ q. is_there (ring_cells e zs) q ≡ true) (sym (led_to-none c.none-2.result.ptr c.none-2.ensures)) there)
+    (subst (IsThere (ring_cells e zs)) (sym (led_to-none c.none.result.ptr c.none.ensures)) there, subst (IsThere (ring_cells e zs)) (sym (led_to-none c.none-2.result.ptr c.none-2.ensures)) there)
 
 pub returns-clause-spliced : goal.returns-clause-spliced
 returns-clause-spliced g c m ok =

@@ -5,7 +5,7 @@ use Rattle.lhm_ring.proofs.rings.ReadAtPosition.{IsAt-held}
 use Rattle.lhm_ring.proofs.rings.HeldPointers.{IsApart-held}
 use Rattle.lhm_ring.proofs.memory.Places.{IsLaid-same}
 use Rattle.lhm_ring.proofs.ring.Ring.move_to_back.Goals as goal
-use Rattle.lhm_ring.specs.Links.{ring_cells, is_there}
+use Rattle.lhm_ring.specs.Links.{ring_cells, is_there, IsThere}
 
 pub links-links-requires : goal.links-links-requires
 links-links-requires g c =
@@ -22,8 +22,8 @@ join-requires-2 g c =
     let i = c.self.inside in let p = c.args.at.pointer.ptr in let ds = ring_cells c.join.new.ends c.join.new.nodes.cells in
     let e = links_at-ring_cells i.ends i.nodes.cells p c.args.at.block ∙ c.links-links.ensures in
     let t = is_there-moving c.self.invariant.ring c.self.view_is p e c.join.ensures.joined c.requires in (
-      subst (λ q. is_there ds q ≡ true) (prev_at-null c.join.new.ends c.join.new.nodes.cells) t.0,
-      subst (λ q. is_there ds q ≡ true) (sym (led_to-some c.to-moved.result.ptr p c.to-moved.ensures)) t.1,
+      subst (IsThere ds) (prev_at-null c.join.new.ends c.join.new.nodes.cells) t.0,
+      subst (IsThere ds) (sym (led_to-some c.to-moved.result.ptr p c.to-moved.ensures)) t.1,
     )
 
 pub join-requires-3 : goal.join-requires-3
@@ -32,8 +32,8 @@ join-requires-3 g c =
     let e = links_at-ring_cells i.ends i.nodes.cells p c.args.at.block ∙ c.links-links.ensures in
     let t = is_there-moving c.self.invariant.ring c.self.view_is p e c.join.ensures.joined c.requires in
     let ends = c.join-2.new.ends in let zs = c.join-2.new.nodes.cells in (
-      c.join-2.ensures.joined.there c.to-moved.result.ptr ∙ subst (λ q. is_there ds q ≡ true) (sym (led_to-some c.to-moved.result.ptr p c.to-moved.ensures)) t.1,
-      subst (λ q. is_there (ring_cells ends zs) q ≡ true) (sym (led_to-none c.none.result.ptr c.none.ensures)) (is_there-null ends zs),
+      c.join-2.ensures.joined.there c.to-moved.result.ptr ∙ subst (IsThere ds) (sym (led_to-some c.to-moved.result.ptr p c.to-moved.ensures)) t.1,
+      subst (IsThere (ring_cells ends zs)) (sym (led_to-none c.none.result.ptr c.none.ensures)) (is_there-null ends zs),
     )
 
 pub invariant_of-self : goal.invariant_of-self
