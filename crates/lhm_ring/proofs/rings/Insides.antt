@@ -1,12 +1,18 @@
--- What the fields of a ring say of its counts.
-use Rattle.std.proofs.Common.{◌≡◌, ◌∙◌, ℕ, ◌+◌, ◌≤◌, ◌^◌, length, sym, ap, arith}
+-- What the fields of a ring say of its counts, and of what its nodes hold.
+use Rattle.std.proofs.Common.{◌≡◌, ◌∙◌, ℕ, List, Some, true, ◌+◌, ◌≤◌, ◌^◌, length, sym, ap, arith}
 use Rattle.std.specs.Prelude.{min}
 use Rattle.lhm_ring.specs.declared.ring.Ring.TheInside.{Inside}
 use Rattle.lhm_ring.proofs.memory.Places.{length-made}
 use Rattle.lhm_ring.proofs.rings.RingNodes.{length-held}
 use Rattle.lhm_ring.proofs.rings.Stacking.{IsOwned-raised}
+use Rattle.lhm_ring.proofs.rings.ContentChange.{IsOwned-revalued, ring_list-revalued}
+use Rattle.lhm_ring.proofs.rings.ReadAtPosition.{IsAt-held, Holds-held, pair-held}
+use Rattle.lhm_ring.proofs.rings.RingCells.{IsAt-in_nodes, Holds-in_nodes, body_at-ring_cells, ring_cells-with_body}
+use Rattle.lhm_ring.specs.declared.ring.Links.{Links}
+use Rattle.lhm_ring.specs.Nodes.{Cell, is_block, body_at, IsAt, Holds, with_body}
+use denote.RawPtr.{Ptr}
 use Rattle.lhm_ring.specs.Links.{ring_cells, ring_list, IsOwned, IsLaid}
-use Rattle.lhm_ring.specs.Ring.{State, state}
+use Rattle.lhm_ring.specs.Ring.{State, state, IsHeld, AtHeld, change_at, pair, revalued}
 
 -- the invariant of a ring, and what callers see of it
 abbrev pub IsWhole : {K V : Type 0} → Inside K V → Type 0
@@ -34,8 +40,7 @@ module _ {K V : Type 0} (i : Inside K V) (ok : IsWhole i) where
       → IsWhole (record i { spares = i.spares + count })
   IsWhole-raised count h =
       let all = length-cells in record {
-        ring = IsOwned-raised i.ends i.nodes.cells i.spare i.len i.spares (i.spares + count) ok.ring
-            (omega arith) (omega arith);
+        ring = IsOwned-raised ok.ring (i.spares + count) (omega arith) (omega arith);
         laid = ok.laid;
       }
 
@@ -52,3 +57,28 @@ module _ {K V : Type 0} (i : Inside K V) (ok : IsWhole i) where
       spares = ap (λ z. z.spares) w;
       nodes = ap (λ z. z.nodes) w;
     }
+
+    -- what is held lies at nodes of the ring
+    module _ {p : Ptr} (b : is_block p ≡ true) (h : IsHeld v.held p) where
+      pub IsAt-inside : IsAt i.nodes.cells p
+      IsAt-inside = IsAt-in_nodes i.ends i.nodes.cells p b (IsAt-held ok.ring w h)
+
+      pub Holds-inside : Holds i.nodes.cells p
+      Holds-inside = Holds-in_nodes i.ends i.nodes.cells p b (Holds-held ok.ring w h)
+
+      -- and its value may be written there
+      module _ {x : K × V} (e : body_at i.nodes.cells p ≡ Some x) (new : V) {ds : List (Cell Links (K × V))}
+          (is : ds ≡ with_body p (Some (pair x.0 new)) i.nodes.cells) where
+        abbrev body : body_at (ring_cells i.ends i.nodes.cells) p ≡ Some x
+        body = body_at-ring_cells i.ends i.nodes.cells p b ∙ e
+
+        pub IsOwned-set_value : IsOwned (ring_cells i.ends ds) i.spare i.len i.spares
+        IsOwned-set_value =
+            IsOwned-revalued ok.ring w h body new (ring_cells-with_body i.ends i.nodes.cells p b _ ds is)
+
+        pub ring_list-set_value : ring_list (ring_cells i.ends ds) i.len ≡ change_at p (revalued new) v.held
+        ring_list-set_value =
+            ring_list-revalued ok.ring w h body new (ring_cells-with_body i.ends i.nodes.cells p b _ ds is)
+
+    pub pair-inside : (p : Ptr) → is_block p ≡ true → {x : K × V} → body_at i.nodes.cells p ≡ Some x → AtHeld v.held p (λ xs t ys. x ≡ t.pair)
+    pair-inside p b e = pair-held ok.ring w p (body_at-ring_cells i.ends i.nodes.cells p b ∙ e)

@@ -46,6 +46,10 @@ module _ {B : Type 0} (e : Ends) (cs : List (Cell Links B)) where
   pub is_there-null : IsThere (ring_cells e cs) null_ptr
   is_there-null = ap has_links links_at-null
 
+  -- a link to nowhere leads to the ends
+  pub is_there-nowhere : (q : Ptr) → led_to q ≡ None → IsThere (ring_cells e cs) q
+  is_there-nowhere q h = subst (IsThere (ring_cells e cs)) (sym (led_to-none q h)) is_there-null
+
   pub next_at-null : next_at (ring_cells e cs) null_ptr ≡ e.first.ptr
   unfolding cell_at
   next_at-null = refl

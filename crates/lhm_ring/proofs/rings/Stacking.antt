@@ -29,6 +29,19 @@ pub record RingStacked {B : Type 0} (e : Ends) (cs ds : List (Cell Links B)) (ps
   pub count : length spare_pointers ≡ n + length ss
   pub same_list : listed (ring_cells e ds) ps ≡ listed (ring_cells e cs) ps
 
+-- more of the spare nodes are counted
+pub IsOwned-raised : {B : Type 0} {cs : List (Cell Links B)} {spare : Link} {n m : ℕ} → IsOwned cs spare n m → (k : ℕ) → suc (n + k) ≤ length cs → n + k ≤ 2 ^ 59 → IsOwned cs spare n k
+IsOwned-raised ok k enough small =
+    let a = ok.ring.count in let b = ok.held_count in
+    record {
+      held_pointers = ok.held_pointers;
+      spare_pointers = ok.spare_pointers;
+      ring = ok.ring;
+      held_count = ok.held_count;
+      enough_spares = omega arith;
+      bounded = small;
+    }
+
 module _ {B : Type 0} (e : Ends) where
   -- a ring with spare nodes more
   RingStacked-ring : (n : ℕ) (cs : List (Cell Links B)) (s : Link) (ds : List (Cell Links B)) (f : Link) (ps ss : List Ptr) → IsStacked cs s n ds f → IsApart (pointers ds) → AreBlocks (pointers ds) → IsRing (ring_cells e cs) ps (target s) ss
@@ -54,20 +67,8 @@ module _ {B : Type 0} (e : Ends) where
         same_list = ap (λ zs. listed (ring_cells e zs) ps) k.nodes_are ∙ listed-added e es p l b'.0 d' ps (target l.link) on.spare_pointers on.ring refl ∙ on.same_list;
       }
 
-  -- more of the spare nodes are counted
-  pub IsOwned-raised : (cs : List (Cell Links B)) (spare : Link) (n m k : ℕ) → IsOwned (ring_cells e cs) spare n m → n + k ≤ length cs → n + k ≤ 2 ^ 59 → IsOwned (ring_cells e cs) spare n k
-  IsOwned-raised cs spare n m k ok enough small = let a = ok.ring.count in let b = ok.held_count in
-      record {
-        held_pointers = ok.held_pointers;
-        spare_pointers = ok.spare_pointers;
-        ring = ok.ring;
-        held_count = ok.held_count;
-        enough_spares = omega arith;
-        bounded = small;
-      }
-
   -- more nodes are stacked on the spare ones
-  module _ (cs ds : List (Cell Links B)) (spare f : Link) (n m k : ℕ) (ok : IsOwned (ring_cells e cs) spare n m) (s : IsStacked cs spare k ds f) (d : IsApart (pointers ds)) (b : AreBlocks (pointers ds)) where
+  module _ (cs ds : List (Cell Links B)) {spare : Link} (f : Link) {n m : ℕ} (k : ℕ) (ok : IsOwned (ring_cells e cs) spare n m) (s : IsStacked cs spare k ds f) (d : IsApart (pointers ds)) (b : AreBlocks (pointers ds)) where
     RingStacked-held : RingStacked e cs ds ok.held_pointers ok.spare_pointers (target f) k
     RingStacked-held = RingStacked-ring k cs spare ds f ok.held_pointers ok.spare_pointers s d b ok.ring
 

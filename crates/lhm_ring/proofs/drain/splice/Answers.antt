@@ -1,6 +1,6 @@
 use Rattle.std.proofs.Common.{◌≡◌, ◌∙◌, ap, sym, subst, true}
 use denote.RawPtr.{Ptr}
-use Rattle.lhm_ring.proofs.rings.RingCells.{is_there-null, next_at-null, prev_at-null, led_to-none, IsJoined-same}
+use Rattle.lhm_ring.proofs.rings.RingCells.{is_there-nowhere, next_at-null, prev_at-null, led_to-none, IsJoined-same}
 use Rattle.lhm_ring.proofs.rings.RingSpans.{IsSpan-in_nodes, listed-span}
 use Rattle.lhm_ring.proofs.rings.Splicing.{HasRow-ring, IsOwned-spliced, IsSpan-spliced, span_triples-spliced}
 use Rattle.lhm_ring.proofs.drain.splice.Goals as goal
@@ -12,8 +12,7 @@ spare_row-spare-requires g c = let a = c.args in HasRow-ring a.ends.now a.nodes.
 
 pub join-requires : goal.join-requires
 join-requires g c =
-    let e = c.args.ends.now in let zs = c.spare_row-spare.new.nodes.cells in let there = is_there-null e zs in
-    (subst (IsThere (ring_cells e zs)) (sym (led_to-none c.none.result.ptr c.none.ensures)) there, subst (IsThere (ring_cells e zs)) (sym (led_to-none c.none-2.result.ptr c.none-2.ensures)) there)
+    let e = c.args.ends.now in let zs = c.spare_row-spare.new.nodes.cells in (is_there-nowhere e zs c.none.result.ptr c.none.ensures, is_there-nowhere e zs c.none-2.result.ptr c.none-2.ensures)
 
 pub returns-clause-spliced : goal.returns-clause-spliced
 returns-clause-spliced g c m ok =

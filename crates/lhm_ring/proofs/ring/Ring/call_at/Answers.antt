@@ -2,7 +2,8 @@ use Rattle.std.proofs.Common.{None, Some, ap, sym, subst, ◌∙◌}
 use Rattle.std.specs.Map.Calls.{CalledAtPair}
 use Rattle.lhm_ring.proofs.rings.ReadAtPosition.{Holds-held, links_at-held, pair-held}
 use Rattle.lhm_ring.proofs.memory.OneNodeChanged.{links_at-with_body}
-use Rattle.lhm_ring.proofs.rings.ContentChange.{IsOwned-revalued, ring_list-revalued, ChangesOnly-held}
+use Rattle.lhm_ring.proofs.rings.ContentChange.{ChangesOnly-held}
+use Rattle.lhm_ring.proofs.rings.Insides.{IsAt-inside, Holds-inside, pair-inside, IsOwned-set_value, ring_list-set_value}
 use Rattle.lhm_ring.proofs.rings.RingCells.{Holds-in_nodes, links_at-ring_cells, body_at-ring_cells, ring_cells-with_body}
 use Rattle.lhm_ring.proofs.tables.Retained.{with_body-twice}
 use Rattle.lhm_ring.proofs.memory.Places.{IsLaid-same}
@@ -11,45 +12,36 @@ use Rattle.lhm_ring.specs.Nodes.{links_at, with_body}
 use Rattle.lhm_ring.specs.Ring.{state, pair}
 
 pub take-key-requires : goal.take-key-requires
-take-key-requires g c =
-    let i = c.self.inside in let p = c.args.at.pointer.ptr in
-    Holds-in_nodes i.ends i.nodes.cells p c.args.at.block (Holds-held c.self.invariant.ring c.self.view_is c.requires.held)
+take-key-requires g c = Holds-inside c.self.inside c.self.invariant c.self.view_is c.args.at.block c.requires.held
 
 pub call-kept-requires : goal.call-kept-requires
 call-kept-requires g c =
-    let i = c.self.inside in let h = c.requires.held in let p = c.args.at.pointer.ptr in let b = body_at-ring_cells i.ends i.nodes.cells p c.args.at.block ∙ c.take-key.ensures.body in
-    let is = pair-held c.self.invariant.ring c.self.view_is p b h.before h.node h.after h.is h.at_is in
+    let h = c.requires.held in let is = pair-inside c.self.inside c.self.invariant c.self.view_is _ c.args.at.block c.take-key.ensures.body h.before h.node h.after h.is h.at_is in
     λ p q key value. c.requires.takes p q (key ∙ ap (λ z. z.0) is) (value ∙ ap (λ z. z.1) is)
 
 pub fill-requires : goal.fill-requires
 fill-requires g c =
-    let i = c.self.inside in let h = c.requires.held in let p = c.args.at.pointer.ptr in let zs = i.nodes.cells in
-    let l = links_at-held c.self.invariant.ring c.self.view_is h in
-    let e = sym (links_at-ring_cells i.ends zs p c.args.at.block) ∙ l.1 in
-    (l.0, ap (λ ds. links_at ds p) c.take-key.ensures.cells ∙ links_at-with_body p None zs l.0 e p ∙ e)
+    let p = c.args.at.pointer.ptr in let l = IsAt-inside c.self.inside c.self.invariant c.self.view_is c.args.at.block c.requires.held in
+    (l.0, ap (λ ds. links_at ds p) c.take-key.ensures.cells ∙ links_at-with_body p None c.self.inside.nodes.cells l.0 l.1 p ∙ l.1)
 
 pub invariant_of-self : goal.invariant_of-self
 invariant_of-self g c =
-    let i = c.self.inside in let p = c.args.at.pointer.ptr in let b = c.args.at.block in
-    let new = c.call-kept.new.value in let x = pair c.take-key.result.0 new in
-    let z = c.fill.ensures.cells ∙ ap (with_body p (Some x)) c.take-key.ensures.cells ∙ with_body-twice p x i.nodes.cells in
+    let p = c.args.at.pointer.ptr in let new = c.call-kept.new.value in let x = pair c.take-key.result.0 new in
+    let z = c.fill.ensures.cells ∙ ap (with_body p (Some x)) c.take-key.ensures.cells ∙ with_body-twice p x c.self.inside.nodes.cells in
     record {
-      ring = IsOwned-revalued c.self.invariant.ring c.self.view_is c.requires.held (body_at-ring_cells i.ends i.nodes.cells p b ∙ c.take-key.ensures.body) new
-          (ring_cells-with_body i.ends i.nodes.cells p b (Some x) c.fill.new.self.cells z);
+      ring = IsOwned-set_value c.self.inside c.self.invariant c.self.view_is c.args.at.block c.requires.held c.take-key.ensures.body new z;
       laid = IsLaid-same c.self.invariant.laid (c.fill.ensures.land.0 ∙ c.take-key.ensures.land.0) (c.fill.ensures.land.1 ∙ c.take-key.ensures.land.1);
     }
 
 pub returns-clause-called : goal.returns-clause-called
 returns-clause-called g c =
-    let i = c.self.inside in let p = c.args.at.pointer.ptr in let b = c.args.at.block in let v = c.self.view_is in
-    let new = c.call-kept.new.value in let x = pair c.take-key.result.0 new in
-    let body = body_at-ring_cells i.ends i.nodes.cells p b ∙ c.take-key.ensures.body in
-    let z = c.fill.ensures.cells ∙ ap (with_body p (Some x)) c.take-key.ensures.cells ∙ with_body-twice p x i.nodes.cells in
-    let list = ring_list-revalued c.self.invariant.ring v c.requires.held body new (ring_cells-with_body i.ends i.nodes.cells p b (Some x) c.fill.new.self.cells z) in
+    let p = c.args.at.pointer.ptr in let new = c.call-kept.new.value in let x = pair c.take-key.result.0 new in let v = c.self.view_is in
+    let z = c.fill.ensures.cells ∙ ap (with_body p (Some x)) c.take-key.ensures.cells ∙ with_body-twice p x c.self.inside.nodes.cells in
+    let list = ring_list-set_value c.self.inside c.self.invariant c.self.view_is c.args.at.block c.requires.held c.take-key.ensures.body new z in
     record {
       value = new;
-      at_pair = λ xs t ys e at. subst (λ (z : g.row.K.Denot × g.row.V.Denot). CalledAtPair g.F.FnMut c.args.keep.now z.0 z.1 c.call-kept.result new c.call-kept.new.keep)
-          (pair-held c.self.invariant.ring v p body xs t ys e at) c.call-kept.ensures;
+      at_pair = λ xs t ys h at. subst (λ (z : g.row.K.Denot × g.row.V.Denot). CalledAtPair g.F.FnMut c.args.keep.now z.0 z.1 c.call-kept.result new c.call-kept.new.keep)
+          (pair-inside c.self.inside c.self.invariant c.self.view_is p c.args.at.block c.take-key.ensures.body xs t ys h at) c.call-kept.ensures;
       new_is = λ y. state (list y) (v y).spares (v y).nodes;
     }
 

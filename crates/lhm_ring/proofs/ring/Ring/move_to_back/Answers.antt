@@ -1,16 +1,15 @@
 use Rattle.std.proofs.Common.{◌≡◌, ◌∙◌, ap, sym, subst, true}
 use Rattle.lhm_ring.proofs.rings.Moves.{is_there-beside, is_there-moving, IsOwned-moved, AtHeld-moved}
-use Rattle.lhm_ring.proofs.rings.RingCells.{IsAt-in_nodes, links_at-ring_cells, prev_at-null, is_there-null, led_to-some, led_to-none, IsJoined-same}
+use Rattle.lhm_ring.proofs.rings.RingCells.{IsAt-in_nodes, links_at-ring_cells, prev_at-null, is_there-nowhere, led_to-some, led_to-none, IsJoined-same}
 use Rattle.lhm_ring.proofs.rings.ReadAtPosition.{IsAt-held}
 use Rattle.lhm_ring.proofs.rings.HeldPointers.{IsApart-held}
 use Rattle.lhm_ring.proofs.memory.Places.{IsLaid-same}
+use Rattle.lhm_ring.proofs.rings.Insides.{IsAt-inside}
 use Rattle.lhm_ring.proofs.ring.Ring.move_to_back.Goals as goal
 use Rattle.lhm_ring.specs.Links.{ring_cells, is_there, IsThere}
 
 pub links-links-requires : goal.links-links-requires
-links-links-requires g c =
-    let i = c.self.inside in let p = c.args.at.pointer.ptr in
-    IsAt-in_nodes i.ends i.nodes.cells p c.args.at.block (IsAt-held c.self.invariant.ring c.self.view_is c.requires)
+links-links-requires g c = IsAt-inside c.self.inside c.self.invariant c.self.view_is c.args.at.block c.requires
 
 pub join-requires : goal.join-requires
 join-requires g c =
@@ -33,7 +32,7 @@ join-requires-3 g c =
     let t = is_there-moving c.self.invariant.ring c.self.view_is p e c.join.ensures.joined c.requires in
     let ends = c.join-2.new.ends in let zs = c.join-2.new.nodes.cells in (
       c.join-2.ensures.joined.there c.to-moved.result.ptr ∙ subst (IsThere ds) (sym (led_to-some c.to-moved.result.ptr p c.to-moved.ensures)) t.1,
-      subst (IsThere (ring_cells ends zs)) (sym (led_to-none c.none.result.ptr c.none.ensures)) (is_there-null ends zs),
+      is_there-nowhere c.join-2.new.ends c.join-2.new.nodes.cells c.none.result.ptr c.none.ensures,
     )
 
 pub invariant_of-self : goal.invariant_of-self

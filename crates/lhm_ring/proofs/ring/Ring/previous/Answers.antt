@@ -2,12 +2,11 @@ use Rattle.std.proofs.Common.{◌∙◌}
 use Rattle.lhm_ring.proofs.rings.Neighbours.{AtHeld-previous}
 use Rattle.lhm_ring.proofs.rings.ReadAtPosition.{IsAt-held}
 use Rattle.lhm_ring.proofs.rings.RingCells.{IsAt-in_nodes, links_at-ring_cells}
+use Rattle.lhm_ring.proofs.rings.Insides.{IsAt-inside}
 use Rattle.lhm_ring.proofs.ring.Ring.previous.Goals as goal
 
 pub links-requires : goal.links-requires
-links-requires g c =
-    let i = c.self.inside in let p = c.args.at.pointer.ptr in
-    IsAt-in_nodes i.ends i.nodes.cells p c.args.at.block (IsAt-held c.self.invariant.ring c.self.view_is c.requires)
+links-requires g c = IsAt-inside c.self.inside c.self.invariant c.self.view_is c.args.at.block c.requires
 
 pub returns : goal.returns
 returns g c xs t ys h at =

@@ -2,7 +2,7 @@ use Rattle.std.proofs.Common.{◌≡◌, ◌∙◌, ◌++◌, ◌∷◌, ◌-◌
 use denote.RawPtr.{Ptr}
 use Rattle.lhm_ring.specs.declared.pointer.NodePointer.{NodePointer}
 use Rattle.lhm_ring.proofs.rings.PutBackAndUnlink.{IsSome-spare, IsAt-spare, Ready-spare, links_at-written, Filled-node, is_there-filled, IsOwned-put_back, ring_list-put_back}
-use Rattle.lhm_ring.proofs.rings.RingCells.{IsAt-in_nodes, prev_at-null, is_there-null, led_to-some, led_to-none, IsJoined-same}
+use Rattle.lhm_ring.proofs.rings.RingCells.{IsAt-in_nodes, prev_at-null, is_there-nowhere, led_to-some, led_to-none, IsJoined-same}
 use Rattle.lhm_ring.proofs.memory.Places.{IsLaid-same}
 use Rattle.lhm_ring.proofs.ring.Ring.put_back.Goals as goal
 use Rattle.lhm_ring.specs.Links.{ring_cells, is_there, IsThere}
@@ -26,7 +26,7 @@ join-requires g c =
     let ready = Ready-spare c.self.invariant.ring c.self.view_is c.requires c.pointer-at.ensures.pointer in
     let filled = Filled-node i.ends i.nodes.cells (held at.ptr c.args.hash None (pair c.args.key c.args.value)) refl c.pointer-at.ensures.block
     c.links-old.ensures c.none.result c.none.ensures c.set_links.ensures.cells c.fill.ensures.cells in
-    let t = is_there-filled ready filled in let T : Ptr → Type 0 = λ q. IsThere (ring_cells i.ends c.fill.new.self.cells) q in
+    let t = is_there-filled ready filled in let T : Ptr → Type 0 = IsThere (ring_cells i.ends c.fill.new.self.cells) in
     (subst T (prev_at-null i.ends i.nodes.cells) t.0, subst T (sym (led_to-some i.spare.ptr at.ptr c.pointer-at.ensures.pointer)) t.1)
 
 pub join-requires-2 : goal.join-requires-2
@@ -35,10 +35,9 @@ join-requires-2 g c =
     let ready = Ready-spare c.self.invariant.ring c.self.view_is c.requires c.pointer-at.ensures.pointer in
     let filled = Filled-node i.ends i.nodes.cells (held at.ptr c.args.hash None (pair c.args.key c.args.value)) refl c.pointer-at.ensures.block
     c.links-old.ensures c.none.result c.none.ensures c.set_links.ensures.cells c.fill.ensures.cells in
-    let t = is_there-filled ready filled in let T : Ptr → Type 0 = λ q. IsThere (ring_cells i.ends c.fill.new.self.cells) q in (
+    let t = is_there-filled ready filled in let T : Ptr → Type 0 = IsThere (ring_cells i.ends c.fill.new.self.cells) in (
       c.join.ensures.joined.there i.spare.ptr ∙ subst T (sym (led_to-some i.spare.ptr at.ptr c.pointer-at.ensures.pointer)) t.1,
-      subst (IsThere (ring_cells c.join.new.ends c.join.new.nodes.cells)) (sym (led_to-none c.none-2.result.ptr c.none-2.ensures))
-          (is_there-null c.join.new.ends c.join.new.nodes.cells),
+      is_there-nowhere c.join.new.ends c.join.new.nodes.cells c.none-2.result.ptr c.none-2.ensures,
     )
 
 pub invariant_of-self : goal.invariant_of-self

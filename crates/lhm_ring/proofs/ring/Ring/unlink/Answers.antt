@@ -4,12 +4,11 @@ use Rattle.lhm_ring.proofs.rings.RingCells.{IsAt-in_nodes, Holds-in_nodes, links
 use Rattle.lhm_ring.proofs.rings.Moves.{is_there-beside}
 use Rattle.lhm_ring.proofs.rings.PutBackAndUnlink.{Holds-unlinked, IsAt-unlinked, count-held, IsOwned-unlinked, ring_list-unlinked, pair-unlinked}
 use Rattle.lhm_ring.proofs.memory.Places.{IsLaid-same}
+use Rattle.lhm_ring.proofs.rings.Insides.{IsAt-inside}
 use Rattle.lhm_ring.proofs.ring.Ring.unlink.Goals as goal
 
 pub links-old-requires : goal.links-old-requires
-links-old-requires g c =
-    let i = c.self.inside in
-    IsAt-in_nodes i.ends i.nodes.cells c.args.at.pointer.ptr c.args.at.block (IsAt-held c.self.invariant.ring c.self.view_is c.requires)
+links-old-requires g c = IsAt-inside c.self.inside c.self.invariant c.self.view_is c.args.at.block c.requires
 
 pub join-requires : goal.join-requires
 join-requires g c =
