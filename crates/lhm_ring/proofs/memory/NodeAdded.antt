@@ -8,7 +8,7 @@ use Rattle.lhm_ring.proofs.lists.ListFacts.{AllByRecursion-append, AllByRecursio
 use Rattle.lhm_ring.proofs.memory.OneNodeChanged.{AreLinked-other, IsSpareList-other, AllByRecursion-content_other, listed-other}
 use Rattle.lhm_ring.proofs.rings.RingCells.{same_ptr-null, cell_at-ring_cells}
 use Rattle.lhm_ring.specs.Nodes.{Cell, cell, cell_at, same_ptr, pointers, links_of, is_block, IsApart}
-use Rattle.lhm_ring.specs.Links.{ends_links, ring_cells, link_of, has_links, link_at, is_there, IsSpareList, IsRing, listed, IsThere}
+use Rattle.lhm_ring.specs.Links.{ends_links, ring_cells, link_of, has_links, link_at, IsSpareList, IsRing, listed, IsThere}
 
 false_true : false ≡ true → ⊥
 false_true e = cc

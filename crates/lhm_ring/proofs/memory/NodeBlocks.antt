@@ -5,12 +5,11 @@ use denote.RawPtr.{Ptr}
 use Rattle.lhm_ring.specs.declared.ring.Links.{Links}
 use Rattle.lhm_ring.specs.declared.ring.Ends.{Ends}
 use Rattle.lhm_ring.specs.declared.pointer.Link.{Link}
-use Rattle.lhm_ring.proofs.rings.Contents.{at-content_of}
+use Rattle.lhm_ring.proofs.rings.Contents.{at-content, IsAt-content}
 use Rattle.lhm_ring.proofs.rings.Lookup.{AllByRecursion-at}
 use Rattle.lhm_ring.proofs.rings.RingCells.{same_ptr-content, is_block-there}
 use Rattle.lhm_ring.proofs.rings.RingNodes.{ring_list-listed}
-use Rattle.lhm_ring.proofs.rings.Writes.{content_of-links}
-use Rattle.lhm_ring.specs.Nodes.{Cell, pointers, links_at, body_at, is_block, AreBlocks}
+use Rattle.lhm_ring.specs.Nodes.{Cell, pointers, links_at, is_block, AreBlocks}
 use Rattle.lhm_ring.specs.Links.{ring_cells, has_links, one_of, HasContent, listed, ring_list, IsOwned}
 use Rattle.lhm_ring.specs.Ring.{State, state, Held}
 
@@ -19,13 +18,13 @@ module _ {B : Type 0} (e : Ends) (nodes : List (Cell Links B)) (all : AreBlocks 
   cs = ring_cells e nodes
 
   pub is_block-content : (p : Ptr) → HasContent cs p → is_block p ≡ true
-  is_block-content p h = is_block-there e nodes all p (same_ptr-content e nodes p h) (ap has_links (content_of-links p (links_at cs p) (body_at cs p) h.0 h.1).1)
+  is_block-content p h = is_block-there e nodes all p (same_ptr-content e nodes p h) (ap has_links (IsAt-content cs p h.1).1)
 
   AreBlocks-listed : (ps : List Ptr) → AllByRecursion (HasContent cs) ps → AreBlocks (map (λ (t : Held B). t.at) (listed cs ps))
   unfolding listed
   AreBlocks-listed [] h = tt
   AreBlocks-listed (p ∷ ps) h =
-      let here : is_block h.0.0.at ≡ true = ap is_block (at-content_of p (links_at cs p) (body_at cs p) h.0.0 h.0.1) ∙ is_block-content p h.0 in
+      let here : is_block h.0.0.at ≡ true = ap is_block (at-content cs p h.0.1) ∙ is_block-content p h.0 in
       subst (λ o. AreBlocks (map (λ (t : Held B). t.at) (one_of o ++ listed cs ps))) (sym h.0.1) (here, AreBlocks-listed ps h.1)
 
   pub AreBlocks-held : (spare : Link) (n m : ℕ) (v : State B) {total : ℕ} → IsOwned cs spare n m → state (ring_list cs n) m total ≡ v → AreBlocks (map (λ (t : Held B). t.at) v.held)

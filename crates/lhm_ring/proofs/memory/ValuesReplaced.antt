@@ -6,12 +6,11 @@ use Rattle.lhm_ring.specs.declared.ring.Links.{Links}
 use Rattle.lhm_ring.specs.declared.ring.Ends.{Ends}
 use Rattle.lhm_ring.specs.declared.pointer.Link.{Link}
 use Rattle.lhm_ring.proofs.lists.Apart.{IsFresh, same_ptr-equal, same_ptr-reflexive, IsApart-none, IsFresh-head, IsApart-tail, IsApart-added}
-use Rattle.lhm_ring.proofs.rings.Contents.{at-content_of, content_of-holds, pair-content_of}
+use Rattle.lhm_ring.proofs.rings.Contents.{at-content, Holds-content, pair-content, IsAt-content}
 use Rattle.lhm_ring.proofs.rings.HeldPointers.{AllByRecursion-followed, IsApart-ring_list}
 use Rattle.lhm_ring.proofs.lists.ListFacts.{AllByRecursion-map, AllByRecursion-always}
 use Rattle.lhm_ring.proofs.lists.Options.{none_some, Some-injective}
 use Rattle.lhm_ring.proofs.rings.SameNodes.{SameLink, follow-same, IsOwned-same}
-use Rattle.lhm_ring.proofs.rings.Writes.{content_of-links}
 use Rattle.lhm_ring.specs.Nodes.{Cell, cell, cell_at, same_ptr, IsApart, pointers, links_of, body_of, links_at, body_at}
 use Rattle.lhm_ring.specs.ValueLoan.{value_at, AreLent}
 use Rattle.lhm_ring.specs.Links.{ends_links, ring_cells, one_of, next_of, prev_of, link_of, has_links, content_of, content_at, HasContent, follow, listed, ring_list, ring_pointers, IsOwned}
@@ -155,7 +154,7 @@ module _ {K V : Type 0} where
 
     HasContent-written : (q : Ptr) → HasContent cs q → HasContent ds q
     HasContent-written q h =
-        let l = content_of-links q (links_at cs q) (body_at cs q) h.0 h.1 in let y = Full-written (keep q) hs q (body_at cs q) (content_of-holds q (links_at cs q) (body_at cs q) h.0 h.1) in (
+        let l = IsAt-content cs q h.1 in let y = Full-written (keep q) hs q (body_at cs q) (Holds-content cs q h.1) in (
           held q l.0.hash (link_of (Some l.0)) y.0,
           λ i. content_of q ((same q ∙ l.1) i) ((body_at-written keep hs cs q ∙ y.1) i),
         )
@@ -232,9 +231,9 @@ module _ {K V : Type 0} where
   module _ (keep : Ptr → Bool) (cs : List (Cell Links (K × V))) where
     value_at-one_lent : (p : Ptr) (h : HasContent cs p) → keep p ≡ true → value_at (run_of (lent keep cs)) h.0.at ≡ Some h.0.pair.1
     value_at-one_lent p h k =
-        let x = content_of-holds p (links_at cs p) (body_at cs p) h.0 h.1 in
-        let same : h.0.pair ≡ x.0 = pair-content_of p (links_at cs p) x.0 h.0 (ap (λ o. content_of p (links_at cs p) o) (sym x.1) ∙ h.1) in
-        ap (value_at (run_of (lent keep cs))) (at-content_of p (links_at cs p) (body_at cs p) h.0 h.1) ∙ value_at-lent keep cs p x.0 k x.1 ∙ ap (λ (u : K × V). Some u.1) (sym same)
+        let x = Holds-content cs p h.1 in
+        let same : h.0.pair ≡ x.0 = pair-content cs p h.1 x.1 in
+        ap (value_at (run_of (lent keep cs))) (at-content cs p h.1) ∙ value_at-lent keep cs p x.0 k x.1 ∙ ap (λ (u : K × V). Some u.1) (sym same)
 
     AllByRecursion-lent : (ps : List Ptr) → AllByRecursion (HasContent cs) ps → AllByRecursion (λ p. keep p ≡ true) ps → AllByRecursion (λ t. value_at (run_of (lent keep cs)) t.at ≡ Some t.pair.1) (listed cs ps)
     unfolding listed

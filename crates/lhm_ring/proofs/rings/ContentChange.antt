@@ -1,20 +1,21 @@
 -- A ring of which only what is held at one pointer changes.
-use Rattle.std.proofs.Common.{◌≡◌, ℕ, true, false, cond, List, [], ◌∷◌, ◌++◌, length, Option, Some, None, refl, sym, ap, ◌∙◌, subst, append_assoc}
+use Rattle.std.proofs.Common.{◌≡◌, ℕ, true, false, cond, List, [], ◌∷◌, ◌++◌, length, Option, Some, None, refl, sym, ap, ◌∙◌, subst}
 use denote.RawPtr.{Ptr, null_ptr}
 use Rattle.lhm_ring.specs.declared.ring.Links.{Links}
 use Rattle.lhm_ring.specs.declared.pointer.Link.{Link}
-use Rattle.lhm_ring.proofs.lists.Apart.{IsFresh, same_ptr-equal, same_ptr-reflexive, same_ptr-symmetric, IsFresh-middle, IsFresh-head, IsApart-tail}
-use Rattle.lhm_ring.proofs.rings.Contents.{at-content_of, hash-content_of, link-content_of, pair-content_of, content_of-holds}
+use Rattle.lhm_ring.proofs.lists.Apart.{IsFresh, same_ptr-equal, same_ptr-reflexive, same_ptr-symmetric, IsFresh-head, IsApart-tail}
+use Rattle.lhm_ring.proofs.rings.Contents.{at-content, hash-content, link-content, pair-content, Holds-content}
 use Rattle.lhm_ring.proofs.rings.HeldPointers.{pointers_of, same_ptr-fresh, IsApart-ring_list}
-use Rattle.lhm_ring.proofs.lists.ListFacts.{AllByRecursion-map, AllByRecursion-right}
+use Rattle.lhm_ring.proofs.lists.ListFacts.{AllByRecursion-map}
 use Rattle.lhm_ring.proofs.memory.OneNodeChanged.{links_at-with_body, body_at-with_body}
+use Rattle.lhm_ring.proofs.rings.Moves.{IsFresh-spares}
 use Rattle.lhm_ring.proofs.rings.ReadAtPosition.{content_at-held, links_at-held, pair-held}
 use Rattle.lhm_ring.proofs.rings.RingNodes.{NodeAt-held}
 use Rattle.lhm_ring.proofs.rings.SameNodes.{SameLink, follow-same, IsOwned-same}
 use Rattle.lhm_ring.proofs.rings.Writes.{cell_at-change_other, length-change, reader-with_links_same, links_at-with_links, body_at-with_links}
 use Rattle.lhm_ring.specs.Nodes.{Cell, cell, same_ptr, links_of, body_of, links_at, body_at, IsApart, with_links, with_body}
 use Rattle.lhm_ring.specs.Links.{chaining_to, next_of, prev_of, link_of, has_links, next_at, prev_at, link_at, is_there, content_of, content_at, HasContent, follow, listed, one_of, ring_list, IsOwned}
-use Rattle.lhm_ring.specs.Ring.{State, state, Held, held, IsHeld, ChangesOnly, change_at, SplitAround, pair, revalued}
+use Rattle.lhm_ring.specs.Ring.{State, state, Held, held, IsHeld, ChangesOnly, change_at, pair, revalued}
 use Rattle.lhm_ring.specs.Pointer.{target}
 
 -- the same nodes and the same order, except that p holds u in place of t
@@ -35,19 +36,14 @@ module _ {B : Type 0} {cs ds : List (Cell Links B)} {p : Ptr} {t u : Held B} (j 
     | false ↦ λ n. (h.0, j.content q n ∙ h.1)
   ]) refl
 
-  IsFresh-spare : {spare : Link} {n m : ℕ} (ok : IsOwned cs spare n m) → SplitAround ok.held_pointers p → IsFresh p ok.spare_pointers
-  IsFresh-spare ok s =
-      let d : IsApart ((null_ptr ∷ s.before) ++ p ∷ (s.after ++ ok.spare_pointers)) = subst (λ qs. IsApart (null_ptr ∷ qs)) (ap (λ qs. qs ++ ok.spare_pointers) s.is ∙ append_assoc s.before (p ∷ s.after) ok.spare_pointers) ok.ring.apart in
-      AllByRecursion-right (λ q. same_ptr p q ≡ false) s.after ok.spare_pointers (AllByRecursion-right (λ q. same_ptr p q ≡ false) (null_ptr ∷ s.before) (s.after ++ ok.spare_pointers) (IsFresh-middle (null_ptr ∷ s.before) p (s.after ++ ok.spare_pointers) d))
-
   pub IsOwned-changed : {spare : Link} {n m : ℕ} {v : State B} {total : ℕ} → IsOwned cs spare n m → state (ring_list cs n) m total ≡ v → IsHeld v.held p → IsOwned ds spare n m
   IsOwned-changed ok w h =
       IsOwned-same cs ds j.next j.prev j.there j.count ok (AllByRecursion-map (HasContent cs) (HasContent ds) HasContent-changed ok.held_pointers ok.ring.held)
-      (AllByRecursion-map (λ q. same_ptr p q ≡ false) (SameLink cs ds) j.link ok.spare_pointers (IsFresh-spare ok (NodeAt-held ok w p h)))
+      (AllByRecursion-map (λ q. same_ptr p q ≡ false) (SameLink cs ds) j.link ok.spare_pointers (IsFresh-spares ok.ring (NodeAt-held ok w p h)))
 
   module _ (f : Held B → Held B) (fx : f t ≡ u) where
     pointer : t.at ≡ p
-    pointer = at-content_of p (links_at cs p) (body_at cs p) t j.was
+    pointer = at-content cs p j.was
 
     change_at-one : change_at p f (t ∷ []) ≡ u ∷ []
     change_at-one = ap (λ y. cond y (f t) t ∷ []) (ap (λ q. same_ptr q p) pointer ∙ same_ptr-reflexive p) ∙ ap (λ z. z ∷ []) fx
@@ -60,7 +56,7 @@ module _ {B : Type 0} {cs ds : List (Cell Links B)} {p : Ptr} {t u : Held B} (j 
     one_of-changed q = (elim (same_ptr p q) as (λ y. same_ptr p q ≡ y → one_of (content_at ds q) ≡ change_at p f (one_of (content_at cs q))) [
       | true ↦ λ s. subst (λ r. one_of (content_at ds r) ≡ change_at p f (one_of (content_at cs r))) (same_ptr-equal p q s)
           (ap one_of j.is ∙ sym (ap (λ o. change_at p f (one_of o)) j.was ∙ change_at-one))
-      | false ↦ λ n. ap one_of (j.content q n) ∙ sym (change_at-other q (content_at cs q) n (λ z h. at-content_of q (links_at cs q) (body_at cs q) z h))
+      | false ↦ λ n. ap one_of (j.content q n) ∙ sym (change_at-other q (content_at cs q) n (λ z h. at-content cs q h))
     ]) refl
 
     change_at-append : (xs ys : List (Held B)) → change_at p f (xs ++ ys) ≡ change_at p f xs ++ change_at p f ys
@@ -81,13 +77,10 @@ module _ {B : Type 0} (cs : List (Cell Links B)) (p : Ptr) {l : Links} (e : link
   content_of-some : (o : Option Links) (b : Option B) (k : Links) (x : B) → o ≡ Some k → b ≡ Some x → content_of p o b ≡ Some (held p k.hash (link_of (Some k)) x)
   content_of-some o b k x eo eb = λ i. content_of p (eo i) (eb i)
 
-  content_of-here : content_of p (Some l) (body_at cs p) ≡ Some t
-  content_of-here = ap (λ o. content_of p o (body_at cs p)) (sym e) ∙ c
-
   pub ChangesAt-with_body : (x : B) → ChangesAt cs (with_body p (Some x) cs) p t (held t.at t.hash t.link x)
   ChangesAt-with_body x =
       let same : (q : Ptr) → links_at (with_body p (Some x) cs) q ≡ links_at cs q = links_at-with_body p (Some x) cs l e in
-      let pointer : t.at ≡ p = at-content_of p (links_at cs p) (body_at cs p) t c in
+      let pointer : t.at ≡ p = at-content cs p c in
       record {
         next = λ q. ap next_of (same q);
         prev = λ q. ap prev_of (same q);
@@ -96,15 +89,15 @@ module _ {B : Type 0} (cs : List (Cell Links B)) (p : Ptr) {l : Links} (e : link
         content = λ q n. ap (λ z. content_of q (links_of z) (body_of z)) (cell_at-change_other p (λ c. cell c.at c.links (Some x)) (λ c. refl) q n cs);
         was = c;
         is = content_of-some (links_at (with_body p (Some x) cs) p) (body_at (with_body p (Some x) cs) p) l x (same p ∙ e) (body_at-with_body p (Some x) cs l e)
-            ∙ ap (λ z. Some z) (λ i. held (sym pointer i) (sym (hash-content_of p l (body_at cs p) t content_of-here) i) (sym (link-content_of p l (body_at cs p) t content_of-here) i) x);
+            ∙ ap (λ z. Some z) (λ i. held (sym pointer i) (sym (hash-content cs p c e) i) (sym (link-content cs p c e) i) x);
         count = length-change p (λ c. cell c.at c.links (Some x)) cs;
       }
 
   pub ChangesAt-with_links : (o : Link) → ChangesAt cs (with_links p (chaining_to o l) cs) p t (held t.at t.hash (target o) t.pair)
   ChangesAt-with_links o =
       let k : Links = chaining_to o l in let e₂ : links_at (with_links p k cs) p ≡ Some k = links_at-with_links p k cs e p ∙ ap (λ y. cond y (Some k) (links_at cs p)) (same_ptr-reflexive p) in
-      let pointer : t.at ≡ p = at-content_of p (links_at cs p) (body_at cs p) t c in let x = content_of-holds p (links_at cs p) (body_at cs p) t c in
-      let pair : t.pair ≡ x.0 = pair-content_of p (links_at cs p) x.0 t (ap (λ b. content_of p (links_at cs p) b) (sym x.1) ∙ c) in
+      let pointer : t.at ≡ p = at-content cs p c in let x = Holds-content cs p c in
+      let pair : t.pair ≡ x.0 = pair-content cs p c x.1 in
       record {
         next = reader-with_links_same p k cs e next_of refl;
         prev = reader-with_links_same p k cs e prev_of refl;
@@ -113,7 +106,7 @@ module _ {B : Type 0} (cs : List (Cell Links B)) (p : Ptr) {l : Links} (e : link
         content = λ q n. ap (λ z. content_of q (links_of z) (body_of z)) (cell_at-change_other p (λ c. cell c.at k c.body) (λ c. refl) q n cs);
         was = c;
         is = content_of-some (links_at (with_links p k cs) p) (body_at (with_links p k cs) p) k x.0 e₂ (body_at-with_links p k cs e p ∙ x.1)
-            ∙ ap (λ z. Some z) (λ i. held (sym pointer i) (sym (hash-content_of p l (body_at cs p) t content_of-here) i) (target o) (sym pair i));
+            ∙ ap (λ z. Some z) (λ i. held (sym pointer i) (sym (hash-content cs p c e) i) (target o) (sym pair i));
         count = length-change p (λ c. cell c.at k c.body) cs;
       }
 

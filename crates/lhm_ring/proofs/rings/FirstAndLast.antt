@@ -5,30 +5,27 @@ use denote.RawPtr.{Ptr, null_ptr}
 use Rattle.lhm_ring.specs.declared.ring.Links.{Links}
 use Rattle.lhm_ring.specs.declared.pointer.Link.{Link}
 use Rattle.lhm_ring.proofs.lists.Apart.{IsFresh-head, IsFresh}
-use Rattle.lhm_ring.proofs.rings.Contents.{at-content_of}
+use Rattle.lhm_ring.proofs.rings.Contents.{at-content}
 use Rattle.lhm_ring.proofs.lists.ListFacts.{last_from, AllByRecursion-left, AllByRecursion-last}
 use Rattle.lhm_ring.proofs.rings.RingCells.{led_to-apart}
 use Rattle.lhm_ring.proofs.rings.RingNodes.{listed-held}
 use Rattle.lhm_ring.proofs.lists.Rows.{RowCut-linked}
-use Rattle.lhm_ring.specs.Nodes.{Cell, same_ptr, links_at, body_at}
-use Rattle.lhm_ring.specs.Links.{next_at, prev_at, content_at, AreLinked, HasContent, listed, one_of, ring_list, IsOwned}
-use Rattle.lhm_ring.specs.Ring.{State, state, Held, first_at, last_at, last_of}
+use Rattle.lhm_ring.specs.Nodes.{Cell, same_ptr}
+use Rattle.lhm_ring.specs.Links.{next_at, prev_at, AreLinked, HasContent, listed, one_of, ring_list, IsOwned}
+use Rattle.lhm_ring.specs.Ring.{State, state, first_at, last_at, last_of}
 use Rattle.lhm_ring.specs.Pointer.{led_to}
 
 module _ {B : Type 0} (cs : List (Cell Links B)) where
-  at-content : (p : Ptr) (t : Held B) → content_at cs p ≡ Some t → t.at ≡ p
-  at-content p t e = at-content_of p (links_at cs p) (body_at cs p) t e
-
   last_of-listed : (p : Ptr) (h : HasContent cs p) (ps : List Ptr) → AllByRecursion (HasContent cs) ps → last_of h.0 (listed cs ps) ≡ last_from p ps
   unfolding listed
-  last_of-listed p h [] a = at-content p h.0 h.1
+  last_of-listed p h [] a = at-content cs p h.1
   last_of-listed p h (q ∷ qs) a = ap (λ o. last_of h.0 (one_of o ++ listed cs qs)) a.0.1 ∙ last_of-listed q a.0 qs a.1
 
   -- the first of what comes after g, and the last of what comes before a
   pub first_at-row : (g a : Ptr) (ps : List Ptr) → AllByRecursion (HasContent cs) ps → AreLinked cs (g ∷ (ps ++ a ∷ [])) → (length ps ≡ 0 → ⊥) → first_at (listed cs ps) ≡ Some (next_at cs g)
   unfolding listed
   first_at-row g a [] c l h = absurd (h refl)
-  first_at-row g a (p ∷ ps) c l h = ap (λ z. first_at (one_of z ++ listed cs ps)) c.0.1 ∙ ap (λ q. Some q) (at-content p c.0.0 c.0.1 ∙ sym l.0.0)
+  first_at-row g a (p ∷ ps) c l h = ap (λ z. first_at (one_of z ++ listed cs ps)) c.0.1 ∙ ap (λ q. Some q) (at-content cs p c.0.1 ∙ sym l.0.0)
 
   pub last_at-row : (g a : Ptr) (ps : List Ptr) → AllByRecursion (HasContent cs) ps → AreLinked cs (g ∷ (ps ++ a ∷ [])) → (length ps ≡ 0 → ⊥) → last_at (listed cs ps) ≡ Some (prev_at cs a)
   unfolding listed

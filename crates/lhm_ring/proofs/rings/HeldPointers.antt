@@ -6,9 +6,9 @@ use denote.RawPtr.{Ptr, null_ptr}
 use Rattle.lhm_ring.specs.declared.pointer.Link.{Link}
 use Rattle.lhm_ring.specs.declared.ring.Links.{Links}
 use Rattle.lhm_ring.proofs.lists.Apart.{IsFresh, IsApart-left, IsApart-tail, IsApart-removed}
-use Rattle.lhm_ring.proofs.rings.Contents.{at-content_of}
+use Rattle.lhm_ring.proofs.rings.Contents.{at-content}
 use Rattle.lhm_ring.proofs.lists.Rows.{follow-row}
-use Rattle.lhm_ring.specs.Nodes.{Cell, same_ptr, links_at, body_at, IsApart}
+use Rattle.lhm_ring.specs.Nodes.{Cell, same_ptr, IsApart}
 use Rattle.lhm_ring.specs.Links.{HasContent, follow, listed, one_of, ring_list, ring_pointers, IsOwned}
 use Rattle.lhm_ring.specs.Ring.{State, state, Held}
 
@@ -31,7 +31,7 @@ module _ {B : Type 0} where
   pub pointers-listed : (cs : List (Cell Links B)) (ps : List Ptr) → AllByRecursion (HasContent cs) ps → pointers_of (listed cs ps) ≡ ps
   unfolding listed
   pointers-listed cs [] a = refl
-  pointers-listed cs (p ∷ ps) a = ap (λ o. pointers_of (one_of o ++ listed cs ps)) a.0.1 ∙ (λ i. at-content_of p (links_at cs p) (body_at cs p) a.0.0 a.0.1 i ∷ pointers-listed cs ps a.1 i)
+  pointers-listed cs (p ∷ ps) a = ap (λ o. pointers_of (one_of o ++ listed cs ps)) a.0.1 ∙ (λ i. at-content cs p a.0.1 i ∷ pointers-listed cs ps a.1 i)
 
   module _ {cs : List (Cell Links B)} {spare : Link} {n m : ℕ} (ok : IsOwned cs spare n m) where
     pub held_pointers-follow : ok.held_pointers ≡ follow cs n null_ptr

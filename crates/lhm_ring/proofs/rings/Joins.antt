@@ -1,5 +1,5 @@
 -- Two nodes are joined: what stays of a row, a chain and contents, and the rows that come of it.
-use Rattle.std.proofs.Common.{◌≡◌, true, false, cond, List, [], ◌∷◌, ◌++◌, Option, refl, sym, ap, ◌∙◌, subst}
+use Rattle.std.proofs.Common.{◌≡◌, false, cond, List, [], ◌∷◌, ◌++◌, Option, refl, sym, ap, ◌∙◌, subst}
 use Rattle.std.specs.List.{AllByRecursion}
 use denote.RawPtr.{Ptr}
 use Rattle.lhm_ring.specs.declared.ring.Links.{Links}
@@ -8,7 +8,7 @@ use Rattle.lhm_ring.proofs.lists.ListFacts.{last_from, AllByRecursion-map, AllBy
 use Rattle.lhm_ring.proofs.lists.Rows.{RowCut-linked, AreLinked-glued}
 use Rattle.lhm_ring.proofs.rings.SameNodes.{IsSpareList-same, SameLink}
 use Rattle.lhm_ring.specs.Nodes.{Cell, same_ptr, IsApart}
-use Rattle.lhm_ring.specs.Links.{next_at, prev_at, is_there, AreNeighbours, AreLinked, IsSpareList, HasContent, listed, one_of, IsJoined, IsThere}
+use Rattle.lhm_ring.specs.Links.{next_at, prev_at, AreNeighbours, AreLinked, IsSpareList, HasContent, listed, one_of, IsJoined, IsThere}
 
 -- a is none of those that lead on, and b none of those that are led to
 abbrev pub AvoidsSource : Ptr → List Ptr → Type 0

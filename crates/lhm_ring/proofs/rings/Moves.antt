@@ -1,5 +1,5 @@
 -- A node of a ring moves to the back.
-use Rattle.std.proofs.Common.{◌≡◌, ℕ, suc, ◌+◌, true, List, [], ◌∷◌, ◌++◌, length, Option, Some, sym, ap, ◌∙◌, subst, append_assoc, arith, length-append}
+use Rattle.std.proofs.Common.{◌≡◌, false, ℕ, suc, ◌+◌, List, [], ◌∷◌, ◌++◌, length, Option, Some, sym, ap, ◌∙◌, subst, append_assoc, arith, length-append}
 use Rattle.std.specs.List.{AllByRecursion}
 use denote.RawPtr.{Ptr, null_ptr}
 use Rattle.lhm_ring.specs.declared.ring.Links.{Links}
@@ -9,8 +9,8 @@ use Rattle.lhm_ring.proofs.rings.Joins.{IsSpareList-unchanged, AllByRecursion-co
 use Rattle.lhm_ring.proofs.lists.ListFacts.{AllByRecursion-append, AllByRecursion-left, AllByRecursion-right, AllByRecursion-removed, AllByRecursion-last}
 use Rattle.lhm_ring.proofs.rings.RingNodes.{Found-held, NodeAt-held, ring_list-listed, ring_split}
 use Rattle.lhm_ring.proofs.lists.Rows.{RowCut-linked, listed-append}
-use Rattle.lhm_ring.specs.Nodes.{Cell, IsApart, links_at}
-use Rattle.lhm_ring.specs.Links.{next_of, prev_of, next_at, prev_at, is_there, content_at, AreLinked, IsSpareList, HasContent, IsRing, listed, one_of, IsJoined, ring_list, IsOwned, IsThere}
+use Rattle.lhm_ring.specs.Nodes.{Cell, IsApart, links_at, same_ptr}
+use Rattle.lhm_ring.specs.Links.{next_of, prev_of, next_at, prev_at, content_at, AreLinked, IsSpareList, HasContent, IsRing, listed, one_of, IsJoined, ring_list, IsOwned, IsThere}
 use Rattle.lhm_ring.specs.Ring.{state, Held, State, IsHeld, AtHeld, SplitAround}
 
 module _ {B : Type 0} where
@@ -65,6 +65,12 @@ module _ {B : Type 0} {cs : List (Cell Links B)} {ps : List Ptr} {spare : Option
 
   pub IsFresh-others : IsFresh p (null_ptr ∷ ((us ++ vs) ++ ss))
   IsFresh-others = subst (λ qs. IsFresh p (null_ptr ∷ qs)) (sym (append_assoc us vs ss)) (IsFresh-middle (null_ptr ∷ us) p (vs ++ ss) IsApart-whole)
+
+  pub IsFresh-rest : IsFresh p (us ++ vs)
+  IsFresh-rest = AllByRecursion-left (λ q. same_ptr p q ≡ false) (us ++ vs) ss IsFresh-others.1
+
+  pub IsFresh-spares : IsFresh p ss
+  IsFresh-spares = AllByRecursion-right (λ q. same_ptr p q ≡ false) (us ++ vs) ss IsFresh-others.1
 
   pub IsApart-shifted : IsApart (null_ptr ∷ ((us ++ vs) ++ p ∷ ss))
   IsApart-shifted =

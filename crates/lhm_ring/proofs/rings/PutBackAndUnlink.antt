@@ -7,19 +7,19 @@ use Rattle.lhm_ring.specs.declared.ring.Links.{Links}
 use Rattle.lhm_ring.specs.declared.ring.Ends.{Ends}
 use Rattle.lhm_ring.specs.declared.pointer.Link.{Link}
 use Rattle.lhm_ring.proofs.lists.Apart.{same_ptr-reflexive, IsApart-left, IsFresh-middle, IsFresh}
-use Rattle.lhm_ring.proofs.rings.Contents.{pair-content_of, content_of-holds}
+use Rattle.lhm_ring.proofs.rings.Contents.{pair-content, Holds-content, IsAt-content}
 use Rattle.lhm_ring.proofs.rings.Joins.{AreLinked-pushed, AllByRecursion-there_unchanged, IsSpareList-unchanged, listed-unchanged, AllByRecursion-content_unchanged}
 use Rattle.lhm_ring.proofs.lists.ListFacts.{AllByRecursion-left, AllByRecursion-last, AllByRecursion-right, AllByRecursion-removed, AllByRecursion-append}
-use Rattle.lhm_ring.proofs.rings.Moves.{AreLinked-joined, IsFresh-others, IsApart-shifted, AllByRecursion-shifted, IsJoined-past, listed-one}
+use Rattle.lhm_ring.proofs.rings.Moves.{AreLinked-joined, IsFresh-others, IsFresh-rest, IsFresh-spares, IsApart-shifted, AllByRecursion-shifted, IsJoined-past, listed-one}
 use Rattle.lhm_ring.proofs.memory.OneNodeChanged.{OnlyAt, links_at-with_body, body_at-with_body, OnlyAt-with_links, OnlyAt-with_body, OnlyAt-both, AreLinked-other, listed-other, AllByRecursion-there_other, AllByRecursion-content_other, IsSpareList-other}
 use Rattle.lhm_ring.proofs.lists.Options.{Some-injective}
 use Rattle.lhm_ring.proofs.rings.ReadAtPosition.{content_at-held}
 use Rattle.lhm_ring.proofs.rings.RingCells.{links_at-ring_cells, ring_cells-with_links, ring_cells-with_body}
 use Rattle.lhm_ring.proofs.rings.RingNodes.{CutAt, Found-held, ring_list-listed, ring_split}
 use Rattle.lhm_ring.proofs.lists.Rows.{RowCut-linked, listed-append}
-use Rattle.lhm_ring.proofs.rings.Writes.{links_at-with_links, IsAt-there, content_of-links}
+use Rattle.lhm_ring.proofs.rings.Writes.{links_at-with_links, IsAt-there}
 use Rattle.lhm_ring.specs.Nodes.{Cell, links_at, body_at, IsAt, Holds, with_links, with_body, same_ptr, links_of, is_block, IsApart}
-use Rattle.lhm_ring.specs.Links.{ring_cells, chaining_to, ChainsTo, prev_of, link_of, next_at, prev_at, link_at, is_there, content_of, content_at, IsSpareList, IsRing, listed, IsJoined, ring_list, IsOwned, AreLinked, HasContent, IsThere}
+use Rattle.lhm_ring.specs.Links.{ring_cells, chaining_to, ChainsTo, prev_of, link_of, next_at, prev_at, link_at, content_of, content_at, IsSpareList, IsRing, listed, IsJoined, ring_list, IsOwned, AreLinked, HasContent, IsThere}
 use Rattle.lhm_ring.specs.Ring.{State, state, held, IsHeld, Held, SplitAround}
 use Rattle.lhm_ring.specs.Pointer.{target}
 
@@ -74,9 +74,6 @@ module _ {B : Type 0} {cs ds es : List (Cell Links B)} {ps : List Ptr} {spare : 
   abbrev rest : List Ptr
   rest = s.before ++ s.after
 
-  IsFresh-rest : IsFresh p rest
-  IsFresh-rest = AllByRecursion-left (λ q. same_ptr p q ≡ false) rest ss (IsFresh-others ring s).1
-
   length-rest : length ps ≡ suc (length rest)
   length-rest = ap length s.is ∙ omega (arith, length-append s.before (p ∷ s.after), length-append s.before s.after)
 
@@ -84,16 +81,16 @@ module _ {B : Type 0} {cs ds es : List (Cell Links B)} {ps : List Ptr} {spare : 
   IsRing-unlinked =
       let apart = IsFresh-others ring s in
       record {
-        linked = AreLinked-other ds es p o.other (null_ptr ∷ (rest ++ null_ptr ∷ [])) (apart.0, AllByRecursion-append (λ q. same_ptr p q ≡ false) rest (null_ptr ∷ []) IsFresh-rest (apart.0, tt)) (AreLinked-joined ring s j);
-        chained = (refl, subst (λ z. IsSpareList es z ss) (sym h) (IsSpareList-other ds es p o.other spare ss (AllByRecursion-right (λ q. same_ptr p q ≡ false) rest ss apart.1) (IsSpareList-unchanged j spare ss ring.chained)));
-        held = AllByRecursion-content_other ds es p o.other rest IsFresh-rest (AllByRecursion-content_unchanged j rest (AllByRecursion-removed (HasContent cs) s.before p s.after (ring_split ring s).held));
+        linked = AreLinked-other ds es p o.other (null_ptr ∷ (rest ++ null_ptr ∷ [])) (apart.0, AllByRecursion-append (λ q. same_ptr p q ≡ false) rest (null_ptr ∷ []) (IsFresh-rest ring s) (apart.0, tt)) (AreLinked-joined ring s j);
+        chained = (refl, subst (λ z. IsSpareList es z ss) (sym h) (IsSpareList-other ds es p o.other spare ss (IsFresh-spares ring s) (IsSpareList-unchanged j spare ss ring.chained)));
+        held = AllByRecursion-content_other ds es p o.other rest (IsFresh-rest ring s) (AllByRecursion-content_unchanged j rest (AllByRecursion-removed (HasContent cs) s.before p s.after (ring_split ring s).held));
         there = let qs = null_ptr ∷ (rest ++ p ∷ ss) in AllByRecursion-there_other ds es p o qs (AllByRecursion-there_unchanged j qs (AllByRecursion-shifted ring s));
         apart = IsApart-shifted ring s;
         count = let a = o.count ∙ j.count ∙ ring.count in let b = length-rest in omega arith;
       }
 
   pub listed-unlinked : listed es rest ≡ listed cs s.before ++ listed cs s.after
-  listed-unlinked = listed-other ds es p o.other rest IsFresh-rest ∙ listed-unchanged j rest ∙ listed-append cs s.before s.after
+  listed-unlinked = listed-other ds es p o.other rest (IsFresh-rest ring s) ∙ listed-unchanged j rest ∙ listed-append cs s.before s.after
 
 -- the links of the node at p once they are written
 pub links_at-written : {B : Type 0} (p : Ptr) (l : Links) (cs : List (Cell Links B)) {ds : List (Cell Links B)} {la : Links}
@@ -219,14 +216,14 @@ module _ {B : Type 0} {cs : List (Cell Links B)} {spare : Link} {n m : ℕ} {v :
     content_at-past = j.content p ∙ content_at-held ok w h
 
     pub Holds-unlinked : Holds ds p
-    Holds-unlinked = content_of-holds p (links_at ds p) (body_at ds p) h.node content_at-past
+    Holds-unlinked = Holds-content ds p content_at-past
 
     pub pair-unlinked : {x : B} → body_at ds p ≡ Some x → x ≡ h.node.pair
-    pair-unlinked {x} e = sym (pair-content_of p (links_at ds p) x h.node (ap (λ b. content_of p (links_at ds p) b) (sym e) ∙ content_at-past))
+    pair-unlinked {x} e = sym (pair-content ds p content_at-past e)
 
     module _ {c₁ : List (Cell Links B)} (e₁ : c₁ ≡ with_body p None ds) where
       IsAt-node : IsAt ds p
-      IsAt-node = content_of-links p (links_at ds p) (body_at ds p) h.node content_at-past
+      IsAt-node = IsAt-content ds p content_at-past
 
       pub IsAt-unlinked : IsAt c₁ p
       IsAt-unlinked = (IsAt-node.0, ap (λ z. links_at z p) e₁ ∙ links_at-with_body p None ds IsAt-node.0 IsAt-node.1 p ∙ IsAt-node.1)

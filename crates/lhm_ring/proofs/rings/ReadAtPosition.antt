@@ -1,13 +1,12 @@
 -- What is read at a held pointer.
-use Rattle.std.proofs.Common.{◌≡◌, ℕ, List, Some, sym, ap, ◌∙◌}
+use Rattle.std.proofs.Common.{◌≡◌, ℕ, List, Some, sym}
 use denote.RawPtr.{Ptr}
 use Rattle.lhm_ring.specs.declared.ring.Links.{Links}
 use Rattle.lhm_ring.specs.declared.pointer.Link.{Link}
-use Rattle.lhm_ring.proofs.rings.Contents.{hash-content_of, link-content_of, pair-content_of, content_of-holds}
+use Rattle.lhm_ring.proofs.rings.Contents.{hash-content, link-content, pair-content, Holds-content, IsAt-content}
 use Rattle.lhm_ring.proofs.rings.RingNodes.{Found-held}
-use Rattle.lhm_ring.proofs.rings.Writes.{content_of-links}
 use Rattle.lhm_ring.specs.Nodes.{Cell, links_at, body_at, IsAt, Holds}
-use Rattle.lhm_ring.specs.Links.{link_of, content_of, content_at, ring_list, IsOwned}
+use Rattle.lhm_ring.specs.Links.{link_of, content_at, ring_list, IsOwned}
 use Rattle.lhm_ring.specs.Ring.{State, state, Held, IsHeld, AtHeld}
 
 module _ {B : Type 0} {cs : List (Cell Links B)} {spare : Link} {n m : ℕ} {v : State B} {total : ℕ} (ok : IsOwned cs spare n m) (w : state (ring_list cs n) m total ≡ v) where
@@ -17,13 +16,13 @@ module _ {B : Type 0} {cs : List (Cell Links B)} {spare : Link} {n m : ℕ} {v :
     content_at-held = (Found-held ok w p h.before h.node h.after h.is h.at_is).here
 
     pub links_at-held : IsAt cs p
-    links_at-held = content_of-links p (links_at cs p) (body_at cs p) h.node content_at-held
+    links_at-held = IsAt-content cs p content_at-held
 
     pub IsAt-held : IsAt cs p
     IsAt-held = links_at-held
 
     pub Holds-held : Holds cs p
-    Holds-held = content_of-holds p (links_at cs p) (body_at cs p) h.node content_at-held
+    Holds-held = Holds-content cs p content_at-held
 
   -- at each place where one is
   module _ (p : Ptr) where
@@ -31,15 +30,11 @@ module _ {B : Type 0} {cs : List (Cell Links B)} {spare : Link} {n m : ℕ} {v :
     HeldAt P = AtHeld v.held p (λ xs t ys. P t)
 
     module _ {l : Links} (e : links_at cs p ≡ Some l) where
-      content_of-held : HeldAt (λ t. content_of p (Some l) (body_at cs p) ≡ Some t)
-      content_of-held xs t ys h at = ap (λ o. content_of p o (body_at cs p)) (sym e) ∙ (Found-held ok w p xs t ys h at).here
-
       pub hash-held : HeldAt (λ t. l.hash ≡ t.hash)
-      hash-held xs t ys h at = sym (hash-content_of p l (body_at cs p) t (content_of-held xs t ys h at))
+      hash-held xs t ys h at = sym (hash-content cs p (Found-held ok w p xs t ys h at).here e)
 
       pub link_of-held : HeldAt (λ t. link_of (Some l) ≡ t.link)
-      link_of-held xs t ys h at = sym (link-content_of p l (body_at cs p) t (content_of-held xs t ys h at))
+      link_of-held xs t ys h at = sym (link-content cs p (Found-held ok w p xs t ys h at).here e)
 
     pub pair-held : {x : B} → body_at cs p ≡ Some x → HeldAt (λ t. x ≡ t.pair)
-    pair-held {x} e xs t ys h at =
-        sym (pair-content_of p (links_at cs p) x t (ap (λ o. content_of p (links_at cs p) o) (sym e) ∙ (Found-held ok w p xs t ys h at).here))
+    pair-held e xs t ys h at = sym (pair-content cs p (Found-held ok w p xs t ys h at).here e)

@@ -12,7 +12,7 @@ use Rattle.lhm_ring.proofs.lists.Options.{none_some, Some-injective}
 use Rattle.lhm_ring.proofs.rings.SameNodes.{IsSpareList-same, SameLink}
 use Rattle.lhm_ring.proofs.rings.Writes.{IsAt-there}
 use Rattle.lhm_ring.specs.Nodes.{Cell, cell, same_ptr, pointers, cell_at, links_of, body_of, links_at, body_at, change, with_links, with_body, is_block, AreBlocks, IsAt, Holds}
-use Rattle.lhm_ring.specs.Links.{ends_links, ring_cells, leading_on, leading_back, LeadsOn, LeadsBack, chaining_to, ChainsTo, has_links, next_of, prev_of, next_at, prev_at, is_there, content_at, content_of, AreLinked, IsSpareList, HasContent, listed, one_of, IsJoined, IsRing, IsOwned, link_of, IsThere}
+use Rattle.lhm_ring.specs.Links.{ends_links, ring_cells, chaining_to, ChainsTo, has_links, next_of, prev_of, next_at, prev_at, content_at, content_of, AreLinked, IsSpareList, HasContent, listed, one_of, IsJoined, IsRing, IsOwned, link_of, IsThere}
 use Rattle.lhm_ring.specs.Pointer.{led_to, target}
 
 -- where a link leads

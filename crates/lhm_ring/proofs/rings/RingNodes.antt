@@ -4,9 +4,9 @@ use Rattle.std.specs.List.{AllByRecursion}
 use denote.RawPtr.{Ptr, null_ptr}
 use Rattle.lhm_ring.specs.declared.ring.Links.{Links}
 use Rattle.lhm_ring.specs.declared.pointer.Link.{Link}
-use Rattle.lhm_ring.proofs.rings.Contents.{at-content_of}
+use Rattle.lhm_ring.proofs.rings.Contents.{at-content}
 use Rattle.lhm_ring.proofs.lists.Rows.{follow-row}
-use Rattle.lhm_ring.specs.Nodes.{Cell, links_at, body_at}
+use Rattle.lhm_ring.specs.Nodes.{Cell}
 use Rattle.lhm_ring.specs.Links.{HasContent, IsRing, follow, listed, one_of, ring_list, IsOwned, content_at}
 use Rattle.lhm_ring.specs.Ring.{state, State, IsHeld, AtHeld, Held, SplitAround}
 
@@ -25,7 +25,7 @@ module _ {B : Type 0} where
   CutAt-listed cs (p ∷ ps) h [] t vs e =
       let e' : h.0.0 ∷ listed cs ps ≡ t ∷ vs = sym (ap (λ o. one_of o ++ listed cs ps) h.0.1) ∙ e in
       let first : h.0.0 ≡ t = cc in let rest : listed cs ps ≡ vs = cc in
-      let at : p ≡ t.at = sym (at-content_of p (links_at cs p) (body_at cs p) h.0.0 h.0.1) ∙ ap (λ (z : Held B). z.at) first in
+      let at : p ≡ t.at = sym (at-content cs p h.0.1) ∙ ap (λ (z : Held B). z.at) first in
       record {
         split = record { before = []; after = ps; is = ap (λ q. q ∷ ps) at };
         here = ap (content_at cs) (sym at) ∙ h.0.1 ∙ ap (λ z. Some z) first;

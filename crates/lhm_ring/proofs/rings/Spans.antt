@@ -5,13 +5,13 @@ use Rattle.std.specs.List.{AllByRecursion}
 use denote.RawPtr.{Ptr}
 use Rattle.lhm_ring.specs.declared.ring.Links.{Links}
 use Rattle.lhm_ring.proofs.lists.Apart.{IsFresh, IsApart-left, IsFresh-head, IsApart-tail, IsFresh-middle}
-use Rattle.lhm_ring.proofs.rings.Contents.{content_of-holds}
+use Rattle.lhm_ring.proofs.rings.Contents.{Holds-content, IsAt-content}
 use Rattle.lhm_ring.proofs.lists.ListFacts.{last_from, AllByRecursion-left, AllByRecursion-right, SplitLast-last_from}
 use Rattle.lhm_ring.proofs.memory.OneNodeChanged.{links_at-with_body, AllByRecursion-content_other, listed-other}
 use Rattle.lhm_ring.proofs.rings.RingNodes.{length-listed}
 use Rattle.lhm_ring.proofs.lists.Rows.{RowCut-linked, listed-append}
 use Rattle.lhm_ring.proofs.rings.SameNodes.{AreLinked-same}
-use Rattle.lhm_ring.proofs.rings.Writes.{cell_at-change_other, content_of-links}
+use Rattle.lhm_ring.proofs.rings.Writes.{cell_at-change_other}
 use Rattle.lhm_ring.specs.Nodes.{Cell, cell, cell_at, same_ptr, links_at, body_at, IsApart, IsAt, Holds, with_body}
 use Rattle.lhm_ring.specs.Links.{next_of, prev_of, link_of, next_at, prev_at, content_of, AreLinked, HasContent, listed, one_of, last_pointer, HasEnds, pointers_from, span_triples, IsSpan}
 use Rattle.lhm_ring.specs.Ring.{Held, held, triples, SplitFirst, SplitLast}
@@ -102,12 +102,6 @@ module _ {B : Type 0} where
   triples-append [] ys = refl
   triples-append (x ∷ xs) ys = ap (λ r. (x.hash, x.pair) ∷ r) (triples-append xs ys)
 
-  Holds-content : (cs : List (Cell Links B)) (p : Ptr) → HasContent cs p → Holds cs p
-  Holds-content cs p h = content_of-holds p (links_at cs p) (body_at cs p) h.0 h.1
-
-  IsAt-content : (cs : List (Cell Links B)) (p : Ptr) → HasContent cs p → IsAt cs p
-  IsAt-content cs p h = content_of-links p (links_at cs p) (body_at cs p) h.0 h.1
-
   pub listed-one : (cs : List (Cell Links B)) (p : Ptr) → HasContent cs p → (l : Links) → links_at cs p ≡ Some l → (x : B) → body_at cs p ≡ Some x → listed cs (p ∷ []) ≡ held p l.hash (link_of (Some l)) x ∷ []
   unfolding listed
   listed-one cs p h l f x e =
@@ -149,10 +143,10 @@ module _ {B : Type 0} {cs : List (Cell Links B)} {f b : Ptr} {k : ℕ} (s : IsSp
   AllByRecursion-first = subst (AllByRecursion (HasContent cs)) row_first s.held
 
   pub IsAt-first : IsAt cs f
-  IsAt-first = IsAt-content cs f AllByRecursion-first.0
+  IsAt-first = IsAt-content cs f AllByRecursion-first.0.1
 
   pub Holds-first : Holds cs f
-  Holds-first = Holds-content cs f AllByRecursion-first.0
+  Holds-first = Holds-content cs f AllByRecursion-first.0.1
 
   IsApart-first : IsApart (f ∷ first.split.after)
   IsApart-first = subst IsApart row_first s.apart
@@ -201,10 +195,10 @@ module _ {B : Type 0} {cs : List (Cell Links B)} {f b : Ptr} {k : ℕ} (s : IsSp
   HasContent-last = (AllByRecursion-right (HasContent cs) last.split.before (b ∷ []) AllByRecursion-last).0
 
   pub IsAt-last : IsAt cs b
-  IsAt-last = IsAt-content cs b HasContent-last
+  IsAt-last = IsAt-content cs b HasContent-last.1
 
   pub Holds-last : Holds cs b
-  Holds-last = Holds-content cs b HasContent-last
+  Holds-last = Holds-content cs b HasContent-last.1
 
   length-last : length last.split.before ≡ k - 1
   length-last = let e = ap length (sym row_last) ∙ s.count in omega (arith, length-append last.split.before (b ∷ []))

@@ -7,8 +7,6 @@ use Rattle.lhm_ring.proofs.lists.Apart.{same_ptr-equal}
 use Rattle.lhm_ring.proofs.lists.Options.{none_some, Some-injective}
 use Rattle.lhm_ring.specs.Nodes.{Cell, cell, same_ptr, cell_at, links_of, body_of, links_at, body_at, IsAt, change, with_links}
 use Rattle.lhm_ring.specs.Links.{leading_on, leading_back, LeadsOn, LeadsBack, next_of, prev_of, link_of, has_links, is_there, content_of, content_at, IsJoined, IsThere}
-use Rattle.lhm_ring.specs.Ring.{Held}
-use Rattle.lhm_ring.specs.Pointer.{target}
 
 pub cond-ap : {X Y : Type 0} (f : X → Y) (y : Bool) (u v : X) → f (cond y u v) ≡ cond y (f u) (f v)
 cond-ap f true u v = refl
@@ -58,10 +56,6 @@ module _ {B : Type 0} where
   pub links_of-seen : (o : Option (Cell Links B)) (la : Links) → links_of o ≡ Some la → (c : Cell Links B) × (o ≡ Some c)
   links_of-seen None la e = absurd (none_some la e)
   links_of-seen (Some c) la e = (c, refl)
-
-  pub content_of-links : (p : Ptr) (o : Option Links) (b : Option B) (t : Held B) → content_of p o b ≡ Some t → (l : Links) × (o ≡ Some l)
-  content_of-links p None b t e = absurd (none_some t e)
-  content_of-links p (Some l) b t e = (l, refl)
 
 module _ {B : Type 0} (p : Ptr) (l : Links) (cs : List (Cell Links B)) {la : Links} (e : links_at cs p ≡ Some la) where
   seen : (c : Cell Links B) × (cell_at cs p ≡ Some c)

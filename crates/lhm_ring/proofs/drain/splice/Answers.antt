@@ -1,10 +1,10 @@
-use Rattle.std.proofs.Common.{◌≡◌, ◌∙◌, ap, sym, subst, true}
+use Rattle.std.proofs.Common.{◌∙◌, ap, sym, subst}
 use denote.RawPtr.{Ptr}
 use Rattle.lhm_ring.proofs.rings.RingCells.{is_there-nowhere, next_at-null, prev_at-null, led_to-none, IsJoined-same}
 use Rattle.lhm_ring.proofs.rings.RingSpans.{IsSpan-in_nodes, listed-span}
 use Rattle.lhm_ring.proofs.rings.Splicing.{HasRow-ring, IsOwned-spliced, IsSpan-spliced, span_triples-spliced}
 use Rattle.lhm_ring.proofs.drain.splice.Goals as goal
-use Rattle.lhm_ring.specs.Links.{ring_cells, is_there, span_triples, IsSpan, IsThere}
+use Rattle.lhm_ring.specs.Links.{span_triples, IsSpan}
 use Rattle.lhm_ring.specs.Ring.{triples}
 
 pub spare_row-spare-requires : goal.spare_row-spare-requires

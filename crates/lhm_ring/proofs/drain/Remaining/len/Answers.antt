@@ -1,7 +1,6 @@
 use Rattle.std.proofs.Common.{◌∙◌, ap, length}
 use Rattle.lhm_ring.proofs.rings.Spans.{length-span_triples}
 use Rattle.lhm_ring.proofs.drain.Remaining.len.Goals as goal
-use Rattle.lhm_ring.specs.ContentLoan.{with_bodies}
 
 pub returns : goal.returns
 returns g c = length-span_triples c.self.invariant ∙ ap length c.self.view_is

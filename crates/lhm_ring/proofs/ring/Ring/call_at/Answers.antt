@@ -1,10 +1,8 @@
-use Rattle.std.proofs.Common.{None, Some, ap, sym, subst, ◌∙◌}
+use Rattle.std.proofs.Common.{None, Some, ap, subst, ◌∙◌}
 use Rattle.std.specs.Map.Calls.{CalledAtPair}
-use Rattle.lhm_ring.proofs.rings.ReadAtPosition.{Holds-held, links_at-held, pair-held}
 use Rattle.lhm_ring.proofs.memory.OneNodeChanged.{links_at-with_body}
 use Rattle.lhm_ring.proofs.rings.ContentChange.{ChangesOnly-held}
 use Rattle.lhm_ring.proofs.rings.Insides.{IsAt-inside, Holds-inside, pair-inside, IsOwned-set_value, ring_list-set_value}
-use Rattle.lhm_ring.proofs.rings.RingCells.{Holds-in_nodes, links_at-ring_cells, body_at-ring_cells, ring_cells-with_body}
 use Rattle.lhm_ring.proofs.tables.Retained.{with_body-twice}
 use Rattle.lhm_ring.proofs.memory.Places.{IsLaid-same}
 use Rattle.lhm_ring.proofs.ring.Ring.call_at.Goals as goal

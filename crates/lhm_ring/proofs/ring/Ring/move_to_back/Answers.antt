@@ -1,12 +1,11 @@
-use Rattle.std.proofs.Common.{◌≡◌, ◌∙◌, ap, sym, subst, true}
+use Rattle.std.proofs.Common.{◌∙◌, ap, sym, subst}
 use Rattle.lhm_ring.proofs.rings.Moves.{is_there-beside, is_there-moving, IsOwned-moved, AtHeld-moved}
-use Rattle.lhm_ring.proofs.rings.RingCells.{IsAt-in_nodes, links_at-ring_cells, prev_at-null, is_there-nowhere, led_to-some, led_to-none, IsJoined-same}
-use Rattle.lhm_ring.proofs.rings.ReadAtPosition.{IsAt-held}
+use Rattle.lhm_ring.proofs.rings.RingCells.{links_at-ring_cells, prev_at-null, is_there-nowhere, led_to-some, led_to-none, IsJoined-same}
 use Rattle.lhm_ring.proofs.rings.HeldPointers.{IsApart-held}
 use Rattle.lhm_ring.proofs.memory.Places.{IsLaid-same}
 use Rattle.lhm_ring.proofs.rings.Insides.{IsAt-inside}
 use Rattle.lhm_ring.proofs.ring.Ring.move_to_back.Goals as goal
-use Rattle.lhm_ring.specs.Links.{ring_cells, is_there, IsThere}
+use Rattle.lhm_ring.specs.Links.{ring_cells, IsThere}
 
 pub links-links-requires : goal.links-links-requires
 links-links-requires g c = IsAt-inside c.self.inside c.self.invariant c.self.view_is c.args.at.block c.requires

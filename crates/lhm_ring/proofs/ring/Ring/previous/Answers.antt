@@ -1,7 +1,6 @@
 use Rattle.std.proofs.Common.{◌∙◌}
 use Rattle.lhm_ring.proofs.rings.Neighbours.{AtHeld-previous}
-use Rattle.lhm_ring.proofs.rings.ReadAtPosition.{IsAt-held}
-use Rattle.lhm_ring.proofs.rings.RingCells.{IsAt-in_nodes, links_at-ring_cells}
+use Rattle.lhm_ring.proofs.rings.RingCells.{links_at-ring_cells}
 use Rattle.lhm_ring.proofs.rings.Insides.{IsAt-inside}
 use Rattle.lhm_ring.proofs.ring.Ring.previous.Goals as goal
 

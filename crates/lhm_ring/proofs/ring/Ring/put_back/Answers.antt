@@ -1,11 +1,11 @@
-use Rattle.std.proofs.Common.{◌≡◌, ◌∙◌, ◌++◌, ◌∷◌, ◌-◌, [], None, ap, sym, subst, refl, true}
+use Rattle.std.proofs.Common.{◌∙◌, ◌++◌, ◌∷◌, ◌-◌, [], None, ap, sym, subst, refl}
 use denote.RawPtr.{Ptr}
 use Rattle.lhm_ring.specs.declared.pointer.NodePointer.{NodePointer}
 use Rattle.lhm_ring.proofs.rings.PutBackAndUnlink.{IsSome-spare, IsAt-spare, Ready-spare, links_at-written, Filled-node, is_there-filled, IsOwned-put_back, ring_list-put_back}
 use Rattle.lhm_ring.proofs.rings.RingCells.{IsAt-in_nodes, prev_at-null, is_there-nowhere, led_to-some, led_to-none, IsJoined-same}
 use Rattle.lhm_ring.proofs.memory.Places.{IsLaid-same}
 use Rattle.lhm_ring.proofs.ring.Ring.put_back.Goals as goal
-use Rattle.lhm_ring.specs.Links.{ring_cells, is_there, IsThere}
+use Rattle.lhm_ring.specs.Links.{ring_cells, IsThere}
 use Rattle.lhm_ring.specs.Ring.{held, pair}
 
 pub pointer-at-requires : goal.pointer-at-requires

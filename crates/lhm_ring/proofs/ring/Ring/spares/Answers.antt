@@ -1,4 +1,4 @@
-use Rattle.std.proofs.Common.{suc, ap, sym, ◌∙◌}
+use Rattle.std.proofs.Common.{suc, ap}
 use Rattle.lhm_ring.proofs.rings.RingNodes.{length-bounded, length-within}
 use Rattle.lhm_ring.proofs.rings.Insides.{length-cells}
 use Rattle.lhm_ring.proofs.ring.Ring.spares.Goals as goal

@@ -1,5 +1,5 @@
 use Rattle.std.proofs.Common.{◌∙◌, ◌+◌, None, ap}
-use Rattle.lhm_ring.proofs.rings.ReadAtPosition.{IsAt-held, hash-held}
+use Rattle.lhm_ring.proofs.rings.ReadAtPosition.{hash-held}
 use Rattle.lhm_ring.proofs.rings.RingCells.{IsAt-in_nodes, Holds-in_nodes, links_at-ring_cells, body_at-ring_cells, ring_cells-with_body, ChainsTo-ring_cells}
 use Rattle.lhm_ring.proofs.rings.Moves.{is_there-beside}
 use Rattle.lhm_ring.proofs.rings.PutBackAndUnlink.{Holds-unlinked, IsAt-unlinked, count-held, IsOwned-unlinked, ring_list-unlinked, pair-unlinked}
