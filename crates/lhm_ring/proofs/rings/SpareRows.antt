@@ -64,64 +64,57 @@ module _ {B : Type 0} where
   StartsAt-next cs x [] k = tt
   StartsAt-next cs x (y ∷ ys) k = sym k.0.0
 
+  -- a row of some nodes starts with its first
+  starts_with : {cs : List (Cell Links B)} {f : Ptr} {n : ℕ} {spare : Option Ptr} (ps : List Ptr) {ss : List Ptr} → 0 < n → IsRow cs f n spare ps ss
+      → (rs : List Ptr) × (ps ≡ f ∷ rs)
+  starts_with [] h r = let long = r.long in absurd (omega arith)
+  starts_with (p ∷ ps) h r = (ps, ap (λ q. q ∷ ps) r.starts)
+
+  pub is_there-row : {cs : List (Cell Links B)} {f : Ptr} {n : ℕ} {spare : Option Ptr} → 0 < n → HasRow cs f n spare → IsThere cs f
+  is_there-row {cs} h r = (subst (AllByRecursion (IsThere cs)) (starts_with r.pointers h r.row).1 r.row.there).0
+
   -- the first node of a row becomes the first spare one
-  module _ (cs : List (Cell Links B)) (at : NodePointer) (n : ℕ) (spare : Link) (la : Links) (ea : links_at cs at.ptr ≡ Some la) (next : Ptr) (is : next ≡ la.next.ptr) where
+  module _ (cs : List (Cell Links B)) (p : Ptr) (spare : Link) {la : Links} (ea : links_at cs p ≡ Some la) {next : Ptr} (is : next ≡ la.next.ptr) {n : ℕ} (some : 0 < n) where
     abbrev after : List (Cell Links B)
-    after = with_links at.ptr (chaining_to spare la) cs
+    after = with_links p (chaining_to spare la) cs
 
-    link_at-now : link_at after at.ptr ≡ target spare
-    link_at-now = ap link_of (links_at-with_links at.ptr (chaining_to spare la) cs ea at.ptr ∙ ap (λ y. cond y (Some (chaining_to spare la)) (links_at cs at.ptr)) (same_ptr-reflexive at.ptr))
+    link_at-now : link_at after p ≡ target spare
+    link_at-now = ap link_of (links_at-with_links p (chaining_to spare la) cs ea p ∙ ap (λ y. cond y (Some (chaining_to spare la)) (links_at cs p)) (same_ptr-reflexive p))
 
-    IsRow-shorter : (p : Ptr) (rs ss : List Ptr) → p ≡ at.ptr → IsRow cs at.ptr n (target spare) (p ∷ rs) ss → IsRow after next (n - 1) (Some at.ptr) rs (at.ptr ∷ ss)
-    IsRow-shorter p rs ss here r =
-        let same = SameButLinks-chaining_to cs at.ptr spare la ea in let long = r.long in
-        let free = subst (λ q. IsFresh q (rs ++ ss)) here (IsFresh-head p (rs ++ ss) r.apart) in
-        let linked : AreLinked cs (at.ptr ∷ rs) = subst (λ q. AreLinked cs (q ∷ rs)) here r.linked in
+    IsRow-shorter : (rs ss : List Ptr) → IsRow cs p n (target spare) (p ∷ rs) ss → IsRow after next (n - 1) (Some p) rs (p ∷ ss)
+    IsRow-shorter rs ss r =
+        let same = SameButLinks-chaining_to cs p spare la ea in let long = r.long in let free = IsFresh-head p (rs ++ ss) r.apart in
+        let chained = IsSpareList-other cs after p (λ q n. cell_at-change_other p (λ c. cell c.at (chaining_to spare la) c.body) (λ c. refl) q n cs) (target spare) ss
+        (AllByRecursion-right (λ q. same_ptr p q ≡ false) rs ss free) r.chained in
         record {
           long = omega arith;
-          linked = AreLinked-same cs after same.next same.prev rs (AreLinked-tail cs at.ptr rs linked);
-          starts = subst (StartsAt rs) (ap next_of ea ∙ sym is) (StartsAt-next cs at.ptr rs linked);
+          linked = AreLinked-same cs after same.next same.prev rs (AreLinked-tail cs p rs r.linked);
+          starts = subst (StartsAt rs) (ap next_of ea ∙ sym is) (StartsAt-next cs p rs r.linked);
           there = AllByRecursion-map (IsThere cs) (IsThere after) (λ q h. same.there q ∙ h) rs r.there.1;
-          apart = IsApart-inserted rs at.ptr ss free (IsApart-tail p (rs ++ ss) r.apart);
-          chained = (
-            refl,
-            subst (λ h. IsSpareList after h ss) (sym link_at-now)
-                (IsSpareList-other cs after at.ptr (λ q n. cell_at-change_other at.ptr (λ c. cell c.at (chaining_to spare la) c.body) (λ c. refl) q n cs) (target spare) ss (AllByRecursion-right (λ q. same_ptr at.ptr q ≡ false) rs ss free) r.chained),
-          );
+          apart = IsApart-inserted rs p ss free (IsApart-tail p (rs ++ ss) r.apart);
+          chained = (refl, subst (λ h. IsSpareList after h ss) (sym link_at-now) chained);
         }
 
-    HasRow-left : (ps ss : List Ptr) → 0 < n → IsRow cs at.ptr n (target spare) ps ss → HasRow after next (n - 1) (Some at.ptr)
-    HasRow-left [] ss h r = let long = r.long in absurd (omega arith)
-    HasRow-left (p ∷ rs) ss h r = record { pointers = rs; spare_pointers = at.ptr ∷ ss; row = IsRow-shorter p rs ss r.starts r }
+    -- cut there
+    shorter : (ps ss : List Ptr) (r : IsRow cs p n (target spare) ps ss) → IsRow after next (n - 1) (Some p) (starts_with ps some r).0 (p ∷ ss)
+    shorter ps ss r = let c = starts_with ps some r in IsRow-shorter c.0 ss (subst (λ qs. IsRow cs p n (target spare) qs ss) c.1 r)
 
-    pub HasRow-next : 0 < n → HasRow cs at.ptr n (target spare) → HasRow after next (n - 1) (Some at.ptr)
-    HasRow-next h r = HasRow-left r.pointers r.spare_pointers h r.row
+    pub HasRow-next : HasRow cs p n (target spare) → HasRow after next (n - 1) (Some p)
+    HasRow-next r = record {
+      pointers = (starts_with r.pointers some r.row).0;
+      spare_pointers = p ∷ r.spare_pointers;
+      row = shorter r.pointers r.spare_pointers r.row;
+    }
 
-    then_all : (ds : List (Cell Links B)) (s : Option Ptr) → 0 < n → SparesRow after next (n - 1) (Some at.ptr) ds s → (ps ss : List Ptr) → IsRow cs at.ptr n (target spare) ps ss → SameButLinks cs ds × IsSpareList ds s (onto ps ss)
-    then_all ds s h k [] ss r = let long = r.long in absurd (omega arith)
-    then_all ds s h k (p ∷ rs) ss r =
-        let on = k rs (at.ptr ∷ ss) (IsRow-shorter p rs ss r.starts r) in
-        (SameButLinks-both cs after ds (SameButLinks-chaining_to cs at.ptr spare la ea) on.0, subst (λ q. IsSpareList ds s (onto rs (q ∷ ss))) (sym r.starts) on.1)
+    pub SparesRow-step : (ds : List (Cell Links B)) (s : Option Ptr) → SparesRow after next (n - 1) (Some p) ds s → SparesRow cs p n (target spare) ds s
+    SparesRow-step ds s k ps ss r =
+        let c = starts_with ps some r in let on = k c.0 (p ∷ ss) (shorter ps ss r) in
+        (SameButLinks-both cs after ds (SameButLinks-chaining_to cs p spare la ea) on.0, subst (λ qs. IsSpareList ds s (onto qs ss)) (sym c.1) on.1)
 
-    pub SparesRow-step : (ds : List (Cell Links B)) (s : Option Ptr) → 0 < n → SparesRow after next (n - 1) (Some at.ptr) ds s → SparesRow cs at.ptr n (target spare) ds s
-    SparesRow-step ds s h k ps ss r = then_all ds s h k ps ss r
-
-  is_there-first : (cs : List (Cell Links B)) (at : NodePointer) (n : ℕ) (spare : Option Ptr) (ps ss : List Ptr) → 0 < n → IsRow cs at.ptr n spare ps ss → IsThere cs at.ptr
-  is_there-first cs at n spare [] ss h r = let long = r.long in absurd (omega arith)
-  is_there-first cs at n spare (p ∷ ps) ss h r = subst (IsThere cs) r.starts r.there.0
-
-  pub is_there-row : (cs : List (Cell Links B)) (at : NodePointer) (n : ℕ) (spare : Option Ptr) → 0 < n → HasRow cs at.ptr n spare → IsThere cs at.ptr
-  is_there-row cs at n spare h r = is_there-first cs at n spare r.pointers r.spare_pointers h r.row
-
-  SameButLinks-all : (cs : List (Cell Links B)) → SameButLinks cs cs
-  SameButLinks-all cs = record { next = λ q. refl; prev = λ q. refl; there = λ q. refl; triple = λ q. refl; count = refl }
-
-  none_more : (cs : List (Cell Links B)) (f : Ptr) (n : ℕ) (spare : Option Ptr) → n ≡ 0 → (ps ss : List Ptr) → IsRow cs f n spare ps ss → SameButLinks cs cs × IsSpareList cs spare (onto ps ss)
-  none_more cs f n spare e [] ss r = (SameButLinks-all cs, r.chained)
-  none_more cs f n spare e (p ∷ ps) ss r = let long = r.long in absurd (omega arith)
-
-  pub SparesRow-done : (cs : List (Cell Links B)) (f : Ptr) (n : ℕ) (spare : Option Ptr) → n ≡ 0 → SparesRow cs f n spare cs spare
-  SparesRow-done cs f n spare e ps ss r = none_more cs f n spare e ps ss r
+  pub SparesRow-done : (cs : List (Cell Links B)) (f : Ptr) {n : ℕ} (spare : Option Ptr) → n ≡ 0 → SparesRow cs f n spare cs spare
+  SparesRow-done cs f spare e [] ss r =
+      (record { next = λ q. refl; prev = λ q. refl; there = λ q. refl; triple = λ q. refl; count = refl }, r.chained)
+  SparesRow-done cs f spare e (p ∷ ps) ss r = let long = r.long in absurd (omega arith)
 
   pub some_still : (o : Option (Held B)) (t : Held B) → triple_of o ≡ Some (t.hash, t.pair) → (u : Held B) × (o ≡ Some u)
   some_still None t e = absurd (none_some (t.hash, t.pair) e)
