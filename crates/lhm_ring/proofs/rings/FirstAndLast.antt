@@ -21,30 +21,19 @@ module _ {B : Type 0} (cs : List (Cell Links B)) where
   last_of-listed p h [] a = at-content cs p h.1
   last_of-listed p h (q ∷ qs) a = ap (λ o. last_of h.0 (one_of o ++ listed cs qs)) a.0.1 ∙ last_of-listed q a.0 qs a.1
 
-  -- the first of what comes after g, and the last of what comes before a
-  pub first_at-row : (g a : Ptr) (ps : List Ptr) → AllByRecursion (HasContent cs) ps → AreLinked cs (g ∷ (ps ++ a ∷ [])) → (length ps ≡ 0 → ⊥) → first_at (listed cs ps) ≡ Some (next_at cs g)
-  unfolding listed
-  first_at-row g a [] c l h = absurd (h refl)
-  first_at-row g a (p ∷ ps) c l h = ap (λ z. first_at (one_of z ++ listed cs ps)) c.0.1 ∙ ap (λ q. Some q) (at-content cs p c.0.1 ∙ sym l.0.0)
-
-  pub last_at-row : (g a : Ptr) (ps : List Ptr) → AllByRecursion (HasContent cs) ps → AreLinked cs (g ∷ (ps ++ a ∷ [])) → (length ps ≡ 0 → ⊥) → last_at (listed cs ps) ≡ Some (prev_at cs a)
-  unfolding listed
-  last_at-row g a [] c l h = absurd (h refl)
-  last_at-row g a (p ∷ ps) c l h = ap (λ z. last_at (one_of z ++ listed cs ps)) c.0.1 ∙ ap (λ q. Some q) (last_of-listed p c.0 ps c.1 ∙ sym (RowCut-linked cs g (p ∷ ps) a [] l).edge.1)
-
-module _ {B : Type 0} (cs : List (Cell Links B)) where
   -- the first of a row that ends at null, and the last of one that begins there
   pub first_at-led_to : (p : Ptr) (ps : List Ptr) → AllByRecursion (HasContent cs) ps → IsFresh null_ptr ps → AreLinked cs (p ∷ (ps ++ null_ptr ∷ [])) → first_at (listed cs ps) ≡ led_to (next_at cs p)
   unfolding listed
   first_at-led_to p [] c f l = sym (ap led_to l.0.0)
-  first_at-led_to p (q ∷ qs) c f l = first_at-row cs p null_ptr (q ∷ qs) c l (λ z. omega (arith, z)) ∙ sym (led_to-apart (next_at cs p) (ap (same_ptr null_ptr) l.0.0 ∙ f.0))
+  first_at-led_to p (q ∷ qs) c f l =
+      ap (λ z. first_at (one_of z ++ listed cs qs)) c.0.1 ∙ ap (λ r. Some r) (at-content cs q c.0.1) ∙ sym (ap led_to l.0.0 ∙ led_to-apart q f.0)
 
   pub last_at-led_to : (p : Ptr) (ps : List Ptr) → AllByRecursion (HasContent cs) ps → IsFresh null_ptr ps → AreLinked cs (null_ptr ∷ (ps ++ p ∷ [])) → last_at (listed cs ps) ≡ led_to (prev_at cs p)
   unfolding listed
   last_at-led_to p [] c f l = sym (ap led_to l.0.1)
   last_at-led_to p (q ∷ qs) c f l =
-      last_at-row cs null_ptr p (q ∷ qs) c l (λ z. omega (arith, z))
-      ∙ sym (led_to-apart (prev_at cs p) (ap (same_ptr null_ptr) (RowCut-linked cs null_ptr (q ∷ qs) p [] l).edge.1 ∙ AllByRecursion-last (λ r. same_ptr null_ptr r ≡ false) q qs f.0 f.1))
+      ap (λ z. last_at (one_of z ++ listed cs qs)) c.0.1 ∙ ap (λ r. Some r) (last_of-listed q c.0 qs c.1)
+      ∙ sym (ap led_to (RowCut-linked cs null_ptr (q ∷ qs) p [] l).edge.1 ∙ led_to-apart (last_from q qs) (AllByRecursion-last (λ r. same_ptr null_ptr r ≡ false) q qs f.0 f.1))
 
 module _ {B : Type 0} {cs : List (Cell Links B)} {spare : Link} {n m : ℕ} {v : State B} {total : ℕ} (ok : IsOwned cs spare n m) (w : state (ring_list cs n) m total ≡ v) where
   IsFresh-null : IsFresh null_ptr ok.held_pointers

@@ -20,10 +20,14 @@ abbrev pub AvoidsTarget : Ptr → List Ptr → Type 0
 AvoidsTarget b [] = Unit {0}
 AvoidsTarget b (x ∷ r) = IsFresh b r
 
-pub AvoidsSource-fresh : (a : Ptr) (x : Ptr) (xs : List Ptr) → IsFresh a (x ∷ xs)
-    → AvoidsSource a (x ∷ xs)
-AvoidsSource-fresh a x [] h = tt
-AvoidsSource-fresh a x (y ∷ ys) h = (h.0, AvoidsSource-fresh a y ys h.1)
+pub AvoidsSource-fresh : (a : Ptr) (xs : List Ptr) → IsFresh a xs → AvoidsSource a xs
+AvoidsSource-fresh a [] h = tt
+AvoidsSource-fresh a (x ∷ []) h = tt
+AvoidsSource-fresh a (x ∷ y ∷ ys) h = (h.0, AvoidsSource-fresh a (y ∷ ys) h.1)
+
+pub AvoidsTarget-fresh : (b : Ptr) (xs : List Ptr) → IsFresh b xs → AvoidsTarget b xs
+AvoidsTarget-fresh b [] h = tt
+AvoidsTarget-fresh b (x ∷ xs) h = h.1
 
 pub AvoidsSource-but_last : (a : Ptr) (x : Ptr) (xs : List Ptr) (z : Ptr) → IsFresh a (x ∷ xs) → AvoidsSource a (x ∷ (xs ++ z ∷ []))
 AvoidsSource-but_last a x [] z h = (h.0, tt)

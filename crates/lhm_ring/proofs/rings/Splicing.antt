@@ -6,13 +6,13 @@ use Rattle.lhm_ring.specs.declared.ring.Links.{Links}
 use Rattle.lhm_ring.specs.declared.ring.Ends.{Ends}
 use Rattle.lhm_ring.specs.declared.pointer.Link.{Link}
 use Rattle.lhm_ring.proofs.lists.Apart.{IsFresh, IsApart-left, IsFresh-head, IsApart-tail}
-use Rattle.lhm_ring.proofs.rings.Joins.{AvoidsSource-fresh, AvoidsSource, AvoidsTarget, AreLinked-unchanged, IsSpareList-unchanged, AreNeighbours-made, listed-unchanged}
+use Rattle.lhm_ring.proofs.rings.Joins.{AvoidsSource-fresh, AvoidsTarget-fresh, AreLinked-unchanged, IsSpareList-unchanged, AreNeighbours-made, listed-unchanged}
 use Rattle.lhm_ring.proofs.lists.ListFacts.{last_from, AllByRecursion-left, AllByRecursion-right, AllByRecursion-map}
 use Rattle.lhm_ring.proofs.rings.RingCells.{next_at-null, is_there-null, AreLinked-in_nodes, AllByRecursion-there_in_nodes, IsSpareList-in_nodes, IsSpareList-in_ring}
 use Rattle.lhm_ring.proofs.rings.RingNodes.{ring_list-listed}
 use Rattle.lhm_ring.proofs.lists.Rows.{RowCut-linked}
 use Rattle.lhm_ring.proofs.rings.SameNodes.{AreLinked-same}
-use Rattle.lhm_ring.proofs.rings.Spans.{last_pointer-last_from, AreLinked-tail, pointers_from-span}
+use Rattle.lhm_ring.proofs.rings.Spans.{HasEnds-behind, last_pointer-last_from, AreLinked-tail, pointers_from-span}
 use Rattle.lhm_ring.proofs.rings.SpareRows.{AllByRecursion-onto, IsApart-onto, SameButLinks-in_ring, length-onto, StartsAt-next, some_still, one_triple, triples-one_of}
 use Rattle.lhm_ring.specs.Nodes.{Cell, same_ptr}
 use Rattle.lhm_ring.specs.Links.{ring_cells, next_at, prev_at, content_at, AreLinked, IsSpareList, HasContent, IsRing, IsJoined, listed, HasEnds, span_triples, IsSpan, ring_list, IsOwned, IsThere}
@@ -56,10 +56,6 @@ module _ {B : Type 0} (e : Ends) (nodes : List (Cell Links B)) {spare : Link} {n
   pub HasRow-ring : {f : Ptr} → f ≡ e.first.ptr → HasRow nodes f n (target spare)
   HasRow-ring is = record { pointers = ps; spare_pointers = ss; row = IsRow-whole is }
 
-  HasEnds-ring : (rs : List Ptr) → AreLinked cs (null_ptr ∷ rs) → prev_at cs null_ptr ≡ last_from null_ptr rs → HasEnds rs (next_at cs null_ptr) (prev_at cs null_ptr)
-  HasEnds-ring [] k e = tt
-  HasEnds-ring (r ∷ rs) k e = (sym k.0.0, last_pointer-last_from r rs ∙ sym e)
-
   module _ {f : Ptr} (is : f ≡ e.first.ptr) (zs : List (Cell Links B)) (h : Link) (s : SparesRow nodes f n (target spare) zs (target h)) where
     abbrev ds : List (Cell Links B)
     ds = ring_cells e zs
@@ -101,23 +97,15 @@ module _ {B : Type 0} (e : Ends) (nodes : List (Cell Links B)) {spare : Link} {n
             bounded = omega arith;
           }
 
-      AvoidsSource-null : (rs : List Ptr) → IsFresh null_ptr rs → AvoidsSource null_ptr rs
-      AvoidsSource-null [] f = tt
-      AvoidsSource-null (r ∷ rs) f = AvoidsSource-fresh null_ptr r rs f
-
-      AvoidsTarget-null : (rs : List Ptr) → IsFresh null_ptr rs → AvoidsTarget null_ptr rs
-      AvoidsTarget-null [] f = tt
-      AvoidsTarget-null (r ∷ rs) f = f.1
-
       AreLinked-spliced : AreLinked es ps
-      AreLinked-spliced = AreLinked-unchanged j ps (AvoidsSource-null ps IsFresh-row) (AvoidsTarget-null ps IsFresh-row) (AreLinked-same cs ds same.next same.prev ps (AreLinked-tail cs null_ptr ps cut.0))
+      AreLinked-spliced = AreLinked-unchanged j ps (AvoidsSource-fresh null_ptr ps IsFresh-row) (AvoidsTarget-fresh null_ptr ps IsFresh-row) (AreLinked-same cs ds same.next same.prev ps (AreLinked-tail cs null_ptr ps cut.0))
 
       pub IsSpan-spliced : IsSpan es (next_at cs null_ptr) (prev_at cs null_ptr) n
       IsSpan-spliced = record {
         pointers = ps;
         count = o.held_count;
         linked = AreLinked-spliced;
-        ends = HasEnds-ring ps cut.0 cut.1;
+        ends = HasEnds-behind cs null_ptr (prev_at cs null_ptr) ps cut.0 (last_pointer-last_from null_ptr ps ∙ sym cut.1);
         held = AllByRecursion-map (HasContent cs) (HasContent es) (λ q k. let d = HasContent-still q k in (d.0, j.content q ∙ d.1)) ps o.ring.held;
         apart = IsApart-left ps ss (IsApart-tail null_ptr (ps ++ ss) o.ring.apart);
       }
