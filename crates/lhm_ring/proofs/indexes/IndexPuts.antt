@@ -51,7 +51,7 @@ IsRechained-start heads words nodes pointer buckets h e n = record { done = []; 
 
 abbrev pub IsHeld-rechained : {K V : Type 0} {heads : List (Option Ptr)} {words : List ℕ} {old nodes : List (Held (K × V))} {pointer : Option Ptr} {count buckets : ℕ} (p : Ptr) → pointer ≡ Some p → IsRechained heads words old nodes pointer count buckets → IsHeld nodes p
 IsHeld-rechained {K} {V} {pointer = pointer} p e w =
-    let g : First w.rest p = First-first_at w.rest pointer p w.pointer_is e in
+    let g : First w.rest p = First-first_at w.rest w.pointer_is e in
     record { before = w.done; node = g.node; after = g.after; is = w.is ∙ ap (λ (v : List (Held (K × V))). w.done ++ v) g.is; at_is = g.at_is }
 
 pub count-rechained : {K V : Type 0} {heads : List (Option Ptr)} {words : List ℕ} {old nodes : List (Held (K × V))} {pointer : Option Ptr} {count buckets : ℕ} (p : Ptr) → pointer ≡ Some p → IsRechained heads words old nodes pointer count buckets → count + 1 ≤ length old

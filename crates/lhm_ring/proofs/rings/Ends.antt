@@ -14,17 +14,17 @@ abbrev pub Last : {B : Type 0} → List (Held B) → Ptr → Type 0
 Last = SplitLast (λ t. t.at)
 
 module _ {B : Type 0} where
-  pub First-first_at : (hs : List (Held B)) (o : Option Ptr) (p : Ptr) → o ≡ first_at hs → o ≡ Some p → First hs p
-  First-first_at [] o p e h = absurd (let no : None ≡ Some p = sym e ∙ h in cc)
-  First-first_at (t ∷ hs) o p e h = record { node = t; after = hs; is = refl; at_is = Some-injective t.at p (sym e ∙ h) }
+  pub First-first_at : (hs : List (Held B)) {o : Option Ptr} {p : Ptr} → o ≡ first_at hs → o ≡ Some p → First hs p
+  First-first_at [] {o} {p} e h = absurd (let no : None ≡ Some p = sym e ∙ h in cc)
+  First-first_at (t ∷ hs) {o} {p} e h = record { node = t; after = hs; is = refl; at_is = Some-injective t.at p (sym e ∙ h) }
 
   Last-last_of : (t : Held B) (hs : List (Held B)) → Last (t ∷ hs) (last_of t hs)
   Last-last_of t [] = record { before = []; node = t; is = refl; at_is = refl }
   Last-last_of t (u ∷ hs) = let r = Last-last_of u hs in record { before = t ∷ r.before; node = r.node; is = ap (λ l. t ∷ l) r.is; at_is = r.at_is }
 
-  pub Last-last_at : (hs : List (Held B)) (o : Option Ptr) (p : Ptr) → o ≡ last_at hs → o ≡ Some p → Last hs p
-  Last-last_at [] o p e h = absurd (let no : None ≡ Some p = sym e ∙ h in cc)
-  Last-last_at (t ∷ hs) o p e h =
+  pub Last-last_at : (hs : List (Held B)) {o : Option Ptr} {p : Ptr} → o ≡ last_at hs → o ≡ Some p → Last hs p
+  Last-last_at [] {o} {p} e h = absurd (let no : None ≡ Some p = sym e ∙ h in cc)
+  Last-last_at (t ∷ hs) {o} {p} e h =
       let r = Last-last_of t hs in
       record { before = r.before; node = r.node; is = r.is; at_is = r.at_is ∙ Some-injective (last_of t hs) p (sym e ∙ h) }
 

@@ -127,12 +127,11 @@ module _ {B : Type 0} (e : Ends) (cs : List (Cell Links B)) where
   content_at-in_nodes p h = ap (λ z. content_of p (links_of z) (body_of z)) (cell_at-apart p h)
 
   pub AllByRecursion-apart : (ps : List Ptr) → AllByRecursion (HasContent (ring_cells e cs)) ps → AllByRecursion Apart ps
-  AllByRecursion-apart [] h = tt
-  AllByRecursion-apart (p ∷ ps) h = (same_ptr-content e cs p h.0, AllByRecursion-apart ps h.1)
+  AllByRecursion-apart = AllByRecursion-map (HasContent (ring_cells e cs)) Apart (same_ptr-content e cs)
 
   pub AllByRecursion-content_in_nodes : (ps : List Ptr) → AllByRecursion (HasContent (ring_cells e cs)) ps → AllByRecursion (HasContent cs) ps
-  AllByRecursion-content_in_nodes [] h = tt
-  AllByRecursion-content_in_nodes (p ∷ ps) h = ((h.0.0, sym (content_at-in_nodes p (same_ptr-content e cs p h.0)) ∙ h.0.1), AllByRecursion-content_in_nodes ps h.1)
+  AllByRecursion-content_in_nodes =
+      AllByRecursion-map (HasContent (ring_cells e cs)) (HasContent cs) (λ p h. (h.0, sym (content_at-in_nodes p (same_ptr-content e cs p h)) ∙ h.1))
 
   pub listed-in_nodes : (ps : List Ptr) → AllByRecursion Apart ps → listed (ring_cells e cs) ps ≡ listed cs ps
   unfolding listed

@@ -14,7 +14,7 @@ use Rattle.lhm_ring.proofs.rings.SameNodes.{AreLinked-same}
 use Rattle.lhm_ring.proofs.rings.Writes.{cell_at-change_other}
 use Rattle.lhm_ring.specs.Nodes.{Cell, cell, cell_at, same_ptr, links_at, body_at, IsApart, IsAt, Holds, with_body}
 use Rattle.lhm_ring.specs.Links.{next_of, prev_of, link_of, next_at, prev_at, content_of, AreLinked, HasContent, listed, one_of, last_pointer, HasEnds, pointers_from, span_triples, IsSpan}
-use Rattle.lhm_ring.specs.Ring.{Held, held, triples, SplitFirst, SplitLast}
+use Rattle.lhm_ring.specs.Ring.{Held, held, triples}
 
 module _ {B : Type 0} (cs : List (Cell Links B)) where
   pub listed-none : (f : Ptr) → listed cs (pointers_from cs 0 f) ≡ []
@@ -50,52 +50,25 @@ module _ {B : Type 0} where
   AreLinked-tail cs x [] k = tt
   AreLinked-tail cs x (y ∷ ys) k = k.1
 
--- the last of a row, with those before it
-pub record LastCut {B : Type 0} (cs : List (Cell Links B)) (f b : Ptr) (rs : List Ptr) : Type 0 where
-  pub split : SplitLast (λ q. q) rs b
-  pub linked : AreLinked cs split.before
-  pub ends : HasEnds split.before f (prev_at cs b)
+-- the others of a row that ends somewhere
+split_first : (f b : Ptr) (rs : List Ptr) → (length rs ≡ 0 → ⊥) → HasEnds rs f b → (qs : List Ptr) × (rs ≡ f ∷ qs)
+split_first f b [] n h = absurd (n refl)
+split_first f b (x ∷ xs) n h = (xs, ap (λ q. q ∷ xs) h.0)
 
-module _ {B : Type 0} (cs : List (Cell Links B)) where
-  ends_before : (f : Ptr) (zs : List Ptr) (z : Ptr) → AreLinked cs (zs ++ z ∷ []) → ((r : Ptr) (rs : List Ptr) → zs ≡ r ∷ rs → r ≡ f) → AreLinked cs zs × HasEnds zs f (prev_at cs z)
-  ends_before f [] z k h = (tt, tt)
-  ends_before f (x ∷ xs) z k h = let c = RowCut-linked cs x xs z [] k in (c.before, (h x xs refl, last_pointer-last_from x xs ∙ sym c.edge.1))
-
-  first-is : (f b : Ptr) (rs zs : List Ptr) (z : Ptr) → rs ≡ zs ++ z ∷ [] → HasEnds rs f b → (r : Ptr) (qs : List Ptr) → zs ≡ r ∷ qs → r ≡ f
-  first-is f b [] zs z e h r qs d = absurd (let k = ap length e in omega (arith, length-append zs (z ∷ [])))
-  first-is f b (x ∷ xs) [] z e h r qs d = absurd cc
-  first-is f b (x ∷ xs) (y ∷ ys) z e h r qs d = let same : x ≡ y = cc in let too : y ≡ r = cc in sym (same ∙ too) ∙ h.0
-
-  pub LastCut-row : (f b : Ptr) (rs : List Ptr) → (length rs ≡ 0 → ⊥) → AreLinked cs rs → HasEnds rs f b → LastCut cs f b rs
-  LastCut-row f b [] n k h = absurd (n refl)
-  LastCut-row f b (x ∷ xs) n k h =
-      let s = SplitLast-last_from x xs in
-      let at : s.node ≡ b = s.at_is ∙ sym (last_pointer-last_from x xs) ∙ h.1 in
-      let p = ends_before f s.before s.node (subst (AreLinked cs) s.is k) (first-is f b (x ∷ xs) s.before s.node s.is h) in
-      record {
-        split = record { before = s.before; node = s.node; is = s.is; at_is = at };
-        linked = p.0;
-        ends = subst (λ q. HasEnds s.before f (prev_at cs q)) at p.1;
-      }
-
--- the first of a row, with those after it
-pub record FirstCut {B : Type 0} (cs : List (Cell Links B)) (f b : Ptr) (rs : List Ptr) : Type 0 where
-  pub split : SplitFirst (λ q. q) rs f
-  pub linked : AreLinked cs split.after
-  pub ends : HasEnds split.after (next_at cs f) b
+split_last : (f b : Ptr) (rs : List Ptr) → (length rs ≡ 0 → ⊥) → HasEnds rs f b → (qs : List Ptr) × (rs ≡ qs ++ b ∷ [])
+split_last f b [] n h = absurd (n refl)
+split_last f b (x ∷ xs) n h =
+    let s = SplitLast-last_from x xs in
+    (s.before, s.is ∙ ap (λ q. s.before ++ q ∷ []) (s.at_is ∙ sym (last_pointer-last_from x xs) ∙ h.1))
 
 module _ {B : Type 0} (cs : List (Cell Links B)) where
   pub HasEnds-behind : (x b : Ptr) (xs : List Ptr) → AreLinked cs (x ∷ xs) → last_pointer x xs ≡ b → HasEnds xs (next_at cs x) b
   HasEnds-behind x b [] k e = tt
   HasEnds-behind x b (y ∷ ys) k e = (sym k.0.0, e)
 
-  pub FirstCut-row : (f b : Ptr) (rs : List Ptr) → (length rs ≡ 0 → ⊥) → AreLinked cs rs → HasEnds rs f b → FirstCut cs f b rs
-  FirstCut-row f b [] n k h = absurd (n refl)
-  FirstCut-row f b (x ∷ xs) n k h = record {
-    split = record { node = x; after = xs; is = refl; at_is = h.0 };
-    linked = AreLinked-tail cs x xs k;
-    ends = subst (λ q. HasEnds xs (next_at cs q) b) h.0 (HasEnds-behind x b xs k h.1);
-  }
+  ahead : (f b : Ptr) (xs : List Ptr) → AreLinked cs (xs ++ b ∷ []) → HasEnds (xs ++ b ∷ []) f b → AreLinked cs xs × HasEnds xs f (prev_at cs b)
+  ahead f b [] k h = (tt, tt)
+  ahead f b (x ∷ xs) k h = let c = RowCut-linked cs x xs b [] k in (c.before, (h.0, last_pointer-last_from x xs ∙ sym c.edge.1))
 
 module _ {B : Type 0} where
   triples-append : (xs ys : List (Held B)) → triples (xs ++ ys) ≡ triples xs ++ triples ys
@@ -133,14 +106,14 @@ module _ {B : Type 0} {cs : List (Cell Links B)} (p : Ptr) {la : Links} (ea : li
 
 -- the first of a row and the rest, and the last and the rest
 module _ {B : Type 0} {cs : List (Cell Links B)} {f b : Ptr} {k : ℕ} (s : IsSpan cs f b k) (some : k ≡ 0 → ⊥) where
-  first : FirstCut cs f b s.pointers
-  first = FirstCut-row cs f b s.pointers (λ e. some (sym s.count ∙ e)) s.linked s.ends
+  first : (qs : List Ptr) × (s.pointers ≡ f ∷ qs)
+  first = split_first f b s.pointers (λ e. some (sym s.count ∙ e)) s.ends
 
-  row_first : s.pointers ≡ f ∷ first.split.after
-  row_first = first.split.is ∙ ap (λ q. q ∷ first.split.after) first.split.at_is
+  AreLinked-first : AreLinked cs (f ∷ first.0)
+  AreLinked-first = subst (AreLinked cs) first.1 s.linked
 
-  AllByRecursion-first : AllByRecursion (HasContent cs) (f ∷ first.split.after)
-  AllByRecursion-first = subst (AllByRecursion (HasContent cs)) row_first s.held
+  AllByRecursion-first : AllByRecursion (HasContent cs) (f ∷ first.0)
+  AllByRecursion-first = subst (AllByRecursion (HasContent cs)) first.1 s.held
 
   pub IsAt-first : IsAt cs f
   IsAt-first = IsAt-content cs f AllByRecursion-first.0.1
@@ -148,31 +121,31 @@ module _ {B : Type 0} {cs : List (Cell Links B)} {f b : Ptr} {k : ℕ} (s : IsSp
   pub Holds-first : Holds cs f
   Holds-first = Holds-content cs f AllByRecursion-first.0.1
 
-  IsApart-first : IsApart (f ∷ first.split.after)
-  IsApart-first = subst IsApart row_first s.apart
+  IsApart-first : IsApart (f ∷ first.0)
+  IsApart-first = subst IsApart first.1 s.apart
 
-  length-first : length first.split.after ≡ k - 1
-  length-first = let e = ap length (sym row_first) ∙ s.count in omega arith
+  length-first : length first.0 ≡ k - 1
+  length-first = let e = ap length (sym first.1) ∙ s.count in omega arith
 
   module _ {la : Links} (ea : links_at cs f ≡ Some la) {q : Ptr} (is : q ≡ la.next.ptr) where
     pub IsSpan-behind_first : IsSpan cs q b (k - 1)
     IsSpan-behind_first = record {
-      pointers = first.split.after;
+      pointers = first.0;
       count = length-first;
-      linked = first.linked;
-      ends = subst (λ r. HasEnds first.split.after r b) (ap next_of ea ∙ sym is) first.ends;
+      linked = AreLinked-tail cs f first.0 AreLinked-first;
+      ends = subst (λ r. HasEnds first.0 r b) (ap next_of ea ∙ sym is) (HasEnds-behind cs f b first.0 AreLinked-first (subst (λ qs. HasEnds qs f b) first.1 s.ends).1);
       held = AllByRecursion-first.1;
-      apart = IsApart-tail f first.split.after IsApart-first;
+      apart = IsApart-tail f first.0 IsApart-first;
     }
 
     pub listed-first : {x : B} → body_at cs f ≡ Some x → listed cs (pointers_from cs k f) ≡ held f la.hash (link_of (Some la)) x ∷ listed cs (pointers_from cs (k - 1) q)
     unfolding IsSpan-behind_first
     listed-first ex =
-        ap (listed cs) (pointers_from-span s ∙ row_first) ∙ listed-append cs (f ∷ []) first.split.after
+        ap (listed cs) (pointers_from-span s ∙ first.1) ∙ listed-append cs (f ∷ []) first.0
         ∙ (λ i. listed-one cs f AllByRecursion-first.0 la ea _ ex i ++ listed cs (sym (pointers_from-span IsSpan-behind_first) i))
 
-    IsFresh-first : IsFresh f first.split.after
-    IsFresh-first = IsFresh-head f first.split.after IsApart-first
+    IsFresh-first : IsFresh f first.0
+    IsFresh-first = IsFresh-head f first.0 IsApart-first
 
     pub IsSpan-rest_of_first : IsSpan (with_body f None cs) q b (k - 1)
     unfolding IsSpan-behind_first
@@ -182,17 +155,17 @@ module _ {B : Type 0} {cs : List (Cell Links B)} {f b : Ptr} {k : ℕ} (s : IsSp
     unfolding IsSpan-behind_first
     span_triples-first {x} ex = ap triples (listed-first ex) ∙ ap (λ ts. (la.hash, x) ∷ triples ts) (listed-stays f ea IsSpan-behind_first IsFresh-first)
 
-  last : LastCut cs f b s.pointers
-  last = LastCut-row cs f b s.pointers (λ e. some (sym s.count ∙ e)) s.linked s.ends
+  last : (qs : List Ptr) × (s.pointers ≡ qs ++ b ∷ [])
+  last = split_last f b s.pointers (λ e. some (sym s.count ∙ e)) s.ends
 
-  row_last : s.pointers ≡ last.split.before ++ b ∷ []
-  row_last = last.split.is ∙ ap (λ q. last.split.before ++ q ∷ []) last.split.at_is
+  ahead_of_last : AreLinked cs last.0 × HasEnds last.0 f (prev_at cs b)
+  ahead_of_last = ahead cs f b last.0 (subst (AreLinked cs) last.1 s.linked) (subst (λ qs. HasEnds qs f b) last.1 s.ends)
 
-  AllByRecursion-last : AllByRecursion (HasContent cs) (last.split.before ++ b ∷ [])
-  AllByRecursion-last = subst (AllByRecursion (HasContent cs)) row_last s.held
+  AllByRecursion-last : AllByRecursion (HasContent cs) (last.0 ++ b ∷ [])
+  AllByRecursion-last = subst (AllByRecursion (HasContent cs)) last.1 s.held
 
   HasContent-last : HasContent cs b
-  HasContent-last = (AllByRecursion-right (HasContent cs) last.split.before (b ∷ []) AllByRecursion-last).0
+  HasContent-last = (AllByRecursion-right (HasContent cs) last.0 (b ∷ []) AllByRecursion-last).0
 
   pub IsAt-last : IsAt cs b
   IsAt-last = IsAt-content cs b HasContent-last.1
@@ -200,31 +173,31 @@ module _ {B : Type 0} {cs : List (Cell Links B)} {f b : Ptr} {k : ℕ} (s : IsSp
   pub Holds-last : Holds cs b
   Holds-last = Holds-content cs b HasContent-last.1
 
-  length-last : length last.split.before ≡ k - 1
-  length-last = let e = ap length (sym row_last) ∙ s.count in omega (arith, length-append last.split.before (b ∷ []))
+  length-last : length last.0 ≡ k - 1
+  length-last = let e = ap length (sym last.1) ∙ s.count in omega (arith, length-append last.0 (b ∷ []))
 
-  IsApart-last : IsApart (last.split.before ++ b ∷ [])
-  IsApart-last = subst IsApart row_last s.apart
+  IsApart-last : IsApart (last.0 ++ b ∷ [])
+  IsApart-last = subst IsApart last.1 s.apart
 
   module _ {la : Links} (ea : links_at cs b ≡ Some la) {q : Ptr} (is : q ≡ la.prev.ptr) where
     pub IsSpan-ahead_of_last : IsSpan cs f q (k - 1)
     IsSpan-ahead_of_last = record {
-      pointers = last.split.before;
+      pointers = last.0;
       count = length-last;
-      linked = last.linked;
-      ends = subst (λ r. HasEnds last.split.before f r) (ap prev_of ea ∙ sym is) last.ends;
-      held = AllByRecursion-left (HasContent cs) last.split.before (b ∷ []) AllByRecursion-last;
-      apart = IsApart-left last.split.before (b ∷ []) IsApart-last;
+      linked = ahead_of_last.0;
+      ends = subst (λ r. HasEnds last.0 f r) (ap prev_of ea ∙ sym is) ahead_of_last.1;
+      held = AllByRecursion-left (HasContent cs) last.0 (b ∷ []) AllByRecursion-last;
+      apart = IsApart-left last.0 (b ∷ []) IsApart-last;
     }
 
     pub listed-last : {x : B} → body_at cs b ≡ Some x → listed cs (pointers_from cs k f) ≡ listed cs (pointers_from cs (k - 1) f) ++ held b la.hash (link_of (Some la)) x ∷ []
     unfolding IsSpan-ahead_of_last
     listed-last ex =
-        ap (listed cs) (pointers_from-span s ∙ row_last) ∙ listed-append cs last.split.before (b ∷ [])
+        ap (listed cs) (pointers_from-span s ∙ last.1) ∙ listed-append cs last.0 (b ∷ [])
         ∙ (λ i. listed cs (sym (pointers_from-span IsSpan-ahead_of_last) i) ++ listed-one cs b HasContent-last la ea _ ex i)
 
-    IsFresh-last : IsFresh b last.split.before
-    IsFresh-last = AllByRecursion-left (λ q. same_ptr b q ≡ false) last.split.before [] (IsFresh-middle last.split.before b [] IsApart-last)
+    IsFresh-last : IsFresh b last.0
+    IsFresh-last = AllByRecursion-left (λ q. same_ptr b q ≡ false) last.0 [] (IsFresh-middle last.0 b [] IsApart-last)
 
     pub IsSpan-rest_of_last : IsSpan (with_body b None cs) f q (k - 1)
     unfolding IsSpan-ahead_of_last

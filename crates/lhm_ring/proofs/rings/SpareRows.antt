@@ -2,11 +2,10 @@
 use Rattle.std.proofs.Common.{◌≡◌, ℕ, suc, ◌+◌, ◌-◌, ◌<◌, true, false, cond, List, [], ◌∷◌, ◌++◌, length, Option, Some, None, refl, sym, ap, ◌∙◌, subst, arith}
 use Rattle.std.specs.List.{AllByRecursion}
 use denote.RawPtr.{Ptr, null_ptr}
-use Rattle.lhm_ring.specs.declared.pointer.NodePointer.{NodePointer}
 use Rattle.lhm_ring.specs.declared.ring.Links.{Links}
 use Rattle.lhm_ring.specs.declared.ring.Ends.{Ends}
 use Rattle.lhm_ring.specs.declared.pointer.Link.{Link}
-use Rattle.lhm_ring.proofs.lists.Apart.{IsFresh, same_ptr-reflexive, IsFresh-head, IsApart-tail, IsFresh-middle, IsApart-removed, IsApart-inserted}
+use Rattle.lhm_ring.proofs.lists.Apart.{same_ptr-reflexive, IsFresh-head, IsApart-tail, IsFresh-middle, IsApart-removed, IsApart-inserted}
 use Rattle.lhm_ring.proofs.lists.ListFacts.{AllByRecursion-right, AllByRecursion-map}
 use Rattle.lhm_ring.proofs.memory.OneNodeChanged.{IsSpareList-other}
 use Rattle.lhm_ring.proofs.lists.Options.{none_some}

@@ -15,7 +15,7 @@ use Rattle.lhm_ring.proofs.rings.SameNodes.{AreLinked-same}
 use Rattle.lhm_ring.proofs.rings.Spans.{HasEnds-behind, last_pointer-last_from, AreLinked-tail, pointers_from-span}
 use Rattle.lhm_ring.proofs.rings.SpareRows.{AllByRecursion-onto, IsApart-onto, SameButLinks-in_ring, length-onto, StartsAt-next, some_still, one_triple, triples-one_of}
 use Rattle.lhm_ring.specs.Nodes.{Cell, same_ptr}
-use Rattle.lhm_ring.specs.Links.{ring_cells, next_at, prev_at, content_at, AreLinked, IsSpareList, HasContent, IsRing, IsJoined, listed, HasEnds, span_triples, IsSpan, ring_list, IsOwned, IsThere}
+use Rattle.lhm_ring.specs.Links.{ring_cells, next_at, prev_at, content_at, AreLinked, IsSpareList, HasContent, IsRing, IsJoined, listed, span_triples, IsSpan, ring_list, IsOwned, IsThere}
 use Rattle.lhm_ring.specs.Ring.{triples}
 use Rattle.lhm_ring.specs.Drain.{onto, StartsAt, triple_of, SameButLinks, IsRow, HasRow, SparesRow}
 use Rattle.lhm_ring.specs.Pointer.{target}

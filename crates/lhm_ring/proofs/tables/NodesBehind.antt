@@ -44,7 +44,7 @@ module _ {B : Type 0} {hs : List (Held B)} {start here : Ptr} {passed : ℕ} whe
   pub HasPassed-step : (m : HasPassed hs start here passed) (next : Ptr) → Some next ≡ first_at m.came.after → HasPassed hs start next (passed + 1)
   HasPassed-step m next is =
       let at = m.came in
-      let first = First-first_at at.after (Some next) next is refl in
+      let first = First-first_at at.after is refl in
       let one = ap length first.is in
       record {
         began = m.began;
@@ -76,7 +76,7 @@ module _ {B : Type 0} {hs : List (Held B)} {o : Option Ptr} where
   module _ {passed : ℕ} (m : HasBehind hs o passed) where
     module _ {p : Ptr} (some : o ≡ Some p) where
       abbrev last : Last m.front p
-      last = Last-last_at m.front o p m.next_is some
+      last = Last-last_at m.front m.next_is some
 
       abbrev pub next_held : IsHeld hs p
       next_held = record {

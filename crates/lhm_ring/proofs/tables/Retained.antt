@@ -88,7 +88,7 @@ module _ {F K V : Type 0} (T : F → K → V → Bool → V → F → Type 0) (Q
 
     -- the pair at p is the next
     pub First-next : {p : Ptr} → next ≡ Some p → First m.rest p
-    First-next {p} some = First-first_at m.rest next p m.next_is some
+    First-next {p} some = First-first_at m.rest m.next_is some
 
     module _ {p : Ptr} (n : First m.rest p) where
       pub now-cut : now ≡ m.kept ++ n.node ∷ n.after

@@ -1,19 +1,19 @@
-use Rattle.std.proofs.Common.{ℕ, ◌∙◌, ◌++◌, ◌∷◌, [], Some, length, ap, sym, refl, arith, append_assoc}
+use Rattle.std.proofs.Common.{ℕ, ◌∙◌, ◌++◌, ◌∷◌, [], length, ap, sym, refl, arith, append_assoc}
 use Rattle.lhm_ring.proofs.rings.Ends.{First-first_at, first_held, length-removed, triples-first, triples-pushed}
 use Rattle.lhm_ring.proofs.resize.move_all.Goals as goal
 use Rattle.lhm_ring.specs.Ring.{triples}
 
 pub unlink-hash-requires : goal.unlink-hash-requires
-unlink-hash-requires g c = let p = c.in-Some.at.pointer.ptr in first_held (First-first_at c.each.from.held (Some p) p c.in-Some.ensures refl)
+unlink-hash-requires g c = first_held (First-first_at c.each.from.held c.in-Some.ensures refl)
 
 pub each-smaller : goal.each-smaller
 each-smaller g c =
-    let p = c.in-Some.at.pointer.ptr in let h = first_held (First-first_at c.each.from.held (Some p) p c.in-Some.ensures refl) in
+    let h = first_held (First-first_at c.each.from.held c.in-Some.ensures refl) in
     length-removed c.each.from.held c.unlink-hash.new.self.held h.before h.node h.after h.is (c.unlink-hash.ensures.others h.before h.node h.after h.is h.at_is)
 
 pub each-preserved : goal.each-preserved
 each-preserved g c =
-    let p = c.in-Some.at.pointer.ptr in let n = First-first_at c.each.from.held (Some p) p c.in-Some.ensures refl in let left = c.unlink-hash.ensures.others [] n.node n.after n.is n.at_is in
+    let n = First-first_at c.each.from.held c.in-Some.ensures refl in let left = c.unlink-hash.ensures.others [] n.node n.after n.is n.at_is in
     let cut = triples-first n c.unlink-hash.new.self.held c.unlink-hash.result left (c.unlink-hash.ensures.triple [] n.node n.after n.is n.at_is) in
     let taken : ℕ × (g.row.K.Denot × g.row.V.Denot) = (c.unlink-hash.result.0, (c.unlink-hash.result.1, c.unlink-hash.result.2)) in
     let before = ap length n.is in let after = ap length left in

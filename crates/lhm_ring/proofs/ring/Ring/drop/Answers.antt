@@ -1,13 +1,13 @@
-use Rattle.std.proofs.Common.{Some, refl}
+use Rattle.std.proofs.Common.{refl}
 use Rattle.lhm_ring.proofs.rings.Ends.{First-first_at, first_held, none-first_at, length-removed}
 use Rattle.lhm_ring.proofs.ring.Ring.drop.Goals as goal
 
 pub unlink-key-requires : goal.unlink-key-requires
-unlink-key-requires g c = let p = c.in-Some.at.pointer.ptr in first_held (First-first_at c.held.self.held (Some p) p c.in-Some.ensures refl)
+unlink-key-requires g c = first_held (First-first_at c.held.self.held c.in-Some.ensures refl)
 
 pub held-smaller : goal.held-smaller
 held-smaller g c =
-    let p = c.in-Some.at.pointer.ptr in let h = first_held (First-first_at c.held.self.held (Some p) p c.in-Some.ensures refl) in
+    let h = first_held (First-first_at c.held.self.held c.in-Some.ensures refl) in
     let u = c.unlink-key.ensures.others h.before h.node h.after h.is h.at_is in
     length-removed c.held.self.held c.unlink-key.new.self.held h.before h.node h.after h.is u
 
