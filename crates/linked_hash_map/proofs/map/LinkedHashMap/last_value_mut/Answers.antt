@@ -14,8 +14,7 @@ use Rattle.lhm_ring.specs.Ring.{change_at, revalued}
 pub value_mut-requires : goal.value_mut-requires
 value_mut-requires g c =
     let m = c.self.inside in
-    let last = Last-last_at m.table.held (pointer_of_some c.last.result)
-    (pointer_of c.unwrap-at.result) c.last.ensures.last (ap pointer_of_some c.unwrap-at.ensures) in
+    let last = Last-last_at m.table.held c.last.ensures.last (ap pointer_of_some c.unwrap-at.ensures) in
     last_held last
 
 pub invariant_of-self-lent : goal.invariant_of-self-lent
@@ -24,7 +23,7 @@ invariant_of-self-lent g c w = IsKept-with_value c.self.invariant (pointer_of c.
 pub returns : goal.returns
 returns g c =
     let m = c.self.inside in let at = pointer_of c.unwrap-at.result in
-    let last = Last-last_at m.table.held (pointer_of_some c.last.result) at c.last.ensures.last (ap pointer_of_some c.unwrap-at.ensures) in
+    let last = Last-last_at m.table.held c.last.ensures.last (ap pointer_of_some c.unwrap-at.ensures) in
     let of_pairs = length-pairs_of m.table.held in let long = ap length last.is in
     let cut = length-append last.before (last.node ∷ []) in
     let index : length last.before ≡ length (pairs_of m.table.held) - 1 = omega (arith, of_pairs, long, cut) in

@@ -12,7 +12,7 @@ use Rattle.lhm_ring.specs.Pointer.{pointer_of}
 
 pub remove_at-requires : goal.remove_at-requires
 remove_at-requires g c = let p = pointer_of c.in_ok-front.front in
-    first_held (First-first_at c.self.inside.table.held (Some p) p c.in_ok-front.ensures refl)
+    first_held (First-first_at c.self.inside.table.held c.in_ok-front.ensures refl)
 
 pub invariant_of-self : goal.invariant_of-self
 invariant_of-self g c = IsKept-removed c.self.invariant
