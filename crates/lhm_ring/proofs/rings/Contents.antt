@@ -7,49 +7,44 @@ use Rattle.lhm_ring.specs.Nodes.{Cell, links_at, body_at, IsAt, Holds}
 use Rattle.lhm_ring.specs.Links.{link_of, content_of, content_at}
 use Rattle.lhm_ring.specs.Ring.{Held, held}
 
+-- what the links and the body say of t
+record Read {B : Type 0} (p : Ptr) (o : Option Links) (b : Option B) (t : Held B) : Type 0 where
+  links : Links
+  body : B
+  links_are : o ≡ Some links
+  body_is : b ≡ Some body
+  is : t ≡ held p links.hash (link_of (Some links)) body
+
 module _ {B : Type 0} where
-  at-content_of : (p : Ptr) (o : Option Links) (b : Option B) (t : Held B) → content_of p o b ≡ Some t → t.at ≡ p
-  at-content_of p None b t e = cc
-  at-content_of p (Some l) None t e = cc
-  at-content_of p (Some l) (Some b) t e = ap (λ (z : Held B). z.at) (sym (Some-injective (held p l.hash (link_of (Some l)) b) t e))
-
-  hash-content_of : (p : Ptr) (l : Links) (b : Option B) (t : Held B) → content_of p (Some l) b ≡ Some t → t.hash ≡ l.hash
-  hash-content_of p l None t e = absurd (none_some t e)
-  hash-content_of p l (Some x) t e = ap (λ (z : Held B). z.hash) (sym (Some-injective (held p l.hash (link_of (Some l)) x) t e))
-
-  link-content_of : (p : Ptr) (l : Links) (b : Option B) (t : Held B) → content_of p (Some l) b ≡ Some t → t.link ≡ link_of (Some l)
-  link-content_of p l None t e = absurd (none_some t e)
-  link-content_of p l (Some x) t e = ap (λ (z : Held B). z.link) (sym (Some-injective (held p l.hash (link_of (Some l)) x) t e))
-
-  pair-content_of : (p : Ptr) (o : Option Links) (x : B) (t : Held B) → content_of p o (Some x) ≡ Some t → t.pair ≡ x
-  pair-content_of p None x t e = absurd (none_some t e)
-  pair-content_of p (Some l) x t e = ap (λ (z : Held B). z.pair) (sym (Some-injective (held p l.hash (link_of (Some l)) x) t e))
-
-  content_of-holds : (p : Ptr) (o : Option Links) (b : Option B) (t : Held B) → content_of p o b ≡ Some t → (x : B) × (b ≡ Some x)
-  content_of-holds p None b t e = absurd (none_some t e)
-  content_of-holds p (Some l) None t e = absurd (none_some t e)
-  content_of-holds p (Some l) (Some x) t e = (x, refl)
-
-  content_of-links : (p : Ptr) (o : Option Links) (b : Option B) (t : Held B) → content_of p o b ≡ Some t → (l : Links) × (o ≡ Some l)
-  content_of-links p None b t e = absurd (none_some t e)
-  content_of-links p (Some l) b t e = (l, refl)
+  Read-content_of : (p : Ptr) (o : Option Links) (b : Option B) (t : Held B) → content_of p o b ≡ Some t → Read p o b t
+  Read-content_of p None b t e = absurd (none_some t e)
+  Read-content_of p (Some l) None t e = absurd (none_some t e)
+  Read-content_of p (Some l) (Some x) t e =
+      record { links = l; body = x; links_are = refl; body_is = refl; is = sym (Some-injective (held p l.hash (link_of (Some l)) x) t e) }
 
   -- what is read at p, where t is held
   module _ (cs : List (Cell Links B)) (p : Ptr) {t : Held B} (c : content_at cs p ≡ Some t) where
+    read : Read p (links_at cs p) (body_at cs p) t
+    read = Read-content_of p (links_at cs p) (body_at cs p) t c
+
     pub at-content : t.at ≡ p
-    at-content = at-content_of p (links_at cs p) (body_at cs p) t c
+    at-content = ap (λ z. z.at) read.is
 
     pub IsAt-content : IsAt cs p
-    IsAt-content = content_of-links p (links_at cs p) (body_at cs p) t c
+    IsAt-content = (read.links, read.links_are)
 
     pub Holds-content : Holds cs p
-    Holds-content = content_of-holds p (links_at cs p) (body_at cs p) t c
+    Holds-content = (read.body, read.body_is)
 
-    pub hash-content : {l : Links} → links_at cs p ≡ Some l → t.hash ≡ l.hash
-    hash-content {l} e = hash-content_of p l (body_at cs p) t (ap (λ o. content_of p o (body_at cs p)) (sym e) ∙ c)
+    module _ {l : Links} (e : links_at cs p ≡ Some l) where
+      same : read.links ≡ l
+      same = Some-injective read.links l (sym read.links_are ∙ e)
 
-    pub link-content : {l : Links} → links_at cs p ≡ Some l → t.link ≡ link_of (Some l)
-    link-content {l} e = link-content_of p l (body_at cs p) t (ap (λ o. content_of p o (body_at cs p)) (sym e) ∙ c)
+      pub hash-content : t.hash ≡ l.hash
+      hash-content = ap (λ z. z.hash) read.is ∙ ap (λ (k : Links). k.hash) same
+
+      pub link-content : t.link ≡ link_of (Some l)
+      link-content = ap (λ z. z.link) read.is ∙ ap (λ k. link_of (Some k)) same
 
     pub pair-content : {x : B} → body_at cs p ≡ Some x → t.pair ≡ x
-    pair-content {x} e = pair-content_of p (links_at cs p) x t (ap (λ b. content_of p (links_at cs p) b) (sym e) ∙ c)
+    pair-content {x} e = ap (λ z. z.pair) read.is ∙ Some-injective read.body x (sym read.body_is ∙ e)

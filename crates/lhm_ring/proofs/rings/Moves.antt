@@ -38,7 +38,7 @@ module _ {B : Type 0} {cs : List (Cell Links B)} {ps : List Ptr} {spare : Option
   abbrev There : Ptr → Type 0
   There q = IsThere cs q
 
-  AreLinked-row : AreLinked cs (null_ptr ∷ (us ++ p ∷ (vs ++ null_ptr ∷ [])))
+  pub AreLinked-row : AreLinked cs (null_ptr ∷ (us ++ p ∷ (vs ++ null_ptr ∷ [])))
   AreLinked-row = subst (λ qs. AreLinked cs (null_ptr ∷ qs)) (append_assoc us (p ∷ vs) (null_ptr ∷ [])) r.linked
 
   IsApart-row : IsApart (null_ptr ∷ (us ++ p ∷ vs))
