@@ -3,20 +3,21 @@ use Rattle.std.proofs.Common.{◌≡◌, List, [], ◌∷◌, ◌++◌, refl, ap
 use Rattle.std.specs.List.{AllByRecursion}
 use Rattle.lhm_ring.specs.Ring.{SplitLast}
 
-abbrev pub last_from : {X : Type 0} → X → List X → X
-last_from x [] = x
-last_from x (y ∷ ys) = last_from y ys
+module _ {X : Type 0} where
+  abbrev pub last_from : X → List X → X
+  last_from x [] = x
+  last_from x (y ∷ ys) = last_from y ys
 
--- a list that is not empty has a last element
-pub SplitLast-last_from : {X : Type 0} (x : X) (xs : List X)
-    → SplitLast (λ z. z) (x ∷ xs) (last_from x xs)
-SplitLast-last_from x [] = record { before = []; node = x; is = refl; at_is = refl }
-SplitLast-last_from x (y ∷ ys) = let on = SplitLast-last_from y ys in record { before = x ∷ on.before; node = on.node; is = ap (λ r. x ∷ r) on.is; at_is = on.at_is }
+  -- a list that is not empty has a last element
+  pub SplitLast-last_from : (x : X) (xs : List X)
+      → SplitLast (λ z. z) (x ∷ xs) (last_from x xs)
+  SplitLast-last_from x [] = record { before = []; node = x; is = refl; at_is = refl }
+  SplitLast-last_from x (y ∷ ys) = let on = SplitLast-last_from y ys in record { before = x ∷ on.before; node = on.node; is = ap (λ r. x ∷ r) on.is; at_is = on.at_is }
 
-pub AllByRecursion-last : {X : Type 0} (P : X → Type 0) (x : X) (xs : List X) → P x → AllByRecursion P xs → P (last_from x xs)
-AllByRecursion-last P x [] h a = h
-AllByRecursion-last P x (y ∷ ys) h a = AllByRecursion-last P y ys a.0 a.1
+  pub AllByRecursion-last : (P : X → Type 0) (x : X) (xs : List X) → P x → AllByRecursion P xs → P (last_from x xs)
+  AllByRecursion-last P x [] h a = h
+  AllByRecursion-last P x (y ∷ ys) h a = AllByRecursion-last P y ys a.0 a.1
 
-pub last_from-push : {X : Type 0} (x : X) (xs : List X) (p : X) → last_from x (xs ++ p ∷ []) ≡ p
-last_from-push x [] p = refl
-last_from-push x (y ∷ ys) p = last_from-push y ys p
+  pub last_from-push : (x : X) (xs : List X) (p : X) → last_from x (xs ++ p ∷ []) ≡ p
+  last_from-push x [] p = refl
+  last_from-push x (y ∷ ys) p = last_from-push y ys p

@@ -36,19 +36,22 @@ module _ {B : Type 0} where
   firsts-same (x ∷ xs) p o u ys = ap (λ ps. x.0 ∷ ps) (firsts-same xs p o u ys)
 
 module _ (E : Three) {M : Type 1} {𝓤 : Ura M} (𝓛 : Logic 𝓤) where
-  abbrev Body : Ptr → Option (E.key.Denot × E.value.Denot) → Fml
+  abbrev Content : Type 0
+  Content = Option (E.key.Denot × E.value.Denot)
+
+  abbrev Body : Ptr → Content → Fml
   Body p o = body_owns (RL E) (RK E) (RV E) p o
 
-  abbrev pub Run : List (Ptr × Option (E.key.Denot × E.value.Denot)) → Fml
+  abbrev pub Run : List (Ptr × Content) → Fml
   Run cs = bodies (RL E) (RK E) (RV E) (firsts cs) (seconds cs)
 
-  pub bodies_cut : (xs : List (Ptr × Option (E.key.Denot × E.value.Denot))) (p : Ptr) (o : Option (E.key.Denot × E.value.Denot)) (ys : List (Ptr × Option (E.key.Denot × E.value.Denot)))
+  pub bodies_cut : (xs : List (Ptr × Content)) (p : Ptr) (o : Content) (ys : List (Ptr × Content))
       → ent 𝓤 (sem 𝓛 (Run (xs ++ (p, o) ∷ ys))) (sep 𝓤 (sem 𝓛 (Body p o)) (sem 𝓛 (Run (xs ++ ys))))
   bodies_cut [] p o ys = id⊢ 𝓤 _
   bodies_cut (x ∷ xs) p o ys = qed 𝓛 (‵ (Run (x ∷ xs ++ (p, o) ∷ ys)) ∷ []) ∵ fsplit ! $ move ! (1 ∷ []) $
       use1 𝓛 (‵ (Body p o) ⊛ ‵ (Run (xs ++ ys))) (bodies_cut xs p o ys) $ split ! $ move ! (2 ∷ 1 ∷ []) $ fjoin ! $ move ! (1 ∷ []) $ done !
 
-  pub bodies_glue : (xs : List (Ptr × Option (E.key.Denot × E.value.Denot))) (p : Ptr) (o : Option (E.key.Denot × E.value.Denot)) (ys : List (Ptr × Option (E.key.Denot × E.value.Denot)))
+  pub bodies_glue : (xs : List (Ptr × Content)) (p : Ptr) (o : Content) (ys : List (Ptr × Content))
       → ent 𝓤 (sep 𝓤 (sem 𝓛 (Body p o)) (sem 𝓛 (Run (xs ++ ys)))) (sem 𝓛 (Run (xs ++ (p, o) ∷ ys)))
   bodies_glue [] p o ys = id⊢ 𝓤 _
   bodies_glue (x ∷ xs) p o ys = qed 𝓛 (‵ (Body p o) ∷ ‵ (Run (x ∷ xs ++ ys)) ∷ []) ∵ move ! (1 ∷ []) $ fsplit ! $ move ! (2 ∷ 1 ∷ []) $

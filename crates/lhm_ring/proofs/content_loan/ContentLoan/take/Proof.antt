@@ -1,7 +1,7 @@
 -- `take` moves out what one node holds, of what is lent. Assumes `Logic`.
 use Rattle.lhm_ring.proofs.memory.Steps.{◌≡◌, ℕ, ◌+◌, List, [], ◌∷◌, ◌++◌, refl, sym, ap, None}
-use Rattle.lhm_ring.proofs.memory.Steps.{full_share, Val, vptr, inst_fn, SProp, ftrue, flft, ◌∵◌, ‵}
-use Rattle.lhm_ring.proofs.memory.Steps.{raw, ◌⊛◌, at_ret, ◌$◌, !, qed, by, move, keep, use1, use2}
+use Rattle.lhm_ring.proofs.memory.Steps.{full_share, Val, vptr, inst_fn, SProp, flft, ◌∵◌, ‵, raw}
+use Rattle.lhm_ring.proofs.memory.Steps.{◌⊛◌, at_ret, ◌$◌, !, qed, by, move, keep, use1, use2}
 use Rattle.lhm_ring.proofs.memory.Steps.{split, join, fsplit, fsplit3, fjoin, rewrite, stop, fld}
 use Rattle.lhm_ring.proofs.memory.Steps.{addr, of_opd, no_more, and_then, first, blocks, exec}
 use Rattle.lhm_ring.proofs.memory.Steps.{returns, alloc_all, pass_all, free_all, look_at, get}
@@ -10,10 +10,10 @@ use Rattle.lhm_ring.proofs.memory.Steps.{tables, fact, yes, owns, layout, types_
 use Rattle.lhm_ring.proofs.memory.Steps.{ptr_val, lies_at, heard, opens, closes, Stays}
 use Rattle.lhm_ring.proofs.memory.Steps.{stay_dropped, stay_ref, walk_of, Goes-dropped, Goes-ref}
 use Rattle.lhm_ring.proofs.memory.Steps.{after, word, word-Good, proved_at, leaves, id⊢, RattleType}
-use Rattle.lhm_ring.proofs.memory.Steps.{in_a_block, Some, never, Fml, fsep, Option, vstruct, vcons}
-use Rattle.lhm_ring.proofs.memory.Steps.{vnil, Lft, fbor, pick, SemTy, named_lft, some, fat, given}
-use Rattle.lhm_ring.proofs.memory.Steps.{learn, Good, open_ref, states, self_left, states_also}
-use Rattle.lhm_ring.proofs.memory.Steps.{runs_with}
+use Rattle.lhm_ring.proofs.memory.Steps.{in_a_block, Some, never, Option, vstruct, vcons, vnil, Lft}
+use Rattle.lhm_ring.proofs.memory.Steps.{fbor, pick, SemTy, named_lft, some, fat, given, learn}
+use Rattle.lhm_ring.proofs.memory.Steps.{Good, open_ref, tokens, states_also, self_left, runs_with}
+use Rattle.lhm_ring.proofs.memory.Steps.{states}
 use types.Run.{load, look}
 use types.Mut.{close_ref}
 use types.SemTy.{Body as Borrowed}
@@ -38,10 +38,9 @@ take_spec 𝓤 𝓛 𝓜 𝓡 wired L K V LL LK LV =
     (#self (args E)) fn (code.unfolded 𝓤 H 𝓜 𝓡 wired (L, (K, (V, tt)))) (λ y are.
     let κs = y.0.0 in let qs = y.0.1 in let a = y.0.3 in let vss = y.0.4 in let Post : Val → SProp 𝓤 = (walk_of 𝓛 En hs c).post y in
     let rb : ℕ = a.0.ref_ptr.0 in let ro : ℕ = a.0.ref_ptr.1 in let d : ContentLoan L.Denot K.Denot V.Denot = a.0.now in let p : Ptr = a.1.0.ptr in
-    let rest : Fml = fsep (flft κs.1.1.0 qs.1.1.0) (fsep (flft κs.1.1.1.0 qs.1.1.1.0) (fsep (flft κs.1.1.1.1.0 qs.1.1.1.1.0) ftrue)) in let others : Fml = fsep (flft κs.1.0 qs.1.0) rest in
     let It : RattleType = S-type.the_row (named_lft 5 1 tt κs) R S W in let κ : Lft = κs.1.0 in let q = qs.1.0 in
     let Asked : Type 0 = HasBody d.run p in
-    qed 𝓛 (((‵ (flft κs.0 qs.0) ⊛ ‵ others) ⊛ ‵ (owns (types_at En.signature.params κs) a vss)) ∷ raw (fact 𝓤 _) ∷ raw (fact 𝓤 _) ∷ raw (fact 𝓤 _) ∷ raw (fact 𝓤 Asked) ∷ []) ∵
+    qed 𝓛 (((‵ (flft κs.0 qs.0) ⊛ ‵ (tokens 4 κs.1 qs.1)) ⊛ ‵ (owns (types_at En.signature.params κs) a vss)) ∷ raw (fact 𝓤 _) ∷ raw (fact 𝓤 _) ∷ raw (fact 𝓤 _) ∷ raw (fact 𝓤 Asked) ∷ []) ∵
     keep ! (4 ∷ 0 ∷ []) $ heard ! Asked (λ asked. split ! $ split ! $ move ! (2 ∷ []) $ fsplit ! $ fsplit3 ! $ keep ! (1 ∷ 2 ∷ 4 ∷ 5 ∷ []) $
     runs_with ! 𝓣.C 𝓣.Λ fn Post (vptr rb ro ∷ word p ∷ []) (λ i. are.0.0 i ++ (word-pointer a.1.0 vss.1.0 are.1.0 i ++ [])) $
     alloc_all ! (λ l. pass_all ! refl ((tt, tt), (word-Good [] p, tt)) $ let Ev = env fn.locals l in

@@ -1,10 +1,9 @@
 -- `new` owns nothing yet. Assumes `Logic`.
-use Rattle.lhm_ring.proofs.memory.Steps.{◌≡◌, ℕ, [], ◌∷◌, refl, Val, inst_fn, SProp, ftrue, flft}
-use Rattle.lhm_ring.proofs.memory.Steps.{◌∵◌, ‵, raw, ◌⊛◌, ◌$◌, !, qed, by, keep, use0, split}
-use Rattle.lhm_ring.proofs.memory.Steps.{fjoin, feq_i, no_more, and_then, returns, enter, alloc_all}
-use Rattle.lhm_ring.proofs.memory.Steps.{pass_all, free_all, look_at, get, sets, agg, tables}
-use Rattle.lhm_ring.proofs.memory.Steps.{nothing, Stays, walk_of, proved_at, leaves, states_also}
-use Rattle.lhm_ring.proofs.memory.Steps.{states}
+use Rattle.lhm_ring.proofs.memory.Steps.{◌≡◌, ℕ, [], ◌∷◌, refl, Val, inst_fn, SProp, ftrue, ◌∵◌, ‵}
+use Rattle.lhm_ring.proofs.memory.Steps.{raw, ◌⊛◌, ◌$◌, !, qed, by, keep, use0, split, fjoin, feq_i}
+use Rattle.lhm_ring.proofs.memory.Steps.{no_more, and_then, returns, alloc_all, pass_all, free_all}
+use Rattle.lhm_ring.proofs.memory.Steps.{look_at, get, sets, agg, tables, Stays, walk_of, proved_at}
+use Rattle.lhm_ring.proofs.memory.Steps.{leaves, nothing, enter, states, tokens, states_also}
 use Rattle.lhm_ring.proofs.lists.Apart.{IsApart-none}
 use Rattle.lhm_ring.proofs.memory.Places.{places-none}
 use Rattle.lhm_ring.proofs.memory.NodeFields.{Three, args, RL, RK, RV, Nr, Marker, marker, marker_made, three_rows}
@@ -21,9 +20,8 @@ new_spec 𝓤 𝓛 𝓜 𝓡 wired L K V LL LK LV =
     let hs : Stays En.signature.params En.kept = tt in
     proved_at 𝓛 En hs c 𝓜 𝓡 tt (#self (args E)) fn (code.unfolded 𝓤 H 𝓜 𝓡 wired (L, (K, (V, tt)))) (λ y are.
     let κs = y.0.0 in let qs = y.0.1 in let Post : Val → SProp 𝓤 = (walk_of 𝓛 En hs c).post y in
-    let toks = ‵ (flft κs.0 qs.0) ⊛ ‵ (flft κs.1.0 qs.1.0) ⊛ ‵ (flft κs.1.1.0 qs.1.1.0) ⊛ ‵ ftrue in
     let out : N.Denot = record { marker = record {}; cells = []; apart = IsApart-none; blocks = tt; node_bytes = node_bytes R S W; unused = []; chunks = []; unused_blocks = tt; laid = places-none (node_bytes R S W) } in
-    qed 𝓛 ((toks ⊛ ‵ ftrue) ∷ raw ((c κs y.0.3).requires y.1) ∷ []) ∵ split ! $ keep ! (0 ∷ []) $
+    qed 𝓛 ((‵ (tokens 3 κs qs) ⊛ ‵ ftrue) ∷ raw ((c κs y.0.3).requires y.1) ∷ []) ∵ split ! $ keep ! (0 ∷ []) $
     enter ! 𝓣.C 𝓣.Λ fn [] Post $ alloc_all ! (λ l. pass_all ! refl tt $
     sets ! (agg ! (no_more !)) refl (tt, tt) $ sets ! (agg ! (and_then ! (get ! refl) (no_more !))) refl (tt, (tt, tt)) $
     states ! ((out.unused ≡ []) × (out.chunks ≡ [])) (refl, refl) $ states_also ! (out.cells ≡ []) refl $

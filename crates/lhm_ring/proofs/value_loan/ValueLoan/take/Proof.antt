@@ -1,7 +1,7 @@
 -- `pull` cuts the value of one node out of those that are lent. Assumes `Logic`.
 use Rattle.lhm_ring.proofs.memory.Steps.{◌≡◌, ℕ, ◌+◌, List, [], ◌∷◌, ◌++◌, refl, sym, ap}
-use Rattle.lhm_ring.proofs.memory.Steps.{full_share, Val, vptr, inst_fn, SProp, ftrue, flft, ◌∵◌, ‵}
-use Rattle.lhm_ring.proofs.memory.Steps.{raw, ◌⊛◌, at_ret, ◌$◌, !, qed, by, move, keep, use1, split}
+use Rattle.lhm_ring.proofs.memory.Steps.{full_share, Val, vptr, inst_fn, SProp, flft, ◌∵◌, ‵, raw}
+use Rattle.lhm_ring.proofs.memory.Steps.{◌⊛◌, at_ret, ◌$◌, !, qed, by, move, keep, use1, split}
 use Rattle.lhm_ring.proofs.memory.Steps.{join, fsplit, fsplit3, fjoin, rewrite, feq_i, stop, fld}
 use Rattle.lhm_ring.proofs.memory.Steps.{addr, of_opd, first, blocks, exec, returns, alloc_all}
 use Rattle.lhm_ring.proofs.memory.Steps.{pass_all, free_all, look_at, get, get_in, through, sets}
@@ -9,10 +9,10 @@ use Rattle.lhm_ring.proofs.memory.Steps.{sets_last, is, env, sub, whole, tables,
 use Rattle.lhm_ring.proofs.memory.Steps.{types_at, plain, Ptr, block_ptr, ptr_val, lies_at, heard}
 use Rattle.lhm_ring.proofs.memory.Steps.{opens, closes, Stays, stay_dropped, stay_ref, walk_of}
 use Rattle.lhm_ring.proofs.memory.Steps.{Goes-dropped, Goes-ref, after, word, word-Good, proved_at}
-use Rattle.lhm_ring.proofs.memory.Steps.{leaves, id⊢, RattleType, in_a_block, emp, Some, never, Fml}
-use Rattle.lhm_ring.proofs.memory.Steps.{fsep, fjoin3, nothing, Lft, fobs, fbor, later, pick, await}
+use Rattle.lhm_ring.proofs.memory.Steps.{leaves, id⊢, RattleType, in_a_block, emp, Some, never}
+use Rattle.lhm_ring.proofs.memory.Steps.{fjoin3, nothing, Lft, fobs, fbor, later, pick, await}
 use Rattle.lhm_ring.proofs.memory.Steps.{group, split3, mem, MutBor, named_lft, some, open_ref, map}
-use Rattle.lhm_ring.proofs.memory.Steps.{length, states, self_left, states_also, runs_with}
+use Rattle.lhm_ring.proofs.memory.Steps.{length, tokens, states_also, self_left, runs_with, states}
 use base.Stored.{coded_list}
 use lib.ListN.{take, drop as drop_l}
 use types.Follow.{takes_two, after₂}
@@ -37,10 +37,9 @@ take_spec 𝓤 𝓛 𝓜 𝓡 wired L K V LL LK LV =
     (#self (args E)) fn (code.unfolded 𝓤 H 𝓜 𝓡 wired (L, (K, (V, tt)))) (λ y are.
     let κs = y.0.0 in let qs = y.0.1 in let a = y.0.3 in let vss = y.0.4 in let Post : Val → SProp 𝓤 = (walk_of 𝓛 En hs c).post y in
     let rb : ℕ = a.0.ref_ptr.0 in let ro : ℕ = a.0.ref_ptr.1 in let d : ValueLoan L.Denot K.Denot V.Denot = a.0.now in let p : Ptr = a.1.0.ptr in
-    let rest : Fml = fsep (flft κs.1.1.0 qs.1.1.0) (fsep (flft κs.1.1.1.0 qs.1.1.1.0) (fsep (flft κs.1.1.1.1.0 qs.1.1.1.1.0) ftrue)) in let others : Fml = fsep (flft κs.1.0 qs.1.0) rest in
     let It : RattleType = L-type.the_row (named_lft 5 1 tt κs) R S W in let κ : Lft = κs.1.0 in let q = qs.1.0 in let f : Ptr → Ptr = value_address R S W in
     let Asked : Type 0 = Lies d.run p in
-    qed 𝓛 (((‵ (flft κs.0 qs.0) ⊛ ‵ others) ⊛ ‵ (owns (types_at En.signature.params κs) a vss)) ∷ raw (fact 𝓤 _) ∷ raw (fact 𝓤 _) ∷ raw (fact 𝓤 _) ∷ raw (fact 𝓤 Asked) ∷ []) ∵
+    qed 𝓛 (((‵ (flft κs.0 qs.0) ⊛ ‵ (tokens 4 κs.1 qs.1)) ⊛ ‵ (owns (types_at En.signature.params κs) a vss)) ∷ raw (fact 𝓤 _) ∷ raw (fact 𝓤 _) ∷ raw (fact 𝓤 _) ∷ raw (fact 𝓤 Asked) ∷ []) ∵
     keep ! (4 ∷ 0 ∷ []) $ heard ! Asked (λ asked. split ! $ split ! $ move ! (2 ∷ []) $ fsplit ! $ fsplit3 ! $ keep ! (1 ∷ 2 ∷ 4 ∷ 5 ∷ []) $
     runs_with ! 𝓣.C 𝓣.Λ fn Post (vptr rb ro ∷ word p ∷ []) (λ i. are.0.0 i ++ (word-pointer a.1.0 vss.1.0 are.1.0 i ++ [])) $
     alloc_all ! (λ l. pass_all ! refl ((tt, tt), (word-Good [] p, tt)) $ let Ev = env fn.locals l in
