@@ -30,6 +30,8 @@
 //! assert_eq!(rt; kept.next(), Some((1, 8, &"page one")));
 //! assert_eq!(rt; kept.next(), None);
 //! ```
+#![tactic(auto, using(crate::proofs::session_table::Pairs::kept_sessions))]
+
 ghost use Rattle.std.specs.Prelude.{◌≡◌, ◌==◌, ◌≤◌, ◌<◌, ◌+◌, ◌++◌, ◌↔◌, ℕ, [], Some, None, false, length, vec_capacity, IfOk, IfErr, OnOk, OnErr, OnSome, IsOk, IsSome, IsErrAnd};
 ghost use Rattle.std.specs.Borrow.{sem};
 ghost use Rattle.std.specs.Map.Iter.{ShowsInOrder};

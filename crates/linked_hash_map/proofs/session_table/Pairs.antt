@@ -25,9 +25,12 @@ module _ {T : Type 0} where
   abbrev session : ℕ × Weighted T → Session T
   session pair = (pair.0, pair.1.weight, pair.1.payload)
 
-  ids_of-sessions_of : (ps : List (ℕ × Weighted T)) → ids_of (sessions_of ps) ≡ keys_of ps
+  pub ids_of-sessions_of : (ps : List (ℕ × Weighted T)) → ids_of (sessions_of ps) ≡ keys_of ps
   ids_of-sessions_of [] = refl
   ids_of-sessions_of (pair ∷ ps) = ap (λ ids. pair.0 ∷ ids) (ids_of-sessions_of ps)
+
+  -- by this a table whose sessions are kept is valid
+  pub ruleset kept_sessions = (ids_of-sessions_of)
 
   pub sessions_of-without : (ps : List (ℕ × Weighted T)) (id : ℕ) → sessions_of (pairs.without nat_eq ps id) ≡ without (sessions_of ps) id
   sessions_of-without [] id = refl

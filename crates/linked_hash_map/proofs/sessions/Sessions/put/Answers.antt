@@ -1,7 +1,7 @@
-use Rattle.std.proofs.Common.{◌+◌, ◌-◌, ◌++◌, drop, sym, ap, ◌∙◌, subst, arith}
+use Rattle.std.proofs.Common.{◌+◌, ◌-◌, ◌++◌, drop, sym, ap, ◌∙◌, arith}
 use Rattle.std.specs.Prelude.{not, unwrap_or}
 use Rattle.linked_hash_map.specs.Pairs.{last}
-use Rattle.linked_hash_map.specs.SessionTables.{session_table, payload_of, total_weight, without, with_last, IsValidTable}
+use Rattle.linked_hash_map.specs.SessionTables.{payload_of, total_weight, without, with_last}
 use Rattle.linked_hash_map.specs.SessionsKept.{sessions_of}
 use Rattle.linked_hash_map.proofs.Callers.Lookups.{last-append}
 use Rattle.linked_hash_map.proofs.session_table.Lists.{total_weight-fit, IsLongestEnd-fit}
@@ -9,12 +9,6 @@ use Rattle.linked_hash_map.proofs.session_table.Pairs.{IsValidTable-kept, total_
 use Rattle.linked_hash_map.proofs.session_table.Puts.{fit-with_last, payload_of-put, payload_of-stays, total_weight-put, length-gone}
 use Rattle.linked_hash_map.proofs.session_table.Puts.{none-leaves, drop-with_last, length-with_last, is_some-weight}
 use Rattle.linked_hash_map.proofs.sessions.Sessions.put.Goals as goal
-
-pub returns-then-weight-self-clause-valid : goal.returns-then-weight-self-clause-valid
-returns-then-weight-self-clause-valid g c = rw (← c.self.view_is) (IsValidTable-kept c.self.invariant)
-
-pub returns-then-weight-self-clause-stays_valid : goal.returns-then-weight-self-clause-stays_valid
-returns-then-weight-self-clause-stays_valid g c = rw (← c.self.view_is) (IsValidTable-kept c.self.invariant)
 
 pub overflow_sub-others : goal.overflow_sub-others
 overflow_sub-others g c =
@@ -25,14 +19,6 @@ pub find_leaving-leaving-requires : goal.find_leaving-leaving-requires
 find_leaving-leaving-requires g c =
     let others = total_weight-others c.self.invariant c.args.id in
     omega (arith, c.unwrap_or.ensures ∙ ap (λ o. unwrap_or o 0) c.weight_at-replaced.ensures)
-
-pub returns-in_default-clause-valid : goal.returns-in_default-clause-valid
-returns-in_default-clause-valid g c = rw (← c.self.view_is) (IsValidTable-kept c.self.invariant)
-
-pub returns-in_default-clause-stays_valid : goal.returns-in_default-clause-stays_valid
-returns-in_default-clause-stays_valid g c =
-    subst (λ ps. IsValidTable (session_table (sessions_of ps) c.self.inside.limit))
-    (sym c.allocate_for_put.ensures.pairs) (IsValidTable-kept c.self.invariant)
 
 pub returns-in_default-clause-succeeds : goal.returns-in_default-clause-succeeds
 returns-in_default-clause-succeeds g c =
@@ -135,9 +121,6 @@ returns-clause-exact g c =
 
 pub returns-clause-old : goal.returns-clause-old
 returns-clause-old g c = rw (← c.self.view_is) (rw c.allocate_for_put.ensures.pairs at c.store-old.ensures.old)
-
-pub returns-clause-valid : goal.returns-clause-valid
-returns-clause-valid g c = rw (← c.self.view_is) (IsValidTable-kept c.self.invariant)
 
 pub returns-clause-stays_valid : goal.returns-clause-stays_valid
 returns-clause-stays_valid g c = IsValidTable-kept (invariant_of-self-2 g c)

@@ -25,9 +25,6 @@ pub returns-in_default-clause-sessions : goal.returns-in_default-clause-sessions
 returns-in_default-clause-sessions g c =
     rw (← c.self.view_is) (ap sessions_of c.remove.ensures.pairs ∙ sessions_of-without c.self.inside.map.pairs c.args.id)
 
-pub returns-in_default-clause-valid : goal.returns-in_default-clause-valid
-returns-in_default-clause-valid g c = rw (← c.self.view_is) (IsValidTable-kept c.self.invariant)
-
 pub returns-in_default-clause-stays_valid : goal.returns-in_default-clause-stays_valid
 returns-in_default-clause-stays_valid g c = IsValidTable-kept (invariant_of-self g c)
 
@@ -55,9 +52,6 @@ returns-clause-payload g c =
 pub returns-clause-sessions : goal.returns-clause-sessions
 returns-clause-sessions g c =
     rw (← c.self.view_is) (ap sessions_of c.remove.ensures.pairs ∙ sessions_of-without c.self.inside.map.pairs c.args.id)
-
-pub returns-clause-valid : goal.returns-clause-valid
-returns-clause-valid g c = rw (← c.self.view_is) (IsValidTable-kept c.self.invariant)
 
 pub returns-clause-stays_valid : goal.returns-clause-stays_valid
 returns-clause-stays_valid g c = IsValidTable-kept (invariant_of-self-2 g c)

@@ -46,8 +46,5 @@ pub returns-clause-lighter : goal.returns-clause-lighter
 returns-clause-lighter g c = total_weight-retained g.F.FnMut c.args.keep c.args.self.now.sessions
     (sessions_of c.retain.new.self.pairs) (returns-clause-sessions g c)
 
-pub returns-clause-valid : goal.returns-clause-valid
-returns-clause-valid g c = rw (← c.self.view_is) (IsValidTable-kept c.self.invariant)
-
 pub returns-clause-stays_valid : goal.returns-clause-stays_valid
 returns-clause-stays_valid g c = IsValidTable-kept (invariant_of-self g c)
