@@ -1,12 +1,11 @@
-use Rattle.std.proofs.Common.{◌≡◌, ◌+◌, ◌<◌, ◌≤◌, ◌∙◌, length, ap, sym, subst, arith}
+use Rattle.std.proofs.Common.{◌≡◌, ◌+◌, ◌<◌, ◌≤◌, ◌∙◌, length, ap, sym, arith}
 use Rattle.lhm_ring.proofs.lists.Results.{OnOk-always}
-use Rattle.lhm_ring.proofs.tables.Tables.{length-capacity, length-table, IsTable-grown, IsTable-rechained}
+use Rattle.lhm_ring.proofs.tables.Tables.{length-capacity, IsTable-grown, IsTable-rechained}
 use Rattle.lhm_ring.proofs.tables.Tables.{rechained_raised-stays, rechained_raised-moves, rechained-fits}
 use Rattle.lhm_ring.proofs.indexes.Entries.{length-entries}
 use Rattle.lhm_ring.proofs.table.Table.raise.Goals as goal
-use Rattle.lhm_ring.specs.Buckets.{buckets, rechained_raised}
+use Rattle.lhm_ring.specs.Buckets.{buckets}
 use Rattle.lhm_ring.specs.Index.{entries}
-use Rattle.lhm_ring.specs.Table.{TableState}
 
 -- there are buckets enough
 pub invariant_of-self : goal.invariant_of-self
