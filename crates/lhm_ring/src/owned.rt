@@ -160,6 +160,6 @@ impl<K, V> OwnedPairs<K, V> {
             left: _,
         } = self;
         free_chunks(&mut nodes, &alloc, chunks);
-        nodes.end();
+        nodes.destroy_empty();
     }
 }

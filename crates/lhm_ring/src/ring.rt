@@ -129,7 +129,7 @@ impl<K, V> Ring<K, V> {
             spares: _,
         } = self;
         free_chunks(&mut nodes, &alloc, chunks);
-        nodes.end();
+        nodes.destroy_empty();
     }
 
     /// Ends the ring and returns what it held, front to back.
