@@ -19,6 +19,7 @@ mod drops;
 mod entries;
 mod equal_keys;
 mod every_call;
+mod failing_checks;
 mod growths;
 mod hashers;
 mod insertions;
