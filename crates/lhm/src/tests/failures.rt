@@ -1,8 +1,8 @@
 //! Readers and writers that fail.
 
-use super::checks::{check_eq, given};
-use super::fakes::{NEVER, Output, Sink, Source};
 use super::refusals::say_if_given;
+use super::support::checks::{check_eq, given};
+use super::support::fakes::{NEVER, Output, Sink, Source};
 use crate::run;
 use std::alloc::{AllocError, Global};
 use std::io::ErrorKind;

@@ -1,7 +1,7 @@
 //! Each macro of `checks` stops at what is not wanted: without these tests a macro that checks
 //! nothing would pass every test.
 
-use super::checks::{check, check_eq, given};
+use super::support::checks::{check, check_eq, given};
 use std::alloc::AllocError;
 
 #[test]

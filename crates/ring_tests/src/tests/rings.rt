@@ -4,7 +4,7 @@ ghost use Rattle.lhm_ring.specs.RingState.{IsHeld, AtHeld, held, triples};
 ghost use Rattle.lhm_ring.specs.RingAfterLoan.{unvalued};
 ghost use Rattle.lhm_ring.specs.Positions.{pointer_of};
 
-use super::checks::{check, check_eq, given};
+use super::support::checks::{check, check_eq, given};
 use lhm_ring::ring::{Drain, Iter, IterMut, Position, Ring};
 use std::alloc::{AllocError, Global};
 use std::iter::{DoubleEndedIterator, ExactSizeIterator, Iterator};
