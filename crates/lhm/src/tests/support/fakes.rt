@@ -7,41 +7,65 @@ use std::io::{ErrorKind, Read, Write};
 /// The call at which a reader or a writer that works fails.
 pub const NEVER: usize = 0;
 
-/// Counts a call, and fails with an error of this kind if it is the one that is to fail.
-fn count_call(calls: &mut usize, fails_at: usize, kind: ErrorKind) -> io::Result<()> {
-    *calls = calls.saturating_add(1);
-    if *calls == fails_at {
-        return Err(io::Error::new(kind, "refused"));
-    }
-    Ok(())
-}
+/// How many bytes a reader gives at once: fewer than most lines have.
+const FEW_READ: usize = 5;
 
-/// A reader over bytes that gives at most `most` of them at once and fails at call `fails_at`.
+/// How many bytes a writer takes at once: fewer than most lines have.
+pub const FEW_WRITTEN: usize = 7;
+
+/// How many bytes the buffer of a `Sink` has.
+const BUFFER: usize = 256;
+
+/// The calls of a reader or a writer: how many it has had, and which one fails with which error.
 #[derive(Drop)]
-pub struct Source<'a> {
-    left: &'a [u8],
-    pub most: usize,
-    pub calls: usize,
+pub struct Calls {
+    pub made: usize,
     pub fails_at: usize,
     pub kind: ErrorKind,
 }
 
+impl Calls {
+    /// Makes the calls of a reader or a writer that has had none.
+    fn new(fails_at: usize) -> Calls {
+        Calls {
+            made: 0,
+            fails_at,
+            kind: ErrorKind::Other,
+        }
+    }
+
+    /// Counts a call, and fails if it is the one that is to fail.
+    fn count(&mut self) -> io::Result<()> {
+        self.made = self.made.saturating_add(1);
+        if self.made == self.fails_at {
+            return Err(io::Error::new(self.kind, "refused"));
+        }
+        Ok(())
+    }
+}
+
+/// A reader over bytes that gives at most `most` of them at once.
+#[derive(Drop)]
+pub struct Source<'a> {
+    left: &'a [u8],
+    pub most: usize,
+    pub calls: Calls,
+}
+
 impl<'a> Source<'a> {
-    /// Creates a reader that gives at most five of these bytes at once and never fails.
+    /// Creates a reader that gives a few of these bytes at once and never fails.
     pub fn new(bytes: &'a [u8]) -> Source<'a> {
         Source {
             left: bytes,
-            most: 5,
-            calls: 0,
-            fails_at: NEVER,
-            kind: ErrorKind::Other,
+            most: FEW_READ,
+            calls: Calls::new(NEVER),
         }
     }
 }
 
 impl Read for Source<'_> {
     fn read(&mut self, buf: &mut [u8]) -> io::Result<usize> {
-        count_call(&mut self.calls, self.fails_at, self.kind)?;
+        self.calls.count()?;
         let n = self.left.len().min(buf.len()).min(self.most);
         buf[..n].copy_from_slice(&self.left[..n]);
         self.left = &self.left[n..];
@@ -49,31 +73,25 @@ impl Read for Source<'_> {
     }
 }
 
-/// A writer into a fixed buffer that takes at most 7 bytes at once and fails at call `fails_at`. A
-/// flush is a call too, and gives on what was written.
+/// A writer into a fixed buffer that takes a few bytes at once. A flush is a call too, and gives on
+/// what was written.
 #[derive(Drop)]
 pub struct Sink {
-    buffer: [u8; 256],
+    buffer: [u8; BUFFER],
     len: usize,
     flushed: usize,
-    pub calls: usize,
-    pub fails_at: usize,
+    pub calls: Calls,
 }
 
 impl Sink {
     /// Creates an empty writer that never fails.
     pub fn new() -> Sink {
         Sink {
-            buffer: [0; 256],
+            buffer: [0; BUFFER],
             len: 0,
             flushed: 0,
-            calls: 0,
-            fails_at: NEVER,
+            calls: Calls::new(NEVER),
         }
-    }
-
-    fn count_call(&mut self) -> io::Result<()> {
-        count_call(&mut self.calls, self.fails_at, ErrorKind::Other)
     }
 
     /// Returns what was written and flushed.
@@ -100,52 +118,47 @@ impl Sink {
 
 impl Write for Sink {
     fn write(&mut self, buf: &[u8]) -> io::Result<usize> {
-        self.count_call()?;
+        self.calls.count()?;
         if self.len > self.buffer.len() {
             return Err(io::Error::other("refused"));
         }
-        let n = (self.buffer.len() - self.len).min(buf.len()).min(7);
+        let n = (self.buffer.len() - self.len)
+            .min(buf.len())
+            .min(FEW_WRITTEN);
         self.buffer[self.len..self.len + n].copy_from_slice(&buf[..n]);
         self.len += n;
         Ok(n)
     }
 
     fn flush(&mut self) -> io::Result<()> {
-        self.count_call()?;
+        self.calls.count()?;
         self.flushed = self.len;
         Ok(())
     }
 }
 
-/// A writer into a vector that takes at most `most` bytes at once and fails at call `fails_at`. A
-/// flush is a call too.
+/// A writer into a vector that takes at most `most` bytes at once. A flush is a call too.
 #[derive(Drop)]
 pub struct Output {
     pub bytes: Vec<u8>,
     most: usize,
-    pub calls: usize,
-    fails_at: usize,
+    pub calls: Calls,
 }
 
 impl Output {
-    /// Creates an empty writer.
+    /// Creates an empty writer that fails at a call.
     pub fn new(alloc: Global, most: usize, fails_at: usize) -> Output {
         Output {
             bytes: Vec::new(alloc),
             most,
-            calls: 0,
-            fails_at,
+            calls: Calls::new(fails_at),
         }
-    }
-
-    fn count_call(&mut self) -> io::Result<()> {
-        count_call(&mut self.calls, self.fails_at, ErrorKind::Other)
     }
 }
 
 impl Write for Output {
     fn write(&mut self, buf: &[u8]) -> io::Result<usize> {
-        self.count_call()?;
+        self.calls.count()?;
         let n = buf.len().min(self.most);
         if self.bytes.extend_from_slice(&buf[..n]).is_err() {
             return Err(io::Error::other("no memory"));
@@ -154,6 +167,6 @@ impl Write for Output {
     }
 
     fn flush(&mut self) -> io::Result<()> {
-        self.count_call()
+        self.calls.count()
     }
 }
