@@ -5,7 +5,6 @@ use super::support::checks::{check_eq, given};
 use super::support::fakes::{FEW_WRITTEN, NEVER, Output, Sink, Source};
 use crate::run;
 use std::alloc::{AllocError, Global};
-use std::io::ErrorKind;
 use std::process::Abort;
 
 /// An input that fills the buffer of a read several times, and the output of its run.
@@ -64,8 +63,7 @@ fn reads_that_fail(rt: HostRuntime) {
 /// Checks that a read that is interrupted changes nothing.
 fn check_interrupted(rt: &impl Abort, alloc: Global, fails_at: usize) {
     let mut reader = Source::new(b"insert 1 10\n");
-    reader.calls.fails_at = fails_at;
-    reader.calls.kind = ErrorKind::Interrupted;
+    reader.calls.interrupt(fails_at);
     let mut output = Sink::new();
     let mut faults = Sink::new();
     let status = run(alloc, &mut reader, &mut output, &mut faults);

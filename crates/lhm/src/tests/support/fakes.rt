@@ -21,7 +21,7 @@ const BUFFER: usize = 256;
 pub struct Calls {
     pub made: usize,
     pub fails_at: usize,
-    pub kind: ErrorKind,
+    kind: ErrorKind,
 }
 
 impl Calls {
@@ -32,6 +32,12 @@ impl Calls {
             fails_at,
             kind: ErrorKind::Other,
         }
+    }
+
+    /// Makes a call fail as one that is interrupted.
+    pub fn interrupt(&mut self, fails_at: usize) {
+        self.fails_at = fails_at;
+        self.kind = ErrorKind::Interrupted;
     }
 
     /// Counts a call, and fails if it is the one that is to fail.
