@@ -1,12 +1,12 @@
 //! What the workloads return at ten pairs, by a model of the map in another language.
 
-mod checks;
+mod support;
 
 use super::order::{Order, Random, Repeated};
 use super::workloads::{Map, Workload, fill};
-use checks::{check_eq, given};
 use std::alloc::Global;
 use std::process::Abort;
+use support::checks::{check_eq, given};
 
 const REPEATED: [(Workload, u64); 10] = [
     (Workload::InsertNew, 10),

@@ -1,7 +1,7 @@
 //! The examples of the documentation, and the programs of `uses`.
 
 mod caches;
-mod checks;
 mod documentation;
 mod programs;
 mod replays;
+mod support;

@@ -2,16 +2,10 @@
 
 mod borrowed;
 mod call_counts;
-mod calls;
 mod capacities;
 mod chains;
-mod checks;
 mod collect;
 mod compare;
-mod counted_builder;
-mod counted_calls;
-mod counted_map;
-mod counting;
 mod counts;
 mod cursor;
 mod drains;
@@ -19,32 +13,27 @@ mod drops;
 mod entries;
 mod equal_keys;
 mod every_call;
+mod failing_checks;
 mod growths;
-mod hashers;
 mod insertions;
 mod iterators;
-mod last_byte;
 mod lists;
 mod modes;
-mod multiple;
-mod name;
 mod nodes;
 mod readme;
 mod removals;
 mod replays;
 mod retains;
-mod tally;
+mod support;
 mod under_hashers;
 mod visits;
-mod watched;
 mod writes;
-mod written;
 
-use calls::insert_all;
-use checks::check_eq;
 use linked_hash_map::LinkedHashMap;
 use std::alloc::Global;
 use std::process::Abort;
+use support::calls::insert_all;
+use support::checks::check_eq;
 
 /// Makes a map into which these pairs were inserted.
 fn map_of(rt: &impl Abort, alloc: Global, pairs: &[(u64, u64)]) -> LinkedHashMap<u64, u64> {

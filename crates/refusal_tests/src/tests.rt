@@ -11,29 +11,24 @@
 //! the calls. So a growth whose refusal a call ignores is seen too, as one more or one fewer than
 //! the test says.
 
-mod calls;
 mod capacities;
-mod checks;
 mod clones;
 mod collections;
-mod counted_builder;
 mod drops;
 mod extensions;
 mod insertions;
-mod keys;
-mod last_byte;
 mod replays;
 mod rings;
 mod sessions;
-mod tally;
+mod support;
 mod without_memory;
 
-use calls::check_insert;
-use checks::check_eq;
-use last_byte::BuildLastByte;
 use linked_hash_map::{LinkedHashMap, Mode, ReserveError};
 use std::alloc::Global;
 use std::process::Abort;
+use support::calls::check_insert;
+use support::checks::check_eq;
+use support::last_byte::BuildLastByte;
 
 /// A map whose hasher gives each key its own hash.
 type Map = LinkedHashMap<u8, u64, BuildLastByte>;

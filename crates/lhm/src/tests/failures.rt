@@ -1,11 +1,10 @@
 //! Readers and writers that fail.
 
-use super::checks::{check_eq, given};
-use super::fakes::{NEVER, Output, Sink, Source};
 use super::refusals::say_if_given;
+use super::support::checks::{check_eq, given};
+use super::support::fakes::{FEW_WRITTEN, NEVER, Output, Sink, Source};
 use crate::run;
 use std::alloc::{AllocError, Global};
-use std::io::ErrorKind;
 use std::process::Abort;
 
 /// An input that fills the buffer of a read several times, and the output of its run.
@@ -24,12 +23,12 @@ fn long_run(alloc: Global) -> Result<(Vec<u8>, Vec<u8>), AllocError> {
 fn check_failed_read(rt: &impl Abort, alloc: Global, input: &[u8], fails_at: usize) {
     let mut reader = Source::new(input);
     reader.most = usize::MAX;
-    reader.fails_at = fails_at;
+    reader.calls.fails_at = fails_at;
     let mut writer = Output::new(alloc, usize::MAX, NEVER);
     let mut faults = Sink::new();
     let status = run(alloc, &mut reader, &mut writer, &mut faults);
     check_eq!(rt;
-        (fails_at, status, writer.calls, faults.text()),
+        (fails_at, status, writer.calls.made, faults.text()),
         (fails_at, 4, 0, "input failed\n")
     );
 }
@@ -38,11 +37,11 @@ fn check_failed_read(rt: &impl Abort, alloc: Global, input: &[u8], fails_at: usi
 fn check_whole_read(rt: &impl Abort, alloc: Global, input: &[u8], output: &[u8]) {
     let mut reader = Source::new(input);
     reader.most = usize::MAX;
-    reader.fails_at = 6;
+    reader.calls.fails_at = 6;
     let mut writer = Output::new(alloc, usize::MAX, NEVER);
     let mut faults = Sink::new();
     let status = run(alloc, &mut reader, &mut writer, &mut faults);
-    check_eq!(rt; (status, reader.calls, faults.text()), (0, 5, ""));
+    check_eq!(rt; (status, reader.calls.made, faults.text()), (0, 5, ""));
     check_eq!(rt; writer.bytes.as_slice(), output);
 }
 
@@ -64,8 +63,7 @@ fn reads_that_fail(rt: HostRuntime) {
 /// Checks that a read that is interrupted changes nothing.
 fn check_interrupted(rt: &impl Abort, alloc: Global, fails_at: usize) {
     let mut reader = Source::new(b"insert 1 10\n");
-    reader.fails_at = fails_at;
-    reader.kind = ErrorKind::Interrupted;
+    reader.calls.interrupt(fails_at);
     let mut output = Sink::new();
     let mut faults = Sink::new();
     let status = run(alloc, &mut reader, &mut output, &mut faults);
@@ -176,9 +174,9 @@ fn check_stopped(
     fails_at: usize,
 ) -> (usize, usize) {
     let mut reader = Source::new(stopped.input.as_bytes());
-    reader.fails_at = stopped.read_fails_at;
+    reader.calls.fails_at = stopped.read_fails_at;
     let mut writer = Output::new(alloc, usize::MAX, stopped.write_fails_at);
-    let mut faults = Output::new(alloc, 7, fails_at);
+    let mut faults = Output::new(alloc, FEW_WRITTEN, fails_at);
     let status = run(alloc, &mut reader, &mut writer, &mut faults);
     let told = faults.bytes.as_slice();
     let begins = stopped.fault.as_bytes().starts_with(told);
@@ -186,7 +184,7 @@ fn check_stopped(
         (fails_at, status, writer.bytes.len(), begins),
         (fails_at, stopped.status, 0, true)
     );
-    (told.len(), faults.calls)
+    (told.len(), faults.calls.made)
 }
 
 /// Checks that a run tells its whole fault. Returns how many calls of their writer it took.
@@ -224,15 +222,15 @@ fn check_out_of_memory(rt: &impl Abort, alloc: Global, fails_at: usize) -> bool 
     let mut reader = Source::new(b"");
     let mut output = Sink::new();
     let mut faults = Sink::new();
-    faults.fails_at = fails_at;
+    faults.calls.fails_at = fails_at;
     let status = run(alloc, &mut reader, &mut output, &mut faults);
     if status == 0 {
-        check_eq!(rt; (output.text(), faults.calls), ("list\n", 0));
+        check_eq!(rt; (output.text(), faults.calls.made), ("list\n", 0));
         return true;
     }
     let begins = "out of memory\n".starts_with(faults.written());
     check_eq!(rt;
-        (fails_at, status, output.text(), begins, faults.calls),
+        (fails_at, status, output.text(), begins, faults.calls.made),
         (fails_at, 3, "", true, fails_at)
     );
     false

@@ -7,8 +7,8 @@
 //! filter, a list of chunks and a chunk at its first pair, and for its buckets, a filter and a
 //! chunk at its second.
 
-use super::checks::{check_eq, given};
-use super::fakes::{Sink, Source};
+use super::support::checks::{check_eq, given};
+use super::support::fakes::{Sink, Source};
 use crate::run;
 use crate::text::push_replies;
 use linked_hash_map::replay::{Answer, Reply};

@@ -1,7 +1,7 @@
 //! Worked examples.
 
-use super::checks::{check_eq, given};
-use super::fakes::{NEVER, Output, Sink, Source};
+use super::support::checks::{check_eq, given};
+use super::support::fakes::{NEVER, Output, Sink, Source};
 use crate::run;
 use std::alloc::{AllocError, Global};
 use std::process::Abort;

@@ -1,7 +1,7 @@
 //! Keys and values that are borrowed.
 
-use super::calls::{assert_empty, assert_ends, assert_get};
-use super::checks::{check, check_eq, given};
+use super::support::calls::{assert_empty, assert_ends, assert_get};
+use super::support::checks::{check, check_eq, given};
 use linked_hash_map::{LinkedHashMap, Refused};
 use std::alloc::Global;
 use std::process::Abort;

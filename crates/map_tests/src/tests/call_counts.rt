@@ -13,9 +13,9 @@ mod entries;
 mod lookups;
 mod without_keys;
 
-use super::checks::{check, check_eq, given};
-use super::counted_calls::{Builder, Calls, Counts, Key, builder_of, key_of, lookup};
-use super::multiple::{BuildMultiple, EIGHTFOLD, KEY};
+use super::support::checks::{check, check_eq, given};
+use super::support::counted_calls::{Builder, Calls, Counts, Key, builder_of, key_of, lookup};
+use super::support::multiple::{BuildMultiple, EIGHTFOLD, KEY};
 use linked_hash_map::LinkedHashMap;
 use std::alloc::Global;
 use std::process::Abort;
@@ -26,7 +26,7 @@ macro_rules! check_calls {
     ($rt:expr; $counts:expr, $call:expr, $wanted:expr $(,)?) => {{
         let _before = $counts.take();
         drop($call);
-        $crate::tests::checks::same(&$rt, stringify!($call), $counts.take(), $wanted)
+        $crate::tests::support::checks::same(&$rt, stringify!($call), $counts.take(), $wanted)
     }};
 }
 

@@ -1,8 +1,8 @@
 //! The capacity that a call makes.
 
 use super::assert_pairs;
-use super::calls::{assert_sizes, check_insert, check_reserve, check_shrink};
-use super::checks::{check_eq, given};
+use super::support::calls::{assert_sizes, check_insert, check_reserve, check_shrink};
+use super::support::checks::{check_eq, given};
 use linked_hash_map::{LIMIT, LinkedHashMap, ReserveError};
 use std::alloc::Global;
 use std::process::Abort;

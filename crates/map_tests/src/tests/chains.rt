@@ -2,8 +2,8 @@
 ghost use Rattle.std.specs.Prelude.{◌≡◌, ◌∷◌, ◌^◌, ◌<◌, [], filter, nat_lt, reverse, slice_get, sum_by, IfOk};
 ghost use Rattle.std.specs.Map.{keys_of, values_of};
 
-use super::calls::{assert_get, check_insert, insert_all};
-use super::checks::{check_eq, given};
+use super::support::calls::{assert_get, check_insert, insert_all};
+use super::support::checks::{check_eq, given};
 use linked_hash_map::{LinkedHashMap, Refused};
 use std::alloc::{AllocError, Global};
 use std::process::Abort;

@@ -1,8 +1,8 @@
 //! Clones, extension and collection.
 
 use super::assert_pairs;
-use super::calls::{assert_sizes, check_insert};
-use super::checks::{check, check_eq, given};
+use super::support::calls::{assert_sizes, check_insert};
+use super::support::checks::{check, check_eq, given};
 use linked_hash_map::{LIMIT, LinkedHashMap, ReserveError};
 use std::iter::repeat;
 

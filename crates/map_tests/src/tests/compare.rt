@@ -1,8 +1,8 @@
 //! Equality, order, hash and debug text.
 
-use super::checks::{check, check_eq, given};
 use super::map_of;
-use super::written::Written;
+use super::support::checks::{check, check_eq, given};
+use super::support::written::Written;
 use linked_hash_map::{LinkedHashMap, Mode};
 use std::alloc::Global;
 use std::cmp::Ordering;

@@ -1,9 +1,9 @@
 //! What lookups and changes of the capacity count.
 
-use super::calls::{check_remove, check_reserve, check_shrink, insert_all};
-use super::checks::{check_eq, given};
-use super::hashers::BuildSame;
-use super::last_byte::BuildLastByte;
+use super::support::calls::{check_remove, check_reserve, check_shrink, insert_all};
+use super::support::checks::{check_eq, given};
+use super::support::hashers::BuildSame;
+use super::support::last_byte::BuildLastByte;
 use linked_hash_map::{LinkedHashMap, Probe};
 use std::process::Abort;
 

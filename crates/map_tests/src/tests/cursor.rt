@@ -2,8 +2,8 @@
 ghost use Rattle.std.specs.Prelude.{◌≡◌, slice_get};
 ghost use Rattle.std.specs.Map.{keys_of};
 
-use super::calls::{assert_empty, assert_get, check_pop_front, insert_all};
-use super::checks::{check, check_eq, given};
+use super::support::calls::{assert_empty, assert_get, check_pop_front, insert_all};
+use super::support::checks::{check, check_eq, given};
 use super::{assert_pairs, map_of};
 use linked_hash_map::{Entries, LinkedHashMap};
 use std::alloc::Global;

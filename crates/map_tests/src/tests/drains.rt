@@ -2,8 +2,8 @@
 //! capacity and its hasher.
 ghost use Rattle.std.specs.Prelude.{◌≡◌, [], slice_get, IfOk};
 
-use super::calls::{assert_get, assert_sizes, check_insert};
-use super::checks::{check_eq, given};
+use super::support::calls::{assert_get, assert_sizes, check_insert};
+use super::support::checks::{check_eq, given};
 use super::{assert_pairs, map_of};
 use linked_hash_map::LinkedHashMap;
 use std::alloc::{AllocError, Global};

@@ -9,9 +9,9 @@ mod iterators;
 mod lists;
 mod sessions;
 
-use super::checks::check_eq;
-use super::counted_map::Bits;
-use super::tally::Tally;
+use super::support::checks::check_eq;
+use super::support::counted_map::Bits;
+use super::support::tally::Tally;
 use std::process::Abort;
 
 /// The pairs that the maps begin with, whose bits are those of 63.

@@ -1,8 +1,8 @@
 ghost use Rattle.std.specs.Prelude.{◌≡◌, cond, is_some, nat_eq, IsTrue, IsFalse, OnOk, OnErr};
 ghost use Rattle.linked_hash_map.specs.Pairs.{find, set_value, set_or_push};
 
-use super::calls::{assert_empty, assert_get, assert_sizes, check_insert};
-use super::checks::{check, check_eq, given};
+use super::support::calls::{assert_empty, assert_get, assert_sizes, check_insert};
+use super::support::checks::{check, check_eq, given};
 use super::{assert_pairs, map_of};
 use linked_hash_map::{Entry, LinkedHashMap, OccupiedEntry, Refused, VacantEntry};
 use std::process::Abort;

@@ -1,10 +1,10 @@
 //! Keys that are equal and yet differ: which of them is kept.
 
-use super::calls::{assert_sizes, check_insert};
-use super::checks::{check_eq, given};
-use super::hashers::BuildSame;
-use super::last_byte::BuildLastByte;
-use super::name::Name;
+use super::support::calls::{assert_sizes, check_insert};
+use super::support::checks::{check_eq, given};
+use super::support::hashers::BuildSame;
+use super::support::last_byte::BuildLastByte;
+use super::support::name::Name;
 use linked_hash_map::LinkedHashMap;
 use linked_hash_map::replay::{Answer, Command, Reply, replay};
 use std::alloc::Global;

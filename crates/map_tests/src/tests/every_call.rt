@@ -1,12 +1,12 @@
 //! Every call on fifty pairs, under a good hasher and under one whose hashes are all the same.
 
-use super::calls::{
+use super::cursor::{assert_remaining, visit, visit_remove};
+use super::support::calls::{
     assert_contains, assert_get, assert_sizes, check_insert, check_pop_back, check_pop_front,
     check_refresh, check_remove, check_reserve, check_shrink,
 };
-use super::checks::{check, check_eq, given};
-use super::cursor::{assert_remaining, visit, visit_remove};
-use super::hashers::BuildSame;
+use super::support::checks::{check, check_eq, given};
+use super::support::hashers::BuildSame;
 use linked_hash_map::{Entry, LinkedHashMap};
 use std::hash::BuildHasher;
 use std::process::Abort;

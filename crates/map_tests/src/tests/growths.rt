@@ -1,9 +1,9 @@
 //! Many changes of capacity.
 
-use super::calls::{
+use super::support::calls::{
     assert_contains, assert_get, assert_sizes, check_insert, check_pop_front, check_remove,
 };
-use super::checks::{check, given};
+use super::support::checks::{check, given};
 use linked_hash_map::LinkedHashMap;
 use std::process::Abort;
 

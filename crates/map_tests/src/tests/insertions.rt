@@ -1,10 +1,10 @@
 //! What an insertion returns, and where its pair goes.
 
-use super::calls::{
+use super::iterators::check_next;
+use super::support::calls::{
     assert_contains, assert_ends, assert_get, check_insert, check_pop_front, check_refresh,
     insert_all,
 };
-use super::iterators::check_next;
 use super::{assert_pairs, map_of};
 use linked_hash_map::LinkedHashMap;
 

@@ -1,7 +1,7 @@
 //! The iterators over a map, from both ends.
 
-use super::calls::{assert_get, assert_sizes, insert_all};
-use super::checks::{check, check_eq, given};
+use super::support::calls::{assert_get, assert_sizes, insert_all};
+use super::support::checks::{check, check_eq, given};
 use super::{assert_pairs, map_of};
 use linked_hash_map::{Iter, IterMut, Keys, LinkedHashMap, Values};
 use std::alloc::Global;

@@ -1,6 +1,6 @@
 //! Lists of pairs.
 
-use super::checks::{check, check_eq, given};
+use super::support::checks::{check, check_eq, given};
 use linked_hash_map::replay::PairList;
 use std::alloc::Global;
 use std::process::Abort;

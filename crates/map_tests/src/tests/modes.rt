@@ -1,8 +1,8 @@
 //! What an insertion does in each mode, and which calls leave the mode.
 
-use super::calls::{check_insert, check_remove, check_reserve, check_shrink};
-use super::checks::{check, check_eq, given};
 use super::cursor::{assert_remaining, visit_insert};
+use super::support::calls::{check_insert, check_remove, check_reserve, check_shrink};
+use super::support::checks::{check, check_eq, given};
 use super::{assert_pairs, map_of};
 use linked_hash_map::{Entry, LinkedHashMap, Mode};
 use std::process::Abort;

@@ -1,8 +1,8 @@
 //! What becomes of the nodes, and of the keys and values in them.
 
 use super::assert_pairs;
-use super::calls::assert_sizes;
-use super::checks::{check_eq, given};
+use super::support::calls::assert_sizes;
+use super::support::checks::{check_eq, given};
 use linked_hash_map::LinkedHashMap;
 use linked_hash_map::replay::{Answer, Command, Reply, replay};
 use std::alloc::Global;

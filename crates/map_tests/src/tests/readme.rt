@@ -2,7 +2,7 @@
 ghost use Rattle.std.specs.Prelude.{◌≡◌, ◌∷◌, [], IfOk};
 
 use super::assert_pairs;
-use super::checks::{check_eq, given};
+use super::support::checks::{check_eq, given};
 use linked_hash_map::{LinkedHashMap, Refused};
 use std::alloc::Global;
 

@@ -1,10 +1,10 @@
 //! Removals: of a key, from both ends, and of all pairs.
 
-use super::calls::{
+use super::map_of;
+use super::support::calls::{
     assert_empty, assert_ends, assert_get, assert_sizes, check_insert, check_pop_back,
     check_pop_front, check_remove,
 };
-use super::map_of;
 use linked_hash_map::LinkedHashMap;
 
 #[test]

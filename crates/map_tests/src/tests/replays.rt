@@ -1,7 +1,7 @@
 //! Commands that are replayed, and the reply to each.
 
-use super::calls::assert_get;
-use super::checks::{check_eq, given};
+use super::support::calls::assert_get;
+use super::support::checks::{check_eq, given};
 use super::{assert_pairs, map_of};
 use linked_hash_map::LinkedHashMap;
 use linked_hash_map::replay::{Answer, Command, PairList, Reply, replay};

@@ -1,10 +1,12 @@
 //! What `retain` keeps, writes, drops and leaves.
 
-use super::calls::{assert_empty, assert_ends, assert_get, assert_sizes, check_insert, insert_all};
-use super::checks::{check, check_eq, given};
-use super::hashers::BuildSame;
-use super::tally::{Counted, Tally};
-use super::watched::Watched;
+use super::support::calls::{
+    assert_empty, assert_ends, assert_get, assert_sizes, check_insert, insert_all,
+};
+use super::support::checks::{check, check_eq, given};
+use super::support::hashers::BuildSame;
+use super::support::tally::{Counted, Tally};
+use super::support::watched::Watched;
 use super::{assert_pairs, map_of};
 use linked_hash_map::{LinkedHashMap, Mode};
 use std::alloc::Global;

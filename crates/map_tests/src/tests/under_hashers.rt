@@ -1,14 +1,14 @@
 //! Maps that are handed a hasher, and what they compare by it.
 
-use super::calls::{
+use super::support::calls::{
     assert_contains, assert_get, assert_sizes, check_insert, check_pop_back, check_pop_front,
     check_refresh, check_remove, insert_all,
 };
-use super::checks::{check, check_eq, given};
-use super::counting::Counting;
-use super::hashers::BuildFirstLetter;
-use super::last_byte::BuildLastByte;
-use super::multiple::{BuildMultiple, KEY};
+use super::support::checks::{check, check_eq, given};
+use super::support::counting::Counting;
+use super::support::hashers::BuildFirstLetter;
+use super::support::last_byte::BuildLastByte;
+use super::support::multiple::{BuildMultiple, KEY};
 use linked_hash_map::{LinkedHashMap, Probe};
 use std::alloc::Global;
 use std::cell::Cell;

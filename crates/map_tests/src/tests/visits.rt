@@ -1,8 +1,8 @@
 //! Visits of a map by its own reference.
-use super::calls::{
+use super::support::calls::{
     assert_empty, assert_get, check_pop_front, check_reserve, check_shrink, insert_all,
 };
-use super::checks::{check, check_eq, given};
+use super::support::checks::{check, check_eq, given};
 use super::{assert_pairs, map_of};
 use linked_hash_map::LinkedHashMap;
 use std::alloc::Global;

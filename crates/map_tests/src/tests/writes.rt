@@ -2,8 +2,8 @@
 ghost use Rattle.std.specs.Prelude.{◌≡◌, nat_eq, IsTrue, IsFalse, IsSome};
 ghost use Rattle.linked_hash_map.specs.Pairs.{find, to_back, set_value};
 
-use super::calls::{assert_get, check_pop_front, check_refresh, insert_all};
-use super::checks::{check, check_eq};
+use super::support::calls::{assert_get, check_pop_front, check_refresh, insert_all};
+use super::support::checks::{check, check_eq};
 use super::{assert_pairs, map_of};
 use linked_hash_map::LinkedHashMap;
 use std::process::Abort;

@@ -1,9 +1,9 @@
 //! Calls that change the capacity by itself.
 
-use super::calls::{
+use super::support::calls::{
     check_get, check_insert, check_remove, check_reserve, check_shrink, is_inserted, is_reserved,
 };
-use super::checks::{check_eq, given};
+use super::support::checks::{check_eq, given};
 use super::{BUILDER, Map, assert_map, full_of, insert_new, say_given, say_if_given, with_room};
 use linked_hash_map::{LinkedHashMap, NoRoom, ReserveError};
 use std::process::Abort;

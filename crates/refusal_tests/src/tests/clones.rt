@@ -1,7 +1,7 @@
 //! Clones of maps and of iterators that own their pairs.
 
-use super::checks::{check, check_eq, given};
-use super::keys::Counted;
+use super::support::checks::{check, check_eq, given};
+use super::support::keys::Counted;
 use super::{Map, assert_map, full_of, say_given};
 use linked_hash_map::{IntoIter, LinkedHashMap, ReserveError};
 use std::alloc::{AllocError, Global};

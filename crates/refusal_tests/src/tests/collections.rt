@@ -1,7 +1,7 @@
 //! Maps that are collected, whose items are dropped if one is refused.
 
-use super::checks::{check_eq, given};
 use super::say_if_given;
+use super::support::checks::{check_eq, given};
 use linked_hash_map::{LinkedHashMap, ReserveError};
 use std::alloc::{AllocError, Global};
 use std::process::Abort;

@@ -7,8 +7,8 @@ mod hashers;
 mod insertions;
 mod sessions;
 
-use super::checks::check_eq;
-use super::tally::{Counted, Tally};
+use super::support::checks::check_eq;
+use super::support::tally::{Counted, Tally};
 use linked_hash_map::LinkedHashMap;
 use std::process::Abort;
 

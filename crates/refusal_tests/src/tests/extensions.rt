@@ -1,6 +1,6 @@
 //! Extensions, which keep what went in before the refused pair.
 
-use super::checks::check_eq;
+use super::support::checks::check_eq;
 use super::{Map, assert_map, say_if_given, with_room};
 use linked_hash_map::{Refused, ReserveError};
 use std::process::Abort;

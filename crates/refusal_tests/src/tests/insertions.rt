@@ -1,10 +1,10 @@
 //! A new pair at full capacity.
 
-use super::calls::{
+use super::support::calls::{
     Put, check_get, check_insert, check_pop_front, check_remove, is_inserted, or_default,
     or_insert, or_insert_with,
 };
-use super::checks::{check, check_eq};
+use super::support::checks::{check, check_eq};
 use super::{BUILDER, Map, assert_map, full_of, insert_new, is_given, say_given, say_if_given};
 use linked_hash_map::{Entry, LinkedHashMap, Refused, ReserveError};
 use std::alloc::Global;

@@ -1,6 +1,6 @@
 //! Runs of commands: the room for the replies, and each command that takes memory.
 
-use super::checks::{check, check_eq};
+use super::support::checks::{check, check_eq};
 use super::{BUILDER, Map, assert_map, full_of, say_if_given, with_room};
 use linked_hash_map::replay::{Answer, Command, PairList, Reply, replay};
 use linked_hash_map::{LinkedHashMap, ReserveError};

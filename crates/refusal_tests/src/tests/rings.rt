@@ -1,6 +1,6 @@
 //! Growths of a ring.
 
-use super::checks::check;
+use super::support::checks::check;
 use super::{say_given, say_if_given};
 use lhm_ring::ring::Ring;
 use std::alloc::{AllocError, Global};

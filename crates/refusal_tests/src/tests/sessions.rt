@@ -1,7 +1,7 @@
 //! Puts into a table of sessions.
 
-use super::checks::{check, check_eq, given};
 use super::say_given;
+use super::support::checks::{check, check_eq, given};
 use linked_hash_map::sessions::{PutReason, PutRefused, Sessions};
 use std::process::Abort;
 

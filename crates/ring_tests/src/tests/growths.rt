@@ -1,7 +1,7 @@
 //! Nodes that are made many at once, are used again and move.
 
-use super::checks::{check, check_eq};
 use super::rings::{is_ring, put, with_spares};
+use super::support::checks::{check, check_eq};
 use lhm_ring::ring::Ring;
 use std::process::Abort;
 

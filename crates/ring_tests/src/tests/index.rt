@@ -2,7 +2,7 @@
 ghost use Rattle.std.specs.Prelude.{◌≡◌, ◌+◌, ◌<◌, IfNone, OnOk, OnErr};
 ghost use Rattle.lhm_ring.specs.Search.{IsAbsent};
 
-use super::checks::check_eq;
+use super::support::checks::check_eq;
 use lhm_ring::index::{Index, Probe, buckets_for};
 use lhm_ring::ring::Ring;
 use std::alloc::{AllocError, Global};

@@ -3,7 +3,7 @@ ghost use Rattle.std.specs.Prelude.{◌≡◌, ◌+◌, [], ◌∷◌, ◌++◌,
 ghost use Rattle.lhm_ring.specs.Ring.{IsHeld, AtHeld, held, triples, unvalued};
 ghost use Rattle.lhm_ring.specs.Pointer.{pointer_of};
 
-use super::checks::{check, check_eq, given};
+use super::support::checks::{check, check_eq, given};
 use lhm_ring::ring::{Drain, Iter, IterMut, Link, Position, Ring};
 use std::alloc::{AllocError, Global};
 use std::iter::{DoubleEndedIterator, ExactSizeIterator, Iterator};

@@ -1,9 +1,9 @@
 //! Cursors that are dropped after each number of steps, with whatever was done on the way.
 
-use super::checks::{check_eq, given};
-use super::counted_map::{Bits, CountedMap, counted_map_of};
-use super::plain_map::PlainMap;
-use super::tally::{Counted, Tally};
+use super::support::checks::{check_eq, given};
+use super::support::counted_map::{Bits, CountedMap, counted_map_of};
+use super::support::plain_map::PlainMap;
+use super::support::tally::{Counted, Tally};
 use linked_hash_map::Entries;
 use std::alloc::Global;
 use std::process::Abort;

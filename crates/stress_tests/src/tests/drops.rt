@@ -1,8 +1,8 @@
 //! Keys and values that are dropped once, and when.
 
-use super::checks::{check, check_eq};
-use super::counted_map::{Bits, CountedMap, counted_map_of};
-use super::tally::{Counted, Tally};
+use super::support::checks::{check, check_eq};
+use super::support::counted_map::{Bits, CountedMap, counted_map_of};
+use super::support::tally::{Counted, Tally};
 use linked_hash_map::{Drain, IntoIter, LIMIT, ReserveError};
 use std::alloc::Global;
 use std::process::Abort;

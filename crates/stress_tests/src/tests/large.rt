@@ -1,6 +1,6 @@
 //! Growths above a thousand, one by one and at once, each of which is given if there is memory.
 
-use super::checks::{check_eq, given};
+use super::support::checks::{check_eq, given};
 use linked_hash_map::replay::{Answer, Command, Reply, replay};
 use linked_hash_map::{Entry, IntoIter, LinkedHashMap};
 use std::alloc::Global;

@@ -1,8 +1,8 @@
 //! What lookups compare under hashers that are chosen badly, and how many pairs they may meet.
 
-use super::checks::{check, check_eq, given};
-use super::counting::Counting;
-use super::multiple::{BuildMultiple, EIGHTFOLD, KEY, PARITY, WIDE};
+use super::support::checks::{check, check_eq, given};
+use super::support::counting::Counting;
+use super::support::multiple::{BuildMultiple, EIGHTFOLD, KEY, PARITY, WIDE};
 use linked_hash_map::{Entry, LinkedHashMap, Probe};
 use std::alloc::Global;
 use std::cell::Cell;

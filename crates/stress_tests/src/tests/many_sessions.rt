@@ -1,6 +1,6 @@
 //! Puts that send many sessions away.
 
-use super::checks::{check_eq, given};
+use super::support::checks::{check_eq, given};
 use linked_hash_map::sessions::{SessionIter, Sessions};
 use std::alloc::Global;
 use std::process::Abort;

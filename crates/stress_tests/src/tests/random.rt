@@ -1,8 +1,8 @@
 //! Long runs of commands drawn at random, beside a plain map.
 
-use super::checks::{check_eq, given};
-use super::multiple::{PARITY, WIDE};
-use super::plain_map::PlainMap;
+use super::support::checks::{check_eq, given};
+use super::support::multiple::{PARITY, WIDE};
+use super::support::plain_map::PlainMap;
 use linked_hash_map::replay::{Answer, Command, PairList, Reply, replay};
 use linked_hash_map::{LIMIT, LinkedHashMap, Mode};
 use std::alloc::{AllocError, Global};

@@ -1,7 +1,7 @@
 //! What `retain` of a table of sessions keeps, writes, drops and leaves.
 
-use super::checks::{check, check_eq};
-use super::tally::{Counted, Tally};
+use super::support::checks::{check, check_eq};
+use super::support::tally::{Counted, Tally};
 use linked_hash_map::sessions::Sessions;
 use std::alloc::Global;
 use std::process::Abort;

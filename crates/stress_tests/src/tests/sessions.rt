@@ -1,6 +1,6 @@
 //! Tables of sessions.
 
-use super::checks::{check_eq, given};
+use super::support::checks::{check_eq, given};
 use linked_hash_map::sessions::{PutReason, PutRefused, Sessions};
 use std::alloc::Global;
 use std::process::Abort;

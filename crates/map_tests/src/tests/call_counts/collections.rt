@@ -1,12 +1,12 @@
 //! Extensions and collections, which look each item up once, and clones.
 
 use super::{CallMap, KINDS, Kind, SAME, check_calls, lookup_of, map_of_kind};
-use crate::tests::checks::{check, check_eq, given};
-use crate::tests::counted_calls::{
+use crate::tests::support::checks::{check, check_eq, given};
+use crate::tests::support::counted_calls::{
     Builder, Calls, Counts, Key, NONE, builder_of, key_of, lookup, new_counts,
 };
-use crate::tests::counting::Counting;
-use crate::tests::multiple::KEY;
+use crate::tests::support::counting::Counting;
+use crate::tests::support::multiple::KEY;
 use linked_hash_map::LinkedHashMap;
 use std::alloc::Global;
 use std::cell::Cell;

@@ -1,8 +1,8 @@
 //! Commands, each of which looks its key up once.
 
 use super::{CallMap, KINDS, Kind, check_calls, lookup_of, map_of_kind};
-use crate::tests::checks::{check, given};
-use crate::tests::counted_calls::{Calls, Counts, Key, NONE, key_of, lookup, new_counts};
+use crate::tests::support::checks::{check, given};
+use crate::tests::support::counted_calls::{Calls, Counts, Key, NONE, key_of, lookup, new_counts};
 use linked_hash_map::Mode;
 use linked_hash_map::replay::{Command, PairList, replay};
 use std::alloc::Global;

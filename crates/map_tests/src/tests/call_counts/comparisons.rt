@@ -1,9 +1,9 @@
 //! Equality, order, hash and debug text, which take each key once, up to the first that differs.
 
 use super::{CallMap, KINDS, Kind, check_calls, map_of_kind};
-use crate::tests::checks::{check, given};
-use crate::tests::counted_calls::{Calls, Counts, Key, NONE, key_of, new_counts};
-use crate::tests::multiple::KEY;
+use crate::tests::support::checks::{check, given};
+use crate::tests::support::counted_calls::{Calls, Counts, Key, NONE, key_of, new_counts};
+use crate::tests::support::multiple::KEY;
 use linked_hash_map::replay::PairList;
 use std::alloc::Global;
 use std::hash::{BuildHasher, Hash, Hasher};

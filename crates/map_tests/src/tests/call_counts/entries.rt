@@ -1,8 +1,8 @@
 //! Entries, which look their key up once, when they are made.
 
 use super::{CallMap, KINDS, Kind, check_calls, lookup_of, map_of_kind};
-use crate::tests::checks::check;
-use crate::tests::counted_calls::{Calls, Key, key_of, lookup, new_counts};
+use crate::tests::support::checks::check;
+use crate::tests::support::counted_calls::{Calls, Key, key_of, lookup, new_counts};
 use linked_hash_map::Entry;
 use std::alloc::Global;
 use std::process::Abort;

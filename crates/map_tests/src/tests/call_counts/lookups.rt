@@ -1,8 +1,8 @@
 //! Calls that look a key up, once.
 
 use super::{CallMap, KINDS, Kind, check_calls, lookup_of, map_of_kind};
-use crate::tests::checks::{check, check_eq};
-use crate::tests::counted_calls::{Calls, Key, NONE, key_of, lookup, new_counts};
+use crate::tests::support::checks::{check, check_eq};
+use crate::tests::support::counted_calls::{Calls, Key, NONE, key_of, lookup, new_counts};
 use linked_hash_map::Mode;
 use std::alloc::Global;
 use std::process::Abort;

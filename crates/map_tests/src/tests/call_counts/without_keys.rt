@@ -2,7 +2,7 @@
 //! capacities and settings.
 
 use super::{CallMap, KINDS, Kind, check_calls, map_of_kind};
-use crate::tests::counted_calls::{Counts, NONE, builder_of, new_counts};
+use crate::tests::support::counted_calls::{Counts, NONE, builder_of, new_counts};
 use linked_hash_map::Mode;
 use std::alloc::Global;
 use std::process::Abort;

@@ -1,9 +1,9 @@
 //! Closures that own what is counted, called and not called.
 
 use super::{KEY, OWNED, PAIRS, VALUE, assert_dropped};
-use crate::tests::checks::check;
-use crate::tests::counted_map::{CountedMap, counted_map_of};
-use crate::tests::tally::{Counted, Tally};
+use crate::tests::support::checks::check;
+use crate::tests::support::counted_map::{CountedMap, counted_map_of};
+use crate::tests::support::tally::{Counted, Tally};
 use linked_hash_map::Entry;
 use linked_hash_map::sessions::Sessions;
 use std::mem::replace;

@@ -1,9 +1,9 @@
 //! Items that an extension or a collection takes.
 
 use super::{KEY, OWNED, PAIRS, VALUE, assert_dropped};
-use crate::tests::checks::{check, given};
-use crate::tests::counted_map::{CountedMap, counted_map_of};
-use crate::tests::tally::{Counted, Tally};
+use crate::tests::support::checks::{check, given};
+use crate::tests::support::counted_map::{CountedMap, counted_map_of};
+use crate::tests::support::tally::{Counted, Tally};
 use linked_hash_map::{LIMIT, LinkedHashMap, ReserveError};
 use std::alloc::Global;
 use std::process::Abort;

@@ -1,15 +1,34 @@
 //! The keys and values of commands, and of their replies.
 
 use super::{KEY, PAIRS, VALUE, assert_dropped};
-use crate::tests::checks::given;
-use crate::tests::counted_map::{CountedMap, counted_map_of};
-use crate::tests::tally::{Counted, Tally};
+use crate::tests::support::checks::given;
+use crate::tests::support::counted_map::{CountedMap, counted_map_of};
+use crate::tests::support::tally::{Counted, Tally};
 use linked_hash_map::replay::{Command, PairList, replay};
 use linked_hash_map::{LIMIT, Mode};
 use std::alloc::Global;
 use std::process::Abort;
 
 type CountedCommand<'a> = Command<Counted<'a>, Counted<'a>>;
+
+// Each key and each value has a bit of its own: in the map that of `PAIRS`, and if it is handed in
+// `KEY` and `VALUE`, or `OTHER_KEY` and `OTHER_VALUE`.
+
+const FIRST_KEY: u64 = 1;
+
+const FIRST_VALUE: u64 = 2;
+
+const LAST_PAIR: u64 = 16 | 32;
+
+/// The three pairs of the map.
+const THREE: u64 = 63;
+
+/// These, and a key and a value that are handed in.
+const ALL: u64 = THREE | KEY | VALUE;
+
+const OTHER_KEY: u64 = 256;
+
+const OTHER_VALUE: u64 = 512;
 
 /// Runs a command on a map of the three pairs. The run drops `by_run`, the reply `with_reply`, and
 /// the map what is left of `all`.
@@ -30,153 +49,72 @@ fn assert_run<'a>(
     assert_dropped(rt, tally, all);
 }
 
-// The bits of what is dropped, one for each thing. The nth of the three pairs of the map has the
-// bits 4^(n - 1), of its key, and 2 * 4^(n - 1), of its value.
-
-/// The key of the first pair.
-const FIRST_KEY: u64 = 1;
-
-/// The value of the first pair.
-const FIRST_VALUE: u64 = 2;
-
-/// The key and the value of the last pair.
-const LAST_PAIR: u64 = 16 | 32;
-
-/// The three pairs.
-const THREE: u64 = 63;
-
-/// The three pairs, and a key and a value that are handed in.
-const ALL: u64 = THREE | KEY | VALUE;
-
-/// The key and the value of a second pair that is handed in.
-const OTHER_KEY: u64 = 256;
-
-const OTHER_VALUE: u64 = 512;
-
-// A key that is present is dropped by the run, and its old value with the reply.
-
-fn insert(rt: &impl Abort, alloc: Global, number: u64, dropped: [u64; 3]) {
-    let tally = Tally::new();
-    let command = Command::Insert(tally.thing(number, KEY), tally.thing(number, VALUE));
-    assert_run(rt, alloc, &tally, command, dropped);
+/// Runs each command of a table on a map and a tally of its own, as `assert_run` does.
+macro_rules! assert_runs {
+    ($rt:ident, $tally:ident; $($command:expr => $dropped:expr,)+) => {{
+        $({
+            let own = Tally::new();
+            let $tally = &own;
+            assert_run(&$rt, $rt.alloc(), $tally, $command, $dropped);
+        })+
+    }};
 }
 
-fn write(rt: &impl Abort, alloc: Global, number: u64, dropped: [u64; 3]) {
-    let tally = Tally::new();
-    let command = Command::Write(tally.thing(number, KEY), tally.thing(number, VALUE));
-    assert_run(rt, alloc, &tally, command, dropped);
-}
-
-fn or_insert(rt: &impl Abort, alloc: Global, number: u64, dropped: [u64; 3]) {
-    let tally = Tally::new();
-    let command = Command::OrInsert(tally.thing(number, KEY), tally.thing(number, VALUE));
-    assert_run(rt, alloc, &tally, command, dropped);
-}
-
-fn entry_insert(rt: &impl Abort, alloc: Global, number: u64, dropped: [u64; 3]) {
-    let tally = Tally::new();
-    let command = Command::EntryInsert(tally.thing(number, KEY), tally.thing(number, VALUE));
-    assert_run(rt, alloc, &tally, command, dropped);
-}
-
+/// A key that is present is dropped by the run, and its old value with the reply.
 #[test]
 fn drops_what_an_insertion_does_not_keep(rt: HostRuntime) {
-    insert(&rt, rt.alloc(), 1, [KEY, FIRST_VALUE, ALL]);
-    insert(&rt, rt.alloc(), 4, [0, 0, ALL]);
-    or_insert(&rt, rt.alloc(), 1, [KEY | VALUE, 0, ALL]);
-    or_insert(&rt, rt.alloc(), 4, [0, 0, ALL]);
-    entry_insert(&rt, rt.alloc(), 1, [KEY, FIRST_VALUE, ALL]);
-    entry_insert(&rt, rt.alloc(), 4, [0, 0, ALL]);
+    assert_runs!(rt, tally;
+        Command::Insert(tally.thing(1, KEY), tally.thing(1, VALUE)) => [KEY, FIRST_VALUE, ALL],
+        Command::Insert(tally.thing(4, KEY), tally.thing(4, VALUE)) => [0, 0, ALL],
+        Command::OrInsert(tally.thing(1, KEY), tally.thing(1, VALUE)) => [KEY | VALUE, 0, ALL],
+        Command::OrInsert(tally.thing(4, KEY), tally.thing(4, VALUE)) => [0, 0, ALL],
+        Command::EntryInsert(tally.thing(1, KEY), tally.thing(1, VALUE)) => [KEY, FIRST_VALUE, ALL],
+        Command::EntryInsert(tally.thing(4, KEY), tally.thing(4, VALUE)) => [0, 0, ALL],
+    );
 }
 
 #[test]
 fn drops_what_a_write_does_not_keep(rt: HostRuntime) {
-    write(&rt, rt.alloc(), 1, [KEY, FIRST_VALUE, ALL]);
-    write(&rt, rt.alloc(), 4, [0, KEY | VALUE, ALL]);
-}
-
-fn refresh(rt: &impl Abort, alloc: Global, number: u64, dropped: [u64; 3]) {
-    let tally = Tally::new();
-    let command = Command::Refresh(tally.thing(number, KEY));
-    assert_run(rt, alloc, &tally, command, dropped);
-}
-
-fn remove(rt: &impl Abort, alloc: Global, number: u64, dropped: [u64; 3]) {
-    let tally = Tally::new();
-    let command = Command::Remove(tally.thing(number, KEY));
-    assert_run(rt, alloc, &tally, command, dropped);
-}
-
-fn entry_remove(rt: &impl Abort, alloc: Global, number: u64, dropped: [u64; 3]) {
-    let tally = Tally::new();
-    let command = Command::EntryRemove(tally.thing(number, KEY));
-    assert_run(rt, alloc, &tally, command, dropped);
+    assert_runs!(rt, tally;
+        Command::Write(tally.thing(1, KEY), tally.thing(1, VALUE)) => [KEY, FIRST_VALUE, ALL],
+        Command::Write(tally.thing(4, KEY), tally.thing(4, VALUE)) => [0, KEY | VALUE, ALL],
+    );
 }
 
 /// A key that is handed in is dropped by the run, and so is the stored key of a pair that is
 /// removed.
 #[test]
 fn drops_the_key_that_names_a_pair(rt: HostRuntime) {
-    refresh(&rt, rt.alloc(), 1, [KEY, 0, THREE | KEY]);
-    refresh(&rt, rt.alloc(), 4, [KEY, 0, THREE | KEY]);
-    remove(
-        &rt,
-        rt.alloc(),
-        1,
-        [KEY | FIRST_KEY, FIRST_VALUE, THREE | KEY],
+    assert_runs!(rt, tally;
+        Command::Refresh(tally.thing(1, KEY)) => [KEY, 0, THREE | KEY],
+        Command::Refresh(tally.thing(4, KEY)) => [KEY, 0, THREE | KEY],
+        Command::Remove(tally.thing(1, KEY)) => [KEY | FIRST_KEY, FIRST_VALUE, THREE | KEY],
+        Command::Remove(tally.thing(4, KEY)) => [KEY, 0, THREE | KEY],
+        Command::EntryRemove(tally.thing(1, KEY)) => [KEY | FIRST_KEY, FIRST_VALUE, THREE | KEY],
+        Command::EntryRemove(tally.thing(4, KEY)) => [KEY, 0, THREE | KEY],
     );
-    remove(&rt, rt.alloc(), 4, [KEY, 0, THREE | KEY]);
-    entry_remove(
-        &rt,
-        rt.alloc(),
-        1,
-        [KEY | FIRST_KEY, FIRST_VALUE, THREE | KEY],
-    );
-    entry_remove(&rt, rt.alloc(), 4, [KEY, 0, THREE | KEY]);
 }
 
-fn pop_front(rt: &impl Abort, alloc: Global, dropped: [u64; 3]) {
-    let tally = Tally::new();
-    assert_run(rt, alloc, &tally, Command::PopFront, dropped);
-}
-
-fn pop_back(rt: &impl Abort, alloc: Global, dropped: [u64; 3]) {
-    let tally = Tally::new();
-    assert_run(rt, alloc, &tally, Command::PopBack, dropped);
-}
-
-fn clear(rt: &impl Abort, alloc: Global, dropped: [u64; 3]) {
-    let tally = Tally::new();
-    assert_run(rt, alloc, &tally, Command::Clear, dropped);
-}
-
-fn drain(rt: &impl Abort, alloc: Global, dropped: [u64; 3]) {
-    let tally = Tally::new();
-    assert_run(rt, alloc, &tally, Command::Drain, dropped);
-}
-
-fn extend(rt: &impl Abort, alloc: Global, dropped: [u64; 3]) {
-    let tally = Tally::new();
+/// Makes a command that extends a map by a pair that is present and one that is not.
+fn extension<'a>(rt: &impl Abort, alloc: Global, tally: &'a Tally) -> CountedCommand<'a> {
     let pairs = [
         (tally.thing(1, KEY), tally.thing(1, VALUE)),
         (tally.thing(4, OTHER_KEY), tally.thing(4, OTHER_VALUE)),
     ];
     let list = PairList::from_vec(given!(rt; Vec::from_array(alloc, pairs)));
-    assert_run(rt, alloc, &tally, Command::Extend(list), dropped);
+    Command::Extend(list)
 }
 
 /// Pairs that are taken out are dropped with the reply, and those that `Clear` removes by the run.
 /// An extension drops the key that is present, and the value that it replaces.
 #[test]
 fn drops_the_pairs_of_a_command(rt: HostRuntime) {
-    pop_front(&rt, rt.alloc(), [0, FIRST_KEY | FIRST_VALUE, THREE]);
-    pop_back(&rt, rt.alloc(), [0, LAST_PAIR, THREE]);
-    clear(&rt, rt.alloc(), [THREE, 0, THREE]);
-    drain(&rt, rt.alloc(), [0, THREE, THREE]);
-    extend(
-        &rt,
-        rt.alloc(),
-        [KEY | FIRST_VALUE, 0, ALL | OTHER_KEY | OTHER_VALUE],
+    assert_runs!(rt, tally;
+        Command::PopFront => [0, FIRST_KEY | FIRST_VALUE, THREE],
+        Command::PopBack => [0, LAST_PAIR, THREE],
+        Command::Clear => [THREE, 0, THREE],
+        Command::Drain => [0, THREE, THREE],
+        extension(&rt, rt.alloc(), tally) => [KEY | FIRST_VALUE, 0, ALL | OTHER_KEY | OTHER_VALUE],
     );
 }
 
@@ -206,25 +144,12 @@ fn drops_nothing_again_of_an_empty_map(rt: HostRuntime) {
     assert_dropped(&rt, &tally, ALL);
 }
 
-fn reserve(rt: &impl Abort, alloc: Global, additional: usize, dropped: [u64; 3]) {
-    let tally = Tally::new();
-    assert_run(rt, alloc, &tally, Command::Reserve(additional), dropped);
-}
-
-fn shrink(rt: &impl Abort, alloc: Global, dropped: [u64; 3]) {
-    let tally = Tally::new();
-    assert_run(rt, alloc, &tally, Command::Shrink, dropped);
-}
-
-fn set_mode(rt: &impl Abort, alloc: Global, dropped: [u64; 3]) {
-    let tally = Tally::new();
-    assert_run(rt, alloc, &tally, Command::SetMode(Mode::Keep), dropped);
-}
-
 #[test]
 fn drops_nothing_by_a_change_of_the_settings(rt: HostRuntime) {
-    reserve(&rt, rt.alloc(), 9, [0, 0, THREE]);
-    reserve(&rt, rt.alloc(), LIMIT, [0, 0, THREE]);
-    shrink(&rt, rt.alloc(), [0, 0, THREE]);
-    set_mode(&rt, rt.alloc(), [0, 0, THREE]);
+    assert_runs!(rt, tally;
+        Command::Reserve(9) => [0, 0, THREE],
+        Command::Reserve(LIMIT) => [0, 0, THREE],
+        Command::Shrink => [0, 0, THREE],
+        Command::SetMode(Mode::Keep) => [0, 0, THREE],
+    );
 }

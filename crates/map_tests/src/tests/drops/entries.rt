@@ -1,9 +1,9 @@
 //! The keys and values of entries.
 
 use super::{KEY, PAIRS, VALUE, assert_dropped};
-use crate::tests::checks::{check, check_eq};
-use crate::tests::counted_map::{CountedMap, counted_map_of};
-use crate::tests::tally::{Counted, Tally};
+use crate::tests::support::checks::{check, check_eq};
+use crate::tests::support::counted_map::{CountedMap, counted_map_of};
+use crate::tests::support::tally::{Counted, Tally};
 use linked_hash_map::{Entry, Mode, OccupiedEntry, VacantEntry};
 use std::mem::forget;
 use std::process::Abort;

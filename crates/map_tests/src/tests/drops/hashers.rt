@@ -1,9 +1,9 @@
 //! Hashers that are counted when they are dropped.
 
 use super::assert_dropped;
-use crate::tests::checks::{check, check_eq, given};
-use crate::tests::counted_builder::{CountedBuilder, counted_builder};
-use crate::tests::tally::Tally;
+use crate::tests::support::checks::{check, check_eq, given};
+use crate::tests::support::counted_builder::{CountedBuilder, counted_builder};
+use crate::tests::support::tally::Tally;
 use linked_hash_map::{LIMIT, LinkedHashMap, ReserveError};
 use std::process::Abort;
 

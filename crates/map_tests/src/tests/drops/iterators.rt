@@ -1,9 +1,9 @@
 //! Pairs that an iterator hands out, or does not.
 
 use super::{KEY, PAIRS, VALUE, assert_dropped};
-use crate::tests::checks::check_eq;
-use crate::tests::counted_map::{CountedMap, counted_map_of};
-use crate::tests::tally::Tally;
+use crate::tests::support::checks::check_eq;
+use crate::tests::support::counted_map::{CountedMap, counted_map_of};
+use crate::tests::support::tally::Tally;
 use std::mem::{forget, replace};
 use std::process::Abort;
 

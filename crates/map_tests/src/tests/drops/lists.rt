@@ -1,8 +1,8 @@
 //! Lists of pairs.
 
 use super::assert_dropped;
-use crate::tests::checks::given;
-use crate::tests::tally::{Counted, Tally};
+use crate::tests::support::checks::given;
+use crate::tests::support::tally::{Counted, Tally};
 use linked_hash_map::replay::PairList;
 use std::alloc::Global;
 use std::process::Abort;

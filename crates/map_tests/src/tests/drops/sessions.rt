@@ -1,8 +1,8 @@
 //! The payloads of a table of sessions.
 
 use super::assert_dropped;
-use crate::tests::checks::{check, check_eq};
-use crate::tests::tally::{Counted, Tally};
+use crate::tests::support::checks::{check, check_eq};
+use crate::tests::support::tally::{Counted, Tally};
 use linked_hash_map::sessions::Sessions;
 use std::process::Abort;
 

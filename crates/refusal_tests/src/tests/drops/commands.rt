@@ -2,7 +2,7 @@
 
 use super::{CountedMap, assert_dropped, insert_first, pair_of};
 use crate::tests::say_if_given;
-use crate::tests::tally::{Counted, Tally};
+use crate::tests::support::tally::{Counted, Tally};
 use linked_hash_map::LinkedHashMap;
 use linked_hash_map::replay::{Answer, Command, PairList, Reply, replay};
 use std::alloc::{AllocError, Global};

@@ -2,7 +2,7 @@
 
 use super::{CountedMap, assert_dropped};
 use crate::tests::say_if_given;
-use crate::tests::tally::{Counted, Tally};
+use crate::tests::support::tally::{Counted, Tally};
 use linked_hash_map::{Entry, LinkedHashMap, Refused};
 use std::process::Abort;
 

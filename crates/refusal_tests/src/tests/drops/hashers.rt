@@ -1,10 +1,10 @@
 //! Hashers of refused maps.
 
 use super::assert_dropped;
-use crate::tests::checks::check_eq;
-use crate::tests::counted_builder::{CountedBuilder, counted_builder};
 use crate::tests::say_if_given;
-use crate::tests::tally::Tally;
+use crate::tests::support::checks::check_eq;
+use crate::tests::support::counted_builder::{CountedBuilder, counted_builder};
+use crate::tests::support::tally::Tally;
 use linked_hash_map::{LinkedHashMap, ReserveError};
 use std::process::Abort;
 

@@ -1,9 +1,9 @@
 //! Insertions, extensions and changes of the capacity.
 
 use super::{CountedMap, CountedPair, assert_dropped, insert_first, pair_of};
-use crate::tests::checks::check_eq;
 use crate::tests::say_if_given;
-use crate::tests::tally::{Counted, Tally};
+use crate::tests::support::checks::check_eq;
+use crate::tests::support::tally::{Counted, Tally};
 use linked_hash_map::{LinkedHashMap, Refused};
 use std::process::Abort;
 

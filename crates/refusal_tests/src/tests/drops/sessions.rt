@@ -2,7 +2,7 @@
 
 use super::assert_dropped;
 use crate::tests::say_if_given;
-use crate::tests::tally::{Counted, Tally};
+use crate::tests::support::tally::{Counted, Tally};
 use linked_hash_map::sessions::{Put, PutRefused, Sessions};
 use std::process::Abort;
 

@@ -1,7 +1,7 @@
 //! Commands, and the lists that they have.
 
 use super::PAIRS;
-use crate::tests::checks::{check, check_eq};
+use crate::tests::support::checks::{check, check_eq};
 use crate::tests::{Map, assert_map, full_of, say_given};
 use linked_hash_map::replay::{Command, PairList, replay};
 use linked_hash_map::{Mode, ReserveError};

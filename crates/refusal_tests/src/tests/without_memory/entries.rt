@@ -1,9 +1,9 @@
 //! Entries of either kind, and the cursor.
 
 use super::PAIRS;
-use crate::tests::calls::{check_remove, or_default, or_insert, or_insert_with};
-use crate::tests::checks::{check, check_eq};
-use crate::tests::last_byte::BuildLastByte;
+use crate::tests::support::calls::{check_remove, or_default, or_insert, or_insert_with};
+use crate::tests::support::checks::{check, check_eq};
+use crate::tests::support::last_byte::BuildLastByte;
 use crate::tests::{Map, assert_map, full_of, say_given};
 use linked_hash_map::{Entries, Entry, Refused, ReserveError};
 use std::process::Abort;

@@ -1,8 +1,8 @@
 //! Empty maps, and the iterator that owns its pairs.
 
 use super::PAIRS;
-use crate::tests::calls::{check_get, check_reserve, check_shrink};
-use crate::tests::checks::{check, check_eq};
+use crate::tests::support::calls::{check_get, check_reserve, check_shrink};
+use crate::tests::support::checks::{check, check_eq};
 use crate::tests::{BUILDER, Map, full_of, say_given, with_room};
 use linked_hash_map::replay::replay;
 use linked_hash_map::{LIMIT, LinkedHashMap, ReserveError};

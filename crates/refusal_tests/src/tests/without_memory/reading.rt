@@ -1,8 +1,8 @@
 //! Lookups, iterators and comparisons.
 
 use super::PAIRS;
-use crate::tests::calls::check_get;
-use crate::tests::checks::{check, check_eq, given};
+use crate::tests::support::calls::check_get;
+use crate::tests::support::checks::{check, check_eq, given};
 use crate::tests::{BUILDER, Map, assert_map, full_of, say_given};
 use linked_hash_map::ReserveError;
 use std::cmp::Ordering;

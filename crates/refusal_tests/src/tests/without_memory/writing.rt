@@ -1,11 +1,11 @@
 //! Calls that change a map within its capacity.
 
 use super::PAIRS;
-use crate::tests::calls::{
+use crate::tests::support::calls::{
     check_insert, check_lends_none, check_pop_back, check_pop_front, check_remove, check_reserve,
     check_shrink,
 };
-use crate::tests::checks::check_eq;
+use crate::tests::support::checks::check_eq;
 use crate::tests::{Map, assert_map, full_of, insert_new, say_given, with_room};
 use linked_hash_map::{LIMIT, Mode, ReserveError};
 use std::process::Abort;

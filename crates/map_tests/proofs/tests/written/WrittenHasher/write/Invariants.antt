@@ -1,9 +1,0 @@
-use Rattle.std.proofs.Common.{◌≡◌, ℕ, ◌+◌, nat_lt, cond, fold, slice_set, take}
-use Rattle.map_tests.specs.declared.tests.written.Written.{Written}
-use Rattle.map_tests.proofs.tests.written.WrittenHasher.write.Given as goal
-
--- the bytes so far were pushed
-abbrev pub invariant-loop-byte : goal.invariant-loop-byte
-invariant-loop-byte l =
-    let push : Written → ℕ → Written = λ state byte. cond (nat_lt state.len 32) (record { bytes = slice_set state.bytes state.len byte; len = state.len + 1 }) state in
-    l.self ≡ fold push l.initial.self (take l.byte-index l.bytes)
