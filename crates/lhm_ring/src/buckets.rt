@@ -25,14 +25,6 @@ pub(crate) struct Word {
 // A bucket takes two bytes of the filter.
 const _: () = prove!(size_of::<Word>() == 2);
 
-/// Returns the bit of a hash.
-fn bit(hash: u64) -> u32
-    ensures value { result ≡ hash / 2 ^ 60 }
-    ensures small { result < 16 }
-{
-    (hash >> 60) as u32
-}
-
 /// Allocates `count` heads of no chain.
 pub(crate) fn new_heads(alloc: Global, count: usize) -> Result<Vec<Head>, AllocError>
     ensures empty { IfOk result (λ v. (b : ℕ) → slice_index_or (map leads_to v.items) b None ≡ None) }
@@ -117,7 +109,7 @@ impl<K, V> Index<K, V> {
         requires within { bucket < length self.now.heads }
         ensures { result ≡ may_contain self.now.words hash }
     {
-        (self.words[bucket].bits >> bit(hash)) & 1 == 1
+        (self.words[bucket].bits >> ((hash >> 60) as u32)) & 1 == 1
     }
 
     /// Makes a node with this hash the head of its bucket, sets the bit of the hash, and returns the
@@ -132,7 +124,7 @@ impl<K, V> Index<K, V> {
         let old = self.heads[bucket].link;
         self.heads[bucket].link = head;
         let bits = self.words[bucket].bits;
-        self.words[bucket].bits = bits | (1u16 << bit(hash));
+        self.words[bucket].bits = bits | (1u16 << ((hash >> 60) as u32));
         old
     }
 

@@ -1,4 +1,4 @@
-use Rattle.std.proofs.Common.{◌%◌, ap, ◌∙◌, set, subst, ◌<◌}
+use Rattle.std.proofs.Common.{refl, arith, ◌/◌, ◌^◌, ◌%◌, ap, ◌∙◌, set, subst, ◌<◌}
 use Rattle.std.proofs.lemmas.List.{map-set}
 use Rattle.lhm_ring.proofs.indexes.BucketHeads.{length-words}
 use Rattle.lhm_ring.proofs.indexes.Filters.{SetsBit-written}
@@ -14,7 +14,9 @@ returns-clause-heads g c =
 pub returns-clause-words : goal.returns-clause-words
 returns-clause-words g c =
     let i = c.self.inside in
+    let below : c.args.hash < 2 ^ 64 = c.ranges.hash.fits in
+    let small : c.args.hash / 2 ^ 60 < 16 = omega arith in
     let long = length-words i.heads.items i.words.items c.self.view_is c.self.invariant.same_count in
-    rw (← c.self.view_is) (SetsBit-written i.words.items c.args.bucket c.args.hash c.bit.result c.index-2.result.now
+    rw (← c.self.view_is) (SetsBit-written i.words.items c.args.bucket c.args.hash (c.args.hash / 2 ^ 60) c.index-2.result.now
     (c.requires.of_hash ∙ ap (λ n. c.args.hash % n) long) (subst (λ n. c.args.bucket < n) long c.requires.within)
-    c.bit.ensures.value c.bit.ensures.small c.index-2.ensures)
+    refl small c.index-2.ensures)
