@@ -4,7 +4,7 @@ ghost use Rattle.lhm_ring.specs.Pointer.{target};
 ghost use Rattle.lhm_ring.specs.Buckets.{IsBucketCount, HasNoChain, SetsBit, leads_to, may_contain};
 
 use crate::index::Index;
-use crate::pointer::Link;
+use crate::pointer::{Link, Position};
 use std::alloc::{AllocError, Global};
 use std::mem::size_of;
 
@@ -138,7 +138,8 @@ impl<K, V> Index<K, V> {
         ensures count { length self.new.words ≡ length self.old.words }
     {
         self.heads[bucket].link = head;
-        if head.is_none() {
+        let there: Option<Position<K, V>> = head.get();
+        if there.is_none() {
             self.words[bucket].bits = 0;
         }
     }

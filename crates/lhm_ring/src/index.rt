@@ -144,7 +144,7 @@ impl<K, V> Index<K, V> {
         ring.set_link(at, Link::none());
         let mut before = None;
         let head = self.head(self.bucket_of(hash));
-        let mut here = Position::new(head.pointer());
+        let mut here = head.position();
         let mut passed: usize = 0;
         'chain: while let Some(next) = ring.links(here).link.get() {
             before = Some(here);

@@ -1,5 +1,5 @@
 //! Pointers to nodes: plain ones, links, and positions of triples.
-ghost use Rattle.std.specs.Prelude.{◌≡◌, None, Some, true, ⊤, IsTrue, IsFalse};
+ghost use Rattle.std.specs.Prelude.{◌≡◌, None, Some, true, ⊤};
 ghost use Rattle.std.specs.Option.{IsSome};
 ghost use mathlib.Core.Bool.{Bool-set};
 ghost use Rattle.lhm_ring.specs.Nodes.{is_block, is_null_or_block};
@@ -22,7 +22,7 @@ pub struct Link {
 }
 
 impl Link {
-    ghost use Rattle.lhm_ring.specs.Pointer.{pointer_of_some, target};
+    ghost use Rattle.lhm_ring.specs.Pointer.{pointer_of, pointer_of_some, target};
 
     pub(crate) fn none() -> Link
         ensures { target result ≡ None }
@@ -52,18 +52,9 @@ impl Link {
         ensures { pointer_of_some result ≡ target self }
     {
         match NonNull::new(self.ptr.cast_mut()) {
-            Some(_) => Some(Position::new(NodePointer { ptr: self.ptr })),
+            Some(_) => Some(self.position()),
             None => None,
         }
-    }
-
-    /// Returns whether it leads nowhere.
-    pub(crate) fn is_none(self) -> bool
-        ensures none { IsTrue result → target self ≡ None }
-        ensures some { IsFalse result → IsSome (target self) }
-    {
-        let there: Option<Position<u8, u8>> = self.get();
-        there.is_none()
     }
 
     /// Returns the address that it leads to, or null.
@@ -73,13 +64,15 @@ impl Link {
         NodePointer { ptr: self.ptr }
     }
 
-    /// Returns the pointer that it leads to, untested: it leads somewhere.
-    pub(crate) fn pointer(self) -> NodePointer
+    /// Returns the position that it leads to, untested: it leads somewhere.
+    pub(crate) fn position<K, V>(self) -> Position<K, V>
         requires { IsSome (target self) }
-        ensures pointer { target self ≡ Some result.ptr }
-        ensures block { is_block result.ptr ≡ true }
+        ensures { target self ≡ Some (pointer_of result) }
     {
-        NodePointer { ptr: self.ptr }
+        Position {
+            pointer: NodePointer { ptr: self.ptr },
+            marker: PhantomData,
+        }
     }
 }
 
@@ -89,18 +82,6 @@ pub struct Position<K, V> {
     pub(crate) pointer: NodePointer,
     marker: PhantomData<(K, V)>,
     ghost block: { is_block pointer.ptr ≡ true } by { Bool-set _ _ },
-}
-
-impl<K, V> Position<K, V> {
-    pub(crate) fn new(pointer: NodePointer) -> Position<K, V>
-        requires { is_block pointer.ptr ≡ true }
-        ensures { result.pointer ≡ pointer }
-    {
-        Position {
-            pointer,
-            marker: PhantomData,
-        }
-    }
 }
 
 impl<K, V> Clone for Position<K, V> {

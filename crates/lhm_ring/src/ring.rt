@@ -284,8 +284,8 @@ impl<K, V> Ring<K, V> {
         ensures spares { self.new.spares ≡ self.old.spares - 1 }
         ensures nodes { self.new.nodes ≡ self.old.nodes }
     {
-        let at = self.spare.pointer();
-        let old = *self.nodes.links(at);
+        let at = self.spare.position();
+        let old = *self.nodes.links(at.pointer);
         let node = self.spare;
         let previous = self.ends.last;
         // `join` writes the other two links.
@@ -294,14 +294,14 @@ impl<K, V> Ring<K, V> {
             hash,
             ..old
         };
-        self.nodes.set_links(at, fresh);
-        self.nodes.fill(at, key, value);
+        self.nodes.set_links(at.pointer, fresh);
+        self.nodes.fill(at.pointer, key, value);
         join(&mut self.nodes, &mut self.ends, previous, node);
         join(&mut self.nodes, &mut self.ends, node, Link::none());
         self.spare = old.link;
         self.spares -= 1;
         self.len += 1;
-        Position::new(at)
+        at
     }
 
     /// Removes and returns the triple at a position, which ends. The others keep their order.

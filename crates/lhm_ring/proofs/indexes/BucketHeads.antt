@@ -43,7 +43,3 @@ Testable-null_or_block null_ptr e = omega arith
 pub led_to-in_block : (p : Ptr) → InBlock p → led_to p ≡ Some p
 led_to-in_block (block_ptr b o) t = refl
 led_to-in_block null_ptr t = absurd t
-
-pub is_block-in_block : (p : Ptr) → is_null_or_block p ≡ true → InBlock p → is_block p ≡ true
-is_block-in_block (block_ptr b o) e t = e
-is_block-in_block null_ptr e t = absurd t

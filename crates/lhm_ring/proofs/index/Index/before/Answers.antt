@@ -1,23 +1,22 @@
 use Rattle.std.proofs.Common.{arith, ap, sym, ◌++◌, ◌∷◌, ◌∙◌, get_or, Some, None}
 use Rattle.std.specs.Prelude.{is_some}
-use Rattle.lhm_ring.specs.declared.pointer.NodePointer.{NodePointer}
 use Rattle.lhm_ring.proofs.indexes.NodeBefore.{get_or-head, IsTowards-start, IsHeld-towards, passed-below, IsTowards-next, IsOnChain-towards}
 use Rattle.lhm_ring.proofs.indexes.NodeBefore.{nodes-mended, IsHeld-towards_cut, State-equal}
 use Rattle.lhm_ring.proofs.index.Index.before.Goals as goal
 use Rattle.lhm_ring.specs.Pointer.{pointer_of, pointer_of_some, target}
 use Rattle.lhm_ring.specs.Ring.{linked_to}
 
-pub pointer-requires : goal.pointer-requires
-pointer-requires g c =
+pub position-here-requires : goal.position-here-requires
+position-here-requires g c =
     let h = get_or-head c.requires.indexed.chains c.requires.held c.requires.hash in
     ap is_some (c.head-head.ensures ∙ ap (λ b. get_or c.args.self.now.heads b None) c.bucket_of.ensures.of_hash ∙ h.1)
 
 pub chain-init : goal.chain-init
 chain-init g c = record {
-  towards = IsTowards-start c.set_link.new.self.held (target c.links.result.now.link) (pointer_of c.new-here.result) c.requires.indexed.chains
+  towards = IsTowards-start c.set_link.new.self.held (target c.links.result.now.link) (pointer_of c.position-here.result) c.requires.indexed.chains
       c.requires.held c.requires.hash c.links.ensures.link
       (λ xs t ys e at. c.set_link.ensures.held xs t ys e at ∙ ap (λ o. xs ++ linked_to o t ∷ ys) c.none.ensures)
-      (ap (λ (z : NodePointer). Some z.ptr) c.new-here.ensures ∙ sym c.pointer.ensures.pointer ∙ c.head-head.ensures
+      (sym c.position-here.ensures ∙ c.head-head.ensures
       ∙ ap (λ b. get_or c.args.self.now.heads b None) c.bucket_of.ensures.of_hash);
   spares = c.set_link.ensures.spares;
   nodes = c.set_link.ensures.nodes;

@@ -1,6 +1,5 @@
 use Rattle.std.proofs.Common.{◌∙◌, ◌++◌, ◌∷◌, ◌-◌, [], None, ap, sym, subst, refl}
 use denote.RawPtr.{Ptr}
-use Rattle.lhm_ring.specs.declared.pointer.NodePointer.{NodePointer}
 use Rattle.lhm_ring.proofs.rings.PutBackAndUnlink.{IsSome-spare, IsAt-spare, Ready-spare, links_at-written, Filled-node, is_there-filled, IsOwned-put_back, ring_list-put_back}
 use Rattle.lhm_ring.proofs.rings.RingCells.{IsAt-in_nodes, prev_at-null, is_there-nowhere, led_to-some, led_to-none, IsJoined-same}
 use Rattle.lhm_ring.proofs.memory.Places.{IsLaid-same}
@@ -8,45 +7,45 @@ use Rattle.lhm_ring.proofs.ring.Ring.put_back.Goals as goal
 use Rattle.lhm_ring.specs.Links.{ring_cells, IsThere}
 use Rattle.lhm_ring.specs.Ring.{held, pair}
 
-pub pointer-at-requires : goal.pointer-at-requires
-pointer-at-requires g c = IsSome-spare c.self.invariant.ring c.self.view_is c.requires
+pub position-at-requires : goal.position-at-requires
+position-at-requires g c = IsSome-spare c.self.invariant.ring c.self.view_is c.requires
 
 pub links-old-requires : goal.links-old-requires
 links-old-requires g c =
     let i = c.self.inside in
-    IsAt-in_nodes i.ends i.nodes.cells c.pointer-at.result.ptr c.pointer-at.ensures.block
-    (IsAt-spare (Ready-spare c.self.invariant.ring c.self.view_is c.requires c.pointer-at.ensures.pointer))
+    IsAt-in_nodes i.ends i.nodes.cells c.position-at.result.pointer.ptr c.position-at.result.block
+    (IsAt-spare (Ready-spare c.self.invariant.ring c.self.view_is c.requires c.position-at.ensures))
 
 pub fill-requires : goal.fill-requires
-fill-requires g c = (_, links_at-written c.pointer-at.result.ptr _ c.self.inside.nodes.cells c.links-old.ensures c.set_links.ensures.cells)
+fill-requires g c = (_, links_at-written c.position-at.result.pointer.ptr _ c.self.inside.nodes.cells c.links-old.ensures c.set_links.ensures.cells)
 
 pub join-requires : goal.join-requires
 join-requires g c =
-    let i = c.self.inside in let at = c.pointer-at.result in
-    let ready = Ready-spare c.self.invariant.ring c.self.view_is c.requires c.pointer-at.ensures.pointer in
-    let filled = Filled-node i.ends i.nodes.cells (held at.ptr c.args.hash None (pair c.args.key c.args.value)) refl c.pointer-at.ensures.block
+    let i = c.self.inside in let at = c.position-at.result.pointer in
+    let ready = Ready-spare c.self.invariant.ring c.self.view_is c.requires c.position-at.ensures in
+    let filled = Filled-node i.ends i.nodes.cells (held at.ptr c.args.hash None (pair c.args.key c.args.value)) refl c.position-at.result.block
     c.links-old.ensures c.none.result c.none.ensures c.set_links.ensures.cells c.fill.ensures.cells in
     let t = is_there-filled ready filled in let T : Ptr → Type 0 = IsThere (ring_cells i.ends c.fill.new.self.cells) in
-    (subst T (prev_at-null i.ends i.nodes.cells) t.0, subst T (sym (led_to-some i.spare.ptr at.ptr c.pointer-at.ensures.pointer)) t.1)
+    (subst T (prev_at-null i.ends i.nodes.cells) t.0, subst T (sym (led_to-some i.spare.ptr at.ptr c.position-at.ensures)) t.1)
 
 pub join-requires-2 : goal.join-requires-2
 join-requires-2 g c =
-    let i = c.self.inside in let at = c.pointer-at.result in
-    let ready = Ready-spare c.self.invariant.ring c.self.view_is c.requires c.pointer-at.ensures.pointer in
-    let filled = Filled-node i.ends i.nodes.cells (held at.ptr c.args.hash None (pair c.args.key c.args.value)) refl c.pointer-at.ensures.block
+    let i = c.self.inside in let at = c.position-at.result.pointer in
+    let ready = Ready-spare c.self.invariant.ring c.self.view_is c.requires c.position-at.ensures in
+    let filled = Filled-node i.ends i.nodes.cells (held at.ptr c.args.hash None (pair c.args.key c.args.value)) refl c.position-at.result.block
     c.links-old.ensures c.none.result c.none.ensures c.set_links.ensures.cells c.fill.ensures.cells in
     let t = is_there-filled ready filled in let T : Ptr → Type 0 = IsThere (ring_cells i.ends c.fill.new.self.cells) in (
-      c.join.ensures.joined.there i.spare.ptr ∙ subst T (sym (led_to-some i.spare.ptr at.ptr c.pointer-at.ensures.pointer)) t.1,
+      c.join.ensures.joined.there i.spare.ptr ∙ subst T (sym (led_to-some i.spare.ptr at.ptr c.position-at.ensures)) t.1,
       is_there-nowhere c.join.new.ends c.join.new.nodes.cells c.none-2.result.ptr c.none-2.ensures,
     )
 
 pub invariant_of-self : goal.invariant_of-self
 invariant_of-self g c =
-    let i = c.self.inside in let at = c.pointer-at.result in
-    let ready = Ready-spare c.self.invariant.ring c.self.view_is c.requires c.pointer-at.ensures.pointer in
-    let filled = Filled-node i.ends i.nodes.cells (held at.ptr c.args.hash None (pair c.args.key c.args.value)) refl c.pointer-at.ensures.block
+    let i = c.self.inside in let at = c.position-at.result.pointer in
+    let ready = Ready-spare c.self.invariant.ring c.self.view_is c.requires c.position-at.ensures in
+    let filled = Filled-node i.ends i.nodes.cells (held at.ptr c.args.hash None (pair c.args.key c.args.value)) refl c.position-at.result.block
     c.links-old.ensures c.none.result c.none.ensures c.set_links.ensures.cells c.fill.ensures.cells in
-    let node = led_to-some i.spare.ptr at.ptr c.pointer-at.ensures.pointer in
+    let node = led_to-some i.spare.ptr at.ptr c.position-at.ensures in
     let j = IsJoined-same (sym (prev_at-null i.ends i.nodes.cells)) node c.join.ensures.joined in
     let k = IsJoined-same node (led_to-none c.none-2.result.ptr c.none-2.ensures) c.join-2.ensures.joined in
     record {
@@ -57,19 +56,15 @@ invariant_of-self g c =
 
 pub returns : goal.returns
 returns g c =
-    let i = c.self.inside in let at = c.pointer-at.result in
-    let ready = Ready-spare c.self.invariant.ring c.self.view_is c.requires c.pointer-at.ensures.pointer in
-    let filled = Filled-node i.ends i.nodes.cells (held at.ptr c.args.hash None (pair c.args.key c.args.value)) refl c.pointer-at.ensures.block
+    let i = c.self.inside in let at = c.position-at.result.pointer in
+    let ready = Ready-spare c.self.invariant.ring c.self.view_is c.requires c.position-at.ensures in
+    let filled = Filled-node i.ends i.nodes.cells (held at.ptr c.args.hash None (pair c.args.key c.args.value)) refl c.position-at.result.block
     c.links-old.ensures c.none.result c.none.ensures c.set_links.ensures.cells c.fill.ensures.cells in
-    let node = led_to-some i.spare.ptr at.ptr c.pointer-at.ensures.pointer in
+    let node = led_to-some i.spare.ptr at.ptr c.position-at.ensures in
     let j = IsJoined-same (sym (prev_at-null i.ends i.nodes.cells)) node c.join.ensures.joined in
     let k = IsJoined-same node (led_to-none c.none-2.result.ptr c.none-2.ensures) c.join-2.ensures.joined in
-    let p = ap (λ (z : NodePointer). z.ptr) (sym c.new.ensures) in
     record {
-      last = ring_list-put_back ready filled j k ∙ ap (λ q. c.args.self.now.held ++ held q c.args.hash None (pair c.args.key c.args.value) ∷ []) p;
+      last = ring_list-put_back ready filled j k;
       spares = ap (λ z. z.spares - 1) c.self.view_is;
       nodes = ap (λ z. z.nodes) c.self.view_is;
     }
-
-pub new-requires : goal.new-requires
-new-requires g c = c.pointer-at.ensures.block
