@@ -35,17 +35,15 @@ IsHeld-on_chain {K} {V} {heads} {hash} {nodes} {before} {p} w =
     let o : OnNode (length heads) (hash % length heads) w.here nodes = OnNode-rearranged (length heads) (hash % length heads) w.done w.here w.rest nodes w.holds in
     IsHeld-spot o.of w.at_is
 
-PutsIn-some : {X : Type 0} (x : X) (xs : List X) → PutsIn x xs [] → ⊥
-PutsIn-some x xs h = h
+no_puts : {X : Type 0} (x : X) (xs : List X) → PutsIn x xs [] → ⊥
+no_puts x xs h = h
 
-pub length-on_chain : {heads : List (Option Ptr)} {hash : ℕ} {xs : List Spot} {before : Option Ptr} {p : Ptr} → HasChains heads xs → IsOnChain heads hash xs before p → 0 < length heads
-length-on_chain {heads} {hash} {xs} {before} {p} h w =
-    let f : Spot → Bool = is_in (length heads) (hash % length heads) in
-    let m : (ws : List Spot) × PutsIn w.here ws (filter f xs) = IsRearranged-member w.done w.here w.rest (filter f xs) w.holds in
-    let t : PutsPassing f w.here xs = PutsPassing-filter f w.here m.0 xs m.1 in
+-- with a spot there is a bucket
+pub length-HasChains : {heads : List (Option Ptr)} {xs : List Spot} (s : Spot) (ws : List Spot) → HasChains heads xs → PutsIn s ws xs → 0 < length heads
+length-HasChains {heads} s ws h p =
     elim (cases_lt 0 (length heads)) [
       | inl l ↦ l
-      | inr l ↦ absurd (PutsIn-some w.here t.without (subst (λ (v : List Spot). PutsIn w.here t.without v) (h.none (omega arith)) t.puts))
+      | inr l ↦ absurd (no_puts s ws (subst (PutsIn s ws) (h.none (omega arith)) p))
     ]
 
 -- the one before, if there is one
@@ -84,7 +82,7 @@ HasOtherChains-take_first {K} {V} {heads} {hash} {nodes} {before} {p} link e h w
     let o : OnNode n bucket w.here nodes = OnNode-rearranged n bucket w.done w.here w.rest nodes w.holds in
     let held : IsHeld nodes p = IsHeld-spot o.of w.at_is in
     let link_is : link ≡ w.here.link = l held.before held.node held.after held.is held.at_is ∙ ap (λ v. v.link) o.of.split.at_is in
-    let i : HasChains (set heads bucket w.here.link) o.ws = HasChains-take_first heads bucket w.here w.rest o.ws (spots nodes) h (mod-lt hash (length-on_chain h w)) linked holds o.puts in
+    let i : HasChains (set heads bucket w.here.link) o.ws = HasChains-take_first heads bucket w.here w.rest o.ws (spots nodes) h (mod-lt hash (length-HasChains w.here o.ws h o.puts)) linked holds o.puts in
     record {
       held = held;
       others = subst (λ (v : Option Ptr). HasChains (set heads bucket v) (spots (held.before ++ held.after))) (sym link_is) (subst (λ (v : List Spot). HasChains (set heads bucket w.here.link) v) o.of.others i);
@@ -114,5 +112,5 @@ HasOtherChains-take_next {K} {V} {heads} {hash} {nodes} {before} {p} nodes' q li
     let t : PutsPassing f w.here y.ws = PutsPassing-filter f w.here m.0 y.ws m.1 in
     let s : (ws : List Spot) × PutsIn w.here ws (spots nodes') = PutsIn-later w.here y' t.without y.ws (spots nodes') t.puts put' in
     let of : NodeOf w.here s.0 nodes' = NodeOf-spot w.here s.0 nodes' s.1 in
-    let i : HasChains heads s.0 = HasChains-take_next heads bucket b.before b.node y' w.here w.rest y.ws (spots nodes) (spots nodes') s.0 h (mod-lt hash (length-on_chain h w)) linked holds (ap (λ v. v.at) y.of.split.at_is) (ap (λ v. v.hash) y.of.split.at_is) link_is y.puts put' s.1 in
+    let i : HasChains heads s.0 = HasChains-take_next heads bucket b.before b.node y' w.here w.rest y.ws (spots nodes) (spots nodes') s.0 h (mod-lt hash (length-HasChains w.here o.ws h o.puts)) linked holds (ap (λ v. v.at) y.of.split.at_is) (ap (λ v. v.hash) y.of.split.at_is) link_is y.puts put' s.1 in
     record { held = IsHeld-spot of w.at_is; others = subst (λ (v : List Spot). HasChains heads v) of.others i }

@@ -1,13 +1,28 @@
 -- The spots of nodes, and the node of a spot.
-use Rattle.std.proofs.Common.{◌≡◌, List, [], ◌∷◌, ◌++◌, inl, inr, refl, sym, ◌∙◌, ap}
+use Rattle.std.proofs.Common.{◌≡◌, ℕ, ◌%◌, List, [], ◌∷◌, ◌++◌, inl, inr, refl, sym, ◌∙◌, ap, subst, Option}
+use Rattle.std.specs.Prelude.{filter}
+use Rattle.std.proofs.lemmas.Bool.{eq-eqb}
 use denote.RawPtr.{Ptr}
 use Rattle.lhm_ring.proofs.lists.Rearranged.{PutsIn-there}
+use Rattle.lhm_ring.proofs.lists.RearrangedFilters.{PutsIn-filter_in}
 use Rattle.lhm_ring.specs.Ring.{Held, IsHeld, SplitAt}
-use Rattle.lhm_ring.specs.Index.{PutsIn, Spot, spot, spots}
+use Rattle.lhm_ring.specs.Index.{PutsIn, Spot, spot, spots, is_in, OfNodeAt}
 
 pub PutsIn-spots : {K V : Type 0} (before : List (Held (K × V))) (x : Held (K × V)) (after : List (Held (K × V))) → PutsIn (spot x) (spots (before ++ after)) (spots (before ++ x ∷ after))
 PutsIn-spots [] x after = inl (refl, refl)
 PutsIn-spots (y ∷ before) x after = PutsIn-there (spot x) (spot y) (spots (before ++ after)) (spots (before ++ x ∷ after)) (PutsIn-spots before x after)
+
+-- the same of nodes that are known by an equation, of all of them and of those of a bucket
+module _ {K V : Type 0} {nodes : List (Held (K × V))} (before : List (Held (K × V))) (x : Held (K × V)) (after : List (Held (K × V)))
+    (is : nodes ≡ before ++ x ∷ after) where
+  pub PutsIn-spots_of : PutsIn (spot x) (spots (before ++ after)) (spots nodes)
+  PutsIn-spots_of = subst (λ (v : List (Held (K × V))). PutsIn (spot x) (spots (before ++ after)) (spots v)) (sym is) (PutsIn-spots before x after)
+
+  pub PutsIn-bucket : (n : ℕ) {hash : ℕ} → hash ≡ x.hash
+      → PutsIn (spot x) (filter (is_in n (hash % n)) (spots (before ++ after))) (filter (is_in n (hash % n)) (spots nodes))
+  PutsIn-bucket n {hash} e =
+      PutsIn-filter_in (is_in n (hash % n)) (spot x) (spots (before ++ after)) (spots nodes) PutsIn-spots_of
+      (eq-eqb (x.hash % n) (hash % n) (ap (λ v. v % n) (sym e)))
 
 -- the node of a spot, and the spots of the others
 pub record NodeOf {K V : Type 0} (s : Spot) (ws : List Spot) (nodes : List (Held (K × V))) : Type 0 where
@@ -27,3 +42,8 @@ NodeOf-spot s ws (x ∷ nodes) (inr h) =
       split = record { before = x ∷ k.before; node = k.node; after = k.after; is = ap (λ v. x ∷ v) k.is; at_is = k.at_is };
       others = h.is ∙ ap (λ v. spot x ∷ v) i.others;
     }
+
+-- the link of a spot is its node's
+pub link-NodeOf : {K V : Type 0} {s : Spot} {ws : List Spot} {nodes : List (Held (K × V))} {p : Ptr} {link : Option Ptr} (n : NodeOf s ws nodes)
+    → s.at ≡ p → OfNodeAt nodes p (λ x. link ≡ x.link) → link ≡ s.link
+link-NodeOf n at l = let h = IsHeld-spot n at in l h.before h.node h.after h.is h.at_is ∙ ap (λ v. v.link) n.split.at_is
