@@ -1,15 +1,15 @@
 -- A chain that is cut behind one of its nodes, so that the node is its last.
-use Rattle.std.proofs.Common.{◌≡◌, ℕ, ◌+◌, ◌%◌, ◌<◌, ◌≤◌, List, [], ◌∷◌, ◌++◌, inl, inr, refl, sym, ◌∙◌, ap, subst, Bool, true, length, get_or, arith, Option, Some, None, append_assoc, length-append}
+use Rattle.std.proofs.Common.{◌≡◌, ℕ, ◌+◌, ◌%◌, ◌<◌, ◌≤◌, List, [], ◌∷◌, ◌++◌, inl, inr, refl, sym, ◌∙◌, ap, subst, Bool, length, get_or, arith, Option, Some, None, append_assoc, length-append}
 use Rattle.std.specs.Prelude.{filter}
 use Rattle.std.proofs.lemmas.List.{length-map}
 use Rattle.std.proofs.lemmas.List.Sums.{length-filter, count_by-le-length}
 use Rattle.std.proofs.Math.Nat.{mod-lt}
 use denote.RawPtr.{Ptr}
-use Rattle.lhm_ring.proofs.indexes.Chains.{ChainFirst, ChainFirst-some, none-IsChain}
+use Rattle.lhm_ring.proofs.indexes.Chains.{ChainFirst, ChainFirst-some, IsChain-tail, none-IsChain}
 use Rattle.lhm_ring.proofs.indexes.IndexTakes.{OnNode, OnNode-rearranged, length-HasChains}
 use Rattle.lhm_ring.proofs.lists.Rearranged.{PutsIn-middle, IsRearranged-less, IsRearranged-more, SplitAround-rearranged}
 use Rattle.lhm_ring.proofs.lists.RearrangedCounts.{length-IsRearranged}
-use Rattle.lhm_ring.proofs.indexes.Spots.{IsHeld-spot, PutsIn-spots_of, PutsIn-bucket, link-NodeOf}
+use Rattle.lhm_ring.proofs.indexes.Spots.{IsHeld-spot, PutsIn-spots_of, PutsIn-bucket, OfNodeAt-spot}
 use Rattle.lhm_ring.specs.Ring.{State, Held, IsHeld, AtHeld, linked_to, SplitAt, SplitAround}
 use Rattle.lhm_ring.specs.Index.{IsRearranged, IsChain, is_in, HasChain, HasChains, Spot, spot, spots, OfNodeAt, IsLast, IsOnChain}
 
@@ -51,10 +51,6 @@ push-injective (w ∷ us) u (z ∷ vs) v e =
 IsChain-cut : (h : Option Ptr) (us : List Spot) (s t : Spot) (vs : List Spot) → t.at ≡ s.at → t.link ≡ None → IsChain h (us ++ s ∷ vs) → IsChain h (us ++ t ∷ [])
 IsChain-cut h [] s t vs a l c = (c.0 ∙ ap Some (sym a), l)
 IsChain-cut h (u ∷ us) s t vs a l c = (c.0, IsChain-cut u.link us s t vs a l c.1)
-
-IsChain-tail : (h : Option Ptr) (us : List Spot) (s : Spot) (vs : List Spot) → IsChain h (us ++ s ∷ vs) → IsChain s.link vs
-IsChain-tail h [] s vs c = c.1
-IsChain-tail h (u ∷ us) s vs c = IsChain-tail u.link us s vs c.1
 
 ChainFirst-cut : (here : Ptr) (us : List Spot) (s t : Spot) (vs : List Spot) → t.at ≡ s.at → IsChain (Some here) (us ++ s ∷ vs) → ChainFirst (us ++ t ∷ []) here
 ChainFirst-cut here [] s t vs a c = record { node = t; after = []; is = refl; at_is = (let e : Some here ≡ Some s.at = c.0 in cc) }
@@ -163,7 +159,7 @@ module _ {K V : Type 0} {heads : List (Option Ptr)} {hash : ℕ} {nodes cut : Li
       let head : Option Ptr = get_or heads (hash % length heads) None in
       let t : Spot = spot (linked_to None w.held.node) in
       let c : IsChain head (w.chain.us ++ t ∷ []) = IsChain-cut head w.chain.us (spot w.held.node) t w.chain.vs refl refl w.chain.linked in
-      subst (λ (v : Option Ptr). IsChain v w.on.after) (sym (link-NodeOf OnNode-here.of w.on.at_is r) ∙ e)
+      subst (λ (v : Option Ptr). IsChain v w.on.after) (sym (OfNodeAt-spot (λ s. read ≡ s.link) OnNode-here.of w.on.at_is r) ∙ e)
       (IsChain-tail head w.on.before w.on.node w.on.after (subst (IsChain head) w.on.is c))
 
   pub IsTowards-next : (read : Option Ptr) (next : Ptr) → OfNodeAt cut here (λ x. read ≡ x.link) → read ≡ Some next

@@ -1,5 +1,5 @@
 -- The spots of nodes, and the node of a spot.
-use Rattle.std.proofs.Common.{◌≡◌, ℕ, ◌%◌, List, [], ◌∷◌, ◌++◌, inl, inr, refl, sym, ◌∙◌, ap, subst, Option}
+use Rattle.std.proofs.Common.{◌≡◌, ℕ, ◌%◌, List, [], ◌∷◌, ◌++◌, inl, inr, refl, sym, ◌∙◌, ap, subst}
 use Rattle.std.specs.Prelude.{filter}
 use Rattle.std.proofs.lemmas.Bool.{eq-eqb}
 use denote.RawPtr.{Ptr}
@@ -43,7 +43,8 @@ NodeOf-spot s ws (x ∷ nodes) (inr h) =
       others = h.is ∙ ap (λ v. spot x ∷ v) i.others;
     }
 
--- the link of a spot is its node's
-pub link-NodeOf : {K V : Type 0} {s : Spot} {ws : List Spot} {nodes : List (Held (K × V))} {p : Ptr} {link : Option Ptr} (n : NodeOf s ws nodes)
-    → s.at ≡ p → OfNodeAt nodes p (λ x. link ≡ x.link) → link ≡ s.link
-link-NodeOf n at l = let h = IsHeld-spot n at in l h.before h.node h.after h.is h.at_is ∙ ap (λ v. v.link) n.split.at_is
+-- what is true of the spot of the node at p
+pub OfNodeAt-spot : {K V : Type 0} {s : Spot} {ws : List Spot} {nodes : List (Held (K × V))} {p : Ptr} (Q : Spot → Type 0)
+    → NodeOf s ws nodes → s.at ≡ p → OfNodeAt nodes p (λ x. Q (spot x)) → Q s
+OfNodeAt-spot Q n at f =
+    let h = IsHeld-spot n at in subst Q n.split.at_is (f h.before h.node h.after h.is h.at_is)

@@ -16,4 +16,4 @@ returns-in_default-clause-absent g c =
     let none : None ≡ get_or heads (c.args.hash % length heads) None =
     sym (ap pointer_of_some c.in_default.is) ∙ c.get.ensures ∙ c.head.ensures ∙ ap (λ b. get_or heads b None) bucket.of_hash in
     (FindsNone-part (IsPart-first {eq = g.K.PartialEq.eq} {key = c.args.key.now} {before = None} {pointer = None} {visited = 0} {compared = 0}
-    refl none refl refl (subst (λ (b : ℕ). b < length heads) bucket.of_hash bucket.within) c.requires.indexed.chains)).absent
+    refl none refl refl (subst (λ (b : ℕ). b < length heads) bucket.of_hash bucket.within) c.requires.indexed.chains) refl).absent
