@@ -4,8 +4,8 @@ use Rattle.std.specs.Prelude.{filter}
 use Rattle.std.proofs.lemmas.Bool.{cases_lt}
 use Rattle.std.proofs.Math.Nat.{mod-lt}
 use denote.RawPtr.{Ptr}
-use Rattle.lhm_ring.proofs.lists.Rearranged.{PutsIn-middle, IsRearranged-less, PutsIn-later, IsRearranged-member}
-use Rattle.lhm_ring.proofs.lists.RearrangedFilters.{PutsPassing, PutsPassing-filter, PutsIn-filter_in}
+use Rattle.lhm_ring.proofs.lists.Rearranged.{IsRearranged-less_middle, PutsIn-later}
+use Rattle.lhm_ring.proofs.lists.RearrangedFilters.{PutsPassing, PutsPassing-rearranged, PutsIn-filter_in}
 use Rattle.lhm_ring.proofs.indexes.Spots.{NodeOf, NodeOf-spot, IsHeld-spot, PutsIn-spots_of, OfNodeAt-spot}
 use Rattle.lhm_ring.proofs.indexes.WholeIndex.{HasChains-take_first, HasChains-take_next}
 use Rattle.lhm_ring.specs.Ring.{Held, IsHeld, AtHeld, linked_to, SplitLast}
@@ -25,9 +25,7 @@ pub record OnNode {K V : Type 0} (n b : ℕ) (s : Spot) (nodes : List (Held (K �
 
 pub OnNode-rearranged : {K V : Type 0} (n b : ℕ) (done : List Spot) (s : Spot) (rest : List Spot) (nodes : List (Held (K × V))) → IsRearranged (done ++ s ∷ rest) (filter (is_in n b) (spots nodes)) → OnNode n b s nodes
 OnNode-rearranged n b done s rest nodes h =
-    let q : Spot → Bool = is_in n b in
-    let m : (ws : List Spot) × PutsIn s ws (filter q (spots nodes)) = IsRearranged-member done s rest (filter q (spots nodes)) h in
-    let t : PutsPassing q s (spots nodes) = PutsPassing-filter q s m.0 (spots nodes) m.1 in
+    let t : PutsPassing (is_in n b) s (spots nodes) = PutsPassing-rearranged (is_in n b) done s rest (spots nodes) h in
     record { ws = t.without; puts = t.puts; passes = t.passes; of = NodeOf-spot s t.without nodes t.puts }
 
 no_puts : {X : Type 0} (x : X) (xs : List X) → PutsIn x xs [] → ⊥
@@ -121,10 +119,9 @@ module _ {K V : Type 0} {heads : List (Option Ptr)} {hash : ℕ} {nodes : List (
         subst (λ (v : List Spot). PutsIn y' v (spots nodes')) (sym y.of.others)
         (PutsIn-spots_of z.before (linked_to link z.node) z.after (sets z.before z.node z.after z.is z.at_is)) in
         let less : IsRearranged (b.before ++ w.here ∷ w.rest) (filter f y.ws) =
-        IsRearranged-less b.node (b.before ++ w.here ∷ w.rest) (b.before ++ b.node ∷ w.here ∷ w.rest) (filter f y.ws) (filter f (spots nodes))
-        (PutsIn-middle b.before b.node (w.here ∷ w.rest)) (PutsIn-filter_in f b.node y.ws (spots nodes) y.puts y.passes) (IsRearranged-before w e) in
-        let m : (ws : List Spot) × PutsIn w.here ws (filter f y.ws) = IsRearranged-member b.before w.here w.rest (filter f y.ws) less in
-        let t : PutsPassing f w.here y.ws = PutsPassing-filter f w.here m.0 y.ws m.1 in
+        IsRearranged-less_middle b.before b.node (w.here ∷ w.rest) (filter f y.ws) (filter f (spots nodes))
+        (PutsIn-filter_in f b.node y.ws (spots nodes) y.puts y.passes) (IsRearranged-before w e) in
+        let t : PutsPassing f w.here y.ws = PutsPassing-rearranged f b.before w.here w.rest y.ws less in
         let s : (ws : List Spot) × PutsIn w.here ws (spots nodes') = PutsIn-later w.here y' t.without y.ws (spots nodes') t.puts put' in
         let of : NodeOf w.here s.0 nodes' = NodeOf-spot w.here s.0 nodes' s.1 in
         let i : HasChains heads s.0 =

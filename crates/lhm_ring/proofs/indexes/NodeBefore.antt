@@ -1,15 +1,12 @@
 -- A chain that is cut behind one of its nodes, so that the node is its last.
 use Rattle.std.proofs.Common.{◌≡◌, ℕ, ◌+◌, ◌%◌, ◌<◌, ◌≤◌, List, [], ◌∷◌, ◌++◌, inl, inr, refl, sym, ◌∙◌, ap, subst, Bool, length, get_or, arith, Option, Some, None, append_assoc, length-append}
 use Rattle.std.specs.Prelude.{filter}
-use Rattle.std.proofs.lemmas.List.{length-map}
-use Rattle.std.proofs.lemmas.List.Sums.{length-filter, count_by-le-length}
 use Rattle.std.proofs.Math.Nat.{mod-lt}
 use denote.RawPtr.{Ptr}
 use Rattle.lhm_ring.proofs.indexes.Chains.{ChainFirst, ChainFirst-some, IsChain-tail, none-IsChain}
 use Rattle.lhm_ring.proofs.indexes.IndexTakes.{OnNode, OnNode-rearranged, length-HasChains}
-use Rattle.lhm_ring.proofs.lists.Rearranged.{PutsIn-middle, IsRearranged-less, IsRearranged-more, SplitAround-rearranged}
-use Rattle.lhm_ring.proofs.lists.RearrangedCounts.{length-IsRearranged}
-use Rattle.lhm_ring.proofs.indexes.Spots.{IsHeld-spot, PutsIn-spots_of, PutsIn-bucket, OfNodeAt-spot}
+use Rattle.lhm_ring.proofs.lists.Rearranged.{IsRearranged-less_middle, IsRearranged-more_middle, SplitAround-rearranged}
+use Rattle.lhm_ring.proofs.indexes.Spots.{IsHeld-spot, length-in_bucket, PutsIn-spots_of, PutsIn-bucket, OfNodeAt-spot}
 use Rattle.lhm_ring.specs.Ring.{State, Held, IsHeld, AtHeld, linked_to, SplitAt, SplitAround}
 use Rattle.lhm_ring.specs.Index.{IsRearranged, IsChain, is_in, HasChain, HasChains, Spot, spot, spots, OfNodeAt, IsLast, IsOnChain}
 
@@ -122,10 +119,10 @@ module _ {K V : Type 0} {heads : List (Option Ptr)} {hash : ℕ} {nodes cut : Li
       let f : List Spot → List Spot = filter (is_in n (hash % n)) in
       let others : List Spot = f (spots (w.held.before ++ w.held.after)) in
       let less : IsRearranged (us ++ vs) others =
-      IsRearranged-less s (us ++ vs) (us ++ s ∷ vs) others (f (spots nodes)) (PutsIn-middle us s vs)
+      IsRearranged-less_middle us s vs others (f (spots nodes))
       (PutsIn-bucket w.held.before w.held.node w.held.after w.held.is n w.hash_is) w.chain.holds in
       let more : IsRearranged (us ++ t ∷ vs) (f (spots cut)) =
-      IsRearranged-more t (us ++ vs) (us ++ t ∷ vs) others (f (spots cut)) (PutsIn-middle us t vs)
+      IsRearranged-more_middle us t vs others (f (spots cut))
       (PutsIn-bucket w.held.before (linked_to None w.held.node) w.held.after w.cut_is n w.hash_is) less in
       let all : us ++ t ∷ vs ≡ w.on.before ++ w.on.node ∷ (w.on.after ++ vs) =
       sym (append_assoc us (t ∷ []) vs) ∙ ap (λ v. v ++ vs) w.on.is ∙ append_assoc w.on.before (w.on.node ∷ w.on.after) vs in
@@ -136,22 +133,12 @@ module _ {K V : Type 0} {heads : List (Option Ptr)} {hash : ℕ} {nodes cut : Li
 
   pub passed-below : passed + 1 ≤ length nodes
   passed-below =
-      let f : Spot → Bool = is_in (length heads) (hash % length heads) in
       let us : List Spot = w.chain.us in
-      let all : List Spot = us ++ spot w.held.node ∷ w.chain.vs in
-      let t : Spot = spot (linked_to None w.held.node) in
-      omega (
-        arith,
-        length-IsRearranged all (filter f (spots nodes)) w.chain.holds,
-        length-filter f (spots nodes),
-        count_by-le-length f (spots nodes),
-        length-map nodes spot,
-        length-append us (spot w.held.node ∷ w.chain.vs),
-        length-append us (t ∷ []),
-        length-append w.on.before (w.on.node ∷ w.on.after),
-        ap length w.on.is,
-        w.passed_is,
-      )
+      let a = length-in_bucket (is_in (length heads) (hash % length heads)) (us ++ spot w.held.node ∷ w.chain.vs) nodes w.chain.holds in
+      let b = length-append us (spot w.held.node ∷ w.chain.vs) in
+      let c = length-append us (spot (linked_to None w.held.node) ∷ []) in
+      let d = length-append w.on.before (w.on.node ∷ w.on.after) in
+      omega (arith, a, b, c, d, ap length w.on.is, w.passed_is)
 
   -- the rest of the chain, by the link that is read
   IsChain-todo : (read next : Option Ptr) → OfNodeAt cut here (λ x. read ≡ x.link) → read ≡ next → IsChain next w.on.after

@@ -1,12 +1,15 @@
 -- The spots of nodes, and the node of a spot.
-use Rattle.std.proofs.Common.{◌≡◌, ℕ, ◌%◌, List, [], ◌∷◌, ◌++◌, inl, inr, refl, sym, ◌∙◌, ap, subst}
+use Rattle.std.proofs.Common.{◌≡◌, ℕ, ◌%◌, ◌≤◌, List, length, arith, Bool, [], ◌∷◌, ◌++◌, inl, inr, refl, sym, ◌∙◌, ap, subst}
 use Rattle.std.specs.Prelude.{filter}
 use Rattle.std.proofs.lemmas.Bool.{eq-eqb}
+use Rattle.std.proofs.lemmas.List.{length-map}
+use Rattle.std.proofs.lemmas.List.Sums.{length-filter, count_by-le-length}
 use denote.RawPtr.{Ptr}
 use Rattle.lhm_ring.proofs.lists.Rearranged.{PutsIn-there}
+use Rattle.lhm_ring.proofs.lists.RearrangedCounts.{length-IsRearranged}
 use Rattle.lhm_ring.proofs.lists.RearrangedFilters.{PutsIn-filter_in}
 use Rattle.lhm_ring.specs.Ring.{Held, IsHeld, SplitAt}
-use Rattle.lhm_ring.specs.Index.{PutsIn, Spot, spot, spots, is_in, OfNodeAt}
+use Rattle.lhm_ring.specs.Index.{PutsIn, IsRearranged, Spot, spot, spots, is_in, OfNodeAt}
 
 pub PutsIn-spots : {K V : Type 0} (before : List (Held (K × V))) (x : Held (K × V)) (after : List (Held (K × V))) → PutsIn (spot x) (spots (before ++ after)) (spots (before ++ x ∷ after))
 PutsIn-spots [] x after = inl (refl, refl)
@@ -48,3 +51,13 @@ pub OfNodeAt-spot : {K V : Type 0} {s : Spot} {ws : List Spot} {nodes : List (He
     → NodeOf s ws nodes → s.at ≡ p → OfNodeAt nodes p (λ x. Q (spot x)) → Q s
 OfNodeAt-spot Q n at f =
     let h = IsHeld-spot n at in subst Q n.split.at_is (f h.before h.node h.after h.is h.at_is)
+
+-- a chain is no longer than the list of the nodes
+pub length-in_bucket : {K V : Type 0} (q : Spot → Bool) (chain : List Spot) (nodes : List (Held (K × V)))
+    → IsRearranged chain (filter q (spots nodes)) → length chain ≤ length nodes
+length-in_bucket q chain nodes h =
+    let a = length-IsRearranged chain (filter q (spots nodes)) h in
+    let b = length-filter q (spots nodes) in
+    let c = count_by-le-length q (spots nodes) in
+    let d = length-map nodes spot in
+    omega (arith, a, b, c, d)

@@ -8,8 +8,8 @@ use Rattle.std.proofs.lemmas.List.{get_or-set_same, get_or-set_other, length-set
 use Rattle.std.proofs.Math.Nat.{mod-lt}
 use denote.RawPtr.{Ptr}
 use Rattle.lhm_ring.proofs.indexes.Chains.{HasChain-other, HasChain-push, HasChain-other_removed, IsChain-linked_past, none-unchained}
-use Rattle.lhm_ring.proofs.lists.Rearranged.{PutsIn-here, PutsIn-there, PutsIn-middle, IsRearranged-less, IsRearranged-more, IsRearranged-member, PutsIn-under}
-use Rattle.lhm_ring.proofs.lists.RearrangedFilters.{PutsPassing, PutsIn-filter_in, PutsPassing-filter}
+use Rattle.lhm_ring.proofs.lists.Rearranged.{PutsIn-here, PutsIn-there, IsRearranged-less, IsRearranged-less_middle, IsRearranged-more_middle, PutsIn-under}
+use Rattle.lhm_ring.proofs.lists.RearrangedFilters.{PutsPassing, PutsIn-filter_in, PutsPassing-rearranged}
 use Rattle.lhm_ring.specs.Index.{PutsIn, IsRearranged, IsChain, is_in, HasChain, HasChains, Spot}
 
 -- a spot of one bucket is in no other
@@ -58,9 +58,9 @@ pub HasChains-take_first : (heads : List (Option Ptr)) (b : ℕ) (s : Spot) (res
 HasChains-take_first heads b s rest ys xs h l linked holds p =
     let n : ℕ = length heads in
     let q : Spot → Bool = is_in n b in
-    let t : PutsPassing q s xs = PutsPassing-filter q s holds.without xs holds.puts in
+    let t : PutsPassing q s xs = PutsPassing-rearranged q [] s rest xs holds in
     let less : IsRearranged rest (filter q ys) =
-    IsRearranged-less s rest (s ∷ rest) (filter q ys) (filter q xs) (PutsIn-here s rest) (PutsIn-filter_in q s ys xs p t.passes) holds in
+    IsRearranged-less_middle [] s rest (filter q ys) (filter q xs) (PutsIn-filter_in q s ys xs p t.passes) holds in
     HasChains-set heads b s.link ys l (record { chain = rest; linked = linked.1; holds = less })
     (λ c m ne. HasChain-other_removed (get_or heads c None) n c s ys xs (h.chains c m) (is_in-other n b c s t.passes ne) p)
 
@@ -73,16 +73,14 @@ HasChains-take_next heads b done y y' s rest zs xs xs' ys h l linked holds a num
     let n : ℕ = length heads in
     let q : Spot → Bool = is_in n b in
     let f : List Spot → List Spot = filter q in
-    let my : (ws : List Spot) × PutsIn y ws (f xs) = IsRearranged-member done y (s ∷ rest) (f xs) holds in
-    let ty : PutsPassing q y xs = PutsPassing-filter q y my.0 xs my.1 in
+    let ty : PutsPassing q y xs = PutsPassing-rearranged q done y (s ∷ rest) xs holds in
     let ty' : q y' ≡ true = ap (λ v. eqb (v % n) b) num ∙ ty.passes in
     let less_y : IsRearranged (done ++ s ∷ rest) (f zs) =
-    IsRearranged-less y (done ++ s ∷ rest) (done ++ y ∷ s ∷ rest) (f zs) (f xs) (PutsIn-middle done y (s ∷ rest))
+    IsRearranged-less_middle done y (s ∷ rest) (f zs) (f xs)
     (PutsIn-filter_in q y zs xs py ty.passes) holds in
-    let ms : (ws : List Spot) × PutsIn s ws (f zs) = IsRearranged-member done s rest (f zs) less_y in
-    let ts : PutsPassing q s zs = PutsPassing-filter q s ms.0 zs ms.1 in
+    let ts : PutsPassing q s zs = PutsPassing-rearranged q done s rest zs less_y in
     let more_y : IsRearranged (done ++ y' ∷ s ∷ rest) (f xs') =
-    IsRearranged-more y' (done ++ s ∷ rest) (done ++ y' ∷ s ∷ rest) (f zs) (f xs') (PutsIn-middle done y' (s ∷ rest))
+    IsRearranged-more_middle done y' (s ∷ rest) (f zs) (f xs')
     (PutsIn-filter_in q y' zs xs' py' ty') less_y in
     let under : PutsIn s (done ++ y' ∷ rest) (done ++ y' ∷ s ∷ rest) =
     PutsIn-under done s (y' ∷ rest) (y' ∷ s ∷ rest) (PutsIn-there s y' rest (s ∷ rest) (PutsIn-here s rest)) in
