@@ -107,7 +107,7 @@ module _ {K V : Type 0} where
   AtHeld-entries hs p P h xs t ys e at =
       let i : EntriesCut hs xs t ys = EntriesCut-split hs xs t ys e in
       let k = i.split in
-      let seen : P (entries k.before) (linked_to None k.node) (entries k.after) = h k.before k.node k.after k.is (ap (λ (u : Held (K × V)). u.at) k.at_is ∙ at) in
+      let seen = h k.before k.node k.after k.is (ap (λ (u : Held (K × V)). u.at) k.at_is ∙ at) in
       subst (λ (z : List (Held (K × V)) × (Held (K × V) × List (Held (K × V)))). P z.0 z.1.0 z.1.1) (λ j. (i.before_is j, (k.at_is j, i.after_is j))) seen
 
   -- searches

@@ -5,7 +5,7 @@ use Rattle.std.proofs.lemmas.Bool.{cases_lt}
 use Rattle.std.proofs.Math.Nat.{mod-lt}
 use denote.RawPtr.{Ptr}
 use Rattle.lhm_ring.proofs.lists.Rearranged.{IsRearranged-less_middle, PutsIn-later}
-use Rattle.lhm_ring.proofs.lists.RearrangedFilters.{PutsPassing, PutsPassing-rearranged, PutsIn-filter_in}
+use Rattle.lhm_ring.proofs.lists.RearrangedFilters.{PutsPassing-rearranged, PutsIn-filter_in}
 use Rattle.lhm_ring.proofs.indexes.Spots.{NodeOf, NodeOf-spot, IsHeld-spot, PutsIn-spots_of, OfNodeAt-spot}
 use Rattle.lhm_ring.proofs.indexes.WholeIndex.{HasChains-take_first, HasChains-take_next}
 use Rattle.lhm_ring.specs.Ring.{Held, IsHeld, AtHeld, linked_to, SplitLast}
@@ -25,7 +25,7 @@ pub record OnNode {K V : Type 0} (n b : ℕ) (s : Spot) (nodes : List (Held (K �
 
 pub OnNode-rearranged : {K V : Type 0} (n b : ℕ) (done : List Spot) (s : Spot) (rest : List Spot) (nodes : List (Held (K × V))) → IsRearranged (done ++ s ∷ rest) (filter (is_in n b) (spots nodes)) → OnNode n b s nodes
 OnNode-rearranged n b done s rest nodes h =
-    let t : PutsPassing (is_in n b) s (spots nodes) = PutsPassing-rearranged (is_in n b) done s rest (spots nodes) h in
+    let t = PutsPassing-rearranged (is_in n b) done s rest (spots nodes) h in
     record { ws = t.without; puts = t.puts; passes = t.passes; of = NodeOf-spot s t.without nodes t.puts }
 
 no_puts : {X : Type 0} (x : X) (xs : List X) → PutsIn x xs [] → ⊥
@@ -84,8 +84,7 @@ module _ {K V : Type 0} {heads : List (Option Ptr)} {hash : ℕ} {nodes : List (
       let o : OnNode n bucket w.here nodes = OnNode-on_chain in
       let none : w.done ++ w.here ∷ w.rest ≡ w.here ∷ w.rest =
       ap (λ (v : List Spot). v ++ w.here ∷ w.rest) (none-IsLast before w.done e w.behind) in
-      let i : HasChains (set heads bucket w.here.link) o.ws =
-      HasChains-take_first heads bucket w.here w.rest o.ws (spots nodes) h
+      let i = HasChains-take_first heads bucket w.here w.rest o.ws (spots nodes) h
       (mod-lt hash (length-HasChains w.here o.ws h o.puts)) (subst (IsChain (get_or heads bucket None)) none w.linked)
       (subst (λ (v : List Spot). IsRearranged v (filter (is_in n bucket) (spots nodes))) none w.holds) o.puts in
       record {
@@ -115,17 +114,14 @@ module _ {K V : Type 0} {heads : List (Option Ptr)} {hash : ℕ} {nodes : List (
         let y : OnNode n bucket b.node nodes = OnNode-before in
         let z : IsHeld nodes q = IsHeld-spot y.of b.at_is in
         let y' : Spot = spot (linked_to link z.node) in
-        let put' : PutsIn y' y.ws (spots nodes') =
-        subst (λ (v : List Spot). PutsIn y' v (spots nodes')) (sym y.of.others)
+        let put' = subst (λ (v : List Spot). PutsIn y' v (spots nodes')) (sym y.of.others)
         (PutsIn-spots_of z.before (linked_to link z.node) z.after (sets z.before z.node z.after z.is z.at_is)) in
-        let less : IsRearranged (b.before ++ w.here ∷ w.rest) (filter f y.ws) =
-        IsRearranged-less_middle b.before b.node (w.here ∷ w.rest) (filter f y.ws) (filter f (spots nodes))
+        let less = IsRearranged-less_middle b.before b.node (w.here ∷ w.rest) (filter f y.ws) (filter f (spots nodes))
         (PutsIn-filter_in f b.node y.ws (spots nodes) y.puts y.passes) (IsRearranged-before w e) in
-        let t : PutsPassing f w.here y.ws = PutsPassing-rearranged f b.before w.here w.rest y.ws less in
-        let s : (ws : List Spot) × PutsIn w.here ws (spots nodes') = PutsIn-later w.here y' t.without y.ws (spots nodes') t.puts put' in
+        let t = PutsPassing-rearranged f b.before w.here w.rest y.ws less in
+        let s = PutsIn-later w.here y' t.without y.ws (spots nodes') t.puts put' in
         let of : NodeOf w.here s.0 nodes' = NodeOf-spot w.here s.0 nodes' s.1 in
-        let i : HasChains heads s.0 =
-        HasChains-take_next heads bucket b.before b.node y' w.here w.rest y.ws (spots nodes) (spots nodes') s.0 h
+        let i = HasChains-take_next heads bucket b.before b.node y' w.here w.rest y.ws (spots nodes) (spots nodes') s.0 h
         (mod-lt hash (length-HasChains w.here o.ws h o.puts)) (subst (IsChain (get_or heads bucket None)) (append-before w e) w.linked)
         (IsRearranged-before w e) (ap (λ v. v.at) y.of.split.at_is) (ap (λ v. v.hash) y.of.split.at_is)
         (OfNodeAt-spot (λ s. link ≡ s.link) o.of w.at_is l) y.puts put' s.1 in

@@ -7,8 +7,8 @@ use Rattle.lhm_ring.proofs.indexes.Chains.{ChainFirst, ChainFirst-some, IsChain-
 use Rattle.lhm_ring.proofs.indexes.IndexTakes.{OnNode, OnNode-rearranged, length-HasChains}
 use Rattle.lhm_ring.proofs.lists.Rearranged.{IsRearranged-less_middle, IsRearranged-more_middle, SplitAround-rearranged}
 use Rattle.lhm_ring.proofs.indexes.Spots.{IsHeld-spot, length-in_bucket, PutsIn-spots_of, PutsIn-bucket, OfNodeAt-spot}
-use Rattle.lhm_ring.specs.Ring.{State, Held, IsHeld, AtHeld, linked_to, SplitAt, SplitAround}
-use Rattle.lhm_ring.specs.Index.{IsRearranged, IsChain, is_in, HasChain, HasChains, Spot, spot, spots, OfNodeAt, IsLast, IsOnChain}
+use Rattle.lhm_ring.specs.Ring.{State, Held, IsHeld, AtHeld, linked_to, SplitAt}
+use Rattle.lhm_ring.specs.Index.{IsRearranged, IsChain, is_in, HasChains, Spot, spot, spots, OfNodeAt, IsLast, IsOnChain}
 
 -- the chain of the held node x: us come before it there, and vs after it
 pub record OnItsChain {K V : Type 0} (heads : List (Option Ptr)) (hash : ℕ) (nodes : List (Held (K × V))) (x : Held (K × V)) : Type 0 where
@@ -71,9 +71,8 @@ module _ {K V : Type 0} {heads : List (Option Ptr)} {hash : ℕ} {nodes : List (
       let f : Spot → Bool = is_in n (hash % n) in
       let others : List Spot = spots (w.before ++ w.after) in
       let some : 0 < n = length-HasChains (spot w.node) others h (PutsIn-spots_of w.before w.node w.after w.is) in
-      let c : HasChain (get_or heads (hash % n) None) n (hash % n) (spots nodes) = h.chains (hash % n) (mod-lt hash some) in
-      let m : SplitAround c.chain (spot w.node) =
-      SplitAround-rearranged c.chain (spot w.node) (filter f others) (filter f (spots nodes)) c.holds
+      let c = h.chains (hash % n) (mod-lt hash some) in
+      let m = SplitAround-rearranged c.chain (spot w.node) (filter f others) (filter f (spots nodes)) c.holds
       (PutsIn-bucket w.before w.node w.after w.is n hash-held) in
       record {
         us = m.before;
@@ -91,8 +90,7 @@ module _ {K V : Type 0} {heads : List (Option Ptr)} {hash : ℕ} {nodes : List (
   IsTowards-start cut link here l d a =
       let c : OnItsChain heads hash nodes w.node = OnItsChain-held in
       let t : Spot = spot (linked_to None w.node) in
-      let f : ChainFirst (c.us ++ t ∷ []) here =
-      ChainFirst-cut here c.us (spot w.node) t c.vs refl (subst (λ (v : Option Ptr). IsChain v (c.us ++ spot w.node ∷ c.vs)) (sym a) c.linked) in
+      let f = ChainFirst-cut here c.us (spot w.node) t c.vs refl (subst (λ (v : Option Ptr). IsChain v (c.us ++ spot w.node ∷ c.vs)) (sym a) c.linked) in
       record {
         held = w;
         hash_is = hash-held;
@@ -118,14 +116,11 @@ module _ {K V : Type 0} {heads : List (Option Ptr)} {hash : ℕ} {nodes cut : Li
       let t : Spot = spot (linked_to None w.held.node) in
       let f : List Spot → List Spot = filter (is_in n (hash % n)) in
       let others : List Spot = f (spots (w.held.before ++ w.held.after)) in
-      let less : IsRearranged (us ++ vs) others =
-      IsRearranged-less_middle us s vs others (f (spots nodes))
+      let less = IsRearranged-less_middle us s vs others (f (spots nodes))
       (PutsIn-bucket w.held.before w.held.node w.held.after w.held.is n w.hash_is) w.chain.holds in
-      let more : IsRearranged (us ++ t ∷ vs) (f (spots cut)) =
-      IsRearranged-more_middle us t vs others (f (spots cut))
+      let more = IsRearranged-more_middle us t vs others (f (spots cut))
       (PutsIn-bucket w.held.before (linked_to None w.held.node) w.held.after w.cut_is n w.hash_is) less in
-      let all : us ++ t ∷ vs ≡ w.on.before ++ w.on.node ∷ (w.on.after ++ vs) =
-      sym (append_assoc us (t ∷ []) vs) ∙ ap (λ v. v ++ vs) w.on.is ∙ append_assoc w.on.before (w.on.node ∷ w.on.after) vs in
+      let all = sym (append_assoc us (t ∷ []) vs) ∙ ap (λ v. v ++ vs) w.on.is ∙ append_assoc w.on.before (w.on.node ∷ w.on.after) vs in
       OnNode-rearranged n (hash % n) w.on.before w.on.node (w.on.after ++ vs) cut (subst (λ (v : List Spot). IsRearranged v (f (spots cut))) all more)
 
   pub IsHeld-towards : IsHeld cut here
@@ -152,8 +147,8 @@ module _ {K V : Type 0} {heads : List (Option Ptr)} {hash : ℕ} {nodes cut : Li
   pub IsTowards-next : (read : Option Ptr) (next : Ptr) → OfNodeAt cut here (λ x. read ≡ x.link) → read ≡ Some next
       → IsTowards heads hash nodes cut p link (Some here) next (passed + 1)
   IsTowards-next read next r e =
-      let b : ChainFirst w.on.after next = ChainFirst-some next w.on.after (IsChain-todo read (Some next) r e) in
-      let k : length (w.on.before ++ w.on.node ∷ []) ≡ length w.on.before + 1 = length-append w.on.before (w.on.node ∷ []) in
+      let b = ChainFirst-some next w.on.after (IsChain-todo read (Some next) r e) in
+      let k = length-append w.on.before (w.on.node ∷ []) in
       let m = w.passed_is in
       record {
         held = w.held;
@@ -175,8 +170,7 @@ module _ {K V : Type 0} {heads : List (Option Ptr)} {hash : ℕ} {nodes cut : Li
   pub IsOnChain-towards : (read : Option Ptr) → OfNodeAt cut here (λ x. read ≡ x.link) → read ≡ None → IsOnChain heads hash (spots nodes) before p
   IsOnChain-towards read r e =
       let z : w.on.after ≡ [] = none-IsChain w.on.after (IsChain-todo read None r e) in
-      let same : w.chain.us ≡ w.on.before =
-      push-injective w.chain.us (spot (linked_to None w.held.node)) w.on.before w.on.node
+      let same = push-injective w.chain.us (spot (linked_to None w.held.node)) w.on.before w.on.node
       (w.on.is ∙ ap (λ (v : List Spot). w.on.before ++ w.on.node ∷ v) z) in
       record {
         done = w.chain.us;

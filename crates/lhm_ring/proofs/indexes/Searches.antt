@@ -12,7 +12,7 @@ use Rattle.lhm_ring.proofs.indexes.IndexTakes.{OnNode-rearranged, OnNode-on_chai
 use Rattle.lhm_ring.proofs.lists.Rearranged.{SplitAround-rearranged}
 use Rattle.lhm_ring.proofs.lists.RearrangedCounts.{count_by-IsRearranged, length-IsRearranged, count_by-cons, count_by-append}
 use Rattle.lhm_ring.proofs.indexes.Spots.{IsHeld-spot, PutsIn-bucket, OfNodeAt-spot}
-use Rattle.lhm_ring.specs.Ring.{Held, IsHeld, SplitAround}
+use Rattle.lhm_ring.specs.Ring.{Held, IsHeld}
 use Rattle.lhm_ring.specs.Index.{IsRearranged, IsChain, IsOnChain, is_in, HasChain, HasChains, Spot, spot, spots, same, beside, OfNodeAt}
 use Rattle.lhm_ring.specs.Search.{Compares, DifferAll, IsPart, FindsKey, FindsNone}
 
@@ -101,12 +101,12 @@ module _ {K V : Type 0} {eq : K → K → Bool} {hash : ℕ} {key : K} {heads : 
   visited-more =
       let b : IsOnChain heads hash (spots nodes) before p = IsOnChain-part in
       let l = length-chain (b.done ++ b.here ∷ b.rest) (spots nodes) (length heads) hash b.holds in
-      let a : length (b.done ++ b.here ∷ b.rest) ≡ length b.done + length (b.here ∷ b.rest) = length-append b.done (b.here ∷ b.rest) in
+      let a = length-append b.done (b.here ∷ b.rest) in
       omega (arith, l, a, w.visited_is)
 
   pub visited-below : visited + 1 ≤ length nodes
   visited-below =
-      let m : beside (spots nodes) (length heads) hash ≤ length (spots nodes) = count_by-le-length _ (spots nodes) in
+      let m = count_by-le-length (is_in (length heads) (hash % length heads)) (spots nodes) in
       omega (arith, visited-more, m, length-map nodes spot)
 
   -- its node is visited, and compared
@@ -120,9 +120,9 @@ module _ {K V : Type 0} {eq : K → K → Bool} {hash : ℕ} {key : K} {heads : 
     IsPart-more {link} off l =
         let b : IsOnChain heads hash (spots nodes) before p = IsOnChain-part in
         let head : Option Ptr = get_or heads (hash % length heads) None in
-        let assoc : b.done ++ b.here ∷ b.rest ≡ (b.done ++ b.here ∷ []) ++ b.rest = sym (append_assoc b.done (b.here ∷ []) b.rest) in
-        let len : length (b.done ++ b.here ∷ []) ≡ length b.done + 1 = length-append b.done (b.here ∷ []) in
-        let ca : same (b.done ++ b.here ∷ []) hash ≡ same b.done hash + same (b.here ∷ []) hash = count_by-append _ b.done (b.here ∷ []) in
+        let assoc = sym (append_assoc b.done (b.here ∷ []) b.rest) in
+        let len = length-append b.done (b.here ∷ []) in
+        let ca = count_by-append (λ (s : Spot). eqb s.hash hash) b.done (b.here ∷ []) in
         record {
           done = b.done ++ b.here ∷ [];
           rest = b.rest;
@@ -141,10 +141,10 @@ module _ {K V : Type 0} {eq : K → K → Bool} {hash : ℕ} {key : K} {heads : 
         let test : Spot → Bool = λ u. eqb u.hash hash in
         let hit : OfNodeAt nodes p (λ x. eqb x.hash hash ≡ true) =
         λ xs x ys i j. and-left (eqb x.hash hash) (eq key x.pair.0) (sym on ∙ d xs x ys i j) in
-        let unit : same (b.here ∷ []) hash ≡ 1 = ap (λ u. 0 + cond {A = ℕ} u 1 0) (here-part (λ s. eqb s.hash hash ≡ true) hit) in
+        let unit = ap (λ u. 0 + cond {A = ℕ} u 1 0) (here-part (λ s. eqb s.hash hash ≡ true) hit) in
         let one : compared' ≡ compared + same (b.here ∷ []) hash = compared-here in
-        let split : same (b.done ++ b.here ∷ b.rest) hash ≡ same b.done hash + same (b.here ∷ b.rest) hash = count_by-append test b.done (b.here ∷ b.rest) in
-        let first : same (b.here ∷ b.rest) hash ≡ same (b.here ∷ []) hash + same b.rest hash = count_by-append test (b.here ∷ []) b.rest in
+        let split = count_by-append test b.done (b.here ∷ b.rest) in
+        let first = count_by-append test (b.here ∷ []) b.rest in
         let all : same (b.done ++ b.here ∷ b.rest) hash ≡ same (spots nodes) hash = same-chain (b.done ++ b.here ∷ b.rest) (spots nodes) (length heads) hash b.holds in
         let few : same b.done hash ≤ length b.done = count_by-le-length test b.done in
         let ci : compared ≡ same b.done hash = w.compared_is in
@@ -186,15 +186,15 @@ FindsNone-part {K} {V} {eq} {hash} {key} {heads} {nodes} w none =
     let n : ℕ = length heads in
     let q : Spot → Bool = is_in n (hash % n) in
     let whole : w.done ++ w.rest ≡ w.done = append-end w.done w.rest (none-IsChain w.rest (subst (λ (v : Option Ptr). IsChain v w.rest) none w.next_is)) in
-    let h : IsRearranged w.done (filter q (spots nodes)) = subst (λ (u : List Spot). IsRearranged u (filter q (spots nodes))) whole w.holds in
-    let all : same w.done hash ≡ same (spots nodes) hash = same-chain w.done (spots nodes) n hash h in
-    let long : length w.done ≡ beside (spots nodes) n hash = length-chain w.done (spots nodes) n hash h in
+    let h = subst (λ (u : List Spot). IsRearranged u (filter q (spots nodes))) whole w.holds in
+    let all = same-chain w.done (spots nodes) n hash h in
+    let long = length-chain w.done (spots nodes) n hash h in
     record {
       absent = λ before' x after' e.
           elim (eqb_tells x.hash hash) [
             | inl t ↦
-                let m : SplitAround w.done (spot x) = SplitAround-rearranged w.done (spot x) (filter q (spots (before' ++ after'))) (filter q (spots nodes)) h (PutsIn-bucket before' x after' e n (sym t.1)) in
-                let d : DifferAll eq hash key nodes (m.before ++ spot x ∷ m.after) = subst (λ (u : List Spot). DifferAll eq hash key nodes u) m.is w.differ in
+                let m = SplitAround-rearranged w.done (spot x) (filter q (spots (before' ++ after'))) (filter q (spots nodes)) h (PutsIn-bucket before' x after' e n (sym t.1)) in
+                let d = subst (λ (u : List Spot). DifferAll eq hash key nodes u) m.is w.differ in
                 OfNodeAt-differs eq hash key nodes m.before (spot x) m.after d before' x after' e refl
             | inr t ↦ ap (λ u. u && eq key x.pair.0) (sym t.0)
           ];
@@ -207,7 +207,7 @@ pub IsPart-first : {K V : Type 0} {eq : K → K → Bool} {hash : ℕ} {key : K}
     → visited ≡ 0 → compared ≡ 0 → hash % length heads < length heads → HasChains heads (spots nodes)
     → IsPart eq hash key heads nodes before pointer visited compared
 IsPart-first {K} {V} {eq} {hash} {key} {heads} {nodes} {before} {pointer} {visited} {compared} first is none_visited none_compared within i =
-    let h : HasChain (get_or heads (hash % length heads) None) (length heads) (hash % length heads) (spots nodes) = i.chains (hash % length heads) within in
+    let h = i.chains (hash % length heads) within in
     record {
       done = [];
       rest = h.chain;

@@ -59,8 +59,7 @@ HasChains-take_first heads b s rest ys xs h l linked holds p =
     let n : ℕ = length heads in
     let q : Spot → Bool = is_in n b in
     let t : PutsPassing q s xs = PutsPassing-rearranged q [] s rest xs holds in
-    let less : IsRearranged rest (filter q ys) =
-    IsRearranged-less_middle [] s rest (filter q ys) (filter q xs) (PutsIn-filter_in q s ys xs p t.passes) holds in
+    let less = IsRearranged-less_middle [] s rest (filter q ys) (filter q xs) (PutsIn-filter_in q s ys xs p t.passes) holds in
     HasChains-set heads b s.link ys l (record { chain = rest; linked = linked.1; holds = less })
     (λ c m ne. HasChain-other_removed (get_or heads c None) n c s ys xs (h.chains c m) (is_in-other n b c s t.passes ne) p)
 
@@ -75,17 +74,13 @@ HasChains-take_next heads b done y y' s rest zs xs xs' ys h l linked holds a num
     let f : List Spot → List Spot = filter q in
     let ty : PutsPassing q y xs = PutsPassing-rearranged q done y (s ∷ rest) xs holds in
     let ty' : q y' ≡ true = ap (λ v. eqb (v % n) b) num ∙ ty.passes in
-    let less_y : IsRearranged (done ++ s ∷ rest) (f zs) =
-    IsRearranged-less_middle done y (s ∷ rest) (f zs) (f xs)
+    let less_y = IsRearranged-less_middle done y (s ∷ rest) (f zs) (f xs)
     (PutsIn-filter_in q y zs xs py ty.passes) holds in
     let ts : PutsPassing q s zs = PutsPassing-rearranged q done s rest zs less_y in
-    let more_y : IsRearranged (done ++ y' ∷ s ∷ rest) (f xs') =
-    IsRearranged-more_middle done y' (s ∷ rest) (f zs) (f xs')
+    let more_y = IsRearranged-more_middle done y' (s ∷ rest) (f zs) (f xs')
     (PutsIn-filter_in q y' zs xs' py' ty') less_y in
-    let under : PutsIn s (done ++ y' ∷ rest) (done ++ y' ∷ s ∷ rest) =
-    PutsIn-under done s (y' ∷ rest) (y' ∷ s ∷ rest) (PutsIn-there s y' rest (s ∷ rest) (PutsIn-here s rest)) in
-    let less_s : IsRearranged (done ++ y' ∷ rest) (f ys) =
-    IsRearranged-less s (done ++ y' ∷ rest) (done ++ y' ∷ s ∷ rest) (f ys) (f xs') under (PutsIn-filter_in q s ys xs' ps ts.passes) more_y in
+    let under = PutsIn-under done s (y' ∷ rest) (y' ∷ s ∷ rest) (PutsIn-there s y' rest (s ∷ rest) (PutsIn-here s rest)) in
+    let less_s = IsRearranged-less s (done ++ y' ∷ rest) (done ++ y' ∷ s ∷ rest) (f ys) (f xs') under (PutsIn-filter_in q s ys xs' ps ts.passes) more_y in
     let own : HasChain (get_or heads b None) n b ys = record {
       chain = done ++ y' ∷ rest;
       linked = IsChain-linked_past (get_or heads b None) done y y' s rest a link linked;

@@ -83,8 +83,8 @@ module _ {X : Type 0} where
     others = subst (λ (v : List X). IsRearranged v h.without) (sym p.1) h.others;
   }
   IsRearranged-from x xs (y ∷ zs) ys (inr p) h =
-      let i : IsRearranged (x ∷ p.rest) h.without = IsRearranged-from x p.rest zs h.without p.puts h.others in
-      let j : PutsBoth y x i.without ys = PutsBoth-commute x y i.without h.without ys i.puts h.puts in
+      let i = IsRearranged-from x p.rest zs h.without p.puts h.others in
+      let j = PutsBoth-commute x y i.without h.without ys i.puts h.puts in
       record {
         without = j.between;
         puts = j.puts_a;
@@ -107,7 +107,7 @@ module _ {X : Type 0} where
   IsRearranged-less x xs [] ys ys' p q h = absurd p
   IsRearranged-less x xs (y ∷ xs') ys ys' (inl p) q h =
       let u : PutsIn x h.without ys' = subst (λ (v : X). PutsIn v h.without ys') (sym p.0) h.puts in
-      let m : IsRearranged xs h.without = subst (λ (v : List X). IsRearranged v h.without) (sym p.1) h.others in
+      let m = subst (λ (v : List X). IsRearranged v h.without) (sym p.1) h.others in
       elim (PutsIn-exchange x x h.without ys ys' u q) [
         | inl e ↦ subst (IsRearranged xs) e.1 m
         | inr r ↦ IsRearranged-again x xs r.without h.without ys m r.puts_b r.puts_a
@@ -159,7 +159,7 @@ module _ {X : Type 0} where
   pub IsRearranged-member : (us : List X) (x : X) (vs zs : List X) → IsRearranged (us ++ x ∷ vs) zs → (ws : List X) × PutsIn x ws zs
   IsRearranged-member [] x vs zs h = (h.without, h.puts)
   IsRearranged-member (u ∷ us) x vs zs h =
-      let i : (ws : List X) × PutsIn x ws h.without = IsRearranged-member us x vs h.without h.others in
+      let i = IsRearranged-member us x vs h.without h.others in
       PutsIn-later x u i.0 h.without zs i.1 h.puts
 
   -- the other way: an element of the second list is in the first
@@ -169,6 +169,6 @@ module _ {X : Type 0} where
       elim (PutsIn-exchange a x h.without ws zs h.puts p) [
         | inl e ↦ record { before = []; after = xs; is = ap (λ v. v ∷ xs) e.0 }
         | inr r ↦
-            let i : SplitAround xs x = SplitAround-rearranged xs x r.without h.without h.others r.puts_b in
+            let i = SplitAround-rearranged xs x r.without h.without h.others r.puts_b in
             record { before = a ∷ i.before; after = i.after; is = ap (λ v. a ∷ v) i.is }
       ]
