@@ -13,8 +13,9 @@ pub ChainFirst-some : (p : Ptr) (rest : List Spot) → IsChain (Some p) rest →
 ChainFirst-some p [] h = absurd (cc)
 ChainFirst-some p (s ∷ rest) h = record { node = s; after = rest; is = refl; at_is = (let e : Some p ≡ Some s.at = h.0 in cc) }
 
-pub IsChain-rest : (h : Option Ptr) (s : Spot) (rest : List Spot) → IsChain h (s ∷ rest) → IsChain s.link rest
-IsChain-rest h s rest c = c.1
+pub IsChain-tail : (h : Option Ptr) (us : List Spot) (s : Spot) (vs : List Spot) → IsChain h (us ++ s ∷ vs) → IsChain s.link vs
+IsChain-tail h [] s vs c = c.1
+IsChain-tail h (u ∷ us) s vs c = IsChain-tail u.link us s vs c.1
 
 pub none-IsChain : (rest : List Spot) → IsChain None rest → rest ≡ []
 none-IsChain [] h = refl

@@ -5,7 +5,7 @@ use Rattle.std.specs.Prelude.{count_by}
 use Rattle.std.proofs.lemmas.List.{map-append, length-map}
 use Rattle.lhm_ring.proofs.lists.RearrangedCounts.{count_by-cons}
 use Rattle.lhm_ring.specs.Ring.{Held, IsHeld, AtHeld, linked_to, first_at, last_at, last_of, change_at, triples, SplitAt, revalued}
-use Rattle.lhm_ring.specs.Index.{entries, spot, spots, same, beside}
+use Rattle.lhm_ring.specs.Index.{OfNodeAt, entries, spot, spots, same, beside}
 use Rattle.lhm_ring.specs.Search.{HasKey, IsAbsent, Compares, CountsSome, CountsAll}
 use Rattle.lhm_ring.specs.Nodes.{same_ptr}
 
@@ -17,36 +17,52 @@ pub entries-linked_to : {K V : Type 0} (old new : List (Held (K × V))) (p : Ptr
 entries-linked_to old new p l h s =
     ap entries (s h.before h.node h.after h.is h.at_is) ∙ entries-link h.before h.node h.after l ∙ ap entries (sym h.is)
 
-abbrev SplitLike : {K V : Type 0} → List (Held (K × V)) → Held (K × V) → Type 0
-SplitLike nodes x = SplitAt (linked_to None) nodes (linked_to None x)
-
-SplitLike-entries : {K V : Type 0} (nodes before : List (Held (K × V))) (x : Held (K × V)) (after : List (Held (K × V))) → entries nodes ≡ entries (before ++ x ∷ after) → SplitLike nodes x
-SplitLike-entries [] [] x after e = absurd (cc)
-SplitLike-entries [] (b ∷ before) x after e = absurd (cc)
-SplitLike-entries (y ∷ nodes) [] x after e = record { before = []; node = y; after = nodes; is = refl; at_is = (cc) }
-SplitLike-entries (y ∷ nodes) (b ∷ before) x after e =
-    let f : entries nodes ≡ entries (before ++ x ∷ after) = cc in
-    let i : SplitLike nodes x = SplitLike-entries nodes before x after f in
-    record { before = y ∷ i.before; node = i.node; after = i.after; is = ap (λ v. y ∷ v) i.is; at_is = i.at_is }
-
-pub IsHeld-kept : {K V : Type 0} (old new : List (Held (K × V))) (p : Ptr) → entries new ≡ entries old → IsHeld old p → IsHeld new p
-IsHeld-kept old new p e h =
-    let i : SplitLike new h.node = SplitLike-entries new h.before h.node h.after (e ∙ ap entries h.is) in
-    record { before = i.before; node = i.node; after = i.after; is = i.is; at_is = ap (λ v. v.at) i.at_is ∙ h.at_is }
-
-pub HasKey-kept : {K V : Type 0} (eq : K → K → Bool) (hash : ℕ) (key : K) (old new : List (Held (K × V))) (p : Ptr) → entries new ≡ entries old → HasKey eq hash key old p → HasKey eq hash key new p
-HasKey-kept {K} {V} eq hash key old new p e h =
-    let back : (before : List (Held (K × V))) (x : Held (K × V)) (after : List (Held (K × V))) → new ≡ before ++ x ∷ after → SplitLike old x =
-    λ b x a i. SplitLike-entries old b x a (sym e ∙ ap entries i) in
-    record {
-      held = IsHeld-kept old new p e h.held;
-      hash_is = λ b x a i j. ap (λ v. v.hash) (sym (back b x a i).at_is) ∙ h.hash_is (back b x a i).before (back b x a i).node (back b x a i).after (back b x a i).is (ap (λ v. v.at) (back b x a i).at_is ∙ j);
-      key_is = λ b x a i j. ap (λ v. eq key v.pair.0) (sym (back b x a i).at_is) ∙ h.key_is (back b x a i).before (back b x a i).node (back b x a i).after (back b x a i).is (ap (λ v. v.at) (back b x a i).at_is ∙ j);
-    }
-
 module _ {K V : Type 0} where
   pub entries-append : (xs ys : List (Held (K × V))) → entries (xs ++ ys) ≡ entries xs ++ entries ys
   entries-append xs ys = map-append (linked_to {B = K × V} None) xs ys
+
+  -- nodes whose entries are cut at one of them are cut there too
+  pub record EntriesCut (hs xs : List (Held (K × V))) (t : Held (K × V)) (ys : List (Held (K × V))) : Type 0 where
+    pub split : SplitAt (linked_to None) hs t
+    pub before_is : entries split.before ≡ xs
+    pub after_is : entries split.after ≡ ys
+
+  pub EntriesCut-split : (hs xs : List (Held (K × V))) (t : Held (K × V)) (ys : List (Held (K × V))) → entries hs ≡ xs ++ t ∷ ys → EntriesCut hs xs t ys
+  EntriesCut-split [] [] t ys e = absurd (cc)
+  EntriesCut-split [] (x ∷ xs) t ys e = absurd (cc)
+  EntriesCut-split (h ∷ hs) [] t ys e = record { split = record { before = []; node = h; after = hs; is = refl; at_is = (cc) }; before_is = refl; after_is = (cc) }
+  EntriesCut-split (h ∷ hs) (x ∷ xs) t ys e =
+      let rest : entries hs ≡ xs ++ t ∷ ys = cc in
+      let first : linked_to None h ≡ x = cc in
+      let i : EntriesCut hs xs t ys = EntriesCut-split hs xs t ys rest in
+      let k = i.split in
+      record {
+        split = record { before = h ∷ k.before; node = k.node; after = k.after; is = ap (λ zs. h ∷ zs) k.is; at_is = k.at_is };
+        before_is = (λ j. first j ∷ i.before_is j);
+        after_is = i.after_is;
+      }
+
+  -- nodes of the same entries
+  module _ (old new : List (Held (K × V))) (p : Ptr) (same : entries new ≡ entries old) where
+    pub IsHeld-kept : IsHeld old p → IsHeld new p
+    IsHeld-kept h =
+        let i = EntriesCut-split new (entries h.before) (linked_to None h.node) (entries h.after)
+        (same ∙ ap entries h.is ∙ entries-append h.before (h.node ∷ h.after)) in
+        let k = i.split in
+        record { before = k.before; node = k.node; after = k.after; is = k.is; at_is = ap (λ v. v.at) k.at_is ∙ h.at_is }
+
+    OfNodeAt-kept : (Q : Held (K × V) → Type 0) → OfNodeAt old p (λ x. Q (linked_to None x)) → OfNodeAt new p (λ x. Q (linked_to None x))
+    OfNodeAt-kept Q f xs x ys is at =
+        let i = EntriesCut-split old (entries xs) (linked_to None x) (entries ys) (sym same ∙ ap entries is ∙ entries-append xs (x ∷ ys)) in
+        let k = i.split in
+        subst Q k.at_is (f k.before k.node k.after k.is (ap (λ v. v.at) k.at_is ∙ at))
+
+    pub HasKey-kept : (eq : K → K → Bool) (hash : ℕ) (key : K) → HasKey eq hash key old p → HasKey eq hash key new p
+    HasKey-kept eq hash key h = record {
+      held = IsHeld-kept h.held;
+      hash_is = OfNodeAt-kept (λ x. x.hash ≡ hash) h.hash_is;
+      key_is = OfNodeAt-kept (λ x. eq key x.pair.0 ≡ true) h.key_is;
+    }
 
   pub entries-entries : (hs : List (Held (K × V))) → entries (entries hs) ≡ entries hs
   entries-entries [] = refl
@@ -83,27 +99,6 @@ module _ {K V : Type 0} where
         | false ↦ ap (λ ys. linked_to None t ∷ ys) (entries-change_at p w hs)
       ]
 
-  -- nodes whose entries are cut at one of them are cut there too
-  pub record EntriesCut (hs xs : List (Held (K × V))) (t : Held (K × V)) (ys : List (Held (K × V))) : Type 0 where
-    pub split : SplitAt (linked_to None) hs t
-    pub before_is : entries split.before ≡ xs
-    pub after_is : entries split.after ≡ ys
-
-  pub EntriesCut-split : (hs xs : List (Held (K × V))) (t : Held (K × V)) (ys : List (Held (K × V))) → entries hs ≡ xs ++ t ∷ ys → EntriesCut hs xs t ys
-  EntriesCut-split [] [] t ys e = absurd (cc)
-  EntriesCut-split [] (x ∷ xs) t ys e = absurd (cc)
-  EntriesCut-split (h ∷ hs) [] t ys e = record { split = record { before = []; node = h; after = hs; is = refl; at_is = (cc) }; before_is = refl; after_is = (cc) }
-  EntriesCut-split (h ∷ hs) (x ∷ xs) t ys e =
-      let rest : entries hs ≡ xs ++ t ∷ ys = cc in
-      let first : linked_to None h ≡ x = cc in
-      let i : EntriesCut hs xs t ys = EntriesCut-split hs xs t ys rest in
-      let k = i.split in
-      record {
-        split = record { before = h ∷ k.before; node = k.node; after = k.after; is = ap (λ zs. h ∷ zs) k.is; at_is = k.at_is };
-        before_is = (λ j. first j ∷ i.before_is j);
-        after_is = i.after_is;
-      }
-
   -- what lies at a position of the entries
   pub IsHeld-entries : (hs : List (Held (K × V))) (p : Ptr) → IsHeld (entries hs) p → IsHeld hs p
   IsHeld-entries hs p h = IsHeld-kept (entries hs) hs p (sym (entries-entries hs)) h
@@ -112,12 +107,12 @@ module _ {K V : Type 0} where
   AtHeld-entries hs p P h xs t ys e at =
       let i : EntriesCut hs xs t ys = EntriesCut-split hs xs t ys e in
       let k = i.split in
-      let seen : P (entries k.before) (linked_to None k.node) (entries k.after) = h k.before k.node k.after k.is (ap (λ (u : Held (K × V)). u.at) k.at_is ∙ at) in
+      let seen = h k.before k.node k.after k.is (ap (λ (u : Held (K × V)). u.at) k.at_is ∙ at) in
       subst (λ (z : List (Held (K × V)) × (Held (K × V) × List (Held (K × V)))). P z.0 z.1.0 z.1.1) (λ j. (i.before_is j, (k.at_is j, i.after_is j))) seen
 
   -- searches
   pub HasKey-entries : (eq : K → K → Bool) (hash : ℕ) (key : K) (hs : List (Held (K × V))) (p : Ptr) → HasKey eq hash key hs p → HasKey eq hash key (entries hs) p
-  HasKey-entries eq hash key hs p h = HasKey-kept eq hash key hs (entries hs) p (entries-entries hs) h
+  HasKey-entries eq hash key hs p h = HasKey-kept hs (entries hs) p (entries-entries hs) eq hash key h
 
   pub IsAbsent-entries : (eq : K → K → Bool) (hash : ℕ) (key : K) (hs : List (Held (K × V))) → IsAbsent eq hash key hs → IsAbsent eq hash key (entries hs)
   IsAbsent-entries eq hash key hs none xs t ys e =

@@ -47,8 +47,7 @@ module _ (words : List ℕ) (hash : ℕ) (small : hash / 2 ^ 60 < 16) (within : 
       elim (cases_eq (other % length words) (hash % length words)) [
         | inr away ↦ may_contain-set_other words (hash % length words) _ other away ∙ may
         | inl here ↦
-            let same_word : may_contain (with_bit words hash) other ≡ has_bit (bit_or (get_or words (hash % length words) 0) (1 * 2 ^ (hash / 2 ^ 60) % 2 ^ 16)) other =
-            may_contain-set_same words (hash % length words) _ other here within in
+            let same_word = may_contain-set_same words (hash % length words) _ other here within in
             same_word ∙ (elim (cases_eq (other / 2 ^ 60) (hash / 2 ^ 60)) [
               | inl bit ↦ eq-eqb _ 1 (ap (bit_at (bit_or (get_or words (hash % length words) 0) (1 * 2 ^ (hash / 2 ^ 60) % 2 ^ 16))) bit ∙ bit_at_set_same w16 (get_or words (hash % length words) 0) (hash / 2 ^ 60) small)
               | inr bit ↦
@@ -78,8 +77,7 @@ pub SetsBit-written : (items : List Word) (bucket hash number : ℕ) (old : Word
 SetsBit-written items bucket hash number old is inside bit small read =
     let words : List ℕ = map bits_of items in
     let one : ℕ = 1 * 2 ^ number % 2 ^ 16 in
-    let bits : old.bits ≡ get_or words bucket 0 =
-    ap bits_of read ∙ sym (get_or-map bits_of items bucket old 0 (let l = length-map items bits_of in omega (arith, l, inside))) in
+    let bits = ap bits_of read ∙ sym (get_or-map bits_of items bucket old 0 (let l = length-map items bits_of in omega (arith, l, inside))) in
     subst (λ (ws : List ℕ). SetsBit words ws hash) (sym (map-set bits_of items bucket (record { bits = bit_or old.bits one })))
     (subst (λ (n : ℕ). SetsBit words (set words bucket (bit_or n one)) hash) (sym bits) (SetsBit-with_bit words hash bucket number is inside bit small))
 

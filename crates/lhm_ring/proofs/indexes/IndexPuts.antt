@@ -28,7 +28,7 @@ module _ {K V : Type 0} where
     Indexes-put_first lacks some =
         let h = lacks.held in
         let k = put h.before h.node h.after h.is h.at_is in
-        let x : Held (K × V) = linked_to (get_or old.heads (h.node.hash % length old.heads) None) h.node in
+        let x = linked_to (get_or old.heads (h.node.hash % length old.heads) None) h.node in
         subst (λ (v : List (Held (K × V))). Indexes new (spots v)) (sym k.nodes_is)
         (Indexes-put old new (spot x) (spots (h.before ++ h.after)) (spots (h.before ++ x ∷ h.after)) lacks.others some refl
         (PutsIn-spots h.before x h.after) k.heads_is k.words_is)
@@ -87,7 +87,7 @@ module _ {K V : Type 0} {i : BucketState} {old nodes : List (Held (K × V))} {po
         let g : IsHeld nodes p = IsHeld-rehashing in
         let a : length nodes ≡ length old = length-same_entries nodes old w.kept in
         let b : length nodes ≡ length (w.done ++ g.node ∷ g.after) = ap length g.is in
-        let c : length (w.done ++ g.node ∷ g.after) ≡ length w.done + length (g.node ∷ g.after) = length-append w.done (g.node ∷ g.after) in
+        let c = length-append w.done (g.node ∷ g.after) in
         let d = w.count_is in
         omega (arith, a, b, c, d)
 
@@ -108,7 +108,7 @@ module _ {K V : Type 0} {i : BucketState} {old nodes : List (Held (K × V))} {po
         let x : Held (K × V) = g.node in
         let k : IsPutFirst i i' nodes' w.done x g.after = put w.done x g.after g.is g.at_is in
         let x' : Held (K × V) = linked_to (get_or i.heads (x.hash % length i.heads) None) x in
-        let long : length (w.done ++ x' ∷ []) ≡ length w.done + 1 = length-append w.done (x' ∷ []) in
+        let long = length-append w.done (x' ∷ []) in
         let d : count ≡ length w.done = w.count_is in
         record {
           done = w.done ++ x' ∷ [];

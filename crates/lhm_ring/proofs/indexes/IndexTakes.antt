@@ -4,9 +4,9 @@ use Rattle.std.specs.Prelude.{filter}
 use Rattle.std.proofs.lemmas.Bool.{cases_lt}
 use Rattle.std.proofs.Math.Nat.{mod-lt}
 use denote.RawPtr.{Ptr}
-use Rattle.lhm_ring.proofs.lists.Rearranged.{PutsIn-middle, IsRearranged-less, PutsIn-later, IsRearranged-member}
-use Rattle.lhm_ring.proofs.lists.RearrangedFilters.{PutsPassing, PutsPassing-filter, PutsIn-filter_in}
-use Rattle.lhm_ring.proofs.indexes.Spots.{NodeOf, NodeOf-spot, IsHeld-spot, PutsIn-spots}
+use Rattle.lhm_ring.proofs.lists.Rearranged.{IsRearranged-less_middle, PutsIn-later}
+use Rattle.lhm_ring.proofs.lists.RearrangedFilters.{PutsPassing-rearranged, PutsIn-filter_in}
+use Rattle.lhm_ring.proofs.indexes.Spots.{NodeOf, NodeOf-spot, IsHeld-spot, PutsIn-spots_of, OfNodeAt-spot}
 use Rattle.lhm_ring.proofs.indexes.WholeIndex.{HasChains-take_first, HasChains-take_next}
 use Rattle.lhm_ring.specs.Ring.{Held, IsHeld, AtHeld, linked_to, SplitLast}
 use Rattle.lhm_ring.specs.Index.{PutsIn, IsRearranged, IsChain, is_in, HasChains, Spot, spot, spots, OfNodeAt, IsLast, IsOnChain}
@@ -25,27 +25,18 @@ pub record OnNode {K V : Type 0} (n b : ℕ) (s : Spot) (nodes : List (Held (K �
 
 pub OnNode-rearranged : {K V : Type 0} (n b : ℕ) (done : List Spot) (s : Spot) (rest : List Spot) (nodes : List (Held (K × V))) → IsRearranged (done ++ s ∷ rest) (filter (is_in n b) (spots nodes)) → OnNode n b s nodes
 OnNode-rearranged n b done s rest nodes h =
-    let q : Spot → Bool = is_in n b in
-    let m : (ws : List Spot) × PutsIn s ws (filter q (spots nodes)) = IsRearranged-member done s rest (filter q (spots nodes)) h in
-    let t : PutsPassing q s (spots nodes) = PutsPassing-filter q s m.0 (spots nodes) m.1 in
+    let t = PutsPassing-rearranged (is_in n b) done s rest (spots nodes) h in
     record { ws = t.without; puts = t.puts; passes = t.passes; of = NodeOf-spot s t.without nodes t.puts }
 
-pub IsHeld-on_chain : {K V : Type 0} {heads : List (Option Ptr)} {hash : ℕ} {nodes : List (Held (K × V))} {before : Option Ptr} {p : Ptr} → IsOnChain heads hash (spots nodes) before p → IsHeld nodes p
-IsHeld-on_chain {K} {V} {heads} {hash} {nodes} {before} {p} w =
-    let o : OnNode (length heads) (hash % length heads) w.here nodes = OnNode-rearranged (length heads) (hash % length heads) w.done w.here w.rest nodes w.holds in
-    IsHeld-spot o.of w.at_is
+no_puts : {X : Type 0} (x : X) (xs : List X) → PutsIn x xs [] → ⊥
+no_puts x xs h = h
 
-PutsIn-some : {X : Type 0} (x : X) (xs : List X) → PutsIn x xs [] → ⊥
-PutsIn-some x xs h = h
-
-pub length-on_chain : {heads : List (Option Ptr)} {hash : ℕ} {xs : List Spot} {before : Option Ptr} {p : Ptr} → HasChains heads xs → IsOnChain heads hash xs before p → 0 < length heads
-length-on_chain {heads} {hash} {xs} {before} {p} h w =
-    let f : Spot → Bool = is_in (length heads) (hash % length heads) in
-    let m : (ws : List Spot) × PutsIn w.here ws (filter f xs) = IsRearranged-member w.done w.here w.rest (filter f xs) w.holds in
-    let t : PutsPassing f w.here xs = PutsPassing-filter f w.here m.0 xs m.1 in
+-- with a spot there is a bucket
+pub length-HasChains : {heads : List (Option Ptr)} {xs : List Spot} (s : Spot) (ws : List Spot) → HasChains heads xs → PutsIn s ws xs → 0 < length heads
+length-HasChains {heads} s ws h p =
     elim (cases_lt 0 (length heads)) [
       | inl l ↦ l
-      | inr l ↦ absurd (PutsIn-some w.here t.without (subst (λ (v : List Spot). PutsIn w.here t.without v) (h.none (omega arith)) t.puts))
+      | inr l ↦ absurd (no_puts s ws (subst (PutsIn s ws) (h.none (omega arith)) p))
     ]
 
 -- the one before, if there is one
@@ -61,58 +52,77 @@ none-IsLast : (before : Option Ptr) (done : List Spot) → before ≡ None → I
 none-IsLast before done e (inl h) = h.0
 none-IsLast before done e (inr h) = absurd (let f : Some h.node.at ≡ before = h.at_is in cc)
 
--- the chain, split at the one before
-append-before : (done : List Spot) (q : Ptr) (b : HasBefore done q) (s : Spot) (rest : List Spot) → done ++ s ∷ rest ≡ b.before ++ b.node ∷ s ∷ rest
-append-before done q b s rest = ap (λ (v : List Spot). v ++ s ∷ rest) b.is ∙ append_assoc b.before (b.node ∷ []) (s ∷ rest)
+-- the chain is split at the one before
+module _ {heads : List (Option Ptr)} {hash : ℕ} {xs : List Spot} {before : Option Ptr} {p q : Ptr}
+    (w : IsOnChain heads hash xs before p) (e : before ≡ Some q) where
+  HasBefore-on_chain : HasBefore w.done q
+  HasBefore-on_chain = HasBefore-last before w.done q e w.behind
 
-pub IsHeld-before : {K V : Type 0} {heads : List (Option Ptr)} {hash : ℕ} {nodes : List (Held (K × V))} {before : Option Ptr} {p : Ptr} (q : Ptr) → before ≡ Some q → IsOnChain heads hash (spots nodes) before p → IsHeld nodes q
-IsHeld-before {K} {V} {heads} {hash} {nodes} {before} {p} q e w =
-    let b : HasBefore w.done q = HasBefore-last before w.done q e w.behind in
-    let f : Spot → Bool = is_in (length heads) (hash % length heads) in
-    let h : IsRearranged (b.before ++ b.node ∷ w.here ∷ w.rest) (filter f (spots nodes)) = subst (λ (v : List Spot). IsRearranged v (filter f (spots nodes))) (append-before w.done q b w.here w.rest) w.holds in
-    let o : OnNode (length heads) (hash % length heads) b.node nodes = OnNode-rearranged (length heads) (hash % length heads) b.before b.node (w.here ∷ w.rest) nodes h in
-    IsHeld-spot o.of b.at_is
+  append-before : w.done ++ w.here ∷ w.rest ≡ HasBefore-on_chain.before ++ HasBefore-on_chain.node ∷ w.here ∷ w.rest
+  append-before =
+      let b = HasBefore-on_chain in
+      ap (λ (v : List Spot). v ++ w.here ∷ w.rest) b.is ∙ append_assoc b.before (b.node ∷ []) (w.here ∷ w.rest)
 
-pub HasOtherChains-take_first : {K V : Type 0} {heads : List (Option Ptr)} {hash : ℕ} {nodes : List (Held (K × V))} {before : Option Ptr} {p : Ptr} (link : Option Ptr) → before ≡ None → HasChains heads (spots nodes) → IsOnChain heads hash (spots nodes) before p → OfNodeAt nodes p (λ x. link ≡ x.link) → HasOtherChains (set heads (hash % length heads) link) nodes p
-HasOtherChains-take_first {K} {V} {heads} {hash} {nodes} {before} {p} link e h w l =
-    let n : ℕ = length heads in
-    let bucket : ℕ = hash % n in
-    let f : Spot → Bool = is_in n bucket in
-    let none : w.done ≡ [] = none-IsLast before w.done e w.behind in
-    let linked : IsChain (get_or heads bucket None) (w.here ∷ w.rest) = subst (λ (v : List Spot). IsChain (get_or heads bucket None) (v ++ w.here ∷ w.rest)) none w.linked in
-    let holds : IsRearranged (w.here ∷ w.rest) (filter f (spots nodes)) = subst (λ (v : List Spot). IsRearranged (v ++ w.here ∷ w.rest) (filter f (spots nodes))) none w.holds in
-    let o : OnNode n bucket w.here nodes = OnNode-rearranged n bucket w.done w.here w.rest nodes w.holds in
-    let held : IsHeld nodes p = IsHeld-spot o.of w.at_is in
-    let link_is : link ≡ w.here.link = l held.before held.node held.after held.is held.at_is ∙ ap (λ v. v.link) o.of.split.at_is in
-    let i : HasChains (set heads bucket w.here.link) o.ws = HasChains-take_first heads bucket w.here w.rest o.ws (spots nodes) h (mod-lt hash (length-on_chain h w)) linked holds o.puts in
-    record {
-      held = held;
-      others = subst (λ (v : Option Ptr). HasChains (set heads bucket v) (spots (held.before ++ held.after))) (sym link_is) (subst (λ (v : List Spot). HasChains (set heads bucket w.here.link) v) o.of.others i);
-    }
+  IsRearranged-before : IsRearranged (HasBefore-on_chain.before ++ HasBefore-on_chain.node ∷ w.here ∷ w.rest)
+      (filter (is_in (length heads) (hash % length heads)) xs)
+  IsRearranged-before =
+      subst (λ (v : List Spot). IsRearranged v (filter (is_in (length heads) (hash % length heads)) xs)) append-before w.holds
 
-pub HasOtherChains-take_next : {K V : Type 0} {heads : List (Option Ptr)} {hash : ℕ} {nodes : List (Held (K × V))} {before : Option Ptr} {p : Ptr} (nodes' : List (Held (K × V))) (q : Ptr) (link : Option Ptr) → before ≡ Some q → HasChains heads (spots nodes) → IsOnChain heads hash (spots nodes) before p → OfNodeAt nodes p (λ x. link ≡ x.link) → AtHeld nodes q (λ before x after. nodes' ≡ before ++ linked_to link x ∷ after) → HasOtherChains heads nodes' p
-HasOtherChains-take_next {K} {V} {heads} {hash} {nodes} {before} {p} nodes' q link e h w l sets =
-    let n : ℕ = length heads in
-    let bucket : ℕ = hash % n in
-    let f : Spot → Bool = is_in n bucket in
-    let b : HasBefore w.done q = HasBefore-last before w.done q e w.behind in
-    let split : w.done ++ w.here ∷ w.rest ≡ b.before ++ b.node ∷ w.here ∷ w.rest = append-before w.done q b w.here w.rest in
-    let linked : IsChain (get_or heads bucket None) (b.before ++ b.node ∷ w.here ∷ w.rest) = subst (λ (v : List Spot). IsChain (get_or heads bucket None) v) split w.linked in
-    let holds : IsRearranged (b.before ++ b.node ∷ w.here ∷ w.rest) (filter f (spots nodes)) = subst (λ (v : List Spot). IsRearranged v (filter f (spots nodes))) split w.holds in
-    let o : OnNode n bucket w.here nodes = OnNode-rearranged n bucket w.done w.here w.rest nodes w.holds in
-    let held : IsHeld nodes p = IsHeld-spot o.of w.at_is in
-    let link_is : link ≡ w.here.link = l held.before held.node held.after held.is held.at_is ∙ ap (λ v. v.link) o.of.split.at_is in
-    let y : OnNode n bucket b.node nodes = OnNode-rearranged n bucket b.before b.node (w.here ∷ w.rest) nodes holds in
-    let z : IsHeld nodes q = IsHeld-spot y.of b.at_is in
-    let nodes_are : nodes' ≡ z.before ++ linked_to link z.node ∷ z.after = sets z.before z.node z.after z.is z.at_is in
-    let y' : Spot = spot (linked_to link z.node) in
-    let put' : PutsIn y' y.ws (spots nodes') =
-    subst (λ (v : List Spot). PutsIn y' v (spots nodes')) (sym y.of.others)
-    (subst (λ (v : List (Held (K × V))). PutsIn y' (spots (z.before ++ z.after)) (spots v)) (sym nodes_are) (PutsIn-spots z.before (linked_to link z.node) z.after)) in
-    let less : IsRearranged (b.before ++ w.here ∷ w.rest) (filter f y.ws) = IsRearranged-less b.node (b.before ++ w.here ∷ w.rest) (b.before ++ b.node ∷ w.here ∷ w.rest) (filter f y.ws) (filter f (spots nodes)) (PutsIn-middle b.before b.node (w.here ∷ w.rest)) (PutsIn-filter_in f b.node y.ws (spots nodes) y.puts y.passes) holds in
-    let m : (ws : List Spot) × PutsIn w.here ws (filter f y.ws) = IsRearranged-member b.before w.here w.rest (filter f y.ws) less in
-    let t : PutsPassing f w.here y.ws = PutsPassing-filter f w.here m.0 y.ws m.1 in
-    let s : (ws : List Spot) × PutsIn w.here ws (spots nodes') = PutsIn-later w.here y' t.without y.ws (spots nodes') t.puts put' in
-    let of : NodeOf w.here s.0 nodes' = NodeOf-spot w.here s.0 nodes' s.1 in
-    let i : HasChains heads s.0 = HasChains-take_next heads bucket b.before b.node y' w.here w.rest y.ws (spots nodes) (spots nodes') s.0 h (mod-lt hash (length-on_chain h w)) linked holds (ap (λ v. v.at) y.of.split.at_is) (ap (λ v. v.hash) y.of.split.at_is) link_is y.puts put' s.1 in
-    record { held = IsHeld-spot of w.at_is; others = subst (λ (v : List Spot). HasChains heads v) of.others i }
+module _ {K V : Type 0} {heads : List (Option Ptr)} {hash : ℕ} {nodes : List (Held (K × V))} {before : Option Ptr} {p : Ptr}
+    (w : IsOnChain heads hash (spots nodes) before p) where
+  pub OnNode-on_chain : OnNode (length heads) (hash % length heads) w.here nodes
+  OnNode-on_chain = OnNode-rearranged (length heads) (hash % length heads) w.done w.here w.rest nodes w.holds
+
+  pub IsHeld-on_chain : IsHeld nodes p
+  IsHeld-on_chain = IsHeld-spot OnNode-on_chain.of w.at_is
+
+  pub HasOtherChains-take_first : {link : Option Ptr} → before ≡ None → HasChains heads (spots nodes)
+      → OfNodeAt nodes p (λ x. link ≡ x.link) → HasOtherChains (set heads (hash % length heads) link) nodes p
+  HasOtherChains-take_first {link} e h l =
+      let n : ℕ = length heads in
+      let bucket : ℕ = hash % n in
+      let o : OnNode n bucket w.here nodes = OnNode-on_chain in
+      let none : w.done ++ w.here ∷ w.rest ≡ w.here ∷ w.rest =
+      ap (λ (v : List Spot). v ++ w.here ∷ w.rest) (none-IsLast before w.done e w.behind) in
+      let i = HasChains-take_first heads bucket w.here w.rest o.ws (spots nodes) h
+      (mod-lt hash (length-HasChains w.here o.ws h o.puts)) (subst (IsChain (get_or heads bucket None)) none w.linked)
+      (subst (λ (v : List Spot). IsRearranged v (filter (is_in n bucket) (spots nodes))) none w.holds) o.puts in
+      record {
+        held = IsHeld-spot o.of w.at_is;
+        others = subst (λ (v : Option Ptr). HasChains (set heads bucket v) (spots (o.of.split.before ++ o.of.split.after)))
+            (sym (OfNodeAt-spot (λ s. link ≡ s.link) o.of w.at_is l)) (subst (HasChains (set heads bucket w.here.link)) o.of.others i);
+      }
+
+  module _ {q : Ptr} (e : before ≡ Some q) where
+    OnNode-before : OnNode (length heads) (hash % length heads) (HasBefore-on_chain w e).node nodes
+    OnNode-before =
+        let b = HasBefore-on_chain w e in
+        OnNode-rearranged (length heads) (hash % length heads) b.before b.node (w.here ∷ w.rest) nodes (IsRearranged-before w e)
+
+    pub IsHeld-before : IsHeld nodes q
+    IsHeld-before = IsHeld-spot OnNode-before.of (HasBefore-on_chain w e).at_is
+
+    pub HasOtherChains-take_next : {nodes' : List (Held (K × V))} {link : Option Ptr} → HasChains heads (spots nodes)
+        → OfNodeAt nodes p (λ x. link ≡ x.link) → AtHeld nodes q (λ before x after. nodes' ≡ before ++ linked_to link x ∷ after)
+        → HasOtherChains heads nodes' p
+    HasOtherChains-take_next {nodes'} {link} h l sets =
+        let n : ℕ = length heads in
+        let bucket : ℕ = hash % n in
+        let f : Spot → Bool = is_in n bucket in
+        let b : HasBefore w.done q = HasBefore-on_chain w e in
+        let o : OnNode n bucket w.here nodes = OnNode-on_chain in
+        let y : OnNode n bucket b.node nodes = OnNode-before in
+        let z : IsHeld nodes q = IsHeld-spot y.of b.at_is in
+        let y' : Spot = spot (linked_to link z.node) in
+        let put' = subst (λ (v : List Spot). PutsIn y' v (spots nodes')) (sym y.of.others)
+        (PutsIn-spots_of z.before (linked_to link z.node) z.after (sets z.before z.node z.after z.is z.at_is)) in
+        let less = IsRearranged-less_middle b.before b.node (w.here ∷ w.rest) (filter f y.ws) (filter f (spots nodes))
+        (PutsIn-filter_in f b.node y.ws (spots nodes) y.puts y.passes) (IsRearranged-before w e) in
+        let t = PutsPassing-rearranged f b.before w.here w.rest y.ws less in
+        let s = PutsIn-later w.here y' t.without y.ws (spots nodes') t.puts put' in
+        let of : NodeOf w.here s.0 nodes' = NodeOf-spot w.here s.0 nodes' s.1 in
+        let i = HasChains-take_next heads bucket b.before b.node y' w.here w.rest y.ws (spots nodes) (spots nodes') s.0 h
+        (mod-lt hash (length-HasChains w.here o.ws h o.puts)) (subst (IsChain (get_or heads bucket None)) (append-before w e) w.linked)
+        (IsRearranged-before w e) (ap (λ v. v.at) y.of.split.at_is) (ap (λ v. v.hash) y.of.split.at_is)
+        (OfNodeAt-spot (λ s. link ≡ s.link) o.of w.at_is l) y.puts put' s.1 in
+        record { held = IsHeld-spot of w.at_is; others = subst (HasChains heads) of.others i }

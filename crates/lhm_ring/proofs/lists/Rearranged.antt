@@ -27,14 +27,14 @@ module _ {X : Type 0} where
   PutsIn-exchange a b l m (y ∷ k) (inl p) (inr q) =
       inr (record {
         without = q.rest;
-        puts_b = subst (λ (v : List X). PutsIn b q.rest v) (sym p.1) q.puts;
-        puts_a = subst (λ (v : List X). PutsIn a q.rest v) (sym q.is) (inl (p.0, refl));
+        puts_b = subst (PutsIn b q.rest) (sym p.1) q.puts;
+        puts_a = subst (PutsIn a q.rest) (sym q.is) (inl (p.0, refl));
       })
   PutsIn-exchange a b l m (y ∷ k) (inr p) (inl q) =
       inr (record {
         without = p.rest;
-        puts_b = subst (λ (v : List X). PutsIn b p.rest v) (sym p.is) (inl (q.0, refl));
-        puts_a = subst (λ (v : List X). PutsIn a p.rest v) (sym q.1) p.puts;
+        puts_b = subst (PutsIn b p.rest) (sym p.is) (inl (q.0, refl));
+        puts_a = subst (PutsIn a p.rest) (sym q.1) p.puts;
       })
   PutsIn-exchange a b l m (y ∷ k) (inr p) (inr q) =
       elim (PutsIn-exchange a b p.rest q.rest k p.puts q.puts) [
@@ -42,8 +42,8 @@ module _ {X : Type 0} where
         | inr r ↦
             inr (record {
               without = y ∷ r.without;
-              puts_b = subst (λ (v : List X). PutsIn b (y ∷ r.without) v) (sym p.is) (PutsIn-there b y r.without p.rest r.puts_b);
-              puts_a = subst (λ (v : List X). PutsIn a (y ∷ r.without) v) (sym q.is) (PutsIn-there a y r.without q.rest r.puts_a);
+              puts_b = subst (PutsIn b (y ∷ r.without)) (sym p.is) (PutsIn-there b y r.without p.rest r.puts_b);
+              puts_a = subst (PutsIn a (y ∷ r.without)) (sym q.is) (PutsIn-there a y r.without q.rest r.puts_a);
             })
       ]
 
@@ -59,10 +59,10 @@ module _ {X : Type 0} where
   PutsBoth-commute a b l m (y ∷ k) p (inl q) = record {
     between = b ∷ l;
     puts_b = inl (refl, refl);
-    puts_a = inr (record { rest = l; is = subst (λ (v : X). b ∷ l ≡ v ∷ l) q.0 refl; puts = subst (λ (v : List X). PutsIn a l v) q.1 p });
+    puts_a = inr (record { rest = l; is = subst (λ (v : X). b ∷ l ≡ v ∷ l) q.0 refl; puts = subst (PutsIn a l) q.1 p });
   }
   PutsBoth-commute a b l m (y ∷ k) p (inr q) =
-      let p' : PutsIn a l (y ∷ q.rest) = subst (λ (v : List X). PutsIn a l v) q.is p in
+      let p' : PutsIn a l (y ∷ q.rest) = subst (PutsIn a l) q.is p in
       elim p' [
         | inl r ↦ record { between = k; puts_b = subst (λ (v : List X). PutsIn b v k) (sym r.1) q.puts; puts_a = inl (r.0, refl) }
         | inr r ↦
@@ -83,8 +83,8 @@ module _ {X : Type 0} where
     others = subst (λ (v : List X). IsRearranged v h.without) (sym p.1) h.others;
   }
   IsRearranged-from x xs (y ∷ zs) ys (inr p) h =
-      let i : IsRearranged (x ∷ p.rest) h.without = IsRearranged-from x p.rest zs h.without p.puts h.others in
-      let j : PutsBoth y x i.without ys = PutsBoth-commute x y i.without h.without ys i.puts h.puts in
+      let i = IsRearranged-from x p.rest zs h.without p.puts h.others in
+      let j = PutsBoth-commute x y i.without h.without ys i.puts h.puts in
       record {
         without = j.between;
         puts = j.puts_a;
@@ -93,10 +93,10 @@ module _ {X : Type 0} where
 
   -- an element of the second list may stand elsewhere
   pub IsRearranged-again : (x : X) (xs n zs ys : List X) → IsRearranged xs zs → PutsIn x n zs → PutsIn x n ys → IsRearranged xs ys
-  IsRearranged-again x [] n zs ys h p q = absurd (subst (λ (v : List X). PutsIn x n v) h p)
+  IsRearranged-again x [] n zs ys h p q = absurd (subst (PutsIn x n) h p)
   IsRearranged-again x (a ∷ xs) n zs ys h p q =
       elim (PutsIn-exchange a x h.without n zs h.puts p) [
-        | inl e ↦ record { without = n; puts = subst (λ (v : X). PutsIn v n ys) (sym e.0) q; others = subst (λ (v : List X). IsRearranged xs v) e.1 h.others }
+        | inl e ↦ record { without = n; puts = subst (λ (v : X). PutsIn v n ys) (sym e.0) q; others = subst (IsRearranged xs) e.1 h.others }
         | inr r ↦
             let j : PutsBoth x a r.without ys = PutsBoth-commute a x r.without n ys r.puts_a q in
             record { without = j.between; puts = j.puts_a; others = IsRearranged-again x xs r.without h.without j.between h.others r.puts_b j.puts_b }
@@ -107,9 +107,9 @@ module _ {X : Type 0} where
   IsRearranged-less x xs [] ys ys' p q h = absurd p
   IsRearranged-less x xs (y ∷ xs') ys ys' (inl p) q h =
       let u : PutsIn x h.without ys' = subst (λ (v : X). PutsIn v h.without ys') (sym p.0) h.puts in
-      let m : IsRearranged xs h.without = subst (λ (v : List X). IsRearranged v h.without) (sym p.1) h.others in
+      let m = subst (λ (v : List X). IsRearranged v h.without) (sym p.1) h.others in
       elim (PutsIn-exchange x x h.without ys ys' u q) [
-        | inl e ↦ subst (λ (v : List X). IsRearranged xs v) e.1 m
+        | inl e ↦ subst (IsRearranged xs) e.1 m
         | inr r ↦ IsRearranged-again x xs r.without h.without ys m r.puts_b r.puts_a
       ]
   IsRearranged-less x xs (y ∷ xs') ys ys' (inr p) q h =
@@ -132,6 +132,15 @@ module _ {X : Type 0} where
       let j : PutsBoth x y h'.without ys' = PutsBoth-commute y x h'.without ys ys' h'.puts q in
       record { without = j.between; puts = j.puts_a; others = IsRearranged-more x p.rest xs' h'.without j.between p.puts j.puts_b h'.others }
 
+  -- the same in the middle of the first list
+  pub IsRearranged-less_middle : (us : List X) (x : X) (vs ys ys' : List X) → PutsIn x ys ys' → IsRearranged (us ++ x ∷ vs) ys'
+      → IsRearranged (us ++ vs) ys
+  IsRearranged-less_middle us x vs ys ys' q h = IsRearranged-less x (us ++ vs) (us ++ x ∷ vs) ys ys' (PutsIn-middle us x vs) q h
+
+  pub IsRearranged-more_middle : (us : List X) (x : X) (vs ys ys' : List X) → PutsIn x ys ys' → IsRearranged (us ++ vs) ys
+      → IsRearranged (us ++ x ∷ vs) ys'
+  IsRearranged-more_middle us x vs ys ys' q h = IsRearranged-more x (us ++ vs) (us ++ x ∷ vs) ys ys' (PutsIn-middle us x vs) q h
+
   pub PutsIn-under : (us : List X) (x : X) (xs ys : List X) → PutsIn x xs ys → PutsIn x (us ++ xs) (us ++ ys)
   PutsIn-under [] x xs ys h = h
   PutsIn-under (u ∷ us) x xs ys h = PutsIn-there x u (us ++ xs) (us ++ ys) (PutsIn-under us x xs ys h)
@@ -139,9 +148,9 @@ module _ {X : Type 0} where
   -- puts one after the other, the first again in the larger list
   pub PutsIn-later : (x y : X) (xs ys zs : List X) → PutsIn x xs ys → PutsIn y ys zs → (ws : List X) × PutsIn x ws zs
   PutsIn-later x y xs ys [] p q = absurd q
-  PutsIn-later x y xs ys (z ∷ zs) p (inl q) = (z ∷ xs, PutsIn-there x z xs zs (subst (λ (v : List X). PutsIn x xs v) q.1 p))
+  PutsIn-later x y xs ys (z ∷ zs) p (inl q) = (z ∷ xs, PutsIn-there x z xs zs (subst (PutsIn x xs) q.1 p))
   PutsIn-later x y xs ys (z ∷ zs) p (inr q) =
-      let p' : PutsIn x xs (z ∷ q.rest) = subst (λ (v : List X). PutsIn x xs v) q.is p in
+      let p' : PutsIn x xs (z ∷ q.rest) = subst (PutsIn x xs) q.is p in
       elim p' [
         | inl r ↦ (zs, inl (r.0, refl))
         | inr r ↦ let i : (ws : List X) × PutsIn x ws zs = PutsIn-later x y r.rest q.rest zs r.puts q.puts in (z ∷ i.0, PutsIn-there x z i.0 zs i.1)
@@ -150,16 +159,16 @@ module _ {X : Type 0} where
   pub IsRearranged-member : (us : List X) (x : X) (vs zs : List X) → IsRearranged (us ++ x ∷ vs) zs → (ws : List X) × PutsIn x ws zs
   IsRearranged-member [] x vs zs h = (h.without, h.puts)
   IsRearranged-member (u ∷ us) x vs zs h =
-      let i : (ws : List X) × PutsIn x ws h.without = IsRearranged-member us x vs h.without h.others in
+      let i = IsRearranged-member us x vs h.without h.others in
       PutsIn-later x u i.0 h.without zs i.1 h.puts
 
   -- the other way: an element of the second list is in the first
   pub SplitAround-rearranged : (xs : List X) (x : X) (ws zs : List X) → IsRearranged xs zs → PutsIn x ws zs → SplitAround xs x
-  SplitAround-rearranged [] x ws zs h p = absurd (subst (λ v. PutsIn x ws v) h p)
+  SplitAround-rearranged [] x ws zs h p = absurd (subst (PutsIn x ws) h p)
   SplitAround-rearranged (a ∷ xs) x ws zs h p =
       elim (PutsIn-exchange a x h.without ws zs h.puts p) [
         | inl e ↦ record { before = []; after = xs; is = ap (λ v. v ∷ xs) e.0 }
         | inr r ↦
-            let i : SplitAround xs x = SplitAround-rearranged xs x r.without h.without h.others r.puts_b in
+            let i = SplitAround-rearranged xs x r.without h.without h.others r.puts_b in
             record { before = a ∷ i.before; after = i.after; is = ap (λ v. a ∷ v) i.is }
       ]

@@ -13,13 +13,13 @@ count_by-append p xs ys = sum_by-append (λ v. cond (p v) 1 0) xs ys
 count_by-PutsIn : {X : Type 0} (p : X → Bool) (x : X) (xs ys : List X) → PutsIn x xs ys → count_by p ys ≡ cond (p x) 1 0 + count_by p xs
 count_by-PutsIn p x xs [] h = absurd h
 count_by-PutsIn {X} p x xs (y ∷ ys) (inl h) =
-    let e : cond {A = ℕ} (p x) 1 0 ≡ cond {A = ℕ} (p y) 1 0 = ap (λ v. cond {A = ℕ} (p v) 1 0) h.0 in
+    let e = ap (λ v. cond {A = ℕ} (p v) 1 0) h.0 in
     let f : count_by p xs ≡ count_by p ys = ap (count_by p) h.1 in
     let g : count_by p (y ∷ ys) ≡ cond (p y) 1 0 + count_by p ys = count_by-cons p y ys in
     omega (arith, e, f, g)
 count_by-PutsIn {X} p x xs (y ∷ ys) (inr h) =
-    let i : count_by p ys ≡ cond (p x) 1 0 + count_by p h.rest = count_by-PutsIn p x h.rest ys h.puts in
-    let g : count_by p xs ≡ cond (p y) 1 0 + count_by p h.rest = ap (count_by p) h.is ∙ count_by-cons p y h.rest in
+    let i = count_by-PutsIn p x h.rest ys h.puts in
+    let g = ap (count_by p) h.is ∙ count_by-cons p y h.rest in
     let k : count_by p (y ∷ ys) ≡ cond (p y) 1 0 + count_by p ys = count_by-cons p y ys in
     omega (arith, i, g, k)
 
@@ -27,7 +27,7 @@ pub count_by-IsRearranged : {X : Type 0} (p : X → Bool) (xs ys : List X) → I
 count_by-IsRearranged p [] ys h = ap (count_by p) (sym h)
 count_by-IsRearranged p (x ∷ xs) ys h =
     let i : count_by p xs ≡ count_by p h.without = count_by-IsRearranged p xs h.without h.others in
-    let j : count_by p ys ≡ cond (p x) 1 0 + count_by p h.without = count_by-PutsIn p x h.without ys h.puts in
+    let j = count_by-PutsIn p x h.without ys h.puts in
     let k : count_by p (x ∷ xs) ≡ cond (p x) 1 0 + count_by p xs = count_by-cons p x xs in
     omega (arith, i, j, k)
 

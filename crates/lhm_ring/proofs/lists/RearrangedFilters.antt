@@ -1,8 +1,8 @@
 -- An element is put in among those that pass a test.
-use Rattle.std.proofs.Common.{◌≡◌, List, [], ◌∷◌, inl, inr, refl, sym, ◌∙◌, ap, subst, Bool, true, false, cond}
+use Rattle.std.proofs.Common.{◌≡◌, List, [], ◌∷◌, ◌++◌, inl, inr, refl, sym, ◌∙◌, ap, subst, Bool, true, false, cond}
 use Rattle.std.specs.Prelude.{filter}
-use Rattle.lhm_ring.proofs.lists.Rearranged.{PutsIn-there}
-use Rattle.lhm_ring.specs.Index.{PutsIn}
+use Rattle.lhm_ring.proofs.lists.Rearranged.{PutsIn-there, IsRearranged-member}
+use Rattle.lhm_ring.specs.Index.{PutsIn, IsRearranged}
 
 pub PutsIn-filter_in : {X : Type 0} (p : X → Bool) (x : X) (xs ys : List X) → PutsIn x xs ys → p x ≡ true → PutsIn x (filter p xs) (filter p ys)
 PutsIn-filter_in p x xs [] h t = absurd h
@@ -39,7 +39,7 @@ pub record PutsPassing {X : Type 0} (p : X → Bool) (x : X) (xs : List X) : Typ
   pub passes : p x ≡ true
 
 -- what is put among the kept ones is put among all, and is kept
-pub PutsPassing-filter : {X : Type 0} (p : X → Bool) (x : X) (us xs : List X) → PutsIn x us (filter p xs) → PutsPassing p x xs
+PutsPassing-filter : {X : Type 0} (p : X → Bool) (x : X) (us xs : List X) → PutsIn x us (filter p xs) → PutsPassing p x xs
 PutsPassing-filter p x us [] h = absurd h
 PutsPassing-filter {X} p x us (y ∷ ys) h =
     let goal : Type 0 = PutsPassing p x (y ∷ ys) in
@@ -56,3 +56,9 @@ PutsPassing-filter {X} p x us (y ∷ ys) h =
           record { without = y ∷ i.without; puts = PutsIn-there x y i.without ys i.puts; passes = i.passes }
     ] in
     step (p y) refl h
+
+-- each element of a list is kept, if the list is what is kept in another order
+pub PutsPassing-rearranged : {X : Type 0} (p : X → Bool) (us : List X) (x : X) (vs xs : List X) → IsRearranged (us ++ x ∷ vs) (filter p xs)
+    → PutsPassing p x xs
+PutsPassing-rearranged p us x vs xs h =
+    let m = IsRearranged-member us x vs (filter p xs) h in PutsPassing-filter p x m.0 xs m.1

@@ -39,13 +39,13 @@ module _ {K V : Type 0} (i : BucketState) (s t : State (K × V)) (h : IsIndexed 
   -- a triple was moved to the back
   pub IsIndexed-to_back : (p : Ptr) → IsHeld s.held p → AtHeld s.held p (λ xs x ys. t.held ≡ (xs ++ ys) ++ x ∷ []) → IsIndexed i t
   IsIndexed-to_back p k last =
-      let e : t.held ≡ (k.before ++ k.after) ++ k.node ∷ [] = last k.before k.node k.after k.is k.at_is in
-      let c : Indexes i (spots (k.before ++ k.node ∷ k.after)) = subst (λ (v : List (Held (K × V))). Indexes i (spots v)) k.is h.indexes in
+      let e = last k.before k.node k.after k.is k.at_is in
+      let c = subst (λ (v : List (Held (K × V))). Indexes i (spots v)) k.is h.indexes in
       let a : length t.held ≡ length ((k.before ++ k.after) ++ k.node ∷ []) = ap length e in
       let b : length s.held ≡ length (k.before ++ k.node ∷ k.after) = ap length k.is in
-      let f : length ((k.before ++ k.after) ++ k.node ∷ []) ≡ length (k.before ++ k.after) + 1 = length-append (k.before ++ k.after) (k.node ∷ []) in
-      let g : length (k.before ++ k.after) ≡ length k.before + length k.after = length-append k.before k.after in
-      let m : length (k.before ++ k.node ∷ k.after) ≡ length k.before + length (k.node ∷ k.after) = length-append k.before (k.node ∷ k.after) in
+      let f = length-append (k.before ++ k.after) (k.node ∷ []) in
+      let g = length-append k.before k.after in
+      let m = length-append k.before (k.node ∷ k.after) in
       let all : length s.held + s.spares ≡ length t.held + t.spares = omega (arith, a, b, f, g, m, spares) in
       record {
         indexes = subst (λ (v : List (Held (K × V))). Indexes i (spots v)) (sym e) (Indexes-to_back i k.before k.node k.after c);

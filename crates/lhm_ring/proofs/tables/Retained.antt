@@ -143,10 +143,7 @@ module _ {F K V : Type 0} (T : F → K → V → Bool → V → F → Type 0) (Q
         pub left_from-smaller : IsApart (pointers_of now) → left_from next' new < left_from next now
         left_from-smaller d =
             let cut = subst (λ l. IsApart (pointers_of l)) now-cut d in
-            let before : left_from next now ≡ length (n.node ∷ n.after) =
-            ap (λ o. left_from o now) (m.next_is ∙ ap first_at n.is) ∙ ap (left_from (Some n.node.at)) now-cut ∙ left_from-append m.kept (n.node ∷ n.after) cut in
-            let apart : IsApart (pointers_of (kept' ++ n.after)) =
-            subst (λ l. IsApart (pointers_of l)) (sym (append-cond made.returned (revalued made.value n.node) n.after)) (IsApart-new made.returned made.value cut) in
-            let after : left_from next' new ≡ length n.after =
-            ap (λ o. left_from o new) next-new ∙ ap (left_from (first_at n.after)) new-kept ∙ left_from-append kept' n.after apart in
+            let before = ap (λ o. left_from o now) (m.next_is ∙ ap first_at n.is) ∙ ap (left_from (Some n.node.at)) now-cut ∙ left_from-append m.kept (n.node ∷ n.after) cut in
+            let apart = subst (λ l. IsApart (pointers_of l)) (sym (append-cond made.returned (revalued made.value n.node) n.after)) (IsApart-new made.returned made.value cut) in
+            let after = ap (λ o. left_from o new) next-new ∙ ap (left_from (first_at n.after)) new-kept ∙ left_from-append kept' n.after apart in
             omega (arith, before, after)

@@ -13,8 +13,8 @@ position-here-requires g c =
 
 pub chain-init : goal.chain-init
 chain-init g c = record {
-  towards = IsTowards-start c.set_link.new.self.held (target c.links.result.now.link) (pointer_of c.position-here.result) c.requires.indexed.chains
-      c.requires.held c.requires.hash c.links.ensures.link
+  towards = IsTowards-start c.requires.indexed.chains c.requires.held c.requires.hash c.set_link.new.self.held
+      (target c.links.result.now.link) (pointer_of c.position-here.result) c.links.ensures.link
       (λ xs t ys e at. c.set_link.ensures.held xs t ys e at ∙ ap (λ o. xs ++ linked_to o t ∷ ys) c.none.ensures)
       (sym c.position-here.ensures ∙ c.head-head.ensures
       ∙ ap (λ b. get_or c.args.self.now.heads b None) c.bucket_of.ensures.of_hash);
@@ -33,7 +33,7 @@ chain-smaller g c = omega (arith, passed-below c.chain.invariant.towards)
 
 pub chain-preserved : goal.chain-preserved
 chain-preserved g c = record {
-  towards = IsTowards-next (target c.links-in-chain.result.now.link) (pointer_of c.in-Some.next) c.chain.invariant.towards
+  towards = IsTowards-next c.chain.invariant.towards (target c.links-in-chain.result.now.link) (pointer_of c.in-Some.next)
       c.links-in-chain.ensures.link (sym c.get.ensures ∙ ap pointer_of_some c.in-Some.is);
   spares = c.chain.invariant.spares;
   nodes = c.chain.invariant.nodes;
@@ -44,12 +44,12 @@ set_link-requires-2 g c = IsHeld-towards_cut c.chain.invariant.towards
 
 pub returns-clause-on_chain : goal.returns-clause-on_chain
 returns-clause-on_chain g c =
-    IsOnChain-towards (target c.links-in-chain.result.now.link) c.chain.invariant.towards c.links-in-chain.ensures.link
+    IsOnChain-towards c.chain.invariant.towards (target c.links-in-chain.result.now.link) c.links-in-chain.ensures.link
     (sym c.get.ensures ∙ ap pointer_of_some c.in_default.is)
 
 pub returns-clause-ring : goal.returns-clause-ring
 returns-clause-ring g c =
     State-equal c.set_link-2.new.self c.args.ring.now
-    (nodes-mended c.set_link-2.new.self.held c.chain.invariant.towards c.set_link-2.ensures.held)
+    (nodes-mended c.chain.invariant.towards c.set_link-2.new.self.held c.set_link-2.ensures.held)
     (c.set_link-2.ensures.spares ∙ c.chain.invariant.spares)
     (c.set_link-2.ensures.nodes ∙ c.chain.invariant.nodes)

@@ -1,4 +1,4 @@
-use Rattle.std.proofs.Common.{◌≡◌, ℕ, ◌-◌, ◌%◌, ◌∙◌, subst, sym, ap, arith, length, map}
+use Rattle.std.proofs.Common.{◌≡◌, ℕ, ◌-◌, ◌%◌, ◌∙◌, subst, sym, ap, arith, length}
 use Rattle.std.specs.Prelude.{bit_and}
 use Rattle.std.proofs.lemmas.List.{length-map}
 use Rattle.std.proofs.lemmas.Nat.{and_mask}
@@ -11,7 +11,7 @@ returns-clause-of_hash g c =
     let items = c.self.inside.heads.items in
     let n : ℕ = length c.args.self.now.heads in
     let long = length-map items leads_to in
-    let seen : length (map leads_to items) ≡ n = ap (λ (z : BucketState). length z.heads) c.self.view_is in
+    let seen = ap (λ (z : BucketState). length z.heads) c.self.view_is in
     let many : c.len.result ≡ n = omega (arith, c.len.ensures, c.self.inside.heads.ok, long, seen) in
     let p = IsPowerOfTwo-count n c.requires (subst IsBucketCount (sym long ∙ seen) c.self.invariant.power) in
     let P : ℕ → Type 0 = λ m. bit_and c.args.hash (m - 1) ≡ c.args.hash % m in

@@ -1,4 +1,4 @@
-use Rattle.std.proofs.Common.{◌%◌, ap, sym, refl, ◌∙◌, subst, ◌<◌, ℕ, length, None, get_or, ◌≡◌}
+use Rattle.std.proofs.Common.{ap, sym, refl, ◌∙◌, subst, ◌<◌, ℕ, length, None, get_or}
 use Rattle.lhm_ring.proofs.indexes.Filters.{IsAbsent-uncovered}
 use Rattle.lhm_ring.proofs.indexes.Searches.{IsPart-first, FindsNone-part}
 use Rattle.lhm_ring.proofs.index.Index.position.Goals as goal
@@ -13,7 +13,6 @@ pub returns-in_default-clause-absent : goal.returns-in_default-clause-absent
 returns-in_default-clause-absent g c =
     let heads = c.args.self.now.heads in
     let bucket = c.bucket_of-bucket.ensures in
-    let none : None ≡ get_or heads (c.args.hash % length heads) None =
-    sym (ap pointer_of_some c.in_default.is) ∙ c.get.ensures ∙ c.head.ensures ∙ ap (λ b. get_or heads b None) bucket.of_hash in
+    let none = sym (ap pointer_of_some c.in_default.is) ∙ c.get.ensures ∙ c.head.ensures ∙ ap (λ b. get_or heads b None) bucket.of_hash in
     (FindsNone-part (IsPart-first {eq = g.K.PartialEq.eq} {key = c.args.key.now} {before = None} {pointer = None} {visited = 0} {compared = 0}
-    refl none refl refl (subst (λ (b : ℕ). b < length heads) bucket.of_hash bucket.within) c.requires.indexed.chains)).absent
+    refl none refl refl (subst (λ (b : ℕ). b < length heads) bucket.of_hash bucket.within) c.requires.indexed.chains) refl).absent

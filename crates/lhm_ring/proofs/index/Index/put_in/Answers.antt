@@ -9,7 +9,7 @@ pub returns-clause-first : goal.returns-clause-first
 returns-clause-first g c = λ before x after e at.
     let heads = c.args.self.now.heads in
     let own = c.links.ensures.hash before x after e at in
-    let bucket : c.bucket_of-bucket.result ≡ x.hash % length heads = c.bucket_of-bucket.ensures.of_hash ∙ ap (λ h. h % length heads) own in
+    let bucket = c.bucket_of-bucket.ensures.of_hash ∙ ap (λ h. h % length heads) own in
     let head : target c.to.result ≡ Some x.at = c.to.ensures ∙ ap Some (sym at) in
     record {
       nodes_is = c.set_link.ensures.held before x after e at

@@ -1,25 +1,25 @@
-use Rattle.std.proofs.Common.{arith, ap, ◌∙◌, Some, None}
-use Rattle.lhm_ring.proofs.indexes.Searches.{IsPart-same, IsHeld-part, visited-below, IsPart-more, FindsKey-part, FindsNone-part}
+use Rattle.std.proofs.Common.{arith, ap, ◌∙◌}
+use Rattle.lhm_ring.proofs.indexes.Searches.{IsHeld-part, visited-below, IsPart-more, FindsKey-part, FindsNone-part}
 use Rattle.lhm_ring.proofs.index.Index.search_on.Goals as goal
-use Rattle.lhm_ring.specs.Pointer.{pointer_of, pointer_of_some}
+use Rattle.lhm_ring.specs.Pointer.{pointer_of_some}
 
 pub step-requires-clause-held : goal.step-requires-clause-held
-step-requires-clause-held g c = IsHeld-part (IsPart-same (Some (pointer_of c.in-Some.at)) (ap pointer_of_some c.in-Some.is) c.loop-pointer.invariant)
+step-requires-clause-held g c = IsHeld-part c.loop-pointer.invariant (ap pointer_of_some c.in-Some.is)
 
 pub step-requires-clause-no_overflow : goal.step-requires-clause-no_overflow
-step-requires-clause-no_overflow g c = omega (arith, visited-below (IsPart-same (Some (pointer_of c.in-Some.at)) (ap pointer_of_some c.in-Some.is) c.loop-pointer.invariant), c.requires.small)
+step-requires-clause-no_overflow g c = omega (arith, visited-below c.loop-pointer.invariant (ap pointer_of_some c.in-Some.is), c.requires.small)
 
 pub returns-then-step-clause-found : goal.returns-then-step-clause-found
-returns-then-step-clause-found g c = FindsKey-part c.step.new.probe.visited c.step.new.probe.compared c.step.result (IsPart-same (Some (pointer_of c.in-Some.at)) (ap pointer_of_some c.in-Some.is) c.loop-pointer.invariant) c.step.ensures.visited c.step.ensures.compared c.step.ensures.found c.if-step.true
+returns-then-step-clause-found g c = FindsKey-part c.loop-pointer.invariant (ap pointer_of_some c.in-Some.is) c.step.ensures.visited c.step.ensures.compared c.step.ensures.found c.if-step.true
 
 pub links-requires : goal.links-requires
-links-requires g c = IsHeld-part (IsPart-same (Some (pointer_of c.in-Some.at)) (ap pointer_of_some c.in-Some.is) c.loop-pointer.invariant)
+links-requires g c = IsHeld-part c.loop-pointer.invariant (ap pointer_of_some c.in-Some.is)
 
 pub loop-pointer-smaller : goal.loop-pointer-smaller
-loop-pointer-smaller g c = omega (arith, visited-below (IsPart-same (Some (pointer_of c.in-Some.at)) (ap pointer_of_some c.in-Some.is) c.loop-pointer.invariant), c.step.ensures.visited)
+loop-pointer-smaller g c = omega (arith, visited-below c.loop-pointer.invariant (ap pointer_of_some c.in-Some.is), c.step.ensures.visited)
 
 pub loop-pointer-preserved : goal.loop-pointer-preserved
-loop-pointer-preserved g c = IsPart-more c.step.new.probe.visited c.step.new.probe.compared c.step.result (pointer_of_some c.get-pointer.result) (IsPart-same (Some (pointer_of c.in-Some.at)) (ap pointer_of_some c.in-Some.is) c.loop-pointer.invariant) c.step.ensures.visited c.step.ensures.compared c.step.ensures.found c.if-step.false (λ b x a i j. c.get-pointer.ensures ∙ c.links.ensures.link b x a i j)
+loop-pointer-preserved g c = IsPart-more c.loop-pointer.invariant (ap pointer_of_some c.in-Some.is) c.step.ensures.visited c.step.ensures.compared c.step.ensures.found c.if-step.false (λ b x a i j. c.get-pointer.ensures ∙ c.links.ensures.link b x a i j)
 
 pub returns-clause-absent : goal.returns-clause-absent
-returns-clause-absent g c = FindsNone-part (IsPart-same None (ap pointer_of_some c.in_default.is) c.loop-pointer.invariant)
+returns-clause-absent g c = FindsNone-part c.loop-pointer.invariant (ap pointer_of_some c.in_default.is)

@@ -10,25 +10,24 @@ pub links-requires : goal.links-requires
 links-requires g c = IsHeld-on_chain c.requires.on_chain
 
 pub set_link-requires : goal.set_link-requires
-set_link-requires g c = IsHeld-before (pointer_of c.in-Some.before) (ap pointer_of_some c.in-Some.is) c.requires.on_chain
+set_link-requires g c = IsHeld-before c.requires.on_chain (ap pointer_of_some c.in-Some.is)
 
 pub returns-in-Some-clause-held : goal.returns-in-Some-clause-held
 returns-in-Some-clause-held g c =
     entries-linked_to c.args.ring.now.held c.set_link.new.self.held (pointer_of c.in-Some.before) (target c.links.result.now.link)
-    (IsHeld-before (pointer_of c.in-Some.before) (ap pointer_of_some c.in-Some.is) c.requires.on_chain) c.set_link.ensures.held
+    (IsHeld-before c.requires.on_chain (ap pointer_of_some c.in-Some.is)) c.set_link.ensures.held
 
 pub returns-in-Some-clause-lacks : goal.returns-in-Some-clause-lacks
 returns-in-Some-clause-lacks g c =
     HoldsOthers-next c.args.ring.now.held c.args.self.now c.requires.indexed (returns-in-Some-clause-held g c)
-    (HasOtherChains-take_next c.set_link.new.self.held (pointer_of c.in-Some.before) (target c.links.result.now.link)
-    (ap pointer_of_some c.in-Some.is) c.requires.indexed.chains c.requires.on_chain c.links.ensures.link c.set_link.ensures.held)
+    (HasOtherChains-take_next c.requires.on_chain (ap pointer_of_some c.in-Some.is) c.requires.indexed.chains c.links.ensures.link c.set_link.ensures.held)
 
 pub returns-in-None-clause-lacks : goal.returns-in-None-clause-lacks
 returns-in-None-clause-lacks g c =
     let heads = c.args.self.now.heads in
     let link = target c.links.result.now.link in
     let new = c.set_head.ensures in
-    let chains = HasOtherChains-take_first link (ap pointer_of_some c.in-None.is) c.requires.indexed.chains c.requires.on_chain c.links.ensures.link in
+    let chains = HasOtherChains-take_first c.requires.on_chain (ap pointer_of_some c.in-None.is) c.requires.indexed.chains c.links.ensures.link in
     HoldsOthers-head _ _ c.bucket_of.result link c.bucket_of.ensures.within new.heads new.others new.same new.count c.requires.indexed
     (subst (λ (hs : List (Option Ptr)). HasOtherChains hs c.args.ring.now.held (pointer_of c.args.found.at))
     (sym (new.heads ∙ ap (λ b. set heads b link) c.bucket_of.ensures.of_hash)) chains)

@@ -39,7 +39,7 @@ invariant_of-self-in-Ok g c =
     let few : length i.index.heads < c.args.capacity = omega (arith, c.if-capacity-buckets.false, c.buckets.ensures) in
     let more = c.capacity.ensures.value in
     let sum : length i.ring.held + c.take_over.new.ring.spares ≡ c.args.capacity = omega (arith, all, up, more, grown.spares, taken.spares) in
-    let wide : length c.take_over.new.self.heads ≡ buckets c.args.capacity = taken.buckets ∙ fresh.buckets in
+    let wide = taken.buckets ∙ fresh.buckets in
     let count : c.take_over.result ≡ length i.ring.held = taken.count ∙ ap length grown.held in
     let made = grown.nodes_within (omega (arith, c.self.invariant.nodes_within, few, c.buckets-2.ensures, fresh.enough))
     (omega (arith, all, up, more, c.buckets-2.ensures, fresh.enough)) in

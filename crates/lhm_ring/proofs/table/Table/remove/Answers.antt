@@ -21,7 +21,7 @@ returns-clause-removed g c =
     let p = pointer_of c.in_ok-at.at in
     let ks = c.take_out.new.ring.held in
     let taken = c.in_ok-at.ensures in
-    let has = HasKey-kept g.K.PartialEq.eq c.args.hash c.args.key.now ks i.ring.held p (sym taken.held) taken.found in
+    let has = HasKey-kept ks i.ring.held p (sym taken.held) g.K.PartialEq.eq c.args.hash c.args.key.now taken.found in
     record {
       at = p;
       has = rw (← c.self.view_is) (HasKey-entries g.K.PartialEq.eq c.args.hash c.args.key.now i.ring.held p has);

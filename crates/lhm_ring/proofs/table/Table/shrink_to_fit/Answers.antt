@@ -1,15 +1,14 @@
-use Rattle.std.proofs.Common.{◌≡◌, ◌+◌, length, ap, sym, ◌∙◌, arith}
+use Rattle.std.proofs.Common.{◌+◌, length, ap, sym, ◌∙◌, arith}
 use Rattle.lhm_ring.proofs.indexes.BucketCounts.{buckets-zero, rechained_fitted-none}
 use Rattle.lhm_ring.proofs.indexes.Entries.{length-entries}
 use Rattle.lhm_ring.proofs.table.Table.shrink_to_fit.Goals as goal
 use Rattle.lhm_ring.specs.Buckets.{buckets, rechained_fitted}
-use Rattle.lhm_ring.specs.Index.{entries}
 
 pub returns-then-len-eq0-clause-rechained : goal.returns-then-len-eq0-clause-rechained
 returns-then-len-eq0-clause-rechained g c =
     let i = c.self.inside in
     let capacity = length i.ring.held + i.ring.spares in
-    let none : length (entries i.ring.held) ≡ 0 = length-entries i.ring.held ∙ sym c.len-len.ensures.value ∙ c.if-len-eq0.true in
+    let none = length-entries i.ring.held ∙ sym c.len-len.ensures.value ∙ c.if-len-eq0.true in
     rw (← c.self.view_is) (
     c.free.ensures.rechained
     ∙ sym (ap (λ n. rechained_fitted i.rechained n capacity) none ∙ rechained_fitted-none i.rechained capacity (λ e.
