@@ -8,7 +8,8 @@ use Rattle.lhm_ring.specs.declared.pointer.Link.{Link}
 use Rattle.std.specs.Borrow.{GName}
 use Rattle.lhm_ring.specs.declared.drain.Drain.{Drain}
 use Rattle.lhm_ring.specs.Nodes.{Cell, IsApart}
-use Rattle.lhm_ring.specs.Links.{AreLinked, IsSpareList, next_at, prev_at, is_there, IsThere, content_at, ring_list, IsOwned, IsSpan, span_triples}
+use Rattle.lhm_ring.specs.Links.{AreLinked, IsSpareList, next_at, prev_at, is_there, IsThere}
+use Rattle.lhm_ring.specs.Links.{content_at, ring_list, IsOwned, IsSpan, span_triples}
 use Rattle.lhm_ring.specs.Ring.{Held, triples}
 
 -- the pointers ps, the last first, and then ss

@@ -1,5 +1,6 @@
 -- What a search along a chain finds, and how it counts.
-use Rattle.std.specs.Prelude.{◌≡◌, ℕ, ◌%◌, ◌≤◌, ◌==◌, ◌&&◌, Bool, true, false, List, [], ◌∷◌, ◌++◌, length, Option, None, filter, slice_index_or}
+use Rattle.std.specs.Prelude.{◌≡◌, ℕ, ◌%◌, ◌≤◌, ◌==◌, ◌&&◌, Bool, true, false, List, [], ◌∷◌, ◌++◌}
+use Rattle.std.specs.Prelude.{length, Option, None, filter, slice_index_or}
 use denote.RawPtr.{Ptr}
 use Rattle.lhm_ring.specs.Ring.{Held, IsHeld}
 use Rattle.lhm_ring.specs.Index.{OfNodeAt, IsLast, IsOnChain, IsChain, IsRearranged, is_in, Spot, spots, same, beside}

@@ -21,14 +21,16 @@ pub none-IsChain : (rest : List Spot) → IsChain None rest → rest ≡ []
 none-IsChain [] h = refl
 none-IsChain (s ∷ rest) h = absurd (let e : None ≡ Some s.at = h.0 in cc)
 
-pub HasChain-push : (h : Option Ptr) (n b : ℕ) (s : Spot) (xs ys : List Spot) → HasChain h n b xs → s.link ≡ h → is_in n b s ≡ true → PutsIn s xs ys → HasChain (Some s.at) n b ys
+pub HasChain-push : (h : Option Ptr) (n b : ℕ) (s : Spot) (xs ys : List Spot) → HasChain h n b xs
+    → s.link ≡ h → is_in n b s ≡ true → PutsIn s xs ys → HasChain (Some s.at) n b ys
 HasChain-push h n b s xs ys c e t p = record {
   chain = s ∷ c.chain;
   linked = (refl, subst (λ (v : Option Ptr). IsChain v c.chain) (sym e) c.linked);
   holds = record { without = filter (is_in n b) xs; puts = PutsIn-filter_in (is_in n b) s xs ys p t; others = c.holds };
 }
 
-pub HasChain-other : (h : Option Ptr) (n b : ℕ) (s : Spot) (xs ys : List Spot) → HasChain h n b xs → is_in n b s ≡ false → PutsIn s xs ys → HasChain h n b ys
+pub HasChain-other : (h : Option Ptr) (n b : ℕ) (s : Spot) (xs ys : List Spot) → HasChain h n b xs
+    → is_in n b s ≡ false → PutsIn s xs ys → HasChain h n b ys
 HasChain-other h n b s xs ys c t p = record {
   chain = c.chain;
   linked = c.linked;
@@ -36,7 +38,8 @@ HasChain-other h n b s xs ys c t p = record {
 }
 
 -- the same, with the spot taken away
-pub HasChain-other_removed : (h : Option Ptr) (n b : ℕ) (s : Spot) (xs ys : List Spot) → HasChain h n b ys → is_in n b s ≡ false → PutsIn s xs ys → HasChain h n b xs
+pub HasChain-other_removed : (h : Option Ptr) (n b : ℕ) (s : Spot) (xs ys : List Spot)
+    → HasChain h n b ys → is_in n b s ≡ false → PutsIn s xs ys → HasChain h n b xs
 HasChain-other_removed h n b s xs ys c t p = record {
   chain = c.chain;
   linked = c.linked;
@@ -44,7 +47,9 @@ HasChain-other_removed h n b s xs ys c t p = record {
 }
 
 -- a later spot is removed: the one before it is linked past it
-pub IsChain-linked_past : (h : Option Ptr) (done : List Spot) (y y' s : Spot) (rest : List Spot) → y'.at ≡ y.at → y'.link ≡ s.link → IsChain h (done ++ y ∷ s ∷ rest) → IsChain h (done ++ y' ∷ rest)
+pub IsChain-linked_past : (h : Option Ptr) (done : List Spot) (y y' s : Spot) (rest : List Spot)
+    → y'.at ≡ y.at → y'.link ≡ s.link → IsChain h (done ++ y ∷ s ∷ rest)
+    → IsChain h (done ++ y' ∷ rest)
 IsChain-linked_past h [] y y' s rest a l c = (c.0 ∙ ap Some (sym a), subst (λ (v : Option Ptr). IsChain v rest) (sym l) c.1.1)
 IsChain-linked_past h (d ∷ done) y y' s rest a l c = (c.0, IsChain-linked_past d.link done y y' s rest a l c.1)
 

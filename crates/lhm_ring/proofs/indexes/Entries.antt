@@ -1,5 +1,6 @@
 -- Nodes with no chain link: what a change of chain links alone leaves.
-use Rattle.std.proofs.Common.{◌≡◌, ℕ, List, [], ◌∷◌, ◌++◌, refl, sym, ◌∙◌, ap, Bool, Option, None, ◌%◌, true, false, cond, length, map, Some, subst, eqb, arith}
+use Rattle.std.proofs.Common.{◌≡◌, ℕ, List, [], ◌∷◌, ◌++◌, refl, sym, ◌∙◌, ap, Bool, Option, None}
+use Rattle.std.proofs.Common.{◌%◌, true, false, cond, length, map, Some, subst, eqb, arith}
 use denote.RawPtr.{Ptr}
 use Rattle.std.specs.Prelude.{count_by}
 use Rattle.std.proofs.lemmas.List.{map-append, length-map}
@@ -9,11 +10,15 @@ use Rattle.lhm_ring.specs.Index.{OfNodeAt, entries, spot, spots, same, beside}
 use Rattle.lhm_ring.specs.Search.{HasKey, IsAbsent, Compares, CountsSome, CountsAll}
 use Rattle.lhm_ring.specs.Nodes.{same_ptr}
 
-pub entries-link : {K V : Type 0} (before : List (Held (K × V))) (x : Held (K × V)) (after : List (Held (K × V))) (l : Option Ptr) → entries (before ++ linked_to l x ∷ after) ≡ entries (before ++ x ∷ after)
+pub entries-link : {K V : Type 0} (before : List (Held (K × V))) (x : Held (K × V))
+    (after : List (Held (K × V))) (l : Option Ptr) → entries (before ++ linked_to l x ∷ after)
+    ≡ entries (before ++ x ∷ after)
 entries-link [] x after l = refl
 entries-link (y ∷ before) x after l = ap (λ v. linked_to None y ∷ v) (entries-link before x after l)
 
-pub entries-linked_to : {K V : Type 0} (old new : List (Held (K × V))) (p : Ptr) (l : Option Ptr) → IsHeld old p → AtHeld old p (λ before x after. new ≡ before ++ linked_to l x ∷ after) → entries new ≡ entries old
+pub entries-linked_to : {K V : Type 0} (old new : List (Held (K × V))) (p : Ptr) (l : Option Ptr)
+    → IsHeld old p → AtHeld old p (λ before x after. new ≡ before ++ linked_to l x ∷ after)
+    → entries new ≡ entries old
 entries-linked_to old new p l h s =
     ap entries (s h.before h.node h.after h.is h.at_is) ∙ entries-link h.before h.node h.after l ∙ ap entries (sym h.is)
 
@@ -27,10 +32,16 @@ module _ {K V : Type 0} where
     pub before_is : entries split.before ≡ xs
     pub after_is : entries split.after ≡ ys
 
-  pub EntriesCut-split : (hs xs : List (Held (K × V))) (t : Held (K × V)) (ys : List (Held (K × V))) → entries hs ≡ xs ++ t ∷ ys → EntriesCut hs xs t ys
+  pub EntriesCut-split : (hs xs : List (Held (K × V))) (t : Held (K × V)) (ys : List (Held (K × V)))
+      → entries hs ≡ xs ++ t ∷ ys → EntriesCut hs xs t ys
   EntriesCut-split [] [] t ys e = absurd (cc)
   EntriesCut-split [] (x ∷ xs) t ys e = absurd (cc)
-  EntriesCut-split (h ∷ hs) [] t ys e = record { split = record { before = []; node = h; after = hs; is = refl; at_is = (cc) }; before_is = refl; after_is = (cc) }
+  EntriesCut-split (h ∷ hs) [] t ys e =
+      record {
+        split = record { before = []; node = h; after = hs; is = refl; at_is = (cc) };
+        before_is = refl;
+        after_is = (cc);
+      }
   EntriesCut-split (h ∷ hs) (x ∷ xs) t ys e =
       let rest : entries hs ≡ xs ++ t ∷ ys = cc in
       let first : linked_to None h ≡ x = cc in
@@ -91,10 +102,13 @@ module _ {K V : Type 0} where
   last_at-entries [] = refl
   last_at-entries (t ∷ hs) = ap Some (last_of-entries t hs)
 
-  pub entries-change_at : (p : Ptr) (w : V) (hs : List (Held (K × V))) → entries (change_at p (revalued w) hs) ≡ change_at p (revalued w) (entries hs)
+  pub entries-change_at : (p : Ptr) (w : V) (hs : List (Held (K × V)))
+      → entries (change_at p (revalued w) hs) ≡ change_at p (revalued w) (entries hs)
   entries-change_at p w [] = refl
   entries-change_at p w (t ∷ hs) =
-      elim (same_ptr t.at p) as (λ b. linked_to None (cond b (revalued w t) t) ∷ entries (change_at p (revalued w) hs) ≡ cond b (revalued w (linked_to None t)) (linked_to None t) ∷ change_at p (revalued w) (entries hs)) [
+      elim (same_ptr t.at p) as (λ b. linked_to None (cond b (revalued w t) t) ∷ entries
+      (change_at p (revalued w) hs) ≡ cond b (revalued w (linked_to None t)) (linked_to None t) ∷
+      change_at p (revalued w) (entries hs)) [
         | true ↦ ap (λ ys. linked_to None (revalued w t) ∷ ys) (entries-change_at p w hs)
         | false ↦ ap (λ ys. linked_to None t ∷ ys) (entries-change_at p w hs)
       ]
@@ -103,23 +117,30 @@ module _ {K V : Type 0} where
   pub IsHeld-entries : (hs : List (Held (K × V))) (p : Ptr) → IsHeld (entries hs) p → IsHeld hs p
   IsHeld-entries hs p h = IsHeld-kept (entries hs) hs p (sym (entries-entries hs)) h
 
-  pub AtHeld-entries : (hs : List (Held (K × V))) (p : Ptr) (P : List (Held (K × V)) → Held (K × V) → List (Held (K × V)) → Type 0) → AtHeld hs p (λ xs t ys. P (entries xs) (linked_to None t) (entries ys)) → AtHeld (entries hs) p P
+  pub AtHeld-entries : (hs : List (Held (K × V))) (p : Ptr) (P : List (Held (K × V)) → Held (K × V)
+      → List (Held (K × V)) → Type 0)
+      → AtHeld hs p (λ xs t ys. P (entries xs) (linked_to None t) (entries ys))
+      → AtHeld (entries hs) p P
   AtHeld-entries hs p P h xs t ys e at =
       let i : EntriesCut hs xs t ys = EntriesCut-split hs xs t ys e in
       let k = i.split in
       let seen = h k.before k.node k.after k.is (ap (λ (u : Held (K × V)). u.at) k.at_is ∙ at) in
-      subst (λ (z : List (Held (K × V)) × (Held (K × V) × List (Held (K × V)))). P z.0 z.1.0 z.1.1) (λ j. (i.before_is j, (k.at_is j, i.after_is j))) seen
+      subst (λ (z : List (Held (K × V)) × (Held (K × V) × List (Held (K × V)))). P z.0 z.1.0 z.1.1)
+      (λ j. (i.before_is j, (k.at_is j, i.after_is j))) seen
 
   -- searches
-  pub HasKey-entries : (eq : K → K → Bool) (hash : ℕ) (key : K) (hs : List (Held (K × V))) (p : Ptr) → HasKey eq hash key hs p → HasKey eq hash key (entries hs) p
+  pub HasKey-entries : (eq : K → K → Bool) (hash : ℕ) (key : K) (hs : List (Held (K × V))) (p : Ptr)
+      → HasKey eq hash key hs p → HasKey eq hash key (entries hs) p
   HasKey-entries eq hash key hs p h = HasKey-kept hs (entries hs) p (entries-entries hs) eq hash key h
 
-  pub IsAbsent-entries : (eq : K → K → Bool) (hash : ℕ) (key : K) (hs : List (Held (K × V))) → IsAbsent eq hash key hs → IsAbsent eq hash key (entries hs)
+  pub IsAbsent-entries : (eq : K → K → Bool) (hash : ℕ) (key : K) (hs : List (Held (K × V)))
+      → IsAbsent eq hash key hs → IsAbsent eq hash key (entries hs)
   IsAbsent-entries eq hash key hs none xs t ys e =
       let k = (EntriesCut-split hs xs t ys e).split in
       subst (λ (u : Held (K × V)). Compares eq hash key u false) k.at_is (none k.before k.node k.after k.is)
 
-  count_by-entries : (test : ℕ → Bool) (hs : List (Held (K × V))) → count_by (λ s. test s.hash) (spots (entries hs)) ≡ count_by (λ s. test s.hash) (spots hs)
+  count_by-entries : (test : ℕ → Bool) (hs : List (Held (K × V))) → count_by (λ s. test s.hash)
+      (spots (entries hs)) ≡ count_by (λ s. test s.hash) (spots hs)
   count_by-entries test [] = refl
   count_by-entries test (t ∷ hs) =
       let rest = count_by-entries test hs in
@@ -133,14 +154,23 @@ module _ {K V : Type 0} where
   pub beside-entries : (hs : List (Held (K × V))) (n hash : ℕ) → beside (spots (entries hs)) n hash ≡ beside (spots hs) n hash
   beside-entries hs n hash = count_by-entries (λ m. eqb (m % n) (hash % n)) hs
 
-  pub CountsSome-entries : (hs : List (Held (K × V))) (m n hash visited compared : ℕ) → m ≡ n → CountsSome (spots hs) m hash visited compared → CountsSome (spots (entries hs)) n hash visited compared
+  pub CountsSome-entries : (hs : List (Held (K × V))) (m n hash visited compared : ℕ) → m ≡ n
+      → CountsSome (spots hs) m hash visited compared → CountsSome (spots (entries hs)) n hash
+      visited compared
   CountsSome-entries hs m n hash visited compared wide c =
       let all = same-entries hs hash in
       let near = beside-entries hs m hash in
       let here = ap (λ k. beside (spots (entries hs)) k hash) wide in
-      record { some = c.some; compared_few = omega (arith, all, c.compared_few); order = c.order; visited_few = omega (arith, near, here, c.visited_few) }
+      record {
+        some = c.some;
+        compared_few = omega (arith, all, c.compared_few);
+        order = c.order;
+        visited_few = omega (arith, near, here, c.visited_few);
+      }
 
-  pub CountsAll-entries : (hs : List (Held (K × V))) (m n hash visited compared : ℕ) → m ≡ n → CountsAll (spots hs) m hash visited compared → CountsAll (spots (entries hs)) n hash visited compared
+  pub CountsAll-entries : (hs : List (Held (K × V))) (m n hash visited compared : ℕ) → m ≡ n
+      → CountsAll (spots hs) m hash visited compared → CountsAll (spots (entries hs)) n hash visited
+      compared
   CountsAll-entries hs m n hash visited compared wide c = record {
     visited_all = c.visited_all ∙ sym (beside-entries hs m hash) ∙ ap (λ k. beside (spots (entries hs)) k hash) wide;
     compared_all = c.compared_all ∙ sym (same-entries hs hash);

@@ -29,7 +29,8 @@ module _ (words : List ℕ) (b word : ℕ) where
       ∙ ap (λ x. has_bit x hash) (get_or-set_same words b word 0 l)
 
   may_contain-set_other : (hash : ℕ) → hash % length words ≢ b → may_contain (set words b word) hash ≡ may_contain words hash
-  may_contain-set_other hash other = may_contain-set hash ∙ ap (λ x. has_bit x hash) (get_or-set_other words b (hash % length words) word 0 other)
+  may_contain-set_other hash other = may_contain-set hash ∙ ap (λ x. has_bit x hash)
+      (get_or-set_other words b (hash % length words) word 0 other)
 
 -- the bit of a hash is set
 module _ (words : List ℕ) (hash : ℕ) where
@@ -49,7 +50,11 @@ module _ (words : List ℕ) (hash : ℕ) (small : hash / 2 ^ 60 < 16) (within : 
         | inl here ↦
             let same_word = may_contain-set_same words (hash % length words) _ other here within in
             same_word ∙ (elim (cases_eq (other / 2 ^ 60) (hash / 2 ^ 60)) [
-              | inl bit ↦ eq-eqb _ 1 (ap (bit_at (bit_or (get_or words (hash % length words) 0) (1 * 2 ^ (hash / 2 ^ 60) % 2 ^ 16))) bit ∙ bit_at_set_same w16 (get_or words (hash % length words) 0) (hash / 2 ^ 60) small)
+              | inl bit ↦ eq-eqb _ 1
+                  (ap (bit_at (bit_or (get_or words (hash % length words) 0)
+                  (1 * 2 ^ (hash / 2 ^ 60) % 2 ^ 16))) bit
+                  ∙ bit_at_set_same w16 (get_or words (hash % length words) 0) (hash / 2 ^ 60)
+                  small)
               | inr bit ↦
                   ap (λ x. eqb x 1) (bit_at_set_other w16 (get_or words (hash % length words) 0) (hash / 2 ^ 60) small (other / 2 ^ 60) bit)
                   ∙ ap (λ n. has_bit (get_or words n 0) other) (sym here) ∙ may
@@ -77,17 +82,22 @@ pub SetsBit-written : (items : List Word) (bucket hash number : ℕ) (old : Word
 SetsBit-written items bucket hash number old is inside bit small read =
     let words : List ℕ = map bits_of items in
     let one : ℕ = 1 * 2 ^ number % 2 ^ 16 in
-    let bits = ap bits_of read ∙ sym (get_or-map bits_of items bucket old 0 (let l = length-map items bits_of in omega (arith, l, inside))) in
+    let bits = ap bits_of read
+    ∙ sym (get_or-map bits_of items bucket old 0 (let l = length-map items bits_of in
+    omega (arith, l, inside))) in
     subst (λ (ws : List ℕ). SetsBit words ws hash) (sym (map-set bits_of items bucket (record { bits = bit_or old.bits one })))
-    (subst (λ (n : ℕ). SetsBit words (set words bucket (bit_or n one)) hash) (sym bits) (SetsBit-with_bit words hash bucket number is inside bit small))
+    (subst (λ (n : ℕ). SetsBit words (set words bucket (bit_or n one)) hash) (sym bits)
+    (SetsBit-with_bit words hash bucket number is inside bit small))
 
 -- the bits of one bucket are cleared
-pub may_contain-cleared : (words : List ℕ) (bucket other : ℕ) → other % length words ≢ bucket → may_contain (set words bucket 0) other ≡ may_contain words other
+pub may_contain-cleared : (words : List ℕ) (bucket other : ℕ) → other % length words ≢ bucket
+    → may_contain (set words bucket 0) other ≡ may_contain words other
 may_contain-cleared words bucket other away = may_contain-set_other words bucket 0 other away
 
 -- the spots whose bits are set
 module _ (words : List ℕ) where
-  pub CoversAll-put : (s : Spot) (xs ys : List Spot) → PutsIn s xs ys → may_contain words s.hash ≡ true → CoversAll words xs → CoversAll words ys
+  pub CoversAll-put : (s : Spot) (xs ys : List Spot) → PutsIn s xs ys → may_contain words s.hash
+      ≡ true → CoversAll words xs → CoversAll words ys
   CoversAll-put s xs [] p own c = absurd p
   CoversAll-put s xs (y ∷ ys) (inl p) own c =
       (ap (λ (v : Spot). may_contain words v.hash) (sym p.0) ∙ own, subst (λ (v : List Spot). CoversAll words v) p.1 c)
@@ -122,7 +132,8 @@ module _ (words : List ℕ) where
     hashes-spots (x ∷ xs) = ap (λ ns. x.hash ∷ ns) (hashes-spots xs)
 
     -- chain links alone changed
-    pub CoversAll-entries : (old new : List (Held (K × V))) → entries new ≡ entries old → CoversAll words (spots old) → CoversAll words (spots new)
+    pub CoversAll-entries : (old new : List (Held (K × V))) → entries new ≡ entries old
+        → CoversAll words (spots old) → CoversAll words (spots new)
     CoversAll-entries old new e =
         CoversAll-hashes (spots old) (spots new) (hashes-spots old ∙ ap (map (λ t. t.hash)) (sym e) ∙ sym (hashes-spots new))
 
@@ -131,7 +142,9 @@ module _ (words : List ℕ) where
         → may_contain words hash ≡ false → IsAbsent eq hash key nodes
     IsAbsent-uncovered eq hash key nodes c lacks before x after e =
         let covers = subst (λ (zs : List (Held (K × V))). CoversAll words (spots zs)) e c in
-        let own : may_contain words x.hash ≡ true = may_contain-covered (spot x) (spots (before ++ after)) (spots (before ++ x ∷ after)) (PutsIn-spots before x after) covers in
+        let own : may_contain words x.hash ≡ true = may_contain-covered (spot x)
+        (spots (before ++ after)) (spots (before ++ x ∷ after)) (PutsIn-spots before x after) covers
+        in
         let other : x.hash ≢ hash = λ is. true≢false (sym own ∙ ap (may_contain words) is ∙ lacks) in
         sym (ap (λ b. b && eq key x.pair.0) (ne_eqb x.hash hash other))
 

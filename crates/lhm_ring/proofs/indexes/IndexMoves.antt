@@ -11,15 +11,18 @@ use Rattle.lhm_ring.specs.Index.{PutsIn, IsRearranged, is_in, HasChains, Spot, s
 use Rattle.lhm_ring.specs.Nodes.{same_ptr}
 
 -- a spot that stands elsewhere in the list
-HasChains-elsewhere : (heads : List (Option Ptr)) (s : Spot) (zs xs ys : List Spot) → PutsIn s zs xs → PutsIn s zs ys → HasChains heads xs → HasChains heads ys
+HasChains-elsewhere : (heads : List (Option Ptr)) (s : Spot) (zs xs ys : List Spot) → PutsIn s zs xs
+    → PutsIn s zs ys → HasChains heads xs → HasChains heads ys
 HasChains-elsewhere heads s zs xs ys p q h = record {
   chains = λ b l.
       let c = h.chains b l in
       let f : Spot → Bool = is_in (length heads) b in
       let choose : (t : Bool) → f s ≡ t → IsRearranged c.chain (filter f ys) =
       elim [
-        | true ↦ λ e. IsRearranged-again s c.chain (filter f zs) (filter f xs) (filter f ys) c.holds (PutsIn-filter_in f s zs xs p e) (PutsIn-filter_in f s zs ys q e)
-        | false ↦ λ e. subst (λ (v : List Spot). IsRearranged c.chain v) (filter-PutsIn f s zs xs p e ∙ sym (filter-PutsIn f s zs ys q e)) c.holds
+        | true ↦ λ e. IsRearranged-again s c.chain (filter f zs) (filter f xs) (filter f ys) c.holds
+            (PutsIn-filter_in f s zs xs p e) (PutsIn-filter_in f s zs ys q e)
+        | false ↦ λ e. subst (λ (v : List Spot). IsRearranged c.chain v)
+            (filter-PutsIn f s zs xs p e ∙ sym (filter-PutsIn f s zs ys q e)) c.holds
       ] in
       record { chain = c.chain; linked = c.linked; holds = choose (f s) refl };
   none = λ z. absurd (some s zs xs p (h.none z));
@@ -29,11 +32,13 @@ HasChains-elsewhere heads s zs xs ys p q h = record {
     some s zs xs p e = subst (λ (v : List Spot). PutsIn s zs v) e p
 
 -- moved to the back
-pub PutsIn-last : {K V : Type 0} (others : List (Held (K × V))) (x : Held (K × V)) → PutsIn (spot x) (spots others) (spots (others ++ x ∷ []))
+pub PutsIn-last : {K V : Type 0} (others : List (Held (K × V))) (x : Held (K × V))
+    → PutsIn (spot x) (spots others) (spots (others ++ x ∷ []))
 PutsIn-last {K} {V} others x =
     subst (λ (v : List (Held (K × V))). PutsIn (spot x) (spots v) (spots (others ++ x ∷ []))) (append-nil others) (PutsIn-spots others x [])
 
-pub HasChains-to_back : {K V : Type 0} (heads : List (Option Ptr)) (before : List (Held (K × V))) (x : Held (K × V)) (after : List (Held (K × V)))
+pub HasChains-to_back : {K V : Type 0} (heads : List (Option Ptr)) (before : List (Held (K × V)))
+    (x : Held (K × V)) (after : List (Held (K × V)))
     → HasChains heads (spots (before ++ x ∷ after)) → HasChains heads (spots ((before ++ after) ++ x ∷ []))
 HasChains-to_back heads before x after h =
     HasChains-elsewhere heads (spot x) (spots (before ++ after)) (spots (before ++ x ∷ after)) (spots ((before ++ after) ++ x ∷ []))

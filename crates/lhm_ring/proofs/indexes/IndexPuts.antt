@@ -15,7 +15,8 @@ use Rattle.lhm_ring.specs.Index.{Indexes, spot, spots, entries, HoldsOthers, IsP
 
 module _ {K V : Type 0} where
   -- the node that comes last is the one that the buckets lack
-  pub HoldsOthers-last : {i : BucketState} {nodes : List (Held (K × V))} (old : List (Held (K × V))) (t : Held (K × V)) → nodes ≡ old ++ t ∷ []
+  pub HoldsOthers-last : {i : BucketState} {nodes : List (Held (K × V))} (old : List (Held (K × V)))
+      (t : Held (K × V)) → nodes ≡ old ++ t ∷ []
       → Indexes i (spots old) → HoldsOthers i nodes t.at
   HoldsOthers-last {i} old t last indexed = record {
     held = record { before = old; node = t; after = []; is = last; at_is = refl };
@@ -44,7 +45,8 @@ module _ {K V : Type 0} where
         ap length k.heads_is ∙ length-set old.heads _ _
 
 -- the first nodes are rehashed, and the rest begins at pointer
-pub record IsRehashing {K V : Type 0} (i : BucketState) (old nodes : List (Held (K × V))) (pointer : Option Ptr) (count buckets : ℕ) : Type 0 where
+pub record IsRehashing {K V : Type 0} (i : BucketState) (old nodes : List (Held (K × V)))
+    (pointer : Option Ptr) (count buckets : ℕ) : Type 0 where
   pub done : List (Held (K × V))
   pub rest : List (Held (K × V))
   pub is : nodes ≡ done ++ rest
@@ -114,7 +116,8 @@ module _ {K V : Type 0} {i : BucketState} {old nodes : List (Held (K × V))} {po
           done = w.done ++ x' ∷ [];
           rest = g.after;
           is = k.nodes_is ∙ sym (append_assoc w.done (x' ∷ []) g.after);
-          indexed = Indexes-put i i' (spot x') (spots w.done) (spots (w.done ++ x' ∷ [])) w.indexed some refl (PutsIn-last w.done x') k.heads_is k.words_is;
+          indexed = Indexes-put i i' (spot x') (spots w.done) (spots (w.done ++ x' ∷ [])) w.indexed
+              some refl (PutsIn-last w.done x') k.heads_is k.words_is;
           pointer_is = nx w.done x g.after g.is g.at_is;
           count_is = (omega (arith, long, d));
           kept = entries-put_first p i i' nodes nodes' put g ∙ w.kept;

@@ -1,5 +1,7 @@
 -- A node is removed from its chain.
-use Rattle.std.proofs.Common.{◌≡◌, ℕ, ◌%◌, ◌<◌, List, [], ◌∷◌, ◌++◌, inl, inr, sym, ◌∙◌, ap, subst, Bool, true, length, get_or, set, arith, Option, Some, None, append_assoc}
+use Rattle.std.proofs.Common.{◌≡◌, ℕ, ◌%◌, ◌<◌, List, [], ◌∷◌, ◌++◌, inl, inr, sym, ◌∙◌, ap, subst}
+use Rattle.std.proofs.Common.{Bool, true, length, get_or, set, arith, Option, Some, None}
+use Rattle.std.proofs.Common.{append_assoc}
 use Rattle.std.specs.Prelude.{filter}
 use Rattle.std.proofs.lemmas.Bool.{cases_lt}
 use Rattle.std.proofs.Math.Nat.{mod-lt}
@@ -23,7 +25,9 @@ pub record OnNode {K V : Type 0} (n b : ℕ) (s : Spot) (nodes : List (Held (K �
   pub passes : is_in n b s ≡ true
   pub of : NodeOf s ws nodes
 
-pub OnNode-rearranged : {K V : Type 0} (n b : ℕ) (done : List Spot) (s : Spot) (rest : List Spot) (nodes : List (Held (K × V))) → IsRearranged (done ++ s ∷ rest) (filter (is_in n b) (spots nodes)) → OnNode n b s nodes
+pub OnNode-rearranged : {K V : Type 0} (n b : ℕ) (done : List Spot) (s : Spot) (rest : List Spot)
+    (nodes : List (Held (K × V))) → IsRearranged (done ++ s ∷ rest)
+    (filter (is_in n b) (spots nodes)) → OnNode n b s nodes
 OnNode-rearranged n b done s rest nodes h =
     let t = PutsPassing-rearranged (is_in n b) done s rest (spots nodes) h in
     record { ws = t.without; puts = t.puts; passes = t.passes; of = NodeOf-spot s t.without nodes t.puts }
@@ -32,7 +36,8 @@ no_puts : {X : Type 0} (x : X) (xs : List X) → PutsIn x xs [] → ⊥
 no_puts x xs h = h
 
 -- with a spot there is a bucket
-pub length-HasChains : {heads : List (Option Ptr)} {xs : List Spot} (s : Spot) (ws : List Spot) → HasChains heads xs → PutsIn s ws xs → 0 < length heads
+pub length-HasChains : {heads : List (Option Ptr)} {xs : List Spot} (s : Spot) (ws : List Spot)
+    → HasChains heads xs → PutsIn s ws xs → 0 < length heads
 length-HasChains {heads} s ws h p =
     elim (cases_lt 0 (length heads)) [
       | inl l ↦ l
@@ -45,7 +50,14 @@ HasBefore = SplitLast (λ s. s.at)
 
 HasBefore-last : (before : Option Ptr) (done : List Spot) (q : Ptr) → before ≡ Some q → IsLast before done → HasBefore done q
 HasBefore-last before done q e (inl h) = absurd (let f : before ≡ None = h.1 in cc)
-HasBefore-last before done q e (inr h) = record { before = h.before; node = h.node; is = h.is; at_is = (let f : Some h.node.at ≡ before = h.at_is in cc) }
+HasBefore-last before done q e (inr h) =
+    record {
+      before = h.before;
+      node = h.node;
+      is = h.is;
+      at_is = (let f : Some h.node.at ≡ before =
+          h.at_is in cc);
+    }
 
 none-IsLast : (before : Option Ptr) (done : List Spot) → before ≡ None → IsLast before done
     → done ≡ []

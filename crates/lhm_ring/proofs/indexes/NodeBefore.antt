@@ -1,5 +1,7 @@
 -- A chain that is cut behind one of its nodes, so that the node is its last.
-use Rattle.std.proofs.Common.{◌≡◌, ℕ, ◌+◌, ◌%◌, ◌<◌, ◌≤◌, List, [], ◌∷◌, ◌++◌, inl, inr, refl, sym, ◌∙◌, ap, subst, Bool, length, get_or, arith, Option, Some, None, append_assoc, length-append}
+use Rattle.std.proofs.Common.{◌≡◌, ℕ, ◌+◌, ◌%◌, ◌<◌, ◌≤◌, List, [], ◌∷◌, ◌++◌, inl, inr, refl, sym}
+use Rattle.std.proofs.Common.{◌∙◌, ap, subst, Bool, length, get_or, arith, Option, Some, None}
+use Rattle.std.proofs.Common.{append_assoc, length-append}
 use Rattle.std.specs.Prelude.{filter}
 use Rattle.std.proofs.Math.Nat.{mod-lt}
 use denote.RawPtr.{Ptr}
@@ -18,7 +20,9 @@ pub record OnItsChain {K V : Type 0} (heads : List (Option Ptr)) (hash : ℕ) (n
   pub holds : IsRearranged (us ++ spot x ∷ vs) (filter (is_in (length heads) (hash % length heads)) (spots nodes))
 
 -- on the way to the node at p, along its chain, which is cut behind it: here comes after before
-pub record IsTowards {K V : Type 0} (heads : List (Option Ptr)) (hash : ℕ) (nodes cut : List (Held (K × V))) (p : Ptr) (link before : Option Ptr) (here : Ptr) (passed : ℕ) : Type 0 where
+pub record IsTowards {K V : Type 0} (heads : List (Option Ptr)) (hash : ℕ)
+    (nodes cut : List (Held (K × V))) (p : Ptr) (link before : Option Ptr) (here : Ptr)
+    (passed : ℕ) : Type 0 where
   pub held : IsHeld nodes p
   pub hash_is : hash ≡ held.node.hash
   pub link_is : link ≡ held.node.link
@@ -45,13 +49,22 @@ push-injective (w ∷ us) u (z ∷ vs) v e =
 
 -- ---- chains
 
-IsChain-cut : (h : Option Ptr) (us : List Spot) (s t : Spot) (vs : List Spot) → t.at ≡ s.at → t.link ≡ None → IsChain h (us ++ s ∷ vs) → IsChain h (us ++ t ∷ [])
+IsChain-cut : (h : Option Ptr) (us : List Spot) (s t : Spot) (vs : List Spot) → t.at ≡ s.at
+    → t.link ≡ None → IsChain h (us ++ s ∷ vs) → IsChain h (us ++ t ∷ [])
 IsChain-cut h [] s t vs a l c = (c.0 ∙ ap Some (sym a), l)
 IsChain-cut h (u ∷ us) s t vs a l c = (c.0, IsChain-cut u.link us s t vs a l c.1)
 
-ChainFirst-cut : (here : Ptr) (us : List Spot) (s t : Spot) (vs : List Spot) → t.at ≡ s.at → IsChain (Some here) (us ++ s ∷ vs) → ChainFirst (us ++ t ∷ []) here
+ChainFirst-cut : (here : Ptr) (us : List Spot) (s t : Spot) (vs : List Spot) → t.at ≡ s.at
+    → IsChain (Some here) (us ++ s ∷ vs) → ChainFirst (us ++ t ∷ []) here
 ChainFirst-cut here [] s t vs a c = record { node = t; after = []; is = refl; at_is = (let e : Some here ≡ Some s.at = c.0 in cc) }
-ChainFirst-cut here (u ∷ us) s t vs a c = record { node = u; after = us ++ t ∷ []; is = refl; at_is = (let e : Some here ≡ Some u.at = c.0 in cc) }
+ChainFirst-cut here (u ∷ us) s t vs a c =
+    record {
+      node = u;
+      after = us ++ t ∷ [];
+      is = refl;
+      at_is =
+          (let e : Some here ≡ Some u.at = c.0 in cc);
+    }
 
 -- the chain has a head
 has_head : (h : Option Ptr) (us : List Spot) (s : Spot) (vs : List Spot) → IsChain h (us ++ s ∷ vs) → (q : Ptr) × (h ≡ Some q)
@@ -90,7 +103,8 @@ module _ {K V : Type 0} {heads : List (Option Ptr)} {hash : ℕ} {nodes : List (
   IsTowards-start cut link here l d a =
       let c : OnItsChain heads hash nodes w.node = OnItsChain-held in
       let t : Spot = spot (linked_to None w.node) in
-      let f = ChainFirst-cut here c.us (spot w.node) t c.vs refl (subst (λ (v : Option Ptr). IsChain v (c.us ++ spot w.node ∷ c.vs)) (sym a) c.linked) in
+      let f = ChainFirst-cut here c.us (spot w.node) t c.vs refl
+      (subst (λ (v : Option Ptr). IsChain v (c.us ++ spot w.node ∷ c.vs)) (sym a) c.linked) in
       record {
         held = w;
         hash_is = hash-held;
@@ -121,7 +135,8 @@ module _ {K V : Type 0} {heads : List (Option Ptr)} {hash : ℕ} {nodes cut : Li
       let more = IsRearranged-more_middle us t vs others (f (spots cut))
       (PutsIn-bucket w.held.before (linked_to None w.held.node) w.held.after w.cut_is n w.hash_is) less in
       let all = sym (append_assoc us (t ∷ []) vs) ∙ ap (λ v. v ++ vs) w.on.is ∙ append_assoc w.on.before (w.on.node ∷ w.on.after) vs in
-      OnNode-rearranged n (hash % n) w.on.before w.on.node (w.on.after ++ vs) cut (subst (λ (v : List Spot). IsRearranged v (f (spots cut))) all more)
+      OnNode-rearranged n (hash % n) w.on.before w.on.node (w.on.after ++ vs) cut
+      (subst (λ (v : List Spot). IsRearranged v (f (spots cut))) all more)
 
   pub IsHeld-towards : IsHeld cut here
   IsHeld-towards = IsHeld-spot OnNode-here.of w.on.at_is
@@ -160,14 +175,16 @@ module _ {K V : Type 0} {heads : List (Option Ptr)} {hash : ℕ} {nodes cut : Li
           before = w.on.before ++ w.on.node ∷ [];
           node = b.node;
           after = b.after;
-          is = w.on.is ∙ ap (λ (v : List Spot). w.on.before ++ w.on.node ∷ v) b.is ∙ sym (append_assoc w.on.before (w.on.node ∷ []) (b.node ∷ b.after));
+          is = w.on.is ∙ ap (λ (v : List Spot). w.on.before ++ w.on.node ∷ v) b.is
+              ∙ sym (append_assoc w.on.before (w.on.node ∷ []) (b.node ∷ b.after));
           at_is = b.at_is;
         };
         behind = inr (record { before = w.on.before; node = w.on.node; is = refl; at_is = ap Some w.on.at_is });
         passed_is = (omega (arith, k, m));
       }
 
-  pub IsOnChain-towards : (read : Option Ptr) → OfNodeAt cut here (λ x. read ≡ x.link) → read ≡ None → IsOnChain heads hash (spots nodes) before p
+  pub IsOnChain-towards : (read : Option Ptr) → OfNodeAt cut here (λ x. read ≡ x.link) → read ≡ None
+      → IsOnChain heads hash (spots nodes) before p
   IsOnChain-towards read r e =
       let z : w.on.after ≡ [] = none-IsChain w.on.after (IsChain-todo read None r e) in
       let same = push-injective w.chain.us (spot (linked_to None w.held.node)) w.on.before w.on.node
@@ -189,7 +206,14 @@ module _ {K V : Type 0} {heads : List (Option Ptr)} {hash : ℕ} {nodes cut : Li
       ∙ ap (λ (l : Option Ptr). w.held.before ++ linked_to l w.held.node ∷ w.held.after) w.link_is ∙ sym w.held.is
 
   pub IsHeld-towards_cut : IsHeld cut p
-  IsHeld-towards_cut = record { before = w.held.before; node = linked_to None w.held.node; after = w.held.after; is = w.cut_is; at_is = w.held.at_is }
+  IsHeld-towards_cut = record {
+    before = w.held.before;
+    node = linked_to None w.held.node;
+    after =
+        w.held.after;
+    is = w.cut_is;
+    at_is = w.held.at_is;
+  }
 
 -- states are told by their fields
 pub State-equal : {B : Type 0} (s t : State B) → s.held ≡ t.held → s.spares ≡ t.spares → s.nodes ≡ t.nodes → s ≡ t

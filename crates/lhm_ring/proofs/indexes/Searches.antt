@@ -1,5 +1,8 @@
 -- The steps of a search along a chain.
-use Rattle.std.proofs.Common.{◌≡◌, ℕ, ◌+◌, ◌%◌, ◌<◌, ◌≤◌, ◌&&◌, List, [], ◌∷◌, ◌++◌, inl, inr, refl, sym, ◌∙◌, ap, subst, Bool, true, false, not, cond, length, get_or, arith, Option, Some, None, eqb, append_assoc, length-append, append-nil}
+use Rattle.std.proofs.Common.{◌≡◌, ℕ, ◌+◌, ◌%◌, ◌<◌, ◌≤◌, ◌&&◌, List, [], ◌∷◌, ◌++◌, inl, inr, refl}
+use Rattle.std.proofs.Common.{sym, ◌∙◌, ap, subst, Bool, true, false, not, cond, length, get_or}
+use Rattle.std.proofs.Common.{arith, Option, Some, None, eqb, append_assoc, length-append}
+use Rattle.std.proofs.Common.{append-nil}
 use Rattle.std.proofs.lemmas.Bool.{false≢true}
 use Rattle.std.proofs.lemmas.List.{length-map}
 use Rattle.std.specs.Prelude.{filter}
@@ -29,7 +32,8 @@ same-filter n hash (x ∷ xs) =
     let goal : Type 0 = same (filter q (x ∷ xs)) hash ≡ same (x ∷ xs) hash in
     let step : (b : Bool) → q x ≡ b → same (cond b (x ∷ filter q xs) (filter q xs)) hash ≡ same (x ∷ xs) hash =
     elim [
-      | true ↦ λ e. let cf : same (x ∷ filter q xs) hash ≡ cond (p x) 1 0 + same (filter q xs) hash = count_by-cons p x (filter q xs) in omega (arith, i, cx, cf)
+      | true ↦ λ e. let cf : same (x ∷ filter q xs) hash ≡ cond (p x) 1 0 + same (filter q xs)
+          hash = count_by-cons p x (filter q xs) in omega (arith, i, cx, cf)
       | false ↦ λ e.
           let off : p x ≡ false = ne_eqb x.hash hash (λ w. false≢true (sym e ∙ eq-eqb (x.hash % n) (hash % n) (ap (λ v. v % n) w))) in
           let z : cond {A = ℕ} (p x) 1 0 ≡ 0 = ap (λ v. cond {A = ℕ} v 1 0) off in
@@ -41,7 +45,8 @@ pub same-chain : (chain xs : List Spot) (n hash : ℕ) → IsRearranged chain (f
 same-chain chain xs n hash h =
     count_by-IsRearranged (λ v. eqb v.hash hash) chain (filter (is_in n (hash % n)) xs) h ∙ same-filter n hash xs
 
-pub length-chain : (chain xs : List Spot) (n hash : ℕ) → IsRearranged chain (filter (is_in n (hash % n)) xs) → length chain ≡ beside xs n hash
+pub length-chain : (chain xs : List Spot) (n hash : ℕ)
+    → IsRearranged chain (filter (is_in n (hash % n)) xs) → length chain ≡ beside xs n hash
 length-chain chain xs n hash h =
     length-IsRearranged chain (filter (is_in n (hash % n)) xs) h ∙ length-filter (is_in n (hash % n)) xs
 
@@ -57,7 +62,10 @@ IsHeld-head {K} {V} {heads} {nodes} {p} bucket within i head =
     IsHeld-spot (OnNode-rearranged n bucket [] b.node b.after nodes
     (subst (λ (v : List Spot). IsRearranged v (filter (is_in n bucket) (spots nodes))) b.is h.holds)).of b.at_is
 
-DifferAll-push : {K V : Type 0} (eq : K → K → Bool) (hash : ℕ) (key : K) (nodes : List (Held (K × V))) (ss : List Spot) (s : Spot) → DifferAll eq hash key nodes ss → OfNodeAt nodes s.at (λ x. Compares eq hash key x false) → DifferAll eq hash key nodes (ss ++ s ∷ [])
+DifferAll-push : {K V : Type 0} (eq : K → K → Bool) (hash : ℕ) (key : K)
+    (nodes : List (Held (K × V))) (ss : List Spot) (s : Spot) → DifferAll eq hash key nodes ss
+    → OfNodeAt nodes s.at (λ x. Compares eq hash key x false) → DifferAll eq hash key nodes
+    (ss ++ s ∷ [])
 DifferAll-push eq hash key nodes [] s h k = (k, tt)
 DifferAll-push eq hash key nodes (x ∷ ss) s h k = (h.0, DifferAll-push eq hash key nodes ss s h.1 k)
 
@@ -85,7 +93,8 @@ module _ {K V : Type 0} {eq : K → K → Bool} {hash : ℕ} {key : K} {heads : 
         here = b.node;
         rest = b.after;
         linked = subst (λ (u : List Spot). IsChain (get_or heads (hash % length heads) None) (w.done ++ u)) b.is w.linked;
-        holds = subst (λ (u : List Spot). IsRearranged (w.done ++ u) (filter (is_in (length heads) (hash % length heads)) (spots nodes))) b.is w.holds;
+        holds = subst (λ (u : List Spot). IsRearranged (w.done ++ u)
+            (filter (is_in (length heads) (hash % length heads)) (spots nodes))) b.is w.holds;
         behind = w.behind;
         at_is = b.at_is;
       }
@@ -111,7 +120,8 @@ module _ {K V : Type 0} {eq : K → K → Bool} {hash : ℕ} {key : K} {heads : 
 
   -- its node is visited, and compared
   module _ {visited' compared' : ℕ} {equal : Bool} (v : visited' ≡ visited + 1)
-      (c : OfNodeAt nodes p (λ x. compared' ≡ compared + same (spot x ∷ []) hash)) (d : OfNodeAt nodes p (λ x. Compares eq hash key x equal)) where
+      (c : OfNodeAt nodes p (λ x. compared' ≡ compared + same (spot x ∷ []) hash))
+      (d : OfNodeAt nodes p (λ x. Compares eq hash key x equal)) where
     compared-here : compared' ≡ compared + same (IsOnChain-part.here ∷ []) hash
     compared-here = here-part (λ s. compared' ≡ compared + same (s ∷ []) hash) c
 
@@ -127,8 +137,11 @@ module _ {K V : Type 0} {eq : K → K → Bool} {hash : ℕ} {key : K} {heads : 
           done = b.done ++ b.here ∷ [];
           rest = b.rest;
           linked = subst (IsChain head) assoc b.linked;
-          holds = subst (λ (u : List Spot). IsRearranged u (filter (is_in (length heads) (hash % length heads)) (spots nodes))) assoc b.holds;
-          next_is = subst (λ (u : Option Ptr). IsChain u b.rest) (sym (here-part (λ s. link ≡ s.link) l)) (IsChain-tail head b.done b.here b.rest b.linked);
+          holds = subst (λ (u : List Spot). IsRearranged u
+              (filter (is_in (length heads) (hash % length heads)) (spots nodes))) assoc b.holds;
+          next_is = subst (λ (u : Option Ptr). IsChain u b.rest)
+              (sym (here-part (λ s. link ≡ s.link) l))
+              (IsChain-tail head b.done b.here b.rest b.linked);
           behind = inr (record { before = b.done; node = b.here; is = refl; at_is = ap Some b.at_is });
           visited_is = (omega (arith, v, w.visited_is, len));
           compared_is = (omega (arith, compared-here, w.compared_is, ca));
@@ -145,7 +158,8 @@ module _ {K V : Type 0} {eq : K → K → Bool} {hash : ℕ} {key : K} {heads : 
         let one : compared' ≡ compared + same (b.here ∷ []) hash = compared-here in
         let split = count_by-append test b.done (b.here ∷ b.rest) in
         let first = count_by-append test (b.here ∷ []) b.rest in
-        let all : same (b.done ++ b.here ∷ b.rest) hash ≡ same (spots nodes) hash = same-chain (b.done ++ b.here ∷ b.rest) (spots nodes) (length heads) hash b.holds in
+        let all : same (b.done ++ b.here ∷ b.rest) hash ≡ same (spots nodes) hash =
+        same-chain (b.done ++ b.here ∷ b.rest) (spots nodes) (length heads) hash b.holds in
         let few : same b.done hash ≤ length b.done = count_by-le-length test b.done in
         let ci : compared ≡ same b.done hash = w.compared_is in
         record {
@@ -174,18 +188,25 @@ module _ {K V : Type 0} {eq : K → K → Bool} {hash : ℕ} {key : K} {heads : 
       (λ xs x ys i j. let none : same (spot x ∷ []) hash ≡ 0 = ap (λ u. 0 + cond {A = ℕ} u 1 0) (off xs x ys i j) in omega arith)
       (λ xs x ys i j. sym (ap (λ u. u && eq key x.pair.0) (off xs x ys i j))) refl l
 
-OfNodeAt-differs : {K V : Type 0} (eq : K → K → Bool) (hash : ℕ) (key : K) (nodes : List (Held (K × V))) (us : List Spot) (s : Spot) (vs : List Spot) → DifferAll eq hash key nodes (us ++ s ∷ vs) → OfNodeAt nodes s.at (λ x. Compares eq hash key x false)
+OfNodeAt-differs : {K V : Type 0} (eq : K → K → Bool) (hash : ℕ) (key : K)
+    (nodes : List (Held (K × V))) (us : List Spot) (s : Spot) (vs : List Spot)
+    → DifferAll eq hash key nodes (us ++ s ∷ vs)
+    → OfNodeAt nodes s.at (λ x. Compares eq hash key x false)
 OfNodeAt-differs eq hash key nodes [] s vs h = h.0
 OfNodeAt-differs eq hash key nodes (u ∷ us) s vs h = OfNodeAt-differs eq hash key nodes us s vs h.1
 
 append-end : {X : Type 0} (xs ys : List X) → ys ≡ [] → xs ++ ys ≡ xs
 append-end xs ys e = ap (λ v. xs ++ v) e ∙ append-nil xs
 
-pub FindsNone-part : {K V : Type 0} {eq : K → K → Bool} {hash : ℕ} {key : K} {heads : List (Option Ptr)} {nodes : List (Held (K × V))} {before pointer : Option Ptr} {visited compared : ℕ} → IsPart eq hash key heads nodes before pointer visited compared → pointer ≡ None → FindsNone eq hash key heads nodes visited compared
+pub FindsNone-part : {K V : Type 0} {eq : K → K → Bool} {hash : ℕ} {key : K}
+    {heads : List (Option Ptr)} {nodes : List (Held (K × V))} {before pointer : Option Ptr}
+    {visited compared : ℕ} → IsPart eq hash key heads nodes before pointer visited compared
+    → pointer ≡ None → FindsNone eq hash key heads nodes visited compared
 FindsNone-part {K} {V} {eq} {hash} {key} {heads} {nodes} w none =
     let n : ℕ = length heads in
     let q : Spot → Bool = is_in n (hash % n) in
-    let whole : w.done ++ w.rest ≡ w.done = append-end w.done w.rest (none-IsChain w.rest (subst (λ (v : Option Ptr). IsChain v w.rest) none w.next_is)) in
+    let whole : w.done ++ w.rest ≡ w.done = append-end w.done w.rest
+    (none-IsChain w.rest (subst (λ (v : Option Ptr). IsChain v w.rest) none w.next_is)) in
     let h = subst (λ (u : List Spot). IsRearranged u (filter q (spots nodes))) whole w.holds in
     let all = same-chain w.done (spots nodes) n hash h in
     let long = length-chain w.done (spots nodes) n hash h in
@@ -193,7 +214,9 @@ FindsNone-part {K} {V} {eq} {hash} {key} {heads} {nodes} w none =
       absent = λ before' x after' e.
           elim (eqb_tells x.hash hash) [
             | inl t ↦
-                let m = SplitAround-rearranged w.done (spot x) (filter q (spots (before' ++ after'))) (filter q (spots nodes)) h (PutsIn-bucket before' x after' e n (sym t.1)) in
+                let m = SplitAround-rearranged w.done (spot x)
+                (filter q (spots (before' ++ after'))) (filter q (spots nodes)) h
+                (PutsIn-bucket before' x after' e n (sym t.1)) in
                 let d = subst (λ (u : List Spot). DifferAll eq hash key nodes u) m.is w.differ in
                 OfNodeAt-differs eq hash key nodes m.before (spot x) m.after d before' x after' e refl
             | inr t ↦ ap (λ u. u && eq key x.pair.0) (sym t.0)
@@ -206,7 +229,8 @@ pub IsPart-first : {K V : Type 0} {eq : K → K → Bool} {hash : ℕ} {key : K}
     {before pointer : Option Ptr} {visited compared : ℕ} → before ≡ None → pointer ≡ get_or heads (hash % length heads) None
     → visited ≡ 0 → compared ≡ 0 → hash % length heads < length heads → HasChains heads (spots nodes)
     → IsPart eq hash key heads nodes before pointer visited compared
-IsPart-first {K} {V} {eq} {hash} {key} {heads} {nodes} {before} {pointer} {visited} {compared} first is none_visited none_compared within i =
+IsPart-first {K} {V} {eq} {hash} {key} {heads} {nodes} {before} {pointer} {visited} {compared} first
+    is none_visited none_compared within i =
     let h = i.chains (hash % length heads) within in
     record {
       done = [];

@@ -11,15 +11,19 @@ use Rattle.lhm_ring.proofs.lists.RearrangedFilters.{PutsIn-filter_in}
 use Rattle.lhm_ring.specs.Ring.{Held, IsHeld, SplitAt}
 use Rattle.lhm_ring.specs.Index.{PutsIn, IsRearranged, Spot, spot, spots, is_in, OfNodeAt}
 
-pub PutsIn-spots : {K V : Type 0} (before : List (Held (K × V))) (x : Held (K × V)) (after : List (Held (K × V))) → PutsIn (spot x) (spots (before ++ after)) (spots (before ++ x ∷ after))
+pub PutsIn-spots : {K V : Type 0} (before : List (Held (K × V))) (x : Held (K × V))
+    (after : List (Held (K × V))) → PutsIn (spot x) (spots (before ++ after))
+    (spots (before ++ x ∷ after))
 PutsIn-spots [] x after = inl (refl, refl)
-PutsIn-spots (y ∷ before) x after = PutsIn-there (spot x) (spot y) (spots (before ++ after)) (spots (before ++ x ∷ after)) (PutsIn-spots before x after)
+PutsIn-spots (y ∷ before) x after = PutsIn-there (spot x) (spot y) (spots (before ++ after))
+    (spots (before ++ x ∷ after)) (PutsIn-spots before x after)
 
 -- the same of nodes that are known by an equation, of all of them and of those of a bucket
 module _ {K V : Type 0} {nodes : List (Held (K × V))} (before : List (Held (K × V))) (x : Held (K × V)) (after : List (Held (K × V)))
     (is : nodes ≡ before ++ x ∷ after) where
   pub PutsIn-spots_of : PutsIn (spot x) (spots (before ++ after)) (spots nodes)
-  PutsIn-spots_of = subst (λ (v : List (Held (K × V))). PutsIn (spot x) (spots (before ++ after)) (spots v)) (sym is) (PutsIn-spots before x after)
+  PutsIn-spots_of = subst (λ (v : List (Held (K × V))). PutsIn (spot x) (spots (before ++ after))
+      (spots v)) (sym is) (PutsIn-spots before x after)
 
   pub PutsIn-bucket : (n : ℕ) {hash : ℕ} → hash ≡ x.hash
       → PutsIn (spot x) (filter (is_in n (hash % n)) (spots (before ++ after))) (filter (is_in n (hash % n)) (spots nodes))
@@ -32,12 +36,25 @@ pub record NodeOf {K V : Type 0} (s : Spot) (ws : List Spot) (nodes : List (Held
   pub split : SplitAt spot nodes s
   pub others : ws ≡ spots (split.before ++ split.after)
 
-abbrev pub IsHeld-spot : {K V : Type 0} {s : Spot} {ws : List Spot} {nodes : List (Held (K × V))} {p : Ptr} → NodeOf s ws nodes → s.at ≡ p → IsHeld nodes p
-IsHeld-spot n at = let k = n.split in record { before = k.before; node = k.node; after = k.after; is = k.is; at_is = ap (λ v. v.at) k.at_is ∙ at }
+abbrev pub IsHeld-spot : {K V : Type 0} {s : Spot} {ws : List Spot} {nodes : List (Held (K × V))}
+    {p : Ptr} → NodeOf s ws nodes → s.at ≡ p → IsHeld nodes p
+IsHeld-spot n at = let k = n.split in
+    record {
+      before = k.before;
+      node = k.node;
+      after = k.after;
+      is = k.is;
+      at_is =
+          ap (λ v. v.at) k.at_is ∙ at;
+    }
 
 pub NodeOf-spot : {K V : Type 0} (s : Spot) (ws : List Spot) (nodes : List (Held (K × V))) → PutsIn s ws (spots nodes) → NodeOf s ws nodes
 NodeOf-spot s ws [] h = absurd h
-NodeOf-spot s ws (x ∷ nodes) (inl h) = record { split = record { before = []; node = x; after = nodes; is = refl; at_is = sym h.0 }; others = h.1 }
+NodeOf-spot s ws (x ∷ nodes) (inl h) =
+    record {
+      split = record { before = []; node = x; after = nodes; is = refl; at_is = sym h.0 };
+      others = h.1;
+    }
 NodeOf-spot s ws (x ∷ nodes) (inr h) =
     let i : NodeOf s h.rest nodes = NodeOf-spot s h.rest nodes h.puts in
     let k = i.split in

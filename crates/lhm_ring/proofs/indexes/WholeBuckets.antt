@@ -1,17 +1,21 @@
 -- What the buckets have, chains and bits together, once a node is put in, moved or removed.
-use Rattle.std.proofs.Common.{◌≡◌, ◌≢◌, ℕ, ◌%◌, ◌<◌, List, [], ◌∷◌, ◌++◌, refl, sym, ◌∙◌, ap, subst, arith, length, get_or, set, Option, Some, None}
+use Rattle.std.proofs.Common.{◌≡◌, ◌≢◌, ℕ, ◌%◌, ◌<◌, List, [], ◌∷◌, ◌++◌, refl, sym, ◌∙◌, ap, subst}
+use Rattle.std.proofs.Common.{arith, length, get_or, set, Option, Some, None}
 use Rattle.std.proofs.Common.{length-set, get_or-set_same}
 use Rattle.std.specs.Prelude.{filter, is_some}
 use Rattle.std.specs.Option.{IsSome}
 use denote.RawPtr.{Ptr}
 use Rattle.lhm_ring.proofs.indexes.Chains.{none-IsChain}
-use Rattle.lhm_ring.proofs.indexes.Filters.{CoversAll-put, CoversAll-others, CoversAll-more, CoversAll-cleared, CoversAll-entries, may_contain-covered}
+use Rattle.lhm_ring.proofs.indexes.Filters.{CoversAll-put, CoversAll-others, CoversAll-more}
+use Rattle.lhm_ring.proofs.indexes.Filters.{CoversAll-cleared, CoversAll-entries}
+use Rattle.lhm_ring.proofs.indexes.Filters.{may_contain-covered}
 use Rattle.lhm_ring.proofs.indexes.IndexMoves.{HasChains-to_back, PutsIn-last}
 use Rattle.lhm_ring.proofs.indexes.IndexTakes.{HasOtherChains}
 use Rattle.lhm_ring.proofs.indexes.Spots.{PutsIn-spots}
 use Rattle.lhm_ring.proofs.indexes.WholeIndex.{HasChains-put, HasChains-none, get_or-none_indexed}
 use Rattle.lhm_ring.specs.Buckets.{BucketState, HasNoChain, SetsBit, may_contain}
-use Rattle.lhm_ring.specs.Index.{PutsIn, IsRearranged, IsChain, is_in, HasChain, HasChains, CoversAll, Indexes, HoldsOthers, Spot, spot, spots, entries}
+use Rattle.lhm_ring.specs.Index.{PutsIn, IsRearranged, IsChain, is_in, HasChain, HasChains}
+use Rattle.lhm_ring.specs.Index.{CoversAll, Indexes, HoldsOthers, Spot, spot, spots, entries}
 use Rattle.lhm_ring.specs.Ring.{Held}
 
 pub Indexes-none : (i : BucketState) → HasNoChain i → length i.words ≡ length i.heads → Indexes i []
@@ -62,7 +66,8 @@ filter-no_head heads b xs h within none =
 -- the node at p was removed from its chain
 module _ {K V : Type 0} {nodes : List (Held (K × V))} {p : Ptr} where
   -- from behind another node: that one has a new chain link
-  pub HoldsOthers-next : (old : List (Held (K × V))) (i : BucketState) → Indexes i (spots old) → entries nodes ≡ entries old → HasOtherChains i.heads nodes p
+  pub HoldsOthers-next : (old : List (Held (K × V))) (i : BucketState) → Indexes i (spots old)
+      → entries nodes ≡ entries old → HasOtherChains i.heads nodes p
       → HoldsOthers i nodes p
   HoldsOthers-next old i h same w =
       let k = w.held in
@@ -73,7 +78,8 @@ module _ {K V : Type 0} {nodes : List (Held (K × V))} {p : Ptr} where
       }
 
 -- from the head of its bucket
-module _ (old new : BucketState) (bucket : ℕ) (head : Option Ptr) (within : bucket < length old.heads) (heads : new.heads ≡ set old.heads bucket head)
+module _ (old new : BucketState) (bucket : ℕ) (head : Option Ptr)
+    (within : bucket < length old.heads) (heads : new.heads ≡ set old.heads bucket head)
     (others : (other : ℕ) → other % length old.heads ≢ bucket → may_contain new.words other ≡ may_contain old.words other)
     (same : IsSome head → new.words ≡ old.words) (count : length new.words ≡ length old.words) where
   long : length new.heads ≡ length old.heads
@@ -83,11 +89,14 @@ module _ (old new : BucketState) (bucket : ℕ) (head : Option Ptr) (within : bu
   CoversAll-head xs w c (Some q) e = subst (λ (ws : List ℕ). CoversAll ws xs) (sym (same (ap is_some e))) c
   CoversAll-head xs w c None e =
       let inside : bucket < length new.heads = omega (arith, long, within) in
-      let none : get_or new.heads bucket None ≡ None = ap (λ (hs : List (Option Ptr)). get_or hs bucket None) heads ∙ get_or-set_same old.heads bucket head None within ∙ e in
+      let none : get_or new.heads bucket None ≡ None =
+      ap (λ (hs : List (Option Ptr)). get_or hs bucket None) heads
+      ∙ get_or-set_same old.heads bucket head None within ∙ e in
       CoversAll-cleared old.words new.words (length new.heads) bucket (λ hash away. others hash (λ f. away (ap (λ n. hash % n) long ∙ f)))
       xs (filter-no_head new.heads bucket xs w inside none) c
 
-  pub HoldsOthers-head : {K V : Type 0} {nodes : List (Held (K × V))} {p : Ptr} → Indexes old (spots nodes) → HasOtherChains new.heads nodes p → HoldsOthers new nodes p
+  pub HoldsOthers-head : {K V : Type 0} {nodes : List (Held (K × V))} {p : Ptr}
+      → Indexes old (spots nodes) → HasOtherChains new.heads nodes p → HoldsOthers new nodes p
   HoldsOthers-head h w =
       let k = w.held in
       let c = subst (λ hs. CoversAll old.words (spots hs)) k.is h.covers in

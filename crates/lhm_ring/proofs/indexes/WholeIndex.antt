@@ -1,5 +1,7 @@
 -- The whole index, once a node is put in or removed.
-use Rattle.std.proofs.Common.{◌≡◌, ◌≢◌, ℕ, ◌%◌, ◌<◌, List, [], ◌∷◌, ◌++◌, inl, inr, refl, sym, ◌∙◌, ap, subst, Bool, true, false, length, get_or, set, arith, Option, Some, None}
+use Rattle.std.proofs.Common.{◌≡◌, ◌≢◌, ℕ, ◌%◌, ◌<◌, List, [], ◌∷◌, ◌++◌, inl, inr, refl, sym, ◌∙◌}
+use Rattle.std.proofs.Common.{ap, subst, Bool, true, false, length, get_or, set, arith, Option}
+use Rattle.std.proofs.Common.{Some, None}
 use Rattle.std.specs.Prelude.{filter}
 use Rattle.std.proofs.Common.{eqb}
 use Rattle.std.proofs.lemmas.Bool.{eqb-true, ne_eqb, eq-eqb}
@@ -8,7 +10,9 @@ use Rattle.std.proofs.lemmas.List.{get_or-set_same, get_or-set_other, length-set
 use Rattle.std.proofs.Math.Nat.{mod-lt}
 use denote.RawPtr.{Ptr}
 use Rattle.lhm_ring.proofs.indexes.Chains.{HasChain-other, HasChain-push, HasChain-other_removed, IsChain-linked_past, none-unchained}
-use Rattle.lhm_ring.proofs.lists.Rearranged.{PutsIn-here, PutsIn-there, IsRearranged-less, IsRearranged-less_middle, IsRearranged-more_middle, PutsIn-under}
+use Rattle.lhm_ring.proofs.lists.Rearranged.{PutsIn-here, PutsIn-there, IsRearranged-less}
+use Rattle.lhm_ring.proofs.lists.Rearranged.{IsRearranged-less_middle, IsRearranged-more_middle}
+use Rattle.lhm_ring.proofs.lists.Rearranged.{PutsIn-under}
 use Rattle.lhm_ring.proofs.lists.RearrangedFilters.{PutsPassing, PutsIn-filter_in, PutsPassing-rearranged}
 use Rattle.lhm_ring.specs.Index.{PutsIn, IsRearranged, IsChain, is_in, HasChain, HasChains, Spot}
 
@@ -36,8 +40,10 @@ HasChains-set : (heads : List (Option Ptr)) (b : ℕ) (head : Option Ptr) (xs : 
 HasChains-set heads b head xs l own others =
     let new : List (Option Ptr) = set heads b head in
     let len : length new ≡ length heads = length-set heads b head in
-    let by : (c : ℕ) (h : Option Ptr) → get_or new c None ≡ h → HasChain h (length heads) c xs → HasChain (get_or new c None) (length new) c xs =
-    λ c h e k. subst (λ v. HasChain (get_or new c None) v c xs) (sym len) (subst (λ (v : Option Ptr). HasChain v (length heads) c xs) (sym e) k) in
+    let by : (c : ℕ) (h : Option Ptr) → get_or new c None ≡ h → HasChain h (length heads) c xs
+    → HasChain (get_or new c None) (length new) c xs =
+    λ c h e k. subst (λ v. HasChain (get_or new c None) v c xs) (sym len)
+    (subst (λ (v : Option Ptr). HasChain v (length heads) c xs) (sym e) k) in
     HasChains-each new b xs (omega (arith, len, l)) (by b head (get_or-set_same heads b head None l) own)
     (λ c m ne. by c (get_or heads c None) (get_or-set_other heads b c head None (λ e. ne (sym e))) (others c (omega (arith, len, m)) ne))
 
@@ -64,7 +70,8 @@ HasChains-take_first heads b s rest ys xs h l linked holds p =
     (λ c m ne. HasChain-other_removed (get_or heads c None) n c s ys xs (h.chains c m) (is_in-other n b c s t.passes ne) p)
 
 -- a later one is removed: the one before it is linked past it
-pub HasChains-take_next : (heads : List (Option Ptr)) (b : ℕ) (done : List Spot) (y y' s : Spot) (rest zs xs xs' ys : List Spot) → HasChains heads xs
+pub HasChains-take_next : (heads : List (Option Ptr)) (b : ℕ) (done : List Spot) (y y' s : Spot)
+    (rest zs xs xs' ys : List Spot) → HasChains heads xs
     → b < length heads → IsChain (get_or heads b None) (done ++ y ∷ s ∷ rest)
     → IsRearranged (done ++ y ∷ s ∷ rest) (filter (is_in (length heads) b) xs) → y'.at ≡ y.at → y'.hash ≡ y.hash → y'.link ≡ s.link
     → PutsIn y zs xs → PutsIn y' zs xs' → PutsIn s ys xs' → HasChains heads ys
@@ -80,7 +87,8 @@ HasChains-take_next heads b done y y' s rest zs xs xs' ys h l linked holds a num
     let more_y = IsRearranged-more_middle done y' (s ∷ rest) (f zs) (f xs')
     (PutsIn-filter_in q y' zs xs' py' ty') less_y in
     let under = PutsIn-under done s (y' ∷ rest) (y' ∷ s ∷ rest) (PutsIn-there s y' rest (s ∷ rest) (PutsIn-here s rest)) in
-    let less_s = IsRearranged-less s (done ++ y' ∷ rest) (done ++ y' ∷ s ∷ rest) (f ys) (f xs') under (PutsIn-filter_in q s ys xs' ps ts.passes) more_y in
+    let less_s = IsRearranged-less s (done ++ y' ∷ rest) (done ++ y' ∷ s ∷ rest) (f ys)
+    (f xs') under (PutsIn-filter_in q s ys xs' ps ts.passes) more_y in
     let own : HasChain (get_or heads b None) n b ys = record {
       chain = done ++ y' ∷ rest;
       linked = IsChain-linked_past (get_or heads b None) done y y' s rest a link linked;
@@ -90,7 +98,8 @@ HasChains-take_next heads b done y y' s rest zs xs xs' ys h l linked holds a num
     (λ c m ne.
     let g : Option Ptr = get_or heads c None in
     HasChain-other_removed g n c s ys xs'
-    (HasChain-other g n c y' zs xs' (HasChain-other_removed g n c y zs xs (h.chains c m) (is_in-other n b c y ty.passes ne) py) (is_in-other n b c y' ty' ne) py')
+    (HasChain-other g n c y' zs xs' (HasChain-other_removed g n c y zs xs (h.chains c m)
+    (is_in-other n b c y ty.passes ne) py) (is_in-other n b c y' ty' ne) py')
     (is_in-other n b c s ts.passes ne) ps)
 
 -- heads with no chain, and no nodes

@@ -33,7 +33,8 @@ Bool-alike false false f g = refl
 
 pub same_ptr-symmetric : (p q : Ptr) → same_ptr p q ≡ same_ptr q p
 same_ptr-symmetric p q = Bool-alike (same_ptr p q) (same_ptr q p)
-    (λ e. subst (λ r. same_ptr r p ≡ true) (same_ptr-equal p q e) (same_ptr-reflexive p)) (λ e. subst (λ r. same_ptr r q ≡ true) (same_ptr-equal q p e) (same_ptr-reflexive q))
+    (λ e. subst (λ r. same_ptr r p ≡ true) (same_ptr-equal p q e) (same_ptr-reflexive p))
+    (λ e. subst (λ r. same_ptr r q ≡ true) (same_ptr-equal q p e) (same_ptr-reflexive q))
 
 pub IsApart-none : IsApart []
 unfolding IsDistinct
@@ -67,19 +68,30 @@ IsApart-tail x xs d = d.1
 -- p lies apart from all before it and after it
 pub IsFresh-middle : (xs : List Ptr) (p : Ptr) (ys : List Ptr) → IsApart (xs ++ p ∷ ys) → IsFresh p (xs ++ ys)
 IsFresh-middle [] p ys d = IsFresh-head p ys d
-IsFresh-middle (x ∷ xs) p ys d = (same_ptr-flip x p (AllByRecursion-right (λ q. same_ptr x q ≡ false) xs (p ∷ ys) (IsFresh-head x (xs ++ p ∷ ys) d)).0, IsFresh-middle xs p ys (IsApart-tail x (xs ++ p ∷ ys) d))
+IsFresh-middle (x ∷ xs) p ys d = (
+  same_ptr-flip x p (AllByRecursion-right (λ q. same_ptr x q ≡ false) xs (p ∷ ys)
+      (IsFresh-head x (xs ++ p ∷ ys) d)).0,
+  IsFresh-middle xs p ys (IsApart-tail x (xs ++ p ∷ ys) d),
+)
 
 pub IsApart-removed : (xs : List Ptr) (p : Ptr) (ys : List Ptr) → IsApart (xs ++ p ∷ ys) → IsApart (xs ++ ys)
 IsApart-removed [] p ys d = IsApart-tail p ys d
-IsApart-removed (x ∷ xs) p ys d = IsApart-added x (xs ++ ys) (AllByRecursion-removed (λ q. same_ptr x q ≡ false) xs p ys (IsFresh-head x (xs ++ p ∷ ys) d)) (IsApart-removed xs p ys (IsApart-tail x (xs ++ p ∷ ys) d))
+IsApart-removed (x ∷ xs) p ys d = IsApart-added x (xs ++ ys)
+    (AllByRecursion-removed (λ q. same_ptr x q ≡ false) xs p ys (IsFresh-head x (xs ++ p ∷ ys) d))
+    (IsApart-removed xs p ys (IsApart-tail x (xs ++ p ∷ ys) d))
 
 pub IsApart-inserted : (xs : List Ptr) (p : Ptr) (ys : List Ptr) → IsFresh p (xs ++ ys) → IsApart (xs ++ ys) → IsApart (xs ++ p ∷ ys)
 IsApart-inserted [] p ys h d = IsApart-added p ys h d
 IsApart-inserted (x ∷ xs) p ys h d =
     let P : Ptr → Type 0 = λ q. same_ptr x q ≡ false in let f = IsFresh-head x (xs ++ ys) d in
-    IsApart-added x (xs ++ p ∷ ys) (AllByRecursion-append P xs (p ∷ ys) (AllByRecursion-left P xs ys f) (same_ptr-flip p x h.0, AllByRecursion-right P xs ys f)) (IsApart-inserted xs p ys h.1 (IsApart-tail x (xs ++ ys) d))
+    IsApart-added x (xs ++ p ∷ ys) (AllByRecursion-append P xs (p ∷ ys)
+    (AllByRecursion-left P xs ys f) (same_ptr-flip p x h.0, AllByRecursion-right P xs ys f))
+    (IsApart-inserted xs p ys h.1 (IsApart-tail x (xs ++ ys) d))
 
 pub AllByRecursion-fresh_across : (xs ys : List Ptr) → IsApart (xs ++ ys)
     → AllByRecursion (λ x. IsFresh x ys) xs
 AllByRecursion-fresh_across [] ys d = tt
-AllByRecursion-fresh_across (x ∷ xs) ys d = (AllByRecursion-right (λ q. same_ptr x q ≡ false) xs ys (IsFresh-head x (xs ++ ys) d), AllByRecursion-fresh_across xs ys (IsApart-tail x (xs ++ ys) d))
+AllByRecursion-fresh_across (x ∷ xs) ys d = (
+  AllByRecursion-right (λ q. same_ptr x q ≡ false) xs ys (IsFresh-head x (xs ++ ys) d),
+  AllByRecursion-fresh_across xs ys (IsApart-tail x (xs ++ ys) d),
+)

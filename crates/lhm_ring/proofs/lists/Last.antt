@@ -12,7 +12,14 @@ module _ {X : Type 0} where
   pub SplitLast-last_from : (x : X) (xs : List X)
       → SplitLast (λ z. z) (x ∷ xs) (last_from x xs)
   SplitLast-last_from x [] = record { before = []; node = x; is = refl; at_is = refl }
-  SplitLast-last_from x (y ∷ ys) = let on = SplitLast-last_from y ys in record { before = x ∷ on.before; node = on.node; is = ap (λ r. x ∷ r) on.is; at_is = on.at_is }
+  SplitLast-last_from x (y ∷ ys) = let on = SplitLast-last_from y ys in
+      record {
+        before = x ∷ on.before;
+        node = on.node;
+        is = ap (λ r. x ∷ r) on.is;
+        at_is =
+            on.at_is;
+      }
 
   pub AllByRecursion-last : (P : X → Type 0) (x : X) (xs : List X) → P x → AllByRecursion P xs → P (last_from x xs)
   AllByRecursion-last P x [] h a = h

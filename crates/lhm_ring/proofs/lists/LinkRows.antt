@@ -16,9 +16,12 @@ module _ {B : Type 0} where
   module _ (cs : List (Cell Links B)) where
     pub RowCut-linked : (x : Ptr) (xs : List Ptr) (p : Ptr) (ys : List Ptr) → AreLinked cs (x ∷ (xs ++ p ∷ ys)) → RowCut cs x xs p ys
     RowCut-linked x [] p ys l = record { before = tt; edge = l.0; after = l.1 }
-    RowCut-linked x (y ∷ xs) p ys l = let on = RowCut-linked y xs p ys l.1 in record { before = (l.0, on.before); edge = on.edge; after = on.after }
+    RowCut-linked x (y ∷ xs) p ys l = let on = RowCut-linked y xs p ys l.1 in
+        record { before = (l.0, on.before); edge = on.edge; after = on.after }
 
-    pub AreLinked-glued : (x : Ptr) (xs : List Ptr) (p : Ptr) (ys : List Ptr) → AreLinked cs (x ∷ xs) → AreNeighbours cs (last_from x xs) p → AreLinked cs (p ∷ ys) → AreLinked cs (x ∷ (xs ++ p ∷ ys))
+    pub AreLinked-glued : (x : Ptr) (xs : List Ptr) (p : Ptr) (ys : List Ptr)
+        → AreLinked cs (x ∷ xs) → AreNeighbours cs (last_from x xs) p → AreLinked cs (p ∷ ys)
+        → AreLinked cs (x ∷ (xs ++ p ∷ ys))
     AreLinked-glued x [] p ys l e m = (e, m)
     AreLinked-glued x (y ∷ xs) p ys l e m = (l.0, AreLinked-glued y xs p ys l.1 e m)
 
@@ -32,4 +35,5 @@ module _ {B : Type 0} where
   pub listed-append : (cs : List (Cell Links B)) (xs ys : List Ptr) → listed cs (xs ++ ys) ≡ listed cs xs ++ listed cs ys
   unfolding listed
   listed-append cs [] ys = refl
-  listed-append cs (x ∷ xs) ys = ap (λ l. one_of (content_at cs x) ++ l) (listed-append cs xs ys) ∙ sym (append_assoc (one_of (content_at cs x)) (listed cs xs) (listed cs ys))
+  listed-append cs (x ∷ xs) ys = ap (λ l. one_of (content_at cs x) ++ l) (listed-append cs xs ys)
+      ∙ sym (append_assoc (one_of (content_at cs x)) (listed cs xs) (listed cs ys))

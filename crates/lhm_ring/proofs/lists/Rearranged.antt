@@ -88,7 +88,8 @@ module _ {X : Type 0} where
       record {
         without = j.between;
         puts = j.puts_a;
-        others = subst (λ (v : List X). IsRearranged v j.between) (sym p.is) (record { without = i.without; puts = j.puts_b; others = i.others });
+        others = subst (λ (v : List X). IsRearranged v j.between) (sym p.is)
+            (record { without = i.without; puts = j.puts_b; others = i.others });
       }
 
   -- an element of the second list may stand elsewhere
@@ -99,7 +100,12 @@ module _ {X : Type 0} where
         | inl e ↦ record { without = n; puts = subst (λ (v : X). PutsIn v n ys) (sym e.0) q; others = subst (IsRearranged xs) e.1 h.others }
         | inr r ↦
             let j : PutsBoth x a r.without ys = PutsBoth-commute a x r.without n ys r.puts_a q in
-            record { without = j.between; puts = j.puts_a; others = IsRearranged-again x xs r.without h.without j.between h.others r.puts_b j.puts_b }
+            record {
+              without = j.between;
+              puts = j.puts_a;
+              others =
+                  IsRearranged-again x xs r.without h.without j.between h.others r.puts_b j.puts_b;
+            }
       ]
 
   -- one element less in both
@@ -117,9 +123,15 @@ module _ {X : Type 0} where
       subst goal (sym p.is)
       (elim (PutsIn-exchange y x h.without ys ys' h.puts q) as (λ _. IsRearranged (y ∷ p.rest) ys) [
         | inl e ↦
-            let g : IsRearranged (x ∷ p.rest) ys = IsRearranged-from x p.rest xs' ys p.puts (subst (λ (v : List X). IsRearranged xs' v) e.1 h.others) in
+            let g : IsRearranged (x ∷ p.rest) ys = IsRearranged-from x p.rest xs' ys p.puts
+            (subst (λ (v : List X). IsRearranged xs' v) e.1 h.others) in
             subst (λ (v : X). IsRearranged (v ∷ p.rest) ys) (sym e.0) g
-        | inr r ↦ record { without = r.without; puts = r.puts_a; others = IsRearranged-less x p.rest xs' r.without h.without p.puts r.puts_b h.others }
+        | inr r ↦ record {
+          without = r.without;
+          puts = r.puts_a;
+          others =
+              IsRearranged-less x p.rest xs' r.without h.without p.puts r.puts_b h.others;
+        }
       ])
 
   -- one element more in both
@@ -130,7 +142,12 @@ module _ {X : Type 0} where
   IsRearranged-more x xs (y ∷ xs') ys ys' (inr p) q h =
       let h' : IsRearranged (y ∷ p.rest) ys = subst (λ (v : List X). IsRearranged v ys) p.is h in
       let j : PutsBoth x y h'.without ys' = PutsBoth-commute y x h'.without ys ys' h'.puts q in
-      record { without = j.between; puts = j.puts_a; others = IsRearranged-more x p.rest xs' h'.without j.between p.puts j.puts_b h'.others }
+      record {
+        without = j.between;
+        puts = j.puts_a;
+        others = IsRearranged-more x p.rest xs'
+            h'.without j.between p.puts j.puts_b h'.others;
+      }
 
   -- the same in the middle of the first list
   pub IsRearranged-less_middle : (us : List X) (x : X) (vs ys ys' : List X) → PutsIn x ys ys' → IsRearranged (us ++ x ∷ vs) ys'
@@ -153,7 +170,8 @@ module _ {X : Type 0} where
       let p' : PutsIn x xs (z ∷ q.rest) = subst (PutsIn x xs) q.is p in
       elim p' [
         | inl r ↦ (zs, inl (r.0, refl))
-        | inr r ↦ let i : (ws : List X) × PutsIn x ws zs = PutsIn-later x y r.rest q.rest zs r.puts q.puts in (z ∷ i.0, PutsIn-there x z i.0 zs i.1)
+        | inr r ↦ let i : (ws : List X) × PutsIn x ws zs = PutsIn-later x y r.rest q.rest zs r.puts
+            q.puts in (z ∷ i.0, PutsIn-there x z i.0 zs i.1)
       ]
 
   pub IsRearranged-member : (us : List X) (x : X) (vs zs : List X) → IsRearranged (us ++ x ∷ vs) zs → (ws : List X) × PutsIn x ws zs

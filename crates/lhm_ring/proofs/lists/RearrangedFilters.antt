@@ -4,7 +4,8 @@ use Rattle.std.specs.Prelude.{filter}
 use Rattle.lhm_ring.proofs.lists.Rearranged.{PutsIn-there, IsRearranged-member}
 use Rattle.lhm_ring.specs.Index.{PutsIn, IsRearranged}
 
-pub PutsIn-filter_in : {X : Type 0} (p : X → Bool) (x : X) (xs ys : List X) → PutsIn x xs ys → p x ≡ true → PutsIn x (filter p xs) (filter p ys)
+pub PutsIn-filter_in : {X : Type 0} (p : X → Bool) (x : X) (xs ys : List X) → PutsIn x xs ys
+    → p x ≡ true → PutsIn x (filter p xs) (filter p ys)
 PutsIn-filter_in p x xs [] h t = absurd h
 PutsIn-filter_in {X} p x xs (y ∷ ys) (inl h) t =
     let ty : p y ≡ true = subst (λ (v : X). p v ≡ true) h.0 t in

@@ -27,10 +27,13 @@ module _ {B : Type 0} (e : Ends) (nodes : List (Cell Links B)) (all : AreBlocks 
       let here : is_block h.0.0.at ≡ true = ap is_block (at-content cs p h.0.1) ∙ is_block-content p h.0 in
       subst (λ o. AreBlocks (map (λ (t : Held B). t.at) (one_of o ++ listed cs ps))) (sym h.0.1) (here, AreBlocks-listed ps h.1)
 
-  pub AreBlocks-held : (spare : Link) (n m : ℕ) (v : State B) {total : ℕ} → IsOwned cs spare n m → state (ring_list cs n) m total ≡ v → AreBlocks (map (λ (t : Held B). t.at) v.held)
+  pub AreBlocks-held : (spare : Link) (n m : ℕ) (v : State B) {total : ℕ} → IsOwned cs spare n m
+      → state (ring_list cs n) m total ≡ v → AreBlocks (map (λ (t : Held B). t.at) v.held)
   AreBlocks-held spare n m v ok w =
       subst (λ (s : State B). AreBlocks (map (λ (t : Held B). t.at) s.held)) w
-      (subst (λ hs. AreBlocks (map (λ (t : Held B). t.at) hs)) (sym (ring_list-listed ok.ring ok.held_count)) (AreBlocks-listed ok.held_pointers ok.ring.held))
+      (subst (λ hs. AreBlocks (map (λ (t : Held B). t.at) hs))
+      (sym (ring_list-listed ok.ring ok.held_count))
+      (AreBlocks-listed ok.held_pointers ok.ring.held))
 
 -- where a node lies
 module _ {B : Type 0} (cs : List (Cell Links B)) (all : AreBlocks (pointers cs)) where

@@ -27,7 +27,8 @@ block_Good (block_ptr b o) = (tt, (tt, (tt, tt)))
 block_Good null_ptr = (tt, (record { fits = omega arith }, (tt, tt)))
 
 pub pointer_made : {M : Type 1} {𝓤 : Ura M} (𝓛 : Logic 𝓤) (p : Ptr) → ent 𝓤 (emp 𝓤) (sem 𝓛 (Pl.own_val (record { ptr = p }) (word p ∷ [])))
-pointer_made 𝓛 p = makes_shadow 𝓛 (Pl.own_val (record { ptr = p }) (word p ∷ [])) (λ vss. (tt, (tt, tt))) ((ptr_val p ∷ [], tt), (refl, (refl, tt)))
+pointer_made 𝓛 p = makes_shadow 𝓛 (Pl.own_val (record { ptr = p }) (word p ∷ []))
+    (λ vss. (tt, (tt, tt))) ((ptr_val p ∷ [], tt), (refl, (refl, tt)))
 
 module _ (T' Z : RattleType) (g : Ghosts Z.Denot) where
   abbrev pub BlockType : RattleType
@@ -36,13 +37,20 @@ module _ (T' Z : RattleType) (g : Ghosts Z.Denot) where
   abbrev pub BlockFields : RattleType
   BlockFields = Struct (shape (R-type.the_type T' Z g))
 
-  pub block_made : {M : Type 1} {𝓤 : Ura M} (𝓛 : Logic 𝓤) (p : Ptr) → ent 𝓤 (emp 𝓤) (sem 𝓛 (BlockFields.own_val (p, (record {}, tt)) (block_val p ∷ [])))
+  pub block_made : {M : Type 1} {𝓤 : Ura M} (𝓛 : Logic 𝓤) (p : Ptr)
+      → ent 𝓤 (emp 𝓤) (sem 𝓛 (BlockFields.own_val (p, (record {}, tt)) (block_val p ∷ [])))
   block_made 𝓛 p = makes_shadow 𝓛 (BlockFields.own_val (p, (record {}, tt)) (block_val p ∷ [])) (λ vss. (tt, (tt, ((λ uss. (tt, tt)), tt))))
       ((ptr_val p ∷ [], (vstruct vnil ∷ [], tt)), (refl, (refl, ((tt, (refl, tt)), tt))))
 
   module _ {M : Type 1} {𝓤 : Ura M} {𝓛 : Logic 𝓤} {K : Type 0} {Γ : List (Item 𝓤)} {G : Goal 𝓤 𝓛.H} where
-    pub block_known : K → (r : BlockType.Denot) (vs : List Val) → (vs ≡ block_val r.ptr ∷ [] → Seq K 𝓛 (‵ (block_owns T' (g.dealloc_token r.alloc) r.ptr r.count) ∷ Γ) G) → Seq K 𝓛 (‵ (BlockType.own_val r vs) ∷ Γ) G
-    block_known t r vs k = fsplit t $ fpick t (λ vss. fsplit t $ feq_l t (λ ev. fsplit t $ feq_l t (λ ep. fsplit t $ fpick t (λ uss. fsplit t $ feq_l t (λ em. drop t $ drop t $
+    pub block_known : K → (r : BlockType.Denot) (vs : List Val)
+        → (vs ≡ block_val r.ptr ∷ []
+        → Seq K 𝓛 (‵ (block_owns T' (g.dealloc_token r.alloc) r.ptr r.count) ∷ Γ) G)
+        → Seq K 𝓛 (‵ (BlockType.own_val r vs) ∷ Γ) G
+    block_known t r vs k = fsplit t $ fpick t
+        (λ vss. fsplit t $ feq_l t
+        (λ ev. fsplit t $ feq_l t
+        (λ ep. fsplit t $ fpick t (λ uss. fsplit t $ feq_l t (λ em. drop t $ drop t $
         k (ev ∙ (λ i. vstruct (of_list (ep i ++ (em i ++ []))) ∷ [])))))))
 
 -- uninitialised links that take space lie apart from every node
@@ -50,11 +58,18 @@ module _ {M : Type 1} {𝓤 : Ura M} (𝓛 : Logic 𝓤) (𝓜 : Model 𝓤 𝓛
   abbrev New : Ptr → Fml
   New p = room_for (bare (layout E.links)) (links_address (RL E) (RK E) (RV E) p)
 
-  clash : (p : Ptr) (x : E.links.Denot) → ent 𝓤 (sep 𝓤 (sem 𝓛 (New p)) (sem 𝓛 (lies_at (RL E) full_share (links_address (RL E) (RK E) (RV E) p) x))) (never 𝓤)
+  clash : (p : Ptr) (x : E.links.Denot)
+      → ent 𝓤 (sep 𝓤 (sem 𝓛 (New p))
+      (sem 𝓛 (lies_at (RL E) full_share (links_address (RL E) (RK E) (RV E) p) x))) (never 𝓤)
   clash (block_ptr b o) x = let at : ℕ = o + lo E in
-      qed 𝓛 (‵ (froom (bare (layout E.links)) b at) ∷ ‵ (part_at (RL E) full_share x b at) ∷ []) ∵ use1 𝓛 (‵ (froom (layout E.links) b at)) (𝓛.laws.raw-room (layout E.links) b at) $ move ! (1 ∷ []) $
-      use1 𝓛 (some (λ (v : Val). given (Good (layout E.links) v) (‵ (fat full_share (layout E.links) b at v) ⊛ ‵ (E.links.own_val x (v ∷ []))))) (value_out 0 E.links E.links_laws 𝓛 x b at) $ pick ! (λ v. learn ! (λ _. split ! $
-      keep ! (2 ∷ 0 ∷ []) $ by ! (𝓜.room_at (layout E.links) (layout E.links) b at at at full_share v (omega arith, omega arith) (omega arith, omega arith))))
+      qed 𝓛 (‵ (froom (bare (layout E.links)) b at) ∷ ‵ (part_at (RL E) full_share x b at) ∷ []) ∵
+      use1 𝓛 (‵ (froom (layout E.links) b at)) (𝓛.laws.raw-room (layout E.links) b at) $ move !
+      (1 ∷ []) $
+      use1 𝓛 (some (λ (v : Val). given (Good (layout E.links) v)
+      (‵ (fat full_share (layout E.links) b at v) ⊛ ‵ (E.links.own_val x (v ∷ [])))))
+      (value_out 0 E.links E.links_laws 𝓛 x b at) $ pick ! (λ v. learn ! (λ _. split ! $
+      keep ! (2 ∷ 0 ∷ []) $ by ! (𝓜.room_at (layout E.links) (layout E.links) b at at at full_share
+      v (omega arith, omega arith) (omega arith, omega arith))))
   clash null_ptr x = fst∗ 𝓤 (never 𝓤) (never 𝓤)
 
   -- what cannot be owned at one pointer shows two
@@ -64,8 +79,13 @@ module _ {M : Type 1} {𝓤 : Ura M} (𝓛 : Logic 𝓤) (𝓜 : Model 𝓤 𝓛
     | false ↦ λ e. fact_i 𝓤 (same_ptr p q ≡ false) (F q) e
   ]) refl
 
-  pub fresh : (Z : Fml) (p : Ptr) (cs : List (Node E)) → ent 𝓤 (sep 𝓤 (sem 𝓛 (New p)) (sem 𝓛 (Cells E Z cs))) (fact 𝓤 (IsFresh p (pointers cs)))
+  pub fresh : (Z : Fml) (p : Ptr) (cs : List (Node E))
+      → ent 𝓤 (sep 𝓤 (sem 𝓛 (New p)) (sem 𝓛 (Cells E Z cs))) (fact 𝓤 (IsFresh p (pointers cs)))
   fresh Z p [] = fact_i 𝓤 (IsFresh p []) _ tt
   fresh Z p (c ∷ cs) = qed 𝓛 (‵ (New p) ∷ ‵ (Cells E Z (c ∷ cs)) ∷ []) ∵ move ! (1 ∷ []) $ fsplit ! $ fsplit ! $ move ! (3 ∷ 0 ∷ []) $
-      knows ! (same_ptr p c.at ≡ false) (differ p c.at (λ r. sep 𝓤 (sem 𝓛 (New p)) (sem 𝓛 (lies_at (RL E) full_share (links_address (RL E) (RK E) (RV E) r) c.links))) (clash p c.links)) (λ here.
-      move ! (0 ∷ 3 ∷ []) $ knows ! (IsFresh p (pointers cs)) (fresh Z p cs) (λ rest. by ! (fact_i 𝓤 (IsFresh p (c.at ∷ pointers cs)) _ (here, rest))))
+      knows ! (same_ptr p c.at ≡ false)
+      (differ p c.at (λ r. sep 𝓤 (sem 𝓛 (New p))
+      (sem 𝓛 (lies_at (RL E) full_share (links_address (RL E) (RK E) (RV E) r) c.links)))
+      (clash p c.links)) (λ here.
+      move ! (0 ∷ 3 ∷ []) $ knows ! (IsFresh p (pointers cs)) (fresh Z p cs)
+      (λ rest. by ! (fact_i 𝓤 (IsFresh p (c.at ∷ pointers cs)) _ (here, rest))))

@@ -31,7 +31,8 @@ module _ {B : Type 0} where
         }
       ]) refl
 
-  pub firsts-same : (xs : List (Ptr × Option B)) (p : Ptr) (o u : Option B) (ys : List (Ptr × Option B)) → firsts (xs ++ (p, o) ∷ ys) ≡ firsts (xs ++ (p, u) ∷ ys)
+  pub firsts-same : (xs : List (Ptr × Option B)) (p : Ptr) (o u : Option B)
+      (ys : List (Ptr × Option B)) → firsts (xs ++ (p, o) ∷ ys) ≡ firsts (xs ++ (p, u) ∷ ys)
   firsts-same [] p o u ys = refl
   firsts-same (x ∷ xs) p o u ys = ap (λ ps. x.0 ∷ ps) (firsts-same xs p o u ys)
 

@@ -64,9 +64,11 @@ module _ (R S W : RattleType) where
 
   module _ {M : Type 1} {𝓤 : Ura M} (𝓛 : Logic 𝓤) where
     -- what is lent of a stem shows what a node of holes does
-    stem_seen : (κ : Lft) (p : Ptr) (l : R.Denot) (b : Body) → Entails 𝓛 (lent_at R (links_address R S W p) l κ) (cell_lent R HS HW (cell p l b) κ)
+    stem_seen : (κ : Lft) (p : Ptr) (l : R.Denot) (b : Body)
+        → Entails 𝓛 (lent_at R (links_address R S W p) l κ) (cell_lent R HS HW (cell p l b) κ)
     stem_seen κ p l None = qed 𝓛 (‵ (lent_at R (links_address R S W p) l κ) ∷ []) ∵ empty ! $ move ! (1 ∷ 0 ∷ []) $ fjoin ! $ done !
-    stem_seen κ null_ptr l (Some x) = qed 𝓛 (‵ (lent_at R (links_address R S W null_ptr) l κ) ∷ []) ∵ fsplit ! $ keep ! (0 ∷ []) $ by ! (never_e 𝓤 _)
+    stem_seen κ null_ptr l (Some x) = qed 𝓛 (‵ (lent_at R (links_address R S W null_ptr) l κ) ∷ [])
+        ∵ fsplit ! $ keep ! (0 ∷ []) $ by ! (never_e 𝓤 _)
     stem_seen κ (block_ptr b o) l (Some x) = qed 𝓛 (‵ (lent_at R (links_address R S W (block_ptr b o)) l κ) ∷ []) ∵
         empty ! $ empty ! $ fjoin ! $ empty ! $ empty ! $ fjoin ! $ fjoin ! $ move ! (1 ∷ 0 ∷ []) $ fjoin ! $ done !
 
@@ -103,8 +105,10 @@ module _ (E : Three) {M : Type 1} {𝓤 : Ura M} (𝓛 : Logic 𝓤) where
   abbrev Stems : Fml → List (Cell E.links.Denot (E.key.Denot × E.value.Denot)) → Fml
   Stems = stems (RL E) (RK E) (RV E)
 
-  pub contents_cut : (Z : Fml) (cs : List (Node (RL E) (RK E) (RV E))) → Entails 𝓛 (Cells E Z cs) (run cs (seconds (bodies_of cs)) ∗ Stems Z cs)
-  contents_cut = parts_cut (RL E) (RK E) (RV E) 𝓛 (stem (RL E) (RK E) (RV E)) (λ cs. run cs (seconds (bodies_of cs))) (id⊢ 𝓤 (emp 𝓤)) (λ c cs.
+  pub contents_cut : (Z : Fml) (cs : List (Node (RL E) (RK E) (RV E)))
+      → Entails 𝓛 (Cells E Z cs) (run cs (seconds (bodies_of cs)) ∗ Stems Z cs)
+  contents_cut = parts_cut (RL E) (RK E) (RV E) 𝓛 (stem (RL E) (RK E) (RV E))
+      (λ cs. run cs (seconds (bodies_of cs))) (id⊢ 𝓤 (emp 𝓤)) (λ c cs.
       qed 𝓛 (‵ (One E c) ∷ ‵ (run cs (seconds (bodies_of cs))) ∷ []) ∵ fsplit3 ! $
       move ! (1 ∷ 3 ∷ []) $ fjoin ! $ move ! (1 ∷ 2 ∷ []) $ fjoin ! $ move ! (1 ∷ 0 ∷ []) $ done !)
 
@@ -114,7 +118,8 @@ module _ (E : Three) {M : Type 1} {𝓤 : Ura M} (𝓛 : Logic 𝓤) where
   emptied_body null_ptr (Some x) = qed 𝓛 (‵ (body null_ptr (Some x)) ∷ []) ∵ fsplit ! $ keep ! (0 ∷ []) $ by ! (never_e 𝓤 _)
   emptied_body (block_ptr b o) (Some x) = qed 𝓛 (‵ (body (block_ptr b o) (Some x)) ∷ []) ∵
       use1 𝓛 (‵ (froom (layout E.key) b (o + ko E)) ⊛ ‵ (froom (layout E.value) b (o + vo E))) (body_uninit 𝓛 E b o (Some x)) $ split ! $
-      as_raw ! (layout E.key) b (o + ko E) $ move ! (1 ∷ []) $ as_raw ! (layout E.value) b (o + vo E) $ move ! (1 ∷ 0 ∷ []) $ fjoin ! $ done !
+      as_raw ! (layout E.key) b (o + ko E) $ move ! (1 ∷ []) $ as_raw ! (layout E.value) b
+      (o + vo E) $ move ! (1 ∷ 0 ∷ []) $ fjoin ! $ done !
 
   -- some bodies at the nodes
   abbrev any_run : List (Node (RL E) (RK E) (RV E)) → Fml
@@ -123,7 +128,9 @@ module _ (E : Three) {M : Type 1} {𝓤 : Ura M} (𝓛 : Logic 𝓤) where
   content_glue : (c : Node (RL E) (RK E) (RV E)) (cs : List (Node (RL E) (RK E) (RV E))) (ws : List Content)
       → Entails 𝓛 (run (c ∷ cs) ws ∗ stem (RL E) (RK E) (RV E) c) (any_run cs ∗ One E (cell c.at c.links None))
   content_glue c cs [] = qed 𝓛 (‵ ffalse ∷ ‵ (stem (RL E) (RK E) (RV E) c) ∷ []) ∵ keep ! (0 ∷ []) $ by ! (never_e 𝓤 _)
-  content_glue c cs (w ∷ ws) = qed 𝓛 (‵ (run (c ∷ cs) (w ∷ ws)) ∷ ‵ (stem (RL E) (RK E) (RV E) c) ∷ []) ∵ fsplit ! $ use1 𝓛 (‵ (body c.at None)) (emptied_body c.at w) $ move ! (2 ∷ []) $ fsplit ! $
+  content_glue c cs (w ∷ ws) = qed 𝓛 (‵ (run (c ∷ cs) (w ∷ ws)) ∷ ‵ (stem (RL E) (RK E) (RV E) c) ∷
+      []) ∵ fsplit ! $ use1 𝓛 (‵ (body c.at None)) (emptied_body c.at w) $ move ! (2 ∷ []) $ fsplit
+      ! $
       -- [the links; the deed; the body; the bodies]
       move ! (0 ∷ 2 ∷ 1 ∷ []) $ fjoin3 ! $ move ! (1 ∷ []) $ fpack ! (List Content) (run cs) ws $ done !
 
@@ -135,8 +142,11 @@ module _ (E : Three) {M : Type 1} {𝓤 : Ura M} (𝓛 : Logic 𝓤) where
 abbrev pub ContentMarker : NamedLft → (R S W : RattleType) → RattleType
 ContentMarker a R S W = Struct (owning.shape (S-type.the_type a R S W))
 
-pub content_loan_made : (a : NamedLft) (R S W : RattleType) {M : Type 1} {𝓤 : Ura M} (𝓛 : Logic 𝓤) → ent 𝓤 (emp 𝓤) (sem 𝓛 ((ContentMarker a R S W).own_val (tt, tt) (marker ∷ [])))
-content_loan_made a R S W 𝓛 = makes_shadow 𝓛 ((ContentMarker a R S W).own_val (tt, tt) (marker ∷ [])) (λ vss. (tt, ((λ uss. (tt, tt)), tt))) ((vstruct vnil ∷ [], tt), (refl, ((tt, (refl, tt)), tt)))
+pub content_loan_made : (a : NamedLft) (R S W : RattleType) {M : Type 1} {𝓤 : Ura M} (𝓛 : Logic 𝓤)
+    → ent 𝓤 (emp 𝓤) (sem 𝓛 ((ContentMarker a R S W).own_val (tt, tt) (marker ∷ [])))
+content_loan_made a R S W 𝓛 = makes_shadow 𝓛 ((ContentMarker a R S W).own_val (tt, tt)
+    (marker ∷ [])) (λ vss. (tt, ((λ uss. (tt, tt)), tt)))
+    ((vstruct vnil ∷ [], tt), (refl, ((tt, (refl, tt)), tt)))
 
 -- an array of no bytes lies anywhere
 abbrev pub Anchor : RattleType
@@ -146,8 +156,10 @@ pub anchor_made : {M : Type 1} {𝓤 : Ura M} (𝓛 : Logic 𝓤) (b o : ℕ) �
 unfolding part_of
 anchor_made {𝓤 = 𝓤} 𝓛 b o = qed 𝓛 (raw (emp 𝓤) ∷ []) ∵
     use1 𝓛 (‵ (fat full_share (ty_array (ty_int w8) 0) b o (vstruct vnil))) (𝓛.laws.elems_at full_share (ty_int w8) b o []) $
-    empty ! $ feq_i ! ℕ 0 0 refl $ feq_i ! (List Val) (vstruct vnil ∷ []) (vstruct vnil ∷ []) refl $ fjoin ! $ move ! (0 ∷ 1 ∷ []) $ fjoin ! $
-    fpack ! (List Val) (λ us. fsep (shape {X = ℕ} 0 [] (vstruct vnil ∷ []) us) (each ℕ u8.own_val [] us)) [] $ move ! (1 ∷ 0 ∷ []) $ fjoin ! $
+    empty ! $ feq_i ! ℕ 0 0 refl $ feq_i ! (List Val) (vstruct vnil ∷ []) (vstruct vnil ∷ []) refl $
+    fjoin ! $ move ! (0 ∷ 1 ∷ []) $ fjoin ! $
+    fpack ! (List Val) (λ us. fsep (shape {X = ℕ} 0 [] (vstruct vnil ∷ []) us)
+    (each ℕ u8.own_val [] us)) [] $ move ! (1 ∷ 0 ∷ []) $ fjoin ! $
     fpack ! (List Val) (λ us. fsep (cell_at full_share Anchor.mir us b o) (Anchor.own_val [] us)) (vstruct vnil ∷ []) $ done !
 
 -- the nodes without their bodies, and the way back
@@ -158,23 +170,44 @@ module _ (E : Three) {M : Type 1} {𝓤 : Ura M} (𝓛 : Logic 𝓤) (h : (Nr E)
   abbrev pub LentBodies : SemTy
   LentBodies = Bodies (RL E) (RK E) (RV E) (firsts (bodies_of h.cells))
 
-  pub fields_made : (vs : List Val) → Entails 𝓛 ((Marker E).own_val (tt, tt) vs ∗ stems (RL E) (RK E) (RV E) (Land E h) h.cells ∗ cell_at full_share (Nr E).mir vs rb ro) Fields
+  pub fields_made : (vs : List Val)
+      → Entails 𝓛 ((Marker E).own_val (tt, tt) vs ∗ stems (RL E) (RK E) (RV E) (Land E h) h.cells ∗
+      cell_at full_share (Nr E).mir vs rb ro) Fields
   unfolding part_of
-  fields_made vs = qed 𝓛 (‵ ((Marker E).own_val (tt, tt) vs) ∷ ‵ (stems (RL E) (RK E) (RV E) (Land E h) h.cells) ∷ ‵ (cell_at full_share (Nr E).mir vs rb ro) ∷ []) ∵
-      fjoin ! $ move ! (1 ∷ 0 ∷ []) $ fjoin ! $ fpack ! (List Val) (λ us. fsep (cell_at full_share (Nr E).mir us rb ro) ((BareRow (RL E) (RK E) (RV E)).own_val h us)) vs $ done !
+  fields_made vs = qed 𝓛 (‵ ((Marker E).own_val (tt, tt) vs) ∷ ‵
+      (stems (RL E) (RK E) (RV E) (Land E h) h.cells) ∷ ‵ (cell_at full_share (Nr E).mir vs rb ro) ∷
+      []) ∵
+      fjoin ! $ move ! (1 ∷ 0 ∷ []) $ fjoin ! $ fpack ! (List Val)
+      (λ us. fsep (cell_at full_share (Nr E).mir us rb ro)
+      ((BareRow (RL E) (RK E) (RV E)).own_val h us)) vs $ done !
 
-  pub back : (δ : GName) (w : List ℕ) → ent 𝓤 (sep 𝓤 (sem 𝓛 ((mem Anchor).own_at w rb ro)) (sep 𝓤 (sem 𝓛 (fseps (Borrowed LentBodies 0 0 δ ∷ Fields ∷ []))) (emp 𝓤))) (sem 𝓛 ((mem (Nr E)).own_at (cleared_nodes h) rb ro))
+  pub back : (δ : GName) (w : List ℕ)
+      → ent 𝓤 (sep 𝓤 (sem 𝓛 ((mem Anchor).own_at w rb ro))
+      (sep 𝓤 (sem 𝓛 (fseps (Borrowed LentBodies 0 0 δ ∷ Fields ∷ []))) (emp 𝓤)))
+      (sem 𝓛 ((mem (Nr E)).own_at (cleared_nodes h) rb ro))
   unfolding fseps part_of
-  back δ w = qed 𝓛 (‵ ((mem Anchor).own_at w rb ro) ∷ ‵ (fseps (Borrowed LentBodies 0 0 δ ∷ Fields ∷ [])) ∷ raw (emp 𝓤) ∷ []) ∵ drop ! $ fsplit ! $ fpick ! (λ os. fsplit ! $ move ! (2 ∷ []) $ fsplit ! $ fpick ! (λ vs. fsplit ! $ move ! (1 ∷ []) $ fsplit ! $
+  back δ w = qed 𝓛 (‵ ((mem Anchor).own_at w rb ro) ∷ ‵
+      (fseps (Borrowed LentBodies 0 0 δ ∷ Fields ∷ [])) ∷ raw (emp 𝓤) ∷ []) ∵ drop ! $ fsplit ! $
+      fpick ! (λ os. fsplit ! $ move ! (2 ∷ []) $ fsplit ! $ fpick !
+      (λ vs. fsplit ! $ move ! (1 ∷ []) $ fsplit ! $
       -- [the marker; the stems; the cell; nothing; the bodies; their name; nothing]
-      move ! (4 ∷ []) $ fpack ! (List (Content E 𝓛)) (run E 𝓛 h.cells) os $ move ! (0 ∷ 2 ∷ []) $ use2 𝓛 (‵ (Cells E (Land E h) (cleared h.cells))) (contents_glue E 𝓛 (Land E h) h.cells) $ move ! (1 ∷ 0 ∷ []) $ fjoin ! $ move ! (1 ∷ 0 ∷ []) $ fjoin ! $
-      fpack ! (List Val) (λ us. fsep (cell_at full_share (Nr E).mir us rb ro) ((Nr E).own_val (cleared_nodes h) us)) vs $ keep ! (0 ∷ []) $ done !))
+      move ! (4 ∷ []) $ fpack ! (List (Content E 𝓛)) (run E 𝓛 h.cells) os $ move ! (0 ∷ 2 ∷ []) $
+      use2 𝓛 (‵ (Cells E (Land E h) (cleared h.cells))) (contents_glue E 𝓛 (Land E h) h.cells) $
+      move ! (1 ∷ 0 ∷ []) $ fjoin ! $ move ! (1 ∷ 0 ∷ []) $ fjoin ! $
+      fpack ! (List Val) (λ us. fsep (cell_at full_share (Nr E).mir us rb ro)
+      ((Nr E).own_val (cleared_nodes h) us)) vs $ keep ! (0 ∷ []) $ done !))
 
 module _ {M : Type 1} {𝓤 : Ura M} {𝓛 : Logic 𝓤} {K : Type 0} {Γ : List (Item 𝓤)} {G : Goal 𝓤 𝓛.H} where
   -- three values make a triple
   pub three_made : K → (R S U : RattleType) (x : R.Denot) (y : S.Denot) (z : U.Denot) (u v w : Val)
-      → Step K 𝓛 (‵ ((Struct (record { name = []; args = []; types = []; fields = R ∷ S ∷ U ∷ [] })).own_val (x, (y, (z, tt))) (vstruct (vcons u (vcons v (vcons w vnil))) ∷ [])) ∷ Γ) G (‵ (R.own_val x (u ∷ [])) ∷ ‵ (S.own_val y (v ∷ [])) ∷ ‵ (U.own_val z (w ∷ [])) ∷ Γ) G
+      → Step K 𝓛 (‵ ((Struct
+      (record { name = []; args = []; types = []; fields = R ∷ S ∷ U ∷ [] })).own_val
+      (x, (y, (z, tt))) (vstruct (vcons u (vcons v (vcons w vnil))) ∷ [])) ∷ Γ) G
+      (‵ (R.own_val x (u ∷ [])) ∷ ‵ (S.own_val y (v ∷ [])) ∷ ‵ (U.own_val z (w ∷ [])) ∷ Γ) G
   three_made t R S U x y z u v w = step (λ s.
       let all : Val = vstruct (vcons u (vcons v (vcons w vnil))) in
-      empty t $ move t (3 ∷ 0 ∷ []) $ fjoin t $ move t (2 ∷ 0 ∷ []) $ fjoin t $ move t (1 ∷ 0 ∷ []) $ fjoin t $ feq_i t (List Val) (all ∷ []) (all ∷ []) refl $ fjoin t $
-      fpack t (Valss (R ∷ S ∷ U ∷ [])) (within (record { name = []; args = []; types = []; fields = R ∷ S ∷ U ∷ [] }) (x, (y, (z, tt))) (all ∷ [])) (u ∷ [], (v ∷ [], (w ∷ [], tt))) $ s)
+      empty t $ move t (3 ∷ 0 ∷ []) $ fjoin t $ move t (2 ∷ 0 ∷ []) $ fjoin t $ move t (1 ∷ 0 ∷ [])
+      $ fjoin t $ feq_i t (List Val) (all ∷ []) (all ∷ []) refl $ fjoin t $
+      fpack t (Valss (R ∷ S ∷ U ∷ []))
+      (within (record { name = []; args = []; types = []; fields = R ∷ S ∷ U ∷ [] })
+      (x, (y, (z, tt))) (all ∷ [])) (u ∷ [], (v ∷ [], (w ∷ [], tt))) $ s)

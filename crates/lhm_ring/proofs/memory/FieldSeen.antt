@@ -16,7 +16,8 @@ use Rattle.lhm_ring.proofs.memory.Steps.{Option, named, Lft, ◌⊑◌, hide, Bo
 use Rattle.lhm_ring.proofs.memory.Steps.{sep, Ty, RefOf, Args, param, fst∗, lent_at, WpFn, suffices}
 use Rattle.lhm_ring.proofs.memory.Steps.{states, all_spent, tokens}
 use mathlib.Core.Option.{some}
-use mir.Syntax.{Sym, ty_ptr, ty_ref, imm, erased, local, value_local, seq, assign, block, return, place, field, deref, copy, rv_opd, addr_of, Fn, Callee}
+use mir.Syntax.{Sym, ty_ptr, ty_ref, imm, erased, local, value_local, seq, assign, block, return}
+use mir.Syntax.{place, field, deref, copy, rv_opd, addr_of, Fn, Callee}
 use prog.Memory.{field_of}
 use prog.Model.{Model}
 use prog.Wp.{Closed}
@@ -37,7 +38,9 @@ use Rattle.lhm_ring.specs.Nodes.{body_lent, cell_lent, cells_lent}
 -- the code, with the field k of the node at the pointer
 abbrev with_code : Fn → Ty → Ty → Sym → Ty → ℕ → Fn
 with_code fn ρ σ ν δ k = record fn {
-  locals = local (ty_ref (named 0) imm ρ) value_local ∷ local (ty_ref (named 0) imm σ) value_local ∷ local (word_ty ν) value_local ∷ local ty_ptr value_local ∷ local (ty_ref erased imm ρ) value_local ∷ [];
+  locals = local (ty_ref (named 0) imm ρ) value_local ∷ local (ty_ref (named 0) imm σ) value_local ∷
+      local (word_ty ν) value_local ∷ local ty_ptr value_local ∷ local (ty_ref erased imm ρ)
+      value_local ∷ [];
   body =
       seq (assign (place 3 []) (rv_opd (copy (place 2 (field 0 ∷ [])))))
       (seq (block (assign (place 4 []) (addr_of (place 3 (deref δ ∷ field k ∷ [])))))
@@ -84,7 +87,10 @@ module _ (E : Three) (i : ℕ) (Y : RattleType) (off : ℕ) {M : Type 1} {𝓤 :
   abbrev clauses : Clauses 𝓤 ended
   clauses κs a = record {
     ghost = Unit {0};
-    requires = λ _. sep 𝓤 (fact 𝓤 (lft_at 4 1 tt κs ⊑ E.links.lives)) (sep 𝓤 (fact 𝓤 (lft_at 4 2 tt κs ⊑ E.key.lives)) (sep 𝓤 (fact 𝓤 (lft_at 4 3 tt κs ⊑ E.value.lives)) (fact 𝓤 (Asked a.0.now.cells a.1.0.ptr))));
+    requires = λ _. sep 𝓤 (fact 𝓤 (lft_at 4 1 tt κs ⊑ E.links.lives))
+        (sep 𝓤 (fact 𝓤 (lft_at 4 2 tt κs ⊑ E.key.lives))
+        (sep 𝓤 (fact 𝓤 (lft_at 4 3 tt κs ⊑ E.value.lives))
+        (fact 𝓤 (Asked a.0.now.cells a.1.0.ptr))));
     ensures = λ _ r _. fact 𝓤 (Told r.now a.0.now.cells a.1.0.ptr);
   }
 
@@ -92,30 +98,49 @@ module _ (E : Three) (i : ℕ) (Y : RattleType) (off : ℕ) {M : Type 1} {𝓤 :
     pub value : Y.Denot
     pub told : Told value cs p
     pub cut : Cut cs p
-    pub lent : (κ : Lft) → ent 𝓤 (sem 𝓛 (cell_lent (RL E) (RK E) (RV E) cut.split.node κ)) (sem 𝓛 (lent_at F (cut.split.node.at +ₚ off) value κ))
+    pub lent : (κ : Lft) → ent 𝓤 (sem 𝓛 (cell_lent (RL E) (RK E) (RV E) cut.split.node κ))
+        (sem 𝓛 (lent_at F (cut.split.node.at +ₚ off) value κ))
 
   pub field_seen : (f : Args → Callee) (fn : Fn) → Closed 𝓤 𝓛.H 𝓣.C 𝓣.Λ (f (args E)) (inst_fn (args E) fn)
-      → {ρ σ : Ty} {ν : Sym} {δ τ : Ty} {k : ℕ} → inst_fn (args E) fn ≡ with_code (inst_fn (args E) fn) ρ σ ν δ k → field_of δ k ≡ some (τ, off)
+      → {ρ σ : Ty} {ν : Sym} {δ τ : Ty} {k : ℕ} → inst_fn (args E) fn ≡ with_code
+      (inst_fn (args E) fn) ρ σ ν δ k → field_of δ k ≡ some (τ, off)
       → ((cs : List (Node E)) (p : Ptr) → Asked cs p → Seen cs p) → Meets 𝓛 ended.signature (𝓣.C (f (args E))) (closing 𝓛 ended clauses)
   field_seen f fn closed {ρ} {σ} {ν} {δ} {τ} {k} code lies seen =
       let H = 𝓛.H in let N = Nr E in let R = RL E in let S = RK E in let W = RV E in
       let Self = RefOf (0 ∷ []) tt (plain (λ _. N)) (λ _. tt) in
       let hs : Stays ended.signature.params ended.kept = (stay_dropped Self yes, (stay_dropped (plain (λ _. Pl)) yes, tt)) in
-      proved_at 𝓛 ended hs clauses 𝓜 𝓡 (Goes-dropped 𝓛 4 Self yes (λ κs x f. refl), (Goes-dropped 𝓛 4 (plain (λ _. Pl)) yes (λ κs x f. refl), tt)) (f (args E)) (inst_fn (args E) fn) closed (λ y are.
-      let κs = y.0.0 in let qs = y.0.1 in let a = y.0.3 in let vss = y.0.4 in let Post : Val → SProp 𝓤 = (walk_of 𝓛 ended hs clauses).post y in
-      let κ : Lft = κs.0 in let rb : ℕ = a.0.ref_ptr.0 in let ro : ℕ = a.0.ref_ptr.1 in let h : N.Denot = a.0.now in let p : Ptr = a.1.0.ptr in
-      qed 𝓛 (((‵ (flft κs.0 qs.0) ⊛ ‵ (tokens 3 κs.1 qs.1)) ⊛ ‵ (owns (types_at ended.signature.params κs) a vss)) ∷ raw (fact 𝓤 _) ∷ raw (fact 𝓤 _) ∷ raw (fact 𝓤 _) ∷ raw (fact 𝓤 (Asked h.cells p)) ∷ []) ∵
-      keep ! (4 ∷ 0 ∷ []) $ heard ! (Asked h.cells p) (λ asked. split ! $ split ! $ move ! (2 ∷ []) $ fsplit ! $ fsplit ! $ keep ! (1 ∷ 3 ∷ 4 ∷ []) $
-      let us : List Val = vptr rb ro ∷ word p ∷ [] in let fn' : Fn = with_code (inst_fn (args E) fn) ρ σ ν δ k in let Run : Fn → List Val → SProp 𝓤 = λ e ws. WpFn 𝓤 H 𝓣.C 𝓣.Λ e ws Post in
-      suffices ! (Run fn' us) (subst (λ (P : SProp 𝓤). ent 𝓤 (Run fn' us) P) (sym (λ j. Run (code j) (are.0.0 j ++ (word-pointer a.1.0 vss.1.0 are.1.0 j ++ [])))) (id⊢ 𝓤 (Run fn' us))) $
+      proved_at 𝓛 ended hs clauses 𝓜 𝓡 (
+        Goes-dropped 𝓛 4 Self yes (λ κs x f. refl),
+        (Goes-dropped 𝓛 4 (plain (λ _. Pl)) yes (λ κs x f. refl), tt),
+      ) (f (args E))
+      (inst_fn (args E) fn) closed (λ y are.
+      let κs = y.0.0 in let qs = y.0.1 in let a = y.0.3 in let vss = y.0.4 in let Post : Val
+      → SProp 𝓤 = (walk_of 𝓛 ended hs clauses).post y in
+      let κ : Lft = κs.0 in let rb : ℕ = a.0.ref_ptr.0 in let ro : ℕ = a.0.ref_ptr.1 in
+      let h : N.Denot = a.0.now in let p : Ptr = a.1.0.ptr in
+      qed 𝓛 (((‵ (flft κs.0 qs.0) ⊛ ‵ (tokens 3 κs.1 qs.1)) ⊛ ‵
+      (owns (types_at ended.signature.params κs) a vss)) ∷ raw (fact 𝓤 _) ∷ raw (fact 𝓤 _) ∷ raw
+      (fact 𝓤 _) ∷ raw (fact 𝓤 (Asked h.cells p)) ∷ []) ∵
+      keep ! (4 ∷ 0 ∷ []) $ heard ! (Asked h.cells p) (λ asked. split ! $ split ! $ move !
+      (2 ∷ []) $ fsplit ! $ fsplit ! $ keep ! (1 ∷ 3 ∷ 4 ∷ []) $
+      let us : List Val = vptr rb ro ∷ word p ∷ [] in let fn' : Fn = with_code (inst_fn (args E) fn)
+      ρ σ ν δ k in let Run : Fn → List Val → SProp 𝓤 = λ e ws. WpFn 𝓤 H 𝓣.C 𝓣.Λ e ws Post in
+      suffices ! (Run fn' us) (subst (λ (P : SProp 𝓤). ent 𝓤 (Run fn' us) P)
+      (sym (λ j. Run (code j) (are.0.0 j ++ (word-pointer a.1.0 vss.1.0 are.1.0 j ++ []))))
+      (id⊢ 𝓤 (Run fn' us))) $
       enter ! 𝓣.C 𝓣.Λ fn' us Post $ alloc_all ! (λ l. pass_all ! refl ((tt, tt), (word-Good ν p, tt)) $ let Ev = env fn'.locals l in
       let s = seen h.cells p asked in let x = s.value in let c : Node E = s.cut.split.node in
       unhide ! $ fsplit ! $ drop ! $ rewrite ! 0 (λ (cs : List (Node E)). ‵ (cells_lent R S W cs κ)) s.cut.split.is refl $
-      use1 𝓛 (‵ (lent_at F (c.at +ₚ off) x κ)) (via 𝓤 (sem 𝓛 (cell_lent R S W c κ)) (cell_seen 𝓛 E κ s.cut.split.before c s.cut.split.after) (s.lent κ)) $
-      in_a_block ! c.at (λ q. lent_at F (q +ₚ off) x κ) (fst∗ 𝓤 (never 𝓤) (sem 𝓛 (shared_of F x 0 0 κ))) (λ pb po e. fsplit ! $ drop ! $ hide ! $
+      use1 𝓛 (‵ (lent_at F (c.at +ₚ off) x κ)) (via 𝓤 (sem 𝓛 (cell_lent R S W c κ))
+      (cell_seen 𝓛 E κ s.cut.split.before c s.cut.split.after) (s.lent κ)) $
+      in_a_block ! c.at (λ q. lent_at F (q +ₚ off) x κ)
+      (fst∗ 𝓤 (never 𝓤) (sem 𝓛 (shared_of F x 0 0 κ))) (λ pb po e. fsplit ! $ drop ! $ hide ! $
       let r : Val = vptr pb (po + off) in let out : Bor Y.Denot = record { ref_ptr = (pb, po + off); now = x } in
-      sets ! (is ! (of_opd ! (get_in ! (fld ! refl (stop !)) (sub ! 0 refl (whole !)))) (ap ptr_val (sym s.cut.split.at_is ∙ e))) refl (tt, tt) $ first ! $ blocks ! $
-      sets_last ! (addr ! (through ! refl (fld ! lies (stop !)))) refl (tt, tt) $ exec ! 𝓣.C 𝓣.Λ Ev (after 2 fn'.body) (at_ret Ev Post) $ sets ! (of_opd ! (get ! refl)) refl (tt, tt) $
+      sets ! (is ! (of_opd ! (get_in ! (fld ! refl (stop !)) (sub ! 0 refl (whole !))))
+      (ap ptr_val (sym s.cut.split.at_is ∙ e))) refl (tt, tt) $ first ! $ blocks ! $
+      sets_last ! (addr ! (through ! refl (fld ! lies (stop !)))) refl (tt, tt) $ exec ! 𝓣.C 𝓣.Λ Ev
+      (after 2 fn'.body) (at_ret Ev Post) $ sets ! (of_opd ! (get ! refl)) refl (tt, tt) $
       feq_i ! (List Val) (r ∷ []) (r ∷ []) refl $ fjoin ! $ move ! (1 ∷ 2 ∷ []) $ join ! $
       states ! (Told x h.cells p) s.told $ all_spent ! 2 $
-      returns ! (look_at ! 0 refl) $ free_all ! refl $ keep ! (2 ∷ 0 ∷ 3 ∷ 1 ∷ []) $ by ! (leaves 𝓛 ended hs clauses y r out (tt, (tt, tt)) (tt, (tt, tt)))))))
+      returns ! (look_at ! 0 refl) $ free_all ! refl $ keep ! (2 ∷ 0 ∷ 3 ∷ 1 ∷ []) $ by !
+      (leaves 𝓛 ended hs clauses y r out (tt, (tt, tt)) (tt, (tt, tt)))))))

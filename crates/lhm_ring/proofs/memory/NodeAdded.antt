@@ -13,7 +13,8 @@ use Rattle.lhm_ring.specs.Links.{ends_links, ring_cells, link_of, has_links, lin
 false_true : false ≡ true → ⊥
 false_true e = cc
 
-module _ {B : Type 0} (e : Ends) (nodes : List (Cell Links B)) (p : Ptr) (l : Links) (b : is_block p ≡ true) (d : IsApart (pointers (cell p l None ∷ nodes))) where
+module _ {B : Type 0} (e : Ends) (nodes : List (Cell Links B)) (p : Ptr) (l : Links)
+    (b : is_block p ≡ true) (d : IsApart (pointers (cell p l None ∷ nodes))) where
   abbrev cs : List (Cell Links B)
   cs = ring_cells e nodes
 
@@ -22,7 +23,8 @@ module _ {B : Type 0} (e : Ends) (nodes : List (Cell Links B)) (p : Ptr) (l : Li
 
   cell_at-other : (q : Ptr) → same_ptr p q ≡ false → cell_at ds q ≡ cell_at cs q
   unfolding cell_at
-  cell_at-other q n = ap (λ y. cond (same_ptr null_ptr q) (Some (cell null_ptr (ends_links e) None)) (cond y (Some (cell p l None)) (cell_at nodes q))) n
+  cell_at-other q n = ap (λ y. cond (same_ptr null_ptr q) (Some (cell null_ptr (ends_links e) None))
+      (cond y (Some (cell p l None)) (cell_at nodes q))) n
 
   cell_at-newest : cell_at (cell p l None ∷ nodes) p ≡ Some (cell p l None)
   unfolding cell_at
@@ -35,7 +37,8 @@ module _ {B : Type 0} (e : Ends) (nodes : List (Cell Links B)) (p : Ptr) (l : Li
   unfolding cell_at
   same_ptr-nowhere [] f q h = absurd (false_true h)
   same_ptr-nowhere (z ∷ zs) f q h =
-      (elim (same_ptr z.at q) as (λ y. same_ptr z.at q ≡ y → has_links (links_of (cond y (Some z) (cell_at zs q))) ≡ true → same_ptr p q ≡ false) [
+      (elim (same_ptr z.at q) as (λ y. same_ptr z.at q ≡ y
+      → has_links (links_of (cond y (Some z) (cell_at zs q))) ≡ true → same_ptr p q ≡ false) [
         | true ↦ λ s k. subst (λ r. same_ptr p r ≡ false) (same_ptr-equal z.at q s) f.0
         | false ↦ λ s k. same_ptr-nowhere zs f.1 q k
       ]) refl h
@@ -61,13 +64,27 @@ module _ {B : Type 0} (e : Ends) (nodes : List (Cell Links B)) (p : Ptr) (l : Li
 
     pub IsRing-added : IsRing ds ps (Some p) (p ∷ ss)
     IsRing-added = record {
-      linked = AreLinked-other cs ds p cell_at-other (null_ptr ∷ (ps ++ null_ptr ∷ [])) (IsFresh-added.0, AllByRecursion-append P ps (null_ptr ∷ []) (AllByRecursion-left P ps ss IsFresh-added.1) (IsFresh-added.0, tt)) r.linked;
-      chained = (refl, IsSpareList-other cs ds p cell_at-other (link_at ds p) ss (AllByRecursion-right P ps ss IsFresh-added.1) (subst (λ z. IsSpareList cs z ss) (sym (link_at-added ∙ f)) r.chained));
+      linked = AreLinked-other cs ds p cell_at-other (null_ptr ∷ (ps ++ null_ptr ∷ [])) (
+        IsFresh-added.0,
+        AllByRecursion-append P ps (null_ptr ∷ [])
+            (AllByRecursion-left P ps ss IsFresh-added.1) (IsFresh-added.0, tt),
+      ) r.linked;
+      chained = (
+        refl,
+        IsSpareList-other cs ds p cell_at-other (link_at ds p) ss
+            (AllByRecursion-right P ps ss IsFresh-added.1) (subst (λ z. IsSpareList cs z ss)
+            (sym (link_at-added ∙ f)) r.chained),
+      );
       held = AllByRecursion-content_other cs ds p cell_at-other ps (AllByRecursion-left P ps ss IsFresh-added.1) r.held;
       there = (
         is_there-added null_ptr r.there.0,
-        AllByRecursion-append (IsThere ds) ps (p ∷ ss) (AllByRecursion-map T (IsThere ds) is_there-added ps (AllByRecursion-left T ps ss r.there.1))
-            (ap (λ z. has_links (links_of z)) cell_at-added, AllByRecursion-map T (IsThere ds) is_there-added ss (AllByRecursion-right T ps ss r.there.1)),
+        AllByRecursion-append (IsThere ds) ps (p ∷ ss)
+            (AllByRecursion-map T (IsThere ds) is_there-added ps
+            (AllByRecursion-left T ps ss r.there.1)) (
+              ap (λ z. has_links (links_of z)) cell_at-added,
+              AllByRecursion-map T (IsThere ds)
+                  is_there-added ss (AllByRecursion-right T ps ss r.there.1),
+            ),
       );
       apart = IsApart-inserted (null_ptr ∷ ps) p ss IsFresh-added r.apart;
       count = ap (λ n. suc n) r.count ∙ omega arith;

@@ -84,7 +84,8 @@ abbrev pub marker : Val
 marker = vstruct (vcons (vstruct vnil) vnil)
 
 pub marker_made : (E : Three) {M : Type 1} {𝓤 : Ura M} (𝓛 : Logic 𝓤) → ent 𝓤 (emp 𝓤) (sem 𝓛 ((Marker E).own_val (tt, tt) (marker ∷ [])))
-marker_made E 𝓛 = makes_shadow 𝓛 ((Marker E).own_val (tt, tt) (marker ∷ [])) (λ vss. (tt, ((λ uss. (tt, tt)), tt))) ((vstruct vnil ∷ [], tt), (refl, ((tt, (refl, tt)), tt)))
+marker_made E 𝓛 = makes_shadow 𝓛 ((Marker E).own_val (tt, tt) (marker ∷ []))
+    (λ vss. (tt, ((λ uss. (tt, tt)), tt))) ((vstruct vnil ∷ [], tt), (refl, ((tt, (refl, tt)), tt)))
 
 pub alone : (τ : Ty) (vs : List Val) → Typed (τ ∷ []) vs → (v : Val) × ((vs ≡ v ∷ []) × Good τ v)
 alone τ [] t = absurd t
@@ -94,20 +95,32 @@ alone τ (v ∷ w ∷ vs) t = absurd t.1
 module _ (i : ℕ) (Y : RattleType) (L : Laws Y) {M : Type 1} {𝓤 : Ura M} (𝓛 : Logic 𝓤) where
   open 𝓛 use {H}
 
-  pub value_out : (x : Y.Denot) (b o : ℕ) → ent 𝓤 (sem 𝓛 (part_at (param i Y) full_share x b o)) (ex 𝓤 (λ (v : Val). guard 𝓤 (Good (layout Y) v) (sep 𝓤 (H.at full_share (layout Y) b o v) (sem 𝓛 (Y.own_val x (v ∷ []))))))
+  pub value_out : (x : Y.Denot) (b o : ℕ) → ent 𝓤 (sem 𝓛 (part_at (param i Y) full_share x b o))
+      (ex 𝓤 (λ (v : Val). guard 𝓤 (Good (layout Y) v) (sep 𝓤 (H.at full_share (layout Y) b o v)
+      (sem 𝓛 (Y.own_val x (v ∷ []))))))
   value_out x b o = qed 𝓛 (‵ (part_at (param i Y) full_share x b o) ∷ []) ∵
-      use1 𝓛 (some (λ (v : Val). ‵ (fat full_share (layout Y) b o v) ⊛ ‵ (Y.own_val x (v ∷ [])))) (part_out 𝓛 (param i Y) refl full_share x b o) $ pick ! (λ v. split ! $ move ! (1 ∷ []) $
+      use1 𝓛 (some (λ (v : Val). ‵ (fat full_share (layout Y) b o v) ⊛ ‵ (Y.own_val x (v ∷ []))))
+      (part_out 𝓛 (param i Y) refl full_share x b o) $ pick ! (λ v. split ! $ move ! (1 ∷ []) $
       peeks ! (param i Y) (Is (param i Y)) (shows 𝓛 (param i Y)) x (v ∷ []) (λ p.
-      show ! (λ (w : Val). guard 𝓤 (Good (layout Y) w) (sep 𝓤 (H.at full_share (layout Y) b o w) (sem 𝓛 (Y.own_val x (w ∷ []))))) v $ check ! (((param_laws i Y L).lawful 𝓛).typed x (v ∷ []) p).0 $ move ! (1 ∷ 0 ∷ []) $ done !))
+      show ! (λ (w : Val). guard 𝓤 (Good (layout Y) w) (sep 𝓤 (H.at full_share (layout Y) b o w)
+      (sem 𝓛 (Y.own_val x (w ∷ []))))) v $ check ! (((param_laws i Y L).lawful 𝓛).typed x
+      (v ∷ []) p).0 $ move ! (1 ∷ 0 ∷ []) $ done !))
 
-  pub value_in : (x : Y.Denot) (b o : ℕ) (v : Val) → ent 𝓤 (sep 𝓤 (H.at full_share (layout Y) b o v) (sem 𝓛 (Y.own_val x (v ∷ [])))) (sem 𝓛 (part_at (param i Y) full_share x b o))
+  pub value_in : (x : Y.Denot) (b o : ℕ) (v : Val)
+      → ent 𝓤 (sep 𝓤 (H.at full_share (layout Y) b o v) (sem 𝓛 (Y.own_val x (v ∷ []))))
+      (sem 𝓛 (part_at (param i Y) full_share x b o))
   value_in x b o v = part_in 𝓛 (param i Y) refl full_share x b o v
 
 module _ {M : Type 1} {𝓤 : Ura M} {𝓛 : Logic 𝓤} {K : Type 0} {Γ : List (Item 𝓤)} {G : Goal 𝓤 𝓛.H} where
   module _ (i : ℕ) (Y : RattleType) (L : Laws Y) (x : Y.Denot) (b o : ℕ) where
     -- a value in memory is machine memory and what the value owns
-    pub value_known : K → ((v : Val) → Good (layout Y) v → Seq K 𝓛 (‵ (fat full_share (layout Y) b o v) ∷ ‵ (Y.own_val x (v ∷ [])) ∷ Γ) G) → Seq K 𝓛 (‵ (part_at (param i Y) full_share x b o) ∷ Γ) G
-    value_known t k = use1 𝓛 (some (λ (v : Val). given (Good (layout Y) v) (‵ (fat full_share (layout Y) b o v) ⊛ ‵ (Y.own_val x (v ∷ []))))) (value_out i Y L 𝓛 x b o) $ pick t (λ v. learn t (λ good. split t $ k v good))
+    pub value_known : K → ((v : Val) → Good (layout Y) v
+        → Seq K 𝓛 (‵ (fat full_share (layout Y) b o v) ∷ ‵ (Y.own_val x (v ∷ [])) ∷ Γ) G)
+        → Seq K 𝓛 (‵ (part_at (param i Y) full_share x b o) ∷ Γ) G
+    value_known t k = use1 𝓛
+        (some (λ (v : Val). given (Good (layout Y) v) (‵ (fat full_share (layout Y) b o v) ⊛ ‵
+        (Y.own_val x (v ∷ []))))) (value_out i Y L 𝓛 x b o) $ pick t
+        (λ v. learn t (λ good. split t $ k v good))
 
   -- what lies in memory is forgotten
   pub forgotten : K → (τ : Ty) (b o : ℕ) (v : Val) → Step K 𝓛 (‵ (froom (bare τ) b o) ∷ Γ) G (‵ (fat full_share τ b o v) ∷ Γ) G
@@ -119,22 +132,34 @@ word-pointer x vs is = is.1.0 ∙ ap (λ (ws : List Val). vstruct (of_list (ws +
 
 module _ {M : Type 1} {𝓤 : Ura M} (𝓛 : Logic 𝓤) (b o : ℕ) where
   -- a value that is forgotten leaves uninitialised memory
-  pub uninit_left : (i : ℕ) (Y : RattleType) (L : Laws Y) (x : Y.Denot) → ent 𝓤 (sem 𝓛 (part_at (param i Y) full_share x b o)) (sem 𝓛 (froom (layout Y) b o))
+  pub uninit_left : (i : ℕ) (Y : RattleType) (L : Laws Y) (x : Y.Denot)
+      → ent 𝓤 (sem 𝓛 (part_at (param i Y) full_share x b o)) (sem 𝓛 (froom (layout Y) b o))
   uninit_left i Y L x = qed 𝓛 (‵ (part_at (param i Y) full_share x b o) ∷ []) ∵
-      value_known i Y L x b o ! (λ v _. use1 𝓛 (‵ (froom (layout Y) b o)) (𝓛.laws.at_room (layout Y) b o v) $ move ! (1 ∷ []) $ drop ! $ done !)
+      value_known i Y L x b o ! (λ v _. use1 𝓛 (‵ (froom (layout Y) b o))
+      (𝓛.laws.at_room (layout Y) b o v) $ move ! (1 ∷ []) $ drop ! $ done !)
 
 module _ {M : Type 1} {𝓤 : Ura M} (𝓛 : Logic 𝓤) (E : Three) (b o : ℕ) where
   -- what a node holds, or the memory for it, is uninitialised memory
-  pub body_uninit : (x : Option (E.key.Denot × E.value.Denot)) → ent 𝓤 (sem 𝓛 (body_owns (RL E) (RK E) (RV E) (block_ptr b o) x)) (sep 𝓤 (sem 𝓛 (froom (layout E.key) b (o + ko E))) (sem 𝓛 (froom (layout E.value) b (o + vo E))))
-  body_uninit None = qed 𝓛 (‵ (body_owns (RL E) (RK E) (RV E) (block_ptr b o) None) ∷ []) ∵ fsplit ! $ use1 𝓛 (‵ (froom (layout E.key) b (o + ko E))) (𝓛.laws.raw-room (layout E.key) b (o + ko E)) $ move ! (1 ∷ []) $
+  pub body_uninit : (x : Option (E.key.Denot × E.value.Denot))
+      → ent 𝓤 (sem 𝓛 (body_owns (RL E) (RK E) (RV E) (block_ptr b o) x))
+      (sep 𝓤 (sem 𝓛 (froom (layout E.key) b (o + ko E)))
+      (sem 𝓛 (froom (layout E.value) b (o + vo E))))
+  body_uninit None = qed 𝓛 (‵ (body_owns (RL E) (RK E) (RV E) (block_ptr b o) None) ∷ []) ∵ fsplit !
+      $ use1 𝓛 (‵ (froom (layout E.key) b (o + ko E))) (𝓛.laws.raw-room (layout E.key) b (o + ko E))
+      $ move ! (1 ∷ []) $
       use1 𝓛 (‵ (froom (layout E.value) b (o + vo E))) (𝓛.laws.raw-room (layout E.value) b (o + vo E)) $ move ! (1 ∷ 0 ∷ []) $ done !
-  body_uninit (Some x) = qed 𝓛 (‵ (body_owns (RL E) (RK E) (RV E) (block_ptr b o) (Some x)) ∷ []) ∵ fsplit ! $ use1 𝓛 (‵ (froom (layout E.key) b (o + ko E))) (uninit_left 𝓛 b (o + ko E) 1 E.key E.key_laws x.0) $ move ! (1 ∷ []) $
-      use1 𝓛 (‵ (froom (layout E.value) b (o + vo E))) (uninit_left 𝓛 b (o + vo E) 2 E.value E.value_laws x.1) $ move ! (1 ∷ 0 ∷ []) $ done !
+  body_uninit (Some x) = qed 𝓛 (‵ (body_owns (RL E) (RK E) (RV E) (block_ptr b o) (Some x)) ∷ []) ∵
+      fsplit ! $ use1 𝓛 (‵ (froom (layout E.key) b (o + ko E)))
+      (uninit_left 𝓛 b (o + ko E) 1 E.key E.key_laws x.0) $ move ! (1 ∷ []) $
+      use1 𝓛 (‵ (froom (layout E.value) b (o + vo E)))
+      (uninit_left 𝓛 b (o + vo E) 2 E.value E.value_laws x.1) $ move ! (1 ∷ 0 ∷ []) $ done !
 
 module _ {M : Type 1} {𝓤 : Ura M} {𝓛 : Logic 𝓤} {K : Type 0} {Γ : List (Item 𝓤)} {G : Goal 𝓤 𝓛.H} where
   -- two values make a struct of two fields
   pub struct_made : K → (shape : Shape) (R S : RattleType) (x : R.Denot) (y : S.Denot) (u v : Val)
-      → Step K 𝓛 (‵ ((Struct (record shape { fields = R ∷ S ∷ [] })).own_val (x, (y, tt)) (vstruct (vcons u (vcons v vnil)) ∷ [])) ∷ Γ) G (‵ (R.own_val x (u ∷ [])) ∷ ‵ (S.own_val y (v ∷ [])) ∷ Γ) G
+      → Step K 𝓛 (‵ ((Struct (record shape { fields = R ∷ S ∷ [] })).own_val (x, (y, tt))
+      (vstruct (vcons u (vcons v vnil)) ∷ [])) ∷ Γ) G
+      (‵ (R.own_val x (u ∷ [])) ∷ ‵ (S.own_val y (v ∷ [])) ∷ Γ) G
   struct_made t shape R S x y u v = step (λ s.
       let w : Val = vstruct (vcons u (vcons v vnil)) in
       nothing t $ move t (2 ∷ 0 ∷ []) $ fjoin t $ move t (1 ∷ 0 ∷ []) $ fjoin t $ feq_i t (List Val) (w ∷ []) (w ∷ []) refl $ fjoin t $
@@ -142,5 +167,8 @@ module _ {M : Type 1} {𝓤 : Ura M} {𝓛 : Logic 𝓤} {K : Type 0} {Γ : List
 
   -- two values make a pair
   pub two_made : K → (R S : RattleType) (x : R.Denot) (y : S.Denot) (u v : Val)
-      → Step K 𝓛 (‵ ((Struct (record { name = []; args = []; types = []; fields = R ∷ S ∷ [] })).own_val (x, (y, tt)) (vstruct (vcons u (vcons v vnil)) ∷ [])) ∷ Γ) G (‵ (R.own_val x (u ∷ [])) ∷ ‵ (S.own_val y (v ∷ [])) ∷ Γ) G
+      → Step K 𝓛 (‵ ((Struct
+      (record { name = []; args = []; types = []; fields = R ∷ S ∷ [] })).own_val (x, (y, tt))
+      (vstruct (vcons u (vcons v vnil)) ∷ [])) ∷ Γ) G
+      (‵ (R.own_val x (u ∷ [])) ∷ ‵ (S.own_val y (v ∷ [])) ∷ Γ) G
   two_made t = struct_made t (record { name = []; args = []; types = []; fields = [] })

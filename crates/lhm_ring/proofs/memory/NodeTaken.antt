@@ -28,12 +28,17 @@ module _ {L K V : Type 0} (n : Nodes L K V) where
 
 module _ {M : Type 1} {𝓤 : Ura M} (𝓛 : Logic 𝓤) (E : Three) where
   module _ (Z : Fml) where
-    cells_cut : (xs : List (Node E)) (c : Node E) (ys : List (Node E)) → ent 𝓤 (sem 𝓛 (Cells E Z (xs ++ c ∷ ys))) (sep 𝓤 (sem 𝓛 (One E c)) (sem 𝓛 (Cells E Z (xs ++ ys))))
+    cells_cut : (xs : List (Node E)) (c : Node E) (ys : List (Node E))
+        → ent 𝓤 (sem 𝓛 (Cells E Z (xs ++ c ∷ ys)))
+        (sep 𝓤 (sem 𝓛 (One E c)) (sem 𝓛 (Cells E Z (xs ++ ys))))
     cells_cut [] c ys = id⊢ 𝓤 _
     cells_cut (x ∷ xs) c ys = qed 𝓛 (‵ (Cells E Z (x ∷ xs ++ c ∷ ys)) ∷ []) ∵ fsplit ! $ move ! (1 ∷ []) $
-        use1 𝓛 (‵ (One E c) ⊛ ‵ (Cells E Z (xs ++ ys))) (cells_cut xs c ys) $ split ! $ move ! (2 ∷ 1 ∷ []) $ fjoin ! $ move ! (1 ∷ []) $ done !
+        use1 𝓛 (‵ (One E c) ⊛ ‵ (Cells E Z (xs ++ ys))) (cells_cut xs c ys) $ split ! $ move !
+        (2 ∷ 1 ∷ []) $ fjoin ! $ move ! (1 ∷ []) $ done !
 
-    cells_glue : (xs : List (Node E)) (c : Node E) (ys : List (Node E)) → ent 𝓤 (sep 𝓤 (sem 𝓛 (One E c)) (sem 𝓛 (Cells E Z (xs ++ ys)))) (sem 𝓛 (Cells E Z (xs ++ c ∷ ys)))
+    cells_glue : (xs : List (Node E)) (c : Node E) (ys : List (Node E))
+        → ent 𝓤 (sep 𝓤 (sem 𝓛 (One E c)) (sem 𝓛 (Cells E Z (xs ++ ys))))
+        (sem 𝓛 (Cells E Z (xs ++ c ∷ ys)))
     cells_glue [] c ys = id⊢ 𝓤 _
     cells_glue (x ∷ xs) c ys = qed 𝓛 (‵ (One E c) ∷ ‵ (Cells E Z (x ∷ xs ++ ys)) ∷ []) ∵ move ! (1 ∷ []) $ fsplit ! $ move ! (2 ∷ 1 ∷ []) $
         use2 𝓛 (‵ (Cells E Z (xs ++ c ∷ ys))) (cells_glue xs c ys) $ move ! (1 ∷ 0 ∷ []) $ fjoin ! $ done !
@@ -44,12 +49,19 @@ module _ {M : Type 1} {𝓤 : Ura M} (𝓛 : Logic 𝓤) (E : Three) where
       Others = Cells E Z (k.split.before ++ k.split.after)
 
       pub node_cut : ent 𝓤 (sem 𝓛 (Cells E Z cs)) (sep 𝓤 (sem 𝓛 (One E k.split.node)) (sem 𝓛 Others))
-      node_cut = subst (λ ds. ent 𝓤 (sem 𝓛 (Cells E Z ds)) (sep 𝓤 (sem 𝓛 (One E k.split.node)) (sem 𝓛 Others))) (sym k.split.is) (cells_cut k.split.before k.split.node k.split.after)
+      node_cut = subst (λ ds. ent 𝓤 (sem 𝓛 (Cells E Z ds)) (sep 𝓤 (sem 𝓛 (One E k.split.node))
+          (sem 𝓛 Others))) (sym k.split.is) (cells_cut k.split.before k.split.node k.split.after)
 
-      pub node_glue : (f : Node E → Node E) → ent 𝓤 (sep 𝓤 (sem 𝓛 (One E (f k.split.node))) (sem 𝓛 Others)) (sem 𝓛 (Cells E Z (change p f cs)))
-      node_glue f = subst (λ ds. ent 𝓤 (sep 𝓤 (sem 𝓛 (One E (f k.split.node))) (sem 𝓛 Others)) (sem 𝓛 (Cells E Z ds))) (sym (k.changed f)) (cells_glue k.split.before (f k.split.node) k.split.after)
+      pub node_glue : (f : Node E → Node E)
+          → ent 𝓤 (sep 𝓤 (sem 𝓛 (One E (f k.split.node))) (sem 𝓛 Others))
+          (sem 𝓛 (Cells E Z (change p f cs)))
+      node_glue f = subst (λ ds. ent 𝓤 (sep 𝓤 (sem 𝓛 (One E (f k.split.node))) (sem 𝓛 Others))
+          (sem 𝓛 (Cells E Z ds))) (sym (k.changed f))
+          (cells_glue k.split.before (f k.split.node) k.split.after)
 
   -- seen through a `&`
-  pub cell_seen : (κ : Lft) (xs : List (Node E)) (c : Node E) (ys : List (Node E)) → ent 𝓤 (sem 𝓛 (cells_lent (RL E) (RK E) (RV E) (xs ++ c ∷ ys) κ)) (sem 𝓛 (cell_lent (RL E) (RK E) (RV E) c κ))
+  pub cell_seen : (κ : Lft) (xs : List (Node E)) (c : Node E) (ys : List (Node E))
+      → ent 𝓤 (sem 𝓛 (cells_lent (RL E) (RK E) (RV E) (xs ++ c ∷ ys) κ))
+      (sem 𝓛 (cell_lent (RL E) (RK E) (RV E) c κ))
   cell_seen κ [] c ys = fst∗ 𝓤 _ (sem 𝓛 (cells_lent (RL E) (RK E) (RV E) ys κ))
   cell_seen κ (x ∷ xs) c ys = via 𝓤 _ (snd∗ 𝓤 (sem 𝓛 (cell_lent (RL E) (RK E) (RV E) x κ)) _) (cell_seen κ xs c ys)

@@ -21,24 +21,31 @@ module _ {B : Type 0} where
         | false ↦ λ n. ap (λ z. cond z c.1 (body_in (without_body p run) p)) n ∙ body_in-without_body p run
       ]) refl
 
-  body_in-without_body_other : (p q : Ptr) (run : List (Ptr × Option B)) → same_ptr p q ≡ false → body_in (without_body p run) q ≡ body_in run q
+  body_in-without_body_other : (p q : Ptr) (run : List (Ptr × Option B)) → same_ptr p q ≡ false
+      → body_in (without_body p run) q ≡ body_in run q
   unfolding body_in without_body
   body_in-without_body_other p q [] n = refl
   body_in-without_body_other p q (c ∷ run) n =
-      (elim (same_ptr c.0 p) as (λ y. same_ptr c.0 p ≡ y → body_in (cond y ((c.0, None) ∷ run) (c ∷ without_body p run)) q ≡ cond (same_ptr c.0 q) c.1 (body_in run q)) [
-        | true ↦ λ t. let far = ap (λ r. same_ptr r q) (same_ptr-equal c.0 p t) ∙ n in ap (λ z. cond z None (body_in run q)) far ∙ sym (ap (λ z. cond z c.1 (body_in run q)) far)
+      (elim (same_ptr c.0 p) as (λ y. same_ptr c.0 p ≡ y
+      → body_in (cond y ((c.0, None) ∷ run) (c ∷ without_body p run)) q ≡ cond (same_ptr c.0 q) c.1
+      (body_in run q)) [
+        | true ↦ λ t. let far = ap (λ r. same_ptr r q) (same_ptr-equal c.0 p t) ∙ n in
+            ap (λ z. cond z None (body_in run q)) far
+            ∙ sym (ap (λ z. cond z c.1 (body_in run q)) far)
         | false ↦ λ _. ap (λ r. cond (same_ptr c.0 q) c.1 r) (body_in-without_body_other p q run n)
       ]) refl
 
 module _ {L B : Type 0} where
-  pub links_at-with_bodies : (cs : List (Cell L B)) (run : List (Ptr × Option B)) (q : Ptr) → links_at (with_bodies cs run) q ≡ links_at cs q
+  pub links_at-with_bodies : (cs : List (Cell L B)) (run : List (Ptr × Option B)) (q : Ptr)
+      → links_at (with_bodies cs run) q ≡ links_at cs q
   links_at-with_bodies cs run = links_at-rebodied (λ p _. body_in run p) cs
 
   pub body_at-with_bodies : (cs : List (Cell L B)) (run : List (Ptr × Option B)) (q : Ptr) (l : L) → links_at cs q ≡ Some l
       → body_at (with_bodies cs run) q ≡ body_in run q
   body_at-with_bodies cs run = body_at-rebodied (λ p _. body_in run p) cs
 
-  with_bodies-skip : (p : Ptr) (o : Option B) (run : List (Ptr × Option B)) (cs : List (Cell L B)) → IsFresh p (pointers cs) → with_bodies cs ((p, o) ∷ run) ≡ with_bodies cs run
+  with_bodies-skip : (p : Ptr) (o : Option B) (run : List (Ptr × Option B)) (cs : List (Cell L B))
+      → IsFresh p (pointers cs) → with_bodies cs ((p, o) ∷ run) ≡ with_bodies cs run
   unfolding body_in
   with_bodies-skip p o run [] f = refl
   with_bodies-skip p o run (c ∷ cs) f = λ i. cell c.at c.links (cond (f.0 i) o (body_in run c.at)) ∷ with_bodies-skip p o run cs f.1 i
@@ -47,22 +54,33 @@ module _ {L B : Type 0} where
   unfolding body_in
   with_bodies-own [] d = refl
   with_bodies-own (c ∷ cs) d =
-      let on = with_bodies-skip c.at c.body (bodies_of cs) cs (IsFresh-head c.at (pointers cs) d) ∙ with_bodies-own cs (IsApart-tail c.at (pointers cs) d) in
+      let on = with_bodies-skip c.at c.body (bodies_of cs) cs (IsFresh-head c.at (pointers cs) d)
+      ∙ with_bodies-own cs (IsApart-tail c.at (pointers cs) d) in
       λ i. cell c.at c.links (cond (same_ptr-reflexive c.at i) c.body (body_in (bodies_of cs) c.at)) ∷ on i
 
-  with_bodies-far : (p : Ptr) (run : List (Ptr × Option B)) (cs : List (Cell L B)) → IsFresh p (pointers cs) → with_bodies cs (without_body p run) ≡ with_bodies cs run
+  with_bodies-far : (p : Ptr) (run : List (Ptr × Option B)) (cs : List (Cell L B))
+      → IsFresh p (pointers cs) → with_bodies cs (without_body p run) ≡ with_bodies cs run
   with_bodies-far p run [] f = refl
   with_bodies-far p run (c ∷ cs) f = λ i. cell c.at c.links (body_in-without_body_other p c.at run f.0 i) ∷ with_bodies-far p run cs f.1 i
 
-  pub with_bodies-without_body : (p : Ptr) (run : List (Ptr × Option B)) (cs : List (Cell L B)) → IsApart (pointers cs) → with_bodies cs (without_body p run) ≡ with_body p None (with_bodies cs run)
+  pub with_bodies-without_body : (p : Ptr) (run : List (Ptr × Option B)) (cs : List (Cell L B))
+      → IsApart (pointers cs) → with_bodies cs (without_body p run) ≡ with_body p None
+      (with_bodies cs run)
   unfolding change
   with_bodies-without_body p run [] d = refl
   with_bodies-without_body p run (c ∷ cs) d =
-      (elim (same_ptr c.at p) as (λ y. same_ptr c.at p ≡ y → with_bodies (c ∷ cs) (without_body p run) ≡ cond y (cell c.at c.links None ∷ with_bodies cs run) (cell c.at c.links (body_in run c.at) ∷ with_body p None (with_bodies cs run))) [
+      (elim (same_ptr c.at p) as (λ y. same_ptr c.at p ≡ y
+      → with_bodies (c ∷ cs) (without_body p run) ≡ cond y
+      (cell c.at c.links None ∷ with_bodies cs run)
+      (cell c.at c.links (body_in run c.at) ∷ with_body p None (with_bodies cs run))) [
         | true ↦ λ t.
-            let here = ap (body_in (without_body p run)) (same_ptr-equal c.at p t) ∙ body_in-without_body p run in let far = subst (λ q. IsFresh q (pointers cs)) (same_ptr-equal c.at p t) (IsFresh-head c.at (pointers cs) d) in
+            let here = ap (body_in (without_body p run)) (same_ptr-equal c.at p t)
+            ∙ body_in-without_body p run in let far = subst (λ q. IsFresh q (pointers cs))
+            (same_ptr-equal c.at p t) (IsFresh-head c.at (pointers cs) d) in
             λ i. cell c.at c.links (here i) ∷ with_bodies-far p run cs far i
-        | false ↦ λ n. λ i. cell c.at c.links (body_in-without_body_other p c.at run (same_ptr-symmetric p c.at ∙ n) i) ∷ with_bodies-without_body p run cs (IsApart-tail c.at (pointers cs) d) i
+        | false ↦ λ n. λ i. cell c.at c.links (body_in-without_body_other p c.at run
+            (same_ptr-symmetric p c.at ∙ n) i) ∷ with_bodies-without_body p run cs
+            (IsApart-tail c.at (pointers cs) d) i
       ]) refl
 
 AllByRecursion-none : {X : Type 0} (P : X → Type 0) (xs : List X) → length xs ≡ 0 → AllByRecursion P xs

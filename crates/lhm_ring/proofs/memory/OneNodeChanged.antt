@@ -8,7 +8,9 @@ use Rattle.lhm_ring.proofs.lists.ForAll.{AllByRecursion-map}
 use Rattle.lhm_ring.proofs.rings.SameNodes.{SameLink, IsSpareList-same}
 use Rattle.lhm_ring.proofs.rings.Writes.{cell_at-change, cell_at-change_other, length-change, reader-with_links_same, links_of-seen}
 use Rattle.lhm_ring.specs.Nodes.{Cell, cell, same_ptr, cell_at, links_of, body_of, links_at, body_at, with_links, with_body}
-use Rattle.lhm_ring.specs.Links.{next_of, prev_of, link_of, has_links, is_there, content_of, content_at, AreLinked, IsSpareList, HasContent, listed, one_of, IsThere}
+use Rattle.lhm_ring.specs.Links.{next_of, prev_of, link_of, has_links, is_there, content_of}
+use Rattle.lhm_ring.specs.Links.{content_at, AreLinked, IsSpareList, HasContent, listed, one_of}
+use Rattle.lhm_ring.specs.Links.{IsThere}
 
 -- every node except the one at p is as it was
 pub record OnlyAt {B : Type 0} (cs ds : List (Cell Links B)) (p : Ptr) : Type 0 where
@@ -42,7 +44,8 @@ module _ {B : Type 0} where
       count = length-change p put cs;
     }
 
-  pub OnlyAt-with_links : (p : Ptr) (l : Links) (cs : List (Cell Links B)) (la : Links) → links_at cs p ≡ Some la → OnlyAt cs (with_links p l cs) p
+  pub OnlyAt-with_links : (p : Ptr) (l : Links) (cs : List (Cell Links B)) (la : Links)
+      → links_at cs p ≡ Some la → OnlyAt cs (with_links p l cs) p
   OnlyAt-with_links p l cs la e = record {
     other = λ q n. cell_at-change_other p (λ c. cell c.at l c.body) (λ c. refl) q n cs;
     there = reader-with_links_same p l cs e has_links refl;
@@ -50,21 +53,37 @@ module _ {B : Type 0} where
   }
 
   pub OnlyAt-both : (cs ds es : List (Cell Links B)) (p : Ptr) → OnlyAt cs ds p → OnlyAt ds es p → OnlyAt cs es p
-  OnlyAt-both cs ds es p a b = record { other = λ q n. b.other q n ∙ a.other q n; there = λ q. b.there q ∙ a.there q; count = b.count ∙ a.count }
+  OnlyAt-both cs ds es p a b =
+      record {
+        other = λ q n. b.other q n ∙ a.other q n;
+        there = λ q. b.there q ∙ a.there q;
+        count =
+            b.count ∙ a.count;
+      }
 
   module _ (cs ds : List (Cell Links B)) (p : Ptr) (other : (q : Ptr) → same_ptr p q ≡ false → cell_at ds q ≡ cell_at cs q) where
     pub AreLinked-other : (s : List Ptr) → IsFresh p s → AreLinked cs s → AreLinked ds s
     AreLinked-other [] f l = tt
     AreLinked-other (x ∷ []) f l = tt
-    AreLinked-other (x ∷ y ∷ r) f l = ((ap (λ z. next_of (links_of z)) (other x f.0) ∙ l.0.0, ap (λ z. prev_of (links_of z)) (other y f.1.0) ∙ l.0.1), AreLinked-other (y ∷ r) f.1 l.1)
+    AreLinked-other (x ∷ y ∷ r) f l = (
+      (
+        ap (λ z. next_of (links_of z)) (other x f.0) ∙ l.0.0,
+        ap (λ z. prev_of (links_of z))
+            (other y f.1.0) ∙ l.0.1,
+      ),
+      AreLinked-other (y ∷ r) f.1 l.1,
+    )
 
     pub IsSpareList-other : (h : Option Ptr) (ss : List Ptr) → IsFresh p ss → IsSpareList cs h ss → IsSpareList ds h ss
-    IsSpareList-other h ss f = IsSpareList-same cs ds h ss (AllByRecursion-map (λ q. same_ptr p q ≡ false) (SameLink cs ds) (λ q n. ap (λ z. link_of (links_of z)) (other q n)) ss f)
+    IsSpareList-other h ss f = IsSpareList-same cs ds h ss
+        (AllByRecursion-map (λ q. same_ptr p q ≡ false) (SameLink cs ds)
+        (λ q n. ap (λ z. link_of (links_of z)) (other q n)) ss f)
 
     content_at-other : (q : Ptr) → same_ptr p q ≡ false → content_at ds q ≡ content_at cs q
     content_at-other q n = ap (λ z. content_of q (links_of z) (body_of z)) (other q n)
 
-    pub AllByRecursion-content_other : (ps : List Ptr) → IsFresh p ps → AllByRecursion (HasContent cs) ps → AllByRecursion (HasContent ds) ps
+    pub AllByRecursion-content_other : (ps : List Ptr) → IsFresh p ps
+        → AllByRecursion (HasContent cs) ps → AllByRecursion (HasContent ds) ps
     AllByRecursion-content_other [] f a = tt
     AllByRecursion-content_other (x ∷ xs) f a = ((a.0.0, content_at-other x f.0 ∙ a.0.1), AllByRecursion-content_other xs f.1 a.1)
 

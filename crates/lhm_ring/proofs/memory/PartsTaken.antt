@@ -15,7 +15,9 @@ abbrev pub ◌∗◌ : Fml → Fml → Fml
 P ∗ Q = fsep P Q
 
 -- f is what is left of a node, A what all of them give
-module _ (R S W : RattleType) {M : Type 1} {𝓤 : Ura M} (𝓛 : Logic 𝓤) (f : Cell R.Denot (S.Denot × W.Denot) → Fml) (A : List (Cell R.Denot (S.Denot × W.Denot)) → Fml) where
+module _ (R S W : RattleType) {M : Type 1} {𝓤 : Ura M} (𝓛 : Logic 𝓤)
+    (f : Cell R.Denot (S.Denot × W.Denot) → Fml) (A : List (Cell R.Denot (S.Denot × W.Denot))
+    → Fml) where
   abbrev Node : Type 0
   Node = Cell R.Denot (S.Denot × W.Denot)
 
@@ -29,6 +31,7 @@ module _ (R S W : RattleType) {M : Type 1} {𝓤 : Ura M} (𝓛 : Logic 𝓤) (f
   pub parts_glue : (g : Node → Node) → ((c : Node) (cs : List Node) → Entails 𝓛 (A (c ∷ cs) ∗ f c) (A cs ∗ cell_owns R S W (g c)))
       → (Z : Fml) (cs : List Node) → Entails 𝓛 (A cs ∗ parts_own f Z cs) (cells_own R S W Z (map g cs))
   parts_glue g one Z [] = qed 𝓛 (‵ (A []) ∷ ‵ Z ∷ []) ∵ drop ! $ done !
-  parts_glue g one Z (c ∷ cs) = qed 𝓛 (‵ (A (c ∷ cs)) ∷ ‵ (parts_own f Z (c ∷ cs)) ∷ []) ∵ move ! (1 ∷ []) $ fsplit ! $ move ! (2 ∷ 0 ∷ []) $
+  parts_glue g one Z (c ∷ cs) = qed 𝓛 (‵ (A (c ∷ cs)) ∷ ‵ (parts_own f Z (c ∷ cs)) ∷ []) ∵ move !
+      (1 ∷ []) $ fsplit ! $ move ! (2 ∷ 0 ∷ []) $
       use2 𝓛 (‵ (A cs) ⊛ ‵ (cell_owns R S W (g c))) (one c cs) $ split ! $ move ! (0 ∷ 2 ∷ []) $
       use2 𝓛 (‵ (cells_own R S W Z (map g cs))) (parts_glue g one Z cs) $ move ! (1 ∷ 0 ∷ []) $ fjoin ! $ done !

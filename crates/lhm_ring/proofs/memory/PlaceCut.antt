@@ -39,15 +39,24 @@ module _ (E : Three) {M : Type 1} {𝓤 : Ura M} (𝓛 : Logic 𝓤) (b o : ℕ)
   rejoins : ent 𝓤 Joins (sem 𝓛 (Rejoins E (block_ptr b o)))
   rejoins =
       qed 𝓛 (raw Joins ∷ []) ∵ assume ! (‵ (fields_own (RL E) (RK E) (RV E) (block_ptr b o))) $ fsplit3 ! $
-      as_written ! (layout E.links) b (o + lo E) $ move ! (1 ∷ []) $ as_written ! (layout E.key) b (o + ko E) $ move ! (2 ∷ []) $ as_written ! (layout E.value) b (o + vo E) $ nothing ! $ move ! (3 ∷ 2 ∷ 1 ∷ 0 ∷ []) $ group ! 4 $
-      use2 𝓛 (‵ (froom (ty_struct ν fields) b o)) (apply∗ 𝓤 (rooms_at 𝓤 H fields 0 b o) (H.room (ty_struct ν fields) b o)) $ by ! (𝓛.laws.room-raw (ty_struct ν fields) b o)
+      as_written ! (layout E.links) b (o + lo E) $ move ! (1 ∷ []) $ as_written ! (layout E.key) b
+      (o + ko E) $ move ! (2 ∷ []) $ as_written ! (layout E.value) b (o + vo E) $ nothing ! $ move !
+      (3 ∷ 2 ∷ 1 ∷ 0 ∷ []) $ group ! 4 $
+      use2 𝓛 (‵ (froom (ty_struct ν fields) b o)) (apply∗ 𝓤 (rooms_at 𝓤 H fields 0 b o)
+      (H.room (ty_struct ν fields) b o)) $ by ! (𝓛.laws.room-raw (ty_struct ν fields) b o)
 
-  pub block_cut : ent 𝓤 (H.room (block E) b o) (sep 𝓤 (sem 𝓛 (fields_own (RL E) (RK E) (RV E) (block_ptr b o))) (sem 𝓛 (Rejoins E (block_ptr b o))))
+  pub block_cut : ent 𝓤 (H.room (block E) b o)
+      (sep 𝓤 (sem 𝓛 (fields_own (RL E) (RK E) (RV E) (block_ptr b o)))
+      (sem 𝓛 (Rejoins E (block_ptr b o))))
   block_cut =
       qed 𝓛 (‵ (froom (block E) b o) ∷ []) ∵ as_written ! (ty_struct ν fields) b o $
-      use1 𝓛 ((‵ (froom (layout E.links) b (o + lo E)) ⊛ ‵ (froom (layout E.key) b (o + ko E)) ⊛ ‵ (froom (layout E.value) b (o + vo E)) ⊛ ‵ ftrue) ⊛ raw Joins)
-      (𝓛.laws.room_fields ν fields b o) $ split ! $ split3 ! $ as_raw ! (layout E.links) b (o + lo E) $ move ! (1 ∷ []) $ as_raw ! (layout E.key) b (o + ko E) $ move ! (2 ∷ []) $ split ! $ as_raw ! (layout E.value) b (o + vo E) $ move ! (3 ∷ 2 ∷ 0 ∷ []) $ fjoin3 ! $
+      use1 𝓛 ((‵ (froom (layout E.links) b (o + lo E)) ⊛ ‵ (froom (layout E.key) b (o + ko E)) ⊛ ‵
+      (froom (layout E.value) b (o + vo E)) ⊛ ‵ ftrue) ⊛ raw Joins)
+      (𝓛.laws.room_fields ν fields b o) $ split ! $ split3 ! $ as_raw ! (layout E.links) b
+      (o + lo E) $ move ! (1 ∷ []) $ as_raw ! (layout E.key) b (o + ko E) $ move ! (2 ∷ []) $ split
+      ! $ as_raw ! (layout E.value) b (o + vo E) $ move ! (3 ∷ 2 ∷ 0 ∷ []) $ fjoin3 ! $
       move ! (2 ∷ []) $ use1 𝓛 (‵ (Rejoins E (block_ptr b o))) rejoins $ keep ! (1 ∷ 0 ∷ []) $ done !
 
-  pub block_glue : ent 𝓤 (sep 𝓤 (sem 𝓛 (fields_own (RL E) (RK E) (RV E) (block_ptr b o))) (sem 𝓛 (Rejoins E (block_ptr b o)))) (H.room (block E) b o)
+  pub block_glue : ent 𝓤 (sep 𝓤 (sem 𝓛 (fields_own (RL E) (RK E) (RV E) (block_ptr b o)))
+      (sem 𝓛 (Rejoins E (block_ptr b o)))) (H.room (block E) b o)
   block_glue = apply∗ 𝓤 (sem 𝓛 (fields_own (RL E) (RK E) (RV E) (block_ptr b o))) (H.room (block E) b o)

@@ -1,5 +1,7 @@
 -- Where the places of chunks lie.
-use Rattle.std.proofs.Common.{◌≡◌, ℕ, zero, suc, ◌+◌, ◌-◌, ◌*◌, ◌<◌, ◌^◌, List, [], ◌∷◌, ◌++◌, length, length-append, map, true, refl, sym, ap, ◌∙◌, subst, arith, lt→ltb}
+use Rattle.std.proofs.Common.{◌≡◌, ℕ, zero, suc, ◌+◌, ◌-◌, ◌*◌, ◌<◌, ◌^◌, List, [], ◌∷◌, ◌++◌}
+use Rattle.std.proofs.Common.{length, length-append, map, true, refl, sym, ap, ◌∙◌, subst, arith}
+use Rattle.std.proofs.Common.{lt→ltb}
 use Rattle.std.proofs.lemmas.List.{append-nil, append_assoc}
 use Rattle.std.specs.Prelude.{nat_lt}
 use Rattle.std.proofs.Flags.{T_true}
@@ -82,13 +84,15 @@ module _ (p : Ptr) (s n : ℕ) (us : List Ptr) (e : us ≡ row p s (n + 1)) wher
   row-next ps ls h = sym (append_assoc (row p s n) ((p +ₚ (n * s)) ∷ []) ps) ∙ ap (λ qs. qs ++ ps) (sym last_too) ∙ h
 
 -- a chunk more
-pub row-more : (p : Ptr) (s n : ℕ) (us ps : List Ptr) (cs : List (Ptr × ℕ)) → us ++ ps ≡ places s cs → (row p s n ++ us) ++ ps ≡ places s (cs ++ (p, n) ∷ [])
+pub row-more : (p : Ptr) (s n : ℕ) (us ps : List Ptr) (cs : List (Ptr × ℕ)) → us ++ ps ≡ places s cs
+    → (row p s n ++ us) ++ ps ≡ places s (cs ++ (p, n) ∷ [])
 row-more p s n us ps cs h = append_assoc (row p s n) us ps ∙ ap (λ qs. row p s n ++ qs) h ∙ sym (places-last s cs (p, n))
 
 pub length-places : (s : ℕ) (cs : List (Ptr × ℕ)) → length (places s cs) ≡ place_count cs
 unfolding places place_count
 length-places s [] = refl
-length-places s (c ∷ cs) = let a = length-append (places s cs) (row c.0 s c.1) in let b = length-places s cs in let d = length-row c.0 s c.1 in omega arith
+length-places s (c ∷ cs) = let a = length-append (places s cs) (row c.0 s c.1) in
+    let b = length-places s cs in let d = length-row c.0 s c.1 in omega arith
 
 pub place_count-last : (cs : List (Ptr × ℕ)) (c : Ptr × ℕ) → place_count (cs ++ c ∷ []) ≡ place_count cs + c.1
 unfolding place_count
@@ -100,10 +104,16 @@ block_ptr-in_block (block_ptr b o) e = ((b, o), refl)
 block_ptr-in_block null_ptr e = cc
 
 -- a ring's chunks stay if its nodes keep theirs
-pub IsLaid-same : {us vs : List Ptr} {cs ds : List (Ptr × ℕ)} {recorded : List Chunk} {made : ℕ} → IsLaid us cs recorded made → vs ≡ us → ds ≡ cs → IsLaid vs ds recorded made
-IsLaid-same l e f = record { none_unused = e ∙ l.none_unused; all_recorded = f ∙ l.all_recorded; all_made = l.all_made ∙ ap place_count (sym f) }
+pub IsLaid-same : {us vs : List Ptr} {cs ds : List (Ptr × ℕ)} {recorded : List Chunk} {made : ℕ}
+    → IsLaid us cs recorded made → vs ≡ us → ds ≡ cs → IsLaid vs ds recorded made
+IsLaid-same l e f = record {
+  none_unused = e ∙ l.none_unused;
+  all_recorded = f ∙ l.all_recorded;
+  all_made = l.all_made ∙ ap place_count (sym f);
+}
 
-pub IsLaid-none : {us : List Ptr} {cs : List (Ptr × ℕ)} {recorded : List Chunk} → us ≡ [] → cs ≡ [] → recorded ≡ [] → IsLaid us cs recorded 0
+pub IsLaid-none : {us : List Ptr} {cs : List (Ptr × ℕ)} {recorded : List Chunk} → us ≡ [] → cs ≡ []
+    → recorded ≡ [] → IsLaid us cs recorded 0
 unfolding place_count
 IsLaid-none e f k = record { none_unused = e; all_recorded = f ∙ sym (ap (map extent) k); all_made = sym (ap place_count f) }
 
@@ -119,11 +129,14 @@ map-extent_none [] e = refl
 map-extent_none (k ∷ ks) e = absurd (omega (arith, e))
 
 -- if no place is unused, there are as many nodes as places
-pub length-made : {L B : Type 0} (ns : List (Cell L B)) (us : List Ptr) (s : ℕ) (cs : List (Ptr × ℕ)) → us ++ pointers ns ≡ places s cs → us ≡ [] → length ns ≡ place_count cs
+pub length-made : {L B : Type 0} (ns : List (Cell L B)) (us : List Ptr) (s : ℕ)
+    (cs : List (Ptr × ℕ)) → us ++ pointers ns ≡ places s cs → us ≡ [] → length ns ≡ place_count cs
 length-made ns us s cs h e = sym (length-map ns (λ n. n.at)) ∙ ap length (ap (λ qs. qs ++ pointers ns) (sym e) ∙ h) ∙ length-places s cs
 
 -- a chunk more
-pub IsLaid-grown : {us vs : List Ptr} {cs ds : List (Ptr × ℕ)} {ks js : List Chunk} {made : ℕ} (c : Ptr × ℕ) → IsLaid us cs ks made → vs ≡ [] → ds ≡ cs ++ c ∷ [] → map extent js ≡ map extent ks ++ c ∷ [] → IsLaid vs ds js (made + c.1)
+pub IsLaid-grown : {us vs : List Ptr} {cs ds : List (Ptr × ℕ)} {ks js : List Chunk} {made : ℕ}
+    (c : Ptr × ℕ) → IsLaid us cs ks made → vs ≡ [] → ds ≡ cs ++ c ∷ []
+    → map extent js ≡ map extent ks ++ c ∷ [] → IsLaid vs ds js (made + c.1)
 IsLaid-grown {cs = cs} {made = made} c l e f k = record {
   none_unused = e;
   all_recorded = f ∙ ap (λ zs. zs ++ c ∷ []) l.all_recorded ∙ sym k;

@@ -3,7 +3,8 @@
 --     states, states_also      a fact is put into the context, alone or beside its head
 --     knows      a fact that two entries show is learned
 --     all_spent, self_left      what is left of the parameters, where those behind `self` are gone
-pub use Rattle.std.proofs.Common.{◌≡◌, ℕ, ◌+◌, ◌*◌, ◌<◌, ◌^◌, true, List, [], ◌∷◌, ◌++◌, refl, sym, ap, ◌∙◌, subst, T, None, Some, Option, arith, false, map, length}
+pub use Rattle.std.proofs.Common.{◌≡◌, ℕ, ◌+◌, ◌*◌, ◌<◌, ◌^◌, true, List, [], ◌∷◌, ◌++◌, refl, sym}
+pub use Rattle.std.proofs.Common.{ap, ◌∙◌, subst, T, None, Some, Option, arith, false, map, length}
 pub use seplogic.Ra.Ura.{Ura}
 pub use base.Fml.{Fml, ftrue, fsep, flft, froom, Lft, Incl-trans, fobs, fbor, fat, Incl}
 unfoldable pub use base.Fml.{fseps}
@@ -17,7 +18,10 @@ pub use prog.Memory.{size, capped}
 pub use prog.RawLaws.{size-raw}
 pub use prog.Wp.{WpFn}
 pub use types.ByLocal.{alloc_all, pass_all, free_all, look_at, get, get_in, through, sets, sets_last, is, env}
-pub use types.Kit.{◌∵◌, ‵, raw, ◌⊛◌, at_ret, ◌$◌, !, qed, by, move, keep, drop, use0, use1, use2, split, join, fsplit, fsplit3, fjoin, fjoin3, suffices, rewrite, feq_i, feq_l, flt_l, flt_i, later, pick, await, group, split3, given, learn, some, fpack, done, Item, Goal, fpick, updating, now}
+pub use types.Kit.{◌∵◌, ‵, raw, ◌⊛◌, at_ret, ◌$◌, !, qed, by, move, keep, drop, use0, use1, use2}
+pub use types.Kit.{split, join, fsplit, fsplit3, fjoin, fjoin3, suffices, rewrite, feq_i, feq_l}
+pub use types.Kit.{flt_l, flt_i, later, pick, await, group, split3, given, learn, some, fpack, done}
+pub use types.Kit.{Item, Goal, fpick, updating, now}
 pub use types.Logic.{Logic, sem, lfts}
 pub use types.Mut.{open_ref}
 pub use types.Part.{sub, whole, agg}
@@ -101,7 +105,8 @@ module _ {M : Type 1} {𝓤 : Ura M} {𝓛 : Logic 𝓤} {K : Type 0} {Γ : List
         use0 𝓛 (‵ (spent n)) (spent_made 𝓛 n) $ move t (1 ∷ 0 ∷ []) $ fjoin t $ s)
 
     -- a fact that two entries show is learned, and they stay
-    pub knows : K → {i j : Item 𝓤} (φ : Type 0) → ent 𝓤 (sep 𝓤 (mean 𝓛 i) (mean 𝓛 j)) (fact 𝓤 φ) → (φ → Seq K 𝓛 (i ∷ j ∷ Γ) G) → Seq K 𝓛 (i ∷ j ∷ Γ) G
+    pub knows : K → {i j : Item 𝓤} (φ : Type 0) → ent 𝓤 (sep 𝓤 (mean 𝓛 i) (mean 𝓛 j)) (fact 𝓤 φ)
+        → (φ → Seq K 𝓛 (i ∷ j ∷ Γ) G) → Seq K 𝓛 (i ∷ j ∷ Γ) G
     knows t {i} {j} φ h k =
         let shown : Seq K 𝓛 (i ∷ j ∷ Γ) (prop (fact 𝓤 φ)) = use2 𝓛 (raw (fact 𝓤 φ)) h $ keep t (0 ∷ []) $ done t in
         record { prf = fact_use 𝓤 φ shown.prf (λ x. (k x).prf) }

@@ -5,7 +5,9 @@ use denote.RawPtr.{Ptr}
 use Rattle.lhm_ring.proofs.lists.Apart.{IsFresh, same_ptr-equal, same_ptr-reflexive, same_ptr-symmetric, IsFresh-head, IsApart-tail}
 use Rattle.lhm_ring.proofs.rings.HeldPointers.{pointers_of}
 use Rattle.lhm_ring.proofs.lists.Options.{Some-injective}
-use Rattle.lhm_ring.proofs.memory.ValuesReplaced.{Entries, Triples, at_entries, among, lent, lent_then-cases, run_of, taken, value_in, revalued_by}
+use Rattle.lhm_ring.proofs.memory.ValuesReplaced.{Entries, Triples, at_entries, among, lent}
+use Rattle.lhm_ring.proofs.memory.ValuesReplaced.{lent_then-cases, run_of, taken, value_in}
+use Rattle.lhm_ring.proofs.memory.ValuesReplaced.{revalued_by}
 use Rattle.lhm_ring.specs.Nodes.{Cell, same_ptr, IsApart}
 use Rattle.lhm_ring.specs.ValueLoan.{value_at}
 use Rattle.lhm_ring.specs.Ring.{SplitAt, Held, IsHeld, AtHeld, revalued, unvalued, held_values, set_held_values}
@@ -21,7 +23,8 @@ module _ {K V : Type 0} where
       → SplitAt unvalued us (unvalued t)
   SplitAt-unvalued [] [] t ys e = absurd cc
   SplitAt-unvalued [] (x ∷ xs) t ys e = absurd cc
-  SplitAt-unvalued (u ∷ us) [] t ys e = let same : unvalued u ≡ unvalued t = cc in record { before = []; node = u; after = us; is = refl; at_is = same }
+  SplitAt-unvalued (u ∷ us) [] t ys e = let same : unvalued u ≡ unvalued t = cc in
+      record { before = []; node = u; after = us; is = refl; at_is = same }
   SplitAt-unvalued (u ∷ us) (x ∷ xs) t ys e =
       let rest : map unvalued us ≡ map unvalued (xs ++ t ∷ ys) = cc in let on = SplitAt-unvalued us xs t ys rest in
       record { before = u ∷ on.before; node = on.node; after = on.after; is = ap (λ zs. u ∷ zs) on.is; at_is = on.at_is }
@@ -30,7 +33,9 @@ module _ {K V : Type 0} where
   IsHeld-unvalued us ts p e h = let k = SplitAt-unvalued us h.before h.node h.after (e ∙ ap (map unvalued) h.is) in
       record { before = k.before; node = k.node; after = k.after; is = k.is; at_is = ap (λ z. z.at) k.at_is ∙ h.at_is }
 
-  pub AtHeld-unvalued : (us ts : Triples K V) (p : Ptr) → map unvalued us ≡ map unvalued ts → (P : Held K → Type 0) → AtHeld us p (λ xs t ys. P (unvalued t)) → AtHeld ts p (λ xs t ys. P (unvalued t))
+  pub AtHeld-unvalued : (us ts : Triples K V) (p : Ptr) → map unvalued us ≡ map unvalued ts
+      → (P : Held K → Type 0) → AtHeld us p (λ xs t ys. P (unvalued t))
+      → AtHeld ts p (λ xs t ys. P (unvalued t))
   AtHeld-unvalued us ts p e P a xs t ys q at = let k = SplitAt-unvalued us xs t ys (e ∙ ap (map unvalued) q) in
       subst P k.at_is (a k.before k.node k.after k.is (ap (λ z. z.at) k.at_is ∙ at))
 
@@ -50,14 +55,18 @@ module _ {K V : Type 0} where
   revalued_by-own : (hs : Triples K V) → IsApart (pointers_of hs) → revalued_by hs hs ≡ hs
   revalued_by-own [] d = refl
   revalued_by-own (t ∷ hs) d =
-      let on = revalued_by-skip t hs hs (IsFresh-head t.at (pointers_of hs) d) ∙ revalued_by-own hs (IsApart-tail t.at (pointers_of hs) d) in
+      let on = revalued_by-skip t hs hs (IsFresh-head t.at (pointers_of hs) d)
+      ∙ revalued_by-own hs (IsApart-tail t.at (pointers_of hs) d) in
       λ i. revalued (cond (same_ptr-reflexive t.at i) t.pair.1 (value_in hs t.at t.pair.1)) t ∷ on i
 
-  pub revalued_by-set_held_values : (hs : Triples K V) (vs : List V) → IsApart (pointers_of hs) → revalued_by (set_held_values hs vs) hs ≡ set_held_values hs vs
+  pub revalued_by-set_held_values : (hs : Triples K V) (vs : List V) → IsApart (pointers_of hs)
+      → revalued_by (set_held_values hs vs) hs ≡ set_held_values hs vs
   revalued_by-set_held_values [] vs d = refl
   revalued_by-set_held_values (t ∷ hs) [] d = revalued_by-own (t ∷ hs) d
   revalued_by-set_held_values (t ∷ hs) (v ∷ vs) d =
-      let on = revalued_by-skip (revalued v t) (set_held_values hs vs) hs (IsFresh-head t.at (pointers_of hs) d) ∙ revalued_by-set_held_values hs vs (IsApart-tail t.at (pointers_of hs) d) in
+      let on = revalued_by-skip (revalued v t) (set_held_values hs vs) hs
+      (IsFresh-head t.at (pointers_of hs) d) ∙ revalued_by-set_held_values hs vs
+      (IsApart-tail t.at (pointers_of hs) d) in
       λ i. revalued (cond (same_ptr-reflexive t.at i) v (value_in (set_held_values hs vs) t.at t.pair.1)) t ∷ on i
 
   -- a value of the run is that of a triple, or of an entry
@@ -71,7 +80,8 @@ module _ {K V : Type 0} where
   abbrev pub HasOwnValue : Triples K V → Ptr × (K × V) → Type 0
   HasOwnValue hs c = value_in hs c.0 c.1.1 ≡ c.1.1
 
-  value_in-own : (run : List (Ptr × V)) (hs : Triples K V) (p : Ptr) (v : V) → AllByRecursion (HasValue run) hs → value_at run p ≡ Some v → value_in hs p v ≡ v
+  value_in-own : (run : List (Ptr × V)) (hs : Triples K V) (p : Ptr) (v : V)
+      → AllByRecursion (HasValue run) hs → value_at run p ≡ Some v → value_in hs p v ≡ v
   value_in-own run [] p v all e = refl
   value_in-own run (t ∷ hs) p v all e =
       (elim (same_ptr t.at p) as (λ y. same_ptr t.at p ≡ y → cond y t.pair.1 (value_in hs p v) ≡ v) [
@@ -79,44 +89,64 @@ module _ {K V : Type 0} where
         | false ↦ λ s. value_in-own run hs p v all.1 e
       ]) refl
 
-  AllByRecursion-lies_more : (d : Ptr × (K × V)) (es : Entries K V) (cs : Entries K V) → IsFresh d.0 (at_entries cs) → AllByRecursion (HasEntry (run_of es)) cs → AllByRecursion (HasEntry (run_of (d ∷ es))) cs
+  AllByRecursion-lies_more : (d : Ptr × (K × V)) (es : Entries K V) (cs : Entries K V)
+      → IsFresh d.0 (at_entries cs) → AllByRecursion (HasEntry (run_of es)) cs
+      → AllByRecursion (HasEntry (run_of (d ∷ es))) cs
   unfolding value_at
   AllByRecursion-lies_more d es [] f all = tt
-  AllByRecursion-lies_more d es (c ∷ cs) f all = (ap (λ y. cond y (Some d.1.1) (value_at (run_of es) c.0)) f.0 ∙ all.0, AllByRecursion-lies_more d es cs f.1 all.1)
+  AllByRecursion-lies_more d es (c ∷ cs) f all = (
+    ap (λ y. cond y (Some d.1.1) (value_at (run_of es) c.0)) f.0
+        ∙ all.0,
+    AllByRecursion-lies_more d es cs f.1 all.1,
+  )
 
   AllByRecursion-lies : (es : Entries K V) → IsApart (at_entries es) → AllByRecursion (HasEntry (run_of es)) es
   unfolding value_at
   AllByRecursion-lies [] d = tt
-  AllByRecursion-lies (c ∷ es) d =
-      (ap (λ y. cond y (Some c.1.1) (value_at (run_of es) c.0)) (same_ptr-reflexive c.0), AllByRecursion-lies_more c es es (IsFresh-head c.0 (at_entries es) d) (AllByRecursion-lies es (IsApart-tail c.0 (at_entries es) d)))
+  AllByRecursion-lies (c ∷ es) d = (
+    ap (λ y. cond y (Some c.1.1) (value_at (run_of es) c.0)) (same_ptr-reflexive c.0),
+    AllByRecursion-lies_more c es es (IsFresh-head c.0 (at_entries es) d)
+        (AllByRecursion-lies es (IsApart-tail c.0 (at_entries es) d)),
+  )
 
-  AllByRecursion-own : (run : List (Ptr × V)) (hs : Triples K V) (es : Entries K V) → AllByRecursion (HasValue run) hs → AllByRecursion (HasEntry run) es → AllByRecursion (HasOwnValue hs) es
+  AllByRecursion-own : (run : List (Ptr × V)) (hs : Triples K V) (es : Entries K V)
+      → AllByRecursion (HasValue run) hs → AllByRecursion (HasEntry run) es
+      → AllByRecursion (HasOwnValue hs) es
   AllByRecursion-own run hs [] all lies = tt
   AllByRecursion-own run hs (c ∷ es) all lies = (value_in-own run hs c.0 c.1.1 all lies.0, AllByRecursion-own run hs es all lies.1)
 
   -- what is lent has its own values
-  pub AllByRecursion-own_values : (hs : Triples K V) (es : Entries K V) → AllByRecursion (HasValue (run_of es)) hs → IsApart (at_entries es) → AllByRecursion (HasOwnValue hs) es
+  pub AllByRecursion-own_values : (hs : Triples K V) (es : Entries K V)
+      → AllByRecursion (HasValue (run_of es)) hs → IsApart (at_entries es)
+      → AllByRecursion (HasOwnValue hs) es
   AllByRecursion-own_values hs es all apart = AllByRecursion-own (run_of es) hs es all (AllByRecursion-lies es apart)
 
   pub taken-own : (hs : Triples K V) (es : Entries K V) → AllByRecursion (HasOwnValue hs) es → taken hs es ≡ map (λ c. c.1) (run_of es)
   taken-own hs [] own = refl
   taken-own hs (c ∷ es) own = λ i. own.0 i ∷ taken-own hs es own.1 i
 
-  value_in-revalued_by : (ks hs : Triples K V) (p : Ptr) (v : V) → among (pointers_of hs) p ≡ true → value_in (revalued_by ks hs) p v ≡ value_in ks p (value_in hs p v)
+  value_in-revalued_by : (ks hs : Triples K V) (p : Ptr) (v : V) → among (pointers_of hs) p ≡ true
+      → value_in (revalued_by ks hs) p v ≡ value_in ks p (value_in hs p v)
   value_in-revalued_by ks [] p v is = absurd (true≢false (sym is))
   value_in-revalued_by ks (t ∷ hs) p v is =
-      (elim (same_ptr t.at p) as (λ y. same_ptr t.at p ≡ y → cond y (value_in ks t.at t.pair.1) (value_in (revalued_by ks hs) p v) ≡ value_in ks p (cond y t.pair.1 (value_in hs p v))) [
+      (elim (same_ptr t.at p) as (λ y. same_ptr t.at p ≡ y → cond y (value_in ks t.at t.pair.1)
+      (value_in (revalued_by ks hs) p v) ≡ value_in ks p (cond y t.pair.1 (value_in hs p v))) [
         | true ↦ λ s. ap (λ q. value_in ks q t.pair.1) (same_ptr-equal t.at p s)
-        | false ↦ λ s. value_in-revalued_by ks hs p v (sym (ap (λ y. cond y true (among (pointers_of hs) p)) (same_ptr-symmetric p t.at ∙ s)) ∙ is)
+        | false ↦ λ s. value_in-revalued_by ks hs p v
+            (sym (ap (λ y. cond y true (among (pointers_of hs) p)) (same_ptr-symmetric p t.at ∙ s))
+            ∙ is)
       ]) refl
 
-  pub taken-by : (ks hs : Triples K V) (es : Entries K V) → AllByRecursion (HasOwnValue hs) es → AllByRecursion (λ c. among (pointers_of hs) c.0 ≡ true) es → taken (revalued_by ks hs) es ≡ taken ks es
+  pub taken-by : (ks hs : Triples K V) (es : Entries K V) → AllByRecursion (HasOwnValue hs) es
+      → AllByRecursion (λ c. among (pointers_of hs) c.0 ≡ true) es → taken (revalued_by ks hs) es
+      ≡ taken ks es
   taken-by ks hs [] own in_ring = refl
   taken-by ks hs (c ∷ es) own in_ring =
       let one = value_in-revalued_by ks hs c.0 c.1.1 in_ring.0 ∙ ap (value_in ks c.0) own.0 in
       λ i. one i ∷ taken-by ks hs es own.1 in_ring.1 i
 
-pub AllByRecursion-kept : {L K V : Type 0} (keep : Ptr → Bool) (cs : List (Cell L (K × V))) → AllByRecursion (λ c. keep c.0 ≡ true) (lent keep cs)
+pub AllByRecursion-kept : {L K V : Type 0} (keep : Ptr → Bool) (cs : List (Cell L (K × V)))
+    → AllByRecursion (λ c. keep c.0 ≡ true) (lent keep cs)
 AllByRecursion-kept keep [] = tt
 AllByRecursion-kept keep (c ∷ cs) = let on = AllByRecursion-kept keep cs in
     lent_then-cases (AllByRecursion (λ c. keep c.0 ≡ true)) (keep c.at) c.at c.body (lent keep cs) on (λ x e. (e, on))

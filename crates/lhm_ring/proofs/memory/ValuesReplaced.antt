@@ -1,11 +1,13 @@
 -- The values that a ring holds are lent, and the ring is one again with others in their place.
-use Rattle.std.proofs.Common.{◌≡◌, ℕ, Bool, true, false, cond, List, [], ◌∷◌, ◌++◌, map, length, Option, Some, None, refl, sym, ap, ◌∙◌, subst, arith}
+use Rattle.std.proofs.Common.{◌≡◌, ℕ, Bool, true, false, cond, List, [], ◌∷◌, ◌++◌, map, length}
+use Rattle.std.proofs.Common.{Option, Some, None, refl, sym, ap, ◌∙◌, subst, arith}
 use Rattle.std.specs.List.{AllByRecursion}
 use denote.RawPtr.{Ptr, null_ptr}
 use Rattle.lhm_ring.specs.declared.ring.Links.{Links}
 use Rattle.lhm_ring.specs.declared.ring.Ends.{Ends}
 use Rattle.lhm_ring.specs.declared.pointer.Link.{Link}
-use Rattle.lhm_ring.proofs.lists.Apart.{IsFresh, same_ptr-equal, same_ptr-reflexive, IsApart-none, IsFresh-head, IsApart-tail, IsApart-added}
+use Rattle.lhm_ring.proofs.lists.Apart.{IsFresh, same_ptr-equal, same_ptr-reflexive, IsApart-none}
+use Rattle.lhm_ring.proofs.lists.Apart.{IsFresh-head, IsApart-tail, IsApart-added}
 use Rattle.lhm_ring.proofs.rings.Contents.{at-content, Holds-content, pair-content, IsAt-content}
 use Rattle.lhm_ring.proofs.rings.HeldPointers.{AllByRecursion-followed, IsApart-ring_list}
 use Rattle.lhm_ring.proofs.lists.ForAll.{AllByRecursion-map}
@@ -14,7 +16,9 @@ use Rattle.lhm_ring.proofs.memory.BodiesChanged.{rebodied, pointers-rebodied, li
 use Rattle.lhm_ring.proofs.rings.SameNodes.{follow-same}
 use Rattle.lhm_ring.specs.Nodes.{Cell, cell, cell_at, same_ptr, IsApart, pointers, body_of, links_at, body_at}
 use Rattle.lhm_ring.specs.ValueLoan.{value_at, AreLent}
-use Rattle.lhm_ring.specs.Links.{ends_links, ring_cells, one_of, next_of, link_of, content_of, content_at, HasContent, follow, listed, ring_list, ring_pointers, IsOwned}
+use Rattle.lhm_ring.specs.Links.{ends_links, ring_cells, one_of, next_of, link_of, content_of}
+use Rattle.lhm_ring.specs.Links.{content_at, HasContent, follow, listed, ring_list, ring_pointers}
+use Rattle.lhm_ring.specs.Links.{IsOwned}
 use Rattle.lhm_ring.specs.Ring.{Held, held, pair, revalued}
 
 -- whether p is one of ps
@@ -140,7 +144,8 @@ module _ {K V : Type 0} where
   one_of-written hs p (Some l) None r s e = e
   one_of-written hs p (Some l) (Some x) r s e = ap (λ us. held p l.hash (link_of (Some l)) (pair x.0 (value_in hs p x.1)) ∷ us) e
 
-  content_of-body : (p : Ptr) (o : Option Links) (b c : Option (K × V)) → ((l : Links) → o ≡ Some l → b ≡ c) → content_of p o b ≡ content_of p o c
+  content_of-body : (p : Ptr) (o : Option Links) (b c : Option (K × V))
+      → ((l : Links) → o ≡ Some l → b ≡ c) → content_of p o b ≡ content_of p o c
   content_of-body p None b c h = refl
   content_of-body p (Some l) b c h = ap (content_of p (Some l)) (h l refl)
 
@@ -168,24 +173,29 @@ module _ {K V : Type 0} where
       unfolding listed
       listed-written [] a = refl
       listed-written (p ∷ ps) a =
-          ap (λ o. one_of o ++ listed ds ps) (content_at-written p ∙ ap (λ k. content_of p (links_at cs p) (written_body k hs p (body_at cs p))) a.0)
+          ap (λ o. one_of o ++ listed ds ps) (content_at-written p
+          ∙ ap (λ k. content_of p (links_at cs p) (written_body k hs p (body_at cs p))) a.0)
           ∙ one_of-written hs p (links_at cs p) (body_at cs p) (listed ds ps) (listed cs ps) (listed-written ps a.1)
 
       IsOwned-written : (spare : Link) (n m : ℕ) → IsOwned cs spare n m → IsOwned ds spare n m
       IsOwned-written spare n m ok = IsOwned-rebodied body cs spare n m ok
           (AllByRecursion-map (HasContent cs) (HasContent ds) HasContent-written ok.held_pointers ok.ring.held)
 
-      ring_list-written : (n : ℕ) → AllByRecursion (λ p. keep p ≡ true) (ring_pointers cs n) → ring_list ds n ≡ revalued_by hs (ring_list cs n)
+      ring_list-written : (n : ℕ) → AllByRecursion (λ p. keep p ≡ true) (ring_pointers cs n)
+          → ring_list ds n ≡ revalued_by hs (ring_list cs n)
       ring_list-written n a =
-          ap (listed ds) (follow-same cs ds (λ q. ap next_of (links_at-rebodied body cs q)) n null_ptr) ∙ listed-written (follow cs n null_ptr) a
+          ap (listed ds) (follow-same cs ds (λ q. ap next_of (links_at-rebodied body cs q)) n
+          null_ptr) ∙ listed-written (follow cs n null_ptr) a
 
     -- the node at null holds no value
     lent-ring_cells : (e : Ends) (cs : List (Cell Links (K × V))) → lent keep (ring_cells e cs) ≡ lent keep cs
-    lent-ring_cells e cs = elim (keep null_ptr) as (λ y. lent_then y null_ptr None (lent keep cs) ≡ lent keep cs) [ true ↦ refl | false ↦ refl ]
+    lent-ring_cells e cs = elim (keep null_ptr) as (λ y. lent_then y null_ptr None (lent keep cs)
+        ≡ lent keep cs) [ true ↦ refl | false ↦ refl ]
 
     written-ring_cells : (hs : Triples K V) (e : Ends) (cs : List (Cell Links (K × V)))
         → written keep hs (ring_cells e cs) ≡ ring_cells e (written keep hs cs)
-    written-ring_cells hs e cs = ap (λ o. cell null_ptr (ends_links e) o ∷ written keep hs cs) (sym (written_body-none (keep null_ptr) hs null_ptr))
+    written-ring_cells hs e cs = ap (λ o. cell null_ptr (ends_links e) o ∷ written keep hs cs)
+        (sym (written_body-none (keep null_ptr) hs null_ptr))
 
     value_at-lent : (cs : List (Cell Links (K × V))) (q : Ptr) (x : K × V) → keep q ≡ true → body_at cs q ≡ Some x
         → value_at (run_of (lent keep cs)) q ≡ Some x.1
@@ -239,9 +249,11 @@ module _ {K V : Type 0} where
     keeps = among (ring_pointers cs n)
 
     pub IsOwned-held_written : (hs : Triples K V) → IsOwned cs spare n m → IsOwned (ring_cells e (held_written e nodes n hs)) spare n m
-    IsOwned-held_written hs ok = subst (λ zs. IsOwned zs spare n m) (written-ring_cells keeps hs e nodes) (IsOwned-written keeps hs cs spare n m ok)
+    IsOwned-held_written hs ok = subst (λ zs. IsOwned zs spare n m)
+        (written-ring_cells keeps hs e nodes) (IsOwned-written keeps hs cs spare n m ok)
 
-    pub ring_list-held_written : (hs : Triples K V) → ring_list (ring_cells e (held_written e nodes n hs)) n ≡ revalued_by hs (ring_list cs n)
+    pub ring_list-held_written : (hs : Triples K V)
+        → ring_list (ring_cells e (held_written e nodes n hs)) n ≡ revalued_by hs (ring_list cs n)
     ring_list-held_written hs = ap (λ zs. ring_list zs n) (sym (written-ring_cells keeps hs e nodes))
         ∙ ring_list-written keeps hs cs n (AllByRecursion-among (ring_pointers cs n))
 

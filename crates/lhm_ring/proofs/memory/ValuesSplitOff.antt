@@ -45,13 +45,22 @@ use Rattle.lhm_ring.specs.contracts.ring.Ring.TheInside as I-type
 use Rattle.lhm_ring.specs.declared.ring.Ring.TheInside as D-type
 use Rattle.lhm_ring.proofs.memory.NodeFields.{marker}
 use Rattle.lhm_ring.proofs.rings.HeldPointers.{pointers_of, pointers-ring_list}
-use Rattle.lhm_ring.proofs.memory.ValuesReplaced.{Entries, Triples, at_entries, lent_then, lent, written_body, written, taken, listing, run_of, pointers-written, taken-listing, IsApart-lent, among, revalued_by, held_entries, IsOwned-held_written, ring_list-held_written, AreLent-held_entries}
-use Rattle.lhm_ring.proofs.memory.ValuesInOrder.{HasOwnValue, AllByRecursion-own_values, taken-own, taken-by, AllByRecursion-kept, set_held_values-own, set_held_values-by, revalued_by-set_held_values}
+use Rattle.lhm_ring.proofs.memory.ValuesReplaced.{Entries, Triples, at_entries, lent_then, lent}
+use Rattle.lhm_ring.proofs.memory.ValuesReplaced.{written_body, written, taken, listing, run_of}
+use Rattle.lhm_ring.proofs.memory.ValuesReplaced.{pointers-written, taken-listing, IsApart-lent}
+use Rattle.lhm_ring.proofs.memory.ValuesReplaced.{among, revalued_by, held_entries}
+use Rattle.lhm_ring.proofs.memory.ValuesReplaced.{IsOwned-held_written, ring_list-held_written}
+use Rattle.lhm_ring.proofs.memory.ValuesReplaced.{AreLent-held_entries}
+use Rattle.lhm_ring.proofs.memory.ValuesInOrder.{HasOwnValue, AllByRecursion-own_values, taken-own}
+use Rattle.lhm_ring.proofs.memory.ValuesInOrder.{taken-by, AllByRecursion-kept, set_held_values-own}
+use Rattle.lhm_ring.proofs.memory.ValuesInOrder.{set_held_values-by, revalued_by-set_held_values}
 use Rattle.lhm_ring.proofs.memory.Sharing.{parts_own, Lends-less, Lends-parts, Thin, Law-thin}
 use Rattle.lhm_ring.proofs.memory.PartsTaken.{Entails, ◌∗◌, parts_cut, parts_glue}
 use Rattle.lhm_ring.proofs.memory.NodeTaken.{with_cells}
 use Rattle.lhm_ring.specs.declared.nodes.Nodes.{Nodes}
-use Rattle.lhm_ring.specs.Nodes.{Cell, cell, IsApart, links_address, key_address, value_address, body_owns, deed_owns, land_owns, cell_owns, cells_own, cell_lent, cells_lent}
+use Rattle.lhm_ring.specs.Nodes.{Cell, cell, IsApart, links_address, key_address, value_address}
+use Rattle.lhm_ring.specs.Nodes.{body_owns, deed_owns, land_owns, cell_owns, cells_own, cell_lent}
+use Rattle.lhm_ring.specs.Nodes.{cells_lent}
 use Rattle.lhm_ring.specs.ValueLoan.{Spread, spread, AreLent}
 use Rattle.lhm_ring.specs.Ring.{State, state, held_values, set_held_values}
 use Rattle.lhm_ring.specs.Links.{ring_cells, ring_pointers}
@@ -100,10 +109,12 @@ module _ (R S W : RattleType) where
 
   module _ {M : Type 1} {𝓤 : Ura M} (𝓛 : Logic 𝓤) where
     cut_body : (k : Bool) (p : Ptr) (b : Body) (r : Entries S.Denot W.Denot)
-        → Entails 𝓛 (body_owns R S W p b ∗ values_own r (vals r)) (values_own (lent_then k p b r) (vals (lent_then k p b r)) ∗ body_frame k p b)
+        → Entails 𝓛 (body_owns R S W p b ∗ values_own r (vals r))
+        (values_own (lent_then k p b r) (vals (lent_then k p b r)) ∗ body_frame k p b)
     cut_body false p b r = comm∗ 𝓤 (sem 𝓛 (body_owns R S W p b)) (sem 𝓛 (values_own r (vals r)))
     cut_body true p None r = comm∗ 𝓤 (sem 𝓛 (body_owns R S W p None)) (sem 𝓛 (values_own r (vals r)))
-    cut_body true p (Some x) r = qed 𝓛 (‵ (body_owns R S W p (Some x)) ∷ ‵ (values_own r (vals r)) ∷ []) ∵ fsplit ! $ move ! (1 ∷ 2 ∷ []) $ fjoin ! $ done !
+    cut_body true p (Some x) r = qed 𝓛 (‵ (body_owns R S W p (Some x)) ∷ ‵ (values_own r (vals r)) ∷
+        []) ∵ fsplit ! $ move ! (1 ∷ 2 ∷ []) $ fjoin ! $ done !
 
     pub nodes_cut : (Z : Fml) (keep : Ptr → Bool) (cs : List Node)
         → Entails 𝓛 (cells_own R S W Z cs) (values_own (lent keep cs) (vals (lent keep cs)) ∗ frames Z keep cs)
@@ -115,7 +126,8 @@ module _ (R S W : RattleType) where
 
     module _ (hs : Triples S.Denot W.Denot) where
       glue_body : (k : Bool) (p : Ptr) (b : Body) (r : Entries S.Denot W.Denot)
-          → Entails 𝓛 (values_own (lent_then k p b r) (taken hs (lent_then k p b r)) ∗ body_frame k p b) (values_own r (taken hs r) ∗ body_owns R S W p (written_body k hs p b))
+          → Entails 𝓛 (values_own (lent_then k p b r) (taken hs (lent_then k p b r)) ∗ body_frame k
+          p b) (values_own r (taken hs r) ∗ body_owns R S W p (written_body k hs p b))
       glue_body false p b r = id⊢ 𝓤 _
       glue_body true p None r = id⊢ 𝓤 _
       glue_body true p (Some x) r = qed 𝓛 (‵ (values_own ((p, x) ∷ r) (taken hs ((p, x) ∷ r))) ∷ ‵ (body_frame true p (Some x)) ∷ []) ∵
@@ -127,14 +139,21 @@ module _ (R S W : RattleType) where
           (λ c. cell c.at c.links (written_body (keep c.at) hs c.at c.body)) (λ c cs.
           let r = lent keep cs in let k = keep c.at in let s = lent_then k c.at c.body r in
           qed 𝓛 (‵ (values_own s (taken hs s)) ∷ ‵ (frame keep c) ∷ []) ∵ move ! (1 ∷ []) $ fsplit3 ! $ move ! (3 ∷ 1 ∷ []) $
-          use2 𝓛 (‵ (values_own r (taken hs r)) ⊛ ‵ (body_owns R S W c.at (written_body k hs c.at c.body))) (glue_body k c.at c.body r) $ split ! $
+          use2 𝓛 (‵ (values_own r (taken hs r)) ⊛ ‵
+          (body_owns R S W c.at (written_body k hs c.at c.body))) (glue_body k c.at c.body r) $
+          split ! $
           move ! (2 ∷ 1 ∷ 3 ∷ []) $ fjoin3 ! $ move ! (1 ∷ 0 ∷ []) $ done !) Z
 
     -- what is lent of a frame shows what a node of holes does
-    frame_seen : (κ : Lft) (p : Ptr) (l : R.Denot) (b : Body) → Entails 𝓛 (lent_at R (links_address R S W p) l κ ∗ key_lent p b κ) (cell_lent R S Hr (cell p l b) κ)
+    frame_seen : (κ : Lft) (p : Ptr) (l : R.Denot) (b : Body)
+        → Entails 𝓛 (lent_at R (links_address R S W p) l κ ∗ key_lent p b κ)
+        (cell_lent R S Hr (cell p l b) κ)
     frame_seen κ p l None = id⊢ 𝓤 _
-    frame_seen κ null_ptr l (Some x) = qed 𝓛 (‵ (lent_at R (links_address R S W null_ptr) l κ) ∷ ‵ (key_lent null_ptr (Some x) κ) ∷ []) ∵ fsplit ! $ keep ! (0 ∷ []) $ by ! (never_e 𝓤 _)
-    frame_seen κ (block_ptr b o) l (Some x) = qed 𝓛 (‵ (lent_at R (links_address R S W (block_ptr b o)) l κ) ∷ ‵ (key_lent (block_ptr b o) (Some x) κ) ∷ []) ∵
+    frame_seen κ null_ptr l (Some x) = qed 𝓛 (‵ (lent_at R (links_address R S W null_ptr) l κ) ∷ ‵
+        (key_lent null_ptr (Some x) κ) ∷ []) ∵ fsplit ! $ keep ! (0 ∷ []) $ by ! (never_e 𝓤 _)
+    frame_seen κ (block_ptr b o) l (Some x) =
+        qed 𝓛 (‵ (lent_at R (links_address R S W (block_ptr b o)) l κ) ∷ ‵
+        (key_lent (block_ptr b o) (Some x) κ) ∷ []) ∵
         empty ! $ empty ! $ fjoin ! $ move ! (2 ∷ 0 ∷ []) $ fjoin ! $ move ! (1 ∷ 0 ∷ []) $ fjoin ! $ done !
 
     module _ (LR : Laws R) (LS : Laws S) (l : Lft) (incR : Incl l R.lives) (incS : Incl l S.lives) where
@@ -143,7 +162,9 @@ module _ (R S W : RattleType) where
 
       Lends-body : (k : Bool) (p : Ptr) (b : Body) → Lends 𝓛 (body_frame k p b) (key_lent p b) l
       Lends-body false p None = Lends-nothing 𝓛 (body_owns R S W p None) l
-      Lends-body false p (Some x) = Lends-first 𝓛 (lies_at S full_share (key_address R S W p) x.0) (lies_at W full_share (value_address R S W p) x.1) (key_lent p (Some x)) l (Lends-key p x.0)
+      Lends-body false p (Some x) = Lends-first 𝓛 (lies_at S full_share (key_address R S W p) x.0)
+          (lies_at W full_share (value_address R S W p) x.1) (key_lent p (Some x)) l
+          (Lends-key p x.0)
       Lends-body true p None = Lends-nothing 𝓛 (body_owns R S W p None) l
       Lends-body true p (Some x) = Lends-key p x.0
 
@@ -211,12 +232,17 @@ module _ (S W : RattleType) where
 
       pub ring_cut : Entails 𝓛 (part_at Full full_share a b o) (Lent (vals R S W passed) ∗ part_at Thinned full_share (thinned a) b o)
       unfolding part_of
-      ring_cut = qed 𝓛 (‵ (part_at Full full_share a b o) ∷ []) ∵ fpick ! (λ vs. fsplit ! $ move ! (1 ∷ []) $ fpick ! (λ vss. fsplit ! $ move ! (1 ∷ []) $ fsplit ! $ fsplit ! $
+      ring_cut = qed 𝓛 (‵ (part_at Full full_share a b o) ∷ []) ∵ fpick !
+          (λ vs. fsplit ! $ move ! (1 ∷ []) $ fpick ! (λ vss. fsplit ! $ move ! (1 ∷ []) $ fsplit !
+          $ fsplit ! $
           -- [the marker; the nodes; the other fields; the value; the cell]
-          move ! (1 ∷ []) $ use1 𝓛 (‵ (Lent (vals R S W passed)) ⊛ ‵ (frames R S W others keep a.nodes.cells)) (nodes_cut R S W 𝓛 others keep a.nodes.cells) $ split ! $
+          move ! (1 ∷ []) $ use1 𝓛 (‵ (Lent (vals R S W passed)) ⊛ ‵
+          (frames R S W others keep a.nodes.cells)) (nodes_cut R S W 𝓛 others keep a.nodes.cells) $
+          split ! $
           move ! (2 ∷ 1 ∷ []) $ fjoin ! $ move ! (0 ∷ 2 ∷ []) $ fjoin ! $ move ! (2 ∷ 0 ∷ []) $ fjoin ! $
           fpack ! (Valss (rows parts)) (within thin_shape (thinned a) vs) vss $ move ! (2 ∷ 0 ∷ []) $ fjoin ! $
-          fpack ! (List Val) (λ us. cell_raw full_share (raw_all Thinned.mir) us b o ∗ Thinned.own_val (thinned a) us) vs $ move ! (1 ∷ []) $ done !))
+          fpack ! (List Val) (λ us. cell_raw full_share (raw_all Thinned.mir) us b o ∗
+          Thinned.own_val (thinned a) us) vs $ move ! (1 ∷ []) $ done !))
 
       module _ (hs : Triples S.Denot W.Denot) where
         abbrev pub glued : Inside
@@ -227,9 +253,13 @@ module _ (S W : RattleType) where
         ring_glue = qed 𝓛 (‵ (Lent (taken hs passed)) ∷ ‵ (part_at Thinned full_share (thinned a) b o) ∷ []) ∵
             move ! (1 ∷ []) $ fpick ! (λ vs. fsplit ! $ move ! (1 ∷ []) $ fpick ! (λ vss. fsplit ! $ move ! (1 ∷ []) $ fsplit ! $ fsplit ! $
             -- [the marker; the frames; the other fields; the value; the cell; the values]
-            move ! (5 ∷ 1 ∷ []) $ use2 𝓛 (‵ (cells_own R S W others (written keep hs a.nodes.cells))) (nodes_glue R S W 𝓛 hs others keep a.nodes.cells) $
+            move ! (5 ∷ 1 ∷ []) $ use2 𝓛
+            (‵ (cells_own R S W others (written keep hs a.nodes.cells)))
+            (nodes_glue R S W 𝓛 hs others keep a.nodes.cells) $
             move ! (1 ∷ 0 ∷ []) $ fjoin ! $ fjoin ! $ move ! (1 ∷ 0 ∷ []) $ fjoin ! $
-            fpack ! (Valss (rows (I-type.struct S W).parts)) (within (declared.shape (I-type.the_type S W)) (values_of glued) vs) vss $ move ! (1 ∷ 0 ∷ []) $ fjoin ! $
+            fpack ! (Valss (rows (I-type.struct S W).parts))
+            (within (declared.shape (I-type.the_type S W)) (values_of glued) vs) vss $ move !
+            (1 ∷ 0 ∷ []) $ fjoin ! $
             fpack ! (List Val) (λ us. cell_raw full_share (raw_all Full.mir) us b o ∗ Full.own_val glued us) vs $ done !))
 
 -- how the loan of the values is named, first by the ring and then by the values
@@ -255,12 +285,14 @@ module _ (S W : RattleType) where
   abbrev pub good : Inside S W → Type 0
   good = R-type.the_invariant S W
 
-  spread-length : {M : Type 1} {𝓤 : Ura M} (𝓛 : Logic 𝓤) (ps : List Ptr) (ws : List W.Denot) → ent 𝓤 (sem 𝓛 (spread W ps ws)) (fact 𝓤 (length ws ≡ length ps))
+  spread-length : {M : Type 1} {𝓤 : Ura M} (𝓛 : Logic 𝓤) (ps : List Ptr) (ws : List W.Denot)
+      → ent 𝓤 (sem 𝓛 (spread W ps ws)) (fact 𝓤 (length ws ≡ length ps))
   spread-length {𝓤 = 𝓤} 𝓛 [] [] = fact_i 𝓤 _ (emp 𝓤) refl
   spread-length {𝓤 = 𝓤} 𝓛 [] (w ∷ ws) = never_e 𝓤 _
   spread-length {𝓤 = 𝓤} 𝓛 (p ∷ ps) [] = never_e 𝓤 _
   spread-length {𝓤 = 𝓤} 𝓛 (p ∷ ps) (w ∷ ws) = qed 𝓛 (‵ (lies_at W full_share p w) ∷ ‵ (spread W ps ws) ∷ []) ∵ drop ! $
-      use1 𝓛 (given (length ws ≡ length ps) (‵ ftrue)) (spread-length 𝓛 ps ws) $ learn ! (λ e. by ! (fact_i 𝓤 (suc (length ws) ≡ suc (length ps)) (emp 𝓤) (ap suc e)))
+      use1 𝓛 (given (length ws ≡ length ps) (‵ ftrue)) (spread-length 𝓛 ps ws) $ learn !
+      (λ e. by ! (fact_i 𝓤 (suc (length ws) ≡ suc (length ps)) (emp 𝓤) (ap suc e)))
 
   module _ {M : Type 1} {𝓤 : Ura M} (𝓛 : Logic 𝓤) (a : Inside S W) (d : Seen) (seen : view a ≡ d) (ok : good a) (b o : ℕ) where
     abbrev pub Fields : Fml
@@ -271,19 +303,24 @@ module _ (S W : RattleType) where
     Whole ws = sep 𝓤 (sem 𝓛 ((Vals a).own_at ws 0 0)) (sep 𝓤 (sem 𝓛 (fseps (Fields ∷ []))) (emp 𝓤))
 
     view-glued : (ks : Triples S.Denot W.Denot) → view (glued S W (kept_by a) 𝓛 a b o ks) ≡ record d { held = revalued_by ks d.held }
-    view-glued ks i = state ((ring_list-held_written a.ends a.nodes.cells a.spare a.len a.spares ks ∙ ap (λ (s : Seen). revalued_by ks s.held) seen) i) (seen i).spares (seen i).nodes
+    view-glued ks i = state ((ring_list-held_written a.ends a.nodes.cells a.spare a.len a.spares ks
+        ∙ ap (λ (s : Seen). revalued_by ks s.held) seen) i) (seen i).spares (seen i).nodes
 
     -- the values that ks has at their pointers come back
-    back_by : (ks : Triples S.Denot W.Denot) → ent 𝓤 (Whole (taken ks (entries a))) (sem 𝓛 ((mem Lr).own_at (record d { held = revalued_by ks d.held }) b o))
+    back_by : (ks : Triples S.Denot W.Denot) → ent 𝓤 (Whole (taken ks (entries a)))
+        (sem 𝓛 ((mem Lr).own_at (record d { held = revalued_by ks d.held }) b o))
     unfolding fseps
     back_by ks = let a' = glued S W (kept_by a) 𝓛 a b o ks in let s : Seen = record d { held = revalued_by ks d.held } in
-        qed 𝓛 (‵ ((Vals a).own_at (taken ks (entries a)) 0 0) ∷ ‵ (Fields ∗ ftrue) ∷ raw (emp 𝓤) ∷ []) ∵ move ! (1 ∷ []) $ fsplit ! $ move ! (2 ∷ 0 ∷ []) $
+        qed 𝓛 (‵ ((Vals a).own_at (taken ks (entries a)) 0 0) ∷ ‵ (Fields ∗ ftrue) ∷ raw
+        (emp 𝓤) ∷ []) ∵ move ! (1 ∷ []) $ fsplit ! $ move ! (2 ∷ 0 ∷ []) $
         use2 𝓛 (‵ (part_at (Full S W) full_share a' b o)) (ring_glue S W (kept_by a) 𝓛 a b o ks) $ keep ! (0 ∷ []) $
-        by ! (Plain-in Lr (Full S W) (view_owns (Full S W) Seen Lr.coded view good) 𝓛 full_share s a' (view_made (Full S W) Seen Lr.coded view good 𝓛 s a'
+        by ! (Plain-in Lr (Full S W) (view_owns (Full S W) Seen Lr.coded view good) 𝓛 full_share s
+        a' (view_made (Full S W) Seen Lr.coded view good 𝓛 s a'
         (view-glued ks, record { ring = IsOwned-held_written a.ends a.nodes.cells a.spare a.len a.spares ks ok.ring; laid = ok.laid })) b o)
 
     pub AreLent-entries : AreLent (run_of (entries a)) d.held
-    AreLent-entries = subst (λ (s : Seen). AreLent (run_of (entries a)) s.held) seen (AreLent-held_entries a.ends a.nodes.cells a.spare a.len a.spares ok.ring)
+    AreLent-entries = subst (λ (s : Seen). AreLent (run_of (entries a)) s.held) seen
+        (AreLent-held_entries a.ends a.nodes.cells a.spare a.len a.spares ok.ring)
 
     IsApart-entries : IsApart (at_entries (entries a))
     IsApart-entries = IsApart-lent (kept_by a) a.nodes.cells a.nodes.apart
@@ -314,11 +351,14 @@ module _ (S W : RattleType) where
     placed-named ws = ap (λ ks. taken ks (entries a)) (set_held_values-by (listing (entries a) ws) d.held)
         ∙ taken-by (listing (entries a) ws) d.held (entries a) AllByRecursion-own AllByRecursion-in_ring
 
-    pub ordered_back : (ws : List W.Denot) → ent 𝓤 (sep 𝓤 (sem 𝓛 ((Vals a).own_at ws 0 0)) (emp 𝓤)) (sem 𝓛 ((Vals a).own_at (placed (named ws)) 0 0))
+    pub ordered_back : (ws : List W.Denot) → ent 𝓤 (sep 𝓤 (sem 𝓛 ((Vals a).own_at ws 0 0)) (emp 𝓤))
+        (sem 𝓛 ((Vals a).own_at (placed (named ws)) 0 0))
     ordered_back ws = let ps = at_pointers links.the_row S W (entries a) in
         fact_use 𝓤 (length ws ≡ length ps) (via 𝓤 _ (fst∗ 𝓤 (sem 𝓛 (spread W ps ws)) (emp 𝓤)) (spread-length 𝓛 ps ws)) (λ long.
         let listed = taken-listing (entries a) ws IsApart-entries (long ∙ length-map (run_of (entries a)) _ ∙ length-map (entries a) _) in
-        qed 𝓛 (‵ (spread W ps ws) ∷ raw (emp 𝓤) ∷ []) ∵ rewrite ! 0 (λ (l : List W.Denot). ‵ (spread W ps l)) (sym (placed-named ws ∙ listed)) refl $ keep ! (0 ∷ []) $ done !)
+        qed 𝓛 (‵ (spread W ps ws) ∷ raw (emp 𝓤) ∷ []) ∵ rewrite ! 0
+        (λ (l : List W.Denot). ‵ (spread W ps l)) (sym (placed-named ws ∙ listed)) refl $ keep !
+        (0 ∷ []) $ done !)
 
     -- the values, in the order of the ring
     abbrev pub As : SemTy
@@ -328,5 +368,7 @@ module _ (S W : RattleType) where
 abbrev pub LoanMarker : NamedLft → (R S W : RattleType) → RattleType
 LoanMarker a R S W = Struct (owning.shape (L-type.the_type a R S W))
 
-pub loan_made : (a : NamedLft) (R S W : RattleType) {M : Type 1} {𝓤 : Ura M} (𝓛 : Logic 𝓤) → ent 𝓤 (emp 𝓤) (sem 𝓛 ((LoanMarker a R S W).own_val (tt, tt) (marker ∷ [])))
-loan_made a R S W 𝓛 = makes_shadow 𝓛 ((LoanMarker a R S W).own_val (tt, tt) (marker ∷ [])) (λ vss. (tt, ((λ uss. (tt, tt)), tt))) ((vstruct vnil ∷ [], tt), (refl, ((tt, (refl, tt)), tt)))
+pub loan_made : (a : NamedLft) (R S W : RattleType) {M : Type 1} {𝓤 : Ura M} (𝓛 : Logic 𝓤)
+    → ent 𝓤 (emp 𝓤) (sem 𝓛 ((LoanMarker a R S W).own_val (tt, tt) (marker ∷ [])))
+loan_made a R S W 𝓛 = makes_shadow 𝓛 ((LoanMarker a R S W).own_val (tt, tt) (marker ∷ []))
+    (λ vss. (tt, ((λ uss. (tt, tt)), tt))) ((vstruct vnil ∷ [], tt), (refl, ((tt, (refl, tt)), tt)))

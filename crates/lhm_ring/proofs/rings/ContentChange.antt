@@ -12,9 +12,13 @@ use Rattle.lhm_ring.proofs.rings.Moves.{IsFresh-spares}
 use Rattle.lhm_ring.proofs.rings.ReadAtPosition.{content_at-held, links_at-held, pair-held}
 use Rattle.lhm_ring.proofs.rings.RingNodes.{NodeAt-held}
 use Rattle.lhm_ring.proofs.rings.SameNodes.{SameLink, follow-same, IsOwned-same}
-use Rattle.lhm_ring.proofs.rings.Writes.{cell_at-change_other, length-change, reader-with_links_same, links_at-with_links, body_at-with_links}
+use Rattle.lhm_ring.proofs.rings.Writes.{cell_at-change_other, length-change}
+use Rattle.lhm_ring.proofs.rings.Writes.{reader-with_links_same, links_at-with_links}
+use Rattle.lhm_ring.proofs.rings.Writes.{body_at-with_links}
 use Rattle.lhm_ring.specs.Nodes.{Cell, cell, same_ptr, links_of, body_of, links_at, body_at, IsApart, with_links, with_body}
-use Rattle.lhm_ring.specs.Links.{chaining_to, next_of, prev_of, link_of, has_links, next_at, prev_at, link_at, is_there, content_of, content_at, HasContent, follow, listed, one_of, ring_list, IsOwned}
+use Rattle.lhm_ring.specs.Links.{chaining_to, next_of, prev_of, link_of, has_links, next_at}
+use Rattle.lhm_ring.specs.Links.{prev_at, link_at, is_there, content_of, content_at, HasContent}
+use Rattle.lhm_ring.specs.Links.{follow, listed, one_of, ring_list, IsOwned}
 use Rattle.lhm_ring.specs.Ring.{State, state, Held, held, IsHeld, ChangesOnly, change_at, pair, revalued}
 use Rattle.lhm_ring.specs.Pointer.{target}
 
@@ -36,10 +40,13 @@ module _ {B : Type 0} {cs ds : List (Cell Links B)} {p : Ptr} {t u : Held B} (j 
     | false ↦ λ n. (h.0, j.content q n ∙ h.1)
   ]) refl
 
-  pub IsOwned-changed : {spare : Link} {n m : ℕ} {v : State B} {total : ℕ} → IsOwned cs spare n m → state (ring_list cs n) m total ≡ v → IsHeld v.held p → IsOwned ds spare n m
+  pub IsOwned-changed : {spare : Link} {n m : ℕ} {v : State B} {total : ℕ} → IsOwned cs spare n m
+      → state (ring_list cs n) m total ≡ v → IsHeld v.held p → IsOwned ds spare n m
   IsOwned-changed ok w h =
-      IsOwned-same cs ds j.next j.prev j.there j.count ok (AllByRecursion-map (HasContent cs) (HasContent ds) HasContent-changed ok.held_pointers ok.ring.held)
-      (AllByRecursion-map (λ q. same_ptr p q ≡ false) (SameLink cs ds) j.link ok.spare_pointers (IsFresh-spares ok.ring (NodeAt-held ok w p h)))
+      IsOwned-same cs ds j.next j.prev j.there j.count ok (AllByRecursion-map (HasContent cs)
+      (HasContent ds) HasContent-changed ok.held_pointers ok.ring.held)
+      (AllByRecursion-map (λ q. same_ptr p q ≡ false) (SameLink cs ds) j.link ok.spare_pointers
+      (IsFresh-spares ok.ring (NodeAt-held ok w p h)))
 
   module _ (f : Held B → Held B) (fx : f t ≡ u) where
     pointer : t.at ≡ p
@@ -48,16 +55,18 @@ module _ {B : Type 0} {cs ds : List (Cell Links B)} {p : Ptr} {t u : Held B} (j 
     change_at-one : change_at p f (t ∷ []) ≡ u ∷ []
     change_at-one = ap (λ y. cond y (f t) t ∷ []) (ap (λ q. same_ptr q p) pointer ∙ same_ptr-reflexive p) ∙ ap (λ z. z ∷ []) fx
 
-    change_at-other : (q : Ptr) (o : Option (Held B)) → same_ptr p q ≡ false → ((z : Held B) → o ≡ Some z → z.at ≡ q) → change_at p f (one_of o) ≡ one_of o
+    change_at-other : (q : Ptr) (o : Option (Held B)) → same_ptr p q ≡ false
+        → ((z : Held B) → o ≡ Some z → z.at ≡ q) → change_at p f (one_of o) ≡ one_of o
     change_at-other q None n h = refl
     change_at-other q (Some z) n h = ap (λ y. cond y (f z) z ∷ []) (ap (λ r. same_ptr r p) (h z refl) ∙ same_ptr-symmetric q p ∙ n)
 
     one_of-changed : (q : Ptr) → one_of (content_at ds q) ≡ change_at p f (one_of (content_at cs q))
-    one_of-changed q = (elim (same_ptr p q) as (λ y. same_ptr p q ≡ y → one_of (content_at ds q) ≡ change_at p f (one_of (content_at cs q))) [
-      | true ↦ λ s. subst (λ r. one_of (content_at ds r) ≡ change_at p f (one_of (content_at cs r))) (same_ptr-equal p q s)
-          (ap one_of j.is ∙ sym (ap (λ o. change_at p f (one_of o)) j.was ∙ change_at-one))
-      | false ↦ λ n. ap one_of (j.content q n) ∙ sym (change_at-other q (content_at cs q) n (λ z h. at-content cs q h))
-    ]) refl
+    one_of-changed q = (elim (same_ptr p q) as (λ y. same_ptr p q ≡ y → one_of (content_at ds q)
+        ≡ change_at p f (one_of (content_at cs q))) [
+          | true ↦ λ s. subst (λ r. one_of (content_at ds r) ≡ change_at p f (one_of (content_at cs r))) (same_ptr-equal p q s)
+              (ap one_of j.is ∙ sym (ap (λ o. change_at p f (one_of o)) j.was ∙ change_at-one))
+          | false ↦ λ n. ap one_of (j.content q n) ∙ sym (change_at-other q (content_at cs q) n (λ z h. at-content cs q h))
+        ]) refl
 
     change_at-append : (xs ys : List (Held B)) → change_at p f (xs ++ ys) ≡ change_at p f xs ++ change_at p f ys
     change_at-append [] ys = refl
@@ -66,15 +75,21 @@ module _ {B : Type 0} {cs ds : List (Cell Links B)} {p : Ptr} {t u : Held B} (j 
     listed-changed : (qs : List Ptr) → listed ds qs ≡ change_at p f (listed cs qs)
     unfolding listed
     listed-changed [] = refl
-    listed-changed (q ∷ qs) = (λ i. one_of-changed q i ++ listed-changed qs i) ∙ sym (change_at-append (one_of (content_at cs q)) (listed cs qs))
+    listed-changed (q ∷ qs) = (λ i. one_of-changed q i ++ listed-changed qs i)
+        ∙ sym (change_at-append (one_of (content_at cs q)) (listed cs qs))
 
-    pub ring_list-changed : {spare : Link} {n m : ℕ} {v : State B} {total : ℕ} → IsOwned cs spare n m → state (ring_list cs n) m total ≡ v → ring_list ds n ≡ change_at p f v.held
+    pub ring_list-changed : {spare : Link} {n m : ℕ} {v : State B} {total : ℕ}
+        → IsOwned cs spare n m → state (ring_list cs n) m total ≡ v
+        → ring_list ds n ≡ change_at p f v.held
     ring_list-changed {n = n} ok w =
-        ap (listed ds) (follow-same cs ds j.next n null_ptr) ∙ listed-changed (follow cs n null_ptr) ∙ ap (λ (z : State B). change_at p f z.held) w
+        ap (listed ds) (follow-same cs ds j.next n null_ptr) ∙ listed-changed (follow cs n null_ptr)
+        ∙ ap (λ (z : State B). change_at p f z.held) w
 
 -- the body of a node is written, or its chain link
-module _ {B : Type 0} (cs : List (Cell Links B)) (p : Ptr) {l : Links} (e : links_at cs p ≡ Some l) {t : Held B} (c : content_at cs p ≡ Some t) where
-  content_of-some : (o : Option Links) (b : Option B) (k : Links) (x : B) → o ≡ Some k → b ≡ Some x → content_of p o b ≡ Some (held p k.hash (link_of (Some k)) x)
+module _ {B : Type 0} (cs : List (Cell Links B)) (p : Ptr) {l : Links} (e : links_at cs p ≡ Some l)
+    {t : Held B} (c : content_at cs p ≡ Some t) where
+  content_of-some : (o : Option Links) (b : Option B) (k : Links) (x : B) → o ≡ Some k → b ≡ Some x
+      → content_of p o b ≡ Some (held p k.hash (link_of (Some k)) x)
   content_of-some o b k x eo eb = λ i. content_of p (eo i) (eb i)
 
   pub ChangesAt-with_body : (x : B) → ChangesAt cs (with_body p (Some x) cs) p t (held t.at t.hash t.link x)
@@ -86,16 +101,21 @@ module _ {B : Type 0} (cs : List (Cell Links B)) (p : Ptr) {l : Links} (e : link
         prev = λ q. ap prev_of (same q);
         there = λ q. ap has_links (same q);
         link = λ q _. ap link_of (same q);
-        content = λ q n. ap (λ z. content_of q (links_of z) (body_of z)) (cell_at-change_other p (λ c. cell c.at c.links (Some x)) (λ c. refl) q n cs);
+        content = λ q n. ap (λ z. content_of q (links_of z) (body_of z))
+            (cell_at-change_other p (λ c. cell c.at c.links (Some x)) (λ c. refl) q n cs);
         was = c;
-        is = content_of-some (links_at (with_body p (Some x) cs) p) (body_at (with_body p (Some x) cs) p) l x (same p ∙ e) (body_at-with_body p (Some x) cs l e)
+        is = content_of-some (links_at (with_body p (Some x) cs) p)
+            (body_at (with_body p (Some x) cs) p) l x (same p ∙ e)
+            (body_at-with_body p (Some x) cs l e)
             ∙ ap (λ z. Some z) (λ i. held (sym pointer i) (sym (hash-content cs p c e) i) (sym (link-content cs p c e) i) x);
         count = length-change p (λ c. cell c.at c.links (Some x)) cs;
       }
 
   pub ChangesAt-with_links : (o : Link) → ChangesAt cs (with_links p (chaining_to o l) cs) p t (held t.at t.hash (target o) t.pair)
   ChangesAt-with_links o =
-      let k : Links = chaining_to o l in let e₂ : links_at (with_links p k cs) p ≡ Some k = links_at-with_links p k cs e p ∙ ap (λ y. cond y (Some k) (links_at cs p)) (same_ptr-reflexive p) in
+      let k : Links = chaining_to o l in let e₂ : links_at (with_links p k cs) p ≡ Some k =
+      links_at-with_links p k cs e p ∙ ap (λ y. cond y (Some k) (links_at cs p))
+      (same_ptr-reflexive p) in
       let pointer : t.at ≡ p = at-content cs p c in let x = Holds-content cs p c in
       let pair : t.pair ≡ x.0 = pair-content cs p c x.1 in
       record {
@@ -103,7 +123,8 @@ module _ {B : Type 0} (cs : List (Cell Links B)) (p : Ptr) {l : Links} (e : link
         prev = reader-with_links_same p k cs e prev_of refl;
         there = reader-with_links_same p k cs e has_links refl;
         link = λ q n. ap (λ z. link_of (links_of z)) (cell_at-change_other p (λ c. cell c.at k c.body) (λ c. refl) q n cs);
-        content = λ q n. ap (λ z. content_of q (links_of z) (body_of z)) (cell_at-change_other p (λ c. cell c.at k c.body) (λ c. refl) q n cs);
+        content = λ q n. ap (λ z. content_of q (links_of z) (body_of z))
+            (cell_at-change_other p (λ c. cell c.at k c.body) (λ c. refl) q n cs);
         was = c;
         is = content_of-some (links_at (with_links p k cs) p) (body_at (with_links p k cs) p) k x.0 e₂ (body_at-with_links p k cs e p ∙ x.1)
             ∙ ap (λ z. Some z) (λ i. held (sym pointer i) (sym (hash-content cs p c e) i) (target o) (sym pair i));
@@ -116,13 +137,16 @@ module _ {B : Type 0} where
   change_at-fresh p f [] d = refl
   change_at-fresh p f (y ∷ ys) d = λ i. cond ((same_ptr-symmetric y.at p ∙ d.0) i) (f y) y ∷ change_at-fresh p f ys d.1 i
 
-  change_at-split : (p : Ptr) (f : Held B → Held B) (xs : List (Held B)) (t : Held B) (ys : List (Held B)) → t.at ≡ p → IsApart (pointers_of (xs ++ t ∷ ys)) → change_at p f (xs ++ t ∷ ys) ≡ xs ++ f t ∷ ys
+  change_at-split : (p : Ptr) (f : Held B → Held B) (xs : List (Held B)) (t : Held B)
+      (ys : List (Held B)) → t.at ≡ p → IsApart (pointers_of (xs ++ t ∷ ys))
+      → change_at p f (xs ++ t ∷ ys) ≡ xs ++ f t ∷ ys
   change_at-split p f [] t ys at d =
       let free = subst (λ q. IsFresh q (pointers_of ys)) at (IsFresh-head t.at (pointers_of ys) d) in
       λ i. cond ((ap (λ q. same_ptr q p) at ∙ same_ptr-reflexive p) i) (f t) t ∷ change_at-fresh p f ys free i
   change_at-split p f (x ∷ xs) t ys at d =
       let far = IsFresh-head x.at (pointers_of (xs ++ t ∷ ys)) d in
-      λ i. cond ((ap (same_ptr x.at) (sym at) ∙ same_ptr-fresh x.at xs t ys far) i) (f x) x ∷ change_at-split p f xs t ys at (IsApart-tail x.at (pointers_of (xs ++ t ∷ ys)) d) i
+      λ i. cond ((ap (same_ptr x.at) (sym at) ∙ same_ptr-fresh x.at xs t ys far) i)
+      (f x) x ∷ change_at-split p f xs t ys at (IsApart-tail x.at (pointers_of (xs ++ t ∷ ys)) d) i
 
   pub ChangesOnly-held : {cs : List (Cell Links B)} {spare : Link} {n m : ℕ} {v : State B} {total : ℕ} → IsOwned cs spare n m
       → state (ring_list cs n) m total ≡ v → (p : Ptr) → ChangesOnly v.held p
@@ -131,8 +155,12 @@ module _ {B : Type 0} where
       ∙ change_at-split p f xs t ys at (subst (λ hs. IsApart (pointers_of hs)) (ap (λ (z : State B). z.held) w ∙ e) (IsApart-ring_list ok))
 
 -- a ring in which a value is written at a held pointer
-module _ {K V : Type 0} {cs : List (Cell Links (K × V))} {spare : Link} {n m : ℕ} {v : State (K × V)} {total : ℕ} (ok : IsOwned cs spare n m) (w : state (ring_list cs n) m total ≡ v)
-    {p : Ptr} (h : IsHeld v.held p) {x : K × V} (e : body_at cs p ≡ Some x) (new : V) {ds : List (Cell Links (K × V))} (is : ds ≡ with_body p (Some (pair x.0 new)) cs) where
+module _ {K V : Type 0} {cs : List (Cell Links (K × V))} {spare : Link} {n m : ℕ}
+    {v : State (K × V)} {total : ℕ} (ok : IsOwned cs spare n m) (w : state (ring_list cs n) m total
+    ≡ v)
+    {p : Ptr} (h : IsHeld v.held p) {x : K × V} (e : body_at cs p ≡ Some x)
+    (new : V) {ds : List (Cell Links (K × V))} (is : ds ≡ with_body p (Some (pair x.0 new))
+    cs) where
   changes : ChangesAt cs ds p h.node (held h.node.at h.node.hash h.node.link (pair x.0 new))
   changes = subst (λ zs. ChangesAt cs zs p h.node (held h.node.at h.node.hash h.node.link (pair x.0 new))) (sym is)
       (ChangesAt-with_body cs p (links_at-held ok w h).1 (content_at-held ok w h) (pair x.0 new))

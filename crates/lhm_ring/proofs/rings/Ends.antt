@@ -1,5 +1,6 @@
 -- The node at an end of what a ring holds.
-use Rattle.std.proofs.Common.{◌≡◌, ℕ, suc, ◌≤◌, List, [], ◌∷◌, ◌++◌, length, Option, Some, None, refl, sym, ap, ◌∙◌, arith, append-nil, length-append}
+use Rattle.std.proofs.Common.{◌≡◌, ℕ, suc, ◌≤◌, List, [], ◌∷◌, ◌++◌, length, Option, Some, None}
+use Rattle.std.proofs.Common.{refl, sym, ap, ◌∙◌, arith, append-nil, length-append}
 use Rattle.std.specs.List.{AllZip}
 use Rattle.std.proofs.lemmas.List.{map-append}
 use denote.RawPtr.{Ptr}
@@ -20,7 +21,8 @@ module _ {B : Type 0} where
 
   Last-last_of : (t : Held B) (hs : List (Held B)) → Last (t ∷ hs) (last_of t hs)
   Last-last_of t [] = record { before = []; node = t; is = refl; at_is = refl }
-  Last-last_of t (u ∷ hs) = let r = Last-last_of u hs in record { before = t ∷ r.before; node = r.node; is = ap (λ l. t ∷ l) r.is; at_is = r.at_is }
+  Last-last_of t (u ∷ hs) = let r = Last-last_of u hs in
+      record { before = t ∷ r.before; node = r.node; is = ap (λ l. t ∷ l) r.is; at_is = r.at_is }
 
   pub Last-last_at : (hs : List (Held B)) {o : Option Ptr} {p : Ptr} → o ≡ last_at hs → o ≡ Some p → Last hs p
   Last-last_at [] {o} {p} e h = absurd (let no : None ≡ Some p = sym e ∙ h in cc)
@@ -41,24 +43,32 @@ module _ {B : Type 0} where
     last_held l = record { before = l.before; node = l.node; after = []; is = l.is; at_is = l.at_is }
 
   -- one less is held once a triple was removed
-  pub length-removed : (hs us xs : List (Held B)) (t : Held B) (ys : List (Held B)) → hs ≡ xs ++ t ∷ ys → us ≡ xs ++ ys → suc (length us) ≤ length hs
-  length-removed hs us xs t ys e f = let a = ap length e in let b = ap length f in omega (arith, length-append xs (t ∷ ys), length-append xs ys)
+  pub length-removed : (hs us xs : List (Held B)) (t : Held B) (ys : List (Held B))
+      → hs ≡ xs ++ t ∷ ys → us ≡ xs ++ ys → suc (length us) ≤ length hs
+  length-removed hs us xs t ys e f = let a = ap length e in let b = ap length f in
+      omega (arith, length-append xs (t ∷ ys), length-append xs ys)
 
 -- the triples, once that at an end was removed
 module _ {K V : Type 0} {hs : List (Held (K × V))} {p : Ptr} where
-  pub triples-first : (f : First hs p) (others : List (Held (K × V))) (taken : ℕ × K × V) → others ≡ f.after → taken ≡ (f.node.hash, f.node.pair.0, f.node.pair.1) → triples hs ≡ (taken.0, (taken.1, taken.2)) ∷ triples others
+  pub triples-first : (f : First hs p) (others : List (Held (K × V))) (taken : ℕ × K × V)
+      → others ≡ f.after → taken ≡ (f.node.hash, f.node.pair.0, f.node.pair.1)
+      → triples hs ≡ (taken.0, (taken.1, taken.2)) ∷ triples others
   triples-first f others taken left out = ap triples f.is ∙ (λ i. ((sym out i).0, ((sym out i).1, (sym out i).2)) ∷ triples (sym left i))
 
-  pub triples-last : (l : Last hs p) (others : List (Held (K × V))) (taken : ℕ × K × V) → others ≡ l.before ++ [] → taken ≡ (l.node.hash, l.node.pair.0, l.node.pair.1) → triples hs ≡ triples others ++ (taken.0, (taken.1, taken.2)) ∷ []
+  pub triples-last : (l : Last hs p) (others : List (Held (K × V))) (taken : ℕ × K × V)
+      → others ≡ l.before ++ [] → taken ≡ (l.node.hash, l.node.pair.0, l.node.pair.1)
+      → triples hs ≡ triples others ++ (taken.0, (taken.1, taken.2)) ∷ []
   triples-last l others taken left out =
       ap triples l.is ∙ map-append (λ (t : Held (K × V)). (t.hash, t.pair)) l.before (l.node ∷ [])
       ∙ (λ i. triples (sym (left ∙ append-nil l.before) i) ++ ((sym out i).0, ((sym out i).1, (sym out i).2)) ∷ [])
 
 -- a triple that was put at the back comes last
-pub triples-pushed : {K V : Type 0} (hs rest : List (Held (K × V))) (t : Held (K × V)) → hs ≡ rest ++ t ∷ [] → triples hs ≡ triples rest ++ (t.hash, t.pair) ∷ []
+pub triples-pushed : {K V : Type 0} (hs rest : List (Held (K × V))) (t : Held (K × V))
+    → hs ≡ rest ++ t ∷ [] → triples hs ≡ triples rest ++ (t.hash, t.pair) ∷ []
 triples-pushed hs rest t pushed = ap triples pushed ∙ map-append (λ u. (u.hash, u.pair)) rest (t ∷ [])
 
-pub AllZip-last : {A B : Type 0} (R : A → B → Type 0) (xs : List A) (ys : List B) (x : A) (y : B) → AllZip R xs ys → R x y → AllZip R (xs ++ x ∷ []) (ys ++ y ∷ [])
+pub AllZip-last : {A B : Type 0} (R : A → B → Type 0) (xs : List A) (ys : List B) (x : A) (y : B)
+    → AllZip R xs ys → R x y → AllZip R (xs ++ x ∷ []) (ys ++ y ∷ [])
 AllZip-last R [] [] x y all last = (last, tt)
 AllZip-last R [] (y' ∷ ys) x y all last = absurd all
 AllZip-last R (x' ∷ xs) [] x y all last = absurd all

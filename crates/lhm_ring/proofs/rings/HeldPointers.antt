@@ -19,23 +19,28 @@ module _ {B : Type 0} where
   pub pointers_of-append : (xs ys : List (Held B)) → pointers_of (xs ++ ys) ≡ pointers_of xs ++ pointers_of ys
   pointers_of-append xs ys = map-append (λ (t : Held B). t.at) xs ys
 
-  pub same_ptr-fresh : (p : Ptr) (xs : List (Held B)) (t : Held B) (ys : List (Held B)) → IsFresh p (pointers_of (xs ++ t ∷ ys)) → same_ptr p t.at ≡ false
+  pub same_ptr-fresh : (p : Ptr) (xs : List (Held B)) (t : Held B) (ys : List (Held B))
+      → IsFresh p (pointers_of (xs ++ t ∷ ys)) → same_ptr p t.at ≡ false
   same_ptr-fresh p [] t ys f = f.0
   same_ptr-fresh p (x ∷ xs) t ys f = same_ptr-fresh p xs t ys f.1
 
   -- without one of them
-  pub IsApart-without_node : (xs : List (Held B)) (t : Held B) (ys : List (Held B)) → IsApart (pointers_of (xs ++ t ∷ ys)) → IsApart (pointers_of (xs ++ ys))
+  pub IsApart-without_node : (xs : List (Held B)) (t : Held B) (ys : List (Held B))
+      → IsApart (pointers_of (xs ++ t ∷ ys)) → IsApart (pointers_of (xs ++ ys))
   IsApart-without_node xs t ys d =
-      subst IsApart (sym (pointers_of-append xs ys)) (IsApart-removed (pointers_of xs) t.at (pointers_of ys) (subst IsApart (pointers_of-append xs (t ∷ ys)) d))
+      subst IsApart (sym (pointers_of-append xs ys)) (IsApart-removed (pointers_of xs) t.at
+      (pointers_of ys) (subst IsApart (pointers_of-append xs (t ∷ ys)) d))
 
   pub pointers-listed : (cs : List (Cell Links B)) (ps : List Ptr) → AllByRecursion (HasContent cs) ps → pointers_of (listed cs ps) ≡ ps
   unfolding listed
   pointers-listed cs [] a = refl
-  pointers-listed cs (p ∷ ps) a = ap (λ o. pointers_of (one_of o ++ listed cs ps)) a.0.1 ∙ (λ i. at-content cs p a.0.1 i ∷ pointers-listed cs ps a.1 i)
+  pointers-listed cs (p ∷ ps) a = ap (λ o. pointers_of (one_of o ++ listed cs ps)) a.0.1
+      ∙ (λ i. at-content cs p a.0.1 i ∷ pointers-listed cs ps a.1 i)
 
   module _ {cs : List (Cell Links B)} {spare : Link} {n m : ℕ} (ok : IsOwned cs spare n m) where
     pub held_pointers-follow : ok.held_pointers ≡ follow cs n null_ptr
-    held_pointers-follow = sym (ap (λ k. follow cs k null_ptr) (sym ok.held_count) ∙ follow-row cs null_ptr ok.held_pointers null_ptr ok.ring.linked)
+    held_pointers-follow = sym (ap (λ k. follow cs k null_ptr) (sym ok.held_count)
+        ∙ follow-row cs null_ptr ok.held_pointers null_ptr ok.ring.linked)
 
     pub AllByRecursion-followed : AllByRecursion (HasContent cs) (follow cs n null_ptr)
     AllByRecursion-followed = subst (AllByRecursion (HasContent cs)) held_pointers-follow ok.ring.held
@@ -44,7 +49,9 @@ module _ {B : Type 0} where
     pointers-ring_list = pointers-listed cs (follow cs n null_ptr) AllByRecursion-followed
 
     pub IsApart-ring_list : IsApart (pointers_of (ring_list cs n))
-    IsApart-ring_list = subst IsApart (held_pointers-follow ∙ sym pointers-ring_list) (IsApart-left ok.held_pointers ok.spare_pointers (IsApart-tail null_ptr (ok.held_pointers ++ ok.spare_pointers) ok.ring.apart))
+    IsApart-ring_list = subst IsApart (held_pointers-follow ∙ sym pointers-ring_list)
+        (IsApart-left ok.held_pointers ok.spare_pointers
+        (IsApart-tail null_ptr (ok.held_pointers ++ ok.spare_pointers) ok.ring.apart))
 
     pub IsApart-held : {v : State B} {total : ℕ} → state (ring_list cs n) m total ≡ v → IsApart (pointers_of v.held)
     IsApart-held w = subst (λ (s : State B). IsApart (pointers_of s.held)) w IsApart-ring_list

@@ -80,5 +80,6 @@ module _ {K V : Type 0} (i : Inside K V) (ok : IsWhole i) where
         ring_list-set_value =
             ring_list-revalued ok.ring w h body new (ring_cells-with_body i.ends i.nodes.cells p b _ ds is)
 
-    pub pair-inside : (p : Ptr) → is_block p ≡ true → {x : K × V} → body_at i.nodes.cells p ≡ Some x → AtHeld v.held p (λ xs t ys. x ≡ t.pair)
+    pub pair-inside : (p : Ptr) → is_block p ≡ true → {x : K × V} → body_at i.nodes.cells p ≡ Some x
+        → AtHeld v.held p (λ xs t ys. x ≡ t.pair)
     pair-inside p b e = pair-held ok.ring w p (body_at-ring_cells i.ends i.nodes.cells p b ∙ e)

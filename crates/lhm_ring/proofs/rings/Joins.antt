@@ -3,8 +3,12 @@ use Rattle.std.proofs.Common.{◌≡◌, false, cond, List, [], ◌∷◌, ◌++
 use Rattle.std.specs.List.{AllByRecursion}
 use denote.RawPtr.{Ptr}
 use Rattle.lhm_ring.specs.declared.ring.Links.{Links}
-use Rattle.lhm_ring.proofs.lists.Apart.{IsFresh, same_ptr-reflexive, IsApart-tail, AllByRecursion-fresh_across, IsApart-left, IsFresh-head, IsFresh-middle, same_ptr-flip, IsApart-removed}
-use Rattle.lhm_ring.proofs.lists.ForAll.{AllByRecursion-map, AllByRecursion-always, AllByRecursion-append, AllByRecursion-left, AllByRecursion-right}
+use Rattle.lhm_ring.proofs.lists.Apart.{IsFresh, same_ptr-reflexive, IsApart-tail}
+use Rattle.lhm_ring.proofs.lists.Apart.{AllByRecursion-fresh_across, IsApart-left, IsFresh-head}
+use Rattle.lhm_ring.proofs.lists.Apart.{IsFresh-middle, same_ptr-flip, IsApart-removed}
+use Rattle.lhm_ring.proofs.lists.ForAll.{AllByRecursion-map, AllByRecursion-always}
+use Rattle.lhm_ring.proofs.lists.ForAll.{AllByRecursion-append, AllByRecursion-left}
+use Rattle.lhm_ring.proofs.lists.ForAll.{AllByRecursion-right}
 use Rattle.lhm_ring.proofs.lists.Last.{last_from, AllByRecursion-last, last_from-push}
 use Rattle.lhm_ring.proofs.lists.LinkRows.{RowCut-linked, AreLinked-glued}
 use Rattle.lhm_ring.proofs.rings.SameNodes.{IsSpareList-same, SameLink}
@@ -37,16 +41,26 @@ AvoidsSource-but_last a x (y ∷ ys) z h = (h.0, AvoidsSource-but_last a y ys z 
 pub AvoidsSource-last : (x : Ptr) (xs : List Ptr) → IsApart (x ∷ xs) → AvoidsSource (last_from x xs) (x ∷ xs)
 AvoidsSource-last x [] d = tt
 AvoidsSource-last x (y ∷ ys) d =
-    let f = IsFresh-head x (y ∷ ys) d in
-    (same_ptr-flip x (last_from y ys) (AllByRecursion-last (λ q. same_ptr x q ≡ false) y ys f.0 f.1), AvoidsSource-last y ys (IsApart-tail x (y ∷ ys) d))
+    let f = IsFresh-head x (y ∷ ys) d in (
+      same_ptr-flip x (last_from y ys) (AllByRecursion-last (λ q. same_ptr x q ≡ false) y ys f.0
+          f.1),
+      AvoidsSource-last y ys (IsApart-tail x (y ∷ ys) d),
+    )
 
 module _ {B : Type 0} where
   module _ {cs ds : List (Cell Links B)} {a b : Ptr} (j : IsJoined cs ds a b) where
     AreNeighbours-unchanged : (x y : Ptr) → same_ptr a x ≡ false → same_ptr b y ≡ false → AreNeighbours cs x y → AreNeighbours ds x y
-    AreNeighbours-unchanged x y m n e = (j.next x ∙ ap (λ t. cond t b (next_at cs x)) m ∙ e.0, j.prev y ∙ ap (λ t. cond t a (prev_at cs y)) n ∙ e.1)
+    AreNeighbours-unchanged x y m n e = (
+      j.next x ∙ ap (λ t. cond t b (next_at cs x)) m ∙ e.0,
+      j.prev y
+          ∙ ap (λ t. cond t a (prev_at cs y)) n ∙ e.1,
+    )
 
     pub AreNeighbours-made : AreNeighbours ds a b
-    AreNeighbours-made = (j.next a ∙ ap (λ t. cond t b (next_at cs a)) (same_ptr-reflexive a), j.prev b ∙ ap (λ t. cond t a (prev_at cs b)) (same_ptr-reflexive b))
+    AreNeighbours-made = (
+      j.next a ∙ ap (λ t. cond t b (next_at cs a)) (same_ptr-reflexive a),
+      j.prev b ∙ ap (λ t. cond t a (prev_at cs b)) (same_ptr-reflexive b),
+    )
 
     pub AreLinked-unchanged : (s : List Ptr) → AvoidsSource a s → AvoidsTarget b s → AreLinked cs s
         → AreLinked ds s
@@ -69,29 +83,42 @@ module _ {B : Type 0} where
     listed-unchanged (p ∷ ps) = (λ i. one_of (j.content p i) ++ listed-unchanged ps i)
 
   -- the node p goes out of the row: those beside it are joined
-  pub AreLinked-removed : {cs ds : List (Cell Links B)} (g : Ptr) (xs : List Ptr) (p : Ptr) (ys : List Ptr) → IsApart (g ∷ (xs ++ p ∷ ys)) → AreLinked cs (g ∷ (xs ++ p ∷ (ys ++ g ∷ [])))
+  pub AreLinked-removed : {cs ds : List (Cell Links B)} (g : Ptr) (xs : List Ptr) (p : Ptr)
+      (ys : List Ptr) → IsApart (g ∷ (xs ++ p ∷ ys)) → AreLinked cs (g ∷ (xs ++ p ∷ (ys ++ g ∷ [])))
       → IsJoined cs ds (prev_at cs p) (next_at cs p) → AreLinked ds (g ∷ (xs ++ (ys ++ g ∷ [])))
   AreLinked-removed {cs} {ds} g xs p [] d l j =
       let cut = RowCut-linked cs g xs p (g ∷ []) l in let a = last_from g xs in
       let k : IsJoined cs ds a g = subst (λ (z : Ptr × Ptr). IsJoined cs ds z.0 z.1) (λ i. (cut.edge.1 i, cut.after.0.0 i)) j in
       let whole = IsApart-left (g ∷ xs) (p ∷ []) d in
-      AreLinked-glued ds g xs g [] (AreLinked-unchanged k (g ∷ xs) (AvoidsSource-last g xs whole) (IsFresh-head g xs whole) cut.before) (AreNeighbours-made k) tt
+      AreLinked-glued ds g xs g [] (AreLinked-unchanged k (g ∷ xs) (AvoidsSource-last g xs whole)
+      (IsFresh-head g xs whole) cut.before) (AreNeighbours-made k) tt
   AreLinked-removed {cs} {ds} g xs p (y ∷ r) d l j =
       let cut = RowCut-linked cs g xs p (y ∷ (r ++ g ∷ [])) l in let a = last_from g xs in
       let k : IsJoined cs ds a y = subst (λ (z : Ptr × Ptr). IsJoined cs ds z.0 z.1) (λ i. (cut.edge.1 i, cut.after.0.0 i)) j in
       let whole = IsApart-left (g ∷ xs) (p ∷ y ∷ r) d in let less = IsApart-removed (g ∷ xs) p (y ∷ r) d in
       let free = IsFresh-middle (g ∷ xs) y r less in let P : Ptr → Type 0 = λ q. same_ptr y q ≡ false in
       let across = AllByRecursion-fresh_across (g ∷ xs) (y ∷ r) less in
-      AreLinked-glued ds g xs y (r ++ g ∷ []) (AreLinked-unchanged k (g ∷ xs) (AvoidsSource-last g xs whole) (AllByRecursion-left P xs r free.1) cut.before) (AreNeighbours-made k)
-      (AreLinked-unchanged k (y ∷ (r ++ g ∷ [])) (AvoidsSource-but_last a y r g (AllByRecursion-last (λ x. IsFresh x (y ∷ r)) g xs across.0 across.1)) (AllByRecursion-append P r (g ∷ []) (AllByRecursion-right P xs r free.1) (free.0, tt)) cut.after.1)
+      AreLinked-glued ds g xs y (r ++ g ∷ [])
+      (AreLinked-unchanged k (g ∷ xs) (AvoidsSource-last g xs whole)
+      (AllByRecursion-left P xs r free.1) cut.before) (AreNeighbours-made k)
+      (AreLinked-unchanged k (y ∷ (r ++ g ∷ []))
+      (AvoidsSource-but_last a y r g (AllByRecursion-last (λ x. IsFresh x (y ∷ r)) g xs across.0
+      across.1)) (AllByRecursion-append P r (g ∷ []) (AllByRecursion-right P xs r free.1)
+      (free.0, tt)) cut.after.1)
 
   -- a node p comes last
-  pub AreLinked-pushed : {cs ds es : List (Cell Links B)} (g : Ptr) (ps : List Ptr) (p : Ptr) → IsApart (g ∷ ps) → IsFresh p (g ∷ ps) → AreLinked cs (g ∷ (ps ++ g ∷ []))
+  pub AreLinked-pushed : {cs ds es : List (Cell Links B)} (g : Ptr) (ps : List Ptr) (p : Ptr)
+      → IsApart (g ∷ ps) → IsFresh p (g ∷ ps) → AreLinked cs (g ∷ (ps ++ g ∷ []))
       → IsJoined cs ds (prev_at cs g) p → IsJoined ds es p g → AreLinked es (g ∷ ((ps ++ p ∷ []) ++ g ∷ []))
   AreLinked-pushed {cs} {ds} {es} g ps p d free l j k =
       let cut = RowCut-linked cs g ps g [] l in let a = last_from g ps in
       let j' : IsJoined cs ds a p = subst (λ z. IsJoined cs ds z p) cut.edge.1 j in
       let P : Ptr → Type 0 = λ q. same_ptr g q ≡ false in
-      let first : AreLinked ds (g ∷ (ps ++ p ∷ [])) = AreLinked-glued ds g ps p [] (AreLinked-unchanged j' (g ∷ ps) (AvoidsSource-last g ps d) free.1 cut.before) (AreNeighbours-made j') tt in
-      let second : AreLinked es (g ∷ (ps ++ p ∷ [])) = AreLinked-unchanged k (g ∷ (ps ++ p ∷ [])) (AvoidsSource-but_last p g ps p free) (AllByRecursion-append P ps (p ∷ []) (IsFresh-head g ps d) (same_ptr-flip p g free.0, tt)) first in
-      AreLinked-glued es g (ps ++ p ∷ []) g [] second (subst (λ z. AreNeighbours es z g) (sym (last_from-push g ps p)) (AreNeighbours-made k)) tt
+      let first : AreLinked ds (g ∷ (ps ++ p ∷ [])) = AreLinked-glued ds g ps p []
+      (AreLinked-unchanged j' (g ∷ ps) (AvoidsSource-last g ps d) free.1 cut.before)
+      (AreNeighbours-made j') tt in
+      let second : AreLinked es (g ∷ (ps ++ p ∷ [])) = AreLinked-unchanged k (g ∷ (ps ++ p ∷ []))
+      (AvoidsSource-but_last p g ps p free) (AllByRecursion-append P ps (p ∷ [])
+      (IsFresh-head g ps d) (same_ptr-flip p g free.0, tt)) first in
+      AreLinked-glued es g (ps ++ p ∷ []) g [] second (subst (λ z. AreNeighbours es z g)
+      (sym (last_from-push g ps p)) (AreNeighbours-made k)) tt

@@ -25,7 +25,14 @@ module _ {L B : Type 0} where
           changed = λ f. ap (λ y. cond y (f c ∷ cs) (c ∷ change p f cs)) t;
         }
         | false ↦ λ t. let on = Cut-links_at cs p l (sym (ap (λ y. links_of (cond y (Some c) (cell_at cs p))) t) ∙ e) in record {
-          split = record { before = c ∷ on.split.before; node = on.split.node; after = on.split.after; is = ap (λ xs. c ∷ xs) on.split.is; at_is = on.split.at_is };
+          split = record {
+            before = c ∷ on.split.before;
+            node = on.split.node;
+            after =
+                on.split.after;
+            is = ap (λ xs. c ∷ xs) on.split.is;
+            at_is = on.split.at_is;
+          };
           here = ap (λ y. cond y (Some c) (cell_at cs p)) t ∙ on.here;
           changed = λ f. ap (λ y. cond y (f c ∷ cs) (c ∷ change p f cs)) t ∙ ap (λ xs. c ∷ xs) (on.changed f);
         }
@@ -43,7 +50,8 @@ module _ {L B : Type 0} where
   held_here k e = sym (ap body_of k.here) ∙ e
 
   -- what holds of all pointers holds of one that is found
-  pub AllByRecursion-at : (P : Ptr → Type 0) (cs : List (Cell L B)) (p : Ptr) (l : L) → AllByRecursion P (pointers cs) → links_at cs p ≡ Some l → P p
+  pub AllByRecursion-at : (P : Ptr → Type 0) (cs : List (Cell L B)) (p : Ptr) (l : L)
+      → AllByRecursion P (pointers cs) → links_at cs p ≡ Some l → P p
   unfolding cell_at
   AllByRecursion-at P [] p l h e = absurd (none_some l e)
   AllByRecursion-at P (c ∷ cs) p l h e =

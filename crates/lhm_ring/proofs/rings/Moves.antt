@@ -1,17 +1,22 @@
 -- A node of a ring moves to the back.
-use Rattle.std.proofs.Common.{◌≡◌, false, ℕ, suc, ◌+◌, List, [], ◌∷◌, ◌++◌, length, Option, Some, sym, ap, ◌∙◌, subst, append_assoc, arith, length-append}
+use Rattle.std.proofs.Common.{◌≡◌, false, ℕ, suc, ◌+◌, List, [], ◌∷◌, ◌++◌, length, Option, Some}
+use Rattle.std.proofs.Common.{sym, ap, ◌∙◌, subst, append_assoc, arith, length-append}
 use Rattle.std.specs.List.{AllByRecursion}
 use denote.RawPtr.{Ptr, null_ptr}
 use Rattle.lhm_ring.specs.declared.ring.Links.{Links}
 use Rattle.lhm_ring.specs.declared.pointer.Link.{Link}
 use Rattle.lhm_ring.proofs.lists.Apart.{IsFresh, IsApart-left, IsFresh-middle, IsApart-removed, IsApart-inserted}
-use Rattle.lhm_ring.proofs.rings.Joins.{IsSpareList-unchanged, AllByRecursion-content_unchanged, AllByRecursion-there_unchanged, listed-unchanged, AreLinked-removed, AreLinked-pushed}
+use Rattle.lhm_ring.proofs.rings.Joins.{IsSpareList-unchanged, AllByRecursion-content_unchanged}
+use Rattle.lhm_ring.proofs.rings.Joins.{AllByRecursion-there_unchanged, listed-unchanged}
+use Rattle.lhm_ring.proofs.rings.Joins.{AreLinked-removed, AreLinked-pushed}
 use Rattle.lhm_ring.proofs.lists.ForAll.{AllByRecursion-append, AllByRecursion-left, AllByRecursion-right, AllByRecursion-removed}
 use Rattle.lhm_ring.proofs.lists.Last.{AllByRecursion-last}
 use Rattle.lhm_ring.proofs.rings.RingNodes.{Found-held, NodeAt-held, ring_list-listed, ring_split}
 use Rattle.lhm_ring.proofs.lists.LinkRows.{RowCut-linked, listed-append}
 use Rattle.lhm_ring.specs.Nodes.{Cell, IsApart, links_at, same_ptr}
-use Rattle.lhm_ring.specs.Links.{next_of, prev_of, next_at, prev_at, content_at, AreLinked, IsSpareList, HasContent, IsRing, listed, one_of, IsJoined, ring_list, IsOwned, IsThere}
+use Rattle.lhm_ring.specs.Links.{next_of, prev_of, next_at, prev_at, content_at, AreLinked}
+use Rattle.lhm_ring.specs.Links.{IsSpareList, HasContent, IsRing, listed, one_of, IsJoined}
+use Rattle.lhm_ring.specs.Links.{ring_list, IsOwned, IsThere}
 use Rattle.lhm_ring.specs.Ring.{state, Held, State, IsHeld, AtHeld, SplitAround}
 
 module _ {B : Type 0} where
@@ -25,7 +30,8 @@ module _ {B : Type 0} where
   IsJoined-past {cs} {ds} p e = subst (λ (z : Ptr × Ptr). IsJoined cs ds z.0 z.1) (λ i. (sym (ap prev_of e) i, sym (ap next_of e) i))
 
 -- a node in the middle of a ring
-module _ {B : Type 0} {cs : List (Cell Links B)} {ps : List Ptr} {spare : Option Ptr} {ss : List Ptr} {p : Ptr} (ring : IsRing cs ps spare ss) (s : SplitAround ps p) where
+module _ {B : Type 0} {cs : List (Cell Links B)} {ps : List Ptr} {spare : Option Ptr}
+    {ss : List Ptr} {p : Ptr} (ring : IsRing cs ps spare ss) (s : SplitAround ps p) where
   abbrev us : List Ptr
   us = s.before
 
@@ -51,21 +57,26 @@ module _ {B : Type 0} {cs : List (Cell Links B)} {ps : List Ptr} {spare : Option
   There-node = (AllByRecursion-right There us (p ∷ vs) AllByRecursion-there).0
 
   pub There-prev : There (prev_at cs p)
-  There-prev = subst There (sym (RowCut-linked cs null_ptr us p (vs ++ null_ptr ∷ []) AreLinked-row).edge.1) (AllByRecursion-last There null_ptr us r.there.0 (AllByRecursion-left There us (p ∷ vs) AllByRecursion-there))
+  There-prev = subst There
+      (sym (RowCut-linked cs null_ptr us p (vs ++ null_ptr ∷ []) AreLinked-row).edge.1)
+      (AllByRecursion-last There null_ptr us r.there.0
+      (AllByRecursion-left There us (p ∷ vs) AllByRecursion-there))
 
   There-first : (ys : List Ptr) → AllByRecursion There ys → AreLinked cs (p ∷ (ys ++ null_ptr ∷ [])) → There (next_at cs p)
   There-first [] a l = subst There (sym l.0.0) r.there.0
   There-first (y ∷ ys) a l = subst There (sym l.0.0) a.0
 
   pub There-next : There (next_at cs p)
-  There-next = There-first vs (AllByRecursion-right There us (p ∷ vs) AllByRecursion-there).1 (RowCut-linked cs null_ptr us p (vs ++ null_ptr ∷ []) AreLinked-row).after
+  There-next = There-first vs (AllByRecursion-right There us (p ∷ vs) AllByRecursion-there).1
+      (RowCut-linked cs null_ptr us p (vs ++ null_ptr ∷ []) AreLinked-row).after
 
   -- p behind the other held nodes
   IsApart-whole : IsApart ((null_ptr ∷ us) ++ p ∷ (vs ++ ss))
   IsApart-whole = subst (λ qs. IsApart (null_ptr ∷ qs)) (append_assoc us (p ∷ vs) ss) r.apart
 
   pub IsFresh-others : IsFresh p (null_ptr ∷ ((us ++ vs) ++ ss))
-  IsFresh-others = subst (λ qs. IsFresh p (null_ptr ∷ qs)) (sym (append_assoc us vs ss)) (IsFresh-middle (null_ptr ∷ us) p (vs ++ ss) IsApart-whole)
+  IsFresh-others = subst (λ qs. IsFresh p (null_ptr ∷ qs)) (sym (append_assoc us vs ss))
+      (IsFresh-middle (null_ptr ∷ us) p (vs ++ ss) IsApart-whole)
 
   pub IsFresh-rest : IsFresh p (us ++ vs)
   IsFresh-rest = AllByRecursion-left (λ q. same_ptr p q ≡ false) (us ++ vs) ss IsFresh-others.1
@@ -87,12 +98,17 @@ module _ {B : Type 0} {cs : List (Cell Links B)} {ps : List Ptr} {spare : Option
 
   module _ {ds : List (Cell Links B)} (j : IsJoined cs ds (prev_at cs p) (next_at cs p)) where
     pub AreLinked-joined : AreLinked ds (null_ptr ∷ ((us ++ vs) ++ null_ptr ∷ []))
-    AreLinked-joined = subst (λ qs. AreLinked ds (null_ptr ∷ qs)) (sym (append_assoc us vs (null_ptr ∷ []))) (AreLinked-removed null_ptr us p vs IsApart-row AreLinked-row j)
+    AreLinked-joined = subst (λ qs. AreLinked ds (null_ptr ∷ qs))
+        (sym (append_assoc us vs (null_ptr ∷ []))) (AreLinked-removed null_ptr us p vs IsApart-row
+        AreLinked-row j)
 
     pub is_there-last : IsThere ds (prev_at ds null_ptr)
     is_there-last =
         let T : Ptr → Type 0 = λ q. IsThere ds q in
-        subst T (sym (RowCut-linked ds null_ptr (us ++ vs) null_ptr [] AreLinked-joined).edge.1) (AllByRecursion-last T null_ptr (us ++ vs) (j.there null_ptr ∙ r.there.0) (AllByRecursion-there_unchanged j (us ++ vs) (AllByRecursion-removed There us p vs AllByRecursion-there)))
+        subst T (sym (RowCut-linked ds null_ptr (us ++ vs) null_ptr [] AreLinked-joined).edge.1)
+        (AllByRecursion-last T null_ptr (us ++ vs) (j.there null_ptr ∙ r.there.0)
+        (AllByRecursion-there_unchanged j (us ++ vs)
+        (AllByRecursion-removed There us p vs AllByRecursion-there)))
 
     module _ {es fs : List (Cell Links B)} (k : IsJoined ds es (prev_at ds null_ptr) p) (l : IsJoined es fs p null_ptr) where
       IsFresh-node : IsFresh p ((null_ptr ∷ us) ++ vs)
@@ -106,25 +122,32 @@ module _ {B : Type 0} {cs : List (Cell Links B)} {ps : List Ptr} {spare : Option
 
       pub IsRing-to_back : IsRing fs ((us ++ vs) ++ p ∷ []) spare ss
       IsRing-to_back = record {
-        linked = AreLinked-pushed null_ptr (us ++ vs) p (IsApart-removed (null_ptr ∷ us) p vs IsApart-row) IsFresh-node AreLinked-joined k l;
-        chained = kept (λ zs. IsSpareList zs spare ss) (IsSpareList-unchanged j spare ss) (IsSpareList-unchanged k spare ss) (IsSpareList-unchanged l spare ss) r.chained;
+        linked = AreLinked-pushed null_ptr (us ++ vs) p
+            (IsApart-removed (null_ptr ∷ us) p vs IsApart-row) IsFresh-node AreLinked-joined k l;
+        chained = kept (λ zs. IsSpareList zs spare ss) (IsSpareList-unchanged j spare ss)
+            (IsSpareList-unchanged k spare ss) (IsSpareList-unchanged l spare ss) r.chained;
         held = let qs = (us ++ vs) ++ p ∷ [] in let P = HasContent cs in
-            kept (λ zs. AllByRecursion (HasContent zs) qs) (AllByRecursion-content_unchanged j qs) (AllByRecursion-content_unchanged k qs) (AllByRecursion-content_unchanged l qs)
-            (AllByRecursion-append P (us ++ vs) (p ∷ []) (AllByRecursion-removed P us p vs r.held) ((AllByRecursion-right P us (p ∷ vs) r.held).0, tt));
+            kept (λ zs. AllByRecursion (HasContent zs) qs) (AllByRecursion-content_unchanged j qs)
+            (AllByRecursion-content_unchanged k qs) (AllByRecursion-content_unchanged l qs)
+            (AllByRecursion-append P (us ++ vs) (p ∷ []) (AllByRecursion-removed P us p vs r.held)
+            ((AllByRecursion-right P us (p ∷ vs) r.held).0, tt));
         there = let qs = null_ptr ∷ (((us ++ vs) ++ p ∷ []) ++ ss) in
-            kept (λ zs. AllByRecursion (IsThere zs) qs) (AllByRecursion-there_unchanged j qs) (AllByRecursion-there_unchanged k qs) (AllByRecursion-there_unchanged l qs)
+            kept (λ zs. AllByRecursion (IsThere zs) qs) (AllByRecursion-there_unchanged j qs)
+            (AllByRecursion-there_unchanged k qs) (AllByRecursion-there_unchanged l qs)
             (subst (λ rs. AllByRecursion There (null_ptr ∷ rs)) (sym (append_assoc (us ++ vs) (p ∷ []) ss)) AllByRecursion-shifted);
         apart = subst (λ qs. IsApart (null_ptr ∷ qs)) (sym (append_assoc (us ++ vs) (p ∷ []) ss)) IsApart-shifted;
         count = l.count ∙ k.count ∙ j.count ∙ ring.count ∙ ap (λ n. suc (n + length ss)) length-to_back;
       }
 
-      pub listed-to_back : (t : Held B) → content_at cs p ≡ Some t → listed fs ((us ++ vs) ++ p ∷ []) ≡ (listed cs us ++ listed cs vs) ++ t ∷ []
+      pub listed-to_back : (t : Held B) → content_at cs p ≡ Some t
+          → listed fs ((us ++ vs) ++ p ∷ []) ≡ (listed cs us ++ listed cs vs) ++ t ∷ []
       listed-to_back t e =
           let qs = (us ++ vs) ++ p ∷ [] in
           listed-unchanged l qs ∙ listed-unchanged k qs ∙ listed-unchanged j qs ∙ listed-append cs (us ++ vs) (p ∷ [])
           ∙ (λ i. listed-append cs us vs i ++ listed-one cs p t e i)
 
-module _ {B : Type 0} {cs : List (Cell Links B)} {spare : Link} {n m : ℕ} {v : State B} {total : ℕ} (ok : IsOwned cs spare n m) (w : state (ring_list cs n) m total ≡ v) where
+module _ {B : Type 0} {cs : List (Cell Links B)} {spare : Link} {n m : ℕ} {v : State B} {total : ℕ}
+    (ok : IsOwned cs spare n m) (w : state (ring_list cs n) m total ≡ v) where
   -- the nodes beside a held one are there
   module _ {p : Ptr} (h : IsHeld v.held p) where
     pub is_there-beside : {l : Links} → links_at cs p ≡ Some l → (IsThere cs l.prev.ptr) × (IsThere cs l.next.ptr)
@@ -134,7 +157,8 @@ module _ {B : Type 0} {cs : List (Cell Links B)} {spare : Link} {n m : ℕ} {v :
 
   -- a node that is moved to the end: those beside it are joined, the last with it, and it with the
   -- end
-  module _ (p : Ptr) {lp : Links} (ep : links_at cs p ≡ Some lp) {ds : List (Cell Links B)} (j : IsJoined cs ds lp.prev.ptr lp.next.ptr) where
+  module _ (p : Ptr) {lp : Links} (ep : links_at cs p ≡ Some lp) {ds : List (Cell Links B)}
+      (j : IsJoined cs ds lp.prev.ptr lp.next.ptr) where
     past : IsJoined cs ds (prev_at cs p) (next_at cs p)
     past = IsJoined-past p ep j
 

@@ -14,20 +14,30 @@ use Rattle.lhm_ring.specs.Links.{next_of, prev_of, next_at, prev_at, HasContent,
 use Rattle.lhm_ring.specs.Ring.{State, state, AtHeld, SplitAround, first_at, last_at}
 use Rattle.lhm_ring.specs.Pointer.{led_to}
 
-module _ {B : Type 0} {cs : List (Cell Links B)} {ps : List Ptr} {spare : Option Ptr} {ss : List Ptr} {p : Ptr} (ring : IsRing cs ps spare ss) (s : SplitAround ps p) where
+module _ {B : Type 0} {cs : List (Cell Links B)} {ps : List Ptr} {spare : Option Ptr}
+    {ss : List Ptr} {p : Ptr} (ring : IsRing cs ps spare ss) (s : SplitAround ps p) where
   row : RowCut cs null_ptr s.before p (s.after ++ null_ptr ∷ [])
   row = RowCut-linked cs null_ptr s.before p (s.after ++ null_ptr ∷ []) (AreLinked-row ring s)
 
   free : IsFresh null_ptr (s.before ++ p ∷ s.after)
-  free = AllByRecursion-left (λ q. same_ptr null_ptr q ≡ false) (s.before ++ p ∷ s.after) ss (IsFresh-head null_ptr ((s.before ++ p ∷ s.after) ++ ss) (ring_split ring s).apart)
+  free = AllByRecursion-left (λ q. same_ptr null_ptr q ≡ false) (s.before ++ p ∷ s.after) ss
+      (IsFresh-head null_ptr ((s.before ++ p ∷ s.after) ++ ss) (ring_split ring s).apart)
 
   pub first_at-next : first_at (listed cs s.after) ≡ led_to (next_at cs p)
-  first_at-next = first_at-led_to cs p s.after (AllByRecursion-right (HasContent cs) s.before (p ∷ s.after) (ring_split ring s).held).1 (AllByRecursion-right (λ q. same_ptr null_ptr q ≡ false) s.before (p ∷ s.after) free).1 row.after
+  first_at-next = first_at-led_to cs p s.after (AllByRecursion-right (HasContent cs) s.before
+      (p ∷ s.after) (ring_split ring s).held).1
+      (AllByRecursion-right (λ q. same_ptr null_ptr q ≡ false) s.before (p ∷ s.after) free).1
+      row.after
 
   pub last_at-previous : last_at (listed cs s.before) ≡ led_to (prev_at cs p)
-  last_at-previous = last_at-led_to cs p s.before (AllByRecursion-left (HasContent cs) s.before (p ∷ s.after) (ring_split ring s).held) (AllByRecursion-left (λ q. same_ptr null_ptr q ≡ false) s.before (p ∷ s.after) free) (AreLinked-glued cs null_ptr s.before p [] row.before row.edge tt)
+  last_at-previous = last_at-led_to cs p s.before (AllByRecursion-left (HasContent cs) s.before
+      (p ∷ s.after) (ring_split ring s).held)
+      (AllByRecursion-left (λ q. same_ptr null_ptr q ≡ false) s.before (p ∷ s.after) free)
+      (AreLinked-glued cs null_ptr s.before p [] row.before row.edge tt)
 
-module _ {B : Type 0} {cs : List (Cell Links B)} {spare : Link} {n m : ℕ} {v : State B} {total : ℕ} (ok : IsOwned cs spare n m) (w : state (ring_list cs n) m total ≡ v) (p : Ptr) {l : Links} (el : links_at cs p ≡ Some l) where
+module _ {B : Type 0} {cs : List (Cell Links B)} {spare : Link} {n m : ℕ} {v : State B} {total : ℕ}
+    (ok : IsOwned cs spare n m) (w : state (ring_list cs n) m total ≡ v) (p : Ptr) {l : Links}
+    (el : links_at cs p ≡ Some l) where
   pub AtHeld-next : AtHeld v.held p (λ xs t ys. led_to l.next.ptr ≡ first_at ys)
   AtHeld-next xs t ys h at =
       let q = Found-held ok w p xs t ys h at in let s = q.split in

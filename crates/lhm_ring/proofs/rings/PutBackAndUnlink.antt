@@ -1,6 +1,8 @@
 -- `put_back` and `unlink`: the ring after them, and from what their steps ensure.
 use Rattle.std.specs.List.{AllByRecursion}
-use Rattle.std.proofs.Common.{◌≡◌, ℕ, suc, ◌+◌, ◌-◌, ◌<◌, ◌≤◌, ◌^◌, true, cond, List, [], ◌∷◌, ◌++◌, length, Some, None, refl, sym, ap, ◌∙◌, subst, arith, length-append, false, Option, append_assoc}
+use Rattle.std.proofs.Common.{◌≡◌, ℕ, suc, ◌+◌, ◌-◌, ◌<◌, ◌≤◌, ◌^◌, true, cond, List, [], ◌∷◌, ◌++◌}
+use Rattle.std.proofs.Common.{length, Some, None, refl, sym, ap, ◌∙◌, subst, arith, length-append}
+use Rattle.std.proofs.Common.{false, Option, append_assoc}
 use Rattle.std.specs.Option.{IsSome}
 use denote.RawPtr.{Ptr, null_ptr}
 use Rattle.lhm_ring.specs.declared.ring.Links.{Links}
@@ -8,11 +10,19 @@ use Rattle.lhm_ring.specs.declared.ring.Ends.{Ends}
 use Rattle.lhm_ring.specs.declared.pointer.Link.{Link}
 use Rattle.lhm_ring.proofs.lists.Apart.{same_ptr-reflexive, IsApart-left, IsFresh-middle, IsFresh}
 use Rattle.lhm_ring.proofs.rings.Contents.{pair-content, Holds-content, IsAt-content}
-use Rattle.lhm_ring.proofs.rings.Joins.{AreLinked-pushed, AllByRecursion-there_unchanged, IsSpareList-unchanged, listed-unchanged, AllByRecursion-content_unchanged}
+use Rattle.lhm_ring.proofs.rings.Joins.{AreLinked-pushed, AllByRecursion-there_unchanged}
+use Rattle.lhm_ring.proofs.rings.Joins.{IsSpareList-unchanged, listed-unchanged}
+use Rattle.lhm_ring.proofs.rings.Joins.{AllByRecursion-content_unchanged}
 use Rattle.lhm_ring.proofs.lists.ForAll.{AllByRecursion-left, AllByRecursion-right, AllByRecursion-removed, AllByRecursion-append}
 use Rattle.lhm_ring.proofs.lists.Last.{AllByRecursion-last}
-use Rattle.lhm_ring.proofs.rings.Moves.{AreLinked-joined, IsFresh-others, IsFresh-rest, IsFresh-spares, IsApart-shifted, AllByRecursion-shifted, IsJoined-past, listed-one}
-use Rattle.lhm_ring.proofs.memory.OneNodeChanged.{OnlyAt, links_at-with_body, body_at-with_body, OnlyAt-with_links, OnlyAt-with_body, OnlyAt-both, AreLinked-other, listed-other, AllByRecursion-there_other, AllByRecursion-content_other, IsSpareList-other}
+use Rattle.lhm_ring.proofs.rings.Moves.{AreLinked-joined, IsFresh-others, IsFresh-rest}
+use Rattle.lhm_ring.proofs.rings.Moves.{IsFresh-spares, IsApart-shifted, AllByRecursion-shifted}
+use Rattle.lhm_ring.proofs.rings.Moves.{IsJoined-past, listed-one}
+use Rattle.lhm_ring.proofs.memory.OneNodeChanged.{OnlyAt, links_at-with_body, body_at-with_body}
+use Rattle.lhm_ring.proofs.memory.OneNodeChanged.{OnlyAt-with_links, OnlyAt-with_body, OnlyAt-both}
+use Rattle.lhm_ring.proofs.memory.OneNodeChanged.{AreLinked-other, listed-other}
+use Rattle.lhm_ring.proofs.memory.OneNodeChanged.{AllByRecursion-there_other}
+use Rattle.lhm_ring.proofs.memory.OneNodeChanged.{AllByRecursion-content_other, IsSpareList-other}
 use Rattle.lhm_ring.proofs.lists.Options.{Some-injective}
 use Rattle.lhm_ring.proofs.rings.ReadAtPosition.{content_at-held}
 use Rattle.lhm_ring.proofs.rings.RingCells.{links_at-ring_cells, ring_cells-with_links, ring_cells-with_body}
@@ -20,7 +30,10 @@ use Rattle.lhm_ring.proofs.rings.RingNodes.{CutAt, Found-held, ring_list-listed,
 use Rattle.lhm_ring.proofs.lists.LinkRows.{RowCut-linked, listed-append}
 use Rattle.lhm_ring.proofs.rings.Writes.{links_at-with_links, IsAt-there}
 use Rattle.lhm_ring.specs.Nodes.{Cell, links_at, body_at, IsAt, Holds, with_links, with_body, same_ptr, links_of, is_block, IsApart}
-use Rattle.lhm_ring.specs.Links.{ring_cells, chaining_to, ChainsTo, prev_of, link_of, next_at, prev_at, link_at, content_of, content_at, IsSpareList, IsRing, listed, IsJoined, ring_list, IsOwned, AreLinked, HasContent, IsThere}
+use Rattle.lhm_ring.specs.Links.{ring_cells, chaining_to, ChainsTo, prev_of, link_of, next_at}
+use Rattle.lhm_ring.specs.Links.{prev_at, link_at, content_of, content_at, IsSpareList, IsRing}
+use Rattle.lhm_ring.specs.Links.{listed, IsJoined, ring_list, IsOwned, AreLinked, HasContent}
+use Rattle.lhm_ring.specs.Links.{IsThere}
 use Rattle.lhm_ring.specs.Ring.{State, state, held, IsHeld, Held, SplitAround}
 use Rattle.lhm_ring.specs.Pointer.{target}
 
@@ -47,7 +60,11 @@ module _ {B : Type 0} {cs ds es fs : List (Cell Links B)} {ps : List Ptr} {spare
   k₁ = subst (λ z. IsJoined ds es z p) (sym prev_at-last) k
 
   AreLinked-there : AreLinked ds (null_ptr ∷ (ps ++ null_ptr ∷ []))
-  AreLinked-there = AreLinked-other cs ds p o.other (null_ptr ∷ (ps ++ null_ptr ∷ [])) (IsFresh-row.0, AllByRecursion-append (λ q. same_ptr p q ≡ false) ps (null_ptr ∷ []) IsFresh-row.1 (IsFresh-row.0, tt)) r.linked
+  AreLinked-there = AreLinked-other cs ds p o.other (null_ptr ∷ (ps ++ null_ptr ∷ [])) (
+    IsFresh-row.0,
+    AllByRecursion-append (λ q. same_ptr p q ≡ false) ps (null_ptr ∷ [])
+        IsFresh-row.1 (IsFresh-row.0, tt),
+  ) r.linked
 
   IsApart-put_back : IsApart (null_ptr ∷ ((ps ++ p ∷ []) ++ ss))
   IsApart-put_back = subst (λ qs. IsApart (null_ptr ∷ qs)) (sym (append_assoc ps (p ∷ []) ss)) r.apart
@@ -58,19 +75,27 @@ module _ {B : Type 0} {cs ds es fs : List (Cell Links B)} {ps : List Ptr} {spare
   pub IsRing-put_back : IsRing fs (ps ++ p ∷ []) (link_at cs p) ss
   IsRing-put_back = record {
     linked = AreLinked-pushed null_ptr ps p IsApart-row IsFresh-row AreLinked-there k₁ l;
-    chained = IsSpareList-unchanged l (link_at cs p) ss (IsSpareList-unchanged k₁ (link_at cs p) ss (IsSpareList-other cs ds p o.other (link_at cs p) ss IsFresh-chain r.chained.1));
-    held = let qs = ps ++ p ∷ [] in AllByRecursion-content_unchanged l qs (AllByRecursion-content_unchanged k₁ qs (AllByRecursion-append (HasContent ds) ps (p ∷ []) (AllByRecursion-content_other cs ds p o.other ps IsFresh-row.1 r.held) ((t, c), tt)));
-    there = let qs = null_ptr ∷ ((ps ++ p ∷ []) ++ ss) in AllByRecursion-there_unchanged l qs (AllByRecursion-there_unchanged k₁ qs (AllByRecursion-there_other cs ds p o qs (r.there.0, AllByRecursion-put_back)));
+    chained = IsSpareList-unchanged l (link_at cs p) ss (IsSpareList-unchanged k₁ (link_at cs p) ss
+        (IsSpareList-other cs ds p o.other (link_at cs p) ss IsFresh-chain r.chained.1));
+    held = let qs = ps ++ p ∷ [] in AllByRecursion-content_unchanged l qs
+        (AllByRecursion-content_unchanged k₁ qs (AllByRecursion-append (HasContent ds) ps (p ∷ [])
+        (AllByRecursion-content_other cs ds p o.other ps IsFresh-row.1 r.held) ((t, c), tt)));
+    there = let qs = null_ptr ∷ ((ps ++ p ∷ []) ++ ss) in AllByRecursion-there_unchanged l qs
+        (AllByRecursion-there_unchanged k₁ qs (AllByRecursion-there_other cs ds p o qs
+        (r.there.0, AllByRecursion-put_back)));
     apart = IsApart-put_back;
     count = l.count ∙ k₁.count ∙ o.count ∙ r.count ∙ ap (λ n. suc n) (omega (arith, length-append ps (p ∷ [])));
   }
 
   pub listed-put_back : listed fs (ps ++ p ∷ []) ≡ listed cs ps ++ t ∷ []
   listed-put_back =
-      let qs = ps ++ p ∷ [] in listed-unchanged l qs ∙ listed-unchanged k₁ qs ∙ listed-append ds ps (p ∷ []) ∙ (λ i. listed-other cs ds p o.other ps IsFresh-row.1 i ++ listed-one ds p t c i)
+      let qs = ps ++ p ∷ [] in listed-unchanged l qs ∙ listed-unchanged k₁ qs
+      ∙ listed-append ds ps (p ∷ [])
+      ∙ (λ i. listed-other cs ds p o.other ps IsFresh-row.1 i ++ listed-one ds p t c i)
 
 -- a held node p comes out, and is the first spare one
-module _ {B : Type 0} {cs ds es : List (Cell Links B)} {ps : List Ptr} {spare : Option Ptr} {ss : List Ptr} {p : Ptr} (ring : IsRing cs ps spare ss) (s : SplitAround ps p)
+module _ {B : Type 0} {cs ds es : List (Cell Links B)} {ps : List Ptr} {spare : Option Ptr}
+    {ss : List Ptr} {p : Ptr} (ring : IsRing cs ps spare ss) (s : SplitAround ps p)
     (j : IsJoined cs ds (prev_at cs p) (next_at cs p)) (o : OnlyAt ds es p) (h : link_at es p ≡ spare) where
   abbrev rest : List Ptr
   rest = s.before ++ s.after
@@ -82,10 +107,22 @@ module _ {B : Type 0} {cs ds es : List (Cell Links B)} {ps : List Ptr} {spare : 
   IsRing-unlinked =
       let apart = IsFresh-others ring s in
       record {
-        linked = AreLinked-other ds es p o.other (null_ptr ∷ (rest ++ null_ptr ∷ [])) (apart.0, AllByRecursion-append (λ q. same_ptr p q ≡ false) rest (null_ptr ∷ []) (IsFresh-rest ring s) (apart.0, tt)) (AreLinked-joined ring s j);
-        chained = (refl, subst (λ z. IsSpareList es z ss) (sym h) (IsSpareList-other ds es p o.other spare ss (IsFresh-spares ring s) (IsSpareList-unchanged j spare ss ring.chained)));
-        held = AllByRecursion-content_other ds es p o.other rest (IsFresh-rest ring s) (AllByRecursion-content_unchanged j rest (AllByRecursion-removed (HasContent cs) s.before p s.after (ring_split ring s).held));
-        there = let qs = null_ptr ∷ (rest ++ p ∷ ss) in AllByRecursion-there_other ds es p o qs (AllByRecursion-there_unchanged j qs (AllByRecursion-shifted ring s));
+        linked = AreLinked-other ds es p o.other (null_ptr ∷ (rest ++ null_ptr ∷ [])) (
+          apart.0,
+          AllByRecursion-append (λ q. same_ptr p q ≡ false) rest (null_ptr ∷ [])
+              (IsFresh-rest ring s) (apart.0, tt),
+        ) (AreLinked-joined ring s j);
+        chained = (
+          refl,
+          subst (λ z. IsSpareList es z ss) (sym h)
+              (IsSpareList-other ds es p o.other spare ss (IsFresh-spares ring s)
+              (IsSpareList-unchanged j spare ss ring.chained)),
+        );
+        held = AllByRecursion-content_other ds es p o.other rest (IsFresh-rest ring s)
+            (AllByRecursion-content_unchanged j rest
+            (AllByRecursion-removed (HasContent cs) s.before p s.after (ring_split ring s).held));
+        there = let qs = null_ptr ∷ (rest ++ p ∷ ss) in AllByRecursion-there_other ds es p o qs
+            (AllByRecursion-there_unchanged j qs (AllByRecursion-shifted ring s));
         apart = IsApart-shifted ring s;
         count = let a = o.count ∙ j.count ∙ ring.count in let b = length-rest in omega arith;
       }
@@ -136,7 +173,8 @@ module _ {B : Type 0} {cs : List (Cell Links B)} {spare : Link} {n m : ℕ} {v :
   }
 
   pub Ready-spare : {p : Ptr} → target spare ≡ Some p → Ready cs p v n m total
-  Ready-spare {p} f = Ready-ring p ok.spare_pointers (subst (λ z. IsRing cs ok.held_pointers z ok.spare_pointers) f ok.ring) ok.enough_spares
+  Ready-spare {p} f = Ready-ring p ok.spare_pointers
+      (subst (λ z. IsRing cs ok.held_pointers z ok.spare_pointers) f ok.ring) ok.enough_spares
 
 -- in ds the node at p, which had the links l, holds t
 pub record Filled {B : Type 0} (cs ds : List (Cell Links B)) (p : Ptr) (l : Links) (t : Held B) : Type 0 where
@@ -145,8 +183,11 @@ pub record Filled {B : Type 0} (cs ds : List (Cell Links B)) (p : Ptr) (l : Link
   pub links : links_at cs p ≡ Some l
 
 -- the links are written, and then the body
-pub Filled-node : {B : Type 0} (e : Ends) (nodes : List (Cell Links B)) (t : Held B) → t.link ≡ None → is_block t.at ≡ true → {l : Links} → links_at nodes t.at ≡ Some l
-    → (free : Link) → target free ≡ None → {c₁ c₂ : List (Cell Links B)} → c₁ ≡ with_links t.at (record l { link = free; hash = t.hash }) nodes → c₂ ≡ with_body t.at (Some t.pair) c₁
+pub Filled-node : {B : Type 0} (e : Ends) (nodes : List (Cell Links B)) (t : Held B) → t.link ≡ None
+    → is_block t.at ≡ true → {l : Links} → links_at nodes t.at ≡ Some l
+    → (free : Link) → target free ≡ None → {c₁ c₂ : List (Cell Links B)}
+    → c₁ ≡ with_links t.at (record l { link = free; hash = t.hash }) nodes
+    → c₂ ≡ with_body t.at (Some t.pair) c₁
     → Filled (ring_cells e nodes) (ring_cells e c₂) t.at l t
 Filled-node e nodes t none b {l} el free nowhere {c₁} {c₂} is₁ is₂ =
     let p = t.at in let cs = ring_cells e nodes in let d₁ = ring_cells e c₁ in let d₂ = ring_cells e c₂ in
@@ -157,7 +198,9 @@ Filled-node e nodes t none b {l} el free nowhere {c₁} {c₂} is₁ is₂ =
     let k : links_at d₂ p ≡ Some new = ap (λ z. links_at z p) e₂ ∙ links_at-with_body p (Some t.pair) d₁ new written p ∙ written in
     let x : body_at d₂ p ≡ Some t.pair = ap (λ z. body_at z p) e₂ ∙ body_at-with_body p (Some t.pair) d₁ new written in
     record {
-      only = OnlyAt-both cs d₁ d₂ p (subst (λ z. OnlyAt cs z p) (sym e₁) (OnlyAt-with_links p new cs l ea)) (subst (λ z. OnlyAt d₁ z p) (sym e₂) (OnlyAt-with_body p (Some t.pair) d₁ new written));
+      only = OnlyAt-both cs d₁ d₂ p (subst (λ z. OnlyAt cs z p) (sym e₁)
+          (OnlyAt-with_links p new cs l ea)) (subst (λ z. OnlyAt d₁ z p) (sym e₂)
+          (OnlyAt-with_body p (Some t.pair) d₁ new written));
       content = (λ i. content_of p (k i) (x i)) ∙ ap (λ o. Some (held p t.hash o t.pair)) (nowhere ∙ sym none);
       links = ea;
     }
@@ -170,7 +213,10 @@ module _ {B : Type 0} {cs : List (Cell Links B)} {p : Ptr} {v : State B} {n m to
     pub is_there-filled : (IsThere ds (prev_at cs null_ptr)) × (IsThere ds p)
     is_there-filled =
         let T : Ptr → Type 0 = λ q. IsThere cs q in
-        let last : T (prev_at cs null_ptr) = subst T (sym (RowCut-linked cs null_ptr r.row null_ptr [] r.ring.linked).edge.1) (AllByRecursion-last T null_ptr r.row r.ring.there.0 (AllByRecursion-left T r.row (p ∷ r.others) r.ring.there.1)) in
+        let last : T (prev_at cs null_ptr) =
+        subst T (sym (RowCut-linked cs null_ptr r.row null_ptr [] r.ring.linked).edge.1)
+        (AllByRecursion-last T null_ptr r.row r.ring.there.0
+        (AllByRecursion-left T r.row (p ∷ r.others) r.ring.there.1)) in
         (f.only.there (prev_at cs null_ptr) ∙ last, f.only.there p ∙ (AllByRecursion-right T r.row (p ∷ r.others) r.ring.there.1).0)
 
     module _ {es fs : List (Cell Links B)} (j : IsJoined ds es (prev_at cs null_ptr) p) (k : IsJoined es fs p null_ptr) where
@@ -236,13 +282,18 @@ module _ {B : Type 0} {cs : List (Cell Links B)} {spare : Link} {n m : ℕ} {v :
         only : OnlyAt ds c₂ p
         only =
             let a = IsAt-node in let b = IsAt-unlinked in
-            OnlyAt-both ds c₁ c₂ p (subst (λ z. OnlyAt ds z p) (sym e₁) (OnlyAt-with_body p None ds a.0 a.1)) (subst (λ z. OnlyAt c₁ z p) (sym e₂) (OnlyAt-with_links p (chaining_to spare b.0) c₁ b.0 b.1))
+            OnlyAt-both ds c₁ c₂ p (subst (λ z. OnlyAt ds z p) (sym e₁)
+            (OnlyAt-with_body p None ds a.0 a.1)) (subst (λ z. OnlyAt c₁ z p) (sym e₂)
+            (OnlyAt-with_links p (chaining_to spare b.0) c₁ b.0 b.1))
 
         left : IsRing c₂ rest_of (Some p) (p ∷ ok.spare_pointers)
-        left = IsRing-unlinked ok.ring s past only (ap link_of (links_at-written p (chaining_to spare IsAt-unlinked.0) c₁ IsAt-unlinked.1 e₂))
+        left = IsRing-unlinked ok.ring s past only
+            (ap link_of (links_at-written p (chaining_to spare IsAt-unlinked.0) c₁ IsAt-unlinked.1
+            e₂))
 
         length-shorter : length rest_of ≡ n - 1
-        length-shorter = let a = sym (ap length s.is) ∙ ok.held_count in omega (arith, length-append s.before (p ∷ s.after), length-append s.before s.after)
+        length-shorter = let a = sym (ap length s.is) ∙ ok.held_count in
+            omega (arith, length-append s.before (p ∷ s.after), length-append s.before s.after)
 
         pub IsOwned-unlinked : {top : Link} → target top ≡ Some p → IsOwned c₂ top (n - 1) (m + 1)
         IsOwned-unlinked et =
@@ -259,5 +310,7 @@ module _ {B : Type 0} {cs : List (Cell Links B)} {spare : Link} {n m : ℕ} {v :
         pub ring_list-unlinked : ring_list c₂ (n - 1) ≡ h.before ++ h.after
         ring_list-unlinked =
             ring_list-listed left length-shorter
-            ∙ listed-unlinked ok.ring s past only (ap link_of (links_at-written p (chaining_to spare IsAt-unlinked.0) c₁ IsAt-unlinked.1 e₂))
+            ∙ listed-unlinked ok.ring s past only
+            (ap link_of (links_at-written p (chaining_to spare IsAt-unlinked.0) c₁ IsAt-unlinked.1
+            e₂))
             ∙ (λ i. found.listed_before i ++ found.listed_after i)

@@ -9,7 +9,8 @@ use Rattle.lhm_ring.specs.Nodes.{Cell, links_at, body_at, IsAt, Holds}
 use Rattle.lhm_ring.specs.Links.{link_of, content_at, ring_list, IsOwned}
 use Rattle.lhm_ring.specs.Ring.{State, state, Held, IsHeld, AtHeld}
 
-module _ {B : Type 0} {cs : List (Cell Links B)} {spare : Link} {n m : ℕ} {v : State B} {total : ℕ} (ok : IsOwned cs spare n m) (w : state (ring_list cs n) m total ≡ v) where
+module _ {B : Type 0} {cs : List (Cell Links B)} {spare : Link} {n m : ℕ} {v : State B} {total : ℕ}
+    (ok : IsOwned cs spare n m) (w : state (ring_list cs n) m total ≡ v) where
   -- for a triple that is known to be held
   module _ {p : Ptr} (h : IsHeld v.held p) where
     pub content_at-held : content_at cs p ≡ Some h.node

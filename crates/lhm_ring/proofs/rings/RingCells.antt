@@ -11,8 +11,13 @@ use Rattle.lhm_ring.proofs.rings.Lookup.{AllByRecursion-at}
 use Rattle.lhm_ring.proofs.lists.Options.{none_some, Some-injective}
 use Rattle.lhm_ring.proofs.rings.SameNodes.{IsSpareList-same, SameLink}
 use Rattle.lhm_ring.proofs.rings.Writes.{IsAt-there}
-use Rattle.lhm_ring.specs.Nodes.{Cell, cell, same_ptr, pointers, cell_at, links_of, body_of, links_at, body_at, change, with_links, with_body, is_block, AreBlocks, IsAt, Holds}
-use Rattle.lhm_ring.specs.Links.{ends_links, ring_cells, chaining_to, ChainsTo, has_links, next_of, prev_of, next_at, prev_at, content_at, content_of, AreLinked, IsSpareList, HasContent, listed, one_of, IsJoined, IsRing, IsOwned, link_of, IsThere}
+use Rattle.lhm_ring.specs.Nodes.{Cell, cell, same_ptr, pointers, cell_at, links_of, body_of}
+use Rattle.lhm_ring.specs.Nodes.{links_at, body_at, change, with_links, with_body, is_block}
+use Rattle.lhm_ring.specs.Nodes.{AreBlocks, IsAt, Holds}
+use Rattle.lhm_ring.specs.Links.{ends_links, ring_cells, chaining_to, ChainsTo, has_links, next_of}
+use Rattle.lhm_ring.specs.Links.{prev_of, next_at, prev_at, content_at, content_of, AreLinked}
+use Rattle.lhm_ring.specs.Links.{IsSpareList, HasContent, listed, one_of, IsJoined, IsRing, IsOwned}
+use Rattle.lhm_ring.specs.Links.{link_of, IsThere}
 use Rattle.lhm_ring.specs.Pointer.{led_to, target}
 
 -- where a link leads
@@ -85,12 +90,16 @@ module _ {B : Type 0} (e : Ends) (cs : List (Cell Links B)) (p : Ptr) (b : is_bl
 
   pub ring_cells-change : (f : Cell Links B → Cell Links B) → ring_cells e (change p f cs) ≡ change p f (ring_cells e cs)
   unfolding change
-  ring_cells-change f = sym (ap (λ y. cond y (f (cell null_ptr (ends_links e) None) ∷ cs) (cell null_ptr (ends_links e) None ∷ change p f cs)) (same_ptr-null p b))
+  ring_cells-change f =
+      sym (ap (λ y. cond y (f (cell null_ptr (ends_links e) None) ∷ cs)
+      (cell null_ptr (ends_links e) None ∷ change p f cs)) (same_ptr-null p b))
 
-  pub ring_cells-with_links : (l : Links) (ds : List (Cell Links B)) → ds ≡ with_links p l cs → ring_cells e ds ≡ with_links p l (ring_cells e cs)
+  pub ring_cells-with_links : (l : Links) (ds : List (Cell Links B)) → ds ≡ with_links p l cs
+      → ring_cells e ds ≡ with_links p l (ring_cells e cs)
   ring_cells-with_links l ds is = ap (ring_cells e) is ∙ ring_cells-change (λ c. cell c.at l c.body)
 
-  pub ring_cells-with_body : (x : Option B) (ds : List (Cell Links B)) → ds ≡ with_body p x cs → ring_cells e ds ≡ with_body p x (ring_cells e cs)
+  pub ring_cells-with_body : (x : Option B) (ds : List (Cell Links B)) → ds ≡ with_body p x cs
+      → ring_cells e ds ≡ with_body p x (ring_cells e cs)
   ring_cells-with_body x ds is = ap (ring_cells e) is ∙ ring_cells-change (λ c. cell c.at c.links x)
 
   pub IsAt-in_nodes : IsAt (ring_cells e cs) p → IsAt cs p
@@ -105,13 +114,15 @@ module _ {B : Type 0} (e : Ends) (cs : List (Cell Links B)) (p : Ptr) (b : is_bl
   pub with_links-node : (f : Links → Links) {ds : List (Cell Links B)} {l : Links} → links_at cs p ≡ Some l → ds ≡ with_links p (f l) cs
       → (k : Links) → links_at (ring_cells e cs) p ≡ Some k → ring_cells e ds ≡ with_links p (f k) (ring_cells e cs)
   with_links-node f {ds} {l} h is k g =
-      ring_cells-with_links (f l) ds is ∙ ap (λ (z : Links). with_links p (f z) (ring_cells e cs)) (Some-injective l k (sym h ∙ sym links_at-ring_cells ∙ g))
+      ring_cells-with_links (f l) ds is ∙ ap (λ (z : Links). with_links p (f z) (ring_cells e cs))
+      (Some-injective l k (sym h ∙ sym links_at-ring_cells ∙ g))
 
 -- a node that is there, and is not the one at null, lies in a block
 module _ {B : Type 0} (e : Ends) (cs : List (Cell Links B)) (all : AreBlocks (pointers cs)) where
   pub is_block-there : (p : Ptr) → same_ptr null_ptr p ≡ false → IsThere (ring_cells e cs) p → is_block p ≡ true
   unfolding cell_at
-  is_block-there (block_ptr c o) f h = let l = IsAt-there cs (block_ptr c o) h in AllByRecursion-at (λ q. is_block q ≡ true) cs (block_ptr c o) l.0 all l.1
+  is_block-there (block_ptr c o) f h = let l = IsAt-there cs (block_ptr c o) h in
+      AllByRecursion-at (λ q. is_block q ≡ true) cs (block_ptr c o) l.0 all l.1
   is_block-there null_ptr f h = cc
 
 -- what nodes hold is what they hold in the ring
@@ -129,9 +140,11 @@ module _ {B : Type 0} (e : Ends) (cs : List (Cell Links B)) where
   pub AllByRecursion-apart : (ps : List Ptr) → AllByRecursion (HasContent (ring_cells e cs)) ps → AllByRecursion Apart ps
   AllByRecursion-apart = AllByRecursion-map (HasContent (ring_cells e cs)) Apart (same_ptr-content e cs)
 
-  pub AllByRecursion-content_in_nodes : (ps : List Ptr) → AllByRecursion (HasContent (ring_cells e cs)) ps → AllByRecursion (HasContent cs) ps
+  pub AllByRecursion-content_in_nodes : (ps : List Ptr)
+      → AllByRecursion (HasContent (ring_cells e cs)) ps → AllByRecursion (HasContent cs) ps
   AllByRecursion-content_in_nodes =
-      AllByRecursion-map (HasContent (ring_cells e cs)) (HasContent cs) (λ p h. (h.0, sym (content_at-in_nodes p (same_ptr-content e cs p h)) ∙ h.1))
+      AllByRecursion-map (HasContent (ring_cells e cs)) (HasContent cs)
+      (λ p h. (h.0, sym (content_at-in_nodes p (same_ptr-content e cs p h)) ∙ h.1))
 
   pub listed-in_nodes : (ps : List Ptr) → AllByRecursion Apart ps → listed (ring_cells e cs) ps ≡ listed cs ps
   unfolding listed
@@ -141,21 +154,39 @@ module _ {B : Type 0} (e : Ends) (cs : List (Cell Links B)) where
   pub AreLinked-in_nodes : (ps : List Ptr) → AllByRecursion Apart ps → AreLinked (ring_cells e cs) ps → AreLinked cs ps
   AreLinked-in_nodes [] h l = tt
   AreLinked-in_nodes (p ∷ []) h l = tt
-  AreLinked-in_nodes (p ∷ q ∷ ps) h l =
-      ((sym (ap (λ z. next_of (links_of z)) (cell_at-apart p h.0)) ∙ l.0.0, sym (ap (λ z. prev_of (links_of z)) (cell_at-apart q h.1.0)) ∙ l.0.1), AreLinked-in_nodes (q ∷ ps) h.1 l.1)
+  AreLinked-in_nodes (p ∷ q ∷ ps) h l = (
+    (
+      sym (ap (λ z. next_of (links_of z)) (cell_at-apart p h.0))
+          ∙ l.0.0,
+      sym (ap (λ z. prev_of (links_of z)) (cell_at-apart q h.1.0)) ∙ l.0.1,
+    ),
+    AreLinked-in_nodes (q ∷ ps) h.1 l.1,
+  )
 
-  pub IsSpareList-in_nodes : (h : Option Ptr) (ss : List Ptr) → AllByRecursion Apart ss → IsSpareList (ring_cells e cs) h ss → IsSpareList cs h ss
-  IsSpareList-in_nodes h ss f = IsSpareList-same (ring_cells e cs) cs h ss (AllByRecursion-map Apart (SameLink (ring_cells e cs) cs) (λ p n. sym (ap (λ z. link_of (links_of z)) (cell_at-apart p n))) ss f)
+  pub IsSpareList-in_nodes : (h : Option Ptr) (ss : List Ptr) → AllByRecursion Apart ss
+      → IsSpareList (ring_cells e cs) h ss → IsSpareList cs h ss
+  IsSpareList-in_nodes h ss f = IsSpareList-same (ring_cells e cs) cs h ss
+      (AllByRecursion-map Apart (SameLink (ring_cells e cs) cs)
+      (λ p n. sym (ap (λ z. link_of (links_of z)) (cell_at-apart p n))) ss f)
 
-  pub IsSpareList-in_ring : (h : Option Ptr) (ss : List Ptr) → AllByRecursion Apart ss → IsSpareList cs h ss → IsSpareList (ring_cells e cs) h ss
-  IsSpareList-in_ring h ss f = IsSpareList-same cs (ring_cells e cs) h ss (AllByRecursion-map Apart (SameLink cs (ring_cells e cs)) (λ p n. ap (λ z. link_of (links_of z)) (cell_at-apart p n)) ss f)
+  pub IsSpareList-in_ring : (h : Option Ptr) (ss : List Ptr) → AllByRecursion Apart ss
+      → IsSpareList cs h ss → IsSpareList (ring_cells e cs) h ss
+  IsSpareList-in_ring h ss f = IsSpareList-same cs (ring_cells e cs) h ss
+      (AllByRecursion-map Apart (SameLink cs (ring_cells e cs))
+      (λ p n. ap (λ z. link_of (links_of z)) (cell_at-apart p n)) ss f)
 
-  pub AllByRecursion-there_in_nodes : (ps : List Ptr) → AllByRecursion Apart ps → AllByRecursion (IsThere (ring_cells e cs)) ps → AllByRecursion (IsThere cs) ps
+  pub AllByRecursion-there_in_nodes : (ps : List Ptr) → AllByRecursion Apart ps
+      → AllByRecursion (IsThere (ring_cells e cs)) ps → AllByRecursion (IsThere cs) ps
   AllByRecursion-there_in_nodes [] f h = tt
-  AllByRecursion-there_in_nodes (p ∷ ps) f h = (sym (ap (λ z. has_links (links_of z)) (cell_at-apart p f.0)) ∙ h.0, AllByRecursion-there_in_nodes ps f.1 h.1)
+  AllByRecursion-there_in_nodes (p ∷ ps) f h = (
+    sym (ap (λ z. has_links (links_of z)) (cell_at-apart p f.0))
+        ∙ h.0,
+    AllByRecursion-there_in_nodes ps f.1 h.1,
+  )
 
 -- a ring without nodes
-module _ {B : Type 0} (e : Ends) (cs : List (Cell Links B)) (spare : Link) (none : cs ≡ []) (free : target spare ≡ None) (first : target e.first ≡ None) (last : target e.last ≡ None) where
+module _ {B : Type 0} (e : Ends) (cs : List (Cell Links B)) (spare : Link) (none : cs ≡ [])
+    (free : target spare ≡ None) (first : target e.first ≡ None) (last : target e.last ≡ None) where
   IsRing-bare : IsRing (ring_cells {B = B} e []) [] (target spare) []
   IsRing-bare = record {
     linked = ((next_at-null {B = B} e [] ∙ led_to-none e.first.ptr first, prev_at-null {B = B} e [] ∙ led_to-none e.last.ptr last), tt);
@@ -168,4 +199,11 @@ module _ {B : Type 0} (e : Ends) (cs : List (Cell Links B)) (spare : Link) (none
 
   pub IsOwned-bare : IsOwned (ring_cells e cs) spare 0 0
   IsOwned-bare = subst (λ zs. IsOwned (ring_cells e zs) spare 0 0) (sym none)
-      (record { held_pointers = []; spare_pointers = []; ring = IsRing-bare; held_count = refl; enough_spares = omega arith; bounded = omega arith })
+      (record {
+        held_pointers = [];
+        spare_pointers = [];
+        ring = IsRing-bare;
+        held_count = refl;
+        enough_spares = omega arith;
+        bounded = omega arith;
+      })

@@ -12,13 +12,16 @@ use Rattle.lhm_ring.specs.Ring.{state, State, IsHeld, AtHeld, Held, SplitAround}
 
 module _ {B : Type 0} where
   -- where a ring is cut at p, if what it lists is
-  pub record CutAt (cs : List (Cell Links B)) (ps : List Ptr) (us : List (Held B)) (t : Held B) (vs : List (Held B)) (p : Ptr) : Type 0 where
+  pub record CutAt (cs : List (Cell Links B)) (ps : List Ptr) (us : List (Held B)) (t : Held B)
+      (vs : List (Held B)) (p : Ptr) : Type 0 where
     pub split : SplitAround ps p
     pub here : content_at cs p ≡ Some t
     pub listed_before : listed cs split.before ≡ us
     pub listed_after : listed cs split.after ≡ vs
 
-  pub CutAt-listed : (cs : List (Cell Links B)) (ps : List Ptr) → AllByRecursion (HasContent cs) ps → (us : List (Held B)) (t : Held B) (vs : List (Held B)) → listed cs ps ≡ us ++ t ∷ vs → CutAt cs ps us t vs t.at
+  pub CutAt-listed : (cs : List (Cell Links B)) (ps : List Ptr) → AllByRecursion (HasContent cs) ps
+      → (us : List (Held B)) (t : Held B) (vs : List (Held B)) → listed cs ps ≡ us ++ t ∷ vs
+      → CutAt cs ps us t vs t.at
   unfolding listed
   CutAt-listed cs [] h [] t vs e = absurd cc
   CutAt-listed cs [] h (a ∷ us) t vs e = absurd cc
@@ -39,7 +42,8 @@ module _ {B : Type 0} where
       record {
         split = record { before = p ∷ on.split.before; after = on.split.after; is = ap (λ qs. p ∷ qs) on.split.is };
         here = on.here;
-        listed_before = ap (λ o. one_of o ++ listed cs on.split.before) h.0.1 ∙ ap (λ l. h.0.0 ∷ l) on.listed_before ∙ ap (λ z. z ∷ us) first;
+        listed_before = ap (λ o. one_of o ++ listed cs on.split.before) h.0.1
+            ∙ ap (λ l. h.0.0 ∷ l) on.listed_before ∙ ap (λ z. z ∷ us) first;
         listed_after = on.listed_after;
       }
 
@@ -55,7 +59,9 @@ module _ {B : Type 0} where
 
 -- the held nodes of a ring, split at p
 module _ {B : Type 0} where
-  pub ring_split : {cs : List (Cell Links B)} {ps : List Ptr} {spare : Option Ptr} {ss : List Ptr} {p : Ptr} → IsRing cs ps spare ss → (s : SplitAround ps p) → IsRing cs (s.before ++ p ∷ s.after) spare ss
+  pub ring_split : {cs : List (Cell Links B)} {ps : List Ptr} {spare : Option Ptr} {ss : List Ptr}
+      {p : Ptr} → IsRing cs ps spare ss → (s : SplitAround ps p)
+      → IsRing cs (s.before ++ p ∷ s.after) spare ss
   ring_split {cs} {ps} {spare} {ss} r s = subst (λ qs. IsRing cs qs spare ss) s.is r
 
   pub length-listed : (cs : List (Cell Links B)) (ps : List Ptr) → AllByRecursion (HasContent cs) ps → length (listed cs ps) ≡ length ps

@@ -5,7 +5,9 @@ use Rattle.lhm_ring.specs.declared.ring.Links.{Links}
 use Rattle.lhm_ring.specs.declared.ring.Ends.{Ends}
 use Rattle.lhm_ring.specs.declared.pointer.Link.{Link}
 use Rattle.lhm_ring.proofs.lists.Apart.{IsApart-left, IsApart-tail}
-use Rattle.lhm_ring.proofs.rings.RingCells.{next_at-null, prev_at-null, AllByRecursion-apart, AllByRecursion-content_in_nodes, listed-in_nodes, AreLinked-in_nodes}
+use Rattle.lhm_ring.proofs.rings.RingCells.{next_at-null, prev_at-null, AllByRecursion-apart}
+use Rattle.lhm_ring.proofs.rings.RingCells.{AllByRecursion-content_in_nodes, listed-in_nodes}
+use Rattle.lhm_ring.proofs.rings.RingCells.{AreLinked-in_nodes}
 use Rattle.lhm_ring.proofs.lists.LinkRows.{RowCut-linked}
 use Rattle.lhm_ring.proofs.rings.Spans.{last_pointer-last_from, AreLinked-tail, HasEnds-behind, pointers_from-span}
 use Rattle.lhm_ring.specs.Nodes.{Cell}
@@ -13,17 +15,21 @@ use Rattle.lhm_ring.specs.Links.{ring_cells, next_at, prev_at, follow, listed, H
 
 module _ {B : Type 0} where
   -- what a ring holds is in a row from its front to its back
-  pub IsSpan-whole : {cs : List (Cell Links B)} {spare : Link} {n m : ℕ} → IsOwned cs spare n m → IsSpan cs (next_at cs null_ptr) (prev_at cs null_ptr) n
+  pub IsSpan-whole : {cs : List (Cell Links B)} {spare : Link} {n m : ℕ} → IsOwned cs spare n m
+      → IsSpan cs (next_at cs null_ptr) (prev_at cs null_ptr) n
   IsSpan-whole {cs} ok =
       let k = RowCut-linked cs null_ptr ok.held_pointers null_ptr [] ok.ring.linked in
-      let ends : HasEnds ok.held_pointers (next_at cs null_ptr) (prev_at cs null_ptr) = HasEnds-behind cs null_ptr (prev_at cs null_ptr) ok.held_pointers k.before (last_pointer-last_from null_ptr ok.held_pointers ∙ sym k.edge.1) in
+      let ends : HasEnds ok.held_pointers (next_at cs null_ptr) (prev_at cs null_ptr) =
+      HasEnds-behind cs null_ptr (prev_at cs null_ptr) ok.held_pointers k.before
+      (last_pointer-last_from null_ptr ok.held_pointers ∙ sym k.edge.1) in
       record {
         pointers = ok.held_pointers;
         count = ok.held_count;
         linked = AreLinked-tail cs null_ptr ok.held_pointers k.before;
         ends = ends;
         held = ok.ring.held;
-        apart = IsApart-left ok.held_pointers ok.spare_pointers (IsApart-tail null_ptr (ok.held_pointers ++ ok.spare_pointers) ok.ring.apart);
+        apart = IsApart-left ok.held_pointers ok.spare_pointers
+            (IsApart-tail null_ptr (ok.held_pointers ++ ok.spare_pointers) ok.ring.apart);
       }
 
   follow-pointers_from : (cs : List (Cell Links B)) (n : ℕ) (p : Ptr) → follow cs n p ≡ pointers_from cs n (next_at cs p)
@@ -48,15 +54,21 @@ module _ {B : Type 0} (e : Ends) (cs : List (Cell Links B)) {f b : Ptr} {n : ℕ
 
   pub listed-span : listed cs (pointers_from cs n f) ≡ listed (ring_cells e cs) (pointers_from (ring_cells e cs) n f)
   unfolding IsSpan-in_nodes
-  listed-span = ap (listed cs) (pointers_from-span IsSpan-in_nodes) ∙ sym (listed-in_nodes e cs s.pointers (AllByRecursion-apart e cs s.pointers s.held)) ∙ sym (ap (listed (ring_cells e cs)) (pointers_from-span s))
+  listed-span = ap (listed cs) (pointers_from-span IsSpan-in_nodes)
+      ∙ sym (listed-in_nodes e cs s.pointers (AllByRecursion-apart e cs s.pointers s.held))
+      ∙ sym (ap (listed (ring_cells e cs)) (pointers_from-span s))
 
 -- what a ring holds is in the row from one end to the other
-module _ {B : Type 0} (e : Ends) (cs : List (Cell Links B)) {spare : Link} {n m : ℕ} (ok : IsOwned (ring_cells e cs) spare n m) {f : Ptr} (is : f ≡ e.first.ptr) where
+module _ {B : Type 0} (e : Ends) (cs : List (Cell Links B)) {spare : Link} {n m : ℕ}
+    (ok : IsOwned (ring_cells e cs) spare n m) {f : Ptr} (is : f ≡ e.first.ptr) where
   abbrev row : IsSpan (ring_cells e cs) (next_at (ring_cells e cs) null_ptr) (prev_at (ring_cells e cs) null_ptr) n
   row = IsSpan-whole ok
 
   pub IsSpan-ring : {b : Ptr} → b ≡ e.last.ptr → IsSpan cs f b n
-  IsSpan-ring too = subst (λ (z : Ptr × Ptr). IsSpan cs z.0 z.1 n) (λ i. ((next_at-null e cs ∙ sym is) i, (prev_at-null e cs ∙ sym too) i)) (IsSpan-in_nodes e cs row)
+  IsSpan-ring too = subst (λ (z : Ptr × Ptr). IsSpan cs z.0 z.1 n)
+      (λ i. ((next_at-null e cs ∙ sym is) i, (prev_at-null e cs ∙ sym too) i))
+      (IsSpan-in_nodes e cs row)
 
   pub listed-ring : listed cs (pointers_from cs n f) ≡ ring_list (ring_cells e cs) n
-  listed-ring = ap (λ q. listed cs (pointers_from cs n q)) (is ∙ sym (next_at-null e cs)) ∙ listed-span e cs row ∙ listed-whole (ring_cells e cs) n
+  listed-ring = ap (λ q. listed cs (pointers_from cs n q)) (is ∙ sym (next_at-null e cs))
+      ∙ listed-span e cs row ∙ listed-whole (ring_cells e cs) n

@@ -30,7 +30,9 @@ module _ {B : Type 0} (cs ds : List (Cell Links B)) where
       AreLinked-same (y ∷ z ∷ r) k = ((next y ∙ k.0.0, prev z ∙ k.0.1), AreLinked-same (z ∷ r) k.1)
 
       module _ (there : (q : Ptr) → is_there ds q ≡ is_there cs q) (count : length ds ≡ length cs) where
-        IsRing-same : (ps : List Ptr) (spare : Option Ptr) (ss : List Ptr) → AllByRecursion (HasContent ds) ps → AllByRecursion SameLink ss → IsRing cs ps spare ss → IsRing ds ps spare ss
+        IsRing-same : (ps : List Ptr) (spare : Option Ptr) (ss : List Ptr)
+            → AllByRecursion (HasContent ds) ps → AllByRecursion SameLink ss → IsRing cs ps spare ss
+            → IsRing ds ps spare ss
         IsRing-same ps spare ss held links r = record {
           linked = AreLinked-same (null_ptr ∷ (ps ++ null_ptr ∷ [])) r.linked;
           chained = IsSpareList-same spare ss links r.chained;
@@ -40,7 +42,9 @@ module _ {B : Type 0} (cs ds : List (Cell Links B)) where
           count = count ∙ r.count;
         }
 
-        pub IsOwned-same : {spare : Link} {n m : ℕ} (ok : IsOwned cs spare n m) → AllByRecursion (HasContent ds) ok.held_pointers → AllByRecursion SameLink ok.spare_pointers → IsOwned ds spare n m
+        pub IsOwned-same : {spare : Link} {n m : ℕ} (ok : IsOwned cs spare n m)
+            → AllByRecursion (HasContent ds) ok.held_pointers
+            → AllByRecursion SameLink ok.spare_pointers → IsOwned ds spare n m
         IsOwned-same {spare} ok held links = record {
           held_pointers = ok.held_pointers;
           spare_pointers = ok.spare_pointers;

@@ -14,7 +14,9 @@ use Rattle.lhm_ring.proofs.lists.LinkRows.{RowCut-linked, listed-append}
 use Rattle.lhm_ring.proofs.rings.SameNodes.{AreLinked-same}
 use Rattle.lhm_ring.proofs.rings.Writes.{cell_at-change_other}
 use Rattle.lhm_ring.specs.Nodes.{Cell, cell, cell_at, same_ptr, links_at, body_at, IsApart, IsAt, Holds, with_body}
-use Rattle.lhm_ring.specs.Links.{next_of, prev_of, link_of, next_at, prev_at, content_of, AreLinked, HasContent, listed, one_of, last_pointer, HasEnds, pointers_from, span_triples, IsSpan}
+use Rattle.lhm_ring.specs.Links.{next_of, prev_of, link_of, next_at, prev_at, content_of, AreLinked}
+use Rattle.lhm_ring.specs.Links.{HasContent, listed, one_of, last_pointer, HasEnds, pointers_from}
+use Rattle.lhm_ring.specs.Links.{span_triples, IsSpan}
 use Rattle.lhm_ring.specs.Ring.{Held, held, triples}
 
 module _ {B : Type 0} (cs : List (Cell Links B)) where
@@ -30,7 +32,9 @@ module _ {B : Type 0} (cs : List (Cell Links B)) where
   unfolding pointers_from
   pointers_from-row f b [] k e = refl
   pointers_from-row f b (r ∷ []) k e = ap (λ z. z ∷ []) (sym e.0)
-  pointers_from-row f b (r ∷ s ∷ rs) k e = λ i. sym e.0 i ∷ (ap (λ z. pointers_from cs (length (s ∷ rs)) z) (ap (next_at cs) (sym e.0) ∙ k.0.0) ∙ pointers_from-row s b (s ∷ rs) k.1 (refl, e.1)) i
+  pointers_from-row f b (r ∷ s ∷ rs) k e = λ i. sym e.0 i ∷
+      (ap (λ z. pointers_from cs (length (s ∷ rs)) z) (ap (next_at cs) (sym e.0) ∙ k.0.0)
+      ∙ pointers_from-row s b (s ∷ rs) k.1 (refl, e.1)) i
 
 module _ {B : Type 0} {cs : List (Cell Links B)} {f b : Ptr} {k : ℕ} (s : IsSpan cs f b k) where
   pub pointers_from-span : pointers_from cs k f ≡ s.pointers
@@ -67,7 +71,8 @@ module _ {B : Type 0} (cs : List (Cell Links B)) where
   HasEnds-behind x b [] k e = tt
   HasEnds-behind x b (y ∷ ys) k e = (sym k.0.0, e)
 
-  ahead : (f b : Ptr) (xs : List Ptr) → AreLinked cs (xs ++ b ∷ []) → HasEnds (xs ++ b ∷ []) f b → AreLinked cs xs × HasEnds xs f (prev_at cs b)
+  ahead : (f b : Ptr) (xs : List Ptr) → AreLinked cs (xs ++ b ∷ []) → HasEnds (xs ++ b ∷ []) f b
+      → AreLinked cs xs × HasEnds xs f (prev_at cs b)
   ahead f b [] k h = (tt, tt)
   ahead f b (x ∷ xs) k h = let c = RowCut-linked cs x xs b [] k in (c.before, (h.0, last_pointer-last_from x xs ∙ sym c.edge.1))
 
@@ -76,13 +81,16 @@ module _ {B : Type 0} where
   triples-append [] ys = refl
   triples-append (x ∷ xs) ys = ap (λ r. (x.hash, x.pair) ∷ r) (triples-append xs ys)
 
-  pub listed-one : (cs : List (Cell Links B)) (p : Ptr) → HasContent cs p → (l : Links) → links_at cs p ≡ Some l → (x : B) → body_at cs p ≡ Some x → listed cs (p ∷ []) ≡ held p l.hash (link_of (Some l)) x ∷ []
+  pub listed-one : (cs : List (Cell Links B)) (p : Ptr) → HasContent cs p → (l : Links)
+      → links_at cs p ≡ Some l → (x : B) → body_at cs p ≡ Some x
+      → listed cs (p ∷ []) ≡ held p l.hash (link_of (Some l)) x ∷ []
   unfolding listed
   listed-one cs p h l f x e =
       λ i. one_of (content_of p (f i) (e i)) ++ []
 
 -- what the node p holds is moved out of it, and a row without p stays
-module _ {B : Type 0} {cs : List (Cell Links B)} (p : Ptr) {la : Links} (ea : links_at cs p ≡ Some la) {f b : Ptr} {k : ℕ} (s : IsSpan cs f b k)
+module _ {B : Type 0} {cs : List (Cell Links B)} (p : Ptr) {la : Links}
+    (ea : links_at cs p ≡ Some la) {f b : Ptr} {k : ℕ} (s : IsSpan cs f b k)
     (free : IsFresh p s.pointers) where
   abbrev ds : List (Cell Links B)
   ds = with_body p None cs
@@ -103,7 +111,9 @@ module _ {B : Type 0} {cs : List (Cell Links B)} (p : Ptr) {la : Links} (ea : li
       }
 
   listed-stays : listed cs (pointers_from cs k f) ≡ listed ds (pointers_from ds k f)
-  listed-stays = ap (listed cs) (pointers_from-span s) ∙ sym (listed-other cs ds p cell_at-other s.pointers free) ∙ ap (listed ds) (sym (pointers_from-span IsSpan-stays))
+  listed-stays = ap (listed cs) (pointers_from-span s)
+      ∙ sym (listed-other cs ds p cell_at-other s.pointers free)
+      ∙ ap (listed ds) (sym (pointers_from-span IsSpan-stays))
 
 -- the first of a row and the rest, and the last and the rest
 module _ {B : Type 0} {cs : List (Cell Links B)} {f b : Ptr} {k : ℕ} (s : IsSpan cs f b k) (some : k ≡ 0 → ⊥) where
@@ -134,12 +144,15 @@ module _ {B : Type 0} {cs : List (Cell Links B)} {f b : Ptr} {k : ℕ} (s : IsSp
       pointers = first.0;
       count = length-first;
       linked = AreLinked-tail cs f first.0 AreLinked-first;
-      ends = subst (λ r. HasEnds first.0 r b) (ap next_of ea ∙ sym is) (HasEnds-behind cs f b first.0 AreLinked-first (subst (λ qs. HasEnds qs f b) first.1 s.ends).1);
+      ends = subst (λ r. HasEnds first.0 r b) (ap next_of ea ∙ sym is)
+          (HasEnds-behind cs f b first.0 AreLinked-first
+          (subst (λ qs. HasEnds qs f b) first.1 s.ends).1);
       held = AllByRecursion-first.1;
       apart = IsApart-tail f first.0 IsApart-first;
     }
 
-    pub listed-first : {x : B} → body_at cs f ≡ Some x → listed cs (pointers_from cs k f) ≡ held f la.hash (link_of (Some la)) x ∷ listed cs (pointers_from cs (k - 1) q)
+    pub listed-first : {x : B} → body_at cs f ≡ Some x → listed cs (pointers_from cs k f)
+        ≡ held f la.hash (link_of (Some la)) x ∷ listed cs (pointers_from cs (k - 1) q)
     unfolding IsSpan-behind_first
     listed-first ex =
         ap (listed cs) (pointers_from-span s ∙ first.1) ∙ listed-append cs (f ∷ []) first.0
@@ -152,9 +165,11 @@ module _ {B : Type 0} {cs : List (Cell Links B)} {f b : Ptr} {k : ℕ} (s : IsSp
     unfolding IsSpan-behind_first
     IsSpan-rest_of_first = IsSpan-stays f ea IsSpan-behind_first IsFresh-first
 
-    pub span_triples-first : {x : B} → body_at cs f ≡ Some x → span_triples cs k f ≡ (la.hash, x) ∷ span_triples (with_body f None cs) (k - 1) q
+    pub span_triples-first : {x : B} → body_at cs f ≡ Some x → span_triples cs k f ≡ (la.hash, x) ∷
+        span_triples (with_body f None cs) (k - 1) q
     unfolding IsSpan-behind_first
-    span_triples-first {x} ex = ap triples (listed-first ex) ∙ ap (λ ts. (la.hash, x) ∷ triples ts) (listed-stays f ea IsSpan-behind_first IsFresh-first)
+    span_triples-first {x} ex = ap triples (listed-first ex) ∙ ap (λ ts. (la.hash, x) ∷ triples ts)
+        (listed-stays f ea IsSpan-behind_first IsFresh-first)
 
   last : (qs : List Ptr) × (s.pointers ≡ qs ++ b ∷ [])
   last = split_last f b s.pointers (λ e. some (sym s.count ∙ e)) s.ends
@@ -191,7 +206,8 @@ module _ {B : Type 0} {cs : List (Cell Links B)} {f b : Ptr} {k : ℕ} (s : IsSp
       apart = IsApart-left last.0 (b ∷ []) IsApart-last;
     }
 
-    pub listed-last : {x : B} → body_at cs b ≡ Some x → listed cs (pointers_from cs k f) ≡ listed cs (pointers_from cs (k - 1) f) ++ held b la.hash (link_of (Some la)) x ∷ []
+    pub listed-last : {x : B} → body_at cs b ≡ Some x → listed cs (pointers_from cs k f) ≡ listed cs
+        (pointers_from cs (k - 1) f) ++ held b la.hash (link_of (Some la)) x ∷ []
     unfolding IsSpan-ahead_of_last
     listed-last ex =
         ap (listed cs) (pointers_from-span s ∙ last.1) ∙ listed-append cs last.0 (b ∷ [])
@@ -204,7 +220,8 @@ module _ {B : Type 0} {cs : List (Cell Links B)} {f b : Ptr} {k : ℕ} (s : IsSp
     unfolding IsSpan-ahead_of_last
     IsSpan-rest_of_last = IsSpan-stays b ea IsSpan-ahead_of_last IsFresh-last
 
-    pub span_triples-last : {x : B} → body_at cs b ≡ Some x → span_triples cs k f ≡ span_triples (with_body b None cs) (k - 1) f ++ (la.hash, x) ∷ []
+    pub span_triples-last : {x : B} → body_at cs b ≡ Some x → span_triples cs k f ≡ span_triples
+        (with_body b None cs) (k - 1) f ++ (la.hash, x) ∷ []
     unfolding IsSpan-ahead_of_last
     span_triples-last {x} ex =
         ap triples (listed-last ex) ∙ triples-append (listed cs (pointers_from cs (k - 1) f)) (held b la.hash (link_of (Some la)) x ∷ [])

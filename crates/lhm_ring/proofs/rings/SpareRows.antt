@@ -1,5 +1,6 @@
 -- Rows of nodes that become spare, and what a change of chain links alone keeps.
-use Rattle.std.proofs.Common.{◌≡◌, ℕ, suc, ◌+◌, ◌-◌, ◌<◌, true, false, cond, List, [], ◌∷◌, ◌++◌, length, Option, Some, None, refl, sym, ap, ◌∙◌, subst, arith}
+use Rattle.std.proofs.Common.{◌≡◌, ℕ, suc, ◌+◌, ◌-◌, ◌<◌, true, false, cond, List, [], ◌∷◌, ◌++◌}
+use Rattle.std.proofs.Common.{length, Option, Some, None, refl, sym, ap, ◌∙◌, subst, arith}
 use Rattle.std.specs.List.{AllByRecursion}
 use denote.RawPtr.{Ptr, null_ptr}
 use Rattle.lhm_ring.specs.declared.ring.Links.{Links}
@@ -11,9 +12,13 @@ use Rattle.lhm_ring.proofs.memory.OneNodeChanged.{IsSpareList-other}
 use Rattle.lhm_ring.proofs.lists.Options.{none_some}
 use Rattle.lhm_ring.proofs.rings.SameNodes.{AreLinked-same}
 use Rattle.lhm_ring.proofs.rings.Spans.{AreLinked-tail}
-use Rattle.lhm_ring.proofs.rings.Writes.{cell_at-change_other, length-change, reader-with_links_same, links_at-with_links, body_at-with_links}
+use Rattle.lhm_ring.proofs.rings.Writes.{cell_at-change_other, length-change}
+use Rattle.lhm_ring.proofs.rings.Writes.{reader-with_links_same, links_at-with_links}
+use Rattle.lhm_ring.proofs.rings.Writes.{body_at-with_links}
 use Rattle.lhm_ring.specs.Nodes.{Cell, cell, cell_at, same_ptr, links_of, body_of, links_at, body_at, IsApart, with_links}
-use Rattle.lhm_ring.specs.Links.{ends_links, ring_cells, chaining_to, next_of, prev_of, link_of, has_links, next_at, link_at, content_of, AreLinked, IsSpareList, one_of, IsThere}
+use Rattle.lhm_ring.specs.Links.{ends_links, ring_cells, chaining_to, next_of, prev_of, link_of}
+use Rattle.lhm_ring.specs.Links.{has_links, next_at, link_at, content_of, AreLinked, IsSpareList}
+use Rattle.lhm_ring.specs.Links.{one_of, IsThere}
 use Rattle.lhm_ring.specs.Ring.{Held, triples}
 use Rattle.lhm_ring.specs.Drain.{onto, StartsAt, triple_of, SameButLinks, IsRow, HasRow, SparesRow}
 use Rattle.lhm_ring.specs.Pointer.{target}
@@ -30,15 +35,19 @@ length-onto (p ∷ ps) ss = let e = length-onto ps (p ∷ ss) in omega arith
 pub IsApart-onto : (g : Ptr) (ps ss : List Ptr) → IsApart (g ∷ (ps ++ ss))
     → IsApart (g ∷ onto ps ss)
 IsApart-onto g [] ss d = d
-IsApart-onto g (p ∷ ps) ss d = IsApart-onto g ps (p ∷ ss) (IsApart-inserted (g ∷ ps) p ss (IsFresh-middle (g ∷ []) p (ps ++ ss) d) (IsApart-removed (g ∷ []) p (ps ++ ss) d))
+IsApart-onto g (p ∷ ps) ss d = IsApart-onto g ps (p ∷ ss)
+    (IsApart-inserted (g ∷ ps) p ss (IsFresh-middle (g ∷ []) p (ps ++ ss) d)
+    (IsApart-removed (g ∷ []) p (ps ++ ss) d))
 
 module _ {B : Type 0} where
-  triple_of-chaining_to : (q : Ptr) (o : Link) (l : Links) (b : Option B) → triple_of (content_of q (Some (chaining_to o l)) b) ≡ triple_of (content_of q (Some l) b)
+  triple_of-chaining_to : (q : Ptr) (o : Link) (l : Links) (b : Option B)
+      → triple_of (content_of q (Some (chaining_to o l)) b) ≡ triple_of (content_of q (Some l) b)
   triple_of-chaining_to q o l None = refl
   triple_of-chaining_to q o l (Some x) = refl
 
   -- what the write of a chain link keeps
-  SameButLinks-chaining_to : (cs : List (Cell Links B)) (p : Ptr) (o : Link) (la : Links) → links_at cs p ≡ Some la → SameButLinks cs (with_links p (chaining_to o la) cs)
+  SameButLinks-chaining_to : (cs : List (Cell Links B)) (p : Ptr) (o : Link) (la : Links)
+      → links_at cs p ≡ Some la → SameButLinks cs (with_links p (chaining_to o la) cs)
   SameButLinks-chaining_to cs p o la e =
       let l = chaining_to o la in
       record {
@@ -46,7 +55,8 @@ module _ {B : Type 0} where
         prev = reader-with_links_same p l cs e prev_of refl;
         there = reader-with_links_same p l cs e has_links refl;
         triple = λ q. ap (λ b. triple_of (content_of q (links_at (with_links p l cs) q) b)) (body_at-with_links p l cs e q)
-            ∙ reader-with_links_same p l cs e (λ z. triple_of (content_of q z (body_at cs q))) (triple_of-chaining_to q o la (body_at cs q)) q;
+            ∙ reader-with_links_same p l cs e (λ z. triple_of (content_of q z (body_at cs q)))
+            (triple_of-chaining_to q o la (body_at cs q)) q;
         count = length-change p (λ c. cell c.at l c.body) cs;
       }
 
@@ -64,7 +74,8 @@ module _ {B : Type 0} where
   StartsAt-next cs x (y ∷ ys) k = sym k.0.0
 
   -- a row of some nodes starts with its first
-  starts_with : {cs : List (Cell Links B)} {f : Ptr} {n : ℕ} {spare : Option Ptr} (ps : List Ptr) {ss : List Ptr} → 0 < n → IsRow cs f n spare ps ss
+  starts_with : {cs : List (Cell Links B)} {f : Ptr} {n : ℕ} {spare : Option Ptr} (ps : List Ptr)
+      {ss : List Ptr} → 0 < n → IsRow cs f n spare ps ss
       → (rs : List Ptr) × (ps ≡ f ∷ rs)
   starts_with [] h r = let long = r.long in absurd (omega arith)
   starts_with (p ∷ ps) h r = (ps, ap (λ q. q ∷ ps) r.starts)
@@ -73,17 +84,22 @@ module _ {B : Type 0} where
   is_there-row {cs} h r = (subst (AllByRecursion (IsThere cs)) (starts_with r.pointers h r.row).1 r.row.there).0
 
   -- the first node of a row becomes the first spare one
-  module _ (cs : List (Cell Links B)) (p : Ptr) (spare : Link) {la : Links} (ea : links_at cs p ≡ Some la) {next : Ptr} (is : next ≡ la.next.ptr) {n : ℕ} (some : 0 < n) where
+  module _ (cs : List (Cell Links B)) (p : Ptr) (spare : Link) {la : Links}
+      (ea : links_at cs p ≡ Some la) {next : Ptr} (is : next ≡ la.next.ptr) {n : ℕ}
+      (some : 0 < n) where
     abbrev after : List (Cell Links B)
     after = with_links p (chaining_to spare la) cs
 
     link_at-now : link_at after p ≡ target spare
-    link_at-now = ap link_of (links_at-with_links p (chaining_to spare la) cs ea p ∙ ap (λ y. cond y (Some (chaining_to spare la)) (links_at cs p)) (same_ptr-reflexive p))
+    link_at-now = ap link_of (links_at-with_links p (chaining_to spare la) cs ea p
+        ∙ ap (λ y. cond y (Some (chaining_to spare la)) (links_at cs p)) (same_ptr-reflexive p))
 
     IsRow-shorter : (rs ss : List Ptr) → IsRow cs p n (target spare) (p ∷ rs) ss → IsRow after next (n - 1) (Some p) rs (p ∷ ss)
     IsRow-shorter rs ss r =
         let same = SameButLinks-chaining_to cs p spare la ea in let long = r.long in let free = IsFresh-head p (rs ++ ss) r.apart in
-        let chained = IsSpareList-other cs after p (λ q n. cell_at-change_other p (λ c. cell c.at (chaining_to spare la) c.body) (λ c. refl) q n cs) (target spare) ss
+        let chained = IsSpareList-other cs after p
+        (λ q n. cell_at-change_other p (λ c. cell c.at (chaining_to spare la) c.body) (λ c. refl) q
+        n cs) (target spare) ss
         (AllByRecursion-right (λ q. same_ptr p q ≡ false) rs ss free) r.chained in
         record {
           long = omega arith;
@@ -95,7 +111,8 @@ module _ {B : Type 0} where
         }
 
     -- cut there
-    shorter : (ps ss : List Ptr) (r : IsRow cs p n (target spare) ps ss) → IsRow after next (n - 1) (Some p) (starts_with ps some r).0 (p ∷ ss)
+    shorter : (ps ss : List Ptr) (r : IsRow cs p n (target spare) ps ss)
+        → IsRow after next (n - 1) (Some p) (starts_with ps some r).0 (p ∷ ss)
     shorter ps ss r = let c = starts_with ps some r in IsRow-shorter c.0 ss (subst (λ qs. IsRow cs p n (target spare) qs ss) c.1 r)
 
     pub HasRow-next : HasRow cs p n (target spare) → HasRow after next (n - 1) (Some p)
@@ -105,10 +122,13 @@ module _ {B : Type 0} where
       row = shorter r.pointers r.spare_pointers r.row;
     }
 
-    pub SparesRow-step : (ds : List (Cell Links B)) (s : Option Ptr) → SparesRow after next (n - 1) (Some p) ds s → SparesRow cs p n (target spare) ds s
+    pub SparesRow-step : (ds : List (Cell Links B)) (s : Option Ptr) → SparesRow after next (n - 1)
+        (Some p) ds s → SparesRow cs p n (target spare) ds s
     SparesRow-step ds s k ps ss r =
-        let c = starts_with ps some r in let on = k c.0 (p ∷ ss) (shorter ps ss r) in
-        (SameButLinks-both cs after ds (SameButLinks-chaining_to cs p spare la ea) on.0, subst (λ qs. IsSpareList ds s (onto qs ss)) (sym c.1) on.1)
+        let c = starts_with ps some r in let on = k c.0 (p ∷ ss) (shorter ps ss r) in (
+          SameButLinks-both cs after ds (SameButLinks-chaining_to cs p spare la ea) on.0,
+          subst (λ qs. IsSpareList ds s (onto qs ss)) (sym c.1) on.1,
+        )
 
   pub SparesRow-done : (cs : List (Cell Links B)) (f : Ptr) {n : ℕ} (spare : Option Ptr) → n ≡ 0 → SparesRow cs f n spare cs spare
   SparesRow-done cs f spare e [] ss r =
@@ -133,9 +153,13 @@ module _ {B : Type 0} (e : Ends) (cs ds : List (Cell Links B)) (same : SameButLi
   abbrev null_cell : Cell Links B
   null_cell = cell null_ptr (ends_links e) None
 
-  reader-ring_cells : {X : Type 0} (f : Option (Cell Links B) → X) (q : Ptr) → f (cell_at ds q) ≡ f (cell_at cs q) → f (cell_at (ring_cells e ds) q) ≡ f (cell_at (ring_cells e cs) q)
+  reader-ring_cells : {X : Type 0} (f : Option (Cell Links B) → X) (q : Ptr)
+      → f (cell_at ds q) ≡ f (cell_at cs q) → f (cell_at (ring_cells e ds) q)
+      ≡ f (cell_at (ring_cells e cs) q)
   unfolding cell_at
-  reader-ring_cells f q h = elim (same_ptr null_ptr q) as (λ y. f (cond y (Some null_cell) (cell_at ds q)) ≡ f (cond y (Some null_cell) (cell_at cs q))) [ true ↦ refl | false ↦ h ]
+  reader-ring_cells f q h = elim (same_ptr null_ptr q) as
+      (λ y. f (cond y (Some null_cell) (cell_at ds q)) ≡ f (cond y (Some null_cell) (cell_at cs q)))
+      [ true ↦ refl | false ↦ h ]
 
   pub SameButLinks-in_ring : SameButLinks (ring_cells e cs) (ring_cells e ds)
   SameButLinks-in_ring = record {

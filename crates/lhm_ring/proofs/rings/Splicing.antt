@@ -6,17 +6,24 @@ use Rattle.lhm_ring.specs.declared.ring.Links.{Links}
 use Rattle.lhm_ring.specs.declared.ring.Ends.{Ends}
 use Rattle.lhm_ring.specs.declared.pointer.Link.{Link}
 use Rattle.lhm_ring.proofs.lists.Apart.{IsFresh, IsApart-left, IsFresh-head, IsApart-tail}
-use Rattle.lhm_ring.proofs.rings.Joins.{AvoidsSource-fresh, AvoidsTarget-fresh, AreLinked-unchanged, IsSpareList-unchanged, AreNeighbours-made, listed-unchanged}
+use Rattle.lhm_ring.proofs.rings.Joins.{AvoidsSource-fresh, AvoidsTarget-fresh, AreLinked-unchanged}
+use Rattle.lhm_ring.proofs.rings.Joins.{IsSpareList-unchanged, AreNeighbours-made, listed-unchanged}
 use Rattle.lhm_ring.proofs.lists.ForAll.{AllByRecursion-left, AllByRecursion-right, AllByRecursion-map}
 use Rattle.lhm_ring.proofs.lists.Last.{last_from}
-use Rattle.lhm_ring.proofs.rings.RingCells.{next_at-null, is_there-null, AreLinked-in_nodes, AllByRecursion-there_in_nodes, IsSpareList-in_nodes, IsSpareList-in_ring}
+use Rattle.lhm_ring.proofs.rings.RingCells.{next_at-null, is_there-null, AreLinked-in_nodes}
+use Rattle.lhm_ring.proofs.rings.RingCells.{AllByRecursion-there_in_nodes, IsSpareList-in_nodes}
+use Rattle.lhm_ring.proofs.rings.RingCells.{IsSpareList-in_ring}
 use Rattle.lhm_ring.proofs.rings.RingNodes.{ring_list-listed}
 use Rattle.lhm_ring.proofs.lists.LinkRows.{RowCut-linked}
 use Rattle.lhm_ring.proofs.rings.SameNodes.{AreLinked-same}
 use Rattle.lhm_ring.proofs.rings.Spans.{HasEnds-behind, last_pointer-last_from, AreLinked-tail, pointers_from-span}
-use Rattle.lhm_ring.proofs.rings.SpareRows.{AllByRecursion-onto, IsApart-onto, SameButLinks-in_ring, length-onto, StartsAt-next, some_still, one_triple, triples-one_of}
+use Rattle.lhm_ring.proofs.rings.SpareRows.{AllByRecursion-onto, IsApart-onto, SameButLinks-in_ring}
+use Rattle.lhm_ring.proofs.rings.SpareRows.{length-onto, StartsAt-next, some_still, one_triple}
+use Rattle.lhm_ring.proofs.rings.SpareRows.{triples-one_of}
 use Rattle.lhm_ring.specs.Nodes.{Cell, same_ptr}
-use Rattle.lhm_ring.specs.Links.{ring_cells, next_at, prev_at, content_at, AreLinked, IsSpareList, HasContent, IsRing, IsJoined, listed, span_triples, IsSpan, ring_list, IsOwned, IsThere}
+use Rattle.lhm_ring.specs.Links.{ring_cells, next_at, prev_at, content_at, AreLinked, IsSpareList}
+use Rattle.lhm_ring.specs.Links.{HasContent, IsRing, IsJoined, listed, span_triples, IsSpan}
+use Rattle.lhm_ring.specs.Links.{ring_list, IsOwned, IsThere}
 use Rattle.lhm_ring.specs.Ring.{triples}
 use Rattle.lhm_ring.specs.Drain.{onto, StartsAt, triple_of, SameButLinks, IsRow, HasRow, SparesRow}
 use Rattle.lhm_ring.specs.Pointer.{target}
@@ -57,7 +64,8 @@ module _ {B : Type 0} (e : Ends) (nodes : List (Cell Links B)) {spare : Link} {n
   pub HasRow-ring : {f : Ptr} → f ≡ e.first.ptr → HasRow nodes f n (target spare)
   HasRow-ring is = record { pointers = ps; spare_pointers = ss; row = IsRow-whole is }
 
-  module _ {f : Ptr} (is : f ≡ e.first.ptr) (zs : List (Cell Links B)) (h : Link) (s : SparesRow nodes f n (target spare) zs (target h)) where
+  module _ {f : Ptr} (is : f ≡ e.first.ptr) (zs : List (Cell Links B)) (h : Link)
+      (s : SparesRow nodes f n (target spare) zs (target h)) where
     abbrev ds : List (Cell Links B)
     ds = ring_cells e zs
 
@@ -74,13 +82,21 @@ module _ {B : Type 0} (e : Ends) (nodes : List (Cell Links B)) {spare : Link} {n
       AllByRecursion-there : AllByRecursion (IsThere es) (null_ptr ∷ onto ps ss)
       AllByRecursion-there =
           let T : Ptr → Type 0 = λ q. IsThere es q in
-          let on : (qs : List Ptr) → AllByRecursion (IsThere cs) qs → AllByRecursion T qs = AllByRecursion-map (IsThere cs) T (λ q k. j.there q ∙ same.there q ∙ k) in
-          (j.there null_ptr ∙ is_there-null e zs, AllByRecursion-onto T ps ss (on ps (AllByRecursion-left (IsThere cs) ps ss o.ring.there.1)) (on ss (AllByRecursion-right (IsThere cs) ps ss o.ring.there.1)))
+          let on : (qs : List Ptr) → AllByRecursion (IsThere cs) qs → AllByRecursion T qs =
+          AllByRecursion-map (IsThere cs) T (λ q k. j.there q ∙ same.there q ∙ k) in (
+            j.there null_ptr ∙ is_there-null e zs,
+            AllByRecursion-onto T ps ss
+                (on ps (AllByRecursion-left (IsThere cs) ps ss o.ring.there.1))
+                (on ss (AllByRecursion-right (IsThere cs) ps ss o.ring.there.1)),
+          )
 
       IsRing-empty : IsRing es [] (target h) (onto ps ss)
       IsRing-empty = record {
         linked = (AreNeighbours-made j, tt);
-        chained = IsSpareList-unchanged j (target h) (onto ps ss) (IsSpareList-in_ring e zs (target h) (onto ps ss) (AllByRecursion-onto (λ q. same_ptr null_ptr q ≡ false) ps ss IsFresh-row IsFresh-spares) spared.1);
+        chained = IsSpareList-unchanged j (target h) (onto ps ss)
+            (IsSpareList-in_ring e zs (target h) (onto ps ss)
+            (AllByRecursion-onto (λ q. same_ptr null_ptr q ≡ false) ps ss IsFresh-row
+            IsFresh-spares) spared.1);
         held = tt;
         there = AllByRecursion-there;
         apart = IsApart-onto null_ptr ps ss o.ring.apart;
@@ -99,7 +115,9 @@ module _ {B : Type 0} (e : Ends) (nodes : List (Cell Links B)) {spare : Link} {n
           }
 
       AreLinked-spliced : AreLinked es ps
-      AreLinked-spliced = AreLinked-unchanged j ps (AvoidsSource-fresh null_ptr ps IsFresh-row) (AvoidsTarget-fresh null_ptr ps IsFresh-row) (AreLinked-same cs ds same.next same.prev ps (AreLinked-tail cs null_ptr ps cut.0))
+      AreLinked-spliced = AreLinked-unchanged j ps (AvoidsSource-fresh null_ptr ps IsFresh-row)
+          (AvoidsTarget-fresh null_ptr ps IsFresh-row) (AreLinked-same cs ds same.next same.prev ps
+          (AreLinked-tail cs null_ptr ps cut.0))
 
       pub IsSpan-spliced : IsSpan es (next_at cs null_ptr) (prev_at cs null_ptr) n
       IsSpan-spliced = record {
@@ -107,14 +125,17 @@ module _ {B : Type 0} (e : Ends) (nodes : List (Cell Links B)) {spare : Link} {n
         count = o.held_count;
         linked = AreLinked-spliced;
         ends = HasEnds-behind cs null_ptr (prev_at cs null_ptr) ps cut.0 (last_pointer-last_from null_ptr ps ∙ sym cut.1);
-        held = AllByRecursion-map (HasContent cs) (HasContent es) (λ q k. let d = HasContent-still q k in (d.0, j.content q ∙ d.1)) ps o.ring.held;
+        held = AllByRecursion-map (HasContent cs) (HasContent es)
+            (λ q k. let d = HasContent-still q k in (d.0, j.content q ∙ d.1)) ps o.ring.held;
         apart = IsApart-left ps ss (IsApart-tail null_ptr (ps ++ ss) o.ring.apart);
       }
 
       triples-same : (rs : List Ptr) → triples (listed ds rs) ≡ triples (listed cs rs)
       unfolding listed
       triples-same [] = refl
-      triples-same (r ∷ rs) = triples-one_of (content_at ds r) (listed ds rs) ∙ (λ i. one_triple (same.triple r i) ++ triples-same rs i) ∙ sym (triples-one_of (content_at cs r) (listed cs rs))
+      triples-same (r ∷ rs) = triples-one_of (content_at ds r) (listed ds rs)
+          ∙ (λ i. one_triple (same.triple r i) ++ triples-same rs i)
+          ∙ sym (triples-one_of (content_at cs r) (listed cs rs))
 
       pub span_triples-spliced : span_triples es n (next_at cs null_ptr) ≡ triples (ring_list cs n)
       unfolding IsSpan-spliced

@@ -17,10 +17,13 @@ module _ {B : Type 0} where
   unfolding IsStacked
   IsStacked-none cs s = (refl, refl)
 
-  pub IsStacked-push : (cs : List (Cell Links B)) (s : Link) (n : ℕ) (ds : List (Cell Links B)) (l : Links) (p : NodePointer) (es : List (Cell Links B)) (top : Link)
+  pub IsStacked-push : (cs : List (Cell Links B)) (s : Link) (n : ℕ) (ds : List (Cell Links B))
+      (l : Links) (p : NodePointer) (es : List (Cell Links B)) (top : Link)
       → IsStacked cs s n ds l.link → es ≡ cell p.ptr l None ∷ ds → target top ≡ Some p.ptr → IsStacked cs s (n + 1) es top
   unfolding IsStacked
-  IsStacked-push cs s n ds l p es top k e et = let count : suc n ≡ n + 1 = omega arith in subst (λ m. IsStacked cs s m es top) count (record { pointer = p.ptr; below = ds; links = l; top_is = et; nodes_are = e; stacked = k })
+  IsStacked-push cs s n ds l p es top k e et = let count : suc n ≡ n + 1 = omega arith in
+      subst (λ m. IsStacked cs s m es top) count
+      (record { pointer = p.ptr; below = ds; links = l; top_is = et; nodes_are = e; stacked = k })
 
 -- the nodes ds are a ring with n spare ones more than cs, which holds the same at ps
 pub record RingStacked {B : Type 0} (e : Ends) (cs ds : List (Cell Links B)) (ps ss : List Ptr) (spare : Option Ptr) (n : ℕ) : Type 0 where
@@ -30,7 +33,9 @@ pub record RingStacked {B : Type 0} (e : Ends) (cs ds : List (Cell Links B)) (ps
   pub same_list : listed (ring_cells e ds) ps ≡ listed (ring_cells e cs) ps
 
 -- more of the spare nodes are counted
-pub IsOwned-raised : {B : Type 0} {cs : List (Cell Links B)} {spare : Link} {n m : ℕ} → IsOwned cs spare n m → (k : ℕ) → suc (n + k) ≤ length cs → n + k ≤ 2 ^ 59 → IsOwned cs spare n k
+pub IsOwned-raised : {B : Type 0} {cs : List (Cell Links B)} {spare : Link} {n m : ℕ}
+    → IsOwned cs spare n m → (k : ℕ) → suc (n + k) ≤ length cs → n + k ≤ 2 ^ 59
+    → IsOwned cs spare n k
 IsOwned-raised ok k enough small =
     let a = ok.ring.count in let b = ok.held_count in
     record {
@@ -44,7 +49,9 @@ IsOwned-raised ok k enough small =
 
 module _ {B : Type 0} (e : Ends) where
   -- a ring with spare nodes more
-  RingStacked-ring : (n : ℕ) (cs : List (Cell Links B)) (s : Link) (ds : List (Cell Links B)) (f : Link) (ps ss : List Ptr) → IsStacked cs s n ds f → IsApart (pointers ds) → AreBlocks (pointers ds) → IsRing (ring_cells e cs) ps (target s) ss
+  RingStacked-ring : (n : ℕ) (cs : List (Cell Links B)) (s : Link) (ds : List (Cell Links B))
+      (f : Link) (ps ss : List Ptr) → IsStacked cs s n ds f → IsApart (pointers ds)
+      → AreBlocks (pointers ds) → IsRing (ring_cells e cs) ps (target s) ss
       → RingStacked e cs ds ps ss (target f) n
   unfolding IsStacked
   RingStacked-ring zero cs s ds f ps ss k d b r = record {
@@ -58,17 +65,23 @@ module _ {B : Type 0} (e : Ends) where
       let d' : IsApart (pointers (cell p l None ∷ es)) = subst (λ zs. IsApart (pointers zs)) k.nodes_are d in
       let b' : AreBlocks (pointers (cell p l None ∷ es)) = subst (λ zs. AreBlocks (pointers zs)) k.nodes_are b in
       let on = RingStacked-ring n cs s es l.link ps ss k.stacked (IsApart-tail p (pointers es) d') b'.1 r in
-      let ring : IsRing (ring_cells e (cell p l None ∷ es)) ps (Some p) (p ∷ on.spare_pointers) = IsRing-added e es p l b'.0 d' ps (target l.link) on.spare_pointers on.ring refl in
+      let ring : IsRing (ring_cells e (cell p l None ∷ es)) ps (Some p) (p ∷ on.spare_pointers) =
+      IsRing-added e es p l b'.0 d' ps (target l.link) on.spare_pointers on.ring refl in
       let long = on.count in
       record {
         spare_pointers = p ∷ on.spare_pointers;
-        ring = subst (λ (z : List (Cell Links B) × Option Ptr). IsRing (ring_cells e z.0) ps z.1 (p ∷ on.spare_pointers)) (λ i. (sym k.nodes_are i, sym k.top_is i)) ring;
+        ring = subst (λ (z : List (Cell Links B) × Option Ptr). IsRing (ring_cells e z.0) ps z.1
+            (p ∷ on.spare_pointers)) (λ i. (sym k.nodes_are i, sym k.top_is i)) ring;
         count = omega arith;
-        same_list = ap (λ zs. listed (ring_cells e zs) ps) k.nodes_are ∙ listed-added e es p l b'.0 d' ps (target l.link) on.spare_pointers on.ring refl ∙ on.same_list;
+        same_list = ap (λ zs. listed (ring_cells e zs) ps) k.nodes_are
+            ∙ listed-added e es p l b'.0 d' ps (target l.link) on.spare_pointers on.ring refl
+            ∙ on.same_list;
       }
 
   -- more nodes are stacked on the spare ones
-  module _ (cs ds : List (Cell Links B)) {spare : Link} (f : Link) {n m : ℕ} (k : ℕ) (ok : IsOwned (ring_cells e cs) spare n m) (s : IsStacked cs spare k ds f) (d : IsApart (pointers ds)) (b : AreBlocks (pointers ds)) where
+  module _ (cs ds : List (Cell Links B)) {spare : Link} (f : Link) {n m : ℕ} (k : ℕ)
+      (ok : IsOwned (ring_cells e cs) spare n m) (s : IsStacked cs spare k ds f)
+      (d : IsApart (pointers ds)) (b : AreBlocks (pointers ds)) where
     RingStacked-held : RingStacked e cs ds ok.held_pointers ok.spare_pointers (target f) k
     RingStacked-held = RingStacked-ring k cs spare ds f ok.held_pointers ok.spare_pointers s d b ok.ring
 

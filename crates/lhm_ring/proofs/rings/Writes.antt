@@ -6,7 +6,9 @@ use Rattle.lhm_ring.specs.declared.ring.Links.{Links}
 use Rattle.lhm_ring.proofs.lists.Apart.{same_ptr-equal}
 use Rattle.lhm_ring.proofs.lists.Options.{none_some, Some-injective}
 use Rattle.lhm_ring.specs.Nodes.{Cell, cell, same_ptr, cell_at, links_of, body_of, links_at, body_at, IsAt, change, with_links}
-use Rattle.lhm_ring.specs.Links.{leading_on, leading_back, LeadsOn, LeadsBack, next_of, prev_of, link_of, has_links, is_there, content_of, content_at, IsJoined, IsThere}
+use Rattle.lhm_ring.specs.Links.{leading_on, leading_back, LeadsOn, LeadsBack, next_of, prev_of}
+use Rattle.lhm_ring.specs.Links.{link_of, has_links, is_there, content_of, content_at, IsJoined}
+use Rattle.lhm_ring.specs.Links.{IsThere}
 
 pub cond-ap : {X Y : Type 0} (f : X → Y) (y : Bool) (u v : X) → f (cond y u v) ≡ cond y (f u) (f v)
 cond-ap f true u v = refl
@@ -20,7 +22,8 @@ cond-same false u v h = refl
 abbrev pub ShowsSame : Links → Links → Type 0
 ShowsSame l la = (l.hash ≡ la.hash) × (link_of (Some l) ≡ link_of (Some la))
 
-pub content_of-shown_same : {B : Type 0} (q : Ptr) (l la : Links) → ShowsSame l la → (b : Option B) → content_of q (Some l) b ≡ content_of q (Some la) b
+pub content_of-shown_same : {B : Type 0} (q : Ptr) (l la : Links) → ShowsSame l la → (b : Option B)
+    → content_of q (Some l) b ≡ content_of q (Some la) b
 content_of-shown_same q l la h None = refl
 content_of-shown_same q l la h (Some x) = λ i. Some (record { at = q; hash = h.0 i; link = h.1 i; pair = x })
 
@@ -29,8 +32,11 @@ module _ {L B : Type 0} (p : Ptr) (f : Cell L B → Cell L B) (same : (c : Cell 
   unfolding cell_at change
   cell_at-change [] c e = absurd (none_some c e)
   cell_at-change (d ∷ cs) c e =
-      (elim (same_ptr d.at p) as (λ y. same_ptr d.at p ≡ y → cond y (Some d) (cell_at cs p) ≡ Some c → cell_at (cond y (f d ∷ cs) (d ∷ change p f cs)) p ≡ Some (f c)) [
-        | true ↦ λ t h. ap (λ y. cond y (Some (f d)) (cell_at cs p)) (ap (λ q. same_ptr q p) (same d) ∙ t) ∙ ap (λ (z : Cell L B). Some (f z)) (Some-injective d c h)
+      (elim (same_ptr d.at p) as (λ y. same_ptr d.at p ≡ y → cond y (Some d) (cell_at cs p) ≡ Some c
+      → cell_at (cond y (f d ∷ cs) (d ∷ change p f cs)) p ≡ Some (f c)) [
+        | true ↦ λ t h. ap (λ y. cond y (Some (f d)) (cell_at cs p))
+            (ap (λ q. same_ptr q p) (same d) ∙ t) ∙ ap (λ (z : Cell L B). Some (f z))
+            (Some-injective d c h)
         | false ↦ λ t h. ap (λ y. cond y (Some d) (cell_at (change p f cs) p)) t ∙ cell_at-change cs c h
       ]) refl e
 
@@ -38,9 +44,12 @@ module _ {L B : Type 0} (p : Ptr) (f : Cell L B → Cell L B) (same : (c : Cell 
   unfolding cell_at change
   cell_at-change_other q n [] = refl
   cell_at-change_other q n (d ∷ cs) =
-      (elim (same_ptr d.at p) as (λ y. same_ptr d.at p ≡ y → cell_at (cond y (f d ∷ cs) (d ∷ change p f cs)) q ≡ cond (same_ptr d.at q) (Some d) (cell_at cs q)) [
+      (elim (same_ptr d.at p) as (λ y. same_ptr d.at p ≡ y
+      → cell_at (cond y (f d ∷ cs) (d ∷ change p f cs)) q ≡ cond (same_ptr d.at q) (Some d)
+      (cell_at cs q)) [
         | true ↦ λ t. let far : same_ptr d.at q ≡ false = ap (λ r. same_ptr r q) (same_ptr-equal d.at p t) ∙ n in
-            ap (λ y. cond y (Some (f d)) (cell_at cs q)) (ap (λ r. same_ptr r q) (same d) ∙ far) ∙ sym (ap (λ y. cond y (Some d) (cell_at cs q)) far)
+            ap (λ y. cond y (Some (f d)) (cell_at cs q)) (ap (λ r. same_ptr r q) (same d) ∙ far)
+            ∙ sym (ap (λ y. cond y (Some d) (cell_at cs q)) far)
         | false ↦ λ t. ap (λ o. cond (same_ptr d.at q) (Some d) o) (cell_at-change_other q n cs)
       ]) refl
 
@@ -85,7 +94,8 @@ module _ {B : Type 0} (p : Ptr) (l : Links) (cs : List (Cell Links B)) {la : Lin
     pub reader-with_links_same : f (Some l) ≡ f (Some la) → (q : Ptr) → f (links_at (with_links p l cs) q) ≡ f (links_at cs q)
     reader-with_links_same h q =
         reader-with_links q
-        ∙ cond-same (same_ptr p q) (f (Some l)) (f (links_at cs q)) (λ t. h ∙ sym (ap f e) ∙ ap (λ r. f (links_at cs r)) (same_ptr-equal p q t))
+        ∙ cond-same (same_ptr p q) (f (Some l)) (f (links_at cs q)) (λ t. h ∙ sym (ap f e)
+        ∙ ap (λ r. f (links_at cs r)) (same_ptr-equal p q t))
 
   pub content_at-with_links : ShowsSame l la → (q : Ptr) → content_at (with_links p l cs) q ≡ content_at cs q
   content_at-with_links h q =
@@ -101,11 +111,14 @@ module _ {B : Type 0} where
   IsAt-there cs p e = there_is (links_at cs p) e
 
   -- a node, if another one leads on to a third
-  pub is_there-leading_on : (cs : List (Cell Links B)) {ds : List (Cell Links B)} (p : Ptr) (o : Link) → IsThere cs p → LeadsOn cs p o ds → (q : Ptr) → IsThere cs q → IsThere ds q
+  pub is_there-leading_on : (cs : List (Cell Links B)) {ds : List (Cell Links B)} (p : Ptr)
+      (o : Link) → IsThere cs p → LeadsOn cs p o ds → (q : Ptr) → IsThere cs q → IsThere ds q
   is_there-leading_on cs {ds} p o h k q t =
-      let a = IsAt-there cs p h in ap (λ es. is_there es q) (k a.0 a.1) ∙ reader-with_links_same p (leading_on o a.0) cs a.1 has_links refl q ∙ t
+      let a = IsAt-there cs p h in ap (λ es. is_there es q) (k a.0 a.1) ∙ reader-with_links_same p
+      (leading_on o a.0) cs a.1 has_links refl q ∙ t
 
-  pub IsJoined-writes : {cs es ds : List (Cell Links B)} (a b : Link) → IsThere cs a.ptr → IsThere cs b.ptr → LeadsOn cs a.ptr b es → LeadsBack es b.ptr a ds
+  pub IsJoined-writes : {cs es ds : List (Cell Links B)} (a b : Link) → IsThere cs a.ptr
+      → IsThere cs b.ptr → LeadsOn cs a.ptr b es → LeadsBack es b.ptr a ds
       → IsJoined cs ds a.ptr b.ptr
   IsJoined-writes {cs} {es} {ds} a b ha hb on back =
       let la = IsAt-there cs a.ptr ha in let lb = IsAt-there es b.ptr (is_there-leading_on cs a.ptr b ha on b.ptr hb) in
@@ -115,7 +128,9 @@ module _ {B : Type 0} where
       let ef : links_at fs b.ptr ≡ Some lb.0 = sym (ap (λ zs. links_at zs b.ptr) e₁) ∙ lb.1 in
       let made : IsJoined cs (with_links b.ptr m fs) a.ptr b.ptr = record {
         next = λ q. reader-with_links_same b.ptr m fs ef next_of refl q ∙ reader-with_links a.ptr l cs la.1 next_of q;
-        prev = λ q. reader-with_links b.ptr m fs ef prev_of q ∙ ap (λ r. cond (same_ptr b.ptr q) a.ptr r) (reader-with_links_same a.ptr l cs la.1 prev_of refl q);
+        prev = λ q. reader-with_links b.ptr m fs ef prev_of q
+            ∙ ap (λ r. cond (same_ptr b.ptr q) a.ptr r)
+            (reader-with_links_same a.ptr l cs la.1 prev_of refl q);
         link = λ q. reader-with_links_same b.ptr m fs ef link_of refl q ∙ reader-with_links_same a.ptr l cs la.1 link_of refl q;
         content = λ q. content_at-with_links b.ptr m fs ef (refl, refl) q ∙ content_at-with_links a.ptr l cs la.1 (refl, refl) q;
         there = λ q. reader-with_links_same b.ptr m fs ef has_links refl q ∙ reader-with_links_same a.ptr l cs la.1 has_links refl q;

@@ -24,7 +24,8 @@ module _ {K V : Type 0} (i : BucketState) (s : State (K × V)) where
   pub IsIndexed-new : i.heads ≡ [] → i.words ≡ [] → s.held ≡ [] → s.spares ≡ 0 → IsIndexed i s
   IsIndexed-new h w e z =
       let none : length i.heads ≡ 0 = ap length h in
-      IsIndexed-none (λ b l. absurd (omega (arith, none, l))) (ap length w ∙ sym (ap length h)) e (ap length h ∙ sym (ap buckets z ∙ buckets-zero))
+      IsIndexed-none (λ b l. absurd (omega (arith, none, l))) (ap length w ∙ sym (ap length h)) e
+      (ap length h ∙ sym (ap buckets z ∙ buckets-zero))
 
 module _ {K V : Type 0} (i : BucketState) (s t : State (K × V)) (h : IsIndexed i s) (spares : t.spares ≡ s.spares) where
   -- what the index reads is as before
@@ -53,7 +54,8 @@ module _ {K V : Type 0} (i : BucketState) (s t : State (K × V)) (h : IsIndexed 
       }
 
 -- a value was written
-pub IsIndexed-value : {K V : Type 0} (i : BucketState) (s : State (K × V)) (p : Ptr) (w : V) → IsIndexed i s → IsIndexed i (with_value s p w)
+pub IsIndexed-value : {K V : Type 0} (i : BucketState) (s : State (K × V)) (p : Ptr) (w : V)
+    → IsIndexed i s → IsIndexed i (with_value s p w)
 IsIndexed-value i s p w h = IsIndexed-same_spots i s (with_value s p w) h refl (spots-value p w s.held)
 
 -- if a node is held, there is a bucket

@@ -1,5 +1,7 @@
 -- How many nodes lie behind one.
-use Rattle.std.proofs.Common.{◌≡◌, ℕ, ◌+◌, ◌<◌, List, [], ◌∷◌, ◌++◌, length, Option, Some, None, refl, sym, ap, ◌∙◌, subst, arith, true≢false, length-append, append_assoc}
+use Rattle.std.proofs.Common.{◌≡◌, ℕ, ◌+◌, ◌<◌, List, [], ◌∷◌, ◌++◌, length, Option, Some, None}
+use Rattle.std.proofs.Common.{refl, sym, ap, ◌∙◌, subst, arith, true≢false, length-append}
+use Rattle.std.proofs.Common.{append_assoc}
 use Rattle.std.specs.Prelude.{IfSome}
 use denote.RawPtr.{Ptr}
 use Rattle.lhm_ring.specs.declared.pointer.Position.{Position}
@@ -11,21 +13,29 @@ use Rattle.lhm_ring.specs.Pointer.{pointer_of, pointer_of_some}
 use Rattle.lhm_ring.specs.Ring.{Held, IsHeld, AtHeld, first_at, last_at}
 
 module _ {B : Type 0} where
-  not_again : (t : Held B) (hs us : List (Held B)) (v : Held B) (ws : List (Held B)) → IsApart (pointers_of (t ∷ hs)) → hs ≡ us ++ v ∷ ws → v.at ≡ t.at → ⊥
+  not_again : (t : Held B) (hs us : List (Held B)) (v : Held B) (ws : List (Held B))
+      → IsApart (pointers_of (t ∷ hs)) → hs ≡ us ++ v ∷ ws → v.at ≡ t.at → ⊥
   not_again t hs us v ws d e at =
-      let fresh : IsFresh t.at (pointers_of (us ++ v ∷ ws)) = subst (λ ks. IsFresh t.at (pointers_of ks)) e (IsFresh-head t.at (pointers_of hs) d) in
+      let fresh : IsFresh t.at (pointers_of (us ++ v ∷ ws)) =
+      subst (λ ks. IsFresh t.at (pointers_of ks)) e (IsFresh-head t.at (pointers_of hs) d) in
       true≢false (sym (same_ptr-reflexive t.at) ∙ ap (same_ptr t.at) (sym at) ∙ same_ptr-fresh t.at us v ws fresh)
 
-  length-alike : (hs xs : List (Held B)) (t : Held B) (ys us : List (Held B)) (v : Held B) (ws : List (Held B)) → IsApart (pointers_of hs) → hs ≡ xs ++ t ∷ ys → hs ≡ us ++ v ∷ ws → t.at ≡ v.at → length ys ≡ length ws
+  length-alike : (hs xs : List (Held B)) (t : Held B) (ys us : List (Held B)) (v : Held B)
+      (ws : List (Held B)) → IsApart (pointers_of hs) → hs ≡ xs ++ t ∷ ys → hs ≡ us ++ v ∷ ws
+      → t.at ≡ v.at → length ys ≡ length ws
   length-alike [] [] t ys us v ws d e f at = absurd (cc)
   length-alike [] (x ∷ xs) t ys us v ws d e f at = absurd (cc)
   length-alike (h ∷ hs) [] t ys [] v ws d e f at = let same : ys ≡ ws = cc in ap length same
-  length-alike (h ∷ hs) [] t ys (u ∷ us) v ws d e f at = let rest : hs ≡ us ++ v ∷ ws = cc in let here : v.at ≡ h.at = cc in absurd (not_again h hs us v ws d rest here)
-  length-alike (h ∷ hs) (x ∷ xs) t ys [] v ws d e f at = let rest : hs ≡ xs ++ t ∷ ys = cc in let here : t.at ≡ h.at = cc in absurd (not_again h hs xs t ys d rest here)
-  length-alike (h ∷ hs) (x ∷ xs) t ys (u ∷ us) v ws d e f at = length-alike hs xs t ys us v ws (IsApart-tail h.at (pointers_of hs) d) (cc) (cc) at
+  length-alike (h ∷ hs) [] t ys (u ∷ us) v ws d e f at = let rest : hs ≡ us ++ v ∷ ws = cc in
+      let here : v.at ≡ h.at = cc in absurd (not_again h hs us v ws d rest here)
+  length-alike (h ∷ hs) (x ∷ xs) t ys [] v ws d e f at = let rest : hs ≡ xs ++ t ∷ ys = cc in
+      let here : t.at ≡ h.at = cc in absurd (not_again h hs xs t ys d rest here)
+  length-alike (h ∷ hs) (x ∷ xs) t ys (u ∷ us) v ws d e f at = length-alike hs xs t ys us v ws
+      (IsApart-tail h.at (pointers_of hs) d) (cc) (cc) at
 
   -- no two nodes lie at one pointer, so there is one place for it
-  pub AtHeld-behind : {hs : List (Held B)} {p : Ptr} → IsApart (pointers_of hs) → (h : IsHeld hs p) → AtHeld hs p (λ xs t ys. length h.after ≡ length ys)
+  pub AtHeld-behind : {hs : List (Held B)} {p : Ptr} → IsApart (pointers_of hs) → (h : IsHeld hs p)
+      → AtHeld hs p (λ xs t ys. length h.after ≡ length ys)
   AtHeld-behind {hs} d h xs t ys e at = length-alike hs h.before h.node h.after xs t ys d h.is e (h.at_is ∙ sym at)
 
 -- a loop to the back began at one node, has come to another, and has passed so many
@@ -41,7 +51,8 @@ module _ {B : Type 0} {hs : List (Held B)} {start here : Ptr} {passed : ℕ} whe
       let all = ap length m.began.is in
       omega (arith, m.count, long, all)
 
-  pub HasPassed-step : (m : HasPassed hs start here passed) (next : Ptr) → Some next ≡ first_at m.came.after → HasPassed hs start next (passed + 1)
+  pub HasPassed-step : (m : HasPassed hs start here passed) (next : Ptr)
+      → Some next ≡ first_at m.came.after → HasPassed hs start next (passed + 1)
   HasPassed-step m next is =
       let at = m.came in
       let first = First-first_at at.after is refl in
@@ -52,13 +63,15 @@ module _ {B : Type 0} {hs : List (Held B)} {start here : Ptr} {passed : ℕ} whe
           before = at.before ++ at.node ∷ [];
           node = first.node;
           after = first.after;
-          is = at.is ∙ ap (λ ys. at.before ++ at.node ∷ ys) first.is ∙ sym (append_assoc at.before (at.node ∷ []) (first.node ∷ first.after));
+          is = at.is ∙ ap (λ ys. at.before ++ at.node ∷ ys) first.is
+              ∙ sym (append_assoc at.before (at.node ∷ []) (first.node ∷ first.after));
           at_is = first.at_is;
         };
         count = omega (arith, one, m.count);
       }
 
-  pub AtHeld-end : IsApart (pointers_of hs) → (m : HasPassed hs start here passed) → None ≡ first_at m.came.after → AtHeld hs start (λ xs t ys. passed ≡ length ys)
+  pub AtHeld-end : IsApart (pointers_of hs) → (m : HasPassed hs start here passed)
+      → None ≡ first_at m.came.after → AtHeld hs start (λ xs t ys. passed ≡ length ys)
   AtHeld-end d m none xs t ys e at =
       let ended = ap length (none-first_at m.came.after none) in
       let all = AtHeld-behind d m.began xs t ys e at in
@@ -90,7 +103,14 @@ module _ {B : Type 0} {hs : List (Held B)} {o : Option Ptr} where
       pub HasBehind-step : {r : Option Ptr} → AtHeld hs p (λ xs t ys. r ≡ last_at xs) → HasBehind hs r (passed + 1)
       HasBehind-step previous =
           let at = next_held in
-          record { front = at.before; back = at.node ∷ at.after; is = at.is; count = omega (arith, m.count); next_is = previous at.before at.node at.after at.is at.at_is }
+          record {
+            front = at.before;
+            back = at.node ∷ at.after;
+            is = at.is;
+            count =
+                omega (arith, m.count);
+            next_is = previous at.before at.node at.after at.is at.at_is;
+          }
 
       pub AtHeld-passed : IsApart (pointers_of hs) → AtHeld hs p (λ xs t ys. length ys ≡ passed)
       AtHeld-passed d xs t ys e at = sym (AtHeld-behind d next_held xs t ys e at) ∙ m.count
@@ -100,6 +120,8 @@ module _ {K V : Type 0} {hs : List (Held (K × V))} {passed : ℕ} where
   IsHeld-next None m = tt
   IsHeld-next (Some at) m = next_held m refl
 
-  pub AtHeld-next : IsApart (pointers_of hs) → (o : Option (Position K V)) → HasBehind hs (pointer_of_some o) passed → IfSome o (λ at. AtHeld hs (pointer_of at) (λ xs t ys. length ys ≡ passed))
+  pub AtHeld-next : IsApart (pointers_of hs) → (o : Option (Position K V))
+      → HasBehind hs (pointer_of_some o) passed
+      → IfSome o (λ at. AtHeld hs (pointer_of at) (λ xs t ys. length ys ≡ passed))
   AtHeld-next d None m = tt
   AtHeld-next d (Some at) m = AtHeld-passed m refl d

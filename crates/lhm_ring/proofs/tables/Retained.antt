@@ -1,5 +1,7 @@
 -- A table as a closure goes over its pairs and keeps some.
-use Rattle.std.proofs.Common.{◌≡◌, ℕ, ◌<◌, Bool, true, false, cond, List, [], ◌∷◌, ◌++◌, map, length, Option, Some, None, refl, sym, ap, ◌∙◌, subst, append_assoc, arith}
+use Rattle.std.proofs.Common.{◌≡◌, ℕ, ◌<◌, Bool, true, false, cond, List, [], ◌∷◌, ◌++◌, map}
+use Rattle.std.proofs.Common.{length, Option, Some, None, refl, sym, ap, ◌∙◌, subst, append_assoc}
+use Rattle.std.proofs.Common.{arith}
 use Rattle.std.specs.Map.Calls.{CallableOnEachPair, SomeCallAtPair}
 use denote.RawPtr.{Ptr}
 use Rattle.lhm_ring.proofs.lists.Apart.{same_ptr-reflexive, IsFresh-head, IsApart-tail}
@@ -12,13 +14,18 @@ use Rattle.lhm_ring.specs.Table.{TableState, table_of, WritesOnly, TakesAt, Call
 
 -- what a node holds is written twice
 module _ {L B : Type 0} where
-  change-twice : (p : Ptr) (f g : Cell L B → Cell L B) → ((c : Cell L B) → (f c).at ≡ c.at) → ((c : Cell L B) → g (f c) ≡ g c) → (cs : List (Cell L B)) → change p g (change p f cs) ≡ change p g cs
+  change-twice : (p : Ptr) (f g : Cell L B → Cell L B) → ((c : Cell L B) → (f c).at ≡ c.at)
+      → ((c : Cell L B) → g (f c) ≡ g c) → (cs : List (Cell L B)) → change p g (change p f cs)
+      ≡ change p g cs
   unfolding change
   change-twice p f g same over [] = refl
   change-twice p f g same over (c ∷ cs) =
-      (elim (same_ptr c.at p) as (λ y. same_ptr c.at p ≡ y → change p g (cond y (f c ∷ cs) (c ∷ change p f cs)) ≡ cond y (g c ∷ cs) (c ∷ change p g cs)) [
-        | true ↦ λ t. ap (λ y. cond y (g (f c) ∷ cs) (f c ∷ change p g cs)) (ap (λ q. same_ptr q p) (same c) ∙ t) ∙ ap (λ d. d ∷ cs) (over c)
-        | false ↦ λ t. ap (λ y. cond y (g c ∷ change p f cs) (c ∷ change p g (change p f cs))) t ∙ ap (λ l. c ∷ l) (change-twice p f g same over cs)
+      (elim (same_ptr c.at p) as (λ y. same_ptr c.at p ≡ y
+      → change p g (cond y (f c ∷ cs) (c ∷ change p f cs)) ≡ cond y (g c ∷ cs) (c ∷ change p g cs)) [
+        | true ↦ λ t. ap (λ y. cond y (g (f c) ∷ cs) (f c ∷ change p g cs))
+            (ap (λ q. same_ptr q p) (same c) ∙ t) ∙ ap (λ d. d ∷ cs) (over c)
+        | false ↦ λ t. ap (λ y. cond y (g c ∷ change p f cs) (c ∷ change p g (change p f cs))) t
+            ∙ ap (λ l. c ∷ l) (change-twice p f g same over cs)
       ]) refl
 
   pub with_body-twice : (p : Ptr) (x : B) (cs : List (Cell L B)) → with_body p (Some x) (with_body p None cs) ≡ with_body p (Some x) cs
@@ -30,23 +37,35 @@ module _ {B : Type 0} where
   left_from-append xs [] d = refl
   left_from-append [] (y ∷ ys) d = ap (λ b. cond b (length (y ∷ ys)) (left_from (Some y.at) ys)) (same_ptr-reflexive y.at)
   left_from-append (x ∷ xs) (y ∷ ys) d =
-      ap (λ b. cond b (length (x ∷ (xs ++ y ∷ ys))) (left_from (Some y.at) (xs ++ y ∷ ys))) (same_ptr-fresh x.at xs y ys (IsFresh-head x.at (pointers_of (xs ++ y ∷ ys)) d))
+      ap (λ b. cond b (length (x ∷ (xs ++ y ∷ ys))) (left_from (Some y.at) (xs ++ y ∷ ys)))
+      (same_ptr-fresh x.at xs y ys (IsFresh-head x.at (pointers_of (xs ++ y ∷ ys)) d))
       ∙ left_from-append xs (y ∷ ys) (IsApart-tail x.at (pointers_of (xs ++ y ∷ ys)) d)
 
 -- a table that is seen as m: if the closure may be called at one of its pairs, it may at that of
 -- the ring
-pub TakesAt-table_of : {F K V : Type 0} (Q : F → K → V → Type 0) (f : F) {p : Ptr} (s : State (K × V)) (r : ℕ) {m : TableState (K × V)} → table_of s r ≡ m → TakesAt Q f m.held p → TakesAt Q f s.held p
+pub TakesAt-table_of : {F K V : Type 0} (Q : F → K → V → Type 0) (f : F) {p : Ptr}
+    (s : State (K × V)) (r : ℕ) {m : TableState (K × V)} → table_of s r ≡ m → TakesAt Q f m.held p
+    → TakesAt Q f s.held p
 TakesAt-table_of {F} {K} {V} Q f {p} s r seen h =
     let at = h.held in
     let i = (EntriesCut-split s.held at.before at.node at.after (ap (λ (z : TableState (K × V)). z.held) seen ∙ at.is)).split in
     record {
-      held = record { before = i.before; node = i.node; after = i.after; is = i.is; at_is = ap (λ (t : Held (K × V)). t.at) i.at_is ∙ at.at_is };
+      held = record {
+        before = i.before;
+        node = i.node;
+        after = i.after;
+        is = i.is;
+        at_is =
+            ap (λ (t : Held (K × V)). t.at) i.at_is ∙ at.at_is;
+      };
       takes = subst (λ (t : Held (K × V)). Q f t.pair.0 t.pair.1) (sym i.at_is) h.takes;
     }
 
 -- one call, after which the pair stays with its value or is removed
-module _ {F K V : Type 0} (T : F → K → V → Bool → V → F → Type 0) {f f' : F} {old now : List (Held (K × V))} {p : Ptr} {b : Bool} {w : V} where
-  pub RetainsAt-kept : CallsAt T f old p b w f' → WritesOnly old p → now ≡ change_at p (revalued w) old → b ≡ true → RetainsAt T f old p now f'
+module _ {F K V : Type 0} (T : F → K → V → Bool → V → F → Type 0) {f f' : F}
+    {old now : List (Held (K × V))} {p : Ptr} {b : Bool} {w : V} where
+  pub RetainsAt-kept : CallsAt T f old p b w f' → WritesOnly old p
+      → now ≡ change_at p (revalued w) old → b ≡ true → RetainsAt T f old p now f'
   RetainsAt-kept called alone written kept = record {
     returned = b;
     value = w;
@@ -54,27 +73,46 @@ module _ {F K V : Type 0} (T : F → K → V → Bool → V → F → Type 0) {f
     new_is = λ xs t ys e at. written ∙ alone xs t ys e at w ∙ ap (λ c. xs ++ cond c (revalued w t ∷ ys) ys) (sym kept);
   }
 
-  pub RetainsAt-removed : {new : List (Held (K × V))} → CallsAt T f old p b w f' → WritesOnly old p → now ≡ change_at p (revalued w) old → b ≡ false → AtHeld now p (λ xs t ys. new ≡ xs ++ ys) → RetainsAt T f old p new f'
+  pub RetainsAt-removed : {new : List (Held (K × V))} → CallsAt T f old p b w f' → WritesOnly old p
+      → now ≡ change_at p (revalued w) old → b ≡ false → AtHeld now p (λ xs t ys. new ≡ xs ++ ys)
+      → RetainsAt T f old p new f'
   RetainsAt-removed called alone written removed others = record {
     returned = b;
     value = w;
     called = called;
-    new_is = λ xs t ys e at. others xs (revalued w t) ys (written ∙ alone xs t ys e at w) at ∙ ap (λ c. xs ++ cond c (revalued w t ∷ ys) ys) (sym removed);
+    new_is = λ xs t ys e at. others xs (revalued w t) ys (written ∙ alone xs t ys e at w) at
+        ∙ ap (λ c. xs ++ cond c (revalued w t ∷ ys) ys) (sym removed);
   }
 
-pub IsHeld-written : {K V : Type 0} {old now : List (Held (K × V))} {p : Ptr} (w : V) → WritesOnly old p → now ≡ change_at p (revalued w) old → IsHeld old p → IsHeld now p
+pub IsHeld-written : {K V : Type 0} {old now : List (Held (K × V))} {p : Ptr} (w : V)
+    → WritesOnly old p → now ≡ change_at p (revalued w) old → IsHeld old p → IsHeld now p
 IsHeld-written w alone written h =
-    record { before = h.before; node = revalued w h.node; after = h.after; is = written ∙ alone h.before h.node h.after h.is h.at_is w; at_is = h.at_is }
+    record {
+      before = h.before;
+      node = revalued w h.node;
+      after = h.after;
+      is = written
+          ∙ alone h.before h.node h.after h.is h.at_is w;
+      at_is = h.at_is;
+    }
 
 -- the closure may be called at the pairs behind the first
 module _ {F K V : Type 0} (T : F → K → V → Bool → V → F → Type 0) (Q : F → K → V → Type 0) where
   callable-first : {f : F} {pair : K × V} {pairs : List (K × V)} → CallableOnEachPair T Q f (pair ∷ pairs) → Q f pair.0 pair.1
   callable-first {f} {pair} {pairs} c = c.at [] pairs f pair.0 pair.1 refl refl
 
-  CallableOnEachPair-rest : {f f' : F} {pair : K × V} {pairs : List (K × V)} → CallableOnEachPair T Q f (pair ∷ pairs) → SomeCallAtPair T f pair f' → CallableOnEachPair T Q f' pairs
-  CallableOnEachPair-rest {f} {f'} {pair} {pairs} c called = record { at = λ before after g k v is run. c.at (pair ∷ before) after g k v (ap (λ l. pair ∷ l) is) (f', called, run) }
+  CallableOnEachPair-rest : {f f' : F} {pair : K × V} {pairs : List (K × V)}
+      → CallableOnEachPair T Q f (pair ∷ pairs) → SomeCallAtPair T f pair f'
+      → CallableOnEachPair T Q f' pairs
+  CallableOnEachPair-rest {f} {f'} {pair} {pairs} c called =
+      record {
+        at = λ before after g k v is run. c.at (pair ∷ before) after g k v
+            (ap (λ l. pair ∷ l) is) (f', called, run);
+      }
 
-  pub IsRetaining-start : {f : F} {hs : List (Held (K × V))} {next : Option Ptr} → CallableOnEachPair T Q f (map (λ t. t.pair) hs) → next ≡ first_at hs → IsRetaining T Q f hs f hs next
+  pub IsRetaining-start : {f : F} {hs : List (Held (K × V))} {next : Option Ptr}
+      → CallableOnEachPair T Q f (map (λ t. t.pair) hs) → next ≡ first_at hs
+      → IsRetaining T Q f hs f hs next
   IsRetaining-start {f} {hs} c is = record { kept = []; rest = hs; now_is = refl; next_is = is; callable = c; ends = λ last r. r }
 
   module _ {start f : F} {old now : List (Held (K × V))} {next : Option Ptr} (m : IsRetaining T Q start old f now next) where
@@ -83,7 +121,8 @@ module _ {F K V : Type 0} (T : F → K → V → Bool → V → F → Type 0) (Q
     RetainsHeld-end none = by m.rest refl
       where
         by : (rest : List (Held (K × V))) → m.rest ≡ rest → RetainsHeld T start old now
-        by [] is = subst (RetainsHeld T start old) (sym (m.now_is ∙ ap (λ l. m.kept ++ l) is)) (m.ends [] (subst (λ l. RetainsHeld T f l []) (sym is) refl))
+        by [] is = subst (RetainsHeld T start old) (sym (m.now_is ∙ ap (λ l. m.kept ++ l) is))
+            (m.ends [] (subst (λ l. RetainsHeld T f l []) (sym is) refl))
         by (t ∷ ys) is = absurd (let no : Some t.at ≡ None = sym (m.next_is ∙ ap first_at is) ∙ none in cc)
 
     -- the pair at p is the next
@@ -103,7 +142,9 @@ module _ {F K V : Type 0} (T : F → K → V → Bool → V → F → Type 0) (Q
       pub TakesAt-next : TakesAt Q f now p
       TakesAt-next = record { held = next_held; takes = callable-first CallableOnEachPair-now }
 
-      module _ {f' : F} {new : List (Held (K × V))} {next' : Option Ptr} (made : RetainsAt T f now p new f') (follows : AtHeld now p (λ xs t ys. next' ≡ first_at ys)) where
+      module _ {f' : F} {new : List (Held (K × V))} {next' : Option Ptr}
+          (made : RetainsAt T f now p new f')
+          (follows : AtHeld now p (λ xs t ys. next' ≡ first_at ys)) where
         abbrev kept' : List (Held (K × V))
         kept' = cond made.returned (m.kept ++ revalued made.value n.node ∷ []) m.kept
 
@@ -113,7 +154,8 @@ module _ {F K V : Type 0} (T : F → K → V → Bool → V → F → Type 0) (Q
         new-cut : new ≡ m.kept ++ cond made.returned (revalued made.value n.node ∷ n.after) n.after
         new-cut = made.new_is m.kept n.node n.after now-cut n.at_is
 
-        append-cond : (b : Bool) (u : Held (K × V)) (ys : List (Held (K × V))) → cond b (m.kept ++ u ∷ []) m.kept ++ ys ≡ m.kept ++ cond b (u ∷ ys) ys
+        append-cond : (b : Bool) (u : Held (K × V)) (ys : List (Held (K × V)))
+            → cond b (m.kept ++ u ∷ []) m.kept ++ ys ≡ m.kept ++ cond b (u ∷ ys) ys
         append-cond true u ys = append_assoc m.kept (u ∷ []) ys
         append-cond false u ys = refl
 
@@ -133,17 +175,34 @@ module _ {F K V : Type 0} (T : F → K → V → Bool → V → F → Type 0) (Q
           ends = λ last r.
               subst (RetainsHeld T start old) (sym (append-cond made.returned (revalued made.value n.node) last))
               (m.ends (cond made.returned (revalued made.value n.node ∷ last) last)
-              (subst (λ l. RetainsHeld T f l (cond made.returned (revalued made.value n.node ∷ last) last)) (sym n.is) (record { returned = made.returned; value = made.value; closure = f'; rest = last; called = call; retained = r; kept_is = refl })));
+              (subst (λ l. RetainsHeld T f l (cond made.returned (revalued made.value n.node ∷ last)
+              last)) (sym n.is) (record {
+                returned = made.returned;
+                value = made.value;
+                closure =
+                    f';
+                rest = last;
+                called = call;
+                retained = r;
+                kept_is = refl;
+              })));
         }
 
-        IsApart-new : (b : Bool) (w : V) → IsApart (pointers_of (m.kept ++ n.node ∷ n.after)) → IsApart (pointers_of (m.kept ++ cond b (revalued w n.node ∷ n.after) n.after))
-        IsApart-new true w d = subst IsApart (pointers_of-append m.kept (n.node ∷ n.after) ∙ sym (pointers_of-append m.kept (revalued w n.node ∷ n.after))) d
+        IsApart-new : (b : Bool) (w : V) → IsApart (pointers_of (m.kept ++ n.node ∷ n.after))
+            → IsApart (pointers_of (m.kept ++ cond b (revalued w n.node ∷ n.after) n.after))
+        IsApart-new true w d = subst IsApart (pointers_of-append m.kept (n.node ∷ n.after)
+            ∙ sym (pointers_of-append m.kept (revalued w n.node ∷ n.after))) d
         IsApart-new false w d = IsApart-without_node m.kept n.node n.after d
 
         pub left_from-smaller : IsApart (pointers_of now) → left_from next' new < left_from next now
         left_from-smaller d =
             let cut = subst (λ l. IsApart (pointers_of l)) now-cut d in
-            let before = ap (λ o. left_from o now) (m.next_is ∙ ap first_at n.is) ∙ ap (left_from (Some n.node.at)) now-cut ∙ left_from-append m.kept (n.node ∷ n.after) cut in
-            let apart = subst (λ l. IsApart (pointers_of l)) (sym (append-cond made.returned (revalued made.value n.node) n.after)) (IsApart-new made.returned made.value cut) in
-            let after = ap (λ o. left_from o new) next-new ∙ ap (left_from (first_at n.after)) new-kept ∙ left_from-append kept' n.after apart in
+            let before = ap (λ o. left_from o now) (m.next_is ∙ ap first_at n.is)
+            ∙ ap (left_from (Some n.node.at)) now-cut ∙ left_from-append m.kept (n.node ∷ n.after)
+            cut in
+            let apart = subst (λ l. IsApart (pointers_of l))
+            (sym (append-cond made.returned (revalued made.value n.node) n.after))
+            (IsApart-new made.returned made.value cut) in
+            let after = ap (λ o. left_from o new) next-new ∙ ap (left_from (first_at n.after))
+            new-kept ∙ left_from-append kept' n.after apart in
             omega (arith, before, after)

@@ -12,7 +12,9 @@ module _ {K V : Type 0} where
   entries-set_held_values : (hs : List (Held (K × V))) (vs : List V) → entries (set_held_values hs vs) ≡ set_held_values (entries hs) vs
   entries-set_held_values [] vs = refl
   entries-set_held_values (t ∷ hs) [] = refl
-  entries-set_held_values (t ∷ hs) (v ∷ vs) = ap (λ ys. record { at = t.at; hash = t.hash; link = None; pair = (t.pair.0, v) } ∷ ys) (entries-set_held_values hs vs)
+  entries-set_held_values (t ∷ hs) (v ∷ vs) =
+      ap (λ ys. record { at = t.at; hash = t.hash; link = None; pair = (t.pair.0, v) } ∷ ys)
+      (entries-set_held_values hs vs)
 
   length-set_held_values : (hs : List (Held (K × V))) (vs : List V) → length (set_held_values hs vs) ≡ length hs
   length-set_held_values hs vs = sym (length-map (set_held_values hs vs) spot) ∙ ap length (spots-values hs vs) ∙ length-map hs spot
@@ -26,7 +28,9 @@ module _ {K V : Type 0} where
     nodes_within = table.nodes_within;
   }
 
-  pub table_of-values : (s : State (K × V)) (r : ℕ) {t : TableState (K × V)} → table_of s r ≡ t → (vs : List V) → table_of (record s { held = set_held_values s.held vs }) r ≡ record t { held = set_held_values t.held vs }
+  pub table_of-values : (s : State (K × V)) (r : ℕ) {t : TableState (K × V)} → table_of s r ≡ t
+      → (vs : List V) → table_of (record s { held = set_held_values s.held vs }) r
+      ≡ record t { held = set_held_values t.held vs }
   table_of-values s r e vs =
       (λ j. record { held = entries-set_held_values s.held vs j; capacity = length-set_held_values s.held vs j + s.spares; rechained = r })
       ∙ ap (λ (t : TableState (K × V)). record t { held = set_held_values t.held vs }) e

@@ -1,11 +1,15 @@
 -- A table: what it shows of the nodes of its ring, which stand there without their links.
-use Rattle.std.proofs.Common.{◌≡◌, ℕ, ◌+◌, ◌^◌, ◌<◌, ◌≤◌, ◌≢◌, cond, List, [], ◌∷◌, ◌++◌, length, length-append, map, Option, None, refl, sym, ap, ◌∙◌, subst, inl, inr, arith}
+use Rattle.std.proofs.Common.{◌≡◌, ℕ, ◌+◌, ◌^◌, ◌<◌, ◌≤◌, ◌≢◌, cond, List, [], ◌∷◌, ◌++◌, length}
+use Rattle.std.proofs.Common.{length-append, map, Option, None, refl, sym, ap, ◌∙◌, subst, inl, inr}
+use Rattle.std.proofs.Common.{arith}
 use Rattle.std.specs.Prelude.{Result, Ok, Err, OnOk, OnErr}
 use Rattle.std.proofs.lemmas.Bool.{eq-eqb, ne_eqb}
 use Rattle.std.proofs.lemmas.List.{length-map}
 use denote.RawPtr.{Ptr}
 use Rattle.lhm_ring.proofs.indexes.BucketCounts.{buckets-raised, buckets-below, buckets-at_least, rechained-within}
-use Rattle.lhm_ring.proofs.indexes.Entries.{AtHeld-entries, IsHeld-entries, entries-append, entries-change_at, first_at-entries, length-entries, length-same_entries, pointers-entries, triples-entries}
+use Rattle.lhm_ring.proofs.indexes.Entries.{AtHeld-entries, IsHeld-entries, entries-append}
+use Rattle.lhm_ring.proofs.indexes.Entries.{entries-change_at, first_at-entries, length-entries}
+use Rattle.lhm_ring.proofs.indexes.Entries.{length-same_entries, pointers-entries, triples-entries}
 use Rattle.lhm_ring.proofs.indexes.IndexMoves.{spots-value}
 use Rattle.lhm_ring.proofs.tables.IndexedRing.{IsIndexed-value, IsIndexed-to_back}
 use Rattle.lhm_ring.specs.Nodes.{IsApart}
@@ -22,14 +26,19 @@ module _ {K V : Type 0} (s : State (K × V)) (r : ℕ) {m : TableState (K × V)}
   IsHeld-table p h = IsHeld-entries s.held p (subst (λ (z : TableState (K × V)). IsHeld z.held p) (sym seen) h)
 
   -- what holds at a position of nodes with the entries of the table
-  pub AtHeld-same_entries : (ks : List (Held (K × V))) → entries ks ≡ entries s.held → (p : Ptr) (P : List (Held (K × V)) → Held (K × V) → List (Held (K × V)) → Type 0)
+  pub AtHeld-same_entries : (ks : List (Held (K × V))) → entries ks ≡ entries s.held
+      → (p : Ptr) (P : List (Held (K × V)) → Held (K × V) → List (Held (K × V)) → Type 0)
       → AtHeld ks p (λ xs t ys. P (entries xs) (linked_to None t) (entries ys)) → AtHeld m.held p P
-  AtHeld-same_entries ks same p P h = subst (λ (hs : List (Held (K × V))). AtHeld hs p P) (same ∙ ap (λ (z : TableState (K × V)). z.held) seen) (AtHeld-entries ks p P h)
+  AtHeld-same_entries ks same p P h = subst (λ (hs : List (Held (K × V))). AtHeld hs p P)
+      (same ∙ ap (λ (z : TableState (K × V)). z.held) seen) (AtHeld-entries ks p P h)
 
-  pub AtHeld-table : (p : Ptr) (P : List (Held (K × V)) → Held (K × V) → List (Held (K × V)) → Type 0) → AtHeld s.held p (λ xs t ys. P (entries xs) (linked_to None t) (entries ys)) → AtHeld m.held p P
+  pub AtHeld-table : (p : Ptr) (P : List (Held (K × V)) → Held (K × V) → List (Held (K × V))
+      → Type 0) → AtHeld s.held p (λ xs t ys. P (entries xs) (linked_to None t) (entries ys))
+      → AtHeld m.held p P
   AtHeld-table p P h = AtHeld-same_entries s.held refl p P h
 
-  pub AtHeld-table_next : (p : Ptr) (o : Option Ptr) → AtHeld s.held p (λ xs t ys. o ≡ first_at ys) → AtHeld m.held p (λ xs t ys. o ≡ first_at ys)
+  pub AtHeld-table_next : (p : Ptr) (o : Option Ptr) → AtHeld s.held p (λ xs t ys. o ≡ first_at ys)
+      → AtHeld m.held p (λ xs t ys. o ≡ first_at ys)
   AtHeld-table_next p o next = AtHeld-table p (λ xs t ys. o ≡ first_at ys) (λ xs t ys e at. next xs t ys e at ∙ sym (first_at-entries ys))
 
   pub IsApart-table : IsApart (map (λ t. t.at) s.held) → IsApart (map (λ t. t.at) m.held)
@@ -78,7 +87,8 @@ buckets-stay c d up enough =
 -- tables after the calls of the ring and its index
 module _ {K V : Type 0} {i : BucketState} {s : State (K × V)} {r : ℕ} (table : IsTable i s r) where
   -- the same pairs in order, except for chain links
-  pub IsTable-rechained : {i' : BucketState} {t : State (K × V)} {q : ℕ} → entries t.held ≡ entries s.held → length s.held + t.spares ≤ 2 ^ 59
+  pub IsTable-rechained : {i' : BucketState} {t : State (K × V)} {q : ℕ}
+      → entries t.held ≡ entries s.held → length s.held + t.spares ≤ 2 ^ 59
       → Indexes i' (spots t.held) → length i'.heads ≡ buckets (length s.held + t.spares) → q ≤ length i'.heads → t.nodes ≤ length i'.heads
       → IsTable i' t q
   IsTable-rechained {t = t} same within indexes count few made =
@@ -102,7 +112,8 @@ module _ {K V : Type 0} {i : BucketState} {s : State (K × V)} {r : ℕ} (table 
       }
 
   -- a pair was moved to the back
-  pub length-moved : (t : State (K × V)) (p : Ptr) → IsHeld s.held p → AtHeld s.held p (λ xs x ys. t.held ≡ (xs ++ ys) ++ x ∷ []) → length t.held ≡ length s.held
+  pub length-moved : (t : State (K × V)) (p : Ptr) → IsHeld s.held p
+      → AtHeld s.held p (λ xs x ys. t.held ≡ (xs ++ ys) ++ x ∷ []) → length t.held ≡ length s.held
   length-moved t p h last =
       let a = ap length (last h.before h.node h.after h.is h.at_is) in
       let b = ap length h.is in
@@ -111,7 +122,9 @@ module _ {K V : Type 0} {i : BucketState} {s : State (K × V)} {r : ℕ} (table 
       let k = length-append h.before (h.node ∷ h.after) in
       omega (arith, a, b, f, g, k)
 
-  pub IsTable-to_back : {t : State (K × V)} (p : Ptr) → IsHeld s.held p → AtHeld s.held p (λ xs x ys. t.held ≡ (xs ++ ys) ++ x ∷ []) → t.spares ≡ s.spares → t.nodes ≡ s.nodes → IsTable i t r
+  pub IsTable-to_back : {t : State (K × V)} (p : Ptr) → IsHeld s.held p
+      → AtHeld s.held p (λ xs x ys. t.held ≡ (xs ++ ys) ++ x ∷ []) → t.spares ≡ s.spares
+      → t.nodes ≡ s.nodes → IsTable i t r
   IsTable-to_back {t} p h last spares made =
       let long = length-moved t p h last in
       record {
@@ -122,8 +135,11 @@ module _ {K V : Type 0} {i : BucketState} {s : State (K × V)} {r : ℕ} (table 
       }
 
   -- the node at p was removed from its chain, and then from the ring
-  module _ {i' : BucketState} {t w : State (K × V)} {p : Ptr} (same : entries t.held ≡ entries s.held) (spares : t.spares ≡ s.spares) (made : t.nodes ≡ s.nodes)
-      (lacks : HoldsOthers i' t.held p) (others : AtHeld t.held p (λ xs x ys. w.held ≡ xs ++ ys)) (more : w.spares ≡ t.spares + 1) (stay : w.nodes ≡ t.nodes) where
+  module _ {i' : BucketState} {t w : State (K × V)} {p : Ptr}
+      (same : entries t.held ≡ entries s.held) (spares : t.spares ≡ s.spares)
+      (made : t.nodes ≡ s.nodes)
+      (lacks : HoldsOthers i' t.held p) (others : AtHeld t.held p (λ xs x ys. w.held ≡ xs ++ ys))
+      (more : w.spares ≡ t.spares + 1) (stay : w.nodes ≡ t.nodes) where
     pub length-with_spares : length s.held + s.spares ≡ length w.held + w.spares
     length-with_spares =
         let h = lacks.held in
@@ -157,11 +173,16 @@ module _ {K V : Type 0} {i : BucketState} {s : State (K × V)} {r : ℕ} (table 
     pub rechained_raised-stays : (len : ℕ) → rechained_raised r len (length s.held + s.spares) d ≡ r
     rechained_raised-stays len = ap (λ b. cond b r (r + len)) (eq-eqb (buckets (length s.held + s.spares)) (buckets d) buckets-same)
 
-    pub IsTable-grown : {E : Type 0} {t : State (K × V)} (result : Result (Unit {0}) E) (more most : ℕ) → most ≡ length i.heads → OnOk result (t.held ≡ s.held) → OnOk result (t.spares ≡ s.spares + more) → OnOk result (s.nodes ≤ most → length s.held + s.spares + more ≤ most → t.nodes ≤ most) → OnErr result (t ≡ s) → d ≡ length s.held + s.spares + more → d ≤ 2 ^ 59 → IsTable i t r
+    pub IsTable-grown : {E : Type 0} {t : State (K × V)} (result : Result (Unit {0}) E)
+        (more most : ℕ) → most ≡ length i.heads → OnOk result (t.held ≡ s.held)
+        → OnOk result (t.spares ≡ s.spares + more)
+        → OnOk result (s.nodes ≤ most → length s.held + s.spares + more ≤ most → t.nodes ≤ most)
+        → OnErr result (t ≡ s) → d ≡ length s.held + s.spares + more → d ≤ 2 ^ 59 → IsTable i t r
     IsTable-grown {t = t} (Ok _) more most wide stays spares made _ all within =
         let few = made (omega (arith, wide, table.nodes_within)) (omega (arith, wide, enough, all)) in
         let sum : length s.held + t.spares ≡ d = omega (arith, spares, all) in
-        IsTable-rechained (ap entries stays) (omega (arith, sum, within)) (subst (λ hs. Indexes i (spots hs)) (sym stays) table.indexed.indexes)
+        IsTable-rechained (ap entries stays) (omega (arith, sum, within))
+        (subst (λ hs. Indexes i (spots hs)) (sym stays) table.indexed.indexes)
         (table.indexed.count ∙ buckets-same ∙ ap buckets (sym sum)) table.few (omega (arith, wide, few))
     IsTable-grown (Err _) more most _ _ _ _ unchanged _ _ = subst (λ u. IsTable i u r) (sym unchanged) table
 
@@ -173,7 +194,8 @@ module _ {K V : Type 0} {i : BucketState} {s : State (K × V)} {r : ℕ} (table 
     pub rechained-fits : r + length s.held ≤ buckets d
     rechained-fits =
         let count : length i.heads ≡ buckets (length s.held + s.spares) = table.indexed.count in
-        rechained-within r (length s.held) (length s.held + s.spares) d (omega (arith, table.few, count)) (omega arith) (omega (arith, up)) buckets-differ
+        rechained-within r (length s.held) (length s.held + s.spares) d
+        (omega (arith, table.few, count)) (omega arith) (omega (arith, up)) buckets-differ
 
     pub rechained_raised-moves : (len : ℕ)
         → rechained_raised r len (length s.held + s.spares) d ≡ r + len

@@ -16,12 +16,17 @@ to-spare-requires g c = is_block-links_at c.row.nodes.cells c.row.nodes.blocks c
 
 pub row-preserved : goal.row-preserved
 row-preserved g c =
-    let e = c.links.ensures in let w = c.set_chain.ensures.written _ e in let next = c.address-next.result.ptr in let zs = c.set_chain.new.nodes.cells in
+    let e = c.links.ensures in let w = c.set_chain.ensures.written _ e in
+    let next = c.address-next.result.ptr in let zs = c.set_chain.new.nodes.cells in
     record {
-      row = subst (λ o. HasRow zs next (c.row.left - 1) o) (sym c.to-spare.ensures) (subst (λ zs. HasRow zs next (c.row.left - 1) (Some c.row.at.ptr)) (sym w) (HasRow-next c.row.nodes.cells c.row.at.ptr c.row.spare e c.address-next.ensures c.row-test.true c.row.invariant.row));
+      row = subst (λ o. HasRow zs next (c.row.left - 1) o) (sym c.to-spare.ensures)
+          (subst (λ zs. HasRow zs next (c.row.left - 1) (Some c.row.at.ptr)) (sym w)
+          (HasRow-next c.row.nodes.cells c.row.at.ptr c.row.spare e c.address-next.ensures
+          c.row-test.true c.row.invariant.row));
       ends = λ ds s h. c.row.invariant.ends ds s
           (SparesRow-step c.row.nodes.cells c.row.at.ptr c.row.spare e c.address-next.ensures c.row-test.true ds s
-          (subst (λ zs. SparesRow zs next (c.row.left - 1) (Some c.row.at.ptr) ds s) w (subst (λ o. SparesRow zs next (c.row.left - 1) o ds s) c.to-spare.ensures h)));
+          (subst (λ zs. SparesRow zs next (c.row.left - 1) (Some c.row.at.ptr) ds s) w
+          (subst (λ o. SparesRow zs next (c.row.left - 1) o ds s) c.to-spare.ensures h)));
       unused = c.set_chain.ensures.land.0 ∙ c.row.invariant.unused;
       chunks = c.set_chain.ensures.land.1 ∙ c.row.invariant.chunks;
     }

@@ -13,7 +13,8 @@ each-init g c =
       small = c.requires.small;
       unused = c.requires.unused;
       chunks = refl;
-      stacked = subst (λ (n : ℕ). IsStacked c.args.nodes.now.cells c.args.spare n c.args.nodes.now.cells c.args.spare) none (IsStacked-none _ _);
+      stacked = subst (λ (n : ℕ). IsStacked c.args.nodes.now.cells c.args.spare n
+          c.args.nodes.now.cells c.args.spare) none (IsStacked-none _ _);
     }
 
 pub add-at-requires-clause-unused : goal.add-at-requires-clause-unused
@@ -24,19 +25,23 @@ to-first-requires g c = c.add-at.ensures.block
 
 pub each-preserved : goal.each-preserved
 each-preserved g c =
-    let i = c.each.invariant in let one : c.args.count - c.each.left + 1 ≡ c.args.count - (c.each.left - 1) = let a = i.few in let b = c.each-test.true in omega arith in
+    let i = c.each.invariant in let one : c.args.count - c.each.left + 1 ≡ c.args.count -
+    (c.each.left - 1) = let a = i.few in let b = c.each-test.true in omega arith in
     record {
       few = let a = i.few in omega arith;
       small = subst (λ (n : ℕ). n < 2 ^ 63) (sym c.add-at.ensures.node_bytes) i.small;
       unused = c.add-at.ensures.unused ∙ ap (λ (n : ℕ). row c.args.start.ptr n (c.each.left - 1)) (sym c.add-at.ensures.node_bytes);
       chunks = c.add-at.ensures.chunks ∙ i.chunks;
       stacked = subst (λ (n : ℕ). IsStacked c.args.nodes.now.cells c.args.spare n c.add-at.new.self.cells c.to-first.result) one
-          (IsStacked-push _ _ (c.args.count - c.each.left) c.each.nodes.cells _ c.add-at.result c.add-at.new.self.cells c.to-first.result i.stacked c.add-at.ensures.cells c.to-first.ensures);
+          (IsStacked-push _ _ (c.args.count - c.each.left) c.each.nodes.cells _ c.add-at.result
+          c.add-at.new.self.cells c.to-first.result i.stacked c.add-at.ensures.cells
+          c.to-first.ensures);
     }
 
 pub returns : goal.returns
 returns g c =
-    let i = c.each.invariant in let none : c.each.left ≡ 0 = omega (arith, c.each-test.false) in let all : c.args.count - c.each.left ≡ c.args.count = omega (arith, none) in
+    let i = c.each.invariant in let none : c.each.left ≡ 0 = omega (arith, c.each-test.false) in
+    let all : c.args.count - c.each.left ≡ c.args.count = omega (arith, none) in
     record {
       stacked = subst (λ (n : ℕ). IsStacked c.args.nodes.now.cells c.args.spare n c.each.nodes.cells c.each.first) all i.stacked;
       unused = i.unused ∙ row-none c.args.start.ptr c.each.nodes.node_bytes c.each.left none;

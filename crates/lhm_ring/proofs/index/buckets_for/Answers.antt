@@ -8,4 +8,5 @@ returns-then-capacity-eq0-clause-value c = sym buckets-zero ∙ ap buckets (sym 
 
 pub returns-else-capacity-eq0-clause-value : goal.returns-else-capacity-eq0-clause-value
 returns-else-capacity-eq0-clause-value c =
-    buckets-least_power c.args.capacity c.next_power_of_two.result c.next_power_of_two.ensures.power c.next_power_of_two.ensures.lower_bound c.next_power_of_two.ensures.upper_bound (omega arith)
+    buckets-least_power c.args.capacity c.next_power_of_two.result c.next_power_of_two.ensures.power
+    c.next_power_of_two.ensures.lower_bound c.next_power_of_two.ensures.upper_bound (omega arith)

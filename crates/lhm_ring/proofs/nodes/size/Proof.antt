@@ -17,7 +17,8 @@ size_spec 𝓤 𝓛 𝓜 𝓡 wired X L =
     let En = ended X in let c = clauses X 𝓛 𝓜.mem 𝓡.returns in let fn = inst_fn args code.function in
     let hs : Stays En.signature.params En.kept = tt in
     proved_at 𝓛 En hs c 𝓜 𝓡 tt (#self args) fn (code.unfolded 𝓤 H 𝓜 𝓡 wired (X, tt)) (λ y are.
-    let κs = y.0.0 in let qs = y.0.1 in let Post : Val → SProp 𝓤 = (walk_of 𝓛 En hs c).post y in let n : ℕ = size (layout X) in let s : ℕ = capped n in
+    let κs = y.0.0 in let qs = y.0.1 in let Post : Val → SProp 𝓤 = (walk_of 𝓛 En hs c).post y in
+    let n : ℕ = size (layout X) in let s : ℕ = capped n in
     qed 𝓛 (((‵ (flft κs.0 qs.0) ⊛ ‵ ftrue) ⊛ ‵ ftrue) ∷ raw ((c κs y.0.3).requires y.1) ∷ []) ∵ split ! $ keep ! (0 ∷ []) $
     enter ! 𝓣.C 𝓣.Λ fn [] Post $ alloc_all ! (λ l. pass_all ! refl tt $
     sets ! (of_opd ! (size_word !)) refl (tt, record { fits = capped_fits n }) $

@@ -9,12 +9,14 @@ pub links-links-requires : goal.links-links-requires
 links-links-requires g c =
     let e = c.args.ends.now in let cs = c.args.nodes.now.cells in let p = c.in-Some.at.pointer.ptr in
     IsAt-in_nodes e cs p c.in-Some.at.block
-    (subst (IsAt (ring_cells e cs)) (led_to-some c.args.at.ptr p (sym c.in-Some.ensures)) (IsAt-there (ring_cells e cs) c.args.at.ptr c.requires))
+    (subst (IsAt (ring_cells e cs)) (led_to-some c.args.at.ptr p (sym c.in-Some.ensures))
+    (IsAt-there (ring_cells e cs) c.args.at.ptr c.requires))
 
 pub returns-in-Some-clause-written : goal.returns-in-Some-clause-written
 returns-in-Some-clause-written g c =
     let e = c.args.ends.now in let cs = c.args.nodes.now.cells in let p = c.in-Some.at.pointer.ptr in
-    subst (λ q. LeadsOn (ring_cells e cs) q c.args.next (ring_cells e c.set_links.new.self.cells)) (sym (led_to-some c.args.at.ptr p (sym c.in-Some.ensures)))
+    subst (λ q. LeadsOn (ring_cells e cs) q c.args.next (ring_cells e c.set_links.new.self.cells))
+    (sym (led_to-some c.args.at.ptr p (sym c.in-Some.ensures)))
     (with_links-node e cs p c.in-Some.at.block (leading_on c.args.next) c.links-links.ensures c.set_links.ensures.cells)
 
 pub returns-in-None-clause-written : goal.returns-in-None-clause-written

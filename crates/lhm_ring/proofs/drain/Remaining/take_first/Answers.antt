@@ -23,14 +23,20 @@ take-key-requires g c =
 pub invariant_of-self : goal.invariant_of-self
 invariant_of-self g c =
     let i = c.self.inside in let p = i.first.ptr in
-    let left = ap (with_bodies i.nodes.now.cells) c.take-key.ensures.run ∙ with_bodies-without_body p i.contents.run i.nodes.now.cells i.nodes.now.apart in
+    let left = ap (with_bodies i.nodes.now.cells) c.take-key.ensures.run
+    ∙ with_bodies-without_body p i.contents.run i.nodes.now.cells i.nodes.now.apart in
     let e = links_at-with_bodies i.nodes.now.cells i.contents.run p ∙ c.links-links.ensures in
-    subst (λ zs. IsSpan zs c.address-self-inside.result.ptr i.last.ptr (i.left - 1)) (sym left) (IsSpan-rest_of_first c.self.invariant c.if-self-eq0.false e c.address-self-inside.ensures)
+    subst (λ zs. IsSpan zs c.address-self-inside.result.ptr i.last.ptr (i.left - 1)) (sym left)
+    (IsSpan-rest_of_first c.self.invariant c.if-self-eq0.false e c.address-self-inside.ensures)
 
 pub returns : goal.returns
 returns g c =
     let i = c.self.inside in let p = i.first.ptr in
-    let left = ap (with_bodies i.nodes.now.cells) c.take-key.ensures.run ∙ with_bodies-without_body p i.contents.run i.nodes.now.cells i.nodes.now.apart in
+    let left = ap (with_bodies i.nodes.now.cells) c.take-key.ensures.run
+    ∙ with_bodies-without_body p i.contents.run i.nodes.now.cells i.nodes.now.apart in
     let e = links_at-with_bodies i.nodes.now.cells i.contents.run p ∙ c.links-links.ensures in
     let b = body_at-with_bodies i.nodes.now.cells i.contents.run p _ c.links-links.ensures ∙ c.take-key.ensures.body in
-    sym c.self.view_is ∙ span_triples-first c.self.invariant c.if-self-eq0.false e c.address-self-inside.ensures b ∙ ap (λ zs. (c.links-links.result.now.hash, c.take-key.result) ∷ span_triples zs (i.left - 1) c.address-self-inside.result.ptr) (sym left)
+    sym c.self.view_is ∙ span_triples-first c.self.invariant c.if-self-eq0.false e
+    c.address-self-inside.ensures b
+    ∙ ap (λ zs. (c.links-links.result.now.hash, c.take-key.result) ∷ span_triples zs (i.left - 1)
+    c.address-self-inside.result.ptr) (sym left)

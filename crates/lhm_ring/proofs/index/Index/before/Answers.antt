@@ -1,6 +1,7 @@
 use Rattle.std.proofs.Common.{arith, ap, sym, ◌++◌, ◌∷◌, ◌∙◌, get_or, Some, None}
 use Rattle.std.specs.Prelude.{is_some}
-use Rattle.lhm_ring.proofs.indexes.NodeBefore.{get_or-head, IsTowards-start, IsHeld-towards, passed-below, IsTowards-next, IsOnChain-towards}
+use Rattle.lhm_ring.proofs.indexes.NodeBefore.{get_or-head, IsTowards-start, IsHeld-towards}
+use Rattle.lhm_ring.proofs.indexes.NodeBefore.{passed-below, IsTowards-next, IsOnChain-towards}
 use Rattle.lhm_ring.proofs.indexes.NodeBefore.{nodes-mended, IsHeld-towards_cut, State-equal}
 use Rattle.lhm_ring.proofs.index.Index.before.Goals as goal
 use Rattle.lhm_ring.specs.Pointer.{pointer_of, pointer_of_some, target}

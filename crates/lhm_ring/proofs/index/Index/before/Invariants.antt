@@ -5,7 +5,8 @@ use Rattle.lhm_ring.specs.Pointer.{pointer_of, pointer_of_some, target}
 
 abbrev pub invariant-chain : goal.invariant-chain
 invariant-chain g l = record {
-  towards : IsTowards l.self.heads l.hash l.fn.ring.held l.ring.held (pointer_of l.at) (target l.link) (pointer_of_some l.before) (pointer_of l.here) l.passed;
+  towards : IsTowards l.self.heads l.hash l.fn.ring.held l.ring.held (pointer_of l.at)
+      (target l.link) (pointer_of_some l.before) (pointer_of l.here) l.passed;
   spares : l.ring.spares ≡ l.fn.ring.spares;
   nodes : l.ring.nodes ≡ l.fn.ring.nodes;
 }

@@ -17,9 +17,11 @@ links-links-requires g c = IsHeld-head _ c.requires.within c.requires.indexed.ch
 pub returns-then-links-hash : goal.returns-then-links-hash
 returns-then-links-hash g c = record {
   part = λ key.
-      IsPart-passed (IsPart-first {eq = g.K.PartialEq.eq} {key = key} {before = None} {pointer = Some (pointer_of c.args.first)} {visited = 0} {compared = 0}
+      IsPart-passed (IsPart-first {eq = g.K.PartialEq.eq} {key = key} {before = None} {pointer =
+      Some (pointer_of c.args.first)} {visited = 0} {compared = 0}
       refl (sym c.requires.first) refl refl c.requires.within c.requires.indexed.chains)
-      refl c.links-links.result.now.hash c.is_some.result c.links-links.ensures.hash c.if-links-hash.true (λ b x a i j. c.get-next.ensures ∙ c.links-links.ensures.link b x a i j);
+      refl c.links-links.result.now.hash c.is_some.result c.links-links.ensures.hash
+      c.if-links-hash.true (λ b x a i j. c.get-next.ensures ∙ c.links-links.ensures.link b x a i j);
 }
 
 pub returns-else-links-hash : goal.returns-else-links-hash

@@ -14,5 +14,6 @@ returns-in_default-clause-absent g c =
     let heads = c.args.self.now.heads in
     let bucket = c.bucket_of-bucket.ensures in
     let none = sym (ap pointer_of_some c.in_default.is) ∙ c.get.ensures ∙ c.head.ensures ∙ ap (λ b. get_or heads b None) bucket.of_hash in
-    (FindsNone-part (IsPart-first {eq = g.K.PartialEq.eq} {key = c.args.key.now} {before = None} {pointer = None} {visited = 0} {compared = 0}
+    (FindsNone-part (IsPart-first {eq = g.K.PartialEq.eq} {key = c.args.key.now} {before = None}
+    {pointer = None} {visited = 0} {compared = 0}
     refl none refl refl (subst (λ (b : ℕ). b < length heads) bucket.of_hash bucket.within) c.requires.indexed.chains) refl).absent

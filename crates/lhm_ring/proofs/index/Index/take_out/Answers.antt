@@ -12,4 +12,5 @@ returns-then-not-may_contain-clause-absent g c =
 pub returns-in-Some-clause-found : goal.returns-in-Some-clause-found
 returns-in-Some-clause-found g c =
     let h = rw c.in-Some.is at c.search-found.ensures.found in
-    HasKey-kept c.args.ring.now.held c.unchain.new.ring.held (pointer_of c.in-Some.found.at) c.unchain.ensures.held g.K.PartialEq.eq c.args.hash c.args.key.now h.has
+    HasKey-kept c.args.ring.now.held c.unchain.new.ring.held (pointer_of c.in-Some.found.at)
+    c.unchain.ensures.held g.K.PartialEq.eq c.args.hash c.args.key.now h.has

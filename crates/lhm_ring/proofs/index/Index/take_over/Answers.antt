@@ -8,14 +8,25 @@ pub next-pointer-requires : goal.next-pointer-requires
 next-pointer-requires g c = IsHeld-rehashing c.loop-pointer.invariant.rehashing (pointer_of c.in-Some.at) (ap pointer_of_some c.in-Some.is)
 
 pub put_in-requires-clause-held : goal.put_in-requires-clause-held
-put_in-requires-clause-held g c = IsHeld-rehashing c.loop-pointer.invariant.rehashing (pointer_of c.in-Some.at) (ap pointer_of_some c.in-Some.is)
+put_in-requires-clause-held g c = IsHeld-rehashing c.loop-pointer.invariant.rehashing
+    (pointer_of c.in-Some.at) (ap pointer_of_some c.in-Some.is)
 
 pub overflow_add-count : goal.overflow_add-count
 overflow_add-count g c =
-    omega (arith, count-rehashing c.loop-pointer.invariant.rehashing (pointer_of c.in-Some.at) (ap pointer_of_some c.in-Some.is), c.requires.small)
+    omega (
+      arith,
+      count-rehashing c.loop-pointer.invariant.rehashing (pointer_of c.in-Some.at)
+          (ap pointer_of_some c.in-Some.is),
+      c.requires.small,
+    )
 
 pub loop-pointer-smaller : goal.loop-pointer-smaller
-loop-pointer-smaller g c = omega (arith, count-rehashing c.loop-pointer.invariant.rehashing (pointer_of c.in-Some.at) (ap pointer_of_some c.in-Some.is))
+loop-pointer-smaller g c =
+    omega (
+      arith,
+      count-rehashing c.loop-pointer.invariant.rehashing (pointer_of c.in-Some.at)
+          (ap pointer_of_some c.in-Some.is),
+    )
 
 pub loop-pointer-preserved : goal.loop-pointer-preserved
 loop-pointer-preserved g c =
@@ -24,7 +35,9 @@ loop-pointer-preserved g c =
     let at = ap pointer_of_some c.in-Some.is in
     record {
       rehashing = IsRehashing-step i.rehashing p at c.put_in.new.self c.put_in.new.ring.held (pointer_of_some c.next-pointer.result)
-          (length-rehashing i.rehashing p at (λ e. c.requires.some (ap (λ (z : BucketState). length z.heads) (sym c.replace.ensures.after) ∙ e))) c.put_in.ensures.first c.next-pointer.ensures.next;
+          (length-rehashing i.rehashing p at
+          (λ e. c.requires.some (ap (λ (z : BucketState). length z.heads)
+          (sym c.replace.ensures.after) ∙ e))) c.put_in.ensures.first c.next-pointer.ensures.next;
       spares = c.put_in.ensures.spares ∙ i.spares;
       nodes = c.put_in.ensures.nodes ∙ i.nodes;
     }

@@ -1,6 +1,7 @@
 use Rattle.std.proofs.Common.{ap, sym, subst, set, ◌∙◌, List, Option}
 use denote.RawPtr.{Ptr}
-use Rattle.lhm_ring.proofs.indexes.IndexTakes.{HasOtherChains, IsHeld-on_chain, IsHeld-before, HasOtherChains-take_first, HasOtherChains-take_next}
+use Rattle.lhm_ring.proofs.indexes.IndexTakes.{HasOtherChains, IsHeld-on_chain, IsHeld-before}
+use Rattle.lhm_ring.proofs.indexes.IndexTakes.{HasOtherChains-take_first, HasOtherChains-take_next}
 use Rattle.lhm_ring.proofs.indexes.WholeBuckets.{HoldsOthers-next, HoldsOthers-head}
 use Rattle.lhm_ring.proofs.indexes.Entries.{entries-linked_to}
 use Rattle.lhm_ring.proofs.index.Index.unchain.Goals as goal
@@ -20,14 +21,16 @@ returns-in-Some-clause-held g c =
 pub returns-in-Some-clause-lacks : goal.returns-in-Some-clause-lacks
 returns-in-Some-clause-lacks g c =
     HoldsOthers-next c.args.ring.now.held c.args.self.now c.requires.indexed (returns-in-Some-clause-held g c)
-    (HasOtherChains-take_next c.requires.on_chain (ap pointer_of_some c.in-Some.is) c.requires.indexed.chains c.links.ensures.link c.set_link.ensures.held)
+    (HasOtherChains-take_next c.requires.on_chain (ap pointer_of_some c.in-Some.is)
+    c.requires.indexed.chains c.links.ensures.link c.set_link.ensures.held)
 
 pub returns-in-None-clause-lacks : goal.returns-in-None-clause-lacks
 returns-in-None-clause-lacks g c =
     let heads = c.args.self.now.heads in
     let link = target c.links.result.now.link in
     let new = c.set_head.ensures in
-    let chains = HasOtherChains-take_first c.requires.on_chain (ap pointer_of_some c.in-None.is) c.requires.indexed.chains c.links.ensures.link in
+    let chains = HasOtherChains-take_first c.requires.on_chain (ap pointer_of_some c.in-None.is)
+    c.requires.indexed.chains c.links.ensures.link in
     HoldsOthers-head _ _ c.bucket_of.result link c.bucket_of.ensures.within new.heads new.others new.same new.count c.requires.indexed
     (subst (λ (hs : List (Option Ptr)). HasOtherChains hs c.args.ring.now.held (pointer_of c.args.found.at))
     (sym (new.heads ∙ ap (λ b. set heads b link) c.bucket_of.ensures.of_hash)) chains)

@@ -7,7 +7,8 @@ use Rattle.lhm_ring.specs.Links.{listed, pointers_from}
 pub returns-then-self-eq0 : goal.returns-then-self-eq0
 returns-then-self-eq0 g c =
     let i = c.self.inside in let cs = i.nodes.now.cells in
-    let e = sym c.self.view_is ∙ ap (λ k. listed cs (pointers_from cs k i.first.ptr)) c.if-self-eq0.true ∙ listed-none cs i.first.ptr in (e, e)
+    let e = sym c.self.view_is ∙ ap (λ k. listed cs (pointers_from cs k i.first.ptr))
+    c.if-self-eq0.true ∙ listed-none cs i.first.ptr in (e, e)
 
 pub links-links-requires : goal.links-links-requires
 links-links-requires g c = IsAt-first c.self.invariant c.if-self-eq0.false
@@ -20,5 +21,8 @@ invariant_of-self g c = IsSpan-behind_first c.self.invariant c.if-self-eq0.false
 
 pub returns : goal.returns
 returns g c =
-    let k = c.key.ensures in let v = c.value.ensures in
-    (_, sym c.self.view_is ∙ listed-first c.self.invariant c.if-self-eq0.false c.links-links.ensures c.address-self-inside.ensures (Some-both _ c.key.result.now v.0 k.0 c.value.result.now k.1 v.1))
+    let k = c.key.ensures in let v = c.value.ensures in (
+      _,
+      sym c.self.view_is ∙ listed-first c.self.invariant c.if-self-eq0.false c.links-links.ensures
+          c.address-self-inside.ensures (Some-both _ c.key.result.now v.0 k.0 c.value.result.now k.1 v.1),
+    )

@@ -7,7 +7,8 @@ pub take-requires : goal.take-requires
 take-requires g c = let l = value_at-last_lent _ c.step_back.new.self c.in-Some.ensures.1 c.self.invariant in (_, l.0)
 
 pub invariant_of-self : goal.invariant_of-self
-invariant_of-self g c = let l = value_at-last_lent _ c.step_back.new.self c.in-Some.ensures.1 c.self.invariant in subst (λ r. AreLent r c.step_back.new.self) (sym c.take.ensures.run) l.1
+invariant_of-self g c = let l = value_at-last_lent _ c.step_back.new.self c.in-Some.ensures.1
+    c.self.invariant in subst (λ r. AreLent r c.step_back.new.self) (sym c.take.ensures.run) l.1
 
 pub returns-in-Some : goal.returns-in-Some
 returns-in-Some g c =
@@ -16,5 +17,13 @@ returns-in-Some g c =
     record {
       at = c.in-Some.at.ptr;
       link = c.in-Some.ensures.0;
-      is = sym (ap (λ s. s.0) c.self.view_is) ∙ c.in-Some.ensures.1 ∙ ap (λ w. c.step_back.new.self ++ record { at = c.in-Some.at.ptr; hash = c.in-Some.hash; link = c.in-Some.ensures.0; pair = (c.in-Some.key.now, w) } ∷ []) same;
+      is = sym (ap (λ s. s.0) c.self.view_is) ∙ c.in-Some.ensures.1
+          ∙ ap (λ w. c.step_back.new.self ++
+          record {
+            at = c.in-Some.at.ptr;
+            hash = c.in-Some.hash;
+            link = c.in-Some.ensures.0;
+            pair =
+                (c.in-Some.key.now, w);
+          } ∷ []) same;
     }

@@ -23,7 +23,8 @@ use Rattle.lhm_ring.proofs.lists.Apart.{IsFresh, IsApart-added}
 use Rattle.lhm_ring.proofs.memory.BlockValues.{pointer_made, fresh}
 use Rattle.lhm_ring.proofs.memory.PlaceCut.{written, block, Rejoins, block_cut}
 use Rattle.lhm_ring.proofs.memory.NodeFields.{Three, args, RL, RK, RV, lo, Nr, Pl, Land, Cells, word-pointer, alone, value_in, three_rows}
-use Rattle.lhm_ring.proofs.memory.Places.{row-last, is_block-row_first, is_block-row_last, AreBlocks-row_other, row-next, block_ptr-in_block}
+use Rattle.lhm_ring.proofs.memory.Places.{row-last, is_block-row_first, is_block-row_last}
+use Rattle.lhm_ring.proofs.memory.Places.{AreBlocks-row_other, row-next, block_ptr-in_block}
 use Rattle.lhm_ring.proofs.memory.ChunkPlaces.{land_cut, land_glue, Places, places_cut}
 use Rattle.lhm_ring.specs.contracts.nodes.Nodes.add.{ended, clauses}
 use Rattle.lhm_ring.specs.contracts.nodes.Nodes.add.Key.{name as #self}
@@ -33,30 +34,64 @@ use Rattle.lhm_ring.specs.Nodes.{cell, is_block, pointers, row, places, links_ad
 
 pub add_spec : {M : Type 1} → statement M
 add_spec 𝓤 𝓛 𝓜 𝓡 wired L K V LL LK LV =
-    let H = 𝓛.H in let 𝓣 = tables 𝓤 H 𝓜 𝓡 𝓡.env in let E : Three = three_rows LL LK LV in let N = Nr E in let R = RL E in let S = RK E in let W = RV E in
+    let H = 𝓛.H in let 𝓣 = tables 𝓤 H 𝓜 𝓡 𝓡.env in let E : Three = three_rows LL LK LV in
+    let N = Nr E in let R = RL E in let S = RK E in let W = RV E in
     let En = ended L K V in let c = clauses L K V 𝓛 𝓜.mem 𝓡.returns in let fn = inst_fn (args E) code.function in
-    let hs : Stays En.signature.params En.kept = (stay_ref (0 ∷ []) tt (plain (λ _. N)), (stay_dropped (plain (λ _. Pl)) yes, (stay_dropped (plain (λ _. usize)) yes, (stay_dropped (plain (λ _. R)) no, tt)))) in
-    proved_at 𝓛 En hs c 𝓜 𝓡 (Goes-ref 𝓛 4 0 tt (plain (λ _. N)), (Goes-dropped 𝓛 4 (plain (λ _. Pl)) yes (λ κs x f. refl), (Goes-dropped 𝓛 4 (plain (λ _. usize)) yes (λ κs x f. refl), (Goes-dropped 𝓛 4 (plain (λ _. R)) no (λ κs x f. refl), tt))))
+    let hs : Stays En.signature.params En.kept = (
+      stay_ref (0 ∷ []) tt (plain (λ _. N)),
+      (
+        stay_dropped (plain (λ _. Pl)) yes,
+        (stay_dropped (plain (λ _. usize)) yes, (stay_dropped (plain (λ _. R)) no, tt)),
+      ),
+    ) in
+    proved_at 𝓛 En hs c 𝓜 𝓡 (
+      Goes-ref 𝓛 4 0 tt (plain (λ _. N)),
+      (
+        Goes-dropped 𝓛 4 (plain (λ _. Pl)) yes (λ κs x f. refl),
+        (
+          Goes-dropped 𝓛 4 (plain (λ _. usize)) yes (λ κs x f. refl),
+          (Goes-dropped 𝓛 4 (plain (λ _. R)) no (λ κs x f. refl), tt),
+        ),
+      ),
+    )
     (#self (args E)) fn (code.unfolded 𝓤 H 𝓜 𝓡 wired (L, (K, (V, tt)))) (λ y are.
     let κs = y.0.0 in let qs = y.0.1 in let a = y.0.3 in let vss = y.0.4 in let Post : Val → SProp 𝓤 = (walk_of 𝓛 En hs c).post y in
-    let rb : ℕ = a.0.ref_ptr.0 in let ro : ℕ = a.0.ref_ptr.1 in let h : N.Denot = a.0.now in let p : Ptr = a.1.0.ptr in let n : ℕ = a.1.1.0 in
-    let new : L.Denot = a.1.1.1.0 in let got = alone (layout L) vss.1.1.1.0 (((param_laws 0 L LL).lawful 𝓛).typed new vss.1.1.1.0 are.1.1.1.0) in let v : Val = got.0 in
+    let rb : ℕ = a.0.ref_ptr.0 in let ro : ℕ = a.0.ref_ptr.1 in let h : N.Denot = a.0.now in
+    let p : Ptr = a.1.0.ptr in let n : ℕ = a.1.1.0 in
+    let new : L.Denot = a.1.1.1.0 in let got = alone (layout L) vss.1.1.1.0
+    (((param_laws 0 L LL).lawful 𝓛).typed new vss.1.1.1.0 are.1.1.1.0) in let v : Val = got.0 in
     let s : ℕ = h.node_bytes in
     let Taking : Type 0 = 0 < size (layout L) in let Small : Type 0 = s < 2 ^ 63 in let Unused : Type 0 = h.unused ≡ row p s (n + 1) in
-    qed 𝓛 (((‵ (flft κs.0 qs.0) ⊛ ‵ (tokens 3 κs.1 qs.1)) ⊛ ‵ (owns (types_at En.signature.params κs) a vss)) ∷ raw (fact 𝓤 _) ∷ raw (fact 𝓤 _) ∷ raw (fact 𝓤 _) ∷ raw (fact 𝓤 Taking) ∷ raw (fact 𝓤 Small) ∷ raw (fact 𝓤 Unused) ∷ []) ∵
-    keep ! (4 ∷ 5 ∷ 6 ∷ 0 ∷ []) $ heard ! Taking (λ taking. heard ! Small (λ small. heard ! Unused (λ given. split ! $ split ! $ move ! (2 ∷ []) $ fsplit3 ! $ fsplit3 ! $ move ! (4 ∷ []) $ fsplit3 ! $ keep ! (4 ∷ 5 ∷ 7 ∷ 1 ∷ 8 ∷ []) $
+    qed 𝓛 (((‵ (flft κs.0 qs.0) ⊛ ‵ (tokens 3 κs.1 qs.1)) ⊛ ‵
+    (owns (types_at En.signature.params κs) a vss)) ∷ raw (fact 𝓤 _) ∷ raw (fact 𝓤 _) ∷ raw
+    (fact 𝓤 _) ∷ raw (fact 𝓤 Taking) ∷ raw (fact 𝓤 Small) ∷ raw (fact 𝓤 Unused) ∷ []) ∵
+    keep ! (4 ∷ 5 ∷ 6 ∷ 0 ∷ []) $ heard ! Taking
+    (λ taking. heard ! Small
+    (λ small. heard ! Unused (λ given. split ! $ split ! $ move ! (2 ∷ []) $ fsplit3 ! $ fsplit3 ! $
+    move ! (4 ∷ []) $ fsplit3 ! $ keep ! (4 ∷ 5 ∷ 7 ∷ 1 ∷ 8 ∷ []) $
     rewrite ! 3 (λ (ws : List Val). ‵ (R.own_val new ws)) got.1.0 refl $
-    runs_with ! 𝓣.C 𝓣.Λ fn Post (vptr rb ro ∷ word p ∷ vint w64 n ∷ v ∷ []) (λ i. are.0.0 i ++ (word-pointer a.1.0 vss.1.0 are.1.0 i ++ (are.1.1.0.0 i ++ (got.1.0 i ++ [])))) $
-    alloc_all ! (λ l. pass_all ! refl ((tt, tt), (word-Good [] p, ((tt, record { fits = are.1.1.0.1 }), (got.1.1, tt)))) $ let Ev = env fn.locals l in
+    runs_with ! 𝓣.C 𝓣.Λ fn Post (vptr rb ro ∷ word p ∷ vint w64 n ∷ v ∷ [])
+    (λ i. are.0.0 i ++ (word-pointer a.1.0 vss.1.0 are.1.0 i ++
+    (are.1.1.0.0 i ++ (got.1.0 i ++ [])))) $
+    alloc_all ! (λ l. pass_all ! refl
+    ((tt, tt), (word-Good [] p, ((tt, record { fits = are.1.1.0.1 }), (got.1.1, tt)))) $
+    let Ev = env fn.locals l in
     let left : List Ptr = row p s n in let last : Ptr = p +ₚ (n * s) in
-    let at : (at : ℕ × ℕ) × (p ≡ block_ptr at.0 at.1) = block_ptr-in_block p (is_block-row_first p s n h.unused given h.unused_blocks) in let pb : ℕ = at.0.0 in let po : ℕ = at.0.1 in
+    let at : (at : ℕ × ℕ) × (p ≡ block_ptr at.0 at.1) = block_ptr-in_block p
+    (is_block-row_first p s n h.unused given h.unused_blocks) in let pb : ℕ = at.0.0 in let po : ℕ =
+    at.0.1 in
     opens ! tt N {h = h} rb ro (λ vs. move ! (1 ∷ []) $ fsplit ! $ move ! (1 ∷ []) $
     use1 𝓛 (‵ (Land E h) ⊛ ‵ (Cells E ftrue h.cells)) (land_cut 𝓛 E (Land E h) h.cells) $ split ! $ fsplit ! $ feq_l ! (λ sized. fsplit ! $
     -- [the unused places; the chunks; the nodes; the marker; its cell; the open borrow, in three;
     -- the new links; the other tokens]
-    rewrite ! 0 (λ (ps : List Ptr). ‵ (Places 𝓛 E ps)) (given ∙ row-last p s n) refl $ use1 𝓛 (‵ (Places 𝓛 E left) ⊛ ‵ (Places 𝓛 E (last ∷ []))) (places_cut 𝓛 E left (last ∷ [])) $ split ! $ move ! (1 ∷ []) $ fsplit ! $ move ! (1 ∷ []) $ drop ! $
-    let size_is : size (written E) ≡ s = sym (size-raw (written E)) ∙ sym sized in let no : ℕ = n * size (written E) + po in let q : Ptr = block_ptr pb no in
-    let here : last ≡ q = ap (λ (r : Ptr). r +ₚ (n * s)) at.1 ∙ ap (λ (k : ℕ). block_ptr pb (po + n * k)) (sym size_is) ∙ ap (λ (k : ℕ). block_ptr pb k) (omega arith) in
+    rewrite ! 0 (λ (ps : List Ptr). ‵ (Places 𝓛 E ps)) (given ∙ row-last p s n) refl $ use1 𝓛
+    (‵ (Places 𝓛 E left) ⊛ ‵ (Places 𝓛 E (last ∷ []))) (places_cut 𝓛 E left (last ∷ [])) $ split ! $
+    move ! (1 ∷ []) $ fsplit ! $ move ! (1 ∷ []) $ drop ! $
+    let size_is : size (written E) ≡ s = sym (size-raw (written E)) ∙ sym sized in let no : ℕ =
+    n * size (written E) + po in let q : Ptr = block_ptr pb no in
+    let here : last ≡ q = ap (λ (r : Ptr). r +ₚ (n * s)) at.1
+    ∙ ap (λ (k : ℕ). block_ptr pb (po + n * k)) (sym size_is) ∙ ap (λ (k : ℕ). block_ptr pb k)
+    (omega arith) in
     let near_q : is_block q ≡ true = ap is_block (sym here) ∙ is_block-row_last p s n h.unused given h.unused_blocks in
     let low : no < 2 ^ 63 = ltb→lt no (2 ^ 63) (subst T (sym near_q) tt) in
     rewrite ! 0 (λ (r : Ptr). ‵ (room_for (block E) r)) here refl $
@@ -65,10 +100,15 @@ add_spec 𝓤 𝓛 𝓜 𝓡 wired L K V LL LK LV =
     -- the marker; its cell; the open borrow, in three; the new links; the other tokens]
     knows ! (IsFresh q (pointers h.cells)) (fresh 𝓛 𝓜 E taking ftrue q h.cells) (λ free. as_written ! (layout L) pb (no + lo E) $
     let tiny : size (written E) < 2 ^ 64 = omega (arith, small, size_is) in let fits : n * size (written E) < 2 ^ 64 = omega (arith, low) in
-    sets ! (is ! (of_opd ! (get_in ! (fld ! refl (stop !)) (sub ! 0 refl (whole !)))) (ap ptr_val at.1)) refl (tt, tt) $ first ! $ blocks ! $
-    sets ! (bin ! (get ! refl) (size_lit ! (record { fits = tiny })) (record { fits = fits })) refl (tt, record { fits = fits }) $ sets_last ! (bin ! (get ! refl) (get ! refl) tt) refl (tt, tt) $
+    sets ! (is ! (of_opd ! (get_in ! (fld ! refl (stop !)) (sub ! 0 refl (whole !))))
+    (ap ptr_val at.1)) refl (tt, tt) $ first ! $ blocks ! $
+    sets ! (bin ! (get ! refl) (size_lit ! (record { fits = tiny })) (record { fits = fits })) refl
+    (tt, record { fits = fits }) $ sets_last ! (bin ! (get ! refl) (get ! refl) tt) refl
+    (tt, tt) $
     exec ! 𝓣.C 𝓣.Λ Ev (after 2 fn.body) (at_ret Ev Post) $ sets ! (of_opd ! (get ! refl)) refl (tt, tt) $ first ! $ blocks ! $
-    sets ! (addr ! (through ! refl (fld ! refl (stop !)))) refl (tt, tt) $ sets ! (of_opd ! (get ! refl)) refl got.1.1 $ assigns_last ! (of_opd ! (get ! refl)) (through ! refl (stop !)) (init ! 0 refl got.1.1) $
+    sets ! (addr ! (through ! refl (fld ! refl (stop !)))) refl (tt, tt) $ sets !
+    (of_opd ! (get ! refl)) refl got.1.1 $ assigns_last ! (of_opd ! (get ! refl))
+    (through ! refl (stop !)) (init ! 0 refl got.1.1) $
     exec ! 𝓣.C 𝓣.Λ Ev (after 4 fn.body) (at_ret Ev Post) $
     sets ! (of_opd ! (get ! refl)) refl (tt, tt) $ sets ! (agg ! (and_then ! (get ! refl) (no_more !))) refl (word-Good [] q) $
     move ! (0 ∷ 11 ∷ []) $ use2 𝓛 (‵ (lies_at R full_share (links_address R S W q) new)) (value_in 0 L LL 𝓛 new pb (no + lo E) v) $
@@ -84,13 +124,17 @@ add_spec 𝓤 𝓛 𝓜 𝓡 wired L K V LL LK LV =
       unused = left;
       chunks = h.chunks;
       unused_blocks = AreBlocks-row_other p s n h.unused given h.unused_blocks;
-      laid = subst (λ (r : Ptr). left ++ r ∷ pointers h.cells ≡ places s h.chunks) here (row-next p s n h.unused given (pointers h.cells) (places s h.chunks) h.laid);
+      laid = subst (λ (r : Ptr). left ++ r ∷ pointers h.cells ≡ places s h.chunks) here
+          (row-next p s n h.unused given (pointers h.cells) (places s h.chunks) h.laid);
     } in
-    move ! (1 ∷ 2 ∷ []) $ fjoin ! $ feq_i ! ℕ s (node_bytes R S W) sized $ fjoin ! $ use2 𝓛 (‵ (Cells E (Land E h') h'.cells)) (land_glue 𝓛 E (Land E h') h'.cells) $
+    move ! (1 ∷ 2 ∷ []) $ fjoin ! $ feq_i ! ℕ s (node_bytes R S W) sized $ fjoin ! $ use2 𝓛
+    (‵ (Cells E (Land E h') h'.cells)) (land_glue 𝓛 E (Land E h') h'.cells) $
     move ! (1 ∷ 0 ∷ []) $ fjoin ! $ move ! (1 ∷ 0 ∷ []) $ closes ! tt N h' vs rb ro $
     self_left ! 3 are.0.0 $ move ! (1 ∷ 2 ∷ []) $ join ! $
     states ! (is_block q ≡ true) near_q $ states_also ! (h.chunks ≡ h.chunks) refl $
     states_also ! (left ≡ left) refl $
     states_also ! (s ≡ s) refl $ states_also ! (h'.cells ≡ h'.cells) refl $
     use0 𝓛 (‵ (Pl.own_val (record { ptr = q }) (word q ∷ []))) (pointer_made 𝓛 q) $
-    returns ! (look_at ! 0 refl) $ free_all ! refl $ keep ! (2 ∷ 3 ∷ 0 ∷ 1 ∷ []) $ by ! (leaves 𝓛 En hs c y (word q) (record { ptr = q }) (h', (tt, (tt, (tt, tt)))) (tt, (tt, (tt, (tt, tt)))))))))))))
+    returns ! (look_at ! 0 refl) $ free_all ! refl $ keep ! (2 ∷ 3 ∷ 0 ∷ 1 ∷ []) $ by !
+    (leaves 𝓛 En hs c y (word q) (record { ptr = q }) (h', (tt, (tt, (tt, tt))))
+    (tt, (tt, (tt, (tt, tt)))))))))))))

@@ -20,24 +20,31 @@ use Rattle.lhm_ring.specs.Nodes.{is_block, pointers, AreBlocks, places, node_byt
 
 pub clear_spec : {M : Type 1} → statement M
 clear_spec 𝓤 𝓛 𝓜 𝓡 wired L K V LL LK LV =
-    let H = 𝓛.H in let 𝓣 = tables 𝓤 H 𝓜 𝓡 𝓡.env in let E : Three = three_rows LL LK LV in let N = Nr E in let R = RL E in let S = RK E in let W = RV E in
+    let H = 𝓛.H in let 𝓣 = tables 𝓤 H 𝓜 𝓡 𝓡.env in let E : Three = three_rows LL LK LV in
+    let N = Nr E in let R = RL E in let S = RK E in let W = RV E in
     let En = ended L K V in let c = clauses L K V 𝓛 𝓜.mem 𝓡.returns in let fn = inst_fn (args E) code.function in
     let hs : Stays En.signature.params En.kept = (stay_ref (0 ∷ []) tt (plain (λ _. N)), tt) in
     proved_at 𝓛 En hs c 𝓜 𝓡 (Goes-ref 𝓛 4 0 tt (plain (λ _. N)), tt)
     (#self (args E)) fn (code.unfolded 𝓤 H 𝓜 𝓡 wired (L, (K, (V, tt)))) (λ y are.
     let κs = y.0.0 in let qs = y.0.1 in let a = y.0.3 in let vss = y.0.4 in let Post : Val → SProp 𝓤 = (walk_of 𝓛 En hs c).post y in
     let rb : ℕ = a.0.ref_ptr.0 in let ro : ℕ = a.0.ref_ptr.1 in let h : N.Denot = a.0.now in let s : ℕ = h.node_bytes in
-    qed 𝓛 (((‵ (flft κs.0 qs.0) ⊛ ‵ (tokens 3 κs.1 qs.1)) ⊛ ‵ (owns (types_at En.signature.params κs) a vss)) ∷ raw (fact 𝓤 _) ∷ raw (fact 𝓤 _) ∷ raw (fact 𝓤 _) ∷ raw (emp 𝓤) ∷ []) ∵
+    qed 𝓛 (((‵ (flft κs.0 qs.0) ⊛ ‵ (tokens 3 κs.1 qs.1)) ⊛ ‵
+    (owns (types_at En.signature.params κs) a vss)) ∷ raw (fact 𝓤 _) ∷ raw (fact 𝓤 _) ∷ raw
+    (fact 𝓤 _) ∷ raw (emp 𝓤) ∷ []) ∵
     keep ! (0 ∷ []) $ split ! $ split ! $ move ! (2 ∷ []) $ fsplit ! $ fsplit3 ! $ keep ! (1 ∷ 2 ∷ 4 ∷ 5 ∷ []) $
     -- [self, in two; its token; the other tokens]
     runs_with ! 𝓣.C 𝓣.Λ fn Post (vptr rb ro ∷ []) (λ i. are.0.0 i ++ []) $
     alloc_all ! (λ l. pass_all ! refl ((tt, tt), tt) $
     opens ! tt N {h = h} rb ro (λ vs. move ! (1 ∷ []) $ fsplit ! $ move ! (1 ∷ []) $
-    use1 𝓛 (‵ (Land E h) ⊛ ‵ (Cells E ftrue h.cells)) (land_cut 𝓛 E (Land E h) h.cells) $ split ! $ fsplit ! $ feq_l ! (λ sized. fsplit ! $ move ! (2 ∷ []) $
+    use1 𝓛 (‵ (Land E h) ⊛ ‵ (Cells E ftrue h.cells)) (land_cut 𝓛 E (Land E h) h.cells) $ split ! $
+    fsplit ! $ feq_l ! (λ sized. fsplit ! $ move ! (2 ∷ []) $
     -- [the nodes; the unused places; the chunks; the marker; its cell; the open borrow, in three;
     -- the other tokens]
     use1 𝓛 (‵ (Places 𝓛 E (pointers h.cells))) (cells_emptied 𝓛 E h.cells) $ move ! (1 ∷ 0 ∷ []) $
-    use2 𝓛 (‵ (Places 𝓛 E (h.unused ++ pointers h.cells))) (places_glue 𝓛 E h.unused (pointers h.cells)) $ rewrite ! 0 (λ (ps : List Ptr). ‵ (Places 𝓛 E ps)) h.laid refl $ fjoin ! $ feq_i ! ℕ s (node_bytes R S W) sized $ fjoin ! $
+    use2 𝓛 (‵ (Places 𝓛 E (h.unused ++ pointers h.cells)))
+    (places_glue 𝓛 E h.unused (pointers h.cells)) $ rewrite ! 0
+    (λ (ps : List Ptr). ‵ (Places 𝓛 E ps)) h.laid refl $ fjoin ! $ feq_i ! ℕ s (node_bytes R S W)
+    sized $ fjoin ! $
     let all : List Ptr = places s h.chunks in
     let h' : N.Denot = record {
       marker = h.marker;
@@ -47,7 +54,8 @@ clear_spec 𝓤 𝓛 𝓜 𝓡 wired L K V LL LK LV =
       node_bytes = s;
       unused = all;
       chunks = h.chunks;
-      unused_blocks = subst AreBlocks h.laid (AllByRecursion-append (λ q. is_block q ≡ true) h.unused (pointers h.cells) h.unused_blocks h.blocks);
+      unused_blocks = subst AreBlocks h.laid (AllByRecursion-append (λ q. is_block q ≡ true)
+          h.unused (pointers h.cells) h.unused_blocks h.blocks);
       laid = append-nil all;
     } in
     move ! (1 ∷ 0 ∷ []) $ fjoin ! $ move ! (1 ∷ 0 ∷ []) $ closes ! tt N h' vs rb ro $ sets ! (of_opd ! (unit_lit !)) refl (tt, tt) $

@@ -11,7 +11,8 @@ use Rattle.lhm_ring.specs.Nodes.{IsAt, links_at, links_of}
 pub links_spec : {M : Type 1} → statement M
 links_spec 𝓤 𝓛 𝓜 𝓡 wired L K V LL LK LV =
     let E : Three = three_rows LL LK LV in
-    field_seen E 0 L (lo E) 𝓛 𝓜 𝓡 IsAt (λ x cs p. links_at cs p ≡ Some x) #self code.function (code.unfolded 𝓤 𝓛.H 𝓜 𝓡 wired (L, (K, (V, tt)))) refl refl
+    field_seen E 0 L (lo E) 𝓛 𝓜 𝓡 IsAt (λ x cs p. links_at cs p ≡ Some x) #self code.function
+    (code.unfolded 𝓤 𝓛.H 𝓜 𝓡 wired (L, (K, (V, tt)))) refl refl
     (λ cs p asked. let k = Cut-links_at cs p asked.0 asked.1 in record {
       value = k.split.node.links;
       told = ap links_of k.here;

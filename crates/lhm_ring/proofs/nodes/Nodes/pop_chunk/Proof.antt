@@ -31,28 +31,52 @@ use Rattle.lhm_ring.specs.Nodes.{is_block, pointers, AreBlocks, row, places, nod
 
 pub pop_chunk_spec : {M : Type 1} → statement M
 pop_chunk_spec 𝓤 𝓛 𝓜 𝓡 wired L K V LL LK LV =
-    let H = 𝓛.H in let 𝓣 = tables 𝓤 H 𝓜 𝓡 𝓡.env in let E : Three = three_rows LL LK LV in let N = Nr E in let R = RL E in let S = RK E in let W = RV E in
+    let H = 𝓛.H in let 𝓣 = tables 𝓤 H 𝓜 𝓡 𝓡.env in let E : Three = three_rows LL LK LV in
+    let N = Nr E in let R = RL E in let S = RK E in let W = RV E in
     let En = ended L K V in let c = clauses L K V 𝓛 𝓜.mem 𝓡.returns in let fn = inst_fn (args E) code.function in
     let Row : RattleType = N-type.the_row R S W in let Block : RattleType = BlockType Row heap.the_row ghosts in
-    let hs : Stays En.signature.params En.kept = (stay_ref (0 ∷ []) tt (plain (λ _. N)), (stay_dropped (plain (λ _. Pl)) yes, (stay_dropped (plain (λ _. usize)) yes, tt))) in
-    proved_at 𝓛 En hs c 𝓜 𝓡 (Goes-ref 𝓛 4 0 tt (plain (λ _. N)), (Goes-dropped 𝓛 4 (plain (λ _. Pl)) yes (λ κs x f. refl), (Goes-dropped 𝓛 4 (plain (λ _. usize)) yes (λ κs x f. refl), tt)))
+    let hs : Stays En.signature.params En.kept = (
+      stay_ref (0 ∷ []) tt (plain (λ _. N)),
+      (stay_dropped (plain (λ _. Pl)) yes, (stay_dropped (plain (λ _. usize)) yes, tt)),
+    ) in
+    proved_at 𝓛 En hs c 𝓜 𝓡 (
+      Goes-ref 𝓛 4 0 tt (plain (λ _. N)),
+      (
+        Goes-dropped 𝓛 4 (plain (λ _. Pl)) yes (λ κs x f. refl),
+        (Goes-dropped 𝓛 4 (plain (λ _. usize)) yes (λ κs x f. refl), tt),
+      ),
+    )
     (#self (args E)) fn (code.unfolded 𝓤 H 𝓜 𝓡 wired (L, (K, (V, tt)))) (λ y are.
     let κs = y.0.0 in let qs = y.0.1 in let a = y.0.3 in let vss = y.0.4 in let Post : Val → SProp 𝓤 = (walk_of 𝓛 En hs c).post y in
-    let rb : ℕ = a.0.ref_ptr.0 in let ro : ℕ = a.0.ref_ptr.1 in let h : N.Denot = a.0.now in let p : Ptr = a.1.0.ptr in let n : ℕ = a.1.1.0 in let s : ℕ = h.node_bytes in
+    let rb : ℕ = a.0.ref_ptr.0 in let ro : ℕ = a.0.ref_ptr.1 in let h : N.Denot = a.0.now in
+    let p : Ptr = a.1.0.ptr in let n : ℕ = a.1.1.0 in let s : ℕ = h.node_bytes in
     let Asked : Type 0 = (h.cells ≡ []) × ((cs : List (Ptr × ℕ)) × (h.chunks ≡ cs ++ (p, n) ∷ [])) in
-    qed 𝓛 (((‵ (flft κs.0 qs.0) ⊛ ‵ (tokens 3 κs.1 qs.1)) ⊛ ‵ (owns (types_at En.signature.params κs) a vss)) ∷ raw (fact 𝓤 _) ∷ raw (fact 𝓤 _) ∷ raw (fact 𝓤 _) ∷ raw (fact 𝓤 Asked) ∷ []) ∵
+    qed 𝓛 (((‵ (flft κs.0 qs.0) ⊛ ‵ (tokens 3 κs.1 qs.1)) ⊛ ‵
+    (owns (types_at En.signature.params κs) a vss)) ∷ raw (fact 𝓤 _) ∷ raw (fact 𝓤 _) ∷ raw
+    (fact 𝓤 _) ∷ raw (fact 𝓤 Asked) ∷ []) ∵
     keep ! (4 ∷ 0 ∷ []) $ heard ! Asked (λ asked. split ! $ split ! $ move ! (2 ∷ []) $ fsplit ! $ fsplit3 ! $ keep ! (1 ∷ 2 ∷ 4 ∷ 5 ∷ []) $
     -- [self, in two; its token; the other tokens]
-    runs_with ! 𝓣.C 𝓣.Λ fn Post (vptr rb ro ∷ word p ∷ vint w64 n ∷ []) (λ i. are.0.0 i ++ (word-pointer a.1.0 vss.1.0 are.1.0 i ++ (are.1.1.0.0 i ++ []))) $
+    runs_with ! 𝓣.C 𝓣.Λ fn Post (vptr rb ro ∷ word p ∷ vint w64 n ∷ [])
+    (λ i. are.0.0 i ++ (word-pointer a.1.0 vss.1.0 are.1.0 i ++ (are.1.1.0.0 i ++ []))) $
     alloc_all ! (λ l. pass_all ! refl ((tt, tt), (word-Good [] p, ((tt, record { fits = are.1.1.0.1 }), tt))) $
-    let cs : List (Ptr × ℕ) = asked.1.0 in let last : h.chunks ≡ cs ++ (p, n) ∷ [] = asked.1.1 in let new : List Ptr = row p s n in let rest : List Ptr = places s cs in
-    let cut : h.unused ≡ new ++ rest = sym (append-nil h.unused) ∙ ap (λ (ds : List (Node E)). h.unused ++ pointers ds) (sym asked.0) ∙ h.laid ∙ ap (places s) last ∙ places-last s cs (p, n) in
-    opens ! tt N {h = h} rb ro (λ vs. move ! (1 ∷ []) $ fsplit ! $ move ! (1 ∷ []) $ rewrite ! 0 (λ (ds : List (Node E)). ‵ (Cells E (Land E h) ds)) asked.0 refl $ fsplit ! $ feq_l ! (λ sized. fsplit ! $
+    let cs : List (Ptr × ℕ) = asked.1.0 in let last : h.chunks ≡ cs ++ (p, n) ∷ [] = asked.1.1 in
+    let new : List Ptr = row p s n in let rest : List Ptr = places s cs in
+    let cut : h.unused ≡ new ++ rest = sym (append-nil h.unused)
+    ∙ ap (λ (ds : List (Node E)). h.unused ++ pointers ds) (sym asked.0) ∙ h.laid
+    ∙ ap (places s) last ∙ places-last s cs (p, n) in
+    opens ! tt N {h = h} rb ro (λ vs. move ! (1 ∷ []) $ fsplit ! $ move ! (1 ∷ []) $ rewrite ! 0
+    (λ (ds : List (Node E)). ‵ (Cells E (Land E h) ds)) asked.0 refl $ fsplit ! $ feq_l !
+    (λ sized. fsplit ! $
     -- [the unused places; the chunks; the marker; its cell; the open borrow, in three; the other
     -- tokens]
-    rewrite ! 0 (λ (ps : List Ptr). ‵ (Places 𝓛 E ps)) cut refl $ use1 𝓛 (‵ (Places 𝓛 E new) ⊛ ‵ (Places 𝓛 E rest)) (places_cut 𝓛 E new rest) $ split ! $ move ! (2 ∷ []) $
-    rewrite ! 0 (λ (ds : List (Ptr × ℕ)). ‵ (Chunks 𝓛 E ds)) last refl $ use1 𝓛 (‵ (chunk_owns R S W (p, n)) ⊛ ‵ (Chunks 𝓛 E cs)) (chunks_cut 𝓛 E cs (p, n)) $ split ! $ fsplit3 ! $ flt_l ! (λ fits. feq_l ! (λ near_p.
-    let e : (at : ℕ × ℕ) × (p ≡ block_ptr at.0 at.1) = block_ptr-in_block p near_p in let b : ℕ = e.0.0 in let o : ℕ = e.0.1 in let q : Ptr = block_ptr b o in
+    rewrite ! 0 (λ (ps : List Ptr). ‵ (Places 𝓛 E ps)) cut refl $ use1 𝓛
+    (‵ (Places 𝓛 E new) ⊛ ‵ (Places 𝓛 E rest)) (places_cut 𝓛 E new rest) $ split ! $ move !
+    (2 ∷ []) $
+    rewrite ! 0 (λ (ds : List (Ptr × ℕ)). ‵ (Chunks 𝓛 E ds)) last refl $ use1 𝓛
+    (‵ (chunk_owns R S W (p, n)) ⊛ ‵ (Chunks 𝓛 E cs)) (chunks_cut 𝓛 E cs (p, n)) $ split ! $ fsplit3
+    ! $ flt_l ! (λ fits. feq_l ! (λ near_p.
+    let e : (at : ℕ × ℕ) × (p ≡ block_ptr at.0 at.1) = block_ptr-in_block p near_p in let b : ℕ =
+    e.0.0 in let o : ℕ = e.0.1 in let q : Ptr = block_ptr b o in
     -- [the token of the chunk; the other chunks; its places; the other places; the marker; its
     -- cell; the open borrow, in three; the other tokens]
     move ! (1 ∷ 3 ∷ []) $ move ! (1 ∷ 0 ∷ []) $ fjoin ! $ feq_i ! ℕ s (node_bytes R S W) sized $ fjoin ! $
@@ -73,13 +97,18 @@ pop_chunk_spec 𝓤 𝓛 𝓜 𝓡 wired L K V LL LK LV =
     -- [self; the token of the chunk; its places; the other tokens]
     self_left ! 2 are.0.0 $ move ! (1 ∷ 4 ∷ []) $ join ! $
     -- [the tokens; self; the token of the chunk; its places]
-    move ! (3 ∷ []) $ rewrite ! 0 (λ (k : ℕ). ‵ (Places 𝓛 E (row p k n))) sized refl $ rewrite ! 0 (λ (r : Ptr). ‵ (Places 𝓛 E (row r (node_bytes R S W) n))) e.1 refl $
-    use1 𝓛 (‵ (froom (ty_array (block E) n) b o)) (array_glue 𝓛 E n b o) $ move ! (3 ∷ 0 ∷ []) $ rewrite ! 0 (λ (r : Ptr). ‵ (chunk_token (ty_array (block E) n) r)) e.1 refl $
+    move ! (3 ∷ []) $ rewrite ! 0 (λ (k : ℕ). ‵ (Places 𝓛 E (row p k n))) sized refl $ rewrite ! 0
+    (λ (r : Ptr). ‵ (Places 𝓛 E (row r (node_bytes R S W) n))) e.1 refl $
+    use1 𝓛 (‵ (froom (ty_array (block E) n) b o)) (array_glue 𝓛 E n b o) $ move ! (3 ∷ 0 ∷ []) $
+    rewrite ! 0 (λ (r : Ptr). ‵ (chunk_token (ty_array (block E) n) r)) e.1 refl $
     flt_i ! (n * size (written E)) (2 ^ 63) (subst (λ (k : ℕ). n * k < 2 ^ 63) (size-raw (written E)) fits) $ fjoin3 ! $
     let out : Block.Denot = record { ptr = q; marker = record {}; alloc = record { memory = record { seal = tt } }; count = n } in
-    use0 𝓛 (‵ ((BlockFields Row heap.the_row ghosts).own_val (q, (record {}, tt)) (block_val q ∷ []))) (block_made Row heap.the_row ghosts 𝓛 q) $ fjoin ! $
+    use0 𝓛 (‵ ((BlockFields Row heap.the_row ghosts).own_val (q, (record {}, tt))
+    (block_val q ∷ []))) (block_made Row heap.the_row ghosts 𝓛 q) $ fjoin ! $
     -- [the block; the tokens; self]
     sets ! (is ! (of_opd ! (get_in ! (fld ! refl (stop !)) (sub ! 0 refl (whole !)))) (ap ptr_val e.1)) refl (tt, tt) $
-    sets ! (agg ! (no_more !)) refl (tt, tt) $ sets ! (agg ! (and_then ! (get ! refl) (and_then ! (get ! refl) (no_more !)))) refl (block_Good q) $
+    sets ! (agg ! (no_more !)) refl (tt, tt) $ sets !
+    (agg ! (and_then ! (get ! refl) (and_then ! (get ! refl) (no_more !)))) refl (block_Good q) $
     states ! (n ≡ n) refl $ states_also ! (h.chunks ≡ cs ++ (p, n) ∷ []) last $ states_also ! (h'.cells ≡ []) refl $
-    returns ! (look_at ! 0 refl) $ free_all ! refl $ keep ! (2 ∷ 3 ∷ 1 ∷ 0 ∷ []) $ by ! (leaves 𝓛 En hs c y (block_val q) out (h', (tt, (tt, tt))) (tt, (tt, (tt, tt)))))))))))
+    returns ! (look_at ! 0 refl) $ free_all ! refl $ keep ! (2 ∷ 3 ∷ 1 ∷ 0 ∷ []) $ by !
+    (leaves 𝓛 En hs c y (block_val q) out (h', (tt, (tt, tt))) (tt, (tt, (tt, tt)))))))))))

@@ -11,7 +11,8 @@ use Rattle.lhm_ring.specs.Nodes.{Holds, IsValue, body_at}
 pub value_spec : {M : Type 1} → statement M
 value_spec 𝓤 𝓛 𝓜 𝓡 wired L K V LL LK LV =
     let E : Three = three_rows LL LK LV in
-    field_seen E 2 V (vo E) 𝓛 𝓜 𝓡 Holds (λ x cs p. IsValue x (body_at cs p)) #self code.function (code.unfolded 𝓤 𝓛.H 𝓜 𝓡 wired (L, (K, (V, tt)))) refl refl
+    field_seen E 2 V (vo E) 𝓛 𝓜 𝓡 Holds (λ x cs p. IsValue x (body_at cs p)) #self code.function
+    (code.unfolded 𝓤 𝓛.H 𝓜 𝓡 wired (L, (K, (V, tt)))) refl refl
     (λ cs p asked. let x = asked.0 in let k = Cut-held cs p x asked.1 in record {
       value = x.1;
       told = (x.0, asked.1);

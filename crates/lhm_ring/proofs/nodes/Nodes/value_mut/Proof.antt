@@ -27,26 +27,40 @@ use Rattle.lhm_ring.specs.RingAfterLoan.{holding, value_set}
 use Rattle.lhm_ring.specs.Nodes.{cell, change, Holds, IsValue, body_at, links_address, key_address, value_address, body_owns, deed_owns}
 use Rattle.lhm_ring.proofs.memory.NodeTaken.{node_cut, node_glue, Others}
 
-module _ (E : Three) {M : Type 1} {𝓤 : Ura M} (𝓛 : Logic 𝓤) (h : (Nr E).Denot) (p : Ptr) (k : Cut h.cells p) (x : E.key.Denot × E.value.Denot) (vs : List Val) (rb ro pb po : ℕ) where
+module _ (E : Three) {M : Type 1} {𝓤 : Ura M} (𝓛 : Logic 𝓤) (h : (Nr E).Denot) (p : Ptr)
+    (k : Cut h.cells p) (x : E.key.Denot × E.value.Denot) (vs : List Val) (rb ro pb po : ℕ) where
   -- all but the value
   abbrev Rest : Fml
-  Rest = fsep (lies_at (RL E) full_share (links_address (RL E) (RK E) (RV E) k.split.node.at) k.split.node.links) (fsep (lies_at (RK E) full_share (key_address (RL E) (RK E) (RV E) k.split.node.at) x.0) (fsep (deed_owns (RL E) (RK E) (RV E) k.split.node.at)
-      (fsep (Cells E (Land E h) (k.split.before ++ k.split.after)) (fsep ((Marker E).own_val (tt, tt) vs) (cell_at full_share (Nr E).mir vs rb ro)))))
+  Rest = fsep (lies_at (RL E) full_share (links_address (RL E) (RK E) (RV E) k.split.node.at)
+      k.split.node.links) (fsep
+      (lies_at (RK E) full_share (key_address (RL E) (RK E) (RV E) k.split.node.at) x.0)
+      (fsep (deed_owns (RL E) (RK E) (RV E) k.split.node.at)
+      (fsep (Cells E (Land E h) (k.split.before ++ k.split.after))
+      (fsep ((Marker E).own_val (tt, tt) vs) (cell_at full_share (Nr E).mir vs rb ro)))))
 
-  back : k.split.node.at ≡ block_ptr pb po → body_at h.cells p ≡ Some x → (w : E.value.Denot) → ent 𝓤 (sep 𝓤 (sem 𝓛 ((mem (RV E)).own_at w pb (po + vo E))) (sem 𝓛 Rest)) (sem 𝓛 ((mem (Nr E)).own_at (holding h p w) rb ro))
+  back : k.split.node.at ≡ block_ptr pb po → body_at h.cells p ≡ Some x → (w : E.value.Denot)
+      → ent 𝓤 (sep 𝓤 (sem 𝓛 ((mem (RV E)).own_at w pb (po + vo E))) (sem 𝓛 Rest))
+      (sem 𝓛 ((mem (Nr E)).own_at (holding h p w) rb ro))
   unfolding part_of
   back e is w =
       let f : Node E = k.split.node in let f' : Node E → Node E = λ c. cell c.at c.links (value_set w (body_at h.cells p)) in
-      qed 𝓛 (‵ (part_at (RV E) full_share w pb (po + vo E)) ∷ ‵ Rest ∷ []) ∵ rewrite ! 0 (λ (q : Ptr). ‵ (lies_at (RV E) full_share (value_address (RL E) (RK E) (RV E) q) w)) (sym e) refl $
+      qed 𝓛 (‵ (part_at (RV E) full_share w pb (po + vo E)) ∷ ‵ Rest ∷ []) ∵ rewrite ! 0
+      (λ (q : Ptr). ‵ (lies_at (RV E) full_share (value_address (RL E) (RK E) (RV E) q) w))
+      (sym e) refl $
       move ! (1 ∷ []) $ fsplit3 ! $ move ! (2 ∷ []) $ fsplit3 ! $ move ! (2 ∷ []) $ fsplit ! $
       -- [the marker; its cell; the deed; the other nodes; the links; the key; the value]
-      move ! (5 ∷ 6 ∷ []) $ fjoin ! $ rewrite ! 0 (λ (o : Option (E.key.Denot × E.value.Denot)). ‵ (body_owns (RL E) (RK E) (RV E) f.at (value_set w o))) (sym is) refl $ move ! (0 ∷ 3 ∷ []) $ fjoin ! $ move ! (4 ∷ 0 ∷ []) $ fjoin ! $ move ! (0 ∷ 3 ∷ []) $
+      move ! (5 ∷ 6 ∷ []) $ fjoin ! $ rewrite ! 0 (λ (o : Option (E.key.Denot × E.value.Denot)). ‵
+      (body_owns (RL E) (RK E) (RV E) f.at (value_set w o))) (sym is) refl $ move ! (0 ∷ 3 ∷ []) $
+      fjoin ! $ move ! (4 ∷ 0 ∷ []) $ fjoin ! $ move ! (0 ∷ 3 ∷ []) $
       use2 𝓛 (‵ (Cells E (Land E h) (change p f' h.cells))) (node_glue 𝓛 E (Land E h) k f') $
-      move ! (1 ∷ 0 ∷ []) $ fjoin ! $ move ! (1 ∷ 0 ∷ []) $ fjoin ! $ fpack ! (List Val) (λ us. fsep (cell_at full_share (Nr E).mir us rb ro) ((Nr E).own_val (holding h p w) us)) vs $ done !
+      move ! (1 ∷ 0 ∷ []) $ fjoin ! $ move ! (1 ∷ 0 ∷ []) $ fjoin ! $ fpack ! (List Val)
+      (λ us. fsep (cell_at full_share (Nr E).mir us rb ro) ((Nr E).own_val (holding h p w) us)) vs $
+      done !
 
 pub value_mut_spec : {M : Type 1} → statement M
 value_mut_spec 𝓤 𝓛 𝓜 𝓡 wired L K V LL LK LV =
-    let H = 𝓛.H in let 𝓣 = tables 𝓤 H 𝓜 𝓡 𝓡.env in let E : Three = three_rows LL LK LV in let N = Nr E in let R = RL E in let S = RK E in let W = RV E in
+    let H = 𝓛.H in let 𝓣 = tables 𝓤 H 𝓜 𝓡 𝓡.env in let E : Three = three_rows LL LK LV in
+    let N = Nr E in let R = RL E in let S = RK E in let W = RV E in
     let En = ended L K V in let c = clauses L K V 𝓛 𝓜.mem 𝓡.returns in let fn = inst_fn (args E) code.function in
     let Self = mut_ref_to (0 ∷ []) tt (plain (λ _. N)) in
     let hs : Stays En.signature.params En.kept = (stay_dropped Self no, (stay_dropped (plain (λ _. Pl)) yes, tt)) in
@@ -56,7 +70,9 @@ value_mut_spec 𝓤 𝓛 𝓜 𝓡 wired L K V LL LK LV =
     let rb : ℕ = a.0.ref_ptr.0 in let ro : ℕ = a.0.ref_ptr.1 in let h : N.Denot = a.0.now in let p : Ptr = a.1.0.ptr in
     let κ : Lft = κs.0 in let q = qs.0 in let γ = a.0.ghost_name in let hcode = N.coded.code h in
     let Asked : Type 0 = Holds h.cells p in
-    qed 𝓛 (((‵ (flft κs.0 qs.0) ⊛ ‵ (tokens 3 κs.1 qs.1)) ⊛ ‵ (owns (types_at En.signature.params κs) a vss)) ∷ raw (fact 𝓤 _) ∷ raw (fact 𝓤 _) ∷ raw (fact 𝓤 _) ∷ raw (fact 𝓤 Asked) ∷ []) ∵
+    qed 𝓛 (((‵ (flft κs.0 qs.0) ⊛ ‵ (tokens 3 κs.1 qs.1)) ⊛ ‵
+    (owns (types_at En.signature.params κs) a vss)) ∷ raw (fact 𝓤 _) ∷ raw (fact 𝓤 _) ∷ raw
+    (fact 𝓤 _) ∷ raw (fact 𝓤 Asked) ∷ []) ∵
     keep ! (4 ∷ 0 ∷ []) $ heard ! Asked (λ asked. split ! $ split ! $ move ! (2 ∷ []) $ fsplit ! $ fsplit3 ! $ keep ! (1 ∷ 2 ∷ 4 ∷ 5 ∷ []) $
     runs_with ! 𝓣.C 𝓣.Λ fn Post (vptr rb ro ∷ word p ∷ []) (λ i. are.0.0 i ++ (word-pointer a.1.0 vss.1.0 are.1.0 i ++ [])) $
     alloc_all ! (λ l. pass_all ! refl ((tt, tt), (word-Good [] p, tt)) $ let Ev = env fn.locals l in
@@ -69,9 +85,12 @@ value_mut_spec 𝓤 𝓛 𝓜 𝓡 wired L K V LL LK LV =
     rewrite ! 0 (λ (q : Ptr). ‵ (lies_at W full_share (value_address R S W q) x.1)) e refl $
     -- [the value; the key; the deed; the links; the other nodes; the marker; its cell; the open
     -- borrow, in three; the other tokens]
-    sets ! (is ! (of_opd ! (get_in ! (fld ! refl (stop !)) (sub ! 0 refl (whole !)))) (ap ptr_val (sym k.split.at_is ∙ e))) refl (tt, tt) $ first ! $ blocks ! $
-    sets_last ! (addr ! (through ! refl (fld ! refl (stop !)))) refl (tt, tt) $ exec ! 𝓣.C 𝓣.Λ Ev (after 2 fn.body) (at_ret Ev Post) $ sets ! (of_opd ! (get ! refl)) refl (tt, tt) $
-    move ! (4 ∷ 5 ∷ 6 ∷ []) $ fjoin3 ! $ move ! (3 ∷ 0 ∷ []) $ fjoin ! $ move ! (3 ∷ 2 ∷ 0 ∷ []) $ fjoin3 ! $ move ! (2 ∷ 3 ∷ 4 ∷ 1 ∷ 0 ∷ []) $ group ! 5 $
+    sets ! (is ! (of_opd ! (get_in ! (fld ! refl (stop !)) (sub ! 0 refl (whole !))))
+    (ap ptr_val (sym k.split.at_is ∙ e))) refl (tt, tt) $ first ! $ blocks ! $
+    sets_last ! (addr ! (through ! refl (fld ! refl (stop !)))) refl (tt, tt) $ exec ! 𝓣.C 𝓣.Λ Ev
+    (after 2 fn.body) (at_ret Ev Post) $ sets ! (of_opd ! (get ! refl)) refl (tt, tt) $
+    move ! (4 ∷ 5 ∷ 6 ∷ []) $ fjoin3 ! $ move ! (3 ∷ 0 ∷ []) $ fjoin ! $ move ! (3 ∷ 2 ∷ 0 ∷ []) $
+    fjoin3 ! $ move ! (2 ∷ 3 ∷ 4 ∷ 1 ∷ 0 ∷ []) $ group ! 5 $
     let O = sem 𝓛 (Rest E 𝓛 h p k x vs rb ro pb po) in let way = back E 𝓛 h p k x vs rb ro pb po e asked.1 in
     use1 𝓛 (later (some (λ (δ : ℕ). raw (Part 𝓛 N W (holding h p) (named 0) κ q rb ro pb (po + vo E) γ O way x.1 δ))))
     (lends_Part 𝓛 N W (holding h p) (named 0) κ q rb ro pb (po + vo E) γ O way hcode hcode x.1) $ await ! tt $ pick ! (λ δ.
@@ -79,4 +98,5 @@ value_mut_spec 𝓤 𝓛 𝓜 𝓡 wired L K V LL LK LV =
     use1 𝓛 (‵ ((MutRef (named 0) κ W).own_val out (r ∷ [])) ⊛ ‵ (flft κ q) ⊛ ‵ (follows N W γ δ (holding h p))) (id⊢ 𝓤 _) $ split3 ! $
     states ! (IsValue x.1 (body_at h.cells p)) (x.0, asked.1) $ move ! (3 ∷ 0 ∷ []) $ join ! $ move ! (2 ∷ 3 ∷ []) $ join ! $
     all_spent ! 2 $
-    returns ! (look_at ! 0 refl) $ free_all ! refl $ keep ! (1 ∷ 0 ∷ 3 ∷ 2 ∷ []) $ by ! (leaves 𝓛 En hs c y r out (tt, (tt, tt)) (tt, (tt, tt)))))))))
+    returns ! (look_at ! 0 refl) $ free_all ! refl $ keep ! (1 ∷ 0 ∷ 3 ∷ 2 ∷ []) $ by !
+    (leaves 𝓛 En hs c y r out (tt, (tt, tt)) (tt, (tt, tt)))))))))

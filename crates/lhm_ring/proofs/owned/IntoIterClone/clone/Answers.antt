@@ -11,7 +11,10 @@ loop-hash-init g c =
     record {
       first = [];
       split = sym c.self.view_is ∙ ap triples (sym all);
-      each = subst (λ (hs : List (Held (g.row.K.Denot × g.row.V.Denot))). AllZip {A = ℕ × (g.row.K.Denot × g.row.V.Denot)} (IsTripleClone g.K.Clone.is_clone g.V.Clone.is_clone) [] (triples hs)) (sym c.in_ok-ring.ensures.empty) tt;
+      each = subst (λ (hs : List (Held (g.row.K.Denot × g.row.V.Denot))). AllZip
+          {A = ℕ × (g.row.K.Denot × g.row.V.Denot)}
+          (IsTripleClone g.K.Clone.is_clone g.V.Clone.is_clone) [] (triples hs))
+          (sym c.in_ok-ring.ensures.empty) tt;
       room = c.in_ok-ring.ensures.spares ∙ c.len.ensures.value ∙ ap length (sym all);
     }
 
@@ -24,9 +27,11 @@ loop-hash-preserved g c =
     record {
       first = inv.first ++ triple ∷ [];
       split = inv.split ∙ ap (λ hs. inv.first ++ triples hs) step ∙ sym (append_assoc inv.first (triple ∷ []) (triples c.next.new.self));
-      each = subst (AllZip {B = ℕ × (g.row.K.Denot × g.row.V.Denot)} (IsTripleClone g.K.Clone.is_clone g.V.Clone.is_clone) (inv.first ++ triple ∷ []))
+      each = subst (AllZip {B = ℕ × (g.row.K.Denot × g.row.V.Denot)}
+          (IsTripleClone g.K.Clone.is_clone g.V.Clone.is_clone) (inv.first ++ triple ∷ []))
           (sym (triples-pushed c.put_back.new.self.held c.loop-hash.ring.held _ c.put_back.ensures.last))
-          (AllZip-last _ inv.first (triples c.loop-hash.ring.held) triple (c.in-Some.hash, (c.in_ok-clone.field-0, c.in_ok-clone-2.field-0)) inv.each
+          (AllZip-last _ inv.first (triples c.loop-hash.ring.held) triple
+          (c.in-Some.hash, (c.in_ok-clone.field-0, c.in_ok-clone-2.field-0)) inv.each
           (record { hash = refl; key = c.in_ok-clone.ensures.cases; value = c.in_ok-clone-2.ensures.cases }));
       room = omega (arith, c.put_back.ensures.spares, inv.room, long);
     }
@@ -37,11 +42,14 @@ returns g c =
     let all = inv.split ∙ ap (λ hs. inv.first ++ triples hs) c.in-None.ensures.steps.0 ∙ append-nil inv.first in
     record {
       cases = subst (AllZip (IsTripleClone g.K.Clone.is_clone g.V.Clone.is_clone) c.args.self.now) (sym c.new.ensures)
-          (subst (λ (ts : List (ℕ × (g.row.K.Denot × g.row.V.Denot))). AllZip (IsTripleClone g.K.Clone.is_clone g.V.Clone.is_clone) ts (triples c.loop-hash.ring.held)) (sym all) inv.each);
+          (subst (λ (ts : List (ℕ × (g.row.K.Denot × g.row.V.Denot))). AllZip
+          (IsTripleClone g.K.Clone.is_clone g.V.Clone.is_clone) ts (triples c.loop-hash.ring.held))
+          (sym all) inv.each);
     }
 
 -- something is left to clone, so the clone is not of nothing
-some_left : {B : Type 0} (all first : List (ℕ × B)) (hs : List (Held B)) (t : Held B) (ts : List (Held B)) → all ≡ first ++ triples hs → hs ≡ t ∷ ts → all ≡ [] → ⊥
+some_left : {B : Type 0} (all first : List (ℕ × B)) (hs : List (Held B)) (t : Held B)
+    (ts : List (Held B)) → all ≡ first ++ triples hs → hs ≡ t ∷ ts → all ≡ [] → ⊥
 some_left all [] [] t ts e h n = absurd (cc)
 some_left all [] (u ∷ us) t ts e h n = absurd (cc)
 some_left all (x ∷ xs) hs t ts e h n = absurd (cc)

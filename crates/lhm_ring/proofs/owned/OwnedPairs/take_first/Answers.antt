@@ -28,4 +28,5 @@ pub returns : goal.returns
 returns g c =
     let i = c.self.inside in let s = c.self.invariant in let out = c.take-key.ensures in
     sym c.self.view_is ∙ span_triples-first s.span c.if-self-eq0.false c.links-links.ensures c.address-self-inside.ensures out.body
-    ∙ ap (λ zs. (c.links-links.result.now.hash, c.take-key.result) ∷ span_triples zs (i.left - 1) c.address-self-inside.result.ptr) (sym out.cells)
+    ∙ ap (λ zs. (c.links-links.result.now.hash, c.take-key.result) ∷ span_triples zs (i.left - 1)
+    c.address-self-inside.result.ptr) (sym out.cells)

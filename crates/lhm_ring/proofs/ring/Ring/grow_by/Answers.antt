@@ -28,8 +28,10 @@ pub invariant_of-self-2 : goal.invariant_of-self-2
 invariant_of-self-2 g c =
     let i = c.self.inside in let ds = c.make_spares-self-inside.new.nodes in let first = c.make_spares-self-inside.result in
     let chunk : Ptr × ℕ = (c.in_ok-at.at.ptr, c.max-places.result) in
-    let ok = subst (λ zs. IsOwned (ring_cells i.ends zs) i.spare i.len i.spares) (sym c.allocate_chunk.ensures.cells) c.self.invariant.ring in
-    let ring = IsOwned-stacked i.ends c.allocate_chunk.new.nodes.cells ds.cells first _ ok c.make_spares-self-inside.ensures.stacked ds.apart ds.blocks in
+    let ok = subst (λ zs. IsOwned (ring_cells i.ends zs) i.spare i.len i.spares)
+    (sym c.allocate_chunk.ensures.cells) c.self.invariant.ring in
+    let ring = IsOwned-stacked i.ends c.allocate_chunk.new.nodes.cells ds.cells first _ ok
+    c.make_spares-self-inside.ensures.stacked ds.apart ds.blocks in
     let more = c.make_spares-self-inside.ensures.chunks ∙ c.in_ok-at.ensures.chunks in
     let laid = IsLaid-grown chunk c.self.invariant.laid c.make_spares-self-inside.ensures.unused more c.in_ok-at.ensures.recorded in
     let made = length-made ds.cells ds.unused ds.node_bytes ds.chunks ds.laid laid.none_unused ∙ sym laid.all_made in
@@ -42,7 +44,8 @@ invariant_of-self-2 g c =
 pub returns-clause-held : goal.returns-clause-held
 returns-clause-held g c =
     let i = c.self.inside in let cs = c.allocate_chunk.new.nodes.cells in let ds = c.make_spares-self-inside.new.nodes in
-    let ok = subst (λ zs. IsOwned (ring_cells i.ends zs) i.spare i.len i.spares) (sym c.allocate_chunk.ensures.cells) c.self.invariant.ring in
+    let ok = subst (λ zs. IsOwned (ring_cells i.ends zs) i.spare i.len i.spares)
+    (sym c.allocate_chunk.ensures.cells) c.self.invariant.ring in
     ring_list-stacked i.ends cs ds.cells c.make_spares-self-inside.result _ ok c.make_spares-self-inside.ensures.stacked ds.apart ds.blocks
     ∙ ap (λ zs. ring_list (ring_cells i.ends zs) i.len) c.allocate_chunk.ensures.cells ∙ ap (λ z. z.held) c.self.view_is
 

@@ -4,7 +4,9 @@ use Rattle.lhm_ring.proofs.ring.Ring.iter.Goals as goal
 use Rattle.lhm_ring.specs.Ring.{State}
 
 pub invariant_of-result : goal.invariant_of-result
-invariant_of-result g c = let i = c.self.inside in IsSpan-ring i.ends i.nodes.cells c.self.invariant.ring c.address.ensures c.address-2.ensures
+invariant_of-result g c = let i = c.self.inside in
+    IsSpan-ring i.ends i.nodes.cells c.self.invariant.ring c.address.ensures c.address-2.ensures
 
 pub returns : goal.returns
-returns g c = let i = c.self.inside in listed-ring i.ends i.nodes.cells c.self.invariant.ring c.address.ensures ∙ ap (λ (s : State _). s.held) c.self.view_is
+returns g c = let i = c.self.inside in listed-ring i.ends i.nodes.cells c.self.invariant.ring
+    c.address.ensures ∙ ap (λ (s : State _). s.held) c.self.view_is

@@ -49,7 +49,12 @@ use Rattle.lhm_ring.proofs.value_loan.Hole.TheLaws as H-laws
 use Rattle.lhm_ring.proofs.ring.Ring.TheInside.TheLaws as I-laws
 use Rattle.lhm_ring.proofs.memory.NodeFields.{marker, struct_made}
 use Rattle.lhm_ring.proofs.memory.ValuesReplaced.{run_of}
-use Rattle.lhm_ring.proofs.memory.ValuesSplitOff.{Inside, Full, parts, thin_shape, Thinned, thinned, Sharable-unvalued, at_pointers, vals, kept_by, entries, As, Vals, named as listed_as, view, good, Fields, ring_cut, back, placed, placed-own, ordered_back, AreLent-entries, LoanMarker, loan_made}
+use Rattle.lhm_ring.proofs.memory.ValuesSplitOff.{Inside, Full, parts, thin_shape, Thinned, thinned}
+use Rattle.lhm_ring.proofs.memory.ValuesSplitOff.{Sharable-unvalued, at_pointers, vals, kept_by}
+use Rattle.lhm_ring.proofs.memory.ValuesSplitOff.{entries, As, Vals, named as listed_as, view, good}
+use Rattle.lhm_ring.proofs.memory.ValuesSplitOff.{Fields, ring_cut, back, placed, placed-own}
+use Rattle.lhm_ring.proofs.memory.ValuesSplitOff.{ordered_back, AreLent-entries, LoanMarker}
+use Rattle.lhm_ring.proofs.memory.ValuesSplitOff.{loan_made}
 use Rattle.lhm_ring.specs.contracts.ring.Ring.lend.{ended, clauses}
 use Rattle.lhm_ring.specs.contracts.ring.Ring.lend.Key.{name as #self}
 use Rattle.lhm_ring.proofs.ring.Ring.lend.Statement.{statement}
@@ -60,73 +65,126 @@ use Rattle.lhm_ring.specs.RingAfterLoan.{with_values}
 use Rattle.lhm_ring.specs.Iter.{held_left, loan_name}
 
 -- what follows a name that a result has
-by_name : {M : Type 1} {𝓤 : Ura M} (𝓛 : Logic 𝓤) (R T : RattleType) (γ ν : GName) (F : T.Denot → R.Denot) (v : R.Denot) (m : maybe.Option GName) → m ≡ maybe.some ν
+by_name : {M : Type 1} {𝓤 : Ura M} (𝓛 : Logic 𝓤) (R T : RattleType) (γ ν : GName) (F : T.Denot
+    → R.Denot) (v : R.Denot) (m : maybe.Option GName) → m ≡ maybe.some ν
     → ent 𝓤 (sem 𝓛 (follows R T γ ν F)) (sem 𝓛 (follows_if R T γ m F v))
 unfolding follows_by
-by_name {𝓤 = 𝓤} 𝓛 R T γ ν F v m is = subst (λ (n : maybe.Option GName). ent 𝓤 (sem 𝓛 (follows R T γ ν F)) (sem 𝓛 (follows_if R T γ n F v))) (sym is) (id⊢ 𝓤 _)
+by_name {𝓤 = 𝓤} 𝓛 R T γ ν F v m is =
+    subst (λ (n : maybe.Option GName). ent 𝓤 (sem 𝓛 (follows R T γ ν F))
+    (sem 𝓛 (follows_if R T γ n F v))) (sym is) (id⊢ 𝓤 _)
 
 pub lend_spec : {M : Type 1} → statement M
 unfolding fseps
 lend_spec 𝓤 𝓛 𝓜 𝓡 wired K V LK LV =
-    let H = 𝓛.H in let 𝓣 = tables 𝓤 H 𝓜 𝓡 𝓡.env in let Q : RattleType = links.the_row in let S : RattleType = param 0 K in let W : RattleType = param 1 V in let Hr : RattleType = H-type.the_row W in
-    let R : RattleType = R-type.the_row S W in let En = ended K V in let c = clauses K V 𝓛 𝓜.mem 𝓡.returns in let args = layouts (a_type ∷ a_type ∷ []) (K, (V, tt)) in let fn = inst_fn args code.function in
+    let H = 𝓛.H in let 𝓣 = tables 𝓤 H 𝓜 𝓡 𝓡.env in let Q : RattleType = links.the_row in
+    let S : RattleType = param 0 K in let W : RattleType = param 1 V in let Hr : RattleType =
+    H-type.the_row W in
+    let R : RattleType = R-type.the_row S W in let En = ended K V in
+    let c = clauses K V 𝓛 𝓜.mem 𝓡.returns in let args = layouts (a_type ∷ a_type ∷ []) (K, (V, tt))
+    in let fn = inst_fn args code.function in
     let hs : Stays En.signature.params En.kept = (stay_dropped (mut_ref_to (0 ∷ []) tt (plain (λ _. R))) no, tt) in
     proved_at 𝓛 En hs c 𝓜 𝓡 (Goes-spent_ref 𝓛 3 (0 ∷ []) tt (plain (λ _. R)), tt)
     (#self args) fn (code.unfolded 𝓤 H 𝓜 𝓡 wired (K, (V, tt))) (λ y are.
     let κs = y.0.0 in let qs = y.0.1 in let a = y.0.3 in let vss = y.0.4 in let Post : Val → SProp 𝓤 = (walk_of 𝓛 En hs c).post y in
     let rb : ℕ = a.0.ref_ptr.0 in let ro : ℕ = a.0.ref_ptr.1 in let d : State (K.Denot × V.Denot) = a.0.now in
     let others : Fml = tokens 2 κs.1 qs.1 in
-    let κ : Lft = κs.0 in let q = qs.0 in let γ = a.0.ghost_name in let dcode = R.coded.code d in let vs : List V.Denot = held_values d.held in let bounds = y.0.2 in
+    let κ : Lft = κs.0 in let q = qs.0 in let γ = a.0.ghost_name in let dcode = R.coded.code d in
+    let vs : List V.Denot = held_values d.held in let bounds = y.0.2 in
     let Seq : RattleType = Array W 0 in
-    let It : RattleType = L-type.the_row (named_lft 3 0 tt κs) Q S W in let Out : RattleType = I-iter.the_row (named_lft 3 0 tt κs) S W in let Holed : RattleType = R-type.the_row S Hr in let lm : RattleType = LoanMarker (named_lft 3 0 tt κs) Q S W in
-    qed 𝓛 (((‵ (flft κs.0 qs.0) ⊛ ‵ others) ⊛ ‵ (owns (types_at En.signature.params κs) a vss)) ∷ raw (fact 𝓤 (κs.1.0 ⊑ K.lives)) ∷ raw (fact 𝓤 (κs.1.1.0 ⊑ V.lives)) ∷ raw (emp 𝓤) ∷ []) ∵
-    keep ! (1 ∷ 2 ∷ 0 ∷ []) $ heard ! (κs.1.0 ⊑ K.lives) (λ inK. heard ! (κs.1.1.0 ⊑ V.lives) (λ inV. split ! $ split ! $ move ! (2 ∷ []) $ fsplit ! $ fsplit3 ! $ keep ! (1 ∷ 2 ∷ 4 ∷ 5 ∷ []) $
+    let It : RattleType = L-type.the_row (named_lft 3 0 tt κs) Q S W in let Out : RattleType =
+    I-iter.the_row (named_lft 3 0 tt κs) S W in let Holed : RattleType = R-type.the_row S Hr in
+    let lm : RattleType = LoanMarker (named_lft 3 0 tt κs) Q S W in
+    qed 𝓛 (((‵ (flft κs.0 qs.0) ⊛ ‵ others) ⊛ ‵ (owns (types_at En.signature.params κs) a vss)) ∷
+    raw (fact 𝓤 (κs.1.0 ⊑ K.lives)) ∷ raw (fact 𝓤 (κs.1.1.0 ⊑ V.lives)) ∷ raw (emp 𝓤) ∷ []) ∵
+    keep ! (1 ∷ 2 ∷ 0 ∷ []) $ heard ! (κs.1.0 ⊑ K.lives) (λ inK. heard ! (κs.1.1.0 ⊑ V.lives)
+    (λ inV. split ! $ split ! $ move ! (2 ∷ []) $ fsplit ! $ fsplit3 ! $ keep ! (1 ∷ 2 ∷ 4 ∷ 5 ∷ [])
+    $
     runs_with ! 𝓣.C 𝓣.Λ fn Post (vptr rb ro ∷ []) (λ i. are.0.0 i ++ []) $
     alloc_all ! (λ l. pass_all ! refl ((tt, tt), tt) $ let Ev = env fn.locals l in
     open_ref ! tt (mem R) {x = d} {b = rb} {o = ro} $
     use1 𝓛 (some (λ (x : (i : Inside S W) × ((view S W i ≡ d) × good S W i)). ‵ (part_at (Full S W) full_share x.0 rb ro)))
-    (plain_out R (Full S W) (view_owns (Full S W) (State (K.Denot × V.Denot)) R.coded (view S W) (good S W)) 𝓛 full_share d rb ro) $ pick ! (λ x.
-    let i : Inside S W = x.0 in let seen = x.1.0 in let ok = x.1.1 in let kb : Ptr → _ = kept_by S W i in let es = entries S W i in let ps : List Ptr = at_pointers Q S W es in let ws : List V.Denot = vals Q S W es in
-    let As' : SemTy = As S W 𝓛 i d seen ok rb ro in let Vs : SemTy = Vals S W i in let Fs : Fml = Fields S W 𝓛 i d seen ok rb ro in let is : placed S W 𝓛 i d seen ok rb ro (held_values d.held) ≡ ws = placed-own S W 𝓛 i d seen ok rb ro in
+    (plain_out R (Full S W) (view_owns (Full S W) (State (K.Denot × V.Denot)) R.coded (view S W)
+    (good S W)) 𝓛 full_share d rb ro) $ pick ! (λ x.
+    let i : Inside S W = x.0 in let seen = x.1.0 in let ok = x.1.1 in let kb : Ptr
+    → _ = kept_by S W i in let es = entries S W i in let ps : List Ptr = at_pointers Q S W es in
+    let ws : List V.Denot = vals Q S W es in
+    let As' : SemTy = As S W 𝓛 i d seen ok rb ro in let Vs : SemTy = Vals S W i in let Fs : Fml =
+    Fields S W 𝓛 i d seen ok rb ro in let is : placed S W 𝓛 i d seen ok rb ro (held_values d.held)
+    ≡ ws = placed-own S W 𝓛 i d seen ok rb ro in
     use1 𝓛 (‵ (spread W ps ws) ⊛ ‵ Fs) (ring_cut S W kb 𝓛 i rb ro) $ split ! $
     -- [the values; the fields; the open borrow, in three; the other tokens]
-    rewrite ! 0 (λ (l : List V.Denot). ‵ (spread W ps l)) (sym is) refl $ nothing ! $ move ! (2 ∷ 0 ∷ []) $ fjoin ! $ nothing ! $ move ! (3 ∷ 4 ∷ 5 ∷ 2 ∷ 1 ∷ 0 ∷ []) $ group ! 6 $
-    use1 𝓛 (later (some (λ (ν : ℕ). ‵ (fobs ν (As'.coded.code vs)) ⊛ ‵ (fbor κ (Borrowed As' 0 0 ν)) ⊛ ‵ (flft κ q) ⊛ ‵ (follows R Seq γ ν (with_values d)) ⊛ ‵ (fbor κ Fs) ⊛ ‵ ftrue)))
-    (takes_beside 𝓛 (mem R) As' (with_values d) κ q rb ro 0 0 γ (Fs ∷ []) (emp 𝓤) (back S W 𝓛 i d seen ok rb ro) dcode dcode vs) $ await ! tt $ pick ! (λ ν. split3 ! $ move ! (2 ∷ []) $ split3 ! $ move ! (3 ∷ 4 ∷ 0 ∷ []) $
+    rewrite ! 0 (λ (l : List V.Denot). ‵ (spread W ps l)) (sym is) refl $ nothing ! $ move !
+    (2 ∷ 0 ∷ []) $ fjoin ! $ nothing ! $ move ! (3 ∷ 4 ∷ 5 ∷ 2 ∷ 1 ∷ 0 ∷ []) $ group ! 6 $
+    use1 𝓛 (later (some (λ (ν : ℕ). ‵ (fobs ν (As'.coded.code vs)) ⊛ ‵ (fbor κ (Borrowed As' 0 0 ν))
+    ⊛ ‵ (flft κ q) ⊛ ‵ (follows R Seq γ ν (with_values d)) ⊛ ‵ (fbor κ Fs) ⊛ ‵ ftrue)))
+    (takes_beside 𝓛 (mem R) As' (with_values d) κ q rb ro 0 0 γ (Fs ∷ []) (emp 𝓤)
+    (back S W 𝓛 i d seen ok rb ro) dcode dcode vs) $ await ! tt $ pick !
+    (λ ν. split3 ! $ move ! (2 ∷ []) $ split3 ! $ move ! (3 ∷ 4 ∷ 0 ∷ []) $
     -- [the name; the borrow; its token; what follows; the shared parts; the other tokens]
-    open_ref ! tt As' {x = vs} {b = 0} {o = 0} $ rewrite ! 0 (λ (l : List V.Denot). ‵ (spread W ps l)) is refl $ nothing ! $ move ! (2 ∷ 3 ∷ 4 ∷ 1 ∷ 0 ∷ []) $ group ! 5 $
-    use1 𝓛 (later (some (λ (δ : ℕ). ‵ (fobs δ (Vs.coded.code ws)) ⊛ ‵ (fbor κ (Borrowed Vs 0 0 δ)) ⊛ ‵ (flft κ q) ⊛ ‵ (afterwards As' Vs ν δ (listed_as S W 𝓛 i d seen ok rb ro)))))
-    (takes_part 𝓛 As' Vs (listed_as S W 𝓛 i d seen ok rb ro) κ q 0 0 0 0 ν (emp 𝓤) (ordered_back S W 𝓛 i d seen ok rb ro) (As'.coded.code vs) (As'.coded.code vs) ws) $ await ! tt $ pick ! (λ δ. split3 ! $ fjoin ! $
-    let lent : ValueLoan Links K.Denot V.Denot = record { marker = record {}; name = δ; tie = ν; run = run_of es } in let top : Bor (State (K.Denot × V.Denot)) = record { ref_ptr = (rb, ro); now = d } in
+    open_ref ! tt As' {x = vs} {b = 0} {o = 0} $ rewrite ! 0
+    (λ (l : List V.Denot). ‵ (spread W ps l)) is refl $ nothing ! $ move !
+    (2 ∷ 3 ∷ 4 ∷ 1 ∷ 0 ∷ []) $ group ! 5 $
+    use1 𝓛 (later (some (λ (δ : ℕ). ‵ (fobs δ (Vs.coded.code ws)) ⊛ ‵ (fbor κ (Borrowed Vs 0 0 δ)) ⊛
+    ‵ (flft κ q) ⊛ ‵ (afterwards As' Vs ν δ (listed_as S W 𝓛 i d seen ok rb ro)))))
+    (takes_part 𝓛 As' Vs (listed_as S W 𝓛 i d seen ok rb ro) κ q 0 0 0 0 ν (emp 𝓤)
+    (ordered_back S W 𝓛 i d seen ok rb ro) (As'.coded.code vs) (As'.coded.code vs) ws) $ await ! tt
+    $ pick ! (λ δ. split3 ! $ fjoin ! $
+    let lent : ValueLoan Links K.Denot V.Denot =
+    record { marker = record {}; name = δ; tie = ν; run = run_of es } in
+    let top : Bor (State (K.Denot × V.Denot)) = record { ref_ptr = (rb, ro); now = d } in
     use0 𝓛 (‵ (lm.own_val (tt, tt) (marker ∷ []))) (loan_made (named_lft 3 0 tt κs) Q S W 𝓛) $ fjoin ! $
     -- [the loan; its token and the second name's; what follows; the shared parts; the other tokens]
     move ! (1 ∷ []) $ split ! $ move ! (4 ∷ []) $ split ! $
     -- [the fields; nothing; the token; the second name's; the loan; what follows; the other tokens]
     move ! (0 ∷ 2 ∷ []) $ let LS = param_laws 0 K LK in let LH = H-laws.the_row_laws W (param_laws 1 V LV) in
     use2 𝓛 (later (‵ ((Thinned S W kb).shr_at (thinned S W kb i) rb ro κ) ⊛ ‵ (flft κ q)))
-    (parts_share 𝓛 (parts S W kb) (thin_shape S W kb).name (thin_shape S W kb).args (thin_shape S W kb).types (Sharable-unvalued Q S W kb links-laws.the_row_laws LS LH, (I-laws.the_shared S Hr LS LH).1) (thinned S W kb i) κ ((κ, q) ∷ []) rb ro
-    (I-laws.the_within S Hr κ (Incl-trans bounds.0 inK) (H-laws.the_within W κ (Incl-trans bounds.1.0 inV))) (Incl-refl κ)) $ await ! tt $ split ! $
-    use1 𝓛 (‵ (Holed.shr_at d rb ro κ)) (view-Hides (I-type.the_row S Hr) (State (K.Denot × V.Denot)) Holed.coded (R-type.the_view S Hr) (R-type.the_invariant S Hr) _ 𝓤 𝓛 d i (seen, ok) rb ro κ) $
+    (parts_share 𝓛 (parts S W kb) (thin_shape S W kb).name (thin_shape S W kb).args
+    (thin_shape S W kb).types
+    (Sharable-unvalued Q S W kb links-laws.the_row_laws LS LH, (I-laws.the_shared S Hr LS LH).1)
+    (thinned S W kb i) κ ((κ, q) ∷ []) rb ro
+    (I-laws.the_within S Hr κ (Incl-trans bounds.0 inK)
+    (H-laws.the_within W κ (Incl-trans bounds.1.0 inV))) (Incl-refl κ)) $ await ! tt $ split ! $
+    use1 𝓛 (‵ (Holed.shr_at d rb ro κ)) (view-Hides (I-type.the_row S Hr)
+    (State (K.Denot × V.Denot)) Holed.coded (R-type.the_view S Hr) (R-type.the_invariant S Hr) _ 𝓤 𝓛
+    d i (seen, ok) rb ro κ) $
     hide ! $ feq_i ! (List Val) (vptr rb ro ∷ []) (vptr rb ro ∷ []) refl $ fjoin ! $
     -- [the ring, shared; the token; nothing; the second name's; the loan; what follows; the other
     -- tokens]
-    move ! (0 ∷ 4 ∷ []) $ struct_made ! (declared.shape (T-type.the_type (named_lft 3 0 tt κs) S W)) (ShrRef (named 0) κ Holed) It top lent (vptr rb ro) marker $
+    move ! (0 ∷ 4 ∷ []) $ struct_made ! (declared.shape (T-type.the_type (named_lft 3 0 tt κs) S W))
+    (ShrRef (named 0) κ Holed) It top lent (vptr rb ro) marker $
     let out : Val = vstruct (vcons (vptr rb ro) (vcons marker vnil)) in
-    sets ! (addr ! (through ! refl (stop !))) refl (tt, tt) $ first ! $ blocks ! $ sets_last ! (addr ! (through ! refl (stop !))) refl (tt, tt) $
-    exec ! 𝓣.C 𝓣.Λ Ev (after 2 fn.body) (at_ret Ev Post) $ sets ! (of_opd ! (get ! refl)) refl (tt, tt) $ sets ! (agg ! (no_more !)) refl (tt, tt) $
-    sets ! (agg ! (and_then ! (get ! refl) (no_more !))) refl (tt, (tt, tt)) $ sets ! (agg ! (and_then ! (get ! refl) (and_then ! (get ! refl) (no_more !)))) refl (tt, (tt, ((tt, tt), tt))) $
+    sets ! (addr ! (through ! refl (stop !))) refl (tt, tt) $ first ! $ blocks ! $ sets_last !
+    (addr ! (through ! refl (stop !))) refl (tt, tt) $
+    exec ! 𝓣.C 𝓣.Λ Ev (after 2 fn.body) (at_ret Ev Post) $ sets ! (of_opd ! (get ! refl)) refl
+    (tt, tt) $ sets ! (agg ! (no_more !)) refl (tt, tt) $
+    sets ! (agg ! (and_then ! (get ! refl) (no_more !))) refl (tt, (tt, tt)) $ sets !
+    (agg ! (and_then ! (get ! refl) (and_then ! (get ! refl) (no_more !)))) refl
+    (tt, (tt, ((tt, tt), tt))) $
     -- [the pair; the token; nothing; the second name's; what follows; the other tokens]
     let lv : LentValues K.Denot V.Denot = record { ring = top; loan = lent } in
-    let O = triple_of 𝓛 (g.signature K V) (g.spec K V 𝓛 𝓜.mem 𝓡.returns) in let z : O.Ghost = ((κs, qs, bounds, (lv, tt), (out ∷ [], tt)), tt) in
+    let O = triple_of 𝓛 (g.signature K V) (g.spec K V 𝓛 𝓜.mem 𝓡.returns) in let z : O.Ghost =
+    ((κs, qs, bounds, (lv, tt), (out ∷ [], tt)), tt) in
     move ! (1 ∷ 5 ∷ []) $ join ! $ move ! (1 ∷ 2 ∷ []) $ fjoin ! $ move ! (1 ∷ 0 ∷ []) $ join ! $
-    states ! (AreLent (run_of es) d.held) (AreLent-entries S W 𝓛 i d seen ok rb ro) $ use0 𝓛 (raw (fact 𝓤 (κs.1.1.0 ⊑ V.lives))) (fact_i 𝓤 (κs.1.1.0 ⊑ V.lives) (emp 𝓤) inV) $ join ! $
-    use0 𝓛 (raw (fact 𝓤 (κs.1.0 ⊑ K.lives))) (fact_i 𝓤 (κs.1.0 ⊑ K.lives) (emp 𝓤) inK) $ join ! $ move ! (1 ∷ 0 ∷ []) $ use2 𝓛 (raw (O.pre z)) (id⊢ 𝓤 _) $
-    calls_at ! (framed 𝓤 H 𝓜 𝓣) O (of-thm.met 𝓤 𝓛 𝓜 𝓡 (code.calls-lhm_ring::iter::IterMut::of 𝓡.env wired) K V LK LV) z (and_then ! (get ! refl) (no_more !)) (λ v.
-    use1 𝓛 (later (some (λ (r : Out.Denot). ((‵ (flft κ q) ⊛ ‵ others) ⊛ ‵ (Out.own_val r (v ∷ []))) ⊛ some (λ (ls : Lasts (g.ended K V) κs z.0.3). ‵ (lasts (g.ended K V) κs z.0.3 ls) ⊛ (raw (fact 𝓤 (held_left r ≡ d.held)) ⊛ raw (fact 𝓤 (loan_name r ≡ maybe.some ν))))))) (id⊢ 𝓤 _) $
-    await ! tt $ pick ! (λ r. split ! $ split ! $ split ! $ move ! (3 ∷ []) $ pick ! (λ ls. split ! $ drop ! $ split ! $ heard ! _ (λ rest. heard ! _ (λ name.
+    states ! (AreLent (run_of es) d.held) (AreLent-entries S W 𝓛 i d seen ok rb ro) $ use0 𝓛
+    (raw (fact 𝓤 (κs.1.1.0 ⊑ V.lives))) (fact_i 𝓤 (κs.1.1.0 ⊑ V.lives) (emp 𝓤) inV) $ join ! $
+    use0 𝓛 (raw (fact 𝓤 (κs.1.0 ⊑ K.lives))) (fact_i 𝓤 (κs.1.0 ⊑ K.lives) (emp 𝓤) inK) $ join ! $
+    move ! (1 ∷ 0 ∷ []) $ use2 𝓛 (raw (O.pre z)) (id⊢ 𝓤 _) $
+    calls_at ! (framed 𝓤 H 𝓜 𝓣) O
+    (of-thm.met 𝓤 𝓛 𝓜 𝓡 (code.calls-lhm_ring::iter::IterMut::of 𝓡.env wired) K V LK LV) z
+    (and_then ! (get ! refl) (no_more !)) (λ v.
+    use1 𝓛 (later (some (λ (r : Out.Denot). ((‵ (flft κ q) ⊛ ‵ others) ⊛ ‵ (Out.own_val r (v ∷ [])))
+    ⊛ some (λ (ls : Lasts (g.ended K V) κs z.0.3). ‵ (lasts (g.ended K V) κs z.0.3 ls) ⊛
+    (raw (fact 𝓤 (held_left r ≡ d.held)) ⊛ raw (fact 𝓤 (loan_name r ≡ maybe.some ν)))))))
+    (id⊢ 𝓤 _) $
+    await ! tt $ pick ! (λ r. split ! $ split ! $ split ! $ move ! (3 ∷ []) $ pick !
+    (λ ls. split ! $ drop ! $ split ! $ heard ! _ (λ rest. heard ! _ (λ name.
     -- [the token; the other tokens; the result; the second name's; what follows]
     move ! (2 ∷ []) $ peeks ! Out (Is Out) (shows 𝓛 Out) r (v ∷ []) (λ it.
-    lands_as ! refl refl (((iter-laws.the_row_laws (named_lft 3 0 tt κs) S W LS (param_laws 1 V LV)).lawful 𝓛).typed r (v ∷ []) it).0 $ returns ! (look_at ! 0 refl) $ free_all ! refl $
-    move ! (4 ∷ []) $ use1 𝓛 (‵ (follows_if R Seq γ (loan_name r) (with_values d) d)) (by_name 𝓛 R Seq γ ν (with_values d) d (loan_name r) name) $
-    use0 𝓛 (raw (fact 𝓤 (held_left r ≡ d.held))) (fact_i 𝓤 _ (emp 𝓤) rest) $ move ! (1 ∷ 0 ∷ []) $ join ! $ move ! (2 ∷ 3 ∷ []) $ join ! $ all_spent ! 1 $
+    lands_as ! refl refl (((iter-laws.the_row_laws (named_lft 3 0 tt κs) S W LS
+    (param_laws 1 V LV)).lawful 𝓛).typed r (v ∷ []) it).0 $ returns ! (look_at ! 0 refl) $ free_all
+    ! refl $
+    move ! (4 ∷ []) $ use1 𝓛 (‵ (follows_if R Seq γ (loan_name r) (with_values d) d))
+    (by_name 𝓛 R Seq γ ν (with_values d) d (loan_name r) name) $
+    use0 𝓛 (raw (fact 𝓤 (held_left r ≡ d.held))) (fact_i 𝓤 _ (emp 𝓤) rest) $ move ! (1 ∷ 0 ∷ []) $
+    join ! $ move ! (2 ∷ 3 ∷ []) $ join ! $ all_spent ! 1 $
     keep ! (1 ∷ 0 ∷ 3 ∷ 2 ∷ []) $ by ! (leaves 𝓛 En hs c y v r (tt, tt) (tt, tt)))))))))))))))

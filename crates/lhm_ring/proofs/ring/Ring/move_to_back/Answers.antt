@@ -13,7 +13,8 @@ links-links-requires g c = IsAt-inside c.self.inside c.self.invariant c.self.vie
 pub join-requires : goal.join-requires
 join-requires g c =
     let i = c.self.inside in let p = c.args.at.pointer.ptr in
-    is_there-beside c.self.invariant.ring c.self.view_is c.requires (links_at-ring_cells i.ends i.nodes.cells p c.args.at.block ∙ c.links-links.ensures)
+    is_there-beside c.self.invariant.ring c.self.view_is c.requires
+    (links_at-ring_cells i.ends i.nodes.cells p c.args.at.block ∙ c.links-links.ensures)
 
 pub join-requires-2 : goal.join-requires-2
 join-requires-2 g c =
@@ -30,25 +31,30 @@ join-requires-3 g c =
     let e = links_at-ring_cells i.ends i.nodes.cells p c.args.at.block ∙ c.links-links.ensures in
     let t = is_there-moving c.self.invariant.ring c.self.view_is p e c.join.ensures.joined c.requires in
     let ends = c.join-2.new.ends in let zs = c.join-2.new.nodes.cells in (
-      c.join-2.ensures.joined.there c.to-moved.result.ptr ∙ subst (IsThere ds) (sym (led_to-some c.to-moved.result.ptr p c.to-moved.ensures)) t.1,
+      c.join-2.ensures.joined.there c.to-moved.result.ptr
+          ∙ subst (IsThere ds) (sym (led_to-some c.to-moved.result.ptr p c.to-moved.ensures)) t.1,
       is_there-nowhere c.join-2.new.ends c.join-2.new.nodes.cells c.none.result.ptr c.none.ensures,
     )
 
 pub invariant_of-self : goal.invariant_of-self
 invariant_of-self g c =
     let i = c.self.inside in let p = c.args.at.pointer.ptr in
-    let e = links_at-ring_cells i.ends i.nodes.cells p c.args.at.block ∙ c.links-links.ensures in let node = led_to-some c.to-moved.result.ptr p c.to-moved.ensures in
+    let e = links_at-ring_cells i.ends i.nodes.cells p c.args.at.block ∙ c.links-links.ensures in
+    let node = led_to-some c.to-moved.result.ptr p c.to-moved.ensures in
     let k = IsJoined-same (sym (prev_at-null c.join.new.ends c.join.new.nodes.cells)) node c.join-2.ensures.joined in
     let l = IsJoined-same node (led_to-none c.none.result.ptr c.none.ensures) c.join-3.ensures.joined in
     record {
       ring = IsOwned-moved c.self.invariant.ring c.self.view_is p e c.join.ensures.joined k l c.requires;
-      laid = IsLaid-same c.self.invariant.laid (c.join-3.ensures.land.0 ∙ c.join-2.ensures.land.0 ∙ c.join.ensures.land.0) (c.join-3.ensures.land.1 ∙ c.join-2.ensures.land.1 ∙ c.join.ensures.land.1);
+      laid = IsLaid-same c.self.invariant.laid (c.join-3.ensures.land.0 ∙ c.join-2.ensures.land.0
+          ∙ c.join.ensures.land.0) (c.join-3.ensures.land.1 ∙ c.join-2.ensures.land.1
+          ∙ c.join.ensures.land.1);
     }
 
 pub returns : goal.returns
 returns g c =
     let i = c.self.inside in let p = c.args.at.pointer.ptr in
-    let e = links_at-ring_cells i.ends i.nodes.cells p c.args.at.block ∙ c.links-links.ensures in let node = led_to-some c.to-moved.result.ptr p c.to-moved.ensures in
+    let e = links_at-ring_cells i.ends i.nodes.cells p c.args.at.block ∙ c.links-links.ensures in
+    let node = led_to-some c.to-moved.result.ptr p c.to-moved.ensures in
     let k = IsJoined-same (sym (prev_at-null c.join.new.ends c.join.new.nodes.cells)) node c.join-2.ensures.joined in
     let l = IsJoined-same node (led_to-none c.none.result.ptr c.none.ensures) c.join-3.ensures.joined in
     record {

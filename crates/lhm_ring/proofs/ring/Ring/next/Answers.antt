@@ -13,7 +13,8 @@ links-requires g c =
 pub returns-clause-next : goal.returns-clause-next
 returns-clause-next g c xs t ys h at =
     let i = c.self.inside in let p = c.args.at.pointer.ptr in
-    c.get.ensures ∙ AtHeld-next c.self.invariant.ring c.self.view_is p (links_at-ring_cells i.ends i.nodes.cells p c.args.at.block ∙ c.links.ensures) xs t ys h at
+    c.get.ensures ∙ AtHeld-next c.self.invariant.ring c.self.view_is p
+    (links_at-ring_cells i.ends i.nodes.cells p c.args.at.block ∙ c.links.ensures) xs t ys h at
 
 pub returns-clause-apart : goal.returns-clause-apart
 returns-clause-apart g c = let i = c.self.inside in IsApart-held c.self.invariant.ring c.self.view_is

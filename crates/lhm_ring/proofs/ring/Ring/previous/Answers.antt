@@ -10,4 +10,5 @@ links-requires g c = IsAt-inside c.self.inside c.self.invariant c.self.view_is c
 pub returns : goal.returns
 returns g c xs t ys h at =
     let i = c.self.inside in let p = c.args.at.pointer.ptr in
-    c.get.ensures ∙ AtHeld-previous c.self.invariant.ring c.self.view_is p (links_at-ring_cells i.ends i.nodes.cells p c.args.at.block ∙ c.links.ensures) xs t ys h at
+    c.get.ensures ∙ AtHeld-previous c.self.invariant.ring c.self.view_is p
+    (links_at-ring_cells i.ends i.nodes.cells p c.args.at.block ∙ c.links.ensures) xs t ys h at

@@ -1,6 +1,8 @@
 use Rattle.std.proofs.Common.{◌∙◌, ◌++◌, ◌∷◌, ◌-◌, [], None, ap, sym, subst, refl}
 use denote.RawPtr.{Ptr}
-use Rattle.lhm_ring.proofs.rings.PutBackAndUnlink.{IsSome-spare, IsAt-spare, Ready-spare, links_at-written, Filled-node, is_there-filled, IsOwned-put_back, ring_list-put_back}
+use Rattle.lhm_ring.proofs.rings.PutBackAndUnlink.{IsSome-spare, IsAt-spare, Ready-spare}
+use Rattle.lhm_ring.proofs.rings.PutBackAndUnlink.{links_at-written, Filled-node, is_there-filled}
+use Rattle.lhm_ring.proofs.rings.PutBackAndUnlink.{IsOwned-put_back, ring_list-put_back}
 use Rattle.lhm_ring.proofs.rings.RingCells.{IsAt-in_nodes, prev_at-null, is_there-nowhere, led_to-some, led_to-none, IsJoined-same}
 use Rattle.lhm_ring.proofs.memory.Places.{IsLaid-same}
 use Rattle.lhm_ring.proofs.ring.Ring.put_back.Goals as goal
@@ -17,13 +19,18 @@ links-old-requires g c =
     (IsAt-spare (Ready-spare c.self.invariant.ring c.self.view_is c.requires c.position-at.ensures))
 
 pub fill-requires : goal.fill-requires
-fill-requires g c = (_, links_at-written c.position-at.result.pointer.ptr _ c.self.inside.nodes.cells c.links-old.ensures c.set_links.ensures.cells)
+fill-requires g c = (
+  _,
+  links_at-written c.position-at.result.pointer.ptr _
+      c.self.inside.nodes.cells c.links-old.ensures c.set_links.ensures.cells,
+)
 
 pub join-requires : goal.join-requires
 join-requires g c =
     let i = c.self.inside in let at = c.position-at.result.pointer in
     let ready = Ready-spare c.self.invariant.ring c.self.view_is c.requires c.position-at.ensures in
-    let filled = Filled-node i.ends i.nodes.cells (held at.ptr c.args.hash None (pair c.args.key c.args.value)) refl c.position-at.result.block
+    let filled = Filled-node i.ends i.nodes.cells
+    (held at.ptr c.args.hash None (pair c.args.key c.args.value)) refl c.position-at.result.block
     c.links-old.ensures c.none.result c.none.ensures c.set_links.ensures.cells c.fill.ensures.cells in
     let t = is_there-filled ready filled in let T : Ptr → Type 0 = IsThere (ring_cells i.ends c.fill.new.self.cells) in
     (subst T (prev_at-null i.ends i.nodes.cells) t.0, subst T (sym (led_to-some i.spare.ptr at.ptr c.position-at.ensures)) t.1)
@@ -32,7 +39,8 @@ pub join-requires-2 : goal.join-requires-2
 join-requires-2 g c =
     let i = c.self.inside in let at = c.position-at.result.pointer in
     let ready = Ready-spare c.self.invariant.ring c.self.view_is c.requires c.position-at.ensures in
-    let filled = Filled-node i.ends i.nodes.cells (held at.ptr c.args.hash None (pair c.args.key c.args.value)) refl c.position-at.result.block
+    let filled = Filled-node i.ends i.nodes.cells
+    (held at.ptr c.args.hash None (pair c.args.key c.args.value)) refl c.position-at.result.block
     c.links-old.ensures c.none.result c.none.ensures c.set_links.ensures.cells c.fill.ensures.cells in
     let t = is_there-filled ready filled in let T : Ptr → Type 0 = IsThere (ring_cells i.ends c.fill.new.self.cells) in (
       c.join.ensures.joined.there i.spare.ptr ∙ subst T (sym (led_to-some i.spare.ptr at.ptr c.position-at.ensures)) t.1,
@@ -43,14 +51,16 @@ pub invariant_of-self : goal.invariant_of-self
 invariant_of-self g c =
     let i = c.self.inside in let at = c.position-at.result.pointer in
     let ready = Ready-spare c.self.invariant.ring c.self.view_is c.requires c.position-at.ensures in
-    let filled = Filled-node i.ends i.nodes.cells (held at.ptr c.args.hash None (pair c.args.key c.args.value)) refl c.position-at.result.block
+    let filled = Filled-node i.ends i.nodes.cells
+    (held at.ptr c.args.hash None (pair c.args.key c.args.value)) refl c.position-at.result.block
     c.links-old.ensures c.none.result c.none.ensures c.set_links.ensures.cells c.fill.ensures.cells in
     let node = led_to-some i.spare.ptr at.ptr c.position-at.ensures in
     let j = IsJoined-same (sym (prev_at-null i.ends i.nodes.cells)) node c.join.ensures.joined in
     let k = IsJoined-same node (led_to-none c.none-2.result.ptr c.none-2.ensures) c.join-2.ensures.joined in
     record {
       ring = IsOwned-put_back ready filled j k;
-      laid = IsLaid-same c.self.invariant.laid (c.join-2.ensures.land.0 ∙ c.join.ensures.land.0 ∙ c.fill.ensures.land.0 ∙ c.set_links.ensures.land.0)
+      laid = IsLaid-same c.self.invariant.laid (c.join-2.ensures.land.0 ∙ c.join.ensures.land.0
+          ∙ c.fill.ensures.land.0 ∙ c.set_links.ensures.land.0)
           (c.join-2.ensures.land.1 ∙ c.join.ensures.land.1 ∙ c.fill.ensures.land.1 ∙ c.set_links.ensures.land.1);
     }
 
@@ -58,7 +68,8 @@ pub returns : goal.returns
 returns g c =
     let i = c.self.inside in let at = c.position-at.result.pointer in
     let ready = Ready-spare c.self.invariant.ring c.self.view_is c.requires c.position-at.ensures in
-    let filled = Filled-node i.ends i.nodes.cells (held at.ptr c.args.hash None (pair c.args.key c.args.value)) refl c.position-at.result.block
+    let filled = Filled-node i.ends i.nodes.cells
+    (held at.ptr c.args.hash None (pair c.args.key c.args.value)) refl c.position-at.result.block
     c.links-old.ensures c.none.result c.none.ensures c.set_links.ensures.cells c.fill.ensures.cells in
     let node = led_to-some i.spare.ptr at.ptr c.position-at.ensures in
     let j = IsJoined-same (sym (prev_at-null i.ends i.nodes.cells)) node c.join.ensures.joined in

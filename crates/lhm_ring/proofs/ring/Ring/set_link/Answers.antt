@@ -18,7 +18,8 @@ invariant_of-self g c =
     let i = c.self.inside in let h = c.requires in let p = c.args.at.pointer.ptr in let cs = ring_cells i.ends i.nodes.cells in
     let r = IsAt-held c.self.invariant.ring c.self.view_is h in
     let j = ChangesAt-with_links cs p r.1 (content_at-held c.self.invariant.ring c.self.view_is h) c.args.link in
-    let w = ChainsTo-ring_cells i.ends i.nodes.cells p c.args.at.block c.args.link c.set_chain.new.nodes.cells c.set_chain.ensures.written r.0 r.1 in
+    let w = ChainsTo-ring_cells i.ends i.nodes.cells p c.args.at.block c.args.link
+    c.set_chain.new.nodes.cells c.set_chain.ensures.written r.0 r.1 in
     record {
       ring = subst (λ zs. IsOwned zs i.spare i.len i.spares) (sym w) (IsOwned-changed j c.self.invariant.ring c.self.view_is h);
       laid = IsLaid-same c.self.invariant.laid (c.set_chain.ensures.land.0) (c.set_chain.ensures.land.1);
@@ -29,7 +30,8 @@ returns g c =
     let i = c.self.inside in let h = c.requires in let p = c.args.at.pointer.ptr in let cs = ring_cells i.ends i.nodes.cells in
     let r = IsAt-held c.self.invariant.ring c.self.view_is h in
     let j = ChangesAt-with_links cs p r.1 (content_at-held c.self.invariant.ring c.self.view_is h) c.args.link in
-    let w = ChainsTo-ring_cells i.ends i.nodes.cells p c.args.at.block c.args.link c.set_chain.new.nodes.cells c.set_chain.ensures.written r.0 r.1 in
+    let w = ChainsTo-ring_cells i.ends i.nodes.cells p c.args.at.block c.args.link
+    c.set_chain.new.nodes.cells c.set_chain.ensures.written r.0 r.1 in
     let f : Held (g.row.K.Denot × g.row.V.Denot) → Held (g.row.K.Denot × g.row.V.Denot) = linked_to _ in
     let e = ap (λ zs. ring_list zs i.len) w ∙ ring_list-changed j f refl c.self.invariant.ring c.self.view_is in
     record {

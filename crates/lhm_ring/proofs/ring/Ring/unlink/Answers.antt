@@ -1,8 +1,12 @@
 use Rattle.std.proofs.Common.{◌∙◌, ◌+◌, None, ap}
 use Rattle.lhm_ring.proofs.rings.ReadAtPosition.{hash-held}
-use Rattle.lhm_ring.proofs.rings.RingCells.{IsAt-in_nodes, Holds-in_nodes, links_at-ring_cells, body_at-ring_cells, ring_cells-with_body, ChainsTo-ring_cells}
+use Rattle.lhm_ring.proofs.rings.RingCells.{IsAt-in_nodes, Holds-in_nodes, links_at-ring_cells}
+use Rattle.lhm_ring.proofs.rings.RingCells.{body_at-ring_cells, ring_cells-with_body}
+use Rattle.lhm_ring.proofs.rings.RingCells.{ChainsTo-ring_cells}
 use Rattle.lhm_ring.proofs.rings.Moves.{is_there-beside}
-use Rattle.lhm_ring.proofs.rings.PutBackAndUnlink.{Holds-unlinked, IsAt-unlinked, count-held, IsOwned-unlinked, ring_list-unlinked, pair-unlinked}
+use Rattle.lhm_ring.proofs.rings.PutBackAndUnlink.{Holds-unlinked, IsAt-unlinked, count-held}
+use Rattle.lhm_ring.proofs.rings.PutBackAndUnlink.{IsOwned-unlinked, ring_list-unlinked}
+use Rattle.lhm_ring.proofs.rings.PutBackAndUnlink.{pair-unlinked}
 use Rattle.lhm_ring.proofs.memory.Places.{IsLaid-same}
 use Rattle.lhm_ring.proofs.rings.Insides.{IsAt-inside}
 use Rattle.lhm_ring.proofs.ring.Ring.unlink.Goals as goal
@@ -13,13 +17,15 @@ links-old-requires g c = IsAt-inside c.self.inside c.self.invariant c.self.view_
 pub join-requires : goal.join-requires
 join-requires g c =
     let i = c.self.inside in let p = c.args.at.pointer.ptr in
-    is_there-beside c.self.invariant.ring c.self.view_is c.requires (links_at-ring_cells i.ends i.nodes.cells p c.args.at.block ∙ c.links-old.ensures)
+    is_there-beside c.self.invariant.ring c.self.view_is c.requires
+    (links_at-ring_cells i.ends i.nodes.cells p c.args.at.block ∙ c.links-old.ensures)
 
 pub take-key-requires : goal.take-key-requires
 take-key-requires g c =
     let i = c.self.inside in let p = c.args.at.pointer.ptr in let b = c.args.at.block in
     let e = links_at-ring_cells i.ends i.nodes.cells p b ∙ c.links-old.ensures in
-    Holds-in_nodes c.join.new.ends c.join.new.nodes.cells p b (Holds-unlinked c.self.invariant.ring c.self.view_is c.requires e c.join.ensures.joined)
+    Holds-in_nodes c.join.new.ends c.join.new.nodes.cells p b
+    (Holds-unlinked c.self.invariant.ring c.self.view_is c.requires e c.join.ensures.joined)
 
 pub set_chain-requires : goal.set_chain-requires
 set_chain-requires g c =
@@ -38,22 +44,28 @@ invariant_of-self g c =
     let taken = ring_cells-with_body ends c.join.new.nodes.cells p b None ws c.take-key.ensures.cells in
     let chained = ChainsTo-ring_cells ends ws p b i.spare c.set_chain.new.nodes.cells c.set_chain.ensures.written in
     record {
-      ring = IsOwned-unlinked c.self.invariant.ring c.self.view_is c.requires e c.join.ensures.joined taken chained c.to-self-inside.ensures;
+      ring = IsOwned-unlinked c.self.invariant.ring c.self.view_is c.requires e
+          c.join.ensures.joined taken chained c.to-self-inside.ensures;
       laid = IsLaid-same c.self.invariant.laid (c.set_chain.ensures.land.0 ∙ c.take-key.ensures.land.0 ∙ c.join.ensures.land.0)
           (c.set_chain.ensures.land.1 ∙ c.take-key.ensures.land.1 ∙ c.join.ensures.land.1);
     }
 
 pub returns : goal.returns
 returns g c =
-    let i = c.self.inside in let p = c.args.at.pointer.ptr in let b = c.args.at.block in let ends = c.join.new.ends in let zs = c.join.new.nodes.cells in
+    let i = c.self.inside in let p = c.args.at.pointer.ptr in let b = c.args.at.block in
+    let ends = c.join.new.ends in let zs = c.join.new.nodes.cells in
     let ok = c.self.invariant.ring in let v = c.self.view_is in
     let ws = c.take-key.new.self.cells in let e = links_at-ring_cells i.ends i.nodes.cells p b ∙ c.links-old.ensures in
     let taken = ring_cells-with_body ends zs p b None ws c.take-key.ensures.cells in
     let chained = ChainsTo-ring_cells ends ws p b i.spare c.set_chain.new.nodes.cells c.set_chain.ensures.written in
     record {
-      others = λ xs t ys is at. ring_list-unlinked ok v (record { before = xs; node = t; after = ys; is = is; at_is = at }) e c.join.ensures.joined taken chained;
+      others = λ xs t ys is at. ring_list-unlinked ok v
+          (record { before = xs; node = t; after = ys; is = is; at_is = at }) e
+          c.join.ensures.joined taken chained;
       triple = λ xs t ys is at.
-          let pair = pair-unlinked ok v (record { before = xs; node = t; after = ys; is = is; at_is = at }) e c.join.ensures.joined (body_at-ring_cells ends zs p b ∙ c.take-key.ensures.body) in
+          let pair = pair-unlinked ok v
+          (record { before = xs; node = t; after = ys; is = is; at_is = at }) e
+          c.join.ensures.joined (body_at-ring_cells ends zs p b ∙ c.take-key.ensures.body) in
           let hash = hash-held ok v p e xs t ys is at in λ z. (hash z, (pair z).0, (pair z).1);
       spares = ap (λ z. z.spares + 1) v;
       nodes = ap (λ z. z.nodes) v;

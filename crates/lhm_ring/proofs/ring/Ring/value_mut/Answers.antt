@@ -24,12 +24,15 @@ returns g c =
       (
         refl,
         λ w.
-            let list = ring_list-set_value i c.self.invariant v c.args.at.block c.requires e w (ap (λ o. with_body c.args.at.pointer.ptr (value_set w o) i.nodes.cells) e) in
+            let list = ring_list-set_value i c.self.invariant v c.args.at.block c.requires e w
+            (ap (λ o. with_body c.args.at.pointer.ptr (value_set w o) i.nodes.cells) e) in
             λ x. state (list x) (v x).spares (v x).nodes,
       ),
       record {
         writes_back = tt;
         alone = ChangesOnly-held c.self.invariant.ring v c.args.at.pointer.ptr;
-        value = λ xs t ys h at. ap (λ (z : g.row.K.Denot × g.row.V.Denot). z.1) (pair-inside c.self.inside c.self.invariant c.self.view_is _ c.args.at.block e xs t ys h at);
+        value = λ xs t ys h at. ap (λ (z : g.row.K.Denot × g.row.V.Denot). z.1)
+            (pair-inside c.self.inside c.self.invariant c.self.view_is _ c.args.at.block e xs t ys h
+            at);
       },
     )

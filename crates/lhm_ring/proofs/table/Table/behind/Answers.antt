@@ -19,11 +19,15 @@ overflow_add-passed g c =
 pub pairs-preserved : goal.pairs-preserved
 pairs-preserved g c =
     let at = c.pairs.invariant.came in
-    let next = AtHeld-table_next c.self.inside.ring c.self.inside.rechained c.self.view_is (pointer_of c.pairs.here) (pointer_of_some c.next.result) c.next.ensures.next in
+    let next = AtHeld-table_next c.self.inside.ring c.self.inside.rechained c.self.view_is
+    (pointer_of c.pairs.here) (pointer_of_some c.next.result) c.next.ensures.next in
     HasPassed-step c.pairs.invariant _ (sym (ap pointer_of_some c.in-Some.is) ∙ next at.before at.node at.after at.is at.at_is)
 
 pub returns : goal.returns
 returns g c =
     let at = c.pairs.invariant.came in
-    let next = AtHeld-table_next c.self.inside.ring c.self.inside.rechained c.self.view_is (pointer_of c.pairs.here) (pointer_of_some c.next.result) c.next.ensures.next in
-    AtHeld-end (IsApart-table c.self.inside.ring c.self.inside.rechained c.self.view_is c.next.ensures.apart) c.pairs.invariant (sym (ap pointer_of_some c.in_default.is) ∙ next at.before at.node at.after at.is at.at_is)
+    let next = AtHeld-table_next c.self.inside.ring c.self.inside.rechained c.self.view_is
+    (pointer_of c.pairs.here) (pointer_of_some c.next.result) c.next.ensures.next in
+    AtHeld-end (IsApart-table c.self.inside.ring c.self.inside.rechained c.self.view_is
+    c.next.ensures.apart) c.pairs.invariant (sym (ap pointer_of_some c.in_default.is)
+    ∙ next at.before at.node at.after at.is at.at_is)

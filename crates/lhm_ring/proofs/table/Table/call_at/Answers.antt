@@ -7,12 +7,14 @@ use Rattle.lhm_ring.specs.Pointer.{pointer_of}
 use Rattle.lhm_ring.specs.Table.{IsTable, table_of}
 
 pub call_at-requires : goal.call_at-requires
-call_at-requires g c = TakesAt-table_of (TakesPair g.F.FnMut) c.args.keep.now c.self.inside.ring c.self.inside.rechained c.self.view_is c.requires
+call_at-requires g c = TakesAt-table_of (TakesPair g.F.FnMut) c.args.keep.now c.self.inside.ring
+    c.self.inside.rechained c.self.view_is c.requires
 
 pub invariant_of-self : goal.invariant_of-self
 invariant_of-self g c =
     let called = c.call_at.ensures.called in
-    subst (λ s. IsTable c.self.inside.index s c.self.inside.rechained) (sym called.new_is) (IsTable-value c.self.invariant (pointer_of c.args.at) called.value)
+    subst (λ s. IsTable c.self.inside.index s c.self.inside.rechained) (sym called.new_is)
+    (IsTable-value c.self.invariant (pointer_of c.args.at) called.value)
 
 pub returns-clause-called : goal.returns-clause-called
 returns-clause-called g c =
@@ -21,9 +23,12 @@ returns-clause-called g c =
     let called = c.call_at.ensures.called in
     record {
       value = called.value;
-      at_pair = AtHeld-table i.ring i.rechained c.self.view_is p (λ xs t ys. CalledAtPair g.F.FnMut c.args.keep.now t.pair.0 t.pair.1 c.call_at.result called.value c.call_at.new.keep) called.at_pair;
+      at_pair = AtHeld-table i.ring i.rechained c.self.view_is p
+          (λ xs t ys. CalledAtPair g.F.FnMut c.args.keep.now t.pair.0 t.pair.1 c.call_at.result
+          called.value c.call_at.new.keep) called.at_pair;
       new_is = ap (λ s. table_of s i.rechained) called.new_is ∙ table_of-value i.ring i.rechained c.self.view_is p called.value;
     }
 
 pub returns-clause-alone : goal.returns-clause-alone
-returns-clause-alone g c = WritesOnly-table c.self.inside.ring c.self.inside.rechained c.self.view_is (pointer_of c.args.at) c.call_at.ensures.alone
+returns-clause-alone g c = WritesOnly-table c.self.inside.ring c.self.inside.rechained
+    c.self.view_is (pointer_of c.args.at) c.call_at.ensures.alone

@@ -11,6 +11,8 @@ returns g c =
       (refl, λ _. table_of-drained i.ring i.rechained c.self.view_is),
       record {
         writes_back = tt;
-        rest = c.splice_all.ensures.rest ∙ sym (triples-entries i.ring.held) ∙ ap (λ (z : TableState (g.row.K.Denot × g.row.V.Denot)). triples z.held) c.self.view_is;
+        rest = c.splice_all.ensures.rest ∙ sym (triples-entries i.ring.held)
+            ∙ ap (λ (z : TableState (g.row.K.Denot × g.row.V.Denot)). triples z.held)
+            c.self.view_is;
       },
     )

@@ -5,4 +5,5 @@ use Rattle.lhm_ring.specs.Ring.{triples}
 use Rattle.lhm_ring.specs.Table.{TableState}
 
 pub returns : goal.returns
-returns g c = c.into_pairs.ensures ∙ sym (triples-entries c.self.inside.ring.held) ∙ ap (λ (z : TableState (g.row.K.Denot × g.row.V.Denot)). triples z.held) c.self.view_is
+returns g c = c.into_pairs.ensures ∙ sym (triples-entries c.self.inside.ring.held)
+    ∙ ap (λ (z : TableState (g.row.K.Denot × g.row.V.Denot)). triples z.held) c.self.view_is

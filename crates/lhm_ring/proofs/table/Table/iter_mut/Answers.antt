@@ -14,6 +14,8 @@ returns g c =
       (λ j. read_of (loan_name c.iter_mut.result) (λ vs. table_of-values i.ring i.rechained c.self.view_is vs j) (c.self.view_is j)),
       record {
         writes_back = tt;
-        rest = ap (map (λ t. t.pair)) c.iter_mut.ensures.rest ∙ sym (pairs-entries i.ring.held) ∙ ap (λ (z : TableState (g.row.K.Denot × g.row.V.Denot)). map (λ t. t.pair) z.held) c.self.view_is;
+        rest = ap (map (λ t. t.pair)) c.iter_mut.ensures.rest ∙ sym (pairs-entries i.ring.held)
+            ∙ ap (λ (z : TableState (g.row.K.Denot × g.row.V.Denot)). map (λ t. t.pair) z.held)
+            c.self.view_is;
       },
     )

@@ -7,4 +7,5 @@ pub key-requires : goal.key-requires
 key-requires g c = IsHeld-table c.self.inside.ring c.self.inside.rechained c.self.view_is (pointer_of c.args.at) c.requires
 
 pub returns : goal.returns
-returns g c = AtHeld-table c.self.inside.ring c.self.inside.rechained c.self.view_is (pointer_of c.args.at) (λ xs t ys. c.key.result.now ≡ t.pair.0) c.key.ensures
+returns g c = AtHeld-table c.self.inside.ring c.self.inside.rechained c.self.view_is
+    (pointer_of c.args.at) (λ xs t ys. c.key.result.now ≡ t.pair.0) c.key.ensures

@@ -6,7 +6,8 @@ use Rattle.lhm_ring.specs.Ring.{last_at}
 use Rattle.lhm_ring.specs.Table.{TableState}
 
 pub returns-clause-last : goal.returns-clause-last
-returns-clause-last g c = c.last.ensures.last ∙ sym (last_at-entries c.self.inside.ring.held) ∙ ap (λ (z : TableState (g.row.K.Denot × g.row.V.Denot)). last_at z.held) c.self.view_is
+returns-clause-last g c = c.last.ensures.last ∙ sym (last_at-entries c.self.inside.ring.held)
+    ∙ ap (λ (z : TableState (g.row.K.Denot × g.row.V.Denot)). last_at z.held) c.self.view_is
 
 pub returns-clause-apart : goal.returns-clause-apart
 returns-clause-apart g c = IsApart-table c.self.inside.ring c.self.inside.rechained c.self.view_is c.last.ensures.apart

@@ -12,12 +12,21 @@ invariant_of-self g c =
     let fresh = c.in_ok-fresh.ensures in
     let moved = length-same_triples c.compact.new.self.held c.self.inside.ring.held c.in-Ok.ensures.triples in
     let long = length-same_entries ring.held c.compact.new.self.held rehashed.ensures.held in
-    let sum : c.len.result ≡ length ring.held + ring.spares = omega (arith, long, moved, rehashed.ensures.spares, c.in-Ok.ensures.spares, c.len.ensures.value) in
+    let sum : c.len.result ≡ length ring.held + ring.spares =
+    omega (arith, long, moved, rehashed.ensures.spares, c.in-Ok.ensures.spares, c.len.ensures.value)
+    in
     record {
       indexed = record { indexes = rehashed.ensures.indexed; count = rehashed.ensures.buckets ∙ fresh.buckets ∙ ap buckets sum };
       few = omega (arith, rehashed.ensures.count, moved, c.len.ensures.value, fresh.enough, rehashed.ensures.buckets);
       limit = omega (arith, sum, c.len.ensures.value, c.len.ensures.bounded);
-      nodes_within = omega (arith, rehashed.ensures.nodes, c.in-Ok.ensures.nodes, c.len.ensures.value, fresh.enough, rehashed.ensures.buckets);
+      nodes_within = omega (
+        arith,
+        rehashed.ensures.nodes,
+        c.in-Ok.ensures.nodes,
+        c.len.ensures.value,
+        fresh.enough,
+        rehashed.ensures.buckets,
+      );
     }
 
 pub returns-in-Ok-clause-triples : goal.returns-in-Ok-clause-triples

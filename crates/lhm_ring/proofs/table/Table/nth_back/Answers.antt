@@ -20,4 +20,6 @@ returns-clause-held g c = IsHeld-next c.pairs.here c.pairs.invariant.behind
 pub returns-clause-behind : goal.returns-clause-behind
 returns-clause-behind g c =
     let all : c.pairs.passed ≡ c.args.behind = omega (arith, c.pairs.invariant.few, c.pairs-test.false) in
-    subst (λ n. IfSome c.pairs.here (λ at. AtHeld c.args.self.now.held (pointer_of at) (λ xs t ys. length ys ≡ n))) all (AtHeld-next c.last-here.ensures.apart c.pairs.here c.pairs.invariant.behind)
+    subst (λ n. IfSome c.pairs.here (λ at. AtHeld c.args.self.now.held (pointer_of at)
+    (λ xs t ys. length ys ≡ n))) all (AtHeld-next c.last-here.ensures.apart c.pairs.here
+    c.pairs.invariant.behind)

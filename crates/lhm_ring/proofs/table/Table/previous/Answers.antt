@@ -10,5 +10,6 @@ previous-requires g c = IsHeld-table c.self.inside.ring c.self.inside.rechained 
 
 pub returns : goal.returns
 returns g c =
-    AtHeld-table c.self.inside.ring c.self.inside.rechained c.self.view_is (pointer_of c.args.at) (λ xs t ys. pointer_of_some c.previous.result ≡ last_at xs)
+    AtHeld-table c.self.inside.ring c.self.inside.rechained c.self.view_is (pointer_of c.args.at)
+    (λ xs t ys. pointer_of_some c.previous.result ≡ last_at xs)
     (λ xs t ys e at. c.previous.ensures xs t ys e at ∙ sym (last_at-entries xs))

@@ -28,7 +28,8 @@ invariant_of-self g c =
     let last = ap length back.last in
     let one_more = length-append old.held (t ∷ []) in
     let some = spares-table old c.self.inside.rechained c.self.view_is c.requires in
-    let sum : length new.held + new.spares ≡ length old.held + old.spares = omega (arith, some, long, last, one_more, put.spares, back.spares) in
+    let sum : length new.held + new.spares ≡ length old.held + old.spares =
+    omega (arith, some, long, last, one_more, put.spares, back.spares) in
     record {
       indexed = record {
         indexes = put.indexed (HoldsOthers-last _ _ back.last table.indexed.indexes);

@@ -38,13 +38,15 @@ invariant_of-self-in-Ok g c =
     let up : length i.ring.held + i.ring.spares < c.args.capacity = omega (arith, all, c.requires.higher) in
     let few : length i.index.heads < c.args.capacity = omega (arith, c.if-capacity-buckets.false, c.buckets.ensures) in
     let more = c.capacity.ensures.value in
-    let sum : length i.ring.held + c.take_over.new.ring.spares ≡ c.args.capacity = omega (arith, all, up, more, grown.spares, taken.spares) in
+    let sum : length i.ring.held + c.take_over.new.ring.spares ≡ c.args.capacity =
+    omega (arith, all, up, more, grown.spares, taken.spares) in
     let wide = taken.buckets ∙ fresh.buckets in
     let count : c.take_over.result ≡ length i.ring.held = taken.count ∙ ap length grown.held in
     let made = grown.nodes_within (omega (arith, c.self.invariant.nodes_within, few, c.buckets-2.ensures, fresh.enough))
     (omega (arith, all, up, more, c.buckets-2.ensures, fresh.enough)) in
     let fits = rechained-fits c.self.invariant c.args.capacity up few in
-    IsTable-rechained c.self.invariant {t = c.take_over.new.ring} (taken.held ∙ ap entries grown.held) (omega (arith, sum, c.requires.limit)) taken.indexed
+    IsTable-rechained c.self.invariant {t = c.take_over.new.ring} (taken.held
+    ∙ ap entries grown.held) (omega (arith, sum, c.requires.limit)) taken.indexed
     (wide ∙ ap buckets (sym sum)) (omega (arith, fits, count, wide)) (omega (arith, made, c.buckets-2.ensures, taken.nodes, taken.buckets))
 
 pub returns-in-Ok-clause-rechained : goal.returns-in-Ok-clause-rechained
@@ -53,5 +55,8 @@ returns-in-Ok-clause-rechained g c =
     let all = length-capacity i.ring i.rechained c.self.view_is in
     let up : length i.ring.held + i.ring.spares < c.args.capacity = omega (arith, all, c.requires.higher) in
     let few : length i.index.heads < c.args.capacity = omega (arith, c.if-capacity-buckets.false, c.buckets.ensures) in
-    let count : c.take_over.result ≡ length (entries i.ring.held) = c.take_over.ensures.count ∙ ap length c.in-Ok.ensures.held ∙ sym (length-entries i.ring.held) in
-    rw (← c.self.view_is) (ap (λ n. i.rechained + n) count ∙ sym (rechained_raised-moves c.self.invariant c.args.capacity up few (length (entries i.ring.held))))
+    let count : c.take_over.result ≡ length (entries i.ring.held) = c.take_over.ensures.count
+    ∙ ap length c.in-Ok.ensures.held ∙ sym (length-entries i.ring.held) in
+    rw (← c.self.view_is) (ap (λ n. i.rechained + n) count
+    ∙ sym (rechained_raised-moves c.self.invariant c.args.capacity up few
+    (length (entries i.ring.held))))

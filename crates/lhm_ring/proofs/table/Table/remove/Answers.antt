@@ -7,13 +7,15 @@ use Rattle.lhm_ring.specs.Index.{entries}
 
 pub returns-in_err-at-clause-absent : goal.returns-in_err-at-clause-absent
 returns-in_err-at-clause-absent g c =
-    rw (c.from_residual.ensures, ← c.self.view_is) (IsAbsent-entries g.K.PartialEq.eq c.args.hash c.args.key.now c.self.inside.ring.held c.in_err-at.ensures.absent)
+    rw (c.from_residual.ensures, ← c.self.view_is) (IsAbsent-entries g.K.PartialEq.eq c.args.hash
+    c.args.key.now c.self.inside.ring.held c.in_err-at.ensures.absent)
 
 pub invariant_of-self-2 : goal.invariant_of-self-2
 invariant_of-self-2 g c =
     let taken = c.in_ok-at.ensures in
     let unlinked = c.unlink-key.ensures in
-    IsTable-removed c.self.invariant taken.held taken.spares taken.nodes taken.lacks unlinked.others unlinked.spares unlinked.nodes taken.buckets
+    IsTable-removed c.self.invariant taken.held taken.spares taken.nodes taken.lacks unlinked.others
+    unlinked.spares unlinked.nodes taken.buckets
 
 pub returns-clause-removed : goal.returns-clause-removed
 returns-clause-removed g c =
@@ -25,9 +27,11 @@ returns-clause-removed g c =
     record {
       at = p;
       has = rw (← c.self.view_is) (HasKey-entries g.K.PartialEq.eq c.args.hash c.args.key.now i.ring.held p has);
-      others = AtHeld-same_entries i.ring i.rechained c.self.view_is ks taken.held p (λ xs t ys. entries c.unlink-key.new.self.held ≡ xs ++ ys)
+      others = AtHeld-same_entries i.ring i.rechained c.self.view_is ks taken.held p
+          (λ xs t ys. entries c.unlink-key.new.self.held ≡ xs ++ ys)
           (λ xs t ys e at. ap entries (c.unlink-key.ensures.others xs t ys e at) ∙ entries-append xs ys);
-      pair_is = AtHeld-same_entries i.ring i.rechained c.self.view_is ks taken.held p (λ xs t ys. (c.unlink-key.result.1, c.unlink-key.result.2) ≡ t.pair)
+      pair_is = AtHeld-same_entries i.ring i.rechained c.self.view_is ks taken.held p
+          (λ xs t ys. (c.unlink-key.result.1, c.unlink-key.result.2) ≡ t.pair)
           (λ xs t ys e at. ap (λ z. (z.1, z.2)) (c.unlink-key.ensures.triple xs t ys e at));
     }
 
@@ -35,6 +39,7 @@ pub returns-clause-keeps : goal.returns-clause-keeps
 returns-clause-keeps g c =
     let taken = c.in_ok-at.ensures in
     let unlinked = c.unlink-key.ensures in
-    let all = length-with_spares c.self.invariant taken.held taken.spares taken.nodes taken.lacks unlinked.others unlinked.spares unlinked.nodes in
+    let all = length-with_spares c.self.invariant taken.held taken.spares taken.nodes taken.lacks
+    unlinked.others unlinked.spares unlinked.nodes in
     let before = length-capacity c.self.inside.ring c.self.inside.rechained c.self.view_is in
     record { capacity = omega (arith, all, before); rechained = ap (λ s. s.rechained) c.self.view_is }

@@ -1,36 +1,52 @@
 use Rattle.std.proofs.Common.{ap, refl, ◌∙◌}
 use Rattle.std.specs.Map.Calls.{CalledAtPair, TakesPair}
-use Rattle.lhm_ring.proofs.tables.Retained.{IsRetaining-start, RetainsHeld-end, IsRetaining-step, First-next, next_held, TakesAt-next, left_from-smaller}
+use Rattle.lhm_ring.proofs.tables.Retained.{IsRetaining-start, RetainsHeld-end, IsRetaining-step}
+use Rattle.lhm_ring.proofs.tables.Retained.{First-next, next_held, TakesAt-next, left_from-smaller}
 use Rattle.lhm_ring.proofs.table.Table.retain.Goals as goal
 use Rattle.lhm_ring.specs.Pointer.{pointer_of_some}
 
 pub loop-next-init : goal.loop-next-init
-loop-next-init g c = record { retaining = IsRetaining-start (CalledAtPair g.F.FnMut) (TakesPair g.F.FnMut) c.requires c.first-next.ensures; keeps = record { capacity = refl; rechained = refl } }
+loop-next-init g c = record {
+  retaining = IsRetaining-start (CalledAtPair g.F.FnMut)
+      (TakesPair g.F.FnMut) c.requires c.first-next.ensures;
+  keeps =
+      record { capacity = refl; rechained = refl };
+}
 
 pub next-next-requires : goal.next-next-requires
 next-next-requires g c =
     let m = c.loop-next.invariant.retaining in
-    next_held (CalledAtPair g.F.FnMut) (TakesPair g.F.FnMut) m (First-next (CalledAtPair g.F.FnMut) (TakesPair g.F.FnMut) m (ap pointer_of_some c.in-Some.is))
+    next_held (CalledAtPair g.F.FnMut) (TakesPair g.F.FnMut) m (First-next (CalledAtPair g.F.FnMut)
+    (TakesPair g.F.FnMut) m (ap pointer_of_some c.in-Some.is))
 
 pub retain_at-requires : goal.retain_at-requires
 retain_at-requires g c =
     let m = c.loop-next.invariant.retaining in
-    TakesAt-next (CalledAtPair g.F.FnMut) (TakesPair g.F.FnMut) m (First-next (CalledAtPair g.F.FnMut) (TakesPair g.F.FnMut) m (ap pointer_of_some c.in-Some.is))
+    TakesAt-next (CalledAtPair g.F.FnMut) (TakesPair g.F.FnMut) m
+    (First-next (CalledAtPair g.F.FnMut) (TakesPair g.F.FnMut) m (ap pointer_of_some c.in-Some.is))
 
 pub loop-next-preserved : goal.loop-next-preserved
 loop-next-preserved g c =
     let m = c.loop-next.invariant.retaining in
     let kept = c.retain_at.ensures in
     record {
-      retaining = IsRetaining-step (CalledAtPair g.F.FnMut) (TakesPair g.F.FnMut) m (First-next (CalledAtPair g.F.FnMut) (TakesPair g.F.FnMut) m (ap pointer_of_some c.in-Some.is)) kept.retained c.next-next.ensures.next;
-      keeps = record { capacity = kept.keeps.capacity ∙ c.loop-next.invariant.keeps.capacity; rechained = kept.keeps.rechained ∙ c.loop-next.invariant.keeps.rechained };
+      retaining = IsRetaining-step (CalledAtPair g.F.FnMut) (TakesPair g.F.FnMut) m
+          (First-next (CalledAtPair g.F.FnMut) (TakesPair g.F.FnMut) m
+          (ap pointer_of_some c.in-Some.is)) kept.retained c.next-next.ensures.next;
+      keeps = record {
+        capacity = kept.keeps.capacity ∙ c.loop-next.invariant.keeps.capacity;
+        rechained = kept.keeps.rechained ∙ c.loop-next.invariant.keeps.rechained;
+      };
     }
 
 pub loop-next-smaller : goal.loop-next-smaller
 loop-next-smaller g c =
     let m = c.loop-next.invariant.retaining in
     let some = ap pointer_of_some c.in-Some.is in
-    left_from-smaller (CalledAtPair g.F.FnMut) (TakesPair g.F.FnMut) m (First-next (CalledAtPair g.F.FnMut) (TakesPair g.F.FnMut) m some) c.retain_at.ensures.retained c.next-next.ensures.next c.next-next.ensures.apart
+    left_from-smaller (CalledAtPair g.F.FnMut) (TakesPair g.F.FnMut) m
+    (First-next (CalledAtPair g.F.FnMut) (TakesPair g.F.FnMut) m some) c.retain_at.ensures.retained
+    c.next-next.ensures.next c.next-next.ensures.apart
 
 pub returns-clause-retained : goal.returns-clause-retained
-returns-clause-retained g c = RetainsHeld-end (CalledAtPair g.F.FnMut) (TakesPair g.F.FnMut) c.loop-next.invariant.retaining (ap pointer_of_some c.in_default.is)
+returns-clause-retained g c = RetainsHeld-end (CalledAtPair g.F.FnMut) (TakesPair g.F.FnMut)
+    c.loop-next.invariant.retaining (ap pointer_of_some c.in_default.is)

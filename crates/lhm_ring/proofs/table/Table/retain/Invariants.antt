@@ -5,7 +5,8 @@ use Rattle.lhm_ring.specs.Table.{IsRetaining, left_from, KeepsCounts}
 
 abbrev pub invariant-loop-next : goal.invariant-loop-next
 invariant-loop-next g l = record {
-  retaining : IsRetaining (CalledAtPair g.F.FnMut) (TakesPair g.F.FnMut) l.initial.keep l.initial.self.held l.keep l.self.held (pointer_of_some l.next);
+  retaining : IsRetaining (CalledAtPair g.F.FnMut) (TakesPair g.F.FnMut) l.initial.keep
+      l.initial.self.held l.keep l.self.held (pointer_of_some l.next);
   keeps : KeepsCounts l.initial.self l.self;
 }
 

@@ -11,7 +11,8 @@ remove_at-requires g c =
 pub returns-then-not-call_at-clause-retained : goal.returns-then-not-call_at-clause-retained
 returns-then-not-call_at-clause-retained g c =
     let called = c.call_at.ensures.called in
-    RetainsAt-removed (CalledAtPair g.F.FnMut) called.at_pair c.call_at.ensures.alone (ap (λ s. s.held) called.new_is) c.if-not-call_at.true c.remove_at.ensures.others
+    RetainsAt-removed (CalledAtPair g.F.FnMut) called.at_pair c.call_at.ensures.alone
+    (ap (λ s. s.held) called.new_is) c.if-not-call_at.true c.remove_at.ensures.others
 
 pub returns-else-not-call_at-clause-retained : goal.returns-else-not-call_at-clause-retained
 returns-else-not-call_at-clause-retained g c =

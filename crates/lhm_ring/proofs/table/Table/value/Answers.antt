@@ -7,4 +7,5 @@ pub value-requires : goal.value-requires
 value-requires g c = IsHeld-table c.self.inside.ring c.self.inside.rechained c.self.view_is (pointer_of c.args.at) c.requires
 
 pub returns : goal.returns
-returns g c = AtHeld-table c.self.inside.ring c.self.inside.rechained c.self.view_is (pointer_of c.args.at) (λ xs t ys. c.value.result.now ≡ t.pair.1) c.value.ensures
+returns g c = AtHeld-table c.self.inside.ring c.self.inside.rechained c.self.view_is
+    (pointer_of c.args.at) (λ xs t ys. c.value.result.now ≡ t.pair.1) c.value.ensures

@@ -9,7 +9,8 @@ invariant_of-result g c =
     let ring = c.in-Ok.ensures in
     let none = ap length ring.empty in
     record {
-      indexed = IsIndexed-none c.in_ok-index.index c.in-Ok.ring index.empty index.words ring.empty (index.buckets ∙ ap buckets (sym ring.spares));
+      indexed = IsIndexed-none c.in_ok-index.index c.in-Ok.ring index.empty index.words ring.empty
+          (index.buckets ∙ ap buckets (sym ring.spares));
       few = omega arith;
       limit = omega (arith, none, ring.spares);
       nodes_within = omega (arith, ring.nodes, index.enough);

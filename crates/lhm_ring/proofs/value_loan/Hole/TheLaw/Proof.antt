@@ -19,5 +19,7 @@ shares T L = record {
   shr_laws = λ d b o. nothing_shr_laws;
   shares = λ M 𝓤 𝓛 d κ ts b o inc sp.
       let P = part_at (C.the_written T) full_share d b o in
-      qed 𝓛 (‵ (fbor κ P) ∷ raw (lfts 𝓛 ts) ∷ []) {P = 𝓛.H.⇛ (sep 𝓤 (sem 𝓛 (none_shared κ)) (lfts 𝓛 ts))} (updating ! $ drop ! $ nothing ! $ now ! $ done !);
+      qed 𝓛 (‵ (fbor κ P) ∷ raw (lfts 𝓛 ts) ∷ [])
+      {P = 𝓛.H.⇛ (sep 𝓤 (sem 𝓛 (none_shared κ)) (lfts 𝓛 ts))}
+      (updating ! $ drop ! $ nothing ! $ now ! $ done !);
 }
