@@ -29,6 +29,24 @@ impl<K, V> Table<K, V> {
         if capacity <= self.index.buckets() {
             return self.ring.grow_within(additional, self.index.buckets());
         }
+        self.raise_buckets(capacity, additional)
+    }
+
+    /// Raises the capacity by `additional`, above the number of buckets, and rehashes all pairs, in
+    /// O(n). It changes nothing if an allocation fails.
+    #[cold]
+    #[inline(never)]
+    fn raise_buckets(&mut self, capacity: usize, additional: usize) -> Result<(), AllocError>
+        requires sum { self.old.capacity + additional ≡ capacity }
+        requires more { buckets self.old.capacity < capacity }
+        requires higher { self.old.capacity < capacity }
+        requires limit { capacity ≤ 2 ^ 59 }
+        ensures held { self.new.held ≡ self.old.held }
+        ensures capacity { OnOk result (self.new.capacity ≡ capacity) }
+        ensures rechained { OnOk result
+            (self.new.rechained ≡ self.old.rechained + length self.old.held) }
+        ensures refused { OnErr result (self.new ≡ self.old) }
+    {
         let fresh = Index::with_buckets(self.ring.allocator(), capacity)?;
         match self.ring.grow_within(additional, fresh.buckets()) {
             Ok(()) => {

@@ -1,0 +1,25 @@
+use Rattle.std.proofs.Common.{◌≡◌, ◌+◌, ◌<◌, ◌∙◌, length, ap, sym, arith}
+use Rattle.lhm_ring.proofs.tables.Tables.{length-capacity, IsTable-rechained, rechained-fits}
+use Rattle.lhm_ring.proofs.table.Table.raise_buckets.Goals as goal
+use Rattle.lhm_ring.specs.Buckets.{buckets}
+use Rattle.lhm_ring.specs.Index.{entries}
+
+pub invariant_of-self : goal.invariant_of-self
+invariant_of-self g c =
+    let i = c.self.inside in
+    let taken = c.take_over.ensures in
+    let fresh = c.in_ok-fresh.ensures in
+    let grown = c.in-Ok.ensures in
+    let all = length-capacity i.ring i.rechained c.self.view_is in
+    let up : length i.ring.held + i.ring.spares < c.args.capacity = omega (arith, all, c.requires.higher) in
+    let few : length i.index.heads < c.args.capacity = omega (arith, c.requires.more, ap buckets all, c.self.invariant.indexed.count) in
+    let sum : length i.ring.held + c.take_over.new.ring.spares ≡ c.args.capacity =
+    omega (arith, all, c.requires.higher, c.requires.sum, grown.spares, taken.spares) in
+    let wide : length c.take_over.new.self.heads ≡ buckets c.args.capacity = taken.buckets ∙ fresh.buckets in
+    let count : c.take_over.result ≡ length i.ring.held = taken.count ∙ ap length grown.held in
+    let made = grown.nodes_within (omega (arith, c.self.invariant.nodes_within, few, c.buckets.ensures, fresh.enough))
+    (omega (arith, all, c.requires.higher, c.requires.sum, c.buckets.ensures, fresh.enough)) in
+    let fits = rechained-fits c.self.invariant c.args.capacity up few in
+    IsTable-rechained c.self.invariant {t = c.take_over.new.ring} (taken.held ∙ ap entries grown.held)
+    (omega (arith, sum, c.requires.limit)) taken.indexed
+    (wide ∙ ap buckets (sym sum)) (omega (arith, fits, count, wide)) (omega (arith, made, c.buckets.ensures, taken.nodes, taken.buckets))
