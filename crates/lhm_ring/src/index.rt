@@ -105,7 +105,22 @@ impl<K, V> Index<K, V> {
         ensures nodes { ring.new.nodes ≡ ring.old.nodes }
         ensures buckets { length self.new.heads ≡ length self.old.heads }
     {
-        let hash = ring.links(at).hash;
+        self.put_in_by_hash(ring, at, ring.links(at).hash);
+    }
+
+    /// Does what `put_in` does, without reading the hash of the node.
+    pub(crate) fn put_in_by_hash(&mut self, ring: &mut Ring<K, V>, at: Position<K, V>, hash: u64)
+        requires some { 0 < length self.old.heads }
+        requires held { IsHeld ring.old.held (pointer_of at) }
+        requires hash { OfNodeAt ring.old.held (pointer_of at) (λ x. hash ≡ x.hash) }
+        ensures first { PutsFirst (pointer_of at) self.old self.new ring.old.held ring.new.held }
+        ensures indexed { HoldsOthers self.old ring.old.held (pointer_of at)
+            → Indexes self.new (spots ring.new.held) }
+        ensures held { entries ring.new.held ≡ entries ring.old.held }
+        ensures spares { ring.new.spares ≡ ring.old.spares }
+        ensures nodes { ring.new.nodes ≡ ring.old.nodes }
+        ensures buckets { length self.new.heads ≡ length self.old.heads }
+    {
         let bucket = self.bucket_of(hash);
         let behind = self.put_first(bucket, hash, Link::to(at.pointer));
         ring.set_link(at, behind);
@@ -189,7 +204,7 @@ impl<K, V> Index<K, V> {
         let mut pointer = ring.first();
         while let Some(at) = pointer {
             pointer = ring.next(at);
-            self.put_in(ring, at);
+            self.put_in_by_hash(ring, at, ring.links(at).hash);
             count += 1;
         }
         count

@@ -281,6 +281,7 @@ impl<K, V> Ring<K, V> {
         requires { 0 < self.old.spares }
         ensures last { self.new.held
             ≡ self.old.held ++ held (pointer_of result) hash None (pair key value) ∷ [] }
+        ensures apart { IsApart (map (λ t. t.at) self.new.held) }
         ensures spares { self.new.spares ≡ self.old.spares - 1 }
         ensures nodes { self.new.nodes ≡ self.old.nodes }
     {

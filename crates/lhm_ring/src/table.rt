@@ -200,7 +200,7 @@ impl<K, V> Table<K, V> {
         ensures keeps { KeepsCounts self.old self.new }
     {
         let at = self.ring.put_back(hash, key, value);
-        self.index.put_in(&mut self.ring, at);
+        self.index.put_in_by_hash(&mut self.ring, at, hash);
         at
     }
 

@@ -1,6 +1,6 @@
 use Rattle.std.proofs.Common.{◌≡◌, ℕ, ◌%◌, ◌++◌, ◌∷◌, sym, ap, subst, ◌∙◌, length, get_or, set, Some, None}
 use Rattle.lhm_ring.proofs.indexes.IndexPuts.{Indexes-put_first}
-use Rattle.lhm_ring.proofs.index.Index.put_in.Goals as goal
+use Rattle.lhm_ring.proofs.index.Index.put_in_by_hash.Goals as goal
 use Rattle.lhm_ring.specs.Buckets.{SetsBit}
 use Rattle.lhm_ring.specs.Pointer.{pointer_of, target}
 use Rattle.lhm_ring.specs.Ring.{linked_to}
@@ -8,7 +8,7 @@ use Rattle.lhm_ring.specs.Ring.{linked_to}
 pub returns-clause-first : goal.returns-clause-first
 returns-clause-first g c = λ before x after e at.
     let heads = c.args.self.now.heads in
-    let own = c.links.ensures.hash before x after e at in
+    let own = c.requires.hash before x after e at in
     let bucket = c.bucket_of-bucket.ensures.of_hash ∙ ap (λ h. h % length heads) own in
     let head : target c.to.result ≡ Some x.at = c.to.ensures ∙ ap Some (sym at) in
     record {
