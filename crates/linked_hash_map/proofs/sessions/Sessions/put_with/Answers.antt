@@ -1,4 +1,4 @@
-use Rattle.std.proofs.Common.{◌≡◌, ◌+◌, ◌-◌, ◌≤◌, ◌++◌, drop, take, length, sym, ap, ◌∙◌, subst, arith}
+use Rattle.std.proofs.Common.{◌+◌, ◌-◌, ◌≤◌, drop, length, sym, ap, ◌∙◌, subst, arith}
 use Rattle.std.specs.Prelude.{not, max}
 use Rattle.linked_hash_map.specs.Pairs.{last}
 use Rattle.linked_hash_map.specs.SessionHandOuts.{CallableWithEachSession, CalledWithEachSession}

@@ -1,4 +1,4 @@
-use Rattle.std.proofs.Common.{◌≡◌, length, drop, take, sym, ap, ◌∙◌, subst, arith, length-drop}
+use Rattle.std.proofs.Common.{length, drop, take, sym, ap, ◌∙◌, subst, arith, length-drop}
 use Rattle.std.specs.List.{FoldsTo}
 use Rattle.std.proofs.lemmas.Fn.{FoldsTo-push}
 use Rattle.std.proofs.lemmas.List.{drop-drop}

@@ -1,4 +1,4 @@
-use Rattle.std.proofs.Common.{◌++◌, ◌∷◌, [], length, drop, take, not, true≢false, sym, ap, ◌∙◌, subst, arith, length-drop}
+use Rattle.std.proofs.Common.{length, drop, take, not, true≢false, sym, ap, ◌∙◌, subst, arith, length-drop}
 use Rattle.linked_hash_map.specs.SessionHandOuts.{CallableWithEachSession, CalledWithEachSession}
 use Rattle.linked_hash_map.specs.SessionsKept.{sessions_of}
 use Rattle.linked_hash_map.proofs.session_table.HandOuts.{take-new}

@@ -4,7 +4,6 @@ use Rattle.std.specs.List.{IsDistinct}
 use Rattle.linked_hash_map.specs.SessionsKept.{sessions_of}
 use Rattle.linked_hash_map.proofs.session_table.Lists.{total_weight-without}
 use Rattle.linked_hash_map.proofs.session_table.Pairs.{ids_of-sessions_of}
-use Rattle.linked_hash_map.proofs.session_table.Puts.{is_some-weight}
 use Rattle.linked_hash_map.proofs.sessions.storage.plan_put.Goals as goal
 
 pub overflow_sub-others : goal.overflow_sub-others
