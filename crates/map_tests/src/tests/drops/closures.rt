@@ -140,3 +140,38 @@ fn drops_the_closure_that_has_no_session_to_keep(rt: HostRuntime) {
     drop(table);
     assert_dropped(&rt, &tally, OWNED);
 }
+
+/// Puts a session of this weight with a closure, which owns a payload.
+fn put_owning<'a>(
+    rt: &impl Abort,
+    tally: &'a Tally,
+    table: &mut Sessions<Counted<'a>>,
+    weight: u64,
+    owned: Counted<'a>,
+) {
+    let put = table.put_with(3, weight, tally.thing(3, 4), move |_id, _weight, payload| {
+        check!(rt; payload != owned);
+    });
+    drop(put);
+}
+
+#[test]
+fn drops_the_closure_that_sessions_are_handed_to(rt: HostRuntime) {
+    let tally = Tally::new();
+    let mut table = Sessions::new(rt.alloc(), 10);
+    put_two(&rt, &tally, &mut table);
+    put_owning(&rt, &tally, &mut table, 4, tally.thing(9, OWNED));
+    assert_dropped(&rt, &tally, 1 | OWNED);
+    drop(table);
+    assert_dropped(&rt, &tally, 7 | OWNED);
+}
+
+#[test]
+fn drops_the_closure_of_a_put_that_is_too_heavy(rt: HostRuntime) {
+    let tally = Tally::new();
+    let mut table = Sessions::new(rt.alloc(), 10);
+    put_owning(&rt, &tally, &mut table, 11, tally.thing(9, OWNED));
+    assert_dropped(&rt, &tally, 4 | OWNED);
+    drop(table);
+    assert_dropped(&rt, &tally, 4 | OWNED);
+}
